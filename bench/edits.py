@@ -9,11 +9,11 @@ first, a bucket, a packet, one flow more and one less.
 
 A line an edit: the cells that it touches; the share of their work in that of all cells (operators on curves, counted here by a model of the
 network); its time in milliseconds, and as a share of a fresh analysis; that over the share of the work; how many times as long a fresh
-analysis takes as the edit, and how many times at least as its undo. An edit's time is that of many rows and their undos less that of no rows, an
-undo's that of undos after as many edits less that of the edits, a fresh analysis that of a run without edits less that of one whose edit list
-is refused: processor time of the process, and the least of several runs. An undo takes about as long as such runs differ by, so the two least
-of them count against it. It stops where the program touches other cells than the model; nothing is asserted about time. A busy machine makes
-the times of short edits worthless.
+analysis takes as the edit, and how many times at least as its undo. An edit's time is that of one row and its undo, many times, less that of
+no rows and of the undos; an undo's is that of undos after as many edits less that of the edits; a fresh analysis' is that of a run without
+edits less that of one whose edit list is refused: processor time of the process, and the least of several runs. An undo takes about as long as
+such runs differ by, so the two least of them count against it. It stops where the program touches other cells than the model; nothing is
+asserted about time. A busy machine makes the times of short edits worthless.
 """
 
 import os
@@ -159,8 +159,8 @@ def on_flows(all_paths: list[list[int]], flow: int) -> list[Kind]:
     return [
         Kind("bucket", [f"bucket,f{flow},{9000 + row},1" for row in range(ROWS)], bucket),
         Kind("packet", [f"packet,f{flow},{11400 + row}" for row in range(ROWS)], packet),
-        Kind("add", [f"add,more{row},8000,8000,1,{hops}" for row in range(10)], add),
-        Kind("drop", [f"drop,f{other}" for other in [flow] + others[:9]], drop),
+        Kind("add", [f"add,more{row},8000,8000,1,{hops}" for row in range(50)], add),
+        Kind("drop", [f"drop,f{other}" for other in [flow] + others[:49]], drop),
     ]
 
 
@@ -211,15 +211,16 @@ def measure(program: Program, title: str, all_paths: list[list[int]]) -> None:
         new = kind.net.cells()
         found = touched(old, new)
         share = sum(new[cell][2] for cell in found) / all_work
-        # as many rows as take about as long as three fresh analyses
-        count = min(len(kind.rows), max(10, int(3 / share)))
+        # as many times as take about as long as three fresh analyses; the rows of some kinds are fewer
+        times = min(ROWS, max(10, int(3 / share)))
+        count = min(len(kind.rows), times)
         once, spread, said = program.took(kind.rows[:count])
         if said != f"edit 1 ok cells {len(found)}":
             sys.exit(f"{kind.rows[0]}: the program says {said}, the model {len(found)} cells")
         gone_back, other_spread, _ = program.took(kind.rows[:count] + ["undo"] * count)
         back = max(0.0, gone_back - once) / count
         at_most = back + (spread + other_spread) / count
-        edit = (program.took([kind.rows[0], "undo"] * count)[0] - none) / count - back
+        edit = (program.took([kind.rows[0], "undo"] * times)[0] - none) / times - back
         print(
             f"{kind.name:<12}{len(found):>7}{share:>8.2%}{1e3 * edit:>8.2f}{edit / fresh:>8.2%}{edit / fresh / share:>11.2f}"
             f"{fresh / edit:>12.0f}{fresh / max(at_most, 1e-9):>12.0f}",

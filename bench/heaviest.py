@@ -86,6 +86,10 @@ CASES = [
     ("simulate n t", "9,999 packets over 16 ports", {
         "n": in_a_row(16, [(bucket(12000, 100), 12000)], 100), "t": packets(9_999, 12000, lambda number: 120 * number)}),
     ("simulate n t", "9,999 packets of half a step of a stair", {"n": ONE_STAIR, "t": packets(9_999, 6000, lambda number: 120 * (number // 2))}),
+    ("simulate n t", "9,999 packets at a stair with a jitter of half a period", {
+        "n": in_a_row(1, [(stair(120, 60), 12000)], 100), "t": packets(9_999, 6000, lambda number: 120 * (number // 2))}),
+    ("simulate n t", "two packets of one flow, 10^7 periods of its stair apart", {
+        "n": ONE_STAIR, "t": packets(2, 12000, lambda number: 120 * 10**7 * number)}),
     ("simulate n t", "9,999 packets at a gate that stalls once", {
         "n": ONE_GATE, "t": packets(9_999, 12000, lambda number: 480 * number) + "stall,s0,500,501\n"}),
     ("simulate n t", "a packet of 2^24 bits at a gate that opens for 5 bits a cycle", {

@@ -15,6 +15,7 @@ differs, and asserts nothing about time.
 """
 
 import os
+import re
 import resource
 import subprocess
 import sys
@@ -120,6 +121,14 @@ def deficit_gate(period: str) -> str:
     return gate_beside_stair(period, DEFICIT)
 
 
+def industrial(which: int) -> str:
+    """The line of examples/industrial, with the jitter of one of its stairs far longer than its period."""
+    text = (Path(__file__).parent.parent / "examples/industrial/line.toml").read_text()
+    places = [found.start() for found in re.finditer("jitter = ", text)]
+    before, after = text[: places[which]], text[places[which] :]
+    return before + re.sub("jitter = [0-9]+", "jitter = 1743149743", after, count=1)
+
+
 CASES = {
     # name: (word, text, wanted status)
     "priority gate, stair 1000001/1000": ("analyse", gate_beside_stair("1000001/1000"), 7),
@@ -131,12 +140,14 @@ CASES = {
     "first in first out gate, stair 1000001/1000": ("analyse", shared_fifo("1000001/1000"), 7),
     "first in first out gate, stair 10000001/10000": ("analyse", shared_fifo("10000001/10000"), 7),
     "closure of steps, n = 20": ("analyse", closed_steps(20), 0),
-    "closure of steps, n = 45": ("analyse", closed_steps(45), None),
-    "closure of steps, n = 70": ("analyse", closed_steps(70), None),
+    "closure of steps, n = 45": ("analyse", closed_steps(45), 7),
+    "closure of steps, n = 70": ("analyse", closed_steps(70), 7),
+    "closure of steps, n = 150": ("analyse", closed_steps(150), 7),
     "closure with a tail at 103": ("analyse", closed_late(103), 0),
-    "closure with a tail at 203": ("analyse", closed_late(203), None),
-    "closure with a tail at 1003": ("analyse", closed_late(1003), None),
-    "closure with a tail at 2^63 - 1": ("analyse", closed_late(2**63 - 1), None),
+    "closure with a tail at 203": ("analyse", closed_late(203), 7),
+    "closure with a tail at 1003": ("analyse", closed_late(1003), 7),
+    "closure with a tail at 5003": ("analyse", closed_late(5003), 7),
+    "closure with a tail at 2^63 - 1": ("analyse", closed_late(2**63 - 1), 7),
     "gates of cycles 1000 and 1001, wide rates": (
         "analyse", two_gates((1000, 250), (1001, 250), ("1000001/100000", "2000001/100000")), 7),
     "gates of cycles 300 and 301, rates over 1024": (
@@ -149,6 +160,8 @@ CASES = {
     "256 stairs of one period over 4 hops": ("analyse", many_stairs(256, 4, lambda number: 1000), 7),
     "256 stairs of periods 1000 to 1255": ("analyse", many_stairs(256, 1, lambda number: 1000 + number), 7),
     "stairs 1 and 1048577": ("analyse", stairs_pair("1", "1048577"), 7),
+    "examples/industrial, the first jitter of its stairs 1743149743": ("analyse", industrial(0), 7),
+    "examples/industrial, the last jitter of its stairs 1743149743": ("analyse", industrial(-1), 7),
     "stairs with a jitter of 2^100": ("analyse", stairs_pair("1", "3", 2**100), 7),
     "stairs with a jitter of 10^9": ("analyse", stairs_pair("1", "3", 10**9), 7),
     "script: below stair(1, 1, 0), stair(1, 1048577, 0)": ("curve", "below stair(1, 1, 0), stair(1, 1048577, 0)\n", 7),
@@ -187,13 +200,13 @@ def main() -> None:
     program = str(Path(sys.argv[1]).resolve())
     seconds = int(sys.argv[2]) if len(sys.argv) > 2 else 20
     word = sys.argv[3] if len(sys.argv) > 3 else ""
-    print(f"{'case':<52}{'bytes':>7}{'wanted':>8}{'came':>6}{'seconds':>9}{'MiB':>8}  line")
+    print(f"{'case':<64}{'bytes':>7}{'wanted':>8}{'came':>6}{'seconds':>9}{'MiB':>8}  line")
     tried = others = late = slow = 0
     for name, (command, text, wanted) in CASES.items():
         if word not in name:
             continue
         came, time, memory, line = run(program, command, text, seconds)
-        print(f"{name:<52}{len(text):>7}{'?' if wanted is None else wanted:>8}{came:>6}{time:>9.2f}{memory:>8.0f}  {line}", flush=True)
+        print(f"{name:<64}{len(text):>7}{'?' if wanted is None else wanted:>8}{came:>6}{time:>9.2f}{memory:>8.0f}  {line}", flush=True)
         tried += 1
         others += wanted is not None and came not in (str(wanted), "late")
         late += came == "late"

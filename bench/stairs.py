@@ -11,7 +11,10 @@ packets (a trace has at most 10,000 rows), over a server of kind latency, which 
 - as these, but up to three periods late, over a stair with a jitter of three periods;
 - halves over a stair with a jitter of half a period;
 - all packets within one period, over a stair whose jitter lets in all but the last step at once, so that two of its pieces are read;
-- halves, of which the last packet breaks the stair, so that each pair is looked at.
+- packets of one bit, one a period, so that all of them fit in one step;
+- packets of a whole step, ten thousand periods apart;
+- halves, of which the last packet breaks the stair, so that each pair that ends with it is looked at;
+- all that a curve of two unlike steps a period lets in, which is no stair, so that each pair is looked at.
 
 Over a gate the first half of the packets come one a cycle, each worked off at once, and the others keep it busy, a cycle
 of its slot for each. It stalls once, late in that work, while it would be open: the first look finds a window that ends
@@ -90,6 +93,26 @@ def at_once_network(count: int) -> str:
     return network_text(stair(10**6, 10**6 * steps - 50), LATENCY)
 
 
+def single_bits(count: int) -> list[str]:
+    return [row(PERIOD * packet, 1) for packet in range(count)]
+
+
+def far_apart(count: int) -> list[str]:
+    return [row(10_000 * PERIOD * packet, STEP) for packet in range(count)]
+
+
+def unlike_steps() -> str:
+    """A curve that rises by a third of a step and by two thirds in each period, in halves of it."""
+    pieces = f'[{{ x = 0, at = {STEP} }}, {{ x = {PERIOD // 2}, at = {STEP + STEP // 3} }}]'
+    return f'{{ kind = "list", piece = {pieces}, tail = {{ rank = 0, period = {PERIOD}, rise = {STEP} }} }}'
+
+
+def all_let_in(count: int) -> list[str]:
+    """A step at once, and what those unlike steps let in."""
+    later = [row(PERIOD // 2 * packet, STEP // 3 * (2 - packet % 2)) for packet in range(1, count)]
+    return [row(0, STEP), *later]
+
+
 def broken(count: int) -> list[str]:
     rows = halves(count - 1)
     return [*rows, row(PERIOD * ((count - 2) // 2), STEP)]
@@ -125,7 +148,10 @@ def main() -> None:
         ("seven sizes, late", lambda _: late, lambda count: sizes(count, 3 * PERIOD), COUNTS),
         ("half a period late", lambda _: network_text(stair(PERIOD, PERIOD // 2), LATENCY), halves, COUNTS),
         ("two pieces", at_once_network, at_once, COUNTS),
+        ("a bit a period", lambda _: kept, single_bits, COUNTS),
+        ("far apart", lambda _: kept, far_apart, COUNTS),
         ("broken by the last packet", lambda _: kept, broken, COUNTS),
+        ("two unlike steps a period", lambda _: network_text(unlike_steps(), LATENCY), all_let_in, COUNTS),
         ("gate, turns alike", lambda _: gate, lambda count: gated(count, 0), GATE_COUNTS),
         ("gate, turns unlike", lambda _: gate, lambda count: gated(count, 37), GATE_COUNTS),
     ]

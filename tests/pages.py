@@ -1,12 +1,17 @@
 #!/usr/bin/env python3
-"""Runs each command that docs/TUTORIAL.md and the pages of examples/ show: an indented line that begins with `$ `, whose answer stands below it,
-up to the next command or the end of the block. Then it runs each network, edit list, trace, recorded run and script of examples/ that has its answer beside it.
-Last it holds the lines at the head of the page of min_plus_algebra to the test that they are."""
+"""Runs each command that docs/TUTORIAL.md and the pages of examples/ show: an indented line that begins with `$ `,
+whose answer stands below it, up to the next command or the end of the block; files in /tmp are in a folder of their own
+here. Then it runs each network, edit list, trace, recorded run and script of examples/ that has its answer beside it.
+Each network in a folder of examples/ has a trace, an edit list and their answers. Last it holds the lines at the head
+of the page of min_plus_algebra to the test that they are."""
 
+import concurrent.futures
+import os
 import pathlib
 import re
 import subprocess
 import sys
+import tempfile
 
 TOP = pathlib.Path(__file__).resolve().parent.parent
 PAGES = [TOP / "docs/TUTORIAL.md", *sorted(TOP.glob("examples/*/README.md"))]
@@ -18,30 +23,41 @@ def blocks(text):
         lines = [line[4:] for line in block.strip("\n").split("\n")]
         starts = [place for place, line in enumerate(lines) if line.startswith("$ ")]
         for start, end in zip(starts, [*starts[1:], len(lines)]):
-            yield lines[start][2:], "\n".join(lines[start + 1 : end]) + "\n"
+            yield lines[start][2:], "".join(line + "\n" for line in lines[start + 1 : end])
+
+
+def beside(command, pattern, suffix, network_of, answer_of):
+    """The command on each file of examples/ that fits, of its network where it is not one itself, with the answer that
+    stands beside."""
+    for path in sorted(TOP.glob(f"examples/**/{pattern}")):
+        stem = path.name.removesuffix(suffix)
+        words = [path.with_name(network_of(stem)), path] if network_of else [path]
+        names = " ".join(str(word.relative_to(TOP)) for word in words)
+        answer = path.with_name(answer_of(stem))
+        if answer.exists() or network_of:
+            yield [("examples", f"./netcalc {command} {names}", answer.read_text())]
 
 
 def wanted():
-    """Commands with what they must print."""
+    """Lists of commands with what they must print; those of one list are run one after the other."""
     for page in PAGES:
-        for command, shown in blocks(page.read_text()):
-            yield page.relative_to(TOP), command, shown
-    for network in sorted(TOP.glob("examples/**/*.toml")):
-        answer = network.with_suffix(".txt")
-        if answer.exists():
-            yield "examples", f"./netcalc analyse {network.relative_to(TOP)}", answer.read_text()
-    for trace in sorted(TOP.glob("examples/**/*_trace.csv")):
-        stem = trace.name.removesuffix("_trace.csv")
-        network, answer = trace.with_name(f"{stem}.toml"), trace.with_name(f"{stem}_run.txt")
-        yield "examples", f"./netcalc simulate {network.relative_to(TOP)} {trace.relative_to(TOP)}", answer.read_text()
-    for recorded in sorted(TOP.glob("examples/**/*_recorded.csv")):
-        network = recorded.with_name(f"{recorded.name.removesuffix('_recorded.csv')}.toml")
-        yield "examples", f"./netcalc check {network.relative_to(TOP)} {recorded.relative_to(TOP)}", recorded.with_suffix(".txt").read_text()
-    for edits in sorted(TOP.glob("examples/**/*_edits.csv")):
-        network = edits.with_name(f"{edits.name.removesuffix('_edits.csv')}.toml")
-        yield "examples", f"./netcalc edit {network.relative_to(TOP)} {edits.relative_to(TOP)}", edits.with_suffix(".txt").read_text()
-    for script in sorted(TOP.glob("examples/**/*.curve")):
-        yield "examples", f"./netcalc curve {script.relative_to(TOP)}", script.with_suffix(".txt").read_text()
+        yield [(page.relative_to(TOP), command, shown) for command, shown in blocks(page.read_text())]
+    network = "{}.toml".format
+    yield from beside("analyse", "*.toml", ".toml", None, "{}.txt".format)
+    yield from beside("simulate", "*_trace.csv", "_trace.csv", network, "{}_run.txt".format)
+    yield from beside("check", "*_recorded.csv", "_recorded.csv", network, "{}_recorded.txt".format)
+    yield from beside("edit", "*_edits.csv", "_edits.csv", network, "{}_edits.txt".format)
+    yield from beside("curve", "*.curve", ".curve", None, "{}.txt".format)
+
+
+def lacking():
+    """What an example's network lacks of its answer, its trace, its edits and the answers of these; the tutorial shows
+    its own on its page."""
+    for network in sorted(TOP.glob("examples/*/*.toml")):
+        for ending in (".txt", "_trace.csv", "_run.txt", "_edits.csv", "_edits.txt"):
+            path = network.with_name(network.stem + ending)
+            if network.parent.name != "tutorial" and not path.exists():
+                yield f"{path.relative_to(TOP)} is not there"
 
 
 def is_a_test(crate):
@@ -50,20 +66,29 @@ def is_a_test(crate):
     return block is not None and block.group() in (crate / "src/example.rt").read_text()
 
 
-def main():
-    failed = 0
-    tried = 1
-    if not is_a_test(TOP / "crates/min_plus_algebra"):
-        failed = 1
-        print("crates/min_plus_algebra/README.md: its first lines are not those of src/example.rt", file=sys.stderr)
-    for place, command, shown in wanted():
-        tried += 1
-        run = subprocess.run(command, shell=True, cwd=TOP, capture_output=True, text=True, timeout=120, check=False)
+def tell(commands, folder):
+    """Runs commands one after the other, with their files of /tmp in a folder; a line for each that printed something
+    else."""
+    told = []
+    for place, command, shown in commands:
+        moved = command.replace("/tmp/", f"{folder}/")
+        run = subprocess.run(moved, shell=True, cwd=TOP, capture_output=True, text=True, timeout=300, check=False)
         if run.stdout != shown:
-            failed += 1
-            print(f"{place}: {command}\n{run.stdout}{run.stderr}", file=sys.stderr)
-    print(f"pages: {tried - failed} passed, {failed} failed")
-    return 1 if failed else 0
+            told.append(f"{place}: {command}\n{run.stdout}{run.stderr}")
+    return told
+
+
+def main():
+    told = list(lacking())
+    if not is_a_test(TOP / "crates/min_plus_algebra"):
+        told.append("crates/min_plus_algebra/README.md: its first lines are not those of src/example.rt")
+    lists = list(wanted())
+    with tempfile.TemporaryDirectory() as folder, concurrent.futures.ThreadPoolExecutor(os.cpu_count()) as pool:
+        for faults in pool.map(lambda commands: tell(commands, folder), lists):
+            told += faults
+    print("\n".join(told), end="\n" if told else "", file=sys.stderr)
+    print(f"pages: {sum(map(len, lists))} commands, {len(told)} faults")
+    return 1 if told else 0
 
 
 if __name__ == "__main__":

@@ -1,8 +1,9 @@
 #!/usr/bin/env python3
 """Holds docs/network.schema.json to the examples, to the cases of tests/ and to a list of small faults.
 
-A file that the program accepts, or refuses only for what no schema can tell, must be valid; a file with a fault that a schema can tell must
-not be. Needs Python 3.11 with jsonschema (Debian: python3-jsonschema); without it nothing is tried, and it says so.
+Each example names the schema in its first line. A file that the program accepts, or refuses only for what no schema can
+tell, must be valid; a file with a fault that a schema can tell must not be. Needs Python 3.11 with jsonschema (Debian:
+python3-jsonschema); without it nothing is tried, and it says so.
 """
 
 import json
@@ -53,7 +54,8 @@ FAULTS = {
     "M10, the same entry twice": SERVER + FLOW.replace('["s1"]', '["s1", "s1"]'),
     "M11, 65 servers": "".join(SERVER.replace("s1", f"s{number}") for number in range(65)),
     "M11, 65 pieces": FLOW.replace(
-        '"bucket", burst = 12000, rate = 10', '"list", piece = [' + ", ".join(f"{{ x = {x}, at = {x} }}" for x in range(65)) + "]"
+        '"bucket", burst = 12000, rate = 10',
+        '"list", piece = [' + ", ".join(f"{{ x = {x}, at = {x} }}" for x in range(65)) + "]",
     ),
 }
 
@@ -61,7 +63,8 @@ FAULTS = {
 ACCEPTED = {
     "nothing at all": "",
     "one flow": SERVER + FLOW,
-    "numbers as strings": SERVER.replace("100", '"201/2"') + 'link = "0/5"\nservice = { kind = "latency", latency = "-0" }\n',
+    "numbers as strings": SERVER.replace("100", '"201/2"')
+    + 'link = "0/5"\nservice = { kind = "latency", latency = "-0" }\n',
     "M7, a name twice": SERVER + SERVER,
     "M8, an unknown server": FLOW,
     "M10, a server twice, with and without its queue": SERVER + FLOW.replace('["s1"]', '["s1", "s1:0"]'),
@@ -69,7 +72,7 @@ ACCEPTED = {
 
 
 def is_told(line):
-    """Whether a refusal of the program is one that a schema can tell; None where it depends on how the file writes it."""
+    """Whether a refusal of the program is one that a schema can tell; None where the writing of the file decides."""
     told = re.match(r"netcalc: \S+: (M\d+)(?: (\S+))?(?: (\S+))?", line)
     if not told:
         return False
@@ -95,7 +98,12 @@ def main():
             print(f"schema: {what}: {'refused' if wanted else 'accepted'}", file=sys.stderr)
 
     for path in sorted(TOP.glob("examples/**/*.toml")):
-        hold(path.relative_to(TOP), path.read_text(), True)
+        text = path.read_text()
+        hold(path.relative_to(TOP), text, True)
+        named = re.match("#:schema (.*)\n", text)
+        if not named or (path.parent / named[1]).resolve() != TOP / "docs/network.schema.json":
+            failed += 1
+            print(f"schema: {path.relative_to(TOP)}: its first line does not name the schema", file=sys.stderr)
     for path in sorted(TOP.glob("tests/*/*/*.toml")):
         try:
             tomllib.loads(path.read_text())

@@ -3,8 +3,9 @@
 
     tools/import_icd.py LINKS.csv PORTS.csv > network.toml
 
-Both are CSV with a head line; columns stand in any order, and other columns are left alone. Numbers are decimal or fractions ("1.5", "3/2"),
-and stay exact. The file is in microseconds and bits, so a rate in Mbit/s is the number of its bits in a microsecond.
+Both are CSV with a head line; columns stand in any order, and other columns are left alone. Numbers are decimal or
+fractions ("1.5", "3/2"), and stay exact. The file is in microseconds and bits, so a rate in Mbit/s is the number of its
+bits in a microsecond.
 
 LINKS.csv, a line a virtual link:
     name           a name of 1 to 32 letters, digits, _ and -
@@ -19,44 +20,69 @@ PORTS.csv, a line an output port (also those of end systems):
     rate           in Mbit/s
     latency        the longest technological latency, in microseconds (0 where it is empty)
     link           the delay of the cable behind it, in microseconds (0 where it is empty)
-    discipline     `fifo` (also where it is empty), `priority N` with N queues, or `drr Q0 Q1 ..` with the quantum of each queue in bytes
+    discipline     `fifo` (also where it is empty), `priority N` with N queues, or
+                   `drr Q0 Q1 ..` with the quantum of each queue in bytes
 
-`--buckets` describes each link by the token bucket above its stair (burst of one frame, and of what the jitter adds; rate of one frame a gap) in
-place of the stair itself: the bounds are a little greater, and networks whose gaps have a large common multiple are answered at once.
+`--buckets` describes each link by the token bucket above its stair (burst of one frame, and of what the jitter adds;
+rate of one frame a gap) in place of the stair itself: the bounds are a little greater, and networks whose gaps have a
+large common multiple are answered at once. `--grid N` rounds every number to a multiple of 1/N, links to more and ports
+to less, as round.py does with a file: each bound stays a bound.
 
-A frame occupies the wire for longer than its bytes: preamble, start of frame and the gap behind it are 20 bytes on Ethernet, which
-`--overhead` sets. A fault ends it with status 1 and says the file, the line and what is wrong there. What the rules of network files ask for
-beyond a line (that servers exist, that a quantum is as long as a packet) is looked at here too, since a line of a table is easier to mend than
-a place of a made file.
+The file begins with a comment that names both tables and how they were read.
+
+A frame occupies the wire for longer than its bytes: preamble, start of frame and the gap behind it are 20 bytes on
+Ethernet, which `--overhead` sets. Tables are UTF-8. A fault ends it with status 1 and says the file, the line and what
+is wrong there. What the rules of network files ask for beyond a line (that servers exist, that a quantum is as long as
+a packet) is looked at here too, since a line of a table is easier to mend than a place of a made file.
 """
 
 import argparse
 import csv
+import io
+import re
 import sys
 from fractions import Fraction
 
-from networks import NAME, dump, written
+import round as rounding
+from networks import NAME, Fault, dump, ended, number, shortened, text_in, written
 
-
-class Fault(Exception):
-    """A fault of a line of a table."""
+NUMERAL = re.compile(r"-?[0-9]+(\.[0-9]*|/[0-9]+)?")
 
 
 def rows(path, columns):
     """The lines of a table with their numbers, from 2 on, as dictionaries of stripped texts."""
-    with open(path, newline="", encoding="utf-8-sig") as file:
-        reader = csv.DictReader(file, skipinitialspace=True)
-        missing = [column for column in columns if column not in (reader.fieldnames or [])]
-        if missing:
-            raise Fault(f"{path} line 1: no column {missing[0]}")
-        for row in reader:
-            yield reader.line_num, {column: (row[column] or "").strip() for column in columns}
+    reader = csv.reader(io.StringIO(text_in(path), newline=""), skipinitialspace=True, strict=True)
+    head = None
+    try:
+        for cells in reader:
+            cells = [cell.strip() for cell in cells]
+            if head is None:
+                head = head_of(cells, columns)
+            elif any(cells):
+                if len(cells) > len(head):
+                    raise Fault(
+                        f"{len(cells)} cells under a head line of {len(head)}: a cell with a comma stands in quotes"
+                    )
+                cells += [""] * (len(head) - len(cells))
+                yield reader.line_num, dict(zip(head, cells))
+        if head is None:
+            raise Fault("no head line")
+    except (csv.Error, Fault) as fault:
+        raise Fault(f"{path} line {max(1, reader.line_num)}: {fault}") from None
+
+
+def head_of(cells, columns):
+    """The names of a table's columns, those that are wanted among them and none of these twice."""
+    for column in columns:
+        if cells.count(column) != 1:
+            raise Fault(f"no column {column}" if column not in cells else f"two columns {column}")
+    return cells
 
 
 def name_of(text, taken):
     """A name that is well formed and not taken yet."""
     if not NAME.fullmatch(text):
-        raise Fault(f"{text!r} is no name of 1 to 32 letters, digits, _ and -")
+        raise Fault(f"{shortened(text)!r} is no name of 1 to 32 letters, digits, _ and -")
     if text in taken:
         raise Fault(f"{text} stands twice")
     return text
@@ -64,21 +90,30 @@ def name_of(text, taken):
 
 def amount(column, text, least, default=None):
     """An exact number of a column that is at least `least`, or above 0 where that is None."""
-    if text == "" and default is not None:
+    if text == "":
+        if default is None:
+            raise Fault(f"{column} is empty")
         return Fraction(default)
+    if not NUMERAL.fullmatch(text):
+        raise Fault(f"{column} {shortened(text)!r} is no number, as 12, 1.5 or 3/2")
+    # As a fraction over a power of ten: so a number that is too large is told as in a network file.
+    front, _, after = text.partition(".")
+    text = front + after + (f"/1{'0' * len(after)}" if after else "")
     try:
-        value = Fraction(text)
-    except (ValueError, ZeroDivisionError):
-        raise Fault(f"{column} {text!r} is no number") from None
+        value = number(text)
+    except Fault as fault:
+        raise Fault(f"{column}: {fault}") from None
     if value <= 0 if least is None else value < least:
-        raise Fault(f"{column} {text} is {'not above 0' if least is None else f'below {least}'}")
+        raise Fault(f"{column} {value} is {'not above 0' if least is None else f'below {least}'}")
     return value
 
 
 def whole(column, text, least, most):
     """A whole number of a column from `least` to `most`."""
-    if not text.isascii() or not text.isdigit() or not least <= int(text) <= most:
-        raise Fault(f"{column} {text!r} is no whole number from {least} to {most}")
+    if not re.fullmatch("[0-9]{1,20}", text) or not least <= int(text) <= most:
+        raise Fault(
+            f"{column} {shortened(text)!r} is no whole number from {least} to {most}" if text else f"{column} is empty"
+        )
     return int(text)
 
 
@@ -91,10 +126,10 @@ def discipline_of(text):
         return {"discipline": "priority", "queues": whole("queues", words[1], 1, 8)}
     if words[0] == "drr" and 2 <= len(words) <= 9:
         return {"discipline": "drr", "quanta": [8 * whole("quantum", word, 1, 2**21) for word in words[1:]]}
-    raise Fault(f"discipline {text!r} is none of fifo, priority N, drr Q0 Q1 ..")
+    raise Fault(f"discipline {shortened(text)!r} is none of fifo, priority N, drr Q0 Q1 ..")
 
 
-def port(row, taken):
+def port(row, taken, grid):
     """The server of a line of ports."""
     server = {"name": name_of(row["name"], taken), "rate": written(amount("rate", row["rate"], None))}
     latency = amount("latency", row["latency"], 0, default=0)
@@ -103,6 +138,8 @@ def port(row, taken):
     link = amount("link", row["link"], 0, default=0)
     if link:
         server["link"] = written(link)
+    if grid:
+        rounding.round_server(server, grid)
     return server | discipline_of(row["discipline"])
 
 
@@ -114,7 +151,7 @@ def queues_of(server):
 def hop(name, priority, packet, servers):
     """A path entry at the port of that name."""
     if name not in servers:
-        raise Fault(f"no port {name}")
+        raise Fault(f"no port {shortened(name)}")
     server = servers[name]
     queues = queues_of(server)
     if queues == 1:
@@ -133,16 +170,18 @@ def arrival_of(packet, period, jitter, buckets):
     return {"kind": "stair", "period": written(period), "jitter": written(jitter)}
 
 
-def virtual_link(row, taken, servers, overhead, buckets):
+def virtual_link(row, taken, servers, words):
     """The flow of a line of links."""
     flow = {"name": name_of(row["name"], taken)}
-    packet = 8 * (whole("largest_frame", row["largest_frame"], 1, 2**21 - 1) + overhead)
+    packet = 8 * (whole("largest_frame", row["largest_frame"], 1, 2**21 - 1) + words.overhead)
     if packet > 2**24:
-        raise Fault(f"a frame of {row['largest_frame']} bytes is longer than 2^24 bits")
+        raise Fault(f"a frame of {row['largest_frame']} bytes and {words.overhead} more is longer than 2^24 bits")
     flow["packet"] = packet
     period = 1000 * amount("bag", row["bag"], None)
     jitter = amount("jitter", row["jitter"], 0, default=0)
-    flow["arrival"] = arrival_of(packet, period, jitter, buckets)
+    flow["arrival"] = arrival_of(packet, period, jitter, words.buckets)
+    if words.grid:
+        rounding.round_flow(flow, words.grid)
     priority = whole("priority", row["priority"] or "0", 0, 7)
     path = row["path"].split()
     if not 1 <= len(path) <= 16:
@@ -167,33 +206,50 @@ def read_table(path, columns, make, most):
     return made
 
 
-def network_of(links, ports, overhead, buckets):
+def network_of(words):
     """The network of two files."""
-    servers = read_table(ports, ["name", "rate", "latency", "link", "discipline"], port, 64)
+    servers = read_table(
+        words.ports,
+        ["name", "rate", "latency", "link", "discipline"],
+        lambda row, taken: port(row, taken, words.grid),
+        64,
+    )
     flows = read_table(
-        links,
+        words.links,
         ["name", "bag", "largest_frame", "jitter", "priority", "path"],
-        lambda row, taken: virtual_link(row, taken, servers, overhead, buckets),
+        lambda row, taken: virtual_link(row, taken, servers, words),
         256,
     )
     return {"server": list(servers.values()), "flow": list(flows.values())}
+
+
+def head_of_file(words):
+    """The comment at the head of the file: what was read, and how."""
+    kind = "token buckets" if words.buckets else "stairs"
+    grid = f", on a grid of 1/{words.grid}: arrivals up, services down" if words.grid else ""
+    return (
+        f"Made by import_icd.py of {words.links} and {words.ports}, in microseconds and bits;\n"
+        f"frames as {kind}, with {words.overhead} bytes of the wire beside their own{grid}."
+    )
 
 
 def main():
     parser = argparse.ArgumentParser(description=__doc__, formatter_class=argparse.RawDescriptionHelpFormatter)
     parser.add_argument("links")
     parser.add_argument("ports")
-    parser.add_argument("--overhead", type=int, default=20, metavar="BYTES", help="bytes on the wire beside a frame's own (20)")
+    parser.add_argument(
+        "--overhead", type=int, default=20, metavar="BYTES", help="bytes on the wire beside a frame's own (20)"
+    )
     parser.add_argument("--buckets", action="store_true", help="describe each link by a token bucket")
+    parser.add_argument("--grid", type=int, metavar="N", help="numbers become multiples of 1/N, in the safe direction")
     words = parser.parse_args()
-    try:
-        network = network_of(words.links, words.ports, words.overhead, words.buckets)
-    except (Fault, OSError) as fault:
-        print(f"import_icd: {fault}", file=sys.stderr)
-        return 1
-    sys.stdout.write(dump(network, f"Made of {words.links} and {words.ports}, in microseconds and bits."))
+    if not 0 <= words.overhead < 2**21:
+        parser.error("the overhead is from 0 bytes on, and below 2^21")
+    if words.grid is not None and not 1 <= words.grid <= rounding.FINEST:
+        parser.error(f"the grid is a whole number from 1 to {rounding.FINEST}")
+    sys.stdout.write(dump(network_of(words), head_of_file(words)))
     return 0
 
 
 if __name__ == "__main__":
-    sys.exit(main())
+    ended("import_icd", main)

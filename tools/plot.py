@@ -1,37 +1,64 @@
 #!/usr/bin/env python3
 """Draws what netcalc printed. Needs matplotlib (Debian: python3-matplotlib).
 
-    tools/plot.py bounds ANSWER.txt -o OUT.svg     bars of an answer of `netcalc analyse`: each flow's bounds by total-flow and by separate-flow
-                                                   analysis, each queue's delay and backlog; or of `netcalc simulate`: the worst of the run
-                                                   beside the bound
-    tools/plot.py curves ANSWER.txt -o OUT.svg     two curves, an arrival curve and a service curve, with their horizontal and vertical deviation:
-                                                   of an answer of `netcalc curve` that has `show A`, `show B`, `delay A, B` and `backlog A, B`
-    tools/plot.py run RUN.csv --net NET -o OUT.svg a time line of a recorded run, as `netcalc check NET RUN.csv` reads it: at each server the works
-                                                   with the numbers of their packets, and the bits that each queue holds
+    tools/plot.py bounds ANSWER.txt -o OUT.svg
+        bars of an answer of `netcalc analyse` or `edit`: a flow's bounds by total-flow and by separate-flow analysis,
+        each queue's delay and backlog; or of `netcalc simulate` or `check`: the worst of the run beside the bound;
+        flows or queues alone, where an answer has no others
+    tools/plot.py curves ANSWER.txt -o OUT.svg
+        two curves, an arrival curve and a service curve, with their horizontal and vertical deviation: of an answer of
+        `netcalc curve` that has `show A`, `show B`, `delay A, B` and `backlog A, B`
+    tools/plot.py run RUN.csv --net NET -o OUT.svg
+        a time line of a recorded run, as `netcalc check NET RUN.csv` reads it: at each server the works with the
+        numbers of their packets, and the bits that each queue holds
 
-ANSWER.txt and RUN.csv may be `-`, for the standard input. OUT ends with .svg or .png. An `unbounded` number is drawn as a bar to the edge, with the
-word. Of an answer only the printed numbers are read, so a picture shows what was proved of it and nothing else. A time line shows the rows that
-stand in the file: whether they are a run of the network `check` alone says. Drawing rounds numbers to the screen.
+ANSWER.txt and RUN.csv may be `-`, for the standard input. OUT ends with .svg or .png. An `unbounded` number is drawn as
+a bar to the edge, with the word. Of an answer only the printed numbers are read, so a picture shows what was proved of
+it and nothing else. A time line shows the rows that stand in the file: whether they are a run of the network `check`
+alone says. Drawing rounds numbers to the screen.
 """
 
 import argparse
 import csv
-import sys
+import re
 from fractions import Fraction
+
+from networks import Fault, ended, load, member, shortened, text_in
 
 BLUE, RED, GREY, GREEN = "#4477aa", "#cc3311", "#bbbbbb", "#228833"
 FLOWS = [BLUE, RED, GREEN, "#aa3377", "#ccbb44", "#66ccee"]  # colours of flows, which come again where there are more
 QUEUES = ["#ee7733", "#000000", "#009988", "#777777", "#882255", "#999933", "#0077bb", "#ee3377"]
+MOST = 2000  # pieces of a curve that are drawn
+
+
+def exact(word):
+    """A printed number."""
+    if not re.fullmatch("-?[0-9]{1,60}(/0*[1-9][0-9]{0,59})?", word):
+        raise Fault(f"{shortened(word)!r} is no number")
+    return Fraction(word)
 
 
 def number(word):
-    """A printed number, or None for `unbounded`."""
-    return None if word == "unbounded" else float(Fraction(word))
+    """A printed number that is rounded, or None for `unbounded`."""
+    return None if word == "unbounded" else float(exact(word))
+
+
+def read_lines(text, read):
+    """Reads the words of each line that is not empty; a fault is told with its line."""
+    for place, line in enumerate(text.splitlines(), 1):
+        try:
+            if line.split():
+                read(line.split())
+        except Fault as fault:
+            raise Fault(f"line {place}: {fault}") from None
 
 
 def drawing():
-    """matplotlib's figures, drawn without a screen; letters stay letters in an SVG, so it is small and can be searched."""
-    import matplotlib
+    """matplotlib's figures, drawn without a screen; letters stay letters in an SVG, so it can be searched."""
+    try:
+        import matplotlib
+    except ImportError:
+        raise Fault("drawing needs matplotlib (Debian: python3-matplotlib)") from None
 
     matplotlib.use("Agg")
     matplotlib.rcParams["svg.fonttype"] = "none"
@@ -41,31 +68,50 @@ def drawing():
     return plot
 
 
+def save(figure, path):
+    """Writes a picture, without the time at which it was drawn."""
+    try:
+        figure.savefig(path, metadata={"Date": None} if path.endswith(".svg") else None)
+    except ValueError as fault:
+        raise Fault(f"{path}: {fault}") from None
+
+
 def read_run(text):
-    """The flows and queues of an answer of `simulate`, as lists of names with the worst of the run and the bound."""
+    """The flows and queues of an answer of `simulate` or `check`, as lists of names with the worst of the run and the
+    bound."""
     flows, queues = [], []
-    for line in text.splitlines():
-        words = line.split()
-        if words[:1] == ["worst"]:
-            flows.append((words[1], number(words[2]), number(words[4])))
-        elif words[:1] == ["peak"]:
-            queues.append((f"{words[1]}:{words[2]}", number(words[3]), number(words[5])))
-        elif words[:1] not in (["servers"], ["run"], ["breach"]):
-            raise ValueError(f"no line of an answer: {line}")
+
+    def read(words):
+        match words:
+            case ["worst", name, seen, "bound", most]:
+                flows.append((name, number(seen), number(most)))
+            case ["peak", server, queue, seen, "bound", most]:
+                queues.append((f"{server}:{queue}", number(seen), number(most)))
+            case ["servers" | "run" | "breach" | "verdict", *_]:
+                pass
+            case _:
+                raise Fault(f"no line of an answer: {shortened(' '.join(words))}")
+
+    read_lines(text, read)
     return flows, queues
 
 
 def read_answer(text):
-    """The flows and queues of an answer, as lists of names with their printed numbers."""
+    """The flows and queues of an answer of `analyse` or `edit`, as lists of names with their printed numbers."""
     flows, queues = [], []
-    for line in text.splitlines():
-        words = line.split()
-        if words[:1] == ["flow"]:
-            flows.append((words[1], number(words[3]), number(words[5])))
-        elif words[:1] == ["queue"]:
-            queues.append((f"{words[1]}:{words[2]}", number(words[4]), number(words[6])))
-        elif words[:1] != ["servers"]:
-            raise ValueError(f"no line of an answer: {line}")
+
+    def read(words):
+        match words:
+            case ["flow", name, "tfa", tfa, "sfa", sfa, "bound", _]:
+                flows.append((name, number(tfa), number(sfa)))
+            case ["queue", server, queue, "delay", delay, "backlog", backlog]:
+                queues.append((f"{server}:{queue}", number(delay), number(backlog)))
+            case ["servers" | "edit", *_]:
+                pass
+            case _:
+                raise Fault(f"no line of an answer: {shortened(' '.join(words))}")
+
+    read_lines(text, read)
     return flows, queues
 
 
@@ -79,14 +125,39 @@ def bars(axes, names, columns, label):
         axes.barh(ys, [edge if value is None else value for value in values], height=height, color=colour, label=what)
         for y, value in zip(ys, values):
             word = "unbounded" if value is None else f"{value:.6g}"
-            axes.text(edge if value is None else value, y, f" {word}", va="center", ha="right" if value is None else "left", fontsize=7)
-    axes.set_yticks([row + height * (len(columns) - 1) / 2 for row in range(len(names))], names, fontsize=8, family="monospace")
+            axes.text(
+                edge if value is None else value,
+                y,
+                f" {word}",
+                va="center",
+                ha="right" if value is None else "left",
+                fontsize=7,
+            )
+    axes.set_yticks(
+        [row + height * (len(columns) - 1) / 2 for row in range(len(names))], names, fontsize=8, family="monospace"
+    )
     axes.set_xlim(0, edge * 1.1)
     axes.invert_yaxis()
     axes.set_xlabel(label)
     axes.grid(axis="x", alpha=0.3)
     if len(columns) > 1:
         axes.legend(fontsize=8, ncol=len(columns), loc="lower center", bbox_to_anchor=(0.5, 1.0), frameon=False)
+
+
+def draw_panels(panels, width, path):
+    """The picture of panels beside one another, each with names, columns and a label, and of one width; a panel without
+    a name is left out."""
+    panels = [panel for panel in panels if panel[0]]
+    if not panels:
+        raise Fault("the answer has no flow and no queue: nothing to draw")
+    plot = drawing()
+
+    rows = max(len(names) for names, _, _ in panels)
+    size = width * len(panels), 1.2 + 0.32 * rows
+    figure, all_axes = plot.subplots(1, len(panels), figsize=size, squeeze=False, layout="constrained")
+    for axes, panel in zip(all_axes[0], panels):
+        bars(axes, *panel)
+    save(figure, path)
 
 
 class Curve:
@@ -100,11 +171,14 @@ class Curve:
         found = list(self.pieces)
         if self.tail[0] == "periodic":
             rank, period, rise = self.tail[1:]
+            if (end - rank) / period * len(found) > MOST:
+                raise Fault(f"more than {MOST} pieces up to {float(end):g}: too many to draw")
             own = [piece for piece in self.pieces if piece[0] >= rank]
             turns = 1
             while rank + turns * period <= end:
                 found += [
-                    (time + turns * period, at + turns * rise, None if after is None else after + turns * rise, slope) for time, at, after, slope in own
+                    (time + turns * period, at + turns * rise, None if after is None else after + turns * rise, slope)
+                    for time, at, after, slope in own
                 ]
                 turns += 1
         return [piece for piece in found if piece[0] <= end]
@@ -144,7 +218,8 @@ class Curve:
         return None
 
     def first_above(self, level, end):
-        """The first time up to `end` from which on the curve is above a level: the right end of a stretch at that level."""
+        """The first time up to `end` from which on the curve is above a level: the right end of a stretch at that
+        level."""
         times, values = self.line(end)
         for place, (time, value) in enumerate(zip(times, values)):
             if value > level:
@@ -157,22 +232,40 @@ class Curve:
 
 def read_curves(text):
     """The curves and numbers of an answer of `curve`."""
-    curves, numbers, curve = [], {}, None
-    for line in text.splitlines():
-        words = line.split()
-        if words[0] == "piece":
-            curve = curve or Curve()
-            infinite = words[5] == "unbounded"
-            curve.pieces.append((Fraction(words[1]), Fraction(words[3]), *((None, 0) if infinite else (Fraction(words[5]), Fraction(words[7])))))
-        elif words[0] == "tail":
-            curve.tail = (words[1], *[Fraction(word) for word in words[2:]])
-            curves.append(curve)
-            curve = None
-        else:
-            numbers[words[0]] = words[1]
+    curves, numbers, pieces = [], {}, []
+
+    def read(words):
+        match words:
+            case ["piece", start, "at", at, "after", "unbounded", *_]:
+                pieces.append((exact(start), exact(at), None, Fraction(0)))
+            case ["piece", start, "at", at, "after", after, "slope", slope]:
+                pieces.append((exact(start), exact(at), exact(after), exact(slope)))
+            case ["tail", kind, *rest]:
+                curves.append(curve_of(pieces, kind, [exact(word) for word in rest]))
+                pieces.clear()
+            case ["delay" | "backlog" as name, value]:
+                numbers[name] = value if value == "unbounded" else str(exact(value))
+            case ["equal" | "below" | "value" | "rate", *_]:
+                pass
+            case _:
+                raise Fault(f"no line of an answer of `curve`: {shortened(' '.join(words))}")
+
+    read_lines(text, read)
     if len(curves) != 2 or not {"delay", "backlog"} <= numbers.keys():
-        raise ValueError("an answer with two curves shown, their delay and their backlog is wanted")
+        raise Fault("an answer with two curves shown, their delay and their backlog is wanted")
     return curves, numbers
+
+
+def curve_of(pieces, kind, numbers):
+    """A curve of its pieces and its tail."""
+    starts = [piece[0] for piece in pieces]
+    if not starts or starts[0] != 0 or starts != sorted(set(starts)):
+        raise Fault("the pieces before a tail begin at 0 and rise")
+    if kind == "periodic" and not (len(numbers) == 3 and numbers[0] >= 0 and numbers[1] > 0):
+        raise Fault("a periodic tail has a start, a period above 0 and a rise")
+    curve = Curve()
+    curve.pieces, curve.tail = list(pieces), (kind, *numbers)
+    return curve
 
 
 def widest(arrival, service, end):
@@ -192,9 +285,9 @@ def widest(arrival, service, end):
 
 def draw_curves(text, path):
     """The picture of two curves."""
+    (arrival, service), numbers = read_curves(text)
     plot = drawing()
 
-    (arrival, service), numbers = read_curves(text)
     delay, backlog = numbers["delay"], numbers["backlog"]
     breaks = [piece[0] for curve in (arrival, service) for piece in curve.pieces]
     periods = [curve.tail[2] for curve in (arrival, service) if curve.tail[0] == "periodic"]
@@ -206,39 +299,74 @@ def draw_curves(text, path):
         axes.plot([float(time) for time in times], [float(value) for value in values], color=colour, label=name)
     if delay != "unbounded" and (found := widest(arrival, service, end)):
         level, start, reached = found
-        axes.annotate("", (float(start), float(level)), (float(reached), float(level)), arrowprops={"arrowstyle": "<->", "color": GREEN})
-        axes.text(float((start + reached) / 2), float(level), f"delay {delay}", ha="center", va="bottom", color=GREEN, fontsize=9)
+        axes.annotate(
+            "",
+            (float(start), float(level)),
+            (float(reached), float(level)),
+            arrowprops={"arrowstyle": "<->", "color": GREEN},
+        )
+        axes.text(
+            float((start + reached) / 2),
+            float(level),
+            f"delay {delay}",
+            ha="center",
+            va="bottom",
+            color=GREEN,
+            fontsize=9,
+        )
     if backlog != "unbounded":
-        marks = sorted({time for curve in (arrival, service) for time in curve.line(end)[0] if arrival.near(time) and service.near(time)})
+        marks = sorted(
+            {
+                time
+                for curve in (arrival, service)
+                for time in curve.line(end)[0]
+                if arrival.near(time) and service.near(time)
+            }
+        )
         top = {time: max(arrival.near(time)) for time in marks}
         low = {time: min(service.near(time)) for time in marks}
         time = max(marks, key=lambda mark: top[mark] - low[mark])
-        axes.annotate("", (float(time), float(low[time])), (float(time), float(top[time])), arrowprops={"arrowstyle": "<->", "color": GREY})
-        axes.text(float(time), float((low[time] + top[time]) / 2), f" backlog {backlog}", va="center", color="black", fontsize=9)
+        axes.annotate(
+            "",
+            (float(time), float(low[time])),
+            (float(time), float(top[time])),
+            arrowprops={"arrowstyle": "<->", "color": GREY},
+        )
+        axes.text(
+            float(time),
+            float((low[time] + top[time]) / 2),
+            f" backlog {backlog}",
+            va="center",
+            color="black",
+            fontsize=9,
+        )
     axes.set_xlabel("time")
     axes.set_ylabel("bits")
     axes.set_xlim(0, float(end))
     axes.set_ylim(0)
     axes.grid(alpha=0.3)
     axes.legend(loc="lower right")
-    figure.savefig(path, metadata={"Date": None} if path.endswith(".svg") else None)
+    save(figure, path)
 
 
 def draw_run(text, path):
     """The picture of an answer of `simulate`: what the run showed beside what no run passes."""
-    plot = drawing()
-
     flows, queues = read_run(text)
-    rows = [max(1, len(flows)), max(1, len(queues))]
-    figure, (left, right) = plot.subplots(1, 2, figsize=(11, 1.2 + 0.32 * max(rows)), layout="constrained")
-    for axes, found, label in ((left, flows, "delay of a flow, end to end"), (right, queues, "backlog of a queue, in bits")):
-        names = [name for name, _, _ in found]
-        bars(axes, names, [("worst of the run", [seen for _, seen, _ in found], GREY), ("bound", [bound for _, _, bound in found], BLUE)], label)
-    figure.savefig(path, metadata={"Date": None} if path.endswith(".svg") else None)
+
+    def panel(found, label):
+        columns = [
+            ("worst of the run", [seen for _, seen, _ in found], GREY),
+            ("bound", [bound for _, _, bound in found], BLUE),
+        ]
+        return [name for name, _, _ in found], columns, label
+
+    draw_panels(
+        [panel(flows, "delay of a flow, end to end"), panel(queues, "backlog of a queue, in bits")], 11 / 2, path
+    )
 
 
 class Server:
-    """What a recorded run did at one server: its works, its visits, and when how many bits came to a queue or left it."""
+    """What a recorded run did at one server: its works, its visits, and when bits came to a queue or left it."""
 
     def __init__(self):
         self.works, self.visits, self.moves = [], [], {}
@@ -252,47 +380,86 @@ class Server:
         return [*times, float(end)], [*held, held[-1]]
 
 
-def read_paths(text):
+def read_paths(path):
     """The servers of a network's file in their order, and of each flow its servers with the queues there."""
-    import tomllib  # of Python 3.11; no other picture needs it
+    net = load(path)
+    names = [server["name"] for server in net.get("server", [])]
+    paths = {}
+    for flow in net.get("flow", []):
+        hops = [str(hop).partition(":") for hop in member(flow, f"{path}: {flow['name']}: ", "path", list)]
+        for name, _, queue in hops:
+            if name not in names or not re.fullmatch("[0-9]{0,3}", queue):
+                raise Fault(f"{path}: {flow['name']} has no path entry {shortened(name + ':' + queue)}")
+        if not hops:
+            raise Fault(f"{path}: {flow['name']} has an empty path")
+        paths[flow["name"]] = {name: int(queue or 0) for name, _, queue in hops}
+    return names, paths
 
-    net = tomllib.loads(text)
-    paths = {flow["name"]: {name: int(queue or 0) for name, _, queue in (hop.partition(":") for hop in flow["path"])} for flow in net.get("flow", [])}
-    return [server["name"] for server in net.get("server", [])], paths
+
+def known(what, name, names):
+    """A name that is one of some."""
+    if name not in names:
+        raise Fault(f"no {what} {shortened(name)}")
+    return name
+
+
+class Recorded:
+    """A recorded run as its rows are read: the servers, the flow of each packet, and the run's end."""
+
+    def __init__(self, names, paths):
+        self.servers, self.paths = {name: Server() for name in names}, paths
+        self.packets, self.end = [], Fraction(0)
+
+    def packet(self, text):
+        """The number of a packet that has entered."""
+        if not re.fullmatch("[0-9]{1,9}", text) or int(text) >= len(self.packets):
+            raise Fault(f"no packet {shortened(text)} has entered")
+        return int(text)
+
+    def move(self, server, packet, time, sign):
+        """A packet comes to a server of its path, or leaves it."""
+        flow, bits = self.packets[packet]
+        if server not in self.paths[flow]:
+            raise Fault(f"packet {packet} of {flow} does not pass {shortened(server)}")
+        self.servers[server].moves.setdefault(self.paths[flow][server], []).append((exact(time), sign * bits))
+
+    def read(self, row):
+        """Takes a row."""
+        match row:
+            case ["enter", time, flow, bits]:
+                self.packets.append((known("flow", flow, self.paths), float(exact(bits))))
+                self.move(next(iter(self.paths[flow])), len(self.packets) - 1, time, 1)
+            case ["reach" | "leave" as what, time, server, packet]:
+                self.move(
+                    known("server", server, self.servers), self.packet(packet), time, 1 if what == "reach" else -1
+                )
+            case ["work", server, packet, start, stop, _]:
+                work = self.packet(packet), exact(start), exact(stop)
+                self.servers[known("server", server, self.servers)].works.append(work)
+            case ["visit", time, server, queue]:
+                self.servers[known("server", server, self.servers)].visits.append((exact(time), queue))
+            case ["end", time]:
+                self.end = exact(time)
+            case _:
+                raise Fault(f"no row of a recorded run: {shortened(','.join(row))}")
 
 
 def read_recorded(text, names, paths):
     """The servers of a recorded run, the flow of each packet, and the run's end."""
-    servers, packets, end = {name: Server() for name in names}, [], Fraction(0)
-
-    def moved(name, packet, time, sign):
-        flow, bits = packets[packet]
-        servers[name].moves.setdefault(paths[flow][name], []).append((Fraction(time), sign * bits))
-
-    for row in csv.reader(text.splitlines()):
-        match row:
-            case ["enter", time, flow, bits]:
-                packets.append((flow, int(bits)))
-                moved(next(iter(paths[flow])), len(packets) - 1, time, 1)
-            case ["reach", time, server, packet]:
-                moved(server, int(packet), time, 1)
-            case ["leave", time, server, packet]:
-                moved(server, int(packet), time, -1)
-            case ["work", server, packet, start, stop, _]:
-                servers[server].works.append((int(packet), Fraction(start), Fraction(stop)))
-            case ["visit", time, server, queue]:
-                servers[server].visits.append((Fraction(time), queue))
-            case ["end", time]:
-                end = Fraction(time)
-            case []:
-                pass
-            case _:
-                raise ValueError(f"no row of a recorded run: {','.join(row)}")
-    return servers, [flow for flow, _ in packets], end
+    run = Recorded(names, paths)
+    reader = csv.reader(text.splitlines(), strict=True)
+    try:
+        for row in reader:
+            if row:
+                run.read(row)
+    except (csv.Error, Fault) as fault:
+        raise Fault(f"line {reader.line_num}: {fault}") from None
+    return run.servers, [flow for flow, _ in run.packets], run.end
 
 
 def draw_works(axes, server, flows, colours, end):
-    """The strip of a server's works, with the numbers of their packets where there is room, and its visits: `v1` of queue 1."""
+    """The strip of a server's works, with the numbers of their packets where there is room, and its visits: `v1` of
+    queue 1."""
     for packet, start, stop in server.works:
         axes.broken_barh([(float(start), float(stop - start))], (0, 1), color=colours[flows[packet]], edgecolor="white")
         if stop - start > end / 60:
@@ -322,16 +489,25 @@ def draw_queues(axes, server, end):
 
 
 def draw_recorded(text, net, path):
-    """The time line of a recorded run."""
+    """The time line of a recorded run of the network's file `net`."""
     names, paths = read_paths(net)
     servers, flows, end = read_recorded(text, names, paths)
+    if not flows:
+        raise Fault("no packet enters: nothing to draw")
     plot = drawing()
 
     used = {name: server for name, server in servers.items() if server.moves} or servers
     colours = {flow: FLOWS[place % len(FLOWS)] for place, flow in enumerate(paths)}
     rows = 2 * len(used)
     figure, all_axes = plot.subplots(
-        rows, 1, figsize=(10, 0.6 + 1.3 * len(used)), sharex=True, height_ratios=[1, 2.6] * len(used), squeeze=False, layout="constrained")
+        rows,
+        1,
+        figsize=(10, 0.6 + 1.3 * len(used)),
+        sharex=True,
+        height_ratios=[1, 2.6] * len(used),
+        squeeze=False,
+        layout="constrained",
+    )
     for place, (name, server) in enumerate(used.items()):
         works, queues = all_axes[2 * place][0], all_axes[2 * place + 1][0]
         draw_works(works, server, flows, colours, end)
@@ -339,28 +515,32 @@ def draw_recorded(text, net, path):
         draw_queues(queues, server, end)
     all_axes[-1][0].set_xlim(0, float(end) or 1)
     all_axes[-1][0].set_xlabel("time", fontsize=8)
-    handles = [plot.Rectangle((0, 0), 1, 1, color=colours[flow], label=f"works of {flow}") for flow in paths if flow in flows]
-    all_axes[0][0].legend(handles=handles, fontsize=8, ncol=6, loc="lower right", bbox_to_anchor=(1.0, 1.0), frameon=False)
-    figure.savefig(path, metadata={"Date": None} if path.endswith(".svg") else None)
+    handles = [
+        plot.Rectangle((0, 0), 1, 1, color=colours[flow], label=f"works of {flow}") for flow in paths if flow in flows
+    ]
+    all_axes[0][0].legend(
+        handles=handles, fontsize=8, ncol=6, loc="lower right", bbox_to_anchor=(1.0, 1.0), frameon=False
+    )
+    save(figure, path)
 
 
 def draw_bounds(text, path):
     """The picture of an answer."""
-    plot = drawing()
-
     if any(line.startswith("worst ") or line.startswith("run ") for line in text.splitlines()):
         draw_run(text, path)
         return
     flows, queues = read_answer(text)
-    rows = [max(1, len(flows)), max(1, len(queues))]
-    figure, (left, middle, right) = plot.subplots(1, 3, figsize=(13, 1.2 + 0.32 * max(rows)), layout="constrained")
-    names = [name for name, _, _ in flows]
-    columns = [("total-flow", [tfa for _, tfa, _ in flows], BLUE), ("separate-flow", [sfa for _, _, sfa in flows], GREY)]
-    bars(left, names, columns, "delay bound of a flow, end to end")
+    columns = [
+        ("total-flow", [tfa for _, tfa, _ in flows], BLUE),
+        ("separate-flow", [sfa for _, _, sfa in flows], GREY),
+    ]
     names = [name for name, _, _ in queues]
-    bars(middle, names, [("delay", [delay for _, delay, _ in queues], BLUE)], "delay bound of a queue")
-    bars(right, names, [("backlog", [bits for _, _, bits in queues], RED)], "backlog bound of a queue, in bits")
-    figure.savefig(path, metadata={"Date": None} if path.endswith(".svg") else None)
+    panels = [
+        ([name for name, _, _ in flows], columns, "delay bound of a flow, end to end"),
+        (names, [("delay", [delay for _, delay, _ in queues], BLUE)], "delay bound of a queue"),
+        (names, [("backlog", [bits for _, _, bits in queues], RED)], "backlog bound of a queue, in bits"),
+    ]
+    draw_panels(panels, 13 / 3, path)
 
 
 def main():
@@ -372,17 +552,16 @@ def main():
     words = parser.parse_args()
     if (words.what == "run") != (words.net is not None):
         parser.error("`run` alone wants the network's file, by --net")
+    text = text_in("/dev/stdin" if words.answer == "-" else words.answer)
     try:
-        text = sys.stdin.read() if words.answer == "-" else open(words.answer, encoding="utf-8").read()
         if words.what == "run":
-            draw_recorded(text, open(words.net, encoding="utf-8").read(), words.output)
+            draw_recorded(text, words.net, words.output)
         else:
             (draw_bounds if words.what == "bounds" else draw_curves)(text, words.output)
-    except (OSError, ValueError, IndexError, KeyError) as fault:
-        print(f"plot: {fault}", file=sys.stderr)
-        return 1
+    except Fault as fault:
+        raise Fault(f"{words.answer}: {fault}") from None
     return 0
 
 
 if __name__ == "__main__":
-    sys.exit(main())
+    ended("plot", main)

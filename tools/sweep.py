@@ -1,34 +1,54 @@
 #!/usr/bin/env python3
 """Runs the analysis on many variants of a network, and gathers their bounds in one table.
 
-    tools/sweep.py TEMPLATE.toml PARAMETERS.csv --table OUT.csv      a line of PARAMETERS.csv is a variant: each $NAME or ${NAME} of the
-                                                                     template becomes the text of the column NAME
-    tools/sweep.py FOLDER --table OUT.csv                            each *.toml of the folder is a variant
+    tools/sweep.py TEMPLATE.toml PARAMETERS.csv --table OUT.csv
+        a line of PARAMETERS.csv is a variant: each $NAME or ${NAME} of the template becomes the text of the column NAME
+    tools/sweep.py FOLDER --table OUT.csv
+        each *.toml of the folder is a variant
 
-Each variant is one run of the program, on all processors of this machine, or with `--scheduler ADDRESS` on the workers of a Dask scheduler
-(Debian: python3-distributed), which need the program at the same path. A variant that takes longer than `--seconds` is ended, and the table
-says `time`. Every answer is written down at once in OUT.csv.journal: started again, the study goes on with the variants that are missing there. An
-answer of another text of the variant or of another program does not count, and one that ran out of time only where there is no more time now.
+Each variant is one run of the program, on all processors of this machine, or with `--scheduler ADDRESS` on the workers
+of a Dask scheduler (Debian: python3-distributed), which need the program at the same path. A variant that takes longer
+than `--seconds` is ended, and the table says `time`. Every answer is written down at once in OUT.csv.journal: started
+again, the study goes on with the variants that are missing there. An answer of another text of the variant or of
+another program does not count, nor one that a signal ended, and one that ran out of time only where there is no more
+time now. Two studies do not write one journal: the second is refused.
 
-The table has a line a variant, in their order: its name, the parameters, `status` (a status of the program, `time`, or `signal N`),
-`refusal` (its line), `seconds`, `largest` (the largest bound), and a column `bound FLOW` for each flow. Bounds are exact fractions.
+The table has a line a variant, in their order: its name, the parameters, `status` (a status of the program, `time`, or
+`signal N`), `refusal` (its line), `seconds`, `largest` (the largest bound), and a column `bound FLOW` for each flow.
+Bounds are exact fractions.
 
-`--plot COLUMN OUT.svg` draws the largest bound of each variant over a parameter, with the front of those that no other variant beats in both
-(needs matplotlib).
+`--plot COLUMN OUT.svg` draws the largest bound of each variant over a parameter, with the front of those that no other
+variant beats in both (needs matplotlib).
+
+Tried on 28 November 2026 with 10,000 variants of the network of examples/tutorial/study.template (100 rates, 100
+latencies), on four processors that other work kept busy too (a load of 20 to 30):
+
+- Here, four programs at a time: 569.8 s, 17.6 variants a second. Each run took 0.2 s there, of which the program itself
+  worked some 5 ms.
+- On a scheduler of Dask 2022.12 with two workers on that machine: with one thread each, stopped by Ctrl-C after 1,056;
+  started again with four threads each, 8,944 in 740.1 s, 12.1 a second, though one worker was ended by SIGKILL after
+  5,004. Table and journal had each variant once, and but for the seconds the table was the same as here. What the
+  worker had under way, and one variant whose answer went with it, was run again.
+
+So 10,000 variants of such a size take minutes. Plan longer ones by a trial of a hundred: the bar shows how many a
+second there are.
 """
 
 import argparse
 import concurrent.futures
 import csv
+import fcntl
 import hashlib
+import io
 import json
 import os
 import pathlib
 import string
 import sys
 import time
+from fractions import Fraction
 
-from networks import PROGRAM
+from networks import PROGRAM, Fault, ended, mark_of, text_in
 
 
 def answer_of(program, text, seconds):
@@ -47,7 +67,9 @@ def answer_of(program, text, seconds):
     try:
         with open(path, "w", encoding="utf-8") as file:
             file.write(text)
-        run = subprocess.run([program, "analyse", "n.toml"], cwd=folder, capture_output=True, text=True, timeout=seconds, check=False)
+        run = subprocess.run(
+            [program, "analyse", "n.toml"], cwd=folder, capture_output=True, text=True, timeout=seconds, check=False
+        )
         status = str(run.returncode) if run.returncode >= 0 else f"signal {-run.returncode}"
         lines = [line.split() for line in run.stdout.splitlines()]
         refusal = run.stdout.strip() if run.returncode else ""
@@ -61,40 +83,64 @@ def answer_of(program, text, seconds):
     return {"status": status, "refusal": refusal, "seconds": round(time.monotonic() - start, 3), "bounds": bounds}
 
 
+def rows_of(path):
+    """The rows of a table of parameters by their numbers from 1 on, each with a cell for each column."""
+    reader = csv.reader(io.StringIO(text_in(path), newline=""), skipinitialspace=True, strict=True)
+    rows = {}
+    try:
+        head = next(reader, None)
+        if head is None or len(set(head)) < len(head):
+            raise Fault("no head line" if head is None else "a column stands twice")
+        for cells in reader:
+            if cells and len(cells) != len(head):
+                raise Fault(f"{len(cells)} cells under a head line of {len(head)}")
+            if cells:
+                rows[str(len(rows) + 1)] = dict(zip(head, cells))
+    except (csv.Error, Fault) as fault:
+        raise Fault(f"{path} line {max(1, reader.line_num)}: {fault}") from None
+    if not rows:
+        raise Fault(f"{path}: no variant")
+    return rows
+
+
 def variants_of(source, parameters):
-    """The variants as pairs of a name and its parameters, and a function from a variant to the text of its file."""
+    """The variants by name, each with its parameters, and a function from a name to the text of its file."""
     source = pathlib.Path(source)
     if source.is_dir():
-        paths = sorted(source.glob("*.toml"))
-        return [(path.stem, {}) for path in paths], {path.stem: path.read_text() for path in paths}.__getitem__
-    with open(parameters, newline="", encoding="utf-8-sig") as file:
-        rows = list(csv.DictReader(file, skipinitialspace=True))
-    template = string.Template(source.read_text())
-    named = {str(number): row for number, row in enumerate(rows, 1)}
-    if rows:
-        template.substitute(rows[0])  # A name without a column is told before anything runs.
-    return list(named.items()), lambda name: template.substitute(named[name])
-
-
-def asked(text, program):
-    """What an answer is of: a hash of the variant's file and of the program."""
-    return hashlib.sha256(hashlib.sha256(pathlib.Path(program).read_bytes()).digest() + text.encode()).hexdigest()
+        paths = {path.stem: path for path in sorted(source.glob("*.toml"))}
+        if not paths:
+            raise Fault(f"{source}: no variant")
+        return dict.fromkeys(paths, {}), lambda name: text_in(paths[name])
+    rows = rows_of(parameters)
+    template = string.Template(text_in(source))
+    try:
+        template.substitute(next(iter(rows.values())))  # A name without a column is told before anything runs.
+    except KeyError as missing:
+        raise Fault(f"{parameters}: no column {missing.args[0]}, which {source} asks for") from None
+    except ValueError as fault:
+        raise Fault(f"{source}: {fault}") from None
+    return rows, lambda name: template.substitute(rows[name])
 
 
 def still_holds(entry, mark, seconds):
-    """Whether an entry of the journal is of the same file and program, and, where it ran out of time, of no shorter time."""
-    return entry.get("asked") == mark and (entry["status"] != "time" or entry.get("limit", 0) >= seconds)
+    """Whether an entry of the journal is of the same file and program, and of a program that ended by itself or had no
+    less time."""
+    ended_by_itself = entry["status"] != "time" and not entry["status"].startswith("signal")
+    return entry["asked"] == mark and (ended_by_itself or entry["status"] == "time" and entry["limit"] >= seconds)
 
 
-def journal_of(path):
+def journal_of(text):
     """The answers that a journal holds, the latest of each variant; a last line that was cut off does not count."""
     answers = {}
-    if path.exists():
-        for line in path.read_text().splitlines():
-            try:
-                entry = json.loads(line)
-            except json.JSONDecodeError:
-                continue
+    for line in text.splitlines():
+        try:
+            entry = json.loads(line)
+        except json.JSONDecodeError:
+            continue
+        if (
+            isinstance(entry, dict)
+            and {"variant", "asked", "limit", "status", "refusal", "seconds", "bounds"} <= entry.keys()
+        ):
             answers[entry["variant"]] = entry
     return answers
 
@@ -135,39 +181,58 @@ def local(tasks, words):
 
 
 def distributed(tasks, words):
-    """The answers of tasks as they come, from the workers of a Dask scheduler; a task whose worker is gone is given to another."""
-    from distributed import Client, as_completed
+    """The answers of tasks as they come, from the workers of a Dask scheduler; a task whose worker is gone is given to
+    another."""
+    try:
+        from distributed import Client, as_completed
+    except ImportError:
+        raise Fault("--scheduler needs distributed (Debian: python3-distributed)") from None
 
     with Client(words.scheduler) as client:
         window = 8 * max(1, sum(client.nthreads().values()))
         names = {}
         waiting = as_completed()
+
+        def answered(future):
+            name = names.pop(future.key)
+            try:
+                return name, future.result()
+            except Exception as fault:
+                # As where each worker that had it is gone, or has no program at that path. What other variants gave is
+                # kept.
+                raise Fault(f"variant {name}: {type(fault).__name__}: {fault}") from None
+
         for name, text in tasks:
             future = client.submit(answer_of, words.program, text, words.seconds, pure=False)
             names[future.key] = name
             waiting.add(future)
             if len(names) >= window:
-                future = next(waiting)
-                yield names.pop(future.key), future.result()
+                yield answered(next(waiting))
         for future in waiting:
-            yield names.pop(future.key), future.result()
+            yield answered(future)
 
 
 def study(words):
     """Runs what is missing, and gives the variants and all answers."""
     variants, text_of = variants_of(words.source, words.parameters)
-    journal = pathlib.Path(words.table + ".journal")
-    marks = {name: asked(text_of(name), words.program) for name, _ in variants}
-    kept = journal_of(journal).items()
-    answers = {name: entry for name, entry in kept if name in marks and still_holds(entry, marks[name], words.seconds)}
-    tasks = ((name, text_of(name)) for name, _ in variants if name not in answers)
-    progress = Progress(len(variants), sum(name in answers for name, _ in variants))
-    with journal.open("a") as file:
-        if journal.stat().st_size and not journal.read_text().endswith("\n"):
+    program = mark_of(words.program)
+    marks = {name: hashlib.sha256((program + text_of(name)).encode()).hexdigest() for name in variants}
+    with open(words.table + ".journal", "a+", encoding="utf-8") as file:
+        try:
+            fcntl.flock(file, fcntl.LOCK_EX | fcntl.LOCK_NB)
+        except BlockingIOError:
+            raise Fault(f"{file.name}: another study writes it") from None
+        file.seek(0)
+        text = file.read()
+        kept = journal_of(text).items()
+        answers = {
+            name: entry for name, entry in kept if name in marks and still_holds(entry, marks[name], words.seconds)
+        }
+        if text and not text.endswith("\n"):
             file.write("\n")
+        tasks = [(name, text_of(name)) for name in variants if name not in answers]
+        progress = Progress(len(variants), len(answers))
         for name, answer in (distributed if words.scheduler else local)(tasks, words):
-            if name in answers:
-                continue
             answers[name] = answer | {"variant": name, "asked": marks[name], "limit": words.seconds}
             file.write(json.dumps(answers[name]) + "\n")
             file.flush()
@@ -179,9 +244,7 @@ def study(words):
 
 
 def value_of(text):
-    """A bound as a number that can be compared; `unbounded` is above all."""
-    from fractions import Fraction
-
+    """A bound or a parameter as a number that can be compared; `unbounded` is above all."""
     return float("inf") if text == "unbounded" else Fraction(text)
 
 
@@ -192,17 +255,24 @@ def largest(bounds):
 
 def write_table(path, variants, answers):
     """The table of all variants."""
-    parameters = list(dict.fromkeys(column for _, row in variants for column in row))
-    flows = list(dict.fromkeys(flow for name, _ in variants for flow in answers[name]["bounds"]))
+    parameters = list(dict.fromkeys(column for row in variants.values() for column in row))
+    flows = list(dict.fromkeys(flow for name in variants for flow in answers[name]["bounds"]))
     head = ["variant", *parameters, "status", "refusal", "seconds", "largest", *(f"bound {flow}" for flow in flows)]
     with open(path, "w", newline="", encoding="utf-8") as file:
         table = csv.writer(file)
         table.writerow(head)
-        for name, row in variants:
+        for name, row in variants.items():
             answer = answers[name]
             bounds = answer["bounds"]
             known = [answer["status"], answer["refusal"], answer["seconds"], largest(bounds)]
-            table.writerow([name, *(row.get(column, "") for column in parameters), *known, *(bounds.get(flow, "") for flow in flows)])
+            table.writerow(
+                [
+                    name,
+                    *(row.get(column, "") for column in parameters),
+                    *known,
+                    *(bounds.get(flow, "") for flow in flows),
+                ]
+            )
 
 
 def front_of(points):
@@ -214,6 +284,22 @@ def front_of(points):
     return front
 
 
+def points_of(column, variants, answers):
+    """The parameter and the largest bound of each variant that has a bound."""
+    points = []
+    for name, row in variants.items():
+        most = value_of(largest(answers[name]["bounds"]) or "unbounded")
+        if most == float("inf"):
+            continue
+        try:
+            points.append((float(value_of(row[column])), float(most)))
+        except (ValueError, ArithmeticError):
+            raise Fault(f"variant {name}: {column} is {row[column]!r}, and no number to draw") from None
+    if not points:
+        raise Fault("no variant has a bound: nothing to draw")
+    return points
+
+
 def draw(column, path, variants, answers):
     """The largest bound of each variant over a parameter, and their front."""
     import matplotlib
@@ -221,11 +307,7 @@ def draw(column, path, variants, answers):
     matplotlib.use("Agg")
     import matplotlib.pyplot as plot
 
-    points = []
-    for name, row in variants:
-        most = value_of(largest(answers[name]["bounds"]) or "unbounded")
-        if most != float("inf"):
-            points.append((float(value_of(row[column])), float(most)))
+    points = points_of(column, variants, answers)
     figure, axes = plot.subplots(figsize=(7, 4.5), layout="constrained")
     axes.scatter(*zip(*points), s=14, color="#4477aa", alpha=0.6, label="variants")
     front = front_of(points)
@@ -234,7 +316,22 @@ def draw(column, path, variants, answers):
     axes.set_ylabel("largest delay bound")
     axes.grid(alpha=0.3)
     axes.legend()
-    figure.savefig(path)
+    try:
+        figure.savefig(path)
+    except ValueError as fault:
+        raise Fault(f"{path}: {fault}") from None
+
+
+def hold_plot(words):
+    """Refuses a plot that could not be drawn, before anything runs."""
+    try:
+        import matplotlib  # noqa: F401
+    except ImportError:
+        raise Fault("--plot needs matplotlib (Debian: python3-matplotlib)") from None
+    if pathlib.Path(words.source).is_dir():
+        raise Fault("--plot wants parameters, and a folder of files has none")
+    if words.plot[0] not in next(iter(rows_of(words.parameters).values()), {}):
+        raise Fault(f"--plot: {words.parameters} has no column {words.plot[0]}")
 
 
 def main():
@@ -244,18 +341,20 @@ def main():
     parser.add_argument("--table", required=True, metavar="OUT.csv")
     parser.add_argument("--program", default=str(PROGRAM), help="the program to run")
     parser.add_argument("--seconds", type=float, default=60, help="the time limit of a variant (60)")
-    parser.add_argument("--workers", type=int, default=os.cpu_count(), help="programs at a time on this machine (its processors)")
+    parser.add_argument(
+        "--workers", type=int, default=os.cpu_count(), help="programs at a time on this machine (its processors)"
+    )
     parser.add_argument("--scheduler", metavar="ADDRESS", help="a Dask scheduler, as tcp://host:8786")
     parser.add_argument("--plot", nargs=2, metavar=("COLUMN", "OUT.svg"))
     words = parser.parse_args()
     words.program = str(pathlib.Path(words.program).resolve())
     if not pathlib.Path(words.source).is_dir() and words.parameters is None:
         parser.error("a template needs a file of parameters")
-    try:
-        variants, answers = study(words)
-    except (OSError, KeyError, ValueError) as fault:
-        print(f"sweep: {type(fault).__name__}: {fault}", file=sys.stderr)
-        return 1
+    if not words.seconds > 0 or words.workers < 1:
+        parser.error("the seconds are above 0, and there is at least one worker")
+    if words.plot:
+        hold_plot(words)
+    variants, answers = study(words)
     write_table(words.table, variants, answers)
     if words.plot:
         draw(*words.plot, variants, answers)
@@ -263,4 +362,4 @@ def main():
 
 
 if __name__ == "__main__":
-    sys.exit(main())
+    ended("sweep", main)

@@ -8,3 +8,4 @@ pub mod PartSums
 pub mod Counting
 pub mod PathSteps
 pub mod SharedCounts
+pub mod LinkRates

@@ -3,6 +3,8 @@
 
 ghost use Rattle.std.specs.Prelude.{◌≡◌, ◌+◌, ◌-◌, ◌<◌, ◌≤◌, ◌++◌, ℕ, suc, [], All, Ok, IfOk, IfErr, length, map, Some, None};
 ghost use Rattle.arrayvec.specs.ArrayVec.{array_vec_len};
+ghost use Rattle.rational.specs.Rational.{◌≤ℚ◌};
+ghost use Rattle.min_plus.specs.Functions.{zero_q};
 ghost use Rattle.upp_curve.specs.Kinds.{bucket};
 ghost use Rattle.run_laws.specs.Cards.{whole};
 ghost use Rattle.upp_limits.specs.declared.op_kind.OpKind.TheVariants.{Sum};
@@ -34,7 +36,7 @@ use arrayvec::ArrayVec;
 use cell_table::{Table, Value};
 use curve_call::seen;
 use curve_envelope::{min, sum};
-use curve_library::bucket;
+use curve_library::{CurveFault, bucket};
 use fraction128::Frac;
 use net_model::Network;
 use queue_hops::{Pick, longest_at, rate};
@@ -61,13 +63,25 @@ fn curve_of<'a, T: Table<Value>>(table: &'a T, part: &'a Partial) -> &'a Curve
 }
 
 // ---- one part
-// What may come over a link: of a server's rate no bucket is refused, so that only memory can be wanting.
+// The fault of a bucket that is wanting memory.
+fn wanting(fault: CurveFault) -> OpFault
+    requires { fault ≡ CurveFault.NoMemory }
+    ensures { result ≡ OpFault.NoMemory }
+{
+    match fault {
+        CurveFault::NoMemory => OpFault::NoMemory,
+        _ => unreachable!(),
+    }
+}
+
+// What may come over a link: of a rate from 0 on no bucket is refused, so that only memory can be wanting.
 fn link_bucket(alloc: Global, bits: u32, rate: Frac) -> Result<Curve, OpFault>
+    requires { zero_q ≤ℚ rate }
     ensures { IsAgain (bucket (whole bits) rate) result }
 {
     match bucket(alloc, whole(bits), rate) {
         Ok(made) => Ok(made),
-        Err(_) => Err(OpFault::NoMemory),
+        Err(fault) => Err(wanting(fault)),
     }
 }
 
@@ -79,6 +93,7 @@ fn cut<L: Ledger>(
     rate: Frac,
     steps: &mut Steps<L>,
 ) -> Result<Curve, OpFault>
+    requires { zero_q ≤ℚ rate }
     ensures answer { (at : CellTable) (F : Formula) (server : ℕ) → Answers at F (Ok (curve flows.now)) →
         Answers at (cut F server bits rate) (answer_of curve result) }
     ensures counts { Counts 1 steps.old steps.new (answer_of curve result) }
@@ -105,6 +120,7 @@ fn cut_sum<L: Ledger>(
         MakesPart at net.now place.0 place.1 part result }
     ensures counts { (at : CellTable) → Counts 1 steps.old steps.new (part_answer at result) }
 {
+    net.keeps();
     let bits = longest_at(net, place.0, Pick::InPart(place.1, part));
     let rate = rate(net, (part - 1) as u32);
     match cut(alloc, flows, bits, rate, steps) {

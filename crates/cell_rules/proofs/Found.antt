@@ -1,9 +1,9 @@
 -- Touched cells, found in their order.
-use Rattle.std.proofs.Common.{◌≡◌, ◌≢◌, ◌⊎◌, ℕ, ◌+◌, ◌<◌, ◌≤◌, ◌==◌, List, [], ◌∷◌, ◌++◌, length, map, get_or, eqb, replicate, take, drop, Bool, true, false, sym, ap, ◌∙◌, subst, refl, inl, inr, arith, ⊎_elim}
-use Rattle.std.specs.Prelude.{IsTrue, Contains, ◌||◌, slice_set}
+use Rattle.std.proofs.Common.{◌≡◌, ◌≢◌, ◌⊎◌, ℕ, ◌+◌, ◌≤◌, ◌==◌, List, [], ◌∷◌, ◌++◌, length, map, get_or, eqb, length-append, replicate, Bool, true, false, sym, ap, ◌∙◌, subst, refl, inl, inr, arith, ⊎_elim}
+use Rattle.std.specs.Prelude.{Contains, slice_set}
 use Rattle.std.specs.List.{list_any, IsDistinct}
-use Rattle.std.proofs.lemmas.List.{get_or-set_same, get_or-set_other, length-set, length-replicate, get_or-replicate, get_or_past, take-append-drop, length-map, drop_more}
-use Rattle.std.proofs.lemmas.Bool.{cases_lt, eqb-true, ne_eqb, or_cases, or_parts}
+use Rattle.std.proofs.lemmas.List.{get_or-set_same, get_or-set_other, length-set, length-replicate, get_or-replicate, get_or_past, length-map}
+use Rattle.std.proofs.lemmas.Bool.{cases_lt, eqb-true, ne_eqb, or_cases, or_parts, or_from}
 use Rattle.std.proofs.lemmas.Map.Keys.{IsDistinct-from_apart}
 use Rattle.std.proofs.lemmas.Map.Steps.{length-le_from_distinct_below}
 use Rattle.std.proofs.lemmas.Bool.Decides.{eqb_tells}
@@ -20,8 +20,8 @@ use Rattle.net_cells.proofs.Members.{order_has, apart_cells}
 use Rattle.net_cells.proofs.Precedes.{in_front, leaf_in_front, operands_are_cells}
 use Rattle.cell_changes.specs.Slots.{slot, HasSlot}
 use Rattle.cell_changes.specs.Changes.{HasSameRule, IsChanged, Touched, changed, made_of, Untouched, untouched, TouchedOf, no_more, passed, taken}
-use Rattle.cell_rules.specs.Finding.{flag_of, is_flagged, AreFlags, IsTold, IsNoted}
-use Rattle.cell_changes.proofs.OwnSlots.{own, is_below}
+use Rattle.cell_rules.specs.Finding.{flag_of, AreFlags, IsBareAtFirst, IsTold, IsNoted}
+use Rattle.cell_changes.proofs.OwnSlots.{own}
 use Rattle.cell_changes.proofs.HasSlots.{slots_are_own}
 
 -- ---- tests of lists
@@ -33,10 +33,14 @@ any_has p (x ∷ xs) e =
       | inr h ↦ let found = any_has p xs h in (found.0, inr found.1, found.2)
     ]
 
-any_none : {X : Type 0} (p : X → Bool) (xs : List X) → list_any p xs ≡ false → (x : X) → Has xs x → p x ≡ false
+pub any_none : {X : Type 0} (p : X → Bool) (xs : List X) → list_any p xs ≡ false → (x : X) → Has xs x → p x ≡ false
 any_none p [] e y h = absurd h
 any_none p (x ∷ xs) e y (inl is) = subst (λ z. p z ≡ false) is (or_parts (p x) (list_any p xs) e).0
 any_none p (x ∷ xs) e y (inr h) = any_none p xs (or_parts (p x) (list_any p xs) e).1 y h
+
+pub none_any : {X : Type 0} (p : X → Bool) (xs : List X) → ((x : X) → p x ≡ false) → list_any p xs ≡ false
+none_any p [] e = refl
+none_any p (x ∷ xs) e = or_from (p x) (list_any p xs) (e x) (none_any p xs e)
 
 -- ---- lists of touched cells
 module _ (old net : Net) where
@@ -159,6 +163,16 @@ not_set n i = elim (cases_lt i n) [
   | inl l ↦ get_or-replicate n i false false l
   | inr l ↦ get_or_past (replicate n false) i false (omega (arith, l, length-replicate {A = Bool} n false))
 ]
+
+-- where none was touched so far, none is flagged
+pub bare_noted : (c : Cell) (t : Bool) (flags more : List Bool) (touched longer : List Cell)
+    → IsNoted c t flags more touched longer → IsBareAtFirst flags touched → IsBareAtFirst more longer
+bare_noted c true flags more touched longer n bare e =
+    let many : length (touched ++ c ∷ []) ≡ 0 = ap length (sym n.1 ∙ e) in
+    let some = length-append touched (c ∷ []) in
+    absurd (omega (arith, many, some))
+bare_noted c false flags more touched longer n bare e = λ i.
+    ap (λ (fs : List Bool). get_or fs i false) n.0 ∙ bare (sym n.1 ∙ e) i
 
 -- ---- how many
 touched_in : (old net : Net) (cells touched : List Cell) → TouchedOf old net cells touched → (c : Cell) → Has touched c

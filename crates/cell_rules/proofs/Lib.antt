@@ -3,3 +3,5 @@ pub mod SameMade
 pub mod SameHops
 pub mod SameParts
 pub mod Found
+pub mod SameFlows
+pub mod Unchanged

@@ -111,7 +111,7 @@ packets_out old new i (suc k) e =
     first : (F G H K : Formula) → made Convolve F H ≡ made Convolve G K → F ≡ G
     first F G H K d = cc
 
-served_same : (old new : Net) (i k : ℕ) → packet old i ≡ packet new i → served_to old i k ≡ served_to new i k
+pub served_same : (old new : Net) (i k : ℕ) → packet old i ≡ packet new i → served_to old i k ≡ served_to new i k
 served_same old new i zero e = refl
 served_same old new i (suc k) e = ap (λ F. made Convolve F (value Residual i (suc k))) (packets_same old new i k e)
 

@@ -163,7 +163,7 @@ module _ (net : Net) (s q : ℕ) where
 
 -- ---- two networks
 module _ (old new : Net) (s q : ℕ) where
-  same_row : (m n : ℕ) → ((k : ℕ) → m ≤ k → k < m + n → one_part old s q k ≡ one_part new s q k)
+  pub same_row : (m n : ℕ) → ((k : ℕ) → m ≤ k → k < m + n → one_part old s q k ≡ one_part new s q k)
       → parts_sum old s q (range_with_len m n) ≡ parts_sum new s q (range_with_len m n)
   same_row m zero same = refl
   same_row m (suc n) same =

@@ -36,6 +36,15 @@ pub record AreFlags (old net : Net) (front : List Cell) (flags : List Bool) : Ty
   pub touched : (c : Cell) → HasSlot c → flag_of flags c ≡ true → Touched old net c
   pub untouched : (c : Cell) → Contains front c → flag_of flags c ≡ false → Untouched old net c
 
+-- where no cell was touched so far, none is flagged
+abbrev pub IsBareAtFirst : List Bool → List Cell → Type 0
+IsBareAtFirst flags touched = touched ≡ [] → (i : ℕ) → slice_index_or flags i false ≡ false
+
+-- a cell of the new network is told to be changed or not
+abbrev pub TellsChanged : Net → Net → Cell → Bool → Type 0
+TellsChanged old net c true = ¬ (HasSameRule old net c)
+TellsChanged old net c false = HasSameRule old net c
+
 -- a cell is told to be touched: it is made of other things than before, or of a flagged one
 abbrev pub IsTold : Net → Net → List Bool → Cell → Bool → Type 0
 IsTold old net flags c true = ¬ (HasSameRule old net c) ⊎ (is_flagged flags (leaves (formula net c)) ≡ true)

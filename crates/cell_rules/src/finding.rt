@@ -7,9 +7,11 @@ ghost use Rattle.net_cells.specs.CellFormulas.{formula};
 ghost use Rattle.net_cells.specs.declared.cell.Cell.{Cell};
 ghost use Rattle.cell_changes.specs.Changes.{TouchedOf};
 ghost use Rattle.cell_changes.specs.Slots.{HasSlot};
-ghost use Rattle.cell_rules.specs.Finding.{AreInOrder, IsNoted, IsTold, gone_of, is_flagged};
+ghost use Rattle.cell_rules.specs.Sites.{IsSameBut};
+ghost use Rattle.cell_rules.specs.Finding.{AreInOrder, IsBareAtFirst, IsNoted, IsTold, TellsChanged, gone_of, is_flagged};
 
 use crate::rule::{has_cell, same_rule};
+use crate::site::{Site, is_candidate, others_keep_their_rule};
 use cell_changes::{SLOTS, slot};
 use net_cells::{Cell, operands};
 use net_model::Network;
@@ -38,24 +40,61 @@ fn one_flagged(flags: &[bool], cells: &[Cell]) -> bool
     false
 }
 
+// Whether a cell is made of a flagged one. Where none was touched so far there is none.
+fn reads_flagged(
+    alloc: Global,
+    net: &Network,
+    cell: Cell,
+    flags: &[bool],
+    touched: &[Cell],
+) -> Result<bool, AllocError>
+    requires room { length flags.now ≡ 36352 }
+    requires places { (c : Cell) → Contains (leaves (formula net.now cell)) c → HasSlot c }
+    requires none { IsBareAtFirst flags.now touched.now }
+    ensures { IfOk result (λ reads. reads ≡ is_flagged flags.now (leaves (formula net.now cell))) }
+{
+    if touched.is_empty() {
+        return Ok(false);
+    }
+    let parts = operands(alloc, cell, net)?;
+    Ok(one_flagged(flags, &parts))
+}
+
+// Whether a cell is changed: one of the candidates, and it is made of other things.
+fn is_changed(site: Site, old: &Network, net: &Network, cell: Cell) -> bool
+    requires cell { IsTrue (has_cell net.now cell) }
+    requires same { IsSameBut site old.now net.now }
+    ensures { TellsChanged old.now net.now cell result }
+{
+    others_keep_their_rule();
+    if is_candidate(site, old, net, cell) {
+        !same_rule(cell, old, net)
+    } else {
+        false
+    }
+}
+
 // Whether a cell is touched: it is changed, or made of a flagged one.
 fn is_touched(
     alloc: Global,
     old: &Network,
     net: &Network,
+    site: Site,
     cell: Cell,
     flags: &[bool],
+    touched: &[Cell],
 ) -> Result<bool, AllocError>
     requires room { length flags.now ≡ 36352 }
     requires cell { IsTrue (has_cell net.now cell) }
+    requires same { IsSameBut site old.now net.now }
     requires places { (c : Cell) → Contains (leaves (formula net.now cell)) c → HasSlot c }
+    requires none { IsBareAtFirst flags.now touched.now }
     ensures { IfOk result (IsTold old.now net.now flags.now cell) }
 {
-    if !same_rule(cell, old, net) {
+    if is_changed(site, old, net, cell) {
         return Ok(true);
     }
-    let parts = operands(alloc, cell, net)?;
-    Ok(one_flagged(flags, &parts))
+    reads_flagged(alloc, net, cell, flags, touched)
 }
 
 // Flags a touched cell, and puts it after the others.
@@ -78,14 +117,17 @@ fn note(
 }
 
 /// The touched cells of a network that another one came before, in the order in which they are taken: those that the
-/// other one has not or makes of other things, and those that are made of touched ones. Looks at each cell once.
+/// other one has not or makes of other things, and those that are made of touched ones. Looks at each cell once, and
+/// compares what it is made of only where it may differ, by where the two networks do.
 pub fn touched_cells(
     alloc: Global,
     old: &Network,
     net: &Network,
+    site: Site,
     cells: &[Cell],
 ) -> Result<Vec<Cell>, AllocError>
-    requires { AreInOrder net.now cells.now }
+    requires order { AreInOrder net.now cells.now }
+    requires same { IsSameBut site old.now net.now }
     ensures touched { IfOk result (λ touched. TouchedOf old.now net.now cells.now touched.items) }
     ensures few { IfOk result (λ touched. length touched.items ≤ 36352) }
 {
@@ -94,7 +136,7 @@ pub fn touched_cells(
     let mut touched = Vec::new(alloc);
     for place in 0..cells.len() {
         let cell = cells[place];
-        let here = is_touched(alloc, old, net, cell, &flags)?;
+        let here = is_touched(alloc, old, net, site, cell, &flags, &touched)?;
         note(&mut flags, &mut touched, cell, here)?;
     }
     Ok(touched)

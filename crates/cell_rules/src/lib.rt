@@ -7,6 +7,8 @@ mod lists;
 mod reads;
 mod rule;
 mod services;
+mod site;
 
 pub use finding::{gone_cells, touched_cells};
 pub use rule::{has_cell, same_rule};
+pub use site::{Site, is_candidate, others_keep_their_rule};

@@ -68,8 +68,8 @@ pub(crate) fn same_cross(old: &Network, new: &Network, flow: u32, hop: u32) -> b
 }
 
 // ---- the sum of a queue
-// Whether no hop is meant.
-fn is_unused(net: &Network, server: u32, pick: Pick) -> bool
+/// Whether no hop is meant.
+pub(crate) fn is_unused(net: &Network, server: u32, pick: Pick) -> bool
     ensures { TellsSame (all_chosen net.now server pick None (length net.now.flows)) [] result }
 {
     let count = net.flows().len() as u32;
@@ -124,8 +124,8 @@ fn same_parts(old: &Network, new: &Network, place: (u32, u32)) -> bool
     true
 }
 
-// Whether flows that come over one link are cut together.
-fn is_by_links(net: &Network) -> bool
+/// Whether flows that come over one link are cut together.
+pub(crate) fn is_by_links(net: &Network) -> bool
     ensures { result ≡ (net.now.version == 2) }
 {
     net.version() == 2

@@ -1,3 +1,5 @@
 pub mod Stored
 pub mod Faults
 pub mod Applied
+pub mod Replaced
+pub mod Sites

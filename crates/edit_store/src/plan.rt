@@ -7,6 +7,7 @@ ghost use Rattle.edit_store.specs.Stored.{AreTouched, AreLost};
 ghost use Rattle.edit_store.specs.Applied.{Gives, IsPlanned, IsUnplanned};
 
 use crate::faults::graph_fault;
+use crate::site::{edits_have_one_site, site_of};
 use cell_rules::{gone_cells, touched_cells};
 use net_cells::{Cell, cells};
 use net_edits::{EditFault, edited_network};
@@ -37,19 +38,23 @@ pub(crate) fn lost_cells(
     Ok(gone)
 }
 
-// The touched cells of a network by the order of its servers.
+// The touched cells of an edited network by the order of its servers.
 fn touched_by(
     alloc: Global,
     old: &Network,
+    edit: &Edit,
     net: &Network,
     order: &[u32],
 ) -> Result<Vec<Cell>, AllocError>
-    requires { IsOrder net.now order.now }
+    requires order { IsOrder net.now order.now }
+    requires gives { Gives old.now edit.now net.now }
     ensures touched { IfOk result (λ touched. AreTouched old.now net.now touched.items) }
     ensures few { IfOk result (λ touched. length touched.items ≤ 36352) }
 {
+    edits_have_one_site();
     let all = cells(alloc, net, order)?;
-    let touched = touched_cells(alloc, old, net, &all)?;
+    let site = site_of(old, edit);
+    let touched = touched_cells(alloc, old, net, site, &all)?;
     Ok(touched)
 }
 
@@ -66,7 +71,7 @@ fn ordered_plan(
 {
     match order(alloc, &net) {
         Ok(servers) => {
-            let touched = touched_by(alloc, present, &net, &servers)?;
+            let touched = touched_by(alloc, present, edit, &net, &servers)?;
             Ok(Planned { net, touched })
         }
         Err(fault) => Err(graph_fault(fault)),

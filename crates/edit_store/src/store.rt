@@ -2,6 +2,7 @@
 
 use crate::faults::analysis_fault;
 use crate::plan::{Planned, lost_cells, plan};
+use crate::replaced::{Replaced, no_network, put_back, replaced_by};
 use cell_store::{Values, edited_values, made_anew};
 use cell_table::{AnalysisFault, CellValue, Evaluator, Table};
 use net_cells::{Cell, cells};
@@ -14,23 +15,28 @@ use std::mem::replace;
 use version_table::Versions;
 
 /// Networks, each edited from the one before, and the values of their cells: the present one can be edited, and given
-/// up for the one before.
+/// up for the one before. Of those before the present one it keeps what each edit replaced.
 #[derive(Drop)]
 pub struct Store<V: CellValue + Drop> {
     alloc: Global,
-    before: Vec<Network>,
+    replaced: Vec<Replaced>,
     present: Network,
     values: Values<V>,
 }
 
 impl<V: CellValue + Drop> Model for Store<V> {
-    ghost use Rattle.edit_store.specs.Stored.{Stored, IsStored};
+    ghost use Rattle.edit_store.specs.Stored.{Stored};
+    ghost use Rattle.edit_store.specs.Replaced.{networks_before, IsKept};
 
     ghost Value = { Stored V };
 
-    ghost view = { λ s. record { before = s.before.items; present = s.present; values = s.values.versions } };
+    ghost view = { λ s. record {
+      before = networks_before s.replaced.items s.present;
+      present = s.present;
+      values = s.values.versions;
+    } };
 
-    ghost invariant = { λ s. IsStored V.meaning s.before.items s.present s.values.versions };
+    ghost invariant = { λ s. IsKept V.meaning s.replaced.items s.present s.values.versions };
 }
 
 impl<V: CellValue + Drop> Table<V> for Store<V> {
@@ -56,6 +62,7 @@ impl<V: CellValue + Drop> Store<V> {
     ghost use Rattle.cell_changes.specs.Slots.{slots};
     ghost use Rattle.cell_store.specs.Edits.{IsFirst, IsFirstTouched, RefusesFor};
     ghost use Rattle.edit_store.specs.Stored.{AreTouched, AreLost, IsStored, IsAdvanced, IsBack};
+    ghost use Rattle.edit_store.specs.Replaced.{put_back};
     ghost use Rattle.edit_store.specs.Applied.{Gives, IsApplied, IsTaken, IsRefused, IsEvaluated, IsShown, IsHidden};
 
     /// A store of one network, by the order of its servers: each cell's value is made once. Refused for the first cell
@@ -87,7 +94,7 @@ impl<V: CellValue + Drop> Store<V> {
         made_anew(alloc, &mut values, &net, &all, eval)?;
         Ok(Store {
             alloc,
-            before: Vec::new(alloc),
+            replaced: Vec::new(alloc),
             present: net,
             values,
         })
@@ -119,17 +126,19 @@ impl<V: CellValue + Drop> Store<V> {
         self.values.versions()
     }
 
-    // Goes on to a network, by the cells that it touches and those that are gone; refused for the first cell with an
-    // operator over a limit, or where there is no memory, and then all is as it was. It counts the work of the touched
-    // cells, and no more than that where it is refused.
+    // Goes on to a network, by what was replaced, by the cells that it touches and those that are gone; refused for the
+    // first cell with an operator over a limit, or where there is no memory, and then all is as it was. It counts the
+    // work of the touched cells, and no more than that where it is refused.
     fn advance<E: Evaluator<V>>(
         &mut self,
         net: Network,
+        replaced: Replaced,
         gone: &[Cell],
         touched: &[Cell],
         eval: &mut E,
     ) -> Result<(), AnalysisFault>
         requires room { length self.old.before < 2 ^ 32 - 1 }
+        requires back { put_back replaced net ≡ self.old.present }
         requires touched { AreTouched self.old.present net touched.now }
         requires gone { AreLost self.old.present net gone.now }
         ensures advanced { OnOk result (IsAdvanced self.old net self.new) }
@@ -140,12 +149,13 @@ impl<V: CellValue + Drop> Store<V> {
         ensures within { E.count eval.new ≤ E.count eval.old + sum_by (work net) touched.now }
         ensures same { E.counter eval.new ≡ E.counter eval.old }
     {
-        if let Err(_) = self.before.reserve(1) {
+        self.present.keeps();
+        if let Err(_) = self.replaced.reserve(1) {
             return Err(AnalysisFault::NoMemory);
         }
         edited_values(self.alloc, &mut self.values, &net, gone, touched, eval)?;
-        let old = replace(&mut self.present, net);
-        match self.before.push(old) {
+        self.present = net;
+        match self.replaced.push(replaced) {
             Ok(()) => Ok(()),
             Err(_) => unreachable!(),
         }
@@ -155,7 +165,9 @@ impl<V: CellValue + Drop> Store<V> {
     fn undo(&mut self) -> Option<()>
         ensures { MatchOption result ((self.old.before ≡ []) × (self.new ≡ self.old)) (λ _. IsBack self.old self.new) }
     {
-        self.present = self.before.pop()?;
+        let replaced = self.replaced.pop()?;
+        let present = replace(&mut self.present, no_network(self.alloc));
+        self.present = put_back(present, replaced);
         self.values.undo()
     }
 
@@ -190,7 +202,8 @@ impl<V: CellValue + Drop> Store<V> {
     {
         let Planned { net, touched } = plan(self.alloc, &self.present, edit)?;
         let gone = self.gone(&net)?;
-        match self.advance(net, &gone, &touched, eval) {
+        let replaced = replaced_by(&self.present, edit)?;
+        match self.advance(net, replaced, &gone, &touched, eval) {
             Ok(()) => Ok(touched.len() as u32),
             Err(fault) => Err(analysis_fault(fault)),
         }
@@ -239,8 +252,12 @@ impl<V: CellValue + Drop> Store<V> {
         ensures shown { IfOk result (λ net. IsShown self.now Undo net) }
         ensures hidden { IfErr result (IsHidden self.now Undo) }
     {
-        match self.before.last() {
-            Some(net) => Ok(net.copy()?),
+        match self.replaced.last() {
+            Some(replaced) => {
+                let present = self.present.copy()?;
+                let replaced = replaced.copy()?;
+                Ok(put_back(present, replaced))
+            }
             None => Err(EditFault::NothingToUndo),
         }
     }

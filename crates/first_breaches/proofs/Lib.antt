@@ -1,6 +1,5 @@
 pub mod Joined
 pub mod Routed
 pub mod Views
-pub mod CurvesThrough
 pub mod CurvesRead
 pub mod Parts

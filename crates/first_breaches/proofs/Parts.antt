@@ -6,8 +6,6 @@ use Rattle.std.proofs.lemmas.List.{length-map}
 use Rattle.std.proofs.lemmas.Option.{slice_get_cases}
 use Rattle.rational.specs.Rational.{ℚ}
 use Rattle.rational.proofs.ExtendedOrder.{same_le_ext}
-use Rattle.affine_segment.specs.declared.line.Piece.{Piece}
-use Rattle.affine_segment.specs.Reading.{read}
 use Rattle.upp_curve.specs.Curve.{SpecCurve, value_at}
 use Rattle.min_plus.specs.Functions.{IsRising, IsNonnegative}
 use Rattle.upp_curve.specs.Curves.{IsCurve}
@@ -32,13 +30,11 @@ use Rattle.watch_laws.proofs.Entered.{in_order}
 use Rattle.watch_laws.proofs.Premises.{breaches_tell, watch_points_suffice}
 use Rattle.run_watch.specs.declared.found.Found.{Found}
 use Rattle.run_watch.specs.FirstOf.{IsBest, IsLongOn, IsCrowdOn, IsIdleOn}
-use Rattle.first_breaches.specs.Reaches.{apart, pieces_through}
 use Rattle.first_breaches.specs.Sizes.{RunStands}
 use Rattle.first_breaches.specs.Firsts.{TellsFirst, kind_of, IsOne, IsOfKinds, HaveServices}
 use Rattle.first_breaches.specs.Kept.{KeepsCurve}
 use Rattle.first_breaches.proofs.Joined.{best_same}
 use Rattle.first_breaches.proofs.Routed.{live_is}
-use Rattle.first_breaches.proofs.CurvesRead.{crowded_read}
 
 -- ---- no flow
 not_live : (net : Net) (flow g : ℕ) → None ≡ flow_at net flow → g ≡ flow → (route_of (routes_of net) g).live ≡ true → ⊥
@@ -88,21 +84,13 @@ size_one net run flow f o e h = best_same (IsLongOn run flow f.packet) (IsOne ne
     back (Service s a b) k = let a = k.kind_is in absurd (omega arith)
 
 -- ---- arrivals
-pub arrival_one : (net : Net) (run : SpecRun) (flow : ℕ) (f : NetFlow) (ps : List Piece) (o : Option Found) → (IsLawful (routes_of net) run) → (z : Sizes) × RunStands z net run → IsCurve f.arrival
-    → Some f ≡ flow_at net flow → ps ≡ pieces_through f.arrival (apart (entries flow run.steps)) → IsBest (IsCrowdOn run flow (read ps)) run o → IsBest (IsOne net run 1 flow) run o
-arrival_one net run flow f ps o L R C e through h = best_same (IsCrowdOn run flow (read ps)) (IsOne net run 1 flow) run o into back h
+pub arrival_one : (net : Net) (run : SpecRun) (flow : ℕ) (f : NetFlow) (o : Option Found) → Some f ≡ flow_at net flow → IsBest (IsCrowdOn run flow (value_at f.arrival)) run o → IsBest (IsOne net run 1 flow) run o
+arrival_one net run flow f o e h = best_same (IsCrowdOn run flow (value_at f.arrival)) (IsOne net run 1 flow) run o into back h
   where
     curve : f.arrival ≡ arrival net flow
     curve = ap arrival_of e
 
-    stands : Stands R.0 (curve_numbers run.end f.arrival)
-    stands = subst (λ (k : SpecCurve). Stands R.0 (curve_numbers run.end k)) (sym curve) (R.1.arrivals flow (live_flow_is net flow f e))
-
-    both : (i j : ℕ) → (IsCrowded (read ps) (entries flow run.steps) i j → IsCrowded (value_at f.arrival) (entries flow run.steps) i j)
-        × (IsCrowded (value_at f.arrival) (entries flow run.steps) i j → IsCrowded (read ps) (entries flow run.steps) i j)
-    both i j = crowded_read R.0 run.end flow f.arrival run.steps ps i j R.1.limited C stands R.1.steps (in_order (routes_of net) run flow L) through
-
-    into : (y : Breach) → IsCrowdOn run flow (read ps) y → IsOne net run 1 flow y
+    into : (y : Breach) → IsCrowdOn run flow (value_at f.arrival) y → IsOne net run 1 flow y
     into (Size g p) k = absurd k
     into (Arrival g i j) k = record {
       kind_is = refl;
@@ -110,17 +98,17 @@ arrival_one net run flow f ps o L R C e through h = best_same (IsCrowdOn run flo
       breaks = record {
         live = live_at net flow g f e k.0;
         crowded = subst (λ (n : ℕ). IsCrowded (value_at (arrival net n)) (entries n run.steps) i j) (sym k.0)
-            (subst (λ (c : SpecCurve). IsCrowded (value_at c) (entries flow run.steps) i j) curve ((both i j).0 k.1));
+            (subst (λ (c : SpecCurve). IsCrowded (value_at c) (entries flow run.steps) i j) curve k.1);
       };
     }
     into (Service s a b) k = absurd k
 
-    back : (y : Breach) → IsOne net run 1 flow y → IsCrowdOn run flow (read ps) y
+    back : (y : Breach) → IsOne net run 1 flow y → IsCrowdOn run flow (value_at f.arrival) y
     back (Size g p) k = let a = k.kind_is in absurd (omega arith)
     back (Arrival g i j) k = (
       k.at,
-      (both i j).1 (subst (λ (c : SpecCurve). IsCrowded (value_at c) (entries flow run.steps) i j) (sym curve)
-          (subst (λ (n : ℕ). IsCrowded (value_at (arrival net n)) (entries n run.steps) i j) k.at k.breaks.crowded)),
+      subst (λ (c : SpecCurve). IsCrowded (value_at c) (entries flow run.steps) i j) (sym curve)
+          (subst (λ (n : ℕ). IsCrowded (value_at (arrival net n)) (entries n run.steps) i j) k.at k.breaks.crowded),
     )
     back (Service s a b) k = let a = k.kind_is in absurd (omega arith)
 

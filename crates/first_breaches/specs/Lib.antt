@@ -1,4 +1,3 @@
 pub mod Sizes
-pub mod Reaches
 pub mod Firsts
 pub mod Kept

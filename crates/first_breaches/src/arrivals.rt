@@ -1,43 +1,21 @@
 //! The first pair of packets of a flow between which too many bits enter.
 
-ghost use Rattle.std.specs.Prelude.{◌≡◌, ◌<◌, length, IfOk};
-ghost use Rattle.rational.specs.Rational.{neg_ℚ};
-ghost use Rattle.rational.specs.Ratio.{SumFits};
+ghost use Rattle.std.specs.Prelude.{length, IfOk};
 ghost use Rattle.run_laws.specs.Lawful.{IsLawful};
 ghost use Rattle.net_model.specs.NetRoutes.{routes_of};
 ghost use Rattle.run_watch.specs.FirstOf.{IsBest};
 ghost use Rattle.first_breaches.specs.Sizes.{HaveSizes};
-ghost use Rattle.run_watch.specs.Stairs.{first_time, last_time};
-ghost use Rattle.first_breaches.specs.Reaches.{apart};
 ghost use Rattle.first_breaches.specs.Firsts.{IsOne, IsBelow};
 
 use crate::counts::flow_count;
-use crate::through::pieces_through;
-use fraction128::{Frac, difference};
 use net_cells::live_flow;
 use net_model::Network;
 use run_laws::Run;
 use run_watch::{Found, arrival_breach, earlier, entries_of};
 use std::alloc::{AllocError, Global};
-use watch_laws::Entering;
-
-/// How long it is from the first of some packets that enter in order to the last; 0 where there is none.
-fn apart(packets: &[Entering]) -> Frac
-    requires { 0 < length packets.now → SumFits (last_time packets.now) (neg_ℚ (first_time packets.now)) }
-    ensures { result ≡ apart packets.now }
-{
-    let count = packets.len();
-    if count == 0 {
-        return Frac::zero();
-    }
-    let back = count - 1;
-    let last = packets[back];
-    let first = packets[0];
-    difference(last.time, first.time)
-}
 
 /// The first pair of one flow between which more bits enter than its arrival curve has; none where the flow is not
-/// live. The curve is written out no further than it is read.
+/// live.
 fn first_arrival_of(
     alloc: Global,
     net: &Network,
@@ -53,9 +31,7 @@ fn first_arrival_of(
         Some(flow) => {
             let _kept = flow.arrival.pieces();
             let packets = entries_of(alloc, &run.steps, number)?;
-            let far = apart(&packets);
-            let pieces = pieces_through(&flow.arrival, far)?;
-            Ok(arrival_breach(alloc, &packets, number, &pieces))
+            Ok(arrival_breach(alloc, &packets, number, &flow.arrival))
         }
     }
 }

@@ -7,6 +7,5 @@ mod counts;
 mod first;
 mod services;
 mod sizes;
-mod through;
 
 pub use first::first_breach;

@@ -1,5 +1,5 @@
 -- A flow that keeps a bucket under each piece of a curve keeps the curve: one packet more, and one piece more, at a time.
-use Rattle.std.specs.Prelude.{◌≡◌, ℕ, zero, suc, ◌+◌, ◌<◌, ◌≤◌, pos, List, [], ◌∷◌, length, take, Some}
+use Rattle.std.specs.Prelude.{◌≡◌, ℕ, zero, suc, ◌+◌, ◌-◌, ◌<◌, ◌≤◌, pos, List, [], ◌∷◌, length, take, Some}
 use Rattle.std.specs.List.{slice_index_or}
 use Rattle.std.proofs.Common.{arith, refl, sym, subst, ap, ◌∙◌, inl, inr, add-one}
 use Rattle.std.proofs.lemmas.List.{take_all}
@@ -8,21 +8,27 @@ use Rattle.rational.specs.Rational.{ℚ, int, ◌+ℚ◌, ◌-ℚ◌, ◌*ℚ◌
 use Rattle.rational.specs.Extended.{Ext, ◌≤ₑ◌, ◌<ₑ◌}
 use Rattle.rational.specs.declared.Extended.TheVariants.{Fin, Inf}
 use Rattle.rational.proofs.ExtendedOrder.{le_ext_trans}
-use Rattle.rational.proofs.Laws.{le_lt_trans, lt_irrefl, mul_sub, mul_zero, add_zero, mul_le_mul}
+use Rattle.rational.proofs.Laws.{le_lt_trans, le_trans, lt_irrefl, mul_sub, mul_zero, add_zero, mul_le_mul}
 use Rattle.rational.specs.MinMax.{min_q, max_q}
 use Rattle.rational.proofs.MinMax.{max_q_ge_left, max_q_ge_right, min_q_le_left, min_q_le_right}
 use Rattle.rational.proofs.Over.{le_q_in}
-use Rattle.rational.proofs.Linear.{with2, with3, with4, with_atoms}
+use Rattle.rational.proofs.Linear.{with2, with3, with4, with_atoms, sub_nonneg}
 use Rattle.affine_segment.specs.declared.line.Line.{Line}
 use Rattle.affine_segment.specs.declared.line.Piece.{Piece}
 use Rattle.affine_segment.specs.Pieces.{Each, StartsAtZero}
 use Rattle.affine_segment.specs.Reading.{piece_value, read}
-use Rattle.upp_normal.proofs.NormaliseRoomy.{each_in}
+use Rattle.upp_curve.specs.declared.curve.Tail.{Tail}
+use Rattle.upp_curve.specs.declared.curve.Tail.TheVariants.{Periodic, Affine, Infinite}
+use Rattle.upp_curve.specs.Curve.{SpecCurve, value_at}
+use Rattle.upp_curve.specs.Curves.{IsCurve}
+use Rattle.upp_normal.proofs.NormaliseRoomy.{each_in, found_early}
+use Rattle.curve_values.specs.Early.{IsEarly}
+use Rattle.curve_values.proofs.KeptValues.{early_value}
 use Rattle.run_laws.specs.Cards.{whole}
 use Rattle.run_laws.proofs.Sizes.{whole_sum}
 use Rattle.watch_laws.specs.declared.entering.Entering.{Entering}
 use Rattle.watch_laws.specs.Entries.{entering, bits_to, bits_between}
-use Rattle.run_watch.specs.Flows.{FlowReads, NoneCrowded, IsUnderLine, IsUnderPiece, KeepsBucket, IsRaised, IsLevel}
+use Rattle.run_watch.specs.Flows.{FlowReads, NoneCrowded, IsUnderLine, IsUnderPiece, KeepsBucket, KeepsPiece, IsRaised, IsLevel, first_time, last_time}
 use Rattle.run_watch.proofs.EntryLists.{bits_past, bits_one_more}
 use Rattle.run_watch.proofs.LeastFirst.{read_is}
 
@@ -147,11 +153,6 @@ pub kept_none : (burst rate : ℚ) (es : List Entering) (time level : ℚ) → I
 kept_none burst rate es time level = record { levels = λ j e. absurd (omega arith); keeps = λ i j m n. absurd (omega arith) }
 
 -- ---- all pieces
--- no packets bring more between two of them than the piece has
-abbrev pub KeepsPiece : List Entering → Piece → Type 0
-KeepsPiece es p = (i j : ℕ) → i ≤ j → j < length es → int (pos 0) ≤ℚ (entering es j).time -ℚ (entering es i).time
-    → Fin (whole (bits_between i j es)) ≤ₑ piece_value p ((entering es j).time -ℚ (entering es i).time)
-
 pub keeps_piece : (es : List Entering) (p : Piece) (burst rate : ℚ) → IsUnderPiece p burst rate → KeepsBucket burst rate es (length es) → KeepsPiece es p
 keeps_piece es p burst rate U K i j l m some =
     let d = (entering es j).time -ℚ (entering es i).time in
@@ -165,25 +166,43 @@ pieces_push P ps k p l e h is = rw add-one (push ps k l e h)
     push (r ∷ ps) zero l e h = (subst P e is, tt)
     push (r ∷ ps) (suc k) l e h = (h.0, push ps k (omega arith) e h.1)
 
-read_of : (es : List Entering) (ps : List Piece) (i j : ℕ) → StartsAtZero ps → Each (KeepsPiece es) ps → i ≤ j → j < length es → int (pos 0) ≤ℚ (entering es j).time -ℚ (entering es i).time
-    → Fin (whole (bits_between i j es)) ≤ₑ read ps ((entering es j).time -ℚ (entering es i).time)
+read_of : (es : List Entering) (far : ℚ) (ps : List Piece) (i j : ℕ) → StartsAtZero ps → Each (λ p. p.x ≤ℚ far → KeepsPiece es p) ps → i ≤ j → j < length es → int (pos 0) ≤ℚ (entering es j).time -ℚ (entering es i).time
+    → (entering es j).time -ℚ (entering es i).time ≤ℚ far → Fin (whole (bits_between i j es)) ≤ₑ read ps ((entering es j).time -ℚ (entering es i).time)
 unfolding read
-read_of es [] i j at0 h l m some = absurd at0
-read_of es (p ∷ ps) i j at0 h l m some = each_in (KeepsPiece es) p ps ((entering es j).time -ℚ (entering es i).time) h.0 h.1 i j l m some
+read_of es far [] i j at0 h l m some near = absurd at0
+read_of es far (p ∷ ps) i j at0 h l m some near =
+    let d = (entering es j).time -ℚ (entering es i).time in
+    let early = found_early p ps d (subst (λ x. x ≤ℚ d) (sym at0.0) some) in
+    each_in (λ p. p.x ≤ℚ far → KeepsPiece es p) p ps d h.0 h.1 (le_trans early near) i j l m some
 
 pub not_both : (x : Ext) (q : ℚ) → Fin q ≤ₑ x → x <ₑ Fin q → ⊥
 not_both (Fin v) q h k = lt_irrefl q (le_lt_trans h k)
 not_both Inf q h k = absurd k
 
-pub none_crowded : (ps : List Piece) (es : List Entering) (k : ℕ) → FlowReads ps es → length ps ≤ k → Each (KeepsPiece es) (take k ps) → NoneCrowded (read ps) es (length es)
-none_crowded ps es k R late h i j m crowded =
+pub all_kept : (P : Piece → Type 0) (ps : List Piece) (k : ℕ) → length ps ≤ k → Each P (take k ps) → Each P ps
+all_kept P ps k late h = subst (Each P) (take_all k ps late) h
+
+gap_near : (f s t l far : ℚ) → f ≤ℚ s → t ≤ℚ l → far ≡ l -ℚ f → t -ℚ s ≤ℚ far
+gap_near f s t l far h k e = with_atoms (f ∷ s ∷ t ∷ l ∷ far ∷ []) (λ c. omega (arith, c.le, c.lt, c.same))
+
+early_before : (tail : Tail) (d far : ℚ) → d ≤ℚ far → IsEarly tail far → IsEarly tail d
+early_before (Periodic rank period rise) d far h k = le_lt_trans h k
+early_before (Affine rank) d far h k = tt
+early_before (Infinite rank) d far h k = tt
+
+pub none_crowded : (c : SpecCurve) (es : List Entering) (far : ℚ) → FlowReads c es → IsCurve c → far ≡ last_time es -ℚ first_time es → IsEarly c.tail far → Each (λ p. p.x ≤ℚ far → KeepsPiece es p) c.pieces
+    → NoneCrowded (value_at c) es (length es)
+none_crowded c es far R C reach early all i j m crowded =
     let window = R i j crowded.in_order m in
     let s = (entering es i).time in
     let t = (entering es j).time in
-    let forward = window.forward in
-    let some : int (pos 0) ≤ℚ t -ℚ s = with2 s t (λ c. omega (arith, c.le, c.lt, c.same)) in
-    let all = subst (Each (KeepsPiece es)) (take_all k ps late) h in
-    not_both (read ps (t -ℚ s)) (whole (bits_between i j es)) (read_of es ps i j window.starts all crowded.in_order m some) crowded.more
+    let first = R 0 i (omega arith) (omega arith) in
+    let last = R j (length es - 1) (omega arith) (omega arith) in
+    let low = sub_nonneg s t window.forward in
+    let near = gap_near (first_time es) s t (last_time es) far first.forward last.forward reach in
+    let bits = read_of es far c.pieces i j C.normal.raw.starts all crowded.in_order m low near in
+    let value = early_value c (t -ℚ s) C (early_before c.tail (t -ℚ s) far near early) in
+    not_both (value_at c (t -ℚ s)) (whole (bits_between i j es)) (subst (λ (v : Ext). Fin (whole (bits_between i j es)) ≤ₑ v) value bits) crowded.more
 
 -- ---- what is kept of a level
 pub raised_is : (level rate time gap lost left kept none own next : ℚ) (e : Entering) → gap ≡ e.time -ℚ time → lost ≡ rate *ℚ gap → left ≡ level -ℚ lost → none ≡ int (pos 0) → kept ≡ max_q left none → own ≡ whole e.bits → next ≡ kept +ℚ own

@@ -3,12 +3,11 @@ use Rattle.std.specs.Prelude.{◌≡◌, ℕ, zero, suc, ◌+◌, ◌<◌, ◌�
 use Rattle.std.specs.List.{slice_index_or}
 use Rattle.std.proofs.Common.{arith, inl, inr, refl, sym, subst, ap, ap₂, ◌∙◌}
 use Rattle.std.proofs.lemmas.Bool.{cases_lt}
-use Rattle.rational.specs.Rational.{ℚ, int, ◌-ℚ◌, ◌≤ℚ◌}
+use Rattle.rational.specs.Rational.{ℚ, int, ◌-ℚ◌}
 use Rattle.rational.specs.Extended.{Ext, ◌<ₑ◌}
 use Rattle.rational.specs.declared.Extended.TheVariants.{Fin}
-use Rattle.rational.proofs.Linear.{with2}
-use Rattle.affine_segment.specs.declared.line.Piece.{Piece}
-use Rattle.affine_segment.specs.Fits.{ReadFits}
+use Rattle.upp_curve.specs.Curve.{SpecCurve}
+use Rattle.upp_normal.specs.Unrolling.{IsOperandTo}
 use Rattle.run_laws.specs.Cards.{whole}
 use Rattle.watch_laws.specs.declared.entering.Entering.{Entering}
 use Rattle.watch_laws.specs.Entries.{entering, bits_between, IsCrowded}
@@ -23,18 +22,15 @@ get_same (x ∷ es) (suc k) d e h = get_same es k d e (omega arith)
 pub read_is : (es : List Entering) (k : ℕ) (d : Entering) → k < length es → d ≡ slice_index_or es k d → d ≡ entering es k
 read_is es k d h e = e ∙ get_same es k d record { time = int (pos 0); bits = 0 } h
 
-pub reads_at : (ps : List Piece) (es : List Entering) (i j : ℕ) (x d : Entering) → FlowReads ps es → i ≤ j → j < length es → d ≡ slice_index_or es i d
-    → WindowReads ps d.time (get_or es j x).time
-reads_at ps es i j x d h l m e =
+pub reads_at : (c : SpecCurve) (es : List Entering) (i j : ℕ) (x d : Entering) → FlowReads c es → i ≤ j → j < length es → d ≡ slice_index_or es i d
+    → WindowReads c d.time (get_or es j x).time
+reads_at c es i j x d h l m e =
     let a = read_is es i d (omega arith) e in
     let b = get_same es j x record { time = int (pos 0); bits = 0 } m in
-    subst (λ (p : Entering). WindowReads ps d.time p.time) (sym b) (subst (λ (p : Entering). WindowReads ps p.time (entering es j).time) (sym a) (h i j l m))
+    subst (λ (p : Entering). WindowReads c d.time p.time) (sym b) (subst (λ (p : Entering). WindowReads c p.time (entering es j).time) (sym a) (h i j l m))
 
-pub window_nonneg : (ps : List Piece) (s t r : ℚ) → WindowReads ps s t → r ≡ t -ℚ s → int (pos 0) ≤ℚ r
-window_nonneg ps s t r h e = subst (λ x. int (pos 0) ≤ℚ x) (sym e) (let f = h.forward in with2 s t (λ k. omega (arith, k.le, k.lt, k.same)))
-
-pub window_reads : (ps : List Piece) (s t r : ℚ) → WindowReads ps s t → r ≡ t -ℚ s → ReadFits ps r
-window_reads ps s t r h e = subst (ReadFits ps) (sym e) h.reads
+pub window_reads : (c : SpecCurve) (s t r : ℚ) → WindowReads c s t → r ≡ t -ℚ s → IsOperandTo r c
+window_reads c s t r h e = subst (λ x. IsOperandTo x c) (sym e) h.operand
 
 pub bits_grow : (first last up bits : ℕ) (es : List Entering) (d : Entering) → up ≡ suc first → first ≤ last → last < length es → d ≡ slice_index_or es first d
     → bits ≡ bits_between up last es → bits + d.bits ≡ bits_between first last es

@@ -21,7 +21,6 @@ pub mod FirstIdle
 pub mod OwnTurns
 pub mod NearWindows
 pub mod Buckets
-pub mod BucketReads
 pub mod StairPaces
 pub mod ClearStretches
 pub mod ShortEnds

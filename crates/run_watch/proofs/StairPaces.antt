@@ -1,30 +1,39 @@
 -- A flow whose bits are counted in steps against a line over a stair keeps the stair.
-use Rattle.std.specs.Prelude.{◌≡◌, ◌≢◌, ℕ, zero, suc, ◌+◌, ◌-◌, ◌<◌, pos, List, [], ◌∷◌, length, drop, Option, Some, None, IfSome, unwrap_or}
+use Rattle.std.specs.Prelude.{◌≡◌, ◌≢◌, ℕ, zero, suc, ◌+◌, ◌<◌, pos, List, [], ◌∷◌, length, drop, Option, Some, None, IfSome, unwrap_or}
 use Rattle.std.specs.List.{slice_index_or}
 use Rattle.std.proofs.Common.{arith, sym, subst, ap, ◌∙◌, inl, inr, add-one}
-use Rattle.rational.specs.Rational.{ℚ, int, ◌+ℚ◌, ◌-ℚ◌, ◌*ℚ◌, ◌≤ℚ◌, ◌<ℚ◌}
-use Rattle.rational.specs.Extended.{Ext, ◌≤ₑ◌}
-use Rattle.rational.specs.declared.Extended.TheVariants.{Fin}
+use Rattle.rational.specs.Rational.{ℚ, int, ◌+ℚ◌, ◌-ℚ◌, ◌*ℚ◌, ◌/ℚ◌, ◌≤ℚ◌, ◌<ℚ◌}
+use Rattle.rational.specs.Extended.{Ext, ◌≤ₑ◌, ◌+ₑ◌}
+use Rattle.rational.specs.declared.Extended.TheVariants.{Fin, Inf}
 use Rattle.rational.proofs.ExtendedOrder.{le_ext_trans}
-use Rattle.rational.proofs.Integers.{nat_lt_out}
-use Rattle.rational.proofs.Laws.{le_of_lt, le_or_lt, le_lt_trans, lt_le_trans, mul_le_mul, mul_le_mul_right, mul_lt_mul, mul_nonneg, not_zero, zero_mul}
-use Rattle.rational.proofs.Linear.{with2, with_atoms, sub_nonneg}
+use Rattle.rational.proofs.Integers.{nat_lt_out, nat_next}
+use Rattle.rational.proofs.Laws.{div_mul, le_of_lt, le_or_lt, le_lt_trans, le_trans, lt_le_trans, mul_add, mul_le_mul_right, mul_lt_mul, mul_nonneg, not_zero, zero_mul}
+use Rattle.rational.proofs.Linear.{with2, with3, with4, with_atoms, sub_nonneg}
+use Rattle.rational.proofs.Whole.{one_more_times}
 use Rattle.affine_segment.specs.declared.line.Piece.{Piece}
 use Rattle.affine_segment.specs.Pieces.{StartsAtZero}
 use Rattle.affine_segment.specs.Reading.{piece_value, read}
 use Rattle.affine_segment.proofs.PieceIn.{read_go, read_one, read_stop}
+use Rattle.upp_curve.specs.declared.curve.Tail.{Tail}
+use Rattle.upp_curve.specs.declared.curve.Tail.TheVariants.{Periodic}
+use Rattle.upp_curve.specs.Curve.{SpecCurve, value_at}
+use Rattle.upp_curve.specs.Curves.{IsCurve}
+use Rattle.upp_curve.specs.Normal.{IsNormal}
+use Rattle.upp_curve.proofs.Repeats.{tail_lemma}
 use Rattle.run_laws.specs.Cards.{whole}
 use Rattle.run_laws.proofs.Sizes.{whole_le}
 use Rattle.watch_laws.specs.declared.entering.Entering.{Entering}
 use Rattle.watch_laws.specs.Entries.{entering, bits_between}
-use Rattle.watch_laws.specs.Segments.{next_start}
 use Rattle.step_lines.specs.Lines.{KeepsLine}
 use Rattle.run_watch.specs.Flows.{FlowReads, NoneCrowded, IsUnderPiece}
-use Rattle.run_watch.specs.Stairs.{first_time, last_time, IsCount, HasSteps, IsStep, IsStepAt, IsStair}
+use Rattle.run_watch.specs.Stairs.{start_or, IsCount, HasSteps, IsStep, IsStepAt, IsStair, RisesWith, IsClimbed}
 use Rattle.run_watch.proofs.Buckets.{not_both}
 
 pub not_none : (z d : ℚ) → z ≡ int (pos 0) → z <ℚ d → d ≢ int (pos 0)
 not_none z d e h = not_zero d (subst (λ x. x <ℚ d) e h)
+
+pub rises_with : (height rate period rise unit : ℚ) → height ≡ rise → unit ≡ int (pos 1) → rate ≡ unit /ℚ period → period ≢ int (pos 0) → RisesWith height rate period rise
+rises_with height rate period rise unit e one r some = record { one = ap (λ x. x *ℚ period) r ∙ div_mul unit period some ∙ one; high = e }
 
 -- ---- pieces
 pub has_steps : (height burst rate count : ℚ) (p : Piece) → IsUnderPiece p burst rate → rate ≡ int (pos 0) → IsCount height burst count → HasSteps height p count
@@ -40,12 +49,12 @@ has_steps height burst rate count p U flat C = record {
       le_ext_trans (Fin all) (Fin (burst +ℚ run)) (piece_value p d) low (U d some);
 }
 
-pub step_at : (height slack rate far : ℚ) (ps : List Piece) (i : ℕ) (p : Piece) → i < length ps → p ≡ slice_index_or ps i p → IsStep height slack rate far p (next_start (drop (i + 1) ps)) → IsStepAt height slack rate far (drop i ps)
-step_at height slack rate far ps i p l e S = go ps i l e (rw add-one at S)
+pub step_at : (height slack rate end : ℚ) (ps : List Piece) (i : ℕ) (p : Piece) → i < length ps → p ≡ slice_index_or ps i p → IsStep height slack rate p (start_or end (drop (i + 1) ps)) → IsStepAt height slack rate end (drop i ps)
+step_at height slack rate end ps i p l e S = go ps i l e (rw add-one at S)
   where
-    go : (ps : List Piece) (i : ℕ) → i < length ps → p ≡ slice_index_or ps i p → IsStep height slack rate far p (next_start (drop (suc i) ps)) → IsStepAt height slack rate far (drop i ps)
+    go : (ps : List Piece) (i : ℕ) → i < length ps → p ≡ slice_index_or ps i p → IsStep height slack rate p (start_or end (drop (suc i) ps)) → IsStepAt height slack rate end (drop i ps)
     go [] i l e S = absurd (omega arith)
-    go (q ∷ ps) zero l e S = subst (λ (r : Piece). IsStep height slack rate far r (next_start ps)) e S
+    go (q ∷ ps) zero l e S = subst (λ (r : Piece). IsStep height slack rate r (start_or end ps)) e S
     go (q ∷ ps) (suc i) l e S = go ps i (omega arith) e S
 
 -- where the line is below the steps of a piece, the piece has one step more than a whole number under the line
@@ -55,13 +64,6 @@ one_step height count value p d n high S some h l =
     let most : whole (suc n) ≤ℚ count = subst (λ x. whole (suc n) ≤ℚ x) (sym S.is) (whole_le (suc n) S.number (omega arith)) in
     le_ext_trans (Fin (whole (suc n) *ℚ height)) (Fin (count *ℚ height)) (piece_value p d) (mul_le_mul_right height high most) (S.under d some)
 
-line_later : (slack rate d far : ℚ) → int (pos 0) <ℚ rate → d ≤ℚ far → slack +ℚ rate *ℚ d ≤ℚ slack +ℚ rate *ℚ far
-line_later slack rate d far some h =
-    let a = rate *ℚ d in
-    let b = rate *ℚ far in
-    let k = mul_le_mul rate (le_of_lt some) h in
-    with_atoms (slack ∷ a ∷ b ∷ []) (λ c. omega (arith, c.le, c.lt, c.same))
-
 line_before : (slack rate d x : ℚ) → int (pos 0) <ℚ rate → d <ℚ x → slack +ℚ rate *ℚ d <ℚ slack +ℚ rate *ℚ x
 line_before slack rate d x some h =
     let a = rate *ℚ d in
@@ -69,51 +71,83 @@ line_before slack rate d x some h =
     let k = mul_lt_mul rate some h in
     with_atoms (slack ∷ a ∷ b ∷ []) (λ c. omega (arith, c.le, c.lt, c.same))
 
-climbed : (height slack rate far d : ℚ) (n : ℕ) (p : Piece) (ps : List Piece) → int (pos 0) <ℚ height → int (pos 0) <ℚ rate → ((i : ℕ) → i < length (p ∷ ps) → IsStepAt height slack rate far (drop i (p ∷ ps)))
-    → int (pos 0) ≤ℚ d → d ≤ℚ far → whole n ≤ℚ slack +ℚ rate *ℚ d → Fin (whole (suc n) *ℚ height) ≤ₑ read (p ∷ ps) d
-climbed height slack rate far d n p [] high some steps low near h =
-    let S : IsStep height slack rate far p (next_start []) = steps 0 (omega arith) in
+climbed : (height slack rate end d : ℚ) (p : Piece) (ps : List Piece) → int (pos 0) <ℚ height → int (pos 0) <ℚ rate → ((i : ℕ) → i < length (p ∷ ps) → IsStepAt height slack rate end (drop i (p ∷ ps)))
+    → int (pos 0) ≤ℚ d → d <ℚ end → IsClimbed height slack rate d (read (p ∷ ps) d)
+climbed height slack rate end d p [] high some steps low near n h =
+    let S : IsStep height slack rate p end = steps 0 (omega arith) in
     subst (λ (v : Ext). Fin (whole (suc n) *ℚ height) ≤ₑ v) (sym (read_one p d))
-    (one_step height S.count (slack +ℚ rate *ℚ d) p d n (le_of_lt high) S.steps low h (le_lt_trans (line_later slack rate d far some near) S.line))
-climbed height slack rate far d n p (q ∷ qs) high some steps low near h = elim (le_or_lt q.x d) [
+    (one_step height S.count (slack +ℚ rate *ℚ d) p d n (le_of_lt high) S.steps low h (lt_le_trans (line_before slack rate d end some near) S.line))
+climbed height slack rate end d p (q ∷ qs) high some steps low near n h = elim (le_or_lt q.x d) [
   | inl k ↦ subst (λ (v : Ext). Fin (whole (suc n) *ℚ height) ≤ₑ v) (sym (read_go p q qs d k))
-      (climbed height slack rate far d n q qs high some (λ i l. steps (suc i) (omega arith)) low near h)
+      (climbed height slack rate end d q qs high some (λ i l. steps (suc i) (omega arith)) low near n h)
   | inr k ↦
-      let S : IsStep height slack rate far p (next_start (q ∷ qs)) = steps 0 (omega arith) in
+      let S : IsStep height slack rate p q.x = steps 0 (omega arith) in
       subst (λ (v : Ext). Fin (whole (suc n) *ℚ height) ≤ₑ v) (sym (read_stop p q qs d k))
       (one_step height S.count (slack +ℚ rate *ℚ d) p d n (le_of_lt high) S.steps low h (lt_le_trans (line_before slack rate d q.x some k) S.line))
 ]
 
-read_climbed : (height slack rate far d : ℚ) (n : ℕ) (ps : List Piece) → StartsAtZero ps → int (pos 0) <ℚ height → int (pos 0) <ℚ rate → ((i : ℕ) → i < length ps → IsStepAt height slack rate far (drop i ps))
-    → int (pos 0) ≤ℚ d → d ≤ℚ far → whole n ≤ℚ slack +ℚ rate *ℚ d → Fin (whole (suc n) *ℚ height) ≤ₑ read ps d
-read_climbed height slack rate far d n [] at0 high some steps low near h = absurd at0
-read_climbed height slack rate far d n (p ∷ ps) at0 high some steps low near h = climbed height slack rate far d n p ps high some steps low near h
+read_climbed : (height slack rate end d : ℚ) (ps : List Piece) → StartsAtZero ps → IsStair height slack rate end ps → int (pos 0) ≤ℚ d → d <ℚ end → IsClimbed height slack rate d (read ps d)
+read_climbed height slack rate end d [] at0 S low near = absurd at0
+read_climbed height slack rate end d (p ∷ ps) at0 S low near = climbed height slack rate end d p ps S.high S.rises S.steps low near
 
--- ---- all pairs
 line_some : (slack rate d : ℚ) → int (pos 0) ≤ℚ slack → int (pos 0) <ℚ rate → int (pos 0) ≤ℚ d → int (pos 0) ≤ℚ slack +ℚ rate *ℚ d
 line_some slack rate d h some low =
     let x = rate *ℚ d in
     let k : int (pos 0) ≤ℚ x = mul_nonneg (le_of_lt some) low in
     with2 slack x (λ c. omega (arith, c.le, c.lt, c.same))
 
-gap_near : (f s t l far : ℚ) → f ≤ℚ s → t ≤ℚ l → far ≡ l -ℚ f → t -ℚ s ≤ℚ far
-gap_near f s t l far h k e = with_atoms (f ∷ s ∷ t ∷ l ∷ far ∷ []) (λ c. omega (arith, c.le, c.lt, c.same))
+-- ---- periods
+risen_over : (a b h : ℚ) (v : Ext) → a ≤ℚ b +ℚ h → Fin b ≤ₑ v → Fin a ≤ₑ v +ₑ Fin h
+risen_over a b h Inf l k = tt
+risen_over a b h (Fin x) l k = with4 a b h x (λ c. omega (arith, c.le, c.lt, c.same))
 
-pub none_past_stair : (ps : List Piece) (es : List Entering) (height slack rate far : ℚ) (upto : ℕ) → FlowReads ps es → far ≡ last_time es -ℚ first_time es → IsStair height slack rate far ps → KeepsLine height slack rate es upto → NoneCrowded (read ps) es upto
-none_past_stair ps es height slack rate far upto R reach S K i j m crowded =
+-- a period later the line has one step more, and so has the curve
+climbs_on : (height slack rate period t : ℚ) (v : Ext) → int (pos 0) ≤ℚ slack → int (pos 0) <ℚ height → int (pos 0) <ℚ rate → int (pos 0) ≤ℚ t → rate *ℚ period ≡ int (pos 1)
+    → IsClimbed height slack rate t v → IsClimbed height slack rate (t +ℚ period) (v +ₑ Fin height)
+climbs_on height slack rate period t v s high some low one k zero h =
+    let b = whole 1 *ℚ height in
+    risen_over b b height v (with2 b height (λ c. omega (arith, c.le, c.lt, c.same))) (k 0 (line_some slack rate t s some low))
+climbs_on height slack rate period t v s high some low one k (suc n) h =
+    let a = whole (suc (suc n)) *ℚ height in
+    let b = whole (suc n) *ℚ height in
+    let more : a ≡ b +ℚ height = one_more_times (suc n) height in
+    let next = nat_next n in
+    let x = rate *ℚ t in
+    let y = rate *ℚ period in
+    let w = rate *ℚ (t +ℚ period) in
+    let split : w ≡ x +ℚ y = mul_add rate t period in
+    let m = whole n in
+    let m2 = whole (suc n) in
+    let unit = int (pos 1) in
+    let under : m ≤ℚ slack +ℚ x = with_atoms (m ∷ m2 ∷ unit ∷ slack ∷ x ∷ y ∷ w ∷ []) (λ c. omega (arith, c.le, c.lt, c.same)) in
+    risen_over a b height v (with3 a b height (λ c. omega (arith, c.le, c.lt, c.same))) (k n under)
+
+always_by : (ps : List Piece) (tail : Tail) (rank period rise height slack rate t : ℚ) → tail ≡ Periodic rank period rise → IsNormal record { pieces = ps; tail = tail } → height ≡ rise → rate *ℚ period ≡ int (pos 1)
+    → IsStair height slack rate (rank +ℚ period) ps → int (pos 0) ≤ℚ t → IsClimbed height slack rate t (value_at record { pieces = ps; tail = tail } t)
+unfolding value_at
+always_by ps tail rank period rise height slack rate t e normal same one S low =
+    let Rule : Tail → Type 0 = λ k. IsNormal record { pieces = ps; tail = k } → IsClimbed height slack rate t (value_at record { pieces = ps; tail = k } t) in
+    subst Rule (sym e) (λ m.
+    let from = m.raw.tail.nonneg in
+    tail_lemma (IsClimbed height slack rate) (read ps) rank period rise from m.raw.tail.some (λ d some near. read_climbed height slack rate (rank +ℚ period) d ps m.raw.starts S some near)
+    (λ d v past k. subst (λ x. IsClimbed height slack rate (d +ℚ period) (v +ₑ Fin x)) same (climbs_on height slack rate period d v S.some S.high S.rises (le_trans from past) one k)) t low) normal
+
+pub always_climbed : (c : SpecCurve) (rank period rise height slack rate t : ℚ) → IsCurve c → c.tail ≡ Periodic rank period rise → RisesWith height rate period rise → IsStair height slack rate (rank +ℚ period) c.pieces → int (pos 0) ≤ℚ t
+    → IsClimbed height slack rate t (value_at c t)
+always_climbed c rank period rise height slack rate t C e W S low = always_by c.pieces c.tail rank period rise height slack rate t e C.normal W.high W.one S low
+
+-- ---- all pairs
+pub none_past_stair : (c : SpecCurve) (es : List Entering) (height slack rate : ℚ) (upto : ℕ) → FlowReads c es → int (pos 0) ≤ℚ slack → int (pos 0) <ℚ rate
+    → ((d : ℚ) → int (pos 0) ≤ℚ d → IsClimbed height slack rate d (value_at c d)) → KeepsLine height slack rate es upto → NoneCrowded (value_at c) es upto
+none_past_stair c es height slack rate upto R start rises S K i j m crowded =
     let order = crowded.in_order in
-    let entered = crowded.entered in
-    let window = R i j order entered in
+    let window = R i j order crowded.entered in
     let s = (entering es i).time in
     let t = (entering es j).time in
-    let first = R 0 i (omega arith) (omega arith) in
-    let last = R j (length es - 1) (omega arith) (omega arith) in
     let low = sub_nonneg s t window.forward in
-    let near = gap_near (first_time es) s t (last_time es) far first.forward last.forward reach in
-    let (n, bits, under) = K i j order m (line_some slack rate (t -ℚ s) S.some S.rises low) in
-    let stair = read_climbed height slack rate far (t -ℚ s) n ps window.starts S.high S.rises S.steps low near under in
-    not_both (read ps (t -ℚ s)) (whole (bits_between i j es))
-    (le_ext_trans (Fin (whole (bits_between i j es))) (Fin (whole (suc n) *ℚ height)) (read ps (t -ℚ s)) bits stair) crowded.more
+    let (n, bits, under) = K i j order m (line_some slack rate (t -ℚ s) start rises low) in
+    not_both (value_at c (t -ℚ s)) (whole (bits_between i j es))
+    (le_ext_trans (Fin (whole (bits_between i j es))) (Fin (whole (suc n) *ℚ height)) (value_at c (t -ℚ s)) bits (S (t -ℚ s) low n under)) crowded.more
 
 -- where nothing is looked at, nothing is seen
 pub seen_none : (α : ℚ → Ext) (es : List Entering) (o : Option ℕ) (from : ℕ) → IfSome o (NoneCrowded α es) → from ≡ unwrap_or o 0 → NoneCrowded α es from

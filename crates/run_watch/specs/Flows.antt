@@ -1,14 +1,14 @@
 -- The packets of a flow, and the first that it breaks. Own choice.
-use Rattle.std.specs.Prelude.{◌≡◌, ℕ, pos, ◌<◌, ◌≤◌, ◌==◌, List, length, Option, Some, None, MatchOption, if◌then◌else◌}
+use Rattle.std.specs.Prelude.{◌≡◌, ℕ, pos, ◌-◌, ◌<◌, ◌≤◌, ◌==◌, List, length, Option, Some, None, MatchOption, if◌then◌else◌}
 use Rattle.rational.specs.Rational.{ℚ, int, ◌+ℚ◌, ◌-ℚ◌, ◌*ℚ◌, ◌≤ℚ◌, neg_ℚ}
 use Rattle.rational.specs.Ratio.{SumFits}
 use Rattle.rational.specs.Extended.{Ext, ◌≤ₑ◌}
 use Rattle.rational.specs.declared.Extended.TheVariants.{Fin}
 use Rattle.affine_segment.specs.declared.line.Line.{Line}
 use Rattle.affine_segment.specs.declared.line.Piece.{Piece}
-use Rattle.affine_segment.specs.Pieces.{StartsAtZero}
-use Rattle.affine_segment.specs.Fits.{ReadFits}
 use Rattle.affine_segment.specs.Reading.{piece_value}
+use Rattle.upp_curve.specs.Curve.{SpecCurve}
+use Rattle.upp_normal.specs.Unrolling.{IsOperandTo}
 use Rattle.run_laws.specs.Cards.{whole}
 use Rattle.run_laws.specs.declared.steps.Step.{Step}
 use Rattle.run_laws.specs.declared.steps.Step.TheVariants.{Enter, Reach, Work, Leave, Visit}
@@ -34,16 +34,22 @@ pub record IsFirstLonger (longest : ℕ) (es : List Entering) (k : ℕ) : Type 0
   pub before : (j : ℕ) → j < k → (entering es j).bits ≤ longest
 
 -- ---- windows
--- the time from s to t fits, and the pieces of a curve can be read there
-pub record WindowReads (ps : List Piece) (s t : ℚ) : Type 0 where
-  pub starts : StartsAtZero ps
+-- the time from s to t fits, and a curve can be read there
+pub record WindowReads (c : SpecCurve) (s t : ℚ) : Type 0 where
   pub forward : s ≤ℚ t
   pub fits : SumFits t (neg_ℚ s)
-  pub reads : ReadFits ps (t -ℚ s)
+  pub operand : IsOperandTo (t -ℚ s) c
 
 -- so between each two packets
-abbrev pub FlowReads : List Piece → List Entering → Type 0
-FlowReads ps es = (i j : ℕ) → i ≤ j → j < length es → WindowReads ps (entering es i).time (entering es j).time
+abbrev pub FlowReads : SpecCurve → List Entering → Type 0
+FlowReads c es = (i j : ℕ) → i ≤ j → j < length es → WindowReads c (entering es i).time (entering es j).time
+
+-- the first time and the last
+abbrev pub first_time : List Entering → ℚ
+first_time es = (entering es 0).time
+
+abbrev pub last_time : List Entering → ℚ
+last_time es = (entering es (length es - 1)).time
 
 -- no pair is crowded that ends with packet `last` and begins with packet `from` or a later one
 abbrev pub NoneCrowdedFrom : (ℚ → Ext) → List Entering → ℕ → ℕ → Type 0
@@ -81,6 +87,11 @@ IsUnderPiece p burst rate = (d : ℚ) → int (pos 0) ≤ℚ d → Fin (burst +�
 abbrev pub KeepsBucket : ℚ → ℚ → List Entering → ℕ → Type 0
 KeepsBucket burst rate es upto = (i j : ℕ) → i ≤ j → j < upto
     → whole (bits_between i j es) ≤ℚ burst +ℚ rate *ℚ ((entering es j).time -ℚ (entering es i).time)
+
+-- no packets bring more between two of them than the piece has
+abbrev pub KeepsPiece : List Entering → Piece → Type 0
+KeepsPiece es p = (i j : ℕ) → i ≤ j → j < length es → int (pos 0) ≤ℚ (entering es j).time -ℚ (entering es i).time
+    → Fin (whole (bits_between i j es)) ≤ₑ piece_value p ((entering es j).time -ℚ (entering es i).time)
 
 -- l is at least what is left of the level at this packet, and at least nothing, with the packet's bits
 pub record IsRaised (level rate time : ℚ) (e : Entering) (l : ℚ) : Type 0 where

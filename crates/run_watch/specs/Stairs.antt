@@ -1,22 +1,12 @@
--- Packets whose bits are counted in steps of a stair against a line over the stair: where the line at d is at least a whole number,
+-- Packets whose bits are counted in steps of a stair against a line under the stair: where the line at d is at least a whole number,
 -- the stair has one step more than that number. Own choice.
-use Rattle.std.specs.Prelude.{◌≡◌, ℕ, pos, ◌-◌, ◌<◌, List, [], ◌∷◌, length, drop, Option, Some, None}
+use Rattle.std.specs.Prelude.{◌≡◌, ℕ, suc, pos, ◌<◌, List, [], ◌∷◌, length, drop}
 use Rattle.rational.specs.Rational.{ℚ, int, ◌+ℚ◌, ◌*ℚ◌, ◌≤ℚ◌, ◌<ℚ◌}
-use Rattle.rational.specs.Extended.{◌≤ₑ◌}
+use Rattle.rational.specs.Extended.{Ext, ◌≤ₑ◌}
 use Rattle.rational.specs.declared.Extended.TheVariants.{Fin}
 use Rattle.affine_segment.specs.declared.line.Piece.{Piece}
 use Rattle.affine_segment.specs.Reading.{piece_value}
 use Rattle.run_laws.specs.Cards.{whole}
-use Rattle.watch_laws.specs.declared.entering.Entering.{Entering}
-use Rattle.watch_laws.specs.Entries.{entering}
-use Rattle.watch_laws.specs.Segments.{next_start}
-
--- ---- packets
-abbrev pub first_time : List Entering → ℚ
-first_time es = (entering es 0).time
-
-abbrev pub last_time : List Entering → ℚ
-last_time es = (entering es (length es - 1)).time
 
 -- ---- pieces
 -- so many steps fit under v
@@ -31,24 +21,35 @@ pub record HasSteps (height : ℚ) (p : Piece) (count : ℚ) : Type 0 where
   pub is : count ≡ whole number
   pub under : (d : ℚ) → int (pos 0) ≤ℚ d → Fin (count *ℚ height) ≤ₑ piece_value p d
 
--- up to where the next piece starts the line is at most so many steps; after the last piece it is below so many as far as it is read
-abbrev pub LineUpTo : ℚ → ℚ → ℚ → ℚ → Option ℚ → Type 0
-LineUpTo slack rate far count None = slack +ℚ rate *ℚ far <ℚ count
-LineUpTo slack rate far count (Some x) = slack +ℚ rate *ℚ x ≤ℚ count
-
-pub record IsStep (height slack rate far : ℚ) (p : Piece) (next : Option ℚ) : Type 0 where
+-- where the piece ends the line is at most so many steps
+pub record IsStep (height slack rate : ℚ) (p : Piece) (end : ℚ) : Type 0 where
   pub count : ℚ
   pub steps : HasSteps height p count
-  pub line : LineUpTo slack rate far count next
+  pub line : slack +ℚ rate *ℚ end ≤ℚ count
 
--- so at each of the first pieces
+-- where the first of some pieces starts; `end` where there is none
+abbrev pub start_or : ℚ → List Piece → ℚ
+start_or end [] = end
+start_or end (p ∷ ps) = p.x
+
+-- so at the first of some pieces, the last of which ends at `end`
 abbrev pub IsStepAt : ℚ → ℚ → ℚ → ℚ → List Piece → Type 0
-IsStepAt height slack rate far [] = Unit {0}
-IsStepAt height slack rate far (p ∷ ps) = IsStep height slack rate far p (next_start ps)
+IsStepAt height slack rate end [] = Unit {0}
+IsStepAt height slack rate end (p ∷ ps) = IsStep height slack rate p (start_or end ps)
 
--- all pieces have their steps under a line that rises from 0 or above
-pub record IsStair (height slack rate far : ℚ) (ps : List Piece) : Type 0 where
+-- all pieces have their steps over a line that rises from 0 or above
+pub record IsStair (height slack rate end : ℚ) (ps : List Piece) : Type 0 where
   pub high : int (pos 0) <ℚ height
   pub rises : int (pos 0) <ℚ rate
   pub some : int (pos 0) ≤ℚ slack
-  pub steps : (i : ℕ) → i < length ps → IsStepAt height slack rate far (drop i ps)
+  pub steps : (i : ℕ) → i < length ps → IsStepAt height slack rate end (drop i ps)
+
+-- ---- periods
+-- the line rises by one step in each period, and so does the curve
+pub record RisesWith (height rate period rise : ℚ) : Type 0 where
+  pub one : rate *ℚ period ≡ int (pos 1)
+  pub high : height ≡ rise
+
+-- v has one step more than each whole number that the line is at least at d
+abbrev pub IsClimbed : ℚ → ℚ → ℚ → ℚ → Ext → Type 0
+IsClimbed height slack rate d v = (n : ℕ) → whole n ≤ℚ slack +ℚ rate *ℚ d → Fin (whole (suc n) *ℚ height) ≤ₑ v

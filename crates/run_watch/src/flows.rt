@@ -1,21 +1,23 @@
 //! What a flow breaks: a packet that is longer than it allows, or too many bits between two of its packets.
 
-ghost use Rattle.std.specs.Prelude.{◌≡◌, ◌↔◌, ℕ, ◌<◌, ◌≤◌, ◌^◌, pos, length, IfOk, IfSome, IsTrue, MatchOption};
-ghost use Rattle.rational.specs.Rational.{int, ◌≤ℚ◌};
+ghost use Rattle.std.specs.Prelude.{◌≡◌, ◌↔◌, ◌<◌, ◌^◌, length, IfOk, IfSome, IsTrue, MatchOption};
+ghost use Rattle.rational.specs.Rational.{◌-ℚ◌, ◌≤ℚ◌};
 ghost use Rattle.rational.specs.Extended.{◌<ₑ◌};
-ghost use Rattle.affine_segment.specs.Pieces.{StartsAtZero};
-ghost use Rattle.affine_segment.specs.Reading.{read};
-ghost use Rattle.affine_segment.specs.Fits.{ReadFits};
+ghost use Rattle.affine_segment.specs.Pieces.{Each};
+ghost use Rattle.upp_curve.specs.Curve.{value_at};
+ghost use Rattle.upp_normal.specs.Unrolling.{IsOperandTo};
 ghost use Rattle.run_laws.specs.Cards.{whole};
 ghost use Rattle.watch_laws.specs.Entries.{entries};
-ghost use Rattle.run_watch.specs.Flows.{entering_in, NoneLonger, IsFirstLonger, FlowReads, FindsFirst, NoneCrowded, IsFirstCrowded, IsUnderLine, IsUnderPiece, KeepsBucket, IsRaised};
+ghost use Rattle.run_watch.specs.Flows.{entering_in, NoneLonger, IsFirstLonger, FlowReads, FindsFirst, NoneCrowded, IsFirstCrowded, IsUnderLine, IsUnderPiece, KeepsBucket, KeepsPiece, IsRaised, first_time, last_time};
 
 use crate::stairs::kept_upto;
-use affine_segment::{Line, Piece, read};
+use affine_segment::{Line, Piece};
+use curve_values::{is_early, value_within};
 use fraction128::{Frac, Wide, difference, greater, is_less, lesser};
 use rational::Extended;
 use run_laws::Step;
 use std::alloc::{AllocError, Global};
+use upp_curve::Curve;
 use watch_laws::Entering;
 
 /// The packet that enters on a flow by a step, if one does.
@@ -67,25 +69,23 @@ pub fn first_too_long(entries: &[Entering], longest: u32) -> Option<usize>
     None
 }
 
-/// Whether so many bits are more than the pieces of a curve have at d.
-fn is_over(arrival: &[Piece], d: Frac, bits: u128) -> bool
-    requires starts { StartsAtZero arrival.now }
-    requires time { int (pos 0) ≤ℚ d }
-    requires reads { ReadFits arrival.now d }
+/// Whether so many bits are more than a curve has at d.
+fn is_over(arrival: &Curve, d: Frac, bits: u128) -> bool
+    requires operand { IsOperandTo d arrival.now }
     requires bits { bits < 2 ^ 127 }
-    ensures { IsTrue result ↔ (read arrival.now d <ₑ Extended.Fin (whole bits)) }
+    ensures { IsTrue result ↔ (value_at arrival.now d <ₑ Extended.Fin (whole bits)) }
 {
-    match read(arrival, d) {
+    match value_within(arrival, d) {
         Extended::Fin(value) => is_less(value, Frac::from_whole(bits as i128)),
         Extended::Inf => false,
     }
 }
 
 /// The first packet from which too many bits enter up to one.
-fn least_first(entries: &[Entering], arrival: &[Piece], last: usize) -> Option<usize>
+fn least_first(entries: &[Entering], arrival: &Curve, last: usize) -> Option<usize>
     requires in_range { last < length entries.now }
     requires reads { FlowReads arrival.now entries.now }
-    ensures { FindsFirst (read arrival.now) entries.now 0 last result }
+    ensures { FindsFirst (value_at arrival.now) entries.now 0 last result }
 {
     let end = entries[last].time;
     let mut bits: u128 = 0;
@@ -176,36 +176,73 @@ fn keeps_bucket(entries: &[Entering], bucket: &Bucket) -> bool
     true
 }
 
-/// Whether a curve is seen to be kept by the buckets of its pieces, in one pass for each. So a bucket, and each other
-/// curve that is the least of its lines, is seen where it is kept; another one may be kept all the same.
-fn keeps_buckets(entries: &[Entering], arrival: &[Piece]) -> bool
-    requires { FlowReads arrival.now entries.now }
-    ensures { IsTrue result → NoneCrowded (read arrival.now) entries.now (length entries.now) }
+/// The time from the first packet to the last, if it is seen to fit.
+fn reach_of(entries: &[Entering]) -> Option<Frac>
+    ensures { IfSome result (λ far. far ≡ last_time entries.now -ℚ first_time entries.now) }
 {
-    if arrival.len() > entries.len() {
+    let count = entries.len();
+    if count == 0 {
+        return None;
+    }
+    let back = count - 1;
+    let last = entries[back];
+    let first = entries[0];
+    match Frac::sub(last.time, first.time) {
+        Ok(far) => Some(far),
+        Err(_) => None,
+    }
+}
+
+/// Whether a piece starts too late to be read, or is seen to be kept by its bucket.
+fn keeps_piece(entries: &[Entering], far: Frac, piece: &Piece) -> bool
+    ensures { IsTrue result → piece.now.x ≤ℚ far → KeepsPiece entries.now piece.now }
+{
+    if is_less(far, piece.x) {
+        return true;
+    }
+    match bucket_of(piece) {
+        Some(bucket) => keeps_bucket(entries, &bucket),
+        None => false,
+    }
+}
+
+/// Whether all pieces are, in one pass for each.
+fn keeps_pieces(entries: &[Entering], far: Frac, pieces: &[Piece]) -> bool
+    ensures { IsTrue result → Each (λ p. p.x ≤ℚ far → KeepsPiece entries.now p) pieces.now }
+{
+    if pieces.len() > entries.len() {
         return false;
     }
-    for piece in arrival {
-        let Some(bucket) = bucket_of(piece) else {
-            return false;
-        };
-        if !keeps_bucket(entries, &bucket) {
+    for piece in pieces {
+        if !keeps_piece(entries, far, piece) {
             return false;
         }
     }
     true
 }
 
-/// The packets, first and last, between which more bits enter than the pieces of a curve have: with the least last one,
-/// and of those with the least first one. A curve that is the least of its lines and is kept takes one pass for each, and a
-/// stair n log n steps for n packets; else it looks at each pair once. Memory that is refused costs no answer, only time.
-pub fn first_crowded(
-    alloc: Global,
-    entries: &[Entering],
-    arrival: &[Piece],
-) -> Option<(usize, usize)>
+/// Whether a curve is seen to be kept by the buckets of its pieces, where no period of it ends in time. So a bucket, and each other
+/// curve that is the least of its lines, is seen where it is kept; another one may be kept all the same.
+fn keeps_buckets(entries: &[Entering], arrival: &Curve) -> bool
     requires { FlowReads arrival.now entries.now }
-    ensures { MatchOption result (NoneCrowded (read arrival.now) entries.now (length entries.now)) (λ p. IsFirstCrowded (read arrival.now) entries.now p.0 p.1) }
+    ensures { IsTrue result → NoneCrowded (value_at arrival.now) entries.now (length entries.now) }
+{
+    let Some(far) = reach_of(entries) else {
+        return false;
+    };
+    if !is_early(arrival, far) {
+        return false;
+    }
+    keeps_pieces(entries, far, arrival.pieces())
+}
+
+/// The packets, first and last, between which more bits enter than a curve has: with the least last one,
+/// and of those with the least first one. A curve that is the least of its lines and is kept takes one pass for each, and a
+/// stair n log n steps for n packets; else it looks at each pair once. No period is written out. Memory that is refused costs no
+/// answer, only time.
+pub fn first_crowded(alloc: Global, entries: &[Entering], arrival: &Curve) -> Option<(usize, usize)>
+    requires { FlowReads arrival.now entries.now }
+    ensures { MatchOption result (NoneCrowded (value_at arrival.now) entries.now (length entries.now)) (λ p. IsFirstCrowded (value_at arrival.now) entries.now p.0 p.1) }
 {
     if keeps_buckets(entries, arrival) {
         return None;

@@ -1,7 +1,7 @@
 //! The first of some breaches.
 
 ghost use Rattle.std.specs.Prelude.{◌≡◌, ◌≤◌, ◌^◌, List, length, IfOk};
-ghost use Rattle.affine_segment.specs.Reading.{read};
+ghost use Rattle.upp_curve.specs.Curve.{value_at};
 ghost use Rattle.run_laws.specs.Cards.{ServerStep};
 ghost use Rattle.run_laws.specs.Runs.{SpecRun};
 ghost use Rattle.run_laws.specs.Servers as servers;
@@ -14,7 +14,6 @@ ghost use Rattle.run_watch.specs.FirstOf.{earlier, IsBest, IsLongOn, IsCrowdOn, 
 use crate::flows::{first_crowded, first_too_long};
 use crate::service::first_idle;
 use crate::watched::Watched;
-use affine_segment::Piece;
 use fraction128::{Frac, is_less};
 use net_model::Breach;
 use std::alloc::{AllocError, Global};
@@ -67,16 +66,16 @@ pub fn size_breach(packets: &[Entering], flow: u32, longest: u32) -> Option<Foun
     }
 }
 
-/// The first pair of packets of a flow between which more bits enter than the pieces of a curve have.
+/// The first pair of packets of a flow between which more bits enter than a curve has.
 pub fn arrival_breach(
     alloc: Global,
     packets: &[Entering],
     flow: u32,
-    arrival: &[Piece],
+    arrival: &Curve,
 ) -> Option<Found>
     requires few { length packets.now ≤ 2 ^ 32 }
     requires reads { FlowReads arrival.now packets.now }
-    ensures { (run : SpecRun) → packets.now ≡ entries flow run.steps → EnterInOrder packets.now → IsBest (IsCrowdOn run flow (read arrival.now)) run result }
+    ensures { (run : SpecRun) → packets.now ≡ entries flow run.steps → EnterInOrder packets.now → IsBest (IsCrowdOn run flow (value_at arrival.now)) run result }
 {
     match first_crowded(alloc, packets, arrival) {
         None => None,

@@ -1,45 +1,26 @@
-//! How many packets keep a stair, by the steps that their bits fill against a line over the stair.
+//! How many packets keep a stair, by the steps that their bits fill against a line under the stair.
 
 ghost use Rattle.std.specs.Prelude.{◌≡◌, ℕ, ◌<◌, pos, length, drop, IfOk, IfSome, IsTrue};
-ghost use Rattle.rational.specs.Rational.{int, ◌+ℚ◌, ◌-ℚ◌, ◌*ℚ◌, ◌<ℚ◌};
-ghost use Rattle.affine_segment.specs.Reading.{read};
-ghost use Rattle.watch_laws.specs.Segments.{next_start};
+ghost use Rattle.rational.specs.Rational.{int, ◌+ℚ◌, ◌*ℚ◌, ◌≤ℚ◌, ◌<ℚ◌};
+ghost use Rattle.upp_curve.specs.Curve.{value_at};
 ghost use Rattle.run_watch.specs.Flows.{FlowReads, NoneCrowded};
-ghost use Rattle.run_watch.specs.Stairs.{first_time, last_time, IsCount, HasSteps, LineUpTo, IsStep, IsStepAt, IsStair};
+ghost use Rattle.run_watch.specs.Stairs.{start_or, IsCount, HasSteps, IsStep, IsStepAt, IsStair, RisesWith};
 
 use crate::flows::bucket_of;
 use crate::ramps::is_at_most;
-use crate::windows::next_start;
 use affine_segment::Piece;
-use fraction128::{Frac, Wide, is_less};
-use rational::Extended;
+use fraction128::{Frac, Wide, is_less, lesser};
 use std::alloc::Global;
 use step_lines::seen_upto;
+use upp_curve::{Curve, Tail};
 use watch_laws::Entering;
 
-/// A stair, and a line over it: steps of a height, and how many of them the line has, in steps.
+/// Steps of a height, and a line: how many of them it has, in steps.
 #[derive(Debug, Clone, Copy)]
 struct Stair {
     height: Frac,
     slack: Frac,
     rate: Frac,
-}
-
-/// The time from the first packet to the last, if it is seen to fit.
-fn reach_of(entries: &[Entering]) -> Option<Frac>
-    ensures { IfSome result (λ far. far ≡ last_time entries.now -ℚ first_time entries.now) }
-{
-    let count = entries.len();
-    if count == 0 {
-        return None;
-    }
-    let back = count - 1;
-    let last = entries[back];
-    let first = entries[0];
-    match Frac::sub(last.time, first.time) {
-        Ok(far) => Some(far),
-        Err(_) => None,
-    }
 }
 
 /// How many steps of a height fit under a value, if that is seen.
@@ -82,99 +63,105 @@ fn line_at(stair: &Stair, d: Frac) -> Result<Frac, Wide>
     Frac::add(stair.slack, risen)
 }
 
-/// Whether the line is seen to have at most `count` steps before the next piece, and fewer at `far` where there is none.
-fn is_line_up_to(stair: &Stair, far: Frac, count: Frac, next: Option<Frac>) -> bool
-    ensures { IsTrue result → LineUpTo stair.now.slack stair.now.rate far count next }
+/// Whether the line is seen to have at most `count` steps by the end of a piece.
+fn is_line_up_to(stair: &Stair, count: Frac, end: Frac) -> bool
+    ensures { IsTrue result → stair.now.slack +ℚ stair.now.rate *ℚ end ≤ℚ count }
 {
-    match next {
-        Some(x) => match line_at(stair, x) {
-            Ok(value) => is_at_most(value, count),
-            Err(_) => false,
-        },
-        None => match line_at(stair, far) {
-            Ok(value) => is_less(value, count),
-            Err(_) => false,
-        },
+    match line_at(stair, end) {
+        Ok(value) => is_at_most(value, count),
+        Err(_) => false,
     }
 }
 
-/// Whether a piece is seen to have a step for each of the line, and one more.
-fn is_step(stair: &Stair, far: Frac, piece: &Piece, next: Option<Frac>) -> bool
+/// Whether a piece that ends at `end` is seen to have a step for each of the line, and one more.
+fn is_step(stair: &Stair, piece: &Piece, end: Frac) -> bool
     requires { int (pos 0) <ℚ stair.now.height }
-    ensures { IsTrue result → IsStep stair.now.height stair.now.slack stair.now.rate far piece.now next }
+    ensures { IsTrue result → IsStep stair.now.height stair.now.slack stair.now.rate piece.now end }
 {
     match steps_of(stair.height, piece) {
-        Some(count) => is_line_up_to(stair, far, count, next),
+        Some(count) => is_line_up_to(stair, count, end),
         None => false,
     }
 }
 
-/// Whether all pieces are.
-fn are_steps(stair: &Stair, far: Frac, pieces: &[Piece]) -> bool
+/// Where the piece of a number starts; `end` where there is none.
+fn start_or(pieces: &[Piece], i: usize, end: Frac) -> Frac
+    ensures { result ≡ start_or end (drop i pieces.now) }
+{
+    match pieces.get(i) {
+        Some(p) => p.x,
+        None => end,
+    }
+}
+
+/// Whether all pieces are; the last one ends at `end`.
+fn are_steps(stair: &Stair, end: Frac, pieces: &[Piece]) -> bool
     requires { int (pos 0) <ℚ stair.now.height }
-    ensures { IsTrue result → (i : ℕ) → i < length pieces.now → IsStepAt stair.now.height stair.now.slack stair.now.rate far (drop i pieces.now) }
+    ensures { IsTrue result → (i : ℕ) → i < length pieces.now → IsStepAt stair.now.height stair.now.slack stair.now.rate end (drop i pieces.now) }
 {
     for i in 0..pieces.len() {
-        if !is_step(stair, far, &pieces[i], next_start(pieces, i + 1)) {
+        if !is_step(stair, &pieces[i], start_or(pieces, i + 1, end)) {
             return false;
         }
     }
     true
 }
 
-/// Where the first piece begins that begins above a value, and its value there. Pieces of one step may follow each other where a
-/// period of the curve ends within it.
-fn step_above(pieces: &[Piece], value: Frac) -> Option<(Frac, Frac)> {
-    for piece in pieces {
-        if let Extended::Fin(high) = piece.at {
-            if is_less(value, high) {
-                return Some((piece.x, high));
-            }
-        }
-    }
-    None
+/// How much slack a line may have to be at most the steps of a piece by its end, if that is seen.
+fn room_under(height: Frac, rate: Frac, piece: &Piece, end: Frac) -> Option<Frac>
+    requires { int (pos 0) <ℚ height }
+{
+    let count = steps_of(height, piece)?;
+    let risen = Frac::mul(rate, end).ok()?;
+    Frac::sub(count, risen).ok()
 }
 
-/// How long a step lasts that begins at `start`: up to the next one. Where there is none, it is as long as it may be and still
-/// have one step over no more than `far`.
-fn period_of(start: Frac, next: Option<(Frac, Frac)>, far: Frac) -> Result<Frac, Wide> {
-    match next {
-        Some((end, _)) => Frac::sub(end, start),
-        None => Frac::add(start, far),
+/// The lesser of a number and of one that may be missing.
+fn lesser_of(least: Option<Frac>, room: Frac) -> Frac {
+    match least {
+        Some(least) => lesser(least, room),
+        None => room,
     }
 }
 
-/// The stair that some pieces begin with, and the line over it, if they begin with one: whatever it is, it is tried.
-fn stair_of(pieces: &[Piece], far: Frac) -> Option<Stair> {
-    let [first, ..] = pieces else {
-        return None;
-    };
-    let Extended::Fin(low) = first.at else {
-        return None;
-    };
-    let (start, high) = step_above(pieces, low)?;
-    let height = Frac::sub(high, low).ok()?;
-    let period = period_of(start, step_above(pieces, high), far).ok()?;
-    if !is_less(Frac::zero(), height) {
+/// The most slack of a line under all pieces, if that is seen.
+fn slack_under(height: Frac, rate: Frac, end: Frac, pieces: &[Piece]) -> Option<Frac>
+    requires { int (pos 0) <ℚ height }
+{
+    let mut least = None;
+    for i in 0..pieces.len() {
+        let room = room_under(height, rate, &pieces[i], start_or(pieces, i + 1, end))?;
+        least = Some(lesser_of(least, room));
+    }
+    least
+}
+
+/// The highest line under pieces that repeat, with a step more in each period, if one is found: it is tried whether it is under them.
+fn stair_of(pieces: &[Piece], end: Frac, period: Frac, rise: Frac) -> Option<Stair>
+    ensures { IfSome result (λ s. RisesWith s.height s.rate period rise) }
+{
+    if !is_less(Frac::zero(), rise) {
         return None;
     }
     if !is_less(Frac::zero(), period) {
         return None;
     }
-    let rate = Frac::div(Frac::one(), period).ok()?;
-    let count = count_under(height, low)?;
-    let risen = Frac::mul(rate, start).ok()?;
-    let slack = Frac::sub(count, risen).ok()?;
+    let Ok(rate) = Frac::div(Frac::one(), period) else {
+        return None;
+    };
+    let Some(slack) = slack_under(rise, rate, end, pieces) else {
+        return None;
+    };
     Some(Stair {
-        height,
+        height: rise,
         slack,
         rate,
     })
 }
 
 /// Whether all pieces have the stair's steps, whose numbers make sense.
-fn is_stair(stair: &Stair, far: Frac, pieces: &[Piece]) -> bool
-    ensures { IsTrue result → IsStair stair.now.height stair.now.slack stair.now.rate far pieces.now }
+fn is_stair(stair: &Stair, end: Frac, pieces: &[Piece]) -> bool
+    ensures { IsTrue result → IsStair stair.now.height stair.now.slack stair.now.rate end pieces.now }
 {
     if !is_less(Frac::zero(), stair.height) {
         return false;
@@ -185,22 +172,26 @@ fn is_stair(stair: &Stair, far: Frac, pieces: &[Piece]) -> bool
     if is_less(stair.slack, Frac::zero()) {
         return false;
     }
-    are_steps(stair, far, pieces)
+    are_steps(stair, end, pieces)
 }
 
-/// How many of the first packets are seen to keep a stair, if that is looked at: where its steps are all of one height and come at
-/// one pace, in n log n steps for n packets and one pass over the pieces. The next packet may keep it all the same.
-pub(crate) fn kept_upto(alloc: Global, entries: &[Entering], arrival: &[Piece]) -> Option<usize>
+/// How many of the first packets are seen to keep a stair, if that is looked at: where a curve rises by one step in each period, in
+/// n log n steps for n packets, and no period is written out. The next packet may keep it all the same.
+pub(crate) fn kept_upto(alloc: Global, entries: &[Entering], arrival: &Curve) -> Option<usize>
     requires { FlowReads arrival.now entries.now }
-    ensures { IfSome result (NoneCrowded (read arrival.now) entries.now) }
+    ensures { IfSome result (NoneCrowded (value_at arrival.now) entries.now) }
 {
-    let Some(far) = reach_of(entries) else {
+    let Tail::Periodic { rank, period, rise } = *arrival.tail() else {
         return None;
     };
-    let Some(stair) = stair_of(arrival, far) else {
+    let Ok(end) = Frac::add(rank, period) else {
         return None;
     };
-    if !is_stair(&stair, far, arrival) {
+    let pieces = arrival.pieces();
+    let Some(stair) = stair_of(pieces, end, period, rise) else {
+        return None;
+    };
+    if !is_stair(&stair, end, pieces) {
         return None;
     }
     seen_upto(alloc, entries, stair.height, stair.slack, stair.rate)

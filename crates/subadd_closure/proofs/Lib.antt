@@ -21,6 +21,9 @@ pub mod SegmentLimits
 pub mod FoldShapes
 pub mod FoldLists
 pub mod FirstElements
+pub mod FoldMemory
+pub mod QuickLate
+pub mod QuickCurves
 pub mod FoldSteps
 pub mod WorkedSegments
 pub mod ClosedValues

@@ -43,7 +43,7 @@ one_cause f (Some k) TooWide TooWide a b m n = refl
 one_cause f (Some k) TooWide NoMemory a b m n = absurd (n refl)
 one_cause f (Some k) NoMemory e a b m n = absurd (m refl)
 
-one_closure : (e : Element) (c d : SpecCurve) → IsElementClosure e c → IsElementClosure e d → c ≡ d
+pub one_closure : (e : Element) (c d : SpecCurve) → IsElementClosure e c → IsElementClosure e d → c ≡ d
 one_closure e c d a b =
     normal_unique c d a.normal b.normal (λ t h. infimum_unique _ (value_at c t) (value_at d t) (a.closes t h) (b.closes t h))
 

@@ -8,4 +8,6 @@ pub mod Tests
 pub mod Stars
 pub mod PartStars
 pub mod FoldWork
+pub mod FoldMemory
+pub mod QuickBounds
 pub mod SegmentLimits

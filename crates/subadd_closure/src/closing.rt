@@ -1,6 +1,6 @@
 //! The subadditive closure of a curve: the fold of the stars of its parts.
 
-ghost use Rattle.std.specs.Prelude.{◌≡◌, ◌+◌, ◌<◌, ◌≤◌, map, length, All, IfOk};
+ghost use Rattle.std.specs.Prelude.{◌≡◌, ◌+◌, ◌<◌, ◌≤◌, map, length, All, IfOk, Err};
 ghost use Rattle.rational.specs.Rational.{ℚ, ◌≤ℚ◌};
 ghost use Rattle.upp_curve.specs.Curve.{value_at};
 ghost use Rattle.min_plus.specs.Convolution.{IsSubadditiveClosure};
@@ -12,6 +12,7 @@ ghost use Rattle.curve_call.specs.Calls.{Applies, Then};
 ghost use Rattle.closure_laws.specs.ClosureLaws.{ClosureKeeps};
 ghost use Rattle.subadd_closure.specs.CurveParts.{pieces_end, part_of};
 ghost use Rattle.subadd_closure.specs.Folds.{PartAnswer, PartsAnswer, CloseAnswer};
+ghost use Rattle.subadd_closure.specs.FoldMemory.{StopsAt, PartsWant, CloseWants};
 ghost use Rattle.subadd_closure.specs.FoldWork.{part_work, parts_work, fold_work};
 ghost use Rattle.subadd_closure.specs.SegmentLimits.{IsElementOf, IsOwnGauge};
 
@@ -19,9 +20,9 @@ use crate::from_start::convolve_from;
 use crate::overlaps::own_gauge;
 use crate::part::elements;
 use crate::part_stars::element_star;
+use crate::star_convolution::convolve_stars;
 use affine_segment::Element;
 use curve_call::seen;
-use curve_conv::convolve;
 use fraction128::Frac;
 use rational::Extended;
 use std::alloc::Global;
@@ -44,12 +45,14 @@ fn with_star<L: Ledger>(
     requires nonneg { IsNonnegative (value_at f.now) }
     requires gauge { IsOwnGauge f.now gauge }
     ensures answer { Then (PartAnswer f.now (part_of f.now.tail e.now)) (λ c. Applies Convolve sofar.now c) result }
+    ensures memory { result ≡ Err OpFault.NoMemory
+        → StopsAt f.now sofar.now (part_of f.now.tail e.now) steps.old steps.new }
     ensures rises { steps.old ≤ steps.new }
     ensures most { steps.new ≤ steps.old + (part_work (part_of f.now.tail e.now) + 1) }
     ensures all { IfOk result (λ _. steps.new ≡ steps.old + (part_work (part_of f.now.tail e.now) + 1)) }
 {
     let star = element_star(alloc, f, gauge, e, steps)?;
-    seen(convolve(alloc, sofar, &star, steps))
+    seen(convolve_stars(alloc, sofar, &star, steps))
 }
 
 // The stars of some elements, convolved one after another.
@@ -66,6 +69,8 @@ fn folded<L: Ledger>(
     requires nonneg { IsNonnegative (value_at f.now) }
     requires gauge { IsOwnGauge f.now gauge }
     ensures answer { PartsAnswer f.now (map (part_of f.now.tail) es.now) result }
+    ensures memory { result ≡ Err OpFault.NoMemory
+        → PartsWant f.now (map (part_of f.now.tail) es.now) steps.old steps.new }
     ensures rises { steps.old ≤ steps.new }
     ensures most { steps.new ≤ steps.old + parts_work (map (part_of f.now.tail) es.now) }
     ensures all { IfOk result (λ _. steps.new ≡ steps.old + parts_work (map (part_of f.now.tail) es.now)) }
@@ -100,6 +105,7 @@ fn closed<L: Ledger>(
     requires nonneg { IsNonnegative (value_at f.now) }
     requires curve { IsCurve f.now }
     ensures answer { CloseAnswer f.now result }
+    ensures memory { result ≡ Err OpFault.NoMemory → CloseWants f.now steps.old steps.new }
     ensures rises { steps.old ≤ steps.new }
     ensures within { steps.new ≤ steps.old + fold_work f.now }
     ensures exact { IfOk result (λ _. steps.new ≡ steps.old + fold_work f.now) }
@@ -117,7 +123,8 @@ fn closed<L: Ledger>(
 /// closure, lowered by the point 0 at 0; and these are convolved in the order of their starts, with the value at 0 set
 /// back to f at 0. Refused with TooWide or TooMany exactly where the first operator of that fold that is over a limit
 /// is over that one: an open segment after 0 that has an end has an operator of its own, before the calls on curves.
-/// Else only for want of memory. Each call on curves counts one step.
+/// Else only for want of memory, and then each call that is counted is within its limits. Each call on curves counts one
+/// step.
 pub fn close<L: Ledger>(alloc: Global, f: &Curve, steps: &mut Steps<L>) -> Result<Curve, OpFault>
     requires finite { IsFinite (value_at f.now) }
     requires nonneg { IsNonnegative (value_at f.now) }
@@ -126,6 +133,7 @@ pub fn close<L: Ledger>(alloc: Global, f: &Curve, steps: &mut Steps<L>) -> Resul
         → IsSubadditiveClosure (value_at f.now) t (value_at h t)) }
     ensures keeps { IfOk result (λ h. ClosureKeeps (value_at f.now) (value_at h)) }
     ensures answer { CloseAnswer f.now result }
+    ensures memory { result ≡ Err OpFault.NoMemory → CloseWants f.now steps.old steps.new }
     ensures rises { steps.old ≤ steps.new }
     ensures within { steps.new ≤ steps.old + fold_work f.now }
     ensures exact { IfOk result (λ _. steps.new ≡ steps.old + fold_work f.now) }

@@ -11,9 +11,9 @@ ghost use Rattle.subadd_closure.specs.StartsAt.{ConvolvesFinitely, ConvolvesPast
 
 use crate::again::{slower_rise, window_of};
 use crate::parts::{repeats_start, with_first};
+use crate::star_convolution::{convolve_stars, star_frame};
 use crate::starting::with_start;
 use curve_call::{Frame, answer, seen};
-use curve_conv::{convolve, convolve_frame};
 use fraction128::{Frac, difference};
 use rational::Extended;
 use std::alloc::{AllocError, Global};
@@ -96,11 +96,11 @@ pub fn convolve_from<L: Ledger>(
     ensures count { steps.new ≡ steps.old + 1 }
     ensures answer { Then (Applies Convolve sofar.now star.now) (StartsAt start) result }
 {
-    let whole = seen(convolve(alloc, sofar, star, steps))?;
+    let whole = seen(convolve_stars(alloc, sofar, star, steps))?;
     if begins_at(&whole, start) {
         return Ok(whole);
     }
-    let frame = convolve_frame(alloc, sofar, star)?;
+    let frame = star_frame(alloc, sofar, star)?;
     let started = match started_within(alloc, sofar, star, &frame, start) {
         Ok(c) => Ok(c),
         Err(_) => Err(OpFault::NoMemory),

@@ -10,6 +10,8 @@ mod overlaps;
 mod part;
 mod part_stars;
 mod parts;
+mod quick_bounds;
+mod star_convolution;
 mod stars;
 mod starting;
 mod subadditive;

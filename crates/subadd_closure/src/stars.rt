@@ -1,19 +1,22 @@
 //! The stars of a curve's elements: the closure of an element, of a periodic tail with all its copies, lowered by the
 //! point 0 at 0.
 
-ghost use Rattle.std.specs.Prelude.{◌≡◌, ◌+◌, ◌≤◌, ◌^◌, IfOk, Some};
+ghost use Rattle.std.specs.Prelude.{◌≡◌, ◌+◌, ◌≤◌, ◌^◌, IfOk, Some, None, Err};
 ghost use Rattle.rational.specs.Rational.{◌<ℚ◌, ◌≤ℚ◌, ◌/ℚ◌};
 ghost use Rattle.rational.specs.Ratio.{IsSmall};
 ghost use Rattle.affine_segment.specs.declared.element.Element.TheVariants.{Point, Open};
 ghost use Rattle.min_plus.specs.Functions.{zero_q};
+ghost use Rattle.upp_limits.specs.declared.op_kind.OpKind.TheVariants.{Convolve};
+ghost use Rattle.curve_call.specs.Calls.{Applies};
+ghost use Rattle.closure_elements.specs.Lattices.{lattice_curve};
 ghost use Rattle.affine_segment.specs.Fits.{LineFitsAt};
 ghost use Rattle.closure_elements.specs.ElementAnswers.{IsOpenPart};
-ghost use Rattle.subadd_closure.specs.Stars.{Copies, IsTurn, Lowers, MakesStar, StarOf, turn_work};
+ghost use Rattle.subadd_closure.specs.Stars.{Copies, ElementWants, IsTurn, Lowers, MakesStar, StarOf, StarWants, turn_work};
 
+use crate::star_convolution::convolve_stars;
 use affine_segment::Line;
 use closure_elements::{lattice, origin, point_closure, segment_closure};
 use curve_call::seen;
-use curve_conv::convolve;
 use curve_pointwise::min;
 use fraction128::{Ext, Frac};
 use std::alloc::Global;
@@ -25,6 +28,7 @@ use upp_limits::OpFault;
 // A curve lowered by the point 0 at 0.
 fn lowered<L: Ledger>(alloc: Global, c: &Curve, steps: &mut Steps<L>) -> Result<Curve, OpFault>
     ensures answer { Lowers c.now result }
+    ensures memory { result ≡ Err OpFault.NoMemory → StarWants None c.now steps.old steps.new }
     ensures rises { steps.old ≤ steps.new }
     ensures most { steps.new ≤ steps.old + 1 }
     ensures all { IfOk result (λ _. steps.new ≡ steps.old + 1) }
@@ -42,12 +46,14 @@ fn copied<L: Ledger>(
 ) -> Result<Curve, OpFault>
     requires { IsTurn (Some turn) }
     ensures answer { Copies turn c.now result }
+    ensures memory { result ≡ Err OpFault.NoMemory → steps.new ≡ steps.old + 1
+        → Applies Convolve c.now (lattice_curve turn.0 turn.1) (Err OpFault.NoMemory) }
     ensures rises { steps.old ≤ steps.new }
     ensures most { steps.new ≤ steps.old + 1 }
     ensures all { IfOk result (λ _. steps.new ≡ steps.old + 1) }
 {
     let points = lattice(alloc, turn.0, turn.1)?;
-    seen(convolve(alloc, c, &points, steps))
+    seen(convolve_stars(alloc, c, &points, steps))
 }
 
 // The star of an element, from its closure.
@@ -59,6 +65,7 @@ fn star_of<L: Ledger>(
 ) -> Result<Curve, OpFault>
     requires { IsTurn turn }
     ensures answer { StarOf turn c.now result }
+    ensures memory { result ≡ Err OpFault.NoMemory → StarWants turn c.now steps.old steps.new }
     ensures rises { steps.old ≤ steps.new }
     ensures most { steps.new ≤ steps.old + turn_work turn }
     ensures all { IfOk result (λ _. steps.new ≡ steps.old + turn_work turn) }
@@ -86,6 +93,7 @@ pub(crate) fn point_star<L: Ledger>(
     requires value { zero_q ≤ℚ v }
     requires turn { IsTurn turn }
     ensures answer { MakesStar turn (Point x v) result }
+    ensures memory { result ≡ Err OpFault.NoMemory → ElementWants turn (Point x v) steps.old steps.new }
     ensures rises { steps.old ≤ steps.new }
     ensures most { steps.new ≤ steps.old + turn_work turn }
     ensures all { IfOk result (λ _. steps.new ≡ steps.old + turn_work turn) }
@@ -109,6 +117,7 @@ pub(crate) fn segment_star<L: Ledger>(
     requires few { m + 3 ≤ 2 ^ 19 }
     requires turn { IsTurn turn }
     ensures answer { MakesStar turn (Open a b line.now) result }
+    ensures memory { result ≡ Err OpFault.NoMemory → ElementWants turn (Open a b line.now) steps.old steps.new }
     ensures rises { steps.old ≤ steps.new }
     ensures most { steps.new ≤ steps.old + turn_work turn }
     ensures all { IfOk result (λ _. steps.new ≡ steps.old + turn_work turn) }

@@ -1,9 +1,9 @@
 //! Whether a curve is subadditive.
 
-ghost use Rattle.std.specs.Prelude.{◌≡◌, ◌+◌, ◌≤◌, ◌↔◌, IfOk, IsTrue};
+ghost use Rattle.std.specs.Prelude.{◌≡◌, ◌+◌, ◌≤◌, ◌↔◌, IfOk, IsTrue, Err};
 ghost use Rattle.upp_curve.specs.Curve.{value_at};
 ghost use Rattle.min_plus.specs.Convolution.{IsSubadditive};
-ghost use Rattle.subadd_closure.specs.Tests.{TestsSubadditive};
+ghost use Rattle.subadd_closure.specs.Tests.{TestsSubadditive, TestWants};
 
 use curve_call::seen;
 use curve_conv::convolve;
@@ -17,7 +17,7 @@ use upp_limits::OpFault;
 /// Whether f(s + u) is at most f(s) + f(u) for all times s and u from 0 on (Le Boudec and Thiran, chapter 3); f may be
 /// infinite anywhere. Two operators, one step each: the convolution of f with itself, and the lesser of f and that,
 /// which is f exactly where f is subadditive. A refusal is that of the first of the two that is over its limit, with
-/// TooWide or TooMany, or want of memory.
+/// TooWide or TooMany, or want of memory, and then each call that is counted is within its limits.
 pub fn is_subadditive<L: Ledger>(
     alloc: Global,
     f: &Curve,
@@ -25,6 +25,7 @@ pub fn is_subadditive<L: Ledger>(
 ) -> Result<bool, OpFault>
     ensures value { IfOk result (λ b. IsTrue b ↔ IsSubadditive (value_at f.now)) }
     ensures limits { TestsSubadditive f.now result }
+    ensures memory { result ≡ Err OpFault.NoMemory → TestWants f.now steps.old steps.new }
     ensures least { steps.old + 1 ≤ steps.new }
     ensures most { steps.new ≤ steps.old + 2 }
     ensures all { IfOk result (λ _. steps.new ≡ steps.old + 2) }

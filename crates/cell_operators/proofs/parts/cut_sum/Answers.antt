@@ -9,6 +9,9 @@ use Rattle.net_cells.specs.Formulas.{cut}
 use Rattle.cell_table.specs.Values.{answer_of}
 use Rattle.queue_hops.proofs.Choosing.{part_picked}
 use Rattle.cell_operators.specs.Evaluates.{Counts}
+use Rattle.rational.specs.Rational.{◌≤ℚ◌}
+use Rattle.min_plus.specs.Functions.{zero_q}
+use Rattle.cell_operators.proofs.LinkRates.{rate_low}
 use Rattle.cell_operators.proofs.PartSteps.{cut_is}
 use Rattle.cell_operators.proofs.parts.cut_sum.Goals as goal
 
@@ -48,3 +51,7 @@ returns-in-Ok-clause-counts g c = λ at.
 pub returns-in-Err-clause-counts : goal.returns-in-Err-clause-counts
 returns-in-Err-clause-counts g c = λ at.
     subst (λ r. Counts 1 c.args.steps.now c.cut.new.steps (answer_of curve r)) c.in-Err.is c.cut.ensures.counts
+
+pub cut-requires : goal.cut-requires
+cut-requires g c =
+    subst (λ x. zero_q ≤ℚ x) (sym c.rate-rate.ensures) (rate_low c.args.net.now (c.args.part - 1) c.keeps.ensures)

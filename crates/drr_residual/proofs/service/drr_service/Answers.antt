@@ -1,8 +1,9 @@
-use Rattle.std.proofs.Common.{Err, refl, subst}
+use Rattle.std.proofs.Common.{◌≡◌, ◌+◌, Ok, Err, refl, subst, arith}
 use Rattle.std.proofs.lemmas.Result.{err_from_is_err_and}
 use Rattle.upp_limits.specs.declared.op_kind.OpKind.TheVariants.{Scale, PosMinus}
 use Rattle.curve_call.specs.Calls.{AppliesTo, stops}
 use Rattle.curve_call.proofs.Applied.{applied_seen}
+use Rattle.residual_laws.specs.DrrCalls.{owed_in}
 use Rattle.residual_laws.proofs.DrrCalls.{made, scaled_finite, ok_service}
 use Rattle.drr_residual.proofs.service.drr_service.Goals as goal
 
@@ -48,3 +49,23 @@ returns-clause-value g c =
     (made c.args.beta.now c.in_ok-scaled.scaled c.args.quanta.now c.args.longest.now c.args.queue
     c.turn_of-turn.result.share c.turn_of-turn.result.owed c.seen-2.result
     c.turn_of-turn.ensures.share c.turn_of-turn.ensures.owed (rw c.in_ok-scaled.was at first) second)
+
+pub returns-in_err-scaled-clause-memory : goal.returns-in_err-scaled-clause-memory
+returns-in_err-scaled-clause-memory g c is both =
+    let one = c.scale.ensures.count in
+    absurd (omega (arith, one, both))
+
+pub returns-clause-memory : goal.returns-clause-memory
+returns-clause-memory g c is both =
+    let first = applied_seen (Scale c.turn_of-turn.result.share) c.args.beta.now c.args.beta.now c.scale.result
+    c.seen.result c.seen.ensures.same
+    c.scale.ensures.value c.scale.ensures.limits c.seen.ensures.kept in
+    let second = applied_seen (PosMinus c.turn_of-turn.result.owed) c.in_ok-scaled.scaled c.in_ok-scaled.scaled
+    c.pos_minus.result c.seen-2.result
+    c.seen-2.ensures.same c.pos_minus.ensures.value c.pos_minus.ensures.limits c.seen-2.ensures.kept in (
+      c.in_ok-scaled.scaled,
+      subst (λ q. AppliesTo (Scale q) c.args.beta.now (Ok c.in_ok-scaled.scaled)) c.turn_of-turn.ensures.share
+          (rw c.in_ok-scaled.was at first),
+      subst (λ r. AppliesTo (PosMinus (owed_in c.args.quanta.now c.args.longest.now c.args.queue)) c.in_ok-scaled.scaled r) is
+          (subst (λ l. AppliesTo (PosMinus l) c.in_ok-scaled.scaled c.seen-2.result) c.turn_of-turn.ensures.owed second),
+    )

@@ -1,8 +1,10 @@
-use Rattle.std.proofs.Common.{refl, subst}
+use Rattle.std.proofs.Common.{◌≡◌, ◌+◌, Err, refl, subst, arith}
 use Rattle.std.proofs.lemmas.Result.{err_from_is_err_and}
 use Rattle.upp_limits.specs.declared.op_kind.OpKind.TheVariants.{PosDiff, PosMinus}
+use Rattle.upp_limits.specs.declared.op_kind.OpFault.TheVariants.{NoMemory}
 use Rattle.curve_call.specs.Calls.{AppliesTo, goes_on, stops}
 use Rattle.curve_call.proofs.Applied.{applied_seen}
+use Rattle.run_laws.specs.Cards.{whole}
 use Rattle.residual_laws.proofs.PriorityCalls.{difference_finite}
 use Rattle.priority_residual.proofs.service.priority_left.Goals as goal
 
@@ -32,3 +34,22 @@ returns-clause-answer g c =
     c.seen-2.ensures.same c.pos_minus.ensures.value c.pos_minus.ensures.limits c.seen-2.ensures.kept in
     goes_on c.in_ok-above.above (rw c.in_ok-above.was at first)
     (subst (λ l. AppliesTo (PosMinus l) c.in_ok-above.above c.seen-2.result) c.whole.ensures second)
+
+pub returns-in_err-above-clause-memory : goal.returns-in_err-above-clause-memory
+returns-in_err-above-clause-memory g c is both =
+    let one = c.pos_diff.ensures.count in
+    absurd (omega (arith, one, both))
+
+pub returns-clause-memory : goal.returns-clause-memory
+returns-clause-memory g c is both =
+    let first = applied_seen PosDiff c.args.beta.now c.args.higher.now c.pos_diff.result c.seen.result
+    c.seen.ensures.same c.pos_diff.ensures.value
+    c.pos_diff.ensures.limits c.seen.ensures.kept in
+    let second = applied_seen (PosMinus c.whole.result) c.in_ok-above.above c.in_ok-above.above c.pos_minus.result
+    c.seen-2.result
+    c.seen-2.ensures.same c.pos_minus.ensures.value c.pos_minus.ensures.limits c.seen-2.ensures.kept in (
+      c.in_ok-above.above,
+      rw c.in_ok-above.was at first,
+      subst (λ r. AppliesTo (PosMinus (whole c.args.lower)) c.in_ok-above.above r) is
+          (subst (λ l. AppliesTo (PosMinus l) c.in_ok-above.above c.seen-2.result) c.whole.ensures second),
+    )

@@ -1,7 +1,8 @@
-use Rattle.std.proofs.Common.{◌≡◌, ◌+◌, arith, refl}
+use Rattle.std.proofs.Common.{◌≡◌, ◌+◌, Err, arith, refl, sym, ap, subst, ◌∙◌}
+use Rattle.upp_limits.specs.declared.op_kind.OpFault.TheVariants.{NoMemory}
 use Rattle.std.proofs.lemmas.Result.{err_from_is_err_and}
 use Rattle.upp_limits.specs.declared.op_kind.OpKind.TheVariants.{RunSup}
-use Rattle.curve_call.specs.Calls.{goes_on, stops}
+use Rattle.curve_call.specs.Calls.{AppliesTo, goes_on, stops}
 use Rattle.curve_call.proofs.Applied.{applied_seen, if_ok}
 use Rattle.residual_laws.proofs.PriorityCalls.{left_finite, left_nonneg, ok_service}
 use Rattle.priority_residual.proofs.service.priority_service.Goals as goal
@@ -42,3 +43,26 @@ returns-clause-all g c =
       c.run_sup.ensures.count,
     ) in
     if_ok c.seen.result steps
+
+pub returns-in_err-left-clause-memory : goal.returns-in_err-left-clause-memory
+returns-in_err-left-clause-memory g c is =
+    let p = err_from_is_err_and c.from_residual.result c.from_residual.ensures.1 in
+    let most = c.in_err-left.ensures.most in
+    let same = sym p.1 ∙ is in (
+      c.in_err-left.ensures.memory (let fault : c.in_err-left.field-0.0 ≡ NoMemory = cc in ap Err fault),
+      λ three. absurd (omega (arith, most, three)),
+    )
+
+pub returns-clause-memory : goal.returns-clause-memory
+returns-clause-memory g c is =
+    let all = c.in_ok-left.ensures.all in
+    let one = c.run_sup.ensures.count in
+    let last = applied_seen RunSup c.in_ok-left.left c.in_ok-left.left c.run_sup.result c.seen.result c.seen.ensures.same
+    c.run_sup.ensures.value c.run_sup.ensures.limits c.seen.ensures.kept in (
+      λ two. absurd (omega (arith, all, one, two)),
+      λ three. (
+        c.in_ok-left.left,
+        c.in_ok-left.ensures.answer,
+        subst (λ r. AppliesTo RunSup c.in_ok-left.left r) is last,
+      ),
+    )

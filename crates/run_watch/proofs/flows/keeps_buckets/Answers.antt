@@ -1,11 +1,14 @@
-use Rattle.std.proofs.Common.{refl}
-use Rattle.run_watch.proofs.Buckets.{KeepsPiece, keeps_piece, pieces_push, none_crowded}
+use Rattle.std.proofs.Common.{List, refl, subst}
+use Rattle.rational.specs.Rational.{◌≤ℚ◌}
+use Rattle.affine_segment.specs.declared.line.Piece.{Piece}
+use Rattle.affine_segment.specs.Pieces.{Each}
+use Rattle.run_watch.specs.Flows.{KeepsPiece}
+use Rattle.run_watch.proofs.Buckets.{none_crowded}
 use Rattle.run_watch.proofs.flows.keeps_buckets.Goals as goal
 
-pub loop-piece-preserved : goal.loop-piece-preserved
-loop-piece-preserved c =
-    pieces_push (KeepsPiece c.args.entries.now) c.args.arrival.now c.loop-piece.piece-index c.piece-item.result c.loop-piece-test.true c.piece-item.is c.loop-piece.invariant
-    (keeps_piece c.args.entries.now c.piece-item.result c.in-Some.bucket.burst c.in-Some.bucket.rate c.in-Some.ensures (c.if-not-keeps_bucket.ensures refl))
-
 pub returns : goal.returns
-returns c = λ yes. none_crowded c.args.arrival.now c.args.entries.now c.loop-piece.piece-index c.requires c.loop-piece-test.false c.loop-piece.invariant
+returns c = λ yes.
+    let far = c.in-Some.far in
+    let es = c.args.entries.now in
+    none_crowded c.args.arrival.now es far c.requires c.pieces.ensures.kept c.in-Some.ensures (c.if-not-is_early.ensures.0 refl)
+    (subst (λ (ps : List Piece). Each (λ p. p.x ≤ℚ far → KeepsPiece es p) ps) c.pieces.ensures.pieces (c.keeps_pieces.ensures yes))

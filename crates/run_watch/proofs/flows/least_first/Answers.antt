@@ -1,9 +1,9 @@
 use Rattle.std.proofs.Common.{◌≡◌, ℕ, suc, ◌+◌, ◌-◌, ◌≤◌, refl, sym, subst, true≢false, arith}
-use Rattle.affine_segment.specs.Reading.{read}
+use Rattle.upp_curve.specs.Curve.{value_at}
 use Rattle.watch_laws.specs.Entries.{bits_between}
 use Rattle.run_watch.specs.Flows.{FindsFirst}
 use Rattle.run_watch.proofs.EntryLists.{bits_past}
-use Rattle.run_watch.proofs.LeastFirst.{reads_at, window_nonneg, window_reads, bits_grow, crowded_here, none_past, found_here, found_still}
+use Rattle.run_watch.proofs.LeastFirst.{reads_at, window_reads, bits_grow, crowded_here, none_past, found_here, found_still}
 use Rattle.run_watch.proofs.flows.least_first.Goals as goal
 use Rattle.run_watch.proofs.flows.least_first.Goals.{then-is_over, else-is_over}
 
@@ -11,25 +11,15 @@ pub loop-back-init : goal.loop-back-init
 loop-back-init c = (
   sym (bits_past (c.args.last + 1 - 0) c.args.last c.args.entries.now (omega arith)),
   omega arith,
-  none_past (read c.args.arrival.now) c.args.entries.now (c.args.last + 1 - 0) c.args.last (omega arith),
+  none_past (value_at c.args.arrival.now) c.args.entries.now (c.args.last + 1 - 0) c.args.last (omega arith),
 )
 
 pub difference-requires : goal.difference-requires
 difference-requires c =
     (reads_at c.args.arrival.now c.args.entries.now (c.args.last - c.loop-back.back) c.args.last c.index-entries-last.result c.index-entries-first.result c.requires.reads (omega arith) c.requires.in_range c.index-entries-first.is).fits
 
-pub is_over-requires-clause-time : goal.is_over-requires-clause-time
-is_over-requires-clause-time c =
-    window_nonneg c.args.arrival.now _ _ c.difference.result
-    (reads_at c.args.arrival.now c.args.entries.now (c.args.last - c.loop-back.back) c.args.last c.index-entries-last.result c.index-entries-first.result c.requires.reads (omega arith) c.requires.in_range c.index-entries-first.is)
-    c.difference.ensures
-
-pub is_over-requires-clause-starts : goal.is_over-requires-clause-starts
-is_over-requires-clause-starts c =
-    (reads_at c.args.arrival.now c.args.entries.now (c.args.last - c.loop-back.back) c.args.last c.index-entries-last.result c.index-entries-first.result c.requires.reads (omega arith) c.requires.in_range c.index-entries-first.is).starts
-
-pub is_over-requires-clause-reads : goal.is_over-requires-clause-reads
-is_over-requires-clause-reads c =
+pub is_over-requires-clause-operand : goal.is_over-requires-clause-operand
+is_over-requires-clause-operand c =
     window_reads c.args.arrival.now _ _ c.difference.result
     (reads_at c.args.arrival.now c.args.entries.now (c.args.last - c.loop-back.back) c.args.last c.index-entries-last.result c.index-entries-first.result c.requires.reads (omega arith) c.requires.in_range c.index-entries-first.is)
     c.difference.ensures
@@ -43,7 +33,7 @@ loop-back-preserved c =
     let low : first ≤ last = omega arith in
     let above : last + 1 - back ≡ suc first = omega arith in
     let now : last + 1 - (back + 1) ≡ first = omega arith in
-    let α = read c.args.arrival.now in
+    let α = value_at c.args.arrival.now in
     let d = c.index-entries-first.result in
     let bits = bits_grow first last (last + 1 - back) c.loop-back.bits es d above low c.requires.in_range c.index-entries-first.is c.loop-back.invariant.0 in
     let has = crowded_here α es first last (c.loop-back.bits + d.bits) c.index-entries-last.result d c.difference.result low c.requires.in_range c.index-entries-first.is c.difference.ensures bits in

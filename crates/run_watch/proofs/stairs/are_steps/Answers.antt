@@ -1,4 +1,4 @@
-use Rattle.std.proofs.Common.{◌<◌, Option, length, below_more, refl, subst, arith}
+use Rattle.std.proofs.Common.{◌<◌, length, below_more, refl, subst, arith}
 use Rattle.rational.specs.Rational.{ℚ}
 use Rattle.run_watch.specs.Stairs.{IsStep}
 use Rattle.run_watch.proofs.StairPaces.{step_at}
@@ -10,6 +10,6 @@ loop-i-preserved c =
     let ps = c.args.pieces.now in
     let p = c.index-pieces-i.result in
     let l : c.loop-i.i < length ps = omega arith in
-    let step : IsStep s.height s.slack s.rate c.args.far p c.next_start.result = c.if-not-is_step.ensures refl in
-    below_more _ _ c.loop-i.invariant (step_at s.height s.slack s.rate c.args.far ps c.loop-i.i p l c.index-pieces-i.is
-    (subst (λ (o : Option ℚ). IsStep s.height s.slack s.rate c.args.far p o) c.next_start.ensures step))
+    let step : IsStep s.height s.slack s.rate p c.start_or.result = c.if-not-is_step.ensures refl in
+    below_more _ _ c.loop-i.invariant (step_at s.height s.slack s.rate c.args.end ps c.loop-i.i p l c.index-pieces-i.is
+    (subst (λ (x : ℚ). IsStep s.height s.slack s.rate p x) c.start_or.ensures step))

@@ -1,10 +1,19 @@
-use Rattle.std.proofs.Common.{refl}
+use Rattle.std.proofs.Common.{List, refl, sym, subst, ◌∙◌}
 use Rattle.std.proofs.lemmas.Option.{IfSome_then}
-use Rattle.run_watch.proofs.StairPaces.{none_past_stair}
+use Rattle.rational.specs.Rational.{ℚ}
+use Rattle.affine_segment.specs.declared.line.Piece.{Piece}
+use Rattle.run_watch.specs.Stairs.{IsStair}
+use Rattle.run_watch.proofs.StairPaces.{none_past_stair, always_climbed}
 use Rattle.run_watch.proofs.stairs.kept_upto.Goals as goal
 
 pub returns : goal.returns
 returns c =
-    let s = c.in-Some-stair_of.stair in
+    let t = c.in-Periodic in
+    let s = c.in-Some.stair in
+    let f = c.args.arrival.now in
+    let yes = c.if-not-is_stair.ensures refl in
+    let S = subst (λ (x : ℚ). IsStair s.height s.slack s.rate x f.pieces) c.in-Ok.ensures.value
+    (subst (λ (ps : List Piece). IsStair s.height s.slack s.rate c.in-Ok.end ps) c.pieces-pieces.ensures.pieces yes) in
     IfSome_then c.seen_upto.result c.seen_upto.ensures
-    (λ upto K. none_past_stair c.args.arrival.now c.args.entries.now s.height s.slack s.rate c.in-Some.far upto c.requires c.in-Some.ensures (c.if-not-is_stair.ensures refl) K)
+    (λ upto K. none_past_stair f c.args.entries.now s.height s.slack s.rate upto c.requires S.some S.rises
+    (λ d low. always_climbed f t.rank t.period t.rise s.height s.slack s.rate d c.pieces-pieces.ensures.kept (sym c.tail.ensures.tail ∙ t.is) c.in-Some.ensures S low) K)

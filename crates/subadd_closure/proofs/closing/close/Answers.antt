@@ -1,5 +1,6 @@
 use Rattle.std.proofs.Common.{refl}
 use Rattle.std.proofs.lemmas.Result.{err_from_is_err_and}
+use Rattle.subadd_closure.proofs.FoldMemory.{none_wants}
 use Rattle.subadd_closure.proofs.ClosedValues.{closed_value, closed_keeps}
 use Rattle.subadd_closure.proofs.FirstElements.{no_memory}
 use Rattle.subadd_closure.proofs.closing.close.Goals as goal
@@ -21,3 +22,7 @@ pub returns-clause-keeps : goal.returns-clause-keeps
 returns-clause-keeps g c =
     closed_keeps c.args.f.now c.tail-tail.ensures.kept.normal c.requires.finite c.requires.nonneg c.closed.result
     c.closed.ensures.answer
+
+pub returns-in_err-es-clause-memory : goal.returns-in_err-es-clause-memory
+returns-in_err-es-clause-memory g c is =
+    none_wants c.args.f.now c.args.steps.now c.tail-tail.ensures.kept.normal.raw c.requires.finite

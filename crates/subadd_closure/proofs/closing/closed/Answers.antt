@@ -1,15 +1,16 @@
 use Rattle.std.specs.Prelude.{[]}
 use Rattle.std.proofs.Common.{◌≡◌, ◌+◌, ◌-◌, length, map, take}
-use Rattle.std.proofs.Common.{drop, length-take, sym, refl, ap, subst, arith}
+use Rattle.std.proofs.Common.{drop, length-take, sym, refl, ap, subst, arith, inl, inr}
 use Rattle.std.proofs.lemmas.List.Elements.{All-take}
 use Rattle.std.proofs.lemmas.Result.{err_from_is_err_and}
 use Rattle.rational.specs.Extended.{◌≤ₑ◌}
 use Rattle.rational.specs.declared.Extended.TheVariants.{Fin}
 use Rattle.rational.proofs.Laws.{le_refl}
 use Rattle.min_plus.specs.Functions.{zero_q}
-use Rattle.subadd_closure.specs.CurveParts.{part_of}
+use Rattle.subadd_closure.specs.CurveParts.{part_of, parts_of}
 use Rattle.subadd_closure.specs.FoldWork.{parts_work, fold_work}
 use Rattle.subadd_closure.specs.SegmentLimits.{IsElementOf}
+use Rattle.subadd_closure.proofs.FoldMemory.{same_want, then_wants, after_parts, more_parts}
 use Rattle.subadd_closure.proofs.FirstElements.{two_elements}
 use Rattle.subadd_closure.proofs.FoldSteps.{early_refusal, last_refusal, last_part, always}
 use Rattle.subadd_closure.proofs.FoldLists.{all_elements, split_parts, split_last}
@@ -176,3 +177,58 @@ returns-clause-exact g c =
     (some_taken f.tail es n (omega (arith, two)) (omega (arith, two))) in
     always (c.convolve_from.new.steps ≡ c.args.steps.now + fold_work f) c.convolve_from.result
     (omega (arith, before, star, last, all, work))
+
+pub returns-in_err-sofar-clause-memory : goal.returns-in_err-sofar-clause-memory
+returns-in_err-sofar-clause-memory g c is =
+    let f = c.args.f.now in
+    let es = c.args.es.now in
+    let n = length es - 1 in
+    let r = c.from_residual in
+    let p = err_from_is_err_and r.result r.ensures.1 in
+    more_parts f (map (part_of f.tail) (take n es)) (map (part_of f.tail) (drop n es)) (parts_of f) c.args.steps.now
+    c.folded.new.steps (split_parts f es n c.requires.elements)
+    (c.in_err-sofar.ensures.memory (same_want r.result p.0 c.in_err-sofar.field-0.0 p.1 p.2 is))
+
+pub returns-in_err-star-clause-memory : goal.returns-in_err-star-clause-memory
+returns-in_err-star-clause-memory g c is =
+    let f = c.args.f.now in
+    let es = c.args.es.now in
+    let n = length es - 1 in
+    let e = c.index-es-last.result in
+    let two = two_elements f es c.requires.elements c.requires.curve.normal.raw c.requires.finite in
+    let r = c.from_residual-in_err-star in
+    let p = err_from_is_err_and r.result r.ensures.1 in
+    record {
+      before = map (part_of f.tail) (take n es);
+      part = part_of f.tail e;
+      after = [];
+      are = split_last f es n e c.requires.elements (omega (arith, two)) c.index-es-last.is;
+      stops = after_parts f c.in_ok-sofar.sofar (map (part_of f.tail) (take n es)) (part_of f.tail e) c.args.steps.now
+          c.folded.new.steps c.element_star.new.steps c.in_ok-sofar.ensures.answer c.in_ok-sofar.ensures.all
+          (inl (c.in_err-star.ensures.memory (same_want r.result p.0 c.in_err-star.field-0.0 p.1 p.2 is)));
+    }
+
+pub returns-clause-memory : goal.returns-clause-memory
+returns-clause-memory g c is =
+    let f = c.args.f.now in
+    let es = c.args.es.now in
+    let n = length es - 1 in
+    let e = c.index-es-last.result in
+    let two = two_elements f es c.requires.elements c.requires.curve.normal.raw c.requires.finite in
+    let star = c.in_ok-star.ensures.all in
+    let last = c.convolve_from.ensures.count in
+    record {
+      before = map (part_of f.tail) (take n es);
+      part = part_of f.tail e;
+      after = [];
+      are = split_last f es n e c.requires.elements (omega (arith, two)) c.index-es-last.is;
+      stops = after_parts f c.in_ok-sofar.sofar (map (part_of f.tail) (take n es)) (part_of f.tail e) c.args.steps.now
+          c.folded.new.steps c.convolve_from.new.steps c.in_ok-sofar.ensures.answer c.in_ok-sofar.ensures.all
+          (inr record {
+            counted = omega (arith, star, last);
+            star = c.in_ok-star.star;
+            made = c.in_ok-star.ensures.answer;
+            within = then_wants c.in_ok-sofar.sofar c.in_ok-star.star c.start_of.result c.convolve_from.result
+                c.convolve_from.ensures.answer is;
+          });
+    }

@@ -1,10 +1,11 @@
-use Rattle.std.specs.Prelude.{Ok}
+use Rattle.std.specs.Prelude.{[], Ok}
 use Rattle.std.proofs.Common.{◌+◌, map, take, drop, sym, ap, subst, arith}
 use Rattle.std.proofs.lemmas.Result.{err_from_is_err_and}
 use Rattle.subadd_closure.specs.CurveParts.{part_of}
 use Rattle.subadd_closure.specs.Folds.{PartsAnswer}
 use Rattle.subadd_closure.specs.FoldWork.{parts_work}
 use Rattle.subadd_closure.specs.SegmentLimits.{IsElementOf}
+use Rattle.subadd_closure.proofs.FoldMemory.{same_want, after_parts}
 use Rattle.subadd_closure.proofs.FoldSteps.{first_part, first_stops, next_part, next_stops}
 use Rattle.subadd_closure.proofs.FoldLists.{one_more, split_at, work_one, work_more, work_up_to, some_taken}
 use Rattle.subadd_closure.proofs.closing.folded.Goals as goal
@@ -85,4 +86,37 @@ loop-i-preserved g c =
           (next_part f c.loop-i.sofar before (part_of f.tail e) c.in_ok-sofar-2.sofar c.loop-i.invariant.answer
           c.in_ok-sofar-2.ensures.answer);
       count = omega (arith, count, all, more, work);
+    }
+
+pub returns-in_err-sofar-clause-memory : goal.returns-in_err-sofar-clause-memory
+returns-in_err-sofar-clause-memory g c is =
+    let f = c.args.f.now in
+    let es = c.args.es.now in
+    let e = c.index-es-0.result in
+    let r = c.from_residual in
+    let p = err_from_is_err_and r.result r.ensures.1 in
+    record {
+      before = [];
+      part = part_of f.tail e;
+      after = map (part_of f.tail) (drop 1 es);
+      are = split_at f.tail es 0 e c.requires.some c.index-es-0.is;
+      stops = c.in_err-sofar.ensures.memory (same_want r.result p.0 c.in_err-sofar.field-0.0 p.1 p.2 is);
+    }
+
+pub returns-in_err-sofar-2-clause-memory : goal.returns-in_err-sofar-2-clause-memory
+returns-in_err-sofar-2-clause-memory g c is =
+    let f = c.args.f.now in
+    let es = c.args.es.now in
+    let i = c.loop-i.i in
+    let e = c.index-es-i.result in
+    let r = c.from_residual-in_err-sofar-2 in
+    let p = err_from_is_err_and r.result r.ensures.1 in
+    record {
+      before = map (part_of f.tail) (take i es);
+      part = part_of f.tail e;
+      after = map (part_of f.tail) (drop (i + 1) es);
+      are = split_at f.tail es i e c.loop-i-test.true c.index-es-i.is;
+      stops = after_parts f c.loop-i.sofar (map (part_of f.tail) (take i es)) (part_of f.tail e) c.args.steps.now
+          c.loop-i.steps c.with_star.new.steps c.loop-i.invariant.answer c.loop-i.invariant.count
+          (c.in_err-sofar-2.ensures.memory (same_want r.result p.0 c.in_err-sofar-2.field-0.0 p.1 p.2 is));
     }

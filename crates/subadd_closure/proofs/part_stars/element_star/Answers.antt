@@ -6,6 +6,7 @@ use Rattle.subadd_closure.specs.CurveParts.{copies_of}
 use Rattle.subadd_closure.specs.PartStars.{turn_of}
 use Rattle.subadd_closure.specs.SegmentLimits.{IsElementOf}
 use Rattle.subadd_closure.specs.Stars.{IsTurn, turn_work}
+use Rattle.subadd_closure.proofs.FoldMemory.{same_want, part_wants, segment_wants}
 use Rattle.subadd_closure.proofs.ElementFits.{point_start, point_low, segment_late}
 use Rattle.subadd_closure.proofs.ElementFits.{segment_reads, part_turns, turn_works}
 use Rattle.subadd_closure.proofs.PartStars.{star_is_part, part_refused}
@@ -105,3 +106,33 @@ returns-in_ok-m-in-Open-clause-all g c =
     let work = ap turn_work turn ∙ turn_works (copies_of c.args.f.now.tail e) in
     subst (λ k. IfOk c.segment_star.result (λ x. c.segment_star.new.steps ≡ c.args.steps.now + k)) work
     c.segment_star.ensures.all
+
+pub returns-in-Point-clause-memory : goal.returns-in-Point-clause-memory
+returns-in-Point-clause-memory g c is =
+    let f = c.args.f.now in
+    let e = c.args.e.now in
+    let turn = c.turn_of-turn.ensures ∙ ap (λ t. turn_of (copies_of t e)) c.tail.ensures.tail in
+    let work = ap turn_work turn ∙ turn_works (copies_of f.tail e) in
+    let most = c.point_star.ensures.most in
+    part_wants f e (Point c.in-Point.x c.in-Point.v) c.turn_of-turn.result c.args.steps.now c.point_star.new.steps
+    c.in-Point.is turn (omega (arith, work, most)) tt (c.point_star.ensures.memory is)
+
+pub returns-in_err-m-in-Open-clause-memory : goal.returns-in_err-m-in-Open-clause-memory
+returns-in_err-m-in-Open-clause-memory g c is =
+    let f = c.args.f.now in
+    let e = c.args.e.now in
+    let r = c.from_residual in
+    let p = err_from_is_err_and r.result r.ensures.1 in
+    segment_wants f e (Open c.in-Open.from c.in-Open.to c.in-Open.line) c.in_err-m-in-Open.field-0.0 c.args.steps.now
+    c.in-Open.is c.in_err-m-in-Open.ensures.over (same_want r.result p.0 c.in_err-m-in-Open.field-0.0 p.1 p.2 is)
+
+pub returns-in_ok-m-in-Open-clause-memory : goal.returns-in_ok-m-in-Open-clause-memory
+returns-in_ok-m-in-Open-clause-memory g c is =
+    let f = c.args.f.now in
+    let e = c.args.e.now in
+    let turn = c.turn_of-turn.ensures ∙ ap (λ t. turn_of (copies_of t e)) c.tail.ensures.tail in
+    let work = ap turn_work turn ∙ turn_works (copies_of f.tail e) in
+    let most = c.segment_star.ensures.most in
+    part_wants f e (Open c.in-Open.from c.in-Open.to c.in-Open.line) c.turn_of-turn.result c.args.steps.now
+    c.segment_star.new.steps c.in-Open.is turn (omega (arith, work, most))
+    c.in_ok-m-in-Open.ensures.within.within (c.segment_star.ensures.memory is)

@@ -1,5 +1,7 @@
+use Rattle.std.proofs.Common.{refl}
 use Rattle.std.proofs.lemmas.Result.{err_from_is_err_and}
 use Rattle.affine_segment.specs.declared.element.Element.TheVariants.{Point}
+use Rattle.subadd_closure.proofs.FoldMemory.{no_call, closure_wants}
 use Rattle.subadd_closure.proofs.ElementStars.{refused_star, made_star}
 use Rattle.subadd_closure.proofs.stars.point_star.Goals as goal
 
@@ -11,3 +13,12 @@ returns-in_err-c-clause-answer g c =
 pub returns-clause-answer : goal.returns-clause-answer
 returns-clause-answer g c =
     made_star c.args.turn (Point c.args.x c.args.v) c.in_ok-c.c c.star_of.result c.in_ok-c.ensures c.star_of.ensures.answer
+
+pub returns-in_err-c-clause-memory : goal.returns-in_err-c-clause-memory
+returns-in_err-c-clause-memory g c is =
+    no_call c.args.turn (Point c.args.x c.args.v) c.args.steps.now c.args.steps.now refl
+
+pub returns-clause-memory : goal.returns-clause-memory
+returns-clause-memory g c is =
+    closure_wants c.args.turn (Point c.args.x c.args.v) c.in_ok-c.c c.args.steps.now c.star_of.new.steps c.in_ok-c.ensures
+    (c.star_of.ensures.memory is)

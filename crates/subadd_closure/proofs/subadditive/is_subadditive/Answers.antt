@@ -1,9 +1,10 @@
-use Rattle.std.proofs.Common.{refl}
+use Rattle.std.proofs.Common.{◌≡◌, ◌+◌, Err, arith, refl}
 use Rattle.std.proofs.lemmas.Result.{err_from_is_err_and}
-use Rattle.upp_limits.specs.declared.op_kind.OpKind.TheVariants.{Convolve}
+use Rattle.upp_limits.specs.declared.op_kind.OpKind.TheVariants.{Min, Convolve}
 use Rattle.upp_curve.specs.Curve.{value_at}
 use Rattle.curve_call.specs.Calls.{goes_on, stops}
 use Rattle.curve_call.proofs.Applied.{applied_seen}
+use Rattle.subadd_closure.proofs.FoldMemory.{same_want, call_wants}
 use Rattle.subadd_closure.proofs.SameConvolution.{subadditive_where_same, same_where_subadditive}
 use Rattle.subadd_closure.proofs.subadditive.is_subadditive.Goals as goal
 
@@ -38,3 +39,21 @@ returns-clause-limits g c =
     let first = applied_seen Convolve c.args.f.now c.args.f.now c.convolve.result c.seen.result c.seen.ensures.same
     c.convolve.ensures.value c.convolve.ensures.limits c.seen.ensures.kept in
     goes_on c.in_ok-twice.twice (rw c.in_ok-twice.was at first) c.in_ok-lower.ensures.limits
+
+pub returns-in_err-twice-clause-memory : goal.returns-in_err-twice-clause-memory
+returns-in_err-twice-clause-memory g c is both =
+    let one = c.convolve.ensures.count in
+    absurd (omega (arith, one, both))
+
+pub returns-in_err-lower-clause-memory : goal.returns-in_err-lower-clause-memory
+returns-in_err-lower-clause-memory g c is both =
+    let r = c.from_residual-in_err-lower in
+    let p = err_from_is_err_and r.result r.ensures.1 in
+    let first = applied_seen Convolve c.args.f.now c.args.f.now c.convolve.result c.seen.result c.seen.ensures.same
+    c.convolve.ensures.value c.convolve.ensures.limits c.seen.ensures.kept in
+    let want = same_want r.result p.0 c.in_err-lower.field-0.0 p.1 p.2 is in (
+      c.in_ok-twice.twice,
+      rw c.in_ok-twice.was at first,
+      call_wants Min c.args.f.now c.in_ok-twice.twice (Err c.in_err-lower.field-0.0) (Err c.in_err-lower.field-0.0) refl
+          c.in_err-lower.ensures.limits want,
+    )

@@ -1,7 +1,10 @@
 use Rattle.std.proofs.Common.{◌≡◌, ◌++◌, ◌∷◌, [], List, ap, ◌∙◌, subst, sym}
 use Rattle.net_model.specs.Networks.{Net}
-use Rattle.edit_store.specs.Stored.{AreTouched, AreLost, IsStored}
-use Rattle.edit_store.proofs.Steps.{holds_edited, stored_more}
+use Rattle.edit_store.specs.declared.replaced.Replaced.{Replaced}
+use Rattle.edit_store.specs.Stored.{AreTouched, AreLost}
+use Rattle.edit_store.specs.Replaced.{put_back}
+use Rattle.edit_store.proofs.Steps.{holds_edited}
+use Rattle.edit_store.proofs.PutBack.{kept_more, advanced}
 use Rattle.edit_store.proofs.store.Store.advance.Goals as goal
 
 pub invariant_of-self-2 : goal.invariant_of-self-2
@@ -15,12 +18,19 @@ invariant_of-self-2 g c =
     subst (λ (n : Net). AreTouched n c.args.net c.args.touched.now) present c.requires.touched in
     let lost : AreLost fields.present c.args.net c.args.gone.now =
     subst (λ (n : Net). AreLost n c.args.net c.args.gone.now) present c.requires.gone in
-    let nets : c.push.new.self.items ≡ fields.before.items ++ fields.present ∷ [] =
-    c.in-Ok.ensures.items
-    ∙ (ap (λ (xs : List Net). xs ++ c.replace-old.result ∷ []) c.reserve.ensures.items
-    ∙ ap (λ (n : Net). fields.before.items ++ n ∷ []) c.replace-old.ensures.value) in
+    let back : put_back c.args.replaced c.args.net ≡ fields.present = c.requires.back ∙ present in
+    let more : c.push.new.self.items ≡ fields.replaced.items ++ c.args.replaced ∷ [] =
+    c.in-Ok.ensures.items ∙ ap (λ (rs : List Replaced). rs ++ c.args.replaced ∷ []) c.reserve.ensures.items in
     let held = holds_edited meaning fields.present c.args.net c.args.gone.now c.args.touched.now was.newest now.newest edit lost
-    c.self.invariant.now c.in_ok-edited_values.ensures.table in
-    subst (λ (n : Net). IsStored meaning c.push.new.self.items n now) (sym c.replace-old.ensures.after)
-    (stored_more meaning fields.before.items c.push.new.self.items fields.present c.args.net was now c.self.invariant nets
-    c.in_ok-edited_values.ensures.before held)
+    c.self.invariant.stored.now c.in_ok-edited_values.ensures.table in
+    kept_more meaning fields.replaced.items c.push.new.self.items c.args.replaced fields.present c.args.net was now c.self.invariant
+    c.keeps.ensures more back c.in_ok-edited_values.ensures.before held
+
+pub returns-clause-advanced : goal.returns-clause-advanced
+returns-clause-advanced g c =
+    let fields = c.self.inside in
+    let back : put_back c.args.replaced c.args.net ≡ fields.present = c.requires.back ∙ ap (λ s. s.present) (sym c.self.view_is) in
+    let more : c.push.new.self.items ≡ fields.replaced.items ++ c.args.replaced ∷ [] =
+    c.in-Ok.ensures.items ∙ ap (λ (rs : List Replaced). rs ++ c.args.replaced ∷ []) c.reserve.ensures.items in
+    advanced g.V.CellValue.meaning c.args.self.now fields.replaced.items c.push.new.self.items c.args.replaced fields.present c.args.net
+    fields.values.versions c.edited_values.new.values.versions c.self.view_is more back c.in_ok-edited_values.ensures.before

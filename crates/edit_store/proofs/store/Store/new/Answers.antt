@@ -1,8 +1,9 @@
 use Rattle.std.proofs.Common.{◌∙◌, List, sym, subst}
-use Rattle.net_model.specs.Networks.{Net}
 use Rattle.cell_store.specs.Placed.{placed}
-use Rattle.edit_store.specs.Stored.{IsStored}
+use Rattle.edit_store.specs.declared.replaced.Replaced.{Replaced}
+use Rattle.edit_store.specs.Replaced.{IsKept}
 use Rattle.edit_store.proofs.Begun.{first_edit, first_stored}
+use Rattle.edit_store.proofs.PutBack.{first_kept}
 use Rattle.edit_store.proofs.store.Store.new.Goals as goal
 
 pub made_anew-requires : goal.made_anew-requires
@@ -15,8 +16,9 @@ pub invariant_of-result : goal.invariant_of-result
 invariant_of-result g c =
     let meaning = g.V.CellValue.meaning in
     let values = c.made_anew.new.values.versions in
-    subst (λ (ns : List Net). IsStored meaning ns c.args.net values) (sym c.new-2.ensures.items)
+    subst (λ (rs : List Replaced). IsKept meaning rs c.args.net values) (sym c.new-2.ensures.items)
+    (first_kept meaning c.args.net values
     (first_stored meaning c.args.net c.args.order.now c.deref.result.now
     (placed meaning c.in-Ok.values.versions.newest) values c.requires (c.deref.ensures.value ∙ c.in-Ok-cells.ensures)
     (c.made_anew.ensures.before ∙ c.in-Ok.ensures.first) c.in_ok-made_anew.ensures.answers c.in-Ok.ensures.nothing
-    c.made_anew.ensures.others)
+    c.made_anew.ensures.others))

@@ -1,0 +1,146 @@
+-- At which call of the fold memory was wanting.
+use Rattle.std.specs.Prelude.{◌≡◌, ℕ, ◌+◌, ◌≤◌, List, [], ◌∷◌, ◌++◌, map, Option, Some, None, Result, Ok, Err}
+use Rattle.std.proofs.Common.{arith, sym, refl, ap, ◌∙◌, subst, inl, inr}
+use Rattle.std.proofs.lemmas.List.{append_assoc}
+use Rattle.rational.specs.Rational.{ℚ}
+use Rattle.rational.specs.declared.Extended.TheVariants.{Fin}
+use Rattle.rational.proofs.Laws.{le_refl}
+use Rattle.affine_segment.specs.declared.element.Element.{Element}
+use Rattle.affine_segment.specs.declared.element.Element.TheVariants.{Point, Open}
+use Rattle.upp_limits.specs.declared.op_kind.OpKind.{OpKind}
+use Rattle.upp_limits.specs.declared.op_kind.OpKind.TheVariants.{Min, Convolve}
+use Rattle.upp_limits.specs.declared.op_kind.OpFault.{OpFault}
+use Rattle.upp_limits.specs.declared.op_kind.OpFault.TheVariants.{NoMemory}
+use Rattle.upp_limits.specs.Outcome.{IsWithin, KeepsLimits}
+use Rattle.upp_curve.specs.Curve.{SpecCurve, value_at}
+use Rattle.upp_curve.specs.Normal.{IsRaw}
+use Rattle.min_plus.specs.Functions.{zero_q, IsFinite}
+use Rattle.curve_call.specs.Calls.{Applies, Then, goes_on, stops}
+use Rattle.closure_elements.specs.ElementAnswers.{IsElementClosure}
+use Rattle.closure_elements.specs.Lattices.{lattice_curve, origin_curve}
+use Rattle.subadd_closure.specs.declared.part.Part.{Part}
+use Rattle.subadd_closure.specs.CurveParts.{copies_of, part_of, parts_of}
+use Rattle.subadd_closure.specs.Folds.{segment_number, SegmentCause, SegmentWithin, PartAnswer, PartsAnswer}
+use Rattle.subadd_closure.specs.FoldMemory.{PartWants, NextWants, StopsAt, StopsAfter, PartsWant, CloseWants}
+use Rattle.subadd_closure.specs.FoldWork.{part_work, parts_work}
+use Rattle.subadd_closure.specs.PartStars.{turn_of}
+use Rattle.subadd_closure.specs.StartsAt.{StartsAt}
+use Rattle.subadd_closure.specs.Stars.{OrWants, answers, wants, Copies, StarWants, ElementWants, turn_work}
+use Rattle.subadd_closure.proofs.FirstElements.{elements_begin}
+use Rattle.subadd_closure.proofs.OneFold.{one_closure}
+
+-- ---- one call
+-- what `?` hands on is the fault that was there
+pub same_want : {B : Type 0} (r : Result B OpFault) (y e : OpFault) → r ≡ Err y → y ≡ e → r ≡ Err NoMemory
+    → ◌≡◌ {A = Result SpecCurve OpFault} (Err e) (Err NoMemory)
+same_want {B} r y e is same want =
+    let both : ◌≡◌ {A = Result B OpFault} (Err y) (Err NoMemory) = sym is ∙ want in
+    let one : e ≡ NoMemory = cc in
+    ap Err one
+
+-- of a call whose answer is handed on as it is
+pub call_wants : (op : OpKind) (f g : SpecCurve) (r s : Result SpecCurve OpFault) → s ≡ r → KeepsLimits op f g r
+    → s ≡ Err NoMemory → Applies op f g (Err NoMemory)
+call_wants op f g r s same limits want = let is : r ≡ Err NoMemory = sym same ∙ want in rw is at limits
+
+applied_wants : (op : OpKind) (f g h : SpecCurve) → Applies op f g (Ok h) → Applies op f g (Err NoMemory)
+applied_wants op f g h a = a.within
+
+-- a call, and what takes no call after it
+pub then_wants : (f g : SpecCurve) (v : ℚ) (r : Result SpecCurve OpFault) → Then (Applies Convolve f g) (StartsAt v) r
+    → r ≡ Err NoMemory → Applies Convolve f g (Err NoMemory)
+then_wants f g v r (goes_on h a b) want = a.within
+then_wants f g v r (stops e a is) want =
+    let both : Err e ≡ Err NoMemory = sym is ∙ want in
+    let one : e ≡ NoMemory = cc in
+    subst (λ z. Applies Convolve f g (Err z)) one a
+
+-- ---- the star of an element
+pub first_wants : (turn : Option (ℚ × ℚ)) (p : ℚ × ℚ) (c : SpecCurve) (old new : ℕ) → turn ≡ Some p → new ≤ old + 1
+    → (new ≡ old + 1 → Applies Convolve c (lattice_curve p.0 p.1) (Err NoMemory)) → StarWants turn c old new
+first_wants turn p c old new e most h =
+    subst (λ z. StarWants z c old new) (sym e) (h, λ two. absurd (omega (arith, most, two)))
+
+lowered_wants : (p : ℚ × ℚ) (c d : SpecCurve) (old between new : ℕ) → between ≡ old + 1
+    → Copies p c (Ok d) → StarWants None d between new → StarWants (Some p) c old new
+lowered_wants p c d old between new one (answers a) h =
+    (λ k. a.within, λ two. (d, a, h (omega (arith, one, two))))
+lowered_wants p c d old between new one (wants is) h = absurd cc
+
+pub second_wants : (turn : Option (ℚ × ℚ)) (p : ℚ × ℚ) (c d : SpecCurve) (old between new : ℕ) → turn ≡ Some p
+    → between ≡ old + 1 → Copies p c (Ok d) → StarWants None d between new → StarWants turn c old new
+second_wants turn p c d old between new e one a h =
+    subst (λ z. StarWants z c old new) (sym e) (lowered_wants p c d old between new one a h)
+
+-- before any call
+none_star : (p : Option (ℚ × ℚ)) (c : SpecCurve) (old new : ℕ) → new ≡ old → StarWants p c old new
+none_star None c old new is = λ one. absurd (omega (arith, is, one))
+none_star (Some p) c old new is = (λ one. absurd (omega (arith, is, one)), λ two. absurd (omega (arith, is, two)))
+
+pub no_call : (p : Option (ℚ × ℚ)) (e : Element) (old new : ℕ) → new ≡ old → ElementWants p e old new
+no_call p e old new is c closed = none_star p c old new is
+
+-- there is one closure
+pub closure_wants : (p : Option (ℚ × ℚ)) (e : Element) (c : SpecCurve) (old new : ℕ) → IsElementClosure e c
+    → StarWants p c old new → ElementWants p e old new
+closure_wants p e c old new closed h d other = subst (λ z. StarWants p z old new) (one_closure e c d closed other) h
+
+-- ---- one part
+cause_within : (f : SpecCurve) (o : Option ℕ) → SegmentCause f o NoMemory → SegmentWithin f o
+cause_within f None h = tt
+cause_within f (Some n) h = h
+
+pub part_wants : (f : SpecCurve) (e d : Element) (turn : Option (ℚ × ℚ)) (old new : ℕ) → e ≡ d
+    → turn ≡ turn_of (copies_of f.tail e) → new ≤ old + part_work (part_of f.tail e)
+    → SegmentWithin f (segment_number d) → ElementWants turn d old new → PartWants f (part_of f.tail e) old new
+part_wants f e d turn old new same is most within h = record {
+  most = most;
+  segment = subst (λ z. SegmentWithin f (segment_number z)) (sym same) within;
+  calls = subst (λ z. ElementWants (turn_of (copies_of f.tail e)) z old new) (sym same) (subst (λ t. ElementWants t d old new) is h);
+}
+
+-- where the operator of its segment was refused
+pub segment_wants : (f : SpecCurve) (e d : Element) (fault : OpFault) (n : ℕ) → e ≡ d
+    → SegmentCause f (segment_number d) fault → ◌≡◌ {A = Result SpecCurve OpFault} (Err fault) (Err NoMemory)
+    → PartWants f (part_of f.tail e) n n
+segment_wants f e d fault n same cause want =
+    let one : fault ≡ NoMemory = cc in
+    part_wants f e d (turn_of (copies_of f.tail e)) n n same refl (omega arith)
+    (cause_within f (segment_number d) (subst (λ z. SegmentCause f (segment_number d) z) one cause))
+    (no_call (turn_of (copies_of f.tail e)) d n n refl)
+
+-- ---- the parts in their order
+pub after_parts : (f s : SpecCurve) (before : List Part) (p : Part) (old between new : ℕ) → PartsAnswer f before (Ok s)
+    → between ≡ old + parts_work before → StopsAt f s p between new → StopsAfter f before p old new
+after_parts f s [] p old between new made is h = absurd made
+after_parts f s (q ∷ qs) p old between new made is h = (s, made, subst (λ k. StopsAt f s p k new) is h)
+
+pub more_parts : (f : SpecCurve) (ps qs all : List Part) (old new : ℕ) → all ≡ ps ++ qs → PartsWant f ps old new
+    → PartsWant f all old new
+more_parts f ps qs all old new is h = record {
+  before = h.before;
+  part = h.part;
+  after = h.after ++ qs;
+  are = is ∙ ap (λ z. z ++ qs) h.are ∙ append_assoc h.before (h.part ∷ h.after) qs;
+  stops = h.stops;
+}
+
+-- before the first part
+pub none_wants : (c : SpecCurve) (n : ℕ) → IsRaw c → IsFinite (value_at c) → CloseWants c n n
+none_wants c n raw finite =
+    let (v, at) = finite zero_q (le_refl zero_q) in
+    let b = elements_begin c v raw finite at in
+    let first = part_of c.tail (Point b.start v) in
+    let all : parts_of c ≡ first ∷ map (part_of c.tail) (Open b.start b.end b.line ∷ b.others) = ap (map (part_of
+    c.tail)) b.is in
+    record {
+      before = [];
+      part = first;
+      after = map (part_of c.tail) (Open b.start b.end b.line ∷ b.others);
+      are = all;
+      stops = record {
+        most = omega arith;
+        segment = tt;
+        calls = no_call (turn_of first.copies) first.element n n refl;
+      };
+    }

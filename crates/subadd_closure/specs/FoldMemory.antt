@@ -1,0 +1,48 @@
+-- Where the fold of a closure stopped for want of memory, by how many of its calls are counted: those before have made
+-- their curves, and the last that is counted is within its limits. So no limit of a call is told as want of memory. Own
+-- choice.
+use Rattle.std.specs.Prelude.{◌≡◌, ◌⊎◌, ℕ, ◌+◌, ◌≤◌, List, [], ◌∷◌, ◌++◌, Ok, Err}
+use Rattle.affine_segment.specs.declared.element.Element.{Element}
+use Rattle.upp_limits.specs.declared.op_kind.OpKind.TheVariants.{Convolve}
+use Rattle.upp_limits.specs.declared.op_kind.OpFault.TheVariants.{NoMemory}
+use Rattle.upp_curve.specs.Curve.{SpecCurve}
+use Rattle.curve_call.specs.Calls.{Applies}
+use Rattle.subadd_closure.specs.declared.part.Part.{Part}
+use Rattle.subadd_closure.specs.CurveParts.{parts_of}
+use Rattle.subadd_closure.specs.Folds.{segment_number, SegmentWithin, PartAnswer, PartsAnswer}
+use Rattle.subadd_closure.specs.FoldWork.{part_work, parts_work}
+use Rattle.subadd_closure.specs.PartStars.{turn_of}
+use Rattle.subadd_closure.specs.Stars.{ElementWants}
+
+-- in what is made of a part by itself
+pub record PartWants (f : SpecCurve) (p : Part) (old new : ℕ) : Type 0 where
+  pub most : new ≤ old + part_work p
+  pub segment : SegmentWithin f (segment_number p.element)
+  pub calls : ElementWants (turn_of p.copies) p.element old new
+
+-- in the convolution of that with what the parts before make
+pub record NextWants (f sofar : SpecCurve) (p : Part) (old new : ℕ) : Type 0 where
+  pub counted : new ≡ old + (part_work p + 1)
+  pub star : SpecCurve
+  pub made : PartAnswer f p (Ok star)
+  pub within : Applies Convolve sofar star (Err NoMemory)
+
+abbrev pub StopsAt : SpecCurve → SpecCurve → Part → (old new : ℕ) → Type 0
+StopsAt f sofar p old new = PartWants f p old new ⊎ NextWants f sofar p old new
+
+-- after some parts, none of them or more
+abbrev pub StopsAfter : SpecCurve → List Part → Part → (old new : ℕ) → Type 0
+StopsAfter f [] p old new = PartWants f p old new
+StopsAfter f (q ∷ qs) p old new = (sofar : SpecCurve) × PartsAnswer f (q ∷ qs) (Ok sofar)
+    × StopsAt f sofar p (old + parts_work (q ∷ qs)) new
+
+-- at one of all parts
+pub record PartsWant (f : SpecCurve) (all : List Part) (old new : ℕ) : Type 0 where
+  pub before : List Part
+  pub part : Part
+  pub after : List Part
+  pub are : all ≡ before ++ part ∷ after
+  pub stops : StopsAfter f before part old new
+
+abbrev pub CloseWants : SpecCurve → (old new : ℕ) → Type 0
+CloseWants f old new = PartsWant f (parts_of f) old new

@@ -1,0 +1,128 @@
+//! The convolution of two curves in the fold of a closure: as `convolve`, where few numbers of the curves mostly tell how
+//! many periods it needs.
+
+ghost use Rattle.std.specs.Prelude.{◌≡◌, ◌+◌, IfOk, IfErr, IfSome};
+ghost use Rattle.rational.specs.Rational.{ℚ, ◌-ℚ◌, ◌≤ℚ◌};
+ghost use Rattle.upp_curve.specs.Curve.{value_at};
+ghost use Rattle.upp_curve.specs.Curves.{IsCurve};
+ghost use Rattle.upp_curve.specs.Unrolled.{unroll};
+ghost use Rattle.min_plus.specs.Convolution.{IsConvolution};
+ghost use Rattle.min_plus.specs.Functions.{zero_q};
+ghost use Rattle.upp_limits.specs.Outcome.{IsCauseOf, IsWithin, KeepsLimits};
+ghost use Rattle.upp_limits.specs.declared.op_kind.OpKind.TheVariants.{Convolve};
+ghost use Rattle.curve_call.specs.FirstWindows.{IsFirstWindow};
+ghost use Rattle.element_envelope.specs.ConvolutionWindows.{IsConvolutionWindow};
+ghost use Rattle.curve_conv.specs.ConvolveCall.{IsConvolveFrame};
+
+use crate::again::{slower_rise, window_of};
+use crate::quick_bounds::quick_bounds;
+use affine_segment::Piece;
+use curve_call::{CallWindow, Frame, answer, first_window, refuse_between, within};
+use curve_conv::convolve_frame;
+use fraction128::{Frac, difference};
+use std::alloc::{AllocError, Global};
+use std::sync::ledger::Ledger;
+use steps::Steps;
+use upp_curve::Curve;
+use upp_limits::{OpFault, OpKind, tally_over};
+
+// The frame with the upper bound of the number of periods, where the call is within both limits with it, and not much
+// larger than with none; else none, as where there are no bounds. Refused where both bounds tell it.
+fn frame_between(
+    f: &Curve,
+    g: &Curve,
+    first: &CallWindow,
+    from: Frac,
+) -> Result<Option<Frame>, OpFault>
+    requires curves { IsCurve f.now × IsCurve g.now }
+    requires window { IsFirstWindow Convolve f.now g.now first.now }
+    requires from { from ≡ first.now.end -ℚ first.now.period }
+    ensures frame { IfOk result (λ o. IfSome o (λ r. IsConvolveFrame f.now g.now r × IsWithin Convolve f.now g.now)) }
+    ensures refused { IfErr result (IsCauseOf Convolve f.now g.now) }
+{
+    let kind = OpKind::Convolve;
+    let Some(bounds) = quick_bounds(f, g, from, first.period, first.end) else {
+        return Ok(None);
+    };
+    refuse_between(&kind, f, g, bounds.low, bounds.high)?;
+    match within(&kind, f, g, bounds.high) {
+        Ok(frame) => {
+            // To look for the least number costs a few times the pairs of the first window.
+            if tally_over(&kind, f, g, frame.end) / 4 > tally_over(&kind, f, g, first.end) {
+                return Ok(None);
+            }
+            Ok(Some(frame))
+        }
+        Err(_) => Ok(None),
+    }
+}
+
+/// The frame of the call, as `convolve_frame` of `curve_conv`, which is asked where few numbers do not tell it.
+pub(crate) fn star_frame(alloc: Global, f: &Curve, g: &Curve) -> Result<Frame, OpFault>
+    ensures frame { IfOk result (IsConvolveFrame f.now g.now) }
+    ensures limits { KeepsLimits Convolve f.now g.now result }
+{
+    let first = first_window(&OpKind::Convolve, f, g)?;
+    let from = difference(first.end, first.period);
+    match frame_between(f, g, &first, from)? {
+        Some(frame) => Ok(frame),
+        None => convolve_frame(alloc, f, g),
+    }
+}
+
+// The curve of the pieces of the call's window.
+fn curve_of(
+    alloc: Global,
+    f: &Curve,
+    g: &Curve,
+    frame: &Frame,
+    pieces: Vec<Piece>,
+) -> Result<Curve, AllocError>
+    requires frame { IsConvolveFrame f.now g.now frame.now }
+    requires window { IsConvolutionWindow (unroll f.now frame.now.end) (unroll g.now frame.now.end) frame.now.end
+        pieces.items }
+    ensures { IfOk result (λ c. (t : ℚ) → zero_q ≤ℚ t
+        → IsConvolution (value_at f.now) (value_at g.now) t (value_at c t)) }
+{
+    let rise = slower_rise(f, g, frame);
+    let from = difference(frame.end, frame.period);
+    answer(
+        alloc,
+        pieces,
+        from,
+        frame.period,
+        rise,
+        frame.times,
+        frame.values,
+    )
+}
+
+// The convolution in a call within both limits.
+fn convolved_within(alloc: Global, f: &Curve, g: &Curve, frame: &Frame) -> Result<Curve, AllocError>
+    requires { IsConvolveFrame f.now g.now frame.now }
+    ensures { IfOk result (λ c. (t : ℚ) → zero_q ≤ℚ t
+        → IsConvolution (value_at f.now) (value_at g.now) t (value_at c t)) }
+{
+    let pieces = window_of(alloc, f, g, frame)?;
+    curve_of(alloc, f, g, frame, pieces)
+}
+
+/// The convolution of two curves, with the contract of `convolve` of `curve_conv`. One step is counted.
+pub(crate) fn convolve_stars<L: Ledger>(
+    alloc: Global,
+    f: &Curve,
+    g: &Curve,
+    steps: &mut Steps<L>,
+) -> Result<Curve, OpFault>
+    ensures count { steps.new ≡ steps.old + 1 }
+    ensures value { IfOk result (λ c. (t : ℚ) → zero_q ≤ℚ t
+        → IsConvolution (value_at f.now) (value_at g.now) t (value_at c t)) }
+    ensures limits { KeepsLimits Convolve f.now g.now result }
+{
+    steps.tick();
+    let frame = star_frame(alloc, f, g)?;
+    match convolved_within(alloc, f, g, &frame) {
+        Ok(c) => Ok(c),
+        Err(_) => Err(OpFault::NoMemory),
+    }
+}
