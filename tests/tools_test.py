@@ -109,6 +109,15 @@ class Import(WithFolder):
         self.assertEqual(Fraction(flows[0]["arrival"]["jitter"]), 40)
         self.assertEqual(flows[1]["path"], ["es1", "sw1-p1:1"])
 
+    def test_the_head_says_what_was_read_and_how(self):
+        lines = self.made(LINKS, PORTS, "--buckets", "--grid", 4, "--overhead", 24).stdout.splitlines()
+        links, ports = self.folder / "links.csv", self.folder / "ports.csv"
+        self.assertEqual(lines[0], f"# Made by import_icd.py of {links} and {ports}, in microseconds and bits;")
+        told = "# frames as token buckets, with 24 bytes of the wire beside their own, on a grid of 1/4"
+        self.assertEqual(lines[1], f"{told}: arrivals up, services down.")
+        plain = self.made(LINKS, PORTS).stdout.splitlines()[1]
+        self.assertEqual(plain, "# frames as stairs, with 20 bytes of the wire beside their own.")
+
     def test_the_program_takes_it(self):
         path = self.file("n.toml", self.made(LINKS, PORTS).stdout)
         answer = networks.analyse(path, PROGRAM)
@@ -183,6 +192,10 @@ class Import(WithFolder):
         afdx = TOP / "examples/afdx"
         run = tool("import_icd.py", "--buckets", "--grid", 4, afdx / "links.csv", afdx / "ports.csv")
         self.assertEqual(networks.load(self.file("a.toml", run.stdout)), networks.load(afdx / "grid.toml"))
+        # The file of the example is what the tool writes, below the line for editors; its page shows the same.
+        kept = (afdx / "grid.toml").read_text().splitlines()
+        self.assertEqual(run.stdout.splitlines()[1:], kept[2:])
+        self.assertIn("of examples/afdx/links.csv and examples/afdx/ports.csv, in", kept[1])
         self.refused(
             "ports.csv line 2: the rate of es1: 1/8 would become 0",
             "import_icd.py",
@@ -223,6 +236,40 @@ class Round(WithFolder):
             self.assertEqual(networks.load(self.file("r.toml", run.stdout))["version"], version)
             self.assertEqual("version 1" in run.stderr, version == 1)
 
+    def compared(self, text):
+        run = tool("round.py", self.file("n.toml", text), "--compare", "--program", PROGRAM)
+        self.assertEqual(run.returncode, 0, run.stderr)
+        return run.stdout.splitlines()
+
+    def test_each_bound_is_compared(self):
+        tables = ["flow bound rounded greater", "queue delay rounded greater", "queue backlog rounded greater"]
+        text = TEMPLATE.replace("$rate", "199/2").replace("$period", "1000")
+        lines = self.compared(text)
+        self.assertEqual(lines[::2], tables)
+        before, after = (
+            networks.analyse(self.file("m.toml", text.replace("199/2", rate)), PROGRAM) for rate in ("199/2", "99")
+        )
+        for line, numbers, name, key in [
+            (lines[1], "flows", "f1", "bound"),
+            (lines[3], "queues", ("s1", 0), "delay"),
+            (lines[5], "queues", ("s1", 0), "backlog"),
+        ]:
+            old, new = (getattr(answer, numbers)[name][key] for answer in (before, after))
+            told = name if name == "f1" else "s1:0"
+            self.assertEqual(line, f"{told} {old} {new} {new - old}")
+        self.assertEqual(lines[3], "s1:0 27184/199 4528/33 4000/6567")
+        # 12000 bits each 241/2 microseconds are more than 99 a microsecond, and less than 199/2 + 1/4.
+        lines = self.compared(text.replace("1000", "241/2").replace("199/2", "399/4"))
+        self.assertEqual(lines[::2], tables)
+        self.assertEqual([line.split()[2:] for line in lines[1::2]], 3 * [["unbounded", "-"]])
+
+    def test_a_refused_file_has_new_bounds_alone(self):
+        wide = "1000000000000000000000001/99999999999999999999997"
+        text = TEMPLATE.replace("$rate", wide)
+        lines = self.compared(text.replace("$period", "1300000000000000003/1000000000000007"))
+        self.assertIn("the file itself is refused: netcalc: too wide", lines[0])
+        self.assertEqual([line.split()[1::2] for line in lines[2::2]], 3 * [["-", "-"]])
+
     def test_a_grid_may_be_too_coarse(self):
         run = tool("round.py", self.file("n.toml", TEMPLATE.replace("$rate", "1/3").replace("$period", "1000")))
         self.assertEqual(run.returncode, 1)
@@ -250,6 +297,12 @@ class Round(WithFolder):
             ("[[server\n", "no TOML: "),
             ("a = " + 5000 * "[" + 5000 * "]" + "\n", "no TOML: "),
             (b"# \xe9\n", "line 1: byte 0xe9 is not UTF-8"),
+            *(
+                (f'{server}rate = 1\nlink = {sign}{digits}\n', "an integer is above 2^127 - 1")
+                for digits in (str(2**127), 4300 * "9", 4301 * "9", 9000 * "9")
+                for sign in ("", "-")
+            ),
+            (server + "rate = 1\n" + flow + "packet = 0x" + 9000 * "f" + "\n", "flow[0].packet: an integer is above"),
         ]:
             self.refused(told, "round.py", self.file("n.toml", text))
         self.refused("absent.toml: No such file", "round.py", self.folder / "absent.toml")
@@ -334,6 +387,12 @@ class Sweep(WithVariants):
             (b"rate,period\n1,\xe9\n", "p.csv line 2: byte 0xe9 is not UTF-8"),
         ]:
             self.refused(told, "sweep.py", template, self.file("p.csv", rows), *rest)
+        self.refused("p.csv: no variant", "sweep.py", template, self.file("p.csv", "rate,period\n\n"), *rest)
+        empty = self.folder / "empty"
+        empty.mkdir()
+        self.refused("empty: no variant", "sweep.py", empty, *rest)
+        self.assertFalse((self.folder / "out.csv").exists())
+        self.assertFalse((self.folder / "out.csv.journal").exists())
         rows = self.file("p.csv", "rate,period\n1,1\n")
         self.refused("t.toml: Invalid placeholder", "sweep.py", self.file("t.toml", "$rate $1"), rows, *rest)
         self.refused(
@@ -439,9 +498,9 @@ class Plot(WithFolder):
     def test_faults(self):
         first, second = CURVES.splitlines()[:2]
         for what, text, told in [
-            ("bounds", "", "the answer has no queue"),
-            ("bounds", "servers 0 flows 0\n", "the answer has no queue"),
-            ("bounds", "servers 0 flows 0\nrun packets 0 end 0\nbreach none\n", "the answer has no queue"),
+            ("bounds", "", "the answer has no flow and no queue"),
+            ("bounds", "servers 0 flows 0\n", "the answer has no flow and no queue"),
+            ("bounds", "servers 0 flows 0\nrun packets 0 end 0\nbreach none\n", "the answer has no flow and no queue"),
             ("bounds", "netcalc: cycle s1 s2 s1\n", "line 1: no line of an answer: netcalc: cycle"),
             ("bounds", "queue s1 0 delay 1/0 backlog 1\n", "line 1: '1/0' is no number"),
             ("bounds", "queue s1 0 delay\n", "line 1: no line of an answer"),
@@ -515,10 +574,13 @@ class Plot(WithFolder):
             + ["delay unbounded", "backlog unbounded"]
         )
         net = ["--net", TOP / "examples/tutorial/stair.toml"]
+        flows, queues = "delay bound of a flow", "bound of a queue"
         for what, text, words, drawn in [
             ("bounds", report, [], "unbounded"),
             ("bounds", "servers 1 flows 0\nqueue s1 0 delay 0 backlog 0\n", [], "s1:0"),
+            ("bounds", report.partition("\n")[2], [], flows),
             ("bounds", seen, [], "worst of the run"),
+            ("bounds", "run packets 1 end 130\nworst f1 120 bound unbounded\nbreach none\n", [], "delay of a flow"),
             ("curves", CURVES, [], "delay 19086/25"),
             ("curves", "\n".join(flat), [], "arrival curve"),
             ("curves", "\n".join(infinite), [], "service curve"),
@@ -528,6 +590,7 @@ class Plot(WithFolder):
             run = tool("plot.py", what, self.file("answer", text), *words, "-o", picture)
             self.assertEqual((run.returncode, run.stderr), (0, ""))
             self.assertIn(drawn, picture.read_text())
+            self.assertEqual(queues in picture.read_text(), text.count("\nqueue") + text.startswith("queue") > 0)
         fine = self.file("answer", CURVES.replace("0 1000 1344", "0 1/1000 1344"))
         self.refused("too many to draw", "plot.py", "curves", fine, "-o", self.folder / "o.svg")
         self.refused(

@@ -28,6 +28,8 @@ rate of one frame a gap) in place of the stair itself: the bounds are a little g
 large common multiple are answered at once. `--grid N` rounds every number to a multiple of 1/N, links to more and ports
 to less, as round.py does with a file: each bound stays a bound.
 
+The file begins with a comment that names both tables and how they were read.
+
 A frame occupies the wire for longer than its bytes: preamble, start of frame and the gap behind it are 20 bytes on
 Ethernet, which `--overhead` sets. Tables are UTF-8. A fault ends it with status 1 and says the file, the line and what
 is wrong there. What the rules of network files ask for beyond a line (that servers exist, that a quantum is as long as
@@ -221,6 +223,16 @@ def network_of(words):
     return {"server": list(servers.values()), "flow": list(flows.values())}
 
 
+def head_of_file(words):
+    """The comment at the head of the file: what was read, and how."""
+    kind = "token buckets" if words.buckets else "stairs"
+    grid = f", on a grid of 1/{words.grid}: arrivals up, services down" if words.grid else ""
+    return (
+        f"Made by import_icd.py of {words.links} and {words.ports}, in microseconds and bits;\n"
+        f"frames as {kind}, with {words.overhead} bytes of the wire beside their own{grid}."
+    )
+
+
 def main():
     parser = argparse.ArgumentParser(description=__doc__, formatter_class=argparse.RawDescriptionHelpFormatter)
     parser.add_argument("links")
@@ -235,7 +247,7 @@ def main():
         parser.error("the overhead is from 0 bytes on, and below 2^21")
     if words.grid is not None and not 1 <= words.grid <= rounding.FINEST:
         parser.error(f"the grid is a whole number from 1 to {rounding.FINEST}")
-    sys.stdout.write(dump(network_of(words), f"Made of {words.links} and {words.ports}, in microseconds and bits."))
+    sys.stdout.write(dump(network_of(words), head_of_file(words)))
     return 0
 
 

@@ -74,6 +74,9 @@ def load(path):
         network = tomllib.loads(text_in(path))
     except (tomllib.TOMLDecodeError, RecursionError) as fault:
         raise Fault(f"{path}: no TOML: {fault}") from None
+    except ValueError:
+        # What Python says of digits that are too many for it: thousands.
+        raise Fault(f"{path}: an integer is above 2^127 - 1") from None
     try:
         hold_values(network, "")
         for kind in ("server", "flow"):
@@ -90,6 +93,8 @@ def hold_values(value, place):
     """Refuses a value of a kind that no network file has."""
     if isinstance(value, float):
         raise Fault(f'{place}: {value} is a float, which is not exact: write "p/q"')
+    if isinstance(value, int) and abs(value) > LARGEST:
+        raise Fault(f"{place}: an integer is above 2^127 - 1")
     if isinstance(value, (datetime.date, datetime.time)):
         raise Fault(f"{place}: no value of a network file is a date or a time")
     if isinstance(value, dict):

@@ -3,7 +3,8 @@
 
     tools/plot.py bounds ANSWER.txt -o OUT.svg
         bars of an answer of `netcalc analyse` or `edit`: a flow's bounds by total-flow and by separate-flow analysis,
-        each queue's delay and backlog; or of `netcalc simulate` or `check`: the worst of the run beside the bound
+        each queue's delay and backlog; or of `netcalc simulate` or `check`: the worst of the run beside the bound;
+        flows or queues alone, where an answer has no others
     tools/plot.py curves ANSWER.txt -o OUT.svg
         two curves, an arrival curve and a service curve, with their horizontal and vertical deviation: of an answer of
         `netcalc curve` that has `show A`, `show B`, `delay A, B` and `backlog A, B`
@@ -141,6 +142,22 @@ def bars(axes, names, columns, label):
     axes.grid(axis="x", alpha=0.3)
     if len(columns) > 1:
         axes.legend(fontsize=8, ncol=len(columns), loc="lower center", bbox_to_anchor=(0.5, 1.0), frameon=False)
+
+
+def draw_panels(panels, width, path):
+    """The picture of panels beside one another, each with names, columns and a label, and of one width; a panel without
+    a name is left out."""
+    panels = [panel for panel in panels if panel[0]]
+    if not panels:
+        raise Fault("the answer has no flow and no queue: nothing to draw")
+    plot = drawing()
+
+    rows = max(len(names) for names, _, _ in panels)
+    size = width * len(panels), 1.2 + 0.32 * rows
+    figure, all_axes = plot.subplots(1, len(panels), figsize=size, squeeze=False, layout="constrained")
+    for axes, panel in zip(all_axes[0], panels):
+        bars(axes, *panel)
+    save(figure, path)
 
 
 class Curve:
@@ -335,27 +352,17 @@ def draw_curves(text, path):
 def draw_run(text, path):
     """The picture of an answer of `simulate`: what the run showed beside what no run passes."""
     flows, queues = read_run(text)
-    if not queues:
-        raise Fault("the answer has no queue: nothing to draw")
-    plot = drawing()
 
-    rows = [max(1, len(flows)), max(1, len(queues))]
-    figure, (left, right) = plot.subplots(1, 2, figsize=(11, 1.2 + 0.32 * max(rows)), layout="constrained")
-    for axes, found, label in (
-        (left, flows, "delay of a flow, end to end"),
-        (right, queues, "backlog of a queue, in bits"),
-    ):
-        names = [name for name, _, _ in found]
-        bars(
-            axes,
-            names,
-            [
-                ("worst of the run", [seen for _, seen, _ in found], GREY),
-                ("bound", [bound for _, _, bound in found], BLUE),
-            ],
-            label,
-        )
-    save(figure, path)
+    def panel(found, label):
+        columns = [
+            ("worst of the run", [seen for _, seen, _ in found], GREY),
+            ("bound", [bound for _, _, bound in found], BLUE),
+        ]
+        return [name for name, _, _ in found], columns, label
+
+    draw_panels(
+        [panel(flows, "delay of a flow, end to end"), panel(queues, "backlog of a queue, in bits")], 11 / 2, path
+    )
 
 
 class Server:
@@ -523,22 +530,17 @@ def draw_bounds(text, path):
         draw_run(text, path)
         return
     flows, queues = read_answer(text)
-    if not queues:
-        raise Fault("the answer has no queue: nothing to draw")
-    plot = drawing()
-
-    rows = [max(1, len(flows)), max(1, len(queues))]
-    figure, (left, middle, right) = plot.subplots(1, 3, figsize=(13, 1.2 + 0.32 * max(rows)), layout="constrained")
-    names = [name for name, _, _ in flows]
     columns = [
         ("total-flow", [tfa for _, tfa, _ in flows], BLUE),
         ("separate-flow", [sfa for _, _, sfa in flows], GREY),
     ]
-    bars(left, names, columns, "delay bound of a flow, end to end")
     names = [name for name, _, _ in queues]
-    bars(middle, names, [("delay", [delay for _, delay, _ in queues], BLUE)], "delay bound of a queue")
-    bars(right, names, [("backlog", [bits for _, _, bits in queues], RED)], "backlog bound of a queue, in bits")
-    save(figure, path)
+    panels = [
+        ([name for name, _, _ in flows], columns, "delay bound of a flow, end to end"),
+        (names, [("delay", [delay for _, delay, _ in queues], BLUE)], "delay bound of a queue"),
+        (names, [("backlog", [bits for _, _, bits in queues], RED)], "backlog bound of a queue, in bits"),
+    ]
+    draw_panels(panels, 13 / 3, path)
 
 
 def main():

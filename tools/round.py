@@ -11,9 +11,10 @@ are, and a line on the standard error names them. A file of version 2 says that 
 where a rate is rounded down, that is no longer so, and the rounded file is of version 1, whose bounds hold for the runs
 of both: a line on the standard error tells it.
 
-With `--compare` it runs the program on the file and on the rounded one, and prints for each flow both bounds and how
-much the rounded one is greater; where the file itself is refused, as too wide or too many, it is told so and only the
-new bounds stand there.
+With `--compare` it runs the program on the file and on the rounded one, and prints three tables: each flow's bound,
+each queue's delay and each queue's backlog, of both files, and how much the rounded one's is greater (`-` where one of
+them is `unbounded`). A queue is SERVER:QUEUE. Where the file itself is refused, as too wide or too many, it is told so
+and only the new bounds stand there.
 
 A file that is no network at all (no TOML, a float for a number, a key that rounding needs and that is missing) is
 refused with status 1 and a line.
@@ -115,8 +116,21 @@ def paces(network):
     return [number(server["rate"]) for server in network.get("server", [])] if network.get("version") == 2 else []
 
 
+def table(what, number_of, before, after):
+    """A table of both files' numbers of one name, and how much the second is greater; where nothing is known of the
+    first, a `-`."""
+    yield f"{what} {number_of} rounded greater"
+    for name, numbers in after.items():
+        new = numbers[number_of]
+        old = before[name][number_of] if name in before else None
+        words = ["unbounded" if value is None else str(value) for value in (old, new)]
+        greater = "-" if None in (old, new) else new - old
+        told = name if what == "flow" else f"{name[0]}:{name[1]}"
+        yield f"{told} {words[0] if name in before else '-'} {words[1]} {greater}"
+
+
 def compared(path, network, program):
-    """The lines of a table of both files' bounds."""
+    """The lines of the tables of both files' bounds."""
     with tempfile.NamedTemporaryFile("w", suffix=".toml", encoding="utf-8") as file:
         file.write(dump(network))
         file.flush()
@@ -125,13 +139,9 @@ def compared(path, network, program):
     if after.status:
         return [f"the rounded file is refused too: {after.text.strip()}"]
     lines = [] if before.status == 0 else [f"the file itself is refused: {before.text.strip()}"]
-    lines.append("flow bound rounded greater")
-    for flow, bounds in after.flows.items():
-        new = bounds["bound"]
-        old = before.flows[flow]["bound"] if before.status == 0 else None
-        known = before.status == 0 and old is not None and new is not None
-        words = ["unbounded" if bound is None else str(bound) for bound in (old, new)]
-        lines.append(f"{flow} {words[0] if before.status == 0 else '-'} {words[1]} {new - old if known else '-'}")
+    lines += table("flow", "bound", before.flows, after.flows)
+    lines += table("queue", "delay", before.queues, after.queues)
+    lines += table("queue", "backlog", before.queues, after.queues)
     return lines
 
 

@@ -98,6 +98,8 @@ def rows_of(path):
                 rows[str(len(rows) + 1)] = dict(zip(head, cells))
     except (csv.Error, Fault) as fault:
         raise Fault(f"{path} line {max(1, reader.line_num)}: {fault}") from None
+    if not rows:
+        raise Fault(f"{path}: no variant")
     return rows
 
 
@@ -106,12 +108,13 @@ def variants_of(source, parameters):
     source = pathlib.Path(source)
     if source.is_dir():
         paths = {path.stem: path for path in sorted(source.glob("*.toml"))}
+        if not paths:
+            raise Fault(f"{source}: no variant")
         return dict.fromkeys(paths, {}), lambda name: text_in(paths[name])
     rows = rows_of(parameters)
     template = string.Template(text_in(source))
     try:
-        for row in list(rows.values())[:1]:
-            template.substitute(row)  # A name without a column is told before anything runs.
+        template.substitute(next(iter(rows.values())))  # A name without a column is told before anything runs.
     except KeyError as missing:
         raise Fault(f"{parameters}: no column {missing.args[0]}, which {source} asks for") from None
     except ValueError as fault:
