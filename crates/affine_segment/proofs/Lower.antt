@@ -6,7 +6,7 @@ use Rattle.rational.specs.MinMax.{min_q}
 use Rattle.rational.specs.Extended.{Ext, ◌<ₑ◌}
 use Rattle.rational.specs.declared.Extended.TheVariants.{Fin, Inf}
 use Rattle.rational.proofs.Linear.{with2, with3, with4, with8}
-use Rattle.rational.proofs.Laws.{le_or_lt, le_of_lt, mul_sub, mul_le_mul_right, antisym}
+use Rattle.rational.proofs.Laws.{le_or_lt, mul_sub, mul_le_mul_right, antisym}
 use Rattle.rational.proofs.MinMax.{min_q_left, min_q_right, min_q_comm}
 use Rattle.affine_segment.specs.declared.line.Line.{Line}
 use Rattle.affine_segment.specs.declared.cut.Cut.{Cut}
@@ -41,9 +41,6 @@ after k r l q x t h e b =
     plain rx rt qx qt a b m f g e = with8 k l rx rt qx qt a b (λ c. omega (arith, c.le, c.lt, c.same))
 
 -- ---- cuts
-make_cut : Line → Line → Cut
-make_cut l m = record { low = l; at = None; after = m }
-
 -- one line throughout
 pub left_cut : (a b : Line) (from : ℚ) (to : Ext) → ((t : ℚ) → IsWithin from to t → line_at a t ≤ℚ line_at b t)
     → IsLowerCut a b from to record { low = a; at = None; after = a }

@@ -1,7 +1,7 @@
 -- What two lines make of the splits of a time is a line too.
-use Rattle.std.specs.Prelude.{◌≡◌, ◌⊎◌, pos}
-use Rattle.std.proofs.Common.{arith, sym, ap, ◌∙◌, subst, inl, inr}
-use Rattle.rational.specs.Rational.{ℚ, ◌+ℚ◌, ◌-ℚ◌, ◌*ℚ◌, ◌≤ℚ◌, ◌<ℚ◌, int}
+use Rattle.std.specs.Prelude.{◌≡◌, pos}
+use Rattle.std.proofs.Common.{arith, sym, ap, ◌∙◌, inl, inr}
+use Rattle.rational.specs.Rational.{ℚ, ◌+ℚ◌, ◌-ℚ◌, ◌*ℚ◌, ◌≤ℚ◌, int}
 use Rattle.rational.specs.Line.{line_at}
 use Rattle.rational.proofs.Laws.{le_or_lt, le_of_lt, mul_sub, sub_mul}
 use Rattle.rational.proofs.Linear.{with5}

@@ -35,9 +35,6 @@ use Rattle.broken_laws.proofs.Tracking.{each_server, push_cases, place_last, pla
 at_same : (s t : ℕ) → At s ≡ At t → s ≡ t
 at_same s t e = cc
 
-way_same : (s t : ℕ) (x y : ℚ) → OnLink s x ≡ OnLink t y → (s ≡ t) × (x ≡ y)
-way_same s t x y e = (cc, cc)
-
 at_way : (s t : ℕ) (x : ℚ) → At s ≡ OnLink t x → ⊥
 at_way s t x e = cc
 

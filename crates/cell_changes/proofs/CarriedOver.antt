@@ -1,11 +1,9 @@
 -- What an edit leaves untouched keeps its values.
-use Rattle.std.proofs.Common.{◌≡◌, ◌≢◌, ◌⊎◌, ℕ, List, [], ◌∷◌, refl, sym, ap, ◌∙◌, subst, inl, inr}
+use Rattle.std.proofs.Common.{◌≡◌, ◌≢◌, ◌⊎◌, List, [], ◌∷◌, refl, sym, ap, ◌∙◌, subst, inl, inr}
 use Rattle.std.specs.Prelude.{false, Some, Ok, Err, IsTrue, Contains}
 use Rattle.upp_limits.specs.declared.op_kind.OpFault.{OpFault}
 use Rattle.upp_limits.specs.declared.op_kind.OpFault.TheVariants.{NoMemory}
 use Rattle.net_model.specs.Networks.{Net}
-use Rattle.net_model.specs.Accepted.{IsAccepted}
-use Rattle.net_model.specs.Orders.{IsOrder}
 use Rattle.net_cells.specs.declared.cell.Cell.{Cell}
 use Rattle.net_cells.specs.Cells.{has_cell}
 use Rattle.net_cells.specs.Formulas.{Formula, leaves}
@@ -14,8 +12,8 @@ use Rattle.net_cells.specs.Meanings.{Meaning, CellTable}
 use Rattle.net_cells.specs.Means.{Means}
 use Rattle.net_cells.specs.Answers.{Answers}
 use Rattle.net_cells.specs.Equations.{MeetsEquation, MeetsEquations, MeetsBelow}
-use Rattle.net_cells.specs.FirstOver.{IsAnswered, FirstOver}
-use Rattle.net_cells.proofs.Lists.{Has, has_contains}
+use Rattle.net_cells.specs.FirstOver.{IsAnswered}
+use Rattle.net_cells.proofs.Lists.{has_contains}
 use Rattle.net_cells.proofs.OneMeaning.{means_one}
 use Rattle.net_cells.proofs.OneAnswer.{answers_one}
 use Rattle.net_cells.proofs.SameLeaves.{AgreeOn, means_same, answers_same}

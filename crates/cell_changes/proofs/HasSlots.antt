@@ -1,21 +1,20 @@
 -- Every cell of a network has a place in a table by number.
-use Rattle.std.proofs.Common.{◌≡◌, ℕ, ◌+◌, ◌<◌, ◌≤◌, List, length, get_or, Bool, true, sym, ap, ◌∙◌, subst, refl, arith, inl, inr}
-use Rattle.std.specs.Prelude.{Option, Some, None, is_some, slice_get, Contains, IsTrue}
-use Rattle.std.proofs.lemmas.Bool.{ltb-true, eqb-true, and_parts, cases_lt}
-use Rattle.std.proofs.lemmas.List.{get_or_default, get_or_past}
+use Rattle.std.proofs.Common.{◌≡◌, ℕ, ◌+◌, ◌<◌, ◌≤◌, get_or, true, ◌∙◌, refl, arith}
+use Rattle.std.specs.Prelude.{Option, Some, None, slice_get}
+use Rattle.std.proofs.lemmas.Bool.{ltb-true, eqb-true, and_parts}
+use Rattle.std.proofs.lemmas.List.{get_or_default}
 use Rattle.std.proofs.lemmas.Option.{slice_get_within, get_or_from_slice_get}
 use Rattle.run_laws.specs.Servers.{Discipline, Fifo, Priority, Drr, queue_count}
-use Rattle.net_model.specs.Networks.{Net, NetServer, NetFlow}
-use Rattle.net_model.specs.Accepted.{IsAccepted, IsFlow, HasFewQueues}
+use Rattle.net_model.specs.Networks.{Net, NetServer}
+use Rattle.net_model.specs.Accepted.{IsAccepted, IsFlow}
 use Rattle.net_model.proofs.FewQueues.{few_of}
-use Rattle.net_cells.specs.declared.cell.Cell.{Cell}
 use Rattle.net_cells.specs.declared.cell.Scope.{Scope}
 use Rattle.net_cells.specs.declared.cell.Scope.TheVariants.{EachHop, EachHopButLast, EachQueue, EachPriorityQueue, EachPath}
-use Rattle.net_cells.specs.Numbered.{flow_at, path_of, hops, queues, levels, levels_of, discipline_of, is_live}
-use Rattle.net_cells.specs.Cells.{scope_of, is_in_scope, has_cell}
+use Rattle.net_cells.specs.Numbered.{hops, queues, levels, levels_of, discipline_of, is_live}
+use Rattle.net_cells.specs.Cells.{scope_of, is_in_scope}
 use Rattle.net_cells.proofs.Places.{flow_inside, live_inside}
 use Rattle.net_cells.proofs.Members.{hop_of}
-use Rattle.cell_changes.specs.Slots.{rows_in, columns_in, HasSlot, SlotsAreOwn}
+use Rattle.cell_changes.specs.Slots.{rows_in, columns_in, SlotsAreOwn}
 use Rattle.cell_changes.proofs.OwnSlots.{own, is_below}
 
 abbrev IsInside : Scope → ℕ → ℕ → Type 0

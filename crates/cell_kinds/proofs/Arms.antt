@@ -1,6 +1,6 @@
 -- What each kind of cell needs of the cells that it is made of, and how its operators are counted.
 use Rattle.std.proofs.Common.{◌≡◌, ℕ, suc, ◌<◌, ◌≤◌, ◌+◌, ◌-◌, List, [], ◌∷◌, length, map, refl, sym, ap, ◌∙◌, subst, arith, inl, inr, Bool, true, false}
-use Rattle.std.specs.Prelude.{Option, None, Some, Ok, Err, Result, IfOk, is_some, ◌==◌}
+use Rattle.std.specs.Prelude.{Option, None, Some, Ok, Err, Result, IfOk, ◌==◌}
 use Rattle.std.specs.List.{range_with_len}
 use Rattle.std.proofs.lemmas.Bool.{ltb-true, and_parts}
 use Rattle.rational.specs.Extended.{Ext}
@@ -8,11 +8,10 @@ use Rattle.upp_limits.specs.declared.op_kind.OpFault.{OpFault}
 use Rattle.upp_curve.specs.Curve.{SpecCurve, value_at}
 use Rattle.min_plus.specs.Deviations.{IsHorizontalDeviation}
 use Rattle.run_laws.specs.Servers.{Discipline, Priority}
-use Rattle.net_model.specs.Networks.{Net, NetFlow}
-use Rattle.net_model.specs.Accepted.{IsAccepted}
+use Rattle.net_model.specs.Networks.{Net}
 use Rattle.net_cells.specs.declared.cell.Cell.{Cell}
 use Rattle.net_cells.specs.declared.cell.Kind.TheVariants.{In, Cross, Total, Higher, QueueService, Theta, Residual, QueueDelay, QueueBacklog, HopDelay, ShiftOut, DeconvOut, Out, PathService, Tfa, Sfa, Bound}
-use Rattle.net_cells.specs.Numbered.{flow_at, path_of, hops, server_of_hop, queue_of_hop, queues, discipline, is_live}
+use Rattle.net_cells.specs.Numbered.{hops, server_of_hop, queue_of_hop, queues, discipline, is_live}
 use Rattle.net_cells.specs.declared.visit.Visit.{Visit}
 use Rattle.net_cells.specs.Visits.{visit, visits_in, others, is_at}
 use Rattle.net_cells.specs.QueueParts.{in_part, part_numbers, by_parts}
@@ -26,7 +25,6 @@ use Rattle.net_cells.specs.Work.{total_work}
 use Rattle.net_cells.proofs.LeavesOf.{parts_leaves}
 use Rattle.net_cells.proofs.Lists.{map_has, filter_has, has_range, range_has}
 use Rattle.net_cells.proofs.Places.{flow_inside}
-use Rattle.net_cells.proofs.Stored.{flow_kept}
 use Rattle.net_cells.proofs.Precedes.{some_hop}
 use Rattle.queue_hops.specs.declared.found.Pick.{Pick}
 use Rattle.cell_table.specs.Gives.{Gives}
@@ -152,10 +150,6 @@ module _ (net : Net) (at : CellTable) (s q : ℕ) where
       (operand net at (cell_of QueueBacklog s q) (cell_of QueueService s q) m.below (inr (inl refl)))
 
 -- ---- whole paths
-live_flow_hops : (net : Net) (i : ℕ) (o : Option NetFlow) → IsAccepted net → flow_at net i ≡ o → is_some o ≡ true → 0 < length (path_of o)
-live_flow_hops net i None a e live = absurd (let bad : false ≡ true = live in cc)
-live_flow_hops net i (Some f) a e live = let some = (flow_kept net i f a e).some in omega (arith, some)
-
 module _ (net : Net) (at : CellTable) (i : ℕ) where
   pub path_some : MayBeMade net at (cell_of PathService i 0) → 0 < hops net i
   path_some m = some_hop net i m.accepted (and_parts (is_live net i) true m.exists).0

@@ -18,7 +18,6 @@ use Rattle.rational.proofs.Laws.{le_refl, le_trans, le_or_lt, add_assoc, add_com
 use Rattle.rational.proofs.MinMax.{max_q_ge_left, max_q_ge_right, max_q_one, max_q_right, max_q_is_left}
 use Rattle.rational.proofs.Linear.{with1, with2}
 use Rattle.min_plus.specs.Functions.{zero_q}
-use Rattle.min_plus.proofs.TimeSums.{sum_more}
 use Rattle.upp_limits.proofs.Every.{every_left}
 use Rattle.upp_limits.proofs.CommonDen.{common_den_each, common_den_least, common_den_pos, size_up_within}
 use Rattle.upp_limits.proofs.Gathering.{den_more}

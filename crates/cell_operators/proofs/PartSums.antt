@@ -1,7 +1,7 @@
 -- Parts that were made, added up from the first on.
 use Rattle.std.proofs.Common.{◌≡◌, ℕ, suc, ◌<◌, ◌≤◌, ◌+◌, List, [], ◌∷◌, length, map, drop, get_or, refl, sym, ap, ◌∙◌, subst, arith}
 use Rattle.std.proofs.Math.Seq.{drop-cons, drop-length}
-use Rattle.std.specs.Prelude.{All, Some, Result, Ok, Err}
+use Rattle.std.specs.Prelude.{All, Result, Ok, Err}
 use Rattle.std.proofs.lemmas.List.Elements.{All-get_or}
 use Rattle.upp_limits.specs.declared.op_kind.OpKind.TheVariants.{Sum}
 use Rattle.upp_limits.specs.declared.op_kind.OpFault.{OpFault}

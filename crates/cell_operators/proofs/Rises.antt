@@ -1,12 +1,12 @@
 -- Which functions rise, by how they are made, whatever their values at 0.
-use Rattle.std.specs.Prelude.{◌≡◌, ℕ}
-use Rattle.std.proofs.Common.{arith, sym, subst}
-use Rattle.rational.specs.Rational.{ℚ, ◌+ℚ◌, ◌-ℚ◌, ◌≤ℚ◌, neg_ℚ}
+use Rattle.std.specs.Prelude.{ℕ}
+use Rattle.std.proofs.Common.{arith, subst}
+use Rattle.rational.specs.Rational.{ℚ, ◌+ℚ◌, ◌-ℚ◌, ◌≤ℚ◌}
 use Rattle.rational.specs.Extended.{Ext, ◌≤ₑ◌, ◌-ₑ◌, ◌+ₑ◌, min_ext}
 use Rattle.rational.specs.declared.Extended.TheVariants.{Fin, Inf}
 use Rattle.rational.proofs.Bounds.{smallest, supremum_le}
-use Rattle.rational.proofs.ExtendedOrder.{le_ext_refl, le_ext_trans, same_le_ext, le_inf, add_le_ext, sub_is_add_ext, min_ext_mono}
-use Rattle.rational.proofs.Laws.{le_refl, le_trans, add_le_add, add_zero}
+use Rattle.rational.proofs.ExtendedOrder.{le_ext_refl, le_ext_trans, le_inf, add_le_ext, min_ext_mono}
+use Rattle.rational.proofs.Laws.{le_refl, le_trans, add_le_add}
 use Rattle.rational.proofs.Linear.{with3}
 use Rattle.rational.proofs.MinMax.{max_q_mono}
 use Rattle.upp_limits.specs.declared.op_kind.OpKind.TheVariants.{Sum, Min, Shift, Deconvolve}

@@ -5,7 +5,7 @@ use Rattle.std.specs.Prelude.{Option, None, not, ◌&&◌, if◌then◌else◌, 
 use Rattle.std.specs.List.{filter, range_with_len}
 use Rattle.std.proofs.lemmas.List.{get_or_past}
 use Rattle.net_model.specs.Networks.{Net, NetFlow}
-use Rattle.net_cells.specs.Numbered.{flow_at, path, path_of, queues_of, hops, packet, packet_of, queue_of_hop}
+use Rattle.net_cells.specs.Numbered.{flow_at, path, path_of, queues_of, hops, packet, packet_of}
 use Rattle.net_cells.specs.declared.visit.Visit.{Visit}
 use Rattle.net_cells.specs.Visits.{visit, visits, is_at, hops_at, others, longest_of}
 use Rattle.net_cells.specs.QueueParts.{in_part}

@@ -1,24 +1,22 @@
 -- Two formulas of a kind are one exactly where what they read of their networks is.
-use Rattle.std.proofs.Common.{◌≡◌, ◌≢◌, ℕ, zero, suc, ◌<◌, ◌+◌, ◌-◌, List, [], ◌∷◌, length, get_or, map, refl, sym, ap, ap₂, ◌∙◌, subst, arith, Bool, true, false}
-use Rattle.std.specs.Prelude.{pos, IsTrue}
+use Rattle.std.proofs.Common.{◌≡◌, ◌≢◌, ℕ, zero, suc, ◌<◌, ◌-◌, List, length, get_or, map, refl, sym, ap, ap₂, ◌∙◌, subst, arith, Bool}
+use Rattle.std.specs.Prelude.{pos}
 use Rattle.std.specs.List.{range_with_len}
 use Rattle.std.proofs.lemmas.List.{length-map, get_or-map, same_lists}
-use Rattle.std.proofs.lemmas.List.FromFn.{length-range_with_len}
 use Rattle.rational.specs.Rational.{ℚ}
 use Rattle.rational.proofs.Integers.{int_same}
 use Rattle.min_plus.specs.Functions.{zero_q}
 use Rattle.run_laws.specs.Cards.{whole}
-use Rattle.upp_limits.specs.declared.op_kind.OpKind.TheVariants.{PosMinus, Convolve, Deconvolve}
+use Rattle.upp_limits.specs.declared.op_kind.OpKind.TheVariants.{Convolve, Deconvolve}
 use Rattle.net_model.specs.Networks.{Net}
 use Rattle.net_cells.specs.declared.cell.Cell.{Cell}
 use Rattle.net_cells.specs.declared.cell.Kind.{Kind}
 use Rattle.net_cells.specs.declared.cell.Kind.TheVariants.{In, Cross, Total, QueueService, Theta, Residual, QueueDelay, QueueBacklog, HopDelay, DeconvOut, PathService, Tfa, Sfa}
-use Rattle.net_cells.specs.Numbered.{path, packet, arrival, hops, server_of_hop, link}
+use Rattle.net_cells.specs.Numbered.{path, packet, hops, server_of_hop, link}
 use Rattle.net_cells.specs.Visits.{longest}
 use Rattle.net_cells.specs.Cells.{cell_of}
-use Rattle.net_cells.specs.Formulas.{Formula, leaves, value_of, given, made, made_of, leftover, horizontal, vertical, smaller, along, delayed}
+use Rattle.net_cells.specs.Formulas.{Formula, leaves, made, leftover, horizontal, vertical, smaller, along, delayed}
 use Rattle.net_cells.specs.CellFormulas.{formula, formula_of, value, less, packets_to, served_to, link_delays, hop_delay_cells}
-use Rattle.net_cells.proofs.LeavesOf.{served_leaves}
 use Rattle.cell_rules.specs.Rules.{TellsSame, TellsFormula, hop_queue}
 use Rattle.cell_rules.proofs.Tells.{tells_by}
 
@@ -87,11 +85,6 @@ deconv_tells old new i k b t =
     second F G H K e = cc
 
 -- ---- curves
-pub first_tells : (old new : Net) (i : ℕ) (b : Bool) → TellsSame (arrival old i) (arrival new i) b
-    → TellsFormula old new In i 0 b
-first_tells old new i b t =
-    tells_by (arrival old i) (arrival new i) (formula_of old In i 0) (formula_of new In i 0) b (ap given) (λ e. cc) t
-
 pub later_same : (old new : Net) (i k : ℕ) → k ≢ 0 → formula_of old In i k ≡ formula_of new In i k
 later_same old new i zero n = absurd (n refl)
 later_same old new i (suc k) n = refl
@@ -122,20 +115,6 @@ served_out old new i (suc k) n e = packets_out old new i k (first (packets_to ol
     first : (F G H K : Formula) → made Convolve F H ≡ made Convolve G K → F ≡ G
     first F G H K d = cc
 
-how_many : (net : Net) (i k : ℕ) → length (leaves (served_to net i k)) ≡ k + 1
-how_many net i k =
-    ap length (served_leaves net i k) ∙ length-map (range_with_len 0 (k + 1)) (cell_of Residual i)
-    ∙ length-range_with_len 0 (k + 1)
-
-pub other_path : (old new : Net) (i : ℕ) → hops old i - 1 ≢ hops new i - 1
-    → formula_of old PathService i 0 ≢ formula_of new PathService i 0
-other_path old new i n e =
-    let many = how_many old i (hops old i - 1) in
-    let others = how_many new i (hops new i - 1) in
-    let same : length (leaves (served_to old i (hops old i - 1))) ≡ length (leaves (served_to new i (hops new i - 1))) =
-    ap (λ F. length (leaves F)) e in
-    n (omega (arith, many, others, same))
-
 pub one_hop : (old new : Net) (i : ℕ) → hops old i - 1 ≡ 0 → hops new i - 1 ≡ 0
     → formula_of old PathService i 0 ≡ formula_of new PathService i 0
 one_hop old new i here there = ap (served_to old i) here ∙ sym (ap (served_to new i) there)
@@ -165,12 +144,6 @@ same_links old new i many each =
     let low : k < hops old i = omega (arith, h, here) in
     let high : k < hops new i = omega (arith, h, here, many) in
     link_at old i k d low ∙ each k low ∙ sym (link_at new i k d high))
-
-pub fewer_links : (old new : Net) (i : ℕ) → hops old i ≢ hops new i → link_delays old i ≢ link_delays new i
-fewer_links old new i n e =
-    let here = links_count old i in
-    let there = links_count new i in
-    n (omega (arith, here, there, ap length e))
 
 pub other_link : (old new : Net) (i k : ℕ) → k < hops old i → hops old i ≡ hops new i
     → link old (server_of_hop old i k) ≢ link new (server_of_hop new i k) → link_delays old i ≢ link_delays new i

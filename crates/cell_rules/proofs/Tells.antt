@@ -1,5 +1,5 @@
 -- What tests tell of things that are made of others.
-use Rattle.std.proofs.Common.{◌≡◌, ◌≢◌, ℕ, ◌<◌, ◌+◌, ◌==◌, get_or, map, Bool, true, false, refl, sym, ap, ap₂, ◌∙◌, subst, arith, ⊎_elim, List, [], ◌∷◌, ◌++◌}
+use Rattle.std.proofs.Common.{◌≡◌, ◌≢◌, ℕ, ◌<◌, ◌+◌, ◌==◌, get_or, map, Bool, true, false, refl, sym, ap, ap₂, ◌∙◌, subst, arith, ⊎_elim, [], ◌∷◌, ◌++◌}
 use Rattle.std.specs.Prelude.{IsTrue, ◌↔◌}
 use Rattle.std.specs.List.{range_with_len}
 use Rattle.std.proofs.lemmas.Bool.Decides.{eqb_tells}

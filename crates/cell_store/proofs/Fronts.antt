@@ -1,6 +1,6 @@
 -- How far the cells of a network are answered, where the touched ones are made anew in their order.
-use Rattle.std.proofs.Common.{◌≡◌, ℕ, ◌<◌, ◌≤◌, ◌+◌, List, [], ◌∷◌, ◌++◌, length, take, drop, refl, sym, ap, ◌∙◌, subst, inl, inr, arith, true, get_or, add-one, drop-cons, append_assoc, append-nil}
-use Rattle.std.specs.Prelude.{◌≢◌, Some, Ok, Err, IsTrue, Contains}
+use Rattle.std.proofs.Common.{◌≡◌, ℕ, ◌<◌, ◌+◌, List, [], ◌∷◌, ◌++◌, length, drop, sym, ap, ◌∙◌, subst, inl, inr, true, add-one, drop-cons, append_assoc, append-nil}
+use Rattle.std.specs.Prelude.{◌≢◌, Some, Ok, Err, Contains}
 use Rattle.std.proofs.lemmas.List.{get_or_default}
 use Rattle.upp_limits.specs.declared.op_kind.OpFault.{OpFault}
 use Rattle.upp_limits.specs.declared.op_kind.OpFault.TheVariants as operator
@@ -9,18 +9,16 @@ use Rattle.net_model.specs.Accepted.{IsAccepted}
 use Rattle.net_model.specs.Orders.{IsOrder}
 use Rattle.net_graph.proofs.OneOrders.{one_order}
 use Rattle.net_cells.specs.declared.cell.Cell.{Cell}
-use Rattle.net_cells.specs.declared.cell.Kind.TheVariants.{In}
 use Rattle.net_cells.specs.Cells.{has_cell}
 use Rattle.net_cells.specs.Order.{evaluation_order}
 use Rattle.net_cells.specs.CellFormulas.{formula}
 use Rattle.net_cells.specs.Meanings.{Meaning, CellTable}
 use Rattle.net_cells.specs.Equations.{MeetsBelow}
 use Rattle.net_cells.specs.FirstOver.{IsAnswered, AnswersAll, FirstOver}
-use Rattle.net_cells.proofs.Lists.{Has, Apart, contains_has, has_contains, has_either, has_right}
-use Rattle.net_cells.proofs.SameLeaves.{AgreeOn, answers_same}
-use Rattle.net_cells.proofs.Members.{in_order, apart_cells}
-use Rattle.net_cells.proofs.Precedes.{in_front, leaf_in_front}
-use Rattle.net_cells.proofs.Tables.{closed_front, front_meets_below}
+use Rattle.net_cells.proofs.Lists.{Has, contains_has, has_contains, has_either}
+use Rattle.net_cells.proofs.Members.{in_order}
+use Rattle.net_cells.proofs.Precedes.{in_front}
+use Rattle.net_cells.proofs.Tables.{front_meets_below}
 use Rattle.cell_table.specs.declared.fault.AnalysisFault.{AnalysisFault}
 use Rattle.cell_table.specs.Gives.{Gives}
 use Rattle.cell_table.specs.Refusals.{fault_at}

@@ -1,26 +1,11 @@
 -- How many pieces the closure of a line has.
-use Rattle.std.specs.Prelude.{◌≡◌, ℕ, zero, suc, ◌+◌, ◌*◌, ◌≤◌, pos, List, [], ◌∷◌, length, sum_by, cond, Bool, true, false}
-use Rattle.std.proofs.Common.{arith, sym, refl, subst, inl, inr}
-use Rattle.std.proofs.lemmas.List.Sums.{sum_by-cons}
-use Rattle.rational.specs.Rational.{ℚ, ◌+ℚ◌, ◌-ℚ◌, ◌*ℚ◌, ◌/ℚ◌, ◌≤ℚ◌, ◌<ℚ◌, int, lt_q}
-use Rattle.rational.proofs.Linear.{with3}
-use Rattle.rational.proofs.Laws.{one_mul, le_or_lt}
-use Rattle.rational.proofs.Quotients.{div_le}
-use Rattle.rational.proofs.Over.{lt_q_out}
-use Rattle.rational.proofs.MinMax.{lt_q_not}
+use Rattle.std.specs.Prelude.{ℕ, zero, suc, ◌+◌, ◌*◌, ◌≤◌, List, ◌∷◌, length}
+use Rattle.std.proofs.Common.{arith, sym, subst, inl, inr}
+use Rattle.rational.specs.Rational.{ℚ}
+use Rattle.rational.proofs.Laws.{le_or_lt}
 use Rattle.affine_segment.specs.declared.line.Line.{Line}
 use Rattle.affine_segment.specs.declared.line.Piece.{Piece}
-use Rattle.upp_curve.specs.declared.curve.Tail.TheVariants.{Periodic, Affine, Infinite}
-use Rattle.upp_curve.specs.Curve.{SpecCurve}
 use Rattle.min_plus.specs.Functions.{zero_q}
-use Rattle.upp_curve.specs.Steady.{steady}
-use Rattle.upp_limits.specs.Periods.{own_period}
-use Rattle.affine_segment.specs.Pieces.{StartsAtZero}
-use Rattle.upp_curve.specs.Unrolled.{copies_below}
-use Rattle.upp_limits.specs.Spans.{once, number_below}
-use Rattle.upp_limits.specs.Limits.{own_end, own_tally}
-use Rattle.upp_limits.proofs.PieceCounts.{count_is_sum}
-use Rattle.upp_limits.proofs.Rounding.{whole_up_most}
 use Rattle.closure_elements.specs.ElementCurves.{stretch, stretches, all_stretches}
 use Rattle.closure_elements.proofs.PieceReads.{gap_kept, gap_left, late_start, early_start}
 use Rattle.closure_laws.specs.Star.{nat_times}

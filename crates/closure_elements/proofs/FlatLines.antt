@@ -1,6 +1,6 @@
 -- Lines of a slope alone: they are readable where the slope times the time fits.
-use Rattle.std.specs.Prelude.{◌≡◌, ℕ, ◌<◌, ◌≤◌, ◌/◌, ◌*◌, ◌^◌, ℤ, pos, zero, suc, ◌+ℤ◌, ◌*ℤ◌, nat_abs, List, [], ◌∷◌, Option, Some, None, ◌↔◌, ◌+◌, length}
-use Rattle.std.proofs.Common.{arith, sym, ap, ap₂, ◌∙◌, refl, subst, inl, inr, get_or, drop, drop_of_length-le}
+use Rattle.std.specs.Prelude.{◌≡◌, ℕ, ◌<◌, ◌/◌, ◌*◌, ◌^◌, ℤ, pos, zero, suc, ◌+ℤ◌, ◌*ℤ◌, nat_abs, List, [], ◌∷◌, Option, Some, None, ◌↔◌, ◌+◌, length}
+use Rattle.std.proofs.Common.{arith, sym, ap, ap₂, ◌∙◌, refl, subst, inl, inr, get_or, drop}
 use Rattle.std.proofs.lemmas.Int.{ints}
 use native.Mathlib.Nat.{le_of_dvd, zero-lt-suc, div-one}
 use Rattle.rational.specs.Gcd.{gcd, gcd_steps}
@@ -123,10 +123,3 @@ reads_on ps l j p inv h e a b =
 pub first_off : (ps : List Piece) (l : Option Line) (j : ℕ) (p : Piece) → (SlopesRead None ps ↔ SlopesRead l (drop j ps)) → j < length ps → p ≡ get_or ps j p
     → ¬ (SlopeFitsAt p.x l) → ¬ (SlopesRead None ps)
 first_off ps l j p inv h e fails all = fails (subst (SlopesRead l) (next_piece p ps j h e) (inv.0 all)).0
-
-pub second_off : (ps : List Piece) (l : Option Line) (j : ℕ) (p : Piece) → (SlopesRead None ps ↔ SlopesRead l (drop j ps)) → j < length ps → p ≡ get_or ps j p
-    → ¬ (SlopeFitsAt p.x p.line) → ¬ (SlopesRead None ps)
-second_off ps l j p inv h e fails all = fails (subst (SlopesRead l) (next_piece p ps j h e) (inv.0 all)).1
-
-pub reads_end : (ps : List Piece) (l : Option Line) (j : ℕ) → (SlopesRead None ps ↔ SlopesRead l (drop j ps)) → length ps ≤ j → SlopesRead None ps
-reads_end ps l j inv h = inv.1 (subst (SlopesRead l) (sym (drop_of_length-le ps h)) tt)

@@ -1,5 +1,5 @@
 -- A curve that is too wide for any call is refused by a minimum and by a convolution.
-use Rattle.std.specs.Prelude.{◌≡◌, ℕ, zero, suc, ◌+◌, ◌^◌, pos, Bool, true, false, List, Option, Some, None}
+use Rattle.std.specs.Prelude.{◌≡◌, ℕ, zero, suc, ◌+◌, ◌^◌, pos, List, Option, Some, None}
 use Rattle.std.proofs.Common.{arith, sym, ◌∙◌, subst}
 use Rattle.rational.specs.Rational.{ℚ, ◌+ℚ◌, ◌*ℚ◌, ◌≤ℚ◌, ◌<ℚ◌, int}
 use Rattle.rational.proofs.MinMax.{max_q_ge_left}
@@ -18,7 +18,7 @@ use Rattle.min_plus.specs.Functions.{zero_q}
 use Rattle.upp_curve.specs.Normal.{IsRaw, TailFits}
 use Rattle.upp_limits.specs.Gauges.{gauge_at}
 use Rattle.upp_limits.specs.Periods.{period_of, common_of, common_period, both_steady, periods_after, HasPeriod}
-use Rattle.upp_curve.specs.Steady.{rank_of, steady, steady_in, later_unless}
+use Rattle.upp_curve.specs.Steady.{rank_of, steady}
 use Rattle.upp_limits.specs.Windows.{window_at}
 use Rattle.upp_limits.proofs.CurveStands.{has_period}
 use Rattle.upp_normal.proofs.GaugeRises.{first_operand}

@@ -1,26 +1,14 @@
 -- A curve that repeats and whose own gauge is 2 ^ 120 or more is too wide for any call.
-use Rattle.std.specs.Prelude.{◌≡◌, ℕ, ◌*◌, ◌≤◌, ◌^◌, pos, List, ◌∷◌, map}
-use Rattle.std.proofs.Common.{arith, sym, subst, inl, inr}
-use Rattle.std.specs.List.{AllByRecursion, flat_map}
-use Rattle.std.proofs.Math.Nat.{max-le}
-use native.Mathlib.Nat.{le_of_dvd, mul-le-mul}
-use Rattle.rational.specs.Rational.{ℚ, ◌+ℚ◌, ◌*ℚ◌, ◌≤ℚ◌, ◌<ℚ◌, int}
-use Rattle.rational.specs.Grid.{Whole, Within}
-use Rattle.rational.specs.Gauge.{bound_of, common_den}
+use Rattle.std.specs.Prelude.{◌≡◌, ◌≤◌, ◌^◌, pos, List}
+use Rattle.std.proofs.Common.{arith, sym, subst}
+use Rattle.rational.specs.Rational.{ℚ, ◌+ℚ◌, ◌≤ℚ◌, ◌<ℚ◌, int}
+use Rattle.rational.specs.Grid.{Whole}
 use Rattle.rational.proofs.Grid.{whole_add}
-use Rattle.rational.proofs.Integers.{nat_le, nat_nonneg}
-use Rattle.rational.proofs.Laws.{le_or_lt, le_of_lt, le_trans, mul_le_mul, mul_le_mul_right, mul_zero}
 use Rattle.affine_segment.specs.declared.line.Piece.{Piece}
 use Rattle.upp_curve.specs.declared.curve.Tail.TheVariants.{Periodic}
 use Rattle.upp_curve.specs.Curve.{SpecCurve}
-use Rattle.upp_limits.specs.Limits.{Numbers, Sizes, curve_numbers, gauge_of, sizes_of, span_slopes, span_values, stored_period, stored_rise, twice, own_end, own_sizes, own_gauge}
-use Rattle.upp_limits.specs.Periods.{HasPeriod}
-use Rattle.upp_limits.specs.Sized.{AreSizes, IsSlope, IsValue, Stands}
-use Rattle.upp_limits.specs.Spans.{spans_below}
-use Rattle.upp_limits.proofs.CommonDen.{bound_least, common_den_least}
-use Rattle.upp_limits.proofs.Every.{every_append, every_flat, every_flat_out, every_left, every_map, every_map_out, every_right, every_weaken}
-use Rattle.upp_limits.proofs.Rounding.{whole_up_most}
-use Rattle.upp_normal.proofs.GaugeRises.{spans_earlier, curve_earlier, least_sizes, product_grows, reach_within}
+use Rattle.upp_limits.specs.Limits.{curve_numbers, own_end, own_sizes, own_gauge}
+use Rattle.upp_normal.proofs.GaugeRises.{curve_earlier, least_sizes}
 use Rattle.closure_elements.specs.Heavy.{IsHeavy}
 use Rattle.upp_limits.proofs.FewCopies.{end_is}
 

@@ -25,7 +25,6 @@ use Rattle.closure_elements.proofs.TurnNumbers.{turn_in, more}
 use Rattle.closure_elements.proofs.StretchReads.{IsLate, first_late, none_at_start}
 use Rattle.closure_elements.proofs.ClosureValues.{rising_values, falling_values, least_at, greatest_at}
 use Rattle.closure_elements.proofs.NormalClosures.{IsTurn, no_share, not_one, all_each, all_start, all_has, all_unmerged, rest_start}
-use Rattle.upp_normal.proofs.NormalisePeriods.{repeats_after}
 use Rattle.closure_laws.specs.Star.{nat_times}
 
 -- infinity at y and a number a period later: no rule from a time up to y

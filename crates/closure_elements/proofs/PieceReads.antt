@@ -1,25 +1,20 @@
 -- How a list of pieces is read, piece by piece.
-use Rattle.std.specs.Prelude.{◌≡◌, cond, Bool, true, false, List, [], ◌∷◌}
+use Rattle.std.specs.Prelude.{◌≡◌, List, ◌∷◌}
 use Rattle.std.proofs.Common.{refl, ap, ◌∙◌, inl, inr}
-use Rattle.rational.specs.Rational.{ℚ, ◌≤ℚ◌, ◌<ℚ◌, le_q}
-use Rattle.rational.specs.Extended.{Ext}
+use Rattle.rational.specs.Rational.{ℚ, ◌≤ℚ◌, ◌<ℚ◌}
 use Rattle.rational.specs.declared.Extended.TheVariants.{Fin, Inf}
 use Rattle.rational.proofs.Laws.{le_trans, le_lt_trans, lt_le_trans, le_or_lt}
-use Rattle.rational.proofs.Over.{le_q_out, lt_q_out}
-use Rattle.rational.proofs.MinMax.{le_q_not, lt_q_not}
+use Rattle.rational.proofs.Over.{lt_q_out}
+use Rattle.rational.proofs.MinMax.{lt_q_not}
 use Rattle.affine_segment.specs.declared.line.Piece.{Piece}
 use Rattle.affine_segment.specs.declared.line.Line.{Line}
-use Rattle.affine_segment.specs.Values.{line_at, line_value}
+use Rattle.affine_segment.specs.Values.{line_at}
 use Rattle.min_plus.specs.Functions.{zero_q}
 use Rattle.affine_segment.specs.Reading.{piece_value, read, nothing_at}
-use Rattle.affine_segment.proofs.PieceIn.{piece_in_stop, piece_in_go, piece_in_end, read_go, read_one, read_stop, value_by, value_past, nothing_read}
+use Rattle.affine_segment.proofs.PieceIn.{read_go, read_stop, value_by, value_past, nothing_read}
 use Rattle.closure_elements.specs.ElementCurves.{opening, after_gap, from_zero}
 
 -- ---- gaps
-both_same : (x : Ext) (b : Bool) → cond b x x ≡ x
-both_same x true = refl
-both_same x false = refl
-
 pub opening_here : (x : ℚ) (l : Line) (t : ℚ) → t ≤ℚ x → piece_value (opening x l) t ≡ Inf
 opening_here x l t h = value_by (opening x l) t h
 

@@ -37,9 +37,6 @@ no_multiple : (a v t : ℚ) → ¬ (Multiple a t) → IsPointClosure a v t Inf
 no_multiple a v t none = all_infinite (λ (m : Multiple a t). Fin (nat_times (suc m.less_one) v)) (λ m. absurd (none m))
 
 -- ---- at 0
-lone : ℚ → Piece
-lone v = record { x = zero_q; at = Fin v; line = None }
-
 pub zero_values : (v : ℚ) → zero_q ≤ℚ v → (t : ℚ) → zero_q ≤ℚ t → IsPointClosure zero_q v t (value_at (point_at_zero v) t)
 unfolding value_at cut
 zero_values v low t h = elim (le_or_lt t zero_q) [

@@ -1,7 +1,6 @@
 -- What the calls on a segment answer.
 use Rattle.std.specs.Prelude.{◌≡◌, ◌<◌, ◌≤◌, ◌^◌, ◌+◌, ◌++◌, ◌⊎◌, ℕ, suc, pos, List, [], ◌∷◌, Some, None, Result, Ok, Err}
-use Rattle.std.proofs.Common.{arith, sym, refl, ap, ◌∙◌, subst, inl, inr, Ordering, Equal}
-use Rattle.std.specs.Ordering.{MatchOrdering}
+use Rattle.std.proofs.Common.{arith, sym, refl, ap, ◌∙◌, subst, inl, inr}
 use Rattle.rational.specs.Rational.{ℚ, ◌+ℚ◌, ◌≤ℚ◌, ◌<ℚ◌, int}
 use Rattle.rational.specs.Ratio.{IsSmall}
 use Rattle.rational.specs.declared.Extended.TheVariants.{Fin, Inf}
@@ -44,7 +43,6 @@ use Rattle.closure_elements.proofs.ClosureValues.{level_values, rising_values, f
 use Rattle.closure_elements.proofs.EndlessFalling.{endless_falling, far, far_joined, far_later}
 use Rattle.closure_elements.proofs.NormalClosures.{level_normal}
 use Rattle.closure_elements.proofs.NormalTurns.{rising_normal, falling_normal}
-use Rattle.rational.proofs.Compared.{is_equal}
 use Rattle.upp_normal.proofs.Bends.{each_first}
 use Rattle.upp_limits.proofs.FewCopies.{periodic_few}
 use Rattle.rational.proofs.Integers.{le_or_more}

@@ -1,11 +1,11 @@
 -- Which numbers n have a time between n a and n b, and where their least sum is the closure of a segment.
-use Rattle.std.specs.Prelude.{◌≡◌, ℕ, suc, ◌≤◌, pos, ◌⊎◌}
+use Rattle.std.specs.Prelude.{◌≡◌, ℕ, suc, ◌≤◌, pos}
 use Rattle.std.proofs.Common.{arith, sym, ◌∙◌, subst, inl, inr}
 use Rattle.rational.specs.Rational.{ℚ, ◌+ℚ◌, ◌*ℚ◌, ◌/ℚ◌, ◌≤ℚ◌, ◌<ℚ◌, int, neg_ℚ}
 use Rattle.rational.specs.Extended.{Ext, ◌≤ₑ◌, ◌<ₑ◌}
 use Rattle.rational.specs.declared.Extended.TheVariants.{Fin, Inf}
-use Rattle.rational.proofs.Laws.{le_trans, le_lt_trans, lt_le_trans, lt_irrefl, le_or_lt, mul_comm, mul_le_mul_right, mul_lt_mul, lt_of_mul, div_mul, not_zero, mul_neg}
-use Rattle.rational.proofs.Integers.{nat_le, nat_le_out, nat_lt, nat_lt_out, le_or_more}
+use Rattle.rational.proofs.Laws.{le_trans, le_lt_trans, lt_le_trans, lt_irrefl, mul_comm, mul_le_mul_right, mul_lt_mul, lt_of_mul, div_mul, not_zero, mul_neg}
+use Rattle.rational.proofs.Integers.{nat_le, le_or_more}
 use Rattle.rational.proofs.Bounds.{least_member, all_infinite}
 use Rattle.rational.proofs.Linear.{with1, with3, with4}
 use Rattle.affine_segment.specs.declared.line.Line.{Line}

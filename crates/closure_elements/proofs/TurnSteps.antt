@@ -15,7 +15,6 @@ use Rattle.affine_segment.specs.Pieces.{Each}
 use Rattle.closure_elements.specs.ElementCurves.{line_times, stretch, turn, after_gap, from_zero, stretches, all_stretches}
 use Rattle.closure_elements.specs.PieceFits.{PieceFits}
 use Rattle.closure_elements.proofs.PieceReads.{gap_kept, gap_left, late_start, early_start}
-use Rattle.upp_normal.proofs.Bends.{each_first}
 use Rattle.affine_segment.specs.Reading.{nothing_at}
 use Rattle.closure_laws.specs.Star.{nat_times}
 

@@ -1,16 +1,15 @@
 -- The star of the least of some functions, by induction along them; and the closure from the star.
-use Rattle.std.specs.Prelude.{◌≡◌, pos, List, [], ◌∷◌}
-use Rattle.std.proofs.Common.{sym, refl, ap, ◌∙◌, subst, inl, inr}
-use Rattle.rational.specs.Rational.{ℚ, ◌≤ℚ◌, ◌<ℚ◌, int}
-use Rattle.rational.specs.Extended.{Ext, ◌≤ₑ◌, min_ext}
+use Rattle.std.specs.Prelude.{◌≡◌, [], ◌∷◌}
+use Rattle.std.proofs.Common.{sym, refl, subst, inl, inr}
+use Rattle.rational.specs.Extended.{Ext, min_ext}
 use Rattle.rational.specs.declared.Extended.TheVariants.{Fin, Inf}
-use Rattle.rational.proofs.Laws.{le_or_lt, le_refl, le_of_lt, antisym}
-use Rattle.rational.proofs.ExtendedOrder.{min_ext_comm, min_ext_assoc}
-use Rattle.min_plus.specs.Functions.{zero_q, IsNonnegative}
-use Rattle.min_plus.specs.Convolution.{IsConvolution, IsSubadditiveClosure}
-use Rattle.closure_laws.specs.Star.{IsStar, AreStars, lesser, least_of}
+use Rattle.rational.proofs.Laws.{le_or_lt, le_refl, antisym}
+use Rattle.rational.proofs.ExtendedOrder.{min_ext_assoc}
+use Rattle.min_plus.specs.Functions.{zero_q}
+use Rattle.min_plus.specs.Convolution.{IsSubadditiveClosure}
+use Rattle.closure_laws.specs.Star.{IsStar, lesser, least_of}
 use Rattle.closure_laws.proofs.StarSums.{star_of_lesser, stars_of_values, closure_of_star}
-use Rattle.closure_laws.specs.StarFolds.{AreFolded, EachStar, StarOfLeast, IsSetBack, ClosureOfSetBack}
+use Rattle.closure_laws.specs.StarFolds.{StarOfLeast, ClosureOfSetBack}
 
 inf_last : (x : Ext) → x ≡ min_ext x Inf
 inf_last Inf = refl

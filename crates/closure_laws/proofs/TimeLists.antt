@@ -4,12 +4,12 @@ use Rattle.std.proofs.Common.{arith, sym, ap, ◌∙◌, subst}
 use Rattle.rational.specs.Rational.{ℚ, ◌+ℚ◌, ◌≤ℚ◌}
 use Rattle.rational.specs.Extended.{Ext, ◌≤ₑ◌, ◌+ₑ◌}
 use Rattle.rational.specs.declared.Extended.TheVariants.{Fin}
-use Rattle.rational.proofs.Linear.{with1, with2, with4}
+use Rattle.rational.proofs.Linear.{with2}
 use Rattle.rational.proofs.Laws.{antisym}
 use Rattle.rational.proofs.ExtendedOrder.{le_ext_refl, le_ext_trans, same_le_ext, add_le_ext, add_ext_assoc, add_ext_comm, zero_add_ext}
 use Rattle.min_plus.specs.Functions.{zero_q}
 use Rattle.min_plus.specs.Convolution.{AllNonneg, sum_of, sum_at}
-use Rattle.min_plus.proofs.TimeSums.{nonneg_sum, nonneg_total, append_sum}
+use Rattle.min_plus.proofs.TimeSums.{nonneg_total}
 
 pub append_at : (f : ℚ → Ext) (xs ys : List ℚ) → sum_at f (xs ++ ys) ≡ sum_at f xs +ₑ sum_at f ys
 append_at f [] ys = sym (zero_add_ext (sum_at f ys))

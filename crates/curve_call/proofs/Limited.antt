@@ -1,15 +1,15 @@
 -- What the limits with some numbers of periods say of the call: where those numbers are the least, they are the call's.
-use Rattle.std.specs.Prelude.{◌≡◌, ℕ, ◌-◌, ◌<◌, ◌≤◌, ◌^◌, min}
+use Rattle.std.specs.Prelude.{◌≡◌, ℕ, ◌<◌, ◌≤◌, ◌^◌}
 use Rattle.std.proofs.Common.{arith, ap, ◌∙◌, subst}
 use Rattle.rational.specs.Rational.{ℚ}
 use Rattle.upp_limits.specs.declared.op_kind.OpKind.{OpKind}
-use Rattle.upp_limits.specs.declared.op_kind.OpKind.TheVariants.{Sum, Min, Max, PosDiff, PosMinus, Scale, Shift, RunSup, RunInf, FifoLeft, Convolve, Deconvolve, Vertical, Itself}
+use Rattle.upp_limits.specs.declared.op_kind.OpKind.TheVariants.{Sum, Min, Max, PosDiff, PosMinus, Scale, Shift, RunSup, RunInf, FifoLeft, Convolve, Deconvolve, Vertical}
 use Rattle.upp_limits.specs.declared.op_kind.OpFault.{OpFault}
 use Rattle.upp_limits.specs.declared.op_kind.OpFault.TheVariants.{TooMany, TooWide, NoMemory}
 use Rattle.rational.specs.Extended.{Ext}
 use Rattle.upp_curve.specs.Curve.{SpecCurve}
 use Rattle.upp_limits.specs.Windows.{window_at, Meets, Reaches, IsLeast, IsLeastPeriods}
-use Rattle.upp_limits.specs.Gauges.{IsKnownAtOnce, gauge_over, gauge_at, tally_at, tally_over, IsTooWide, IsTooMany}
+use Rattle.upp_limits.specs.Gauges.{IsKnownAtOnce, gauge_over, gauge_at, tally_at, IsTooWide, IsTooMany}
 use Rattle.upp_limits.specs.Outcome.{IsWithin, IsCauseOf}
 use Rattle.curve_call.specs.declared.frame.Frame.{Frame}
 use Rattle.curve_call.specs.Frames.{IsFrame, IsRefusedAt, IsWideOver}
@@ -20,12 +20,6 @@ pub refused_at : (op : OpKind) (f g : SpecCurve) (k m : ℕ) (end : ℚ) (e : Op
 refused_at op f g k m end TooMany e h = absurd h
 refused_at op f g k m end TooWide e h = subst (λ x. 2 ^ 120 ≤ gauge_over op f g x) e h
 refused_at op f g k m end NoMemory e h = absurd h
-
-pub tally_few : (op : OpKind) (f g : SpecCurve) (k m n : ℕ) (end : ℚ) → end ≡ window_at op f g k m → n ≡ min (tally_over op f g end) (2 ^ 64 - 1) → n ≤ 2 ^ 20 → tally_at op f g k m ≤ 2 ^ 20
-tally_few op f g k m n end e h l = subst (λ x. tally_over op f g x ≤ 2 ^ 20) e (omega arith)
-
-pub tally_many : (op : OpKind) (f g : SpecCurve) (k m n : ℕ) (end : ℚ) → end ≡ window_at op f g k m → n ≡ min (tally_over op f g end) (2 ^ 64 - 1) → 2 ^ 20 < n → 2 ^ 20 < tally_at op f g k m
-tally_many op f g k m n end e h l = subst (λ x. 2 ^ 20 < tally_over op f g x) e (omega arith)
 
 -- ---- least numbers are unique
 
@@ -83,9 +77,6 @@ deconvolve_least f g = record { first = least_nothing; second = least_nothing }
 
 pub vertical_least : (f g : SpecCurve) → IsLeastPeriods Vertical f g 0 0
 vertical_least f g = record { first = least_nothing; second = least_nothing }
-
-pub itself_least : (f g : SpecCurve) → IsLeastPeriods Itself f g 0 0
-itself_least f g = record { first = least_nothing; second = least_nothing }
 
 -- ---- kinds that need one number
 pub min_least : (f g : SpecCurve) (k : ℕ) → IsLeast (Meets Min f g) k → IsLeastPeriods Min f g k 0

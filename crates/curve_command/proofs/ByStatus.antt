@@ -1,5 +1,5 @@
 -- Which reply on a script has which status.
-use Rattle.std.proofs.Common.{◌≡◌, ◌≢◌, ◌⊎◌, ◌≤◌, ℕ, List, inl, inr, ap, arith}
+use Rattle.std.proofs.Common.{◌≡◌, ◌≢◌, ◌≤◌, ℕ, List, inl, inr, ap, arith}
 use Rattle.upp_limits.specs.declared.own_limits.OverLimit.TheVariants.{TooMany, TooWide}
 use Rattle.command_replies.specs.Replies.{Reply}
 use Rattle.curve_command.specs.OnScripts.{IsRefused, IsLineOver, IsAnswered, IsScriptReply}

@@ -1,12 +1,12 @@
 -- The first fault of a text's lines: its kind is one of C1 to C4, and there is one at most.
-use Rattle.std.proofs.Common.{◌≡◌, ℕ, suc, ◌<◌, ◌≤◌, List, [], ◌∷◌, Some, None, Bool, true, false, refl, sym, ap, ◌∙◌, subst}
+use Rattle.std.proofs.Common.{◌≡◌, ℕ, suc, ◌<◌, ◌≤◌, List, [], ◌∷◌, Some, Bool, true, false, refl, sym, ap, ◌∙◌, subst}
 use Rattle.std.proofs.Common.{inl, inr, arith}
 use Rattle.std.specs.Prelude.{is_some, MatchBool, ◌⊎◌}
 use Rattle.rational.specs.Rational.{ℚ}
 use Rattle.curve_script.specs.declared.fault.LangKind.{LangKind}
-use Rattle.curve_script.specs.declared.fault.LangKind.TheVariants.{C1, C2, C3, C4, C5, C6, C7, C8, TooMany, TooWide, NoMemory}
+use Rattle.curve_script.specs.declared.fault.LangKind.TheVariants.{C1, C2, C3, C4, TooMany, TooWide, NoMemory}
 use Rattle.curve_script.specs.Grammar.{Statement, statement_tokens, depth_in, numbers_read_in}
-use Rattle.curve_script.specs.Lines.{most, is_skipped, Spells, HasFault, IsLine}
+use Rattle.curve_script.specs.Lines.{is_skipped, Spells, HasFault}
 use Rattle.curve_script.specs.Scripts.{lines_of, IsWrong, IsRight, IsFaultFrom, IsFirstFault}
 use Rattle.curve_script.proofs.Lexed.{says_one}
 use Rattle.curve_script.proofs.OneScript.{spells_one}

@@ -1,5 +1,5 @@
 -- The reply on a fault of a script, by its kind, and on its answers.
-use Rattle.std.proofs.Common.{◌≡◌, ◌≢◌, ◌⊎◌, ℕ, List, [], map, Result, Ok, Err, IfOk, inl, inr, refl, sym, subst}
+use Rattle.std.proofs.Common.{◌≡◌, ◌≢◌, ◌⊎◌, ℕ, List, [], Result, Ok, Err, IfOk, inl, inr, refl, sym, subst}
 use Rattle.curve_script.specs.declared.fault.LangFault.{LangFault}
 use Rattle.curve_script.specs.declared.fault.LangKind.{LangKind}
 use Rattle.curve_script.specs.declared.fault.LangKind.TheVariants.{TooMany, TooWide, NoMemory}
@@ -9,7 +9,7 @@ use Rattle.curve_lang.specs.Answers.{Answered, ScriptMeans}
 use Rattle.curve_lang.specs.Found.{ScriptFinds}
 use Rattle.command_replies.specs.declared.answer.Answer.{Answer}
 use Rattle.command_replies.specs.Faults.{script_reply_of_kind, script_fault_reply}
-use Rattle.command_replies.specs.Replies.{Reply, breaks_script_rule}
+use Rattle.command_replies.specs.Replies.{breaks_script_rule}
 use Rattle.command_replies.specs.View.{reply_of}
 use Rattle.curve_command.specs.OnScripts.{IsByRule, answered, IsScriptReply, Misread, Faulty, LineOver, Answers}
 use Rattle.curve_command.specs.OnScripts.{IsReplyOnLines}

@@ -1,10 +1,9 @@
 -- There is one reply on a script.
-use Rattle.std.proofs.Common.{◌≡◌, ◌≢◌, ◌⊎◌, ℕ, List, [], Result, Ok, Err, inl, inr, refl, sym, ap, ap₂, ◌∙◌, subst}
+use Rattle.std.proofs.Common.{◌≡◌, ◌≢◌, ◌⊎◌, ℕ, List, [], Ok, Err, inl, inr, refl, sym, ap, ap₂, ◌∙◌, subst}
 use Rattle.upp_limits.specs.declared.own_limits.OverLimit.TheVariants.{TooMany, TooWide}
 use Rattle.curve_script.specs.declared.fault.LangFault.{LangFault}
-use Rattle.curve_script.specs.declared.fault.LangKind.{LangKind}
 use Rattle.curve_script.specs.declared.fault.LangKind.TheVariants.{NoMemory}
-use Rattle.curve_script.specs.Scripts.{Numbered, IsScript, IsFirstFault, out_of_memory}
+use Rattle.curve_script.specs.Scripts.{Numbered, IsScript, out_of_memory}
 use Rattle.curve_script.proofs.OneScript.{text_is_one, fault_excludes_script}
 use Rattle.curve_lang.specs.Found.{Told, ScriptFinds}
 use Rattle.curve_lang.proofs.OneFound.{scripts_find_one}

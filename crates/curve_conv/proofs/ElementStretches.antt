@@ -1,17 +1,16 @@
 -- How an element, infinite at other times, goes on from a time.
 use Rattle.std.specs.Prelude.{◌≡◌, Some, None}
-use Rattle.std.proofs.Common.{sym, ap, ◌∙◌, subst, inl, inr}
+use Rattle.std.proofs.Common.{sym, ap, ◌∙◌, subst, inl}
 use Rattle.rational.specs.Rational.{ℚ, ◌<ℚ◌}
 use Rattle.rational.specs.Extended.{Ext, ◌<ₑ◌}
 use Rattle.rational.specs.declared.Extended.TheVariants.{Fin, Inf}
 use Rattle.rational.proofs.Laws.{lt_trans, lt_irrefl}
 use Rattle.rational.proofs.ExtendedOrder.{lt_ext_trans}
 use Rattle.affine_segment.specs.declared.line.Line.{Line}
-use Rattle.affine_segment.specs.declared.element.Element.{Element}
 use Rattle.affine_segment.specs.declared.element.Element.TheVariants.{Point, Open}
 use Rattle.affine_segment.specs.Values.{line_at}
-use Rattle.affine_segment.specs.Elements.{Covers, element_value}
-use Rattle.affine_segment.proofs.ElementValues.{value_in, value_cases}
+use Rattle.affine_segment.specs.Elements.{element_value}
+use Rattle.affine_segment.proofs.ElementValues.{value_in}
 use Rattle.upp_limits.specs.Limits.{Sizes}
 use Rattle.upp_normal.specs.Ahead.{GoesOn, IsBeforeNext, AtNext}
 use Rattle.affine_segment.specs.Fits.{LineFits}

@@ -1,7 +1,7 @@
 -- The gap of both parts of a convolution is there, and so is the least number of periods: found by proof alone, where no code runs.
 use Rattle.std.specs.Prelude.{◌≡◌, ◌⊎◌, ℕ, suc, zero, ◌<◌, ◌≤◌, pos, Some, None}
 use Rattle.std.proofs.Common.{arith, refl, subst, inl, inr}
-use Rattle.rational.specs.Rational.{ℚ, ◌-ℚ◌, ◌*ℚ◌, ◌≤ℚ◌, ◌<ℚ◌, int}
+use Rattle.rational.specs.Rational.{ℚ, ◌-ℚ◌, ◌<ℚ◌, int}
 use Rattle.rational.specs.Extended.{Ext}
 use Rattle.rational.proofs.Laws.{le_refl, le_or_lt, antisym}
 use Rattle.affine_segment.specs.Values.{line_value}
@@ -10,7 +10,6 @@ use Rattle.upp_limits.specs.Limits.{Sizes}
 use Rattle.upp_normal.specs.Operand.{AreLimited}
 use Rattle.upp_curve.specs.Steady.{steady, rise_over}
 use Rattle.upp_limits.specs.Periods.{periods_after}
-use Rattle.upp_limits.specs.Windows.{IsLeast}
 use Rattle.element_envelope.specs.ElementRoom.{WindowTime}
 use Rattle.curve_least.specs.declared.gaps.Gap.{Gap}
 use Rattle.curve_least.specs.declared.gaps.Gap.TheVariants.{NoTime, Never, Is}

@@ -1,25 +1,15 @@
 -- The least number of periods of a convolution is there, and how large it is at most: found by proof alone, where no code runs.
-use Rattle.std.specs.Prelude.{◌≡◌, ◌⊎◌, ℕ, suc, zero, ◌+◌, ◌<◌, ◌≤◌, pos, Bool, true, false, IsTrue, List, [], ◌∷◌, ◌++◌, Option, Some, None}
-use Rattle.std.proofs.Common.{arith, sym, ap, ◌∙◌, refl, subst, inl, inr, true≢false}
-use Rattle.rational.specs.Rational.{ℚ, ◌+ℚ◌, ◌-ℚ◌, ◌*ℚ◌, ◌/ℚ◌, ◌≤ℚ◌, ◌<ℚ◌, int}
-use Rattle.rational.specs.Gauge.{size_up}
-use Rattle.rational.specs.Grid.{Whole}
-use Rattle.rational.specs.Whole.{periods}
-use Rattle.rational.specs.Extended.{Ext, ◌≤ₑ◌, ◌<ₑ◌, ◌+ₑ◌}
-use Rattle.rational.specs.declared.Extended.TheVariants.{Fin, Inf}
-use Rattle.rational.proofs.Laws.{le_refl, le_trans, le_of_lt, le_or_lt, lt_irrefl, le_lt_trans, antisym}
+use Rattle.std.specs.Prelude.{ℕ, suc, zero, ◌<◌, ◌≤◌, pos, Bool, true, false, List, [], ◌++◌, Option, Some, None}
+use Rattle.std.proofs.Common.{arith, sym, refl, inl, inr, true≢false}
+use Rattle.rational.specs.Rational.{ℚ, ◌≤ℚ◌, int}
+use Rattle.rational.specs.Extended.{Ext}
+use Rattle.rational.proofs.Laws.{le_or_lt, lt_irrefl, le_lt_trans}
 use Rattle.affine_segment.specs.declared.element.Element.{Element}
-use Rattle.affine_segment.specs.Values.{line_value}
 use Rattle.upp_normal.specs.declared.ahead.Stretch.{Stretch}
-use Rattle.upp_curve.specs.declared.curve.Tail.{Tail}
-use Rattle.upp_curve.specs.declared.curve.Tail.TheVariants.{Periodic, Affine, Infinite}
 use Rattle.upp_curve.specs.Curve.{SpecCurve, value_at}
 use Rattle.upp_limits.specs.Limits.{Sizes}
-use Rattle.affine_segment.specs.Reading.{read, next_in, line_in}
-use Rattle.upp_normal.specs.Operand.{OperandLineAt}
-use Rattle.upp_normal.specs.Ahead.{GoesOn, IsBeforeNext, AtNext, HasWindow, IsTimeIn, TimesStand, GridValue}
+use Rattle.upp_normal.specs.Ahead.{AtNext, HasWindow}
 use Rattle.element_envelope.specs.ElementRoom.{WindowTime}
-use Rattle.element_envelope.specs.SumWindows.{SumStart}
 use Rattle.curve_conv.specs.Parts.{PartSplit, part_sum}
 use Rattle.curve_conv.specs.Scans.{IsEarly, IsLimit, InPart, or_else, is_time, time_or}
 use Rattle.curve_conv.specs.SpanElements.{listed, AreSpanElements}
@@ -27,8 +17,8 @@ use Rattle.curve_conv.specs.Stretches.{SumStretch, SumTimeIn, IsAhead, point_at,
 use Rattle.curve_conv.proofs.GridSteps.{steps_while}
 use Rattle.curve_conv.proofs.PartLoops.{limit_all, limit_until, limit_room, walk_fewer}
 use Rattle.curve_conv.proofs.SpanLoops.{SpanWalk, span_start, span_facts, span_time, span_step, span_end, spans_make}
-use Rattle.curve_least.proofs.FoundCurves.{Here, curve_goes}
-use Rattle.curve_conv.proofs.FoundStretches.{ListGoing, AreOperand, lists_go}
+use Rattle.curve_least.proofs.FoundCurves.{curve_goes}
+use Rattle.curve_conv.proofs.FoundStretches.{lists_go}
 
 -- ---- the elements of a curve over some times
 early_of : (at : Option ℚ) (limit : ℚ) → (next : Option ℚ) × IsEarly at limit next

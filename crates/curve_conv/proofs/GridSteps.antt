@@ -1,15 +1,13 @@
 -- How many steps of a grid are left up to a time: a number that falls with each step.
 use Rattle.std.specs.Prelude.{◌≡◌, ℕ, suc, ◌<◌, pos, Bool, true, false}
-use Rattle.std.proofs.Common.{arith, subst, sym}
-use Rattle.std.proofs.lemmas.Int.{ints}
+use Rattle.std.proofs.Common.{arith}
 use Rattle.rational.specs.Rational.{ℚ, ◌+ℚ◌, ◌-ℚ◌, ◌*ℚ◌, ◌≤ℚ◌, ◌<ℚ◌, int}
 use Rattle.rational.specs.Grid.{Whole}
 use Rattle.rational.specs.Whole.{whole_part}
 use Rattle.rational.proofs.Grid.{whole_sub}
-use Rattle.rational.proofs.Integers.{nat_nonneg, nat_lt, nat_lt_out, nat_next, int_le, int_lt_out}
-use Rattle.rational.proofs.Laws.{mul_nonneg, mul_pos, sub_mul}
-use Rattle.rational.proofs.Linear.{with2, with4, with6}
-use Rattle.rational.proofs.Whole.{whole_le, whole_gt}
+use Rattle.rational.proofs.Integers.{nat_nonneg}
+use Rattle.rational.proofs.Laws.{mul_nonneg, sub_mul}
+use Rattle.rational.proofs.Linear.{with2, with6}
 use Rattle.curve_least.proofs.GapWalk.{fewer_whole, one_step}
 
 -- the steps of 1 / d from t to `end`

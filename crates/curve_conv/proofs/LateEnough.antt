@@ -1,6 +1,6 @@
 -- How many periods are enough for the part of a convolution in which the slower curve repeats to have the least sums: the
 -- slower lies below a line of its rate, the faster above one of its own.
-use Rattle.std.specs.Prelude.{◌≡◌, ◌+◌, pos, [], ◌∷◌}
+use Rattle.std.specs.Prelude.{◌≡◌, pos, [], ◌∷◌}
 use Rattle.std.proofs.Common.{arith, sym, ap₂, ◌∙◌, subst, inl, inr}
 use Rattle.rational.specs.Rational.{ℚ, ◌+ℚ◌, ◌-ℚ◌, ◌*ℚ◌, ◌≤ℚ◌, ◌<ℚ◌, int}
 use Rattle.rational.specs.Extended.{Ext, ◌≤ₑ◌, ◌+ₑ◌}

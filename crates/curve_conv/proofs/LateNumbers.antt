@@ -6,7 +6,7 @@ use Rattle.std.proofs.Common.{arith, sym, ap, ◌∙◌, refl, subst, mul-le-mul
 use Rattle.rational.specs.Rational.{ℚ, ◌+ℚ◌, ◌-ℚ◌, ◌*ℚ◌, ◌/ℚ◌, ◌≤ℚ◌, ◌<ℚ◌, int, neg_ℚ}
 use Rattle.rational.specs.Ratio.{IsSmall, SumFits}
 use Rattle.rational.specs.Grid.{Whole, Within}
-use Rattle.rational.specs.Extended.{Ext, ◌<ₑ◌, ◌+ₑ◌}
+use Rattle.rational.specs.Extended.{Ext, ◌+ₑ◌}
 use Rattle.rational.specs.declared.Extended.TheVariants.{Fin, Inf}
 use Rattle.rational.proofs.Linear.{with1, with3, with4, with5, with6}
 use Rattle.rational.proofs.Laws.{le_refl, le_of_lt, le_trans, le_lt_trans, le_of_not_lt, lt_irrefl, mul_nonneg, not_zero}

@@ -3,8 +3,7 @@ use Rattle.std.specs.Prelude.{◌≡◌, ℕ, pos, Option, Some, None, MatchOpti
 use Rattle.std.proofs.Common.{arith, ◌∙◌, subst}
 use Rattle.rational.specs.Rational.{ℚ, ◌+ℚ◌, ◌≤ℚ◌, ◌<ℚ◌, int}
 use Rattle.rational.specs.Grid.{Whole}
-use Rattle.rational.specs.Extended.{Ext, ◌<ₑ◌}
-use Rattle.rational.proofs.ExtendedOrder.{lt_ext_trans, lt_ext_irrefl}
+use Rattle.rational.specs.Extended.{◌<ₑ◌}
 use Rattle.rational.proofs.Linear.{with3, with5}
 use Rattle.upp_curve.specs.Curve.{SpecCurve}
 use Rattle.upp_limits.specs.declared.op_kind.OpKind.TheVariants.{Convolve}

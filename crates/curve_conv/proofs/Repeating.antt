@@ -1,9 +1,9 @@
 -- The convolution of two curves from the time on at which the part of the slower one has the least sums.
 use Rattle.std.specs.Prelude.{◌≡◌, pos, ◌⊎◌}
-use Rattle.std.proofs.Common.{arith, sym, ◌∙◌, refl, subst, inl, inr}
+use Rattle.std.proofs.Common.{arith, sym, subst, inl, inr}
 use Rattle.rational.specs.Rational.{ℚ, ◌+ℚ◌, ◌*ℚ◌, ◌≤ℚ◌, ◌<ℚ◌, int}
 use Rattle.rational.specs.Extended.{Ext, ◌≤ₑ◌, ◌<ₑ◌, ◌+ₑ◌}
-use Rattle.rational.specs.declared.Extended.TheVariants.{Fin, Inf}
+use Rattle.rational.specs.declared.Extended.TheVariants.{Fin}
 use Rattle.rational.proofs.Linear.{with2, with3, with4}
 use Rattle.rational.proofs.Laws.{le_trans, le_of_lt, mul_lt_mul_right}
 use Rattle.rational.proofs.ExtendedOrder.{same_le_ext, le_ext_refl, le_inf, add_le_ext, add_ext_comm, lt_ext_irrefl, lt_ext_trans}
@@ -17,7 +17,7 @@ use Rattle.upp_limits.specs.Windows.{IsLateLeast}
 use Rattle.upp_curve.proofs.Steady.{steady_rule}
 use Rattle.curve_call.proofs.Answering.{answer_relation}
 use Rattle.upp_normal.proofs.UnrollSteps.{ext_cases}
-use Rattle.curve_least.proofs.Rises.{rate_rise, rate_none, infinite_value}
+use Rattle.curve_least.proofs.Rises.{rate_rise, infinite_value}
 use Rattle.curve_conv.specs.Parts.{IsPart, FirstLate}
 use Rattle.curve_conv.specs.Late.{IsSlowerLate}
 use Rattle.curve_conv.proofs.Moves.{AreRising, late_moves, late_ever, late_only, alike_moves}

@@ -27,7 +27,6 @@ use Rattle.curve_conv.specs.Stretches.{SumStretch, IsAhead, IsSpan, until_time, 
 use Rattle.curve_conv.specs.Scans.{IsEarly, is_time, time_or}
 use Rattle.curve_conv.proofs.Families.{both_ahead, same_ahead, empty_ahead}
 use Rattle.curve_conv.proofs.GridSteps.{steps_while, while_done, while_fewer}
-use Rattle.rational.proofs.Grid.{whole_sub}
 use Rattle.element_envelope.proofs.Envelopes.{from_start}
 
 -- ---- times
@@ -201,9 +200,6 @@ room_most z end room a E e =
     let x = start_of a in
     let low = (element_time z end a E).nonneg in
     subst (λ r. r ≤ℚ end) (sym e) (with2 end x (λ c. omega (arith, c.le, c.lt, c.same)))
-
-room_whole : (z : Sizes) (end room : ℚ) (a : Element) → AreLimited z end → OperandElement z end a → room ≡ end -ℚ start_of a → Whole z.dt room
-room_whole z end room a A E e = subst (Whole z.dt) (sym e) (whole_sub z.dt end (start_of a) A.sizes.window (element_time z end a E).whole)
 
 pub walk_start : (z : Sizes) (g : SpecCurve) (a : Element) (low room end t : ℚ) (least : Stretch) (more : Bool) → WindowTime z end low → room ≡ end -ℚ start_of a
     → least ≡ record { at = Inf; line = None; next = None } → (IsTrue more ↔ (low <ℚ room)) → RowWalk z g a low room end t least more low

@@ -102,7 +102,7 @@ fn frame_between(
     match within(&kind, f, g, bounds.high) {
         Ok(frame) => {
             // To look for the least number costs a few times the pairs of the first window.
-            if tally_over(&kind, f, g, frame.end) / 4 > tally_over(&kind, f, g, first.end) {
+            if tally_over(&kind, f, g, frame.end) / 32 > tally_over(&kind, f, g, first.end) {
                 return Ok(None);
             }
             Ok(Some(frame))

@@ -1,14 +1,13 @@
 -- The pieces that mark how long the first operand is infinite: what they read, that they stand where what elements make stands, and what
 -- their sum with such a window is.
-use Rattle.std.specs.Prelude.{◌≡◌, ◌⊎◌, ℕ, ◌*◌, Bool, true, false, pos, cond, List, [], ◌∷◌, Option, Some, None}
+use Rattle.std.specs.Prelude.{◌≡◌, ◌⊎◌, ◌*◌, Bool, true, false, pos, cond, List, [], ◌∷◌, Option, Some, None}
 use Rattle.std.proofs.Common.{arith, sym, ap, ap₂, ◌∙◌, refl, subst, inl, inr}
 use Rattle.rational.specs.Rational.{ℚ, ◌+ℚ◌, ◌-ℚ◌, ◌*ℚ◌, ◌≤ℚ◌, ◌<ℚ◌, neg_ℚ, int, lt_q}
 use Rattle.rational.specs.Ratio.{SumFits}
-use Rattle.rational.specs.Grid.{Whole, Within}
+use Rattle.rational.specs.Grid.{Whole}
 use Rattle.rational.specs.Extended.{Ext, ◌≤ₑ◌, ◌+ₑ◌}
 use Rattle.rational.specs.declared.Extended.TheVariants.{Fin, Inf}
 use Rattle.rational.proofs.Grid.{whole_int, within_nonneg}
-use Rattle.rational.proofs.Integers.{nat_nonneg, int_mul}
 use Rattle.rational.proofs.Linear.{with1, with3}
 use Rattle.rational.proofs.Laws.{le_or_lt, le_refl, le_of_lt, lt_le_trans, le_lt_trans, lt_trans, lt_irrefl, zero_mul, add_zero}
 use Rattle.rational.proofs.MinMax.{lt_q_not}
@@ -20,12 +19,11 @@ use Rattle.affine_segment.specs.Values.{line_value}
 use Rattle.affine_segment.specs.Reading.{read, piece_in, piece_value, line_in}
 use Rattle.upp_limits.specs.Limits.{Sizes}
 use Rattle.upp_normal.specs.Operand.{AreLimited}
-use Rattle.upp_limits.specs.Sized.{grid_of, times_largest}
+use Rattle.upp_limits.specs.Sized.{times_largest}
 use Rattle.affine_segment.proofs.PieceIn.{value_past, read_go, read_one, read_stop, value_by}
 use Rattle.affine_segment.proofs.PieceOrder.{each_map}
 use Rattle.curve_window.specs.Pointwise.{ValueSumFits, LineSumFits, SumsFit, IsSumPiece, IsWindowSum, sum_line}
 use Rattle.curve_window.specs.Made.{ValueApartFits, LineApartFits, zero_line}
-use Rattle.element_envelope.specs.ElementRoom.{SumLine}
 use Rattle.element_envelope.specs.SumWindows.{SumStart, SumValueAt, SumLineAt, SumPiece, SumWindow}
 use Rattle.element_envelope.specs.Arches.{Arches}
 use Rattle.element_envelope.proofs.SumSteps.{start_in, sum_line_in, sum_read}
@@ -111,9 +109,6 @@ zero_sum_value z x = record { whole = λ grid base on. whole_int (grid * z.ds) (
 mark_value : (z : Sizes) (x : ℚ) (v : Ext) → IsMarkValue v → SumValueAt z x v
 mark_value z x v (inl e) = subst (SumValueAt z x) (sym e) tt
 mark_value z x v (inr e) = subst (SumValueAt z x) (sym e) (zero_sum_value z x)
-
-twice_none : int (pos 2) *ℚ int (pos 0) ≡ int (pos 0)
-twice_none = with1 (int (pos 0)) (λ c. omega (arith, c.le, c.lt, c.same))
 
 first_stands : (z : Sizes) (end : ℚ) → int (pos 0) <ℚ end → SumPiece z end nothing_yet
 first_stands z end some = record { start = record { place = inl (whole_int z.dt (pos 0)); nonneg = le_refl (int (pos 0)); before = some }; at = tt; line = tt }

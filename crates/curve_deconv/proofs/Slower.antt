@@ -13,13 +13,9 @@ use Rattle.upp_curve.specs.Curves.{IsCurve}
 use Rattle.min_plus.specs.Functions.{IsFinite}
 use Rattle.upp_curve.specs.Steady.{Repeats, steady, rate, rise_over, IsWholePeriods}
 use Rattle.upp_limits.specs.Periods.{common_period, both_steady}
-use Rattle.upp_limits.specs.Limits.{curve_numbers, sizes_of}
-use Rattle.upp_limits.specs.Sized.{Stands}
-use Rattle.upp_limits.specs.Gauges.{both_numbers}
 use Rattle.min_plus.specs.Convolution.{IsDeconvolution}
-use Rattle.upp_limits.proofs.Stands.{sizes_stand, stands_left, stands_right}
 use Rattle.upp_curve.proofs.Steady.{steady_rule}
-use Rattle.curve_call.proofs.CurveTimes.{both_on, common_some}
+use Rattle.curve_call.proofs.CurveTimes.{common_some}
 use Rattle.curve_call.proofs.CurveRises.{common_first, common_second}
 use Rattle.upp_normal.proofs.UnrollSteps.{ext_cases}
 use Rattle.curve_least.proofs.LeastNumber.{gains}

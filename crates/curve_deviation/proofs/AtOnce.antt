@@ -5,7 +5,6 @@ use Rattle.rational.specs.Rational.{ℚ, ◌+ℚ◌, ◌≤ℚ◌, ◌<ℚ◌, i
 use Rattle.rational.specs.Extended.{Ext, ◌<ₑ◌}
 use Rattle.rational.specs.declared.Extended.TheVariants.{Inf}
 use Rattle.rational.proofs.Linear.{with1, with2}
-use Rattle.rational.proofs.Laws.{le_trans, le_of_lt}
 use Rattle.affine_segment.specs.declared.line.Piece.{Piece}
 use Rattle.upp_curve.specs.declared.curve.Tail.{Tail}
 use Rattle.upp_curve.specs.declared.curve.Tail.TheVariants.{Periodic, Affine, Infinite}
@@ -16,12 +15,12 @@ use Rattle.affine_segment.specs.Pieces.{StartsAtZero, Each}
 use Rattle.upp_curve.specs.Normal.{TailFits}
 use Rattle.upp_curve.specs.Shapes.{IsFinitePiece, IsNumber}
 use Rattle.min_plus.specs.Functions.{IsFinite}
-use Rattle.upp_curve.specs.Steady.{Repeats, rise_over, rate}
+use Rattle.upp_curve.specs.Steady.{rise_over, rate}
 use Rattle.min_plus.specs.Deviations.{IsVerticalDeviation}
 use Rattle.upp_normal.specs.Ahead.{IsBeforeNext}
 use Rattle.upp_curve.proofs.Finite.{level_of, read_number, repeated_number}
 use Rattle.upp_curve.proofs.Repeats.{repeated_first}
-use Rattle.upp_curve.proofs.Steady.{cut_past, steady_rule}
+use Rattle.upp_curve.proofs.Steady.{cut_past}
 use Rattle.curve_least.specs.Ever.{RepeatsBy}
 use Rattle.curve_least.proofs.LeastNumber.{gains}
 use Rattle.curve_deviation.proofs.Infinite.{InfiniteTime, finite_or, infinite_deviation, gaining_deviation}

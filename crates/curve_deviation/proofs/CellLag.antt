@@ -5,7 +5,6 @@ use Rattle.rational.specs.Rational.{ℚ, ◌+ℚ◌, ◌-ℚ◌, ◌*ℚ◌, ◌
 use Rattle.rational.specs.MinMax.{min_q, max_q}
 use Rattle.rational.proofs.Linear.{with2, with3, with4}
 use Rattle.rational.proofs.Laws.{le_trans, le_of_lt, le_or_lt, lt_le_trans, le_lt_trans, lt_irrefl, antisym, between, mul_comm, mul_le_mul_right, mul_lt_mul}
-use Rattle.rational.proofs.Lines.{line_rises, line_moved}
 use Rattle.rational.proofs.Stretch.{rising_supremum}
 use Rattle.rational.proofs.MinMax.{below_min_in, min_q_le_left, min_q_le_right, max_q_lt, max_q_ge_left, max_q_ge_right}
 use Rattle.affine_segment.specs.declared.line.Line.{Line}

@@ -1,7 +1,7 @@
 -- The steps to the lag of a cell fit.
 use Rattle.std.specs.Prelude.{◌≡◌, ◌*◌, pos, Some, ◌↔◌, IsTrue}
 use native.Mathlib.Nat.{dvd-mul_left}
-use Rattle.std.proofs.Common.{arith, sym, ap, ap₂, ◌∙◌, subst, true≢false, false}
+use Rattle.std.proofs.Common.{arith, sym, ap, ap₂, ◌∙◌, subst, false}
 use Rattle.rational.specs.Rational.{ℚ, ◌-ℚ◌, ◌*ℚ◌, ◌/ℚ◌, ◌≤ℚ◌, ◌<ℚ◌, int, neg_ℚ}
 use Rattle.rational.specs.Ratio.{IsSmall, SumFits}
 use Rattle.rational.specs.Grid.{Within}
@@ -9,7 +9,7 @@ use Rattle.rational.proofs.Sizes.{largest_part, quotient_on_grid}
 use Rattle.rational.proofs.Grid.{whole_weaken}
 use Rattle.rational.proofs.Integers.{nat_le, nat_nonneg, int_mul}
 use Rattle.rational.proofs.Linear.{with2}
-use Rattle.rational.proofs.Laws.{div_mul, not_zero, le_of_not_lt}
+use Rattle.rational.proofs.Laws.{div_mul, not_zero}
 use Rattle.affine_segment.specs.declared.line.Line.{Line}
 use Rattle.affine_segment.specs.Values.{line_at}
 use Rattle.affine_segment.specs.Fits.{LineFits}

@@ -6,8 +6,8 @@ use Rattle.rational.specs.Rational.{ℚ, ◌+ℚ◌, ◌≤ℚ◌, ◌<ℚ◌, i
 use Rattle.rational.specs.MinMax.{min_q}
 use Rattle.rational.specs.Grid.{Whole}
 use Rattle.rational.specs.Extended.{Ext}
-use Rattle.rational.proofs.Laws.{le_refl, le_trans, le_of_lt, le_or_lt, lt_le_trans, le_lt_trans}
-use Rattle.rational.proofs.MinMax.{min_q_left, min_q_right, min_q_le_left, min_q_le_right, below_min_in, le_q_not}
+use Rattle.rational.proofs.Laws.{le_trans, le_of_lt, le_or_lt, lt_le_trans, le_lt_trans}
+use Rattle.rational.proofs.MinMax.{min_q_right, min_q_le_right, le_q_not}
 use Rattle.rational.proofs.Over.{le_q_out}
 use Rattle.affine_segment.specs.declared.line.Piece.{Piece}
 use Rattle.affine_segment.specs.Values.{line_value}
@@ -198,14 +198,6 @@ pub over_tail : (c : SpecCurve) (tail : Tail) (rank period rise end first : ℚ)
 over_tail c tail rank period rise end first e f g h =
     let found : IsOverBy end (Periodic rank period rise) = le_of_lt (subst (λ x. x <ℚ end) g h) in
     subst (IsOverBy end) (sym f ∙ e) found
-
-pub other_tail : (c : SpecCurve) (tail : Tail) (end : ℚ) → tail ≡ c.tail → ((rank period rise : ℚ) → tail ≡ Periodic rank period rise → ⊥) → IsEarlyBy end c.tail
-other_tail c tail end e none = subst (IsEarlyBy end) e (by_tail tail none)
-  where
-    by_tail : (k : Tail) → ((rank period rise : ℚ) → k ≡ Periodic rank period rise → ⊥) → IsEarlyBy end k
-    by_tail (Periodic rank period rise) h = absurd (h rank period rise refl)
-    by_tail (Affine rank) h = tt
-    by_tail (Infinite rank) h = tt
 
 -- ---- the piece as it is found
 pub value_by : (p : Piece) (t : ℚ) → t ≤ℚ p.x → p.at ≡ piece_value p t

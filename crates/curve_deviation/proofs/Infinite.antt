@@ -4,8 +4,8 @@ use Rattle.std.proofs.Common.{arith, sym, ap, ◌∙◌, refl, subst, inl, inr}
 use Rattle.rational.specs.Rational.{ℚ, ◌+ℚ◌, ◌-ℚ◌, ◌*ℚ◌, ◌≤ℚ◌, ◌<ℚ◌, int}
 use Rattle.rational.specs.Extended.{Ext, ◌<ₑ◌, ◌+ₑ◌, ◌-ₑ◌}
 use Rattle.rational.specs.declared.Extended.TheVariants.{Fin, Inf}
-use Rattle.rational.proofs.Linear.{with1, with2, with6}
-use Rattle.rational.proofs.Laws.{le_refl, le_trans, le_of_lt, lt_le_trans, between, mul_sub, mul_nonneg}
+use Rattle.rational.proofs.Linear.{with1, with2}
+use Rattle.rational.proofs.Laws.{le_refl, le_trans, le_of_lt, lt_le_trans, between, mul_nonneg}
 use Rattle.rational.proofs.Integers.{nat_nonneg}
 use Rattle.rational.proofs.Quotients.{times_above, past_each}
 use Rattle.affine_segment.specs.declared.line.Line.{Line}

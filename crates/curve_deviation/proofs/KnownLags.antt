@@ -15,14 +15,11 @@ use Rattle.upp_curve.specs.Curves.{IsCurve}
 use Rattle.min_plus.specs.Functions.{IsFinite, IsRising}
 use Rattle.upp_curve.specs.Steady.{Repeats, steady, rise_over, rate}
 use Rattle.upp_limits.specs.Periods.{common_period, both_steady}
-use Rattle.upp_limits.specs.Limits.{curve_numbers, sizes_of}
-use Rattle.upp_limits.specs.Sized.{Stands}
-use Rattle.upp_limits.specs.Gauges.{IsKnownAtOnce, both_numbers}
+use Rattle.upp_limits.specs.Gauges.{IsKnownAtOnce}
 use Rattle.upp_limits.specs.Outcome.{IsWithin}
 use Rattle.min_plus.specs.Deviations.{IsHorizontalDeviation}
-use Rattle.upp_limits.proofs.Stands.{sizes_stand, stands_left, stands_right}
 use Rattle.upp_curve.proofs.Steady.{steady_rule}
-use Rattle.curve_call.proofs.CurveTimes.{both_on, common_some}
+use Rattle.curve_call.proofs.CurveTimes.{common_some}
 use Rattle.curve_call.proofs.CurveRises.{common_first, common_second}
 use Rattle.curve_least.specs.Ever.{RepeatsBy}
 use Rattle.curve_least.proofs.Shifts.{later_value}

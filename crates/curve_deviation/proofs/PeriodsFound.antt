@@ -44,7 +44,7 @@ use Rattle.curve_least.proofs.Rises.{rate_rise, infinite_value}
 use Rattle.curve_deviation.specs.Parts.{IsSeen}
 use Rattle.curve_deviation.proofs.EarlyParts.{endless, early_here}
 use Rattle.curve_deviation.specs.declared.horizontals.Periods.{Periods}
-use Rattle.curve_deviation.specs.Stages.{AreFinite, HasLeft, HasReached, settled, IsPast, IsWideCall, IsFirst, AreFound}
+use Rattle.curve_deviation.specs.Stages.{AreFinite, HasLeft, settled, IsPast, IsWideCall, IsFirst, AreFound}
 use Rattle.curve_deviation.proofs.KnownLags.{first_repeats}
 use Rattle.curve_deviation.proofs.WindowTimes.{times_at, periods_low}
 use Rattle.upp_curve.proofs.RisingCurves.{GoesOn}
@@ -202,17 +202,6 @@ no_turn f g j F G first over k m least =
     omega (arith, over, rises)
 
 -- ---- both numbers
-pub both_found : (f g : SpecCurve) (p : Periods) (level : ℚ) → IsFirst f g p.first → p.until ≡ settled f g p.first → value_at f p.until ≡ Fin level
-    → ((i : ℕ) → i < p.second → ¬ (HasReached p.first level f g i)) → IsPast (HasReached p.first level f g p.second) (gauge_at Horizontal f g p.first p.second) → AreFound f g p
-both_found f g p level first time e below past =
-    let here : value_at f (settled f g p.first) ≡ Fin level = sym (ap (value_at f) time) ∙ e in
-    record {
-      first = first;
-      until = time;
-      below = λ i h reach. below i h (subst (λ x. x ≤ₑ value_at g (periods_after (settled f g p.first) i (common_period f g))) here reach);
-      past = elim past [ inl h ↦ inl (subst (λ x. x ≤ₑ value_at g (periods_after (settled f g p.first) p.second (common_period f g))) (sym here) h) | inr over ↦ inr over ];
-    }
-
 -- within the limit they are the least
 pub found_least : (f g : SpecCurve) (p : Periods) → IsCurve f → IsCurve g → AreFound f g p → gauge_at Horizontal f g p.first p.second < 2 ^ 120 → IsLeastPeriods Horizontal f g p.first p.second
 found_least f g p F G A small = record {

@@ -1,18 +1,17 @@
 -- The parts of a finite curve that rises: their lines, and their limits at both ends.
-use Rattle.std.specs.Prelude.{◌≡◌, ℕ, suc, ◌<◌, pos, Option, Some, None}
-use Rattle.std.proofs.Common.{arith, sym, ap, ◌∙◌, refl, subst, inl, inr}
-use Rattle.rational.specs.Rational.{ℚ, ◌+ℚ◌, ◌-ℚ◌, ◌*ℚ◌, ◌≤ℚ◌, ◌<ℚ◌, int, neg_ℚ}
+use Rattle.std.specs.Prelude.{◌≡◌, pos, Option, Some, None}
+use Rattle.std.proofs.Common.{arith, sym, ap, ◌∙◌, subst, inl, inr}
+use Rattle.rational.specs.Rational.{ℚ, ◌*ℚ◌, ◌≤ℚ◌, ◌<ℚ◌, int, neg_ℚ}
 use Rattle.rational.specs.MinMax.{min_q}
 use Rattle.rational.specs.Grid.{Whole}
 use Rattle.rational.specs.Stretch.{Between}
 use Rattle.rational.specs.Extended.{Ext, ◌≤ₑ◌}
-use Rattle.rational.specs.declared.Extended.TheVariants.{Fin, Inf}
-use Rattle.rational.proofs.Linear.{with1, with2, with3, with4}
-use Rattle.rational.proofs.Laws.{le_refl, le_trans, le_of_lt, le_or_lt, lt_le_trans, le_lt_trans, lt_trans, between, mul_lt_mul, neg_mul}
+use Rattle.rational.specs.declared.Extended.TheVariants.{Fin}
+use Rattle.rational.proofs.Linear.{with1, with3, with4}
+use Rattle.rational.proofs.Laws.{le_refl, le_trans, le_of_lt, le_or_lt, lt_le_trans, lt_trans, between, mul_lt_mul, neg_mul}
 use Rattle.rational.proofs.Bounds.{greatest, smallest}
 use Rattle.rational.proofs.Stretch.{rising_infimum, rising_supremum}
 use Rattle.rational.proofs.MinMax.{min_q_le_left, min_q_le_right, min_q_one, below_min_in}
-use Rattle.rational.proofs.ExtendedOrder.{same_le_ext, fin_same}
 use Rattle.affine_segment.specs.declared.line.Line.{Line}
 use Rattle.affine_segment.specs.Values.{line_at, line_value}
 use Rattle.upp_curve.specs.Curve.{SpecCurve, value_at}

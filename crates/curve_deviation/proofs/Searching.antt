@@ -58,17 +58,6 @@ pub record IsHalved (stage : Stage) (f g : SpecCurve) (low width : ℕ) : Type 0
   pub below : (i : ℕ) → i < low → ¬ (Meets stage f g i)
   pub past : IsPast (Meets stage f g (low + width - 1)) (stage_gauge stage f g (low + width - 1))
 
-pub halved_start : (stage : Stage) (f g : SpecCurve) (width : ℕ) → 1 ≤ width → width ≤ 2 ^ 116 → IsPast (Meets stage f g (width - 1)) (stage_gauge stage f g (width - 1)) → IsHalved stage f g 0 width
-halved_start stage f g width some few past = record {
-  some = some;
-  few = omega (arith, few);
-  below = λ i h. absurd (omega (arith, h));
-  past = subst (λ n. IsPast (Meets stage f g n) (stage_gauge stage f g n)) (same width) past;
-}
-  where
-    same : (n : ℕ) → n - 1 ≡ 0 + n - 1
-    same n = omega arith
-
 pub upper_half : (stage : Stage) (f g : SpecCurve) (low width half : ℕ) → IsCurve f → IsCurve g → AreFinite f g → half ≡ width / 2 → 1 < width → IsHalved stage f g low width
     → IsBefore (Meets stage f g (low + half - 1)) (stage_gauge stage f g (low + half - 1)) → IsHalved stage f g (low + half) (width - half)
 upper_half stage f g low width half F G both e more H before =
@@ -80,17 +69,6 @@ upper_half stage f g low width half F G both e more H before =
       below = λ i h. unmet_before stage f g (low + half - 1) F G both before.unmet i (omega (arith, h));
       past = subst (λ n. IsPast (Meets stage f g n) (stage_gauge stage f g n)) (sym same) H.past;
     }
-
-pub lower_half : (stage : Stage) (f g : SpecCurve) (low width half : ℕ) → half ≡ width / 2 → 1 < width → IsHalved stage f g low width
-    → IsPast (Meets stage f g (low + half - 1)) (stage_gauge stage f g (low + half - 1)) → IsHalved stage f g low half
-lower_half stage f g low width half e more H past = let few = H.few in record { some = omega (arith, e, more); few = omega (arith, e, more, few); below = H.below; past = past }
-
--- at the end one number is left
-pub halved_end : (stage : Stage) (f g : SpecCurve) (low width : ℕ) → IsHalved stage f g low width → width ≤ 1 → IsPast (Meets stage f g low) (stage_gauge stage f g low)
-halved_end stage f g low width H few = let some = H.some in subst (λ n. IsPast (Meets stage f g n) (stage_gauge stage f g n)) (last low width some few) H.past
-  where
-    last : (low width : ℕ) → 1 ≤ width → width ≤ 1 → low + width - 1 ≡ low
-    last low width h k = omega (arith, h, k)
 
 -- ---- what is read decides
 pub left_is : (z : Sizes) (f g : SpecCurve) (k : ℕ) (level end d time v : ℚ) → d ≡ common_period f g → WindowTimes z f g k 0 end d → time ≡ end -ℚ d -ℚ d → value_at f time ≡ Fin v

@@ -1,21 +1,19 @@
 -- The walk to the longest lag: what has been looked at, and that it ends.
-use Rattle.std.specs.Prelude.{◌≡◌, ℕ, suc, ◌+◌, ◌<◌, ◌≤◌, pos, ◌⊎◌}
-use Rattle.std.proofs.Common.{arith, sym, ap, ◌∙◌, refl, subst, inl, inr}
-use Rattle.std.proofs.lemmas.Int.{ints}
+use Rattle.std.specs.Prelude.{◌≡◌, ℕ, ◌+◌, ◌<◌, pos, ◌⊎◌}
+use Rattle.std.proofs.Common.{arith, sym, ap, ◌∙◌, subst, inl, inr}
 use Rattle.rational.specs.Rational.{ℚ, ◌+ℚ◌, ◌-ℚ◌, ◌*ℚ◌, ◌≤ℚ◌, ◌<ℚ◌, int}
 use Rattle.rational.specs.MinMax.{max_q}
 use Rattle.rational.specs.Whole.{whole_part}
 use Rattle.rational.specs.Grid.{Whole}
 use Rattle.rational.specs.Extended.{Ext, ◌≤ₑ◌, ◌<ₑ◌}
-use Rattle.rational.specs.declared.Extended.TheVariants.{Fin, Inf}
-use Rattle.rational.proofs.Linear.{with1, with2, with3, with4, with6}
-use Rattle.rational.proofs.Laws.{antisym, le_of_not_lt, le_refl, le_trans, le_of_lt, le_or_lt, lt_le_trans, le_lt_trans, lt_irrefl, lt_trans, mul_pos, mul_nonneg, sub_mul}
-use Rattle.rational.proofs.Integers.{nat_lt, nat_lt_out, nat_nonneg, nat_next, int_le, int_lt_out}
-use Rattle.rational.proofs.Whole.{whole_le, whole_gt}
+use Rattle.rational.specs.declared.Extended.TheVariants.{Fin}
+use Rattle.rational.proofs.Linear.{with2, with4, with6}
+use Rattle.rational.proofs.Laws.{antisym, le_refl, le_trans, le_of_lt, le_or_lt, lt_le_trans, le_lt_trans, lt_irrefl, lt_trans, mul_nonneg, sub_mul}
+use Rattle.rational.proofs.Integers.{nat_nonneg}
 use Rattle.rational.proofs.Grid.{whole_sub, whole_int}
 use Rattle.rational.proofs.Stretch.{rising_supremum}
 use Rattle.rational.proofs.MinMax.{max_q_one, max_q_ge_left, max_q_ge_right}
-use Rattle.rational.proofs.ExtendedOrder.{le_ext_trans, le_lt_ext, lt_le_ext, lt_ext_irrefl}
+use Rattle.rational.proofs.ExtendedOrder.{le_ext_trans, le_lt_ext, lt_le_ext}
 use Rattle.affine_segment.specs.declared.line.Line.{Line}
 use Rattle.affine_segment.specs.Values.{line_at}
 use Rattle.min_plus.specs.Functions.{IsRising}
@@ -23,10 +21,9 @@ use Rattle.upp_limits.specs.Limits.{Sizes}
 use Rattle.upp_normal.specs.Ahead.{IsTimeIn}
 use Rattle.curve_deviation.specs.declared.cells.Cell.{Cell}
 use Rattle.curve_deviation.specs.declared.walks.Walk.{Walk}
-use Rattle.curve_deviation.specs.Cells.{RisingCell, CellSizes, IsTimeTo, IsBehind, IsBehindEarlier, BehindBy, IsCellLag}
+use Rattle.curve_deviation.specs.Cells.{CellSizes, IsTimeTo, IsBehind, IsCellLag}
 use Rattle.curve_deviation.specs.Rises.{RisesOn, IsCellOf}
 use Rattle.curve_deviation.specs.Lags.{IsBehindAt, LagsBy, IsLongestLag}
-use Rattle.curve_deviation.proofs.RisingParts.{cell_rises}
 use Rattle.curve_least.proofs.GapWalk.{fewer_whole, one_step}
 use Rattle.affine_segment.proofs.LineValues.{value_rises}
 

@@ -1,16 +1,16 @@
 -- The gap over a window that reaches a period past the time from which on both curves repeat is the gap over all times.
 use Rattle.std.specs.Prelude.{◌≡◌, pos}
-use Rattle.std.proofs.Common.{arith, sym, ap, ◌∙◌, subst, inl, inr}
+use Rattle.std.proofs.Common.{arith, sym, ◌∙◌, subst, inl, inr}
 use Rattle.rational.specs.Rational.{ℚ, ◌+ℚ◌, ◌-ℚ◌, ◌*ℚ◌, ◌≤ℚ◌, ◌<ℚ◌, int}
 use Rattle.rational.specs.Whole.{periods}
 use Rattle.rational.specs.Extended.{Ext, ◌≤ₑ◌, ◌<ₑ◌, ◌+ₑ◌, ◌-ₑ◌}
 use Rattle.rational.specs.declared.Extended.TheVariants.{Fin, Inf}
 use Rattle.rational.proofs.Linear.{with2, with3, with4}
-use Rattle.rational.proofs.Laws.{le_or_lt, le_refl, le_trans, le_of_lt, le_of_not_lt, add_comm, mul_le_mul, mul_le_mul_right, sub_add}
+use Rattle.rational.proofs.Laws.{le_or_lt, le_refl, le_trans, le_of_lt, le_of_not_lt, mul_le_mul, mul_le_mul_right, sub_add}
 use Rattle.rational.proofs.Integers.{nat_nonneg}
 use Rattle.rational.proofs.Whole.{periods_low, periods_high}
 use Rattle.rational.proofs.Grid.{whole_int}
-use Rattle.rational.proofs.ExtendedOrder.{add_le_ext, add_assoc_ext, same_le_ext}
+use Rattle.rational.proofs.ExtendedOrder.{add_le_ext, same_le_ext}
 use Rattle.upp_curve.specs.Curve.{SpecCurve, value_at}
 use Rattle.min_plus.specs.Functions.{IsFinite}
 use Rattle.upp_curve.specs.Steady.{Repeats, rise_over, rate}

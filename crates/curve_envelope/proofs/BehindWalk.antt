@@ -1,6 +1,6 @@
 -- The walk over the starts of the service: at each it is looked how far the other, served theta later, is above; from each on, up to
 -- the next, the service has caught up.
-use Rattle.std.specs.Prelude.{◌≡◌, ℕ, ◌<◌, pos, Option, Some, None, ◌⊎◌}
+use Rattle.std.specs.Prelude.{◌≡◌, ℕ, ◌<◌, pos, Option, None, ◌⊎◌}
 use Rattle.std.proofs.Common.{arith, sym, ap, ◌∙◌, refl, subst, inl, inr}
 use Rattle.rational.specs.Rational.{ℚ, ◌-ℚ◌, ◌≤ℚ◌, ◌<ℚ◌, neg_ℚ}
 use Rattle.rational.specs.MinMax.{max_q}
@@ -20,7 +20,7 @@ use Rattle.upp_curve.specs.Shapes.{IsNumber}
 use Rattle.upp_limits.specs.Limits.{Sizes}
 use Rattle.upp_limits.specs.Sized.{grid_of, times_largest}
 use Rattle.upp_normal.specs.Operand.{AreLimited}
-use Rattle.upp_normal.specs.Ahead.{GoesOn, AtNext, IsBeforeNext, TimesStand, IsTimeIn, IsGridValue, GridValue}
+use Rattle.upp_normal.specs.Ahead.{GoesOn, AtNext, IsBeforeNext, TimesStand, IsTimeIn, GridValue}
 use Rattle.upp_normal.proofs.AnswerRoom.{values_fit}
 use Rattle.upp_curve.proofs.Finite.{number_of}
 use Rattle.upp_normal.proofs.StretchSizes.{times_fit, grid_value}

@@ -5,17 +5,15 @@ use Rattle.rational.specs.Rational.{ℚ, neg_ℚ, ◌+ℚ◌, ◌-ℚ◌, ◌≤
 use Rattle.rational.specs.Ratio.{SumFits}
 use Rattle.rational.specs.Grid.{Whole, Within}
 use Rattle.rational.specs.Extended.{Ext, ◌≤ₑ◌}
-use Rattle.rational.specs.declared.Extended.TheVariants.{Fin, Inf}
+use Rattle.rational.specs.declared.Extended.TheVariants.{Fin}
 use Rattle.rational.proofs.Grid.{whole_add, whole_sub, within_sub}
 use Rattle.rational.proofs.Linear.{with2, with3}
 use Rattle.rational.proofs.Laws.{le_or_lt, le_refl, le_trans, le_of_lt}
-use Rattle.rational.proofs.MinMax.{max_q_ge_left}
 use Rattle.affine_segment.specs.declared.line.Piece.{Piece}
 use Rattle.upp_curve.specs.Curve.{SpecCurve, value_at, repeated}
 use Rattle.min_plus.specs.Functions.{zero_q}
 use Rattle.affine_segment.specs.Pieces.{Each, StartsAtZero}
 use Rattle.upp_normal.specs.Normalising.{HasValues}
-use Rattle.min_plus.specs.Pointwise.{excess}
 use Rattle.affine_segment.specs.Reading.{read}
 use Rattle.min_plus.specs.Running.{left_after, IsRunningInfimum, IsFifoLeftover}
 use Rattle.upp_curve.specs.Steady.{Repeats, rise_over}

@@ -4,7 +4,7 @@ use Rattle.std.proofs.Common.{arith, sym, ap, ◌∙◌, refl, subst, inl, inr}
 use Rattle.rational.specs.Rational.{ℚ, ◌+ℚ◌, ◌-ℚ◌, ◌*ℚ◌, ◌≤ℚ◌, ◌<ℚ◌, int}
 use Rattle.rational.specs.Whole.{periods}
 use Rattle.rational.specs.Extended.{Ext, ◌≤ₑ◌, ◌<ₑ◌, ◌+ₑ◌}
-use Rattle.rational.specs.declared.Extended.TheVariants.{Fin, Inf}
+use Rattle.rational.specs.declared.Extended.TheVariants.{Fin}
 use Rattle.rational.proofs.Linear.{with2, with3, with4, with5}
 use Rattle.rational.proofs.Laws.{le_trans, le_of_lt, lt_irrefl, lt_le_trans, le_lt_trans, mul_nonneg, mul_le_mul, sub_add}
 use Rattle.rational.proofs.Integers.{nat_nonneg}
@@ -36,7 +36,6 @@ use Rattle.curve_call.proofs.CallTimes.{first_stands, second_stands, IsCall, sta
 use Rattle.curve_call.proofs.CallFits.{call_early}
 use Rattle.curve_call.proofs.CurveRises.{IsRise, rise_is, common_first, common_second}
 use Rattle.curve_least.proofs.LeastNumber.{gains}
-use Rattle.curve_least.proofs.Rises.{rate_rise, rate_none}
 use Rattle.curve_call.proofs.TailMoves.{rates_compared, excess_above, excess_both}
 use Rattle.curve_envelope.specs.Behind.{moved, IsServed}
 use Rattle.curve_envelope.specs.LeftCall.{LeftCall}

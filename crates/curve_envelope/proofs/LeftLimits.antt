@@ -1,7 +1,7 @@
 -- Which limits a call for what is left is over; and the frame of one that is over neither.
 use Rattle.std.specs.Prelude.{ℕ}
 use Rattle.rational.specs.Rational.{ℚ}
-use Rattle.rational.specs.declared.Extended.TheVariants.{Fin, Inf}
+use Rattle.rational.specs.declared.Extended.TheVariants.{Fin}
 use Rattle.upp_limits.specs.declared.op_kind.OpKind.{OpKind}
 use Rattle.upp_limits.specs.declared.op_kind.OpKind.TheVariants.{FifoLeft}
 use Rattle.upp_limits.specs.declared.op_kind.OpFault.{OpFault}
@@ -49,10 +49,6 @@ left_frame theta f g k r S L h =
       values = h.values;
       enough = from_meets f g theta r.start r.period k h.start h.period L.meets;
     }
-
--- after an infinite wait no limit is looked at
-pub left_known : (f g : SpecCurve) → IsWithin (FifoLeft Inf) f g
-left_known f g = record { narrow = λ w. w.looks tt; few = λ m. m.looks tt }
 
 -- by bounds of the number of periods
 pub left_between : (theta : ℚ) (f g : SpecCurve) (b : Bounds) (e : OpFault) → AreBounds (Meets (FifoLeft (Fin theta)) f g) b → IsRefusedBetween (FifoLeft (Fin theta)) f g b.low b.high e

@@ -2,12 +2,12 @@
 -- difference is nowhere below 0.
 use Rattle.std.specs.Prelude.{◌≡◌, pos, cond, List, [], ◌∷◌, Option, Some, None}
 use Rattle.std.proofs.Common.{arith, sym, ap, ap₂, ◌∙◌, refl, subst, inl, inr}
-use Rattle.rational.specs.Rational.{ℚ, ◌+ℚ◌, ◌-ℚ◌, ◌*ℚ◌, ◌≤ℚ◌, ◌<ℚ◌, int}
+use Rattle.rational.specs.Rational.{ℚ, ◌+ℚ◌, ◌-ℚ◌, ◌≤ℚ◌, ◌<ℚ◌, int}
 use Rattle.rational.specs.MinMax.{min_q}
 use Rattle.rational.specs.Extended.{Ext, ◌≤ₑ◌}
 use Rattle.rational.specs.declared.Extended.TheVariants.{Fin, Inf}
-use Rattle.rational.proofs.Linear.{with1, with2, with5}
-use Rattle.rational.proofs.Laws.{le_or_lt, le_refl, le_of_lt, le_trans, lt_le_trans, antisym, zero_mul, add_zero, sub_mul}
+use Rattle.rational.proofs.Linear.{with1, with2}
+use Rattle.rational.proofs.Laws.{le_or_lt, le_refl, le_of_lt, le_trans, lt_le_trans, antisym, zero_mul, add_zero}
 use Rattle.rational.proofs.MinMax.{le_q_not, min_q_le_left, min_q_le_right, below_min_in, max_q_right}
 use Rattle.rational.proofs.Over.{le_q_out}
 use Rattle.rational.proofs.ExtendedOrder.{same_le_ext, fin_same}
@@ -20,10 +20,10 @@ use Rattle.affine_segment.specs.Reading.{read, piece_value}
 use Rattle.min_plus.specs.Running.{left_after}
 use Rattle.affine_segment.proofs.PieceIn.{value_past, value_at_start}
 use Rattle.curve_window.specs.declared.stretch.Both.{Both}
-use Rattle.curve_window.specs.Stretches.{lefts, rights, EachBoth, IsBothOf, IsOverlay}
+use Rattle.curve_window.specs.Stretches.{IsBothOf, IsOverlay}
 use Rattle.curve_window.specs.Pointwise.{mapped}
 use Rattle.curve_window.specs.Made.{line_apart, zero_line}
-use Rattle.curve_window.proofs.Mapped.{both_in, StartsAt, mapped_in, each_both_in, each_map, each_of, lefts_mapped, rights_mapped, read_mapped}
+use Rattle.curve_window.proofs.Mapped.{both_in, StartsAt, each_both_in, each_map, each_of, lefts_mapped, rights_mapped, read_mapped}
 use Rattle.curve_envelope.specs.Behind.{IsServed}
 use Rattle.curve_envelope.specs.Parts.{left_piece}
 use Rattle.curve_envelope.proofs.Served.{caught_up}

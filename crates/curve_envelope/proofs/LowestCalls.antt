@@ -1,5 +1,5 @@
 -- The scans that find the lowest of some pieces: their steps fit, and the level that ends the second is one of the sums.
-use Rattle.std.specs.Prelude.{◌≡◌, List, [], ◌∷◌, ◌++◌, Option, Some, None, ◌⊎◌}
+use Rattle.std.specs.Prelude.{◌≡◌, List, [], ◌∷◌, ◌++◌}
 use Rattle.std.proofs.Common.{arith, sym, ap, ◌∙◌, refl, subst, inl, inr}
 use Rattle.rational.specs.Rational.{ℚ, ◌+ℚ◌, ◌≤ℚ◌, ◌<ℚ◌}
 use Rattle.rational.specs.MinMax.{min_q}
@@ -11,7 +11,6 @@ use Rattle.rational.proofs.Linear.{with2}
 use Rattle.rational.proofs.Laws.{le_or_lt, le_refl, le_of_lt, le_trans, lt_le_trans}
 use Rattle.rational.proofs.MinMax.{min_q_one, min_q_le_right}
 use Rattle.rational.proofs.ExtendedOrder.{fin_same, lt_ext_not_le}
-use Rattle.affine_segment.specs.declared.line.Line.{Line}
 use Rattle.affine_segment.specs.declared.line.Piece.{Piece}
 use Rattle.affine_segment.specs.Values.{line_value}
 use Rattle.min_plus.specs.Functions.{zero_q}
@@ -23,11 +22,11 @@ use Rattle.upp_curve.specs.Steady.{last_line}
 use Rattle.upp_limits.specs.Limits.{Sizes}
 use Rattle.upp_limits.specs.Sized.{grid_of, times_largest}
 use Rattle.upp_normal.specs.Operand.{AreLimited}
-use Rattle.upp_curve.proofs.Finite.{each_in, line_number, value_number}
+use Rattle.upp_curve.proofs.Finite.{each_in}
 use Rattle.affine_segment.proofs.PieceIn.{value_past, read_is, value_by}
 use Rattle.affine_segment.proofs.PieceOrder.{each_append, each_map, rises_append}
 use Rattle.upp_normal.proofs.NormaliseLists.{last_in}
-use Rattle.curve_running.specs.Scans.{IsWindow, ScanFits, IsInfimumUntil, IsLevel, HasLine, flat}
+use Rattle.curve_running.specs.Scans.{IsWindow, ScanFits, IsInfimumUntil, flat}
 use Rattle.curve_running.specs.Made.{IsMade, IsInfimumScan}
 use Rattle.curve_running.specs.Runs.{IsFrontBefore}
 use Rattle.curve_envelope.specs.Lowest.{SumPiece, level_piece, IsLowestCall, IsLowest}

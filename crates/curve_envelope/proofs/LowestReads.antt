@@ -15,7 +15,7 @@ use Rattle.rational.proofs.Laws.{le_or_lt, le_refl, le_of_lt, le_trans, le_lt_tr
 use Rattle.rational.proofs.MinMax.{min_q_one, min_q_le_left, min_q_le_right, max_q_lt, max_q_ge_left, max_q_ge_right}
 use Rattle.rational.proofs.Stretch.{line_infimum}
 use Rattle.rational.proofs.Whole.{periods_low, periods_high}
-use Rattle.rational.proofs.ExtendedOrder.{fin_same, le_ext_refl, le_ext_trans, same_le_ext}
+use Rattle.rational.proofs.ExtendedOrder.{fin_same, le_ext_refl, le_ext_trans}
 use Rattle.affine_segment.specs.declared.line.Line.{Line}
 use Rattle.affine_segment.specs.declared.line.Piece.{Piece}
 use Rattle.affine_segment.specs.Values.{line_at, line_value}

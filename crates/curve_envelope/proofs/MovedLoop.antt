@@ -1,6 +1,6 @@
 -- A loop that moves pieces right.
 use Rattle.std.specs.Prelude.{◌≡◌, ℕ, ◌+◌, ◌<◌, ◌≤◌, List, [], ◌∷◌, ◌++◌, length, map}
-use Rattle.std.proofs.Common.{get_or, drop, drop_of_length-le, append-nil, sym, ap, ap₂, ◌∙◌, refl, subst}
+use Rattle.std.proofs.Common.{get_or, drop, drop_of_length-le, append-nil, sym, ap, ◌∙◌, subst}
 use Rattle.rational.specs.Rational.{ℚ, ◌≤ℚ◌, ◌<ℚ◌}
 use Rattle.affine_segment.specs.declared.line.Piece.{Piece}
 use Rattle.affine_segment.specs.Pieces.{Each}
@@ -8,20 +8,11 @@ use Rattle.upp_curve.specs.Unrolled.{upto}
 use Rattle.affine_segment.proofs.NextPiece.{next_piece}
 use Rattle.upp_curve.proofs.Unique.{upto_none, upto_some, upto_end}
 use Rattle.curve_window.proofs.Surgery.{one_more}
-use Rattle.curve_envelope.specs.Moved.{moved_piece, silence, moved_right, PieceMoves}
+use Rattle.curve_envelope.specs.Moved.{moved_piece, moved_right, PieceMoves}
 
 pub record MovedLoop (theta end : ℚ) (ps left out : List Piece) : Type 0 where
   pub holds : Each (PieceMoves theta) left
   pub same : out ++ upto end (map (moved_piece theta) left) ≡ moved_right theta end ps
-
-pub moved_start : (theta end : ℚ) (ps out : List Piece) → Each (PieceMoves theta) ps → out ≡ silence theta → MovedLoop theta end ps (drop 0 ps) out
-moved_start theta end ps out h e = record { holds = subst (Each (PieceMoves theta)) (sym none) h; same = ap₂ (λ (x y : List Piece). x ++ upto end (map (moved_piece theta) y)) e none }
-  where
-    none : drop 0 ps ≡ ps
-    none = refl
-
-pub moved_holds : (theta end : ℚ) (ps out : List Piece) (j : ℕ) (p : Piece) → MovedLoop theta end ps (drop j ps) out → j < length ps → p ≡ get_or ps j p → PieceMoves theta p
-moved_holds theta end ps out j p L h e = (subst (Each (PieceMoves theta)) (next_piece p ps j h e) L.holds).0
 
 pub moved_step : (theta end : ℚ) (ps out : List Piece) (j : ℕ) (p q : Piece) → MovedLoop theta end ps (drop j ps) out → j < length ps → p ≡ get_or ps j p
     → q ≡ moved_piece theta p → q.x <ℚ end → MovedLoop theta end ps (drop (j + 1) ps) (out ++ q ∷ [])

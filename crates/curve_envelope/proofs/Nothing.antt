@@ -1,8 +1,7 @@
 -- The curve that is 0 at every time.
 use Rattle.std.specs.Prelude.{◌≡◌, pos, List, [], ◌∷◌, ◌++◌, Some}
-use Rattle.std.proofs.Common.{arith, sym, ap, ap₂, ◌∙◌, refl, subst}
-use Rattle.rational.specs.Gcd.{gcd, gcd_steps}
-use Rattle.rational.specs.Rational.{ℚ, ◌≤ℚ◌, int, frac, den}
+use Rattle.std.proofs.Common.{sym, ap, ap₂, ◌∙◌, refl, subst}
+use Rattle.rational.specs.Rational.{ℚ, ◌≤ℚ◌, int}
 use Rattle.rational.specs.Ratio.{IsSmall}
 use Rattle.rational.specs.declared.Extended.TheVariants.{Fin}
 use Rattle.affine_segment.specs.declared.line.Piece.{Piece}
@@ -10,7 +9,7 @@ use Rattle.upp_curve.specs.declared.curve.Tail.TheVariants.{Affine}
 use Rattle.upp_curve.specs.Curve.{SpecCurve, value_at}
 use Rattle.upp_curve.specs.Curves.{IsCurve}
 use Rattle.min_plus.specs.Functions.{zero_q}
-use Rattle.upp_curve.proofs.ReadableKinds.{bucket_curve, zero_num, zero_den, zero_small}
+use Rattle.upp_curve.proofs.ReadableKinds.{bucket_curve}
 use Rattle.curve_least.specs.Levels.{level_curve}
 use Rattle.curve_least.proofs.Levels.{level_value}
 

@@ -9,7 +9,7 @@ use Rattle.rational.specs.Extended.{Ext}
 use Rattle.rational.specs.declared.Extended.TheVariants.{Fin}
 use Rattle.rational.proofs.Grid.{whole_weaken, whole_int, whole_add, whole_sub, whole_neg, whole_mul, within_weaken, within_add, within_sub, within_neg, within_mul, within_nonneg}
 use Rattle.rational.proofs.Integers.{int_add, int_mul, nat_le, nat_nonneg}
-use Rattle.rational.proofs.Laws.{le_refl, le_trans, lt_irrefl, mul_comm, mul_assoc, mul_le_mul, mul_le_mul_right}
+use Rattle.rational.proofs.Laws.{le_refl, le_trans, mul_comm, mul_assoc, mul_le_mul}
 use Rattle.rational.proofs.Linear.{with1, with2, with3}
 use Rattle.rational.proofs.Sizes.{quotient_on_grid, sum_on_grid}
 use Rattle.rational.proofs.ExtendedOrder.{fin_same}

@@ -1,11 +1,10 @@
 -- Whether a curve is nowhere below another, by a call on both.
 use Rattle.std.specs.Prelude.{◌≡◌, ◌↔◌}
 use Rattle.std.proofs.Common.{arith, sym, subst, ◌∙◌, inl, inr}
-use Rattle.rational.specs.Rational.{ℚ, ◌≤ℚ◌, ◌-ℚ◌}
-use Rattle.rational.specs.Extended.{Ext, ◌≤ₑ◌, ◌<ₑ◌, ◌-ₑ◌, min_ext}
-use Rattle.rational.specs.declared.Extended.TheVariants.{Fin, Inf}
+use Rattle.rational.specs.Rational.{ℚ, ◌≤ℚ◌}
+use Rattle.rational.specs.Extended.{Ext, ◌≤ₑ◌, ◌<ₑ◌, ◌-ₑ◌}
+use Rattle.rational.specs.declared.Extended.TheVariants.{Fin}
 use Rattle.rational.proofs.Linear.{with1}
-use Rattle.rational.proofs.Laws.{le_refl}
 use Rattle.rational.proofs.Bounds.{smallest}
 use Rattle.rational.proofs.ExtendedOrder.{le_ext_trans, le_or_lt_ext, lt_ext_not_le, min_right, min_ext_of_le}
 use Rattle.min_plus.specs.Functions.{zero_q, IsFinite, IsNonnegative, FiniteTime}

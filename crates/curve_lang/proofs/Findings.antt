@@ -1,8 +1,7 @@
 -- What is known where something was found.
-use Rattle.std.specs.Prelude.{◌≡◌, ◌⊎◌, Result, Ok, Err}
+use Rattle.std.specs.Prelude.{◌≡◌, Result, Ok}
 use Rattle.std.proofs.Common.{inl, inr}
 use Rattle.curve_script.specs.declared.fault.LangKind.{LangKind}
-use Rattle.curve_script.specs.declared.fault.LangKind.TheVariants.{C7, C8, NoMemory}
 use Rattle.upp_curve.specs.Curve.{SpecCurve}
 use Rattle.curve_lang.specs.Finding.{Then, goes_on, stops, Gives, Guarded, BucketFinds}
 

@@ -1,8 +1,8 @@
 -- What is found by a call or a kind of curve whose answer is kept.
-use Rattle.std.specs.Prelude.{◌≡◌, ◌≢◌, ◌⊎◌, ◌↔◌, Result, Ok, Err, IfOk, IfErr}
-use Rattle.std.proofs.Common.{refl, sym, ap, subst, ◌∙◌, inl, inr}
+use Rattle.std.specs.Prelude.{◌≡◌, ◌⊎◌, ◌↔◌, Result, Ok, Err, IfOk, IfErr}
+use Rattle.std.proofs.Common.{sym, ap, subst, ◌∙◌, inl, inr}
 use Rattle.rational.specs.Rational.{ℚ, ◌≤ℚ◌}
-use Rattle.min_plus.specs.Functions.{zero_q, IsFinite, IsNonnegative}
+use Rattle.min_plus.specs.Functions.{zero_q}
 use Rattle.min_plus.specs.Convolution.{IsSubadditiveClosure}
 use Rattle.upp_curve.specs.Curve.{SpecCurve, value_at}
 use Rattle.upp_curve.specs.Curves.{IsCurve}
@@ -15,11 +15,9 @@ use Rattle.curve_call.specs.Answers.{IsMadeBy}
 use Rattle.curve_call.specs.Calls.{Applies}
 use Rattle.curve_library.specs.declared.fault.CurveFault.{CurveFault}
 use Rattle.curve_library.specs.declared.fault.CurveFault.TheVariants as kinds
-use Rattle.curve_library.specs.Causes.{KeepsCauses}
 use Rattle.subadd_closure.specs.Folds.{CloseAnswer}
-use Rattle.curve_script.specs.declared.fault.LangKind.{LangKind}
 use Rattle.curve_script.specs.declared.fault.LangKind.TheVariants.{NoMemory}
-use Rattle.curve_lang.specs.Finding.{Found, Gives, CallFinds, CurveFinds, KindFinds, BucketFinds, CloseFinds}
+use Rattle.curve_lang.specs.Finding.{Found, Gives, CallFinds, CurveFinds, BucketFinds, CloseFinds}
 use Rattle.curve_lang.specs.Sharing.{KindKept, CallKept, told_kind, told_call}
 
 -- ---- calls
@@ -50,25 +48,6 @@ close_found f (Ok h) r a kept values (inr e) = subst (CloseFinds f) (sym e) (inr
 close_found f (Err fault) r a kept values e = subst (CloseFinds f) (sym e) (close_refused f fault a)
 
 -- ---- kinds
--- the two causes of a kind are its refusal
-pub kind_found : (N Z Refused : Type 0) (c : SpecCurve) (made : Result SpecCurve CurveFault) (r : Found)
-    → (Refused → N ⊎ Z) → (N ⊎ Z → Refused) → KeepsCauses N Z c made → KindKept made r → KindFinds Refused c r
-kind_found N Z R c (Ok d) r out back h (inl e) =
-    subst (KindFinds R c) (sym e) ((λ x. elim (out x) [ inl n ↦ h.0.nonneg n | inr z ↦ h.0.period z ]), h.1.1, h.1.0)
-kind_found N Z R c (Ok d) r out back h (inr e) =
-    subst (KindFinds R c) (sym e) ((λ x. elim (out x) [ inl n ↦ h.0.nonneg n | inr z ↦ h.0.period z ]), h.1.1)
-kind_found N Z R c (Err kinds.Negative) r out back h e = subst (KindFinds R c) (sym e) (back (inl h))
-kind_found N Z R c (Err kinds.ZeroPeriod) r out back h e = subst (KindFinds R c) (sym e) (back (inr h.1))
-kind_found N Z R c (Err kinds.NotRising) r out back h e = absurd h
-kind_found N Z R c (Err kinds.NotContinuous) r out back h e = absurd h
-kind_found N Z R c (Err kinds.NotZeroAtStart) r out back h e = absurd h
-kind_found N Z R c (Err (kinds.Op limits.TooMany)) r out back h e =
-    subst (KindFinds R c) (sym e) ((λ x. elim (out x) [ inl n ↦ h.0.nonneg n | inr z ↦ h.0.period z ]), h.1)
-kind_found N Z R c (Err (kinds.Op limits.TooWide)) r out back h e =
-    subst (KindFinds R c) (sym e) ((λ x. elim (out x) [ inl n ↦ h.0.nonneg n | inr z ↦ h.0.period z ]), h.1)
-kind_found N Z R c (Err kinds.NoMemory) r out back h e =
-    subst (KindFinds R c) (sym e) ((λ x. elim (out x) [ inl n ↦ h.0.nonneg n | inr z ↦ h.0.period z ]), h.1)
-
 -- a token bucket
 pub bucket_found : (N : Type 0) (c : SpecCurve) (made : Result SpecCurve CurveFault) (r : Found) → IfOk made (λ d. d ≡ c)
     → ((made ≡ Err kinds.Negative) ↔ N) → IfErr made (λ e. (e ≡ kinds.Negative) ⊎ (e ≡ kinds.NoMemory)) → KindKept made r → BucketFinds N c r

@@ -1,8 +1,8 @@
 -- A curve that is found has the values that its expression means.
-use Rattle.std.specs.Prelude.{◌≡◌, ◌⊎◌, ℕ, List, [], ◌∷◌, Option, Some, None, option_map, find, cond, Bool, true, false, Result, Ok, Err}
+use Rattle.std.specs.Prelude.{◌≡◌, ℕ, List, [], ◌∷◌, Option, Some, None, option_map, cond, Bool, true, false, Ok}
 use Rattle.std.specs.Str.{bytes_eq}
 use Rattle.std.proofs.Common.{refl, sym, ap, subst, ◌∙◌, inl, inr}
-use Rattle.rational.specs.Rational.{ℚ, ◌+ℚ◌, ◌*ℚ◌, ◌≤ℚ◌, ◌<ℚ◌}
+use Rattle.rational.specs.Rational.{ℚ, ◌+ℚ◌, ◌≤ℚ◌, ◌<ℚ◌}
 use Rattle.rational.specs.declared.Extended.TheVariants.{Fin}
 use Rattle.rational.proofs.Integers.{nat_nonneg}
 use Rattle.rational.proofs.Laws.{le_of_not_lt, lt_of_not_le, not_le_of_lt, antisym, zero_mul, add_zero}
@@ -17,10 +17,10 @@ use Rattle.curve_script.specs.declared.keyword.NumberTriple.TheVariants.{Stair, 
 use Rattle.curve_script.specs.declared.keyword.CurveOperator.{CurveOperator}
 use Rattle.curve_script.specs.declared.keyword.CurveOperator.TheVariants.{Close, RunSup, RunInf}
 use Rattle.curve_script.specs.Grammar.{Expression, Named, Nought, OfPair, OfTriple, OnCurve, OnNumber, OnTwo}
-use Rattle.curve_library.specs.Causes.{OneNegative, NoSlot}
+use Rattle.curve_library.specs.Causes.{OneNegative}
 use Rattle.curve_lang.specs.Meaning.{FromZero, Given, given, Means, pair_value, triple_value, call_with, call_of_two, IsOnCurve}
-use Rattle.curve_lang.specs.Finding.{Then, Guarded, OneFinds, CurveFinds, TestFinds, PairFinds, TripleFinds, IsPacket, NoStair, NoGate, MayCall, MayCallWith, zero_curve}
-use Rattle.curve_lang.specs.Found.{Let, curve_named, with_values, NameFinds, Finds, Tested, OneMade, NumberMade, TwoMade}
+use Rattle.curve_lang.specs.Finding.{OneFinds, CurveFinds, PairFinds, TripleFinds, NoStair, NoGate, MayCall, MayCallWith, zero_curve}
+use Rattle.curve_lang.specs.Found.{Let, curve_named, with_values, NameFinds, Finds, Tested, OneMade}
 use Rattle.curve_lang.proofs.Findings.{then_ok, gives_ok, guarded_ok, bucket_ok}
 
 -- ---- names

@@ -1,5 +1,5 @@
 -- A curve that is found is in normal form, where those of the names are.
-use Rattle.std.specs.Prelude.{◌≡◌, ℕ, List, [], ◌∷◌, ◌++◌, Option, Some, None, option_map, find, cond, Bool, true, false, Ok}
+use Rattle.std.specs.Prelude.{◌≡◌, ℕ, List, [], ◌∷◌, ◌++◌, Option, Some, option_map, cond, Bool, true, false, Ok}
 use Rattle.std.specs.Str.{bytes_eq}
 use Rattle.std.proofs.Common.{sym, subst, inl, inr}
 use Rattle.rational.specs.Rational.{ℚ}

@@ -4,7 +4,7 @@ use Rattle.std.proofs.Common.{arith, refl, sym, ap, subst, ◌∙◌, inl, inr, 
 use Rattle.rational.specs.Rational.{ℚ, ◌≤ℚ◌}
 use Rattle.rational.specs.Extended.{Ext, ◌≤ₑ◌}
 use Rattle.min_plus.specs.Functions.{zero_q, IsFinite, IsNonnegative}
-use Rattle.min_plus.specs.Deviations.{IsHorizontalDeviation, IsVerticalDeviation}
+use Rattle.min_plus.specs.Deviations.{IsVerticalDeviation}
 use Rattle.min_plus.proofs.Unambiguous.{deviations_are_unique}
 use Rattle.upp_curve.specs.Curve.{SpecCurve, value_at, HasSameValues}
 use Rattle.upp_curve.specs.Kinds.{bucket, rate_latency, stair, gate}
@@ -32,7 +32,7 @@ use Rattle.curve_script.specs.declared.keyword.PairOperator.{PairOperator}
 use Rattle.curve_script.specs.declared.keyword.TwoAsked.{TwoAsked}
 use Rattle.curve_script.specs.declared.keyword.TwoAsked.TheVariants.{Delay, Backlog, Equal, Below}
 use Rattle.curve_script.specs.declared.fault.LangKind.{LangKind}
-use Rattle.curve_script.specs.declared.fault.LangKind.TheVariants.{C1, C2, C3, C4, C5, C6, C7, C8, TooMany, TooWide, NoMemory}
+use Rattle.curve_script.specs.declared.fault.LangKind.TheVariants.{C7, TooMany, TooWide, NoMemory}
 use Rattle.curve_script.specs.Grammar.{Expression, Named, Nought, OfPair, OfTriple, OnCurve, OnNumber, OnTwo, Statement, Lets, ValueAt, AsksOne, AsksTwo}
 use Rattle.curve_script.specs.Scripts.{Numbered, out_of_memory}
 use Rattle.curve_lang.specs.declared.answer.Word.TheVariants as words

@@ -1,6 +1,6 @@
 -- An operator after its parts.
 use Rattle.std.specs.Prelude.{◌≡◌, ◌<◌, Result, Ok, Err}
-use Rattle.std.proofs.Common.{arith, refl, ap}
+use Rattle.std.proofs.Common.{arith, ap}
 use Rattle.rational.specs.Rational.{ℚ}
 use Rattle.upp_curve.specs.Curve.{SpecCurve}
 use Rattle.curve_script.specs.declared.keyword.CurveOperator.{CurveOperator}

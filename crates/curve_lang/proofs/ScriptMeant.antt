@@ -1,26 +1,23 @@
 -- The answers that a script finds are those that it means.
-use Rattle.std.specs.Prelude.{◌≡◌, ◌↔◌, IsTrue, ℕ, List, [], ◌∷◌, ◌++◌, map, Option, Some, None, Result, Ok, Err}
-use Rattle.std.proofs.Common.{refl, sym, ap, subst, ◌∙◌, inl, inr}
+use Rattle.std.specs.Prelude.{◌≡◌, ℕ, List, [], ◌∷◌, ◌++◌, Option, Some, None, Result, Ok}
+use Rattle.std.proofs.Common.{refl, sym, ap, subst, ◌∙◌}
 use Rattle.std.proofs.lemmas.List.{append-nil, append_assoc}
 use Rattle.rational.specs.Rational.{ℚ, ◌≤ℚ◌}
-use Rattle.rational.specs.Extended.{Ext}
 use Rattle.min_plus.specs.Functions.{zero_q}
 use Rattle.upp_curve.specs.Curve.{SpecCurve, value_at}
-use Rattle.upp_curve.specs.Normal.{IsNormal}
 use Rattle.curve_script.specs.declared.fault.LangKind.{LangKind}
 use Rattle.curve_script.specs.declared.keyword.TwoAsked.{TwoAsked}
 use Rattle.curve_script.specs.declared.keyword.TwoAsked.TheVariants.{Delay, Backlog, Equal, Below}
 use Rattle.curve_script.specs.Grammar.{Expression, Statement, Lets, ValueAt, AsksOne, AsksTwo}
 use Rattle.curve_script.specs.Scripts.{Numbered}
-use Rattle.curve_lang.specs.Meaning.{Given, Means}
-use Rattle.curve_lang.specs.Answers.{Answered, NumberIs, MeansFirst, MeansOfTwo, MeansThen, ScriptMeans, one_answer}
+use Rattle.curve_lang.specs.Answers.{Answered, NumberIs, MeansOfTwo, ScriptMeans, one_answer}
 use Rattle.min_plus.specs.Functions.{IsFinite}
 use Rattle.upp_limits.specs.declared.op_kind.OpKind.TheVariants as calls
 use Rattle.curve_lang.specs.declared.answer.Word.TheVariants as words
-use Rattle.curve_lang.specs.Finding.{Then, Gives, CallFinds, MayWait, ValueFinds}
-use Rattle.curve_lang.specs.Found.{Let, with_values, Finds, Added, AddsName, AddsAnswer, Kept, NewName, IsDelay, IsBacklog, TwoFinds, curve_named, TellsValue, StatementFinds, Told, LineThen, goes_on, stops, after_added, ScriptFinds}
+use Rattle.curve_lang.specs.Finding.{Then, Gives, CallFinds, MayWait}
+use Rattle.curve_lang.specs.Found.{Let, with_values, Finds, Added, AddsName, AddsAnswer, NewName, IsDelay, IsBacklog, TwoFinds, curve_named, TellsValue, StatementFinds, LineThen, goes_on, stops, after_added, ScriptFinds}
 use Rattle.curve_lang.specs.Laws.{AnswersAreMeant}
-use Rattle.curve_lang.proofs.Findings.{then_ok, gives_ok, guarded_ok, BothFound}
+use Rattle.curve_lang.proofs.Findings.{then_ok, gives_ok, guarded_ok}
 use Rattle.curve_lang.proofs.Meant.{found_means}
 use Rattle.curve_lang.proofs.Normal.{EachNormal, one_more, found_normal}
 

@@ -1,22 +1,17 @@
 -- Statement after statement: what a script finds, from what each statement adds.
-use Rattle.std.specs.Prelude.{◌≡◌, ℕ, suc, ◌+◌, ◌<◌, ◌≤◌, length, List, [], ◌∷◌, ◌++◌, map, Option, Some, None, Result, Ok, Err, IfOk, is_some, true, false}
-use Rattle.std.specs.declared.alloc.Global.{Global}
-use Rattle.std.specs.Prelude.{Vec}
-use Rattle.std.proofs.Common.{arith, refl, sym, ap, ap₂, subst, ◌∙◌, inl, inr, get_or, drop, drop-cons, drop_of_length-le}
+use Rattle.std.specs.Prelude.{◌≡◌, ℕ, ◌≤◌, length, List, [], ◌∷◌, ◌++◌, map, Option, Some, None, Result, Ok, Err, is_some, false}
+use Rattle.std.proofs.Common.{refl, sym, ap, subst, inl, inr, drop, drop_of_length-le}
 use Rattle.rational.specs.Rational.{ℚ}
 use Rattle.upp_curve.specs.Curve.{SpecCurve}
 use Rattle.curve_script.specs.declared.fault.LangKind.{LangKind}
-use Rattle.curve_script.specs.declared.fault.LangKind.TheVariants.{C5, NoMemory}
-use Rattle.curve_script.specs.declared.fault.LangFault.{LangFault}
-use Rattle.curve_script.specs.Grammar.{Expression, Statement, Lets, ValueAt, AsksOne, AsksTwo}
+use Rattle.curve_script.specs.declared.fault.LangKind.TheVariants.{NoMemory}
+use Rattle.curve_script.specs.Grammar.{Expression, Statement, Lets}
 use Rattle.curve_script.specs.declared.script.ScriptLine.{ScriptLine}
 use Rattle.curve_script.specs.Scripts.{Numbered, line_view}
-use Rattle.curve_lang.specs.declared.answer.Answer.{Answer}
 use Rattle.curve_lang.specs.Answers.{Answered, ScriptMeans}
-use Rattle.curve_lang.specs.Finding.{Found, Then, goes_on, stops, Gives}
-use Rattle.curve_lang.specs.Found.{Let, curve_named, Finds, Kept, NewName, Added, AddsName, AddsAnswer, StatementFinds, Told, LineThen, goes_on as line_on, stops as line_stops, fault_at, after_added, ScriptFinds}
+use Rattle.curve_lang.specs.Finding.{Then, goes_on, stops, Gives}
+use Rattle.curve_lang.specs.Found.{Let, curve_named, Finds, Kept, NewName, Added, AddsName, AddsAnswer, StatementFinds, Told, goes_on as line_on, stops as line_stops, fault_at, after_added, ScriptFinds}
 use Rattle.curve_lang.specs.Scripts.{HasAdded, IsAdded, IsGiven, IsKept}
-use Rattle.curve_lang.specs.Views.{answer_view, told_script}
 use Rattle.curve_lang.proofs.ScriptMeant.{answers_are_meant}
 
 -- ---- what a statement adds
@@ -38,13 +33,6 @@ given_added ls ms out w e (Err k) h = h
 new_finds : (o : Option SpecCurve) (next : Result Added LangKind → Type 0) (r : Result Added LangKind) → is_some o ≡ false → next r → NewName o next r
 new_finds None next r e h = h
 new_finds (Some c) next r e h = absurd (cc e)
-
-old_finds : (o : Option SpecCurve) (next : Result Added LangKind → Type 0) → is_some o ≡ true → NewName o next (Err C5)
-old_finds None next e = absurd (cc e)
-old_finds (Some c) next e = refl
-
-pub name_again : (ls : List Let) (w : List ℕ) (e : Expression ℚ) → is_some (curve_named ls w) ≡ true → StatementFinds ls (Lets w e) (Err C5)
-name_again ls w e h = old_finds (curve_named ls w) _ h
 
 pub name_refused : (ls : List Let) (w : List ℕ) (e : Expression ℚ) (k : LangKind) → is_some (curve_named ls w) ≡ false → Finds ls e (Err k)
     → StatementFinds ls (Lets w e) (Err k)
@@ -77,12 +65,6 @@ script_goes_on u l ls ms out more rest r (x, finds, added) h = line_on x finds (
 pub script_stops : (U : Type 0) (l : Numbered) (ls ms : List Let) (out more : List Answered) (rest : List Numbered) (k : LangKind)
     → IsAdded {U = U} ls out l.1 ms more (Err k) → ScriptFinds ls out (l ∷ rest) (Err (fault_at k l.0))
 script_stops U l ls ms out more rest k h = line_stops k h refl
-
--- what is found is meant
-pub script_meaning : (lines : List Numbered) (r : Result (Vec Answer Global) LangFault) → ScriptFinds [] [] lines (told_script r)
-    → IfOk r (λ v. ScriptMeans [] lines (map answer_view v.items))
-script_meaning lines (Ok v) h = answers_are_meant lines (map answer_view v.items) h
-script_meaning lines (Err fault) h = tt
 
 -- ---- the lines that are left
 pub found_again : (ls : List Let) (out : List Answered) (xs : List ScriptLine) (i : ℕ) → length xs ≤ i

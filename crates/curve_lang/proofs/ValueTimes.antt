@@ -1,17 +1,15 @@
 -- The value of a curve at a time: what a gauge below the limit gives to the steps that find it.
-use Rattle.std.specs.Prelude.{◌≡◌, ℕ, ◌*◌, ◌+◌, ◌<◌, ◌≤◌, ◌^◌, pos, List, [], ◌∷◌, IsTrue, false, Option, Some, None, IsSome}
-use Rattle.std.proofs.Common.{arith, refl, sym, ap, subst, ◌∙◌, true≢false}
-use Rattle.std.specs.List.{AllByRecursion}
+use Rattle.std.specs.Prelude.{◌≡◌, ℕ, ◌*◌, ◌<◌, ◌≤◌, ◌^◌, pos, List, ◌∷◌, IsTrue, false, Option, Some, None, IsSome}
+use Rattle.std.proofs.Common.{arith, sym, ap, ◌∙◌, true≢false}
 use native.Mathlib.Nat.{le_of_dvd, mul-le-mul}
-use Rattle.rational.specs.Rational.{ℚ, ◌+ℚ◌, ◌-ℚ◌, ◌*ℚ◌, ◌≤ℚ◌, ◌<ℚ◌, int, neg_ℚ}
+use Rattle.rational.specs.Rational.{ℚ, ◌+ℚ◌, ◌-ℚ◌, ◌≤ℚ◌, ◌<ℚ◌, int, neg_ℚ}
 use Rattle.rational.specs.Grid.{Whole}
-use Rattle.rational.specs.Gauge.{bound_of, common_den}
-use Rattle.rational.specs.MinMax.{max_q}
+use Rattle.rational.specs.Gauge.{common_den}
 use Rattle.rational.specs.Ratio.{SumFits}
-use Rattle.rational.specs.Extended.{Ext, ◌+ₑ◌}
-use Rattle.rational.specs.declared.Extended.TheVariants.{Fin, Inf}
+use Rattle.rational.specs.Extended.{◌+ₑ◌}
+use Rattle.rational.specs.declared.Extended.TheVariants.{Fin}
 use Rattle.rational.proofs.Linear.{with3}
-use Rattle.rational.proofs.Laws.{le_refl, le_trans, le_of_lt, lt_le_trans, one_mul, sub_add}
+use Rattle.rational.proofs.Laws.{le_trans, le_of_lt, lt_le_trans, one_mul, sub_add}
 use Rattle.rational.proofs.Grid.{whole_add, whole_sub}
 use Rattle.rational.proofs.MinMax.{max_q_ge_left, max_q_ge_right}
 use Rattle.min_plus.specs.Functions.{zero_q}
@@ -20,12 +18,12 @@ use Rattle.upp_curve.specs.declared.curve.Tail.TheVariants.{Periodic, Affine, In
 use Rattle.affine_segment.specs.declared.line.Piece.{Piece}
 use Rattle.upp_curve.specs.Curve.{SpecCurve, value_at}
 use Rattle.upp_curve.specs.Curves.{IsCurve}
-use Rattle.upp_curve.specs.Steady.{steady, rise_over, Repeats, IsWholePeriods}
+use Rattle.upp_curve.specs.Steady.{steady, rise_over, IsWholePeriods}
 use Rattle.upp_curve.proofs.Steady.{steady_rule}
 use Rattle.upp_limits.specs.Periods.{own_period}
 use Rattle.upp_limits.specs.declared.op_kind.OpKind.TheVariants as calls
 use Rattle.upp_limits.specs.Limits.{Sizes, Numbers, time_alone, joined, curve_numbers, sizes_of, gauge_of, own_end}
-use Rattle.upp_limits.specs.Sized.{IsValue, Stands}
+use Rattle.upp_limits.specs.Sized.{Stands}
 use Rattle.upp_limits.specs.Gauges.{gauge_over, gauge_at, numbers_over}
 use Rattle.upp_limits.specs.Windows.{window_at}
 use Rattle.upp_limits.proofs.CommonDen.{common_den_each, common_den_least, common_den_pos}
@@ -33,11 +31,9 @@ use Rattle.upp_limits.proofs.CurveStands.{are_sizes}
 use Rattle.upp_limits.proofs.Operands.{curve_period}
 use Rattle.upp_limits.proofs.Stands.{sizes_stand, stands_right}
 use Rattle.upp_limits.proofs.NarrowSizes.{narrow_gauge, small_sum}
-use Rattle.upp_normal.specs.Operand.{AreLimited}
 use Rattle.upp_normal.specs.Ahead.{IsOverBy, HasWindow, IsTimeIn, GridValue}
 use Rattle.upp_normal.proofs.GaugeRises.{gauge_rises}
 use Rattle.upp_normal.proofs.StretchSizes.{times_fit}
-use Rattle.curve_call.specs.Rises.{CurveRiseFits}
 use Rattle.curve_call.specs.declared.windows.CallWindow.{CallWindow}
 use Rattle.curve_call.specs.CallWindows.{IsWindow}
 use Rattle.upp_curve.proofs.SteadyTimes.{rank_early, steady_nonneg}

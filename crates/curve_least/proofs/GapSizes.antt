@@ -2,12 +2,12 @@
 use Rattle.std.specs.Prelude.{◌≡◌, pos}
 use Rattle.std.proofs.Common.{sym, subst, inl, inr}
 use Rattle.rational.specs.Rational.{ℚ, ◌≤ℚ◌, ◌<ℚ◌, int}
-use Rattle.rational.specs.MinMax.{max_q, min_q}
+use Rattle.rational.specs.MinMax.{min_q}
 use Rattle.rational.specs.Grid.{Whole}
 use Rattle.rational.specs.Extended.{Ext}
 use Rattle.rational.specs.declared.Extended.TheVariants.{Fin, Inf}
 use Rattle.rational.proofs.Laws.{le_of_lt, le_of_not_lt}
-use Rattle.rational.proofs.MinMax.{max_q_one, max_q_right, max_q_is_left, min_q_left, min_q_right}
+use Rattle.rational.proofs.MinMax.{max_q_one, min_q_left, min_q_right}
 use Rattle.affine_segment.specs.Values.{line_value}
 use Rattle.upp_normal.specs.declared.ahead.Stretch.{Stretch}
 use Rattle.affine_segment.specs.Fits.{LineFitsAt}
@@ -20,12 +20,6 @@ use Rattle.curve_least.specs.declared.gaps.Gap.TheVariants.{NoTime, Never, Is}
 use Rattle.curve_least.specs.GapSteps.{gap_of, larger, DifferenceFits, StretchStands, IsGapValue, GapStands, StretchSizes}
 
 -- ---- tests
-pub greater_left : (a b : ℚ) → b <ℚ a → a ≡ max_q a b
-greater_left a b h = sym (max_q_is_left a b (le_of_lt h))
-
-pub greater_right : (a b : ℚ) → ¬ (b <ℚ a) → b ≡ max_q a b
-greater_right a b h = sym (max_q_right a b (le_of_not_lt h))
-
 pub earlier_left : (t : ℚ) (e : ℚ) → ¬ (e <ℚ t) → t ≡ min_q t e
 earlier_left t e h = sym (min_q_left t e (le_of_not_lt h))
 

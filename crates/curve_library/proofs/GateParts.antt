@@ -6,17 +6,16 @@ use Rattle.rational.specs.Ratio.{IsSmall, SumFits}
 use Rattle.rational.specs.Grid.{Whole}
 use Rattle.rational.proofs.Grid.{whole_sub}
 use Rattle.rational.proofs.Linear.{with2}
-use Rattle.rational.proofs.Laws.{antisym, le_of_lt, le_or_lt, le_refl, lt_irrefl, lt_le_trans}
+use Rattle.rational.proofs.Laws.{antisym, le_of_lt, le_or_lt, lt_irrefl, lt_le_trans}
 use Rattle.rational.proofs.MinMax.{le_q_not}
 use Rattle.rational.proofs.Over.{le_q_out}
 use Rattle.min_plus.specs.Functions.{zero_q}
-use Rattle.upp_curve.specs.Normal.{IsNormal}
 use Rattle.upp_curve.specs.Kinds.{flat, piece, bucket, gated, gate}
 use Rattle.upp_limits.specs.Spans.{spans}
 use Rattle.upp_limits.specs.Limits.{own_gauge, own_sizes, own_tally, own_end}
 use Rattle.upp_limits.specs.Sized.{IsSlope, IsValue}
 use Rattle.upp_limits.proofs.CurveStands.{starts_below_own_end}
-use Rattle.upp_kinds.proofs.KindForms.{gate_normal, gated_normal}
+use Rattle.upp_kinds.proofs.KindForms.{gated_normal}
 use Rattle.curve_library.specs.Causes.{NoSlot}
 use Rattle.curve_library.proofs.LateParts.{line_few}
 use Rattle.curve_library.proofs.OwnParts.{Held, held, too_wide, run_small, value_small, gap_fits}

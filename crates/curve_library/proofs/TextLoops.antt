@@ -1,12 +1,12 @@
 -- Loops over listed pieces: what is left of a list after some steps.
 use Rattle.std.specs.Prelude.{◌≡◌, ◌↔◌, ℕ, zero, suc, ◌+◌, ◌-◌, ◌<◌, ◌≤◌, List, [], ◌∷◌, ◌++◌, length, slice_get, Option, Some, None}
 use Rattle.std.specs.List.{AllByRecursion}
-use Rattle.std.proofs.Common.{arith, get_or, drop, drop-cons, drop_of_length-le, append-nil, append_assoc, sym, ap, ap₂, ◌∙◌, refl, subst}
+use Rattle.std.proofs.Common.{arith, get_or, drop, drop_of_length-le, sym, ap, refl, subst}
 use Rattle.rational.specs.Rational.{ℚ, ◌<ℚ◌}
 use Rattle.affine_segment.specs.declared.line.Piece.{Piece}
 use Rattle.affine_segment.specs.Pieces.{RisesFrom}
 use Rattle.curve_library.specs.declared.texts.PieceText.{PieceText}
-use Rattle.curve_library.specs.Listed.{text_piece, text_pieces, TextFits, LineFits, last_from, last_start}
+use Rattle.curve_library.specs.Listed.{text_pieces, TextFits, LineFits, last_from, last_start}
 use Rattle.affine_segment.proofs.NextPiece.{next_piece}
 
 -- ---- a test of each
@@ -41,46 +41,11 @@ pub record TextLoop (ps left : List PieceText) (out : List Piece) : Type 0 where
   pub fits : AllByRecursion TextFits ps → AllByRecursion TextFits left
   pub same : out ++ text_pieces left ≡ text_pieces ps
 
-pub text_start : (ps : List PieceText) → TextLoop ps (drop 0 ps) []
-text_start ps = record { fits = λ h. subst (AllByRecursion TextFits) (sym none) h; same = ap text_pieces none }
-  where
-    none : drop 0 ps ≡ ps
-    none = refl
-
-pub text_fits : (ps : List PieceText) (out : List Piece) (j : ℕ) (p : PieceText) → TextLoop ps (drop j ps) out → j < length ps → p ≡ get_or ps j p → ¬ (TextFits p) → ¬ (AllByRecursion TextFits ps)
-text_fits ps out j p L h e fails all = fails (subst (AllByRecursion TextFits) (next_piece p ps j h e) (L.fits all)).0
-
-pub text_step : (ps : List PieceText) (out : List Piece) (j : ℕ) (p : PieceText) (q : Piece) → TextLoop ps (drop j ps) out → j < length ps → p ≡ get_or ps j p → q ≡ text_piece p
-    → TextLoop ps (drop (j + 1) ps) (out ++ q ∷ [])
-text_step ps out j p q L h e is =
-    let shape = next_piece p ps j h e in
-    record {
-      fits = λ all. (subst (AllByRecursion TextFits) shape (L.fits all)).1;
-      same = append_assoc out (q ∷ []) (text_pieces (drop (j + 1) ps)) ∙ ap (λ z. out ++ (z ∷ text_pieces (drop (j + 1) ps))) is ∙ ap (λ z. out ++ text_pieces z) (sym shape) ∙ L.same;
-    }
-
-pub text_end : (ps : List PieceText) (out : List Piece) (j : ℕ) → TextLoop ps (drop j ps) out → length ps ≤ j → out ≡ text_pieces ps
-text_end ps out j L h = sym (append-nil out) ∙ ap (λ z. out ++ text_pieces z) (sym (drop_of_length-le ps h)) ∙ L.same
-
 -- ---- their lines
 -- each line that is passed fits
 pub record LinesLoop (ps left : List PieceText) : Type 0 where
   pub fits : AllByRecursion TextFits ps → AllByRecursion TextFits left
   pub lines : AllByRecursion LineFits left → AllByRecursion LineFits ps
-
-pub lines_off : (ps : List PieceText) (j : ℕ) (p : PieceText) → LinesLoop ps (drop j ps) → j < length ps → p ≡ get_or ps j p → ¬ (TextFits p) → ¬ (AllByRecursion TextFits ps)
-lines_off ps j p L h e fails all = fails (subst (AllByRecursion TextFits) (next_piece p ps j h e) (L.fits all)).0
-
-pub lines_on : (ps : List PieceText) (j : ℕ) (p : PieceText) → LinesLoop ps (drop j ps) → j < length ps → p ≡ get_or ps j p → LineFits p → LinesLoop ps (drop (j + 1) ps)
-lines_on ps j p L h e line =
-    let shape = next_piece p ps j h e in
-    record {
-      fits = λ all. (subst (AllByRecursion TextFits) shape (L.fits all)).1;
-      lines = λ rest. L.lines (subst (AllByRecursion LineFits) (sym shape) (line, rest));
-    }
-
-pub lines_end : (ps : List PieceText) (j : ℕ) → LinesLoop ps (drop j ps) → length ps ≤ j → AllByRecursion LineFits ps
-lines_end ps j L h = L.lines (subst (AllByRecursion LineFits) (sym (drop_of_length-le ps h)) tt)
 
 -- ---- the last start
 last_got : (p : PieceText) (ps : List PieceText) (n : ℕ) (q : PieceText) → n ≡ length ps → slice_get (p ∷ ps) n ≡ Some q → last_from p ps ≡ q.x

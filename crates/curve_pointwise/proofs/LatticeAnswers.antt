@@ -1,5 +1,5 @@
 -- What is made of two curves in a call within both limits: its pieces have room, and it repeats from the time on from which the slower curve is nowhere above.
-use Rattle.std.specs.Prelude.{◌≡◌, ℕ, ◌*◌, ◌≤◌, pos, List, ◌⊎◌}
+use Rattle.std.specs.Prelude.{◌≡◌, ℕ, ◌*◌, pos, List, ◌⊎◌}
 use Rattle.std.proofs.Common.{arith, sym, ap, ap₂, ◌∙◌, refl, subst, inl, inr}
 use Rattle.rational.specs.Rational.{ℚ, ◌+ℚ◌, ◌-ℚ◌, ◌≤ℚ◌, ◌<ℚ◌, int}
 use Rattle.rational.specs.Grid.{Whole, Within}
@@ -7,8 +7,8 @@ use Rattle.rational.specs.Extended.{Ext, ◌≤ₑ◌, ◌<ₑ◌, ◌+ₑ◌}
 use Rattle.rational.specs.declared.Extended.TheVariants.{Fin, Inf}
 use Rattle.rational.proofs.Grid.{whole_int, whole_sub, within_sub, within_nonneg, within_weaken}
 use Rattle.rational.proofs.Linear.{with1, with3}
-use Rattle.rational.proofs.Laws.{le_refl, le_trans, le_of_lt, mul_le_mul_right}
-use Rattle.rational.proofs.Integers.{nat_le, nat_nonneg, int_mul}
+use Rattle.rational.proofs.Laws.{le_refl, le_trans, le_of_lt}
+use Rattle.rational.proofs.Integers.{nat_nonneg, int_mul}
 use Rattle.affine_segment.specs.declared.line.Piece.{Piece}
 use Rattle.affine_segment.specs.Reading.{read}
 use Rattle.upp_curve.specs.Curve.{SpecCurve, repeated, value_at}

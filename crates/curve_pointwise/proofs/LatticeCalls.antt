@@ -23,7 +23,7 @@ use Rattle.upp_limits.specs.Gauges.{numbers_over, gauge_over, gauge_at}
 use Rattle.upp_limits.specs.Sized.{Stands, grid_of, times_largest}
 use Rattle.upp_curve.specs.Unrolled.{unroll}
 use Rattle.upp_normal.specs.Operand.{AreLimited}
-use Rattle.upp_limits.proofs.NarrowSizes.{IsNarrow, narrow_gauge, small_sum}
+use Rattle.upp_limits.proofs.NarrowSizes.{small_sum}
 use Rattle.upp_limits.proofs.CurveStands.{are_sizes}
 use Rattle.upp_limits.proofs.Stands.{sizes_stand}
 use Rattle.curve_window.specs.Operands.{AreOperands}

@@ -1,15 +1,13 @@
 -- A call on a curve and a level: its sizes and times, its limits, and its answer.
 use Rattle.std.specs.Prelude.{◌≡◌, ℕ, ◌<◌, ◌^◌, pos, [], ◌∷◌, Option, Some, None, MatchOption}
 use Rattle.std.proofs.Common.{arith, sym, ap, ◌∙◌, refl, subst}
-use Rattle.rational.specs.Rational.{ℚ, ◌+ℚ◌, ◌-ℚ◌, ◌*ℚ◌, ◌≤ℚ◌, ◌<ℚ◌, int}
+use Rattle.rational.specs.Rational.{ℚ, ◌-ℚ◌, ◌*ℚ◌, ◌≤ℚ◌, ◌<ℚ◌, int}
 use Rattle.rational.specs.Ratio.{IsSmall}
-use Rattle.rational.specs.Grid.{Within}
 use Rattle.rational.specs.Extended.{Ext, ◌≤ₑ◌, ◌<ₑ◌}
 use Rattle.rational.specs.declared.Extended.TheVariants.{Fin}
-use Rattle.rational.proofs.Grid.{whole_int, within_nonneg}
-use Rattle.rational.proofs.Integers.{nat_nonneg, int_mul}
+use Rattle.rational.proofs.Integers.{nat_nonneg}
 use Rattle.rational.proofs.Linear.{with2, with3}
-use Rattle.rational.proofs.Laws.{le_refl, le_trans, le_of_lt, zero_mul, add_zero, mul_nonneg}
+use Rattle.rational.proofs.Laws.{le_refl, le_trans, le_of_lt, zero_mul, mul_nonneg}
 use Rattle.affine_segment.specs.declared.line.Piece.{Piece}
 use Rattle.upp_limits.specs.declared.op_kind.OpKind.TheVariants.{PosMinus}
 use Rattle.upp_limits.specs.declared.op_kind.OpFault.{OpFault}
@@ -19,9 +17,9 @@ use Rattle.upp_curve.specs.Curves.{IsCurve}
 use Rattle.upp_curve.specs.Steady.{steady, rate, rise_over, later_unless}
 use Rattle.upp_limits.specs.Periods.{own_period, periods_after}
 use Rattle.upp_limits.specs.Windows.{window_at, Meets, IsLeast, IsLeastPeriods, IsBelowFor, IsSlowerBelow}
-use Rattle.upp_limits.specs.Limits.{Sizes, sizes_of, curve_numbers}
+use Rattle.upp_limits.specs.Limits.{Sizes, sizes_of}
 use Rattle.upp_limits.specs.Gauges.{numbers_over, gauge_at, gauge_over, IsTooWide}
-use Rattle.upp_limits.specs.Sized.{Stands, IsValue}
+use Rattle.upp_limits.specs.Sized.{IsValue}
 use Rattle.upp_curve.specs.Unrolled.{unroll}
 use Rattle.upp_limits.specs.Outcome.{IsWithin, IsCauseOf}
 use Rattle.min_plus.specs.Pointwise.{excess, IsPositiveMinus}

@@ -5,11 +5,10 @@ use Rattle.rational.specs.Rational.{ℚ}
 use Rattle.upp_limits.specs.declared.op_kind.OpKind.{OpKind}
 use Rattle.upp_limits.specs.declared.op_kind.OpFault.{OpFault}
 use Rattle.upp_limits.specs.declared.op_kind.OpFault.TheVariants.{TooMany, TooWide, NoMemory}
-use Rattle.upp_curve.specs.Curve.{SpecCurve, value_at}
+use Rattle.upp_curve.specs.Curve.{SpecCurve}
 use Rattle.upp_curve.specs.Curves.{IsCurve}
-use Rattle.upp_curve.specs.Steady.{rate}
-use Rattle.upp_limits.specs.Periods.{common_period, both_steady, periods_after}
-use Rattle.upp_limits.specs.Windows.{window_at, Meets, IsLeast, IsLeastPeriods, IsSlowerBelow}
+use Rattle.upp_limits.specs.Periods.{common_period, both_steady}
+use Rattle.upp_limits.specs.Windows.{window_at, Meets, IsLeast, IsLeastPeriods}
 use Rattle.upp_limits.specs.Gauges.{IsKnownAtOnce, IsTooWide}
 use Rattle.upp_limits.specs.Outcome.{IsWithin, IsCauseOf}
 use Rattle.curve_call.specs.declared.frame.Frame.{Frame}

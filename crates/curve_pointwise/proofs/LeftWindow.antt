@@ -8,7 +8,7 @@ use Rattle.rational.specs.Extended.{Ext, ◌+ₑ◌}
 use Rattle.rational.specs.declared.Extended.TheVariants.{Fin, Inf}
 use Rattle.rational.proofs.Comparison.{cmp_greater, cmp_not_greater}
 use Rattle.rational.proofs.Linear.{with1, with2, with3}
-use Rattle.rational.proofs.Laws.{le_of_lt, le_or_lt, add_zero, mul_neg}
+use Rattle.rational.proofs.Laws.{le_or_lt, add_zero, mul_neg}
 use Rattle.affine_segment.specs.declared.line.Line.{Line}
 use Rattle.affine_segment.specs.declared.line.Piece.{Piece}
 use Rattle.affine_segment.specs.Reading.{read}
@@ -17,7 +17,7 @@ use Rattle.upp_normal.specs.Normalising.{past, cut_at}
 use Rattle.upp_curve.specs.Unrolled.{line_later, later, each_later}
 use Rattle.upp_normal.proofs.UnrolledValues.{read_later}
 use Rattle.upp_normal.proofs.NormaliseLoops.{past_go, past_stop, past_none, later_none, later_some}
-use Rattle.upp_normal.proofs.NormaliseLists.{past_all, rises_past}
+use Rattle.upp_normal.proofs.NormaliseLists.{rises_past}
 use Rattle.upp_normal.proofs.NormalisePeriods.{cut_reads}
 use Rattle.curve_pointwise.specs.Shifting.{left_line, left_piece, moved_left}
 use Rattle.rational.proofs.ExtendedOrder.{add_zero_ext}

@@ -1,5 +1,5 @@
 -- The curve that is infinite everywhere.
-use Rattle.std.specs.Prelude.{◌≡◌, pos, Bool, true, false, cond, List, [], ◌∷◌, ◌++◌, None}
+use Rattle.std.specs.Prelude.{◌≡◌, pos, Bool, true, false, cond, List, [], ◌∷◌, ◌++◌}
 use Rattle.std.proofs.Common.{ap, ap₂, ◌∙◌, refl, inl, subst, sym}
 use Rattle.rational.specs.Rational.{ℚ, int, le_q}
 use Rattle.rational.specs.Extended.{Ext}
@@ -7,7 +7,7 @@ use Rattle.rational.specs.declared.Extended.TheVariants.{Inf}
 use Rattle.rational.proofs.Laws.{le_refl}
 use Rattle.affine_segment.specs.declared.line.Piece.{Piece}
 use Rattle.upp_curve.specs.declared.curve.Tail.TheVariants.{Infinite}
-use Rattle.affine_segment.specs.Reading.{read, piece_in, piece_value, nothing_at}
+use Rattle.affine_segment.specs.Reading.{read, piece_in, nothing_at}
 use Rattle.upp_curve.specs.Curve.{SpecCurve, cut, value_at}
 use Rattle.upp_curve.specs.Curves.{IsCurve}
 use Rattle.affine_segment.proofs.PieceIn.{nothing_read}

@@ -13,7 +13,7 @@ use Rattle.upp_curve.specs.declared.curve.Tail.{Tail}
 use Rattle.upp_curve.specs.declared.curve.Tail.TheVariants.{Periodic, Affine, Infinite}
 use Rattle.affine_segment.specs.Reading.{read, piece_in, piece_value}
 use Rattle.upp_curve.specs.Curve.{SpecCurve, repeated, cut, with_tail, value_at}
-use Rattle.affine_segment.specs.Pieces.{Each, RisesFrom, StartsAtZero}
+use Rattle.affine_segment.specs.Pieces.{Each, RisesFrom}
 use Rattle.upp_curve.specs.Normal.{TailFits, IsRaw}
 use Rattle.min_plus.specs.Pointwise.{scaled}
 use Rattle.upp_limits.specs.Gauges.{scaled_line, scaled_piece, scaled_tail, scaled_curve}

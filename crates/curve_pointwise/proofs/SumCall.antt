@@ -7,11 +7,10 @@ use Rattle.rational.specs.Ratio.{SumFits}
 use Rattle.rational.specs.Grid.{Whole, Within}
 use Rattle.rational.specs.Extended.{Ext, ◌+ₑ◌}
 use Rattle.rational.specs.declared.Extended.TheVariants.{Fin, Inf}
-use Rattle.rational.proofs.Linear.{with1, with4}
+use Rattle.rational.proofs.Linear.{with4}
 use Rattle.rational.proofs.Laws.{le_trans, le_of_lt}
 use Rattle.rational.proofs.MinMax.{max_q_ge_left, max_q_ge_right}
 use Rattle.rational.proofs.Grid.{whole_add, within_add, within_weaken}
-use Rattle.rational.proofs.Integers.{nat_nonneg}
 use Rattle.affine_segment.specs.declared.line.Piece.{Piece}
 use Rattle.upp_limits.specs.declared.op_kind.OpKind.TheVariants.{Sum}
 use Rattle.affine_segment.specs.Reading.{read}

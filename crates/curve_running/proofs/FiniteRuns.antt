@@ -1,9 +1,8 @@
 -- The running bounds of a finite curve are finite: of the supremum by its pieces, of the infimum by its value.
 use Rattle.std.specs.Prelude.{◌≡◌, Bool, List, [], ◌∷◌, Option, Some}
-use Rattle.std.proofs.Common.{sym, ◌∙◌, refl, subst, inl, inr}
+use Rattle.std.proofs.Common.{sym, ◌∙◌, subst, inl, inr}
 use Rattle.rational.specs.Rational.{ℚ}
 use Rattle.rational.specs.Extended.{Ext, ◌≤ₑ◌}
-use Rattle.rational.specs.declared.Extended.TheVariants.{Fin, Inf}
 use Rattle.rational.proofs.Laws.{le_refl}
 use Rattle.affine_segment.specs.declared.line.Line.{Line}
 use Rattle.affine_segment.specs.declared.line.Piece.{Piece}
@@ -13,7 +12,6 @@ use Rattle.min_plus.specs.Functions.{IsFinite}
 use Rattle.affine_segment.specs.Pieces.{Each, StartsAtZero}
 use Rattle.upp_normal.specs.Normalising.{HasValues}
 use Rattle.upp_curve.specs.Shapes.{IsNumber, IsLine, IsFinitePiece}
-use Rattle.upp_curve.proofs.FirstStretch.{read_in}
 use Rattle.upp_curve.proofs.Finite.{level_of, number_of, read_number, repeated_number}
 use Rattle.curve_running.specs.Made.{IsMade, IsScan}
 use Rattle.curve_running.specs.Runs.{RunsFrom}

@@ -1,25 +1,22 @@
 -- The first of some pieces, up to a time: a list that is cut there keeps what holds of its pieces, and its readings before that time.
-use Rattle.std.specs.Prelude.{◌≡◌, ℕ, suc, Bool, ◌+◌, ◌<◌, ◌≤◌, pos, List, [], ◌∷◌, ◌++◌, length, drop}
-use Rattle.std.proofs.Common.{arith, get_or, drop-cons, drop_of_length-le, sym, ap, ap₂, ◌∙◌, refl, subst, inl, inr}
+use Rattle.std.specs.Prelude.{◌≡◌, ℕ, suc, Bool, ◌+◌, ◌<◌, pos, List, [], ◌∷◌, ◌++◌, length, drop}
+use Rattle.std.proofs.Common.{arith, get_or, drop-cons, sym, ap, ap₂, ◌∙◌, refl, subst, inl, inr}
 use Rattle.rational.specs.Rational.{ℚ, ◌≤ℚ◌, ◌<ℚ◌, int}
 use Rattle.rational.proofs.Laws.{le_or_lt, lt_irrefl, lt_le_trans, le_lt_trans}
 use Rattle.affine_segment.specs.declared.line.Piece.{Piece}
-use Rattle.upp_normal.specs.Bends.{OnlyBend, BendAfter}
+use Rattle.upp_normal.specs.Bends.{OnlyBend}
 use Rattle.affine_segment.specs.Reading.{read, piece_in, piece_value}
-use Rattle.affine_segment.specs.Pieces.{Each, RisesFrom, StartsAtZero}
+use Rattle.affine_segment.specs.Pieces.{Each, StartsAtZero}
 use Rattle.affine_segment.proofs.PieceIn.{piece_in_end, piece_in_go, piece_in_stop}
 use Rattle.curve_window.proofs.Surgery.{one_more}
 use Rattle.curve_running.specs.Runs.{IsFrontBefore}
-use Rattle.affine_segment.proofs.PieceOrder.{heads_same, nil_not_cons, each_left, rises_left}
+use Rattle.affine_segment.proofs.PieceOrder.{heads_same, each_left, rises_left}
 use Rattle.upp_normal.proofs.Bends.{bend_front}
 
 -- ---- the loop
 pub record FrontLoop (ps : List Piece) (end : ℚ) (i : ℕ) (front : List Piece) : Type 0 where
   pub before : Each (λ p. p.x <ℚ end) front
   pub whole : front ++ drop i ps ≡ ps
-
-pub front_start : (ps : List Piece) (end : ℚ) → FrontLoop ps end 0 []
-front_start ps end = record { before = tt; whole = refl }
 
 each_more : (P : Piece → Type 0) (xs : List Piece) (p : Piece) → Each P xs → P p → Each P (xs ++ p ∷ [])
 each_more P [] p h k = (k, tt)
@@ -44,14 +41,6 @@ front_stop ps end i front p L h e late = record {
   rest = drop i ps;
   whole = L.whole;
   late = λ q more k. subst (λ z. end ≤ℚ z.x) (heads_same p q (drop (i + 1) ps) more (sym (next_piece p ps i h e) ∙ k)) late;
-}
-
-pub front_all : (ps : List Piece) (end : ℚ) (i : ℕ) (front : List Piece) → FrontLoop ps end i front → length ps ≤ i → IsFrontBefore ps end front
-front_all ps end i front L done = record {
-  before = L.before;
-  rest = drop i ps;
-  whole = L.whole;
-  late = λ q more k. absurd (nil_not_cons q more (sym (drop_of_length-le ps done) ∙ k));
 }
 
 -- ---- what a front keeps

@@ -1,15 +1,13 @@
 -- By the sizes of a call: the steps of a scan of an operand's pieces fit, and each piece that comes out has room.
-use Rattle.std.specs.Prelude.{◌≡◌, ◌≢◌, ℕ, Bool, ◌+◌, ◌*◌, ◌≤◌, pos, List, [], ◌∷◌, Option, Some, None, ◌⊎◌}
+use Rattle.std.specs.Prelude.{◌≡◌, ◌≢◌, Bool, ◌*◌, pos, List, [], ◌∷◌, Option, Some, None, ◌⊎◌}
 use Rattle.std.proofs.Common.{arith, sym, ap, ◌∙◌, subst, inl, inr}
 use native.Mathlib.Nat.{dvd-mul_left}
-use Rattle.rational.specs.Rational.{ℚ, ◌+ℚ◌, ◌-ℚ◌, ◌*ℚ◌, ◌/ℚ◌, ◌≤ℚ◌, ◌<ℚ◌, int}
+use Rattle.rational.specs.Rational.{ℚ, ◌-ℚ◌, ◌*ℚ◌, ◌/ℚ◌, ◌≤ℚ◌, ◌<ℚ◌, int}
 use Rattle.rational.specs.Ratio.{IsSmall}
 use Rattle.rational.specs.Grid.{Whole, Within}
-use Rattle.rational.specs.Extended.{Ext}
-use Rattle.rational.specs.declared.Extended.TheVariants.{Fin}
 use Rattle.rational.proofs.Grid.{whole_weaken, whole_int, whole_sub, within_weaken, within_sub, within_nonneg}
-use Rattle.rational.proofs.Integers.{int_add, int_mul, nat_le, nat_nonneg}
-use Rattle.rational.proofs.Laws.{le_refl, le_of_lt, lt_irrefl, mul_comm, mul_le_mul_right, add_mul}
+use Rattle.rational.proofs.Integers.{int_mul, nat_le, nat_nonneg}
+use Rattle.rational.proofs.Laws.{le_refl, le_of_lt, lt_irrefl, mul_comm}
 use Rattle.rational.proofs.Linear.{with1, with2, with3}
 use Rattle.rational.proofs.Sizes.{quotient_on_grid}
 use Rattle.affine_segment.specs.declared.line.Line.{Line}

@@ -14,7 +14,6 @@ use Rattle.curve_running.specs.declared.bend.Bend.{Bend}
 use Rattle.curve_running.specs.Scans.{flat, IsLevel, HasLine, IsStretch}
 use Rattle.curve_running.specs.Bends.{bent}
 use Rattle.curve_running.specs.Made.{IsOneOf, IsTurn, IsMadeOf, IsMade, TurnsAfter}
-use Rattle.affine_segment.proofs.PieceOrder.{each_append}
 
 -- the greater and the lesser of two levels are levels
 pub greater_level : (end : ℚ) (ps : List Piece) (v w : ℚ) → IsLevel end ps v → IsLevel end ps w → IsLevel end ps (max_q v w)

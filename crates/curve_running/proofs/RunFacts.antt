@@ -10,7 +10,7 @@ use Rattle.rational.proofs.Laws.{le_refl, le_of_lt, le_trans}
 use Rattle.rational.proofs.Linear.{with3}
 use Rattle.affine_segment.specs.declared.line.Piece.{Piece}
 use Rattle.upp_limits.specs.declared.op_kind.OpKind.TheVariants.{RunSup, RunInf}
-use Rattle.affine_segment.specs.Reading.{read, piece_in, piece_value}
+use Rattle.affine_segment.specs.Reading.{read}
 use Rattle.upp_curve.specs.Curve.{SpecCurve, value_at}
 use Rattle.upp_curve.specs.Curves.{IsCurve}
 use Rattle.min_plus.specs.Functions.{zero_q, IsFinite, IsNonnegative}

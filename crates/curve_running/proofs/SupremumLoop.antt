@@ -1,5 +1,5 @@
 -- The scan for the supremum: what holds after each piece.
-use Rattle.std.specs.Prelude.{◌≡◌, ℕ, true, ◌+◌, ◌*◌, ◌<◌, ◌≤◌, pos, List, [], ◌∷◌, ◌++◌, length, drop, Option, Some, None}
+use Rattle.std.specs.Prelude.{◌≡◌, ℕ, true, ◌+◌, ◌*◌, ◌≤◌, pos, List, [], ◌∷◌, ◌++◌, length, drop, Option, Some, None}
 use Rattle.std.proofs.Common.{arith, length-append, drop_of_length-le, sym, ap, ap₂, ◌∙◌, refl, subst}
 use Rattle.rational.specs.Rational.{ℚ, ◌<ℚ◌, int}
 use Rattle.rational.specs.MinMax.{max_q}
@@ -20,7 +20,7 @@ use Rattle.curve_running.specs.Made.{IsMadeOf, IsMade, TurnsAfter, IsSupremumSca
 use Rattle.curve_running.proofs.Suprema.{IsEarly, IsUpTo, early_start, upto_value, upto_line, early_line}
 use Rattle.curve_running.proofs.Building.{Built, built_none, built_more, built_whole}
 use Rattle.curve_running.proofs.Makings.{greater_level, bent_made, bent_turns, turns_join}
-use Rattle.affine_segment.proofs.PieceOrder.{each_append, zero_some}
+use Rattle.affine_segment.proofs.PieceOrder.{each_append}
 
 -- the pieces before the i-th are scanned: `level` is the supremum before its start
 pub record SupremumLoop (ps : List Piece) (end : ℚ) (i : ℕ) (level : ℚ) (out : List Piece) : Type 0 where

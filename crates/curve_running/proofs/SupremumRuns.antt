@@ -1,8 +1,6 @@
 -- The running supremum of a curve: from its scan in the window to every time.
-use Rattle.std.specs.Prelude.{◌≡◌, ℕ, suc, true, ◌+◌, ◌*◌, pos, List, None}
+use Rattle.std.specs.Prelude.{◌≡◌, ℕ, suc, true, ◌+◌, pos, List, None}
 use Rattle.std.proofs.Common.{arith, sym, ap, ◌∙◌, subst, inl, inr}
-use native.Mathlib.Nat.{dvd-mul_right}
-use Prim.Native.Nat.{◌∣◌}
 use Rattle.rational.specs.Rational.{ℚ, ◌+ℚ◌, ◌-ℚ◌, ◌*ℚ◌, ◌≤ℚ◌, ◌<ℚ◌, int}
 use Rattle.rational.specs.Grid.{Whole, Within}
 use Rattle.rational.specs.Extended.{Ext, ◌+ₑ◌}

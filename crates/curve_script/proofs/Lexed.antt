@@ -1,7 +1,7 @@
 -- The function that cuts a line finds its tokens, and no line says two things.
 use Rattle.std.proofs.Math.Dec.{T}
 use Rattle.std.proofs.Common.{eqb→eq, subst, ◌≡◌, ℕ, List, [], ◌∷◌, ◌++◌, Option, Some, None, Bool, true, false, refl, sym, ap, ◌∙◌}
-use Rattle.std.specs.Prelude.{option_map, ◌&&◌, ◌==◌, if◌then◌else◌}
+use Rattle.std.specs.Prelude.{option_map, ◌==◌, if◌then◌else◌}
 use Rattle.std.specs.List.{list_all}
 use Rattle.curve_script.specs.declared.token.Sign.{Sign}
 use Rattle.curve_script.specs.declared.token.Sign.TheVariants.{Open, Close, Comma, Equals}

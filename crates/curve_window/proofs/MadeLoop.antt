@@ -27,9 +27,6 @@ pub record MadeLoop (k : Made) (end : ℚ) (bs left : List Both) (out : List Pie
   pub early : EachBoth (λ b. b.left.x <ℚ end) left
   pub rest : (more : List Piece) → AreMade k left end more → AreMade k bs end (out ++ more)
 
-pub made_start : (k : Made) (end : ℚ) (bs : List Both) → EachBoth (StretchMadeFits end) bs → EachBoth (λ b. b.left.x <ℚ end) bs → MadeLoop k end bs (drop 0 bs) []
-made_start k end bs h e = record { holds = h; early = e; rest = λ more a. a }
-
 -- the present stretch
 pub record PresentFits (end : ℚ) (b : Both) (to : ℚ) : Type 0 where
   pub fits : StretchMadeFits end b

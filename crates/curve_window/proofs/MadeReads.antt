@@ -165,9 +165,6 @@ listed_rise : (k : Made) (b : Both) (to y : ℚ) (below : Bool) (turn : Option �
 listed_rise k b to y below None rest L h R = (h, R b.left.x (le_refl b.left.x) (inl refl))
 listed_rise k b to y below (Some x) rest L h R = (h, (L.past, R x (le_of_lt L.past) (inr L.before)))
 
-rises_later : (x to : ℚ) (ps : List Piece) → x <ℚ to → ((y : ℚ) → y <ℚ to → RisesFrom y ps) → RisesFrom x ps
-rises_later x to ps h R = R x h
-
 pub made_rises : (k : Made) (b : Both) (bs : List Both) (end y : ℚ) (ps : List Piece) → AreMade k (b ∷ bs) end ps → RisesFrom b.left.x (lefts bs) → y <ℚ b.left.x → RisesFrom y ps
 made_rises k b [] end y ps (parts, P, (rest, e, M)) R h =
     subst (RisesFrom y) (sym (e ∙ ap (λ z. listed z rest) P.is)) (listed_rise k b end y P.lie.below P.lie.turn rest P.lies h (λ x low o. subst (RisesFrom x) (sym M) tt))

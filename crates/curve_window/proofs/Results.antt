@@ -1,8 +1,7 @@
 -- What an answer says, said of something else.
-use Rattle.std.specs.Prelude.{Result, Ok, Err, IfOk, IfErr}
+use Rattle.std.specs.Prelude.{Result, Ok, Err, IfErr}
 use Rattle.std.proofs.Common.{refl}
 use Rattle.std.specs.Result.{IsOk}
-use Rattle.upp_normal.proofs.NormaliseForm.{ok_map}
 
 -- each refusal is ruled out
 pub ok_of_none : {A E : Type 0} (r : Result A E) (P : E → Type 0) → IfErr r P → ((e : E) → ¬ (P e)) → IsOk r

@@ -15,8 +15,8 @@ use Rattle.affine_segment.specs.Reading.{read, piece_value, line_in}
 use Rattle.affine_segment.specs.Pieces.{Each}
 use Rattle.curve_window.specs.declared.stretch.Both.{Both}
 use Rattle.curve_window.specs.Stretches.{IsBothOf, IsOverlay, EachBoth}
-use Rattle.curve_window.specs.Pointwise.{mapped, sum_line, sum_piece, StretchSumFits, SumsFit, IsSumPiece, IsWindowSum}
-use Rattle.curve_window.proofs.Mapped.{pointwise, starts_mapped, length_mapped, each_map}
+use Rattle.curve_window.specs.Pointwise.{mapped, sum_line, sum_piece, IsSumPiece, IsWindowSum}
+use Rattle.curve_window.proofs.Mapped.{pointwise, starts_mapped, length_mapped}
 
 sum_line_value : (a b : Option Line) (t : ℚ) → line_value (sum_line a b) t ≡ line_value a t +ₑ line_value b t
 sum_line_value None b t = refl
@@ -33,9 +33,6 @@ sum_value f g b t h = elim (le_or_lt t b.left.x) [
   | inl l ↦ rw (← h.together, le_q_out t b.left.x l) refl
   | inr l ↦ rw (← h.together, le_q_not t b.left.x l) (sum_line_value b.left.line b.right.line t)
 ]
-
-pub stretches_fit : (f g : List Piece) (bs : List Both) → SumsFit f g → IsOverlay f g bs → EachBoth StretchSumFits bs
-stretches_fit f g bs fit O = each_map (IsBothOf f g) StretchSumFits bs fit O.each
 
 -- each piece
 sum_piece_of : (f g : List Piece) (b : Both) → IsBothOf f g b → IsSumPiece f g (sum_piece b)

@@ -7,7 +7,7 @@ use Rattle.rational.proofs.Laws.{antisym, le_refl, le_of_lt, le_or_lt, le_trans,
 use Rattle.affine_segment.specs.declared.line.Piece.{Piece}
 use Rattle.affine_segment.specs.Reading.{read, piece_in, piece_value, line_in}
 use Rattle.affine_segment.specs.Pieces.{RisesFrom, StartsAtZero}
-use Rattle.affine_segment.proofs.PieceIn.{piece_in_end, piece_in_go, piece_in_stop, value_past, value_at_start, read_go, read_is}
+use Rattle.affine_segment.proofs.PieceIn.{piece_in_end, piece_in_go, piece_in_stop, value_past, value_at_start, read_is}
 use Rattle.curve_window.specs.Stretches.{cut_at}
 
 -- ---- appending

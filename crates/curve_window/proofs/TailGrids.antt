@@ -15,12 +15,8 @@ use Rattle.upp_normal.specs.Normalising.{OnGridsUnlessLine}
 use Rattle.upp_limits.specs.Limits.{Sizes}
 use Rattle.upp_limits.specs.Sized.{grid_of}
 use Rattle.upp_limits.proofs.NarrowSizes.{slope_time_divides}
-use Rattle.upp_normal.proofs.NormaliseGrids.{PieceOn, raw_on}
-use Rattle.affine_segment.proofs.PieceOrder.{each_map}
 use Rattle.upp_normal.proofs.Bends.{bends_on}
-use Rattle.curve_window.specs.Pointwise.{IsSumPiece, IsWindowSum}
 use Rattle.curve_window.specs.Operands.{AreOperands, IsMadeOf}
-use Rattle.curve_window.proofs.OperandWindows.{StartsWithRoom, sum_room}
 
 -- a tail from `from` on whose first period ends with the window
 pub record TailOf (z : Sizes) (end from period rise : ℚ) : Type 0 where
@@ -42,15 +38,3 @@ pub made_on_grids : (z : Sizes) (made : Ext → Ext → Ext) (rises : Bool) (f g
     → TailOf z end from period rise → OnGridsUnlessLine z.dt (grid_of z) (repeated (read ps) from period rise) from period rise
 made_on_grids z made rises f g ps end from period rise A M T =
     bends_on rises z.dt z.ds (grid_of z) ps from period rise (grids_nest z) M.starts (fits_period z end from period rise ps T M.early) (M.bends z A) T.time T.whole T.value
-
--- of the sum
-pub sums_have_room : (z : Sizes) (f g ps : List Piece) (end : ℚ) → AreOperands z end f g → IsWindowSum f g ps → Each (StartsWithRoom z end) ps
-sums_have_room z f g ps end A S = each_map (IsSumPiece f g) (StartsWithRoom z end) (λ p P. sum_room z end f g p A.limited A.left A.right P) ps S.each
-
-pub sum_on_grids : (z : Sizes) (f g ps : List Piece) (end from period rise : ℚ) → AreOperands z end f g → IsWindowSum f g ps → TailOf z end from period rise
-    → OnGridsUnlessLine z.dt (grid_of z) (repeated (read ps) from period rise) from period rise
-sum_on_grids z f g ps end from period rise A S T =
-    let R = sums_have_room z f g ps end A S in
-    raw_on z.dt z.ds (grid_of z) ps from period rise (grids_nest z) S.starts
-    (fits_period z end from period rise ps T (each_map (StartsWithRoom z end) (λ p. p.x <ℚ end) (λ p P. P.time.before) ps R))
-    (each_map (StartsWithRoom z end) (PieceOn z.dt z.ds (grid_of z)) (λ p P. P.on) ps R) T.time T.whole T.value

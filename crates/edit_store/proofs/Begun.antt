@@ -1,5 +1,5 @@
 -- A store of one network: there was none before it, so all its cells are touched.
-use Rattle.std.proofs.Common.{◌≡◌, ℕ, ◌+◌, List, [], ◌∷◌, length, Option, None, Bool, true, false, sym, ap, ◌∙◌, subst, refl, arith, inl, inr}
+use Rattle.std.proofs.Common.{◌≡◌, ℕ, ◌+◌, List, [], ◌∷◌, length, Option, None, true, false, sym, ap, ◌∙◌, subst, refl, arith, inl, inr}
 use Rattle.std.proofs.lemmas.Bool.{le-ltb}
 use Rattle.std.proofs.lemmas.Option.{slice_get_past}
 use Rattle.run_laws.specs.Servers.{queue_count}
@@ -18,7 +18,7 @@ use Rattle.version_table.specs.Histories.{History}
 use Rattle.cell_changes.specs.Changes.{TouchedOf, changed, no_more, taken}
 use Rattle.cell_store.specs.Placed.{placed}
 use Rattle.cell_store.specs.Edits.{AllAnswered, IsEditOf, SameButAt}
-use Rattle.edit_store.specs.Stored.{HoldsTable, IsStored}
+use Rattle.edit_store.specs.Stored.{IsStored}
 
 -- nothing: no server and no flow
 abbrev pub no_net : Net

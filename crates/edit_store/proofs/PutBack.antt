@@ -1,11 +1,10 @@
 -- What an edit replaced, put back, gives the network before; and so for one edit after the other.
-use Rattle.std.proofs.Common.{◌≡◌, ◌⊎◌, get_or, ℕ, zero, suc, ◌+◌, ◌-◌, ◌<◌, ◌≤◌, List, [], ◌∷◌, ◌++◌, length, take, map, Option, Some, None, refl, sym, ap, ap₂, ◌∙◌, subst, inl, inr, arith}
+use Rattle.std.proofs.Common.{◌≡◌, ◌⊎◌, get_or, ℕ, zero, suc, ◌+◌, ◌-◌, ◌<◌, List, [], ◌∷◌, ◌++◌, length, take, Option, Some, None, refl, sym, ap, ap₂, ◌∙◌, subst, inl, inr, arith}
 use Rattle.std.specs.Prelude.{slice_get, slice_set, All, MatchOption}
-use Rattle.std.specs.Option.{option_map, option_to_list}
-use Rattle.std.proofs.lemmas.List.{length_push, take-map, take_all, take_more, length-map, set-get_or, get_or-map}
+use Rattle.std.specs.Option.{option_map}
+use Rattle.std.proofs.lemmas.List.{take-map, take_all, take_more, length-map, set-get_or, get_or-map}
 use Rattle.std.proofs.lemmas.Option.{get_or_from_slice_get, slice_get_within, slice_get-get_or}
 use Rattle.std.proofs.lemmas.List.Elements.{All-push, All-pop, All-nil}
-use Rattle.std.proofs.Math.Seq.{take-append_seam}
 use Rattle.net_model.specs.declared.flow.Flow.{Flow}
 use Rattle.net_model.specs.declared.server.Server.{Server}
 use Rattle.net_model.specs.Networks.{Net, NetServer, NetFlow}
@@ -30,12 +29,6 @@ set_back (z ∷ zs) (suc i) x y e = ap (λ ws. z ∷ ws) (set_back zs i x y e)
 
 set_same : {X : Type 0} (xs : List X) (i : ℕ) (x : X) → slice_get xs i ≡ Some x → slice_set xs i x ≡ xs
 set_same xs i x e = ap (slice_set xs i) (sym (get_or_from_slice_get xs i x x e)) ∙ set-get_or xs i x
-
--- all but the last
-pub last_off : {X : Type 0} (xs : List X) (x : X) → take (length (xs ++ x ∷ []) - 1) (xs ++ x ∷ []) ≡ xs
-last_off xs x =
-    let many : length (xs ++ x ∷ []) - 1 ≡ length xs = omega (arith, length_push xs x) in
-    ap (λ n. take n (xs ++ x ∷ [])) many ∙ take-append_seam xs (x ∷ [])
 
 -- ---- what was replaced
 pub server_back : (old new : Net) (s : ℕ) (server : NetServer) → slice_get old.servers s ≡ Some server
@@ -72,11 +65,6 @@ place_at fs flows i f copy same within is copied =
     ap (λ (xs : List (Option NetFlow)). slice_get xs i) (sym same)
     ∙ slice_get-get_or (flows_of fs) i (option_map flow_of f) inside
     ∙ ap Some (get_or-map (option_map flow_of) fs i f (option_map flow_of f) within ∙ ap (option_map flow_of) (sym is) ∙ sym copied)
-
-pub flow_off : (old new : Net) (i : ℕ) → IsFlowAdded i old new → without_last new ≡ old
-flow_off old new i made =
-    ap without_last made.is
-    ∙ ap (λ (fs : List (Option NetFlow)). record old { flows = fs }) (last_off old.flows (Some made.flow))
 
 -- a network of nothing
 pub none_accepted : (ss : List Server) (fs : List (Option Flow)) → ss ≡ [] → fs ≡ [] → IsAccepted (net_of 1 ss fs)
@@ -211,8 +199,3 @@ split_last xs x e =
     let within = slice_get_within xs (length xs - 1) x e in
     sym (take_all (length xs - 1 + 1) xs (omega (arith, within))) ∙ take_more xs (length xs - 1) x within
     ∙ ap (λ y. take (length xs - 1) xs ++ y ∷ []) (get_or_from_slice_get xs (length xs - 1) x x e)
-
-pub no_last : {X : Type 0} (xs : List X) → slice_get xs (length xs - 1) ≡ None → xs ≡ []
-no_last [] e = refl
-no_last (x ∷ xs) e =
-    let some = slice_get-get_or (x ∷ xs) (length (x ∷ xs) - 1) x (omega arith) in absurd (let bad : ⊥ = cc in bad)

@@ -1,6 +1,6 @@
 -- One network more, and one less.
-use Rattle.std.proofs.Common.{◌≡◌, ◌≢◌, ℕ, ◌+◌, ◌<◌, ◌≤◌, ◌==◌, List, [], ◌∷◌, ◌++◌, length, get_or, Option, Some, None, Bool, true, false, sym, ap, ◌∙◌, subst, refl, arith, ⊎_elim}
-use Rattle.std.specs.Prelude.{MatchOption, Contains, IsTrue, Ok, not}
+use Rattle.std.proofs.Common.{◌≡◌, ◌≢◌, ℕ, ◌<◌, ◌==◌, List, [], ◌∷◌, ◌++◌, length, get_or, Option, Some, None, Bool, true, false, sym, ap, ◌∙◌, subst, refl, arith, ⊎_elim}
+use Rattle.std.specs.Prelude.{MatchOption, Contains, Ok, not}
 use Rattle.std.proofs.lemmas.List.{get_or_push, get_or_append_left, length_push}
 use Rattle.std.proofs.lemmas.Bool.Decides.{eqb_tells}
 use Rattle.net_model.specs.Networks.{Net}
@@ -16,7 +16,7 @@ use Rattle.net_cells.specs.Equations.{MeetsEquations}
 use Rattle.net_cells.proofs.Lists.{Has, contains_has, has_contains, has_filter, filter_has}
 use Rattle.net_cells.proofs.Members.{order_has, in_order}
 use Rattle.net_cells.proofs.Tables.{answered_meets}
-use Rattle.version_table.specs.Histories.{History, IsUndone}
+use Rattle.version_table.specs.Histories.{History}
 use Rattle.cell_changes.specs.Changes.{TouchedOf}
 use Rattle.cell_changes.proofs.CarriedOver.{touched_has, one_touched_list}
 use Rattle.cell_changes.proofs.HasSlots.{slots_are_own}

@@ -2,8 +2,6 @@
 use Rattle.std.specs.Prelude.{◌≡◌, ℕ, suc, ◌<◌, ◌*◌, pos, false, List, [], ◌∷◌, Option, Some, None, ◌⊎◌}
 use Rattle.std.proofs.Common.{arith, sym, ap, ap₂, ◌∙◌, refl, subst, inl, inr}
 use Rattle.std.proofs.lemmas.Int.{ints}
-use Prim.Native.Nat.{◌∣◌}
-use native.Mathlib.Nat.{mul_comm as nat_comm}
 use Rattle.rational.specs.Rational.{ℚ, ◌+ℚ◌, ◌-ℚ◌, ◌*ℚ◌, ◌/ℚ◌, ◌≤ℚ◌, ◌<ℚ◌, int}
 use Rattle.rational.specs.Grid.{Whole}
 use Rattle.rational.specs.Whole.{whole_part, periods}
@@ -32,7 +30,6 @@ use Rattle.upp_normal.specs.Bends.{ValueOn, LineOn, SlopeTurns, BendAfter, OnlyB
 use Rattle.upp_normal.specs.Normalising.{IsMerged, OnGridsUnlessLine}
 use Rattle.upp_normal.proofs.Bends.{bends_on}
 use Rattle.affine_segment.proofs.PieceIn.{value_past, value_at_start, read_first, read_stop, read_go, read_one}
-use Rattle.upp_limits.proofs.NarrowSizes.{slope_time_divides}
 use Rattle.upp_normal.proofs.NormaliseForm.{each_part}
 use Rattle.upp_normal.proofs.NormaliseGrids.{merge_of}
 use Rattle.affine_segment.proofs.PieceOrder.{each_map}

@@ -1,6 +1,6 @@
 -- The window of the least of copies: of one start, and from those of two halves of the starts; and the convolution of it.
-use Rattle.std.specs.Prelude.{◌≡◌, ◌+◌, ◌≤◌, pos, List, [], ◌∷◌, ◌++◌, Option, None, Result, Ok, Err, IfOk, Vec}
-use Rattle.std.proofs.Common.{arith, sym, ap, ◌∙◌, refl, subst, inl, inr, length, get_or, ◌<◌, Global}
+use Rattle.std.specs.Prelude.{◌≡◌, ◌≤◌, pos, List, [], ◌∷◌, ◌++◌, Option, None, Result, Ok, Err, IfOk, Vec}
+use Rattle.std.proofs.Common.{arith, sym, ap, ◌∙◌, refl, subst, inl, inr, length, get_or, Global}
 use Rattle.rational.specs.Rational.{ℚ, ◌-ℚ◌, ◌≤ℚ◌, ◌<ℚ◌, int, neg_ℚ}
 use Rattle.rational.specs.Ratio.{SumFits}
 use Rattle.rational.specs.Extended.{◌+ₑ◌, min_ext}

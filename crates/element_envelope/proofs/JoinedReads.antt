@@ -1,10 +1,9 @@
 -- The window of what two elements make reads as its parts.
 use Rattle.std.specs.Prelude.{◌≡◌, ◌⊎◌, pos, cond, List, [], ◌∷◌, ◌++◌, Option, Some, None}
-use Rattle.std.proofs.Common.{arith, sym, ap, ◌∙◌, refl, subst, inl, inr}
+use Rattle.std.proofs.Common.{sym, ap, ◌∙◌, refl, subst, inl, inr}
 use Rattle.rational.specs.Rational.{ℚ, ◌≤ℚ◌, ◌<ℚ◌, int}
 use Rattle.rational.specs.Extended.{Ext, ◌<ₑ◌}
 use Rattle.rational.specs.declared.Extended.TheVariants.{Fin, Inf}
-use Rattle.rational.proofs.Linear.{with2}
 use Rattle.rational.proofs.Laws.{le_or_lt, le_of_lt, le_trans, lt_irrefl, lt_trans, antisym, not_le_of_lt}
 use Rattle.rational.proofs.MinMax.{le_q_not}
 use Rattle.rational.proofs.Over.{le_q_out}

@@ -20,3 +20,4 @@ pub mod CopyArches
 pub mod CopyWindows
 pub mod StartTests
 pub mod StartTurns
+pub mod LimitSplits

@@ -30,7 +30,7 @@ pub record Matched {I J : Type 0} (F : I → Ext) (G : J → Ext) : Type 0 where
   pub down : (i : I) (q : ℚ) → F i ≡ Fin q → (j : J) × (G j ≤ₑ Fin q)
   pub up : (j : J) → (i : I) × (F i ≤ₑ G j)
 
-at_most_finite : (x y : Ext) → ((q : ℚ) → y ≡ Fin q → x ≤ₑ Fin q) → x ≤ₑ y
+pub at_most_finite : (x y : Ext) → ((q : ℚ) → y ≡ Fin q → x ≤ₑ Fin q) → x ≤ₑ y
 at_most_finite x Inf h = le_inf x
 at_most_finite x (Fin q) h = h q refl
 

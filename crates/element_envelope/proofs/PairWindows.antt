@@ -1,5 +1,5 @@
 -- What two elements of operands make, as pieces that start before an end.
-use Rattle.std.specs.Prelude.{◌*◌, pos, Bool, true, false, cond, List, [], ◌∷◌, ◌++◌, Option, Some, None}
+use Rattle.std.specs.Prelude.{◌*◌, pos, Bool, true, false, cond, List, [], ◌∷◌, Option, Some, None}
 use native.Mathlib.Nat.{mul-dvd-mul_right}
 use Rattle.std.proofs.Common.{arith, sym, ◌∙◌, refl, subst, inl}
 use Rattle.rational.specs.Rational.{ℚ, ◌+ℚ◌, ◌≤ℚ◌, ◌<ℚ◌, int, le_q}

@@ -130,17 +130,17 @@ found_in (p ∷ ps) s a h L low is =
     subst (λ z. IsStart (p ∷ ps) s ⊎ Inside (p ∷ ps) z s) h.0 (found p ps None s a h.1 L (subst (λ z. z ≤ℚ s) (sym h.0) low) is)
 
 -- ---- sums of two lines
-abbrev sum_at : Line → Line → ℚ → ℚ → ℚ
+abbrev pub sum_at : Line → Line → ℚ → ℚ → ℚ
 sum_at l m t x = line_at l x +ℚ line_at m (t -ℚ x)
 
-turned : (l m : Line) (t x : ℚ) → sum_at m l t x ≡ sum_at l m t (t -ℚ x)
+pub turned : (l m : Line) (t x : ℚ) → sum_at m l t x ≡ sum_at l m t (t -ℚ x)
 turned l m t x = ap (λ y. line_at m y +ℚ line_at l (t -ℚ x)) (sym (back t x)) ∙ add_comm (line_at m (t -ℚ (t -ℚ x))) (line_at l (t -ℚ x))
 
 -- some sum of which one time is a start is at most v
 abbrev pub IsStartBelow : List Piece → List Piece → ℚ → ℚ → Type 0
 IsStartBelow f g t v = (i : StartSplit f t ⊎ StartSplit g t) × (either (start_sum f g t) (start_sum g f t) i ≤ₑ Fin v)
 
-swapped : (f g : List Piece) (t v : ℚ) → IsStartBelow g f t v → IsStartBelow f g t v
+pub swapped : (f g : List Piece) (t v : ℚ) → IsStartBelow g f t v → IsStartBelow f g t v
 swapped f g t v (inl i, h) = (inr i, h)
 swapped f g t v (inr i, h) = (inl i, h)
 
@@ -161,7 +161,7 @@ abbrev IsLowEnd : (f g : List Piece) (l m : Line) (t s : ℚ) → Type 0
 IsLowEnd f g l m t s = (x : ℚ) × (x ≤ℚ s) × IsStartBelow f g t (sum_at l m t x)
 
 -- s + u is t
-second_late : (s u t x w : ℚ) → s +ℚ u ≡ t → x ≤ℚ s → w ≤ℚ u → w ≤ℚ t -ℚ x
+pub second_late : (s u t x w : ℚ) → s +ℚ u ≡ t → x ≤ℚ s → w ≤ℚ u → w ≤ℚ t -ℚ x
 second_late s u t x w e h k =
     let a : u ≤ℚ t -ℚ x = with_sum s u t x e h in
     le_trans k a
@@ -169,13 +169,13 @@ second_late s u t x w e h k =
     with_sum : (s u t x : ℚ) → s +ℚ u ≡ t → x ≤ℚ s → u ≤ℚ t -ℚ x
     with_sum s u t x e h = let y = s +ℚ u in subst (λ z. u ≤ℚ z -ℚ x) e (with3 s u x (λ c. omega (arith, c.le, c.lt, c.same)))
 
-first_early : (s u t y : ℚ) → s +ℚ u ≡ t → u ≤ℚ y → t -ℚ y ≤ℚ s
+pub first_early : (s u t y : ℚ) → s +ℚ u ≡ t → u ≤ℚ y → t -ℚ y ≤ℚ s
 first_early s u t y e h = subst (λ z. z -ℚ y ≤ℚ s) e (with3 s u y (λ c. omega (arith, c.le, c.lt, c.same)))
 
-flipped : (t x y : ℚ) → t -ℚ y ≤ℚ x → t -ℚ x ≤ℚ y
+pub flipped : (t x y : ℚ) → t -ℚ y ≤ℚ x → t -ℚ x ≤ℚ y
 flipped t x y h = with3 t x y (λ c. omega (arith, c.le, c.lt, c.same))
 
-rest : (s u t : ℚ) → s +ℚ u ≡ t → t -ℚ s ≡ u
+pub rest : (s u t : ℚ) → s +ℚ u ≡ t → t -ℚ s ≡ u
 rest s u t e = subst (λ z. z -ℚ s ≡ u) e (with2 s u (λ c. omega (arith, c.le, c.lt, c.same)))
 
 low_end : (f g : List Piece) (t s u : ℚ) (F : Inside f (int (pos 0)) s) (G : Inside g (int (pos 0)) u) → StartsAtZero f → StartsAtZero g → s +ℚ u ≡ t
@@ -212,7 +212,7 @@ low_end f g t s u F G hf hg whole = by G.high refl
       | inr k ↦ let q = G.high_in y e in there y e (le_of_lt k) q.0 q.1 q.2
     ]
 
-lower : (f g : List Piece) (t v w : ℚ) → v ≤ℚ w → IsStartBelow f g t v → IsStartBelow f g t w
+pub lower : (f g : List Piece) (t v w : ℚ) → v ≤ℚ w → IsStartBelow f g t v → IsStartBelow f g t w
 lower f g t v w l (i, h) = (i, le_ext_trans (either (start_sum f g t) (start_sum g f t) i) (Fin v) (Fin w) h l)
 
 -- of two times on lines
@@ -232,7 +232,7 @@ on_lines f g t s u F G hf hg whole =
     ])
 
 -- ---- any split
-first_at : (f g : List Piece) (t a b : ℚ) (s : Split t) → StartsAtZero f → IsStart f s.first → read f s.first ≡ Fin a → read g s.second ≡ Fin b → IsStartBelow f g t (a +ℚ b)
+pub first_at : (f g : List Piece) (t a b : ℚ) (s : Split t) → StartsAtZero f → IsStart f s.first → read f s.first ≡ Fin a → read g s.second ≡ Fin b → IsStartBelow f g t (a +ℚ b)
 first_at f g t a b s hf (q, among, at) x y =
     let left : t -ℚ q.x ≡ s.second = ap (λ z. t -ℚ z) at ∙ rest s.first s.second t s.whole in
     let value : q.at ≡ Fin a = sym (start_is f q hf among).1 ∙ ap (read f) at ∙ x in (

@@ -24,39 +24,39 @@ use Rattle.element_envelope.proofs.Members.{Matched, matched_out}
 use Rattle.element_envelope.proofs.StartSplits.{start_is, Inside, found_in, any_split, turned_split, start_split}
 
 -- ---- lines
-apart : (a b : ℚ) → a <ℚ b → int (pos 0) <ℚ b -ℚ a
+pub apart : (a b : ℚ) → a <ℚ b → int (pos 0) <ℚ b -ℚ a
 apart a b h = with2 a b (λ c. omega (arith, c.le, c.lt, c.same))
 
-line_down : (l : Line) (x d v : ℚ) → v ≡ line_at l x → line_at l (x -ℚ d) ≡ v -ℚ l.slope *ℚ d
+pub line_down : (l : Line) (x d v : ℚ) → v ≡ line_at l x → line_at l (x -ℚ d) ≡ v -ℚ l.slope *ℚ d
 line_down l x d v e = ap (λ z. l.icept +ℚ z) (mul_sub l.slope x d) ∙ regroup l.icept (l.slope *ℚ x) (l.slope *ℚ d) ∙ ap (λ z. z -ℚ l.slope *ℚ d) (sym e)
   where
     regroup : (a b c : ℚ) → a +ℚ (b -ℚ c) ≡ (a +ℚ b) -ℚ c
     regroup a b c = with3 a b c (λ k. omega (arith, k.le, k.lt, k.same))
 
-line_up : (l : Line) (x d v : ℚ) → v ≡ line_at l x → line_at l (x +ℚ d) ≡ v +ℚ l.slope *ℚ d
+pub line_up : (l : Line) (x d v : ℚ) → v ≡ line_at l x → line_at l (x +ℚ d) ≡ v +ℚ l.slope *ℚ d
 line_up l x d v e = ap (λ z. l.icept +ℚ z) (mul_add l.slope x d) ∙ regroup l.icept (l.slope *ℚ x) (l.slope *ℚ d) ∙ ap (λ z. z +ℚ l.slope *ℚ d) (sym e)
   where
     regroup : (a b c : ℚ) → a +ℚ (b +ℚ c) ≡ (a +ℚ b) +ℚ c
     regroup a b c = with3 a b c (λ k. omega (arith, k.le, k.lt, k.same))
 
-past : (x d : ℚ) → int (pos 0) <ℚ d → x <ℚ x +ℚ d
+pub past : (x d : ℚ) → int (pos 0) <ℚ d → x <ℚ x +ℚ d
 past x d h = with2 x d (λ c. omega (arith, c.le, c.lt, c.same))
 
-one_pos : int (pos 0) <ℚ int (pos 1)
+pub one_pos : int (pos 0) <ℚ int (pos 1)
 one_pos = with2 (int (pos 0)) (int (pos 1)) (λ c. omega (arith, c.le, c.lt, c.same))
 
 -- ---- a function at most two lines beside a time
 -- d before s, up to h, it is at most v less d times the slope; it is looked at from `first` on
-record Before (F : ℚ → Ext) (first s v slope : ℚ) : Type 0 where
-  h : ℚ
-  some : int (pos 0) <ℚ h
-  room : first ≤ℚ s -ℚ h
-  below : (d : ℚ) → int (pos 0) <ℚ d → d ≤ℚ h → F (s -ℚ d) ≤ₑ Fin (v -ℚ slope *ℚ d)
+pub record Before (F : ℚ → Ext) (first s v slope : ℚ) : Type 0 where
+  pub h : ℚ
+  pub some : int (pos 0) <ℚ h
+  pub room : first ≤ℚ s -ℚ h
+  pub below : (d : ℚ) → int (pos 0) <ℚ d → d ≤ℚ h → F (s -ℚ d) ≤ₑ Fin (v -ℚ slope *ℚ d)
 
-record After (F : ℚ → Ext) (s v slope : ℚ) : Type 0 where
-  h : ℚ
-  some : int (pos 0) <ℚ h
-  below : (d : ℚ) → int (pos 0) <ℚ d → d ≤ℚ h → F (s +ℚ d) ≤ₑ Fin (v +ℚ slope *ℚ d)
+pub record After (F : ℚ → Ext) (s v slope : ℚ) : Type 0 where
+  pub h : ℚ
+  pub some : int (pos 0) <ℚ h
+  pub below : (d : ℚ) → int (pos 0) <ℚ d → d ≤ℚ h → F (s +ℚ d) ≤ₑ Fin (v +ℚ slope *ℚ d)
 
 -- the slope does not rise; or it falls
 record Even (F : ℚ → Ext) (first s v : ℚ) : Type 0 where
@@ -157,7 +157,7 @@ inside_even ps s v I e = record {
 
 -- ---- starts that are left out
 -- past a start of value v the pieces follow its line, up to the next start
-after_start : (r : Piece) (rs : List Piece) (l : Line) (v : ℚ) → RisesFrom r.x rs → r.line ≡ Some l → v ≡ line_at l r.x → After (read (r ∷ rs)) r.x v l.slope
+pub after_start : (r : Piece) (rs : List Piece) (l : Line) (v : ℚ) → RisesFrom r.x rs → r.line ≡ Some l → v ≡ line_at l r.x → After (read (r ∷ rs)) r.x v l.slope
 after_start r [] l v h line is = record {
   h = int (pos 1);
   some = one_pos;
@@ -179,7 +179,7 @@ after_start r (n ∷ rs) l v h line is =
     before x n d room e p q = with4 x n d room (λ c. omega (arith, c.le, c.lt, c.same))
 
 -- a piece more in front is not looked at past the second start
-after_more : (p r : Piece) (rs : List Piece) (s v slope : ℚ) → r.x ≤ℚ s → After (read (r ∷ rs)) s v slope → After (read (p ∷ r ∷ rs)) s v slope
+pub after_more : (p r : Piece) (rs : List Piece) (s v slope : ℚ) → r.x ≤ℚ s → After (read (r ∷ rs)) s v slope → After (read (p ∷ r ∷ rs)) s v slope
 after_more p r rs s v slope late A = record {
   h = A.h;
   some = A.some;
@@ -189,7 +189,7 @@ after_more p r rs s v slope late A = record {
     further : (x s d : ℚ) → x ≤ℚ s → int (pos 0) <ℚ d → x ≤ℚ s +ℚ d
     further x s d h k = with3 x s d (λ c. omega (arith, c.le, c.lt, c.same))
 
-before_more : (p r : Piece) (rs : List Piece) (s v slope : ℚ) → p.x ≤ℚ r.x → Before (read (r ∷ rs)) r.x s v slope → Before (read (p ∷ r ∷ rs)) p.x s v slope
+pub before_more : (p r : Piece) (rs : List Piece) (s v slope : ℚ) → p.x ≤ℚ r.x → Before (read (r ∷ rs)) r.x s v slope → Before (read (p ∷ r ∷ rs)) p.x s v slope
 before_more p r rs s v slope late B = record {
   h = B.h;
   some = B.some;
@@ -201,7 +201,7 @@ before_more p r rs s v slope late B = record {
     nearer x s d h a b = with4 x s d h (λ c. omega (arith, c.le, c.lt, c.same))
 
 -- before a start of value v the pieces follow the line before it
-before_start : (p r : Piece) (rs : List Piece) (l : Line) (v : ℚ) → p.x <ℚ r.x → p.line ≡ Some l → v ≡ line_at l r.x → Before (read (p ∷ r ∷ rs)) p.x r.x v l.slope
+pub before_start : (p r : Piece) (rs : List Piece) (l : Line) (v : ℚ) → p.x <ℚ r.x → p.line ≡ Some l → v ≡ line_at l r.x → Before (read (p ∷ r ∷ rs)) p.x r.x v l.slope
 before_start p r rs l v h line is =
     let room = half (r.x -ℚ p.x) in
     let some = half_pos (apart p.x r.x h) in

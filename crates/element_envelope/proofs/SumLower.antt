@@ -2,8 +2,7 @@
 use Rattle.std.specs.Prelude.{◌≡◌, ◌≢◌, ◌+◌, ◌*◌, ◌≤◌, pos, Bool, true, false, List, Option, Some, None}
 use Rattle.std.proofs.Common.{arith, mul-le-mul_right, sym, ap, ◌∙◌, subst, inl, inr}
 use native.Mathlib.Nat.{dvd-mul_left, mul-pos}
-use Rattle.rational.specs.Gcd.{gcd, gcd_steps}
-use Rattle.rational.specs.Rational.{ℚ, ◌+ℚ◌, ◌-ℚ◌, ◌*ℚ◌, ◌/ℚ◌, neg_ℚ, inv_ℚ, frac, ◌≤ℚ◌, ◌<ℚ◌, int}
+use Rattle.rational.specs.Rational.{ℚ, ◌+ℚ◌, ◌-ℚ◌, ◌*ℚ◌, ◌/ℚ◌, neg_ℚ, ◌≤ℚ◌, ◌<ℚ◌, int}
 use Rattle.rational.specs.Ratio.{IsSmall, SumFits}
 use Rattle.rational.specs.Extended.{Ext, min_ext}
 use Rattle.rational.specs.declared.Extended.TheVariants.{Fin, Inf}
@@ -11,13 +10,12 @@ use Rattle.rational.specs.Grid.{Whole, Within}
 use Rattle.rational.proofs.Grid.{whole_int, whole_neg, whole_sub, whole_weaken, within_neg, within_nonneg, within_weaken}
 use Rattle.rational.proofs.Sizes.{sum_on_grid, quotient_on_grid}
 use Rattle.rational.proofs.Integers.{nat_nonneg, nat_le, int_mul, int_add}
-use Rattle.rational.proofs.Laws.{le_refl, le_trans, le_of_lt, mul_comm, mul_zero, sub_mul}
+use Rattle.rational.proofs.Laws.{le_refl, le_trans, le_of_lt, mul_zero}
 use Rattle.rational.proofs.MinMax.{min_q_one}
-use Rattle.rational.proofs.Linear.{with2, with4}
+use Rattle.rational.proofs.Linear.{with2}
 use Rattle.fraction128.specs.declared.fault.Wide.{Wide}
 use Rattle.affine_segment.specs.declared.line.Line.{Line}
 use Rattle.affine_segment.specs.declared.line.Piece.{Piece}
-use Rattle.affine_segment.specs.Values.{line_at}
 use Rattle.affine_segment.specs.Steps.{IsWideCross}
 use Rattle.affine_segment.specs.Reading.{read}
 use Rattle.upp_limits.specs.Limits.{Sizes}

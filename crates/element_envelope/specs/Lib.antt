@@ -12,3 +12,4 @@ pub mod ConvolutionWindows
 pub mod Copies
 pub mod CopyWindows
 pub mod Turnings
+pub mod LimitCopies

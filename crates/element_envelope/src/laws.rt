@@ -4,6 +4,7 @@ ghost use Rattle.element_envelope.specs.ConvolutionLaws.{PiecesAreCovered, Envel
 ghost use Rattle.element_envelope.specs.ConvolutionLaws.{PairsConvolveWindows, PairsConvolveCurves};
 ghost use Rattle.element_envelope.specs.WindowLaws.{SumCutsFit, SumLowerFits, SumLowerIsOne};
 ghost use Rattle.element_envelope.specs.Copies.{StartsSuffice, CopyRules};
+ghost use Rattle.element_envelope.specs.LimitCopies.{LimitsSuffice};
 ghost use Rattle.element_envelope.specs.Turnings.{TurnsSuffice};
 ghost use Rattle.element_envelope.specs.RoomLaws.{ElementsStand, JoinedStand};
 
@@ -49,6 +50,12 @@ pub fn starts_suffice()
 /// with a smaller slope.
 pub fn turns_suffice()
     ensures { TurnsSuffice }
+{}
+
+/// Of any two windows, with spikes and infinite parts, the convolution is the least of the copies of each at the starts of
+/// the other: by their values, by the limits before a start and after a time, and by those after and before.
+pub fn limits_suffice()
+    ensures { LimitsSuffice }
 {}
 
 /// How the least of copies comes from that of parts of the starts, and of one start.

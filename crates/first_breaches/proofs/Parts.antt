@@ -1,5 +1,5 @@
 -- The breaches of one flow and of one server as breaches of the network, and what the first of all tells.
-use Rattle.std.specs.Prelude.{◌≡◌, ℕ, ◌<◌, List, length, Option, Some, None, true, false, is_some, slice_get}
+use Rattle.std.specs.Prelude.{◌≡◌, ℕ, ◌<◌, length, Option, Some, None, true, false, is_some, slice_get}
 use Rattle.std.specs.Option.{option_map}
 use Rattle.std.proofs.Common.{arith, refl, sym, subst, ap, ◌∙◌, inl, inr}
 use Rattle.std.proofs.lemmas.List.{length-map}
@@ -9,8 +9,6 @@ use Rattle.rational.proofs.ExtendedOrder.{same_le_ext}
 use Rattle.upp_curve.specs.Curve.{SpecCurve, value_at}
 use Rattle.min_plus.specs.Functions.{IsRising, IsNonnegative}
 use Rattle.upp_curve.specs.Curves.{IsCurve}
-use Rattle.upp_limits.specs.Limits.{Sizes, curve_numbers}
-use Rattle.upp_limits.specs.Sized.{Stands}
 use Rattle.run_laws.specs.Runs.{SpecRun}
 use Rattle.run_laws.specs.Routes.{route_of, server_at}
 use Rattle.run_laws.specs.Lawful.{IsLawful}
@@ -26,11 +24,9 @@ use Rattle.net_cells.proofs.Stored.{flow_kept, server_kept}
 use Rattle.watch_laws.specs.Entries.{entries, entering, IsCrowded}
 use Rattle.watch_laws.specs.Breaches.{IsIdle, IsTooSlow}
 use Rattle.watch_laws.specs.Laws.{MayArrive, MayServe, HaveCurves}
-use Rattle.watch_laws.proofs.Entered.{in_order}
 use Rattle.watch_laws.proofs.Premises.{breaches_tell, watch_points_suffice}
 use Rattle.run_watch.specs.declared.found.Found.{Found}
 use Rattle.run_watch.specs.FirstOf.{IsBest, IsLongOn, IsCrowdOn, IsIdleOn}
-use Rattle.first_breaches.specs.Sizes.{RunStands}
 use Rattle.first_breaches.specs.Firsts.{TellsFirst, kind_of, IsOne, IsOfKinds, HaveServices}
 use Rattle.first_breaches.specs.Kept.{KeepsCurve}
 use Rattle.first_breaches.proofs.Joined.{best_same}

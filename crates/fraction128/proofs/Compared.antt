@@ -126,10 +126,6 @@ cmp_one_den a b d (suc e) some same = rw same (cases a b)
         (λ g. int_cmp_more a b g ∙ sym (int_cmp_more _ _ (lt_scale_z b a e g)))
         (λ g. let same : a ≡ b = omega (arith, ints) in int_cmp_equal a b same ∙ sym (int_cmp_equal _ _ (ap (λ z. z *ℤ pos (suc e)) same))))
 
--- the whole number and the rest of a numerator that is at least 0, and of one below 0
-pub whole_above : (n d : ℕ) → 0 < d → IsWholeAndRest (pos n) d (pos (n / d)) (n % d)
-whole_above n d some = record { is = ap pos (sym (div-add-mod' n d)); below = mod-lt n some }
-
 pub whole_below : (n d : ℕ) → 0 < d → IsWholeAndRest (negsuc n) d (negsuc (n / d)) (d - 1 - n % d)
 whole_below n d some =
     let e = div-add-mod' n d in

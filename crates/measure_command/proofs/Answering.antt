@@ -1,6 +1,6 @@
 -- From what single calls answer to the reply on the files.
-use Rattle.std.specs.Prelude.{◌≡◌, ◌≢◌, ◌↔◌, ◌⊎◌, ℕ, ◌+◌, ◌≤◌, List, length, codes, Option, Some, None, Result, Ok, Err, IfOk}
-use Rattle.std.proofs.Common.{arith, refl, sym, ap, subst, ◌∙◌, inl, inr}
+use Rattle.std.specs.Prelude.{◌≡◌, ◌≢◌, ◌⊎◌, ℕ, List, length, codes, Result, Ok, Err, IfOk}
+use Rattle.std.proofs.Common.{refl, ap, ◌∙◌, inl, inr}
 use Rattle.rational.specs.Rational.{ℚ}
 use Rattle.min_plus.specs.Functions.{zero_q}
 use Rattle.upp_curve.specs.Curve.{SpecCurve, value_at}
@@ -12,25 +12,22 @@ use Rattle.upp_limits.specs.declared.own_limits.OverLimit.TheVariants.{TooMany, 
 use Rattle.upp_limits.specs.Outcome.{IsWithin}
 use Rattle.net_model.specs.declared.trace.TracePacket.{TracePacket}
 use Rattle.net_model.specs.Accepted.{IsAccepted}
-use Rattle.net_model.specs.Names.{FindsFlow, IsFlowNamed}
+use Rattle.net_model.specs.Names.{IsFlowNamed}
 use Rattle.net_model.specs.Networks.{Net}
 use Rattle.net_model.specs.Traces.{SpecTrace}
-use Rattle.net_text.specs.Reading.{IsNetworkOf}
-use Rattle.net_text.specs.FoldLimits.{OverFold}
 use Rattle.table_text.specs.declared.fault.TableFault.{TableFault}
-use Rattle.table_text.specs.Rows.{rows_of}
 use Rattle.table_text.specs.declared.fault.TableKind.TheVariants.{NoMemory}
-use Rattle.table_text.specs.Traces.{IsTraceOf, IsFirstFault, out_of_memory}
+use Rattle.table_text.specs.Traces.{IsFirstFault, out_of_memory}
 use Rattle.measure_report.specs.MeasureReport.{measure_report_of}
 use Rattle.measure_curve.specs.Bursts.{IsLeastBurst}
 use Rattle.measure_curve.specs.Limits.{AreTooMany, AreTooWide}
 use Rattle.measure_curve.specs.Staircases.{TellRises}
 use Rattle.measure_curve.specs.Windows.{of_flow, IsLeastArrival}
 use Rattle.command_replies.specs.declared.answer.Answer.{Answer}
-use Rattle.command_replies.specs.OnFiles.{IsBroken, IsCurveOver, IsNetOf, IsNoNetwork}
+use Rattle.command_replies.specs.OnFiles.{IsNoNetwork}
 use Rattle.command_replies.specs.Replies.{Reply, over, table_fault_reply}
 use Rattle.command_replies.specs.View.{reply_of}
-use Rattle.measure_command.specs.OnMeasures.{unknown_flow, AreOwn, AreOver, IsMeasured, IsOverBurst, measure_report, IsMeasureReply, Broken, CurveOver, BadTrace, UnknownFlow, MeasureOver, BurstOver, Measured, IsReplyOnNet, IsReplyOnTrace, IsReplyOnPackets}
+use Rattle.measure_command.specs.OnMeasures.{unknown_flow, AreOver, IsMeasured, IsOverBurst, measure_report, IsMeasureReply, Broken, CurveOver, BadTrace, UnknownFlow, MeasureOver, BurstOver, Measured, IsReplyOnNet, IsReplyOnTrace, IsReplyOnPackets}
 
 -- ---- on packets
 pub reported : (ps : List TracePacket) (name : List ℕ) (rate : ℚ) (c : SpecCurve) (burst : ℚ) (reply : Reply) → IsMeasured ps c → IsWithin Vertical c (bucket zero_q rate)

@@ -1,8 +1,6 @@
 -- The laws of the replies: what a report says, their statuses, completeness, and that there is one.
-use Rattle.std.specs.Prelude.{◌≡◌, ◌≢◌, ◌⊎◌, ℕ, ◌<◌, ◌≤◌, List, length, get_or, Option, Some, AllPairs, slice_get, codes}
+use Rattle.std.specs.Prelude.{◌≡◌, ℕ, List, length, codes}
 use Rattle.std.proofs.Common.{arith, refl, sym, ap, ap₂, subst, ◌∙◌, inl, inr}
-use Rattle.std.proofs.lemmas.Bool.{cases_order}
-use Rattle.std.proofs.lemmas.Option.{get_or_from_slice_get, slice_get_within}
 use Rattle.rational.specs.Rational.{ℚ}
 use Rattle.rational.proofs.Laws.{antisym}
 use Rattle.upp_curve.specs.Curve.{SpecCurve, value_at}
@@ -15,10 +13,9 @@ use Rattle.min_plus.specs.Functions.{zero_q}
 use Rattle.curve_call.proofs.InTurn.{not_both}
 use Rattle.net_model.specs.declared.trace.TracePacket.{TracePacket}
 use Rattle.net_model.specs.Accepted.{IsAccepted}
-use Rattle.net_model.specs.Names.{DifferInName, IsFlowNamed}
-use Rattle.net_model.specs.Networks.{Net, NetFlow}
+use Rattle.net_model.specs.Names.{IsFlowNamed}
+use Rattle.net_model.specs.Networks.{Net}
 use Rattle.net_model.specs.Traces.{SpecTrace}
-use Rattle.net_text.specs.FoldLimits.{OverFold}
 use Rattle.table_text.specs.declared.fault.TableFault.{TableFault}
 use Rattle.table_text.specs.declared.fault.TableKind.{TableKind}
 use Rattle.table_text.specs.Traces.{IsTraceOf}
@@ -31,9 +28,9 @@ use Rattle.measure_curve.proofs.Kept.{packets_keep_the_curve, kept_curves_are_ab
 use Rattle.command_replies.specs.Replies.{Reply, over, table_fault_reply}
 use Rattle.command_replies.specs.OnFiles.{IsNetOf}
 use Rattle.command_replies.proofs.FirstFaults.{says}
-use Rattle.command_replies.proofs.OneRefusal.{OnFault, one_fault, no_network}
-use Rattle.measure_command.specs.OnMeasures.{AreOver, IsMeasured, IsOverBurst, measure_report, IsReportOf, IsMeasureReply, Broken, CurveOver, BadTrace, UnknownFlow, MeasureOver, BurstOver, Measured}
-use Rattle.measure_command.specs.MeasureLaws.{IsLeastOf, ReportsAreLeast, StatusesAreFour, IsWithinLimits, RepliesAreComplete, RepliesAreDetermined}
+use Rattle.command_replies.proofs.OneRefusal.{one_fault, no_network}
+use Rattle.measure_command.specs.OnMeasures.{AreOver, IsMeasured, IsOverBurst, measure_report, Broken, CurveOver, BadTrace, UnknownFlow, MeasureOver, BurstOver, Measured}
+use Rattle.measure_command.specs.MeasureLaws.{ReportsAreLeast, StatusesAreFour, RepliesAreComplete, RepliesAreDetermined}
 use Rattle.measure_command.proofs.Stages.{OnPackets, Past, Steep, Shown, OnTrace, Unknown, Known, OnRows, Bad, Good, OnFiles, NoNet, WithNet, staged}
 
 -- ---- what a report says

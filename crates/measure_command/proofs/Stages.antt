@@ -1,6 +1,6 @@
 -- A reply by stages: what was read, whether the name is known, and what is over a limit.
-use Rattle.std.specs.Prelude.{◌≡◌, ◌⊎◌, ℕ, List, length, codes}
-use Rattle.std.proofs.Common.{refl, sym, ap, subst, ◌∙◌, inl, inr}
+use Rattle.std.specs.Prelude.{◌≡◌, ℕ, List, length, codes}
+use Rattle.std.proofs.Common.{subst, inl, inr}
 use Rattle.rational.specs.Rational.{ℚ}
 use Rattle.upp_curve.specs.Curve.{SpecCurve, value_at}
 use Rattle.upp_limits.specs.declared.own_limits.OverLimit.{OverLimit}
@@ -16,7 +16,7 @@ use Rattle.measure_curve.specs.Windows.{of_flow}
 use Rattle.command_replies.specs.Replies.{Reply, over, table_fault_reply}
 use Rattle.command_replies.specs.OnFiles.{IsNetOf}
 use Rattle.command_replies.proofs.OneRefusal.{OnFault, on_fault}
-use Rattle.measure_command.specs.OnMeasures.{unknown_flow, AreOver, IsMeasured, IsOverBurst, measure_report, AreOwn, IsReportOf, IsMeasureReply, Broken, CurveOver, BadTrace, UnknownFlow, MeasureOver, BurstOver, Measured}
+use Rattle.measure_command.specs.OnMeasures.{unknown_flow, AreOver, IsMeasured, IsOverBurst, measure_report, AreOwn, IsMeasureReply, Broken, CurveOver, BadTrace, UnknownFlow, MeasureOver, BurstOver, Measured}
 
 -- on the packets of a flow
 pub data OnPackets (name : List ℕ) (rate : ℚ) (ps : List TracePacket) (reply : Reply) : Type 0 where

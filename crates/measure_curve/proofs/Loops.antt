@@ -1,8 +1,8 @@
 -- The steps of the loops: what is made, and what the part that is left makes.
-use Rattle.std.specs.Prelude.{◌≡◌, ℕ, zero, suc, ◌+◌, ◌-◌, ◌<◌, ◌≤◌, List, [], ◌∷◌, ◌++◌, length, map, drop, get_or, sum_by}
-use Rattle.std.proofs.Common.{arith, refl, sym, ap, subst, ◌∙◌, append_assoc, append-nil}
+use Rattle.std.specs.Prelude.{◌≡◌, ℕ, zero, suc, ◌+◌, ◌<◌, ◌≤◌, List, [], ◌∷◌, ◌++◌, length, drop, get_or, sum_by}
+use Rattle.std.proofs.Common.{arith, refl, sym, ap, subst, ◌∙◌}
 use Rattle.std.proofs.lemmas.List.{drop_more, drop_all}
-use Rattle.std.proofs.lemmas.Bool.{le-leb, lt-leb, eq-eqb, ne_eqb}
+use Rattle.std.proofs.lemmas.Bool.{le-leb, eq-eqb, ne_eqb}
 use Rattle.std.proofs.lemmas.List.Sums.{sum_by-cons}
 use Rattle.upp_limits.specs.Limits.{Numbers, joined, value_alone}
 use Rattle.upp_limits.proofs.JoinedNumbers.{joined_assoc, joined_nothing}
@@ -10,22 +10,12 @@ use Rattle.net_model.specs.declared.trace.TracePacket.{TracePacket}
 use Rattle.measure_curve.specs.declared.windows.Entry.{Entry}
 use Rattle.measure_curve.specs.declared.windows.Window.{Window}
 use Rattle.measure_curve.specs.Grids.{numbers_of}
-use Rattle.measure_curve.specs.Scans.{EnterFrom, windows_from, windows, steps_after}
+use Rattle.measure_curve.specs.Scans.{EnterFrom, steps_after}
 use Rattle.measure_curve.specs.Windows.{of_flow}
 
 -- ---- lists
 pub left : {A : Type 0} (xs : List A) (i : ℕ) (x : A) → i < length xs → x ≡ get_or xs i x → drop i xs ≡ x ∷ drop (i + 1) xs
 left xs i x h is = drop_more xs i x h ∙ ap (λ y. y ∷ drop (i + 1) xs) (sym is)
-
--- one more of a list that is made element by element
-pub more_mapped : {A B : Type 0} (f : A → B) (xs : List A) (i : ℕ) (x : A) (made next : List B) (whole : List B) → i < length xs → x ≡ get_or xs i x
-    → next ≡ made ++ f x ∷ [] → made ++ map f (drop i xs) ≡ whole → next ++ map f (drop (i + 1) xs) ≡ whole
-more_mapped f xs i x made next whole h is push e =
-    let d = left xs i x h is in
-    rw push (append_assoc made (f x ∷ []) (map f (drop (i + 1) xs)) ∙ ap (λ ys. made ++ map f ys) (sym d) ∙ e)
-
-pub all_mapped : {A B : Type 0} (f : A → B) (xs : List A) (i : ℕ) (made whole : List B) → length xs ≤ i → made ++ map f (drop i xs) ≡ whole → made ≡ whole
-all_mapped f xs i made whole h e = sym (append-nil made) ∙ ap (λ ys. made ++ map f ys) (sym (drop_all i xs h)) ∙ e
 
 -- ---- windows
 pub enter_at : (t : ℕ) (es : List Entry) (i : ℕ) (d : Entry) → EnterFrom t es → i < length es → t ≤ (get_or es i d).time
@@ -56,53 +46,12 @@ rest_enters t es i d rest up h is =
     subst (λ n. EnterFrom n rest) (sym first)
     (subst (EnterFrom (get_or es i d).time) (sym is) (enter_drop t es i (get_or es i d) (drop (i + 1) es) up e))
 
-pub more_windows_from : (first bits : ℕ) (es : List Entry) (i : ℕ) (e : Entry) (made next whole : List Window) (w : Window) → i < length es → e ≡ get_or es i e
-    → w ≡ record { length = e.time - first; bits = bits + e.bits } → next ≡ made ++ w ∷ []
-    → made ++ windows_from first bits (drop i es) ≡ whole → next ++ windows_from first (bits + e.bits) (drop (i + 1) es) ≡ whole
-more_windows_from first bits es i e made next whole w h is v push k =
-    let d = left es i e h is in
-    rw (push, v) (append_assoc made (record { length = e.time - first; bits = bits + e.bits } ∷ []) (windows_from first (bits + e.bits) (drop (i + 1) es))
-    ∙ ap (λ ys. made ++ windows_from first bits ys) (sym d) ∙ k)
-
-pub all_windows_from : (first bits : ℕ) (es : List Entry) (i : ℕ) (made whole : List Window) → length es ≤ i
-    → made ++ windows_from first bits (drop i es) ≡ whole → made ≡ whole
-all_windows_from first bits es i made whole h k =
-    sym (append-nil made) ∙ ap (λ ys. made ++ windows_from first bits ys) (sym (drop_all i es h)) ∙ k
-
-pub more_windows : (es : List Entry) (i : ℕ) (e : Entry) (made next whole : List Window) → i < length es → e ≡ get_or es i e
-    → next ≡ made ++ windows_from e.time 0 (drop i es) → made ++ windows (drop i es) ≡ whole → next ++ windows (drop (i + 1) es) ≡ whole
-more_windows es i e made next whole h is push k =
-    let d = left es i e h is in
-    rw push (append_assoc made (windows_from e.time 0 (drop i es)) (windows (drop (i + 1) es))
-    ∙ ap (λ ys. made ++ ys) (ap (λ ys. windows_from e.time 0 ys ++ windows (drop (i + 1) es)) d ∙ ap windows (sym d)) ∙ k)
-
-pub all_windows : (es : List Entry) (i : ℕ) (made whole : List Window) → length es ≤ i → made ++ windows (drop i es) ≡ whole → made ≡ whole
-all_windows es i made whole h k = sym (append-nil made) ∙ ap (λ ys. made ++ windows ys) (sym (drop_all i es h)) ∙ k
-
 -- ---- steps
 pub same_step : (ws : List Window) (i : ℕ) (w last : Window) (made whole : List Window) → i < length ws → w ≡ get_or ws i w → w.bits ≤ last.bits
     → made ++ steps_after last (drop i ws) ≡ whole → made ++ steps_after last (drop (i + 1) ws) ≡ whole
 same_step ws i w last made whole h is l k =
     let t = le-leb w.bits last.bits l in
     ap (λ ys. made ++ ys) (sym (rw (left ws i w h is, t) refl)) ∙ k
-
-pub next_step : (ws : List Window) (i : ℕ) (w last : Window) (made next whole : List Window) → i < length ws → w ≡ get_or ws i w → last.bits < w.bits
-    → (w.length ≡ last.length → ⊥) → next ≡ made ++ last ∷ [] → made ++ steps_after last (drop i ws) ≡ whole → next ++ steps_after w (drop (i + 1) ws) ≡ whole
-next_step ws i w last made next whole h is l other push k =
-    let t = lt-leb w.bits last.bits l in
-    let n = ne_eqb w.length last.length other in
-    rw push (append_assoc made (last ∷ []) (steps_after w (drop (i + 1) ws)) ∙ ap (λ ys. made ++ ys) (sym (rw (left ws i w h is, t, n) refl)) ∙ k)
-
-pub higher_step : (ws : List Window) (i : ℕ) (w last : Window) (made whole : List Window) → i < length ws → w ≡ get_or ws i w → last.bits < w.bits
-    → w.length ≡ last.length → made ++ steps_after last (drop i ws) ≡ whole → made ++ steps_after w (drop (i + 1) ws) ≡ whole
-higher_step ws i w last made whole h is l same k =
-    let t = lt-leb w.bits last.bits l in
-    let n = eq-eqb w.length last.length same in
-    ap (λ ys. made ++ ys) (sym (rw (left ws i w h is, t, n) refl)) ∙ k
-
-pub all_steps : (ws : List Window) (i : ℕ) (last : Window) (made next whole : List Window) → length ws ≤ i → next ≡ made ++ last ∷ []
-    → made ++ steps_after last (drop i ws) ≡ whole → next ≡ whole
-all_steps ws i last made next whole h push k = push ∙ ap (λ ys. made ++ steps_after last ys) (sym (drop_all i ws h)) ∙ k
 
 -- ---- the packets of a flow
 pub own_left : (flow : ℕ) (ps : List TracePacket) (i : ℕ) (p : TracePacket) → i < length ps → p ≡ get_or ps i p → p.flow ≡ flow

@@ -1,10 +1,10 @@
 -- The curve of steps: what is read of it, and that it is in normal form and readable.
-use Rattle.std.specs.Prelude.{◌≡◌, ℕ, zero, suc, ◌<◌, ◌≤◌, ◌^◌, pos, nat_abs, true, false, List, [], ◌∷◌, map, None, All}
+use Rattle.std.specs.Prelude.{◌≡◌, ℕ, zero, suc, ◌<◌, ◌≤◌, ◌^◌, pos, nat_abs, true, List, [], ◌∷◌, map, None, All}
 use Rattle.std.proofs.lemmas.List.Elements.{All-tail}
 use Rattle.std.proofs.Common.{arith, refl, sym, ap, subst, ◌∙◌, inl, inr, true≢false}
 use Rattle.std.proofs.lemmas.Bool.{cases_Bool}
 use Rattle.std.proofs.lemmas.Int.{ints}
-use Rattle.rational.specs.Rational.{ℚ, frac, int, le_q, ◌+ℚ◌, ◌*ℚ◌, ◌≤ℚ◌, ◌<ℚ◌}
+use Rattle.rational.specs.Rational.{ℚ, frac, int, ◌+ℚ◌, ◌*ℚ◌, ◌≤ℚ◌, ◌<ℚ◌}
 use Rattle.rational.specs.Ratio.{IsSmall}
 use Rattle.rational.specs.declared.Extended.TheVariants.{Fin}
 use Rattle.rational.proofs.Laws.{le_refl, le_or_lt, lt_irrefl, zero_mul, mul_zero}
@@ -15,12 +15,11 @@ use Rattle.rational.proofs.ExtendedOrder.{fin_same}
 use Rattle.min_plus.specs.Functions.{zero_q}
 use Rattle.affine_segment.specs.declared.line.Piece.{Piece}
 use Rattle.affine_segment.specs.Pieces.{Each, HasStart, RisesFrom, StartsAtZero}
-use Rattle.affine_segment.specs.Reading.{read, piece_value}
+use Rattle.affine_segment.specs.Reading.{read}
 use Rattle.affine_segment.specs.Fits.{LineFits}
 use Rattle.affine_segment.proofs.PieceIn.{read_go, read_stop, read_one}
 use Rattle.upp_curve.specs.Curve.{value_at}
 use Rattle.upp_curve.specs.Curves.{IsCurve}
-use Rattle.upp_curve.specs.Kinds.{flat}
 use Rattle.upp_curve.specs.Normal.{IsNormal, Continues, NoneContinues}
 use Rattle.upp_curve.specs.Readable.{EachFits}
 use Rattle.upp_curve.specs.Steady.{last_of}

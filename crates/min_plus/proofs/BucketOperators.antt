@@ -11,9 +11,9 @@ use Rattle.rational.proofs.MinMax.{max_q_right, max_q_ge_left, max_q_ge_right, m
 use Rattle.rational.proofs.Bounds.{least_member, largest_member}
 use Rattle.rational.proofs.Integers.{nat_next}
 use Rattle.rational.proofs.Whole.{one_more_times, le_of_mul, not_zero, nat_nonneg}
-use Rattle.min_plus.specs.Functions.{zero_q, UpTo, From, FiniteTime}
+use Rattle.min_plus.specs.Functions.{zero_q, UpTo, FiniteTime}
 use Rattle.min_plus.specs.Convolution.{Parts, AllNonneg, sum_of, sum_at, IsDeconvolution, IsSubadditiveClosure, Split, IsConvolution, IsSubadditive}
-use Rattle.min_plus.specs.Running.{IsRunningSupremum, IsRunningInfimum}
+use Rattle.min_plus.specs.Running.{IsRunningSupremum}
 use Rattle.min_plus.specs.Formulas.{IsBucket, IsService, rate_latency_value}
 use Rattle.min_plus.proofs.Rates.{enough}
 use Rattle.rational.proofs.ExtendedOrder.{fin_same}
@@ -21,9 +21,6 @@ use Rattle.rational.proofs.ExtendedOrder.{fin_same}
 -- a function that does not fall is its own running supremum and infimum
 pub rising_run_sup : (f : ℚ → Ext) (t : ℚ) → zero_q ≤ℚ t → ((s u : ℚ) → zero_q ≤ℚ s → s ≤ℚ u → f s ≤ₑ f u) → IsRunningSupremum f t (f t)
 rising_run_sup f t start rise = largest_member {I = UpTo t} (λ s. f s.at) record { at = t; nonneg = start; most = le_refl t } (λ s. rise s.at t s.nonneg s.most)
-
-pub rising_run_inf : (f : ℚ → Ext) (t : ℚ) → zero_q ≤ℚ t → ((s u : ℚ) → zero_q ≤ℚ s → s ≤ℚ u → f s ≤ₑ f u) → IsRunningInfimum f t (f t)
-rising_run_inf f t start rise = least_member {I = From t} (λ x. f x.at) record { at = t; least = le_refl t } (λ x. rise t x.at start x.least)
 
 -- what leaves a server: burst and rate after the latency
 pub bucket_deconvolution : (b r R T t : ℚ) (f g : ℚ → Ext) → zero_q ≤ℚ r → zero_q <ℚ R → zero_q ≤ℚ T → r ≤ℚ R → zero_q ≤ℚ t → IsBucket b r f → IsService R T g

@@ -4,7 +4,6 @@ use Rattle.std.proofs.Common.{ap, true≢false}
 use Rattle.rational.specs.Rational.{ℚ}
 use Rattle.rational.specs.Extended.{Ext}
 use Rattle.rational.specs.declared.Extended.TheVariants.{Fin, Inf}
-use Rattle.rational.proofs.ExtendedOrder.{fin_same}
 
 pub no_inf : {x : ℚ} → Fin x ≡ Inf → ⊥
 no_inf {x} e = true≢false (ap is_fin e)

@@ -1,6 +1,6 @@
 -- A flow at a hop of its path: it is served by what the other of its queue leave, stays no longer than the hop's
 -- delay, and leaves with the curve with which it comes to the next hop.
-use Rattle.std.specs.Prelude.{◌≡◌, ℕ, suc, ◌<◌, ◌≤◌, ◌==◌, Bool, true, false, ◌&&◌, List}
+use Rattle.std.specs.Prelude.{◌≡◌, ℕ, suc, ◌<◌, ◌≤◌, ◌==◌, true, List}
 use Rattle.std.proofs.Common.{arith, sym, ap, ◌∙◌, refl, subst, get_or}
 use Rattle.std.proofs.lemmas.Bool.{eqb-true, eq-eqb, and_parts}
 use Rattle.rational.specs.Rational.{ℚ, ◌-ℚ◌, ◌≤ℚ◌}

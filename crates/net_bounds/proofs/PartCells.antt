@@ -1,6 +1,6 @@
 -- What the equations say of the cell of a queue that is the sum of its parts.
 use Rattle.std.specs.Prelude.{◌≡◌, ◌==◌, ◌<◌, ℕ, zero, suc, Bool, true, false, List, [], ◌∷◌, ◌++◌, map}
-use Rattle.std.proofs.Common.{sym, ap, ap₂, ◌∙◌, refl, subst, inl, inr}
+use Rattle.std.proofs.Common.{sym, ap, ap₂, ◌∙◌, refl, subst}
 use Rattle.std.proofs.lemmas.Bool.{lt-ltb}
 use Rattle.rational.specs.Rational.{ℚ, ◌≤ℚ◌}
 use Rattle.rational.specs.Extended.{Ext, ◌+ₑ◌, min_ext}
@@ -8,12 +8,11 @@ use Rattle.rational.specs.declared.Extended.TheVariants.{Fin}
 use Rattle.rational.proofs.ExtendedOrder.{add_zero_ext, add_ext_assoc, add_ext_comm}
 use Rattle.min_plus.specs.Functions.{zero_q}
 use Rattle.min_plus.specs.Formulas.{bucket_value}
-use Rattle.upp_limits.specs.declared.op_kind.OpKind.TheVariants.{Sum, Min}
+use Rattle.upp_limits.specs.declared.op_kind.OpKind.TheVariants.{Min}
 use Rattle.upp_curve.specs.Curve.{SpecCurve, value_at}
 use Rattle.upp_curve.specs.Kinds.{bucket}
 use Rattle.upp_kinds.proofs.KindValues.{bucket_is}
 use Rattle.run_laws.specs.Cards.{whole}
-use Rattle.run_laws.proofs.Members.{Has}
 use Rattle.curve_call.specs.Answers.{IsMadeBy}
 use Rattle.net_model.specs.Networks.{Net}
 use Rattle.net_cells.specs.declared.cell.Kind.TheVariants.{In, Total}

@@ -1,10 +1,8 @@
 -- In version 2 a queue keeps the sum of its parts: those that come over a link keep the bucket of the server before, too.
-use Rattle.std.specs.Prelude.{◌≡◌, ◌<◌, ◌≤◌, ℕ, zero, suc, ◌+◌, ◌-◌, Bool, true, false, ◌==◌, ◌&&◌, nat_lt, pos, Some, None, List, [], ◌∷◌, ◌++◌, length, if◌then◌else◌}
-use Rattle.std.specs.List.{range_with_len}
+use Rattle.std.specs.Prelude.{◌≡◌, ◌<◌, ◌≤◌, ℕ, zero, suc, Bool, true, ◌==◌, ◌&&◌, nat_lt, pos, Some, None, List, [], ◌∷◌, ◌++◌, length, if◌then◌else◌}
 use Rattle.std.proofs.Common.{arith, sym, ap, ◌∙◌, refl, subst, inl, inr, get_or}
-use Rattle.std.proofs.lemmas.Bool.{cases_Bool, cases_eq, eqb-true, eq-eqb, ne_eqb, lt-ltb, ltb-true, and_parts, and_from, both_ways}
+use Rattle.std.proofs.lemmas.Bool.{cases_Bool, cases_eq, eqb-true, eq-eqb, ne_eqb, lt-ltb, ltb-true, and_parts, and_from}
 use Rattle.rational.specs.Rational.{ℚ, int, ◌-ℚ◌, ◌≤ℚ◌}
-use Rattle.rational.specs.Extended.{Ext}
 use Rattle.rational.specs.declared.Extended.TheVariants.{Fin}
 use Rattle.rational.proofs.Laws.{le_of_lt}
 use Rattle.rational.proofs.ExtendedOrder.{min_greatest}
@@ -13,7 +11,7 @@ use Rattle.run_laws.specs.Cards.{Card, of_queue}
 use Rattle.run_laws.specs.Servers.{Fifo, Server}
 use Rattle.run_laws.specs.Counts.{arrived_in}
 use Rattle.run_laws.specs.Premises.{KeepsArrivals, KeepsSizes}
-use Rattle.run_laws.specs.Routes.{Hop, route_of, server_at}
+use Rattle.run_laws.specs.Routes.{Hop, server_at}
 use Rattle.run_laws.proofs.Arrivals.{IsPassing, arrivals_map}
 use Rattle.run_laws.proofs.Members.{Has}
 use Rattle.net_laws.specs.Laws.{IsLink}
@@ -36,7 +34,7 @@ use Rattle.net_bounds.proofs.Placed.{place_in}
 use Rattle.net_bounds.proofs.Routed.{hop_at, hops_is, own_queues, path_is, live_is, hop_is_live, routed, known_server, server_read, servers_are}
 use Rattle.net_bounds.proofs.ListSums.{sum_over, HasKey, list_keeps}
 use Rattle.net_bounds.proofs.QueueCells.{arriving_at}
-use Rattle.net_bounds.proofs.PartCells.{with_hops, listed, link_bucket, part_values, part_over, total_over}
+use Rattle.net_bounds.proofs.PartCells.{with_hops, listed, link_bucket, part_over, total_over}
 use Rattle.net_bounds.proofs.Arriving.{AtServer, flow_comes, all_passing, IsVisiting, all_visiting, card_visit, has_in, visit_in, has_key}
 use Rattle.net_bounds.proofs.Sizes.{longest_most}
 

@@ -8,7 +8,7 @@ use Rattle.rational.specs.Rational.{ℚ, int, ◌≤ℚ◌}
 use Rattle.rational.proofs.Laws.{le_refl}
 use Rattle.run_laws.specs.Servers.{Fifo, Server, queue_count}
 use Rattle.run_laws.specs.Routes as routes
-use Rattle.run_laws.specs.Routes.{Hop, Routes, Route, route_of, link_at, PassesServer}
+use Rattle.run_laws.specs.Routes.{Route, route_of, link_at, PassesServer}
 use Rattle.net_model.specs.Networks.{Net, NetServer, NetFlow}
 use Rattle.net_model.specs.Accepted.{IsAccepted, IsServer}
 use Rattle.net_laws.specs.Paths.{IsPath}

@@ -4,8 +4,7 @@ use Rattle.std.proofs.Common.{arith, sym, ap, ◌∙◌, refl, subst}
 use Rattle.rational.specs.Rational.{ℚ, ◌+ℚ◌, ◌≤ℚ◌}
 use Rattle.rational.specs.Extended.{Ext, ◌≤ₑ◌, ◌+ₑ◌}
 use Rattle.rational.proofs.ExtendedOrder.{le_ext_trans, le_ext_refl, same_le_ext, add_le_ext, add_ext_assoc, add_zero_ext, zero_add_ext}
-use Rattle.rational.proofs.Laws.{le_refl, add_zero}
-use Rattle.rational.proofs.Linear.{with1, with2, with3}
+use Rattle.rational.proofs.Laws.{add_zero}
 use Rattle.min_plus.specs.Functions.{zero_q}
 use Rattle.min_plus.specs.Convolution.{Split, AllNonneg, sum_of}
 use Rattle.net_laws.specs.Paths.{IsWithinSplits, sum_of_values}

@@ -4,7 +4,7 @@ use Rattle.std.specs.List.{filter, flat_map, range_with_len}
 use Rattle.std.proofs.lemmas.Bool.{cond-true, cond-false}
 use Rattle.std.proofs.lemmas.List.{take_more, map-append}
 use Rattle.std.proofs.lemmas.List.Concat.{flat_map-append}
-use Rattle.std.proofs.lemmas.List.Elements.{filter_more, filter-append}
+use Rattle.std.proofs.lemmas.List.Elements.{filter-append}
 use Rattle.std.proofs.lemmas.List.FromFn.{map-range_with_len_more, filter_of_map_range_with_len_more}
 
 -- ---- one more number in a row
@@ -54,24 +54,6 @@ dropped_number p f n e =
     ∙ ap (λ xs. filter p (map f (range_with_len 0 n)) ++ xs) (cond-false (p (f n)) (f n ∷ []) [] e)
 
 -- ---- by an element
-pub kept_element : {X Y : Type 0} (p : X → Bool) (f : X → Y) (xs : List X) (i : ℕ) (x : X) → i < length xs
-    → get_or xs i x ≡ x
-    → p x ≡ true → map f (filter p (take (i + 1) xs)) ≡ map f (filter p (take i xs)) ++ f x ∷ []
-kept_element p f xs i x h is e =
-    ap (map f) (filter_more p xs i x h
-    ∙ ap (λ y. filter p (take i xs) ++ cond (p y) (y ∷ []) []) is
-    ∙ ap (λ ys. filter p (take i xs) ++ ys) (cond-true (p x) (x ∷ []) [] e))
-    ∙ map-append f (filter p (take i xs)) (x ∷ [])
-
-pub dropped_element : {X Y : Type 0} (p : X → Bool) (f : X → Y) (xs : List X) (i : ℕ) (x : X) → i < length xs
-    → get_or xs i x ≡ x
-    → p x ≡ false → map f (filter p (take (i + 1) xs)) ≡ map f (filter p (take i xs)) ++ []
-dropped_element p f xs i x h is e =
-    ap (map f) (filter_more p xs i x h
-    ∙ ap (λ y. filter p (take i xs) ++ cond (p y) (y ∷ []) []) is
-    ∙ ap (λ ys. filter p (take i xs) ++ ys) (cond-false (p x) (x ∷ []) [] e))
-    ∙ map-append f (filter p (take i xs)) []
-
 pub flat_element : {X Y : Type 0} (f : X → List Y) (xs : List X) (i : ℕ) (x : X) → i < length xs → get_or xs i x ≡ x
     → flat_map f (take (i + 1) xs) ≡ flat_map f (take i xs) ++ f x
 flat_element f xs i x h is =

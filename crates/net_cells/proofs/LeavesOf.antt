@@ -7,7 +7,7 @@ use Rattle.upp_limits.specs.declared.op_kind.OpKind.TheVariants.{Sum}
 use Rattle.run_laws.specs.Servers.{Discipline, Fifo, Priority, Drr}
 use Rattle.net_model.specs.Networks.{Net}
 use Rattle.net_cells.specs.declared.cell.Cell.{Cell}
-use Rattle.net_cells.specs.declared.cell.Kind.TheVariants.{In, Higher, Residual}
+use Rattle.net_cells.specs.declared.cell.Kind.TheVariants.{In, Residual}
 use Rattle.net_cells.specs.Numbered.{is_by_priority}
 use Rattle.net_cells.specs.Visits.{Visit}
 use Rattle.net_cells.specs.QueueParts.{in_part, by_parts}
@@ -60,12 +60,6 @@ served_leaves net i (suc k) =
     ∙ ap (λ n. map (cell_of Residual i) (range_with_len 0 n)) same
 
 -- ---- the service of a queue
-pub priority_leaves : (net : Net) (s q : ℕ) (d : Discipline) → is_by_priority d ≡ true
-    → cell_of Higher s q ∷ [] ≡ leaves (queue_service net s q d)
-priority_leaves net s q Fifo e = absurd (let bad : false ≡ true = e in cc)
-priority_leaves net s q (Priority n) e = refl
-priority_leaves net s q (Drr quanta) e = absurd (let bad : false ≡ true = e in cc)
-
 pub other_leaves : (net : Net) (s q : ℕ) (d : Discipline) → is_by_priority d ≡ false
     → [] ≡ leaves (queue_service net s q d)
 other_leaves net s q Fifo e = refl

@@ -1,6 +1,6 @@
 -- Members of lists, lists without repeats, and what stands before what.
 use Rattle.std.proofs.Common.{◌≡◌, ℕ, ◌<◌, ◌≤◌, ◌+◌, zero, suc, List, [], ◌∷◌, ◌++◌, length, get_or, map, refl, sym, ap, ◌∙◌, subst, arith, inl, inr, ◌⊎◌, Bool, true, false, cond, take}
-use Rattle.std.specs.Prelude.{Contains, AllPairs, ◌≢◌}
+use Rattle.std.specs.Prelude.{AllPairs, ◌≢◌}
 use Rattle.std.specs.List.{filter, flat_map, range_with_len}
 use Rattle.std.proofs.lemmas.Bool.{cases_lt}
 pub use Rattle.run_laws.proofs.Members.{Has, at_has, contains_has, has_contains, has_left, has_right, has_either, has_map, has_flat}

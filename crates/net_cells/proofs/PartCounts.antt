@@ -10,7 +10,7 @@ use Rattle.net_model.specs.Accepted.{IsAccepted}
 use Rattle.net_cells.specs.declared.cell.Cell.{Cell}
 use Rattle.net_cells.specs.declared.cell.Kind.TheVariants.{In}
 use Rattle.net_cells.specs.Numbered.{flow_at, path, queues_of, hops, server_of_hop}
-use Rattle.net_cells.specs.Visits.{Visit, visit, visits_in}
+use Rattle.net_cells.specs.Visits.{Visit, visit}
 use Rattle.net_cells.specs.QueueParts.{part_of, in_part, is_there, flow_part, link_of, links_among}
 use Rattle.net_cells.specs.Order.{at_visit}
 use Rattle.net_cells.proofs.Growing.{range_more, flat_more, filter_flat, flat_same, filter_mapped}

@@ -100,11 +100,6 @@ queue_exists net i k a h =
     let hop = hop_kept net i k a h in
     subst (λ (o : Option NetServer). queue_of_hop net i k < queue_count (discipline_of o)) (sym hop.is) hop.has_queue
 
-service_at_home : (net : Net) (i k : ℕ) → IsAccepted net → k < hops net i
-    → IsHome net (server_of_hop net i k) (cell_of QueueService (server_of_hop net i k) (queue_of_hop net i k))
-service_at_home net i k a h = at_queue net QueueService (server_of_hop net i k) (queue_of_hop net i k) refl
-    (queue_exists net i k a h)
-
 levels_at_most : (d : Discipline) → levels_of d ≤ queue_count d
 levels_at_most Fifo = omega arith
 levels_at_most (Priority n) = omega arith

@@ -22,13 +22,6 @@ pub flow_stored : (net : Net) (fs : List (Option Flow)) (i : ℕ) (x : Option Fl
 flow_stored net fs i x same h is =
     ap (option_map flow_of) is ∙ sym (get_or-map (option_map flow_of) fs i x None h) ∙ ap (λ gs. get_or gs i None) same
 
-pub flow_past : (net : Net) (fs : List (Option Flow)) (i : ℕ) → flows_of fs ≡ net.flows → length fs ≤ i
-    → None ≡ flow_at net i
-flow_past net fs i same h =
-    let count = ap length same in
-    let all = length-map fs (option_map flow_of) in
-    sym (get_or_past net.flows i None (omega (arith, h, count, all)))
-
 pub flow_kept : (net : Net) (i : ℕ) (f : NetFlow) → IsAccepted net → flow_at net i ≡ Some f → IsFlow net.servers f
 flow_kept net i f a e =
     elim (cases_lt i (length net.flows)) [

@@ -1,6 +1,6 @@
 -- A cause that the tests of a text find is there.
-use Rattle.std.specs.Prelude.{◌≡◌, ◌≢◌, pos, Bool, true, false, not, if◌then◌else◌, ◌&&◌, ◌||◌, List, Option, Some, None, Result, Ok, Err}
-use Rattle.std.proofs.Common.{sym, subst, refl, inl, inr}
+use Rattle.std.specs.Prelude.{◌≡◌, pos, Bool, true, false, not, if◌then◌else◌, ◌&&◌, ◌||◌, List, Option, Some, None, Ok, Err}
+use Rattle.std.proofs.Common.{subst, refl, inl, inr}
 use Rattle.rational.specs.Rational.{ℚ, int, ◌≤ℚ◌, ◌<ℚ◌}
 use Rattle.rational.specs.declared.Extended.TheVariants.{Fin}
 use Rattle.upp_curve.specs.Curve.{SpecCurve, value_at}
@@ -19,7 +19,7 @@ use Rattle.net_model.specs.declared.fault.CurveRefusal.TheVariants.{Negative, Ze
 use Rattle.net_draft.specs.Texts.{CurveText, Bucket, Stair, RateLatency, Gate, Listed}
 use Rattle.net_draft.specs.Values.{less}
 use Rattle.net_draft.specs.Made.{CurveAnswers, KeepsBucket}
-use Rattle.net_draft.specs.Laws.{fault_for, RefusalIsCause, RefusalsAreCauses}
+use Rattle.net_draft.specs.Laws.{fault_for, RefusalsAreCauses}
 use Rattle.net_draft.specs.Refusals.{at_most_q, below_zero, is_zero, are_nonneg_texts, is_nonneg_end, has_length, starts_ascend, are_within_period, is_within, rises, joins, is_same, first_cause, first_of, shape_refusal, form_refusal, listed_refusal, refusal_of}
 use Rattle.net_draft.proofs.Decided.{Decides, less_decides, at_most_q_decides}
 use Rattle.net_draft.proofs.ListedTests.{nonneg_decides, length_decides, order_decides, limits_decide}

@@ -1,7 +1,5 @@
 -- What the reader makes of an answer to the text of a curve.
-use Rattle.std.proofs.Common.{◌≡◌, ℕ, List, Option, Some, None, Result, Ok, Err, refl, sym, ap, ◌∙◌}
-use Rattle.upp_curve.specs.Curve.{SpecCurve}
-use Rattle.curve_library.specs.declared.fault.CurveFault.{CurveFault}
+use Rattle.std.proofs.Common.{◌≡◌, ℕ, List, Some, None, Ok, Err, sym, ap, ◌∙◌}
 use Rattle.net_model.specs.declared.fault.CurveRefusal.{CurveRefusal}
 use Rattle.net_model.specs.declared.fault.NetKind.TheVariants.{M9}
 use Rattle.net_draft.specs.declared.fault.DraftFault.{DraftFault}

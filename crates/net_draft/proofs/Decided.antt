@@ -1,5 +1,5 @@
 -- Tests that decide a fact: true where it holds, and false where it does not.
-use Rattle.std.specs.Prelude.{◌≡◌, ◌⊎◌, ℕ, ◌<◌, ◌≤◌, ◌^◌, Bool, true, false, not, ◌&&◌, ◌||◌, nat_lt, nat_le, List, [], ◌∷◌, Option, Some, None}
+use Rattle.std.specs.Prelude.{◌≡◌, ◌⊎◌, ℕ, ◌<◌, ◌≤◌, Bool, true, false, not, ◌&&◌, ◌||◌, nat_lt, nat_le}
 use Rattle.std.specs.Bool.{MatchBool}
 use Rattle.std.specs.Ordering.{MatchOrdering, is_eq, is_lt}
 use Rattle.std.proofs.Common.{sym, ap, subst, refl, Ordering, Less, Equal, Greater, arith, inl, inr}

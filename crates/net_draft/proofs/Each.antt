@@ -1,5 +1,5 @@
 -- Reading the entries of an array one after the other, as a loop does.
-use Rattle.std.proofs.Common.{◌≡◌, ℕ, ◌+◌, ◌≤◌, ◌<◌, List, [], ◌∷◌, ◌++◌, length, map, get_or, drop, Result, Ok, Err, refl, sym, ap, ◌∙◌, subst, arith}
+use Rattle.std.proofs.Common.{◌≡◌, ℕ, ◌+◌, ◌≤◌, ◌<◌, List, [], ◌∷◌, ◌++◌, length, map, get_or, drop, Ok, Err, refl, sym, ap, ◌∙◌}
 use Rattle.std.proofs.lemmas.List.{drop_more}
 use Rattle.std.proofs.Math.ListN.{drop_of_length-le}
 use Rattle.toml.specs.Data.{Data}
@@ -7,7 +7,7 @@ use Rattle.toml.specs.View.{view, items_view}
 use Rattle.toml.specs.declared.value.Value.{Value}
 use Rattle.net_draft.specs.declared.fault.DraftFault.{DraftFault}
 use Rattle.net_draft.specs.declared.fault.DraftFault.TheVariants as answers
-use Rattle.net_draft.specs.Faults.{◌>>=◌, Read, Fails, fault_of, nth}
+use Rattle.net_draft.specs.Faults.{Read, Fails, fault_of, nth}
 use Rattle.net_draft.specs.Values.{entries}
 use Rattle.net_draft.specs.Tables.{each}
 

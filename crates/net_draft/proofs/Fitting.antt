@@ -1,13 +1,13 @@
 -- Quanta that are looked at one after the other, and servers, as loops do.
 use Rattle.std.specs.List.{list_any}
-use Rattle.std.proofs.Common.{◌≡◌, ℕ, ◌+◌, ◌≤◌, ◌<◌, Bool, true, false, cond, List, [], ◌∷◌, length, map, get_or, drop, Result, Ok, Err, refl, sym, ap, ◌∙◌}
+use Rattle.std.proofs.Common.{◌≡◌, ℕ, ◌+◌, ◌≤◌, ◌<◌, Bool, true, false, cond, List, ◌∷◌, length, map, get_or, drop, Ok, Err, refl, sym, ap, ◌∙◌}
 use Rattle.std.proofs.lemmas.List.{drop_more}
 use Rattle.std.proofs.Math.ListN.{drop_of_length-le}
 use Rattle.net_model.specs.declared.fault.NetKind.TheVariants.{M12}
 use Rattle.net_draft.specs.declared.fault.DraftFault.{DraftFault}
 use Rattle.net_draft.specs.declared.fault.DraftFault.TheVariants as answers
 use Rattle.net_draft.specs.declared.server_draft.ServerDraft.{ServerDraft}
-use Rattle.net_draft.specs.Faults.{◌>>=◌, Fault, Read, Fails, IsFault, fault_of, nth}
+use Rattle.net_draft.specs.Faults.{Fault, Read, Fails, IsFault, fault_of, nth}
 use Rattle.net_draft.specs.Texts.{ServerText, FlowText}
 use Rattle.net_draft.specs.Views.{server_text}
 use Rattle.net_draft.specs.Drafts.{is_longer, quanta_from, quanta_of_server, quanta_fit}

@@ -20,16 +20,16 @@ use Rattle.net_draft.specs.declared.words.ArrivalWord.{ArrivalWord}
 use Rattle.net_draft.specs.declared.words.ArrivalWord.TheVariants as arrivals
 use Rattle.net_draft.specs.declared.words.DisciplineWord.{DisciplineWord}
 use Rattle.net_draft.specs.declared.words.DisciplineWord.TheVariants as disciplines
-use Rattle.net_draft.specs.Drafts.{is_longer, quanta_from, quanta_in, quanta_of_server, quanta_fit, servers_of, flows_of, root_of, tree_of, draft_in, draft_of}
+use Rattle.net_draft.specs.Drafts.{is_longer, quanta_from, quanta_in, quanta_of_server, quanta_fit, servers_of, flows_of, root_of, tree_of, draft_in}
 use Rattle.net_draft.specs.FaultKinds.{IsOfTables, FaultsAreOfTables}
 use Rattle.net_draft.specs.Faults.{◌>>=◌, Fault, Read, placed, under, nth}
-use Rattle.net_draft.specs.Hops.{HopText, is_colon, queue_digits, hop_parts, hop_text, hop_to, hop_in, named_from}
+use Rattle.net_draft.specs.Hops.{is_colon, queue_digits, hop_parts, hop_text, hop_to, hop_in, named_from}
 use Rattle.net_draft.specs.Keys.{only}
 use Rattle.net_draft.specs.Refusals.{refusal_of}
 use Rattle.net_draft.specs.Tables.{each, service_of_text, service_word, arrival_of_text, arrival_word, discipline_of_text, discipline_word, unless_refused, curve_at, piece_at, pieces_of, tail_at, tail_or_none, tail_of, latency_at, gate_at, listed_service_at, service_by, service_at, service_or_rate}
 use Rattle.net_draft.specs.Tables.{bucket_at, stair_at, listed_arrival_at, arrival_by, arrival_at, forbidden_in, forbidden, quantum_at, quanta_of, fifo_at, priority_at, drr_at, discipline_by, discipline_at, server_keys, server_names, server_with, server_text_at, hop_at, path_of, arrival_of, flow_names, flow_with, flow_at}
 use Rattle.net_draft.specs.Texts.{CurveText, Bucket, Stair, RateLatency, Gate, Listed, ServerText, FlowText}
-use Rattle.net_draft.specs.Values.{wanted, entries, number_of, number_in, written, less, above_zero, not_below_zero, positive_in, nonnegative_in, in_range, whole_in, longest, is_name, name_of, name_in, untaken, new_name, entries_in, counted, list_in, required, optional, at_key, text_in, truth_in, table_in}
+use Rattle.net_draft.specs.Values.{wanted, entries, number_of, number_in, written, less, above_zero, not_below_zero, positive_in, nonnegative_in, in_range, whole_in, longest, is_name, name_of, name_in, untaken, new_name, counted, list_in, required, optional, at_key, truth_in, table_in}
 
 -- what is said of each error
 record Tells {A E : Type 0} (P : E → Type 0) (r : Result A E) : Type 0 where

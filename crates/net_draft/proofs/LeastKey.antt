@@ -1,6 +1,5 @@
 -- The first unknown key of a table whose keys ascend is the least.
 use Rattle.std.specs.Prelude.{◌≢◌, AllPairs, All, Contains, String, slice_index_or}
-use Rattle.std.specs.BTreeMap.{keys}
 use Rattle.std.specs.List.{list_any, AllByRecursion}
 use Rattle.std.specs.List.Sorted.{IsStrictlySortedBy}
 use Rattle.std.specs.Map as map
@@ -8,15 +7,15 @@ use Rattle.std.specs.Str.{bytes_eq}
 use Rattle.std.specs.String.{string_bytes, string_cmp}
 use Rattle.std.specs.declared.alloc.Global.{Global}
 use Rattle.std.specs.declared.cmp.Ordering.TheVariants.{Less}
-use Rattle.std.proofs.Common.{◌≡◌, ℕ, zero, suc, ◌+◌, ◌<◌, Bool, true, false, cond, if◌then◌else◌, List, [], ◌∷◌, length, Result, Ok, Err, refl, sym, ap, ◌∙◌, subst, arith, true≢false}
+use Rattle.std.proofs.Common.{◌≡◌, ℕ, zero, suc, ◌<◌, Bool, true, false, if◌then◌else◌, List, [], ◌∷◌, length, Ok, Err, refl, sym, ap, ◌∙◌, subst, arith, true≢false}
 use Rattle.std.proofs.lemmas.List.Elements.{All-nil, All-cons}
 use Rattle.std.proofs.lemmas.List.Kept.{AllPairs-cons}
-use Rattle.toml.specs.Data.{Members, no_members, member}
+use Rattle.toml.specs.Data.{no_members, member}
 use Rattle.toml.specs.View.{members_view}
 use Rattle.toml.specs.declared.value.Value.{Value}
 use Rattle.net_model.specs.declared.fault.NetKind.TheVariants.{M3}
 use Rattle.net_draft.specs.Faults.{Fault, Read, under}
-use Rattle.net_draft.specs.KeyOrder.{keys_of, ComesBefore, KeysAscend, IsUnknown, IsLeastUnknown, NamesLeast, UnknownKeyIsLeast}
+use Rattle.net_draft.specs.KeyOrder.{keys_of, ComesBefore, KeysAscend, IsUnknown, NamesLeast, UnknownKeyIsLeast}
 use Rattle.net_draft.specs.Keys.{only}
 
 -- ---- the law

@@ -1,22 +1,18 @@
 -- What the tests of listed pieces say.
 use Rattle.std.specs.Prelude.{◌≡◌, ◌<◌, ◌≤◌, ◌^◌, Bool, true, ◌&&◌, nat_lt, nat_le, List, [], ◌∷◌, Option, Some, None}
 use Rattle.std.specs.List.{AllByRecursion}
-use Rattle.std.specs.Ordering.{is_eq}
 use Rattle.rational.specs.Rational.{ℚ, ◌+ℚ◌, ◌≤ℚ◌, ◌<ℚ◌}
-use Rattle.rational.specs.Ratio.{cmp_q}
 use Rattle.rational.specs.Extended.{Ext, ◌≤ₑ◌}
 use Rattle.affine_segment.specs.declared.line.Line.{Line}
 use Rattle.affine_segment.specs.declared.line.Piece.{Piece}
 use Rattle.affine_segment.specs.Values.{line_value}
-use Rattle.upp_curve.specs.declared.curve.Tail.{Tail}
-use Rattle.upp_curve.specs.declared.curve.Tail.TheVariants.{Periodic, Affine, Infinite}
 use Rattle.upp_curve.specs.Curve.{SpecCurve, value_at}
 use Rattle.min_plus.specs.Functions.{zero_q, IsRising}
 use Rattle.affine_segment.specs.Pieces.{RisesFrom, StartsAtZero}
 use Rattle.upp_curve.specs.Normal.{IsRaw}
-use Rattle.upp_curve.specs.Shapes.{LineRises, EndsBelow, PieceRises, PiecesRise}
+use Rattle.upp_curve.specs.Shapes.{LineRises, PieceRises}
 use Rattle.min_plus.specs.Continuity.{IsContinuous}
-use Rattle.upp_curve.specs.JoinedPieces.{EndsAtValue, PieceJoins, PiecesJoin}
+use Rattle.upp_curve.specs.JoinedPieces.{PieceJoins}
 use Rattle.upp_limits.specs.Limits.{own_gauge, own_tally}
 use Rattle.upp_limits.specs.OwnLimits.{IsWithinOwn}
 use Rattle.upp_curve.proofs.RisingCurves.{GoesOn}
@@ -24,7 +20,7 @@ use Rattle.curve_library.specs.declared.texts.PieceText.{PieceText}
 use Rattle.curve_library.specs.declared.texts.TailText.{TailText}
 use Rattle.curve_library.specs.Listed.{text_pieces, IsNonnegText, IsNonnegTail, AreNonneg, HasLength, StartsBelow, AreInOrder}
 use Rattle.net_draft.specs.Values.{less}
-use Rattle.net_draft.specs.Refusals.{Next, next_of, at_most_q, is_zero, is_nonneg_text, are_nonneg_texts, is_nonneg_end, has_length, rise_from, starts_ascend, all_before, are_within_period, at_most, is_same, line_rises, ends_below, piece_rises, pieces_rise, ends_at, piece_joins, pieces_join, end_of, rises, joins, is_within}
+use Rattle.net_draft.specs.Refusals.{Next, at_most_q, is_zero, is_nonneg_text, are_nonneg_texts, is_nonneg_end, has_length, rise_from, starts_ascend, all_before, are_within_period, at_most, is_same, line_rises, ends_below, piece_rises, pieces_rise, piece_joins, pieces_join, end_of, rises, joins, is_within}
 use Rattle.net_draft.proofs.Decided.{Decides, both, reworded, less_decides, same_decides, at_most_q_decides, at_most_decides, is_same_decides, nat_lt_decides, nat_le_decides}
 use Rattle.net_draft.proofs.RawShapes.{Rises, Joins, rises_raw, pieces_raw, continuous_raw, joins_raw}
 
@@ -90,9 +86,6 @@ limits_decide c =
 line_decides : (l : Option Line) → Decides (line_rises l) (LineRises l)
 line_decides None = tt
 line_decides (Some l) = at_most_q_decides zero_q l.slope
-
-ends_decide : (l : Option Line) (x : ℚ) (v : Ext) → Decides (ends_below l (Some (x, v))) (EndsBelow l (Some record { x = x; at = v }))
-ends_decide l x v = at_most_decides (line_value l x) v
 
 piece_decides : (p : Piece) (b : Bool) (E : Type 0) → Decides b E → Decides (at_most p.at (line_value p.line p.x) && (line_rises p.line && b)) ((p.at ≤ₑ line_value p.line p.x) × (LineRises p.line × E))
 piece_decides p b E d =

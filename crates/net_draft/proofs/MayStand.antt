@@ -1,31 +1,26 @@
 -- Which curves of a draft a network may have.
-use Rattle.std.specs.Prelude.{◌≡◌, ℕ, pos, List, [], ◌∷◌, Option, Some, None, Result, Ok}
-use Rattle.std.proofs.Common.{sym, ap, subst, refl, ◌∙◌, arith, inl, inr}
-use Rattle.rational.specs.Rational.{ℚ, int, ◌+ℚ◌, ◌≤ℚ◌, ◌<ℚ◌}
+use Rattle.std.specs.Prelude.{◌≡◌, ℕ, pos, List, [], ◌∷◌, Option, Some, None, Ok}
+use Rattle.std.proofs.Common.{sym, ap, subst, ◌∙◌, arith, inl, inr}
+use Rattle.rational.specs.Rational.{ℚ, int, ◌≤ℚ◌, ◌<ℚ◌}
 use Rattle.rational.specs.Extended.{Ext, ◌≤ₑ◌}
 use Rattle.rational.specs.declared.Extended.TheVariants.{Fin}
 use Rattle.rational.proofs.Linear.{with2}
-use Rattle.rational.proofs.Laws.{le_refl, le_of_lt, le_or_lt}
+use Rattle.rational.proofs.Laws.{le_refl, le_or_lt}
 use Rattle.rational.proofs.Integers.{nat_nonneg}
 use Rattle.rational.proofs.ExtendedOrder.{le_ext_trans}
-use Rattle.affine_segment.specs.declared.line.Piece.{Piece}
-use Rattle.upp_curve.specs.Curve.{SpecCurve, value_at, HasSameValues}
-use Rattle.min_plus.specs.Continuity.{IsContinuous}
+use Rattle.upp_curve.specs.Curve.{SpecCurve, value_at}
 use Rattle.min_plus.specs.Functions.{zero_q, IsFinite, IsRising, IsNonnegative}
 use Rattle.upp_curve.specs.Kinds.{bucket, stair, rate_latency, gate}
-use Rattle.affine_segment.specs.Pieces.{Each, RisesFrom}
+use Rattle.affine_segment.specs.Pieces.{Each}
 use Rattle.affine_segment.specs.Reading.{read}
 use Rattle.upp_curve.specs.Shapes.{IsNumber, IsFinitePiece}
 use Rattle.upp_curve.proofs.Finite.{level_of, read_number, repeated_number}
 use Rattle.upp_curve.proofs.RisingCurves.{read_is}
-use Rattle.upp_curve.proofs.FirstStretch.{read_in, at_start}
 use Rattle.upp_curve.proofs.Repeats.{repeated_first}
 use Rattle.curve_library.specs.declared.texts.PieceText.{PieceText}
 use Rattle.curve_library.specs.declared.texts.TailText.{TailText}
-use Rattle.curve_library.specs.declared.texts.UseAs.{UseAs}
 use Rattle.curve_library.specs.declared.texts.UseAs.TheVariants.{Arrival, Service}
-use Rattle.curve_library.specs.Causes.{OneNegative, NoSlot}
-use Rattle.curve_library.specs.Listed.{text_piece, text_pieces, listed_curve, IsWellFormed, HasShape, KeepsListed}
+use Rattle.curve_library.specs.Listed.{text_piece, text_pieces, listed_curve, IsWellFormed, KeepsListed}
 use Rattle.net_model.specs.Accepted.{IsServiceCurve, IsArrivalCurve, IsOfKind}
 use Rattle.net_model.proofs.KindsStand.{kinds_may_stand}
 use Rattle.net_draft.specs.Texts.{CurveText, Bucket, Stair, RateLatency, Gate, Listed, IsServiceOf, IsArrivalOf}

@@ -1,14 +1,13 @@
 -- What is answered to the text of a curve tells why it is refused.
-use Rattle.std.specs.Prelude.{◌≡◌, ◌≢◌, ◌⊎◌, pos, Bool, true, false, not, ◌&&◌, ◌||◌, List, Option, Some, None, Result, Ok, Err}
-use Rattle.std.proofs.Common.{sym, ap, subst, refl, ◌∙◌, inl, inr}
+use Rattle.std.specs.Prelude.{◌≡◌, ◌⊎◌, pos, Bool, false, ◌&&◌, ◌||◌, List, Option, Some, None, Result, Ok, Err}
+use Rattle.std.proofs.Common.{refl, inl, inr}
 use Rattle.rational.specs.Rational.{ℚ, int, ◌≤ℚ◌, ◌<ℚ◌}
 use Rattle.rational.specs.declared.Extended.TheVariants.{Fin}
 use Rattle.upp_curve.specs.Curve.{SpecCurve, value_at}
 use Rattle.min_plus.specs.Functions.{zero_q, IsRising}
 use Rattle.min_plus.specs.Continuity.{IsContinuous}
-use Rattle.upp_curve.specs.Kinds.{bucket, stair, rate_latency, gate}
-use Rattle.upp_limits.specs.OwnLimits.{IsOver, IsWithinOwn}
-use Rattle.upp_limits.specs.declared.own_limits.OverLimit.{OverLimit}
+use Rattle.upp_curve.specs.Kinds.{stair, rate_latency, gate}
+use Rattle.upp_limits.specs.OwnLimits.{IsWithinOwn}
 use Rattle.upp_curve.proofs.RisingCurves.{GoesOn}
 use Rattle.curve_library.specs.declared.texts.PieceText.{PieceText}
 use Rattle.curve_library.specs.declared.texts.TailText.{TailText}
@@ -25,7 +24,7 @@ use Rattle.net_model.specs.declared.fault.CurveRefusal.TheVariants.{Negative, Ze
 use Rattle.net_draft.specs.Texts.{CurveText, Bucket, Stair, RateLatency, Gate, Listed}
 use Rattle.net_draft.specs.Values.{less}
 use Rattle.net_draft.specs.Made.{CurveAnswers, KeepsBucket}
-use Rattle.net_draft.specs.Refusals.{at_most_q, below_zero, is_zero, are_nonneg_texts, is_nonneg_end, has_length, starts_ascend, are_within_period, is_within, rises, joins, is_same, first_cause, first_of, shape_refusal, form_refusal, listed_refusal, refusal_of}
+use Rattle.net_draft.specs.Refusals.{at_most_q, below_zero, is_zero, are_nonneg_texts, is_nonneg_end, has_length, starts_ascend, are_within_period, is_within, rises, joins, is_same, first_cause, shape_refusal, listed_refusal, refusal_of}
 use Rattle.net_draft.proofs.Decided.{Decides, yes, no, either, less_decides, same_decides, at_most_q_decides, is_same_decides}
 use Rattle.net_draft.proofs.ListedTests.{nonneg_decides, length_decides, order_decides, limits_decide, rising_decides, continuous_decides}
 

@@ -1,15 +1,14 @@
 -- What one flow more gives.
-use Rattle.std.proofs.Common.{◌≡◌, ◌≢◌, ℕ, ◌<◌, ◌≤◌, List, length, Option, Some, None, Bool, true, false, refl, sym, ap, ◌∙◌, subst, arith}
-use Rattle.std.specs.Prelude.{Ok, Err, ℤ, All, IsTrue, nat_le, nat_lt, ◌&&◌, not}
+use Rattle.std.proofs.Common.{◌≡◌, ℕ, ◌<◌, ◌≤◌, List, length, None, Bool, true, false, sym, ap, ◌∙◌}
+use Rattle.std.specs.Prelude.{Ok, Err, ℤ, nat_le, nat_lt, ◌&&◌, not}
 use Rattle.std.specs.List.{list_all}
 use Rattle.std.proofs.lemmas.Bool.{and_parts, and_from, not_from_false, leb-true, lt-ltb, le-ltb}
 use Rattle.std.proofs.lemmas.List.Sums.{AllPass-from_list_all}
-use Rattle.rational.specs.Rational.{ℚ, ◌≤ℚ◌}
-use Rattle.min_plus.specs.Functions.{zero_q}
+use Rattle.rational.specs.Rational.{ℚ}
 use Rattle.net_model.specs.declared.edit.PathEntry.{PathEntry}
-use Rattle.net_model.specs.Networks.{Net, NetFlow}
+use Rattle.net_model.specs.Networks.{Net}
 use Rattle.net_model.specs.Names.{IsName, is_name_byte}
-use Rattle.net_model.specs.Accepted.{IsLength, IsFlow, IsAccepted}
+use Rattle.net_model.specs.Accepted.{IsFlow, IsAccepted}
 use Rattle.net_model.proofs.KindsStand.{kinds_may_stand}
 use Rattle.net_edits.specs.Refusals.{Or, no_number_left, and_then, only_if}
 use Rattle.net_edits.specs.Lookups.{server_numbers, is_free}

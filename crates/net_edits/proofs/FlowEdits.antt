@@ -1,6 +1,6 @@
 -- What edits of one flow give.
-use Rattle.std.proofs.Common.{◌≡◌, ◌≢◌, ℕ, ◌<◌, ◌≤◌, List, length, get_or, ◌^◌, cond, Option, Some, None, Bool, true, false, refl, sym, ap, ◌∙◌, subst, inl, inr, arith}
-use Rattle.std.specs.Prelude.{Result, Ok, Err, pos, negsuc, ℤ, nat_le, AllPairs, slice_get, slice_index, is_some, IsSome, nat_lt, ◌&&◌, not}
+use Rattle.std.proofs.Common.{◌≡◌, ℕ, ◌<◌, ◌≤◌, List, length, ◌^◌, cond, Option, Some, None, Bool, true, false, refl, sym, ap, ◌∙◌, subst, inl, inr}
+use Rattle.std.specs.Prelude.{Ok, Err, pos, negsuc, ℤ, nat_le, slice_get, slice_index, is_some, IsSome, ◌&&◌, not}
 use Rattle.std.proofs.lemmas.Bool.{cases_lt, and_parts, and_from, not_from_false, leb-true}
 use Rattle.std.proofs.lemmas.List.{get_or_past, length-map}
 use Rattle.std.proofs.lemmas.Option.{slice_get-get_or, get_or_from_slice_get, slice_get_within}
@@ -11,22 +11,21 @@ use Rattle.upp_curve.specs.Curve.{SpecCurve}
 use Rattle.upp_curve.specs.Kinds.{bucket, stair}
 use Rattle.net_model.specs.declared.edit.PathEntry.{PathEntry}
 use Rattle.net_model.specs.Networks.{Net, NetServer, NetFlow}
-use Rattle.net_model.specs.Names.{IsName, DifferInName, is_name_byte}
-use Rattle.net_model.specs.Accepted.{IsLength, IsArrivalCurve, IsHop, IsFlow, IsAccepted}
+use Rattle.net_model.specs.Accepted.{IsLength, IsArrivalCurve, IsFlow, IsAccepted}
 use Rattle.net_model.proofs.KindsStand.{kinds_may_stand}
 use Rattle.net_cells.specs.Numbered.{flow_at, packet, packet_of, discipline_of}
 use Rattle.net_cells.proofs.Stored.{flow_kept}
-use Rattle.net_edits.specs.Refusals.{Refusal, Or, bad_value, and_then, only_if}
+use Rattle.net_edits.specs.Refusals.{Or, bad_value, and_then, only_if}
 use Rattle.net_edits.specs.Lookups.{flow_number, server_numbers}
 use Rattle.net_edits.specs.Values.{whole_that, is_length, entry_queues, may_be_path, is_in_quantum, fits_along, place_fits, quanta_fit}
-use Rattle.net_edits.specs.Changed.{put_flow, flow_changed, at_flow, with_arrival, with_packet, with_path, dropped, with_more}
-use Rattle.net_edits.specs.Edited.{MadeCurve, Edited, fitting, as_arrival, is_positive, is_negative, stair_of, stair_edited, packet_edited, route_edited, drop_edited}
+use Rattle.net_edits.specs.Changed.{put_flow, flow_changed, at_flow, with_arrival, with_packet, with_path, dropped}
+use Rattle.net_edits.specs.Edited.{MadeCurve, fitting, as_arrival, is_positive, is_negative, stair_of, stair_edited, packet_edited, route_edited, drop_edited}
 use Rattle.net_edits.proofs.Found.{numbers_long}
 use Rattle.net_edits.proofs.Signs.{positive_of, nonneg_of}
 use Rattle.net_edits.proofs.Steps.{then_ok, passed, stopped}
 use Rattle.net_edits.proofs.Fitting.{in_quantum, fits_at, accepted_fits}
 use Rattle.net_edits.proofs.Flows.{flow_stands, changed_fits}
-use Rattle.net_edits.proofs.Pathways.{IsWay, way_of, hops_of}
+use Rattle.net_edits.proofs.Pathways.{IsWay, hops_of}
 
 -- ---- the flow that is found
 pub place_of : (net : Net) (i : ℕ) (f : NetFlow) → flow_at net i ≡ Some f → slice_get net.flows i ≡ Some (Some f)

@@ -1,5 +1,5 @@
 -- The numbers that names have.
-use Rattle.std.proofs.Common.{◌≡◌, ◌≢◌, ℕ, suc, ◌<◌, List, [], ◌∷◌, ◌++◌, length, get_or, Option, Some, None, Bool, true, false, refl, sym, ap, ap₂, ◌∙◌, subst, arith}
+use Rattle.std.proofs.Common.{◌≡◌, ◌≢◌, ℕ, suc, ◌<◌, List, [], ◌∷◌, ◌++◌, length, get_or, Option, Some, None, Bool, true, false, refl, sym, ap, ap₂, ◌∙◌, subst}
 use Rattle.std.specs.Prelude.{Ok, Err, AllPairs, slice_get, is_none, not, string_bytes}
 use Rattle.std.specs.List.{position}
 use Rattle.std.proofs.lemmas.Option.{slice_get_within, get_or_from_slice_get, slice_get-get_or}
@@ -7,7 +7,7 @@ use Rattle.net_model.specs.declared.edit.PathEntry.{PathEntry}
 use Rattle.net_model.specs.Networks.{Net, NetServer, NetFlow}
 use Rattle.net_model.specs.Names.{DifferInName, IsServerNamed, IsFlowNamed, FindsServer, FindsFlow}
 use Rattle.net_edits.specs.declared.fault.EditFault.{EditFault}
-use Rattle.net_edits.specs.Refusals.{Or, Refusal, unknown_name, and_then}
+use Rattle.net_edits.specs.Refusals.{Or, unknown_name, and_then}
 use Rattle.net_edits.specs.Lookups.{is_server_named, is_flow_named, number_of, server_number, flow_number, before, server_numbers, is_free}
 use Rattle.net_edits.specs.Replies.{Refuses}
 use Rattle.net_edits.proofs.Texts.{same_to, not_same, differ_of}

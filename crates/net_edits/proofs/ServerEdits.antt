@@ -1,5 +1,5 @@
 -- What edits of one server give.
-use Rattle.std.proofs.Common.{◌≡◌, ℕ, List, Option, Some, None, Bool, true, false, refl, sym, ap, ◌∙◌, subst}
+use Rattle.std.proofs.Common.{◌≡◌, ℕ, List, Option, Some, None, Bool, true, false, refl, sym, ap, ◌∙◌}
 use Rattle.std.specs.Prelude.{Result, Ok, Err, slice_get, ℤ}
 use Rattle.rational.specs.Rational.{ℚ, ◌≤ℚ◌, ◌<ℚ◌}
 use Rattle.min_plus.specs.Functions.{zero_q}
@@ -14,7 +14,7 @@ use Rattle.net_edits.specs.Values.{whole_that, is_length, is_quantum_of, quanta_
 use Rattle.net_edits.specs.Changed.{put_server, server_changed, at_server, with_rate, with_latency, with_link, with_quantum}
 use Rattle.net_edits.specs.Edited.{MadeCurve, Edited, fitting, quantum_edited}
 use Rattle.net_edits.specs.Replies.{Refuses, Tells, IsReply}
-use Rattle.net_edits.proofs.Steps.{then_ok, then_refused, passed, refused_reply}
+use Rattle.net_edits.proofs.Steps.{then_ok, passed}
 use Rattle.net_edits.proofs.Fitting.{accepted_fits}
 use Rattle.net_edits.proofs.Standing.{same_discipline, quanta_stand}
 use Rattle.net_edits.proofs.Making.{rate_server, latency_server, link_server, quantum_server, as_many}

@@ -1,5 +1,5 @@
 -- Networks with one server changed still may stand.
-use Rattle.std.proofs.Common.{◌≡◌, ◌≢◌, ℕ, ◌<◌, ◌≤◌, ◌==◌, List, length, Option, Some, None, Bool, true, false, refl, sym, ap, ◌∙◌, subst, inl, inr, arith}
+use Rattle.std.proofs.Common.{◌≡◌, ◌≢◌, ℕ, ◌<◌, List, Option, Some, true, sym, ap, ◌∙◌, subst, inl, inr, arith}
 use Rattle.std.specs.Prelude.{Contains, slice_get, slice_set, slice_index}
 use Rattle.std.proofs.lemmas.List.{length-set}
 use Rattle.std.proofs.lemmas.List.Elements.{All-set, All-contains}
@@ -11,7 +11,7 @@ use Rattle.net_model.specs.Accepted.{IsServer, IsInQuantum, IsHop, IsFlow, IsAcc
 use Rattle.net_model.proofs.Short.{all_of}
 use Rattle.net_cells.specs.Numbered.{discipline_of}
 use Rattle.net_edits.specs.Changed.{put_server}
-use Rattle.net_edits.specs.Values.{is_in_quantum, fits_along, quanta_fit}
+use Rattle.net_edits.specs.Values.{is_in_quantum, quanta_fit}
 use Rattle.net_edits.proofs.Places.{get-set_same, get-set_other, pairs-set}
 use Rattle.net_edits.proofs.Fitting.{in_quantum, taken_at, fits_at, flow_of_fitting}
 

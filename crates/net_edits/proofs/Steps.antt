@@ -1,11 +1,11 @@
 -- Steps of which the first refusal counts, and what is answered after them.
-use Rattle.std.proofs.Common.{◌≡◌, List, ◌++◌, Option, Some, None, Bool, true, false, refl, ap}
+use Rattle.std.proofs.Common.{◌≡◌, Bool, true, false, ap}
 use Rattle.std.specs.Prelude.{Ok, Err}
 use Rattle.net_model.specs.Networks.{Net}
 use Rattle.net_edits.specs.declared.fault.EditFault.{EditFault}
 use Rattle.net_edits.specs.declared.fault.EditFault.TheVariants.{UnknownName, NameTaken, BadValue, LimitReached, Cycle, TooMany, TooWide, NothingToUndo, NoMemory}
 use Rattle.net_edits.specs.Refusals.{Or, bad_value, and_then, only_if}
-use Rattle.net_edits.specs.Edited.{MadeCurve, Edited}
+use Rattle.net_edits.specs.Edited.{Edited}
 use Rattle.net_edits.specs.Replies.{Refuses, IsMadeWithin, MakesNone, IsReply}
 
 module _ {X Y : Type 0} where

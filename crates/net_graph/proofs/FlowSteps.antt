@@ -1,16 +1,15 @@
 -- The steps of all flows, one flow after the other.
-use Rattle.std.proofs.Common.{◌≡◌, ℕ, ◌<◌, ◌+◌, List, [], ◌∷◌, ◌++◌, length, get_or, take, replicate, sym, ◌∙◌, ap, subst, arith, inl, inr, Option, Some, None}
+use Rattle.std.proofs.Common.{◌≡◌, ℕ, ◌<◌, ◌+◌, List, [], ◌∷◌, ◌++◌, length, get_or, take, sym, ◌∙◌, ap, subst, arith, inl, inr, Option, Some, None}
 use Rattle.std.specs.Prelude.{Contains, All}
 use Rattle.std.specs.Option.{option_map}
-use Rattle.std.proofs.lemmas.Bool.{cases_lt}
-use Rattle.std.proofs.lemmas.List.{map_more, length-map, get_or-map, get_or-replicate, get_or_past, length-replicate, get_or_default}
+use Rattle.std.proofs.lemmas.List.{map_more, length-map, get_or-map, get_or_default}
 use Rattle.std.proofs.lemmas.Option.{slice_get_within}
 use Rattle.net_model.specs.declared.flow.Flow.{Flow}
 use Rattle.net_model.specs.Networks.{Net, NetFlow}
 use Rattle.net_model.specs.Accepted.{IsAccepted}
 use Rattle.net_model.specs.Views.{flow_of, flows_of}
 use Rattle.net_model.specs.Walks.{IsStep, IsNextOn}
-use Rattle.net_graph.specs.Waits.{list_at, AreBefore, AddsSteps}
+use Rattle.net_graph.specs.Waits.{AreBefore, AddsSteps}
 use Rattle.net_graph.proofs.Members.{kept_left, kept_last, pushed}
 
 pub path_in_range : (net : Net) (f : NetFlow) → IsAccepted net → Contains net.flows (Some f) → All (λ s. s < length net.servers) f.path
@@ -27,23 +26,6 @@ stored_flow net fs i f same h is =
     let count = length-map fs (option_map flow_of) in
     subst P same
     (i, omega (arith, h, count), get_or-map (option_map flow_of) fs i (Some f) (Some (flow_of f)) h ∙ ap (option_map flow_of) (sym is))
-
-pub no_flow_yet : (n : ℕ) (lists : List (List ℕ)) → lists ≡ replicate n [] → AreBefore [] n lists
-no_flow_yet n lists is = record {
-  count = ap length is ∙ length-replicate n [];
-  only = λ a b c. absurd (none a b c);
-  all = λ a b s. absurd (omega (arith, s.live.1));
-}
-  where
-    blank : (b : ℕ) → list_at lists b ≡ []
-    blank b =
-        elim (cases_lt b n) [
-          | inl h ↦ ap (λ ls. list_at ls b) is ∙ get_or-replicate n b [] [] h
-          | inr h ↦ let count = ap length is ∙ length-replicate n [] in get_or_past lists b [] (omega (arith, h, count))
-        ]
-
-    none : (a b : ℕ) → ¬ (Contains (list_at lists b) a)
-    none a b c = let P : List ℕ → Type 0 = λ xs. Contains xs a in let d = subst P (blank b) c in omega (arith, d.1)
 
 more : (gs : List (Option NetFlow)) (g : Option NetFlow) (a b : ℕ) → IsNextOn gs a b → IsNextOn (gs ++ g ∷ []) a b
 more gs g a b s = record { flow = s.flow; live = kept_left gs (g ∷ []) (Some s.flow) s.live; step = s.step }

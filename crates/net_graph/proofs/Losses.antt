@@ -1,5 +1,5 @@
 -- Lists lose placed servers at their end, and which servers then wait for a free one.
-use Rattle.std.proofs.Common.{◌≡◌, ℕ, ◌<◌, ◌+◌, ◌-◌, List, [], ◌∷◌, ◌++◌, length, get_or, set, refl, sym, ◌∙◌, ap, subst, arith, ◌⊎◌, inl, inr, Bool, true, false, Option, Some, None}
+use Rattle.std.proofs.Common.{◌≡◌, ℕ, ◌<◌, ◌+◌, ◌-◌, List, [], ◌∷◌, ◌++◌, length, get_or, set, sym, ◌∙◌, ap, subst, arith, ◌⊎◌, inl, inr, Bool, true, false, Option, Some, None}
 use Rattle.std.specs.Prelude.{Contains, slice_get}
 use Rattle.std.specs.Option.{option_to_list}
 use Rattle.std.specs.declared.vec.Vec.{Vec}
@@ -22,9 +22,6 @@ not_both placed s p f =
     ]
 
 -- ---- one list
-pub loses_none : (placed : List Bool) (list : List ℕ) → LosesPlaced placed list list
-loses_none placed list = record { only = λ a c. c; lost = λ a c. inl c }
-
 pub loses_twice : (placed : List Bool) (old now next : List ℕ) → LosesPlaced placed old now → LosesPlaced placed now next → LosesPlaced placed old next
 loses_twice placed old now next f g = record {
   only = λ a c. f.only a (g.only a c);
@@ -56,9 +53,6 @@ loses_last placed old now next (Some x) last is found p l = loses_twice placed o
         elim (pushed next x a (subst P is m)) [ inl n ↦ inl n | inr e ↦ inr (subst Q (sym (e ∙ same)) p) ]
 
 -- ---- all lists
-pub all_lose_none : (placed : List Bool) (lists : List (List ℕ)) → AllLosePlaced placed lists lists
-all_lose_none placed lists = record { count = refl; each = λ s. loses_none placed (list_at lists s) }
-
 pub set_loses : {Z : Type 0} (placed : List Bool) (old : List (List ℕ)) (now : List (Vec ℕ Z)) (i : ℕ) (v w : Vec ℕ Z) → i < length now
     → v ≡ get_or now i v → AllLosePlaced placed old (lists_of now) → LosesPlaced placed v.items w.items
     → AllLosePlaced placed old (lists_of (set now i w))

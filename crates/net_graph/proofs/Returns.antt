@@ -16,12 +16,6 @@ first_in_range net a b kept n =
     let P : ℕ → Type 0 = λ s. s < length net.servers in
     subst P n.step.from (slice_get_within net.servers (get_or n.flow.path n.step.hop 0) hop.server hop.is)
 
-pub second_in_range : (net : Net) (a b : ℕ) → IsAccepted net → IsNext net a b → b < length net.servers
-second_in_range net a b kept n =
-    let hop = (kept.flows n.flow n.live).hops (suc n.step.hop) n.step.on_path in
-    let P : ℕ → Type 0 = λ s. s < length net.servers in
-    subst P n.step.to (slice_get_within net.servers (get_or n.flow.path (suc n.step.hop) 0) hop.server hop.is)
-
 -- where a walk begins, and where it goes first
 first_step : (R : ℕ → ℕ → Type 0) (x : ℕ) (ys : List ℕ) (z : ℕ) → Chain R (x ∷ (ys ++ z ∷ [])) → (y : ℕ) × R x y
 first_step R x [] z c = (z, c.0)

@@ -1,5 +1,5 @@
 -- No packet takes longer from end to end than its path's service and its hops' delays promise.
-use Rattle.std.specs.Prelude.{Some, ◌≡◌, ◌<◌, ℕ, pos, ◌==◌, true, List, [], ◌∷◌, ◌++◌, length, All}
+use Rattle.std.specs.Prelude.{Some, ◌≡◌, ◌<◌, ℕ, pos, ◌==◌, List, [], ◌∷◌, ◌++◌, length, All}
 use Rattle.std.proofs.Common.{arith, sym, ap, ◌∙◌, refl, inl, inr, subst}
 use Rattle.std.proofs.lemmas.Bool.{eqb-true, eq-eqb}
 use Rattle.rational.specs.Rational.{ℚ, int, ◌+ℚ◌, ◌-ℚ◌, ◌≤ℚ◌, ◌<ℚ◌}
@@ -13,7 +13,7 @@ use Rattle.min_plus.specs.Deviations.{IsHorizontalDeviation}
 use Rattle.run_laws.specs.declared.steps.Step.{Step}
 use Rattle.run_laws.specs.declared.steps.Step.TheVariants.{Enter, Reach, Work, Leave, Visit}
 use Rattle.run_laws.specs.Runs.{SpecRun}
-use Rattle.run_laws.specs.Cards.{Card, Class, of_flow, ServerStep, Arrives, Works, Leaves, Visits}
+use Rattle.run_laws.specs.Cards.{of_flow, ServerStep, Arrives}
 use Rattle.run_laws.specs.Servers.{start}
 use Rattle.run_laws.specs.Next.{next, after}
 use Rattle.run_laws.specs.Allows.{AllAllowed}
@@ -26,7 +26,7 @@ use Rattle.run_laws.specs.Bounds.{IsFlowBounded}
 use Rattle.run_laws.specs.Views.{Entry, card_of, view_from, view}
 use Rattle.run_laws.specs.Lawful.{Due, RunState, next_run, AllAllowedInRun, after_run, run_start, IsLawful}
 use Rattle.run_laws.proofs.Counts.{arrived_in_is, upto_arrived, departed_rises}
-use Rattle.run_laws.proofs.Delay.{delay_core, gone_most, kept_most, kept_first, kept_rest, none_above_infinity}
+use Rattle.run_laws.proofs.Delay.{delay_core, gone_most, kept_most, none_above_infinity}
 use Rattle.min_plus.proofs.Deviations.{Within, within_deviation, deviation_nonneg}
 use Rattle.run_laws.proofs.Entries.{entry_last, one_more}
 use Rattle.run_laws.proofs.OneHop.{delivered_most}

@@ -31,7 +31,3 @@ seed_read word bytes n r same numeral is r_is =
     let there : is_numeral word ≡ true = subst (λ w. is_numeral w ≡ true) same numeral in
     r_is ∙ ap in_64_bits is ∙ capped_by (digits_value 10 bytes) _ refl
     ∙ ap (λ w. in_64_bits (digits_value 10 w)) same ∙ rw there refl
-
-pub no_seed : (word bytes : List ℕ) → bytes ≡ word → is_numeral bytes ≡ false → None ≡ seed_of word
-no_seed word bytes same numeral =
-    let there : is_numeral word ≡ false = subst (λ w. is_numeral w ≡ false) same numeral in rw there refl

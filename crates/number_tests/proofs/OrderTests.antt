@@ -1,14 +1,12 @@
 -- What the answers of `==`, `<`, `<=`, `>`, `>=`, `min` and `max` of two fractions mean.
-use Rattle.std.specs.Prelude.{◌≡◌, ◌≢◌, Bool, true, false, cond}
-use Rattle.std.proofs.Common.{sym, ap, ◌∙◌, subst, refl, Ordering, Less, Equal, Greater}
+use Rattle.std.specs.Prelude.{◌≡◌, ◌≢◌, true, false}
+use Rattle.std.proofs.Common.{sym, ap, ◌∙◌, subst, Ordering, Less, Equal, Greater}
 use mathlib.Core.Bool.{true≢false}
-use Rattle.std.specs.Ordering.{MatchOrdering, is_eq, is_lt, is_le, is_gt, is_ge, ord_max, ord_min}
+use Rattle.std.specs.Ordering.{MatchOrdering, is_eq, is_lt, is_le, is_gt, is_ge}
 use Rattle.rational.specs.Rational.{ℚ, ◌≤ℚ◌, ◌<ℚ◌}
 use Rattle.rational.specs.Ratio.{cmp_q}
-use Rattle.rational.specs.MinMax.{min_q, max_q}
 use Rattle.rational.proofs.Laws.{le_refl, le_of_lt}
 use Rattle.rational.proofs.Comparison.{cmp_ranks, cmp_self}
-use Rattle.rational.proofs.MinMax.{min_q_left, min_q_right, max_q_left, max_q_right}
 use Rattle.fraction128.specs.Order.{same_q, same_out}
 
 -- the order of two, as one of three facts
@@ -90,16 +88,3 @@ other_out x y e h = true≢false (sym (ap is_eq (cmp_self x)) ∙ ap (same_q x) 
 pub ruleset order_tests = (less_out, not_less_out, at_most_out, not_at_most_out, greater_out, not_greater_out, at_least_out, not_at_least_out, same_out, other_out)
 
 -- ---- `min` and `max`
-pub ord_max_is : (x y : ℚ) → ord_max cmp_q x y ≡ max_q x y
-ord_max_is x y = go (is_lt (cmp_q y x)) refl
-  where
-    go : (b : Bool) → is_lt (cmp_q y x) ≡ b → cond b x y ≡ max_q x y
-    go true e = sym (max_q_left x y (less_out y x e))
-    go false e = sym (max_q_right x y (not_less_out y x e))
-
-pub ord_min_is : (x y : ℚ) → ord_min cmp_q x y ≡ min_q x y
-ord_min_is x y = go (is_lt (cmp_q y x)) refl
-  where
-    go : (b : Bool) → is_lt (cmp_q y x) ≡ b → cond b y x ≡ min_q x y
-    go true e = sym (min_q_right x y (less_out y x e))
-    go false e = sym (min_q_left x y (not_less_out y x e))

@@ -1,8 +1,8 @@
 -- How the known bytes of a reader and of a writer go on over several calls.
-use Rattle.std.proofs.Common.{◌≡◌, ◌<◌, ◌-◌, ℕ, List, [], ◌++◌, length, take, drop, Option, Some, None, IfSome, refl, sym, ◌∙◌, append_assoc, arith, length-append}
+use Rattle.std.proofs.Common.{◌≡◌, ◌-◌, ℕ, List, ◌++◌, length, take, drop, Option, Some, None, refl, ◌∙◌, append_assoc, arith, length-append}
 use Rattle.std.proofs.lemmas.Grind.{common_steps}
 use Rattle.std.proofs.lemmas.List.{take_rest}
-use Rattle.std.specs.Io.KnownBytes.{Appends, Keeps, Consumes, IsAtEnd}
+use Rattle.std.specs.Io.KnownBytes.{Appends, Keeps}
 use Rattle.outside.specs.Written.{AppendsFront}
 
 -- Of `bytes` those before `rest` were written.
@@ -10,10 +10,6 @@ pub record HasWritten (old now : Option (List ℕ)) (bytes rest : List ℕ) : Ty
   pub done : List ℕ
   pub whole : done ++ rest ≡ bytes
   pub written : Appends old now done
-
-appends-nil : (old : Option (List ℕ)) → Appends old old []
-appends-nil None = tt
-appends-nil (Some xs) = grind (arith, common_steps)
 
 appends-appends : (old now new : Option (List ℕ)) (xs ys : List ℕ) → Appends old now xs → Appends now new ys
     → Appends old new (xs ++ ys)
@@ -36,9 +32,6 @@ front-of : (old new : Option (List ℕ)) (done rest : List ℕ) → Appends old 
 front-of None new done rest a = tt
 front-of (Some os) None done rest a = elim a [ ]
 front-of (Some os) (Some ns) done rest a = (length done, (omega (arith, length-append done rest)), rw a (grind (arith, common_steps)))
-
-pub has_written-none : (old : Option (List ℕ)) (bytes : List ℕ) → HasWritten old old bytes bytes
-has_written-none old bytes = record { done = []; whole = refl; written = appends-nil old }
 
 pub has_written-more : (old now new : Option (List ℕ)) (bytes rest : List ℕ) (count : ℕ)
     → HasWritten old now bytes rest → Appends now new (take count rest) → HasWritten old new bytes (drop count rest)
@@ -65,28 +58,3 @@ pub appends_front-more : (old now new : Option (List ℕ)) (bytes rest : List �
     → HasWritten old now bytes rest → Appends now new (take count rest) → AppendsFront old new bytes
 appends_front-more old now new bytes rest count before more =
     appends_front-has_written old new new bytes (drop count rest) (has_written-more old now new bytes rest count before more) (keeps-same new)
-
-pub appends-has_written : (old now : Option (List ℕ)) (bytes rest : List ℕ) → HasWritten old now bytes rest → rest ≡ []
-    → Appends old now bytes
-appends-has_written old now bytes rest before empty =
-    let whole : before.done ≡ bytes = grind (arith, common_steps, before.whole, empty) in
-    rw (← whole) before.written
-
-pub consumes-consumes : (old now new : Option (List ℕ)) (xs ys : List ℕ) → Consumes old now xs → Consumes now new ys
-    → Consumes old new (xs ++ ys)
-consumes-consumes None now new xs ys a b = tt
-consumes-consumes (Some os) None new xs ys a b = elim a [ ]
-consumes-consumes (Some os) (Some ns) None xs ys a b = elim b [ ]
-consumes-consumes (Some os) (Some ns) (Some ms) xs ys a b = rw (a, b) (sym (append_assoc xs ys ms))
-
-pub consumes-end : (old now : Option (List ℕ)) (xs : List ℕ) → Consumes old now xs → IsAtEnd now
-    → IfSome old (λ bytes. xs ≡ bytes)
-consumes-end None now xs a end = tt
-consumes-end (Some os) None xs a end = elim a [ ]
-consumes-end (Some os) (Some ns) xs a end = rw (a, end) (grind (arith, common_steps))
-
-pub consumes-length : (old now : Option (List ℕ)) (xs : List ℕ) (most : ℕ) → Consumes old now xs → most < length xs
-    → IfSome old (λ bytes. most < length bytes)
-consumes-length None now xs most a more = tt
-consumes-length (Some os) None xs most a more = elim a [ ]
-consumes-length (Some os) (Some ns) xs most a more = rw a (omega (arith, length-append xs ns))

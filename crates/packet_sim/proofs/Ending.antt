@@ -1,6 +1,6 @@
 -- The first of all that is due, and the end.
-use Rattle.std.specs.Prelude.{Some, None, ◌≡◌, ℕ, ◌<◌, ◌^◌, List, length}
-use Rattle.std.proofs.Common.{sym, ◌∙◌, subst, arith}
+use Rattle.std.specs.Prelude.{Some, None, ℕ, List, length}
+use Rattle.std.proofs.Common.{subst}
 use Rattle.run_laws.specs.declared.steps.Step.{Step}
 use Rattle.run_laws.specs.Lawful.{run_start}
 use Rattle.index_links.specs.Chains.{Chains}
@@ -13,22 +13,6 @@ use Rattle.sim_states.specs.Running.{IsFirstCandidate}
 use Rattle.sim_states.proofs.Firsts.{none_is_due}
 use Rattle.sim_states.proofs.SoFar.{follows_whole}
 use Rattle.packet_sim.specs.Simulating.{IsSimulating, IsFirstDue}
-
--- what the look at all that is due asks for
-pub record MayLook (stations : List Station) (links : Chains) (arrivals : List Arrival) : Type 0 where
-  pub lists : length links.lists ≡ length stations
-  pub long : links.nodes ≡ length arrivals
-  pub few : length stations < 2 ^ 32
-
-pub may_look : (S : Setup) (stations : List Station) (links : Chains) (arrivals : List Arrival) (n : ℕ) (xs : List Step)
-    → IsSimulating S stations links arrivals n xs → MayLook stations links arrivals
-may_look S stations links arrivals n xs h =
-    let r = h.running in
-    record {
-      lists = r.on_links.lists ∙ sym r.servers.many;
-      long = r.on_links.nodes ∙ sym r.on_links.long;
-      few = let a = r.servers.many in let b = h.few_servers in omega (arith, a, b);
-    }
 
 pub comes_next : (S : Setup) (stations : List Station) (links : Chains) (arrivals : List Arrival) (n : ℕ) (xs : List Step) (d : Due)
     → IsSimulating S stations links arrivals n xs → IsFirstCandidate S stations links arrivals n (length stations) (Some d)

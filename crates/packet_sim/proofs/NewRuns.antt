@@ -16,7 +16,7 @@ use Rattle.net_model.specs.Accepted.{IsAccepted}
 use Rattle.net_model.specs.NetRoutes.{server_for}
 use Rattle.net_model.specs.Traces.{SpecTrace, IsTrace, IsStall}
 use Rattle.stated_runs.specs.Setups as setups
-use Rattle.stated_runs.specs.Setups.{Setup, StallTimes, IsSetup, IsGateFor, IsStalled, opening_of, rate_of}
+use Rattle.stated_runs.specs.Setups.{Setup, StallTimes, IsGateFor, IsStalled, opening_of, rate_of}
 use Rattle.stated_runs.specs.FromTraces.{gate_of, stalls_at, openings_from, entering, setup_of, IsTraceOf}
 use Rattle.stated_runs.specs.TimeGrids.{AreStallTimes, RunFits}
 use Rattle.stated_runs.proofs.MadeSetups.{traces_make_setups}
@@ -24,7 +24,7 @@ use Rattle.sim_servers.specs.declared.opening.Opening.{Opening}
 use Rattle.sim_servers.specs.declared.opening.Span.{Span}
 use Rattle.sim_servers.specs.declared.station.Next.TheVariants.{Nothing}
 use Rattle.sim_servers.specs.declared.station.Station.{Station}
-use Rattle.sim_servers.specs.Openings.{stall_times, opening_for, IsInOrder, IsOver}
+use Rattle.sim_servers.specs.Openings.{stall_times, opening_for}
 use Rattle.sim_servers.specs.Stations.{IsStation, IsOpeningOf, IsNextOf}
 use Rattle.sim_states.specs.declared.arrival.Arrival.{Arrival}
 use Rattle.sim_states.specs.Places.{ArePlaced}

@@ -1,9 +1,7 @@
 -- Stalls in another order are the same stalls.
 use Rattle.std.specs.Prelude.{◌≡◌, ◌↔◌, ℕ, ◌+◌, ◌<◌, true, false, List, [], ◌∷◌, ◌++◌, length, get_or, map, All, AllPairs}
 use Rattle.std.specs.List.Sorted.{IsPermutation, IsSortedByKey}
-use Rattle.std.specs.declared.cmp.Ordering.{Ordering}
-use Rattle.std.specs.declared.cmp.Ordering.TheVariants.{Less, Equal, Greater}
-use Rattle.std.specs.Ordering.{is_lt, MatchOrdering}
+use Rattle.std.specs.Ordering.{is_lt}
 use Rattle.std.proofs.Common.{refl, sym, ap, ◌∙◌, subst, arith, inl, inr, take}
 use Rattle.std.proofs.lemmas.Bool.{cases_eq, eq-eqb, ne_eqb}
 use Rattle.std.proofs.lemmas.List.{length-map, get_or-map, take_more}
@@ -13,7 +11,6 @@ use Rattle.rational.specs.Rational.{ℚ, ◌≤ℚ◌, ◌<ℚ◌}
 use Rattle.rational.specs.Ratio.{cmp_q}
 use Rattle.rational.proofs.Compared.{not_less}
 use Rattle.rational.proofs.Comparison.{cmp_ranks}
-use Rattle.rational.proofs.Laws.{le_refl, le_of_lt}
 use Rattle.fraction128.specs.Order.{cmp_q_total}
 use Rattle.net_model.specs.declared.trace.Stall.{Stall}
 use Rattle.stated_runs.specs.Setups.{StallTimes, IsStalled}

@@ -13,7 +13,7 @@ use Rattle.run_laws.specs.Servers.{Discipline, ServerState, done_so_far}
 use Rattle.run_laws.specs.Next.{next}
 use Rattle.run_laws.specs.Allows.{pick}
 use Rattle.run_laws.specs.Routes.{Hop, PassesServer, server_at, route_of}
-use Rattle.run_laws.specs.Views.{Entry, card_of, entry_of}
+use Rattle.run_laws.specs.Views.{card_of, entry_of}
 use Rattle.run_laws.specs.Lawful.{state_at}
 use Rattle.run_laws.proofs.Heads.{pick_is_head}
 use Rattle.queue_sched.specs.Turns.{IsIdle, Starts, Sends}

@@ -19,7 +19,7 @@ use Rattle.queue_sched.specs.InTurn.{IsInTurn, quantum_of, longest}
 use Rattle.queue_sched.proofs.InTurnSteps.{turn_arrives, turn_starts, turn_left, turn_visits}
 use Rattle.queue_sched.specs.DrrStates.{DrrState, round_of, HasRoom, IsInside, WaitsInTurn, joined, arrived, with_deficit, fitting, opened, turned, emptied, left_with, with_waiting}
 use Rattle.queue_sched.specs.Turns.{Sends}
-use Rattle.queue_sched.proofs.WaitingLemmas.{list_same, list_other, FirstCard, first_card, waiting_first, head_first, no_head, none_inside, waits_joined, waits_left}
+use Rattle.queue_sched.proofs.WaitingLemmas.{list_same, waiting_first, head_first, no_head, none_inside, waits_joined, waits_left}
 
 -- ---- cards inside
 inside_either : (cs : List Card) (x c : Card) → IsInside (cs ++ x ∷ []) c → IsInside cs c ⊎ (x ≡ c)

@@ -1,7 +1,7 @@
 -- Infima and suprema of families: that they are one, and how to make them.
 use Rattle.std.specs.Prelude.{◌≡◌, pos, ◌⊎◌}
-use Rattle.std.proofs.Common.{arith, sym, refl, subst, inl, inr}
-use Rattle.rational.specs.Rational.{ℚ, ◌+ℚ◌, ◌-ℚ◌, ◌<ℚ◌, int}
+use Rattle.std.proofs.Common.{arith, sym, subst, inl, inr}
+use Rattle.rational.specs.Rational.{ℚ, ◌+ℚ◌, ◌-ℚ◌, int}
 use Rattle.rational.proofs.Linear.{with1, with2, with3}
 use Rattle.rational.proofs.Laws.{between, antisym}
 use Rattle.rational.specs.Extended.{Ext, ◌≤ₑ◌, ◌<ₑ◌, ◌+ₑ◌, min_ext, max_ext}
@@ -64,20 +64,6 @@ infimum_union {I} {J} F G x y h k = record { below = under; near = close }
       | inr e ↦ let (j, m) = k.near q (subst (λ z. z <ₑ Fin q) e l) in (inr j, m)
     ]
 
--- the usual form: a member below x + e for each positive e
-pub by_margins : {I : Type 0} (F : I → Ext) (x : Ext) → ((i : I) → x ≤ₑ F i)
-    → ((q e : ℚ) → x ≡ Fin q → int (pos 0) <ℚ e → (i : I) × (F i <ₑ Fin (q +ℚ e))) → IsInfimum F x
-by_margins F Inf b f = record { below = b; near = λ y l. absurd l }
-by_margins F (Fin q) b f = record {
-  below = b;
-  near = λ y l. let (i, m) = f q (y -ℚ q) refl (with2 q y (λ c. omega (arith, c.le, c.lt, c.same))) in
-      (i, subst (λ z. F i <ₑ Fin z) (with2 q y (λ c. omega (arith, c.le, c.lt, c.same))) m);
-}
-
-pub margins : {I : Type 0} (F : I → Ext) (q e : ℚ) → IsInfimum F (Fin q) → int (pos 0) <ℚ e
-    → (i : I) × (F i <ₑ Fin (q +ℚ e))
-margins F q e h l = h.near (q +ℚ e) (with2 q e (λ c. omega (arith, c.le, c.lt, c.same)))
-
 -- more members above it do not change it: each member of G is at least some member of F
 pub infimum_le : {I J : Type 0} (F : I → Ext) (G : J → Ext) (x y : Ext) → IsInfimum F x → IsInfimum G y
     → ((j : J) → (i : I) × (F i ≤ₑ G j)) → x ≤ₑ y
@@ -101,21 +87,6 @@ infimum_sum {I} {J} F G x y h k = record {
         let (i, u) = f m p in
         let (j, v) = g (q -ℚ m) (with3 b q m (λ c. omega (arith, c.le, c.lt, c.same))) in
         ((i, j), subst (λ z. F i +ₑ G j <ₑ Fin z) (antisym (with2 q m (λ c. omega (arith, c.le, c.lt, c.same)))) (add_lt_lt_ext (F i) (Fin m) (G j) (Fin (q -ℚ m)) u v))
-
--- the infimum of the infima of families is that of all their members
-pub infimum_nested : {I : Type 0} {J : I → Type 0} (F : (i : I) → J i → Ext) (x : I → Ext) (y : Ext)
-    → ((i : I) → IsInfimum (F i) (x i)) → IsInfimum x y → IsInfimum {I = (i : I) × J i} (λ p. F p.0 p.1) y
-infimum_nested F x y each h = record {
-  below = λ p. le_ext_trans y (x p.0) (F p.0 p.1) (h.below p.0) ((each p.0).below p.1);
-  near = λ q l. let (i, u) = h.near q l in let (j, v) = (each i).near q u in ((i, j), v);
-}
-
-pub infimum_unnested : {I : Type 0} {J : I → Type 0} (F : (i : I) → J i → Ext) (x : I → Ext) (y : Ext)
-    → ((i : I) → IsInfimum (F i) (x i)) → IsInfimum {I = (i : I) × J i} (λ p. F p.0 p.1) y → IsInfimum x y
-infimum_unnested F x y each h = record {
-  below = λ i. greatest (F i) (x i) y (each i) (λ j. h.below (i, j));
-  near = λ q l. let (p, u) = h.near q l in (p.0, le_lt_ext (x p.0) (F p.0 p.1) (Fin q) ((each p.0).below p.1) u);
-}
 
 -- ---- suprema
 pub smallest : {I : Type 0} (F : I → Ext) (x y : Ext) → IsSupremum F x → ((i : I) → F i ≤ₑ y) → x ≤ₑ y
@@ -168,28 +139,6 @@ supremum_union {I} {J} F G x y h k = record { above = over; near = close }
 pub infinite_member : {I : Type 0} (F : I → Ext) (i : I) → F i ≡ Inf → IsSupremum F Inf
 infinite_member F i e = record { above = λ j. le_inf (F j); near = λ y l. (i, subst (λ z. Fin y <ₑ z) (sym e) tt) }
 
--- a family without members has none
-pub supremum_some : {I : Type 0} (F : I → Ext) (x : Ext) → IsSupremum F x → I
-supremum_some F x h = let (y, l) = some_below x in (h.near y l).0
-  where
-    some_below : (x : Ext) → (y : ℚ) × (Fin y <ₑ x)
-    some_below Inf = (int (pos 0), tt)
-    some_below (Fin x) = (x -ℚ int (pos 1), with1 x (λ c. omega (arith, c.le, c.lt, c.same)))
-
--- the usual form: a member above x - e for each positive e, and above each fraction where x is infinite
-pub supremum_by_margins : {I : Type 0} (F : I → Ext) (x : Ext) → ((i : I) → F i ≤ₑ x)
-    → ((q e : ℚ) → x ≡ Fin q → int (pos 0) <ℚ e → (i : I) × (Fin (q -ℚ e) <ₑ F i)) → (x ≡ Inf → (y : ℚ) → (i : I) × (Fin y <ₑ F i)) → IsSupremum F x
-supremum_by_margins F Inf b f g = record { above = b; near = λ y l. g refl y }
-supremum_by_margins F (Fin q) b f g = record {
-  above = b;
-  near = λ y l. let (i, m) = f q (q -ℚ y) refl (with2 q y (λ c. omega (arith, c.le, c.lt, c.same))) in
-      (i, subst (λ z. Fin z <ₑ F i) (with2 q y (λ c. omega (arith, c.le, c.lt, c.same))) m);
-}
-
-pub supremum_margins : {I : Type 0} (F : I → Ext) (q e : ℚ) → IsSupremum F (Fin q) → int (pos 0) <ℚ e
-    → (i : I) × (Fin (q -ℚ e) <ₑ F i)
-supremum_margins F q e h l = h.near (q -ℚ e) (with2 q e (λ c. omega (arith, c.le, c.lt, c.same)))
-
 -- each member of F is at most some member of G
 pub supremum_le : {I J : Type 0} (F : I → Ext) (G : J → Ext) (x y : Ext) → IsSupremum F x → IsSupremum G y
     → ((i : I) → (j : J) × (F i ≤ₑ G j)) → x ≤ₑ y
@@ -215,20 +164,6 @@ supremum_sum {I} {J} F G x y h k = record {
     parted (Fin a) (Fin b) q l =
         let (m, p, r) = between (q -ℚ b) a (with3 a b q (λ c. omega (arith, c.le, c.lt, c.same))) in
         (m, r, with3 b q m (λ c. omega (arith, c.le, c.lt, c.same)))
-
-pub supremum_nested : {I : Type 0} {J : I → Type 0} (F : (i : I) → J i → Ext) (x : I → Ext) (y : Ext)
-    → ((i : I) → IsSupremum (F i) (x i)) → IsSupremum x y → IsSupremum {I = (i : I) × J i} (λ p. F p.0 p.1) y
-supremum_nested F x y each h = record {
-  above = λ p. le_ext_trans (F p.0 p.1) (x p.0) y ((each p.0).above p.1) (h.above p.0);
-  near = λ q l. let (i, u) = h.near q l in let (j, v) = (each i).near q u in ((i, j), v);
-}
-
-pub supremum_unnested : {I : Type 0} {J : I → Type 0} (F : (i : I) → J i → Ext) (x : I → Ext) (y : Ext)
-    → ((i : I) → IsSupremum (F i) (x i)) → IsSupremum {I = (i : I) × J i} (λ p. F p.0 p.1) y → IsSupremum x y
-supremum_unnested F x y each h = record {
-  above = λ i. smallest (F i) (x i) y (each i) (λ j. h.above (i, j));
-  near = λ q l. let (p, u) = h.near q l in (p.0, lt_le_ext (Fin q) (F p.0 p.1) (x p.0) u ((each p.0).above p.1));
-}
 
 -- ---- the mirror: what is below the members f is above the members c - f
 pub reflected_infimum : {I : Type 0} (f : I → ℚ) (c x : ℚ) → IsSupremum (λ i. Fin (f i)) (Fin x)

@@ -7,8 +7,7 @@ use Rattle.std.specs.Int.{int_div_euclid}
 use Rattle.rational.specs.Rational.{ℚ, frac, neg_ℚ, ◌+ℚ◌, ◌≤ℚ◌, ◌<ℚ◌, int}
 use Rattle.rational.specs.Floor.{floor, ceil}
 use Rattle.rational.proofs.Over.{neg_over}
-use Rattle.rational.proofs.Integers.{int_add, int_neg, int_le_out}
-use Rattle.rational.proofs.Laws.{le_refl, le_trans, le_of_lt}
+use Rattle.rational.proofs.Integers.{int_add, int_neg}
 use Rattle.rational.proofs.Floor.{floor_le, floor_gt, floor_most, floor_below, floor_unique, floor_frac}
 use Rattle.rational.proofs.Linear.{with2, with3}
 
@@ -56,32 +55,7 @@ ceil_unique x z h k =
     let u = floor_unique (neg_ℚ x) (neg_ℤ z) low high in
     omega (arith, ints, u)
 
-pub ceil_mono : (x y : ℚ) → x ≤ℚ y → ceil x ≤ℤ ceil y
-ceil_mono x y h = ceil_least _ _ (le_trans h (ceil_ge y))
-
-pub ceil_int : (z : ℤ) → ceil (int z) ≡ z
-ceil_int z = ceil_unique (int z) z (le_refl (int z)) (with2 (int z) (int z) (λ c. omega (arith, c.le, c.lt, c.same)))
-
-pub ceil_add_int : (x : ℚ) (z : ℤ) → ceil (x +ℚ int z) ≡ ceil x +ℤ z
-ceil_add_int x z =
-    let s = int_add (ceil x) z in
-    let g = ceil_ge x in
-    let l = ceil_lt x in
-    ceil_unique _ _
-    (subst (λ v. x +ℚ int z ≤ℚ v) s (with3 x (int z) (int (ceil x)) (λ c. omega (arith, c.le, c.lt, c.same))))
-    (subst (λ v. v <ℚ (x +ℚ int z) +ℚ int (pos 1)) s (with3 x (int z) (int (ceil x)) (λ c. omega (arith, c.le, c.lt, c.same))))
-
 -- of a quotient of integers
 pub ceil_frac : (a : ℤ) (d : ℕ) → ceil (frac a d) ≡ neg_ℤ (int_div_euclid (neg_ℤ a) (pos (suc d)))
 unfolding ceil
 ceil_frac a d = ap neg_ℤ (ap floor (neg_over a d) ∙ floor_frac (neg_ℤ a) d)
-
--- the floor is at most the ceiling, and at most 1 below it
-pub floor_le_ceil : (x : ℚ) → floor x ≤ℤ ceil x
-floor_le_ceil x = floor_ceil (floor x) (ceil x) x (floor_le x) (ceil_ge x)
-  where
-    floor_ceil : (f c : ℤ) (x : ℚ) → int f ≤ℚ x → x ≤ℚ int c → f ≤ℤ c
-    floor_ceil f c x h k = int_le_out f c (le_trans h k)
-
-pub ceil_le_floor : (x : ℚ) → ceil x ≤ℤ (floor x +ℤ pos 1)
-ceil_le_floor x = ceil_least (floor x +ℤ pos 1) x (le_of_lt (floor_gt x))

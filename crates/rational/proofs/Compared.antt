@@ -4,7 +4,6 @@ use Rattle.std.proofs.Common.{sym, ◌∙◌, subst, refl, inl, inr, Ordering, L
 use Rattle.std.proofs.lemmas.Bool.{true≢false}
 use Rattle.std.specs.Ordering.{MatchOrdering}
 use Rattle.rational.specs.Rational.{ℚ, ◌≤ℚ◌, ◌<ℚ◌, lt_q}
-use Rattle.rational.proofs.Over.{lt_q_out}
 use Rattle.rational.proofs.MinMax.{lt_q_not}
 use Rattle.rational.proofs.Laws.{le_refl, le_of_lt, lt_le_trans, lt_irrefl, le_or_lt, le_of_not_lt}
 
@@ -35,9 +34,6 @@ not_less r {x} {y} h n = go r h n
     go Greater h n = le_of_lt h
 
 -- ---- by a test
-pub less_test : (a b : ℚ) → a <ℚ b → (true ≡ lt_q a b) × (IsTrue true ↔ (a <ℚ b))
-less_test a b h = (sym (lt_q_out a b h), (λ e. h, λ l. refl))
-
 pub not_less_test : (a b : ℚ) → b ≤ℚ a → (false ≡ lt_q a b) × (IsTrue false ↔ (a <ℚ b))
 not_less_test a b h = (sym (lt_q_not a b h), (λ e. absurd (true≢false (sym e)), λ l. absurd (lt_irrefl a (lt_le_trans l h))))
 

@@ -3,11 +3,11 @@ use Rattle.rational.proofs.MinMax.{min_q_le_left, min_q_le_right, min_q_one, min
 use Rattle.rational.proofs.MinMax.{max_q_ge_right, max_q_one, max_q_assoc, max_q_add}
 use Rattle.std.specs.Prelude.{◌≡◌, pos, ◌⊎◌, ◌↔◌}
 use Rattle.std.proofs.Common.{arith, sym, ap, ◌∙◌, refl, subst, inl, inr}
-use Rattle.rational.specs.Rational.{ℚ, ◌+ℚ◌, ◌-ℚ◌, neg_ℚ, int}
-use Rattle.rational.proofs.Linear.{with1, with2, with3, with4}
+use Rattle.rational.specs.Rational.{ℚ, ◌+ℚ◌, ◌-ℚ◌, int}
+use Rattle.rational.proofs.Linear.{with1, with3, with4}
 use Rattle.rational.proofs.Laws.{antisym, le_refl, le_trans, le_or_lt, le_of_lt, lt_irrefl, between, add_comm}
 use Rattle.rational.proofs.Laws.{add_assoc}
-use Rattle.rational.specs.Extended.{Ext, ◌≤ₑ◌, ◌<ₑ◌, ◌+ₑ◌, ◌-ₑ◌, min_ext, max_ext}
+use Rattle.rational.specs.Extended.{Ext, ◌≤ₑ◌, ◌<ₑ◌, ◌+ₑ◌, min_ext, max_ext}
 use Rattle.rational.specs.declared.Extended.TheVariants.{Fin, Inf}
 
 -- ---- the order
@@ -165,11 +165,6 @@ pub add_cancel_ext : (x y : Ext) (c : ℚ) → x +ₑ Fin c ≡ y +ₑ Fin c →
 add_cancel_ext x y c e =
     antisym_ext x y (le_add_cancel_ext x y c (same_le_ext e)) (le_add_cancel_ext y x c (same_le_ext (sym e)))
 
-pub add_lt_ext : (x y : Ext) (c : ℚ) → x <ₑ y → x +ₑ Fin c <ₑ y +ₑ Fin c
-add_lt_ext Inf y c h = absurd h
-add_lt_ext (Fin x) Inf c h = tt
-add_lt_ext (Fin x) (Fin y) c h = with3 x y c (λ o. omega (arith, o.le, o.lt, o.same))
-
 pub add_lt_lt_ext : (x y z w : Ext) → x <ₑ y → z <ₑ w → x +ₑ z <ₑ y +ₑ w
 add_lt_lt_ext Inf y z w h k = absurd h
 add_lt_lt_ext (Fin x) y Inf w h k = absurd k
@@ -184,18 +179,6 @@ finite_sum (Fin x) Inf q e = absurd (same_le_ext e)
 finite_sum Inf y q e = absurd (same_le_ext e)
 
 -- ---- less a fraction
-pub sub_is_add_ext : (x : Ext) (c : ℚ) → x -ₑ c ≡ x +ₑ Fin (neg_ℚ c)
-sub_is_add_ext Inf c = refl
-sub_is_add_ext (Fin x) c = ap Fin (with2 x c (λ o. omega (arith, o.le, o.lt, o.same)))
-
-pub sub_add_ext : (x : Ext) (c : ℚ) → (x -ₑ c) +ₑ Fin c ≡ x
-sub_add_ext Inf c = refl
-sub_add_ext (Fin x) c = ap Fin (with2 x c (λ o. omega (arith, o.le, o.lt, o.same)))
-
-pub add_sub_ext : (x : Ext) (c : ℚ) → (x +ₑ Fin c) -ₑ c ≡ x
-add_sub_ext Inf c = refl
-add_sub_ext (Fin x) c = ap Fin (with2 x c (λ o. omega (arith, o.le, o.lt, o.same)))
-
 -- ---- the lesser of two
 pub min_left : (x y : Ext) → min_ext x y ≤ₑ x
 min_left Inf y = tt
@@ -237,10 +220,6 @@ min_ext_of_le x y h = antisym_ext _ _ (min_left x y) (min_greatest x y x (le_ext
 pub min_ext_mono : (x y z w : Ext) → x ≤ₑ z → y ≤ₑ w → min_ext x y ≤ₑ min_ext z w
 min_ext_mono x y z w h k =
     min_greatest z w (min_ext x y) (le_ext_trans _ x z (min_left x y) h) (le_ext_trans _ y w (min_right x y) k)
-
-pub lt_min_ext : (x y z : Ext) → z <ₑ x → z <ₑ y → z <ₑ min_ext x y
-lt_min_ext x y z h k =
-    elim (min_one x y) [ inl e ↦ subst (λ v. z <ₑ v) (sym e) h | inr e ↦ subst (λ v. z <ₑ v) (sym e) k ]
 
 -- a term comes out
 pub min_add_ext : (x y z : Ext) → min_ext x y +ₑ z ≡ min_ext (x +ₑ z) (y +ₑ z)
@@ -294,10 +273,6 @@ max_ext_of_le x y h = antisym_ext _ _ (max_least x y y h (le_ext_refl y)) (max_r
 pub max_ext_mono : (x y z w : Ext) → x ≤ₑ z → y ≤ₑ w → max_ext x y ≤ₑ max_ext z w
 max_ext_mono x y z w h k =
     max_least x y (max_ext z w) (le_ext_trans x z _ h (max_left z w)) (le_ext_trans y w _ k (max_right z w))
-
-pub max_lt_ext : (x y z : Ext) → x <ₑ z → y <ₑ z → max_ext x y <ₑ z
-max_lt_ext x y z h k =
-    elim (max_one x y) [ inl e ↦ subst (λ v. v <ₑ z) (sym e) h | inr e ↦ subst (λ v. v <ₑ z) (sym e) k ]
 
 pub max_add_ext : (x y z : Ext) → max_ext x y +ₑ z ≡ max_ext (x +ₑ z) (y +ₑ z)
 max_add_ext Inf y z = refl

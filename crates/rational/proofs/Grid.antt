@@ -17,7 +17,7 @@ use Rattle.rational.specs.Grid.{Whole, Within}
 use Rattle.rational.proofs.Over.{add_over, neg_over, mul_frac}
 use Rattle.rational.proofs.Integers.{mul_whole, nat_nonneg, nat_le_out}
 use Rattle.rational.proofs.Laws.{add_mul, sub_mul, mul_assoc, mul_comm as mul_comm_q, mul_neg, neg_mul, mul_add}
-use Rattle.rational.proofs.Laws.{mul_sub, mul_nonneg, mul_le_mul, mul_le_mul_right, div_mul, le_trans}
+use Rattle.rational.proofs.Laws.{mul_sub, mul_nonneg, mul_le_mul_right, div_mul, le_trans}
 use Rattle.rational.proofs.Linear.{with1, with2, with3, with4}
 use Rattle.rational.specs.MinMax.{max_q}
 use Rattle.rational.proofs.MinMax.{max_q_one}
@@ -181,13 +181,6 @@ within_mul v w a b i j =
       low = with4 (v *ℚ w) (a *ℚ w) (v *ℚ b) (a *ℚ b) (λ c. omega (arith, c.le, c.lt, c.same));
       high = with4 (v *ℚ w) (a *ℚ w) (v *ℚ b) (a *ℚ b) (λ c. omega (arith, c.le, c.lt, c.same));
     }
-
-pub within_times : (n : ℕ) (v a : ℚ) → Within v a → Within (int (pos n) *ℚ v) (int (pos n) *ℚ a)
-within_times n v a i =
-    let some = nat_nonneg n in
-    let m1 = mul_le_mul (int (pos n)) some i.high in
-    let m2 = rw mul_neg at (mul_le_mul (int (pos n)) some i.low) in
-    record { low = m2; high = m1 }
 
 -- ---- the parts of a number on a grid
 pub den_bound : (d : ℕ) (q : ℚ) → 0 < d → Whole d q → den q ≤ d

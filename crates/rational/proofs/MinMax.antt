@@ -1,11 +1,11 @@
 -- The lesser and the greater of two rationals, and the tests of the order where it does not hold.
 use Rattle.std.specs.Prelude.{◌≡◌, Bool, true, false, ◌⊎◌}
 use Rattle.std.proofs.Common.{arith, sym, ◌∙◌, refl, subst, inl, inr}
-use Rattle.rational.specs.Rational.{ℚ, ◌+ℚ◌, neg_ℚ, ◌≤ℚ◌, ◌<ℚ◌, le_q, lt_q}
+use Rattle.rational.specs.Rational.{ℚ, ◌+ℚ◌, ◌≤ℚ◌, ◌<ℚ◌, le_q, lt_q}
 use Rattle.rational.specs.MinMax.{min_q, max_q}
 use Rattle.rational.proofs.Linear.{with2, with3}
 use Rattle.rational.proofs.Over.{le_q_out, le_q_in, lt_q_in}
-use Rattle.rational.proofs.Laws.{le_refl, le_trans, le_of_lt, le_or_lt, lt_le_trans, antisym, add_comm}
+use Rattle.rational.proofs.Laws.{le_refl, le_trans, le_of_lt, le_or_lt, lt_le_trans, antisym}
 
 -- ---- tests of fractions
 pub le_q_not : (x y : ℚ) → y <ℚ x → le_q x y ≡ false
@@ -137,22 +137,6 @@ max_q_lt x y z h k = elim (le_or_lt x y) [
 ]
 
 -- ---- the two together
--- negation turns one into the other
-pub min_q_neg : (x y : ℚ) → neg_ℚ (min_q x y) ≡ max_q (neg_ℚ x) (neg_ℚ y)
-min_q_neg x y = elim (le_or_lt x y) [
-  | inl l ↦ rw (min_q_left x y l) (opposite (neg_ℚ x) (neg_ℚ y) (with2 x y (λ c. omega (arith, c.le, c.lt, c.same))))
-  | inr l ↦ rw (min_q_right x y l) (sym (max_q_right (neg_ℚ x) (neg_ℚ y) (with2 x y (λ c. omega (arith, c.le, c.lt, c.same)))))
-]
-  where
-    opposite : (a b : ℚ) → b ≤ℚ a → a ≡ max_q a b
-    opposite a b h = antisym (max_q_ge_left a b, max_q_le a b a (le_refl a) h)
-
-pub min_max_sum : (x y : ℚ) → min_q x y +ℚ max_q x y ≡ x +ℚ y
-min_max_sum x y = elim (le_or_lt x y) [
-  | inl l ↦ rw (min_q_left x y l, max_q_right x y l)
-  | inr l ↦ rw (min_q_right x y l, max_q_left x y l) (add_comm y x)
-]
-
 -- a term comes out
 pub min_q_add : (x y z : ℚ) → min_q x y +ℚ z ≡ min_q (x +ℚ z) (y +ℚ z)
 min_q_add x y z = elim (le_or_lt x y) [

@@ -7,7 +7,7 @@ use Rattle.rational.specs.Fractions.{frac-same}
 use Rattle.rational.specs.Ratio.{IsSmall}
 use Rattle.rational.proofs.Integers.{mul_whole, nat_lt}
 use Rattle.rational.proofs.Laws.{above, mul_comm, add_mul, sub_mul, mul_cancel, mul_le_mul_right, mul_lt_mul_right, mul_sub}
-use Rattle.rational.proofs.Laws.{div_mul, le_of_mul, lt_of_mul, le_or_lt, not_zero, antisym, one_mul, zero_mul}
+use Rattle.rational.proofs.Laws.{div_mul, le_of_mul, lt_of_mul, le_or_lt, not_zero, antisym, zero_mul}
 use Rattle.rational.proofs.Linear.{with1, with6}
 use Rattle.rational.proofs.Parts.{small_ratio}
 
@@ -17,9 +17,6 @@ div_unique x y z h e = mul_cancel (x /ℚ y) z y h (div_mul x y h ∙ sym e)
 
 pub mul_div : (x y : ℚ) → y ≢ int (pos 0) → (x *ℚ y) /ℚ y ≡ x
 mul_div x y h = div_unique (x *ℚ y) y x h (λ i. x *ℚ y)
-
-pub div_self : (y : ℚ) → y ≢ int (pos 0) → y /ℚ y ≡ int (pos 1)
-div_self y h = div_unique y y (int (pos 1)) h (one_mul y)
 
 pub zero_div : (y : ℚ) → y ≢ int (pos 0) → int (pos 0) /ℚ y ≡ int (pos 0)
 zero_div y h = div_unique (int (pos 0)) y (int (pos 0)) h (zero_mul y)

@@ -1,5 +1,5 @@
 -- The walk from row to row.
-use Rattle.std.proofs.Common.{◌≡◌, ℕ, zero, suc, ◌<◌, ◌≤◌, ◌+◌, List, [], ◌∷◌, ◌++◌, length, take, get_or, sym, ap, ◌∙◌, subst, arith, inl, inr, ◌⊎◌, Some, None, append_assoc, take_all}
+use Rattle.std.proofs.Common.{◌≡◌, ℕ, zero, suc, ◌≤◌, ◌+◌, List, [], ◌∷◌, ◌++◌, length, take, sym, ap, ◌∙◌, subst, arith, Some, None, append_assoc, take_all}
 use Rattle.std.specs.Prelude.{Option, slice_get, Result, Ok, Err, IfOk}
 use Rattle.std.proofs.lemmas.Option.{slice_get_within}
 use Rattle.rational.specs.Rational.{ℚ}
@@ -73,11 +73,6 @@ goes net run k w after x f e None t =
     }
 goes net run k w after x f e (Some law) t =
     record { before = k; step = x; is = e; place = (let s : k + 1 ≡ suc k = omega arith in s); none = f.none; first = t }
-
-pub goes_ok : {E : Type 0} (net : Routes) (run : SpecRun) (k : ℕ) (w after : Walk) (x : Step) (f : Follows net run k w) (e : slice_get run.steps k ≡ Some x) (r : Result (Option Law) E)
-    → IfOk r (λ o. (s : Stands net x w) → Told net x w s run.end after o) → IfOk r (Goes net run k after)
-goes_ok net run k w after x f e (Ok o) h = goes net run k w after x f e o (h (stands net run k w x f e))
-goes_ok net run k w after x f e (Err z) h = h
 
 pub goes_by : (net : Routes) (run : SpecRun) (k : ℕ) (w after : Walk) (x : Step) (f : Follows net run k w) (e : slice_get run.steps k ≡ Some x) (o : Option Law) (end : ℚ) → end ≡ run.end
     → ((s : Stands net x w) → Told net x w s end after o) → Goes net run k after o

@@ -61,11 +61,6 @@ rest_same None (Some v) fresh h = absurd h
 rest_same (Some u) None fresh h = absurd h
 rest_same (Some u) (Some v) fresh h = h.left
 
-other_by : (o : Option Under) (v : Option Underway) (p : ℕ) → AreUnder o v → IsOther v p → IsOtherBy o p
-other_by o None p h n = absurd n
-other_by None (Some v) p h n = absurd h
-other_by (Some u) (Some v) p h n = λ e. n (h.packet ∙ e)
-
 by_other : (o : Option Under) (v : Option Underway) (p : ℕ) → AreUnder o v → IsOtherBy o p → IsOther v p
 by_other None v p h n = absurd n
 by_other (Some u) None p h n = absurd h
@@ -74,14 +69,6 @@ by_other (Some u) (Some v) p h n = λ e. n (sym h.packet ∙ e)
 -- work that is not wrong takes time
 pub runs_forward : (site : Site) (w : Piece) (rest : ℚ) → (IsWrong site w rest → ⊥) → w.start <ℚ w.end
 runs_forward site w rest n = lt_of_not_le (λ l. n (inl l))
-
-pub wrong_by : (d : Discipline) (room : ℕ) (σ : ServerState) (site : Site) (w : Piece) (fresh rest : ℚ) → IsSite d room σ site → rest ≡ rest_of site.under fresh
-    → IsWrong site w rest → IsWrongBy σ w fresh
-wrong_by d room σ site w fresh rest h e (inl k) = inl k
-wrong_by d room σ site w fresh rest h e (inr (inl k)) = inr (inl k)
-wrong_by d room σ site w fresh rest h e (inr (inr (inl k))) = inr (inr (inl (subst (λ z. w.start <ℚ z) h.busy k)))
-wrong_by d room σ site w fresh rest h e (inr (inr (inr (inl k)))) = inr (inr (inr (inl (other_by σ.under site.under w.packet h.under k))))
-wrong_by d room σ site w fresh rest h e (inr (inr (inr (inr k)))) = inr (inr (inr (inr (subst (λ z. z <ℚ w.bits) (e ∙ rest_same σ.under site.under fresh h.under) k))))
 
 pub by_wrong : (d : Discipline) (room : ℕ) (σ : ServerState) (site : Site) (w : Piece) (fresh rest : ℚ) → IsSite d room σ site → rest ≡ rest_of site.under fresh
     → IsWrongBy σ w fresh → IsWrong site w rest

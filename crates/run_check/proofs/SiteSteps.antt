@@ -74,10 +74,6 @@ turned room σ before after asked q t d h begins latest busy under serves has_ro
   | inr n ↦ subst (Turns d room σ after asked t) (sym (ne_eqb q asked n)) (λ m. n (visit_once d σ q asked (subst (λ z. MayVisit z σ q) h.serves begins.0) m))
 ]
 
-pub not_turned : (d : Discipline) (room : ℕ) (σ : ServerState) (before : Site) (StandsNow : ServerState → Type 0) (asked p : ℕ) → IsSite d room σ before
-    → Sends (served_by before.queues) StandsNow σ p → ¬ MayVisit d σ asked
-not_turned d room σ before StandsNow asked p h s m = no_visit d σ asked s.card m (subst (λ z. pick z σ.inside σ.round ≡ Some s.card) h.serves s.picked)
-
 pub not_idle_visit : (d : Discipline) (room : ℕ) (σ : ServerState) (before : Site) (asked : ℕ) → IsSite d room σ before → before.under ≢ None → ¬ MayVisit d σ asked
 not_idle_visit d room σ before asked h n m = let u = busy_of σ.under before.under h.under n in not_idle d σ asked u.0 m u.1
 

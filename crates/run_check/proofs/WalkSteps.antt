@@ -26,7 +26,7 @@ use Rattle.broken_laws.proofs.TrackedSteps.{tracked_next}
 use Rattle.broken_laws.proofs.Breaking.{allows}
 use Rattle.run_check.specs.declared.site.Site.{Site}
 use Rattle.run_check.specs.declared.walk.Walk.{Walk}
-use Rattle.run_check.specs.Sites.{IsSite, IsFine, IsOut, KeepsSome, VisitAnswer, HasTurned}
+use Rattle.run_check.specs.Sites.{IsSite, IsFine, IsOut, KeepsSome, VisitAnswer}
 use Rattle.run_check.specs.Rows.{ChangesAt, Visited}
 use Rattle.run_check.specs.Walks.{Keeps, StepFits, Stands, Told}
 

@@ -1,13 +1,12 @@
 -- A row with work.
 use Rattle.std.proofs.Common.{◌≡◌, ℕ, ◌<◌, ◌≤◌, List, length, get_or, refl, sym, ap, ◌∙◌, subst, arith, inl, inr, ◌⊎◌, Some, None, true, false}
 use Rattle.std.specs.Prelude.{Option, pos, slice_get, Bool, ◌||◌, nat_le}
-use Rattle.std.proofs.lemmas.Bool.{cases_eq, cases_Bool, eq-eqb}
+use Rattle.std.proofs.lemmas.Bool.{cases_eq}
 use Rattle.rational.specs.Rational.{ℚ, int, ◌-ℚ◌, ◌<ℚ◌}
 use Rattle.rational.proofs.Grid.{whole_int}
 use Rattle.rational.proofs.Laws.{le_refl}
 use Rattle.rational.proofs.Linear.{with1, with4}
 use Rattle.run_laws.specs.declared.steps.Step.{Step}
-use Rattle.run_laws.specs.declared.steps.Step.TheVariants.{Work}
 use Rattle.run_laws.specs.Cards.{whole, size, Works}
 use Rattle.run_laws.specs.Counts.{when}
 use Rattle.run_laws.specs.Servers.{ServerState, Under, done}

@@ -2,18 +2,17 @@
 -- place on, where nothing of a class is started, is of the packet that is under way there.
 use Rattle.std.specs.Prelude.{Option, Some, None, ◌≡◌, ℕ, pos, ◌==◌, Bool, true, false, List, [], ◌∷◌, ◌++◌}
 use Rattle.std.proofs.Common.{arith, ap, ◌∙◌, refl, inl, inr, subst}
-use Rattle.std.proofs.lemmas.Bool.{cases_Bool, eq-eqb, both_ways}
-use Rattle.rational.specs.Rational.{ℚ, int, ◌+ℚ◌, ◌≤ℚ◌, ◌<ℚ◌, le_q}
-use Rattle.rational.proofs.Over.{le_q_out}
-use Rattle.rational.proofs.Laws.{le_refl, le_or_lt}
+use Rattle.std.proofs.lemmas.Bool.{cases_Bool, eq-eqb}
+use Rattle.rational.specs.Rational.{ℚ, int, ◌+ℚ◌, ◌≤ℚ◌, ◌<ℚ◌}
+use Rattle.rational.proofs.Laws.{le_refl}
 use Rattle.rational.proofs.Linear.{with1, with2, with5, with6}
 use Rattle.run_laws.specs.Cards.{Card, size, Class, ServerStep, Arrives, Works, Leaves, Visits, time_of}
 use Rattle.run_laws.specs.Servers.{Discipline, Server, Round, Under, ServerState, head_of, start}
 use Rattle.run_laws.specs.Next.{next, next_under, after}
 use Rattle.run_laws.specs.Allows.{Allows, AllAllowed, IsLawfulView, MayLeave, pick, next_card}
 use Rattle.run_laws.specs.Counts.{when, total, arrives, leaves, before, upto, arrived, worked}
-use Rattle.run_laws.proofs.Sizes.{size_nonneg, size_most, whole_nonneg}
-use Rattle.run_laws.proofs.Sums.{when_true, when_false, when_le, when_nonneg, Each, each_map, total-append, total_none}
+use Rattle.run_laws.proofs.Sizes.{size_most, whole_nonneg}
+use Rattle.run_laws.proofs.Sums.{when_true, when_false, when_le, Each, each_map, total-append, total_none}
 use Rattle.run_laws.proofs.Counts.{arrived_le, before_upto}
 use Rattle.run_laws.proofs.Heads.{same_some, sum_of}
 use Rattle.run_laws.proofs.States.{IsSound, IsSoundFor, sound_next, balance_after, done_by, done_at_most, if_true}
@@ -76,10 +75,6 @@ pub done_under : (cards : List Card) (busy : ℚ) (under : Option Under) (C : Cl
     → done_by C t under ≤ℚ under_bits C under
 done_under cards busy None C t h = le_refl (int (pos 0))
 done_under cards busy (Some u) C t h = when_le (C u.card) _ (size u.card) (done_at_most cards busy u t h)
-
-pub under_nonneg : (C : Class) (under : Option Under) → int (pos 0) ≤ℚ under_bits C under
-under_nonneg C None = le_refl (int (pos 0))
-under_nonneg C (Some u) = when_nonneg (C u.card) (size u.card) (size_nonneg u.card)
 
 -- a step of work starts nothing of the class
 work_under : (under : Option Under) (d : Discipline) (cards : List Card) (r : Round) (C : Class) (c : Card)

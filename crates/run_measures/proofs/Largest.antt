@@ -1,5 +1,5 @@
 -- The largest of 0 and some numbers, with one more.
-use Rattle.std.specs.Prelude.{◌≡◌, suc, pos, List, [], ◌∷◌, Contains}
+use Rattle.std.specs.Prelude.{suc, pos, List, [], ◌∷◌, Contains}
 use Rattle.std.proofs.Common.{arith, refl, inl, inr}
 use Rattle.rational.specs.Rational.{ℚ, int, ◌≤ℚ◌, ◌<ℚ◌}
 use Rattle.rational.specs.declared.Extended.TheVariants.{Fin}

@@ -1,8 +1,8 @@
 -- What is known of all packets and queues before the first step of a lawful run, and after the last.
-use Rattle.std.specs.Prelude.{◌≡◌, ◌⊎◌, ℕ, zero, suc, ◌+◌, ◌<◌, ◌≤◌, pos, None, Bool, true, false, List, [], ◌∷◌, ◌++◌, length, get_or, map, drop, take, replicate}
+use Rattle.std.specs.Prelude.{◌≡◌, ◌⊎◌, ℕ, zero, suc, ◌<◌, ◌≤◌, pos, None, Bool, true, false, List, [], ◌∷◌, length, get_or, map, drop, take, replicate}
 use Rattle.std.proofs.Common.{arith, refl, sym, ap, ◌∙◌, subst, inl, inr}
-use Rattle.std.proofs.Math.Seq.{drop-length, take-length, take-suc}
-use Rattle.std.proofs.lemmas.List.{get_or-map, length-map, map_push, get_or-replicate, length-replicate}
+use Rattle.std.proofs.Math.Seq.{drop-length, take-length}
+use Rattle.std.proofs.lemmas.List.{get_or-map, length-map, get_or-replicate, length-replicate}
 use Rattle.rational.specs.Rational.{ℚ, int, le_q, ◌+ℚ◌, ◌-ℚ◌, ◌≤ℚ◌}
 use Rattle.rational.proofs.Laws.{le_refl}
 use Rattle.rational.proofs.Linear.{with2}
@@ -23,13 +23,6 @@ use Rattle.run_measures.specs.Gauged.{WasThere, IsGauged, AreGauged, state_after
 use Rattle.run_measures.specs.Levels.{Tells}
 use Rattle.run_measures.specs.Peaks.{backlog_at, IsReached, IsPeak, peak_in, ArePeaks}
 use Rattle.run_laws.proofs.Views.{start_state}
-
--- one element more of a list that is mapped
-pub mapped_more : {X Y : Type 0} (f : X → Y) (xs : List X) (i : ℕ) (x : X) → i < length xs → x ≡ get_or xs i x
-    → map f (take (i + 1) xs) ≡ map f (take i xs) ++ f x ∷ []
-mapped_more f xs i x l is =
-    ap (λ n. map f (take n xs)) (let e : i + 1 ≡ suc i = omega arith in e)
-    ∙ ap (map f) (take-suc xs i x l ∙ ap (λ y. take i xs ++ y ∷ []) (sym is)) ∙ map_push f (take i xs) x
 
 -- one map after another
 pub mapped_twice : {X Y Z : Type 0} (g : Y → Z) (f : X → Y) (xs : List X) → map (λ x. g (f x)) xs ≡ map g (map f xs)

@@ -29,17 +29,6 @@ delivered_then : (net : Routes) (end : ℚ) (s p r q : ℕ) (t : ℚ) (xs : List
     → delivered_at net end s p (Leave r q t ∷ xs) ≡ t +ℚ link_at net s
 delivered_then net end s p r q t xs e i = rw (eq-eqb r s e) (rw (eq-eqb q p i) refl)
 
-pub leave_elsewhere : (net : Routes) (end : ℚ) (xs : List Step) (flows : List ℕ) (delivered : List ℚ) (many : ℕ) (worst : List ℚ) (r q : ℕ) (t : ℚ)
-    → (q < length flows → r ≡ last_of net flows q → ⊥) → IsTallied net end xs flows delivered many worst
-    → IsTallied net end (Leave r q t ∷ xs) flows delivered many worst
-leave_elsewhere net end xs flows delivered many worst r q t n h = record {
-  long = h.long;
-  at = λ p l.
-      h.at p l ∙ sym (not_then net end (last_of net flows p) p r q t xs
-      (λ e i. n (subst (λ j. j < length flows) (sym i) l) (e ∙ ap (last_of net flows) (sym i))));
-  largest = record { as_many = h.largest.as_many; each = h.largest.each };
-}
-
 pub leave_last : (net : Routes) (end : ℚ) (xs : List Step) (flows : List ℕ) (delivered : List ℚ) (many : ℕ) (worst : List ℚ) (r q : ℕ) (t x : ℚ)
     → q < length flows → r ≡ last_of net flows q → x ≡ t +ℚ link_at net r → IsTallied net end xs flows delivered many worst
     → IsTallied net end (Leave r q t ∷ xs) flows (set delivered q x) many worst

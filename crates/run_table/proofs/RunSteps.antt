@@ -64,9 +64,6 @@ pub record IsSoFar (net : Net) (rows : List Row) (k packets : ℕ) (steps : List
   pub few : packets ≤ k
   pub room : k ≤ most_rows
 
-pub so_far_none : (net : Net) (rows : List Row) → IsSoFar net rows 0 0 []
-so_far_none net rows = record { give = tt; packets_are = refl; few = omega arith; room = omega arith }
-
 behind_one : (rows : List Row) (k : ℕ) (row : Row) → k < length rows → get_or rows k row ≡ row → take (k + 1) rows ≡ take k rows ++ row ∷ []
 behind_one rows k row within is = take_more rows k row within ∙ ap (λ (x : Row). take k rows ++ x ∷ []) is
 

@@ -26,13 +26,13 @@ use Rattle.run_watch.specs.declared.watched.Stretch.{Stretch}
 use Rattle.run_watch.specs.Ramps.{EachRamp}
 use Rattle.run_watch.specs.Watching.{ReadsAt, stops, TimesRise, next_after, begins, stretches_in, stretches, change_at, changes_in, ends_of, turns}
 use Rattle.run_watch.specs.WatchTimes.{watched_from, TimesFit}
-use Rattle.run_watch.specs.IdleWindows.{TimeFits, SegmentsFit}
+use Rattle.run_watch.specs.IdleWindows.{SegmentsFit}
 use Rattle.run_watch.specs.Held.{IsSeen, IsHeldRamp, IsHeld}
 use Rattle.run_watch.proofs.ViewStretches.{stops_rise, stops_each}
 use Rattle.run_watch.proofs.FoundStretches.{HasStretch, StretchesRise, stretch_found, stretches_rise}
 use Rattle.run_watch.proofs.FoundTurns.{change_is, turn_found, found_turn}
 use Rattle.run_watch.proofs.FoundTimes.{in_watched}
-use Rattle.run_watch.proofs.HeldSizes.{ramps_read, segments_fit, time_fits, moves_fit, start_time}
+use Rattle.run_watch.proofs.HeldSizes.{ramps_read, segments_fit, moves_fit, start_time}
 use Rattle.run_watch.proofs.SortedPoints.{each_time_from}
 use Rattle.run_watch.proofs.IdleIn.{IsSearched}
 use Rattle.run_laws.proofs.Times.{each_time_map, each_time_append}

@@ -165,16 +165,9 @@ front_over r marks b d into kept h rest over =
     (each_map (IsNotFar r b) (λ a. ¬ IsUnder r a b) (λ m. too_near r b m) (drop into marks) rest))
 
 -- ---- what is taken out
-append_nil : (ms : List Mark) → ms ≡ ms ++ []
-append_nil [] = refl
-append_nil (m ∷ ms) = ap (λ (ns : List Mark). m ∷ ns) (append_nil ms)
-
 append-append : (ms ns ks : List Mark) → (ms ++ ns) ++ ks ≡ ms ++ (ns ++ ks)
 append-append [] ns ks = refl
 append-append (m ∷ ms) ns ks = ap (λ (xs : List Mark). m ∷ xs) (append-append ms ns ks)
-
-pub lowered_none : (k : ℚ) (old : List Mark) → Lowered k old old
-lowered_none k old = ([], append_nil old, tt)
 
 pub lowered_more : (k : ℚ) (old stay rest : List Mark) (m : Mark) → Lowered k old stay → stay ≡ rest ++ m ∷ [] → m.start_key ≤ℚ k → Lowered k old rest
 lowered_more k old stay rest m h e less =
@@ -196,9 +189,6 @@ pub last_of : (ms rest : List Mark) (m : Mark) (o : Option Mark) (n : ℕ) → 0
     → ((d : Mark) → 0 < n → o ≡ Some (slice_index_or ms (n - 1) d)) → ms ≡ rest ++ option_to_list o → ms ≡ rest ++ m ∷ []
 last_of ms rest m o n some is val e = e ∙ ap (λ (x : Option Mark). rest ++ option_to_list x) (val m some ∙ ap (λ (x : Mark). Some x) (sym is))
 
-pub passed_none : (most : Option ℚ) (t : ℚ) (old : List Mark) → Passed most t old old
-passed_none most t old = ([], refl, tt)
-
 pub passed_more : (most : Option ℚ) (t : ℚ) (old stay rest : List Mark) (m : Mark) → Passed most t old stay → stay ≡ m ∷ rest → IsPast most m.time t → Passed most t old rest
 passed_more most t old stay rest m h e past =
     let (gone, f, each) = h in
@@ -210,10 +200,6 @@ first_of ms rest m o n some is val e = e ∙ ap (λ (x : Option Mark). option_to
 
 pub rest_fit : (P : Mark → Type 0) (ms rest : List Mark) (m : Mark) → Each P ms → ms ≡ m ∷ rest → Each P rest
 rest_fit P ms rest m h e = (subst (Each P) e h).1
-
-pub starts_near : (most : Option ℚ) (t : ℚ) (ms : List Mark) (m : Mark) → m ≡ slice_index_or ms 0 m → ¬ IsPast most m.time t → StartsNear most t ms
-starts_near most t [] m e h = tt
-starts_near most t (n ∷ ms) m e h = subst (λ (x : Mark). ¬ IsPast most x.time t) e h
 
 -- ---- the mark of a number
 pub has_at : (marks : List Mark) (n : ℕ) (q : Mark) → n < length marks → q ≡ slice_index_or marks n q → Has q marks
@@ -276,9 +262,6 @@ scans_later r marks b c n kept l h = record {
 pub kept_fit : (P : Mark → Type 0) (r : Rule) (marks : List Mark) (b : Mark) (n : ℕ) (kept : List Mark) → Scans r marks b n kept → Each P marks → Each P kept
 kept_fit P r marks b n kept h fits = each_map (λ d. Has d marks × (d.time +ℚ r.least ≤ℚ b.time)) P (λ d k. each_at P marks d fits k.0) kept h.ready
 
-pub scanned_none : (r : Rule) (marks : List Mark) → Scanned r marks 0 0 []
-scanned_none r marks = record { in_range = omega arith; ready = λ b h. record { falls = tt; ready = tt; covers = tt }; over = tt }
-
 pub scanned_at : (r : Rule) (marks : List Mark) (k into : ℕ) (kept : List Mark) (b : Mark) → Scanned r marks k into kept → TimesRise marks → k < length marks
     → b ≡ slice_index_or marks k b → Scans r marks b into kept
 scanned_at r marks k into kept b h rise l e = h.ready b (order_at marks k b rise l e)
@@ -303,15 +286,6 @@ pub under_front : (r : Rule) (marks : List Mark) (b : Mark) (into : ℕ) (kept :
     → FrontUnder r.gap b.end_key kept → IsUnderSome r marks b
 under_front r marks b into [] h near under = absurd under
 under_front r marks b into (d ∷ kept) h near under = front_under r marks b d into kept h near under
-
-pub all_over : (r : Rule) (marks : List Mark) (k : ℕ) → length marks ≤ k → Each (IsOver r marks) (take k marks) → Each (IsOver r marks) marks
-all_over r marks k h each = subst (Each (IsOver r marks)) (all_taken marks k h) each
-  where
-    all_taken : (ms : List Mark) (k : ℕ) → length ms ≤ k → take k ms ≡ ms
-    all_taken [] zero h = refl
-    all_taken [] (suc k) h = refl
-    all_taken (m ∷ ms) zero h = absurd (omega arith)
-    all_taken (m ∷ ms) (suc k) h = ap (λ (xs : List Mark). m ∷ xs) (all_taken ms k (omega arith))
 
 -- ---- the test
 past_or_less : (most a t s : ℚ) (less : Bool) → s ≡ a +ℚ most → (IsTrue less ↔ (t <ℚ s)) → (IsTrue (not less) ↔ (a +ℚ most ≤ℚ t))

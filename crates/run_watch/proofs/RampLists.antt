@@ -1,7 +1,7 @@
 -- The ramp in which a time is tells how many bits there are up to it.
-use Rattle.std.specs.Prelude.{◌≡◌, ℕ, zero, suc, ◌+◌, ◌<◌, ◌≤◌, pos, Bool, true, false, ◌&&◌, List, [], ◌∷◌, ◌++◌, length, drop, get_or}
+use Rattle.std.specs.Prelude.{◌≡◌, ℕ, zero, suc, ◌<◌, ◌≤◌, pos, Bool, true, false, ◌&&◌, List, [], ◌∷◌, length, get_or}
 use Rattle.std.specs.List.{slice_index_or}
-use Rattle.std.proofs.Common.{arith, inl, inr, refl, sym, subst, ap, ap₂, ◌∙◌, append_assoc, true≢false}
+use Rattle.std.proofs.Common.{arith, inl, inr, refl, sym, subst, ap, ap₂, ◌∙◌, true≢false}
 use Rattle.std.proofs.lemmas.Bool.{and_left, and_right}
 use Rattle.rational.specs.Rational.{ℚ, int, ◌+ℚ◌, ◌-ℚ◌, ◌*ℚ◌, ◌/ℚ◌, ◌≤ℚ◌, ◌<ℚ◌, lt_q, le_q, inv_ℚ}
 use Rattle.rational.proofs.Laws.{le_refl, le_trans, le_or_lt, le_of_lt, lt_le_trans, le_lt_trans, lt_irrefl, antisym, add_assoc, add_zero, mul_assoc, mul_comm, div_mul, not_zero}
@@ -12,8 +12,7 @@ use Rattle.run_laws.specs.Servers as servers
 use Rattle.run_laws.proofs.Sums.{when_true, when_false, add_nothing}
 use Rattle.run_watch.specs.declared.span.Span.{Span}
 use Rattle.run_watch.specs.declared.span.Ramp.{Ramp}
-use Rattle.run_watch.specs.Ramps.{as_span, amount, pace_in, rate_before, rate_after, InOrder, TakeTime, ramps_after, AreRamps, spans_of, part, all_done, paced_before, paced_after, RampsFit, EachRamp, RampFits}
-use Rattle.run_watch.proofs.EntryLists.{next_item}
+use Rattle.run_watch.specs.Ramps.{as_span, amount, pace_in, rate_before, rate_after, InOrder, TakeTime, ramps_after, AreRamps, spans_of, part, all_done, paced_before, paced_after, EachRamp}
 
 -- ---- one span
 pub clip_past : (s : servers.Span) (t : ℚ) → s.start <ℚ t → s.end ≤ℚ t → servers.clip s t ≡ s.bits
@@ -242,17 +241,6 @@ after_past rs t A before =
     sym (after_none (int (pos 0)) t A.spans (subst (λ (xs : List Ramp). EndBy t xs (length xs)) A.is before)) ∙ ap (λ (ss : List Span). rate_after ss t) (sym (spans_same rs A))
 
 -- ---- making them
-pub ramps_more : (done : ℚ) (s : Span) (spans : List Span) (had now all : List Ramp) (i : ℕ) → i < length spans → s ≡ slice_index_or spans i s
-    → now ≡ had ++ record { span = s; before = done; after = done +ℚ s.bits; pace = pace_in s } ∷ [] → had ++ ramps_after done (drop i spans) ≡ all
-    → now ++ ramps_after (done +ℚ s.bits) (drop (i + 1) spans) ≡ all
-ramps_more done s spans had now all i l is pushed h =
-    let r : Ramp = record { span = s; before = done; after = done +ℚ s.bits; pace = pace_in s } in
-    let rest = ramps_after (done +ℚ s.bits) (drop (i + 1) spans) in
-    ap (λ (rs : List Ramp). rs ++ rest) pushed ∙ append_assoc had (r ∷ []) rest ∙ ap (λ (ss : List Span). had ++ ramps_after done ss) (sym (next_item s spans i l is)) ∙ h
-
-pub fits_next : (done : ℚ) (s : Span) (spans : List Span) (i : ℕ) → i < length spans → s ≡ slice_index_or spans i s → RampsFit done (drop i spans) → RampFits done s × RampsFit (done +ℚ s.bits) (drop (i + 1) spans)
-fits_next done s spans i l is h = subst (RampsFit done) (next_item s spans i l is) h
-
 pub each_ramp_at : (P : Ramp → Type 0) (rs : List Ramp) (k : ℕ) (r : Ramp) → EachRamp P rs → k < length rs → r ≡ slice_index_or rs k r → P r
 each_ramp_at P [] k r h l e = absurd (omega arith)
 each_ramp_at P (q ∷ rs) zero r h l e = subst P (sym e) h.0

@@ -2,7 +2,7 @@
 use Rattle.std.specs.Prelude.{◌≡◌, ℕ, zero, suc, ◌+◌, ◌<◌, ◌==◌, ◌&&◌, true, false, pos, List, [], ◌∷◌, ◌++◌, length, drop, map, Option, slice_index}
 use Rattle.std.specs.List.{slice_index_or}
 use Rattle.std.specs.Option.{option_to_list}
-use Rattle.std.proofs.Common.{inl, inr, refl, sym, ap, ap₂, ◌∙◌, append_assoc}
+use Rattle.std.proofs.Common.{inl, inr, refl, sym, ap, ap₂, ◌∙◌}
 use Rattle.std.proofs.lemmas.Bool.{cases_Bool}
 use Rattle.rational.specs.Rational.{ℚ, int, ◌+ℚ◌, le_q, lt_q}
 use Rattle.rational.proofs.Laws.{le_or_lt, le_of_lt}
@@ -20,27 +20,10 @@ use Rattle.watch_laws.specs.Times.{leave_times}
 use Rattle.watch_laws.specs.Paces.{pace_of, pace_before, pace_after}
 use Rattle.run_watch.specs.declared.span.Span.{Span}
 use Rattle.run_watch.specs.Ramps.{amount, rate_before, rate_after, as_span}
-use Rattle.run_watch.specs.Seen.{at_once, arrival_spans, work_spans, work_in, works_at, leave_in, leaves_at, sizes_after, arrival_in, arrivals_at, AreFirsts}
+use Rattle.run_watch.specs.Seen.{at_once, arrival_spans, work_spans, works_at, leaves_at, sizes_after, arrival_in, arrivals_at, AreFirsts}
 use Rattle.run_watch.proofs.EntryLists.{next_item}
 
 -- ---- steps of the loops
-pub found_more : {A : Type 0} (x : A) (had now part rest list : List A) → now ≡ had ++ x ∷ [] → part ≡ x ∷ rest → had ++ part ≡ list → now ++ rest ≡ list
-found_more x had now part rest list pushed is h =
-    ap (λ (ys : List _). ys ++ rest) pushed ∙ append_assoc had (x ∷ []) rest ∙ ap (λ (ys : List _). had ++ ys) (sym is) ∙ h
-
-pub found_same : {A : Type 0} (had part rest list : List A) → part ≡ rest → had ++ part ≡ list → had ++ rest ≡ list
-found_same had part rest list is h = ap (λ (ys : List _). had ++ ys) (sym is) ∙ h
-
-pub works_next : (s : ℕ) (x : Step) (steps : List Step) (i : ℕ) (o : Option Span) → i < length steps → x ≡ slice_index_or steps i x → work_in s x ≡ o
-    → works_at s (drop i steps) ≡ option_to_list o ++ works_at s (drop (i + 1) steps)
-works_next s x steps i o l is e =
-    ap (works_at s) (next_item x steps i l is) ∙ ap (λ (p : Option Span). option_to_list p ++ works_at s (drop (i + 1) steps)) e
-
-pub leaves_next : (s : ℕ) (x : Step) (steps : List Step) (i : ℕ) (o : Option ℚ) → i < length steps → x ≡ slice_index_or steps i x → leave_in s x ≡ o
-    → leaves_at s (drop i steps) ≡ option_to_list o ++ leaves_at s (drop (i + 1) steps)
-leaves_next s x steps i o l is e =
-    ap (leaves_at s) (next_item x steps i l is) ∙ ap (λ (p : Option ℚ). option_to_list p ++ leaves_at s (drop (i + 1) steps)) e
-
 pub arrivals_next : (firsts : List ℕ) (s : ℕ) (sizes now : List ℕ) (x : Step) (steps : List Step) (i : ℕ) (o : Option Span) → i < length steps → x ≡ slice_index_or steps i x
     → now ≡ sizes_after sizes x → arrival_in firsts s now x ≡ o → arrivals_at firsts s sizes (drop i steps) ≡ option_to_list o ++ arrivals_at firsts s now (drop (i + 1) steps)
 arrivals_next firsts s sizes now x steps i o l is m e =

@@ -12,7 +12,7 @@ use Rattle.watch_laws.specs.declared.point.Point.{Point}
 use Rattle.watch_laws.specs.declared.point.Segment.{Segment}
 use Rattle.watch_laws.specs.Marks.{Each, Has, TimesRise, IsPast, IsUnder, IsOver, IsUnderSome, FitsRule}
 use Rattle.watch_laws.specs.Shorts.{EachPoint, HasPoint, EachSegment, HasSegment, PointsRise, IsPastEnd, IsShortBy, NoneShortTo, NoneShort, IsShortEnd}
-use Rattle.run_watch.specs.FirstEnds.{mark_of, rule_of, KeySteps, FitsMarks, IsFirstBy, IsFirstEnd}
+use Rattle.run_watch.specs.FirstEnds.{mark_of, rule_of, FitsMarks, IsFirstBy, IsFirstEnd}
 
 -- ---- one window
 past_end : (o : Option ℚ) (a b : ℚ) → IsPastEnd o (b -ℚ a) → IsPast o a b
@@ -208,13 +208,6 @@ points_taken (suc n) (p ∷ ps) h = (each_taken (λ q. p.time ≤ℚ q.time) n p
 
 pub rise_taken : (n : ℕ) (ps qs : List Point) → qs ≡ take n ps → PointsRise ps → PointsRise qs
 rise_taken n ps qs e h = subst PointsRise (sym e) (points_taken n ps h)
-
-pub fits_taken : (s : Segment) (n : ℕ) (ps qs : List Point) → qs ≡ take n ps → FitsMarks ps s → FitsMarks qs s
-fits_taken s n ps qs e h = subst (λ (xs : List Point). FitsMarks xs s) (sym e) record {
-  keys = each_taken (KeySteps s.slope) n ps h.keys;
-  gap = h.gap;
-  marks = each_taken (λ p. FitsRule (rule_of s) (mark_of s.slope p)) n ps h.marks;
-}
 
 pub segment_at : (P : Segment → Type 0) (ss : List Segment) (n : ℕ) (s : Segment) → EachSegment P ss → n < length ss → s ≡ slice_index_or ss n s → P s
 segment_at P [] n s h l e = absurd (omega arith)

@@ -24,9 +24,10 @@ use Rattle.run_laws.specs.Cards.{whole}
 use Rattle.run_laws.proofs.Sizes.{whole_le}
 use Rattle.watch_laws.specs.declared.entering.Entering.{Entering}
 use Rattle.watch_laws.specs.Entries.{entering, bits_between}
+use Rattle.watch_laws.specs.Segments.{next_start}
 use Rattle.step_lines.specs.Lines.{KeepsLine}
 use Rattle.run_watch.specs.Flows.{FlowReads, NoneCrowded, IsUnderPiece}
-use Rattle.run_watch.specs.Stairs.{start_or, IsCount, HasSteps, IsStep, IsStepAt, IsStair, RisesWith, IsClimbed}
+use Rattle.run_watch.specs.Stairs.{IsCount, HasSteps, IsStep, IsStepAt, IsStair, RisesWith, IsClimbed}
 use Rattle.run_watch.proofs.Buckets.{not_both}
 
 pub not_none : (z d : ℚ) → z ≡ int (pos 0) → z <ℚ d → d ≢ int (pos 0)
@@ -49,12 +50,12 @@ has_steps height burst rate count p U flat C = record {
       le_ext_trans (Fin all) (Fin (burst +ℚ run)) (piece_value p d) low (U d some);
 }
 
-pub step_at : (height slack rate end : ℚ) (ps : List Piece) (i : ℕ) (p : Piece) → i < length ps → p ≡ slice_index_or ps i p → IsStep height slack rate p (start_or end (drop (i + 1) ps)) → IsStepAt height slack rate end (drop i ps)
+pub step_at : (height slack rate end : ℚ) (ps : List Piece) (i : ℕ) (p : Piece) → i < length ps → p ≡ slice_index_or ps i p → IsStep height slack rate p (unwrap_or (next_start (drop (i + 1) ps)) end) → IsStepAt height slack rate end (drop i ps)
 step_at height slack rate end ps i p l e S = go ps i l e (rw add-one at S)
   where
-    go : (ps : List Piece) (i : ℕ) → i < length ps → p ≡ slice_index_or ps i p → IsStep height slack rate p (start_or end (drop (suc i) ps)) → IsStepAt height slack rate end (drop i ps)
+    go : (ps : List Piece) (i : ℕ) → i < length ps → p ≡ slice_index_or ps i p → IsStep height slack rate p (unwrap_or (next_start (drop (suc i) ps)) end) → IsStepAt height slack rate end (drop i ps)
     go [] i l e S = absurd (omega arith)
-    go (q ∷ ps) zero l e S = subst (λ (r : Piece). IsStep height slack rate r (start_or end ps)) e S
+    go (q ∷ ps) zero l e S = subst (λ (r : Piece). IsStep height slack rate r (unwrap_or (next_start ps) end)) e S
     go (q ∷ ps) (suc i) l e S = go ps i (omega arith) e S
 
 -- where the line is below the steps of a piece, the piece has one step more than a whole number under the line

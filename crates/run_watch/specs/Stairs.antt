@@ -1,12 +1,13 @@
 -- Packets whose bits are counted in steps of a stair against a line under the stair: where the line at d is at least a whole number,
 -- the stair has one step more than that number. Own choice.
-use Rattle.std.specs.Prelude.{◌≡◌, ℕ, suc, pos, ◌<◌, List, [], ◌∷◌, length, drop}
+use Rattle.std.specs.Prelude.{◌≡◌, ℕ, suc, pos, ◌<◌, List, [], ◌∷◌, length, drop, unwrap_or}
 use Rattle.rational.specs.Rational.{ℚ, int, ◌+ℚ◌, ◌*ℚ◌, ◌≤ℚ◌, ◌<ℚ◌}
 use Rattle.rational.specs.Extended.{Ext, ◌≤ₑ◌}
 use Rattle.rational.specs.declared.Extended.TheVariants.{Fin}
 use Rattle.affine_segment.specs.declared.line.Piece.{Piece}
 use Rattle.affine_segment.specs.Reading.{piece_value}
 use Rattle.run_laws.specs.Cards.{whole}
+use Rattle.watch_laws.specs.Segments.{next_start}
 
 -- ---- pieces
 -- so many steps fit under v
@@ -27,15 +28,10 @@ pub record IsStep (height slack rate : ℚ) (p : Piece) (end : ℚ) : Type 0 whe
   pub steps : HasSteps height p count
   pub line : slack +ℚ rate *ℚ end ≤ℚ count
 
--- where the first of some pieces starts; `end` where there is none
-abbrev pub start_or : ℚ → List Piece → ℚ
-start_or end [] = end
-start_or end (p ∷ ps) = p.x
-
--- so at the first of some pieces, the last of which ends at `end`
+-- so at the first of some pieces, each of which ends where the next one starts, and the last at `end`
 abbrev pub IsStepAt : ℚ → ℚ → ℚ → ℚ → List Piece → Type 0
 IsStepAt height slack rate end [] = Unit {0}
-IsStepAt height slack rate end (p ∷ ps) = IsStep height slack rate p (start_or end ps)
+IsStepAt height slack rate end (p ∷ ps) = IsStep height slack rate p (unwrap_or (next_start ps) end)
 
 -- all pieces have their steps over a line that rises from 0 or above
 pub record IsStair (height slack rate end : ℚ) (ps : List Piece) : Type 0 where

@@ -4,10 +4,11 @@ ghost use Rattle.std.specs.Prelude.{◌≡◌, ℕ, ◌<◌, pos, length, drop, 
 ghost use Rattle.rational.specs.Rational.{int, ◌+ℚ◌, ◌*ℚ◌, ◌≤ℚ◌, ◌<ℚ◌};
 ghost use Rattle.upp_curve.specs.Curve.{value_at};
 ghost use Rattle.run_watch.specs.Flows.{FlowReads, NoneCrowded};
-ghost use Rattle.run_watch.specs.Stairs.{start_or, IsCount, HasSteps, IsStep, IsStepAt, IsStair, RisesWith};
+ghost use Rattle.run_watch.specs.Stairs.{IsCount, HasSteps, IsStep, IsStepAt, IsStair, RisesWith};
 
 use crate::flows::bucket_of;
 use crate::ramps::is_at_most;
+use crate::windows::next_start;
 use affine_segment::Piece;
 use fraction128::{Frac, Wide, is_less, lesser};
 use std::alloc::Global;
@@ -84,23 +85,13 @@ fn is_step(stair: &Stair, piece: &Piece, end: Frac) -> bool
     }
 }
 
-/// Where the piece of a number starts; `end` where there is none.
-fn start_or(pieces: &[Piece], i: usize, end: Frac) -> Frac
-    ensures { result ≡ start_or end (drop i pieces.now) }
-{
-    match pieces.get(i) {
-        Some(p) => p.x,
-        None => end,
-    }
-}
-
 /// Whether all pieces are; the last one ends at `end`.
 fn are_steps(stair: &Stair, end: Frac, pieces: &[Piece]) -> bool
     requires { int (pos 0) <ℚ stair.now.height }
     ensures { IsTrue result → (i : ℕ) → i < length pieces.now → IsStepAt stair.now.height stair.now.slack stair.now.rate end (drop i pieces.now) }
 {
     for i in 0..pieces.len() {
-        if !is_step(stair, &pieces[i], start_or(pieces, i + 1, end)) {
+        if !is_step(stair, &pieces[i], next_start(pieces, i + 1).unwrap_or(end)) {
             return false;
         }
     }
@@ -130,7 +121,12 @@ fn slack_under(height: Frac, rate: Frac, end: Frac, pieces: &[Piece]) -> Option<
 {
     let mut least = None;
     for i in 0..pieces.len() {
-        let room = room_under(height, rate, &pieces[i], start_or(pieces, i + 1, end))?;
+        let room = room_under(
+            height,
+            rate,
+            &pieces[i],
+            next_start(pieces, i + 1).unwrap_or(end),
+        )?;
         least = Some(lesser_of(least, room));
     }
     least

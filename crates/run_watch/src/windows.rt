@@ -116,7 +116,7 @@ pub(crate) fn points_of(
 }
 
 /// Where the piece of a number starts, if there is one.
-fn next_start(pieces: &[Piece], i: usize) -> Option<Frac>
+pub(crate) fn next_start(pieces: &[Piece], i: usize) -> Option<Frac>
     ensures { result ≡ next_start (drop i pieces.now) }
 {
     match pieces.get(i) {

@@ -166,10 +166,6 @@ timely S place ok f r T g h (Visit s q t) due =
     }
 
 -- ---- the times that states keep
-pub now_in_time : (S : Setup) (place : ℕ → ℕ) → IsSetup S → IsForward S place → (r : RunState) (T : ℚ) → T ≤ℚ horizon S → IsGood S r T → (s : ℕ) → s < length S.net.servers
-    → (state_at r s).now ≤ℚ horizon S
-now_in_time S place ok f r T far g s known = le_trans (g.servers s known).by_now far
-
 -- ---- as far as the run has come
 pub record IsReached (S : Setup) (place : ℕ → ℕ) (r : RunState) : Type 0 where
   pub now : ℚ

@@ -36,9 +36,6 @@ clock_of (Some u) now = u.last.end
 abbrev pub clock : ServerState → ℚ
 clock σ = clock_of σ.under σ.now
 
-abbrev time_of_gate : Setup → ℕ → ℚ → ℚ
-time_of_gate S s = open_time (opening_of S s).gate
-
 -- n bits are ahead of the server, of which those that were worked off at the packet under way count no more
 pub record IsLevel (S : Setup) (A : ℚ) (s : ℕ) (σ : ServerState) (n : ℕ) : Type 0 where
   pub level : rate_of S s *ℚ open_time (opening_of S s).gate (max_q A (clock σ)) +ℚ (whole n -ℚ done_so_far σ.under)

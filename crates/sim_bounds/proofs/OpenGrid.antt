@@ -6,7 +6,7 @@ use Rattle.rational.specs.Rational.{ℚ, int, ◌+ℚ◌, ◌-ℚ◌, ◌*ℚ◌
 use Rattle.rational.specs.Grid.{Whole}
 use Rattle.rational.specs.MinMax.{max_q}
 use Rattle.rational.proofs.Linear.{with2, with3, with4, with5, with6}
-use Rattle.rational.proofs.Laws.{le_refl, le_trans, le_of_lt, lt_le_trans, le_lt_trans, le_or_lt, lt_cases, lt_irrefl, antisym, mul_comm, mul_le_mul_right}
+use Rattle.rational.proofs.Laws.{le_trans, le_of_lt, lt_le_trans, le_lt_trans, le_or_lt, lt_irrefl, antisym, mul_comm, mul_le_mul_right}
 use Rattle.rational.proofs.Grid.{whole_add, whole_times, max_whole}
 use Rattle.rational.proofs.MinMax.{max_q_ge_left, max_q_ge_right, max_q_le, max_q_one}
 use Rattle.rational.proofs.Quotients.{div_unique}

@@ -1,9 +1,8 @@
 -- Where the simulation gauge is below 2 ^ 120, the numbers on the way to the horizon are small.
-use Rattle.std.proofs.Common.{◌≡◌, ℕ, zero, suc, ◌<◌, ◌≤◌, ◌^◌, List, [], ◌∷◌, ◌++◌, length, get_or, sym, ap, subst, arith, inl, inr, Some, None}
+use Rattle.std.proofs.Common.{◌≡◌, ℕ, zero, suc, ◌<◌, ◌≤◌, ◌^◌, List, [], ◌∷◌, ◌++◌, length, get_or, sym, subst, arith, inl, inr, Some, None}
 use Rattle.std.specs.Prelude.{Option, pos}
-use Rattle.std.specs.List.{flat_map, AllByRecursion}
+use Rattle.std.specs.List.{AllByRecursion}
 use Rattle.std.proofs.lemmas.Bool.{cases_eq}
-use Rattle.std.proofs.lemmas.List.{length-map}
 use Rattle.rational.specs.Rational.{ℚ, int, ◌+ℚ◌, ◌-ℚ◌, ◌*ℚ◌, ◌/ℚ◌, ◌≤ℚ◌}
 use Rattle.rational.specs.Grid.{Whole}
 use Rattle.rational.specs.Ratio.{IsSmall}
@@ -17,23 +16,20 @@ use Rattle.run_laws.specs.Cards.{whole}
 use Rattle.run_laws.specs.Routes.{link_at}
 use Rattle.run_laws.proofs.Sizes.{whole_nonneg}
 use Rattle.net_model.specs.Networks.{Net}
-use Rattle.net_model.specs.NetRoutes.{server_for}
 use Rattle.net_model.specs.Accepted.{IsAccepted}
 use Rattle.net_model.specs.Traces.{SpecTrace, IsTrace}
 use Rattle.net_model.specs.Walks.{IsFeedForward}
 use Rattle.stated_runs.specs.Setups.{Entering, GateTimes, StallTimes, Opening, Setup, IsSetup, IsGateFor, opening_of, rate_of}
 use Rattle.stated_runs.specs.FromTraces.{setup_of, IsTraceOf}
 use Rattle.stated_runs.specs.TimeGrids.{HasRoom, IsTime, AreStallTimes}
-use Rattle.stated_runs.proofs.Lists.{In}
 use Rattle.stated_runs.proofs.MadeSetups.{traces_make_setups}
 use Rattle.sim_bounds.specs.Horizons.{latest_of, first_time, load, gate_ratio, gate_cycle, stalled_for, work_span, span, sum_below, horizon, AreStalls, IsForward}
 use Rattle.sim_bounds.specs.Times.{IsGateWhole, AreStallsWhole, IsGrid}
 use Rattle.sim_bounds.specs.Gauge.{simulation_gauge, grid_of}
 use Rattle.sim_bounds.specs.Way.{open_time, gated_time, gated, plain_time, plain_span, HorizonFits}
-use Rattle.sim_bounds.proofs.Members.{in_left, in_right}
 use Rattle.sim_bounds.proofs.Places.{place_of_server}
 use Rattle.sim_bounds.proofs.MadeBounds.{made_forward}
-use Rattle.sim_bounds.proofs.Spans.{sum_nonneg, first_nonneg, ratio_pos, cycle_nonneg, work_nonneg, span_nonneg, stalled_nonneg}
+use Rattle.sim_bounds.proofs.Spans.{sum_nonneg, first_nonneg, ratio_pos, cycle_nonneg, stalled_nonneg}
 use Rattle.sim_bounds.proofs.InTime.{first_in_time}
 use Rattle.sim_bounds.proofs.Gauged.{span_in, work_in, cycle_in}
 use Rattle.sim_bounds.proofs.Fits.{made_grid, horizon_whole, run_fits}
@@ -58,10 +54,6 @@ first_whole S d g =
 stalled_whole : (d : ℕ) (xs : List StallTimes) → AreStallsWhole d xs → Whole d (stalled_for xs)
 stalled_whole d [] w = whole_int d (pos 0)
 stalled_whole d (x ∷ xs) w = whole_add d (x.end -ℚ x.start) (stalled_for xs) (whole_sub d x.end x.start w.0.1 w.0.0) (stalled_whole d xs w.1)
-
-cycle_whole : (d : ℕ) (g : Option GateTimes) → IsGateWhole d g → Whole d (gate_cycle g)
-cycle_whole d None w = whole_int d (pos 0)
-cycle_whole d (Some g) w = w.0
 
 -- ---- sizes
 front_each : (P : StallTimes → Type 0) (xs ys : List StallTimes) → AllByRecursion P (xs ++ ys) → AllByRecursion P xs

@@ -1,9 +1,7 @@
 -- Flows by their numbers.
-use Rattle.std.proofs.Common.{◌≡◌, ℕ, zero, suc, ◌<◌, ◌≤◌, List, [], ◌∷◌, length, get_or, map, sym, ap, arith, inl, inr, Some}
-use Rattle.std.specs.Prelude.{Option, false, Contains}
+use Rattle.std.proofs.Common.{◌≡◌, ℕ, zero, suc, ◌<◌, List, [], ◌∷◌, length, get_or, sym, ap, arith, inl, inr, Some}
+use Rattle.std.specs.Prelude.{Option, Contains}
 use Rattle.std.specs.Option.{option_map}
-use Rattle.std.proofs.lemmas.List.{get_or_past, length-map}
-use Rattle.run_laws.specs.Routes.{Route}
 use Rattle.net_model.specs.declared.flow.Flow.{Flow}
 use Rattle.net_model.specs.NetRoutes.{route_for}
 use Rattle.net_model.specs.Views.{flow_of, flows_of}
@@ -14,12 +12,6 @@ pub flow_route : (fs : List (Option Flow)) (i : ℕ) (x : Option Flow) → i < l
 flow_route [] i x h e = absurd (omega (arith, h))
 flow_route (y ∷ ys) zero x h e = ap (λ (t : Option Flow). (route_for (option_map flow_of t)).hops) (sym e)
 flow_route (y ∷ ys) (suc i) x h e = flow_route ys i x (omega (arith, h)) e
-
-pub no_route : (fs : List (Option Flow)) (i : ℕ) → length fs ≤ i → hops_of (flows_of fs) i ≡ []
-no_route fs i h =
-    let a = length-map fs (option_map flow_of) in
-    let b = length-map (flows_of fs) route_for in
-    ap (λ (r : Route). r.hops) (get_or_past (map route_for (flows_of fs)) i record { live = false; hops = [] } (omega (arith, h, a, b)))
 
 flow_in : (fs : List (Option Flow)) (i : ℕ) (f : Flow) → i < length fs → Some f ≡ get_or fs i (Some f) → In (flows_of fs) (Some (flow_of f))
 flow_in [] i f h e = absurd (omega (arith, h))

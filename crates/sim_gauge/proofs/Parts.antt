@@ -1,5 +1,5 @@
 -- A server's part of the setup, and the loops over packets and stalls.
-use Rattle.std.proofs.Common.{◌≡◌, ℕ, ◌<◌, ◌+◌, List, ◌∷◌, length, get_or, map, drop, refl, sym, ap, ◌∙◌, subst, arith}
+use Rattle.std.proofs.Common.{◌≡◌, ℕ, ◌<◌, ◌+◌, List, ◌∷◌, length, get_or, drop, refl, sym, ap, ◌∙◌, subst, arith}
 use Rattle.std.specs.Prelude.{◌≢◌}
 use Rattle.std.proofs.lemmas.Bool.{eq-eqb, ne_eqb}
 use Rattle.std.proofs.lemmas.List.{drop_more}
@@ -8,15 +8,14 @@ use Rattle.rational.specs.Ratio.{SumFits}
 use Rattle.rational.proofs.Linear.{with6}
 use Rattle.rational.proofs.Laws.{antisym}
 use Rattle.run_laws.specs.Cards.{whole}
-use Rattle.run_laws.specs.Routes.{Routes, link_at, route_of}
-use Rattle.net_model.specs.declared.trace.TracePacket.{TracePacket}
+use Rattle.run_laws.specs.Routes.{link_at}
 use Rattle.net_model.specs.declared.trace.Stall.{Stall}
 use Rattle.net_model.specs.Networks.{Net, NetServer}
 use Rattle.net_model.specs.Traces.{SpecTrace}
 use Rattle.stated_runs.specs.Setups.{StallTimes, Opening}
 use Rattle.stated_runs.proofs.ServerSetups.{ServerIs}
-use Rattle.stated_runs.specs.FromTraces.{gate_of, stalls_at, entering, setup_of}
-use Rattle.sim_bounds.specs.Horizons.{path_bits, bits_through, load, stalled_for}
+use Rattle.stated_runs.specs.FromTraces.{gate_of, stalls_at, setup_of}
+use Rattle.sim_bounds.specs.Horizons.{load, stalled_for}
 use Rattle.sim_bounds.specs.Way.{open_time, gated_time, gated, plain_time, plain_span}
 use Rattle.sim_gauge.specs.Steps.{StallsFit}
 
@@ -38,10 +37,6 @@ pub own_gated : (net : Net) (trace : SpecTrace) (s : ℕ) (x : NetServer) → Se
 own_gated net trace s x k = ap (λ (o : Opening). gated_time o.gate (open_time (setup_of net trace) s)) k.opening
 
 -- ---- loops
-pub load_step : (net : Routes) (s : ℕ) (ps : List TracePacket) (i : ℕ) (d : TracePacket) → i < length ps
-    → bits_through net s (map entering (drop i ps)) ≡ path_bits s (route_of net (get_or ps i d).flow).hops (get_or ps i d).bits + bits_through net s (map entering (drop (i + 1) ps))
-load_step net s ps i d h = ap (λ ys. bits_through net s (map entering ys)) (drop_more ps i d h)
-
 pub stall_here : (s : ℕ) (xs : List Stall) (i : ℕ) (d : Stall) → i < length xs → (get_or xs i d).server ≡ s
     → stalls_at s (drop i xs) ≡ record { start = (get_or xs i d).start; end = (get_or xs i d).end } ∷ stalls_at s (drop (i + 1) xs)
 stall_here s xs i d h e = ap (stalls_at s) (drop_more xs i d h) ∙ (rw (eq-eqb (get_or xs i d).server s e) refl)

@@ -2,7 +2,7 @@
 use Rattle.std.proofs.Common.{◌≡◌, ℕ, ◌≤◌, List, [], ◌∷◌, ◌++◌, sym, ◌∙◌, subst, arith, append_assoc}
 use Rattle.rational.specs.Rational.{ℚ, ◌+ℚ◌, ◌-ℚ◌}
 use Rattle.rational.specs.Ratio.{SumFits}
-use Rattle.rational.proofs.Linear.{with1, with2, with3}
+use Rattle.rational.proofs.Linear.{with2, with3}
 use Rattle.rational.proofs.Laws.{antisym}
 use Rattle.rational.proofs.Grid.{whole_sub}
 use Rattle.rational.proofs.Sizes.{largest_part, sum_on_grid}

@@ -6,7 +6,7 @@ use Rattle.rational.specs.Ratio.{IsSmall}
 use Rattle.rational.specs.Whole.{whole_part}
 use Rattle.rational.proofs.Whole.{whole_le, whole_gt}
 use Rattle.rational.proofs.Linear.{with3, with4}
-use Rattle.rational.proofs.Laws.{le_refl, le_trans, le_of_lt, lt_le_trans, le_lt_trans, lt_irrefl, antisym, mul_le_mul_right}
+use Rattle.rational.proofs.Laws.{le_refl, le_trans, le_of_lt, lt_le_trans, lt_irrefl}
 use Rattle.rational.proofs.Quotients.{le_div, div_lt, div_nonneg}
 use Rattle.rational.proofs.Grid.{whole_times}
 use Rattle.run_laws.specs.Cards.{whole}

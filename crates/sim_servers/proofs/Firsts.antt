@@ -1,6 +1,6 @@
 -- Which of two that are due comes first.
 use Rattle.std.specs.Prelude.{Option, Some, None, ◌≡◌, ◌⊎◌, ◌<◌, ◌≤◌}
-use Rattle.std.proofs.Common.{arith, refl, sym, ap, ◌∙◌, subst, inl, inr}
+use Rattle.std.proofs.Common.{arith, refl, sym, ◌∙◌, subst, inl, inr}
 use Rattle.rational.specs.Rational.{◌≤ℚ◌, ◌<ℚ◌}
 use Rattle.rational.proofs.Laws.{le_refl, le_trans, le_of_lt, lt_irrefl, antisym}
 use Rattle.stated_runs.specs.DueSteps.{Rank, RankAtMost}
@@ -56,14 +56,5 @@ first_alone a = (
   λ e h. elim h [
     | inl s ↦ let f : a ≡ e = (let g : Some a ≡ Some e = s in cc) in subst (λ x. IsNoLater a x) f (no_later_refl a)
     | inr n ↦ absurd (let f : None ≡ Some e = n in cc)
-  ],
-)
-
-pub first_both : (a b d : Due) → (d ≡ a) ⊎ (d ≡ b) → IsNoLater d a → IsNoLater d b → IsFirstOf (Some a) (Some b) (Some d)
-first_both a b d one left right = (
-  elim one [ inl e ↦ inl (ap (λ x. Some x) (sym e)) | inr e ↦ inr (ap (λ x. Some x) (sym e)) ],
-  λ e h. elim h [
-    | inl s ↦ let f : a ≡ e = (let g : Some a ≡ Some e = s in cc) in subst (λ x. IsNoLater d x) f left
-    | inr s ↦ let f : b ≡ e = (let g : Some b ≡ Some e = s in cc) in subst (λ x. IsNoLater d x) f right
   ],
 )

@@ -3,15 +3,11 @@ use Rattle.std.specs.Prelude.{Option, ◌≡◌, ℕ, zero, suc, ◌+◌, ◌<�
 use Rattle.std.proofs.Common.{arith, sym, subst, inl, inr}
 use Rattle.std.proofs.lemmas.Bool.{cases_eq, cases_lt}
 use Rattle.rational.specs.Rational.{ℚ, ◌≤ℚ◌, ◌<ℚ◌}
-use Rattle.rational.proofs.Laws.{le_refl, le_trans, le_of_lt, lt_le_trans, le_lt_trans, lt_irrefl, le_or_lt}
+use Rattle.rational.proofs.Laws.{le_refl, le_trans, le_of_lt, lt_le_trans, lt_irrefl, le_or_lt}
 use Rattle.stated_runs.specs.Setups.{GateTimes, IsGateOpen, IsStalled, IsOpenAt, IsFirstGateOpen, IsFirstOpenAt, StaysTo}
 use Rattle.stated_runs.specs.TimeGrids.{IsTime, AreStallTimes}
-use Rattle.std.specs.Prelude.{false, ◌↔◌, IsTrue}
-use Rattle.std.proofs.Common.{true≢false}
-use Rattle.rational.proofs.Laws.{le_of_not_lt}
 use Rattle.sim_servers.specs.declared.opening.Span.{Span}
 use Rattle.sim_servers.specs.Openings.{stall_times}
-use Rattle.rational.proofs.Compared.{least_by_test}
 
 -- ---- stalled by one of them
 pub stalled_at : (items : List Span) (k : ℕ) (d : Span) (x : ℚ) → k < length items → (get_or items k d).start ≤ℚ x → x <ℚ (get_or items k d).end

@@ -5,7 +5,7 @@ use Rattle.std.proofs.lemmas.Bool.{cases_eq, eq-eqb, ne_eqb}
 use Rattle.std.proofs.lemmas.List.{length_push}
 use Rattle.rational.specs.Rational.{ℚ, int, ◌+ℚ◌, ◌-ℚ◌, ◌*ℚ◌, ◌/ℚ◌, ◌≤ℚ◌, ◌<ℚ◌}
 use Rattle.rational.proofs.Linear.{with2, with3}
-use Rattle.rational.proofs.Laws.{le_of_lt, lt_irrefl, lt_le_trans, antisym, mul_comm, div_mul, mul_sub, mul_pos, not_zero}
+use Rattle.rational.proofs.Laws.{le_of_lt, antisym, mul_comm, div_mul, mul_sub, mul_pos, not_zero}
 use Rattle.rational.proofs.Quotients.{div_unique}
 use Rattle.run_laws.specs.Cards.{Card, Arrives, Works, Leaves, size}
 use Rattle.run_laws.specs.Servers.{Discipline, Under, ServerState, done_so_far, head_of, without_head}

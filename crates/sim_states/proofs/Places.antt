@@ -95,9 +95,6 @@ due_counts (x ∷ xs) d (inr h) = let k = due_counts xs d h in omega (arith, k)
 pub no_due : (ds : List Due) (p : ℕ) → dues_of p ds ≡ 0 → (d : Due) → In ds d → d.packet ≢ p
 no_due ds p e d h f = let k = due_counts ds d h in let m : dues_of d.packet ds ≡ dues_of p ds = ap (λ x. dues_of x ds) f in omega (arith, k, m, e)
 
-pub no_card : (cs : List Card) (p : ℕ) → cards_of p cs ≡ 0 → (c : Card) → In cs c → c.packet ≢ p
-no_card cs p e c h f = let k = card_counts cs c h in let m : cards_of c.packet cs ≡ cards_of p cs = ap (λ x. cards_of x cs) f in omega (arith, k, m, e)
-
 one_of_many : (p : ℕ) (xs : List ServerState) (s : ℕ) (d : ServerState) → s < length xs → at_server p (get_or xs s d) ≤ sum_by (at_server p) xs
 one_of_many p xs s d h = let e = sum_by-set (at_server p) xs s record { now = d.now; busy = d.busy; inside = []; under = d.under; round = d.round } d h in omega (arith, e)
 

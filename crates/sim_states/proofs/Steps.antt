@@ -7,7 +7,7 @@ use Rattle.run_laws.specs.declared.steps.Step.TheVariants.{Enter, Reach, Work, L
 use Rattle.run_laws.specs.Cards.{Card}
 use Rattle.run_laws.specs.Servers.{Under, head_of}
 use Rattle.run_laws.specs.Routes.{server_at, link_at, server_after}
-use Rattle.run_laws.specs.Views.{hops_of, card_of, server_of, seen}
+use Rattle.run_laws.specs.Views.{hops_of, card_of, server_of}
 use Rattle.run_laws.specs.Lawful as lawful
 use Rattle.run_laws.specs.Lawful.{RunState, sent, state_at, next_run}
 use Rattle.index_links.specs.Chains.{Chains, list_at, Has, unlinked, with_list}

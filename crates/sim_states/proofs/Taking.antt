@@ -11,7 +11,7 @@ use Rattle.run_laws.specs.Servers.{queue_count}
 use Rattle.run_laws.specs.Routes.{server_at, route_of, queue_at, first_server}
 use Rattle.run_laws.specs.Views.{hops_of}
 use Rattle.run_laws.specs.Lawful as lawful
-use Rattle.run_laws.specs.Lawful.{RunState, state_at}
+use Rattle.run_laws.specs.Lawful.{state_at}
 use Rattle.queue_sched.specs.Waiting.{HasPacket}
 use Rattle.index_links.specs.Chains.{Chains}
 use Rattle.stated_runs.specs.Setups.{Setup, IsSetup}

@@ -18,7 +18,7 @@ use Rattle.net_model.specs.Networks.{Net, NetServer}
 use Rattle.net_model.specs.NetRoutes.{routes_of}
 use Rattle.net_model.specs.Traces.{SpecTrace, IsTrace}
 use Rattle.net_model.specs.Views.{server_of, servers_of}
-use Rattle.net_cells.specs.Numbered.{service, service_of}
+use Rattle.net_cells.specs.Numbered.{service_of}
 use Rattle.stated_runs.specs.FromTraces.{setup_of, stalls_at, IsTraceOf}
 use Rattle.stated_runs.specs.Simulated.{IsSimulated}
 use Rattle.stated_service.specs.Laws.{IsByFormula}

@@ -11,7 +11,7 @@ use Rattle.run_laws.specs.declared.steps.Step.TheVariants.{Enter, Reach, Work, L
 use Rattle.run_laws.specs.Cards.{Arrives, Works, Leaves, Visits}
 use Rattle.run_laws.specs.Servers.{Under, Span, done_so_far}
 use Rattle.run_laws.specs.Next.{next}
-use Rattle.run_laws.specs.Routes.{Hop, Routes, server_at, link_at, route_of, PassesServer, first_of, first_server, server_after}
+use Rattle.run_laws.specs.Routes.{Routes, server_at, link_at, route_of, PassesServer, first_server, server_after}
 use Rattle.run_laws.specs.Views.{Entry, entry_of, hops_of, card_of}
 use Rattle.run_laws.specs.Lawful.{Due, RunState, sent, state_at, next_run}
 use Rattle.stated_runs.specs.Setups.{Setup, packet_of, IsSetup, AreHopsOf, MayComeIn}

@@ -1,5 +1,5 @@
 -- A stated run is lawful.
-use Rattle.std.proofs.Common.{◌≡◌, ℕ, zero, suc, ◌<◌, ◌≤◌, ◌+◌, List, [], ◌∷◌, ◌++◌, length, get_or, set, map, refl, sym, ap, ◌∙◌, subst, arith, inl, inr, ◌⊎◌, Some, None}
+use Rattle.std.proofs.Common.{◌≡◌, ℕ, ◌<◌, ◌≤◌, List, [], ◌∷◌, ◌++◌, length, get_or, refl, sym, ap, ◌∙◌, subst, arith, inl, inr, ◌⊎◌, Some, None}
 use Rattle.std.specs.Prelude.{Option, pos}
 use Rattle.std.proofs.lemmas.Bool.{cases_eq}
 use Rattle.std.proofs.lemmas.List.{get_or-map, length-map}
@@ -13,8 +13,8 @@ use Rattle.run_laws.specs.Runs.{SpecRun}
 use Rattle.run_laws.specs.Cards.{Card, size}
 use Rattle.run_laws.specs.Servers.{Fifo, Server, Under, ServerState, done, start}
 use Rattle.run_laws.specs.Next.{next_busy}
-use Rattle.run_laws.specs.Allows.{Allows, MayLeave, MayWork, IsInTime, next_card, IsComplete}
-use Rattle.run_laws.specs.Routes.{Hop, Routes, server_at, link_at, route_of, PassesServer, first_of, first_server, server_after}
+use Rattle.run_laws.specs.Allows.{Allows, MayLeave, MayWork, IsInTime, IsComplete}
+use Rattle.run_laws.specs.Routes.{Routes, server_at, route_of, PassesServer, first_server}
 use Rattle.run_laws.specs.Views.{Entry, hops_of, card_of, server_of, seen}
 use Rattle.run_laws.specs.Lawful.{Due, RunState, state_at, next_run, run_start, after_run, AllowsInRun, AllAllowedInRun, IsLawful}
 use Rattle.stated_runs.specs.Setups.{Setup, IsSetup}

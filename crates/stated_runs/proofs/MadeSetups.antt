@@ -1,6 +1,6 @@
 -- A network and a trace make a setup.
 use Rattle.std.proofs.Common.{◌≡◌, ℕ, zero, suc, ◌<◌, ◌≤◌, ◌^◌, List, [], ◌∷◌, length, map, get_or, refl, sym, ap, ◌∙◌, subst, arith, inl, inr, Some, None}
-use Rattle.std.specs.Prelude.{Option, pos, true, ◌==◌, ◌⊎◌, slice_get, slice_index, Contains}
+use Rattle.std.specs.Prelude.{pos, ◌==◌, ◌⊎◌, slice_get, slice_index}
 use Rattle.std.proofs.lemmas.Bool.{cases_Bool, cases_eq}
 use Rattle.std.proofs.lemmas.List.{get_or-map, length-map}
 use Rattle.std.proofs.lemmas.Option.{slice_get_within}

@@ -1,6 +1,6 @@
 -- A server with a packet inside and none under way has one that it may start, or a visit that it may make.
 use Rattle.std.proofs.Common.{◌≡◌, ℕ, zero, suc, ◌<◌, ◌≤◌, ◌+◌, ◌^◌, List, [], ◌∷◌, length, get_or, refl, sym, ap, ◌∙◌, subst, arith, inl, inr, ◌⊎◌, Some, None}
-use Rattle.std.specs.Prelude.{Option, ◌≢◌}
+use Rattle.std.specs.Prelude.{Option}
 use Rattle.std.proofs.lemmas.Bool.{le-leb, eq-eqb}
 use Rattle.rational.specs.Rational.{ℚ}
 use Rattle.run_laws.specs.Cards.{Card, Arrives, Works, Leaves, Visits}
@@ -79,10 +79,6 @@ left_of quanta cards r u h head =
       closed = λ j d. k.closed j (λ g. d (same_some j q (sym g ∙ k.of_visit)));
       opened = omega (arith, o);
     }
-
--- a first packet that comes after another has left was inside before
-rest_head : (q p : ℕ) (cs : List Card) (c : Card) → head_of q (without_head p cs) ≡ Some c → q ≢ p → head_of q cs ≡ Some c
-rest_head q p cs c e d = sym (head_without q p cs (λ g. d (sym g))) ∙ e
 
 pub turning_leave : (d : Discipline) (σ : ServerState) (u : Under) (t : ℚ) → σ.under ≡ Some u
     → ((c : Card) → head_of u.card.queue (without_head u.card.queue σ.inside) ≡ Some c → c.bits ≤ 2 ^ 32)

@@ -1,10 +1,10 @@
 -- Step by step, a server of a stated run without a stall works at its rate in all open time in which it has something to
 -- work on.
 use Rattle.std.proofs.Common.{◌≡◌, ℕ, List, [], ◌∷◌, ◌++◌, refl, sym, ap, ◌∙◌, subst, arith, inl, inr, Some, None}
-use Rattle.std.specs.Prelude.{Option, ◌≢◌, pos, true, ◌⊎◌}
+use Rattle.std.specs.Prelude.{◌≢◌, pos, true, ◌⊎◌}
 use Rattle.rational.specs.Rational.{ℚ, int, ◌+ℚ◌, ◌-ℚ◌, ◌*ℚ◌, ◌/ℚ◌, ◌≤ℚ◌, ◌<ℚ◌}
 use Rattle.rational.proofs.Linear.{with1, with2, with4, with5, with6, with7, with8}
-use Rattle.rational.proofs.Laws.{le_refl, le_trans, le_of_lt, lt_le_trans, le_lt_trans, le_or_lt, lt_irrefl, antisym, between, mul_le_mul, mul_sub, mul_add, mul_assoc, mul_comm, mul_pos, div_mul, not_zero}
+use Rattle.rational.proofs.Laws.{le_trans, le_of_lt, lt_le_trans, le_or_lt, lt_irrefl, antisym, between, mul_le_mul, mul_sub, mul_add, mul_assoc, mul_comm, mul_pos, div_mul, not_zero}
 use Rattle.rational.proofs.MinMax.{lt_q_not, le_q_not}
 use Rattle.run_laws.specs.Cards.{Card, ServerStep, Arrives, Works, Leaves, Visits, all, size}
 use Rattle.run_laws.specs.Counts.{when, arrived, worked, before}

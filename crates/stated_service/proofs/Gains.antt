@@ -1,7 +1,7 @@
 -- Work that grows at least as a rate times an open time, in windows that are put together.
 use Rattle.std.proofs.Common.{◌≡◌, List, subst, arith, inl, inr}
 use Rattle.rational.specs.Rational.{ℚ, ◌+ℚ◌, ◌*ℚ◌, ◌≤ℚ◌, ◌<ℚ◌}
-use Rattle.rational.proofs.Linear.{with3, with6}
+use Rattle.rational.proofs.Linear.{with6}
 use Rattle.rational.proofs.Laws.{le_refl, le_of_lt, le_lt_trans, le_or_lt}
 use Rattle.run_laws.specs.Cards.{ServerStep, all}
 use Rattle.run_laws.specs.Counts.{arrived, worked}

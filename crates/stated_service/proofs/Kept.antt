@@ -8,7 +8,7 @@ use Rattle.rational.specs.MinMax.{min_q, max_q}
 use Rattle.rational.specs.Extended.{Ext, ◌≤ₑ◌, ◌+ₑ◌}
 use Rattle.rational.specs.declared.Extended.TheVariants.{Fin}
 use Rattle.rational.proofs.Linear.{with1, with2, with3, with4, with5}
-use Rattle.rational.proofs.Laws.{le_refl, le_trans, le_of_lt, lt_le_trans, le_lt_trans, le_or_lt, between, mul_le_mul, mul_sub, mul_add}
+use Rattle.rational.proofs.Laws.{le_trans, le_of_lt, lt_le_trans, le_or_lt, between, mul_le_mul, mul_sub, mul_add}
 use Rattle.rational.proofs.MinMax.{below_min_in, below_min_out, max_q_le}
 use Rattle.min_plus.specs.Functions.{zero_q}
 use Rattle.upp_curve.specs.Curve.{SpecCurve, value_at}
@@ -20,7 +20,7 @@ use Rattle.run_laws.specs.Cards.{Card, ServerStep, all, size}
 use Rattle.run_laws.specs.Counts.{arrived, worked}
 use Rattle.run_laws.specs.Runs.{SpecRun}
 use Rattle.run_laws.specs.Routes.{server_at, first_server, route_of}
-use Rattle.run_laws.specs.Servers.{Under, ServerState, Discipline, Fifo, start, head_of}
+use Rattle.run_laws.specs.Servers.{ServerState, Fifo, start, head_of}
 use Rattle.run_laws.specs.Next.{next}
 use Rattle.run_laws.specs.Views.{card_of, entered_after, server_of, seen, view_from, view}
 use Rattle.run_laws.specs.Lawful.{RunState, state_at, next_run, run_start}

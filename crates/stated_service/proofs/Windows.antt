@@ -5,7 +5,7 @@ use Rattle.std.proofs.lemmas.Bool.{cases_order}
 use Rattle.rational.specs.Rational.{ℚ, int, ◌+ℚ◌, ◌-ℚ◌, ◌*ℚ◌, ◌/ℚ◌, ◌≤ℚ◌, ◌<ℚ◌}
 use Rattle.rational.specs.MinMax.{min_q, max_q}
 use Rattle.rational.specs.Whole.{whole_part}
-use Rattle.rational.proofs.Linear.{with1, with2, with3, with4, with5, with6, with7}
+use Rattle.rational.proofs.Linear.{with2, with3, with4, with5}
 use Rattle.rational.proofs.Laws.{le_refl, le_trans, le_of_lt, lt_le_trans, mul_sub, add_mul, antisym, mul_nonneg}
 use Rattle.rational.proofs.MinMax.{min_q_le_right, min_q_ge, min_q_mono, max_q_le}
 use Rattle.rational.proofs.Quotients.{div_le}

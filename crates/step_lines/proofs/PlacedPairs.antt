@@ -111,18 +111,12 @@ placing_more height rate es k bits ps qs p e l at few P pushed K = rw add-one (r
         (subst (λ (x : Entering). IsPlaced height rate x.time (bits_under k es) (bits_under (suc k) es) p) is
         (subst (λ (n : ℕ). IsPlaced height rate e.time (bits_under k es) n p) sums (subst (λ (n : ℕ). IsPlaced height rate e.time n (bits + e.bits) p) K.so_far P)))
 
-pub all_placed : (height rate : ℚ) (es : List Entering) (k bits : ℕ) (ps : List Placed) → length es ≤ k → k ≤ length es → IsPlacing height rate es k bits ps → ArePlaced height rate es ps (length es)
-all_placed height rate es k bits ps l m K = let same : k ≡ length es = omega arith in subst (ArePlaced height rate es ps) same K.are
-
 -- ---- one packet more that is within the slack
 -- the packets so far are let in, with lags of at least `least`
 pub record AreLaid (slack wide : ℚ) (parts nodes : List ℚ) (ps : List Placed) (k : ℕ) (least : ℚ) : Type 0 where
   pub lags : (i : ℕ) → i < k → least ≤ℚ (placed ps i).lag
   pub ins : (i : ℕ) → i < k → IsIn parts nodes (placed ps i)
   pub keep : KeepPlaces slack wide ps k
-
-pub laid_none : (slack wide : ℚ) (parts nodes : List ℚ) (ps : List Placed) (least : ℚ) → AreLaid slack wide parts nodes ps 0 least
-laid_none slack wide parts nodes ps least = record { lags = λ i l. absurd (omega arith); ins = λ i l. absurd (omega arith); keep = λ i j l m. absurd (omega arith) }
 
 pub laid_more : (slack wide : ℚ) (parts old nodes : List ℚ) (ps : List Placed) (k : ℕ) (least next near : ℚ) (p : Placed) → k < length ps → p ≡ slice_index_or ps k p → IsIn parts nodes p
     → ((at : ℕ) (v : ℚ) → Covers old v at → Covers nodes v at) → next ≡ min_q least p.lag → p.lead ≤ℚ next +ℚ wide

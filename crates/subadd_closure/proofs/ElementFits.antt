@@ -2,13 +2,13 @@
 use Rattle.std.specs.Prelude.{◌≡◌, pos, List, [], ◌∷◌, map, ◌⊎◌, Option, Some, None}
 use Rattle.std.proofs.Common.{arith, sym, refl, ap, ◌∙◌, subst, inl, inr}
 use Rattle.rational.specs.Rational.{ℚ, ◌+ℚ◌, ◌*ℚ◌, ◌/ℚ◌, ◌≤ℚ◌, ◌<ℚ◌, int, neg_ℚ}
-use Rattle.rational.specs.Extended.{Ext, ◌≤ₑ◌, ◌<ₑ◌, ◌+ₑ◌}
+use Rattle.rational.specs.Extended.{Ext, ◌≤ₑ◌, ◌<ₑ◌}
 use Rattle.rational.specs.declared.Extended.TheVariants.{Fin, Inf}
 use Rattle.rational.proofs.Linear.{with1, with2, with3}
 use Rattle.rational.proofs.Laws.{le_or_lt, lt_irrefl, lt_trans, le_lt_trans, antisym, between, half, half_is, half_pos, div_mul, not_zero, lt_of_mul, mul_lt_mul_right, mul_assoc, mul_comm, one_mul, zero_mul}
 use Rattle.rational.proofs.Over.{le_q_out}
 use Rattle.rational.proofs.MinMax.{le_q_not}
-use Rattle.rational.proofs.ExtendedOrder.{le_ext_trans, same_le_ext, add_zero_ext}
+use Rattle.rational.proofs.ExtendedOrder.{le_ext_trans, same_le_ext}
 use Rattle.affine_segment.specs.declared.line.Line.{Line}
 use Rattle.affine_segment.specs.declared.line.Piece.{Piece}
 use Rattle.affine_segment.specs.declared.element.Element.{Element}

@@ -2,13 +2,13 @@
 -- its start, fit.
 use Rattle.std.specs.Prelude.{◌≡◌, ◌<◌, ◌^◌, pos, List, [], ◌∷◌}
 use Rattle.std.specs.List.{AllByRecursion}
-use Rattle.std.proofs.Common.{arith, sym, refl, subst, inl, inr}
-use Rattle.rational.specs.Rational.{ℚ, ◌+ℚ◌, ◌-ℚ◌, ◌*ℚ◌, ◌≤ℚ◌, ◌<ℚ◌, int}
+use Rattle.std.proofs.Common.{arith, sym, subst, inl, inr}
+use Rattle.rational.specs.Rational.{ℚ, ◌+ℚ◌, ◌-ℚ◌, ◌≤ℚ◌, ◌<ℚ◌, int}
 use Rattle.rational.specs.Grid.{Whole, Within}
 use Rattle.rational.specs.Extended.{Ext}
 use Rattle.rational.specs.declared.Extended.TheVariants.{Fin, Inf}
-use Rattle.rational.proofs.Linear.{with1, with2}
-use Rattle.rational.proofs.Laws.{antisym, le_refl, le_of_lt, le_trans, not_zero}
+use Rattle.rational.proofs.Linear.{with2}
+use Rattle.rational.proofs.Laws.{le_refl, le_of_lt, le_trans, not_zero}
 use Rattle.rational.proofs.Grid.{whole_add, whole_sub, within_sub}
 use Rattle.affine_segment.specs.declared.line.Line.{Line}
 use Rattle.affine_segment.specs.declared.line.Piece.{Piece}
@@ -19,8 +19,7 @@ use Rattle.upp_curve.specs.Curve.{SpecCurve}
 use Rattle.min_plus.specs.Functions.{zero_q}
 use Rattle.affine_segment.specs.Pieces.{Each, StartsAtZero}
 use Rattle.upp_curve.specs.Normal.{IsRaw, IsNormal}
-use Rattle.upp_curve.specs.Steady.{rank_of, steady}
-use Rattle.upp_limits.specs.Periods.{own_period}
+use Rattle.upp_curve.specs.Steady.{rank_of}
 use Rattle.upp_limits.specs.Spans.{spans}
 use Rattle.upp_limits.specs.Limits.{Sizes, own_end, own_sizes, own_gauge}
 use Rattle.upp_limits.specs.Sized.{TailStands, SpanStands, grid_of, times_largest}

@@ -10,11 +10,10 @@ use Rattle.affine_segment.specs.declared.element.Element.{Element}
 use Rattle.affine_segment.specs.declared.element.Element.TheVariants.{Point, Open}
 use Rattle.affine_segment.specs.Elements.{Covers, start_of}
 use Rattle.affine_segment.specs.Pieces.{RisesFrom, StartsAtZero, HasStart}
-use Rattle.element_envelope.specs.PieceElements.{next_start, elements_of, Among}
+use Rattle.element_envelope.specs.PieceElements.{elements_of, Among}
 use Rattle.element_envelope.proofs.Members.{among_cases}
 use Rattle.element_envelope.proofs.Cover.{head, head_cases}
 use Rattle.curve_call.proofs.CurveRises.{at_least}
-use Rattle.element_envelope.proofs.Envelopes.{from_start}
 
 -- ---- one piece
 head_start : (p : Piece) (next : Ext) (e : Element) → Among e (head p.x p.at p.line next) → start_of e ≡ p.x

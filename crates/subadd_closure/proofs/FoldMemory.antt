@@ -1,31 +1,30 @@
 -- At which call of the fold memory was wanting.
 use Rattle.std.specs.Prelude.{◌≡◌, ℕ, ◌+◌, ◌≤◌, List, [], ◌∷◌, ◌++◌, map, Option, Some, None, Result, Ok, Err}
-use Rattle.std.proofs.Common.{arith, sym, refl, ap, ◌∙◌, subst, inl, inr}
+use Rattle.std.proofs.Common.{arith, sym, refl, ap, ◌∙◌, subst}
 use Rattle.std.proofs.lemmas.List.{append_assoc}
 use Rattle.rational.specs.Rational.{ℚ}
-use Rattle.rational.specs.declared.Extended.TheVariants.{Fin}
 use Rattle.rational.proofs.Laws.{le_refl}
 use Rattle.affine_segment.specs.declared.element.Element.{Element}
 use Rattle.affine_segment.specs.declared.element.Element.TheVariants.{Point, Open}
 use Rattle.upp_limits.specs.declared.op_kind.OpKind.{OpKind}
-use Rattle.upp_limits.specs.declared.op_kind.OpKind.TheVariants.{Min, Convolve}
+use Rattle.upp_limits.specs.declared.op_kind.OpKind.TheVariants.{Convolve}
 use Rattle.upp_limits.specs.declared.op_kind.OpFault.{OpFault}
 use Rattle.upp_limits.specs.declared.op_kind.OpFault.TheVariants.{NoMemory}
-use Rattle.upp_limits.specs.Outcome.{IsWithin, KeepsLimits}
+use Rattle.upp_limits.specs.Outcome.{KeepsLimits}
 use Rattle.upp_curve.specs.Curve.{SpecCurve, value_at}
 use Rattle.upp_curve.specs.Normal.{IsRaw}
 use Rattle.min_plus.specs.Functions.{zero_q, IsFinite}
 use Rattle.curve_call.specs.Calls.{Applies, Then, goes_on, stops}
 use Rattle.closure_elements.specs.ElementAnswers.{IsElementClosure}
-use Rattle.closure_elements.specs.Lattices.{lattice_curve, origin_curve}
+use Rattle.closure_elements.specs.Lattices.{lattice_curve}
 use Rattle.subadd_closure.specs.declared.part.Part.{Part}
 use Rattle.subadd_closure.specs.CurveParts.{copies_of, part_of, parts_of}
-use Rattle.subadd_closure.specs.Folds.{segment_number, SegmentCause, SegmentWithin, PartAnswer, PartsAnswer}
-use Rattle.subadd_closure.specs.FoldMemory.{PartWants, NextWants, StopsAt, StopsAfter, PartsWant, CloseWants}
+use Rattle.subadd_closure.specs.Folds.{segment_number, SegmentCause, SegmentWithin, PartsAnswer}
+use Rattle.subadd_closure.specs.FoldMemory.{PartWants, StopsAt, StopsAfter, PartsWant, CloseWants}
 use Rattle.subadd_closure.specs.FoldWork.{part_work, parts_work}
 use Rattle.subadd_closure.specs.PartStars.{turn_of}
 use Rattle.subadd_closure.specs.StartsAt.{StartsAt}
-use Rattle.subadd_closure.specs.Stars.{OrWants, answers, wants, Copies, StarWants, ElementWants, turn_work}
+use Rattle.subadd_closure.specs.Stars.{answers, wants, Copies, StarWants, ElementWants}
 use Rattle.subadd_closure.proofs.FirstElements.{elements_begin}
 use Rattle.subadd_closure.proofs.OneFold.{one_closure}
 
@@ -42,9 +41,6 @@ same_want {B} r y e is same want =
 pub call_wants : (op : OpKind) (f g : SpecCurve) (r s : Result SpecCurve OpFault) → s ≡ r → KeepsLimits op f g r
     → s ≡ Err NoMemory → Applies op f g (Err NoMemory)
 call_wants op f g r s same limits want = let is : r ≡ Err NoMemory = sym same ∙ want in rw is at limits
-
-applied_wants : (op : OpKind) (f g h : SpecCurve) → Applies op f g (Ok h) → Applies op f g (Err NoMemory)
-applied_wants op f g h a = a.within
 
 -- a call, and what takes no call after it
 pub then_wants : (f g : SpecCurve) (v : ℚ) (r : Result SpecCurve OpFault) → Then (Applies Convolve f g) (StartsAt v) r

@@ -1,18 +1,17 @@
 -- A curve that is infinite at 0, finite past it and repeats later on: with a value at 0 that is not what the value a
 -- period after 0 would ask for, it keeps its tail.
 use Rattle.std.specs.Prelude.{◌≡◌, ◌≢◌, ℕ, pos, List}
-use Rattle.std.proofs.Common.{arith, sym, refl, ap, ◌∙◌, subst, inl, inr}
+use Rattle.std.proofs.Common.{arith, sym, ap, ◌∙◌, subst, inl, inr}
 use Rattle.rational.specs.Rational.{ℚ, ◌+ℚ◌, ◌*ℚ◌, ◌/ℚ◌, ◌≤ℚ◌, ◌<ℚ◌, int}
 use Rattle.rational.specs.Extended.{Ext, ◌+ₑ◌}
 use Rattle.rational.specs.declared.Extended.TheVariants.{Fin, Inf}
 use Rattle.rational.proofs.ExtendedOrder.{add_cancel_ext}
 use Rattle.rational.proofs.Laws.{le_or_lt, le_refl, le_of_lt, above, div_mul, not_zero, mul_lt_mul_right}
 use Rattle.rational.proofs.Linear.{with1, with2, with3}
-use Rattle.rational.proofs.MinMax.{le_q_not}
 use Rattle.affine_segment.specs.declared.line.Piece.{Piece}
 use Rattle.upp_curve.specs.declared.curve.Tail.{Tail}
 use Rattle.upp_curve.specs.declared.curve.Tail.TheVariants.{Periodic, Affine, Infinite}
-use Rattle.upp_curve.specs.Curve.{SpecCurve, value_at, with_tail, repeated, cut}
+use Rattle.upp_curve.specs.Curve.{SpecCurve, value_at, with_tail, repeated}
 use Rattle.min_plus.specs.Functions.{zero_q}
 use Rattle.affine_segment.specs.Pieces.{StartsAtZero}
 use Rattle.upp_curve.specs.Normal.{TailFits, IsNormal}

@@ -1,5 +1,5 @@
 -- The answer of the fold is determined, since that of each of its calls is.
-use Rattle.std.specs.Prelude.{◌≡◌, ◌≢◌, ℕ, ◌<◌, ◌≤◌, ◌^◌, List, [], ◌∷◌, Option, Some, None, Result, Ok, Err}
+use Rattle.std.specs.Prelude.{◌≡◌, ◌≢◌, ℕ, List, [], ◌∷◌, Option, Some, None, Ok, Err}
 use Rattle.std.proofs.Common.{arith, sym, refl, ap, ◌∙◌, subst, inl, inr}
 use Rattle.rational.specs.Rational.{ℚ, ◌≤ℚ◌}
 use Rattle.rational.proofs.Laws.{le_or_lt, antisym}
@@ -19,7 +19,7 @@ use Rattle.subadd_closure.specs.CurveParts.{parts_of}
 use Rattle.subadd_closure.specs.declared.part.Copies.{Copies}
 use Rattle.subadd_closure.specs.declared.part.Part.{Part}
 use Rattle.closure_elements.specs.Lattices.{lattice_curve, origin_curve}
-use Rattle.subadd_closure.specs.Folds.{segment_number, SegmentWithin, SegmentCause, ElementAnswer, CopiedAnswer, LoweredAnswer, PartAnswer, FoldAnswer, PartsAnswer, IsSetBackCurve, SetBackAnswer, CloseAnswer}
+use Rattle.subadd_closure.specs.Folds.{segment_number, SegmentWithin, SegmentCause, ElementAnswer, CopiedAnswer, LoweredAnswer, PartAnswer, FoldAnswer, PartsAnswer, IsSetBackCurve, SetBackAnswer}
 use Rattle.subadd_closure.specs.FoldLaws.{CloseAnswerIsDetermined}
 
 -- ---- the operator of a segment

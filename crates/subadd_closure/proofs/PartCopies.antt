@@ -1,6 +1,6 @@
 -- The copies of an element, by a test of where it starts.
-use Rattle.std.specs.Prelude.{◌≡◌, Bool, true, false, cond, Option, Some, None}
-use Rattle.std.proofs.Common.{sym, refl, ap, ◌∙◌, subst, inl, inr, true≢false}
+use Rattle.std.specs.Prelude.{◌≡◌, Bool, true, false, Some, None}
+use Rattle.std.proofs.Common.{sym, refl, ◌∙◌, subst, inl, inr, true≢false}
 use Rattle.rational.specs.Rational.{ℚ, ◌<ℚ◌, lt_q}
 use Rattle.rational.proofs.Laws.{le_or_lt}
 use Rattle.rational.proofs.Over.{le_q_out, lt_q_out, lt_q_in}
@@ -9,7 +9,6 @@ use Rattle.affine_segment.specs.declared.element.Element.{Element}
 use Rattle.affine_segment.specs.Elements.{start_of}
 use Rattle.upp_curve.specs.declared.curve.Tail.{Tail}
 use Rattle.upp_curve.specs.declared.curve.Tail.TheVariants.{Periodic}
-use Rattle.subadd_closure.specs.declared.part.Copies.{Copies}
 use Rattle.subadd_closure.specs.CurveParts.{copies_of}
 
 pub early_copies : (tail : Tail) (e : Element) (rank period rise s : ℚ) (b : Bool) → tail ≡ Periodic rank period rise

@@ -1,50 +1,44 @@
 -- Bounds of the number of periods in the fold of a closure, over curves.
-use Rattle.std.specs.Prelude.{◌≡◌, ◌≢◌, ℕ, suc, ◌+◌, ◌≤◌, pos, Bool, true, false, not, IsTrue, ◌↔◌, cond, List, [], ◌∷◌, Option, Some, None, IfSome}
+use Rattle.std.specs.Prelude.{◌≡◌, ◌≢◌, ℕ, suc, ◌+◌, ◌≤◌, pos, Bool, true, false, not, IsTrue, ◌↔◌, cond, List, [], ◌∷◌, None}
 use Rattle.std.proofs.Common.{arith, sym, refl, ap, ap₂, ◌∙◌, subst, inl, inr, length, get_or, true≢false}
 use Rattle.rational.specs.Rational.{ℚ, ◌+ℚ◌, ◌-ℚ◌, ◌*ℚ◌, ◌/ℚ◌, ◌≤ℚ◌, ◌<ℚ◌, int, le_q}
 use Rattle.rational.specs.Extended.{Ext, ◌<ₑ◌, ◌≤ₑ◌, ◌+ₑ◌}
 use Rattle.rational.specs.declared.Extended.TheVariants.{Fin, Inf}
 use Rattle.rational.proofs.Grid.{whole_int}
 use Rattle.rational.proofs.Linear.{with2, with3, with4, with5, with7}
-use Rattle.rational.proofs.Laws.{le_refl, le_trans, le_of_lt, lt_trans, lt_le_trans, le_lt_trans, mul_nonneg, not_zero, le_of_not_lt}
+use Rattle.rational.proofs.Laws.{le_refl, le_trans, le_of_lt, lt_le_trans, mul_nonneg, not_zero, le_of_not_lt}
 use Rattle.rational.proofs.Integers.{nat_nonneg}
 use Rattle.rational.proofs.Quotients.{div_unique}
 use Rattle.rational.proofs.Whole.{one_more_times}
-use Rattle.affine_segment.specs.declared.line.Line.{Line}
 use Rattle.affine_segment.specs.declared.line.Piece.{Piece}
-use Rattle.affine_segment.specs.Reading.{read, piece_in, piece_value}
+use Rattle.affine_segment.specs.Reading.{read, piece_value}
 use Rattle.affine_segment.specs.Values.{line_value}
 use Rattle.affine_segment.proofs.PieceIn.{piece_in_stop, read_is}
 use Rattle.upp_curve.specs.declared.curve.Tail.{Tail}
 use Rattle.upp_curve.specs.declared.curve.Tail.TheVariants.{Periodic}
-use Rattle.upp_curve.specs.Curve.{SpecCurve, value_at, repeated}
+use Rattle.upp_curve.specs.Curve.{SpecCurve, value_at}
 use Rattle.upp_curve.specs.Curves.{IsCurve}
 use Rattle.upp_curve.specs.Normal.{TailFits}
-use Rattle.upp_curve.specs.Steady.{steady, steady_in, rate, rise_over, Repeats}
+use Rattle.upp_curve.specs.Steady.{steady, steady_in, rate, rise_over}
 use Rattle.upp_curve.proofs.Repeats.{repeated_first}
-use Rattle.upp_curve.proofs.SteadyTimes.{steady_nonneg}
-use Rattle.upp_limits.specs.Limits.{Sizes}
-use Rattle.upp_normal.specs.Ahead.{HasWindow, IsTimeIn}
+use Rattle.upp_normal.specs.Ahead.{IsTimeIn}
 use Rattle.upp_normal.proofs.StretchValues.{value_periodic}
 use Rattle.upp_normal.proofs.UnrollSteps.{ext_cases}
-use Rattle.min_plus.specs.Functions.{zero_q}
 use Rattle.curve_call.specs.Rises.{CurveRiseFits}
 use Rattle.curve_call.proofs.CurveRises.{rise_is}
 use Rattle.curve_least.specs.declared.bounds.Bounds.{Bounds}
-use Rattle.curve_least.specs.Bounds.{own_or, OwnWindow, IsFiniteLate}
-use Rattle.curve_least.specs.Compared.{IsLookedAt}
+use Rattle.curve_least.specs.Bounds.{own_or, IsFiniteLate}
 use Rattle.curve_least.specs.Gaps.{InWindow, IsLargest}
 use Rattle.curve_least.specs.Levels.{level_curve}
 use Rattle.curve_least.proofs.OwnPeriods.{own_period_is, own_looked}
 use Rattle.curve_least.proofs.Rises.{rate_rise}
 use Rattle.curve_least.proofs.MostAbove.{own_repeats, finite_rate, not_falling, rates_order, top_bounds, depth_bounds, depth_finite}
 use Rattle.curve_conv.specs.Late.{IsLateAfter, IsLateCall}
-use Rattle.curve_conv.specs.LateBounds.{IsTop, IsDepth, IsLateBounds}
+use Rattle.curve_conv.specs.LateBounds.{IsTop, IsLateBounds}
 use Rattle.curve_conv.specs.Scans.{sizes_in}
 use Rattle.curve_conv.proofs.BoundsFound.{slow_looked, fast_looked}
 use Rattle.curve_conv.proofs.FoundGaps.{number_found}
 use Rattle.curve_conv.proofs.LateNumbers.{late_times, end_some}
-use Rattle.curve_conv.proofs.OwnExtremes.{OwnWindows, slow_windows, fast_windows}
 use Rattle.subadd_closure.specs.QuickBounds.{Reaches, IsLevel, IsFloor, BeginsLate}
 use Rattle.subadd_closure.proofs.QuickLate.{reach_from_zero, reach_from_start, late_by_level}
 

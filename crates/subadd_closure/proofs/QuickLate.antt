@@ -1,19 +1,17 @@
 -- How far up the part of a convolution reaches in which the slower function repeats, and that this bounds the number of
 -- periods: over functions.
-use Rattle.std.specs.Prelude.{◌≡◌, ◌+◌, pos, [], ◌∷◌}
+use Rattle.std.specs.Prelude.{◌≡◌, pos, [], ◌∷◌}
 use Rattle.std.proofs.Common.{arith, sym, ap, ap₂, ◌∙◌, subst, inl, inr}
 use Rattle.rational.specs.Rational.{ℚ, ◌+ℚ◌, ◌-ℚ◌, ◌*ℚ◌, ◌≤ℚ◌, ◌<ℚ◌, int}
 use Rattle.rational.specs.Extended.{Ext, ◌≤ₑ◌, ◌+ₑ◌}
 use Rattle.rational.specs.declared.Extended.TheVariants.{Fin, Inf}
 use Rattle.rational.proofs.Linear.{with_atoms, with2, with3, with4, with5, with6}
-use Rattle.rational.proofs.Laws.{le_refl, le_trans, le_of_lt, add_zero, mul_add, sub_mul, sub_add, mul_le_mul, mul_nonneg}
+use Rattle.rational.proofs.Laws.{le_refl, le_trans, le_of_lt, add_zero, mul_add, sub_mul, mul_le_mul, mul_nonneg}
 use Rattle.rational.proofs.Integers.{nat_nonneg}
 use Rattle.rational.proofs.ExtendedOrder.{le_ext_trans, add_le_ext, le_ext_refl, same_le_ext}
 use Rattle.upp_curve.specs.Steady.{Repeats}
 use Rattle.upp_normal.proofs.UnrollSteps.{ext_cases}
-use Rattle.min_plus.specs.Convolution.{Split}
 use Rattle.upp_limits.specs.Windows.{IsLateLeast}
-use Rattle.curve_least.specs.Gaps.{InWindow}
 use Rattle.curve_least.proofs.MostAbove.{moved_back, times_rate}
 use Rattle.curve_least.proofs.Shifts.{later_value}
 use Rattle.curve_conv.specs.LateBounds.{IsTop, IsDepth}

@@ -1,7 +1,6 @@
 -- The operator of a segment: how many of the stretches of its sums end before the next begins, and its limits.
 use Rattle.std.specs.Prelude.{◌≡◌, ℕ, suc, ◌+◌, ◌*◌, ◌^◌, ◌<◌, ◌≤◌, cond, pos, Some, None, Result, Ok, Err, IfOk}
 use Rattle.std.proofs.Common.{arith, sym, refl, ap, ◌∙◌, subst}
-use Rattle.std.proofs.Math.Nat.{mul-le-mul_right}
 use Rattle.rational.specs.Rational.{ℚ, ◌-ℚ◌, ◌/ℚ◌, ◌≤ℚ◌, ◌<ℚ◌, int}
 use Rattle.rational.specs.Whole.{whole_part}
 use Rattle.rational.specs.declared.Extended.TheVariants.{Fin, Inf}
@@ -27,8 +26,8 @@ use Rattle.curve_call.specs.declared.windows.CallWindow.{CallWindow}
 use Rattle.curve_call.specs.FirstWindows.{IsFirstWindow, IsWideAtFirst}
 use Rattle.closure_elements.specs.ElementCurves.{IsStretch}
 use Rattle.closure_elements.specs.MeetLaws.{StretchesMeet}
-use Rattle.subadd_closure.specs.Folds.{segment_number, SegmentWithin, SegmentCause}
-use Rattle.subadd_closure.specs.SegmentLimits.{IsOwnGauge, IsOverLimit, IsOverlap}
+use Rattle.subadd_closure.specs.Folds.{segment_number, SegmentWithin}
+use Rattle.subadd_closure.specs.SegmentLimits.{IsOwnGauge, IsOverlap}
 
 -- the gauge of the call that looks at a curve alone is the curve's own
 gauge_alone : (f : SpecCurve) → gauge_at Itself f f 0 0 ≡ own_gauge f
@@ -96,30 +95,6 @@ pub found_overlap : (f : SpecCurve) (a b : ℚ) (l : Line) (gauge m : ℕ) (r : 
 found_overlap f a b l gauge m (Ok k) h same is found narrow few s =
     subst (IsOverlap f a (Fin b) l) (sym found) (late_overlap f a b l gauge m h same is narrow few s)
 found_overlap f a b l gauge m (Err e) h same is found narrow few s = tt
-
-cause_of : (f : SpecCurve) (gauge m : ℕ) (fault : OpFault) → gauge ≡ own_gauge f → IsOverLimit gauge (m + 3) fault
-    → SegmentCause f (Some (suc m)) fault
-cause_of f gauge m TooMany same (narrow, many) = (
-  subst (λ g. (suc m + 2) * g < 2 ^ 120) same (subst (λ k. k * gauge < 2 ^ 120) (omega arith) narrow),
-  omega (arith, many),
-)
-cause_of f gauge m TooWide same wide =
-    subst (λ g. 2 ^ 120 ≤ (suc m + 2) * g) same (subst (λ k. 2 ^ 120 ≤ k * gauge) (omega arith) wide)
-cause_of f gauge m NoMemory same none = absurd none
-
-pub late_cause : (f : SpecCurve) (a b : ℚ) (l : Line) (gauge m : ℕ) (fault : OpFault) → zero_q <ℚ a
-    → gauge ≡ own_gauge f
-    → m ≡ number a b → IsOverLimit gauge (m + 3) fault → SegmentCause f (segment_number (Open a (Fin b) l)) fault
-late_cause f a b l gauge m fault h same is over =
-    subst (λ o. SegmentCause f o fault) (sym (number_late a b l h))
-    (subst (λ k. SegmentCause f (Some (suc k)) fault) is (cause_of f gauge m fault same over))
-
-pub wide_cause : (f : SpecCurve) (a b : ℚ) (l : Line) → zero_q <ℚ a → 2 ^ 120 ≤ own_gauge f
-    → SegmentCause f (segment_number (Open a (Fin b) l)) TooWide
-wide_cause f a b l h wide =
-    subst (λ o. SegmentCause f o TooWide) (sym (number_late a b l h))
-    (let more : 1 * own_gauge f ≤ (suc (number a b) + 2) * own_gauge f = mul-le-mul_right (own_gauge f) (omega arith) in
-    omega (arith, wide, more))
 
 -- ---- a stretch from 0 on
 pub early_stretch : StretchesMeet → (a b : ℚ) → zero_q ≤ℚ a → a ≤ℚ zero_q → a <ℚ b → IsStretch a (Fin b) 0

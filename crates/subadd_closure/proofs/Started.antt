@@ -1,10 +1,9 @@
 -- A convolution's window with the value at 0 set to another that has room: it is an answer of the same call.
-use Rattle.std.specs.Prelude.{◌≡◌, ℕ, ◌+◌, List, [], ◌∷◌, ◌⊎◌}
-use Rattle.std.proofs.Common.{arith, sym, subst, inl, inr}
+use Rattle.std.specs.Prelude.{◌≡◌, ℕ, ◌+◌, List, [], ◌∷◌}
+use Rattle.std.proofs.Common.{arith, sym, subst}
 use Rattle.rational.specs.Rational.{ℚ, ◌+ℚ◌, ◌-ℚ◌, ◌≤ℚ◌, ◌<ℚ◌}
-use Rattle.rational.specs.Grid.{Whole, Within}
-use Rattle.rational.specs.Extended.{Ext, ◌≤ₑ◌, ◌+ₑ◌, ◌<ₑ◌}
-use Rattle.rational.proofs.Grid.{within_weaken}
+use Rattle.rational.specs.Grid.{Whole}
+use Rattle.rational.specs.Extended.{Ext, ◌≤ₑ◌, ◌+ₑ◌}
 use Rattle.rational.proofs.Linear.{with3}
 use Rattle.rational.proofs.Laws.{le_refl, le_of_lt}
 use Rattle.affine_segment.specs.declared.line.Piece.{Piece}
@@ -13,26 +12,19 @@ use Rattle.upp_curve.specs.Curve.{SpecCurve}
 use Rattle.min_plus.specs.Functions.{zero_q}
 use Rattle.upp_limits.specs.Limits.{Sizes}
 use Rattle.affine_segment.specs.Pieces.{Each, StartsAtZero}
-use Rattle.upp_limits.specs.Sized.{grid_of, times_largest}
-use Rattle.upp_curve.specs.Steady.{rate, rise_over}
-use Rattle.upp_normal.proofs.AnswerRoom.{more_largest}
 use Rattle.affine_segment.proofs.PieceOrder.{each_map}
 use Rattle.curve_window.proofs.TailGrids.{TailOf}
 use Rattle.curve_call.specs.declared.frame.Frame.{Frame}
 use Rattle.curve_call.specs.Answering.{IsAnswerWindow}
-use Rattle.curve_call.proofs.CurveRises.{IsRise}
-use Rattle.curve_pointwise.specs.Lattice.{RisesBy}
-use Rattle.curve_pointwise.proofs.LatticeCalls.{from_whole, left_rise, right_rise}
-use Rattle.curve_call.proofs.TailMoves.{rates_compared, not_both, not_same}
+use Rattle.curve_pointwise.proofs.LatticeCalls.{from_whole}
 use Rattle.element_envelope.specs.SumWindows.{SumValueAt, SumPiece, SumWindow}
 use Rattle.element_envelope.specs.Arches.{Arches}
 use Rattle.element_envelope.proofs.SumRoom.{pieces_room}
 use Rattle.element_envelope.proofs.ArchBends.{sums_on_grids}
-use Rattle.curve_conv.specs.ConvolveCall.{IsConvolveFrame}
 use Rattle.subadd_closure.specs.Starting.{first_at}
 use Rattle.subadd_closure.proofs.Starts.{read_past}
 use Rattle.subadd_closure.proofs.Windowed.{IsConvolved, stands_of, arches_of, from_some}
-use Rattle.curve_pointwise.proofs.LatticeAnswers.{RiseHasRoom, back}
+use Rattle.curve_pointwise.proofs.LatticeAnswers.{back}
 use Rattle.curve_conv.proofs.ConvolveAnswers.{rise_room}
 
 -- ---- the window

@@ -1,29 +1,24 @@
 -- A curve with its value at 0 set to another is in normal form, and readable, where its tail stays as it is.
-use Rattle.std.specs.Prelude.{◌≡◌, ◌≢◌, ℕ, ◌≤◌, pos, List, [], ◌∷◌, Option, None, Some}
+use Rattle.std.specs.Prelude.{◌≡◌, pos, List, [], ◌∷◌, Option}
 use Rattle.std.proofs.Common.{arith, sym, refl, ap, ◌∙◌, subst, inl, inr}
-use Rattle.rational.specs.Rational.{ℚ, ◌+ℚ◌, ◌-ℚ◌, ◌*ℚ◌, ◌/ℚ◌, ◌≤ℚ◌, ◌<ℚ◌, int}
+use Rattle.rational.specs.Rational.{ℚ, ◌+ℚ◌, ◌-ℚ◌, ◌*ℚ◌, ◌≤ℚ◌, ◌<ℚ◌, int}
 use Rattle.rational.specs.Whole.{periods}
 use Rattle.rational.specs.Extended.{Ext, ◌+ₑ◌}
-use Rattle.rational.specs.declared.Extended.TheVariants.{Fin, Inf}
-use Rattle.rational.proofs.Linear.{with2, with3, with4}
-use Rattle.rational.proofs.Laws.{le_or_lt, le_refl, lt_le_trans, le_lt_trans, lt_irrefl, le_of_lt}
+use Rattle.rational.specs.declared.Extended.TheVariants.{Fin}
+use Rattle.rational.proofs.Linear.{with2, with3}
+use Rattle.rational.proofs.Laws.{le_or_lt, le_refl, lt_le_trans}
 use Rattle.rational.proofs.Whole.{periods_low}
-use Rattle.affine_segment.specs.declared.line.Line.{Line}
 use Rattle.affine_segment.specs.declared.line.Piece.{Piece}
-use Rattle.affine_segment.specs.Values.{line_value}
-use Rattle.upp_curve.specs.declared.curve.Tail.{Tail}
-use Rattle.upp_curve.specs.declared.curve.Tail.TheVariants.{Periodic, Affine, Infinite}
-use Rattle.upp_curve.specs.Curve.{SpecCurve, value_at, with_tail, repeated}
-use Rattle.upp_curve.specs.Curves.{IsCurve}
-use Rattle.affine_segment.specs.Reading.{read, piece_value}
+use Rattle.upp_curve.specs.Curve.{repeated}
+use Rattle.affine_segment.specs.Reading.{read}
 use Rattle.min_plus.specs.Functions.{zero_q}
-use Rattle.upp_curve.specs.Steady.{Repeats, rank_of, last_line, last_of}
+use Rattle.upp_curve.specs.Steady.{Repeats, last_line}
 use Rattle.affine_segment.specs.Pieces.{Each, HasStart, RisesFrom, StartsAtZero}
-use Rattle.upp_curve.specs.Normal.{TailFits, NoMerge, TailNormal, IsLeastPeriodic, IsNormal}
-use Rattle.upp_curve.specs.Readable.{EachFits, PeriodFits, SumFitsAt, TailReadable, IsReadable}
+use Rattle.upp_curve.specs.Normal.{NoMerge}
+use Rattle.upp_curve.specs.Readable.{EachFits}
 use Rattle.affine_segment.proofs.PieceIn.{value_past, read_go, read_one, read_stop, value_by}
 use Rattle.upp_curve.proofs.Repeats.{repeated_first}
-use Rattle.subadd_closure.specs.Starting.{first_at, started_at, KeepsTail, IsStartedAt}
+use Rattle.subadd_closure.specs.Starting.{first_at}
 use Rattle.subadd_closure.proofs.EachParts.{repeated_at}
 
 -- ---- pieces

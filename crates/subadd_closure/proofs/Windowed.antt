@@ -24,7 +24,6 @@ use Rattle.element_envelope.specs.SumWindows.{SumStart, SumWindow}
 use Rattle.element_envelope.specs.Arches.{Arches}
 use Rattle.curve_conv.specs.ConvolveCall.{IsConvolveFrame}
 use Rattle.curve_conv.proofs.ConvolveAnswers.{convolved_values}
-use Rattle.curve_pointwise.proofs.LatticeAnswers.{back}
 
 -- the pieces, from when on they repeat, and by how much they rise over a period
 pub record IsConvolved (f g : SpecCurve) (r : Frame) (ps : List Piece) (from rise : ℚ) : Type 0 where

@@ -2,7 +2,6 @@
 -- their curves, and the last that is counted is within its limits. So no limit of a call is told as want of memory. Own
 -- choice.
 use Rattle.std.specs.Prelude.{◌≡◌, ◌⊎◌, ℕ, ◌+◌, ◌≤◌, List, [], ◌∷◌, ◌++◌, Ok, Err}
-use Rattle.affine_segment.specs.declared.element.Element.{Element}
 use Rattle.upp_limits.specs.declared.op_kind.OpKind.TheVariants.{Convolve}
 use Rattle.upp_limits.specs.declared.op_kind.OpFault.TheVariants.{NoMemory}
 use Rattle.upp_curve.specs.Curve.{SpecCurve}

@@ -37,10 +37,6 @@ whole_read text bytes digits minus n r eb em ed is en er =
     let d : digits ≡ unsigned_text text = ed ∙ ap unsigned_text eb in
     er ∙ ap (λ k. in_64_bits (signed_value minus k)) en ∙ capped_by minus (digits_value 10 digits) _ refl ∙ rw (numeral, m, d) refl
 
-pub no_whole : (text bytes digits : List ℕ) → bytes ≡ text → digits ≡ unsigned_text bytes → is_numeral digits ≡ false → None ≡ whole_in text
-no_whole text bytes digits eb ed is =
-    let numeral : is_numeral (unsigned_text text) ≡ false = subst (λ d. is_numeral d ≡ false) (ed ∙ ap unsigned_text eb) is in rw numeral refl
-
 -- ---- numbers from 0 on
 pub not_below : (x z : ℚ) (b : Bool) → b ≡ false → b ≡ lt_q x z → z ≡ zero_q → zero_q ≤ℚ x
 not_below x z b f e ez =

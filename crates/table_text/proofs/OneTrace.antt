@@ -1,5 +1,5 @@
 -- A text is one trace at most, or has one first fault.
-use Rattle.std.proofs.Common.{Bool, true, false, true≢false, le_refl, sub-eq-zero_of_le, ◌≡◌, ◌≢◌, ℕ, zero, suc, ◌<◌, ◌≤◌, List, [], ◌∷◌, ◌++◌, length, drop, get_or, Some, Result, Ok, Err, AllPairs, slice_get, refl, sym, ap, ap₂, subst, subst₂, arith, inl, inr, ⊎_elim, ◌⊎◌, ◌∙◌, length-append, eq-or-lt_of_le}
+use Rattle.std.proofs.Common.{Bool, true, false, true≢false, le_refl, sub-eq-zero_of_le, ◌≡◌, ◌≢◌, ℕ, suc, List, [], ◌∷◌, ◌++◌, length, drop, get_or, Some, Result, Ok, Err, AllPairs, slice_get, refl, sym, ap, ap₂, subst, subst₂, arith, inl, inr, ⊎_elim, ◌⊎◌, ◌∙◌, length-append}
 use Rattle.std.proofs.lemmas.Bool.{cases_order}
 use Rattle.std.proofs.lemmas.Option.{slice_get_within, get_or_from_slice_get}
 use Rattle.std.proofs.lemmas.List.{get_or_append_left, get_or-append_right}

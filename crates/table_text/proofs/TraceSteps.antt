@@ -80,13 +80,6 @@ pub record IsSoFar (net : Net) (rows : List Row) (k : ℕ) (ps : List TracePacke
   pub packets : All IsTracePacket ps
   pub stalls : All IsStall ss
 
-pub so_far_none : (net : Net) (rows : List Row) → IsSoFar net rows 0 [] []
-so_far_none net rows = record {
-  right = record { entries = []; give = tt; few = omega arith; packets = refl; stalls = refl; in_order = λ i j d less within. absurd (omega (arith, within)) };
-  packets = λ k d within. absurd (omega (arith, within));
-  stalls = λ k d within. absurd (omega (arith, within));
-}
-
 pub so_far_more : (net : Net) (rows : List Row) (k : ℕ) (row : Row) (ps : List TracePacket) (ss : List Stall) (ps2 : List TracePacket) (ss2 : List Stall) → k < length rows → get_or rows k row ≡ row
     → IsSoFar net rows k ps ss → Adds net k row ps ss ps2 ss2 → IsSoFar net rows (k + 1) ps2 ss2
 so_far_more net rows k row ps ss ps2 ss2 within is so adds =

@@ -1,10 +1,8 @@
 -- How the first of some pieces is read: at its start, and up to the next start.
-use Rattle.rational.proofs.MinMax.{below_min_in, below_min_out, le_q_not}
+use Rattle.rational.proofs.MinMax.{below_min_in, below_min_out}
 use Rattle.std.specs.Prelude.{◌≡◌, List, [], ◌∷◌}
-use Rattle.std.proofs.Common.{ap, ◌∙◌, refl}
+use Rattle.std.proofs.Common.{ap, ◌∙◌}
 use Rattle.rational.specs.Rational.{ℚ, ◌<ℚ◌}
-use Rattle.rational.proofs.Over.{le_q_out}
-use Rattle.rational.proofs.Laws.{le_refl}
 use Rattle.rational.specs.Extended.{Ext}
 use Rattle.affine_segment.specs.declared.line.Piece.{Piece}
 use Rattle.rational.specs.MinMax.{min_q}

@@ -1,6 +1,6 @@
 -- The loop that tests whether pieces join: what is left of a list after some steps.
-use Rattle.std.specs.Prelude.{◌≡◌, ◌↔◌, ℕ, ◌+◌, ◌<◌, ◌≤◌, List, [], ◌∷◌, length, Option, Some}
-use Rattle.std.proofs.Common.{get_or, drop, drop_of_length-le, sym, refl, subst}
+use Rattle.std.specs.Prelude.{◌≡◌, ◌↔◌, ℕ, ◌+◌, ◌<◌, ◌≤◌, List, ◌∷◌, length, Option, Some}
+use Rattle.std.proofs.Common.{get_or, drop, sym, refl, subst}
 use Rattle.affine_segment.specs.declared.line.Piece.{Piece}
 use Rattle.upp_curve.specs.declared.shape.End.{End}
 use Rattle.affine_segment.specs.Fits.{LineFitsAt}

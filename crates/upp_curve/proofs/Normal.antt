@@ -1,8 +1,8 @@
 -- Two normal curves with equal values at every time are one.
 use Rattle.std.specs.Prelude.{◌≡◌, pos, List, [], ◌∷◌, None}
 use Rattle.std.proofs.Common.{arith, sym, ap, ap₂, ◌∙◌, refl, subst, inl, inr}
-use Rattle.rational.specs.Rational.{ℚ, ◌+ℚ◌, ◌-ℚ◌, ◌≤ℚ◌, ◌<ℚ◌, int}
-use Rattle.rational.proofs.Linear.{with1, with2, with3}
+use Rattle.rational.specs.Rational.{ℚ, ◌+ℚ◌, ◌≤ℚ◌, ◌<ℚ◌, int}
+use Rattle.rational.proofs.Linear.{with2, with3}
 use Rattle.rational.proofs.Laws.{antisym, le_trans, lt_le_trans, le_or_lt, le_of_lt, le_refl}
 use Rattle.rational.specs.Extended.{Ext, ◌+ₑ◌}
 use Rattle.rational.specs.declared.Extended.TheVariants.{Fin}

@@ -1,6 +1,6 @@
 -- Loops over pieces: what is left of a list after some steps.
 use Rattle.std.specs.Prelude.{◌≡◌, ◌↔◌, ℕ, zero, suc, ◌+◌, ◌-◌, ◌<◌, ◌≤◌, List, [], ◌∷◌, length, slice_get, Option, Some, None}
-use Rattle.std.proofs.Common.{arith, get_or, drop, drop-cons, drop_of_length-le, sym, ap, ap₂, ◌∙◌, refl, subst}
+use Rattle.std.proofs.Common.{arith, get_or, drop, sym, ap, refl, subst}
 use Rattle.affine_segment.specs.declared.line.Piece.{Piece}
 use Rattle.affine_segment.proofs.NextPiece.{next_piece, none_left}
 use Rattle.upp_curve.specs.declared.shape.End.{End}

@@ -17,7 +17,6 @@ use Rattle.upp_curve.specs.Steady.{Repeats}
 use Rattle.rational.proofs.ExtendedOrder.{add_assoc_ext, add_cancel_ext, fin_same}
 use Rattle.rational.proofs.Whole.{not_zero, lt_of_mul, nat_nonneg}
 use Rattle.upp_curve.proofs.Repeats.{repeats_times}
-use Rattle.min_plus.proofs.FiniteValues.{no_inf}
 use Rattle.min_plus.proofs.Rates.{enough}
 use Rattle.rational.proofs.Integers.{nat_lt_out}
 

@@ -1,7 +1,7 @@
 -- A curve begins to repeat at its rank or 1 later, so at 0 or later.
 use Rattle.std.specs.Prelude.{pos, Bool, true, false, List}
 use Rattle.std.proofs.Common.{arith}
-use Rattle.rational.specs.Rational.{ℚ, ◌+ℚ◌, ◌≤ℚ◌, int}
+use Rattle.rational.specs.Rational.{ℚ, ◌≤ℚ◌, int}
 use Rattle.rational.proofs.Linear.{with1}
 use Rattle.rational.proofs.Laws.{le_refl, le_trans}
 use Rattle.affine_segment.specs.declared.line.Piece.{Piece}

@@ -1,5 +1,5 @@
 -- The kinds of curve are in normal form.
-use Rattle.std.specs.Prelude.{◌≡◌, ◌⊎◌, ℕ, suc, ◌+◌, ◌*◌, ◌≤◌, pos, nat_abs, cond, List, [], ◌∷◌, Option, Some, None}
+use Rattle.std.specs.Prelude.{◌≡◌, ℕ, suc, ◌+◌, ◌*◌, ◌≤◌, pos, nat_abs, cond, List, [], ◌∷◌, Option, Some, None}
 use Rattle.std.proofs.Common.{arith, sym, ap, ap₂, ◌∙◌, refl, subst, inl, inr}
 use native.Mathlib.Nat.{mul-le-mul_right}
 use Rattle.rational.specs.Rational.{ℚ, ◌+ℚ◌, ◌-ℚ◌, ◌*ℚ◌, ◌/ℚ◌, ◌≤ℚ◌, ◌<ℚ◌, int, neg_ℚ}
@@ -9,7 +9,7 @@ use Rattle.rational.specs.Extended.{Ext, ◌+ₑ◌}
 use Rattle.rational.specs.declared.Extended.TheVariants.{Fin}
 use Rattle.rational.proofs.Linear.{with1, with2, with3, with7}
 use Rattle.rational.proofs.Laws.{antisym, le_refl, le_or_lt, le_of_lt, lt_irrefl, lt_le_trans, le_lt_trans, between, mul_comm, mul_assoc, mul_add, mul_sub, add_mul, mul_one, mul_pos, mul_zero, mul_cancel, div_mul, not_zero, le_of_mul, lt_of_mul, mul_lt_mul_right}
-use Rattle.rational.proofs.Integers.{int_mul, int_add, int_same, nat_lt, nat_le_out, nat_lt_out, le_or_more}
+use Rattle.rational.proofs.Integers.{int_mul, int_add, int_same, nat_lt, le_or_more}
 use Rattle.rational.proofs.MinMax.{le_q_not, below_min_in, below_min_out}
 use Rattle.rational.proofs.Over.{le_q_out}
 use Rattle.affine_segment.specs.declared.line.Line.{Line}

@@ -7,7 +7,7 @@ use Rattle.rational.specs.Extended.{Ext, ◌+ₑ◌}
 use Rattle.rational.specs.declared.Extended.TheVariants.{Fin, Inf}
 use Rattle.rational.specs.Whole.{whole_part}
 use Rattle.rational.proofs.Linear.{with1, with2, with3, with4}
-use Rattle.rational.proofs.Laws.{le_or_lt, le_of_lt, lt_le_trans, le_lt_trans, mul_comm, mul_zero, div_mul, zero_mul}
+use Rattle.rational.proofs.Laws.{le_or_lt, le_of_lt, lt_le_trans, le_lt_trans, mul_zero, div_mul, zero_mul}
 use Rattle.rational.proofs.Integers.{nat_lt, nat_lt_out}
 use Rattle.rational.proofs.Over.{le_q_out}
 use Rattle.rational.proofs.MinMax.{le_q_not}

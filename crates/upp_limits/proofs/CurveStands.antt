@@ -1,5 +1,5 @@
 -- A curve whose numbers count in a call: its rank, period and rise and each of its pieces stand where the call's sizes say.
-use Rattle.std.specs.Prelude.{◌≡◌, ◌<◌, pos, Bool, true, false, cond, List, [], ◌∷◌, map}
+use Rattle.std.specs.Prelude.{◌≡◌, ◌<◌, pos, cond, List, [], ◌∷◌, map}
 use Rattle.std.proofs.Common.{arith, sym, subst, inl, inr}
 use Rattle.std.specs.List.{AllByRecursion, flat_map}
 use Rattle.std.proofs.Math.Nat.{le-max_right}
@@ -14,7 +14,7 @@ use Rattle.affine_segment.specs.declared.line.Piece.{Piece}
 use Rattle.upp_curve.specs.declared.curve.Tail.{Tail}
 use Rattle.upp_curve.specs.declared.curve.Tail.TheVariants.{Periodic, Affine, Infinite}
 use Rattle.upp_curve.specs.Curve.{SpecCurve}
-use Rattle.upp_curve.specs.Steady.{rank_of, steady, steady_in, later_unless, last_of}
+use Rattle.upp_curve.specs.Steady.{rank_of, steady, steady_in, last_of}
 use Rattle.upp_limits.specs.Periods.{HasPeriod, own_period}
 use Rattle.upp_curve.specs.Unrolled.{copies_below}
 use Rattle.min_plus.specs.WholeUp.{whole_up}

@@ -1,5 +1,5 @@
 -- In its own window a curve has as many unrolled pieces as it has pieces, or fewer.
-use Rattle.std.specs.Prelude.{◌≡◌, ℕ, zero, suc, ◌+◌, ◌*◌, ◌≤◌, pos, List, [], ◌∷◌, length, sum_by, cond, Bool, true, false}
+use Rattle.std.specs.Prelude.{◌≡◌, ℕ, ◌+◌, ◌≤◌, pos, List, [], ◌∷◌, length, sum_by, cond, Bool, true, false}
 use Rattle.std.proofs.Common.{arith, sym, refl, subst, inl, inr}
 use Rattle.std.proofs.lemmas.List.Sums.{sum_by-cons}
 use Rattle.rational.specs.Rational.{ℚ, ◌+ℚ◌, ◌-ℚ◌, ◌*ℚ◌, ◌/ℚ◌, ◌≤ℚ◌, ◌<ℚ◌, int, lt_q}
@@ -8,9 +8,8 @@ use Rattle.rational.proofs.Laws.{one_mul, le_or_lt}
 use Rattle.rational.proofs.Quotients.{div_le}
 use Rattle.rational.proofs.Over.{lt_q_out}
 use Rattle.rational.proofs.MinMax.{lt_q_not}
-use Rattle.affine_segment.specs.declared.line.Line.{Line}
 use Rattle.affine_segment.specs.declared.line.Piece.{Piece}
-use Rattle.upp_curve.specs.declared.curve.Tail.TheVariants.{Periodic, Affine, Infinite}
+use Rattle.upp_curve.specs.declared.curve.Tail.TheVariants.{Periodic, Affine}
 use Rattle.upp_curve.specs.Curve.{SpecCurve}
 use Rattle.min_plus.specs.Functions.{zero_q}
 use Rattle.upp_curve.specs.Steady.{steady}
@@ -41,11 +40,6 @@ pub affine_few : (ps : List Piece) (rank : ℚ) → StartsAtZero ps → own_tall
 affine_few ps rank h =
     let c : SpecCurve = record { pieces = ps; tail = Affine rank } in
     subst (λ n. n ≤ length ps) (sym (count_is_sum c (own_end c) h)) (sum_most (number_below (Affine rank) (own_end c)) ps (once_most (own_end c)))
-
-pub infinite_few : (ps : List Piece) (rank : ℚ) → StartsAtZero ps → own_tally record { pieces = ps; tail = Infinite rank } ≤ length ps
-infinite_few ps rank h =
-    let c : SpecCurve = record { pieces = ps; tail = Infinite rank } in
-    subst (λ n. n ≤ length ps) (sym (count_is_sum c (own_end c) h)) (sum_most (number_below (Infinite rank) (own_end c)) ps (once_most (own_end c)))
 
 -- of a piece one copy starts before the end of the first period
 copy_most : (R d c end : ℚ) (p : Piece) → zero_q <ℚ d → end ≡ R +ℚ d → number_below (Periodic R d c) end p ≤ 1

@@ -2,7 +2,7 @@
 use Rattle.std.specs.Prelude.{◌≡◌, ℕ, suc, ◌*◌, ◌-◌, ◌<◌, ◌≤◌, ◌^◌, max, ℤ, pos, ◌*ℤ◌, ◌≤ℤ◌, negsuc, nat_abs}
 use Rattle.std.proofs.Common.{arith, ap, ◌∙◌, subst}
 use Rattle.std.proofs.lemmas.Int.{ints}
-use native.Mathlib.Nat.{le-mul_of_pos_right, mul-le-mul_left}
+use native.Mathlib.Nat.{mul-le-mul_left}
 use Rattle.rational.specs.Rational.{ℚ, den, int, ◌*ℚ◌, ◌≤ℚ◌, frac}
 use Rattle.rational.specs.Fractions.{frac_self}
 use Rattle.rational.proofs.Over.{le_frac}

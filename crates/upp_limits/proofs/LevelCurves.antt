@@ -5,7 +5,7 @@ use Rattle.rational.specs.Rational.{ℚ, ◌+ℚ◌, ◌*ℚ◌, ◌/ℚ◌, ◌
 use Rattle.rational.specs.Extended.{Ext, ◌≤ₑ◌, ◌<ₑ◌, ◌+ₑ◌}
 use Rattle.rational.specs.declared.Extended.TheVariants.{Fin, Inf}
 use Rattle.rational.proofs.Linear.{with2, with4}
-use Rattle.rational.proofs.Laws.{le_refl, le_trans, le_of_lt, le_lt_trans, lt_le_trans, antisym, mul_comm, mul_zero, div_mul}
+use Rattle.rational.proofs.Laws.{le_refl, le_trans, le_of_lt, le_lt_trans, lt_le_trans, mul_comm, mul_zero, div_mul}
 use Rattle.rational.specs.MinMax.{max_q}
 use Rattle.rational.proofs.MinMax.{max_q_ge_left, max_q_ge_right}
 use Rattle.rational.proofs.Whole.{not_zero, periods_high, one_more_times}
@@ -35,10 +35,6 @@ pub record EndsAt (x : ℚ) (f : ℚ → Ext) : Type 0 where
   pub reached : f from ≡ Fin x
 
 -- ---- which ends above
-ext_refl : (x : Ext) → x ≤ₑ x
-ext_refl Inf = tt
-ext_refl (Fin x) = le_refl x
-
 below_and_most : (a b : Ext) (x y : ℚ) → a <ₑ b → a ≡ Fin y → b ≤ₑ Fin x → y <ℚ x
 below_and_most Inf b x y h e k = absurd h
 below_and_most (Fin a) Inf x y h e k = absurd k

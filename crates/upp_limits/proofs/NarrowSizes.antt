@@ -7,7 +7,7 @@ use Rattle.rational.specs.Rational.{ℚ, ◌+ℚ◌, ◌-ℚ◌, ◌*ℚ◌, ◌
 use Rattle.rational.specs.Ratio.{IsSmall, SumFits}
 use Rattle.rational.specs.Grid.{Whole, Within}
 use Rattle.rational.proofs.Linear.{with1, with2, with3}
-use Rattle.rational.proofs.Laws.{le_trans, le_refl, mul_le_mul, add_mul, mul_one, mul_assoc as mul_assoc_q, mul_comm as mul_comm_q, one_mul}
+use Rattle.rational.proofs.Laws.{le_trans, le_refl, mul_le_mul, add_mul, mul_assoc as mul_assoc_q, one_mul}
 use Rattle.rational.proofs.Integers.{mul_whole, int_add, nat_le, nat_nonneg}
 use Rattle.rational.proofs.Grid.{whole_weaken, whole_sub, whole_mul, within_sub, within_mul, within_nonneg, within_weaken}
 use Rattle.rational.proofs.Sizes.{largest_part, small_on_grid, sum_on_grid}

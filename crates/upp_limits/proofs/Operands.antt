@@ -1,14 +1,8 @@
 -- The numbers of a call's operands: those made without unrolling have the same sizes, and below a gauge of 2 ^ 128 they are known.
-use Rattle.std.specs.Prelude.{◌≡◌, ◌<◌, ◌≤◌, ◌^◌, List}
-use Rattle.std.proofs.Common.{subst}
+use Rattle.std.specs.Prelude.{◌≡◌, ◌<◌, ◌≤◌, ◌^◌}
 use Rattle.rational.specs.Rational.{ℚ}
-use Rattle.rational.specs.Ratio.{SumFits}
-use Rattle.upp_curve.specs.declared.curve.Tail.{Tail}
-use Rattle.upp_curve.specs.declared.curve.Tail.TheVariants.{Periodic}
-use Rattle.affine_segment.specs.declared.line.Piece.{Piece}
 use Rattle.upp_curve.specs.Curve.{SpecCurve}
 use Rattle.upp_curve.specs.Curves.{IsCurve}
-use Rattle.upp_curve.specs.Readable.{TailReadable}
 use Rattle.upp_limits.specs.declared.op_kind.OpKind.{OpKind}
 use Rattle.upp_limits.specs.declared.op_kind.Operands.{Operands}
 use Rattle.upp_limits.specs.declared.op_kind.Operands.TheVariants.{First, Both, FirstScaled}
@@ -26,9 +20,6 @@ use Rattle.upp_limits.proofs.SameSizes.{Equals, equals_self, equals_joined, equa
 
 pub curve_period : (c : SpecCurve) → IsCurve c → HasPeriod c.tail
 curve_period c is = has_period c.pieces c.tail is.normal.raw.tail
-
-pub period_sum : (ps : List Piece) (tail : Tail) (rank period rise : ℚ) → TailReadable ps tail → tail ≡ Periodic rank period rise → SumFits rank period
-period_sum ps tail rank period rise h e = (subst (TailReadable ps) e h).end
 
 -- ---- below a gauge of 2 ^ 128
 pub held_left : (z : Sizes) (end : ℚ) (a b : Numbers) → HeldBy z end (joined a b) → HeldBy z end a

@@ -7,8 +7,8 @@ use Rattle.rational.specs.Rational.{ℚ, ◌+ℚ◌, ◌*ℚ◌, ◌≤ℚ◌, i
 use Rattle.rational.specs.Ratio.{SumFits}
 use Rattle.rational.specs.Grid.{Whole}
 use Rattle.rational.specs.declared.Extended.TheVariants.{Inf}
-use Rattle.rational.proofs.Linear.{with1, with2, with3}
-use Rattle.rational.proofs.Laws.{le_refl, le_trans, le_of_lt, antisym, mul_comm, mul_one, mul_le_mul_right}
+use Rattle.rational.proofs.Linear.{with2, with3}
+use Rattle.rational.proofs.Laws.{le_trans, le_of_lt, antisym, mul_comm, mul_one, mul_le_mul_right}
 use native.Mathlib.Nat.{mul-le-mul_right}
 use Rattle.rational.proofs.Integers.{nat_le, nat_nonneg, int_add, mul_whole}
 use Rattle.rational.proofs.Grid.{whole_int, whole_add, within_nonneg}
@@ -33,7 +33,7 @@ use Rattle.upp_curve.proofs.Steady.{last_found}
 use Rattle.upp_limits.proofs.PieceLists.{starts_nonneg}
 use Rattle.upp_limits.proofs.Stands.{sizes_stand}
 use Rattle.upp_limits.proofs.CurveStands.{are_sizes, own_are_sizes, own_stands}
-use Rattle.upp_limits.proofs.NarrowSizes.{IsNarrow, narrow_gauge, two_times}
+use Rattle.upp_limits.proofs.NarrowSizes.{IsNarrow, narrow_gauge}
 use Rattle.upp_limits.proofs.KnownNumbers.{start_fits, curve_known}
 use Rattle.upp_curve.proofs.SteadyTimes.{later_at_least}
 

@@ -9,7 +9,7 @@ use Rattle.upp_curve.specs.declared.curve.Tail.{Tail}
 use Rattle.upp_curve.specs.declared.curve.Tail.TheVariants.{Periodic}
 use Rattle.upp_curve.specs.Unrolled.{copies_below}
 use Rattle.upp_limits.specs.Spans.{Span}
-use Rattle.upp_limits.specs.Seen.{SpanFits, CopiesFit, Knows}
+use Rattle.upp_limits.specs.Seen.{CopiesFit, Knows}
 use Rattle.upp_limits.specs.ClosedForm.{copies_numbers, once_numbers, closed_span}
 
 pub if_some_map : {A : Type 0} (o : Option A) (P Q : A → Type 0) → ((a : A) → P a → Q a) → IfSome o P → IfSome o Q
@@ -50,7 +50,3 @@ pub early_value : (tail : Tail) (rank period rise end : ℚ) (s : Span) → tail
 early_value tail rank period rise end s e l =
     sym (ap (λ b. cond b (once_numbers end s) (copies_numbers rise s (copies_below period end s.piece))) (lt_q_out s.piece.x rank l))
     ∙ ap (λ t. closed_span t end s) (sym e)
-
-pub early_known : (tail : Tail) (rank period rise end : ℚ) (s : Span) → tail ≡ Periodic rank period rise → s.piece.x <ℚ rank → Knows tail end s → s.piece.x <ℚ end → SpanFits s
-early_known tail rank period rise end s e l k =
-    let known : Knows (Periodic rank period rise) end s = subst (λ t. Knows t end s) e k in known.0 l

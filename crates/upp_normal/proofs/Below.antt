@@ -4,8 +4,7 @@ use Rattle.std.proofs.Common.{arith, sym, ap, ap₂, ◌∙◌, refl, subst, inl
 use Rattle.rational.specs.Rational.{ℚ, ◌+ℚ◌, ◌-ℚ◌, ◌*ℚ◌, ◌≤ℚ◌, ◌<ℚ◌, int, le_q}
 use Rattle.rational.specs.Whole.{periods}
 use Rattle.rational.proofs.Linear.{with1, with2, with3, with5}
-use Rattle.rational.proofs.Over.{lt_q_out}
-use Rattle.rational.proofs.Laws.{le_or_lt, le_of_lt, le_refl, le_trans, lt_le_trans, le_lt_trans}
+use Rattle.rational.proofs.Laws.{le_or_lt, le_refl, lt_le_trans, le_lt_trans}
 use Rattle.rational.specs.Extended.{Ext, ◌+ₑ◌}
 use Rattle.rational.specs.declared.Extended.TheVariants.{Fin}
 use Rattle.affine_segment.specs.declared.line.Piece.{Piece}
@@ -17,7 +16,6 @@ use Rattle.affine_segment.specs.Pieces.{Each, HasStart, RisesFrom, StartsAtZero}
 use Rattle.upp_curve.specs.Unrolled.{unroll, unrolled, copies, each_later, upto, from}
 use Rattle.affine_segment.specs.Reading.{piece_in, piece_value, read}
 use Rattle.upp_curve.proofs.OneForm.{infinite_value}
-use Rattle.rational.proofs.MinMax.{lt_q_not}
 use Rattle.rational.proofs.Whole.{periods_low, periods_high, one_more_times}
 use Rattle.affine_segment.proofs.PieceIn.{piece_in_stop}
 use Rattle.upp_curve.proofs.Unique.{upto_none, upto_some, upto_end}

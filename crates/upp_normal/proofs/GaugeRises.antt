@@ -8,7 +8,6 @@ use Rattle.rational.specs.Rational.{ℚ, ◌*ℚ◌, ◌≤ℚ◌, ◌<ℚ◌, i
 use Rattle.rational.specs.Ratio.{IsSmall}
 use Rattle.rational.specs.Grid.{Whole, Within}
 use Rattle.rational.specs.Gauge.{bound_of, common_den}
-use Rattle.rational.proofs.Grid.{whole_weaken}
 use Rattle.rational.proofs.Integers.{nat_le, nat_nonneg}
 use Rattle.rational.proofs.Laws.{le_or_lt, le_of_lt, le_trans, lt_le_trans, mul_le_mul, mul_le_mul_right, mul_zero}
 use Rattle.rational.proofs.MinMax.{lt_q_not}
@@ -19,7 +18,6 @@ use Rattle.upp_limits.specs.declared.op_kind.OpKind.{OpKind}
 use Rattle.upp_limits.specs.declared.op_kind.Operands.{Operands}
 use Rattle.upp_limits.specs.declared.op_kind.Operands.TheVariants.{First, Both, FirstScaled}
 use Rattle.upp_curve.specs.Curve.{SpecCurve}
-use Rattle.upp_curve.specs.Curves.{IsCurve}
 use Rattle.upp_limits.specs.Gauges.{gauge_over, kind_numbers, numbers_over, operand_numbers, operands_of, scaled_curve}
 use Rattle.upp_limits.specs.Limits.{Numbers, Sizes, curve_numbers, gauge_of, joined, sizes_of, span_slopes, span_values, stored_period, stored_rise, twice}
 use Rattle.upp_normal.specs.Operand.{AreLimited}
@@ -28,16 +26,15 @@ use Rattle.upp_limits.specs.Sized.{AreSizes, IsSlope, IsValue, Stands}
 use Rattle.upp_limits.specs.Spans.{Span, copies_of, once_below, span_below, spans, spans_below}
 use Rattle.upp_curve.specs.Unrolled.{copies_below}
 use Rattle.upp_normal.specs.Unrolling.{IsOperandTo}
-use Rattle.upp_limits.proofs.CommonDen.{bound_least, common_den_each, common_den_least}
+use Rattle.upp_limits.proofs.CommonDen.{bound_least, common_den_least}
 use Rattle.upp_limits.proofs.Copies.{copies_in, copies_out, copy_among, every_copy}
-use Rattle.upp_limits.proofs.CurveStands.{are_sizes, has_period, once_out}
+use Rattle.upp_limits.proofs.CurveStands.{are_sizes, once_out}
 use Rattle.upp_limits.proofs.Every.{every_append, every_flat, every_flat_out, every_left, every_map, every_map_out, every_right, every_weaken}
 use Rattle.upp_limits.proofs.NarrowSizes.{narrow_gauge}
 use Rattle.upp_limits.proofs.Rounding.{whole_up_most}
 use Rattle.upp_limits.proofs.ScaledCurves.{period_scaled}
 use Rattle.upp_limits.proofs.Stands.{sizes_stand, stands_left, stands_right}
 use Rattle.upp_normal.proofs.UnrollSteps.{time_small}
-use Rattle.upp_limits.proofs.Operands.{curve_period}
 
 -- ---- what starts below an end starts below a later one
 once_earlier : (P : Span → Type 0) (end far : ℚ) (s : Span) → end ≤ℚ far → AllByRecursion P (once_below far s) → AllByRecursion P (once_below end s)
@@ -156,14 +153,6 @@ gauge_rises op f g end far some_f some_g l on =
     let n = numbers_over op f g far in
     let z = sizes_of far n in
     least_sizes z end far (numbers_over op f g end) (are_sizes far n) (numbers_earlier z end far op f g some_f some_g l (sizes_stand far n)) l on
-
--- so too for curves, and an end on the grid of the longer window's other times
-pub curves_gauge_rises : (op : OpKind) (f g : SpecCurve) (end far : ℚ) → IsCurve f → IsCurve g → end ≤ℚ far → Whole (common_den (numbers_over op f g far).times) end
-    → gauge_over op f g end ≤ gauge_over op f g far
-curves_gauge_rises op f g end far is_f is_g l on =
-    let times = (numbers_over op f g far).times in
-    gauge_rises op f g end far (curve_period f is_f) (curve_period g is_g) l
-    (whole_weaken (common_den times) (common_den (far ∷ times)) end (common_den_least (common_den (far ∷ times)) times (common_den_each (far ∷ times)).1) on)
 
 -- ---- where the gauge is small
 -- a time of the window's grid inside the window is small

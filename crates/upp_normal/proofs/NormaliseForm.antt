@@ -14,7 +14,7 @@ use Rattle.affine_segment.specs.declared.line.Piece.{Piece}
 use Rattle.affine_segment.specs.Values.{line_value}
 use Rattle.upp_normal.specs.declared.cycle.Cycle.{Cycle}
 use Rattle.affine_segment.specs.Reading.{read, piece_value}
-use Rattle.upp_curve.specs.Curve.{SpecCurve, repeated, cut, value_at}
+use Rattle.upp_curve.specs.Curve.{repeated, cut, value_at}
 use Rattle.upp_curve.specs.Steady.{Repeats, last_line}
 use Rattle.upp_curve.specs.Unrolled.{upto}
 use Rattle.affine_segment.specs.Pieces.{StartsAtZero, Each, HasStart}
@@ -29,7 +29,7 @@ use Rattle.upp_curve.proofs.Rules.{rule_extends}
 use Rattle.upp_curve.proofs.Repeats.{repeated_first, repeated_rule}
 use Rattle.upp_normal.proofs.UnrolledValues.{read_before}
 use Rattle.upp_normal.proofs.Below.{read_from_cut, plain_upto}
-use Rattle.affine_segment.proofs.PieceOrder.{each_map, each_append, rises_append, has_mid, zero_some}
+use Rattle.affine_segment.proofs.PieceOrder.{each_map, each_append, rises_append, has_mid}
 use Rattle.upp_normal.proofs.NormaliseLists.{rises_upto}
 use Rattle.upp_normal.proofs.NormaliseCuts.{last_append}
 use Rattle.upp_normal.proofs.NormalisePeriods.{two_periods_are, repeats_after}
@@ -116,9 +116,6 @@ affine_form ps last l zero none L e =
   where
     some_none : (l : Line) → Some l ≡ None → ⊥
     some_none l e = cc
-
-pub form_through : (c : SpecCurve) (f g : ℚ → Ext) → IsFormOf c f → ((t : ℚ) → int (pos 0) ≤ℚ t → f t ≡ g t) → IsFormOf c g
-form_through c f g F same = record { normal = F.normal; same = λ t h. F.same t h ∙ same t h }
 
 -- ---- a period between breaks
 periodic_is : (ps : List Piece) (r d c t : ℚ) → value_at (periodic ps r d c) t ≡ repeated (read ps) r d c t

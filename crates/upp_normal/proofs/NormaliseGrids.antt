@@ -6,7 +6,7 @@ use native.Mathlib.Nat.{mul_comm}
 use Rattle.rational.specs.Rational.{ℚ, ◌+ℚ◌, ◌-ℚ◌, ◌*ℚ◌, ◌/ℚ◌, ◌≤ℚ◌, ◌<ℚ◌, int}
 use Rattle.rational.specs.Grid.{Whole}
 use Rattle.rational.proofs.Grid.{whole_weaken, whole_add, whole_sub, whole_mul}
-use Rattle.rational.proofs.Laws.{le_or_lt, le_of_lt, le_trans, antisym, lt_irrefl, mul_one, mul_comm as mul_comm_q}
+use Rattle.rational.proofs.Laws.{le_or_lt, le_of_lt, le_trans, antisym, lt_irrefl}
 use Rattle.rational.proofs.Linear.{with2, with3}
 use Rattle.rational.specs.Extended.{Ext, ◌+ₑ◌}
 use Rattle.rational.specs.declared.Extended.TheVariants.{Fin, Inf}

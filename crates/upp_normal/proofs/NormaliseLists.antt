@@ -17,9 +17,7 @@ use Rattle.upp_normal.specs.Normalising.{past}
 use Rattle.upp_normal.proofs.UnrolledValues.{line_value_later}
 use Rattle.upp_curve.proofs.Unique.{upto_none, upto_some, upto_end, lines_at_two}
 use Rattle.upp_normal.proofs.NormaliseLoops.{past_go, past_stop, past_none, later_none, later_some}
-use Rattle.affine_segment.proofs.PieceOrder.{each_map, each_append, rises_down, rises_append}
 use Rattle.rational.proofs.ExtendedOrder.{add_cancel_ext}
-use Rattle.upp_limits.proofs.PieceCounts.{upto_early}
 
 -- ---- what holds of each piece
 pub each_past : (P : Piece → Type 0) (t : ℚ) (ps : List Piece) → Each P ps → Each P (past t ps)

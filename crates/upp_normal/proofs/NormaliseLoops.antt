@@ -1,6 +1,6 @@
 -- The loops that lay the pieces out: what is done so far and what is left make the whole.
-use Rattle.std.specs.Prelude.{◌≡◌, ℕ, suc, ◌+◌, ◌<◌, List, [], ◌∷◌, ◌++◌, length}
-use Rattle.std.proofs.Common.{arith, sym, ap, ap₂, get_or, drop, drop-cons, ◌∙◌, refl, subst, append_assoc, append-nil, Ordering, Greater, Equal, Less}
+use Rattle.std.specs.Prelude.{◌≡◌, ℕ, ◌+◌, List, [], ◌∷◌, ◌++◌, length}
+use Rattle.std.proofs.Common.{arith, sym, ap, ◌∙◌, refl, subst, append_assoc, append-nil, Ordering, Greater, Equal, Less}
 use Rattle.rational.specs.Rational.{ℚ, ◌≤ℚ◌, ◌<ℚ◌}
 use Rattle.rational.specs.Ratio.{cmp_q}
 use Rattle.rational.proofs.Comparison.{cmp_greater, cmp_not_greater, cmp_less, cmp_ranks}
@@ -9,7 +9,6 @@ use Rattle.rational.proofs.Laws.{le_refl, le_of_lt}
 use Rattle.std.specs.Ordering.{MatchOrdering}
 use Rattle.rational.proofs.MinMax.{le_q_not}
 use Rattle.affine_segment.specs.declared.line.Piece.{Piece}
-use Rattle.affine_segment.proofs.NextPiece.{next_piece}
 use Rattle.upp_curve.specs.Unrolled.{later, each_later, upto}
 use Rattle.upp_normal.specs.Normalising.{past, first_start}
 use Rattle.upp_curve.proofs.Unique.{upto_none, upto_some, upto_end}

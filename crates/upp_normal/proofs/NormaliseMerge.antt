@@ -2,14 +2,14 @@
 use Rattle.std.specs.Prelude.{◌≡◌, Bool, true, false, List, [], ◌∷◌, ◌++◌, ◌⊎◌}
 use Rattle.std.proofs.Common.{sym, ap, ◌∙◌, refl, subst, inl, inr, append_assoc, true≢false}
 use Rattle.rational.specs.Rational.{ℚ, ◌≤ℚ◌, ◌<ℚ◌}
-use Rattle.rational.proofs.Laws.{antisym, lt_le_trans, le_lt_trans, le_or_lt, le_of_lt}
+use Rattle.rational.proofs.Laws.{antisym, lt_le_trans, le_or_lt, le_of_lt}
 use Rattle.affine_segment.specs.declared.line.Piece.{Piece}
 use Rattle.affine_segment.specs.Reading.{read, piece_value}
 use Rattle.affine_segment.specs.Values.{line_value}
 use Rattle.affine_segment.specs.Pieces.{RisesFrom}
 use Rattle.upp_curve.specs.Normal.{Continues}
 use Rattle.upp_normal.specs.Normalising.{IsMerged}
-use Rattle.affine_segment.proofs.PieceIn.{piece_in_go, piece_in_stop, piece_in_end, value_past, value_at_start}
+use Rattle.affine_segment.proofs.PieceIn.{value_past, value_at_start}
 use Rattle.affine_segment.proofs.PieceIn.{read_first, read_stop, read_go, read_one}
 use Rattle.affine_segment.proofs.PieceOrder.{rises_down}
 
@@ -64,9 +64,6 @@ merged_keep p q qs rest n h M = record {
 pub record MergesOn (first : Piece) (rest kept : List Piece) (last : Piece) (left : List Piece) : Type 0 where
   pub rises : RisesFrom last.x left
   pub ends : (more : List Piece) → IsMerged last left more → (all : List Piece) × (kept ++ last ∷ more ≡ first ∷ all) × IsMerged first rest all
-
-pub merge_begins : (first : Piece) (rest : List Piece) → RisesFrom first.x rest → MergesOn first rest [] first rest
-merge_begins first rest h = record { rises = h; ends = λ more M. (more, refl, M) }
 
 pub merge_skips : (first : Piece) (rest kept : List Piece) (last q : Piece) (left : List Piece) → Continues last q → MergesOn first rest kept last (q ∷ left)
     → MergesOn first rest kept last left

@@ -1,5 +1,5 @@
 -- Room for a curve by itself, in whatever form it is given, where its gauge is below 2 ^ 120.
-use Rattle.std.specs.Prelude.{◌≡◌, ℕ, ◌*◌, ◌<◌, ◌≤◌, ◌^◌, pos, Bool, true, false, List, [], ◌∷◌, Option, Some, None}
+use Rattle.std.specs.Prelude.{◌≡◌, ℕ, ◌*◌, ◌<◌, ◌≤◌, ◌^◌, pos, List, [], ◌∷◌, Option, Some, None}
 use Rattle.std.specs.List.{AllByRecursion}
 use Rattle.std.proofs.Common.{arith, sym, ap, ◌∙◌, refl, subst}
 use Prim.Native.Nat.{◌∣◌}
@@ -19,7 +19,7 @@ use Rattle.upp_curve.specs.declared.curve.Tail.{Tail}
 use Rattle.upp_curve.specs.declared.curve.Tail.TheVariants.{Periodic, Affine, Infinite}
 use Rattle.affine_segment.specs.Reading.{read}
 use Rattle.upp_curve.specs.Curve.{SpecCurve, repeated, value_at}
-use Rattle.upp_curve.specs.Steady.{steady, later_unless, rank_of}
+use Rattle.upp_curve.specs.Steady.{steady, rank_of}
 use Rattle.upp_limits.specs.Periods.{own_period}
 use Rattle.affine_segment.specs.Pieces.{Each, StartsAtZero, start_after}
 use Rattle.upp_curve.specs.Normal.{IsRaw, TailFits}

@@ -1,7 +1,7 @@
 -- The piece at a time and where the next one starts: up to there it stays the piece.
-use Rattle.std.specs.Prelude.{◌≡◌, ℕ, zero, suc, ◌<◌, ◌≤◌, cond, pos, List, [], ◌∷◌, length, drop, Option, Some, None}
+use Rattle.std.specs.Prelude.{◌≡◌, cond, pos, List, [], ◌∷◌, Option, Some, None}
 use Rattle.std.specs.List.{AllByRecursion}
-use Rattle.std.proofs.Common.{arith, sym, ap, ◌∙◌, refl, subst, inl, inr, get_or, drop_of_length-le}
+use Rattle.std.proofs.Common.{sym, ap, ◌∙◌, subst, inl, inr}
 use Rattle.rational.specs.Rational.{ℚ, ◌≤ℚ◌, ◌<ℚ◌, int}
 use Rattle.rational.specs.declared.Extended.TheVariants.{Inf}
 use Rattle.rational.proofs.Laws.{le_or_lt, le_refl, le_trans, le_of_lt, lt_le_trans, le_lt_trans, not_le_of_lt}
@@ -12,13 +12,13 @@ use Rattle.affine_segment.specs.Values.{line_value}
 use Rattle.upp_curve.specs.declared.curve.Tail.{Tail}
 use Rattle.affine_segment.specs.Reading.{piece_in, piece_value, read, next_in, line_in}
 use Rattle.upp_curve.specs.Curve.{cut}
-use Rattle.affine_segment.specs.Pieces.{Each, HasStart, RisesFrom, StartsAtZero, start_after}
+use Rattle.affine_segment.specs.Pieces.{Each, HasStart, RisesFrom, StartsAtZero}
 use Rattle.upp_curve.specs.Normal.{FitsRank}
 use Rattle.upp_curve.specs.Steady.{last_line}
 use Rattle.upp_limits.specs.Spans.{Span, spans, end_of, piece_read}
 use Rattle.upp_normal.specs.Ahead.{IsBeforeNext, AtNext}
-use Rattle.affine_segment.proofs.NextPiece.{next_go, next_stop, next_none, next_piece}
-use Rattle.affine_segment.proofs.PieceIn.{piece_in_stop, piece_in_go, piece_in_end, IsPointAt, value_past}
+use Rattle.affine_segment.proofs.NextPiece.{next_go, next_stop, next_none}
+use Rattle.affine_segment.proofs.PieceIn.{piece_in_stop, piece_in_go, piece_in_end, value_past}
 use Rattle.upp_curve.proofs.Normal.{past_start}
 use Rattle.upp_curve.proofs.Steady.{read_past}
 use Rattle.upp_normal.proofs.NormaliseRoomy.{found_early}

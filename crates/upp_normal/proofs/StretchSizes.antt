@@ -1,5 +1,5 @@
 -- How a periodic curve goes on from a time of a window: every step there fits.
-use Rattle.std.specs.Prelude.{◌≡◌, ◌≢◌, ℕ, ◌*◌, ◌≤◌, ◌^◌, cond, pos, List, [], ◌∷◌, Option, Some, None, ◌⊎◌}
+use Rattle.std.specs.Prelude.{◌≡◌, ◌≢◌, ℕ, ◌*◌, ◌≤◌, cond, pos, List, [], ◌∷◌, Option, Some, None, ◌⊎◌}
 use Rattle.std.specs.List.{AllByRecursion}
 use Rattle.std.proofs.Common.{arith, sym, ap, ◌∙◌, subst, inl, inr}
 use native.Mathlib.Nat.{dvd-mul_left, mul-le-mul_right}
@@ -8,9 +8,9 @@ use Rattle.rational.specs.Ratio.{IsSmall, SumFits}
 use Rattle.rational.specs.Grid.{Whole, Within}
 use Rattle.rational.specs.Whole.{periods}
 use Rattle.rational.specs.Extended.{Ext, ◌+ₑ◌}
-use Rattle.rational.specs.declared.Extended.TheVariants.{Fin, Inf}
+use Rattle.rational.specs.declared.Extended.TheVariants.{Fin}
 use Rattle.rational.proofs.Linear.{with1, with2, with3, with4}
-use Rattle.rational.proofs.Laws.{le_or_lt, le_trans, le_of_lt, lt_le_trans, le_lt_trans, not_le_of_lt, not_zero, mul_comm, mul_one, mul_le_mul_right}
+use Rattle.rational.proofs.Laws.{le_or_lt, le_trans, le_of_lt, lt_le_trans, not_le_of_lt, not_zero, mul_comm, mul_one, mul_le_mul_right}
 use Rattle.rational.proofs.Integers.{nat_le}
 use Rattle.rational.proofs.Over.{lt_q_out}
 use Rattle.rational.proofs.MinMax.{lt_q_not}
@@ -40,7 +40,7 @@ use Rattle.upp_normal.specs.Copied.{LineRises}
 use Rattle.upp_limits.proofs.Every.{every_flat_out}
 use Rattle.upp_limits.proofs.Copies.{copies_out, copy_zero, copy_among}
 use Rattle.upp_limits.proofs.ClosedForms.{line_moved}
-use Rattle.upp_limits.proofs.NarrowSizes.{IsNarrow, narrow_gauge, scaled_fits, grid_pos, line_parts, small_number, small_sum, value_whole, value_within, run_whole, run_within}
+use Rattle.upp_limits.proofs.NarrowSizes.{scaled_fits, grid_pos, line_parts, small_number, small_sum, value_whole, value_within, run_whole, run_within}
 use Rattle.upp_normal.proofs.AnswerRoom.{operand_line_fits, operand_line_value, stands_operand_value, wide_narrow}
 use Rattle.upp_limits.proofs.CurveStands.{unrolled_stand, curve_stands, tail_stands, once_out, copies_first, each_up}
 use Rattle.upp_limits.proofs.KnownNumbers.{value_rises, two_ones}

@@ -2,13 +2,11 @@
 use Rattle.std.specs.Prelude.{◌≡◌, ℕ, zero, suc, ◌*◌, ◌<◌, ◌≤◌, ◌^◌, ℤ, pos, ◌≤ℤ◌, ◌<ℤ◌, Bool, true, false, cond, List, [], ◌∷◌, Option, Some, None, ◌⊎◌}
 use Rattle.std.proofs.Common.{arith, sym, ap, ap₂, ◌∙◌, refl, subst, inl, inr}
 use Rattle.std.proofs.lemmas.Int.{ints}
-use Prim.Native.Nat.{◌∣◌}
-use native.Mathlib.Nat.{dvd-mul_left, dvd_trans}
 use Rattle.rational.specs.Rational.{ℚ, ◌+ℚ◌, ◌-ℚ◌, ◌*ℚ◌, ◌≤ℚ◌, ◌<ℚ◌, int, neg_ℚ, le_q}
 use Rattle.rational.specs.Ratio.{IsSmall}
 use Rattle.rational.specs.Grid.{Whole, Within}
 use Rattle.rational.specs.Whole.{periods}
-use Rattle.rational.proofs.Grid.{whole_add, whole_neg, whole_times, whole_weaken, within_add, within_neg, within_nonneg, within_weaken}
+use Rattle.rational.proofs.Grid.{whole_add, whole_neg, whole_times, within_add, within_neg, within_nonneg, within_weaken}
 use Rattle.rational.proofs.Integers.{int_le, int_lt_out, mul_whole, nat_le_out, nat_lt, nat_nonneg}
 use Rattle.rational.proofs.Laws.{le_of_lt, le_refl, le_trans, mul_assoc, mul_le_mul, mul_le_mul_right, mul_nonneg, mul_one, mul_pos, zero_mul}
 use Rattle.rational.proofs.Linear.{with1, with2, with3, with5}
@@ -33,7 +31,7 @@ use Rattle.upp_curve.specs.Unrolled.{from, later, unroll, unrolled, upto}
 use Rattle.upp_normal.specs.Unrolling.{IsOperandTo, TurnFits, TurnsFit}
 use Rattle.upp_normal.proofs.Below.{cut_at_start, read_from_cut}
 use Rattle.upp_limits.proofs.CurveStands.{tail_stands}
-use Rattle.upp_limits.proofs.NarrowSizes.{IsNarrow, narrow_gauge, run_whole, run_within, slope_time_divides, small_number, small_sum, value_whole, value_within}
+use Rattle.upp_limits.proofs.NarrowSizes.{IsNarrow, narrow_gauge, run_whole, run_within, small_number, small_sum, value_whole, value_within}
 use Rattle.affine_segment.proofs.PieceOrder.{each_map}
 use Rattle.upp_normal.proofs.NormaliseRank.{from_late}
 use Rattle.upp_limits.proofs.OwnGauge.{end_within}
@@ -46,9 +44,6 @@ use Rattle.upp_normal.proofs.NormaliseGrids.{IsNothing}
 use Rattle.upp_normal.proofs.StretchSizes.{time_whole}
 
 -- ---- times of the window
-time_divides : (z : Sizes) → z.dt ∣ grid_of z
-time_divides z = dvd_trans z.dt (dvd-mul_left z.dt z.ds) (slope_time_divides z)
-
 pub time_within : (z : Sizes) (end x : ℚ) → AreSizes z end → int (pos 0) ≤ℚ x → x ≤ℚ end → Within (times_largest 1 z) x
 time_within z end x a low high =
     let V = int (pos z.largest) in

@@ -1,8 +1,8 @@
 -- Breaches are in one order, and a key belongs to one breach.
-use Rattle.std.specs.Prelude.{◌≡◌, ◌⊎◌, ℕ, zero, suc, pos, List, [], ◌∷◌}
+use Rattle.std.specs.Prelude.{◌≡◌, ℕ, zero, suc, pos, List, [], ◌∷◌}
 use Rattle.std.proofs.Common.{arith, refl, sym, subst, ap, ap₂, ◌∙◌, inl, inr}
 use Rattle.rational.specs.Rational.{ℚ, int, ◌≤ℚ◌, ◌<ℚ◌}
-use Rattle.rational.proofs.Laws.{lt_irrefl, lt_trans, lt_cases}
+use Rattle.rational.proofs.Laws.{lt_irrefl, lt_trans}
 use Rattle.rational.proofs.Integers.{nat_le_out}
 use Rattle.rational.proofs.Laws.{le_refl}
 use Rattle.run_laws.specs.Runs.{SpecRun}
@@ -26,21 +26,6 @@ both_no_later (x ∷ xs) (y ∷ ys) h k = elim h [
     | inr m ↦ ap₂ (λ (z : ℚ) (zs : List ℚ). z ∷ zs) l.0 (both_no_later xs ys l.1 m.1)
   ]
 ]
-
-pub one_no_later : (xs ys : List ℚ) → NoLater xs ys ⊎ NoLater ys xs
-one_no_later [] ys = inl tt
-one_no_later (x ∷ xs) [] = inr tt
-one_no_later (x ∷ xs) (y ∷ ys) = elim (lt_cases x y) [
-  | inl l ↦ inl (inl l)
-  | inr d ↦ elim d [
-    | inl e ↦ elim (one_no_later xs ys) [ inl h ↦ inl (inr (e, h)) | inr h ↦ inr (inr (sym e, h)) ]
-    | inr l ↦ inr (inl l)
-  ]
-]
-
-pub no_later_itself : (xs : List ℚ) → NoLater xs xs
-no_later_itself [] = tt
-no_later_itself (x ∷ xs) = inr (refl, no_later_itself xs)
 
 pub no_later_trans : (xs ys zs : List ℚ) → NoLater xs ys → NoLater ys zs → NoLater xs zs
 no_later_trans [] ys zs h k = tt

@@ -1,6 +1,6 @@
 -- A product more, over finer factors; and the sum as a fraction.
 use Rattle.std.proofs.Common.{◌≡◌, ℕ, zero, suc, ◌+◌, ◌*◌, ◌<◌, ◌≤◌, ◌-◌, ◌^◌, refl, sym, ap, ◌∙◌, subst, arith}
-use Rattle.std.specs.Prelude.{◌≢◌, pos, nat_abs, ℤ, ◌*ℤ◌, ◌+ℤ◌}
+use Rattle.std.specs.Prelude.{◌≢◌, pos, nat_abs, ◌*ℤ◌, ◌+ℤ◌}
 use Rattle.std.proofs.lemmas.Int.{ints}
 use Rattle.rational.specs.Gcd.{gcd}
 use Rattle.rational.specs.Gauge.{Kept, cap}

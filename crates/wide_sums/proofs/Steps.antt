@@ -1,21 +1,13 @@
 -- Sums, product by product.
-use Rattle.std.proofs.Common.{◌≡◌, ℕ, ◌+◌, ◌*◌, ◌-◌, ◌<◌, ◌≤◌, List, [], ◌∷◌, length, get_or, drop, sym, ap, ◌∙◌, subst, arith}
+use Rattle.std.proofs.Common.{◌≡◌, ℕ, ◌+◌, ◌*◌, ◌-◌, ◌<◌, ◌≤◌, List, length, get_or, drop, sym, ap, ◌∙◌, arith}
 use Rattle.std.specs.Prelude.{pos}
-use Rattle.std.specs.List.{AllByRecursion}
 use Rattle.std.proofs.lemmas.List.{drop_more}
-use Rattle.rational.specs.Rational.{ℚ, int, over, ◌+ℚ◌, ◌*ℚ◌}
+use Rattle.rational.specs.Rational.{ℚ, over, ◌+ℚ◌, ◌*ℚ◌}
 use Rattle.wide_sums.specs.declared.products.Product.{Product}
 use Rattle.wide_sums.specs.declared.products.WideSum.{WideSum}
 use Rattle.wide_sums.specs.Words.{number}
-use Rattle.wide_sums.specs.Factors.{IsFactor, product}
+use Rattle.wide_sums.specs.Factors.{product}
 use Rattle.wide_sums.specs.Sums.{sum_of_products, IsSumOf}
-
-pub none_sum : (w : WideSum) → w.top.items ≡ [] → w.bottom.items ≡ 1 ∷ [] → w.factors.items ≡ [] → IsSumOf (int (pos 0)) w
-none_sum w top bottom factors = record {
-  is = sym (ap (λ bs. over (pos (number bs)) (number w.bottom.items)) top ∙ ap (λ bs. over (pos 0) (number bs)) bottom);
-  bottom = ap number bottom ∙ sym (ap product factors);
-  factors = subst (λ fs. AllByRecursion IsFactor fs) (sym factors) tt;
-}
 
 pub over_factors : (s : ℚ) (w : WideSum) → IsSumOf s w → s ≡ over (pos (number w.top.items)) (product w.factors.items)
 over_factors s w h = h.is ∙ ap (over (pos (number w.top.items))) h.bottom

@@ -1,4 +1,4 @@
-use Rattle.std.proofs.Common.{◌≡◌, ◌-◌, ◌∙◌, List, [], map, sym, subst, arith, true, false}
+use Rattle.std.proofs.Common.{◌≡◌, ◌-◌, ◌∙◌, List, [], map, sym, subst, true, false}
 use Rattle.std.specs.Prelude.{◌==◌}
 use Rattle.std.proofs.lemmas.Bool.{eq-eqb, ne_eqb}
 use Rattle.std.proofs.lemmas.List.{length-map}

@@ -1,4 +1,4 @@
-use Rattle.std.proofs.Common.{refl, subst, arith}
+use Rattle.std.proofs.Common.{refl, subst}
 use Rattle.upp_limits.specs.declared.op_kind.OpKind.TheVariants.{Min}
 use Rattle.upp_curve.specs.Kinds.{bucket}
 use Rattle.run_laws.specs.Cards.{whole}

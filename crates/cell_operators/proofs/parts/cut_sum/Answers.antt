@@ -1,4 +1,4 @@
-use Rattle.std.proofs.Common.{suc, ◌-◌, sym, ap, ◌∙◌, subst, arith, ◌≡◌, length}
+use Rattle.std.proofs.Common.{suc, ◌-◌, sym, ap, ◌∙◌, subst, arith, ◌≡◌}
 use Rattle.std.specs.Prelude.{Ok, Err}
 use Rattle.net_cells.specs.Meanings.{curve}
 use Rattle.net_cells.specs.Visits.{longest_of}

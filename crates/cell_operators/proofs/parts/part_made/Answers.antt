@@ -1,14 +1,12 @@
-use Rattle.std.proofs.Common.{rules, ◌≡◌, ◌∙◌, ℕ, List, [], map, sym, subst, arith, ap}
-use Rattle.std.specs.Prelude.{Ok, Err, Result}
-use Rattle.upp_limits.specs.declared.op_kind.OpFault.{OpFault}
+use Rattle.std.proofs.Common.{rules, ℕ, List, [], map, sym, subst}
+use Rattle.std.specs.Prelude.{Ok}
 use Rattle.net_cells.specs.declared.cell.Kind.TheVariants.{In}
 use Rattle.net_cells.specs.declared.visit.Visit.{Visit}
 use Rattle.net_cells.specs.Order.{at_visit}
 use Rattle.net_cells.specs.QueueParts.{in_part}
 use Rattle.queue_hops.proofs.Choosing.{part_visits}
-use Rattle.cell_operators.specs.declared.sums.Partial.{Partial}
 use Rattle.cell_operators.specs.Evaluates.{Counts}
-use Rattle.cell_operators.specs.Partial.{Adds, IsReady}
+use Rattle.cell_operators.specs.Partial.{Adds}
 use Rattle.cell_operators.specs.Parts.{MakesPart, part_answer, part_work}
 use Rattle.cell_operators.proofs.Counting.{counts_all}
 use Rattle.cell_operators.proofs.PartSteps.{entering, entering_counts, refused_part, refused_counts}

@@ -1,9 +1,8 @@
-use Rattle.std.proofs.Common.{◌≡◌, suc, ◌+◌, ◌∙◌, length, sym, ap, subst, arith}
-use Rattle.std.specs.Prelude.{Ok, Err}
+use Rattle.std.proofs.Common.{◌≡◌, suc, ◌+◌, length, sym, ap, subst, arith}
 use Rattle.std.proofs.lemmas.List.{length-map}
 use Rattle.net_model.specs.Views.{server_of}
 use Rattle.cell_operators.specs.Evaluates.{Counts}
-use Rattle.cell_operators.specs.Parts.{MakesPart, AreMade, part_answer, part_work, kept}
+use Rattle.cell_operators.specs.Parts.{MakesPart, AreMade, part_answer, part_work}
 use Rattle.cell_operators.proofs.PartSteps.{none_made, next_made, refused_made}
 use Rattle.cell_operators.proofs.parts.parts_made.Goals as goal
 

@@ -1,4 +1,4 @@
-use Rattle.std.proofs.Common.{◌≡◌, ◌∙◌, length, arith, below_more}
+use Rattle.std.proofs.Common.{length, arith}
 use Rattle.queue_hops.specs.Chosen.{chosen}
 use Rattle.cell_rules.proofs.Tells.{tells_no}
 use Rattle.cell_rules.proofs.SameHops.{same_flat, other_flat, chosen_blank, chosen_own}

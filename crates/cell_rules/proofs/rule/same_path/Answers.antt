@@ -1,5 +1,5 @@
-use Rattle.std.proofs.Common.{◌≡◌, ◌∙◌, sym, arith}
-use Rattle.cell_rules.proofs.SameMade.{other_path, one_hop, path_tells}
+use Rattle.std.proofs.Common.{sym, arith}
+use Rattle.cell_rules.proofs.SameMade.{path_tells}
 use Rattle.cell_rules.proofs.rule.same_path.Goals as goal
 
 pub returns : goal.returns

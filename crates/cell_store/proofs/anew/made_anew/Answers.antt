@@ -1,15 +1,12 @@
-use Rattle.std.proofs.Common.{◌≡◌, ◌+◌, Some, take, drop, ◌∙◌, ap, subst, arith}
-use Rattle.std.proofs.lemmas.List.{take_all, drop_all}
+use Rattle.std.proofs.Common.{◌≡◌, ◌+◌, Some, drop, ◌∙◌, ap, arith}
+use Rattle.std.proofs.lemmas.List.{drop_all}
 use Rattle.std.proofs.lemmas.List.Sums.{sum_by_more, sum_by_more_le}
-use Rattle.net_cells.specs.declared.cell.Cell.{Cell}
 use Rattle.net_cells.specs.Meanings.{CellTable}
 use Rattle.net_cells.specs.Work.{work}
 use Rattle.net_cells.proofs.Tables.{answered_meets}
-use Rattle.cell_changes.specs.Laws.{AgreeAtUntouched}
 use Rattle.cell_store.specs.Placed.{placed}
-use Rattle.cell_store.specs.Edits.{IsEditOf, AllAnswered}
 use Rattle.cell_table.proofs.Fronts.{no_cell, cell_at}
-use Rattle.cell_store.proofs.Fronts.{Next, Reached, next_at, next_is_cell, next_below, next_has_slot, made_at, all_answered, refused, same_untouched, still_others}
+use Rattle.cell_store.proofs.Fronts.{next_at, next_is_cell, next_below, next_has_slot, made_at, all_answered, refused, same_untouched, still_others}
 use Rattle.cell_store.proofs.anew.made_anew.Goals as goal
 
 pub eval-requires-clause-cell : goal.eval-requires-clause-cell

@@ -1,4 +1,4 @@
-use Rattle.std.specs.Prelude.{None, IfSome}
+use Rattle.std.specs.Prelude.{IfSome}
 use Rattle.std.proofs.Common.{sym, subst}
 use Rattle.upp_curve.specs.Curve.{value_at}
 use Rattle.curve_conv.specs.Scans.{sizes_in}

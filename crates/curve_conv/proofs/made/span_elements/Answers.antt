@@ -1,6 +1,6 @@
 use Rattle.std.specs.Prelude.{◌++◌, ◌<◌}
 use Rattle.std.proofs.Common.{sym, subst, ap, ◌∙◌}
-use Rattle.curve_conv.specs.Scans.{sizes_in, or_else}
+use Rattle.curve_conv.specs.Scans.{sizes_in}
 use Rattle.curve_conv.specs.SpanElements.{listed}
 use Rattle.curve_conv.specs.Stretches.{point_at, open_at}
 use Rattle.curve_conv.proofs.GridSteps.{steps_while}

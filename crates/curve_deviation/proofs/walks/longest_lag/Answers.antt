@@ -1,9 +1,8 @@
-use Rattle.std.proofs.Common.{refl, pos, sym}
-use Rattle.rational.specs.Rational.{int}
+use Rattle.std.proofs.Common.{refl}
 use Rattle.rational.proofs.Laws.{le_lt_trans}
 use Rattle.upp_curve.specs.Curve.{value_at}
 use Rattle.curve_deviation.proofs.RisingParts.{time_to, cell_rises}
-use Rattle.curve_deviation.proofs.Walk.{IsWalked, walk_start, walk_end, walk_time, one_pass}
+use Rattle.curve_deviation.proofs.Walk.{walk_start, walk_end, walk_time, one_pass}
 use Rattle.curve_deviation.proofs.walks.longest_lag.Goals as goal
 use Rattle.rational.proofs.Compared.{least_by_test}
 

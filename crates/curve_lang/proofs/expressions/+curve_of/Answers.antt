@@ -1,9 +1,8 @@
 use Rattle.std.proofs.Common.{rules, refl, sym, ap, subst, ◌∙◌, map}
 use Rattle.std.specs.Prelude.{Err}
-use Rattle.curve_script.specs.Grammar.{depth}
 use Rattle.curve_script.specs.Views.{expression_view}
-use Rattle.curve_lang.specs.Finding.{stops, goes_on, Then}
-use Rattle.curve_lang.specs.Found.{Finds, TwoMade}
+use Rattle.curve_lang.specs.Finding.{stops, goes_on}
+use Rattle.curve_lang.specs.Found.{Finds}
 use Rattle.curve_lang.specs.After.{TwoAfter}
 use Rattle.curve_lang.specs.Forms.{form_view}
 use Rattle.curve_lang.specs.Views.{let_view, found}

@@ -1,4 +1,4 @@
-use Rattle.std.proofs.Common.{refl, sym, subst}
+use Rattle.std.proofs.Common.{sym, subst}
 use Rattle.curve_lang.specs.Found.{NumberMade}
 use Rattle.curve_lang.specs.After.{NumberAfter}
 use Rattle.curve_lang.specs.Views.{found}

@@ -1,4 +1,4 @@
-use Rattle.std.proofs.Common.{sym, subst}
+use Rattle.std.proofs.Common.{subst}
 use Rattle.std.specs.Prelude.{IfOk}
 use Rattle.upp_curve.specs.Curves.{IsCurve}
 use Rattle.curve_lang.specs.Sharing.{CallKept}

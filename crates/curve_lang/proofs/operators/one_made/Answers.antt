@@ -1,5 +1,4 @@
-use Rattle.std.proofs.Common.{refl, sym, subst, ◌∙◌, inl, inr}
-use Rattle.std.specs.Prelude.{Ok}
+use Rattle.std.proofs.Common.{refl, subst, ◌∙◌, inl}
 use Rattle.curve_lang.specs.Finding.{Gives, zero_curve, goes_on, stops, OneFinds}
 use Rattle.curve_lang.specs.Found.{TestedBy}
 use Rattle.curve_lang.specs.Views.{found}

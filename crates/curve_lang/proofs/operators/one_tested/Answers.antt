@@ -1,10 +1,5 @@
-use Rattle.std.proofs.Common.{refl, sym, ap, subst, inl, inr, true≢false}
-use Rattle.rational.specs.Extended.{◌≤ₑ◌}
-use Rattle.rational.specs.declared.Extended.TheVariants.{Fin}
-use Rattle.min_plus.specs.Functions.{zero_q, IsFinite, IsNonnegative}
-use Rattle.min_plus.specs.Deviations.{IsVerticalDeviation}
-use Rattle.upp_curve.specs.Curve.{SpecCurve, value_at}
-use Rattle.curve_lang.specs.Finding.{TestFinds, zero_curve, goes_on, stops}
+use Rattle.std.proofs.Common.{refl, sym, subst, inl, inr, true≢false}
+use Rattle.curve_lang.specs.Finding.{TestFinds, goes_on, stops}
 use Rattle.curve_lang.proofs.Below.{above_is_negative, not_above_is_nonneg}
 use Rattle.curve_lang.proofs.operators.one_tested.Goals as goal
 

@@ -1,4 +1,4 @@
-use Rattle.std.proofs.Common.{refl, sym, subst, inl, inr, true≢false}
+use Rattle.std.proofs.Common.{refl, subst, inl, inr}
 use Rattle.rational.specs.Rational.{◌≤ℚ◌, ◌<ℚ◌}
 use Rattle.rational.proofs.Compared.{not_less_out}
 use Rattle.rational.proofs.Laws.{not_le_of_lt}

@@ -1,5 +1,5 @@
-use Rattle.std.proofs.Common.{refl, sym, subst, inl, inr}
-use Rattle.std.specs.Prelude.{IfOk, Ok, Err}
+use Rattle.std.proofs.Common.{refl, sym, subst, inl}
+use Rattle.std.specs.Prelude.{IfOk, Err}
 use Rattle.min_plus.specs.Deviations.{IsVerticalDeviation}
 use Rattle.upp_curve.specs.Curve.{value_at}
 use Rattle.upp_limits.specs.Outcome.{KeepsLimits}

@@ -1,5 +1,5 @@
-use Rattle.std.proofs.Common.{refl, sym, ap, subst, ◌∙◌, map}
-use Rattle.curve_script.specs.Views.{expression_view, statement_view}
+use Rattle.std.proofs.Common.{sym, ap, subst, ◌∙◌, map}
+use Rattle.curve_script.specs.Views.{expression_view}
 use Rattle.curve_script.specs.Grammar.{ValueAt, AsksOne, AsksTwo}
 use Rattle.curve_lang.specs.Found.{AsksTime, AsksOf, AsksBoth}
 use Rattle.curve_lang.specs.Scripts.{IsAdded}

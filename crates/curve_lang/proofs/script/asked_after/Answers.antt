@@ -1,9 +1,7 @@
-use Rattle.std.proofs.Common.{refl, sym, ap, subst, map}
-use Rattle.curve_script.specs.Views.{expression_view}
-use Rattle.curve_lang.specs.Finding.{goes_on, stops}
-use Rattle.curve_lang.specs.Found.{Finds, TimeFinds, TwoFinds}
+use Rattle.std.proofs.Common.{sym, subst}
+use Rattle.curve_lang.specs.Found.{TwoFinds}
 use Rattle.curve_lang.specs.After.{AskedAfter}
-use Rattle.curve_lang.specs.Views.{let_view, found, told}
+use Rattle.curve_lang.specs.Views.{found, told}
 use Rattle.curve_lang.proofs.script.asked_after.Goals as goal
 
 pub returns-in-Ok : goal.returns-in-Ok

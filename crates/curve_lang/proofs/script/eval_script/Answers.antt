@@ -1,6 +1,6 @@
-use Rattle.std.proofs.Common.{arith, refl, sym, ap, subst, ◌∙◌, map, drop, length, [], ◌<◌, ◌≤◌, ◌+◌}
+use Rattle.std.proofs.Common.{arith, sym, ap, subst, ◌∙◌, map, drop, length, [], ◌<◌, ◌≤◌, ◌+◌}
 use Rattle.std.proofs.lemmas.List.{drop_more}
-use Rattle.std.specs.Prelude.{Ok, Err, ◌∷◌}
+use Rattle.std.specs.Prelude.{Err, ◌∷◌}
 use Rattle.curve_script.specs.Views.{statement_view}
 use Rattle.curve_script.specs.Scripts.{line_view}
 use Rattle.curve_lang.specs.Answers.{ScriptMeans}

@@ -1,4 +1,4 @@
-use Rattle.std.proofs.Common.{◌≡◌, drop, map, []}
+use Rattle.std.proofs.Common.{drop, map, []}
 use Rattle.curve_script.specs.Scripts.{line_view}
 use Rattle.curve_lang.specs.Found.{Told, ScriptFinds}
 use Rattle.curve_lang.specs.Views.{let_view, answer_view}

@@ -1,10 +1,8 @@
-use Rattle.std.proofs.Common.{refl, sym, ap, subst, ◌∙◌, map}
+use Rattle.std.proofs.Common.{sym, subst, ◌∙◌, map}
 use Rattle.std.specs.Prelude.{◌≡◌, Ok, Err, is_some, false}
-use Rattle.curve_script.specs.Views.{expression_view, statement_view}
+use Rattle.curve_script.specs.Views.{expression_view}
 use Rattle.curve_lang.specs.Found.{Finds, curve_named}
-use Rattle.curve_lang.specs.Scripts.{IsAdded}
-use Rattle.curve_lang.specs.Forms.{question_view}
-use Rattle.curve_lang.specs.Views.{let_view, answer_view, found, told}
+use Rattle.curve_lang.specs.Views.{let_view, found}
 use Rattle.curve_lang.proofs.Scripting.{name_refused, name_lost, name_found}
 use Rattle.curve_lang.proofs.script.give.Goals as goal
 

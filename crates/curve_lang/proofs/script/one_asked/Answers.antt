@@ -1,9 +1,8 @@
-use Rattle.std.proofs.Common.{refl, sym, ap, subst, map}
+use Rattle.std.proofs.Common.{refl, ap, subst, map}
 use Rattle.curve_script.specs.Views.{expression_view}
 use Rattle.curve_lang.specs.Finding.{goes_on, stops}
-use Rattle.curve_lang.specs.Found.{Finds, TimeFinds, TwoFinds}
-use Rattle.curve_lang.specs.After.{AskedAfter}
-use Rattle.curve_lang.specs.Views.{let_view, found, told}
+use Rattle.curve_lang.specs.Found.{Finds}
+use Rattle.curve_lang.specs.Views.{let_view, found}
 use Rattle.std.specs.Prelude.{Ok}
 use Rattle.curve_lang.proofs.script.one_asked.Goals as goal
 

@@ -1,4 +1,4 @@
-use Rattle.std.proofs.Common.{◌≡◌, true, sym, ◌∙◌, subst}
+use Rattle.std.proofs.Common.{◌≡◌, true, sym, ◌∙◌}
 use Rattle.net_draft.specs.Values.{is_name}
 use Rattle.net_draft.proofs.HopParts.{parts_are}
 use Rattle.net_draft.proofs.hops.hop_of_parts.Goals as goal

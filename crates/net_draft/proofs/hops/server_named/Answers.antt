@@ -1,4 +1,4 @@
-use Rattle.std.proofs.Common.{◌≡◌, ◌<◌, Some, length, sym}
+use Rattle.std.proofs.Common.{◌≡◌, Some, sym}
 use Rattle.std.specs.Prelude.{slice_get}
 use Rattle.net_model.proofs.Placed.{made_at}
 use Rattle.net_draft.specs.ListViews.{list_texts}

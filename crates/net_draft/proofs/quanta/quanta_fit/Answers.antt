@@ -1,6 +1,6 @@
-use Rattle.std.proofs.Common.{◌≡◌, map, sym, ap, subst, ◌∙◌}
+use Rattle.std.proofs.Common.{map, sym, subst, ◌∙◌}
 use Rattle.net_model.specs.declared.fault.NetKind.TheVariants.{M12}
-use Rattle.net_draft.specs.Faults.{IsFault, nth}
+use Rattle.net_draft.specs.Faults.{IsFault}
 use Rattle.net_draft.specs.Drafts.{quanta_from}
 use Rattle.net_draft.specs.Views.{flow_text}
 use Rattle.net_draft.proofs.Fitting.{short_here, long_here, all_long}

@@ -1,5 +1,5 @@
 use Rattle.std.specs.Prelude.{All}
-use Rattle.std.proofs.Common.{◌≡◌, map, List, Ok, subst}
+use Rattle.std.proofs.Common.{◌≡◌, map, Ok, subst}
 use Rattle.std.proofs.lemmas.List.Elements.{All-map, All-weaker}
 use Rattle.net_draft.specs.Drafts.{quanta_fit}
 use Rattle.net_draft.specs.Kept.{IsFlowDraft}

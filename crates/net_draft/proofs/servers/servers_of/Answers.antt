@@ -1,4 +1,4 @@
-use Rattle.std.specs.Prelude.{codes, ◌≢◌, All, AllPairs}
+use Rattle.std.specs.Prelude.{codes, ◌≢◌, All}
 use Rattle.std.proofs.Common.{◌≡◌, ◌+◌, ◌≤◌, arith, [], ◌∷◌, ◌++◌, length, map, Ok, rules, subst, sym, ap, ◌∙◌}
 use Rattle.std.proofs.lemmas.Result.{err_from_is_err_and}
 use Rattle.std.proofs.lemmas.List.{length_push, length-map, map_push}

@@ -1,4 +1,4 @@
-use Rattle.std.proofs.Common.{w64, Ok, ◌≡◌, ◌<◌, ◌≤◌, List, ℕ, length, sym, ap, ◌∙◌, subst, Some, None, true, false, Option, arith}
+use Rattle.std.proofs.Common.{w64, Ok, ◌≡◌, List, ℕ, length, sym, ap, ◌∙◌, subst, None, true, false, arith}
 use Rattle.std.specs.Prelude.{ℤ}
 use Rattle.std.specs.Option.{option_map}
 use Rattle.std.proofs.lemmas.Int.{to_z-of_z}

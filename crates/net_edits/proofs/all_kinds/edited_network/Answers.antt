@@ -1,5 +1,5 @@
-use Rattle.std.proofs.Common.{◌≡◌, ℕ, List, sym, subst, rules, w64}
-use Rattle.std.specs.Prelude.{ℤ, Result}
+use Rattle.std.proofs.Common.{ℕ, List, sym, subst, rules, w64}
+use Rattle.std.specs.Prelude.{ℤ}
 use Rattle.std.proofs.lemmas.Int.{to_z-of_z}
 use mir.Val.{SFits, of_z, to_z}
 use Rattle.net_model.specs.declared.edit.Edit.{Edit}

@@ -1,11 +1,9 @@
-use Rattle.std.proofs.Common.{◌≡◌, List, Option, Ok, refl, sym, ap, ap₂, ◌∙◌, subst, true, false}
-use Rattle.std.specs.Prelude.{slice_set}
+use Rattle.std.proofs.Common.{List, Option, Ok, refl, sym, ap, ap₂, ◌∙◌, subst, true, false}
 use Rattle.std.specs.List.{list_all}
 use Rattle.net_model.specs.declared.flow.Flow.{Flow}
 use Rattle.net_model.specs.declared.server.Server.{Server}
-use Rattle.net_model.specs.Networks.{Net}
 use Rattle.net_model.specs.Accepted.{IsAccepted}
-use Rattle.net_model.specs.Views.{server_of, servers_of, flows_of, net_of}
+use Rattle.net_model.specs.Views.{server_of, servers_of, flows_of}
 use Rattle.net_edits.specs.Changed.{put_server}
 use Rattle.net_edits.specs.Values.{place_fits, quanta_fit}
 use Rattle.net_edits.proofs.Steps.{passed, stopped}

@@ -1,5 +1,4 @@
-use Rattle.std.proofs.Common.{sym, ap, ◌∙◌, subst}
-use Rattle.net_model.specs.Networks.{Net}
+use Rattle.std.proofs.Common.{sym, ◌∙◌, subst}
 use Rattle.net_model.specs.Accepted.{IsAccepted}
 use Rattle.net_edits.proofs.Replaced.{server_replaced}
 use Rattle.net_edits.proofs.replacing.with_server.Goals as goal

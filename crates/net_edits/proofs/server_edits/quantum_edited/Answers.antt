@@ -1,6 +1,5 @@
-use Rattle.std.proofs.Common.{w64, ◌≡◌, Ok, sym, ap, ◌∙◌, subst, Some, None, true, false}
-use Rattle.std.specs.Prelude.{ℤ, not, ◌&&◌}
-use Rattle.std.proofs.lemmas.Bool.{and_from, not_from_false}
+use Rattle.std.proofs.Common.{w64, ◌≡◌, Ok, sym, ap, ◌∙◌, subst, None, true}
+use Rattle.std.specs.Prelude.{ℤ}
 use Rattle.std.proofs.lemmas.Int.{to_z-of_z}
 use Rattle.std.proofs.lemmas.Result.{err_from_is_err_and}
 use Rattle.net_model.specs.Accepted.{IsAccepted}
@@ -8,13 +7,12 @@ use Rattle.net_model.specs.Networks.{NetServer}
 use Rattle.net_model.specs.Views.{server_of}
 use Rattle.net_edits.specs.Refusals.{and_then}
 use Rattle.net_edits.specs.Values.{whole_that, is_length, is_quantum_of, quanta_fit}
-use Rattle.net_edits.specs.Changed.{put_server, with_latency, with_quantum}
-use Rattle.net_edits.specs.Edited.{is_negative, is_latency, has_latency, latency_made, latency_edited, fitting, quantum_edited}
+use Rattle.net_edits.specs.Changed.{put_server, with_quantum}
+use Rattle.net_edits.specs.Edited.{fitting, quantum_edited}
 use Rattle.net_edits.specs.Replies.{Refuses}
-use Rattle.net_edits.proofs.Signs.{nonneg_of}
-use Rattle.net_edits.proofs.Steps.{edited_reply, over_reply, refused_reply, same_refused, then_refused}
+use Rattle.net_edits.proofs.Steps.{refused_reply, same_refused, then_refused}
 use Rattle.net_edits.proofs.FlowEdits.{bits_length}
-use Rattle.net_edits.proofs.ServerEdits.{server_edit, latency_stands, quantum_stands, quantum_found, quantum_edit, fitting_reply}
+use Rattle.net_edits.proofs.ServerEdits.{quantum_stands, quantum_found, quantum_edit, fitting_reply}
 use Rattle.net_edits.proofs.server_edits.quantum_edited.Goals as goal
 
 pub returns-in_err-queue : goal.returns-in_err-queue

@@ -1,4 +1,3 @@
-use Rattle.rational.specs.Rational.{◌<ℚ◌}
 use Rattle.upp_curve.specs.Kinds.{rate_latency, gate}
 use Rattle.curve_library.specs.Causes.{OneNegative, NoSlot}
 use Rattle.rational.proofs.Laws.{le_of_lt}

@@ -1,4 +1,4 @@
-use Rattle.std.proofs.Common.{refl, sym, subst, true≢false}
+use Rattle.std.proofs.Common.{sym, subst, true≢false}
 use Rattle.rational.specs.Rational.{◌≤ℚ◌}
 use Rattle.rational.proofs.Laws.{le_of_not_lt}
 use Rattle.curve_least.proofs.KnownGauge.{one_period, any_period}

@@ -1,4 +1,4 @@
-use Rattle.std.proofs.Common.{◌≡◌, ◌+◌, [], length}
+use Rattle.std.proofs.Common.{◌≡◌, [], length}
 use Rattle.run_tests.proofs.version_tables.four_thousand_versions_of_a_million_cells_fit.Given as goal
 
 abbrev pub invariant-loop-cell : goal.invariant-loop-cell

@@ -1,4 +1,5 @@
-use Rattle.std.proofs.Common.{◌<◌, length, below_more, refl, subst, arith}
+use Rattle.std.proofs.Common.{◌<◌, ◌∙◌, Option, length, ap, below_more, refl, subst, arith}
+use Rattle.std.specs.Prelude.{unwrap_or}
 use Rattle.rational.specs.Rational.{ℚ}
 use Rattle.run_watch.specs.Stairs.{IsStep}
 use Rattle.run_watch.proofs.StairPaces.{step_at}
@@ -10,6 +11,6 @@ loop-i-preserved c =
     let ps = c.args.pieces.now in
     let p = c.index-pieces-i.result in
     let l : c.loop-i.i < length ps = omega arith in
-    let step : IsStep s.height s.slack s.rate p c.start_or.result = c.if-not-is_step.ensures refl in
+    let step : IsStep s.height s.slack s.rate p c.unwrap_or.result = c.if-not-is_step.ensures refl in
     below_more _ _ c.loop-i.invariant (step_at s.height s.slack s.rate c.args.end ps c.loop-i.i p l c.index-pieces-i.is
-    (subst (λ (x : ℚ). IsStep s.height s.slack s.rate p x) c.start_or.ensures step))
+    (subst (λ (x : ℚ). IsStep s.height s.slack s.rate p x) (c.unwrap_or.ensures ∙ ap (λ (o : Option ℚ). unwrap_or o c.args.end) c.next_start.ensures) step))

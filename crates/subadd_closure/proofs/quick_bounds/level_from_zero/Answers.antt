@@ -1,4 +1,3 @@
-use Rattle.std.proofs.Common.{sym, subst}
 use Rattle.curve_conv.specs.Scans.{sizes_in}
 use Rattle.curve_conv.proofs.BoundsFound.{begins_early}
 use Rattle.curve_conv.proofs.OwnExtremes.{slow_windows}

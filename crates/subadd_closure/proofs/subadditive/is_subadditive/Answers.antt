@@ -1,4 +1,4 @@
-use Rattle.std.proofs.Common.{◌≡◌, ◌+◌, Err, arith, refl}
+use Rattle.std.proofs.Common.{Err, arith, refl}
 use Rattle.std.proofs.lemmas.Result.{err_from_is_err_and}
 use Rattle.upp_limits.specs.declared.op_kind.OpKind.TheVariants.{Min, Convolve}
 use Rattle.upp_curve.specs.Curve.{value_at}
