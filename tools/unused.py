@@ -39,13 +39,18 @@ def blocks_of(lines):
     yield name, first, len(lines)
 
 
+def is_named(name, words):
+    """Whether a name stands in the words: an operator whole, with its places, or part by part."""
+    return name in words or all(part in words for part in name.split('◌') if part)
+
+
 def unused_imports(lines):
     """The lines with an import that no other line names: the place, those names, and the line without them."""
     words = {word for line in lines if not line.startswith('use ') for word in words_of(line)}
     for at, line in enumerate(lines):
         group = GROUP.match(line)
         names = [name.strip() for name in group[2].split(',')] if group else []
-        kept = [name for name in names if all(part in words for part in name.split(' as ')[-1].split('◌') if part)]
+        kept = [name for name in names if is_named(name.split(' as ')[-1], words)]
         if len(kept) < len(names):
             yield at, [name for name in names if name not in kept], [f'{group[1]}{{{", ".join(kept)}}}'] if kept else []
 

@@ -2,7 +2,7 @@
 use Rattle.std.specs.Prelude.{◌≡◌, pos, negsuc, Some}
 use Rattle.std.proofs.Common.{arith, refl, subst, inl, inr}
 use Rattle.rational.specs.Gcd.{gcd, gcd_steps}
-use Rattle.rational.specs.Rational.{frac, int, neg_ℚ, inv_ℚ, ◌-ℚ◌, ◌/ℚ◌}
+use Rattle.rational.specs.Rational.{frac, int, neg_ℚ, inv_ℚ, ◌+ℚ◌, ◌-ℚ◌, ◌*ℚ◌, ◌/ℚ◌}
 use Rattle.rational.specs.Whole.{whole_part}
 use Rattle.rational.specs.declared.Extended.TheVariants.{Fin, Inf}
 use Rattle.rational.proofs.Linear.{with1}

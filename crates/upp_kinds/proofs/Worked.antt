@@ -2,7 +2,7 @@
 use Rattle.std.specs.Prelude.{◌≡◌, ℕ, pos}
 use Rattle.std.proofs.Common.{ap, refl}
 use Rattle.rational.specs.Gcd.{gcd, gcd_steps}
-use Rattle.rational.specs.Rational.{◌+ℚ◌, ◌*ℚ◌, neg_ℚ, inv_ℚ, frac, le_q, lt_q}
+use Rattle.rational.specs.Rational.{◌+ℚ◌, ◌-ℚ◌, ◌*ℚ◌, ◌/ℚ◌, neg_ℚ, inv_ℚ, frac, le_q, lt_q}
 use Rattle.rational.specs.Fractions.{same_parts}
 use Rattle.rational.specs.MinMax.{min_q, max_q}
 use Rattle.rational.specs.Whole.{whole_part, periods}
