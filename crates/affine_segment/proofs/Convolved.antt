@@ -1,14 +1,14 @@
 -- What two elements make is their convolution: points, a moved segment, two segments of one slope, and of different slopes.
 use Rattle.std.specs.Prelude.{◌≡◌, ◌⊎◌, Some, Result, Ok, Err, IfOk}
 use Rattle.std.proofs.Common.{arith, sym, ap, ap₂, ◌∙◌, refl, subst, inl, inr, true≢false}
-use Rattle.rational.specs.Rational.{ℚ, ◌+ℚ◌, ◌-ℚ◌, ◌≤ℚ◌, ◌<ℚ◌}
-use Rattle.rational.specs.Extended.{Ext, ◌<ₑ◌, ◌+ₑ◌}
-use Rattle.rational.specs.declared.Extended.TheVariants.{Fin, Inf}
-use Rattle.rational.specs.Bounds.{IsInfimum}
-use Rattle.rational.proofs.Linear.{with2, with3, with4}
-use Rattle.rational.proofs.Laws.{add_comm, le_of_lt, lt_cases}
-use Rattle.rational.proofs.ExtendedOrder.{same_le_ext}
-use Rattle.rational.proofs.Bounds.{same_infimum}
+use Rattle.fraction128.specs.rational.specs.Rational.{ℚ, ◌+ℚ◌, ◌-ℚ◌, ◌≤ℚ◌, ◌<ℚ◌}
+use Rattle.fraction128.specs.rational.specs.Extended.{Ext, ◌<ₑ◌, ◌+ₑ◌}
+use Rattle.fraction128.specs.rational.specs.declared.Extended.TheVariants.{Fin, Inf}
+use Rattle.fraction128.specs.rational.specs.Bounds.{IsInfimum}
+use Rattle.fraction128.specs.rational.proofs.Linear.{with2, with3, with4}
+use Rattle.fraction128.specs.rational.proofs.Laws.{add_comm, le_of_lt, lt_cases}
+use Rattle.fraction128.specs.rational.proofs.ExtendedOrder.{same_le_ext}
+use Rattle.fraction128.specs.rational.proofs.Bounds.{same_infimum}
 use Rattle.affine_segment.specs.declared.line.Line.{Line}
 use Rattle.affine_segment.specs.declared.element.Element.{Element}
 use Rattle.affine_segment.specs.declared.element.Element.TheVariants.{Point, Open}

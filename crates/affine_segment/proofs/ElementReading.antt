@@ -1,10 +1,10 @@
 -- The parts of an answer read at a time of one of them, or of none.
 use Rattle.std.specs.Prelude.{◌≡◌, Option, Some, None}
 use Rattle.std.proofs.Common.{arith, refl, subst, ap₂, inl, inr}
-use Rattle.rational.specs.Rational.{ℚ, ◌<ℚ◌}
-use Rattle.rational.specs.Extended.{Ext, ◌<ₑ◌, min_ext}
-use Rattle.rational.specs.declared.Extended.TheVariants.{Fin, Inf}
-use Rattle.rational.proofs.Linear.{with2, with3}
+use Rattle.fraction128.specs.rational.specs.Rational.{ℚ, ◌<ℚ◌}
+use Rattle.fraction128.specs.rational.specs.Extended.{Ext, ◌<ₑ◌, min_ext}
+use Rattle.fraction128.specs.rational.specs.declared.Extended.TheVariants.{Fin, Inf}
+use Rattle.fraction128.specs.rational.proofs.Linear.{with2, with3}
 use Rattle.affine_segment.specs.declared.element.Element.{Element}
 use Rattle.affine_segment.specs.declared.element.Element.TheVariants.{Point, Open}
 use Rattle.affine_segment.specs.declared.element.Joined.{Joined}

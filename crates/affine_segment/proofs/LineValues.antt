@@ -1,11 +1,11 @@
 -- The values of a line at two times.
 use Rattle.std.specs.Prelude.{◌≡◌, pos, Option, Some, None}
 use Rattle.std.proofs.Common.{refl, inl, inr}
-use Rattle.rational.specs.Rational.{ℚ, ◌+ℚ◌, ◌*ℚ◌, ◌≤ℚ◌, ◌<ℚ◌, int}
-use Rattle.rational.specs.declared.Extended.TheVariants.{Fin}
-use Rattle.rational.proofs.Laws.{le_or_lt, lt_irrefl, lt_le_trans}
-use Rattle.rational.proofs.ExtendedOrder.{same_le_ext}
-use Rattle.rational.proofs.Lines.{line_rises, line_moved}
+use Rattle.fraction128.specs.rational.specs.Rational.{ℚ, ◌+ℚ◌, ◌*ℚ◌, ◌≤ℚ◌, ◌<ℚ◌, int}
+use Rattle.fraction128.specs.rational.specs.declared.Extended.TheVariants.{Fin}
+use Rattle.fraction128.specs.rational.proofs.Laws.{le_or_lt, lt_irrefl, lt_le_trans}
+use Rattle.fraction128.specs.rational.proofs.ExtendedOrder.{same_le_ext}
+use Rattle.fraction128.specs.rational.proofs.Lines.{line_rises, line_moved}
 use Rattle.affine_segment.specs.declared.line.Line.{Line}
 use Rattle.affine_segment.specs.Values.{line_at, line_value}
 

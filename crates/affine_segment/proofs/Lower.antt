@@ -1,13 +1,13 @@
 -- The lower of two lines before and after they meet.
 use Rattle.std.specs.Prelude.{◌≡◌, ◌≢◌, ◌⊎◌, Option, Some, None, IfSome}
 use Rattle.std.proofs.Common.{arith, sym, ap, refl, inl, inr, ◌∙◌}
-use Rattle.rational.specs.Rational.{ℚ, ◌+ℚ◌, ◌-ℚ◌, ◌*ℚ◌, ◌≤ℚ◌, ◌<ℚ◌}
-use Rattle.rational.specs.MinMax.{min_q}
-use Rattle.rational.specs.Extended.{Ext, ◌<ₑ◌}
-use Rattle.rational.specs.declared.Extended.TheVariants.{Fin, Inf}
-use Rattle.rational.proofs.Linear.{with2, with3, with4, with8}
-use Rattle.rational.proofs.Laws.{le_or_lt, mul_sub, mul_le_mul_right, antisym}
-use Rattle.rational.proofs.MinMax.{min_q_left, min_q_right, min_q_comm}
+use Rattle.fraction128.specs.rational.specs.Rational.{ℚ, ◌+ℚ◌, ◌-ℚ◌, ◌*ℚ◌, ◌≤ℚ◌, ◌<ℚ◌}
+use Rattle.fraction128.specs.rational.specs.MinMax.{min_q}
+use Rattle.fraction128.specs.rational.specs.Extended.{Ext, ◌<ₑ◌}
+use Rattle.fraction128.specs.rational.specs.declared.Extended.TheVariants.{Fin, Inf}
+use Rattle.fraction128.specs.rational.proofs.Linear.{with2, with3, with4, with8}
+use Rattle.fraction128.specs.rational.proofs.Laws.{le_or_lt, mul_sub, mul_le_mul_right, antisym}
+use Rattle.fraction128.specs.rational.proofs.MinMax.{min_q_left, min_q_right, min_q_comm}
 use Rattle.affine_segment.specs.declared.line.Line.{Line}
 use Rattle.affine_segment.specs.declared.cut.Cut.{Cut}
 use Rattle.affine_segment.specs.Values.{line_at}

@@ -1,9 +1,9 @@
 -- What two elements make, part by part, from what is computed.
 use Rattle.std.specs.Prelude.{◌≡◌, Some}
 use Rattle.std.proofs.Common.{sym, ap, ◌∙◌, refl}
-use Rattle.rational.specs.Rational.{ℚ, ◌+ℚ◌}
-use Rattle.rational.specs.Extended.{Ext, ◌+ₑ◌}
-use Rattle.rational.specs.declared.Extended.TheVariants.{Fin}
+use Rattle.fraction128.specs.rational.specs.Rational.{ℚ, ◌+ℚ◌}
+use Rattle.fraction128.specs.rational.specs.Extended.{Ext, ◌+ₑ◌}
+use Rattle.fraction128.specs.rational.specs.declared.Extended.TheVariants.{Fin}
 use Rattle.affine_segment.specs.declared.line.Line.{Line}
 use Rattle.affine_segment.specs.declared.element.Element.TheVariants.{Point, Open}
 use Rattle.affine_segment.specs.declared.element.Joined.{Joined}

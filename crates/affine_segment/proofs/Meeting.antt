@@ -1,9 +1,9 @@
 -- Where two lines meet.
 use Rattle.std.specs.Prelude.{◌≡◌, ◌≢◌, pos}
 use Rattle.std.proofs.Common.{arith, sym, ap, ap₂, ◌∙◌}
-use Rattle.rational.specs.Rational.{ℚ, ◌+ℚ◌, ◌-ℚ◌, ◌*ℚ◌, ◌/ℚ◌, int}
-use Rattle.rational.proofs.Linear.{with2, with5}
-use Rattle.rational.proofs.Laws.{div_mul, mul_comm, mul_sub}
+use Rattle.fraction128.specs.rational.specs.Rational.{ℚ, ◌+ℚ◌, ◌-ℚ◌, ◌*ℚ◌, ◌/ℚ◌, int}
+use Rattle.fraction128.specs.rational.proofs.Linear.{with2, with5}
+use Rattle.fraction128.specs.rational.proofs.Laws.{div_mul, mul_comm, mul_sub}
 use Rattle.affine_segment.specs.declared.line.Line.{Line}
 use Rattle.affine_segment.specs.Values.{line_at}
 

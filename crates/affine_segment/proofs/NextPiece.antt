@@ -1,9 +1,9 @@
 -- Where the piece after a time starts, and how it is looked up.
 use Rattle.std.specs.Prelude.{◌≡◌, ℕ, zero, suc, ◌+◌, ◌<◌, ◌≤◌, cond, List, [], ◌∷◌, length, drop, Option, Some}
 use Rattle.std.proofs.Common.{arith, sym, ap, ap₂, ◌∙◌, refl, get_or, drop_of_length-le, drop-cons}
-use Rattle.rational.specs.Rational.{ℚ, ◌≤ℚ◌, ◌<ℚ◌}
-use Rattle.rational.proofs.Over.{le_q_out}
-use Rattle.rational.proofs.MinMax.{le_q_not}
+use Rattle.fraction128.specs.rational.specs.Rational.{ℚ, ◌≤ℚ◌, ◌<ℚ◌}
+use Rattle.fraction128.specs.rational.proofs.Over.{le_q_out}
+use Rattle.fraction128.specs.rational.proofs.MinMax.{le_q_not}
 use Rattle.affine_segment.specs.declared.line.Piece.{Piece}
 use Rattle.affine_segment.specs.Pieces.{start_after}
 use Rattle.affine_segment.specs.Reading.{next_in}

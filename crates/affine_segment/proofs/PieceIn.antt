@@ -1,18 +1,18 @@
 -- How a piece is found and read.
 use Rattle.std.specs.Prelude.{◌≡◌, ℕ, zero, suc, ◌-◌, ◌<◌, ◌≤◌, pos, Bool, true, false, List, [], ◌∷◌, length}
 use Rattle.std.proofs.Common.{arith, get_or, sym, ap, ◌∙◌, refl, subst, inl, inr, Ordering, Less, Equal, Greater, is_le, true≢false}
-use Rattle.rational.specs.Rational.{ℚ, ◌-ℚ◌, ◌≤ℚ◌, ◌<ℚ◌, int, le_q}
-use Rattle.rational.proofs.Linear.{with1}
-use Rattle.rational.proofs.Laws.{le_refl, le_of_lt, le_trans, lt_le_trans, le_lt_trans, le_or_lt}
+use Rattle.fraction128.specs.rational.specs.Rational.{ℚ, ◌-ℚ◌, ◌≤ℚ◌, ◌<ℚ◌, int, le_q}
+use Rattle.fraction128.specs.rational.proofs.Linear.{with1}
+use Rattle.fraction128.specs.rational.proofs.Laws.{le_refl, le_of_lt, le_trans, lt_le_trans, le_lt_trans, le_or_lt}
 use Rattle.affine_segment.specs.Pieces.{RisesFrom, StartsAtZero}
-use Rattle.rational.specs.Ratio.{cmp_q}
-use Rattle.rational.proofs.Comparison.{cmp_greater, cmp_not_greater, cmp_less, cmp_equal}
-use Rattle.rational.proofs.Over.{le_q_out, le_q_in}
+use Rattle.fraction128.specs.rational.specs.Ratio.{cmp_q}
+use Rattle.fraction128.specs.rational.proofs.Comparison.{cmp_greater, cmp_not_greater, cmp_less, cmp_equal}
+use Rattle.fraction128.specs.rational.proofs.Over.{le_q_out, le_q_in}
 use Rattle.affine_segment.specs.declared.line.Piece.{Piece}
 use Rattle.affine_segment.specs.Reading.{piece_value, piece_in, read, nothing_at}
 use Rattle.affine_segment.specs.Values.{line_value}
-use Rattle.rational.proofs.MinMax.{le_q_not}
-use Rattle.rational.specs.declared.Extended.TheVariants.{Inf}
+use Rattle.fraction128.specs.rational.proofs.MinMax.{le_q_not}
+use Rattle.fraction128.specs.rational.specs.declared.Extended.TheVariants.{Inf}
 
 pub value_later : (p : Piece) (t : ℚ) (r : Ordering) → r ≡ cmp_q t p.x → r ≡ Greater → piece_value p t ≡ line_value p.line t
 unfolding piece_value

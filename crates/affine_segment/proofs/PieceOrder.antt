@@ -1,9 +1,9 @@
 -- Lists of pieces joined and cut: what stays of the order of their starts, and of what holds of each.
 use Rattle.std.specs.Prelude.{◌≡◌, ◌<◌, List, [], ◌∷◌, ◌++◌, length}
 use Rattle.std.proofs.Common.{arith, refl, inl, inr}
-use Rattle.rational.specs.Rational.{ℚ, ◌≤ℚ◌, ◌<ℚ◌}
-use Rattle.rational.proofs.Laws.{le_lt_trans}
-use Rattle.rational.proofs.Linear.{with3}
+use Rattle.fraction128.specs.rational.specs.Rational.{ℚ, ◌≤ℚ◌, ◌<ℚ◌}
+use Rattle.fraction128.specs.rational.proofs.Laws.{le_lt_trans}
+use Rattle.fraction128.specs.rational.proofs.Linear.{with3}
 use Rattle.affine_segment.specs.declared.line.Piece.{Piece}
 use Rattle.affine_segment.specs.Pieces.{Each, HasStart, RisesFrom, StartsAtZero}
 

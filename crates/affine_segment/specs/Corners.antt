@@ -1,7 +1,7 @@
 -- The types that the convolution of two elements uses within: segments, and where two of them start or turn.
 -- Own choice.
 use Rattle.std.specs.Prelude.{◌≡◌}
-use Rattle.rational.specs.Rational.{ℚ, ◌+ℚ◌}
+use Rattle.fraction128.specs.rational.specs.Rational.{ℚ, ◌+ℚ◌}
 use Rattle.affine_segment.specs.declared.line.Line.{Line}
 use Rattle.affine_segment.specs.declared.convolution.Stretch.{Stretch}
 use Rattle.affine_segment.specs.declared.convolution.Corner.{Corner}

@@ -1,10 +1,10 @@
 -- The lower of two lines on an open interval. (Bouillard, Boyer and Le Corronc: the minimum of elementary functions;
 -- its form, two lines and the time of the change, is an own choice.)
 use Rattle.std.specs.Prelude.{◌≡◌, ◌≢◌, ◌⊎◌, Option, Some, None, IfSome}
-use Rattle.rational.specs.Rational.{ℚ, ◌≤ℚ◌, ◌<ℚ◌}
-use Rattle.rational.specs.Extended.{Ext, ◌<ₑ◌}
-use Rattle.rational.specs.declared.Extended.TheVariants.{Fin}
-use Rattle.rational.specs.MinMax.{min_q}
+use Rattle.fraction128.specs.rational.specs.Rational.{ℚ, ◌≤ℚ◌, ◌<ℚ◌}
+use Rattle.fraction128.specs.rational.specs.Extended.{Ext, ◌<ₑ◌}
+use Rattle.fraction128.specs.rational.specs.declared.Extended.TheVariants.{Fin}
+use Rattle.fraction128.specs.rational.specs.MinMax.{min_q}
 use Rattle.affine_segment.specs.declared.line.Line.{Line}
 use Rattle.affine_segment.specs.declared.cut.Cut.{Cut}
 use Rattle.affine_segment.specs.Values.{line_at}

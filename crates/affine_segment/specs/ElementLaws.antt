@@ -1,8 +1,8 @@
 -- How elements and the parts of an answer are read. (Bouillard, Boyer and Le Corronc: an elementary function is
 -- infinite outside its times.)
 use Rattle.std.specs.Prelude.{◌≡◌, Option, Some, None}
-use Rattle.rational.specs.Rational.{ℚ}
-use Rattle.rational.specs.declared.Extended.TheVariants.{Fin, Inf}
+use Rattle.fraction128.specs.rational.specs.Rational.{ℚ}
+use Rattle.fraction128.specs.rational.specs.declared.Extended.TheVariants.{Fin, Inf}
 use Rattle.affine_segment.specs.declared.element.Element.{Element}
 use Rattle.affine_segment.specs.declared.element.Joined.{Joined}
 use Rattle.affine_segment.specs.Elements.{Covers, level, element_value, joined_value, AreAdjoined}

@@ -2,10 +2,10 @@
 -- make.
 -- (Bouillard, Boyer and Le Corronc: elementary functions and their convolution.)
 use Rattle.std.specs.Prelude.{◌≡◌, ◌↔◌, ◌⊎◌, Bool, true, cond, ◌&&◌, Option, Some, None, IsSome}
-use Rattle.rational.specs.Rational.{ℚ, ◌+ℚ◌, ◌<ℚ◌, le_q, lt_q}
-use Rattle.rational.specs.Extended.{Ext, ◌<ₑ◌, min_ext}
-use Rattle.rational.specs.declared.Extended.TheVariants.{Fin, Inf}
-use Rattle.rational.specs.Bounds.{IsInfimum}
+use Rattle.fraction128.specs.rational.specs.Rational.{ℚ, ◌+ℚ◌, ◌<ℚ◌, le_q, lt_q}
+use Rattle.fraction128.specs.rational.specs.Extended.{Ext, ◌<ₑ◌, min_ext}
+use Rattle.fraction128.specs.rational.specs.declared.Extended.TheVariants.{Fin, Inf}
+use Rattle.fraction128.specs.rational.specs.Bounds.{IsInfimum}
 use Rattle.affine_segment.specs.declared.element.Element.{Element}
 use Rattle.affine_segment.specs.declared.element.Element.TheVariants.{Point, Open}
 use Rattle.affine_segment.specs.declared.element.Joined.{Joined}

@@ -1,7 +1,7 @@
 -- Which steps fit where a line, or the pieces that it is one of, are read at a time. Own choice.
 use Rattle.std.specs.Prelude.{List, [], ◌∷◌, Option, Some, None}
-use Rattle.rational.specs.Rational.{ℚ, ◌*ℚ◌, ◌<ℚ◌}
-use Rattle.rational.specs.Ratio.{IsSmall, SumFits}
+use Rattle.fraction128.specs.rational.specs.Rational.{ℚ, ◌*ℚ◌, ◌<ℚ◌}
+use Rattle.fraction128.specs.rational.specs.Ratio.{IsSmall, SumFits}
 use Rattle.affine_segment.specs.declared.line.Line.{Line}
 use Rattle.affine_segment.specs.declared.line.Piece.{Piece}
 use Rattle.affine_segment.specs.Reading.{piece_in}

@@ -10,3 +10,5 @@ pub mod Corners
 pub mod WideConvolution
 pub mod ElementLaws
 pub mod MadeParts
+pub use Rattle.fraction128 as fraction128
+pub use Rattle.fraction128.specs.rational as rational

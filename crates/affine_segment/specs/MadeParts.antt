@@ -1,9 +1,9 @@
 -- What two elements make, part by part: where each part starts and ends, its slope, and its value at its start.
 -- Own choice.
 use Rattle.std.specs.Prelude.{◌≡◌, ◌⊎◌, Some, None}
-use Rattle.rational.specs.Rational.{ℚ, ◌+ℚ◌, ◌<ℚ◌}
-use Rattle.rational.specs.Extended.{Ext, ◌+ₑ◌}
-use Rattle.rational.specs.declared.Extended.TheVariants.{Fin, Inf}
+use Rattle.fraction128.specs.rational.specs.Rational.{ℚ, ◌+ℚ◌, ◌<ℚ◌}
+use Rattle.fraction128.specs.rational.specs.Extended.{Ext, ◌+ₑ◌}
+use Rattle.fraction128.specs.rational.specs.declared.Extended.TheVariants.{Fin, Inf}
 use Rattle.affine_segment.specs.declared.line.Line.{Line}
 use Rattle.affine_segment.specs.declared.element.Element.{Element}
 use Rattle.affine_segment.specs.declared.element.Element.TheVariants.{Point, Open}

@@ -1,9 +1,9 @@
 -- Pieces in the order of their starts, read as a function of time. Each piece gives the value at its start and, by its
 -- line, those after it up to the next start. (Bouillard, Boyer and Le Corronc: piecewise affine functions.)
 use Rattle.std.specs.Prelude.{cond, List, [], ◌∷◌, Option, Some, None}
-use Rattle.rational.specs.Rational.{ℚ, le_q, lt_q}
-use Rattle.rational.specs.Extended.{Ext}
-use Rattle.rational.specs.declared.Extended.TheVariants.{Inf}
+use Rattle.fraction128.specs.rational.specs.Rational.{ℚ, le_q, lt_q}
+use Rattle.fraction128.specs.rational.specs.Extended.{Ext}
+use Rattle.fraction128.specs.rational.specs.declared.Extended.TheVariants.{Inf}
 use Rattle.affine_segment.specs.declared.line.Line.{Line}
 use Rattle.affine_segment.specs.declared.line.Piece.{Piece}
 use Rattle.affine_segment.specs.Values.{line_value}

@@ -1,8 +1,8 @@
 -- Segments: lines strictly between two times, and the line of a slope that has a value at a time. Own choice.
 use Rattle.std.specs.Prelude.{◌≡◌}
-use Rattle.rational.specs.Rational.{ℚ}
-use Rattle.rational.specs.Extended.{Ext, ◌<ₑ◌}
-use Rattle.rational.specs.declared.Extended.TheVariants.{Fin}
+use Rattle.fraction128.specs.rational.specs.Rational.{ℚ}
+use Rattle.fraction128.specs.rational.specs.Extended.{Ext, ◌<ₑ◌}
+use Rattle.fraction128.specs.rational.specs.declared.Extended.TheVariants.{Fin}
 use Rattle.affine_segment.specs.declared.line.Line.{Line}
 use Rattle.affine_segment.specs.declared.element.Element.{Element}
 use Rattle.affine_segment.specs.declared.element.Element.TheVariants.{Open}

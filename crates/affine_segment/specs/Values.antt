@@ -1,8 +1,8 @@
 -- What a line is at a time. (Bouillard, Boyer and Le Corronc: the affine parts of a piecewise linear function.)
 use Rattle.std.specs.Prelude.{Option, Some, None}
-use Rattle.rational.specs.Rational.{ℚ, ◌+ℚ◌, ◌*ℚ◌}
-use Rattle.rational.specs.Extended.{Ext}
-use Rattle.rational.specs.declared.Extended.TheVariants.{Fin, Inf}
+use Rattle.fraction128.specs.rational.specs.Rational.{ℚ, ◌+ℚ◌, ◌*ℚ◌}
+use Rattle.fraction128.specs.rational.specs.Extended.{Ext}
+use Rattle.fraction128.specs.rational.specs.declared.Extended.TheVariants.{Fin, Inf}
 use Rattle.affine_segment.specs.declared.line.Line.{Line}
 
 -- the value of a line at t

@@ -1,8 +1,8 @@
 //! The min-plus convolution of two elements.
 
 ghost use Rattle.std.specs.Prelude.{◌≡◌, IfOk, IfErr, Some, None};
-ghost use Rattle.rational.specs.Rational.{◌+ℚ◌, ◌≤ℚ◌, ◌<ℚ◌};
-ghost use Rattle.rational.specs.Extended.{◌<ₑ◌, ◌+ₑ◌};
+ghost use Rattle.fraction128.specs.rational.specs.Rational.{◌+ℚ◌, ◌≤ℚ◌, ◌<ℚ◌};
+ghost use Rattle.fraction128.specs.rational.specs.Extended.{◌<ₑ◌, ◌+ₑ◌};
 ghost use Rattle.affine_segment.specs.Values.{line_at};
 ghost use Rattle.affine_segment.specs.Elements.{IsProper, IsConvolved};
 ghost use Rattle.affine_segment.specs.Segments.{open_of, IsProperSegment, IsThrough};
@@ -13,8 +13,8 @@ ghost use Rattle.affine_segment.specs.WideConvolution.{IsWideCorner, IsWideMoved
 
 use crate::element::{Element, Joined};
 use crate::line::{Line, value};
+use fraction128::rational::Extended;
 use fraction128::{Ext, Frac, Wide};
-use rational::Extended;
 use std::cmp::Ordering;
 
 // A line strictly between two times.

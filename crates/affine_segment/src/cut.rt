@@ -1,15 +1,15 @@
 //! The lower of two lines on an open interval.
 
 ghost use Rattle.std.specs.Prelude.{◌≡◌, ◌≢◌, ◌↔◌, IfOk, IfErr, IsOk, IsTrue};
-ghost use Rattle.rational.specs.Rational.{◌≤ℚ◌};
-ghost use Rattle.rational.specs.Extended.{◌<ₑ◌};
+ghost use Rattle.fraction128.specs.rational.specs.Rational.{◌≤ℚ◌};
+ghost use Rattle.fraction128.specs.rational.specs.Extended.{◌<ₑ◌};
 ghost use Rattle.affine_segment.specs.Values.{line_at};
 ghost use Rattle.affine_segment.specs.Steps.{IsWideCross};
 ghost use Rattle.affine_segment.specs.Cuts.{IsLowerCut, IsLowerThroughout};
 
 use crate::line::{Line, cross};
+use fraction128::rational::Extended;
 use fraction128::{Ext, Frac, Wide};
-use rational::Extended;
 use std::cmp::Ordering;
 
 /// The lower of two lines on an open interval: one of them up to a time, and the other after it.

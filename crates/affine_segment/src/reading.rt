@@ -1,15 +1,15 @@
 //! How pieces are read at a time, where each step fits.
 
 ghost use Rattle.std.specs.Prelude.{◌≡◌, pos, List, ◌∷◌};
-ghost use Rattle.rational.specs.Rational.{int, ◌≤ℚ◌, ◌<ℚ◌, le_q};
+ghost use Rattle.fraction128.specs.rational.specs.Rational.{int, ◌≤ℚ◌, ◌<ℚ◌, le_q};
 ghost use Rattle.affine_segment.specs.Values.{line_at, line_value};
 ghost use Rattle.affine_segment.specs.Pieces.{StartsAtZero};
 ghost use Rattle.affine_segment.specs.Reading.{piece_in, piece_value, read, next_in};
 ghost use Rattle.affine_segment.specs.Fits.{LineFits, LineFitsAt, ReadFits};
 
 use crate::line::{Line, Piece, value};
+use fraction128::rational::Extended;
 use fraction128::{Ext, Frac};
-use rational::Extended;
 use std::cmp::Ordering;
 
 /// The value of a line at t.

@@ -11,7 +11,7 @@ use Rattle.net_cells.specs.Numbered.{is_live}
 use Rattle.net_cells.specs.Cells.{cell_of, scope_of, is_in_scope}
 use Rattle.net_cells.specs.Meanings.{CellTable}
 use Rattle.net_cells.specs.Answers.{Answer}
-use Rattle.cell_operators.specs.Evaluates.{MayBeMade, Evaluates}
+use Rattle.cell_kinds.specs.cell_operators.specs.Evaluates.{MayBeMade, Evaluates}
 
 module _ (net : Net) (at : CellTable) (c : Cell) (kind : Kind) where
   pub made_of_kind : c.kind ≡ kind → MayBeMade net at c → MayBeMade net at (cell_of kind c.a c.b)

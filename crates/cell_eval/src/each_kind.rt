@@ -13,7 +13,7 @@ ghost use Rattle.net_cells.specs.Equations.{MeetsBelow};
 ghost use Rattle.net_cells.specs.Work.{work};
 ghost use Rattle.cell_table.specs.Gives.{Gives};
 ghost use Rattle.cell_table.specs.Values.{answer_of, meaning_of};
-ghost use Rattle.cell_operators.specs.Evaluates.{MayBeMade, Evaluates};
+ghost use Rattle.cell_kinds.specs.cell_operators.specs.Evaluates.{MayBeMade, Evaluates};
 
 use cell_kinds::{
     arriving, bound, cross, deconv_out, higher, hop_delay, leaving, path, queue_backlog,

@@ -1,1 +1,2 @@
 pub mod Tallies
+pub use Rattle.cell_operators as cell_operators

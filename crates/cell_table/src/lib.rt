@@ -11,5 +11,6 @@ mod value;
 pub use analysis::Analysis;
 pub use evaluator::Evaluator;
 pub use fault::{AnalysisFault, refusal};
+pub use net_cells;
 pub use table::{CellValue, Table};
 pub use value::Value;

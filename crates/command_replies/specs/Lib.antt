@@ -4,3 +4,4 @@ pub mod Faults
 pub mod OnFiles
 pub mod CellWork
 pub mod Guarantee
+pub use Rattle.net_bounds as net_bounds

@@ -10,3 +10,5 @@ pub mod Calls
 pub mod Determined
 pub mod Finite
 pub mod Growth
+pub use Rattle.upp_normal.specs.upp_limits as upp_limits
+pub use Rattle.upp_normal.specs.upp_curve as upp_curve

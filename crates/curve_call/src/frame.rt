@@ -5,9 +5,9 @@ ghost use Rattle.curve_call.specs.CallWindows.{IsForward};
 ghost use Rattle.curve_call.specs.Frames.{IsFrame, IsRefusedAt, IsNarrowOver, IsWideOver};
 
 use crate::windows::call_window;
-use fraction128::Frac;
-use upp_curve::Curve;
-use upp_limits::{CallNumbers, OpFault, OpKind, call_numbers, tally_over};
+use upp_normal::fraction128::Frac;
+use upp_normal::upp_curve::Curve;
+use upp_normal::upp_limits::{CallNumbers, OpFault, OpKind, call_numbers, tally_over};
 
 /// A call within both limits: its window, and the grids of its times and of its values.
 #[derive(Debug, Clone, Copy)]

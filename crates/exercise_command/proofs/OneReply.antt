@@ -11,7 +11,7 @@ use Rattle.net_cells.specs.Order.{evaluation_order}
 use Rattle.simulated_sizes.specs.Laws.{AreCurves}
 use Rattle.command_replies.specs.Replies.{Reply}
 use Rattle.command_replies.proofs.OneRefusal.{IsOver, one_over, no_answers}
-use Rattle.run_findings.specs.Statuses.{IsOfReport}
+use Rattle.simulated_findings.specs.run_findings.specs.Statuses.{IsOfReport}
 use Rattle.simulated_findings.proofs.OneSimulation.{same_simulation, on_simulation}
 use Rattle.exercise_load.specs.Workloads.{network_of, trace_of}
 use Rattle.exercise_load.proofs.Stand.{workloads_stand}

@@ -19,10 +19,10 @@ use Rattle.net_cells.specs.Numbered.{is_live}
 use Rattle.net_bounds.specs.NetRuns.{IsRunOf}
 use Rattle.net_bounds.proofs.Kept.{table_bounds_every_run}
 use Rattle.command_replies.specs.Replies.{Reply}
-use Rattle.run_findings.specs.RunBounds.{AreWithinBounds}
-use Rattle.run_findings.proofs.Bounded.{within}
+use Rattle.simulated_findings.specs.run_findings.specs.RunBounds.{AreWithinBounds}
+use Rattle.simulated_findings.specs.run_findings.proofs.Bounded.{within}
 use Rattle.simulated_findings.proofs.Lawful.{lawful}
-use Rattle.run_findings.proofs.Reports.{tells}
+use Rattle.simulated_findings.specs.run_findings.proofs.Reports.{tells}
 use Rattle.exercise_load.specs.Workloads.{network_of, trace_of}
 use Rattle.exercise_load.proofs.Stand.{workloads_stand, flow_at, flow_count}
 use Rattle.exercise_report.specs.Summary.{summary_of}

@@ -17,8 +17,8 @@ use Rattle.net_bounds.specs.NetRuns.{IsRunOf}
 use Rattle.sim_bounds.specs.Gauge.{simulation_gauge}
 use Rattle.command_replies.specs.Guarantee.{Guarantees}
 use Rattle.command_replies.specs.Replies.{Reply}
-use Rattle.run_findings.specs.RunBounds.{AreWithinBounds}
-use Rattle.run_findings.specs.Statuses.{IsOfReport, StatusTells}
+use Rattle.simulated_findings.specs.run_findings.specs.RunBounds.{AreWithinBounds}
+use Rattle.simulated_findings.specs.run_findings.specs.Statuses.{IsOfReport, StatusTells}
 use Rattle.exercise_load.specs.Workloads.{network_of, trace_of}
 use Rattle.exercise_report.specs.Largest.{largest_bound, largest_delay}
 use Rattle.exercise_command.specs.OnSeeds.{IsCellOver, IsSummarised, IsExerciseReply, IsWide}

@@ -2,7 +2,7 @@
 
 ghost use Rattle.std.specs.Prelude.{IfOk};
 ghost use Rattle.command_replies.specs.View.{reply_of, status_of};
-ghost use Rattle.run_findings.specs.CellCounts.{CountsOnCells};
+ghost use Rattle.simulated_findings.specs.run_findings.specs.CellCounts.{CountsOnCells};
 ghost use Rattle.exercise_load.specs.Workloads.{network_of};
 ghost use Rattle.exercise_command.specs.OnSeeds.{IsExerciseReply};
 

@@ -15,8 +15,8 @@ use exercise_report::summary_text;
 use net_model::{Network, Trace};
 use net_simulator::SimFault;
 use report_text::RunFound;
-use run_findings::status_by;
 use simulated_findings::find;
+use simulated_findings::run_findings::status_by;
 use std::alloc::{AllocError, Global};
 
 // The summary of what was found, beside the numbers of a table.

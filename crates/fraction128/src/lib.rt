@@ -18,4 +18,5 @@ pub use fitting::{
     difference, greater, greater_value, is_less, lesser, lesser_value, product, quotient, sum,
 };
 pub use fraction::{Ext, Frac};
+pub use rational;
 pub use text::read_digits;

@@ -8,3 +8,4 @@ pub mod Deviations
 pub mod DeviationSigns
 pub mod Continuity
 pub mod BucketBounds
+pub use Rattle.rational as rational

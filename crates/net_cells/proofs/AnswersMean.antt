@@ -10,9 +10,9 @@ use Rattle.upp_curve.specs.Curves.{IsCurve}
 use Rattle.upp_curve.specs.Kinds.{bucket}
 use Rattle.run_laws.specs.Cards.{whole}
 use Rattle.min_plus.specs.Deviations.{IsHorizontalDeviation, IsVerticalDeviation}
-use Rattle.curve_call.specs.Again.{IsAgain}
-use Rattle.curve_call.specs.Answers.{IsMadeBy}
-use Rattle.curve_call.specs.Calls.{Applies, AppliesTo, goes_on, stops}
+use Rattle.residual_laws.specs.curve_call.specs.Again.{IsAgain}
+use Rattle.residual_laws.specs.curve_call.specs.Answers.{IsMadeBy}
+use Rattle.residual_laws.specs.curve_call.specs.Calls.{Applies, AppliesTo, goes_on, stops}
 use Rattle.residual_laws.specs.PriorityCalls.{MakesPriority}
 use Rattle.residual_laws.proofs.PriorityCalls as priority_calls
 use Rattle.residual_laws.specs.DrrCalls.{MakesDrr}

@@ -7,9 +7,9 @@ use Rattle.std.proofs.lemmas.List.{get_or_default}
 use Rattle.std.proofs.lemmas.Option.{slice_get_within}
 use Rattle.std.proofs.lemmas.Map.Keys.{IsDistinct-head, IsDistinct-tail}
 use Rattle.run_laws.specs.Servers.{queue_count}
-use Rattle.net_model.specs.Networks.{Net, NetServer, NetFlow}
-use Rattle.net_model.specs.Accepted.{IsAccepted, IsHop}
-use Rattle.net_model.specs.Orders.{IsOrder}
+use Rattle.net_graph.specs.net_model.specs.Networks.{Net, NetServer, NetFlow}
+use Rattle.net_graph.specs.net_model.specs.Accepted.{IsAccepted, IsHop}
+use Rattle.net_graph.specs.net_model.specs.Orders.{IsOrder}
 use Rattle.net_graph.proofs.Forward.{has_each_server}
 use Rattle.net_cells.specs.declared.cell.Cell.{Cell}
 use Rattle.net_cells.specs.declared.cell.Scope.{Scope}

@@ -6,10 +6,10 @@ use Rattle.std.proofs.lemmas.Bool.{lt-ltb, ltb-true, eqb-true, and_parts}
 use Rattle.std.proofs.lemmas.List.{get_or_default}
 use Rattle.upp_limits.specs.declared.op_kind.OpKind.TheVariants.{Sum}
 use Rattle.run_laws.specs.Servers.{Discipline, Fifo, Priority, Drr, queue_count}
-use Rattle.net_model.specs.Networks.{Net, NetServer, NetFlow}
-use Rattle.net_model.specs.Accepted.{IsAccepted}
-use Rattle.net_model.specs.Orders.{IsOrder}
-use Rattle.net_model.specs.Walks.{IsNext}
+use Rattle.net_graph.specs.net_model.specs.Networks.{Net, NetServer, NetFlow}
+use Rattle.net_graph.specs.net_model.specs.Accepted.{IsAccepted}
+use Rattle.net_graph.specs.net_model.specs.Orders.{IsOrder}
+use Rattle.net_graph.specs.net_model.specs.Walks.{IsNext}
 use Rattle.net_graph.proofs.Forward.{goes_forward}
 use Rattle.net_cells.specs.declared.cell.Cell.{Cell}
 use Rattle.net_cells.specs.declared.cell.Kind.{Kind}

@@ -11,8 +11,8 @@ use Rattle.upp_curve.specs.Curve.{SpecCurve, value_at}
 use Rattle.upp_curve.specs.Kinds.{bucket}
 use Rattle.min_plus.specs.Deviations.{IsHorizontalDeviation, IsVerticalDeviation}
 use Rattle.upp_limits.specs.Outcome.{IsWithin, IsCauseOf}
-use Rattle.curve_call.specs.Again.{IsAgain}
-use Rattle.curve_call.specs.Calls.{Applies, AppliesTo, Then}
+use Rattle.residual_laws.specs.curve_call.specs.Again.{IsAgain}
+use Rattle.residual_laws.specs.curve_call.specs.Calls.{Applies, AppliesTo, Then}
 use Rattle.residual_laws.specs.PriorityCalls.{MakesPriority}
 use Rattle.residual_laws.specs.DrrCalls.{MakesDrr}
 use Rattle.run_laws.specs.Cards.{whole}

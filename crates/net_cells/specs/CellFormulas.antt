@@ -7,7 +7,7 @@ use Rattle.rational.specs.Rational.{ℚ}
 use Rattle.upp_limits.specs.declared.op_kind.OpKind.TheVariants.{Sum, Min, PosMinus, Convolve, Deconvolve}
 use Rattle.run_laws.specs.Cards.{whole}
 use Rattle.run_laws.specs.Servers.{Discipline, Fifo, Priority, Drr}
-use Rattle.net_model.specs.Networks.{Net}
+use Rattle.net_graph.specs.net_model.specs.Networks.{Net}
 use Rattle.net_cells.specs.declared.cell.Cell.{Cell}
 use Rattle.net_cells.specs.declared.cell.Kind.{Kind}
 use Rattle.net_cells.specs.declared.cell.Kind.TheVariants.{In, Cross, Total, Higher, QueueService, Theta, Residual, QueueDelay, QueueBacklog, HopDelay, ShiftOut, DeconvOut, Out, PathService, Tfa, Sfa, Bound}

@@ -7,9 +7,9 @@ use Rattle.upp_curve.specs.Curve.{SpecCurve}
 use Rattle.min_plus.specs.Functions.{zero_q}
 use Rattle.upp_curve.specs.Kinds.{bucket}
 use Rattle.run_laws.specs.Servers.{Discipline, Fifo, Priority, Drr, queue_count}
-use Rattle.net_model.specs.declared.flow.Flow.{Flow}
-use Rattle.net_model.specs.Views.{flow_of}
-use Rattle.net_model.specs.Networks.{Net, NetServer, NetFlow}
+use Rattle.net_graph.specs.net_model.specs.declared.flow.Flow.{Flow}
+use Rattle.net_graph.specs.net_model.specs.Views.{flow_of}
+use Rattle.net_graph.specs.net_model.specs.Networks.{Net, NetServer, NetFlow}
 
 -- the sum over no curve: 0 at each time
 abbrev pub zero_curve : SpecCurve

@@ -1,11 +1,11 @@
 -- A network has one order at most.
 use Rattle.std.proofs.Common.{◌≡◌, ℕ, suc, zero, ◌<◌, ◌≤◌, ◌+◌, List, [], ◌∷◌, ◌++◌, length, get_or, take, refl, sym, ◌∙◌, ap, subst, arith, add-one}
 use Rattle.std.proofs.lemmas.List.{take_all, take_more}
-use Rattle.upp_limits.specs.Windows.{IsLeast}
+use Rattle.net_model.specs.upp_limits.specs.Windows.{IsLeast}
 use Rattle.net_model.specs.Networks.{Net}
 use Rattle.net_model.specs.Orders.{IsReady, IsOrder}
 use Rattle.net_graph.specs.OrderLaws.{OneOrder}
-use Rattle.upp_limits.proofs.LeastNumbers.{least_unique}
+use Rattle.net_model.specs.upp_limits.proofs.LeastNumbers.{least_unique}
 
 same_front : (net : Net) (xs ys : List ℕ) → IsOrder net xs → IsOrder net ys → (n : ℕ) → n ≤ length net.servers → take n xs ≡ take n ys
 same_front net xs ys a b zero h = refl

@@ -6,7 +6,7 @@ use Rattle.std.proofs.lemmas.Cmp.{nat_eq_equiv}
 use Rattle.std.proofs.lemmas.List.{length-append, length-set, length-replicate, get_or-replicate, get_or_at, get_or_default, get_or_past, get_or_append_left, get_or-set_same, get_or-set_other, take-append-le, take_at}
 use Rattle.std.proofs.lemmas.Map.Steps.{le-length_from_below}
 use Rattle.std.proofs.lemmas.Map.Views.{list_any-from_Contains}
-use Rattle.upp_limits.specs.Windows.{IsLeast}
+use Rattle.net_model.specs.upp_limits.specs.Windows.{IsLeast}
 use Rattle.net_model.specs.Networks.{Net}
 use Rattle.net_model.specs.Walks.{IsNext, IsRing}
 use Rattle.net_model.specs.Orders.{IsReady, IsOrder}

@@ -9,4 +9,5 @@ mod placing;
 mod waits;
 
 pub use laws::{one_order, order_goes_forward, order_has_each_server, order_or_cycle};
+pub use net_model;
 pub use placing::{GraphFault, order};

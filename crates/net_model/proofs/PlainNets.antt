@@ -11,20 +11,20 @@ use Rattle.net_model.specs.Views.{flow_of, flows_of}
 use Rattle.std.proofs.lemmas.List.{map-append, map_more, length-map, length-take-le, length-append, length-replicate, get_or-replicate, get_or_append_left, get_or_at}
 use Rattle.std.proofs.lemmas.List.Folds.{list_any_at, list_all_at}
 use Rattle.std.proofs.lemmas.Option.{slice_get-get_or}
-use Rattle.rational.specs.Rational.{int, frac, den, ◌<ℚ◌}
-use Rattle.rational.specs.Ratio.{IsSmall}
-use Rattle.rational.specs.Gcd.{gcd, gcd_steps}
-use Rattle.rational.proofs.Linear.{with2}
+use Rattle.upp_limits.specs.rational.specs.Rational.{int, frac, den, ◌<ℚ◌}
+use Rattle.upp_limits.specs.rational.specs.Ratio.{IsSmall}
+use Rattle.upp_limits.specs.rational.specs.Gcd.{gcd, gcd_steps}
+use Rattle.upp_limits.specs.rational.proofs.Linear.{with2}
 use Rattle.std.proofs.Common.{eq-eqb}
 use Rattle.std.proofs.lemmas.Bool.{not-true}
-use Rattle.rational.proofs.Laws.{le_refl, le_of_lt}
-use Rattle.min_plus.specs.Functions.{zero_q}
+use Rattle.upp_limits.specs.rational.proofs.Laws.{le_refl, le_of_lt}
+use Rattle.upp_limits.specs.min_plus.specs.Functions.{zero_q}
 use Rattle.net_model.specs.Networks.{NetServer, NetFlow}
 use Rattle.net_model.specs.Names.{IsName, is_name_byte, DifferInName}
 use Rattle.net_model.specs.Accepted.{IsServer, IsFlow, IsHop, IsAccepted}
 use Rattle.net_model.specs.Plain.{one_q, letter, plain_server, plain_flow, plain_place, plain_servers, plain_flows, plain_net, contents, all_differ, is_plain_path, is_plain}
 use Rattle.net_model.proofs.KindsStand.{kinds_may_stand}
-use Rattle.upp_curve.proofs.ReadableKinds.{zero_num}
+use Rattle.upp_limits.specs.upp_curve.proofs.ReadableKinds.{zero_num}
 
 -- ---- servers
 pub servers_count : (n : ℕ) → length (plain_servers n) ≡ n

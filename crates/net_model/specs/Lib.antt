@@ -8,3 +8,4 @@ pub mod CurveKinds
 pub mod Plain
 pub mod Traces
 pub mod NetRoutes
+pub use Rattle.upp_limits as upp_limits

@@ -1,0 +1,1 @@
+pub use Rattle.packet_sim as packet_sim

@@ -5,4 +5,5 @@ mod fault;
 mod simulator;
 
 pub use fault::SimFault;
+pub use packet_sim;
 pub use simulator::simulate;

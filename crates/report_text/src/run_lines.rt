@@ -10,8 +10,8 @@ use crate::lines::push_number_after;
 use crate::shown::ShownValue;
 use crate::text::{push_after, push_decimal, push_text};
 use cell_table::Table;
+use cell_table::net_cells::Kind;
 use fraction128::Frac;
-use net_cells::Kind;
 use net_model::{Breach, Network};
 use std::alloc::AllocError;
 

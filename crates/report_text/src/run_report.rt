@@ -10,8 +10,8 @@ use crate::run_found::RunFound;
 use crate::run_lines::{push_breach_line, push_peak_line, push_run_line, push_worst_line};
 use crate::shown::ShownValue;
 use cell_table::Table;
+use cell_table::net_cells::{live_flow, queues};
 use fraction128::Frac;
-use net_cells::{live_flow, queues};
 use net_model::Network;
 use std::alloc::{AllocError, Global};
 

@@ -7,8 +7,8 @@ use Rattle.rational.specs.Rational.{ℚ, ◌≤ℚ◌}
 use Rattle.rational.specs.Extended.{Ext}
 use Rattle.rational.proofs.Integers.{nat_lt}
 use Rattle.rational.proofs.Quotients.{div_nonneg}
-use Rattle.upp_limits.specs.declared.op_kind.OpKind.TheVariants.{Scale, PosMinus}
-use Rattle.upp_curve.specs.Curve.{value_at}
+use Rattle.curve_call.specs.upp_limits.specs.declared.op_kind.OpKind.TheVariants.{Scale, PosMinus}
+use Rattle.curve_call.specs.upp_curve.specs.Curve.{value_at}
 use Rattle.min_plus.specs.Functions.{zero_q}
 use Rattle.min_plus.specs.Pointwise.{scaled}
 use Rattle.run_laws.specs.Cards.{whole}

@@ -7,10 +7,10 @@ use Rattle.rational.specs.Extended.{Ext, ◌≤ₑ◌}
 use Rattle.rational.specs.declared.Extended.TheVariants.{Fin}
 use Rattle.rational.proofs.Bounds.{same_supremum}
 use Rattle.rational.proofs.ExtendedOrder.{same_le_ext}
-use Rattle.upp_limits.specs.declared.op_kind.OpKind.TheVariants.{PosDiff, PosMinus, RunSup}
-use Rattle.upp_limits.specs.declared.op_kind.OpFault.{OpFault}
-use Rattle.upp_curve.specs.Curve.{SpecCurve, value_at}
-use Rattle.upp_curve.specs.Curves.{IsCurve}
+use Rattle.curve_call.specs.upp_limits.specs.declared.op_kind.OpKind.TheVariants.{PosDiff, PosMinus, RunSup}
+use Rattle.curve_call.specs.upp_limits.specs.declared.op_kind.OpFault.{OpFault}
+use Rattle.curve_call.specs.upp_curve.specs.Curve.{SpecCurve, value_at}
+use Rattle.curve_call.specs.upp_curve.specs.Curves.{IsCurve}
 use Rattle.min_plus.specs.Functions.{zero_q, UpTo, IsFinite, IsNonnegative}
 use Rattle.min_plus.specs.Pointwise.{excess}
 use Rattle.run_laws.specs.Cards.{whole}

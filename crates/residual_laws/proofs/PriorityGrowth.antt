@@ -6,7 +6,7 @@ use Rattle.rational.specs.Extended.{Ext, ◌≤ₑ◌}
 use Rattle.rational.specs.declared.Extended.TheVariants.{Fin}
 use Rattle.rational.proofs.ExtendedOrder.{le_ext_trans, same_le_ext}
 use Rattle.rational.proofs.Laws.{le_refl}
-use Rattle.upp_curve.specs.Curve.{value_at}
+use Rattle.curve_call.specs.upp_curve.specs.Curve.{value_at}
 use Rattle.min_plus.specs.Functions.{zero_q, IsNonnegative}
 use Rattle.min_plus.specs.Pointwise.{excess}
 use Rattle.run_laws.specs.Cards.{whole}

@@ -3,9 +3,9 @@
 -- the limits are own choice.)
 use Rattle.std.specs.Prelude.{◌≡◌, ◌≤◌, ◌<◌, ◌^◌, ℕ, List, length, get_or, sum, All, Result, Ok}
 use Rattle.rational.specs.Rational.{ℚ}
-use Rattle.upp_limits.specs.declared.op_kind.OpKind.TheVariants.{Scale, PosMinus}
-use Rattle.upp_limits.specs.declared.op_kind.OpFault.{OpFault}
-use Rattle.upp_curve.specs.Curve.{SpecCurve, value_at}
+use Rattle.curve_call.specs.upp_limits.specs.declared.op_kind.OpKind.TheVariants.{Scale, PosMinus}
+use Rattle.curve_call.specs.upp_limits.specs.declared.op_kind.OpFault.{OpFault}
+use Rattle.curve_call.specs.upp_curve.specs.Curve.{SpecCurve, value_at}
 use Rattle.run_laws.specs.Cards.{of_queue, ServerStep}
 use Rattle.run_laws.specs.Servers.{Drr, Server}
 use Rattle.run_laws.specs.Allows.{IsLawfulView}

@@ -3,7 +3,7 @@
 use Rattle.std.specs.Prelude.{ℕ, Ok}
 use Rattle.rational.specs.Rational.{ℚ}
 use Rattle.rational.specs.Extended.{Ext}
-use Rattle.upp_curve.specs.Curve.{SpecCurve, value_at}
+use Rattle.curve_call.specs.upp_curve.specs.Curve.{SpecCurve, value_at}
 use Rattle.min_plus.specs.Functions.{IsNonnegative}
 use Rattle.curve_call.specs.Growth.{GrowsFromZero, IsGrowingCurve}
 use Rattle.residual_laws.specs.PriorityCalls.{MakesPriority}

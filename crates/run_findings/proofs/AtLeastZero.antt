@@ -25,8 +25,8 @@ use Rattle.net_cells.specs.NumberSums.{sum_of_numbers}
 use Rattle.net_cells.specs.TableValues.{HasNumber}
 use Rattle.net_cells.proofs.Precedes.{operands_are_cells}
 use Rattle.net_cells.proofs.TableValues.{has_number, same_number}
-use Rattle.net_bounds.proofs.FormulaParts.{number_map}
-use Rattle.net_bounds.proofs.Routed.{link_nonneg}
+use Rattle.command_replies.specs.net_bounds.proofs.FormulaParts.{number_map}
+use Rattle.command_replies.specs.net_bounds.proofs.Routed.{link_nonneg}
 
 abbrev pub IsNonneg : Ext → Type 0
 IsNonneg x = Fin zero_q ≤ₑ x

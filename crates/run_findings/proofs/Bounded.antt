@@ -21,10 +21,10 @@ use Rattle.net_cells.specs.Meanings.{CellTable}
 use Rattle.net_cells.specs.Numbered.{is_live, queues}
 use Rattle.net_cells.proofs.Places.{live_inside}
 use Rattle.net_cells.proofs.TableValues.{same_number}
-use Rattle.net_bounds.specs.Guarantee.{IsKept}
-use Rattle.net_bounds.specs.Promises.{seen_by, HoldsAtMost}
-use Rattle.net_bounds.proofs.Kept.{table_bounds_every_run, with_queues}
-use Rattle.net_bounds.proofs.Routed.{servers_are, discipline_is}
+use Rattle.command_replies.specs.net_bounds.specs.Guarantee.{IsKept}
+use Rattle.command_replies.specs.net_bounds.specs.Promises.{seen_by, HoldsAtMost}
+use Rattle.command_replies.specs.net_bounds.proofs.Kept.{table_bounds_every_run, with_queues}
+use Rattle.command_replies.specs.net_bounds.proofs.Routed.{servers_are, discipline_is}
 use Rattle.run_measures.specs.Peaks.{IsPeak, ArePeaks, peak_in}
 use Rattle.run_measures.specs.Worst.{IsLargest, AreWorst}
 use Rattle.report_text.specs.RunReport.{peak_at}

@@ -8,7 +8,7 @@ use Rattle.net_model.specs.NetRoutes.{routes_of}
 use Rattle.net_model.specs.Orders.{IsOrder}
 use Rattle.net_cells.specs.Equations.{MeetsEquations}
 use Rattle.net_cells.specs.Meanings.{CellTable}
-use Rattle.net_bounds.specs.NetRuns.{IsRunOf}
+use Rattle.command_replies.specs.net_bounds.specs.NetRuns.{IsRunOf}
 use Rattle.simulated_sizes.specs.Laws.{AreCurves}
 use Rattle.report_text.specs.RunReport.{Found}
 use Rattle.command_replies.specs.Replies.{Reply}

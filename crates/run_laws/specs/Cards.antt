@@ -1,6 +1,6 @@
 -- What one server sees: packets that arrive, work on them, packets that leave, and visits of its queues.
 use Rattle.std.specs.Prelude.{ℕ, pos, Bool, true, ◌==◌, ltb, leb}
-use Rattle.rational.specs.Rational.{ℚ, int}
+use Rattle.min_plus.specs.rational.specs.Rational.{ℚ, int}
 
 -- a packet at a server, with the queue that it joins there
 pub record Card : Type 0 where

@@ -11,9 +11,9 @@ use Rattle.table_text.specs.Rows.{rows_of}
 use Rattle.table_text.specs.Traces.{IsTraceOf}
 use Rattle.table_text.proofs.OneTrace.{no_trace}
 use Rattle.command_replies.proofs.FirstFaults.{says}
-use Rattle.run_findings.specs.CellCounts.{CountsOnCells}
-use Rattle.run_findings.specs.Statuses.{IsOfReport}
-use Rattle.run_findings.proofs.Counted.{none_on_cells}
+use Rattle.simulated_findings.specs.run_findings.specs.CellCounts.{CountsOnCells}
+use Rattle.simulated_findings.specs.run_findings.specs.Statuses.{IsOfReport}
+use Rattle.simulated_findings.specs.run_findings.proofs.Counted.{none_on_cells}
 use Rattle.simulate_command.specs.RunCounts.{CountsOnNet, CountsOn}
 
 pub none_on_net : (net : Net) (trace_bytes : List ℕ) (status count : ℕ) → ¬ IsOfReport status

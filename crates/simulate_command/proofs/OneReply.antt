@@ -18,7 +18,7 @@ use Rattle.command_replies.proofs.OneRefusal.{equal, OnFault, OnCycle, IsOver}
 use Rattle.command_replies.proofs.OneRefusal.{one_fault, no_network, one_cycle, one_over, no_answers}
 use Rattle.report_text.proofs.RunAgree.{one_run_report}
 use Rattle.report_text.specs.RunReport.{run_report_of}
-use Rattle.run_findings.specs.Statuses.{IsOfReport}
+use Rattle.simulated_findings.specs.run_findings.specs.Statuses.{IsOfReport}
 use Rattle.simulated_findings.proofs.OneSimulation.{same_simulation, on_simulation}
 use Rattle.simulate_command.specs.Laws.{RepliesAreDetermined, IsWithinLimits, RepliesAreComplete}
 use Rattle.simulate_command.proofs.Named.{named}

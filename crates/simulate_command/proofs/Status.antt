@@ -6,7 +6,7 @@ use Rattle.table_text.specs.Rows.{rows_of}
 use Rattle.report_text.specs.RunReport.{run_report_of}
 use Rattle.command_replies.specs.Replies.{Reply}
 use Rattle.simulated_findings.proofs.Lawful.{lawful}
-use Rattle.run_findings.proofs.Reports.{tells}
+use Rattle.simulated_findings.specs.run_findings.proofs.Reports.{tells}
 use Rattle.simulate_command.specs.OnTraces.{IsRunReport}
 use Rattle.simulate_command.specs.Laws.{StatusTellsPremises}
 use Rattle.simulate_command.proofs.Named.{named}

@@ -21,8 +21,8 @@ use Rattle.table_text.specs.Rows.{rows_of}
 use Rattle.table_text.specs.Traces.{IsTraceOf}
 use Rattle.command_replies.specs.Guarantee.{Guarantees}
 use Rattle.command_replies.specs.Replies.{Reply, AreSame}
-use Rattle.run_findings.specs.RunBounds.{AreWithinBounds}
-use Rattle.run_findings.specs.Statuses.{IsOfReport, StatusTells}
+use Rattle.simulated_findings.specs.run_findings.specs.RunBounds.{AreWithinBounds}
+use Rattle.simulated_findings.specs.run_findings.specs.Statuses.{IsOfReport, StatusTells}
 use Rattle.simulate_command.specs.OnTraces.{IsMalformed, IsOverLimit, HasCycleBehind, IsSimulationOver}
 use Rattle.simulate_command.specs.OnTraces.{IsRunReport, IsRunReply}
 

@@ -8,7 +8,7 @@ use Rattle.net_text.specs.FoldLimits.{OverFold}
 use Rattle.subadd_closure.specs.FoldWork.{fold_work}
 use Rattle.table_text.specs.declared.fault.TableKind.{TableKind}
 use Rattle.table_text.specs.Traces.{IsFirstFault}
-use Rattle.run_findings.specs.CellCounts.{CountsOnCells}
+use Rattle.simulated_findings.specs.run_findings.specs.CellCounts.{CountsOnCells}
 
 -- by a network and a file: those, and none by a fault of the trace
 pub record CountsOnNet (net : Net) (trace_bytes : List ℕ) (status old new : ℕ) : Type 0 where

@@ -4,7 +4,7 @@ ghost use Rattle.std.specs.Prelude.{IfOk};
 ghost use Rattle.net_model.specs.Orders.{IsOrder};
 ghost use Rattle.stated_runs.specs.FromTraces.{IsTraceOf};
 ghost use Rattle.command_replies.specs.View.{reply_of, status_of};
-ghost use Rattle.run_findings.specs.CellCounts.{CountsOnCells};
+ghost use Rattle.simulated_findings.specs.run_findings.specs.CellCounts.{CountsOnCells};
 ghost use Rattle.simulate_command.specs.OnTraces.{IsRunReplyOnTrace};
 
 use crate::reported::simulated;
@@ -13,7 +13,7 @@ use command_replies::{Answer, cell_too_many, cell_too_wide, goes_round};
 use flow_analysis::analyse;
 use net_graph::{GraphFault, order};
 use net_model::{Network, Trace};
-use run_findings::keeps_curves;
+use simulated_findings::run_findings::keeps_curves;
 use std::alloc::{AllocError, Global};
 use std::sync::ledger::Ledger;
 use steps::Steps;

@@ -14,8 +14,8 @@ use command_replies::{Answer, sim_too_wide};
 use net_model::{Network, Trace};
 use net_simulator::SimFault;
 use report_text::{RunFound, run_text};
-use run_findings::status_by;
 use simulated_findings::find;
+use simulated_findings::run_findings::status_by;
 use std::alloc::{AllocError, Global};
 
 // The report on what was found, beside the numbers of a table.

@@ -14,8 +14,8 @@ use Rattle.stated_runs.proofs.Lawfulness.{simulated_is_lawful}
 use Rattle.stated_runs.proofs.MadeSetups as made
 use Rattle.sim_bounds.specs.Gauge.{simulation_gauge, simulation_sizes}
 use Rattle.first_breaches.specs.Sizes.{HaveSizes}
-use Rattle.simulated_sizes.specs.Laws.{AreCurves}
-use Rattle.simulated_sizes.proofs.Stand.{simulated_stand}
+use Rattle.run_findings.specs.simulated_sizes.specs.Laws.{AreCurves}
+use Rattle.run_findings.specs.simulated_sizes.proofs.Stand.{simulated_stand}
 
 pub lawful : (net : Net) (trace : SpecTrace) (run : SpecRun) → IsAccepted net → IsTrace trace → IsTraceOf net trace
     → IsSimulated (setup_of net trace) run → IsLawful (routes_of net) run

@@ -9,9 +9,9 @@ use Rattle.stated_runs.specs.FromTraces.{setup_of, IsTraceOf}
 use Rattle.stated_runs.proofs.MadeSetups as made
 use Rattle.stated_runs.proofs.Unique.{run_once}
 use Rattle.sim_bounds.specs.Gauge.{simulation_gauge}
-use Rattle.simulated_sizes.specs.Laws.{AreCurves}
+use Rattle.run_findings.specs.simulated_sizes.specs.Laws.{AreCurves}
 use Rattle.report_text.specs.RunReport.{Found}
-use Rattle.command_replies.specs.Replies.{Reply}
+use Rattle.run_findings.specs.command_replies.specs.Replies.{Reply}
 use Rattle.run_findings.specs.Findings.{FoundText, TellsFindings}
 use Rattle.run_findings.specs.Statuses.{IsOfReport}
 use Rattle.run_findings.proofs.Reports.{same_telling, is_report}

@@ -9,10 +9,10 @@ use Rattle.stated_runs.specs.Simulated.{IsSimulated}
 use Rattle.sim_bounds.specs.Gauge.{simulation_gauge}
 use Rattle.run_measures.specs.Peaks.{rows_of, ArePeaks}
 use Rattle.run_measures.specs.Worst.{AreWorst}
-use Rattle.packet_sim.specs.declared.measured.SimRun.{SimRun}
+use Rattle.net_simulator.specs.packet_sim.specs.declared.measured.SimRun.{SimRun}
 use Rattle.net_cells.specs.Meanings.{CellTable}
 use Rattle.report_text.specs.RunReport.{Found}
-use Rattle.command_replies.specs.Replies.{Reply, too_wide_simulation}
+use Rattle.run_findings.specs.command_replies.specs.Replies.{Reply, too_wide_simulation}
 use Rattle.run_findings.specs.Findings.{AreFindings, FoundText, TellsFindings}
 
 -- ---- a run

@@ -4,7 +4,7 @@ ghost use Rattle.std.specs.Prelude.{◌≤◌, ◌<◌, ◌^◌, IfOk, IsErrOf, 
 ghost use Rattle.net_model.specs.Walks.{IsFeedForward};
 ghost use Rattle.stated_runs.specs.FromTraces.{IsTraceOf};
 ghost use Rattle.sim_bounds.specs.Gauge.{simulation_gauge};
-ghost use Rattle.simulated_sizes.specs.Laws.{AreCurves};
+ghost use Rattle.run_findings.specs.simulated_sizes.specs.Laws.{AreCurves};
 ghost use Rattle.report_text.specs.RunReport.{found_of};
 ghost use Rattle.run_findings.specs.Findings.{AreFindings};
 ghost use Rattle.simulated_findings.specs.Found.{IsMeasured, IsFound};
@@ -12,8 +12,8 @@ ghost use Rattle.simulated_findings.specs.Found.{IsMeasured, IsFound};
 use crate::told::open_servers;
 use first_breaches::first_breach;
 use net_model::{Network, Trace};
+use net_simulator::packet_sim::SimRun;
 use net_simulator::{SimFault, simulate};
-use packet_sim::SimRun;
 use report_text::RunFound;
 use std::alloc::{AllocError, Global};
 

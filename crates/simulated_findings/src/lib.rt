@@ -6,3 +6,4 @@ mod finding;
 mod told;
 
 pub use finding::find;
+pub use run_findings;

@@ -21,11 +21,11 @@ use Rattle.run_laws.proofs.Sums.{Each}
 use Rattle.run_laws.proofs.Heads.{sum_of}
 use Rattle.run_laws.proofs.Orders.{at_upto, left_upto_worked}
 use Rattle.run_laws.proofs.Cuts.{IsAfter, time_in_order}
-use Rattle.run_watch.specs.declared.span.Span.{Span}
-use Rattle.run_watch.specs.Ramps.{InOrder}
-use Rattle.run_watch.specs.Seen.{work_spans}
-use Rattle.run_watch.proofs.SeenLists.{worked_is}
-use Rattle.run_watch.proofs.ViewSpans.{works_in_order}
+use Rattle.first_breaches.specs.run_watch.specs.declared.span.Span.{Span}
+use Rattle.first_breaches.specs.run_watch.specs.Ramps.{InOrder}
+use Rattle.first_breaches.specs.run_watch.specs.Seen.{work_spans}
+use Rattle.first_breaches.specs.run_watch.proofs.SeenLists.{worked_is}
+use Rattle.first_breaches.specs.run_watch.proofs.ViewSpans.{works_in_order}
 use Rattle.first_breaches.specs.Sizes.{bits_in}
 use Rattle.first_breaches.proofs.Views.{SpanStands, sum_bits, sum_is}
 

@@ -3,11 +3,11 @@ use Rattle.std.specs.Prelude.{◌≡◌, ℕ, ◌<◌, ◌/◌, ◌*◌, ◌^◌
 use Rattle.std.proofs.Common.{arith, sym, ap, ap₂, ◌∙◌, refl, subst}
 use Rattle.std.proofs.lemmas.Int.{ints}
 use native.Mathlib.Nat.{le_of_dvd, zero-lt-suc, div-one}
-use Rattle.rational.specs.Gcd.{gcd, gcd_steps}
-use Rattle.rational.specs.Euclid.{gcd_is, gcd_pos}
-use Rattle.rational.specs.Rational.{ℚ, int, frac, den}
-use Rattle.rational.specs.Ratio.{IsSmall, SumFits, PartsFit}
-use Rattle.rational.proofs.Laws.{mul_zero}
+use Rattle.affine_segment.specs.rational.specs.Gcd.{gcd, gcd_steps}
+use Rattle.affine_segment.specs.rational.specs.Euclid.{gcd_is, gcd_pos}
+use Rattle.affine_segment.specs.rational.specs.Rational.{ℚ, int, frac, den}
+use Rattle.affine_segment.specs.rational.specs.Ratio.{IsSmall, SumFits, PartsFit}
+use Rattle.affine_segment.specs.rational.proofs.Laws.{mul_zero}
 use Rattle.upp_curve.specs.Curves.{IsCurve}
 use Rattle.upp_curve.specs.Kinds.{bucket}
 use Rattle.affine_segment.specs.Fits.{LineFits}

@@ -9,3 +9,7 @@ pub mod Shapes
 pub mod Kinds
 pub mod Fitting
 pub mod JoinedPieces
+pub use Rattle.affine_segment as affine_segment
+pub use Rattle.affine_segment.specs.fraction128 as fraction128
+pub use Rattle.min_plus as min_plus
+pub use Rattle.affine_segment.specs.rational as rational

@@ -9,5 +9,7 @@ mod reading;
 pub mod same;
 mod shape;
 
+pub use affine_segment;
+pub use affine_segment::{fraction128, rational};
 pub use curve::{Curve, Tail, equal};
 pub use jumps::is_continuous;

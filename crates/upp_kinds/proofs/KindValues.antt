@@ -1,18 +1,18 @@
 -- The values of the kinds of curve that are affine: a bucket, a rate after a latency, and that less one packet.
-use Rattle.rational.proofs.MinMax.{max_q_left, max_q_right, le_q_not}
+use Rattle.upp_curve.specs.rational.proofs.MinMax.{max_q_left, max_q_right, le_q_not}
 use Rattle.std.specs.Prelude.{◌≡◌}
 use Rattle.std.proofs.Common.{arith, sym, ap, ◌∙◌, refl, subst, inl, inr}
-use Rattle.rational.specs.Rational.{ℚ, ◌+ℚ◌, ◌-ℚ◌, ◌*ℚ◌, ◌≤ℚ◌, ◌<ℚ◌, neg_ℚ}
-use Rattle.rational.proofs.Linear.{with1, with2, with3, with4}
-use Rattle.rational.proofs.Over.{le_q_out}
-use Rattle.rational.proofs.Laws.{mul_comm, mul_sub, mul_zero, le_or_lt, antisym}
-use Rattle.rational.specs.declared.Extended.TheVariants.{Fin}
-use Rattle.rational.specs.MinMax.{max_q}
-use Rattle.min_plus.specs.Functions.{zero_q}
+use Rattle.upp_curve.specs.rational.specs.Rational.{ℚ, ◌+ℚ◌, ◌-ℚ◌, ◌*ℚ◌, ◌≤ℚ◌, ◌<ℚ◌, neg_ℚ}
+use Rattle.upp_curve.specs.rational.proofs.Linear.{with1, with2, with3, with4}
+use Rattle.upp_curve.specs.rational.proofs.Over.{le_q_out}
+use Rattle.upp_curve.specs.rational.proofs.Laws.{mul_comm, mul_sub, mul_zero, le_or_lt, antisym}
+use Rattle.upp_curve.specs.rational.specs.declared.Extended.TheVariants.{Fin}
+use Rattle.upp_curve.specs.rational.specs.MinMax.{max_q}
+use Rattle.upp_curve.specs.min_plus.specs.Functions.{zero_q}
 use Rattle.upp_curve.specs.Curve.{value_at}
-use Rattle.affine_segment.specs.Reading.{read, piece_in, piece_value}
+use Rattle.upp_curve.specs.affine_segment.specs.Reading.{read, piece_in, piece_value}
 use Rattle.upp_curve.specs.Kinds.{piece, bucket, after_latency, rate_latency}
-use Rattle.min_plus.specs.Formulas.{IsBucket, IsService}
+use Rattle.upp_curve.specs.min_plus.specs.Formulas.{IsBucket, IsService}
 
 -- a piece whose value is its line's reads as its line from its start on
 pub on_line : (x v k r t : ℚ) → v ≡ k +ℚ r *ℚ x → x ≤ℚ t → piece_value (piece x v k r) t ≡ Fin (k +ℚ r *ℚ t)

@@ -1,10 +1,10 @@
 -- The curve of each kind has the kind's values and is in normal form. Own choice.
 use Rattle.std.specs.Prelude.{◌≡◌}
-use Rattle.rational.specs.Rational.{ℚ, ◌≤ℚ◌, ◌<ℚ◌}
+use Rattle.upp_curve.specs.rational.specs.Rational.{ℚ, ◌≤ℚ◌, ◌<ℚ◌}
 use Rattle.upp_curve.specs.Curve.{value_at}
 use Rattle.upp_curve.specs.Normal.{IsNormal}
-use Rattle.min_plus.specs.Functions.{zero_q}
-use Rattle.min_plus.specs.Formulas.{bucket_value, stair_value, rate_latency_value, gate_value}
+use Rattle.upp_curve.specs.min_plus.specs.Functions.{zero_q}
+use Rattle.upp_curve.specs.min_plus.specs.Formulas.{bucket_value, stair_value, rate_latency_value, gate_value}
 use Rattle.upp_curve.specs.Kinds.{bucket, stair, rate_latency, gate}
 
 -- from 0 on the curve has the values of the formula

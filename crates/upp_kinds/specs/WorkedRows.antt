@@ -1,16 +1,16 @@
 -- Values that were worked out by hand from the words of the definitions. Own choice of examples.
 use Rattle.std.specs.Prelude.{◌≡◌, ℕ, pos, [], ◌∷◌, length}
-use Rattle.rational.specs.Rational.{ℚ, ◌≤ℚ◌, int, frac}
-use Rattle.rational.specs.declared.Extended.TheVariants.{Fin}
+use Rattle.upp_curve.specs.rational.specs.Rational.{ℚ, ◌≤ℚ◌, int, frac}
+use Rattle.upp_curve.specs.rational.specs.declared.Extended.TheVariants.{Fin}
 use Rattle.upp_curve.specs.declared.curve.Tail.TheVariants.{Affine}
 use Rattle.upp_curve.specs.Curve.{SpecCurve, value_at}
 use Rattle.upp_curve.specs.Unrolled.{count, unroll}
-use Rattle.min_plus.specs.Functions.{zero_q}
-use Rattle.min_plus.specs.Pointwise.{IsMinimum, IsMaximum, IsSum, IsPositiveDifference}
-use Rattle.min_plus.specs.Running.{IsRunningSupremum, IsRunningInfimum}
-use Rattle.min_plus.specs.Convolution.{IsConvolution, IsDeconvolution, IsSubadditiveClosure, IsSubadditive}
+use Rattle.upp_curve.specs.min_plus.specs.Functions.{zero_q}
+use Rattle.upp_curve.specs.min_plus.specs.Pointwise.{IsMinimum, IsMaximum, IsSum, IsPositiveDifference}
+use Rattle.upp_curve.specs.min_plus.specs.Running.{IsRunningSupremum, IsRunningInfimum}
+use Rattle.upp_curve.specs.min_plus.specs.Convolution.{IsConvolution, IsDeconvolution, IsSubadditiveClosure, IsSubadditive}
 use Rattle.upp_curve.specs.Kinds.{piece, stair, gate, bucket, rate_latency}
-use Rattle.min_plus.specs.Formulas.{stair_value, gate_value}
+use Rattle.upp_curve.specs.min_plus.specs.Formulas.{stair_value, gate_value}
 
 abbrev pub whole : ℕ → ℚ
 whole n = int (pos n)

@@ -1,13 +1,13 @@
 -- Shifts, multiples and differences of curves, worked out by hand from the words of the definitions.
 -- Own choice of examples.
 use Rattle.std.specs.Prelude.{◌≡◌, pos, [], ◌∷◌}
-use Rattle.rational.specs.Rational.{ℚ, ◌≤ℚ◌, frac}
-use Rattle.rational.specs.declared.Extended.TheVariants.{Fin, Inf}
+use Rattle.upp_curve.specs.rational.specs.Rational.{ℚ, ◌≤ℚ◌, frac}
+use Rattle.upp_curve.specs.rational.specs.declared.Extended.TheVariants.{Fin, Inf}
 use Rattle.upp_curve.specs.declared.curve.Tail.TheVariants.{Infinite}
 use Rattle.upp_curve.specs.Curve.{SpecCurve, value_at}
-use Rattle.min_plus.specs.Functions.{zero_q}
-use Rattle.min_plus.specs.Pointwise.{IsShift, IsScaled, IsPositiveMinus, IsPositiveDifference}
-use Rattle.min_plus.specs.Running.{IsFifoLeftover}
+use Rattle.upp_curve.specs.min_plus.specs.Functions.{zero_q}
+use Rattle.upp_curve.specs.min_plus.specs.Pointwise.{IsShift, IsScaled, IsPositiveMinus, IsPositiveDifference}
+use Rattle.upp_curve.specs.min_plus.specs.Running.{IsFifoLeftover}
 use Rattle.upp_curve.specs.Kinds.{flat, stair, bucket, rate_latency}
 use Rattle.upp_kinds.specs.WorkedRows.{whole}
 

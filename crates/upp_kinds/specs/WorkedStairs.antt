@@ -1,13 +1,13 @@
 -- Stairs without jitter, and a supremum at a jump that no time takes, worked out by hand from the words of the
 -- definitions. Own choice of examples.
 use Rattle.std.specs.Prelude.{◌≡◌}
-use Rattle.rational.specs.Rational.{ℚ, ◌≤ℚ◌, ◌<ℚ◌}
-use Rattle.rational.specs.declared.Extended.TheVariants.{Fin}
+use Rattle.upp_curve.specs.rational.specs.Rational.{ℚ, ◌≤ℚ◌, ◌<ℚ◌}
+use Rattle.upp_curve.specs.rational.specs.declared.Extended.TheVariants.{Fin}
 use Rattle.upp_curve.specs.Curve.{value_at}
-use Rattle.min_plus.specs.Functions.{zero_q}
-use Rattle.min_plus.specs.Convolution.{IsConvolution, IsDeconvolution}
+use Rattle.upp_curve.specs.min_plus.specs.Functions.{zero_q}
+use Rattle.upp_curve.specs.min_plus.specs.Convolution.{IsConvolution, IsDeconvolution}
 use Rattle.upp_curve.specs.Kinds.{stair, rate_latency}
-use Rattle.min_plus.specs.Formulas.{stair_value}
+use Rattle.upp_curve.specs.min_plus.specs.Formulas.{stair_value}
 use Rattle.upp_kinds.specs.WorkedRows.{whole, dip}
 
 -- at each time from 0 on the curve's value is that of the formula: packet (floor (t / period) + 1)

@@ -1,12 +1,12 @@
 -- The numbers of a call's operands without unrolling, and that each of them is known. Own choice.
 use Rattle.std.specs.Prelude.{Option, Some, None}
 use Rattle.std.specs.List.{AllByRecursion}
-use Rattle.rational.specs.Rational.{ℚ, ◌*ℚ◌, ◌<ℚ◌}
-use Rattle.rational.specs.Ratio.{IsSmall}
-use Rattle.rational.specs.Extended.{Ext}
-use Rattle.rational.specs.declared.Extended.TheVariants.{Fin, Inf}
-use Rattle.affine_segment.specs.declared.line.Line.{Line}
-use Rattle.affine_segment.specs.declared.line.Piece.{Piece}
+use Rattle.upp_curve.specs.rational.specs.Rational.{ℚ, ◌*ℚ◌, ◌<ℚ◌}
+use Rattle.upp_curve.specs.rational.specs.Ratio.{IsSmall}
+use Rattle.upp_curve.specs.rational.specs.Extended.{Ext}
+use Rattle.upp_curve.specs.rational.specs.declared.Extended.TheVariants.{Fin, Inf}
+use Rattle.upp_curve.specs.affine_segment.specs.declared.line.Line.{Line}
+use Rattle.upp_curve.specs.affine_segment.specs.declared.line.Piece.{Piece}
 use Rattle.upp_curve.specs.declared.curve.Tail.{Tail}
 use Rattle.upp_curve.specs.declared.curve.Tail.TheVariants.{Periodic, Affine, Infinite}
 use Rattle.upp_limits.specs.declared.op_kind.Operands.{Operands}

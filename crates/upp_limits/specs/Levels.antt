@@ -1,8 +1,8 @@
 -- The value at which a curve of rate 0 that rises ends. Own choice.
 use Rattle.std.specs.Prelude.{List, Option, Some, None}
-use Rattle.rational.specs.Rational.{ℚ, ◌<ℚ◌}
-use Rattle.affine_segment.specs.declared.line.Line.{Line}
-use Rattle.affine_segment.specs.declared.line.Piece.{Piece}
+use Rattle.upp_curve.specs.rational.specs.Rational.{ℚ, ◌<ℚ◌}
+use Rattle.upp_curve.specs.affine_segment.specs.declared.line.Line.{Line}
+use Rattle.upp_curve.specs.affine_segment.specs.declared.line.Piece.{Piece}
 use Rattle.upp_curve.specs.declared.curve.Tail.{Tail}
 use Rattle.upp_curve.specs.declared.curve.Tail.TheVariants.{Periodic, Affine, Infinite}
 use Rattle.upp_curve.specs.Curve.{SpecCurve}

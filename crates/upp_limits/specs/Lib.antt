@@ -15,3 +15,8 @@ pub mod Outcome
 pub mod CallNumbers
 pub mod LimitTest
 pub mod OwnLimits
+pub use Rattle.upp_curve as upp_curve
+pub use Rattle.upp_curve.specs.affine_segment as affine_segment
+pub use Rattle.upp_curve.specs.fraction128 as fraction128
+pub use Rattle.upp_curve.specs.min_plus as min_plus
+pub use Rattle.upp_curve.specs.rational as rational

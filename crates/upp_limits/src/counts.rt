@@ -1,17 +1,17 @@
 //! How many unrolled pieces of a curve start before a time.
 
 ghost use Rattle.std.specs.Prelude.{ℕ, ◌≡◌, ◌-◌, ◌^◌, min, pos, sum_by};
-ghost use Rattle.rational.specs.Rational.{ℚ, int, ◌≤ℚ◌};
+ghost use Rattle.upp_curve.specs.rational.specs.Rational.{ℚ, int, ◌≤ℚ◌};
 ghost use Rattle.upp_curve.specs.Curve.{SpecCurve};
-ghost use Rattle.affine_segment.specs.Pieces.{StartsAtZero};
+ghost use Rattle.upp_curve.specs.affine_segment.specs.Pieces.{StartsAtZero};
 ghost use Rattle.upp_curve.specs.Unrolled.{count};
 ghost use Rattle.upp_limits.specs.Periods.{HasPeriod};
 ghost use Rattle.upp_limits.specs.Spans.{once, number_below};
 
 use crate::start_counts::count_before;
-use affine_segment::Piece;
-use fraction128::{Frac, is_less};
 use upp_curve::Tail;
+use upp_curve::affine_segment::Piece;
+use upp_curve::fraction128::{Frac, is_less};
 
 /// 1 where the piece starts before `end`, else 0.
 fn once(piece: &Piece, end: Frac) -> u64

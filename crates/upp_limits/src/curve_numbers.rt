@@ -2,8 +2,8 @@
 
 ghost use Rattle.std.specs.Prelude.{ℕ, ◌≡◌, ◌<◌, ◌+◌, ◌^◌, pos, IfSome, IsSome, length, drop};
 ghost use Rattle.std.specs.List.{AllByRecursion};
-ghost use Rattle.rational.specs.Rational.{ℚ, int, ◌*ℚ◌, ◌≤ℚ◌, ◌<ℚ◌};
-ghost use Rattle.affine_segment.specs.Pieces.{StartsAtZero, start_after};
+ghost use Rattle.upp_curve.specs.rational.specs.Rational.{ℚ, int, ◌*ℚ◌, ◌≤ℚ◌, ◌<ℚ◌};
+ghost use Rattle.upp_curve.specs.affine_segment.specs.Pieces.{StartsAtZero, start_after};
 ghost use Rattle.upp_limits.specs.Spans.{Span, end_of, piece_read, spans};
 ghost use Rattle.upp_limits.specs.Limits.{Numbers, joined};
 ghost use Rattle.upp_limits.specs.Gathered.{Gathers};
@@ -14,9 +14,9 @@ ghost use Rattle.upp_limits.specs.Periods.{HasPeriod};
 
 use crate::gathered::Gathered;
 use crate::start_counts::count_before;
-use affine_segment::Piece;
-use fraction128::{Frac, is_less};
 use upp_curve::Tail;
+use upp_curve::affine_segment::Piece;
+use upp_curve::fraction128::{Frac, is_less};
 
 /// A whole number as a fraction.
 pub fn whole(n: u128) -> Option<Frac>

@@ -26,3 +26,5 @@ pub use own_limits::{OverLimit, over_own_limit, own_within, within_limits};
 pub use own_window::{OwnNumbers, is_infinite_at, keeps_line, later_unless};
 pub use scaled_numbers::{scaled_piece, scaled_tail};
 pub use starts::{is_after, is_before};
+pub use upp_curve;
+pub use upp_curve::{affine_segment, fraction128, rational};

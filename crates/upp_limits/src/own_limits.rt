@@ -11,8 +11,8 @@ ghost use Rattle.upp_limits.specs.OwnWindow.{AreNumbers};
 use crate::counts::count_below;
 use crate::op_kind::OpFault;
 use crate::own_window::{OwnNumbers, own_numbers};
-use affine_segment::Piece;
 use upp_curve::Tail;
+use upp_curve::affine_segment::Piece;
 
 /// The limit that is passed.
 #[derive(Debug, Clone, Copy, PartialEq, Eq)]

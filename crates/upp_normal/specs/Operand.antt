@@ -1,11 +1,11 @@
 -- Where the pieces of an operand stand that start in a call's window, and the room that the call's sizes give to its
 -- answer. Own choice.
 use Rattle.std.specs.Prelude.{◌*◌, ◌<◌, ◌^◌, pos, List, Option, Some, None}
-use Rattle.rational.specs.Rational.{ℚ, ◌*ℚ◌, ◌≤ℚ◌, ◌<ℚ◌, int}
-use Rattle.rational.specs.Grid.{Whole, Within}
-use Rattle.affine_segment.specs.declared.line.Line.{Line}
-use Rattle.affine_segment.specs.declared.line.Piece.{Piece}
-use Rattle.affine_segment.specs.Pieces.{Each, StartsAtZero}
+use Rattle.upp_limits.specs.rational.specs.Rational.{ℚ, ◌*ℚ◌, ◌≤ℚ◌, ◌<ℚ◌, int}
+use Rattle.upp_limits.specs.rational.specs.Grid.{Whole, Within}
+use Rattle.upp_limits.specs.affine_segment.specs.declared.line.Line.{Line}
+use Rattle.upp_limits.specs.affine_segment.specs.declared.line.Piece.{Piece}
+use Rattle.upp_limits.specs.affine_segment.specs.Pieces.{Each, StartsAtZero}
 use Rattle.upp_limits.specs.Limits.{Sizes, gauge_of}
 use Rattle.upp_limits.specs.Sized.{IsSlope, AreSizes, ValueStands, grid_of, times_largest}
 use Rattle.upp_normal.specs.Room.{Room}

@@ -1,5 +1,5 @@
 use Rattle.std.proofs.Common.{sym, ap, ◌∙◌, subst}
-use Rattle.rational.specs.Rational.{◌+ℚ◌}
+use Rattle.fraction128.specs.rational.specs.Rational.{◌+ℚ◌}
 use Rattle.affine_segment.specs.declared.element.Element.TheVariants.{Point}
 use Rattle.affine_segment.specs.Elements.{IsConvolved}
 use Rattle.affine_segment.specs.MadeParts.{alone_part}

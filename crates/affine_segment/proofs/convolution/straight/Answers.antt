@@ -5,7 +5,7 @@ use Rattle.affine_segment.specs.Corners.{segment_of}
 use Rattle.affine_segment.specs.Elements.{IsConvolved}
 use Rattle.affine_segment.proofs.Convolved.{straight_convolved}
 use Rattle.affine_segment.proofs.Made.{one_part_made}
-use Rattle.rational.specs.Extended.{◌+ₑ◌}
+use Rattle.fraction128.specs.rational.specs.Extended.{◌+ₑ◌}
 use Rattle.affine_segment.proofs.convolution.straight.Goals as goal
 
 pub returns-in_err-start-clause-wide : goal.returns-in_err-start-clause-wide

@@ -1,8 +1,8 @@
 use Rattle.std.specs.Prelude.{◌≡◌, IfSome}
 use Rattle.std.proofs.Common.{subst, arith}
-use Rattle.rational.proofs.Laws.{le_of_lt}
+use Rattle.fraction128.specs.rational.proofs.Laws.{le_of_lt}
 use Rattle.affine_segment.specs.Values.{line_at}
-use Rattle.rational.proofs.Compared.{is_less, not_less}
+use Rattle.fraction128.specs.rational.proofs.Compared.{is_less, not_less}
 use Rattle.affine_segment.proofs.Lower.{turned}
 use Rattle.affine_segment.proofs.cut.element_min.Goals as goal
 

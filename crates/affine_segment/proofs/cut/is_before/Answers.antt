@@ -1,8 +1,8 @@
 use Rattle.std.proofs.Common.{subst, sym, true≢false}
-use Rattle.rational.specs.Extended.{◌<ₑ◌}
-use Rattle.rational.specs.declared.Extended.TheVariants.{Fin}
-use Rattle.rational.proofs.Laws.{lt_le_trans, lt_irrefl}
-use Rattle.rational.proofs.Compared.{not_less}
+use Rattle.fraction128.specs.rational.specs.Extended.{◌<ₑ◌}
+use Rattle.fraction128.specs.rational.specs.declared.Extended.TheVariants.{Fin}
+use Rattle.fraction128.specs.rational.proofs.Laws.{lt_le_trans, lt_irrefl}
+use Rattle.fraction128.specs.rational.proofs.Compared.{not_less}
 use Rattle.affine_segment.proofs.cut.is_before.Goals as goal
 
 pub returns-in_default : goal.returns-in_default

@@ -1,5 +1,5 @@
 use Rattle.std.proofs.Common.{true≢false, ◌∙◌, sym}
-use Rattle.rational.proofs.Compared.{is_less, not_less}
+use Rattle.fraction128.specs.rational.proofs.Compared.{is_less, not_less}
 use Rattle.affine_segment.proofs.Lower.{crossing_cut, uncrossed_cut, crossed_cut}
 use Rattle.affine_segment.proofs.cut.lower_crossing.Goals as goal
 

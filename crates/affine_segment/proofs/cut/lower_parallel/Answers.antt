@@ -1,5 +1,5 @@
-use Rattle.rational.proofs.Laws.{le_of_lt}
-use Rattle.rational.proofs.Compared.{is_greater, not_greater}
+use Rattle.fraction128.specs.rational.proofs.Laws.{le_of_lt}
+use Rattle.fraction128.specs.rational.proofs.Compared.{is_greater, not_greater}
 use Rattle.affine_segment.proofs.Lower.{parallel_left, parallel_right}
 use Rattle.affine_segment.proofs.cut.lower_parallel.Goals as goal
 

@@ -1,5 +1,5 @@
 use Rattle.std.proofs.Common.{subst, ◌≤◌, ◌<◌, ◌^◌}
-use Rattle.upp_limits.specs.Gauges.{gauge_over}
+use Rattle.upp_normal.specs.upp_limits.specs.Gauges.{gauge_over}
 use Rattle.curve_call.proofs.frame.narrow_numbers.Goals as goal
 
 pub returns-then-numbers-clause-refused : goal.returns-then-numbers-clause-refused

@@ -5,9 +5,9 @@ use Rattle.net_model.specs.Networks.{Net}
 use Rattle.report_text.specs.CellWords.{cell_words}
 use Rattle.command_replies.specs.Replies.{cell_over}
 use Rattle.command_replies.specs.View.{reply_of, status_of}
-use Rattle.run_findings.specs.CellCounts.{CountsOnCells}
-use Rattle.run_findings.proofs.Counted.{by_order, no_report}
-use Rattle.run_findings.proofs.Reports.{refused}
+use Rattle.simulated_findings.specs.run_findings.specs.CellCounts.{CountsOnCells}
+use Rattle.simulated_findings.specs.run_findings.proofs.Counted.{by_order, no_report}
+use Rattle.simulated_findings.specs.run_findings.proofs.Reports.{refused}
 use Rattle.exercise_command.proofs.Replying.{on_over, on_table, is_named, is_free}
 use Rattle.exercise_command.proofs.on_workload.in_order.Goals as goal
 

@@ -4,8 +4,8 @@ use Rattle.net_graph.proofs.Returns.{order_or_cycle}
 use Rattle.report_text.specs.CellWords.{cell_words}
 use Rattle.command_replies.specs.Replies.{cell_over}
 use Rattle.command_replies.specs.View.{reply_of, status_of}
-use Rattle.run_findings.proofs.Counted.{by_order, no_report}
-use Rattle.run_findings.proofs.Reports.{refused}
+use Rattle.simulated_findings.specs.run_findings.proofs.Counted.{by_order, no_report}
+use Rattle.simulated_findings.specs.run_findings.proofs.Reports.{refused}
 use Rattle.simulate_command.proofs.OnNets.{on_over, on_table}
 use Rattle.simulate_command.proofs.on_net.in_order.Goals as goal
 

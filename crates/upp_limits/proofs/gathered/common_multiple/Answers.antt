@@ -1,8 +1,8 @@
 use Rattle.std.proofs.Common.{arith, ◌<◌}
 use native.Mathlib.Nat.{pos_of_dvd_of_pos}
-use Rattle.rational.specs.Gcd.{gcd}
-use Rattle.rational.specs.Euclid.{gcd_is}
-use Rattle.rational.proofs.Gauges.{kept_lcm, kept_lcm_big}
+use Rattle.upp_curve.specs.rational.specs.Gcd.{gcd}
+use Rattle.upp_curve.specs.rational.specs.Euclid.{gcd_is}
+use Rattle.upp_curve.specs.rational.proofs.Gauges.{kept_lcm, kept_lcm_big}
 use Rattle.upp_limits.proofs.gathered.common_multiple.Goals as goal
 
 pub returns-then-b-eq340282366920938463463374607431768211455 : goal.returns-then-b-eq340282366920938463463374607431768211455

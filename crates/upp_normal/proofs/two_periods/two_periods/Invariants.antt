@@ -1,6 +1,6 @@
 use Rattle.std.proofs.Common.{◌≡◌, ◌++◌, ◌∷◌, List, drop}
-use Rattle.affine_segment.specs.declared.line.Piece.{Piece}
-use Rattle.upp_curve.specs.Unrolled.{each_later}
+use Rattle.upp_limits.specs.affine_segment.specs.declared.line.Piece.{Piece}
+use Rattle.upp_limits.specs.upp_curve.specs.Unrolled.{each_later}
 use Rattle.upp_normal.specs.Normalising.{past, cut_at}
 use Rattle.upp_normal.proofs.two_periods.two_periods.Given as goal
 
