@@ -249,8 +249,9 @@ fn pieces_upto(entries: &[Entering], far: Frac, pieces: &[Piece]) -> usize
     least
 }
 
-/// How many of the first packets are seen to keep a curve by its pieces, where no period of it ends in time. So a bucket, and each other curve that is the least of its lines or whose pieces are flat, is seen up to where it is broken; of
-/// another one more packets may keep it.
+/// How many of the first packets are seen to keep a curve by its pieces, where no period of it ends in time. So a bucket, and each
+/// other curve that is the least of its lines or whose pieces are flat, is seen up to where it is broken; of another one more
+/// packets may keep it.
 fn early_upto(entries: &[Entering], arrival: &Curve) -> usize
     requires { FlowReads arrival.now entries.now }
     ensures { NoneCrowded (value_at arrival.now) entries.now result }

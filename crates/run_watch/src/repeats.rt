@@ -153,7 +153,8 @@ fn cycle_upto(
     pieces: &[Piece],
 ) -> Option<usize>
     requires { TimesRiseIn entries.now }
-    ensures { IfSome result (λ n. (i : ℕ) → i < length pieces.now → HoldsAt cycle.now.rank cycle.now.period cycle.now.rise entries.now end n (drop i pieces.now)) }
+    ensures { IfSome result (λ n. (i : ℕ) → i < length pieces.now
+        → HoldsAt cycle.now.rank cycle.now.period cycle.now.rise entries.now end n (drop i pieces.now)) }
 {
     let mut least = entries.len();
     for i in 0..pieces.len() {
