@@ -14,7 +14,10 @@ packets (a trace has at most 10,000 rows), over a server of kind latency, which 
 - packets of one bit, one a period, so that all of them fit in one step;
 - packets of a whole step, ten thousand periods apart;
 - halves, of which the last packet breaks the stair, so that each pair that ends with it is looked at;
-- all that a curve of two unlike steps a period lets in, which is no stair, so that each pair is looked at.
+- all that a curve of two unlike steps a period lets in, which is no stair: each of its two pieces is looked at by itself;
+- all that a curve of a ramp and a level in each period lets in, so that each pair is looked at;
+- a packet of a whole step each period, and one more with the last: of a token bucket, of a list of two lines, and of a list of ten
+  steps and a last line, each of which the last packet breaks.
 
 Over a gate the first half of the packets come one a cycle, each worked off at once, and the others keep it busy, a cycle
 of its slot for each. It stalls once, late in that work, while it would be open: the first look finds a window that ends
@@ -113,6 +116,38 @@ def all_let_in(count: int) -> list[str]:
     return [row(0, STEP), *later]
 
 
+def ramp() -> str:
+    """A step at once, and in each period one more: at an even pace in its first half, and nothing in the second."""
+    half = PERIOD // 2
+    pieces = f'[{{ x = 0, at = {STEP}, slope = {STEP // half} }}, {{ x = {half}, at = {2 * STEP} }}]'
+    return f'{{ kind = "list", piece = {pieces}, tail = {{ rank = 0, period = {PERIOD}, rise = {STEP} }} }}'
+
+
+def ramped(count: int) -> list[str]:
+    """A step at once, and then what that ramp lets in, in two packets a period."""
+    half = PERIOD // 2
+    later = [row(PERIOD * (packet // 2) + half // 2 * (packet % 2 + 1), STEP // 2) for packet in range(count - 1)]
+    return [row(0, STEP), *later]
+
+
+def two_lines() -> str:
+    """A step, and twice its pace for half a period; then its pace."""
+    half = PERIOD // 2
+    pieces = f'[{{ x = 0, at = {STEP}, slope = {2 * STEP // PERIOD} }}, {{ x = {half}, at = {2 * STEP}, slope = {STEP // PERIOD} }}]'
+    return f'{{ kind = "list", piece = {pieces} }}'
+
+
+def ten_steps() -> str:
+    """A step more each period, for ten periods; then their pace."""
+    steps = [f"{{ x = {PERIOD * step}, at = {STEP * (step + 1)} }}" for step in range(10)]
+    return f'{{ kind = "list", piece = [{", ".join(steps)}, {{ x = {10 * PERIOD}, at = {11 * STEP}, slope = {STEP // PERIOD} }}] }}'
+
+
+def one_more(count: int) -> list[str]:
+    rows = wholes(count - 1)
+    return [*rows, rows[-1]]
+
+
 def broken(count: int) -> list[str]:
     rows = halves(count - 1)
     return [*rows, row(PERIOD * ((count - 2) // 2), STEP)]
@@ -140,6 +175,7 @@ def main() -> None:
     program = sys.argv[1]
     kept = network_text(stair(PERIOD, 0), LATENCY)
     late = network_text(stair(PERIOD, 3 * PERIOD), LATENCY)
+    bucket = f'{{ kind = "bucket", rate = {STEP // PERIOD}, burst = {STEP} }}'
     gate = network_text('{ kind = "bucket", rate = 1, burst = 10000000000 }', GATE, SLOT * RATE)
     cases = [
         ("whole steps", lambda _: kept, wholes, COUNTS),
@@ -152,6 +188,10 @@ def main() -> None:
         ("far apart", lambda _: kept, far_apart, COUNTS),
         ("broken by the last packet", lambda _: kept, broken, COUNTS),
         ("two unlike steps a period", lambda _: network_text(unlike_steps(), LATENCY), all_let_in, COUNTS),
+        ("a ramp a period", lambda _: network_text(ramp(), LATENCY), ramped, COUNTS),
+        ("a broken bucket", lambda _: network_text(bucket, LATENCY), one_more, COUNTS),
+        ("a broken list of lines", lambda _: network_text(two_lines(), LATENCY), one_more, COUNTS),
+        ("a broken list of steps", lambda _: network_text(ten_steps(), LATENCY), one_more, COUNTS),
         ("gate, turns alike", lambda _: gate, lambda count: gated(count, 0), GATE_COUNTS),
         ("gate, turns unlike", lambda _: gate, lambda count: gated(count, 37), GATE_COUNTS),
     ]

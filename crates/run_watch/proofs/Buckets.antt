@@ -1,34 +1,35 @@
 -- A flow that keeps a bucket under each piece of a curve keeps the curve: one packet more, and one piece more, at a time.
-use Rattle.std.specs.Prelude.{◌≡◌, ℕ, zero, suc, ◌+◌, ◌-◌, ◌<◌, ◌≤◌, pos, List, [], ◌∷◌, length, take, Some}
+use Rattle.std.specs.Prelude.{◌≡◌, ℕ, zero, suc, ◌+◌, ◌-◌, ◌<◌, ◌≤◌, pos, List, [], ◌∷◌, length, drop, Option, Some}
 use Rattle.std.specs.List.{slice_index_or}
 use Rattle.std.proofs.Common.{arith, refl, sym, subst, ap, ◌∙◌, inl, inr, add-one}
-use Rattle.std.proofs.lemmas.List.{take_all}
 use Rattle.std.proofs.lemmas.Bool.{cases_lt, cases_Bool}
 use Rattle.rational.specs.Rational.{ℚ, int, ◌+ℚ◌, ◌-ℚ◌, ◌*ℚ◌, ◌≤ℚ◌, le_q}
 use Rattle.rational.specs.Extended.{Ext, ◌≤ₑ◌, ◌<ₑ◌}
 use Rattle.rational.specs.declared.Extended.TheVariants.{Fin, Inf}
 use Rattle.rational.proofs.ExtendedOrder.{le_ext_trans}
-use Rattle.rational.proofs.Laws.{le_lt_trans, le_trans, lt_irrefl, mul_sub, mul_zero, add_zero, mul_le_mul}
+use Rattle.rational.proofs.Laws.{le_lt_trans, le_or_lt, le_trans, lt_irrefl, mul_sub, mul_zero, add_zero, mul_le_mul, zero_mul}
 use Rattle.rational.specs.MinMax.{min_q, max_q}
 use Rattle.rational.proofs.MinMax.{max_q_ge_left, max_q_ge_right, min_q_le_left, min_q_le_right}
 use Rattle.rational.proofs.Over.{le_q_in}
 use Rattle.rational.proofs.Linear.{with2, with3, with4, with_atoms, sub_nonneg}
 use Rattle.affine_segment.specs.declared.line.Line.{Line}
 use Rattle.affine_segment.specs.declared.line.Piece.{Piece}
-use Rattle.affine_segment.specs.Pieces.{Each, StartsAtZero}
+use Rattle.affine_segment.specs.Pieces.{StartsAtZero}
 use Rattle.affine_segment.specs.Reading.{piece_value, read}
+use Rattle.affine_segment.proofs.PieceIn.{read_go, read_one, read_stop}
 use Rattle.upp_curve.specs.declared.curve.Tail.{Tail}
 use Rattle.upp_curve.specs.declared.curve.Tail.TheVariants.{Periodic, Affine, Infinite}
 use Rattle.upp_curve.specs.Curve.{SpecCurve, value_at}
 use Rattle.upp_curve.specs.Curves.{IsCurve}
-use Rattle.upp_normal.proofs.NormaliseRoomy.{each_in, found_early}
 use Rattle.curve_values.specs.Early.{IsEarly}
 use Rattle.curve_values.proofs.KeptValues.{early_value}
 use Rattle.run_laws.specs.Cards.{whole}
 use Rattle.run_laws.proofs.Sizes.{whole_sum}
 use Rattle.watch_laws.specs.declared.entering.Entering.{Entering}
 use Rattle.watch_laws.specs.Entries.{entering, bits_to, bits_between}
-use Rattle.run_watch.specs.Flows.{FlowReads, NoneCrowded, IsUnderLine, IsUnderPiece, KeepsBucket, KeepsPiece, IsRaised, IsLevel, first_time, last_time}
+use Rattle.watch_laws.specs.Segments.{next_start}
+use Rattle.run_watch.specs.Flows.{FlowReads, NoneCrowded, IsUnderLine, IsUnderPiece, KeepsBucket, TimesRiseIn, gap, KeepsPiece, KeepsAt, KeepsBefore, IsRaised, IsLevel, first_time, last_time}
+use Rattle.run_watch.specs.Repeats.{HasAtLeast}
 use Rattle.run_watch.proofs.EntryLists.{bits_past, bits_one_more}
 use Rattle.run_watch.proofs.LeastFirst.{read_is}
 
@@ -63,6 +64,14 @@ under_line x v l risen base burst rate e f g h =
       at_start = with_atoms (burst ∷ run ∷ risen ∷ base ∷ v ∷ []) (λ k. omega (arith, k.le, k.lt, k.same));
       below = subst (λ y. y ≤ℚ icept) (sym g) (min_q_le_right base l.icept);
     }
+
+-- flat, it has at least its burst wherever it is read
+pub has_least : (p : Piece) (burst rate : ℚ) → IsUnderPiece p burst rate → rate ≡ int (pos 0) → HasAtLeast p burst
+has_least p burst rate U flat d some =
+    let none : rate *ℚ d ≡ int (pos 0) = ap (λ x. x *ℚ d) flat ∙ zero_mul d in
+    let run = rate *ℚ d in
+    let low : burst ≤ℚ burst +ℚ run = with_atoms (burst ∷ run ∷ []) (λ c. omega (arith, c.le, c.lt, c.same)) in
+    le_ext_trans (Fin burst) (Fin (burst +ℚ run)) (piece_value p d) low (U d some)
 
 -- ---- bits
 to_more : (k : ℕ) (es : List Entering) → suc k < length es → bits_to (suc k) es ≡ bits_to k es + (entering es (suc k)).bits
@@ -153,34 +162,59 @@ pub kept_none : (burst rate : ℚ) (es : List Entering) (time level : ℚ) → I
 kept_none burst rate es time level = record { levels = λ j e. absurd (omega arith); keeps = λ i j m n. absurd (omega arith) }
 
 -- ---- all pieces
-pub keeps_piece : (es : List Entering) (p : Piece) (burst rate : ℚ) → IsUnderPiece p burst rate → KeepsBucket burst rate es (length es) → KeepsPiece es p
-keeps_piece es p burst rate U K i j l m some =
-    let d = (entering es j).time -ℚ (entering es i).time in
+pub keeps_piece : (es : List Entering) (p : Piece) (burst rate : ℚ) (end : Option ℚ) (upto : ℕ) → IsUnderPiece p burst rate → KeepsBucket burst rate es upto → KeepsPiece es p end upto
+keeps_piece es p burst rate end upto U K i j l m some before =
+    let d = gap es i j in
     le_ext_trans (Fin (whole (bits_between i j es))) (Fin (burst +ℚ rate *ℚ d)) (piece_value p d) (K i j l m) (U d some)
 
-pub pieces_push : (P : Piece → Type 0) (ps : List Piece) (k : ℕ) (p : Piece) → k < length ps → p ≡ slice_index_or ps k p → Each P (take k ps) → P p → Each P (take (k + 1) ps)
-pieces_push P ps k p l e h is = rw add-one (push ps k l e h)
-  where
-    push : (ps : List Piece) (k : ℕ) → k < length ps → p ≡ slice_index_or ps k p → Each P (take k ps) → Each P (take (suc k) ps)
-    push [] k l e h = absurd (omega arith)
-    push (r ∷ ps) zero l e h = (subst P e is, tt)
-    push (r ∷ ps) (suc k) l e h = (h.0, push ps k (omega arith) e h.1)
+pub keeps_flat : (es : List Entering) (p : Piece) (burst rate end : ℚ) (upto : ℕ) → IsUnderPiece p burst rate → rate ≡ int (pos 0) → KeepsBefore burst end es upto → KeepsPiece es p (Some end) upto
+keeps_flat es p burst rate end upto U flat K i j l m some before =
+    let d = gap es i j in
+    le_ext_trans (Fin (whole (bits_between i j es))) (Fin burst) (piece_value p d) (K i j l m some before) (has_least p burst rate U flat d some)
 
-read_of : (es : List Entering) (far : ℚ) (ps : List Piece) (i j : ℕ) → StartsAtZero ps → Each (λ p. p.x ≤ℚ far → KeepsPiece es p) ps → i ≤ j → j < length es → int (pos 0) ≤ℚ (entering es j).time -ℚ (entering es i).time
-    → (entering es j).time -ℚ (entering es i).time ≤ℚ far → Fin (whole (bits_between i j es)) ≤ₑ read ps ((entering es j).time -ℚ (entering es i).time)
-unfolding read
-read_of es far [] i j at0 h l m some near = absurd at0
-read_of es far (p ∷ ps) i j at0 h l m some near =
-    let d = (entering es j).time -ℚ (entering es i).time in
-    let early = found_early p ps d (subst (λ x. x ≤ℚ d) (sym at0.0) some) in
-    each_in (λ p. p.x ≤ℚ far → KeepsPiece es p) p ps d h.0 h.1 (le_trans early near) i j l m some
+-- fewer packets keep what more of them do
+keeps_fewer : (es : List Entering) (far : ℚ) (old new : ℕ) (ps : List Piece) → new ≤ old → KeepsAt es far old ps → KeepsAt es far new ps
+keeps_fewer es far old new [] h K = tt
+keeps_fewer es far old new (p ∷ ps) h K = λ near i j m n some before. K near i j m (omega arith) some before
+
+keeps_at : (es : List Entering) (far : ℚ) (upto : ℕ) (ps : List Piece) (i : ℕ) (p : Piece) (end : Option ℚ) → i < length ps → p ≡ slice_index_or ps i p → end ≡ next_start (drop (suc i) ps) → (p.x ≤ℚ far → KeepsPiece es p end upto)
+    → KeepsAt es far upto (drop i ps)
+keeps_at es far upto [] i p end l e f H = absurd (omega arith)
+keeps_at es far upto (q ∷ ps) zero p end l e f H = subst (λ (r : Piece). r.x ≤ℚ far → KeepsPiece es r (next_start ps) upto) e (subst (λ (o : Option ℚ). p.x ≤ℚ far → KeepsPiece es p o upto) f H)
+keeps_at es far upto (q ∷ ps) (suc i) p end l e f H = keeps_at es far upto ps i p end (omega arith) e f H
+
+pub keeps_more : (es : List Entering) (far : ℚ) (old count new : ℕ) (ps : List Piece) (i : ℕ) (p : Piece) (end : Option ℚ) → i < length ps → p ≡ slice_index_or ps i p → end ≡ next_start (drop (i + 1) ps)
+    → (p.x ≤ℚ far → KeepsPiece es p end count) → new ≤ old → new ≤ count → ((k : ℕ) → k < i → KeepsAt es far old (drop k ps)) → (k : ℕ) → k < i + 1 → KeepsAt es far new (drop k ps)
+keeps_more es far old count new ps i p end l e f H less_old less_count before k m = elim (cases_lt k i) [
+  | inl n ↦ keeps_fewer es far old new (drop k ps) less_old (before k n)
+  | inr n ↦
+      let same : i ≡ k = omega arith in
+      subst (λ (q : ℕ). KeepsAt es far new (drop q ps)) same (keeps_fewer es far count new (drop i ps) less_count (keeps_at es far count ps i p end l e (rw add-one at f) H))
+]
+
+read_in : (es : List Entering) (far : ℚ) (upto : ℕ) (p : Piece) (ps : List Piece) (i j : ℕ) → ((k : ℕ) → k < length (p ∷ ps) → KeepsAt es far upto (drop k (p ∷ ps))) → p.x ≤ℚ gap es i j → i ≤ j → j < upto → int (pos 0) ≤ℚ gap es i j
+    → gap es i j ≤ℚ far → Fin (whole (bits_between i j es)) ≤ₑ read (p ∷ ps) (gap es i j)
+read_in es far upto p [] i j keeps early l m some near =
+    let d = gap es i j in
+    let H : KeepsAt es far upto (p ∷ []) = keeps 0 (omega arith) in
+    subst (λ (v : Ext). Fin (whole (bits_between i j es)) ≤ₑ v) (sym (read_one p d)) (H (le_trans early near) i j l m some tt)
+read_in es far upto p (q ∷ qs) i j keeps early l m some near =
+    let d = gap es i j in
+    elim (le_or_lt q.x d) [
+      | inl k ↦ subst (λ (v : Ext). Fin (whole (bits_between i j es)) ≤ₑ v) (sym (read_go p q qs d k)) (read_in es far upto q qs i j (λ n o. keeps (suc n) (omega arith)) k l m some near)
+      | inr k ↦
+          let H : KeepsAt es far upto (p ∷ q ∷ qs) = keeps 0 (omega arith) in
+          subst (λ (v : Ext). Fin (whole (bits_between i j es)) ≤ₑ v) (sym (read_stop p q qs d k)) (H (le_trans early near) i j l m some k)
+    ]
+
+read_of : (es : List Entering) (far : ℚ) (upto : ℕ) (ps : List Piece) (i j : ℕ) → StartsAtZero ps → ((k : ℕ) → k < length ps → KeepsAt es far upto (drop k ps)) → i ≤ j → j < upto → int (pos 0) ≤ℚ gap es i j → gap es i j ≤ℚ far
+    → Fin (whole (bits_between i j es)) ≤ₑ read ps (gap es i j)
+read_of es far upto [] i j at0 keeps l m some near = absurd at0
+read_of es far upto (p ∷ ps) i j at0 keeps l m some near = read_in es far upto p ps i j keeps (subst (λ x. x ≤ℚ gap es i j) (sym at0.0) some) l m some near
 
 pub not_both : (x : Ext) (q : ℚ) → Fin q ≤ₑ x → x <ₑ Fin q → ⊥
 not_both (Fin v) q h k = lt_irrefl q (le_lt_trans h k)
 not_both Inf q h k = absurd k
-
-pub all_kept : (P : Piece → Type 0) (ps : List Piece) (k : ℕ) → length ps ≤ k → Each P (take k ps) → Each P ps
-all_kept P ps k late h = subst (Each P) (take_all k ps late) h
 
 gap_near : (f s t l far : ℚ) → f ≤ℚ s → t ≤ℚ l → far ≡ l -ℚ f → t -ℚ s ≤ℚ far
 gap_near f s t l far h k e = with_atoms (f ∷ s ∷ t ∷ l ∷ far ∷ []) (λ c. omega (arith, c.le, c.lt, c.same))
@@ -190,17 +224,21 @@ early_before (Periodic rank period rise) d far h k = le_lt_trans h k
 early_before (Affine rank) d far h k = tt
 early_before (Infinite rank) d far h k = tt
 
-pub none_crowded : (c : SpecCurve) (es : List Entering) (far : ℚ) → FlowReads c es → IsCurve c → far ≡ last_time es -ℚ first_time es → IsEarly c.tail far → Each (λ p. p.x ≤ℚ far → KeepsPiece es p) c.pieces
-    → NoneCrowded (value_at c) es (length es)
-none_crowded c es far R C reach early all i j m crowded =
-    let window = R i j crowded.in_order m in
+pub times_rise : (c : SpecCurve) (es : List Entering) → FlowReads c es → TimesRiseIn es
+times_rise c es R i j l m = (R i j l m).forward
+
+pub none_crowded : (c : SpecCurve) (es : List Entering) (far : ℚ) (upto : ℕ) → FlowReads c es → IsCurve c → far ≡ last_time es -ℚ first_time es → IsEarly c.tail far → upto ≤ length es
+    → ((k : ℕ) → k < length c.pieces → KeepsAt es far upto (drop k c.pieces)) → NoneCrowded (value_at c) es upto
+none_crowded c es far upto R C reach early most all i j m crowded =
+    let l : j < length es = omega arith in
+    let window = R i j crowded.in_order l in
     let s = (entering es i).time in
     let t = (entering es j).time in
     let first = R 0 i (omega arith) (omega arith) in
     let last = R j (length es - 1) (omega arith) (omega arith) in
     let low = sub_nonneg s t window.forward in
     let near = gap_near (first_time es) s t (last_time es) far first.forward last.forward reach in
-    let bits = read_of es far c.pieces i j C.normal.raw.starts all crowded.in_order m low near in
+    let bits = read_of es far upto c.pieces i j C.normal.raw.starts all crowded.in_order m low near in
     let value = early_value c (t -ℚ s) C (early_before c.tail (t -ℚ s) far near early) in
     not_both (value_at c (t -ℚ s)) (whole (bits_between i j es)) (subst (λ (v : Ext). Fin (whole (bits_between i j es)) ≤ₑ v) value bits) crowded.more
 

@@ -14,7 +14,7 @@ use Rattle.watch_laws.specs.Entries.{entering, bits_between, IsCrowded}
 use Rattle.run_watch.specs.Flows.{WindowReads, FlowReads, NoneCrowdedFrom, FindsFirst}
 use Rattle.run_watch.proofs.EntryLists.{bits_one_more}
 
-get_same : (es : List Entering) (k : ℕ) (d e : Entering) → k < length es → get_or es k d ≡ get_or es k e
+pub get_same : (es : List Entering) (k : ℕ) (d e : Entering) → k < length es → get_or es k d ≡ get_or es k e
 get_same [] k d e h = absurd (omega arith)
 get_same (x ∷ es) zero d e h = refl
 get_same (x ∷ es) (suc k) d e h = get_same es k d e (omega arith)

@@ -22,6 +22,9 @@ pub mod OwnTurns
 pub mod NearWindows
 pub mod Buckets
 pub mod StairPaces
+pub mod Slides
+pub mod FirstPackets
+pub mod Repeated
 pub mod ClearStretches
 pub mod ShortEnds
 pub mod FirstOfTwo

@@ -98,7 +98,7 @@ line_some slack rate d h some low =
     with2 slack x (λ c. omega (arith, c.le, c.lt, c.same))
 
 -- ---- periods
-risen_over : (a b h : ℚ) (v : Ext) → a ≤ℚ b +ℚ h → Fin b ≤ₑ v → Fin a ≤ₑ v +ₑ Fin h
+pub risen_over : (a b h : ℚ) (v : Ext) → a ≤ℚ b +ℚ h → Fin b ≤ₑ v → Fin a ≤ₑ v +ₑ Fin h
 risen_over a b h Inf l k = tt
 risen_over a b h (Fin x) l k = with4 a b h x (λ c. omega (arith, c.le, c.lt, c.same))
 
@@ -138,9 +138,12 @@ pub always_climbed : (c : SpecCurve) (rank period rise height slack rate t : ℚ
 always_climbed c rank period rise height slack rate t C e W S low = always_by c.pieces c.tail rank period rise height slack rate t e C.normal W.high W.one S low
 
 -- ---- all pairs
-pub none_past_stair : (c : SpecCurve) (es : List Entering) (height slack rate : ℚ) (upto : ℕ) → FlowReads c es → int (pos 0) ≤ℚ slack → int (pos 0) <ℚ rate
-    → ((d : ℚ) → int (pos 0) ≤ℚ d → IsClimbed height slack rate d (value_at c d)) → KeepsLine height slack rate es upto → NoneCrowded (value_at c) es upto
-none_past_stair c es height slack rate upto R start rises S K i j m crowded =
+spared : (b spare a : ℚ) → spare ≡ int (pos 0) → b +ℚ spare ≤ℚ a → b ≤ℚ a
+spared b spare a e h = with_atoms (b ∷ spare ∷ a ∷ []) (λ c. omega (arith, c.le, c.lt, c.same))
+
+pub none_past_stair : (c : SpecCurve) (es : List Entering) (height spare slack rate : ℚ) (upto : ℕ) → spare ≡ int (pos 0) → FlowReads c es → int (pos 0) ≤ℚ slack → int (pos 0) <ℚ rate
+    → ((d : ℚ) → int (pos 0) ≤ℚ d → IsClimbed height slack rate d (value_at c d)) → KeepsLine height spare slack rate es upto → NoneCrowded (value_at c) es upto
+none_past_stair c es height spare slack rate upto none R start rises S K i j m crowded =
     let order = crowded.in_order in
     let window = R i j order crowded.entered in
     let s = (entering es i).time in
@@ -148,7 +151,7 @@ none_past_stair c es height slack rate upto R start rises S K i j m crowded =
     let low = sub_nonneg s t window.forward in
     let (n, bits, under) = K i j order m (line_some slack rate (t -ℚ s) start rises low) in
     not_both (value_at c (t -ℚ s)) (whole (bits_between i j es))
-    (le_ext_trans (Fin (whole (bits_between i j es))) (Fin (whole (suc n) *ℚ height)) (value_at c (t -ℚ s)) bits (S (t -ℚ s) low n under)) crowded.more
+    (le_ext_trans (Fin (whole (bits_between i j es))) (Fin (whole (suc n) *ℚ height)) (value_at c (t -ℚ s)) (spared (whole (bits_between i j es)) spare (whole (suc n) *ℚ height) none bits) (S (t -ℚ s) low n under)) crowded.more
 
 -- where nothing is looked at, nothing is seen
 pub seen_none : (α : ℚ → Ext) (es : List Entering) (o : Option ℕ) (from : ℕ) → IfSome o (NoneCrowded α es) → from ≡ unwrap_or o 0 → NoneCrowded α es from

@@ -1,6 +1,6 @@
 -- The packets of a flow, and the first that it breaks. Own choice.
-use Rattle.std.specs.Prelude.{◌≡◌, ℕ, pos, ◌-◌, ◌<◌, ◌≤◌, ◌==◌, List, length, Option, Some, None, MatchOption, if◌then◌else◌}
-use Rattle.rational.specs.Rational.{ℚ, int, ◌+ℚ◌, ◌-ℚ◌, ◌*ℚ◌, ◌≤ℚ◌, neg_ℚ}
+use Rattle.std.specs.Prelude.{◌≡◌, ℕ, pos, ◌-◌, ◌<◌, ◌≤◌, ◌==◌, List, [], ◌∷◌, length, Option, Some, None, MatchOption, if◌then◌else◌}
+use Rattle.rational.specs.Rational.{ℚ, int, ◌+ℚ◌, ◌-ℚ◌, ◌*ℚ◌, ◌≤ℚ◌, ◌<ℚ◌, neg_ℚ}
 use Rattle.rational.specs.Ratio.{SumFits}
 use Rattle.rational.specs.Extended.{Ext, ◌≤ₑ◌}
 use Rattle.rational.specs.declared.Extended.TheVariants.{Fin}
@@ -14,6 +14,7 @@ use Rattle.run_laws.specs.declared.steps.Step.{Step}
 use Rattle.run_laws.specs.declared.steps.Step.TheVariants.{Enter, Reach, Work, Leave, Visit}
 use Rattle.watch_laws.specs.declared.entering.Entering.{Entering}
 use Rattle.watch_laws.specs.Entries.{entering, bits_between, IsCrowded}
+use Rattle.watch_laws.specs.Segments.{next_start}
 
 -- the packet that enters on the flow by this step, if one does
 abbrev pub entering_in : ℕ → Step → Option Entering
@@ -88,10 +89,38 @@ abbrev pub KeepsBucket : ℚ → ℚ → List Entering → ℕ → Type 0
 KeepsBucket burst rate es upto = (i j : ℕ) → i ≤ j → j < upto
     → whole (bits_between i j es) ≤ℚ burst +ℚ rate *ℚ ((entering es j).time -ℚ (entering es i).time)
 
--- no packets bring more between two of them than the piece has
-abbrev pub KeepsPiece : List Entering → Piece → Type 0
-KeepsPiece es p = (i j : ℕ) → i ≤ j → j < length es → int (pos 0) ≤ℚ (entering es j).time -ℚ (entering es i).time
-    → Fin (whole (bits_between i j es)) ≤ₑ piece_value p ((entering es j).time -ℚ (entering es i).time)
+-- ---- pieces
+-- the packets do not go back in time
+abbrev pub TimesRiseIn : List Entering → Type 0
+TimesRiseIn es = (i j : ℕ) → i ≤ j → j < length es → (entering es i).time ≤ℚ (entering es j).time
+
+-- the time from packet i to packet j
+abbrev pub gap : List Entering → ℕ → ℕ → ℚ
+gap es i j = (entering es j).time -ℚ (entering es i).time
+
+-- d is before an end, if there is one
+abbrev pub IsBefore : Option ℚ → ℚ → Type 0
+IsBefore None d = Unit {0}
+IsBefore (Some end) d = d <ℚ end
+
+-- no packets up to number `upto` bring more between two of them than the piece has, in a window that is shorter than its end
+abbrev pub KeepsPiece : List Entering → Piece → Option ℚ → ℕ → Type 0
+KeepsPiece es p end upto = (i j : ℕ) → i ≤ j → j < upto → int (pos 0) ≤ℚ gap es i j → IsBefore end (gap es i j) → Fin (whole (bits_between i j es)) ≤ₑ piece_value p (gap es i j)
+
+-- so of the first of some pieces, which ends where the next one starts, if it starts by `far`
+abbrev pub KeepsAt : List Entering → ℚ → ℕ → List Piece → Type 0
+KeepsAt es far upto [] = Unit {0}
+KeepsAt es far upto (p ∷ ps) = p.x ≤ℚ far → KeepsPiece es p (next_start ps) upto
+
+-- they bring at most v in a window that is shorter than `end`
+abbrev pub KeepsBefore : ℚ → ℚ → List Entering → ℕ → Type 0
+KeepsBefore v end es upto = (i j : ℕ) → i ≤ j → j < upto → int (pos 0) ≤ℚ gap es i j → gap es i j <ℚ end → whole (bits_between i j es) ≤ℚ v
+
+-- so many bits are of the packets from `first` to `last`, and those before enter `end` or more before the last one
+pub record IsNarrow (end : ℚ) (es : List Entering) (last first bits : ℕ) : Type 0 where
+  pub in_order : first ≤ last
+  pub all : bits ≡ bits_between first last es
+  pub far : (i : ℕ) → i < first → end ≤ℚ gap es i last
 
 -- l is at least what is left of the level at this packet, and at least nothing, with the packet's bits
 pub record IsRaised (level rate time : ℚ) (e : Entering) (l : ℚ) : Type 0 where

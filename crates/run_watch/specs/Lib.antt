@@ -2,6 +2,7 @@ pub mod Queue
 pub mod FirstEnds
 pub mod Flows
 pub mod Stairs
+pub mod Repeats
 pub mod Ramps
 pub mod Seen
 pub mod Watching

@@ -1,16 +1,18 @@
 //! What a flow breaks: a packet that is longer than it allows, or too many bits between two of its packets.
 
-ghost use Rattle.std.specs.Prelude.{◌≡◌, ◌↔◌, ◌<◌, ◌^◌, length, IfOk, IfSome, IsTrue, MatchOption};
+ghost use Rattle.std.specs.Prelude.{◌≡◌, ◌↔◌, ℕ, ◌<◌, ◌≤◌, ◌^◌, length, drop, IfOk, IfSome, IsTrue, MatchOption};
 ghost use Rattle.rational.specs.Rational.{◌-ℚ◌, ◌≤ℚ◌};
 ghost use Rattle.rational.specs.Extended.{◌<ₑ◌};
-ghost use Rattle.affine_segment.specs.Pieces.{Each};
 ghost use Rattle.upp_curve.specs.Curve.{value_at};
 ghost use Rattle.upp_normal.specs.Unrolling.{IsOperandTo};
 ghost use Rattle.run_laws.specs.Cards.{whole};
 ghost use Rattle.watch_laws.specs.Entries.{entries};
-ghost use Rattle.run_watch.specs.Flows.{entering_in, NoneLonger, IsFirstLonger, FlowReads, FindsFirst, NoneCrowded, IsFirstCrowded, IsUnderLine, IsUnderPiece, KeepsBucket, KeepsPiece, IsRaised, first_time, last_time};
+ghost use Rattle.run_watch.specs.Flows.{entering_in, NoneLonger, IsFirstLonger, FlowReads, FindsFirst, NoneCrowded, IsFirstCrowded, IsUnderLine, IsUnderPiece, KeepsBucket, TimesRiseIn, KeepsPiece, KeepsAt, IsRaised, first_time, last_time};
 
+use crate::repeats::repeated_upto;
+use crate::sliding::before_upto;
 use crate::stairs::kept_upto;
+use crate::windows::next_start;
 use affine_segment::{Line, Piece};
 use curve_values::{is_early, value_within};
 use fraction128::{Frac, Wide, difference, greater, is_less, lesser};
@@ -157,23 +159,24 @@ fn next_level(level: Frac, rate: Frac, time: Frac, entering: &Entering) -> Resul
     Frac::add(kept, bits_of(entering))
 }
 
-/// Whether a bucket is seen to be kept, in one pass. Where it is not, it may be kept all the same.
-fn keeps_bucket(entries: &[Entering], bucket: &Bucket) -> bool
-    ensures { IsTrue result → KeepsBucket bucket.now.burst bucket.now.rate entries.now (length entries.now) }
+/// How many of the first packets are seen to keep a bucket, in one pass. The next one may keep it all the same.
+fn bucket_upto(entries: &[Entering], bucket: &Bucket) -> usize
+    ensures in_range { result ≤ length entries.now }
+    ensures keeps { KeepsBucket bucket.now.burst bucket.now.rate entries.now result }
 {
     let mut level = Frac::zero();
     let mut time = Frac::zero();
-    for entering in entries {
+    for (number, entering) in entries.iter().enumerate() {
         let Ok(next) = next_level(level, bucket.rate, time, entering) else {
-            return false;
+            return number;
         };
         if is_less(bucket.burst, next) {
-            return false;
+            return number;
         }
         level = next;
         time = entering.time;
     }
-    true
+    entries.len()
 }
 
 /// The time from the first packet to the last, if it is seen to fit.
@@ -193,61 +196,161 @@ fn reach_of(entries: &[Entering]) -> Option<Frac>
     }
 }
 
-/// Whether a piece starts too late to be read, or is seen to be kept by its bucket.
-fn keeps_piece(entries: &[Entering], far: Frac, piece: &Piece) -> bool
-    ensures { IsTrue result → piece.now.x ≤ℚ far → KeepsPiece entries.now piece.now }
+/// How many of the first packets are seen to keep a piece up to where it ends, in one pass: a flat piece by the windows that are shorter,
+/// another one, or the last, by its bucket.
+pub(crate) fn piece_upto(entries: &[Entering], piece: &Piece, end: Option<Frac>) -> usize
+    requires { TimesRiseIn entries.now }
+    ensures in_range { result ≤ length entries.now }
+    ensures keeps { KeepsPiece entries.now piece.now end result }
+{
+    let Some(bucket) = bucket_of(piece) else {
+        return 0;
+    };
+    let Some(end) = end else {
+        return bucket_upto(entries, &bucket);
+    };
+    if bucket.rate == Frac::zero() {
+        return before_upto(entries, bucket.burst, end);
+    }
+    bucket_upto(entries, &bucket)
+}
+
+/// So many as keep a piece; all, where it starts too late to be read.
+fn read_upto(entries: &[Entering], far: Frac, piece: &Piece, end: Option<Frac>) -> usize
+    requires { TimesRiseIn entries.now }
+    ensures in_range { result ≤ length entries.now }
+    ensures keeps { piece.now.x ≤ℚ far → KeepsPiece entries.now piece.now end result }
 {
     if is_less(far, piece.x) {
-        return true;
+        return entries.len();
     }
-    match bucket_of(piece) {
-        Some(bucket) => keeps_bucket(entries, &bucket),
-        None => false,
-    }
+    piece_upto(entries, piece, end)
 }
 
-/// Whether all pieces are, in one pass for each.
-fn keeps_pieces(entries: &[Entering], far: Frac, pieces: &[Piece]) -> bool
-    ensures { IsTrue result → Each (λ p. p.x ≤ℚ far → KeepsPiece entries.now p) pieces.now }
+/// The lesser of two counts.
+pub(crate) fn fewer(a: usize, b: usize) -> usize
+    ensures left { result ≤ a }
+    ensures right { result ≤ b }
 {
-    if pieces.len() > entries.len() {
-        return false;
-    }
-    for piece in pieces {
-        if !keeps_piece(entries, far, piece) {
-            return false;
-        }
-    }
-    true
+    if a < b { a } else { b }
 }
 
-/// Whether a curve is seen to be kept by the buckets of its pieces, where no period of it ends in time. So a bucket, and each other
-/// curve that is the least of its lines, is seen where it is kept; another one may be kept all the same.
-fn keeps_buckets(entries: &[Entering], arrival: &Curve) -> bool
+/// How many are seen to keep all pieces so, in one pass for each.
+fn pieces_upto(entries: &[Entering], far: Frac, pieces: &[Piece]) -> usize
+    requires { TimesRiseIn entries.now }
+    ensures in_range { result ≤ length entries.now }
+    ensures keeps { (i : ℕ) → i < length pieces.now → KeepsAt entries.now far result (drop i pieces.now) }
+{
+    let mut least = entries.len();
+    for i in 0..pieces.len() {
+        let count = read_upto(entries, far, &pieces[i], next_start(pieces, i + 1));
+        least = fewer(least, count);
+    }
+    least
+}
+
+/// How many of the first packets are seen to keep a curve by its pieces, where no period of it ends in time. So a bucket, and each
+/// other curve that is the least of its lines or whose pieces are flat, is seen up to where it is broken; of another one more
+/// packets may keep it.
+fn early_upto(entries: &[Entering], arrival: &Curve) -> usize
     requires { FlowReads arrival.now entries.now }
-    ensures { IsTrue result → NoneCrowded (value_at arrival.now) entries.now (length entries.now) }
+    ensures { NoneCrowded (value_at arrival.now) entries.now result }
 {
     let Some(far) = reach_of(entries) else {
-        return false;
+        return 0;
     };
     if !is_early(arrival, far) {
-        return false;
+        return 0;
     }
-    keeps_pieces(entries, far, arrival.pieces())
+    pieces_upto(entries, far, arrival.pieces())
+}
+
+/// Whether a packet is the last of a pair between which too many bits enter, or there is no such packet. It only saves time.
+fn is_settled(entries: &[Entering], arrival: &Curve, last: usize) -> bool
+    requires { FlowReads arrival.now entries.now }
+{
+    if last >= entries.len() {
+        return true;
+    }
+    least_first(entries, arrival, last).is_some()
+}
+
+/// The greater of two counts of first packets that keep a curve.
+fn more(arrival: &Curve, entries: &[Entering], a: usize, b: usize) -> usize
+    requires a { NoneCrowded (value_at arrival.now) entries.now a }
+    requires b { NoneCrowded (value_at arrival.now) entries.now b }
+    ensures { NoneCrowded (value_at arrival.now) entries.now result }
+{
+    if a < b { b } else { a }
+}
+
+/// How many of the first packets are seen to keep a curve: by its pieces where none of it repeats in time, by the line under a stair, and
+/// where these do not tell the first packet that breaks it, by the pieces that repeat one by one.
+fn seen_kept(alloc: Global, entries: &[Entering], arrival: &Curve) -> usize
+    requires { FlowReads arrival.now entries.now }
+    ensures { NoneCrowded (value_at arrival.now) entries.now result }
+{
+    let early = early_upto(entries, arrival);
+    let by_stair = kept_upto(alloc, entries, arrival).unwrap_or(0);
+    let seen = more(arrival, entries, early, by_stair);
+    if is_settled(entries, arrival, seen) {
+        return seen;
+    }
+    let repeated = repeated_upto(alloc, entries, arrival).unwrap_or(0);
+    more(arrival, entries, seen, repeated)
+}
+
+/// How many are seen to keep it of so many first packets, if these are not all and not all of them are seen to.
+fn seen_within(alloc: Global, entries: &[Entering], arrival: &Curve, most: usize) -> Option<usize>
+    requires { FlowReads arrival.now entries.now }
+    ensures { IfSome result (NoneCrowded (value_at arrival.now) entries.now) }
+{
+    if most >= entries.len() {
+        return None;
+    }
+    let first = &entries[..most];
+    let seen = seen_kept(alloc, first, arrival);
+    if seen < most {
+        return Some(seen);
+    }
+    None
+}
+
+/// Packets for each piece of a curve that is looked at piece by piece: with fewer, all pairs of them cost no more.
+const PACKETS_A_PIECE: usize = 16;
+
+/// So many first packets are looked at before all are, so that a breach among them costs little.
+const FEW_PACKETS: usize = 256;
+
+const MORE_PACKETS: usize = 2048;
+
+/// How many of the first packets are seen to keep a curve: of a few, of more, and of all. Where the curve has many pieces for so many
+/// packets, it is seen where it is a stair alone.
+fn kept_first(alloc: Global, entries: &[Entering], arrival: &Curve) -> usize
+    requires { FlowReads arrival.now entries.now }
+    ensures { NoneCrowded (value_at arrival.now) entries.now result }
+{
+    if arrival.pieces().len() > entries.len() / PACKETS_A_PIECE {
+        return kept_upto(alloc, entries, arrival).unwrap_or(0);
+    }
+    if let Some(seen) = seen_within(alloc, entries, arrival, FEW_PACKETS) {
+        return seen;
+    }
+    if let Some(seen) = seen_within(alloc, entries, arrival, MORE_PACKETS) {
+        return seen;
+    }
+    seen_kept(alloc, entries, arrival)
 }
 
 /// The packets, first and last, between which more bits enter than a curve has: with the least last one,
-/// and of those with the least first one. A curve that is the least of its lines and is kept takes one pass for each, and a
-/// stair n log n steps for n packets; else it looks at each pair once. No period is written out. Memory that is refused costs no
-/// answer, only time.
+/// and of those with the least first one. Up to where a curve is broken that is the least of its lines, or of flat pieces, it takes one
+/// pass for each, and n log n steps for n packets where they repeat; else it looks at each pair once. No period is written out. Memory
+/// that is refused costs no answer, only time.
 pub fn first_crowded(alloc: Global, entries: &[Entering], arrival: &Curve) -> Option<(usize, usize)>
     requires { FlowReads arrival.now entries.now }
     ensures { MatchOption result (NoneCrowded (value_at arrival.now) entries.now (length entries.now)) (λ p. IsFirstCrowded (value_at arrival.now) entries.now p.0 p.1) }
 {
-    if keeps_buckets(entries, arrival) {
-        return None;
-    }
-    let kept = kept_upto(alloc, entries, arrival).unwrap_or(0);
+    let kept = kept_first(alloc, entries, arrival);
     for last in kept..entries.len() {
         if let Some(first) = least_first(entries, arrival, last) {
             return Some((first, last));

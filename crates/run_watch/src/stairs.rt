@@ -190,5 +190,6 @@ pub(crate) fn kept_upto(alloc: Global, entries: &[Entering], arrival: &Curve) ->
     if !is_stair(&stair, end, pieces) {
         return None;
     }
-    seen_upto(alloc, entries, stair.height, stair.slack, stair.rate)
+    let spare = Frac::zero();
+    seen_upto(alloc, entries, stair.height, spare, stair.slack, stair.rate)
 }

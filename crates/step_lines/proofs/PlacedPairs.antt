@@ -22,17 +22,15 @@ use Rattle.step_lines.specs.Lines.{KeepsLine}
 use Rattle.step_lines.specs.Places.{bits_under, IsFill, IsPlaced, no_place, placed, ArePlaced, IsNear, KeepPlaces, IsIn}
 
 -- ---- what bits fill
-pub is_fill : (height ratio steps over : ℚ) (bits : ℕ) → int (pos 0) <ℚ height → ratio ≡ whole bits /ℚ height → steps ≡ int (pos (whole_part ratio)) → over ≡ ratio -ℚ steps
-    → IsFill height bits record { steps = steps; over = over }
-is_fill height ratio steps over bits high e f g =
-    let times : ratio *ℚ height ≡ whole bits = ap (λ x. x *ℚ height) e ∙ div_mul (whole bits) height (not_zero height high) in
-    let some = nat_nonneg bits in
-    let bits_are = whole bits in
+pub is_fill : (height ratio steps over amount : ℚ) → int (pos 0) <ℚ height → int (pos 0) ≤ℚ amount → ratio ≡ amount /ℚ height → steps ≡ int (pos (whole_part ratio)) → over ≡ ratio -ℚ steps
+    → IsFill height amount record { steps = steps; over = over }
+is_fill height ratio steps over amount high some e f g =
+    let times : ratio *ℚ height ≡ amount = ap (λ x. x *ℚ height) e ∙ div_mul amount height (not_zero height high) in
     let run = ratio *ℚ height in
     let none = int (pos 0) *ℚ height in
     let none_is : none ≡ int (pos 0) = zero_mul height in
     let zero_q = int (pos 0) in
-    let positive : int (pos 0) ≤ℚ ratio = le_of_mul height (int (pos 0)) ratio high (with_atoms (none ∷ run ∷ bits_are ∷ zero_q ∷ []) (λ c. omega (arith, c.le, c.lt, c.same))) in
+    let positive : int (pos 0) ≤ℚ ratio = le_of_mul height (int (pos 0)) ratio high (with_atoms (none ∷ run ∷ amount ∷ zero_q ∷ []) (λ c. omega (arith, c.le, c.lt, c.same))) in
     let n = int (pos (whole_part ratio)) in
     let m = int (pos (suc (whole_part ratio))) in
     let low : n ≤ℚ ratio = whole_part_le ratio positive in
@@ -46,6 +44,14 @@ is_fill height ratio steps over bits high e f g =
       low = with_atoms (steps ∷ over ∷ ratio ∷ n ∷ []) (λ c. omega (arith, c.le, c.lt, c.same));
       high = with_atoms (steps ∷ over ∷ ratio ∷ n ∷ m ∷ []) (λ c. omega (arith, c.le, c.lt, c.same));
     }
+
+pub some_whole : (x : ℚ) (n : ℕ) → x ≡ whole n → int (pos 0) ≤ℚ x
+some_whole x n e = subst (λ y. int (pos 0) ≤ℚ y) (sym e) (nat_nonneg n)
+
+pub some_sum : (x spare sum : ℚ) (n : ℕ) → x ≡ whole n → int (pos 0) ≤ℚ spare → sum ≡ x +ℚ spare → int (pos 0) ≤ℚ sum
+some_sum x spare sum n e some f =
+    let low = some_whole x n e in
+    with_atoms (x ∷ spare ∷ sum ∷ []) (λ c. omega (arith, c.le, c.lt, c.same))
 
 -- ---- bits
 under_more : (k : ℕ) (es : List Entering) → k < length es → bits_under (suc k) es ≡ bits_under k es + (entering es k).bits
@@ -66,32 +72,36 @@ under_between (suc i) (suc j) (e ∷ es) h l = let rest = under_between i j es (
 
 -- ---- one packet more
 -- before packet k is placed: so many bits so far
-pub record IsPlacing (height rate : ℚ) (es : List Entering) (k bits : ℕ) (ps : List Placed) : Type 0 where
+pub record IsPlacing (height spare rate : ℚ) (es : List Entering) (k bits : ℕ) (ps : List Placed) : Type 0 where
   pub so_far : bits ≡ bits_under k es
   pub few : bits ≤ 2 ^ 32 * k
-  pub are : ArePlaced height rate es ps k
+  pub are : ArePlaced height spare rate es ps k
 
-pub placing_none : (height rate : ℚ) (es : List Entering) (ps : List Placed) → ps ≡ [] → IsPlacing height rate es 0 0 ps
-placing_none height rate es ps e = record {
+pub placing_none : (height spare rate : ℚ) (es : List Entering) (ps : List Placed) → ps ≡ [] → IsPlacing height spare rate es 0 0 ps
+placing_none height spare rate es ps e = record {
   so_far = refl;
   few = omega arith;
   are = record { count = ap length e; each = λ k l. absurd (omega arith) };
 }
 
-pub placing_more : (height rate : ℚ) (es : List Entering) (k bits : ℕ) (ps qs : List Placed) (p : Placed) (e : Entering) → k < length es → e ≡ slice_index_or es k e → e.bits < 2 ^ 32
-    → IsPlaced height rate e.time bits (bits + e.bits) p → qs ≡ ps ++ p ∷ [] → IsPlacing height rate es k bits ps → IsPlacing height rate es (k + 1) (bits + e.bits) qs
-placing_more height rate es k bits ps qs p e l at few P pushed K = rw add-one (record {
+pub placing_more : (height spare rate : ℚ) (es : List Entering) (k bits : ℕ) (ps qs : List Placed) (p : Placed) (e : Entering) (under upto most : ℚ) → k < length es → e ≡ slice_index_or es k e → e.bits < 2 ^ 32
+    → under ≡ whole bits → upto ≡ whole (bits + e.bits) → most ≡ upto +ℚ spare → IsPlaced height rate e.time under most p → qs ≡ ps ++ p ∷ [] → IsPlacing height spare rate es k bits ps
+    → IsPlacing height spare rate es (k + 1) (bits + e.bits) qs
+placing_more height spare rate es k bits ps qs p e under upto most l at few low high sum P pushed K = rw add-one (record {
   so_far = sums;
   few = let old = K.few in omega arith;
   are = record {
     count = ap length pushed ∙ length_push ps p ∙ (let count = K.are.count in omega arith);
     each = λ i m. elim (cases_lt i k) [
-      | inl n ↦ subst (IsPlaced height rate (entering es i).time (bits_under i es) (bits_under (suc i) es)) (sym (before_it i n)) (K.are.each i n)
-      | inr n ↦ let same : k ≡ i = omega arith in subst (λ (q : ℕ). IsPlaced height rate (entering es q).time (bits_under q es) (bits_under (suc q) es) (placed qs q)) same here
+      | inl n ↦ subst (At i) (sym (before_it i n)) (K.are.each i n)
+      | inr n ↦ let same : k ≡ i = omega arith in subst (λ (q : ℕ). At q (placed qs q)) same here
     ];
   };
 })
   where
+    At : ℕ → Placed → Type 0
+    At i q = IsPlaced height rate (entering es i).time (whole (bits_under i es)) (whole (bits_under (suc i) es) +ℚ spare) q
+
     is : e ≡ entering es k
     is = get_or_read es k e l at record { time = int (pos 0); bits = 0 }
 
@@ -105,11 +115,17 @@ placing_more height rate es k bits ps qs p e l at few P pushed K = rw add-one (r
     before_it : (i : ℕ) → i < k → placed qs i ≡ placed ps i
     before_it i n = ap (λ (xs : List Placed). placed xs i) pushed ∙ get_or_append_left ps (p ∷ []) no_place i (let count = K.are.count in omega arith)
 
-    here : IsPlaced height rate (entering es k).time (bits_under k es) (bits_under (suc k) es) (placed qs k)
+    under_is : under ≡ whole (bits_under k es)
+    under_is = low ∙ ap whole K.so_far
+
+    most_is : most ≡ whole (bits_under (suc k) es) +ℚ spare
+    most_is = sum ∙ ap (λ x. x +ℚ spare) (high ∙ ap whole sums)
+
+    here : At k (placed qs k)
     here =
-        subst (IsPlaced height rate (entering es k).time (bits_under k es) (bits_under (suc k) es)) (sym (ap (λ (xs : List Placed). placed xs k) pushed ∙ get_or_push ps p no_place k K.are.count))
-        (subst (λ (x : Entering). IsPlaced height rate x.time (bits_under k es) (bits_under (suc k) es) p) is
-        (subst (λ (n : ℕ). IsPlaced height rate e.time (bits_under k es) n p) sums (subst (λ (n : ℕ). IsPlaced height rate e.time n (bits + e.bits) p) K.so_far P)))
+        subst (At k) (sym (ap (λ (xs : List Placed). placed xs k) pushed ∙ get_or_push ps p no_place k K.are.count))
+        (subst (λ (x : Entering). IsPlaced height rate x.time (whole (bits_under k es)) (whole (bits_under (suc k) es) +ℚ spare) p) is
+        (subst (λ x. IsPlaced height rate e.time (whole (bits_under k es)) x p) most_is (subst (λ x. IsPlaced height rate e.time x most p) under_is P)))
 
 -- ---- one packet more that is within the slack
 -- the packets so far are let in, with lags of at least `least`
@@ -161,9 +177,9 @@ laid_more slack wide parts old nodes ps k least next near p l at in_it still low
     }
 
 -- ---- the bits between two packets
-steps_hold : (height x y : ℚ) (under upto bits n : ℕ) → int (pos 0) <ℚ height → x *ℚ height ≡ whole under → y *ℚ height ≡ whole upto → upto ≡ under + bits → y ≤ℚ x +ℚ whole (suc n)
-    → whole bits ≤ℚ whole (suc n) *ℚ height
-steps_hold height x y under upto bits n high e f sum h =
+steps_hold : (height spare x y : ℚ) (under upto bits n : ℕ) → int (pos 0) <ℚ height → x *ℚ height ≡ whole under → y *ℚ height ≡ whole upto +ℚ spare → upto ≡ under + bits → y ≤ℚ x +ℚ whole (suc n)
+    → whole bits +ℚ spare ≤ℚ whole (suc n) *ℚ height
+steps_hold height spare x y under upto bits n high e f sum h =
     let times = mul_le_mul_right height (le_of_lt high) h in
     let parts = add_mul x (whole (suc n)) height in
     let sums : whole upto ≡ whole under +ℚ whole bits = ap whole sum ∙ whole_sum under bits in
@@ -174,7 +190,7 @@ steps_hold height x y under upto bits n high e f sum h =
     let p = whole under in
     let q = whole upto in
     let r = whole bits in
-    with_atoms (a ∷ b ∷ c ∷ d ∷ p ∷ q ∷ r ∷ []) (λ k. omega (arith, k.le, k.lt, k.same))
+    with_atoms (a ∷ b ∷ c ∷ d ∷ p ∷ q ∷ r ∷ spare ∷ []) (λ k. omega (arith, k.le, k.lt, k.same))
 
 few_steps : (first last : ℕ) (value : ℚ) → int (pos 0) ≤ℚ value → whole last ≤ℚ whole first +ℚ value → whole (last - first) ≤ℚ value
 few_steps first last value some h = elim (cases_lt first last) [
@@ -204,10 +220,10 @@ enough_more : (p q x y u v w z : ℚ) → x ≡ p → y ≡ q → int (pos 0) �
 enough_more p q x y u v w z e f low top next order = with_atoms (p ∷ q ∷ x ∷ y ∷ u ∷ v ∷ w ∷ z ∷ []) (λ k. omega (arith, k.le, k.lt, k.same))
 
 -- x and u are the steps and the part under the one, y and v those up to the other
-pair_of : (height slack wide rate s t x u y v : ℚ) (first last under upto bits : ℕ) → int (pos 0) <ℚ height → wide ≡ slack +ℚ int (pos 1) → x ≡ whole first → y ≡ whole last → (x +ℚ u) *ℚ height ≡ whole under → (y +ℚ v) *ℚ height ≡ whole upto
+pair_of : (height spare slack wide rate s t x u y v : ℚ) (first last under upto bits : ℕ) → int (pos 0) <ℚ height → wide ≡ slack +ℚ int (pos 1) → x ≡ whole first → y ≡ whole last → (x +ℚ u) *ℚ height ≡ whole under → (y +ℚ v) *ℚ height ≡ whole upto +ℚ spare
     → int (pos 0) ≤ℚ u → v ≤ℚ int (pos 1) → upto ≡ under + bits → y -ℚ rate *ℚ t ≤ℚ x -ℚ rate *ℚ s +ℚ wide → (u <ℚ v → y -ℚ rate *ℚ t ≤ℚ x -ℚ rate *ℚ s +ℚ slack) → int (pos 0) ≤ℚ slack +ℚ rate *ℚ (t -ℚ s)
-    → (n : ℕ) × (whole bits ≤ℚ whole (suc n) *ℚ height) × (whole n ≤ℚ slack +ℚ rate *ℚ (t -ℚ s))
-pair_of height slack wide rate s t x u y v first last under upto bits high more e f held_x held_y low top sum by_more by_less some =
+    → (n : ℕ) × (whole bits +ℚ spare ≤ℚ whole (suc n) *ℚ height) × (whole n ≤ℚ slack +ℚ rate *ℚ (t -ℚ s))
+pair_of height spare slack wide rate s t x u y v first last under upto bits high more e f held_x held_y low top sum by_more by_less some =
     let p = whole first in
     let q = whole last in
     let value = slack +ℚ rate *ℚ (t -ℚ s) in
@@ -222,7 +238,7 @@ pair_of height slack wide rate s t x u y v first last under upto bits high more 
           let start = whole (suc first) in
           let order = whole_more last first (suc n) (omega arith) in (
             n,
-            steps_hold height (x +ℚ u) (y +ℚ v) under upto bits n high held_x held_y sum (enough_less p q x y u v w e f l order),
+            steps_hold height spare (x +ℚ u) (y +ℚ v) under upto bits n high held_x held_y sum (enough_less p q x y u v w e f l order),
             few_steps (suc first) last value some (reach_more p q x y slack wide run rs rt start e f more (nat_next first) parts by_more),
           )
       | inr l ↦
@@ -231,29 +247,29 @@ pair_of height slack wide rate s t x u y v first last under upto bits high more 
           let z = whole n in
           let order = whole_more last first n (omega arith) in (
             n,
-            steps_hold height (x +ℚ u) (y +ℚ v) under upto bits n high held_x held_y sum (enough_more p q x y u v w z e f low top (nat_next n) order),
+            steps_hold height spare (x +ℚ u) (y +ℚ v) under upto bits n high held_x held_y sum (enough_more p q x y u v w z e f low top (nat_next n) order),
             few_steps first last value some (reach_less p q x y slack run rs rt e f parts (by_less l)),
           )
     ]
 
-pub pair_holds : (height slack wide rate s t : ℚ) (under past_a under_b upto bits : ℕ) (a b : Placed) → int (pos 0) <ℚ height → wide ≡ slack +ℚ int (pos 1) → IsPlaced height rate s under past_a a → IsPlaced height rate t under_b upto b
+pub pair_holds : (height spare slack wide rate s t past_a under_b : ℚ) (under upto bits : ℕ) (a b : Placed) → int (pos 0) <ℚ height → wide ≡ slack +ℚ int (pos 1) → IsPlaced height rate s (whole under) past_a a → IsPlaced height rate t under_b (whole upto +ℚ spare) b
     → upto ≡ under + bits → IsNear slack wide a b → int (pos 0) ≤ℚ slack +ℚ rate *ℚ (t -ℚ s)
-    → (n : ℕ) × (whole bits ≤ℚ whole (suc n) *ℚ height) × (whole n ≤ℚ slack +ℚ rate *ℚ (t -ℚ s))
-pair_holds height slack wide rate s t under past_a under_b upto bits a b high more A B sum near some =
+    → (n : ℕ) × (whole bits +ℚ spare ≤ℚ whole (suc n) *ℚ height) × (whole n ≤ℚ slack +ℚ rate *ℚ (t -ℚ s))
+pair_holds height spare slack wide rate s t past_a under_b under upto bits a b high more A B sum near some =
     let F = A.fills_under in
     let G = B.fills_upto in
     let x = A.before.steps in
     let y = B.after.steps in
     let lag = A.between.lag_is in
     let lead = B.between.lead_is in
-    pair_of height slack wide rate s t x A.before.over y B.after.over F.number G.number under upto bits high more F.is G.is F.all G.all F.low G.high sum
+    pair_of height spare slack wide rate s t x A.before.over y B.after.over F.number G.number under upto bits high more F.is G.is F.all G.all F.low G.high sum
     (subst (λ z. z ≤ℚ x -ℚ rate *ℚ s +ℚ wide) lead (subst (λ z. b.lead ≤ℚ z +ℚ wide) lag near.by_more))
     (λ less. subst (λ z. z ≤ℚ x -ℚ rate *ℚ s +ℚ slack) lead (subst (λ z. b.lead ≤ℚ z +ℚ slack) lag
     (near.by_less (subst (λ z. z <ℚ b.after) (sym A.between.before_is) (subst (λ z. A.before.over <ℚ z) (sym B.between.after_is) less))))) some
 
-pub line_kept : (height slack wide rate : ℚ) (es : List Entering) (ps : List Placed) (upto : ℕ) → int (pos 0) <ℚ height → wide ≡ slack +ℚ int (pos 1) → ArePlaced height rate es ps (length es) → upto ≤ length ps → KeepPlaces slack wide ps upto
-    → KeepsLine height slack rate es upto
-line_kept height slack wide rate es ps upto high more P within K i j order l some =
+pub line_kept : (height spare slack wide rate : ℚ) (es : List Entering) (ps : List Placed) (upto : ℕ) → int (pos 0) <ℚ height → wide ≡ slack +ℚ int (pos 1) → ArePlaced height spare rate es ps (length es) → upto ≤ length ps → KeepPlaces slack wide ps upto
+    → KeepsLine height spare slack rate es upto
+line_kept height spare slack wide rate es ps upto high more P within K i j order l some =
     let count = P.count in
-    pair_holds height slack wide rate (entering es i).time (entering es j).time (bits_under i es) (bits_under (suc i) es) (bits_under j es) (bits_under (suc j) es) (bits_between i j es) (placed ps i) (placed ps j) high more
+    pair_holds height spare slack wide rate (entering es i).time (entering es j).time (whole (bits_under (suc i) es) +ℚ spare) (whole (bits_under j es)) (bits_under i es) (bits_under (suc j) es) (bits_between i j es) (placed ps i) (placed ps j) high more
     (P.each i (omega arith)) (P.each j (omega arith)) (under_between i j es order (omega arith)) (K i j order l) some

@@ -1,5 +1,6 @@
--- Packets against a line over a stair, by the steps that their bits fill. The bits from one packet to another need as many steps as
--- are filled between the one's start and the other's end, and one more where less is over at that start than at that end. Own choice.
+-- Packets against a line over a stair, by the steps that their bits fill. The bits from one packet to another, and those that are spared,
+-- need as many steps as are filled between the one's start and the other's end, and one more where less is over at that start than at
+-- that end. Own choice.
 use Rattle.std.specs.Prelude.{◌≡◌, ℕ, zero, suc, pos, ◌+◌, ◌<◌, ◌≤◌, List, [], ◌∷◌, length, get_or}
 use Rattle.rational.specs.Rational.{ℚ, int, ◌+ℚ◌, ◌-ℚ◌, ◌*ℚ◌, ◌≤ℚ◌, ◌<ℚ◌}
 use Rattle.run_laws.specs.Cards.{whole}
@@ -16,10 +17,10 @@ bits_under (suc k) [] = 0
 bits_under (suc k) (e ∷ es) = e.bits + bits_under k es
 
 -- so many whole steps, and a part of one
-pub record IsFill (height : ℚ) (bits : ℕ) (f : Fill) : Type 0 where
+pub record IsFill (height amount : ℚ) (f : Fill) : Type 0 where
   pub number : ℕ
   pub is : f.steps ≡ whole number
-  pub all : (f.steps +ℚ f.over) *ℚ height ≡ whole bits
+  pub all : (f.steps +ℚ f.over) *ℚ height ≡ amount
   pub low : int (pos 0) ≤ℚ f.over
   pub high : f.over ≤ℚ int (pos 1)
 
@@ -29,8 +30,8 @@ pub record IsBetween (before after : Fill) (rate time : ℚ) (p : Placed) : Type
   pub after_is : p.after ≡ after.over
   pub lead_is : p.lead ≡ after.steps -ℚ rate *ℚ time
 
--- a packet at a time: so many bits come before it, and so many up to it
-pub record IsPlaced (height rate time : ℚ) (under upto : ℕ) (p : Placed) : Type 0 where
+-- a packet at a time: so much comes before it, and so much up to it
+pub record IsPlaced (height rate time under upto : ℚ) (p : Placed) : Type 0 where
   pub before : Fill
   pub after : Fill
   pub fills_under : IsFill height under before
@@ -44,10 +45,10 @@ no_place = record { before = int (pos 0); lag = int (pos 0); after = int (pos 0)
 abbrev pub placed : List Placed → ℕ → Placed
 placed ps k = get_or ps k no_place
 
--- the first packets
-pub record ArePlaced (height rate : ℚ) (es : List Entering) (ps : List Placed) (upto : ℕ) : Type 0 where
+-- the first packets, each with the bits up to it and those that are spared
+pub record ArePlaced (height spare rate : ℚ) (es : List Entering) (ps : List Placed) (upto : ℕ) : Type 0 where
   pub count : length ps ≡ upto
-  pub each : (k : ℕ) → k < upto → IsPlaced height rate (entering es k).time (bits_under k es) (bits_under (suc k) es) (placed ps k)
+  pub each : (k : ℕ) → k < upto → IsPlaced height rate (entering es k).time (whole (bits_under k es)) (whole (bits_under (suc k) es) +ℚ spare) (placed ps k)
 
 -- b is within the slack of a
 pub record IsNear (slack wide : ℚ) (a b : Placed) : Type 0 where

@@ -14,7 +14,7 @@ use fraction128::{Frac, Wide, greater, is_less, lesser};
 use std::alloc::{AllocError, Global};
 use watch_laws::Entering;
 
-/// How many whole steps some bits fill, and what part of one more.
+/// How many whole steps an amount fills, and what part of one more.
 #[derive(Debug, Clone, Copy)]
 pub(crate) struct Fill {
     pub(crate) steps: Frac,
@@ -22,7 +22,7 @@ pub(crate) struct Fill {
 }
 
 /// A packet against a line: what part of a step is over before it and after it, and by how many whole steps the bits before it
-/// lag behind those that the rate has by its time, and the bits up to it lead them.
+/// lag behind those that the rate has by its time, and the bits up to it, with those that are spared, lead them.
 #[derive(Debug, Clone, Copy)]
 pub(crate) struct Placed {
     pub(crate) before: Frac,
@@ -32,20 +32,20 @@ pub(crate) struct Placed {
 }
 
 /// So many bits as a fraction.
-fn whole_of(bits: u128) -> Frac
+pub fn whole_of(bits: u128) -> Frac
     requires { bits < 2 ^ 127 }
     ensures { result ≡ whole bits }
 {
     Frac::from_whole(bits as i128)
 }
 
-/// What some bits fill, if its numbers fit.
-fn fill_of(height: Frac, bits: u128) -> Option<Fill>
+/// What an amount fills, if its numbers fit.
+fn fill_of(height: Frac, amount: Frac) -> Option<Fill>
     requires height { int (pos 0) <ℚ height }
-    requires bits { bits < 2 ^ 127 }
-    ensures { IfSome result (IsFill height bits) }
+    requires some { int (pos 0) ≤ℚ amount }
+    ensures { IfSome result (IsFill height amount) }
 {
-    let Ok(ratio) = Frac::div(whole_of(bits), height) else {
+    let Ok(ratio) = Frac::div(amount, height) else {
         return None;
     };
     let steps = ratio.whole_part();
@@ -70,11 +70,11 @@ fn placed_at(before: Fill, after: Fill, rate: Frac, time: Frac) -> Result<Placed
     })
 }
 
-/// A packet that enters at a time: so many bits come before it, and so many up to it; if its numbers fit.
-fn placed_of(height: Frac, rate: Frac, time: Frac, under: u128, upto: u128) -> Option<Placed>
+/// A packet that enters at a time: so much comes before it, and so much up to it; if its numbers fit.
+fn placed_of(height: Frac, rate: Frac, time: Frac, under: Frac, upto: Frac) -> Option<Placed>
     requires height { int (pos 0) <ℚ height }
-    requires under { under < 2 ^ 127 }
-    requires upto { upto < 2 ^ 127 }
+    requires under { int (pos 0) ≤ℚ under }
+    requires upto { int (pos 0) ≤ℚ upto }
     ensures { IfSome result (IsPlaced height rate time under upto) }
 {
     let Some(before) = fill_of(height, under) else {
@@ -90,15 +90,25 @@ fn placed_of(height: Frac, rate: Frac, time: Frac, under: u128, upto: u128) -> O
 }
 
 /// All packets, if their numbers fit and there is memory for them.
-fn places_of(alloc: Global, entries: &[Entering], height: Frac, rate: Frac) -> Option<Vec<Placed>>
-    requires { int (pos 0) <ℚ height }
-    ensures { IfSome result (λ v. ArePlaced height rate entries.now v.items (length entries.now)) }
+fn places_of(
+    alloc: Global,
+    entries: &[Entering],
+    height: Frac,
+    spare: Frac,
+    rate: Frac,
+) -> Option<Vec<Placed>>
+    requires high { int (pos 0) <ℚ height }
+    requires some { int (pos 0) ≤ℚ spare }
+    ensures { IfSome result (λ v. ArePlaced height spare rate entries.now v.items (length entries.now)) }
 {
     let mut bits: u128 = 0;
     let mut places = Vec::new(alloc);
     for entering in entries {
         let upto = bits + entering.bits as u128;
-        let Some(placed) = placed_of(height, rate, entering.time, bits, upto) else {
+        let Ok(most) = Frac::add(whole_of(upto), spare) else {
+            return None;
+        };
+        let Some(placed) = placed_of(height, rate, entering.time, whole_of(bits), most) else {
             return None;
         };
         let Ok(_) = places.push(placed) else {
@@ -207,19 +217,21 @@ fn within_upto(
     places.len()
 }
 
-/// How many of the first packets are seen to come no faster than the line, in whole steps, if that is looked at: not where memory is
-/// refused or a number does not fit. It sorts once, and looks up once for each packet.
+/// How many of the first packets are seen to come no faster than the line, in whole steps of which some bits are spared, if that is
+/// looked at: not where memory is refused or a number does not fit. It sorts once, and looks up once for each packet.
 pub fn seen_upto(
     alloc: Global,
     entries: &[Entering],
     height: Frac,
+    spare: Frac,
     slack: Frac,
     rate: Frac,
 ) -> Option<usize>
-    requires { int (pos 0) <ℚ height }
-    ensures { IfSome result (KeepsLine height slack rate entries.now) }
+    requires high { int (pos 0) <ℚ height }
+    requires some { int (pos 0) ≤ℚ spare }
+    ensures { IfSome result (KeepsLine height spare slack rate entries.now) }
 {
-    let Some(places) = places_of(alloc, entries, height, rate) else {
+    let Some(places) = places_of(alloc, entries, height, spare, rate) else {
         return None;
     };
     let laid = places.as_slice();

@@ -1,5 +1,3 @@
-use Rattle.std.proofs.Common.{◌∙◌, ap}
-use Rattle.rational.specs.Rational.{◌/ℚ◌}
 use Rattle.rational.proofs.Laws.{not_zero}
 use Rattle.step_lines.proofs.PlacedPairs.{is_fill}
 use Rattle.step_lines.proofs.places.fill_of.Goals as goal
@@ -8,6 +6,4 @@ pub div-requires : goal.div-requires
 div-requires c = not_zero c.args.height c.requires.height
 
 pub returns : goal.returns
-returns c =
-    is_fill c.args.height c.in-Ok.ratio c.whole_part-steps.result c.in-Ok-sub.over c.args.bits c.requires.height
-    (c.in-Ok.ensures.value ∙ ap (λ x. x /ℚ c.args.height) c.whole_of.ensures) c.whole_part-steps.ensures c.in-Ok-sub.ensures.value
+returns c = is_fill c.args.height c.in-Ok.ratio c.whole_part-steps.result c.in-Ok-sub.over c.args.amount c.requires.height c.requires.some c.in-Ok.ensures.value c.whole_part-steps.ensures c.in-Ok-sub.ensures.value

@@ -9,5 +9,5 @@ pub returns : goal.returns
 returns c =
     let es = c.args.entries.now in
     let ps = c.as_slice-laid.result.now in
-    line_kept c.args.height c.args.slack c.in-Ok-add.wide c.args.rate es ps c.within_upto-count.result c.requires (c.in-Ok-add.ensures.value ∙ ap (λ x. c.args.slack +ℚ x) c.one.ensures)
-    (subst (λ (qs : List Placed). ArePlaced c.args.height c.args.rate es qs (length es)) (sym c.as_slice-laid.ensures.value) c.in-Some.ensures) c.within_upto-count.ensures.in_range c.within_upto-count.ensures.keep
+    line_kept c.args.height c.args.spare c.args.slack c.in-Ok-add.wide c.args.rate es ps c.within_upto-count.result c.requires.high (c.in-Ok-add.ensures.value ∙ ap (λ x. c.args.slack +ℚ x) c.one.ensures)
+    (subst (λ (qs : List Placed). ArePlaced c.args.height c.args.spare c.args.rate es qs (length es)) (sym c.as_slice-laid.ensures.value) c.in-Some.ensures) c.within_upto-count.ensures.in_range c.within_upto-count.ensures.keep
