@@ -1,9 +1,9 @@
 -- The values of a line at two times.
 use Rattle.std.specs.Prelude.{◌≡◌, pos, Option, Some, None}
-use Rattle.std.proofs.Common.{refl, inl, inr}
+use Rattle.std.proofs.Common.{refl, inl, inr, sym, ap, ◌∙◌}
 use Rattle.fraction128.specs.rational.specs.Rational.{ℚ, ◌+ℚ◌, ◌*ℚ◌, ◌≤ℚ◌, ◌<ℚ◌, int}
 use Rattle.fraction128.specs.rational.specs.declared.Extended.TheVariants.{Fin}
-use Rattle.fraction128.specs.rational.proofs.Laws.{le_or_lt, lt_irrefl, lt_le_trans}
+use Rattle.fraction128.specs.rational.proofs.Laws.{le_or_lt, lt_irrefl, lt_le_trans, zero_mul, add_zero}
 use Rattle.fraction128.specs.rational.proofs.ExtendedOrder.{same_le_ext}
 use Rattle.fraction128.specs.rational.proofs.Lines.{line_rises, line_moved}
 use Rattle.affine_segment.specs.declared.line.Line.{Line}
@@ -12,6 +12,10 @@ use Rattle.affine_segment.specs.Values.{line_at, line_value}
 -- a line that does not fall
 pub value_rises : (l : Line) (s t : ℚ) → int (pos 0) ≤ℚ l.slope → s ≤ℚ t → line_at l s ≤ℚ line_at l t
 value_rises l s t r h = line_rises l.icept l.slope s t r h
+
+-- a level line
+pub level_value : (l : Line) (t : ℚ) → l.slope ≡ int (pos 0) → l.icept ≡ line_at l t
+level_value l t e = sym (ap (λ s. l.icept +ℚ s *ℚ t) e ∙ ap (λ y. l.icept +ℚ y) (zero_mul t) ∙ add_zero l.icept)
 
 -- higher is later
 pub value_later : (l : Line) (s t : ℚ) → int (pos 0) ≤ℚ l.slope → line_at l s <ℚ line_at l t → s <ℚ t

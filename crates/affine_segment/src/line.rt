@@ -31,6 +31,10 @@ pub fn value(line: &Line, t: Frac) -> Result<Frac, Wide>
     ensures value { IfOk result (λ v. v ≡ line_at line.now t) }
     ensures wide { IfErr result (IsWideValue line.now t) }
 {
+    // A level line, as of a stair, takes no product.
+    if line.slope == Frac::zero() {
+        return Ok(line.icept);
+    }
     let risen = Frac::mul(line.slope, t)?;
     Frac::add(line.icept, risen)
 }

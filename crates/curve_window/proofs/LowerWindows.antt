@@ -14,7 +14,7 @@ use Rattle.curve_window.specs.declared.made.Made.{Made}
 use Rattle.curve_window.specs.declared.made.Made.TheVariants.{Lower, Upper, Excess}
 use Rattle.curve_window.specs.Stretches.{EachBoth, StartTogether, IsBothOf, IsOverlay}
 use Rattle.curve_window.specs.Lies.{CrossesAt, LiesBy}
-use Rattle.curve_window.specs.Made.{made_line, first_piece, turn_piece, parts_by, listed, next_start, AreMade, StretchMadeFits}
+use Rattle.curve_window.specs.Made.{made_line, first_piece, turn_piece, parts_by, listed, next_start, AreMade, IsMadeWindow, StretchMadeFits, MadeWindowFits}
 use Rattle.curve_window.specs.Lower.{LinesFitAt, LowerStepsFit, LowerFits, IsLowerPiece, IsLowerOf}
 use Rattle.curve_window.proofs.Mapped.{each_map}
 use Rattle.curve_window.proofs.MadeReads.{made_reads, made_starts, made_length}
@@ -44,11 +44,8 @@ all_fit end b h = record {
   turn = λ k rises below x C past before. lines_fit x b.left.line b.right.line k below (h.turn rises x C past before);
 }
 
-pub lower_fits : (f g : List Piece) (end : ℚ) (bs : List Both) → LowerFits end f g → IsOverlay f g bs → EachBoth (StretchMadeFits end) bs
-lower_fits f g end bs h O = each_map (IsBothOf f g) (StretchMadeFits end) bs (λ b B. all_fit end b (h b B)) O.each
-
-pub lower_early : (f g : List Piece) (end : ℚ) (bs : List Both) → LowerFits end f g → IsOverlay f g bs → EachBoth (λ b. b.left.x <ℚ end) bs
-lower_early f g end bs h O = each_map (IsBothOf f g) (λ b. b.left.x <ℚ end) bs (λ b B. (h b B).early) O.each
+pub lower_steps : (f g : List Piece) (end : ℚ) → LowerFits end f g → MadeWindowFits end f g
+lower_steps f g end h b B = record { early = (h b B).early; steps = all_fit end b (h b B) }
 
 -- ---- a property of each piece
 record PartsHold (P : Piece → Type 0) (f g : List Piece) (end : ℚ) : Type 0 where
@@ -100,8 +97,11 @@ reads_lower end f g (b ∷ bs) ps t O M low high =
     made_reads Lower b bs end ps t M O.starts.1 (each_map (IsBothOf f g) StartTogether (b ∷ bs) (λ b B. B.together) O.each) (subst (λ x. x ≤ℚ t) (sym O.starts.0) low) high
     ∙ ap₂ min_ext (O.left t low) (O.right t low)
 
-pub lower_is : (end : ℚ) (f g : List Piece) (bs : List Both) (ps : List Piece) → LowerFits end f g → IsOverlay f g bs → AreMade Lower bs end ps → IsLowerOf f g end ps
-lower_is end f g bs ps h O M =
+pub lower_is : (end : ℚ) (f g : List Piece) (ps : List Piece) → LowerFits end f g → IsMadeWindow Lower f g end ps → IsLowerOf f g end ps
+lower_is end f g ps h W =
+    let bs = W.stretches in
+    let O = W.cut in
+    let M = W.made in
     let B = early_boths f g end bs h O in
     record {
       starts = made_starts Lower bs end ps M O.starts;

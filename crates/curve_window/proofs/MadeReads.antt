@@ -19,9 +19,9 @@ use Rattle.affine_segment.proofs.PieceIn.{value_past, value_at_start, read_go}
 use Rattle.curve_window.specs.declared.stretch.Both.{Both}
 use Rattle.curve_window.specs.declared.made.Made.{Made}
 use Rattle.curve_window.specs.declared.made.Made.TheVariants.{Lower, Upper, Excess}
-use Rattle.curve_window.specs.declared.made.Parts.{Parts}
 use Rattle.curve_window.specs.Stretches.{lefts, rights, EachBoth, StartTogether}
 use Rattle.curve_window.specs.Lies.{IsOrdered, LiesBy}
+use Rattle.curve_window.specs.declared.made.Parts.{Parts}
 use Rattle.curve_window.specs.Made.{made_value, made_line, zero_line, line_apart, first_piece, turn_piece, parts_by, parts_of, IsParts, turn_listed, listed, AreMade}
 use Rattle.curve_window.proofs.Surgery.{BeforeNext, read_first}
 use Rattle.curve_window.proofs.LinesLie.{before_crossing, after_crossing}

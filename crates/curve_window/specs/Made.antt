@@ -16,6 +16,7 @@ use Rattle.curve_window.specs.declared.lie.Lie.{Lie}
 use Rattle.curve_window.specs.declared.made.Made.{Made}
 use Rattle.curve_window.specs.declared.made.Parts.{Parts}
 use Rattle.curve_window.specs.declared.made.Made.TheVariants.{Lower, Upper, Excess}
+use Rattle.curve_window.specs.Stretches.{IsBothOf, IsOverlay}
 use Rattle.curve_window.specs.Lies.{CrossFits, CrossesAt, IsLie}
 
 -- ---- of values and of lines
@@ -91,6 +92,12 @@ AreMade k (b ∷ bs) end ps =
     (parts : Parts) × IsParts k b (next_start bs end) parts
     × ((rest : List Piece) × (ps ≡ listed parts rest) × AreMade k bs end rest)
 
+-- What is made of two windows up to `end`: the pieces of the stretches on which both go on with one line.
+pub record IsMadeWindow (k : Made) (f g : List Piece) (end : ℚ) (ps : List Piece) : Type 0 where
+  pub stretches : List Both
+  pub cut : IsOverlay f g stretches
+  pub made : AreMade k stretches end ps
+
 -- ---- steps that fit
 abbrev pub ValueApartFits : Ext → Ext → Type 0
 ValueApartFits Inf w = Unit {0}
@@ -109,3 +116,11 @@ pub record StretchMadeFits (end : ℚ) (b : Both) : Type 0 where
   pub cross : CrossFits b.left.line b.right.line
   pub turn : (k : Made) (rises below : Bool) (x : ℚ) → CrossesAt rises b.left.line b.right.line x → b.left.x <ℚ x
       → x <ℚ end → LineFitsAt x (made_line k below b.left.line b.right.line)
+
+-- The same of each stretch of two windows, which all start before `end`.
+pub record MadeStepsFit (end : ℚ) (b : Both) : Type 0 where
+  pub early : b.left.x <ℚ end
+  pub steps : StretchMadeFits end b
+
+abbrev pub MadeWindowFits : ℚ → List Piece → List Piece → Type 0
+MadeWindowFits end f g = (b : Both) → IsBothOf f g b → MadeStepsFit end b

@@ -7,7 +7,6 @@ ghost use Rattle.curve_window.specs.Made.{made_value, made_rises};
 ghost use Rattle.curve_window.specs.Operands.{HaveSizes, IsMadeOf};
 
 use crate::made::{Made, made_of};
-use crate::stretch::overlay;
 use affine_segment::Piece;
 use fraction128::Frac;
 use std::alloc::{AllocError, Global};
@@ -22,8 +21,7 @@ fn window_made(
     requires { HaveSizes end f.now g.now }
     ensures { IfOk result (λ v. IsMadeOf (made_value made) (made_rises made) f.now g.now end v.items) }
 {
-    let stretches = overlay(alloc, f, g)?;
-    made_of(alloc, made, &stretches, end)
+    made_of(alloc, made, f, g, end)
 }
 
 /// The lower of two windows at each time from 0 on and before `end`. Only a lack of memory is an error.

@@ -6,7 +6,6 @@ ghost use Rattle.curve_window.specs.Stretches.{CutsFit};
 ghost use Rattle.curve_window.specs.Lower.{LowerFits, IsLowerOf};
 
 use crate::made::{Made, made_of};
-use crate::stretch::overlay;
 use affine_segment::Piece;
 use fraction128::Frac;
 use std::alloc::{AllocError, Global};
@@ -25,6 +24,5 @@ pub fn window_lower(
     requires fits { LowerFits end f.now g.now }
     ensures { IfOk result (λ v. IsLowerOf f.now g.now end v.items) }
 {
-    let stretches = overlay(alloc, f, g)?;
-    made_of(alloc, Made::Lower, &stretches, end)
+    made_of(alloc, Made::Lower, f, g, end)
 }

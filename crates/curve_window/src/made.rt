@@ -1,16 +1,17 @@
 //! What is made of two windows at each time: the lower, the upper, and what the first has above the second.
 
-ghost use Rattle.std.specs.Prelude.{◌≡◌, ◌+◌, ◌<◌, pos, length, drop, IfOk};
-ghost use Rattle.rational.specs.Rational.{◌-ℚ◌, ◌≤ℚ◌, ◌<ℚ◌, neg_ℚ, int};
+ghost use Rattle.std.specs.Prelude.{◌≡◌, pos, IfOk};
+ghost use Rattle.rational.specs.Rational.{◌-ℚ◌, ◌≤ℚ◌, neg_ℚ, int};
 ghost use Rattle.rational.specs.Ratio.{SumFits};
 ghost use Rattle.rational.specs.MinMax.{min_q, max_q};
 ghost use Rattle.rational.specs.Extended.{min_ext, max_ext};
 ghost use Rattle.min_plus.specs.Pointwise.{excess};
-ghost use Rattle.curve_window.specs.Stretches.{EachBoth};
-ghost use Rattle.curve_window.specs.Made.{made_value, made_line, line_apart, zero_line, first_piece, next_start, IsParts, AreMade, ValueApartFits, LineApartFits, StretchMadeFits};
+ghost use Rattle.affine_segment.specs.Pieces.{StartsAtZero};
+ghost use Rattle.curve_window.specs.Stretches.{CutsFit};
+ghost use Rattle.curve_window.specs.Made.{made_value, made_line, line_apart, zero_line, first_piece, IsParts, IsMadeWindow, ValueApartFits, LineApartFits, StretchMadeFits, MadeWindowFits};
 
 use crate::lie::lie_of;
-use crate::stretch::{Both, cut};
+use crate::stretch::{Both, Walk, cut, present, start_of, step};
 use affine_segment::{Line, Piece};
 use fraction128::{Ext, Frac, difference, greater, greater_value, lesser_value};
 use rational::Extended;
@@ -113,6 +114,7 @@ fn first_of(made: Made, below: bool, b: &Both) -> Piece
 }
 
 // The pieces of a stretch.
+#[inline]
 fn parts_up_to(made: Made, b: &Both, to: Frac, end: Frac) -> Parts
     requires fits { StretchMadeFits end b.now }
     requires early { to ≤ℚ end }
@@ -129,35 +131,44 @@ fn parts_up_to(made: Made, b: &Both, to: Frac, end: Frac) -> Parts
     }
 }
 
-// Where the stretch after the i-th starts, and `end` where there is none.
-fn start_after(stretches: &[Both], i: usize, end: Frac) -> Frac
-    requires { i < length stretches.now }
-    ensures { result ≡ next_start (drop (i + 1) stretches.now) end }
-{
-    match stretches.get(i + 1) {
-        None => end,
-        Some(next) => next.left.x,
-    }
-}
-
-/// What is made of two windows' stretches up to `end`, two pieces of each at most.
+/// What is made of two windows up to `end`, in one pass over both: two pieces at most of each stretch on which both go
+/// on with one line.
 pub(crate) fn made_of(
     alloc: Global,
     made: Made,
-    stretches: &[Both],
+    f: &[Piece],
+    g: &[Piece],
     end: Frac,
 ) -> Result<Vec<Piece>, AllocError>
-    requires fits { EachBoth (StretchMadeFits end) stretches.now }
-    requires early { EachBoth (λ b. b.left.x <ℚ end) stretches.now }
-    ensures { IfOk result (λ v. AreMade made stretches.now end v.items) }
+    requires left { StartsAtZero f.now }
+    requires right { StartsAtZero g.now }
+    requires cuts { CutsFit f.now g.now }
+    requires fits { MadeWindowFits end f.now g.now }
+    ensures { IfOk result (λ v. IsMadeWindow made f.now g.now end v.items) }
 {
-    let mut pieces = Vec::with_capacity(alloc, stretches.len())?;
-    for (i, b) in stretches.iter().enumerate() {
-        let parts = parts_up_to(made, b, start_after(stretches, i, end), end);
+    let mut walk = Walk {
+        i: 1,
+        j: 1,
+        here: Both {
+            left: f[0],
+            right: g[0],
+        },
+    };
+    let mut pieces = Vec::with_capacity(alloc, f.len().saturating_add(g.len()))?;
+    let mut here = present(&walk);
+    while walk.i < f.len() || walk.j < g.len() {
+        step(f, g, &mut walk);
+        let parts = parts_up_to(made, &here, start_of(&walk), end);
         pieces.push(parts.first)?;
         if let Some(turn) = parts.turn {
             pieces.push(turn)?;
         }
+        here = present(&walk);
+    }
+    let last = parts_up_to(made, &here, end, end);
+    pieces.push(last.first)?;
+    if let Some(turn) = last.turn {
+        pieces.push(turn)?;
     }
     Ok(pieces)
 }

@@ -21,94 +21,121 @@ pub struct Both {
 }
 
 // The value of a line that may be missing, where its steps fit.
-fn readable_line(line: Option<Line>, x: Frac) -> Ext
-    requires { LineFitsAt x line }
-    ensures { result ≡ line_value line x }
+#[inline]
+fn readable_line(line: &Option<Line>, x: Frac) -> Ext
+    requires { LineFitsAt x line.now }
+    ensures { result ≡ line_value line.now x }
 {
     match line {
         None => Extended::Inf,
-        Some(l) => Extended::Fin(value(&l, x).unwrap()),
+        Some(l) => Extended::Fin(value(l, x).unwrap()),
     }
 }
 
 /// A piece from x on.
+#[inline]
 pub(crate) fn cut(p: &Piece, x: Frac) -> Piece
     requires { LineFitsAt x p.now.line }
     ensures { result ≡ cut_at p.now x }
 {
     Piece {
         x,
-        at: readable_line(p.line, x),
+        at: readable_line(&p.line, x),
         line: p.line,
     }
 }
 
-// Where the walk over both windows stands: the number of the next piece of each, and the present stretch.
+/// Where the walk over both windows stands: the number of the next piece of each, and the present stretch.
 #[derive(Debug, Clone, Copy)]
-struct Walk {
-    i: usize,
-    j: usize,
-    here: Both,
+pub(crate) struct Walk {
+    pub(crate) i: usize,
+    pub(crate) j: usize,
+    pub(crate) here: Both,
 }
 
-// The next piece of f comes first.
-fn take_left(p: Piece, w: &Walk) -> Walk
-    requires room { w.now.i + 1 < 2 ^ 64 }
-    requires fits { LineFitsAt p.x w.now.here.right.line }
-    ensures { result ≡ record { i = w.now.i + 1; j = w.now.j; here = record { left = p; right = cut_at w.now.here.right p.x } } }
+/// The present stretch of the walk.
+#[inline]
+pub(crate) fn present(w: &Walk) -> Both
+    ensures { result ≡ w.now.here }
 {
-    let right = cut(&w.here.right, p.x);
-    Walk {
-        i: w.i + 1,
-        j: w.j,
-        here: Both { left: p, right },
-    }
+    w.here
+}
+
+/// Where the present stretch of the walk starts.
+#[inline]
+pub(crate) fn start_of(w: &Walk) -> Frac
+    ensures { result ≡ w.now.here.left.x }
+{
+    w.here.left.x
+}
+
+// The next piece of f comes first. What goes on of g keeps its line in place, since a piece is long to copy.
+#[inline]
+fn take_left(p: &Piece, w: &mut Walk)
+    requires room { w.old.i + 1 < 2 ^ 64 }
+    requires fits { LineFitsAt p.now.x w.old.here.right.line }
+    ensures { w.new ≡ record { i = w.old.i + 1; j = w.old.j; here = record { left = p.now; right = cut_at w.old.here.right p.now.x } } }
+{
+    w.i += 1;
+    w.here.right.at = readable_line(&w.here.right.line, p.x);
+    w.here.right.x = p.x;
+    w.here.left = *p;
 }
 
 // The next piece of g comes first.
-fn take_right(q: Piece, w: &Walk) -> Walk
-    requires room { w.now.j + 1 < 2 ^ 64 }
-    requires fits { LineFitsAt q.x w.now.here.left.line }
-    ensures { result ≡ record { i = w.now.i; j = w.now.j + 1; here = record { left = cut_at w.now.here.left q.x; right = q } } }
+#[inline]
+fn take_right(q: &Piece, w: &mut Walk)
+    requires room { w.old.j + 1 < 2 ^ 64 }
+    requires fits { LineFitsAt q.now.x w.old.here.left.line }
+    ensures { w.new ≡ record { i = w.old.i; j = w.old.j + 1; here = record { left = cut_at w.old.here.left q.now.x; right = q.now } } }
 {
-    let left = cut(&w.here.left, q.x);
-    Walk {
-        i: w.i,
-        j: w.j + 1,
-        here: Both { left, right: q },
-    }
+    w.j += 1;
+    w.here.left.at = readable_line(&w.here.left.line, q.x);
+    w.here.left.x = q.x;
+    w.here.right = *q;
 }
 
-fn step_both(f: &[Piece], g: &[Piece], w: &Walk, p: Piece, q: Piece) -> Walk
-    requires next { slice_get f.now w.now.i ≡ Some p }
-    requires other { slice_get g.now w.now.j ≡ Some q }
-    requires fits { NextFits f.now g.now w.now }
-    ensures { IsStep f.now g.now w.now result }
+// The next pieces of both start together.
+#[inline]
+fn take_both(p: &Piece, q: &Piece, w: &mut Walk)
+    requires left { w.old.i + 1 < 2 ^ 64 }
+    requires right { w.old.j + 1 < 2 ^ 64 }
+    ensures { w.new ≡ record { i = w.old.i + 1; j = w.old.j + 1; here = record { left = p.now; right = q.now } } }
+{
+    w.i += 1;
+    w.j += 1;
+    w.here.left = *p;
+    w.here.right = *q;
+}
+
+fn step_both(f: &[Piece], g: &[Piece], w: &mut Walk, p: &Piece, q: &Piece)
+    requires next { slice_get f.now w.old.i ≡ Some p.now }
+    requires other { slice_get g.now w.old.j ≡ Some q.now }
+    requires fits { NextFits f.now g.now w.old }
+    ensures { IsStep f.now g.now w.old w.new }
 {
     match p.x.cmp(&q.x) {
         Ordering::Less => take_left(p, w),
         Ordering::Greater => take_right(q, w),
-        Ordering::Equal => Walk {
-            i: w.i + 1,
-            j: w.j + 1,
-            here: Both { left: p, right: q },
-        },
+        Ordering::Equal => take_both(p, q, w),
     }
 }
 
-fn step(f: &[Piece], g: &[Piece], w: &Walk) -> Walk
-    requires more { (w.now.i < length f.now) ⊎ (w.now.j < length g.now) }
-    requires fits { NextFits f.now g.now w.now }
-    ensures { IsStep f.now g.now w.now result }
+/// The next stretch of the walk.
+pub(crate) fn step(f: &[Piece], g: &[Piece], w: &mut Walk)
+    requires more { (w.old.i < length f.now) ⊎ (w.old.j < length g.now) }
+    requires fits { NextFits f.now g.now w.old }
+    ensures { IsStep f.now g.now w.old w.new }
 {
     match f.get(w.i) {
-        None => match g.get(w.j) {
-            None => *w,
-            Some(q) => take_right(*q, w),
-        },
+        None => {
+            if let Some(q) = g.get(w.j) {
+                take_right(q, w);
+            }
+        }
         Some(p) => match g.get(w.j) {
-            None => take_left(*p, w),
-            Some(q) => step_both(f, g, w, *p, *q),
+            None => take_left(p, w),
+            Some(q) => step_both(f, g, w, p, q),
         },
     }
 }
@@ -131,7 +158,7 @@ pub fn overlay(alloc: Global, f: &[Piece], g: &[Piece]) -> Result<Vec<Both>, All
     let mut stretches = Vec::with_capacity(alloc, f.len().saturating_add(g.len()))?;
     stretches.push(walk.here)?;
     while walk.i < f.len() || walk.j < g.len() {
-        walk = step(f, g, &walk);
+        step(f, g, &mut walk);
         stretches.push(walk.here)?;
     }
     Ok(stretches)

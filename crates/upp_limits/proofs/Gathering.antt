@@ -50,6 +50,13 @@ twice_size x t e = ap (λ n. n * 2) e ∙ sym (abs-mul x.num 2)
 pub twice_exact : (x : ℚ) (t b : ℕ) → t ≡ nat_abs x.num → b ≡ den x → t * 2 % b ≡ 0 → t * 2 / b ≡ size_up (int (pos 2) *ℚ x)
 twice_exact x t b e f h = size_exact (x.num *ℤ pos 2) x.pre (t * 2) b (twice_size x t e) f h ∙ ap size_up (sym (twice_frac x))
 
+-- that of a whole number
+pub twice_whole : (x : ℚ) (top bottom : ℕ) → top ≡ nat_abs x.num → bottom ≡ den x → bottom ≡ 1 → top * 2 ≡ size_up (int (pos 2) *ℚ x)
+twice_whole x top bottom t b one =
+    let m : top * 2 % 1 ≡ 0 = omega arith in
+    let d : top * 2 / 1 ≡ top * 2 = omega arith in
+    sym (ap (λ n. top * 2 / n) one ∙ d) ∙ twice_exact x top bottom t b (ap (λ n. top * 2 % n) one ∙ m)
+
 -- or not
 pub twice_over : (x : ℚ) (t b : ℕ) → t ≡ nat_abs x.num → b ≡ den x → (t * 2 % b ≡ 0 → ⊥) → t * 2 / b + 1 ≡ size_up (int (pos 2) *ℚ x)
 twice_over x t b e f h = size_over (x.num *ℤ pos 2) x.pre (t * 2) b (twice_size x t e) f h ∙ ap size_up (sym (twice_frac x))

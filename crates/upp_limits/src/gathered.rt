@@ -35,6 +35,10 @@ pub fn common_multiple(a: u128, b: u128) -> u128
     if b == u128::MAX {
         return b;
     }
+    // Most denominators are 1, and a division of 128 bits takes long.
+    if a == 1 {
+        return b;
+    }
     (a / gcd_of(a, b)).saturating_mul(b)
 }
 
@@ -44,6 +48,9 @@ fn twice_size_up(x: Frac) -> u128
 {
     let (top, bottom) = sizes(x);
     let double = top * 2;
+    if bottom == 1 {
+        return double;
+    }
     if double % bottom == 0 {
         double / bottom
     } else {

@@ -24,7 +24,7 @@ fn merged_after(alloc: Global, first: Piece, rest: &[Piece]) -> Result<Vec<Piece
     requires fits { Each (λ q. LineFitsAt q.x q.line) rest.now }
     ensures { IfOk result (λ v. (kept : List Piece) × (v.items ≡ first ∷ kept) × IsMerged first rest.now kept) }
 {
-    let mut kept = Vec::new(alloc);
+    let mut kept = Vec::with_capacity(alloc, rest.len().saturating_add(1))?;
     let mut open = first;
     for q in rest {
         if !continues(&open, q) {

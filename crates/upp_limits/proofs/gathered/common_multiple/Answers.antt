@@ -1,9 +1,17 @@
-use Rattle.std.proofs.Common.{arith, ◌<◌}
+use Rattle.std.proofs.Common.{arith, ◌≡◌, ℕ, ◌<◌, ◌*◌, ◌/◌, ◌∙◌, ap, sym, subst}
 use native.Mathlib.Nat.{pos_of_dvd_of_pos}
 use Rattle.upp_curve.specs.rational.specs.Gcd.{gcd}
+use Rattle.upp_curve.specs.rational.specs.Gauge.{lcm, Kept}
 use Rattle.upp_curve.specs.rational.specs.Euclid.{gcd_is}
 use Rattle.upp_curve.specs.rational.proofs.Gauges.{kept_lcm, kept_lcm_big}
+use Rattle.upp_curve.specs.fraction128.proofs.Coprime.{gcd_comm, gcd_one}
 use Rattle.upp_limits.proofs.gathered.common_multiple.Goals as goal
+
+lcm_one : (n : ℕ) → n ≡ lcm 1 n
+lcm_one n =
+    let e : gcd 1 n ≡ 1 = gcd_comm 1 n ∙ gcd_one n in
+    let h : 1 * n ≡ n = omega arith in
+    sym (ap (λ g. 1 / g * n) e ∙ h)
 
 pub returns-then-b-eq340282366920938463463374607431768211455 : goal.returns-then-b-eq340282366920938463463374607431768211455
 returns-then-b-eq340282366920938463463374607431768211455 c =
@@ -18,3 +26,6 @@ nonzero_div-a c =
 pub returns : goal.returns
 returns c =
     λ n k. kept_lcm c.args.a c.args.b n c.gcd_of.result c.saturating_mul.result c.requires c.if-b-eq340282366920938463463374607431768211455.false c.gcd_of.ensures c.saturating_mul.ensures k
+
+pub returns-then-a-eq1 : goal.returns-then-a-eq1
+returns-then-a-eq1 c = λ n k. subst (λ a. Kept c.args.b (lcm a n)) (sym c.if-a-eq1.true) (subst (Kept c.args.b) (lcm_one n) k)

@@ -1,4 +1,4 @@
-use Rattle.upp_limits.proofs.Gathering.{twice_exact, twice_over}
+use Rattle.upp_limits.proofs.Gathering.{twice_exact, twice_over, twice_whole}
 use Rattle.upp_limits.proofs.gathered.twice_size_up.Goals as goal
 
 pub returns-then-double-bottom-eq0 : goal.returns-then-double-bottom-eq0
@@ -8,3 +8,7 @@ returns-then-double-bottom-eq0 c =
 pub returns-else-double-bottom-eq0 : goal.returns-else-double-bottom-eq0
 returns-else-double-bottom-eq0 c =
     twice_over c.args.x c.sizes-top.result.0 c.sizes-top.result.1 c.sizes-top.ensures.top c.sizes-top.ensures.bottom c.if-double-bottom-eq0.false
+
+pub returns-then-bottom-eq1 : goal.returns-then-bottom-eq1
+returns-then-bottom-eq1 c =
+    twice_whole c.args.x c.sizes-top.result.0 c.sizes-top.result.1 c.sizes-top.ensures.top c.sizes-top.ensures.bottom c.if-bottom-eq1.true
