@@ -101,6 +101,9 @@ pub over_one : (x e : ℚ) → x ≤ℚ e → x ≤ℚ int (pos (0 + 1)) *ℚ e
 over_one x e h = subst (λ y. x ≤ℚ y) (sym (one_mul e)) h
 
 -- ---- enough periods
+pub more_times : (n : ℕ) (d : ℚ) → int (pos (n + 1)) *ℚ d ≡ int (pos n) *ℚ d +ℚ d
+more_times n d = let next : n + 1 ≡ suc n = omega arith in ap (λ i. int (pos i) *ℚ d) next ∙ one_more_times n d
+
 slow_rate : (f g : SpecCurve) → rate f <ₑ rate g → (r : ℚ) × (rate f ≡ Fin r)
 slow_rate f g h = elim (ext_cases (rate f)) [ inl e ↦ absurd (none (rate g) (subst (λ x. x <ₑ rate g) e h)) | inr r ↦ r ]
   where
@@ -137,11 +140,8 @@ after_enough slow fast from d end e n C up E bound = λ t h l.
     let T = late_times slow fast from d end C in
     late_enough (value_at slow) (value_at fast) (steady slow) (own_or d slow) (steady fast) (own_or d fast) d (rise_over slow (own_or d slow)) (rise_over fast (own_or d fast)) (rise_over slow d) (rise_over fast d) e
     (int (pos (n + 1))) t T.first.nonneg T.second.nonneg (mul_nonneg (nat_nonneg (n + 1)) (le_of_lt C.some)) (are_turning slow fast from d end e C up E) E bound
-    (past (steady slow) (steady fast) d from t (int (pos n) *ℚ d) (int (pos (n + 1)) *ℚ d) C.from_is (one_more n) h)
+    (past (steady slow) (steady fast) d from t (int (pos n) *ℚ d) (int (pos (n + 1)) *ℚ d) C.from_is (more_times n d) h)
   where
-    one_more : (m : ℕ) → int (pos (m + 1)) *ℚ d ≡ int (pos m) *ℚ d +ℚ d
-    one_more m = let next : m + 1 ≡ suc m = omega arith in ap (λ i. int (pos i) *ℚ d) next ∙ one_more_times m d
-
     past : (x y d from t v w : ℚ) → from ≡ x +ℚ y +ℚ d → w ≡ v +ℚ d → from +ℚ v ≤ℚ t → x +ℚ y +ℚ w ≤ℚ t
     past x y d from t v w start more late = with7 x y d from t v w (λ c. omega (arith, c.le, c.lt, c.same))
 
@@ -151,12 +151,16 @@ bounds_none slow fast from d x zero e f none =
     let N = none_early slow fast from d (λ h. none (subst (λ y. y <ℚ x) (sym e) (subst (λ y. int (pos 0) <ℚ y) (sym f) h))) in
     record { number = 0; is = N; low = omega arith; high = omega arith; late = N.late }
 
-pub bounds_found : (slow fast : SpecCurve) (from d end : ℚ) (e : Extremes) (gap lead : ℚ) (n : ℕ) → IsLateCall slow fast from d end → ¬ (rate slow <ₑ rate (level_curve (int (pos 0)))) → AreCurveExtremes slow fast d e
-    → gap ≡ most_gap e → lead ≡ rise_over fast d -ℚ rise_over slow d → gap ≤ℚ int (pos (n + 1)) *ℚ lead → IsLateBounds slow fast from d record { low = 0; high = n }
-bounds_found slow fast from d end e gap lead n C up E h k bound =
-    let here = after_enough slow fast from d end e n C up E (subst (λ x. x ≤ℚ int (pos (n + 1)) *ℚ (rise_over fast d -ℚ rise_over slow d)) h (subst (λ y. gap ≤ℚ int (pos (n + 1)) *ℚ y) k bound)) in
+pub bounds_after : (slow fast : SpecCurve) (from d end : ℚ) (n : ℕ) → IsLateCall slow fast from d end → IsLateAfter slow fast from d n → IsLateBounds slow fast from d record { low = 0; high = n }
+bounds_after slow fast from d end n C here =
     let M = number_found slow fast from d end n C here in
     record { number = M.number; is = M.is; low = omega arith; high = M.most; late = M.late }
+
+pub far_number_is : (slow fast : SpecCurve) (from d end : ℚ) (e : Extremes) (gap lead : ℚ) (r : Option ℕ) → IsLateCall slow fast from d end → ¬ (rate slow <ₑ rate (level_curve (int (pos 0))))
+    → AreCurveExtremes slow fast d e → gap ≡ most_gap e → lead ≡ rise_over fast d -ℚ rise_over slow d → IfSome r (λ n. gap ≤ℚ int (pos (n + 1)) *ℚ lead) → IfSome r (IsLateAfter slow fast from d)
+far_number_is slow fast from d end e gap lead None C up E h k bound = tt
+far_number_is slow fast from d end e gap lead (Some n) C up E h k bound =
+    after_enough slow fast from d end e n C up E (subst (λ x. x ≤ℚ int (pos (n + 1)) *ℚ (rise_over fast d -ℚ rise_over slow d)) h (subst (λ y. gap ≤ℚ int (pos (n + 1)) *ℚ y) k bound))
 
 -- ---- for either order of the rates
 pub bounds_first : (f g : SpecCurve) (from d : ℚ) (r : Option Bounds) → rate f <ₑ rate g → IfSome r (IsLateBounds f g from d) → IfSome r (IsSlowerBounds f g from d)

@@ -1,15 +1,16 @@
 //! Between which numbers of periods the least one of a convolution is, from few numbers of each curve.
 
-ghost use Rattle.std.specs.Prelude.{◌+◌, pos, IfSome};
-ghost use Rattle.rational.specs.Rational.{int, ◌*ℚ◌, ◌≤ℚ◌, ◌<ℚ◌};
-ghost use Rattle.curve_conv.specs.Late.{IsLateCall, IsPartsCall};
+ghost use Rattle.std.specs.Prelude.{◌≡◌, ◌+◌, pos, IfSome};
+ghost use Rattle.rational.specs.Rational.{int, ◌-ℚ◌, ◌*ℚ◌, ◌≤ℚ◌, ◌<ℚ◌};
+ghost use Rattle.upp_curve.specs.Steady.{steady, rise_over};
+ghost use Rattle.curve_conv.specs.Late.{IsLateAfter, IsLateCall, IsPartsCall};
 ghost use Rattle.curve_conv.specs.LateBounds.{IsLateBounds, IsSlowerBounds};
 
-use crate::extremes::{extremes_of, most_gap};
+use crate::extremes::{depth_over, extremes_of, most_gap, rest, sum, top_over};
 use crate::number::lead;
 use crate::order::is_slower_curve;
 use crate::rows::Scan;
-use curve_call::begin;
+use curve_call::{begin, rise_over};
 use curve_least::{Bounds, Side, is_slower, zero_level};
 use fraction128::{Frac, is_less};
 use upp_curve::Curve;
@@ -28,7 +29,59 @@ fn periods_over(gap: Frac, lead: Frac) -> Option<u128>
     }
 }
 
-// Of two curves of which the first is the slower: none where it falls in the long run.
+// A number of periods that is enough where the slower curve repeats within a period: by the most that it is a period after
+// the times before `first`, from which on it repeats, and the least that it is before. None where it repeats later.
+fn soon_number(s: &Scan, first: Frac, lead: Frac, from: Frac, period: Frac) -> Option<u128>
+    requires call { IsLateCall s.now.first.now s.now.second.now from period s.now.end }
+    requires first { first ≡ steady s.now.first.now }
+    requires before { int (pos 0) <ℚ first }
+    requires lead { lead ≡ rise_over s.now.second.now period -ℚ rise_over s.now.first.now period }
+    requires some { int (pos 0) <ℚ lead }
+    ensures { IfSome result (IsLateAfter s.now.first.now s.now.second.now from period) }
+{
+    if is_less(period, first) {
+        return None;
+    }
+    let end = sum(first, period)?;
+    let top = top_over(s.first, period, end)?;
+    let depth = depth_over(s.first, Frac::zero(), end)?;
+    let gap = sum(top, depth)?;
+    let gained = rest(gap, rise_over(s.first, period))?;
+    periods_over(gained, lead)
+}
+
+// By what both curves do in a period of their own: none where the slower one falls in the long run.
+fn far_number(s: &Scan, first: Frac, lead: Frac, from: Frac, period: Frac) -> Option<u128>
+    requires call { IsLateCall s.now.first.now s.now.second.now from period s.now.end }
+    requires first { first ≡ steady s.now.first.now }
+    requires lead { lead ≡ rise_over s.now.second.now period -ℚ rise_over s.now.first.now period }
+    requires some { int (pos 0) <ℚ lead }
+    ensures { IfSome result (IsLateAfter s.now.first.now s.now.second.now from period) }
+{
+    if is_slower(&Side::of(s.first), &zero_level()) {
+        return None;
+    }
+    let e = extremes_of(s, first, begin(s.second), from, period)?;
+    let gap = most_gap(&e)?;
+    periods_over(gap, lead)
+}
+
+// A number of periods that is enough: the first of both that is found.
+fn enough_number(s: &Scan, first: Frac, lead: Frac, from: Frac, period: Frac) -> Option<u128>
+    requires call { IsLateCall s.now.first.now s.now.second.now from period s.now.end }
+    requires first { first ≡ steady s.now.first.now }
+    requires before { int (pos 0) <ℚ first }
+    requires lead { lead ≡ rise_over s.now.second.now period -ℚ rise_over s.now.first.now period }
+    requires some { int (pos 0) <ℚ lead }
+    ensures { IfSome result (IsLateAfter s.now.first.now s.now.second.now from period) }
+{
+    match soon_number(s, first, lead, from, period) {
+        Some(number) => Some(number),
+        None => far_number(s, first, lead, from, period),
+    }
+}
+
+// Of two curves of which the first is the slower.
 fn bounds_of(s: &Scan, from: Frac, period: Frac) -> Option<Bounds>
     requires { IsLateCall s.now.first.now s.now.second.now from period s.now.end }
     ensures { IfSome result (IsLateBounds s.now.first.now s.now.second.now from period) }
@@ -38,23 +91,19 @@ fn bounds_of(s: &Scan, from: Frac, period: Frac) -> Option<Bounds>
     if !is_less(zero, first) {
         return Some(Bounds { low: 0, high: 0 });
     }
-    if is_slower(&Side::of(s.first), &zero_level()) {
-        return None;
-    }
     let lead = lead(s, from, period);
     if !is_less(zero, lead) {
         return None;
     }
-    let e = extremes_of(s, first, begin(s.second), from, period)?;
-    let gap = most_gap(&e)?;
-    let high = periods_over(gap, lead)?;
+    let high = enough_number(s, first, lead, from, period)?;
     Some(Bounds { low: 0, high })
 }
 
-/// Bounds of what `late_periods` looks for, from one period of each curve and what the slower one is before it; 0 and 0
-/// for curves of one rate, and for a slower one that repeats from 0 on. As many periods as the upper one are enough
-/// too. None where the slower curve falls in the long run or is infinite in its period, or the faster one is infinite
-/// where its period begins. No memory is taken, and nothing is unrolled.
+/// Bounds of what `late_periods` looks for; 0 and 0 for curves of one rate, and for a slower one that repeats from 0 on.
+/// As many periods as the upper one are enough too. It is found from the slower curve alone, where that repeats within a
+/// period: from what it is before, and a period later. Else it is found from one period of each curve and what the slower
+/// one is before; then there may be none where the slower one falls in the long run or is infinite in its period, or the
+/// faster one is infinite where its period begins. No memory is taken, and nothing is unrolled.
 pub fn late_bounds(f: &Curve, g: &Curve, from: Frac, period: Frac, end: Frac) -> Option<Bounds>
     requires { IsPartsCall f.now g.now from period end }
     ensures { IfSome result (IsSlowerBounds f.now g.now from period) }

@@ -1,7 +1,7 @@
 //! What two curves do in the first period of their own from when on they repeat, and before that. No memory is taken.
 
 ghost use Rattle.std.specs.Prelude.{◌≡◌, pos, IfSome};
-ghost use Rattle.rational.specs.Rational.{ℚ, int, ◌+ℚ◌};
+ghost use Rattle.rational.specs.Rational.{ℚ, int, ◌+ℚ◌, ◌-ℚ◌};
 ghost use Rattle.rational.specs.declared.Extended.TheVariants.{Fin};
 ghost use Rattle.upp_curve.specs.Curve.{value_at};
 ghost use Rattle.upp_curve.specs.Steady.{steady};
@@ -34,8 +34,8 @@ pub(crate) struct Extremes {
     pub(crate) fast_rise: Frac,
 }
 
-// A number that a curve is nowhere above from `from` up to `end`; none where it is infinite somewhere.
-fn top_over(c: &Curve, from: Frac, end: Frac) -> Option<Frac>
+/// A number that a curve is nowhere above from `from` up to `end`; none where it is infinite somewhere.
+pub(crate) fn top_over(c: &Curve, from: Frac, end: Frac) -> Option<Frac>
     requires { (z : Sizes) × HasWindow z end c.now × HasWindow z end (level_curve (int (pos 0))) × IsTimeIn z end from }
     ensures { IfSome result (IsTop (value_at c.now) from end) }
 {
@@ -45,8 +45,8 @@ fn top_over(c: &Curve, from: Frac, end: Frac) -> Option<Frac>
     }
 }
 
-// A number that 0 is nowhere more than above a curve from `from` up to `end`; none where it is finite nowhere.
-fn depth_over(c: &Curve, from: Frac, end: Frac) -> Option<Frac>
+/// A number that 0 is nowhere more than above a curve from `from` up to `end`; none where it is finite nowhere.
+pub(crate) fn depth_over(c: &Curve, from: Frac, end: Frac) -> Option<Frac>
     requires { (z : Sizes) × HasWindow z end c.now × HasWindow z end (level_curve (int (pos 0))) × IsTimeIn z end from }
     ensures { IfSome result (IsDepth (value_at c.now) from end) }
 {
@@ -67,11 +67,18 @@ fn value_there(c: &Curve, t: Frac) -> Option<Frac>
     }
 }
 
-// a + b, where it fits.
-fn sum(a: Frac, b: Frac) -> Option<Frac>
+/// a + b, where it fits.
+pub(crate) fn sum(a: Frac, b: Frac) -> Option<Frac>
     ensures { IfSome result (λ s. s ≡ a +ℚ b) }
 {
     Frac::add(a, b).ok()
+}
+
+/// a - b, where it fits.
+pub(crate) fn rest(a: Frac, b: Frac) -> Option<Frac>
+    ensures { IfSome result (λ s. s ≡ a -ℚ b) }
+{
+    Frac::sub(a, b).ok()
 }
 
 /// What both curves do, where the slower one is a number all through its period, and the faster one where its period

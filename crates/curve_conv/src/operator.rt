@@ -98,7 +98,6 @@ fn frame_between(
     let Some(bounds) = late_bounds(f, g, from, first.period, first.end) else {
         return Ok(None);
     };
-    refuse_between(&kind, f, g, bounds.low, bounds.high)?;
     match within(&kind, f, g, bounds.high) {
         Ok(frame) => {
             // To look for the least number costs a few times the pairs of the first window.
@@ -107,7 +106,10 @@ fn frame_between(
             }
             Ok(Some(frame))
         }
-        Err(_) => Ok(None),
+        Err(_) => {
+            refuse_between(&kind, f, g, bounds.low, bounds.high)?;
+            Ok(None)
+        }
     }
 }
 

@@ -5,12 +5,12 @@ use Rattle.curve_conv.proofs.operator.frame_between.Goals as goal
 pub late_bounds-requires : goal.late_bounds-requires
 late_bounds-requires c = parts_call c.args.f.now c.args.g.now c.args.first.now c.args.from c.requires.curves c.requires.window c.requires.from
 
-pub returns-in_err-refuse_between-clause-refused : goal.returns-in_err-refuse_between-clause-refused
-returns-in_err-refuse_between-clause-refused c =
+pub returns-in_err-refuse_between-in-Err-clause-refused : goal.returns-in_err-refuse_between-in-Err-clause-refused
+returns-in_err-refuse_between-in-Err-clause-refused c =
     let p = err_from_is_err_and c.from_residual.result c.from_residual.ensures.1 in
     let B = c.in-Some.ensures in
     rw (p.1, p.2)
-    (refused_by c.args.f.now c.args.g.now c.args.first.now c.args.from B.number _ c.requires.curves c.requires.window c.requires.from B.is (c.in_err-refuse_between.ensures B.number B.low B.high))
+    (refused_by c.args.f.now c.args.g.now c.args.first.now c.args.from B.number _ c.requires.curves c.requires.window c.requires.from B.is (c.in_err-refuse_between-in-Err.ensures B.number B.low B.high))
 
 pub returns-else-tally_over-clause-frame : goal.returns-else-tally_over-clause-frame
 returns-else-tally_over-clause-frame c = (
