@@ -11,7 +11,7 @@ use Rattle.rational.proofs.Linear.{with2}
 use Rattle.rational.proofs.Integers.{nat_nonneg, nat_le, nat_le_out}
 use Rattle.rational.proofs.Grid.{whole_int, whole_add, max_whole}
 use Rattle.rational.proofs.MinMax.{max_q_ge_right}
-use Rattle.upp_limits.specs.Limits.{Numbers, Sizes, joined, value_alone, sizes_of, gauge_of}
+use Rattle.upp_limits.specs.Limits.{Numbers, joined, value_alone, sizes_of, gauge_of}
 use Rattle.upp_limits.specs.Sized.{AreSizes, Stands, HeldBy}
 use Rattle.upp_limits.proofs.CommonDen.{common_den_each, same_common_den}
 use Rattle.upp_limits.proofs.Every.{every_left}

@@ -18,7 +18,8 @@ fn is_name_byte(byte: u8) -> bool
     matches!(byte, b'a'..=b'z' | b'A'..=b'Z' | b'0'..=b'9' | b'_' | b'-')
 }
 
-fn are_name_bytes(bytes: &[u8]) -> bool
+/// Whether all bytes are letters, digits, `_` and `-`.
+pub fn are_name_bytes(bytes: &[u8]) -> bool
     ensures { result ≡ list_all naming.is_name_byte bytes.now }
 {
     bytes.iter().all(|byte| is_name_byte(*byte))

@@ -8,20 +8,8 @@ ghost use Rattle.table_text.specs.Paths as spec;
 
 use crate::fault::TableKind;
 use fraction128::read_digits;
-use net_model::PathEntry;
+use net_model::{PathEntry, are_name_bytes};
 use std::alloc::Global;
-
-fn is_name_byte(b: u8) -> bool
-    ensures { result ≡ names.is_name_byte b }
-{
-    (97 <= b && b <= 122) || (65 <= b && b <= 90) || (48 <= b && b <= 57) || b == 95 || b == 45
-}
-
-fn are_name_bytes(text: &[u8]) -> bool
-    ensures { result ≡ list_all names.is_name_byte text.now }
-{
-    text.iter().all(|b| is_name_byte(*b))
-}
 
 fn is_name(text: &[u8]) -> bool
     ensures { result ≡ spec.is_name text.now }
