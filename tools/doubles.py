@@ -182,6 +182,7 @@ ABBREV = re.compile(r'^(?:abbrev|unfoldable) (?:pub )?(\S+) : ')
 RECORD = re.compile(r'^(?:pub )?record (\S+)')
 BINDER = re.compile(r'[({]([^\W\d][^\s(){}:]*(?: [^\s(){}:]+)*) : ')
 IMPORT = re.compile(r'^(?:pub )?use Rattle\.([\w.]+)\.\{([^}]*)\}', re.M)
+HANDED_ON = re.compile(r'^pub use Rattle\.([\w.]+)\.\{([^}]*)\}', re.M)
 LAMBDA = re.compile(r'λ ([^.()]+)\.')
 
 
@@ -242,8 +243,14 @@ def module_of(path):
 
 def definitions(paths):
     """What each definition of each module says."""
-    return {module_of(path): {name: hash(key) for key, name, line, kind in named_statements(path) if kind == 'definition'}
+    said = {module_of(path): {name: hash(key) for key, name, line, kind in named_statements(path) if kind == 'definition'}
             for path in paths}
+    for path in paths:  # what a module hands on
+        for module, names in HANDED_ON.findall(path.read_text()):
+            for name in names.replace('\n', ' ').split(','):
+                if name.strip() in said.get(module, {}):
+                    said[module_of(path)].setdefault(name.strip(), said[module][name.strip()])
+    return said
 
 
 def statements(path, defined):
