@@ -20,4 +20,3 @@ Serving f = IsServed (value_at f)
 
 abbrev pub Grows : SpecCurve → Type 0
 Grows f = GrowsFromZero (value_at f)
-

@@ -128,7 +128,7 @@ pub fn side_bounds(f: &Side, g: &Side, from: Frac, period: Frac) -> Option<Bound
     requires { (z : Sizes) × AreCompared z from period f.now g.now }
     ensures { IfSome result
         (AreBounds (λ k. IsSlowerBelow (value_at f.now) (value_at g.now) (rate f.now) (rate g.now)
-            (periods_after from k period) period)) }
+        (periods_after from k period) period)) }
 {
     if is_slower(f, g) {
         return bounds_below(f, g, from, period);
@@ -144,7 +144,7 @@ pub fn period_bounds(f: &Curve, g: &Curve, from: Frac, period: Frac) -> Option<B
     requires { (z : Sizes) × AreCompared z from period f.now g.now }
     ensures { IfSome result
         (AreBounds (λ k. IsSlowerBelow (value_at f.now) (value_at g.now) (rate f.now) (rate g.now)
-            (periods_after from k period) period)) }
+        (periods_after from k period) period)) }
 {
     side_bounds(&Side::of(f), &Side::of(g), from, period)
 }

@@ -57,8 +57,11 @@ first_piece k below b =
 -- from where its lines change places
 abbrev pub turn_piece : Made → Bool → Both → ℚ → Piece
 turn_piece k below b x =
-    record { x = x; at = line_value (made_line k below b.left.line b.right.line) x;
-    line = made_line k below b.left.line b.right.line }
+    record {
+      x = x;
+      at = line_value (made_line k below b.left.line b.right.line) x;
+      line = made_line k below b.left.line b.right.line;
+    }
 
 abbrev pub parts_by : Made → Both → Bool → Option ℚ → Parts
 parts_by k b below None = record { first = first_piece k below b; turn = None }

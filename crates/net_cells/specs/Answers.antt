@@ -111,10 +111,10 @@ AnswersFrom at (priority f F lower) fs r = ThenCurve (AnswersFrom at F []) (λ g
 AnswersFrom at (deficit f quanta longest queue) fs r = MakesCurve (MakesDrr f quanta longest queue) r
 AnswersFrom at (horizontal F G) fs r =
     ThenCurves (AnswersFrom at F []) (AnswersFrom at G [])
-        (λ f g. MakesNumber (Deviates Horizontal IsHorizontalDeviation f g)) r
+    (λ f g. MakesNumber (Deviates Horizontal IsHorizontalDeviation f g)) r
 AnswersFrom at (vertical F G) fs r =
     ThenCurves (AnswersFrom at F []) (AnswersFrom at G [])
-        (λ f g. MakesNumber (Deviates Vertical IsVerticalDeviation f g)) r
+    (λ f g. MakesNumber (Deviates Vertical IsVerticalDeviation f g)) r
 AnswersFrom at (smaller F G) fs r =
     ThenNumbers (AnswersFrom at F []) (AnswersFrom at G []) (λ x y. IsOnly (λ v. v ≡ number (min_ext x y))) r
 AnswersFrom at (along cells links) fs r = ThenCells at cells (λ xs. MakesNumber (Sums (with_links xs links))) r

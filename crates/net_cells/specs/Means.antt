@@ -88,15 +88,15 @@ MeansFrom at (part F G) fs v = OfCurve (MeansFrom at F []) (λ f. MeansFrom at G
 MeansFrom at no_part fs v = IsSumOf fs v
 MeansFrom at (leftover F G T) fs v =
     OfCurves (MeansFrom at F []) (MeansFrom at G [])
-        (λ f g. OfNumber (MeansFrom at T []) (λ x. IsCurveIn (IsMadeBy (FifoLeft x) f g))) v
+    (λ f g. OfNumber (MeansFrom at T []) (λ x. IsCurveIn (IsMadeBy (FifoLeft x) f g))) v
 MeansFrom at (priority f F lower) fs v = OfCurve (MeansFrom at F []) (λ g. IsCurveIn (IsPriorityCurve f g lower)) v
 MeansFrom at (deficit f quanta longest queue) fs v = IsCurveIn (IsDrrCurve f quanta longest queue) v
 MeansFrom at (horizontal F G) fs v =
     OfCurves (MeansFrom at F []) (MeansFrom at G [])
-        (λ f g. IsNumberIn (IsHorizontalDeviation (value_at f) (value_at g))) v
+    (λ f g. IsNumberIn (IsHorizontalDeviation (value_at f) (value_at g))) v
 MeansFrom at (vertical F G) fs v =
     OfCurves (MeansFrom at F []) (MeansFrom at G [])
-        (λ f g. IsNumberIn (IsVerticalDeviation (value_at f) (value_at g))) v
+    (λ f g. IsNumberIn (IsVerticalDeviation (value_at f) (value_at g))) v
 MeansFrom at (smaller F G) fs v = OfNumbers (MeansFrom at F []) (MeansFrom at G [])
     (λ x y w. w ≡ number (min_ext x y)) v
 MeansFrom at (along cells links) fs v = OfCells at cells (λ xs w. w ≡ number (sum_of_numbers (with_links xs links))) v

@@ -65,8 +65,8 @@ stretches w = stretches_in w (stops w) w.arrivals.items
 -- ---- turns
 -- t, where the pace changes there
 abbrev pub change_at : Watched → ℚ → List ℚ
-change_at w t = if same_q (rate_before (spans_of w.works.items) t)
-    (rate_after (spans_of w.works.items) t) then [] else t ∷ []
+change_at w t =
+    if same_q (rate_before (spans_of w.works.items) t) (rate_after (spans_of w.works.items) t) then [] else t ∷ []
 
 abbrev pub changes_in : Watched → List Ramp → List ℚ
 changes_in w [] = []

@@ -41,11 +41,11 @@ abbrev pub SimulationsFit : Type 0
 SimulationsFit = (net : Net) (trace : SpecTrace) → IsAccepted net → IsTrace trace → IsTraceOf net trace
     → IsFeedForward net
     → simulation_gauge net trace < 2 ^ 120
-        → RunFits (setup_of net trace) (grid_of net trace) (horizon (setup_of net trace))
+    → RunFits (setup_of net trace) (grid_of net trace) (horizon (setup_of net trace))
 
 -- and so have the numbers on the way to the horizon, with the gates' times for their bits in one sum: where a step
 -- there, or that sum, does not fit, the gauge is 2 ^ 120 or more
 abbrev pub HorizonsFit : Type 0
 HorizonsFit = (net : Net) (trace : SpecTrace) → IsAccepted net → IsTrace trace → IsTraceOf net trace → IsFeedForward net
     → simulation_gauge net trace < 2 ^ 120
-        → HorizonFits (setup_of net trace) (grid_of net trace) (horizon (setup_of net trace))
+    → HorizonFits (setup_of net trace) (grid_of net trace) (horizon (setup_of net trace))

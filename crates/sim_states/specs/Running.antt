@@ -79,8 +79,12 @@ enter_first (Some e) n = Some record { time = e.time; kind = kinds.Enter; server
 abbrev pub reach_first : List Arrival → Option ℕ → Option Due
 reach_first arrivals None = None
 reach_first arrivals (Some p) =
-    Some record { time = (arrival_at arrivals p).time; kind = kinds.Reach; server = (arrival_at arrivals p).server;
-        packet = p }
+    Some record {
+      time = (arrival_at arrivals p).time;
+      kind = kinds.Reach;
+      server = (arrival_at arrivals p).server;
+      packet = p;
+    }
 
 -- the step at a server
 abbrev pub station_due : Option Station → ℕ → Option Due
@@ -92,7 +96,7 @@ abbrev pub IsCandidate : Setup → List Station → Chains → List Arrival → 
 IsCandidate S stations links arrivals entered k d =
     (enter_first (slice_get S.packets entered) entered ≡ Some d)
     ⊎ ((s : ℕ) × (s < k) × ((station_due (slice_get stations s) s ≡ Some d)
-        ⊎ (reach_first arrivals (first_of (list_at links s)) ≡ Some d)))
+    ⊎ (reach_first arrivals (first_of (list_at links s)) ≡ Some d)))
 
 -- the first of them; none where there is none
 abbrev pub IsFirstCandidate : Setup → List Station → Chains → List Arrival → ℕ → ℕ → Option Due → Type 0

@@ -11,4 +11,4 @@ abbrev pub KeepsLine : ℚ → ℚ → ℚ → List Entering → ℕ → Type 0
 KeepsLine height slack rate es upto = (i j : ℕ) → i ≤ j → j < upto
     → int (pos 0) ≤ℚ slack +ℚ rate *ℚ ((entering es j).time -ℚ (entering es i).time)
     → (n : ℕ) × (whole (bits_between i j es) ≤ℚ whole (suc n) *ℚ height)
-        × (whole n ≤ℚ slack +ℚ rate *ℚ ((entering es j).time -ℚ (entering es i).time))
+    × (whole n ≤ℚ slack +ℚ rate *ℚ ((entering es j).time -ℚ (entering es i).time))

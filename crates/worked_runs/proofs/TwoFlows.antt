@@ -16,7 +16,6 @@ use Rattle.worked_runs.proofs.TwoFlowsTable.{table, meets}
 use Rattle.worked_runs.proofs.TwoFlowsRuns.{first_flow_last_delay, second_flow_last_delay}
 use Rattle.worked_runs.proofs.OneFlow.{its_server, is_server}
 
-
 is_first : IsFlow two_flows.servers first_flow
 is_first = is_one_hop_flow two_flows.servers (codes "f1") 0 12000 10 (named_by_two 102 49 refl refl) (omega arith) (omega arith)
     record { server = its_server; is = refl; has_queue = omega arith; takes = tt }
