@@ -101,7 +101,7 @@ pub over_one : (x e : ℚ) → x ≤ℚ e → x ≤ℚ int (pos (0 + 1)) *ℚ e
 over_one x e h = subst (λ y. x ≤ℚ y) (sym (one_mul e)) h
 
 -- ---- enough periods
-pub slow_rate : (f g : SpecCurve) → rate f <ₑ rate g → (r : ℚ) × (rate f ≡ Fin r)
+slow_rate : (f g : SpecCurve) → rate f <ₑ rate g → (r : ℚ) × (rate f ≡ Fin r)
 slow_rate f g h = elim (ext_cases (rate f)) [ inl e ↦ absurd (none (rate g) (subst (λ x. x <ₑ rate g) e h)) | inr r ↦ r ]
   where
     none : (y : Ext) → Inf <ₑ y → ⊥

@@ -56,8 +56,8 @@ fn depth_over(c: &Curve, from: Frac, end: Frac) -> Option<Frac>
     }
 }
 
-/// The value of a curve at a time, where it is a number.
-pub fn value_there(c: &Curve, t: Frac) -> Option<Frac>
+// The value of a curve at a time, where it is a number.
+fn value_there(c: &Curve, t: Frac) -> Option<Frac>
     requires { (z : Sizes) × (end : ℚ) × HasWindow z end c.now × IsTimeIn z end t }
     ensures { IfSome result (λ v. value_at c.now t ≡ Fin v) }
 {
@@ -67,8 +67,8 @@ pub fn value_there(c: &Curve, t: Frac) -> Option<Frac>
     }
 }
 
-/// a + b, where it fits.
-pub fn sum_if_fits(a: Frac, b: Frac) -> Option<Frac>
+// a + b, where it fits.
+fn sum(a: Frac, b: Frac) -> Option<Frac>
     ensures { IfSome result (λ s. s ≡ a +ℚ b) }
 {
     Frac::add(a, b).ok()
@@ -90,8 +90,8 @@ pub(crate) fn extremes_of(
 {
     let slow_own = period_or(s.first, period);
     let fast_own = period_or(s.second, period);
-    let slow_end = sum_if_fits(first, slow_own)?;
-    let fast_end = sum_if_fits(second, fast_own)?;
+    let slow_end = sum(first, slow_own)?;
+    let fast_end = sum(second, fast_own)?;
     let zero = Frac::zero();
     let slow_top = top_over(s.first, first, slow_end)?;
     let slow_depth = depth_over(s.first, zero, slow_end)?;
@@ -111,8 +111,8 @@ pub(crate) fn extremes_of(
 pub(crate) fn most_gap(e: &Extremes) -> Option<Frac>
     ensures { IfSome result (λ q. q ≡ most_gap e.now) }
 {
-    let slow = sum_if_fits(e.slow_top, e.slow_depth)?;
-    let deep = sum_if_fits(slow, e.fast_depth)?;
-    let both = sum_if_fits(deep, e.fast_start)?;
-    sum_if_fits(both, e.fast_rise)
+    let slow = sum(e.slow_top, e.slow_depth)?;
+    let deep = sum(slow, e.fast_depth)?;
+    let both = sum(deep, e.fast_start)?;
+    sum(both, e.fast_rise)
 }

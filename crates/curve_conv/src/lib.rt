@@ -16,7 +16,6 @@ mod parts;
 mod pieces;
 mod rows;
 
-pub use bounds::{late_bounds, periods_over};
-pub use extremes::{sum_if_fits, value_there};
+pub use bounds::late_bounds;
 pub use operator::{convolve, convolve_frame};
 pub use order::{is_slower_curve, late_periods};

@@ -55,11 +55,7 @@ struct Walk {
 fn take_left(p: Piece, w: &Walk) -> Walk
     requires room { w.now.i + 1 < 2 ^ 64 }
     requires fits { LineFitsAt p.x w.now.here.right.line }
-    ensures { result ≡ record {
-      i = w.now.i + 1;
-      j = w.now.j;
-      here = record { left = p; right = cut_at w.now.here.right p.x };
-    } }
+    ensures { result ≡ record { i = w.now.i + 1; j = w.now.j; here = record { left = p; right = cut_at w.now.here.right p.x } } }
 {
     let right = cut(&w.here.right, p.x);
     Walk {
@@ -73,11 +69,7 @@ fn take_left(p: Piece, w: &Walk) -> Walk
 fn take_right(q: Piece, w: &Walk) -> Walk
     requires room { w.now.j + 1 < 2 ^ 64 }
     requires fits { LineFitsAt q.x w.now.here.left.line }
-    ensures { result ≡ record {
-      i = w.now.i;
-      j = w.now.j + 1;
-      here = record { left = cut_at w.now.here.left q.x; right = q };
-    } }
+    ensures { result ≡ record { i = w.now.i; j = w.now.j + 1; here = record { left = cut_at w.now.here.left q.x; right = q } } }
 {
     let left = cut(&w.here.left, q.x);
     Walk {

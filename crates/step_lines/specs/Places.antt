@@ -47,8 +47,7 @@ placed ps k = get_or ps k no_place
 -- the first packets
 pub record ArePlaced (height rate : ℚ) (es : List Entering) (ps : List Placed) (upto : ℕ) : Type 0 where
   pub count : length ps ≡ upto
-  pub each : (k : ℕ) → k < upto
-      → IsPlaced height rate (entering es k).time (bits_under k es) (bits_under (suc k) es) (placed ps k)
+  pub each : (k : ℕ) → k < upto → IsPlaced height rate (entering es k).time (bits_under k es) (bits_under (suc k) es) (placed ps k)
 
 -- b is within the slack of a
 pub record IsNear (slack wide : ℚ) (a b : Placed) : Type 0 where

@@ -17,13 +17,32 @@ ghost use Rattle.subadd_closure.specs.QuickBounds.{BeginsLate, IsFloor, IsLevel}
 
 use affine_segment::Piece;
 use curve_call::{begin, rise_over};
-use curve_conv::{is_slower_curve, periods_over, sum_if_fits, value_there};
+use curve_conv::is_slower_curve;
 use curve_least::{Bounds, Gap, Side, is_slower, period_or, side_gap, zero_level};
 use fraction128::{Frac, difference, is_less};
 use rational::Extended;
 use upp_curve::{Curve, Tail};
+use upp_normal::stretch_at;
 
 // ---- few numbers of a curve
+// a + b, where it fits.
+fn sum(a: Frac, b: Frac) -> Option<Frac>
+    ensures { IfSome result (λ s. s ≡ a +ℚ b) }
+{
+    Frac::add(a, b).ok()
+}
+
+// The value of a curve at a time, where it is a number.
+fn value_there(c: &Curve, t: Frac) -> Option<Frac>
+    requires { (z : Sizes) × (end : ℚ) × HasWindow z end c.now × IsTimeIn z end t }
+    ensures { IfSome result (λ v. value_at c.now t ≡ Fin v) }
+{
+    match stretch_at(c, t).at {
+        Extended::Inf => None,
+        Extended::Fin(v) => Some(v),
+    }
+}
+
 // The least number that a curve is nowhere above from `from` up to `end`; none where it is infinite somewhere.
 fn top_over(c: &Curve, from: Frac, end: Frac) -> Option<Frac>
     requires { (z : Sizes) × HasWindow z end c.now × HasWindow z end (level_curve (int (pos 0))) × IsTimeIn z end from }
@@ -100,12 +119,12 @@ fn level_from_zero(slow: &Curve, fast: &Curve, from: Frac, period: Frac, end: Fr
     let first = begin(slow);
     let second = begin(fast);
     let own = period_or(slow, period);
-    let last = sum_if_fits(first, own)?;
+    let last = sum(first, own)?;
     let top = top_over(slow, first, last)?;
     let start = value_there(fast, Frac::zero())?;
     let gain = line_rise(rise_over(slow, own), own, second)?;
-    let both = sum_if_fits(top, start)?;
-    let level = sum_if_fits(both, gain)?;
+    let both = sum(top, start)?;
+    let level = sum(both, gain)?;
     Some(level)
 }
 
@@ -117,12 +136,12 @@ fn level_from_start(slow: &Curve, fast: &Curve, from: Frac, period: Frac, end: F
     let first = begin(slow);
     let second = begin(fast);
     let own = period_or(fast, period);
-    let last = sum_if_fits(second, own)?;
+    let last = sum(second, own)?;
     let start = value_there(slow, first)?;
     let top = top_over(fast, second, last)?;
     let gain = line_rise(rise_over(fast, own), own, period_or(slow, period))?;
-    let both = sum_if_fits(start, top)?;
-    let level = sum_if_fits(both, gain)?;
+    let both = sum(start, top)?;
+    let level = sum(both, gain)?;
     Some(level)
 }
 
@@ -145,12 +164,12 @@ fn floor_of(slow: &Curve, fast: &Curve, from: Frac, period: Frac, end: Frac) -> 
     let second = begin(fast);
     let slow_own = period_or(slow, period);
     let fast_own = period_or(fast, period);
-    let slow_end = sum_if_fits(first, slow_own)?;
-    let fast_end = sum_if_fits(second, fast_own)?;
+    let slow_end = sum(first, slow_own)?;
+    let fast_end = sum(second, fast_own)?;
     let slow_depth = depth_over(slow, Frac::zero(), slow_end)?;
     let fast_depth = depth_over(fast, second, fast_end)?;
-    let both = sum_if_fits(slow_depth, fast_depth)?;
-    let floor = sum_if_fits(both, rise_over(fast, fast_own))?;
+    let both = sum(slow_depth, fast_depth)?;
+    let floor = sum(both, rise_over(fast, fast_own))?;
     Some(floor)
 }
 
@@ -160,6 +179,20 @@ fn lead(slow: &Curve, fast: &Curve, from: Frac, period: Frac, end: Frac) -> Frac
     ensures { result ≡ rise_over fast.now period -ℚ rise_over slow.now period }
 {
     difference(rise_over(fast, period), rise_over(slow, period))
+}
+
+// The least number n with the gap at most n + 1 times the lead, where it is found by one division.
+fn periods_over(gap: Frac, lead: Frac) -> Option<u128>
+    requires { int (pos 0) <ℚ lead }
+    ensures { IfSome result (λ n. gap ≤ℚ int (pos (n + 1)) *ℚ lead) }
+{
+    if !is_less(lead, gap) {
+        return Some(0);
+    }
+    match Frac::div(gap, lead) {
+        Ok(number) => Some(number.size_up().saturating_sub(1)),
+        Err(_) => None,
+    }
 }
 
 // ---- the bounds
@@ -183,7 +216,7 @@ fn bounds_by_level(
     }
     let level = level_of(slow, fast, from, period, end)?;
     let floor = floor_of(slow, fast, from, period, end)?;
-    let gap = sum_if_fits(level, floor)?;
+    let gap = sum(level, floor)?;
     let high = periods_over(gap, lead)?;
     Some(Bounds { low: 0, high })
 }
