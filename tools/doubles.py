@@ -3,12 +3,14 @@
 specs and proofs that say the same.
 
 Of a function the names are compared that come from outside (types, fields, called functions, words of the specs); its
-own name, its parameters, its variables and the names of its clauses are not. Of a statement (the type of a lemma; an
+own name, its parameters, its variables and the names of its clauses are not, and a word of a clause counts by its
+definition, under whatever name it came in. Of a statement (the type of a lemma, also of one that only an answer to the prover uses; an
 abbreviation with its equations; a record with its fields) the bound names and its own name are not compared.
 
 Left out are words of specs/ that say the same under different names, since each is the word of another notion there (a
 number that may be printed, and one that fits); what tests use in the crates below the one that has it for the tests of
-all others; and the pairs of APART.
+all others, and lemmas in the answers of crates of tests; proofs by hand, whose statements the prover gives, and what a
+function says of its own loops; and the pairs of APART.
 
     tools/doubles.py [FOLDER ..]    folders below crates/, as curve_least; without one, all
 
@@ -18,8 +20,8 @@ import re
 import sys
 
 TOP = pathlib.Path(__file__).resolve().parent.parent / 'crates'
-SHORT_FUNCTION = 24  # words of a function, and of a statement, below which nothing is compared
-SHORT_STATEMENT = 12
+SHORT_FUNCTION = 18  # words of a function, and of a statement, below which nothing is compared
+SHORT_STATEMENT = 9
 
 # what reads the same and is not
 APART = [
@@ -29,8 +31,11 @@ APART = [
     {'RiseParts', 'IsKey'},  # the numbers of one rise of a curve, and of one key of a watch
     {'at', 'quantum_of'},  # a list read as a function, and the quantum of a queue
     {'other_count', 'one_other'},  # how often a queue stands in a list, and a packet among places
+    {'own_count', 'one_same'},  # the same
+    {'Texts', 'Row'},  # some texts, and the fields of a row
     {'over_paths', 'has_paths'},  # paths as the laws of networks walk them, and as a recorded run is walked
 ]
+LOOPS_OWN = ('invariant-', 'decreases-', 'ghosts-')  # what a function says of its own loops and calls
 TEST_LIBRARY = 'test_curves'  # what the tests of the crates above it share
 
 WORD = re.compile(r"[^\W\d]['\w≢≡≤-]*|\d+|\S", re.U)
@@ -65,6 +70,13 @@ BOUND = [
     re.compile(r'[{,]\s*([a-z]\w*)(?=\s*[,}])'),
     re.compile(r'\b[a-z]\w*:\s+([a-z]\w*)\s*[,}]'),
 ]
+IN_CLAUSES = [
+    re.compile(r'\blet (\w+)\b'),
+    re.compile(r'\bλ ([\w ]+)\.'),
+    re.compile(r'\(([a-z]\w*(?: \w+)*) :'),
+]
+RT_MODULE = re.compile(r'^\s*ghost use Rattle\.([\w.]+) as (\w+);', re.M)
+RT_IMPORT = re.compile(r'^\s*(ghost )?use (?:Rattle\.)?([\w.:]+?)(?:\.|::)\{([^}]*)\};', re.M)
 
 
 def without_comments(text):
@@ -99,30 +111,67 @@ def body_start(text, i):
     return None
 
 
-def function_key(name, head, body):
-    names = Names()
-    names.bind(name)
-    for parameter in re.findall(r'(?:[(,<]|\n)\s*(?:mut )?([a-z]\w*)\s*:(?!:)', head):
-        names.bind(parameter)
-    whole = head + body
-    for pattern in BOUND:
-        for found in pattern.findall(whole):
+class Meanings:
+    """What the words of a file stand for: those of its clauses by their definitions, those of its code by the names that
+    they have where they stand."""
+
+    def __init__(self, text, defined):
+        self.modules = {new: defined.get(module, {}) for module, new in RT_MODULE.findall(text)}
+        self.cited, self.named = {}, {}
+        for ghost, module, group in RT_IMPORT.findall(text):
+            for old, new in re.findall(r'([\w≢≡◌-]+)(?: as (\w+))?', group):
+                if ghost:
+                    self.cited[new or old] = defined.get(module, {}).get(old, old)
+                elif new:
+                    self.named[new] = old
+
+    def of(self, text, in_clause):
+        words, known = WORD.findall(text), self.cited if in_clause else self.named
+        out = []
+        for i, word in enumerate(words):
+            if word in self.modules and words[i + 1:i + 2] == ['.']:
+                continue
+            before = words[i - 2] if words[max(i - 1, 0)] == '.' and i > 1 else None
+            if before in self.modules:
+                out[-1:] = [self.modules[before].get(word, word)]
+            else:
+                out.append(word if before or words[i - 1] == '.' else known.get(word, word))
+        return out
+
+
+def bind_all(names, text, patterns):
+    for pattern in patterns:
+        for found in pattern.findall(text):
             for word in re.findall(r'\b[a-z]\w*\b', found):
                 names.bind(word)
-    whole = CLAUSE.sub(r'\1 {', whole)
-    words = WORD.findall(whole)
+
+
+def renamed(words, names):
     fields = [i > 0 and words[i - 1] == '.' for i in range(len(words))]
-    return tuple(w if field else names.of(w) for w, field in zip(words, fields) if w != ',')
+    return [w if field else names.of(w) for w, field in zip(words, fields) if w != ',']
 
 
-def functions(path):
+def function_key(name, head, body, meanings):
+    names = Names()
+    for parameter in re.findall(r'(?:[(,<]|\n)\s*(?:mut )?([a-z]\w*)\s*:(?!:)', head):
+        names.bind(parameter)
+    bind_all(names, head, IN_CLAUSES)
+    clauses = renamed(meanings.of(CLAUSE.sub(r'\1 {', head), True), names)
+    # a function and its variables may have the name of a word that the clauses cite
+    names.bind(name)
+    bind_all(names, body, BOUND)
+    return tuple(clauses + renamed(meanings.of(body, False), names))
+
+
+def functions(path, defined):
     text = without_comments(path.read_text())
+    meanings = Meanings(text, defined)
     for found in FUNCTION.finditer(text):
         start = body_start(text, found.end())
         if start is None or '#[test]' in text[max(0, found.start() - 60):found.start()]:
             continue
         head, body = text[found.end():start], text[start:closing(text, start, '{}')]
-        key = function_key(found.group(1), head, body)
+        key = function_key(found.group(1), head, body, meanings)
         if len(key) >= SHORT_FUNCTION:
             yield key, found.group(1), text.count('\n', 0, found.start(1)) + 1
 
@@ -133,6 +182,7 @@ ABBREV = re.compile(r'^(?:abbrev|unfoldable) (?:pub )?(\S+) : ')
 RECORD = re.compile(r'^(?:pub )?record (\S+)')
 BINDER = re.compile(r'[({]([^\W\d][^\s(){}:]*(?: [^\s(){}:]+)*) : ')
 IMPORT = re.compile(r'^(?:pub )?use Rattle\.([\w.]+)\.\{([^}]*)\}', re.M)
+HANDED_ON = re.compile(r'^pub use Rattle\.([\w.]+)\.\{([^}]*)\}', re.M)
 LAMBDA = re.compile(r'λ ([^.()]+)\.')
 
 
@@ -188,23 +238,29 @@ def equations(entries, i, name):
 
 def module_of(path):
     """The name of a file of specs or proofs, as an import gives it."""
-    crate, kind, name = path.parts[-3:]
-    return f'{crate}.{kind}.{name.removesuffix(".antt")}'
+    return '.'.join(path.relative_to(TOP).with_suffix('').parts)
 
 
 def definitions(paths):
     """What each definition of each module says."""
-    return {(module_of(path), name): hash(key) for path in paths
-            for key, name, line, kind in named_statements(path) if kind == 'definition'}
+    said = {module_of(path): {name: hash(key) for key, name, line, kind in named_statements(path) if kind == 'definition'}
+            for path in paths}
+    for path in paths:  # what a module hands on
+        for module, names in HANDED_ON.findall(path.read_text()):
+            for name in names.replace('\n', ' ').split(','):
+                if name.strip() in said.get(module, {}):
+                    said[module_of(path)].setdefault(name.strip(), said[module][name.strip()])
+    return said
 
 
 def statements(path, defined):
     """The statements of a file; a word that is defined here counts by its definition, and not by its name."""
-    known = {name: value for (module, name), value in defined.items() if module == module_of(path)}
+    known = dict(defined.get(module_of(path), {}))
     for module, names in IMPORT.findall(path.read_text()):
         for name in names.replace('\n', ' ').split(','):
-            if (module, name.strip()) in defined:
-                known[name.strip()] = defined[module, name.strip()]
+            word, _, other = name.strip().partition(' as ')
+            if word in defined.get(module, {}):
+                known[other or word] = defined[module][word]
     for key, name, line, kind in named_statements(path):
         key = tuple(known.get(word, word) for word in key)
         if len(key) >= SHORT_STATEMENT:
@@ -216,22 +272,29 @@ def named_statements(path):
     for i, (text, line) in enumerate(entries):
         kind = 'definition'
         abbrev, record, lemma = ABBREV.match(text), RECORD.match(text), SIGNATURE.match(text)
+        if abbrev and abbrev.group(1).startswith(LOOPS_OWN):
+            continue
         if abbrev:
             name = abbrev.group(1)
             lines = equations(entries, i, name)
-            bound = [w for l in lines for w in re.findall(r"\b[a-z]\w*\b", l.split(' = ')[0])]
+            bound = [w for l in lines for w in re.findall(r"\b[a-z]\w*\b", re.split(r'\s=\s', l, maxsplit=1)[0])]
             key = statement_key(name, '\n'.join([text[abbrev.end():]] + lines), bound)
             if text.startswith('unfoldable'):  # a name that stays shut is there to be shut
                 key += ('unfoldable',)
         elif record:
             name = record.group(1)
             key = statement_key(name, text[record.end(1):])
-        elif lemma and 'goal.' not in text.split('\n')[0]:
+        elif lemma and 'goal.' not in text.split('\n')[0] and not lemma.group(1).startswith(LOOPS_OWN):
             name, kind = lemma.group(1), 'lemma'
             key = statement_key(name, text[lemma.end():])
         else:
             continue
         yield key, name, line, kind
+
+
+def is_alone(path):
+    """Whether a file's lemmas are its own by its form: a proof by hand, whose statement the prover gives, and a test's answer."""
+    return path.name == 'Proof.antt' or path.name == 'Answers.antt' and path.relative_to(TOP).parts[0].endswith('_tests')
 
 
 def crates_below_test_library():
@@ -255,13 +318,13 @@ def main():
     below = crates_below_test_library()
     groups = {}
     paths = [p for p in sorted(TOP.glob('**/*')) if p.suffix in ('.rt', '.antt')
-             and 'out' not in p.relative_to(TOP).parts and (p.suffix == '.rt' or len(p.relative_to(TOP).parts) == 3)]
+             and 'out' not in p.relative_to(TOP).parts and not is_alone(p)]
     defined = definitions([p for p in paths if p.suffix == '.antt'])
     for path in paths:
         place = path.relative_to(TOP)
         if chosen and place.parts[0] not in chosen:
             continue
-        found = functions(path) if path.suffix == '.rt' else statements(path, defined)
+        found = functions(path, defined) if path.suffix == '.rt' else statements(path, defined)
         for key, name, line in found:
             groups.setdefault((path.suffix, key), []).append(f'{place}:{line} {name}')
     counts = {'.rt': 0, '.antt': 0}

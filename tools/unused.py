@@ -98,7 +98,8 @@ def findings(path, lines, seen):
 def drop(path, lines, found):
     for first, end, _, left in sorted(found, reverse=True):
         lines[first:end] = left
-    if path.name in GIVEN or any(name for name, _, _ in blocks_of(lines)):
+    # a file of imports and comments alone goes; what a `module _` holds stands further in
+    if path.name in GIVEN or any(words_of(line) and not line.startswith('use ') for line in lines):
         path.write_text('\n'.join(lines))
         return
     path.unlink()

@@ -242,7 +242,8 @@ fn keeps_buckets(entries: &[Entering], arrival: &Curve) -> bool
 /// answer, only time.
 pub fn first_crowded(alloc: Global, entries: &[Entering], arrival: &Curve) -> Option<(usize, usize)>
     requires { FlowReads arrival.now entries.now }
-    ensures { MatchOption result (NoneCrowded (value_at arrival.now) entries.now (length entries.now)) (λ p. IsFirstCrowded (value_at arrival.now) entries.now p.0 p.1) }
+    ensures { MatchOption result (NoneCrowded (value_at arrival.now) entries.now (length entries.now))
+        (λ p. IsFirstCrowded (value_at arrival.now) entries.now p.0 p.1) }
 {
     if keeps_buckets(entries, arrival) {
         return None;

@@ -2,24 +2,18 @@
 use Rattle.std.specs.Prelude.{◌≡◌, ℕ, ◌<◌, ◌/◌, ◌*◌, ◌^◌, ℤ, pos, ◌+ℤ◌, ◌*ℤ◌, nat_abs}
 use Rattle.std.proofs.Common.{arith, sym, ap, ap₂, ◌∙◌, refl, subst}
 use Rattle.std.proofs.lemmas.Int.{ints}
-use native.Mathlib.Nat.{le_of_dvd, zero-lt-suc, div-one}
+use native.Mathlib.Nat.{div-one}
 use Rattle.affine_segment.specs.rational.specs.Gcd.{gcd, gcd_steps}
-use Rattle.affine_segment.specs.rational.specs.Euclid.{gcd_is, gcd_pos}
 use Rattle.affine_segment.specs.rational.specs.Rational.{ℚ, int, frac, den}
 use Rattle.affine_segment.specs.rational.specs.Ratio.{IsSmall, SumFits, PartsFit}
 use Rattle.affine_segment.specs.rational.proofs.Laws.{mul_zero}
+use Rattle.affine_segment.specs.fraction128.proofs.Coprime.{gcd_one}
 use Rattle.upp_curve.specs.Curves.{IsCurve}
 use Rattle.upp_curve.specs.Kinds.{bucket}
 use Rattle.affine_segment.specs.Fits.{LineFits}
 use Rattle.upp_curve.proofs.ByTail.{bucket_normal}
 
 -- ---- a sum with 0 fits
-gcd_with_one : (d : ℕ) → gcd d 1 ≡ 1
-gcd_with_one d =
-    let low = gcd_pos d 1 (zero-lt-suc 0) in
-    let high = le_of_dvd (zero-lt-suc 0) (gcd_is d 1).1 in
-    omega arith
-
 parts_with_zero : (n : ℤ) (d : ℕ) → nat_abs n < 2 ^ 127 → d < 2 ^ 127 → PartsFit n d (pos 0) 1
 parts_with_zero n d h k = record {
   left = subst (λ z. nat_abs z < 2 ^ 127) (sym same) h;
@@ -29,7 +23,7 @@ parts_with_zero n d h k = record {
 }
   where
     one : gcd d 1 ≡ 1
-    one = gcd_with_one d
+    one = gcd_one d
 
     same : n *ℤ pos (1 / gcd d 1) ≡ n
     same = ap (λ g. n *ℤ pos (1 / g)) one ∙ times_one n

@@ -144,6 +144,13 @@ impl Curve {
         })
     }
 
+    /// What every curve keeps: what its contract says. It does nothing.
+    pub fn keeps(&self)
+        ensures { IsCurve self.now }
+    {
+        let _tail = self.tail;
+    }
+
     /// The pieces.
     #[inline]
     pub fn pieces(&self) -> &[Piece]

@@ -46,9 +46,6 @@ start_fits z end (Some l) x a n w some h s v =
       sum = small_sum z end 2 1 l.icept (l.slope *ℚ x) a n (omega arith) p.icept_whole p.run_whole p.icept_within p.run_within;
     }
 
-run_is : (k y v : ℚ) → k +ℚ y ≡ v → v -ℚ k ≡ y
-run_is k y v e = with3 k y v (λ c. omega (arith, c.le, c.lt, c.same))
-
 three_times : (v : ℚ) → int (pos 1) *ℚ v +ℚ int (pos 2) *ℚ v ≡ int (pos 3) *ℚ v
 three_times v = with1 v (λ c. omega (arith, c.le, c.lt, c.same))
 
@@ -59,7 +56,7 @@ next_line_fits z end l x e a n p v =
     let k = l.icept in
     let y = l.slope *ℚ e in
     let V = int (pos z.largest) in
-    let same = run_is k y (k +ℚ y) refl in
+    let same : (k +ℚ y) -ℚ k ≡ y = with2 k y (λ c. omega (arith, c.le, c.lt, c.same)) in
     let w : Whole (grid_of z) y = subst (λ q. Whole (grid_of z) q) same (whole_sub (grid_of z) (k +ℚ y) k (value_whole z (k +ℚ y) v) p.icept_whole) in
     let i : Within (times_largest 3 z) y =
     subst (λ m. Within m y) (three_times V) (subst (λ q. Within (times_largest 1 z +ℚ times_largest 2 z) q) same (within_sub (times_largest 1 z) (times_largest 2 z) (k +ℚ y) k (value_within z (k +ℚ y) v) p.icept_within)) in

@@ -19,7 +19,7 @@ use Rattle.upp_curve.specs.affine_segment.specs.Pieces.{Each, RisesFrom, StartsA
 use Rattle.upp_curve.specs.Normal.{IsRaw, TailFits}
 use Rattle.upp_limits.specs.Spans.{once, number_below}
 use Rattle.upp_limits.proofs.Copies.{copies_in, copies_out}
-use Rattle.upp_curve.proofs.Unique.{upto_none, upto_some}
+use Rattle.upp_curve.proofs.Unique.{upto_none, upto_some, upto_end}
 
 -- ---- which of two tests holds
 pub below_is : {A : Type 0} (p : Piece) (x : ℚ) (a b : A) → p.x <ℚ x → cond (lt_q p.x x) a b ≡ a
@@ -27,10 +27,6 @@ below_is p x a b h = ap (λ t. cond t a b) (lt_q_out p.x x h)
 
 pub not_below_is : {A : Type 0} (p : Piece) (x : ℚ) (a b : A) → x ≤ℚ p.x → cond (lt_q p.x x) a b ≡ b
 not_below_is p x a b h = ap (λ t. cond t a b) (lt_q_not p.x x h)
-
-upto_empty : (x : ℚ) → upto x [] ≡ []
-unfolding upto
-upto_empty x = refl
 
 pub from_some : (x : ℚ) (p : Piece) (ps : List Piece) → p.x <ℚ x → from x (p ∷ ps) ≡ from x ps
 unfolding from
@@ -40,9 +36,9 @@ pub from_none : (x : ℚ) (p : Piece) (ps : List Piece) → x ≤ℚ p.x → fro
 unfolding from
 from_none x p ps h = not_below_is p x (from x ps) (p ∷ ps) h
 
-from_empty : (x : ℚ) → from x [] ≡ []
+pub from_end : (x : ℚ) → from x [] ≡ []
 unfolding from
-from_empty x = refl
+from_end x = refl
 
 -- ---- numbers of copies
 same_number : (a b : ℕ) → ((n : ℕ) → n < a → n < b) → ((n : ℕ) → n < b → n < a) → a ≡ b
@@ -116,7 +112,7 @@ none_once y x (p ∷ ps) h r =
 
 -- the pieces before x are counted one by one
 pub upto_counts : (y x : ℚ) (ps : List Piece) → RisesFrom y ps → length (upto x ps) ≡ sum_by (once x) ps
-upto_counts y x [] r = ap length (upto_empty x)
+upto_counts y x [] r = ap length (upto_end x)
 upto_counts y x (p ∷ ps) r = elim (le_or_lt x p.x) [
   | inl h ↦
       let e : once x p ≡ 0 = not_below_is p x 1 0 h in
@@ -134,7 +130,7 @@ upto_counts y x (p ∷ ps) r = elim (le_or_lt x p.x) [
 
 -- where a first list ends too early nothing of a second one is before x either
 upto_append : (x : ℚ) (ps qs : List Piece) → Each (λ p. x ≤ℚ p.x → upto x qs ≡ []) ps → length (upto x (ps ++ qs)) ≡ length (upto x ps) + length (upto x qs)
-upto_append x [] qs h = let e = ap length (upto_empty x) in omega arith
+upto_append x [] qs h = let e = ap length (upto_end x) in omega arith
 upto_append x (p ∷ ps) qs h = elim (le_or_lt x p.x) [
   | inl k ↦
       let a = ap length (upto_none x p (ps ++ qs) k) in
@@ -155,7 +151,7 @@ each_map P Q (p ∷ ps) f h = (f p h.0, each_map P Q ps f h.1)
 -- moved by d, the pieces before x are those before x - d
 upto_later : (x d c : ℚ) (ps : List Piece) → length (upto x (each_later d c ps)) ≡ length (upto (x -ℚ d) ps)
 unfolding each_later
-upto_later x d c [] = ap length (upto_empty x) ∙ sym (ap length (upto_empty (x -ℚ d)))
+upto_later x d c [] = ap length (upto_end x) ∙ sym (ap length (upto_end (x -ℚ d)))
 upto_later x d c (p ∷ ps) =
     let y = p.x in
     elim (le_or_lt x (y +ℚ d)) [
@@ -195,8 +191,8 @@ copies_of_none (suc n) d c = ap (each_later d c) (copies_of_none n d c)
 
 copies_start : (n : ℕ) (rank x d c : ℚ) (ps : List Piece) → Each (λ p. rank ≤ℚ p.x) ps → x ≤ℚ rank → upto x (copies n d c ps) ≡ []
 unfolding copies
-copies_start zero rank x d c ps h k = upto_empty x
-copies_start (suc n) rank x d c [] h k = ap (upto x) (copies_of_none (suc n) d c) ∙ upto_empty x
+copies_start zero rank x d c ps h k = upto_end x
+copies_start (suc n) rank x d c [] h k = ap (upto x) (copies_of_none (suc n) d c) ∙ upto_end x
 copies_start (suc n) rank x d c (p ∷ ps) h k = upto_none x p (ps ++ each_later d c (copies n d c (p ∷ ps))) (le_trans k h.0)
 
 -- the same, moved by d
@@ -239,14 +235,14 @@ copies_count (suc n) rank x d c ps some h k =
 
 -- ---- the pieces before the rank, and those from it on
 rises_from : (y rank : ℚ) (ps : List Piece) → RisesFrom y ps → (z : ℚ) × RisesFrom z (from rank ps)
-rises_from y rank [] h = (y, subst (RisesFrom y) (sym (from_empty rank)) tt)
+rises_from y rank [] h = (y, subst (RisesFrom y) (sym (from_end rank)) tt)
 rises_from y rank (p ∷ ps) h = elim (le_or_lt rank p.x) [
   | inl l ↦ (y, subst (RisesFrom y) (sym (from_none rank p ps l)) h)
   | inr l ↦ let r = rises_from p.x rank ps h.1 in (r.0, subst (RisesFrom r.0) (sym (from_some rank p ps l)) r.1)
 ]
 
 pub each_from : (P : Piece → Type 0) (rank : ℚ) (ps : List Piece) → Each P ps → Each P (from rank ps)
-each_from P rank [] h = subst (Each P) (sym (from_empty rank)) tt
+each_from P rank [] h = subst (Each P) (sym (from_end rank)) tt
 each_from P rank (p ∷ ps) h = elim (le_or_lt rank p.x) [
   | inl l ↦ subst (Each P) (sym (from_none rank p ps l)) h
   | inr l ↦ subst (Each P) (sym (from_some rank p ps l)) (each_from P rank ps h.1)
@@ -257,14 +253,14 @@ rising_late y rank [] h r = tt
 rising_late y rank (p ∷ ps) h r = let l = le_trans h (le_of_lt r.0) in (l, rising_late p.x rank ps l r.1)
 
 from_late : (y rank : ℚ) (ps : List Piece) → RisesFrom y ps → Each (λ p. rank ≤ℚ p.x) (from rank ps)
-from_late y rank [] h = subst (Each (λ p. rank ≤ℚ p.x)) (sym (from_empty rank)) tt
+from_late y rank [] h = subst (Each (λ p. rank ≤ℚ p.x)) (sym (from_end rank)) tt
 from_late y rank (p ∷ ps) h = elim (le_or_lt rank p.x) [
   | inl l ↦ subst (Each (λ p. rank ≤ℚ p.x)) (sym (from_none rank p ps l)) (l, rising_late p.x rank ps l h.1)
   | inr l ↦ subst (Each (λ p. rank ≤ℚ p.x)) (sym (from_some rank p ps l)) (from_late p.x rank ps h.1)
 ]
 
 pub upto_early : (rank : ℚ) (ps : List Piece) → Each (λ p. p.x <ℚ rank) (upto rank ps)
-upto_early rank [] = subst (Each (λ p. p.x <ℚ rank)) (sym (upto_empty rank)) tt
+upto_early rank [] = subst (Each (λ p. p.x <ℚ rank)) (sym (upto_end rank)) tt
 upto_early rank (p ∷ ps) = elim (le_or_lt rank p.x) [
   | inl l ↦ subst (Each (λ p. p.x <ℚ rank)) (sym (upto_none rank p ps l)) tt
   | inr l ↦ subst (Each (λ p. p.x <ℚ rank)) (sym (upto_some rank p ps l)) (l, upto_early rank ps)
@@ -303,9 +299,9 @@ count_is_length c x raw = by_tail c.pieces c.tail raw.starts raw.tail
 
 -- ---- the count, piece by piece
 none_early : (y x rank : ℚ) (ps : List Piece) → RisesFrom y ps → x ≤ℚ y → upto x (upto rank ps) ≡ []
-none_early y x rank [] r h = ap (upto x) (upto_empty rank) ∙ upto_empty x
+none_early y x rank [] r h = ap (upto x) (upto_end rank) ∙ upto_end x
 none_early y x rank (p ∷ ps) r h = elim (le_or_lt rank p.x) [
-  | inl l ↦ ap (upto x) (upto_none rank p ps l) ∙ upto_empty x
+  | inl l ↦ ap (upto x) (upto_none rank p ps l) ∙ upto_end x
   | inr l ↦ ap (upto x) (upto_some rank p ps l) ∙ upto_none x p (upto rank ps) (le_trans h (le_of_lt r.0))
 ]
 
@@ -319,12 +315,12 @@ late_sum rank d c x (p ∷ ps) h =
 split_count : (y rank d c x : ℚ) (ps : List Piece) → RisesFrom y ps
     → length (upto x (upto rank ps)) + sum_by (copies_below d x) (from rank ps) ≡ sum_by (number_below (Periodic rank d c) x) ps
 split_count y rank d c x [] r =
-    let a = ap length (ap (upto x) (upto_empty rank) ∙ upto_empty x) in
-    let b = ap (sum_by (copies_below d x)) (from_empty rank) in
+    let a = ap length (ap (upto x) (upto_end rank) ∙ upto_end x) in
+    let b = ap (sum_by (copies_below d x)) (from_end rank) in
     omega (arith, a, b)
 split_count y rank d c x (p ∷ ps) r = elim (le_or_lt rank p.x) [
   | inl l ↦
-      let a = ap length (ap (upto x) (upto_none rank p ps l) ∙ upto_empty x) in
+      let a = ap length (ap (upto x) (upto_none rank p ps l) ∙ upto_end x) in
       let b = ap (sum_by (copies_below d x)) (from_none rank p ps l) in
       let s = late_sum rank d c x (p ∷ ps) (l, rising_late p.x rank ps l r.1) in
       omega (arith, a, b, s)

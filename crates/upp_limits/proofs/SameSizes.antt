@@ -107,20 +107,21 @@ bound_slopes a b p =
         at_most : (n : ℕ) → n ≤ n
         at_most n = omega arith
 
-make : ℕ → ℕ → ℕ → ℕ → ℕ → Sizes
-make dv dt ds s v = record { dv = dv; dt = dt; ds = ds; steepness = s; largest = v }
+-- five numbers as sizes; it opens only where a proof asks
+unfoldable pub make_sizes : ℕ → ℕ → ℕ → ℕ → ℕ → Sizes
+make_sizes dv dt ds s v = record { dv = dv; dt = dt; ds = ds; steepness = s; largest = v }
 
 pub same_sizes : (end : ℚ) (a b : Numbers) → Equals a b → sizes_of end a ≡ sizes_of end b
-unfolding make
+unfolding make_sizes
 same_sizes end a b p =
     let dt = common_den (end ∷ a.times) in
     let ds = common_den a.slopes in
     let s = bound_of (twice a.slopes) in
     let v = max (bound_of a.values) (whole_up (int (pos s) *ℚ end)) in
-    ap (λ x. make x dt ds s v) (den_values a b p)
-    ∙ ap (λ x. make (common_den b.values) x ds s v) (den_times end a b p)
-    ∙ ap (λ x. make (common_den b.values) (common_den (end ∷ b.times)) x s v) (den_slopes a b p)
-    ∙ ap₂ (λ (x y : ℕ). make (common_den b.values) (common_den (end ∷ b.times)) (common_den b.slopes) x (max y (whole_up (int (pos x) *ℚ end)))) (bound_slopes a b p) (bound_values a b p)
+    ap (λ x. make_sizes x dt ds s v) (den_values a b p)
+    ∙ ap (λ x. make_sizes (common_den b.values) x ds s v) (den_times end a b p)
+    ∙ ap (λ x. make_sizes (common_den b.values) (common_den (end ∷ b.times)) x s v) (den_slopes a b p)
+    ∙ ap₂ (λ (x y : ℕ). make_sizes (common_den b.values) (common_den (end ∷ b.times)) (common_den b.slopes) x (max y (whole_up (int (pos x) *ℚ end)))) (bound_slopes a b p) (bound_values a b p)
 
 pub same_gauge : (end : ℚ) (a b : Numbers) → Equals a b → gauge_of (sizes_of end a) ≡ gauge_of (sizes_of end b)
 same_gauge end a b p = ap gauge_of (same_sizes end a b p)
