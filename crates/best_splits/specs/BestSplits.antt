@@ -19,7 +19,8 @@ pub record IsBestSplit (f g : ℚ → Ext) (t h v w : ℚ) (split : Split t) (a 
   pub second : IsBeside g split.second h c d
 
 abbrev pub BestSplitTurns : Type 0
-BestSplitTurns = (f g : ℚ → Ext) (t h v w : ℚ) (split : Split t) (a b c d : Option Ray) → IsBestSplit f g t h v w split a b c d
+BestSplitTurns = (f g : ℚ → Ext) (t h v w : ℚ) (split : Split t) (a b c d : Option Ray)
+    → IsBestSplit f g t h v w split a b c d
     → TurnsUp a b v ⊎ TurnsUp c d w
 
 -- what two lines, of intercepts k and l and of slopes r and q, make of the split of t whose first time is s

@@ -1,21 +1,22 @@
 -- Every cell of a network has a place in a table by number.
-use Rattle.std.proofs.Common.{◌≡◌, ℕ, ◌+◌, ◌<◌, ◌≤◌, get_or, true, ◌∙◌, refl, arith}
+use Rattle.std.proofs.Common.{◌≡◌, ℕ, ◌+◌, ◌<◌, get_or, true, ◌∙◌, refl, arith}
 use Rattle.std.specs.Prelude.{Option, Some, None, slice_get}
 use Rattle.std.proofs.lemmas.Bool.{ltb-true, eqb-true, and_parts}
 use Rattle.std.proofs.lemmas.List.{get_or_default}
 use Rattle.std.proofs.lemmas.Option.{slice_get_within, get_or_from_slice_get}
-use Rattle.run_laws.specs.Servers.{Discipline, Fifo, Priority, Drr, queue_count}
+use Rattle.run_laws.specs.Servers.{queue_count}
 use Rattle.net_model.specs.Networks.{Net, NetServer}
 use Rattle.net_model.specs.Accepted.{IsAccepted, IsFlow}
 use Rattle.net_model.proofs.FewQueues.{few_of}
 use Rattle.net_cells.specs.declared.cell.Scope.{Scope}
 use Rattle.net_cells.specs.declared.cell.Scope.TheVariants.{EachHop, EachHopButLast, EachQueue, EachPriorityQueue, EachPath}
-use Rattle.net_cells.specs.Numbered.{hops, queues, levels, levels_of, discipline_of, is_live}
+use Rattle.net_cells.specs.Numbered.{hops, queues, levels, discipline_of, is_live}
 use Rattle.net_cells.specs.Cells.{scope_of, is_in_scope}
 use Rattle.net_cells.proofs.Places.{flow_inside, live_inside}
 use Rattle.net_cells.proofs.Members.{hop_of}
 use Rattle.cell_changes.specs.Slots.{rows_in, columns_in, SlotsAreOwn}
 use Rattle.cell_changes.proofs.OwnSlots.{own, is_below}
+use Rattle.net_cells.proofs.Precedes.{levels_at_most}
 
 abbrev IsInside : Scope → ℕ → ℕ → Type 0
 IsInside scope a b = (a < rows_in scope) × (b < columns_in scope)
@@ -37,11 +38,6 @@ queue_inside net s b (Some server) acc e h =
     let kept = acc.servers server (s, inside, get_or_from_slice_get net.servers s server server e) in
     (omega (arith, inside, acc.few_servers), omega (arith, h, few_of server.discipline kept.queues))
 
-few_levels : (d : Discipline) → levels_of d ≤ queue_count d
-few_levels Fifo = omega arith
-few_levels (Priority n) = omega arith
-few_levels (Drr quanta) = omega arith
-
 inside : (net : Net) (scope : Scope) (a b : ℕ) → IsAccepted net → is_in_scope net scope a b ≡ true → IsInside scope a b
 inside net EachHop a b acc h = hop_inside net a b acc (ltb-true b (hops net a) h)
 inside net EachHopButLast a b acc h =
@@ -49,7 +45,7 @@ inside net EachHopButLast a b acc h =
 inside net EachQueue a b acc h = queue_inside net a b (slice_get net.servers a) acc refl (ltb-true b (queues net a) h)
 inside net EachPriorityQueue a b acc h =
     queue_inside net a b (slice_get net.servers a) acc refl
-    (let l = ltb-true b (levels net a) h in omega (arith, l, few_levels (discipline_of (slice_get net.servers a))))
+    (let l = ltb-true b (levels net a) h in omega (arith, l, levels_at_most (discipline_of (slice_get net.servers a))))
 inside net EachPath a b acc h =
     let parts = and_parts (is_live net a) _ h in
     (omega (arith, live_inside net a parts.0, acc.few_flows), omega (arith, eqb-true b 0 parts.1))

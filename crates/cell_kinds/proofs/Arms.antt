@@ -33,13 +33,14 @@ use Rattle.cell_operators.specs.declared.sums.Partial.{Partial}
 use Rattle.queue_hops.specs.Chosen.{flow_visits, visit_list, picks, is_other, picked, chosen, all_chosen}
 use Rattle.cell_operators.specs.Partial.{Adds}
 use Rattle.cell_operators.specs.Evaluates.{Counts, MayBeMade, Evaluates}
-use Rattle.cell_operators.specs.Shapes.{Rises, Serving, Grows, Ahead}
+use Rattle.cell_operators.specs.Shapes.{Rises, Serving, Grows}
 use Rattle.cell_operators.specs.TableValues.{HasCurve, HasNumber, IsCurveAt, IsNumberAt, Deviate}
 use Rattle.cell_operators.proofs.Rises.{grows_served}
 use Rattle.cell_operators.proofs.Meeting.{InList, meets_below, operand, curve_map, number_map, curve_from, number_from, sum_leaf, served_leaf}
 use Rattle.queue_hops.proofs.Choosing.{queue_visits, other_visits, part_visits}
 use Rattle.cell_operators.proofs.Shapes.{in_rises, cross_rises, total_rises, higher_rises, queue_served, hop_served, residual_grows, path_grows, queue_delay_ahead, hop_delay_ahead}
 use Rattle.run_laws.proofs.Members.{Has, has_map, has_flat}
+use Rattle.min_plus.specs.Functions.{IsNonneg}
 
 -- ---- what stands in the table
 some_curve : (at : CellTable) (c : Cell) (Q : SpecCurve → Type 0) → HasCurve at c Q → IsCurveAt at c
@@ -99,7 +100,7 @@ module _ (net : Net) (at : CellTable) (i k : ℕ) where
 
   pub hop_queue : MayBeMade net at (cell_of HopDelay i k) → IsNumberAt at (cell_of QueueDelay (server_of_hop net i k) (queue_of_hop net i k))
   hop_queue m =
-      some_number at (cell_of QueueDelay (server_of_hop net i k) (queue_of_hop net i k)) Ahead
+      some_number at (cell_of QueueDelay (server_of_hop net i k) (queue_of_hop net i k)) IsNonneg
       (queue_delay_ahead net at (InList m.below.cells) (meets_below net at (cell_of HopDelay i k) m.below) (server_of_hop net i k) (queue_of_hop net i k)
       (operand net at (cell_of HopDelay i k) (cell_of QueueDelay (server_of_hop net i k) (queue_of_hop net i k)) m.below (inl refl)))
 
@@ -109,7 +110,7 @@ module _ (net : Net) (at : CellTable) (i k : ℕ) where
       (in_rises net at (InList m.below.cells) (meets_below net at (cell_of ShiftOut i k) m.below) m.accepted k i
       (operand net at (cell_of ShiftOut i k) (cell_of In i k) m.below (inl refl)))
 
-  pub shift_by : MayBeMade net at (cell_of ShiftOut i k) → HasNumber at (cell_of HopDelay i k) Ahead
+  pub shift_by : MayBeMade net at (cell_of ShiftOut i k) → HasNumber at (cell_of HopDelay i k) IsNonneg
   shift_by m =
       hop_delay_ahead net at (InList m.below.cells) (meets_below net at (cell_of ShiftOut i k) m.below) i k
       (operand net at (cell_of ShiftOut i k) (cell_of HopDelay i k) m.below (inr (inl refl)))
@@ -174,7 +175,7 @@ module _ (net : Net) (at : CellTable) (i : ℕ) where
 
   pub tfa_delays : MayBeMade net at (cell_of Tfa i 0) → (k : ℕ) → k < hops net i → IsNumberAt at (cell_of HopDelay i k)
   tfa_delays m k h =
-      some_number at (cell_of HopDelay i k) Ahead
+      some_number at (cell_of HopDelay i k) IsNonneg
       (hop_delay_ahead net at (InList m.below.cells) (meets_below net at (cell_of Tfa i 0) m.below) i k
       (operand net at (cell_of Tfa i 0) (cell_of HopDelay i k) m.below
       (has_map (cell_of HopDelay i) (range_with_len 0 (hops net i)) k (has_range 0 (hops net i) k (omega arith) (omega (arith, h))))))

@@ -15,7 +15,7 @@ use Rattle.rational.proofs.Laws.{le_refl, le_of_lt}
 use Rattle.upp_limits.specs.declared.op_kind.OpKind.TheVariants.{Sum, Min, PosMinus, Shift, FifoLeft, Convolve, Deconvolve}
 use Rattle.upp_curve.specs.Curve.{SpecCurve, value_at}
 use Rattle.upp_curve.specs.Kinds.{bucket}
-use Rattle.min_plus.specs.Functions.{zero_q}
+use Rattle.min_plus.specs.Functions.{IsNonneg, zero_q}
 use Rattle.min_plus.specs.Deviations.{IsHorizontalDeviation}
 use Rattle.min_plus.proofs.DeviationSigns.{horizontals_are_nonnegative}
 use Rattle.run_laws.specs.Cards.{whole}
@@ -44,36 +44,36 @@ use Rattle.net_cells.proofs.Lists.{map_has, has_map, has_left, has_right}
 use Rattle.net_cells.proofs.LeavesOf.{parts_leaves}
 use Rattle.net_cells.proofs.Stored.{server_kept}
 use Rattle.net_cells.proofs.Members.{hop_kept}
-use Rattle.cell_operators.specs.Shapes.{Rises, Serving, Grows, Ahead}
+use Rattle.cell_operators.specs.Shapes.{Rises, Serving, Grows}
 use Rattle.cell_operators.specs.TableValues.{HasCurve, HasNumber}
 use Rattle.cell_operators.proofs.Rises.{sum_rises, min_rises, shift_rises, deconvolution_rises, grows_served, priority_served}
 use Rattle.cell_operators.proofs.Meeting.{Meets, curve_from, number_from, has_curve, has_number, curve_holds, number_holds, sum_leaf, served_leaf}
 use Rattle.run_laws.proofs.Members.{Has}
 
 -- ---- numbers that are deviations
-deviation_ahead : (at : CellTable) (F G : Formula) (v : Meaning) → Means at (horizontal F G) v → IsNumberIn Ahead v
+deviation_ahead : (at : CellTable) (F G : Formula) (v : Meaning) → Means at (horizontal F G) v → IsNumberIn IsNonneg v
 deviation_ahead at F G v m =
     let x = number_from (IsHorizontalDeviation (value_at m.operand) (value_at m.gives.operand)) v m.gives.gives in
-    subst (IsNumberIn Ahead) (sym x.1) (horizontals_are_nonnegative (value_at m.operand) (value_at m.gives.operand) x.0 x.2)
+    subst (IsNumberIn IsNonneg) (sym x.1) (horizontals_are_nonnegative (value_at m.operand) (value_at m.gives.operand) x.0 x.2)
 
 module _ (net : Net) (at : CellTable) (P : Cell → Type 0) (meets : Meets net at P) where
-  pub theta_ahead : (i k : ℕ) → P (cell_of Theta i k) → HasNumber at (cell_of Theta i k) Ahead
+  pub theta_ahead : (i k : ℕ) → P (cell_of Theta i k) → HasNumber at (cell_of Theta i k) IsNonneg
   theta_ahead i k p =
       let e = meets.meet (cell_of Theta i k) p in
-      has_number at (cell_of Theta i k) Ahead e.value e.is
+      has_number at (cell_of Theta i k) IsNonneg e.value e.is
       (deviation_ahead at (value Cross i k) (service_at net i k) e.value e.means)
 
-  pub queue_delay_ahead : (s q : ℕ) → P (cell_of QueueDelay s q) → HasNumber at (cell_of QueueDelay s q) Ahead
+  pub queue_delay_ahead : (s q : ℕ) → P (cell_of QueueDelay s q) → HasNumber at (cell_of QueueDelay s q) IsNonneg
   queue_delay_ahead s q p =
       let e = meets.meet (cell_of QueueDelay s q) p in
-      has_number at (cell_of QueueDelay s q) Ahead e.value e.is
+      has_number at (cell_of QueueDelay s q) IsNonneg e.value e.is
       (deviation_ahead at (value Total s q) (value QueueService s q) e.value e.means)
 
-  pub hop_delay_ahead : (i k : ℕ) → P (cell_of HopDelay i k) → HasNumber at (cell_of HopDelay i k) Ahead
+  pub hop_delay_ahead : (i k : ℕ) → P (cell_of HopDelay i k) → HasNumber at (cell_of HopDelay i k) IsNonneg
   hop_delay_ahead i k p =
       let e = meets.meet (cell_of HopDelay i k) p in
       let queue = cell_of QueueDelay (server_of_hop net i k) (queue_of_hop net i k) in
-      let first = number_holds at queue Ahead e.means.operand
+      let first = number_holds at queue IsNonneg e.means.operand
       (queue_delay_ahead (server_of_hop net i k) (queue_of_hop net i k) (meets.closed (cell_of HopDelay i k) queue p (inl refl))) e.means.is in
       let own = deviation_ahead at (value In i k) (value Residual i k) (number e.means.gives.operand) e.means.gives.is in
       record {
@@ -101,7 +101,7 @@ module _ (net : Net) (at : CellTable) (P : Cell → Type 0) (meets : Meets net a
       let f = e.means.operand in
       let x = e.means.gives.operand in
       let h = curve_from (IsMadeBy (Shift x) f f) e.value e.means.gives.gives in
-      let ahead = number_holds at (cell_of HopDelay i k) Ahead x
+      let ahead = number_holds at (cell_of HopDelay i k) IsNonneg x
       (hop_delay_ahead net at P meets i k (meets.closed (cell_of ShiftOut i k) (cell_of HopDelay i k) p (inr (inl refl)))) e.means.gives.is in
       record {
         value = h.0;
@@ -350,7 +350,7 @@ module _ (net : Net) (at : CellTable) (P : Cell → Type 0) (meets : Meets net a
       let cross = e.means.gives.operand in
       let x = e.means.gives.gives.operand in
       let made = curve_from (IsMadeBy (FifoLeft x) β cross) e.value e.means.gives.gives.gives in
-      let ahead = number_holds at (cell_of Theta i k) Ahead x
+      let ahead = number_holds at (cell_of Theta i k) IsNonneg x
       (theta_ahead net at P meets i k (meets.closed (cell_of Residual i k) (cell_of Theta i k) p (inr (inr (inl refl))))) e.means.gives.gives.is in
       let served = curve_holds at queue Serving β (hop_served i k h (meets.closed (cell_of Residual i k) queue p (inl refl))) e.means.is in
       record {

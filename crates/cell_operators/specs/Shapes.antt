@@ -20,7 +20,3 @@ Serving f = IsServed (value_at f)
 
 abbrev pub Grows : SpecCurve → Type 0
 Grows f = GrowsFromZero (value_at f)
-
--- at least 0
-abbrev pub Ahead : Ext → Type 0
-Ahead x = Fin zero_q ≤ₑ x

@@ -3,7 +3,7 @@
 ghost use Rattle.std.specs.Prelude.{◌≡◌, ◌+◌, ◌≤◌, IfOk};
 ghost use Rattle.upp_limits.specs.declared.op_kind.OpKind.TheVariants.{Min, PosMinus, Deconvolve};
 ghost use Rattle.upp_curve.specs.Curve.{value_at};
-ghost use Rattle.min_plus.specs.Functions.{IsFinite};
+ghost use Rattle.min_plus.specs.Functions.{IsNonneg, IsFinite};
 ghost use Rattle.run_laws.specs.Cards.{whole};
 ghost use Rattle.curve_call.specs.Calls.{AppliesTo};
 ghost use Rattle.net_cells.specs.Meanings.{number};
@@ -11,7 +11,7 @@ ghost use Rattle.net_cells.specs.Formulas.{value_of, made, moved, leftover, hori
 ghost use Rattle.net_cells.specs.CellFormulas.{less};
 ghost use Rattle.net_cells.specs.Answers.{Answers};
 ghost use Rattle.cell_table.specs.Values.{answer_of, meaning_of};
-ghost use Rattle.cell_operators.specs.Shapes.{Rises, Serving, Ahead};
+ghost use Rattle.cell_operators.specs.Shapes.{Rises, Serving};
 ghost use Rattle.cell_operators.specs.TableValues.{HasCurve, HasNumber, IsCurveAt, Deviate};
 
 use crate::reading::{curve_at, number_at};
@@ -83,7 +83,7 @@ pub fn later<T: Table<Value>, L: Ledger>(
     steps: &mut Steps<L>,
 ) -> Result<Value, OpFault>
     requires curve { IsCurveAt (T.at table.now) from }
-    requires ahead { HasNumber (T.at table.now) by Ahead }
+    requires ahead { HasNumber (T.at table.now) by IsNonneg }
     ensures answer { Answers (T.at table.now) (moved (value_of from) (value_of by)) (answer_of meaning_of result) }
     ensures count { steps.new ≡ steps.old + 1 }
 {

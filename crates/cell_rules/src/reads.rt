@@ -19,8 +19,8 @@ pub(crate) fn same_curve(f: &Curve, g: &Curve) -> bool
 {
     // What curves keep is in the contracts of these calls.
     normal_form_is_unique();
-    let _first = f.pieces();
-    let _second = g.pieces();
+    f.keeps();
+    g.keeps();
     equal(f, g)
 }
 

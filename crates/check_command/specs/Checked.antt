@@ -44,7 +44,8 @@ rule_word NoMemory = []
 
 -- the file breaks this rule of recorded runs
 abbrev pub run_fault_reply : List ℕ → RunFault → Reply
-run_fault_reply file fault = refusal 1 (file ++ codes ": " ++ rule_word fault.kind ++ codes " row " ++ decimal fault.row)
+run_fault_reply file fault =
+    refusal 1 (file ++ codes ": " ++ rule_word fault.kind ++ codes " row " ++ decimal fault.row)
 
 -- a recorded run has too wide numbers
 abbrev pub too_wide_check : Reply

@@ -11,11 +11,12 @@ use Rattle.rational.proofs.Linear.{with2}
 use Rattle.rational.proofs.Integers.{nat_nonneg, nat_le, nat_le_out}
 use Rattle.rational.proofs.Grid.{whole_int, whole_add, max_whole}
 use Rattle.rational.proofs.MinMax.{max_q_ge_right}
-use Rattle.upp_limits.specs.Limits.{Numbers, Sizes, joined, value_alone, sizes_of, gauge_of}
+use Rattle.upp_limits.specs.Limits.{Numbers, joined, value_alone, sizes_of, gauge_of}
 use Rattle.upp_limits.specs.Sized.{AreSizes, Stands, HeldBy}
 use Rattle.upp_limits.proofs.CommonDen.{common_den_each, same_common_den}
 use Rattle.upp_limits.proofs.Every.{every_left}
 use Rattle.upp_limits.proofs.NarrowSizes.{narrow_limit, scaled_fits}
+use Rattle.upp_limits.proofs.SameSizes.{make_sizes}
 use Rattle.upp_limits.proofs.Stands.{stands_left, stands_right}
 use Rattle.run_laws.specs.Runs.{SpecRun}
 use Rattle.net_model.specs.Networks.{Net, NetServer}
@@ -53,15 +54,12 @@ same_den net run =
 abbrev pub all_numbers : Net → SpecRun → Numbers
 all_numbers net run = joined (check_numbers net run) (value_alone (int (pos (total_bits run.steps))))
 
-make : ℕ → ℕ → ℕ → ℕ → ℕ → Sizes
-make dv dt ds s v = record { dv = dv; dt = dt; ds = ds; steepness = s; largest = v }
-
 pub sizes_are : (net : Net) (run : SpecRun) → sizes_of (farthest net run) (all_numbers net run) ≡ check_sizes net run
-unfolding make
+unfolding make_sizes
 sizes_are net run =
     let z = check_sizes net run in
     sizes_with (farthest net run) (check_numbers net run) (total_bits run.steps)
-    ∙ ap (λ d. make z.dv d z.ds z.steepness z.largest) (same_den net run)
+    ∙ ap (λ d. make_sizes z.dv d z.ds z.steepness z.largest) (same_den net run)
 
 pub gauge_is : (net : Net) (run : SpecRun) → gauge_with 1 (sizes_of (farthest net run) (all_numbers net run)) ≡ check_gauge net run
 unfolding check_gauge gauge_of gauge_with

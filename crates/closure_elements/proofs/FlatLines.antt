@@ -1,11 +1,11 @@
 -- Lines of a slope alone: they are readable where the slope times the time fits.
 use Rattle.std.specs.Prelude.{◌≡◌, ℕ, ◌<◌, ◌/◌, ◌*◌, ◌^◌, ℤ, pos, zero, suc, ◌+ℤ◌, ◌*ℤ◌, nat_abs, List, [], ◌∷◌, Option, Some, None, ◌↔◌, ◌+◌, length}
-use Rattle.std.proofs.Common.{arith, sym, ap, ap₂, ◌∙◌, refl, subst, inl, inr, get_or, drop}
+use Rattle.std.proofs.Common.{arith, sym, ap, ap₂, ◌∙◌, subst, inl, inr, get_or, drop}
 use Rattle.std.proofs.lemmas.Int.{ints}
 use native.Mathlib.Nat.{le_of_dvd, zero-lt-suc, div-one}
-use Rattle.rational.specs.Gcd.{gcd, gcd_steps}
+use Rattle.rational.specs.Gcd.{gcd}
 use Rattle.rational.specs.Euclid.{gcd_is, gcd_pos}
-use Rattle.rational.specs.Rational.{ℚ, ◌*ℚ◌, int, frac, den}
+use Rattle.rational.specs.Rational.{ℚ, ◌*ℚ◌, int, den}
 use Rattle.rational.specs.Ratio.{IsSmall, SumFits, PartsFit}
 use Rattle.rational.proofs.Laws.{mul_zero, le_or_lt}
 use Rattle.affine_segment.specs.declared.line.Line.{Line}
@@ -18,7 +18,7 @@ use Rattle.upp_curve.specs.Readable.{LineFitsTo, EachFits}
 use Rattle.closure_elements.specs.ElementCurves.{stretch, stretches, all_stretches}
 use Rattle.closure_elements.specs.PieceFits.{SlopeFitsAt, SlopesRead}
 use Rattle.closure_elements.proofs.PieceReads.{gap_kept, gap_left, late_start, early_start}
-use Rattle.upp_curve.proofs.ReadableKinds.{zero_num}
+use Rattle.upp_curve.proofs.ReadableKinds.{zero_num, zero_den}
 use Rattle.closure_laws.specs.Star.{nat_times}
 
 -- ---- a sum with 0 fits
@@ -50,10 +50,6 @@ zero_parts n d some h k = record {
 
     more : n ≡ pos 0 +ℤ n
     more = omega (arith, ints)
-
-zero_den : den (int (pos 0)) ≡ 1
-unfolding frac gcd gcd_steps
-zero_den = refl
 
 pub zero_sum : (x : ℚ) → IsSmall x → SumFits (int (pos 0)) x
 zero_sum x h = rw (zero_num, zero_den) (zero_parts x.num (den x) (zero-lt-suc x.pre) h.top h.bottom)

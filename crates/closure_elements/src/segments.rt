@@ -33,7 +33,7 @@ pub(crate) fn made(raw: RawCurve) -> Result<Curve, OpFault>
 {
     match normalise(raw) {
         Ok(c) => {
-            let _tail = c.tail();
+            c.keeps();
             Ok(c)
         }
         Err(fault) => Err(fault),

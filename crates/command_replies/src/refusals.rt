@@ -15,9 +15,9 @@ ghost use Rattle.command_replies.specs.View.{code_of, reply_of};
 
 use crate::answer::{Answer, Status};
 use curve_script::{LangFault, LangKind};
-use net_cells::{Cell, server};
+use net_cells::Cell;
 use net_model::{NetFault, NetKind, Network};
-use report_text::{Refusal, cell_text, refusal_text};
+use report_text::{Refusal, cell_text, refusal_text, server_name};
 use std::alloc::{AllocError, Global};
 use table_text::{TableFault, TableKind};
 
@@ -105,15 +105,6 @@ pub fn cell_too_wide(alloc: Global, net: &Network, cell: Cell) -> Result<Answer,
 }
 
 // The name of a server; empty past the last one.
-fn server_name<'a>(net: &'a Network, number: u32) -> &'a str
-    ensures { result.now ≡ server_name net.now number }
-{
-    match server(net, number) {
-        Some(found) => found.name.as_str(),
-        None => "",
-    }
-}
-
 fn names_along(alloc: Global, net: &Network, walk: &[u32]) -> Result<Vec<String>, AllocError>
     ensures { IfOk result (λ names. map string_bytes names.items ≡ map (server_name net.now) walk.now) }
 {

@@ -6,7 +6,7 @@ use Rattle.std.specs.declared.alloc.Global.{Global}
 use Rattle.std.proofs.lemmas.List.{map-append, take-append-drop, take_more, take_all}
 use Rattle.command_words.specs.Lines.{texts, is_json, without_json}
 
-abbrev Words : Type 0
+abbrev pub Words : Type 0
 Words = List (String Global)
 
 abbrev Texts : Type 0

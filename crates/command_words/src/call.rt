@@ -68,7 +68,8 @@ fn call_of<'a>(alloc: Global, matches: &ArgMatches<'a>) -> Result<Call<'a>, Allo
 /// The call that a taken command line asks for. Refused only for want of memory.
 pub fn parse<'a>(alloc: Global, words: &'a [String]) -> Result<Call<'a>, AllocError>
     requires { AreTaken (texts words.now) }
-    ensures { IfOk result (λ c. IsCallOf (texts words.entry.now) c.word.now (map (λ s. s.now) c.operands.items) c.json) }
+    ensures { IfOk result
+        (λ c. IsCallOf (texts words.entry.now) c.word.now (map (λ s. s.now) c.operands.items) c.json) }
 {
     let command = netcalc(alloc)?;
     match command.try_get_matches_from(words) {

@@ -12,7 +12,7 @@ pub fn seen(answer: Result<Curve, OpFault>) -> Result<Curve, OpFault>
 {
     match answer {
         Ok(c) => {
-            let _tail = c.tail();
+            c.keeps();
             Ok(c)
         }
         Err(fault) => Err(fault),

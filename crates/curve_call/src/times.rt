@@ -152,7 +152,8 @@ fn period_or(f: &Curve, other: Frac) -> Frac
 /// One period of f after it repeats, and then the time from when on both repeat.
 pub(crate) fn ahead(f: &Curve, g: &Curve) -> Option<Frac>
     ensures value { IfSome result
-        (λ t. t ≡ steady f.now +ℚ period_or (common_period f.now g.now) (period_of f.now.tail) +ℚ both_steady f.now g.now) }
+        (λ t. t ≡ steady f.now +ℚ period_or (common_period f.now g.now) (period_of f.now.tail)
+        +ℚ both_steady f.now g.now) }
     ensures fits { AheadFits f.now g.now → IsSome result }
 {
     let common = common_period(f, g)?;

@@ -28,7 +28,8 @@ pub record ReadsAs (f : ℚ → Ext) (until : Option ℚ) (e : Element) (s : ℚ
 
 -- all elements stand within a window's sizes; their times are `from` or later, and before the end they read as f
 -- before `until`; each time of these at which f is finite is a time of one
-pub record AreSpanElements (z : Sizes) (end : ℚ) (f : ℚ → Ext) (from : ℚ) (until : Option ℚ) (es : List Element) : Type 0 where
+pub record AreSpanElements (z : Sizes) (end : ℚ) (f : ℚ → Ext) (from : ℚ) (until : Option ℚ)
+    (es : List Element) : Type 0 where
   pub proper : (e : Element) → Among e es → IsProper e
   pub stands : (e : Element) → Among e es → OperandElement z end e
   pub late : (e : Element) (s : ℚ) → Among e es → Covers e s → from ≤ℚ s
@@ -37,6 +38,7 @@ pub record AreSpanElements (z : Sizes) (end : ℚ) (f : ℚ → Ext) (from : ℚ
 
 -- pieces from 0 on that read, before the end, as what f and g make of the splits of which the first side is in [from,
 -- until) and the second is `low` or later
-pub record IsPartWindow (z : Sizes) (end : ℚ) (f g : ℚ → Ext) (from : ℚ) (until : Option ℚ) (low : ℚ) (ps : List Piece) : Type 0 where
+pub record IsPartWindow (z : Sizes) (end : ℚ) (f g : ℚ → Ext) (from : ℚ) (until : Option ℚ) (low : ℚ)
+    (ps : List Piece) : Type 0 where
   pub stands : SumWindow z end ps
   pub reads : (t : ℚ) → int (pos 0) ≤ℚ t → t <ℚ end → IsPart f g (InPart from None until low) t (read ps t)

@@ -3,7 +3,6 @@
 ghost use Rattle.std.specs.Prelude.{◌≡◌, ◌↔◌, IsTrue};
 ghost use Rattle.rational.specs.Rational.{ℚ, ◌<ℚ◌};
 ghost use Rattle.rational.specs.Extended.{◌<ₑ◌};
-ghost use Rattle.affine_segment.specs.Values.{line_at};
 ghost use Rattle.affine_segment.specs.Elements.{IsProper, element_value, part_value, joined_value, PairSplit, pair_sum, AreAdjoined};
 ghost use Rattle.upp_limits.specs.Limits.{Sizes};
 ghost use Rattle.upp_normal.specs.Ahead.{GoesOn};
@@ -12,7 +11,7 @@ ghost use Rattle.element_envelope.specs.ElementRoom.{OperandElement, SumElement,
 ghost use Rattle.curve_conv.specs.Stretches.{SumStretch, SumTimeIn, IsAhead, end_time, until_time, point_at, open_at, PartPair, part_pair_sum, IsProperPart, OperandPart};
 
 use crate::lower::lower;
-use affine_segment::{Element, Joined, Line, value};
+use affine_segment::{Element, Joined, Line, line_at};
 use element_envelope::joined;
 use fraction128::{Ext, Frac, is_less};
 use rational::Extended;
@@ -38,14 +37,6 @@ fn end_time(to: &Ext) -> Option<Frac>
         Extended::Inf => None,
         Extended::Fin(e) => Some(e),
     }
-}
-
-// The value of a line, where its steps fit.
-fn fitting_value(line: &Line, t: Frac) -> Frac
-    requires { LineFits t line.now }
-    ensures { result ≡ line_at line.now t }
-{
-    value(line, t).unwrap()
 }
 
 // Whether t is before the end of a segment.
@@ -84,7 +75,7 @@ fn begun_stretch(from: Frac, to: &Ext, line: &Line, t: Frac) -> Stretch
 {
     if is_inside(t, to) {
         return Stretch {
-            at: Extended::Fin(fitting_value(line, t)),
+            at: Extended::Fin(line_at(line, t)),
             line: Some(*line),
             next: end_time(to),
         };

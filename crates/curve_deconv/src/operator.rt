@@ -55,8 +55,8 @@ fn is_faster(f: &Curve, g: &Curve) -> bool
     ensures faster { IsTrue result ↔ (rate g.now <ₑ rate f.now) }
     ensures kept { IsCurve f.now × IsCurve g.now }
 {
-    let _first = f.tail();
-    let _second = g.tail();
+    f.keeps();
+    g.keeps();
     is_slower(&Side::of(g), &Side::of(f))
 }
 

@@ -47,7 +47,7 @@ fn value_then(c: &Curve, time: Frac) -> Option<Frac>
     ensures value { IfSome result (λ v. value_at c.now time ≡ Extended.Fin v) }
     ensures fits { (z : Sizes) (end : ℚ) → IsSeen z end c.now → steady c.now <ℚ end → IsSome result }
 {
-    let _kept = c.tail();
+    c.keeps();
     match c.value_at(time) {
         Err(_) => None,
         Ok(value) => match value {
@@ -75,8 +75,8 @@ fn first_number(f: &Curve, g: &Curve) -> Option<u128>
     requires { AreFinite f.now g.now }
     ensures { MatchOption result (IsWideCall f.now g.now) (IsFirst f.now g.now) }
 {
-    let _first = f.tail();
-    let _second = g.tail();
+    f.keeps();
+    g.keeps();
     if is_level(f) {
         return Some(0);
     }
@@ -107,8 +107,8 @@ fn periods_of(f: &Curve, g: &Curve) -> Option<Periods>
     requires { AreFinite f.now g.now }
     ensures { MatchOption result (IsWideCall f.now g.now) (AreFound f.now g.now) }
 {
-    let _first = f.tail();
-    let _second = g.tail();
+    f.keeps();
+    g.keeps();
     match first_number(f, g) {
         None => None,
         Some(first) => match turn_after(f, g, first) {
@@ -145,8 +145,8 @@ fn looked_for(f: &Curve, g: &Curve) -> Result<Ext, OpFault>
     ensures limits { KeepsLimits OpKind.Horizontal f.now g.now result }
     ensures memory { IfErr result (λ e. ¬ (e ≡ OpFault.NoMemory)) }
 {
-    let _first = f.tail();
-    let _second = g.tail();
+    f.keeps();
+    g.keeps();
     let Some(periods) = periods_of(f, g) else {
         return Err(OpFault::TooWide);
     };

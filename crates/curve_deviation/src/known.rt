@@ -35,8 +35,8 @@ pub(crate) fn is_known(f: &Curve, g: &Curve) -> bool
     ensures finite { ¬ (IsTrue result) → IsFinite (value_at f.now) }
     ensures kept { IsCurve f.now × IsCurve g.now }
 {
-    let _first = f.tail();
-    let _second = g.tail();
+    f.keeps();
+    g.keeps();
     if !is_number(f) {
         return true;
     }

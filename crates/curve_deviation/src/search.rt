@@ -104,8 +104,8 @@ fn is_before(f: &Curve, g: &Curve, stage: &Stage, k: u128) -> bool
     ensures past { ¬ (IsTrue result) → IsPast (Meets stage.now f.now g.now k) (stage_gauge stage.now f.now g.now k) }
     ensures kept { IsCurve f.now × IsCurve g.now }
 {
-    let _first = f.tail();
-    let _second = g.tail();
+    f.keeps();
+    g.keeps();
     match *stage {
         Stage::First { level } => is_first_before(f, g, level, k),
         Stage::Second { first, level } => is_second_before(f, g, first, level, k),

@@ -58,7 +58,7 @@ pub(crate) fn is_number(f: &Curve) -> bool
     ensures finite { IsTrue result ↔ IsFinite (value_at f.now) }
     ensures kept { IsCurve f.now }
 {
-    let _kept = f.tail();
+    f.keeps();
     f.is_finite()
 }
 
@@ -67,7 +67,7 @@ pub(crate) fn is_faster(f: &Curve, g: &Curve) -> bool
     ensures faster { IsTrue result ↔ (rate g.now <ₑ rate f.now) }
     ensures kept { IsCurve g.now }
 {
-    let _kept = g.tail();
+    g.keeps();
     is_slower(&Side::of(g), &Side::of(f))
 }
 

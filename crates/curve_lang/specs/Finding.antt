@@ -42,7 +42,8 @@ Found = Result SpecCurve LangKind
 
 -- ---- one finding after another
 -- r is what Q finds with what P finds, or why P finds nothing
-pub data Then {A B : Type 0} (P : Result A LangKind → Type 0) (Q : A → Result B LangKind → Type 0) (r : Result B LangKind) : Type 0 where
+pub data Then {A B : Type 0} (P : Result A LangKind → Type 0) (Q : A → Result B LangKind → Type 0)
+    (r : Result B LangKind) : Type 0 where
   goes_on : (x : A) → P (Ok x) → Q x r → Then P Q r
   stops : (k : LangKind) → P (Err k) → r ≡ Err k → Then P Q r
 

@@ -137,7 +137,8 @@ abbrev pub Told : Type 0
 Told = Result (List Answered) LangFault
 
 -- the first statement finds something and the others go on, or the script ends with its fault
-pub data LineThen (line : ℕ) (P : Result Added LangKind → Type 0) (next : Added → Told → Type 0) (r : Told) : Type 0 where
+pub data LineThen (line : ℕ) (P : Result Added LangKind → Type 0) (next : Added → Told → Type 0)
+    (r : Told) : Type 0 where
   goes_on : (x : Added) → P (Ok x) → next x r → LineThen line P next r
   stops : (k : LangKind) → P (Err k) → r ≡ Err (fault_at k line) → LineThen line P next r
 

@@ -56,7 +56,8 @@ pub(crate) fn give_name(
     curve: Rc<Curve>,
 ) -> Result<(), AllocError>
     ensures { OnOk result
-        (map let_view lets.new.items ≡ map let_view lets.old.items ++ record { name = word.now; curve = curve.value } ∷ []) }
+        (map let_view lets.new.items ≡ map let_view lets.old.items
+        ++ record { name = word.now; curve = curve.value } ∷ []) }
 {
     let name = String::from_str(alloc, word)?;
     lets.push(Named { name, curve })?;

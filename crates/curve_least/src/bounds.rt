@@ -127,7 +127,8 @@ pub fn bounds_below(slow: &Side, fast: &Side, from: Frac, period: Frac) -> Optio
 pub fn side_bounds(f: &Side, g: &Side, from: Frac, period: Frac) -> Option<Bounds>
     requires { (z : Sizes) × AreCompared z from period f.now g.now }
     ensures { IfSome result
-        (AreBounds (λ k. IsSlowerBelow (value_at f.now) (value_at g.now) (rate f.now) (rate g.now) (periods_after from k period) period)) }
+        (AreBounds (λ k. IsSlowerBelow (value_at f.now) (value_at g.now) (rate f.now) (rate g.now)
+        (periods_after from k period) period)) }
 {
     if is_slower(f, g) {
         return bounds_below(f, g, from, period);
@@ -142,7 +143,8 @@ pub fn side_bounds(f: &Side, g: &Side, from: Frac, period: Frac) -> Option<Bound
 pub fn period_bounds(f: &Curve, g: &Curve, from: Frac, period: Frac) -> Option<Bounds>
     requires { (z : Sizes) × AreCompared z from period f.now g.now }
     ensures { IfSome result
-        (AreBounds (λ k. IsSlowerBelow (value_at f.now) (value_at g.now) (rate f.now) (rate g.now) (periods_after from k period) period)) }
+        (AreBounds (λ k. IsSlowerBelow (value_at f.now) (value_at g.now) (rate f.now) (rate g.now)
+        (periods_after from k period) period)) }
 {
     side_bounds(&Side::of(f), &Side::of(g), from, period)
 }

@@ -102,8 +102,10 @@ pub fn is_slower(f: &Side, g: &Side) -> bool
 pub fn side_periods(f: &Side, g: &Side, from: Frac, period: Frac) -> Option<u128>
     requires { (z : Sizes) × AreCompared z from period f.now g.now }
     ensures { MatchOption result
-        ((k : ℕ) → ¬ (IsSlowerBelow (value_at f.now) (value_at g.now) (rate f.now) (rate g.now) (periods_after from k period) period))
-        (IsLeast (λ k. IsSlowerBelow (value_at f.now) (value_at g.now) (rate f.now) (rate g.now) (periods_after from k period) period)) }
+        ((k : ℕ) → ¬ (IsSlowerBelow (value_at f.now) (value_at g.now) (rate f.now) (rate g.now)
+        (periods_after from k period) period))
+        (IsLeast (λ k. IsSlowerBelow (value_at f.now) (value_at g.now) (rate f.now) (rate g.now)
+        (periods_after from k period) period)) }
 {
     if is_slower(f, g) {
         return least_below(f, g, from, period);
@@ -122,8 +124,10 @@ pub fn side_periods(f: &Side, g: &Side, from: Frac, period: Frac) -> Option<u128
 pub fn least_periods(f: &Curve, g: &Curve, from: Frac, period: Frac) -> Option<u128>
     requires { (z : Sizes) × AreCompared z from period f.now g.now }
     ensures { MatchOption result
-        ((k : ℕ) → ¬ (IsSlowerBelow (value_at f.now) (value_at g.now) (rate f.now) (rate g.now) (periods_after from k period) period))
-        (IsLeast (λ k. IsSlowerBelow (value_at f.now) (value_at g.now) (rate f.now) (rate g.now) (periods_after from k period) period)) }
+        ((k : ℕ) → ¬ (IsSlowerBelow (value_at f.now) (value_at g.now) (rate f.now) (rate g.now)
+        (periods_after from k period) period))
+        (IsLeast (λ k. IsSlowerBelow (value_at f.now) (value_at g.now) (rate f.now) (rate g.now)
+        (periods_after from k period) period)) }
 {
     side_periods(&Side::of(f), &Side::of(g), from, period)
 }

@@ -44,7 +44,8 @@ KeepsCauses negative zero_period c (Err (Op limit)) = Passes negative zero_perio
 KeepsCauses negative zero_period c (Err NoMemory) = Passes negative zero_period × IsWithinOwn c
 
 -- which answer comes when: the first of the causes that is there
-pub record AnswersFirst (negative zero_period : Type 0) (c : SpecCurve) (answer : Result SpecCurve CurveFault) : Type 0 where
+pub record AnswersFirst (negative zero_period : Type 0) (c : SpecCurve)
+    (answer : Result SpecCurve CurveFault) : Type 0 where
   pub below : negative → answer ≡ Err Negative
   pub empty : ¬ negative → zero_period → answer ≡ Err ZeroPeriod
   pub over : (limit : OverLimit) → Passes negative zero_period → IsOver c limit → answer ≡ Err (Op limit)

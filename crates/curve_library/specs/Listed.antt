@@ -170,7 +170,8 @@ abbrev pub AnswersOrWants : Result SpecCurve CurveFault → CurveFault → Type 
 AnswersOrWants answer fault = (answer ≡ Err fault) ⊎ (answer ≡ Err NoMemory)
 
 -- which answer comes when: the first of the causes that is there
-pub record ListsFirst (ps : List PieceText) (tail : Option TailText) (u : UseAs) (answer : Result SpecCurve CurveFault) : Type 0 where
+pub record ListsFirst (ps : List PieceText) (tail : Option TailText) (u : UseAs)
+    (answer : Result SpecCurve CurveFault) : Type 0 where
   pub below : ¬ (AreNonneg ps tail) → answer ≡ Err Negative
   pub empty : AreNonneg ps tail → ¬ (HasLength tail) → answer ≡ Err ZeroPeriod
   pub order : AreNonneg ps tail → HasLength tail → ¬ (AreInOrder ps tail) → answer ≡ Err NotRising

@@ -44,7 +44,7 @@ fn unchanged(raw: RawCurve) -> Result<Curve, CurveFault>
 {
     match normalise(raw) {
         Ok(c) => {
-            let _tail = c.tail();
+            c.keeps();
             Ok(c)
         }
         Err(_) => Err(CurveFault::NoMemory),

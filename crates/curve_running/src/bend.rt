@@ -51,7 +51,10 @@ fn straight(line: Line) -> Bend
 
 // A bend to a line at its meeting with a level.
 fn turned(first: Line, x: Frac, level: Frac, second: Line) -> Bend
-    ensures { result ≡ record { line = first; turn = Some record { x = x; at = Extended.Fin level; line = Some second } } }
+    ensures { result ≡ record {
+      line = first;
+      turn = Some record { x = x; at = Extended.Fin level; line = Some second };
+    } }
 {
     Bend {
         line: first,

@@ -52,11 +52,17 @@ made_line Excess false l m = line_apart l m
 -- ---- of a stretch
 -- its beginning
 abbrev pub first_piece : Made → Bool → Both → Piece
-first_piece k below b = record { x = b.left.x; at = made_value k b.left.at b.right.at; line = made_line k below b.left.line b.right.line }
+first_piece k below b =
+    record { x = b.left.x; at = made_value k b.left.at b.right.at; line = made_line k below b.left.line b.right.line }
 
 -- from where its lines change places
 abbrev pub turn_piece : Made → Bool → Both → ℚ → Piece
-turn_piece k below b x = record { x = x; at = line_value (made_line k below b.left.line b.right.line) x; line = made_line k below b.left.line b.right.line }
+turn_piece k below b x =
+    record {
+      x = x;
+      at = line_value (made_line k below b.left.line b.right.line) x;
+      line = made_line k below b.left.line b.right.line;
+    }
 
 abbrev pub parts_by : Made → Both → Bool → Option ℚ → Parts
 parts_by k b below None = record { first = first_piece k below b; turn = None }

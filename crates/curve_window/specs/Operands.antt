@@ -24,7 +24,8 @@ HaveSizes end f g = (z : Sizes) × AreOperands z end f g
 -- before `end` the pieces ps, from 0 on, read as `made` of the readings of f and g; with the call's sizes they have
 -- room, and starts that are not on its grid of times are bends, where the slope rises (true), or falls (false); two
 -- for each piece of f and g at most
-pub record IsMadeOf (made : Ext → Ext → Ext) (rises : Bool) (f g : List Piece) (end : ℚ) (ps : List Piece) : Type 0 where
+pub record IsMadeOf (made : Ext → Ext → Ext) (rises : Bool) (f g : List Piece) (end : ℚ)
+    (ps : List Piece) : Type 0 where
   pub starts : StartsAtZero ps
   pub reads : (t : ℚ) → int (pos 0) ≤ℚ t → t <ℚ end → read ps t ≡ made (read f t) (read g t)
   pub early : Each (λ p. p.x <ℚ end) ps

@@ -5,7 +5,15 @@ use Rattle.rational.specs.declared.Extended.TheVariants.{Fin}
 use Rattle.affine_segment.specs.declared.line.Piece.{Piece}
 
 abbrev pub level_pieces : List Piece
-level_pieces = record { x = int (pos 0); at = Fin (int (pos 1)); line = Some record { icept = int (pos 1); slope = int (pos 0) } } ∷ []
+level_pieces = record {
+  x = int (pos 0);
+  at = Fin (int (pos 1));
+  line = Some record { icept = int (pos 1); slope = int (pos 0) };
+} ∷ []
 
 abbrev pub ramp_pieces : List Piece
-ramp_pieces = record { x = int (pos 0); at = Fin (int (pos 0)); line = Some record { icept = int (pos 0); slope = int (pos 1) } } ∷ []
+ramp_pieces = record {
+  x = int (pos 0);
+  at = Fin (int (pos 0));
+  line = Some record { icept = int (pos 0); slope = int (pos 1) };
+} ∷ []

@@ -42,7 +42,8 @@ pub record IsWithinLimits (net_bytes edits_bytes : List ℕ) : Type 0 where
 abbrev pub RepliesAreComplete : Type 0
 RepliesAreComplete =
     (form : Form) (net_file net_bytes edits_file edits_bytes : List ℕ) (reply : Reply)
-    → IsWithinLimits net_bytes edits_bytes → IsEditReply form net_file net_bytes edits_file edits_bytes reply → reply.status ≡ 0
+    → IsWithinLimits net_bytes edits_bytes → IsEditReply form net_file net_bytes edits_file edits_bytes reply
+    → reply.status ≡ 0
 
 -- ---- one reply
 -- what is said tells of a cycle of this network, by some walk

@@ -39,7 +39,8 @@ edit_report form net at answers = record { status = 0; bytes = edit_report_in fo
 
 -- no cell of a network is over a limit; edits have these answers, one after the other, and leave a network that is told
 -- with the numbers of a table of it, which meets its equations, in this form
-pub record AreReported (form : Form) (first : Net) (edits : List Edit) (net : Net) (at : CellTable) (reply : Reply) : Type 0 where
+pub record AreReported (form : Form) (first : Net) (edits : List Edit) (net : Net) (at : CellTable)
+    (reply : Reply) : Type 0 where
   pub table : CellTable
   pub analysed : IsAnalysed first table
   pub answers : List EditSaid
@@ -51,7 +52,8 @@ pub record AreReported (form : Form) (first : Net) (edits : List Edit) (net : Ne
   pub is : reply ≡ edit_report form net at answers
 
 -- so it is for the network of the file and the edits that the list asks for
-pub record IsReported (form : Form) (net : Net) (at : CellTable) (net_bytes edits_bytes : List ℕ) (reply : Reply) : Type 0 where
+pub record IsReported (form : Form) (net : Net) (at : CellTable) (net_bytes edits_bytes : List ℕ)
+    (reply : Reply) : Type 0 where
   pub first : Net
   pub gives : IsNetOf net_bytes first
   pub edits : List Edit

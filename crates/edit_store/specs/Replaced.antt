@@ -35,7 +35,8 @@ networks_before [] net = []
 networks_before (r ∷ rs) net = put_back r (first_network rs net) ∷ networks_before rs net
 
 -- they are networks as every one is, and there is a version of the values for each
-pub record IsKept {V : Type 0} (meaning : V → Meaning) (replaced : List Replaced) (present : Net) (values : History V) : Type 0 where
+pub record IsKept {V : Type 0} (meaning : V → Meaning) (replaced : List Replaced) (present : Net)
+    (values : History V) : Type 0 where
   pub stored : IsStored meaning (networks_before replaced present) present values
   pub accepted : All IsAccepted (networks_before replaced present)
 

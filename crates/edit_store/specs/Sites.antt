@@ -47,7 +47,8 @@ EditsAreMadeAtOneSite =
 
 -- so it is the same but there
 abbrev pub EditsHaveOneSite : Type 0
-EditsHaveOneSite = (present net : Net) (edit : Edit) → Gives present edit net → IsSameBut (site_of present edit) present net
+EditsHaveOneSite = (present net : Net) (edit : Edit) → Gives present edit net
+    → IsSameBut (site_of present edit) present net
 
 -- so each of its cells that may not change there was one before, made of the same
 abbrev pub EditsKeepOtherRules : Type 0

@@ -31,7 +31,8 @@ pub record HoldsTable {V : Type 0} (meaning : V → Meaning) (net : Net) (versio
   pub nothing : (c : Cell) → has_cell net c ≡ false → placed meaning version c ≡ None
 
 -- there is one version for each network, in their order, and it holds that network's table
-pub record IsStored {V : Type 0} (meaning : V → Meaning) (before : List Net) (present : Net) (values : History V) : Type 0 where
+pub record IsStored {V : Type 0} (meaning : V → Meaning) (before : List Net) (present : Net)
+    (values : History V) : Type 0 where
   pub many : length before ≡ length values.kept
   pub each : (j : ℕ) (net : Net) (version : List (Option V)) → j < length before
       → HoldsTable meaning (slice_index_or before j net) (slice_index_or values.kept j version)

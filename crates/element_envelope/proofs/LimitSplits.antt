@@ -9,8 +9,8 @@ use Rattle.rational.specs.Line.{line_at as at_line}
 use Rattle.rational.specs.MinMax.{min_q}
 use Rattle.rational.specs.Stretch.{Between}
 use Rattle.rational.specs.declared.Extended.TheVariants.{Fin, Inf}
-use Rattle.rational.proofs.Linear.{with2, with3, with4}
-use Rattle.rational.proofs.Laws.{le_or_lt, le_of_lt, le_refl, le_trans, lt_le_trans, le_lt_trans, antisym, add_comm, half, half_is, half_pos, mul_zero, add_zero, sub_mul}
+use Rattle.rational.proofs.Linear.{sub_nonneg, sub_pos, with2, with3, with4}
+use Rattle.rational.proofs.Laws.{le_or_lt, le_of_lt, le_refl, le_trans, lt_le_trans, le_lt_trans, antisym, add_comm, half, half_is, half_pos, mul_zero, add_zero, sub_add, sub_mul}
 use Rattle.rational.proofs.MinMax.{min_q_le_left}
 use Rattle.rational.proofs.Stretch.{line_infimum}
 use Rattle.rational.proofs.ExtendedOrder.{same_le_ext, le_ext_trans, le_lt_ext, fin_same, finite_sum, add_le_ext, add_ext_comm}
@@ -29,7 +29,7 @@ use Rattle.element_envelope.specs.LimitCopies.{afters, befores_from, befores, Li
 use Rattle.element_envelope.proofs.Members.{at_most_finite, number_below}
 use Rattle.element_envelope.proofs.StartSplits.{start_is, IsStart, IsStartBelow, swapped, first_at, sum_at, turned, lower, second_late, flipped, rest, turned_split, start_split}
 use Rattle.element_envelope.proofs.ArchBends.{smaller}
-use Rattle.element_envelope.proofs.StartTurns.{apart, line_down, line_up, one_pos, Before, After, after_more, before_more, before_start}
+use Rattle.element_envelope.proofs.StartTurns.{line_down, line_up, one_pos, Before, After, after_more, before_more, before_start}
 
 -- ---- the lists with limits
 after_of : Piece → Piece
@@ -78,7 +78,7 @@ inside_before : (p : Piece) (ps : List Piece) (l : Line) (w v : ℚ) → p.x <�
     → Before (read (p ∷ ps)) p.x w v l.slope
 inside_before p ps l w v late on is =
     let room = half (w -ℚ p.x) in
-    let some = half_pos (apart p.x w late) in
+    let some = half_pos (sub_pos p.x w late) in
     let e = half_is (w -ℚ p.x) in
     record {
       h = room;
@@ -117,7 +117,7 @@ afters_read p (q ∷ qs) w v r late is = elim (le_or_lt q.x w) [
       let value = sym (read_stop (after_of p) (after_of q) (afters qs) w h ∙ after_value p w late) ∙ is in
       let (l, line) = line_found p.line w v value in
       let room = half (q.x -ℚ w) in
-      let some = half_pos (apart w q.x h) in (
+      let some = half_pos (sub_pos w q.x h) in (
         l.slope,
         inside_after p (q ∷ qs) l w v room late some
             (λ y a b. read_stop p q qs y (before y w q.x room (half_is (q.x -ℚ w)) some b) ∙ value_past p y a ∙ ap (λ o. line_value o y) line)
@@ -213,12 +213,6 @@ near_split F G t s u v w a b y whole nonneg B A l =
     regroup : (v w p q : ℚ) → (v +ℚ w) +ℚ (q -ℚ p) ≡ (v -ℚ p) +ℚ (w +ℚ q)
     regroup v w p q = with4 v w p q (λ c. omega (arith, c.le, c.lt, c.same))
 
-left_nonneg : (x t : ℚ) → x ≤ℚ t → int (pos 0) ≤ℚ t -ℚ x
-left_nonneg x t h = with2 x t (λ c. omega (arith, c.le, c.lt, c.same))
-
-whole_of : (x t : ℚ) → x +ℚ (t -ℚ x) ≡ t
-whole_of x t = with2 x t (λ c. omega (arith, c.le, c.lt, c.same))
-
 -- a copy by limits has splits below each number above it
 near_limits : (f g : List Piece) (t y : ℚ) → StartsAtZero f → StartsAtZero g → (i : StartSplit (befores f) t ⊎ StartSplit (afters g) t)
     → either (start_sum (befores f) (afters g) t) (start_sum (afters g) (befores f) t) i <ₑ Fin y → (s : Split t) × (read f s.first +ₑ read g s.second <ₑ Fin y)
@@ -228,8 +222,8 @@ near_limits f g t y hf hg (inl i) l =
     let (v, w, p, q) = finite_sum c.at (read (afters g) (t -ℚ c.x)) m e in
     let sum : Fin (v +ℚ w) <ₑ Fin y = subst (λ z. z <ₑ Fin y) (ap₂ (λ (a b : Ext). a +ₑ b) p q) l in
     let B = before_at f c.x v hf ((start_is (befores f) c (starts_befores f hf) i.among).1 ∙ p) in
-    let A = after_at g (t -ℚ c.x) w hg (left_nonneg c.x t i.late) q in
-    near_split (read f) (read g) t c.x (t -ℚ c.x) v w B.0 A.0 y (whole_of c.x t) (left_nonneg c.x t i.late) B.1 A.1 sum
+    let A = after_at g (t -ℚ c.x) w hg (sub_nonneg c.x t i.late) q in
+    near_split (read f) (read g) t c.x (t -ℚ c.x) v w B.0 A.0 y (add_comm c.x (t -ℚ c.x) ∙ sub_add t c.x) (sub_nonneg c.x t i.late) B.1 A.1 sum
 near_limits f g t y hf hg (inr i) l =
     let c = i.piece in
     let (m, e) = number_below (start_sum (afters g) (befores f) t i) y l in
@@ -238,7 +232,7 @@ near_limits f g t y hf hg (inr i) l =
     let k = start_is (afters g) c (starts_afters g hg) i.among in
     let A = after_at g c.x w hg k.0 (k.1 ∙ q) in
     let B = before_at f (t -ℚ c.x) v hf p in
-    near_split (read f) (read g) t (t -ℚ c.x) c.x v w B.0 A.0 y (add_comm (t -ℚ c.x) c.x ∙ whole_of c.x t) k.0 B.1 A.1 (subst (λ z. z <ℚ y) (add_comm w v) sum)
+    near_split (read f) (read g) t (t -ℚ c.x) c.x v w B.0 A.0 y (sub_add t c.x) k.0 B.1 A.1 (subst (λ z. z <ℚ y) (add_comm w v) sum)
 
 -- ---- a time on a line
 -- its line from a start on, up to the next one: after the start what is read after, and before the next what is read before

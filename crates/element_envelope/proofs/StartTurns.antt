@@ -5,7 +5,7 @@ use Rattle.rational.specs.Rational.{ℚ, ◌+ℚ◌, ◌-ℚ◌, ◌*ℚ◌, ◌
 use Rattle.rational.specs.Extended.{Ext, ◌≤ₑ◌, ◌<ₑ◌, ◌+ₑ◌, min_ext}
 use Rattle.rational.specs.Families.{either}
 use Rattle.rational.specs.declared.Extended.TheVariants.{Fin, Inf}
-use Rattle.rational.proofs.Linear.{with2, with3, with4}
+use Rattle.rational.proofs.Linear.{sub_pos, with2, with3, with4}
 use Rattle.rational.proofs.Laws.{le_or_lt, le_of_lt, le_refl, le_trans, lt_le_trans, le_lt_trans, lt_irrefl, add_comm, half, half_is, half_pos, mul_add, mul_sub, mul_lt_mul_right}
 use Rattle.rational.proofs.ExtendedOrder.{same_le_ext, le_ext_trans, le_ext_total, le_ext_refl, le_of_lt_ext, fin_same, finite_sum, finite_below, add_le_ext, add_ext_comm}
 use Rattle.rational.proofs.Bounds.{infimum_union}
@@ -24,9 +24,6 @@ use Rattle.element_envelope.proofs.Members.{Matched, matched_out}
 use Rattle.element_envelope.proofs.StartSplits.{start_is, Inside, found_in, any_split, turned_split, start_split}
 
 -- ---- lines
-pub apart : (a b : ℚ) → a <ℚ b → int (pos 0) <ℚ b -ℚ a
-apart a b h = with2 a b (λ c. omega (arith, c.le, c.lt, c.same))
-
 pub line_down : (l : Line) (x d v : ℚ) → v ≡ line_at l x → line_at l (x -ℚ d) ≡ v -ℚ l.slope *ℚ d
 line_down l x d v e = ap (λ z. l.icept +ℚ z) (mul_sub l.slope x d) ∙ regroup l.icept (l.slope *ℚ x) (l.slope *ℚ d) ∙ ap (λ z. z -ℚ l.slope *ℚ d) (sym e)
   where
@@ -123,7 +120,7 @@ inside_even ps s v I e = record {
   falls = le_refl I.line.slope;
   before = record {
     h = s -ℚ I.low.x;
-    some = apart I.low.x s I.early;
+    some = sub_pos I.low.x s I.early;
     room = subst (λ z. int (pos 0) ≤ℚ z) (sym (back s I.low.x)) I.from;
     below = λ d p q. subst (λ z. read ps (s -ℚ d) ≤ₑ Fin z) (line_down I.line s d v (sym e))
         (I.below (s -ℚ d) (flipped s d I.low.x q) (le_ext_trans (Fin (s -ℚ d)) (Fin s) I.high (down s d p) (le_of_lt_ext (Fin s) I.high I.late)));
@@ -153,7 +150,7 @@ inside_even ps s v I e = record {
     by : (b : Ext) → I.high ≡ b → After (read ps) s v I.line.slope
     by Inf k = after_to (int (pos 1)) one_pos (λ d q. subst (λ z. Fin (s +ℚ d) ≤ₑ z) (sym k) tt)
     by (Fin x) k =
-        after_to (x -ℚ s) (apart s x (subst (λ z. Fin s <ₑ z) k I.late)) (λ d q. subst (λ z. Fin (s +ℚ d) ≤ₑ z) (sym k) (reached s d x q))
+        after_to (x -ℚ s) (sub_pos s x (subst (λ z. Fin s <ₑ z) k I.late)) (λ d q. subst (λ z. Fin (s +ℚ d) ≤ₑ z) (sym k) (reached s d x q))
 
 -- ---- starts that are left out
 -- past a start of value v the pieces follow its line, up to the next start
@@ -165,7 +162,7 @@ after_start r [] l v h line is = record {
 }
 after_start r (n ∷ rs) l v h line is =
     let room = half (n.x -ℚ r.x) in
-    let some = half_pos (apart r.x n.x h.0) in
+    let some = half_pos (sub_pos r.x n.x h.0) in
     record {
       h = room;
       some = some;
@@ -204,7 +201,7 @@ before_more p r rs s v slope late B = record {
 pub before_start : (p r : Piece) (rs : List Piece) (l : Line) (v : ℚ) → p.x <ℚ r.x → p.line ≡ Some l → v ≡ line_at l r.x → Before (read (p ∷ r ∷ rs)) p.x r.x v l.slope
 before_start p r rs l v h line is =
     let room = half (r.x -ℚ p.x) in
-    let some = half_pos (apart p.x r.x h) in
+    let some = half_pos (sub_pos p.x r.x h) in
     record {
       h = room;
       some = some;

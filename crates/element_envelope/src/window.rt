@@ -6,7 +6,7 @@ ghost use Rattle.affine_segment.specs.Elements.{start_of, AreAdjoined};
 ghost use Rattle.element_envelope.specs.JoinedWindows.{after_end, part_pieces, first_pieces, turn_pieces};
 ghost use Rattle.element_envelope.specs.JoinedWindows.{joined_list, lead_of, IsWindowOf};
 
-use affine_segment::{Element, Joined, Piece};
+use affine_segment::{Element, Joined, Piece, start_of};
 use fraction128::{Ext, Frac};
 use rational::Extended;
 use std::alloc::{AllocError, Global};
@@ -100,19 +100,6 @@ fn push_joined(pieces: &mut Vec<Piece>, j: &Joined) -> Result<(), AllocError>
     }
 }
 
-fn start(e: &Element) -> Frac
-    ensures { result ≡ start_of e.now }
-{
-    match *e {
-        Element::Point { x, v: _ } => x,
-        Element::Open {
-            from,
-            to: _,
-            line: _,
-        } => from,
-    }
-}
-
 /// Infinity from 0 on, up to a later start.
 pub(crate) fn lead(alloc: Global, start: Frac) -> Result<Vec<Piece>, AllocError>
     ensures { IfOk result (λ v. v.items ≡ lead_of start) }
@@ -137,7 +124,7 @@ pub fn joined_window(alloc: Global, j: &Joined) -> Result<Vec<Piece>, AllocError
     requires adjoined { AreAdjoined j.now.first j.now.join j.now.second }
     ensures { IfOk result (λ v. IsWindowOf j.now v.items) }
 {
-    let mut pieces = lead(alloc, start(&j.first))?;
+    let mut pieces = lead(alloc, start_of(&j.first))?;
     push_joined(&mut pieces, j)?;
     Ok(pieces)
 }

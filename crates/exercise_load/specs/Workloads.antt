@@ -4,6 +4,7 @@ use Rattle.std.specs.Fmt.{decimal}
 use Rattle.std.specs.List.{filter, flat_map, range_with_len}
 use Rattle.rational.specs.Rational.{ℚ, int}
 use Rattle.min_plus.specs.Functions.{zero_q}
+pub use Rattle.min_plus.specs.Functions.{whole}
 use Rattle.upp_curve.specs.Kinds.{rate_latency, stair}
 use Rattle.run_laws.specs.Servers.{Discipline, Fifo, Priority, Drr}
 use Rattle.net_model.specs.declared.server.ServiceKind.TheVariants.{Latency}
@@ -16,9 +17,6 @@ use Rattle.exercise_load.specs.Drawn.{drawn_flows}
 -- a letter and a number: `s0`, `f23`
 abbrev pub numbered : ℕ → ℕ → List ℕ
 numbered letter number = letter ∷ decimal number
-
-abbrev pub whole : ℕ → ℚ
-whole n = int (pos n)
 
 -- ---- servers
 -- in turn: first in, first out; two priorities; two queues in deficit round robin

@@ -1,26 +1,16 @@
 -- The routes of a network at a number.
-use Rattle.std.specs.Prelude.{◌≡◌, ℕ, ◌<◌, ◌≤◌, List, [], ◌∷◌, length, Option, Some, None, is_some, get_or, slice_index}
+use Rattle.std.specs.Prelude.{◌≡◌, ℕ, ◌<◌, ◌≤◌, List, [], ◌∷◌, length, Option, Some, None, get_or, slice_index}
 use Rattle.std.proofs.Common.{arith, refl, sym, ap, ◌∙◌, inl, inr}
 use Rattle.std.proofs.lemmas.Bool.{cases_lt}
 use Rattle.std.proofs.lemmas.List.{get_or_past}
-use Rattle.std.proofs.Math.ListN.{get_or-map}
 use Rattle.run_laws.specs.Routes.{Route, route_of, first_server}
 use Rattle.net_model.specs.Networks.{Net, NetFlow}
 use Rattle.net_model.specs.NetRoutes.{hops_along, route_for, routes_of}
 use Rattle.net_model.specs.Accepted.{IsAccepted}
-use Rattle.net_cells.specs.Numbered.{flow_at, is_live, server_of_hop, path, path_of}
+use Rattle.net_cells.specs.Numbered.{flow_at, server_of_hop, path, path_of}
 use Rattle.net_cells.proofs.Stored.{flow_kept}
+pub use Rattle.net_cells.proofs.Routed.{route_is, live_is}
 use Rattle.run_watch.specs.Seen.{AreFirsts}
-
-pub route_is : (net : Net) (i : ℕ) → route_of (routes_of net) i ≡ route_for (flow_at net i)
-route_is net i = get_or-map route_for net.flows i None
-
-live_for : (o : Option NetFlow) → (route_for o).live ≡ is_some o
-live_for None = refl
-live_for (Some f) = refl
-
-pub live_is : (net : Net) (i : ℕ) → (route_of (routes_of net) i).live ≡ is_live net i
-live_is net i = ap (λ (r : Route). r.live) (route_is net i) ∙ live_for (flow_at net i)
 
 first_along : (path queues : List ℕ) → length queues ≡ length path → first_server (hops_along path queues) ≡ slice_index path 0
 first_along [] qs e = refl

@@ -29,7 +29,7 @@ fn first_arrival_of(
     match live_flow(net, number) {
         None => Ok(None),
         Some(flow) => {
-            let _kept = flow.arrival.pieces();
+            flow.arrival.keeps();
             let packets = entries_of(alloc, &run.steps, number)?;
             Ok(arrival_breach(alloc, &packets, number, &flow.arrival))
         }

@@ -56,7 +56,7 @@ fn first_service_of(
     match server(net, number) {
         None => Ok(None),
         Some(found) => {
-            let _curve = found.service.pieces();
+            found.service.keeps();
             if is_told(kept, number) {
                 return Ok(None);
             }

@@ -36,7 +36,8 @@ DifferenceOnGrid = (d : ℕ) (v w a b : ℚ) → OnGrid d v w a b → d ≤ larg
 
 -- their quotient where v d and w d are
 abbrev pub QuotientOnGrid : Type 0
-QuotientOnGrid = (d : ℕ) (v w a b : ℚ) → OnGrid d v w a b → b ≢ int (pos 0) → FitsTimes v d → FitsTimes w d → IsSmall (a /ℚ b)
+QuotientOnGrid = (d : ℕ) (v w a b : ℚ) → OnGrid d v w a b → b ≢ int (pos 0) → FitsTimes v d → FitsTimes w d
+    → IsSmall (a /ℚ b)
 
 -- and the product of multiples of 1 / d and 1 / e, of sizes at most v and w, where d e and v w d e are
 abbrev pub ProductOnGrid : Type 0

@@ -55,7 +55,7 @@ fn on_curve<L: Ledger>(
     ensures most { steps.new ≤ steps.old + 1 }
     ensures report { status_of result ≡ 0 → steps.new ≡ steps.old + 1 }
 {
-    let _kept = curve.tail();
+    curve.keeps();
     match least_burst(curve, rate, steps) {
         Ok(burst) => {
             let packets = packets_of(trace, flow);

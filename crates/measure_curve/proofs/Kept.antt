@@ -21,9 +21,7 @@ use Rattle.net_model.specs.declared.trace.TracePacket.{TracePacket}
 use Rattle.measure_curve.specs.Bursts.{IsBounded}
 use Rattle.measure_curve.specs.Laws.{PacketsKeepTheCurve, KeptCurvesAreAbove, LeastArrivalIsOne, LeastBucketIsKept, entering_in, LeastInRuns}
 use Rattle.measure_curve.specs.Windows.{of_flow, bits_in, IsLeastArrival}
-
-back : (s t : ℚ) → s +ℚ (t -ℚ s) ≡ t
-back s t = with2 s t (λ c. omega (arith, c.le, c.lt, c.same))
+use Rattle.rational.proofs.Laws.{add_comm, sub_add}
 
 longer : (s d : ℚ) → zero_q ≤ℚ d → s ≤ℚ s +ℚ d
 longer s d h = with2 s d (λ c. omega (arith, c.le, c.lt, c.same))
@@ -31,7 +29,7 @@ longer s d h = with2 s d (λ c. omega (arith, c.le, c.lt, c.same))
 pub packets_keep_the_curve : PacketsKeepTheCurve
 packets_keep_the_curve ps m least = λ s t h.
     let (v, is, is_most) = least (t -ℚ s) (with2 s t (λ c. omega (arith, c.le, c.lt, c.same))) in
-    let most : bits_in s t ps ≤ v = subst (λ u. bits_in s u ps ≤ v) (back s t) (is_most.above s) in
+    let most : bits_in s t ps ≤ v = subst (λ u. bits_in s u ps ≤ v) (add_comm s (t -ℚ s) ∙ sub_add t s) (is_most.above s) in
     subst (λ z. Fin (whole (bits_in s t ps)) ≤ₑ z) (sym is) (whole_le (bits_in s t ps) v most)
 
 pub kept_curves_are_above : KeptCurvesAreAbove

@@ -1,12 +1,20 @@
 -- Functions of time that may be infinite, the times from 0 on, and the words for their shapes. (Le Boudec and Thiran:
 -- wide-sense increasing functions; here a function may also fall.)
-use Rattle.std.specs.Prelude.{◌≡◌, pos}
+use Rattle.std.specs.Prelude.{◌≡◌, ℕ, pos}
 use Rattle.rational.specs.Rational.{ℚ, ◌≤ℚ◌, int}
 use Rattle.rational.specs.Extended.{Ext, ◌≤ₑ◌}
 use Rattle.rational.specs.declared.Extended.TheVariants.{Fin}
 
 abbrev pub zero_q : ℚ
 zero_q = int (pos 0)
+
+-- a number as a rational
+abbrev pub whole : ℕ → ℚ
+whole n = int (pos n)
+
+-- at least 0
+abbrev pub IsNonneg : Ext → Type 0
+IsNonneg x = Fin zero_q ≤ₑ x
 
 -- ---- times
 -- a time from 0 on

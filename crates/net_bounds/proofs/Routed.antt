@@ -2,7 +2,6 @@
 use Rattle.std.specs.Prelude.{◌≡◌, ℕ, zero, suc, pos, ◌<◌, ◌≤◌, List, [], ◌∷◌, length, map, true, Option, Some, None, is_some, slice_get, Contains}
 use Rattle.std.proofs.Common.{arith, sym, ap, ◌∙◌, refl, subst, get_or}
 use Rattle.std.proofs.lemmas.List.{get_or_default, length-map}
-use Rattle.std.proofs.Math.ListN.{get_or-map}
 use Rattle.std.proofs.lemmas.Option.{slice_get_within}
 use Rattle.rational.specs.Rational.{ℚ, int, ◌≤ℚ◌}
 use Rattle.rational.proofs.Laws.{le_refl}
@@ -17,25 +16,16 @@ use Rattle.net_cells.proofs.Lists.{Apart}
 use Rattle.net_cells.proofs.Places.{live_inside}
 use Rattle.net_cells.proofs.Members.{hop_kept}
 use Rattle.net_cells.proofs.Stored.{server_kept}
+pub use Rattle.net_cells.proofs.Routed.{route_is, live_is}
 use Rattle.net_bounds.specs.NetRuns.{hops_along, route_for, server_for, link_for, routes_of}
 use Rattle.net_bounds.proofs.Placed.{place_in, placed, apart_from}
 use Rattle.net_bounds.proofs.Paths.{is_path, passes_has, has_passes}
 use Rattle.run_laws.proofs.Members.{at_has}
 
 -- ---- flows
-route_is : (net : Net) (i : ℕ) → route_of (routes_of net) i ≡ route_for (flow_at net i)
-route_is net i = get_or-map route_for net.flows i None
-
 -- the queues of a flow, one at each server of its path
 abbrev pub own_queues : Net → ℕ → List ℕ
 own_queues net i = queues_of (flow_at net i)
-
-live_for : (o : Option NetFlow) → (route_for o).live ≡ is_some o
-live_for None = refl
-live_for (Some f) = refl
-
-pub live_is : (net : Net) (i : ℕ) → (route_of (routes_of net) i).live ≡ is_live net i
-live_is net i = ap (λ (r : Route). r.live) (route_is net i) ∙ live_for (flow_at net i)
 
 hops_for : (o : Option NetFlow) → (route_for o).hops ≡ hops_along (path_of o) (queues_of o)
 hops_for None = refl

@@ -16,3 +16,4 @@ pub mod LeavesOf
 pub mod Counting
 pub mod PartCounts
 pub mod Different
+pub mod Routed

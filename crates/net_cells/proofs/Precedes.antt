@@ -100,7 +100,7 @@ queue_exists net i k a h =
     let hop = hop_kept net i k a h in
     subst (λ (o : Option NetServer). queue_of_hop net i k < queue_count (discipline_of o)) (sym hop.is) hop.has_queue
 
-levels_at_most : (d : Discipline) → levels_of d ≤ queue_count d
+pub levels_at_most : (d : Discipline) → levels_of d ≤ queue_count d
 levels_at_most Fifo = omega arith
 levels_at_most (Priority n) = omega arith
 levels_at_most (Drr quanta) = omega arith

@@ -96,7 +96,8 @@ abbrev pub AnswersFrom : CellTable → Formula → List SpecCurve → Answer →
 AnswersFrom at (value_of c) fs r = IsOnly (λ v. at c ≡ Some v) r
 AnswersFrom at (given f) fs r = MakesCurve (IsAgain f) r
 AnswersFrom at empty_sum fs r = MakesCurve (IsAgain zero_curve) r
-AnswersFrom at (made op F G) fs r = ThenCurves (AnswersFrom at F []) (AnswersFrom at G []) (λ f g. MakesCurve (Applies op f g)) r
+AnswersFrom at (made op F G) fs r = ThenCurves (AnswersFrom at F []) (AnswersFrom at G [])
+    (λ f g. MakesCurve (Applies op f g)) r
 AnswersFrom at (made_of op F) fs r = ThenCurve (AnswersFrom at F []) (λ f. MakesCurve (AppliesTo op f)) r
 AnswersFrom at (moved F T) fs r =
     ThenCurve (AnswersFrom at F []) (λ f. ThenNumber (AnswersFrom at T []) (λ x. MakesCurve (AppliesTo (Shift x) f))) r
@@ -109,13 +110,16 @@ AnswersFrom at (leftover F G T) fs r =
 AnswersFrom at (priority f F lower) fs r = ThenCurve (AnswersFrom at F []) (λ g. MakesCurve (MakesPriority f g lower)) r
 AnswersFrom at (deficit f quanta longest queue) fs r = MakesCurve (MakesDrr f quanta longest queue) r
 AnswersFrom at (horizontal F G) fs r =
-    ThenCurves (AnswersFrom at F []) (AnswersFrom at G []) (λ f g. MakesNumber (Deviates Horizontal IsHorizontalDeviation f g)) r
+    ThenCurves (AnswersFrom at F []) (AnswersFrom at G [])
+    (λ f g. MakesNumber (Deviates Horizontal IsHorizontalDeviation f g)) r
 AnswersFrom at (vertical F G) fs r =
-    ThenCurves (AnswersFrom at F []) (AnswersFrom at G []) (λ f g. MakesNumber (Deviates Vertical IsVerticalDeviation f g)) r
+    ThenCurves (AnswersFrom at F []) (AnswersFrom at G [])
+    (λ f g. MakesNumber (Deviates Vertical IsVerticalDeviation f g)) r
 AnswersFrom at (smaller F G) fs r =
     ThenNumbers (AnswersFrom at F []) (AnswersFrom at G []) (λ x y. IsOnly (λ v. v ≡ number (min_ext x y))) r
 AnswersFrom at (along cells links) fs r = ThenCells at cells (λ xs. MakesNumber (Sums (with_links xs links))) r
-AnswersFrom at (delayed F links) fs r = ThenNumber (AnswersFrom at F []) (λ x. MakesNumber (Sums (with_links (x ∷ []) links))) r
+AnswersFrom at (delayed F links) fs r = ThenNumber (AnswersFrom at F [])
+    (λ x. MakesNumber (Sums (with_links (x ∷ []) links))) r
 
 abbrev pub Answers : CellTable → Formula → Answer → Type 0
 Answers at F r = AnswersFrom at F [] r

@@ -77,24 +77,31 @@ abbrev pub MeansFrom : CellTable → Formula → List SpecCurve → Meaning → 
 MeansFrom at (value_of c) fs v = at c ≡ Some v
 MeansFrom at (given f) fs v = v ≡ curve f
 MeansFrom at empty_sum fs v = v ≡ curve zero_curve
-MeansFrom at (made op F G) fs v = OfCurves (MeansFrom at F []) (MeansFrom at G []) (λ f g. IsCurveIn (IsMadeBy op f g)) v
+MeansFrom at (made op F G) fs v = OfCurves (MeansFrom at F []) (MeansFrom at G [])
+    (λ f g. IsCurveIn (IsMadeBy op f g)) v
 MeansFrom at (made_of op F) fs v = OfCurve (MeansFrom at F []) (λ f. IsCurveIn (IsMadeBy op f f)) v
-MeansFrom at (moved F T) fs v = OfCurve (MeansFrom at F []) (λ f. OfNumber (MeansFrom at T []) (λ x. IsCurveIn (IsMadeBy (Shift x) f f))) v
+MeansFrom at (moved F T) fs v = OfCurve (MeansFrom at F [])
+    (λ f. OfNumber (MeansFrom at T []) (λ x. IsCurveIn (IsMadeBy (Shift x) f f))) v
 MeansFrom at (cut F server bits rate) fs v =
     OfCurve (MeansFrom at F []) (λ f. IsCurveIn (IsMadeBy Min f (bucket (whole bits) rate))) v
 MeansFrom at (part F G) fs v = OfCurve (MeansFrom at F []) (λ f. MeansFrom at G (fs ++ f ∷ [])) v
 MeansFrom at no_part fs v = IsSumOf fs v
 MeansFrom at (leftover F G T) fs v =
-    OfCurves (MeansFrom at F []) (MeansFrom at G []) (λ f g. OfNumber (MeansFrom at T []) (λ x. IsCurveIn (IsMadeBy (FifoLeft x) f g))) v
+    OfCurves (MeansFrom at F []) (MeansFrom at G [])
+    (λ f g. OfNumber (MeansFrom at T []) (λ x. IsCurveIn (IsMadeBy (FifoLeft x) f g))) v
 MeansFrom at (priority f F lower) fs v = OfCurve (MeansFrom at F []) (λ g. IsCurveIn (IsPriorityCurve f g lower)) v
 MeansFrom at (deficit f quanta longest queue) fs v = IsCurveIn (IsDrrCurve f quanta longest queue) v
 MeansFrom at (horizontal F G) fs v =
-    OfCurves (MeansFrom at F []) (MeansFrom at G []) (λ f g. IsNumberIn (IsHorizontalDeviation (value_at f) (value_at g))) v
+    OfCurves (MeansFrom at F []) (MeansFrom at G [])
+    (λ f g. IsNumberIn (IsHorizontalDeviation (value_at f) (value_at g))) v
 MeansFrom at (vertical F G) fs v =
-    OfCurves (MeansFrom at F []) (MeansFrom at G []) (λ f g. IsNumberIn (IsVerticalDeviation (value_at f) (value_at g))) v
-MeansFrom at (smaller F G) fs v = OfNumbers (MeansFrom at F []) (MeansFrom at G []) (λ x y w. w ≡ number (min_ext x y)) v
+    OfCurves (MeansFrom at F []) (MeansFrom at G [])
+    (λ f g. IsNumberIn (IsVerticalDeviation (value_at f) (value_at g))) v
+MeansFrom at (smaller F G) fs v = OfNumbers (MeansFrom at F []) (MeansFrom at G [])
+    (λ x y w. w ≡ number (min_ext x y)) v
 MeansFrom at (along cells links) fs v = OfCells at cells (λ xs w. w ≡ number (sum_of_numbers (with_links xs links))) v
-MeansFrom at (delayed F links) fs v = OfNumber (MeansFrom at F []) (λ x w. w ≡ number (sum_of_numbers (with_links (x ∷ []) links))) v
+MeansFrom at (delayed F links) fs v = OfNumber (MeansFrom at F [])
+    (λ x w. w ≡ number (sum_of_numbers (with_links (x ∷ []) links))) v
 
 abbrev pub Means : CellTable → Formula → Meaning → Type 0
 Means at F v = MeansFrom at F [] v

@@ -10,6 +10,7 @@ use Rattle.toml.specs.Data.{Data}
 use Rattle.net_model.specs.declared.fault.NetKind.{NetKind}
 use Rattle.net_model.specs.declared.fault.NetKind.TheVariants.{M5, M6, M8, M10}
 use Rattle.net_draft.specs.declared.hop.Hop.{Hop}
+pub use Rattle.net_model.specs.Names.{is_colon}
 use Rattle.net_draft.specs.Faults.{◌>>=◌}
 use Rattle.net_draft.specs.Texts.{ServerText}
 use Rattle.net_draft.specs.Values.{text_in, is_name}
@@ -18,10 +19,6 @@ use Rattle.net_draft.specs.Values.{text_in, is_name}
 pub record HopText : Type 0 where
   pub name : List ℕ
   pub queue : ℕ
-
--- the byte `:`
-abbrev pub is_colon : ℕ → Bool
-is_colon b = b == 58
 
 -- the bytes after the first colon, or the digit 0
 abbrev pub queue_digits : Option ℕ → List ℕ → List ℕ

@@ -2,10 +2,10 @@
 
 ghost use Rattle.std.specs.Prelude.{◌≡◌, ◌≢◌, ◌-◌, ◌^◌, ◌<◌, ◌≤◌, min, true, [], map, codes, length};
 ghost use Rattle.std.specs.Prelude.{IfOk, All, AllPairs, Some, slice_get, nat_eq};
-ghost use Rattle.std.specs.List.{list_any, position};
+ghost use Rattle.std.specs.List.{list_any};
 ghost use Rattle.toml.specs.View.{view, table_view};
 ghost use Rattle.net_draft.specs.Faults.{Gives, seen};
-ghost use Rattle.net_draft.specs.Hops.{is_colon, hop_parts, hop_text, hop_in, named_from};
+ghost use Rattle.net_draft.specs.Hops.{hop_parts, hop_text, hop_in, named_from};
 ghost use Rattle.net_draft.specs.HopViews.{hop_view};
 ghost use Rattle.net_draft.specs.ListViews.{list_texts};
 ghost use Rattle.net_draft.specs.Tables.{each, hop_at, path_of};
@@ -21,7 +21,7 @@ use crate::server_draft::ServerDraft;
 use crate::server_list::ServerList;
 use crate::values::text_in;
 use fraction128::read_digits;
-use net_model::{NetKind, is_name};
+use net_model::{NetKind, find_colon, is_name};
 use std::alloc::Global;
 use toml::{Table, Value};
 
@@ -30,12 +30,6 @@ use toml::{Table, Value};
 pub(crate) struct WrittenHop<'a> {
     name: &'a str,
     queue: u32,
-}
-
-fn find_colon(bytes: &[u8]) -> Option<usize>
-    ensures { result ≡ position is_colon bytes.now }
-{
-    bytes.iter().position(|b| *b == b':')
 }
 
 #[tactic(auto, unfolding(rational::specs::Gauge::cap))]

@@ -64,7 +64,8 @@ rate_made rate s (Some server) = made_by_kind s server.kind (service_of_kind rat
 abbrev pub rate_edited : Net → List ℕ → ℚ → Or Edited
 rate_edited net name rate =
     and_then (server_number net name) (λ s.
-    only_if (is_positive rate) (fitting (at_server (with_rate rate) net s) (rate_made rate s (slice_get net.servers s))))
+    only_if (is_positive rate)
+    (fitting (at_server (with_rate rate) net s) (rate_made rate s (slice_get net.servers s))))
 
 abbrev pub is_latency : ServiceKind → Bool
 is_latency (Latency latency) = true
@@ -111,7 +112,8 @@ abbrev pub stair_edited : Net → List ℕ → ℚ → ℚ → Or Edited
 stair_edited net name period jitter =
     and_then (flow_number net name) (λ i.
     only_if (is_positive period && not (is_negative jitter))
-    (fitting (at_flow (with_arrival (stair_of net i period jitter)) net i) (as_arrival i (stair_of net i period jitter))))
+    (fitting (at_flow (with_arrival (stair_of net i period jitter)) net i)
+    (as_arrival i (stair_of net i period jitter))))
 
 abbrev pub packet_edited : Net → List ℕ → ℤ → Or Edited
 packet_edited net name bits =

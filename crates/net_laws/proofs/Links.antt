@@ -1,7 +1,7 @@
 -- What arrives at the next server of a flow's path is what left the server before, a link's time ago.
 use Rattle.std.specs.Prelude.{Option, Some, None, ◌≡◌, ◌≢◌, ◌<◌, ℕ, zero, suc, pos, ◌==◌, Bool, true, false, ◌&&◌, List, [], ◌∷◌, ◌++◌, length, slice_index_or, All}
 use Rattle.std.proofs.Common.{arith, sym, ap, ◌∙◌, refl, inl, inr, subst}
-use Rattle.std.proofs.lemmas.Bool.{cases_Bool, cases_eq, eqb-true, eq-eqb, ne_eqb, and_parts, and_left, and_right, and_from}
+use Rattle.std.proofs.lemmas.Bool.{cases_Bool, cases_eq, eqb-true, eq-eqb, ne_eqb, and_parts, and_left, and_right}
 use Rattle.rational.specs.Rational.{ℚ, int, ◌+ℚ◌, ◌-ℚ◌, ◌≤ℚ◌, ◌<ℚ◌, le_q, lt_q}
 use Rattle.rational.specs.Extended.{Ext, ◌≤ₑ◌}
 use Rattle.rational.specs.declared.Extended.TheVariants.{Fin}
@@ -22,7 +22,7 @@ use Rattle.run_laws.specs.Lawful.{Due, RunState, same_due, without, sent, next_d
 use Rattle.run_laws.proofs.Sizes.{whole_nonneg}
 use Rattle.run_laws.proofs.Heads.{same_some}
 use Rattle.run_laws.proofs.Sums.{when_true, when_false, when_none, each_all, total_same, when_nonneg}
-use Rattle.run_laws.proofs.Entries.{entry_before, entry_last, EachDue, IsDueAfter, due_next}
+use Rattle.run_laws.proofs.Entries.{same_due_self, entry_before, entry_last, EachDue, IsDueAfter, due_next}
 use Rattle.run_laws.proofs.FirstHop.{at_server}
 use Rattle.net_laws.specs.Laws.{IsLink}
 
@@ -54,14 +54,11 @@ same_is d e h =
     let time : e.time ≡ d.time = antisym (le_q_in e.time d.time c.1, le_q_in d.time e.time c.0) in
     ap (λ (x : ℕ). make_due x e.server e.time) packet ∙ ap (λ (x : ℕ). make_due d.packet x e.time) server ∙ ap (λ (x : ℚ). make_due d.packet d.server x) time
 
-pub is_same : (d : Due) → same_due d d ≡ true
-is_same d = and_from (d.packet == d.packet) _ (eq-eqb d.packet d.packet refl) (and_from (d.server == d.server) _ (eq-eqb d.server d.server refl) (and_from (le_q d.time d.time) (le_q d.time d.time) (le_q_out _ _ (le_refl d.time)) (le_q_out _ _ (le_refl d.time))))
-
 due_without : (entered : List Entry) (i b : ℕ) (p : ℚ → Bool) (ds : List Due) (d : Due) (k : ℕ) → k < length ds → slice_index_or ds k d ≡ d
     → due_bits entered i b p (without d ds) +ℚ due_term entered i b p d ≡ due_bits entered i b p ds
 due_without entered i b p [] d k l e = absurd (omega arith)
 due_without entered i b p (c ∷ ds) d zero l e =
-    let f : same_due d c ≡ true = subst (λ (x : Due). same_due d x ≡ true) (sym e) (is_same d) in
+    let f : same_due d c ≡ true = subst (λ (x : Due). same_due d x ≡ true) (sym e) (same_due_self d) in
     rw (f, e) (with2 (due_term entered i b p d) (due_bits entered i b p ds) (λ c. omega (arith, c.le, c.lt, c.same)))
 due_without entered i b p (c ∷ ds) d (suc k) l e =
     let rest = due_without entered i b p ds d k (omega arith) e in

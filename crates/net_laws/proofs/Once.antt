@@ -17,21 +17,18 @@ use Rattle.run_laws.specs.Views.{Entry, entry_of, hops_of, entered_after, server
 use Rattle.run_laws.specs.Lawful.{Due, RunState, same_due, without, sent, next_due, next_run, IsKnown, AllAllowedInRun, after_run, run_start, IsLawful}
 use Rattle.run_laws.proofs.Heads.{same_some}
 use Rattle.run_laws.proofs.States.{IsSound, sound_next, leaving}
-use Rattle.run_laws.proofs.Entries.{entry_before, entry_last, one_more, EachDue, each_due_at, IsDueAfter, due_next, passes_first, passes_next}
+use Rattle.run_laws.proofs.Entries.{same_due_self, entry_before, entry_last, one_more, EachDue, each_due_at, IsDueAfter, due_next, passes_first, passes_next}
 use Rattle.run_laws.proofs.Views.{views_are_lawful}
 use Rattle.run_laws.proofs.Classes.{output_from_delay}
 use Rattle.net_laws.specs.Laws.{IsLink}
 use Rattle.net_laws.specs.Paths.{IsPath}
 use Rattle.net_laws.specs.Once.{IsOverPaths, NoneArrivesTwice, ClassLeavesByDelay}
-use Rattle.net_laws.proofs.Links.{same_is, is_same}
+use Rattle.net_laws.proofs.Links.{same_is}
 use Rattle.net_laws.proofs.Paths.{after_passes, link_of_path, rest_of_path}
 use Rattle.net_laws.proofs.Journeys.{Knows, knows_next}
+use Rattle.run_laws.proofs.Sums.{one_if as one}
 
 -- ---- how often packet p comes to a server, and leaves it
-abbrev one : Bool → ℕ
-one true = 1
-one false = 0
-
 -- n where the test holds, else 0
 abbrev at : Bool → ℕ → ℕ
 at true n = n
@@ -262,7 +259,7 @@ dues_without : (p b : ℕ) (ds : List Due) (d : Due) (k : ℕ) → k < length ds
     → dues_at p b (without d ds) + one ((d.packet == p) && (d.server == b)) ≡ dues_at p b ds
 dues_without p b [] d k l e = absurd (omega arith)
 dues_without p b (c ∷ ds) d zero l e =
-    let f : same_due d c ≡ true = subst (λ (x : Due). same_due d x ≡ true) (sym e) (is_same d) in
+    let f : same_due d c ≡ true = subst (λ (x : Due). same_due d x ≡ true) (sym e) (same_due_self d) in
     rw (f, e) (omega arith)
 dues_without p b (c ∷ ds) d (suc k) l e =
     let rest = dues_without p b ds d k (omega arith) e in

@@ -24,7 +24,6 @@ use Rattle.net_model.specs.Names.{IsName, is_name_byte, DifferInName}
 use Rattle.net_model.specs.Accepted.{IsServer, IsFlow, IsHop, IsAccepted}
 use Rattle.net_model.specs.Plain.{one_q, letter, plain_server, plain_flow, plain_place, plain_servers, plain_flows, plain_net, contents, all_differ, is_plain_path, is_plain}
 use Rattle.net_model.proofs.KindsStand.{kinds_may_stand}
-use Rattle.upp_limits.specs.upp_curve.proofs.ReadableKinds.{zero_num}
 
 -- ---- servers
 pub servers_count : (n : ℕ) → length (plain_servers n) ≡ n
@@ -251,10 +250,6 @@ stored_push fs gs paths n d x within pushes so_far newest =
     ∙ sym (flows_push (contents (take n paths)) (get_or paths n d).now) ∙ ap (plain_flows 0) (sym (map_more (λ r. r.now) paths n d within))
 
 -- ---- small numbers
-zero_den : den (int (pos 0)) ≡ 1
-unfolding frac gcd gcd_steps
-zero_den = refl
-
 one_num : (int (pos 1)).num ≡ pos 1
 unfolding frac gcd gcd_steps
 one_num = refl
@@ -262,9 +257,6 @@ one_num = refl
 one_den : den (int (pos 1)) ≡ 1
 unfolding frac gcd gcd_steps
 one_den = refl
-
-pub zero_small : IsSmall (int (pos 0))
-zero_small = record { top = rw zero_num (omega arith); bottom = rw zero_den (omega arith) }
 
 pub one_small : IsSmall (int (pos 1))
 one_small = record { top = rw one_num (omega arith); bottom = rw one_den (omega arith) }

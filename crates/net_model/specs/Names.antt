@@ -9,7 +9,11 @@ is_name_byte c =
     (nat_le 97 c && nat_le c 122) || (nat_le 65 c && nat_le c 90) || (nat_le 48 c && nat_le c 57) || (c == 95) ||
     (c == 45)
 
--- whether a text is 1 to 32 of these
+-- the byte `:`, which stands between the name and the queue of an entry of a path
+abbrev pub is_colon : ℕ → Bool
+is_colon b = b == 58
+
+-- whether a text is 1 to 32 of the bytes of names
 abbrev pub is_name : List ℕ → Bool
 is_name name = nat_le 1 (length name) && (nat_le (length name) 32 && list_all is_name_byte name)
 

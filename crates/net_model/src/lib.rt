@@ -18,7 +18,7 @@ pub use edit::{Done, Edit, PathEntry};
 pub use fault::{CurveRefusal, NetFault, NetKind};
 pub use flow::Flow;
 pub use laws::kinds_may_stand;
-pub use names::is_name;
+pub use names::{are_name_bytes, find_colon, is_name};
 pub use network::Network;
 pub use plain::plain_network;
 pub use server::{Discipline, Server, ServiceKind};

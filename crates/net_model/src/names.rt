@@ -1,7 +1,7 @@
 //! Servers and flows by their names.
 
 ghost use Rattle.std.specs.Prelude.{◌≡◌, ◌↔◌, ◌≤◌, length, IsTrue};
-ghost use Rattle.std.specs.List.{list_all};
+ghost use Rattle.std.specs.List.{list_all, position};
 ghost use Rattle.std.specs.Option.{option_map};
 ghost use Rattle.net_model.specs.Names as naming;
 ghost use Rattle.net_model.specs.Names.{FindsServer, FindsFlow, HasName};
@@ -18,10 +18,18 @@ fn is_name_byte(byte: u8) -> bool
     matches!(byte, b'a'..=b'z' | b'A'..=b'Z' | b'0'..=b'9' | b'_' | b'-')
 }
 
-fn are_name_bytes(bytes: &[u8]) -> bool
+/// Whether all bytes are letters, digits, `_` and `-`.
+pub fn are_name_bytes(bytes: &[u8]) -> bool
     ensures { result ≡ list_all naming.is_name_byte bytes.now }
 {
     bytes.iter().all(|byte| is_name_byte(*byte))
+}
+
+/// Where the first colon stands.
+pub fn find_colon(bytes: &[u8]) -> Option<usize>
+    ensures { result ≡ position naming.is_colon bytes.now }
+{
+    bytes.iter().position(|b| *b == b':')
 }
 
 /// Whether a text is a name: 1 to 32 letters, digits, `_` and `-`.

@@ -38,7 +38,7 @@ fn closure_of<L: Ledger>(
     ensures rises { steps.old ≤ steps.new }
     ensures most { steps.new ≤ steps.old + fold_work curve.now }
 {
-    let _pieces = curve.pieces();
+    curve.keeps();
     match closed(alloc, curve, steps) {
         Ok(closed) => Ok(closed),
         Err(OpFault::TooMany) => Err(limit_fault(

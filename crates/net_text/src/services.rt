@@ -37,7 +37,7 @@ pub(crate) fn copy_of(curve: &Curve) -> Result<Curve, AllocError>
     ensures same { IfOk result (λ c. c ≡ curve.now) }
     ensures curve { IsCurve curve.now }
 {
-    let _pieces = curve.pieces();
+    curve.keeps();
     curve.copy()
 }
 

@@ -10,9 +10,7 @@ use Rattle.std.specs.declared.alloc.Global.{Global}
 use Rattle.command_words.specs.Lines.{Text, is_operand, without_json, operands_of, asks_json}
 use Rattle.netcalc_cli.specs.Commands.{Command}
 use Rattle.netcalc_cli.specs.Words.{texts, called, command_on, command_of}
-
-abbrev Words : Type 0
-Words = List (String Global)
+use Rattle.command_words.proofs.JsonWords.{Words}
 
 -- ---- operands by their number
 pub same_of_two : {A B : Type 0} (f : A → A → B) (a b v w : A) → v ≡ a → w ≡ b → f v w ≡ f a b

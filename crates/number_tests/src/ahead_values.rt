@@ -67,7 +67,7 @@ fn count(n: u32) -> Frac
 
 // How c goes on from a whole number, within a window that ends at `end`.
 fn stretch(c: &Curve, n: u32, end: Frac) -> Option<Stretch> {
-    let _pieces = c.pieces();
+    c.keeps();
     let Some(size) = gauge(OpKind::Itself, c, c, Some(end)) else {
         return None;
     };

@@ -19,7 +19,8 @@ HaveStallTimes D E stations = (s : ℕ) (x : Station) → slice_get stations s �
     → AreStallTimes D E (opening_for x.opening).stalls
 
 -- the setup's numbers have room, and the simulator keeps the state of its stated run after these steps
-pub record IsSimulating (S : Setup) (stations : List Station) (links : Chains) (arrivals : List Arrival) (entered : ℕ) (steps : List Step) : Type 0 where
+pub record IsSimulating (S : Setup) (stations : List Station) (links : Chains) (arrivals : List Arrival) (entered : ℕ)
+    (steps : List Step) : Type 0 where
   pub setup : IsSetup S
   pub few : length S.packets < 2 ^ 31
   pub few_servers : length S.net.servers < 2 ^ 32
@@ -30,12 +31,14 @@ pub record IsSimulating (S : Setup) (stations : List Station) (links : Chains) (
   pub running : IsRunning S stations links arrivals entered steps
 
 -- and this is the first of all that is due
-pub record IsFirstDue (S : Setup) (stations : List Station) (links : Chains) (arrivals : List Arrival) (entered : ℕ) (steps : List Step) (d : Due) : Type 0 where
+pub record IsFirstDue (S : Setup) (stations : List Station) (links : Chains) (arrivals : List Arrival) (entered : ℕ)
+    (steps : List Step) (d : Due) : Type 0 where
   pub now : IsSimulating S stations links arrivals entered steps
   pub first : IsFirstCandidate S stations links arrivals entered (length S.net.servers) (Some d)
 
 -- the queues of the server of what is due have taken this turn, and nothing else is another
-pub record IsTurning (S : Setup) (stations : List Station) (links : Chains) (arrivals : List Arrival) (entered : ℕ) (steps : List Step) (d : Due) (turn : Option Turn) : Type 0 where
+pub record IsTurning (S : Setup) (stations : List Station) (links : Chains) (arrivals : List Arrival) (entered : ℕ)
+    (steps : List Step) (d : Due) (turn : Option Turn) : Type 0 where
   pub before : List Station
   pub due : IsFirstDue S before links arrivals entered steps d
   pub turned : HasTurned before stations d.server turn

@@ -51,6 +51,7 @@ Starts d StandsNow σ (Some (Visit q)) = MayVisit d σ q × ((t : ℚ) → Stand
 Starts d StandsNow σ (Some (Send p)) = Sends d StandsNow σ p
 
 -- the packet under way has left
-pub record Finishes (d : Discipline) (StandsNow : ServerState → Type 0) (σ : ServerState) (u : Under) (packet : ℕ) : Type 0 where
+pub record Finishes (d : Discipline) (StandsNow : ServerState → Type 0) (σ : ServerState) (u : Under)
+    (packet : ℕ) : Type 0 where
   pub packet_is : u.card.packet ≡ packet
   pub moved : (t : ℚ) → StandsNow (next d σ (Leaves u.card t))

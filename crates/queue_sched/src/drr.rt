@@ -29,7 +29,14 @@ impl Model for DrrSched {
 
     ghost Value = { DrrState };
 
-    ghost view = { λ a. record { waiting = a.queues; turns = a.turns; quanta = a.quanta.items; deficits = a.deficits.items; lengths = a.lengths.items; visited = a.visited } };
+    ghost view = { λ a. record {
+      waiting = a.queues;
+      turns = a.turns;
+      quanta = a.quanta.items;
+      deficits = a.deficits.items;
+      lengths = a.lengths.items;
+      visited = a.visited;
+    } };
 }
 
 /// A queue joins those that wait for a visit, where it is not among them.

@@ -48,5 +48,6 @@ pub trait Scheduler {
             → Finishes (discipline self.old) (StandsFor self.new) σ u result };
 
     /// More work on the packet under way changes nothing here.
-    ghost goes_on: { (s : Self) (σ : ServerState) (u : Under) (a b w : ℚ) → StandsFor s σ → σ.under ≡ Some u → StandsFor s (next (discipline s) σ (Works u.card a b w)) };
+    ghost goes_on: { (s : Self) (σ : ServerState) (u : Under) (a b w : ℚ) → StandsFor s σ → σ.under ≡ Some u
+        → StandsFor s (next (discipline s) σ (Works u.card a b w)) };
 }

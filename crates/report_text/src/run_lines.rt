@@ -51,7 +51,8 @@ pub(crate) fn push_worst_line<V: ShownValue, T: Table<V>>(
     worst: &[Frac],
     flow: u32,
 ) -> Result<(), AllocError>
-    ensures { OnOk result (into.new.items ≡ into.old.items ++ spec.worst_line name.now (T.at table.now) worst.now flow) }
+    ensures { OnOk result
+        (into.new.items ≡ into.old.items ++ spec.worst_line name.now (T.at table.now) worst.now flow) }
 {
     push_after(into, "worst ", name)?;
     push_text(into, " ")?;

@@ -212,7 +212,8 @@ abbrev pub IsFast : Option ℚ → Piece → Type 0
 IsFast pace w = IsTooFast pace w.start w.end w.bits
 
 -- it is no faster than its server's pace, and done
-pub record HasWorked (d : Discipline) (room : ℕ) (σ : ServerState) (end : ℚ) (known : Bool) (fresh : ℚ) (pace : Option ℚ)
+pub record HasWorked (d : Discipline) (room : ℕ) (σ : ServerState) (end : ℚ) (known : Bool) (fresh : ℚ)
+    (pace : Option ℚ)
     (w : Piece) (after : Site) : Type 0
   where
     pub of_packet : IsOfPacket d σ end known fresh w
@@ -222,7 +223,8 @@ pub record HasWorked (d : Discipline) (room : ℕ) (σ : ServerState) (end : ℚ
 abbrev pub WorkAnswer : Discipline → ℕ → ServerState → ℚ → Bool → ℚ → Option ℚ → Piece → Site → Option Law → Type 0
 WorkAnswer d room σ end known fresh pace w after None = HasWorked d room σ end known fresh pace w after
 WorkAnswer d room σ end known fresh pace w after (Some L1) = IsOut σ end w.start ⊎ (end <ℚ w.end)
-WorkAnswer d room σ end known fresh pace w after (Some L2) = (¬ (IsOut σ end w.start ⊎ (end <ℚ w.end))) × (known ≡ false)
+WorkAnswer d room σ end known fresh pace w after (Some L2) = (¬ (IsOut σ end w.start ⊎ (end <ℚ w.end)))
+    × (known ≡ false)
 WorkAnswer d room σ end known fresh pace w after (Some L3) = ⊥
 WorkAnswer d room σ end known fresh pace w after (Some L4) =
     (¬ (IsOut σ end w.start ⊎ (end <ℚ w.end))) × (known ≡ true) × IsWrongBy σ w fresh

@@ -9,7 +9,7 @@ use Rattle.rational.specs.declared.Extended.TheVariants.{Fin}
 use Rattle.rational.proofs.ExtendedOrder.{le_ext_trans, le_or_lt_ext, add_le_ext, zero_add_ext, min_greatest}
 use Rattle.rational.proofs.Laws.{le_refl, le_lt_trans, lt_irrefl}
 use Rattle.min_plus.specs.Deviations.{IsLag, IsHorizontalDeviation}
-use Rattle.min_plus.specs.Functions.{zero_q, Time}
+use Rattle.min_plus.specs.Functions.{IsNonneg, zero_q, Time}
 use Rattle.upp_curve.specs.Curve.{value_at}
 use Rattle.net_model.specs.Accepted.{IsAccepted}
 use Rattle.net_model.specs.Networks.{Net}
@@ -27,9 +27,6 @@ use Rattle.net_cells.proofs.Precedes.{operands_are_cells}
 use Rattle.net_cells.proofs.TableValues.{has_number, same_number}
 use Rattle.command_replies.specs.net_bounds.proofs.FormulaParts.{number_map}
 use Rattle.command_replies.specs.net_bounds.proofs.Routed.{link_nonneg}
-
-abbrev pub IsNonneg : Ext → Type 0
-IsNonneg x = Fin zero_q ≤ₑ x
 
 -- ---- numbers
 lag_nonneg : (f g : ℚ → Ext) (t : ℚ) (x : Ext) → IsLag f g t x → IsNonneg x

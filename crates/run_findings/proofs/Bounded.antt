@@ -30,9 +30,10 @@ use Rattle.run_measures.specs.Worst.{IsLargest, AreWorst}
 use Rattle.report_text.specs.RunReport.{peak_at}
 use Rattle.run_findings.specs.FindingLaws.{QuietFindingsAreWithinBounds}
 use Rattle.run_findings.specs.RunBounds.{IsWithin}
-use Rattle.run_findings.proofs.AtLeastZero.{IsNonneg, Given, bound_nonneg}
+use Rattle.run_findings.proofs.AtLeastZero.{Given, bound_nonneg}
 use Rattle.run_findings.proofs.Before.{empty_by}
 use Rattle.run_findings.proofs.OneRun.{most_at}
+use Rattle.min_plus.specs.Functions.{IsNonneg}
 
 -- ---- numbers
 largest_within : (xs : List ℚ) (w : ℚ) (most : Ext) → IsLargest xs w → IsNonneg most → AreAtMost most xs

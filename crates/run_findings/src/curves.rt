@@ -14,7 +14,7 @@ fn keeps_service(net: &Network, number: u32)
     ensures { number < length net.now.servers → HasService net.now number }
 {
     if let Some(found) = server(net, number) {
-        let _kept = found.service.pieces();
+        found.service.keeps();
     }
 }
 
@@ -23,7 +23,7 @@ fn keeps_arrival(net: &Network, number: u32)
     ensures { IsTrue (is_live net.now number) → HasArrival net.now number }
 {
     if let Some(found) = live_flow(net, number) {
-        let _kept = found.arrival.pieces();
+        found.arrival.keeps();
     }
 }
 

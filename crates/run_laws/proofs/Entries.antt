@@ -1,5 +1,5 @@
 -- Packets that have entered, and packets that are due at a server.
-use Rattle.std.specs.Prelude.{Option, Some, None, ◌≡◌, ◌<◌, ℕ, zero, suc, ◌==◌, List, [], ◌∷◌, ◌++◌, length, slice_index_or}
+use Rattle.std.specs.Prelude.{Option, Some, None, true, ◌≡◌, ◌<◌, ℕ, zero, suc, ◌==◌, List, [], ◌∷◌, ◌++◌, length, slice_index_or}
 use Rattle.std.proofs.Common.{arith, sym, ap, ◌∙◌, refl, inl, inr, subst}
 use Rattle.std.proofs.lemmas.Bool.{cases_Bool, eq-eqb}
 use Rattle.min_plus.specs.rational.specs.Rational.{ℚ, ◌+ℚ◌}
@@ -8,6 +8,12 @@ use Rattle.run_laws.specs.declared.steps.Step.TheVariants.{Enter, Reach, Work, L
 use Rattle.run_laws.specs.Routes.{Hop, Routes, route_of, link_at, queue_at, PassesServer, first_of, server_after}
 use Rattle.run_laws.specs.Views.{Entry, entry_of, hops_of, entered_after}
 use Rattle.run_laws.specs.Lawful.{Due, RunState, same_due, without, sent, next_due, IsKnown}
+use Rattle.min_plus.specs.rational.proofs.Over.{le_q_out}
+use Rattle.min_plus.specs.rational.proofs.Laws.{le_refl}
+
+-- ---- a packet that is due
+pub same_due_self : (d : Due) → same_due d d ≡ true
+same_due_self d = rw (eq-eqb d.packet d.packet refl, eq-eqb d.server d.server refl, le_q_out d.time d.time (le_refl d.time)) refl
 
 -- ---- the list of those that have entered
 pub entry_before : (entered : List Entry) (e : Entry) (p : ℕ) → p < length entered → entry_of (entered ++ e ∷ []) p ≡ entry_of entered p

@@ -1,6 +1,7 @@
 -- What one server sees: packets that arrive, work on them, packets that leave, and visits of its queues.
 use Rattle.std.specs.Prelude.{ℕ, pos, Bool, true, ◌==◌, ltb, leb}
-use Rattle.min_plus.specs.rational.specs.Rational.{ℚ, int}
+use Rattle.min_plus.specs.rational.specs.Rational.{ℚ}
+pub use Rattle.min_plus.specs.Functions.{whole}
 
 -- a packet at a server, with the queue that it joins there
 pub record Card : Type 0 where
@@ -23,10 +24,6 @@ time_of (Arrives c t) = t
 time_of (Works c a b w) = a
 time_of (Leaves c t) = t
 time_of (Visits q t) = t
-
--- a number as a rational
-abbrev pub whole : ℕ → ℚ
-whole n = int (pos n)
 
 -- a packet's bits
 abbrev pub size : Card → ℚ

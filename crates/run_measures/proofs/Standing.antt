@@ -1,11 +1,9 @@
 -- A lawful run after some of its steps: each packet that has entered is in one place at most.
-use Rattle.std.specs.Prelude.{Option, Some, None, ◌≡◌, ℕ, zero, suc, ◌+◌, ◌*◌, ◌^◌, ◌<◌, ◌≤◌, true, false, ◌==◌, ◌&&◌, List, [], ◌∷◌, ◌++◌, length, get_or, set, map, take, drop, slice_get}
+use Rattle.std.specs.Prelude.{Option, Some, None, ◌≡◌, ℕ, zero, suc, ◌+◌, ◌*◌, ◌^◌, ◌<◌, ◌≤◌, false, ◌==◌, ◌&&◌, List, [], ◌∷◌, ◌++◌, length, get_or, set, map, take, drop, slice_get}
 use Rattle.std.proofs.Common.{arith, refl, sym, ap, ◌∙◌, subst, inl, inr}
-use Rattle.std.proofs.lemmas.Bool.{cases_Bool, cases_eq, eq-eqb, eqb-true, and_parts}
+use Rattle.std.proofs.lemmas.Bool.{cases_Bool, cases_eq, eqb-true, and_parts}
 use Rattle.std.proofs.lemmas.List.{length-map, length-set}
 use Rattle.rational.specs.Rational.{ℚ, le_q, ◌+ℚ◌}
-use Rattle.rational.proofs.Laws.{le_refl}
-use Rattle.rational.proofs.Over.{le_q_out}
 use Rattle.run_laws.specs.declared.steps.Step.{Step}
 use Rattle.run_laws.specs.declared.steps.Step.TheVariants.{Enter, Reach, Work, Leave, Visit}
 use Rattle.run_laws.specs.Runs.{SpecRun}
@@ -16,7 +14,7 @@ use Rattle.run_laws.specs.Allows.{Allows, MayLeave}
 use Rattle.run_laws.specs.Routes.{Routes, server_at, link_at, route_of, first_server, server_after}
 use Rattle.run_laws.specs.Views.{Entry, entry_of, hops_of, card_of, server_of, seen}
 use Rattle.run_laws.specs.Lawful.{Due, RunState, same_due, without, sent, state_at, next_run, run_start, after_run, AllAllowedInRun, IsLawful}
-use Rattle.run_laws.proofs.Entries.{EachDue, IsDueAfter, due_next, entry_before, entry_last}
+use Rattle.run_laws.proofs.Entries.{same_due_self, EachDue, IsDueAfter, due_next, entry_before, entry_last}
 use Rattle.run_laws.proofs.Heads.{same_some}
 use Rattle.run_laws.proofs.Members.{Has, contains_has}
 use Rattle.run_laws.proofs.States.{IsSound, sound_next, leaving}
@@ -73,9 +71,6 @@ links_more net entered e (d ∷ ds) h =
     let rest = links_more net entered e ds h.1 in
     omega (arith, one, rest)
 
-self_due : (d : Due) → same_due d d ≡ true
-self_due d = rw (eq-eqb d.packet d.packet refl, eq-eqb d.server d.server refl, le_q_out d.time d.time (le_refl d.time)) refl
-
 links_without : (entered : List Entry) (d : Due) (ds : List Due) → Has ds d
     → bits_on_links entered (without d ds) + (entry_of entered d.packet).bits ≡ bits_on_links entered ds
 links_without entered d [] h = absurd h
@@ -85,7 +80,7 @@ links_without entered d (e ∷ es) h = elim (cases_Bool (same_due d e)) [
       let same : (entry_of entered d.packet).bits ≡ (entry_of entered e.packet).bits = ap (λ p. (entry_of entered p).bits) (eqb-true d.packet e.packet a.0) in
       rw t (omega (arith, same))
   | inr f ↦ elim h [
-    | inl i ↦ absurd (let a = self_due d in let b : same_due d d ≡ false = subst (λ x. same_due d x ≡ false) i f in cc)
+    | inl i ↦ absurd (let a = same_due_self d in let b : same_due d d ≡ false = subst (λ x. same_due d x ≡ false) i f in cc)
     | inr i ↦
         let k = links_without entered d es i in
         rw f (omega (arith, k))

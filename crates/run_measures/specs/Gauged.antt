@@ -32,7 +32,8 @@ pub record WasThere (so_far : ℚ → ℚ) (end now : ℚ) (bits : ℕ) : Type 0
   pub there : so_far time ≡ whole bits
 
 -- a gauge of queue q of a server in this state: it tells of the backlog at each time what does not come of later steps
-pub record IsGauged (total : ℚ → ℚ) (end : ℚ) (q : ℕ) (σ : ServerState) (later : List ServerStep) (g : Gauge) : Type 0 where
+pub record IsGauged (total : ℚ → ℚ) (end : ℚ) (q : ℕ) (σ : ServerState) (later : List ServerStep)
+    (g : Gauge) : Type 0 where
   pub so_far : ℚ → ℚ
   pub rest : (t : ℚ) → total t ≡ so_far t +ℚ backlog (of_queue q) later t
   pub present : g.present ≡ bits_of (of_queue q) σ.inside

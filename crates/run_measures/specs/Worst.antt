@@ -31,7 +31,8 @@ DelaysFit net end (Leave s p t ∷ xs) = SumFits t (link_at net s) × DelaysFit 
 DelaysFit net end (Visit s q t ∷ xs) = DelaysFit net end xs
 
 -- what the steps from a place on tell of the packets of these flows: when each is delivered, and the worst delays
-pub record IsTallied (net : Routes) (end : ℚ) (xs : List Step) (flows : List ℕ) (delivered : List ℚ) (many : ℕ) (worst : List ℚ) : Type 0 where
+pub record IsTallied (net : Routes) (end : ℚ) (xs : List Step) (flows : List ℕ) (delivered : List ℚ) (many : ℕ)
+    (worst : List ℚ) : Type 0 where
   pub long : length delivered ≡ length flows
   pub at : (p : ℕ) → p < length flows
       → slice_index_or delivered p (int (pos 0))

@@ -12,7 +12,8 @@ use Rattle.run_table.specs.RunRows.{run_row, end_row, Gives, IsWrongIn}
 use Rattle.run_table.specs.Runs.{packets_after}
 
 -- a row behind so many gives a step
-pub record AddsStep (net : Net) (before packets : ℕ) (row : Row) (steps : List Step) (packets_then : ℕ) (steps_then : List Step) : Type 0 where
+pub record AddsStep (net : Net) (before packets : ℕ) (row : Row) (steps : List Step) (packets_then : ℕ)
+    (steps_then : List Step) : Type 0 where
   pub step : Step
   pub gives : Gives net packets (run_row row) (Does step)
   pub room : before < most_rows

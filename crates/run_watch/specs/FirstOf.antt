@@ -36,7 +36,8 @@ earlier (Some f) (Some g) = if lt_q g.time f.time then Some g else Some f
 
 -- each of the first goes before each of the others where its time is no later
 abbrev pub GoesBefore : SpecRun → (Breach → Type 0) → (Breach → Type 0) → Type 0
-GoesBefore run P Q = (x y : Breach) → P x → Q y → time_of run x ≤ℚ time_of run y → NoLater (order_key run x) (order_key run y)
+GoesBefore run P Q = (x y : Breach) → P x → Q y → time_of run x ≤ℚ time_of run y
+    → NoLater (order_key run x) (order_key run y)
 
 -- R is P and Q together
 pub record IsBoth (P Q R : Breach → Type 0) : Type 0 where
@@ -47,7 +48,8 @@ pub record IsBoth (P Q R : Breach → Type 0) : Type 0 where
 -- ---- of one flow
 -- its packets that are longer than it allows
 abbrev pub IsLongOn : SpecRun → ℕ → ℕ → Breach → Type 0
-IsLongOn run flow longest (Size f p) = (f ≡ flow) × (p < length (entries flow run.steps)) × (longest < (entering (entries flow run.steps) p).bits)
+IsLongOn run flow longest (Size f p) = (f ≡ flow) × (p < length (entries flow run.steps))
+    × (longest < (entering (entries flow run.steps) p).bits)
 IsLongOn run flow longest (Arrival f i j) = ⊥
 IsLongOn run flow longest (Service s a b) = ⊥
 
@@ -69,5 +71,6 @@ EnterInOrder es = (t : ℚ) × EntersFrom t es
 
 -- the earlier of the firsts of two sets of breaches, which tests tell, is the first of both
 abbrev pub EarlierIsFirst : Type 0
-EarlierIsFirst = (run : SpecRun) (p q : Breach → Bool) (f g : Option Found) → IsBest (λ y. p y ≡ true) run f → IsBest (λ y. q y ≡ true) run g →
+EarlierIsFirst = (run : SpecRun) (p q : Breach → Bool) (f g : Option Found) → IsBest (λ y. p y ≡ true) run f
+    → IsBest (λ y. q y ≡ true) run g →
     GoesBefore run (λ y. p y ≡ true) (λ y. q y ≡ true) → IsBest (λ y. (p y || q y) ≡ true) run (earlier f g)

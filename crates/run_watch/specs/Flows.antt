@@ -129,4 +129,5 @@ pub record IsRaised (level rate time : ℚ) (e : Entering) (l : ℚ) : Type 0 wh
 
 -- l holds the windows that end with packet `last`
 abbrev pub IsLevel : ℚ → List Entering → ℕ → ℚ → ℚ → Type 0
-IsLevel rate es last time l = (i : ℕ) → i ≤ last → whole (bits_between i last es) ≤ℚ l +ℚ rate *ℚ (time -ℚ (entering es i).time)
+IsLevel rate es last time l = (i : ℕ) → i ≤ last
+    → whole (bits_between i last es) ≤ℚ l +ℚ rate *ℚ (time -ℚ (entering es i).time)

@@ -29,7 +29,8 @@ IsShortNear works s p g = IsShortAfter works s p g ⊎ IsShortBefore works s p g
 
 -- one of the two is short, and ends at t
 abbrev pub IsNearEnd : List Ramp → Stretch → Point → Segment → ℚ → Type 0
-IsNearEnd works s p g t = (IsShortBefore works s p g × (t ≡ p.time)) ⊎ (IsShortAfter works s p g × (t ≡ p.time +ℚ g.start))
+IsNearEnd works s p g t = (IsShortBefore works s p g × (t ≡ p.time))
+    ⊎ (IsShortAfter works s p g × (t ≡ p.time +ℚ g.start))
 
 -- ---- all turns and segments
 abbrev pub NoneNearBy : List Segment → List Ramp → Stretch → Point → Type 0
@@ -53,7 +54,8 @@ IsNearEndOf ss works s ps t = (p : Point) × HasPoint p ps × IsNearEndBy ss wor
 
 -- one of these windows is short, between two of the turns or near one, and ends at t
 abbrev pub EndsShort : List Segment → List Ramp → Stretch → List ℚ → ℚ → Type 0
-EndsShort ss works s ts t = ((a : ℚ) × IsShortWindow ss works ts a t) ⊎ IsNearEndOf ss works s (map (point_at works) ts) t
+EndsShort ss works s ts t = ((a : ℚ) × IsShortWindow ss works ts a t)
+    ⊎ IsNearEndOf ss works s (map (point_at works) ts) t
 
 -- ---- sizes
 -- the steps by the segment at one time fit

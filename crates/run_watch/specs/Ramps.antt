@@ -43,7 +43,8 @@ TakeTime (s ∷ ss) = (s.start <ℚ s.end) × TakeTime ss
 -- the ramps of spans after so many bits
 abbrev pub ramps_after : ℚ → List Span → List Ramp
 ramps_after done [] = []
-ramps_after done (s ∷ ss) = record { span = s; before = done; after = done +ℚ s.bits; pace = pace_in s } ∷ ramps_after (done +ℚ s.bits) ss
+ramps_after done (s ∷ ss) = record { span = s; before = done; after = done +ℚ s.bits; pace = pace_in s }
+    ∷ ramps_after (done +ℚ s.bits) ss
 
 pub record AreRamps (rs : List Ramp) : Type 0 where
   pub spans : List Span

@@ -30,8 +30,10 @@ abbrev pub NoneWatched : Watched → SpecCurve → Stretch → List ℚ → Type
 NoneWatched w c s all = NoneIsShort (segments (unroll c w.end)) w.works.items (watched_from s (unroll c w.end) all)
 
 abbrev pub IsFirstWatched : Watched → SpecCurve → Stretch → List ℚ → ℚ × ℚ → Type 0
-IsFirstWatched w c s all p = IsFirstShort (segments (unroll c w.end)) w.works.items (watched_from s (unroll c w.end) all) p.0 p.1
+IsFirstWatched w c s all p =
+    IsFirstShort (segments (unroll c w.end)) w.works.items (watched_from s (unroll c w.end) all) p.0 p.1
 
 -- neither; or the first between its watch points
 abbrev pub FindsIn : Watched → SpecCurve → Stretch → List ℚ → List ℚ → Option (ℚ × ℚ) → Type 0
-FindsIn w c s own all found = MatchOption found (IsClearStretch w c s own ⊎ NoneWatched w c s all) (IsFirstWatched w c s all)
+FindsIn w c s own all found = MatchOption found (IsClearStretch w c s own ⊎ NoneWatched w c s all)
+    (IsFirstWatched w c s all)

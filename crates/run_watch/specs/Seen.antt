@@ -60,7 +60,8 @@ sizes_after sizes (Visit r q t) = sizes
 
 -- `firsts`: for each flow the first server of its path
 abbrev pub arrival_in : List ℕ → ℕ → List ℕ → Step → Option Span
-arrival_in firsts s sizes (Enter f p t b) = if slice_index firsts f == s then Some (at_once t (slice_index sizes p)) else None
+arrival_in firsts s sizes (Enter f p t b) =
+    if slice_index firsts f == s then Some (at_once t (slice_index sizes p)) else None
 arrival_in firsts s sizes (Reach r p t) = if r == s then Some (at_once t (slice_index sizes p)) else None
 arrival_in firsts s sizes (Work r p a b w) = None
 arrival_in firsts s sizes (Leave r p t) = None

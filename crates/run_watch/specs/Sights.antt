@@ -10,5 +10,6 @@ use Rattle.run_watch.specs.Watching.{Sees}
 use Rattle.run_watch.specs.Held.{IsSeen}
 
 abbrev pub SightsAreViews : Type 0
-SightsAreViews = (net : Routes) (run : SpecRun) (firsts : List ℕ) (s : ℕ) (w : Watched) → IsLawful net run → s < length net.servers → AreFirsts net firsts →
+SightsAreViews = (net : Routes) (run : SpecRun) (firsts : List ℕ) (s : ℕ) (w : Watched) → IsLawful net run
+    → s < length net.servers → AreFirsts net firsts →
     Sees w firsts s run.steps run.end → IsSeen (server_at net s) run.end (view net run s) w

@@ -52,7 +52,8 @@ abbrev pub begins : Watched → Ramp → Bool
 begins w r = lt_q r.span.start w.end && le_q r.before (worked_by w r.span.start)
 
 abbrev pub stretch_from : Watched → List ℚ → Ramp → Option Stretch
-stretch_from w stops r = if begins w r then Some record { start = r.span.start; end = next_after r.span.start w.end stops } else None
+stretch_from w stops r =
+    if begins w r then Some record { start = r.span.start; end = next_after r.span.start w.end stops } else None
 
 abbrev pub stretches_in : Watched → List ℚ → List Ramp → List Stretch
 stretches_in w stops [] = []
@@ -64,7 +65,8 @@ stretches w = stretches_in w (stops w) w.arrivals.items
 -- ---- turns
 -- t, where the pace changes there
 abbrev pub change_at : Watched → ℚ → List ℚ
-change_at w t = if same_q (rate_before (spans_of w.works.items) t) (rate_after (spans_of w.works.items) t) then [] else t ∷ []
+change_at w t =
+    if same_q (rate_before (spans_of w.works.items) t) (rate_after (spans_of w.works.items) t) then [] else t ∷ []
 
 abbrev pub changes_in : Watched → List Ramp → List ℚ
 changes_in w [] = []

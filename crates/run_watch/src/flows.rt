@@ -348,7 +348,8 @@ fn kept_first(alloc: Global, entries: &[Entering], arrival: &Curve) -> usize
 /// that is refused costs no answer, only time.
 pub fn first_crowded(alloc: Global, entries: &[Entering], arrival: &Curve) -> Option<(usize, usize)>
     requires { FlowReads arrival.now entries.now }
-    ensures { MatchOption result (NoneCrowded (value_at arrival.now) entries.now (length entries.now)) (λ p. IsFirstCrowded (value_at arrival.now) entries.now p.0 p.1) }
+    ensures { MatchOption result (NoneCrowded (value_at arrival.now) entries.now (length entries.now))
+        (λ p. IsFirstCrowded (value_at arrival.now) entries.now p.0 p.1) }
 {
     let kept = kept_first(alloc, entries, arrival);
     for last in kept..entries.len() {

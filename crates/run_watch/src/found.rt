@@ -49,7 +49,8 @@ pub fn earlier(best: Option<Found>, next: Option<Found>) -> Option<Found>
 /// The first packet of a flow that is longer than it allows.
 pub fn size_breach(packets: &[Entering], flow: u32, longest: u32) -> Option<Found>
     requires { length packets.now ≤ 2 ^ 32 }
-    ensures { (run : SpecRun) → packets.now ≡ entries flow run.steps → EnterInOrder packets.now → IsBest (IsLongOn run flow longest) run result }
+    ensures { (run : SpecRun) → packets.now ≡ entries flow run.steps → EnterInOrder packets.now
+        → IsBest (IsLongOn run flow longest) run result }
 {
     match first_too_long(packets, longest) {
         None => None,
@@ -75,7 +76,8 @@ pub fn arrival_breach(
 ) -> Option<Found>
     requires few { length packets.now ≤ 2 ^ 32 }
     requires reads { FlowReads arrival.now packets.now }
-    ensures { (run : SpecRun) → packets.now ≡ entries flow run.steps → EnterInOrder packets.now → IsBest (IsCrowdOn run flow (value_at arrival.now)) run result }
+    ensures { (run : SpecRun) → packets.now ≡ entries flow run.steps → EnterInOrder packets.now
+        → IsBest (IsCrowdOn run flow (value_at arrival.now)) run result }
 {
     match first_crowded(alloc, packets, arrival) {
         None => None,
@@ -101,7 +103,8 @@ pub fn service_breach(
     curve: &Curve,
 ) -> Result<Option<Found>, AllocError>
     requires { IsHeld w.now curve.now }
-    ensures { (run : SpecRun) (s : servers.Server) (V : List ServerStep) → IsSeen s w.now.end V w.now → MayServe curve.now
+    ensures { (run : SpecRun) (s : servers.Server) (V : List ServerStep) → IsSeen s w.now.end V w.now
+        → MayServe curve.now
         → IfOk result (IsBest (IsIdleOn w.now.end V server curve.now) run) }
 {
     match first_idle(alloc, w, curve)? {

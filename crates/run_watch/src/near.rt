@@ -70,7 +70,8 @@ fn near_end(works: &[Ramp], s: &Stretch, p: &Point, g: &Segment) -> Option<Frac>
 fn near_end_by(works: &[Ramp], s: &Stretch, p: &Point, segments: &[Segment]) -> Option<Frac>
     requires ramps { AreRamps works.now }
     requires fits { FitsNearBy segments.now works.now s.now p.now }
-    ensures { MatchOption result (NoneNearBy segments.now works.now s.now p.now) (IsNearEndBy segments.now works.now s.now p.now) }
+    ensures { MatchOption result (NoneNearBy segments.now works.now s.now p.now)
+        (IsNearEndBy segments.now works.now s.now p.now) }
 {
     for g in segments {
         if let Some(end) = near_end(works, s, p, g) {
@@ -84,7 +85,8 @@ fn near_end_by(works: &[Ramp], s: &Stretch, p: &Point, segments: &[Segment]) -> 
 fn near_end_of(works: &[Ramp], s: &Stretch, points: &[Point], segments: &[Segment]) -> Option<Frac>
     requires ramps { AreRamps works.now }
     requires fits { EachPoint (FitsNearBy segments.now works.now s.now) points.now }
-    ensures { MatchOption result (NoneNear segments.now works.now s.now points.now) (IsNearEndOf segments.now works.now s.now points.now) }
+    ensures { MatchOption result (NoneNear segments.now works.now s.now points.now)
+        (IsNearEndOf segments.now works.now s.now points.now) }
 {
     for p in points {
         if let Some(end) = near_end_by(works, s, p, segments) {
@@ -109,7 +111,9 @@ pub(crate) fn short_end(
     requires segments { SegmentsFit (segments pieces.now) }
     requires times { EachTime (TimeFits (segments pieces.now) works.now) own.now }
     requires near { EachPoint (FitsNearBy (segments pieces.now) works.now s.now) (map (point_at works.now) own.now) }
-    ensures { IfOk result (λ o. MatchOption o (IsClear (segments pieces.now) works.now s.now own.now) (EndsShort (segments pieces.now) works.now s.now own.now)) }
+    ensures { IfOk result
+        (λ o. MatchOption o (IsClear (segments pieces.now) works.now s.now own.now)
+        (EndsShort (segments pieces.now) works.now s.now own.now)) }
 {
     let segments = segments_of(alloc, pieces)?;
     let points = points_of(alloc, works, own)?;

@@ -95,9 +95,11 @@ fn let_in(
 pub fn first_under(alloc: Global, marks: &[Mark], rule: &Rule) -> Result<Option<usize>, AllocError>
     requires rise { TimesRise marks.now }
     requires fits { Each (FitsRule rule.now) marks.now }
-    ensures none { IfOk result (λ o. MatchOption o (Each (IsOver rule.now marks.now) marks.now) (λ k. k < length marks.now)) }
+    ensures none { IfOk result
+        (λ o. MatchOption o (Each (IsOver rule.now marks.now) marks.now) (λ k. k < length marks.now)) }
     ensures before { IfOk result (λ o. IfSome o (λ k. Each (IsOver rule.now marks.now) (take k marks.now))) }
-    ensures there { IfOk result (λ o. IfSome o (λ k. (b : Mark) × (slice_get marks.now k ≡ Some b) × IsUnderSome rule.now marks.now b)) }
+    ensures there { IfOk result
+        (λ o. IfSome o (λ k. (b : Mark) × (slice_get marks.now k ≡ Some b) × IsUnderSome rule.now marks.now b)) }
 {
     let mut kept = VecDeque::new(alloc);
     let mut into = 0;

@@ -88,7 +88,8 @@ fn is_step(stair: &Stair, piece: &Piece, end: Frac) -> bool
 /// Whether all pieces are; the last one ends at `end`.
 fn are_steps(stair: &Stair, end: Frac, pieces: &[Piece]) -> bool
     requires { int (pos 0) <ℚ stair.now.height }
-    ensures { IsTrue result → (i : ℕ) → i < length pieces.now → IsStepAt stair.now.height stair.now.slack stair.now.rate end (drop i pieces.now) }
+    ensures { IsTrue result → (i : ℕ) → i < length pieces.now
+        → IsStepAt stair.now.height stair.now.slack stair.now.rate end (drop i pieces.now) }
 {
     for i in 0..pieces.len() {
         if !is_step(stair, &pieces[i], next_start(pieces, i + 1).unwrap_or(end)) {

@@ -193,7 +193,8 @@ pub(crate) fn first_start(points: &[Point], segments: &[Segment], b: &Point) -> 
     requires rise { PointsRise points.now }
     requires fits { FitsSegments points.now segments.now }
     requires b { FitsSegments (b.now ∷ []) segments.now }
-    ensures { MatchOption result (EachPoint (λ p. ¬ IsShortTo segments.now p b.now) points.now) (IsFirstStart segments.now points.now b.now) }
+    ensures { MatchOption result (EachPoint (λ p. ¬ IsShortTo segments.now p b.now) points.now)
+        (IsFirstStart segments.now points.now b.now) }
 {
     for p in points {
         if is_short(segments, p, b) {

@@ -2,7 +2,7 @@
 -- that are on links; and what each step does to that sum.
 use Rattle.std.proofs.Common.{◌≡◌, ℕ, zero, suc, ◌<◌, ◌≤◌, ◌+◌, List, [], ◌∷◌, ◌++◌, length, get_or, set, map, drop, refl, ap, ◌∙◌, subst, arith, inl, inr, Some, None, true, false}
 use Rattle.std.specs.Prelude.{Option, ◌==◌, ◌&&◌}
-use Rattle.std.proofs.lemmas.Bool.{cases_Bool, eqb-true, eq-eqb, and_parts}
+use Rattle.std.proofs.lemmas.Bool.{cases_Bool, eqb-true, and_parts}
 use Rattle.rational.specs.Rational.{ℚ, le_q}
 use Rattle.run_laws.specs.Cards.{Card}
 use Rattle.run_laws.specs.Servers.{Server, ServerState, head_of, without_head, start}
@@ -14,6 +14,7 @@ use Rattle.stated_runs.specs.Setups.{Entering, Setup}
 use Rattle.stated_runs.proofs.Lists.{In}
 use Rattle.sim_bounds.specs.Horizons.{path_bits, bits_through}
 use Rattle.sim_bounds.proofs.Ahead.{bits_from, bits_after}
+use Rattle.run_laws.proofs.Entries.{same_due_self}
 
 -- ---- the sums
 -- a packet that is in server j
@@ -102,11 +103,6 @@ same_bits net entered s d e h =
     ap (λ k. bits_from s k (hops_of net entered d.packet) (entry_of entered d.packet).bits) q
     ∙ ap (λ k. bits_from s e.server (hops_of net entered k) (entry_of entered k).bits) p
 
-self_due : (d : Due) → same_due d d ≡ true
-self_due d =
-    let t : le_q d.time d.time ≡ true = Rattle.rational.proofs.Over.le_q_out d.time d.time (Rattle.rational.proofs.Laws.le_refl d.time) in
-    rw (eq-eqb d.packet d.packet refl, eq-eqb d.server d.server refl, t) refl
-
 pub links_without : (net : Routes) (entered : List Entry) (s : ℕ) (d : Due) (ds : List Due) → In ds d
     → bits_on_links net entered s (without d ds) + due_bits net entered s d ≡ bits_on_links net entered s ds
 links_without net entered s d [] h = absurd h
@@ -115,7 +111,7 @@ links_without net entered s d (e ∷ es) h = elim (cases_Bool (same_due d e)) [
       let w = same_bits net entered s d e t in
       rw t (omega (arith, w))
   | inr f ↦ elim h [
-    | inl i ↦ absurd (let a = self_due d in let b : same_due d d ≡ false = subst (λ x. same_due d x ≡ false) i f in cc)
+    | inl i ↦ absurd (let a = same_due_self d in let b : same_due d d ≡ false = subst (λ x. same_due d x ≡ false) i f in cc)
     | inr i ↦
         let k = links_without net entered s d es i in
         rw f (omega (arith, k))

@@ -14,6 +14,7 @@ use Rattle.net_graph.proofs.Members.{is_member}
 use Rattle.net_graph.proofs.Returns.{first_in_range}
 use Rattle.stated_runs.proofs.Lists.{In, in_contains, contains_in}
 use Rattle.sim_bounds.proofs.Members.{each_in}
+use Rattle.run_laws.proofs.Sums.{one_if}
 
 -- ---- tests
 one_true : (p q : Bool) → (p || q) ≡ true → (p ≡ true) ⊎ (q ≡ true)
@@ -210,10 +211,6 @@ no_long_walk net free s known e =
     ]
 
 -- ---- places
-abbrev one_if : Bool → ℕ
-one_if true = 1
-one_if false = 0
-
 -- how many lengths from 1 to k a walk to s can have
 walks : Net → ℕ → ℕ → ℕ
 walks net s zero = 0

@@ -89,7 +89,8 @@ sizes_from end rates bits n = record {
 }
 
 abbrev pub simulation_sizes : Net → SpecTrace → Sizes
-simulation_sizes net trace = sizes_from (horizon (setup_of net trace)) (rates_of net) (total_bits trace) (simulation_numbers net trace)
+simulation_sizes net trace = sizes_from (horizon (setup_of net trace)) (rates_of net) (total_bits trace)
+    (simulation_numbers net trace)
 
 unfoldable pub simulation_gauge : Net → SpecTrace → ℕ
 simulation_gauge net trace = gauge_of (simulation_sizes net trace)

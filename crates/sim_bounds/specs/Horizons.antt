@@ -46,7 +46,8 @@ stalled_for (x ∷ xs) = (x.end -ℚ x.start) +ℚ stalled_for xs
 
 -- how long server s works on all packets that pass it, its closed times with it
 abbrev pub work_span : Setup → ℕ → ℚ
-work_span S s = gate_ratio (opening_of S s).gate *ℚ (whole (load S s) /ℚ rate_of S s) +ℚ gate_cycle (opening_of S s).gate
+work_span S s = gate_ratio (opening_of S s).gate *ℚ (whole (load S s) /ℚ rate_of S s)
+    +ℚ gate_cycle (opening_of S s).gate
 
 abbrev pub span : Setup → ℕ → ℚ
 span S s = work_span S s +ℚ stalled_for (opening_of S s).stalls +ℚ link_at S.net s

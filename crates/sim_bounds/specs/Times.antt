@@ -68,6 +68,7 @@ pub record IsStepOnGrid (S : Setup) (d : ℕ) (r : RunState) (y : Step) : Type 0
 -- is yet to be worked on
 pub record HasTimes (S : Setup) (d : ℕ) (r : RunState) : Type 0 where
   pub now : (s : ℕ) → s < length S.net.servers → IsTime d (horizon S) (state_at r s).now
-  pub last_end : (s : ℕ) → s < length S.net.servers → (u : Under) → (state_at r s).under ≡ Some u → IsTime d (horizon S) u.last.end
+  pub last_end : (s : ℕ) → s < length S.net.servers → (u : Under) → (state_at r s).under ≡ Some u
+      → IsTime d (horizon S) u.last.end
   pub left : (s : ℕ) → s < length S.net.servers → (u : Under) → (state_at r s).under ≡ Some u
       → IsTime d (horizon S) ((size u.card -ℚ done u) /ℚ rate_of S s)

@@ -22,4 +22,8 @@ abbrev pub server_number : NetServer → Numbers
 server_number s = record { times = server_times s; values = []; slopes = s.rate ∷ [] }
 
 abbrev pub server_numbers : List NetServer → Numbers
-server_numbers ss = record { times = flat_map server_times ss; values = []; slopes = map (λ (s : NetServer). s.rate) ss }
+server_numbers ss = record {
+  times = flat_map server_times ss;
+  values = [];
+  slopes = map (λ (s : NetServer). s.rate) ss;
+}

@@ -7,4 +7,5 @@ use Rattle.stated_runs.specs.Setups.{StallTimes}
 -- the lengths of stalls can be added to a sum, one after another
 abbrev pub StallsFit : ℚ → List StallTimes → Type 0
 StallsFit sum [] = Unit {0}
-StallsFit sum (x ∷ xs) = SumFits x.end (neg_ℚ x.start) × SumFits sum (x.end -ℚ x.start) × StallsFit (sum +ℚ (x.end -ℚ x.start)) xs
+StallsFit sum (x ∷ xs) = SumFits x.end (neg_ℚ x.start) × SumFits sum (x.end -ℚ x.start)
+    × StallsFit (sum +ℚ (x.end -ℚ x.start)) xs

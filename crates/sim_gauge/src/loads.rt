@@ -12,7 +12,8 @@ use net_model::{Flow, Network, Trace, TracePacket};
 
 /// The bits where the path has the server, and else 0.
 fn bits_on(path: &[u32], server: u32, bits: u32) -> u32
-    ensures { (queues : List ℕ) → length queues ≡ length path.now → result ≡ path_bits server (hops_along path.now queues) bits }
+    ensures { (queues : List ℕ) → length queues ≡ length path.now
+        → result ≡ path_bits server (hops_along path.now queues) bits }
 {
     for at in path {
         if *at == server {

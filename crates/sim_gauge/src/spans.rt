@@ -69,7 +69,8 @@ pub(crate) fn plain_time(kind: &ServiceKind, time: Frac) -> Frac
 /// The length of a stall more.
 fn with_stall(sum: Frac, stall: &Stall) -> Option<Frac>
     ensures value { IfSome result (λ t. t ≡ sum +ℚ (stall.now.end -ℚ stall.now.start)) }
-    ensures fits { SumFits stall.now.end (neg_ℚ stall.now.start) → SumFits sum (stall.now.end -ℚ stall.now.start) → IsSome result }
+    ensures fits { SumFits stall.now.end (neg_ℚ stall.now.start) → SumFits sum (stall.now.end -ℚ stall.now.start)
+        → IsSome result }
 {
     match minus(stall.end, stall.start) {
         Some(length) => plus(sum, length),

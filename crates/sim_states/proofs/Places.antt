@@ -1,12 +1,10 @@
 -- Each packet that has entered is at one place at most: at a server, or on a link.
-use Rattle.std.specs.Prelude.{Option, Some, None, ◌≡◌, ◌≢◌, ℕ, ◌+◌, ◌<◌, ◌≤◌, true, false, ◌==◌, ◌&&◌, List, [], ◌∷◌, ◌++◌, length, map, get_or, sum_by}
+use Rattle.std.specs.Prelude.{Option, Some, None, ◌≡◌, ◌≢◌, ℕ, ◌+◌, ◌<◌, ◌≤◌, false, ◌==◌, ◌&&◌, List, [], ◌∷◌, ◌++◌, length, map, get_or, sum_by}
 use Rattle.std.proofs.Common.{arith, refl, sym, ap, ◌∙◌, subst, inl, inr}
 use Rattle.std.proofs.lemmas.Bool.{cases_eq, cases_Bool, eq-eqb, eqb-true, ne_eqb, and_parts}
 use Rattle.std.proofs.lemmas.List.{length_push}
 use Rattle.std.proofs.lemmas.List.Sums.{sum_by-set}
 use Rattle.rational.specs.Rational.{ℚ, le_q, ◌+ℚ◌}
-use Rattle.rational.proofs.Over.{le_q_out}
-use Rattle.rational.proofs.Laws.{le_refl}
 use Rattle.run_laws.specs.declared.steps.Step.{Step}
 use Rattle.run_laws.specs.declared.steps.Step.TheVariants.{Enter, Reach, Work, Leave, Visit}
 use Rattle.run_laws.specs.Cards.{Card}
@@ -17,6 +15,7 @@ use Rattle.run_laws.specs.Views.{Entry, card_of, server_of, seen}
 use Rattle.run_laws.specs.Lawful.{Due, RunState, same_due, without, sent, state_at, next_run}
 use Rattle.stated_runs.proofs.Lists.{In}
 use Rattle.sim_states.specs.Places.{one, cards_of, dues_of, at_server, places, ArePlaced}
+use Rattle.run_laws.proofs.Entries.{same_due_self}
 
 pub one_same : (p : ℕ) → one p p ≡ 1
 one_same p = rw (eq-eqb p p refl) refl
@@ -47,12 +46,6 @@ cards_less p q (x ∷ xs) c e = elim (cases_eq x.queue q) [
       omega (arith, h, m)
 ]
 
-le_self : (x : ℚ) → le_q x x ≡ true
-le_self x = le_q_out x x (le_refl x)
-
-pub same_self : (d : Due) → same_due d d ≡ true
-same_self d = rw (eq-eqb d.packet d.packet refl, eq-eqb d.server d.server refl, le_self d.time) refl
-
 pub dues_less : (p : ℕ) (ds : List Due) (d : Due) → In ds d → dues_of p (without d ds) + one d.packet p ≡ dues_of p ds
 dues_less p [] d h = absurd h
 dues_less p (e ∷ es) d h = elim (cases_Bool (same_due d e)) [
@@ -65,7 +58,7 @@ dues_less p (e ∷ es) d h = elim (cases_Bool (same_due d e)) [
   | inr f ↦
       let a : without d (e ∷ es) ≡ e ∷ without d es = rw f refl in
       let rest : In es d = elim h [
-        | inl same ↦ absurd (let g : same_due d d ≡ false = ap (λ x. same_due d x) (sym same) ∙ f in let k = same_self d in cc)
+        | inl same ↦ absurd (let g : same_due d d ≡ false = ap (λ x. same_due d x) (sym same) ∙ f in let k = same_due_self d in cc)
         | inr i ↦ i
       ] in
       let n = dues_less p es d rest in

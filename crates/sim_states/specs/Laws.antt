@@ -40,7 +40,8 @@ FirstIsNext = (S : Setup) → IsSetup S
 -- a station for the state of its server after a step
 abbrev pub IsAfter : Setup → List Step → Step → Station → Type 0
 IsAfter S xs x new = IsStation S (server_of S.net x)
-    (next (server_at S.net (server_of S.net x)).discipline (state_at (state_after S xs) (server_of S.net x)) (seen S.net (state_after S xs).entered x)) new
+    (next (server_at S.net (server_of S.net x)).discipline (state_at (state_after S xs) (server_of S.net x))
+    (seen S.net (state_after S xs).entered x)) new
     × (room_of new.queues ≡ length S.packets)
 
 -- a step that is next, with a station for its server after it, keeps the state: where a packet enters

@@ -58,7 +58,8 @@ pub record AreStations (S : Setup) (r : RunState) (stations : List Station) : Ty
   pub rooms : (s : ℕ) (x : Station) → slice_get stations s ≡ Some x → room_of x.queues ≡ length S.packets
 
 -- ---- the whole
-pub record IsRunning (S : Setup) (stations : List Station) (links : Chains) (arrivals : List Arrival) (entered : ℕ) (steps : List Step) : Type 0 where
+pub record IsRunning (S : Setup) (stations : List Station) (links : Chains) (arrivals : List Arrival) (entered : ℕ)
+    (steps : List Step) : Type 0 where
   pub followed : FollowsSoFar S (run_start S.net) steps
   pub servers : AreStations S (state_after S steps) stations
   pub on_links : AreLinks S (state_after S steps) links arrivals
@@ -78,7 +79,12 @@ enter_first (Some e) n = Some record { time = e.time; kind = kinds.Enter; server
 abbrev pub reach_first : List Arrival → Option ℕ → Option Due
 reach_first arrivals None = None
 reach_first arrivals (Some p) =
-    Some record { time = (arrival_at arrivals p).time; kind = kinds.Reach; server = (arrival_at arrivals p).server; packet = p }
+    Some record {
+      time = (arrival_at arrivals p).time;
+      kind = kinds.Reach;
+      server = (arrival_at arrivals p).server;
+      packet = p;
+    }
 
 -- the step at a server
 abbrev pub station_due : Option Station → ℕ → Option Due
@@ -89,7 +95,8 @@ station_due (Some x) s = due_for x.next s
 abbrev pub IsCandidate : Setup → List Station → Chains → List Arrival → ℕ → ℕ → Due → Type 0
 IsCandidate S stations links arrivals entered k d =
     (enter_first (slice_get S.packets entered) entered ≡ Some d)
-    ⊎ ((s : ℕ) × (s < k) × ((station_due (slice_get stations s) s ≡ Some d) ⊎ (reach_first arrivals (first_of (list_at links s)) ≡ Some d)))
+    ⊎ ((s : ℕ) × (s < k) × ((station_due (slice_get stations s) s ≡ Some d)
+    ⊎ (reach_first arrivals (first_of (list_at links s)) ≡ Some d)))
 
 -- the first of them; none where there is none
 abbrev pub IsFirstCandidate : Setup → List Station → Chains → List Arrival → ℕ → ℕ → Option Due → Type 0

@@ -23,7 +23,7 @@ use Rattle.run_laws.proofs.Rounds.{first_counts}
 use Rattle.stated_runs.specs.Setups.{Setup}
 use Rattle.stated_runs.proofs.Lists.{In}
 use Rattle.stated_runs.proofs.Turning.{KeepsTurns, AreHeads, head_cases}
-use Rattle.sim_states.proofs.Places.{same_self}
+use Rattle.run_laws.proofs.Entries.{same_due_self}
 
 -- ---- how many times 1 / d there are from the end of the last work to E
 abbrev pub ticks : ℕ → ℚ → ℚ → ℕ
@@ -200,7 +200,7 @@ without_less d (e ∷ es) h = elim (cases_Bool (same_due d e)) [
   | inr f ↦
       let a : without d (e ∷ es) ≡ e ∷ without d es = rw f refl in
       let rest : In es d = elim h [
-        | inl same ↦ absurd (let g : same_due d d ≡ false = ap (λ x. same_due d x) (sym same) ∙ f in let k = same_self d in cc)
+        | inl same ↦ absurd (let g : same_due d d ≡ false = ap (λ x. same_due d x) (sym same) ∙ f in let k = same_due_self d in cc)
         | inr i ↦ i
       ] in
       let n = without_less d es rest in

@@ -19,7 +19,8 @@ gate_of Listed = None
 -- the stalls of server s
 abbrev pub stalls_at : ℕ → List Stall → List StallTimes
 stalls_at s [] = []
-stalls_at s (x ∷ xs) = if x.server == s then record { start = x.start; end = x.end } ∷ stalls_at s xs else stalls_at s xs
+stalls_at s (x ∷ xs) =
+    if x.server == s then record { start = x.start; end = x.end } ∷ stalls_at s xs else stalls_at s xs
 
 -- when the servers work; the first has number s
 abbrev pub openings_from : ℕ → List NetServer → List Stall → List Opening

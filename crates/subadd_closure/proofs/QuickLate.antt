@@ -6,7 +6,7 @@ use Rattle.rational.specs.Rational.{ℚ, ◌+ℚ◌, ◌-ℚ◌, ◌*ℚ◌, ◌
 use Rattle.rational.specs.Extended.{Ext, ◌≤ₑ◌, ◌+ₑ◌}
 use Rattle.rational.specs.declared.Extended.TheVariants.{Fin, Inf}
 use Rattle.rational.proofs.Linear.{with_atoms, with2, with3, with4, with5, with6}
-use Rattle.rational.proofs.Laws.{le_refl, le_trans, le_of_lt, add_zero, mul_add, sub_mul, mul_le_mul, mul_nonneg}
+use Rattle.rational.proofs.Laws.{le_refl, le_trans, le_of_lt, add_comm, add_zero, sub_add, mul_add, sub_mul, mul_le_mul, mul_nonneg}
 use Rattle.rational.proofs.Integers.{nat_nonneg}
 use Rattle.rational.proofs.ExtendedOrder.{le_ext_trans, add_le_ext, le_ext_refl, same_le_ext}
 use Rattle.upp_curve.specs.Steady.{Repeats}
@@ -16,6 +16,7 @@ use Rattle.curve_least.proofs.MostAbove.{moved_back, times_rate}
 use Rattle.curve_least.proofs.Shifts.{later_value}
 use Rattle.curve_conv.specs.LateBounds.{IsTop, IsDepth}
 use Rattle.subadd_closure.specs.QuickBounds.{Reaches}
+use Rattle.rational.proofs.Stretch.{not_earlier}
 
 -- ---- up
 -- a number of periods costs at most what the line does
@@ -51,12 +52,6 @@ reach_from_zero f g x p y a r top start t ny nt late some R e nr up at =
 later_nonneg : (x y : ℚ) → int (pos 0) ≤ℚ x → int (pos 0) ≤ℚ y → int (pos 0) ≤ℚ x +ℚ y
 later_nonneg x y a b = with2 x y (λ c. omega (arith, c.le, c.lt, c.same))
 
-later_more : (x y : ℚ) → int (pos 0) ≤ℚ y → x ≤ℚ x +ℚ y
-later_more x y b = with2 x y (λ c. omega (arith, c.le, c.lt, c.same))
-
-rest_whole : (s t : ℚ) → s +ℚ (t -ℚ s) ≡ t
-rest_whole s t = with2 s t (λ c. omega (arith, c.le, c.lt, c.same))
-
 -- by the value of f where it begins to repeat, where g is a number all through its period
 pub reach_from_start : (f g : ℚ → Ext) (x p y q a b r s top start t : ℚ) → int (pos 0) ≤ℚ x → int (pos 0) ≤ℚ y → x +ℚ y ≤ℚ t → int (pos 0) <ℚ p
     → int (pos 0) <ℚ q → Repeats f x p a → Repeats g y q b → r *ℚ p ≡ a → s *ℚ q ≡ b → int (pos 0) ≤ℚ r → int (pos 0) ≤ℚ s → f x ≡ Fin start
@@ -87,9 +82,9 @@ reach_from_start f g x p y q a b r s top start t nx ny far some each R Q e h nr 
         second = u;
         first_nonneg = later_nonneg x np nx more;
         second_nonneg = le_trans ny after;
-        whole = rest_whole (x +ℚ np) t;
+        whole = add_comm (x +ℚ np) (t -ℚ (x +ℚ np)) ∙ sub_add t (x +ℚ np);
       };
-      late = later_more x np more;
+      late = not_earlier x np more;
       most = le_ext_trans (f (x +ℚ np) +ₑ g u) (Fin (start +ℚ na +ℚ (top +ℚ mb))) (Fin (start +ℚ top +ℚ s *ℚ p +ℚ r *ℚ (t -ℚ y -ℚ x))) sums
           (ends start na top mb (s *ℚ p) (r *ℚ (t -ℚ y -ℚ x)) run gained);
     }

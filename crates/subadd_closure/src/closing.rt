@@ -139,7 +139,7 @@ pub fn close<L: Ledger>(alloc: Global, f: &Curve, steps: &mut Steps<L>) -> Resul
     ensures exact { IfOk result (λ _. steps.new ≡ steps.old + fold_work f.now) }
 {
     // Its type keeps that f is a curve.
-    let _tail = f.tail();
+    f.keeps();
     let es = elements(alloc, f)?;
     closed(alloc, f, &es, steps)
 }

@@ -74,7 +74,7 @@ fn started_within(
         frame.times,
         frame.values,
     )?;
-    let _kept = late.tail();
+    late.keeps();
     with_start(alloc, &late, start)
 }
 

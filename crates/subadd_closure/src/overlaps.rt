@@ -76,7 +76,7 @@ pub(crate) fn overlap(
     ensures over { IfErr result (SegmentCause f.now (segment_number (Open a b line.now))) }
 {
     // Its type keeps that f is a curve.
-    let _tail = f.tail();
+    f.keeps();
     let Extended::Fin(end) = b else {
         return Ok(0);
     };

@@ -16,7 +16,8 @@ pub record AreEditsOf (rows : List Row) (edits : List EditText) : Type 0 where
 
 -- what is wrong with a row behind so many others: it is one too many; else it is wrong by itself
 abbrev pub IsEditWrong : ℕ → Row → TableKind → Type 0
-IsEditWrong before row kind = ((kind ≡ T7) × (most_edits ≤ before)) ⊎ ((before < most_edits) × (edit_row row ≡ Err kind))
+IsEditWrong before row kind = ((kind ≡ T7) × (most_edits ≤ before))
+    ⊎ ((before < most_edits) × (edit_row row ≡ Err kind))
 
 -- the rows before it are edits, and it is wrong behind them; rows are counted from 1
 pub record IsFirstEditFault (text : List ℕ) (kind : TableKind) (number : ℕ) : Type 0 where

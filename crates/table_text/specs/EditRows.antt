@@ -99,7 +99,8 @@ two_of word row =
 
 abbrev pub quantum_of : Row → Option EditText
 quantum_of row =
-    option_and_then (λ queue. option_map (Quantum (field row 1) queue) (whole_in (field row 3))) (whole_in (field row 2))
+    option_and_then (λ queue. option_map (Quantum (field row 1) queue) (whole_in (field row 3)))
+    (whole_in (field row 2))
 
 abbrev pub packet_of : Row → Option EditText
 packet_of row = option_map (Packet (field row 1)) (whole_in (field row 2))

@@ -6,7 +6,7 @@ use Rattle.std.specs.List.{list_all, position}
 use Rattle.std.specs.Str.Parse.{digits_value}
 use Rattle.fraction128.specs.Text.{is_numeral, before_at}
 use Rattle.net_model.specs.declared.edit.PathEntry.{PathEntry}
-use Rattle.net_model.specs.Names.{is_name_byte}
+use Rattle.net_model.specs.Names.{is_name_byte, is_colon}
 
 -- 1 to 32 letters, digits, `_` and `-`
 abbrev pub is_name : List ℕ → Bool
@@ -19,9 +19,6 @@ pub record EntryText : Type 0 where
 
 abbrev pub entry_view : PathEntry → EntryText
 entry_view entry = record { server = string_bytes entry.server; queue = entry.queue }
-
-abbrev pub is_colon : ℕ → Bool
-is_colon b = b == 58
 
 -- the bytes after the first colon; the digit 0 where there is none
 abbrev pub digits_after : Option ℕ → List ℕ → List ℕ

@@ -1,27 +1,13 @@
 //! Paths of an edit list.
 
 ghost use Rattle.std.specs.Prelude.{◌≡◌, ◌≢◌, ◌-◌, ◌^◌, ◌<◌, ◌≤◌, ℕ, min, map, length, true, slice_index, EachIndex};
-ghost use Rattle.std.specs.List.{list_all, position};
-ghost use Rattle.net_model.specs.Names as names;
 ghost use Rattle.table_text.specs.EditRows.{Finds};
 ghost use Rattle.table_text.specs.Paths as spec;
 
 use crate::fault::TableKind;
 use fraction128::read_digits;
-use net_model::PathEntry;
+use net_model::{PathEntry, are_name_bytes, find_colon};
 use std::alloc::Global;
-
-fn is_name_byte(b: u8) -> bool
-    ensures { result ≡ names.is_name_byte b }
-{
-    (97 <= b && b <= 122) || (65 <= b && b <= 90) || (48 <= b && b <= 57) || b == 95 || b == 45
-}
-
-fn are_name_bytes(text: &[u8]) -> bool
-    ensures { result ≡ list_all names.is_name_byte text.now }
-{
-    text.iter().all(|b| is_name_byte(*b))
-}
 
 fn is_name(text: &[u8]) -> bool
     ensures { result ≡ spec.is_name text.now }
@@ -61,16 +47,10 @@ fn entry_of(alloc: Global, name: &[u8], digits: &[u8]) -> Result<PathEntry, Tabl
     })
 }
 
-fn colon_in(word: &[u8]) -> Option<usize>
-    ensures { result ≡ position spec.is_colon word.now }
-{
-    word.iter().position(|b| *b == b':')
-}
-
 fn entry_in(alloc: Global, word: &[u8]) -> Result<PathEntry, TableKind>
     ensures { Finds spec.entry_view result (spec.entry_in word.now) }
 {
-    match colon_in(word) {
+    match find_colon(word) {
         Some(at) => entry_of(alloc, &word[..at], &word[at + 1..]),
         None => entry_of(alloc, word, b"0"),
     }

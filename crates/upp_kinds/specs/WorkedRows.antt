@@ -6,14 +6,12 @@ use Rattle.upp_curve.specs.declared.curve.Tail.TheVariants.{Affine}
 use Rattle.upp_curve.specs.Curve.{SpecCurve, value_at}
 use Rattle.upp_curve.specs.Unrolled.{count, unroll}
 use Rattle.upp_curve.specs.min_plus.specs.Functions.{zero_q}
+pub use Rattle.upp_curve.specs.min_plus.specs.Functions.{whole}
 use Rattle.upp_curve.specs.min_plus.specs.Pointwise.{IsMinimum, IsMaximum, IsSum, IsPositiveDifference}
 use Rattle.upp_curve.specs.min_plus.specs.Running.{IsRunningSupremum, IsRunningInfimum}
 use Rattle.upp_curve.specs.min_plus.specs.Convolution.{IsConvolution, IsDeconvolution, IsSubadditiveClosure, IsSubadditive}
 use Rattle.upp_curve.specs.Kinds.{piece, stair, gate, bucket, rate_latency}
 use Rattle.upp_curve.specs.min_plus.specs.Formulas.{stair_value, gate_value}
-
-abbrev pub whole : ℕ → ℚ
-whole n = int (pos n)
 
 -- packets of 1 with period 2 and no jitter; and packets of 4 with period 3 and jitter 5
 pub record StairRows : Type 0 where

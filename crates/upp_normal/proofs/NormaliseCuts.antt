@@ -14,11 +14,7 @@ use Rattle.upp_limits.specs.upp_curve.proofs.Unique.{upto_none, upto_some, upto_
 use Rattle.upp_normal.proofs.NormaliseLoops.{past_go, past_stop, past_none}
 use Rattle.upp_limits.specs.affine_segment.proofs.PieceOrder.{each_left, heads_same, nil_not_cons}
 use Rattle.upp_normal.proofs.NormaliseLists.{past_all, rises_upto, none_upto}
-use Rattle.upp_limits.proofs.PieceCounts.{from_none, from_some}
-
-pub from_end : (x : ℚ) → from x [] ≡ []
-unfolding from
-from_end x = refl
+use Rattle.upp_limits.proofs.PieceCounts.{from_none, from_some, from_end}
 
 pub split_is : (x : ℚ) (ps : List Piece) → upto x ps ++ from x ps ≡ ps
 split_is x [] = ap (λ zs. zs ++ from x []) (upto_end x) ∙ from_end x

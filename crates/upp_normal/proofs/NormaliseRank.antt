@@ -28,10 +28,10 @@ use Rattle.upp_limits.specs.upp_curve.proofs.Normal.{start_in_upto, upto_all}
 use Rattle.upp_limits.specs.upp_curve.proofs.Repeats.{repeated_first, repeated_rule}
 use Rattle.upp_limits.specs.affine_segment.proofs.PieceOrder.{each_map, each_append, rises_left, rises_split, each_mid, has_mid}
 use Rattle.upp_normal.proofs.NormaliseLists.{last_is_last, last_in, none_between}
-use Rattle.upp_normal.proofs.NormaliseCuts.{from_end, split_is, take_upto, drop_upto, zero_upto, no_merge_upto, upto_upto, front_self, front_upto, front_trans, each_front}
+use Rattle.upp_normal.proofs.NormaliseCuts.{split_is, take_upto, drop_upto, zero_upto, no_merge_upto, upto_upto, front_self, front_upto, front_trans, each_front}
 use Rattle.upp_normal.proofs.NormalisePeriods.{agree, repeats_after}
 use Rattle.upp_normal.proofs.NormaliseBreaks.{lines_apart}
-use Rattle.upp_limits.proofs.PieceCounts.{from_none, from_some, upto_early}
+use Rattle.upp_limits.proofs.PieceCounts.{from_none, from_some, from_end, upto_early}
 
 -- ---- a list about one of its pieces
 pub upto_mid : (x : ℚ) (es : List Piece) (p : Piece) (bs : List Piece) → Each (λ z. z.x <ℚ x) es → x ≤ℚ p.x → upto x (es ++ p ∷ bs) ≡ es

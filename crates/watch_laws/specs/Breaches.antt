@@ -63,6 +63,7 @@ NoLater (x ∷ xs) [] = ⊥
 NoLater (x ∷ xs) (y ∷ ys) = (x <ℚ y) ⊎ (x ≡ y) × NoLater xs ys
 
 -- a breach, and none comes before it
-pub record IsFirstBreach (net : Routes) (packet : ℕ → ℕ) (α : ℕ → ℚ → Ext) (service : ℕ → SpecCurve) (run : SpecRun) (x : Breach) : Type 0 where
+pub record IsFirstBreach (net : Routes) (packet : ℕ → ℕ) (α : ℕ → ℚ → Ext) (service : ℕ → SpecCurve) (run : SpecRun)
+    (x : Breach) : Type 0 where
   pub is : IsBreach net packet α service run x
   pub least : (y : Breach) → IsBreach net packet α service run y → NoLater (order_key run x) (order_key run y)

@@ -11,7 +11,8 @@ use Rattle.watch_laws.specs.declared.entering.Entering.{Entering}
 -- the packets of a flow as they enter, in their order
 abbrev pub entries : ℕ → List Step → List Entering
 entries flow [] = []
-entries flow (Enter f p t b ∷ xs) = if f == flow then record { time = t; bits = b } ∷ entries flow xs else entries flow xs
+entries flow (Enter f p t b ∷ xs) =
+    if f == flow then record { time = t; bits = b } ∷ entries flow xs else entries flow xs
 entries flow (Reach s p t ∷ xs) = entries flow xs
 entries flow (Work s p a b w ∷ xs) = entries flow xs
 entries flow (Leave s p t ∷ xs) = entries flow xs

@@ -93,5 +93,6 @@ BreachesTell = (net : Routes) (packet : ℕ → ℕ) (α : ℕ → ℚ → Ext) 
 
 -- and no two breaches are first
 abbrev pub FirstIsOne : Type 0
-FirstIsOne = (net : Routes) (packet : ℕ → ℕ) (α : ℕ → ℚ → Ext) (service : ℕ → SpecCurve) (run : SpecRun) (x y : Breach) →
+FirstIsOne = (net : Routes) (packet : ℕ → ℕ) (α : ℕ → ℚ → Ext) (service : ℕ → SpecCurve) (run : SpecRun)
+    (x y : Breach) →
     IsFirstBreach net packet α service run x → IsFirstBreach net packet α service run y → x ≡ y

@@ -47,7 +47,8 @@ pub record KeyFits (z : Sizes) (w s t : ℚ) : Type 0 where
   pub is : IsKey z (w -ℚ s *ℚ t)
 
 abbrev pub MarksFit : Type 0
-MarksFit = (z : Sizes) (end : ℚ) (r : Rule) (m : Mark) → AreLimited z end → RuleStands z end r → MarkStands z end m → FitsRule r m
+MarksFit = (z : Sizes) (end : ℚ) (r : Rule) (m : Mark) → AreLimited z end → RuleStands z end r → MarkStands z end m
+    → FitsRule r m
 
 abbrev pub KeysFit : Type 0
 KeysFit = (z : Sizes) (end w s t : ℚ) → AreLimited z end → IsAmount z w → IsSlope z s → IsTime z end t → KeyFits z w s t

@@ -36,6 +36,7 @@ segments (p ∷ ps) = segment_of p (next_start ps) ∷ segments ps
 
 -- a window no longer than `far` is short by one of them exactly where the work in it is less than the curve
 abbrev pub SegmentsTell : Type 0
-SegmentsTell = (c : SpecCurve) (far : ℚ) (a b : Point) → MayServe c → int (pos 0) <ℚ far → a.time ≤ℚ b.time → b.time -ℚ a.time ≤ℚ far →
+SegmentsTell = (c : SpecCurve) (far : ℚ) (a b : Point) → MayServe c → int (pos 0) <ℚ far → a.time ≤ℚ b.time
+    → b.time -ℚ a.time ≤ℚ far →
     ((s : Segment) × HasSegment s (segments (unroll c far)) × IsShortBy s a b)
     ↔ (Fin b.work <ₑ (Fin a.work +ₑ value_at c (b.time -ℚ a.time)))

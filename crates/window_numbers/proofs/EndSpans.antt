@@ -23,7 +23,7 @@ use Rattle.upp_limits.specs.Limits.{Numbers, joined, time_alone, slopes_alone, l
 use Rattle.upp_limits.specs.Seen.{seen_of, seen_risen}
 use Rattle.upp_limits.specs.ClosedForm.{seen_values, span_numbers, last_numbers}
 use Rattle.upp_limits.proofs.ClosedForms.{seen_copy, slope_later}
-use Rattle.upp_limits.proofs.JoinedNumbers.{joined_assoc, joined_nothing, joined_three}
+use Rattle.upp_limits.proofs.JoinedNumbers.{make_numbers, joined_assoc, joined_nothing, joined_three}
 use Rattle.upp_limits.proofs.PieceLists.{spans_none}
 use Rattle.upp_limits.proofs.Copies.{copies_in, copies_out}
 use Rattle.sim_bounds.specs.Gauge.{starts_at, spans_at, numbers_to}
@@ -162,22 +162,19 @@ pub curve_at_end : (c : SpecCurve) (t : ℚ) → HasPeriod c.tail → spans_at c
 unfolding spans_below
 curve_at_end c t some = all_at_end c.tail t (spans c.tail c.pieces) some
 
-make : List ℚ → List ℚ → List ℚ → Numbers
-make t v s = record { times = t; values = v; slopes = s }
-
 -- the numbers of the spans
 summed : (tail : Tail) (t : ℚ) (ss : List Span)
     → all_end_numbers tail t ss
-    ≡ make (map (λ (s : Span). s.piece.x) ss) (flat_map span_values (flat_map (at_end tail t) ss)) (flat_map span_slopes (flat_map (at_end tail t) ss))
-unfolding all_end_numbers make
+    ≡ make_numbers (map (λ (s : Span). s.piece.x) ss) (flat_map span_values (flat_map (at_end tail t) ss)) (flat_map span_slopes (flat_map (at_end tail t) ss))
+unfolding all_end_numbers make_numbers
 summed tail t [] = refl
 summed tail t (s ∷ ss) =
     let ys = at_end tail t s in
     let rest = flat_map (at_end tail t) ss in
     let times = s.piece.x ∷ map (λ (u : Span). u.piece.x) ss in
     ap (joined (end_numbers tail t s)) (summed tail t ss)
-    ∙ sym (ap (λ vs. make times vs (flat_map span_slopes ys ++ flat_map span_slopes rest)) (flat_map-append span_values ys rest))
-    ∙ sym (ap (λ vs. make times (flat_map span_values (ys ++ rest)) vs) (flat_map-append span_slopes ys rest))
+    ∙ sym (ap (λ vs. make_numbers times vs (flat_map span_slopes ys ++ flat_map span_slopes rest)) (flat_map-append span_values ys rest))
+    ∙ sym (ap (λ vs. make_numbers times (flat_map span_values (ys ++ rest)) vs) (flat_map-append span_slopes ys rest))
 
 starts_of : (tail : Tail) (ps : List Piece) → map (λ (s : Span). s.piece.x) (spans tail ps) ≡ map (λ (p : Piece). p.x) ps
 unfolding spans
@@ -185,21 +182,21 @@ starts_of tail [] = refl
 starts_of tail (p ∷ ps) = ap (λ ys. p.x ∷ ys) (starts_of tail ps)
 
 pub numbers_to_end : (end : ℚ) (c : SpecCurve) → HasPeriod c.tail → joined (curve_numbers end c) (all_end_numbers c.tail end (spans c.tail c.pieces)) ≡ numbers_to end c
-unfolding make
+unfolding make_numbers
 numbers_to_end end c some =
     let ss = spans c.tail c.pieces in
     ap (joined (curve_numbers end c)) (
     summed c.tail end ss
-    ∙ ap (λ ts. make ts (flat_map span_values (flat_map (at_end c.tail end) ss)) (flat_map span_slopes (flat_map (at_end c.tail end) ss))) (starts_of c.tail c.pieces)
-    ∙ sym (ap (λ us. make (map (λ (p : Piece). p.x) c.pieces) (flat_map span_values us) (flat_map span_slopes us)) (curve_at_end c end some)))
+    ∙ ap (λ ts. make_numbers ts (flat_map span_values (flat_map (at_end c.tail end) ss)) (flat_map span_slopes (flat_map (at_end c.tail end) ss))) (starts_of c.tail c.pieces)
+    ∙ sym (ap (λ us. make_numbers (map (λ (p : Piece). p.x) c.pieces) (flat_map span_values us) (flat_map span_slopes us)) (curve_at_end c end some)))
 
 -- ---- what the code gathers of a span
 pub itself_numbers : (end : ℚ) (s : Span) → s.piece.x ≡ end → span_numbers s ≡ numbers_with s.piece.x (itself_at end s)
-unfolding make
+unfolding make_numbers
 itself_numbers end s e =
     let x = s.piece.x ∷ [] in
-    sym (ap (λ vs. make x vs (span_slopes s)) (append-nil (span_values s)))
-    ∙ sym (ap (λ vs. make x (span_values s ++ []) vs) (append-nil (span_slopes s)))
+    sym (ap (λ vs. make_numbers x vs (span_slopes s)) (append-nil (span_values s)))
+    ∙ sym (ap (λ vs. make_numbers x (span_values s ++ []) vs) (append-nil (span_slopes s)))
     ∙ sym (ap (λ b. numbers_with s.piece.x (cond b (s ∷ []) [])) (starts_true end s e))
 
 pub no_itself : (end : ℚ) (s : Span) → (s.piece.x ≡ end → ⊥) → time_alone s.piece.x ≡ numbers_with s.piece.x (itself_at end s)
@@ -208,15 +205,15 @@ no_itself end s n = sym (ap (λ b. numbers_with s.piece.x (cond b (s ∷ []) [])
 pub copy_numbers : (n : Numbers) (period rise : ℚ) (s : Span) (k : ℕ)
     → joined (joined (joined n (time_alone s.piece.x)) (slopes_alone (line_slope s.piece.line))) (last_numbers (int (pos k) *ℚ rise) s)
     ≡ joined n (numbers_with s.piece.x (copy_of period rise s k ∷ []))
-unfolding make
+unfolding make_numbers
 copy_numbers n period rise s k =
     let x = s.piece.x ∷ [] in
     let copy = copy_of period rise s k in
     let vs = seen_values (seen_risen (seen_of s) (int (pos k) *ℚ rise)) in
     joined_three n (time_alone s.piece.x) (slopes_alone (line_slope s.piece.line)) (last_numbers (int (pos k) *ℚ rise) s)
-    ∙ ap (λ us. joined n (make x us (line_slope s.piece.line ++ []))) (sym (ap seen_values (seen_copy period rise s k)))
-    ∙ ap (λ us. joined n (make x us (line_slope s.piece.line ++ []))) (sym (append-nil (span_values copy)))
-    ∙ ap (λ us. joined n (make x (span_values copy ++ []) (us ++ []))) (sym (slope_later (int (pos k) *ℚ period) (int (pos k) *ℚ rise) s.piece.line))
+    ∙ ap (λ us. joined n (make_numbers x us (line_slope s.piece.line ++ []))) (sym (ap seen_values (seen_copy period rise s k)))
+    ∙ ap (λ us. joined n (make_numbers x us (line_slope s.piece.line ++ []))) (sym (append-nil (span_values copy)))
+    ∙ ap (λ us. joined n (make_numbers x (span_values copy ++ []) (us ++ []))) (sym (slope_later (int (pos k) *ℚ period) (int (pos k) *ℚ rise) s.piece.line))
 
 pub copy_there : (period rise end : ℚ) (s : Span) → next_copy period end s ≤ℚ end
     → numbers_with s.piece.x (copy_of period rise s (copies_below period end s.piece) ∷ []) ≡ numbers_with s.piece.x (copy_at period rise end s)

@@ -15,6 +15,7 @@ use Rattle.rational.specs.Grid.{Whole}
 use Rattle.rational.proofs.Grid.{whole_int, within_nonneg}
 use Rattle.rational.proofs.Laws.{le_refl}
 use Rattle.rational.proofs.Integers.{nat_nonneg, nat_le_out}
+use Rattle.upp_limits.proofs.SameSizes.{make_sizes}
 use Rattle.upp_limits.proofs.Stands.{sizes_stand}
 use Rattle.window_numbers.specs.Rated.{gauge_with}
 
@@ -45,9 +46,6 @@ den_with xs n =
     (every_append (Whole (common_den xs)) xs (x ∷ []) (common_den_each xs) (whole_int (common_den xs) (pos n), tt))
     (every_left (Whole (common_den (xs ++ x ∷ []))) xs (x ∷ []) (common_den_each (xs ++ x ∷ [])))
 
-make : ℕ → ℕ → ℕ → ℕ → ℕ → Sizes
-make dv dt ds s v = record { dv = dv; dt = dt; ds = ds; steepness = s; largest = v }
-
 -- the sizes of numbers and of a whole number that counts as a value
 pub sizes_with : (end : ℚ) (n : Numbers) (bits : ℕ)
     → sizes_of end (joined n (value_alone (int (pos bits))))
@@ -58,20 +56,20 @@ pub sizes_with : (end : ℚ) (n : Numbers) (bits : ℕ)
       steepness = bound_of (twice n.slopes);
       largest = max (max (bound_of n.values) bits) (whole_up (int (pos (bound_of (twice n.slopes))) *ℚ end));
     }
-unfolding make
+unfolding make_sizes
 sizes_with end n bits =
     let x = int (pos bits) in
     let s = bound_of (twice n.slopes) in
     let far = whole_up (int (pos s) *ℚ end) in
     let dt = common_den (end ∷ n.times) in
     let ds = common_den n.slopes in
-    ap (λ ts. make (common_den (n.values ++ x ∷ [])) (common_den (end ∷ ts)) (common_den (n.slopes ++ [])) (bound_of (twice (n.slopes ++ [])))
+    ap (λ ts. make_sizes (common_den (n.values ++ x ∷ [])) (common_den (end ∷ ts)) (common_den (n.slopes ++ [])) (bound_of (twice (n.slopes ++ [])))
     (max (bound_of (n.values ++ x ∷ [])) (whole_up (int (pos (bound_of (twice (n.slopes ++ [])))) *ℚ end)))) (append-nil n.times)
-    ∙ ap (λ ss. make (common_den (n.values ++ x ∷ [])) dt (common_den ss) (bound_of (twice ss))
+    ∙ ap (λ ss. make_sizes (common_den (n.values ++ x ∷ [])) dt (common_den ss) (bound_of (twice ss))
     (max (bound_of (n.values ++ x ∷ [])) (whole_up (int (pos (bound_of (twice ss))) *ℚ end)))) (append-nil n.slopes)
-    ∙ ap (λ d. make d dt ds s (max (bound_of (n.values ++ x ∷ [])) far)) (den_with n.values bits)
-    ∙ ap (λ b. make (common_den n.values) dt ds s (max b far)) (bound_more n.values x)
-    ∙ ap (λ b. make (common_den n.values) dt ds s (max (max (bound_of n.values) b) far)) (own_size bits)
+    ∙ ap (λ d. make_sizes d dt ds s (max (bound_of (n.values ++ x ∷ [])) far)) (den_with n.values bits)
+    ∙ ap (λ b. make_sizes (common_den n.values) dt ds s (max b far)) (bound_more n.values x)
+    ∙ ap (λ b. make_sizes (common_den n.values) dt ds s (max (max (bound_of n.values) b) far)) (own_size bits)
 
 -- ---- what holds the numbers
 pub held_all : (end : ℚ) (n : Numbers) → gauge_of (sizes_of end n) < 2 ^ 128 → HeldBy (sizes_of end n) end n

@@ -19,7 +19,8 @@ abbrev pub next_copy : ℚ → ℚ → Span → ℚ
 next_copy period end s = s.piece.x +ℚ int (pos (copies_below period end s.piece)) *ℚ period
 
 abbrev pub copy_at : ℚ → ℚ → ℚ → Span → List Span
-copy_at period rise end s = cond (lt_q end (next_copy period end s)) [] (copy_of period rise s (copies_below period end s.piece) ∷ [])
+copy_at period rise end s =
+    cond (lt_q end (next_copy period end s)) [] (copy_of period rise s (copies_below period end s.piece) ∷ [])
 
 abbrev pub at_end : Tail → ℚ → Span → List Span
 at_end (Periodic rank period rise) end s = cond (lt_q s.piece.x rank) (itself_at end s) (copy_at period rise end s)

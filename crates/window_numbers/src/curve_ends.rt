@@ -25,7 +25,8 @@ use upp_limits::start_counts::count_before;
 /// The start of a piece more, and where that is `end`, its values and its slope.
 fn with_itself(g: Gathered, piece: &Piece, next: &Option<Frac>, end: Frac) -> Option<Gathered>
     ensures value { let span : Span = record { piece = piece.now; next = next.now } in
-        IfSome result (λ r. (n : Numbers) → Gathers g n → Gathers r (joined n (numbers_with piece.now.x (itself_at end span)))) }
+        IfSome result (λ r. (n : Numbers) → Gathers g n
+        → Gathers r (joined n (numbers_with piece.now.x (itself_at end span)))) }
     ensures fits { let span : Span = record { piece = piece.now; next = next.now } in
         (piece.now.x ≡ end → SpanFits span) → IsSome result }
 {
@@ -48,7 +49,8 @@ fn with_copy(
     requires start { int (pos 0) ≤ℚ piece.now.x }
     requires period { int (pos 0) <ℚ period }
     ensures value { let span : Span = record { piece = piece.now; next = next.now } in
-        IfSome result (λ r. (n : Numbers) → Gathers g n → Gathers r (joined n (numbers_with piece.now.x (copy_at period rise end span)))) }
+        IfSome result (λ r. (n : Numbers) → Gathers g n
+        → Gathers r (joined n (numbers_with piece.now.x (copy_at period rise end span)))) }
     ensures fits { let span : Span = record { piece = piece.now; next = next.now } in
         CopyFits period rise end span → IsSome result }
 {

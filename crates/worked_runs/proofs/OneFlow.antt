@@ -31,10 +31,10 @@ use Rattle.worked_runs.proofs.OneFlowTable.{table, meets}
 use Rattle.worked_runs.proofs.Reaching.{bound_by}
 
 -- ---- the network
-abbrev its_server : NetServer
+abbrev pub its_server : NetServer
 its_server = late_server (codes "s1") 0 Fifo
 
-is_server : IsServer its_server
+pub is_server : IsServer its_server
 is_server = is_late_server (codes "s1") 0 Fifo (named_by_two 115 49 refl refl) tt
 
 is_flow : IsFlow one_flow.servers first_flow

@@ -3,24 +3,18 @@ use Rattle.std.specs.Prelude.{Contains, codes}
 use Rattle.std.proofs.Common.{◌≡◌, ◌≢◌, [], ◌∷◌, length, Some, refl, subst, arith, inl, inr}
 use Rattle.std.proofs.lemmas.Option.{same_Some}
 use Rattle.run_laws.specs.Cards.{whole}
-use Rattle.run_laws.specs.Servers.{Fifo}
 use Rattle.net_model.specs.Accepted.{IsServer, IsFlow, IsAccepted}
 use Rattle.net_model.specs.Names.{DifferInName}
-use Rattle.net_model.specs.Networks.{NetServer, NetFlow}
+use Rattle.net_model.specs.Networks.{NetFlow}
 use Rattle.net_model.specs.Orders.{IsOrder}
 use Rattle.net_model.proofs.Short.{no_pairs, one_pair, alone, one_of_two, named_by_two}
-use Rattle.worked_runs.specs.Parts.{late_server, first_flow, second_flow}
+use Rattle.worked_runs.specs.Parts.{first_flow, second_flow}
 use Rattle.worked_runs.specs.TwoFlows.{two_flows, TwoFlowsReachTheirBounds}
-use Rattle.worked_runs.proofs.Accepting.{ends_apart, is_late_server, is_one_hop_flow, one_server_order}
+use Rattle.worked_runs.proofs.Accepting.{ends_apart, is_one_hop_flow, one_server_order}
 use Rattle.worked_runs.proofs.Reaching.{bound_by}
 use Rattle.worked_runs.proofs.TwoFlowsTable.{table, meets}
 use Rattle.worked_runs.proofs.TwoFlowsRuns.{first_flow_last_delay, second_flow_last_delay}
-
-abbrev its_server : NetServer
-its_server = late_server (codes "s1") 0 Fifo
-
-is_server : IsServer its_server
-is_server = is_late_server (codes "s1") 0 Fifo (named_by_two 115 49 refl refl) tt
+use Rattle.worked_runs.proofs.OneFlow.{its_server, is_server}
 
 is_first : IsFlow two_flows.servers first_flow
 is_first = is_one_hop_flow two_flows.servers (codes "f1") 0 12000 10 (named_by_two 102 49 refl refl) (omega arith) (omega arith)

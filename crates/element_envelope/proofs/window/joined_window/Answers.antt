@@ -7,4 +7,4 @@ pub returns : goal.returns
 returns c =
     let j = c.args.j.now in
     window_is j c.push_joined.new.pieces.items c.requires.nonneg c.requires.adjoined
-    (c.in_ok-push_joined.ensures ∙ ap (λ z. z ++ joined_list j.first j.join j.second) (c.in_ok-pieces.ensures ∙ ap lead_of c.start.ensures))
+    (c.in_ok-push_joined.ensures ∙ ap (λ z. z ++ joined_list j.first j.join j.second) (c.in_ok-pieces.ensures ∙ ap lead_of c.start_of.ensures))

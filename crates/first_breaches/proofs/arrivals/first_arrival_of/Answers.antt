@@ -24,7 +24,7 @@ arrival_breach-requires-clause-reads c =
     let packets_are : c.deref-in-Some.result.now ≡ entries flow run.steps = c.deref-in-Some.ensures.value ∙ c.in_ok-packets-in-Some.ensures ∙ ap (entries flow) steps_are in
     let curve : f.arrival ≡ arrival net flow = ap arrival_of c.in-Some.ensures.flow in
     let stands = R.arrivals flow (live_flow_is net flow (flow_of f) c.in-Some.ensures.flow) in
-    flow_reads c.requires.sizes.0 run.end flow f.arrival run.steps c.deref-in-Some.result.now R.limited c.pieces-kept.ensures.kept
+    flow_reads c.requires.sizes.0 run.end flow f.arrival run.steps c.deref-in-Some.result.now R.limited c.keeps.ensures
     (subst (λ (k : SpecCurve). Stands c.requires.sizes.0 (curve_numbers run.end k)) (sym curve) stands) R.steps (in_order (routes_of net) run flow c.requires.lawful) packets_are
 
 pub returns-in_ok-packets-in-Some : goal.returns-in_ok-packets-in-Some

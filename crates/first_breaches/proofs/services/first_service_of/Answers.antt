@@ -44,7 +44,7 @@ service_breach-requires c =
     let W = watchable net run c.args.firsts.now c.args.number c.requires.sizes.0 c.requires.lawful c.requires.sizes.1 c.requires.firsts c.requires.in_range in
     let sees = sees_as w c.args.firsts.now c.args.number c.deref.result.now run.steps c.run.inside.end run.end steps_are end_is c.in_ok-seen-in-Some.ensures in
     let same : curve ≡ service net c.args.number = ap service_of c.in-Some.ensures.server in
-    subst (IsHeld w) (sym same) (W.held w sees (subst IsCurve same c.pieces-curve.ensures.kept))
+    subst (IsHeld w) (sym same) (W.held w sees (subst IsCurve same c.keeps.ensures))
 
 pub returns-in-None-clause-best : goal.returns-in-None-clause-best
 returns-in-None-clause-best c = absurd (no_server c.args.net.now c.args.number c.requires.in_range c.in-None.ensures.server)
@@ -65,7 +65,7 @@ returns-in_ok-seen-in-Some-clause-best c =
     let W = watchable net run c.args.firsts.now s c.requires.sizes.0 c.requires.lawful c.requires.sizes.1 c.requires.firsts c.requires.in_range in
     let sees = sees_as w c.args.firsts.now s c.deref.result.now run.steps c.run.inside.end run.end steps_are end_is c.in_ok-seen-in-Some.ensures in
     let same : curve ≡ service net s = ap service_of c.in-Some.ensures.server in
-    let serves = may_serve (server_of c.in-Some.found.now) c.in-Some.ensures.kept c.pieces-curve.ensures.kept in
+    let serves = may_serve (server_of c.in-Some.found.now) c.in-Some.ensures.kept c.keeps.ensures in
     IfOk-weaker c.service_breach.result (IsBest (IsIdleOn w.end V s curve) run) (IsBest (IsOne net run 2 s) run)
     (λ (o : Option Found) (h : IsBest (IsIdleOn w.end V s curve) run o). service_one net run s curve w.end o c.requires.in_range same sees.end h)
     (c.service_breach.ensures run (server_at (routes_of net) s) V (W.seen w sees) serves)
@@ -73,17 +73,17 @@ returns-in_ok-seen-in-Some-clause-best c =
 pub returns-in_ok-seen-in-Some-clause-curve : goal.returns-in_ok-seen-in-Some-clause-curve
 returns-in_ok-seen-in-Some-clause-curve c =
     let same : c.in-Some.found.now.service ≡ service c.args.net.now c.args.number = ap service_of c.in-Some.ensures.server in
-    if_ok {P = HasService c.args.net.now c.args.number} c.service_breach.result (subst IsCurve same c.pieces-curve.ensures.kept)
+    if_ok {P = HasService c.args.net.now c.args.number} c.service_breach.result (subst IsCurve same c.keeps.ensures)
 
 pub returns-then-is_told-clause-best : goal.returns-then-is_told-clause-best
 returns-then-is_told-clause-best c =
     let net = c.args.net.now in
     let s = c.args.number in
     let same : c.in-Some.found.now.service ≡ service net s = ap service_of c.in-Some.ensures.server in
-    let serves = subst MayServe same (may_serve (server_of c.in-Some.found.now) c.in-Some.ensures.kept c.pieces-curve.ensures.kept) in
+    let serves = subst MayServe same (may_serve (server_of c.in-Some.found.now) c.in-Some.ensures.kept c.keeps.ensures) in
     none_of_kept net c.args.run.now s c.requires.lawful serves (c.requires.kept s c.requires.in_range (c.if-is_told.ensures.0 refl))
 
 pub returns-then-is_told-clause-curve : goal.returns-then-is_told-clause-curve
 returns-then-is_told-clause-curve c =
     let same : c.in-Some.found.now.service ≡ service c.args.net.now c.args.number = ap service_of c.in-Some.ensures.server in
-    subst IsCurve same c.pieces-curve.ensures.kept
+    subst IsCurve same c.keeps.ensures

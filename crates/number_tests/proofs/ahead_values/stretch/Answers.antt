@@ -21,6 +21,6 @@ stretch_at-requires c =
     let o = first_operand Itself f f end (le_of_lt (le_lt_trans low before)) small in (
       o.sizes,
       end,
-      record { curve = c.pieces-pieces.ensures.kept; limited = o.limited; stands = o.stands; over = c.is_over.ensures c.if-not-is_over.false },
+      record { curve = c.keeps.ensures; limited = o.limited; stands = o.stands; over = c.is_over.ensures c.if-not-is_over.false },
       record { whole = subst (Whole o.sizes.dt) (sym c.count-t.ensures) (whole_int o.sizes.dt (pos c.args.n)); nonneg = low; before = before },
     )

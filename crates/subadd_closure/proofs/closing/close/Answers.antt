@@ -8,21 +8,21 @@ use Rattle.subadd_closure.proofs.closing.close.Goals as goal
 pub returns-in_err-es-clause-answer : goal.returns-in_err-es-clause-answer
 returns-in_err-es-clause-answer g c =
     let p = err_from_is_err_and c.from_residual.result c.from_residual.ensures.1 in
-    no_memory c.args.f.now c.from_residual.result c.tail-tail.ensures.kept.normal.raw c.requires.finite (rw (
+    no_memory c.args.f.now c.from_residual.result c.keeps.ensures.normal.raw c.requires.finite (rw (
       p.1,
       p.2,
     ) refl)
 
 pub returns-clause-value : goal.returns-clause-value
 returns-clause-value g c =
-    closed_value c.args.f.now c.tail-tail.ensures.kept.normal c.requires.finite c.requires.nonneg c.closed.result
+    closed_value c.args.f.now c.keeps.ensures.normal c.requires.finite c.requires.nonneg c.closed.result
     c.closed.ensures.answer
 
 pub returns-clause-keeps : goal.returns-clause-keeps
 returns-clause-keeps g c =
-    closed_keeps c.args.f.now c.tail-tail.ensures.kept.normal c.requires.finite c.requires.nonneg c.closed.result
+    closed_keeps c.args.f.now c.keeps.ensures.normal c.requires.finite c.requires.nonneg c.closed.result
     c.closed.ensures.answer
 
 pub returns-in_err-es-clause-memory : goal.returns-in_err-es-clause-memory
 returns-in_err-es-clause-memory g c is =
-    none_wants c.args.f.now c.args.steps.now c.tail-tail.ensures.kept.normal.raw c.requires.finite
+    none_wants c.args.f.now c.args.steps.now c.keeps.ensures.normal.raw c.requires.finite

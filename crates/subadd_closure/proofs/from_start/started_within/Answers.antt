@@ -132,7 +132,7 @@ with_start-requires c =
     e))) in
     open_keeps c.args.f.now c.args.g.now c.args.frame.now c.in_ok-pieces.pieces.items c.difference-from.result
     c.slower_rise-rise.result C c.args.start
-    c.in_ok-late.late c.requires.finite other c.tail-kept.ensures.kept.normal
+    c.in_ok-late.late c.requires.finite other c.keeps.ensures.normal
     (subst (λ ps. HasValues c.in_ok-late.late (repeated (read ps) c.difference-from.result r.period
     c.slower_rise-rise.result))
     c.with_first-open.ensures c.in_ok-late.ensures)

@@ -16,7 +16,7 @@ returns-in_default-clause-within c =
     let a = c.args.a in
     let f = c.args.f.now in
     let l = c.args.line.now in
-    let low = segment_start f a c.args.b l c.tail-tail.ensures.kept.normal c.requires.part in
+    let low = segment_start f a c.args.b l c.keeps.ensures.normal c.requires.part in
     subst (λ z. IsOverlap f a z l 0) (sym c.in_default.is) (endless_overlap f a l (stretches_meet.endless a low))
 
 pub returns-then-not-is_less-clause-within : goal.returns-then-not-is_less-clause-within
@@ -25,7 +25,7 @@ returns-then-not-is_less-clause-within c =
     let b = c.in-Fin.end in
     let f = c.args.f.now in
     let l = c.args.line.now in
-    let n = c.tail-tail.ensures.kept.normal in
+    let n = c.keeps.ensures.normal in
     let part : IsElementOf f (Open a (Fin b) l) = subst (λ z. IsElementOf f (Open a z l)) c.in-Fin.is c.requires.part in
     let early : a ≤ℚ zero_q =
     subst (λ z. a ≤ℚ z) c.zero.ensures (not_less_out c.is_less.result c.zero.result a c.is_less.ensures.less
@@ -36,13 +36,13 @@ returns-then-not-is_less-clause-within c =
 
 pub lengths_before-requires-clause-room : goal.lengths_before-requires-clause-room
 lengths_before-requires-clause-room c =
-    segment_room c.args.f.now c.args.a c.in-Fin.end c.args.line.now c.tail-tail.ensures.kept.normal
+    segment_room c.args.f.now c.args.a c.in-Fin.end c.args.line.now c.keeps.ensures.normal
     (subst (λ z. IsElementOf c.args.f.now (Open c.args.a z c.args.line.now)) c.in-Fin.is c.requires.part)
 
 pub lengths_before-requires-clause-fits : goal.lengths_before-requires-clause-fits
 lengths_before-requires-clause-fits c =
     let own = subst (IsOwnGauge c.args.f.now) c.in-Some.is c.requires.gauge in
-    lengths_fit c.args.f.now c.args.a c.in-Fin.end c.args.line.now c.tail-tail.ensures.kept.normal own.1
+    lengths_fit c.args.f.now c.args.a c.in-Fin.end c.args.line.now c.keeps.ensures.normal own.1
     (subst (λ z. IsElementOf c.args.f.now (Open c.args.a z c.args.line.now)) c.in-Fin.is c.requires.part)
 
 pub returns-in-Some-clause-within : goal.returns-in-Some-clause-within
@@ -51,7 +51,7 @@ returns-in-Some-clause-within c =
     let b = c.in-Fin.end in
     let f = c.args.f.now in
     let l = c.args.line.now in
-    let n = c.tail-tail.ensures.kept.normal in
+    let n = c.keeps.ensures.normal in
     let part : IsElementOf f (Open a (Fin b) l) = subst (λ z. IsElementOf f (Open a z l)) c.in-Fin.is c.requires.part in
     let own = subst (IsOwnGauge f) c.in-Some.is c.requires.gauge in
     let late : zero_q <ℚ a = subst (λ z. z <ℚ a) c.zero.ensures (c.is_less.ensures.less.0 c.if-not-is_less.false) in
