@@ -5,3 +5,4 @@ pub mod SameParts
 pub mod Found
 pub mod SameFlows
 pub mod Unchanged
+pub mod OfNumber

@@ -1,10 +1,11 @@
--- Which cells were found to be touched so far, and which are gone. Own choice.
-use Rattle.std.specs.Prelude.{◌≡◌, ◌⊎◌, ℕ, List, [], ◌∷◌, ◌++◌, length, Bool, true, false, not, Contains, slice_index_or, slice_set}
-use Rattle.std.specs.List.{filter, list_any}
+-- Which cells were found to be touched so far, which a network has by a number, and which are gone. Own choice.
+use Rattle.std.specs.Prelude.{◌≡◌, ◌≢◌, ◌⊎◌, ℕ, List, [], ◌∷◌, ◌++◌, length, map, Bool, true, false, not, IsTrue, Contains, slice_index_or, slice_set}
+use Rattle.std.specs.List.{filter, list_any, range_with_len}
 use Rattle.net_model.specs.Networks.{Net}
 use Rattle.net_model.specs.Orders.{IsOrder}
 use Rattle.net_cells.specs.declared.cell.Cell.{Cell}
-use Rattle.net_cells.specs.Cells.{has_cell}
+use Rattle.net_cells.specs.declared.cell.Kind.{Kind}
+use Rattle.net_cells.specs.Cells.{cell_of, has_cell}
 use Rattle.net_cells.specs.Formulas.{leaves}
 use Rattle.net_cells.specs.CellFormulas.{formula}
 use Rattle.net_cells.specs.Order.{evaluation_order}
@@ -16,6 +17,19 @@ pub record AreInOrder (net : Net) (cells : List Cell) : Type 0 where
   pub order : List ℕ
   pub servers : IsOrder net order
   pub are : cells ≡ evaluation_order net order
+
+-- the cells of a network by a number: of the flow and of the server that have it
+pub record AreCellsOf (net : Net) (number : ℕ) (cells : List Cell) : Type 0 where
+  pub only : (c : Cell) → Contains cells c → IsTrue (has_cell net c) × (c.a ≡ number)
+  pub all : (c : Cell) → IsTrue (has_cell net c) → c.a ≡ number → Contains cells c
+
+-- those of a kind; no path has more than 16 hops, and no server as many queues
+abbrev pub kind_cells_of : Net → ℕ → Kind → List Cell
+kind_cells_of net number kind = filter (has_cell net) (map (cell_of kind number) (range_with_len 0 16))
+
+-- two networks have the same cells but those of a number
+abbrev pub HaveSameCellsBut : ℕ → Net → Net → Type 0
+HaveSameCellsBut number old new = (c : Cell) → c.a ≢ number → has_cell old c ≡ has_cell new c
 
 -- those of some cells that a network lacks
 abbrev pub gone_of : Net → List Cell → List Cell

@@ -4,11 +4,13 @@
 
 mod finding;
 mod lists;
+mod of_number;
 mod reads;
 mod rule;
 mod services;
 mod site;
 
 pub use finding::{gone_cells, touched_cells};
+pub use of_number::cells_of;
 pub use rule::{has_cell, same_rule};
 pub use site::{Site, is_candidate, others_keep_their_rule};

@@ -3,3 +3,4 @@ pub mod Begun
 pub mod Outcomes
 pub mod OneSite
 pub mod PutBack
+pub mod Lost

@@ -1,10 +1,9 @@
 -- One network more, and one less.
 use Rattle.std.proofs.Common.{◌≡◌, ◌≢◌, ℕ, ◌<◌, ◌==◌, List, [], ◌∷◌, ◌++◌, length, get_or, Option, Some, None, Bool, true, false, sym, ap, ◌∙◌, subst, refl, arith, ⊎_elim}
-use Rattle.std.specs.Prelude.{MatchOption, Contains, Ok, not}
+use Rattle.std.specs.Prelude.{MatchOption, Ok}
 use Rattle.std.proofs.lemmas.List.{get_or_push, get_or_append_left, length_push}
 use Rattle.std.proofs.lemmas.Bool.Decides.{eqb_tells}
 use Rattle.net_model.specs.Networks.{Net}
-use Rattle.net_model.specs.Accepted.{IsAccepted}
 use Rattle.net_model.specs.Orders.{IsOrder}
 use Rattle.net_model.specs.declared.edit.Edit.{Edit}
 use Rattle.net_graph.proofs.OneOrders.{one_order}
@@ -13,20 +12,16 @@ use Rattle.net_cells.specs.Cells.{has_cell}
 use Rattle.net_cells.specs.Meanings.{Meaning}
 use Rattle.net_cells.specs.Order.{evaluation_order}
 use Rattle.net_cells.specs.Equations.{MeetsEquations}
-use Rattle.net_cells.proofs.Lists.{Has, contains_has, has_contains, has_filter, filter_has}
-use Rattle.net_cells.proofs.Members.{order_has, in_order}
+use Rattle.net_cells.proofs.Lists.{contains_has}
 use Rattle.net_cells.proofs.Tables.{answered_meets}
 use Rattle.version_table.specs.Histories.{History}
 use Rattle.cell_changes.specs.Changes.{TouchedOf}
 use Rattle.cell_changes.proofs.CarriedOver.{touched_has, one_touched_list}
-use Rattle.cell_changes.proofs.HasSlots.{slots_are_own}
-use Rattle.cell_rules.specs.Finding.{gone_of}
 use Rattle.cell_store.specs.Placed.{placed}
 use Rattle.cell_store.specs.Edits.{IsEditedTable}
 use Rattle.cell_store.proofs.Fronts.{are_touched}
 use Rattle.edit_store.specs.Stored.{Stored, HoldsTable, IsStored, AreTouched, AreLost}
 use Rattle.edit_store.specs.Applied.{Gives}
-use Rattle.std.proofs.lemmas.Bool.{not-true}
 
 module _ {V : Type 0} (meaning : V → Meaning) where
   -- the table of an edited network
@@ -105,23 +100,6 @@ module _ {V : Type 0} (meaning : V → Meaning) where
 pub was_undone : (X U A B : Type 0) (r : Option X) → MatchOption r (A × B) (λ _. U) → ¬ A → U
 was_undone X U A B None h never = absurd (never h.0)
 was_undone X U A B (Some x) h never = h
-
--- ---- cells that are gone
-
-pub lost : (old net : Net) (order : List ℕ) (gone : List Cell) → IsAccepted old → IsOrder old order
-    → gone ≡ gone_of net (evaluation_order old order) → AreLost old net gone
-lost old net order gone a o e = record {
-  only = λ c m. let found = among c m in
-      (not-true (has_cell net c) found.1, slots_are_own.has old c a (order_has old order c found.0));
-  were = λ c m. order_has old order c (among c m).0;
-  all = λ c has absent. has_contains gone c (subst (λ (cs : List Cell). Has cs c) (sym e)
-      (has_filter (λ d. not (has_cell net d)) (evaluation_order old order) c (in_order old order c a o has) (ap not absent)));
-}
-  where
-    among : (c : Cell) → Contains gone c → Has (evaluation_order old order) c × (not (has_cell net c) ≡ true)
-    among c m =
-        filter_has (λ d. not (has_cell net d)) (evaluation_order old order) c
-        (subst (λ (cs : List Cell). Has cs c) e (contains_has gone c m))
 
 -- ---- tables
 pub meets : {V : Type 0} (meaning : V → Meaning) (net : Net) (version : List (Option V)) → HoldsTable meaning net version

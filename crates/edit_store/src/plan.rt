@@ -3,12 +3,13 @@
 ghost use Rattle.std.specs.Prelude.{◌≢◌, ◌≤◌, length, IfOk, IfErr};
 ghost use Rattle.net_model.specs.declared.edit.Edit.TheVariants.{Undo};
 ghost use Rattle.net_model.specs.Orders.{IsOrder};
+ghost use Rattle.cell_rules.specs.Finding.{HaveSameCellsBut};
 ghost use Rattle.edit_store.specs.Stored.{AreTouched, AreLost};
 ghost use Rattle.edit_store.specs.Applied.{Gives, IsPlanned, IsUnplanned};
 
 use crate::faults::graph_fault;
-use crate::site::{edits_have_one_site, site_of};
-use cell_rules::{gone_cells, touched_cells};
+use crate::site::{edits_are_made_at_one_site, edits_have_one_site, site_of};
+use cell_rules::{Site, cells_of, gone_cells, touched_cells};
 use net_cells::{Cell, cells};
 use net_edits::{EditFault, edited_network};
 use net_graph::order;
@@ -22,20 +23,40 @@ pub(crate) struct Planned {
     pub touched: Vec<Cell>,
 }
 
-/// The cells of a network that another one lacks.
-pub(crate) fn lost_cells(
+// The cells of a network that another one lacks, where they share all others but those of a number.
+fn lost_of(
     alloc: Global,
     old: &Network,
-    order: &[u32],
     net: &Network,
+    number: u32,
 ) -> Result<Vec<Cell>, AllocError>
-    requires { IsOrder old.now order.now }
+    requires { HaveSameCellsBut number old.now net.now }
     ensures { IfOk result (λ gone. AreLost old.now net.now gone.items) }
 {
     old.keeps();
-    let all = cells(alloc, old, order)?;
-    let gone = gone_cells(alloc, net, &all)?;
+    let near = cells_of(alloc, old, number)?;
+    let gone = gone_cells(alloc, net, &near)?;
     Ok(gone)
+}
+
+/// The cells of a network that an edit takes away: they are of the server or the flow that the edit changes.
+pub(crate) fn lost_cells(
+    alloc: Global,
+    old: &Network,
+    edit: &Edit,
+    net: &Network,
+) -> Result<Vec<Cell>, AllocError>
+    requires { Gives old.now edit.now net.now }
+    ensures { IfOk result (λ gone. AreLost old.now net.now gone.items) }
+{
+    edits_are_made_at_one_site();
+    edits_have_one_site();
+    let place = site_of(old, edit);
+    match place {
+        Site::Server(number) => lost_of(alloc, old, net, number),
+        Site::Flow(number) => lost_of(alloc, old, net, number),
+        Site::Anywhere => unreachable!(),
+    }
 }
 
 // The touched cells of an edited network by the order of its servers.

@@ -7,9 +7,8 @@ use cell_store::{Values, edited_values, made_anew};
 use cell_table::{AnalysisFault, CellValue, Evaluator, Table};
 use net_cells::{Cell, cells};
 use net_edits::{EditFault, edited_network};
-use net_graph::{GraphFault, order, order_or_cycle};
 use net_model::{Done, Edit, Network};
-use std::alloc::{AllocError, Global};
+use std::alloc::Global;
 use std::marker::Model;
 use std::mem::replace;
 use version_table::Versions;
@@ -171,19 +170,6 @@ impl<V: CellValue + Drop> Store<V> {
         self.values.undo()
     }
 
-    // The cells of the present network that another one lacks.
-    fn gone(&self, net: &Network) -> Result<Vec<Cell>, AllocError>
-        ensures { IfOk result (λ gone. AreLost self.now.present net.now gone.items) }
-    {
-        order_or_cycle();
-        let _ = self.present.servers();
-        match order(self.alloc, &self.present) {
-            Ok(servers) => lost_cells(self.alloc, &self.present, &servers, net),
-            Err(GraphFault::NoMemory) => Err(AllocError),
-            Err(GraphFault::Cycle(_)) => unreachable!(),
-        }
-    }
-
     // An edit that is no undo: how many cells it touches.
     fn step<E: Evaluator<V>>(&mut self, edit: &Edit, eval: &mut E) -> Result<u32, EditFault>
         requires room { length self.old.before < 2 ^ 32 - 1 }
@@ -201,7 +187,7 @@ impl<V: CellValue + Drop> Store<V> {
         ensures same { E.counter eval.new ≡ E.counter eval.old }
     {
         let Planned { net, touched } = plan(self.alloc, &self.present, edit)?;
-        let gone = self.gone(&net)?;
+        let gone = lost_cells(self.alloc, &self.present, edit, &net)?;
         let replaced = replaced_by(&self.present, edit)?;
         match self.advance(net, replaced, &gone, &touched, eval) {
             Ok(()) => Ok(touched.len() as u32),
