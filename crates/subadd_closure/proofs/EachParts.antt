@@ -17,10 +17,10 @@ use Rattle.affine_segment.specs.Elements.{Covers, start_of, element_value}
 use Rattle.affine_segment.proofs.ElementValues.{value_cases}
 use Rattle.upp_curve.specs.declared.curve.Tail.{Tail}
 use Rattle.upp_curve.specs.declared.curve.Tail.TheVariants.{Periodic, Affine, Infinite}
-use Rattle.upp_curve.specs.Curve.{repeated}
+use Rattle.upp_curve.specs.Curve.{SpecCurve, repeated}
 use Rattle.min_plus.specs.Functions.{zero_q}
 use Rattle.affine_segment.specs.Pieces.{Each, StartsAtZero}
-use Rattle.upp_curve.specs.Normal.{TailFits}
+use Rattle.upp_curve.specs.Normal.{TailFits, IsNormal}
 use Rattle.element_envelope.specs.PieceElements.{elements_of, StartBefore, Among}
 use Rattle.element_envelope.proofs.Cover.{cover, element_times}
 use Rattle.closure_laws.specs.ClosureLaws.{IsCopy, HasCopies}
@@ -118,10 +118,13 @@ copies_in ps (Periodic rank period rise) e h fits k = elim (le_or_lt rank (start
     short : (t : ℚ) → rank ≤ℚ start_of e → (zero_q ≤ℚ t) × (t <ℚ rank +ℚ period) → t <ℚ start_of e +ℚ period
     short t late (a, b) = with4 t rank period (start_of e) (λ o. omega (arith, o.le, o.lt, o.same))
 
+pub is_part : (c : SpecCurve) (e : Element) → IsNormal c → Among e (elements_of c.pieces (pieces_end c.tail))
+    → IsPart (part_of c.tail e)
+is_part c e n k = record {
+  proper = (cover c.pieces (pieces_end c.tail) n.raw.starts (starts_before c.pieces c.tail n.raw.tail)).proper e k;
+  nonneg = starts_nonneg c.pieces (pieces_end c.tail) e n.raw.starts k;
+  copied = copies_in c.pieces c.tail e n.raw.starts n.raw.tail k;
+}
+
 pub parts_are_parts : PartsAreParts
-parts_are_parts c n =
-    each_part IsPart c.tail (elements_of c.pieces (pieces_end c.tail)) (λ e k. record {
-      proper = (cover c.pieces (pieces_end c.tail) n.raw.starts (starts_before c.pieces c.tail n.raw.tail)).proper e k;
-      nonneg = starts_nonneg c.pieces (pieces_end c.tail) e n.raw.starts k;
-      copied = copies_in c.pieces c.tail e n.raw.starts n.raw.tail k;
-    })
+parts_are_parts c n = each_part IsPart c.tail (elements_of c.pieces (pieces_end c.tail)) (λ e k. is_part c e n k)

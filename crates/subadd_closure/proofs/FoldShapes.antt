@@ -19,9 +19,11 @@ use Rattle.subadd_closure.specs.declared.part.Part.{Part}
 use Rattle.subadd_closure.specs.CurveParts.{parts_of, part_value}
 use Rattle.subadd_closure.specs.PartLaws.{EachPart, IsPart}
 use Rattle.subadd_closure.specs.Folds.{PartAnswer, PartsAnswer}
+use Rattle.subadd_closure.specs.Thinned.{AreThinnable}
 use Rattle.subadd_closure.proofs.EachParts.{parts_are_parts}
 use Rattle.subadd_closure.proofs.LeastParts.{parts_make_curve}
 use Rattle.subadd_closure.proofs.FoldStars.{part_star, parts_star}
+use Rattle.subadd_closure.proofs.LowStars.{stars_subadditive, star_low}
 use Rattle.closure_laws.proofs.KeptShapes.{total_nonneg}
 
 -- ---- stars
@@ -72,6 +74,12 @@ module _ (f s c : SpecCurve) (ps : List Part) (p : Part) (normal : IsNormal f) (
   above t x n h =
       le_ext_trans (Fin zero_q) (value_at f t) x (nonneg t n)
       (le_ext_trans (value_at f t) (min_ext (before t) (part_value p t)) x (same_le_ext (value_is t n)) h)
+
+  pub last_thinnable : AreThinnable s c
+  last_thinnable = record {
+    subadditive = stars_subadditive before (value_at s) stars_before;
+    zero = star_low (part_value p) (value_at c) star_last;
+  }
 
   pub sofar_nonneg : IsNonnegative (value_at s)
   sofar_nonneg = stars_nonneg before (value_at s) stars_before

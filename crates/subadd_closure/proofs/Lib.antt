@@ -27,3 +27,7 @@ pub mod QuickCurves
 pub mod FoldSteps
 pub mod WorkedSegments
 pub mod ClosedValues
+pub mod LowStars
+pub mod Thinning
+pub mod ThinnedElements
+pub mod FoldThins

@@ -11,3 +11,4 @@ pub mod FoldWork
 pub mod FoldMemory
 pub mod QuickBounds
 pub mod SegmentLimits
+pub mod Thinned

@@ -1,36 +1,96 @@
 //! The call of a convolution once more: its pieces below the end of its window, and by how much it rises over a period.
 
-ghost use Rattle.std.specs.Prelude.{IfOk};
-ghost use Rattle.rational.specs.Extended.{◌<ₑ◌};
+ghost use Rattle.std.specs.Prelude.{◌≡◌, IfOk};
+ghost use Rattle.rational.specs.Extended.{◌<ₑ◌, ◌≤ₑ◌};
+ghost use Rattle.rational.specs.declared.Extended.TheVariants.{Fin};
+ghost use Rattle.affine_segment.specs.Reading.{read};
+ghost use Rattle.min_plus.specs.Convolution.{IsSubadditive};
+ghost use Rattle.min_plus.specs.Functions.{zero_q};
+ghost use Rattle.upp_curve.specs.Curve.{value_at};
+ghost use Rattle.upp_curve.specs.Curves.{IsCurve};
 ghost use Rattle.upp_curve.specs.Steady.{rate, rise_over};
 ghost use Rattle.upp_curve.specs.Unrolled.{unroll};
-ghost use Rattle.element_envelope.specs.ConvolutionWindows.{IsConvolutionWindow};
+ghost use Rattle.element_envelope.specs.ConvolutionWindows.{OperandWindows, IsConvolutionWindow};
 ghost use Rattle.curve_conv.specs.ConvolveCall.{IsConvolveFrame};
 ghost use Rattle.curve_pointwise.specs.Lattice.{RisesBy};
+ghost use Rattle.subadd_closure.specs.Thinned.{MayThin};
 
+use crate::thinned::thinned;
 use affine_segment::Piece;
 use curve_call::{Frame, rise_over};
 use curve_conv::is_slower_curve;
-use element_envelope::window_convolution;
+use element_envelope::{cut, envelope, window_convolution};
 use fraction128::Frac;
+use rational::Extended;
 use std::alloc::{AllocError, Global};
 use upp_curve::Curve;
 use upp_normal::unrolled;
 
-/// The pieces of the convolution that start below the end of the window. Refused only for want of memory.
+// The pieces of the convolution, of which `left` and `right` are the operands' pieces: with the elements of the second
+// left out that are nowhere below the first, where these are at least half.
+fn thinned_window(
+    alloc: Global,
+    f: &Curve,
+    left: &[Piece],
+    right: &[Piece],
+    end: Frac,
+) -> Result<Vec<Piece>, AllocError>
+    requires curve { IsCurve f.now }
+    requires windows { OperandWindows end left.now right.now }
+    requires first { left.now ≡ unroll f.now end }
+    requires subadditive { IsSubadditive (value_at f.now) }
+    requires low { read right.now zero_q ≤ₑ Fin zero_q }
+    ensures { IfOk result (λ ps. IsConvolutionWindow left.now right.now end ps.items) }
+{
+    let ys = cut(alloc, right, Extended::Inf)?;
+    let kept = thinned(alloc, f, left, &ys, end)?;
+    if kept.len() > ys.len() / 2 {
+        return window_convolution(alloc, left, right, end);
+    }
+    let xs = cut(alloc, left, Extended::Inf)?;
+    envelope(alloc, &xs, &kept, end)
+}
+
+// The pieces of the convolution, of which `left` and `right` are the operands' pieces; `thin` as of `window_of`.
+fn window_between(
+    alloc: Global,
+    f: &Curve,
+    g: &Curve,
+    left: &[Piece],
+    right: &[Piece],
+    end: Frac,
+    thin: bool,
+) -> Result<Vec<Piece>, AllocError>
+    requires curves { IsCurve f.now × IsCurve g.now }
+    requires windows { OperandWindows end left.now right.now }
+    requires first { left.now ≡ unroll f.now end }
+    requires second { right.now ≡ unroll g.now end }
+    requires thin { MayThin thin f.now g.now }
+    ensures { IfOk result (λ ps. IsConvolutionWindow left.now right.now end ps.items) }
+{
+    if thin {
+        return thinned_window(alloc, f, left, right, end);
+    }
+    window_convolution(alloc, left, right, end)
+}
+
+/// The pieces of the convolution that start below the end of the window. Where `thin` is set, what of the second operand
+/// is nowhere below the first is left out on the way. Refused only for want of memory.
 pub(crate) fn window_of(
     alloc: Global,
     f: &Curve,
     g: &Curve,
     frame: &Frame,
+    thin: bool,
 ) -> Result<Vec<Piece>, AllocError>
-    requires { IsConvolveFrame f.now g.now frame.now }
+    requires frame { IsConvolveFrame f.now g.now frame.now }
+    requires thin { MayThin thin f.now g.now }
     ensures { IfOk result (λ ps. IsConvolutionWindow (unroll f.now frame.now.end) (unroll g.now frame.now.end)
         frame.now.end ps.items) }
 {
     let left = unrolled(f, frame.end)?;
     let right = unrolled(g, frame.end)?;
-    window_convolution(alloc, &left, &right, frame.end)
+    window_between(alloc, f, g, &left, &right, frame.end, thin)
 }
 
 /// By how much the slower of the two curves, and so the convolution, rises over a period.

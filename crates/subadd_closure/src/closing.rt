@@ -3,7 +3,7 @@
 ghost use Rattle.std.specs.Prelude.{◌≡◌, ◌+◌, ◌<◌, ◌≤◌, map, length, All, IfOk, Err};
 ghost use Rattle.rational.specs.Rational.{ℚ, ◌≤ℚ◌};
 ghost use Rattle.upp_curve.specs.Curve.{value_at};
-ghost use Rattle.min_plus.specs.Convolution.{IsSubadditiveClosure};
+ghost use Rattle.min_plus.specs.Convolution.{IsSubadditive, IsSubadditiveClosure};
 ghost use Rattle.upp_curve.specs.Curves.{IsCurve};
 ghost use Rattle.min_plus.specs.Functions.{IsFinite, IsNonnegative, zero_q};
 ghost use Rattle.upp_limits.specs.declared.op_kind.OpKind.TheVariants.{Convolve};
@@ -16,7 +16,7 @@ ghost use Rattle.subadd_closure.specs.FoldMemory.{StopsAt, PartsWant, CloseWants
 ghost use Rattle.subadd_closure.specs.FoldWork.{part_work, parts_work, fold_work};
 ghost use Rattle.subadd_closure.specs.SegmentLimits.{IsElementOf, IsOwnGauge};
 
-use crate::from_start::convolve_from;
+use crate::from_start::started_from;
 use crate::overlaps::own_gauge;
 use crate::part::elements;
 use crate::part_stars::element_star;
@@ -43,6 +43,8 @@ fn with_star<L: Ledger>(
     requires part { IsElementOf f.now e.now }
     requires finite { IsFinite (value_at f.now) }
     requires nonneg { IsNonnegative (value_at f.now) }
+    requires curve { IsCurve f.now }
+    requires subadditive { IsSubadditive (value_at sofar.now) }
     requires gauge { IsOwnGauge f.now gauge }
     ensures answer { Then (PartAnswer f.now (part_of f.now.tail e.now)) (λ c. Applies Convolve sofar.now c) result }
     ensures memory { result ≡ Err OpFault.NoMemory
@@ -52,7 +54,7 @@ fn with_star<L: Ledger>(
     ensures all { IfOk result (λ _. steps.new ≡ steps.old + (part_work (part_of f.now.tail e.now) + 1)) }
 {
     let star = element_star(alloc, f, gauge, e, steps)?;
-    seen(convolve_stars(alloc, sofar, &star, steps))
+    seen(convolve_stars(alloc, sofar, &star, true, steps))
 }
 
 // The stars of some elements, convolved one after another.
@@ -67,6 +69,7 @@ fn folded<L: Ledger>(
     requires parts { All (IsElementOf f.now) es.now }
     requires finite { IsFinite (value_at f.now) }
     requires nonneg { IsNonnegative (value_at f.now) }
+    requires curve { IsCurve f.now }
     requires gauge { IsOwnGauge f.now gauge }
     ensures answer { PartsAnswer f.now (map (part_of f.now.tail) es.now) result }
     ensures memory { result ≡ Err OpFault.NoMemory
@@ -114,7 +117,7 @@ fn closed<L: Ledger>(
     let last = es.len() - 1;
     let sofar = folded(alloc, f, gauge, &es[..last], steps)?;
     let star = element_star(alloc, f, gauge, &es[last], steps)?;
-    convolve_from(alloc, &sofar, &star, start_of(f), steps)
+    started_from(alloc, &sofar, &star, start_of(f), true, steps)
 }
 
 /// The subadditive closure of a curve that is finite and nowhere below 0: at t the infimum of the sums of f over one or

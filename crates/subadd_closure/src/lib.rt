@@ -15,6 +15,7 @@ mod star_convolution;
 mod stars;
 mod starting;
 mod subadditive;
+mod thinned;
 
 pub use closing::close;
 pub use from_start::convolve_from;

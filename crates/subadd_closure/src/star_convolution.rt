@@ -13,6 +13,7 @@ ghost use Rattle.upp_limits.specs.declared.op_kind.OpKind.TheVariants.{Convolve}
 ghost use Rattle.curve_call.specs.FirstWindows.{IsFirstWindow};
 ghost use Rattle.element_envelope.specs.ConvolutionWindows.{IsConvolutionWindow};
 ghost use Rattle.curve_conv.specs.ConvolveCall.{IsConvolveFrame};
+ghost use Rattle.subadd_closure.specs.Thinned.{MayThin};
 
 use crate::again::{slower_rise, window_of};
 use crate::quick_bounds::quick_bounds;
@@ -98,22 +99,32 @@ fn curve_of(
 }
 
 // The convolution in a call within both limits.
-fn convolved_within(alloc: Global, f: &Curve, g: &Curve, frame: &Frame) -> Result<Curve, AllocError>
-    requires { IsConvolveFrame f.now g.now frame.now }
+fn convolved_within(
+    alloc: Global,
+    f: &Curve,
+    g: &Curve,
+    frame: &Frame,
+    thin: bool,
+) -> Result<Curve, AllocError>
+    requires frame { IsConvolveFrame f.now g.now frame.now }
+    requires thin { MayThin thin f.now g.now }
     ensures { IfOk result (λ c. (t : ℚ) → zero_q ≤ℚ t
         → IsConvolution (value_at f.now) (value_at g.now) t (value_at c t)) }
 {
-    let pieces = window_of(alloc, f, g, frame)?;
+    let pieces = window_of(alloc, f, g, frame, thin)?;
     curve_of(alloc, f, g, frame, pieces)
 }
 
-/// The convolution of two curves, with the contract of `convolve` of `curve_conv`. One step is counted.
+/// The convolution of two curves, with the contract of `convolve` of `curve_conv`; `thin` as of `window_of`. One step is
+/// counted.
 pub(crate) fn convolve_stars<L: Ledger>(
     alloc: Global,
     f: &Curve,
     g: &Curve,
+    thin: bool,
     steps: &mut Steps<L>,
 ) -> Result<Curve, OpFault>
+    requires { MayThin thin f.now g.now }
     ensures count { steps.new ≡ steps.old + 1 }
     ensures value { IfOk result (λ c. (t : ℚ) → zero_q ≤ℚ t
         → IsConvolution (value_at f.now) (value_at g.now) t (value_at c t)) }
@@ -121,7 +132,7 @@ pub(crate) fn convolve_stars<L: Ledger>(
 {
     steps.tick();
     let frame = star_frame(alloc, f, g)?;
-    match convolved_within(alloc, f, g, &frame) {
+    match convolved_within(alloc, f, g, &frame, thin) {
         Ok(c) => Ok(c),
         Err(_) => Err(OpFault::NoMemory),
     }

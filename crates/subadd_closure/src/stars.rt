@@ -6,6 +6,8 @@ ghost use Rattle.rational.specs.Rational.{◌<ℚ◌, ◌≤ℚ◌, ◌/ℚ◌};
 ghost use Rattle.rational.specs.Ratio.{IsSmall};
 ghost use Rattle.affine_segment.specs.declared.element.Element.TheVariants.{Point, Open};
 ghost use Rattle.min_plus.specs.Functions.{zero_q};
+ghost use Rattle.min_plus.specs.Convolution.{IsSubadditive};
+ghost use Rattle.upp_curve.specs.Curve.{value_at};
 ghost use Rattle.upp_limits.specs.declared.op_kind.OpKind.TheVariants.{Convolve};
 ghost use Rattle.curve_call.specs.Calls.{Applies};
 ghost use Rattle.closure_elements.specs.Lattices.{lattice_curve};
@@ -44,7 +46,8 @@ fn copied<L: Ledger>(
     turn: (Frac, Frac),
     steps: &mut Steps<L>,
 ) -> Result<Curve, OpFault>
-    requires { IsTurn (Some turn) }
+    requires turn { IsTurn (Some turn) }
+    requires subadditive { IsSubadditive (value_at c.now) }
     ensures answer { Copies turn c.now result }
     ensures memory { result ≡ Err OpFault.NoMemory → steps.new ≡ steps.old + 1
         → Applies Convolve c.now (lattice_curve turn.0 turn.1) (Err OpFault.NoMemory) }
@@ -53,7 +56,7 @@ fn copied<L: Ledger>(
     ensures all { IfOk result (λ _. steps.new ≡ steps.old + 1) }
 {
     let points = lattice(alloc, turn.0, turn.1)?;
-    seen(convolve_stars(alloc, c, &points, steps))
+    seen(convolve_stars(alloc, c, &points, true, steps))
 }
 
 // The star of an element, from its closure.
@@ -63,7 +66,8 @@ fn star_of<L: Ledger>(
     turn: Option<(Frac, Frac)>,
     steps: &mut Steps<L>,
 ) -> Result<Curve, OpFault>
-    requires { IsTurn turn }
+    requires turn { IsTurn turn }
+    requires subadditive { IsSubadditive (value_at c.now) }
     ensures answer { StarOf turn c.now result }
     ensures memory { result ≡ Err OpFault.NoMemory → StarWants turn c.now steps.old steps.new }
     ensures rises { steps.old ≤ steps.new }

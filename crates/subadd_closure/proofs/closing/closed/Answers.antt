@@ -15,7 +15,7 @@ use Rattle.subadd_closure.proofs.FirstElements.{two_elements}
 use Rattle.subadd_closure.proofs.FoldSteps.{early_refusal, last_refusal, last_part, always}
 use Rattle.subadd_closure.proofs.FoldLists.{all_elements, split_parts, split_last}
 use Rattle.subadd_closure.proofs.FoldLists.{some_taken, work_front, work_more, work_up_to}
-use Rattle.subadd_closure.proofs.FoldShapes.{sofar_nonneg, star_nonneg, finite_past}
+use Rattle.subadd_closure.proofs.FoldShapes.{last_thinnable, sofar_nonneg, star_nonneg, finite_past}
 use Rattle.subadd_closure.proofs.closing.closed.Goals as goal
 
 pub overflow_sub-last : goal.overflow_sub-last
@@ -92,8 +92,8 @@ returns-in_err-star-clause-within g c =
     (some_taken f.tail es n (omega (arith, two)) (omega (arith, two))) in
     omega (arith, before, most, all, work)
 
-pub convolve_from-requires-clause-first : goal.convolve_from-requires-clause-first
-convolve_from-requires-clause-first g c =
+pub started_from-requires-clause-first : goal.started_from-requires-clause-first
+started_from-requires-clause-first g c =
     let f = c.args.f.now in
     let es = c.args.es.now in
     let n = length es - 1 in
@@ -105,8 +105,8 @@ convolve_from-requires-clause-first g c =
     c.index-es-last.is)
     c.in_ok-sofar.ensures.answer c.in_ok-star.ensures.answer
 
-pub convolve_from-requires-clause-second : goal.convolve_from-requires-clause-second
-convolve_from-requires-clause-second g c =
+pub started_from-requires-clause-second : goal.started_from-requires-clause-second
+started_from-requires-clause-second g c =
     let f = c.args.f.now in
     let es = c.args.es.now in
     let n = length es - 1 in
@@ -118,12 +118,12 @@ convolve_from-requires-clause-second g c =
     c.index-es-last.is)
     c.in_ok-sofar.ensures.answer c.in_ok-star.ensures.answer
 
-pub convolve_from-requires-clause-start : goal.convolve_from-requires-clause-start
-convolve_from-requires-clause-start g c =
+pub started_from-requires-clause-start : goal.started_from-requires-clause-start
+started_from-requires-clause-start g c =
     subst (λ z. Fin zero_q ≤ₑ z) c.start_of.ensures (c.requires.nonneg zero_q (le_refl zero_q))
 
-pub convolve_from-requires-clause-finite : goal.convolve_from-requires-clause-finite
-convolve_from-requires-clause-finite g c =
+pub started_from-requires-clause-finite : goal.started_from-requires-clause-finite
+started_from-requires-clause-finite g c =
     let f = c.args.f.now in
     let es = c.args.es.now in
     let n = length es - 1 in
@@ -144,8 +144,8 @@ returns-clause-answer g c =
     let two = two_elements f es c.requires.elements c.requires.curve.normal.raw c.requires.finite in
     last_part f c.in_ok-sofar.sofar c.in_ok-star.star (map (part_of f.tail) (take n es)) (part_of f.tail e)
     c.start_of.result
-    c.convolve_from.result (split_last f es n e c.requires.elements (omega (arith, two)) c.index-es-last.is)
-    c.in_ok-sofar.ensures.answer c.in_ok-star.ensures.answer c.start_of.ensures c.convolve_from.ensures.answer
+    c.started_from.result (split_last f es n e c.requires.elements (omega (arith, two)) c.index-es-last.is)
+    c.in_ok-sofar.ensures.answer c.in_ok-star.ensures.answer c.start_of.ensures c.started_from.ensures.answer
 
 pub returns-clause-within : goal.returns-clause-within
 returns-clause-within g c =
@@ -156,7 +156,7 @@ returns-clause-within g c =
     let two = two_elements f es c.requires.elements c.requires.curve.normal.raw c.requires.finite in
     let before = c.in_ok-sofar.ensures.all in
     let star = c.in_ok-star.ensures.all in
-    let last = c.convolve_from.ensures.count in
+    let last = c.started_from.ensures.count in
     let all = ap parts_work (split_last f es n e c.requires.elements (omega (arith, two)) c.index-es-last.is) in
     let work = work_more (map (part_of f.tail) (take n es)) (part_of f.tail e)
     (some_taken f.tail es n (omega (arith, two)) (omega (arith, two))) in
@@ -171,11 +171,11 @@ returns-clause-exact g c =
     let two = two_elements f es c.requires.elements c.requires.curve.normal.raw c.requires.finite in
     let before = c.in_ok-sofar.ensures.all in
     let star = c.in_ok-star.ensures.all in
-    let last = c.convolve_from.ensures.count in
+    let last = c.started_from.ensures.count in
     let all = ap parts_work (split_last f es n e c.requires.elements (omega (arith, two)) c.index-es-last.is) in
     let work = work_more (map (part_of f.tail) (take n es)) (part_of f.tail e)
     (some_taken f.tail es n (omega (arith, two)) (omega (arith, two))) in
-    always (c.convolve_from.new.steps ≡ c.args.steps.now + fold_work f) c.convolve_from.result
+    always (c.started_from.new.steps ≡ c.args.steps.now + fold_work f) c.started_from.result
     (omega (arith, before, star, last, all, work))
 
 pub returns-in_err-sofar-clause-memory : goal.returns-in_err-sofar-clause-memory
@@ -216,19 +216,32 @@ returns-clause-memory g c is =
     let e = c.index-es-last.result in
     let two = two_elements f es c.requires.elements c.requires.curve.normal.raw c.requires.finite in
     let star = c.in_ok-star.ensures.all in
-    let last = c.convolve_from.ensures.count in
+    let last = c.started_from.ensures.count in
     record {
       before = map (part_of f.tail) (take n es);
       part = part_of f.tail e;
       after = [];
       are = split_last f es n e c.requires.elements (omega (arith, two)) c.index-es-last.is;
       stops = after_parts f c.in_ok-sofar.sofar (map (part_of f.tail) (take n es)) (part_of f.tail e) c.args.steps.now
-          c.folded.new.steps c.convolve_from.new.steps c.in_ok-sofar.ensures.answer c.in_ok-sofar.ensures.all
+          c.folded.new.steps c.started_from.new.steps c.in_ok-sofar.ensures.answer c.in_ok-sofar.ensures.all
           (inr record {
             counted = omega (arith, star, last);
             star = c.in_ok-star.star;
             made = c.in_ok-star.ensures.answer;
-            within = then_wants c.in_ok-sofar.sofar c.in_ok-star.star c.start_of.result c.convolve_from.result
-                c.convolve_from.ensures.answer is;
+            within = then_wants c.in_ok-sofar.sofar c.in_ok-star.star c.start_of.result c.started_from.result
+                c.started_from.ensures.answer is;
           });
     }
+
+pub started_from-requires-clause-thin : goal.started_from-requires-clause-thin
+started_from-requires-clause-thin g c =
+    let f = c.args.f.now in
+    let es = c.args.es.now in
+    let n = length es - 1 in
+    let e = c.index-es-last.result in
+    let two = two_elements f es c.requires.elements c.requires.curve.normal.raw c.requires.finite in
+    last_thinnable f c.in_ok-sofar.sofar c.in_ok-star.star (map (part_of f.tail) (take n es)) (part_of f.tail e)
+    c.requires.curve.normal
+    c.requires.finite c.requires.nonneg (split_last f es n e c.requires.elements (omega (arith, two))
+    c.index-es-last.is)
+    c.in_ok-sofar.ensures.answer c.in_ok-star.ensures.answer

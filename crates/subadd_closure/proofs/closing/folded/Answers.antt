@@ -5,6 +5,7 @@ use Rattle.subadd_closure.specs.CurveParts.{part_of}
 use Rattle.subadd_closure.specs.Folds.{PartsAnswer}
 use Rattle.subadd_closure.specs.FoldWork.{parts_work}
 use Rattle.subadd_closure.specs.SegmentLimits.{IsElementOf}
+use Rattle.subadd_closure.proofs.FoldThins.{sofar_subadditive}
 use Rattle.subadd_closure.proofs.FoldMemory.{same_want, after_parts}
 use Rattle.subadd_closure.proofs.FoldSteps.{first_part, first_stops, next_part, next_stops}
 use Rattle.subadd_closure.proofs.FoldLists.{one_more, split_at, work_one, work_more, work_up_to, some_taken}
@@ -120,3 +121,13 @@ returns-in_err-sofar-2-clause-memory g c is =
           c.loop-i.steps c.with_star.new.steps c.loop-i.invariant.answer c.loop-i.invariant.count
           (c.in_err-sofar-2.ensures.memory (same_want r.result p.0 c.in_err-sofar-2.field-0.0 p.1 p.2 is));
     }
+
+pub with_star-requires-clause-subadditive : goal.with_star-requires-clause-subadditive
+with_star-requires-clause-subadditive g c =
+    sofar_subadditive c.args.f.now c.loop-i.sofar c.args.es.now c.loop-i.i c.requires.curve.normal c.requires.parts
+    c.loop-i.invariant.answer
+
+pub element_star-requires-clause-part : goal.element_star-requires-clause-part
+element_star-requires-clause-part g c =
+    subst (IsElementOf c.args.f.now) (sym c.index-es-0.is)
+    (c.requires.parts 0 c.index-es-0.result c.requires.some)

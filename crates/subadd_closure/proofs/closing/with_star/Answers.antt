@@ -5,6 +5,7 @@ use Rattle.curve_call.specs.Calls.{goes_on, stops}
 use Rattle.curve_call.proofs.Applied.{applied_seen}
 use Rattle.subadd_closure.specs.CurveParts.{part_of}
 use Rattle.subadd_closure.specs.FoldWork.{part_work}
+use Rattle.subadd_closure.proofs.FoldThins.{next_thinnable}
 use Rattle.subadd_closure.proofs.FoldMemory.{same_want, call_wants}
 use Rattle.subadd_closure.proofs.FoldSteps.{always}
 use Rattle.subadd_closure.proofs.closing.with_star.Goals as goal
@@ -44,3 +45,8 @@ returns-clause-memory g c is =
       within = call_wants Convolve c.args.sofar.now c.in_ok-star.star c.convolve_stars.result c.seen.result c.seen.ensures.same
           c.convolve_stars.ensures.limits is;
     }
+
+pub convolve_stars-requires : goal.convolve_stars-requires
+convolve_stars-requires g c =
+    next_thinnable c.args.f.now c.args.sofar.now c.in_ok-star.star c.args.e.now c.requires.curve.normal c.requires.part
+    c.requires.subadditive c.in_ok-star.ensures.answer

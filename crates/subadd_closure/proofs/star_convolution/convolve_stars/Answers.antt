@@ -6,8 +6,8 @@ returns-in_err-frame-clause-limits g c =
     let p = err_from_is_err_and c.from_residual.result c.from_residual.ensures.1 in
     rw (p.1, p.2) c.in_err-frame.ensures.limits
 
-pub convolved_within-requires : goal.convolved_within-requires
-convolved_within-requires g c = c.in_ok-frame.ensures.frame
+pub convolved_within-requires-clause-frame : goal.convolved_within-requires-clause-frame
+convolved_within-requires-clause-frame g c = c.in_ok-frame.ensures.frame
 
 pub returns-in-Ok-clause-limits : goal.returns-in-Ok-clause-limits
 returns-in-Ok-clause-limits g c = c.in_ok-frame.ensures.limits

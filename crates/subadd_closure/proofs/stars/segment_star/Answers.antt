@@ -1,6 +1,7 @@
 use Rattle.std.proofs.Common.{refl}
 use Rattle.std.proofs.lemmas.Result.{err_from_is_err_and}
 use Rattle.affine_segment.specs.declared.element.Element.TheVariants.{Open}
+use Rattle.subadd_closure.proofs.FoldThins.{element_subadditive}
 use Rattle.subadd_closure.proofs.FoldMemory.{no_call, closure_wants}
 use Rattle.subadd_closure.proofs.ElementStars.{refused_star, made_star}
 use Rattle.subadd_closure.proofs.stars.segment_star.Goals as goal
@@ -22,3 +23,7 @@ pub returns-clause-memory : goal.returns-clause-memory
 returns-clause-memory g c is =
     closure_wants c.args.turn (Open c.args.a c.args.b c.args.line.now) c.in_ok-c.c c.args.steps.now c.star_of.new.steps c.in_ok-c.ensures
     (c.star_of.ensures.memory is)
+
+pub star_of-requires-clause-subadditive : goal.star_of-requires-clause-subadditive
+star_of-requires-clause-subadditive g c =
+    element_subadditive (Open c.args.a c.args.b c.args.line.now) c.in_ok-c.c c.in_ok-c.ensures

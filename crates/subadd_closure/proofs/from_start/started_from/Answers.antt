@@ -4,8 +4,8 @@ use Rattle.upp_limits.specs.declared.op_kind.OpKind.TheVariants.{Convolve}
 use Rattle.curve_call.specs.Calls.{goes_on, stops}
 use Rattle.curve_call.proofs.Applied.{applied_seen}
 use Rattle.subadd_closure.proofs.Made.{starts_at}
-use Rattle.subadd_closure.proofs.from_start.convolve_from.Goals as goal
-use Rattle.subadd_closure.proofs.from_start.convolve_from.Goals.{in-Ok, in-Err}
+use Rattle.subadd_closure.proofs.from_start.started_from.Goals as goal
+use Rattle.subadd_closure.proofs.from_start.started_from.Goals.{in-Ok, in-Err}
 
 pub returns-in_err-whole-clause-answer : goal.returns-in_err-whole-clause-answer
 returns-in_err-whole-clause-answer g c =
