@@ -3,8 +3,8 @@ use Rattle.std.specs.Prelude.{◌≡◌, ℕ, zero, suc, ◌+◌, ◌-◌, ◌<�
 use Rattle.std.specs.List.{AllByRecursion}
 use Rattle.std.proofs.Common.{arith, get_or, sym, ap, ◌∙◌, refl, subst, inl, inr}
 use Rattle.std.proofs.lemmas.List.Sums.{sum_by-cons}
-use Rattle.rational.specs.Rational.{ℚ, ◌+ℚ◌, ◌-ℚ◌, ◌*ℚ◌, ◌/ℚ◌, ◌≤ℚ◌, ◌<ℚ◌, int}
-use Rattle.rational.proofs.Linear.{with1, with2, with3}
+use Rattle.rational.specs.Rational.{ℚ, ◌+ℚ◌, ◌-ℚ◌, ◌/ℚ◌, ◌≤ℚ◌, ◌<ℚ◌, int}
+use Rattle.rational.proofs.Linear.{with3}
 use Rattle.rational.proofs.Laws.{one_mul, le_or_lt}
 use Rattle.rational.proofs.Quotients.{div_le}
 use Rattle.rational.proofs.Over.{lt_q_out}
@@ -12,19 +12,18 @@ use Rattle.rational.proofs.MinMax.{lt_q_not}
 use Rattle.affine_segment.specs.declared.line.Piece.{Piece}
 use Rattle.affine_segment.specs.Pieces.{Each, StartsAtZero, start_after}
 use Rattle.upp_curve.specs.declared.curve.Tail.TheVariants.{Affine}
-use Rattle.upp_curve.specs.Curve.{SpecCurve}
 use Rattle.upp_curve.specs.Unrolled.{copies_below}
 use Rattle.upp_limits.specs.ClosedForm.{span_numbers, once_numbers, copies_numbers, closed_span, closed_numbers}
-use Rattle.upp_limits.specs.Limits.{no_numbers, sizes_of, curve_numbers, gauge_of, own_end, own_sizes, own_tally, own_gauge}
+use Rattle.upp_limits.specs.Limits.{no_numbers, sizes_of, curve_numbers, gauge_of, own_end, own_tally, own_gauge}
 use Rattle.upp_limits.specs.OwnWindow.{EndFits, EndsAt, end_from}
 use Rattle.upp_limits.specs.Periods.{HasPeriod}
 use Rattle.upp_limits.specs.Seen.{Knows, SpanFits}
 use Rattle.upp_limits.specs.Spans.{Span, once, number_below, piece_read, end_of, spans}
-use Rattle.upp_limits.proofs.Copies.{copies_out}
+use Rattle.upp_limits.proofs.Copies.{copies_out, plus_zero}
 use Rattle.upp_limits.proofs.CurveStands.{starts_below_own_end}
 use Rattle.upp_limits.proofs.FewCopies.{affine_few, periodic_few, end_is}
 use Rattle.upp_limits.proofs.PieceCounts.{count_is_sum}
-use Rattle.upp_limits.proofs.OwnGauge.{end_place, no_end_large, unknown_large}
+use Rattle.upp_limits.proofs.OwnGauge.{end_place, no_end_large, own_gauge_is, unknown_large}
 use Rattle.upp_limits.proofs.PieceLists.{every_at, next_span}
 use Rattle.upp_limits.proofs.Rounding.{whole_up_most}
 use Rattle.upp_limits.proofs.SameSizes.{equals_curve, same_gauge}
@@ -83,14 +82,8 @@ some_text [] h = absurd h
 some_text (p ∷ ps) h = omega arith
 
 -- ---- one copy
-one_later : (x d : ℚ) → x +ℚ int (pos 0) *ℚ d ≡ x
-one_later x d = with2 x (int (pos 0) *ℚ d) (λ c. omega (arith, c.le, c.lt, c.same, zero_product d))
-  where
-    zero_product : (d : ℚ) → int (pos 0) *ℚ d ≡ int (pos 0)
-    zero_product d = with1 d (λ c. omega (arith, c.le, c.lt, c.same))
-
-some_copy : (end d : ℚ) (p : Piece) → int (pos 0) <ℚ d → p.x <ℚ end → 0 < copies_below d end p
-some_copy end d p some l = copies_out d end p 0 some (subst (λ y. y <ℚ end) (sym (one_later p.x d)) l)
+some_copy : (end d : ℚ) (p : Piece) → int (pos 0) <ℚ d → p.x <ℚ end → 1 ≤ copies_below d end p
+some_copy end d p some l = copies_out d end p 0 some (subst (λ y. y <ℚ end) (sym (plus_zero p.x d)) l)
 
 one_copy : (R d end : ℚ) (p : Piece) → int (pos 0) <ℚ d → end ≡ R +ℚ d → R ≤ℚ p.x → p.x <ℚ end → copies_below d end p ≡ 1
 one_copy R d end p some e past early =
@@ -120,7 +113,7 @@ itself ps (Some t) end s some at early = elim (le_or_lt t.rank s.piece.x) [
 pub known_fits : (ps : List PieceText) (tail : Option TailText) (end : ℚ) (s : Span) → HasLength tail → s.piece.x <ℚ end → Knows (text_tail ps tail) end s → SpanFits s
 known_fits ps None end s some early k = k early
 known_fits ps (Some t) end s some early k = elim (le_or_lt t.rank s.piece.x) [
-  | inl past ↦ (k.1 past).first (let least = some_copy end t.period s.piece some early in omega (arith, least))
+  | inl past ↦ (k.1 past).first (some_copy end t.period s.piece some early)
   | inr before ↦ k.0 before early
 ]
 
@@ -137,7 +130,7 @@ counts_one : (ps : List PieceText) (tail : Option TailText) (end : ℚ) → HasL
 counts_one ps None end some p l = subst (λ b. 1 ≤ cond b 1 0) (sym (lt_q_out p.x end l)) (omega arith)
 counts_one ps (Some t) end some p l = elim (le_or_lt t.rank p.x) [
   | inl past ↦
-      subst (λ b. 1 ≤ cond b (once end p) (copies_below t.period end p)) (sym (lt_q_not p.x t.rank past)) (let least = some_copy end t.period p some l in omega (arith, least))
+      subst (λ b. 1 ≤ cond b (once end p) (copies_below t.period end p)) (sym (lt_q_not p.x t.rank past)) (some_copy end t.period p some l)
   | inr before ↦
       subst (λ b. 1 ≤ cond b (once end p) (copies_below t.period end p)) (sym (lt_q_out p.x t.rank before)) (subst (λ b. 1 ≤ cond b 1 0) (sym (lt_q_out p.x end l)) (omega arith))
 ]
@@ -195,15 +188,11 @@ no_window ps tail last w e h small =
     omega (arith, big, small)
 
 -- ---- the gauge
-own_is : (c : SpecCurve) (end : ℚ) → end ≡ own_end c → gauge_of (sizes_of end (curve_numbers end c)) ≡ own_gauge c
-unfolding own_sizes
-own_is c end e = ap (λ x. gauge_of (sizes_of x (curve_numbers x c))) e
-
 pub gauge_is : (ps : List PieceText) (tail : Option TailText) (end : ℚ) → end ≡ own_end (listed_curve ps tail)
     → gauge_of (sizes_of end (closed_numbers end (listed_curve ps tail))) ≡ own_gauge (listed_curve ps tail)
 gauge_is ps tail end e =
     let k = listed_curve ps tail in
-    same_gauge end (closed_numbers end k) (curve_numbers end k) (equals_curve end k) ∙ own_is k end e
+    same_gauge end (closed_numbers end k) (curve_numbers end k) (equals_curve end k) ∙ own_gauge_is k end e
 
 -- where a number of a piece is not known, the gauge is not small
 pub not_gathered : (ps : List PieceText) (tail : Option TailText) (end : ℚ) → IsWellFormed ps tail → end ≡ own_end (listed_curve ps tail)
@@ -212,5 +201,5 @@ pub not_gathered : (ps : List PieceText) (tail : Option TailText) (end : ℚ) �
 not_gathered ps tail end w e h small =
     let k = listed_curve ps tail in
     let big = unknown_large end k w.order.starts (has_period ps tail w.length) (h (texts_fit ps tail w small).steps) in
-    let same = own_is k end e in
+    let same = own_gauge_is k end e in
     omega (arith, big, same, small)
