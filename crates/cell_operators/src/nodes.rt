@@ -17,7 +17,7 @@ ghost use Rattle.cell_operators.specs.TableValues.{HasCurve, HasNumber, IsCurveA
 use crate::reading::{curve_at, number_at};
 use crate::sharing::shared;
 use cell_table::{Table, Value};
-use curve_call::seen;
+use curve_call::intact;
 use curve_deconv::deconvolve;
 use curve_deviation::{horizontal, vertical};
 use curve_envelope::{min, shift};
@@ -88,7 +88,7 @@ pub fn later<T: Table<Value>, L: Ledger>(
     ensures count { steps.new ≡ steps.old + 1 }
 {
     let by = number_at(table, by);
-    let made = seen(shift(alloc, curve_at(table, from), by, steps));
+    let made = intact(shift(alloc, curve_at(table, from), by, steps));
     shared(alloc, made)
 }
 
@@ -106,7 +106,7 @@ pub fn lesser<T: Table<Value>, L: Ledger>(
         (answer_of meaning_of result) }
     ensures count { steps.new ≡ steps.old + 1 }
 {
-    let made = seen(min(
+    let made = intact(min(
         alloc,
         curve_at(table, first),
         curve_at(table, second),
@@ -150,7 +150,7 @@ pub fn spread<T: Table<Value>, L: Ledger>(
     let from = curve_at(table, from);
     match in_packets(alloc, curve_at(table, service), bits, steps) {
         Ok(packets) => {
-            let made = seen(deconvolve(alloc, from, &packets, steps));
+            let made = intact(deconvolve(alloc, from, &packets, steps));
             shared(alloc, made)
         }
         Err(fault) => Err(fault),

@@ -34,7 +34,7 @@ use crate::sharing::{again, copied, shared};
 use crate::sums::{Partial, flows_sum, nothing};
 use arrayvec::ArrayVec;
 use cell_table::{Table, Value};
-use curve_call::seen;
+use curve_call::intact;
 use curve_envelope::{min, sum};
 use curve_library::{CurveFault, bucket};
 use fraction128::Frac;
@@ -99,7 +99,7 @@ fn cut<L: Ledger>(
     ensures counts { Counts 1 steps.old steps.new (answer_of curve result) }
 {
     match link_bucket(alloc, bits, rate) {
-        Ok(link) => seen(min(alloc, flows, &link, steps)),
+        Ok(link) => intact(min(alloc, flows, &link, steps)),
         Err(fault) => Err(fault),
     }
 }
@@ -236,7 +236,7 @@ fn part_added<T: Table<Value>, L: Ledger>(
     ensures sum { Applies Sum so_far.now (curve_of (T.at table.now) part.now) result }
     ensures count { steps.new ≡ steps.old + 1 }
 {
-    seen(sum(alloc, so_far, curve_of(table, part), steps))
+    intact(sum(alloc, so_far, curve_of(table, part), steps))
 }
 
 // Two parts or more, added up.

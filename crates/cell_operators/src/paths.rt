@@ -19,7 +19,7 @@ use crate::nodes::in_packets;
 use crate::reading::curve_at;
 use crate::sharing::{again, shared};
 use cell_table::{Table, Value};
-use curve_call::seen;
+use curve_call::intact;
 use curve_conv::convolve;
 use net_cells::{Cell, Kind, hops};
 use net_model::Network;
@@ -55,7 +55,7 @@ fn with_hop<T: Table<Value>, L: Ledger>(
     ensures counts { Counts 2 steps.old steps.new (answer_of curve result) }
 {
     match in_packets(alloc, curve_at(table, cell), bits, steps) {
-        Ok(next) => seen(convolve(alloc, so_far, &next, steps)),
+        Ok(next) => intact(convolve(alloc, so_far, &next, steps)),
         Err(fault) => Err(fault),
     }
 }
@@ -107,7 +107,7 @@ fn past_hop<T: Table<Value>, L: Ledger>(
     match to_hop(alloc, table, net, flow, last, steps) {
         Ok(packets) => {
             let end = curve_at(table, residual!(flow, last + 1));
-            let made = seen(convolve(alloc, &packets, end, steps));
+            let made = intact(convolve(alloc, &packets, end, steps));
             shared(alloc, made)
         }
         Err(fault) => Err(fault),

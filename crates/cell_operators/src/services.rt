@@ -8,7 +8,7 @@ ghost use Rattle.run_laws.specs.Servers.{Priority, Drr};
 ghost use Rattle.net_model.specs.Accepted.{HasFewQueues};
 ghost use Rattle.net_cells.specs.declared.cell.Kind.TheVariants.{Higher};
 ghost use Rattle.net_cells.specs.Numbered as at;
-ghost use Rattle.net_cells.specs.Visits as seen;
+ghost use Rattle.net_cells.specs.Visits as visiting;
 ghost use Rattle.net_cells.specs.Cells.{cell_of};
 ghost use Rattle.net_cells.specs.Meanings.{CellTable};
 ghost use Rattle.net_cells.specs.Formulas.{value_of, priority, deficit};
@@ -46,7 +46,7 @@ fn by_priority<T: Table<Value>, L: Ledger>(
     requires finite { IsFinite (value_at service.now) }
     requires above { IsCurveAt (T.at table.now) (cell_of Higher place.0 place.1) }
     ensures answer { Answers (T.at table.now) (priority service.now (value_of (cell_of Higher place.0 place.1))
-        (seen.longest_after net.now place.0 place.1)) (answer_of meaning_of result) }
+        (visiting.longest_after net.now place.0 place.1)) (answer_of meaning_of result) }
     ensures counts { Counts 3 steps.old steps.new (answer_of meaning_of result) }
 {
     let above = Cell {
@@ -62,7 +62,7 @@ fn by_priority<T: Table<Value>, L: Ledger>(
 // The longest packet of each of the first queues.
 fn longest_each(net: &Network, server: u32, queues: u32) -> ArrayVec<u32, 8>
     requires { queues ≤ 8 }
-    ensures { result.items ≡ map (seen.longest net.now server) (range_with_len 0 queues) }
+    ensures { result.items ≡ map (visiting.longest net.now server) (range_with_len 0 queues) }
 {
     let mut sizes = ArrayVec::new();
     for queue in 0..queues {
@@ -84,7 +84,7 @@ fn by_deficit<L: Ledger>(
     requires few { HasFewQueues (Drr quanta.now) }
     requires queue { place.1 < length quanta.now }
     ensures answer { (at : CellTable) → Answers at (deficit service.now quanta.now
-        (map (seen.longest net.now place.0) (range_with_len 0 (length quanta.now))) place.1)
+        (map (visiting.longest net.now place.0) (range_with_len 0 (length quanta.now))) place.1)
         (answer_of meaning_of result) }
     ensures counts { Counts 2 steps.old steps.new (answer_of meaning_of result) }
 {

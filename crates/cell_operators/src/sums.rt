@@ -18,7 +18,7 @@ ghost use Rattle.cell_operators.specs.TableValues.{IsCurveAt};
 use crate::reading::curve_at;
 use crate::sharing::{again, shared};
 use cell_table::{Table, Value};
-use curve_call::seen;
+use curve_call::intact;
 use curve_envelope::sum;
 use curve_library::bucket;
 use fraction128::Frac;
@@ -63,7 +63,7 @@ fn with_cell<T: Table<Value>, L: Ledger>(
         Adds (T.at table.now) cells (cell ∷ []) steps.old steps.new result }
     ensures ready { IfOk result (IsReady (T.at table.now)) }
 {
-    match seen(sum(alloc, so_far, curve_at(table, cell), steps)) {
+    match intact(sum(alloc, so_far, curve_at(table, cell), steps)) {
         Ok(made) => Ok(Partial::Made(made)),
         Err(fault) => Err(fault),
     }

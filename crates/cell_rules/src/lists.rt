@@ -3,7 +3,7 @@
 ghost use Rattle.std.specs.Prelude.{◌≡◌, ◌≤◌, ◌==◌, [], None, length, map};
 ghost use Rattle.std.specs.List.{range_with_len};
 ghost use Rattle.net_cells.specs.declared.cell.Kind.TheVariants.{Cross, Total};
-ghost use Rattle.net_cells.specs.Visits as seen;
+ghost use Rattle.net_cells.specs.Visits as visiting;
 ghost use Rattle.net_cells.specs.QueueParts.{part_numbers};
 ghost use Rattle.net_cells.specs.CellFormulas.{parts_sum};
 ghost use Rattle.queue_hops.specs.Chosen.{all_chosen};
@@ -148,7 +148,7 @@ pub(crate) fn same_total(old: &Network, new: &Network, server: u32, queue: u32) 
 
 /// Whether the longest packet of a queue has as many bits in both networks.
 pub(crate) fn same_longest(old: &Network, new: &Network, server: u32, queue: u32) -> bool
-    ensures { TellsSame (seen.longest old.now server queue) (seen.longest new.now server queue) result }
+    ensures { TellsSame (visiting.longest old.now server queue) (visiting.longest new.now server queue) result }
 {
     let bits = longest_at(old, server, Pick::InQueue(queue));
     let new_bits = longest_at(new, server, Pick::InQueue(queue));
@@ -157,7 +157,7 @@ pub(crate) fn same_longest(old: &Network, new: &Network, server: u32, queue: u32
 
 /// Whether the longest packet of the queues of greater number has.
 pub(crate) fn same_longest_after(old: &Network, new: &Network, server: u32, queue: u32) -> bool
-    ensures { TellsSame (seen.longest_after old.now server queue) (seen.longest_after new.now server queue) result }
+    ensures { TellsSame (visiting.longest_after old.now server queue) (visiting.longest_after new.now server queue) result }
 {
     let bits = longest_at(old, server, Pick::AfterQueue(queue));
     let new_bits = longest_at(new, server, Pick::AfterQueue(queue));
@@ -166,8 +166,8 @@ pub(crate) fn same_longest_after(old: &Network, new: &Network, server: u32, queu
 
 /// Whether the longest packet of each of the first queues has.
 pub(crate) fn same_longest_each(old: &Network, new: &Network, server: u32, count: u32) -> bool
-    ensures { TellsSame (map (seen.longest old.now server) (range_with_len 0 count))
-        (map (seen.longest new.now server) (range_with_len 0 count)) result }
+    ensures { TellsSame (map (visiting.longest old.now server) (range_with_len 0 count))
+        (map (visiting.longest new.now server) (range_with_len 0 count)) result }
 {
     for queue in 0..count {
         if !same_longest(old, new, server, queue) {

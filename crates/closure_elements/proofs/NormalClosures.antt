@@ -211,7 +211,7 @@ module _ (a b : ℚ) (l : Line) (low : zero_q ≤ℚ a) (proper : a <ℚ b) wher
 -- ---- a tail that turns
 -- from the rank R on a line with k more each period d, and a rise of k + r d: at R it is s below the line, where s is 0
 -- or k
-pub record IsTurn (f : ℚ → Ext) (R d K k r s : ℚ) : Type 0 where
+pub record HasTurningTail (f : ℚ → Ext) (R d K k r s : ℚ) : Type 0 where
   pub some : zero_q <ℚ d
   pub lines : k ≢ zero_q
   pub below : (s ≡ zero_q) ⊎ (s ≡ k)
@@ -222,7 +222,7 @@ pub record IsTurn (f : ℚ → Ext) (R d K k r s : ℚ) : Type 0 where
   pub rule : Repeats f R d (k +ℚ r *ℚ d)
 
 -- a share of the period is no period
-pub no_share : (f : ℚ → Ext) (R d K k r s : ℚ) → IsTurn f R d K k r s → (n : ℕ) → 2 ≤ n
+pub no_share : (f : ℚ → Ext) (R d K k r s : ℚ) → HasTurningTail f R d K k r s → (n : ℕ) → 2 ≤ n
     → ¬ (Repeats f R (d /ℚ int (pos n)) ((k +ℚ r *ℚ d) /ℚ int (pos n)))
 no_share f R d K k r s T n two h =
     let M = int (pos n) in
@@ -260,7 +260,7 @@ no_share f R d K k r s T n two h =
     left x y k z e f = antisym (with4 x y k z (λ c. omega (arith, c.le, c.lt, c.same)))
 
 -- no one line
-pub not_one : (f : ℚ → Ext) (R d K k r s : ℚ) → IsTurn f R d K k r s → (m : Option Line) → ¬ ((t : ℚ) → R ≤ℚ t → f t ≡ line_value m t)
+pub not_one : (f : ℚ → Ext) (R d K k r s : ℚ) → HasTurningTail f R d K k r s → (m : Option Line) → ¬ ((t : ℚ) → R ≤ℚ t → f t ≡ line_value m t)
 not_one f R d K k r s T m h =
     let L : Line = record { icept = K; slope = r } in
     let D = T.some in

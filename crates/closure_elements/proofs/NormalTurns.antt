@@ -24,7 +24,7 @@ use Rattle.closure_elements.specs.ElementCurves.{turn, line_times, all_stretches
 use Rattle.closure_elements.proofs.TurnNumbers.{turn_in, more}
 use Rattle.closure_elements.proofs.StretchReads.{IsLate, first_late, none_at_start}
 use Rattle.closure_elements.proofs.ClosureValues.{rising_values, falling_values, least_at, greatest_at}
-use Rattle.closure_elements.proofs.NormalClosures.{IsTurn, no_share, not_one, all_each, all_start, all_has, all_unmerged, rest_start}
+use Rattle.closure_elements.proofs.NormalClosures.{HasTurningTail, no_share, not_one, all_each, all_start, all_has, all_unmerged, rest_start}
 use Rattle.closure_laws.specs.Star.{nat_times}
 
 -- infinity at y and a number a period later: no rule from a time up to y
@@ -91,7 +91,7 @@ module _ (a b : ℚ) (l : Line) (m : ℕ) (low : zero_q ≤ℚ a) (proper : a <�
   -- a curve of the stretches that turns at R is in normal form
   turned_normal : (R d s : ℚ) (n : ℕ) → nat_times (suc m) a <ℚ R → zero_q <ℚ d → l.icept ≢ zero_q
       → Each (λ p. p.x <ℚ R +ℚ d) (all_stretches a b l m (turn R l n (suc (suc m)) ∷ []))
-      → IsTurn (value_at (turned R d n)) R d (nat_times (suc (suc m)) l.icept) l.icept l.slope s
+      → HasTurningTail (value_at (turned R d n)) R d (nat_times (suc (suc m)) l.icept) l.icept l.slope s
       → value_at (turned R d n) (nat_times (suc m) a) ≡ Inf → (q : ℚ) → value_at (turned R d n) (nat_times (suc m) a +ℚ d) ≡ Fin q
       → IsNormal (turned R d n)
   turned_normal R d s n past some lines early T none q number =
@@ -145,7 +145,7 @@ module _ (a b : ℚ) (l : Line) (m : ℕ) (low : zero_q ≤ℚ a) (proper : a <�
       let under : y +ℚ b <ℚ nat_times N b = with4 y b R (nat_times N b) (λ c. omega (arith, c.le, c.lt, c.same)) in
       let later : zero_q ≤ℚ y +ℚ b = with2 y b (λ c. omega (arith, c.le, c.lt, c.same)) in
       let (q, number) = some_value (y +ℚ b) (f (y +ℚ b)) (suc m) (values (y +ℚ b) later) over under in
-      let T : IsTurn f R b (nat_times N l.icept) l.icept l.slope zero_q = record {
+      let T : HasTurningTail f R b (nat_times N l.icept) l.icept l.slope zero_q = record {
         some = some_end;
         lines = not_zero l.icept up;
         below = inl refl;
@@ -185,7 +185,7 @@ module _ (a b : ℚ) (l : Line) (m : ℕ) (low : zero_q ≤ℚ a) (proper : a <�
       (greatest_at a b l m low proper apart joined (le_of_lt down) (suc m) t (omega arith) h (le_of_lt (subst (λ z. t <ℚ z) (sym after_that) k))) in
       let same : y +ℚ a ≡ R = sym next in
       let number : f (y +ℚ a) ≡ Fin (line_at (line_times (suc m) l) R) = ap f same ∙ at_rank in
-      let T : IsTurn f R a (nat_times N l.icept) l.icept l.slope l.icept = record {
+      let T : HasTurningTail f R a (nat_times N l.icept) l.icept l.slope l.icept = record {
         some = some;
         lines = λ e. lt_irrefl zero_q (subst (λ z. z <ℚ zero_q) e down);
         below = inr refl;

@@ -17,7 +17,7 @@ pub applied : (op : OpKind) (f g : SpecCurve) (r : Result SpecCurve OpFault)
 applied op f g (Ok c) value limits kept = record { within = limits; made = record { curve = kept; answers = value } }
 applied op f g (Err fault) value limits kept = limits
 
--- the same of an answer that `seen` hands on
+-- the same of an answer that `intact` hands on
 pub applied_seen : (op : OpKind) (f g : SpecCurve) (r s : Result SpecCurve OpFault) → s ≡ r
     → IfOk r (λ c. (t : ℚ) → zero_q ≤ℚ t → IsAnswer op (value_at f) (value_at g) t (value_at c t))
     → KeepsLimits op f g r → IfOk s IsCurve → Applies op f g s

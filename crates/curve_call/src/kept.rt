@@ -6,7 +6,7 @@ use upp_normal::upp_limits::OpFault;
 
 /// The answer of a call, as it is, with what the type of its curve keeps: a contract that says what curve a call
 /// makes needs that it is one.
-pub fn seen(answer: Result<Curve, OpFault>) -> Result<Curve, OpFault>
+pub fn intact(answer: Result<Curve, OpFault>) -> Result<Curve, OpFault>
     ensures same { result ≡ answer }
     ensures kept { IfOk result IsCurve }
 {

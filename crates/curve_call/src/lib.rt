@@ -17,7 +17,7 @@ pub use answers::answer;
 pub use between::refuse_between;
 pub use frame::{Frame, within, within_both};
 pub use gate::first_window;
-pub use kept::seen;
+pub use kept::intact;
 pub use laws::{Making, answers_are_determined, answers_are_finite, answers_grow, calls_in_turn};
 pub use rises::rise_over;
 pub use times::{begin, common_period, own_period};

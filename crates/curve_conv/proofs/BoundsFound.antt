@@ -104,7 +104,7 @@ over_one x e h = subst (λ y. x ≤ℚ y) (sym (one_mul e)) h
 pub more_times : (n : ℕ) (d : ℚ) → int (pos (n + 1)) *ℚ d ≡ int (pos n) *ℚ d +ℚ d
 more_times n d = let next : n + 1 ≡ suc n = omega arith in ap (λ i. int (pos i) *ℚ d) next ∙ one_more_times n d
 
-slow_rate : (f g : SpecCurve) → rate f <ₑ rate g → (r : ℚ) × (rate f ≡ Fin r)
+pub slow_rate : (f g : SpecCurve) → rate f <ₑ rate g → (r : ℚ) × (rate f ≡ Fin r)
 slow_rate f g h = elim (ext_cases (rate f)) [ inl e ↦ absurd (none (rate g) (subst (λ x. x <ₑ rate g) e h)) | inr r ↦ r ]
   where
     none : (y : Ext) → Inf <ₑ y → ⊥

@@ -15,8 +15,8 @@ use curve_least::{Bounds, Side, is_slower, zero_level};
 use fraction128::{Frac, is_less};
 use upp_curve::Curve;
 
-// The least number n with the gap at most n + 1 times the lead, where it is found by one division.
-fn periods_over(gap: Frac, lead: Frac) -> Option<u128>
+/// The least number n with the gap at most n + 1 times the lead, where it is found by one division.
+pub fn periods_over(gap: Frac, lead: Frac) -> Option<u128>
     requires { int (pos 0) <ℚ lead }
     ensures { IfSome result (λ n. gap ≤ℚ int (pos (n + 1)) *ℚ lead) }
 {

@@ -56,8 +56,8 @@ pub(crate) fn depth_over(c: &Curve, from: Frac, end: Frac) -> Option<Frac>
     }
 }
 
-// The value of a curve at a time, where it is a number.
-fn value_there(c: &Curve, t: Frac) -> Option<Frac>
+/// The value of a curve at a time, where it is a number.
+pub fn value_there(c: &Curve, t: Frac) -> Option<Frac>
     requires { (z : Sizes) × (end : ℚ) × HasWindow z end c.now × IsTimeIn z end t }
     ensures { IfSome result (λ v. value_at c.now t ≡ Fin v) }
 {
@@ -68,7 +68,7 @@ fn value_there(c: &Curve, t: Frac) -> Option<Frac>
 }
 
 /// a + b, where it fits.
-pub(crate) fn sum(a: Frac, b: Frac) -> Option<Frac>
+pub fn sum(a: Frac, b: Frac) -> Option<Frac>
     ensures { IfSome result (λ s. s ≡ a +ℚ b) }
 {
     Frac::add(a, b).ok()

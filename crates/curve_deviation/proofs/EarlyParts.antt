@@ -37,7 +37,7 @@ use Rattle.upp_normal.proofs.StretchSizes.{span_line, times_stand}
 use Rattle.upp_normal.proofs.StretchValues.{with_pieces}
 use Rattle.upp_normal.proofs.AnswerRoom.{operand_line_fits, operand_line_value, stands_operand_value}
 use Rattle.curve_deviation.specs.declared.parts.Part.{Part}
-use Rattle.curve_deviation.specs.Parts.{IsSeen, GoesTo, PartStands, IsEarlyBy}
+use Rattle.curve_deviation.specs.Parts.{IsFiniteInSizes, GoesTo, PartStands, IsEarlyBy}
 use Rattle.affine_segment.proofs.Lower.{left_low}
 use Rattle.upp_normal.proofs.NormaliseRoomy.{found_early}
 use Rattle.curve_least.proofs.GapWalk.{earlier_high, earlier_past}
@@ -85,7 +85,7 @@ value_early c end u curve finite early h = by_tail c.pieces c.tail curve.normal.
     by_tail ps (Infinite rank) fits k early = absurd k
 
 -- ---- the pieces that start before the end
-all_stand : (z : Sizes) (end : ℚ) (c : SpecCurve) → IsSeen z end c → AllByRecursion (λ s. s.piece.x <ℚ end → SpanStands z s) (spans c.tail c.pieces)
+all_stand : (z : Sizes) (end : ℚ) (c : SpecCurve) → IsFiniteInSizes z end c → AllByRecursion (λ s. s.piece.x <ℚ end → SpanStands z s) (spans c.tail c.pieces)
 all_stand z end c S = each_stands (SpanStands z) end c (has_period c.pieces c.tail S.curve.normal.raw.tail) (unrolled_stand z end c S.stands)
 
 each_start : (z : Sizes) (end : ℚ) (tail : Tail) (ps : List Piece) → AllByRecursion (λ s. s.piece.x <ℚ end → SpanStands z s) (spans tail ps) → Each (λ p. p.x <ℚ end → Whole z.dt p.x) ps
@@ -119,7 +119,7 @@ early_of z end t p ps next A time starts stands =
       ],
     )
 
-pub early_here : (z : Sizes) (end : ℚ) (c : SpecCurve) (t : ℚ) → IsSeen z end c → IsTimeIn z end t → EarlyHere z end c t
+pub early_here : (z : Sizes) (end : ℚ) (c : SpecCurve) (t : ℚ) → IsFiniteInSizes z end c → IsTimeIn z end t → EarlyHere z end c t
 early_here z end c t S time =
     with_pieces {G = EarlyHere z end c t} c.pieces S.curve.normal.raw.starts (λ p ps f.
     let starts : StartsAtZero (p ∷ ps) = subst StartsAtZero f S.curve.normal.raw.starts in
@@ -151,14 +151,14 @@ early_goes c t end p curve finite early some before at line until =
       high = subst (λ x. x ≤ℚ end) (sym until) (earlier_high end next);
     }
 
-pub early_stands : (z : Sizes) (end : ℚ) (c : SpecCurve) (t : ℚ) (p : Part) → IsSeen z end c → IsTimeIn z end t → p.at ≡ read c.pieces t → p.line ≡ line_in c.pieces t
+pub early_stands : (z : Sizes) (end : ℚ) (c : SpecCurve) (t : ℚ) (p : Part) → IsFiniteInSizes z end c → IsTimeIn z end t → p.at ≡ read c.pieces t → p.line ≡ line_in c.pieces t
     → p.until ≡ earlier_of end (next_in c.pieces t None) → PartStands z p
 early_stands z end c t p S time at line until =
     let here = early_here z end c t S time in
     record { at = subst (GridValue z) (sym at) here.at; line = subst (OperandLineAt z) (sym line) here.line; until = subst (Whole z.dt) (sym until) here.next }
 
 -- ---- past the first period
-pub seen_window : (z : Sizes) (end : ℚ) (c : SpecCurve) → IsSeen z end c → IsOverBy end c.tail → HasWindow z end c
+pub seen_window : (z : Sizes) (end : ℚ) (c : SpecCurve) → IsFiniteInSizes z end c → IsOverBy end c.tail → HasWindow z end c
 seen_window z end c S over = record { curve = S.curve; limited = S.limited; stands = S.stands; over = over }
 
 pub late_goes : (f : ℚ → Ext) (t end : ℚ) (s : Stretch) (p : Part) → t <ℚ end → GoesOn f t s → p.at ≡ s.at → p.line ≡ s.line → p.until ≡ earlier_of end s.next → GoesTo f t end p
@@ -169,7 +169,7 @@ late_goes f t end s p before goes at line until = record {
   high = subst (λ x. x ≤ℚ end) (sym until) (earlier_high end s.next);
 }
 
-pub late_stands : (z : Sizes) (end t : ℚ) (c : SpecCurve) (s : Stretch) (p : Part) → IsSeen z end c → IsOverBy end c.tail → IsTimeIn z end t
+pub late_stands : (z : Sizes) (end t : ℚ) (c : SpecCurve) (s : Stretch) (p : Part) → IsFiniteInSizes z end c → IsOverBy end c.tail → IsTimeIn z end t
     → ((d : ℕ) → TimesStand d c → AtNext (Whole d) s.next) → (HasWindow z end c → IsTimeIn z end t → OperandLineAt z s.line × GridValue z s.at)
     → p.at ≡ s.at → p.line ≡ s.line → p.until ≡ earlier_of end s.next → PartStands z p
 late_stands z end t c s p S over time times sizes at line until =

@@ -23,7 +23,7 @@ use Rattle.curve_call.specs.Frames.{IsFrame, sizes_at}
 use Rattle.rational.proofs.Grid.{whole_add, whole_times}
 use Rattle.upp_normal.proofs.UnrollSteps.{ext_cases}
 use Rattle.curve_least.proofs.Rises.{rate_rise, infinite_value}
-use Rattle.curve_deviation.specs.Parts.{IsSeen}
+use Rattle.curve_deviation.specs.Parts.{IsFiniteInSizes}
 use Rattle.curve_deviation.specs.Lags.{IsLongestLag}
 use Rattle.curve_deviation.specs.declared.horizontals.Periods.{Periods}
 use Rattle.curve_deviation.specs.Stages.{AreFinite, settled, AreFound}
@@ -41,8 +41,8 @@ sizes_to f g end = sizes_of end (numbers_over Horizontal f g end)
 
 -- what the walk needs
 pub record IsReady (z : Sizes) (f g : SpecCurve) (until end : ℚ) : Type 0 where
-  pub first : IsSeen z end f
-  pub second : IsSeen z end g
+  pub first : IsFiniteInSizes z end f
+  pub second : IsFiniteInSizes z end g
   pub time : IsTimeIn z end until
   pub at : ℚ
   pub low : int (pos 0) ≤ℚ at

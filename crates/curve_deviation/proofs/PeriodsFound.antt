@@ -41,7 +41,7 @@ use Rattle.curve_call.proofs.Limited.{refused_cause, frame_within}
 use Rattle.curve_least.proofs.Shifts.{later_value}
 use Rattle.upp_normal.proofs.UnrollSteps.{ext_cases}
 use Rattle.curve_least.proofs.Rises.{rate_rise, infinite_value}
-use Rattle.curve_deviation.specs.Parts.{IsSeen}
+use Rattle.curve_deviation.specs.Parts.{IsFiniteInSizes}
 use Rattle.curve_deviation.proofs.EarlyParts.{endless, early_here}
 use Rattle.curve_deviation.specs.declared.horizontals.Periods.{Periods}
 use Rattle.curve_deviation.specs.Stages.{AreFinite, HasLeft, settled, IsPast, IsWideCall, IsFirst, AreFound}
@@ -105,10 +105,10 @@ read_not_wide : (ps : List Piece) (t : ℚ) (w : Wide) → LineFitsAt t (line_in
 read_not_wide [] t w h k = k
 read_not_wide (p ∷ ps) t w h k = line_not_wide (piece_in p ps t).line t w h k
 
-pub steady_in_window : (z : Sizes) (end : ℚ) (c : SpecCurve) → IsSeen z end c → steady c <ℚ end → IsTimeIn z end (steady c)
+pub steady_in_window : (z : Sizes) (end : ℚ) (c : SpecCurve) → IsFiniteInSizes z end c → steady c <ℚ end → IsTimeIn z end (steady c)
 steady_in_window z end c S h = record { whole = steady_whole z end c S.stands; nonneg = steady_nonneg c S.curve; before = h }
 
-pub steady_not_wide : (z : Sizes) (end time : ℚ) (c : SpecCurve) (w : Wide) → IsSeen z end c → time ≡ steady c → steady c <ℚ end → IsWideValueAt c time w → ⊥
+pub steady_not_wide : (z : Sizes) (end time : ℚ) (c : SpecCurve) (w : Wide) → IsFiniteInSizes z end c → time ≡ steady c → steady c <ℚ end → IsWideValueAt c time w → ⊥
 unfolding steady
 steady_not_wide z end time c w S e h wide =
     let T = steady c in
@@ -123,7 +123,7 @@ steady_not_wide z end time c w S e h wide =
     by_tail ps (Affine rank) k fits a = read_not_wide ps (steady_in ps (Affine rank)) w fits a
     by_tail ps (Infinite rank) k fits a = k
 
-pub steady_one_later : (z : Sizes) (end : ℚ) (c : SpecCurve) → IsSeen z end c → steady c <ℚ end → OneLaterFits c
+pub steady_one_later : (z : Sizes) (end : ℚ) (c : SpecCurve) → IsFiniteInSizes z end c → steady c <ℚ end → OneLaterFits c
 steady_one_later z end c S h = one_later z end c S.limited.sizes (wide_narrow z end S.limited) S.curve S.stands (le_of_lt h)
 
 -- ---- the window of a call whose first curve is not constant ends after the second begins to repeat
@@ -166,7 +166,7 @@ least_past_steady f g k m F G both not least small = elim least.first.meets [
         with3 T x y (λ c. omega (arith, c.le, c.lt, c.same))
 
 -- where the value when g begins to repeat is not to be had, the call is too wide
-pub no_level : (f g : SpecCurve) → IsCurve f → IsCurve g → AreFinite f g → rate f ≢ Fin (int (pos 0)) → ((z : Sizes) (end : ℚ) → IsSeen z end g → steady g <ℚ end → ⊥) → IsWideCall f g
+pub no_level : (f g : SpecCurve) → IsCurve f → IsCurve g → AreFinite f g → rate f ≢ Fin (int (pos 0)) → ((z : Sizes) (end : ℚ) → IsFiniteInSizes z end g → steady g <ℚ end → ⊥) → IsWideCall f g
 no_level f g F G both not none k m least = elim (cases_lt (gauge_at Horizontal f g k m) (2 ^ 120)) [
   | inl small ↦
       let W = times_at f g k m F G both.first both.second small in

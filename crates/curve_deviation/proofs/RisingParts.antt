@@ -24,7 +24,7 @@ use Rattle.min_plus.proofs.FiniteValues.{no_inf}
 use Rattle.curve_deviation.specs.declared.cells.Cell.{Cell}
 use Rattle.curve_deviation.specs.declared.parts.Part.{Part}
 use Rattle.curve_deviation.specs.Cells.{RisingCell, CellSizes, IsTimeTo}
-use Rattle.curve_deviation.specs.Parts.{IsSeen, GoesTo, PartStands}
+use Rattle.curve_deviation.specs.Parts.{IsFiniteInSizes, GoesTo, PartStands}
 use Rattle.curve_deviation.specs.Rises.{RisesOn, IsCellOf}
 
 -- ---- a finite part has a line
@@ -105,7 +105,7 @@ time_to z end t h = record { whole = h.whole; nonneg = h.nonneg; high = le_of_lt
 operand : (z : Sizes) (l : Line) (m : Option Line) → m ≡ Some l → OperandLineAt z m → OperandLine z l
 operand z l m e h = subst (OperandLineAt z) e h
 
-pub cell_sizes : (z : Sizes) (f g : SpecCurve) (t x until end : ℚ) (p q : Part) (c : Cell) → IsSeen z end f → IsTimeIn z end t → IsTimeIn z end x → IsTimeTo z end until → t <ℚ until
+pub cell_sizes : (z : Sizes) (f g : SpecCurve) (t x until end : ℚ) (p q : Part) (c : Cell) → IsFiniteInSizes z end f → IsTimeIn z end t → IsTimeIn z end x → IsTimeTo z end until → t <ℚ until
     → GoesTo (value_at f) t end p → GoesTo (value_at g) x end q → PartStands z p → PartStands z q
     → p.line ≡ Some c.first → q.line ≡ Some c.second → c.start ≡ t → c.from ≡ x → c.end ≡ min_q until p.until → c.until ≡ q.until → CellSizes z end c
 cell_sizes z f g t x until end p q c S T X U before goes on P Q first second s r e u =

@@ -30,14 +30,14 @@ use Rattle.curve_call.specs.declared.windows.CallWindow.{CallWindow}
 use Rattle.curve_call.specs.Frames.{sizes_at}
 use Rattle.curve_call.proofs.CallTimes.{first_stands, second_stands}
 use Rattle.curve_call.proofs.CurveTimes.{IsPeriod, both_on, steady_whole, common_some}
-use Rattle.curve_deviation.specs.Parts.{IsSeen}
+use Rattle.curve_deviation.specs.Parts.{IsFiniteInSizes}
 use Rattle.curve_deviation.specs.Stages.{IsNarrowWindow, AreFinite, settled}
 use Rattle.upp_curve.proofs.SteadyTimes.{steady_nonneg}
 
 -- the sizes
 pub record AreSeen (z : Sizes) (end : ℚ) (f g : SpecCurve) : Type 0 where
-  pub first : IsSeen z end f
-  pub second : IsSeen z end g
+  pub first : IsFiniteInSizes z end f
+  pub second : IsFiniteInSizes z end g
   pub period : IsPeriod z.dt (common_period f g)
   pub start : Whole z.dt (steady f)
 

@@ -18,7 +18,7 @@ use Rattle.curve_deviation.specs.declared.parts.Part.{Part}
 use Rattle.curve_least.specs.GapSteps.{earlier_of}
 
 -- a finite curve whose numbers up to `end` have the sizes z
-pub record IsSeen (z : Sizes) (end : ℚ) (c : SpecCurve) : Type 0 where
+pub record IsFiniteInSizes (z : Sizes) (end : ℚ) (c : SpecCurve) : Type 0 where
   pub curve : IsCurve c
   pub finite : IsFinite (value_at c)
   pub limited : AreLimited z end

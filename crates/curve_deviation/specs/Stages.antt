@@ -75,6 +75,6 @@ pub record AreFound (f g : SpecCurve) (p : Periods) : Type 0 where
   pub until : p.until ≡ settled f g p.first
 
 -- the time when the first has settled, and its value then
-pub record IsTurn (f g : SpecCurve) (first : ℕ) (t : Turn) : Type 0 where
+pub record IsSettledAt (f g : SpecCurve) (first : ℕ) (t : Turn) : Type 0 where
   pub time : t.time ≡ settled f g first
   pub level : value_at f t.time ≡ Fin t.level

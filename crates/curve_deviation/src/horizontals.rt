@@ -10,8 +10,8 @@ ghost use Rattle.upp_limits.specs.Gauges.{IsKnownAtOnce, gauge_at};
 ghost use Rattle.min_plus.specs.Deviations.{IsHorizontalDeviation};
 ghost use Rattle.upp_limits.specs.Outcome.{KeepsLimits};
 ghost use Rattle.curve_call.specs.Frames.{IsFrame};
-ghost use Rattle.curve_deviation.specs.Parts.{IsSeen};
-ghost use Rattle.curve_deviation.specs.Stages.{AreFinite, IsWideCall, IsFirst, IsTurn, AreFound};
+ghost use Rattle.curve_deviation.specs.Parts.{IsFiniteInSizes};
+ghost use Rattle.curve_deviation.specs.Stages.{AreFinite, IsWideCall, IsFirst, IsSettledAt, AreFound};
 
 use crate::known::is_known;
 use crate::search::{Stage, least_past, narrow_window, value_in};
@@ -45,7 +45,7 @@ fn value_then(c: &Curve, time: Frac) -> Option<Frac>
     requires finite { IsFinite (value_at c.now) }
     requires time { time ≡ steady c.now }
     ensures value { IfSome result (λ v. value_at c.now time ≡ Extended.Fin v) }
-    ensures fits { (z : Sizes) (end : ℚ) → IsSeen z end c.now → steady c.now <ℚ end → IsSome result }
+    ensures fits { (z : Sizes) (end : ℚ) → IsFiniteInSizes z end c.now → steady c.now <ℚ end → IsSome result }
 {
     c.keeps();
     match c.value_at(time) {
@@ -61,7 +61,7 @@ fn value_then(c: &Curve, time: Frac) -> Option<Frac>
 fn late_level(c: &Curve) -> Option<Frac>
     requires { IsFinite (value_at c.now) }
     ensures value { IfSome result (λ v. value_at c.now (steady c.now) ≡ Extended.Fin v) }
-    ensures fits { (z : Sizes) (end : ℚ) → IsSeen z end c.now → steady c.now <ℚ end → IsSome result }
+    ensures fits { (z : Sizes) (end : ℚ) → IsFiniteInSizes z end c.now → steady c.now <ℚ end → IsSome result }
 {
     match steady_time(c) {
         None => None,
@@ -90,7 +90,7 @@ fn first_number(f: &Curve, g: &Curve) -> Option<u128>
 fn turn_after(f: &Curve, g: &Curve, first: u128) -> Option<Turn>
     requires { AreFinite f.now g.now }
     ensures turn { MatchOption result (2 ^ 120 ≤ gauge_at OpKind.Horizontal f.now g.now first 0)
-        (IsTurn f.now g.now first) }
+        (IsSettledAt f.now g.now first) }
 {
     match narrow_window(f, g, first, 0) {
         None => None,

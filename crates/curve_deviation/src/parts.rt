@@ -12,7 +12,7 @@ ghost use Rattle.upp_curve.specs.Curves.{IsCurve};
 ghost use Rattle.affine_segment.specs.Fits.{LineFitsAt, ReadFits};
 ghost use Rattle.upp_limits.specs.Limits.{Sizes};
 ghost use Rattle.upp_normal.specs.Ahead.{IsOverBy, IsTimeIn};
-ghost use Rattle.curve_deviation.specs.Parts.{IsSeen, GoesTo, PartStands, IsEarlyBy};
+ghost use Rattle.curve_deviation.specs.Parts.{IsFiniteInSizes, GoesTo, PartStands, IsEarlyBy};
 ghost use Rattle.curve_least.specs.GapSteps.{earlier_of};
 
 use affine_segment::{Line, Piece, next_start, piece_at, piece_value};
@@ -70,20 +70,20 @@ fn is_early(c: &Curve, end: Frac) -> bool
 
 /// How a curve goes on from a time of a window, by what is kept of it.
 fn early_part(c: &Curve, t: Frac, end: Frac) -> Part
-    requires seen { (z : Sizes) × IsSeen z end c.now × IsTimeIn z end t }
+    requires seen { (z : Sizes) × IsFiniteInSizes z end c.now × IsTimeIn z end t }
     requires early { IsEarlyBy end c.now.tail }
     ensures goes { GoesTo (value_at c.now) t end result }
-    ensures stands { (z : Sizes) → IsSeen z end c.now → IsTimeIn z end t → PartStands z result }
+    ensures stands { (z : Sizes) → IsFiniteInSizes z end c.now → IsTimeIn z end t → PartStands z result }
 {
     plain_part(c.pieces(), t, end)
 }
 
 /// How a curve goes on from a time of a window past its first period.
 fn late_part(c: &Curve, t: Frac, end: Frac) -> Part
-    requires seen { (z : Sizes) × IsSeen z end c.now × IsTimeIn z end t }
+    requires seen { (z : Sizes) × IsFiniteInSizes z end c.now × IsTimeIn z end t }
     requires late { IsOverBy end c.now.tail }
     ensures goes { GoesTo (value_at c.now) t end result }
-    ensures stands { (z : Sizes) → IsSeen z end c.now → IsTimeIn z end t → PartStands z result }
+    ensures stands { (z : Sizes) → IsFiniteInSizes z end c.now → IsTimeIn z end t → PartStands z result }
 {
     let stretch = stretch_at(c, t);
     Part {
@@ -97,9 +97,9 @@ fn late_part(c: &Curve, t: Frac, end: Frac) -> Part
 /// search in the pieces that are kept; nothing is unrolled, and no memory is taken. The window's sizes z are those of
 /// a gauge below 2^120, and t stands on its grid, from 0 on and before its end.
 pub(crate) fn part_at(c: &Curve, t: Frac, end: Frac) -> Part
-    requires { (z : Sizes) × IsSeen z end c.now × IsTimeIn z end t }
+    requires { (z : Sizes) × IsFiniteInSizes z end c.now × IsTimeIn z end t }
     ensures goes { GoesTo (value_at c.now) t end result }
-    ensures stands { (z : Sizes) → IsSeen z end c.now → IsTimeIn z end t → PartStands z result }
+    ensures stands { (z : Sizes) → IsFiniteInSizes z end c.now → IsTimeIn z end t → PartStands z result }
 {
     if is_early(c, end) {
         early_part(c, t, end)

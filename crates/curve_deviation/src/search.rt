@@ -9,7 +9,7 @@ ghost use Rattle.upp_curve.specs.Curves.{IsCurve};
 ghost use Rattle.upp_limits.specs.Limits.{Sizes};
 ghost use Rattle.upp_normal.specs.Ahead.{IsTimeIn};
 ghost use Rattle.upp_limits.specs.Gauges.{gauge_at};
-ghost use Rattle.curve_deviation.specs.Parts.{IsSeen};
+ghost use Rattle.curve_deviation.specs.Parts.{IsFiniteInSizes};
 ghost use Rattle.curve_deviation.specs.Stages.{IsNarrowWindow, AreFinite, HasLeft, HasReached, Meets, stage_gauge, IsBefore, IsPast};
 
 use crate::parts::part_at;
@@ -46,7 +46,7 @@ pub(crate) fn narrow_window(f: &Curve, g: &Curve, k: u128, m: u128) -> Option<Ca
 
 /// The value of a finite curve at a time of a window.
 pub(crate) fn value_in(c: &Curve, t: Frac, end: Frac) -> Frac
-    requires { (z : Sizes) × IsSeen z end c.now × IsTimeIn z end t }
+    requires { (z : Sizes) × IsFiniteInSizes z end c.now × IsTimeIn z end t }
     ensures { value_at c.now t ≡ Extended.Fin result }
 {
     match part_at(c, t, end).at {

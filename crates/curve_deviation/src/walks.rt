@@ -11,7 +11,7 @@ ghost use Rattle.upp_limits.specs.Limits.{Sizes};
 ghost use Rattle.upp_curve.specs.Shapes.{IsLine};
 ghost use Rattle.upp_normal.specs.Ahead.{IsTimeIn};
 ghost use Rattle.curve_deviation.specs.Cells.{RisingCell, CellSizes, IsTimeTo, IsCellLag};
-ghost use Rattle.curve_deviation.specs.Parts.{IsSeen};
+ghost use Rattle.curve_deviation.specs.Parts.{IsFiniteInSizes};
 ghost use Rattle.curve_deviation.specs.Rises.{IsCellOf};
 ghost use Rattle.curve_deviation.specs.Lags.{IsLongestLag};
 
@@ -47,8 +47,8 @@ fn line_of(part: &Part) -> Line
 /// How f goes on from `time`, up to `until`, and g from `reached`.
 fn cell_at(f: &Curve, g: &Curve, time: Frac, reached: Frac, until: Frac, end: Frac) -> Cell
     ghost sizes: { Sizes }
-    requires first { IsSeen sizes end f.now × IsTimeIn sizes end time }
-    requires second { IsSeen sizes end g.now × IsTimeIn sizes end reached }
+    requires first { IsFiniteInSizes sizes end f.now × IsTimeIn sizes end time }
+    requires second { IsFiniteInSizes sizes end g.now × IsTimeIn sizes end reached }
     requires rising { IsRising (value_at f.now) × IsRising (value_at g.now) }
     requires until { IsTimeTo sizes end until }
     requires before { time <ℚ until }
@@ -101,8 +101,8 @@ fn step(cell: &Cell, lag: Frac) -> Walk
 /// unrolled, and no memory is taken. The window's sizes are those of a gauge below 2^120 over both curves' numbers.
 pub(crate) fn longest_lag(f: &Curve, g: &Curve, until: Frac, end: Frac) -> Frac
     ghost sizes: { Sizes }
-    requires first { IsSeen sizes end f.now }
-    requires second { IsSeen sizes end g.now }
+    requires first { IsFiniteInSizes sizes end f.now }
+    requires second { IsFiniteInSizes sizes end g.now }
     requires rising { IsRising (value_at f.now) × IsRising (value_at g.now) }
     requires until { IsTimeIn sizes end until }
     requires reached { (w : ℚ) × (int (pos 0) ≤ℚ w) × (w <ℚ end) × (value_at f.now until ≤ₑ value_at g.now w) }

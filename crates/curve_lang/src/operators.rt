@@ -15,7 +15,7 @@ ghost use Rattle.curve_lang.specs.Views.{found};
 
 use crate::kinds::zero_found;
 use crate::sharing::{kept_call, told_call};
-use curve_call::seen;
+use curve_call::intact;
 use curve_conv::convolve;
 use curve_deconv::deconvolve;
 use curve_deviation::vertical;
@@ -39,7 +39,7 @@ fn sum_made<L: Ledger>(
 ) -> Result<Rc<Curve>, LangKind>
     ensures { TwoMade twos.Sum f.now g.now (found result) }
 {
-    kept_call(alloc, seen(sum(alloc, f, g, steps)))
+    kept_call(alloc, intact(sum(alloc, f, g, steps)))
 }
 
 fn min_made<L: Ledger>(
@@ -50,7 +50,7 @@ fn min_made<L: Ledger>(
 ) -> Result<Rc<Curve>, LangKind>
     ensures { TwoMade twos.Min f.now g.now (found result) }
 {
-    kept_call(alloc, seen(min(alloc, f, g, steps)))
+    kept_call(alloc, intact(min(alloc, f, g, steps)))
 }
 
 fn max_made<L: Ledger>(
@@ -61,7 +61,7 @@ fn max_made<L: Ledger>(
 ) -> Result<Rc<Curve>, LangKind>
     ensures { TwoMade twos.Max f.now g.now (found result) }
 {
-    kept_call(alloc, seen(max(alloc, f, g, steps)))
+    kept_call(alloc, intact(max(alloc, f, g, steps)))
 }
 
 fn convolution_made<L: Ledger>(
@@ -72,7 +72,7 @@ fn convolution_made<L: Ledger>(
 ) -> Result<Rc<Curve>, LangKind>
     ensures { TwoMade twos.Conv f.now g.now (found result) }
 {
-    kept_call(alloc, seen(convolve(alloc, f, g, steps)))
+    kept_call(alloc, intact(convolve(alloc, f, g, steps)))
 }
 
 fn difference_made<L: Ledger>(
@@ -86,7 +86,7 @@ fn difference_made<L: Ledger>(
     if !f.is_finite() {
         return Err(LangKind::C8);
     }
-    kept_call(alloc, seen(pos_diff(alloc, f, g, steps)))
+    kept_call(alloc, intact(pos_diff(alloc, f, g, steps)))
 }
 
 fn deconvolution_made<L: Ledger>(
@@ -100,7 +100,7 @@ fn deconvolution_made<L: Ledger>(
     if !g.is_finite() {
         return Err(LangKind::C8);
     }
-    kept_call(alloc, seen(deconvolve(alloc, f, g, steps)))
+    kept_call(alloc, intact(deconvolve(alloc, f, g, steps)))
 }
 
 /// An operator on two curves.
@@ -137,7 +137,7 @@ fn less_made<L: Ledger>(
     if is_less(level, Frac::zero()) {
         return Err(LangKind::C8);
     }
-    kept_call(alloc, seen(pos_minus(alloc, f, level, steps)))
+    kept_call(alloc, intact(pos_minus(alloc, f, level, steps)))
 }
 
 fn multiple_made<L: Ledger>(
@@ -154,7 +154,7 @@ fn multiple_made<L: Ledger>(
     if is_less(factor, Frac::zero()) {
         return Err(LangKind::C8);
     }
-    kept_call(alloc, seen(scale(alloc, f, factor, steps)))
+    kept_call(alloc, intact(scale(alloc, f, factor, steps)))
 }
 
 fn shift_made<L: Ledger>(
@@ -168,7 +168,7 @@ fn shift_made<L: Ledger>(
     if is_less(by, Frac::zero()) {
         return Err(LangKind::C8);
     }
-    kept_call(alloc, seen(shift(alloc, f, Extended::Fin(by), steps)))
+    kept_call(alloc, intact(shift(alloc, f, Extended::Fin(by), steps)))
 }
 
 /// An operator on a curve and a number.
@@ -197,7 +197,7 @@ fn closure_made<L: Ledger>(
     requires nonneg { IsNonnegative (value_at f.now) }
     ensures { OneFinds ones.Close f.now (found result) }
 {
-    kept_call(alloc, seen(close(alloc, f, steps)))
+    kept_call(alloc, intact(close(alloc, f, steps)))
 }
 
 fn supremum_made<L: Ledger>(
@@ -209,7 +209,7 @@ fn supremum_made<L: Ledger>(
     requires nonneg { IsNonnegative (value_at f.now) }
     ensures { OneFinds ones.RunSup f.now (found result) }
 {
-    kept_call(alloc, seen(run_sup(alloc, f, steps)))
+    kept_call(alloc, intact(run_sup(alloc, f, steps)))
 }
 
 fn infimum_made<L: Ledger>(
@@ -221,7 +221,7 @@ fn infimum_made<L: Ledger>(
     requires nonneg { IsNonnegative (value_at f.now) }
     ensures { OneFinds ones.RunInf f.now (found result) }
 {
-    kept_call(alloc, seen(run_inf(alloc, f, steps)))
+    kept_call(alloc, intact(run_inf(alloc, f, steps)))
 }
 
 // An operator on one curve whose conditions hold.

@@ -13,7 +13,7 @@ use Rattle.curve_running.specs.declared.stretch.Stretch.{Stretch}
 use Rattle.curve_running.specs.declared.bend.Bend.{Bend}
 use Rattle.curve_running.specs.Scans.{flat, IsLevel, HasLine, IsStretch}
 use Rattle.curve_running.specs.Bends.{bent}
-use Rattle.curve_running.specs.Made.{IsOneOf, IsTurn, IsMadeOf, IsMade, TurnsAfter}
+use Rattle.curve_running.specs.Made.{IsOneOf, TakesOverAt, IsMadeOf, IsMade, TurnsAfter}
 
 -- the greater and the lesser of two levels are levels
 pub greater_level : (end : ℚ) (ps : List Piece) (v w : ℚ) → IsLevel end ps v → IsLevel end ps w → IsLevel end ps (max_q v w)
@@ -54,7 +54,7 @@ turn_line ps end i level s l S h (inl e) = inl (s.line, e, S.line)
 turn_line ps end i level s l S h (inr e) = inr (level, e, h)
 
 -- the piece that takes over
-pub turn_made : (ps : List Piece) (end : ℚ) (i : ℕ) (level : ℚ) (s : Stretch) (q : Piece) → IsStretch ps end i s → IsLevel end ps level → IsTurn level s q → IsMade end ps q
+pub turn_made : (ps : List Piece) (end : ℚ) (i : ℕ) (level : ℚ) (s : Stretch) (q : Piece) → IsStretch ps end i s → IsLevel end ps level → TakesOverAt level s q → IsMade end ps q
 turn_made ps end i level s q S h t = record {
   at = (level, t.at, h);
   line = turn_line ps end i level s q.line S h t.line;
@@ -66,7 +66,7 @@ pub bent_made : (rises : Bool) (ps : List Piece) (end : ℚ) (i : ℕ) (level v 
     → Each (IsMade end ps) (bent s.from v b.line b.turn)
 bent_made rises ps end i level v s b S h k m = parts b.turn m.turn
   where
-    parts : (o : Option Piece) → IfSome o (IsTurn level s) → Each (IsMade end ps) (bent s.from v b.line o)
+    parts : (o : Option Piece) → IfSome o (TakesOverAt level s) → Each (IsMade end ps) (bent s.from v b.line o)
     parts None t = (first_made rises ps end i level v s b S h k m, tt)
     parts (Some q) t = (first_made rises ps end i level v s b S h k m, (turn_made ps end i level s q S h t, tt))
 

@@ -24,7 +24,7 @@ abbrev pub IsOneOf : ℚ → Stretch → ℚ → Type 0
 IsOneOf level s v = (v ≡ level) ⊎ ((v ≡ s.right) ⊎ (v ≡ s.left))
 
 -- the piece that takes over starts where the stretch's line meets the level
-pub record IsTurn (level : ℚ) (s : Stretch) (q : Piece) : Type 0 where
+pub record TakesOverAt (level : ℚ) (s : Stretch) (q : Piece) : Type 0 where
   pub meets : IsMeeting level s.line q.x
   pub at : q.at ≡ Fin level
   pub line : (q.line ≡ Some s.line) ⊎ (q.line ≡ Some (flat level))
@@ -32,7 +32,7 @@ pub record IsTurn (level : ℚ) (s : Stretch) (q : Piece) : Type 0 where
 -- of a bend whose slope rises where it turns (true), or falls there (false)
 pub record IsMadeOf (rises : Bool) (level : ℚ) (s : Stretch) (b : Bend) : Type 0 where
   pub line : (b.line ≡ s.line) ⊎ ((v : ℚ) × (b.line ≡ flat v) × IsOneOf level s v)
-  pub turn : IfSome b.turn (IsTurn level s)
+  pub turn : IfSome b.turn (TakesOverAt level s)
   pub turns : IfSome b.turn (λ q. SlopeTurns rises (Some b.line) q.line)
 
 -- ---- pieces of an answer

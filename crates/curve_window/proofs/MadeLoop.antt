@@ -11,7 +11,7 @@ use Rattle.curve_window.specs.declared.lie.Lie.{Lie}
 use Rattle.curve_window.specs.declared.made.Made.{Made}
 use Rattle.curve_window.specs.Stretches.{EachBoth, IsBothOf, CutsFit}
 use Rattle.curve_window.specs.Walk.{IsStep, NextFits}
-use Rattle.curve_window.specs.Lies.{LiesBy, IsLie, IsTurn}
+use Rattle.curve_window.specs.Lies.{LiesBy, IsLie, ChangesPlaces}
 use Rattle.curve_window.specs.declared.made.Parts.{Parts}
 use Rattle.curve_window.specs.Made.{first_piece, IsParts, turn_listed, listed, next_start, AreMade}
 use Rattle.curve_window.specs.Made.{IsMadeWindow, StretchMadeFits, MadeWindowFits}
@@ -21,7 +21,7 @@ use Rattle.curve_window.proofs.OverlayLoop.{OverlayLoop, overlay_step, step_fewe
 pub turn_fits : (k : Made) (b : Both) (to end x : ℚ) (lie : Lie) (p : Piece) → StretchMadeFits end b → to ≤ℚ end → IsLie b.left.line b.right.line b.left.x to lie → lie.turn ≡ Some x
     → p ≡ first_piece k (not lie.below) b → LineFitsAt x p.line
 turn_fits k b to end x lie p F early L e same =
-    let T : IsTurn lie.below b.left.line b.right.line b.left.x to x = subst (LiesBy lie.below b.left.line b.right.line b.left.x to) e L in
+    let T : ChangesPlaces lie.below b.left.line b.right.line b.left.x to x = subst (LiesBy lie.below b.left.line b.right.line b.left.x to) e L in
     subst (λ q. LineFitsAt x q.line) (sym same) (F.turn k lie.below (not lie.below) x T.meets T.past (lt_le_trans T.before early))
 
 -- ---- what the pushes leave

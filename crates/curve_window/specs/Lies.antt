@@ -25,7 +25,7 @@ CrossesAt rises (Some l) None t = ⊥
 CrossesAt rises (Some l) (Some m) t = MeetsAt rises l m t
 
 -- the two change places at x, strictly between `from` and `to`
-pub record IsTurn (rises : Bool) (l m : Option Line) (from to x : ℚ) : Type 0 where
+pub record ChangesPlaces (rises : Bool) (l m : Option Line) (from to x : ℚ) : Type 0 where
   pub past : from <ℚ x
   pub before : x <ℚ to
   pub meets : CrossesAt rises l m x
@@ -33,7 +33,7 @@ pub record IsTurn (rises : Bool) (l m : Option Line) (from to x : ℚ) : Type 0 
 -- strictly between `from` and `to` they are ordered so throughout, or up to the turn
 abbrev pub LiesBy : Bool → Option Line → Option Line → ℚ → ℚ → Option ℚ → Type 0
 LiesBy below l m from to None = (t : ℚ) → from <ℚ t → t <ℚ to → IsOrdered below l m t
-LiesBy below l m from to (Some x) = IsTurn below l m from to x
+LiesBy below l m from to (Some x) = ChangesPlaces below l m from to x
 
 abbrev pub IsLie : Option Line → Option Line → ℚ → ℚ → Lie → Type 0
 IsLie l m from to lie = LiesBy lie.below l m from to lie.turn

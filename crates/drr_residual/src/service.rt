@@ -8,7 +8,7 @@ ghost use Rattle.residual_laws.specs.DrrLaws.{IsDrrService};
 ghost use Rattle.drr_residual.specs.Memory.{WantsMemory};
 
 use crate::turn::turn_of;
-use curve_call::seen;
+use curve_call::intact;
 use curve_pointwise::{pos_minus, scale};
 use std::alloc::Global;
 use std::sync::ledger::Ledger;
@@ -42,6 +42,6 @@ pub fn drr_service<L: Ledger>(
     ensures all { IfOk result (λ _. steps.new ≡ steps.old + 2) }
 {
     let turn = turn_of(quanta, longest, queue as usize);
-    let scaled = seen(scale(alloc, beta, turn.share, steps))?;
-    seen(pos_minus(alloc, &scaled, turn.owed, steps))
+    let scaled = intact(scale(alloc, beta, turn.share, steps))?;
+    intact(pos_minus(alloc, &scaled, turn.owed, steps))
 }

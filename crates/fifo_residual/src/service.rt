@@ -8,7 +8,7 @@ ghost use Rattle.min_plus.specs.Functions.{IsFinite, IsRising, IsNonnegative};
 ghost use Rattle.curve_call.specs.Calls.{Applies};
 ghost use Rattle.fifo_residual.specs.Laws.{IsResidual};
 
-use curve_call::seen;
+use curve_call::intact;
 use curve_envelope::fifo_left;
 use fraction128::Ext;
 use std::alloc::Global;
@@ -37,5 +37,5 @@ pub fn fifo_service<L: Ledger>(
     ensures value { IfOk result (λ c. IsResidual (value_at beta.now) (value_at cross.now) theta (value_at c)) }
     ensures count { steps.new ≡ steps.old + 1 }
 {
-    seen(fifo_left(alloc, beta, cross, theta, steps))
+    intact(fifo_left(alloc, beta, cross, theta, steps))
 }

@@ -43,7 +43,7 @@ use Rattle.run_watch.specs.declared.watched.Watched.{Watched}
 use Rattle.run_watch.specs.Ramps.{as_span, amount, TakeTime, ramps_after, RampsFit, EachRamp, spans_of}
 use Rattle.run_watch.specs.Seen.{arrival_spans, work_spans, works_at, arrivals_at, AreFirsts}
 use Rattle.run_watch.specs.Watching.{Sees, TimesRise}
-use Rattle.run_watch.specs.Held.{IsHeldRamp, IsHeld, IsSeen}
+use Rattle.run_watch.specs.Held.{IsHeldRamp, IsHeld, IsSightOf}
 use Rattle.run_watch.proofs.HeldSizes.{times_differ}
 use Rattle.run_watch.proofs.RampLists.{clip_past, pace_is, spans_are}
 use Rattle.run_watch.proofs.SeenLists.{works_seen, arrivals_seen, worked_is}
@@ -304,12 +304,12 @@ pub record IsWatchable (net : Net) (run : SpecRun) (firsts : List ℕ) (s : ℕ)
   pub arrivals : RampsFit (int (pos 0)) (arrivals_at firsts s [] run.steps)
   pub works : RampsFit (int (pos 0)) (works_at s run.steps)
   pub held : (w : Watched) → Sees w firsts s run.steps run.end → IsCurve (service net s) → IsHeld w (service net s)
-  pub seen : (w : Watched) → Sees w firsts s run.steps run.end → IsSeen (server_at (routes_of net) s) w.end (view (routes_of net) run s) w
+  pub seen : (w : Watched) → Sees w firsts s run.steps run.end → IsSightOf (server_at (routes_of net) s) w.end (view (routes_of net) run s) w
 
 pub known : (net : Net) (s : ℕ) → s < length net.servers → s < length (routes_of net).servers
 known net s h = subst (λ (n : ℕ). s < n) (sym (length-map net.servers (server_for net.version))) h
 
-held_by : (z : Sizes) (server : Server) (end : ℚ) (V : List ServerStep) (w : Watched) (c : SpecCurve) → AreLimited z end → IsSpanned z end V → IsSeen server end V w → IsCurve c → Stands z (curve_numbers end c) → IsHeld w c
+held_by : (z : Sizes) (server : Server) (end : ℚ) (V : List ServerStep) (w : Watched) (c : SpecCurve) → AreLimited z end → IsSpanned z end V → IsSightOf server end V w → IsCurve c → Stands z (curve_numbers end c) → IsHeld w c
 held_by z server end V w c A P S is stands =
     let e : end ≡ w.end = sym S.end_is in
     let L = S.lawful in record {
@@ -337,12 +337,12 @@ watchable net run firsts s z L R F h =
     let lawful = views_are_lawful (routes_of net) run s L (known net s h) in
     let stand = view_stands z run.end (routes_of net) s [] run.steps R.steps in
     let P = spanned z server run.end V R.limited lawful stand (R.bits s h) in
-    let sees : (w : Watched) → Sees w firsts s run.steps run.end → IsSeen server run.end V w = λ w k. sight_is_view (routes_of net) run firsts s w L (known net s h) F k in
+    let sees : (w : Watched) → Sees w firsts s run.steps run.end → IsSightOf server run.end V w = λ w k. sight_is_view (routes_of net) run firsts s w L (known net s h) F k in
     record {
       arrivals = subst (RampsFit (int (pos 0))) (arrivals_seen (routes_of net) firsts s [] run.steps F) P.arrivals_fit;
       works = subst (RampsFit (int (pos 0))) (works_seen (routes_of net) s [] run.steps) P.works_fit;
       held = λ w k is. held_by z server run.end V w (service net s) R.limited P (sees w k) is (R.services s h);
-      seen = λ w k. subst (λ t. IsSeen server t V w) (sym k.end) (sees w k);
+      seen = λ w k. subst (λ t. IsSightOf server t V w) (sym k.end) (sees w k);
     }
 
 pub sees_as : (w : Watched) (firsts : List ℕ) (s : ℕ) (xs ys : List Step) (t u : ℚ) → xs ≡ ys → t ≡ u → Sees w firsts s xs t → Sees w firsts s ys u

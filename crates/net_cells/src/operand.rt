@@ -5,7 +5,7 @@ ghost use Rattle.std.specs.List.{filter, range_with_len};
 ghost use Rattle.net_graph.specs.net_model.specs.Networks.{Net};
 ghost use Rattle.net_cells.specs.declared.cell.Kind.TheVariants.{In, Cross, Total, QueueService, Theta, Residual, HopDelay, PathService};
 ghost use Rattle.net_cells.specs.Numbered as at;
-ghost use Rattle.net_cells.specs.Visits as seen;
+ghost use Rattle.net_cells.specs.Visits as visiting;
 ghost use Rattle.net_cells.specs.Cells.{cell_of};
 ghost use Rattle.net_cells.specs.Order.{at_visit};
 ghost use Rattle.net_cells.specs.Formulas.{leaves};
@@ -44,7 +44,7 @@ pub fn visits_in(
     server: u32,
     queue: u32,
 ) -> Result<Vec<Visit>, AllocError>
-    ensures { IfOk result (λ v. v.items ≡ seen.visits_in net.now server queue) }
+    ensures { IfOk result (λ v. v.items ≡ visiting.visits_in net.now server queue) }
 {
     let here = visits(alloc, net, server)?;
     only_in(alloc, net, &here, queue)

@@ -2,7 +2,7 @@
 
 ghost use Rattle.std.specs.Prelude.{◌≡◌, ◌++◌, map, IfOk, OnOk};
 ghost use Rattle.std.specs.List.{filter, flat_map, range_with_len};
-ghost use Rattle.net_cells.specs.Visits as seen;
+ghost use Rattle.net_cells.specs.Visits as visiting;
 ghost use Rattle.net_cells.specs.Cells.{cell_of, scope_of, path_kinds};
 ghost use Rattle.net_cells.specs.Order.{at_visit, kind_cells, server_cells, path_cells, evaluation_order};
 
@@ -52,7 +52,7 @@ pub(crate) fn push_visits(
 
 // Another hop comes after it.
 fn goes_on(net: &Network, v: Visit) -> bool
-    ensures { result ≡ seen.goes_on net.now v }
+    ensures { result ≡ visiting.goes_on net.now v }
 {
     (v.hop as u64) + 1 < hops(net, v.flow) as u64
 }
@@ -63,7 +63,7 @@ fn push_going_on(
     kind: Kind,
     here: &[Visit],
 ) -> Result<(), AllocError>
-    ensures { OnOk result (cells.new.items ≡ cells.old.items ++ map (at_visit kind) (seen.going_on net.now here.now)) }
+    ensures { OnOk result (cells.new.items ≡ cells.old.items ++ map (at_visit kind) (visiting.going_on net.now here.now)) }
 {
     for v in here {
         if goes_on(net, *v) {
@@ -98,7 +98,7 @@ fn push_kind(
     server: u32,
     here: &[Visit],
 ) -> Result<(), AllocError>
-    requires { here.now ≡ seen.visits net.now server }
+    requires { here.now ≡ visiting.visits net.now server }
     ensures { OnOk result (cells.new.items ≡ cells.old.items ++ kind_cells net.now server kind) }
 {
     match kind.scope() {

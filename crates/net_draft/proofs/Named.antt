@@ -30,7 +30,7 @@ all_other (x ∷ xs) name h =
     All-cons (λ y. y ≢ name) x xs (other x name (no_left (bytes_eq name x) (list_any (bytes_eq name) xs) h))
     (all_other xs name (no_right (bytes_eq name x) (list_any (bytes_eq name) xs) h))
 
--- what holds of each seen part holds of each whole
+-- what holds of each viewed part holds of each whole
 pub All-unmap : {X Y : Type 0} (P : Y → Type 0) (f : X → Y) (xs : List X) → All P (map f xs) → All (λ x. P (f x)) xs
 All-unmap P f [] h = All-nil (λ x. P (f x))
 All-unmap P f (x ∷ xs) h = All-cons (λ y. P (f y)) x xs (All-head P (f x) (map f xs) h) (All-unmap P f xs (All-tail P (f x) (map f xs) h))

@@ -20,9 +20,9 @@ abbrev pub ◌>>=◌ : {A B E : Type 0} → Result A E → (A → Result B E) �
 (Err e) >>= f = Err e
 
 -- the value as view sees it
-abbrev pub seen : {X Y E : Type 0} → (X → Y) → Result X E → Result Y E
-seen view (Ok x) = Ok (view x)
-seen view (Err e) = Err e
+abbrev pub viewed : {X Y E : Type 0} → (X → Y) → Result X E → Result Y E
+viewed view (Ok x) = Ok (view x)
+viewed view (Err e) = Err e
 
 -- ---- places
 -- of a key of the table at a place: `server[0].service`; at the root the key alone
@@ -52,7 +52,7 @@ abbrev pub Fails : {Y : Type 0} → DraftFault → Read Y → Type 0
 Fails answers.NoMemory read = Unit {0}
 Fails (answers.Fault f) read = read ≡ Err (fault_of f)
 
--- what a call returned, seen by view, is what reading gives, unless memory ran out
+-- what a call returned, viewed by view, is what reading gives, unless memory ran out
 abbrev pub Gives : {X Y : Type 0} → (X → Y) → Result X DraftFault → Read Y → Type 0
 Gives view (Ok x) read = read ≡ Ok (view x)
 Gives view (Err e) read = Fails e read

@@ -4,7 +4,7 @@ ghost use Rattle.std.specs.Prelude.{◌≡◌, ◌≢◌, ◌-◌, ◌^◌, ◌<
 ghost use Rattle.std.specs.Prelude.{IfOk, All, AllPairs, Some, slice_get, nat_eq};
 ghost use Rattle.std.specs.List.{list_any};
 ghost use Rattle.toml.specs.View.{view, table_view};
-ghost use Rattle.net_draft.specs.Faults.{Gives, seen};
+ghost use Rattle.net_draft.specs.Faults.{Gives, viewed};
 ghost use Rattle.net_draft.specs.Hops.{hop_parts, hop_text, hop_in, named_from};
 ghost use Rattle.net_draft.specs.HopViews.{hop_view};
 ghost use Rattle.net_draft.specs.ListViews.{list_texts};
@@ -44,7 +44,7 @@ fn queue_number(n: u128) -> u32
 }
 
 fn hop_of_parts<'a>(name: &'a str, digits: &[u8]) -> Result<WrittenHop<'a>, NetKind>
-    ensures { seen hop_view result ≡ hop_parts name.now digits.now }
+    ensures { viewed hop_view result ≡ hop_parts name.now digits.now }
 {
     if !is_name(name) {
         return Err(NetKind::M5);
@@ -59,7 +59,7 @@ fn hop_of_parts<'a>(name: &'a str, digits: &[u8]) -> Result<WrittenHop<'a>, NetK
 }
 
 fn written_hop(text: &str) -> Result<WrittenHop<'_>, NetKind>
-    ensures { seen hop_view result ≡ hop_text text.now }
+    ensures { viewed hop_view result ≡ hop_text text.now }
 {
     let bytes = text.as_bytes();
     match find_colon(bytes) {
@@ -73,7 +73,7 @@ fn server_named<'a>(
     servers: &'a ServerList,
     name: &str,
 ) -> Result<(usize, &'a ServerDraft), NetKind>
-    ensures value { seen (λ f. (f.0, server_text f.1.now)) result ≡ named_from 0 name.now (list_texts servers.now) }
+    ensures value { viewed (λ f. (f.0, server_text f.1.now)) result ≡ named_from 0 name.now (list_texts servers.now) }
     ensures within { IfOk result (λ f. f.0 < 64) }
     ensures stands { IfOk result (λ f. slice_get (list_texts servers.now) f.0 ≡ Some (server_text f.1.now)) }
 {

@@ -6,7 +6,7 @@ ghost use Rattle.std.specs.Str.{bytes_eq};
 ghost use Rattle.toml.specs.View.{view, table_view};
 ghost use Rattle.net_model.specs.Names.{IsName};
 ghost use Rattle.net_draft.specs.declared.fault.DraftFault.TheVariants.{NoMemory};
-ghost use Rattle.net_draft.specs.Faults.{Gives, seen};
+ghost use Rattle.net_draft.specs.Faults.{Gives, viewed};
 ghost use Rattle.net_draft.specs.Values.{name_in, at_key, required, new_name};
 ghost use Rattle.net_draft.specs.NameTexts.{texts};
 
@@ -20,7 +20,7 @@ use std::alloc::Global;
 use toml::{Table, Value};
 
 fn name_in(value: &Value) -> Result<&str, NetKind>
-    ensures value { seen (λ s. s.now) result ≡ name_in (view value.now) }
+    ensures value { viewed (λ s. s.now) result ≡ name_in (view value.now) }
     ensures range { IfOk result (λ s. IsName s.now) }
 {
     let text = text_in(value)?;

@@ -3,7 +3,7 @@
 ghost use Rattle.std.specs.Prelude.{◌≡◌, ◌<◌, ◌≤◌, length, map, IfOk, pos};
 ghost use Rattle.rational.specs.Rational.{int, ◌≤ℚ◌, ◌<ℚ◌};
 ghost use Rattle.toml.specs.View.{view, table_view};
-ghost use Rattle.net_draft.specs.Faults.{seen};
+ghost use Rattle.net_draft.specs.Faults.{viewed};
 ghost use Rattle.net_draft.specs.Values.{text_in, truth_in, table_in, entries_in, number_in, positive_in};
 ghost use Rattle.net_draft.specs.Values.{nonnegative_in, whole_in, list_in};
 
@@ -13,7 +13,7 @@ use std::cmp::Ordering;
 use toml::{Table, Value};
 
 pub(crate) fn text_in(value: &Value) -> Result<&str, NetKind>
-    ensures { seen (λ s. s.now) result ≡ text_in (view value.now) }
+    ensures { viewed (λ s. s.now) result ≡ text_in (view value.now) }
 {
     match value.as_str() {
         Some(text) => Ok(text),
@@ -31,7 +31,7 @@ pub(crate) fn truth_in(value: &Value) -> Result<bool, NetKind>
 }
 
 pub(crate) fn table_in(value: &Value) -> Result<&Table, NetKind>
-    ensures { seen (λ t. table_view t.now) result ≡ table_in (view value.now) }
+    ensures { viewed (λ t. table_view t.now) result ≡ table_in (view value.now) }
 {
     match value.as_table() {
         Some(table) => Ok(table),
@@ -40,7 +40,7 @@ pub(crate) fn table_in(value: &Value) -> Result<&Table, NetKind>
 }
 
 fn entries_in(value: &Value) -> Result<&[Value], NetKind>
-    ensures { seen (λ vs. map view vs.now) result ≡ entries_in (view value.now) }
+    ensures { viewed (λ vs. map view vs.now) result ≡ entries_in (view value.now) }
 {
     match value.as_array() {
         Some(array) => Ok(array.as_slice()),
@@ -50,7 +50,7 @@ fn entries_in(value: &Value) -> Result<&[Value], NetKind>
 
 /// An array of so many entries.
 pub(crate) fn list_in(value: &Value, least: usize, most: usize) -> Result<&[Value], NetKind>
-    ensures value { seen (λ vs. map view vs.now) result ≡ list_in least most (view value.now) }
+    ensures value { viewed (λ vs. map view vs.now) result ≡ list_in least most (view value.now) }
     ensures range { IfOk result (λ vs. (least ≤ length vs.now) × (length vs.now ≤ most)) }
 {
     let entries = entries_in(value)?;

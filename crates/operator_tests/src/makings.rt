@@ -3,7 +3,7 @@
 ghost use Rattle.curve_call.specs.Again.{IsAgain, again_determined};
 
 use affine_segment::{Line, Piece};
-use curve_call::{Making, calls_in_turn, seen};
+use curve_call::{Making, calls_in_turn, intact};
 use fraction128::Frac;
 use rational::Extended;
 use std::alloc::Global;
@@ -56,7 +56,7 @@ fn straight(alloc: Global) -> Result<Curve, OpFault> {
 fn a_copy_is_the_curve(rt: HostRuntime) -> Result<(), Fail> {
     let c = straight(rt.alloc())?;
     let again = Again {};
-    let d = seen(again.call(&c))?;
+    let d = intact(again.call(&c))?;
     calls_in_turn::<Again, Again>();
     assert!(rt; equal(&c, &d));
     Ok(())

@@ -8,7 +8,7 @@ ghost use Rattle.min_plus.specs.Functions.{zero_q, IsFinite};
 ghost use Rattle.min_plus.specs.Pointwise.{IsPositiveMinus};
 ghost use Rattle.curve_call.specs.Calls.{AppliesTo};
 
-use curve_call::seen;
+use curve_call::intact;
 use curve_pointwise::pos_minus;
 use fraction128::Frac;
 use std::alloc::Global;
@@ -31,5 +31,5 @@ pub fn packetised<L: Ledger>(
     ensures value { IfOk result (λ c. (t : ℚ) → zero_q ≤ℚ t → IsPositiveMinus (value_at beta.now) l t (value_at c t)) }
     ensures count { steps.new ≡ steps.old + 1 }
 {
-    seen(pos_minus(alloc, beta, l, steps))
+    intact(pos_minus(alloc, beta, l, steps))
 }

@@ -7,7 +7,7 @@ ghost use Rattle.residual_laws.specs.PriorityCalls.{LeavesPriority, MakesPriorit
 ghost use Rattle.residual_laws.specs.PriorityLaws.{IsPriorityService};
 ghost use Rattle.priority_residual.specs.Memory.{WantsAtSecond, WantsMemory};
 
-use curve_call::seen;
+use curve_call::intact;
 use curve_pointwise::{pos_diff, pos_minus};
 use curve_running::run_sup;
 use run_laws::whole;
@@ -32,8 +32,8 @@ fn priority_left<L: Ledger>(
     ensures most { steps.new ≤ steps.old + 2 }
     ensures all { IfOk result (λ _. steps.new ≡ steps.old + 2) }
 {
-    let above = seen(pos_diff(alloc, beta, higher, steps))?;
-    seen(pos_minus(alloc, &above, whole(lower), steps))
+    let above = intact(pos_diff(alloc, beta, higher, steps))?;
+    intact(pos_minus(alloc, &above, whole(lower), steps))
 }
 
 /// The service of one queue of a priority server whose curve is `beta`: the running supremum of what beta has above
@@ -57,5 +57,5 @@ pub fn priority_service<L: Ledger>(
     ensures all { IfOk result (λ _. steps.new ≡ steps.old + 3) }
 {
     let left = priority_left(alloc, beta, higher, lower, steps)?;
-    seen(run_sup(alloc, &left, steps))
+    intact(run_sup(alloc, &left, steps))
 }

@@ -2,7 +2,7 @@
 
 ghost use Rattle.std.specs.Prelude.{◌≡◌, ℕ, length, max};
 ghost use Rattle.net_cells.specs.Numbered as at;
-ghost use Rattle.net_cells.specs.Visits as seen;
+ghost use Rattle.net_cells.specs.Visits as visiting;
 ghost use Rattle.queue_hops.specs.Chosen.{flow_visits, visit_list, picked, chosen, all_picked};
 ghost use Rattle.queue_hops.specs.Chosen as spec;
 
@@ -63,7 +63,7 @@ pub fn hop_at(net: &Network, flow: u32, server: u32) -> Option<u32>
 }
 
 fn picks(net: &Network, pick: Pick, flow: u32, hop: u32) -> bool
-    ensures { result ≡ spec.picks net.now pick (seen.visit flow hop) }
+    ensures { result ≡ spec.picks net.now pick (visiting.visit flow hop) }
 {
     match pick {
         Pick::InQueue(queue) => queue_of_hop(net, flow, hop) == queue,
@@ -91,7 +91,7 @@ pub fn picked_at(net: &Network, flow: u32, server: u32, pick: Pick) -> Option<u3
 }
 
 fn is_other(except: Option<u32>, flow: u32) -> bool
-    ensures { (k : ℕ) → result ≡ spec.is_other except (seen.visit flow k) }
+    ensures { (k : ℕ) → result ≡ spec.is_other except (visiting.visit flow k) }
 {
     match except {
         Some(own) => flow != own,
@@ -123,7 +123,7 @@ pub fn chosen_at(
 
 // The longest packet so far, with that of a flow where it is meant.
 fn longer(net: &Network, server: u32, pick: Pick, flow: u32, most: u32) -> u32
-    ensures { result ≡ max most (seen.longest_of net.now (picked net.now server pick flow)) }
+    ensures { result ≡ max most (visiting.longest_of net.now (picked net.now server pick flow)) }
 {
     match picked_at(net, flow, server, pick) {
         Some(_) => most.max(packet(net, flow)),
@@ -133,7 +133,7 @@ fn longer(net: &Network, server: u32, pick: Pick, flow: u32, most: u32) -> u32
 
 /// The bits of the longest packet of the flows whose hops are meant.
 pub fn longest_at(net: &Network, server: u32, pick: Pick) -> u32
-    ensures { result ≡ seen.longest_of net.now (all_picked net.now server pick (length net.now.flows)) }
+    ensures { result ≡ visiting.longest_of net.now (all_picked net.now server pick (length net.now.flows)) }
 {
     let count = net.flows().len() as u32;
     let mut most = 0;

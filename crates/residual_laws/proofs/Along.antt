@@ -19,7 +19,7 @@ use Rattle.run_laws.proofs.Orders.{AllSmall}
 use Rattle.run_laws.proofs.Places.{under_bits}
 use Rattle.run_laws.specs.Rounds.{presence, same_queue, count_of, IsRound}
 use Rattle.run_laws.proofs.Rounds.{has_left, round_next, is_started, own_count, other_count, set_other, head_without, first_counts}
-use Rattle.residual_laws.proofs.Turns.{IsTurn, started_of, turn_arrives, turn_works, turn_left, turn_visits}
+use Rattle.residual_laws.proofs.Turns.{HasHadTurns, started_of, turn_arrives, turn_works, turn_left, turn_visits}
 
 -- ---- what the steps do to the deficits
 arrived_deficits : (x : Option Card) (q : ℕ) (r : Round) → (arrived_round x q r).deficits ≡ r.deficits
@@ -122,7 +122,7 @@ own_visited quanta i q x r m g l h =
 pub record IsAlong (quanta : List ℕ) (l : ℕ → ℕ) (i j : ℕ) (σ : ServerState) (m n G g : ℕ) : Type 0 where
   pub sound : IsSound σ
   pub round : IsRound (λ q. get_or quanta q 0) l σ.inside σ.under σ.round
-  pub turn : IsTurn (λ q. get_or quanta q 0) l i j σ.inside σ.round m n G
+  pub turn : HasHadTurns (λ q. get_or quanta q 0) l i j σ.inside σ.round m n G
   pub own : m * get_or quanta i 0 ≤ g + get_or σ.round.deficits i 0
   pub long : length σ.round.deficits ≡ length quanta
 
@@ -134,13 +134,13 @@ pub record IsHere (i : ℕ) (σ : ServerState) : Type 0 where
 turn_next : (server : Server) (end : ℚ) (quanta : List ℕ) (l : ℕ → ℕ) (i j : ℕ) (σ : ServerState) (x : ServerStep) (m n G g : ℕ)
     → server.discipline ≡ Drr quanta → j ≢ i → Allows server end σ x → IsHere i σ
     → IsAlong quanta l i j σ m n G g
-    → IsTurn (λ q. get_or quanta q 0) l i j (next_inside σ.inside x) (next_visits quanta σ x) (m + visit_of i x) (n + visit_of j x) (G + start_of j σ.under x)
+    → HasHadTurns (λ q. get_or quanta q 0) l i j (next_inside σ.inside x) (next_visits quanta σ x) (m + visit_of i x) (n + visit_of j x) (G + start_of j σ.under x)
 turn_next server end quanta l i j σ (Arrives c t) m n G g e d a here h =
     let k = turn_arrives (λ q. get_or quanta q 0) l i j σ.inside σ.under σ.round m n G c here.first (head_of c.queue σ.inside) d refl here.is h.round h.turn in
     plain (λ q. get_or quanta q 0) l i j (σ.inside ++ c ∷ []) (arrived_round (head_of c.queue σ.inside) c.queue σ.round) m n G k
   where
-    plain : (Q l : ℕ → ℕ) (i j : ℕ) (cards : List Card) (r : Round) (m n G : ℕ) → IsTurn Q l i j cards r m n G
-        → IsTurn Q l i j cards r (m + 0) (n + 0) (G + 0)
+    plain : (Q l : ℕ → ℕ) (i j : ℕ) (cards : List Card) (r : Round) (m n G : ℕ) → HasHadTurns Q l i j cards r m n G
+        → HasHadTurns Q l i j cards r (m + 0) (n + 0) (G + 0)
     plain Q l i j cards r m n G k = rw (add_zero m, add_zero n, add_zero G) k
       where
         add_zero : (a : ℕ) → a + 0 ≡ a
@@ -150,8 +150,8 @@ turn_next server end quanta l i j σ (Works c b f w) m n G g e d a here h =
     let t = turn_works (λ q. get_or quanta q 0) l quanta i j σ.inside σ.under σ.round m n G c k h.turn in
     plain (λ q. get_or quanta q 0) l i j σ.inside (worked_round σ.under c σ.round) m n (G + started_of j σ.under c) t
   where
-    plain : (Q l : ℕ → ℕ) (i j : ℕ) (cards : List Card) (r : Round) (m n G : ℕ) → IsTurn Q l i j cards r m n G
-        → IsTurn Q l i j cards r (m + 0) (n + 0) G
+    plain : (Q l : ℕ → ℕ) (i j : ℕ) (cards : List Card) (r : Round) (m n G : ℕ) → HasHadTurns Q l i j cards r m n G
+        → HasHadTurns Q l i j cards r (m + 0) (n + 0) G
     plain Q l i j cards r m n G k = rw (add_zero m, add_zero n) k
       where
         add_zero : (a : ℕ) → a + 0 ≡ a
@@ -163,8 +163,8 @@ turn_next server end quanta l i j σ (Leaves c t) m n G g e d a here h =
     (λ f. head_without j c.queue σ.inside f) left.visited left.is_first (h.round.lists i ∙ ap presence here.is) (λ f. subst (λ (q : ℕ). count_of q σ.round.active ≡ 1) f left.once) h.turn in
     plain (λ q. get_or quanta q 0) l i j (without_head c.queue σ.inside) (left_round (head_of c.queue (without_head c.queue σ.inside)) c.queue σ.round) m n G k
   where
-    plain : (Q l : ℕ → ℕ) (i j : ℕ) (cards : List Card) (r : Round) (m n G : ℕ) → IsTurn Q l i j cards r m n G
-        → IsTurn Q l i j cards r (m + 0) (n + 0) (G + 0)
+    plain : (Q l : ℕ → ℕ) (i j : ℕ) (cards : List Card) (r : Round) (m n G : ℕ) → HasHadTurns Q l i j cards r m n G
+        → HasHadTurns Q l i j cards r (m + 0) (n + 0) (G + 0)
     plain Q l i j cards r m n G k = rw (add_zero m, add_zero n, add_zero G) k
       where
         add_zero : (a : ℕ) → a + 0 ≡ a
@@ -174,7 +174,7 @@ turn_next server end quanta l i j σ (Visits q t) m n G g e d a here h =
     by_head (head_of q σ.inside) refl v
   where
     by_head : (x : Option Card) → head_of q σ.inside ≡ x → IsVisit σ q
-        → IsTurn (λ q. get_or quanta q 0) l i j σ.inside (visited_round (get_or quanta q 0) x q σ.round) (m + same_queue q i) (n + same_queue q j) (G + 0)
+        → HasHadTurns (λ q. get_or quanta q 0) l i j σ.inside (visited_round (get_or quanta q 0) x q σ.round) (m + same_queue q i) (n + same_queue q j) (G + 0)
     by_head None f v =
         let k = h.round.lists q in
         let o = first_counts q σ.round.active v.is_first in
@@ -225,8 +225,8 @@ along server end quanta l i j σ (x ∷ R) m n G g e d r a here small h =
     let here_next = here (x ∷ []) R refl in
     let round_now : IsRound (λ q. get_or quanta q 0) l σ2.inside σ2.under σ2.round = subst (λ (y : Discipline). IsRound (λ q. get_or quanta q 0) l (next_inside σ.inside x) (next_under σ.under x) (next_round y σ x)) (sym e)
     (round_next server end quanta l σ x e a.0 h.sound (small (x ∷ []) R refl) (small [] (x ∷ R) refl) h.round) in
-    let turn_now : IsTurn (λ q. get_or quanta q 0) l i j σ2.inside σ2.round (m + visit_of i x) (n + visit_of j x) (G + start_of j σ.under x) =
-    subst (λ (y : Discipline). IsTurn (λ q. get_or quanta q 0) l i j (next_inside σ.inside x) (next_round y σ x) (m + visit_of i x) (n + visit_of j x) (G + start_of j σ.under x)) (sym e)
+    let turn_now : HasHadTurns (λ q. get_or quanta q 0) l i j σ2.inside σ2.round (m + visit_of i x) (n + visit_of j x) (G + start_of j σ.under x) =
+    subst (λ (y : Discipline). HasHadTurns (λ q. get_or quanta q 0) l i j (next_inside σ.inside x) (next_round y σ x) (m + visit_of i x) (n + visit_of j x) (G + start_of j σ.under x)) (sym e)
     (turn_next server end quanta l i j σ x m n G g e d a.0 here_now h) in
     let own_now : (m + visit_of i x) * get_or quanta i 0 ≤ g + start_of i σ.under x + get_or σ2.round.deficits i 0 =
     subst (λ (y : Discipline). (m + visit_of i x) * get_or quanta i 0 ≤ g + start_of i σ.under x + get_or (next_round y σ x).deficits i 0) (sym e)

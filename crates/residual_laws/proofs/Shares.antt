@@ -27,7 +27,7 @@ use Rattle.run_laws.proofs.Waiting.{allowed-append, all_upto}
 use Rattle.run_laws.proofs.Places.{somebody, inside_some, under_bits, done_under}
 use Rattle.run_laws.specs.Rounds.{UnderIsVisited, IsRound, same_queue, under_size}
 use Rattle.run_laws.proofs.Rounds.{round_next, own_count, other_count}
-use Rattle.residual_laws.proofs.Turns.{IsTurn}
+use Rattle.residual_laws.proofs.Turns.{HasHadTurns}
 use Rattle.residual_laws.proofs.Along.{long_next, IsAlong, IsHere, along, visits_of, starts_of, moved}
 
 -- ---- the steps from s to t, without those at s and t
@@ -164,7 +164,7 @@ round_after server end quanta l σ (x ∷ P) W e a s sizes small h =
 record Begin (Q l : ℕ → ℕ) (i j : ℕ) (σ : ServerState) : Type 0 where
   n : ℕ
   G : ℕ
-  turn : IsTurn Q l i j σ.inside σ.round 0 n G
+  turn : HasHadTurns Q l i j σ.inside σ.round 0 n G
   bits : whole G ≡ under_bits (of_queue j) σ.under
 
 beginning : (Q l : ℕ → ℕ) (i j : ℕ) (cards : List Card) (under : Option Under) (r : Round) (busy : ℚ) (now : ℚ) → j ≢ i
@@ -269,7 +269,7 @@ own_share Q l i cards under r m g (Some k) gained e h own some on = elim (cases_
         rw z (with8 (whole (m * Q i)) (whole (under_size under)) (whole (m * Q i + under_size under)) (whole (g + l i)) (whole g) (whole (l i)) gained (under_bits (of_queue i) under) (λ c. omega (arith, c.le, c.lt, c.same)))
 
 few_turns : (Q l : ℕ → ℕ) (i j : ℕ) (cards : List Card) (r : Round) (m n G : ℕ) (v : Option ℕ) → r.visited ≡ v
-    → IsTurn Q l i j cards r m n G → n ≤ over_of i v m + 1
+    → HasHadTurns Q l i j cards r m n G → n ≤ over_of i v m + 1
 few_turns Q l i j cards r m n G None e t = t.most
 few_turns Q l i j cards r m n G (Some k) e t = elim (cases_eq k i) [
   | inr f ↦ let o = other_count k i f in let most = t.most in omega arith

@@ -69,14 +69,14 @@ ahead_first i j (m ∷ ks) h n = rw (h, ne_eqb j i n, eq-eqb j j refl) refl
 abbrev pub IsLate : ℕ → ℕ → List Card → Round → Type 0
 IsLate i j cards r = (r.visited ≡ Some j) ⊎ ((head_of j cards ≡ None) ⊎ (ahead i j r.active ≡ true))
 
-pub record IsTurn (Q l : ℕ → ℕ) (i j : ℕ) (cards : List Card) (r : Round) (m n G : ℕ) : Type 0 where
+pub record HasHadTurns (Q l : ℕ → ℕ) (i j : ℕ) (cards : List Card) (r : Round) (m n G : ℕ) : Type 0 where
   pub most : n ≤ m + 1
   pub in_own : r.visited ≡ Some i → n ≤ m
   pub late : n ≡ m + 1 → IsLate i j cards r
   pub bits : G + get_or r.deficits j 0 ≤ l j + n * Q j
 
-pub turn_arrives : (Q l : ℕ → ℕ) (i j : ℕ) (cards : List Card) (under : Option Under) (r : Round) (m n G : ℕ) (c e : Card) (x : Option Card) → j ≢ i → head_of c.queue cards ≡ x → head_of i cards ≡ Some e → IsRound Q l cards under r → IsTurn Q l i j cards r m n G
-    → IsTurn Q l i j (cards ++ c ∷ []) (arrived_round x c.queue r) m n G
+pub turn_arrives : (Q l : ℕ → ℕ) (i j : ℕ) (cards : List Card) (under : Option Under) (r : Round) (m n G : ℕ) (c e : Card) (x : Option Card) → j ≢ i → head_of c.queue cards ≡ x → head_of i cards ≡ Some e → IsRound Q l cards under r → HasHadTurns Q l i j cards r m n G
+    → HasHadTurns Q l i j (cards ++ c ∷ []) (arrived_round x c.queue r) m n G
 turn_arrives Q l i j cards under r m n G c e None d f here h t = record {
   most = t.most;
   in_own = t.in_own;
@@ -123,8 +123,8 @@ started_of j None c = if c.queue == j then c.bits else 0
 started_of j (Some u) c = 0
 
 pub turn_works : (Q l : ℕ → ℕ) (quanta : List ℕ) (i j : ℕ) (cards : List Card) (under : Option Under) (r : Round) (m n G : ℕ) (c : Card)
-    → next_card under (Drr quanta) cards r ≡ Some c → IsTurn Q l i j cards r m n G
-    → IsTurn Q l i j cards (worked_round under c r) m n (G + started_of j under c)
+    → next_card under (Drr quanta) cards r ≡ Some c → HasHadTurns Q l i j cards r m n G
+    → HasHadTurns Q l i j cards (worked_round under c r) m n (G + started_of j under c)
 turn_works Q l quanta i j cards (Some u) r m n G c k t = record { most = t.most; in_own = t.in_own; late = t.late; bits = let b = t.bits in omega arith }
 turn_works Q l quanta i j cards None r m n G c k t =
     let s = is_started r r.visited cards c refl k in
@@ -161,7 +161,7 @@ late_other i j q cards rest r s d same v a h = elim h [
 pub turn_left : (Q l : ℕ → ℕ) (i j : ℕ) (cards rest : List Card) (r : Round) (m n G q : ℕ) (x : Option Card) → j ≢ i → head_of q rest ≡ x
     → (q ≢ j → head_of j rest ≡ head_of j cards) → r.visited ≡ Some q → IsFirst q r.active → count_of i r.active ≡ 1
     → (q ≡ j → count_of j r.active ≡ 1)
-    → IsTurn Q l i j cards r m n G → IsTurn Q l i j rest (left_round x q r) m n G
+    → HasHadTurns Q l i j cards r m n G → HasHadTurns Q l i j rest (left_round x q r) m n G
 turn_left Q l i j cards rest r m n G q None d e same v f here once t =
     let b = t.bits in
     record {
@@ -228,8 +228,8 @@ bits_more K L n G x y z k h e = rw e (omega arith)
 
 pub turn_visits : (Q l : ℕ → ℕ) (i j : ℕ) (cards : List Card) (under : Option Under) (r : Round) (m n G q : ℕ) (c e : Card) → j ≢ i
     → head_of q cards ≡ Some c → head_of i cards ≡ Some e → r.visited ≡ None → IsFirst q r.active → IsRound Q l cards under r
-    → IsTurn Q l i j cards r m n G
-    → IsTurn Q l i j cards (visited_round (Q q) (Some c) q r) (m + same_queue q i) (n + same_queue q j) G
+    → HasHadTurns Q l i j cards r m n G
+    → HasHadTurns Q l i j cards (visited_round (Q q) (Some c) q r) (m + same_queue q i) (n + same_queue q j) G
 turn_visits Q l i j cards under r m n G q c e d f here v first h t =
     let D = get_or r.deficits q 0 + Q q in
     let on : Round = record { active = r.active; deficits = set r.deficits q D; visited = Some q } in
@@ -296,8 +296,8 @@ turn_visits Q l i j cards under r m n G q c e d f here v first h t =
     ]
   where
     both : (c : Card) (D : ℕ)
-        → ((s : Round) → s.deficits ≡ set r.deficits q D → IsTurn Q l i j cards s (m + same_queue q i) (n + same_queue q j) G)
-        → IsTurn Q l i j cards (visit_on (fits (Some c) D) q record { active = r.active; deficits = set r.deficits q D; visited = None }) (m + same_queue q i) (n + same_queue q j) G
+        → ((s : Round) → s.deficits ≡ set r.deficits q D → HasHadTurns Q l i j cards s (m + same_queue q i) (n + same_queue q j) G)
+        → HasHadTurns Q l i j cards (visit_on (fits (Some c) D) q record { active = r.active; deficits = set r.deficits q D; visited = None }) (m + same_queue q i) (n + same_queue q j) G
     both c D f = elim (cases_Bool (nat_le c.bits D)) [
       | inl w ↦ rw w (f record { active = r.active; deficits = set r.deficits q D; visited = Some q } refl)
       | inr w ↦ rw w (f record { active = to_tail r.active; deficits = set r.deficits q D; visited = None } refl)

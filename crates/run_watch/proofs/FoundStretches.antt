@@ -25,7 +25,7 @@ use Rattle.run_watch.specs.Watching.{worked_by, stops, next_after, begins, stret
 use Rattle.run_watch.proofs.RampLists.{clip_past, clip_before, amount_late, spans_are}
 use Rattle.run_watch.proofs.ViewSpans.{arrivals_in_order}
 use Rattle.run_watch.proofs.ViewStretches.{ends_at}
-use Rattle.run_watch.specs.Held.{IsSeen}
+use Rattle.run_watch.specs.Held.{IsSightOf}
 
 -- ---- lists
 abbrev pub HasStretch : ℚ → ℚ → List Stretch → Type 0
@@ -171,7 +171,7 @@ ramp_in w ts (r ∷ rs) u e h = elim (cases_Bool (begins w r)) [
       ]
 ]
 
-pub stretch_found : (server : servers.Server) (end : ℚ) (V : List ServerStep) (w : Watched) (u e : ℚ) → IsSeen server end V w → IsStretch end V u e → HasStretch u e (stretches w)
+pub stretch_found : (server : servers.Server) (end : ℚ) (V : List ServerStep) (w : Watched) (u e : ℚ) → IsSightOf server end V w → IsStretch end V u e → HasStretch u e (stretches w)
 stretch_found server end V w u e S s =
     let b = (stretches_begin server end V u S.lawful).0 (e, s) in
     let z = int (pos 0) in
@@ -192,7 +192,7 @@ stretch_found server end V w u e S s =
     seen_amount : (t : ℚ) → amount (arrival_spans V) t ≡ arrived all V t
     seen_amount t = ap (λ (ss : List Span). amount ss t) (sym (ap spans_of S.arrivals ∙ spans_are (int (pos 0)) (arrival_spans V))) ∙ S.arrived_is t
 
-pub found_stretch : (server : servers.Server) (end : ℚ) (V : List ServerStep) (w : Watched) (u e : ℚ) → IsSeen server end V w → HasStretch u e (stretches w) → IsStretch end V u e
+pub found_stretch : (server : servers.Server) (end : ℚ) (V : List ServerStep) (w : Watched) (u e : ℚ) → IsSightOf server end V w → HasStretch u e (stretches w) → IsStretch end V u e
 found_stretch server end V w u e S h =
     let z = int (pos 0) in
     let f = ramp_in w (stops w) (ramps_after z (arrival_spans V)) u e (subst (λ (rs : List Ramp). HasStretch u e (stretches_in w (stops w) rs)) S.arrivals h) in
@@ -231,7 +231,7 @@ stretches_rise_in w ts done from (s ∷ ss) h =
     sooner x y [] l k = tt
     sooner x y (q ∷ qs) l k = (le_trans l k.0, k.1)
 
-pub stretches_rise : (server : servers.Server) (end : ℚ) (V : List ServerStep) (w : Watched) → IsSeen server end V w → StretchesRise (int (pos 0)) (stretches w)
+pub stretches_rise : (server : servers.Server) (end : ℚ) (V : List ServerStep) (w : Watched) → IsSightOf server end V w → StretchesRise (int (pos 0)) (stretches w)
 stretches_rise server end V w S =
     subst (λ (rs : List Ramp). StretchesRise (int (pos 0)) (stretches_in w (stops w) rs)) (sym S.arrivals)
     (stretches_rise_in w (stops w) (int (pos 0)) (int (pos 0)) (arrival_spans V) (arrivals_in_order server end V S.lawful))

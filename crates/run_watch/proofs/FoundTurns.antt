@@ -22,7 +22,7 @@ use Rattle.run_watch.specs.Seen.{work_spans}
 use Rattle.run_watch.specs.Watching.{stretches, change_at, changes_in, ends_of, turns}
 use Rattle.run_watch.proofs.RampLists.{spans_are}
 use Rattle.run_watch.proofs.SeenLists.{pace_before_is, pace_after_is}
-use Rattle.run_watch.specs.Held.{IsSeen}
+use Rattle.run_watch.specs.Held.{IsSightOf}
 use Rattle.run_watch.proofs.FoundStretches.{HasStretch, stretch_found, found_stretch}
 
 -- ---- the test
@@ -131,14 +131,14 @@ record Works (V : List ServerStep) (w : Watched) (t : ℚ) : Type 0 where
   before : pace_before V t ≡ rate_before (spans_of w.works.items) t
   after : pace_after V t ≡ rate_after (spans_of w.works.items) t
 
-works_at : (server : servers.Server) (end : ℚ) (V : List ServerStep) (w : Watched) (t : ℚ) → IsSeen server end V w → Works V w t
+works_at : (server : servers.Server) (end : ℚ) (V : List ServerStep) (w : Watched) (t : ℚ) → IsSightOf server end V w → Works V w t
 works_at server end V w t S =
     let same : work_spans V ≡ spans_of w.works.items = sym (ap spans_of S.works ∙ spans_are (int (pos 0)) (work_spans V)) in record {
       before = pace_before_is V t ∙ ap (λ (ss : List Span). rate_before ss t) same;
       after = pace_after_is V t ∙ ap (λ (ss : List Span). rate_after ss t) same;
     }
 
-pub turn_found : (server : servers.Server) (end : ℚ) (V : List ServerStep) (w : Watched) (t : ℚ) → IsSeen server end V w → IsTurn end V t → Among t (turns w (stretches w))
+pub turn_found : (server : servers.Server) (end : ℚ) (V : List ServerStep) (w : Watched) (t : ℚ) → IsSightOf server end V w → IsTurn end V t → Among t (turns w (stretches w))
 turn_found server end V w t S turn = elim turn [
   | inl b ↦ let (e, s) = b in among_left t (ends_of (stretches w)) (changes_in w w.works.items) (ends_with_start t e (stretches w) (stretch_found server end V w t e S s))
   | inr d ↦ elim d [
@@ -153,7 +153,7 @@ turn_found server end V w t S turn = elim turn [
   ]
 ]
 
-pub found_turn : (server : servers.Server) (end : ℚ) (V : List ServerStep) (w : Watched) (t : ℚ) → IsSeen server end V w → Among t (turns w (stretches w)) → IsTurn end V t
+pub found_turn : (server : servers.Server) (end : ℚ) (V : List ServerStep) (w : Watched) (t : ℚ) → IsSightOf server end V w → Among t (turns w (stretches w)) → IsTurn end V t
 found_turn server end V w t S h = elim (among_parts t (ends_of (stretches w)) (changes_in w w.works.items) h) [
   | inl k ↦ elim (end_is t (stretches w) k) [
     | inl f ↦ inl (f.0, found_stretch server end V w t f.0 S f.1)

@@ -27,7 +27,7 @@ use Rattle.run_watch.specs.Ramps.{EachRamp}
 use Rattle.run_watch.specs.Watching.{ReadsAt, stops, TimesRise, next_after, begins, stretches_in, stretches, change_at, changes_in, ends_of, turns}
 use Rattle.run_watch.specs.WatchTimes.{watched_from, TimesFit}
 use Rattle.run_watch.specs.IdleWindows.{SegmentsFit}
-use Rattle.run_watch.specs.Held.{IsSeen, IsHeldRamp, IsHeld}
+use Rattle.run_watch.specs.Held.{IsSightOf, IsHeldRamp, IsHeld}
 use Rattle.run_watch.proofs.ViewStretches.{stops_rise, stops_each}
 use Rattle.run_watch.proofs.FoundStretches.{HasStretch, StretchesRise, stretch_found, stretches_rise}
 use Rattle.run_watch.proofs.FoundTurns.{change_is, turn_found, found_turn}
@@ -132,7 +132,7 @@ pub gaps_fit : (w : Watched) (c : SpecCurve) (qs : List Piece) → IsHeld w c �
 gaps_fit w c qs h some f = subst (λ (xs : List Piece). SegmentsFit (segments xs)) (sym f) (segments_fit h.sizes w.end (unroll c w.end) h.limited (pieces_stand w c h some))
 
 -- ---- and what it is sure of
-pub searched : (server : Server) (V : List ServerStep) (w : Watched) (c : SpecCurve) (ps : List ℚ) → IsHeld w c → IsSeen server w.end V w → MayServe c → int (pos 0) <ℚ w.end → ps ≡ turns w (stretches w) → IsSearched server V w c ps
+pub searched : (server : Server) (V : List ServerStep) (w : Watched) (c : SpecCurve) (ps : List ℚ) → IsHeld w c → IsSightOf server w.end V w → MayServe c → int (pos 0) <ℚ w.end → ps ≡ turns w (stretches w) → IsSearched server V w c ps
 searched server V w c ps h S M some e = record {
   seen = S;
   serves = M;
@@ -145,7 +145,7 @@ searched server V w c ps h S M some e = record {
   starts = (segments_fit h.sizes w.end (unroll c w.end) h.limited (pieces_stand w c h some)).starts;
 }
 
-pub no_time : (server : Server) (V : List ServerStep) (w : Watched) (c : SpecCurve) → IsSeen server w.end V w → w.end ≤ℚ int (pos 0) → (a b : ℚ) → ¬ IsIdle w.end V c a b
+pub no_time : (server : Server) (V : List ServerStep) (w : Watched) (c : SpecCurve) → IsSightOf server w.end V w → w.end ≤ℚ int (pos 0) → (a b : ℚ) → ¬ IsIdle w.end V c a b
 no_time server V w c S l a b idle =
     let (u, g, r) = idle.stretch in
     let low = start_low u g (int (pos 0)) (stretches w) (stretches_rise server w.end V w S) (stretch_found server w.end V w u g S r.stretch) in

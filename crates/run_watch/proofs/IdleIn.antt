@@ -25,14 +25,14 @@ use Rattle.run_watch.specs.declared.watched.Stretch.{Stretch}
 use Rattle.run_watch.specs.Watching.{stretches}
 use Rattle.run_watch.specs.WatchTimes.{watched_from, point_at}
 use Rattle.run_watch.specs.IdleWindows.{IsShortWindow, NoneIsShort, IsFirstShort}
-use Rattle.run_watch.specs.Held.{IsSeen, IsFirstIdle}
+use Rattle.run_watch.specs.Held.{IsSightOf, IsFirstIdle}
 use Rattle.run_watch.proofs.SortedPoints.{ordered}
 use Rattle.run_watch.proofs.FoundStretches.{HasStretch, StretchesRise, stretch_found, found_stretch, stretches_rise}
 use Rattle.run_watch.proofs.FoundTimes.{AreTurns, IsWithin, watched_found, found_watched}
 
 -- what is known while the stretches are gone through
 pub record IsSearched (server : Server) (V : List ServerStep) (w : Watched) (c : SpecCurve) (ps : List ℚ) : Type 0 where
-  pub seen : IsSeen server w.end V w
+  pub seen : IsSightOf server w.end V w
   pub serves : MayServe c
   pub some : int (pos 0) <ℚ w.end
   pub turns_are : AreTurns w.end V ps
@@ -42,7 +42,7 @@ pub within : (server : Server) (V : List ServerStep) (w : Watched) (c : SpecCurv
 within server V w c ps s S h low = record { first = inl (s.end, h); last = inr (inl (s.start, h)); low = low; forward = h.forward; high = h.in_run }
 
 -- ---- one stretch
-pub less_seen : (server : Server) (V : List ServerStep) (w : Watched) (x : Ext) (a b : ℚ) → IsSeen server w.end V w
+pub less_seen : (server : Server) (V : List ServerStep) (w : Watched) (x : Ext) (a b : ℚ) → IsSightOf server w.end V w
     → ((Fin (point_at w.works.items b).work <ₑ (Fin (point_at w.works.items a).work +ₑ x)) → Fin (worked all V b) <ₑ (Fin (worked all V a) +ₑ x))
     × ((Fin (worked all V b) <ₑ (Fin (worked all V a) +ₑ x)) → Fin (point_at w.works.items b).work <ₑ (Fin (point_at w.works.items a).work +ₑ x))
 less_seen server V w x a b S = (
@@ -148,7 +148,7 @@ pub record IsPlaced (V : List ServerStep) (w : Watched) (s : Stretch) : Type 0 w
   pub is : IsStretch w.end V s.start s.end
   pub low : int (pos 0) ≤ℚ s.start
 
-pub placed : (server : Server) (V : List ServerStep) (w : Watched) (ss : List Stretch) (k : ℕ) (s : Stretch) → IsSeen server w.end V w → ss ≡ stretches w → k < length ss → s ≡ slice_index_or ss k s → IsPlaced V w s
+pub placed : (server : Server) (V : List ServerStep) (w : Watched) (ss : List Stretch) (k : ℕ) (s : Stretch) → IsSightOf server w.end V w → ss ≡ stretches w → k < length ss → s ≡ slice_index_or ss k s → IsPlaced V w s
 placed server V w ss k s S same l e =
     let has = subst (HasStretch s.start s.end) same (has_at ss k s l e) in
     record { is = found_stretch server w.end V w s.start s.end S has; low = start_low (int (pos 0)) s.start s.end (stretches w) (stretches_rise server w.end V w S) has }
@@ -183,7 +183,7 @@ first_here server V w c ps ss k s a b S same l e none f =
           ];
     }
 
-pub none_at_all : (server : Server) (V : List ServerStep) (w : Watched) (c : SpecCurve) (ss : List Stretch) (k : ℕ) → IsSeen server w.end V w → ss ≡ stretches w → length ss ≤ k → NoneIdleIn w.end V c (take k ss)
+pub none_at_all : (server : Server) (V : List ServerStep) (w : Watched) (c : SpecCurve) (ss : List Stretch) (k : ℕ) → IsSightOf server w.end V w → ss ≡ stretches w → length ss ≤ k → NoneIdleIn w.end V c (take k ss)
     → (a b : ℚ) → ¬ IsIdle w.end V c a b
 none_at_all server V w c ss k S same l none a b idle =
     let (u, g, r) = idle.stretch in

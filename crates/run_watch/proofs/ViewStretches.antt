@@ -13,7 +13,7 @@ use Rattle.watch_laws.specs.Affine.{EachTime, Among}
 use Rattle.watch_laws.specs.Stretches.{IsStretch}
 use Rattle.watch_laws.proofs.Times.{ends_with}
 use Rattle.run_watch.specs.declared.watched.Watched.{Watched}
-use Rattle.run_watch.specs.Held.{IsSeen}
+use Rattle.run_watch.specs.Held.{IsSightOf}
 use Rattle.run_watch.specs.Watching.{arrived_by, worked_by, is_caught_up, stops_in, stops, TimesRise, next_after}
 use Rattle.run_watch.proofs.ViewSpans.{leaves_rise, leaves_in_run}
 use Rattle.run_laws.proofs.Times.{each_time_map}
@@ -86,7 +86,7 @@ each_any P f [] = tt
 each_any P f (t ∷ ts) = (f t, each_any P f ts)
 
 -- ---- where a stretch ends
-pub ends_at : (server : Server) (end : ℚ) (V : List ServerStep) (w : Watched) (u e : ℚ) → IsSeen server end V w → IsStretch end V u e → next_after u w.end (stops w) ≡ e
+pub ends_at : (server : Server) (end : ℚ) (V : List ServerStep) (w : Watched) (u e : ℚ) → IsSightOf server end V w → IsStretch end V u e → next_after u w.end (stops w) ≡ e
 ends_at server end V w u e S s =
     let leaves = S.leaves in
     let caught : (t : ℚ) → is_caught_up w t ≡ true → arrived all V t ≤ℚ worked all V t = λ t k.

@@ -22,7 +22,7 @@ use Rattle.run_watch.specs.Seen.{arrival_spans, work_spans}
 use Rattle.run_watch.specs.Watching.{TimesRise, arrived_by, worked_by}
 
 -- w is what the server sees by its steps
-pub record IsSeen (server : Server) (end : ℚ) (V : List ServerStep) (w : Watched) : Type 0 where
+pub record IsSightOf (server : Server) (end : ℚ) (V : List ServerStep) (w : Watched) : Type 0 where
   pub lawful : IsLawfulView server end V
   pub arrivals : w.arrivals.items ≡ ramps_after (int (pos 0)) (arrival_spans V)
   pub works : w.works.items ≡ ramps_after (int (pos 0)) (work_spans V)

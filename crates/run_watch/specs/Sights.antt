@@ -7,9 +7,9 @@ use Rattle.run_laws.specs.Views.{view}
 use Rattle.run_watch.specs.declared.watched.Watched.{Watched}
 use Rattle.run_watch.specs.Seen.{AreFirsts}
 use Rattle.run_watch.specs.Watching.{Sees}
-use Rattle.run_watch.specs.Held.{IsSeen}
+use Rattle.run_watch.specs.Held.{IsSightOf}
 
 abbrev pub SightsAreViews : Type 0
 SightsAreViews = (net : Routes) (run : SpecRun) (firsts : List ℕ) (s : ℕ) (w : Watched) → IsLawful net run
     → s < length net.servers → AreFirsts net firsts →
-    Sees w firsts s run.steps run.end → IsSeen (server_at net s) run.end (view net run s) w
+    Sees w firsts s run.steps run.end → IsSightOf (server_at net s) run.end (view net run s) w

@@ -8,7 +8,7 @@ ghost use Rattle.run_laws.specs.Servers as servers;
 ghost use Rattle.watch_laws.specs.Entries.{entries};
 ghost use Rattle.watch_laws.specs.Laws.{MayServe};
 ghost use Rattle.run_watch.specs.Flows.{FlowReads};
-ghost use Rattle.run_watch.specs.Held.{IsHeld, IsSeen};
+ghost use Rattle.run_watch.specs.Held.{IsHeld, IsSightOf};
 ghost use Rattle.run_watch.specs.FirstOf.{earlier, IsBest, IsLongOn, IsCrowdOn, IsIdleOn, EnterInOrder};
 
 use crate::flows::{first_crowded, first_too_long};
@@ -103,7 +103,7 @@ pub fn service_breach(
     curve: &Curve,
 ) -> Result<Option<Found>, AllocError>
     requires { IsHeld w.now curve.now }
-    ensures { (run : SpecRun) (s : servers.Server) (V : List ServerStep) → IsSeen s w.now.end V w.now
+    ensures { (run : SpecRun) (s : servers.Server) (V : List ServerStep) → IsSightOf s w.now.end V w.now
         → MayServe curve.now
         → IfOk result (IsBest (IsIdleOn w.now.end V server curve.now) run) }
 {

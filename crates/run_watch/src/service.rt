@@ -4,7 +4,7 @@ ghost use Rattle.std.specs.Prelude.{List, IfOk};
 ghost use Rattle.run_laws.specs.Cards.{ServerStep};
 ghost use Rattle.run_laws.specs.Servers as servers;
 ghost use Rattle.watch_laws.specs.Laws.{MayServe};
-ghost use Rattle.run_watch.specs.Held.{IsSeen, IsHeld, FindsIdle};
+ghost use Rattle.run_watch.specs.Held.{IsSightOf, IsHeld, FindsIdle};
 
 use crate::idle::first_in;
 use crate::watched::{Watched, stops_of, stretches_of, turns_in, turns_of};
@@ -20,7 +20,7 @@ pub fn first_idle(
     curve: &Curve,
 ) -> Result<Option<(Frac, Frac)>, AllocError>
     requires { IsHeld w.now curve.now }
-    ensures { (server : servers.Server) (V : List ServerStep) → IsSeen server w.now.end V w.now → MayServe curve.now
+    ensures { (server : servers.Server) (V : List ServerStep) → IsSightOf server w.now.end V w.now → MayServe curve.now
         → IfOk result (FindsIdle w.now.end V curve.now) }
 {
     if !is_less(Frac::zero(), w.end) {

@@ -35,7 +35,7 @@ use Rattle.subadd_closure.specs.PartLaws.{EachPart, IsPart}
 use Rattle.subadd_closure.proofs.ElementTimes.{starts_nonneg}
 use Rattle.subadd_closure.proofs.EachParts.{starts_before, parts_are_parts}
 use Rattle.subadd_closure.proofs.LeastParts.{least_below, parts_make_curve}
-use Rattle.subadd_closure.specs.Stars.{IsTurn, turn_work}
+use Rattle.subadd_closure.specs.Stars.{IsPeriodAndRise, turn_work}
 use Rattle.subadd_closure.specs.FoldWork.{copies_work}
 use Rattle.subadd_closure.specs.PartStars.{turn_of}
 use Rattle.subadd_closure.specs.SegmentLimits.{IsElementOf}
@@ -193,7 +193,7 @@ segment_reads c a b l curve k = tail_reads c.pieces c.tail a b l curve.readable 
 
 -- ---- copies
 turns_in : (ps : List Piece) (tail : Tail) (e : Element) → TailFits ps tail → TailReadable ps tail
-    → IsTurn (turn_of (copies_of tail e))
+    → IsPeriodAndRise (turn_of (copies_of tail e))
 turns_in ps (Periodic rank period rise) e fits reads = elim (le_or_lt rank (start_of e)) [
   | inl late ↦ rw (le_q_out rank (start_of e) late) (fits.some, reads.rate)
   | inr early ↦ rw (le_q_not rank (start_of e) early) tt
@@ -201,7 +201,7 @@ turns_in ps (Periodic rank period rise) e fits reads = elim (le_or_lt rank (star
 turns_in ps (Affine rank) e fits reads = tt
 turns_in ps (Infinite rank) e fits reads = tt
 
-pub part_turns : (c : SpecCurve) (e : Element) → IsCurve c → IsTurn (turn_of (copies_of c.tail e))
+pub part_turns : (c : SpecCurve) (e : Element) → IsCurve c → IsPeriodAndRise (turn_of (copies_of c.tail e))
 part_turns c e curve = turns_in c.pieces c.tail e curve.normal.raw.tail curve.readable
 
 pub turn_works : (o : Option Copies) → turn_work (turn_of o) ≡ copies_work o

@@ -11,14 +11,14 @@ use Rattle.closure_elements.specs.ElementAnswers.{IsElementClosure, ClosureAnswe
 use Rattle.closure_elements.specs.Lattices.{lattice_curve, origin_curve}
 use Rattle.closure_elements.proofs.HeavyCalls.{heavy_is_refused}
 use Rattle.closure_elements.proofs.LatticeCurves.{lattice_normal, origin_is_curve}
-use Rattle.subadd_closure.specs.Stars.{OrWants, answers, wants, Lowers, Copies, StarOf, MakesStar, IsTurn}
+use Rattle.subadd_closure.specs.Stars.{OrWants, answers, wants, Lowers, Copies, StarOf, MakesStar, IsPeriodAndRise}
 
 -- ---- what is answered
 pub no_memory : {A : Type 0} (P : Result A OpFault → Type 0) → OrWants P (Err NoMemory)
 no_memory P = wants refl
 
 -- a closure that is not answered, or is too wide
-pub refused_star : (p : Option (ℚ × ℚ)) (e : Element) (fault : OpFault) → IsTurn p → ClosureAnswer e (Err fault) → MakesStar p e (Err fault)
+pub refused_star : (p : Option (ℚ × ℚ)) (e : Element) (fault : OpFault) → IsPeriodAndRise p → ClosureAnswer e (Err fault) → MakesStar p e (Err fault)
 refused_star p e TooMany turn h = absurd h
 refused_star None e TooWide turn h =
     answers (h.0, h.1, answers (heavy_is_refused.min h.0 origin_curve h.1.normal.raw origin_is_curve.normal.raw h.2))

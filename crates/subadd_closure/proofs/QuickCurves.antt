@@ -1,4 +1,5 @@
 -- Bounds of the number of periods in the fold of a closure, over curves.
+use Rattle.curve_conv.proofs.BoundsFound.{slow_rate}
 use Rattle.std.specs.Prelude.{◌≡◌, ◌≢◌, ℕ, suc, ◌+◌, ◌≤◌, pos, Bool, true, false, not, IsTrue, ◌↔◌, cond, List, [], ◌∷◌, None}
 use Rattle.std.proofs.Common.{arith, sym, refl, ap, ap₂, ◌∙◌, subst, inl, inr, length, get_or, true≢false}
 use Rattle.rational.specs.Rational.{ℚ, ◌+ℚ◌, ◌-ℚ◌, ◌*ℚ◌, ◌/ℚ◌, ◌≤ℚ◌, ◌<ℚ◌, int, le_q}
@@ -81,13 +82,6 @@ line_run rise period t rate run some e f r h =
     f ∙ ap (λ z. z *ℚ t) (e ∙ div_unique rise period r (not_zero period some) h)
 
 -- ---- rates
-slow_rate : (f g : SpecCurve) → rate f <ₑ rate g → (r : ℚ) × (rate f ≡ Fin r)
-slow_rate f g h = elim (ext_cases (rate f)) [ inl e ↦ absurd (none (rate g) (subst (λ x. x <ₑ rate g) e h)) | inr r ↦ r ]
-  where
-    none : (y : Ext) → Inf <ₑ y → ⊥
-    none Inf k = k
-    none (Fin y) k = k
-
 -- ---- levels
 times_late : (x y d t : ℚ) → int (pos 0) ≤ℚ y → int (pos 0) <ℚ d → x +ℚ y +ℚ d ≤ℚ t → x ≤ℚ t
 times_late x y d t low some far = with4 x y d t (λ c. omega (arith, c.le, c.lt, c.same))

@@ -36,9 +36,9 @@ abbrev pub MakesStar : Option (ℚ × ℚ) → Element → Result SpecCurve OpFa
 MakesStar p e r = OrWants (λ s. (c : SpecCurve) × IsElementClosure e c × StarOf p c s) r
 
 -- the period and the rise of a periodic tail
-abbrev pub IsTurn : Option (ℚ × ℚ) → Type 0
-IsTurn None = Unit {0}
-IsTurn (Some p) = (zero_q <ℚ p.0) × IsSmall (p.1 /ℚ p.0)
+abbrev pub IsPeriodAndRise : Option (ℚ × ℚ) → Type 0
+IsPeriodAndRise None = Unit {0}
+IsPeriodAndRise (Some p) = (zero_q <ℚ p.0) × IsSmall (p.1 /ℚ p.0)
 
 -- how many calls there are on a closure
 abbrev pub turn_work : Option (ℚ × ℚ) → ℕ

@@ -22,7 +22,7 @@ use crate::part::elements;
 use crate::part_stars::element_star;
 use crate::star_convolution::convolve_stars;
 use affine_segment::Element;
-use curve_call::seen;
+use curve_call::intact;
 use fraction128::Frac;
 use rational::Extended;
 use std::alloc::Global;
@@ -54,7 +54,7 @@ fn with_star<L: Ledger>(
     ensures all { IfOk result (λ _. steps.new ≡ steps.old + (part_work (part_of f.now.tail e.now) + 1)) }
 {
     let star = element_star(alloc, f, gauge, e, steps)?;
-    seen(convolve_stars(alloc, sofar, &star, true, steps))
+    intact(convolve_stars(alloc, sofar, &star, true, steps))
 }
 
 // The stars of some elements, convolved one after another.

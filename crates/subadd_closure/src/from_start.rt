@@ -14,7 +14,7 @@ use crate::again::{slower_rise, window_of};
 use crate::parts::{repeats_start, with_first};
 use crate::star_convolution::{convolve_stars, star_frame};
 use crate::starting::with_start;
-use curve_call::{Frame, answer, seen};
+use curve_call::{Frame, answer, intact};
 use fraction128::{Frac, difference};
 use rational::Extended;
 use std::alloc::{AllocError, Global};
@@ -98,7 +98,7 @@ pub(crate) fn started_from<L: Ledger>(
     ensures count { steps.new ≡ steps.old + 1 }
     ensures answer { Then (Applies Convolve sofar.now star.now) (StartsAt start) result }
 {
-    let whole = seen(convolve_stars(alloc, sofar, star, thin, steps))?;
+    let whole = intact(convolve_stars(alloc, sofar, star, thin, steps))?;
     if begins_at(&whole, start) {
         return Ok(whole);
     }
@@ -107,7 +107,7 @@ pub(crate) fn started_from<L: Ledger>(
         Ok(c) => Ok(c),
         Err(_) => Err(OpFault::NoMemory),
     };
-    seen(started)
+    intact(started)
 }
 
 /// The convolution of two curves that are nowhere below 0, finite past 0, with the value `start` at 0 in place of its

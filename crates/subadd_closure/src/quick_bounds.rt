@@ -17,32 +17,13 @@ ghost use Rattle.subadd_closure.specs.QuickBounds.{BeginsLate, IsFloor, IsLevel}
 
 use affine_segment::Piece;
 use curve_call::{begin, rise_over};
-use curve_conv::is_slower_curve;
+use curve_conv::{is_slower_curve, periods_over, sum, value_there};
 use curve_least::{Bounds, Gap, Side, is_slower, period_or, side_gap, zero_level};
 use fraction128::{Frac, difference, is_less};
 use rational::Extended;
 use upp_curve::{Curve, Tail};
-use upp_normal::stretch_at;
 
 // ---- few numbers of a curve
-// a + b, where it fits.
-fn sum(a: Frac, b: Frac) -> Option<Frac>
-    ensures { IfSome result (λ s. s ≡ a +ℚ b) }
-{
-    Frac::add(a, b).ok()
-}
-
-// The value of a curve at a time, where it is a number.
-fn value_there(c: &Curve, t: Frac) -> Option<Frac>
-    requires { (z : Sizes) × (end : ℚ) × HasWindow z end c.now × IsTimeIn z end t }
-    ensures { IfSome result (λ v. value_at c.now t ≡ Fin v) }
-{
-    match stretch_at(c, t).at {
-        Extended::Inf => None,
-        Extended::Fin(v) => Some(v),
-    }
-}
-
 // The least number that a curve is nowhere above from `from` up to `end`; none where it is infinite somewhere.
 fn top_over(c: &Curve, from: Frac, end: Frac) -> Option<Frac>
     requires { (z : Sizes) × HasWindow z end c.now × HasWindow z end (level_curve (int (pos 0))) × IsTimeIn z end from }
@@ -179,20 +160,6 @@ fn lead(slow: &Curve, fast: &Curve, from: Frac, period: Frac, end: Frac) -> Frac
     ensures { result ≡ rise_over fast.now period -ℚ rise_over slow.now period }
 {
     difference(rise_over(fast, period), rise_over(slow, period))
-}
-
-// The least number n with the gap at most n + 1 times the lead, where it is found by one division.
-fn periods_over(gap: Frac, lead: Frac) -> Option<u128>
-    requires { int (pos 0) <ℚ lead }
-    ensures { IfSome result (λ n. gap ≤ℚ int (pos (n + 1)) *ℚ lead) }
-{
-    if !is_less(lead, gap) {
-        return Some(0);
-    }
-    match Frac::div(gap, lead) {
-        Ok(number) => Some(number.size_up().saturating_sub(1)),
-        Err(_) => None,
-    }
 }
 
 // ---- the bounds

@@ -13,12 +13,12 @@ ghost use Rattle.curve_call.specs.Calls.{Applies};
 ghost use Rattle.closure_elements.specs.Lattices.{lattice_curve};
 ghost use Rattle.affine_segment.specs.Fits.{LineFitsAt};
 ghost use Rattle.closure_elements.specs.ElementAnswers.{IsOpenPart};
-ghost use Rattle.subadd_closure.specs.Stars.{Copies, ElementWants, IsTurn, Lowers, MakesStar, StarOf, StarWants, turn_work};
+ghost use Rattle.subadd_closure.specs.Stars.{Copies, ElementWants, IsPeriodAndRise, Lowers, MakesStar, StarOf, StarWants, turn_work};
 
 use crate::star_convolution::convolve_stars;
 use affine_segment::Line;
 use closure_elements::{lattice, origin, point_closure, segment_closure};
-use curve_call::seen;
+use curve_call::intact;
 use curve_pointwise::min;
 use fraction128::{Ext, Frac};
 use std::alloc::Global;
@@ -36,7 +36,7 @@ fn lowered<L: Ledger>(alloc: Global, c: &Curve, steps: &mut Steps<L>) -> Result<
     ensures all { IfOk result (λ _. steps.new ≡ steps.old + 1) }
 {
     let zero = origin(alloc)?;
-    seen(min(alloc, c, &zero, steps))
+    intact(min(alloc, c, &zero, steps))
 }
 
 // A curve with all its copies.
@@ -46,7 +46,7 @@ fn copied<L: Ledger>(
     turn: (Frac, Frac),
     steps: &mut Steps<L>,
 ) -> Result<Curve, OpFault>
-    requires turn { IsTurn (Some turn) }
+    requires turn { IsPeriodAndRise (Some turn) }
     requires subadditive { IsSubadditive (value_at c.now) }
     ensures answer { Copies turn c.now result }
     ensures memory { result ≡ Err OpFault.NoMemory → steps.new ≡ steps.old + 1
@@ -56,7 +56,7 @@ fn copied<L: Ledger>(
     ensures all { IfOk result (λ _. steps.new ≡ steps.old + 1) }
 {
     let points = lattice(alloc, turn.0, turn.1)?;
-    seen(convolve_stars(alloc, c, &points, true, steps))
+    intact(convolve_stars(alloc, c, &points, true, steps))
 }
 
 // The star of an element, from its closure.
@@ -66,7 +66,7 @@ fn star_of<L: Ledger>(
     turn: Option<(Frac, Frac)>,
     steps: &mut Steps<L>,
 ) -> Result<Curve, OpFault>
-    requires turn { IsTurn turn }
+    requires turn { IsPeriodAndRise turn }
     requires subadditive { IsSubadditive (value_at c.now) }
     ensures answer { StarOf turn c.now result }
     ensures memory { result ≡ Err OpFault.NoMemory → StarWants turn c.now steps.old steps.new }
@@ -95,7 +95,7 @@ pub(crate) fn point_star<L: Ledger>(
 ) -> Result<Curve, OpFault>
     requires time { zero_q ≤ℚ x }
     requires value { zero_q ≤ℚ v }
-    requires turn { IsTurn turn }
+    requires turn { IsPeriodAndRise turn }
     ensures answer { MakesStar turn (Point x v) result }
     ensures memory { result ≡ Err OpFault.NoMemory → ElementWants turn (Point x v) steps.old steps.new }
     ensures rises { steps.old ≤ steps.new }
@@ -119,7 +119,7 @@ pub(crate) fn segment_star<L: Ledger>(
     requires part { IsOpenPart a b line.now m }
     requires reads { LineFitsAt a (Some line.now) }
     requires few { m + 3 ≤ 2 ^ 19 }
-    requires turn { IsTurn turn }
+    requires turn { IsPeriodAndRise turn }
     ensures answer { MakesStar turn (Open a b line.now) result }
     ensures memory { result ≡ Err OpFault.NoMemory → ElementWants turn (Open a b line.now) steps.old steps.new }
     ensures rises { steps.old ≤ steps.new }

@@ -5,7 +5,7 @@ ghost use Rattle.upp_curve.specs.Curve.{value_at};
 ghost use Rattle.min_plus.specs.Convolution.{IsSubadditive};
 ghost use Rattle.subadd_closure.specs.Tests.{TestsSubadditive, TestWants};
 
-use curve_call::seen;
+use curve_call::intact;
 use curve_conv::convolve;
 use curve_pointwise::min;
 use std::alloc::Global;
@@ -30,7 +30,7 @@ pub fn is_subadditive<L: Ledger>(
     ensures most { steps.new ≤ steps.old + 2 }
     ensures all { IfOk result (λ _. steps.new ≡ steps.old + 2) }
 {
-    let twice = seen(convolve(alloc, f, f, steps))?;
+    let twice = intact(convolve(alloc, f, f, steps))?;
     let lower = min(alloc, f, &twice, steps)?;
     Ok(equal(&lower, f))
 }

@@ -32,7 +32,7 @@ use Rattle.upp_limits.specs.Spans.{next_later, piece_read, spans}
 use Rattle.upp_limits.specs.Limits.{Sizes}
 use Rattle.upp_normal.specs.Operand.{AreLimited, OperandLineAt}
 use Rattle.upp_normal.specs.Ahead.{IsBeforeNext, GoesOn, AtNext, TimesStand, HasWindow, IsTimeIn, GridValue}
-use Rattle.upp_normal.specs.Copied.{IsTurn, NextMoves}
+use Rattle.upp_normal.specs.Copied.{TakesPeriodsOff, NextMoves}
 use Rattle.upp_limits.specs.Sized.{SpanStands}
 use Rattle.upp_normal.proofs.UnrolledValues.{line_value_later}
 use Rattle.upp_normal.proofs.AnswerRoom.{operand_line_fits, operand_line_value, stands_operand_value}
@@ -50,7 +50,7 @@ turn_at period t n = record { n = int (pos n); by = int (pos n) *ℚ period; ear
 make_turn : ℚ → ℚ → ℚ → Turn
 make_turn n by early = record { n = n; by = by; early = early }
 
-pub turn_is : (rank period t : ℚ) (turn : Turn) → IsTurn rank period t turn → turn ≡ turn_at period t (periods rank period t)
+pub turn_is : (rank period t : ℚ) (turn : Turn) → TakesPeriodsOff rank period t turn → turn ≡ turn_at period t (periods rank period t)
 unfolding make_turn
 turn_is rank period t turn h =
     let n = int (pos (periods rank period t)) in
@@ -197,7 +197,7 @@ repeated_by z end c rank period rise t p ps next curve window time e f found =
     low_piece p ps t h = subst (λ x. x ≤ℚ (piece_in p ps t).x) h.0 (found_late p ps t h.1)
 
 pub repeated_here : (z : Sizes) (end : ℚ) (c : SpecCurve) (rank period rise t : ℚ) (turn : Turn) (piece : Piece) (next : Option ℚ) → IsCurve c → HasWindow z end c → IsTimeIn z end t
-    → c.tail ≡ Periodic rank period rise → IsTurn rank period t turn → ((p : Piece) (ps : List Piece) → c.pieces ≡ p ∷ ps → piece ≡ piece_in p ps turn.early)
+    → c.tail ≡ Periodic rank period rise → TakesPeriodsOff rank period t turn → ((p : Piece) (ps : List Piece) → c.pieces ≡ p ∷ ps → piece ≡ piece_in p ps turn.early)
     → next ≡ next_in c.pieces turn.early (Some (rank +ℚ period)) → Repeated z end c rank period rise t turn piece next
 repeated_here z end c rank period rise t turn piece next curve window time e is found after =
     let same = turn_is rank period t turn is in
@@ -228,7 +228,7 @@ repeated_sizes z end c rank period rise t turn piece next at line found e past s
 )
 
 -- the time in the first period is 0 or later
-pub early_low : (c : SpecCurve) (rank period rise t : ℚ) (turn : Turn) → IsCurve c → c.tail ≡ Periodic rank period rise → int (pos 0) ≤ℚ t → IsTurn rank period t turn → int (pos 0) ≤ℚ turn.early
+pub early_low : (c : SpecCurve) (rank period rise t : ℚ) (turn : Turn) → IsCurve c → c.tail ≡ Periodic rank period rise → int (pos 0) ≤ℚ t → TakesPeriodsOff rank period t turn → int (pos 0) ≤ℚ turn.early
 early_low c rank period rise t turn curve e some is =
     let fits = some_period c rank period rise curve e in
     subst (λ w. int (pos 0) ≤ℚ w.early) (sym (turn_is rank period t turn is)) (turned rank period t fits.nonneg fits.some some).low

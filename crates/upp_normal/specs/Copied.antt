@@ -9,7 +9,7 @@ use Rattle.upp_normal.specs.declared.ahead.Turn.{Turn}
 use Rattle.upp_limits.specs.upp_curve.specs.Fitting.{MoveFits}
 
 -- as many whole periods are taken off as lie between the rank and t
-pub record IsTurn (rank period t : ℚ) (turn : Turn) : Type 0 where
+pub record TakesPeriodsOff (rank period t : ℚ) (turn : Turn) : Type 0 where
   pub count : turn.n ≡ int (pos (periods rank period t))
   pub by : turn.by ≡ turn.n *ℚ period
   pub early : turn.early ≡ t -ℚ turn.by

@@ -17,7 +17,7 @@ ghost use Rattle.upp_limits.specs.Limits.{Sizes};
 ghost use Rattle.upp_normal.specs.Operand.{OperandLineAt};
 ghost use Rattle.upp_normal.specs.Ahead.{GoesOn, AtNext, TimesStand, HasWindow, IsTimeIn, GridValue};
 ghost use Rattle.upp_limits.specs.Spans.{next_later};
-ghost use Rattle.upp_normal.specs.Copied.{LineRises, IsTurn, NextMoves};
+ghost use Rattle.upp_normal.specs.Copied.{LineRises, TakesPeriodsOff, NextMoves};
 
 use upp_limits::affine_segment::{Line, Piece, line_value, next_start, piece_at, piece_value};
 use upp_limits::fraction128::{Ext, Frac, difference, is_less, product, quotient, sum};
@@ -89,7 +89,7 @@ fn turn_of(c: &Curve, rank: Frac, period: Frac, rise: Frac, t: Frac) -> Turn
     requires curve { IsCurve c.now }
     requires tail { c.now.tail ≡ Tail.Periodic rank period rise }
     requires window { (z : Sizes) × (end : ℚ) × HasWindow z end c.now × IsTimeIn z end t }
-    ensures { IsTurn rank period t result }
+    ensures { TakesPeriodsOff rank period t result }
 {
     let past = difference(t, rank);
     let n = quotient(past, period).whole_part();

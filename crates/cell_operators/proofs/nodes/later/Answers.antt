@@ -15,8 +15,8 @@ returns-clause-answer g c =
     let f = c.deref.result.now in
     let x = c.number_at-by.result in
     let r = answer_of meaning_of c.shared.result in
-    let made = applied_seen (Shift x) f f c.shift.result c.seen-made.result c.seen-made.ensures.same c.shift.ensures.value c.shift.ensures.limits
-    c.seen-made.ensures.kept in
+    let made = applied_seen (Shift x) f f c.shift.result c.intact-made.result c.intact-made.ensures.same c.shift.ensures.value c.shift.ensures.limits
+    c.intact-made.ensures.kept in
     on_cell at c.args.from f _ r (c.curve_at.ensures ∙ ap (λ f. Some (curve f)) (sym c.deref.ensures))
     (on_number_cell at c.args.by x (λ y. MakesCurve (AppliesTo (Shift y) f)) r c.number_at-by.ensures
-    (shared_makes (AppliesTo (Shift x) f) c.seen-made.result r (applies_out (Shift x) f f) made c.shared.ensures))
+    (shared_makes (AppliesTo (Shift x) f) c.intact-made.result r (applies_out (Shift x) f f) made c.shared.ensures))

@@ -15,8 +15,8 @@ returns-clause-answer g c =
     let f = c.deref.result.now in
     let h = c.deref-2.result.now in
     let r = answer_of meaning_of c.shared.result in
-    let made = applied_seen Min f h c.min.result c.seen-made.result c.seen-made.ensures.same c.min.ensures.value c.min.ensures.limits
-    c.seen-made.ensures.kept in
+    let made = applied_seen Min f h c.min.result c.intact-made.result c.intact-made.ensures.same c.min.ensures.value c.min.ensures.limits
+    c.intact-made.ensures.kept in
     on_cell at c.args.first f _ r (c.curve_at.ensures ∙ ap (λ f. Some (curve f)) (sym c.deref.ensures))
     (on_cell at c.args.second h (λ k. MakesCurve (Applies Min f k)) r (c.curve_at-2.ensures ∙ ap (λ f. Some (curve f)) (sym c.deref-2.ensures))
-    (shared_makes (Applies Min f h) c.seen-made.result r (applies_out Min f h) made c.shared.ensures))
+    (shared_makes (Applies Min f h) c.intact-made.result r (applies_out Min f h) made c.shared.ensures))

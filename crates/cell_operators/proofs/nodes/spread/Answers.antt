@@ -22,12 +22,12 @@ returns-in-Ok-clause-answer g c =
     let f = c.deref-in-Ok.result.now in
     let k = c.in-Ok.packets in
     let less = subst (AppliesTo (PosMinus (whole c.args.bits)) c.deref.result.now) c.in-Ok.is c.in_packets.ensures.answer in
-    let made = applied_seen Deconvolve f k c.deconvolve.result c.seen-made.result c.seen-made.ensures.same c.deconvolve.ensures.value
-    c.deconvolve.ensures.limits c.seen-made.ensures.kept in
+    let made = applied_seen Deconvolve f k c.deconvolve.result c.intact-made.result c.intact-made.ensures.same c.deconvolve.ensures.value
+    c.deconvolve.ensures.limits c.intact-made.ensures.kept in
     spread_made at c.args.from c.args.service f c.deref.result.now c.args.bits k (answer_of meaning_of c.shared.result)
     (c.curve_at-from.ensures ∙ ap (λ f. Some (curve f)) (sym c.deref-in-Ok.ensures))
     (c.curve_at.ensures ∙ ap (λ f. Some (curve f)) (sym c.deref.ensures)) less
-    (shared_makes (Applies Deconvolve f k) c.seen-made.result (answer_of meaning_of c.shared.result) (applies_out Deconvolve f k) made c.shared.ensures)
+    (shared_makes (Applies Deconvolve f k) c.intact-made.result (answer_of meaning_of c.shared.result) (applies_out Deconvolve f k) made c.shared.ensures)
 
 pub returns-in-Err-clause-answer : goal.returns-in-Err-clause-answer
 returns-in-Err-clause-answer g c =

@@ -14,10 +14,10 @@ pub returns-in-Ok-clause-answer : goal.returns-in-Ok-clause-answer
 returns-in-Ok-clause-answer g c = λ at F server h.
     let f = c.args.flows.now in
     let B = c.in-Ok.link in
-    let made = applied_seen Min f B c.min.result c.seen.result c.seen.ensures.same c.min.ensures.value c.min.ensures.limits c.seen.ensures.kept in
+    let made = applied_seen Min f B c.min.result c.intact.result c.intact.ensures.same c.min.ensures.value c.min.ensures.limits c.intact.ensures.kept in
     goes_on (curve f) h
     (goes_on (curve B) (subst (IsAgain (bucket (whole c.args.bits) c.args.rate)) c.in-Ok.is c.link_bucket.ensures)
-    (made_answer (Applies Min f B) c.seen.result made))
+    (made_answer (Applies Min f B) c.intact.result made))
 
 pub returns-in-Ok-clause-counts : goal.returns-in-Ok-clause-counts
 returns-in-Ok-clause-counts g c = counts_all 1 c.args.steps.now _ _ c.min.ensures.count

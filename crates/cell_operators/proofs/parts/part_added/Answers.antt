@@ -8,5 +8,5 @@ pub returns-clause-sum : goal.returns-clause-sum
 returns-clause-sum g c =
     let f = c.args.so_far.now in
     let k = c.curve_of.result.now in
-    subst (λ h. Applies Sum f h c.seen.result) c.curve_of.ensures
-    (applied_seen Sum f k c.sum.result c.seen.result c.seen.ensures.same c.sum.ensures.value c.sum.ensures.limits c.seen.ensures.kept)
+    subst (λ h. Applies Sum f h c.intact.result) c.curve_of.ensures
+    (applied_seen Sum f k c.sum.result c.intact.result c.intact.ensures.same c.sum.ensures.value c.sum.ensures.limits c.intact.ensures.kept)

@@ -26,11 +26,11 @@ returns-in-Ok-clause-answer g c =
     let f = c.in-Ok.packets in
     let k = c.deref.result.now in
     let r = answer_of meaning_of c.shared.result in
-    let call = applied_seen Convolve f k c.convolve.result c.seen-made.result c.seen-made.ensures.same c.convolve.ensures.value c.convolve.ensures.limits
-    c.seen-made.ensures.kept in
+    let call = applied_seen Convolve f k c.convolve.result c.intact-made.result c.intact-made.ensures.same c.convolve.ensures.value c.convolve.ensures.limits
+    c.intact-made.ensures.kept in
     joined_answer at (packets_to c.args.net.now c.args.flow c.args.last) (value_of (cell_of Residual c.args.flow (c.args.last + 1))) f k r
     c.in-Ok.ensures.answer (c.curve_at-end.ensures ∙ ap (λ f. Some (curve f)) (sym c.deref.ensures))
-    (shared_makes (Applies Convolve f k) c.seen-made.result r (applies_out Convolve f k) call c.shared.ensures)
+    (shared_makes (Applies Convolve f k) c.intact-made.result r (applies_out Convolve f k) call c.shared.ensures)
 
 pub returns-in-Err-clause-answer : goal.returns-in-Err-clause-answer
 returns-in-Err-clause-answer g c =

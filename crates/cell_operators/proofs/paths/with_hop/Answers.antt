@@ -26,11 +26,11 @@ returns-in-Ok-clause-answer g c = λ F p.
     let n = c.in-Ok.next in
     let is = c.curve_at.ensures ∙ ap (λ f. Some (curve f)) (sym c.deref.ensures) in
     let one = subst (AppliesTo (PosMinus (whole c.args.bits)) c.deref.result.now) c.in-Ok.is c.in_packets.ensures.answer in
-    let call = applied_seen Convolve f n c.convolve.result c.seen.result c.seen.ensures.same c.convolve.ensures.value c.convolve.ensures.limits
-    c.seen.ensures.kept in
-    joined_answer at F (less (value_of c.args.cell) c.args.bits) f n (answer_of curve c.seen.result) p
+    let call = applied_seen Convolve f n c.convolve.result c.intact.result c.intact.ensures.same c.convolve.ensures.value c.convolve.ensures.limits
+    c.intact.ensures.kept in
+    joined_answer at F (less (value_of c.args.cell) c.args.bits) f n (answer_of curve c.intact.result) p
     (less_answer at c.args.cell c.deref.result.now c.args.bits (Ok n) is one)
-    (made_answer (Applies Convolve f n) c.seen.result call)
+    (made_answer (Applies Convolve f n) c.intact.result call)
 
 pub returns-in-Err-clause-answer : goal.returns-in-Err-clause-answer
 returns-in-Err-clause-answer g c = λ F p.

@@ -12,7 +12,7 @@ returns-in-Ok-clause-sum g c = λ cells h.
     let at = g.T.Table.at c.args.table.now in
     let f = c.args.so_far.now in
     let k = c.deref.result.now in
-    let call = applied_seen Sum f k c.sum.result c.seen.result c.seen.ensures.same c.sum.ensures.value c.sum.ensures.limits c.seen.ensures.kept in
+    let call = applied_seen Sum f k c.sum.result c.intact.result c.intact.ensures.same c.sum.ensures.value c.sum.ensures.limits c.intact.ensures.kept in
     adds_made at cells f k c.in-Ok.made c.args.cell c.args.steps.now _ h (c.curve_at.ensures ∙ ap (λ f. Some (curve f)) (sym c.deref.ensures))
     (subst (Applies Sum f k) c.in-Ok.is call) c.sum.ensures.count
 
@@ -21,6 +21,6 @@ returns-in-Err-clause-sum g c = λ cells h.
     let at = g.T.Table.at c.args.table.now in
     let f = c.args.so_far.now in
     let k = c.deref.result.now in
-    let call = applied_seen Sum f k c.sum.result c.seen.result c.seen.ensures.same c.sum.ensures.value c.sum.ensures.limits c.seen.ensures.kept in
+    let call = applied_seen Sum f k c.sum.result c.intact.result c.intact.ensures.same c.sum.ensures.value c.sum.ensures.limits c.intact.ensures.kept in
     adds_refused at cells f k c.in-Err.fault c.args.cell c.args.steps.now _ h (c.curve_at.ensures ∙ ap (λ f. Some (curve f)) (sym c.deref.ensures))
     (subst (Applies Sum f k) c.in-Err.is call) c.sum.ensures.count

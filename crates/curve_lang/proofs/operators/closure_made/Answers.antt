@@ -8,5 +8,5 @@ use Rattle.curve_lang.proofs.operators.closure_made.Goals as goal
 
 pub returns : goal.returns
 returns g c =
-    close_found c.args.f.now c.close.result (found c.kept_call.result) c.close.ensures.answer (subst (λ x. IfOk x IsCurve) c.seen.ensures.same c.seen.ensures.kept)
-    c.close.ensures.value (subst (λ x. CallKept x (found c.kept_call.result)) c.seen.ensures.same c.kept_call.ensures)
+    close_found c.args.f.now c.close.result (found c.kept_call.result) c.close.ensures.answer (subst (λ x. IfOk x IsCurve) c.intact.ensures.same c.intact.ensures.kept)
+    c.close.ensures.value (subst (λ x. CallKept x (found c.kept_call.result)) c.intact.ensures.same c.kept_call.ensures)

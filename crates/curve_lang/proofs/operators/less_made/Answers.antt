@@ -20,7 +20,7 @@ pos_minus-requires g c = c.is_finite.ensures.0 c.if-not-is_finite.false
 pub returns : goal.returns
 returns g c = inl (
   (c.is_finite.ensures.0 c.if-not-is_finite.false, subst (λ z. z ≤ℚ c.args.level) c.zero.ensures (not_less_out c.is_less.result c.args.level c.zero.result c.is_less.ensures.less c.if-is_less.false)),
-  call_found (calls.PosMinus c.args.level) c.args.f.now c.args.f.now c.seen.result (found c.kept_call.result)
-      (applied_seen (calls.PosMinus c.args.level) c.args.f.now c.args.f.now c.pos_minus.result c.seen.result c.seen.ensures.same c.pos_minus.ensures.value c.pos_minus.ensures.limits c.seen.ensures.kept)
+  call_found (calls.PosMinus c.args.level) c.args.f.now c.args.f.now c.intact.result (found c.kept_call.result)
+      (applied_seen (calls.PosMinus c.args.level) c.args.f.now c.args.f.now c.pos_minus.result c.intact.result c.intact.ensures.same c.pos_minus.ensures.value c.pos_minus.ensures.limits c.intact.ensures.kept)
       c.kept_call.ensures,
 )

@@ -17,7 +17,7 @@ returns-then-is_less g c = inr ((λ h. not_le_of_lt (subst (λ z. c.args.factor 
 pub returns : goal.returns
 returns g c = inl (
   (c.is_finite.ensures.0 c.if-not-is_finite.false, subst (λ z. z ≤ℚ c.args.factor) c.zero.ensures (not_less_out c.is_less.result c.args.factor c.zero.result c.is_less.ensures.less c.if-is_less.false)),
-  call_found (calls.Scale c.args.factor) c.args.f.now c.args.f.now c.seen.result (found c.kept_call.result)
-      (applied_seen (calls.Scale c.args.factor) c.args.f.now c.args.f.now c.scale.result c.seen.result c.seen.ensures.same c.scale.ensures.value c.scale.ensures.limits c.seen.ensures.kept)
+  call_found (calls.Scale c.args.factor) c.args.f.now c.args.f.now c.intact.result (found c.kept_call.result)
+      (applied_seen (calls.Scale c.args.factor) c.args.f.now c.args.f.now c.scale.result c.intact.result c.intact.ensures.same c.scale.ensures.value c.scale.ensures.limits c.intact.ensures.kept)
       c.kept_call.ensures,
 )

@@ -18,7 +18,7 @@ shift-requires g c = subst (λ z. z ≤ℚ c.args.by) c.zero.ensures (not_less_o
 pub returns : goal.returns
 returns g c = inl (
   subst (λ z. z ≤ℚ c.args.by) c.zero.ensures (not_less_out c.is_less.result c.args.by c.zero.result c.is_less.ensures.less c.if-is_less.false),
-  call_found (calls.Shift (Fin c.args.by)) c.args.f.now c.args.f.now c.seen.result (found c.kept_call.result)
-      (applied_seen (calls.Shift (Fin c.args.by)) c.args.f.now c.args.f.now c.shift.result c.seen.result c.seen.ensures.same c.shift.ensures.value c.shift.ensures.limits c.seen.ensures.kept)
+  call_found (calls.Shift (Fin c.args.by)) c.args.f.now c.args.f.now c.intact.result (found c.kept_call.result)
+      (applied_seen (calls.Shift (Fin c.args.by)) c.args.f.now c.args.f.now c.shift.result c.intact.result c.intact.ensures.same c.shift.ensures.value c.shift.ensures.limits c.intact.ensures.kept)
       c.kept_call.ensures,
 )

@@ -11,8 +11,8 @@ pub returns-in_err-scaled-clause-answer : goal.returns-in_err-scaled-clause-answ
 returns-in_err-scaled-clause-answer g c =
     let p = err_from_is_err_and c.from_residual.result c.from_residual.ensures.1 in
     let first = applied_seen (Scale c.turn_of-turn.result.share) c.args.beta.now c.args.beta.now c.scale.result
-    c.seen.result c.seen.ensures.same
-    c.scale.ensures.value c.scale.ensures.limits c.seen.ensures.kept in
+    c.intact.result c.intact.ensures.same
+    c.scale.ensures.value c.scale.ensures.limits c.intact.ensures.kept in
     rw (p.1, p.2) (stops c.in_err-scaled.field-0.0
     (subst (λ q. AppliesTo (Scale q) c.args.beta.now (Err c.in_err-scaled.field-0.0)) c.turn_of-turn.ensures.share
     (rw c.in_err-scaled.was at first)) refl)
@@ -20,34 +20,34 @@ returns-in_err-scaled-clause-answer g c =
 pub pos_minus-requires : goal.pos_minus-requires
 pos_minus-requires g c =
     let first = applied_seen (Scale c.turn_of-turn.result.share) c.args.beta.now c.args.beta.now c.scale.result
-    c.seen.result c.seen.ensures.same
-    c.scale.ensures.value c.scale.ensures.limits c.seen.ensures.kept in
+    c.intact.result c.intact.ensures.same
+    c.scale.ensures.value c.scale.ensures.limits c.intact.ensures.kept in
     scaled_finite c.turn_of-turn.result.share c.args.beta.now c.in_ok-scaled.scaled c.requires.finite (rw
     c.in_ok-scaled.was at first).made
 
 pub returns-clause-answer : goal.returns-clause-answer
 returns-clause-answer g c =
     let first = applied_seen (Scale c.turn_of-turn.result.share) c.args.beta.now c.args.beta.now c.scale.result
-    c.seen.result c.seen.ensures.same
-    c.scale.ensures.value c.scale.ensures.limits c.seen.ensures.kept in
+    c.intact.result c.intact.ensures.same
+    c.scale.ensures.value c.scale.ensures.limits c.intact.ensures.kept in
     let second = applied_seen (PosMinus c.turn_of-turn.result.owed) c.in_ok-scaled.scaled c.in_ok-scaled.scaled
-    c.pos_minus.result c.seen-2.result
-    c.seen-2.ensures.same c.pos_minus.ensures.value c.pos_minus.ensures.limits c.seen-2.ensures.kept in
+    c.pos_minus.result c.intact-2.result
+    c.intact-2.ensures.same c.pos_minus.ensures.value c.pos_minus.ensures.limits c.intact-2.ensures.kept in
     made c.args.beta.now c.in_ok-scaled.scaled c.args.quanta.now c.args.longest.now c.args.queue
-    c.turn_of-turn.result.share c.turn_of-turn.result.owed c.seen-2.result
+    c.turn_of-turn.result.share c.turn_of-turn.result.owed c.intact-2.result
     c.turn_of-turn.ensures.share c.turn_of-turn.ensures.owed (rw c.in_ok-scaled.was at first) second
 
 pub returns-clause-value : goal.returns-clause-value
 returns-clause-value g c =
     let first = applied_seen (Scale c.turn_of-turn.result.share) c.args.beta.now c.args.beta.now c.scale.result
-    c.seen.result c.seen.ensures.same
-    c.scale.ensures.value c.scale.ensures.limits c.seen.ensures.kept in
+    c.intact.result c.intact.ensures.same
+    c.scale.ensures.value c.scale.ensures.limits c.intact.ensures.kept in
     let second = applied_seen (PosMinus c.turn_of-turn.result.owed) c.in_ok-scaled.scaled c.in_ok-scaled.scaled
-    c.pos_minus.result c.seen-2.result
-    c.seen-2.ensures.same c.pos_minus.ensures.value c.pos_minus.ensures.limits c.seen-2.ensures.kept in
-    ok_service c.args.beta.now c.args.quanta.now c.args.longest.now c.args.queue c.seen-2.result
+    c.pos_minus.result c.intact-2.result
+    c.intact-2.ensures.same c.pos_minus.ensures.value c.pos_minus.ensures.limits c.intact-2.ensures.kept in
+    ok_service c.args.beta.now c.args.quanta.now c.args.longest.now c.args.queue c.intact-2.result
     (made c.args.beta.now c.in_ok-scaled.scaled c.args.quanta.now c.args.longest.now c.args.queue
-    c.turn_of-turn.result.share c.turn_of-turn.result.owed c.seen-2.result
+    c.turn_of-turn.result.share c.turn_of-turn.result.owed c.intact-2.result
     c.turn_of-turn.ensures.share c.turn_of-turn.ensures.owed (rw c.in_ok-scaled.was at first) second)
 
 pub returns-in_err-scaled-clause-memory : goal.returns-in_err-scaled-clause-memory
@@ -58,14 +58,14 @@ returns-in_err-scaled-clause-memory g c is both =
 pub returns-clause-memory : goal.returns-clause-memory
 returns-clause-memory g c is both =
     let first = applied_seen (Scale c.turn_of-turn.result.share) c.args.beta.now c.args.beta.now c.scale.result
-    c.seen.result c.seen.ensures.same
-    c.scale.ensures.value c.scale.ensures.limits c.seen.ensures.kept in
+    c.intact.result c.intact.ensures.same
+    c.scale.ensures.value c.scale.ensures.limits c.intact.ensures.kept in
     let second = applied_seen (PosMinus c.turn_of-turn.result.owed) c.in_ok-scaled.scaled c.in_ok-scaled.scaled
-    c.pos_minus.result c.seen-2.result
-    c.seen-2.ensures.same c.pos_minus.ensures.value c.pos_minus.ensures.limits c.seen-2.ensures.kept in (
+    c.pos_minus.result c.intact-2.result
+    c.intact-2.ensures.same c.pos_minus.ensures.value c.pos_minus.ensures.limits c.intact-2.ensures.kept in (
       c.in_ok-scaled.scaled,
       subst (λ q. AppliesTo (Scale q) c.args.beta.now (Ok c.in_ok-scaled.scaled)) c.turn_of-turn.ensures.share
           (rw c.in_ok-scaled.was at first),
       subst (λ r. AppliesTo (PosMinus (owed_in c.args.quanta.now c.args.longest.now c.args.queue)) c.in_ok-scaled.scaled r) is
-          (subst (λ l. AppliesTo (PosMinus l) c.in_ok-scaled.scaled c.seen-2.result) c.turn_of-turn.ensures.owed second),
+          (subst (λ l. AppliesTo (PosMinus l) c.in_ok-scaled.scaled c.intact-2.result) c.turn_of-turn.ensures.owed second),
     )

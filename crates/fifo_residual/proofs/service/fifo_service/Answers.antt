@@ -4,6 +4,6 @@ use Rattle.fifo_residual.proofs.service.fifo_service.Goals as goal
 
 pub returns-clause-answer : goal.returns-clause-answer
 returns-clause-answer g c =
-    applied_seen (FifoLeft c.args.theta) c.args.beta.now c.args.cross.now c.fifo_left.result c.seen.result
-    c.seen.ensures.same c.fifo_left.ensures.value
-    c.fifo_left.ensures.limits c.seen.ensures.kept
+    applied_seen (FifoLeft c.args.theta) c.args.beta.now c.args.cross.now c.fifo_left.result c.intact.result
+    c.intact.ensures.same c.fifo_left.ensures.value
+    c.fifo_left.ensures.limits c.intact.ensures.kept

@@ -4,6 +4,6 @@ use Rattle.packetiser.proofs.service.packetised.Goals as goal
 
 pub returns-clause-answer : goal.returns-clause-answer
 returns-clause-answer g c =
-    applied_seen (PosMinus c.args.l) c.args.beta.now c.args.beta.now c.pos_minus.result c.seen.result
-    c.seen.ensures.same c.pos_minus.ensures.value
-    c.pos_minus.ensures.limits c.seen.ensures.kept
+    applied_seen (PosMinus c.args.l) c.args.beta.now c.args.beta.now c.pos_minus.result c.intact.result
+    c.intact.ensures.same c.pos_minus.ensures.value
+    c.pos_minus.ensures.limits c.intact.ensures.kept

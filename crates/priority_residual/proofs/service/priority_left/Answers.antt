@@ -10,29 +10,29 @@ use Rattle.priority_residual.proofs.service.priority_left.Goals as goal
 pub returns-in_err-above-clause-answer : goal.returns-in_err-above-clause-answer
 returns-in_err-above-clause-answer g c =
     let p = err_from_is_err_and c.from_residual.result c.from_residual.ensures.1 in
-    let first = applied_seen PosDiff c.args.beta.now c.args.higher.now c.pos_diff.result c.seen.result
-    c.seen.ensures.same c.pos_diff.ensures.value
-    c.pos_diff.ensures.limits c.seen.ensures.kept in
+    let first = applied_seen PosDiff c.args.beta.now c.args.higher.now c.pos_diff.result c.intact.result
+    c.intact.ensures.same c.pos_diff.ensures.value
+    c.pos_diff.ensures.limits c.intact.ensures.kept in
     rw (p.1, p.2) (stops c.in_err-above.field-0.0 (rw c.in_err-above.was at first) refl)
 
 pub pos_minus-requires : goal.pos_minus-requires
 pos_minus-requires g c =
-    let first = applied_seen PosDiff c.args.beta.now c.args.higher.now c.pos_diff.result c.seen.result
-    c.seen.ensures.same c.pos_diff.ensures.value
-    c.pos_diff.ensures.limits c.seen.ensures.kept in
+    let first = applied_seen PosDiff c.args.beta.now c.args.higher.now c.pos_diff.result c.intact.result
+    c.intact.ensures.same c.pos_diff.ensures.value
+    c.pos_diff.ensures.limits c.intact.ensures.kept in
     difference_finite c.args.beta.now c.args.higher.now c.in_ok-above.above c.requires (rw c.in_ok-above.was at
     first).made
 
 pub returns-clause-answer : goal.returns-clause-answer
 returns-clause-answer g c =
-    let first = applied_seen PosDiff c.args.beta.now c.args.higher.now c.pos_diff.result c.seen.result
-    c.seen.ensures.same c.pos_diff.ensures.value
-    c.pos_diff.ensures.limits c.seen.ensures.kept in
+    let first = applied_seen PosDiff c.args.beta.now c.args.higher.now c.pos_diff.result c.intact.result
+    c.intact.ensures.same c.pos_diff.ensures.value
+    c.pos_diff.ensures.limits c.intact.ensures.kept in
     let second = applied_seen (PosMinus c.whole.result) c.in_ok-above.above c.in_ok-above.above c.pos_minus.result
-    c.seen-2.result
-    c.seen-2.ensures.same c.pos_minus.ensures.value c.pos_minus.ensures.limits c.seen-2.ensures.kept in
+    c.intact-2.result
+    c.intact-2.ensures.same c.pos_minus.ensures.value c.pos_minus.ensures.limits c.intact-2.ensures.kept in
     goes_on c.in_ok-above.above (rw c.in_ok-above.was at first)
-    (subst (λ l. AppliesTo (PosMinus l) c.in_ok-above.above c.seen-2.result) c.whole.ensures second)
+    (subst (λ l. AppliesTo (PosMinus l) c.in_ok-above.above c.intact-2.result) c.whole.ensures second)
 
 pub returns-in_err-above-clause-memory : goal.returns-in_err-above-clause-memory
 returns-in_err-above-clause-memory g c is both =
@@ -41,14 +41,14 @@ returns-in_err-above-clause-memory g c is both =
 
 pub returns-clause-memory : goal.returns-clause-memory
 returns-clause-memory g c is both =
-    let first = applied_seen PosDiff c.args.beta.now c.args.higher.now c.pos_diff.result c.seen.result
-    c.seen.ensures.same c.pos_diff.ensures.value
-    c.pos_diff.ensures.limits c.seen.ensures.kept in
+    let first = applied_seen PosDiff c.args.beta.now c.args.higher.now c.pos_diff.result c.intact.result
+    c.intact.ensures.same c.pos_diff.ensures.value
+    c.pos_diff.ensures.limits c.intact.ensures.kept in
     let second = applied_seen (PosMinus c.whole.result) c.in_ok-above.above c.in_ok-above.above c.pos_minus.result
-    c.seen-2.result
-    c.seen-2.ensures.same c.pos_minus.ensures.value c.pos_minus.ensures.limits c.seen-2.ensures.kept in (
+    c.intact-2.result
+    c.intact-2.ensures.same c.pos_minus.ensures.value c.pos_minus.ensures.limits c.intact-2.ensures.kept in (
       c.in_ok-above.above,
       rw c.in_ok-above.was at first,
       subst (λ r. AppliesTo (PosMinus (whole c.args.lower)) c.in_ok-above.above r) is
-          (subst (λ l. AppliesTo (PosMinus l) c.in_ok-above.above c.seen-2.result) c.whole.ensures second),
+          (subst (λ l. AppliesTo (PosMinus l) c.in_ok-above.above c.intact-2.result) c.whole.ensures second),
     )

@@ -23,17 +23,17 @@ run_sup-requires-clause-nonneg g c =
 pub returns-clause-answer : goal.returns-clause-answer
 returns-clause-answer g c =
     goes_on c.in_ok-left.left c.in_ok-left.ensures.answer
-    (applied_seen RunSup c.in_ok-left.left c.in_ok-left.left c.run_sup.result c.seen.result c.seen.ensures.same
+    (applied_seen RunSup c.in_ok-left.left c.in_ok-left.left c.run_sup.result c.intact.result c.intact.ensures.same
     c.run_sup.ensures.value
-    c.run_sup.ensures.limits c.seen.ensures.kept)
+    c.run_sup.ensures.limits c.intact.ensures.kept)
 
 pub returns-clause-value : goal.returns-clause-value
 returns-clause-value g c =
-    ok_service c.args.beta.now c.args.higher.now c.args.lower c.seen.result
+    ok_service c.args.beta.now c.args.higher.now c.args.lower c.intact.result
     (goes_on c.in_ok-left.left c.in_ok-left.ensures.answer
-    (applied_seen RunSup c.in_ok-left.left c.in_ok-left.left c.run_sup.result c.seen.result c.seen.ensures.same
+    (applied_seen RunSup c.in_ok-left.left c.in_ok-left.left c.run_sup.result c.intact.result c.intact.ensures.same
     c.run_sup.ensures.value
-    c.run_sup.ensures.limits c.seen.ensures.kept))
+    c.run_sup.ensures.limits c.intact.ensures.kept))
 
 pub returns-clause-all : goal.returns-clause-all
 returns-clause-all g c =
@@ -42,7 +42,7 @@ returns-clause-all g c =
       c.in_ok-left.ensures.all,
       c.run_sup.ensures.count,
     ) in
-    if_ok c.seen.result steps
+    if_ok c.intact.result steps
 
 pub returns-in_err-left-clause-memory : goal.returns-in_err-left-clause-memory
 returns-in_err-left-clause-memory g c is =
@@ -57,8 +57,8 @@ pub returns-clause-memory : goal.returns-clause-memory
 returns-clause-memory g c is =
     let all = c.in_ok-left.ensures.all in
     let one = c.run_sup.ensures.count in
-    let last = applied_seen RunSup c.in_ok-left.left c.in_ok-left.left c.run_sup.result c.seen.result c.seen.ensures.same
-    c.run_sup.ensures.value c.run_sup.ensures.limits c.seen.ensures.kept in (
+    let last = applied_seen RunSup c.in_ok-left.left c.in_ok-left.left c.run_sup.result c.intact.result c.intact.ensures.same
+    c.run_sup.ensures.value c.run_sup.ensures.limits c.intact.ensures.kept in (
       λ two. absurd (omega (arith, all, one, two)),
       λ three. (
         c.in_ok-left.left,

@@ -18,15 +18,15 @@ returns-in_err-star-clause-answer g c =
 pub returns-clause-answer : goal.returns-clause-answer
 returns-clause-answer g c =
     goes_on c.in_ok-star.star c.in_ok-star.ensures.answer
-    (applied_seen Convolve c.args.sofar.now c.in_ok-star.star c.convolve_stars.result c.seen.result c.seen.ensures.same
-    c.convolve_stars.ensures.value c.convolve_stars.ensures.limits c.seen.ensures.kept)
+    (applied_seen Convolve c.args.sofar.now c.in_ok-star.star c.convolve_stars.result c.intact.result c.intact.ensures.same
+    c.convolve_stars.ensures.value c.convolve_stars.ensures.limits c.intact.ensures.kept)
 
 pub returns-clause-all : goal.returns-clause-all
 returns-clause-all g c =
     let first = c.in_ok-star.ensures.all in
     let second = c.convolve_stars.ensures.count in
     let work = part_work (part_of c.args.f.now.tail c.args.e.now) in
-    always (c.convolve_stars.new.steps ≡ c.args.steps.now + (work + 1)) c.seen.result (omega (arith, first, second))
+    always (c.convolve_stars.new.steps ≡ c.args.steps.now + (work + 1)) c.intact.result (omega (arith, first, second))
 
 pub returns-in_err-star-clause-memory : goal.returns-in_err-star-clause-memory
 returns-in_err-star-clause-memory g c is =
@@ -42,7 +42,7 @@ returns-clause-memory g c is =
       counted = omega (arith, first, second);
       star = c.in_ok-star.star;
       made = c.in_ok-star.ensures.answer;
-      within = call_wants Convolve c.args.sofar.now c.in_ok-star.star c.convolve_stars.result c.seen.result c.seen.ensures.same
+      within = call_wants Convolve c.args.sofar.now c.in_ok-star.star c.convolve_stars.result c.intact.result c.intact.ensures.same
           c.convolve_stars.ensures.limits is;
     }
 

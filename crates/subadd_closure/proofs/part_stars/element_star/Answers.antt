@@ -5,7 +5,7 @@ use Rattle.affine_segment.specs.declared.element.Element.TheVariants.{Point, Ope
 use Rattle.subadd_closure.specs.CurveParts.{copies_of}
 use Rattle.subadd_closure.specs.PartStars.{turn_of}
 use Rattle.subadd_closure.specs.SegmentLimits.{IsElementOf}
-use Rattle.subadd_closure.specs.Stars.{IsTurn, turn_work}
+use Rattle.subadd_closure.specs.Stars.{IsPeriodAndRise, turn_work}
 use Rattle.subadd_closure.proofs.FoldMemory.{same_want, part_wants, segment_wants}
 use Rattle.subadd_closure.proofs.ElementFits.{point_start, point_low, segment_late}
 use Rattle.subadd_closure.proofs.ElementFits.{segment_reads, part_turns, turn_works}
@@ -27,7 +27,7 @@ point_star-requires-clause-turn g c =
     let f = c.args.f.now in
     let e = c.args.e.now in
     let turn = c.turn_of-turn.ensures ∙ ap (λ t. turn_of (copies_of t e)) c.tail.ensures.tail in
-    subst IsTurn (sym turn) (part_turns f e c.tail.ensures.kept)
+    subst IsPeriodAndRise (sym turn) (part_turns f e c.tail.ensures.kept)
 
 pub returns-in-Point-clause-answer : goal.returns-in-Point-clause-answer
 returns-in-Point-clause-answer g c =
@@ -80,7 +80,7 @@ segment_star-requires-clause-turn g c =
     let f = c.args.f.now in
     let e = c.args.e.now in
     let turn = c.turn_of-turn.ensures ∙ ap (λ t. turn_of (copies_of t e)) c.tail.ensures.tail in
-    subst IsTurn (sym turn) (part_turns f e c.tail.ensures.kept)
+    subst IsPeriodAndRise (sym turn) (part_turns f e c.tail.ensures.kept)
 
 pub returns-in_ok-m-in-Open-clause-answer : goal.returns-in_ok-m-in-Open-clause-answer
 returns-in_ok-m-in-Open-clause-answer g c =

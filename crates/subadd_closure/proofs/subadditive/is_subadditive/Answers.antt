@@ -11,21 +11,21 @@ use Rattle.subadd_closure.proofs.subadditive.is_subadditive.Goals as goal
 pub returns-in_err-twice-clause-limits : goal.returns-in_err-twice-clause-limits
 returns-in_err-twice-clause-limits g c =
     let p = err_from_is_err_and c.from_residual.result c.from_residual.ensures.1 in
-    let first = applied_seen Convolve c.args.f.now c.args.f.now c.convolve.result c.seen.result c.seen.ensures.same
-    c.convolve.ensures.value c.convolve.ensures.limits c.seen.ensures.kept in
+    let first = applied_seen Convolve c.args.f.now c.args.f.now c.convolve.result c.intact.result c.intact.ensures.same
+    c.convolve.ensures.value c.convolve.ensures.limits c.intact.ensures.kept in
     rw (p.1, p.2) (stops c.in_err-twice.field-0.0 (rw c.in_err-twice.was at first) refl)
 
 pub returns-in_err-lower-clause-limits : goal.returns-in_err-lower-clause-limits
 returns-in_err-lower-clause-limits g c =
     let p = err_from_is_err_and c.from_residual-in_err-lower.result c.from_residual-in_err-lower.ensures.1 in
-    let first = applied_seen Convolve c.args.f.now c.args.f.now c.convolve.result c.seen.result c.seen.ensures.same
-    c.convolve.ensures.value c.convolve.ensures.limits c.seen.ensures.kept in
+    let first = applied_seen Convolve c.args.f.now c.args.f.now c.convolve.result c.intact.result c.intact.ensures.same
+    c.convolve.ensures.value c.convolve.ensures.limits c.intact.ensures.kept in
     rw (p.1, p.2) (goes_on c.in_ok-twice.twice (rw c.in_ok-twice.was at first) c.in_err-lower.ensures.limits)
 
 pub returns-clause-value : goal.returns-clause-value
 returns-clause-value g c =
-    let first = applied_seen Convolve c.args.f.now c.args.f.now c.convolve.result c.seen.result c.seen.ensures.same
-    c.convolve.ensures.value c.convolve.ensures.limits c.seen.ensures.kept in
+    let first = applied_seen Convolve c.args.f.now c.args.f.now c.convolve.result c.intact.result c.intact.ensures.same
+    c.convolve.ensures.value c.convolve.ensures.limits c.intact.ensures.kept in
     let made = (rw c.in_ok-twice.was at first).made in
     let f = value_at c.args.f.now in
     let twice = value_at c.in_ok-twice.twice in
@@ -36,8 +36,8 @@ returns-clause-value g c =
 
 pub returns-clause-limits : goal.returns-clause-limits
 returns-clause-limits g c =
-    let first = applied_seen Convolve c.args.f.now c.args.f.now c.convolve.result c.seen.result c.seen.ensures.same
-    c.convolve.ensures.value c.convolve.ensures.limits c.seen.ensures.kept in
+    let first = applied_seen Convolve c.args.f.now c.args.f.now c.convolve.result c.intact.result c.intact.ensures.same
+    c.convolve.ensures.value c.convolve.ensures.limits c.intact.ensures.kept in
     goes_on c.in_ok-twice.twice (rw c.in_ok-twice.was at first) c.in_ok-lower.ensures.limits
 
 pub returns-in_err-twice-clause-memory : goal.returns-in_err-twice-clause-memory
@@ -49,8 +49,8 @@ pub returns-in_err-lower-clause-memory : goal.returns-in_err-lower-clause-memory
 returns-in_err-lower-clause-memory g c is both =
     let r = c.from_residual-in_err-lower in
     let p = err_from_is_err_and r.result r.ensures.1 in
-    let first = applied_seen Convolve c.args.f.now c.args.f.now c.convolve.result c.seen.result c.seen.ensures.same
-    c.convolve.ensures.value c.convolve.ensures.limits c.seen.ensures.kept in
+    let first = applied_seen Convolve c.args.f.now c.args.f.now c.convolve.result c.intact.result c.intact.ensures.same
+    c.convolve.ensures.value c.convolve.ensures.limits c.intact.ensures.kept in
     let want = same_want r.result p.0 c.in_err-lower.field-0.0 p.1 p.2 is in (
       c.in_ok-twice.twice,
       rw c.in_ok-twice.was at first,
