@@ -1,6 +1,6 @@
 -- Bounds of the number of periods of a convolution, over curves.
-use Rattle.std.specs.Prelude.{◌≡◌, ℕ, suc, ◌+◌, ◌≤◌, pos, Option, Some, None, IfSome}
-use Rattle.std.proofs.Common.{arith, sym, ap, ◌∙◌, subst, inl, inr}
+use Rattle.std.specs.Prelude.{◌≡◌, ℕ, ◌+◌, ◌≤◌, pos, Option, Some, None, IfSome}
+use Rattle.std.proofs.Common.{arith, sym, subst, inl, inr}
 use Rattle.rational.specs.Rational.{ℚ, ◌+ℚ◌, ◌-ℚ◌, ◌*ℚ◌, ◌/ℚ◌, ◌≤ℚ◌, ◌<ℚ◌, int}
 use Rattle.rational.specs.Gauge.{size_up}
 use Rattle.rational.specs.Grid.{Whole}
@@ -9,7 +9,6 @@ use Rattle.rational.specs.declared.Extended.TheVariants.{Fin, Inf}
 use Rattle.rational.proofs.Linear.{with3, with5, with7}
 use Rattle.rational.proofs.Laws.{le_refl, le_trans, le_of_lt, one_mul, mul_nonneg, mul_le_mul, mul_le_mul_right}
 use Rattle.rational.proofs.Integers.{nat_le, nat_nonneg}
-use Rattle.rational.proofs.Whole.{one_more_times}
 use Rattle.rational.proofs.Quotients.{div_le}
 use Rattle.rational.proofs.Grid.{whole_add}
 use Rattle.upp_curve.specs.Curve.{SpecCurve, value_at}
@@ -101,9 +100,6 @@ pub over_one : (x e : ℚ) → x ≤ℚ e → x ≤ℚ int (pos (0 + 1)) *ℚ e
 over_one x e h = subst (λ y. x ≤ℚ y) (sym (one_mul e)) h
 
 -- ---- enough periods
-pub more_times : (n : ℕ) (d : ℚ) → int (pos (n + 1)) *ℚ d ≡ int (pos n) *ℚ d +ℚ d
-more_times n d = let next : n + 1 ≡ suc n = omega arith in ap (λ i. int (pos i) *ℚ d) next ∙ one_more_times n d
-
 pub slow_rate : (f g : SpecCurve) → rate f <ₑ rate g → (r : ℚ) × (rate f ≡ Fin r)
 slow_rate f g h = elim (ext_cases (rate f)) [ inl e ↦ absurd (none (rate g) (subst (λ x. x <ₑ rate g) e h)) | inr r ↦ r ]
   where

@@ -24,7 +24,8 @@ use Rattle.curve_least.proofs.Shifts.{later_value}
 use Rattle.curve_conv.specs.Late.{IsLateAfter, IsLateCall}
 use Rattle.curve_conv.specs.LateBounds.{IsTop, IsDepth}
 use Rattle.curve_conv.specs.Scans.{sizes_in}
-use Rattle.curve_conv.proofs.BoundsFound.{more_times, slow_looked}
+use Rattle.curve_conv.proofs.BoundsFound.{slow_looked}
+use Rattle.curve_pointwise.proofs.LatticeCalls.{more_periods}
 use Rattle.curve_conv.proofs.LateNumbers.{late_times}
 
 -- ---- over functions
@@ -50,7 +51,7 @@ soon_enough f g x y d a b top depth t n nx ny some long F G T D bound far = λ �
     let back : y ≤ℚ u = left x y w d i.first i.second t early i.whole far in
     let split : Split t = record { first = s; second = u; first_nonneg = le_trans nx late; second_nonneg = le_trans ny back; whole = same i.first i.second d w t i.whole } in
     let up : f s ≡ f v +ₑ Fin na = later_value f x d a v n (le_of_lt some) F passed in
-    let whole : u +ℚ int (pos (n + 1)) *ℚ d ≡ i.second = ap (λ k. u +ℚ k) (more_times n d) ∙ again i.second (w +ℚ d) in
+    let whole : u +ℚ int (pos (n + 1)) *ℚ d ≡ i.second = ap (λ k. u +ℚ k) (more_periods n d) ∙ again i.second (w +ℚ d) in
     let down : g i.second ≡ g u +ₑ Fin mb = subst (λ k. g k ≡ g u +ₑ Fin mb) whole (later_value g y d b u (n + 1) (le_of_lt some) G back) in
     let most : f s ≤ₑ Fin (top +ℚ na) =
     subst (λ z. z ≤ₑ Fin (top +ℚ na)) (sym up) (add_le_ext (f v) (Fin top) (Fin na) (Fin na) (T v record { start = over d i.first i.first_nonneg; before = under x d i.first early }) (le_ext_refl (Fin na))) in
@@ -64,7 +65,7 @@ soon_enough f g x y d a b top depth t n nx ny some long F G T D bound far = λ �
             le_ext_trans (Fin β) (f s +ₑ g u) (Fin (top +ℚ na) +ₑ Fin q) (below split late) (add_le_ext (f s) (Fin (top +ℚ na)) (g u) (Fin q) most (same_le_ext l)) in
             let deep : int (pos 0) ≤ℚ z +ℚ depth = subst (λ r. Fin (int (pos 0)) ≤ₑ r +ₑ Fin depth) h (D i.first record { start = i.first_nonneg; before = within x d i.first some early }) in
             let low : top +ℚ depth -ℚ a ≤ℚ mb -ℚ ma = subst (λ k. top +ℚ depth -ℚ a ≤ℚ k) (mul_sub (int (pos (n + 1))) b a) bound in
-            let made : β ≤ℚ z +ℚ (q +ℚ mb) = at_most β top depth na a ma mb z q sums low (more_times n a) deep in
+            let made : β ≤ℚ z +ℚ (q +ℚ mb) = at_most β top depth na a ma mb z q sums low (more_periods n a) deep in
             subst (λ r. Fin β ≤ₑ f i.first +ₑ (r +ₑ Fin mb)) (sym l) (subst (λ r. Fin β ≤ₑ r +ₑ (Fin q +ₑ Fin mb)) (sym h) made)
       ]
     ])

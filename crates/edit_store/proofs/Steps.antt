@@ -4,7 +4,6 @@ use Rattle.std.specs.Prelude.{MatchOption, Ok}
 use Rattle.std.proofs.lemmas.List.{get_or_push, get_or_append_left, length_push}
 use Rattle.std.proofs.lemmas.Bool.Decides.{eqb_tells}
 use Rattle.net_model.specs.Networks.{Net}
-use Rattle.net_model.specs.Orders.{IsOrder}
 use Rattle.net_model.specs.declared.edit.Edit.{Edit}
 use Rattle.net_graph.proofs.OneOrders.{one_order}
 use Rattle.net_cells.specs.declared.cell.Cell.{Cell}

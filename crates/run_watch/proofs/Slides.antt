@@ -45,14 +45,6 @@ pub record IsSliding (v end : ℚ) (es : List Entering) (k first bits : ℕ) : T
   pub few : bits ≤ 2 ^ 32 * k
   pub keeps : KeepsBefore v end es k
 
-pub sliding_none : (v end : ℚ) (es : List Entering) → IsSliding v end es 0 0 0
-sliding_none v end es = record {
-  none = λ e. (refl, refl);
-  narrow = λ j e. absurd (omega arith);
-  few = omega arith;
-  keeps = λ i j l m. absurd (omega arith);
-}
-
 pub wide_more : (v end : ℚ) (es : List Entering) (k first bits : ℕ) (e : Entering) → TimesRiseIn es → k < length es → e ≡ slice_index_or es k e → IsSliding v end es k first bits → IsNarrow end es k first (bits + e.bits)
 wide_more v end es zero first bits e R l at K =
     let none = K.none refl in

@@ -1,6 +1,6 @@
 -- Bounds of the number of periods in the fold of a closure, over curves.
 use Rattle.curve_conv.proofs.BoundsFound.{slow_rate}
-use Rattle.std.specs.Prelude.{◌≡◌, ◌≢◌, ℕ, suc, ◌+◌, ◌≤◌, pos, Bool, true, false, not, IsTrue, ◌↔◌, cond, List, [], ◌∷◌, None}
+use Rattle.std.specs.Prelude.{◌≡◌, ℕ, suc, ◌+◌, ◌≤◌, pos, Bool, true, false, not, IsTrue, ◌↔◌, cond, List, [], ◌∷◌, None}
 use Rattle.std.proofs.Common.{arith, sym, refl, ap, ap₂, ◌∙◌, subst, inl, inr, length, get_or, true≢false}
 use Rattle.rational.specs.Rational.{ℚ, ◌+ℚ◌, ◌-ℚ◌, ◌*ℚ◌, ◌/ℚ◌, ◌≤ℚ◌, ◌<ℚ◌, int, le_q}
 use Rattle.rational.specs.Extended.{Ext, ◌<ₑ◌, ◌≤ₑ◌, ◌+ₑ◌}
@@ -27,7 +27,6 @@ use Rattle.upp_normal.proofs.StretchValues.{value_periodic}
 use Rattle.upp_normal.proofs.UnrollSteps.{ext_cases}
 use Rattle.curve_call.specs.Rises.{CurveRiseFits}
 use Rattle.curve_call.proofs.CurveRises.{rise_is}
-use Rattle.curve_least.specs.declared.bounds.Bounds.{Bounds}
 use Rattle.curve_least.specs.Bounds.{own_or, IsFiniteLate}
 use Rattle.curve_least.specs.Gaps.{InWindow, IsLargest}
 use Rattle.curve_least.specs.Levels.{level_curve}

@@ -1,8 +1,8 @@
 -- Pieces that are nowhere above a line read so; and elements that are left out one after another.
-use Rattle.std.specs.Prelude.{◌≡◌, ◌⊎◌, ◌↔◌, Bool, true, false, not, IsTrue, ℕ, ◌+◌, ◌-◌, ◌<◌, List, [], ◌∷◌, ◌++◌, length, Option, Some}
+use Rattle.std.specs.Prelude.{◌≡◌, ◌⊎◌, ◌↔◌, Bool, true, false, not, IsTrue, ℕ, ◌+◌, ◌-◌, ◌<◌, List, [], ◌∷◌, ◌++◌, length, Some}
 use Rattle.std.proofs.Common.{arith, sym, refl, ap, ◌∙◌, subst, inl, inr, take, drop, get_or, true≢false, take-append-drop, length-drop}
 use Rattle.std.proofs.lemmas.List.{take_more, take_all}
-use Rattle.rational.specs.Rational.{ℚ, ◌+ℚ◌, ◌*ℚ◌, ◌≤ℚ◌, ◌<ℚ◌}
+use Rattle.rational.specs.Rational.{ℚ, ◌*ℚ◌, ◌≤ℚ◌, ◌<ℚ◌}
 use Rattle.rational.specs.Extended.{Ext, ◌≤ₑ◌, ◌<ₑ◌}
 use Rattle.rational.specs.declared.Extended.TheVariants.{Fin}
 use Rattle.rational.proofs.Linear.{with4}
@@ -11,7 +11,7 @@ use Rattle.rational.proofs.ExtendedOrder.{le_ext_trans, same_le_ext}
 use Rattle.affine_segment.specs.declared.line.Line.{Line}
 use Rattle.affine_segment.specs.declared.line.Piece.{Piece}
 use Rattle.affine_segment.specs.declared.element.Element.{Element}
-use Rattle.affine_segment.specs.declared.element.Element.TheVariants.{Point, Open}
+use Rattle.affine_segment.specs.declared.element.Element.TheVariants.{Open}
 use Rattle.affine_segment.specs.Values.{line_at, line_value}
 use Rattle.affine_segment.specs.Reading.{read, piece_in, piece_value}
 use Rattle.affine_segment.specs.Pieces.{Each, RisesFrom, StartsAtZero}
@@ -30,9 +30,6 @@ use Rattle.subadd_closure.specs.Thinned.{LiesUnder, IsOver, IsThinned}
 pub at_most : (b : Bool) (x y : ℚ) → (IsTrue b ↔ (y <ℚ x)) → IsTrue (not b) → x ≤ℚ y
 at_most true x y t h = absurd (true≢false (sym h))
 at_most false x y t h = le_of_not_lt (λ k. true≢false (sym (t.1 k)))
-
-pub not_less : (x y : ℚ) → (IsTrue false ↔ (x <ℚ y)) → y ≤ℚ x
-not_less x y t = le_of_not_lt (λ k. true≢false (sym (t.1 k)))
 
 pub value_most : (at : Ext) (v top w : ℚ) → at ≡ Fin v → top ≡ w → v ≤ℚ top → at ≤ₑ Fin w
 value_most at v top w e k h = subst (λ z. z ≤ₑ Fin w) (sym e) (subst (λ z. v ≤ℚ z) k h)
@@ -131,12 +128,6 @@ slice_under line from to t ps k p h is starts low late past early each =
     (subst (λ z. Each (LiesUnder line) (upto to z)) here each)
 
 -- ---- elements
-pub point_over : (F : ℚ → Ext) (end x v : ℚ) (e : Element) → e ≡ Point x v → zero_q <ℚ x → F x ≤ₑ Fin v → IsOver F end e
-point_over F end x v e is late most = subst (IsOver F end) (sym is) record {
-  late = late;
-  over = λ t c early. subst (λ z. F z ≤ₑ Fin v) (sym c) most;
-}
-
 pub segment_is_over : (f : SpecCurve) (end from limit : ℚ) (to : Ext) (line : Line) (ps : List Piece) (e : Element)
     → e ≡ Open from to line → IsCurve f → ps ≡ unroll f end → zero_q ≤ℚ from
     → ((t : ℚ) → Fin t <ₑ to → t <ℚ end → t <ℚ limit)
@@ -165,9 +156,6 @@ among_first e d (x ∷ xs) (inr h) = inr (among_first e d xs h)
 among_last : (d : Element) (es : List Element) → Among d (es ++ d ∷ [])
 among_last d [] = inl refl
 among_last d (x ∷ xs) = inr (among_last d xs)
-
-pub thin_none : (F : ℚ → Ext) (end : ℚ) → IsThinned F end [] []
-thin_none F end = record { fewer = λ e h. h; others = λ e h. absurd h }
 
 pub thin_kept : (F : ℚ → Ext) (end : ℚ) (ys zs : List Element) (d : Element) → IsThinned F end ys zs
     → IsThinned F end (ys ++ d ∷ []) (zs ++ d ∷ [])

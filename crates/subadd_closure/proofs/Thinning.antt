@@ -1,13 +1,13 @@
 -- Where the first of two operands is subadditive, and the second at most 0 at 0, the elements of the second that are
 -- nowhere below the first do not count in their convolution.
-use Rattle.std.specs.Prelude.{◌≡◌, ◌⊎◌, List, Result, Ok, Err, IfOk, Vec}
-use Rattle.std.proofs.Common.{arith, refl, sym, ◌∙◌, subst, inl, inr, Global}
+use Rattle.std.specs.Prelude.{◌≡◌, List, Result, Ok, Err, IfOk, Vec}
+use Rattle.std.proofs.Common.{arith, sym, ◌∙◌, subst, inl, inr, Global}
 use Rattle.rational.specs.Rational.{ℚ, ◌+ℚ◌, ◌≤ℚ◌, ◌<ℚ◌}
-use Rattle.rational.specs.Extended.{Ext, ◌≤ₑ◌, ◌<ₑ◌, ◌+ₑ◌}
+use Rattle.rational.specs.Extended.{Ext, ◌≤ₑ◌, ◌+ₑ◌}
 use Rattle.rational.specs.declared.Extended.TheVariants.{Fin, Inf}
 use Rattle.rational.proofs.Linear.{with2, with3}
-use Rattle.rational.proofs.Laws.{add_zero, le_refl, le_lt_trans, lt_irrefl, lt_le_trans}
-use Rattle.rational.proofs.ExtendedOrder.{le_ext_refl, le_ext_trans, same_le_ext, add_le_ext, add_zero_ext}
+use Rattle.rational.proofs.Laws.{add_zero, le_refl, lt_irrefl, lt_le_trans}
+use Rattle.rational.proofs.ExtendedOrder.{le_ext_refl, le_ext_trans, same_le_ext, add_le_ext}
 use Rattle.affine_segment.specs.declared.line.Piece.{Piece}
 use Rattle.affine_segment.specs.declared.element.Element.{Element}
 use Rattle.affine_segment.specs.declared.element.Element.TheVariants.{Point, Open}
@@ -15,21 +15,17 @@ use Rattle.affine_segment.specs.Elements.{Covers, level}
 use Rattle.affine_segment.specs.Reading.{read}
 use Rattle.min_plus.specs.Functions.{zero_q}
 use Rattle.min_plus.specs.Convolution.{IsSubadditive}
-use Rattle.element_envelope.specs.PieceElements.{elements_of, Among, ElementAt}
+use Rattle.element_envelope.specs.PieceElements.{elements_of, Among}
 use Rattle.element_envelope.specs.Envelopes.{ListSplit, list_sum, IsEnvelope}
 use Rattle.element_envelope.specs.EnvelopeWindows.{EnvelopeRoom, IsEnvelopeWindow}
 use Rattle.element_envelope.specs.ConvolutionWindows.{OperandWindows, IsConvolutionWindow}
 use Rattle.element_envelope.proofs.Cover.{cover, element_times}
 use Rattle.element_envelope.proofs.Members.{Matched, matched_out}
+use Rattle.rational.proofs.ExtendedOrder.{finite_below}
 use Rattle.element_envelope.proofs.OperandElements.{elements_stand}
 use Rattle.element_envelope.proofs.WindowConvolution.{endless}
 use Rattle.element_envelope.proofs.Windows.{windows_convolve}
 use Rattle.subadd_closure.specs.Thinned.{IsOver, IsThinned}
-
--- what is at most a number is one
-below_number : (x : Ext) (q : ℚ) → x ≤ₑ Fin q → (v : ℚ) × (x ≡ Fin v)
-below_number Inf q h = absurd h
-below_number (Fin v) q h = (v, refl)
 
 no_more : (a b : ℚ) → b ≤ℚ zero_q → a +ℚ b ≤ℚ a
 no_more a b h = with2 a b (λ c. omega (arith, c.le, c.lt, c.same))
@@ -74,7 +70,7 @@ module _ (F : ℚ → Ext) (end : ℚ) (f g : List Piece) (zs : List Element) (w
 
   start_element : StartElement
   start_element =
-      let (v, is) = below_number (read g zero_q) zero_q low in
+      let (v, is) = finite_below (read g zero_q) zero_q low in
       let e = (cover g Inf windows.right.starts (endless g)).found zero_q v (le_refl zero_q) tt is in
       let among : Among e.element ys = e.among in
       let most : level e.element zero_q ≤ℚ zero_q =
@@ -104,7 +100,7 @@ module _ (F : ℚ → Ext) (end : ℚ) (f g : List Piece) (zs : List Element) (w
         (add_le_ext (F s) (Fin (level i.left s)) (F u) (Fin (level i.right u))
         (same_le_ext (sym (reads s sn se) ∙ left_reads s i.left i.left_in i.split.first_in))
         (o.over u i.split.second_in ue)) in
-        let (w, at) = below_number (F t) (level i.left s +ℚ level i.right u) sum in
+        let (w, at) = finite_below (F t) (level i.left s +ℚ level i.right u) sum in
         let e = (cover f Inf windows.left.starts (endless f)).found t w tn tt (reads t tn early ∙ at) in
         let among : Among e.element xs = e.among in
         let b = start_element in

@@ -1,7 +1,7 @@
 use Rattle.std.proofs.Common.{◌+◌, drop, drop_of_length-le, refl}
-use Rattle.rational.proofs.Laws.{le_of_not_lt}
 use Rattle.affine_segment.proofs.NextPiece.{next_piece}
-use Rattle.subadd_closure.proofs.ThinnedElements.{under_more, under_stops, under_ends, not_less}
+use Rattle.subadd_closure.proofs.ThinnedElements.{under_more, under_stops, under_ends}
+use Rattle.rational.proofs.Compared.{least_by_test}
 use Rattle.subadd_closure.proofs.thinned.all_under.Goals as goal
 
 pub loop-p-preserved : goal.loop-p-preserved
@@ -19,7 +19,7 @@ returns-then-not-is_less c h =
     let i = c.loop-p.p-index in
     let p = c.p-item.result in
     under_stops c.args.line.now c.args.to p (drop i ps) (drop (i + 1) ps) ps
-    (next_piece p ps i c.loop-p-test.true c.p-item.is) (not_less p.x c.args.to c.if-not-is_less.ensures.less)
+    (next_piece p ps i c.loop-p-test.true c.p-item.is) (least_by_test p.x c.args.to c.if-not-is_less.ensures.less)
     c.loop-p.invariant
 
 pub returns : goal.returns
