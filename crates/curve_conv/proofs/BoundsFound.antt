@@ -11,6 +11,7 @@ use Rattle.rational.proofs.Laws.{le_refl, le_trans, le_of_lt, one_mul, mul_nonne
 use Rattle.rational.proofs.Integers.{nat_le, nat_nonneg}
 use Rattle.rational.proofs.Quotients.{div_le}
 use Rattle.rational.proofs.Grid.{whole_add}
+use Rattle.curve_pointwise.proofs.LatticeCalls.{more_periods}
 use Rattle.upp_curve.specs.Curve.{SpecCurve, value_at}
 use Rattle.upp_curve.specs.Steady.{steady, rate, rise_over, IsWholePeriods}
 use Rattle.upp_limits.specs.Limits.{Sizes}
@@ -136,7 +137,7 @@ after_enough slow fast from d end e n C up E bound = λ t h l.
     let T = late_times slow fast from d end C in
     late_enough (value_at slow) (value_at fast) (steady slow) (own_or d slow) (steady fast) (own_or d fast) d (rise_over slow (own_or d slow)) (rise_over fast (own_or d fast)) (rise_over slow d) (rise_over fast d) e
     (int (pos (n + 1))) t T.first.nonneg T.second.nonneg (mul_nonneg (nat_nonneg (n + 1)) (le_of_lt C.some)) (are_turning slow fast from d end e C up E) E bound
-    (past (steady slow) (steady fast) d from t (int (pos n) *ℚ d) (int (pos (n + 1)) *ℚ d) C.from_is (more_times n d) h)
+    (past (steady slow) (steady fast) d from t (int (pos n) *ℚ d) (int (pos (n + 1)) *ℚ d) C.from_is (more_periods n d) h)
   where
     past : (x y d from t v w : ℚ) → from ≡ x +ℚ y +ℚ d → w ≡ v +ℚ d → from +ℚ v ≤ℚ t → x +ℚ y +ℚ w ≤ℚ t
     past x y d from t v w start more late = with7 x y d from t v w (λ c. omega (arith, c.le, c.lt, c.same))
