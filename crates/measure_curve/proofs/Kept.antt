@@ -1,6 +1,6 @@
 -- The laws of the least arrival curve.
 use Rattle.std.specs.Prelude.{◌≡◌, ℕ, ◌≤◌, ◌==◌, ◌&&◌, true, false, List, [], ◌∷◌, sum_by}
-use Rattle.std.proofs.Common.{arith, refl, sym, subst, inl, inr}
+use Rattle.std.proofs.Common.{arith, refl, sym, subst, inl, inr, ◌∙◌}
 use Rattle.std.proofs.lemmas.Bool.{cases_Bool}
 use Rattle.std.proofs.lemmas.List.Sums.{sum_by-cons}
 use Rattle.rational.specs.Rational.{ℚ, ◌+ℚ◌, ◌-ℚ◌, ◌≤ℚ◌}
