@@ -55,19 +55,41 @@ shown_after : (ss : List Segment) (works : List Ramp) (s : Stretch) (own : List 
     → EndsShort ss works s own q
 shown_after ss works s own p q g m has e l short =
     let same = sym (after_end p q g.start e) in
-    inr (point_at works p, has_point_at works own p m, (g, has, inr (record {
-      inside = subst (λ t. t ≤ℚ s.end) same l;
-      short = subst (λ t. IsShortBy g (point_at works p) (point_at works t)) same short;
-    }, same)))
+    inr (
+      point_at works p,
+      has_point_at works own p m,
+      (
+        g,
+        has,
+        inr (
+          record {
+            inside = subst (λ t. t ≤ℚ s.end) same l;
+            short = subst (λ t. IsShortBy g (point_at works p) (point_at works t)) same short;
+          },
+          same,
+        ),
+      ),
+    )
 
 shown_before : (ss : List Segment) (works : List Ramp) (s : Stretch) (own : List ℚ) (p q : ℚ) (g : Segment) → Among q own → HasSegment g ss → g.start ≡ q -ℚ p → s.start ≤ℚ p → IsShortBy g (point_at works p) (point_at works q)
     → EndsShort ss works s own q
 shown_before ss works s own p q g m has e l short =
     let same = sym (before_end p q g.start e) in
-    inr (point_at works q, has_point_at works own q m, (g, has, inl (record {
-      inside = subst (λ t. s.start ≤ℚ t) same l;
-      short = subst (λ t. IsShortBy g (point_at works t) (point_at works q)) same short;
-    }, refl)))
+    inr (
+      point_at works q,
+      has_point_at works own q m,
+      (
+        g,
+        has,
+        inl (
+          record {
+            inside = subst (λ t. s.start ≤ℚ t) same l;
+            short = subst (λ t. IsShortBy g (point_at works t) (point_at works q)) same short;
+          },
+          refl,
+        ),
+      ),
+    )
 
 -- a window within a stretch is no longer than it; one as long is the whole stretch
 
@@ -94,11 +116,14 @@ pair_shows server V w c ps own s p q S H P low forward high pair less =
     let at = λ (t : ℚ) (turn : IsTurn w.end V t) (x : s.start ≤ℚ t) (y : t ≤ℚ s.end). own_turn w.end V s ps own t S.turns_are H turn x y in
     let at_p = λ (turn : IsTurn w.end V p). at p turn low (le_trans (le_of_lt forward) high) in
     let at_q = λ (turn : IsTurn w.end V q). at q turn (le_trans low (le_of_lt forward)) high in
-    let both : Among p own → Among q own → EndsShort (segments (unroll c far)) works s own q = λ (x : Among p own) (y : Among q own). inl (p, record {
-      from = x;
-      to = y;
-      short = (segments_tell c far (point_at works p) (point_at works q) S.serves some (le_of_lt forward) most).1 seen;
-    }) in
+    let both : Among p own → Among q own → EndsShort (segments (unroll c far)) works s own q = λ (x : Among p own) (y : Among q own). inl (
+      p,
+      record {
+        from = x;
+        to = y;
+        short = (segments_tell c far (point_at works p) (point_at works q) S.serves some (le_of_lt forward) most).1 seen;
+      },
+    ) in
     let begun = λ (g : ℚ) (start : HasStart (q -ℚ p) (unroll c g)) (m : q -ℚ p <ℚ far). starts_tell c far (point_at works p) (point_at works q) S.serves some (le_of_lt forward) most (start_before c far g (q -ℚ p) n start m) seen in
     elim pair [
       | inl two ↦ both (at_p two.0) (at_q two.1)

@@ -59,13 +59,7 @@ pub(crate) fn earlier_time(best: Option<Frac>, next: Option<Frac>) -> Option<Fra
         None => next,
         Some(t) => match next {
             None => Some(t),
-            Some(u) => {
-                if is_less(u, t) {
-                    Some(u)
-                } else {
-                    Some(t)
-                }
-            }
+            Some(u) => { if is_less(u, t) { Some(u) } else { Some(t) } }
         },
     }
 }

@@ -89,12 +89,7 @@ fn far_by(points: &[Point], rule: &Rule, t: Frac) -> usize
 }
 
 /// The points from which a window that ends from `first` to `last` is as long as the segment lets it be.
-pub(crate) fn in_reach<'a>(
-    points: &'a [Point],
-    s: &Segment,
-    first: Frac,
-    last: Frac,
-) -> &'a [Point]
+pub(crate) fn in_reach<'a>(points: &'a [Point], s: &Segment, first: Frac, last: Frac) -> &'a [Point]
     requires rise { PointsRise points.now }
     requires fits { FitsMarks points.now s.now }
     ensures { HoldsStarts s.now points.now first last result.now }
