@@ -51,7 +51,8 @@ pub record HoldsStarts (s : Segment) (ps : List Point) (first last : ℚ) (qs : 
 pub record IsFirstBy (s : Segment) (ps ends : List Point) (k : ℕ) : Type 0 where
   pub in_range : k ≤ length ends
   pub none : EachPoint (NoneShortTo ps s) (take k ends)
-  pub there : k < length ends → (b : Point) × (slice_get ends k ≡ Some b) × ((a : Point) × HasPoint a ps × IsShortBy s a b)
+  pub there : k < length ends
+      → (b : Point) × (slice_get ends k ≡ Some b) × ((a : Point) × HasPoint a ps × IsShortBy s a b)
 
 -- by some of the segments
 pub record IsFirstEnd (some ss : List Segment) (ps ends : List Point) (k : ℕ) : Type 0 where
