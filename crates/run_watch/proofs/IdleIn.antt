@@ -64,7 +64,7 @@ idle_is_short server V w c ps s a b S h low idle from upto =
       short = (segments_tell c w.end (point_at w.works.items a) (point_at w.works.items b) S.serves S.some (le_of_lt idle.forward) long).1 ((less_seen server V w (value_at c (b -ℚ a)) a b S.seen).1 idle.less);
     }
 
-not_at_once : (c : SpecCurve) (x d : ℚ) → MayServe c → d ≡ int (pos 0) → Fin x <ₑ (Fin x +ₑ value_at c d) → ⊥
+pub not_at_once : (c : SpecCurve) (x d : ℚ) → MayServe c → d ≡ int (pos 0) → Fin x <ₑ (Fin x +ₑ value_at c d) → ⊥
 not_at_once c x d M e h =
     let (v, is) = M.finite zero_q (le_refl zero_q) in
     let at : value_at c d ≡ Fin v = ap (value_at c) e ∙ is in

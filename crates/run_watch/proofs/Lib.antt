@@ -9,6 +9,7 @@ pub mod ViewStretches
 pub mod FoundStretches
 pub mod FoundTurns
 pub mod LeastFirst
+pub mod LeastTimes
 pub mod ShortWindows
 pub mod SortedPoints
 pub mod OrderedTimes
@@ -29,3 +30,4 @@ pub mod ClearStretches
 pub mod ShortEnds
 pub mod FirstOfTwo
 pub mod FirstFound
+pub mod CutStretches

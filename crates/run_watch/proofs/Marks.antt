@@ -262,24 +262,24 @@ scans_later r marks b c n kept l h = record {
 pub kept_fit : (P : Mark → Type 0) (r : Rule) (marks : List Mark) (b : Mark) (n : ℕ) (kept : List Mark) → Scans r marks b n kept → Each P marks → Each P kept
 kept_fit P r marks b n kept h fits = each_map (λ d. Has d marks × (d.time +ℚ r.least ≤ℚ b.time)) P (λ d k. each_at P marks d fits k.0) kept h.ready
 
-pub scanned_at : (r : Rule) (marks : List Mark) (k into : ℕ) (kept : List Mark) (b : Mark) → Scanned r marks k into kept → TimesRise marks → k < length marks
-    → b ≡ slice_index_or marks k b → Scans r marks b into kept
-scanned_at r marks k into kept b h rise l e = h.ready b (order_at marks k b rise l e)
+pub scanned_at : (r : Rule) (marks ends : List Mark) (k into : ℕ) (kept : List Mark) (b : Mark) → Scanned r marks ends k into kept → TimesRise ends → k < length ends
+    → b ≡ slice_index_or ends k b → Scans r marks b into kept
+scanned_at r marks ends k into kept b h rise l e = h.ready b (order_at ends k b rise l e)
 
 over_front : (r : Rule) (marks : List Mark) (b : Mark) (into : ℕ) (kept : List Mark) → Scans r marks b into kept → Each (IsNotFar r b) (drop into marks)
     → ¬ FrontUnder r.gap b.end_key kept → IsOver r marks b
 over_front r marks b into [] h rest none = empty_over r marks b into h rest
 over_front r marks b into (d ∷ kept) h rest none = front_over r marks b d into kept h rest (le_of_not_lt none)
 
-pub scanned_more : (r : Rule) (marks : List Mark) (k into next : ℕ) (old kept : List Mark) (b : Mark) → Scanned r marks k into old → TimesRise marks → k < length marks
-    → b ≡ slice_index_or marks k b → next ≤ length marks → Scans r marks b next kept → Each (IsNotFar r b) (drop next marks)
-    → ¬ FrontUnder r.gap b.end_key kept → Scanned r marks (suc k) next kept
-scanned_more r marks k into next old kept b h rise l e in_range scans rest none =
-    let more = taken_at marks k b l e in
+pub scanned_more : (r : Rule) (marks ends : List Mark) (k into next : ℕ) (old kept : List Mark) (b : Mark) → Scanned r marks ends k into old → TimesRise ends → k < length ends
+    → b ≡ slice_index_or ends k b → next ≤ length marks → Scans r marks b next kept → Each (IsNotFar r b) (drop next marks)
+    → ¬ FrontUnder r.gap b.end_key kept → Scanned r marks ends (suc k) next kept
+scanned_more r marks ends k into next old kept b h rise l e in_range scans rest none =
+    let more = taken_at ends k b l e in
     record {
       in_range = in_range;
-      ready = λ c before. scans_later r marks b c next kept (each-parts (λ m. m.time ≤ℚ c.time) (take k marks) (b ∷ []) (subst (Each (λ m. m.time ≤ℚ c.time)) more before)).1.0 scans;
-      over = subst (Each (IsOver r marks)) (sym more) (each-append (IsOver r marks) (take k marks) (b ∷ []) h.over (over_front r marks b next kept scans rest none, tt));
+      ready = λ c before. scans_later r marks b c next kept (each-parts (λ m. m.time ≤ℚ c.time) (take k ends) (b ∷ []) (subst (Each (λ m. m.time ≤ℚ c.time)) more before)).1.0 scans;
+      over = subst (Each (IsOver r marks)) (sym more) (each-append (IsOver r marks) (take k ends) (b ∷ []) h.over (over_front r marks b next kept scans rest none, tt));
     }
 
 pub under_front : (r : Rule) (marks : List Mark) (b : Mark) (into : ℕ) (kept : List Mark) → Scans r marks b into kept → StartsNear r.most b.time kept

@@ -1,5 +1,5 @@
 -- The look at a stretch's own turns: step by step, and the sizes of its numbers.
-use Rattle.std.specs.Prelude.{◌≡◌, ◌↔◌, ℕ, ◌<◌, ◌≤◌, pos, Bool, IsTrue, List, [], ◌∷◌, length, map, Option, Some, None, MatchOption}
+use Rattle.std.specs.Prelude.{◌≡◌, ◌↔◌, ℕ, ◌<◌, pos, Bool, IsTrue, List, [], ◌∷◌, length, map, Option, Some, None}
 use Rattle.std.specs.List.{slice_index_or}
 use Rattle.std.proofs.Common.{arith, refl, sym, subst, ap, inl, inr, ◌∙◌}
 use Rattle.std.proofs.lemmas.Bool.{cases_Bool, and_parts}
@@ -32,39 +32,26 @@ use Rattle.run_watch.specs.declared.watched.Stretch.{Stretch}
 use Rattle.run_watch.specs.Ramps.{amount, spans_of, EachRamp, ReadsRamp}
 use Rattle.run_watch.specs.Watching.{stops, next_after, stretches, turns, TimesRise, HoldsTimes}
 use Rattle.run_watch.specs.WatchTimes.{point_at, watched_from}
-use Rattle.run_watch.specs.FirstEnds.{FitsMarks, IsFirstEnd, FitsSegments}
+use Rattle.run_watch.specs.FirstEnds.{FitsMarks, FitsSegments}
 use Rattle.run_watch.specs.IdleWindows.{FindsShort, TimeFits, SegmentsFit}
-use Rattle.run_watch.specs.NearWindows.{FitsAt, FitsNear, FitsNearBy, IsShortAfter, IsShortBefore, IsNearEndOf, NoneNear, IsClear, EndsShort}
+use Rattle.run_watch.specs.NearWindows.{FitsAt, FitsNear, FitsNearBy, IsShortAfter, IsShortBefore, IsNearEndOf, EndsShort, IsLeast}
 use Rattle.run_watch.specs.Held.{AreHeld, IsHeld}
 use Rattle.run_watch.specs.Searches.{IsLookedAt, IsClearStretch, FindsIn}
-use Rattle.run_watch.proofs.OrderedTimes.{same_times}
 use Rattle.run_watch.proofs.FoundStretches.{HasStretch, ramp_in}
 use Rattle.run_watch.proofs.FirstIdle.{stretch_times}
 use Rattle.run_watch.proofs.HeldSizes.{IsHeldSegment, segments_held, segment_map, gap_steps, segment_keys, ramps_read, segments_fit, time_fits, times_sum_fit, times_differ, length_time}
 use Rattle.run_watch.proofs.HeldTimes.{turns_time}
 use Rattle.run_watch.proofs.IdleIn.{has_at}
-use Rattle.run_watch.proofs.SortedPoints.{each_point_at, each_time_from, each_time_among, fits_of, none_short}
+use Rattle.run_watch.proofs.SortedPoints.{each_point_at, each_time_from, each_time_among, fits_of}
 
 -- ---- points
 pub points_fit : (ss gs : List Segment) (works : List Ramp) (ts : List ℚ) (ps : List Point) → gs ≡ ss → ps ≡ map (point_at works) ts → SegmentsFit ss → EachTime (TimeFits ss works) ts → FitsSegments ps gs
 points_fit ss gs works ts ps e f g h = subst (FitsSegments ps) (sym e) (fits_of works ts ss ps f g h)
 
-clear : (ss gs : List Segment) (works : List Ramp) (s : Stretch) (ts : List ℚ) (ps : List Point) (k : ℕ) → gs ≡ ss → ps ≡ map (point_at works) ts → IsFirstEnd gs gs ps k → length ps ≤ k → NoneNear gs works s ps → IsClear ss works s ts
-clear ss gs works s ts ps k e f first late near = subst (λ (xs : List Segment). IsClear xs works s ts) e record {
-  pairs = none_short gs works ts ts ps k (same_times ts) f first late;
-  near = subst (NoneNear gs works s) f near;
-}
-
--- what the look at the turns and near them finds
-pub looked_near : (ss gs hs : List Segment) (works : List Ramp) (s : Stretch) (ts : List ℚ) (ps rs : List Point) (k : ℕ) (o : Option ℚ) → gs ≡ ss → hs ≡ ss → ps ≡ map (point_at works) ts → rs ≡ map (point_at works) ts → IsFirstEnd gs gs ps k → length ps ≤ k
-    → MatchOption o (NoneNear hs works s rs) (IsNearEndOf hs works s rs) → MatchOption o (IsClear ss works s ts) (EndsShort ss works s ts)
-looked_near ss gs hs works s ts ps rs k o e e2 f f2 first late found =
-    go o (subst (λ (xs : List Point). MatchOption o (NoneNear ss works s xs) (IsNearEndOf ss works s xs)) f2 (subst (λ (xs : List Segment). MatchOption o (NoneNear xs works s rs) (IsNearEndOf xs works s rs)) e2 found))
-  where
-    go : (o : Option ℚ) → MatchOption o (NoneNear ss works s (map (point_at works) ts)) (IsNearEndOf ss works s (map (point_at works) ts)) → MatchOption o (IsClear ss works s ts) (EndsShort ss works s ts)
-    go None none =
-        clear ss gs works s ts ps k e f first late (subst (λ (xs : List Point). NoneNear gs works s xs) (sym f) (subst (λ (xs : List Segment). NoneNear xs works s (map (point_at works) ts)) (sym e) none))
-    go (Some t) near = inr near
+-- what is found near the turns
+pub near_as : (ss gs : List Segment) (works : List Ramp) (s : Stretch) (ts : List ℚ) (ps : List Point) (o : Option ℚ) → gs ≡ ss → ps ≡ map (point_at works) ts → IsLeast (IsNearEndOf gs works s ps) o
+    → IsLeast (IsNearEndOf ss works s (map (point_at works) ts)) o
+near_as ss gs works s ts ps o e f h = subst (λ (xs : List Point). IsLeast (IsNearEndOf ss works s xs) o) f (subst (λ (xs : List Segment). IsLeast (IsNearEndOf xs works s ps) o) e h)
 
 -- ---- a shorter window
 pub limited_to : (z : Sizes) (end far : ℚ) → AreLimited z end → Whole z.dt far → int (pos 0) ≤ℚ far → far ≤ℚ end → AreLimited z far
@@ -263,9 +250,10 @@ before_is works s p g u v b e f n h =
 pub not_before : (works : List Ramp) (s : Stretch) (p : Point) (g : Segment) (u : ℚ) → u ≡ p.time -ℚ g.start → u <ℚ s.start → ¬ IsShortBefore works s p g
 not_before works s p g u e l k = lt_irrefl s.start (le_lt_trans (subst (λ x. s.start ≤ℚ x) (sym e) k.inside) l)
 
-pub clear_as : (w : Watched) (c : SpecCurve) (s : Stretch) (own : List ℚ) (works : List Ramp) (qs : List Piece) → works ≡ w.works.items → qs ≡ unroll c (s.end -ℚ s.start) → IsClear (segments qs) works s own → IsClearStretch w c s own
+pub clear_as : (w : Watched) (c : SpecCurve) (s : Stretch) (own : List ℚ) (works : List Ramp) (qs : List Piece) → works ≡ w.works.items → qs ≡ unroll c (s.end -ℚ s.start) → ((t : ℚ) → ¬ EndsShort (segments qs) works s own t)
+    → IsClearStretch w c s own
 clear_as w c s own works qs e f h =
-    subst (λ (rs : List Ramp). IsClear (segments (unroll c (s.end -ℚ s.start))) rs s own) e (subst (λ (xs : List Piece). IsClear (segments xs) works s own) f h)
+    subst (λ (rs : List Ramp). (t : ℚ) → ¬ EndsShort (segments (unroll c (s.end -ℚ s.start))) rs s own t) e (subst (λ (xs : List Piece). (t : ℚ) → ¬ EndsShort (segments xs) works s own t) f h)
 
 -- what is found between the watch points
 pub found_watched : (w : Watched) (c : SpecCurve) (s : Stretch) (own all : List ℚ) (works : List Ramp) (qs : List Piece) (gs : List Segment) (o : Option (ℚ × ℚ)) → works ≡ w.works.items → qs ≡ unroll c w.end → gs ≡ segments qs

@@ -1,5 +1,5 @@
 -- A short window that a stretch's own turns show is one between its watch points; so the first is among those up to its end.
-use Rattle.std.specs.Prelude.{◌≡◌, ◌⊎◌, pos, List, [], ◌∷◌, Option, Some, None, MatchOption}
+use Rattle.std.specs.Prelude.{◌≡◌, ◌⊎◌, pos, List, [], ◌∷◌, Option, Some, None}
 use Rattle.std.proofs.Common.{arith, refl, sym, subst, inl, inr}
 use Rattle.rational.specs.Rational.{ℚ, int, ◌+ℚ◌, ◌-ℚ◌, ◌≤ℚ◌, ◌<ℚ◌}
 use Rattle.rational.proofs.Laws.{le_refl, le_trans, le_or_lt, le_lt_trans}
@@ -25,7 +25,7 @@ use Rattle.run_watch.specs.declared.watched.Stretch.{Stretch}
 use Rattle.run_watch.specs.Watching.{HoldsTimes}
 use Rattle.run_watch.specs.WatchTimes.{around, watched_from, point_at, IsShortTo}
 use Rattle.run_watch.specs.IdleWindows.{IsShortWindow, FindsShort, TimeFits}
-use Rattle.run_watch.specs.NearWindows.{IsNearEnd, IsClear, EndsShort}
+use Rattle.run_watch.specs.NearWindows.{IsNearEnd, EndsShort, IsLeast}
 use Rattle.run_watch.specs.Held.{IsHeld}
 use Rattle.run_watch.specs.Searches.{IsLookedAt, FindsIn}
 use Rattle.run_watch.proofs.ClearStretches.{each_segment_has, no_longer}
@@ -49,10 +49,10 @@ in_other s u qs ps t h from upto =
     let r = in_watched s qs ps t h in
     moved_turn u qs ps r.turn r.around_it.x t r.has r.around_it.start r.around_it.is from upto
 
-from_start : (s : Stretch) (qs : List Piece) (ps : List ℚ) (t : ℚ) → Among t (watched_from s qs ps) → s.start ≤ℚ t
+pub from_start : (s : Stretch) (qs : List Piece) (ps : List ℚ) (t : ℚ) → Among t (watched_from s qs ps) → s.start ≤ℚ t
 from_start s qs ps t h = (in_watched s qs ps t h).around_it.from
 
-upto_end : (s : Stretch) (qs : List Piece) (ps : List ℚ) (t : ℚ) → Among t (watched_from s qs ps) → t ≤ℚ s.end
+pub upto_end : (s : Stretch) (qs : List Piece) (ps : List ℚ) (t : ℚ) → Among t (watched_from s qs ps) → t ≤ℚ s.end
 upto_end s qs ps t h = (in_watched s qs ps t h).around_it.upto
 
 -- ---- a stretch that is cut
@@ -243,13 +243,13 @@ ends_watched w c s own all works t R starts h = elim h [
 
 -- ---- as the code has them
 abbrev pub Looks : List Piece → List Ramp → Stretch → List ℚ → Option ℚ → Type 0
-Looks ns rs s own o = MatchOption o (IsClear (segments ns) rs s own) (EndsShort (segments ns) rs s own)
+Looks ns rs s own o = IsLeast (EndsShort (segments ns) rs s own) o
 
-pub looks_clear : (ns : List Piece) (rs : List Ramp) (s : Stretch) (own : List ℚ) (o : Option ℚ) → o ≡ None → Looks ns rs s own o → IsClear (segments ns) rs s own
+pub looks_clear : (ns : List Piece) (rs : List Ramp) (s : Stretch) (own : List ℚ) (o : Option ℚ) → o ≡ None → Looks ns rs s own o → (t : ℚ) → ¬ EndsShort (segments ns) rs s own t
 looks_clear ns rs s own o e h = subst (Looks ns rs s own) e h
 
 pub looks_short : (ns : List Piece) (rs : List Ramp) (s : Stretch) (own : List ℚ) (o : Option ℚ) (t : ℚ) → o ≡ Some t → Looks ns rs s own o → EndsShort (segments ns) rs s own t
-looks_short ns rs s own o t e h = subst (Looks ns rs s own) e h
+looks_short ns rs s own o t e h = (subst (Looks ns rs s own) e h).0
 
 pub near_watched_times : (w : Watched) (c : SpecCurve) (s : Stretch) (own all : List ℚ) (ns qs : List Piece) (t : ℚ) → IsHeld w c → IsLookedAt w s own all → t ≤ℚ s.end → ns ≡ unroll c (s.end -ℚ s.start) → qs ≡ unroll c w.end
     → EachTime (TimeFits (segments ns) w.works.items) (watched_from record { start = s.start; end = t } qs all)

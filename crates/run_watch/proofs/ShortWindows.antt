@@ -1,7 +1,7 @@
 -- A window is short by a segment where its two marks say so; and the first of some points from which one is.
-use Rattle.std.specs.Prelude.{◌≡◌, ◌⊎◌, ℕ, zero, suc, ◌+◌, ◌<◌, ◌≤◌, List, [], ◌∷◌, length, take}
+use Rattle.std.specs.Prelude.{◌≡◌, ◌⊎◌, ℕ, zero, suc, ◌+◌, ◌<◌, ◌≤◌, List, [], ◌∷◌, length, take, Some, None}
 use Rattle.std.specs.List.{slice_index_or}
-use Rattle.std.proofs.Common.{arith, inl, inr, sym, subst, ◌∙◌, add-one}
+use Rattle.std.proofs.Common.{arith, inl, inr, refl, sym, subst, ◌∙◌, add-one}
 use Rattle.rational.specs.Rational.{ℚ, ◌+ℚ◌, ◌≤ℚ◌, ◌<ℚ◌}
 use Rattle.rational.proofs.Laws.{le_refl, lt_le_trans, lt_irrefl, le_of_not_lt}
 use Rattle.watch_laws.specs.declared.mark.Mark.{Mark}
@@ -9,9 +9,11 @@ use Rattle.watch_laws.specs.declared.mark.Rule.{Rule}
 use Rattle.watch_laws.specs.declared.point.Point.{Point}
 use Rattle.watch_laws.specs.declared.point.Segment.{Segment}
 use Rattle.watch_laws.specs.Marks.{IsPast, IsUnder}
-use Rattle.watch_laws.specs.Shorts.{EachPoint, HasPoint, EachSegment, HasSegment, PointsRise, IsShortBy}
-use Rattle.run_watch.specs.FirstEnds.{mark_of, rule_of, FitsSegments}
-use Rattle.run_watch.specs.WatchTimes.{IsShortTo, IsFirstStart}
+use Rattle.watch_laws.specs.Shorts.{EachPoint, HasPoint, PointsRise, IsShortBy}
+use Rattle.run_watch.specs.FirstEnds.{mark_of, rule_of, HoldsStarts, FitsMarks, FitsSegments}
+use Rattle.run_watch.specs.WatchTimes.{StartsBy}
+use Rattle.run_watch.specs.NearWindows.{IsLeast}
+use Rattle.run_watch.proofs.LeastTimes.{points_taken}
 use Rattle.run_watch.proofs.ShortMarks.{short_under, under_short}
 
 -- ---- one window
@@ -48,26 +50,6 @@ short_here s a b r x y q p m e l n f = (
   λ h. subst (λ z. y.end_key <ℚ z) (sym f) (as_under s a b r x y m h).less,
 )
 
--- ---- some segments
-pub segments_push : (P : Segment → Type 0) (ss : List Segment) (k : ℕ) (s : Segment) → k < length ss → s ≡ slice_index_or ss k s → EachSegment P (take k ss) → P s → EachSegment P (take (k + 1) ss)
-segments_push P ss k s l e h p = rw add-one (push ss k l e h)
-  where
-    push : (ss : List Segment) (k : ℕ) → k < length ss → s ≡ slice_index_or ss k s → EachSegment P (take k ss) → EachSegment P (take (suc k) ss)
-    push [] k l e h = absurd (omega arith)
-    push (r ∷ ss) zero l e h = (subst P e p, tt)
-    push (r ∷ ss) (suc k) l e h = (h.0, push ss k (omega arith) e h.1)
-
-pub none_of_all : (ss : List Segment) (k : ℕ) (a b : Point) → length ss ≤ k → EachSegment (λ s. ¬ IsShortBy s a b) (take k ss) → ¬ IsShortTo ss a b
-none_of_all ss k a b l h is = let (s, has, short) = is in go ss k l h has short
-  where
-    go : {s : Segment} (ss : List Segment) (k : ℕ) → length ss ≤ k → EachSegment (λ s. ¬ IsShortBy s a b) (take k ss) → HasSegment s ss → IsShortBy s a b → ⊥
-    go [] k l h has short = has
-    go (r ∷ ss) zero l h has short = absurd (omega arith)
-    go {s} (r ∷ ss) (suc k) l h has short = elim has [
-      | inl e ↦ h.0 (subst (λ (q : Segment). IsShortBy q a b) e short)
-      | inr m ↦ go {s = s} ss k (omega arith) h.1 m short
-    ]
-
 -- ---- some points
 pub points_push : (P : Point → Type 0) (ps : List Point) (k : ℕ) (p : Point) → k < length ps → p ≡ slice_index_or ps k p → EachPoint P (take k ps) → P p → EachPoint P (take (k + 1) ps)
 points_push P ps k p l e h is = rw add-one (push ps k l e h)
@@ -98,25 +80,31 @@ first_or_later (q ∷ ps) (suc k) a p h l e has = elim has [
   | inr m ↦ elim (first_or_later ps k a p h.1 (omega arith) e m) [ inl n ↦ inl (inr n) | inr n ↦ inr n ]
 ]
 
-pub first_start_is : (ss : List Segment) (ps : List Point) (k : ℕ) (a b : Point) → PointsRise ps → k < length ps → a ≡ slice_index_or ps k a → EachPoint (λ p. ¬ IsShortTo ss p b) (take k ps) → IsShortTo ss a b
-    → IsFirstStart ss ps b a
-first_start_is ss ps k a b h l e none is = record {
-  one_of = point_has ps k a l e;
-  short = is;
-  least = λ p has short. elim (first_or_later ps k a p h l e has) [
-    | inl m ↦ absurd (each_point_has (λ p. ¬ IsShortTo ss p b) (take k ps) p none m short)
-    | inr m ↦ m
-  ];
-}
+pub first_by : (s : Segment) (ps qs : List Point) (k : ℕ) (a b : Point) → HoldsStarts s ps b.time b.time qs → k < length qs → a ≡ slice_index_or qs k a → EachPoint (λ p. ¬ IsShortBy s p b) (take k qs) → IsShortBy s a b
+    → IsLeast (StartsBy ps b s) (Some a.time)
+first_by s ps qs k a b h l e none is = (
+  (a, h.are a (point_has qs k a l e), is, refl),
+  λ t w.
+      let (p, has, short, at) = w in
+      elim (first_or_later qs k a p h.rise l e (h.all p b has (le_refl b.time) (le_refl b.time) short)) [
+        | inl m ↦ absurd (each_point_has (λ p. ¬ IsShortBy s p b) (take k qs) p none m short)
+        | inr m ↦ subst (λ x. a.time ≤ℚ x) (sym at) m
+      ],
+)
+
+pub none_by_reach : (s : Segment) (ps qs : List Point) (k : ℕ) (b : Point) → HoldsStarts s ps b.time b.time qs → length qs ≤ k → EachPoint (λ p. ¬ IsShortBy s p b) (take k qs) → IsLeast (StartsBy ps b s) None
+none_by_reach s ps qs k b h l none t w =
+    let (p, has, short, at) = w in
+    each_point_has (λ p. ¬ IsShortBy s p b) qs p (subst (EachPoint (λ p. ¬ IsShortBy s p b)) (points_taken qs k l) none) (h.all p b has (le_refl b.time) (le_refl b.time) short) short
 
 -- ---- sizes
+pub fits_at : (s : Segment) (ps : List Point) (k : ℕ) (p : Point) → k < length ps → p ≡ slice_index_or ps k p → FitsMarks ps s → FitsMarks (p ∷ []) s
+fits_at s ps k p l e h = record {
+  keys = (each_point_has _ ps p h.keys (point_has ps k p l e), tt);
+  gap = h.gap;
+  marks = (each_point_has _ ps p h.marks (point_has ps k p l e), tt);
+}
+
 pub fits_one : (ss : List Segment) (ps : List Point) (k : ℕ) (p : Point) → k < length ps → p ≡ slice_index_or ps k p → FitsSegments ps ss → FitsSegments (p ∷ []) ss
 fits_one [] ps k p l e h = tt
-fits_one (s ∷ ss) ps k p l e h = (
-  record {
-    keys = (each_point_has _ ps p h.0.keys (point_has ps k p l e), tt);
-    gap = h.0.gap;
-    marks = (each_point_has _ ps p h.0.marks (point_has ps k p l e), tt);
-  },
-  fits_one ss ps k p l e h.1,
-)
+fits_one (s ∷ ss) ps k p l e h = (fits_at s ps k p l e h.0, fits_one ss ps k p l e h.1)

@@ -7,20 +7,23 @@ use Rattle.std.proofs.Common.{arith, inl, inr, refl, sym, subst, ap, ◌∙◌, 
 use Rattle.std.proofs.lemmas.List.Sorted.{Contains-permutation, IsPermutation-sym}
 use Rattle.rational.specs.Rational.{ℚ, int, ◌≤ℚ◌, ◌<ℚ◌}
 use Rattle.rational.specs.Ratio.{cmp_q}
-use Rattle.rational.proofs.Laws.{le_refl, le_trans, le_or_lt, lt_le_trans, le_lt_trans, lt_irrefl, antisym}
+use Rattle.rational.proofs.Laws.{le_refl, le_trans, le_or_lt, le_of_lt, antisym}
 use Rattle.rational.proofs.Linear.{with3}
 use Rattle.watch_laws.specs.Affine.{EachTime, Among}
 use Rattle.watch_laws.specs.declared.point.Point.{Point}
 use Rattle.watch_laws.specs.declared.point.Segment.{Segment}
-use Rattle.watch_laws.specs.Shorts.{EachPoint, HasPoint, EachSegment, HasSegment, PointsRise, IsShortBy, NoneShortTo, NoneShort}
+use Rattle.watch_laws.specs.Shorts.{EachPoint, HasPoint, EachSegment, HasSegment, PointsRise, IsShortBy, NoneShortTo}
 use Rattle.run_watch.specs.declared.span.Ramp.{Ramp}
 use Rattle.run_watch.specs.Ramps.{EachRamp, ReadsRamp}
-use Rattle.run_watch.specs.Watching.{TimesRise}
+use Rattle.run_watch.specs.declared.watched.Stretch.{Stretch}
+use Rattle.run_watch.specs.Watching.{TimesRise, HoldsTimes}
 use Rattle.run_watch.specs.FirstEnds.{KeySteps, GapSteps, FitsMarks, FitsSegments, IsFirstEnd, mark_of, rule_of}
-use Rattle.run_watch.specs.WatchTimes.{HaveSameTimes, point_at, IsShortTo, IsFirstStart}
-use Rattle.run_watch.specs.IdleWindows.{IsShortWindow, NoneIsShort, IsFirstShort, TimeFits, SegmentsFit}
+use Rattle.run_watch.specs.WatchTimes.{HaveSameTimes, point_at, IsShortTo, StartsTo}
+use Rattle.run_watch.specs.NearWindows.{IsLeast}
+use Rattle.run_watch.specs.IdleWindows.{IsShortWindow, NoneIsShort, IsFirstShort, NoneEndsBy, TimeFits, SegmentsFit}
 use Rattle.watch_laws.specs.Marks.{FitsRule}
 use Rattle.run_watch.proofs.ShortWindows.{each_point_has, first_or_later, point_has}
+use Rattle.run_watch.proofs.LeastTimes.{points_taken}
 use Rattle.run_laws.proofs.Times.{each_time_map}
 use Rattle.step_lines.proofs.SortedParts.{no_less}
 
@@ -56,6 +59,11 @@ each_time_among P (x ∷ ts) t h k = elim k [ inl e ↦ subst P (sym e) h.0 | in
 
 pub each_same : (P : ℚ → Type 0) (xs ts : List ℚ) → HaveSameTimes xs ts → EachTime P xs → EachTime P ts
 each_same P xs ts h k = each_time_from P ts (λ t a. each_time_among P xs t k (h.back t a))
+
+pub among_at : (ts : List ℚ) (k : ℕ) (t : ℚ) → k < length ts → t ≡ slice_index_or ts k t → Among t ts
+among_at [] k t l e = absurd (omega arith)
+among_at (x ∷ ts) zero t l e = inl e
+among_at (x ∷ ts) (suc k) t l e = inr (among_at ts k t (omega arith) e)
 
 -- ---- order
 
@@ -125,27 +133,29 @@ fits_of works ts ss ps e g h =
     subst (λ (qs : List Point). FitsSegments qs ss) (sym e) (all_fit works ts ss g.gaps (each_time_map (TimeFits ss works) (KeysAt works ss) (λ t k. (k.keys, k.marks)) ts h))
 
 -- ---- what the scan says of the times
-none_in : (ss : List Segment) (ps : List Point) (a b : Point) → NoneShort ss ps → HasPoint a ps → HasPoint b ps → IsShortTo ss a b → ⊥
-none_in ss ps a b none ha hb is = let (s, has, short) = is in go ss none s has short
+none_in : (ss : List Segment) (ps es : List Point) (a b : Point) → EachSegment (λ s. EachPoint (NoneShortTo ps s) es) ss → HasPoint a ps → HasPoint b es → IsShortTo ss a b → ⊥
+none_in ss ps es a b none ha hb is = let (s, has, short) = is in go ss none s has short
   where
-    go : (ss : List Segment) → NoneShort ss ps → (s : Segment) → HasSegment s ss → IsShortBy s a b → ⊥
+    go : (ss : List Segment) → EachSegment (λ s. EachPoint (NoneShortTo ps s) es) ss → (s : Segment) → HasSegment s ss → IsShortBy s a b → ⊥
     go [] none s has short = has
     go (r ∷ ss) none s has short = elim has [
-      | inl e ↦ each_point_has (λ a. ¬ IsShortBy r a b) ps a (each_point_has (NoneShortTo ps r) ps b none.0 hb) ha (subst (λ (q : Segment). IsShortBy q a b) e short)
+      | inl e ↦ each_point_has (λ a. ¬ IsShortBy r a b) ps a (each_point_has (NoneShortTo ps r) es b none.0 hb) ha (subst (λ (q : Segment). IsShortBy q a b) e short)
       | inr m ↦ go ss none.1 s m short
     ]
 
-pub none_short : (ss : List Segment) (works : List Ramp) (xs ts : List ℚ) (ps : List Point) (k : ℕ) → HaveSameTimes xs ts → ps ≡ map (point_at works) ts → IsFirstEnd ss ss ps k → length ps ≤ k
-    → NoneIsShort ss works xs
-none_short ss works xs ts ps k same e f l a b is =
-    let there : (t : ℚ) → Among t xs → HasPoint (point_at works t) (take k ps) = λ t h. subst (λ (qs : List Point). HasPoint (point_at works t) qs) (sym (taken ps k l)) (subst (λ (qs : List Point). HasPoint (point_at works t) qs) (sym e) (has_point_at works ts t (same.into t h))) in
-    none_in ss (take k ps) (point_at works a) (point_at works b) f.none (there a is.from) (there b is.to) is.short
-  where
-    taken : (qs : List Point) (k : ℕ) → length qs ≤ k → take k qs ≡ qs
-    taken [] zero h = refl
-    taken [] (suc k) h = refl
-    taken (q ∷ qs) zero h = absurd (omega arith)
-    taken (q ∷ qs) (suc k) h = ap (λ (rs : List Point). q ∷ rs) (taken qs k (omega arith))
+-- the points of the times xs, and the ends among them: each short window has one
+pub record AreEnds (ss : List Segment) (works : List Ramp) (xs ts us : List ℚ) (ps es : List Point) : Type 0 where
+  pub same : HaveSameTimes xs ts
+  pub points : ps ≡ map (point_at works) ts
+  pub ends : es ≡ map (point_at works) us
+  pub are : (t : ℚ) → Among t us → Among t ts
+  pub all : (a b : ℚ) → IsShortWindow ss works xs a b → Among b us
+
+pub none_short : (ss : List Segment) (works : List Ramp) (xs ts us : List ℚ) (ps es : List Point) (k : ℕ) → AreEnds ss works xs ts us ps es → IsFirstEnd ss ss ps es k → length es ≤ k → NoneIsShort ss works xs
+none_short ss works xs ts us ps es k A f l a b is =
+    let start = subst (λ (qs : List Point). HasPoint (point_at works a) qs) (sym A.points) (has_point_at works ts a (A.same.into a is.from)) in
+    let end = subst (λ (qs : List Point). HasPoint (point_at works b) qs) (sym (points_taken es k l)) (subst (λ (qs : List Point). HasPoint (point_at works b) qs) (sym A.ends) (has_point_at works us b (A.all a b is))) in
+    none_in ss ps (take k es) (point_at works a) (point_at works b) f.none start end is.short
 
 segment_start : (ss : List Segment) (s : Segment) → EachSegment (λ s. int (pos 0) ≤ℚ s.start) ss → HasSegment s ss → int (pos 0) ≤ℚ s.start
 segment_start [] s h k = absurd k
@@ -161,38 +171,36 @@ ordered ss a b h is =
     let u = b.time in
     with3 x t u (λ c. omega (arith, c.le, c.lt, c.same))
 
-pub first_short : (ss : List Segment) (works : List Ramp) (xs ts : List ℚ) (ps : List Point) (k : ℕ) (a b : Point) → HaveSameTimes xs ts → (from : ℚ) × TimesRise from ts → ps ≡ map (point_at works) ts → IsFirstEnd ss ss ps k
-    → SegmentsFit ss → k < length ps → b ≡ slice_index_or ps k b → IsFirstStart ss ps b a → IsFirstShort ss works xs a.time b.time
-first_short ss works xs ts ps k a b same order e f g l is start =
-    let has_b = point_has ps k b l is in
-    let pa = point_is works ts a (subst (λ (qs : List Point). HasPoint a qs) e start.one_of) in
-    let pb = point_is works ts b (subst (λ (qs : List Point). HasPoint b qs) e has_b) in
-    let rise = rise_of works ts ps e order in
-    let has : (t : ℚ) → Among t xs → HasPoint (point_at works t) ps = λ t h. subst (λ (qs : List Point). HasPoint (point_at works t) qs) (sym e) (has_point_at works ts t (same.into t h)) in
+pub first_short : (ss : List Segment) (works : List Ramp) (xs ts us : List ℚ) (ps es : List Point) (k : ℕ) (a : ℚ) (b : Point) → AreEnds ss works xs ts us ps es → (from : ℚ) × TimesRise from us → IsFirstEnd ss ss ps es k
+    → k < length es → b ≡ slice_index_or es k b → IsLeast (StartsTo ps b ss) (Some a) → IsFirstShort ss works xs a b.time
+first_short ss works xs ts us ps es k a b A order f l is start =
+    let has_b = point_has es k b l is in
+    let (s, listed, from) = start.0 in
+    let (p, has_p, short, at_a) = from in
+    let pa = point_is works ts p (subst (λ (qs : List Point). HasPoint p qs) A.points has_p) in
+    let pb = point_is works us b (subst (λ (qs : List Point). HasPoint b qs) A.ends has_b) in
+    let rise = rise_of works us es A.ends order in
     record {
-      is = record {
-        from = same.back a.time pa.0;
-        to = same.back b.time pb.0;
-        short = subst (λ (p : Point). IsShortTo ss p (point_at works b.time)) pa.1 (subst (λ (p : Point). IsShortTo ss a p) pb.1 start.short);
+      is = subst (λ x. IsShortWindow ss works xs x b.time) (sym at_a) record {
+        from = A.same.back p.time pa.0;
+        to = A.same.back b.time (A.are b.time pb.0);
+        short = subst (λ (q : Point). IsShortTo ss q (point_at works b.time)) pa.1 (subst (λ (q : Point). IsShortTo ss p q) pb.1 (s, listed, short));
       };
       least = λ x y w.
-          let forward = ordered ss (point_at works x) (point_at works y) g.starts w.short in
-          elim (le_or_lt y b.time) [
-            | inr m ↦ inl m
-            | inl m ↦ elim (le_or_lt b.time y) [
+          let has_x = subst (λ (qs : List Point). HasPoint (point_at works x) qs) (sym A.points) (has_point_at works ts x (A.same.into x w.from)) in
+          let has_y = subst (λ (qs : List Point). HasPoint (point_at works y) qs) (sym A.ends) (has_point_at works us y (A.all x y w)) in
+          elim (first_or_later es k b (point_at works y) rise l is has_y) [
+            | inl m ↦ absurd (none_in ss ps (take k es) (point_at works x) (point_at works y) f.none has_x m w.short)
+            | inr m ↦ elim (le_or_lt y b.time) [
+              | inr n ↦ inl n
               | inl n ↦
-                  let at : b.time ≡ y = antisym (n, m) in
+                  let at : b.time ≡ y = antisym (m, n) in
                   let at_b : point_at works y ≡ b = ap (point_at works) (sym at) ∙ sym pb.1 in
-                  inr (at, start.least (point_at works x) (has x w.from) (subst (λ (p : Point). IsShortTo ss (point_at works x) p) at_b w.short))
-              | inr n ↦ absurd (none_in ss (take k ps) (point_at works x) (point_at works y) f.none
-                  (early (point_at works x) (has x w.from) (le_lt_trans forward n) (first_or_later ps k b (point_at works x) rise l is (has x w.from)))
-                  (early (point_at works y) (has y w.to) n (first_or_later ps k b (point_at works y) rise l is (has y w.to))) w.short)
+                  let (r, has_r, less) = w.short in
+                  inr (at, start.1 x (r, has_r, (point_at works x, has_x, subst (λ (q : Point). IsShortBy r (point_at works x) q) at_b less, refl)))
             ]
           ];
     }
-  where
-    early : (p : Point) → HasPoint p ps → p.time <ℚ b.time → HasPoint p (take k ps) ⊎ (b.time ≤ℚ p.time) → HasPoint p (take k ps)
-    early p h m d = elim d [ inl n ↦ n | inr n ↦ absurd (lt_irrefl p.time (lt_le_trans m n)) ]
 
 abbrev unwrapped : Option Point → Point → Point
 unwrapped None d = d
@@ -203,15 +211,14 @@ point_read [] k b c at l = absurd (omega arith)
 point_read (q ∷ ps) zero b c at l = ap (λ (o : Option Point). unwrapped o c) (sym at)
 point_read (q ∷ ps) (suc k) b c at l = point_read ps k b c at (omega arith)
 
-pub some_start : (ss : List Segment) (ps : List Point) (k : ℕ) (b : Point) → IsFirstEnd ss ss ps k → k < length ps → b ≡ slice_index_or ps k b → EachPoint (λ p. ¬ IsShortTo ss p b) ps → ⊥
-some_start ss ps k b f l is none =
+pub some_start : (ss : List Segment) (ps es : List Point) (k : ℕ) (b : Point) → IsFirstEnd ss ss ps es k → k < length es → b ≡ slice_index_or es k b → ((t : ℚ) → ¬ StartsTo ps b ss t) → ⊥
+some_start ss ps es k b f l is none =
     let (c, at, there) = f.there l in
-    let same : c ≡ b = point_read ps k b c at l ∙ sym is in
-    each_point_has (λ p. ¬ IsShortTo ss p b) ps there.start none there.one_of
-    (there.segment, there.in_curve, subst (λ (p : Point). IsShortBy there.segment there.start p) same there.short)
+    let same : c ≡ b = point_read es k b c at l ∙ sym is in
+    none there.start.time (there.segment, there.in_curve, (there.start, there.one_of, subst (λ (p : Point). IsShortBy there.segment there.start p) same there.short, refl))
 
 -- the first end of a short window between the points of some times
-pub window_at : (ss gs : List Segment) (works : List Ramp) (ts : List ℚ) (ps : List Point) (k : ℕ) (b : Point) → gs ≡ ss → ps ≡ map (point_at works) ts → IsFirstEnd gs gs ps k → k < length ps → b ≡ slice_index_or ps k b
+pub window_at : (ss gs : List Segment) (works : List Ramp) (ts : List ℚ) (ps : List Point) (k : ℕ) (b : Point) → gs ≡ ss → ps ≡ map (point_at works) ts → IsFirstEnd gs gs ps ps k → k < length ps → b ≡ slice_index_or ps k b
     → (a : ℚ) × IsShortWindow ss works ts a b.time
 window_at ss gs works ts ps k b g e f l is =
     let (c, at, there) = f.there l in
@@ -228,6 +235,27 @@ window_at ss gs works ts ps k b g e f l is =
       },
     )
 
+-- and it is the least
+pub least_end : (ss gs : List Segment) (works : List Ramp) (ts : List ℚ) (ps : List Point) (k : ℕ) (b : Point) → gs ≡ ss → (from : ℚ) × TimesRise from ts → ps ≡ map (point_at works) ts → IsFirstEnd gs gs ps ps k → k < length ps
+    → b ≡ slice_index_or ps k b → IsLeast (λ t. (a : ℚ) × IsShortWindow ss works ts a t) (Some b.time)
+least_end ss gs works ts ps k b g order e f l is = (
+  window_at ss gs works ts ps k b g e f l is,
+  λ y w.
+      let (x, k_is) = w in
+      let has : (t : ℚ) → Among t ts → HasPoint (point_at works t) ps = λ t h. subst (λ (qs : List Point). HasPoint (point_at works t) qs) (sym e) (has_point_at works ts t h) in
+      elim (first_or_later ps k b (point_at works y) (rise_of works ts ps e order) l is (has y k_is.to)) [
+        | inl m ↦ absurd (none_in gs ps (take k ps) (point_at works x) (point_at works y) f.none (has x k_is.from) m (subst (λ (xs : List Segment). IsShortTo xs (point_at works x) (point_at works y)) (sym g) k_is.short))
+        | inr m ↦ m
+      ],
+)
+
+pub no_end : (ss gs : List Segment) (works : List Ramp) (ts : List ℚ) (ps : List Point) (k : ℕ) → gs ≡ ss → ps ≡ map (point_at works) ts → IsFirstEnd gs gs ps ps k → length ps ≤ k
+    → (t : ℚ) → ¬ ((a : ℚ) × IsShortWindow ss works ts a t)
+no_end ss gs works ts ps k g e f l t w =
+    let (a, is) = w in
+    none_short gs works ts ts ts ps ps k record { same = record { into = λ t h. h; back = λ t h. h }; points = e; ends = e; are = λ t h. h; all = λ x y v. v.to } f l a t
+    (subst (λ (xs : List Segment). IsShortWindow xs works ts a t) (sym g) is)
+
 -- ---- as the code finds them
 pub sorted_from : (xs items now ts : List ℚ) → items ≡ xs → IsPermutation items now → IsSorted cmp_q now → ts ≡ now → IsPermutation xs ts × IsSorted cmp_q ts
 sorted_from xs items now ts e p s f = (
@@ -235,14 +263,26 @@ sorted_from xs items now ts e p s f = (
   subst (IsSorted cmp_q) (sym f) s,
 )
 
-pub first_end_of : (ss : List Segment) (ps qs : List Point) (k : ℕ) → ps ≡ qs → IsFirstEnd ss ss ps k → IsFirstEnd ss ss qs k
-first_end_of ss ps qs k e h = subst (λ (rs : List Point). IsFirstEnd ss ss rs k) e h
+pub first_end_of : (ss : List Segment) (ps qs es fs : List Point) (k : ℕ) → ps ≡ qs → es ≡ fs → IsFirstEnd ss ss ps es k → IsFirstEnd ss ss qs fs k
+first_end_of ss ps qs es fs k e f h = subst (λ (rs : List Point). IsFirstEnd ss ss qs rs k) f (subst (λ (rs : List Point). IsFirstEnd ss ss rs es k) e h)
 
 pub reads_of : (ss : List Segment) (works : List Ramp) (ts : List ℚ) → EachTime (TimeFits ss works) ts → EachTime (λ t. EachRamp (ReadsRamp t) works) ts
 reads_of ss works ts h = each_time_map (TimeFits ss works) (λ t. EachRamp (ReadsRamp t) works) (λ t k. k.reads) ts h
 
-pub start_of : (ss : List Segment) (ps qs : List Point) (b c a : Point) → ps ≡ qs → b ≡ c → IsFirstStart ss ps b a → IsFirstStart ss qs c a
-start_of ss ps qs b c a e f h = subst (λ (rs : List Point). IsFirstStart ss rs c a) e (subst (λ (p : Point). IsFirstStart ss ps p a) f h)
+pub start_of : (ss : List Segment) (ps qs : List Point) (b c : Point) (o p : Option ℚ) → ps ≡ qs → b ≡ c → o ≡ p → IsLeast (StartsTo ps b ss) o → IsLeast (StartsTo qs c ss) p
+start_of ss ps qs b c o p e f g h =
+    subst (λ (x : Option ℚ). IsLeast (StartsTo qs c ss) x) g (subst (λ (rs : List Point). IsLeast (StartsTo rs c ss) o) e (subst (λ (x : Point). IsLeast (StartsTo ps x ss) o) f h))
 
-pub no_start_of : (ss : List Segment) (ps qs : List Point) (b : Point) → ps ≡ qs → EachPoint (λ p. ¬ IsShortTo ss p b) ps → EachPoint (λ p. ¬ IsShortTo ss p b) qs
-no_start_of ss ps qs b e h = subst (λ (rs : List Point). EachPoint (λ p. ¬ IsShortTo ss p b) rs) e h
+-- the watch points that are later than a time by which no short window ends are ends of all of them
+pub are_ends : (ss : List Segment) (works : List Ramp) (s : Stretch) (after : ℚ) (xs ts us : List ℚ) (ps es : List Point) → HaveSameTimes xs ts → ps ≡ map (point_at works) ts → es ≡ map (point_at works) us
+    → HoldsTimes record { start = after; end = s.end } ts us → EachTime (λ t. t ≤ℚ s.end) xs → NoneEndsBy ss works xs after → AreEnds ss works xs ts us ps es
+are_ends ss works s after xs ts us ps es same e f h upto late = record {
+  same = same;
+  points = e;
+  ends = f;
+  are = h.are;
+  all = λ a b w. h.inside b (same.into b w.to) (le_of_lt (late a b w)) (each_time_among (λ t. t ≤ℚ s.end) xs b upto w.to);
+}
+
+pub times_one : (works : List Ramp) (xs ts : List ℚ) → xs ≡ ts → map (point_at works) xs ≡ map (point_at works) ts
+times_one works xs ts e = ap (map (point_at works)) e

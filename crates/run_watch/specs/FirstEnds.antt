@@ -1,13 +1,14 @@
--- Windows between points as pairs of marks, and the first point to which a window is short. Own choice.
+-- Windows between points as pairs of marks, the points in reach of some ends, and the first end to which a window is short. Own
+-- choice.
 use Rattle.std.specs.Prelude.{◌≡◌, ℕ, ◌<◌, ◌≤◌, List, length, take, slice_get, Some}
-use Rattle.rational.specs.Rational.{ℚ, ◌-ℚ◌, ◌*ℚ◌, neg_ℚ}
+use Rattle.rational.specs.Rational.{ℚ, ◌-ℚ◌, ◌*ℚ◌, ◌+ℚ◌, ◌≤ℚ◌, ◌<ℚ◌, neg_ℚ}
 use Rattle.rational.specs.Ratio.{IsSmall, SumFits}
 use Rattle.watch_laws.specs.declared.mark.Mark.{Mark}
 use Rattle.watch_laws.specs.declared.mark.Rule.{Rule}
 use Rattle.watch_laws.specs.declared.point.Point.{Point}
 use Rattle.watch_laws.specs.declared.point.Segment.{Segment}
 use Rattle.watch_laws.specs.Marks.{FitsRule}
-use Rattle.watch_laws.specs.Shorts.{EachPoint, HasPoint, EachSegment, IsShortBy, NoneShortTo, NoneShort, IsShortEnd}
+use Rattle.watch_laws.specs.Shorts.{EachPoint, HasPoint, EachSegment, PointsRise, IsShortBy, NoneShortTo, IsShortEnd}
 
 -- ---- as marks under a rule
 abbrev pub mark_of : ℚ → Point → Mark
@@ -34,15 +35,27 @@ pub record FitsMarks (ps : List Point) (s : Segment) : Type 0 where
 abbrev pub FitsSegments : List Point → List Segment → Type 0
 FitsSegments ps ss = EachSegment (FitsMarks ps) ss
 
--- ---- the first point to which a window is short
--- by one segment: the number of that point, or how many points there are
-pub record IsFirstBy (s : Segment) (ps : List Point) (k : ℕ) : Type 0 where
-  pub in_range : k ≤ length ps
-  pub none : EachPoint (NoneShortTo (take k ps) s) (take k ps)
-  pub there : k < length ps → (b : Point) × (slice_get ps k ≡ Some b) × ((a : Point) × HasPoint a ps × IsShortBy s a b)
+-- ---- the points from which a window may be short by the segment
+-- a window from p that is long enough for the rule ends after t
+abbrev pub IsTooLate : Rule → ℚ → Point → Type 0
+IsTooLate r t p = t <ℚ p.time +ℚ r.least
+
+-- qs are some of ps: those from which a window is short that ends from `first` to `last`
+pub record HoldsStarts (s : Segment) (ps : List Point) (first last : ℚ) (qs : List Point) : Type 0 where
+  pub are : (a : Point) → HasPoint a qs → HasPoint a ps
+  pub all : (a b : Point) → HasPoint a ps → first ≤ℚ b.time → b.time ≤ℚ last → IsShortBy s a b → HasPoint a qs
+  pub rise : PointsRise qs
+
+-- ---- the first of some ends to which a window from one of the points is short
+-- by one segment: the number of that end, or how many ends there are
+pub record IsFirstBy (s : Segment) (ps ends : List Point) (k : ℕ) : Type 0 where
+  pub in_range : k ≤ length ends
+  pub none : EachPoint (NoneShortTo ps s) (take k ends)
+  pub there : k < length ends
+      → (b : Point) × (slice_get ends k ≡ Some b) × ((a : Point) × HasPoint a ps × IsShortBy s a b)
 
 -- by some of the segments
-pub record IsFirstEnd (some ss : List Segment) (ps : List Point) (k : ℕ) : Type 0 where
-  pub in_range : k ≤ length ps
-  pub none : NoneShort some (take k ps)
-  pub there : k < length ps → (b : Point) × (slice_get ps k ≡ Some b) × IsShortEnd ss ps b
+pub record IsFirstEnd (some ss : List Segment) (ps ends : List Point) (k : ℕ) : Type 0 where
+  pub in_range : k ≤ length ends
+  pub none : EachSegment (λ s. EachPoint (NoneShortTo ps s) (take k ends)) some
+  pub there : k < length ends → (b : Point) × (slice_get ends k ≡ Some b) × IsShortEnd ss ps b

@@ -28,6 +28,10 @@ pub record IsFirstShort (ss : List Segment) (works : List Ramp) (ts : List ℚ) 
 abbrev pub FindsShort : List Segment → List Ramp → List ℚ → Option (ℚ × ℚ) → Type 0
 FindsShort ss works ts found = MatchOption found (NoneIsShort ss works ts) (λ p. IsFirstShort ss works ts p.0 p.1)
 
+-- no such window ends at t or earlier
+abbrev pub NoneEndsBy : List Segment → List Ramp → List ℚ → ℚ → Type 0
+NoneEndsBy ss works ts t = (a b : ℚ) → IsShortWindow ss works ts a b → t <ℚ b
+
 -- ---- sizes
 -- the steps at one time fit
 pub record TimeFits (ss : List Segment) (works : List Ramp) (t : ℚ) : Type 0 where

@@ -1,17 +1,17 @@
 -- Windows of a stretch of which one end is one of its turns, and the other is too, or is as far away as one of the curve's
--- segments starts: where none of these is short of work, no window of the stretch is. Own choice.
-use Rattle.std.specs.Prelude.{◌≡◌, ◌⊎◌, List, [], ◌∷◌, map}
-use Rattle.rational.specs.Rational.{ℚ, ◌+ℚ◌, ◌-ℚ◌, ◌≤ℚ◌, neg_ℚ}
+-- segments starts: where none of these is short of work, no window of the stretch is; else the least of their ends. Own choice.
+use Rattle.std.specs.Prelude.{◌≡◌, ◌⊎◌, List, [], ◌∷◌, map, Option, Some, None, MatchOption, if◌then◌else◌}
+use Rattle.rational.specs.Rational.{ℚ, ◌+ℚ◌, ◌-ℚ◌, ◌≤ℚ◌, lt_q, neg_ℚ}
 use Rattle.rational.specs.Ratio.{SumFits}
 use Rattle.watch_laws.specs.declared.point.Point.{Point}
 use Rattle.watch_laws.specs.declared.point.Segment.{Segment}
-use Rattle.watch_laws.specs.Shorts.{EachPoint, HasPoint, EachSegment, HasSegment, IsShortBy}
+use Rattle.watch_laws.specs.Shorts.{HasPoint, EachSegment, HasSegment, IsShortBy}
 use Rattle.run_watch.specs.declared.span.Ramp.{Ramp}
 use Rattle.run_watch.specs.declared.watched.Stretch.{Stretch}
 use Rattle.run_watch.specs.Ramps.{EachRamp, ReadsRamp}
 use Rattle.run_watch.specs.FirstEnds.{FitsMarks}
 use Rattle.run_watch.specs.WatchTimes.{point_at}
-use Rattle.run_watch.specs.IdleWindows.{IsShortWindow, NoneIsShort}
+use Rattle.run_watch.specs.IdleWindows.{IsShortWindow}
 
 -- ---- a turn and a segment
 -- the window from p on that is as long as the segment's start is in the stretch, and short by the segment
@@ -24,26 +24,17 @@ pub record IsShortBefore (works : List Ramp) (s : Stretch) (p : Point) (g : Segm
   pub inside : s.start ≤ℚ p.time -ℚ g.start
   pub short : IsShortBy g (point_at works (p.time -ℚ g.start)) p
 
-abbrev pub IsShortNear : List Ramp → Stretch → Point → Segment → Type 0
-IsShortNear works s p g = IsShortAfter works s p g ⊎ IsShortBefore works s p g
+-- and they end at t
+abbrev pub IsEndAfter : List Ramp → Stretch → Point → Segment → ℚ → Type 0
+IsEndAfter works s p g t = IsShortAfter works s p g × (t ≡ p.time +ℚ g.start)
 
--- one of the two is short, and ends at t
+abbrev pub IsEndBefore : List Ramp → Stretch → Point → Segment → ℚ → Type 0
+IsEndBefore works s p g t = IsShortBefore works s p g × (t ≡ p.time)
+
 abbrev pub IsNearEnd : List Ramp → Stretch → Point → Segment → ℚ → Type 0
-IsNearEnd works s p g t = (IsShortBefore works s p g × (t ≡ p.time))
-    ⊎ (IsShortAfter works s p g × (t ≡ p.time +ℚ g.start))
+IsNearEnd works s p g t = IsEndBefore works s p g t ⊎ IsEndAfter works s p g t
 
 -- ---- all turns and segments
-abbrev pub NoneNearBy : List Segment → List Ramp → Stretch → Point → Type 0
-NoneNearBy ss works s p = EachSegment (λ g. ¬ IsShortNear works s p g) ss
-
-abbrev pub NoneNear : List Segment → List Ramp → Stretch → List Point → Type 0
-NoneNear ss works s ps = EachPoint (NoneNearBy ss works s) ps
-
--- of these turns: none between two of them, and none near one
-pub record IsClear (ss : List Segment) (works : List Ramp) (s : Stretch) (ts : List ℚ) : Type 0 where
-  pub pairs : NoneIsShort ss works ts
-  pub near : NoneNear ss works s (map (point_at works) ts)
-
 -- by one of the segments
 abbrev pub IsNearEndBy : List Segment → List Ramp → Stretch → Point → ℚ → Type 0
 IsNearEndBy ss works s p t = (g : Segment) × HasSegment g ss × IsNearEnd works s p g t
@@ -56,6 +47,16 @@ IsNearEndOf ss works s ps t = (p : Point) × HasPoint p ps × IsNearEndBy ss wor
 abbrev pub EndsShort : List Segment → List Ramp → Stretch → List ℚ → ℚ → Type 0
 EndsShort ss works s ts t = ((a : ℚ) × IsShortWindow ss works ts a t)
     ⊎ IsNearEndOf ss works s (map (point_at works) ts) t
+
+-- ---- the least
+abbrev pub earlier_time : Option ℚ → Option ℚ → Option ℚ
+earlier_time None next = next
+earlier_time (Some t) None = Some t
+earlier_time (Some t) (Some u) = if lt_q u t then Some u else Some t
+
+-- the least of some times; none where there is none
+abbrev pub IsLeast : (ℚ → Type 0) → Option ℚ → Type 0
+IsLeast P o = MatchOption o ((t : ℚ) → ¬ P t) (λ t. P t × ((u : ℚ) → P u → t ≤ℚ u))
 
 -- ---- sizes
 -- the steps by the segment at one time fit

@@ -48,8 +48,8 @@ FrontUnder gap k (m ∷ ms) = k <ℚ m.start_key +ℚ gap
 abbrev pub IsNotFar : Rule → Mark → Mark → Type 0
 IsNotFar r b m = b.time <ℚ m.time +ℚ r.least
 
--- ---- what the scan has done when it comes to the mark numbered k
-pub record Scanned (r : Rule) (marks : List Mark) (k into : ℕ) (kept : List Mark) : Type 0 where
+-- ---- what the scan has done when it comes to the end numbered k
+pub record Scanned (r : Rule) (marks ends : List Mark) (k into : ℕ) (kept : List Mark) : Type 0 where
   pub in_range : into ≤ length marks
-  pub ready : (b : Mark) → Each (λ m. m.time ≤ℚ b.time) (take k marks) → Scans r marks b into kept
-  pub over : Each (IsOver r marks) (take k marks)
+  pub ready : (b : Mark) → Each (λ m. m.time ≤ℚ b.time) (take k ends) → Scans r marks b into kept
+  pub over : Each (IsOver r marks) (take k ends)

@@ -1,16 +1,17 @@
 -- The search of one stretch for its first window that is short of work. Own choice.
 use Rattle.std.specs.Prelude.{◌≡◌, ◌⊎◌, ℕ, ◌<◌, List, length, Option, MatchOption}
 use Rattle.std.specs.List.{slice_index_or}
-use Rattle.rational.specs.Rational.{ℚ, ◌-ℚ◌}
+use Rattle.rational.specs.Rational.{ℚ, ◌-ℚ◌, ◌<ℚ◌}
 use Rattle.upp_curve.specs.Curve.{SpecCurve}
 use Rattle.upp_curve.specs.Unrolled.{unroll}
+use Rattle.watch_laws.specs.Affine.{Among}
 use Rattle.watch_laws.specs.Segments.{segments}
 use Rattle.run_watch.specs.declared.watched.Watched.{Watched}
 use Rattle.run_watch.specs.declared.watched.Stretch.{Stretch}
 use Rattle.run_watch.specs.Watching.{stretches, turns, TimesRise, HoldsTimes}
 use Rattle.run_watch.specs.WatchTimes.{watched_from}
 use Rattle.run_watch.specs.IdleWindows.{NoneIsShort, IsFirstShort}
-use Rattle.run_watch.specs.NearWindows.{IsClear}
+use Rattle.run_watch.specs.NearWindows.{EndsShort}
 
 -- a stretch of what a server sees; `all` are the server's turns, `own` those in the stretch, in order
 pub record IsLookedAt (w : Watched) (s : Stretch) (own all : List ℚ) : Type 0 where
@@ -21,9 +22,13 @@ pub record IsLookedAt (w : Watched) (s : Stretch) (own all : List ℚ) : Type 0 
   pub holds : HoldsTimes s all own
   pub rise : (from : ℚ) × TimesRise from own
 
--- by its own turns, and the curve's pieces up to its length, it has no short window
+-- its own turns, and the curve's pieces up to its length, show no short window
 abbrev pub IsClearStretch : Watched → SpecCurve → Stretch → List ℚ → Type 0
-IsClearStretch w c s own = IsClear (segments (unroll c (s.end -ℚ s.start))) w.works.items s own
+IsClearStretch w c s own = (t : ℚ) → ¬ EndsShort (segments (unroll c (s.end -ℚ s.start))) w.works.items s own t
+
+-- t is the stretch's start, or one of its own turns before `end`
+abbrev pub IsCut : List ℚ → ℚ → ℚ → ℚ → Type 0
+IsCut own start end t = (t ≡ start) ⊎ (Among t own × (t <ℚ end))
 
 -- between its watch points, by all turns and the pieces up to the run's end
 abbrev pub NoneWatched : Watched → SpecCurve → Stretch → List ℚ → Type 0

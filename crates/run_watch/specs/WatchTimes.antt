@@ -1,6 +1,6 @@
 -- The watch points of a stretch, the segments of a curve, and the first start of a short window to a point. Own choice.
-use Rattle.std.specs.Prelude.{◌&&◌, List, [], ◌∷◌, ◌++◌, if◌then◌else◌}
-use Rattle.rational.specs.Rational.{ℚ, ◌+ℚ◌, ◌-ℚ◌, ◌≤ℚ◌, le_q, neg_ℚ}
+use Rattle.std.specs.Prelude.{◌≡◌, ◌&&◌, List, [], ◌∷◌, ◌++◌, if◌then◌else◌}
+use Rattle.rational.specs.Rational.{ℚ, ◌+ℚ◌, ◌-ℚ◌, le_q, neg_ℚ}
 use Rattle.rational.specs.Ratio.{SumFits}
 use Rattle.affine_segment.specs.declared.line.Piece.{Piece}
 use Rattle.affine_segment.specs.Pieces.{Each}
@@ -48,8 +48,9 @@ point_at works t = record { time = t; work = amount (spans_of works) t }
 abbrev pub IsShortTo : List Segment → Point → Point → Type 0
 IsShortTo ss a b = (s : Segment) × HasSegment s ss × IsShortBy s a b
 
--- the first of these points from which a window to b is short
-pub record IsFirstStart (ss : List Segment) (ps : List Point) (b a : Point) : Type 0 where
-  pub one_of : HasPoint a ps
-  pub short : IsShortTo ss a b
-  pub least : (p : Point) → HasPoint p ps → IsShortTo ss p b → a.time ≤ℚ p.time
+-- one from a point at t, by the segment, or by one of the segments
+abbrev pub StartsBy : List Point → Point → Segment → ℚ → Type 0
+StartsBy ps b s t = (a : Point) × HasPoint a ps × IsShortBy s a b × (t ≡ a.time)
+
+abbrev pub StartsTo : List Point → Point → List Segment → ℚ → Type 0
+StartsTo ps b ss t = (s : Segment) × HasSegment s ss × StartsBy ps b s t

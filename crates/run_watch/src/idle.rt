@@ -1,28 +1,45 @@
 //! The first window of a stretch in which a server works less than its curve.
 
-ghost use Rattle.std.specs.Prelude.{IfOk};
+ghost use Rattle.std.specs.Prelude.{List, IfOk};
+ghost use Rattle.run_laws.specs.Cards.{ServerStep};
+ghost use Rattle.run_laws.specs.Servers as servers;
 ghost use Rattle.watch_laws.specs.Affine.{EachTime};
 ghost use Rattle.watch_laws.specs.Laws.{MayServe};
 ghost use Rattle.run_watch.specs.Ramps.{AreRamps};
 ghost use Rattle.run_watch.specs.WatchTimes.{watched_from, TimesFit};
-ghost use Rattle.run_watch.specs.IdleWindows.{FindsShort, TimeFits, SegmentsFit};
-ghost use Rattle.run_watch.specs.Held.{IsHeld};
-ghost use Rattle.run_watch.specs.Searches.{IsLookedAt, FindsIn};
+ghost use Rattle.run_watch.specs.IdleWindows.{FindsShort, NoneEndsBy, TimeFits, SegmentsFit};
+ghost use Rattle.run_watch.specs.Held.{IsSightOf, IsHeld};
+ghost use Rattle.run_watch.specs.Searches.{IsLookedAt, IsCut, FindsIn};
 
 use crate::near::short_end;
 use crate::shorts::first_end;
 use crate::span::Ramp;
-use crate::watched::{Stretch, Watched};
+use crate::watched::{Stretch, Watched, turns_in};
 use crate::windows::{first_start, points_of, segments_of, watch_times};
 use affine_segment::Piece;
-use fraction128::{Frac, difference};
+use fraction128::{Frac, difference, is_less};
 use std::alloc::{AllocError, Global};
 use upp_curve::Curve;
 use upp_normal::unrolled;
 use watch_laws::Segment;
 
+/// The last before `end` of a stretch's turns in order, or its start.
+fn last_before(own: &[Frac], start: Frac, end: Frac) -> Frac
+    ensures { IsCut own.now start end result }
+{
+    let mut last = start;
+    for t in own {
+        if !is_less(*t, end) {
+            return last;
+        }
+        last = *t;
+    }
+    last
+}
+
 /// The window of a stretch that is short of work, between two watch points: with the least end, and of those with the
-/// least start. The turns are moved by the starts of `pieces`; a window is short by `segments`.
+/// least start. The turns are moved by the starts of `pieces`; a window is short by `segments`. None ends by `after`, so
+/// only the watch points from there on are looked at as ends.
 pub(crate) fn first_short(
     alloc: Global,
     works: &[Ramp],
@@ -30,32 +47,41 @@ pub(crate) fn first_short(
     turns: &[Frac],
     pieces: &[Piece],
     segments: &[Segment],
+    after: Frac,
 ) -> Result<Option<(Frac, Frac)>, AllocError>
     requires ramps { AreRamps works.now }
     requires moves { TimesFit pieces.now turns.now }
     requires times { EachTime (TimeFits segments.now works.now) (watched_from s.now pieces.now turns.now) }
     requires segments { SegmentsFit segments.now }
-    ensures { IfOk result (FindsShort segments.now works.now (watched_from s.now pieces.now turns.now)) }
+    ensures { NoneEndsBy segments.now works.now (watched_from s.now pieces.now turns.now) after
+        → IfOk result (FindsShort segments.now works.now (watched_from s.now pieces.now turns.now)) }
 {
     let times = watch_times(alloc, s, turns, pieces)?;
     let points = points_of(alloc, works, &times)?;
-    let place = first_end(alloc, &points, segments)?;
-    if place >= points.len() {
+    let rest = Stretch {
+        start: after,
+        end: s.end,
+    };
+    let late = turns_in(&times, &rest);
+    let ends = points_of(alloc, works, late)?;
+    let place = first_end(alloc, &points, &ends, segments)?;
+    if place >= ends.len() {
         return Ok(None);
     }
-    let end = points[place];
+    let end = ends[place];
     match first_start(&points, segments, &end) {
-        Some(start) => Ok(Some((start.time, end.time))),
+        Some(start) => Ok(Some((start, end.time))),
         None => Ok(None),
     }
 }
 
 /// The window of a stretch that is short of work, between two watch points: with the least end, and of those with the
 /// least start. A look at the stretch's own turns, by the pieces of the curve up to its length, comes first. Where it
-/// finds nothing, neither the watch points nor the pieces up to the run's end are made. Where it finds a window, only
-/// the watch points up to the end of that one are, since no first window ends later: among them are turns from before
-/// and after the stretch that a piece moves into it. No window is longer than the stretch, so the pieces up to its
-/// length tell which of them is short.
+/// finds nothing, neither the watch points nor the pieces up to the run's end are made. Where it finds windows, only
+/// the watch points up to their least end are, since no first window ends later: among them are turns from before
+/// and after the stretch that a piece moves into it. Nor does one end by the last own turn before that end, since then
+/// the look would have found one that does. No window is longer than the stretch, so the pieces up to its length tell
+/// which of them is short.
 pub(crate) fn first_in(
     alloc: Global,
     w: &Watched,
@@ -66,7 +92,8 @@ pub(crate) fn first_in(
 ) -> Result<Option<(Frac, Frac)>, AllocError>
     requires held { IsHeld w.now curve.now }
     requires stretch { IsLookedAt w.now s.now own.now turns.now }
-    ensures { MayServe curve.now → IfOk result (FindsIn w.now curve.now s.now own.now turns.now) }
+    ensures { (server : servers.Server) (V : List ServerStep) → IsSightOf server w.now.end V w.now → MayServe curve.now
+        → IfOk result (FindsIn w.now curve.now s.now own.now turns.now) }
 {
     let near = unrolled(curve, difference(s.end, s.start))?;
     let end = match short_end(alloc, &w.works, s, own, &near)? {
@@ -77,7 +104,8 @@ pub(crate) fn first_in(
         start: s.start,
         end,
     };
+    let after = last_before(own, s.start, end);
     let pieces = unrolled(curve, w.end)?;
     let segments = segments_of(alloc, &near)?;
-    first_short(alloc, &w.works, &upto, turns, &pieces, &segments)
+    first_short(alloc, &w.works, &upto, turns, &pieces, &segments, after)
 }

@@ -1,15 +1,15 @@
-//! The end of a window of a stretch that is short of work, if there is one: the look at its own turns alone.
+//! The least end of a window of a stretch that is short of work, if there is one: the look at its own turns alone.
 
-ghost use Rattle.std.specs.Prelude.{◌≡◌, ◌↔◌, IfOk, IsTrue, MatchOption, map};
+ghost use Rattle.std.specs.Prelude.{◌≡◌, ◌↔◌, IfOk, IsTrue, map};
 ghost use Rattle.rational.specs.Rational.{ℚ};
 ghost use Rattle.watch_laws.specs.Affine.{EachTime};
 ghost use Rattle.watch_laws.specs.Segments.{segments};
-ghost use Rattle.watch_laws.specs.Shorts.{EachPoint, EachSegment};
+ghost use Rattle.watch_laws.specs.Shorts.{EachPoint};
 ghost use Rattle.run_watch.specs.Ramps.{AreRamps};
 ghost use Rattle.run_watch.specs.Watching.{TimesRise};
 ghost use Rattle.run_watch.specs.WatchTimes.{point_at};
 ghost use Rattle.run_watch.specs.IdleWindows.{TimeFits, SegmentsFit};
-ghost use Rattle.run_watch.specs.NearWindows.{IsShortAfter, IsShortBefore, IsShortNear, IsNearEnd, IsNearEndBy, IsNearEndOf, NoneNearBy, NoneNear, IsClear, EndsShort, FitsNear, FitsNearBy};
+ghost use Rattle.run_watch.specs.NearWindows.{earlier_time, IsLeast, IsShortAfter, IsShortBefore, IsEndAfter, IsEndBefore, IsNearEndBy, IsNearEndOf, EndsShort, FitsNear, FitsNearBy};
 
 use crate::ramps::amount_at;
 use crate::shorts::first_end;
@@ -51,54 +51,73 @@ fn is_short_before(works: &[Ramp], s: &Stretch, p: &Point, g: &Segment) -> bool
     is_short_by(g, &start, p)
 }
 
-/// The end of such a window that is short by the segment, with p as one end: of the one up to p first.
-fn near_end(works: &[Ramp], s: &Stretch, p: &Point, g: &Segment) -> Option<Frac>
+/// The earlier of two times, if there is one.
+pub(crate) fn earlier_time(best: Option<Frac>, next: Option<Frac>) -> Option<Frac>
+    ensures { result ≡ earlier_time best next }
+{
+    match best {
+        None => next,
+        Some(t) => match next {
+            None => Some(t),
+            Some(u) => { if is_less(u, t) { Some(u) } else { Some(t) } }
+        },
+    }
+}
+
+/// The end of the one up to p, where it is short.
+fn end_before(works: &[Ramp], s: &Stretch, p: &Point, g: &Segment) -> Option<Frac>
     requires ramps { AreRamps works.now }
     requires fits { FitsNear works.now s.now g.now p.now }
-    ensures { MatchOption result (¬ IsShortNear works.now s.now p.now g.now) (IsNearEnd works.now s.now p.now g.now) }
+    ensures { IsLeast (IsEndBefore works.now s.now p.now g.now) result }
 {
     if is_short_before(works, s, p, g) {
         return Some(p.time);
     }
+    None
+}
+
+/// The end of the one from p on, where it is.
+fn end_after(works: &[Ramp], s: &Stretch, p: &Point, g: &Segment) -> Option<Frac>
+    requires ramps { AreRamps works.now }
+    requires fits { FitsNear works.now s.now g.now p.now }
+    ensures { IsLeast (IsEndAfter works.now s.now p.now g.now) result }
+{
     if is_short_after(works, s, p, g) {
         return Some(sum(p.time, g.start));
     }
     None
 }
 
-/// The end of one at p that is short by one of the segments.
+/// The least end of such a window that is short by one of the segments, with p as one end.
 fn near_end_by(works: &[Ramp], s: &Stretch, p: &Point, segments: &[Segment]) -> Option<Frac>
     requires ramps { AreRamps works.now }
     requires fits { FitsNearBy segments.now works.now s.now p.now }
-    ensures { MatchOption result (NoneNearBy segments.now works.now s.now p.now)
-        (IsNearEndBy segments.now works.now s.now p.now) }
+    ensures { IsLeast (IsNearEndBy segments.now works.now s.now p.now) result }
 {
+    let mut least = None;
     for g in segments {
-        if let Some(end) = near_end(works, s, p, g) {
-            return Some(end);
-        }
+        let near = earlier_time(end_before(works, s, p, g), end_after(works, s, p, g));
+        least = earlier_time(least, near);
     }
-    None
+    least
 }
 
-/// The end of one at one of the points.
+/// The least end of one at one of the points.
 fn near_end_of(works: &[Ramp], s: &Stretch, points: &[Point], segments: &[Segment]) -> Option<Frac>
     requires ramps { AreRamps works.now }
     requires fits { EachPoint (FitsNearBy segments.now works.now s.now) points.now }
-    ensures { MatchOption result (NoneNear segments.now works.now s.now points.now)
-        (IsNearEndOf segments.now works.now s.now points.now) }
+    ensures { IsLeast (IsNearEndOf segments.now works.now s.now points.now) result }
 {
+    let mut least = None;
     for p in points {
-        if let Some(end) = near_end_by(works, s, p, segments) {
-            return Some(end);
-        }
+        least = earlier_time(least, near_end_by(works, s, p, segments));
     }
-    None
+    least
 }
 
-/// The end of a window of the stretch that is short of work between two of its turns `own`, or between one of them and
-/// a time that is as far away as one of the pieces starts; none where no such window is short. One pass over the turns
-/// for each piece, and two windows for each turn and piece.
+/// The least end of a window of the stretch that is short of work between two of its turns `own`, or between one of them
+/// and a time that is as far away as one of the pieces starts; none where no such window is short. One pass over the
+/// turns for each piece, and two windows for each turn and piece.
 pub(crate) fn short_end(
     alloc: Global,
     works: &[Ramp],
@@ -111,15 +130,14 @@ pub(crate) fn short_end(
     requires segments { SegmentsFit (segments pieces.now) }
     requires times { EachTime (TimeFits (segments pieces.now) works.now) own.now }
     requires near { EachPoint (FitsNearBy (segments pieces.now) works.now s.now) (map (point_at works.now) own.now) }
-    ensures { IfOk result
-        (λ o. MatchOption o (IsClear (segments pieces.now) works.now s.now own.now)
-        (EndsShort (segments pieces.now) works.now s.now own.now)) }
+    ensures { IfOk result (IsLeast (EndsShort (segments pieces.now) works.now s.now own.now)) }
 {
     let segments = segments_of(alloc, pieces)?;
     let points = points_of(alloc, works, own)?;
-    let place = first_end(alloc, &points, &segments)?;
-    if place < points.len() {
-        return Ok(Some(points[place].time));
+    let place = first_end(alloc, &points, &points, &segments)?;
+    let near = near_end_of(works, s, &points, &segments);
+    if place >= points.len() {
+        return Ok(near);
     }
-    Ok(near_end_of(works, s, &points, &segments))
+    Ok(earlier_time(Some(points[place].time), near))
 }

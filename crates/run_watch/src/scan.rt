@@ -90,21 +90,27 @@ fn let_in(
     Ok(next)
 }
 
-/// The first mark that is the later of a pair that the rule looks for, in one pass: each mark goes into the queue once
-/// and out of it once.
-pub fn first_under(alloc: Global, marks: &[Mark], rule: &Rule) -> Result<Option<usize>, AllocError>
+/// The first of some ends that is the later of a pair that the rule looks for, of which the earlier is one of the marks,
+/// in one pass over both: each mark goes into the queue once and out of it once.
+pub fn first_under(
+    alloc: Global,
+    marks: &[Mark],
+    ends: &[Mark],
+    rule: &Rule,
+) -> Result<Option<usize>, AllocError>
     requires rise { TimesRise marks.now }
+    requires ends { TimesRise ends.now }
     requires fits { Each (FitsRule rule.now) marks.now }
     ensures none { IfOk result
-        (λ o. MatchOption o (Each (IsOver rule.now marks.now) marks.now) (λ k. k < length marks.now)) }
-    ensures before { IfOk result (λ o. IfSome o (λ k. Each (IsOver rule.now marks.now) (take k marks.now))) }
+        (λ o. MatchOption o (Each (IsOver rule.now marks.now) ends.now) (λ k. k < length ends.now)) }
+    ensures before { IfOk result (λ o. IfSome o (λ k. Each (IsOver rule.now marks.now) (take k ends.now))) }
     ensures there { IfOk result
-        (λ o. IfSome o (λ k. (b : Mark) × (slice_get marks.now k ≡ Some b) × IsUnderSome rule.now marks.now b)) }
+        (λ o. IfSome o (λ k. (b : Mark) × (slice_get ends.now k ≡ Some b) × IsUnderSome rule.now marks.now b)) }
 {
     let mut kept = VecDeque::new(alloc);
     let mut into = 0;
-    for k in 0..marks.len() {
-        let b = &marks[k];
+    for k in 0..ends.len() {
+        let b = &ends[k];
         into = let_in(&mut kept, marks, rule, b, into)?;
         drop_past(&mut kept, &rule.most, b.time);
         if is_front_under(&kept, rule.gap, b.end_key) {

@@ -1,21 +1,23 @@
 //! The windows of a stretch that are looked at.
 
-ghost use Rattle.std.specs.Prelude.{◌≡◌, ◌↔◌, [], ◌∷◌, ◌++◌, ◌<◌, length, drop, map, IfOk, OnOk, IsTrue, MatchOption};
+ghost use Rattle.std.specs.Prelude.{◌≡◌, ◌↔◌, [], ◌∷◌, ◌++◌, ◌<◌, length, drop, map, IfOk, OnOk, IsTrue};
 ghost use Rattle.rational.specs.Rational.{ℚ};
 ghost use Rattle.affine_segment.specs.declared.line.Piece.{Piece};
 ghost use Rattle.affine_segment.specs.Pieces.{Each};
 ghost use Rattle.watch_laws.specs.Affine.{EachTime};
 ghost use Rattle.watch_laws.specs.Segments.{next_start, segment_of, segments};
-ghost use Rattle.watch_laws.specs.Shorts.{IsShortBy, EachPoint, PointsRise};
+ghost use Rattle.watch_laws.specs.Shorts.{IsShortBy, PointsRise};
 ghost use Rattle.watch_laws.specs.Marks.{FitsRule};
 ghost use Rattle.run_watch.specs.Ramps.{AreRamps, EachRamp, ReadsRamp};
 ghost use Rattle.run_watch.specs.FirstEnds.{FitsMarks, FitsSegments};
+ghost use Rattle.run_watch.specs.NearWindows.{IsLeast};
 ghost use Rattle.run_watch.specs.Watching.{TimesRise};
-ghost use Rattle.run_watch.specs.WatchTimes.{inside, around, watched_from, HaveSameTimes, AroundFits, TimesFit, point_at, IsShortTo, IsFirstStart};
+ghost use Rattle.run_watch.specs.WatchTimes.{inside, around, watched_from, HaveSameTimes, AroundFits, TimesFit, point_at, StartsBy, StartsTo};
 
+use crate::near::earlier_time;
 use crate::ramps::{amount_at, is_at_most};
 use crate::scan::is_past;
-use crate::shorts::{mark_of, rule_of};
+use crate::shorts::{in_reach, mark_of, rule_of};
 use crate::span::Ramp;
 use crate::watched::Stretch;
 use affine_segment::Piece;
@@ -174,32 +176,32 @@ pub(crate) fn is_short_by(s: &Segment, a: &Point, b: &Point) -> bool
     is_less(to.end_key, sum(from.start_key, rule.gap))
 }
 
-/// Whether it is by one of the segments.
-fn is_short(segments: &[Segment], a: &Point, b: &Point) -> bool
-    requires a { FitsSegments (a.now ∷ []) segments.now }
-    requires b { FitsSegments (b.now ∷ []) segments.now }
-    ensures { IsTrue result ↔ IsShortTo segments.now a.now b.now }
-{
-    for s in segments {
-        if is_short_by(s, a, b) {
-            return true;
-        }
-    }
-    false
-}
-
-/// The first of some points from which a window to b is short.
-pub(crate) fn first_start(points: &[Point], segments: &[Segment], b: &Point) -> Option<Point>
+/// The first of some points in order from which a window to b is short by the segment, of those in reach.
+fn first_start_by(points: &[Point], s: &Segment, b: &Point) -> Option<Frac>
     requires rise { PointsRise points.now }
-    requires fits { FitsSegments points.now segments.now }
-    requires b { FitsSegments (b.now ∷ []) segments.now }
-    ensures { MatchOption result (EachPoint (λ p. ¬ IsShortTo segments.now p b.now) points.now)
-        (IsFirstStart segments.now points.now b.now) }
+    requires fits { FitsMarks points.now s.now }
+    requires b { FitsMarks (b.now ∷ []) s.now }
+    ensures { IsLeast (StartsBy points.now b.now s.now) result }
 {
-    for p in points {
-        if is_short(segments, p, b) {
-            return Some(*p);
+    let starts = in_reach(points, s, b.time, b.time);
+    for p in starts {
+        if is_short_by(s, p, b) {
+            return Some(p.time);
         }
     }
     None
+}
+
+/// The time of the first of some points from which a window to b is short by one of the segments.
+pub(crate) fn first_start(points: &[Point], segments: &[Segment], b: &Point) -> Option<Frac>
+    requires rise { PointsRise points.now }
+    requires fits { FitsSegments points.now segments.now }
+    requires b { FitsSegments (b.now ∷ []) segments.now }
+    ensures { IsLeast (StartsTo points.now b.now segments.now) result }
+{
+    let mut first = None;
+    for s in segments {
+        first = earlier_time(first, first_start_by(points, s, b));
+    }
+    first
 }

@@ -67,11 +67,19 @@ pub record IsFound (end : ℚ) (V : List ServerStep) (c : SpecCurve) (u e p q : 
   pub pair : IsPair (IsTurn end V) (IsBreak c) p q
   pub less : Fin (worked all V q) <ₑ (Fin (worked all V p) +ₑ value_at c (q -ℚ p))
 
-pub found_in : (server : Server) (end : ℚ) (V : List ServerStep) (c : SpecCurve) (u e a b : ℚ) → IsLawfulView server end V → IsNormal c
-    → IsFinite (value_at c) → IsContinuous (value_at c) → IsZeroAtStart (value_at c) → IsAround end V a b u e → a <ℚ b
+-- such a window between two turns
+pub record IsFoundBetween (end : ℚ) (V : List ServerStep) (c : SpecCurve) (u e p q : ℚ) : Type 0 where
+  pub from : u ≤ℚ p
+  pub forward : p <ℚ q
+  pub to : q ≤ℚ e
+  pub pair : IsPair (IsTurn end V) (IsBreak c) p q
+  pub less : Fin (worked all V q) <ₑ (Fin (worked all V p) +ₑ value_at c (q -ℚ p))
+
+pub found_between : (server : Server) (end : ℚ) (V : List ServerStep) (c : SpecCurve) (u e a b : ℚ) → IsLawfulView server end V → IsNormal c
+    → IsFinite (value_at c) → IsContinuous (value_at c) → IsZeroAtStart (value_at c) → IsTurn end V u → IsTurn end V e → u ≤ℚ a → a <ℚ b → b ≤ℚ e
     → Fin (worked all V b) <ₑ (Fin (worked all V a) +ₑ value_at c (b -ℚ a))
-    → (p q : ℚ) × IsFound end V c u e p q
-found_in server end V c u e a b h n fin smooth zero is l less =
+    → (p q : ℚ) × IsFoundBetween end V c u e p q
+found_between server end V c u e a b h n fin smooth zero at_u at_e first l last less =
     let works = all_works server end (start server.discipline) V h.allowed in
     let g : ℚ → ℚ = λ t. number_at (value_at c t) in
     let f = work_pieces V u e works in
@@ -84,17 +92,25 @@ found_in server end V c u e a b h n fin smooth zero is l less =
     let z = is_number (value_at c) zero_q fin (le_refl zero_q) in
     subst (λ x. x ≤ₑ Fin (int (pos 0))) z zero in
     let short = below_number (worked all V b) (worked all V a) (value_at c (b -ℚ a)) (g (b -ℚ a)) (is_number (value_at c) (b -ℚ a) fin (length_nonneg a b l)) less in
-    let (p, q, it) = short_pair (worked all V) g (IsTurn end V) (IsBreak c) u e a b turns (curve_pieces c (e -ℚ u) n fin smooth)
-    (inl (e, is.stretch)) (inr (inl (u, is.stretch))) at_zero is.first (le_of_lt l) is.last short in (
+    let (p, q, it) = short_pair (worked all V) g (IsTurn end V) (IsBreak c) u e a b turns (curve_pieces c (e -ℚ u) n fin smooth) at_u at_e at_zero first (le_of_lt l) last short in (
       p,
       q,
       record {
-        inside = record { stretch = is.stretch; first = it.from; last = it.to };
+        from = it.from;
         forward = it.forward;
+        to = it.to;
         pair = it.pair;
         less = number_below (worked all V q) (worked all V p) (value_at c (q -ℚ p)) (g (q -ℚ p)) (is_number (value_at c) (q -ℚ p) fin (length_nonneg p q it.forward)) it.short;
       },
     )
+
+pub found_in : (server : Server) (end : ℚ) (V : List ServerStep) (c : SpecCurve) (u e a b : ℚ) → IsLawfulView server end V → IsNormal c
+    → IsFinite (value_at c) → IsContinuous (value_at c) → IsZeroAtStart (value_at c) → IsAround end V a b u e → a <ℚ b
+    → Fin (worked all V b) <ₑ (Fin (worked all V a) +ₑ value_at c (b -ℚ a))
+    → (p q : ℚ) × IsFound end V c u e p q
+found_in server end V c u e a b h n fin smooth zero is l less =
+    let (p, q, it) = found_between server end V c u e a b h n fin smooth zero (inl (e, is.stretch)) (inr (inl (u, is.stretch))) is.first l is.last less in
+    (p, q, record { inside = record { stretch = is.stretch; first = it.from; last = it.to }; forward = it.forward; pair = it.pair; less = it.less })
 
 pub found : (server : Server) (end : ℚ) (V : List ServerStep) (c : SpecCurve) (a b : ℚ) → IsLawfulView server end V → IsNormal c
     → IsFinite (value_at c) → IsContinuous (value_at c) → IsZeroAtStart (value_at c) → a <ℚ b → b ≤ℚ end → IsBusy V a b

@@ -21,8 +21,8 @@ use Rattle.net_model.specs.declared.breach.Breach.TheVariants.{Size, Arrival, Se
 use Rattle.watch_laws.specs.declared.entering.Entering.{Entering}
 use Rattle.watch_laws.specs.Entries.{entries, entering}
 use Rattle.watch_laws.specs.Breaches.{IsBreach, order_key}
-use Rattle.watch_laws.specs.Laws.{HaveCurves, PairsSuffice, WatchPointsSuffice, TurnsSuffice, TurnsSufficeWithin, StretchesAreApart, BreachesTell, FirstIsOne}
-use Rattle.watch_laws.proofs.Idle.{none_idle, idle_breaks, none_found, found_in, inside_keeps, apart_or_one}
+use Rattle.watch_laws.specs.Laws.{HaveCurves, PairsSuffice, WatchPointsSuffice, TurnsSuffice, TurnsSufficeWithin, TurnsSufficeBetween, StretchesAreApart, BreachesTell, FirstIsOne}
+use Rattle.watch_laws.proofs.Idle.{none_idle, idle_breaks, none_found, found_between, found_in, inside_keeps, apart_or_one}
 use Rattle.watch_laws.proofs.Crowds.{window_is, none_crowded, crowded_breaks}
 use Rattle.watch_laws.proofs.Entered.{in_order}
 use Rattle.watch_laws.proofs.Order.{both_no_later, one_key}
@@ -96,6 +96,11 @@ pub turns_suffice_within : TurnsSufficeWithin
 turns_suffice_within server end V c u e a b h k is l less =
     let (p, q, it) = found_in server end V c u e a b h k.normal k.finite k.continuous k.at_zero is l less in
     (p, q, it.inside, it.forward, it.pair, it.less)
+
+pub turns_suffice_between : TurnsSufficeBetween
+turns_suffice_between server end V c u e a b h k at_u at_e first l last less =
+    let (p, q, it) = found_between server end V c u e a b h k.normal k.finite k.continuous k.at_zero at_u at_e first l last less in
+    (p, q, it.from, it.forward, it.to, it.pair, it.less)
 
 pub stretches_are_apart : StretchesAreApart
 stretches_are_apart = apart_or_one

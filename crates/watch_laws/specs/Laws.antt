@@ -74,6 +74,14 @@ TurnsSufficeWithin = (server : Server) (end : ℚ) (view : List ServerStep) (c :
     (p q : ℚ) × IsAround end view p q u e × (p <ℚ q) × IsPair (IsTurn end view) (IsBreak c) p q
     × (Fin (worked all view q) <ₑ (Fin (worked all view p) +ₑ value_at c (q -ℚ p)))
 
+-- and so between any two turns, as where a stretch is cut at one
+abbrev pub TurnsSufficeBetween : Type 0
+TurnsSufficeBetween = (server : Server) (end : ℚ) (view : List ServerStep) (c : SpecCurve) (u e a b : ℚ) →
+    IsLawfulView server end view → MayServe c → IsTurn end view u → IsTurn end view e → u ≤ℚ a → a <ℚ b → b ≤ℚ e →
+    Fin (worked all view b) <ₑ (Fin (worked all view a) +ₑ value_at c (b -ℚ a)) →
+    (p q : ℚ) × (u ≤ℚ p) × (p <ℚ q) × (q ≤ℚ e) × IsPair (IsTurn end view) (IsBreak c) p q
+    × (Fin (worked all view q) <ₑ (Fin (worked all view p) +ₑ value_at c (q -ℚ p)))
+
 -- two stretches are one, or one ends before the other begins
 abbrev pub StretchesAreApart : Type 0
 StretchesAreApart = (end : ℚ) (view : List ServerStep) (u e v f : ℚ) → IsStretch end view u e → IsStretch end view v f →

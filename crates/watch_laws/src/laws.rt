@@ -1,5 +1,5 @@
 ghost use Rattle.watch_laws.specs.Times.{TurnsAreTimes, StretchesBegin};
-ghost use Rattle.watch_laws.specs.Laws.{PairsSuffice, WatchPointsSuffice, TurnsSuffice, TurnsSufficeWithin, StretchesAreApart, BreaksAreStarts, BreachesTell, FirstIsOne};
+ghost use Rattle.watch_laws.specs.Laws.{PairsSuffice, WatchPointsSuffice, TurnsSuffice, TurnsSufficeWithin, TurnsSufficeBetween, StretchesAreApart, BreaksAreStarts, BreachesTell, FirstIsOne};
 ghost use Rattle.watch_laws.specs.Segments.{SegmentsTell};
 ghost use Rattle.watch_laws.specs.MarkSizes.{MarksFit, KeysFit};
 
@@ -24,6 +24,11 @@ pub fn turns_suffice()
 /// A window of a stretch that is too short of work has one in the same stretch between such times.
 pub fn turns_suffice_within()
     ensures { TurnsSufficeWithin }
+{}
+
+/// A window between two turns that is too short of work has one between the same turns between such times.
+pub fn turns_suffice_between()
+    ensures { TurnsSufficeBetween }
 {}
 
 /// Every turn is the time of a step, or the run's end.

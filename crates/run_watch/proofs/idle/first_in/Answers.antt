@@ -13,6 +13,7 @@ use Rattle.run_watch.proofs.HeldSizes.{times_differ}
 use Rattle.run_watch.proofs.HeldTimes.{operand_to, moves}
 use Rattle.run_watch.proofs.NearWindows.{stretch_stands, end_some, length_operand, near_segments, near_times, near_turns, clear_as}
 use Rattle.run_watch.proofs.ShortEnds.{end_within, found_in_cut, looks_clear, looks_short, near_watched_times}
+use Rattle.run_watch.proofs.CutStretches.{none_ends}
 use Rattle.run_watch.proofs.idle.first_in.Goals as goal
 
 pub difference-requires : goal.difference-requires
@@ -48,7 +49,7 @@ short_end-requires-clause-near c =
     near_turns c.args.w.now c.args.curve.now c.args.s.now c.args.own.now c.args.turns.now c.deref-2.result.now c.deref.result.now c.requires.held c.requires.stretch qs_is c.deref.ensures.value
 
 pub returns-in-None : goal.returns-in-None
-returns-in-None c = λ M.
+returns-in-None c = λ server V S M.
     let qs_is : c.deref-2.result.now ≡ unroll c.args.curve.now (c.args.s.now.end -ℚ c.args.s.now.start) = c.deref-2.ensures.value ∙ c.in_ok-near.ensures ∙ ap (unroll c.args.curve.now) c.difference.ensures in
     inl (clear_as c.args.w.now c.args.curve.now c.args.s.now c.args.own.now c.deref.result.now c.deref-2.result.now c.deref.ensures.value qs_is
     (looks_clear c.deref-2.result.now c.deref.result.now c.args.s.now c.args.own.now c.in_ok-end.field-0 c.in-None.is c.in_ok-end.ensures))
@@ -86,7 +87,7 @@ first_short-requires-clause-segments c =
     (near_segments c.args.w.now c.args.curve.now c.args.s.now c.args.own.now c.args.turns.now c.deref-2.result.now c.requires.held c.requires.stretch ns_is)
 
 pub returns : goal.returns
-returns c = λ M.
+returns c = λ server V S M.
     let w = c.args.w.now in
     let s = c.args.s.now in
     let own = c.args.own.now in
@@ -101,4 +102,6 @@ returns c = λ M.
     IfOk-weaker c.first_short.result (FindsShort gs c.deref-4.result.now (watched_from record { start = s.start; end = end } qs all)) (FindsIn w c.args.curve.now s own all)
     (λ (o : Option (ℚ × ℚ)) (k : FindsShort gs c.deref-4.result.now (watched_from record { start = s.start; end = end } qs all) o).
     found_in_cut w c.args.curve.now s own all c.deref-4.result.now c.deref.result.now ns qs gs end o c.requires.held c.requires.stretch M c.deref-4.ensures.value c.deref.ensures.value ns_is (c.deref-5.ensures.value ∙ c.in_ok-pieces.ensures) gs_is ends k)
-    c.first_short.ensures
+    (c.first_short.ensures
+    (none_ends server V w c.args.curve.now s own all c.deref-4.result.now c.deref.result.now ns qs gs c.in_ok-end.field-0 end c.last_before-after.result c.requires.held c.requires.stretch S M c.deref-4.ensures.value c.deref.ensures.value ns_is gs_is
+    c.in-Some.is c.in_ok-end.ensures c.last_before-after.ensures))

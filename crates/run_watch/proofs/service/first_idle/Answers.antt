@@ -47,7 +47,7 @@ returns-in-Some c = λ server V S M.
     let ts_is : ps ≡ turns c.args.w.now (stretches c.args.w.now) = c.deref-in-loop-s-2.ensures.value ∙ c.in_ok-turns.ensures ∙ ap (turns c.args.w.now) (c.deref-2.ensures.value ∙ c.in_ok-stretches.ensures ∙ ap (λ (ts : List ℚ). stretches_in c.args.w.now ts c.args.w.now.arrivals.items) (c.deref.ensures.value ∙ c.in_ok-stops.ensures)) in
     first_here server V c.args.w.now c.args.curve.now ps c.deref-s-items.result.now c.loop-s.s-index c.s-item.result c.in-Some.found.0 c.in-Some.found.1
     (searched server V c.args.w.now c.args.curve.now ps c.requires S M some ts_is) ss_is c.loop-s-test.true c.s-item.is (c.loop-s.invariant server V S M)
-    (subst (FindsIn c.args.w.now c.args.curve.now c.s-item.result c.turns_in-own.result.now ps) c.in-Some.is (c.in_ok-found.ensures M))
+    (subst (FindsIn c.args.w.now c.args.curve.now c.s-item.result c.turns_in-own.result.now ps) c.in-Some.is (c.in_ok-found.ensures server V S M))
 
 pub loop-s-preserved : goal.loop-s-preserved
 loop-s-preserved c = λ server V S M.
@@ -60,7 +60,7 @@ loop-s-preserved c = λ server V S M.
     none_idle_more c.args.w.now.end V c.args.curve.now c.deref-s-items.result.now c.loop-s.s-index c.s-item.result c.loop-s-test.true c.s-item.is (c.loop-s.invariant server V S M)
     (none_found server V c.args.w.now c.args.curve.now ps c.turns_in-own.result.now c.deref-s-items.result.now c.loop-s.s-index c.s-item.result
     (searched server V c.args.w.now c.args.curve.now ps c.requires S M some ts_is) own ss_is c.loop-s-test.true c.s-item.is
-    (subst (FindsIn c.args.w.now c.args.curve.now c.s-item.result c.turns_in-own.result.now ps) c.in_default.is (c.in_ok-found.ensures M)))
+    (subst (FindsIn c.args.w.now c.args.curve.now c.s-item.result c.turns_in-own.result.now ps) c.in_default.is (c.in_ok-found.ensures server V S M)))
 
 pub returns : goal.returns
 returns c = λ server V S M.

@@ -1,16 +1,24 @@
-use Rattle.std.proofs.Common.{refl, sym, true≢false}
-use Rattle.run_watch.specs.WatchTimes.{IsShortTo}
-use Rattle.run_watch.proofs.ShortWindows.{points_push, first_start_is, fits_one}
+use Rattle.std.proofs.Common.{[], ◌∷◌, sym, subst}
+use Rattle.run_watch.specs.FirstEnds.{FitsMarks}
+use Rattle.run_watch.specs.WatchTimes.{StartsBy, StartsTo}
+use Rattle.run_watch.specs.NearWindows.{IsLeast}
+use Rattle.run_watch.proofs.LeastTimes.{least_segment, least_segments}
+use Rattle.run_watch.proofs.ShortMarks.{segment_at}
 use Rattle.run_watch.proofs.windows.first_start.Goals as goal
 
-pub is_short-requires-clause-a : goal.is_short-requires-clause-a
-is_short-requires-clause-a c = fits_one c.args.segments.now c.args.points.now c.loop-p.p-index c.p-item.result c.loop-p-test.true c.p-item.is c.requires.fits
+pub loop-s-init : goal.loop-s-init
+loop-s-init c = λ t h. let (s, has, is) = h in has
 
-pub returns-then-is_short : goal.returns-then-is_short
-returns-then-is_short c =
-    first_start_is c.args.segments.now c.args.points.now c.loop-p.p-index c.p-item.result c.args.b.now c.requires.rise c.loop-p-test.true c.p-item.is c.loop-p.invariant (c.if-is_short.ensures.0 refl)
+pub first_start_by-requires-clause-fits : goal.first_start_by-requires-clause-fits
+first_start_by-requires-clause-fits c = segment_at (FitsMarks c.args.points.now) c.args.segments.now c.loop-s.s-index c.s-item.result c.requires.fits c.loop-s-test.true c.s-item.is
 
-pub loop-p-preserved : goal.loop-p-preserved
-loop-p-preserved c =
-    points_push (λ p. IsShortTo c.args.segments.now p c.args.b.now → ⊥) c.args.points.now c.loop-p.p-index c.p-item.result c.loop-p-test.true c.p-item.is c.loop-p.invariant
-    (λ h. true≢false (sym (c.if-is_short.ensures.1 h)))
+pub first_start_by-requires-clause-b : goal.first_start_by-requires-clause-b
+first_start_by-requires-clause-b c = segment_at (FitsMarks (c.args.b.now ∷ [])) c.args.segments.now c.loop-s.s-index c.s-item.result c.requires.b c.loop-s-test.true c.s-item.is
+
+pub loop-s-preserved : goal.loop-s-preserved
+loop-s-preserved c =
+    subst (IsLeast (StartsTo c.args.points.now c.args.b.now _)) (sym c.earlier_time-first.ensures)
+    (least_segment (StartsBy c.args.points.now c.args.b.now) c.args.segments.now c.loop-s.s-index c.s-item.result c.loop-s.first c.first_start_by.result c.loop-s-test.true c.s-item.is c.loop-s.invariant c.first_start_by.ensures)
+
+pub returns : goal.returns
+returns c = least_segments (StartsBy c.args.points.now c.args.b.now) c.args.segments.now c.loop-s.s-index c.loop-s.first c.loop-s-test.false c.loop-s.invariant
