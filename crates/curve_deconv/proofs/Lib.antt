@@ -3,6 +3,7 @@ pub mod Slower
 pub mod Mirrored
 pub mod PairSplits
 pub mod MirroredRoom
+pub mod MirroredPieces
 pub mod Pairs
 pub mod MarkTimes
 pub mod MarkWindows

@@ -26,7 +26,7 @@ use Rattle.element_envelope.specs.PieceElements.{next_start, elements_of, Among}
 use Rattle.element_envelope.specs.ElementRoom.{OperandElement}
 use Rattle.element_envelope.proofs.Members.{among_cases}
 use Rattle.element_envelope.proofs.Cover.{head, head_cases}
-use Rattle.curve_deconv.specs.Mirrored.{neg_element, neg_line, mirror, mirror_line, MirrorFits, EachElement}
+use Rattle.curve_deconv.specs.Mirrored.{neg_element, neg_line, mirror, mirror_line}
 use Rattle.curve_deconv.proofs.Kept.{line_from}
 
 -- ---- minus the values
@@ -39,7 +39,7 @@ neg_slope z s S = record {
   within = subst (Within (int (pos z.steepness))) (sym (twice_back s)) (within_neg (int (pos z.steepness)) (int (pos 2) *ℚ s) S.within);
 }
 
-neg_operand_line : (z : Sizes) (l : Line) → OperandLine z l → OperandLine z (neg_line l)
+pub neg_operand_line : (z : Sizes) (l : Line) → OperandLine z l → OperandLine z (neg_line l)
 neg_operand_line z l L = record {
   slope = neg_slope z l.slope L.slope;
   icept = whole_neg (grid_of z) l.icept L.icept;
@@ -81,7 +81,7 @@ pub record ReadyPiece (z : Sizes) (end reach : ℚ) (p : Piece) : Type 0 where
   pub before : p.x <ℚ reach
   pub after : ValueStands z (line_value p.line p.x)
 
-piece_time : (z : Sizes) (end reach : ℚ) (p : Piece) → ReadyPiece z end reach p → ReachTime z reach p.x
+pub piece_time : (z : Sizes) (end reach : ℚ) (p : Piece) → ReadyPiece z end reach p → ReachTime z reach p.x
 piece_time z end reach p P = record { whole = P.piece.start; low = P.piece.nonneg; high = le_of_lt P.before }
 
 ready_open : (z : Sizes) (reach x y : ℚ) (next : Ext) (l : Line) → next ≡ Fin y → ReachTime z reach x → ReachTime z reach y → OperandLine z l → IsValue z (line_at l x) → IsReady z reach (Open x next l)
@@ -118,7 +118,7 @@ elements_ready z end reach ps e h w low k = ready_in z end reach ps e h record {
 one_two : (z : Sizes) → int (pos z.largest) +ℚ times_largest 1 z ≡ times_largest 2 z
 one_two z = let v = int (pos z.largest) in with1 v (λ c. omega (arith, c.le, c.lt, c.same))
 
-mirror_operand_line : (z : Sizes) (end reach x : ℚ) (l : Line) → AreLimited z end → Whole z.dt reach → int (pos 0) ≤ℚ reach → reach ≤ℚ end → int (pos 0) ≤ℚ x → x ≤ℚ reach
+pub mirror_operand_line : (z : Sizes) (end reach x : ℚ) (l : Line) → AreLimited z end → Whole z.dt reach → int (pos 0) ≤ℚ reach → reach ≤ℚ end → int (pos 0) ≤ℚ x → x ≤ℚ reach
     → OperandLine z l → IsValue z (line_at l x) → OperandLine z (mirror_line reach l)
 mirror_operand_line z end reach x l A w low high xl xh L V =
     let far = reach -ℚ x in
@@ -169,19 +169,3 @@ pub back_fits : (z : Sizes) (end a b : ℚ) → AreLimited z end → Whole z.dt 
 back_fits z end a b A wa wb la ha lb hb =
     let g = A.gauge in
     sum_fits z end a (neg_ℚ b) A.sizes (narrow_gauge z end A.sizes (omega (arith, g))) wa (whole_neg z.dt b wb) (time_within z end a A.sizes la ha) (within_neg _ b (time_within z end b A.sizes lb hb))
-
-pub mirror_fits : (z : Sizes) (end reach : ℚ) (e : Element) → AreLimited z end → Whole z.dt reach → int (pos 0) ≤ℚ reach → reach ≤ℚ end → IsReady z reach e → MirrorFits reach e
-mirror_fits z end reach (Point x v) A w low high R = back_fits z end reach x A w R.time.whole low high R.time.low (let a = R.time.high in with3 x reach end (λ c. omega (arith, c.le, c.lt, c.same)))
-mirror_fits z end reach (Open from Inf line) A w low high R = absurd R
-mirror_fits z end reach (Open from (Fin to) line) A w low high R =
-    let a = R.start.high in
-    let b = R.until.high in
-    record {
-      start = back_fits z end reach from A w R.start.whole low high R.start.low (with3 from reach end (λ c. omega (arith, c.le, c.lt, c.same)));
-      until = back_fits z end reach to A w R.until.whole low high R.until.low (with3 to reach end (λ c. omega (arith, c.le, c.lt, c.same)));
-      line = operand_line_fits z end reach (Some line) A R.line w low high;
-    }
-
-pub each_element : (P : Element → Type 0) (es : List Element) → ((e : Element) → Among e es → P e) → EachElement P es
-each_element P [] h = tt
-each_element P (e ∷ es) h = (h e (inl refl), each_element P es (λ d k. h d (inr k)))

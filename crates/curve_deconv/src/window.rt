@@ -5,14 +5,13 @@ ghost use Rattle.curve_deconv.specs.DeconvolutionWindows.{OperandWindows, IsPair
 ghost use Rattle.curve_deconv.specs.DeconvolutionWindows.{IsDeconvolutionWindow};
 
 use crate::marks::{last_infinite, mark_pieces};
-use crate::mirroring::{mirrored_elements, negated_elements, negated_pieces};
+use crate::mirroring::{mirrored_pieces, negated_pieces};
 use affine_segment::Piece;
 use curve_pointwise::left_window;
 use curve_running::front_before;
 use curve_window::window_sum;
-use element_envelope::{cut, envelope};
+use element_envelope::window_convolution;
 use fraction128::Frac;
-use rational::Extended;
 use std::alloc::{AllocError, Global};
 
 // The least of g at u less f at t + u, over all u from 0 on and before `reach` at which both are finite, at `reach`
@@ -27,12 +26,10 @@ fn pairs_window(
     requires { OperandWindows end reach f.now g.now }
     ensures { IfOk result (λ v. IsPairsWindow end reach f.now g.now v.items) }
 {
-    let first = cut(alloc, f, Extended::Inf)?;
-    let xs = negated_elements(alloc, &first)?;
+    let turned = negated_pieces(alloc, f)?;
     let front = front_before(alloc, g, reach)?;
-    let second = cut(alloc, &front, Extended::Fin(reach))?;
-    let ys = mirrored_elements(alloc, &second, reach)?;
-    envelope(alloc, &xs, &ys, end)
+    let mirrored = mirrored_pieces(alloc, &front, reach)?;
+    window_convolution(alloc, &turned, &mirrored, end)
 }
 
 // The same, and infinity where f is infinite at t or later.
