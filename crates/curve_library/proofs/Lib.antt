@@ -8,3 +8,4 @@ pub mod SharesAre
 pub mod StairParts
 pub mod TextLoops
 pub mod ListedParts
+pub mod LimitParts

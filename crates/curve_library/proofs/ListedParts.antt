@@ -36,9 +36,9 @@ use Rattle.curve_library.specs.declared.texts.UseAs.{UseAs}
 use Rattle.curve_library.specs.declared.texts.UseAs.TheVariants.{Arrival, Service}
 use Rattle.curve_library.specs.declared.fault.CurveFault.{CurveFault}
 use Rattle.curve_library.specs.declared.fault.CurveFault.TheVariants.{Negative, ZeroPeriod, NotRising, NotContinuous, NotZeroAtStart, Op, NoMemory}
-use Rattle.curve_library.specs.Listed.{text_line, text_piece, text_pieces, text_tail, last_from, listed_curve, LineFits, IsNonnegText, IsWellFormed, HasShape, Jumps, StartsAboveZero, KeepsShape, KeepsBoth, KeepsListed, ListsFirst, TextFits, IsPiecesFault}
+use Rattle.curve_library.specs.Listed.{text_line, text_piece, text_pieces, text_tail, last_from, listed_curve, LineFits, IsNonnegText, IsWellFormed, HasShape, Jumps, StartsAboveZero, KeepsShape, KeepsBoth, KeepsListed, ListsFirst, TextFits}
 use Rattle.curve_library.proofs.Answering.{over_within}
-use Rattle.curve_library.proofs.OwnParts.{Held, held, too_wide, run_small}
+use Rattle.curve_library.proofs.OwnParts.{Held, held, run_small}
 use Rattle.upp_limits.proofs.KnownNumbers.{two_ones}
 use Rattle.affine_segment.proofs.PieceIn.{read_is}
 use Rattle.upp_limits.proofs.OneLimit.{one_limit}
@@ -97,9 +97,9 @@ one_fits k p H start slope after low early =
     }
 
 -- all of them
-record AllFit (ps : List PieceText) : Type 0 where
-  steps : AllByRecursion TextFits ps
-  lines : AllByRecursion LineFits ps
+pub record AllFit (ps : List PieceText) : Type 0 where
+  pub steps : AllByRecursion TextFits ps
+  pub lines : AllByRecursion LineFits ps
 
 all_fit : (k : SpecCurve) (tail : Tail) (ps : List PieceText) → Held k → ((q : Piece) → line_read tail q ≡ q.line) → AllByRecursion (SpanStands (own_sizes k)) (spans tail (text_pieces ps))
     → Each (λ q. q.x <ℚ own_end k) (text_pieces ps) → AllByRecursion IsNonnegText ps → AllFit ps
@@ -115,26 +115,12 @@ reads_line : (ps : List PieceText) (tail : Option TailText) (q : Piece) → line
 reads_line ps None q = refl
 reads_line ps (Some t) q = refl
 
-texts_fit : (ps : List PieceText) (tail : Option TailText) → IsWellFormed ps tail → own_gauge (listed_curve ps tail) < 2 ^ 120 → AllFit ps
+pub texts_fit : (ps : List PieceText) (tail : Option TailText) → IsWellFormed ps tail → own_gauge (listed_curve ps tail) < 2 ^ 120 → AllFit ps
 texts_fit ps tail w small =
     let k = listed_curve ps tail in
     let raw = raw_of ps tail w in
     let H = held k raw small in
     all_fit k (text_tail ps tail) ps H (reads_line ps tail) H.stands.spans (starts_below_own_end k raw) w.nonneg.pieces
-
--- where a step to a line does not fit, the curve is too wide
-pub lines_wide : (ps : List PieceText) (tail : Option TailText) → IsWellFormed ps tail → ¬ (AllByRecursion TextFits ps) → 2 ^ 120 ≤ own_gauge (listed_curve ps tail)
-lines_wide ps tail w h = too_wide (listed_curve ps tail) (AllByRecursion TextFits ps) (λ small. (texts_fit ps tail w small).steps) h
-
-pub pieces_fault : (ps : List PieceText) (tail : Option TailText) (u : UseAs) (e : CurveFault) → IsWellFormed ps tail → IsPiecesFault ps e → KeepsBoth u (listed_curve ps tail) (Err e)
-pieces_fault ps tail u Negative w h = absurd h
-pieces_fault ps tail u ZeroPeriod w h = absurd h
-pieces_fault ps tail u NotRising w h = absurd h
-pieces_fault ps tail u NotContinuous w h = absurd h
-pieces_fault ps tail u NotZeroAtStart w h = absurd h
-pieces_fault ps tail u (Op TooMany) w h = absurd h
-pieces_fault ps tail u (Op TooWide) w h = lines_wide ps tail w h
-pieces_fault ps tail u NoMemory w h = tt
 
 -- ---- the value at 0
 
@@ -206,17 +192,6 @@ both_of u k c (Err (Op limit)) same w h = absurd h
 both_of u k c (Err NoMemory) same w h = absurd h
 
 -- ---- the call
-pub listed_of : (ps : List PieceText) (tail : Option TailText) (u : UseAs) (r : Result SpecCurve CurveFault) → IsWellFormed ps tail → KeepsBoth u (listed_curve ps tail) r
-    → (r ≡ Err NoMemory → AllByRecursion LineFits ps) → KeepsListed ps tail u r
-listed_of ps tail u (Ok made) w h m = (w, h)
-listed_of ps tail u (Err Negative) w h m = absurd h
-listed_of ps tail u (Err ZeroPeriod) w h m = absurd h
-listed_of ps tail u (Err NotRising) w h m = inr (w, h)
-listed_of ps tail u (Err NotContinuous) w h m = (w, h)
-listed_of ps tail u (Err NotZeroAtStart) w h m = (w, h)
-listed_of ps tail u (Err (Op limit)) w h m = (w, h)
-listed_of ps tail u (Err NoMemory) w h m = (w, m refl)
-
 shape_rises : (u : UseAs) (f : ℚ → Ext) → HasShape u f → IsRising f
 shape_rises Arrival f h = h
 shape_rises Service f h = h.rises
@@ -321,18 +296,18 @@ lists_first ps tail u (Err (Op limit)) h = let c = listed_curve ps tail in recor
   empty = λ a n. absurd (n h.0.length);
   order = λ a l n. absurd (n h.0.order);
   wide = λ w n. wide_first ps tail limit w h.1 n;
-  over = λ other w o. inl (ap (λ l. let e : Result SpecCurve CurveFault = Err (Op l) in e) (one_limit c limit other h.1 o));
+  over = λ other w o. ap (λ l. let e : Result SpecCurve CurveFault = Err (Op l) in e) (one_limit c limit other h.1 o);
   falls = λ w i n. absurd (over_within c limit h.1 i);
   jumps = λ w i j. absurd (over_within c limit h.1 i);
   lifted = λ w i s. absurd (over_within c limit h.1 i);
   within = λ w i s. absurd (over_within c limit h.1 i);
 }
-lists_first ps tail u (Err NoMemory) h = record {
+lists_first ps tail u (Err NoMemory) h = let c = listed_curve ps tail in record {
   below = λ n. absurd (n h.0.nonneg);
   empty = λ a n. absurd (n h.0.length);
   order = λ a l n. absurd (n h.0.order);
-  wide = λ w n. absurd (n h.1);
-  over = λ limit w o. inr refl;
+  wide = λ w n. absurd (n (within_fit ps tail w h.1));
+  over = λ limit w o. absurd (over_within c limit o h.1);
   falls = λ w i n. inr refl;
   jumps = λ w i j. inr refl;
   lifted = λ w i s. inr refl;

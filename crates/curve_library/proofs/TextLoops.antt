@@ -1,12 +1,11 @@
 -- Loops over listed pieces: what is left of a list after some steps.
-use Rattle.std.specs.Prelude.{◌≡◌, ◌↔◌, ℕ, zero, suc, ◌+◌, ◌-◌, ◌<◌, ◌≤◌, List, [], ◌∷◌, ◌++◌, length, slice_get, Option, Some, None}
+use Rattle.std.specs.Prelude.{◌≡◌, ◌↔◌, ℕ, zero, suc, ◌+◌, ◌-◌, ◌<◌, ◌≤◌, List, [], ◌∷◌, length, slice_get, Option, Some, None}
 use Rattle.std.specs.List.{AllByRecursion}
 use Rattle.std.proofs.Common.{arith, get_or, drop, drop_of_length-le, sym, ap, refl, subst}
 use Rattle.rational.specs.Rational.{ℚ, ◌<ℚ◌}
-use Rattle.affine_segment.specs.declared.line.Piece.{Piece}
 use Rattle.affine_segment.specs.Pieces.{RisesFrom}
 use Rattle.curve_library.specs.declared.texts.PieceText.{PieceText}
-use Rattle.curve_library.specs.Listed.{text_pieces, TextFits, LineFits, last_from, last_start}
+use Rattle.curve_library.specs.Listed.{text_pieces, last_from, last_start}
 use Rattle.affine_segment.proofs.NextPiece.{next_piece}
 
 -- ---- a test of each
@@ -35,17 +34,6 @@ rise_off first last ps j p inv h e fails all = fails (subst (λ z. RisesFrom las
 
 pub rise_end : (first last : ℚ) (ps : List PieceText) (j : ℕ) → (RisesFrom first (text_pieces ps) ↔ RisesFrom last (text_pieces (drop j ps))) → length ps ≤ j → RisesFrom first (text_pieces ps)
 rise_end first last ps j inv h = inv.1 (subst (λ z. RisesFrom last (text_pieces z)) (sym (drop_of_length-le ps h)) tt)
-
--- ---- the pieces
-pub record TextLoop (ps left : List PieceText) (out : List Piece) : Type 0 where
-  pub fits : AllByRecursion TextFits ps → AllByRecursion TextFits left
-  pub same : out ++ text_pieces left ≡ text_pieces ps
-
--- ---- their lines
--- each line that is passed fits
-pub record LinesLoop (ps left : List PieceText) : Type 0 where
-  pub fits : AllByRecursion TextFits ps → AllByRecursion TextFits left
-  pub lines : AllByRecursion LineFits left → AllByRecursion LineFits ps
 
 -- ---- the last start
 last_got : (p : PieceText) (ps : List PieceText) (n : ℕ) (q : PieceText) → n ≡ length ps → slice_get (p ∷ ps) n ≡ Some q → last_from p ps ≡ q.x

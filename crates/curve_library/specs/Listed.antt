@@ -10,7 +10,7 @@ use Rattle.affine_segment.specs.declared.line.Piece.{Piece}
 use Rattle.upp_curve.specs.declared.curve.Tail.{Tail}
 use Rattle.upp_curve.specs.declared.curve.Tail.TheVariants.{Periodic, Affine}
 use Rattle.upp_limits.specs.declared.own_limits.OverLimit.{OverLimit}
-use Rattle.upp_limits.specs.declared.own_limits.OverLimit.TheVariants.{TooMany, TooWide}
+use Rattle.upp_limits.specs.declared.own_limits.OverLimit.TheVariants.{TooWide}
 use Rattle.upp_curve.specs.Curve.{SpecCurve, value_at, HasSameValues}
 use Rattle.min_plus.specs.Continuity.{IsContinuous}
 use Rattle.min_plus.specs.Functions.{zero_q, IsRising}
@@ -121,7 +121,7 @@ KeepsShape u c (Err NotZeroAtStart) = StartsAboveZero u (value_at c)
 KeepsShape u c (Err (Op limit)) = ⊥
 KeepsShape u c (Err NoMemory) = ⊥
 
--- the limits alone: some curve with c's values where c is within them
+-- the limits alone: some curve with c's values, or want of memory, where c is within them
 abbrev pub KeepsMade : SpecCurve → Result SpecCurve CurveFault → Type 0
 KeepsMade c (Ok made) = HasSameValues made c × IsWithinOwn c
 KeepsMade c (Err Negative) = ⊥
@@ -130,7 +130,7 @@ KeepsMade c (Err NotRising) = ⊥
 KeepsMade c (Err NotContinuous) = ⊥
 KeepsMade c (Err NotZeroAtStart) = ⊥
 KeepsMade c (Err (Op limit)) = IsOver c limit
-KeepsMade c (Err NoMemory) = Unit {0}
+KeepsMade c (Err NoMemory) = IsWithinOwn c
 
 -- both: the limits, and within them the shape
 abbrev pub KeepsBoth : UseAs → SpecCurve → Result SpecCurve CurveFault → Type 0
@@ -141,7 +141,7 @@ KeepsBoth u c (Err NotRising) = IsWithinOwn c × ¬ (IsRising (value_at c))
 KeepsBoth u c (Err NotContinuous) = IsWithinOwn c × Jumps u (value_at c)
 KeepsBoth u c (Err NotZeroAtStart) = IsWithinOwn c × StartsAboveZero u (value_at c)
 KeepsBoth u c (Err (Op limit)) = IsOver c limit
-KeepsBoth u c (Err NoMemory) = Unit {0}
+KeepsBoth u c (Err NoMemory) = IsWithinOwn c
 
 -- ---- the lines
 -- a line fits: the slope times the start, and the line's value at 0
@@ -150,7 +150,7 @@ pub record LineFits (p : PieceText) : Type 0 where
   pub icept : IsSmall (p.after -ℚ p.slope *ℚ p.x)
 
 -- ---- the call
--- what each answer says; want of memory says that nothing before the limits is wrong and each line fits
+-- what each answer says; want of memory says that nothing before the limits is wrong, and the curve is within them
 abbrev pub KeepsListed : List PieceText → Option TailText → UseAs → Result SpecCurve CurveFault → Type 0
 KeepsListed ps tail u (Ok made) = IsWellFormed ps tail × KeepsBoth u (listed_curve ps tail) (Ok made)
 KeepsListed ps tail u (Err Negative) = ¬ (AreNonneg ps tail)
@@ -163,7 +163,7 @@ KeepsListed ps tail u (Err NotContinuous) = IsWellFormed ps tail
 KeepsListed ps tail u (Err NotZeroAtStart) = IsWellFormed ps tail
     × KeepsBoth u (listed_curve ps tail) (Err NotZeroAtStart)
 KeepsListed ps tail u (Err (Op limit)) = IsWellFormed ps tail × IsOver (listed_curve ps tail) limit
-KeepsListed ps tail u (Err NoMemory) = IsWellFormed ps tail × AllByRecursion LineFits ps
+KeepsListed ps tail u (Err NoMemory) = IsWellFormed ps tail × IsWithinOwn (listed_curve ps tail)
 
 -- this answer, or want of memory
 abbrev pub AnswersOrWants : Result SpecCurve CurveFault → CurveFault → Type 0
@@ -176,7 +176,7 @@ pub record ListsFirst (ps : List PieceText) (tail : Option TailText) (u : UseAs)
   pub order : AreNonneg ps tail → HasLength tail → ¬ (AreInOrder ps tail) → answer ≡ Err NotRising
   pub wide : IsWellFormed ps tail → ¬ (AllByRecursion LineFits ps) → answer ≡ Err (Op TooWide)
   pub over : (limit : OverLimit) → IsWellFormed ps tail → IsOver (listed_curve ps tail) limit
-      → AnswersOrWants answer (Op limit)
+      → answer ≡ Err (Op limit)
   pub falls : IsWellFormed ps tail → IsWithinOwn (listed_curve ps tail)
       → ¬ (IsRising (value_at (listed_curve ps tail))) → AnswersOrWants answer NotRising
   pub jumps : IsWellFormed ps tail → IsWithinOwn (listed_curve ps tail) → Jumps u (value_at (listed_curve ps tail))
@@ -191,14 +191,3 @@ pub record ListsFirst (ps : List PieceText) (tail : Option TailText) (u : UseAs)
 pub record TextFits (p : PieceText) : Type 0 where
   pub run : IsSmall (p.slope *ℚ p.x)
   pub icept : SumFits p.after (neg_ℚ (p.slope *ℚ p.x))
-
--- why the pieces could not be made: a step that does not fit, or want of memory
-abbrev pub IsPiecesFault : List PieceText → CurveFault → Type 0
-IsPiecesFault ps Negative = ⊥
-IsPiecesFault ps ZeroPeriod = ⊥
-IsPiecesFault ps NotRising = ⊥
-IsPiecesFault ps NotContinuous = ⊥
-IsPiecesFault ps NotZeroAtStart = ⊥
-IsPiecesFault ps (Op TooMany) = ⊥
-IsPiecesFault ps (Op TooWide) = ¬ (AllByRecursion TextFits ps)
-IsPiecesFault ps NoMemory = Unit {0}

@@ -11,6 +11,8 @@ mod listing;
 mod shares;
 mod signs;
 mod stairs;
+mod text_limits;
+mod text_pieces;
 mod texts;
 
 pub use buckets::bucket;

@@ -1,114 +1,26 @@
 //! A curve that is listed piece by piece.
 
-ghost use Rattle.std.specs.Prelude.{◌≡◌, ◌↔◌, IfOk, IfErr, IfSome, IsSome, IsTrue, false, Err};
-ghost use Rattle.std.specs.List.{AllByRecursion};
-ghost use Rattle.rational.specs.Ratio.{IsSmall};
+ghost use Rattle.std.specs.Prelude.{◌≡◌, ◌↔◌, IsTrue, Err};
 ghost use Rattle.upp_curve.specs.Curve.{SpecCurve, value_at};
 ghost use Rattle.min_plus.specs.Functions.{zero_q, IsRising};
 ghost use Rattle.upp_curve.specs.Normal.{IsRaw};
-ghost use Rattle.affine_segment.specs.Pieces.{StartsAtZero};
-ghost use Rattle.curve_library.specs.Listed.{text_line, text_pieces, text_tail, last_start, listed_curve, TextFits, LineFits, IsPiecesFault, IsWellFormed, KeepsMade, KeepsShape, KeepsBoth, KeepsListed, ListsFirst};
+ghost use Rattle.curve_library.specs.Listed.{listed_curve, IsWellFormed, KeepsMade, KeepsShape, KeepsBoth, KeepsListed, ListsFirst};
+ghost use Rattle.curve_library.specs.declared.texts.UseAs.{UseAs};
 ghost use Rattle.curve_library.specs.declared.texts.UseAs.TheVariants.{Service};
 
 use crate::fault::CurveFault;
+use crate::text_limits::over_limit;
+use crate::text_pieces::{pieces_of, tail_of};
 use crate::texts::{
     PieceText, TailText, UseAs, are_nonneg, has_length, is_nonneg_tail, starts_below, starts_rise,
 };
-use affine_segment::{Line, Piece};
+use affine_segment::Piece;
 use fraction128::{Ext, Frac};
 use rational::Extended;
 use std::alloc::Global;
 use upp_curve::{Curve, Tail, is_continuous};
 use upp_limits::{OpFault, OverLimit};
 use upp_normal::{RawCurve, normalise};
-
-// A fraction, of which it is kept that its parts fit.
-fn kept(x: Frac) -> Frac
-    ensures same { result ≡ x }
-    ensures small { IsSmall x }
-{
-    let _parts = (x.numerator(), x.denominator());
-    x
-}
-
-// The line of a piece; None where a step to it does not fit.
-fn line_of(p: &PieceText) -> Option<Line>
-    ensures value { IfSome result (λ l. l ≡ text_line p.now) }
-    ensures line { IfSome result (λ l. LineFits p.now) }
-    ensures fits { TextFits p.now → IsSome result }
-{
-    let Ok(run) = Frac::mul(p.slope, p.x) else {
-        return None;
-    };
-    match Frac::sub(p.after, run) {
-        Ok(icept) => Some(Line {
-            icept: kept(icept),
-            slope: p.slope,
-        }),
-        Err(_) => None,
-    }
-}
-
-// Whether each step to the lines fits. Nothing is kept, and no memory taken.
-fn lines_fit(texts: &[PieceText]) -> bool
-    ensures fits { IsTrue result → AllByRecursion LineFits texts.now }
-    ensures wide { result ≡ false → ¬ (AllByRecursion TextFits texts.now) }
-{
-    for p in texts {
-        if line_of(p).is_none() {
-            return false;
-        }
-    }
-    true
-}
-
-// The pieces. Where a step does not fit, the gauge is past its limit.
-fn pieces_of(alloc: Global, texts: &[PieceText]) -> Result<Vec<Piece>, CurveFault>
-    ensures made { IfOk result (λ v. v.items ≡ text_pieces texts.now) }
-    ensures refused { IfErr result (IsPiecesFault texts.now) }
-{
-    let mut pieces = Vec::new(alloc);
-    for p in texts {
-        let Some(line) = line_of(p) else {
-            return Err(CurveFault::Op(OverLimit::TooWide));
-        };
-        let piece = Piece {
-            x: p.x,
-            at: Extended::Fin(p.at),
-            line: Some(line),
-        };
-        if let Err(_) = pieces.push(piece) {
-            return Err(CurveFault::NoMemory);
-        }
-    }
-    Ok(pieces)
-}
-
-// The tail: without one the last piece goes on for ever.
-fn tail_of(texts: &[PieceText], tail: &Option<TailText>) -> Tail
-    ensures { result ≡ text_tail texts.now tail.now }
-{
-    match tail {
-        Some(t) => Tail::Periodic {
-            rank: t.rank,
-            period: t.period,
-            rise: t.rise,
-        },
-        None => Tail::Affine {
-            rank: last_start_of(texts),
-        },
-    }
-}
-
-// The last start, and 0 where there is none.
-fn last_start_of(texts: &[PieceText]) -> Frac
-    ensures { result ≡ last_start texts.now }
-{
-    match texts.last() {
-        Some(p) => p.x,
-        None => Frac::zero(),
-    }
-}
 
 // The curve of pieces in any form, where it is under the limits.
 fn limited(pieces: Vec<Piece>, tail: Tail) -> Result<Curve, CurveFault>
@@ -181,6 +93,17 @@ fn limited_and_shaped(pieces: Vec<Piece>, tail: Tail, use_as: UseAs) -> Result<C
     }
 }
 
+// Why the pieces were not made: a limit that the curve is over, and else no memory.
+fn uncopied(texts: &[PieceText], tail: &Option<TailText>) -> CurveFault
+    requires { IsWellFormed texts.now tail.now }
+    ensures { (u : UseAs) → KeepsBoth u (listed_curve texts.now tail.now) (Err result) }
+{
+    match over_limit(texts, tail) {
+        Some(limit) => CurveFault::Op(limit),
+        None => CurveFault::NoMemory,
+    }
+}
+
 // A well-formed list.
 fn well_formed(
     alloc: Global,
@@ -189,15 +112,11 @@ fn well_formed(
     use_as: UseAs,
 ) -> Result<Curve, CurveFault>
     requires { IsWellFormed texts.now tail.now }
-    ensures limits { KeepsBoth use_as (listed_curve texts.now tail.now) result }
-    ensures memory { result ≡ Err CurveFault.NoMemory → AllByRecursion LineFits texts.now }
+    ensures { KeepsBoth use_as (listed_curve texts.now tail.now) result }
 {
-    if !lines_fit(texts) {
-        return Err(CurveFault::Op(OverLimit::TooWide));
-    }
     match pieces_of(alloc, texts) {
-        Ok(pieces) => limited_and_shaped(pieces, tail_of(texts, tail), use_as),
-        Err(e) => Err(e),
+        Some(pieces) => limited_and_shaped(pieces, tail_of(texts, tail), use_as),
+        None => Err(uncopied(texts, tail)),
     }
 }
 
@@ -234,9 +153,8 @@ fn tested_list(
 /// NotRising where there is no piece, the first does not start at 0, starts do not rise or one is not below rank +
 /// period; past that with TooWide or TooMany where the curve as it is listed is over that limit by itself; past
 /// that with NotRising where it falls somewhere, and for a service curve with NotContinuous where it jumps, and
-/// NotZeroAtStart where it is not 0 at 0. A line through the value just after a start whose value at 0, or whose slope
-/// times the start, does not fit is too wide before any memory is taken. Then the pieces are copied, before the other
-/// limits are looked at: want of memory may come in place of what follows, and only where each line fits.
+/// NotZeroAtStart where it is not 0 at 0. Where there is no memory the limits are looked at all the same, so want of
+/// memory comes only where the curve is over neither.
 pub fn listed(
     alloc: Global,
     pieces: &[PieceText],
