@@ -14,3 +14,4 @@ pub mod Equations
 pub mod FirstOver
 pub mod Work
 pub mod Laws
+pub mod Stops

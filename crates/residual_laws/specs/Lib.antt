@@ -4,3 +4,4 @@ pub mod PriorityGrowth
 pub mod DrrLaws
 pub mod DrrCalls
 pub mod DrrGrowth
+pub mod ServiceStops
