@@ -5,12 +5,13 @@ ghost use Rattle.net_cells.specs.declared.cell.Kind.TheVariants.{In, Cross, Tota
 ghost use Rattle.net_cells.specs.declared.cell.Kind.TheVariants.{Theta, Residual, QueueDelay, QueueBacklog};
 ghost use Rattle.net_cells.specs.declared.cell.Kind.TheVariants.{HopDelay, ShiftOut, DeconvOut, Out};
 ghost use Rattle.net_cells.specs.declared.cell.Kind.TheVariants.{PathService, Tfa, Sfa, Bound};
-ghost use Rattle.std.specs.Prelude.{◌≡◌, ◌+◌, ◌≤◌, ◌<◌, IsTrue, OnOk, Result};
+ghost use Rattle.std.specs.Prelude.{◌≡◌, ◌+◌, ◌-◌, ◌≤◌, ◌<◌, IsTrue, OnOk, Result, Err};
 ghost use Rattle.upp_limits.specs.declared.op_kind.OpFault.{OpFault};
 ghost use Rattle.net_cells.specs.Cells.{has_cell};
 ghost use Rattle.net_cells.specs.CellFormulas.{formula};
 ghost use Rattle.net_cells.specs.Equations.{MeetsBelow};
 ghost use Rattle.net_cells.specs.Work.{work};
+ghost use Rattle.net_cells.specs.Refusals.{Stops};
 ghost use Rattle.cell_table.specs.Gives.{Gives};
 ghost use Rattle.cell_table.specs.Values.{answer_of, meaning_of};
 ghost use Rattle.cell_kinds.specs.cell_operators.specs.Evaluates.{MayBeMade, Evaluates};
@@ -60,8 +61,9 @@ fn by_kind<T: Table<Value>, L: Ledger>(
 }
 
 /// The value of a cell, by a table in which all that the cell depends on meets its equations. Refused with TooMany or
-/// TooWide exactly where the cell's first operator that is over a limit is over that one, else only for want of memory.
-/// It counts the cell's work, and no more than that where it is refused.
+/// TooWide exactly where the cell's first operator that is over a limit is over that one, else only for want of memory,
+/// and then each operator that is counted is within its limits. It counts the cell's work, and no more than that where it
+/// is refused.
 pub fn eval<T: Table<Value>, L: Ledger>(
     alloc: Global,
     cell: Cell,
@@ -75,6 +77,8 @@ pub fn eval<T: Table<Value>, L: Ledger>(
     ensures exact { OnOk result (steps.new ≡ steps.old + work net.now cell) }
     ensures rises { steps.old ≤ steps.new }
     ensures within { steps.new ≤ steps.old + work net.now cell }
+    ensures memory { result ≡ Err OpFault.NoMemory →
+        Stops (T.at table.now) (formula net.now cell) OpFault.NoMemory (steps.new - steps.old) }
 {
     net.keeps();
     by_kind(alloc, cell, net, table, steps)

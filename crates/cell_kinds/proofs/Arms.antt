@@ -5,9 +5,10 @@ use Rattle.std.specs.List.{range_with_len}
 use Rattle.std.proofs.lemmas.Bool.{ltb-true, and_parts}
 use Rattle.rational.specs.Extended.{Ext}
 use Rattle.upp_limits.specs.declared.op_kind.OpFault.{OpFault}
+use Rattle.upp_limits.specs.declared.op_kind.OpFault.TheVariants.{NoMemory}
 use Rattle.upp_curve.specs.Curve.{SpecCurve, value_at}
 use Rattle.min_plus.specs.Deviations.{IsHorizontalDeviation}
-use Rattle.run_laws.specs.Servers.{Discipline, Priority}
+use Rattle.run_laws.specs.Servers.{Discipline, Fifo, Priority, Drr}
 use Rattle.net_model.specs.Networks.{Net}
 use Rattle.net_cells.specs.declared.cell.Cell.{Cell}
 use Rattle.net_cells.specs.declared.cell.Kind.TheVariants.{In, Cross, Total, Higher, QueueService, Theta, Residual, QueueDelay, QueueBacklog, HopDelay, ShiftOut, DeconvOut, Out, PathService, Tfa, Sfa, Bound}
@@ -20,8 +21,9 @@ use Rattle.net_cells.specs.Cells.{cell_of}
 use Rattle.net_cells.specs.Meanings.{CellTable}
 use Rattle.net_cells.specs.Formulas.{leaves}
 use Rattle.net_cells.specs.CellFormulas.{queue_service, total}
-use Rattle.net_cells.specs.Answers.{Answer}
+use Rattle.net_cells.specs.Answers.{Answer, Answers}
 use Rattle.net_cells.specs.Work.{total_work}
+use Rattle.net_cells.specs.Refusals.{Stops}
 use Rattle.net_cells.proofs.LeavesOf.{parts_leaves}
 use Rattle.net_cells.proofs.Lists.{map_has, filter_has, has_range, range_has}
 use Rattle.net_cells.proofs.Places.{flow_inside}
@@ -284,6 +286,13 @@ service_above net at s q n m is =
     (operand net at (cell_of QueueService s q) (cell_of Higher s q) m.below
     (subst (λ (d : Discipline). Has (leaves (queue_service net s q d)) (cell_of Higher s q)) (sym is) (inl refl))))
 
+-- what the formula of a queue's service answers, it gives
+pub service_given : (at : CellTable) (net : Net) (s q : ℕ) (d : Discipline) (r : Answer) → Answers at (queue_service net s q d) r
+    → Gives at (queue_service net s q d) r
+service_given at net s q Fifo r a = a
+service_given at net s q (Priority n) r a = a
+service_given at net s q (Drr quanta) r a = a
+
 -- ---- sums that were made
 pub sum_counts : (at : CellTable) (cells : List Cell) (old new : ℕ) (r : Result Partial OpFault) → Adds at [] cells old new r
     → (IfOk r (λ p. new ≡ old + (length cells - 1))) × (old ≤ new) × (new ≤ old + (length cells - 1))
@@ -292,8 +301,10 @@ sum_counts at cells old new (Err e) a = let l = a.1 in let m = a.2 in (tt, l, om
 
 -- ---- the sum of a queue, by the version
 pub total_evaluates : (net : Net) (at : CellTable) (s q : ℕ) (by_links : Bool) (old new : ℕ) (r : Answer) → (net.version == 2) ≡ by_links
-    → Gives at (total by_links net s q) r → Counts (total_work by_links net s q) old new r → Evaluates net at (cell_of Total s q) old new r
-total_evaluates net at s q by_links old new r e gives counts = record {
+    → Gives at (total by_links net s q) r → Counts (total_work by_links net s q) old new r
+    → (r ≡ Err NoMemory → Stops at (total by_links net s q) NoMemory (new - old)) → Evaluates net at (cell_of Total s q) old new r
+total_evaluates net at s q by_links old new r e gives counts memory = record {
   answer = subst (λ b. Gives at (total b net s q) r) (sym e) gives;
   counts = subst (λ b. Counts (total_work b net s q) old new r) (sym e) counts;
+  memory = λ is. subst (λ b. Stops at (total b net s q) NoMemory (new - old)) (sym e) (memory is);
 }

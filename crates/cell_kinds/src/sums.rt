@@ -1,9 +1,10 @@
 //! The value of a sum, with what it took.
 
-ghost use Rattle.std.specs.Prelude.{ℕ, ◌-◌, List, [], length, Result, IfOk};
+ghost use Rattle.std.specs.Prelude.{◌≡◌, ℕ, ◌-◌, List, [], length, Result, Err, IfOk};
 ghost use Rattle.upp_limits.specs.declared.op_kind.OpFault.{OpFault};
 ghost use Rattle.net_cells.specs.declared.cell.Cell.{Cell};
 ghost use Rattle.net_cells.specs.CellFormulas.{sum_of_cells};
+ghost use Rattle.net_cells.specs.Refusals.{Stops};
 ghost use Rattle.cell_table.specs.Gives.{Gives};
 ghost use Rattle.cell_table.specs.Values.{answer_of, meaning_of};
 ghost use Rattle.cell_operators.specs.Partial.{Adds, IsReady};
@@ -25,6 +26,9 @@ pub(crate) fn summed<T: Table<Value>>(
         Gives (T.at table.now) (sum_of_cells cells) (answer_of meaning_of result) }
     ensures counts { (cells : List Cell) (old new : ℕ) → Adds (T.at table.now) [] cells old new made →
         Counts (length cells - 1) old new (answer_of meaning_of result) }
+    ensures memory { (cells : List Cell) (old new : ℕ) → Adds (T.at table.now) [] cells old new made →
+        answer_of meaning_of result ≡ Err OpFault.NoMemory →
+        Stops (T.at table.now) (sum_of_cells cells) OpFault.NoMemory (new - old) }
 {
     match made {
         Ok(whole) => finished(alloc, table, whole),

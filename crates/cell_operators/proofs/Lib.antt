@@ -9,3 +9,4 @@ pub mod Counting
 pub mod PathSteps
 pub mod SharedCounts
 pub mod LinkRates
+pub mod Stopping

@@ -9,6 +9,7 @@ use Rattle.rational.specs.Rational.{ℚ}
 use Rattle.upp_limits.specs.declared.op_kind.OpFault.{OpFault}
 use Rattle.upp_curve.specs.Curve.{SpecCurve}
 use Rattle.curve_call.specs.Calls.{goes_on, stops}
+use Rattle.residual_laws.specs.InTurn.{on_the_way, past}
 use Rattle.net_model.specs.Networks.{Net}
 use Rattle.net_cells.specs.declared.cell.Cell.{Cell}
 use Rattle.net_cells.specs.declared.cell.Kind.TheVariants.{In}
@@ -19,10 +20,13 @@ use Rattle.net_cells.specs.QueueParts.{in_part, part_numbers, by_parts, link_of,
 use Rattle.net_cells.specs.Cells.{cell_of}
 use Rattle.net_cells.specs.Order.{at_visit}
 use Rattle.net_cells.specs.Meanings.{curve, CellTable}
-use Rattle.net_cells.specs.Formulas.{Formula, cut}
+use Rattle.net_cells.specs.Formulas.{Formula, operators, cut}
 use Rattle.net_cells.specs.CellFormulas.{part_sum, with_part, parts_sum, sum_of_hops, sum_of_cells}
 use Rattle.net_cells.specs.Answers.{Answer, Answers, AnswersFrom, SumsOf}
+use Rattle.net_cells.specs.Refusals.{RefusedFrom, RefusedAt, SumsRefused}
 use Rattle.net_cells.specs.Work.{parts_work}
+use Rattle.net_cells.proofs.Placing.{refusals_placed}
+use Rattle.net_cells.proofs.Works.{terms, part_terms}
 use Rattle.net_cells.proofs.Growing.{range_more}
 use Rattle.net_cells.proofs.PartCounts.{more_items, links_append, links_more, no_hops, some_hops}
 use Rattle.cell_table.specs.Gives.{Gives}
@@ -30,9 +34,10 @@ use Rattle.queue_hops.proofs.Choosing.{map_front}
 use Rattle.cell_operators.specs.declared.sums.Partial.{Partial}
 use Rattle.cell_operators.specs.declared.sums.Partial.TheVariants.{Nothing, One, Made}
 use Rattle.cell_operators.specs.Evaluates.{Counts}
-use Rattle.cell_operators.specs.Partial.{IsPartial, IsReady, Fails, Adds}
+use Rattle.cell_operators.specs.Partial.{IsPartial, IsReady, FailsAt, Adds}
 use Rattle.cell_operators.specs.Parts.{curve_in, curve_of, IsHeld, IsPartOf, MakesPart, part_work, kept, AreMade, AreRefused}
 use Rattle.cell_operators.specs.TableValues.{IsCurveAt}
+use Rattle.cell_operators.proofs.SumSteps.{failed_answer}
 
 -- ---- one part
 -- the cells with which some hops come are as many as these
@@ -62,12 +67,16 @@ entering at net s q (Made f) i r =
     record { some = some_there (in_part net s q 0) 1 (omega (arith, many)); held = tt; answers = i.answers }
 
 -- those that come over a link: cut by it
+pub cut_formula : (P : Formula → Type 0) (net : Net) (k p bits : ℕ) (r : ℚ) (vs : List Visit) → k ≡ suc p
+    → bits ≡ longest_of net vs → r ≡ rate net p → P (cut (sum_of_hops vs) p bits r) → P (part_sum net k vs)
+cut_formula P net k p bits r vs e longest speed h =
+    subst (λ j. P (part_sum net j vs)) (sym e)
+    (subst (λ x. P (cut (sum_of_hops vs) p (longest_of net vs) x)) speed
+    (subst (λ n. P (cut (sum_of_hops vs) p n r)) longest h))
+
 pub cut_is : (at : CellTable) (net : Net) (k p bits : ℕ) (r : ℚ) (vs : List Visit) (a : Answer) → k ≡ suc p
     → bits ≡ longest_of net vs → r ≡ rate net p → Answers at (cut (sum_of_hops vs) p bits r) a → Answers at (part_sum net k vs) a
-cut_is at net k p bits r vs a e longest speed h =
-    subst (λ j. Answers at (part_sum net j vs) a) (sym e)
-    (subst (λ x. Answers at (cut (sum_of_hops vs) p (longest_of net vs) x) a) speed
-    (subst (λ n. Answers at (cut (sum_of_hops vs) p n r) a) longest h))
+cut_is at net k p bits r vs a e longest speed h = cut_formula (λ F. Answers at F a) net k p bits r vs e longest speed h
 
 -- a part whose sum is refused is so
 part_fails : (at : CellTable) (net : Net) (k : ℕ) (vs : List Visit) (fault : OpFault) → Answers at (sum_of_hops vs) (Err fault)
@@ -75,17 +84,35 @@ part_fails : (at : CellTable) (net : Net) (k : ℕ) (vs : List Visit) (fault : O
 part_fails at net zero vs fault a = a
 part_fails at net (suc p) vs fault a = stops fault a refl
 
-some_fail : (at : CellTable) (cells : List Cell) (fault : OpFault) → Fails at cells fault → 1 ≤ length cells
-some_fail at [] fault f = absurd (f (cell_of In 0 0 ∷ []))
-some_fail at (c ∷ cs) fault f = omega arith
+pub part_refused : (at : CellTable) (net : Net) (k : ℕ) (vs : List Visit) (fault : OpFault) (n : ℕ) → RefusedAt at (sum_of_hops vs) fault n
+    → RefusedAt at (part_sum net k vs) fault n
+part_refused at net zero vs fault n r = r
+part_refused at net (suc p) vs fault n r = on_the_way r
 
-pub refused_part : (at : CellTable) (net : Net) (s q k : ℕ) (fault : OpFault) → Fails at (map (at_visit In) (in_part net s q k)) fault
+some_fail : (at : CellTable) (cells : List Cell) (old new : ℕ) (fault : OpFault) → FailsAt at [] cells old new fault → 1 ≤ length cells
+some_fail at [] old new fault f = absurd (f.fails (cell_of In 0 0 ∷ []))
+some_fail at (c ∷ cs) old new fault f = omega arith
+
+pub refused_part : (at : CellTable) (net : Net) (s q k old new : ℕ) (fault : OpFault)
+    → FailsAt at [] (map (at_visit In) (in_part net s q k)) old new fault
     → MakesPart at net s q k (Err fault)
-refused_part at net s q k fault f =
+refused_part at net s q k old new fault f =
     let cells = map (at_visit In) (in_part net s q k) in (
-      some_there (in_part net s q k) 1 (some_fail at cells fault f),
-      part_fails at net k (in_part net s q k) fault (subst (λ (cs : List Cell). Answers at (sum_of_cells cs) (Err fault)) (append-nil cells) (f [])),
+      some_there (in_part net s q k) 1 (some_fail at cells old new fault f),
+      part_fails at net k (in_part net s q k) fault (failed_answer at cells old new fault f),
     )
+
+-- how many operators its hops' sum has, where that was made
+pub summed_operators : (net : Net) (s q k old mid : ℕ) (at : CellTable) (p : Partial)
+    → Adds at [] (map (at_visit In) (in_part net s q k)) old mid (Ok p) → mid ≡ old + operators (sum_of_hops (in_part net s q k))
+summed_operators net s q k old mid at p a =
+    let count = a.1 in
+    let e = terms (map (at_visit In) (in_part net s q k)) in
+    omega (arith, count, e)
+
+part_operators : (net : Net) (k : ℕ) (vs : List Visit) → 1 ≤ length vs → operators (part_sum net k vs) ≡ length vs - 1 + link_part k vs
+part_operators net k [] some = absurd (omega (arith, some))
+part_operators net k (v ∷ vs) some = let e = part_terms net k v vs in omega (arith, e)
 
 -- ---- its operators
 pub counts_then : (n m old mid new : ℕ) (r : Answer) → mid ≡ old + n → Counts m mid new r → Counts (n + m) old new r
@@ -150,10 +177,21 @@ module _ (at : CellTable) (net : Net) (s q : ℕ) where
   step_some k [] F fs f r some a b = absurd (omega (arith, some))
   step_some k (v ∷ vs) F fs f r some a b = goes_on (curve f) a b
 
-  step_fails : (k : ℕ) (vs : List Visit) (F : Formula) (fs : List SpecCurve) (fault : OpFault) → 1 ≤ length vs
-      → Answers at (part_sum net k vs) (Err fault) → AnswersFrom at (with_part net k vs F) fs (Err fault)
-  step_fails k [] F fs fault some a = absurd (omega (arith, some))
-  step_fails k (v ∷ vs) F fs fault some a = stops fault a refl
+  none_refused : (k : ℕ) (ks : List ℕ) (fs : List SpecCurve) (fault : OpFault) (n : ℕ) → in_part net s q k ≡ []
+      → RefusedFrom at (parts_sum net s q ks) fs fault n → RefusedFrom at (parts_sum net s q (k ∷ ks)) fs fault n
+  none_refused k ks fs fault n e r =
+      subst (λ (vs : List Visit). RefusedFrom at (with_part net k vs (parts_sum net s q ks)) fs fault n) (sym e) r
+
+  some_refused : (k : ℕ) (vs : List Visit) (F : Formula) (fs : List SpecCurve) (f : SpecCurve) (fault : OpFault) (n : ℕ) → 1 ≤ length vs
+      → Answers at (part_sum net k vs) (Ok (curve f)) → RefusedFrom at F (fs ++ f ∷ []) fault n
+      → RefusedFrom at (with_part net k vs F) fs fault (operators (part_sum net k vs) + n)
+  some_refused k [] F fs f fault n some a r = absurd (omega (arith, some))
+  some_refused k (v ∷ vs) F fs f fault n some a r = past (curve f) n a refl r
+
+  step_fails : (k : ℕ) (vs : List Visit) (F : Formula) (fs : List SpecCurve) (fault : OpFault) (n : ℕ) → 1 ≤ length vs
+      → RefusedAt at (part_sum net k vs) fault n → RefusedFrom at (with_part net k vs F) fs fault n
+  step_fails k [] F fs fault n some r = absurd (omega (arith, some))
+  step_fails k (v ∷ vs) F fs fault n some r = on_the_way r
 
   -- the numbers up to one, that, and others
   row : (n : ℕ) (ks : List ℕ) → range_with_len 0 (n + 1) ++ ks ≡ range_with_len 0 n ++ n ∷ ks
@@ -174,6 +212,8 @@ module _ (at : CellTable) (net : Net) (s q : ℕ) where
   none_made old = record {
     held = λ k d h. absurd (omega (arith, h));
     answers = λ ks r a. a;
+    refusals = λ ks fault m r. let same : m ≡ old - old + m = omega arith in
+        subst (λ n. RefusedFrom at (parts_sum net s q ks) [] fault n) same r;
     few = omega arith;
     least = omega arith;
     none = λ e. refl;
@@ -195,6 +235,10 @@ module _ (at : CellTable) (net : Net) (s q : ℕ) where
         held = m.held;
         answers = λ ks r a. subst (λ xs. Answers at (parts_sum net s q xs) r) (sym (row n ks))
             (m.answers (n ∷ ks) r (step_none n ks (map (curve_of at) ps) r e a));
+        refusals = λ ks fault j r. let same : mid - old + j ≡ new - old + j = omega (arith, c, empty, link, zero_link) in
+            subst (λ xs. RefusedAt at (parts_sum net s q xs) fault (new - old + j)) (sym (row n ks))
+            (subst (λ i. RefusedAt at (parts_sum net s q (range_with_len 0 n ++ n ∷ ks)) fault i) same
+            (m.refusals (n ∷ ks) fault j (none_refused n ks (map (curve_of at) ps) fault j e r)));
         few = omega (arith, few);
         least = omega (arith, least, l);
         none = λ h. let was = m.none h in omega (arith, was, l, empty);
@@ -217,6 +261,14 @@ module _ (at : CellTable) (net : Net) (s q : ℕ) where
             (m.answers (n ∷ ks) r
             (step_some n (in_part net s q n) (parts_sum net s q ks) (map (curve_of at) ps) (curve_of at p) r is.some is.answers
             (subst (λ (fs : List SpecCurve). AnswersFrom at (parts_sum net s q ks) fs r) (map-append (curve_of at) ps (p ∷ [])) a)));
+        refusals = λ ks fault j r. let own = part_operators net n (in_part net s q n) is.some in
+            let same : mid - old + (operators (part_sum net n (in_part net s q n)) + j) ≡ new - old + j =
+            omega (arith, own, c, count, least) in
+            subst (λ xs. RefusedAt at (parts_sum net s q xs) fault (new - old + j)) (sym (row n ks))
+            (subst (λ i. RefusedAt at (parts_sum net s q (range_with_len 0 n ++ n ∷ ks)) fault i) same
+            (m.refusals (n ∷ ks) fault (operators (part_sum net n (in_part net s q n)) + j)
+            (some_refused n (in_part net s q n) (parts_sum net s q ks) (map (curve_of at) ps) (curve_of at p) fault j is.some is.answers
+            (subst (λ (fs : List SpecCurve). RefusedFrom at (parts_sum net s q ks) fs fault j) (map-append (curve_of at) ps (p ∷ [])) r))));
         few = omega (arith, few, more);
         least = omega (arith, least, some, l, more);
         none = λ h. absurd (omega (arith, h, more));
@@ -232,9 +284,10 @@ module _ (at : CellTable) (net : Net) (s q : ℕ) where
 
   -- one is refused
   pub refused_made : (n : ℕ) (ps : List Partial) (fault : OpFault) (old mid new : ℕ) → AreMade at net s q n ps old mid
-      → MakesPart at net s q n (Err fault) → Counts (part_work net s q n) mid new (Err fault) → n < suc (length net.servers)
+      → MakesPart at net s q n (Err fault) → RefusedAt at (part_sum net n (in_part net s q n)) fault (new - mid)
+      → Counts (part_work net s q n) mid new (Err fault) → n < suc (length net.servers)
       → AreRefused at net s q fault old new
-  refused_made n ps fault old mid new m is c h =
+  refused_made n ps fault old mid new m is r c h =
       let all = suc (length net.servers) in
       let front = map_front (λ (x : ℕ). x) (n + 1) all (omega (arith, h)) in
       let whole : range_with_len 0 all ≡ range_with_len 0 (n + 1) ++ front.rest =
@@ -250,9 +303,11 @@ module _ (at : CellTable) (net : Net) (s q : ℕ) where
       ∙ length-append (by_parts net s q (range_with_len 0 (n + 1))) (by_parts net s q front.rest) in
       let links = ap (links_among net s q) whole ∙ links_append net s q (range_with_len 0 (n + 1)) front.rest in
       record {
-        answers = subst (λ xs. Answers at (parts_sum net s q xs) (Err fault)) (sym (whole ∙ row n front.rest))
-            (m.answers (n ∷ front.rest) (Err fault)
-            (step_fails n (in_part net s q n) (parts_sum net s q front.rest) (map (curve_of at) ps) fault is.0 is.1));
+        refused = let same : mid - old + (new - mid) ≡ new - old = omega (arith, count, least, lo) in
+            subst (λ xs. RefusedAt at (parts_sum net s q xs) fault (new - old)) (sym (whole ∙ row n front.rest))
+            (subst (λ i. RefusedAt at (parts_sum net s q (range_with_len 0 n ++ n ∷ front.rest)) fault i) same
+            (m.refusals (n ∷ front.rest) fault (new - mid)
+            (step_fails n (in_part net s q n) (parts_sum net s q front.rest) (map (curve_of at) ps) fault (new - mid) is.0 r)));
         least = omega (arith, count, least, some, lo);
         most = omega (arith, count, least, some, hi, l, k, hops, links);
       }
@@ -269,7 +324,20 @@ module _ (at : CellTable) (net : Net) (s q : ℕ) where
 
   pub refused_gives : (fault : OpFault) (old new : ℕ) → AreRefused at net s q fault old new
       → Gives at (parts_sum net s q (part_numbers net)) (Err fault)
-  refused_gives fault old new a = parts_give (part_numbers net) (Err fault) a.answers
+  refused_gives fault old new a =
+      parts_give (part_numbers net) (Err fault)
+      ((refusals_placed at (parts_sum net s q (part_numbers net))).refused fault (new - old) a.refused)
+
+  -- all are made, and their sum is refused
+  pub made_refused : (ps : List Partial) (old mid new : ℕ) (fault : OpFault) → AreMade at net s q (suc (length net.servers)) ps old mid
+      → mid ≤ new → SumsRefused (map (curve_of at) ps) fault (new - mid) → RefusedAt at (parts_sum net s q (part_numbers net)) fault (new - old)
+  made_refused ps old mid new fault m up r =
+      let count = m.count in
+      let least = m.least in
+      let same : mid - old + (new - mid) ≡ new - old = omega (arith, count, least, up) in
+      subst (λ i. RefusedAt at (parts_sum net s q (part_numbers net)) fault i) same
+      (subst (λ xs. RefusedAt at (parts_sum net s q xs) fault (mid - old + (new - mid))) (append-nil (part_numbers net))
+      (m.refusals [] fault (new - mid) r))
 
   pub made_gives : (ps : List Partial) (old mid : ℕ) (r : Answer) → AreMade at net s q (suc (length net.servers)) ps old mid
       → SumsOf (map (curve_of at) ps) r → Gives at (parts_sum net s q (part_numbers net)) r

@@ -14,6 +14,8 @@ use Rattle.net_cells.specs.Numbered.{zero_curve}
 use Rattle.net_cells.specs.Meanings.{Meaning, curve, number, CellTable}
 use Rattle.net_cells.specs.Formulas.{value_of}
 use Rattle.net_cells.specs.Answers.{Answer, MakesCurve, SumsOnto, SumsOf}
+use Rattle.net_cells.specs.Refusals.{SumsOntoRefused, SumsRefused}
+use Rattle.residual_laws.specs.InTurn.{on_the_way, past}
 use Rattle.cell_table.specs.Gives.{Gives}
 use Rattle.cell_table.specs.Values.{answer_of}
 use Rattle.cell_operators.specs.Evaluates.{Counts}
@@ -99,6 +101,51 @@ pub next_refused : (at : CellTable) (ps : List Partial) (k : ℕ) (p : Partial) 
     → p ≡ get_or ps k p → Applies Sum f (curve_of at p) (Err fault) → SumsOnto f (map (curve_of at) (drop k ps)) (Err fault)
 next_refused at ps k p f fault l is a =
     subst (λ (gs : List SpecCurve). SumsOnto f gs (Err fault)) (sym (parts_from at ps k p l is)) (stops fault a refl)
+
+-- ---- refusals of these sums
+pub no_parts_refused : (at : CellTable) (ps : List Partial) (fault : OpFault) (n : ℕ) → length ps ≡ 0 → n ≡ 0 → fault ≡ NoMemory
+    → SumsRefused (map (curve_of at) ps) fault n
+no_parts_refused at [] fault n e none is = (none, is)
+no_parts_refused at (p ∷ ps) fault n e none is = absurd (omega (arith, e))
+
+pub one_part_refused : (at : CellTable) (ps : List Partial) (fault : OpFault) (n : ℕ) → length ps ≡ 1 → n ≡ 0 → fault ≡ NoMemory
+    → SumsRefused (map (curve_of at) ps) fault n
+one_part_refused at [] fault n e none is = absurd (omega (arith, e))
+one_part_refused at (x ∷ []) fault n e none is = (none, is)
+one_part_refused at (x ∷ y ∷ ps) fault n e none is = absurd (omega (arith, e))
+
+pub first_sum_refused : (at : CellTable) (ps : List Partial) (x y : Partial) (h : SpecCurve) (fault : OpFault) (n : ℕ) → 2 ≤ length ps
+    → x ≡ get_or ps 0 x → y ≡ get_or ps 1 y → Applies Sum (curve_of at x) (curve_of at y) (Ok h)
+    → SumsOntoRefused h (map (curve_of at) (drop 2 ps)) fault n → SumsRefused (map (curve_of at) ps) fault (1 + n)
+first_sum_refused at [] x y h fault n many a b is rest = absurd (omega (arith, many))
+first_sum_refused at (p ∷ []) x y h fault n many a b is rest = absurd (omega (arith, many))
+first_sum_refused at (p ∷ o ∷ ps) x y h fault n many a b is rest =
+    past (curve h) n
+    (subst (λ z. Applies Sum (curve_of at z) (curve_of at o) (Ok h)) a (subst (λ z. Applies Sum (curve_of at x) (curve_of at z) (Ok h)) b is))
+    refl rest
+
+pub first_stops : (at : CellTable) (ps : List Partial) (x y : Partial) (fault : OpFault) → 2 ≤ length ps
+    → x ≡ get_or ps 0 x → y ≡ get_or ps 1 y → Applies Sum (curve_of at x) (curve_of at y) (Err fault)
+    → SumsRefused (map (curve_of at) ps) fault 1
+first_stops at [] x y fault many a b is = absurd (omega (arith, many))
+first_stops at (p ∷ []) x y fault many a b is = absurd (omega (arith, many))
+first_stops at (p ∷ o ∷ ps) x y fault many a b is =
+    on_the_way (
+      refl,
+      subst (λ z. Applies Sum (curve_of at z) (curve_of at o) (Err fault)) a
+          (subst (λ z. Applies Sum (curve_of at x) (curve_of at z) (Err fault)) b is),
+    )
+
+pub next_sum_refused : (at : CellTable) (ps : List Partial) (k : ℕ) (p : Partial) (f h : SpecCurve) (fault : OpFault) (n : ℕ) → k < length ps
+    → p ≡ get_or ps k p → Applies Sum f (curve_of at p) (Ok h)
+    → SumsOntoRefused h (map (curve_of at) (drop (k + 1) ps)) fault n → SumsOntoRefused f (map (curve_of at) (drop k ps)) fault (1 + n)
+next_sum_refused at ps k p f h fault n l is a rest =
+    subst (λ (gs : List SpecCurve). SumsOntoRefused f gs fault (1 + n)) (sym (parts_from at ps k p l is)) (past (curve h) n a refl rest)
+
+pub next_stops : (at : CellTable) (ps : List Partial) (k : ℕ) (p : Partial) (f : SpecCurve) (fault : OpFault) → k < length ps
+    → p ≡ get_or ps k p → Applies Sum f (curve_of at p) (Err fault) → SumsOntoRefused f (map (curve_of at) (drop k ps)) fault 1
+next_stops at ps k p f fault l is a =
+    subst (λ (gs : List SpecCurve). SumsOntoRefused f gs fault 1) (sym (parts_from at ps k p l is)) (on_the_way (refl, a))
 
 -- no more
 pub last_sum : (at : CellTable) (ps : List Partial) (k : ℕ) (f : SpecCurve) → length ps ≤ k → k ≤ length ps

@@ -1,5 +1,6 @@
 -- What evaluating a cell asks for, what it gives, and how many operators it counts. Own choice.
-use Rattle.std.specs.Prelude.{◌≡◌, ℕ, ◌+◌, ◌≤◌, IsTrue, OnOk}
+use Rattle.std.specs.Prelude.{◌≡◌, ℕ, ◌+◌, ◌-◌, ◌≤◌, IsTrue, OnOk, Err}
+use Rattle.upp_limits.specs.declared.op_kind.OpFault.TheVariants.{NoMemory}
 use Rattle.net_model.specs.Networks.{Net}
 use Rattle.net_model.specs.Accepted.{IsAccepted}
 use Rattle.net_cells.specs.declared.cell.Cell.{Cell}
@@ -9,6 +10,7 @@ use Rattle.net_cells.specs.CellFormulas.{formula}
 use Rattle.net_cells.specs.Answers.{Answer}
 use Rattle.net_cells.specs.Equations.{MeetsBelow}
 use Rattle.net_cells.specs.Work.{work}
+use Rattle.net_cells.specs.Refusals.{Stops}
 use Rattle.cell_table.specs.Gives.{Gives}
 
 -- n operators are counted where there is an answer, and at most so many where it is refused
@@ -25,3 +27,5 @@ pub record MayBeMade (net : Net) (at : CellTable) (c : Cell) : Type 0 where
 pub record Evaluates (net : Net) (at : CellTable) (c : Cell) (old new : ℕ) (r : Answer) : Type 0 where
   pub answer : Gives at (formula net c) r
   pub counts : Counts (work net c) old new r
+  -- no limit is told as want of memory
+  pub memory : r ≡ Err NoMemory → Stops at (formula net c) NoMemory (new - old)

@@ -7,6 +7,7 @@ use Rattle.net_cells.specs.declared.cell.Cell.{Cell}
 use Rattle.net_cells.specs.Meanings.{curve, CellTable}
 use Rattle.net_cells.specs.CellFormulas.{sum_of_cells}
 use Rattle.net_cells.specs.Answers.{Answers}
+use Rattle.net_cells.specs.Refusals.{RefusedAt}
 use Rattle.cell_operators.specs.declared.sums.Partial.{Partial}
 use Rattle.cell_operators.specs.declared.sums.Partial.TheVariants.{Nothing, One, Made}
 use Rattle.cell_operators.specs.TableValues.{IsCurveAt}
@@ -15,7 +16,7 @@ use Rattle.cell_operators.specs.TableValues.{IsCurveAt}
 pub record IsSumOf (at : CellTable) (cells : List Cell) (f : SpecCurve) : Type 0 where
   pub some : 2 ≤ length cells
   pub answers : Answers at (sum_of_cells cells) (Ok (curve f))
-  pub lacks : Answers at (sum_of_cells cells) (Err NoMemory)
+  pub lacks : RefusedAt at (sum_of_cells cells) NoMemory (length cells - 1)
 
 -- the sum of these cells: nothing of none, the cell itself of one
 abbrev pub IsPartial : CellTable → List Cell → Partial → Type 0
@@ -29,16 +30,22 @@ IsReady at Nothing = Unit {0}
 IsReady at (One c) = IsCurveAt at c
 IsReady at (Made f) = Unit {0}
 
--- whatever cells come after these, the sum is refused
-abbrev pub Fails : CellTable → List Cell → OpFault → Type 0
-Fails at cells fault = (rest : List Cell) → Answers at (sum_of_cells (cells ++ rest)) (Err fault)
+-- whatever cells come after these, the sum is refused, with n of its operators counted
+abbrev pub Fails : CellTable → List Cell → OpFault → ℕ → Type 0
+Fails at cells fault n = (rest : List Cell) → RefusedAt at (sum_of_cells (cells ++ rest)) fault n
+
+-- more cells are added to the sum of some, and the sum of all is refused
+pub record FailsAt (at : CellTable) (cells more : List Cell) (old new : ℕ) (fault : OpFault) : Type 0 where
+  pub counted : ℕ
+  pub fails : Fails at (cells ++ more) fault counted
+  pub count : new + (length cells - 1) ≡ old + counted
 
 -- more cells added to the sum of some: each takes one operator but for the first of all; a refusal may come sooner
 abbrev pub Adds : CellTable → (cells more : List Cell) → (old new : ℕ) → Result Partial OpFault → Type 0
 Adds at cells more old new (Ok p) =
     IsPartial at (cells ++ more) p × (new + (length cells - 1) ≡ old + (length (cells ++ more) - 1))
 Adds at cells more old new (Err fault) =
-    Fails at (cells ++ more) fault × (old ≤ new) × (new + (length cells - 1) ≤ old + (length (cells ++ more) - 1))
+    FailsAt at cells more old new fault × (old ≤ new) × (new + (length cells - 1) ≤ old + (length (cells ++ more) - 1))
 
 -- f is the sum of these cells, which are not none
 pub record IsSummed (at : CellTable) (cells : List Cell) (f : SpecCurve) : Type 0 where

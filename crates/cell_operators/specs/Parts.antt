@@ -10,6 +10,7 @@ use Rattle.net_cells.specs.Meanings.{Meaning, curve, number, CellTable}
 use Rattle.net_cells.specs.CellFormulas.{part_sum, parts_sum}
 use Rattle.net_cells.specs.Answers.{Answer, Answers, AnswersFrom}
 use Rattle.net_cells.specs.Work.{parts_work}
+use Rattle.net_cells.specs.Refusals.{RefusedFrom, RefusedAt}
 use Rattle.cell_operators.specs.declared.sums.Partial.{Partial}
 use Rattle.cell_operators.specs.declared.sums.Partial.TheVariants.{Nothing, One, Made}
 use Rattle.cell_operators.specs.TableValues.{IsCurveAt}
@@ -67,6 +68,9 @@ pub record AreMade (at : CellTable) (net : Net) (s q n : ℕ) (parts : List Part
   pub held : All (IsHeld at) parts
   pub answers : (ks : List ℕ) (r : Answer) → AnswersFrom at (parts_sum net s q ks) (map (curve_of at) parts) r
       → Answers at (parts_sum net s q (range_with_len 0 n ++ ks)) r
+  pub refusals : (ks : List ℕ) (fault : OpFault) (m : ℕ)
+      → RefusedFrom at (parts_sum net s q ks) (map (curve_of at) parts) fault m
+      → RefusedAt at (parts_sum net s q (range_with_len 0 n ++ ks)) fault (new - old + m)
   pub few : length parts ≤ n
   pub least : length parts ≤ length (by_parts net s q (range_with_len 0 n))
   pub none : length parts ≡ 0 → length (by_parts net s q (range_with_len 0 n)) ≡ 0
@@ -74,6 +78,6 @@ pub record AreMade (at : CellTable) (net : Net) (s q n : ℕ) (parts : List Part
 
 -- one of the parts is refused, and so is the sum
 pub record AreRefused (at : CellTable) (net : Net) (s q : ℕ) (fault : OpFault) (old new : ℕ) : Type 0 where
-  pub answers : Answers at (parts_sum net s q (part_numbers net)) (Err fault)
+  pub refused : RefusedAt at (parts_sum net s q (part_numbers net)) fault (new - old)
   pub least : old ≤ new
   pub most : new ≤ old + parts_work net s q

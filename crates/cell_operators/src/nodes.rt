@@ -1,6 +1,6 @@
 //! What operators make of the values of cells.
 
-ghost use Rattle.std.specs.Prelude.{◌≡◌, ◌+◌, ◌≤◌, IfOk};
+ghost use Rattle.std.specs.Prelude.{◌≡◌, ◌+◌, ◌-◌, ◌≤◌, IfOk, IfErr};
 ghost use Rattle.upp_limits.specs.declared.op_kind.OpKind.TheVariants.{Min, PosMinus, Deconvolve};
 ghost use Rattle.upp_curve.specs.Curve.{value_at};
 ghost use Rattle.min_plus.specs.Functions.{IsNonneg, IsFinite};
@@ -10,6 +10,7 @@ ghost use Rattle.net_cells.specs.Meanings.{number};
 ghost use Rattle.net_cells.specs.Formulas.{value_of, made, moved, leftover, horizontal, vertical};
 ghost use Rattle.net_cells.specs.CellFormulas.{less};
 ghost use Rattle.net_cells.specs.Answers.{Answers};
+ghost use Rattle.net_cells.specs.Refusals.{RefusedAt};
 ghost use Rattle.cell_table.specs.Values.{answer_of, meaning_of};
 ghost use Rattle.cell_operators.specs.Shapes.{Rises, Serving};
 ghost use Rattle.cell_operators.specs.TableValues.{HasCurve, HasNumber, IsCurveAt, Deviate};
@@ -143,6 +144,8 @@ pub fn spread<T: Table<Value>, L: Ledger>(
     requires serves { HasCurve (T.at table.now) service Serving }
     ensures answer { Answers (T.at table.now) (made Deconvolve (value_of from) (less (value_of service) bits))
         (answer_of meaning_of result) }
+    ensures refused { IfErr result (λ fault. RefusedAt (T.at table.now)
+        (made Deconvolve (value_of from) (less (value_of service) bits)) fault (steps.new - steps.old)) }
     ensures all { IfOk result (λ _. steps.new ≡ steps.old + 2) }
     ensures least { steps.old ≤ steps.new }
     ensures most { steps.new ≤ steps.old + 2 }
@@ -170,6 +173,8 @@ pub fn backlog<T: Table<Value>, L: Ledger>(
     requires serves { HasCurve (T.at table.now) service Serving }
     ensures answer { Answers (T.at table.now) (vertical (value_of from) (less (value_of service) bits))
         (answer_of number result) }
+    ensures refused { IfErr result (λ fault. RefusedAt (T.at table.now)
+        (vertical (value_of from) (less (value_of service) bits)) fault (steps.new - steps.old)) }
     ensures all { IfOk result (λ _. steps.new ≡ steps.old + 2) }
     ensures least { steps.old ≤ steps.new }
     ensures most { steps.new ≤ steps.old + 2 }

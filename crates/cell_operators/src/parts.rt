@@ -15,9 +15,10 @@ ghost use Rattle.net_cells.specs.Cells.{cell_of};
 ghost use Rattle.net_cells.specs.QueueParts.{in_part, part_numbers};
 ghost use Rattle.net_cells.specs.Order.{at_visit};
 ghost use Rattle.net_cells.specs.Meanings.{CellTable, curve};
-ghost use Rattle.net_cells.specs.Formulas.{Formula, cut};
-ghost use Rattle.net_cells.specs.CellFormulas.{parts_sum, sum_of_hops};
+ghost use Rattle.net_cells.specs.Formulas.{Formula, cut, operators};
+ghost use Rattle.net_cells.specs.CellFormulas.{parts_sum, part_sum, sum_of_hops};
 ghost use Rattle.net_cells.specs.Answers.{Answers, MakesCurve, SumsOf};
+ghost use Rattle.net_cells.specs.Refusals.{RefusedAt, SumsRefused};
 ghost use Rattle.net_cells.specs.Work.{parts_work};
 ghost use Rattle.cell_table.specs.Gives.{Gives};
 ghost use Rattle.cell_table.specs.Values.{answer_of, meaning_of};
@@ -96,6 +97,9 @@ fn cut<L: Ledger>(
     requires { zero_q ≤ℚ rate }
     ensures answer { (at : CellTable) (F : Formula) (server : ℕ) → Answers at F (Ok (curve flows.now)) →
         Answers at (cut F server bits rate) (answer_of curve result) }
+    ensures refused { IfErr result (λ fault. (at : CellTable) (F : Formula) (server : ℕ) →
+        Answers at F (Ok (curve flows.now)) →
+        RefusedAt at (cut F server bits rate) fault (operators F + (steps.new - steps.old))) }
     ensures counts { Counts 1 steps.old steps.new (answer_of curve result) }
 {
     match link_bucket(alloc, bits, rate) {
@@ -118,6 +122,10 @@ fn cut_sum<L: Ledger>(
     ensures part { (at : CellTable) → 1 ≤ length (in_part net.now place.0 place.1 part) →
         Answers at (sum_of_hops (in_part net.now place.0 place.1 part)) (Ok (curve flows.now)) →
         MakesPart at net.now place.0 place.1 part result }
+    ensures refused { IfErr result (λ fault. (at : CellTable) →
+        Answers at (sum_of_hops (in_part net.now place.0 place.1 part)) (Ok (curve flows.now)) →
+        RefusedAt at (part_sum net.now part (in_part net.now place.0 place.1 part)) fault
+        (operators (sum_of_hops (in_part net.now place.0 place.1 part)) + (steps.new - steps.old))) }
     ensures counts { (at : CellTable) → Counts 1 steps.old steps.new (part_answer at result) }
 {
     net.keeps();
@@ -144,6 +152,10 @@ fn cut_part<T: Table<Value>, L: Ledger>(
     requires ready { IsReady (T.at table.now) flows }
     ensures part { (old : ℕ) → Adds (T.at table.now) [] (map (at_visit In) (in_part net.now place.0 place.1 part))
         old steps.old (Ok flows) → MakesPart (T.at table.now) net.now place.0 place.1 part result }
+    ensures refused { IfErr result (λ fault. (old : ℕ) → Adds (T.at table.now) []
+        (map (at_visit In) (in_part net.now place.0 place.1 part)) old steps.old (Ok flows) →
+        RefusedAt (T.at table.now) (part_sum net.now part (in_part net.now place.0 place.1 part)) fault
+        (steps.new - old)) }
     ensures counts { (old : ℕ) → Adds (T.at table.now) [] (map (at_visit In) (in_part net.now place.0 place.1 part))
         old steps.old (Ok flows) → Counts (part_work net.now place.0 place.1 part) old steps.new
         (part_answer (T.at table.now) result) }
@@ -168,6 +180,8 @@ fn part_made<T: Table<Value>, L: Ledger>(
     requires curves { (i k : ℕ) → chosen net.now place.0 (InPart place.1 part) None i ≡ visit_list i (Some k) →
         IsCurveAt (T.at table.now) (cell_of In i k) }
     ensures part { MakesPart (T.at table.now) net.now place.0 place.1 part result }
+    ensures refused { IfErr result (λ fault. RefusedAt (T.at table.now)
+        (part_sum net.now part (in_part net.now place.0 place.1 part)) fault (steps.new - steps.old)) }
     ensures counts { Counts (part_work net.now place.0 place.1 part) steps.old steps.new
         (part_answer (T.at table.now) result) }
 {
@@ -249,6 +263,8 @@ fn many_added<T: Table<Value>, L: Ledger>(
     requires many { 2 ≤ length parts.now }
     requires held { All (IsHeld (T.at table.now)) parts.now }
     ensures sum { SumsOf (map (curve_of (T.at table.now)) parts.now) (answer_of curve result) }
+    ensures refused { IfErr result (λ fault.
+        SumsRefused (map (curve_of (T.at table.now)) parts.now) fault (steps.new - steps.old)) }
     ensures counts { Counts (length parts.now - 1) steps.old steps.new (answer_of curve result) }
 {
     let first = curve_of(table, &parts[0]);
@@ -286,6 +302,8 @@ fn added_up<T: Table<Value>, L: Ledger>(
 ) -> Result<Value, OpFault>
     requires { All (IsHeld (T.at table.now)) parts.now }
     ensures sum { SumsOf (map (curve_of (T.at table.now)) parts.now) (answer_of meaning_of result) }
+    ensures refused { IfErr result (λ fault.
+        SumsRefused (map (curve_of (T.at table.now)) parts.now) fault (steps.new - steps.old)) }
     ensures counts { Counts (length parts.now - 1) steps.old steps.new (answer_of meaning_of result) }
 {
     if parts.is_empty() {
@@ -313,6 +331,8 @@ pub fn parts_sum<T: Table<Value>, L: Ledger>(
         IsCurveAt (T.at table.now) (cell_of In i k) }
     ensures answer { Gives (T.at table.now) (parts_sum net.now place.0 place.1 (part_numbers net.now))
         (answer_of meaning_of result) }
+    ensures refused { IfErr result (λ fault. RefusedAt (T.at table.now)
+        (parts_sum net.now place.0 place.1 (part_numbers net.now)) fault (steps.new - steps.old)) }
     ensures counts { Counts (parts_work net.now place.0 place.1) steps.old steps.new (answer_of meaning_of result) }
 {
     match parts_made(alloc, table, net, place, steps) {

@@ -1,14 +1,15 @@
 //! The service along a path: those of its hops, all but the last in whole packets.
 
-ghost use Rattle.std.specs.Prelude.{◌≡◌, ◌+◌, ◌-◌, ◌*◌, ◌<◌, ◌≤◌, ℕ, Ok};
+ghost use Rattle.std.specs.Prelude.{◌≡◌, ◌+◌, ◌-◌, ◌*◌, ◌<◌, ◌≤◌, ℕ, Ok, IfErr};
 ghost use Rattle.upp_limits.specs.declared.op_kind.OpKind.TheVariants.{Convolve};
 ghost use Rattle.net_cells.specs.declared.cell.Kind.TheVariants.{Residual};
 ghost use Rattle.net_cells.specs.Numbered as at;
 ghost use Rattle.net_cells.specs.Cells.{cell_of};
 ghost use Rattle.net_cells.specs.Meanings.{curve};
-ghost use Rattle.net_cells.specs.Formulas.{Formula, value_of, made};
+ghost use Rattle.net_cells.specs.Formulas.{Formula, value_of, made, operators};
 ghost use Rattle.net_cells.specs.CellFormulas.{less, packets_to, served_to};
 ghost use Rattle.net_cells.specs.Answers.{Answers};
+ghost use Rattle.net_cells.specs.Refusals.{RefusedAt, Stops};
 ghost use Rattle.cell_table.specs.Gives.{Gives};
 ghost use Rattle.cell_table.specs.Values.{answer_of, meaning_of};
 ghost use Rattle.cell_operators.specs.Evaluates.{Counts};
@@ -52,6 +53,9 @@ fn with_hop<T: Table<Value>, L: Ledger>(
     requires { HasCurve (T.at table.now) cell Serving }
     ensures answer { (F : Formula) → Answers (T.at table.now) F (Ok (curve so_far.now)) →
         Answers (T.at table.now) (made Convolve F (less (value_of cell) bits)) (answer_of curve result) }
+    ensures refused { IfErr result (λ fault. (F : Formula) → Answers (T.at table.now) F (Ok (curve so_far.now)) →
+        RefusedAt (T.at table.now) (made Convolve F (less (value_of cell) bits)) fault
+        (operators F + (steps.new - steps.old))) }
     ensures counts { Counts 2 steps.old steps.new (answer_of curve result) }
 {
     match in_packets(alloc, curve_at(table, cell), bits, steps) {
@@ -71,6 +75,8 @@ fn to_hop<T: Table<Value>, L: Ledger>(
 ) -> Result<Curve, OpFault>
     requires { (j : ℕ) → j ≤ last → HasCurve (T.at table.now) (cell_of Residual flow j) Serving }
     ensures answer { Answers (T.at table.now) (packets_to net.now flow last) (answer_of curve result) }
+    ensures refused { IfErr result (λ fault. RefusedAt (T.at table.now) (packets_to net.now flow last) fault
+        (steps.new - steps.old)) }
     ensures counts { Counts (2 * last + 1) steps.old steps.new (answer_of curve result) }
 {
     let bits = packet(net, flow);
@@ -102,6 +108,8 @@ fn past_hop<T: Table<Value>, L: Ledger>(
     requires serves { (j : ℕ) → j ≤ last + 1 → HasCurve (T.at table.now) (cell_of Residual flow j) Serving }
     ensures answer { Answers (T.at table.now) (made Convolve (packets_to net.now flow last)
         (value_of (cell_of Residual flow (last + 1)))) (answer_of meaning_of result) }
+    ensures refused { IfErr result (λ fault. RefusedAt (T.at table.now) (made Convolve (packets_to net.now flow last)
+        (value_of (cell_of Residual flow (last + 1)))) fault (steps.new - steps.old)) }
     ensures counts { Counts (2 * last + 2) steps.old steps.new (answer_of meaning_of result) }
 {
     match to_hop(alloc, table, net, flow, last, steps) {
@@ -126,6 +134,8 @@ pub fn path_service<T: Table<Value>, L: Ledger>(
     requires serves { (j : ℕ) → j < at.hops net.now flow → HasCurve (T.at table.now) (cell_of Residual flow j) Serving }
     ensures answer { Gives (T.at table.now) (served_to net.now flow (at.hops net.now flow - 1))
         (answer_of meaning_of result) }
+    ensures refused { IfErr result (λ fault. Stops (T.at table.now) (served_to net.now flow (at.hops net.now flow - 1))
+        fault (steps.new - steps.old)) }
     ensures counts { Counts (2 * (at.hops net.now flow - 1)) steps.old steps.new (answer_of meaning_of result) }
 {
     let count = hops(net, flow);

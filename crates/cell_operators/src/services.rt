@@ -1,6 +1,6 @@
 //! The curve that serves a queue, by its server's discipline.
 
-ghost use Rattle.std.specs.Prelude.{◌≡◌, ◌<◌, ◌≤◌, ℕ, length, map};
+ghost use Rattle.std.specs.Prelude.{◌≡◌, ◌-◌, ◌<◌, ◌≤◌, ℕ, length, map, IfErr};
 ghost use Rattle.std.specs.List.{range_with_len};
 ghost use Rattle.upp_curve.specs.Curve.{value_at};
 ghost use Rattle.min_plus.specs.Functions.{IsFinite};
@@ -15,6 +15,8 @@ ghost use Rattle.net_cells.specs.Formulas.{value_of, priority, deficit};
 ghost use Rattle.net_cells.specs.CellFormulas as formulas;
 ghost use Rattle.net_cells.specs.Work.{service_work};
 ghost use Rattle.net_cells.specs.Answers.{Answers};
+ghost use Rattle.net_cells.specs.Refusals.{RefusedAt};
+ghost use Rattle.residual_laws.specs.InTurn.{DrrRefused};
 ghost use Rattle.cell_table.specs.Values.{answer_of, meaning_of};
 ghost use Rattle.cell_operators.specs.Evaluates.{Counts};
 ghost use Rattle.cell_operators.specs.TableValues.{IsCurveAt};
@@ -47,6 +49,9 @@ fn by_priority<T: Table<Value>, L: Ledger>(
     requires above { IsCurveAt (T.at table.now) (cell_of Higher place.0 place.1) }
     ensures answer { Answers (T.at table.now) (priority service.now (value_of (cell_of Higher place.0 place.1))
         (visiting.longest_after net.now place.0 place.1)) (answer_of meaning_of result) }
+    ensures refused { IfErr result (λ fault. RefusedAt (T.at table.now)
+        (priority service.now (value_of (cell_of Higher place.0 place.1))
+        (visiting.longest_after net.now place.0 place.1)) fault (steps.new - steps.old)) }
     ensures counts { Counts 3 steps.old steps.new (answer_of meaning_of result) }
 {
     let above = Cell {
@@ -86,6 +91,9 @@ fn by_deficit<L: Ledger>(
     ensures answer { (at : CellTable) → Answers at (deficit service.now quanta.now
         (map (visiting.longest net.now place.0) (range_with_len 0 (length quanta.now))) place.1)
         (answer_of meaning_of result) }
+    ensures refused { IfErr result (λ fault. DrrRefused service.now quanta.now
+        (map (visiting.longest net.now place.0) (range_with_len 0 (length quanta.now))) place.1
+        fault (steps.new - steps.old)) }
     ensures counts { Counts 2 steps.old steps.new (answer_of meaning_of result) }
 {
     let sizes = longest_each(net, place.0, quanta.len() as u32);
@@ -106,6 +114,8 @@ pub fn queue_service<T: Table<Value>, L: Ledger>(
         IsCurveAt (T.at table.now) (cell_of Higher place.0 place.1) }
     ensures answer { Answers (T.at table.now)
         (formulas.queue_service net.now place.0 place.1 (at.discipline net.now place.0)) (answer_of meaning_of result) }
+    ensures refused { IfErr result (λ fault. RefusedAt (T.at table.now)
+        (formulas.queue_service net.now place.0 place.1 (at.discipline net.now place.0)) fault (steps.new - steps.old)) }
     ensures counts { Counts (service_work (at.discipline net.now place.0)) steps.old steps.new
         (answer_of meaning_of result) }
 {

@@ -58,7 +58,7 @@ module _ (old net : Net) where
 
   -- ---- one cell more
   module _ (order : List ℕ) (front : List Cell) (c : Cell) (back : List Cell) (acc : IsAccepted net) (o : IsOrder net order)
-      (split : evaluation_order net order ≡ front ++ c ∷ back) (flags : List Bool) (fl : AreFlags old net front flags) where
+      (split : evaluation_order net order ≡ front ++ c ∷ back) where
     here : has_cell net c ≡ true
     here = in_front net order front c back split
 
@@ -75,79 +75,80 @@ module _ (old net : Net) where
         by true is = inr (λ e. n (record { before = is; after = here; same = e }))
         by false is = inl is
 
-    told_touched : IsTold old net flags c true → Touched old net c
-    told_touched (inl n) = changed c here (differs n)
-    told_touched (inr h) =
-        let found = any_has (flag_of flags) (leaves (formula net c)) h in
-        let leaf = has_contains (leaves (formula net c)) found.0 found.1 in
-        made_of c found.0 here leaf (fl.touched found.0 (part_slots found.0 leaf) found.2)
+    module _ (flags : List Bool) (fl : AreFlags old net front flags) where
+      told_touched : IsTold old net flags c true → Touched old net c
+      told_touched (inl n) = changed c here (differs n)
+      told_touched (inr h) =
+          let found = any_has (flag_of flags) (leaves (formula net c)) h in
+          let leaf = has_contains (leaves (formula net c)) found.0 found.1 in
+          made_of c found.0 here leaf (fl.touched found.0 (part_slots found.0 leaf) found.2)
 
-    told_untouched : IsTold old net flags c false → Untouched old net c
-    told_untouched told =
-        untouched c told.0 (λ d m.
-        let leaf = contains_has (leaves (formula net c)) d m in
-        fl.untouched d (has_contains front d (leaf_in_front net order front c back d acc o split leaf))
-        (any_none (flag_of flags) (leaves (formula net c)) told.1 d leaf))
+      told_untouched : IsTold old net flags c false → Untouched old net c
+      told_untouched told =
+          untouched c told.0 (λ d m.
+          let leaf = contains_has (leaves (formula net c)) d m in
+          fl.untouched d (has_contains front d (leaf_in_front net order front c back d acc o split leaf))
+          (any_none (flag_of flags) (leaves (formula net c)) told.1 d leaf))
 
-    still_flags : Untouched old net c → AreFlags old net (front ++ c ∷ []) flags
-    still_flags u = record {
-      room = fl.room;
-      touched = fl.touched;
-      untouched = λ d m e. elim (has_either front (c ∷ []) d (contains_has (front ++ c ∷ []) d m)) [
-        | inl l ↦ fl.untouched d (has_contains front d l) e
-        | inr r ↦ only d r
-      ];
-    }
-      where
-        only : (d : Cell) → Has (c ∷ []) d → Untouched old net d
-        only d (inl e) = subst (λ (x : Cell). Untouched old net x) e u
-        only d (inr e) = absurd e
+      still_flags : Untouched old net c → AreFlags old net (front ++ c ∷ []) flags
+      still_flags u = record {
+        room = fl.room;
+        touched = fl.touched;
+        untouched = λ d m e. elim (has_either front (c ∷ []) d (contains_has (front ++ c ∷ []) d m)) [
+          | inl l ↦ fl.untouched d (has_contains front d l) e
+          | inr r ↦ only d r
+        ];
+      }
+        where
+          only : (d : Cell) → Has (c ∷ []) d → Untouched old net d
+          only d (inl e) = subst (λ (x : Cell). Untouched old net x) e u
+          only d (inr e) = absurd e
 
-    set_here : (d : Cell) → slot d ≡ slot c → flag_of (slice_set flags (slot c) true) d ≡ true
-    set_here d e =
-        ap (λ n. get_or (slice_set flags (slot c) true) n false) e
-        ∙ get_or-set_same flags (slot c) true false (omega (arith, slots_are_own.below c own_slot, fl.room))
+      set_here : (d : Cell) → slot d ≡ slot c → flag_of (slice_set flags (slot c) true) d ≡ true
+      set_here d e =
+          ap (λ n. get_or (slice_set flags (slot c) true) n false) e
+          ∙ get_or-set_same flags (slot c) true false (omega (arith, slots_are_own.below c own_slot, fl.room))
 
-    more_flags : Touched old net c → AreFlags old net (front ++ c ∷ []) (slice_set flags (slot c) true)
-    more_flags t = record {
-      room = length-set flags (slot c) true ∙ fl.room;
-      touched = λ d p e. ⊎_elim
-          (λ (k : (slot d == slot c ≡ true) × (slot d ≡ slot c)).
-          subst (λ (x : Cell). Touched old net x) (sym (own d c p own_slot k.1)) t)
-          (λ (k : (slot d == slot c ≡ false) × (slot d ≢ slot c)).
-          fl.touched d p (sym (get_or-set_other flags (slot c) (slot d) true false k.1) ∙ e))
-          (eqb_tells (slot d) (slot c));
-      untouched = λ d m e. ⊎_elim
-          (λ (k : (slot d == slot c ≡ true) × (slot d ≡ slot c)).
-          let set = set_here d k.1 in absurd (let bad : ⊥ = cc in bad))
-          (λ (k : (slot d == slot c ≡ false) × (slot d ≢ slot c)).
-          elim (has_either front (c ∷ []) d (contains_has (front ++ c ∷ []) d m)) [
-            | inl l ↦ fl.untouched d (has_contains front d l) (sym (get_or-set_other flags (slot c) (slot d) true false k.1) ∙ e)
-            | inr r ↦ not_here d k.1 r
-          ])
-          (eqb_tells (slot d) (slot c));
-    }
-      where
-        not_here : (d : Cell) → slot d ≢ slot c → Has (c ∷ []) d → Untouched old net d
-        not_here d differs (inl e) = absurd (differs (ap slot (sym e)))
-        not_here d differs (inr e) = absurd e
+      more_flags : Touched old net c → AreFlags old net (front ++ c ∷ []) (slice_set flags (slot c) true)
+      more_flags t = record {
+        room = length-set flags (slot c) true ∙ fl.room;
+        touched = λ d p e. ⊎_elim
+            (λ (k : (slot d == slot c ≡ true) × (slot d ≡ slot c)).
+            subst (λ (x : Cell). Touched old net x) (sym (own d c p own_slot k.1)) t)
+            (λ (k : (slot d == slot c ≡ false) × (slot d ≢ slot c)).
+            fl.touched d p (sym (get_or-set_other flags (slot c) (slot d) true false k.1) ∙ e))
+            (eqb_tells (slot d) (slot c));
+        untouched = λ d m e. ⊎_elim
+            (λ (k : (slot d == slot c ≡ true) × (slot d ≡ slot c)).
+            let set = set_here d k.1 in absurd (let bad : ⊥ = cc in bad))
+            (λ (k : (slot d == slot c ≡ false) × (slot d ≢ slot c)).
+            elim (has_either front (c ∷ []) d (contains_has (front ++ c ∷ []) d m)) [
+              | inl l ↦ fl.untouched d (has_contains front d l) (sym (get_or-set_other flags (slot c) (slot d) true false k.1) ∙ e)
+              | inr r ↦ not_here d k.1 r
+            ])
+            (eqb_tells (slot d) (slot c));
+      }
+        where
+          not_here : (d : Cell) → slot d ≢ slot c → Has (c ∷ []) d → Untouched old net d
+          not_here d differs (inl e) = absurd (differs (ap slot (sym e)))
+          not_here d differs (inr e) = absurd e
 
-    pub noted_flags : (t : Bool) (more : List Bool) (touched longer : List Cell) → IsTold old net flags c t
-        → IsNoted c t flags more touched longer → AreFlags old net (front ++ c ∷ []) more
-    noted_flags true more touched longer told n =
-        subst (λ (fs : List Bool). AreFlags old net (front ++ c ∷ []) fs) (sym n.0) (more_flags (told_touched told))
-    noted_flags false more touched longer told n =
-        subst (λ (fs : List Bool). AreFlags old net (front ++ c ∷ []) fs) (sym n.0) (still_flags (told_untouched told))
+      pub noted_flags : (t : Bool) (more : List Bool) (touched longer : List Cell) → IsTold old net flags c t
+          → IsNoted c t flags more touched longer → AreFlags old net (front ++ c ∷ []) more
+      noted_flags true more touched longer told n =
+          subst (λ (fs : List Bool). AreFlags old net (front ++ c ∷ []) fs) (sym n.0) (more_flags (told_touched told))
+      noted_flags false more touched longer told n =
+          subst (λ (fs : List Bool). AreFlags old net (front ++ c ∷ []) fs) (sym n.0) (still_flags (told_untouched told))
 
-    pub noted_list : (t : Bool) (more : List Bool) (touched longer : List Cell) → IsTold old net flags c t
-        → IsNoted c t flags more touched longer → TouchedOf old net front touched
-        → TouchedOf old net (front ++ c ∷ []) longer
-    noted_list true more touched longer told n p =
-        subst (λ (cs : List Cell). TouchedOf old net (front ++ c ∷ []) cs) (sym n.1)
-        (taken_last front touched c p (told_touched told))
-    noted_list false more touched longer told n p =
-        subst (λ (cs : List Cell). TouchedOf old net (front ++ c ∷ []) cs) (sym n.1)
-        (passed_last front touched c p (told_untouched told))
+      pub noted_list : (t : Bool) (more : List Bool) (touched longer : List Cell) → IsTold old net flags c t
+          → IsNoted c t flags more touched longer → TouchedOf old net front touched
+          → TouchedOf old net (front ++ c ∷ []) longer
+      noted_list true more touched longer told n p =
+          subst (λ (cs : List Cell). TouchedOf old net (front ++ c ∷ []) cs) (sym n.1)
+          (taken_last front touched c p (told_touched told))
+      noted_list false more touched longer told n p =
+          subst (λ (cs : List Cell). TouchedOf old net (front ++ c ∷ []) cs) (sym n.1)
+          (passed_last front touched c p (told_untouched told))
 
 -- ---- at the start
 pub first_flags : (old net : Net) (flags : List Bool) → length flags ≡ 36352

@@ -6,3 +6,6 @@ pub mod Found
 pub mod SameFlows
 pub mod Unchanged
 pub mod OfNumber
+pub mod Homes
+pub mod Marking
+pub mod Searched

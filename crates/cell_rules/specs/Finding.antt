@@ -2,21 +2,13 @@
 use Rattle.std.specs.Prelude.{◌≡◌, ◌≢◌, ◌⊎◌, ℕ, List, [], ◌∷◌, ◌++◌, length, map, Bool, true, false, not, IsTrue, Contains, slice_index_or, slice_set}
 use Rattle.std.specs.List.{filter, list_any, range_with_len}
 use Rattle.net_model.specs.Networks.{Net}
-use Rattle.net_model.specs.Orders.{IsOrder}
 use Rattle.net_cells.specs.declared.cell.Cell.{Cell}
 use Rattle.net_cells.specs.declared.cell.Kind.{Kind}
 use Rattle.net_cells.specs.Cells.{cell_of, has_cell}
 use Rattle.net_cells.specs.Formulas.{leaves}
 use Rattle.net_cells.specs.CellFormulas.{formula}
-use Rattle.net_cells.specs.Order.{evaluation_order}
 use Rattle.cell_changes.specs.Changes.{HasSameRule, Touched, Untouched}
 use Rattle.cell_changes.specs.Slots.{slot, HasSlot}
-
--- the cells of a network in the order in which they are taken
-pub record AreInOrder (net : Net) (cells : List Cell) : Type 0 where
-  pub order : List ℕ
-  pub servers : IsOrder net order
-  pub are : cells ≡ evaluation_order net order
 
 -- the cells of a network by a number: of the flow and of the server that have it
 pub record AreCellsOf (net : Net) (number : ℕ) (cells : List Cell) : Type 0 where

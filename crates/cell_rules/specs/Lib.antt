@@ -1,3 +1,4 @@
 pub mod Rules
 pub mod Sites
 pub mod Finding
+pub mod Marks

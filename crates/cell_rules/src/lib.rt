@@ -4,6 +4,7 @@
 
 mod finding;
 mod lists;
+mod marks;
 mod of_number;
 mod reads;
 mod rule;

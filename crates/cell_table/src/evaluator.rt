@@ -1,10 +1,11 @@
 //! What makes values.
 
-ghost use Rattle.std.specs.Prelude.{◌≡◌, ◌+◌, ◌≤◌, ℕ, IsTrue, OnOk};
+ghost use Rattle.std.specs.Prelude.{◌≡◌, ◌+◌, ◌-◌, ◌≤◌, ℕ, IsTrue, OnOk, Err};
 ghost use Rattle.net_cells.specs.Cells.{has_cell};
 ghost use Rattle.net_cells.specs.CellFormulas.{formula};
 ghost use Rattle.net_cells.specs.Equations.{MeetsBelow};
 ghost use Rattle.net_cells.specs.Work.{work};
+ghost use Rattle.net_cells.specs.Refusals.{Stops};
 ghost use Rattle.cell_table.specs.Gives.{Gives};
 ghost use Rattle.cell_table.specs.Values.{answer_of};
 
@@ -22,8 +23,8 @@ pub trait Evaluator<V: CellValue> {
     ghost counter: { Self → ℕ };
 
     /// The value of a cell by a table in which all that the cell depends on meets its equations; refused for the first
-    /// operator that is over a limit, or where there is no memory. It counts the cell's work, and no more than that
-    /// where it is refused.
+    /// operator that is over a limit, or where there is no memory, and then each operator that is counted is within its
+    /// limits. It counts the cell's work, and no more than that where it is refused.
     fn eval<T: Table<V>>(&mut self, cell: Cell, net: &Network, table: &T) -> Result<V, OpFault>
         requires cell { IsTrue (has_cell net.now cell) }
         requires below { MeetsBelow net.now (T.at table.now) cell }
@@ -31,5 +32,7 @@ pub trait Evaluator<V: CellValue> {
         ensures exact { OnOk result (count self.new ≡ count self.old + work net.now cell) }
         ensures rises { count self.old ≤ count self.new }
         ensures within { count self.new ≤ count self.old + work net.now cell }
+        ensures memory { result ≡ Err OpFault.NoMemory →
+            Stops (T.at table.now) (formula net.now cell) OpFault.NoMemory (count self.new - count self.old) }
         ensures same { counter self.new ≡ counter self.old };
 }

@@ -4,14 +4,12 @@ use Rattle.upp_normal.specs.rational.specs.Rational.{ℚ}
 use Rattle.upp_normal.specs.upp_limits.specs.declared.op_kind.OpKind.{OpKind}
 use Rattle.upp_normal.specs.upp_limits.specs.declared.op_kind.OpFault.{OpFault}
 use Rattle.upp_normal.specs.upp_limits.specs.declared.op_kind.OpFault.TheVariants.{TooMany, TooWide, NoMemory}
-use Rattle.upp_normal.specs.upp_limits.specs.declared.call_sizes.CallNumbers.{CallNumbers}
 use Rattle.upp_normal.specs.upp_curve.specs.Curve.{SpecCurve}
 use Rattle.upp_normal.specs.upp_curve.specs.Curves.{IsCurve}
 use Rattle.upp_normal.specs.upp_limits.specs.Windows.{window_at}
 use Rattle.upp_normal.specs.upp_limits.specs.Limits.{Sizes, sizes_of}
 use Rattle.upp_normal.specs.upp_limits.specs.Gauges.{numbers_over, gauge_over, gauge_at, tally_at}
 use Rattle.upp_normal.specs.upp_limits.specs.Sized.{grid_of}
-use Rattle.upp_normal.specs.upp_limits.specs.CallNumbers.{AreCallNumbers}
 use Rattle.curve_call.specs.declared.frame.Frame.{Frame}
 use Rattle.curve_call.specs.CallWindows.{SecondIsCurve, start_of, period_in}
 
@@ -38,10 +36,6 @@ IsRefusedAt op f g k m TooWide = 2 ^ 120 ≤ gauge_at op f g k m
 IsRefusedAt op f g k m NoMemory = ⊥
 
 -- ---- over a window's end
-pub record IsNarrowOver (op : OpKind) (f g : SpecCurve) (end : ℚ) (n : CallNumbers) : Type 0 where
-  pub gauge : gauge_over op f g end < 2 ^ 120
-  pub numbers : AreCallNumbers (sizes_of end (numbers_over op f g end)) n
-
 abbrev pub IsWideOver : OpKind → SpecCurve → SpecCurve → ℚ → OpFault → Type 0
 IsWideOver op f g end TooMany = ⊥
 IsWideOver op f g end TooWide = 2 ^ 120 ≤ gauge_over op f g end

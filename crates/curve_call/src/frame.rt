@@ -2,12 +2,13 @@
 
 ghost use Rattle.std.specs.Prelude.{ℕ, IfOk, IfErr};
 ghost use Rattle.curve_call.specs.CallWindows.{IsForward};
-ghost use Rattle.curve_call.specs.Frames.{IsFrame, IsRefusedAt, IsNarrowOver, IsWideOver};
+ghost use Rattle.curve_call.specs.Frames.{IsFrame, IsRefusedAt, IsWideOver};
+ghost use Rattle.upp_normal.specs.upp_limits.specs.Covered.{AreNarrowGrids};
 
 use crate::windows::call_window;
 use upp_normal::fraction128::Frac;
 use upp_normal::upp_curve::Curve;
-use upp_normal::upp_limits::{CallNumbers, OpFault, OpKind, call_numbers, tally_over};
+use upp_normal::upp_limits::{CallGrids, OpFault, OpKind, is_few, narrow_grids};
 
 /// A call within both limits: its window, and the grids of its times and of its values.
 #[derive(Debug, Clone, Copy)]
@@ -24,18 +25,15 @@ pub struct Frame {
     pub values: u128,
 }
 
-/// The numbers over a window's end, where the gauge is below 2^120.
-fn narrow_numbers(op: &OpKind, f: &Curve, g: &Curve, end: Frac) -> Result<CallNumbers, OpFault>
-    ensures found { IfOk result (IsNarrowOver op.now f.now g.now end) }
+/// The grids over a window's end, where the gauge is below 2^120.
+fn narrow_numbers(op: &OpKind, f: &Curve, g: &Curve, end: Frac) -> Result<CallGrids, OpFault>
+    ensures found { IfOk result (AreNarrowGrids op.now f.now g.now end) }
     ensures refused { IfErr result (IsWideOver op.now f.now g.now end) }
 {
-    let Some(numbers) = call_numbers(op, f, g, end) else {
-        return Err(OpFault::TooWide);
-    };
-    if numbers.gauge >= 1 << 120 {
-        return Err(OpFault::TooWide);
+    match narrow_grids(op, f, g, end) {
+        Some(grids) => Ok(grids),
+        None => Err(OpFault::TooWide),
     }
-    Ok(numbers)
 }
 
 /// A call with k periods, and for the horizontal deviation with a second number m of them, within both limits.
@@ -49,16 +47,16 @@ pub fn within_both(op: &OpKind, f: &Curve, g: &Curve, k: u128, m: u128) -> Resul
     let Some(window) = call_window(op, f, g, k, m) else {
         return Err(OpFault::TooWide);
     };
-    let numbers = narrow_numbers(op, f, g, window.end)?;
-    if tally_over(op, f, g, window.end) > 1 << 20 {
+    let grids = narrow_numbers(op, f, g, window.end)?;
+    if !is_few(op, f, g, window.end) {
         return Err(OpFault::TooMany);
     }
     Ok(Frame {
         start: window.start,
         period: window.period,
         end: window.end,
-        times: numbers.times,
-        values: numbers.values,
+        times: grids.times,
+        values: grids.values,
     })
 }
 

@@ -234,3 +234,27 @@ high_within f g w from b r K W e B h =
     let gauge = h.gauge in
     let tally = h.tally in
     within_at_least Convolve f g k 0 (least_periods f g w from k K W e B.is) (omega (arith, rises, gauge)) (omega (arith, more, tally))
+
+-- ---- the frame with no period, as the first window
+abbrev first_of : Frame → CallWindow
+first_of r = record { start = r.start; period = r.period; end = r.end }
+
+first_frame : (f g : SpecCurve) (r : Frame) → IsFrame Convolve f g 0 0 r → IsFirstWindow Convolve f g (first_of r)
+first_frame f g r h = record { window = record { start = h.start; period = h.period; end = h.end }; gauge = h.gauge }
+
+pub frame_fits : (f g : SpecCurve) (r : Frame) → IsFrame Convolve f g 0 0 r → SumFits r.end (neg_ℚ r.period)
+frame_fits f g r h = first_fits f g (first_of r) (h.first, h.second) (first_frame f g r h)
+
+pub frame_parts : (f g : SpecCurve) (r : Frame) (from : ℚ) → IsFrame Convolve f g 0 0 r → from ≡ r.end -ℚ r.period → IsPartsCall f g from r.period r.end
+frame_parts f g r from h e = parts_call f g (first_of r) from (h.first, h.second) (first_frame f g r h) e
+
+-- where the upper bound is none, it is the frame of the call
+pub frame_at_once : (f g : SpecCurve) (r : Frame) (from : ℚ) (b : Bounds) → IsFrame Convolve f g 0 0 r → from ≡ r.end -ℚ r.period → IsSlowerBounds f g from r.period b → b.high ≡ 0
+    → IsConvolveFrame f g r × IsWithin Convolve f g
+frame_at_once f g r from b h e B none =
+    let K : IsCurve f × IsCurve g = (h.first, h.second) in
+    let W = first_frame f g r h in
+    let H : IsFrame Convolve f g b.high 0 r = subst (λ k. IsFrame Convolve f g k 0 r) (sym none) h in (
+      high_frame f g (first_of r) from b r K W e B H,
+      high_within f g (first_of r) from b r K W e B H,
+    )

@@ -6,7 +6,7 @@ ghost use Rattle.upp_curve.specs.Steady.{steady, rise_over};
 ghost use Rattle.curve_conv.specs.Late.{IsLateAfter, IsLateCall, IsPartsCall};
 ghost use Rattle.curve_conv.specs.LateBounds.{IsLateBounds, IsSlowerBounds};
 
-use crate::extremes::{depth_over, extremes_of, most_gap, rest, sum, top_over};
+use crate::extremes::{checked_sum, depth_over, extremes_of, most_gap, rest, top_over};
 use crate::number::lead;
 use crate::order::is_slower_curve;
 use crate::rows::Scan;
@@ -15,7 +15,7 @@ use curve_least::{Bounds, Side, is_slower, zero_level};
 use fraction128::{Frac, is_less};
 use upp_curve::Curve;
 
-/// The least number n with the gap at most n + 1 times the lead, where it is found by one division.
+/// A number n of periods with the gap at most n + 1 times the lead; none where the gap over the lead does not fit.
 pub fn periods_over(gap: Frac, lead: Frac) -> Option<u128>
     requires { int (pos 0) <ℚ lead }
     ensures { IfSome result (λ n. gap ≤ℚ int (pos (n + 1)) *ℚ lead) }
@@ -42,10 +42,10 @@ fn soon_number(s: &Scan, first: Frac, lead: Frac, from: Frac, period: Frac) -> O
     if is_less(period, first) {
         return None;
     }
-    let end = sum(first, period)?;
+    let end = checked_sum(first, period)?;
     let top = top_over(s.first, period, end)?;
     let depth = depth_over(s.first, Frac::zero(), end)?;
-    let gap = sum(top, depth)?;
+    let gap = checked_sum(top, depth)?;
     let gained = rest(gap, rise_over(s.first, period))?;
     periods_over(gained, lead)
 }

@@ -68,7 +68,7 @@ pub fn value_there(c: &Curve, t: Frac) -> Option<Frac>
 }
 
 /// a + b, where it fits.
-pub fn sum(a: Frac, b: Frac) -> Option<Frac>
+pub fn checked_sum(a: Frac, b: Frac) -> Option<Frac>
     ensures { IfSome result (λ s. s ≡ a +ℚ b) }
 {
     Frac::add(a, b).ok()
@@ -97,8 +97,8 @@ pub(crate) fn extremes_of(
 {
     let slow_own = period_or(s.first, period);
     let fast_own = period_or(s.second, period);
-    let slow_end = sum(first, slow_own)?;
-    let fast_end = sum(second, fast_own)?;
+    let slow_end = checked_sum(first, slow_own)?;
+    let fast_end = checked_sum(second, fast_own)?;
     let zero = Frac::zero();
     let slow_top = top_over(s.first, first, slow_end)?;
     let slow_depth = depth_over(s.first, zero, slow_end)?;
@@ -118,8 +118,8 @@ pub(crate) fn extremes_of(
 pub(crate) fn most_gap(e: &Extremes) -> Option<Frac>
     ensures { IfSome result (λ q. q ≡ most_gap e.now) }
 {
-    let slow = sum(e.slow_top, e.slow_depth)?;
-    let deep = sum(slow, e.fast_depth)?;
-    let both = sum(deep, e.fast_start)?;
-    sum(both, e.fast_rise)
+    let slow = checked_sum(e.slow_top, e.slow_depth)?;
+    let deep = checked_sum(slow, e.fast_depth)?;
+    let both = checked_sum(deep, e.fast_start)?;
+    checked_sum(both, e.fast_rise)
 }

@@ -17,6 +17,6 @@ mod pieces;
 mod rows;
 
 pub use bounds::{late_bounds, periods_over};
-pub use extremes::{sum, value_there};
+pub use extremes::{checked_sum, value_there};
 pub use operator::{convolve, convolve_frame};
 pub use order::{is_slower_curve, late_periods};

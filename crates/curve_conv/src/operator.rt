@@ -113,10 +113,25 @@ fn frame_between(
     }
 }
 
-/// The frame of the call, with a number of periods that is enough for the slower curve's part to have the least sums.
-/// Refused with TooWide or TooMany exactly where the call is over that limit. The least number is looked for only where
-/// bounds of it tell too little.
-pub fn convolve_frame(alloc: Global, f: &Curve, g: &Curve) -> Result<Frame, OpFault>
+// The frame with no period, where the call is within both limits with it and bounds tell that none is enough; mostly it is.
+fn frame_at_once(f: &Curve, g: &Curve) -> Option<Frame>
+    ensures { IfSome result (λ r. IsConvolveFrame f.now g.now r × IsWithin Convolve f.now g.now) }
+{
+    let Ok(frame) = within(&OpKind::Convolve, f, g, 0) else {
+        return None;
+    };
+    let late = difference(frame.end, frame.period);
+    let Some(bounds) = late_bounds(f, g, late, frame.period, frame.end) else {
+        return None;
+    };
+    if bounds.high > 0 {
+        return None;
+    }
+    Some(frame)
+}
+
+// The frame where no period may not be enough: with the upper bound, or with the least number.
+fn searched_frame(alloc: Global, f: &Curve, g: &Curve) -> Result<Frame, OpFault>
     ensures frame { IfOk result (IsConvolveFrame f.now g.now) }
     ensures limits { KeepsLimits Convolve f.now g.now result }
 {
@@ -125,6 +140,19 @@ pub fn convolve_frame(alloc: Global, f: &Curve, g: &Curve) -> Result<Frame, OpFa
     match frame_between(f, g, &first, from)? {
         Some(frame) => Ok(frame),
         None => least_frame(alloc, f, g, &first, from),
+    }
+}
+
+/// The frame of the call, with a number of periods that is enough for the slower curve's part to have the least sums.
+/// Refused with TooWide or TooMany exactly where the call is over that limit. The least number is looked for only where
+/// bounds of it tell too little.
+pub fn convolve_frame(alloc: Global, f: &Curve, g: &Curve) -> Result<Frame, OpFault>
+    ensures frame { IfOk result (IsConvolveFrame f.now g.now) }
+    ensures limits { KeepsLimits Convolve f.now g.now result }
+{
+    match frame_at_once(f, g) {
+        Some(frame) => Ok(frame),
+        None => searched_frame(alloc, f, g),
     }
 }
 

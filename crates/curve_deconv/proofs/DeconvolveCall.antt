@@ -10,7 +10,7 @@ use Rattle.rational.specs.declared.Extended.TheVariants.{Fin}
 use Rattle.rational.proofs.Grid.{whole_sub, whole_add, whole_neg, within_weaken}
 use Rattle.rational.proofs.Linear.{with2, with3, with4, with5}
 use Rattle.rational.proofs.MinMax.{max_q_ge_left, max_q_ge_right}
-use Rattle.rational.proofs.Laws.{le_refl, le_trans, le_of_lt, lt_trans, one_mul}
+use Rattle.rational.proofs.Laws.{le_refl, le_trans, le_of_lt, le_lt_trans, one_mul}
 use Rattle.rational.proofs.ExtendedOrder.{same_le_ext}
 use Rattle.affine_segment.specs.declared.line.Piece.{Piece}
 use Rattle.affine_segment.specs.Values.{line_value}
@@ -210,7 +210,7 @@ windows f g r z ls rs h finite el er =
       after = afters g r z rs h.second h.right er;
       finite = λ t a b.
           let (v, k) = finite t a in
-          (v, ap (λ us. read us t) er ∙ unroll_reads g r.end t h.second.normal a (lt_trans b early) ∙ k);
+          (v, ap (λ us. read us t) er ∙ unroll_reads g r.end t h.second.normal a b ∙ k);
     }
 
 -- ---- the answer
@@ -291,19 +291,19 @@ agree f g p q reach end t v F G short low early (inr (A, S)) =
           above = λ u.
               let at = u.at in
               let n = u.nonneg in
-              let m = u.before in
+              let m = u.most in
               let there : t +ℚ at <ℚ end = with4 t at reach end (λ c. omega (arith, c.le, c.lt, c.same)) in
               let nonneg : int (pos 0) ≤ℚ t +ℚ at = with2 t at (λ c. omega (arith, c.le, c.lt, c.same)) in
               subst (λ x. x -ₑ u.level ≤ₑ v) (F (t +ℚ at) nonneg there)
-              (S.supremum.above record { at = at; nonneg = n; before = m; level = u.level; is = G at n (lt_trans m short) ∙ u.is });
+              (S.supremum.above record { at = at; nonneg = n; most = m; level = u.level; is = G at n (le_lt_trans m short) ∙ u.is });
           near = λ y l.
               let (u, k) = S.supremum.near y l in
               let at = u.at in
               let n = u.nonneg in
-              let m = u.before in
+              let m = u.most in
               let there : t +ℚ at <ℚ end = with4 t at reach end (λ c. omega (arith, c.le, c.lt, c.same)) in
               let nonneg : int (pos 0) ≤ℚ t +ℚ at = with2 t at (λ c. omega (arith, c.le, c.lt, c.same)) in
-              (record { at = at; nonneg = n; before = m; level = u.level; is = sym (G at n (lt_trans m short)) ∙ u.is }, subst (λ x. Fin y <ₑ x -ₑ u.level) (F (t +ℚ at) nonneg there) k);
+              (record { at = at; nonneg = n; most = m; level = u.level; is = sym (G at n (le_lt_trans m short)) ∙ u.is }, subst (λ x. Fin y <ₑ x -ₑ u.level) (F (t +ℚ at) nonneg there) k);
         };
         level = S.level;
         is = S.is;

@@ -9,7 +9,7 @@ use Rattle.rational.proofs.Grid.{within_add, within_weaken}
 use Rattle.rational.proofs.Integers.{nat_nonneg}
 use Rattle.rational.proofs.Linear.{with1, with2, with3, with4}
 use Rattle.rational.proofs.MinMax.{max_q_ge_left, max_q_ge_right}
-use Rattle.rational.proofs.Laws.{le_or_lt, le_refl, le_trans, le_of_lt, mul_sub}
+use Rattle.rational.proofs.Laws.{le_or_lt, le_refl, le_trans, le_of_lt}
 use Rattle.rational.proofs.ExtendedOrder.{le_ext_trans, finite_below, fin_same}
 use Rattle.rational.proofs.Bounds.{smallest}
 use Rattle.affine_segment.specs.declared.line.Line.{Line}
@@ -40,6 +40,7 @@ use Rattle.curve_deconv.proofs.Reduced.{AreRepeating, early}
 use Rattle.curve_deconv.proofs.Slower.{slower_rise, repeats_from}
 use Rattle.upp_curve.proofs.SteadyTimes.{steady_nonneg}
 use Rattle.curve_call.proofs.CurveTimes.{common_some}
+use Rattle.element_envelope.proofs.Growth.{line_gains}
 
 -- ---- of any functions
 pub sub_le : (x y : Ext) (c : ℚ) → x ≤ₑ y → x -ₑ c ≤ₑ y -ₑ c
@@ -78,15 +79,6 @@ deconvolution_keeps = record { rising = rises; above = above_first; nonnegative 
 one_more : (v : ℚ) → int (pos 0) ≤ℚ v → v ≤ℚ v +ℚ v
 one_more v h = with1 v (λ c. omega (arith, c.le, c.lt, c.same))
 
-pub line_from : (l : Line) (x t : ℚ) → line_at l t ≡ line_at l x +ℚ l.slope *ℚ (t -ℚ x)
-line_from l x t =
-    let i = l.icept in
-    let a = l.slope *ℚ t in
-    let b = l.slope *ℚ x in
-    let c = l.slope *ℚ (t -ℚ x) in
-    let e : c ≡ a -ℚ b = mul_sub l.slope t x in
-    with4 i a b c (λ c. omega (arith, c.le, c.lt, c.same))
-
 line_bounded : (z : Sizes) (end x t v : ℚ) (o : Option Line) → AreSizes z end → int (pos 0) ≤ℚ x → x ≤ℚ t → t ≤ℚ end → ValueStands z (line_value o x) → LineStands z o → line_value o t ≡ Fin v
     → Within (int (pos z.largest) +ℚ int (pos z.largest)) v
 line_bounded z end x t v None A low late high V S e = absurd (none e)
@@ -98,7 +90,7 @@ line_bounded z end x t v (Some l) A low late high V S e =
     let far = t -ℚ x in
     let nonneg : int (pos 0) ≤ℚ far = with2 t x (λ c. omega (arith, c.le, c.lt, c.same)) in
     let most : far ≤ℚ end = with3 t x end (λ c. omega (arith, c.le, c.lt, c.same)) in
-    subst (Within (m +ℚ m)) (sym (line_from l x t) ∙ fin_same e) (within_add m m (line_at l x) (l.slope *ℚ far) V.within (run_within z end l.slope far A S nonneg most))
+    subst (Within (m +ℚ m)) (sym (line_gains l x t) ∙ fin_same e) (within_add m m (line_at l x) (l.slope *ℚ far) V.within (run_within z end l.slope far A S nonneg most))
 
 value_bounded : (z : Sizes) (w : Ext) (v : ℚ) → ValueStands z w → w ≡ Fin v → Within (int (pos z.largest) +ℚ int (pos z.largest)) v
 value_bounded z Inf v V e = absurd (none e)
@@ -149,7 +141,7 @@ deconvolution_is_finite f g h F G first second slow D t low =
     let d = common_period f g in
     let from = both_steady f g in
     let reach = from +ℚ d in
-    let end = t +ℚ reach in
+    let end = t +ℚ reach +ℚ d in
     let some = common_some f g F G in
     let f_by : steady f ≤ℚ from = max_q_ge_left (steady f) (steady g) in
     let g_by : steady g ≤ℚ from = max_q_ge_right (steady f) (steady g) in
@@ -174,7 +166,7 @@ deconvolution_is_finite f g h F G first second slow D t low =
     (λ u.
     let at = u.at in
     let nonneg = u.nonneg in
-    let before = u.before in
+    let most = u.most in
     let there : int (pos 0) ≤ℚ t +ℚ at = with2 t at (λ c. omega (arith, c.le, c.lt, c.same)) in
     let inside : t +ℚ at <ℚ end = with4 t at from d (λ c. omega (arith, c.le, c.lt, c.same)) in
     let short : at <ℚ end = with4 t at from d (λ c. omega (arith, c.le, c.lt, c.same)) in

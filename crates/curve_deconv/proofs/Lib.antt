@@ -1,8 +1,8 @@
 pub mod Reduced
 pub mod Slower
 pub mod Mirrored
-pub mod PairSplits
 pub mod MirroredRoom
+pub mod MirroredPieces
 pub mod Pairs
 pub mod MarkTimes
 pub mod MarkWindows

@@ -11,12 +11,12 @@ use Rattle.rational.proofs.Grid.{whole_sub, whole_add, whole_neg, whole_weaken, 
 use Rattle.rational.proofs.Integers.{nat_nonneg}
 use Rattle.rational.proofs.Sizes.{sum_on_grid}
 use Rattle.rational.proofs.Linear.{with2, with3, with4}
-use Rattle.rational.proofs.Laws.{le_refl, le_trans, le_of_lt, le_or_lt, mul_le_mul_right, neg_mul}
+use Rattle.rational.proofs.Laws.{le_refl, le_trans, le_of_lt, lt_trans, mul_le_mul_right}
 use Rattle.affine_segment.specs.declared.line.Line.{Line}
 use Rattle.affine_segment.specs.declared.line.Piece.{Piece}
-use Rattle.affine_segment.specs.Values.{line_at, line_value}
-use Rattle.affine_segment.specs.Reading.{read, piece_value}
-use Rattle.affine_segment.specs.Pieces.{Each, RisesFrom, StartsAtZero}
+use Rattle.affine_segment.specs.Values.{line_at}
+use Rattle.affine_segment.specs.Reading.{read}
+use Rattle.affine_segment.specs.Pieces.{Each, StartsAtZero}
 use Rattle.upp_normal.specs.Normalising.{cut_at, past}
 use Rattle.upp_curve.specs.Curve.{repeated}
 use Rattle.upp_limits.specs.Limits.{Sizes}
@@ -24,7 +24,7 @@ use Rattle.upp_normal.specs.Operand.{AreLimited, answer_room}
 use Rattle.upp_limits.specs.Sized.{grid_of, times_largest}
 use Rattle.upp_normal.specs.Room.{TimeHasRoom, ValueHasRoom, LineHasRoom, PieceHasRoom, top}
 use Rattle.upp_normal.proofs.AnswerRoom.{IsCrossing, line_in_room, line_value_in, value_in_room, steep_run}
-use Rattle.affine_segment.proofs.PieceIn.{value_past, read_is, read_go, read_one, read_stop, value_by}
+use Rattle.affine_segment.proofs.PieceIn.{read_is}
 use Rattle.affine_segment.proofs.PieceOrder.{each_map}
 use Rattle.curve_pointwise.specs.Shifting.{left_line, left_piece, moved_left, LeftFits}
 use Rattle.curve_pointwise.proofs.LeftWindow.{left_reads, left_starts, each_past, each_moved}
@@ -34,51 +34,9 @@ use Rattle.element_envelope.proofs.SumSteps.{place_room, line_fits_to, sum_answe
 use Rattle.element_envelope.proofs.ArchBends.{sums_on_grids}
 use Rattle.curve_deconv.specs.Mirrored.{neg_ext, neg_line, neg_option, neg_piece}
 use Rattle.curve_deconv.specs.DeconvolutionWindows.{OperandWindows, IsRaisedWindow, IsDeconvolutionWindow, IsRaised, IsReached, IsFiniteFrom, IsLeastPair, IsNumberedSupremum, EarlyPair, EarlyTime}
+use Rattle.curve_deconv.proofs.Mirrored.{neg_all_read, neg_starts, each_neg}
 use Rattle.curve_deconv.proofs.MovedGrids.{IsTurned, turned_repeated, turned_grids}
 use Rattle.curve_pointwise.proofs.ShiftCall.{IsLeftOf}
-
--- ---- pieces turned over
-neg_value : (p : Piece) (t : ℚ) → piece_value (neg_piece p) t ≡ neg_ext (piece_value p t)
-neg_value p t = elim (le_or_lt t p.x) [
-  | inl k ↦ value_by (neg_piece p) t k ∙ sym (ap neg_ext (value_by p t k))
-  | inr k ↦ value_past (neg_piece p) t k ∙ neg_line_value p.line t ∙ sym (ap neg_ext (value_past p t k))
-]
-  where
-    neg_line_at : (l : Line) (t : ℚ) → line_at (neg_line l) t ≡ neg_ℚ (line_at l t)
-    neg_line_at l t =
-        let i = l.icept in
-        let run = l.slope *ℚ t in
-        let back = neg_ℚ l.slope *ℚ t in
-        let e : back ≡ neg_ℚ run = neg_mul l.slope t in
-        with3 i run back (λ c. omega (arith, c.le, c.lt, c.same))
-
-    neg_line_value : (o : Option Line) (t : ℚ) → line_value (neg_option o) t ≡ neg_ext (line_value o t)
-    neg_line_value None t = refl
-    neg_line_value (Some l) t = ap Fin (neg_line_at l t)
-
-neg_reads : (p : Piece) (ps : List Piece) (t : ℚ) → read (map neg_piece (p ∷ ps)) t ≡ neg_ext (read (p ∷ ps) t)
-neg_reads p [] t = read_one (neg_piece p) t ∙ neg_value p t ∙ sym (ap neg_ext (read_one p t))
-neg_reads p (q ∷ qs) t = elim (le_or_lt q.x t) [
-  | inl k ↦ read_go (neg_piece p) (neg_piece q) (map neg_piece qs) t k ∙ neg_reads q qs t ∙ sym (ap neg_ext (read_go p q qs t k))
-  | inr k ↦ read_stop (neg_piece p) (neg_piece q) (map neg_piece qs) t k ∙ neg_value p t ∙ sym (ap neg_ext (read_stop p q qs t k))
-]
-
-neg_all_read : (ps : List Piece) (t : ℚ) → read (map neg_piece ps) t ≡ neg_ext (read ps t)
-unfolding read
-neg_all_read [] t = refl
-neg_all_read (p ∷ ps) t = neg_reads p ps t
-
-neg_rises : (x : ℚ) (ps : List Piece) → RisesFrom x ps → RisesFrom x (map neg_piece ps)
-neg_rises x [] h = tt
-neg_rises x (p ∷ ps) h = (h.0, neg_rises p.x ps h.1)
-
-neg_starts : (ps : List Piece) → StartsAtZero ps → StartsAtZero (map neg_piece ps)
-neg_starts [] h = h
-neg_starts (p ∷ ps) h = (h.0, neg_rises p.x ps h.1)
-
-each_neg : (P Q : Piece → Type 0) (ps : List Piece) → ((p : Piece) → P p → Q (neg_piece p)) → Each P ps → Each Q (map neg_piece ps)
-each_neg P Q [] f h = tt
-each_neg P Q (p ∷ ps) f h = (f p h.0, each_neg P Q ps f h.1)
 
 -- ---- the least of pairs turned over is the supremum
 turn_over : (f g : ℚ → Ext) (reach end t : ℚ) (v : Ext) → IsFiniteFrom g (int (pos 0)) reach → int (pos 0) <ℚ reach → t +ℚ reach <ℚ end → IsFiniteFrom f t end → IsLeastPair f g reach t v
@@ -89,18 +47,18 @@ turn_over f g reach end t v G some early F E = by v E
     pair u =
         let at = u.at in
         let n = u.nonneg in
-        let b = u.before in
+        let b = u.most in
         let (x, e) = F (t +ℚ at) (with2 t at (λ c. omega (arith, c.le, c.lt, c.same))) (with4 t at reach end (λ c. omega (arith, c.le, c.lt, c.same))) in
-        (record { at = at; nonneg = n; before = b; value = x; value_is = e; level = u.level; level_is = u.is }, (refl, refl))
+        (record { at = at; nonneg = n; most = b; value = x; value_is = e; level = u.level; level_is = u.is }, (refl, refl))
 
     least : (u : EarlyTime g reach) (q : ℚ) → IsLeastPair f g reach t (Fin q) → f (t +ℚ u.at) -ₑ u.level ≤ₑ Fin (neg_ℚ q)
     least u q E =
         let at = u.at in
         let n = u.nonneg in
-        let b = u.before in
+        let b = u.most in
         let (x, e) = F (t +ℚ at) (with2 t at (λ c. omega (arith, c.le, c.lt, c.same))) (with4 t at reach end (λ c. omega (arith, c.le, c.lt, c.same))) in
         let l = u.level in
-        let low : q ≤ℚ l -ℚ x = E.below record { at = at; nonneg = n; before = b; value = x; value_is = e; level = l; level_is = u.is } in
+        let low : q ≤ℚ l -ℚ x = E.below record { at = at; nonneg = n; most = b; value = x; value_is = e; level = l; level_is = u.is } in
         subst (λ w. w -ₑ l ≤ₑ Fin (neg_ℚ q)) (sym e) (under x l low)
       where
         under : (x l : ℚ) → q ≤ℚ l -ℚ x → Fin x -ₑ l ≤ₑ Fin (neg_ℚ q)
@@ -109,7 +67,7 @@ turn_over f g reach end t v G some early F E = by v E
     by : (v : Ext) → IsLeastPair f g reach t v → IsNumberedSupremum f g reach t (neg_ext v)
     by Inf E =
         let (q, e) = G (int (pos 0)) (le_refl (int (pos 0))) some in
-        let (j, k) = pair record { at = int (pos 0); nonneg = le_refl (int (pos 0)); before = some; level = q; is = e } in
+        let (j, k) = pair record { at = int (pos 0); nonneg = le_refl (int (pos 0)); most = le_of_lt some; level = q; is = e } in
         absurd (E.below j)
     by (Fin q) E = record {
       supremum = record {
@@ -118,7 +76,7 @@ turn_over f g reach end t v G some early F E = by v E
             let (j, k) = E.near (neg_ℚ y) (with2 q y (λ c. omega (arith, c.le, c.lt, c.same))) in
             let x = j.value in
             let m = j.level in
-            (record { at = j.at; nonneg = j.nonneg; before = j.before; level = m; is = j.level_is }, subst (λ w. Fin y <ₑ w -ₑ m) (sym j.value_is) (over x m y k));
+            (record { at = j.at; nonneg = j.nonneg; most = j.most; level = m; is = j.level_is }, subst (λ w. Fin y <ₑ w -ₑ m) (sym j.value_is) (over x m y k));
       };
       level = neg_ℚ q;
       is = refl;
@@ -256,7 +214,7 @@ deconvolved_at end reach f g p ps o R =
     let T = moved_turned reach p ps W.starts low in
     record {
       starts = neg_starts (moved_left reach p ps) (left_starts reach p ps W.starts);
-      reads = λ t a b. subst (IsReached (read f) (read g) reach end t) (sym (T t a)) (reached_of (read f) (read g) reach end t (read (p ∷ ps) (t +ℚ reach)) o.finite o.some b (R.reads t a b));
+      reads = λ t a b. subst (IsReached (read f) (read g) reach end t) (sym (T t a)) (reached_of (read f) (read g) reach end t (read (p ∷ ps) (t +ℚ reach)) (λ s n l. o.finite s n (lt_trans l o.early)) o.some b (R.reads t a b));
       before = each_map (MovedRoom o.sizes end reach) (λ q. q.x +ℚ reach <ℚ end) (λ q h. h.before) ws (moved_rooms end reach f g p ps o W);
       room = λ r. each_map (MovedRoom r.sizes end reach) (PieceHasRoom (answer_room r.sizes end) 1) (λ q h. h.room) ws (moved_rooms end reach f g p ps r (R.form.stands r));
       grids = λ r from period rise low_from tail.

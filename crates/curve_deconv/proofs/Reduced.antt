@@ -44,7 +44,7 @@ pub early : (f g : ℚ → Ext) (from d a b reach t : ℚ) (v : Ext) → AreRepe
     → ((u : EarlyTime g reach) → f (t +ℚ u.at) -ₑ u.level ≤ₑ v)
     → (u : FiniteTime g) → f (t +ℚ u.at) -ₑ u.level ≤ₑ v
 early f g from d a b reach t v R some S u = elim (le_or_lt reach u.at) [
-  | inr l ↦ S record { at = u.at; nonneg = u.nonneg; before = l; level = u.level; is = u.is }
+  | inr l ↦ S record { at = u.at; nonneg = u.nonneg; most = le_of_lt l; level = u.level; is = u.is }
   | inl l ↦ late l
 ]
   where
@@ -64,7 +64,7 @@ early f g from d a b reach t v R some S u = elim (le_or_lt reach u.at) [
         let w_high : w <ℚ reach = (let e = R.reach_is in with5 from at y d reach (λ c. omega (arith, c.le, c.lt, c.same))) in
         let low : int (pos 0) ≤ℚ w = le_trans R.low w_low in
         let (q, e) = R.finite w low in
-        let here : f (t +ℚ w) -ₑ q ≤ₑ v = S record { at = w; nonneg = low; before = w_high; level = q; is = e } in
+        let here : f (t +ℚ w) -ₑ q ≤ₑ v = S record { at = w; nonneg = low; most = le_of_lt w_high; level = q; is = e } in
         let there : (t +ℚ w) +ℚ y ≡ t +ℚ at = with3 t at y (λ c. omega (arith, c.le, c.lt, c.same)) in
         let back : w +ℚ y ≡ at = with2 at y (λ c. omega (arith, c.le, c.lt, c.same)) in
         let t_low : from ≤ℚ t +ℚ w = with3 from t w (λ c. omega (arith, c.le, c.lt, c.same)) in

@@ -20,11 +20,11 @@ use Rattle.element_envelope.specs.Arches.{Arches}
 use Rattle.curve_window.proofs.TailGrids.{TailOf}
 
 -- ---- pairs of times
--- a time u from 0 on and before `reach` at which g is finite, and f at t + u
+-- a time u from 0 on and up to `reach` at which g is finite, and f at t + u
 pub record EarlyPair (f g : ℚ → Ext) (reach t : ℚ) : Type 0 where
   pub at : ℚ
   pub nonneg : int (pos 0) ≤ℚ at
-  pub before : at <ℚ reach
+  pub most : at ≤ℚ reach
   pub value : ℚ
   pub value_is : f (t +ℚ at) ≡ Fin value
   pub level : ℚ
@@ -34,11 +34,11 @@ pub record EarlyPair (f g : ℚ → Ext) (reach t : ℚ) : Type 0 where
 abbrev pub IsLeastPair : (ℚ → Ext) → (ℚ → Ext) → ℚ → ℚ → Ext → Type 0
 IsLeastPair f g reach t v = IsInfimum {I = EarlyPair f g reach t} (λ u. Fin (u.level -ℚ u.value)) v
 
--- a time u from 0 on and before `reach` at which g is finite
+-- a time u from 0 on and up to `reach` at which g is finite
 pub record EarlyTime (g : ℚ → Ext) (reach : ℚ) : Type 0 where
   pub at : ℚ
   pub nonneg : int (pos 0) ≤ℚ at
-  pub before : at <ℚ reach
+  pub most : at ≤ℚ reach
   pub level : ℚ
   pub is : g at ≡ Fin level
 
@@ -60,7 +60,7 @@ IsFiniteFrom f t end = (s : ℚ) → t ≤ℚ s → s <ℚ end → (v : ℚ) × 
 
 -- ---- the operands
 -- the unrolled pieces of two operands of one call, below the end of its window; how far past a time the first is read;
--- the values just after the second's starts; and the second is finite so far
+-- the values just after the second's starts; and the second is finite before the end
 pub record OperandWindows (end reach : ℚ) (f g : List Piece) : Type 0 where
   pub sizes : Sizes
   pub limited : AreLimited sizes end
@@ -70,7 +70,7 @@ pub record OperandWindows (end reach : ℚ) (f g : List Piece) : Type 0 where
   pub left : OperandPieces sizes end f
   pub right : OperandPieces sizes end g
   pub after : Each (λ p. ValueStands sizes (line_value p.line p.x)) g
-  pub finite : IsFiniteFrom (read g) (int (pos 0)) reach
+  pub finite : IsFiniteFrom (read g) (int (pos 0)) end
 
 -- ---- what is read
 -- infinity where f is, and else the least of the pairs

@@ -1,10 +1,13 @@
-//! Elements turned over, and mirrored in time.
+//! Pieces turned over, and mirrored in time.
 
 ghost use Rattle.std.specs.Prelude.{◌≡◌, map, Some, IfOk};
+ghost use Rattle.rational.specs.Rational.{neg_ℚ};
+ghost use Rattle.rational.specs.Ratio.{SumFits};
 ghost use Rattle.affine_segment.specs.Fits.{LineFitsAt};
-ghost use Rattle.curve_deconv.specs.Mirrored.{neg_ext, neg_line, neg_option, neg_element, neg_piece, back, mirror_line, mirror, MirrorFits, BackFits, EachElement};
+ghost use Rattle.curve_deconv.specs.Mirrored.{neg_ext, neg_line, neg_option, neg_piece};
+ghost use Rattle.curve_deconv.specs.Mirrored.{mirror_line, mirror_option, mirror_piece, mirror_pieces, AreMirrorable};
 
-use affine_segment::{Element, Line, Piece, value};
+use affine_segment::{Line, Piece, value};
 use fraction128::{Ext, Frac, difference};
 use rational::Extended;
 use std::alloc::{AllocError, Global};
@@ -25,33 +28,6 @@ fn negated_value(v: Ext) -> Ext
         Extended::Inf => Extended::Inf,
         Extended::Fin(x) => Extended::Fin(x.negated()),
     }
-}
-
-fn negated_element(e: &Element) -> Element
-    ensures { result ≡ neg_element e.now }
-{
-    match *e {
-        Element::Point { x, v } => Element::Point { x, v: v.negated() },
-        Element::Open { from, to, line } => Element::Open {
-            from,
-            to,
-            line: negated_line(line),
-        },
-    }
-}
-
-/// The elements with minus their values.
-pub(crate) fn negated_elements(
-    alloc: Global,
-    elements: &[Element],
-) -> Result<Vec<Element>, AllocError>
-    ensures { IfOk result (λ v. v.items ≡ map neg_element elements.now) }
-{
-    let mut made = Vec::new(alloc);
-    for e in elements {
-        made.push(negated_element(e))?;
-    }
-    Ok(made)
 }
 
 fn negated_after(line: Option<Line>) -> Option<Line>
@@ -84,17 +60,6 @@ pub(crate) fn negated_pieces(alloc: Global, pieces: &[Piece]) -> Result<Vec<Piec
     Ok(made)
 }
 
-// How long before `reach` a time is; nothing before it where there is no end.
-fn back(reach: Frac, to: Ext) -> Frac
-    requires { BackFits reach to }
-    ensures { result ≡ back reach to }
-{
-    match to {
-        Extended::Inf => Frac::zero(),
-        Extended::Fin(t) => difference(reach, t),
-    }
-}
-
 fn mirrored_line(reach: Frac, line: Line) -> Line
     requires { LineFitsAt reach (Some line) }
     ensures { result ≡ mirror_line reach line }
@@ -105,35 +70,49 @@ fn mirrored_line(reach: Frac, line: Line) -> Line
     }
 }
 
-fn mirrored_element(reach: Frac, e: &Element) -> Element
-    requires { MirrorFits reach e.now }
-    ensures { result ≡ mirror reach e.now }
+fn mirrored_after(reach: Frac, line: Option<Line>) -> Option<Line>
+    requires { LineFitsAt reach line }
+    ensures { result ≡ mirror_option reach line }
 {
-    match *e {
-        Element::Point { x, v } => Element::Point {
-            x: difference(reach, x),
-            v,
-        },
-        Element::Open { from, to, line } => Element::Open {
-            from: back(reach, to),
-            to: Extended::Fin(difference(reach, from)),
-            line: mirrored_line(reach, line),
-        },
+    match line {
+        None => None,
+        Some(l) => Some(mirrored_line(reach, l)),
     }
 }
 
-/// The elements mirrored in time: what is at t comes to stand at `reach` less t.
-pub(crate) fn mirrored_elements(
+// What comes to stand where something ends: the value there, and the line before it.
+fn mirrored_piece(reach: Frac, until: Frac, at: Ext, line: Option<Line>) -> Piece
+    requires time { SumFits reach (neg_ℚ until) }
+    requires line { LineFitsAt reach line }
+    ensures { result ≡ mirror_piece reach until at line }
+{
+    Piece {
+        x: difference(reach, until),
+        at,
+        line: mirrored_after(reach, line),
+    }
+}
+
+/// The pieces mirrored in time: what is at t, before `reach`, comes to stand at `reach` less t, and the value `at` at 0.
+/// Infinite after `reach`.
+pub(crate) fn mirrored_pieces(
     alloc: Global,
-    elements: &[Element],
+    pieces: &[Piece],
     reach: Frac,
-) -> Result<Vec<Element>, AllocError>
-    requires { EachElement (MirrorFits reach) elements.now }
-    ensures { IfOk result (λ v. v.items ≡ map (mirror reach) elements.now) }
+    at: Ext,
+) -> Result<Vec<Piece>, AllocError>
+    requires { AreMirrorable reach pieces.now }
+    ensures { IfOk result (λ v. v.items ≡ mirror_pieces reach at pieces.now) }
 {
     let mut made = Vec::new(alloc);
-    for e in elements {
-        made.push(mirrored_element(reach, e))?;
+    let mut until = reach;
+    let mut ended = at;
+    for i in (0..pieces.len()).rev() {
+        let p = pieces[i];
+        made.push(mirrored_piece(reach, until, ended, p.line))?;
+        until = p.x;
+        ended = p.at;
     }
+    made.push(mirrored_piece(reach, until, ended, None))?;
     Ok(made)
 }

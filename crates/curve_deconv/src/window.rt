@@ -5,17 +5,16 @@ ghost use Rattle.curve_deconv.specs.DeconvolutionWindows.{OperandWindows, IsPair
 ghost use Rattle.curve_deconv.specs.DeconvolutionWindows.{IsDeconvolutionWindow};
 
 use crate::marks::{last_infinite, mark_pieces};
-use crate::mirroring::{mirrored_elements, negated_elements, negated_pieces};
-use affine_segment::Piece;
+use crate::mirroring::{mirrored_pieces, negated_pieces};
+use affine_segment::{Piece, read};
 use curve_pointwise::left_window;
 use curve_running::front_before;
 use curve_window::window_sum;
-use element_envelope::{cut, envelope};
+use element_envelope::window_convolution_from;
 use fraction128::Frac;
-use rational::Extended;
 use std::alloc::{AllocError, Global};
 
-// The least of g at u less f at t + u, over all u from 0 on and before `reach` at which both are finite, at `reach`
+// The least of g at u less f at t + u, over all u from 0 on and up to `reach` at which both are finite, at `reach`
 // after t.
 fn pairs_window(
     alloc: Global,
@@ -27,12 +26,10 @@ fn pairs_window(
     requires { OperandWindows end reach f.now g.now }
     ensures { IfOk result (λ v. IsPairsWindow end reach f.now g.now v.items) }
 {
-    let first = cut(alloc, f, Extended::Inf)?;
-    let xs = negated_elements(alloc, &first)?;
+    let turned = negated_pieces(alloc, f)?;
     let front = front_before(alloc, g, reach)?;
-    let second = cut(alloc, &front, Extended::Fin(reach))?;
-    let ys = mirrored_elements(alloc, &second, reach)?;
-    envelope(alloc, &xs, &ys, end)
+    let mirrored = mirrored_pieces(alloc, &front, reach, read(g, reach))?;
+    window_convolution_from(alloc, &turned, &mirrored, reach, end)
 }
 
 // The same, and infinity where f is infinite at t or later.
@@ -52,9 +49,9 @@ fn raised_window(
     window_sum(alloc, &pairs, &marks)
 }
 
-/// The supremum of f at t + u less g at u over all u from 0 on and before `reach`, at each t from 0 on that is more
+/// The supremum of f at t + u less g at u over all u from 0 on and up to `reach`, at each t from 0 on that is more
 /// than `reach` before `end`, as pieces; infinity where f is infinite at t or later. From the operands' unrolled
-/// pieces below `end`; g is finite before `reach`. Only a lack of memory is an error.
+/// pieces below `end`; g is finite there. Only a lack of memory is an error.
 pub(crate) fn window_deconvolution(
     alloc: Global,
     f: &[Piece],

@@ -44,7 +44,8 @@ use Rattle.curve_least.proofs.Rises.{rate_rise, infinite_value}
 use Rattle.curve_deviation.specs.Parts.{IsFiniteInSizes}
 use Rattle.curve_deviation.proofs.EarlyParts.{endless, early_here}
 use Rattle.curve_deviation.specs.declared.horizontals.Periods.{Periods}
-use Rattle.curve_deviation.specs.Stages.{AreFinite, HasLeft, settled, IsPast, IsWideCall, IsFirst, AreFound}
+use Rattle.curve_deviation.specs.declared.horizontals.Turn.{Turn}
+use Rattle.curve_deviation.specs.Stages.{AreFinite, HasLeft, HasReached, settled, IsPast, IsWideCall, IsFirst, IsSettledAt, IsNarrowWindow, AreFound, ArePlain, IsPlainCall}
 use Rattle.curve_deviation.proofs.KnownLags.{first_repeats}
 use Rattle.curve_deviation.proofs.WindowTimes.{times_at, periods_low}
 use Rattle.upp_curve.proofs.RisingCurves.{GoesOn}
@@ -248,3 +249,27 @@ found_within f g p r F G A h = frame_within Horizontal f g p.first p.second r (f
 
 pub not_memory : (f g : SpecCurve) (k m : ℕ) (e : OpFault) → IsRefusedAt Horizontal f g k m e → ¬ (e ≡ NoMemory)
 not_memory f g k m e h same = subst (IsRefusedAt Horizontal f g k m) same h
+
+-- ---- without periods
+pub plain_found : (f g : SpecCurve) (t : Turn) → IsFirst f g 0 → IsSettledAt f g 0 t → HasReached 0 t.level f g 0 → ArePlain f g record { first = 0; second = 0; until = t.time }
+plain_found f g t first at reached =
+    let level : value_at f (settled f g 0) ≡ Fin t.level = sym (ap (value_at f) at.time) ∙ at.level in
+    record {
+      found = record {
+        first = first;
+        below = λ i h. absurd (omega (arith, h));
+        past = inl (subst (λ x. x ≤ₑ value_at g (periods_after (settled f g 0) 0 (common_period f g))) (sym level) reached);
+        until = at.time;
+      };
+      first = refl;
+      second = refl;
+    }
+
+pub plain_window : (f g : SpecCurve) (r : Frame) → IsFrame Horizontal f g 0 0 r → IsNarrowWindow f g 0 0 record { start = r.start; period = r.period; end = r.end }
+plain_window f g r h = record { window = record { start = h.start; period = h.period; end = h.end }; gauge = h.gauge }
+
+pub plain_frame : (f g : SpecCurve) (p : Periods) (r : Frame) → ArePlain f g p → IsFrame Horizontal f g 0 0 r → IsPlainCall f g record { periods = p; frame = r }
+plain_frame f g p r A h = record {
+  found = A.found;
+  frame = subst (λ n. IsFrame Horizontal f g n p.second r) (sym A.first) (subst (λ n. IsFrame Horizontal f g 0 n r) (sym A.second) h);
+}

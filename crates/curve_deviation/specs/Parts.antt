@@ -1,7 +1,6 @@
 -- How a curve goes on from a time of a window, which may end before all its pieces have started. Own choice.
-use Rattle.std.specs.Prelude.{◌≡◌, Option, Some, None}
+use Rattle.std.specs.Prelude.{◌≡◌}
 use Rattle.rational.specs.Rational.{ℚ, ◌+ℚ◌, ◌≤ℚ◌, ◌<ℚ◌}
-use Rattle.rational.specs.MinMax.{min_q}
 use Rattle.rational.specs.Grid.{Whole}
 use Rattle.rational.specs.Extended.{Ext}
 use Rattle.affine_segment.specs.Values.{line_value}
@@ -15,7 +14,6 @@ use Rattle.upp_limits.specs.Sized.{Stands}
 use Rattle.upp_normal.specs.Operand.{AreLimited, OperandLineAt}
 use Rattle.upp_normal.specs.Ahead.{GridValue}
 use Rattle.curve_deviation.specs.declared.parts.Part.{Part}
-use Rattle.curve_least.specs.GapSteps.{earlier_of}
 
 -- a finite curve whose numbers up to `end` have the sizes z
 pub record IsFiniteInSizes (z : Sizes) (end : ℚ) (c : SpecCurve) : Type 0 where

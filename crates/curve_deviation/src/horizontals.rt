@@ -1,6 +1,6 @@
 //! The horizontal deviation of two curves.
 
-ghost use Rattle.std.specs.Prelude.{ℕ, ◌≡◌, ◌+◌, ◌≤◌, ◌^◌, IfOk, IfErr, IfSome, IsSome, MatchOption};
+ghost use Rattle.std.specs.Prelude.{ℕ, ◌≡◌, ◌+◌, ◌≤◌, ◌^◌, IfOk, IfErr, IfSome, IsSome, IsTrue, MatchOption};
 ghost use Rattle.rational.specs.Rational.{ℚ, ◌<ℚ◌};
 ghost use Rattle.upp_curve.specs.Curve.{value_at};
 ghost use Rattle.min_plus.specs.Functions.{IsFinite, IsRising};
@@ -11,12 +11,12 @@ ghost use Rattle.min_plus.specs.Deviations.{IsHorizontalDeviation};
 ghost use Rattle.upp_limits.specs.Outcome.{KeepsLimits};
 ghost use Rattle.curve_call.specs.Frames.{IsFrame};
 ghost use Rattle.curve_deviation.specs.Parts.{IsFiniteInSizes};
-ghost use Rattle.curve_deviation.specs.Stages.{AreFinite, IsWideCall, IsFirst, IsSettledAt, AreFound};
+ghost use Rattle.curve_deviation.specs.Stages.{AreFinite, IsNarrowWindow, IsWideCall, IsFirst, IsSettledAt, AreFound, ArePlain, IsPlainCall};
 
 use crate::known::is_known;
-use crate::search::{Stage, least_past, narrow_window, value_in};
+use crate::search::{Stage, has_left, is_below, least_past, narrow_window, value_in};
 use crate::walks::longest_lag;
-use curve_call::{Frame, within_both};
+use curve_call::{CallWindow, Frame, within_both};
 use fraction128::{Ext, Frac, difference};
 use rational::Extended;
 use std::sync::ledger::Ledger;
@@ -38,6 +38,13 @@ struct Periods {
     first: u128,
     second: u128,
     until: Frac,
+}
+
+/// A call within both limits that needs no period.
+#[derive(Debug, Clone, Copy)]
+struct PlainCall {
+    periods: Periods,
+    frame: Frame,
 }
 
 /// The value of a finite curve when it begins to repeat. None only where a step to it does not fit.
@@ -86,6 +93,19 @@ fn first_number(f: &Curve, g: &Curve) -> Option<u128>
     }
 }
 
+/// The time when f has settled, a period before the end of a window without more periods, and the value of f there.
+fn turn_in(f: &Curve, g: &Curve, window: &CallWindow) -> Turn
+    requires both { AreFinite f.now g.now }
+    requires window { (first : ℕ) × IsNarrowWindow f.now g.now first 0 window.now }
+    ensures { (first : ℕ) → IsNarrowWindow f.now g.now first 0 window.now → IsSettledAt f.now g.now first result }
+{
+    f.keeps();
+    g.keeps();
+    let time = difference(window.end, window.period);
+    let level = value_in(f, time, window.end);
+    Turn { time, level }
+}
+
 /// The time a period after that, and the value of f there. None only where the call is too wide.
 fn turn_after(f: &Curve, g: &Curve, first: u128) -> Option<Turn>
     requires { AreFinite f.now g.now }
@@ -94,11 +114,7 @@ fn turn_after(f: &Curve, g: &Curve, first: u128) -> Option<Turn>
 {
     match narrow_window(f, g, first, 0) {
         None => None,
-        Some(window) => {
-            let time = difference(window.end, window.period);
-            let level = value_in(f, time, window.end);
-            Some(Turn { time, level })
-        }
+        Some(window) => Some(turn_in(f, g, &window)),
     }
 }
 
@@ -137,8 +153,68 @@ fn deviation_in(f: &Curve, g: &Curve, periods: &Periods, frame: &Frame) -> Ext
     Extended::Fin(longest_lag(f, g, periods.until, frame.end))
 }
 
-/// The horizontal deviation that has to be looked for.
-fn looked_for(f: &Curve, g: &Curve) -> Result<Ext, OpFault>
+/// Whether f is constant from when it begins to repeat, or above the level at which g begins to, by a window of no
+/// period that is below the limit.
+fn has_turned(f: &Curve, g: &Curve, window: &CallWindow) -> bool
+    requires both { AreFinite f.now g.now }
+    requires window { IsNarrowWindow f.now g.now 0 0 window.now }
+    ensures { IsTrue result → IsFirst f.now g.now 0 }
+{
+    f.keeps();
+    g.keeps();
+    if is_level(f) {
+        return true;
+    }
+    match late_level(g) {
+        None => false,
+        Some(level) => has_left(f, g, level, window),
+    }
+}
+
+/// Both numbers of periods where they are 0, by a window of no period that is below the limit; None where one is not.
+fn none_needed(f: &Curve, g: &Curve, window: &CallWindow) -> Option<Periods>
+    requires both { AreFinite f.now g.now }
+    requires window { IsNarrowWindow f.now g.now 0 0 window.now }
+    ensures { IfSome result (ArePlain f.now g.now) }
+{
+    if !has_turned(f, g, window) {
+        return None;
+    }
+    let turn = turn_in(f, g, window);
+    if is_below(f, g, turn.level, window) {
+        return None;
+    }
+    Some(Periods {
+        first: 0,
+        second: 0,
+        until: turn.time,
+    })
+}
+
+/// A call that needs no period and is within both limits, by one look at its sizes; None where it needs some, or is
+/// over a limit already without.
+fn plain_call(f: &Curve, g: &Curve) -> Option<PlainCall>
+    requires { AreFinite f.now g.now }
+    ensures { IfSome result (IsPlainCall f.now g.now) }
+{
+    match within_both(&OpKind::Horizontal, f, g, 0, 0) {
+        Err(_) => None,
+        Ok(frame) => {
+            let window = CallWindow {
+                start: frame.start,
+                period: frame.period,
+                end: frame.end,
+            };
+            match none_needed(f, g, &window) {
+                None => None,
+                Some(periods) => Some(PlainCall { periods, frame }),
+            }
+        }
+    }
+}
+
+/// The horizontal deviation whose numbers of periods have to be looked for.
+fn searched(f: &Curve, g: &Curve) -> Result<Ext, OpFault>
     requires both { AreFinite f.now g.now }
     requires known { ¬ (IsKnownAtOnce OpKind.Horizontal f.now g.now) }
     ensures value { IfOk result (IsHorizontalDeviation (value_at f.now) (value_at g.now)) }
@@ -152,6 +228,22 @@ fn looked_for(f: &Curve, g: &Curve) -> Result<Ext, OpFault>
     };
     let frame = within_both(&OpKind::Horizontal, f, g, periods.first, periods.second)?;
     Ok(deviation_in(f, g, &periods, &frame))
+}
+
+/// The horizontal deviation that has to be looked for: most calls need no period, and are answered by one look.
+fn looked_for(f: &Curve, g: &Curve) -> Result<Ext, OpFault>
+    requires both { AreFinite f.now g.now }
+    requires known { ¬ (IsKnownAtOnce OpKind.Horizontal f.now g.now) }
+    ensures value { IfOk result (IsHorizontalDeviation (value_at f.now) (value_at g.now)) }
+    ensures limits { KeepsLimits OpKind.Horizontal f.now g.now result }
+    ensures memory { IfErr result (λ e. ¬ (e ≡ OpFault.NoMemory)) }
+{
+    f.keeps();
+    g.keeps();
+    match plain_call(f, g) {
+        None => searched(f, g),
+        Some(call) => Ok(deviation_in(f, g, &call.periods, &call.frame)),
+    }
 }
 
 /// The horizontal deviation of two curves that rise, the second finite: the supremum, over all times t from 0 on, of

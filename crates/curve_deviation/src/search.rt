@@ -55,6 +55,38 @@ pub(crate) fn value_in(c: &Curve, t: Frac, end: Frac) -> Frac
     }
 }
 
+/// Whether after some periods the first curve is above the level, by its value a period after the start of the window
+/// with so many.
+pub(crate) fn has_left(f: &Curve, g: &Curve, level: Frac, window: &CallWindow) -> bool
+    requires both { AreFinite f.now g.now }
+    requires window { (k : ℕ) × IsNarrowWindow f.now g.now k 0 window.now }
+    ensures left { (k : ℕ) → IsNarrowWindow f.now g.now k 0 window.now → IsTrue result → HasLeft level f.now g.now k }
+    ensures before { (k : ℕ) → IsNarrowWindow f.now g.now k 0 window.now → ¬ (IsTrue result)
+        → ¬ (HasLeft level f.now g.now k) }
+{
+    f.keeps();
+    g.keeps();
+    let time = difference(difference(window.end, window.period), window.period);
+    let value = value_in(f, time, window.end);
+    is_less(level, value)
+}
+
+/// Whether the second curve is still below the level, a period before the window's end.
+pub(crate) fn is_below(f: &Curve, g: &Curve, level: Frac, window: &CallWindow) -> bool
+    requires both { AreFinite f.now g.now }
+    requires window { (first : ℕ) × (k : ℕ) × IsNarrowWindow f.now g.now first k window.now }
+    ensures below { (first k : ℕ) → IsNarrowWindow f.now g.now first k window.now → IsTrue result
+        → ¬ (HasReached first level f.now g.now k) }
+    ensures reached { (first k : ℕ) → IsNarrowWindow f.now g.now first k window.now → ¬ (IsTrue result)
+        → HasReached first level f.now g.now k }
+{
+    f.keeps();
+    g.keeps();
+    let time = difference(window.end, window.period);
+    let value = value_in(g, time, window.end);
+    is_less(value, level)
+}
+
 /// Whether after k periods the first curve is not above the level yet, and the gauge so far is below 2^120.
 fn is_first_before(f: &Curve, g: &Curve, level: Frac, k: u128) -> bool
     requires { AreFinite f.now g.now }
@@ -66,8 +98,7 @@ fn is_first_before(f: &Curve, g: &Curve, level: Frac, k: u128) -> bool
     match narrow_window(f, g, k, 0) {
         None => false,
         Some(window) => {
-            let time = difference(difference(window.end, window.period), window.period);
-            if is_less(level, value_in(f, time, window.end)) {
+            if has_left(f, g, level, &window) {
                 false
             } else {
                 true
@@ -87,8 +118,7 @@ fn is_second_before(f: &Curve, g: &Curve, first: u128, level: Frac, k: u128) -> 
     match narrow_window(f, g, first, k) {
         None => false,
         Some(window) => {
-            let time = difference(window.end, window.period);
-            if is_less(value_in(g, time, window.end), level) {
+            if is_below(f, g, level, &window) {
                 true
             } else {
                 false

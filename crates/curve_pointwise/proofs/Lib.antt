@@ -8,3 +8,4 @@ pub mod ScaleCall
 pub mod LeftWindow
 pub mod ShiftCall
 pub mod Nowhere
+pub mod StraightSums

@@ -6,6 +6,7 @@ ghost use Rattle.rational.specs.Ratio.{SumFits};
 ghost use Rattle.rational.specs.Extended.{◌<ₑ◌};
 ghost use Rattle.upp_curve.specs.Curve.{value_at};
 ghost use Rattle.upp_curve.specs.Steady.{rate, rise_over};
+ghost use Rattle.upp_curve.specs.Unrolled.{unroll};
 ghost use Rattle.upp_curve.specs.Curves.{IsCurve};
 ghost use Rattle.upp_limits.specs.Outcome.{KeepsLimits, IsCauseOf};
 ghost use Rattle.curve_window.specs.Operands.{HaveSizes, IsMadeOf};
@@ -111,6 +112,24 @@ fn window_of(
     }
 }
 
+// The pieces of the answer below the end of its call's window. Those of the operands are let go here, before the normal
+// form takes memory.
+fn pieces_of(
+    alloc: Global,
+    of: Lattice,
+    f: &Curve,
+    g: &Curve,
+    frame: &Frame,
+) -> Result<Vec<Piece>, AllocError>
+    requires { IsLatticeFrame f.now g.now frame.now }
+    ensures { let end = frame.now.end in
+        IfOk result (λ v. IsMadeOf (made_of of) (rises_of of) (unroll f.now end) (unroll g.now end) end v.items) }
+{
+    let left = unrolled(f, frame.end)?;
+    let right = unrolled(g, frame.end)?;
+    window_of(alloc, of, &left, &right, frame.end)
+}
+
 /// What is made of two curves in a call within both limits, where the number of periods is enough.
 pub(crate) fn made_within(
     alloc: Global,
@@ -124,9 +143,7 @@ pub(crate) fn made_within(
     ensures { IfOk result
         (λ c. (t : ℚ) → int (pos 0) ≤ℚ t → value_at c t ≡ made_of of (value_at f.now t) (value_at g.now t)) }
 {
-    let left = unrolled(f, frame.end)?;
-    let right = unrolled(g, frame.end)?;
-    let pieces = window_of(alloc, of, &left, &right, frame.end)?;
+    let pieces = pieces_of(alloc, of, f, g, frame)?;
     let rise = tail_rise(of, f, g, frame.period);
     let from = difference(frame.end, frame.period);
     answer(

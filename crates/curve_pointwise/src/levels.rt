@@ -7,12 +7,15 @@ ghost use Rattle.rational.specs.Extended.{◌<ₑ◌};
 ghost use Rattle.upp_curve.specs.Curve.{value_at};
 ghost use Rattle.min_plus.specs.Functions.{IsFinite};
 ghost use Rattle.upp_curve.specs.Steady.{rate, rise_over};
+ghost use Rattle.upp_curve.specs.Unrolled.{unroll};
+ghost use Rattle.curve_window.specs.Operands.{IsMadeOf};
 ghost use Rattle.min_plus.specs.Pointwise.{IsPositiveMinus};
 ghost use Rattle.upp_limits.specs.Outcome.{KeepsLimits};
 ghost use Rattle.upp_limits.specs.declared.op_kind.OpKind.TheVariants.{PosMinus};
 ghost use Rattle.curve_call.specs.Rises.{CurveRiseFits};
 ghost use Rattle.curve_least.specs.Levels.{level_curve};
-ghost use Rattle.curve_pointwise.specs.Lattice.{RisesBy};
+ghost use Rattle.curve_pointwise.specs.declared.lattice.Lattice.TheVariants.{Excess};
+ghost use Rattle.curve_pointwise.specs.Lattice.{RisesBy, made_of, rises_of};
 ghost use Rattle.curve_pointwise.specs.LatticeCall.{IsLatticeFrame};
 
 use affine_segment::{Line, Piece};
@@ -62,15 +65,25 @@ fn gain(gaining: bool, f: &Curve, period: Frac) -> Frac
     Frac::zero()
 }
 
+// The pieces of what a curve has above a level, below the end of the call's window. Those of the curve are let go here,
+// before the normal form takes memory.
+fn pieces_above(alloc: Global, f: &Curve, l: Frac, frame: &Frame) -> Result<Vec<Piece>, AllocError>
+    requires { IsLatticeFrame f.now (level_curve l) frame.now }
+    ensures { let end = frame.now.end in IfOk result
+        (λ v. IsMadeOf (made_of Excess) (rises_of Excess) (unroll f.now end) (unroll (level_curve l) end) end v.items) }
+{
+    let left = unrolled(f, frame.end)?;
+    let right = level_pieces(alloc, l)?;
+    window_excess(alloc, &left, &right, frame.end)
+}
+
 // What a curve has above a level, in a call within both limits, where the number of periods is enough.
 fn minus_within(alloc: Global, f: &Curve, l: Frac, frame: &Frame) -> Result<Curve, AllocError>
     requires call { IsLatticeFrame f.now (level_curve l) frame.now }
     requires finite { IsFinite (value_at f.now) }
     ensures { IfOk result (λ c. (t : ℚ) → int (pos 0) ≤ℚ t → IsPositiveMinus (value_at f.now) l t (value_at c t)) }
 {
-    let left = unrolled(f, frame.end)?;
-    let right = level_pieces(alloc, l)?;
-    let pieces = window_excess(alloc, &left, &right, frame.end)?;
+    let pieces = pieces_above(alloc, f, l, frame)?;
     let rise = gain(is_gaining(f), f, frame.period);
     let from = difference(frame.end, frame.period);
     answer(

@@ -7,6 +7,7 @@ mod lattice;
 mod levels;
 mod scaling;
 mod shifts;
+mod straight;
 mod sums;
 
 pub use extremes::{max, min, pos_diff};

@@ -8,6 +8,7 @@ pub mod Results
 pub mod OperandWindows
 pub mod LinesLie
 pub mod MadeLoop
+pub mod SumLoop
 pub mod MadeReads
 pub mod MadeStands
 pub mod MadeWindows

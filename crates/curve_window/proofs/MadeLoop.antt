@@ -54,7 +54,7 @@ made_more k (c ∷ cs) b to ps parts (qs, Q, (rest, e, M)) P = (
   (rest ++ listed parts [], ap (λ z. z ++ listed parts []) e ∙ listed_more qs rest (listed parts []), made_more k cs b to rest parts M P),
 )
 
-each_last : (P : Both → Type 0) (bs : List Both) (b : Both) → EachBoth P (bs ++ b ∷ []) → P b
+pub each_last : (P : Both → Type 0) (bs : List Both) (b : Both) → EachBoth P (bs ++ b ∷ []) → P b
 each_last P [] b h = h.0
 each_last P (c ∷ cs) b h = each_last P cs b h.1
 

@@ -18,7 +18,7 @@ use Rattle.curve_window.specs.Stretches.{IsBothOf, IsOverlay, EachBoth}
 use Rattle.curve_window.specs.Pointwise.{mapped, sum_line, sum_piece, IsSumPiece, IsWindowSum}
 use Rattle.curve_window.proofs.Mapped.{pointwise, starts_mapped, length_mapped}
 
-sum_line_value : (a b : Option Line) (t : ℚ) → line_value (sum_line a b) t ≡ line_value a t +ₑ line_value b t
+pub sum_line_value : (a b : Option Line) (t : ℚ) → line_value (sum_line a b) t ≡ line_value a t +ₑ line_value b t
 sum_line_value None b t = refl
 sum_line_value (Some l) None t = refl
 sum_line_value (Some l) (Some m) t =

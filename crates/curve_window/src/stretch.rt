@@ -74,7 +74,11 @@ pub(crate) fn start_of(w: &Walk) -> Frac
 fn take_left(p: &Piece, w: &mut Walk)
     requires room { w.old.i + 1 < 2 ^ 64 }
     requires fits { LineFitsAt p.now.x w.old.here.right.line }
-    ensures { w.new ≡ record { i = w.old.i + 1; j = w.old.j; here = record { left = p.now; right = cut_at w.old.here.right p.now.x } } }
+    ensures { w.new ≡ record {
+      i = w.old.i + 1;
+      j = w.old.j;
+      here = record { left = p.now; right = cut_at w.old.here.right p.now.x };
+    } }
 {
     w.i += 1;
     w.here.right.at = readable_line(&w.here.right.line, p.x);
@@ -87,7 +91,11 @@ fn take_left(p: &Piece, w: &mut Walk)
 fn take_right(q: &Piece, w: &mut Walk)
     requires room { w.old.j + 1 < 2 ^ 64 }
     requires fits { LineFitsAt q.now.x w.old.here.left.line }
-    ensures { w.new ≡ record { i = w.old.i; j = w.old.j + 1; here = record { left = cut_at w.old.here.left q.now.x; right = q.now } } }
+    ensures { w.new ≡ record {
+      i = w.old.i;
+      j = w.old.j + 1;
+      here = record { left = cut_at w.old.here.left q.now.x; right = q.now };
+    } }
 {
     w.j += 1;
     w.here.left.at = readable_line(&w.here.left.line, q.x);

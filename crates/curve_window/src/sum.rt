@@ -6,10 +6,10 @@ ghost use Rattle.rational.specs.Ratio.{SumFits};
 ghost use Rattle.rational.specs.Extended.{◌+ₑ◌};
 ghost use Rattle.affine_segment.specs.Reading.{read};
 ghost use Rattle.affine_segment.specs.Pieces.{StartsAtZero};
-ghost use Rattle.curve_window.specs.Stretches.{CutsFit, EachBoth};
-ghost use Rattle.curve_window.specs.Pointwise.{mapped, sum_line, sum_piece, ValueSumFits, LineSumFits, StretchSumFits, SumsFit, IsWindowSum};
+ghost use Rattle.curve_window.specs.Stretches.{CutsFit};
+ghost use Rattle.curve_window.specs.Pointwise.{sum_line, sum_piece, ValueSumFits, LineSumFits, StretchSumFits, SumsFit, IsWindowSum};
 
-use crate::stretch::{Both, overlay};
+use crate::stretch::{Both, Walk, step};
 use affine_segment::{Line, Piece};
 use fraction128::{Ext, sum};
 use rational::Extended;
@@ -55,18 +55,7 @@ fn sum_stretch(b: &Both) -> Piece
     }
 }
 
-fn sum_stretches(alloc: Global, stretches: &[Both]) -> Result<Vec<Piece>, AllocError>
-    requires { EachBoth StretchSumFits stretches.now }
-    ensures { IfOk result (λ v. v.items ≡ mapped sum_piece stretches.now) }
-{
-    let mut pieces = Vec::with_capacity(alloc, stretches.len())?;
-    for b in stretches {
-        pieces.push(sum_stretch(b))?;
-    }
-    Ok(pieces)
-}
-
-/// The sum of two windows at each time from 0 on.
+/// The sum of two windows at each time from 0 on, in one pass over both.
 pub fn window_sum(alloc: Global, f: &[Piece], g: &[Piece]) -> Result<Vec<Piece>, AllocError>
     requires left { StartsAtZero f.now }
     requires right { StartsAtZero g.now }
@@ -74,6 +63,19 @@ pub fn window_sum(alloc: Global, f: &[Piece], g: &[Piece]) -> Result<Vec<Piece>,
     requires sums { SumsFit f.now g.now }
     ensures { IfOk result (λ v. IsWindowSum f.now g.now v.items) }
 {
-    let stretches = overlay(alloc, f, g)?;
-    sum_stretches(alloc, &stretches)
+    let mut walk = Walk {
+        i: 1,
+        j: 1,
+        here: Both {
+            left: f[0],
+            right: g[0],
+        },
+    };
+    let mut pieces = Vec::with_capacity(alloc, f.len().saturating_add(g.len()))?;
+    pieces.push(sum_stretch(&walk.here))?;
+    while walk.i < f.len() || walk.j < g.len() {
+        step(f, g, &mut walk);
+        pieces.push(sum_stretch(&walk.here))?;
+    }
+    Ok(pieces)
 }

@@ -1,11 +1,11 @@
 //! The curve of a deficit round robin queue's service.
 
-ghost use Rattle.std.specs.Prelude.{◌≡◌, ◌+◌, ◌<◌, ◌≤◌, length, IfOk, Err};
+ghost use Rattle.std.specs.Prelude.{◌≡◌, ◌+◌, ◌-◌, ◌<◌, ◌≤◌, length, IfOk, IfErr};
 ghost use Rattle.upp_curve.specs.Curve.{value_at};
 ghost use Rattle.min_plus.specs.Functions.{IsFinite};
 ghost use Rattle.residual_laws.specs.DrrCalls.{AreQueues, MakesDrr};
 ghost use Rattle.residual_laws.specs.DrrLaws.{IsDrrService};
-ghost use Rattle.drr_residual.specs.Memory.{WantsMemory};
+ghost use Rattle.residual_laws.specs.InTurn.{DrrRefused};
 
 use crate::turn::turn_of;
 use curve_call::intact;
@@ -20,8 +20,9 @@ use upp_limits::OpFault;
 /// sum F of the quanta, the queue's longest packet l and the sum L of all queues' longest packets, at each time the
 /// greater of 0 and (Q beta - Q (L - l) - (F - Q) (Q + l)) / F (Bouillard, Boyer and Le Corronc). All are bits. Two
 /// operators, `scale` and then `pos_minus`, one step each; a refusal is that of the first that is over its limit,
-/// with TooWide or TooMany, or want of memory, and then each call that is counted is within its limits. beta is finite; there are 1 to 8 quanta of 1 to 2^24 bits, as many
-/// longest packets, and the queue is one of them.
+/// with TooWide or TooMany, or want of memory; it is that of the last call that is counted, so that with want of memory
+/// each of these is within its limits. beta is finite; there are 1 to 8 quanta of 1 to 2^24 bits, as many longest packets,
+/// and the queue is one of them.
 pub fn drr_service<L: Ledger>(
     alloc: Global,
     beta: &Curve,
@@ -34,8 +35,8 @@ pub fn drr_service<L: Ledger>(
     requires queues { AreQueues quanta.now longest.now }
     requires queue { queue < length quanta.now }
     ensures answer { MakesDrr beta.now quanta.now longest.now queue result }
-    ensures memory { result ≡ Err OpFault.NoMemory
-        → WantsMemory beta.now quanta.now longest.now queue steps.old steps.new }
+    ensures refused { IfErr result (λ fault.
+        DrrRefused beta.now quanta.now longest.now queue fault (steps.new - steps.old)) }
     ensures value { IfOk result (λ c. IsDrrService (value_at beta.now) quanta.now longest.now queue (value_at c)) }
     ensures least { steps.old + 1 ≤ steps.new }
     ensures most { steps.new ≤ steps.old + 2 }

@@ -10,7 +10,7 @@ ghost use Rattle.edit_store.specs.Applied.{Gives, IsPlanned, IsUnplanned};
 use crate::faults::graph_fault;
 use crate::site::{edits_are_made_at_one_site, edits_have_one_site, site_of};
 use cell_rules::{Site, cells_of, gone_cells, touched_cells};
-use net_cells::{Cell, cells};
+use net_cells::Cell;
 use net_edits::{EditFault, edited_network};
 use net_graph::order;
 use net_model::{Edit, Network};
@@ -73,9 +73,8 @@ fn touched_by(
     ensures few { IfOk result (λ touched. length touched.items ≤ 36352) }
 {
     edits_have_one_site();
-    let all = cells(alloc, net, order)?;
     let site = site_of(old, edit);
-    let touched = touched_cells(alloc, old, net, site, &all)?;
+    let touched = touched_cells(alloc, old, net, site, order)?;
     Ok(touched)
 }
 

@@ -1,5 +1,5 @@
 -- A copy of an operand's window bends nowhere between the times of the grid.
-use Rattle.std.specs.Prelude.{◌≡◌, pos, List}
+use Rattle.std.specs.Prelude.{◌≡◌, pos, List, ◌∷◌}
 use Rattle.std.proofs.Common.{arith, sym, ap, ap₂, ◌∙◌, refl, subst, inl, inr}
 use Rattle.rational.specs.Rational.{ℚ, ◌+ℚ◌, ◌-ℚ◌, ◌≤ℚ◌, ◌<ℚ◌, int}
 use Rattle.rational.specs.Extended.{Ext, ◌≤ₑ◌, ◌+ₑ◌}
@@ -17,7 +17,7 @@ use Rattle.affine_segment.specs.Reading.{read}
 use Rattle.affine_segment.proofs.ElementValues.{value_in, value_cases}
 use Rattle.upp_limits.specs.Limits.{Sizes}
 use Rattle.upp_limits.specs.Sized.{times_largest}
-use Rattle.upp_normal.specs.Operand.{OperandPieces}
+use Rattle.element_envelope.specs.ConvolutionWindows.{WindowPieces}
 use Rattle.upp_normal.proofs.AnswerRoom.{more_largest}
 use Rattle.element_envelope.specs.Arches.{IsAround, Arches}
 use Rattle.element_envelope.specs.PieceElements.{elements_of, Among}
@@ -25,10 +25,11 @@ use Rattle.element_envelope.specs.ElementRoom.{WindowTime, WindowEnd, OperandEle
 use Rattle.element_envelope.proofs.Arching.{around_low, infinite_middle, element_arches}
 use Rattle.element_envelope.proofs.Cover.{cover}
 use Rattle.element_envelope.proofs.CopyReads.{copy_pieces, copy_before, copy_after}
-use Rattle.element_envelope.proofs.OperandElements.{elements_stand}
+use Rattle.element_envelope.proofs.Rests.{EndsIn}
+use Rattle.element_envelope.proofs.OperandElements.{window_elements_stand}
 use Rattle.element_envelope.proofs.WindowConvolution.{endless}
 
--- ---- an operand
+-- ---- a window
 sum_time : (z : Sizes) (end t : ℚ) → WindowTime z end t → SumTime z end t
 sum_time z end t T = record { whole = T.whole; nonneg = T.nonneg; early = twice t end T.nonneg T.early }
   where
@@ -54,7 +55,7 @@ sum_element z end (Open from to l) E = record {
   };
 }
 
-operand_arches : (z : Sizes) (end last : ℚ) (g : List Piece) → OperandPieces z end g → Arches z.dt last (read g)
+operand_arches : (z : Sizes) (end last : ℚ) (g : List Piece) → WindowPieces z end g → Arches z.dt last (read g)
 operand_arches z end last g G low high y h A = by (read g y) refl
   where
     below : (e : Element) → Among e (elements_of g Inf) → (t : ℚ) → read g t ≤ₑ element_value e t
@@ -74,7 +75,7 @@ operand_arches z end last g G low high y h A = by (read g y) refl
         le_ext_trans (read g (y -ℚ h) +ₑ read g (y +ℚ h)) (element_value m (y -ℚ h) +ₑ element_value m (y +ℚ h)) (read g y +ₑ read g y)
         (add_le_ext (read g (y -ℚ h)) (element_value m (y -ℚ h)) (read g (y +ℚ h)) (element_value m (y +ℚ h)) (below m d.among (y -ℚ h)) (below m d.among (y +ℚ h)))
         (subst (λ w. element_value m (y -ℚ h) +ₑ element_value m (y +ℚ h) ≤ₑ w +ₑ w) (sym here)
-        (element_arches z end last m (sum_element z end m (elements_stand z end g Inf m G tt d.among)) low high y h A))
+        (element_arches z end last m (sum_element z end m (window_elements_stand z end g Inf m G tt d.among)) low high y h A))
 
 -- ---- the copy
 regroup : (a b : Ext) (v : ℚ) → (a +ₑ Fin v) +ₑ (b +ₑ Fin v) ≡ (a +ₑ b) +ₑ Fin (v +ℚ v)
@@ -110,37 +111,41 @@ around_moved z end low high y h x on nonneg first A = record {
     moved_after : (high x y h : ℚ) → y +ℚ h <ℚ high → y -ℚ x +ℚ h <ℚ high -ℚ x
     moved_after high x y h a = with4 high x y h (λ c. omega (arith, c.le, c.lt, c.same))
 
-pub copy_arches : (z : Sizes) (end x v : ℚ) (g : List Piece) → WindowTime z end x → OperandPieces z end g → Arches z.dt end (read (copy_pieces x v g))
-copy_arches z end x v g X G low high y h A = elim (le_or_lt x low) [
+pub copy_arches : (z : Sizes) (end x v : ℚ) (g : List Piece) (p : Piece) (ps : List Piece) → WindowTime z end x → Whole z.dt p.x → WindowPieces z end g → EndsIn g p ps
+    → Arches z.dt end (read (copy_pieces x v (p ∷ ps)))
+copy_arches z end x v g p ps X on G E low high y h A = elim (le_or_lt (p.x +ℚ x) low) [
   | inl k ↦
       let some = A.some in
       let b = around_low z.dt end low high y h A in
-      let left = at_most low x (y -ℚ h) k A.before in
-      let mid = at_most low x y k b.0 in
-      let right = at_most low x (y +ℚ h) k (further low y h b.0 some) in
-      let inner = operand_arches z end end g G (low -ℚ x) (high -ℚ x) (y -ℚ x) h (around_moved z end low high y h x X.whole X.nonneg k A) in
+      let left = at_most low (p.x +ℚ x) (y -ℚ h) k A.before in
+      let mid = at_most low (p.x +ℚ x) y k b.0 in
+      let right = at_most low (p.x +ℚ x) (y +ℚ h) k (further low y h b.0 some) in
+      let inner = operand_arches z end end g G (low -ℚ x) (high -ℚ x) (y -ℚ x) h (around_moved z end low high y h x X.whole X.nonneg (le_trans (sooner p.x x E.nonneg) k) A) in
       let before : read W (y -ℚ h) ≡ read g (y -ℚ x -ℚ h) +ₑ Fin v = at left ∙ ap (λ t. read g t +ₑ Fin v) (swap_less y h x) in
       let after : read W (y +ℚ h) ≡ read g (y -ℚ x +ℚ h) +ₑ Fin v = at right ∙ ap (λ t. read g t +ₑ Fin v) (swap_more y h x) in
-      let p = read g (y -ℚ x -ℚ h) in
+      let a = read g (y -ℚ x -ℚ h) in
       let q = read g (y -ℚ x +ℚ h) in
       let r = read g (y -ℚ x) in
-      subst (λ w. w ≤ₑ read W y +ₑ read W y) (sym (ap₂ (λ (s t : Ext). s +ₑ t) before after ∙ regroup p q v))
-      (subst (λ w. (p +ₑ q) +ₑ Fin (v +ℚ v) ≤ₑ w) (sym (ap₂ (λ (s t : Ext). s +ₑ t) (at mid) (at mid) ∙ regroup r r v))
-      (add_le_ext (p +ₑ q) (r +ₑ r) (Fin (v +ℚ v)) (Fin (v +ℚ v)) inner (le_ext_refl (Fin (v +ℚ v)))))
+      subst (λ w. w ≤ₑ read W y +ₑ read W y) (sym (ap₂ (λ (s t : Ext). s +ₑ t) before after ∙ regroup a q v))
+      (subst (λ w. (a +ₑ q) +ₑ Fin (v +ℚ v) ≤ₑ w) (sym (ap₂ (λ (s t : Ext). s +ₑ t) (at mid) (at mid) ∙ regroup r r v))
+      (add_le_ext (a +ₑ q) (r +ₑ r) (Fin (v +ℚ v)) (Fin (v +ℚ v)) inner (le_ext_refl (Fin (v +ℚ v)))))
   | inr k ↦
       let b = around_low z.dt end low high y h A in
       infinite_middle (read W (y -ℚ h) +ₑ read W (y +ℚ h)) (read W y)
-      (copy_before x v g y G.starts (le_trans A.nonneg (le_of_lt b.0)) (elim (le_or_lt x y) [
-        | inl l ↦ absurd (A.bare x k (le_lt_trans l b.1) X.whole)
+      (copy_before x v g p ps y E (le_trans A.nonneg (le_of_lt b.0)) (elim (le_or_lt (p.x +ℚ x) y) [
+        | inl l ↦ absurd (A.bare (p.x +ℚ x) k (le_lt_trans l b.1) (whole_add z.dt p.x x on X.whole))
         | inr l ↦ l
       ]))
 ]
   where
     W : List Piece
-    W = copy_pieces x v g
+    W = copy_pieces x v (p ∷ ps)
 
-    at : {t : ℚ} → x ≤ℚ t → read W t ≡ read g (t -ℚ x) +ₑ Fin v
-    at {t} l = copy_after x v g t G.starts (le_trans X.nonneg l) l
+    sooner : (p x : ℚ) → int (pos 0) ≤ℚ p → x ≤ℚ p +ℚ x
+    sooner p x h = with2 p x (λ c. omega (arith, c.le, c.lt, c.same))
+
+    at : {t : ℚ} → p.x +ℚ x ≤ℚ t → read W t ≡ read g (t -ℚ x) +ₑ Fin v
+    at {t} l = copy_after x v g p ps t E (le_trans X.nonneg (le_trans (sooner p.x x E.nonneg) l)) l
 
     at_most : (low x t : ℚ) → x ≤ℚ low → low <ℚ t → x ≤ℚ t
     at_most low x t a b = le_trans a (le_of_lt b)

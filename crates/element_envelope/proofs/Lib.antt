@@ -15,9 +15,12 @@ pub mod ArchBends
 pub mod SumRoom
 pub mod StartSplits
 pub mod LeastCopies
+pub mod Rests
 pub mod CopyReads
 pub mod CopyArches
 pub mod CopyWindows
 pub mod StartTests
 pub mod StartTurns
+pub mod Growth
+pub mod NearCopies
 pub mod LimitSplits

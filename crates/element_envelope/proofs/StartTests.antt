@@ -10,7 +10,7 @@ use Rattle.affine_segment.specs.declared.line.Piece.{Piece}
 use Rattle.affine_segment.specs.Values.{line_at, line_value}
 use Rattle.element_envelope.specs.Turnings.{BendsDown, IsThinned}
 
-is_false : (b : Bool) → IsTrue (not b) → b ≡ false
+pub is_false : (b : Bool) → IsTrue (not b) → b ≡ false
 is_false true h = absurd (true≢false (sym h))
 is_false false h = refl
 

@@ -10,6 +10,8 @@ pub mod Arches
 pub mod EnvelopeWindows
 pub mod ConvolutionWindows
 pub mod Copies
+pub mod CopyPieces
 pub mod CopyWindows
 pub mod Turnings
 pub mod LimitCopies
+pub mod NearStarts

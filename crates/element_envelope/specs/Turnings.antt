@@ -11,6 +11,7 @@ use Rattle.affine_segment.specs.Reading.{read}
 use Rattle.affine_segment.specs.Values.{line_at}
 use Rattle.min_plus.specs.Convolution.{IsConvolution}
 use Rattle.element_envelope.specs.Copies.{IsLeastCopy, LowAtStarts}
+use Rattle.element_envelope.specs.CopyWindows.{IsCopyWindow}
 
 -- a piece continues the line before it, with a smaller slope
 pub record BendsDown (before : Option Line) (p : Piece) : Type 0 where
@@ -35,3 +36,9 @@ TurnsSuffice =
     (f g left right : List Piece) (t : ℚ) (v w : Ext) → StartsAtZero f → StartsAtZero g → LowAtStarts f → LowAtStarts g
     → IsThinned None f left → IsThinned None g right → int (pos 0) ≤ℚ t → IsLeastCopy left g t v
     → IsLeastCopy right f t w → IsConvolution (read f) (read g) t (min_ext v w)
+
+-- pieces that read as the least of the copies of g at those starts of f that are left
+pub record AreCopies (from end : ℚ) (f g ws : List Piece) : Type 0 where
+  pub starts : List Piece
+  pub is : IsThinned None f starts
+  pub window : IsCopyWindow from end starts g ws

@@ -2,45 +2,119 @@
 
 ghost use Rattle.std.specs.Prelude.{IfOk};
 ghost use Rattle.element_envelope.specs.ConvolutionWindows.{OperandWindows, IsConvolutionWindow};
+ghost use Rattle.element_envelope.specs.ConvolutionWindows.{WindowsFrom, IsConvolutionFrom};
 ghost use Rattle.element_envelope.specs.Copies.{LowAtStarts};
+ghost use Rattle.element_envelope.specs.CopyWindows.{CopyRoom, IsCopyWindow};
+ghost use Rattle.element_envelope.specs.Turnings.{AreCopies};
 
 use crate::copies::least_copies;
 use crate::cutting::cut;
 use crate::least::{envelope, lower_joined};
+use crate::near::{near_starts, steepest};
 use crate::starts::{are_low_at_starts, turning_starts};
 use affine_segment::Piece;
 use fraction128::Frac;
 use rational::Extended;
 use std::alloc::{AllocError, Global};
 
-// By the copies of each at those starts of the other at which that does not bend downwards.
-fn by_starts(alloc: Global, f: &[Piece], g: &[Piece], end: Frac) -> Result<Vec<Piece>, AllocError>
-    requires windows { OperandWindows end f.now g.now }
-    requires left { LowAtStarts f.now }
-    requires right { LowAtStarts g.now }
-    ensures { IfOk result (λ v. IsConvolutionWindow f.now g.now end v.items) }
+// The least of the copies of g at some starts, of which those are left out that are so far above the first one that their
+// copies are nowhere below its copy.
+fn near_copies(
+    alloc: Global,
+    starts: &[Piece],
+    g: &[Piece],
+    from: Frac,
+    end: Frac,
+) -> Result<Vec<Piece>, AllocError>
+    requires room { CopyRoom from end starts.now g.now }
+    requires low { LowAtStarts g.now }
+    ensures { IfOk result (λ v. IsCopyWindow from end starts.now g.now v.items) }
+{
+    if starts.len() == 0 {
+        return least_copies(alloc, starts, g, from, end);
+    }
+    let Some(slope) = steepest(g) else {
+        return least_copies(alloc, starts, g, from, end);
+    };
+    let near = near_starts(alloc, &starts[0], starts, slope)?;
+    least_copies(alloc, &near, g, from, end)
+}
+
+// The least of the copies of g at those starts of f that count.
+fn copies_at(
+    alloc: Global,
+    f: &[Piece],
+    g: &[Piece],
+    from: Frac,
+    end: Frac,
+) -> Result<Vec<Piece>, AllocError>
+    requires windows { WindowsFrom from end f.now g.now }
+    requires low { LowAtStarts g.now }
+    ensures { IfOk result (λ v. AreCopies from end f.now g.now v.items) }
 {
     let starts = turning_starts(alloc, f)?;
-    let left = least_copies(alloc, &starts, g, end)?;
-    let others = turning_starts(alloc, g)?;
-    let right = least_copies(alloc, &others, f, end)?;
+    near_copies(alloc, &starts, g, from, end)
+}
+
+// By the copies of each at those starts of the other that count.
+fn by_starts(
+    alloc: Global,
+    f: &[Piece],
+    g: &[Piece],
+    from: Frac,
+    end: Frac,
+) -> Result<Vec<Piece>, AllocError>
+    requires windows { WindowsFrom from end f.now g.now }
+    requires left { LowAtStarts f.now }
+    requires right { LowAtStarts g.now }
+    ensures { IfOk result (λ v. IsConvolutionFrom f.now g.now from end v.items) }
+{
+    let left = copies_at(alloc, f, g, from, end)?;
+    let right = copies_at(alloc, g, f, from, end)?;
     lower_joined(alloc, &left, &right, end)
 }
 
-// By all pairs of their elements.
-fn by_pairs(alloc: Global, f: &[Piece], g: &[Piece], end: Frac) -> Result<Vec<Piece>, AllocError>
-    requires { OperandWindows end f.now g.now }
-    ensures { IfOk result (λ v. IsConvolutionWindow f.now g.now end v.items) }
+// By all pairs of their elements, from 0 on.
+fn by_pairs(
+    alloc: Global,
+    f: &[Piece],
+    g: &[Piece],
+    from: Frac,
+    end: Frac,
+) -> Result<Vec<Piece>, AllocError>
+    requires { WindowsFrom from end f.now g.now }
+    ensures { IfOk result (λ v. IsConvolutionFrom f.now g.now from end v.items) }
 {
     let xs = cut(alloc, f, Extended::Inf)?;
     let ys = cut(alloc, g, Extended::Inf)?;
     envelope(alloc, &xs, &ys, end)
 }
 
+/// The convolution of two windows, at each time from `from` on and before `end`, as pieces. Are both nowhere above the
+/// limits beside a start, then it is made from the copies of each at the starts of the other at which that does not bend
+/// downwards, and of these the pieces that are over before `from` are left out; else it is made from all pairs of their
+/// elements. Only a lack of memory is an error.
+pub fn window_convolution_from(
+    alloc: Global,
+    f: &[Piece],
+    g: &[Piece],
+    from: Frac,
+    end: Frac,
+) -> Result<Vec<Piece>, AllocError>
+    requires { WindowsFrom from end f.now g.now }
+    ensures { IfOk result (λ v. IsConvolutionFrom f.now g.now from end v.items) }
+{
+    if !are_low_at_starts(f) {
+        return by_pairs(alloc, f, g, from, end);
+    }
+    if !are_low_at_starts(g) {
+        return by_pairs(alloc, f, g, from, end);
+    }
+    by_starts(alloc, f, g, from, end)
+}
+
 /// The convolution of two operands, at each time from 0 on and before `end`, as pieces, from the operands' unrolled
-/// pieces below `end`. Are both nowhere above the limits beside a start, then it is made from the copies of each at the
-/// starts of the other at which that does not bend downwards; else from all pairs of their elements. Only a lack of
-/// memory is an error.
+/// pieces below `end`; made as `window_convolution_from` makes it. Only a lack of memory is an error.
 pub fn window_convolution(
     alloc: Global,
     f: &[Piece],
@@ -50,11 +124,5 @@ pub fn window_convolution(
     requires { OperandWindows end f.now g.now }
     ensures { IfOk result (λ v. IsConvolutionWindow f.now g.now end v.items) }
 {
-    if !are_low_at_starts(f) {
-        return by_pairs(alloc, f, g, end);
-    }
-    if !are_low_at_starts(g) {
-        return by_pairs(alloc, f, g, end);
-    }
-    by_starts(alloc, f, g, end)
+    window_convolution_from(alloc, f, g, Frac::zero(), end)
 }

@@ -8,17 +8,30 @@ ghost use Rattle.upp_curve.specs.Fitting.{LaterFits};
 ghost use Rattle.upp_curve.specs.Unrolled.{each_later, upto};
 ghost use Rattle.element_envelope.specs.JoinedWindows.{lead_of};
 ghost use Rattle.element_envelope.specs.CopyWindows.{CopyRoom, IsCopyWindow};
+ghost use Rattle.element_envelope.specs.CopyPieces.{copy_start, skipped};
 
 use crate::least::{lower_joined, nothing};
 use crate::window::lead;
 use affine_segment::Piece;
-use fraction128::{Frac, difference, is_less};
+use fraction128::{Frac, difference, is_less, sum};
 use rational::Extended;
 use std::alloc::{AllocError, Global};
 use upp_curve::fitting::later;
+use upp_normal::count_before;
 
-// The pieces x later and v higher, of those that then start before `end`; infinite before x.
-fn copy_from(
+// Where the first of some pieces starts when it is moved x later; x where there is none.
+fn copy_start(x: Frac, pieces: &[Piece]) -> Frac
+    requires { Each (λ p. SumFits p.x x) pieces.now }
+    ensures { result ≡ copy_start x pieces.now }
+{
+    match pieces.first() {
+        Some(p) => sum(p.x, x),
+        None => x,
+    }
+}
+
+// The pieces x later and v higher, of those that then start before `end`; infinite before the first.
+fn copy_of(
     alloc: Global,
     x: Frac,
     v: Frac,
@@ -27,10 +40,10 @@ fn copy_from(
 ) -> Result<Vec<Piece>, AllocError>
     requires fits { Each (LaterFits x v) pieces.now }
     requires left { SumFits end (neg_ℚ x) }
-    ensures { IfOk result (λ w. w.items ≡ lead_of x ++ upto end (each_later x v pieces.now)) }
+    ensures { IfOk result (λ w. w.items ≡ lead_of (copy_start x pieces.now) ++ upto end (each_later x v pieces.now)) }
 {
     let left = difference(end, x);
-    let mut copy = lead(alloc, x)?;
+    let mut copy = lead(alloc, copy_start(x, pieces))?;
     for p in pieces {
         if !is_less(p.x, left) {
             return Ok(copy);
@@ -40,41 +53,54 @@ fn copy_from(
     Ok(copy)
 }
 
-// The copy at the start of one piece.
+// How many of the pieces are over before `from` when they are moved x later.
+fn skipped(x: Frac, pieces: &[Piece], from: Frac) -> usize
+    requires { SumFits from (neg_ℚ x) }
+    ensures { result ≡ skipped (from -ℚ x) pieces.now }
+{
+    count_before(pieces, difference(from, x)).saturating_sub(1)
+}
+
+// The copy at the start of one piece, without the pieces that are over before `from`.
 fn copy_window(
     alloc: Global,
     start: &Piece,
     pieces: &[Piece],
+    from: Frac,
     end: Frac,
 ) -> Result<Vec<Piece>, AllocError>
-    requires { CopyRoom end (start.now ∷ []) pieces.now }
-    ensures { IfOk result (λ w. IsCopyWindow end (start.now ∷ []) pieces.now w.items) }
+    requires { CopyRoom from end (start.now ∷ []) pieces.now }
+    ensures { IfOk result (λ w. IsCopyWindow from end (start.now ∷ []) pieces.now w.items) }
 {
     match start.at {
         Extended::Inf => nothing(alloc),
-        Extended::Fin(v) => copy_from(alloc, start.x, v, pieces, end),
+        Extended::Fin(v) => {
+            let (_, late) = pieces.split_at(skipped(start.x, pieces, from));
+            copy_of(alloc, start.x, v, late, end)
+        }
     }
 }
 
-/// The least of the copies of pieces at the starts of others, at each time from 0 on and before `end`, as pieces. The
-/// starts are halved. Only a lack of memory is an error.
+/// The least of the copies of pieces at the starts of others, at each time from `from` on and before `end`, as pieces.
+/// The starts are halved. Only a lack of memory is an error.
 pub(crate) fn least_copies(
     alloc: Global,
     starts: &[Piece],
     pieces: &[Piece],
+    from: Frac,
     end: Frac,
 ) -> Result<Vec<Piece>, AllocError>
-    requires { CopyRoom end starts.now pieces.now }
-    ensures { IfOk result (λ w. IsCopyWindow end starts.now pieces.now w.items) }
+    requires { CopyRoom from end starts.now pieces.now }
+    ensures { IfOk result (λ w. IsCopyWindow from end starts.now pieces.now w.items) }
 {
     if starts.len() == 0 {
         return nothing(alloc);
     }
     if starts.len() > 1 {
         let (front, back) = starts.split_at(starts.len() / 2);
-        let f = least_copies(alloc, front, pieces, end)?;
-        let g = least_copies(alloc, back, pieces, end)?;
+        let f = least_copies(alloc, front, pieces, from, end)?;
+        let g = least_copies(alloc, back, pieces, from, end)?;
         return lower_joined(alloc, &f, &g, end);
     }
-    copy_window(alloc, &starts[0], pieces, end)
+    copy_window(alloc, &starts[0], pieces, from, end)
 }

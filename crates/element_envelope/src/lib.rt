@@ -6,11 +6,12 @@ mod copies;
 mod cutting;
 pub mod laws;
 mod least;
+mod near;
 mod pair;
 mod starts;
 mod window;
 
-pub use convolved::window_convolution;
+pub use convolved::{window_convolution, window_convolution_from};
 pub use cutting::cut;
 pub use least::envelope;
 pub use pair::joined;

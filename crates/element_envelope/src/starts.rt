@@ -6,7 +6,7 @@ ghost use Rattle.rational.specs.Extended.{◌≤ₑ◌};
 ghost use Rattle.affine_segment.specs.Values.{line_at, line_value};
 ghost use Rattle.affine_segment.specs.Fits.{LineFits, LineFitsAt};
 ghost use Rattle.element_envelope.specs.Copies.{LowAtStarts};
-ghost use Rattle.element_envelope.specs.CopyWindows.{HaveOperandRoom};
+ghost use Rattle.element_envelope.specs.CopyWindows.{HaveWindowRoom};
 ghost use Rattle.element_envelope.specs.Turnings.{BendsDown, IsThinned};
 
 use affine_segment::{Line, Piece, value};
@@ -30,7 +30,7 @@ fn is_below(v: Ext, line: &Option<Line>, x: Frac) -> bool
 
 /// Whether the value at each start is at most the limits before and after it.
 pub(crate) fn are_low_at_starts(pieces: &[Piece]) -> bool
-    requires { (end : ℚ) × HaveOperandRoom end pieces.now }
+    requires { (end : ℚ) × HaveWindowRoom end pieces.now }
     ensures { IsTrue result → LowAtStarts pieces.now }
 {
     let mut before = None;
@@ -91,7 +91,7 @@ fn bends_down(before: &Option<Line>, p: &Piece) -> bool
 
 /// The pieces that do not bend downwards where they start.
 pub(crate) fn turning_starts(alloc: Global, pieces: &[Piece]) -> Result<Vec<Piece>, AllocError>
-    requires { (end : ℚ) × HaveOperandRoom end pieces.now }
+    requires { (end : ℚ) × HaveWindowRoom end pieces.now }
     ensures { IfOk result (λ v. IsThinned None pieces.now v.items) }
 {
     let mut kept = Vec::new(alloc);

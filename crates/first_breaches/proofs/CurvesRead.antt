@@ -18,7 +18,7 @@ use Rattle.watch_laws.specs.declared.entering.Entering.{Entering}
 use Rattle.watch_laws.specs.Entries.{entries, entering}
 use Rattle.watch_laws.specs.MarkSizes.{IsTime}
 use Rattle.watch_laws.proofs.Crowds.{times_rise}
-use Rattle.run_watch.specs.Flows.{FlowReads}
+use Rattle.run_watch.specs.flow_watch.specs.Flows.{FlowReads}
 use Rattle.run_watch.specs.FirstOf.{EnterInOrder}
 use Rattle.run_watch.proofs.HeldSizes.{length_time, times_differ}
 use Rattle.run_watch.proofs.NearWindows.{limited_to}

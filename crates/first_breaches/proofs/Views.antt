@@ -42,7 +42,7 @@ use Rattle.run_watch.specs.declared.span.Span.{Span}
 use Rattle.run_watch.specs.declared.watched.Watched.{Watched}
 use Rattle.run_watch.specs.Ramps.{as_span, amount, TakeTime, ramps_after, RampsFit, EachRamp, spans_of}
 use Rattle.run_watch.specs.Seen.{arrival_spans, work_spans, works_at, arrivals_at, AreFirsts}
-use Rattle.run_watch.specs.Watching.{Sees, TimesRise}
+use Rattle.run_watch.specs.Watching.{Sees, RiseFrom}
 use Rattle.run_watch.specs.Held.{IsHeldRamp, IsHeld, IsSightOf}
 use Rattle.run_watch.proofs.HeldSizes.{times_differ}
 use Rattle.run_watch.proofs.RampLists.{clip_past, pace_is, spans_are}
@@ -327,7 +327,7 @@ held_by z server end V w c A P S is stands =
       };
       time = subst TakeTime (sym (ap spans_of S.works ∙ spans_are (int (pos 0)) (work_spans V))) (works_take_time server end V L);
       leaves = subst (λ t. EachTime (IsTime z t) w.leaves.items) e (subst (EachTime (IsTime z end)) (sym S.leaves) P.leaves);
-      rise = subst (TimesRise (int (pos 0))) (sym S.leaves) (leaves_rise server end V L);
+      rise = subst (RiseFrom (int (pos 0))) (sym S.leaves) (leaves_rise server end V L);
     }
 
 pub watchable : (net : Net) (run : SpecRun) (firsts : List ℕ) (s : ℕ) (z : Sizes) → IsLawful (routes_of net) run → RunStands z net run → AreFirsts (routes_of net) firsts → s < length net.servers → IsWatchable net run firsts s

@@ -1,12 +1,13 @@
 //! The analysis of a network by the program's evaluator.
 
-ghost use Rattle.std.specs.Prelude.{◌≡◌, ◌+◌, ◌≤◌, sum_by, IfOk, IfErr, OnOk};
+ghost use Rattle.std.specs.Prelude.{◌≡◌, ◌+◌, ◌-◌, ◌≤◌, sum_by, IfOk, IfErr, OnOk};
 ghost use Rattle.net_model.specs.Orders.{IsOrder};
 ghost use Rattle.net_cells.specs.Equations.{MeetsEquations};
 ghost use Rattle.net_cells.specs.FirstOver.{AnswersAll, FirstOver};
 ghost use Rattle.net_cells.specs.Order.{evaluation_order};
 ghost use Rattle.net_cells.specs.Work.{work};
-ghost use Rattle.flow_analysis.specs.Analyses.{HasNothingElse, IsRefusal};
+ghost use Rattle.net_cells.specs.MemoryEnds.{MemoryEnds};
+ghost use Rattle.flow_analysis.specs.Analyses.{HasNothingElse, IsRefusal, WantsMemory};
 
 use crate::in_order::analysed_in_order;
 use cell_eval::Counted;
@@ -18,8 +19,8 @@ use steps::Steps;
 
 /// The values of all cells of a network, by the order of its servers; each is made once, after those that it is made
 /// of. Refused for the first cell with an operator over a limit, and then the fault names it and which limit that is,
-/// or where there is no memory. Each operator on curves that is applied raises `steps` by 1: on success by the work of
-/// all cells, and by no more than that where it is refused.
+/// or where there is no memory, and then each operator that is counted is within its limits. Each operator on curves that
+/// is applied raises `steps` by 1: on success by the work of all cells, and by no more than that where it is refused.
 pub fn analyse<L: Ledger>(
     alloc: Global,
     net: &Network,
@@ -33,6 +34,8 @@ pub fn analyse<L: Ledger>(
     ensures nothing { IfOk result (λ t. HasNothingElse (⟦<Analysis<Value> as Table<Value>>⟧.at t)
         (evaluation_order net.now order.now)) }
     ensures refused { IfErr result (IsRefusal (FirstOver net.now order.now)) }
+    ensures memory { IfErr result (WantsMemory
+        (MemoryEnds net.now (evaluation_order net.now order.now) (steps.new - steps.old))) }
     ensures exact { OnOk result (steps.new ≡ steps.old + sum_by (work net.now) (evaluation_order net.now order.now)) }
     ensures rises { steps.old ≤ steps.new }
     ensures within { steps.new ≤ steps.old + sum_by (work net.now) (evaluation_order net.now order.now) }

@@ -1,12 +1,13 @@
 //! All cells, by an order of the servers.
 
-ghost use Rattle.std.specs.Prelude.{◌≡◌, ◌+◌, ◌≤◌, sum_by, IfOk, IfErr, OnOk};
+ghost use Rattle.std.specs.Prelude.{◌≡◌, ◌+◌, ◌-◌, ◌≤◌, sum_by, IfOk, IfErr, OnOk};
 ghost use Rattle.net_model.specs.Orders.{IsOrder};
 ghost use Rattle.net_cells.specs.Equations.{MeetsEquations};
 ghost use Rattle.net_cells.specs.FirstOver.{AnswersAll, FirstOver};
 ghost use Rattle.net_cells.specs.Order.{evaluation_order};
 ghost use Rattle.net_cells.specs.Work.{work};
-ghost use Rattle.flow_analysis.specs.Analyses.{HasNothingElse, IsRefusal};
+ghost use Rattle.net_cells.specs.MemoryEnds.{MemoryEnds};
+ghost use Rattle.flow_analysis.specs.Analyses.{HasNothingElse, IsRefusal, WantsMemory};
 
 use crate::each_cell::analysed;
 use cell_table::{Analysis, AnalysisFault, CellValue, Evaluator, Table};
@@ -16,7 +17,8 @@ use std::alloc::Global;
 
 /// The values of all cells of a network, by the order of its servers; each is made once, after those that it is made
 /// of. Refused for the first cell with an operator over a limit, and then the fault names it and which limit that is,
-/// or where there is no memory. It counts the work of all cells, and no more than that where it is refused.
+/// or where there is no memory, and then each operator that is counted is within its limits. It counts the work of all
+/// cells, and no more than that where it is refused.
 pub fn analysed_in_order<V: CellValue + Drop, E: Evaluator<V>>(
     alloc: Global,
     net: &Network,
@@ -30,6 +32,8 @@ pub fn analysed_in_order<V: CellValue + Drop, E: Evaluator<V>>(
     ensures nothing { IfOk result (λ t. HasNothingElse (⟦<Analysis<V> as Table<V>>⟧.at t)
         (evaluation_order net.now order.now)) }
     ensures refused { IfErr result (IsRefusal (FirstOver net.now order.now)) }
+    ensures memory { IfErr result (WantsMemory
+        (MemoryEnds net.now (evaluation_order net.now order.now) (E.count eval.new - E.count eval.old))) }
     ensures exact { OnOk result
         (E.count eval.new ≡ E.count eval.old + sum_by (work net.now) (evaluation_order net.now order.now)) }
     ensures rises { E.count eval.old ≤ E.count eval.new }

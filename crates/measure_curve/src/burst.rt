@@ -1,6 +1,6 @@
 //! The least bucket of a rate above a curve.
 
-ghost use Rattle.std.specs.Prelude.{◌≡◌, ◌+◌, ◌≤◌, IfOk, OnOk};
+ghost use Rattle.std.specs.Prelude.{◌≡◌, ◌+◌, ◌≤◌, Err, IfOk, OnOk};
 ghost use Rattle.rational.specs.Rational.{◌≤ℚ◌};
 ghost use Rattle.rational.specs.declared.Extended.TheVariants as extended;
 ghost use Rattle.min_plus.specs.Functions.{zero_q, IsFinite};
@@ -32,7 +32,8 @@ fn line_of(alloc: Global, rate: Frac) -> Result<Curve, AllocError>
 
 /// The least burst with which a bucket of this rate is nowhere below a curve that is a number at each time and stays
 /// below some number: the vertical deviation of the curve and of the line of that rate. One step is counted, where
-/// the line does not want memory. TooMany and TooWide are those of the vertical deviation.
+/// the line does not want memory; none where it does, and else there is no want of memory. TooMany and TooWide are those
+/// of the vertical deviation.
 pub fn least_burst<L: Ledger>(
     curve: &Curve,
     rate: Frac,
@@ -47,6 +48,7 @@ pub fn least_burst<L: Ledger>(
         IsVerticalDeviation (value_at curve.now) (value_at (bucket zero_q rate)) (extended.Fin b)) }
     ensures least { IfOk result (IsLeastBurst (value_at curve.now) rate) }
     ensures limits { KeepsBurstLimits curve.now rate result }
+    ensures memory { result ≡ Err OpFault.NoMemory → steps.new ≡ steps.old }
 {
     let line = line_of(curve.allocator(), rate)?;
     match vertical(curve, &line, steps)? {

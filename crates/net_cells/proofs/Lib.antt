@@ -9,6 +9,9 @@ pub mod Members
 pub mod Precedes
 pub mod Tables
 pub mod Works
+pub mod Placing
+pub mod OneOperator
+pub mod MemoryEnding
 pub mod Determined
 pub mod Growing
 pub mod Stored

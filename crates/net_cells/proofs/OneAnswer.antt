@@ -36,7 +36,7 @@ only_determined P one (Ok v) (Ok w) a b m n = ap Ok (one v w a b)
 only_determined P one (Ok v) (Err e) a b m n = absurd b
 only_determined P one (Err e) s a b m n = absurd a
 
-curve_determined : (P : Result SpecCurve OpFault → Type 0) → IsDetermined P → IsDetermined (MakesCurve P)
+pub curve_determined : (P : Result SpecCurve OpFault → Type 0) → IsDetermined P → IsDetermined (MakesCurve P)
 curve_determined P d (Ok (curve f)) (Ok (curve g)) a b m n =
     let same : Ok f ≡ Ok g = d (Ok f) (Ok g) a b (λ k. cc) (λ k. cc) in
     let one : f ≡ g = cc in
@@ -129,7 +129,7 @@ then_cells at cells Q q r s a b m n =
     q b.numbers r s (subst (λ xs. Q xs r) one a.answers) b.answers m n
 
 -- ---- formulas
-made_determined : (op : OpKind) (f g : SpecCurve) → IsDetermined (MakesCurve (Applies op f g))
+pub made_determined : (op : OpKind) (f g : SpecCurve) → IsDetermined (MakesCurve (Applies op f g))
 made_determined op f g = curve_determined (Applies op f g) (applies_determined.answer op f g)
 
 sum_onto_determined : (f : SpecCurve) (fs : List SpecCurve) → IsDetermined (SumsOnto f fs)

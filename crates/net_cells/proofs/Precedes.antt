@@ -120,7 +120,8 @@ sum_leaves F (c ∷ cs) d h = elim (sum_leaves (made Sum F (value_of c)) cs d h)
     one (inl e) = inl e
     one (inr n) = absurd n
 
-leaf_of_sum : (cs : List Cell) (d : Cell) → Has (leaves (sum_of_cells cs)) d → Has cs d
+-- what a sum of cells is made of is one of them
+pub leaf_of_sum : (cs : List Cell) (d : Cell) → Has (leaves (sum_of_cells cs)) d → Has cs d
 leaf_of_sum [] d h = absurd h
 leaf_of_sum (c ∷ cs) d h = elim (sum_leaves (value_of c) cs d h) [ inl l ↦ one l | inr r ↦ inr r ]
   where

@@ -11,6 +11,7 @@ use Rattle.net_cells.specs.Order.{evaluation_order}
 use Rattle.net_cells.specs.Formulas.{leaves}
 use Rattle.net_cells.specs.CellFormulas.{formula}
 use Rattle.net_cells.specs.Meanings.{CellTable}
+use Rattle.net_cells.specs.Answers.{Answers}
 use Rattle.net_cells.specs.Equations.{MeetsEquation}
 use Rattle.net_cells.specs.FirstOver.{IsAnswered, FirstOver}
 use Rattle.net_cells.specs.Laws.{TablesAgree, AnswersMeetEquations, FrontMeetsBelow, OneIsFirstOver}
@@ -108,26 +109,31 @@ front_meets_below net order at a o front back c is all = record {
 }
 
 -- ---- the first over a limit
--- a cell over a limit by the table of the cells before it has no answer by any table that is right on them
-over_answered : (net : Net) (order : List ℕ) (c : Cell) (fault : OpFault) (at : CellTable) → IsAccepted net
-    → IsOrder net order
+-- a cell over a limit by the table of the cells before it is so by any table that is right on them, and has no answer there
+pub over_by : (net : Net) (order : List ℕ) (c : Cell) (fault : OpFault) (at : CellTable) → IsAccepted net → IsOrder net order
     → (first : FirstOver net order c fault) → ((d : Cell) → Has first.before d → IsAnswered net at d)
-    → ¬ (IsAnswered net at c)
-over_answered net order c fault at a o first all answered =
+    → Answers at (formula net c) (Err fault)
+over_by net order c fault at a o first all =
     let same : AgreeOn first.before first.table at =
     agree_on net order first.table at first.before (c ∷ first.after) a o first.is
     (λ d h. answered_meets net first.table d (first.answered d (has_contains first.before d h)))
     (λ d h. answered_meets net at d (all d h)) in
     let read : AgreeOn (leaves (formula net c)) first.table at =
     λ d h. same d (leaf_in_front net order first.before c first.after d a o first.is h) in
-    let over = answers_same first.table at (formula net c) (Err fault) read first.over in
+    answers_same first.table at (formula net c) (Err fault) read first.over
+
+pub over_answered : (net : Net) (order : List ℕ) (c : Cell) (fault : OpFault) (at : CellTable) → IsAccepted net
+    → IsOrder net order
+    → (first : FirstOver net order c fault) → ((d : Cell) → Has first.before d → IsAnswered net at d)
+    → ¬ (IsAnswered net at c)
+over_answered net order c fault at a o first all answered =
     let bad : Err fault ≡ Ok answered.value =
-    answers_one at (formula net c) (Err fault) (Ok answered.value) over answered.answers
+    answers_one at (formula net c) (Err fault) (Ok answered.value) (over_by net order c fault at a o first all) answered.answers
     (λ k. first.limit (let one : fault ≡ NoMemory = cc in one)) (λ k. cc) in
     cc
 
 -- two places in one list: the same, or one after the other
-data Places (xs : List Cell) (c : Cell) (zs : List Cell) (d : Cell) : Type 0 where
+pub data Places (xs : List Cell) (c : Cell) (zs : List Cell) (d : Cell) : Type 0 where
   same : xs ≡ zs → c ≡ d → Places xs c zs d
   sooner : (us : List Cell) → zs ≡ xs ++ c ∷ us → Places xs c zs d
   later : (us : List Cell) → xs ≡ zs ++ d ∷ us → Places xs c zs d
@@ -138,7 +144,7 @@ onward x xs c zs d (same e f) = same (ap (λ (us : List Cell). x ∷ us) e) f
 onward x xs c zs d (sooner us e) = sooner us (ap (λ (vs : List Cell). x ∷ vs) e)
 onward x xs c zs d (later us e) = later us (ap (λ (vs : List Cell). x ∷ vs) e)
 
-places : (xs : List Cell) (c : Cell) (ys zs : List Cell) (d : Cell) (ws : List Cell) → xs ++ c ∷ ys ≡ zs ++ d ∷ ws
+pub places : (xs : List Cell) (c : Cell) (ys zs : List Cell) (d : Cell) (ws : List Cell) → xs ++ c ∷ ys ≡ zs ++ d ∷ ws
     → Places xs c zs d
 places [] c ys [] d ws e = same refl cc
 places [] c ys (z ∷ zs) d ws e = sooner zs (let head : c ≡ z = cc in ap (λ (x : Cell). x ∷ zs) (sym head))

@@ -25,7 +25,7 @@ more_terms : (F : Formula) (cs : List Cell) → operators (sum_from F cs) ≡ op
 more_terms F [] = omega arith
 more_terms F (c ∷ cs) = let h = more_terms (made Sum F (value_of c)) cs in omega (arith, h)
 
-terms : (cs : List Cell) → length cs - 1 ≡ operators (sum_of_cells cs)
+pub terms : (cs : List Cell) → length cs - 1 ≡ operators (sum_of_cells cs)
 terms [] = refl
 terms (c ∷ cs) = let h = more_terms (value_of c) cs in omega (arith, h)
 
@@ -33,7 +33,7 @@ visit_terms : (vs : List Visit) → length vs - 1 ≡ operators (sum_of_cells (m
 visit_terms vs = ap (λ (n : ℕ). n - 1) (sym (length-map vs (at_visit In))) ∙ terms (map (at_visit In) vs)
 
 -- ---- the parts of a queue
-part_terms : (net : Net) (k : ℕ) (v : Visit) (vs : List Visit) → operators (part_sum net k (v ∷ vs)) ≡ length vs + link_part k (v ∷ vs)
+pub part_terms : (net : Net) (k : ℕ) (v : Visit) (vs : List Visit) → operators (part_sum net k (v ∷ vs)) ≡ length vs + link_part k (v ∷ vs)
 part_terms net zero v vs = let h = visit_terms (v ∷ vs) in omega (arith, h)
 part_terms net (suc p) v vs = let h = visit_terms (v ∷ vs) in omega (arith, h)
 

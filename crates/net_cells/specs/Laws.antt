@@ -5,6 +5,7 @@ use Rattle.net_graph.specs.net_model.specs.Networks.{Net}
 use Rattle.net_graph.specs.net_model.specs.Accepted.{IsAccepted}
 use Rattle.net_graph.specs.net_model.specs.Orders.{IsOrder}
 use Rattle.residual_laws.specs.curve_call.specs.Determined.{IsDetermined}
+use Rattle.residual_laws.specs.InTurn.{IsPlaced}
 use Rattle.net_cells.specs.declared.cell.Cell.{Cell}
 use Rattle.net_cells.specs.Cells.{has_cell}
 use Rattle.net_cells.specs.Order.{evaluation_order}
@@ -13,6 +14,7 @@ use Rattle.net_cells.specs.CellFormulas.{formula}
 use Rattle.net_cells.specs.Meanings.{Meaning, CellTable}
 use Rattle.net_cells.specs.Means.{Means}
 use Rattle.net_cells.specs.Answers.{Answer, Answers}
+use Rattle.net_cells.specs.Refusals.{RefusedAt}
 use Rattle.net_cells.specs.Equations.{MeetsEquations, MeetsBelow}
 use Rattle.net_cells.specs.FirstOver.{AnswersAll, FirstOver}
 use Rattle.net_cells.specs.Work.{work}
@@ -59,6 +61,10 @@ pub record FormulasAreDetermined : Type 0 where
       → Means other F v
   pub answer_reads : (at other : CellTable) (F : Formula) (r : Answer) → AgreeAtLeaves F at other → Answers at F r
       → Answers other F r
+
+-- its refusals have places among its operators
+abbrev pub RefusalsArePlaced : Type 0
+RefusalsArePlaced = (at : CellTable) (F : Formula) → IsPlaced (RefusedAt at F) (Answers at F) (operators F)
 
 -- ---- tables
 -- two tables that meet the equations of a network have the same value at each of its cells

@@ -13,4 +13,6 @@ pub mod Answers
 pub mod Equations
 pub mod FirstOver
 pub mod Work
+pub mod Refusals
+pub mod MemoryEnds
 pub mod Laws

@@ -1,5 +1,7 @@
 ghost use Rattle.net_cells.specs.Laws.{OrderHasEachCell, OperandsComeFirst, OperandsAreCells, OperandsAreDifferent};
 ghost use Rattle.net_cells.specs.Laws.{FormulasAreDetermined, TablesAgree, AnswersMeetEquations, FrontMeetsBelow, OneIsFirstOver, WorkIsOperators};
+ghost use Rattle.net_cells.specs.Laws.{RefusalsArePlaced};
+ghost use Rattle.net_cells.specs.MemoryEnds.{MemoryEndsSooner};
 
 /// The order of the cells has exactly the cells of the network, each once.
 pub fn order_has_each_cell()
@@ -25,6 +27,17 @@ pub fn operands_are_different()
 /// its meaning. Both read the formula's own cells alone.
 pub fn formulas_are_determined()
     ensures { FormulasAreDetermined }
+{}
+
+/// Where the making of a formula's value is refused has a place among its operators. Want of memory has fewer of them
+/// counted than a limit of the same formula is at, so that no limit can be told so.
+pub fn refusals_are_placed()
+    ensures { RefusalsArePlaced }
+{}
+
+/// Where memory is wanting in an analysis, the operator that is over its limit, if there is one, is not counted yet.
+pub fn memory_ends_sooner()
+    ensures { MemoryEndsSooner }
 {}
 
 /// Two tables that meet the equations of a network agree on each of its cells. The network has an order of its servers:

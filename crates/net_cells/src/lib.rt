@@ -15,9 +15,9 @@ mod visit;
 pub use cell::{Cell, Kind, Scope};
 pub use effort::work;
 pub use laws::{
-    answers_meet_equations, formulas_are_determined, front_meets_below, one_is_first_over,
-    operands_are_cells, operands_are_different, operands_come_first, order_has_each_cell,
-    tables_agree, work_is_operators,
+    answers_meet_equations, formulas_are_determined, front_meets_below, memory_ends_sooner,
+    one_is_first_over, operands_are_cells, operands_are_different, operands_come_first,
+    order_has_each_cell, refusals_are_placed, tables_agree, work_is_operators,
 };
 pub use numbered::{
     hops, is_by_priority, levels, live_flow, queue_of_hop, queues, server, server_of_hop,

@@ -63,7 +63,8 @@ fn push_going_on(
     kind: Kind,
     here: &[Visit],
 ) -> Result<(), AllocError>
-    ensures { OnOk result (cells.new.items ≡ cells.old.items ++ map (at_visit kind) (visiting.going_on net.now here.now)) }
+    ensures { OnOk result
+        (cells.new.items ≡ cells.old.items ++ map (at_visit kind) (visiting.going_on net.now here.now)) }
 {
     for v in here {
         if goes_on(net, *v) {

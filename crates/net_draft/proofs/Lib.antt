@@ -5,6 +5,7 @@ pub mod Told
 pub mod Each
 pub mod QuantaKept
 pub mod CurveMade
+pub mod OverNone
 pub mod Named
 pub mod HopParts
 pub mod Fitting

@@ -35,3 +35,7 @@ CurveAnswers (Listed pieces tail use_as) = KeepsListed pieces tail use_as
 abbrev pub IsMade : CurveText → Result SpecCurve OverLimit → Type 0
 IsMade text (Ok made) = CurveAnswers text (Ok made)
 IsMade text (Err limit) = CurveAnswers text (Err (faults.Op limit))
+
+-- the curve of a text is over no limit
+abbrev pub IsOverNone : CurveText → Type 0
+IsOverNone text = (limit : OverLimit) → ¬ (IsMade text (Err limit))

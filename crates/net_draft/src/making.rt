@@ -1,9 +1,9 @@
 //! Curves of texts.
 
-ghost use Rattle.std.specs.Prelude.{◌≡◌, IfOk};
+ghost use Rattle.std.specs.Prelude.{◌≡◌, Err, IfOk};
 ghost use Rattle.net_draft.specs.Faults.{Gives, IsFault};
 ghost use Rattle.net_draft.specs.CurveTexts.{text_of};
-ghost use Rattle.net_draft.specs.Made.{CurveAnswers};
+ghost use Rattle.net_draft.specs.Made.{CurveAnswers, IsOverNone};
 ghost use Rattle.net_draft.specs.Kept.{IsMadeDraft};
 ghost use Rattle.net_draft.specs.Tables.{curve_at};
 
@@ -42,7 +42,8 @@ fn refused(alloc: Global, refusal: CurveRefusal, place: &str) -> DraftFault
     fault_at(alloc, NetKind::M9(refusal), place)
 }
 
-/// The curve of a text, or the limit that it is over; a fault at its table's place where it is refused otherwise.
+/// The curve of a text, or the limit that it is over; a fault at its table's place where it is refused otherwise. Want
+/// of memory says that the curve is over no limit.
 pub(crate) fn curve_of(
     alloc: Global,
     place: &str,
@@ -51,6 +52,7 @@ pub(crate) fn curve_of(
     ensures value { Gives (λ c. text_of c.text) result (curve_at place.now (text_of text)) }
     ensures made { IfOk result IsMadeDraft }
     ensures same { IfOk result (λ c. c.text ≡ text) }
+    ensures memory { result ≡ Err DraftFault.NoMemory → IsOverNone (text_of text) }
 {
     match made(alloc, &text) {
         Ok(curve) => Ok(CurveDraft {

@@ -9,13 +9,13 @@ use Rattle.net_model.specs.declared.fault.NetFault.{NetFault}
 use Rattle.net_draft.specs.declared.curve_draft.CurveDraft.{CurveDraft}
 use Rattle.net_draft.specs.declared.fault.DraftFault.{DraftFault}
 use Rattle.net_draft.specs.declared.fault.DraftFault.TheVariants as answers
-use Rattle.net_draft.specs.Faults.{IsFault, fault_of}
+use Rattle.net_draft.specs.Faults.{fault_of}
 use Rattle.net_draft.specs.CurveTexts.{text_of}
 use Rattle.net_draft.specs.Kept.{IsArrivalDraft}
 use Rattle.net_draft.specs.Made.{IsMade}
 use Rattle.net_draft.specs.Texts.{CurveText}
 use Rattle.net_draft.proofs.MayStand.{made_may_stand}
-use Rattle.net_text.specs.Becoming.{IsCurveOf, Becomes, FailsAt, limit_kind, limit_fault}
+use Rattle.net_text.specs.Becoming.{IsCurveOf, Becomes, FailsAt, IsLimitFault, limit_kind, limit_fault}
 use Rattle.net_text.specs.Closing.{Closes}
 
 pub made_is : (packet : ℕ) (d : CurveDraft) (c : SpecCurve) → IsArrivalDraft packet d → d.made ≡ Ok c → IsMade (text_of d.text) (Ok c)
@@ -26,6 +26,11 @@ arrival_stands packet d c h is = made_may_stand.arrival packet (text_of d.text) 
 
 fault_is : (g : NetFault) (limit : OverLimit) (place : List ℕ) → g.kind ≡ limit_kind limit → string_bytes g.place ≡ place → fault_of g ≡ limit_fault limit place
 fault_is g limit place kind at = rw (kind, at) refl
+
+-- a limit is never told as want of memory
+pub limit_is_told : (limit : OverLimit) (place : List ℕ) (e : DraftFault) → IsLimitFault limit place e → (let r : Result SpecCurve DraftFault = Err e in r) ≡ Err answers.NoMemory → ⊥
+limit_is_told limit place answers.NoMemory is wants = is
+limit_is_told limit place (answers.Fault g) is wants = cc
 
 -- where closures are made by folds of which Over says which limit they are over
 module _ (Over : SpecCurve → OverLimit → Type 0) where
@@ -47,6 +52,6 @@ module _ (Over : SpecCurve → OverLimit → Type 0) where
   closed_err closes text c place (Err f) e is h = closed_fails closes text c place f e is h
 
   -- a fault of the kind of the limit that a fold is over tells that limit
-  pub limit_fails : (f : SpecCurve) (limit : OverLimit) (place : List ℕ) (e : DraftFault) → IsFault (limit_kind limit) place e → Over f limit → FailsAt (Closes Over f) place e
+  pub limit_fails : (f : SpecCurve) (limit : OverLimit) (place : List ℕ) (e : DraftFault) → IsLimitFault limit place e → Over f limit → FailsAt (Closes Over f) place e
   limit_fails f limit place answers.NoMemory is over = tt
   limit_fails f limit place (answers.Fault g) is over = record { limit = limit; over = over; is = fault_is g limit place is.0 is.1 }

@@ -1,11 +1,16 @@
 -- Steps of the closures of some flows, as a loop counts them.
-use Rattle.std.proofs.Common.{◌≡◌, ℕ, ◌+◌, ◌≤◌, Bool, true, false, List, ◌∷◌, Ok, sym, ap, ◌∙◌, subst, arith, inl, inr, true≢false}
+use Rattle.std.proofs.Common.{◌≡◌, ℕ, ◌+◌, ◌≤◌, ◌<◌, Bool, true, false, List, [], ◌∷◌, ◌++◌, length, map, get_or, take, Ok, refl, sym, ap, ◌∙◌, subst, arith, inl, inr, true≢false}
 use Rattle.upp_curve.specs.Curve.{SpecCurve}
+use Rattle.net_draft.specs.declared.flow_draft.FlowDraft.{FlowDraft}
+use Rattle.net_draft.specs.CurveTexts.{text_of}
 use Rattle.net_draft.specs.Drafts.{draft_of}
 use Rattle.net_draft.specs.Texts.{CurveText, FlowText, DraftText}
+use Rattle.net_draft.specs.Views.{flow_text}
+use Rattle.net_draft.proofs.OverNone.{made_or_over}
 use Rattle.net_text.specs.Becoming.{IsCurveOf}
-use Rattle.net_text.specs.Folds.{FoldOf, FoldsOf, IsSumOf, StepsAtMost}
-use Rattle.net_text.proofs.OneThing.{one_made, made_or_over, same_draft, draft_or_fault}
+use Rattle.net_text.specs.Folds.{FoldOf, HasTaken, FoldsOf, IsSumOf, StepsAtMost}
+use Rattle.net_text.proofs.OneThing.{one_made, same_draft, draft_or_fault}
+use Rattle.net_text.proofs.Zips.{texts_pushed}
 
 -- ---- drafts
 -- where the fold of a curve has so many operators
@@ -35,6 +40,44 @@ module _ (operators : SpecCurve → ℕ) where
 
   pub spent : (whole left : List FlowText) (before now : ℕ) → Spends whole left before now → (total : ℕ) → FoldsOf operators whole total → now ≤ before + total
   spent whole left before now spends total folds = omega (arith, (spends total folds).within)
+
+  -- ---- steps that were taken
+  pub closed_taken : (closes : Bool) (text : CurveText) (c : SpecCurve) (before after : ℕ) → closes ≡ true → IsCurveOf text c → after ≡ before + operators c → HasTaken operators closes text before after
+  closed_taken false text c before after e is sum = absurd (true≢false (sym e))
+  closed_taken true text c before after e is sum = record { count = operators c; is = inl (record { curve = c; is = is; count_is = refl }); sum = sum }
+
+  pub open_taken : (closes : Bool) (text : CurveText) (now : ℕ) → closes ≡ false → HasTaken operators closes text now now
+  open_taken false text now e = record { count = 0; is = refl; sum = omega arith }
+  open_taken true text now e = absurd (true≢false e)
+
+  folds_push : (fs : List FlowText) (f : FlowText) (t k : ℕ) → FoldsOf operators fs t → FoldOf operators f.closes f.arrival k → FoldsOf operators (fs ++ f ∷ []) (t + k)
+  folds_push [] f t k all one = record { first = k; rest = 0; is_first = one; is_rest = refl; sum = omega (arith, all) }
+  folds_push (g ∷ fs) f t k all one = record {
+    first = all.first;
+    rest = all.rest + k;
+    is_first = all.is_first;
+    is_rest = folds_push fs f all.rest k all.is_rest one;
+    sum = omega (arith, all.sum);
+  }
+
+  -- the flows so far have taken these steps
+  pub record HaveTaken (fs : List FlowText) (before now : ℕ) : Type 0 where
+    pub count : ℕ
+    pub folds : FoldsOf operators fs count
+    pub sum : now ≡ before + count
+
+  pub none_taken : (now : ℕ) → HaveTaken [] now now
+  none_taken now = record { count = 0; folds = refl; sum = omega arith }
+
+  pub taken_more : (ds : List FlowDraft) (i : ℕ) (d : FlowDraft) (before now after : ℕ) → i < length ds → d ≡ get_or ds i d → HaveTaken (map flow_text (take i ds)) before now
+      → HasTaken operators d.closes (text_of d.arrival.text) now after → HaveTaken (map flow_text (take (i + 1) ds)) before after
+  taken_more ds i d before now after within is h one =
+      let folds = folds_push (map flow_text (take i ds)) (flow_text d) h.count one.count h.folds one.is in
+      record {
+        count = h.count + one.count;
+        folds = subst (λ fs. FoldsOf operators fs (h.count + one.count)) (sym (texts_pushed flow_text ds i d within is)) folds;
+        sum = omega (arith, h.sum, one.sum);
+      }
 
   -- ---- files
   pub no_steps : (bytes : List ℕ) (before after : ℕ) → after ≡ before → StepsAtMost operators bytes before after

@@ -8,3 +8,4 @@ pub mod FoldSteps
 pub mod Folding
 pub mod OneLimit
 pub mod FirstFaults
+pub mod Wanting

@@ -10,6 +10,7 @@ use Rattle.upp_limits.proofs.OneLimit.{one_limit}
 use Rattle.net_model.specs.Networks.{Net, NetServer, NetFlow}
 use Rattle.net_draft.specs.Faults.{Fault, Read}
 use Rattle.net_draft.specs.Made.{IsMade}
+use Rattle.net_draft.proofs.OverNone.{made_or_over}
 use Rattle.net_draft.specs.Texts.{CurveText, Bucket, Stair, RateLatency, Gate, Listed, ServerText, FlowText, DraftText}
 use Rattle.net_text.specs.Becoming.{IsCurveOf, Becomes, limit_fault}
 use Rattle.net_text.specs.Built.{IsServerOf, IsFlowOf, IsLiveFlowOf, IsBuilt}
@@ -18,7 +19,6 @@ use Rattle.net_text.specs.Firsts.{PlacedCurve, services_from, arrivals_from, cur
 use Rattle.net_text.specs.Laws.{EachFileSaysOneThing}
 use Rattle.net_text.specs.Reading.{IsNetworkOf, FirstFault}
 use Rattle.net_text.proofs.Zips.{zip_one}
-use Rattle.curve_library.proofs.Answering.{over_within}
 
 -- ---- what was made of a text
 pub one_made : (text : CurveText) (a b : SpecCurve) → IsCurveOf text a → IsCurveOf text b → a ≡ b
@@ -27,13 +27,6 @@ one_made (Stair packet period jitter) a b g h = g.made.1.0 ∙ sym h.made.1.0
 one_made (RateLatency rate latency) a b g h = g.made.1.0 ∙ sym h.made.1.0
 one_made (Gate rate cycle slot) a b g h = g.made.1.0 ∙ sym h.made.1.0
 one_made (Listed pieces tail use_as) a b g h = normal_unique a b g.curve.normal h.curve.normal (λ t late. g.made.1.0 t late ∙ sym (h.made.1.0 t late))
-
-pub made_or_over : (text : CurveText) (a : SpecCurve) (limit : OverLimit) → IsMade text (Ok a) → IsMade text (Err limit) → ⊥
-made_or_over (Bucket burst rate) a limit g h = h
-made_or_over (Stair packet period jitter) a limit g h = over_within _ limit h.1 g.1.1
-made_or_over (RateLatency rate latency) a limit g h = over_within _ limit h.1 g.1.1
-made_or_over (Gate rate cycle slot) a limit g h = over_within _ limit h.1 g.1.1
-made_or_over (Listed pieces tail use_as) a limit g h = over_within _ limit h.1 g.1.1
 
 one_over : (text : CurveText) (l m : OverLimit) → IsMade text (Err l) → IsMade text (Err m) → l ≡ m
 one_over (Bucket burst rate) l m g h = absurd g

@@ -7,6 +7,10 @@ use Rattle.std.proofs.lemmas.List.Elements.{All-nil, All-cons, All-head, All-tai
 use Rattle.std.proofs.lemmas.List.Kept.{AllPairs-cons}
 use Rattle.std.proofs.lemmas.Option.{none-some, same_Some}
 
+-- one more text
+pub texts_pushed : {D T : Type 0} (text : D → T) (ds : List D) (i : ℕ) (d : D) → i < length ds → d ≡ get_or ds i d → map text (take (i + 1) ds) ≡ map text (take i ds) ++ text d ∷ []
+texts_pushed text ds i d within is = ap (map text) (take_more ds i d within ∙ ap (λ x. take i ds ++ x ∷ []) (sym is)) ∙ map_push text (take i ds) d
+
 module _ {T N : Type 0} (R : T → N → Type 0) where
   zip_push : (ts : List T) (ns : List N) (t : T) (n : N) → AllZip R ts ns → R t n → AllZip R (ts ++ t ∷ []) (ns ++ n ∷ [])
   zip_push [] [] t n h r = (r, tt)
@@ -17,9 +21,7 @@ module _ {T N : Type 0} (R : T → N → Type 0) where
   pub zip_more : {D : Type 0} (text : D → T) (ds : List D) (i : ℕ) (d : D) (ns : List N) (n : N) → i < length ds → d ≡ get_or ds i d → AllZip R (map text (take i ds)) ns → R (text d) n
       → AllZip R (map text (take (i + 1) ds)) (ns ++ n ∷ [])
   zip_more text ds i d ns n within is h r =
-      let e : map text (take (i + 1) ds) ≡ map text (take i ds) ++ text d ∷ [] =
-      ap (map text) (take_more ds i d within ∙ ap (λ x. take i ds ++ x ∷ []) (sym is)) ∙ map_push text (take i ds) d in
-      subst (λ l. AllZip R l (ns ++ n ∷ [])) (sym e) (zip_push (map text (take i ds)) ns (text d) n h r)
+      subst (λ l. AllZip R l (ns ++ n ∷ [])) (sym (texts_pushed text ds i d within is)) (zip_push (map text (take i ds)) ns (text d) n h r)
 
   pub zip_whole : {D : Type 0} (text : D → T) (ds : List D) (i : ℕ) (ns : List N) → length ds ≤ i → AllZip R (map text (take i ds)) ns → AllZip R (map text ds) ns
   zip_whole text ds i ns past h = subst (λ l. AllZip R (map text l) ns) (take_all i ds past) h

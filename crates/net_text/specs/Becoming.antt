@@ -1,5 +1,6 @@
 -- What a curve of a file becomes: a curve of the network, or the limit that it is over. Own choice.
 use Rattle.std.specs.Prelude.{◌≡◌, ◌⊎◌, ℕ, List, Bool, true, false, Result, Ok, Err}
+use Rattle.std.specs.String.{string_bytes}
 use Rattle.upp_curve.specs.Curve.{SpecCurve}
 use Rattle.upp_curve.specs.Curves.{IsCurve}
 use Rattle.upp_limits.specs.declared.own_limits.OverLimit.{OverLimit}
@@ -49,6 +50,11 @@ limit_kind TooWide = CurveTooWide
 -- the fault of a curve at a place
 abbrev pub limit_fault : OverLimit → List ℕ → Fault
 limit_fault limit place = record { kind = limit_kind limit; place = place }
+
+-- the fault of that limit at a place, and no want of memory
+abbrev pub IsLimitFault : OverLimit → List ℕ → DraftFault → Type 0
+IsLimitFault limit place answers.NoMemory = ⊥
+IsLimitFault limit place (answers.Fault f) = (f.kind ≡ limit_kind limit) × (string_bytes f.place ≡ place)
 
 -- what becomes of a curve is that it is over a limit, and the fault says which, and where
 pub record IsOverAt (Answers : Result SpecCurve OverLimit → Type 0) (place : List ℕ) (f : Fault) : Type 0 where

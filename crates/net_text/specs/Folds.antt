@@ -38,6 +38,12 @@ module _ (operators : SpecCurve → ℕ) where
   abbrev pub FoldAtMost : Bool → CurveText → ℕ → ℕ → Type 0
   FoldAtMost closes text before after = (count : ℕ) → FoldOf closes text count → after ≤ before + count
 
+  -- one arrival has taken a step for each
+  pub record HasTaken (closes : Bool) (text : CurveText) (before after : ℕ) : Type 0 where
+    pub count : ℕ
+    pub is : FoldOf closes text count
+    pub sum : after ≡ before + count
+
   -- those of all flows
   abbrev pub FoldsOf : List FlowText → ℕ → Type 0
   FoldsOf [] total = total ≡ 0

@@ -6,4 +6,5 @@ pub mod Reading
 pub mod Laws
 pub mod Folds
 pub mod FoldLimits
+pub mod Wants
 pub mod FileLaws

@@ -1,6 +1,7 @@
 //! Arrival curves, and their closures where they are asked for.
 
-ghost use Rattle.std.specs.Prelude.{◌≤◌, ◌+◌, Ok, IfOk, IfErr};
+ghost use Rattle.std.specs.Prelude.{◌≡◌, ◌≤◌, ◌+◌, Ok, Err, IfOk, IfErr};
+ghost use Rattle.std.specs.String.{string_bytes};
 ghost use Rattle.upp_curve.specs.Curve.{value_at};
 ghost use Rattle.upp_curve.specs.Curves.{IsCurve};
 ghost use Rattle.min_plus.specs.Functions.{IsFinite, IsNonnegative};
@@ -8,9 +9,10 @@ ghost use Rattle.net_draft.specs.CurveTexts.{text_of};
 ghost use Rattle.net_draft.specs.Kept.{IsArrivalDraft};
 ghost use Rattle.net_text.specs.Becoming.{Becomes, FailsAt};
 ghost use Rattle.net_text.specs.Closing.{Closes};
-ghost use Rattle.net_text.specs.Folds.{FoldAtMost};
-ghost use Rattle.net_text.specs.Firsts.{arrival_place, FailsArrival};
+ghost use Rattle.net_text.specs.Folds.{FoldAtMost, HasTaken};
 ghost use Rattle.net_text.specs.FoldLimits.{OverFold};
+ghost use Rattle.net_text.specs.Wants.{ArrivalWants};
+ghost use Rattle.subadd_closure.specs.FoldMemory.{CloseWants};
 ghost use Rattle.subadd_closure.specs.FoldWork.{fold_work};
 
 use crate::closing::closed;
@@ -23,10 +25,10 @@ use steps::Steps;
 use upp_curve::Curve;
 use upp_limits::{OpFault, OverLimit};
 
-/// The closure of the arrival curve of the flow of a number.
+/// The closure of the arrival curve at a place.
 fn closure_of<L: Ledger>(
     alloc: Global,
-    number: usize,
+    place: String,
     curve: &Curve,
     steps: &mut Steps<L>,
 ) -> Result<Curve, DraftFault>
@@ -34,52 +36,48 @@ fn closure_of<L: Ledger>(
     requires nonneg { IsNonnegative (value_at curve.now) }
     ensures own { IsCurve curve.now }
     ensures closed { IfOk result (λ c. Closes OverFold curve.now (Ok c)) }
-    ensures over { IfErr result (FailsAt (Closes OverFold curve.now) (arrival_place number)) }
+    ensures over { IfErr result (FailsAt (Closes OverFold curve.now) (string_bytes place)) }
+    ensures memory { result ≡ Err DraftFault.NoMemory → CloseWants curve.now steps.old steps.new }
     ensures rises { steps.old ≤ steps.new }
     ensures most { steps.new ≤ steps.old + fold_work curve.now }
+    ensures exact { IfOk result (λ _. steps.new ≡ steps.old + fold_work curve.now) }
 {
     curve.keeps();
     match closed(alloc, curve, steps) {
         Ok(closed) => Ok(closed),
-        Err(OpFault::TooMany) => Err(limit_fault(
-            alloc,
-            OverLimit::TooMany,
-            "flow",
-            number,
-            "arrival",
-        )),
-        Err(OpFault::TooWide) => Err(limit_fault(
-            alloc,
-            OverLimit::TooWide,
-            "flow",
-            number,
-            "arrival",
-        )),
+        Err(OpFault::TooMany) => Err(limit_fault(OverLimit::TooMany, place)),
+        Err(OpFault::TooWide) => Err(limit_fault(OverLimit::TooWide, place)),
         Err(OpFault::NoMemory) => Err(DraftFault::NoMemory),
     }
 }
 
-/// The arrival curve of the flow of a number: what was made of its text, or the closure of that.
+/// The arrival curve of a flow, which stands at a place: what was made of its text, or the closure of that. Want of
+/// memory says that the curve, or the call of its closure that was under way, is over no limit.
 pub(crate) fn arrival_of<L: Ledger>(
     alloc: Global,
-    number: usize,
+    place: String,
     flow: &FlowDraft,
     steps: &mut Steps<L>,
 ) -> Result<Curve, DraftFault>
     requires { IsArrivalDraft flow.now.packet flow.now.arrival }
     ensures becomes { IfOk result (λ c. Becomes OverFold flow.now.closes (text_of flow.now.arrival.text) (Ok c)) }
-    ensures over { IfErr result (FailsArrival OverFold flow.now.closes (text_of flow.now.arrival.text) number) }
+    ensures over { IfErr result
+        (FailsAt (Becomes OverFold flow.now.closes (text_of flow.now.arrival.text)) (string_bytes place)) }
+    ensures memory { result ≡ Err DraftFault.NoMemory
+        → ArrivalWants flow.now.closes (text_of flow.now.arrival.text) steps.old steps.new }
     ensures rises { steps.old ≤ steps.new }
     ensures most { FoldAtMost fold_work flow.now.closes (text_of flow.now.arrival.text) steps.old steps.new }
+    ensures taken { IfOk result
+        (λ _. HasTaken fold_work flow.now.closes (text_of flow.now.arrival.text) steps.old steps.new) }
 {
     match &flow.arrival.made {
         Ok(curve) => {
             if flow.closes {
-                closure_of(alloc, number, curve, steps)
+                closure_of(alloc, place, curve, steps)
             } else {
                 Ok(copy_of(curve)?)
             }
         }
-        Err(limit) => Err(limit_fault(alloc, *limit, "flow", number, "arrival")),
+        Err(limit) => Err(limit_fault(*limit, place)),
     }
 }

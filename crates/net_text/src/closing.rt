@@ -1,10 +1,11 @@
 //! The closures of files.
 
-ghost use Rattle.std.specs.Prelude.{◌≤◌, ◌+◌};
+ghost use Rattle.std.specs.Prelude.{◌≡◌, ◌≤◌, ◌+◌, Err, IfOk};
 ghost use Rattle.upp_curve.specs.Curve.{value_at};
 ghost use Rattle.min_plus.specs.Functions.{IsFinite, IsNonnegative};
 ghost use Rattle.net_text.specs.Closing.{KeepsClosing};
 ghost use Rattle.net_text.specs.FoldLimits.{OverFold};
+ghost use Rattle.subadd_closure.specs.FoldMemory.{CloseWants};
 ghost use Rattle.subadd_closure.specs.FoldWork.{fold_work};
 
 use std::alloc::Global;
@@ -15,8 +16,8 @@ use upp_curve::Curve;
 use upp_limits::OpFault;
 
 /// The subadditive closure of a finite curve that is nowhere below 0, by the fold of the closures of its parts, and
-/// then that fold is over no limit; refused for the limit that the fold is over, or where there is no memory. It
-/// takes at most a step an operator of the fold.
+/// then that fold is over no limit; refused for the limit that the fold is over, or where there is no memory, and then
+/// each of its calls that is counted is within its limits. It takes at most a step an operator of the fold.
 pub(crate) fn closed<L: Ledger>(
     alloc: Global,
     f: &Curve,
@@ -25,8 +26,10 @@ pub(crate) fn closed<L: Ledger>(
     requires finite { IsFinite (value_at f.now) }
     requires nonneg { IsNonnegative (value_at f.now) }
     ensures answer { KeepsClosing OverFold f.now result }
+    ensures memory { result ≡ Err OpFault.NoMemory → CloseWants f.now steps.old steps.new }
     ensures rises { steps.old ≤ steps.new }
     ensures most { steps.new ≤ steps.old + fold_work f.now }
+    ensures exact { IfOk result (λ _. steps.new ≡ steps.old + fold_work f.now) }
 {
     close(alloc, f, steps)
 }

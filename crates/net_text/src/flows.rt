@@ -1,18 +1,20 @@
 //! Flows.
 
-ghost use Rattle.std.specs.Prelude.{◌≡◌, ◌≤◌, ◌+◌, ℕ, map, All, IfOk, IfErr};
+ghost use Rattle.std.specs.Prelude.{◌≡◌, ◌≤◌, ◌+◌, ℕ, map, All, Err, IfOk, IfErr};
 ghost use Rattle.std.specs.List.{AllZip};
 ghost use Rattle.net_model.specs.Views.{flow_of, flows_of};
 ghost use Rattle.net_draft.specs.CurveTexts.{text_of};
 ghost use Rattle.net_draft.specs.Kept.{IsArrivalDraft};
 ghost use Rattle.net_draft.specs.Views.{flow_text};
 ghost use Rattle.net_text.specs.Built.{IsFlowOf, IsLiveFlowOf};
-ghost use Rattle.net_text.specs.Folds.{FoldAtMost, FoldsOf};
+ghost use Rattle.net_text.specs.Folds.{FoldAtMost, HasTaken, FoldsOf};
 ghost use Rattle.net_text.specs.Firsts.{arrivals_from, FailsArrival, FailsFirst};
 ghost use Rattle.net_text.specs.FoldLimits.{OverFold};
+ghost use Rattle.net_text.specs.Wants.{FlowWants, FlowsWant};
 ghost use Rattle.subadd_closure.specs.FoldWork.{fold_work};
 
 use crate::arrivals::arrival_of;
+use crate::limits::place_of;
 use net_draft::{DraftFault, FlowDraft, Hop};
 use net_model::Flow;
 use std::alloc::{AllocError, Global};
@@ -31,6 +33,7 @@ fn queues_of(alloc: Global, hops: &[Hop]) -> Result<Vec<u32>, AllocError>
     hops.iter().map(|hop| hop.queue).collect(alloc)
 }
 
+/// The flow of a number. All else is allocated before its closure is made.
 fn flow_of<L: Ledger>(
     alloc: Global,
     number: usize,
@@ -40,20 +43,30 @@ fn flow_of<L: Ledger>(
     requires { IsArrivalDraft draft.now.packet draft.now.arrival }
     ensures built { IfOk result (λ f. IsFlowOf OverFold (flow_text draft.now) (flow_of f)) }
     ensures over { IfErr result (FailsArrival OverFold draft.now.closes (text_of draft.now.arrival.text) number) }
+    ensures memory { result ≡ Err DraftFault.NoMemory
+        → FlowWants draft.now.closes (text_of draft.now.arrival.text) steps.old steps.new }
     ensures rises { steps.old ≤ steps.new }
     ensures most { FoldAtMost fold_work draft.now.closes (text_of draft.now.arrival.text) steps.old steps.new }
+    ensures taken { IfOk result
+        (λ _. HasTaken fold_work draft.now.closes (text_of draft.now.arrival.text) steps.old steps.new) }
 {
-    let arrival = arrival_of(alloc, number, draft, steps)?;
+    let name = draft.name.clone()?;
+    let path = path_of(alloc, &draft.path)?;
+    let queues = queues_of(alloc, &draft.path)?;
+    let place = place_of(alloc, "flow", number, "arrival")?;
+    let arrival = arrival_of(alloc, place, draft, steps)?;
     Ok(Flow {
-        name: draft.name.clone()?,
-        path: path_of(alloc, &draft.path)?,
-        queues: queues_of(alloc, &draft.path)?,
+        name,
+        path,
+        queues,
         packet: draft.packet,
         arrival,
     })
 }
 
-/// The flows of a draft, or the fault of the first whose curve, or its closure, is over a limit.
+/// The flows of a draft, or the fault of the first whose curve, or its closure, is over a limit. Want of memory says
+/// where it was: the flows before have been made, and of a closure that was under way each call that is counted is within
+/// its limits.
 pub(crate) fn flows_of<L: Ledger>(
     alloc: Global,
     drafts: &[FlowDraft],
@@ -62,6 +75,7 @@ pub(crate) fn flows_of<L: Ledger>(
     requires { All (λ f. IsArrivalDraft f.packet f.arrival) drafts.now }
     ensures built { IfOk result (λ v. AllZip (IsLiveFlowOf OverFold) (map flow_text drafts.now) (flows_of v.items)) }
     ensures over { IfErr result (FailsFirst OverFold (arrivals_from 0 (map flow_text drafts.now))) }
+    ensures memory { result ≡ Err DraftFault.NoMemory → FlowsWant (map flow_text drafts.now) steps.old steps.new }
     ensures rises { steps.old ≤ steps.new }
     ensures most { (t : ℕ) → FoldsOf fold_work (map flow_text drafts.now) t → steps.new ≤ steps.old + t }
 {

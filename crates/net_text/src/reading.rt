@@ -1,10 +1,11 @@
 //! Files of networks.
 
-ghost use Rattle.std.specs.Prelude.{◌≤◌, IfOk, IfErr};
+ghost use Rattle.std.specs.Prelude.{◌≡◌, ◌≤◌, ◌<◌, Err, IfOk, IfErr};
 ghost use Rattle.net_text.specs.Becoming.{IsTold};
 ghost use Rattle.net_text.specs.Folds.{StepsAtMost};
 ghost use Rattle.net_text.specs.Reading.{IsNetworkOf, IsAnswered, FailsFile};
 ghost use Rattle.net_text.specs.FoldLimits.{OverFold};
+ghost use Rattle.net_text.specs.Wants.{FileWants};
 ghost use Rattle.subadd_closure.specs.FoldWork.{fold_work};
 
 use crate::flows::flows_of;
@@ -34,6 +35,8 @@ fn network_of<L: Ledger>(
 ) -> Result<Network, DraftFault>
     ensures network { IfOk result (IsNetworkOf OverFold text.now) }
     ensures fault { IfErr result (FailsFile OverFold text.now) }
+    ensures memory { result ≡ Err DraftFault.NoMemory → steps.old < steps.new
+        → FileWants text.now steps.old steps.new }
     ensures rises { steps.old ≤ steps.new }
     ensures most { StepsAtMost fold_work text.now steps.old steps.new }
 {
@@ -47,7 +50,9 @@ fn network_of<L: Ledger>(
 /// first curve that is over a limit, services of servers in order, then arrivals of flows, each before its closure,
 /// which is over the limit that the first operator of its fold is over. It takes at most a step for each operator of
 /// the folds of the closures that the file asks for. Only where an allocation was refused the kind is `NoMemory`,
-/// with no place.
+/// with no place. Where steps were counted till then, all servers and some flows have been made, with a step for each
+/// operator of the folds of their closures, and of a closure that was under way each call that is counted is within its
+/// limits.
 pub fn read_network<L: Ledger>(
     alloc: Global,
     text: &[u8],
@@ -55,6 +60,8 @@ pub fn read_network<L: Ledger>(
 ) -> Result<Network, NetFault>
     ensures network { IfOk result (IsNetworkOf OverFold text.now) }
     ensures fault { IfErr result (IsAnswered OverFold text.now) }
+    ensures memory { IfErr result (λ f. f.kind ≡ NetKind.NoMemory → steps.old < steps.new
+        → FileWants text.now steps.old steps.new) }
     ensures rises { steps.old ≤ steps.new }
     ensures most { StepsAtMost fold_work text.now steps.old steps.new }
 {

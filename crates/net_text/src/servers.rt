@@ -11,6 +11,7 @@ ghost use Rattle.net_text.specs.Built.{IsServerOf};
 ghost use Rattle.net_text.specs.Firsts.{service_place, services_from, FailsFirst};
 ghost use Rattle.net_text.specs.FoldLimits.{OverFold};
 
+use crate::limits::place_of;
 use crate::services::{kind_of, service_of};
 use net_draft::{DraftFault, ServerDraft};
 use net_model::Server;
@@ -21,7 +22,8 @@ fn server_of(alloc: Global, number: usize, draft: &ServerDraft) -> Result<Server
     ensures built { IfOk result (λ s. IsServerOf (server_text draft.now) (server_of s)) }
     ensures over { IfErr result (FailsAt (BecomesItself (text_of draft.now.service.text)) (service_place number)) }
 {
-    let service = service_of(alloc, number, &draft.service)?;
+    let place = place_of(alloc, "server", number, "service")?;
+    let service = service_of(place, &draft.service)?;
     Ok(Server {
         name: draft.name.clone()?,
         rate: draft.rate,

@@ -1,17 +1,18 @@
 //! Service curves.
 
-ghost use Rattle.std.specs.Prelude.{◌≡◌, IfOk, IfErr};
+ghost use Rattle.std.specs.Prelude.{◌≡◌, Err, IfOk, IfErr};
+ghost use Rattle.std.specs.String.{string_bytes};
 ghost use Rattle.net_draft.specs.CurveTexts.{text_of};
 ghost use Rattle.net_draft.specs.Kept.{IsMadeDraft};
 ghost use Rattle.net_draft.specs.Laws.{kind_of};
+ghost use Rattle.net_draft.specs.Made.{IsOverNone};
 ghost use Rattle.upp_curve.specs.Curves.{IsCurve};
 ghost use Rattle.net_text.specs.Becoming.{IsCurveOf, BecomesItself, FailsAt};
-ghost use Rattle.net_text.specs.Firsts.{service_place};
 
 use crate::limits::limit_fault;
 use net_draft::{CurveDraft, CurveText, DraftFault};
 use net_model::ServiceKind;
-use std::alloc::{AllocError, Global};
+use std::alloc::AllocError;
 use upp_curve::Curve;
 
 /// How a service curve is given.
@@ -41,18 +42,15 @@ pub(crate) fn copy_of(curve: &Curve) -> Result<Curve, AllocError>
     curve.copy()
 }
 
-/// The service curve of the server of a number.
-pub(crate) fn service_of(
-    alloc: Global,
-    number: usize,
-    draft: &CurveDraft,
-) -> Result<Curve, DraftFault>
+/// The service curve at a place. Want of memory says that it is over no limit.
+pub(crate) fn service_of(place: String, draft: &CurveDraft) -> Result<Curve, DraftFault>
     requires { IsMadeDraft draft.now }
     ensures made { IfOk result (IsCurveOf (text_of draft.now.text)) }
-    ensures over { IfErr result (FailsAt (BecomesItself (text_of draft.now.text)) (service_place number)) }
+    ensures over { IfErr result (FailsAt (BecomesItself (text_of draft.now.text)) (string_bytes place)) }
+    ensures memory { result ≡ Err DraftFault.NoMemory → IsOverNone (text_of draft.now.text) }
 {
     match &draft.made {
         Ok(curve) => Ok(copy_of(curve)?),
-        Err(limit) => Err(limit_fault(alloc, *limit, "server", number, "service")),
+        Err(limit) => Err(limit_fault(*limit, place)),
     }
 }

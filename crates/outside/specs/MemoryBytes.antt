@@ -15,12 +15,12 @@ abbrev pub room : ℕ
 room = 4194304
 
 -- the next call fails: it is one of those that do, or so many bytes more would pass the room
-abbrev pub fails_next : MemoryBytes → ℕ → Bool
-fails_next memory more = fails_at memory.fail memory.calls || nat_lt room (length memory.bytes + more)
+abbrev pub put_fails : MemoryBytes → ℕ → Bool
+put_fails memory more = fails_at memory.fail memory.calls || nat_lt room (length memory.bytes + more)
 
 -- after a put of these bytes
 abbrev pub after_put : MemoryBytes → List ℕ → MemoryBytes
 after_put memory bytes =
     let called = record memory { calls = counted_up memory.calls } in
-    if fails_next memory (length bytes) then record called { faults = counted_up memory.faults }
+    if put_fails memory (length bytes) then record called { faults = counted_up memory.faults }
     else record called { bytes = memory.bytes ++ bytes }

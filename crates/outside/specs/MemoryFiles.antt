@@ -23,8 +23,8 @@ held [] name = None
 held (file ∷ files) name = if bytes_eq file.0 name then Some file.1 else held files name
 
 -- the next call fails: it is one of those that do, or there is no file of this name
-abbrev pub fails_next : MemoryFiles → List ℕ → Bool
-fails_next memory name = fails_at memory.fail memory.calls || is_none (held memory.files name)
+abbrev pub fetch_fails : MemoryFiles → List ℕ → Bool
+fetch_fails memory name = fails_at memory.fail memory.calls || is_none (held memory.files name)
 
 -- one call more was made
 abbrev pub called : MemoryFiles → MemoryFiles
@@ -36,4 +36,4 @@ failed memory name = record memory { faults = counted_up memory.faults; last_fau
 
 -- after a call for this name
 abbrev pub after_fetch : MemoryFiles → List ℕ → MemoryFiles
-after_fetch memory name = if fails_next memory name then failed (called memory) name else called memory
+after_fetch memory name = if fetch_fails memory name then failed (called memory) name else called memory

@@ -61,7 +61,8 @@ fn read_rest<F: Read>(file: &mut F, into: &mut Vec<u8>) -> Result<(), FetchFault
     requires { into.old.items ≡ [] }
     ensures fits { OnOk result (length into.new.items ≤ MOST_BYTES) }
     ensures whole { OnOk result (IfSome (F.remaining file.old) (λ bytes. into.new.items ≡ bytes)) }
-    ensures too_long { IsErrOf result FetchFault.TooLong → IfSome (F.remaining file.old) (λ bytes. MOST_BYTES < length bytes) }
+    ensures too_long { IsErrOf result FetchFault.TooLong
+        → IfSome (F.remaining file.old) (λ bytes. MOST_BYTES < length bytes) }
 {
     let mut piece = [0u8; 4096];
     for _ in 0..MOST_BYTES + 1 {

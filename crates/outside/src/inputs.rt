@@ -33,7 +33,8 @@ pub trait Inputs {
         ensures fits { OnOk result (length into.new.items ≤ MOST_BYTES) }
 
         // With `bytes` and `fits`: a file is too long exactly where it has more bytes than it may.
-        ensures too_long { IsErrOf result FetchFault.TooLong → IfSome (content self.old name.now) (λ bytes. MOST_BYTES < length bytes) }
+        ensures too_long { IsErrOf result FetchFault.TooLong
+            → IfSome (content self.old name.now) (λ bytes. MOST_BYTES < length bytes) }
 
         ensures failed { IsErrOf result FetchFault.Failed → Rose (faults self.old) (faults self.new) }
         ensures failed_name { IsErrOf result FetchFault.Failed → last_fault self.new ≡ name.now }

@@ -1,7 +1,7 @@
 //! Files in memory, which fail at the calls that they are told.
 ghost use Rattle.std.specs.Prelude.{◌≡◌, ◌≤◌, ◌<◌, ◌==◌, ◌↔◌, ◌||◌, false, IsTrue, is_none, [], List, ℕ, Option, None, Some, option_map, length, IfSome, OnOk, OnErr, IsErrOf};
 ghost use Rattle.outside.specs.Faults.{Rose, fails_at, counted_up};
-ghost use Rattle.outside.specs.MemoryFiles.{MemoryFiles, held, files_of, fails_next, called, failed, after_fetch};
+ghost use Rattle.outside.specs.MemoryFiles.{MemoryFiles, held, files_of, fetch_fails, called, failed, after_fetch};
 
 use crate::failing::fails_at;
 use crate::inputs::{FetchFault, Inputs, MOST_BYTES};
@@ -21,7 +21,13 @@ pub struct MemInputs {
 impl Model for MemInputs {
     ghost Value = { MemoryFiles };
 
-    ghost view = { λ s. record { files = files_of s.files.items; fail = s.fail.items; calls = s.calls; faults = s.faults; last_fault = s.last.name } };
+    ghost view = { λ s. record {
+      files = files_of s.files.items;
+      fail = s.fail.items;
+      calls = s.calls;
+      faults = s.faults;
+      last_fault = s.last.name;
+    } };
 }
 
 /// What the first file of this name holds.
@@ -40,7 +46,8 @@ impl MemInputs {
     /// Files of these names. Of two with one name the first counts. `fail` has the numbers of the
     /// calls of `fetch` that fail, from 0.
     pub fn new(files: Vec<(String, Vec<u8>)>, fail: Vec<u32>) -> MemInputs
-        ensures { result ≡ record { files = files_of files.items; fail = fail.items; calls = 0; faults = 0; last_fault = [] } }
+        ensures { result
+            ≡ record { files = files_of files.items; fail = fail.items; calls = 0; faults = 0; last_fault = [] } }
     {
         MemInputs {
             files,
@@ -106,7 +113,8 @@ impl Inputs for MemInputs {
     fn fetch(&mut self, name: &str, into: &mut Vec<u8>) -> Result<(), FetchFault>
         ensures bytes { OnOk result (IfSome (held self.old.files name.now) (λ bytes. into.new.items ≡ bytes)) }
         ensures fits { OnOk result (length into.new.items ≤ MOST_BYTES) }
-        ensures too_long { IsErrOf result FetchFault.TooLong → IfSome (held self.old.files name.now) (λ bytes. MOST_BYTES < length bytes) }
+        ensures too_long { IsErrOf result FetchFault.TooLong
+            → IfSome (held self.old.files name.now) (λ bytes. MOST_BYTES < length bytes) }
         ensures failed { IsErrOf result FetchFault.Failed → Rose self.old.faults self.new.faults }
         ensures failed_name { IsErrOf result FetchFault.Failed → self.new.last_fault ≡ name.now }
         ensures count { self.old.faults ≤ self.new.faults }
@@ -114,10 +122,12 @@ impl Inputs for MemInputs {
         ensures err { OnErr result (into.new.items ≡ []) }
 
         // It fails at the calls that it was told, and at a name that it lacks, and nowhere else.
-        ensures told { IsErrOf result FetchFault.Failed ↔ IsTrue (fails_next self.old name.now) }
+        ensures told { IsErrOf result FetchFault.Failed ↔ IsTrue (fetch_fails self.old name.now) }
 
         // Where it does not fail, a file with too many bytes is too long, and no other.
-        ensures long { fails_next self.old name.now ≡ false → IfSome (held self.old.files name.now) (λ bytes. IsErrOf result FetchFault.TooLong ↔ (MOST_BYTES < length bytes)) }
+        ensures long { fetch_fails self.old name.now ≡ false
+            → IfSome (held self.old.files name.now)
+            (λ bytes. IsErrOf result FetchFault.TooLong ↔ (MOST_BYTES < length bytes)) }
 
         ensures state { self.new ≡ after_fetch self.old name.now }
     {

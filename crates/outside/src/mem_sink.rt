@@ -3,7 +3,7 @@ ghost use Rattle.std.specs.Prelude.{◌≡◌, ◌≤◌, ◌+◌, ◌↔◌, �
 ghost use Rattle.std.specs.Io.KnownBytes.{Appends};
 ghost use Rattle.outside.specs.Faults.{Rose, fails_at, counted_up};
 ghost use Rattle.outside.specs.Written.{AppendsFront};
-ghost use Rattle.outside.specs.MemoryBytes.{MemoryBytes, room, fails_next, after_put};
+ghost use Rattle.outside.specs.MemoryBytes.{MemoryBytes, room, put_fails, after_put};
 
 use crate::NoMemory;
 use crate::failing::fails_at;
@@ -72,7 +72,7 @@ impl Sink for MemSink {
         ensures count { self.old.faults ≤ self.new.faults }
 
         // It fails at the calls that it was told, and where the bytes would pass its room, and nowhere else.
-        ensures told { IsErr result ↔ IsTrue (fails_next self.old (length bytes.now)) }
+        ensures told { IsErr result ↔ IsTrue (put_fails self.old (length bytes.now)) }
 
         ensures state { self.new ≡ after_put self.old bytes.now }
     {

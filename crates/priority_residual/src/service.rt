@@ -1,11 +1,11 @@
 //! The curve of a priority queue's service.
 
-ghost use Rattle.std.specs.Prelude.{◌≡◌, ◌+◌, ◌≤◌, IfOk, Err};
+ghost use Rattle.std.specs.Prelude.{◌≡◌, ◌+◌, ◌-◌, ◌≤◌, IfOk, IfErr};
 ghost use Rattle.upp_curve.specs.Curve.{value_at};
 ghost use Rattle.min_plus.specs.Functions.{IsFinite};
 ghost use Rattle.residual_laws.specs.PriorityCalls.{LeavesPriority, MakesPriority};
 ghost use Rattle.residual_laws.specs.PriorityLaws.{IsPriorityService};
-ghost use Rattle.priority_residual.specs.Memory.{WantsAtSecond, WantsMemory};
+ghost use Rattle.residual_laws.specs.InTurn.{LeftRefused, PriorityRefused};
 
 use curve_call::intact;
 use curve_pointwise::{pos_diff, pos_minus};
@@ -27,7 +27,7 @@ fn priority_left<L: Ledger>(
 ) -> Result<Curve, OpFault>
     requires { IsFinite (value_at beta.now) }
     ensures answer { LeavesPriority beta.now higher.now lower result }
-    ensures memory { result ≡ Err OpFault.NoMemory → WantsAtSecond beta.now higher.now lower steps.old steps.new }
+    ensures refused { IfErr result (λ fault. LeftRefused beta.now higher.now lower fault (steps.new - steps.old)) }
     ensures least { steps.old + 1 ≤ steps.new }
     ensures most { steps.new ≤ steps.old + 2 }
     ensures all { IfOk result (λ _. steps.new ≡ steps.old + 2) }
@@ -39,8 +39,8 @@ fn priority_left<L: Ledger>(
 /// The service of one queue of a priority server whose curve is `beta`: the running supremum of what beta has above
 /// `higher`, the curve of the queues before it, and above one packet of the queues after it, which has at most
 /// `lower` bits (Le Boudec and Thiran, non-preemptive priority). Three operators in that order, one step each; a
-/// refusal is that of the first that is over its limit, with TooWide or TooMany, or want of memory, and then each call
-/// that is counted is within its limits. beta is finite.
+/// refusal is that of the first that is over its limit, with TooWide or TooMany, or want of memory; it is that of the last
+/// call that is counted, so that with want of memory each of these is within its limits. beta is finite.
 pub fn priority_service<L: Ledger>(
     alloc: Global,
     beta: &Curve,
@@ -50,7 +50,7 @@ pub fn priority_service<L: Ledger>(
 ) -> Result<Curve, OpFault>
     requires { IsFinite (value_at beta.now) }
     ensures answer { MakesPriority beta.now higher.now lower result }
-    ensures memory { result ≡ Err OpFault.NoMemory → WantsMemory beta.now higher.now lower steps.old steps.new }
+    ensures refused { IfErr result (λ fault. PriorityRefused beta.now higher.now lower fault (steps.new - steps.old)) }
     ensures value { IfOk result (λ c. IsPriorityService (value_at beta.now) (value_at higher.now) lower (value_at c)) }
     ensures least { steps.old + 1 ≤ steps.new }
     ensures most { steps.new ≤ steps.old + 3 }

@@ -68,8 +68,10 @@ pub record BoundsReflect (I : Type 0) : Type 0 where
 
 -- the infimum of a line on an open stretch is the lesser of its limits at the ends, and its supremum is the greater
 pub record LineOnStretch (lo hi a r : ℚ) : Type 0 where
-  pub infimum : IsInfimum {I = Between lo hi} (λ s. Fin (line_at a r s.at)) (Fin (min_q (line_at a r lo) (line_at a r hi)))
-  pub supremum : IsSupremum {I = Between lo hi} (λ s. Fin (line_at a r s.at)) (Fin (max_q (line_at a r lo) (line_at a r hi)))
+  pub infimum : IsInfimum {I = Between lo hi} (λ s. Fin (line_at a r s.at))
+      (Fin (min_q (line_at a r lo) (line_at a r hi)))
+  pub supremum : IsSupremum {I = Between lo hi} (λ s. Fin (line_at a r s.at))
+      (Fin (max_q (line_at a r lo) (line_at a r hi)))
 
 -- on a stretch without an end, the limit at its start bounds a line on the one side, and a line that rises passes
 -- every number

@@ -52,7 +52,8 @@ mul4 a k d l = rw (diff_is a) (simp diffs (diff_same _ _ _ _ (omega arith)))
 
 -- two fractions' cross products, scaled by one factor
 pub scaled : (a : ℤ) (d : ℕ) (b : ℤ) (e : ℕ)
-    → (m : ℕ) × (a *ℤ pos (suc e) ≡ cross (frac a d) (frac b e) *ℤ pos (suc m)) × (b *ℤ pos (suc d) ≡ cross (frac b e) (frac a d) *ℤ pos (suc m))
+    → (m : ℕ) × (a *ℤ pos (suc e) ≡ cross (frac a d) (frac b e) *ℤ pos (suc m))
+    × (b *ℤ pos (suc d) ≡ cross (frac b e) (frac a d) *ℤ pos (suc m))
 scaled a d b e =
     let (k, p, q) = frac_is a d in
     let (l, r, t) = frac_is b e in
@@ -60,8 +61,10 @@ scaled a d b e =
     let m2 : suc l * suc k ≡ suc (k * l + k + l) = omega arith in
     let X = frac a d in
     let Y = frac b e in
-    let left : a *ℤ pos (suc e) ≡ (X.num *ℤ pos (suc k)) *ℤ pos (suc Y.pre * suc l) = ap₂ (λ (x : ℤ) (n : ℕ). x *ℤ pos n) p t in
-    let right : b *ℤ pos (suc d) ≡ (Y.num *ℤ pos (suc l)) *ℤ pos (suc X.pre * suc k) = ap₂ (λ (x : ℤ) (n : ℕ). x *ℤ pos n) r q in (
+    let left : a *ℤ pos (suc e) ≡ (X.num *ℤ pos (suc k)) *ℤ pos (suc Y.pre * suc l) =
+    ap₂ (λ (x : ℤ) (n : ℕ). x *ℤ pos n) p t in
+    let right : b *ℤ pos (suc d) ≡ (Y.num *ℤ pos (suc l)) *ℤ pos (suc X.pre * suc k) =
+    ap₂ (λ (x : ℤ) (n : ℕ). x *ℤ pos n) r q in (
       k * l + k + l,
       left ∙ mul4 X.num (suc k) (suc Y.pre) (suc l) ∙ ap (λ n. cross X Y *ℤ pos n) m,
       right ∙ mul4 Y.num (suc l) (suc X.pre) (suc k) ∙ ap (λ n. cross Y X *ℤ pos n) m2,
@@ -76,7 +79,8 @@ pub same_from_cross : (x y : ℚ) → cross x y ≡ cross y x → x ≡ y
 same_from_cross x y e =
     let abs : nat_abs x.num * suc y.pre ≡ nat_abs y.num * suc x.pre =
     sym (abs-mul x.num (suc y.pre)) ∙ ap nat_abs e ∙ abs-mul y.num (suc x.pre) in
-    let both = lowest_unique (nat_abs x.num) (suc x.pre) (nat_abs y.num) (suc y.pre) (zero-lt-suc x.pre) (zero-lt-suc y.pre) x.lowest y.lowest abs in
+    let both = lowest_unique (nat_abs x.num) (suc x.pre) (nat_abs y.num) (suc y.pre)
+    (zero-lt-suc x.pre) (zero-lt-suc y.pre) x.lowest y.lowest abs in
     let pre : x.pre ≡ y.pre = omega arith in
     same_parts x y (same_unscale_z x.num y.num y.pre (e ∙ ap (λ k. y.num *ℤ pos (suc k)) pre)) pre
 
@@ -95,8 +99,10 @@ pub frac_self : (x : ℚ) → x ≡ frac x.num x.pre
 frac_self x =
     let (k, p, q) = frac_is x.num x.pre in
     let X = frac x.num x.pre in
-    let left : cross x X ≡ (X.num *ℤ pos (suc k)) *ℤ pos (suc X.pre * 1) = ap₂ (λ (z : ℤ) (n : ℕ). z *ℤ pos n) p (omega arith) in
-    let one : (X.num *ℤ pos (suc X.pre)) *ℤ pos (suc k * 1) ≡ (X.num *ℤ pos (suc X.pre)) *ℤ pos (suc k) = ap (λ n. (X.num *ℤ pos (suc X.pre)) *ℤ pos n) (omega arith) in
+    let left : cross x X ≡ (X.num *ℤ pos (suc k)) *ℤ pos (suc X.pre * 1) =
+    ap₂ (λ (z : ℤ) (n : ℕ). z *ℤ pos n) p (omega arith) in
+    let one : (X.num *ℤ pos (suc X.pre)) *ℤ pos (suc k * 1) ≡ (X.num *ℤ pos (suc X.pre)) *ℤ pos (suc k) =
+    ap (λ n. (X.num *ℤ pos (suc X.pre)) *ℤ pos n) (omega arith) in
     let right : (X.num *ℤ pos (suc X.pre)) *ℤ pos (suc k) ≡ cross X x =
     mul_assoc_z X.num (pos (suc X.pre)) (pos (suc k)) ∙ ap (λ n. X.num *ℤ pos n) (sym q) in
     same_from_cross x X (left ∙ mul4 X.num (suc k) (suc X.pre) 1 ∙ one ∙ right)

@@ -8,3 +8,4 @@ pub mod DrrLaw
 pub mod DrrCalls
 pub mod Numbers
 pub mod DrrGrowth
+pub mod Placed

@@ -4,4 +4,5 @@ pub mod PriorityGrowth
 pub mod DrrLaws
 pub mod DrrCalls
 pub mod DrrGrowth
+pub mod InTurn
 pub use Rattle.curve_call as curve_call

@@ -3,9 +3,11 @@
 #![tactic(auto)]
 
 mod drr;
+mod in_turn;
 mod priority;
 
 pub use drr::{drr_curve_serves, drr_is_determined, drr_serves, drr_service_grows};
+pub use in_turn::services_are_placed;
 pub use priority::{
     priority_curve_serves, priority_is_determined, priority_serves, priority_service_grows,
 };

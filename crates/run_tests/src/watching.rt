@@ -1,6 +1,6 @@
+use flow_watch::{entries_of, first_too_long};
 use fraction128::Frac;
 use run_laws::Step;
-use run_watch::{entries_of, first_too_long};
 use std::test::Fail;
 use watch_laws::Entering;
 

@@ -16,10 +16,10 @@ use Rattle.watch_laws.specs.declared.entering.Entering.{Entering}
 use Rattle.watch_laws.specs.Breaches.{order_key, NoLater, IsIdle}
 use Rattle.watch_laws.specs.Entries.{entries, entering, IsCrowded, EntersFrom}
 use Rattle.watch_laws.proofs.Crowds.{times_rise}
-use Rattle.run_watch.specs.Flows.{NoneLonger, IsFirstLonger, NoneCrowded, IsFirstCrowded}
+use Rattle.flow_watch.specs.Flows.{NoneLonger, IsFirstLonger, NoneCrowded, IsFirstCrowded}
 use Rattle.run_watch.specs.FirstOf.{IsBest, IsLongOn, IsCrowdOn, IsIdleOn, EnterInOrder}
 use Rattle.run_watch.specs.Held.{FindsIdle, IsFirstIdle}
-use Rattle.run_watch.proofs.LeastFirst.{read_is}
+use Rattle.flow_watch.proofs.LeastFirst.{read_is}
 
 -- ---- keys
 same_or_more : (m n : ℕ) (xs ys : List ℚ) → m ≤ n → (m ≡ n → NoLater xs ys) → NoLater (whole m ∷ xs) (whole n ∷ ys)

@@ -24,7 +24,7 @@ use Rattle.run_watch.specs.declared.span.Ramp.{Ramp}
 use Rattle.run_watch.specs.declared.watched.Watched.{Watched}
 use Rattle.run_watch.specs.declared.watched.Stretch.{Stretch}
 use Rattle.run_watch.specs.Ramps.{EachRamp}
-use Rattle.run_watch.specs.Watching.{ReadsAt, stops, TimesRise, next_after, begins, stretches_in, stretches, change_at, changes_in, ends_of, turns}
+use Rattle.run_watch.specs.Watching.{ReadsAt, stops, RiseFrom, next_after, begins, stretches_in, stretches, change_at, changes_in, ends_of, turns}
 use Rattle.run_watch.specs.WatchTimes.{watched_from, TimesFit}
 use Rattle.run_watch.specs.IdleWindows.{SegmentsFit}
 use Rattle.run_watch.specs.Held.{IsSightOf, IsHeldRamp, IsHeld}
@@ -56,8 +56,8 @@ ramp_map P Q f (r ∷ rs) h = (f r h.0, ramp_map P Q f rs h.1)
 pub arrivals_read : (w : Watched) (c : SpecCurve) → IsHeld w c → EachRamp (λ r. ReadsAt w r.span.start) w.arrivals.items
 arrivals_read w c h = ramp_map (IsHeldRamp h.sizes w.end) (λ r. ReadsAt w r.span.start) (λ r k. reads_at w c r.span.start h k.start) w.arrivals.items h.arrivals.each
 
-pub stops_in_order : (w : Watched) (c : SpecCurve) (ts : List ℚ) → IsHeld w c → ts ≡ stops w → TimesRise (int (pos 0)) ts
-stops_in_order w c ts h e = subst (TimesRise (int (pos 0))) (sym e) (stops_rise w (int (pos 0)) w.leaves.items h.rise)
+pub stops_in_order : (w : Watched) (c : SpecCurve) (ts : List ℚ) → IsHeld w c → ts ≡ stops w → RiseFrom (int (pos 0)) ts
+stops_in_order w c ts h e = subst (RiseFrom (int (pos 0))) (sym e) (stops_rise w (int (pos 0)) w.leaves.items h.rise)
 
 -- ---- where the times stand
 pub end_time : (z : Sizes) (end : ℚ) → AreLimited z end → IsTime z end end

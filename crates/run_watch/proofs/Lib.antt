@@ -1,6 +1,5 @@
 pub mod Marks
 pub mod ShortMarks
-pub mod EntryLists
 pub mod RampLists
 pub mod SeenLists
 pub mod WatchedLists
@@ -8,7 +7,6 @@ pub mod ViewSpans
 pub mod ViewStretches
 pub mod FoundStretches
 pub mod FoundTurns
-pub mod LeastFirst
 pub mod LeastTimes
 pub mod ShortWindows
 pub mod SortedPoints
@@ -21,11 +19,6 @@ pub mod SightLaws
 pub mod FirstIdle
 pub mod OwnTurns
 pub mod NearWindows
-pub mod Buckets
-pub mod StairPaces
-pub mod Slides
-pub mod FirstPackets
-pub mod Repeated
 pub mod ClearStretches
 pub mod ShortEnds
 pub mod FirstOfTwo

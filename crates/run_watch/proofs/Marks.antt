@@ -9,7 +9,7 @@ use Rattle.rational.proofs.Linear.{with_atoms, with4}
 use Rattle.watch_laws.specs.declared.mark.Mark.{Mark}
 use Rattle.watch_laws.specs.declared.mark.Rule.{Rule}
 use Rattle.watch_laws.specs.Marks.{Each, Has, TimesRise, IsPast, IsUnder, IsOver, IsUnderSome}
-use Rattle.run_watch.specs.Queue.{Falls, Stands, Scans, EndsAbove, StartsNear, IsNotFar, Lowered, Passed, FrontUnder, Scanned}
+use Rattle.run_watch.specs.Queue.{Falls, HasStandIn, Scans, EndsAbove, StartsNear, IsNotFar, Lowered, Passed, FrontUnder, Scanned}
 
 -- ---- lists of marks
 pub each-append : (P : Mark → Type 0) (ms ns : List Mark) → Each P ms → Each P ns → Each P (ms ++ ns)
@@ -73,16 +73,16 @@ pub pushed : (r : Rule) (marks : List Mark) (b q : Mark) (into : ℕ) (kept stay
 pushed r marks b q into kept stay gone h e less above more order has far = record {
   falls = let f = falls_left stay gone (subst Falls e h.falls) in falls_push q stay f (all_above q.start_key stay f above);
   ready = each-append (λ d. Has d marks × (d.time +ℚ r.least ≤ℚ b.time)) stay (q ∷ []) (each-parts (λ d. Has d marks × (d.time +ℚ r.least ≤ℚ b.time)) stay gone (subst (Each (λ d. Has d marks × (d.time +ℚ r.least ≤ℚ b.time))) e h.ready)).0 ((has, far), tt);
-  covers = subst (Each (λ m. IsPast r.most m.time b.time ⊎ Stands (stay ++ q ∷ []) m)) (sym more)
-      (each-append (λ m. IsPast r.most m.time b.time ⊎ Stands (stay ++ q ∷ []) m) (take into marks) (q ∷ [])
-      (each_from (λ m. IsPast r.most m.time b.time ⊎ Stands (stay ++ q ∷ []) m) (take into marks) (λ m has_m. elim (each_at (λ m. IsPast r.most m.time b.time ⊎ Stands kept m) (take into marks) m h.covers has_m) [
+  covers = subst (Each (λ m. IsPast r.most m.time b.time ⊎ HasStandIn (stay ++ q ∷ []) m)) (sym more)
+      (each-append (λ m. IsPast r.most m.time b.time ⊎ HasStandIn (stay ++ q ∷ []) m) (take into marks) (q ∷ [])
+      (each_from (λ m. IsPast r.most m.time b.time ⊎ HasStandIn (stay ++ q ∷ []) m) (take into marks) (λ m has_m. elim (each_at (λ m. IsPast r.most m.time b.time ⊎ HasStandIn kept m) (take into marks) m h.covers has_m) [
         | inl p ↦ inl p
         | inr s ↦ inr (again m (each_at (λ m. m.time ≤ℚ q.time) (take into marks) m order has_m) s)
       ]))
       (inr (q, has_right q stay (q ∷ []) (inl refl), le_refl q.time, le_refl q.start_key), tt));
 }
   where
-    again : (m : Mark) → m.time ≤ℚ q.time → Stands kept m → Stands (stay ++ q ∷ []) m
+    again : (m : Mark) → m.time ≤ℚ q.time → HasStandIn kept m → HasStandIn (stay ++ q ∷ []) m
     again m before s =
         let (d, has_d, later, greater) = s in
         elim (has-parts d stay gone (subst (Has d) e has_d)) [
@@ -100,10 +100,10 @@ pub passed : (r : Rule) (marks : List Mark) (b : Mark) (into : ℕ) (kept gone s
 passed r marks b into kept gone stay h e past = record {
   falls = falls_right gone stay (subst Falls e h.falls);
   ready = (each-parts (λ d. Has d marks × (d.time +ℚ r.least ≤ℚ b.time)) gone stay (subst (Each (λ d. Has d marks × (d.time +ℚ r.least ≤ℚ b.time))) e h.ready)).1;
-  covers = each_map (λ m. IsPast r.most m.time b.time ⊎ Stands kept m) (λ m. IsPast r.most m.time b.time ⊎ Stands stay m) again (take into marks) h.covers;
+  covers = each_map (λ m. IsPast r.most m.time b.time ⊎ HasStandIn kept m) (λ m. IsPast r.most m.time b.time ⊎ HasStandIn stay m) again (take into marks) h.covers;
 }
   where
-    again : (m : Mark) → IsPast r.most m.time b.time ⊎ Stands kept m → IsPast r.most m.time b.time ⊎ Stands stay m
+    again : (m : Mark) → IsPast r.most m.time b.time ⊎ HasStandIn kept m → IsPast r.most m.time b.time ⊎ HasStandIn stay m
     again m c = elim c [
       | inl p ↦ inl p
       | inr s ↦
@@ -120,7 +120,7 @@ pub front_under : (r : Rule) (marks : List Mark) (b d : Mark) (into : ℕ) (kept
 front_under r marks b d into kept h near less = (d, h.ready.0.0, record { far = h.ready.0.1; near = near; less = less })
 
 -- no mark of the first `into` is under b where the first kept one is not
-no_stand : (r : Rule) (b m : Mark) → IsPast r.most m.time b.time ⊎ Stands [] m → ¬ IsUnder r m b
+no_stand : (r : Rule) (b m : Mark) → IsPast r.most m.time b.time ⊎ HasStandIn [] m → ¬ IsUnder r m b
 no_stand r b m c u = elim c [ inl p ↦ u.near p | inr s ↦ s.1 ]
 
 greatest_first : (d : Mark) (kept : List Mark) (e : Mark) → Falls (d ∷ kept) → Has e (d ∷ kept) → e.start_key ≤ℚ d.start_key
@@ -130,7 +130,7 @@ greatest_first d kept e h k = elim k [
 ]
 
 stand_over : (r : Rule) (b d m : Mark) (kept : List Mark) → Falls (d ∷ kept) → d.start_key +ℚ r.gap ≤ℚ b.end_key
-    → IsPast r.most m.time b.time ⊎ Stands (d ∷ kept) m → ¬ IsUnder r m b
+    → IsPast r.most m.time b.time ⊎ HasStandIn (d ∷ kept) m → ¬ IsUnder r m b
 stand_over r b d m kept f over c u = elim c [
   | inl p ↦ u.near p
   | inr s ↦
@@ -153,7 +153,7 @@ pub empty_over : (r : Rule) (marks : List Mark) (b : Mark) (into : ℕ) → Scan
 empty_over r marks b into h rest =
     subst (λ (ms : List Mark). IsOver r ms b) (halves into marks)
     (each-append (λ a. ¬ IsUnder r a b) (take into marks) (drop into marks)
-    (each_map (λ m. IsPast r.most m.time b.time ⊎ Stands [] m) (λ a. ¬ IsUnder r a b) (λ m. no_stand r b m) (take into marks) h.covers)
+    (each_map (λ m. IsPast r.most m.time b.time ⊎ HasStandIn [] m) (λ a. ¬ IsUnder r a b) (λ m. no_stand r b m) (take into marks) h.covers)
     (each_map (IsNotFar r b) (λ a. ¬ IsUnder r a b) (λ m. too_near r b m) (drop into marks) rest))
 
 pub front_over : (r : Rule) (marks : List Mark) (b d : Mark) (into : ℕ) (kept : List Mark) → Scans r marks b into (d ∷ kept)
@@ -161,7 +161,7 @@ pub front_over : (r : Rule) (marks : List Mark) (b d : Mark) (into : ℕ) (kept 
 front_over r marks b d into kept h rest over =
     subst (λ (ms : List Mark). IsOver r ms b) (halves into marks)
     (each-append (λ a. ¬ IsUnder r a b) (take into marks) (drop into marks)
-    (each_map (λ m. IsPast r.most m.time b.time ⊎ Stands (d ∷ kept) m) (λ a. ¬ IsUnder r a b) (λ m. stand_over r b d m kept h.falls over) (take into marks) h.covers)
+    (each_map (λ m. IsPast r.most m.time b.time ⊎ HasStandIn (d ∷ kept) m) (λ a. ¬ IsUnder r a b) (λ m. stand_over r b d m kept h.falls over) (take into marks) h.covers)
     (each_map (IsNotFar r b) (λ a. ¬ IsUnder r a b) (λ m. too_near r b m) (drop into marks) rest))
 
 -- ---- what is taken out
@@ -255,7 +255,7 @@ scans_later : (r : Rule) (marks : List Mark) (b c : Mark) (n : ℕ) (kept : List
 scans_later r marks b c n kept l h = record {
   falls = h.falls;
   ready = each_map (λ d. Has d marks × (d.time +ℚ r.least ≤ℚ b.time)) (λ d. Has d marks × (d.time +ℚ r.least ≤ℚ c.time)) (λ d k. (k.0, le_trans k.1 l)) kept h.ready;
-  covers = each_map (λ m. IsPast r.most m.time b.time ⊎ Stands kept m) (λ m. IsPast r.most m.time c.time ⊎ Stands kept m)
+  covers = each_map (λ m. IsPast r.most m.time b.time ⊎ HasStandIn kept m) (λ m. IsPast r.most m.time c.time ⊎ HasStandIn kept m)
       (λ m k. elim k [ inl p ↦ inl (later_past r.most m.time b.time c.time l p) | inr s ↦ inr s ]) (take n marks) h.covers;
 }
 

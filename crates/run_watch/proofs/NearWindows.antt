@@ -30,7 +30,7 @@ use Rattle.run_watch.specs.declared.span.Ramp.{Ramp}
 use Rattle.run_watch.specs.declared.watched.Watched.{Watched}
 use Rattle.run_watch.specs.declared.watched.Stretch.{Stretch}
 use Rattle.run_watch.specs.Ramps.{amount, spans_of, EachRamp, ReadsRamp}
-use Rattle.run_watch.specs.Watching.{stops, next_after, stretches, turns, TimesRise, HoldsTimes}
+use Rattle.run_watch.specs.Watching.{stops, next_after, stretches, turns, RiseFrom, HoldsTimes}
 use Rattle.run_watch.specs.WatchTimes.{point_at, watched_from}
 use Rattle.run_watch.specs.FirstEnds.{FitsMarks, FitsSegments}
 use Rattle.run_watch.specs.IdleWindows.{FindsShort, TimeFits, SegmentsFit}
@@ -200,7 +200,7 @@ near_turns w c s own all qs works h L e f =
     (segments (unroll c far)) (segments_held h.sizes w.end (unroll c far) O.each)))))
 
 pub looked_at : (w : Watched) (ss : List Stretch) (k : ℕ) (s : Stretch) (own all : List ℚ) → ss ≡ stretches w → k < length ss → s ≡ slice_index_or ss k s → all ≡ turns w (stretches w) → HoldsTimes s all own
-    → (from : ℚ) × TimesRise from own → IsLookedAt w s own all
+    → (from : ℚ) × RiseFrom from own → IsLookedAt w s own all
 looked_at w ss k s own all same l e f holds rise = record {
   number = k;
   in_range = subst (λ (xs : List Stretch). k < length xs) same l;

@@ -11,7 +11,7 @@ use Rattle.fraction128.specs.Order.{same_q, same_out}
 use Rattle.affine_segment.specs.declared.line.Piece.{Piece}
 use Rattle.watch_laws.specs.Affine.{Among}
 use Rattle.run_watch.specs.declared.watched.Stretch.{Stretch}
-use Rattle.run_watch.specs.Watching.{TimesRise}
+use Rattle.run_watch.specs.Watching.{RiseFrom}
 use Rattle.run_watch.specs.WatchTimes.{around, watched_from, HaveSameTimes}
 use Rattle.run_watch.proofs.FoundTurns.{among_left, among_right, among_parts}
 use Rattle.run_watch.proofs.SortedPoints.{among_sorted, sorted_among, sorted_rise}
@@ -55,21 +55,21 @@ same_kept : (xs : List ℚ) → HaveSameTimes xs (dedup same_q xs)
 same_kept [] = record { into = λ t h. h; back = λ t h. h }
 same_kept (k ∷ xs) = record { into = kept_into k xs; back = kept_back k xs }
 
-kept_rise : (from k : ℚ) (xs : List ℚ) → TimesRise from (k ∷ xs) → TimesRise from (dedup_from same_q k xs)
+kept_rise : (from k : ℚ) (xs : List ℚ) → RiseFrom from (k ∷ xs) → RiseFrom from (dedup_from same_q k xs)
 kept_rise from k [] h = h
 kept_rise from k (x ∷ xs) h = elim (cases_Bool (same_q x k)) [
-  | inl e ↦ rw e (kept_rise from k xs (h.0, subst (λ y. TimesRise y xs) (same_out x k e) h.1.1))
+  | inl e ↦ rw e (kept_rise from k xs (h.0, subst (λ y. RiseFrom y xs) (same_out x k e) h.1.1))
   | inr e ↦ rw e (h.0, kept_rise k x xs h.1)
 ]
 
-rise_kept : (from : ℚ) (xs : List ℚ) → TimesRise from xs → TimesRise from (dedup same_q xs)
+rise_kept : (from : ℚ) (xs : List ℚ) → RiseFrom from xs → RiseFrom from (dedup same_q xs)
 rise_kept from [] h = tt
 rise_kept from (k ∷ xs) h = kept_rise from k xs h
 
 -- sorted, and each once
 pub record AreInOrder (xs ts : List ℚ) : Type 0 where
   pub same : HaveSameTimes xs ts
-  pub rise : (from : ℚ) × TimesRise from ts
+  pub rise : (from : ℚ) × RiseFrom from ts
 
 pub in_order : (xs ys zs : List ℚ) → IsPermutation xs ys → IsSorted cmp_q ys → zs ≡ dedup same_q ys → AreInOrder xs zs
 in_order xs ys zs p s e =
@@ -77,7 +77,7 @@ in_order xs ys zs p s e =
     let (from, rise) = sorted_rise ys s in
     record {
       same = subst (HaveSameTimes xs) (sym e) (same_then xs ys (dedup same_q ys) sorted (same_kept ys));
-      rise = (from, subst (TimesRise from) (sym e) (rise_kept from ys rise));
+      rise = (from, subst (RiseFrom from) (sym e) (rise_kept from ys rise));
     }
 
 -- ---- one turn more

@@ -8,20 +8,20 @@ use Rattle.rational.proofs.Laws.{le_lt_trans, lt_le_trans, lt_irrefl, le_of_not_
 use Rattle.rational.proofs.Over.{lt_q_in, lt_q_out, le_q_in, le_q_out}
 use Rattle.watch_laws.specs.Affine.{Among}
 use Rattle.run_watch.specs.declared.watched.Stretch.{Stretch}
-use Rattle.run_watch.specs.Watching.{TimesRise, HoldsTimes}
+use Rattle.run_watch.specs.Watching.{RiseFrom, HoldsTimes}
 use Rattle.run_watch.proofs.SortedPoints.{among_sorted, sorted_among}
 use Rattle.run_watch.proofs.WatchedLists.{times_rise}
 
 -- ---- a part of times in order
-pub parted_before_at : (from : ℚ) (ts : List ℚ) (u : ℚ) → TimesRise from ts → (i j : ℕ) (d : ℚ) → i ≤ j → j < length ts → before u (get_or ts j d) ≡ true → before u (get_or ts i d) ≡ true
+pub parted_before_at : (from : ℚ) (ts : List ℚ) (u : ℚ) → RiseFrom from ts → (i j : ℕ) (d : ℚ) → i ≤ j → j < length ts → before u (get_or ts j d) ≡ true → before u (get_or ts i d) ≡ true
 parted_before_at from ts u h i j d k l e = lt_q_out (get_or ts i d) u (le_lt_trans (times_rise from ts i j d h k l) (lt_q_in (get_or ts j d) u e))
 
-pub rise_drop : (k : ℕ) (from : ℚ) (ts : List ℚ) → TimesRise from ts → (f : ℚ) × TimesRise f (drop k ts)
+pub rise_drop : (k : ℕ) (from : ℚ) (ts : List ℚ) → RiseFrom from ts → (f : ℚ) × RiseFrom f (drop k ts)
 rise_drop zero from ts h = (from, h)
 rise_drop (suc k) from [] h = (from, tt)
 rise_drop (suc k) from (t ∷ ts) h = rise_drop k t ts h.1
 
-pub rise_take : (k : ℕ) (from : ℚ) (ts : List ℚ) → TimesRise from ts → TimesRise from (take k ts)
+pub rise_take : (k : ℕ) (from : ℚ) (ts : List ℚ) → RiseFrom from ts → RiseFrom from (take k ts)
 rise_take zero from ts h = tt
 rise_take (suc k) from [] h = tt
 rise_take (suc k) from (t ∷ ts) h = (h.0, rise_take k t ts h.1)

@@ -21,7 +21,7 @@ use Rattle.watch_laws.specs.Paces.{pace_of, pace_before, pace_after}
 use Rattle.run_watch.specs.declared.span.Span.{Span}
 use Rattle.run_watch.specs.Ramps.{amount, rate_before, rate_after, as_span}
 use Rattle.run_watch.specs.Seen.{at_once, arrival_spans, work_spans, works_at, leaves_at, sizes_after, arrival_in, arrivals_at, AreFirsts}
-use Rattle.run_watch.proofs.EntryLists.{next_item}
+use Rattle.flow_watch.proofs.EntryLists.{next_item}
 
 -- ---- steps of the loops
 pub arrivals_next : (firsts : List ℕ) (s : ℕ) (sizes now : List ℕ) (x : Step) (steps : List Step) (i : ℕ) (o : Option Span) → i < length steps → x ≡ slice_index_or steps i x

@@ -259,7 +259,7 @@ fits_taken n ps qs s e h = subst (λ (xs : List Point). FitsMarks xs s) (sym e) 
 }
 
 -- ---- the points in reach
-has_each : (P : Point → Type 0) (ps : List Point) (p : Point) → EachPoint P ps → HasPoint p ps → P p
+pub has_each : (P : Point → Type 0) (ps : List Point) (p : Point) → EachPoint P ps → HasPoint p ps → P p
 has_each P [] p h k = absurd k
 has_each P (q ∷ ps) p h k = elim k [ inl e ↦ subst P (sym e) h.0 | inr l ↦ has_each P ps p h.1 l ]
 
@@ -290,7 +290,7 @@ rise_dropped zero ps h = h
 rise_dropped (suc n) [] h = h
 rise_dropped (suc n) (q ∷ ps) h = rise_dropped n ps h.1
 
-point_in : (ps : List Point) (k : ℕ) (p : Point) → k < length ps → p ≡ slice_index_or ps k p → HasPoint p ps
+pub point_in : (ps : List Point) (k : ℕ) (p : Point) → k < length ps → p ≡ slice_index_or ps k p → HasPoint p ps
 point_in [] k p l e = absurd (omega arith)
 point_in (q ∷ ps) zero p l e = inl e
 point_in (q ∷ ps) (suc k) p l e = inr (point_in ps k p (omega arith) e)

@@ -14,7 +14,7 @@ use Rattle.run_watch.specs.FirstEnds.{mark_of, rule_of, HoldsStarts, FitsMarks, 
 use Rattle.run_watch.specs.WatchTimes.{StartsBy}
 use Rattle.run_watch.specs.NearWindows.{IsLeast}
 use Rattle.run_watch.proofs.LeastTimes.{points_taken}
-use Rattle.run_watch.proofs.ShortMarks.{short_under, under_short}
+use Rattle.run_watch.proofs.ShortMarks.{has_each, point_in, short_under, under_short}
 
 -- ---- one window
 pub record AreMarks (s : Segment) (a b : Point) (r : Rule) (x y : Mark) : Type 0 where
@@ -59,21 +59,12 @@ points_push P ps k p l e h is = rw add-one (push ps k l e h)
     push (r ∷ ps) zero l e h = (subst P e is, tt)
     push (r ∷ ps) (suc k) l e h = (h.0, push ps k (omega arith) e h.1)
 
-pub point_has : (ps : List Point) (k : ℕ) (p : Point) → k < length ps → p ≡ slice_index_or ps k p → HasPoint p ps
-point_has [] k p l e = absurd (omega arith)
-point_has (q ∷ ps) zero p l e = inl e
-point_has (q ∷ ps) (suc k) p l e = inr (point_has ps k p (omega arith) e)
-
-pub each_point_has : (P : Point → Type 0) (ps : List Point) (p : Point) → EachPoint P ps → HasPoint p ps → P p
-each_point_has P [] p h k = absurd k
-each_point_has P (q ∷ ps) p h k = elim k [ inl e ↦ subst P (sym e) h.0 | inr l ↦ each_point_has P ps p h.1 l ]
-
 -- of points in order, one that is not among the first k is no earlier than the next
 pub first_or_later : (ps : List Point) (k : ℕ) (a p : Point) → PointsRise ps → k < length ps → a ≡ slice_index_or ps k a → HasPoint p ps → HasPoint p (take k ps) ⊎ (a.time ≤ℚ p.time)
 first_or_later [] k a p h l e has = absurd has
 first_or_later (q ∷ ps) zero a p h l e has = elim has [
   | inl is ↦ inr (subst (λ (r : Point). a.time ≤ℚ r.time) (e ∙ sym is) (le_refl a.time))
-  | inr m ↦ inr (subst (λ (r : Point). r.time ≤ℚ p.time) (sym e) (each_point_has (λ r. q.time ≤ℚ r.time) ps p h.0 m))
+  | inr m ↦ inr (subst (λ (r : Point). r.time ≤ℚ p.time) (sym e) (has_each (λ r. q.time ≤ℚ r.time) ps p h.0 m))
 ]
 first_or_later (q ∷ ps) (suc k) a p h l e has = elim has [
   | inl is ↦ inl (inl is)
@@ -83,11 +74,11 @@ first_or_later (q ∷ ps) (suc k) a p h l e has = elim has [
 pub first_by : (s : Segment) (ps qs : List Point) (k : ℕ) (a b : Point) → HoldsStarts s ps b.time b.time qs → k < length qs → a ≡ slice_index_or qs k a → EachPoint (λ p. ¬ IsShortBy s p b) (take k qs) → IsShortBy s a b
     → IsLeast (StartsBy ps b s) (Some a.time)
 first_by s ps qs k a b h l e none is = (
-  (a, h.are a (point_has qs k a l e), is, refl),
+  (a, h.are a (point_in qs k a l e), is, refl),
   λ t w.
       let (p, has, short, at) = w in
       elim (first_or_later qs k a p h.rise l e (h.all p b has (le_refl b.time) (le_refl b.time) short)) [
-        | inl m ↦ absurd (each_point_has (λ p. ¬ IsShortBy s p b) (take k qs) p none m short)
+        | inl m ↦ absurd (has_each (λ p. ¬ IsShortBy s p b) (take k qs) p none m short)
         | inr m ↦ subst (λ x. a.time ≤ℚ x) (sym at) m
       ],
 )
@@ -95,14 +86,14 @@ first_by s ps qs k a b h l e none is = (
 pub none_by_reach : (s : Segment) (ps qs : List Point) (k : ℕ) (b : Point) → HoldsStarts s ps b.time b.time qs → length qs ≤ k → EachPoint (λ p. ¬ IsShortBy s p b) (take k qs) → IsLeast (StartsBy ps b s) None
 none_by_reach s ps qs k b h l none t w =
     let (p, has, short, at) = w in
-    each_point_has (λ p. ¬ IsShortBy s p b) qs p (subst (EachPoint (λ p. ¬ IsShortBy s p b)) (points_taken qs k l) none) (h.all p b has (le_refl b.time) (le_refl b.time) short) short
+    has_each (λ p. ¬ IsShortBy s p b) qs p (subst (EachPoint (λ p. ¬ IsShortBy s p b)) (points_taken qs k l) none) (h.all p b has (le_refl b.time) (le_refl b.time) short) short
 
 -- ---- sizes
 pub fits_at : (s : Segment) (ps : List Point) (k : ℕ) (p : Point) → k < length ps → p ≡ slice_index_or ps k p → FitsMarks ps s → FitsMarks (p ∷ []) s
 fits_at s ps k p l e h = record {
-  keys = (each_point_has _ ps p h.keys (point_has ps k p l e), tt);
+  keys = (has_each _ ps p h.keys (point_in ps k p l e), tt);
   gap = h.gap;
-  marks = (each_point_has _ ps p h.marks (point_has ps k p l e), tt);
+  marks = (has_each _ ps p h.marks (point_in ps k p l e), tt);
 }
 
 pub fits_one : (ss : List Segment) (ps : List Point) (k : ℕ) (p : Point) → k < length ps → p ≡ slice_index_or ps k p → FitsSegments ps ss → FitsSegments (p ∷ []) ss

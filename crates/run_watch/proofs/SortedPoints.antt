@@ -1,11 +1,11 @@
 -- The points of sorted times: in order, and those of the times.
-use Rattle.std.specs.Prelude.{◌≡◌, ◌⊎◌, ℕ, zero, suc, ◌+◌, ◌<◌, ◌≤◌, pos, false, List, [], ◌∷◌, length, take, map, get_or, Contains, Option, Some, None, slice_get}
+use Rattle.std.specs.Prelude.{◌≡◌, ℕ, zero, suc, ◌+◌, ◌<◌, ◌≤◌, pos, false, List, [], ◌∷◌, length, take, map, get_or, Contains, Option, Some, None, slice_get}
 use Rattle.std.specs.List.{slice_index_or}
 use Rattle.std.specs.List.Sorted.{IsSorted, IsPermutation}
 use Rattle.std.specs.Ordering.{is_lt}
 use Rattle.std.proofs.Common.{arith, inl, inr, refl, sym, subst, ap, ◌∙◌, add-one}
 use Rattle.std.proofs.lemmas.List.Sorted.{Contains-permutation, IsPermutation-sym}
-use Rattle.rational.specs.Rational.{ℚ, int, ◌≤ℚ◌, ◌<ℚ◌}
+use Rattle.rational.specs.Rational.{ℚ, int, ◌≤ℚ◌}
 use Rattle.rational.specs.Ratio.{cmp_q}
 use Rattle.rational.proofs.Laws.{le_refl, le_trans, le_or_lt, le_of_lt, antisym}
 use Rattle.rational.proofs.Linear.{with3}
@@ -16,13 +16,14 @@ use Rattle.watch_laws.specs.Shorts.{EachPoint, HasPoint, EachSegment, HasSegment
 use Rattle.run_watch.specs.declared.span.Ramp.{Ramp}
 use Rattle.run_watch.specs.Ramps.{EachRamp, ReadsRamp}
 use Rattle.run_watch.specs.declared.watched.Stretch.{Stretch}
-use Rattle.run_watch.specs.Watching.{TimesRise, HoldsTimes}
+use Rattle.run_watch.specs.Watching.{RiseFrom, HoldsTimes}
 use Rattle.run_watch.specs.FirstEnds.{KeySteps, GapSteps, FitsMarks, FitsSegments, IsFirstEnd, mark_of, rule_of}
 use Rattle.run_watch.specs.WatchTimes.{HaveSameTimes, point_at, IsShortTo, StartsTo}
 use Rattle.run_watch.specs.NearWindows.{IsLeast}
 use Rattle.run_watch.specs.IdleWindows.{IsShortWindow, NoneIsShort, IsFirstShort, NoneEndsBy, TimeFits, SegmentsFit}
 use Rattle.watch_laws.specs.Marks.{FitsRule}
-use Rattle.run_watch.proofs.ShortWindows.{each_point_has, first_or_later, point_has}
+use Rattle.run_watch.proofs.ShortMarks.{has_each, point_in}
+use Rattle.run_watch.proofs.ShortWindows.{first_or_later}
 use Rattle.run_watch.proofs.LeastTimes.{points_taken}
 use Rattle.run_laws.proofs.Times.{each_time_map}
 use Rattle.step_lines.proofs.SortedParts.{no_less}
@@ -73,11 +74,11 @@ tail_sorted x ts h = λ k d a b. shifted ts k d (h (suc k) d (omega arith) (omeg
     shifted : (ts : List ℚ) (k : ℕ) (d : ℚ) → is_lt (cmp_q (slice_index_or (x ∷ ts) (suc k + 1) d) (slice_index_or (x ∷ ts) (suc k) d)) ≡ false → is_lt (cmp_q (slice_index_or ts (k + 1) d) (slice_index_or ts k d)) ≡ false
     shifted ts k d e = rw add-one (rw add-one at e)
 
-pub sorted_rise : (ts : List ℚ) → IsSorted cmp_q ts → (from : ℚ) × TimesRise from ts
+pub sorted_rise : (ts : List ℚ) → IsSorted cmp_q ts → (from : ℚ) × RiseFrom from ts
 sorted_rise [] h = (int (pos 0), tt)
 sorted_rise (x ∷ ts) h = (x, (le_refl x, go x ts h))
   where
-    go : (x : ℚ) (ts : List ℚ) → IsSorted cmp_q (x ∷ ts) → TimesRise x ts
+    go : (x : ℚ) (ts : List ℚ) → IsSorted cmp_q (x ∷ ts) → RiseFrom x ts
     go x [] h = tt
     go x (t ∷ ts) h = (no_less x t (h 0 x (omega arith) (omega arith)), go t ts (tail_sorted x (t ∷ ts) h))
 
@@ -85,15 +86,15 @@ pub each_point_at : (P : Point → Type 0) (works : List Ramp) (ts : List ℚ) �
 each_point_at P works [] h = tt
 each_point_at P works (t ∷ ts) h = (h.0, each_point_at P works ts h.1)
 
-later_times : (x : ℚ) (ts : List ℚ) → TimesRise x ts → EachTime (λ t. x ≤ℚ t) ts
+later_times : (x : ℚ) (ts : List ℚ) → RiseFrom x ts → EachTime (λ t. x ≤ℚ t) ts
 later_times x [] h = tt
 later_times x (t ∷ ts) h = (h.0, each_time_map (λ u. t ≤ℚ u) (λ u. x ≤ℚ u) (λ u k. le_trans h.0 k) ts (later_times t ts h.1))
 
-points_rise : (works : List Ramp) (from : ℚ) (ts : List ℚ) → TimesRise from ts → PointsRise (map (point_at works) ts)
+points_rise : (works : List Ramp) (from : ℚ) (ts : List ℚ) → RiseFrom from ts → PointsRise (map (point_at works) ts)
 points_rise works from [] h = tt
 points_rise works from (t ∷ ts) h = (each_point_at (λ q. t ≤ℚ q.time) works ts (later_times t ts h.1), points_rise works t ts h.1)
 
-pub rise_of : (works : List Ramp) (ts : List ℚ) (ps : List Point) → ps ≡ map (point_at works) ts → (from : ℚ) × TimesRise from ts → PointsRise ps
+pub rise_of : (works : List Ramp) (ts : List ℚ) (ps : List Point) → ps ≡ map (point_at works) ts → (from : ℚ) × RiseFrom from ts → PointsRise ps
 rise_of works ts ps e h = let (from, rise) = h in subst PointsRise (sym e) (points_rise works from ts rise)
 
 -- ---- the points are those of the times
@@ -139,7 +140,7 @@ none_in ss ps es a b none ha hb is = let (s, has, short) = is in go ss none s ha
     go : (ss : List Segment) → EachSegment (λ s. EachPoint (NoneShortTo ps s) es) ss → (s : Segment) → HasSegment s ss → IsShortBy s a b → ⊥
     go [] none s has short = has
     go (r ∷ ss) none s has short = elim has [
-      | inl e ↦ each_point_has (λ a. ¬ IsShortBy r a b) ps a (each_point_has (NoneShortTo ps r) es b none.0 hb) ha (subst (λ (q : Segment). IsShortBy q a b) e short)
+      | inl e ↦ has_each (λ a. ¬ IsShortBy r a b) ps a (has_each (NoneShortTo ps r) es b none.0 hb) ha (subst (λ (q : Segment). IsShortBy q a b) e short)
       | inr m ↦ go ss none.1 s m short
     ]
 
@@ -171,10 +172,10 @@ ordered ss a b h is =
     let u = b.time in
     with3 x t u (λ c. omega (arith, c.le, c.lt, c.same))
 
-pub first_short : (ss : List Segment) (works : List Ramp) (xs ts us : List ℚ) (ps es : List Point) (k : ℕ) (a : ℚ) (b : Point) → AreEnds ss works xs ts us ps es → (from : ℚ) × TimesRise from us → IsFirstEnd ss ss ps es k
+pub first_short : (ss : List Segment) (works : List Ramp) (xs ts us : List ℚ) (ps es : List Point) (k : ℕ) (a : ℚ) (b : Point) → AreEnds ss works xs ts us ps es → (from : ℚ) × RiseFrom from us → IsFirstEnd ss ss ps es k
     → k < length es → b ≡ slice_index_or es k b → IsLeast (StartsTo ps b ss) (Some a) → IsFirstShort ss works xs a b.time
 first_short ss works xs ts us ps es k a b A order f l is start =
-    let has_b = point_has es k b l is in
+    let has_b = point_in es k b l is in
     let (s, listed, from) = start.0 in
     let (p, has_p, short, at_a) = from in
     let pa = point_is works ts p (subst (λ (qs : List Point). HasPoint p qs) A.points has_p) in
@@ -225,7 +226,7 @@ window_at ss gs works ts ps k b g e f l is =
     let a = there.start in
     let same : c ≡ b = point_read ps k b c at l ∙ sym is in
     let pa = point_is works ts a (subst (λ (qs : List Point). HasPoint a qs) e there.one_of) in
-    let pb = point_is works ts b (subst (λ (qs : List Point). HasPoint b qs) e (point_has ps k b l is)) in
+    let pb = point_is works ts b (subst (λ (qs : List Point). HasPoint b qs) e (point_in ps k b l is)) in
     let short : IsShortTo gs a b = (there.segment, there.in_curve, subst (λ (p : Point). IsShortBy there.segment a p) same there.short) in (
       a.time,
       record {
@@ -236,7 +237,7 @@ window_at ss gs works ts ps k b g e f l is =
     )
 
 -- and it is the least
-pub least_end : (ss gs : List Segment) (works : List Ramp) (ts : List ℚ) (ps : List Point) (k : ℕ) (b : Point) → gs ≡ ss → (from : ℚ) × TimesRise from ts → ps ≡ map (point_at works) ts → IsFirstEnd gs gs ps ps k → k < length ps
+pub least_end : (ss gs : List Segment) (works : List Ramp) (ts : List ℚ) (ps : List Point) (k : ℕ) (b : Point) → gs ≡ ss → (from : ℚ) × RiseFrom from ts → ps ≡ map (point_at works) ts → IsFirstEnd gs gs ps ps k → k < length ps
     → b ≡ slice_index_or ps k b → IsLeast (λ t. (a : ℚ) × IsShortWindow ss works ts a t) (Some b.time)
 least_end ss gs works ts ps k b g order e f l is = (
   window_at ss gs works ts ps k b g e f l is,

@@ -11,13 +11,13 @@ use Rattle.watch_laws.specs.Times.{leave_times}
 use Rattle.run_watch.specs.declared.span.Span.{Span}
 use Rattle.run_watch.specs.Ramps.{InOrder, TakeTime}
 use Rattle.run_watch.specs.Seen.{arrival_spans, work_spans}
-use Rattle.run_watch.specs.Watching.{TimesRise}
+use Rattle.run_watch.specs.Watching.{RiseFrom}
 
 order_sooner : (x y : ℚ) (ss : List Span) → x ≤ℚ y → InOrder y ss → InOrder x ss
 order_sooner x y [] h k = tt
 order_sooner x y (s ∷ ss) h k = (le_trans h k.0, k.1, k.2)
 
-rise_sooner : (x y : ℚ) (ts : List ℚ) → x ≤ℚ y → TimesRise y ts → TimesRise x ts
+rise_sooner : (x y : ℚ) (ts : List ℚ) → x ≤ℚ y → RiseFrom y ts → RiseFrom x ts
 rise_sooner x y [] h k = tt
 rise_sooner x y (t ∷ ts) h k = (le_trans h k.0, k.1)
 
@@ -42,7 +42,7 @@ works_take server end σ (Works c x b w ∷ V) a = (a.0.1.forward, works_take se
 works_take server end σ (Leaves c t ∷ V) a = works_take server end (next server.discipline σ (Leaves c t)) V a.1
 works_take server end σ (Visits q t ∷ V) a = works_take server end (next server.discipline σ (Visits q t)) V a.1
 
-leaves_from : (server : Server) (end : ℚ) (σ : ServerState) (V : List ServerStep) → AllAllowed server end σ V → TimesRise σ.now (leave_times V)
+leaves_from : (server : Server) (end : ℚ) (σ : ServerState) (V : List ServerStep) → AllAllowed server end σ V → RiseFrom σ.now (leave_times V)
 leaves_from server end σ [] a = tt
 leaves_from server end σ (Arrives c t ∷ V) a = rise_sooner σ.now t (leave_times V) a.0.0.in_order (leaves_from server end (next server.discipline σ (Arrives c t)) V a.1)
 leaves_from server end σ (Works c x b w ∷ V) a = rise_sooner σ.now x (leave_times V) a.0.0.in_order (leaves_from server end (next server.discipline σ (Works c x b w)) V a.1)
@@ -66,7 +66,7 @@ works_in_order server end V h = works_from server end (start server.discipline) 
 pub works_take_time : (server : Server) (end : ℚ) (V : List ServerStep) → IsLawfulView server end V → TakeTime (work_spans V)
 works_take_time server end V h = works_take server end (start server.discipline) V h.allowed
 
-pub leaves_rise : (server : Server) (end : ℚ) (V : List ServerStep) → IsLawfulView server end V → TimesRise (int (pos 0)) (leave_times V)
+pub leaves_rise : (server : Server) (end : ℚ) (V : List ServerStep) → IsLawfulView server end V → RiseFrom (int (pos 0)) (leave_times V)
 leaves_rise server end V h = leaves_from server end (start server.discipline) V h.allowed
 
 pub leaves_in_run : (server : Server) (end : ℚ) (V : List ServerStep) → IsLawfulView server end V → EachTime (λ t. t ≤ℚ end) (leave_times V)

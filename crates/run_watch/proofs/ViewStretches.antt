@@ -14,7 +14,7 @@ use Rattle.watch_laws.specs.Stretches.{IsStretch}
 use Rattle.watch_laws.proofs.Times.{ends_with}
 use Rattle.run_watch.specs.declared.watched.Watched.{Watched}
 use Rattle.run_watch.specs.Held.{IsSightOf}
-use Rattle.run_watch.specs.Watching.{arrived_by, worked_by, is_caught_up, stops_in, stops, TimesRise, next_after}
+use Rattle.run_watch.specs.Watching.{arrived_by, worked_by, is_caught_up, stops_in, stops, RiseFrom, next_after}
 use Rattle.run_watch.proofs.ViewSpans.{leaves_rise, leaves_in_run}
 use Rattle.run_laws.proofs.Times.{each_time_map}
 
@@ -27,11 +27,11 @@ record IsNext (u end e : ℚ) (ts : List ℚ) : Type 0 where
   least : EachTime (λ t. u <ℚ t → e ≤ℚ t) ts
   before_end : EachTime (λ t. t ≤ℚ end) ts
 
-from_first : (x e : ℚ) (ts : List ℚ) → TimesRise x ts → Among e ts → x ≤ℚ e
+from_first : (x e : ℚ) (ts : List ℚ) → RiseFrom x ts → Among e ts → x ≤ℚ e
 from_first x e [] h k = absurd k
 from_first x e (t ∷ ts) h k = elim k [ inl is ↦ subst (λ z. x ≤ℚ z) (sym is) h.0 | inr l ↦ le_trans h.0 (from_first t e ts h.1 l) ]
 
-next_is : (x u end e : ℚ) (ts : List ℚ) → TimesRise x ts → IsNext u end e ts → next_after u end ts ≡ e
+next_is : (x u end e : ℚ) (ts : List ℚ) → RiseFrom x ts → IsNext u end e ts → next_after u end ts ≡ e
 next_is x u end e [] h n = elim n.is [ inl is ↦ sym is | inr a ↦ absurd a ]
 next_is x u end e (t ∷ ts) h n = elim (le_or_lt t u) [
   | inl l ↦ rw (lt_q_not u t l) (next_is t u end e ts h.1 record {
@@ -53,14 +53,14 @@ next_is x u end e (t ∷ ts) h n = elim (le_or_lt t u) [
 ]
 
 -- ---- stops
-pub stops_rise : (w : Watched) (x : ℚ) (ts : List ℚ) → TimesRise x ts → TimesRise x (stops_in w ts)
+pub stops_rise : (w : Watched) (x : ℚ) (ts : List ℚ) → RiseFrom x ts → RiseFrom x (stops_in w ts)
 stops_rise w x [] h = tt
 stops_rise w x (t ∷ ts) h = elim (cases_Bool (is_caught_up w t)) [
   | inl e ↦ rw e (h.0, stops_rise w t ts h.1)
   | inr e ↦ rw e (sooner (stops_in w ts) (stops_rise w t ts h.1))
 ]
   where
-    sooner : (us : List ℚ) → TimesRise t us → TimesRise x us
+    sooner : (us : List ℚ) → RiseFrom t us → RiseFrom x us
     sooner [] k = tt
     sooner (u ∷ us) k = (le_trans h.0 k.0, k.1)
 
@@ -105,7 +105,7 @@ ends_at server end V w u e S s =
       ]
     ] in
     ap (λ z. next_after u z (stops w)) S.end_is
-    ∙ next_is (int (pos 0)) u end e (stops w) (stops_rise w (int (pos 0)) w.leaves.items (subst (λ (ts : List ℚ). TimesRise (int (pos 0)) ts) (sym leaves) (leaves_rise server end V S.lawful))) record {
+    ∙ next_is (int (pos 0)) u end e (stops w) (stops_rise w (int (pos 0)) w.leaves.items (subst (λ (ts : List ℚ). RiseFrom (int (pos 0)) ts) (sym leaves) (leaves_rise server end V S.lawful))) record {
       later = s.forward;
       in_run = s.in_run;
       is = is;

@@ -6,24 +6,24 @@ use Rattle.rational.specs.Rational.{ℚ, ◌≤ℚ◌, ◌<ℚ◌}
 use Rattle.rational.proofs.Laws.{le_refl, le_trans}
 use Rattle.rational.proofs.Over.{le_q_out, le_q_in, lt_q_out}
 use Rattle.rational.proofs.MinMax.{lt_q_not}
-use Rattle.run_watch.specs.Watching.{TimesRise, next_after}
+use Rattle.run_watch.specs.Watching.{RiseFrom, next_after}
 use Rattle.run_laws.specs.Counts.{upto}
 
 -- ---- stops
 -- ---- the first time after u
-later_than : (from : ℚ) (ts : List ℚ) (j : ℕ) (d : ℚ) → TimesRise from ts → j < length ts → from ≤ℚ get_or ts j d
+later_than : (from : ℚ) (ts : List ℚ) (j : ℕ) (d : ℚ) → RiseFrom from ts → j < length ts → from ≤ℚ get_or ts j d
 later_than from [] j d h l = absurd (omega arith)
 later_than from (t ∷ ts) zero d h l = h.0
 later_than from (t ∷ ts) (suc j) d h l = le_trans h.0 (later_than t ts j d h.1 (omega arith))
 
-pub times_rise : (from : ℚ) (ts : List ℚ) (i j : ℕ) (d : ℚ) → TimesRise from ts → i ≤ j → j < length ts → get_or ts i d ≤ℚ get_or ts j d
+pub times_rise : (from : ℚ) (ts : List ℚ) (i j : ℕ) (d : ℚ) → RiseFrom from ts → i ≤ j → j < length ts → get_or ts i d ≤ℚ get_or ts j d
 times_rise from [] i j d h k l = absurd (omega arith)
 times_rise from (t ∷ ts) zero zero d h k l = le_refl t
 times_rise from (t ∷ ts) zero (suc j) d h k l = later_than t ts j d h.1 (omega arith)
 times_rise from (t ∷ ts) (suc i) zero d h k l = absurd (omega arith)
 times_rise from (t ∷ ts) (suc i) (suc j) d h k l = times_rise t ts i j d h.1 (omega arith) (omega arith)
 
-pub parted_at : (from : ℚ) (ts : List ℚ) (u : ℚ) → TimesRise from ts → (i j : ℕ) (d : ℚ) → i ≤ j → j < length ts → upto u (get_or ts j d) ≡ true → upto u (get_or ts i d) ≡ true
+pub parted_at : (from : ℚ) (ts : List ℚ) (u : ℚ) → RiseFrom from ts → (i j : ℕ) (d : ℚ) → i ≤ j → j < length ts → upto u (get_or ts j d) ≡ true → upto u (get_or ts i d) ≡ true
 parted_at from ts u h i j d k l e = le_q_out (get_or ts i d) u (le_trans (times_rise from ts i j d h k l) (le_q_in (get_or ts j d) u e))
 
 abbrev pub AreBy : ℚ → List ℚ → ℕ → Type 0

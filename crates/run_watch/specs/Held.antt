@@ -19,7 +19,7 @@ use Rattle.run_watch.specs.declared.span.Ramp.{Ramp}
 use Rattle.run_watch.specs.declared.watched.Watched.{Watched}
 use Rattle.run_watch.specs.Ramps.{AreRamps, EachRamp, TakeTime, ramps_after, spans_of}
 use Rattle.run_watch.specs.Seen.{arrival_spans, work_spans}
-use Rattle.run_watch.specs.Watching.{TimesRise, arrived_by, worked_by}
+use Rattle.run_watch.specs.Watching.{RiseFrom, arrived_by, worked_by}
 
 -- w is what the server sees by its steps
 pub record IsSightOf (server : Server) (end : ℚ) (V : List ServerStep) (w : Watched) : Type 0 where
@@ -54,7 +54,7 @@ pub record IsHeld (w : Watched) (c : SpecCurve) : Type 0 where
   pub works : AreHeld sizes w.end w.works.items
   pub time : TakeTime (spans_of w.works.items)
   pub leaves : EachTime (IsTime sizes w.end) w.leaves.items
-  pub rise : TimesRise (int (pos 0)) w.leaves.items
+  pub rise : RiseFrom (int (pos 0)) w.leaves.items
 
 -- ---- the first idle window
 -- none at all; or the one with the least end, and of those the least start

@@ -1,8 +1,5 @@
 pub mod Queue
 pub mod FirstEnds
-pub mod Flows
-pub mod Stairs
-pub mod Repeats
 pub mod Ramps
 pub mod Seen
 pub mod Watching
@@ -13,3 +10,4 @@ pub mod Searches
 pub mod Held
 pub mod Sights
 pub mod FirstOf
+pub use Rattle.flow_watch as flow_watch

@@ -12,14 +12,14 @@ Falls [] = Unit {0}
 Falls (m ∷ ms) = Each (λ n. n.start_key ≤ℚ m.start_key) ms × Falls ms
 
 -- one that is no earlier, and whose key is no less, is there
-abbrev pub Stands : List Mark → Mark → Type 0
-Stands kept m = (d : Mark) × Has d kept × (m.time ≤ℚ d.time) × (m.start_key ≤ℚ d.start_key)
+abbrev pub HasStandIn : List Mark → Mark → Type 0
+HasStandIn kept m = (d : Mark) × Has d kept × (m.time ≤ℚ d.time) × (m.start_key ≤ℚ d.start_key)
 
 -- at b: the kept marks are far enough before b, and stand for all of the first `into` that are near enough
 pub record Scans (r : Rule) (marks : List Mark) (b : Mark) (into : ℕ) (kept : List Mark) : Type 0 where
   pub falls : Falls kept
   pub ready : Each (λ d. Has d marks × (d.time +ℚ r.least ≤ℚ b.time)) kept
-  pub covers : Each (λ m. IsPast r.most m.time b.time ⊎ Stands kept m) (take into marks)
+  pub covers : Each (λ m. IsPast r.most m.time b.time ⊎ HasStandIn kept m) (take into marks)
 
 -- the last key is more than k
 abbrev pub EndsAbove : ℚ → List Mark → Type 0

@@ -8,7 +8,7 @@ use Rattle.watch_laws.specs.Affine.{Among}
 use Rattle.watch_laws.specs.Segments.{segments}
 use Rattle.run_watch.specs.declared.watched.Watched.{Watched}
 use Rattle.run_watch.specs.declared.watched.Stretch.{Stretch}
-use Rattle.run_watch.specs.Watching.{stretches, turns, TimesRise, HoldsTimes}
+use Rattle.run_watch.specs.Watching.{stretches, turns, RiseFrom, HoldsTimes}
 use Rattle.run_watch.specs.WatchTimes.{watched_from}
 use Rattle.run_watch.specs.IdleWindows.{NoneIsShort, IsFirstShort}
 use Rattle.run_watch.specs.NearWindows.{EndsShort}
@@ -20,7 +20,7 @@ pub record IsLookedAt (w : Watched) (s : Stretch) (own all : List ℚ) : Type 0 
   pub is : s ≡ slice_index_or (stretches w) number s
   pub turns_are : all ≡ turns w (stretches w)
   pub holds : HoldsTimes s all own
-  pub rise : (from : ℚ) × TimesRise from own
+  pub rise : (from : ℚ) × RiseFrom from own
 
 -- its own turns, and the curve's pieces up to its length, show no short window
 abbrev pub IsClearStretch : Watched → SpecCurve → Stretch → List ℚ → Type 0

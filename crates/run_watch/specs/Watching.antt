@@ -38,9 +38,9 @@ stops_in w (t ∷ ts) = if is_caught_up w t then t ∷ stops_in w ts else stops_
 abbrev pub stops : Watched → List ℚ
 stops w = stops_in w w.leaves.items
 
-abbrev pub TimesRise : ℚ → List ℚ → Type 0
-TimesRise from [] = Unit {0}
-TimesRise from (t ∷ ts) = (from ≤ℚ t) × TimesRise t ts
+abbrev pub RiseFrom : ℚ → List ℚ → Type 0
+RiseFrom from [] = Unit {0}
+RiseFrom from (t ∷ ts) = (from ≤ℚ t) × RiseFrom t ts
 
 -- the first of these times after u, or the end
 abbrev pub next_after : ℚ → ℚ → List ℚ → ℚ

@@ -7,13 +7,13 @@ ghost use Rattle.run_laws.specs.Runs.{SpecRun};
 ghost use Rattle.run_laws.specs.Servers as servers;
 ghost use Rattle.watch_laws.specs.Entries.{entries};
 ghost use Rattle.watch_laws.specs.Laws.{MayServe};
-ghost use Rattle.run_watch.specs.Flows.{FlowReads};
+ghost use Rattle.flow_watch.specs.Flows.{FlowReads};
 ghost use Rattle.run_watch.specs.Held.{IsHeld, IsSightOf};
 ghost use Rattle.run_watch.specs.FirstOf.{earlier, IsBest, IsLongOn, IsCrowdOn, IsIdleOn, EnterInOrder};
 
-use crate::flows::{first_crowded, first_too_long};
 use crate::service::first_idle;
 use crate::watched::Watched;
+use flow_watch::{first_crowded, first_too_long};
 use fraction128::{Frac, is_less};
 use net_model::Breach;
 use std::alloc::{AllocError, Global};

@@ -6,7 +6,7 @@ ghost use Rattle.watch_laws.specs.Affine.{EachTime};
 ghost use Rattle.watch_laws.specs.Segments.{segments};
 ghost use Rattle.watch_laws.specs.Shorts.{EachPoint};
 ghost use Rattle.run_watch.specs.Ramps.{AreRamps};
-ghost use Rattle.run_watch.specs.Watching.{TimesRise};
+ghost use Rattle.run_watch.specs.Watching.{RiseFrom};
 ghost use Rattle.run_watch.specs.WatchTimes.{point_at};
 ghost use Rattle.run_watch.specs.IdleWindows.{TimeFits, SegmentsFit};
 ghost use Rattle.run_watch.specs.NearWindows.{earlier_time, IsLeast, IsShortAfter, IsShortBefore, IsEndAfter, IsEndBefore, IsNearEndBy, IsNearEndOf, EndsShort, FitsNear, FitsNearBy};
@@ -126,7 +126,7 @@ pub(crate) fn short_end(
     pieces: &[Piece],
 ) -> Result<Option<Frac>, AllocError>
     requires ramps { AreRamps works.now }
-    requires rise { (from : ℚ) × TimesRise from own.now }
+    requires rise { (from : ℚ) × RiseFrom from own.now }
     requires segments { SegmentsFit (segments pieces.now) }
     requires times { EachTime (TimeFits (segments pieces.now) works.now) own.now }
     requires near { EachPoint (FitsNearBy (segments pieces.now) works.now s.now) (map (point_at works.now) own.now) }

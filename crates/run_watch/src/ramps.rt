@@ -7,13 +7,7 @@ ghost use Rattle.run_watch.specs.Ramps.{amount, rate_before, rate_after, pace_in
 use crate::span::{Ramp, Span};
 use fraction128::{Frac, difference, is_less, product, quotient, sum};
 use std::alloc::{AllocError, Global};
-
-/// Whether a is at most b.
-pub(crate) fn is_at_most(a: Frac, b: Frac) -> bool
-    ensures { result ≡ le_q a b }
-{
-    a <= b
-}
+use step_lines::is_at_most;
 
 /// The pace of a span.
 fn pace_of(s: &Span) -> Frac

@@ -5,15 +5,15 @@ ghost use Rattle.rational.specs.Rational.{ℚ, int, le_q};
 ghost use Rattle.watch_laws.specs.Affine.{EachTime};
 ghost use Rattle.run_watch.specs.Ramps.{EachRamp, RampsFit, AreRamps, TakeTime, spans_of};
 ghost use Rattle.run_watch.specs.Seen.{works_at, arrivals_at};
-ghost use Rattle.run_watch.specs.Watching.{is_caught_up, ReadsAt, stops, TimesRise, next_after, stretch_from, stretches_in, change_at, turns, HoldsTimes, Sees};
+ghost use Rattle.run_watch.specs.Watching.{is_caught_up, ReadsAt, stops, RiseFrom, next_after, stretch_from, stretches_in, change_at, turns, HoldsTimes, Sees};
 
-use crate::ramps::{amount_at, is_at_most, pace_after, pace_before, ramps_of};
+use crate::ramps::{amount_at, pace_after, pace_before, ramps_of};
 use crate::seen::{arrivals_of, leaves_of, works_of};
 use crate::span::Ramp;
 use fraction128::{Frac, is_less};
 use run_laws::Step;
 use std::alloc::{AllocError, Global};
-use step_lines::is_under;
+use step_lines::{is_at_most, is_under};
 
 /// What one server sees of a run that ends at `end`.
 #[derive(Drop)]
@@ -84,7 +84,7 @@ fn is_by(t: &Frac, u: Frac) -> bool
 
 /// The first of some times that is after u, or the end.
 fn stop_after(stops: &[Frac], u: Frac, end: Frac) -> Frac
-    requires { (from : ℚ) × TimesRise from stops.now }
+    requires { (from : ℚ) × RiseFrom from stops.now }
     ensures { result ≡ next_after u end stops.now }
 {
     let past = stops.partition_point(|t| is_by(t, u));
@@ -96,9 +96,9 @@ fn stop_after(stops: &[Frac], u: Frac, end: Frac) -> Frac
 
 /// Those of some times that are in a stretch, by binary search.
 pub(crate) fn turns_in<'a>(sorted: &'a [Frac], s: &Stretch) -> &'a [Frac]
-    requires { (from : ℚ) × TimesRise from sorted.now }
+    requires { (from : ℚ) × RiseFrom from sorted.now }
     ensures holds { HoldsTimes s.now sorted.now result.now }
-    ensures rise { (from : ℚ) × TimesRise from result.now }
+    ensures rise { (from : ℚ) × RiseFrom from result.now }
 {
     let start = s.start;
     let end = s.end;
@@ -111,7 +111,7 @@ pub(crate) fn turns_in<'a>(sorted: &'a [Frac], s: &Stretch) -> &'a [Frac]
 /// The stretch that begins with a packet, if one does.
 fn stretch_from(w: &Watched, stops: &[Frac], r: &Ramp) -> Option<Stretch>
     requires reads { ReadsAt w.now r.now.span.start }
-    requires rise { (from : ℚ) × TimesRise from stops.now }
+    requires rise { (from : ℚ) × RiseFrom from stops.now }
     ensures { result ≡ stretch_from w.now stops.now r.now }
 {
     let start = r.span.start;
@@ -132,7 +132,7 @@ pub(crate) fn stretches_of(
     stops: &[Frac],
 ) -> Result<Vec<Stretch>, AllocError>
     requires reads { EachRamp (λ r. ReadsAt w.now r.span.start) w.now.arrivals.items }
-    requires rise { (from : ℚ) × TimesRise from stops.now }
+    requires rise { (from : ℚ) × RiseFrom from stops.now }
     ensures { IfOk result (λ v. v.items ≡ stretches_in w.now stops.now w.now.arrivals.items) }
 {
     let mut found = Vec::new(alloc);

@@ -5,25 +5,27 @@ ghost use Rattle.rational.specs.Rational.{ℚ};
 ghost use Rattle.affine_segment.specs.declared.line.Piece.{Piece};
 ghost use Rattle.affine_segment.specs.Pieces.{Each};
 ghost use Rattle.watch_laws.specs.Affine.{EachTime};
-ghost use Rattle.watch_laws.specs.Segments.{next_start, segment_of, segments};
+ghost use Rattle.watch_laws.specs.Segments.{segment_of, segments};
 ghost use Rattle.watch_laws.specs.Shorts.{IsShortBy, PointsRise};
 ghost use Rattle.watch_laws.specs.Marks.{FitsRule};
 ghost use Rattle.run_watch.specs.Ramps.{AreRamps, EachRamp, ReadsRamp};
 ghost use Rattle.run_watch.specs.FirstEnds.{FitsMarks, FitsSegments};
 ghost use Rattle.run_watch.specs.NearWindows.{IsLeast};
-ghost use Rattle.run_watch.specs.Watching.{TimesRise};
+ghost use Rattle.run_watch.specs.Watching.{RiseFrom};
 ghost use Rattle.run_watch.specs.WatchTimes.{inside, around, watched_from, HaveSameTimes, AroundFits, TimesFit, point_at, StartsBy, StartsTo};
 
 use crate::near::earlier_time;
-use crate::ramps::{amount_at, is_at_most};
+use crate::ramps::amount_at;
 use crate::scan::is_past;
 use crate::shorts::{in_reach, mark_of, rule_of};
 use crate::span::Ramp;
 use crate::watched::Stretch;
 use affine_segment::Piece;
+use flow_watch::next_start;
 use fraction128::{Frac, difference, is_less, sum};
 use rational::Extended;
 use std::alloc::{AllocError, Global};
+use step_lines::is_at_most;
 use watch_laws::{Point, Segment};
 
 /// One time more, where it is in the stretch.
@@ -56,7 +58,7 @@ fn push_around(
 /// Puts some times in order, each once.
 fn put_in_order(times: &mut Vec<Frac>) -> Result<(), AllocError>
     ensures same { OnOk result (HaveSameTimes times.old.items times.new.items) }
-    ensures rise { OnOk result ((from : ℚ) × TimesRise from times.new.items) }
+    ensures rise { OnOk result ((from : ℚ) × RiseFrom from times.new.items) }
 {
     times.sort()?;
     times.dedup();
@@ -85,7 +87,7 @@ pub(crate) fn watch_times(
 ) -> Result<Vec<Frac>, AllocError>
     requires { TimesFit pieces.now turns.now }
     ensures same { IfOk result (λ v. HaveSameTimes (watched_from s.now pieces.now turns.now) v.items) }
-    ensures rise { IfOk result (λ v. (from : ℚ) × TimesRise from v.items) }
+    ensures rise { IfOk result (λ v. (from : ℚ) × RiseFrom from v.items) }
 {
     let mut times = Vec::new(alloc);
     let mut kept = 0;
@@ -115,16 +117,6 @@ pub(crate) fn points_of(
         })?;
     }
     Ok(points)
-}
-
-/// Where the piece of a number starts, if there is one.
-pub(crate) fn next_start(pieces: &[Piece], i: usize) -> Option<Frac>
-    ensures { result ≡ next_start (drop i pieces.now) }
-{
-    match pieces.get(i) {
-        Some(p) => Some(p.x),
-        None => None,
-    }
 }
 
 /// A piece as a segment that ends where the next piece starts.

@@ -8,5 +8,7 @@ use Rattle.watch_laws.specs.Entries.{entering, bits_between}
 -- of the first packets: where the line is at least 0 at the time between two of them, their bits and those that are spared fit in one
 -- step more than some whole number that it is at least
 abbrev pub KeepsLine : ℚ → ℚ → ℚ → ℚ → List Entering → ℕ → Type 0
-KeepsLine height spare slack rate es upto = (i j : ℕ) → i ≤ j → j < upto → int (pos 0) ≤ℚ slack +ℚ rate *ℚ ((entering es j).time -ℚ (entering es i).time)
-    → (n : ℕ) × (whole (bits_between i j es) +ℚ spare ≤ℚ whole (suc n) *ℚ height) × (whole n ≤ℚ slack +ℚ rate *ℚ ((entering es j).time -ℚ (entering es i).time))
+KeepsLine height spare slack rate es upto = (i j : ℕ) → i ≤ j → j < upto
+    → int (pos 0) ≤ℚ slack +ℚ rate *ℚ ((entering es j).time -ℚ (entering es i).time)
+    → (n : ℕ) × (whole (bits_between i j es) +ℚ spare ≤ℚ whole (suc n) *ℚ height)
+    × (whole n ≤ℚ slack +ℚ rate *ℚ ((entering es j).time -ℚ (entering es i).time))

@@ -48,7 +48,8 @@ placed ps k = get_or ps k no_place
 -- the first packets, each with the bits up to it and those that are spared
 pub record ArePlaced (height spare rate : ℚ) (es : List Entering) (ps : List Placed) (upto : ℕ) : Type 0 where
   pub count : length ps ≡ upto
-  pub each : (k : ℕ) → k < upto → IsPlaced height rate (entering es k).time (whole (bits_under k es)) (whole (bits_under (suc k) es) +ℚ spare) (placed ps k)
+  pub each : (k : ℕ) → k < upto → IsPlaced height rate (entering es k).time (whole (bits_under k es))
+      (whole (bits_under (suc k) es) +ℚ spare) (placed ps k)
 
 -- b is within the slack of a
 pub record IsNear (slack wide : ℚ) (a b : Placed) : Type 0 where

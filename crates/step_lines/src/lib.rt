@@ -5,4 +5,4 @@
 mod lows;
 mod places;
 
-pub use places::{is_under, seen_upto, whole_of};
+pub use places::{is_at_most, is_under, seen_upto, whole_of};

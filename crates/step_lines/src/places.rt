@@ -3,7 +3,7 @@
 ghost use Rattle.std.specs.Prelude.{◌≡◌, ℕ, ◌*◌, ◌<◌, ◌≤◌, ◌^◌, pos, length, IfOk, IfSome, IsTrue};
 ghost use Rattle.std.specs.List.Sorted.{IsSorted};
 ghost use Rattle.rational.specs.Ratio.{cmp_q};
-ghost use Rattle.rational.specs.Rational.{ℚ, int, ◌+ℚ◌, ◌≤ℚ◌, ◌<ℚ◌, lt_q};
+ghost use Rattle.rational.specs.Rational.{ℚ, int, ◌+ℚ◌, ◌≤ℚ◌, ◌<ℚ◌, lt_q, le_q};
 ghost use Rattle.run_laws.specs.Cards.{whole};
 ghost use Rattle.step_lines.specs.Lines.{KeepsLine};
 ghost use Rattle.step_lines.specs.Lows.{Covers};
@@ -160,6 +160,13 @@ pub fn is_under(part: &Frac, over: Frac) -> bool
     ensures { result ≡ lt_q part.now over }
 {
     is_less(*part, over)
+}
+
+/// Whether a is at most b.
+pub fn is_at_most(a: Frac, b: Frac) -> bool
+    ensures { result ≡ le_q a b }
+{
+    a <= b
 }
 
 /// The least lag that was let in at a part of a step below `over`, or `most` where that is less.

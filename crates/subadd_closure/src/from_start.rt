@@ -81,7 +81,10 @@ fn started_within(
     with_start(alloc, &late, start)
 }
 
-/// As `convolve_from`; `thin` as of `window_of`.
+/// The convolution of two curves that are nowhere below 0, finite past 0, with the value `start` at 0 in place of its
+/// own. One step is counted. Refused with TooWide or TooMany exactly where the convolution is over that limit: no limit
+/// is asked of the value at 0. Else only for want of memory. Where the convolution's own value at 0 is not `start`, its
+/// pieces are made twice. `thin` as of `window_of`.
 pub(crate) fn started_from<L: Ledger>(
     alloc: Global,
     sofar: &Curve,
@@ -108,25 +111,4 @@ pub(crate) fn started_from<L: Ledger>(
         Err(_) => Err(OpFault::NoMemory),
     };
     intact(started)
-}
-
-/// The convolution of two curves that are nowhere below 0, finite past 0, with the value `start` at 0 in place of its
-/// own. One step is counted. Refused with TooWide or TooMany exactly where the convolution is over that limit: no limit
-/// is asked of the value at 0. Else only for want of memory. Where the convolution's own value at 0 is not `start`, its
-/// pieces are made twice.
-pub fn convolve_from<L: Ledger>(
-    alloc: Global,
-    sofar: &Curve,
-    star: &Curve,
-    start: Frac,
-    steps: &mut Steps<L>,
-) -> Result<Curve, OpFault>
-    requires first { IsNonnegative (value_at sofar.now) }
-    requires second { IsNonnegative (value_at star.now) }
-    requires start { zero_q ≤ℚ start }
-    requires finite { ConvolvesFinitely (value_at sofar.now) (value_at star.now) }
-    ensures count { steps.new ≡ steps.old + 1 }
-    ensures answer { Then (Applies Convolve sofar.now star.now) (StartsAt start) result }
-{
-    started_from(alloc, sofar, star, start, false, steps)
 }

@@ -18,5 +18,4 @@ mod subadditive;
 mod thinned;
 
 pub use closing::close;
-pub use from_start::convolve_from;
 pub use subadditive::is_subadditive;

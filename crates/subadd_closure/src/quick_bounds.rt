@@ -17,7 +17,7 @@ ghost use Rattle.subadd_closure.specs.QuickBounds.{BeginsLate, IsFloor, IsLevel}
 
 use affine_segment::Piece;
 use curve_call::{begin, rise_over};
-use curve_conv::{is_slower_curve, periods_over, sum, value_there};
+use curve_conv::{checked_sum, is_slower_curve, periods_over, value_there};
 use curve_least::{Bounds, Gap, Side, is_slower, period_or, side_gap, zero_level};
 use fraction128::{Frac, difference, is_less};
 use rational::Extended;
@@ -100,12 +100,12 @@ fn level_from_zero(slow: &Curve, fast: &Curve, from: Frac, period: Frac, end: Fr
     let first = begin(slow);
     let second = begin(fast);
     let own = period_or(slow, period);
-    let last = sum(first, own)?;
+    let last = checked_sum(first, own)?;
     let top = top_over(slow, first, last)?;
     let start = value_there(fast, Frac::zero())?;
     let gain = line_rise(rise_over(slow, own), own, second)?;
-    let both = sum(top, start)?;
-    let level = sum(both, gain)?;
+    let both = checked_sum(top, start)?;
+    let level = checked_sum(both, gain)?;
     Some(level)
 }
 
@@ -117,12 +117,12 @@ fn level_from_start(slow: &Curve, fast: &Curve, from: Frac, period: Frac, end: F
     let first = begin(slow);
     let second = begin(fast);
     let own = period_or(fast, period);
-    let last = sum(second, own)?;
+    let last = checked_sum(second, own)?;
     let start = value_there(slow, first)?;
     let top = top_over(fast, second, last)?;
     let gain = line_rise(rise_over(fast, own), own, period_or(slow, period))?;
-    let both = sum(start, top)?;
-    let level = sum(both, gain)?;
+    let both = checked_sum(start, top)?;
+    let level = checked_sum(both, gain)?;
     Some(level)
 }
 
@@ -145,12 +145,12 @@ fn floor_of(slow: &Curve, fast: &Curve, from: Frac, period: Frac, end: Frac) -> 
     let second = begin(fast);
     let slow_own = period_or(slow, period);
     let fast_own = period_or(fast, period);
-    let slow_end = sum(first, slow_own)?;
-    let fast_end = sum(second, fast_own)?;
+    let slow_end = checked_sum(first, slow_own)?;
+    let fast_end = checked_sum(second, fast_own)?;
     let slow_depth = depth_over(slow, Frac::zero(), slow_end)?;
     let fast_depth = depth_over(fast, second, fast_end)?;
-    let both = sum(slow_depth, fast_depth)?;
-    let floor = sum(both, rise_over(fast, fast_own))?;
+    let both = checked_sum(slow_depth, fast_depth)?;
+    let floor = checked_sum(both, rise_over(fast, fast_own))?;
     Some(floor)
 }
 
@@ -183,7 +183,7 @@ fn bounds_by_level(
     }
     let level = level_of(slow, fast, from, period, end)?;
     let floor = floor_of(slow, fast, from, period, end)?;
-    let gap = sum(level, floor)?;
+    let gap = checked_sum(level, floor)?;
     let high = periods_over(gap, lead)?;
     Some(Bounds { low: 0, high })
 }

@@ -230,13 +230,13 @@ below_back T V S (Affine rank) end s h = once_back T V S (lt_q s.piece.x end) s 
 below_back T V S (Infinite rank) end s h = once_back T V S (lt_q s.piece.x end) s h
 
 -- ---- all spans
-closed_all : (T V S : ℚ → Type 0) (tail : Tail) (end : ℚ) (ss : List Span) → Holds T V S (closed_spans tail end ss) → AllByRecursion (λ s. Holds T V S (closed_span tail end s)) ss
+pub closed_all : (T V S : ℚ → Type 0) (tail : Tail) (end : ℚ) (ss : List Span) → Holds T V S (closed_spans tail end ss) → AllByRecursion (λ s. Holds T V S (closed_span tail end s)) ss
 unfolding closed_spans
 closed_all T V S tail end [] h = tt
 closed_all T V S tail end (s ∷ ss) h =
     (holds_left T V S (closed_span tail end s) (closed_spans tail end ss) h, closed_all T V S tail end ss (holds_right T V S (closed_span tail end s) (closed_spans tail end ss) h))
 
-all_closed : (T V S : ℚ → Type 0) (tail : Tail) (end : ℚ) (ss : List Span) → AllByRecursion (λ s. Holds T V S (closed_span tail end s)) ss → Holds T V S (closed_spans tail end ss)
+pub all_closed : (T V S : ℚ → Type 0) (tail : Tail) (end : ℚ) (ss : List Span) → AllByRecursion (λ s. Holds T V S (closed_span tail end s)) ss → Holds T V S (closed_spans tail end ss)
 unfolding closed_spans
 all_closed T V S tail end [] h = record { times = tt; values = tt; slopes = tt }
 all_closed T V S tail end (s ∷ ss) h = holds_joined T V S (closed_span tail end s) (closed_spans tail end ss) h.0 (all_closed T V S tail end ss h.1)

@@ -1,8 +1,8 @@
 -- In its own window a curve has as many unrolled pieces as it has pieces, or fewer.
-use Rattle.std.specs.Prelude.{◌≡◌, ℕ, ◌+◌, ◌≤◌, pos, List, [], ◌∷◌, length, sum_by, cond, Bool, true, false}
+use Rattle.std.specs.Prelude.{◌≡◌, ℕ, ◌+◌, ◌≤◌, pos, List, [], ◌∷◌, length, sum_by, cond}
 use Rattle.std.proofs.Common.{arith, sym, refl, subst, inl, inr}
 use Rattle.std.proofs.lemmas.List.Sums.{sum_by-cons}
-use Rattle.upp_curve.specs.rational.specs.Rational.{ℚ, ◌+ℚ◌, ◌-ℚ◌, ◌*ℚ◌, ◌/ℚ◌, ◌≤ℚ◌, ◌<ℚ◌, int, lt_q}
+use Rattle.upp_curve.specs.rational.specs.Rational.{ℚ, ◌+ℚ◌, ◌-ℚ◌, ◌*ℚ◌, ◌/ℚ◌, ◌≤ℚ◌, ◌<ℚ◌, int}
 use Rattle.upp_curve.specs.rational.proofs.Linear.{with3}
 use Rattle.upp_curve.specs.rational.proofs.Laws.{one_mul, le_or_lt}
 use Rattle.upp_curve.specs.rational.proofs.Quotients.{div_le}
@@ -19,14 +19,8 @@ use Rattle.upp_curve.specs.Unrolled.{copies_below}
 use Rattle.upp_limits.specs.Spans.{once, number_below}
 use Rattle.upp_limits.specs.Limits.{own_end, own_tally}
 use Rattle.upp_limits.proofs.PieceCounts.{count_is_sum}
+use Rattle.upp_limits.proofs.CoveredCounts.{once_few}
 use Rattle.upp_limits.proofs.Rounding.{whole_up_most}
-
-once_most : (end : ℚ) (p : Piece) → once end p ≤ 1
-once_most end p = by_test (lt_q p.x end)
-  where
-    by_test : (b : Bool) → cond b 1 0 ≤ 1
-    by_test true = omega arith
-    by_test false = omega arith
 
 sum_most : (f : Piece → ℕ) (ps : List Piece) → ((p : Piece) → f p ≤ 1) → sum_by f ps ≤ length ps
 sum_most f [] h = omega arith
@@ -39,7 +33,7 @@ sum_most f (p ∷ ps) h =
 pub affine_few : (ps : List Piece) (rank : ℚ) → StartsAtZero ps → own_tally record { pieces = ps; tail = Affine rank } ≤ length ps
 affine_few ps rank h =
     let c : SpecCurve = record { pieces = ps; tail = Affine rank } in
-    subst (λ n. n ≤ length ps) (sym (count_is_sum c (own_end c) h)) (sum_most (number_below (Affine rank) (own_end c)) ps (once_most (own_end c)))
+    subst (λ n. n ≤ length ps) (sym (count_is_sum c (own_end c) h)) (sum_most (number_below (Affine rank) (own_end c)) ps (once_few (own_end c)))
 
 -- of a piece one copy starts before the end of the first period
 copy_most : (R d c end : ℚ) (p : Piece) → zero_q <ℚ d → end ≡ R +ℚ d → number_below (Periodic R d c) end p ≤ 1
@@ -50,7 +44,7 @@ copy_most R d c end p some e = elim (le_or_lt R p.x) [
       let l : end -ℚ p.x ≤ℚ int (pos 1) *ℚ d = subst (λ z. end -ℚ p.x ≤ℚ z) (sym one) (under x past) in
       subst (λ b. cond b (once end p) (copies_below d end p) ≤ 1) (sym (lt_q_not p.x R past))
       (whole_up_most ((end -ℚ p.x) /ℚ d) 1 ((div_le (end -ℚ p.x) d (int (pos 1)) some).1 l))
-  | inr early ↦ subst (λ b. cond b (once end p) (copies_below d end p) ≤ 1) (sym (lt_q_out p.x R early)) (once_most end p)
+  | inr early ↦ subst (λ b. cond b (once end p) (copies_below d end p) ≤ 1) (sym (lt_q_out p.x R early)) (once_few end p)
 ]
   where
     under : (x : ℚ) → R ≤ℚ x → end -ℚ x ≤ℚ d

@@ -14,6 +14,8 @@ pub mod PieceLists
 pub mod GaugeProduct
 pub mod ClosedForms
 pub mod SameSizes
+pub mod Carried
+pub mod CoveredSizes
 pub mod NarrowSizes
 pub mod KnownNumbers
 pub mod AtRank
@@ -24,6 +26,8 @@ pub mod ScaledCurves
 pub mod Operands
 pub mod Tallies
 pub mod CallSizes
+pub mod CoveredCalls
+pub mod CoveredCounts
 pub mod FewCopies
 pub mod LeastNumbers
 pub mod OneLimit

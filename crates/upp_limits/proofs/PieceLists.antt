@@ -77,6 +77,6 @@ one_more tail end m whole ss rest s e h =
     ∙ ap (joined m) (sym (closed_some tail end s rest))
     ∙ ap (λ zs. joined m (closed_spans tail end zs)) (sym e) ∙ h
 
-pub all_done : (tail : Tail) (end : ℚ) (m whole : Numbers) (ps : List Piece) (i : ℕ) → length ps ≤ i → joined m (closed_spans tail end (spans tail (drop i ps))) ≡ whole → m ≡ whole
-all_done tail end m whole ps i l h =
-    sym (ap (λ xs. joined m (closed_spans tail end xs)) (ap (spans tail) (drop_of_length-le ps l) ∙ spans_none tail) ∙ ap (joined m) (closed_none tail end) ∙ joined_nothing m) ∙ h
+pub all_done : (counted tail : Tail) (end : ℚ) (m whole : Numbers) (ps : List Piece) (i : ℕ) → length ps ≤ i → joined m (closed_spans counted end (spans tail (drop i ps))) ≡ whole → m ≡ whole
+all_done counted tail end m whole ps i l h =
+    sym (ap (λ xs. joined m (closed_spans counted end xs)) (ap (spans tail) (drop_of_length-le ps l) ∙ spans_none tail) ∙ ap (joined m) (closed_none counted end) ∙ joined_nothing m) ∙ h

@@ -33,19 +33,19 @@ equals_curve end c = record {
 }
 
 -- ---- one of the three at a time
-any : ℚ → Type 0
+unfoldable pub any : ℚ → Type 0
 any x = Unit {0}
 
-every_any : (xs : List ℚ) → AllByRecursion any xs
+pub every_any : (xs : List ℚ) → AllByRecursion any xs
 unfolding any
 every_any [] = tt
 every_any (x ∷ xs) = (tt, every_any xs)
 
-any_grid : IsGrid any
+pub any_grid : IsGrid any
 unfolding any
 any_grid = record { later = λ x d n k l. tt }
 
-any_filled : IsFilled any
+pub any_filled : IsFilled any
 unfolding any
 any_filled = record { between = λ x c n m h k l w. tt }
 
@@ -69,7 +69,7 @@ den_values a b p =
     (values_pass b a (Whole (common_den b.values)) (turned a b p) (whole_filled (common_den b.values)) (common_den_each b.values))
     (values_pass a b (Whole (common_den a.values)) p (whole_filled (common_den a.values)) (common_den_each a.values))
 
-den_times : (end : ℚ) (a b : Numbers) → Equals a b → common_den (end ∷ a.times) ≡ common_den (end ∷ b.times)
+pub den_times : (end : ℚ) (a b : Numbers) → Equals a b → common_den (end ∷ a.times) ≡ common_den (end ∷ b.times)
 den_times end a b p =
     let x = common_den_each (end ∷ a.times) in
     let y = common_den_each (end ∷ b.times) in

@@ -52,3 +52,7 @@ tail_numbers (Infinite rank) = record { times = rank ∷ []; values = []; slopes
 
 abbrev pub closed_numbers : ℚ → SpecCurve → Numbers
 closed_numbers end c = joined (tail_numbers c.tail) (closed_spans c.tail end (spans c.tail c.pieces))
+
+-- the same of the first copies alone
+abbrev pub first_numbers : ℚ → SpecCurve → Numbers
+first_numbers end c = joined (tail_numbers c.tail) (closed_spans (Affine (int (pos 0))) end (spans c.tail c.pieces))

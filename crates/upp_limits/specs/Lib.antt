@@ -13,6 +13,7 @@ pub mod Levels
 pub mod ClosedOperands
 pub mod Outcome
 pub mod CallNumbers
+pub mod Covered
 pub mod LimitTest
 pub mod OwnLimits
 pub use Rattle.upp_curve as upp_curve

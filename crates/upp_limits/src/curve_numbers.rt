@@ -8,7 +8,7 @@ ghost use Rattle.upp_limits.specs.Spans.{Span, end_of, piece_read, spans};
 ghost use Rattle.upp_limits.specs.Limits.{Numbers, joined};
 ghost use Rattle.upp_limits.specs.Gathered.{Gathers};
 ghost use Rattle.upp_limits.specs.Seen.{seen_of, SpanFits, SeenRises, CopiesFit, Knows};
-ghost use Rattle.upp_limits.specs.ClosedForm.{span_numbers, last_numbers, copies_numbers, once_numbers, closed_span, closed_spans, tail_numbers, closed_numbers};
+ghost use Rattle.upp_limits.specs.ClosedForm.{span_numbers, last_numbers, copies_numbers, once_numbers, closed_span, closed_spans, tail_numbers, closed_numbers, first_numbers};
 ghost use Rattle.upp_curve.specs.Curve.{SpecCurve};
 ghost use Rattle.upp_limits.specs.Periods.{HasPeriod};
 
@@ -146,27 +146,28 @@ pub fn next_start(pieces: &[Piece], i: usize, after: &Option<Frac>) -> Option<Fr
     }
 }
 
-/// The pieces of a curve more, as far as they and their copies start before `end`. `after` is where the next piece
-/// starts after the last.
+/// The pieces of a curve more, as far as they and those of their copies that `counted` makes start before `end`.
+/// `after` is where the next piece starts after the last.
 pub(crate) fn with_pieces(
     g: Gathered,
     pieces: &[Piece],
     tail: &Tail,
+    counted: &Tail,
     after: &Option<Frac>,
     end: Frac,
 ) -> Option<Gathered>
     requires starts { StartsAtZero pieces.now }
-    requires period { HasPeriod tail.now }
+    requires period { HasPeriod counted.now }
     requires after { after.now ≡ end_of tail.now }
     ensures value { IfSome result (λ r. (n : Numbers) → Gathers g n
-        → Gathers r (joined n (closed_spans tail.now end (spans tail.now pieces.now)))) }
-    ensures fits { AllByRecursion (Knows tail.now end) (spans tail.now pieces.now) → IsSome result }
+        → Gathers r (joined n (closed_spans counted.now end (spans tail.now pieces.now)))) }
+    ensures fits { AllByRecursion (Knows counted.now end) (spans tail.now pieces.now) → IsSome result }
 {
     let mut found = g;
     for i in 0..pieces.len() {
         let next = next_start(pieces, i, after);
         let piece = piece_read(&pieces[i], tail);
-        match with_below(found, &piece, &next, tail, end) {
+        match with_below(found, &piece, &next, counted, end) {
             Some(more) => found = more,
             None => return None,
         }
@@ -188,6 +189,24 @@ pub(crate) fn with_tail(g: Gathered, tail: &Tail) -> Gathered
     }
 }
 
+/// A curve more without its copies: of each of its pieces that start before `end` itself alone. `after` is where the
+/// next piece starts after the last.
+pub(crate) fn with_first_copies(
+    g: Gathered,
+    pieces: &[Piece],
+    tail: &Tail,
+    after: &Option<Frac>,
+    end: Frac,
+) -> Option<Gathered>
+    requires starts { StartsAtZero pieces.now }
+    requires after { after.now ≡ end_of tail.now }
+    ensures { let c : SpecCurve = record { pieces = pieces.now; tail = tail.now } in
+        IfSome result (λ r. (n : Numbers) → Gathers g n → Gathers r (joined n (first_numbers end c))) }
+{
+    let counted = Tail::Affine { rank: Frac::zero() };
+    with_pieces(with_tail(g, tail), pieces, tail, &counted, after, end)
+}
+
 /// A curve more, as far as its pieces and their copies start before `end`. `after` is where the next piece starts after
 /// the last.
 pub(crate) fn with_curve(
@@ -204,5 +223,5 @@ pub(crate) fn with_curve(
         IfSome result (λ r. (n : Numbers) → Gathers g n → Gathers r (joined n (closed_numbers end c))) }
     ensures fits { AllByRecursion (Knows tail.now end) (spans tail.now pieces.now) → IsSome result }
 {
-    with_pieces(with_tail(g, tail), pieces, tail, after, end)
+    with_pieces(with_tail(g, tail), pieces, tail, tail, after, end)
 }

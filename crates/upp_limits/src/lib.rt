@@ -4,6 +4,7 @@
 mod call_sizes;
 mod counts;
 pub mod curve_numbers;
+mod first_copies;
 pub mod gathered;
 pub mod gauges;
 mod known;
@@ -18,9 +19,9 @@ mod seen;
 pub mod start_counts;
 mod starts;
 
-pub use call_sizes::{CallNumbers, call_numbers};
+pub use call_sizes::{CallGrids, CallNumbers, call_numbers, narrow_grids};
 pub use known::{is_level, is_level_above};
-pub use limits::{gauge, tally, tally_over};
+pub use limits::{gauge, is_few, tally, tally_over};
 pub use op_kind::{OpFault, OpKind, Window};
 pub use own_limits::{OverLimit, over_own_limit, own_within, within_limits};
 pub use own_window::{OwnNumbers, is_infinite_at, keeps_line, later_unless};

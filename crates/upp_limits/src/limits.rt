@@ -1,12 +1,12 @@
 //! The tally and the gauge of a call: both are numbers of its operands and its window alone.
 
-ghost use Rattle.std.specs.Prelude.{ℕ, ◌≡◌, ◌-◌, ◌^◌, ◌≤◌, min, Option, Some, None, MatchOption};
+ghost use Rattle.std.specs.Prelude.{ℕ, ◌≡◌, ◌-◌, ◌^◌, ◌≤◌, ◌↔◌, min, Option, Some, None, MatchOption, IfSome, IsTrue};
 ghost use Rattle.upp_curve.specs.rational.specs.Rational.{ℚ};
 ghost use Rattle.upp_curve.specs.Unrolled.{count};
-ghost use Rattle.upp_limits.specs.Gauges.{IsKnownAtOnce, tally_over, gauge_over};
+ghost use Rattle.upp_limits.specs.Gauges.{IsKnownAtOnce, tallied, tally_of, tally_over, gauge_over};
 
 use crate::call_sizes::call_numbers;
-use crate::counts::count_below;
+use crate::counts::{count_below, most_below};
 use crate::known::is_known_at_once;
 use crate::op_kind::{OpKind, Tallied, Window};
 use upp_curve::Curve;
@@ -30,6 +30,44 @@ pub fn tally_over(op: &OpKind, f: &Curve, g: &Curve, end: Frac) -> u64
         Tallied::SumOfBoth => count_of(f, end).saturating_add(count_of(g, end)),
         Tallied::ProductOfBoth => count_of(f, end).saturating_mul(count_of(g, end)),
     }
+}
+
+/// A bound of both operands' counts together: their sum or their product.
+fn most_of_both(op: &OpKind, f: u64, g: u64) -> Option<u64>
+    ensures { IfSome result (λ m. (a b : ℕ) → a ≤ f → b ≤ g → tally_of (tallied op.now) a b ≤ m) }
+{
+    match op.tallied() {
+        Tallied::FirstAlone => Some(f),
+        Tallied::FirstAndOne => f.checked_add(1),
+        Tallied::SumOfBoth => f.checked_add(g),
+        Tallied::ProductOfBoth => f.checked_mul(g),
+    }
+}
+
+/// A bound of the tally over a window's end, by one division a curve; none where it is very large.
+fn most_tally(op: &OpKind, f: &Curve, g: &Curve, end: Frac) -> Option<u64>
+    ensures { IfSome result (λ m. tally_over op.now f.now g.now end ≤ m) }
+{
+    match most_below(f, end) {
+        Some(first) => match most_below(g, end) {
+            Some(second) => most_of_both(op, first, second),
+            None => None,
+        },
+        None => None,
+    }
+}
+
+/// Whether a call looks at 2^20 pieces or pairs of pieces below a window's end at most, exactly. They are counted one
+/// by one only where a bound of them, which is quicker to make, does not tell. No memory is taken.
+pub fn is_few(op: &OpKind, f: &Curve, g: &Curve, end: Frac) -> bool
+    ensures { IsTrue result ↔ (tally_over op.now f.now g.now end ≤ 2 ^ 20) }
+{
+    if let Some(most) = most_tally(op, f, g, end) {
+        if most <= 1 << 20 {
+            return true;
+        }
+    }
+    tally_over(op, f, g, end) <= 1 << 20
 }
 
 /// How many pieces, or pairs of pieces, a call looks at within a window; the largest u64 where it is more. 0 where the

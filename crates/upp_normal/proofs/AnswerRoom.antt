@@ -20,13 +20,12 @@ use Rattle.upp_limits.specs.rational.proofs.Linear.{with1, with2, with3, with4}
 use Rattle.upp_limits.specs.rational.specs.Extended.{Ext}
 use Rattle.upp_limits.specs.rational.specs.declared.Extended.TheVariants.{Fin, Inf}
 use Rattle.upp_limits.specs.affine_segment.specs.declared.line.Line.{Line}
-use Rattle.upp_limits.specs.affine_segment.specs.declared.line.Piece.{Piece}
 use Rattle.upp_limits.specs.affine_segment.specs.Values.{line_at, line_value}
 use Rattle.upp_limits.specs.Limits.{Sizes, gauge_of}
 use Rattle.upp_limits.specs.affine_segment.specs.Fits.{LineFitsAt}
 use Rattle.upp_limits.specs.Sized.{grid_of, times_largest, ValueStands}
-use Rattle.upp_normal.specs.Operand.{AreLimited, OperandLine, OperandLineAt, OperandPiece, answer_room}
-use Rattle.upp_normal.specs.Room.{top, IsRoom, TimeHasRoom, many, ValueInRoom, ValueHasRoom, LineInRoom, LineHasRoom, PieceHasRoom}
+use Rattle.upp_normal.specs.Operand.{AreLimited, OperandLine, OperandLineAt, answer_room}
+use Rattle.upp_normal.specs.Room.{top, IsRoom, TimeHasRoom, many, ValueInRoom, ValueHasRoom, LineInRoom, LineHasRoom}
 use Rattle.upp_limits.proofs.OwnGauge.{end_within}
 use Rattle.upp_normal.proofs.NormaliseRoom.{line_fits}
 use Rattle.upp_normal.proofs.NormaliseGrids.{q_same_or}
@@ -201,17 +200,6 @@ operand_line z l L = record {
 pub operand_line_room : (z : Sizes) (end : ℚ) (l : Option Line) → AreLimited z end → OperandLineAt z l → LineHasRoom (answer_room z end) 1 l
 operand_line_room z end None A L = tt
 operand_line_room z end (Some l) A L = line_in_room z end 2 l A (omega arith) (operand_line z l L)
-
--- a value stands on the grid of values, whatever the grid of its time
-pub value_stands_room : (z : Sizes) (end : ℚ) (grid : ℕ) (v : Ext) → z.dv * z.dt ∣ grid → ValueStands z v → ValueHasRoom (answer_room z end) 1 grid v
-value_stands_room z end grid Inf base h = tt
-value_stands_room z end grid (Fin v) base h =
-    value_in_room z end 1 grid v (omega arith) (whole_weaken (grid_of z) (grid * z.ds) v (mul-dvd-mul_right (z.dv * z.dt) base z.ds) (value_whole z v h)) (value_within z v h)
-
-pub operand_has_room : (z : Sizes) (end : ℚ) (p : Piece) → AreLimited z end → OperandPiece z end p → PieceHasRoom (answer_room z end) 1 p
-operand_has_room z end p A P =
-    let T = room_at_start z end p.x A P.start P.nonneg in
-    record { time = T; at = value_stands_room z end T.grid p.at T.base P.at; line = operand_line_room z end p.line A P.line }
 
 -- ---- what is read of lines fits
 pub far : (end x : ℚ) → int (pos 0) ≤ℚ end → x ≤ℚ end → x ≤ℚ int (pos 3) *ℚ end

@@ -5,6 +5,8 @@ use Rattle.cell_table.specs.Values.{answer_of, meaning_of}
 use Rattle.cell_operators.specs.Evaluates.{MayBeMade, Evaluates}
 use Rattle.cell_operators.proofs.Counting.{counts_none}
 use Rattle.cell_kinds.proofs.Arms.{in_before}
+use Rattle.net_cells.specs.CellFormulas.{formula}
+use Rattle.cell_kinds.proofs.Stopping.{none_stops}
 use Rattle.cell_kinds.proofs.curves.arriving.Goals as goal
 
 pub again-requires : goal.again-requires
@@ -24,4 +26,8 @@ returns-else-hop-eq0 g c = λ n.
     let r = answer_of meaning_of c.again.result in
     let past = c.if-hop-eq0.false in
     let next : suc (c.args.hop - 1) ≡ c.args.hop = omega (arith, past) in
-    subst (λ k. Evaluates net at (cell_of In i k) n n r) next (record { answer = c.again.ensures; counts = counts_none n r })
+    subst (λ k. Evaluates net at (cell_of In i k) n n r) next (record {
+      answer = c.again.ensures;
+      counts = counts_none n r;
+      memory = λ is. none_stops at (formula net (cell_of In i (suc (c.args.hop - 1)))) n;
+    })

@@ -39,4 +39,5 @@ returns g c =
       answer = c.summed.ensures.answer cells old new adds;
       counts = subst (λ n. Counts (n - 1) old new (answer_of meaning_of c.summed.result)) (length-map there (at_visit In))
           (c.summed.ensures.counts cells old new adds);
+      memory = c.summed.ensures.memory cells old new adds;
     }

@@ -21,4 +21,5 @@ returns g c =
       answer = c.summed.ensures.answer cells old new adds;
       counts = subst (λ n. Counts (n - 1) old new (answer_of meaning_of c.summed.result))
           (length-map-range_with_len (cell_of Total c.args.server) 0 c.args.queue) (c.summed.ensures.counts cells old new adds);
+      memory = c.summed.ensures.memory cells old new adds;
     }

@@ -1,4 +1,4 @@
-use Rattle.std.proofs.Common.{◌≡◌, ◌-◌, ◌∙◌, List, [], map, sym, subst, true, false}
+use Rattle.std.proofs.Common.{◌≡◌, ◌-◌, ◌∙◌, List, [], map, sym, subst, true, false, inr}
 use Rattle.std.specs.Prelude.{◌==◌}
 use Rattle.std.proofs.lemmas.Bool.{eq-eqb, ne_eqb}
 use Rattle.std.proofs.lemmas.List.{length-map}
@@ -11,6 +11,10 @@ use Rattle.cell_operators.specs.Partial.{Adds}
 use Rattle.queue_hops.proofs.Choosing.{queue_visits}
 use Rattle.cell_operators.specs.Evaluates.{Counts}
 use Rattle.cell_kinds.proofs.Arms.{total_ready, parts_ready, total_evaluates}
+use Rattle.net_cells.specs.CellFormulas.{parts_sum}
+use Rattle.net_cells.specs.QueueParts.{part_numbers}
+use Rattle.net_cells.specs.Refusals.{RefusedAt}
+use Rattle.cell_kinds.proofs.Stopping.{at_refusal}
 use Rattle.cell_kinds.proofs.curves.total.Goals as goal
 
 pub parts_sum-requires : goal.parts_sum-requires
@@ -25,6 +29,9 @@ returns-then-version-eq2 g c =
     let second : (net.version == 2) ≡ true = eq-eqb net.version 2 (sym c.version.ensures.version ∙ c.if-version-eq2.true) in
     total_evaluates net (g.T.Table.at c.args.table.now) c.args.server c.args.queue true c.args.steps.now _ _ second
     c.parts_sum.ensures.answer c.parts_sum.ensures.counts
+    (λ is. inr (at_refusal meaning_of c.parts_sum.result
+    (λ e. RefusedAt (g.T.Table.at c.args.table.now) (parts_sum net c.args.server c.args.queue (part_numbers net)) e
+    (c.parts_sum.new.steps - c.args.steps.now)) c.parts_sum.ensures.refused is))
 
 pub flows_sum-made-requires : goal.flows_sum-made-requires
 flows_sum-made-requires g c =
@@ -47,3 +54,4 @@ returns g c =
     (c.summed.ensures.answer cells old new adds)
     (subst (λ n. Counts (n - 1) old new (answer_of meaning_of c.summed.result)) (length-map there (at_visit In))
     (c.summed.ensures.counts cells old new adds))
+    (c.summed.ensures.memory cells old new adds)

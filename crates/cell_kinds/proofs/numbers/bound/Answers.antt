@@ -4,6 +4,9 @@ use Rattle.net_cells.specs.Formulas.{value_of}
 use Rattle.cell_operators.proofs.Counting.{counts_none}
 use Rattle.cell_kinds.proofs.Arms.{bound_tfa, bound_sfa}
 use Rattle.cell_kinds.proofs.PathSums.{smaller_answer}
+use Rattle.net_cells.specs.declared.cell.Kind.TheVariants.{Bound}
+use Rattle.net_cells.specs.CellFormulas.{formula}
+use Rattle.cell_kinds.proofs.Stopping.{none_stops}
 use Rattle.cell_kinds.proofs.numbers.bound.Goals as goal
 
 pub number_at-hop_by_hop-requires : goal.number_at-hop_by_hop-requires
@@ -20,4 +23,5 @@ returns g c = λ n. record {
       c.number_at-hop_by_hop.result c.number_at-whole_path.result
       c.number_at-hop_by_hop.ensures c.number_at-whole_path.ensures);
   counts = counts_none n _;
+  memory = λ is. none_stops (g.T.Table.at c.args.table.now) (formula c.args.net.now (cell_of Bound c.args.flow 0)) n;
 }

@@ -5,6 +5,8 @@ use Rattle.net_cells.specs.Formulas.{value_of, horizontal}
 use Rattle.cell_operators.proofs.Counting.{counts_all}
 use Rattle.cell_kinds.proofs.Arms.{hop_comes, hop_served_by, hop_queue}
 use Rattle.cell_kinds.proofs.PathSums.{smaller_answer, smaller_refused}
+use Rattle.cell_kinds.proofs.Stopping.{ok_stops}
+use Rattle.net_cells.proofs.OneOperator.{horizontal_refused}
 use Rattle.cell_kinds.proofs.numbers.hop_delay.Goals as goal
 
 pub delay_between-requires-clause-rises : goal.delay_between-requires-clause-rises
@@ -34,6 +36,7 @@ returns-in-Ok g c =
           (smaller_answer (g.T.Table.at c.args.table.now) queue own c.number_at-queue.result c.in-Ok.own is
           c.in-Ok.ensures.answer);
       counts = counts_all 1 c.args.steps.now _ _ c.in-Ok.ensures.count;
+      memory = λ is. ok_stops _ _ is;
     }
 
 pub returns-in-Err : goal.returns-in-Err
@@ -48,4 +51,5 @@ returns-in-Err g c =
           (horizontal (value_of (cell_of In i k)) (value_of (cell_of Residual i k))) c.in-Err.fault
           (hop_queue net at i k c.requires) c.in-Err.ensures.answer;
       counts = counts_all 1 c.args.steps.now _ _ c.in-Err.ensures.count;
+      memory = λ is. horizontal_refused at (cell_of In i k) (cell_of Residual i k) c.in-Err.fault _ c.in-Err.ensures.answer is;
     }

@@ -1,10 +1,17 @@
-use Rattle.std.proofs.Common.{sym, ap, ◌∙◌}
+use Rattle.std.proofs.Common.{◌-◌, sym, ap, ◌∙◌, subst, inr}
+use Rattle.std.specs.Prelude.{IfErr}
+use Rattle.net_cells.specs.Formulas.{value_of, vertical}
 use Rattle.net_cells.specs.Meanings.{number}
 use Rattle.cell_operators.proofs.Counting.{ok_answer}
 use Rattle.cell_kinds.proofs.Arms.{backlog_comes, backlog_served_by}
 use Rattle.net_cells.specs.Visits.{longest_of}
 use Rattle.queue_hops.specs.declared.found.Pick.TheVariants.{InQueue}
 use Rattle.queue_hops.proofs.Choosing.{picked_are}
+use Rattle.net_cells.specs.declared.cell.Kind.TheVariants.{Total, QueueService, QueueBacklog}
+use Rattle.net_cells.specs.Cells.{cell_of}
+use Rattle.net_cells.specs.CellFormulas.{less, formula}
+use Rattle.net_cells.specs.Refusals.{RefusedAt}
+use Rattle.cell_kinds.proofs.Stopping.{at_refusal}
 use Rattle.cell_kinds.proofs.numbers.queue_backlog.Goals as goal
 
 pub backlog-requires-clause-curve : goal.backlog-requires-clause-curve
@@ -23,4 +30,12 @@ returns g c =
         least = c.backlog.ensures.least;
         most = c.backlog.ensures.most;
       };
+      memory = λ is. let at = g.T.Table.at c.args.table.now in
+          let counted = c.backlog.new.steps - c.args.steps.now in
+          let from = value_of (cell_of Total c.args.server c.args.queue) in
+          let service = value_of (cell_of QueueService c.args.server c.args.queue) in
+          inr (at_refusal number c.backlog.result
+          (λ e. RefusedAt at (formula c.args.net.now (cell_of QueueBacklog c.args.server c.args.queue)) e counted)
+          (subst (λ b. IfErr c.backlog.result (λ e. RefusedAt at (vertical from (less service b)) e counted)) bits
+          c.backlog.ensures.refused) (sym c.numbered.ensures ∙ is));
     }

@@ -3,6 +3,10 @@ use Rattle.cell_kinds.proofs.Arms.{tfa_delays}
 use Rattle.net_cells.specs.Means.{with_links}
 use Rattle.net_cells.specs.CellFormulas.{link_delays}
 use Rattle.cell_kinds.proofs.PathSums.{path_answer}
+use Rattle.net_cells.specs.declared.cell.Kind.TheVariants.{Tfa}
+use Rattle.net_cells.specs.Cells.{cell_of}
+use Rattle.net_cells.specs.CellFormulas.{formula}
+use Rattle.cell_kinds.proofs.Stopping.{none_stops}
 use Rattle.cell_kinds.proofs.numbers.tfa.Goals as goal
 
 pub delays-requires : goal.delays-requires
@@ -20,4 +24,5 @@ returns g c = λ n.
           (λ xs few are.
           c.sum_of.ensures (with_links xs (link_delays net i)) few (c.with_path.ensures xs (c.delays.ensures xs are))));
       counts = counts_none n _;
+      memory = λ is. none_stops at (formula net (cell_of Tfa i 0)) n;
     }

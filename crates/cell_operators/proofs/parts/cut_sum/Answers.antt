@@ -1,4 +1,4 @@
-use Rattle.std.proofs.Common.{suc, ◌-◌, sym, ap, ◌∙◌, subst, arith, ◌≡◌}
+use Rattle.std.proofs.Common.{ℕ, suc, ◌+◌, ◌-◌, sym, ap, ◌∙◌, subst, arith, ◌≡◌}
 use Rattle.std.specs.Prelude.{Ok, Err}
 use Rattle.net_cells.specs.Meanings.{curve}
 use Rattle.net_cells.specs.Visits.{longest_of}
@@ -13,6 +13,11 @@ use Rattle.rational.specs.Rational.{◌≤ℚ◌}
 use Rattle.min_plus.specs.Functions.{zero_q}
 use Rattle.cell_operators.proofs.LinkRates.{rate_low}
 use Rattle.cell_operators.proofs.PartSteps.{cut_is}
+use Rattle.std.specs.Prelude.{IfErr}
+use Rattle.net_cells.specs.Meanings.{CellTable}
+use Rattle.net_cells.specs.Formulas.{Formula, operators}
+use Rattle.net_cells.specs.Refusals.{RefusedAt}
+use Rattle.cell_operators.proofs.PartSteps.{cut_formula}
 use Rattle.cell_operators.proofs.parts.cut_sum.Goals as goal
 
 pub returns-in-Ok-clause-part : goal.returns-in-Ok-clause-part
@@ -55,3 +60,16 @@ returns-in-Err-clause-counts g c = λ at.
 pub cut-requires : goal.cut-requires
 cut-requires g c =
     subst (λ x. zero_q ≤ℚ x) (sym c.rate-rate.ensures) (rate_low c.args.net.now (c.args.part - 1) c.keeps.ensures)
+
+pub returns-in-Err-clause-refused : goal.returns-in-Err-clause-refused
+returns-in-Err-clause-refused g c = λ at h.
+    let net = c.args.net.now in
+    let k = c.args.part in
+    let vs = in_part net c.args.place.0 c.args.place.1 k in
+    let counted = c.cut.new.steps - c.args.steps.now in
+    let before : k ≡ suc (k - 1) = omega (arith, c.requires.link) in
+    let longest = c.longest_at-bits.ensures ∙ ap (longest_of net) (sym (part_picked net c.args.place.0 c.args.place.1 k)) in
+    let refused = subst (λ r. IfErr r (λ e. (at : CellTable) (F : Formula) (server : ℕ) → Answers at F (Ok (curve c.args.flows.now))
+    → RefusedAt at (cut F server c.longest_at-bits.result c.rate-rate.result) e (operators F + counted))) c.in-Err.is c.cut.ensures.refused in
+    cut_formula (λ F. RefusedAt at F c.in-Err.fault (operators (sum_of_hops vs) + counted)) net k (k - 1) c.longest_at-bits.result c.rate-rate.result vs
+    before longest c.rate-rate.ensures (refused at (sum_of_hops vs) (k - 1) h)

@@ -1,9 +1,13 @@
-use Rattle.std.proofs.Common.{◌≡◌, suc, ◌+◌, length, sym, ap, subst, arith}
+use Rattle.std.proofs.Common.{◌≡◌, suc, ◌+◌, ◌-◌, length, sym, ap, subst, arith}
 use Rattle.std.proofs.lemmas.List.{length-map}
 use Rattle.net_model.specs.Views.{server_of}
 use Rattle.cell_operators.specs.Evaluates.{Counts}
 use Rattle.cell_operators.specs.Parts.{MakesPart, AreMade, part_answer, part_work}
 use Rattle.cell_operators.proofs.PartSteps.{none_made, next_made, refused_made}
+use Rattle.std.specs.Prelude.{IfErr}
+use Rattle.net_cells.specs.QueueParts.{in_part}
+use Rattle.net_cells.specs.CellFormulas.{part_sum}
+use Rattle.net_cells.specs.Refusals.{RefusedAt}
 use Rattle.cell_operators.proofs.parts.parts_made.Goals as goal
 
 pub part_made-requires-clause-curves : goal.part_made-requires-clause-curves
@@ -39,9 +43,12 @@ returns-in-Err-clause-refused g c =
     let n = c.loop-part.part in
     let part = subst (MakesPart at net s q n) c.in-Err.is c.part_made.ensures.part in
     let counts = subst (λ r. Counts (part_work net s q n) c.loop-part.steps c.part_made.new.steps (part_answer at r)) c.in-Err.is c.part_made.ensures.counts in
+    let refused = subst (λ r. IfErr r (λ e. RefusedAt at (part_sum net n (in_part net s q n)) e (c.part_made.new.steps - c.loop-part.steps)))
+    c.in-Err.is c.part_made.ensures.refused in
     let count = ap length c.servers.ensures.servers in
     let every = length-map c.servers.result.now server_of in
-    refused_made at net s q n c.loop-part.parts.items c.in-Err.fault c.args.steps.now c.loop-part.steps c.part_made.new.steps c.loop-part.invariant part counts
+    refused_made at net s q n c.loop-part.parts.items c.in-Err.fault c.args.steps.now c.loop-part.steps c.part_made.new.steps c.loop-part.invariant part
+    refused counts
     (omega (arith, count, every, c.loop-part-test.true))
 
 pub returns-clause-made : goal.returns-clause-made

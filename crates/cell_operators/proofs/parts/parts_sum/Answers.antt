@@ -5,6 +5,12 @@ use Rattle.cell_table.specs.Values.{answer_of, meaning_of}
 use Rattle.cell_operators.specs.Evaluates.{Counts}
 use Rattle.cell_operators.specs.Parts.{IsHeld, curve_of}
 use Rattle.cell_operators.proofs.PartSteps.{refused_gives, made_gives, made_counts}
+use Rattle.std.specs.Prelude.{IfErr}
+use Rattle.net_cells.specs.CellFormulas.{parts_sum}
+use Rattle.net_cells.specs.QueueParts.{part_numbers}
+use Rattle.net_cells.specs.Refusals.{RefusedAt, SumsRefused}
+use Rattle.cell_operators.proofs.PartSteps.{made_refused}
+use Rattle.cell_operators.proofs.Stopping.{err_map}
 use Rattle.cell_operators.proofs.parts.parts_sum.Goals as goal
 
 pub added_up-requires : goal.added_up-requires
@@ -32,3 +38,21 @@ returns-in-Err-clause-answer g c =
 pub returns-in-Err-clause-counts : goal.returns-in-Err-clause-counts
 returns-in-Err-clause-counts g c =
     record { exact = tt; least = c.in-Err.ensures.refused.least; most = c.in-Err.ensures.refused.most }
+
+pub returns-in-Ok-clause-refused : goal.returns-in-Ok-clause-refused
+returns-in-Ok-clause-refused g c =
+    let at = g.T.Table.at c.args.table.now in
+    let net = c.args.net.now in
+    let s = c.args.place.0 in
+    let q = c.args.place.1 in
+    let mid = c.parts_made.new.steps in
+    let new = c.added_up.new.steps in
+    let fs = map (curve_of at) c.in-Ok.parts.items in
+    let least = c.added_up.ensures.counts.least in
+    err_map c.added_up.result (λ e. SumsRefused fs e (new - mid))
+    (λ e. RefusedAt at (parts_sum net s q (part_numbers net)) e (new - c.args.steps.now))
+    (λ e r. made_refused at net s q c.in-Ok.parts.items c.args.steps.now mid new e c.in-Ok.ensures.made least r)
+    (subst (λ ps. IfErr c.added_up.result (λ e. SumsRefused (map (curve_of at) ps) e (new - mid))) c.deref.ensures.0 c.added_up.ensures.refused)
+
+pub returns-in-Err-clause-refused : goal.returns-in-Err-clause-refused
+returns-in-Err-clause-refused g c = c.in-Err.ensures.refused.refused

@@ -1,4 +1,4 @@
-use Rattle.std.proofs.Common.{◌+◌, sym, ap, ◌∙◌, subst, arith}
+use Rattle.std.proofs.Common.{◌≡◌, ◌+◌, ◌-◌, sym, ap, ◌∙◌, subst, arith}
 use Rattle.std.specs.Prelude.{Some, Ok, Err}
 use Rattle.upp_limits.specs.declared.op_kind.OpKind.TheVariants.{PosMinus}
 use Rattle.run_laws.specs.Cards.{whole}
@@ -10,6 +10,10 @@ use Rattle.net_cells.specs.CellFormulas.{packets_to}
 use Rattle.cell_operators.specs.Shapes.{Serving}
 use Rattle.cell_operators.proofs.Meeting.{curve_holds, curve_map}
 use Rattle.cell_operators.proofs.PathSteps.{packets_fail, first_packets, next_packets}
+use Rattle.net_cells.specs.Formulas.{operators}
+use Rattle.net_cells.specs.Refusals.{RefusedAt}
+use Rattle.cell_operators.proofs.PathSteps.{packets_refused, packets_operators, first_formula, next_formula}
+use Rattle.cell_operators.proofs.Stopping.{less_refused}
 use Rattle.cell_operators.proofs.paths.to_hop.Goals as goal
 
 pub curve_at-requires : goal.curve_at-requires
@@ -62,3 +66,38 @@ returns-in-Err-with_hop-clause-answer g c =
     packets_fail at c.args.net.now c.args.flow (c.loop-hop.hop + 1) c.args.last c.in-Err-with_hop.fault
     (let t = c.loop-hop-test.true in omega (arith, t))
     (next_packets at c.args.net.now c.args.flow c.loop-hop.hop c.packet-bits.result (Err c.in-Err-with_hop.fault) c.packet-bits.ensures fail)
+
+pub returns-in-Err-clause-refused : goal.returns-in-Err-clause-refused
+returns-in-Err-clause-refused g c =
+    let at = g.T.Table.at c.args.table.now in
+    let net = c.args.net.now in
+    let i = c.args.flow in
+    let bits = c.packet-bits.result in
+    let is = c.curve_at.ensures ∙ ap (λ f. Some (curve f)) (sym c.deref.ensures) in
+    let one = subst (AppliesTo (PosMinus (whole bits)) c.deref.result.now) c.in-Err.is c.in_packets.ensures.answer in
+    let first = c.in_packets.ensures.count in
+    let count : 1 ≡ c.in_packets.new.steps - c.args.steps.now = omega (arith, first) in
+    subst (λ n. RefusedAt at (packets_to net i c.args.last) c.in-Err.fault n) count
+    (packets_refused at net i 0 c.args.last c.in-Err.fault 1 (omega arith)
+    (first_formula (λ F. RefusedAt at F c.in-Err.fault 1) net i bits c.packet-bits.ensures
+    (less_refused at (cell_of Residual i 0) c.deref.result.now bits is c.in-Err.fault one)))
+
+pub returns-in-Err-with_hop-clause-refused : goal.returns-in-Err-with_hop-clause-refused
+returns-in-Err-with_hop-clause-refused g c =
+    let at = g.T.Table.at c.args.table.now in
+    let net = c.args.net.now in
+    let i = c.args.flow in
+    let fault = c.in-Err-with_hop.fault in
+    let inv = c.loop-hop.invariant in
+    let F = packets_to net i c.loop-hop.hop in
+    let here = c.in-Err-with_hop.ensures.refused F inv.answers in
+    let before = inv.count in
+    let own = packets_operators net i c.loop-hop.hop in
+    let least = c.in-Err-with_hop.ensures.counts.least in
+    let count : operators F + (c.with_hop.new.steps - c.loop-hop.steps) ≡ c.with_hop.new.steps - c.args.steps.now =
+    omega (arith, before, own, least) in
+    subst (λ n. RefusedAt at (packets_to net i c.args.last) fault n) count
+    (packets_refused at net i (c.loop-hop.hop + 1) c.args.last fault (operators F + (c.with_hop.new.steps - c.loop-hop.steps))
+    (let t = c.loop-hop-test.true in omega (arith, t))
+    (next_formula (λ G. RefusedAt at G fault (operators F + (c.with_hop.new.steps - c.loop-hop.steps))) net i c.loop-hop.hop c.packet-bits.result
+    c.packet-bits.ensures here))

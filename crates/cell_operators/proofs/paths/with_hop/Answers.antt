@@ -1,4 +1,4 @@
-use Rattle.std.proofs.Common.{sym, ap, ◌∙◌, subst, arith}
+use Rattle.std.proofs.Common.{◌≡◌, ◌+◌, ◌-◌, sym, ap, ◌∙◌, subst, arith}
 use Rattle.std.specs.Prelude.{Some, Ok, Err}
 use Rattle.upp_limits.specs.declared.op_kind.OpKind.TheVariants.{PosMinus, Convolve}
 use Rattle.run_laws.specs.Cards.{whole}
@@ -12,6 +12,11 @@ use Rattle.cell_operators.specs.Shapes.{Serving}
 use Rattle.cell_operators.proofs.Counting.{counts_all}
 use Rattle.cell_operators.proofs.Meeting.{curve_holds}
 use Rattle.cell_operators.proofs.PathSteps.{made_answer, less_answer, joined_answer, second_fails}
+use Rattle.net_cells.specs.Answers.{Answers}
+use Rattle.net_cells.specs.Formulas.{Formula, operators, made}
+use Rattle.net_cells.specs.Refusals.{RefusedAt}
+use Rattle.residual_laws.proofs.Placed.{if_err}
+use Rattle.cell_operators.proofs.Stopping.{second_refused, both_refused, less_refused, less_made}
 use Rattle.cell_operators.proofs.paths.with_hop.Goals as goal
 
 pub in_packets-requires : goal.in_packets-requires
@@ -51,3 +56,36 @@ pub returns-in-Err-clause-counts : goal.returns-in-Err-clause-counts
 returns-in-Err-clause-counts g c =
     let one = c.in_packets.ensures.count in
     record { exact = tt; least = omega (arith, one); most = omega (arith, one) }
+
+pub returns-in-Ok-clause-refused : goal.returns-in-Ok-clause-refused
+returns-in-Ok-clause-refused g c =
+    let at = g.T.Table.at c.args.table.now in
+    let f = c.args.so_far.now in
+    let s = c.deref.result.now in
+    let k = c.in-Ok.next in
+    let is = c.curve_at.ensures ∙ ap (λ f. Some (curve f)) (sym c.deref.ensures) in
+    let packets = less (value_of c.args.cell) c.args.bits in
+    let one = subst (AppliesTo (PosMinus (whole c.args.bits)) s) c.in-Ok.is c.in_packets.ensures.answer in
+    let call = applied_seen Convolve f k c.convolve.result c.intact.result c.intact.ensures.same c.convolve.ensures.value c.convolve.ensures.limits
+    c.intact.ensures.kept in
+    let first = c.in_packets.ensures.count in
+    let second = c.convolve.ensures.count in
+    let count : 0 + 1 + 1 ≡ c.convolve.new.steps - c.args.steps.now = omega (arith, first, second) in
+    if_err c.intact.result
+    (λ e. (F : Formula) → Answers at F (Ok (curve f)) → RefusedAt at (made Convolve F packets) e (operators F + (c.convolve.new.steps - c.args.steps.now)))
+    (λ e refused F p. subst (λ n. RefusedAt at (made Convolve F packets) e (operators F + n)) count
+    (both_refused at F packets Convolve f k e p (less_made at c.args.cell s c.args.bits is k one)
+    (subst (λ r. Applies Convolve f k r) refused call)))
+
+pub returns-in-Err-clause-refused : goal.returns-in-Err-clause-refused
+returns-in-Err-clause-refused g c = λ F p.
+    let at = g.T.Table.at c.args.table.now in
+    let s = c.deref.result.now in
+    let is = c.curve_at.ensures ∙ ap (λ f. Some (curve f)) (sym c.deref.ensures) in
+    let packets = less (value_of c.args.cell) c.args.bits in
+    let one = subst (AppliesTo (PosMinus (whole c.args.bits)) s) c.in-Err.is c.in_packets.ensures.answer in
+    let first = c.in_packets.ensures.count in
+    let count : 1 ≡ c.in_packets.new.steps - c.args.steps.now = omega (arith, first) in
+    subst (λ n. RefusedAt at (made Convolve F packets) c.in-Err.fault (operators F + n)) count
+    (second_refused at F packets Convolve c.args.so_far.now c.in-Err.fault 1 p
+    (less_refused at c.args.cell s c.args.bits is c.in-Err.fault one))

@@ -1,4 +1,4 @@
-use Rattle.std.proofs.Common.{◌≡◌, ◌+◌, ap, ◌∙◌, subst, arith, length, map}
+use Rattle.std.proofs.Common.{◌≡◌, ◌+◌, ◌-◌, ap, ◌∙◌, subst, arith, length, map}
 use Rattle.std.specs.List.{range_with_len}
 use Rattle.std.proofs.lemmas.List.FromFn.{length-map-range_with_len}
 use Rattle.residual_laws.specs.DrrCalls.{MakesDrr}
@@ -7,6 +7,9 @@ use Rattle.net_cells.specs.Answers.{MakesCurve}
 use Rattle.cell_table.specs.Values.{answer_of, meaning_of}
 use Rattle.cell_operators.proofs.Handing.{drr_out, shared_makes}
 use Rattle.cell_operators.proofs.SharedCounts.{shared_ok}
+use Rattle.std.specs.Prelude.{IfErr}
+use Rattle.residual_laws.specs.InTurn.{DrrRefused}
+use Rattle.cell_operators.proofs.Stopping.{drr_full, shared_refused, ok_map}
 use Rattle.cell_operators.proofs.services.by_deficit.Goals as goal
 
 pub drr_service-made-requires-clause-queues : goal.drr_service-made-requires-clause-queues
@@ -42,3 +45,19 @@ returns-clause-counts g c =
       least = omega (arith, low);
       most = c.drr_service-made.ensures.most;
     }
+
+pub returns-clause-refused : goal.returns-clause-refused
+returns-clause-refused g c =
+    let net = c.args.net.now in
+    let n = length c.args.quanta.now in
+    let sizes : c.deref.result.now ≡ map (longest net c.args.place.0) (range_with_len 0 n) = c.deref.ensures.0 ∙ c.longest_each-sizes.ensures in
+    let β = c.args.service.now in
+    let made = c.drr_service-made.result in
+    let counted = c.drr_service-made.new.steps - c.args.steps.now in
+    let all = ok_map made (c.drr_service-made.new.steps ≡ c.args.steps.now + 2) (counted ≡ 2) (λ e. omega (arith, e))
+    c.drr_service-made.ensures.all in
+    subst (λ zs. IfErr c.shared.result (λ e. DrrRefused β c.args.quanta.now zs c.args.place.1 e counted)) sizes
+    (shared_refused meaning_of (MakesDrr β c.args.quanta.now c.deref.result.now c.args.place.1)
+    (DrrRefused β c.args.quanta.now c.deref.result.now c.args.place.1) made c.shared.result counted 2
+    (drr_full β c.args.quanta.now c.deref.result.now c.args.place.1)
+    c.drr_service-made.ensures.answer c.drr_service-made.ensures.refused all c.shared.ensures)

@@ -1,4 +1,4 @@
-use Rattle.std.proofs.Common.{◌≡◌, ◌+◌, sym, ap, ◌∙◌, subst, arith}
+use Rattle.std.proofs.Common.{◌≡◌, ◌+◌, ◌-◌, sym, ap, ◌∙◌, subst, arith}
 use Rattle.std.specs.Prelude.{Some}
 use Rattle.residual_laws.specs.PriorityCalls.{MakesPriority}
 use Rattle.net_cells.specs.declared.cell.Kind.TheVariants.{Higher}
@@ -12,6 +12,10 @@ use Rattle.cell_operators.proofs.Handing.{priority_out, shared_makes, on_cell}
 use Rattle.queue_hops.specs.declared.found.Pick.TheVariants.{AfterQueue}
 use Rattle.queue_hops.proofs.Choosing.{picked_are}
 use Rattle.cell_operators.proofs.SharedCounts.{shared_ok}
+use Rattle.std.specs.Prelude.{IfErr}
+use Rattle.net_cells.specs.Refusals.{RefusedAt}
+use Rattle.residual_laws.specs.InTurn.{past, PriorityRefused}
+use Rattle.cell_operators.proofs.Stopping.{priority_full, shared_refused, err_map, ok_map}
 use Rattle.cell_operators.proofs.services.by_priority.Goals as goal
 
 pub returns-clause-answer : goal.returns-clause-answer
@@ -37,3 +41,23 @@ returns-clause-counts g c =
       least = omega (arith, low);
       most = c.priority_service-made.ensures.most;
     }
+
+pub returns-clause-refused : goal.returns-clause-refused
+returns-clause-refused g c =
+    let at = g.T.Table.at c.args.table.now in
+    let net = c.args.net.now in
+    let β = c.args.service.now in
+    let above = cell_of Higher c.args.place.0 c.args.place.1 in
+    let f = c.deref.result.now in
+    let l = c.longest_at-lower.result in
+    let made = c.priority_service-made.result in
+    let counted = c.priority_service-made.new.steps - c.args.steps.now in
+    let lower = c.longest_at-lower.ensures ∙ ap (longest_of net) (sym (picked_are net c.args.place.0 (AfterQueue c.args.place.1))) in
+    let low = c.priority_service-made.ensures.least in
+    let all = ok_map made (c.priority_service-made.new.steps ≡ c.args.steps.now + 3) (counted ≡ 3) (λ e. omega (arith, e))
+    c.priority_service-made.ensures.all in
+    subst (λ n. IfErr c.shared.result (λ e. RefusedAt at (priority β (value_of above) n) e counted)) lower
+    (err_map c.shared.result (λ e. PriorityRefused β f l e counted) (λ e. RefusedAt at (priority β (value_of above) l) e counted)
+    (λ e r. past (curve f) counted (c.curve_at.ensures ∙ ap (λ f. Some (curve f)) (sym c.deref.ensures)) (omega arith) r)
+    (shared_refused meaning_of (MakesPriority β f l) (PriorityRefused β f l) made c.shared.result counted 3 (priority_full β f l)
+    c.priority_service-made.ensures.answer c.priority_service-made.ensures.refused all c.shared.ensures))

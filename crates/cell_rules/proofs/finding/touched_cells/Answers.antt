@@ -1,80 +1,82 @@
-use Rattle.std.proofs.Common.{◌≡◌, ◌+◌, List, [], ◌∷◌, ◌++◌, get_or, take, drop, sym, ◌∙◌, subst, arith, Bool}
-use Rattle.std.proofs.lemmas.List.{take_all, take_more}
+use Rattle.std.proofs.Common.{◌≡◌, ℕ, ◌≤◌, List, [], ◌++◌, length, take, Bool, sym, ap, ◌∙◌, subst, arith}
+use Rattle.std.specs.List.{flat_map}
+use Rattle.std.proofs.lemmas.List.{take_all}
+use Rattle.net_model.specs.Networks.{Net}
+use Rattle.net_model.specs.Orders.{IsOrder}
 use Rattle.net_cells.specs.declared.cell.Cell.{Cell}
-use Rattle.net_cells.specs.Order.{evaluation_order}
-use Rattle.net_cells.proofs.Precedes.{in_front}
-use Rattle.cell_changes.specs.Changes.{TouchedOf, no_more}
-use Rattle.cell_rules.specs.Finding.{AreFlags, IsTold}
-use Rattle.cell_table.proofs.Fronts.{no_cell, at_place}
-use Rattle.cell_rules.proofs.Found.{first_flags, own_slot, part_slots, noted_flags, noted_list, few_touched, bare_noted}
+use Rattle.net_cells.specs.Cells.{path_kinds}
+use Rattle.net_cells.specs.Order.{evaluation_order, server_cells, path_cells}
+use Rattle.net_cells.proofs.Lists.{contains_has}
+use Rattle.cell_changes.specs.Changes.{TouchedOf}
+use Rattle.cell_rules.specs.Marks.{MarksReached, IsSearched, Searches, StandBehind}
+use Rattle.cell_rules.proofs.Found.{few_touched}
+use Rattle.cell_rules.proofs.Searched.{searched_none, stand_server, stand_paths, both_parts, more_server}
 use Rattle.cell_rules.proofs.finding.touched_cells.Goals as goal
 
 pub loop-place-init : goal.loop-place-init
 loop-place-init c = record {
-  flags = first_flags c.args.old.now c.args.net.now c.in_ok-flags.flags.items c.in_ok-flags.ensures.room
-      c.in_ok-flags.ensures.none;
-  list = subst (λ (ts : List Cell). TouchedOf c.args.old.now c.args.net.now [] ts) (sym c.new-touched.ensures.items) no_more;
-  bare = λ e. c.in_ok-flags.ensures.none;
+  searched = searched_none c.args.old.now c.args.net.now c.in_ok-flags.flags.items c.new-touched.result.items
+      c.in_ok-flags.ensures.room c.in_ok-flags.ensures.none c.new-touched.ensures.items;
+  candidates = c.in_ok-marks.ensures;
+  reached = λ s d e m l f t. absurd (contains_has [] e f);
 }
 
-pub is_touched-requires-clause-cell : goal.is_touched-requires-clause-cell
-is_touched-requires-clause-cell c =
-    let cells = c.args.cells.now in
-    let i = c.loop-place.place in
-    in_front c.args.net.now c.requires.order.order (take i cells) (get_or cells i no_cell) (drop (i + 1) cells)
-    (sym c.requires.order.are ∙ at_place cells i (omega arith))
-
-pub is_touched-requires-clause-places : goal.is_touched-requires-clause-places
-is_touched-requires-clause-places c =
-    let cells = c.args.cells.now in
-    let i = c.loop-place.place in
-    part_slots c.args.old.now c.args.net.now c.requires.order.order (take i cells) (get_or cells i no_cell) (drop (i + 1) cells)
-    c.keeps.ensures c.requires.order.servers (sym c.requires.order.are ∙ at_place cells i (omega arith))
-    c.loop-place.flags.items c.loop-place.invariant.flags
-
-pub note-requires-clause-place : goal.note-requires-clause-place
-note-requires-clause-place c =
-    let cells = c.args.cells.now in
-    let i = c.loop-place.place in
-    own_slot c.args.old.now c.args.net.now c.requires.order.order (take i cells) (get_or cells i no_cell) (drop (i + 1) cells)
-    c.keeps.ensures c.requires.order.servers (sym c.requires.order.are ∙ at_place cells i (omega arith))
-    c.loop-place.flags.items c.loop-place.invariant.flags
+pub search_server-requires-clause-place : goal.search_server-requires-clause-place
+search_server-requires-clause-place c =
+    let order = c.args.order.now in
+    let i = c.loop-place.place in (
+      flat_map (server_cells c.args.net.now) (take i order),
+      stand_server c.args.net.now order i 0 c.requires.order (omega arith),
+    )
 
 pub loop-place-preserved : goal.loop-place-preserved
 loop-place-preserved c =
     let old = c.args.old.now in
     let net = c.args.net.now in
-    let cells = c.args.cells.now in
+    let order = c.args.order.now in
     let i = c.loop-place.place in
-    let flags = c.loop-place.flags.items in
-    let whole : evaluation_order net c.requires.order.order ≡ take i cells ++ get_or cells i no_cell ∷ drop (i + 1) cells =
-    sym c.requires.order.are ∙ at_place cells i (omega arith) in
-    let longer : take (i + 1) cells ≡ take i cells ++ get_or cells i no_cell ∷ [] = take_more cells i no_cell (omega arith) in
-    let told : IsTold old net flags (get_or cells i no_cell) c.in_ok-here.here =
-    subst (λ (fs : List Bool). IsTold old net fs (get_or cells i no_cell) c.in_ok-here.here) c.deref.ensures.value
-    c.in_ok-here.ensures in
+    let front = flat_map (server_cells net) (take i order) in
+    let stand = stand_server net order i 0 c.requires.order (omega arith) in
+    let more = sym (more_server net order i 0 (omega arith)) in
+    let inv = c.loop-place.invariant in
     record {
-      flags = subst (λ (front : List Cell). AreFlags old net front c.note.new.flags.items) (sym longer)
-          (noted_flags old net c.requires.order.order (take i cells) (get_or cells i no_cell) (drop (i + 1) cells)
-          c.keeps.ensures c.requires.order.servers whole flags c.loop-place.invariant.flags c.in_ok-here.here
-          c.note.new.flags.items c.loop-place.touched.items c.note.new.touched.items told c.in_ok-note.ensures);
-      list = subst (λ (front : List Cell). TouchedOf old net front c.note.new.touched.items) (sym longer)
-          (noted_list old net c.requires.order.order (take i cells) (get_or cells i no_cell) (drop (i + 1) cells)
-          c.keeps.ensures c.requires.order.servers whole flags c.loop-place.invariant.flags c.in_ok-here.here
-          c.note.new.flags.items c.loop-place.touched.items c.note.new.touched.items told c.in_ok-note.ensures
-          c.loop-place.invariant.list);
-      bare = bare_noted (get_or cells i no_cell) c.in_ok-here.here flags c.note.new.flags.items c.loop-place.touched.items
-          c.note.new.touched.items c.in_ok-note.ensures c.loop-place.invariant.bare;
+      searched = subst (λ (xs : List Cell). IsSearched old net xs c.search_server.new.flags.items c.search_server.new.touched.items) more
+          (c.in_ok-search_server.ensures.searched front stand inv.searched inv.reached);
+      candidates = λ s d m e. c.in_ok-search_server.ensures.kept s (inv.candidates s d m e);
+      reached = subst (λ (xs : List Cell). MarksReached old net xs c.search_server.new.marks.items) more
+          (c.in_ok-search_server.ensures.reached front stand inv.searched inv.reached);
     }
+
+pub search-requires-clause-place : goal.search-requires-clause-place
+search-requires-clause-place c =
+    let net = c.args.net.now in
+    let order = c.args.order.now in
+    let same = c.deref.ensures.value ∙ c.in_ok-paths.ensures in (
+      flat_map (server_cells net) order,
+      subst (λ (xs : List Cell). StandBehind net (flat_map (server_cells net) order) xs) (sym same)
+          (stand_paths net order c.requires.order),
+    )
+
+-- all are searched
+at_end : (old net : Net) (order : List ℕ) (i : ℕ) (cells : List Cell) (flags more : List Bool) (touched longer : List Cell)
+    → IsOrder net order → length order ≤ i → cells ≡ flat_map (path_cells net) path_kinds
+    → IsSearched old net (flat_map (server_cells net) (take i order)) flags touched
+    → Searches old net cells flags touched more longer → TouchedOf old net (evaluation_order net order) longer
+at_end old net order i cells flags more touched longer o h e before all =
+    let front = flat_map (server_cells net) order in
+    let start = subst (λ (xs : List ℕ). IsSearched old net (flat_map (server_cells net) xs) flags touched)
+    (take_all i order h) before in
+    let stand = subst (λ (xs : List Cell). StandBehind net front xs) (sym e) (stand_paths net order o) in
+    subst (λ (xs : List Cell). TouchedOf old net xs longer)
+    (ap (λ (xs : List Cell). front ++ xs) e ∙ both_parts net order) (all front stand start).list
 
 pub returns-clause-touched : goal.returns-clause-touched
 returns-clause-touched c =
-    subst (λ (cs : List Cell). TouchedOf c.args.old.now c.args.net.now cs c.loop-place.touched.items)
-    (take_all c.loop-place.place c.args.cells.now (omega arith)) c.loop-place.invariant.list
+    at_end c.args.old.now c.args.net.now c.args.order.now c.loop-place.place c.deref.result.now c.loop-place.flags.items
+    c.search.new.flags.items c.loop-place.touched.items c.search.new.touched.items c.requires.order (omega arith)
+    (c.deref.ensures.value ∙ c.in_ok-paths.ensures) c.loop-place.invariant.searched c.in_ok-search.ensures.searched
 
 pub returns-clause-few : goal.returns-clause-few
 returns-clause-few c =
-    few_touched c.args.old.now c.args.net.now c.requires.order.order c.loop-place.touched.items c.keeps.ensures
-    c.requires.order.servers
-    (subst (λ (cs : List Cell). TouchedOf c.args.old.now c.args.net.now cs c.loop-place.touched.items)
-    (take_all c.loop-place.place c.args.cells.now (omega arith) ∙ c.requires.order.are) c.loop-place.invariant.list)
+    few_touched c.args.old.now c.args.net.now c.args.order.now c.search.new.touched.items c.keeps.ensures c.requires.order
+    (returns-clause-touched c)

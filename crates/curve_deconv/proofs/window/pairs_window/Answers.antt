@@ -1,31 +1,36 @@
-use Rattle.std.proofs.Common.{◌∙◌, ap, map}
-use Rattle.rational.specs.declared.Extended.TheVariants.{Fin}
-use Rattle.element_envelope.specs.PieceElements.{elements_of}
-use Rattle.curve_deconv.specs.Mirrored.{neg_element, mirror}
-use Rattle.curve_deconv.proofs.Pairs.{ArePaired, mirrors_fit, pairs_room, ok_pairs}
+use Rattle.std.proofs.Common.{◌∙◌, ap₂, sym, subst, List}
+use Rattle.rational.proofs.Laws.{le_of_lt}
+use Rattle.rational.specs.Extended.{Ext}
+use Rattle.affine_segment.specs.declared.line.Piece.{Piece}
+use Rattle.curve_deconv.specs.Mirrored.{mirror_pieces, AreMirrorable}
+use Rattle.curve_deconv.proofs.Pairs.{mirrors_fit, reach_fits, pairs_room, ok_pairs}
 use Rattle.curve_deconv.proofs.window.pairs_window.Goals as goal
 
-pub mirrored_elements-requires : goal.mirrored_elements-requires
-mirrored_elements-requires c =
-    mirrors_fit c.args.end c.args.reach c.args.f.now c.args.g.now c.in_ok-front.front.items c.deref-3.result.now c.requires c.in_ok-front.ensures
-    (c.deref-3.ensures.value ∙ c.in_ok-second.ensures ∙ ap (λ us. elements_of us (Fin c.args.reach)) c.deref-2.ensures.value)
+pub read-requires-clause-starts : goal.read-requires-clause-starts
+read-requires-clause-starts c = c.requires.right.starts
 
-pub envelope-requires : goal.envelope-requires
-envelope-requires c =
-    let reach = c.args.reach in
-    let A : ArePaired reach c.args.f.now c.in_ok-front.front.items c.deref-4.result.now c.deref-5.result.now = record {
-      first = c.deref-4.ensures.value ∙ c.in_ok-xs.ensures ∙ ap (map neg_element) (c.deref.ensures.value ∙ c.in_ok-first.ensures);
-      second = c.deref-5.ensures.value ∙ c.in_ok-ys.ensures
-          ∙ ap (map (mirror reach)) (c.deref-3.ensures.value ∙ c.in_ok-second.ensures ∙ ap (λ us. elements_of us (Fin reach)) c.deref-2.ensures.value);
-    } in
-    pairs_room c.args.end reach c.args.f.now c.args.g.now c.in_ok-front.front.items c.deref-4.result.now c.deref-5.result.now c.requires c.in_ok-front.ensures A
+pub read-requires-clause-time : goal.read-requires-clause-time
+read-requires-clause-time c = le_of_lt c.requires.some
+
+pub read-requires-clause-fits : goal.read-requires-clause-fits
+read-requires-clause-fits c = reach_fits c.args.end c.args.reach c.args.f.now c.args.g.now c.requires
+
+pub mirrored_pieces-requires : goal.mirrored_pieces-requires
+mirrored_pieces-requires c =
+    let a = c.args in
+    subst (AreMirrorable a.reach) (sym c.deref.ensures.value) (mirrors_fit a.end a.reach a.f.now a.g.now c.in_ok-front.front.items c.requires c.in_ok-front.ensures)
+
+pub window_convolution_from-requires : goal.window_convolution_from-requires
+window_convolution_from-requires c =
+    let a = c.args in
+    pairs_room a.end a.reach a.f.now a.g.now c.in_ok-front.front.items c.deref-2.result.now c.deref-3.result.now c.requires c.in_ok-front.ensures
+    (c.deref-2.ensures.value ∙ c.in_ok-turned.ensures)
+    (c.deref-3.ensures.value ∙ c.in_ok-mirrored.ensures ∙ ap₂ (λ (v : Ext) (ps : List Piece). mirror_pieces a.reach v ps) c.read.ensures c.deref.ensures.value)
 
 pub returns : goal.returns
 returns c =
-    let reach = c.args.reach in
-    let A : ArePaired reach c.args.f.now c.in_ok-front.front.items c.deref-4.result.now c.deref-5.result.now = record {
-      first = c.deref-4.ensures.value ∙ c.in_ok-xs.ensures ∙ ap (map neg_element) (c.deref.ensures.value ∙ c.in_ok-first.ensures);
-      second = c.deref-5.ensures.value ∙ c.in_ok-ys.ensures
-          ∙ ap (map (mirror reach)) (c.deref-3.ensures.value ∙ c.in_ok-second.ensures ∙ ap (λ us. elements_of us (Fin reach)) c.deref-2.ensures.value);
-    } in
-    ok_pairs c.envelope.result c.args.end reach c.args.f.now c.args.g.now c.in_ok-front.front.items c.deref-4.result.now c.deref-5.result.now c.requires c.in_ok-front.ensures A c.envelope.ensures
+    let a = c.args in
+    ok_pairs c.window_convolution_from.result a.end a.reach a.f.now a.g.now c.in_ok-front.front.items c.deref-2.result.now c.deref-3.result.now c.requires c.in_ok-front.ensures
+    (c.deref-2.ensures.value ∙ c.in_ok-turned.ensures)
+    (c.deref-3.ensures.value ∙ c.in_ok-mirrored.ensures ∙ ap₂ (λ (v : Ext) (ps : List Piece). mirror_pieces a.reach v ps) c.read.ensures c.deref.ensures.value)
+    c.window_convolution_from.ensures

@@ -45,4 +45,4 @@ returns-clause-value c = λ n h.
     let t = text_tail ps c.args.tail.now in
     let (m, k, w) = c.loop-i.invariant n h in
     subst (λ x. Gathers c.loop-i.found x)
-    (all_done t c.args.end m _ (text_pieces ps) c.loop-i.i (subst (λ x. x ≤ c.loop-i.i) (sym (as_many ps)) c.loop-i-test.false) w) k
+    (all_done t t c.args.end m _ (text_pieces ps) c.loop-i.i (subst (λ x. x ≤ c.loop-i.i) (sym (as_many ps)) c.loop-i-test.false) w) k

@@ -1,13 +1,9 @@
-use Rattle.std.proofs.Common.{◌∙◌}
+use Rattle.std.proofs.Common.{refl}
+use Rattle.upp_curve.specs.Unrolled.{unroll}
 use Rattle.upp_normal.proofs.NormaliseForm.{ok_map}
-use Rattle.curve_pointwise.proofs.LatticeCalls.{operands, left_rise, right_rise, rises_fit, from_fits}
+use Rattle.curve_pointwise.proofs.LatticeCalls.{left_rise, right_rise, rises_fit, from_fits}
 use Rattle.curve_pointwise.proofs.LatticeAnswers.{lattice_answer, lattice_values}
 use Rattle.curve_pointwise.proofs.lattice.made_within.Goals as goal
-
-pub window_of-requires : goal.window_of-requires
-window_of-requires c =
-    let r = c.args.frame.now in let F = c.requires.call in
-    (F.sizes, operands c.args.f.now c.args.g.now r.start r.period r.end F.number F.sizes c.deref.result.now c.deref-2.result.now F.call (c.deref.ensures.value ∙ c.in_ok-left.ensures) (c.deref-2.ensures.value ∙ c.in_ok-right.ensures))
 
 pub tail_rise-rise-requires-clause-first : goal.tail_rise-rise-requires-clause-first
 tail_rise-rise-requires-clause-first c = let r = c.args.frame.now in let F = c.requires.call in (left_rise c.args.f.now c.args.g.now r.start r.period r.end F.number F.sizes F.call).fits
@@ -23,13 +19,13 @@ difference-from-requires c = let r = c.args.frame.now in let F = c.requires.call
 
 pub answer-requires : goal.answer-requires
 answer-requires c =
-    lattice_answer c.args.of c.args.f.now c.args.g.now c.args.frame.now c.deref.result.now c.deref-2.result.now c.in_ok-pieces.pieces.items c.difference-from.result c.tail_rise-rise.result c.requires.call
-    (c.deref.ensures.value ∙ c.in_ok-left.ensures) (c.deref-2.ensures.value ∙ c.in_ok-right.ensures) c.in_ok-pieces.ensures c.difference-from.ensures c.tail_rise-rise.ensures
+    lattice_answer c.args.of c.args.f.now c.args.g.now c.args.frame.now (unroll c.args.f.now c.args.frame.now.end) (unroll c.args.g.now c.args.frame.now.end) c.in_ok-pieces.pieces.items c.difference-from.result c.tail_rise-rise.result c.requires.call
+    refl refl c.in_ok-pieces.ensures c.difference-from.ensures c.tail_rise-rise.ensures
 
 pub returns : goal.returns
 returns c =
     ok_map c.answer.result _ _
     (λ a h.
-    lattice_values c.args.of c.args.f.now c.args.g.now c.args.frame.now c.deref.result.now c.deref-2.result.now c.in_ok-pieces.pieces.items c.difference-from.result c.tail_rise-rise.result a c.requires.call c.requires.finite
-    (c.deref.ensures.value ∙ c.in_ok-left.ensures) (c.deref-2.ensures.value ∙ c.in_ok-right.ensures) c.in_ok-pieces.ensures c.difference-from.ensures c.tail_rise-rise.ensures h)
+    lattice_values c.args.of c.args.f.now c.args.g.now c.args.frame.now (unroll c.args.f.now c.args.frame.now.end) (unroll c.args.g.now c.args.frame.now.end) c.in_ok-pieces.pieces.items c.difference-from.result c.tail_rise-rise.result a c.requires.call c.requires.finite
+    refl refl c.in_ok-pieces.ensures c.difference-from.ensures c.tail_rise-rise.ensures h)
     c.answer.ensures

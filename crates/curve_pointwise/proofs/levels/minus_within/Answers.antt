@@ -1,20 +1,12 @@
-use Rattle.std.proofs.Common.{◌∙◌}
+use Rattle.std.proofs.Common.{refl}
+use Rattle.upp_curve.specs.Unrolled.{unroll}
 use Rattle.upp_normal.proofs.NormaliseForm.{ok_map}
 use Rattle.curve_least.specs.Levels.{level_curve}
 use Rattle.curve_pointwise.specs.declared.lattice.Lattice.TheVariants.{Excess}
-use Rattle.curve_pointwise.proofs.LatticeCalls.{operands, some_end, left_rise, from_fits}
+use Rattle.curve_pointwise.proofs.LatticeCalls.{left_rise, from_fits}
 use Rattle.curve_pointwise.proofs.LatticeAnswers.{lattice_answer, lattice_values}
-use Rattle.curve_pointwise.proofs.LatticeLevels.{level_unrolled, minus_rise, minus_values}
+use Rattle.curve_pointwise.proofs.LatticeLevels.{minus_rise, minus_values}
 use Rattle.curve_pointwise.proofs.levels.minus_within.Goals as goal
-
-pub window_excess-requires : goal.window_excess-requires
-window_excess-requires c =
-    let r = c.args.frame.now in let F = c.requires.call in let g = level_curve c.args.l in
-    let some = some_end c.args.f.now g r.start r.period r.end F.number F.sizes F.call in (
-      F.sizes,
-      operands c.args.f.now g r.start r.period r.end F.number F.sizes c.deref.result.now c.deref-2.result.now F.call (c.deref.ensures.value ∙ c.in_ok-left.ensures)
-          (c.deref-2.ensures.value ∙ c.in_ok-right.ensures ∙ level_unrolled c.args.l r.end some),
-    )
 
 pub gain-rise-requires : goal.gain-rise-requires
 gain-rise-requires c = let r = c.args.frame.now in let F = c.requires.call in (left_rise c.args.f.now (level_curve c.args.l) r.start r.period r.end F.number F.sizes F.call).fits
@@ -25,18 +17,16 @@ difference-from-requires c = let r = c.args.frame.now in let F = c.requires.call
 pub answer-requires : goal.answer-requires
 answer-requires c =
     let r = c.args.frame.now in let F = c.requires.call in let g = level_curve c.args.l in
-    let some = some_end c.args.f.now g r.start r.period r.end F.number F.sizes F.call in
-    lattice_answer Excess c.args.f.now g r c.deref.result.now c.deref-2.result.now c.in_ok-pieces.pieces.items c.difference-from.result c.gain-rise.result F
-    (c.deref.ensures.value ∙ c.in_ok-left.ensures) (c.deref-2.ensures.value ∙ c.in_ok-right.ensures ∙ level_unrolled c.args.l r.end some) c.in_ok-pieces.ensures c.difference-from.ensures
+    lattice_answer Excess c.args.f.now g r (unroll c.args.f.now r.end) (unroll g r.end) c.in_ok-pieces.pieces.items c.difference-from.result c.gain-rise.result F
+    refl refl c.in_ok-pieces.ensures c.difference-from.ensures
     (minus_rise c.args.l c.args.f.now _ r.period c.gain-rise.result c.is_gaining.ensures.0 c.is_gaining.ensures.1 c.gain-rise.ensures)
 
 pub returns : goal.returns
 returns c =
     let r = c.args.frame.now in let F = c.requires.call in let g = level_curve c.args.l in
-    let some = some_end c.args.f.now g r.start r.period r.end F.number F.sizes F.call in
     ok_map c.answer.result _ _
     (λ a h.
-    minus_values c.args.l c.args.f.now a (lattice_values Excess c.args.f.now g r c.deref.result.now c.deref-2.result.now c.in_ok-pieces.pieces.items c.difference-from.result c.gain-rise.result a F c.requires.finite
-    (c.deref.ensures.value ∙ c.in_ok-left.ensures) (c.deref-2.ensures.value ∙ c.in_ok-right.ensures ∙ level_unrolled c.args.l r.end some) c.in_ok-pieces.ensures c.difference-from.ensures
+    minus_values c.args.l c.args.f.now a (lattice_values Excess c.args.f.now g r (unroll c.args.f.now r.end) (unroll g r.end) c.in_ok-pieces.pieces.items c.difference-from.result c.gain-rise.result a F c.requires.finite
+    refl refl c.in_ok-pieces.ensures c.difference-from.ensures
     (minus_rise c.args.l c.args.f.now _ r.period c.gain-rise.result c.is_gaining.ensures.0 c.is_gaining.ensures.1 c.gain-rise.ensures) h))
     c.answer.ensures

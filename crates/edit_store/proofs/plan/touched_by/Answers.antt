@@ -1,16 +1,7 @@
-use Rattle.std.proofs.Common.{◌∙◌, List, sym, subst}
-use Rattle.net_cells.specs.declared.cell.Cell.{Cell}
-use Rattle.cell_changes.specs.Changes.{TouchedOf}
+use Rattle.std.proofs.Common.{sym, subst}
 use Rattle.cell_rules.specs.declared.site.Site.{Site}
 use Rattle.cell_rules.specs.Sites.{IsSameBut}
 use Rattle.edit_store.proofs.plan.touched_by.Goals as goal
-
-pub touched_cells-requires-clause-order : goal.touched_cells-requires-clause-order
-touched_cells-requires-clause-order c = record {
-  order = c.args.order.now;
-  servers = c.requires.order;
-  are = c.deref.ensures.value ∙ c.in_ok-all.ensures;
-}
 
 pub touched_cells-requires-clause-same : goal.touched_cells-requires-clause-same
 touched_cells-requires-clause-same c =
@@ -21,6 +12,5 @@ pub returns-clause-touched : goal.returns-clause-touched
 returns-clause-touched c = record {
   order = c.args.order.now;
   servers = c.requires.order;
-  are = subst (λ (cs : List Cell). TouchedOf c.args.old.now c.args.net.now cs c.in_ok-touched.touched.items)
-      (c.deref.ensures.value ∙ c.in_ok-all.ensures) c.in_ok-touched.ensures.touched;
+  are = c.in_ok-touched.ensures.touched;
 }

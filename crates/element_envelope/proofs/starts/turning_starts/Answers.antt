@@ -3,7 +3,7 @@ use Rattle.std.proofs.Common.{◌+◌, ◌∙◌, ap, inl, inr, drop, drop_of_le
 use Rattle.affine_segment.specs.declared.line.Piece.{Piece}
 use Rattle.affine_segment.proofs.NextPiece.{next_piece}
 use Rattle.rational.proofs.Laws.{le_of_lt}
-use Rattle.upp_normal.specs.Operand.{OperandPiece}
+use Rattle.element_envelope.specs.ConvolutionWindows.{WindowPiece}
 use Rattle.upp_normal.proofs.AnswerRoom.{operand_line_fits}
 use Rattle.upp_normal.proofs.NormaliseRank.{each_index}
 use Rattle.element_envelope.proofs.StartTests.{IsKeptOrBent, thinned_step, thinned_end, thinned_none}
@@ -18,7 +18,7 @@ bends_down-requires-clause-left c =
     let end = c.requires.0 in
     let R = c.requires.1 in
     let p = c.p-item.result in
-    let P = subst (OperandPiece R.sizes end) (sym c.p-item.is) (each_index (OperandPiece R.sizes end) c.args.pieces.now c.loop-p.p-index p c.loop-p-test.true R.each) in
+    let P = subst (WindowPiece R.sizes end) (sym c.p-item.is) (each_index (WindowPiece R.sizes end) c.args.pieces.now c.loop-p.p-index p c.loop-p-test.true R.each) in
     operand_line_fits R.sizes end p.x c.loop-p.before R.limited (c.loop-p.invariant.1 R.sizes end R.each) P.start P.nonneg (le_of_lt P.before)
 
 pub bends_down-requires-clause-right : goal.bends_down-requires-clause-right
@@ -26,7 +26,7 @@ bends_down-requires-clause-right c =
     let end = c.requires.0 in
     let R = c.requires.1 in
     let p = c.p-item.result in
-    let P = subst (OperandPiece R.sizes end) (sym c.p-item.is) (each_index (OperandPiece R.sizes end) c.args.pieces.now c.loop-p.p-index p c.loop-p-test.true R.each) in
+    let P = subst (WindowPiece R.sizes end) (sym c.p-item.is) (each_index (WindowPiece R.sizes end) c.args.pieces.now c.loop-p.p-index p c.loop-p-test.true R.each) in
     operand_line_fits R.sizes end p.x p.line R.limited P.line P.start P.nonneg (le_of_lt P.before)
 
 pub loop-p-preserved : goal.loop-p-preserved
@@ -42,7 +42,7 @@ loop-p-preserved c =
     ] in (
       thinned_step c.loop-p.before p (drop i all) (drop (i + 1) all) all c.loop-p.kept.items c.if-not-bends_down.kept.items (next_piece p all i c.loop-p-test.true c.p-item.is) step
           c.loop-p.invariant.0,
-      λ z end h. (subst (OperandPiece z end) (sym c.p-item.is) (each_index (OperandPiece z end) all i p c.loop-p-test.true h)).line,
+      λ z end h. (subst (WindowPiece z end) (sym c.p-item.is) (each_index (WindowPiece z end) all i p c.loop-p-test.true h)).line,
     )
 
 pub returns : goal.returns

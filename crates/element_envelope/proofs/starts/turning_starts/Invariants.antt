@@ -4,12 +4,13 @@ use Rattle.rational.specs.Rational.{ℚ}
 use Rattle.affine_segment.specs.declared.line.Piece.{Piece}
 use Rattle.affine_segment.specs.Pieces.{Each}
 use Rattle.upp_limits.specs.Limits.{Sizes}
-use Rattle.upp_normal.specs.Operand.{OperandLineAt, OperandPiece}
+use Rattle.upp_normal.specs.Operand.{OperandLineAt}
+use Rattle.element_envelope.specs.ConvolutionWindows.{WindowPiece}
 use Rattle.element_envelope.specs.Turnings.{IsThinned}
 use Rattle.element_envelope.proofs.starts.turning_starts.Given as goal
 
--- what is kept, with the rest thinned, is all of them thinned; and the line before the rest is an operand's
+-- what is kept, with the rest thinned, is all of them thinned; and the line before the rest is a window's
 abbrev pub invariant-loop-p : goal.invariant-loop-p
 invariant-loop-p l =
     ((qs : List Piece) → IsThinned l.before (drop l.p-index l.pieces) qs → IsThinned None l.pieces (l.kept.items ++ qs))
-    × ((z : Sizes) (end : ℚ) → Each (OperandPiece z end) l.pieces → OperandLineAt z l.before)
+    × ((z : Sizes) (end : ℚ) → Each (WindowPiece z end) l.pieces → OperandLineAt z l.before)

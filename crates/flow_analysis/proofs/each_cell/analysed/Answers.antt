@@ -1,4 +1,4 @@
-use Rattle.std.proofs.Common.{◌≡◌, ◌+◌, List, ◌∷◌, [], ◌++◌, take, drop, sym, ◌∙◌, subst, arith}
+use Rattle.std.proofs.Common.{◌≡◌, ◌+◌, ◌-◌, List, ◌∷◌, [], ◌++◌, take, drop, sym, ap, ◌∙◌, subst, arith, Err}
 use Rattle.std.proofs.lemmas.List.{take_all, take_more}
 use Rattle.std.proofs.lemmas.List.Sums.{sum_by_more, sum_by_more_le}
 use Rattle.net_cells.specs.declared.cell.Cell.{Cell}
@@ -12,7 +12,11 @@ use Rattle.net_cells.proofs.Tables.{answers_meet, front_meets_below}
 use Rattle.cell_table.specs.Values.{held}
 use Rattle.flow_analysis.specs.Analyses.{HasNothingElse}
 use Rattle.cell_table.proofs.Fronts.{no_cell, cell_at, at_place, grown}
-use Rattle.flow_analysis.proofs.Fronts.{still_nothing, refused}
+use Rattle.flow_analysis.proofs.Fronts.{still_nothing, refused, wants_memory}
+use Rattle.net_cells.specs.CellFormulas.{formula}
+use Rattle.net_cells.specs.MemoryEnds.{MemoryEnds, making, keeping, at_cell}
+use Rattle.net_cells.proofs.Works.{work_is}
+use Rattle.cell_table.proofs.GivesAnswers.{gives_ok}
 use Rattle.flow_analysis.proofs.each_cell.analysed.Goals as goal
 
 pub eval-requires-clause-cell : goal.eval-requires-clause-cell
@@ -85,3 +89,49 @@ returns-clause-meets g c =
     answers_meet net c.requires.order at c.keeps.ensures c.requires.servers
     (subst (λ (xs : List Cell). AnswersAll net at xs)
     (take_all c.loop-cell.cell-index c.args.cells.now (omega arith) ∙ c.requires.are) c.loop-cell.invariant.answers)
+
+pub returns-in-Err-clause-memory : goal.returns-in-Err-clause-memory
+returns-in-Err-clause-memory g c =
+    let net = c.args.net.now in
+    let cells = c.args.cells.now in
+    let i = c.loop-cell.cell-index in
+    let at : CellTable = held order.ghosts.cmp g.V.CellValue.meaning c.loop-cell.table.values in
+    let mid = g.E.Evaluator.count c.loop-cell.eval in
+    let new = g.E.Evaluator.count c.eval.new.self in
+    let cost = c.loop-cell.invariant.cost in
+    let rises = c.in-Err.ensures.rises in
+    wants_memory (MemoryEnds net cells (new - g.E.Evaluator.count c.args.eval.now)) (cell_at cells i) c.in-Err.fault c.refusal.result
+    c.refusal.ensures
+    (λ lack. at_cell (record {
+      before = take i cells;
+      cell = cell_at cells i;
+      after = drop (i + 1) cells;
+      is = at_place cells i (omega arith);
+      table = at;
+      answered = c.loop-cell.invariant.answers;
+      counted = new - mid;
+      ends = making (c.in-Err.ensures.memory (ap Err lack));
+      count = omega (arith, cost, rises);
+    }))
+
+pub returns-in-Err-put-clause-memory : goal.returns-in-Err-put-clause-memory
+returns-in-Err-put-clause-memory g c =
+    let net = c.args.net.now in
+    let cells = c.args.cells.now in
+    let i = c.loop-cell.cell-index in
+    let at : CellTable = held order.ghosts.cmp g.V.CellValue.meaning c.loop-cell.table.values in
+    let cost = c.loop-cell.invariant.cost in
+    let exact = c.in-Ok.ensures.exact in
+    at_cell (record {
+      before = take i cells;
+      cell = cell_at cells i;
+      after = drop (i + 1) cells;
+      is = at_place cells i (omega arith);
+      table = at;
+      answered = c.loop-cell.invariant.answers;
+      counted = work net (cell_at cells i);
+      ends = keeping (g.V.CellValue.meaning c.in-Ok.value)
+          (gives_ok at (formula net (cell_at cells i)) (g.V.CellValue.meaning c.in-Ok.value) c.in-Ok.ensures.answer)
+          (work_is net (cell_at cells i));
+      count = omega (arith, cost, exact);
+    })

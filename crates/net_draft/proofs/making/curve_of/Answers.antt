@@ -3,6 +3,7 @@ use Rattle.curve_library.specs.declared.fault.CurveFault.TheVariants as faults
 use Rattle.net_model.specs.declared.fault.CurveRefusal.TheVariants.{Negative, ZeroPeriod, NotRising, NotContinuous, NotZeroAtStart}
 use Rattle.net_draft.specs.CurveTexts.{text_of}
 use Rattle.net_draft.proofs.CurveMade.{taken, refused_at}
+use Rattle.net_draft.proofs.OverNone.{wanting_is_over_none, refused_is_over_none}
 use Rattle.net_draft.proofs.Told.{answers_tell}
 use Rattle.net_draft.proofs.making.curve_of.Goals as goal
 
@@ -31,3 +32,26 @@ returns-in-Err-NotContinuous-clause-value c =
 pub returns-in-Err-NotZeroAtStart-clause-value : goal.returns-in-Err-NotZeroAtStart-clause-value
 returns-in-Err-NotZeroAtStart-clause-value c =
     refused_at c.args.place.now (text_of c.args.text) NotZeroAtStart c.refused-in-Err-NotZeroAtStart.result (answers_tell (text_of c.args.text) (Err faults.NotZeroAtStart) (rw c.in-Err-NotZeroAtStart.field-0-is at c.in-Err-NotZeroAtStart.ensures)) c.refused-in-Err-NotZeroAtStart.ensures
+
+pub returns-in-Err-NoMemory-clause-memory : goal.returns-in-Err-NoMemory-clause-memory
+returns-in-Err-NoMemory-clause-memory c = λ _. wanting_is_over_none (text_of c.args.text) (rw c.in-Err-NoMemory.field-0-is at c.in-Err-NoMemory.ensures)
+
+pub returns-in-Err-Negative-clause-memory : goal.returns-in-Err-Negative-clause-memory
+returns-in-Err-Negative-clause-memory c =
+    λ _. refused_is_over_none (text_of c.args.text) Negative (answers_tell (text_of c.args.text) (Err faults.Negative) (rw c.in-Err-Negative.field-0-is at c.in-Err-Negative.ensures))
+
+pub returns-in-Err-ZeroPeriod-clause-memory : goal.returns-in-Err-ZeroPeriod-clause-memory
+returns-in-Err-ZeroPeriod-clause-memory c =
+    λ _. refused_is_over_none (text_of c.args.text) ZeroPeriod (answers_tell (text_of c.args.text) (Err faults.ZeroPeriod) (rw c.in-Err-ZeroPeriod.field-0-is at c.in-Err-ZeroPeriod.ensures))
+
+pub returns-in-Err-NotRising-clause-memory : goal.returns-in-Err-NotRising-clause-memory
+returns-in-Err-NotRising-clause-memory c =
+    λ _. refused_is_over_none (text_of c.args.text) NotRising (answers_tell (text_of c.args.text) (Err faults.NotRising) (rw c.in-Err-NotRising.field-0-is at c.in-Err-NotRising.ensures))
+
+pub returns-in-Err-NotContinuous-clause-memory : goal.returns-in-Err-NotContinuous-clause-memory
+returns-in-Err-NotContinuous-clause-memory c =
+    λ _. refused_is_over_none (text_of c.args.text) NotContinuous (answers_tell (text_of c.args.text) (Err faults.NotContinuous) (rw c.in-Err-NotContinuous.field-0-is at c.in-Err-NotContinuous.ensures))
+
+pub returns-in-Err-NotZeroAtStart-clause-memory : goal.returns-in-Err-NotZeroAtStart-clause-memory
+returns-in-Err-NotZeroAtStart-clause-memory c =
+    λ _. refused_is_over_none (text_of c.args.text) NotZeroAtStart (answers_tell (text_of c.args.text) (Err faults.NotZeroAtStart) (rw c.in-Err-NotZeroAtStart.field-0-is at c.in-Err-NotZeroAtStart.ensures))

@@ -9,7 +9,8 @@ use Rattle.net_draft.specs.Views.{flow_text}
 use Rattle.net_text.specs.Built.{IsLiveFlowOf}
 use Rattle.net_text.specs.Firsts.{arrivals_from}
 use Rattle.net_text.proofs.Firsts.{goes_on, stops, arrival_entry, arrivals_more, texts_more}
-use Rattle.net_text.proofs.FoldSteps.{spends_more, spent}
+use Rattle.net_text.proofs.FoldSteps.{taken_more, none_taken, spends_more, spent}
+use Rattle.net_text.proofs.Wanting.{handed_on, between_flows, in_flow}
 use Rattle.net_text.proofs.Zips.{zip_more, zip_whole}
 use Rattle.net_text.specs.FoldLimits.{OverFold}
 use Rattle.subadd_closure.specs.FoldWork.{fold_work}
@@ -43,6 +44,7 @@ loop-number-preserved g c =
       leads = goes_on OverFold (arrivals_from i (map flow_text (drop i ds))) (arrivals_from 0 (map flow_text ds)) (arrival_entry i d) (arrivals_from (i + 1) (map flow_text (drop (i + 1) ds)))
           (arrivals_more ds i d c.loop-number-test.true c.index-drafts-number.is) (record { curve = (flow_of f).arrival; is = c.in_ok-flow.ensures.built.arrival }) c.loop-number.invariant.leads;
       rises = omega (arith, c.loop-number.invariant.rises, c.in_ok-flow.ensures.rises);
+      taken = taken_more fold_work ds i d c.args.steps.now c.loop-number.steps c.flow_of.new.steps c.loop-number-test.true c.index-drafts-number.is c.loop-number.invariant.taken c.in_ok-flow.ensures.taken;
       spends = spends_more fold_work (map flow_text ds) (map flow_text (drop i ds)) (flow_text d) (map flow_text (drop (i + 1) ds)) c.args.steps.now c.loop-number.steps c.flow_of.new.steps
           (texts_more ds i d c.loop-number-test.true c.index-drafts-number.is) c.in_ok-flow.ensures.most c.loop-number.invariant.spends;
     }
@@ -72,3 +74,27 @@ returns-clause-most g c =
 pub returns-clause-built : goal.returns-clause-built
 returns-clause-built g c =
     zip_whole (IsLiveFlowOf OverFold) flow_text c.args.drafts.now c.loop-number.number (map (option_map flow_of) c.loop-number.flows.items) c.loop-number-test.false c.loop-number.invariant.built
+
+pub returns-in_err-flow-clause-memory : goal.returns-in_err-flow-clause-memory
+returns-in_err-flow-clause-memory g c = λ wants.
+    let p = err_from_is_err_and c.from_residual-in_err-flow.result c.from_residual-in_err-flow.ensures.1 in
+    let ds = c.args.drafts.now in
+    let i = c.loop-number.number in
+    let d = c.index-drafts-number.result in
+    in_flow ds i d (map (option_map flow_of) c.loop-number.flows.items) c.args.steps.now c.loop-number.steps c.flow_of.new.steps
+    c.loop-number-test.true c.index-drafts-number.is c.loop-number.invariant.built c.loop-number.invariant.taken (c.in_err-flow.ensures.memory (handed_on c.from_residual-in_err-flow.result _ c.in_err-flow.field-0.0 p.0 p.1 p.2 refl wants))
+
+pub returns-in_err-push-clause-memory : goal.returns-in_err-push-clause-memory
+returns-in_err-push-clause-memory g c = λ wants.
+    let ds = c.args.drafts.now in
+    let i = c.loop-number.number in
+    let d = c.index-drafts-number.result in
+    let xs = c.loop-number.flows.items in
+    let f = c.in_ok-flow.flow in
+    let live : IsLiveFlowOf OverFold (flow_text d) (Some (flow_of f)) = record { flow = flow_of f; live = refl; is = c.in_ok-flow.ensures.built } in
+    between_flows ds (i + 1) (map (option_map flow_of) xs ++ Some (flow_of f) ∷ []) c.args.steps.now c.flow_of.new.steps
+    (zip_more (IsLiveFlowOf OverFold) flow_text ds i d (map (option_map flow_of) xs) (Some (flow_of f)) c.loop-number-test.true c.index-drafts-number.is c.loop-number.invariant.built live)
+    (taken_more fold_work ds i d c.args.steps.now c.loop-number.steps c.flow_of.new.steps c.loop-number-test.true c.index-drafts-number.is c.loop-number.invariant.taken c.in_ok-flow.ensures.taken)
+
+pub returns-in_err-flows-clause-memory : goal.returns-in_err-flows-clause-memory
+returns-in_err-flows-clause-memory g c = λ wants. between_flows c.args.drafts.now 0 [] c.args.steps.now c.args.steps.now tt (none_taken fold_work c.args.steps.now)

@@ -10,6 +10,8 @@ use Rattle.net_text.proofs.Accepted.{accepted}
 use Rattle.net_text.specs.Folds.{FoldsOf}
 use Rattle.net_text.proofs.FoldSteps.{no_steps, fold_steps}
 use Rattle.net_text.proofs.Files.{servers_fail, flows_fail}
+use Rattle.net_text.proofs.Wanting.{handed_on}
+use Rattle.net_text.specs.Wants.{FlowsWant}
 use Rattle.net_text.specs.FoldLimits.{OverFold}
 use Rattle.subadd_closure.specs.FoldWork.{fold_work}
 use Rattle.net_text.proofs.reading.network_of.Goals as goal
@@ -55,3 +57,15 @@ pub returns-clause-most : goal.returns-clause-most
 returns-clause-most g c =
     let most = subst (λ ds. (t : ℕ) → FoldsOf fold_work (map flow_text ds) t → c.flows_of.new.steps ≤ c.args.steps.now + t) c.deref-2.ensures.value c.in_ok-flows.ensures.most in
     fold_steps fold_work c.args.text.now (draft_text c.in_ok-draft.draft) c.args.steps.now c.flows_of.new.steps c.in_ok-draft.ensures.value most
+
+pub returns-in_err-flows-clause-memory : goal.returns-in_err-flows-clause-memory
+returns-in_err-flows-clause-memory g c = λ wants counted.
+    let p = err_from_is_err_and c.from_residual-in_err-flows.result c.from_residual-in_err-flows.ensures.1 in
+    let stopped = c.in_err-flows.ensures.memory (handed_on c.from_residual-in_err-flows.result _ c.in_err-flows.field-0.0 p.0 p.1 p.2 refl wants) in
+    record {
+      draft = draft_text c.in_ok-draft.draft;
+      is_draft = c.in_ok-draft.ensures.value;
+      servers = servers_of c.in_ok-servers.servers.items;
+      built = subst (λ ds. AllZip IsServerOf (map server_text ds) (servers_of c.in_ok-servers.servers.items)) c.deref.ensures.value c.in_ok-servers.ensures.built;
+      flows = subst (λ ds. FlowsWant (map flow_text ds) c.args.steps.now c.flows_of.new.steps) c.deref-2.ensures.value stopped;
+    }

@@ -1,9 +1,10 @@
-use Rattle.std.proofs.Common.{◌≡◌, ◌+◌, Err, arith, refl, sym, ap, subst, ◌∙◌}
-use Rattle.upp_limits.specs.declared.op_kind.OpFault.TheVariants.{NoMemory}
+use Rattle.std.proofs.Common.{◌≡◌, ◌+◌, ◌-◌, arith, refl, subst}
 use Rattle.std.proofs.lemmas.Result.{err_from_is_err_and}
 use Rattle.upp_limits.specs.declared.op_kind.OpKind.TheVariants.{RunSup}
 use Rattle.curve_call.specs.Calls.{AppliesTo, goes_on, stops}
 use Rattle.curve_call.proofs.Applied.{applied_seen, if_ok}
+use Rattle.residual_laws.specs.InTurn.{on_the_way, past, PriorityRefused}
+use Rattle.residual_laws.proofs.Placed.{if_err}
 use Rattle.residual_laws.proofs.PriorityCalls.{left_finite, left_nonneg, ok_service}
 use Rattle.priority_residual.proofs.service.priority_service.Goals as goal
 
@@ -44,25 +45,18 @@ returns-clause-all g c =
     ) in
     if_ok c.intact.result steps
 
-pub returns-in_err-left-clause-memory : goal.returns-in_err-left-clause-memory
-returns-in_err-left-clause-memory g c is =
+pub returns-in_err-left-clause-refused : goal.returns-in_err-left-clause-refused
+returns-in_err-left-clause-refused g c =
     let p = err_from_is_err_and c.from_residual.result c.from_residual.ensures.1 in
-    let most = c.in_err-left.ensures.most in
-    let same = sym p.1 ∙ is in (
-      c.in_err-left.ensures.memory (let fault : c.in_err-left.field-0.0 ≡ NoMemory = cc in ap Err fault),
-      λ three. absurd (omega (arith, most, three)),
-    )
+    rw (p.1, p.2) (on_the_way c.in_err-left.ensures.refused)
 
-pub returns-clause-memory : goal.returns-clause-memory
-returns-clause-memory g c is =
+pub returns-clause-refused : goal.returns-clause-refused
+returns-clause-refused g c =
     let all = c.in_ok-left.ensures.all in
     let one = c.run_sup.ensures.count in
     let last = applied_seen RunSup c.in_ok-left.left c.in_ok-left.left c.run_sup.result c.intact.result c.intact.ensures.same
-    c.run_sup.ensures.value c.run_sup.ensures.limits c.intact.ensures.kept in (
-      λ two. absurd (omega (arith, all, one, two)),
-      λ three. (
-        c.in_ok-left.left,
-        c.in_ok-left.ensures.answer,
-        subst (λ r. AppliesTo RunSup c.in_ok-left.left r) is last,
-      ),
-    )
+    c.run_sup.ensures.value c.run_sup.ensures.limits c.intact.ensures.kept in
+    let three : c.run_sup.new.steps - c.args.steps.now ≡ 2 + 1 = omega (arith, all, one) in
+    if_err c.intact.result (λ e. PriorityRefused c.args.beta.now c.args.higher.now c.args.lower e (c.run_sup.new.steps - c.args.steps.now))
+    (λ fault is. past c.in_ok-left.left 1 c.in_ok-left.ensures.answer three
+    (refl, subst (λ r. AppliesTo RunSup c.in_ok-left.left r) is last))

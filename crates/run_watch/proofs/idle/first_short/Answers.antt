@@ -1,7 +1,6 @@
-use Rattle.std.proofs.Common.{◌≡◌, ◌∙◌, ◌<◌, ◌≤◌, List, length, Some, None, refl, sym, subst, arith}
+use Rattle.std.proofs.Common.{◌∙◌, ◌<◌, ◌≤◌, List, length, Some, None, refl, sym, subst, arith}
 use Rattle.rational.specs.Rational.{ℚ, ◌≤ℚ◌}
-use Rattle.watch_laws.specs.Affine.{EachTime}
-use Rattle.run_watch.specs.Watching.{TimesRise, HoldsTimes}
+use Rattle.run_watch.specs.Watching.{RiseFrom}
 use Rattle.run_watch.specs.WatchTimes.{watched_from, HaveSameTimes}
 use Rattle.run_watch.specs.IdleWindows.{TimeFits}
 use Rattle.run_watch.proofs.ShortWindows.{fits_one}
@@ -10,7 +9,7 @@ use Rattle.run_watch.proofs.ShortEnds.{upto_end}
 use Rattle.run_watch.proofs.idle.first_short.Goals as goal
 
 abbrev InOrder : List ℚ → Type 0
-InOrder ts = (from : ℚ) × TimesRise from ts
+InOrder ts = (from : ℚ) × RiseFrom from ts
 
 pub points_of-requires-clause-fits : goal.points_of-requires-clause-fits
 points_of-requires-clause-fits c =

@@ -1,4 +1,4 @@
-use Rattle.std.proofs.Common.{sym, subst, ◌∙◌}
+use Rattle.std.proofs.Common.{sym, subst}
 use Rattle.run_watch.specs.NearWindows.{IsLeast, IsNearEndBy, IsEndBefore, IsEndAfter, IsNearEnd}
 use Rattle.run_watch.proofs.LeastTimes.{least_both, least_segment, least_segments}
 use Rattle.run_watch.proofs.near.near_end_by.Goals as goal

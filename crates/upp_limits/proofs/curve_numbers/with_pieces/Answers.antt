@@ -19,7 +19,7 @@ returns-in-None-clause-fits c = λ k.
     let s : Span = record { piece = c.piece_read-piece.result; next = c.next_start-next.result } in
     let e = next_span c.args.tail.now c.args.pieces.now c.loop-i.i c.index-pieces-i.result c.piece_read-piece.result c.next_start-next.result c.args.after.now
     c.loop-i-test.true c.index-pieces-i.is c.piece_read-piece.ensures c.requires.after c.next_start-next.ensures in
-    c.in-None.ensures.fits (span_at (Knows c.args.tail.now c.args.end) c.args.tail.now c.args.pieces.now c.loop-i.i s (spans c.args.tail.now (drop (c.loop-i.i + 1) c.args.pieces.now)) k e)
+    c.in-None.ensures.fits (span_at (Knows c.args.counted.now c.args.end) c.args.tail.now c.args.pieces.now c.loop-i.i s (spans c.args.tail.now (drop (c.loop-i.i + 1) c.args.pieces.now)) k e)
 
 pub loop-i-preserved : goal.loop-i-preserved
 loop-i-preserved c = λ n h.
@@ -27,12 +27,12 @@ loop-i-preserved c = λ n h.
     let e = next_span c.args.tail.now c.args.pieces.now c.loop-i.i c.index-pieces-i.result c.piece_read-piece.result c.next_start-next.result c.args.after.now
     c.loop-i-test.true c.index-pieces-i.is c.piece_read-piece.ensures c.requires.after c.next_start-next.ensures in
     let (m, k, w) = c.loop-i.invariant n h in (
-      joined m (closed_span c.args.tail.now c.args.end s),
+      joined m (closed_span c.args.counted.now c.args.end s),
       c.in-Some.ensures.value m k,
-      one_more c.args.tail.now c.args.end m _ (spans c.args.tail.now (drop c.loop-i.i c.args.pieces.now)) (spans c.args.tail.now (drop (c.loop-i.i + 1) c.args.pieces.now)) s e w,
+      one_more c.args.counted.now c.args.end m _ (spans c.args.tail.now (drop c.loop-i.i c.args.pieces.now)) (spans c.args.tail.now (drop (c.loop-i.i + 1) c.args.pieces.now)) s e w,
     )
 
 pub returns-clause-value : goal.returns-clause-value
 returns-clause-value c = λ n h.
     let (m, k, w) = c.loop-i.invariant n h in
-    subst (λ x. Gathers c.loop-i.found x) (all_done c.args.tail.now c.args.end m _ c.args.pieces.now c.loop-i.i c.loop-i-test.false w) k
+    subst (λ x. Gathers c.loop-i.found x) (all_done c.args.counted.now c.args.tail.now c.args.end m _ c.args.pieces.now c.loop-i.i c.loop-i-test.false w) k

@@ -1,0 +1,6 @@
+use Rattle.std.proofs.Common.{ap}
+use Rattle.cell_table.specs.Values.{answer_of, meaning_of}
+use Rattle.cell_eval.proofs.each_kind.eval.Goals as goal
+
+pub returns-clause-memory : goal.returns-clause-memory
+returns-clause-memory g c is = c.by_kind.ensures.memory (ap (answer_of meaning_of) is)

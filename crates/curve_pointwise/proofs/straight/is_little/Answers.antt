@@ -1,0 +1,11 @@
+use Rattle.std.specs.Prelude.{◌≡◌, ◌≤◌, ◌^◌, nat_abs}
+use Rattle.std.proofs.Common.{arith}
+use Rattle.rational.specs.Rational.{den}
+use Rattle.curve_pointwise.proofs.StraightSums.{little_in}
+use Rattle.curve_pointwise.proofs.straight.is_little.Goals as goal
+
+pub returns : goal.returns
+returns c =
+    let one : den c.args.x ≡ 1 = omega arith in
+    let most : nat_abs c.args.x.num ≤ 2 ^ 48 = omega arith in
+    λ k. little_in c.args.x one most

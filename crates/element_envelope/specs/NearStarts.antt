@@ -1,0 +1,31 @@
+-- Starts whose copies are nowhere below that of an earlier start: they need no copy. (Le Boudec and Thiran, chapter 3, on
+-- functions of bounded slope; the form is our own choice.)
+use Rattle.std.specs.Prelude.{◌≡◌, ◌⊎◌, List, [], ◌∷◌, Some}
+use Rattle.rational.specs.Rational.{ℚ, ◌+ℚ◌, ◌-ℚ◌, ◌*ℚ◌, ◌≤ℚ◌, ◌<ℚ◌}
+use Rattle.rational.specs.declared.Extended.TheVariants.{Fin}
+use Rattle.affine_segment.specs.declared.line.Line.{Line}
+use Rattle.affine_segment.specs.declared.line.Piece.{Piece}
+use Rattle.affine_segment.specs.Values.{line_at}
+
+-- a piece goes on from its value with no jump up, and with a slope of at most r
+pub record RisesWithin (r : ℚ) (p : Piece) : Type 0 where
+  pub line : Line
+  pub line_is : p.line ≡ Some line
+  pub value : ℚ
+  pub at_is : p.at ≡ Fin value
+  pub after : line_at line p.x ≤ℚ value
+  pub slope : line.slope ≤ℚ r
+
+-- the start of q is later than that of p, and higher by at least as much as something of slope r gains in between
+pub record IsFar (r : ℚ) (p q : Piece) : Type 0 where
+  pub first : ℚ
+  pub second : ℚ
+  pub first_is : p.at ≡ Fin first
+  pub second_is : q.at ≡ Fin second
+  pub late : p.x <ℚ q.x
+  pub above : first +ℚ r *ℚ (q.x -ℚ p.x) ≤ℚ second
+
+-- some starts, with none left out but such as are far from p
+abbrev pub IsNear : ℚ → Piece → List Piece → List Piece → Type 0
+IsNear r p [] ks = ks ≡ []
+IsNear r p (q ∷ qs) ks = (IsFar r p q × IsNear r p qs ks) ⊎ ((rs : List Piece) × (ks ≡ q ∷ rs) × IsNear r p qs rs)

@@ -1,0 +1,111 @@
+//! Which starts are so far above the first one that their copies are nowhere below its copy.
+
+ghost use Rattle.std.specs.Prelude.{ℕ, ◌≡◌, ◌∷◌, ◌<◌, length, List, IsTrue, IfOk, IfSome};
+ghost use Rattle.rational.specs.Rational.{ℚ, ◌+ℚ◌, ◌-ℚ◌, ◌*ℚ◌, ◌≤ℚ◌};
+ghost use Rattle.affine_segment.specs.declared.line.Piece.{Piece as SpecPiece};
+ghost use Rattle.affine_segment.specs.Pieces.{Each};
+ghost use Rattle.affine_segment.specs.Fits.{LineFitsAt};
+ghost use Rattle.element_envelope.specs.CopyWindows.{HaveWindowRoom};
+ghost use Rattle.element_envelope.specs.NearStarts.{RisesWithin, IsFar, IsNear};
+
+use affine_segment::{Piece, value};
+use fraction128::{Frac, is_less};
+use rational::Extended;
+use std::alloc::{AllocError, Global};
+
+// The slope of a piece that goes on from its value with no jump up.
+fn plain_slope(p: &Piece) -> Option<Frac>
+    requires { LineFitsAt p.now.x p.now.line }
+    ensures { IfSome result (λ r. RisesWithin r p.now) }
+{
+    match &p.line {
+        None => None,
+        Some(line) => match p.at {
+            Extended::Inf => None,
+            Extended::Fin(v) => {
+                if is_less(v, value(line, p.x).unwrap()) {
+                    return None;
+                }
+                Some(line.slope)
+            }
+        },
+    }
+}
+
+fn larger(a: Frac, b: Frac) -> Frac
+    ensures first { a ≤ℚ result }
+    ensures second { b ≤ℚ result }
+{
+    if is_less(a, b) {
+        return b;
+    }
+    a
+}
+
+/// The steepest slope of pieces that go on from their values with no jump up; 0 where none is above it.
+pub(crate) fn steepest(pieces: &[Piece]) -> Option<Frac>
+    requires { (end : ℚ) × HaveWindowRoom end pieces.now }
+    ensures { IfSome result (λ r. Each (RisesWithin r) pieces.now) }
+{
+    let mut most = Frac::zero();
+    for p in pieces {
+        let Some(slope) = plain_slope(p) else {
+            return None;
+        };
+        most = larger(most, slope);
+    }
+    Some(most)
+}
+
+// What v becomes from one time to another with the slope r.
+fn reached(v: Frac, r: Frac, from: Frac, to: Frac) -> Option<Frac>
+    ensures { IfSome result (λ w. w ≡ v +ℚ r *ℚ (to -ℚ from)) }
+{
+    let Ok(time) = Frac::sub(to, from) else {
+        return None;
+    };
+    let Ok(rise) = Frac::mul(r, time) else {
+        return None;
+    };
+    match Frac::add(v, rise) {
+        Ok(w) => Some(w),
+        Err(_) => None,
+    }
+}
+
+// Whether the second start is later than the first, and at least as high as the first gets to with the slope r.
+fn is_far(r: Frac, p: &Piece, q: &Piece) -> bool
+    ensures { IsTrue result → IsFar r p.now q.now }
+{
+    if !is_less(p.x, q.x) {
+        return false;
+    }
+    let Extended::Fin(first) = p.at else {
+        return false;
+    };
+    let Extended::Fin(second) = q.at else {
+        return false;
+    };
+    match reached(first, r, p.x, q.x) {
+        None => false,
+        Some(high) => !is_less(second, high),
+    }
+}
+
+/// The starts that are not far from the first one.
+pub(crate) fn near_starts(
+    alloc: Global,
+    first: &Piece,
+    starts: &[Piece],
+    r: Frac,
+) -> Result<Vec<Piece>, AllocError>
+    ensures { IfOk result (λ v. IsNear r first.now starts.now v.items) }
+{
+    let mut kept = Vec::new(alloc);
+    for q in starts {
+        if !is_far(r, first, q) {
+            kept.push(*q)?;
+        }
+    }
+    Ok(kept)
+}

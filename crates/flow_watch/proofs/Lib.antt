@@ -1,0 +1,7 @@
+pub mod EntryLists
+pub mod LeastFirst
+pub mod Buckets
+pub mod StairPaces
+pub mod Slides
+pub mod FirstPackets
+pub mod Repeated

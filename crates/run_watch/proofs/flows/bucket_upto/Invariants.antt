@@ -1,5 +1,0 @@
-use Rattle.run_watch.proofs.Buckets.{IsKept}
-use Rattle.run_watch.proofs.flows.bucket_upto.Given as goal
-
-abbrev pub invariant-loop-number : goal.invariant-loop-number
-invariant-loop-number l = IsKept l.bucket.burst l.bucket.rate l.entries l.number l.time l.level
