@@ -12,60 +12,30 @@ fn bounds(rt: HostRuntime) -> Result<(), Fail> {
             "netcalc analyse n.toml",
             &[(
                 "n.toml",
-                r#"[[server]]
-name = "s1"
-rate = 100
-service = { kind = "latency", latency = 10 }
-[[flow]]
-name = "f1"
-packet = 12000
-arrival = { kind = "bucket", burst = 12000, rate = 101 }
-path = ["s1"]
-"#,
+                "[[server]]\nname = \"s1\"\nrate = 100\nservice = { kind = \"latency\", latency = 10 }\n[[flow]]\nname = \"f1\"\npacket = 12000\narrival = { kind = \"bucket\", burst = 12000, rate = 101 }\npath = [\"s1\"]\n",
             )],
             0,
-            r#"servers 1 flows 1
-queue s1 0 delay unbounded backlog unbounded
-flow f1 tfa unbounded sfa unbounded bound unbounded
-"#,
+            "servers 1 flows 1\nqueue s1 0 delay unbounded backlog unbounded\nflow f1 tfa unbounded sfa unbounded bound unbounded\n",
         ),
         // a_rate_with_a_large_denominator
         (
             "netcalc analyse n.toml",
             &[(
                 "n.toml",
-                r#"[[server]]
-name = "s1"
-rate = 100
-service = { kind = "latency", latency = 10 }
-[[flow]]
-name = "f1"
-packet = 12000
-arrival = { kind = "bucket", burst = 12000, rate = "1/1073741824" }
-path = ["s1"]
-"#,
+                "[[server]]\nname = \"s1\"\nrate = 100\nservice = { kind = \"latency\", latency = 10 }\n[[flow]]\nname = \"f1\"\npacket = 12000\narrival = { kind = \"bucket\", burst = 12000, rate = \"1/1073741824\" }\npath = [\"s1\"]\n",
             )],
             0,
-            r#"servers 1 flows 1
-queue s1 0 delay 130 backlog 6442450944065/536870912
-flow f1 tfa 130 sfa 130 bound 130
-"#,
+            "servers 1 flows 1\nqueue s1 0 delay 130 backlog 6442450944065/536870912\nflow f1 tfa 130 sfa 130 bound 130\n",
         ),
         // a_server_without_flows
         (
             "netcalc analyse n.toml",
             &[(
                 "n.toml",
-                r#"[[server]]
-name = "s1"
-rate = 100
-service = { kind = "latency", latency = 10 }
-"#,
+                "[[server]]\nname = \"s1\"\nrate = 100\nservice = { kind = \"latency\", latency = 10 }\n",
             )],
             0,
-            r#"servers 1 flows 0
-queue s1 0 delay 0 backlog 0
-"#,
+            "servers 1 flows 0\nqueue s1 0 delay 0 backlog 0\n",
         ),
         // an_empty_file
         (
@@ -79,250 +49,90 @@ queue s1 0 delay 0 backlog 0
             "netcalc analyse n.toml",
             &[(
                 "n.toml",
-                r#"[[server]]
-name = "s1"
-rate = 100
-service = { kind = "latency", latency = 10 }
-[[flow]]
-name = "f1"
-packet = 12000
-arrival = { kind = "bucket", burst = 0, rate = 0 }
-path = ["s1"]
-"#,
+                "[[server]]\nname = \"s1\"\nrate = 100\nservice = { kind = \"latency\", latency = 10 }\n[[flow]]\nname = \"f1\"\npacket = 12000\narrival = { kind = \"bucket\", burst = 0, rate = 0 }\npath = [\"s1\"]\n",
             )],
             0,
-            r#"servers 1 flows 1
-queue s1 0 delay 0 backlog 0
-flow f1 tfa 0 sfa 0 bound 0
-"#,
+            "servers 1 flows 1\nqueue s1 0 delay 0 backlog 0\nflow f1 tfa 0 sfa 0 bound 0\n",
         ),
         // one_flow
         (
             "netcalc analyse n.toml",
             &[(
                 "n.toml",
-                r#"[[server]]
-name = "s1"
-rate = 100
-service = { kind = "latency", latency = 10 }
-[[flow]]
-name = "f1"
-packet = 12000
-arrival = { kind = "bucket", burst = 12000, rate = 10 }
-path = ["s1"]
-"#,
+                "[[server]]\nname = \"s1\"\nrate = 100\nservice = { kind = \"latency\", latency = 10 }\n[[flow]]\nname = \"f1\"\npacket = 12000\narrival = { kind = \"bucket\", burst = 12000, rate = 10 }\npath = [\"s1\"]\n",
             )],
             0,
-            r#"servers 1 flows 1
-queue s1 0 delay 130 backlog 13300
-flow f1 tfa 130 sfa 130 bound 130
-"#,
+            "servers 1 flows 1\nqueue s1 0 delay 130 backlog 13300\nflow f1 tfa 130 sfa 130 bound 130\n",
         ),
         // rates_that_are_equal
         (
             "netcalc analyse n.toml",
             &[(
                 "n.toml",
-                r#"[[server]]
-name = "s1"
-rate = 100
-service = { kind = "latency", latency = 10 }
-[[flow]]
-name = "f1"
-packet = 12000
-arrival = { kind = "bucket", burst = 12000, rate = 100 }
-path = ["s1"]
-"#,
+                "[[server]]\nname = \"s1\"\nrate = 100\nservice = { kind = \"latency\", latency = 10 }\n[[flow]]\nname = \"f1\"\npacket = 12000\narrival = { kind = \"bucket\", burst = 12000, rate = 100 }\npath = [\"s1\"]\n",
             )],
             0,
-            r#"servers 1 flows 1
-queue s1 0 delay 130 backlog 25000
-flow f1 tfa 130 sfa 130 bound 130
-"#,
+            "servers 1 flows 1\nqueue s1 0 delay 130 backlog 25000\nflow f1 tfa 130 sfa 130 bound 130\n",
         ),
         // two_flows
         (
             "netcalc analyse n.toml",
             &[(
                 "n.toml",
-                r#"[[server]]
-name = "s1"
-rate = 100
-service = { kind = "latency", latency = 10 }
-[[flow]]
-name = "f1"
-packet = 12000
-arrival = { kind = "bucket", burst = 12000, rate = 10 }
-path = ["s1"]
-[[flow]]
-name = "f2"
-packet = 6000
-arrival = { kind = "bucket", burst = 6000, rate = 5 }
-path = ["s1"]
-"#,
+                "[[server]]\nname = \"s1\"\nrate = 100\nservice = { kind = \"latency\", latency = 10 }\n[[flow]]\nname = \"f1\"\npacket = 12000\narrival = { kind = \"bucket\", burst = 12000, rate = 10 }\npath = [\"s1\"]\n[[flow]]\nname = \"f2\"\npacket = 6000\narrival = { kind = \"bucket\", burst = 6000, rate = 5 }\npath = [\"s1\"]\n",
             )],
             0,
-            r#"servers 1 flows 2
-queue s1 0 delay 190 backlog 19950
-flow f1 tfa 190 sfa 3730/19 bound 190
-flow f2 tfa 190 sfa 590/3 bound 190
-"#,
+            "servers 1 flows 2\nqueue s1 0 delay 190 backlog 19950\nflow f1 tfa 190 sfa 3730/19 bound 190\nflow f2 tfa 190 sfa 590/3 bound 190\n",
         ),
         // two_flows_over_two_servers
         (
             "netcalc analyse n.toml",
             &[(
                 "n.toml",
-                r#"[[server]]
-name = "s1"
-rate = 100
-service = { kind = "latency", latency = 10 }
-[[server]]
-name = "s2"
-rate = 100
-service = { kind = "latency", latency = 10 }
-[[flow]]
-name = "f1"
-packet = 12000
-arrival = { kind = "bucket", burst = 12000, rate = 10 }
-path = ["s1", "s2"]
-[[flow]]
-name = "f2"
-packet = 6000
-arrival = { kind = "bucket", burst = 6000, rate = 5 }
-path = ["s1", "s2"]
-"#,
+                "[[server]]\nname = \"s1\"\nrate = 100\nservice = { kind = \"latency\", latency = 10 }\n[[server]]\nname = \"s2\"\nrate = 100\nservice = { kind = \"latency\", latency = 10 }\n[[flow]]\nname = \"f1\"\npacket = 12000\narrival = { kind = \"bucket\", burst = 12000, rate = 10 }\npath = [\"s1\", \"s2\"]\n[[flow]]\nname = \"f2\"\npacket = 6000\narrival = { kind = \"bucket\", burst = 6000, rate = 5 }\npath = [\"s1\", \"s2\"]\n",
             )],
             0,
-            r#"servers 2 flows 2
-queue s1 0 delay 190 backlog 19950
-queue s2 0 delay 437/2 backlog 22800
-flow f1 tfa 817/2 sfa 15281/38 bound 15281/38
-flow f2 tfa 817/2 sfa 1237/3 bound 817/2
-"#,
+            "servers 2 flows 2\nqueue s1 0 delay 190 backlog 19950\nqueue s2 0 delay 437/2 backlog 22800\nflow f1 tfa 817/2 sfa 15281/38 bound 15281/38\nflow f2 tfa 817/2 sfa 1237/3 bound 817/2\n",
         ),
         // two_flows_that_share_a_link
         (
             "netcalc analyse n.toml",
             &[(
                 "n.toml",
-                r#"version = 2
-[[server]]
-name = "s1"
-rate = 100
-service = { kind = "latency", latency = 10 }
-[[server]]
-name = "s2"
-rate = 100
-service = { kind = "latency", latency = 10 }
-[[flow]]
-name = "f1"
-packet = 12000
-arrival = { kind = "bucket", burst = 12000, rate = 10 }
-path = ["s1", "s2"]
-[[flow]]
-name = "f2"
-packet = 6000
-arrival = { kind = "bucket", burst = 6000, rate = 5 }
-path = ["s1", "s2"]
-"#,
+                "version = 2\n[[server]]\nname = \"s1\"\nrate = 100\nservice = { kind = \"latency\", latency = 10 }\n[[server]]\nname = \"s2\"\nrate = 100\nservice = { kind = \"latency\", latency = 10 }\n[[flow]]\nname = \"f1\"\npacket = 12000\narrival = { kind = \"bucket\", burst = 12000, rate = 10 }\npath = [\"s1\", \"s2\"]\n[[flow]]\nname = \"f2\"\npacket = 6000\narrival = { kind = \"bucket\", burst = 6000, rate = 5 }\npath = [\"s1\", \"s2\"]\n",
             )],
             0,
-            r#"servers 2 flows 2
-queue s1 0 delay 190 backlog 19950
-queue s2 0 delay 130 backlog 22800
-flow f1 tfa 320 sfa 15281/38 bound 320
-flow f2 tfa 320 sfa 1237/3 bound 320
-"#,
+            "servers 2 flows 2\nqueue s1 0 delay 190 backlog 19950\nqueue s2 0 delay 130 backlog 22800\nflow f1 tfa 320 sfa 15281/38 bound 320\nflow f2 tfa 320 sfa 1237/3 bound 320\n",
         ),
         // two_hops
         (
             "netcalc analyse n.toml",
             &[(
                 "n.toml",
-                r#"[[server]]
-name = "s1"
-rate = 100
-service = { kind = "latency", latency = 10 }
-[[server]]
-name = "s2"
-rate = 100
-service = { kind = "latency", latency = 10 }
-[[flow]]
-name = "f1"
-packet = 12000
-arrival = { kind = "bucket", burst = 12000, rate = 10 }
-path = ["s1", "s2"]
-"#,
+                "[[server]]\nname = \"s1\"\nrate = 100\nservice = { kind = \"latency\", latency = 10 }\n[[server]]\nname = \"s2\"\nrate = 100\nservice = { kind = \"latency\", latency = 10 }\n[[flow]]\nname = \"f1\"\npacket = 12000\narrival = { kind = \"bucket\", burst = 12000, rate = 10 }\npath = [\"s1\", \"s2\"]\n",
             )],
             0,
-            r#"servers 2 flows 1
-queue s1 0 delay 130 backlog 13300
-queue s2 0 delay 143 backlog 14600
-flow f1 tfa 273 sfa 260 bound 260
-"#,
+            "servers 2 flows 1\nqueue s1 0 delay 130 backlog 13300\nqueue s2 0 delay 143 backlog 14600\nflow f1 tfa 273 sfa 260 bound 260\n",
         ),
         // two_hops_with_links
         (
             "netcalc analyse n.toml",
             &[(
                 "n.toml",
-                r#"[[server]]
-name = "s1"
-rate = 100
-service = { kind = "latency", latency = 10 }
-link = 5
-[[server]]
-name = "s2"
-rate = 100
-service = { kind = "latency", latency = 10 }
-link = 5
-[[flow]]
-name = "f1"
-packet = 12000
-arrival = { kind = "bucket", burst = 12000, rate = 10 }
-path = ["s1", "s2"]
-"#,
+                "[[server]]\nname = \"s1\"\nrate = 100\nservice = { kind = \"latency\", latency = 10 }\nlink = 5\n[[server]]\nname = \"s2\"\nrate = 100\nservice = { kind = \"latency\", latency = 10 }\nlink = 5\n[[flow]]\nname = \"f1\"\npacket = 12000\narrival = { kind = \"bucket\", burst = 12000, rate = 10 }\npath = [\"s1\", \"s2\"]\n",
             )],
             0,
-            r#"servers 2 flows 1
-queue s1 0 delay 130 backlog 13300
-queue s2 0 delay 143 backlog 14600
-flow f1 tfa 283 sfa 270 bound 270
-"#,
+            "servers 2 flows 1\nqueue s1 0 delay 130 backlog 13300\nqueue s2 0 delay 143 backlog 14600\nflow f1 tfa 283 sfa 270 bound 270\n",
         ),
         // unbounded_behind_a_fast_flow
         (
             "netcalc analyse n.toml",
             &[(
                 "n.toml",
-                r#"[[server]]
-name = "s1"
-rate = 100
-service = { kind = "latency", latency = 10 }
-[[server]]
-name = "s2"
-rate = 100
-service = { kind = "latency", latency = 10 }
-[[flow]]
-name = "f1"
-packet = 12000
-arrival = { kind = "bucket", burst = 12000, rate = 101 }
-path = ["s1", "s2"]
-[[flow]]
-name = "f2"
-packet = 6000
-arrival = { kind = "bucket", burst = 6000, rate = 5 }
-path = ["s2"]
-"#,
+                "[[server]]\nname = \"s1\"\nrate = 100\nservice = { kind = \"latency\", latency = 10 }\n[[server]]\nname = \"s2\"\nrate = 100\nservice = { kind = \"latency\", latency = 10 }\n[[flow]]\nname = \"f1\"\npacket = 12000\narrival = { kind = \"bucket\", burst = 12000, rate = 101 }\npath = [\"s1\", \"s2\"]\n[[flow]]\nname = \"f2\"\npacket = 6000\narrival = { kind = \"bucket\", burst = 6000, rate = 5 }\npath = [\"s2\"]\n",
             )],
             0,
-            r#"servers 2 flows 2
-queue s1 0 delay unbounded backlog unbounded
-queue s2 0 delay unbounded backlog unbounded
-flow f1 tfa unbounded sfa unbounded bound unbounded
-flow f2 tfa unbounded sfa unbounded bound unbounded
-"#,
+            "servers 2 flows 2\nqueue s1 0 delay unbounded backlog unbounded\nqueue s2 0 delay unbounded backlog unbounded\nflow f1 tfa unbounded sfa unbounded bound unbounded\nflow f2 tfa unbounded sfa unbounded bound unbounded\n",
         ),
     ];
     for (line, files, status, wanted) in rows {
@@ -341,17 +151,7 @@ fn check_faults(rt: HostRuntime) -> Result<(), Fail> {
             &[
                 (
                     "n.toml",
-                    r#"[[server]]
-name = "s1"
-rate = 100
-service = { kind = "latency", latency = 10 }
-
-[[flow]]
-name = "f1"
-packet = 12000
-arrival = { kind = "bucket", burst = 12000, rate = 10 }
-path = ["s1"]
-"#,
+                    "[[server]]\nname = \"s1\"\nrate = 100\nservice = { kind = \"latency\", latency = 10 }\n\n[[flow]]\nname = \"f1\"\npacket = 12000\narrival = { kind = \"bucket\", burst = 12000, rate = 10 }\npath = [\"s1\"]\n",
                 ),
                 ("r.csv", "end,0\nend,0\t\n"),
             ],
@@ -364,17 +164,7 @@ path = ["s1"]
             &[
                 (
                     "n.toml",
-                    r#"[[server]]
-name = "s1"
-rate = 100
-service = { kind = "latency", latency = 10 }
-
-[[flow]]
-name = "f1"
-packet = 12000
-arrival = { kind = "bucket", burst = 12000, rate = 10 }
-path = ["s1"]
-"#,
+                    "[[server]]\nname = \"s1\"\nrate = 100\nservice = { kind = \"latency\", latency = 10 }\n\n[[flow]]\nname = \"f1\"\npacket = 12000\narrival = { kind = \"bucket\", burst = 12000, rate = 10 }\npath = [\"s1\"]\n",
                 ),
                 ("r.csv", "enter,0,f1,1\t\n"),
             ],
@@ -387,28 +177,7 @@ path = ["s1"]
             &[
                 (
                     "n.toml",
-                    r#"[[server]]
-name = "s1"
-rate = 100
-service = { kind = "latency", latency = 10 }
-
-[[server]]
-name = "s2"
-rate = 100
-service = { kind = "latency", latency = 10 }
-
-[[flow]]
-name = "f1"
-packet = 12000
-arrival = { kind = "bucket", burst = 12000, rate = 10 }
-path = ["s1", "s2"]
-
-[[flow]]
-name = "f2"
-packet = 6000
-arrival = { kind = "bucket", burst = 6000, rate = 5 }
-path = ["s2", "s1"]
-"#,
+                    "[[server]]\nname = \"s1\"\nrate = 100\nservice = { kind = \"latency\", latency = 10 }\n\n[[server]]\nname = \"s2\"\nrate = 100\nservice = { kind = \"latency\", latency = 10 }\n\n[[flow]]\nname = \"f1\"\npacket = 12000\narrival = { kind = \"bucket\", burst = 12000, rate = 10 }\npath = [\"s1\", \"s2\"]\n\n[[flow]]\nname = \"f2\"\npacket = 6000\narrival = { kind = \"bucket\", burst = 6000, rate = 5 }\npath = [\"s2\", \"s1\"]\n",
                 ),
                 ("r.csv", "end,0\n"),
             ],
@@ -421,17 +190,7 @@ path = ["s2", "s1"]
             &[
                 (
                     "n.toml",
-                    r#"[[server]]
-name = "s1"
-rate = 0
-service = { kind = "latency", latency = 10 }
-
-[[flow]]
-name = "f1"
-packet = 12000
-arrival = { kind = "bucket", burst = 12000, rate = 10 }
-path = ["s1"]
-"#,
+                    "[[server]]\nname = \"s1\"\nrate = 0\nservice = { kind = \"latency\", latency = 10 }\n\n[[flow]]\nname = \"f1\"\npacket = 12000\narrival = { kind = \"bucket\", burst = 12000, rate = 10 }\npath = [\"s1\"]\n",
                 ),
                 ("r.csv", "end\n"),
             ],
@@ -444,24 +203,9 @@ path = ["s1"]
             &[
                 (
                     "n.toml",
-                    r#"[[server]]
-name = "s1"
-rate = 100
-service = { kind = "latency", latency = 10 }
-
-[[flow]]
-name = "f1"
-packet = 12000
-arrival = { kind = "bucket", burst = 12000, rate = 10 }
-path = ["s1"]
-"#,
+                    "[[server]]\nname = \"s1\"\nrate = 100\nservice = { kind = \"latency\", latency = 10 }\n\n[[flow]]\nname = \"f1\"\npacket = 12000\narrival = { kind = \"bucket\", burst = 12000, rate = 10 }\npath = [\"s1\"]\n",
                 ),
-                (
-                    "r.csv",
-                    r#"enter,0,f1,0
-end,0
-"#,
-                ),
+                ("r.csv", "enter,0,f1,0\nend,0\n"),
             ],
             1,
             "netcalc: r.csv: T4 row 1\n",
@@ -472,24 +216,9 @@ end,0
             &[
                 (
                     "n.toml",
-                    r#"[[server]]
-name = "s1"
-rate = 100
-service = { kind = "latency", latency = 10 }
-
-[[flow]]
-name = "f1"
-packet = 12000
-arrival = { kind = "bucket", burst = 12000, rate = 10 }
-path = ["s1"]
-"#,
+                    "[[server]]\nname = \"s1\"\nrate = 100\nservice = { kind = \"latency\", latency = 10 }\n\n[[flow]]\nname = \"f1\"\npacket = 12000\narrival = { kind = \"bucket\", burst = 12000, rate = 10 }\npath = [\"s1\"]\n",
                 ),
-                (
-                    "r.csv",
-                    r#"leave,0,s1,4294967296
-end,0
-"#,
-                ),
+                ("r.csv", "leave,0,s1,4294967296\nend,0\n"),
             ],
             1,
             "netcalc: r.csv: T4 row 1\n",
@@ -500,24 +229,9 @@ end,0
             &[
                 (
                     "n.toml",
-                    r#"[[server]]
-name = "s1"
-rate = 100
-service = { kind = "latency", latency = 10 }
-
-[[flow]]
-name = "f1"
-packet = 12000
-arrival = { kind = "bucket", burst = 12000, rate = 10 }
-path = ["s1"]
-"#,
+                    "[[server]]\nname = \"s1\"\nrate = 100\nservice = { kind = \"latency\", latency = 10 }\n\n[[flow]]\nname = \"f1\"\npacket = 12000\narrival = { kind = \"bucket\", burst = 12000, rate = 10 }\npath = [\"s1\"]\n",
                 ),
-                (
-                    "r.csv",
-                    r#"end,0
-end,0
-"#,
-                ),
+                ("r.csv", "end,0\nend,0\n"),
             ],
             1,
             "netcalc: r.csv: T8 row 2\n",
@@ -528,28 +242,7 @@ end,0
             &[
                 (
                     "n.toml",
-                    r#"[[server]]
-name = "s1"
-rate = 100
-service = { kind = "latency", latency = 10 }
-
-[[server]]
-name = "s2"
-rate = 100
-service = { kind = "latency", latency = 10 }
-
-[[flow]]
-name = "f1"
-packet = 12000
-arrival = { kind = "bucket", burst = 12000, rate = 10 }
-path = ["s1", "s2"]
-
-[[flow]]
-name = "f2"
-packet = 6000
-arrival = { kind = "bucket", burst = 6000, rate = 5 }
-path = ["s2", "s1"]
-"#,
+                    "[[server]]\nname = \"s1\"\nrate = 100\nservice = { kind = \"latency\", latency = 10 }\n\n[[server]]\nname = \"s2\"\nrate = 100\nservice = { kind = \"latency\", latency = 10 }\n\n[[flow]]\nname = \"f1\"\npacket = 12000\narrival = { kind = \"bucket\", burst = 12000, rate = 10 }\npath = [\"s1\", \"s2\"]\n\n[[flow]]\nname = \"f2\"\npacket = 6000\narrival = { kind = \"bucket\", burst = 6000, rate = 5 }\npath = [\"s2\", \"s1\"]\n",
                 ),
                 ("r.csv", "end\n"),
             ],
@@ -562,24 +255,9 @@ path = ["s2", "s1"]
             &[
                 (
                     "n.toml",
-                    r#"[[server]]
-name = "s1"
-rate = 100
-service = { kind = "latency", latency = 10 }
-
-[[flow]]
-name = "f1"
-packet = 12000
-arrival = { kind = "bucket", burst = 12000, rate = 10 }
-path = ["s1"]
-"#,
+                    "[[server]]\nname = \"s1\"\nrate = 100\nservice = { kind = \"latency\", latency = 10 }\n\n[[flow]]\nname = \"f1\"\npacket = 12000\narrival = { kind = \"bucket\", burst = 12000, rate = 10 }\npath = [\"s1\"]\n",
                 ),
-                (
-                    "r.csv",
-                    r#"enter,0,f1,1
-arrive,0,s1,0
-"#,
-                ),
+                ("r.csv", "enter,0,f1,1\narrive,0,s1,0\n"),
             ],
             1,
             "netcalc: r.csv: T2 row 2\n",
@@ -590,25 +268,9 @@ arrive,0,s1,0
             &[
                 (
                     "n.toml",
-                    r#"[[server]]
-name = "s1"
-rate = 100
-service = { kind = "latency", latency = 10 }
-
-[[flow]]
-name = "f1"
-packet = 12000
-arrival = { kind = "bucket", burst = 12000, rate = 10 }
-path = ["s1"]
-"#,
+                    "[[server]]\nname = \"s1\"\nrate = 100\nservice = { kind = \"latency\", latency = 10 }\n\n[[flow]]\nname = \"f1\"\npacket = 12000\narrival = { kind = \"bucket\", burst = 12000, rate = 10 }\npath = [\"s1\"]\n",
                 ),
-                (
-                    "r.csv",
-                    r#"enter,0,f1,1
-work,s1,0,0,1
-end,1
-"#,
-                ),
+                ("r.csv", "enter,0,f1,1\nwork,s1,0,0,1\nend,1\n"),
             ],
             1,
             "netcalc: r.csv: T3 row 2\n",
@@ -619,24 +281,9 @@ end,1
             &[
                 (
                     "n.toml",
-                    r#"[[server]]
-name = "s1"
-rate = 100
-service = { kind = "latency", latency = 10 }
-
-[[flow]]
-name = "f1"
-packet = 12000
-arrival = { kind = "bucket", burst = 12000, rate = 10 }
-path = ["s1"]
-"#,
+                    "[[server]]\nname = \"s1\"\nrate = 100\nservice = { kind = \"latency\", latency = 10 }\n\n[[flow]]\nname = \"f1\"\npacket = 12000\narrival = { kind = \"bucket\", burst = 12000, rate = 10 }\npath = [\"s1\"]\n",
                 ),
-                (
-                    "r.csv",
-                    r#"enter,-1,f1,1
-end,1
-"#,
-                ),
+                ("r.csv", "enter,-1,f1,1\nend,1\n"),
             ],
             1,
             "netcalc: r.csv: T4 row 1\n",
@@ -647,23 +294,11 @@ end,1
             &[
                 (
                     "n.toml",
-                    r#"[[server]]
-name = "s1"
-rate = 100
-service = { kind = "latency", latency = 10 }
-
-[[flow]]
-name = "f1"
-packet = 12000
-arrival = { kind = "bucket", burst = 12000, rate = 10 }
-path = ["s1"]
-"#,
+                    "[[server]]\nname = \"s1\"\nrate = 100\nservice = { kind = \"latency\", latency = 10 }\n\n[[flow]]\nname = \"f1\"\npacket = 12000\narrival = { kind = \"bucket\", burst = 12000, rate = 10 }\npath = [\"s1\"]\n",
                 ),
                 (
                     "r.csv",
-                    r#"enter,1/1329227995784915872903807060280344576,f1,1
-end,1
-"#,
+                    "enter,1/1329227995784915872903807060280344576,f1,1\nend,1\n",
                 ),
             ],
             6,
@@ -675,17 +310,7 @@ end,1
             &[
                 (
                     "n.toml",
-                    r#"[[server]]
-name = "s1"
-rate = 100
-service = { kind = "latency", latency = 10 }
-
-[[flow]]
-name = "f1"
-packet = 12000
-arrival = { kind = "bucket", burst = 12000, rate = 10 }
-path = ["s1"]
-"#,
+                    "[[server]]\nname = \"s1\"\nrate = 100\nservice = { kind = \"latency\", latency = 10 }\n\n[[flow]]\nname = \"f1\"\npacket = 12000\narrival = { kind = \"bucket\", burst = 12000, rate = 10 }\npath = [\"s1\"]\n",
                 ),
                 ("r.csv", ""),
             ],
@@ -698,24 +323,9 @@ path = ["s1"]
             &[
                 (
                     "n.toml",
-                    r#"[[server]]
-name = "s1"
-rate = 100
-service = { kind = "latency", latency = 10 }
-
-[[flow]]
-name = "f1"
-packet = 12000
-arrival = { kind = "bucket", burst = 12000, rate = 10 }
-path = ["s1"]
-"#,
+                    "[[server]]\nname = \"s1\"\nrate = 100\nservice = { kind = \"latency\", latency = 10 }\n\n[[flow]]\nname = \"f1\"\npacket = 12000\narrival = { kind = \"bucket\", burst = 12000, rate = 10 }\npath = [\"s1\"]\n",
                 ),
-                (
-                    "r.csv",
-                    r#"enter,0,f9,1
-end,0
-"#,
-                ),
+                ("r.csv", "enter,0,f9,1\nend,0\n"),
             ],
             1,
             "netcalc: r.csv: T5 row 1\n",
@@ -726,24 +336,9 @@ end,0
             &[
                 (
                     "n.toml",
-                    r#"[[server]]
-name = "s1"
-rate = 100
-service = { kind = "latency", latency = 10 }
-
-[[flow]]
-name = "f1"
-packet = 12000
-arrival = { kind = "bucket", burst = 12000, rate = 10 }
-path = ["s1"]
-"#,
+                    "[[server]]\nname = \"s1\"\nrate = 100\nservice = { kind = \"latency\", latency = 10 }\n\n[[flow]]\nname = \"f1\"\npacket = 12000\narrival = { kind = \"bucket\", burst = 12000, rate = 10 }\npath = [\"s1\"]\n",
                 ),
-                (
-                    "r.csv",
-                    r#"visit,0,s9,0
-end,0
-"#,
-                ),
+                ("r.csv", "visit,0,s9,0\nend,0\n"),
             ],
             1,
             "netcalc: r.csv: T5 row 1\n",
@@ -754,23 +349,11 @@ end,0
             &[
                 (
                     "n.toml",
-                    r#"[[server]]
-name = "s1"
-rate = 100
-service = { kind = "latency", latency = 10 }
-
-[[flow]]
-name = "f1"
-packet = 12000
-arrival = { kind = "bucket", burst = 12000, rate = 10 }
-path = ["s1"]
-"#,
+                    "[[server]]\nname = \"s1\"\nrate = 100\nservice = { kind = \"latency\", latency = 10 }\n\n[[flow]]\nname = \"f1\"\npacket = 12000\narrival = { kind = \"bucket\", burst = 12000, rate = 10 }\npath = [\"s1\"]\n",
                 ),
                 (
                     "r.csv",
-                    r#"leave,1/1329227995784915872903807060280344576,s1,0
-end,1
-"#,
+                    "leave,1/1329227995784915872903807060280344576,s1,0\nend,1\n",
                 ),
             ],
             6,
@@ -782,17 +365,7 @@ end,1
             &[
                 (
                     "n.toml",
-                    r#"[[server]]
-name = "s1"
-rate = 100
-service = { kind = "latency", latency = 10 }
-
-[[flow]]
-name = "f1"
-packet = 12000
-arrival = { kind = "bucket", burst = 12000, rate = 10 }
-path = ["s1"]
-"#,
+                    "[[server]]\nname = \"s1\"\nrate = 100\nservice = { kind = \"latency\", latency = 10 }\n\n[[flow]]\nname = \"f1\"\npacket = 12000\narrival = { kind = \"bucket\", burst = 12000, rate = 10 }\npath = [\"s1\"]\n",
                 ),
                 ("r.csv", "enter,0,f1,12000\n"),
             ],
@@ -804,17 +377,7 @@ path = ["s1"]
             "netcalc check n.toml r.csv",
             &[(
                 "n.toml",
-                r#"[[server]]
-name = "s1"
-rate = 100
-service = { kind = "latency", latency = 10 }
-
-[[flow]]
-name = "f1"
-packet = 12000
-arrival = { kind = "bucket", burst = 12000, rate = 10 }
-path = ["s1"]
-"#,
+                "[[server]]\nname = \"s1\"\nrate = 100\nservice = { kind = \"latency\", latency = 10 }\n\n[[flow]]\nname = \"f1\"\npacket = 12000\narrival = { kind = \"bucket\", burst = 12000, rate = 10 }\npath = [\"s1\"]\n",
             )],
             3,
             "netcalc: cannot read r.csv\n",
@@ -836,32 +399,15 @@ fn checks(rt: HostRuntime) -> Result<(), Fail> {
             &[
                 (
                     "n.toml",
-                    r#"[[server]]
-name = "s1"
-rate = 100
-service = { kind = "latency", latency = 10 }
-
-[[flow]]
-name = "f1"
-packet = 12000
-arrival = { kind = "bucket", burst = 12000, rate = 10 }
-path = ["s1"]
-"#,
+                    "[[server]]\nname = \"s1\"\nrate = 100\nservice = { kind = \"latency\", latency = 10 }\n\n[[flow]]\nname = \"f1\"\npacket = 12000\narrival = { kind = \"bucket\", burst = 12000, rate = 10 }\npath = [\"s1\"]\n",
                 ),
                 (
                     "r.csv",
-                    r#"enter,0,f1,12000
-work,s1,0,0,60,6000
-work,s1,0,60,120,6001
-end,120
-"#,
+                    "enter,0,f1,12000\nwork,s1,0,0,60,6000\nwork,s1,0,60,120,6001\nend,120\n",
                 ),
             ],
             9,
-            r#"servers 1 flows 1
-run packets 1 end 120
-verdict unlawful row 3 L4
-"#,
+            "servers 1 flows 1\nrun packets 1 end 120\nverdict unlawful row 3 L4\n",
         ),
         // a_leave_a_unit_late
         (
@@ -869,32 +415,15 @@ verdict unlawful row 3 L4
             &[
                 (
                     "n.toml",
-                    r#"[[server]]
-name = "s1"
-rate = 100
-service = { kind = "latency", latency = 10 }
-
-[[flow]]
-name = "f1"
-packet = 12000
-arrival = { kind = "bucket", burst = 12000, rate = 10 }
-path = ["s1"]
-"#,
+                    "[[server]]\nname = \"s1\"\nrate = 100\nservice = { kind = \"latency\", latency = 10 }\n\n[[flow]]\nname = \"f1\"\npacket = 12000\narrival = { kind = \"bucket\", burst = 12000, rate = 10 }\npath = [\"s1\"]\n",
                 ),
                 (
                     "r.csv",
-                    r#"enter,0,f1,12000
-work,s1,0,10,130,12000
-leave,131,s1,0
-end,131
-"#,
+                    "enter,0,f1,12000\nwork,s1,0,10,130,12000\nleave,131,s1,0\nend,131\n",
                 ),
             ],
             9,
-            r#"servers 1 flows 1
-run packets 1 end 131
-verdict unlawful row 3 L6
-"#,
+            "servers 1 flows 1\nrun packets 1 end 131\nverdict unlawful row 3 L6\n",
         ),
         // a_packet_a_unit_early
         (
@@ -902,40 +431,15 @@ verdict unlawful row 3 L6
             &[
                 (
                     "n.toml",
-                    r#"[[server]]
-name = "s1"
-rate = 100
-service = { kind = "latency", latency = 10 }
-link = 5
-
-[[server]]
-name = "s2"
-rate = 100
-service = { kind = "latency", latency = 10 }
-link = 5
-
-[[flow]]
-name = "f1"
-packet = 12000
-arrival = { kind = "bucket", burst = 12000, rate = 10 }
-path = ["s1", "s2"]
-"#,
+                    "[[server]]\nname = \"s1\"\nrate = 100\nservice = { kind = \"latency\", latency = 10 }\nlink = 5\n\n[[server]]\nname = \"s2\"\nrate = 100\nservice = { kind = \"latency\", latency = 10 }\nlink = 5\n\n[[flow]]\nname = \"f1\"\npacket = 12000\narrival = { kind = \"bucket\", burst = 12000, rate = 10 }\npath = [\"s1\", \"s2\"]\n",
                 ),
                 (
                     "r.csv",
-                    r#"enter,0,f1,12000
-work,s1,0,0,120,12000
-leave,120,s1,0
-reach,124,s2,0
-end,124
-"#,
+                    "enter,0,f1,12000\nwork,s1,0,0,120,12000\nleave,120,s1,0\nreach,124,s2,0\nend,124\n",
                 ),
             ],
             9,
-            r#"servers 2 flows 1
-run packets 1 end 124
-verdict unlawful row 4 L3
-"#,
+            "servers 2 flows 1\nrun packets 1 end 124\nverdict unlawful row 4 L3\n",
         ),
         // a_packet_longer_than_its_deficit
         (
@@ -943,40 +447,15 @@ verdict unlawful row 4 L3
             &[
                 (
                     "n.toml",
-                    r#"[[server]]
-name = "s1"
-rate = 100
-service = { kind = "latency", latency = 10 }
-discipline = "drr"
-quanta = [12000, 6000]
-
-[[flow]]
-name = "f1"
-packet = 12000
-arrival = { kind = "bucket", burst = 12000, rate = 10 }
-path = ["s1:0"]
-
-[[flow]]
-name = "f2"
-packet = 6000
-arrival = { kind = "bucket", burst = 6000, rate = 5 }
-path = ["s1:1"]
-"#,
+                    "[[server]]\nname = \"s1\"\nrate = 100\nservice = { kind = \"latency\", latency = 10 }\ndiscipline = \"drr\"\nquanta = [12000, 6000]\n\n[[flow]]\nname = \"f1\"\npacket = 12000\narrival = { kind = \"bucket\", burst = 12000, rate = 10 }\npath = [\"s1:0\"]\n\n[[flow]]\nname = \"f2\"\npacket = 6000\narrival = { kind = \"bucket\", burst = 6000, rate = 5 }\npath = [\"s1:1\"]\n",
                 ),
                 (
                     "r.csv",
-                    r#"enter,0,f1,12001
-visit,0,s1,0
-work,s1,0,0,120,12001
-end,120
-"#,
+                    "enter,0,f1,12001\nvisit,0,s1,0\nwork,s1,0,0,120,12001\nend,120\n",
                 ),
             ],
             9,
-            r#"servers 1 flows 2
-run packets 1 end 120
-verdict unlawful row 3 L5
-"#,
+            "servers 1 flows 2\nrun packets 1 end 120\nverdict unlawful row 3 L5\n",
         ),
         // a_packet_on_a_link_at_the_end
         (
@@ -984,42 +463,15 @@ verdict unlawful row 3 L5
             &[
                 (
                     "n.toml",
-                    r#"[[server]]
-name = "s1"
-rate = 100
-service = { kind = "latency", latency = 10 }
-link = 5
-
-[[server]]
-name = "s2"
-rate = 100
-service = { kind = "latency", latency = 10 }
-link = 5
-
-[[flow]]
-name = "f1"
-packet = 12000
-arrival = { kind = "bucket", burst = 12000, rate = 10 }
-path = ["s1", "s2"]
-"#,
+                    "[[server]]\nname = \"s1\"\nrate = 100\nservice = { kind = \"latency\", latency = 10 }\nlink = 5\n\n[[server]]\nname = \"s2\"\nrate = 100\nservice = { kind = \"latency\", latency = 10 }\nlink = 5\n\n[[flow]]\nname = \"f1\"\npacket = 12000\narrival = { kind = \"bucket\", burst = 12000, rate = 10 }\npath = [\"s1\", \"s2\"]\n",
                 ),
                 (
                     "r.csv",
-                    r#"enter,0,f1,12000
-work,s1,0,0,120,12000
-leave,120,s1,0
-end,124
-"#,
+                    "enter,0,f1,12000\nwork,s1,0,0,120,12000\nleave,120,s1,0\nend,124\n",
                 ),
             ],
             0,
-            r#"servers 2 flows 1
-run packets 1 end 124
-worst f1 124 bound 270
-peak s1 0 12000 bound 13300
-peak s2 0 0 bound 14600
-verdict admissible
-"#,
+            "servers 2 flows 1\nrun packets 1 end 124\nworst f1 124 bound 270\npeak s1 0 12000 bound 13300\npeak s2 0 0 bound 14600\nverdict admissible\n",
         ),
         // a_packet_that_comes_twice
         (
@@ -1027,41 +479,15 @@ verdict admissible
             &[
                 (
                     "n.toml",
-                    r#"[[server]]
-name = "s1"
-rate = 100
-service = { kind = "latency", latency = 10 }
-link = 5
-
-[[server]]
-name = "s2"
-rate = 100
-service = { kind = "latency", latency = 10 }
-link = 5
-
-[[flow]]
-name = "f1"
-packet = 12000
-arrival = { kind = "bucket", burst = 12000, rate = 10 }
-path = ["s1", "s2"]
-"#,
+                    "[[server]]\nname = \"s1\"\nrate = 100\nservice = { kind = \"latency\", latency = 10 }\nlink = 5\n\n[[server]]\nname = \"s2\"\nrate = 100\nservice = { kind = \"latency\", latency = 10 }\nlink = 5\n\n[[flow]]\nname = \"f1\"\npacket = 12000\narrival = { kind = \"bucket\", burst = 12000, rate = 10 }\npath = [\"s1\", \"s2\"]\n",
                 ),
                 (
                     "r.csv",
-                    r#"enter,0,f1,12000
-work,s1,0,0,120,12000
-leave,120,s1,0
-reach,125,s2,0
-reach,125,s2,0
-end,125
-"#,
+                    "enter,0,f1,12000\nwork,s1,0,0,120,12000\nleave,120,s1,0\nreach,125,s2,0\nreach,125,s2,0\nend,125\n",
                 ),
             ],
             9,
-            r#"servers 2 flows 1
-run packets 1 end 125
-verdict unlawful row 5 L3
-"#,
+            "servers 2 flows 1\nrun packets 1 end 125\nverdict unlawful row 5 L3\n",
         ),
         // a_packet_that_has_not_entered
         (
@@ -1069,30 +495,12 @@ verdict unlawful row 5 L3
             &[
                 (
                     "n.toml",
-                    r#"[[server]]
-name = "s1"
-rate = 100
-service = { kind = "latency", latency = 10 }
-
-[[flow]]
-name = "f1"
-packet = 12000
-arrival = { kind = "bucket", burst = 12000, rate = 10 }
-path = ["s1"]
-"#,
+                    "[[server]]\nname = \"s1\"\nrate = 100\nservice = { kind = \"latency\", latency = 10 }\n\n[[flow]]\nname = \"f1\"\npacket = 12000\narrival = { kind = \"bucket\", burst = 12000, rate = 10 }\npath = [\"s1\"]\n",
                 ),
-                (
-                    "r.csv",
-                    r#"work,s1,0,10,130,12000
-end,130
-"#,
-                ),
+                ("r.csv", "work,s1,0,10,130,12000\nend,130\n"),
             ],
             9,
-            r#"servers 1 flows 1
-run packets 0 end 130
-verdict unlawful row 1 L2
-"#,
+            "servers 1 flows 1\nrun packets 0 end 130\nverdict unlawful row 1 L2\n",
         ),
         // a_packet_that_is_not_worked_off
         (
@@ -1100,32 +508,15 @@ verdict unlawful row 1 L2
             &[
                 (
                     "n.toml",
-                    r#"[[server]]
-name = "s1"
-rate = 100
-service = { kind = "latency", latency = 10 }
-
-[[flow]]
-name = "f1"
-packet = 12000
-arrival = { kind = "bucket", burst = 12000, rate = 10 }
-path = ["s1"]
-"#,
+                    "[[server]]\nname = \"s1\"\nrate = 100\nservice = { kind = \"latency\", latency = 10 }\n\n[[flow]]\nname = \"f1\"\npacket = 12000\narrival = { kind = \"bucket\", burst = 12000, rate = 10 }\npath = [\"s1\"]\n",
                 ),
                 (
                     "r.csv",
-                    r#"enter,0,f1,12000
-work,s1,0,10,70,6000
-leave,70,s1,0
-end,70
-"#,
+                    "enter,0,f1,12000\nwork,s1,0,10,70,6000\nleave,70,s1,0\nend,70\n",
                 ),
             ],
             9,
-            r#"servers 1 flows 1
-run packets 1 end 70
-verdict unlawful row 3 L6
-"#,
+            "servers 1 flows 1\nrun packets 1 end 70\nverdict unlawful row 3 L6\n",
         ),
         // a_packet_that_never_comes
         (
@@ -1133,39 +524,15 @@ verdict unlawful row 3 L6
             &[
                 (
                     "n.toml",
-                    r#"[[server]]
-name = "s1"
-rate = 100
-service = { kind = "latency", latency = 10 }
-link = 5
-
-[[server]]
-name = "s2"
-rate = 100
-service = { kind = "latency", latency = 10 }
-link = 5
-
-[[flow]]
-name = "f1"
-packet = 12000
-arrival = { kind = "bucket", burst = 12000, rate = 10 }
-path = ["s1", "s2"]
-"#,
+                    "[[server]]\nname = \"s1\"\nrate = 100\nservice = { kind = \"latency\", latency = 10 }\nlink = 5\n\n[[server]]\nname = \"s2\"\nrate = 100\nservice = { kind = \"latency\", latency = 10 }\nlink = 5\n\n[[flow]]\nname = \"f1\"\npacket = 12000\narrival = { kind = \"bucket\", burst = 12000, rate = 10 }\npath = [\"s1\", \"s2\"]\n",
                 ),
                 (
                     "r.csv",
-                    r#"enter,0,f1,12000
-work,s1,0,0,120,12000
-leave,120,s1,0
-end,125
-"#,
+                    "enter,0,f1,12000\nwork,s1,0,0,120,12000\nleave,120,s1,0\nend,125\n",
                 ),
             ],
             9,
-            r#"servers 2 flows 1
-run packets 1 end 125
-verdict unlawful row 4 L9
-"#,
+            "servers 2 flows 1\nrun packets 1 end 125\nverdict unlawful row 4 L9\n",
         ),
         // a_packet_that_stays
         (
@@ -1173,31 +540,15 @@ verdict unlawful row 4 L9
             &[
                 (
                     "n.toml",
-                    r#"[[server]]
-name = "s1"
-rate = 100
-service = { kind = "latency", latency = 10 }
-
-[[flow]]
-name = "f1"
-packet = 12000
-arrival = { kind = "bucket", burst = 12000, rate = 10 }
-path = ["s1"]
-"#,
+                    "[[server]]\nname = \"s1\"\nrate = 100\nservice = { kind = \"latency\", latency = 10 }\n\n[[flow]]\nname = \"f1\"\npacket = 12000\narrival = { kind = \"bucket\", burst = 12000, rate = 10 }\npath = [\"s1\"]\n",
                 ),
                 (
                     "r.csv",
-                    r#"enter,0,f1,12000
-work,s1,0,10,130,12000
-end,140
-"#,
+                    "enter,0,f1,12000\nwork,s1,0,10,130,12000\nend,140\n",
                 ),
             ],
             9,
-            r#"servers 1 flows 1
-run packets 1 end 140
-verdict unlawful row 3 L9
-"#,
+            "servers 1 flows 1\nrun packets 1 end 140\nverdict unlawful row 3 L9\n",
         ),
         // a_packet_too_long_at_the_end
         (
@@ -1205,32 +556,12 @@ verdict unlawful row 3 L9
             &[
                 (
                     "n.toml",
-                    r#"[[server]]
-name = "s1"
-rate = 100
-service = { kind = "latency", latency = 10 }
-
-[[flow]]
-name = "f1"
-packet = 12000
-arrival = { kind = "bucket", burst = 12000, rate = 10 }
-path = ["s1"]
-"#,
+                    "[[server]]\nname = \"s1\"\nrate = 100\nservice = { kind = \"latency\", latency = 10 }\n\n[[flow]]\nname = \"f1\"\npacket = 12000\narrival = { kind = \"bucket\", burst = 12000, rate = 10 }\npath = [\"s1\"]\n",
                 ),
-                (
-                    "r.csv",
-                    r#"enter,0,f1,12001
-end,0
-"#,
-                ),
+                ("r.csv", "enter,0,f1,12001\nend,0\n"),
             ],
             9,
-            r#"servers 1 flows 1
-run packets 1 end 0
-worst f1 0 bound 130
-peak s1 0 12001 bound 13300
-verdict breach size f1 0
-"#,
+            "servers 1 flows 1\nrun packets 1 end 0\nworst f1 0 bound 130\npeak s1 0 12001 bound 13300\nverdict breach size f1 0\n",
         ),
         // a_second_packet_under_way
         (
@@ -1238,33 +569,15 @@ verdict breach size f1 0
             &[
                 (
                     "n.toml",
-                    r#"[[server]]
-name = "s1"
-rate = 100
-service = { kind = "latency", latency = 10 }
-
-[[flow]]
-name = "f1"
-packet = 12000
-arrival = { kind = "bucket", burst = 12000, rate = 10 }
-path = ["s1"]
-"#,
+                    "[[server]]\nname = \"s1\"\nrate = 100\nservice = { kind = \"latency\", latency = 10 }\n\n[[flow]]\nname = \"f1\"\npacket = 12000\narrival = { kind = \"bucket\", burst = 12000, rate = 10 }\npath = [\"s1\"]\n",
                 ),
                 (
                     "r.csv",
-                    r#"enter,0,f1,6000
-enter,0,f1,6000
-work,s1,0,0,30,3000
-work,s1,1,30,60,3000
-end,60
-"#,
+                    "enter,0,f1,6000\nenter,0,f1,6000\nwork,s1,0,0,30,3000\nwork,s1,1,30,60,3000\nend,60\n",
                 ),
             ],
             9,
-            r#"servers 1 flows 1
-run packets 2 end 60
-verdict unlawful row 4 L4
-"#,
+            "servers 1 flows 1\nrun packets 2 end 60\nverdict unlawful row 4 L4\n",
         ),
         // a_time_that_goes_back
         (
@@ -1272,31 +585,12 @@ verdict unlawful row 4 L4
             &[
                 (
                     "n.toml",
-                    r#"[[server]]
-name = "s1"
-rate = 100
-service = { kind = "latency", latency = 10 }
-
-[[flow]]
-name = "f1"
-packet = 12000
-arrival = { kind = "bucket", burst = 12000, rate = 10 }
-path = ["s1"]
-"#,
+                    "[[server]]\nname = \"s1\"\nrate = 100\nservice = { kind = \"latency\", latency = 10 }\n\n[[flow]]\nname = \"f1\"\npacket = 12000\narrival = { kind = \"bucket\", burst = 12000, rate = 10 }\npath = [\"s1\"]\n",
                 ),
-                (
-                    "r.csv",
-                    r#"enter,10,f1,1000
-enter,5,f1,1000
-end,10
-"#,
-                ),
+                ("r.csv", "enter,10,f1,1000\nenter,5,f1,1000\nend,10\n"),
             ],
             9,
-            r#"servers 1 flows 1
-run packets 2 end 10
-verdict unlawful row 2 L1
-"#,
+            "servers 1 flows 1\nrun packets 2 end 10\nverdict unlawful row 2 L1\n",
         ),
         // a_visit_at_a_priority_server
         (
@@ -1304,39 +598,12 @@ verdict unlawful row 2 L1
             &[
                 (
                     "n.toml",
-                    r#"[[server]]
-name = "s1"
-rate = 100
-service = { kind = "latency", latency = 10 }
-discipline = "priority"
-queues = 2
-
-[[flow]]
-name = "f1"
-packet = 12000
-arrival = { kind = "bucket", burst = 12000, rate = 10 }
-path = ["s1:1"]
-
-[[flow]]
-name = "f2"
-packet = 6000
-arrival = { kind = "bucket", burst = 6000, rate = 5 }
-path = ["s1:0"]
-"#,
+                    "[[server]]\nname = \"s1\"\nrate = 100\nservice = { kind = \"latency\", latency = 10 }\ndiscipline = \"priority\"\nqueues = 2\n\n[[flow]]\nname = \"f1\"\npacket = 12000\narrival = { kind = \"bucket\", burst = 12000, rate = 10 }\npath = [\"s1:1\"]\n\n[[flow]]\nname = \"f2\"\npacket = 6000\narrival = { kind = \"bucket\", burst = 6000, rate = 5 }\npath = [\"s1:0\"]\n",
                 ),
-                (
-                    "r.csv",
-                    r#"enter,0,f2,6000
-visit,0,s1,0
-end,0
-"#,
-                ),
+                ("r.csv", "enter,0,f2,6000\nvisit,0,s1,0\nend,0\n"),
             ],
             9,
-            r#"servers 1 flows 2
-run packets 1 end 0
-verdict unlawful row 2 L7
-"#,
+            "servers 1 flows 2\nrun packets 1 end 0\nverdict unlawful row 2 L7\n",
         ),
         // a_visit_in_a_visit
         (
@@ -1344,40 +611,15 @@ verdict unlawful row 2 L7
             &[
                 (
                     "n.toml",
-                    r#"[[server]]
-name = "s1"
-rate = 100
-service = { kind = "latency", latency = 10 }
-discipline = "drr"
-quanta = [12000, 6000]
-
-[[flow]]
-name = "f1"
-packet = 12000
-arrival = { kind = "bucket", burst = 12000, rate = 10 }
-path = ["s1:0"]
-
-[[flow]]
-name = "f2"
-packet = 6000
-arrival = { kind = "bucket", burst = 6000, rate = 5 }
-path = ["s1:1"]
-"#,
+                    "[[server]]\nname = \"s1\"\nrate = 100\nservice = { kind = \"latency\", latency = 10 }\ndiscipline = \"drr\"\nquanta = [12000, 6000]\n\n[[flow]]\nname = \"f1\"\npacket = 12000\narrival = { kind = \"bucket\", burst = 12000, rate = 10 }\npath = [\"s1:0\"]\n\n[[flow]]\nname = \"f2\"\npacket = 6000\narrival = { kind = \"bucket\", burst = 6000, rate = 5 }\npath = [\"s1:1\"]\n",
                 ),
                 (
                     "r.csv",
-                    r#"enter,0,f1,12000
-visit,0,s1,0
-visit,0,s1,0
-end,0
-"#,
+                    "enter,0,f1,12000\nvisit,0,s1,0\nvisit,0,s1,0\nend,0\n",
                 ),
             ],
             9,
-            r#"servers 1 flows 2
-run packets 1 end 0
-verdict unlawful row 3 L7
-"#,
+            "servers 1 flows 2\nrun packets 1 end 0\nverdict unlawful row 3 L7\n",
         ),
         // a_visit_out_of_turn
         (
@@ -1385,40 +627,15 @@ verdict unlawful row 3 L7
             &[
                 (
                     "n.toml",
-                    r#"[[server]]
-name = "s1"
-rate = 100
-service = { kind = "latency", latency = 10 }
-discipline = "drr"
-quanta = [12000, 6000]
-
-[[flow]]
-name = "f1"
-packet = 12000
-arrival = { kind = "bucket", burst = 12000, rate = 10 }
-path = ["s1:0"]
-
-[[flow]]
-name = "f2"
-packet = 6000
-arrival = { kind = "bucket", burst = 6000, rate = 5 }
-path = ["s1:1"]
-"#,
+                    "[[server]]\nname = \"s1\"\nrate = 100\nservice = { kind = \"latency\", latency = 10 }\ndiscipline = \"drr\"\nquanta = [12000, 6000]\n\n[[flow]]\nname = \"f1\"\npacket = 12000\narrival = { kind = \"bucket\", burst = 12000, rate = 10 }\npath = [\"s1:0\"]\n\n[[flow]]\nname = \"f2\"\npacket = 6000\narrival = { kind = \"bucket\", burst = 6000, rate = 5 }\npath = [\"s1:1\"]\n",
                 ),
                 (
                     "r.csv",
-                    r#"enter,0,f1,12000
-enter,0,f2,6000
-visit,0,s1,1
-end,0
-"#,
+                    "enter,0,f1,12000\nenter,0,f2,6000\nvisit,0,s1,1\nend,0\n",
                 ),
             ],
             9,
-            r#"servers 1 flows 2
-run packets 2 end 0
-verdict unlawful row 3 L7
-"#,
+            "servers 1 flows 2\nrun packets 2 end 0\nverdict unlawful row 3 L7\n",
         ),
         // a_visit_where_there_are_none
         (
@@ -1426,31 +643,12 @@ verdict unlawful row 3 L7
             &[
                 (
                     "n.toml",
-                    r#"[[server]]
-name = "s1"
-rate = 100
-service = { kind = "latency", latency = 10 }
-
-[[flow]]
-name = "f1"
-packet = 12000
-arrival = { kind = "bucket", burst = 12000, rate = 10 }
-path = ["s1"]
-"#,
+                    "[[server]]\nname = \"s1\"\nrate = 100\nservice = { kind = \"latency\", latency = 10 }\n\n[[flow]]\nname = \"f1\"\npacket = 12000\narrival = { kind = \"bucket\", burst = 12000, rate = 10 }\npath = [\"s1\"]\n",
                 ),
-                (
-                    "r.csv",
-                    r#"enter,0,f1,12000
-visit,0,s1,0
-end,0
-"#,
-                ),
+                ("r.csv", "enter,0,f1,12000\nvisit,0,s1,0\nend,0\n"),
             ],
             9,
-            r#"servers 1 flows 1
-run packets 1 end 0
-verdict unlawful row 2 L7
-"#,
+            "servers 1 flows 1\nrun packets 1 end 0\nverdict unlawful row 2 L7\n",
         ),
         // another_packet_leaves
         (
@@ -1458,41 +656,15 @@ verdict unlawful row 2 L7
             &[
                 (
                     "n.toml",
-                    r#"[[server]]
-name = "s1"
-rate = 100
-service = { kind = "latency", latency = 10 }
-discipline = "priority"
-queues = 2
-
-[[flow]]
-name = "f1"
-packet = 12000
-arrival = { kind = "bucket", burst = 12000, rate = 10 }
-path = ["s1:1"]
-
-[[flow]]
-name = "f2"
-packet = 6000
-arrival = { kind = "bucket", burst = 6000, rate = 5 }
-path = ["s1:0"]
-"#,
+                    "[[server]]\nname = \"s1\"\nrate = 100\nservice = { kind = \"latency\", latency = 10 }\ndiscipline = \"priority\"\nqueues = 2\n\n[[flow]]\nname = \"f1\"\npacket = 12000\narrival = { kind = \"bucket\", burst = 12000, rate = 10 }\npath = [\"s1:1\"]\n\n[[flow]]\nname = \"f2\"\npacket = 6000\narrival = { kind = \"bucket\", burst = 6000, rate = 5 }\npath = [\"s1:0\"]\n",
                 ),
                 (
                     "r.csv",
-                    r#"enter,0,f1,12000
-enter,0,f2,6000
-work,s1,1,0,60,6000
-leave,60,s1,0
-end,60
-"#,
+                    "enter,0,f1,12000\nenter,0,f2,6000\nwork,s1,1,0,60,6000\nleave,60,s1,0\nend,60\n",
                 ),
             ],
             9,
-            r#"servers 1 flows 2
-run packets 2 end 60
-verdict unlawful row 4 L6
-"#,
+            "servers 1 flows 2\nrun packets 2 end 60\nverdict unlawful row 4 L6\n",
         ),
         // deficits_as_simulated
         (
@@ -1500,49 +672,15 @@ verdict unlawful row 4 L6
             &[
                 (
                     "n.toml",
-                    r#"[[server]]
-name = "s1"
-rate = 100
-service = { kind = "latency", latency = 10 }
-discipline = "drr"
-quanta = [12000, 6000]
-
-[[flow]]
-name = "f1"
-packet = 12000
-arrival = { kind = "bucket", burst = 12000, rate = 10 }
-path = ["s1:0"]
-
-[[flow]]
-name = "f2"
-packet = 6000
-arrival = { kind = "bucket", burst = 6000, rate = 5 }
-path = ["s1:1"]
-"#,
+                    "[[server]]\nname = \"s1\"\nrate = 100\nservice = { kind = \"latency\", latency = 10 }\ndiscipline = \"drr\"\nquanta = [12000, 6000]\n\n[[flow]]\nname = \"f1\"\npacket = 12000\narrival = { kind = \"bucket\", burst = 12000, rate = 10 }\npath = [\"s1:0\"]\n\n[[flow]]\nname = \"f2\"\npacket = 6000\narrival = { kind = \"bucket\", burst = 6000, rate = 5 }\npath = [\"s1:1\"]\n",
                 ),
                 (
                     "r.csv",
-                    r#"enter,0,f1,12000
-enter,0,f2,6000
-visit,0,s1,0
-work,s1,0,0,120,12000
-leave,120,s1,0
-visit,120,s1,1
-work,s1,1,120,180,6000
-leave,180,s1,1
-end,180
-"#,
+                    "enter,0,f1,12000\nenter,0,f2,6000\nvisit,0,s1,0\nwork,s1,0,0,120,12000\nleave,120,s1,0\nvisit,120,s1,1\nwork,s1,1,120,180,6000\nleave,180,s1,1\nend,180\n",
                 ),
             ],
             0,
-            r#"servers 1 flows 2
-run packets 2 end 180
-worst f1 120 bound 370
-worst f2 180 bound 550
-peak s1 0 12000 bound 15700
-peak s1 1 6000 bound 8750
-verdict admissible
-"#,
+            "servers 1 flows 2\nrun packets 2 end 180\nworst f1 120 bound 370\nworst f2 180 bound 550\npeak s1 0 12000 bound 15700\npeak s1 1 6000 bound 8750\nverdict admissible\n",
         ),
         // fast_work_on_the_second_packet
         (
@@ -1550,34 +688,15 @@ verdict admissible
             &[
                 (
                     "n.toml",
-                    r#"version = 2
-
-[[server]]
-name = "s1"
-rate = 100
-service = { kind = "latency", latency = 10 }
-
-[[flow]]
-name = "f1"
-packet = 12000
-arrival = { kind = "bucket", burst = 12000, rate = 10 }
-path = ["s1"]
-"#,
+                    "version = 2\n\n[[server]]\nname = \"s1\"\nrate = 100\nservice = { kind = \"latency\", latency = 10 }\n\n[[flow]]\nname = \"f1\"\npacket = 12000\narrival = { kind = \"bucket\", burst = 12000, rate = 10 }\npath = [\"s1\"]\n",
                 ),
                 (
                     "r.csv",
-                    r#"enter,0,f1,6000
-enter,0,f1,6000
-work,s1,1,0,30,6000
-end,60
-"#,
+                    "enter,0,f1,6000\nenter,0,f1,6000\nwork,s1,1,0,30,6000\nend,60\n",
                 ),
             ],
             9,
-            r#"servers 1 flows 1
-run packets 2 end 60
-verdict unlawful row 3 L5
-"#,
+            "servers 1 flows 1\nrun packets 2 end 60\nverdict unlawful row 3 L5\n",
         ),
         // no_packet
         (
@@ -1585,27 +704,12 @@ verdict unlawful row 3 L5
             &[
                 (
                     "n.toml",
-                    r#"[[server]]
-name = "s1"
-rate = 100
-service = { kind = "latency", latency = 10 }
-
-[[flow]]
-name = "f1"
-packet = 12000
-arrival = { kind = "bucket", burst = 12000, rate = 10 }
-path = ["s1"]
-"#,
+                    "[[server]]\nname = \"s1\"\nrate = 100\nservice = { kind = \"latency\", latency = 10 }\n\n[[flow]]\nname = \"f1\"\npacket = 12000\narrival = { kind = \"bucket\", burst = 12000, rate = 10 }\npath = [\"s1\"]\n",
                 ),
                 ("r.csv", "end,0\n"),
             ],
             0,
-            r#"servers 1 flows 1
-run packets 0 end 0
-worst f1 0 bound 130
-peak s1 0 0 bound 13300
-verdict admissible
-"#,
+            "servers 1 flows 1\nrun packets 0 end 0\nworst f1 0 bound 130\npeak s1 0 0 bound 13300\nverdict admissible\n",
         ),
         // one_packet
         (
@@ -1613,34 +717,15 @@ verdict admissible
             &[
                 (
                     "n.toml",
-                    r#"[[server]]
-name = "s1"
-rate = 100
-service = { kind = "latency", latency = 10 }
-
-[[flow]]
-name = "f1"
-packet = 12000
-arrival = { kind = "bucket", burst = 12000, rate = 10 }
-path = ["s1"]
-"#,
+                    "[[server]]\nname = \"s1\"\nrate = 100\nservice = { kind = \"latency\", latency = 10 }\n\n[[flow]]\nname = \"f1\"\npacket = 12000\narrival = { kind = \"bucket\", burst = 12000, rate = 10 }\npath = [\"s1\"]\n",
                 ),
                 (
                     "r.csv",
-                    r#"enter,0,f1,12000
-work,s1,0,10,130,12000
-leave,130,s1,0
-end,130
-"#,
+                    "enter,0,f1,12000\nwork,s1,0,10,130,12000\nleave,130,s1,0\nend,130\n",
                 ),
             ],
             0,
-            r#"servers 1 flows 1
-run packets 1 end 130
-worst f1 130 bound 130
-peak s1 0 12000 bound 13300
-verdict admissible
-"#,
+            "servers 1 flows 1\nrun packets 1 end 130\nworst f1 130 bound 130\npeak s1 0 12000 bound 13300\nverdict admissible\n",
         ),
         // the_first_of_three_laws
         (
@@ -1648,31 +733,12 @@ verdict admissible
             &[
                 (
                     "n.toml",
-                    r#"[[server]]
-name = "s1"
-rate = 100
-service = { kind = "latency", latency = 10 }
-
-[[flow]]
-name = "f1"
-packet = 12000
-arrival = { kind = "bucket", burst = 12000, rate = 10 }
-path = ["s1"]
-"#,
+                    "[[server]]\nname = \"s1\"\nrate = 100\nservice = { kind = \"latency\", latency = 10 }\n\n[[flow]]\nname = \"f1\"\npacket = 12000\narrival = { kind = \"bucket\", burst = 12000, rate = 10 }\npath = [\"s1\"]\n",
                 ),
-                (
-                    "r.csv",
-                    r#"enter,0,f1,12000
-leave,200,s1,7
-end,100
-"#,
-                ),
+                ("r.csv", "enter,0,f1,12000\nleave,200,s1,7\nend,100\n"),
             ],
             9,
-            r#"servers 1 flows 1
-run packets 1 end 100
-verdict unlawful row 2 L1
-"#,
+            "servers 1 flows 1\nrun packets 1 end 100\nverdict unlawful row 2 L1\n",
         ),
         // the_second_packet_first
         (
@@ -1680,32 +746,15 @@ verdict unlawful row 2 L1
             &[
                 (
                     "n.toml",
-                    r#"[[server]]
-name = "s1"
-rate = 100
-service = { kind = "latency", latency = 10 }
-
-[[flow]]
-name = "f1"
-packet = 12000
-arrival = { kind = "bucket", burst = 12000, rate = 10 }
-path = ["s1"]
-"#,
+                    "[[server]]\nname = \"s1\"\nrate = 100\nservice = { kind = \"latency\", latency = 10 }\n\n[[flow]]\nname = \"f1\"\npacket = 12000\narrival = { kind = \"bucket\", burst = 12000, rate = 10 }\npath = [\"s1\"]\n",
                 ),
                 (
                     "r.csv",
-                    r#"enter,0,f1,6000
-enter,0,f1,6000
-work,s1,1,0,60,6000
-end,60
-"#,
+                    "enter,0,f1,6000\nenter,0,f1,6000\nwork,s1,1,0,60,6000\nend,60\n",
                 ),
             ],
             9,
-            r#"servers 1 flows 1
-run packets 2 end 60
-verdict unlawful row 3 L5
-"#,
+            "servers 1 flows 1\nrun packets 2 end 60\nverdict unlawful row 3 L5\n",
         ),
         // the_slow_queue_first
         (
@@ -1713,40 +762,15 @@ verdict unlawful row 3 L5
             &[
                 (
                     "n.toml",
-                    r#"[[server]]
-name = "s1"
-rate = 100
-service = { kind = "latency", latency = 10 }
-discipline = "priority"
-queues = 2
-
-[[flow]]
-name = "f1"
-packet = 12000
-arrival = { kind = "bucket", burst = 12000, rate = 10 }
-path = ["s1:1"]
-
-[[flow]]
-name = "f2"
-packet = 6000
-arrival = { kind = "bucket", burst = 6000, rate = 5 }
-path = ["s1:0"]
-"#,
+                    "[[server]]\nname = \"s1\"\nrate = 100\nservice = { kind = \"latency\", latency = 10 }\ndiscipline = \"priority\"\nqueues = 2\n\n[[flow]]\nname = \"f1\"\npacket = 12000\narrival = { kind = \"bucket\", burst = 12000, rate = 10 }\npath = [\"s1:1\"]\n\n[[flow]]\nname = \"f2\"\npacket = 6000\narrival = { kind = \"bucket\", burst = 6000, rate = 5 }\npath = [\"s1:0\"]\n",
                 ),
                 (
                     "r.csv",
-                    r#"enter,0,f1,12000
-enter,0,f2,6000
-work,s1,0,0,120,12000
-end,120
-"#,
+                    "enter,0,f1,12000\nenter,0,f2,6000\nwork,s1,0,0,120,12000\nend,120\n",
                 ),
             ],
             9,
-            r#"servers 1 flows 2
-run packets 2 end 120
-verdict unlawful row 3 L5
-"#,
+            "servers 1 flows 2\nrun packets 2 end 120\nverdict unlawful row 3 L5\n",
         ),
         // the_urgent_queue_first
         (
@@ -1754,47 +778,15 @@ verdict unlawful row 3 L5
             &[
                 (
                     "n.toml",
-                    r#"[[server]]
-name = "s1"
-rate = 100
-service = { kind = "latency", latency = 10 }
-discipline = "priority"
-queues = 2
-
-[[flow]]
-name = "f1"
-packet = 12000
-arrival = { kind = "bucket", burst = 12000, rate = 10 }
-path = ["s1:1"]
-
-[[flow]]
-name = "f2"
-packet = 6000
-arrival = { kind = "bucket", burst = 6000, rate = 5 }
-path = ["s1:0"]
-"#,
+                    "[[server]]\nname = \"s1\"\nrate = 100\nservice = { kind = \"latency\", latency = 10 }\ndiscipline = \"priority\"\nqueues = 2\n\n[[flow]]\nname = \"f1\"\npacket = 12000\narrival = { kind = \"bucket\", burst = 12000, rate = 10 }\npath = [\"s1:1\"]\n\n[[flow]]\nname = \"f2\"\npacket = 6000\narrival = { kind = \"bucket\", burst = 6000, rate = 5 }\npath = [\"s1:0\"]\n",
                 ),
                 (
                     "r.csv",
-                    r#"enter,0,f1,12000
-enter,0,f2,6000
-work,s1,1,0,60,6000
-leave,60,s1,1
-work,s1,0,60,180,12000
-leave,180,s1,0
-end,180
-"#,
+                    "enter,0,f1,12000\nenter,0,f2,6000\nwork,s1,1,0,60,6000\nleave,60,s1,1\nwork,s1,0,60,180,12000\nleave,180,s1,0\nend,180\n",
                 ),
             ],
             0,
-            r#"servers 1 flows 2
-run packets 2 end 180
-worst f1 180 bound 200
-worst f2 60 bound 190
-peak s1 0 6000 bound 6950
-peak s1 1 12000 bound 14000
-verdict admissible
-"#,
+            "servers 1 flows 2\nrun packets 2 end 180\nworst f1 180 bound 200\nworst f2 60 bound 190\npeak s1 0 6000 bound 6950\npeak s1 1 12000 bound 14000\nverdict admissible\n",
         ),
         // too_little_work
         (
@@ -1802,34 +794,15 @@ verdict admissible
             &[
                 (
                     "n.toml",
-                    r#"[[server]]
-name = "s1"
-rate = 100
-service = { kind = "latency", latency = 10 }
-
-[[flow]]
-name = "f1"
-packet = 12000
-arrival = { kind = "bucket", burst = 12000, rate = 10 }
-path = ["s1"]
-"#,
+                    "[[server]]\nname = \"s1\"\nrate = 100\nservice = { kind = \"latency\", latency = 10 }\n\n[[flow]]\nname = \"f1\"\npacket = 12000\narrival = { kind = \"bucket\", burst = 12000, rate = 10 }\npath = [\"s1\"]\n",
                 ),
                 (
                     "r.csv",
-                    r#"enter,0,f1,12000
-work,s1,0,20,140,12000
-leave,140,s1,0
-end,140
-"#,
+                    "enter,0,f1,12000\nwork,s1,0,20,140,12000\nleave,140,s1,0\nend,140\n",
                 ),
             ],
             9,
-            r#"servers 1 flows 1
-run packets 1 end 140
-worst f1 140 bound 130
-peak s1 0 12000 bound 13300
-verdict breach service s1 0 20
-"#,
+            "servers 1 flows 1\nrun packets 1 end 140\nworst f1 140 bound 130\npeak s1 0 12000 bound 13300\nverdict breach service s1 0 20\n",
         ),
         // two_hops_as_simulated
         (
@@ -1837,45 +810,15 @@ verdict breach service s1 0 20
             &[
                 (
                     "n.toml",
-                    r#"[[server]]
-name = "s1"
-rate = 100
-service = { kind = "latency", latency = 10 }
-link = 5
-
-[[server]]
-name = "s2"
-rate = 100
-service = { kind = "latency", latency = 10 }
-link = 5
-
-[[flow]]
-name = "f1"
-packet = 12000
-arrival = { kind = "bucket", burst = 12000, rate = 10 }
-path = ["s1", "s2"]
-"#,
+                    "[[server]]\nname = \"s1\"\nrate = 100\nservice = { kind = \"latency\", latency = 10 }\nlink = 5\n\n[[server]]\nname = \"s2\"\nrate = 100\nservice = { kind = \"latency\", latency = 10 }\nlink = 5\n\n[[flow]]\nname = \"f1\"\npacket = 12000\narrival = { kind = \"bucket\", burst = 12000, rate = 10 }\npath = [\"s1\", \"s2\"]\n",
                 ),
                 (
                     "r.csv",
-                    r#"enter,0,f1,12000
-work,s1,0,0,120,12000
-leave,120,s1,0
-reach,125,s2,0
-work,s2,0,125,245,12000
-leave,245,s2,0
-end,245
-"#,
+                    "enter,0,f1,12000\nwork,s1,0,0,120,12000\nleave,120,s1,0\nreach,125,s2,0\nwork,s2,0,125,245,12000\nleave,245,s2,0\nend,245\n",
                 ),
             ],
             0,
-            r#"servers 2 flows 1
-run packets 1 end 245
-worst f1 250 bound 270
-peak s1 0 12000 bound 13300
-peak s2 0 12000 bound 14600
-verdict admissible
-"#,
+            "servers 2 flows 1\nrun packets 1 end 245\nworst f1 250 bound 270\npeak s1 0 12000 bound 13300\npeak s2 0 12000 bound 14600\nverdict admissible\n",
         ),
         // two_packets_at_once
         (
@@ -1883,33 +826,12 @@ verdict admissible
             &[
                 (
                     "n.toml",
-                    r#"[[server]]
-name = "s1"
-rate = 100
-service = { kind = "latency", latency = 10 }
-
-[[flow]]
-name = "f1"
-packet = 12000
-arrival = { kind = "bucket", burst = 12000, rate = 10 }
-path = ["s1"]
-"#,
+                    "[[server]]\nname = \"s1\"\nrate = 100\nservice = { kind = \"latency\", latency = 10 }\n\n[[flow]]\nname = \"f1\"\npacket = 12000\narrival = { kind = \"bucket\", burst = 12000, rate = 10 }\npath = [\"s1\"]\n",
                 ),
-                (
-                    "r.csv",
-                    r#"enter,0,f1,12000
-enter,0,f1,12000
-end,0
-"#,
-                ),
+                ("r.csv", "enter,0,f1,12000\nenter,0,f1,12000\nend,0\n"),
             ],
             9,
-            r#"servers 1 flows 1
-run packets 2 end 0
-worst f1 0 bound 130
-peak s1 0 24000 bound 13300
-verdict breach arrival f1 0 1
-"#,
+            "servers 1 flows 1\nrun packets 2 end 0\nworst f1 0 bound 130\npeak s1 0 24000 bound 13300\nverdict breach arrival f1 0 1\n",
         ),
         // work_as_fast_in_version_1
         (
@@ -1917,34 +839,15 @@ verdict breach arrival f1 0 1
             &[
                 (
                     "n.toml",
-                    r#"[[server]]
-name = "s1"
-rate = 100
-service = { kind = "latency", latency = 10 }
-
-[[flow]]
-name = "f1"
-packet = 12000
-arrival = { kind = "bucket", burst = 12000, rate = 10 }
-path = ["s1"]
-"#,
+                    "[[server]]\nname = \"s1\"\nrate = 100\nservice = { kind = \"latency\", latency = 10 }\n\n[[flow]]\nname = \"f1\"\npacket = 12000\narrival = { kind = \"bucket\", burst = 12000, rate = 10 }\npath = [\"s1\"]\n",
                 ),
                 (
                     "r.csv",
-                    r#"enter,0,f1,12000
-work,s1,0,0,60,12000
-leave,60,s1,0
-end,60
-"#,
+                    "enter,0,f1,12000\nwork,s1,0,0,60,12000\nleave,60,s1,0\nend,60\n",
                 ),
             ],
             0,
-            r#"servers 1 flows 1
-run packets 1 end 60
-worst f1 60 bound 130
-peak s1 0 12000 bound 13300
-verdict admissible
-"#,
+            "servers 1 flows 1\nrun packets 1 end 60\nworst f1 60 bound 130\npeak s1 0 12000 bound 13300\nverdict admissible\n",
         ),
         // work_at_the_rate_in_version_2
         (
@@ -1952,37 +855,15 @@ verdict admissible
             &[
                 (
                     "n.toml",
-                    r#"version = 2
-
-[[server]]
-name = "s1"
-rate = 100
-service = { kind = "latency", latency = 10 }
-
-[[flow]]
-name = "f1"
-packet = 12000
-arrival = { kind = "bucket", burst = 12000, rate = 10 }
-path = ["s1"]
-"#,
+                    "version = 2\n\n[[server]]\nname = \"s1\"\nrate = 100\nservice = { kind = \"latency\", latency = 10 }\n\n[[flow]]\nname = \"f1\"\npacket = 12000\narrival = { kind = \"bucket\", burst = 12000, rate = 10 }\npath = [\"s1\"]\n",
                 ),
                 (
                     "r.csv",
-                    r#"enter,0,f1,12000
-work,s1,0,10,70,6000
-work,s1,0,70,130,6000
-leave,130,s1,0
-end,130
-"#,
+                    "enter,0,f1,12000\nwork,s1,0,10,70,6000\nwork,s1,0,70,130,6000\nleave,130,s1,0\nend,130\n",
                 ),
             ],
             0,
-            r#"servers 1 flows 1
-run packets 1 end 130
-worst f1 130 bound 130
-peak s1 0 12000 bound 13300
-verdict admissible
-"#,
+            "servers 1 flows 1\nrun packets 1 end 130\nworst f1 130 bound 130\npeak s1 0 12000 bound 13300\nverdict admissible\n",
         ),
         // work_faster_than_its_server
         (
@@ -1990,34 +871,15 @@ verdict admissible
             &[
                 (
                     "n.toml",
-                    r#"version = 2
-
-[[server]]
-name = "s1"
-rate = 100
-service = { kind = "latency", latency = 10 }
-
-[[flow]]
-name = "f1"
-packet = 12000
-arrival = { kind = "bucket", burst = 12000, rate = 10 }
-path = ["s1"]
-"#,
+                    "version = 2\n\n[[server]]\nname = \"s1\"\nrate = 100\nservice = { kind = \"latency\", latency = 10 }\n\n[[flow]]\nname = \"f1\"\npacket = 12000\narrival = { kind = \"bucket\", burst = 12000, rate = 10 }\npath = [\"s1\"]\n",
                 ),
                 (
                     "r.csv",
-                    r#"enter,0,f1,12000
-work,s1,0,0,60,12000
-leave,60,s1,0
-end,60
-"#,
+                    "enter,0,f1,12000\nwork,s1,0,0,60,12000\nleave,60,s1,0\nend,60\n",
                 ),
             ],
             9,
-            r#"servers 1 flows 1
-run packets 1 end 60
-verdict unlawful row 2 L8
-"#,
+            "servers 1 flows 1\nrun packets 1 end 60\nverdict unlawful row 2 L8\n",
         ),
         // work_in_two_parts
         (
@@ -2025,35 +887,15 @@ verdict unlawful row 2 L8
             &[
                 (
                     "n.toml",
-                    r#"[[server]]
-name = "s1"
-rate = 100
-service = { kind = "latency", latency = 10 }
-
-[[flow]]
-name = "f1"
-packet = 12000
-arrival = { kind = "bucket", burst = 12000, rate = 10 }
-path = ["s1"]
-"#,
+                    "[[server]]\nname = \"s1\"\nrate = 100\nservice = { kind = \"latency\", latency = 10 }\n\n[[flow]]\nname = \"f1\"\npacket = 12000\narrival = { kind = \"bucket\", burst = 12000, rate = 10 }\npath = [\"s1\"]\n",
                 ),
                 (
                     "r.csv",
-                    r#"enter,0,f1,12000
-work,s1,0,10,70,6000
-work,s1,0,70,130,6000
-leave,130,s1,0
-end,130
-"#,
+                    "enter,0,f1,12000\nwork,s1,0,10,70,6000\nwork,s1,0,70,130,6000\nleave,130,s1,0\nend,130\n",
                 ),
             ],
             0,
-            r#"servers 1 flows 1
-run packets 1 end 130
-worst f1 130 bound 130
-peak s1 0 12000 bound 13300
-verdict admissible
-"#,
+            "servers 1 flows 1\nrun packets 1 end 130\nworst f1 130 bound 130\npeak s1 0 12000 bound 13300\nverdict admissible\n",
         ),
         // work_of_another_queue
         (
@@ -2061,41 +903,15 @@ verdict admissible
             &[
                 (
                     "n.toml",
-                    r#"[[server]]
-name = "s1"
-rate = 100
-service = { kind = "latency", latency = 10 }
-discipline = "drr"
-quanta = [12000, 6000]
-
-[[flow]]
-name = "f1"
-packet = 12000
-arrival = { kind = "bucket", burst = 12000, rate = 10 }
-path = ["s1:0"]
-
-[[flow]]
-name = "f2"
-packet = 6000
-arrival = { kind = "bucket", burst = 6000, rate = 5 }
-path = ["s1:1"]
-"#,
+                    "[[server]]\nname = \"s1\"\nrate = 100\nservice = { kind = \"latency\", latency = 10 }\ndiscipline = \"drr\"\nquanta = [12000, 6000]\n\n[[flow]]\nname = \"f1\"\npacket = 12000\narrival = { kind = \"bucket\", burst = 12000, rate = 10 }\npath = [\"s1:0\"]\n\n[[flow]]\nname = \"f2\"\npacket = 6000\narrival = { kind = \"bucket\", burst = 6000, rate = 5 }\npath = [\"s1:1\"]\n",
                 ),
                 (
                     "r.csv",
-                    r#"enter,0,f1,12000
-enter,0,f2,6000
-visit,0,s1,0
-work,s1,1,0,60,6000
-end,60
-"#,
+                    "enter,0,f1,12000\nenter,0,f2,6000\nvisit,0,s1,0\nwork,s1,1,0,60,6000\nend,60\n",
                 ),
             ],
             9,
-            r#"servers 1 flows 2
-run packets 2 end 60
-verdict unlawful row 4 L5
-"#,
+            "servers 1 flows 2\nrun packets 2 end 60\nverdict unlawful row 4 L5\n",
         ),
         // work_of_no_bits
         (
@@ -2103,31 +919,12 @@ verdict unlawful row 4 L5
             &[
                 (
                     "n.toml",
-                    r#"[[server]]
-name = "s1"
-rate = 100
-service = { kind = "latency", latency = 10 }
-
-[[flow]]
-name = "f1"
-packet = 12000
-arrival = { kind = "bucket", burst = 12000, rate = 10 }
-path = ["s1"]
-"#,
+                    "[[server]]\nname = \"s1\"\nrate = 100\nservice = { kind = \"latency\", latency = 10 }\n\n[[flow]]\nname = \"f1\"\npacket = 12000\narrival = { kind = \"bucket\", burst = 12000, rate = 10 }\npath = [\"s1\"]\n",
                 ),
-                (
-                    "r.csv",
-                    r#"enter,0,f1,12000
-work,s1,0,10,20,0
-end,20
-"#,
-                ),
+                ("r.csv", "enter,0,f1,12000\nwork,s1,0,10,20,0\nend,20\n"),
             ],
             9,
-            r#"servers 1 flows 1
-run packets 1 end 20
-verdict unlawful row 2 L4
-"#,
+            "servers 1 flows 1\nrun packets 1 end 20\nverdict unlawful row 2 L4\n",
         ),
         // work_past_the_end
         (
@@ -2135,31 +932,15 @@ verdict unlawful row 2 L4
             &[
                 (
                     "n.toml",
-                    r#"[[server]]
-name = "s1"
-rate = 100
-service = { kind = "latency", latency = 10 }
-
-[[flow]]
-name = "f1"
-packet = 12000
-arrival = { kind = "bucket", burst = 12000, rate = 10 }
-path = ["s1"]
-"#,
+                    "[[server]]\nname = \"s1\"\nrate = 100\nservice = { kind = \"latency\", latency = 10 }\n\n[[flow]]\nname = \"f1\"\npacket = 12000\narrival = { kind = \"bucket\", burst = 12000, rate = 10 }\npath = [\"s1\"]\n",
                 ),
                 (
                     "r.csv",
-                    r#"enter,0,f1,12000
-work,s1,0,10,130,12000
-end,100
-"#,
+                    "enter,0,f1,12000\nwork,s1,0,10,130,12000\nend,100\n",
                 ),
             ],
             9,
-            r#"servers 1 flows 1
-run packets 1 end 100
-verdict unlawful row 2 L1
-"#,
+            "servers 1 flows 1\nrun packets 1 end 100\nverdict unlawful row 2 L1\n",
         ),
         // work_that_overlaps
         (
@@ -2167,32 +948,15 @@ verdict unlawful row 2 L1
             &[
                 (
                     "n.toml",
-                    r#"[[server]]
-name = "s1"
-rate = 100
-service = { kind = "latency", latency = 10 }
-
-[[flow]]
-name = "f1"
-packet = 12000
-arrival = { kind = "bucket", burst = 12000, rate = 10 }
-path = ["s1"]
-"#,
+                    "[[server]]\nname = \"s1\"\nrate = 100\nservice = { kind = \"latency\", latency = 10 }\n\n[[flow]]\nname = \"f1\"\npacket = 12000\narrival = { kind = \"bucket\", burst = 12000, rate = 10 }\npath = [\"s1\"]\n",
                 ),
                 (
                     "r.csv",
-                    r#"enter,0,f1,12000
-work,s1,0,0,60,6000
-work,s1,0,59,119,6000
-end,119
-"#,
+                    "enter,0,f1,12000\nwork,s1,0,0,60,6000\nwork,s1,0,59,119,6000\nend,119\n",
                 ),
             ],
             9,
-            r#"servers 1 flows 1
-run packets 1 end 119
-verdict unlawful row 3 L4
-"#,
+            "servers 1 flows 1\nrun packets 1 end 119\nverdict unlawful row 3 L4\n",
         ),
         // work_that_takes_no_time
         (
@@ -2200,31 +964,12 @@ verdict unlawful row 3 L4
             &[
                 (
                     "n.toml",
-                    r#"[[server]]
-name = "s1"
-rate = 100
-service = { kind = "latency", latency = 10 }
-
-[[flow]]
-name = "f1"
-packet = 12000
-arrival = { kind = "bucket", burst = 12000, rate = 10 }
-path = ["s1"]
-"#,
+                    "[[server]]\nname = \"s1\"\nrate = 100\nservice = { kind = \"latency\", latency = 10 }\n\n[[flow]]\nname = \"f1\"\npacket = 12000\narrival = { kind = \"bucket\", burst = 12000, rate = 10 }\npath = [\"s1\"]\n",
                 ),
-                (
-                    "r.csv",
-                    r#"enter,0,f1,12000
-work,s1,0,10,10,12000
-end,10
-"#,
-                ),
+                ("r.csv", "enter,0,f1,12000\nwork,s1,0,10,10,12000\nend,10\n"),
             ],
             9,
-            r#"servers 1 flows 1
-run packets 1 end 10
-verdict unlawful row 2 L4
-"#,
+            "servers 1 flows 1\nrun packets 1 end 10\nverdict unlawful row 2 L4\n",
         ),
         // work_without_a_visit
         (
@@ -2232,39 +977,15 @@ verdict unlawful row 2 L4
             &[
                 (
                     "n.toml",
-                    r#"[[server]]
-name = "s1"
-rate = 100
-service = { kind = "latency", latency = 10 }
-discipline = "drr"
-quanta = [12000, 6000]
-
-[[flow]]
-name = "f1"
-packet = 12000
-arrival = { kind = "bucket", burst = 12000, rate = 10 }
-path = ["s1:0"]
-
-[[flow]]
-name = "f2"
-packet = 6000
-arrival = { kind = "bucket", burst = 6000, rate = 5 }
-path = ["s1:1"]
-"#,
+                    "[[server]]\nname = \"s1\"\nrate = 100\nservice = { kind = \"latency\", latency = 10 }\ndiscipline = \"drr\"\nquanta = [12000, 6000]\n\n[[flow]]\nname = \"f1\"\npacket = 12000\narrival = { kind = \"bucket\", burst = 12000, rate = 10 }\npath = [\"s1:0\"]\n\n[[flow]]\nname = \"f2\"\npacket = 6000\narrival = { kind = \"bucket\", burst = 6000, rate = 5 }\npath = [\"s1:1\"]\n",
                 ),
                 (
                     "r.csv",
-                    r#"enter,0,f1,12000
-work,s1,0,0,120,12000
-end,120
-"#,
+                    "enter,0,f1,12000\nwork,s1,0,0,120,12000\nend,120\n",
                 ),
             ],
             9,
-            r#"servers 1 flows 2
-run packets 1 end 120
-verdict unlawful row 2 L5
-"#,
+            "servers 1 flows 2\nrun packets 1 end 120\nverdict unlawful row 2 L5\n",
         ),
     ];
     for (line, files, status, wanted) in rows {
@@ -2280,12 +1001,7 @@ fn curves(rt: HostRuntime) -> Result<(), Fail> {
         // a_bucket_that_falls
         (
             "netcalc curve s.curve",
-            &[(
-                "s.curve",
-                r#"rate zero
-show bucket(1, -1)
-"#,
-            )],
+            &[("s.curve", "rate zero\nshow bucket(1, -1)\n")],
             1,
             "netcalc: s.curve: C7 line 2\n",
         ),
@@ -2316,24 +1032,14 @@ show bucket(1, -1)
         // a_line_is_read_before_any_is_answered
         (
             "netcalc curve s.curve",
-            &[(
-                "s.curve",
-                r#"value x at 1
-show bucket(1)
-"#,
-            )],
+            &[("s.curve", "value x at 1\nshow bucket(1)\n")],
             1,
             "netcalc: s.curve: C2 line 2\n",
         ),
         // a_name_given_twice
         (
             "netcalc curve s.curve",
-            &[(
-                "s.curve",
-                r#"let a = zero
-let a = zero
-"#,
-            )],
+            &[("s.curve", "let a = zero\nlet a = zero\n")],
             1,
             "netcalc: s.curve: C5 line 2\n",
         ),
@@ -2356,9 +1062,7 @@ let a = zero
             "netcalc curve s.curve",
             &[(
                 "s.curve",
-                r#"rate zero
-show sum(stair(1, 1000003, 0), stair(1, 999983, 0))
-"#,
+                "rate zero\nshow sum(stair(1, 1000003, 0), stair(1, 999983, 0))\n",
             )],
             7,
             "netcalc: too many: line 2\n",
@@ -2368,47 +1072,10 @@ show sum(stair(1, 1000003, 0), stair(1, 999983, 0))
             "netcalc curve s.curve",
             &[(
                 "s.curve",
-                r#"# A delay bound as in a textbook, in microseconds and bits. A flow has a burst of 12000 bits and 10 bits a microsecond,
-# and crosses two servers: 100 bits a microsecond after at most 10, then 50 bits a microsecond after at most 20.
-let flow = bucket(12000, 10)
-let first = latency(100, 10)
-let second = latency(50, 20)
-
-# Hop by hop: the delay at the first server, what comes out of it, and its delay at the second. 130 and 262 make 392.
-delay flow, first
-let between = deconv(flow, first)
-equal between, bucket(12100, 10)
-delay between, second
-
-# As one server: the two are a server of the lesser rate after both latencies, and the flow pays its burst only once.
-let both = conv(first, second)
-equal both, latency(50, 30)
-delay flow, both
-backlog flow, both
-show both
-
-# A second flow takes its part of the first server, which serves it first. This flow has what is left.
-let other = bucket(2000, 10)
-let left = posdiff(first, other)
-equal left, latency(90, 100/3)
-delay flow, left
-delay flow, conv(left, second)
-"#,
+                "# A delay bound as in a textbook, in microseconds and bits. A flow has a burst of 12000 bits and 10 bits a microsecond,\n# and crosses two servers: 100 bits a microsecond after at most 10, then 50 bits a microsecond after at most 20.\nlet flow = bucket(12000, 10)\nlet first = latency(100, 10)\nlet second = latency(50, 20)\n\n# Hop by hop: the delay at the first server, what comes out of it, and its delay at the second. 130 and 262 make 392.\ndelay flow, first\nlet between = deconv(flow, first)\nequal between, bucket(12100, 10)\ndelay between, second\n\n# As one server: the two are a server of the lesser rate after both latencies, and the flow pays its burst only once.\nlet both = conv(first, second)\nequal both, latency(50, 30)\ndelay flow, both\nbacklog flow, both\nshow both\n\n# A second flow takes its part of the first server, which serves it first. This flow has what is left.\nlet other = bucket(2000, 10)\nlet left = posdiff(first, other)\nequal left, latency(90, 100/3)\ndelay flow, left\ndelay flow, conv(left, second)\n",
             )],
             0,
-            r#"delay 130
-equal true
-delay 262
-equal true
-delay 270
-backlog 12300
-piece 0 at 0 after 0 slope 0
-piece 30 at 0 after 0 slope 50
-tail affine 30
-equal true
-delay 500/3
-delay 880/3
-"#,
+            "delay 130\nequal true\ndelay 262\nequal true\ndelay 270\nbacklog 12300\npiece 0 at 0 after 0 slope 0\npiece 30 at 0 after 0 slope 50\ntail affine 30\nequal true\ndelay 500/3\ndelay 880/3\n",
         ),
         // a_value_too_wide
         (
@@ -2427,25 +1094,10 @@ delay 880/3
             "netcalc curve s.curve",
             &[(
                 "s.curve",
-                r#"let a = bucket(12000, 10)
-let b = latency(100, 10)
-delay a, b
-backlog a, posminus(b, 12000)
-value conv(b, latency(100, 130)) at 150
-equal deconv(a, latency(100, 130)), bucket(13300, 10)
-below stair(1, 2, 0), bucket(1, 1/2)
-show stair(1, 2, 0)
-"#,
+                "let a = bucket(12000, 10)\nlet b = latency(100, 10)\ndelay a, b\nbacklog a, posminus(b, 12000)\nvalue conv(b, latency(100, 130)) at 150\nequal deconv(a, latency(100, 130)), bucket(13300, 10)\nbelow stair(1, 2, 0), bucket(1, 1/2)\nshow stair(1, 2, 0)\n",
             )],
             0,
-            r#"delay 130
-backlog 13300
-value 1000
-equal true
-below true
-piece 0 at 1 after 1 slope 0
-tail periodic 0 2 1
-"#,
+            "delay 130\nbacklog 13300\nvalue 1000\nequal true\nbelow true\npiece 0 at 1 after 1 slope 0\ntail periodic 0 2 1\n",
         ),
         // parentheses_64_deep
         (
@@ -2480,14 +1132,7 @@ tail periodic 0 2 1
         // skipped_lines_count
         (
             "netcalc curve s.curve",
-            &[(
-                "s.curve",
-                r#"# one
-
-rate bucket(1, 2)
-value x at 1
-"#,
-            )],
+            &[("s.curve", "# one\n\nrate bucket(1, 2)\nvalue x at 1\n")],
             1,
             "netcalc: s.curve: C6 line 4\n",
         ),
@@ -2507,62 +1152,20 @@ fn disciplines(rt: HostRuntime) -> Result<(), Fail> {
             "netcalc analyse n.toml",
             &[(
                 "n.toml",
-                r#"[[server]]
-name = "s1"
-rate = 100
-service = { kind = "latency", latency = 10 }
-discipline = "drr"
-quanta = [12000, 6000]
-[[flow]]
-name = "f1"
-packet = 12000
-arrival = { kind = "bucket", burst = 12000, rate = 10 }
-path = ["s1:0"]
-[[flow]]
-name = "f2"
-packet = 6000
-arrival = { kind = "bucket", burst = 6000, rate = 5 }
-path = ["s1:1"]
-"#,
+                "[[server]]\nname = \"s1\"\nrate = 100\nservice = { kind = \"latency\", latency = 10 }\ndiscipline = \"drr\"\nquanta = [12000, 6000]\n[[flow]]\nname = \"f1\"\npacket = 12000\narrival = { kind = \"bucket\", burst = 12000, rate = 10 }\npath = [\"s1:0\"]\n[[flow]]\nname = \"f2\"\npacket = 6000\narrival = { kind = \"bucket\", burst = 6000, rate = 5 }\npath = [\"s1:1\"]\n",
             )],
             0,
-            r#"servers 1 flows 2
-queue s1 0 delay 370 backlog 15700
-queue s1 1 delay 550 backlog 8750
-flow f1 tfa 370 sfa 370 bound 370
-flow f2 tfa 550 sfa 550 bound 550
-"#,
+            "servers 1 flows 2\nqueue s1 0 delay 370 backlog 15700\nqueue s1 1 delay 550 backlog 8750\nflow f1 tfa 370 sfa 370 bound 370\nflow f2 tfa 550 sfa 550 bound 550\n",
         ),
         // two_priorities
         (
             "netcalc analyse n.toml",
             &[(
                 "n.toml",
-                r#"[[server]]
-name = "s1"
-rate = 100
-service = { kind = "latency", latency = 10 }
-discipline = "priority"
-queues = 2
-[[flow]]
-name = "f1"
-packet = 12000
-arrival = { kind = "bucket", burst = 12000, rate = 10 }
-path = ["s1:1"]
-[[flow]]
-name = "f2"
-packet = 6000
-arrival = { kind = "bucket", burst = 6000, rate = 5 }
-path = ["s1:0"]
-"#,
+                "[[server]]\nname = \"s1\"\nrate = 100\nservice = { kind = \"latency\", latency = 10 }\ndiscipline = \"priority\"\nqueues = 2\n[[flow]]\nname = \"f1\"\npacket = 12000\narrival = { kind = \"bucket\", burst = 12000, rate = 10 }\npath = [\"s1:1\"]\n[[flow]]\nname = \"f2\"\npacket = 6000\narrival = { kind = \"bucket\", burst = 6000, rate = 5 }\npath = [\"s1:0\"]\n",
             )],
             0,
-            r#"servers 1 flows 2
-queue s1 0 delay 190 backlog 6950
-queue s1 1 delay 200 backlog 14000
-flow f1 tfa 200 sfa 200 bound 200
-flow f2 tfa 190 sfa 190 bound 190
-"#,
+            "servers 1 flows 2\nqueue s1 0 delay 190 backlog 6950\nqueue s1 1 delay 200 backlog 14000\nflow f1 tfa 200 sfa 200 bound 200\nflow f2 tfa 190 sfa 190 bound 190\n",
         ),
     ];
     for (line, files, status, wanted) in rows {
@@ -2582,16 +1185,7 @@ fn edit_faults(rt: HostRuntime) -> Result<(), Fail> {
                 ("e.csv", "undo\nrate,s1,2\t\n"),
                 (
                     "n.toml",
-                    r#"[[server]]
-name = "s1"
-rate = 100
-service = { kind = "latency", latency = 10 }
-[[flow]]
-name = "f1"
-packet = 12000
-arrival = { kind = "bucket", burst = 12000, rate = 10 }
-path = ["s1"]
-"#,
+                    "[[server]]\nname = \"s1\"\nrate = 100\nservice = { kind = \"latency\", latency = 10 }\n[[flow]]\nname = \"f1\"\npacket = 12000\narrival = { kind = \"bucket\", burst = 12000, rate = 10 }\npath = [\"s1\"]\n",
                 ),
             ],
             1,
@@ -2604,25 +1198,7 @@ path = ["s1"]
                 ("e.csv", "undo\n"),
                 (
                     "n.toml",
-                    r#"[[server]]
-name = "s1"
-rate = 100
-service = { kind = "latency", latency = 10 }
-[[server]]
-name = "s2"
-rate = 100
-service = { kind = "latency", latency = 10 }
-[[flow]]
-name = "f1"
-packet = 12000
-arrival = { kind = "bucket", burst = 12000, rate = 10 }
-path = ["s1", "s2"]
-[[flow]]
-name = "f2"
-packet = 6000
-arrival = { kind = "bucket", burst = 6000, rate = 5 }
-path = ["s2", "s1"]
-"#,
+                    "[[server]]\nname = \"s1\"\nrate = 100\nservice = { kind = \"latency\", latency = 10 }\n[[server]]\nname = \"s2\"\nrate = 100\nservice = { kind = \"latency\", latency = 10 }\n[[flow]]\nname = \"f1\"\npacket = 12000\narrival = { kind = \"bucket\", burst = 12000, rate = 10 }\npath = [\"s1\", \"s2\"]\n[[flow]]\nname = \"f2\"\npacket = 6000\narrival = { kind = \"bucket\", burst = 6000, rate = 5 }\npath = [\"s2\", \"s1\"]\n",
                 ),
             ],
             8,
@@ -2635,21 +1211,7 @@ path = ["s2", "s1"]
                 ("e.csv", "drop,f2\n"),
                 (
                     "n.toml",
-                    r#"[[server]]
-name = "s1"
-rate = 100
-service = { kind = "latency", latency = 10 }
-[[flow]]
-name = "f1"
-packet = 12000
-arrival = { kind = "bucket", burst = 12000, rate = "1/1180591620717411303424" }
-path = ["s1"]
-[[flow]]
-name = "f2"
-packet = 6000
-arrival = { kind = "bucket", burst = 6000, rate = "1/1180591620717411303425" }
-path = ["s1"]
-"#,
+                    "[[server]]\nname = \"s1\"\nrate = 100\nservice = { kind = \"latency\", latency = 10 }\n[[flow]]\nname = \"f1\"\npacket = 12000\narrival = { kind = \"bucket\", burst = 12000, rate = \"1/1180591620717411303424\" }\npath = [\"s1\"]\n[[flow]]\nname = \"f2\"\npacket = 6000\narrival = { kind = \"bucket\", burst = 6000, rate = \"1/1180591620717411303425\" }\npath = [\"s1\"]\n",
                 ),
             ],
             6,
@@ -2669,16 +1231,7 @@ path = ["s1"]
                 ("e.csv", "route,f1,s1  s1\n"),
                 (
                     "n.toml",
-                    r#"[[server]]
-name = "s1"
-rate = 100
-service = { kind = "latency", latency = 10 }
-[[flow]]
-name = "f1"
-packet = 12000
-arrival = { kind = "bucket", burst = 12000, rate = 10 }
-path = ["s1"]
-"#,
+                    "[[server]]\nname = \"s1\"\nrate = 100\nservice = { kind = \"latency\", latency = 10 }\n[[flow]]\nname = \"f1\"\npacket = 12000\narrival = { kind = \"bucket\", burst = 12000, rate = 10 }\npath = [\"s1\"]\n",
                 ),
             ],
             1,
@@ -2691,16 +1244,7 @@ path = ["s1"]
                 ("e.csv", "quantum,s1,0,1/2\n"),
                 (
                     "n.toml",
-                    r#"[[server]]
-name = "s1"
-rate = 100
-service = { kind = "latency", latency = 10 }
-[[flow]]
-name = "f1"
-packet = 12000
-arrival = { kind = "bucket", burst = 12000, rate = 10 }
-path = ["s1"]
-"#,
+                    "[[server]]\nname = \"s1\"\nrate = 100\nservice = { kind = \"latency\", latency = 10 }\n[[flow]]\nname = \"f1\"\npacket = 12000\narrival = { kind = \"bucket\", burst = 12000, rate = 10 }\npath = [\"s1\"]\n",
                 ),
             ],
             1,
@@ -2713,16 +1257,7 @@ path = ["s1"]
                 ("e.csv", "paint,s1\n"),
                 (
                     "n.toml",
-                    r#"[[server]]
-name = "s1"
-rate = 100
-service = { kind = "latency", latency = 10 }
-[[flow]]
-name = "f1"
-packet = 12000
-arrival = { kind = "bucket", burst = 12000, rate = 10 }
-path = ["s1"]
-"#,
+                    "[[server]]\nname = \"s1\"\nrate = 100\nservice = { kind = \"latency\", latency = 10 }\n[[flow]]\nname = \"f1\"\npacket = 12000\narrival = { kind = \"bucket\", burst = 12000, rate = 10 }\npath = [\"s1\"]\n",
                 ),
             ],
             1,
@@ -2735,25 +1270,7 @@ path = ["s1"]
                 ("e.csv", "paint\n"),
                 (
                     "n.toml",
-                    r#"[[server]]
-name = "s1"
-rate = 100
-service = { kind = "latency", latency = 10 }
-[[server]]
-name = "s2"
-rate = 100
-service = { kind = "latency", latency = 10 }
-[[flow]]
-name = "f1"
-packet = 12000
-arrival = { kind = "bucket", burst = 12000, rate = 10 }
-path = ["s1", "s2"]
-[[flow]]
-name = "f2"
-packet = 6000
-arrival = { kind = "bucket", burst = 6000, rate = 5 }
-path = ["s2", "s1"]
-"#,
+                    "[[server]]\nname = \"s1\"\nrate = 100\nservice = { kind = \"latency\", latency = 10 }\n[[server]]\nname = \"s2\"\nrate = 100\nservice = { kind = \"latency\", latency = 10 }\n[[flow]]\nname = \"f1\"\npacket = 12000\narrival = { kind = \"bucket\", burst = 12000, rate = 10 }\npath = [\"s1\", \"s2\"]\n[[flow]]\nname = \"f2\"\npacket = 6000\narrival = { kind = \"bucket\", burst = 6000, rate = 5 }\npath = [\"s2\", \"s1\"]\n",
                 ),
             ],
             1,
@@ -2766,16 +1283,7 @@ path = ["s2", "s1"]
                 ("e.csv", "rate,s1\n"),
                 (
                     "n.toml",
-                    r#"[[server]]
-name = "s1"
-rate = 100
-service = { kind = "latency", latency = 10 }
-[[flow]]
-name = "f1"
-packet = 12000
-arrival = { kind = "bucket", burst = 12000, rate = 10 }
-path = ["s1"]
-"#,
+                    "[[server]]\nname = \"s1\"\nrate = 100\nservice = { kind = \"latency\", latency = 10 }\n[[flow]]\nname = \"f1\"\npacket = 12000\narrival = { kind = \"bucket\", burst = 12000, rate = 10 }\npath = [\"s1\"]\n",
                 ),
             ],
             1,
@@ -2788,16 +1296,7 @@ path = ["s1"]
                 ("e.csv", "undo,s1\n"),
                 (
                     "n.toml",
-                    r#"[[server]]
-name = "s1"
-rate = 100
-service = { kind = "latency", latency = 10 }
-[[flow]]
-name = "f1"
-packet = 12000
-arrival = { kind = "bucket", burst = 12000, rate = 10 }
-path = ["s1"]
-"#,
+                    "[[server]]\nname = \"s1\"\nrate = 100\nservice = { kind = \"latency\", latency = 10 }\n[[flow]]\nname = \"f1\"\npacket = 12000\narrival = { kind = \"bucket\", burst = 12000, rate = 10 }\npath = [\"s1\"]\n",
                 ),
             ],
             1,
@@ -2807,25 +1306,10 @@ path = ["s1"]
         (
             "netcalc edit n.toml e.csv",
             &[
-                (
-                    "e.csv",
-                    r#"undo
-
-rate,s1,1/0
-"#,
-                ),
+                ("e.csv", "undo\n\nrate,s1,1/0\n"),
                 (
                     "n.toml",
-                    r#"[[server]]
-name = "s1"
-rate = 100
-service = { kind = "latency", latency = 10 }
-[[flow]]
-name = "f1"
-packet = 12000
-arrival = { kind = "bucket", burst = 12000, rate = 10 }
-path = ["s1"]
-"#,
+                    "[[server]]\nname = \"s1\"\nrate = 100\nservice = { kind = \"latency\", latency = 10 }\n[[flow]]\nname = \"f1\"\npacket = 12000\narrival = { kind = \"bucket\", burst = 12000, rate = 10 }\npath = [\"s1\"]\n",
                 ),
             ],
             1,
@@ -2838,16 +1322,7 @@ path = ["s1"]
                 ("e.csv", "route,f1,\n"),
                 (
                     "n.toml",
-                    r#"[[server]]
-name = "s1"
-rate = 100
-service = { kind = "latency", latency = 10 }
-[[flow]]
-name = "f1"
-packet = 12000
-arrival = { kind = "bucket", burst = 12000, rate = 10 }
-path = ["s1"]
-"#,
+                    "[[server]]\nname = \"s1\"\nrate = 100\nservice = { kind = \"latency\", latency = 10 }\n[[flow]]\nname = \"f1\"\npacket = 12000\narrival = { kind = \"bucket\", burst = 12000, rate = 10 }\npath = [\"s1\"]\n",
                 ),
             ],
             1,
@@ -2865,16 +1340,7 @@ path = ["s1"]
             "netcalc edit n.toml e.csv",
             &[(
                 "n.toml",
-                r#"[[server]]
-name = "s1"
-rate = 100
-service = { kind = "latency", latency = 10 }
-[[flow]]
-name = "f1"
-packet = 12000
-arrival = { kind = "bucket", burst = 12000, rate = 10 }
-path = ["s1"]
-"#,
+                "[[server]]\nname = \"s1\"\nrate = 100\nservice = { kind = \"latency\", latency = 10 }\n[[flow]]\nname = \"f1\"\npacket = 12000\narrival = { kind = \"bucket\", burst = 12000, rate = 10 }\npath = [\"s1\"]\n",
             )],
             3,
             "netcalc: cannot read e.csv\n",
@@ -2900,24 +1366,11 @@ fn edits(rt: HostRuntime) -> Result<(), Fail> {
                 ),
                 (
                     "n.toml",
-                    r#"[[server]]
-name = "s1"
-rate = 100
-service = { kind = "latency", latency = 10 }
-[[flow]]
-name = "f1"
-packet = 12000
-arrival = { kind = "bucket", burst = 12000, rate = 10 }
-path = ["s1"]
-"#,
+                    "[[server]]\nname = \"s1\"\nrate = 100\nservice = { kind = \"latency\", latency = 10 }\n[[flow]]\nname = \"f1\"\npacket = 12000\narrival = { kind = \"bucket\", burst = 12000, rate = 10 }\npath = [\"s1\"]\n",
                 ),
             ],
             0,
-            r#"edit 1 refused too-wide queue-delay s1 0
-servers 1 flows 1
-queue s1 0 delay 130 backlog 13300
-flow f1 tfa 130 sfa 130 bound 130
-"#,
+            "edit 1 refused too-wide queue-delay s1 0\nservers 1 flows 1\nqueue s1 0 delay 130 backlog 13300\nflow f1 tfa 130 sfa 130 bound 130\n",
         ),
         // a_cell_with_too_many_pieces
         (
@@ -2925,41 +1378,15 @@ flow f1 tfa 130 sfa 130 bound 130
             &[
                 (
                     "e.csv",
-                    r#"packet,f1,1
-stair,f1,1000,0
-add,f2,1,1,0,s1
-stair,f2,1000001/1000,0
-undo
-undo
-undo
-"#,
+                    "packet,f1,1\nstair,f1,1000,0\nadd,f2,1,1,0,s1\nstair,f2,1000001/1000,0\nundo\nundo\nundo\n",
                 ),
                 (
                     "n.toml",
-                    r#"[[server]]
-name = "s1"
-rate = 100
-service = { kind = "latency", latency = 10 }
-[[flow]]
-name = "f1"
-packet = 12000
-arrival = { kind = "bucket", burst = 12000, rate = 10 }
-path = ["s1"]
-"#,
+                    "[[server]]\nname = \"s1\"\nrate = 100\nservice = { kind = \"latency\", latency = 10 }\n[[flow]]\nname = \"f1\"\npacket = 12000\narrival = { kind = \"bucket\", burst = 12000, rate = 10 }\npath = [\"s1\"]\n",
                 ),
             ],
             0,
-            r#"edit 1 ok cells 1
-edit 2 ok cells 8
-edit 3 ok cells 20
-edit 4 refused too-many total s1 0
-edit 5 ok cells 0
-edit 6 ok cells 0
-edit 7 ok cells 0
-servers 1 flows 1
-queue s1 0 delay 130 backlog 13300
-flow f1 tfa 130 sfa 130 bound 130
-"#,
+            "edit 1 ok cells 1\nedit 2 ok cells 8\nedit 3 ok cells 20\nedit 4 refused too-many total s1 0\nedit 5 ok cells 0\nedit 6 ok cells 0\nedit 7 ok cells 0\nservers 1 flows 1\nqueue s1 0 delay 130 backlog 13300\nflow f1 tfa 130 sfa 130 bound 130\n",
         ),
         // a_curve_that_is_too_wide
         (
@@ -2967,33 +1394,15 @@ flow f1 tfa 130 sfa 130 bound 130
             &[
                 (
                     "e.csv",
-                    r#"stair,f1,1/1329227995784915872903807060280344576,0
-rate,s1,1/1329227995784915872903807060280344577
-latency,s1,1/1329227995784915872903807060280344577
-"#,
+                    "stair,f1,1/1329227995784915872903807060280344576,0\nrate,s1,1/1329227995784915872903807060280344577\nlatency,s1,1/1329227995784915872903807060280344577\n",
                 ),
                 (
                     "n.toml",
-                    r#"[[server]]
-name = "s1"
-rate = 100
-service = { kind = "latency", latency = 10 }
-[[flow]]
-name = "f1"
-packet = 12000
-arrival = { kind = "bucket", burst = 12000, rate = 10 }
-path = ["s1"]
-"#,
+                    "[[server]]\nname = \"s1\"\nrate = 100\nservice = { kind = \"latency\", latency = 10 }\n[[flow]]\nname = \"f1\"\npacket = 12000\narrival = { kind = \"bucket\", burst = 12000, rate = 10 }\npath = [\"s1\"]\n",
                 ),
             ],
             0,
-            r#"edit 1 refused too-wide in f1 0
-edit 2 refused too-wide queue-service s1 0
-edit 3 refused too-wide queue-service s1 0
-servers 1 flows 1
-queue s1 0 delay 130 backlog 13300
-flow f1 tfa 130 sfa 130 bound 130
-"#,
+            "edit 1 refused too-wide in f1 0\nedit 2 refused too-wide queue-service s1 0\nedit 3 refused too-wide queue-service s1 0\nservers 1 flows 1\nqueue s1 0 delay 130 backlog 13300\nflow f1 tfa 130 sfa 130 bound 130\n",
         ),
         // a_dropped_flow_and_its_name
         (
@@ -3001,35 +1410,15 @@ flow f1 tfa 130 sfa 130 bound 130
             &[
                 (
                     "e.csv",
-                    r#"drop,f1
-bucket,f1,1,1
-drop,f1
-add,f1,12000,12000,10,s1
-"#,
+                    "drop,f1\nbucket,f1,1,1\ndrop,f1\nadd,f1,12000,12000,10,s1\n",
                 ),
                 (
                     "n.toml",
-                    r#"[[server]]
-name = "s1"
-rate = 100
-service = { kind = "latency", latency = 10 }
-[[flow]]
-name = "f1"
-packet = 12000
-arrival = { kind = "bucket", burst = 12000, rate = 10 }
-path = ["s1"]
-"#,
+                    "[[server]]\nname = \"s1\"\nrate = 100\nservice = { kind = \"latency\", latency = 10 }\n[[flow]]\nname = \"f1\"\npacket = 12000\narrival = { kind = \"bucket\", burst = 12000, rate = 10 }\npath = [\"s1\"]\n",
                 ),
             ],
             0,
-            r#"edit 1 ok cells 3
-edit 2 refused unknown-name f1
-edit 3 refused unknown-name f1
-edit 4 ok cells 12
-servers 1 flows 1
-queue s1 0 delay 130 backlog 13300
-flow f1 tfa 130 sfa 130 bound 130
-"#,
+            "edit 1 ok cells 3\nedit 2 refused unknown-name f1\nedit 3 refused unknown-name f1\nedit 4 ok cells 12\nservers 1 flows 1\nqueue s1 0 delay 130 backlog 13300\nflow f1 tfa 130 sfa 130 bound 130\n",
         ),
         // a_flow_dropped
         (
@@ -3038,65 +1427,24 @@ flow f1 tfa 130 sfa 130 bound 130
                 ("e.csv", "drop,f1\n"),
                 (
                     "n.toml",
-                    r#"[[server]]
-name = "s1"
-rate = 100
-service = { kind = "latency", latency = 10 }
-[[server]]
-name = "s2"
-rate = 100
-service = { kind = "latency", latency = 10 }
-[[flow]]
-name = "f1"
-packet = 12000
-arrival = { kind = "bucket", burst = 12000, rate = 10 }
-path = ["s1", "s2"]
-"#,
+                    "[[server]]\nname = \"s1\"\nrate = 100\nservice = { kind = \"latency\", latency = 10 }\n[[server]]\nname = \"s2\"\nrate = 100\nservice = { kind = \"latency\", latency = 10 }\n[[flow]]\nname = \"f1\"\npacket = 12000\narrival = { kind = \"bucket\", burst = 12000, rate = 10 }\npath = [\"s1\", \"s2\"]\n",
                 ),
             ],
             0,
-            r#"edit 1 ok cells 6
-servers 2 flows 0
-queue s1 0 delay 0 backlog 0
-queue s2 0 delay 0 backlog 0
-"#,
+            "edit 1 ok cells 6\nservers 2 flows 0\nqueue s1 0 delay 0 backlog 0\nqueue s2 0 delay 0 backlog 0\n",
         ),
         // a_flow_dropped_and_back
         (
             "netcalc edit n.toml e.csv",
             &[
-                (
-                    "e.csv",
-                    r#"drop,f1
-undo
-"#,
-                ),
+                ("e.csv", "drop,f1\nundo\n"),
                 (
                     "n.toml",
-                    r#"[[server]]
-name = "s1"
-rate = 100
-service = { kind = "latency", latency = 10 }
-[[server]]
-name = "s2"
-rate = 100
-service = { kind = "latency", latency = 10 }
-[[flow]]
-name = "f1"
-packet = 12000
-arrival = { kind = "bucket", burst = 12000, rate = 10 }
-path = ["s1", "s2"]
-"#,
+                    "[[server]]\nname = \"s1\"\nrate = 100\nservice = { kind = \"latency\", latency = 10 }\n[[server]]\nname = \"s2\"\nrate = 100\nservice = { kind = \"latency\", latency = 10 }\n[[flow]]\nname = \"f1\"\npacket = 12000\narrival = { kind = \"bucket\", burst = 12000, rate = 10 }\npath = [\"s1\", \"s2\"]\n",
                 ),
             ],
             0,
-            r#"edit 1 ok cells 6
-edit 2 ok cells 0
-servers 2 flows 1
-queue s1 0 delay 130 backlog 13300
-queue s2 0 delay 143 backlog 14600
-flow f1 tfa 273 sfa 260 bound 260
-"#,
+            "edit 1 ok cells 6\nedit 2 ok cells 0\nservers 2 flows 1\nqueue s1 0 delay 130 backlog 13300\nqueue s2 0 delay 143 backlog 14600\nflow f1 tfa 273 sfa 260 bound 260\n",
         ),
         // a_link
         (
@@ -3105,61 +1453,24 @@ flow f1 tfa 273 sfa 260 bound 260
                 ("e.csv", "link,s2,5\n"),
                 (
                     "n.toml",
-                    r#"[[server]]
-name = "s1"
-rate = 100
-service = { kind = "latency", latency = 10 }
-[[server]]
-name = "s2"
-rate = 100
-service = { kind = "latency", latency = 10 }
-[[flow]]
-name = "f1"
-packet = 12000
-arrival = { kind = "bucket", burst = 12000, rate = 10 }
-path = ["s1", "s2"]
-"#,
+                    "[[server]]\nname = \"s1\"\nrate = 100\nservice = { kind = \"latency\", latency = 10 }\n[[server]]\nname = \"s2\"\nrate = 100\nservice = { kind = \"latency\", latency = 10 }\n[[flow]]\nname = \"f1\"\npacket = 12000\narrival = { kind = \"bucket\", burst = 12000, rate = 10 }\npath = [\"s1\", \"s2\"]\n",
                 ),
             ],
             0,
-            r#"edit 1 ok cells 3
-servers 2 flows 1
-queue s1 0 delay 130 backlog 13300
-queue s2 0 delay 143 backlog 14600
-flow f1 tfa 278 sfa 265 bound 265
-"#,
+            "edit 1 ok cells 3\nservers 2 flows 1\nqueue s1 0 delay 130 backlog 13300\nqueue s2 0 delay 143 backlog 14600\nflow f1 tfa 278 sfa 265 bound 265\n",
         ),
         // a_name_that_is_taken
         (
             "netcalc edit n.toml e.csv",
             &[
-                (
-                    "e.csv",
-                    r#"add,f1,1,1,1,s1
-add,f1,0,-1,-1,s1
-"#,
-                ),
+                ("e.csv", "add,f1,1,1,1,s1\nadd,f1,0,-1,-1,s1\n"),
                 (
                     "n.toml",
-                    r#"[[server]]
-name = "s1"
-rate = 100
-service = { kind = "latency", latency = 10 }
-[[flow]]
-name = "f1"
-packet = 12000
-arrival = { kind = "bucket", burst = 12000, rate = 10 }
-path = ["s1"]
-"#,
+                    "[[server]]\nname = \"s1\"\nrate = 100\nservice = { kind = \"latency\", latency = 10 }\n[[flow]]\nname = \"f1\"\npacket = 12000\narrival = { kind = \"bucket\", burst = 12000, rate = 10 }\npath = [\"s1\"]\n",
                 ),
             ],
             0,
-            r#"edit 1 refused name-taken f1
-edit 2 refused name-taken f1
-servers 1 flows 1
-queue s1 0 delay 130 backlog 13300
-flow f1 tfa 130 sfa 130 bound 130
-"#,
+            "edit 1 refused name-taken f1\nedit 2 refused name-taken f1\nservers 1 flows 1\nqueue s1 0 delay 130 backlog 13300\nflow f1 tfa 130 sfa 130 bound 130\n",
         ),
         // a_packet_of_a_flow_with_a_closure
         (
@@ -3168,24 +1479,11 @@ flow f1 tfa 130 sfa 130 bound 130
                 ("e.csv", "packet,f1,6000\n"),
                 (
                     "n.toml",
-                    r#"[[server]]
-name = "s1"
-rate = 100
-service = { kind = "latency", latency = 10 }
-[[flow]]
-name = "f1"
-packet = 12000
-arrival = { kind = "list", close = true, piece = [{ x = 0, at = 12000 }, { x = 1000, at = 36000 }] }
-path = ["s1"]
-"#,
+                    "[[server]]\nname = \"s1\"\nrate = 100\nservice = { kind = \"latency\", latency = 10 }\n[[flow]]\nname = \"f1\"\npacket = 12000\narrival = { kind = \"list\", close = true, piece = [{ x = 0, at = 12000 }, { x = 1000, at = 36000 }] }\npath = [\"s1\"]\n",
                 ),
             ],
             0,
-            r#"edit 1 ok cells 1
-servers 1 flows 1
-queue s1 0 delay 130 backlog 12000
-flow f1 tfa 130 sfa 130 bound 130
-"#,
+            "edit 1 ok cells 1\nservers 1 flows 1\nqueue s1 0 delay 130 backlog 12000\nflow f1 tfa 130 sfa 130 bound 130\n",
         ),
         // a_path_of_seventeen_hops
         (
@@ -3193,111 +1491,15 @@ flow f1 tfa 130 sfa 130 bound 130
             &[
                 (
                     "e.csv",
-                    r#"route,f1,s0 s1 s2 s3 s4 s5 s6 s7 s8 s9 s10 s11 s12 s13 s14 s15 s16
-add,f2,1,1,1,s0 s1 s2 s3 s4 s5 s6 s7 s8 s9 s10 s11 s12 s13 s14 s15 s16
-"#,
+                    "route,f1,s0 s1 s2 s3 s4 s5 s6 s7 s8 s9 s10 s11 s12 s13 s14 s15 s16\nadd,f2,1,1,1,s0 s1 s2 s3 s4 s5 s6 s7 s8 s9 s10 s11 s12 s13 s14 s15 s16\n",
                 ),
                 (
                     "n.toml",
-                    r#"[[server]]
-name = "s0"
-rate = 100
-service = { kind = "latency", latency = 10 }
-[[server]]
-name = "s1"
-rate = 100
-service = { kind = "latency", latency = 10 }
-[[server]]
-name = "s2"
-rate = 100
-service = { kind = "latency", latency = 10 }
-[[server]]
-name = "s3"
-rate = 100
-service = { kind = "latency", latency = 10 }
-[[server]]
-name = "s4"
-rate = 100
-service = { kind = "latency", latency = 10 }
-[[server]]
-name = "s5"
-rate = 100
-service = { kind = "latency", latency = 10 }
-[[server]]
-name = "s6"
-rate = 100
-service = { kind = "latency", latency = 10 }
-[[server]]
-name = "s7"
-rate = 100
-service = { kind = "latency", latency = 10 }
-[[server]]
-name = "s8"
-rate = 100
-service = { kind = "latency", latency = 10 }
-[[server]]
-name = "s9"
-rate = 100
-service = { kind = "latency", latency = 10 }
-[[server]]
-name = "s10"
-rate = 100
-service = { kind = "latency", latency = 10 }
-[[server]]
-name = "s11"
-rate = 100
-service = { kind = "latency", latency = 10 }
-[[server]]
-name = "s12"
-rate = 100
-service = { kind = "latency", latency = 10 }
-[[server]]
-name = "s13"
-rate = 100
-service = { kind = "latency", latency = 10 }
-[[server]]
-name = "s14"
-rate = 100
-service = { kind = "latency", latency = 10 }
-[[server]]
-name = "s15"
-rate = 100
-service = { kind = "latency", latency = 10 }
-[[server]]
-name = "s16"
-rate = 100
-service = { kind = "latency", latency = 10 }
-[[flow]]
-name = "f1"
-packet = 12000
-arrival = { kind = "bucket", burst = 12000, rate = 10 }
-path = ["s0"]
-"#,
+                    "[[server]]\nname = \"s0\"\nrate = 100\nservice = { kind = \"latency\", latency = 10 }\n[[server]]\nname = \"s1\"\nrate = 100\nservice = { kind = \"latency\", latency = 10 }\n[[server]]\nname = \"s2\"\nrate = 100\nservice = { kind = \"latency\", latency = 10 }\n[[server]]\nname = \"s3\"\nrate = 100\nservice = { kind = \"latency\", latency = 10 }\n[[server]]\nname = \"s4\"\nrate = 100\nservice = { kind = \"latency\", latency = 10 }\n[[server]]\nname = \"s5\"\nrate = 100\nservice = { kind = \"latency\", latency = 10 }\n[[server]]\nname = \"s6\"\nrate = 100\nservice = { kind = \"latency\", latency = 10 }\n[[server]]\nname = \"s7\"\nrate = 100\nservice = { kind = \"latency\", latency = 10 }\n[[server]]\nname = \"s8\"\nrate = 100\nservice = { kind = \"latency\", latency = 10 }\n[[server]]\nname = \"s9\"\nrate = 100\nservice = { kind = \"latency\", latency = 10 }\n[[server]]\nname = \"s10\"\nrate = 100\nservice = { kind = \"latency\", latency = 10 }\n[[server]]\nname = \"s11\"\nrate = 100\nservice = { kind = \"latency\", latency = 10 }\n[[server]]\nname = \"s12\"\nrate = 100\nservice = { kind = \"latency\", latency = 10 }\n[[server]]\nname = \"s13\"\nrate = 100\nservice = { kind = \"latency\", latency = 10 }\n[[server]]\nname = \"s14\"\nrate = 100\nservice = { kind = \"latency\", latency = 10 }\n[[server]]\nname = \"s15\"\nrate = 100\nservice = { kind = \"latency\", latency = 10 }\n[[server]]\nname = \"s16\"\nrate = 100\nservice = { kind = \"latency\", latency = 10 }\n[[flow]]\nname = \"f1\"\npacket = 12000\narrival = { kind = \"bucket\", burst = 12000, rate = 10 }\npath = [\"s0\"]\n",
                 ),
             ],
             0,
-            r#"edit 1 refused bad-value
-edit 2 refused bad-value
-servers 17 flows 1
-queue s0 0 delay 130 backlog 13300
-queue s1 0 delay 0 backlog 0
-queue s2 0 delay 0 backlog 0
-queue s3 0 delay 0 backlog 0
-queue s4 0 delay 0 backlog 0
-queue s5 0 delay 0 backlog 0
-queue s6 0 delay 0 backlog 0
-queue s7 0 delay 0 backlog 0
-queue s8 0 delay 0 backlog 0
-queue s9 0 delay 0 backlog 0
-queue s10 0 delay 0 backlog 0
-queue s11 0 delay 0 backlog 0
-queue s12 0 delay 0 backlog 0
-queue s13 0 delay 0 backlog 0
-queue s14 0 delay 0 backlog 0
-queue s15 0 delay 0 backlog 0
-queue s16 0 delay 0 backlog 0
-flow f1 tfa 130 sfa 130 bound 130
-"#,
+            "edit 1 refused bad-value\nedit 2 refused bad-value\nservers 17 flows 1\nqueue s0 0 delay 130 backlog 13300\nqueue s1 0 delay 0 backlog 0\nqueue s2 0 delay 0 backlog 0\nqueue s3 0 delay 0 backlog 0\nqueue s4 0 delay 0 backlog 0\nqueue s5 0 delay 0 backlog 0\nqueue s6 0 delay 0 backlog 0\nqueue s7 0 delay 0 backlog 0\nqueue s8 0 delay 0 backlog 0\nqueue s9 0 delay 0 backlog 0\nqueue s10 0 delay 0 backlog 0\nqueue s11 0 delay 0 backlog 0\nqueue s12 0 delay 0 backlog 0\nqueue s13 0 delay 0 backlog 0\nqueue s14 0 delay 0 backlog 0\nqueue s15 0 delay 0 backlog 0\nqueue s16 0 delay 0 backlog 0\nflow f1 tfa 130 sfa 130 bound 130\n",
         ),
         // a_rate_a_flow_and_a_path_back
         (
@@ -3305,93 +1507,28 @@ flow f1 tfa 130 sfa 130 bound 130
             &[
                 (
                     "e.csv",
-                    r#"rate,s1,200
-add,f2,6000,6000,5,s2
-route,f2,s2 s1
-undo
-undo
-undo
-"#,
+                    "rate,s1,200\nadd,f2,6000,6000,5,s2\nroute,f2,s2 s1\nundo\nundo\nundo\n",
                 ),
                 (
                     "n.toml",
-                    r#"[[server]]
-name = "s1"
-rate = 100
-service = { kind = "latency", latency = 10 }
-[[server]]
-name = "s2"
-rate = 100
-service = { kind = "latency", latency = 10 }
-[[flow]]
-name = "f1"
-packet = 12000
-arrival = { kind = "bucket", burst = 12000, rate = 10 }
-path = ["s1", "s2"]
-"#,
+                    "[[server]]\nname = \"s1\"\nrate = 100\nservice = { kind = \"latency\", latency = 10 }\n[[server]]\nname = \"s2\"\nrate = 100\nservice = { kind = \"latency\", latency = 10 }\n[[flow]]\nname = \"f1\"\npacket = 12000\narrival = { kind = \"bucket\", burst = 12000, rate = 10 }\npath = [\"s1\", \"s2\"]\n",
                 ),
             ],
             0,
-            r#"edit 1 ok cells 18
-edit 2 ok cells 20
-edit 3 refused cycle s1 s2 s1
-edit 4 ok cells 0
-edit 5 ok cells 0
-edit 6 refused nothing-to-undo
-servers 2 flows 1
-queue s1 0 delay 130 backlog 13300
-queue s2 0 delay 143 backlog 14600
-flow f1 tfa 273 sfa 260 bound 260
-"#,
+            "edit 1 ok cells 18\nedit 2 ok cells 20\nedit 3 refused cycle s1 s2 s1\nedit 4 ok cells 0\nedit 5 ok cells 0\nedit 6 refused nothing-to-undo\nservers 2 flows 1\nqueue s1 0 delay 130 backlog 13300\nqueue s2 0 delay 143 backlog 14600\nflow f1 tfa 273 sfa 260 bound 260\n",
         ),
         // a_rate_and_a_packet_two_servers_before_a_sum
         (
             "netcalc edit n.toml e.csv",
             &[
-                (
-                    "e.csv",
-                    r#"rate,s1,200
-packet,f1,6000
-"#,
-                ),
+                ("e.csv", "rate,s1,200\npacket,f1,6000\n"),
                 (
                     "n.toml",
-                    r#"version = 2
-[[server]]
-name = "s1"
-rate = 100
-service = { kind = "latency", latency = 10 }
-[[server]]
-name = "s2"
-rate = 100
-service = { kind = "latency", latency = 10 }
-[[server]]
-name = "s3"
-rate = 100
-service = { kind = "latency", latency = 10 }
-[[flow]]
-name = "f1"
-packet = 12000
-arrival = { kind = "bucket", burst = 12000, rate = 10 }
-path = ["s1", "s2", "s3"]
-[[flow]]
-name = "f2"
-packet = 6000
-arrival = { kind = "bucket", burst = 6000, rate = 5 }
-path = ["s1", "s2", "s3"]
-"#,
+                    "version = 2\n[[server]]\nname = \"s1\"\nrate = 100\nservice = { kind = \"latency\", latency = 10 }\n[[server]]\nname = \"s2\"\nrate = 100\nservice = { kind = \"latency\", latency = 10 }\n[[server]]\nname = \"s3\"\nrate = 100\nservice = { kind = \"latency\", latency = 10 }\n[[flow]]\nname = \"f1\"\npacket = 12000\narrival = { kind = \"bucket\", burst = 12000, rate = 10 }\npath = [\"s1\", \"s2\", \"s3\"]\n[[flow]]\nname = \"f2\"\npacket = 6000\narrival = { kind = \"bucket\", burst = 6000, rate = 5 }\npath = [\"s1\", \"s2\", \"s3\"]\n",
                 ),
             ],
             0,
-            r#"edit 1 ok cells 55
-edit 2 ok cells 39
-servers 3 flows 2
-queue s1 0 delay 100 backlog 18600
-queue s2 0 delay 68010/481 backlog 9687000/481
-queue s3 0 delay 70 backlog 13000
-flow f1 tfa 149780/481 sfa 7627639/18278 bound 149780/481
-flow f2 tfa 149780/481 sfa 774911/1482 bound 149780/481
-"#,
+            "edit 1 ok cells 55\nedit 2 ok cells 39\nservers 3 flows 2\nqueue s1 0 delay 100 backlog 18600\nqueue s2 0 delay 68010/481 backlog 9687000/481\nqueue s3 0 delay 70 backlog 13000\nflow f1 tfa 149780/481 sfa 7627639/18278 bound 149780/481\nflow f2 tfa 149780/481 sfa 774911/1482 bound 149780/481\n",
         ),
         // a_rate_touches_the_sum_behind_its_link
         (
@@ -3400,36 +1537,11 @@ flow f2 tfa 149780/481 sfa 774911/1482 bound 149780/481
                 ("e.csv", "rate,s1,200\n"),
                 (
                     "n.toml",
-                    r#"version = 2
-[[server]]
-name = "s1"
-rate = 100
-service = { kind = "list", piece = [{ x = 0, at = 0 }, { x = 10, at = 0, slope = 100 }] }
-[[server]]
-name = "s2"
-rate = 100
-service = { kind = "latency", latency = 10 }
-[[flow]]
-name = "f1"
-packet = 12000
-arrival = { kind = "bucket", burst = 12000, rate = 10 }
-path = ["s1", "s2"]
-[[flow]]
-name = "f2"
-packet = 6000
-arrival = { kind = "bucket", burst = 6000, rate = 5 }
-path = ["s1", "s2"]
-"#,
+                    "version = 2\n[[server]]\nname = \"s1\"\nrate = 100\nservice = { kind = \"list\", piece = [{ x = 0, at = 0 }, { x = 10, at = 0, slope = 100 }] }\n[[server]]\nname = \"s2\"\nrate = 100\nservice = { kind = \"latency\", latency = 10 }\n[[flow]]\nname = \"f1\"\npacket = 12000\narrival = { kind = \"bucket\", burst = 12000, rate = 10 }\npath = [\"s1\", \"s2\"]\n[[flow]]\nname = \"f2\"\npacket = 6000\narrival = { kind = \"bucket\", burst = 6000, rate = 5 }\npath = [\"s1\", \"s2\"]\n",
                 ),
             ],
             0,
-            r#"edit 1 ok cells 9
-servers 2 flows 2
-queue s1 0 delay 190 backlog 19950
-queue s2 0 delay 6580/37 backlog 22800
-flow f1 tfa 13610/37 sfa 15281/38 bound 13610/37
-flow f2 tfa 13610/37 sfa 1237/3 bound 13610/37
-"#,
+            "edit 1 ok cells 9\nservers 2 flows 2\nqueue s1 0 delay 190 backlog 19950\nqueue s2 0 delay 6580/37 backlog 22800\nflow f1 tfa 13610/37 sfa 15281/38 bound 13610/37\nflow f2 tfa 13610/37 sfa 1237/3 bound 13610/37\n",
         ),
         // an_empty_list
         (
@@ -3438,23 +1550,11 @@ flow f2 tfa 13610/37 sfa 1237/3 bound 13610/37
                 ("e.csv", ""),
                 (
                     "n.toml",
-                    r#"[[server]]
-name = "s1"
-rate = 100
-service = { kind = "latency", latency = 10 }
-[[flow]]
-name = "f1"
-packet = 12000
-arrival = { kind = "bucket", burst = 12000, rate = 10 }
-path = ["s1"]
-"#,
+                    "[[server]]\nname = \"s1\"\nrate = 100\nservice = { kind = \"latency\", latency = 10 }\n[[flow]]\nname = \"f1\"\npacket = 12000\narrival = { kind = \"bucket\", burst = 12000, rate = 10 }\npath = [\"s1\"]\n",
                 ),
             ],
             0,
-            r#"servers 1 flows 1
-queue s1 0 delay 130 backlog 13300
-flow f1 tfa 130 sfa 130 bound 130
-"#,
+            "servers 1 flows 1\nqueue s1 0 delay 130 backlog 13300\nflow f1 tfa 130 sfa 130 bound 130\n",
         ),
         // edits_of_each_kind
         (
@@ -3462,82 +1562,15 @@ flow f1 tfa 130 sfa 130 bound 130
             &[
                 (
                     "e.csv",
-                    r#"rate,g,200
-latency,s1,20
-quantum,d,0,1
-quantum,d,1,16777216
-stair,f1,1000,5
-packet,f1,1
-route,f1,s1 p:1 d
-undo
-undo
-undo
-undo
-undo
-undo
-undo
-"#,
+                    "rate,g,200\nlatency,s1,20\nquantum,d,0,1\nquantum,d,1,16777216\nstair,f1,1000,5\npacket,f1,1\nroute,f1,s1 p:1 d\nundo\nundo\nundo\nundo\nundo\nundo\nundo\n",
                 ),
                 (
                     "n.toml",
-                    r#"[[server]]
-name = "s1"
-rate = 100
-service = { kind = "latency", latency = 10 }
-[[server]]
-name = "g"
-rate = 100
-service = { kind = "gate", cycle = 1000, slot = 500 }
-[[server]]
-name = "p"
-rate = 100
-service = { kind = "latency", latency = 10 }
-discipline = "priority"
-queues = 2
-[[server]]
-name = "d"
-rate = 100
-service = { kind = "latency", latency = 10 }
-discipline = "drr"
-quanta = [12000, 12000]
-[[flow]]
-name = "f1"
-packet = 12000
-arrival = { kind = "bucket", burst = 12000, rate = 10 }
-path = ["s1"]
-[[flow]]
-name = "f2"
-packet = 12000
-arrival = { kind = "bucket", burst = 12000, rate = 10 }
-path = ["d:1"]
-"#,
+                    "[[server]]\nname = \"s1\"\nrate = 100\nservice = { kind = \"latency\", latency = 10 }\n[[server]]\nname = \"g\"\nrate = 100\nservice = { kind = \"gate\", cycle = 1000, slot = 500 }\n[[server]]\nname = \"p\"\nrate = 100\nservice = { kind = \"latency\", latency = 10 }\ndiscipline = \"priority\"\nqueues = 2\n[[server]]\nname = \"d\"\nrate = 100\nservice = { kind = \"latency\", latency = 10 }\ndiscipline = \"drr\"\nquanta = [12000, 12000]\n[[flow]]\nname = \"f1\"\npacket = 12000\narrival = { kind = \"bucket\", burst = 12000, rate = 10 }\npath = [\"s1\"]\n[[flow]]\nname = \"f2\"\npacket = 12000\narrival = { kind = \"bucket\", burst = 12000, rate = 10 }\npath = [\"d:1\"]\n",
                 ),
             ],
             0,
-            r#"edit 1 ok cells 3
-edit 2 ok cells 10
-edit 3 ok cells 13
-edit 4 ok cells 13
-edit 5 ok cells 8
-edit 6 ok cells 1
-edit 7 ok cells 40
-edit 8 ok cells 0
-edit 9 ok cells 0
-edit 10 ok cells 0
-edit 11 ok cells 0
-edit 12 ok cells 0
-edit 13 ok cells 0
-edit 14 ok cells 0
-servers 4 flows 2
-queue s1 0 delay 130 backlog 13300
-queue g 0 delay 0 backlog 0
-queue p 0 delay 0 backlog 0
-queue p 1 delay 0 backlog 0
-queue d 0 delay 0 backlog 0
-queue d 1 delay 490 backlog 16900
-flow f1 tfa 130 sfa 130 bound 130
-flow f2 tfa 490 sfa 490 bound 490
-"#,
+            "edit 1 ok cells 3\nedit 2 ok cells 10\nedit 3 ok cells 13\nedit 4 ok cells 13\nedit 5 ok cells 8\nedit 6 ok cells 1\nedit 7 ok cells 40\nedit 8 ok cells 0\nedit 9 ok cells 0\nedit 10 ok cells 0\nedit 11 ok cells 0\nedit 12 ok cells 0\nedit 13 ok cells 0\nedit 14 ok cells 0\nservers 4 flows 2\nqueue s1 0 delay 130 backlog 13300\nqueue g 0 delay 0 backlog 0\nqueue p 0 delay 0 backlog 0\nqueue p 1 delay 0 backlog 0\nqueue d 0 delay 0 backlog 0\nqueue d 1 delay 490 backlog 16900\nflow f1 tfa 130 sfa 130 bound 130\nflow f2 tfa 490 sfa 490 bound 490\n",
         ),
         // names_that_nothing_has
         (
@@ -3545,45 +1578,15 @@ flow f2 tfa 490 sfa 490 bound 490
             &[
                 (
                     "e.csv",
-                    r#"rate,s9,1
-drop,
-bucket,f9,1,1
-route,f9,s9
-route,f1,s1 s9
-add,f2,1,1,1,s9
-add,f1,1,1,1,s9
-quantum,s9,0,1
-undo
-"#,
+                    "rate,s9,1\ndrop,\nbucket,f9,1,1\nroute,f9,s9\nroute,f1,s1 s9\nadd,f2,1,1,1,s9\nadd,f1,1,1,1,s9\nquantum,s9,0,1\nundo\n",
                 ),
                 (
                     "n.toml",
-                    r#"[[server]]
-name = "s1"
-rate = 100
-service = { kind = "latency", latency = 10 }
-[[flow]]
-name = "f1"
-packet = 12000
-arrival = { kind = "bucket", burst = 12000, rate = 10 }
-path = ["s1"]
-"#,
+                    "[[server]]\nname = \"s1\"\nrate = 100\nservice = { kind = \"latency\", latency = 10 }\n[[flow]]\nname = \"f1\"\npacket = 12000\narrival = { kind = \"bucket\", burst = 12000, rate = 10 }\npath = [\"s1\"]\n",
                 ),
             ],
             0,
-            r#"edit 1 refused unknown-name s9
-edit 2 refused unknown-name 
-edit 3 refused unknown-name f9
-edit 4 refused unknown-name f9
-edit 5 refused unknown-name s9
-edit 6 refused unknown-name s9
-edit 7 refused unknown-name s9
-edit 8 refused unknown-name s9
-edit 9 refused nothing-to-undo
-servers 1 flows 1
-queue s1 0 delay 130 backlog 13300
-flow f1 tfa 130 sfa 130 bound 130
-"#,
+            "edit 1 refused unknown-name s9\nedit 2 refused unknown-name \nedit 3 refused unknown-name f9\nedit 4 refused unknown-name f9\nedit 5 refused unknown-name s9\nedit 6 refused unknown-name s9\nedit 7 refused unknown-name s9\nedit 8 refused unknown-name s9\nedit 9 refused nothing-to-undo\nservers 1 flows 1\nqueue s1 0 delay 130 backlog 13300\nflow f1 tfa 130 sfa 130 bound 130\n",
         ),
         // values_that_are_not_taken
         (
@@ -3591,116 +1594,15 @@ flow f1 tfa 130 sfa 130 bound 130
             &[
                 (
                     "e.csv",
-                    r#"rate,s1,0
-rate,g,-1
-latency,s1,-1
-latency,g,5
-link,s1,-1
-quantum,s1,0,12000
-quantum,p,0,12000
-quantum,d,2,12000
-quantum,d,-1,12000
-quantum,d,0,0
-quantum,d,0,16777217
-quantum,d,1,11999
-bucket,f1,-1,0
-bucket,f1,0,-1
-stair,f1,0,0
-stair,f1,1,-1
-packet,f1,0
-packet,f1,16777217
-packet,f2,12001
-route,f1,s1 s1
-route,f1,s1:1
-route,f1,p:2
-add,f 3,1,1,1,s1
-add,,1,1,1,s1
-add,f3,0,1,1,s1
-add,f3,16777217,1,1,s1
-add,f3,1,-1,1,s1
-add,f3,1,1,-1,s1
-add,f3,1,1,1,s1 s1
-add,f3,1,1,1,d:2
-add,f3,12001,1,1,d
-"#,
+                    "rate,s1,0\nrate,g,-1\nlatency,s1,-1\nlatency,g,5\nlink,s1,-1\nquantum,s1,0,12000\nquantum,p,0,12000\nquantum,d,2,12000\nquantum,d,-1,12000\nquantum,d,0,0\nquantum,d,0,16777217\nquantum,d,1,11999\nbucket,f1,-1,0\nbucket,f1,0,-1\nstair,f1,0,0\nstair,f1,1,-1\npacket,f1,0\npacket,f1,16777217\npacket,f2,12001\nroute,f1,s1 s1\nroute,f1,s1:1\nroute,f1,p:2\nadd,f 3,1,1,1,s1\nadd,,1,1,1,s1\nadd,f3,0,1,1,s1\nadd,f3,16777217,1,1,s1\nadd,f3,1,-1,1,s1\nadd,f3,1,1,-1,s1\nadd,f3,1,1,1,s1 s1\nadd,f3,1,1,1,d:2\nadd,f3,12001,1,1,d\n",
                 ),
                 (
                     "n.toml",
-                    r#"[[server]]
-name = "s1"
-rate = 100
-service = { kind = "latency", latency = 10 }
-[[server]]
-name = "g"
-rate = 100
-service = { kind = "gate", cycle = 1000, slot = 500 }
-[[server]]
-name = "p"
-rate = 100
-service = { kind = "latency", latency = 10 }
-discipline = "priority"
-queues = 2
-[[server]]
-name = "d"
-rate = 100
-service = { kind = "latency", latency = 10 }
-discipline = "drr"
-quanta = [12000, 12000]
-[[flow]]
-name = "f1"
-packet = 12000
-arrival = { kind = "bucket", burst = 12000, rate = 10 }
-path = ["s1"]
-[[flow]]
-name = "f2"
-packet = 12000
-arrival = { kind = "bucket", burst = 12000, rate = 10 }
-path = ["d:1"]
-"#,
+                    "[[server]]\nname = \"s1\"\nrate = 100\nservice = { kind = \"latency\", latency = 10 }\n[[server]]\nname = \"g\"\nrate = 100\nservice = { kind = \"gate\", cycle = 1000, slot = 500 }\n[[server]]\nname = \"p\"\nrate = 100\nservice = { kind = \"latency\", latency = 10 }\ndiscipline = \"priority\"\nqueues = 2\n[[server]]\nname = \"d\"\nrate = 100\nservice = { kind = \"latency\", latency = 10 }\ndiscipline = \"drr\"\nquanta = [12000, 12000]\n[[flow]]\nname = \"f1\"\npacket = 12000\narrival = { kind = \"bucket\", burst = 12000, rate = 10 }\npath = [\"s1\"]\n[[flow]]\nname = \"f2\"\npacket = 12000\narrival = { kind = \"bucket\", burst = 12000, rate = 10 }\npath = [\"d:1\"]\n",
                 ),
             ],
             0,
-            r#"edit 1 refused bad-value
-edit 2 refused bad-value
-edit 3 refused bad-value
-edit 4 refused bad-value
-edit 5 refused bad-value
-edit 6 refused bad-value
-edit 7 refused bad-value
-edit 8 refused bad-value
-edit 9 refused bad-value
-edit 10 refused bad-value
-edit 11 refused bad-value
-edit 12 refused bad-value
-edit 13 refused bad-value
-edit 14 refused bad-value
-edit 15 refused bad-value
-edit 16 refused bad-value
-edit 17 refused bad-value
-edit 18 refused bad-value
-edit 19 refused bad-value
-edit 20 refused bad-value
-edit 21 refused bad-value
-edit 22 refused bad-value
-edit 23 refused bad-value
-edit 24 refused bad-value
-edit 25 refused bad-value
-edit 26 refused bad-value
-edit 27 refused bad-value
-edit 28 refused bad-value
-edit 29 refused bad-value
-edit 30 refused bad-value
-edit 31 refused bad-value
-servers 4 flows 2
-queue s1 0 delay 130 backlog 13300
-queue g 0 delay 0 backlog 0
-queue p 0 delay 0 backlog 0
-queue p 1 delay 0 backlog 0
-queue d 0 delay 0 backlog 0
-queue d 1 delay 490 backlog 16900
-flow f1 tfa 130 sfa 130 bound 130
-flow f2 tfa 490 sfa 490 bound 490
-"#,
+            "edit 1 refused bad-value\nedit 2 refused bad-value\nedit 3 refused bad-value\nedit 4 refused bad-value\nedit 5 refused bad-value\nedit 6 refused bad-value\nedit 7 refused bad-value\nedit 8 refused bad-value\nedit 9 refused bad-value\nedit 10 refused bad-value\nedit 11 refused bad-value\nedit 12 refused bad-value\nedit 13 refused bad-value\nedit 14 refused bad-value\nedit 15 refused bad-value\nedit 16 refused bad-value\nedit 17 refused bad-value\nedit 18 refused bad-value\nedit 19 refused bad-value\nedit 20 refused bad-value\nedit 21 refused bad-value\nedit 22 refused bad-value\nedit 23 refused bad-value\nedit 24 refused bad-value\nedit 25 refused bad-value\nedit 26 refused bad-value\nedit 27 refused bad-value\nedit 28 refused bad-value\nedit 29 refused bad-value\nedit 30 refused bad-value\nedit 31 refused bad-value\nservers 4 flows 2\nqueue s1 0 delay 130 backlog 13300\nqueue g 0 delay 0 backlog 0\nqueue p 0 delay 0 backlog 0\nqueue p 1 delay 0 backlog 0\nqueue d 0 delay 0 backlog 0\nqueue d 1 delay 490 backlog 16900\nflow f1 tfa 130 sfa 130 bound 130\nflow f2 tfa 490 sfa 490 bound 490\n",
         ),
     ];
     for (line, files, status, wanted) in rows {
@@ -3767,36 +1669,21 @@ fn exercises(rt: HostRuntime) -> Result<(), Fail> {
             "netcalc exercise 11",
             &[],
             0,
-            r#"exercise 11
-servers 16 flows 24 packets 1856
-largest bound 370
-largest worst 260
-breach none
-"#,
+            "exercise 11\nservers 16 flows 24 packets 1856\nlargest bound 370\nlargest worst 260\nbreach none\n",
         ),
         // flows_of_one_server
         (
             "netcalc exercise 7",
             &[],
             0,
-            r#"exercise 7
-servers 16 flows 24 packets 1600
-largest bound 740
-largest worst 280
-breach none
-"#,
+            "exercise 7\nservers 16 flows 24 packets 1600\nlargest bound 740\nlargest worst 280\nbreach none\n",
         ),
         // flows_of_up_to_four_servers
         (
             "netcalc exercise 8",
             &[],
             0,
-            r#"exercise 8
-servers 16 flows 24 packets 1568
-largest bound 1950
-largest worst 580
-breach none
-"#,
+            "exercise 8\nservers 16 flows 24 packets 1568\nlargest bound 1950\nlargest worst 580\nbreach none\n",
         ),
         // no_number
         (
@@ -3810,12 +1697,7 @@ breach none
             "netcalc exercise 18446744073709551615",
             &[],
             0,
-            r#"exercise 18446744073709551615
-servers 16 flows 24 packets 1728
-largest bound 750
-largest worst 290
-breach none
-"#,
+            "exercise 18446744073709551615\nservers 16 flows 24 packets 1728\nlargest bound 750\nlargest worst 290\nbreach none\n",
         ),
         // two_numbers
         (
@@ -3829,12 +1711,7 @@ breach none
             "netcalc exercise 007",
             &[],
             0,
-            r#"exercise 7
-servers 16 flows 24 packets 1600
-largest bound 740
-largest worst 280
-breach none
-"#,
+            "exercise 7\nservers 16 flows 24 packets 1600\nlargest bound 740\nlargest worst 280\nbreach none\n",
         ),
     ];
     for (line, files, status, wanted) in rows {
@@ -3852,16 +1729,7 @@ fn faults(rt: HostRuntime) -> Result<(), Fail> {
             "netcalc analyse n.toml",
             &[(
                 "n.toml",
-                r#"[[server]]
-name = "s1"
-rate = 100
-service = { kind = "latency", latency = 10 }
-[[flow]]
-name = "f1"
-packet = 12000
-arrival = { kind = "bucket", burst = 12000, rate = -10 }
-path = ["s1"]
-"#,
+                "[[server]]\nname = \"s1\"\nrate = 100\nservice = { kind = \"latency\", latency = 10 }\n[[flow]]\nname = \"f1\"\npacket = 12000\narrival = { kind = \"bucket\", burst = 12000, rate = -10 }\npath = [\"s1\"]\n",
             )],
             1,
             "netcalc: n.toml: M9 flow[0].arrival negative\n",
@@ -3871,16 +1739,7 @@ path = ["s1"]
             "netcalc analyse n.toml",
             &[(
                 "n.toml",
-                r#"[[server]]
-name = "s1"
-rate = 1.5
-service = { kind = "latency", latency = 10 }
-[[flow]]
-name = "f1"
-packet = 12000
-arrival = { kind = "bucket", burst = 12000, rate = 10 }
-path = ["s1"]
-"#,
+                "[[server]]\nname = \"s1\"\nrate = 1.5\nservice = { kind = \"latency\", latency = 10 }\n[[flow]]\nname = \"f1\"\npacket = 12000\narrival = { kind = \"bucket\", burst = 12000, rate = 10 }\npath = [\"s1\"]\n",
             )],
             1,
             "netcalc: n.toml: M4 server[0].rate\n",
@@ -3890,15 +1749,7 @@ path = ["s1"]
             "netcalc analyse n.toml",
             &[(
                 "n.toml",
-                r#"[[server]]
-name = "s1"
-rate = 100
-service = { kind = "latency", latency = 10 }
-[[flow]]
-name = "f1"
-arrival = { kind = "bucket", burst = 12000, rate = 10 }
-path = ["s1"]
-"#,
+                "[[server]]\nname = \"s1\"\nrate = 100\nservice = { kind = \"latency\", latency = 10 }\n[[flow]]\nname = \"f1\"\narrival = { kind = \"bucket\", burst = 12000, rate = 10 }\npath = [\"s1\"]\n",
             )],
             1,
             "netcalc: n.toml: M2 flow[0].packet\n",
@@ -3908,23 +1759,7 @@ path = ["s1"]
             "netcalc analyse n.toml",
             &[(
                 "n.toml",
-                r#"[[server]]
-name = "s1"
-rate = 100
-service = { kind = "latency", latency = 10 }
-discipline = "drr"
-quanta = [6000, 6000]
-[[flow]]
-name = "f1"
-packet = 12000
-arrival = { kind = "bucket", burst = 12000, rate = 10 }
-path = ["s1:0"]
-[[flow]]
-name = "f2"
-packet = 6000
-arrival = { kind = "bucket", burst = 6000, rate = 5 }
-path = ["s1:1"]
-"#,
+                "[[server]]\nname = \"s1\"\nrate = 100\nservice = { kind = \"latency\", latency = 10 }\ndiscipline = \"drr\"\nquanta = [6000, 6000]\n[[flow]]\nname = \"f1\"\npacket = 12000\narrival = { kind = \"bucket\", burst = 12000, rate = 10 }\npath = [\"s1:0\"]\n[[flow]]\nname = \"f2\"\npacket = 6000\narrival = { kind = \"bucket\", burst = 6000, rate = 5 }\npath = [\"s1:1\"]\n",
             )],
             1,
             "netcalc: n.toml: M12 server[0].quanta[0]\n",
@@ -3934,16 +1769,7 @@ path = ["s1:1"]
             "netcalc analyse n.toml",
             &[(
                 "n.toml",
-                r#"[[server]]
-name = "s1"
-rate = 100
-service = { kind = "latency", latency = 10 }
-[[flow]]
-name = "f1"
-packet = 12000
-arrival = { kind = "bucket", burst = 12000, rate = 10 }
-path = ["s1:1"]
-"#,
+                "[[server]]\nname = \"s1\"\nrate = 100\nservice = { kind = \"latency\", latency = 10 }\n[[flow]]\nname = \"f1\"\npacket = 12000\narrival = { kind = \"bucket\", burst = 12000, rate = 10 }\npath = [\"s1:1\"]\n",
             )],
             1,
             "netcalc: n.toml: M6 flow[0].path[0]\n",
@@ -3953,16 +1779,7 @@ path = ["s1:1"]
             "netcalc analyse n.toml",
             &[(
                 "n.toml",
-                r#"[[server]]
-name = "s1"
-rate = 100
-service = { kind = "latency", latency = 10 }
-[[flow]]
-name = "f1"
-packet = 12000
-arrival = { kind = "bucket", burst = 12000, rate = 10 }
-path = ["s1", "s1"]
-"#,
+                "[[server]]\nname = \"s1\"\nrate = 100\nservice = { kind = \"latency\", latency = 10 }\n[[flow]]\nname = \"f1\"\npacket = 12000\narrival = { kind = \"bucket\", burst = 12000, rate = 10 }\npath = [\"s1\", \"s1\"]\n",
             )],
             1,
             "netcalc: n.toml: M10 flow[0].path[1]\n",
@@ -3972,17 +1789,7 @@ path = ["s1", "s1"]
             "netcalc analyse n.toml",
             &[(
                 "n.toml",
-                r#"[[server]]
-name = "s1"
-rate = 100
-service = { kind = "latency", latency = 10 }
-colour = 1
-[[flow]]
-name = "f1"
-packet = 12000
-arrival = { kind = "bucket", burst = 12000, rate = 10 }
-path = ["s1"]
-"#,
+                "[[server]]\nname = \"s1\"\nrate = 100\nservice = { kind = \"latency\", latency = 10 }\ncolour = 1\n[[flow]]\nname = \"f1\"\npacket = 12000\narrival = { kind = \"bucket\", burst = 12000, rate = 10 }\npath = [\"s1\"]\n",
             )],
             1,
             "netcalc: n.toml: M3 server[0].colour\n",
@@ -3992,16 +1799,7 @@ path = ["s1"]
             "netcalc analyse n.toml",
             &[(
                 "n.toml",
-                r#"[[server]]
-name = "s1"
-rate = 100
-service = { kind = "latency", latency = 10 }
-[[flow]]
-name = "f1"
-packet = 12000
-arrival = { kind = "bucket", burst = 12000, rate = 10 }
-path = ["s9"]
-"#,
+                "[[server]]\nname = \"s1\"\nrate = 100\nservice = { kind = \"latency\", latency = 10 }\n[[flow]]\nname = \"f1\"\npacket = 12000\narrival = { kind = \"bucket\", burst = 12000, rate = 10 }\npath = [\"s9\"]\n",
             )],
             1,
             "netcalc: n.toml: M8 flow[0].path[0]\n",
@@ -4011,26 +1809,7 @@ path = ["s9"]
             "netcalc analyse n.toml",
             &[(
                 "n.toml",
-                r#"version = 3
-[[server]]
-name = "s1"
-rate = 100
-service = { kind = "latency", latency = 10 }
-[[server]]
-name = "s2"
-rate = 100
-service = { kind = "latency", latency = 10 }
-[[flow]]
-name = "f1"
-packet = 12000
-arrival = { kind = "bucket", burst = 12000, rate = 10 }
-path = ["s1", "s2"]
-[[flow]]
-name = "f2"
-packet = 6000
-arrival = { kind = "bucket", burst = 6000, rate = 5 }
-path = ["s1", "s2"]
-"#,
+                "version = 3\n[[server]]\nname = \"s1\"\nrate = 100\nservice = { kind = \"latency\", latency = 10 }\n[[server]]\nname = \"s2\"\nrate = 100\nservice = { kind = \"latency\", latency = 10 }\n[[flow]]\nname = \"f1\"\npacket = 12000\narrival = { kind = \"bucket\", burst = 12000, rate = 10 }\npath = [\"s1\", \"s2\"]\n[[flow]]\nname = \"f2\"\npacket = 6000\narrival = { kind = \"bucket\", burst = 6000, rate = 5 }\npath = [\"s1\", \"s2\"]\n",
             )],
             1,
             "netcalc: n.toml: M6 version\n",
@@ -4058,25 +1837,7 @@ fn json(rt: HostRuntime) -> Result<(), Fail> {
             "netcalc analyse n.toml --json",
             &[(
                 "n.toml",
-                r#"[[server]]
-name = "s1"
-rate = 100
-service = { kind = "latency", latency = 10 }
-[[server]]
-name = "s2"
-rate = 100
-service = { kind = "latency", latency = 10 }
-[[flow]]
-name = "f1"
-packet = 12000
-arrival = { kind = "bucket", burst = 12000, rate = 10 }
-path = ["s1", "s2"]
-[[flow]]
-name = "f2"
-packet = 12000
-arrival = { kind = "bucket", burst = 12000, rate = 10 }
-path = ["s2", "s1"]
-"#,
+                "[[server]]\nname = \"s1\"\nrate = 100\nservice = { kind = \"latency\", latency = 10 }\n[[server]]\nname = \"s2\"\nrate = 100\nservice = { kind = \"latency\", latency = 10 }\n[[flow]]\nname = \"f1\"\npacket = 12000\narrival = { kind = \"bucket\", burst = 12000, rate = 10 }\npath = [\"s1\", \"s2\"]\n[[flow]]\nname = \"f2\"\npacket = 12000\narrival = { kind = \"bucket\", burst = 12000, rate = 10 }\npath = [\"s2\", \"s1\"]\n",
             )],
             8,
             "netcalc: cycle s1 s2 s1\n",
@@ -4085,30 +1846,10 @@ path = ["s2", "s1"]
         (
             "netcalc edit n.toml e.csv --json",
             &[
-                (
-                    "e.csv",
-                    r#"drop,f1
-undo
-undo
-drop,f1
-"#,
-                ),
+                ("e.csv", "drop,f1\nundo\nundo\ndrop,f1\n"),
                 (
                     "n.toml",
-                    r#"[[server]]
-name = "s1"
-rate = 100
-service = { kind = "latency", latency = 10 }
-[[server]]
-name = "s2"
-rate = 100
-service = { kind = "latency", latency = 10 }
-[[flow]]
-name = "f1"
-packet = 12000
-arrival = { kind = "bucket", burst = 12000, rate = 10 }
-path = ["s1", "s2"]
-"#,
+                    "[[server]]\nname = \"s1\"\nrate = 100\nservice = { kind = \"latency\", latency = 10 }\n[[server]]\nname = \"s2\"\nrate = 100\nservice = { kind = \"latency\", latency = 10 }\n[[flow]]\nname = \"f1\"\npacket = 12000\narrival = { kind = \"bucket\", burst = 12000, rate = 10 }\npath = [\"s1\", \"s2\"]\n",
                 ),
             ],
             0,
@@ -4119,16 +1860,7 @@ path = ["s1", "s2"]
             "netcalc edit n.toml --json",
             &[(
                 "n.toml",
-                r#"[[server]]
-name = "s1"
-rate = 100
-service = { kind = "latency", latency = 10 }
-[[flow]]
-name = "f1"
-packet = 12000
-arrival = { kind = "bucket", burst = 12000, rate = 10 }
-path = ["s1"]
-"#,
+                "[[server]]\nname = \"s1\"\nrate = 100\nservice = { kind = \"latency\", latency = 10 }\n[[flow]]\nname = \"f1\"\npacket = 12000\narrival = { kind = \"bucket\", burst = 12000, rate = 10 }\npath = [\"s1\"]\n",
             )],
             2,
             "netcalc: usage: netcalc analyse NET [--json], edit NET EDITS [--json], simulate NET TRACE, exercise N, check NET RUN, measure NET TRACE FLOW RATE, curve FILE\n",
@@ -4138,16 +1870,7 @@ path = ["s1"]
             "netcalc analyse --json x.toml",
             &[(
                 "n.toml",
-                r#"[[server]]
-name = "s1"
-rate = 100
-service = { kind = "latency", latency = 10 }
-[[flow]]
-name = "f1"
-packet = 12000
-arrival = { kind = "bucket", burst = 12000, rate = 10 }
-path = ["s1"]
-"#,
+                "[[server]]\nname = \"s1\"\nrate = 100\nservice = { kind = \"latency\", latency = 10 }\n[[flow]]\nname = \"f1\"\npacket = 12000\narrival = { kind = \"bucket\", burst = 12000, rate = 10 }\npath = [\"s1\"]\n",
             )],
             3,
             "netcalc: cannot read x.toml\n",
@@ -4157,16 +1880,7 @@ path = ["s1"]
             "netcalc analyse n.toml --json",
             &[(
                 "n.toml",
-                r#"[[server]]
-name = "s1"
-rate = 100
-service = { kind = "latency", latency = 10 }
-[[flow]]
-name = "f1"
-packet = 12000
-arrival = { kind = "bucket", burst = 12000, rate = 101 }
-path = ["s1"]
-"#,
+                "[[server]]\nname = \"s1\"\nrate = 100\nservice = { kind = \"latency\", latency = 10 }\n[[flow]]\nname = \"f1\"\npacket = 12000\narrival = { kind = \"bucket\", burst = 12000, rate = 101 }\npath = [\"s1\"]\n",
             )],
             0,
             "{\"flows\":[{\"bound\":\"unbounded\",\"name\":\"f1\",\"sfa\":\"unbounded\",\"tfa\":\"unbounded\"}],\"queues\":[{\"backlog\":\"unbounded\",\"delay\":\"unbounded\",\"queue\":0,\"server\":\"s1\"}]}\n",
@@ -4178,16 +1892,7 @@ path = ["s1"]
                 ("e.csv", "rate,s9,1\n"),
                 (
                     "n.toml",
-                    r#"[[server]]
-name = "s1"
-rate = 100
-service = { kind = "latency", latency = 10 }
-[[flow]]
-name = "f1"
-packet = 12000
-arrival = { kind = "bucket", burst = 12000, rate = 10 }
-path = ["s1"]
-"#,
+                    "[[server]]\nname = \"s1\"\nrate = 100\nservice = { kind = \"latency\", latency = 10 }\n[[flow]]\nname = \"f1\"\npacket = 12000\narrival = { kind = \"bucket\", burst = 12000, rate = 10 }\npath = [\"s1\"]\n",
                 ),
             ],
             0,
@@ -4198,16 +1903,7 @@ path = ["s1"]
             "netcalc analyse n.toml --json",
             &[(
                 "n.toml",
-                r#"[[server]]
-name = "s1"
-rate = 100
-service = { kind = "latency", latency = 10 }
-[[flow]]
-name = "f1"
-packet = 12000
-arrival = { kind = "bucket", burst = 12000, rate = 10 }
-path = ["s9"]
-"#,
+                "[[server]]\nname = \"s1\"\nrate = 100\nservice = { kind = \"latency\", latency = 10 }\n[[flow]]\nname = \"f1\"\npacket = 12000\narrival = { kind = \"bucket\", burst = 12000, rate = 10 }\npath = [\"s9\"]\n",
             )],
             1,
             "netcalc: n.toml: M8 flow[0].path[0]\n",
@@ -4216,24 +1912,10 @@ path = ["s9"]
         (
             "netcalc edit n.toml e.csv --json",
             &[
-                (
-                    "e.csv",
-                    r#"undo
-rate,s1
-"#,
-                ),
+                ("e.csv", "undo\nrate,s1\n"),
                 (
                     "n.toml",
-                    r#"[[server]]
-name = "s1"
-rate = 100
-service = { kind = "latency", latency = 10 }
-[[flow]]
-name = "f1"
-packet = 12000
-arrival = { kind = "bucket", burst = 12000, rate = 10 }
-path = ["s1"]
-"#,
+                    "[[server]]\nname = \"s1\"\nrate = 100\nservice = { kind = \"latency\", latency = 10 }\n[[flow]]\nname = \"f1\"\npacket = 12000\narrival = { kind = \"bucket\", burst = 12000, rate = 10 }\npath = [\"s1\"]\n",
                 ),
             ],
             1,
@@ -4246,16 +1928,7 @@ path = ["s1"]
                 ("e.csv", "rate,s9,1\n"),
                 (
                     "n.toml",
-                    r#"[[server]]
-name = "s1"
-rate = 100
-service = { kind = "latency", latency = 10 }
-[[flow]]
-name = "f1"
-packet = 12000
-arrival = { kind = "bucket", burst = 12000, rate = 10 }
-path = ["s1"]
-"#,
+                    "[[server]]\nname = \"s1\"\nrate = 100\nservice = { kind = \"latency\", latency = 10 }\n[[flow]]\nname = \"f1\"\npacket = 12000\narrival = { kind = \"bucket\", burst = 12000, rate = 10 }\npath = [\"s1\"]\n",
                 ),
             ],
             0,
@@ -4268,16 +1941,7 @@ path = ["s1"]
                 ("e.csv", "rate,s9,1\n"),
                 (
                     "n.toml",
-                    r#"[[server]]
-name = "s1"
-rate = 100
-service = { kind = "latency", latency = 10 }
-[[flow]]
-name = "f1"
-packet = 12000
-arrival = { kind = "bucket", burst = 12000, rate = 10 }
-path = ["s1"]
-"#,
+                    "[[server]]\nname = \"s1\"\nrate = 100\nservice = { kind = \"latency\", latency = 10 }\n[[flow]]\nname = \"f1\"\npacket = 12000\narrival = { kind = \"bucket\", burst = 12000, rate = 10 }\npath = [\"s1\"]\n",
                 ),
             ],
             0,
@@ -4290,20 +1954,7 @@ path = ["s1"]
                 ("e.csv", "add,f2,12000,12000,10,s2 s1\n"),
                 (
                     "n.toml",
-                    r#"[[server]]
-name = "s1"
-rate = 100
-service = { kind = "latency", latency = 10 }
-[[server]]
-name = "s2"
-rate = 100
-service = { kind = "latency", latency = 10 }
-[[flow]]
-name = "f1"
-packet = 12000
-arrival = { kind = "bucket", burst = 12000, rate = 10 }
-path = ["s1", "s2"]
-"#,
+                    "[[server]]\nname = \"s1\"\nrate = 100\nservice = { kind = \"latency\", latency = 10 }\n[[server]]\nname = \"s2\"\nrate = 100\nservice = { kind = \"latency\", latency = 10 }\n[[flow]]\nname = \"f1\"\npacket = 12000\narrival = { kind = \"bucket\", burst = 12000, rate = 10 }\npath = [\"s1\", \"s2\"]\n",
                 ),
             ],
             0,
@@ -4322,16 +1973,7 @@ path = ["s1", "s2"]
             &[
                 (
                     "n.toml",
-                    r#"[[server]]
-name = "s1"
-rate = 100
-service = { kind = "latency", latency = 10 }
-[[flow]]
-name = "f1"
-packet = 12000
-arrival = { kind = "bucket", burst = 12000, rate = 10 }
-path = ["s1"]
-"#,
+                    "[[server]]\nname = \"s1\"\nrate = 100\nservice = { kind = \"latency\", latency = 10 }\n[[flow]]\nname = \"f1\"\npacket = 12000\narrival = { kind = \"bucket\", burst = 12000, rate = 10 }\npath = [\"s1\"]\n",
                 ),
                 ("r.csv", ""),
             ],
@@ -4358,16 +2000,7 @@ path = ["s1"]
             &[
                 (
                     "n.toml",
-                    r#"[[server]]
-name = "s1"
-rate = 100
-service = { kind = "latency", latency = 10 }
-[[flow]]
-name = "f1"
-packet = 12000
-arrival = { kind = "bucket", burst = 12000, rate = 10 }
-path = ["s1"]
-"#,
+                    "[[server]]\nname = \"s1\"\nrate = 100\nservice = { kind = \"latency\", latency = 10 }\n[[flow]]\nname = \"f1\"\npacket = 12000\narrival = { kind = \"bucket\", burst = 12000, rate = 10 }\npath = [\"s1\"]\n",
                 ),
                 ("t.csv", ""),
             ],
@@ -4380,16 +2013,7 @@ path = ["s1"]
             &[
                 (
                     "n.toml",
-                    r#"[[server]]
-name = "s1"
-rate = 100
-service = { kind = "latency", latency = 10 }
-[[flow]]
-name = "f1"
-packet = 12000
-arrival = { kind = "bucket", burst = 12000, rate = 10 }
-path = ["s1"]
-"#,
+                    "[[server]]\nname = \"s1\"\nrate = 100\nservice = { kind = \"latency\", latency = 10 }\n[[flow]]\nname = \"f1\"\npacket = 12000\narrival = { kind = \"bucket\", burst = 12000, rate = 10 }\npath = [\"s1\"]\n",
                 ),
                 ("t.csv", ""),
             ],
@@ -4402,16 +2026,7 @@ path = ["s1"]
             &[
                 (
                     "n.toml",
-                    r#"[[server]]
-name = "s1"
-rate = 100
-service = { kind = "latency", latency = 10 }
-[[flow]]
-name = "f1"
-packet = 12000
-arrival = { kind = "bucket", burst = 12000, rate = 10 }
-path = ["s1"]
-"#,
+                    "[[server]]\nname = \"s1\"\nrate = 100\nservice = { kind = \"latency\", latency = 10 }\n[[flow]]\nname = \"f1\"\npacket = 12000\narrival = { kind = \"bucket\", burst = 12000, rate = 10 }\npath = [\"s1\"]\n",
                 ),
                 ("t.csv", ""),
             ],
@@ -4423,16 +2038,7 @@ path = ["s1"]
             "netcalc --json analyse n.toml",
             &[(
                 "n.toml",
-                r#"[[server]]
-name = "s1"
-rate = 100
-service = { kind = "latency", latency = 10 }
-[[flow]]
-name = "f1"
-packet = 12000
-arrival = { kind = "bucket", burst = 12000, rate = 10 }
-path = ["s1"]
-"#,
+                "[[server]]\nname = \"s1\"\nrate = 100\nservice = { kind = \"latency\", latency = 10 }\n[[flow]]\nname = \"f1\"\npacket = 12000\narrival = { kind = \"bucket\", burst = 12000, rate = 10 }\npath = [\"s1\"]\n",
             )],
             2,
             "netcalc: usage: netcalc analyse NET [--json], edit NET EDITS [--json], simulate NET TRACE, exercise N, check NET RUN, measure NET TRACE FLOW RATE, curve FILE\n",
@@ -4442,16 +2048,7 @@ path = ["s1"]
             "netcalc analyse --json n.toml",
             &[(
                 "n.toml",
-                r#"[[server]]
-name = "s1"
-rate = 100
-service = { kind = "latency", latency = 10 }
-[[flow]]
-name = "f1"
-packet = 12000
-arrival = { kind = "bucket", burst = 12000, rate = 10 }
-path = ["s1"]
-"#,
+                "[[server]]\nname = \"s1\"\nrate = 100\nservice = { kind = \"latency\", latency = 10 }\n[[flow]]\nname = \"f1\"\npacket = 12000\narrival = { kind = \"bucket\", burst = 12000, rate = 10 }\npath = [\"s1\"]\n",
             )],
             0,
             "{\"flows\":[{\"bound\":\"130\",\"name\":\"f1\",\"sfa\":\"130\",\"tfa\":\"130\"}],\"queues\":[{\"backlog\":\"13300\",\"delay\":\"130\",\"queue\":0,\"server\":\"s1\"}]}\n",
@@ -4461,16 +2058,7 @@ path = ["s1"]
             "netcalc analyse n.toml --json",
             &[(
                 "n.toml",
-                r#"[[server]]
-name = "s1"
-rate = 3
-service = { kind = "latency" }
-[[flow]]
-name = "f1"
-packet = 1
-arrival = { kind = "bucket", burst = 1, rate = "1/2" }
-path = ["s1"]
-"#,
+                "[[server]]\nname = \"s1\"\nrate = 3\nservice = { kind = \"latency\" }\n[[flow]]\nname = \"f1\"\npacket = 1\narrival = { kind = \"bucket\", burst = 1, rate = \"1/2\" }\npath = [\"s1\"]\n",
             )],
             0,
             "{\"flows\":[{\"bound\":\"1/3\",\"name\":\"f1\",\"sfa\":\"1/3\",\"tfa\":\"1/3\"}],\"queues\":[{\"backlog\":\"7/6\",\"delay\":\"1/3\",\"queue\":0,\"server\":\"s1\"}]}\n",
@@ -4480,16 +2068,7 @@ path = ["s1"]
             "netcalc analyse n.toml --JSON",
             &[(
                 "n.toml",
-                r#"[[server]]
-name = "s1"
-rate = 100
-service = { kind = "latency", latency = 10 }
-[[flow]]
-name = "f1"
-packet = 12000
-arrival = { kind = "bucket", burst = 12000, rate = 10 }
-path = ["s1"]
-"#,
+                "[[server]]\nname = \"s1\"\nrate = 100\nservice = { kind = \"latency\", latency = 10 }\n[[flow]]\nname = \"f1\"\npacket = 12000\narrival = { kind = \"bucket\", burst = 12000, rate = 10 }\npath = [\"s1\"]\n",
             )],
             2,
             "netcalc: usage: netcalc analyse NET [--json], edit NET EDITS [--json], simulate NET TRACE, exercise N, check NET RUN, measure NET TRACE FLOW RATE, curve FILE\n",
@@ -4500,30 +2079,15 @@ path = ["s1"]
             &[
                 (
                     "e.csv",
-                    r#"drop,"a""b"
-drop,a\b
-drop,a/b
-drop,"a b"
-drop,
-"#,
+                    "drop,\"a\"\"b\"\ndrop,a\\b\ndrop,a/b\ndrop,\"a b\"\ndrop,\n",
                 ),
                 (
                     "n.toml",
-                    r#"[[server]]
-name = "s1"
-rate = 100
-service = { kind = "latency", latency = 10 }
-[[flow]]
-name = "f1"
-packet = 12000
-arrival = { kind = "bucket", burst = 12000, rate = 10 }
-path = ["s1"]
-"#,
+                    "[[server]]\nname = \"s1\"\nrate = 100\nservice = { kind = \"latency\", latency = 10 }\n[[flow]]\nname = \"f1\"\npacket = 12000\narrival = { kind = \"bucket\", burst = 12000, rate = 10 }\npath = [\"s1\"]\n",
                 ),
             ],
             0,
-            r#"{"edits":[{"ok":false,"refused":"unknown-name a\"b"},{"ok":false,"refused":"unknown-name a\\b"},{"ok":false,"refused":"unknown-name a/b"},{"ok":false,"refused":"unknown-name a b"},{"ok":false,"refused":"unknown-name "}],"flows":[{"bound":"130","name":"f1","sfa":"130","tfa":"130"}],"queues":[{"backlog":"13300","delay":"130","queue":0,"server":"s1"}]}
-"#,
+            "{\"edits\":[{\"ok\":false,\"refused\":\"unknown-name a\\\"b\"},{\"ok\":false,\"refused\":\"unknown-name a\\\\b\"},{\"ok\":false,\"refused\":\"unknown-name a/b\"},{\"ok\":false,\"refused\":\"unknown-name a b\"},{\"ok\":false,\"refused\":\"unknown-name \"}],\"flows\":[{\"bound\":\"130\",\"name\":\"f1\",\"sfa\":\"130\",\"tfa\":\"130\"}],\"queues\":[{\"backlog\":\"13300\",\"delay\":\"130\",\"queue\":0,\"server\":\"s1\"}]}\n",
         ),
         // no_edits
         (
@@ -4532,16 +2096,7 @@ path = ["s1"]
                 ("e.csv", ""),
                 (
                     "n.toml",
-                    r#"[[server]]
-name = "s1"
-rate = 100
-service = { kind = "latency", latency = 10 }
-[[flow]]
-name = "f1"
-packet = 12000
-arrival = { kind = "bucket", burst = 12000, rate = 10 }
-path = ["s1"]
-"#,
+                    "[[server]]\nname = \"s1\"\nrate = 100\nservice = { kind = \"latency\", latency = 10 }\n[[flow]]\nname = \"f1\"\npacket = 12000\narrival = { kind = \"bucket\", burst = 12000, rate = 10 }\npath = [\"s1\"]\n",
                 ),
             ],
             0,
@@ -4552,16 +2107,7 @@ path = ["s1"]
             "netcalc analyse --json",
             &[(
                 "n.toml",
-                r#"[[server]]
-name = "s1"
-rate = 100
-service = { kind = "latency", latency = 10 }
-[[flow]]
-name = "f1"
-packet = 12000
-arrival = { kind = "bucket", burst = 12000, rate = 10 }
-path = ["s1"]
-"#,
+                "[[server]]\nname = \"s1\"\nrate = 100\nservice = { kind = \"latency\", latency = 10 }\n[[flow]]\nname = \"f1\"\npacket = 12000\narrival = { kind = \"bucket\", burst = 12000, rate = 10 }\npath = [\"s1\"]\n",
             )],
             2,
             "netcalc: usage: netcalc analyse NET [--json], edit NET EDITS [--json], simulate NET TRACE, exercise N, check NET RUN, measure NET TRACE FLOW RATE, curve FILE\n",
@@ -4571,16 +2117,7 @@ path = ["s1"]
             "netcalc analyse n.toml --json",
             &[(
                 "n.toml",
-                r#"[[server]]
-name = "s1"
-rate = 100
-service = { kind = "latency", latency = 10 }
-[[flow]]
-name = "f1"
-packet = 12000
-arrival = { kind = "bucket", burst = 12000, rate = 10 }
-path = ["s1"]
-"#,
+                "[[server]]\nname = \"s1\"\nrate = 100\nservice = { kind = \"latency\", latency = 10 }\n[[flow]]\nname = \"f1\"\npacket = 12000\narrival = { kind = \"bucket\", burst = 12000, rate = 10 }\npath = [\"s1\"]\n",
             )],
             0,
             "{\"flows\":[{\"bound\":\"130\",\"name\":\"f1\",\"sfa\":\"130\",\"tfa\":\"130\"}],\"queues\":[{\"backlog\":\"13300\",\"delay\":\"130\",\"queue\":0,\"server\":\"s1\"}]}\n",
@@ -4590,23 +2127,7 @@ path = ["s1"]
             "netcalc analyse n.toml --json",
             &[(
                 "n.toml",
-                r#"[[server]]
-name = "s1"
-rate = 100
-service = { kind = "latency", latency = 10 }
-discipline = "priority"
-queues = 2
-[[flow]]
-name = "f1"
-packet = 12000
-arrival = { kind = "bucket", burst = 12000, rate = 10 }
-path = ["s1:1"]
-[[flow]]
-name = "f2"
-packet = 6000
-arrival = { kind = "bucket", burst = 6000, rate = 5 }
-path = ["s1:0"]
-"#,
+                "[[server]]\nname = \"s1\"\nrate = 100\nservice = { kind = \"latency\", latency = 10 }\ndiscipline = \"priority\"\nqueues = 2\n[[flow]]\nname = \"f1\"\npacket = 12000\narrival = { kind = \"bucket\", burst = 12000, rate = 10 }\npath = [\"s1:1\"]\n[[flow]]\nname = \"f2\"\npacket = 6000\narrival = { kind = \"bucket\", burst = 6000, rate = 5 }\npath = [\"s1:0\"]\n",
             )],
             0,
             "{\"flows\":[{\"bound\":\"200\",\"name\":\"f1\",\"sfa\":\"200\",\"tfa\":\"200\"},{\"bound\":\"190\",\"name\":\"f2\",\"sfa\":\"190\",\"tfa\":\"190\"}],\"queues\":[{\"backlog\":\"6950\",\"delay\":\"190\",\"queue\":0,\"server\":\"s1\"},{\"backlog\":\"14000\",\"delay\":\"200\",\"queue\":1,\"server\":\"s1\"}]}\n",
@@ -4616,20 +2137,7 @@ path = ["s1:0"]
             "netcalc analyse n.toml --json",
             &[(
                 "n.toml",
-                r#"[[server]]
-name = "z"
-rate = 100
-service = { kind = "latency", latency = 10 }
-[[server]]
-name = "a"
-rate = 100
-service = { kind = "latency", latency = 10 }
-[[flow]]
-name = "f1"
-packet = 12000
-arrival = { kind = "bucket", burst = 12000, rate = 10 }
-path = ["z", "a"]
-"#,
+                "[[server]]\nname = \"z\"\nrate = 100\nservice = { kind = \"latency\", latency = 10 }\n[[server]]\nname = \"a\"\nrate = 100\nservice = { kind = \"latency\", latency = 10 }\n[[flow]]\nname = \"f1\"\npacket = 12000\narrival = { kind = \"bucket\", burst = 12000, rate = 10 }\npath = [\"z\", \"a\"]\n",
             )],
             0,
             "{\"flows\":[{\"bound\":\"260\",\"name\":\"f1\",\"sfa\":\"260\",\"tfa\":\"273\"}],\"queues\":[{\"backlog\":\"13300\",\"delay\":\"130\",\"queue\":0,\"server\":\"z\"},{\"backlog\":\"14600\",\"delay\":\"143\",\"queue\":0,\"server\":\"a\"}]}\n",
@@ -4639,16 +2147,7 @@ path = ["z", "a"]
             "netcalc analyse n.toml --json --json",
             &[(
                 "n.toml",
-                r#"[[server]]
-name = "s1"
-rate = 100
-service = { kind = "latency", latency = 10 }
-[[flow]]
-name = "f1"
-packet = 12000
-arrival = { kind = "bucket", burst = 12000, rate = 10 }
-path = ["s1"]
-"#,
+                "[[server]]\nname = \"s1\"\nrate = 100\nservice = { kind = \"latency\", latency = 10 }\n[[flow]]\nname = \"f1\"\npacket = 12000\narrival = { kind = \"bucket\", burst = 12000, rate = 10 }\npath = [\"s1\"]\n",
             )],
             2,
             "netcalc: usage: netcalc analyse NET [--json], edit NET EDITS [--json], simulate NET TRACE, exercise N, check NET RUN, measure NET TRACE FLOW RATE, curve FILE\n",
@@ -4660,16 +2159,7 @@ path = ["s1"]
                 ("e.csv", ""),
                 (
                     "n.toml",
-                    r#"[[server]]
-name = "s1"
-rate = 100
-service = { kind = "latency", latency = 10 }
-[[flow]]
-name = "f1"
-packet = 12000
-arrival = { kind = "bucket", burst = 12000, rate = 10 }
-path = ["s1"]
-"#,
+                    "[[server]]\nname = \"s1\"\nrate = 100\nservice = { kind = \"latency\", latency = 10 }\n[[flow]]\nname = \"f1\"\npacket = 12000\narrival = { kind = \"bucket\", burst = 12000, rate = 10 }\npath = [\"s1\"]\n",
                 ),
             ],
             2,
@@ -4680,16 +2170,7 @@ path = ["s1"]
             "netcalc analyse n.toml n.toml --json",
             &[(
                 "n.toml",
-                r#"[[server]]
-name = "s1"
-rate = 100
-service = { kind = "latency", latency = 10 }
-[[flow]]
-name = "f1"
-packet = 12000
-arrival = { kind = "bucket", burst = 12000, rate = 10 }
-path = ["s1"]
-"#,
+                "[[server]]\nname = \"s1\"\nrate = 100\nservice = { kind = \"latency\", latency = 10 }\n[[flow]]\nname = \"f1\"\npacket = 12000\narrival = { kind = \"bucket\", burst = 12000, rate = 10 }\npath = [\"s1\"]\n",
             )],
             2,
             "netcalc: usage: netcalc analyse NET [--json], edit NET EDITS [--json], simulate NET TRACE, exercise N, check NET RUN, measure NET TRACE FLOW RATE, curve FILE\n",
@@ -4699,16 +2180,7 @@ path = ["s1"]
             "netcalc analyse n.toml --json=true",
             &[(
                 "n.toml",
-                r#"[[server]]
-name = "s1"
-rate = 100
-service = { kind = "latency", latency = 10 }
-[[flow]]
-name = "f1"
-packet = 12000
-arrival = { kind = "bucket", burst = 12000, rate = 10 }
-path = ["s1"]
-"#,
+                "[[server]]\nname = \"s1\"\nrate = 100\nservice = { kind = \"latency\", latency = 10 }\n[[flow]]\nname = \"f1\"\npacket = 12000\narrival = { kind = \"bucket\", burst = 12000, rate = 10 }\npath = [\"s1\"]\n",
             )],
             2,
             "netcalc: usage: netcalc analyse NET [--json], edit NET EDITS [--json], simulate NET TRACE, exercise N, check NET RUN, measure NET TRACE FLOW RATE, curve FILE\n",
@@ -4729,70 +2201,20 @@ fn kinds(rt: HostRuntime) -> Result<(), Fail> {
             "netcalc analyse n.toml",
             &[(
                 "n.toml",
-                r#"# Two switches of an avionics network, and three flows through both, in microseconds and bits.
-
-[[server]]
-name = "sw1"
-rate = 100
-service = { kind = "latency", latency = 16 }
-
-[[server]]
-name = "sw2"
-rate = 100
-service = { kind = "latency", latency = 16 }
-
-[[flow]]
-name = "a"
-packet = 4000
-arrival = { kind = "stair", period = 1000, jitter = 0 }
-path = ["sw1", "sw2"]
-
-[[flow]]
-name = "b"
-packet = 8000
-arrival = { kind = "stair", period = 2000, jitter = 0 }
-path = ["sw1", "sw2"]
-
-[[flow]]
-name = "c"
-packet = 12000
-arrival = { kind = "stair", period = 4000, jitter = 0 }
-path = ["sw1", "sw2"]
-"#,
+                "# Two switches of an avionics network, and three flows through both, in microseconds and bits.\n\n[[server]]\nname = \"sw1\"\nrate = 100\nservice = { kind = \"latency\", latency = 16 }\n\n[[server]]\nname = \"sw2\"\nrate = 100\nservice = { kind = \"latency\", latency = 16 }\n\n[[flow]]\nname = \"a\"\npacket = 4000\narrival = { kind = \"stair\", period = 1000, jitter = 0 }\npath = [\"sw1\", \"sw2\"]\n\n[[flow]]\nname = \"b\"\npacket = 8000\narrival = { kind = \"stair\", period = 2000, jitter = 0 }\npath = [\"sw1\", \"sw2\"]\n\n[[flow]]\nname = \"c\"\npacket = 12000\narrival = { kind = \"stair\", period = 4000, jitter = 0 }\npath = [\"sw1\", \"sw2\"]\n",
             )],
             0,
-            r#"servers 2 flows 3
-queue sw1 0 delay 256 backlog 24000
-queue sw2 0 delay 256 backlog 24000
-flow a tfa 512 sfa 512 bound 512
-flow b tfa 512 sfa 512 bound 512
-flow c tfa 512 sfa 512 bound 512
-"#,
+            "servers 2 flows 3\nqueue sw1 0 delay 256 backlog 24000\nqueue sw2 0 delay 256 backlog 24000\nflow a tfa 512 sfa 512 bound 512\nflow b tfa 512 sfa 512 bound 512\nflow c tfa 512 sfa 512 bound 512\n",
         ),
         // gate
         (
             "netcalc analyse n.toml",
             &[(
                 "n.toml",
-                r#"# A server that works in 250 of each 1000, and one flow through it, in microseconds and bits.
-
-[[server]]
-name = "g"
-rate = 100
-service = { kind = "gate", cycle = 1000, slot = 250 }
-
-[[flow]]
-name = "f"
-packet = 24000
-arrival = { kind = "stair", period = 1500, jitter = 0 }
-path = ["g"]
-"#,
+                "# A server that works in 250 of each 1000, and one flow through it, in microseconds and bits.\n\n[[server]]\nname = \"g\"\nrate = 100\nservice = { kind = \"gate\", cycle = 1000, slot = 250 }\n\n[[flow]]\nname = \"f\"\npacket = 24000\narrival = { kind = \"stair\", period = 1500, jitter = 0 }\npath = [\"g\"]\n",
             )],
             0,
-            r#"servers 1 flows 1
-queue g 0 delay 990 backlog 47000
-flow f tfa 990 sfa 990 bound 990
-"#,
+            "servers 1 flows 1\nqueue g 0 delay 990 backlog 47000\nflow f tfa 990 sfa 990 bound 990\n",
         ),
     ];
     for (line, files, status, wanted) in rows {
@@ -4810,16 +2232,7 @@ fn limits(rt: HostRuntime) -> Result<(), Fail> {
             "netcalc analyse n.toml",
             &[(
                 "n.toml",
-                r#"[[server]]
-name = "s1"
-rate = 100
-service = { kind = "latency", latency = 10 }
-[[flow]]
-name = "f1"
-packet = 12000
-arrival = { kind = "list", close = true, piece = [{ x = 0, at = 0 }, { x = 1, at = 1 }, { x = "1048577/1048576", at = 2 }] }
-path = ["s1"]
-"#,
+                "[[server]]\nname = \"s1\"\nrate = 100\nservice = { kind = \"latency\", latency = 10 }\n[[flow]]\nname = \"f1\"\npacket = 12000\narrival = { kind = \"list\", close = true, piece = [{ x = 0, at = 0 }, { x = 1, at = 1 }, { x = \"1048577/1048576\", at = 2 }] }\npath = [\"s1\"]\n",
             )],
             7,
             "netcalc: too many: curve flow[0].arrival\n",
@@ -4829,16 +2242,7 @@ path = ["s1"]
             "netcalc analyse n.toml",
             &[(
                 "n.toml",
-                r#"[[server]]
-name = "s1"
-rate = 100
-service = { kind = "latency", latency = 10 }
-[[flow]]
-name = "f1"
-packet = 12000
-arrival = { kind = "stair", period = "1/1329227995784915872903807060280344576", jitter = 0 }
-path = ["s1"]
-"#,
+                "[[server]]\nname = \"s1\"\nrate = 100\nservice = { kind = \"latency\", latency = 10 }\n[[flow]]\nname = \"f1\"\npacket = 12000\narrival = { kind = \"stair\", period = \"1/1329227995784915872903807060280344576\", jitter = 0 }\npath = [\"s1\"]\n",
             )],
             6,
             "netcalc: too wide: curve flow[0].arrival\n",
@@ -4848,25 +2252,7 @@ path = ["s1"]
             "netcalc analyse n.toml",
             &[(
                 "n.toml",
-                r#"[[server]]
-name = "s1"
-rate = 100
-service = { kind = "latency", latency = 10 }
-[[server]]
-name = "s2"
-rate = 100
-service = { kind = "latency", latency = 10 }
-[[flow]]
-name = "f1"
-packet = 12000
-arrival = { kind = "bucket", burst = 12000, rate = 10 }
-path = ["s1", "s2"]
-[[flow]]
-name = "f2"
-packet = 6000
-arrival = { kind = "bucket", burst = 6000, rate = 5 }
-path = ["s2", "s1"]
-"#,
+                "[[server]]\nname = \"s1\"\nrate = 100\nservice = { kind = \"latency\", latency = 10 }\n[[server]]\nname = \"s2\"\nrate = 100\nservice = { kind = \"latency\", latency = 10 }\n[[flow]]\nname = \"f1\"\npacket = 12000\narrival = { kind = \"bucket\", burst = 12000, rate = 10 }\npath = [\"s1\", \"s2\"]\n[[flow]]\nname = \"f2\"\npacket = 6000\narrival = { kind = \"bucket\", burst = 6000, rate = 5 }\npath = [\"s2\", \"s1\"]\n",
             )],
             8,
             "netcalc: cycle s1 s2 s1\n",
@@ -4876,21 +2262,7 @@ path = ["s2", "s1"]
             "netcalc analyse n.toml",
             &[(
                 "n.toml",
-                r#"[[server]]
-name = "s1"
-rate = 100
-service = { kind = "latency", latency = 10 }
-[[flow]]
-name = "f1"
-packet = 1
-arrival = { kind = "stair", period = 1000, jitter = 0 }
-path = ["s1"]
-[[flow]]
-name = "f2"
-packet = 1
-arrival = { kind = "stair", period = "1000001/1000", jitter = 0 }
-path = ["s1"]
-"#,
+                "[[server]]\nname = \"s1\"\nrate = 100\nservice = { kind = \"latency\", latency = 10 }\n[[flow]]\nname = \"f1\"\npacket = 1\narrival = { kind = \"stair\", period = 1000, jitter = 0 }\npath = [\"s1\"]\n[[flow]]\nname = \"f2\"\npacket = 1\narrival = { kind = \"stair\", period = \"1000001/1000\", jitter = 0 }\npath = [\"s1\"]\n",
             )],
             7,
             "netcalc: too many: total s1 0\n",
@@ -4900,21 +2272,7 @@ path = ["s1"]
             "netcalc analyse n.toml",
             &[(
                 "n.toml",
-                r#"[[server]]
-name = "s1"
-rate = 100
-service = { kind = "latency", latency = 10 }
-[[flow]]
-name = "f1"
-packet = 12000
-arrival = { kind = "bucket", burst = 12000, rate = "1/1180591620717411303424" }
-path = ["s1"]
-[[flow]]
-name = "f2"
-packet = 6000
-arrival = { kind = "bucket", burst = 6000, rate = "1/1180591620717411303425" }
-path = ["s1"]
-"#,
+                "[[server]]\nname = \"s1\"\nrate = 100\nservice = { kind = \"latency\", latency = 10 }\n[[flow]]\nname = \"f1\"\npacket = 12000\narrival = { kind = \"bucket\", burst = 12000, rate = \"1/1180591620717411303424\" }\npath = [\"s1\"]\n[[flow]]\nname = \"f2\"\npacket = 6000\narrival = { kind = \"bucket\", burst = 6000, rate = \"1/1180591620717411303425\" }\npath = [\"s1\"]\n",
             )],
             6,
             "netcalc: too wide: total s1 0\n",
@@ -4936,30 +2294,12 @@ fn measures(rt: HostRuntime) -> Result<(), Fail> {
             &[
                 (
                     "n.toml",
-                    r#"[[server]]
-name = "s1"
-rate = 100
-service = { kind = "latency", latency = 10 }
-
-[[flow]]
-name = "f1"
-packet = 12000
-arrival = { kind = "bucket", burst = 12000, rate = 10 }
-path = ["s1"]
-"#,
+                    "[[server]]\nname = \"s1\"\nrate = 100\nservice = { kind = \"latency\", latency = 10 }\n\n[[flow]]\nname = \"f1\"\npacket = 12000\narrival = { kind = \"bucket\", burst = 12000, rate = 10 }\npath = [\"s1\"]\n",
                 ),
-                (
-                    "t.csv",
-                    r#"packet,0,f1,12000
-packet,0,f1,12000
-"#,
-                ),
+                ("t.csv", "packet,0,f1,12000\npacket,0,f1,12000\n"),
             ],
             0,
-            r#"flow f1 packets 2
-step 0 24000
-burst 24000 rate 10
-"#,
+            "flow f1 packets 2\nstep 0 24000\nburst 24000 rate 10\n",
         ),
         // a_curve_too_wide
         (
@@ -4967,16 +2307,7 @@ burst 24000 rate 10
             &[
                 (
                     "n.toml",
-                    r#"[[server]]
-name = "s1"
-rate = 100
-service = { kind = "latency", latency = 10 }
-[[flow]]
-name = "f1"
-packet = 12000
-arrival = { kind = "stair", period = "1/1329227995784915872903807060280344576", jitter = 0 }
-path = ["s1"]
-"#,
+                    "[[server]]\nname = \"s1\"\nrate = 100\nservice = { kind = \"latency\", latency = 10 }\n[[flow]]\nname = \"f1\"\npacket = 12000\narrival = { kind = \"stair\", period = \"1/1329227995784915872903807060280344576\", jitter = 0 }\npath = [\"s1\"]\n",
                 ),
                 ("t.csv", "packet,0,f9,4000\n"),
             ],
@@ -4989,39 +2320,12 @@ path = ["s1"]
             &[
                 (
                     "n.toml",
-                    r#"[[server]]
-name = "s1"
-rate = 100
-service = { kind = "latency", latency = 10 }
-[[server]]
-name = "s2"
-rate = 100
-service = { kind = "latency", latency = 10 }
-[[flow]]
-name = "f1"
-packet = 12000
-arrival = { kind = "bucket", burst = 12000, rate = 10 }
-path = ["s1", "s2"]
-[[flow]]
-name = "f2"
-packet = 6000
-arrival = { kind = "bucket", burst = 6000, rate = 5 }
-path = ["s2", "s1"]
-"#,
+                    "[[server]]\nname = \"s1\"\nrate = 100\nservice = { kind = \"latency\", latency = 10 }\n[[server]]\nname = \"s2\"\nrate = 100\nservice = { kind = \"latency\", latency = 10 }\n[[flow]]\nname = \"f1\"\npacket = 12000\narrival = { kind = \"bucket\", burst = 12000, rate = 10 }\npath = [\"s1\", \"s2\"]\n[[flow]]\nname = \"f2\"\npacket = 6000\narrival = { kind = \"bucket\", burst = 6000, rate = 5 }\npath = [\"s2\", \"s1\"]\n",
                 ),
-                (
-                    "t.csv",
-                    r#"packet,0,f1,100
-packet,2,f1,100
-"#,
-                ),
+                ("t.csv", "packet,0,f1,100\npacket,2,f1,100\n"),
             ],
             0,
-            r#"flow f1 packets 2
-step 0 100
-step 2 200
-burst 180 rate 10
-"#,
+            "flow f1 packets 2\nstep 0 100\nstep 2 200\nburst 180 rate 10\n",
         ),
         // a_flow_that_begins_as_a_flag_does
         (
@@ -5029,25 +2333,11 @@ burst 180 rate 10
             &[
                 (
                     "n.toml",
-                    r#"[[server]]
-name = "s1"
-rate = 100
-service = { kind = "latency", latency = 10 }
-
-[[flow]]
-name = "f1"
-packet = 12000
-arrival = { kind = "bucket", burst = 12000, rate = 10 }
-path = ["s1"]
-"#,
+                    "[[server]]\nname = \"s1\"\nrate = 100\nservice = { kind = \"latency\", latency = 10 }\n\n[[flow]]\nname = \"f1\"\npacket = 12000\narrival = { kind = \"bucket\", burst = 12000, rate = 10 }\npath = [\"s1\"]\n",
                 ),
                 (
                     "t.csv",
-                    r#"packet,0,f1,4000
-packet,10,f1,4000
-packet,10,f1,2000
-packet,30,f1,6000
-"#,
+                    "packet,0,f1,4000\npacket,10,f1,4000\npacket,10,f1,2000\npacket,30,f1,6000\n",
                 ),
             ],
             2,
@@ -5059,25 +2349,11 @@ packet,30,f1,6000
             &[
                 (
                     "n.toml",
-                    r#"[[server]]
-name = "s1"
-rate = 100
-service = { kind = "latency", latency = 10 }
-
-[[flow]]
-name = "f1"
-packet = 12000
-arrival = { kind = "bucket", burst = 12000, rate = 10 }
-path = ["s1"]
-"#,
+                    "[[server]]\nname = \"s1\"\nrate = 100\nservice = { kind = \"latency\", latency = 10 }\n\n[[flow]]\nname = \"f1\"\npacket = 12000\narrival = { kind = \"bucket\", burst = 12000, rate = 10 }\npath = [\"s1\"]\n",
                 ),
                 (
                     "t.csv",
-                    r#"packet,0,f1,4000
-packet,10,f1,4000
-packet,10,f1,2000
-packet,30,f1,6000
-"#,
+                    "packet,0,f1,4000\npacket,10,f1,4000\npacket,10,f1,2000\npacket,30,f1,6000\n",
                 ),
             ],
             2,
@@ -5089,35 +2365,15 @@ packet,30,f1,6000
             &[
                 (
                     "n.toml",
-                    r#"[[server]]
-name = "s1"
-rate = 100
-service = { kind = "latency", latency = 10 }
-
-[[flow]]
-name = "f1"
-packet = 12000
-arrival = { kind = "bucket", burst = 12000, rate = 10 }
-path = ["s1"]
-"#,
+                    "[[server]]\nname = \"s1\"\nrate = 100\nservice = { kind = \"latency\", latency = 10 }\n\n[[flow]]\nname = \"f1\"\npacket = 12000\narrival = { kind = \"bucket\", burst = 12000, rate = 10 }\npath = [\"s1\"]\n",
                 ),
                 (
                     "t.csv",
-                    r#"packet,0,f1,4000
-packet,10,f1,4000
-packet,10,f1,2000
-packet,30,f1,6000
-"#,
+                    "packet,0,f1,4000\npacket,10,f1,4000\npacket,10,f1,2000\npacket,30,f1,6000\n",
                 ),
             ],
             0,
-            r#"flow f1 packets 4
-step 0 6000
-step 10 10000
-step 20 12000
-step 30 16000
-burst 16000 rate 0
-"#,
+            "flow f1 packets 4\nstep 0 6000\nstep 10 10000\nstep 20 12000\nstep 30 16000\nburst 16000 rate 0\n",
         ),
         // a_rate_past_all_numbers
         (
@@ -5125,25 +2381,11 @@ burst 16000 rate 0
             &[
                 (
                     "n.toml",
-                    r#"[[server]]
-name = "s1"
-rate = 100
-service = { kind = "latency", latency = 10 }
-
-[[flow]]
-name = "f1"
-packet = 12000
-arrival = { kind = "bucket", burst = 12000, rate = 10 }
-path = ["s1"]
-"#,
+                    "[[server]]\nname = \"s1\"\nrate = 100\nservice = { kind = \"latency\", latency = 10 }\n\n[[flow]]\nname = \"f1\"\npacket = 12000\narrival = { kind = \"bucket\", burst = 12000, rate = 10 }\npath = [\"s1\"]\n",
                 ),
                 (
                     "t.csv",
-                    r#"packet,0,f1,4000
-packet,10,f1,4000
-packet,10,f1,2000
-packet,30,f1,6000
-"#,
+                    "packet,0,f1,4000\npacket,10,f1,4000\npacket,10,f1,2000\npacket,30,f1,6000\n",
                 ),
             ],
             2,
@@ -5155,36 +2397,15 @@ packet,30,f1,6000
             &[
                 (
                     "n.toml",
-                    r#"[[server]]
-name = "s1"
-rate = 100
-service = { kind = "latency", latency = 10 }
-
-[[flow]]
-name = "f1"
-packet = 12000
-arrival = { kind = "bucket", burst = 12000, rate = 10 }
-path = ["s1"]
-"#,
+                    "[[server]]\nname = \"s1\"\nrate = 100\nservice = { kind = \"latency\", latency = 10 }\n\n[[flow]]\nname = \"f1\"\npacket = 12000\narrival = { kind = \"bucket\", burst = 12000, rate = 10 }\npath = [\"s1\"]\n",
                 ),
                 (
                     "t.csv",
-                    r#"packet,0,f1,1000
-packet,1/3,f1,1000
-packet,2/3,f1,2000
-packet,7/2,f1,1500
-"#,
+                    "packet,0,f1,1000\npacket,1/3,f1,1000\npacket,2/3,f1,2000\npacket,7/2,f1,1500\n",
                 ),
             ],
             0,
-            r#"flow f1 packets 4
-step 0 2000
-step 1/3 3000
-step 2/3 4000
-step 19/6 4500
-step 7/2 5500
-burst 4275 rate 350
-"#,
+            "flow f1 packets 4\nstep 0 2000\nstep 1/3 3000\nstep 2/3 4000\nstep 19/6 4500\nstep 7/2 5500\nburst 4275 rate 350\n",
         ),
         // a_rate_that_is_minus_0
         (
@@ -5192,25 +2413,11 @@ burst 4275 rate 350
             &[
                 (
                     "n.toml",
-                    r#"[[server]]
-name = "s1"
-rate = 100
-service = { kind = "latency", latency = 10 }
-
-[[flow]]
-name = "f1"
-packet = 12000
-arrival = { kind = "bucket", burst = 12000, rate = 10 }
-path = ["s1"]
-"#,
+                    "[[server]]\nname = \"s1\"\nrate = 100\nservice = { kind = \"latency\", latency = 10 }\n\n[[flow]]\nname = \"f1\"\npacket = 12000\narrival = { kind = \"bucket\", burst = 12000, rate = 10 }\npath = [\"s1\"]\n",
                 ),
                 (
                     "t.csv",
-                    r#"packet,0,f1,4000
-packet,10,f1,4000
-packet,10,f1,2000
-packet,30,f1,6000
-"#,
+                    "packet,0,f1,4000\npacket,10,f1,4000\npacket,10,f1,2000\npacket,30,f1,6000\n",
                 ),
             ],
             2,
@@ -5222,25 +2429,11 @@ packet,30,f1,6000
             &[
                 (
                     "n.toml",
-                    r#"[[server]]
-name = "s1"
-rate = 100
-service = { kind = "latency", latency = 10 }
-
-[[flow]]
-name = "f1"
-packet = 12000
-arrival = { kind = "bucket", burst = 12000, rate = 10 }
-path = ["s1"]
-"#,
+                    "[[server]]\nname = \"s1\"\nrate = 100\nservice = { kind = \"latency\", latency = 10 }\n\n[[flow]]\nname = \"f1\"\npacket = 12000\narrival = { kind = \"bucket\", burst = 12000, rate = 10 }\npath = [\"s1\"]\n",
                 ),
                 (
                     "t.csv",
-                    r#"packet,0,f1,4000
-packet,10,f1,4000
-packet,10,f1,2000
-packet,30,f1,6000
-"#,
+                    "packet,0,f1,4000\npacket,10,f1,4000\npacket,10,f1,2000\npacket,30,f1,6000\n",
                 ),
             ],
             2,
@@ -5252,25 +2445,11 @@ packet,30,f1,6000
             &[
                 (
                     "n.toml",
-                    r#"[[server]]
-name = "s1"
-rate = 100
-service = { kind = "latency", latency = 10 }
-
-[[flow]]
-name = "f1"
-packet = 12000
-arrival = { kind = "bucket", burst = 12000, rate = 10 }
-path = ["s1"]
-"#,
+                    "[[server]]\nname = \"s1\"\nrate = 100\nservice = { kind = \"latency\", latency = 10 }\n\n[[flow]]\nname = \"f1\"\npacket = 12000\narrival = { kind = \"bucket\", burst = 12000, rate = 10 }\npath = [\"s1\"]\n",
                 ),
                 (
                     "t.csv",
-                    r#"packet,0,f1,4000
-packet,10,f1,4000
-packet,10,f1,2000
-packet,30,f1,6000
-"#,
+                    "packet,0,f1,4000\npacket,10,f1,4000\npacket,10,f1,2000\npacket,30,f1,6000\n",
                 ),
             ],
             6,
@@ -5282,25 +2461,11 @@ packet,30,f1,6000
             &[
                 (
                     "n.toml",
-                    r#"[[server]]
-name = "s1"
-rate = 100
-service = { kind = "latency", latency = 10 }
-
-[[flow]]
-name = "f1"
-packet = 12000
-arrival = { kind = "bucket", burst = 12000, rate = 10 }
-path = ["s1"]
-"#,
+                    "[[server]]\nname = \"s1\"\nrate = 100\nservice = { kind = \"latency\", latency = 10 }\n\n[[flow]]\nname = \"f1\"\npacket = 12000\narrival = { kind = \"bucket\", burst = 12000, rate = 10 }\npath = [\"s1\"]\n",
                 ),
                 (
                     "t.csv",
-                    r#"packet,0,f1,4000
-packet,10,f1,4000
-packet,10,f1,2000
-packet,30,f1,6000
-"#,
+                    "packet,0,f1,4000\npacket,10,f1,4000\npacket,10,f1,2000\npacket,30,f1,6000\n",
                 ),
             ],
             2,
@@ -5312,17 +2477,7 @@ packet,30,f1,6000
             &[
                 (
                     "n.toml",
-                    r#"[[server]]
-name = "s1"
-rate = 0
-service = { kind = "latency", latency = 10 }
-
-[[flow]]
-name = "f1"
-packet = 12000
-arrival = { kind = "bucket", burst = 12000, rate = 10 }
-path = ["s1"]
-"#,
+                    "[[server]]\nname = \"s1\"\nrate = 0\nservice = { kind = \"latency\", latency = 10 }\n\n[[flow]]\nname = \"f1\"\npacket = 12000\narrival = { kind = \"bucket\", burst = 12000, rate = 10 }\npath = [\"s1\"]\n",
                 ),
                 ("t.csv", "packet,0,f9,4000\n"),
             ],
@@ -5335,17 +2490,7 @@ path = ["s1"]
             &[
                 (
                     "n.toml",
-                    r#"[[server]]
-name = "s1"
-rate = 100
-service = { kind = "latency", latency = 10 }
-
-[[flow]]
-name = "f1"
-packet = 12000
-arrival = { kind = "bucket", burst = 12000, rate = 10 }
-path = ["s1"]
-"#,
+                    "[[server]]\nname = \"s1\"\nrate = 100\nservice = { kind = \"latency\", latency = 10 }\n\n[[flow]]\nname = \"f1\"\npacket = 12000\narrival = { kind = \"bucket\", burst = 12000, rate = 10 }\npath = [\"s1\"]\n",
                 ),
                 (
                     "t.csv",
@@ -5361,17 +2506,7 @@ path = ["s1"]
             &[
                 (
                     "n.toml",
-                    r#"[[server]]
-name = "s1"
-rate = 100
-service = { kind = "latency", latency = 10 }
-
-[[flow]]
-name = "f1"
-packet = 12000
-arrival = { kind = "bucket", burst = 12000, rate = 10 }
-path = ["s1"]
-"#,
+                    "[[server]]\nname = \"s1\"\nrate = 100\nservice = { kind = \"latency\", latency = 10 }\n\n[[flow]]\nname = \"f1\"\npacket = 12000\narrival = { kind = \"bucket\", burst = 12000, rate = 10 }\npath = [\"s1\"]\n",
                 ),
                 (
                     "t.csv",
@@ -5379,10 +2514,7 @@ path = ["s1"]
                 ),
             ],
             0,
-            r#"flow f1 packets 1
-step 0 1
-burst 1 rate 1
-"#,
+            "flow f1 packets 1\nstep 0 1\nburst 1 rate 1\n",
         ),
         // a_trace_fault_goes_before_an_unknown_flow
         (
@@ -5390,17 +2522,7 @@ burst 1 rate 1
             &[
                 (
                     "n.toml",
-                    r#"[[server]]
-name = "s1"
-rate = 100
-service = { kind = "latency", latency = 10 }
-
-[[flow]]
-name = "f1"
-packet = 12000
-arrival = { kind = "bucket", burst = 12000, rate = 10 }
-path = ["s1"]
-"#,
+                    "[[server]]\nname = \"s1\"\nrate = 100\nservice = { kind = \"latency\", latency = 10 }\n\n[[flow]]\nname = \"f1\"\npacket = 12000\narrival = { kind = \"bucket\", burst = 12000, rate = 10 }\npath = [\"s1\"]\n",
                 ),
                 ("t.csv", "packet,0,f9,4000\n"),
             ],
@@ -5413,33 +2535,15 @@ path = ["s1"]
             &[
                 (
                     "n.toml",
-                    r#"[[server]]
-name = "s1"
-rate = 100
-service = { kind = "latency", latency = 10 }
-
-[[flow]]
-name = "f1"
-packet = 12000
-arrival = { kind = "bucket", burst = 12000, rate = 10 }
-path = ["s1"]
-"#,
+                    "[[server]]\nname = \"s1\"\nrate = 100\nservice = { kind = \"latency\", latency = 10 }\n\n[[flow]]\nname = \"f1\"\npacket = 12000\narrival = { kind = \"bucket\", burst = 12000, rate = 10 }\npath = [\"s1\"]\n",
                 ),
                 (
                     "t.csv",
-                    r#"packet,0,f1,6000
-packet,10,f1,1000
-packet,40,f1,6000
-"#,
+                    "packet,0,f1,6000\npacket,10,f1,1000\npacket,40,f1,6000\n",
                 ),
             ],
             0,
-            r#"flow f1 packets 3
-step 0 6000
-step 10 7000
-step 40 13000
-burst 9000 rate 100
-"#,
+            "flow f1 packets 3\nstep 0 6000\nstep 10 7000\nstep 40 13000\nburst 9000 rate 100\n",
         ),
         // a_word_too_many
         (
@@ -5447,25 +2551,11 @@ burst 9000 rate 100
             &[
                 (
                     "n.toml",
-                    r#"[[server]]
-name = "s1"
-rate = 100
-service = { kind = "latency", latency = 10 }
-
-[[flow]]
-name = "f1"
-packet = 12000
-arrival = { kind = "bucket", burst = 12000, rate = 10 }
-path = ["s1"]
-"#,
+                    "[[server]]\nname = \"s1\"\nrate = 100\nservice = { kind = \"latency\", latency = 10 }\n\n[[flow]]\nname = \"f1\"\npacket = 12000\narrival = { kind = \"bucket\", burst = 12000, rate = 10 }\npath = [\"s1\"]\n",
                 ),
                 (
                     "t.csv",
-                    r#"packet,0,f1,4000
-packet,10,f1,4000
-packet,10,f1,2000
-packet,30,f1,6000
-"#,
+                    "packet,0,f1,4000\npacket,10,f1,4000\npacket,10,f1,2000\npacket,30,f1,6000\n",
                 ),
             ],
             2,
@@ -5477,25 +2567,12 @@ packet,30,f1,6000
             &[
                 (
                     "n.toml",
-                    r#"[[server]]
-name = "s1"
-rate = 100
-service = { kind = "latency", latency = 10 }
-
-[[flow]]
-name = "f1"
-packet = 12000
-arrival = { kind = "bucket", burst = 12000, rate = 10 }
-path = ["s1"]
-"#,
+                    "[[server]]\nname = \"s1\"\nrate = 100\nservice = { kind = \"latency\", latency = 10 }\n\n[[flow]]\nname = \"f1\"\npacket = 12000\narrival = { kind = \"bucket\", burst = 12000, rate = 10 }\npath = [\"s1\"]\n",
                 ),
                 ("t.csv", ""),
             ],
             0,
-            r#"flow f1 packets 0
-step 0 0
-burst 0 rate 1
-"#,
+            "flow f1 packets 0\nstep 0 0\nburst 0 rate 1\n",
         ),
         // an_unknown_flow
         (
@@ -5503,25 +2580,11 @@ burst 0 rate 1
             &[
                 (
                     "n.toml",
-                    r#"[[server]]
-name = "s1"
-rate = 100
-service = { kind = "latency", latency = 10 }
-
-[[flow]]
-name = "f1"
-packet = 12000
-arrival = { kind = "bucket", burst = 12000, rate = 10 }
-path = ["s1"]
-"#,
+                    "[[server]]\nname = \"s1\"\nrate = 100\nservice = { kind = \"latency\", latency = 10 }\n\n[[flow]]\nname = \"f1\"\npacket = 12000\narrival = { kind = \"bucket\", burst = 12000, rate = 10 }\npath = [\"s1\"]\n",
                 ),
                 (
                     "t.csv",
-                    r#"packet,0,f1,4000
-packet,10,f1,4000
-packet,10,f1,2000
-packet,30,f1,6000
-"#,
+                    "packet,0,f1,4000\npacket,10,f1,4000\npacket,10,f1,2000\npacket,30,f1,6000\n",
                 ),
             ],
             1,
@@ -5533,35 +2596,15 @@ packet,30,f1,6000
             &[
                 (
                     "n.toml",
-                    r#"[[server]]
-name = "s1"
-rate = 100
-service = { kind = "latency", latency = 10 }
-
-[[flow]]
-name = "f1"
-packet = 12000
-arrival = { kind = "bucket", burst = 12000, rate = 10 }
-path = ["s1"]
-"#,
+                    "[[server]]\nname = \"s1\"\nrate = 100\nservice = { kind = \"latency\", latency = 10 }\n\n[[flow]]\nname = \"f1\"\npacket = 12000\narrival = { kind = \"bucket\", burst = 12000, rate = 10 }\npath = [\"s1\"]\n",
                 ),
                 (
                     "t.csv",
-                    r#"packet,0,f1,4000
-packet,10,f1,4000
-packet,10,f1,2000
-packet,30,f1,6000
-"#,
+                    "packet,0,f1,4000\npacket,10,f1,4000\npacket,10,f1,2000\npacket,30,f1,6000\n",
                 ),
             ],
             0,
-            r#"flow f1 packets 4
-step 0 6000
-step 10 10000
-step 20 12000
-step 30 16000
-burst 13000 rate 100
-"#,
+            "flow f1 packets 4\nstep 0 6000\nstep 10 10000\nstep 20 12000\nstep 30 16000\nburst 13000 rate 100\n",
         ),
         // four_packets_at_a_higher_rate
         (
@@ -5569,35 +2612,15 @@ burst 13000 rate 100
             &[
                 (
                     "n.toml",
-                    r#"[[server]]
-name = "s1"
-rate = 100
-service = { kind = "latency", latency = 10 }
-
-[[flow]]
-name = "f1"
-packet = 12000
-arrival = { kind = "bucket", burst = 12000, rate = 10 }
-path = ["s1"]
-"#,
+                    "[[server]]\nname = \"s1\"\nrate = 100\nservice = { kind = \"latency\", latency = 10 }\n\n[[flow]]\nname = \"f1\"\npacket = 12000\narrival = { kind = \"bucket\", burst = 12000, rate = 10 }\npath = [\"s1\"]\n",
                 ),
                 (
                     "t.csv",
-                    r#"packet,0,f1,4000
-packet,10,f1,4000
-packet,10,f1,2000
-packet,30,f1,6000
-"#,
+                    "packet,0,f1,4000\npacket,10,f1,4000\npacket,10,f1,2000\npacket,30,f1,6000\n",
                 ),
             ],
             0,
-            r#"flow f1 packets 4
-step 0 6000
-step 10 10000
-step 20 12000
-step 30 16000
-burst 6000 rate 500
-"#,
+            "flow f1 packets 4\nstep 0 6000\nstep 10 10000\nstep 20 12000\nstep 30 16000\nburst 6000 rate 500\n",
         ),
         // no_rate
         (
@@ -5605,25 +2628,11 @@ burst 6000 rate 500
             &[
                 (
                     "n.toml",
-                    r#"[[server]]
-name = "s1"
-rate = 100
-service = { kind = "latency", latency = 10 }
-
-[[flow]]
-name = "f1"
-packet = 12000
-arrival = { kind = "bucket", burst = 12000, rate = 10 }
-path = ["s1"]
-"#,
+                    "[[server]]\nname = \"s1\"\nrate = 100\nservice = { kind = \"latency\", latency = 10 }\n\n[[flow]]\nname = \"f1\"\npacket = 12000\narrival = { kind = \"bucket\", burst = 12000, rate = 10 }\npath = [\"s1\"]\n",
                 ),
                 (
                     "t.csv",
-                    r#"packet,0,f1,4000
-packet,10,f1,4000
-packet,10,f1,2000
-packet,30,f1,6000
-"#,
+                    "packet,0,f1,4000\npacket,10,f1,4000\npacket,10,f1,2000\npacket,30,f1,6000\n",
                 ),
             ],
             2,
@@ -5634,17 +2643,7 @@ packet,30,f1,6000
             "netcalc measure n.toml t.csv f1 1",
             &[(
                 "n.toml",
-                r#"[[server]]
-name = "s1"
-rate = 100
-service = { kind = "latency", latency = 10 }
-
-[[flow]]
-name = "f1"
-packet = 12000
-arrival = { kind = "bucket", burst = 12000, rate = 10 }
-path = ["s1"]
-"#,
+                "[[server]]\nname = \"s1\"\nrate = 100\nservice = { kind = \"latency\", latency = 10 }\n\n[[flow]]\nname = \"f1\"\npacket = 12000\narrival = { kind = \"bucket\", burst = 12000, rate = 10 }\npath = [\"s1\"]\n",
             )],
             3,
             "netcalc: cannot read t.csv\n",
@@ -5655,40 +2654,15 @@ path = ["s1"]
             &[
                 (
                     "n.toml",
-                    r#"[[server]]
-name = "s1"
-rate = 100
-service = { kind = "latency", latency = 10 }
-
-[[flow]]
-name = "f1"
-packet = 12000
-arrival = { kind = "bucket", burst = 12000, rate = 10 }
-path = ["s1"]
-
-[[flow]]
-name = "f2"
-packet = 6000
-arrival = { kind = "bucket", burst = 6000, rate = 5 }
-path = ["s1"]
-"#,
+                    "[[server]]\nname = \"s1\"\nrate = 100\nservice = { kind = \"latency\", latency = 10 }\n\n[[flow]]\nname = \"f1\"\npacket = 12000\narrival = { kind = \"bucket\", burst = 12000, rate = 10 }\npath = [\"s1\"]\n\n[[flow]]\nname = \"f2\"\npacket = 6000\narrival = { kind = \"bucket\", burst = 6000, rate = 5 }\npath = [\"s1\"]\n",
                 ),
                 (
                     "t.csv",
-                    r#"packet,0,f1,12000
-packet,1,f2,3000
-packet,5,f1,12000
-packet,6,f2,2000
-stall,s1,0,4
-"#,
+                    "packet,0,f1,12000\npacket,1,f2,3000\npacket,5,f1,12000\npacket,6,f2,2000\nstall,s1,0,4\n",
                 ),
             ],
             0,
-            r#"flow f2 packets 2
-step 0 3000
-step 5 5000
-burst 4500 rate 100
-"#,
+            "flow f2 packets 2\nstep 0 3000\nstep 5 5000\nburst 4500 rate 100\n",
         ),
         // packets_at_one_time
         (
@@ -5696,31 +2670,15 @@ burst 4500 rate 100
             &[
                 (
                     "n.toml",
-                    r#"[[server]]
-name = "s1"
-rate = 100
-service = { kind = "latency", latency = 10 }
-
-[[flow]]
-name = "f1"
-packet = 12000
-arrival = { kind = "bucket", burst = 12000, rate = 10 }
-path = ["s1"]
-"#,
+                    "[[server]]\nname = \"s1\"\nrate = 100\nservice = { kind = \"latency\", latency = 10 }\n\n[[flow]]\nname = \"f1\"\npacket = 12000\narrival = { kind = \"bucket\", burst = 12000, rate = 10 }\npath = [\"s1\"]\n",
                 ),
                 (
                     "t.csv",
-                    r#"packet,5,f1,4000
-packet,5,f1,2000
-packet,5,f1,1000
-"#,
+                    "packet,5,f1,4000\npacket,5,f1,2000\npacket,5,f1,1000\n",
                 ),
             ],
             0,
-            r#"flow f1 packets 3
-step 0 7000
-burst 7000 rate 1
-"#,
+            "flow f1 packets 3\nstep 0 7000\nburst 7000 rate 1\n",
         ),
         // times_that_are_too_wide
         (
@@ -5728,25 +2686,11 @@ burst 7000 rate 1
             &[
                 (
                     "n.toml",
-                    r#"[[server]]
-name = "s1"
-rate = 100
-service = { kind = "latency", latency = 10 }
-
-[[flow]]
-name = "f1"
-packet = 12000
-arrival = { kind = "bucket", burst = 12000, rate = 10 }
-path = ["s1"]
-"#,
+                    "[[server]]\nname = \"s1\"\nrate = 100\nservice = { kind = \"latency\", latency = 10 }\n\n[[flow]]\nname = \"f1\"\npacket = 12000\narrival = { kind = \"bucket\", burst = 12000, rate = 10 }\npath = [\"s1\"]\n",
                 ),
                 (
                     "t.csv",
-                    r#"packet,0,f1,8
-packet,1/2305843009213693951,f1,8
-packet,1/2147483647,f1,8
-packet,10000000,f1,8
-"#,
+                    "packet,0,f1,8\npacket,1/2305843009213693951,f1,8\npacket,1/2147483647,f1,8\npacket,10000000,f1,8\n",
                 ),
             ],
             6,
@@ -5769,17 +2713,7 @@ fn runs(rt: HostRuntime) -> Result<(), Fail> {
             &[
                 (
                     "n.toml",
-                    r#"[[server]]
-name = "s1"
-rate = 100
-service = { kind = "latency", latency = 10 }
-
-[[flow]]
-name = "f1"
-packet = 12000
-arrival = { kind = "bucket", burst = 12000, rate = 10 }
-path = ["s1"]
-"#,
+                    "[[server]]\nname = \"s1\"\nrate = 100\nservice = { kind = \"latency\", latency = 10 }\n\n[[flow]]\nname = \"f1\"\npacket = 12000\narrival = { kind = \"bucket\", burst = 12000, rate = 10 }\npath = [\"s1\"]\n",
                 ),
                 ("t.csv", "packet,0,f1,1\t\n"),
             ],
@@ -5792,28 +2726,7 @@ path = ["s1"]
             &[
                 (
                     "n.toml",
-                    r#"[[server]]
-name = "s1"
-rate = 100
-service = { kind = "latency", latency = 10 }
-
-[[server]]
-name = "s2"
-rate = 100
-service = { kind = "latency", latency = 10 }
-
-[[flow]]
-name = "f1"
-packet = 12000
-arrival = { kind = "bucket", burst = 12000, rate = 10 }
-path = ["s1", "s2"]
-
-[[flow]]
-name = "f2"
-packet = 6000
-arrival = { kind = "bucket", burst = 6000, rate = 5 }
-path = ["s2", "s1"]
-"#,
+                    "[[server]]\nname = \"s1\"\nrate = 100\nservice = { kind = \"latency\", latency = 10 }\n\n[[server]]\nname = \"s2\"\nrate = 100\nservice = { kind = \"latency\", latency = 10 }\n\n[[flow]]\nname = \"f1\"\npacket = 12000\narrival = { kind = \"bucket\", burst = 12000, rate = 10 }\npath = [\"s1\", \"s2\"]\n\n[[flow]]\nname = \"f2\"\npacket = 6000\narrival = { kind = \"bucket\", burst = 6000, rate = 5 }\npath = [\"s2\", \"s1\"]\n",
                 ),
                 ("t.csv", "packet,0,f1,1\n"),
             ],
@@ -5826,27 +2739,12 @@ path = ["s2", "s1"]
             &[
                 (
                     "n.toml",
-                    r#"[[server]]
-name = "g"
-rate = 100
-service = { kind = "gate", cycle = 1000, slot = 250 }
-
-[[flow]]
-name = "f"
-packet = 24000
-arrival = { kind = "stair", period = 1500, jitter = 0 }
-path = ["g"]
-"#,
+                    "[[server]]\nname = \"g\"\nrate = 100\nservice = { kind = \"gate\", cycle = 1000, slot = 250 }\n\n[[flow]]\nname = \"f\"\npacket = 24000\narrival = { kind = \"stair\", period = 1500, jitter = 0 }\npath = [\"g\"]\n",
                 ),
                 ("t.csv", "packet,100,f,24000\n"),
             ],
             0,
-            r#"servers 1 flows 1
-run packets 1 end 1090
-worst f 990 bound 990
-peak g 0 24000 bound 47000
-breach none
-"#,
+            "servers 1 flows 1\nrun packets 1 end 1090\nworst f 990 bound 990\npeak g 0 24000 bound 47000\nbreach none\n",
         ),
         // a_gate_that_reaches_its_bound
         (
@@ -5854,27 +2752,12 @@ breach none
             &[
                 (
                     "n.toml",
-                    r#"[[server]]
-name = "g"
-rate = 100
-service = { kind = "gate", cycle = 1000, slot = 250 }
-
-[[flow]]
-name = "f"
-packet = 24000
-arrival = { kind = "stair", period = 1500, jitter = 0 }
-path = ["g"]
-"#,
+                    "[[server]]\nname = \"g\"\nrate = 100\nservice = { kind = \"gate\", cycle = 1000, slot = 250 }\n\n[[flow]]\nname = \"f\"\npacket = 24000\narrival = { kind = \"stair\", period = 1500, jitter = 0 }\npath = [\"g\"]\n",
                 ),
                 ("t.csv", "packet,250,f,24000\n"),
             ],
             0,
-            r#"servers 1 flows 1
-run packets 1 end 1240
-worst f 990 bound 990
-peak g 0 24000 bound 47000
-breach none
-"#,
+            "servers 1 flows 1\nrun packets 1 end 1240\nworst f 990 bound 990\npeak g 0 24000 bound 47000\nbreach none\n",
         ),
         // a_length_that_is_no_number
         (
@@ -5882,17 +2765,7 @@ breach none
             &[
                 (
                     "n.toml",
-                    r#"[[server]]
-name = "s1"
-rate = 100
-service = { kind = "latency", latency = 10 }
-
-[[flow]]
-name = "f1"
-packet = 12000
-arrival = { kind = "bucket", burst = 12000, rate = 10 }
-path = ["s1"]
-"#,
+                    "[[server]]\nname = \"s1\"\nrate = 100\nservice = { kind = \"latency\", latency = 10 }\n\n[[flow]]\nname = \"f1\"\npacket = 12000\narrival = { kind = \"bucket\", burst = 12000, rate = 10 }\npath = [\"s1\"]\n",
                 ),
                 ("t.csv", "packet,0,f1,x\n"),
             ],
@@ -5905,17 +2778,7 @@ path = ["s1"]
             &[
                 (
                     "n.toml",
-                    r#"[[server]]
-name = "s1"
-rate = 100
-service = { kind = "latency", latency = 10 }
-
-[[flow]]
-name = "f1"
-packet = 0
-arrival = { kind = "bucket", burst = 12000, rate = 10 }
-path = ["s1"]
-"#,
+                    "[[server]]\nname = \"s1\"\nrate = 100\nservice = { kind = \"latency\", latency = 10 }\n\n[[flow]]\nname = \"f1\"\npacket = 0\narrival = { kind = \"bucket\", burst = 12000, rate = 10 }\npath = [\"s1\"]\n",
                 ),
                 ("t.csv", "pocket\n"),
             ],
@@ -5928,24 +2791,9 @@ path = ["s1"]
             &[
                 (
                     "n.toml",
-                    r#"[[server]]
-name = "s1"
-rate = 100
-service = { kind = "latency", latency = 10 }
-
-[[flow]]
-name = "f1"
-packet = 12000
-arrival = { kind = "bucket", burst = 12000, rate = 10 }
-path = ["s1"]
-"#,
+                    "[[server]]\nname = \"s1\"\nrate = 100\nservice = { kind = \"latency\", latency = 10 }\n\n[[flow]]\nname = \"f1\"\npacket = 12000\narrival = { kind = \"bucket\", burst = 12000, rate = 10 }\npath = [\"s1\"]\n",
                 ),
-                (
-                    "t.csv",
-                    r#"packet,5,f1,1
-packet,4,f1,1
-"#,
-                ),
+                ("t.csv", "packet,5,f1,1\npacket,4,f1,1\n"),
             ],
             1,
             "netcalc: t.csv: T6 row 2\n",
@@ -5956,27 +2804,12 @@ packet,4,f1,1
             &[
                 (
                     "n.toml",
-                    r#"[[server]]
-name = "s1"
-rate = 100
-service = { kind = "latency", latency = 10 }
-
-[[flow]]
-name = "f1"
-packet = 12000
-arrival = { kind = "bucket", burst = 12000, rate = 10 }
-path = ["s1"]
-"#,
+                    "[[server]]\nname = \"s1\"\nrate = 100\nservice = { kind = \"latency\", latency = 10 }\n\n[[flow]]\nname = \"f1\"\npacket = 12000\narrival = { kind = \"bucket\", burst = 12000, rate = 10 }\npath = [\"s1\"]\n",
                 ),
                 ("t.csv", "packet,0,f1,12001\n"),
             ],
             9,
-            r#"servers 1 flows 1
-run packets 1 end 12001/100
-worst f1 12001/100 bound 130
-peak s1 0 12001 bound 13300
-breach size f1 0
-"#,
+            "servers 1 flows 1\nrun packets 1 end 12001/100\nworst f1 12001/100 bound 130\npeak s1 0 12001 bound 13300\nbreach size f1 0\n",
         ),
         // a_packet_that_enters_as_the_one_before_leaves
         (
@@ -5984,32 +2817,12 @@ breach size f1 0
             &[
                 (
                     "n.toml",
-                    r#"[[server]]
-name = "s1"
-rate = 100
-service = { kind = "latency", latency = 10 }
-
-[[flow]]
-name = "f1"
-packet = 12000
-arrival = { kind = "bucket", burst = 12000, rate = 100 }
-path = ["s1"]
-"#,
+                    "[[server]]\nname = \"s1\"\nrate = 100\nservice = { kind = \"latency\", latency = 10 }\n\n[[flow]]\nname = \"f1\"\npacket = 12000\narrival = { kind = \"bucket\", burst = 12000, rate = 100 }\npath = [\"s1\"]\n",
                 ),
-                (
-                    "t.csv",
-                    r#"packet,0,f1,12000
-packet,120,f1,12000
-"#,
-                ),
+                ("t.csv", "packet,0,f1,12000\npacket,120,f1,12000\n"),
             ],
             0,
-            r#"servers 1 flows 1
-run packets 2 end 240
-worst f1 120 bound 130
-peak s1 0 24000 bound 25000
-breach none
-"#,
+            "servers 1 flows 1\nrun packets 2 end 240\nworst f1 120 bound 130\npeak s1 0 24000 bound 25000\nbreach none\n",
         ),
         // a_packet_under_way_is_not_broken_off
         (
@@ -6017,42 +2830,12 @@ breach none
             &[
                 (
                     "n.toml",
-                    r#"[[server]]
-name = "s1"
-rate = 100
-service = { kind = "latency", latency = 10 }
-discipline = "priority"
-queues = 2
-
-[[flow]]
-name = "f1"
-packet = 12000
-arrival = { kind = "bucket", burst = 12000, rate = 10 }
-path = ["s1:1"]
-
-[[flow]]
-name = "f2"
-packet = 6000
-arrival = { kind = "bucket", burst = 6000, rate = 5 }
-path = ["s1:0"]
-"#,
+                    "[[server]]\nname = \"s1\"\nrate = 100\nservice = { kind = \"latency\", latency = 10 }\ndiscipline = \"priority\"\nqueues = 2\n\n[[flow]]\nname = \"f1\"\npacket = 12000\narrival = { kind = \"bucket\", burst = 12000, rate = 10 }\npath = [\"s1:1\"]\n\n[[flow]]\nname = \"f2\"\npacket = 6000\narrival = { kind = \"bucket\", burst = 6000, rate = 5 }\npath = [\"s1:0\"]\n",
                 ),
-                (
-                    "t.csv",
-                    r#"packet,0,f1,12000
-packet,1,f2,6000
-"#,
-                ),
+                ("t.csv", "packet,0,f1,12000\npacket,1,f2,6000\n"),
             ],
             0,
-            r#"servers 1 flows 2
-run packets 2 end 180
-worst f1 120 bound 200
-worst f2 179 bound 190
-peak s1 0 6000 bound 6950
-peak s1 1 12000 bound 14000
-breach none
-"#,
+            "servers 1 flows 2\nrun packets 2 end 180\nworst f1 120 bound 200\nworst f2 179 bound 190\npeak s1 0 6000 bound 6950\npeak s1 1 12000 bound 14000\nbreach none\n",
         ),
         // a_row_of_no_kind
         (
@@ -6060,17 +2843,7 @@ breach none
             &[
                 (
                     "n.toml",
-                    r#"[[server]]
-name = "s1"
-rate = 100
-service = { kind = "latency", latency = 10 }
-
-[[flow]]
-name = "f1"
-packet = 12000
-arrival = { kind = "bucket", burst = 12000, rate = 10 }
-path = ["s1"]
-"#,
+                    "[[server]]\nname = \"s1\"\nrate = 100\nservice = { kind = \"latency\", latency = 10 }\n\n[[flow]]\nname = \"f1\"\npacket = 12000\narrival = { kind = \"bucket\", burst = 12000, rate = 10 }\npath = [\"s1\"]\n",
                 ),
                 ("t.csv", "pocket,0,f1,1\n"),
             ],
@@ -6083,17 +2856,7 @@ path = ["s1"]
             &[
                 (
                     "n.toml",
-                    r#"[[server]]
-name = "s1"
-rate = 100
-service = { kind = "latency", latency = 10 }
-
-[[flow]]
-name = "f1"
-packet = 12000
-arrival = { kind = "bucket", burst = 12000, rate = 10 }
-path = ["s1"]
-"#,
+                    "[[server]]\nname = \"s1\"\nrate = 100\nservice = { kind = \"latency\", latency = 10 }\n\n[[flow]]\nname = \"f1\"\npacket = 12000\narrival = { kind = \"bucket\", burst = 12000, rate = 10 }\npath = [\"s1\"]\n",
                 ),
                 ("t.csv", "packet,0,f1\n"),
             ],
@@ -6106,32 +2869,12 @@ path = ["s1"]
             &[
                 (
                     "n.toml",
-                    r#"[[server]]
-name = "s1"
-rate = 100
-service = { kind = "latency", latency = 10 }
-
-[[flow]]
-name = "f1"
-packet = 12000
-arrival = { kind = "bucket", burst = 12000, rate = 10 }
-path = ["s1"]
-"#,
+                    "[[server]]\nname = \"s1\"\nrate = 100\nservice = { kind = \"latency\", latency = 10 }\n\n[[flow]]\nname = \"f1\"\npacket = 12000\narrival = { kind = \"bucket\", burst = 12000, rate = 10 }\npath = [\"s1\"]\n",
                 ),
-                (
-                    "t.csv",
-                    r#"packet,0,f1,12000
-stall,s1,0,10
-"#,
-                ),
+                ("t.csv", "packet,0,f1,12000\nstall,s1,0,10\n"),
             ],
             0,
-            r#"servers 1 flows 1
-run packets 1 end 130
-worst f1 130 bound 130
-peak s1 0 12000 bound 13300
-breach none
-"#,
+            "servers 1 flows 1\nrun packets 1 end 130\nworst f1 130 bound 130\npeak s1 0 12000 bound 13300\nbreach none\n",
         ),
         // a_stall_of_11
         (
@@ -6139,32 +2882,12 @@ breach none
             &[
                 (
                     "n.toml",
-                    r#"[[server]]
-name = "s1"
-rate = 100
-service = { kind = "latency", latency = 10 }
-
-[[flow]]
-name = "f1"
-packet = 12000
-arrival = { kind = "bucket", burst = 12000, rate = 10 }
-path = ["s1"]
-"#,
+                    "[[server]]\nname = \"s1\"\nrate = 100\nservice = { kind = \"latency\", latency = 10 }\n\n[[flow]]\nname = \"f1\"\npacket = 12000\narrival = { kind = \"bucket\", burst = 12000, rate = 10 }\npath = [\"s1\"]\n",
                 ),
-                (
-                    "t.csv",
-                    r#"packet,0,f1,12000
-stall,s1,0,11
-"#,
-                ),
+                ("t.csv", "packet,0,f1,12000\nstall,s1,0,11\n"),
             ],
             9,
-            r#"servers 1 flows 1
-run packets 1 end 131
-worst f1 131 bound 130
-peak s1 0 12000 bound 13300
-breach service s1 0 11
-"#,
+            "servers 1 flows 1\nrun packets 1 end 131\nworst f1 131 bound 130\npeak s1 0 12000 bound 13300\nbreach service s1 0 11\n",
         ),
         // a_stall_of_an_unknown_server
         (
@@ -6172,24 +2895,9 @@ breach service s1 0 11
             &[
                 (
                     "n.toml",
-                    r#"[[server]]
-name = "s1"
-rate = 100
-service = { kind = "latency", latency = 10 }
-
-[[flow]]
-name = "f1"
-packet = 12000
-arrival = { kind = "bucket", burst = 12000, rate = 10 }
-path = ["s1"]
-"#,
+                    "[[server]]\nname = \"s1\"\nrate = 100\nservice = { kind = \"latency\", latency = 10 }\n\n[[flow]]\nname = \"f1\"\npacket = 12000\narrival = { kind = \"bucket\", burst = 12000, rate = 10 }\npath = [\"s1\"]\n",
                 ),
-                (
-                    "t.csv",
-                    r#"packet,0,f1,1
-stall,s9,0,1
-"#,
-                ),
+                ("t.csv", "packet,0,f1,1\nstall,s9,0,1\n"),
             ],
             1,
             "netcalc: t.csv: T5 row 2\n",
@@ -6200,17 +2908,7 @@ stall,s9,0,1
             &[
                 (
                     "n.toml",
-                    r#"[[server]]
-name = "s1"
-rate = 100
-service = { kind = "latency", latency = 10 }
-
-[[flow]]
-name = "f1"
-packet = 12000
-arrival = { kind = "bucket", burst = 12000, rate = 10 }
-path = ["s1"]
-"#,
+                    "[[server]]\nname = \"s1\"\nrate = 100\nservice = { kind = \"latency\", latency = 10 }\n\n[[flow]]\nname = \"f1\"\npacket = 12000\narrival = { kind = \"bucket\", burst = 12000, rate = 10 }\npath = [\"s1\"]\n",
                 ),
                 ("t.csv", "stall,s1,1,1\n"),
             ],
@@ -6223,32 +2921,12 @@ path = ["s1"]
             &[
                 (
                     "n.toml",
-                    r#"[[server]]
-name = "g"
-rate = 100
-service = { kind = "gate", cycle = 1000, slot = 250 }
-
-[[flow]]
-name = "f"
-packet = 24000
-arrival = { kind = "stair", period = 1500, jitter = 0 }
-path = ["g"]
-"#,
+                    "[[server]]\nname = \"g\"\nrate = 100\nservice = { kind = \"gate\", cycle = 1000, slot = 250 }\n\n[[flow]]\nname = \"f\"\npacket = 24000\narrival = { kind = \"stair\", period = 1500, jitter = 0 }\npath = [\"g\"]\n",
                 ),
-                (
-                    "t.csv",
-                    r#"packet,0,f,24000
-stall,g,0,300
-"#,
-                ),
+                ("t.csv", "packet,0,f,24000\nstall,g,0,300\n"),
             ],
             9,
-            r#"servers 1 flows 1
-run packets 1 end 1240
-worst f 1240 bound 990
-peak g 0 24000 bound 47000
-breach service g 0 1000
-"#,
+            "servers 1 flows 1\nrun packets 1 end 1240\nworst f 1240 bound 990\npeak g 0 24000 bound 47000\nbreach service g 0 1000\n",
         ),
         // a_time_too_wide
         (
@@ -6256,17 +2934,7 @@ breach service g 0 1000
             &[
                 (
                     "n.toml",
-                    r#"[[server]]
-name = "s1"
-rate = 100
-service = { kind = "latency", latency = 10 }
-
-[[flow]]
-name = "f1"
-packet = 12000
-arrival = { kind = "bucket", burst = 12000, rate = 10 }
-path = ["s1"]
-"#,
+                    "[[server]]\nname = \"s1\"\nrate = 100\nservice = { kind = \"latency\", latency = 10 }\n\n[[flow]]\nname = \"f1\"\npacket = 12000\narrival = { kind = \"bucket\", burst = 12000, rate = 10 }\npath = [\"s1\"]\n",
                 ),
                 (
                     "t.csv",
@@ -6282,28 +2950,7 @@ path = ["s1"]
             &[
                 (
                     "n.toml",
-                    r#"[[server]]
-name = "s1"
-rate = 100
-service = { kind = "latency", latency = 10 }
-
-[[server]]
-name = "s2"
-rate = 100
-service = { kind = "latency", latency = 10 }
-
-[[flow]]
-name = "f1"
-packet = 12000
-arrival = { kind = "bucket", burst = 12000, rate = 10 }
-path = ["s1", "s2"]
-
-[[flow]]
-name = "f2"
-packet = 6000
-arrival = { kind = "bucket", burst = 6000, rate = 5 }
-path = ["s2", "s1"]
-"#,
+                    "[[server]]\nname = \"s1\"\nrate = 100\nservice = { kind = \"latency\", latency = 10 }\n\n[[server]]\nname = \"s2\"\nrate = 100\nservice = { kind = \"latency\", latency = 10 }\n\n[[flow]]\nname = \"f1\"\npacket = 12000\narrival = { kind = \"bucket\", burst = 12000, rate = 10 }\npath = [\"s1\", \"s2\"]\n\n[[flow]]\nname = \"f2\"\npacket = 6000\narrival = { kind = \"bucket\", burst = 6000, rate = 5 }\npath = [\"s2\", \"s1\"]\n",
                 ),
                 ("t.csv", "pocket\n"),
             ],
@@ -6316,27 +2963,12 @@ path = ["s2", "s1"]
             &[
                 (
                     "n.toml",
-                    r#"[[server]]
-name = "s1"
-rate = 100
-service = { kind = "latency", latency = 10 }
-
-[[flow]]
-name = "f1"
-packet = 12000
-arrival = { kind = "bucket", burst = 12000, rate = 10 }
-path = ["s1"]
-"#,
+                    "[[server]]\nname = \"s1\"\nrate = 100\nservice = { kind = \"latency\", latency = 10 }\n\n[[flow]]\nname = \"f1\"\npacket = 12000\narrival = { kind = \"bucket\", burst = 12000, rate = 10 }\npath = [\"s1\"]\n",
                 ),
                 ("t.csv", ""),
             ],
             0,
-            r#"servers 1 flows 1
-run packets 0 end 0
-worst f1 0 bound 130
-peak s1 0 0 bound 13300
-breach none
-"#,
+            "servers 1 flows 1\nrun packets 0 end 0\nworst f1 0 bound 130\npeak s1 0 0 bound 13300\nbreach none\n",
         ),
         // an_unknown_flow
         (
@@ -6344,17 +2976,7 @@ breach none
             &[
                 (
                     "n.toml",
-                    r#"[[server]]
-name = "s1"
-rate = 100
-service = { kind = "latency", latency = 10 }
-
-[[flow]]
-name = "f1"
-packet = 12000
-arrival = { kind = "bucket", burst = 12000, rate = 10 }
-path = ["s1"]
-"#,
+                    "[[server]]\nname = \"s1\"\nrate = 100\nservice = { kind = \"latency\", latency = 10 }\n\n[[flow]]\nname = \"f1\"\npacket = 12000\narrival = { kind = \"bucket\", burst = 12000, rate = 10 }\npath = [\"s1\"]\n",
                 ),
                 ("t.csv", "packet,0,f9,1\n"),
             ],
@@ -6367,53 +2989,15 @@ path = ["s1"]
             &[
                 (
                     "n.toml",
-                    r#"[[server]]
-name = "sw1"
-rate = 100
-service = { kind = "latency", latency = 16 }
-
-[[server]]
-name = "sw2"
-rate = 100
-service = { kind = "latency", latency = 16 }
-
-[[flow]]
-name = "a"
-packet = 4000
-arrival = { kind = "stair", period = 1000, jitter = 0 }
-path = ["sw1", "sw2"]
-
-[[flow]]
-name = "b"
-packet = 8000
-arrival = { kind = "stair", period = 2000, jitter = 0 }
-path = ["sw1", "sw2"]
-
-[[flow]]
-name = "c"
-packet = 12000
-arrival = { kind = "stair", period = 4000, jitter = 0 }
-path = ["sw1", "sw2"]
-"#,
+                    "[[server]]\nname = \"sw1\"\nrate = 100\nservice = { kind = \"latency\", latency = 16 }\n\n[[server]]\nname = \"sw2\"\nrate = 100\nservice = { kind = \"latency\", latency = 16 }\n\n[[flow]]\nname = \"a\"\npacket = 4000\narrival = { kind = \"stair\", period = 1000, jitter = 0 }\npath = [\"sw1\", \"sw2\"]\n\n[[flow]]\nname = \"b\"\npacket = 8000\narrival = { kind = \"stair\", period = 2000, jitter = 0 }\npath = [\"sw1\", \"sw2\"]\n\n[[flow]]\nname = \"c\"\npacket = 12000\narrival = { kind = \"stair\", period = 4000, jitter = 0 }\npath = [\"sw1\", \"sw2\"]\n",
                 ),
                 (
                     "t.csv",
-                    r#"packet,0,a,4000
-packet,0,b,8000
-packet,0,c,12000
-"#,
+                    "packet,0,a,4000\npacket,0,b,8000\npacket,0,c,12000\n",
                 ),
             ],
             0,
-            r#"servers 2 flows 3
-run packets 3 end 360
-worst a 80 bound 512
-worst b 200 bound 512
-worst c 360 bound 512
-peak sw1 0 24000 bound 24000
-peak sw2 0 12000 bound 24000
-breach none
-"#,
+            "servers 2 flows 3\nrun packets 3 end 360\nworst a 80 bound 512\nworst b 200 bound 512\nworst c 360 bound 512\npeak sw1 0 24000 bound 24000\npeak sw2 0 12000 bound 24000\nbreach none\n",
         ),
         // deficits_after_a_visit
         (
@@ -6421,43 +3005,15 @@ breach none
             &[
                 (
                     "n.toml",
-                    r#"[[server]]
-name = "s1"
-rate = 100
-service = { kind = "latency", latency = 10 }
-discipline = "drr"
-quanta = [12000, 6000]
-
-[[flow]]
-name = "f1"
-packet = 12000
-arrival = { kind = "bucket", burst = 12000, rate = 10 }
-path = ["s1:0"]
-
-[[flow]]
-name = "f2"
-packet = 6000
-arrival = { kind = "bucket", burst = 6000, rate = 5 }
-path = ["s1:1"]
-"#,
+                    "[[server]]\nname = \"s1\"\nrate = 100\nservice = { kind = \"latency\", latency = 10 }\ndiscipline = \"drr\"\nquanta = [12000, 6000]\n\n[[flow]]\nname = \"f1\"\npacket = 12000\narrival = { kind = \"bucket\", burst = 12000, rate = 10 }\npath = [\"s1:0\"]\n\n[[flow]]\nname = \"f2\"\npacket = 6000\narrival = { kind = \"bucket\", burst = 6000, rate = 5 }\npath = [\"s1:1\"]\n",
                 ),
                 (
                     "t.csv",
-                    r#"packet,0,f1,12000
-packet,0,f1,12000
-packet,0,f2,6000
-"#,
+                    "packet,0,f1,12000\npacket,0,f1,12000\npacket,0,f2,6000\n",
                 ),
             ],
             9,
-            r#"servers 1 flows 2
-run packets 3 end 300
-worst f1 300 bound 370
-worst f2 180 bound 550
-peak s1 0 24000 bound 15700
-peak s1 1 6000 bound 8750
-breach arrival f1 0 1
-"#,
+            "servers 1 flows 2\nrun packets 3 end 300\nworst f1 300 bound 370\nworst f2 180 bound 550\npeak s1 0 24000 bound 15700\npeak s1 1 6000 bound 8750\nbreach arrival f1 0 1\n",
         ),
         // deficits_in_turn
         (
@@ -6465,42 +3021,12 @@ breach arrival f1 0 1
             &[
                 (
                     "n.toml",
-                    r#"[[server]]
-name = "s1"
-rate = 100
-service = { kind = "latency", latency = 10 }
-discipline = "drr"
-quanta = [12000, 6000]
-
-[[flow]]
-name = "f1"
-packet = 12000
-arrival = { kind = "bucket", burst = 12000, rate = 10 }
-path = ["s1:0"]
-
-[[flow]]
-name = "f2"
-packet = 6000
-arrival = { kind = "bucket", burst = 6000, rate = 5 }
-path = ["s1:1"]
-"#,
+                    "[[server]]\nname = \"s1\"\nrate = 100\nservice = { kind = \"latency\", latency = 10 }\ndiscipline = \"drr\"\nquanta = [12000, 6000]\n\n[[flow]]\nname = \"f1\"\npacket = 12000\narrival = { kind = \"bucket\", burst = 12000, rate = 10 }\npath = [\"s1:0\"]\n\n[[flow]]\nname = \"f2\"\npacket = 6000\narrival = { kind = \"bucket\", burst = 6000, rate = 5 }\npath = [\"s1:1\"]\n",
                 ),
-                (
-                    "t.csv",
-                    r#"packet,0,f1,12000
-packet,0,f2,6000
-"#,
-                ),
+                ("t.csv", "packet,0,f1,12000\npacket,0,f2,6000\n"),
             ],
             0,
-            r#"servers 1 flows 2
-run packets 2 end 180
-worst f1 120 bound 370
-worst f2 180 bound 550
-peak s1 0 12000 bound 15700
-peak s1 1 6000 bound 8750
-breach none
-"#,
+            "servers 1 flows 2\nrun packets 2 end 180\nworst f1 120 bound 370\nworst f2 180 bound 550\npeak s1 0 12000 bound 15700\npeak s1 1 6000 bound 8750\nbreach none\n",
         ),
         // gates_whose_spans_do_not_cancel
         (
@@ -6508,106 +3034,11 @@ breach none
             &[
                 (
                     "n.toml",
-                    r#"[[server]]
-name = "g1"
-rate = 1
-service = { kind = "gate", cycle = 1099511627792, slot = 1099511627791 }
-
-[[server]]
-name = "g2"
-rate = 1
-service = { kind = "gate", cycle = 1099511627804, slot = 1099511627803 }
-
-[[server]]
-name = "g3"
-rate = 1
-service = { kind = "gate", cycle = 1099511627832, slot = 1099511627831 }
-
-[[server]]
-name = "g4"
-rate = 1
-service = { kind = "gate", cycle = 1099511627874, slot = 1099511627873 }
-
-[[server]]
-name = "g5"
-rate = 1
-service = { kind = "gate", cycle = 1099511627892, slot = 1099511627891 }
-
-[[server]]
-name = "g6"
-rate = 1
-service = { kind = "gate", cycle = 1099511627918, slot = 1099511627917 }
-
-[[server]]
-name = "g7"
-rate = 1
-service = { kind = "gate", cycle = 1099511627934, slot = 1099511627933 }
-
-[[server]]
-name = "g8"
-rate = 1
-service = { kind = "gate", cycle = 1099511627954, slot = 1099511627953 }
-
-[[flow]]
-name = "f1"
-packet = 1
-arrival = { kind = "bucket", burst = 1, rate = 0 }
-path = ["g1"]
-
-[[flow]]
-name = "f2"
-packet = 1
-arrival = { kind = "bucket", burst = 1, rate = 0 }
-path = ["g2"]
-
-[[flow]]
-name = "f3"
-packet = 1
-arrival = { kind = "bucket", burst = 1, rate = 0 }
-path = ["g3"]
-
-[[flow]]
-name = "f4"
-packet = 1
-arrival = { kind = "bucket", burst = 1, rate = 0 }
-path = ["g4"]
-
-[[flow]]
-name = "f5"
-packet = 1
-arrival = { kind = "bucket", burst = 1, rate = 0 }
-path = ["g5"]
-
-[[flow]]
-name = "f6"
-packet = 1
-arrival = { kind = "bucket", burst = 1, rate = 0 }
-path = ["g6"]
-
-[[flow]]
-name = "f7"
-packet = 1
-arrival = { kind = "bucket", burst = 1, rate = 0 }
-path = ["g7"]
-
-[[flow]]
-name = "f8"
-packet = 1
-arrival = { kind = "bucket", burst = 1, rate = 0 }
-path = ["g8"]
-"#,
+                    "[[server]]\nname = \"g1\"\nrate = 1\nservice = { kind = \"gate\", cycle = 1099511627792, slot = 1099511627791 }\n\n[[server]]\nname = \"g2\"\nrate = 1\nservice = { kind = \"gate\", cycle = 1099511627804, slot = 1099511627803 }\n\n[[server]]\nname = \"g3\"\nrate = 1\nservice = { kind = \"gate\", cycle = 1099511627832, slot = 1099511627831 }\n\n[[server]]\nname = \"g4\"\nrate = 1\nservice = { kind = \"gate\", cycle = 1099511627874, slot = 1099511627873 }\n\n[[server]]\nname = \"g5\"\nrate = 1\nservice = { kind = \"gate\", cycle = 1099511627892, slot = 1099511627891 }\n\n[[server]]\nname = \"g6\"\nrate = 1\nservice = { kind = \"gate\", cycle = 1099511627918, slot = 1099511627917 }\n\n[[server]]\nname = \"g7\"\nrate = 1\nservice = { kind = \"gate\", cycle = 1099511627934, slot = 1099511627933 }\n\n[[server]]\nname = \"g8\"\nrate = 1\nservice = { kind = \"gate\", cycle = 1099511627954, slot = 1099511627953 }\n\n[[flow]]\nname = \"f1\"\npacket = 1\narrival = { kind = \"bucket\", burst = 1, rate = 0 }\npath = [\"g1\"]\n\n[[flow]]\nname = \"f2\"\npacket = 1\narrival = { kind = \"bucket\", burst = 1, rate = 0 }\npath = [\"g2\"]\n\n[[flow]]\nname = \"f3\"\npacket = 1\narrival = { kind = \"bucket\", burst = 1, rate = 0 }\npath = [\"g3\"]\n\n[[flow]]\nname = \"f4\"\npacket = 1\narrival = { kind = \"bucket\", burst = 1, rate = 0 }\npath = [\"g4\"]\n\n[[flow]]\nname = \"f5\"\npacket = 1\narrival = { kind = \"bucket\", burst = 1, rate = 0 }\npath = [\"g5\"]\n\n[[flow]]\nname = \"f6\"\npacket = 1\narrival = { kind = \"bucket\", burst = 1, rate = 0 }\npath = [\"g6\"]\n\n[[flow]]\nname = \"f7\"\npacket = 1\narrival = { kind = \"bucket\", burst = 1, rate = 0 }\npath = [\"g7\"]\n\n[[flow]]\nname = \"f8\"\npacket = 1\narrival = { kind = \"bucket\", burst = 1, rate = 0 }\npath = [\"g8\"]\n",
                 ),
                 (
                     "t.csv",
-                    r#"packet,0,f1,1
-packet,0,f2,1
-packet,0,f3,1
-packet,0,f4,1
-packet,0,f5,1
-packet,0,f6,1
-packet,0,f7,1
-packet,0,f8,1
-"#,
+                    "packet,0,f1,1\npacket,0,f2,1\npacket,0,f3,1\npacket,0,f4,1\npacket,0,f5,1\npacket,0,f6,1\npacket,0,f7,1\npacket,0,f8,1\n",
                 ),
             ],
             6,
@@ -6618,17 +3049,7 @@ packet,0,f8,1
             "netcalc simulate n.toml",
             &[(
                 "n.toml",
-                r#"[[server]]
-name = "s1"
-rate = 100
-service = { kind = "latency", latency = 10 }
-
-[[flow]]
-name = "f1"
-packet = 12000
-arrival = { kind = "bucket", burst = 12000, rate = 10 }
-path = ["s1"]
-"#,
+                "[[server]]\nname = \"s1\"\nrate = 100\nservice = { kind = \"latency\", latency = 10 }\n\n[[flow]]\nname = \"f1\"\npacket = 12000\narrival = { kind = \"bucket\", burst = 12000, rate = 10 }\npath = [\"s1\"]\n",
             )],
             2,
             "netcalc: usage: netcalc analyse NET [--json], edit NET EDITS [--json], simulate NET TRACE, exercise N, check NET RUN, measure NET TRACE FLOW RATE, curve FILE\n",
@@ -6638,17 +3059,7 @@ path = ["s1"]
             "netcalc simulate n.toml t.csv",
             &[(
                 "n.toml",
-                r#"[[server]]
-name = "s1"
-rate = 100
-service = { kind = "latency", latency = 10 }
-
-[[flow]]
-name = "f1"
-packet = 12000
-arrival = { kind = "bucket", burst = 12000, rate = 10 }
-path = ["s1"]
-"#,
+                "[[server]]\nname = \"s1\"\nrate = 100\nservice = { kind = \"latency\", latency = 10 }\n\n[[flow]]\nname = \"f1\"\npacket = 12000\narrival = { kind = \"bucket\", burst = 12000, rate = 10 }\npath = [\"s1\"]\n",
             )],
             3,
             "netcalc: cannot read t.csv\n",
@@ -6659,241 +3070,15 @@ path = ["s1"]
             &[
                 (
                     "n.toml",
-                    r#"[[server]]
-name = "g1"
-rate = 1
-service = { kind = "gate", cycle = 1099511627792, slot = 1099511627791 }
-
-[[server]]
-name = "g2"
-rate = 1
-service = { kind = "gate", cycle = 1099511627804, slot = 1099511627803 }
-
-[[server]]
-name = "g3"
-rate = 1
-service = { kind = "gate", cycle = 1099511627832, slot = 1099511627831 }
-
-[[server]]
-name = "g4"
-rate = 1
-service = { kind = "gate", cycle = 1099511627874, slot = 1099511627873 }
-
-[[server]]
-name = "g5"
-rate = 1
-service = { kind = "gate", cycle = 1099511627892, slot = 1099511627891 }
-
-[[server]]
-name = "g6"
-rate = 1
-service = { kind = "gate", cycle = 1099511627918, slot = 1099511627917 }
-
-[[server]]
-name = "g7"
-rate = 1
-service = { kind = "gate", cycle = 1099511627934, slot = 1099511627933 }
-
-[[server]]
-name = "g8"
-rate = 1
-service = { kind = "gate", cycle = 1099511627954, slot = 1099511627953 }
-
-[[server]]
-name = "g9"
-rate = 1
-service = { kind = "gate", cycle = 2199023255581, slot = 1099511627791 }
-
-[[server]]
-name = "g10"
-rate = 1
-service = { kind = "gate", cycle = 2199023255605, slot = 1099511627803 }
-
-[[server]]
-name = "g11"
-rate = 1
-service = { kind = "gate", cycle = 2199023255661, slot = 1099511627831 }
-
-[[server]]
-name = "g12"
-rate = 1
-service = { kind = "gate", cycle = 2199023255745, slot = 1099511627873 }
-
-[[server]]
-name = "g13"
-rate = 1
-service = { kind = "gate", cycle = 2199023255781, slot = 1099511627891 }
-
-[[server]]
-name = "g14"
-rate = 1
-service = { kind = "gate", cycle = 2199023255833, slot = 1099511627917 }
-
-[[server]]
-name = "g15"
-rate = 1
-service = { kind = "gate", cycle = 2199023255865, slot = 1099511627933 }
-
-[[server]]
-name = "g16"
-rate = 1
-service = { kind = "gate", cycle = 2199023255905, slot = 1099511627953 }
-
-[[flow]]
-name = "f1"
-packet = 1
-arrival = { kind = "bucket", burst = 1, rate = 0 }
-path = ["g1"]
-
-[[flow]]
-name = "f2"
-packet = 1
-arrival = { kind = "bucket", burst = 1, rate = 0 }
-path = ["g2"]
-
-[[flow]]
-name = "f3"
-packet = 1
-arrival = { kind = "bucket", burst = 1, rate = 0 }
-path = ["g3"]
-
-[[flow]]
-name = "f4"
-packet = 1
-arrival = { kind = "bucket", burst = 1, rate = 0 }
-path = ["g4"]
-
-[[flow]]
-name = "f5"
-packet = 1
-arrival = { kind = "bucket", burst = 1, rate = 0 }
-path = ["g5"]
-
-[[flow]]
-name = "f6"
-packet = 1
-arrival = { kind = "bucket", burst = 1, rate = 0 }
-path = ["g6"]
-
-[[flow]]
-name = "f7"
-packet = 1
-arrival = { kind = "bucket", burst = 1, rate = 0 }
-path = ["g7"]
-
-[[flow]]
-name = "f8"
-packet = 1
-arrival = { kind = "bucket", burst = 1, rate = 0 }
-path = ["g8"]
-
-[[flow]]
-name = "f9"
-packet = 1
-arrival = { kind = "bucket", burst = 1, rate = 0 }
-path = ["g9"]
-
-[[flow]]
-name = "f10"
-packet = 1
-arrival = { kind = "bucket", burst = 1, rate = 0 }
-path = ["g10"]
-
-[[flow]]
-name = "f11"
-packet = 1
-arrival = { kind = "bucket", burst = 1, rate = 0 }
-path = ["g11"]
-
-[[flow]]
-name = "f12"
-packet = 1
-arrival = { kind = "bucket", burst = 1, rate = 0 }
-path = ["g12"]
-
-[[flow]]
-name = "f13"
-packet = 1
-arrival = { kind = "bucket", burst = 1, rate = 0 }
-path = ["g13"]
-
-[[flow]]
-name = "f14"
-packet = 1
-arrival = { kind = "bucket", burst = 1, rate = 0 }
-path = ["g14"]
-
-[[flow]]
-name = "f15"
-packet = 1
-arrival = { kind = "bucket", burst = 1, rate = 0 }
-path = ["g15"]
-
-[[flow]]
-name = "f16"
-packet = 1
-arrival = { kind = "bucket", burst = 1, rate = 0 }
-path = ["g16"]
-"#,
+                    "[[server]]\nname = \"g1\"\nrate = 1\nservice = { kind = \"gate\", cycle = 1099511627792, slot = 1099511627791 }\n\n[[server]]\nname = \"g2\"\nrate = 1\nservice = { kind = \"gate\", cycle = 1099511627804, slot = 1099511627803 }\n\n[[server]]\nname = \"g3\"\nrate = 1\nservice = { kind = \"gate\", cycle = 1099511627832, slot = 1099511627831 }\n\n[[server]]\nname = \"g4\"\nrate = 1\nservice = { kind = \"gate\", cycle = 1099511627874, slot = 1099511627873 }\n\n[[server]]\nname = \"g5\"\nrate = 1\nservice = { kind = \"gate\", cycle = 1099511627892, slot = 1099511627891 }\n\n[[server]]\nname = \"g6\"\nrate = 1\nservice = { kind = \"gate\", cycle = 1099511627918, slot = 1099511627917 }\n\n[[server]]\nname = \"g7\"\nrate = 1\nservice = { kind = \"gate\", cycle = 1099511627934, slot = 1099511627933 }\n\n[[server]]\nname = \"g8\"\nrate = 1\nservice = { kind = \"gate\", cycle = 1099511627954, slot = 1099511627953 }\n\n[[server]]\nname = \"g9\"\nrate = 1\nservice = { kind = \"gate\", cycle = 2199023255581, slot = 1099511627791 }\n\n[[server]]\nname = \"g10\"\nrate = 1\nservice = { kind = \"gate\", cycle = 2199023255605, slot = 1099511627803 }\n\n[[server]]\nname = \"g11\"\nrate = 1\nservice = { kind = \"gate\", cycle = 2199023255661, slot = 1099511627831 }\n\n[[server]]\nname = \"g12\"\nrate = 1\nservice = { kind = \"gate\", cycle = 2199023255745, slot = 1099511627873 }\n\n[[server]]\nname = \"g13\"\nrate = 1\nservice = { kind = \"gate\", cycle = 2199023255781, slot = 1099511627891 }\n\n[[server]]\nname = \"g14\"\nrate = 1\nservice = { kind = \"gate\", cycle = 2199023255833, slot = 1099511627917 }\n\n[[server]]\nname = \"g15\"\nrate = 1\nservice = { kind = \"gate\", cycle = 2199023255865, slot = 1099511627933 }\n\n[[server]]\nname = \"g16\"\nrate = 1\nservice = { kind = \"gate\", cycle = 2199023255905, slot = 1099511627953 }\n\n[[flow]]\nname = \"f1\"\npacket = 1\narrival = { kind = \"bucket\", burst = 1, rate = 0 }\npath = [\"g1\"]\n\n[[flow]]\nname = \"f2\"\npacket = 1\narrival = { kind = \"bucket\", burst = 1, rate = 0 }\npath = [\"g2\"]\n\n[[flow]]\nname = \"f3\"\npacket = 1\narrival = { kind = \"bucket\", burst = 1, rate = 0 }\npath = [\"g3\"]\n\n[[flow]]\nname = \"f4\"\npacket = 1\narrival = { kind = \"bucket\", burst = 1, rate = 0 }\npath = [\"g4\"]\n\n[[flow]]\nname = \"f5\"\npacket = 1\narrival = { kind = \"bucket\", burst = 1, rate = 0 }\npath = [\"g5\"]\n\n[[flow]]\nname = \"f6\"\npacket = 1\narrival = { kind = \"bucket\", burst = 1, rate = 0 }\npath = [\"g6\"]\n\n[[flow]]\nname = \"f7\"\npacket = 1\narrival = { kind = \"bucket\", burst = 1, rate = 0 }\npath = [\"g7\"]\n\n[[flow]]\nname = \"f8\"\npacket = 1\narrival = { kind = \"bucket\", burst = 1, rate = 0 }\npath = [\"g8\"]\n\n[[flow]]\nname = \"f9\"\npacket = 1\narrival = { kind = \"bucket\", burst = 1, rate = 0 }\npath = [\"g9\"]\n\n[[flow]]\nname = \"f10\"\npacket = 1\narrival = { kind = \"bucket\", burst = 1, rate = 0 }\npath = [\"g10\"]\n\n[[flow]]\nname = \"f11\"\npacket = 1\narrival = { kind = \"bucket\", burst = 1, rate = 0 }\npath = [\"g11\"]\n\n[[flow]]\nname = \"f12\"\npacket = 1\narrival = { kind = \"bucket\", burst = 1, rate = 0 }\npath = [\"g12\"]\n\n[[flow]]\nname = \"f13\"\npacket = 1\narrival = { kind = \"bucket\", burst = 1, rate = 0 }\npath = [\"g13\"]\n\n[[flow]]\nname = \"f14\"\npacket = 1\narrival = { kind = \"bucket\", burst = 1, rate = 0 }\npath = [\"g14\"]\n\n[[flow]]\nname = \"f15\"\npacket = 1\narrival = { kind = \"bucket\", burst = 1, rate = 0 }\npath = [\"g15\"]\n\n[[flow]]\nname = \"f16\"\npacket = 1\narrival = { kind = \"bucket\", burst = 1, rate = 0 }\npath = [\"g16\"]\n",
                 ),
                 (
                     "t.csv",
-                    r#"packet,0,f1,1
-packet,0,f2,1
-packet,0,f3,1
-packet,0,f4,1
-packet,0,f5,1
-packet,0,f6,1
-packet,0,f7,1
-packet,0,f8,1
-packet,0,f9,1
-packet,0,f10,1
-packet,0,f11,1
-packet,0,f12,1
-packet,0,f13,1
-packet,0,f14,1
-packet,0,f15,1
-packet,0,f16,1
-"#,
+                    "packet,0,f1,1\npacket,0,f2,1\npacket,0,f3,1\npacket,0,f4,1\npacket,0,f5,1\npacket,0,f6,1\npacket,0,f7,1\npacket,0,f8,1\npacket,0,f9,1\npacket,0,f10,1\npacket,0,f11,1\npacket,0,f12,1\npacket,0,f13,1\npacket,0,f14,1\npacket,0,f15,1\npacket,0,f16,1\n",
                 ),
             ],
             0,
-            r#"servers 16 flows 16
-run packets 16 end 1
-worst f1 1 bound 2
-worst f2 1 bound 2
-worst f3 1 bound 2
-worst f4 1 bound 2
-worst f5 1 bound 2
-worst f6 1 bound 2
-worst f7 1 bound 2
-worst f8 1 bound 2
-worst f9 1 bound 1099511627791
-worst f10 1 bound 1099511627803
-worst f11 1 bound 1099511627831
-worst f12 1 bound 1099511627873
-worst f13 1 bound 1099511627891
-worst f14 1 bound 1099511627917
-worst f15 1 bound 1099511627933
-worst f16 1 bound 1099511627953
-peak g1 0 1 bound 1
-peak g2 0 1 bound 1
-peak g3 0 1 bound 1
-peak g4 0 1 bound 1
-peak g5 0 1 bound 1
-peak g6 0 1 bound 1
-peak g7 0 1 bound 1
-peak g8 0 1 bound 1
-peak g9 0 1 bound 1
-peak g10 0 1 bound 1
-peak g11 0 1 bound 1
-peak g12 0 1 bound 1
-peak g13 0 1 bound 1
-peak g14 0 1 bound 1
-peak g15 0 1 bound 1
-peak g16 0 1 bound 1
-breach none
-"#,
+            "servers 16 flows 16\nrun packets 16 end 1\nworst f1 1 bound 2\nworst f2 1 bound 2\nworst f3 1 bound 2\nworst f4 1 bound 2\nworst f5 1 bound 2\nworst f6 1 bound 2\nworst f7 1 bound 2\nworst f8 1 bound 2\nworst f9 1 bound 1099511627791\nworst f10 1 bound 1099511627803\nworst f11 1 bound 1099511627831\nworst f12 1 bound 1099511627873\nworst f13 1 bound 1099511627891\nworst f14 1 bound 1099511627917\nworst f15 1 bound 1099511627933\nworst f16 1 bound 1099511627953\npeak g1 0 1 bound 1\npeak g2 0 1 bound 1\npeak g3 0 1 bound 1\npeak g4 0 1 bound 1\npeak g5 0 1 bound 1\npeak g6 0 1 bound 1\npeak g7 0 1 bound 1\npeak g8 0 1 bound 1\npeak g9 0 1 bound 1\npeak g10 0 1 bound 1\npeak g11 0 1 bound 1\npeak g12 0 1 bound 1\npeak g13 0 1 bound 1\npeak g14 0 1 bound 1\npeak g15 0 1 bound 1\npeak g16 0 1 bound 1\nbreach none\n",
         ),
         // the_first_flow_first
         (
@@ -6901,39 +3086,12 @@ breach none
             &[
                 (
                     "n.toml",
-                    r#"[[server]]
-name = "s1"
-rate = 100
-service = { kind = "latency", latency = 10 }
-
-[[flow]]
-name = "f1"
-packet = 12000
-arrival = { kind = "bucket", burst = 12000, rate = 10 }
-path = ["s1"]
-
-[[flow]]
-name = "f2"
-packet = 6000
-arrival = { kind = "bucket", burst = 6000, rate = 5 }
-path = ["s1"]
-"#,
+                    "[[server]]\nname = \"s1\"\nrate = 100\nservice = { kind = \"latency\", latency = 10 }\n\n[[flow]]\nname = \"f1\"\npacket = 12000\narrival = { kind = \"bucket\", burst = 12000, rate = 10 }\npath = [\"s1\"]\n\n[[flow]]\nname = \"f2\"\npacket = 6000\narrival = { kind = \"bucket\", burst = 6000, rate = 5 }\npath = [\"s1\"]\n",
                 ),
-                (
-                    "t.csv",
-                    r#"packet,0,f1,12000
-packet,0,f2,6000
-"#,
-                ),
+                ("t.csv", "packet,0,f1,12000\npacket,0,f2,6000\n"),
             ],
             0,
-            r#"servers 1 flows 2
-run packets 2 end 180
-worst f1 120 bound 190
-worst f2 180 bound 190
-peak s1 0 18000 bound 19950
-breach none
-"#,
+            "servers 1 flows 2\nrun packets 2 end 180\nworst f1 120 bound 190\nworst f2 180 bound 190\npeak s1 0 18000 bound 19950\nbreach none\n",
         ),
         // the_second_flow_first
         (
@@ -6941,39 +3099,12 @@ breach none
             &[
                 (
                     "n.toml",
-                    r#"[[server]]
-name = "s1"
-rate = 100
-service = { kind = "latency", latency = 10 }
-
-[[flow]]
-name = "f1"
-packet = 12000
-arrival = { kind = "bucket", burst = 12000, rate = 10 }
-path = ["s1"]
-
-[[flow]]
-name = "f2"
-packet = 6000
-arrival = { kind = "bucket", burst = 6000, rate = 5 }
-path = ["s1"]
-"#,
+                    "[[server]]\nname = \"s1\"\nrate = 100\nservice = { kind = \"latency\", latency = 10 }\n\n[[flow]]\nname = \"f1\"\npacket = 12000\narrival = { kind = \"bucket\", burst = 12000, rate = 10 }\npath = [\"s1\"]\n\n[[flow]]\nname = \"f2\"\npacket = 6000\narrival = { kind = \"bucket\", burst = 6000, rate = 5 }\npath = [\"s1\"]\n",
                 ),
-                (
-                    "t.csv",
-                    r#"packet,0,f2,6000
-packet,0,f1,12000
-"#,
-                ),
+                ("t.csv", "packet,0,f2,6000\npacket,0,f1,12000\n"),
             ],
             0,
-            r#"servers 1 flows 2
-run packets 2 end 180
-worst f1 180 bound 190
-worst f2 60 bound 190
-peak s1 0 18000 bound 19950
-breach none
-"#,
+            "servers 1 flows 2\nrun packets 2 end 180\nworst f1 180 bound 190\nworst f2 60 bound 190\npeak s1 0 18000 bound 19950\nbreach none\n",
         ),
         // the_urgent_queue_goes_first
         (
@@ -6981,42 +3112,12 @@ breach none
             &[
                 (
                     "n.toml",
-                    r#"[[server]]
-name = "s1"
-rate = 100
-service = { kind = "latency", latency = 10 }
-discipline = "priority"
-queues = 2
-
-[[flow]]
-name = "f1"
-packet = 12000
-arrival = { kind = "bucket", burst = 12000, rate = 10 }
-path = ["s1:1"]
-
-[[flow]]
-name = "f2"
-packet = 6000
-arrival = { kind = "bucket", burst = 6000, rate = 5 }
-path = ["s1:0"]
-"#,
+                    "[[server]]\nname = \"s1\"\nrate = 100\nservice = { kind = \"latency\", latency = 10 }\ndiscipline = \"priority\"\nqueues = 2\n\n[[flow]]\nname = \"f1\"\npacket = 12000\narrival = { kind = \"bucket\", burst = 12000, rate = 10 }\npath = [\"s1:1\"]\n\n[[flow]]\nname = \"f2\"\npacket = 6000\narrival = { kind = \"bucket\", burst = 6000, rate = 5 }\npath = [\"s1:0\"]\n",
                 ),
-                (
-                    "t.csv",
-                    r#"packet,0,f1,12000
-packet,0,f2,6000
-"#,
-                ),
+                ("t.csv", "packet,0,f1,12000\npacket,0,f2,6000\n"),
             ],
             0,
-            r#"servers 1 flows 2
-run packets 2 end 180
-worst f1 180 bound 200
-worst f2 60 bound 190
-peak s1 0 6000 bound 6950
-peak s1 1 12000 bound 14000
-breach none
-"#,
+            "servers 1 flows 2\nrun packets 2 end 180\nworst f1 180 bound 200\nworst f2 60 bound 190\npeak s1 0 6000 bound 6950\npeak s1 1 12000 bound 14000\nbreach none\n",
         ),
         // three_packets_whose_neighbours_keep_the_curve
         (
@@ -7024,33 +3125,15 @@ breach none
             &[
                 (
                     "n.toml",
-                    r#"[[server]]
-name = "s1"
-rate = 100
-service = { kind = "latency", latency = 10 }
-
-[[flow]]
-name = "f1"
-packet = 12000
-arrival = { kind = "bucket", burst = 12000, rate = 10 }
-path = ["s1"]
-"#,
+                    "[[server]]\nname = \"s1\"\nrate = 100\nservice = { kind = \"latency\", latency = 10 }\n\n[[flow]]\nname = \"f1\"\npacket = 12000\narrival = { kind = \"bucket\", burst = 12000, rate = 10 }\npath = [\"s1\"]\n",
                 ),
                 (
                     "t.csv",
-                    r#"packet,0,f1,6000
-packet,100,f1,6000
-packet,200,f1,6000
-"#,
+                    "packet,0,f1,6000\npacket,100,f1,6000\npacket,200,f1,6000\n",
                 ),
             ],
             9,
-            r#"servers 1 flows 1
-run packets 3 end 260
-worst f1 60 bound 130
-peak s1 0 6000 bound 13300
-breach arrival f1 0 2
-"#,
+            "servers 1 flows 1\nrun packets 3 end 260\nworst f1 60 bound 130\npeak s1 0 6000 bound 13300\nbreach arrival f1 0 2\n",
         ),
         // two_gates_whose_spans_cancel
         (
@@ -7058,45 +3141,12 @@ breach arrival f1 0 2
             &[
                 (
                     "n.toml",
-                    r#"[[server]]
-name = "g1"
-rate = 1
-service = { kind = "gate", cycle = "1267650600228229401496703205377", slot = "1267650600228229401496703205376" }
-
-[[server]]
-name = "g2"
-rate = 1
-service = { kind = "gate", cycle = "2535301200456458802993406410751", slot = "1267650600228229401496703205376" }
-
-[[flow]]
-name = "f1"
-packet = 1
-arrival = { kind = "bucket", burst = 1, rate = 0 }
-path = ["g1"]
-
-[[flow]]
-name = "f2"
-packet = 1
-arrival = { kind = "bucket", burst = 1, rate = 0 }
-path = ["g2"]
-"#,
+                    "[[server]]\nname = \"g1\"\nrate = 1\nservice = { kind = \"gate\", cycle = \"1267650600228229401496703205377\", slot = \"1267650600228229401496703205376\" }\n\n[[server]]\nname = \"g2\"\nrate = 1\nservice = { kind = \"gate\", cycle = \"2535301200456458802993406410751\", slot = \"1267650600228229401496703205376\" }\n\n[[flow]]\nname = \"f1\"\npacket = 1\narrival = { kind = \"bucket\", burst = 1, rate = 0 }\npath = [\"g1\"]\n\n[[flow]]\nname = \"f2\"\npacket = 1\narrival = { kind = \"bucket\", burst = 1, rate = 0 }\npath = [\"g2\"]\n",
                 ),
-                (
-                    "t.csv",
-                    r#"packet,0,f1,1
-packet,0,f2,1
-"#,
-                ),
+                ("t.csv", "packet,0,f1,1\npacket,0,f2,1\n"),
             ],
             0,
-            r#"servers 2 flows 2
-run packets 2 end 1
-worst f1 1 bound 2
-worst f2 1 bound 1267650600228229401496703205376
-peak g1 0 1 bound 1
-peak g2 0 1 bound 1
-breach none
-"#,
+            "servers 2 flows 2\nrun packets 2 end 1\nworst f1 1 bound 2\nworst f2 1 bound 1267650600228229401496703205376\npeak g1 0 1 bound 1\npeak g2 0 1 bound 1\nbreach none\n",
         ),
         // two_hops_with_links
         (
@@ -7104,35 +3154,12 @@ breach none
             &[
                 (
                     "n.toml",
-                    r#"[[server]]
-name = "s1"
-rate = 100
-service = { kind = "latency", latency = 10 }
-link = 5
-
-[[server]]
-name = "s2"
-rate = 100
-service = { kind = "latency", latency = 10 }
-link = 5
-
-[[flow]]
-name = "f1"
-packet = 12000
-arrival = { kind = "bucket", burst = 12000, rate = 10 }
-path = ["s1", "s2"]
-"#,
+                    "[[server]]\nname = \"s1\"\nrate = 100\nservice = { kind = \"latency\", latency = 10 }\nlink = 5\n\n[[server]]\nname = \"s2\"\nrate = 100\nservice = { kind = \"latency\", latency = 10 }\nlink = 5\n\n[[flow]]\nname = \"f1\"\npacket = 12000\narrival = { kind = \"bucket\", burst = 12000, rate = 10 }\npath = [\"s1\", \"s2\"]\n",
                 ),
                 ("t.csv", "packet,0,f1,12000\n"),
             ],
             0,
-            r#"servers 2 flows 1
-run packets 1 end 245
-worst f1 250 bound 270
-peak s1 0 12000 bound 13300
-peak s2 0 12000 bound 14600
-breach none
-"#,
+            "servers 2 flows 1\nrun packets 1 end 245\nworst f1 250 bound 270\npeak s1 0 12000 bound 13300\npeak s2 0 12000 bound 14600\nbreach none\n",
         ),
         // two_packets_at_0
         (
@@ -7140,32 +3167,12 @@ breach none
             &[
                 (
                     "n.toml",
-                    r#"[[server]]
-name = "s1"
-rate = 100
-service = { kind = "latency", latency = 10 }
-
-[[flow]]
-name = "f1"
-packet = 12000
-arrival = { kind = "bucket", burst = 12000, rate = 10 }
-path = ["s1"]
-"#,
+                    "[[server]]\nname = \"s1\"\nrate = 100\nservice = { kind = \"latency\", latency = 10 }\n\n[[flow]]\nname = \"f1\"\npacket = 12000\narrival = { kind = \"bucket\", burst = 12000, rate = 10 }\npath = [\"s1\"]\n",
                 ),
-                (
-                    "t.csv",
-                    r#"packet,0,f1,12000
-packet,0,f1,12000
-"#,
-                ),
+                ("t.csv", "packet,0,f1,12000\npacket,0,f1,12000\n"),
             ],
             9,
-            r#"servers 1 flows 1
-run packets 2 end 240
-worst f1 240 bound 130
-peak s1 0 24000 bound 13300
-breach arrival f1 0 1
-"#,
+            "servers 1 flows 1\nrun packets 2 end 240\nworst f1 240 bound 130\npeak s1 0 24000 bound 13300\nbreach arrival f1 0 1\n",
         ),
     ];
     for (line, files, status, wanted) in rows {
