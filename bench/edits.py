@@ -1,22 +1,29 @@
 #!/usr/bin/env python3
-"""Times edits and undos beside a fresh analysis of the whole network.
+"""What edits and undos cost beside a fresh analysis of the whole network.
 
-    python3 bench/edits.py NETCALC
+    python3 bench/edits.py NETCALC [instructions]
 
 NETCALC is the program. Two networks of 64 servers and 96 flows of stairs: a row, with paths of up to four servers anywhere in it (that of
 bench/analysis.py), and 16 islands of four servers each, with paths in one of them. Of each a link, the rate of the last server and of the
-first, a bucket, a packet, one flow more and one less.
+first, a bucket, a packet, one flow more and one less, each with its undo.
 
-A line an edit: the cells that it touches; the share of their work in that of all cells (operators on curves, counted here by a model of the
-network); its time in milliseconds, and as a share of a fresh analysis; that over the share of the work; how many times as long a fresh
-analysis takes as the edit, and how many times at least as its undo. An edit's time is that of one row and its undo, many times, less that of
-no rows and of the undos; an undo's is that of undos after as many edits less that of the edits; a fresh analysis' is that of a run without
-edits less that of one whose edit list is refused: processor time of the process, and the least of several runs. An undo takes about as long as
-such runs differ by, so the two least of them count against it. It stops where the program touches other cells than the model; nothing is
-asserted about time. A busy machine makes the times of short edits worthless.
+A line an edit, as a row of a table: the cells that it touches; the share of their work in that of all cells (operators on curves, counted here by a
+model of the network); its cost, and that as a share of a fresh analysis; this share over that of the work; what its undo costs; and how many times as
+much a fresh analysis does. A cost is processor time in milliseconds, the least of several runs, or with `instructions` millions of instructions by
+valgrind, which is slow, and which a busy machine does not change.
+
+- A fresh analysis is a run without edits less one whose edit list is refused, so that the files are only read.
+- An undo is a run of edits and undos of all of them less one of these edits. They leave the network as it was, since each edit is followed by one
+  that takes it back, so that both runs write the same report; its row and its line are in it. A flow that is dropped comes back by no edit: there the
+  report has a flow more after each undo.
+- An edit is a run of edits, each with its undo behind it, less a run without edits and the undos.
+
+In time an undo takes about as long as such runs differ by, so the two least of them count against it, and a busy machine makes the times of short
+edits worthless. It stops where the program touches other cells than the model; nothing is asserted about costs.
 """
 
 import os
+import re
 import subprocess
 import sys
 import tempfile
@@ -25,7 +32,6 @@ from pathlib import Path
 from analysis import DISCIPLINES, QUEUES, flow_text, paths, server_text
 
 SERVERS = 64
-ROWS = 500
 RUNS = 9
 # as flow_text and server_text write them
 STAIR, LATENCY = "stair", 10
@@ -127,40 +133,41 @@ def touched(old: dict, new: dict) -> set[tuple]:
 
 
 class Kind:
-    """A kind of edit: its rows, all of them different, and the network that the first of them makes."""
+    """A kind of edit: its row, the network that it makes, and the row that takes it back, or else rows of the kind that can stand behind each other."""
 
-    def __init__(self, name: str, rows: list[str], net: Net) -> None:
-        self.name, self.rows, self.net = name, rows, net
+    def __init__(self, name: str, row: str, back: str, net: Net, rows: list[str] | None = None) -> None:
+        self.name, self.row, self.back, self.net, self.rows = name, row, back, net, rows
 
 
 def on_servers(all_paths: list[list[int]], middle: int) -> list[Kind]:
     kinds = []
-    for name, server in (("link", middle), ("rate, last", SERVERS - 1), ("rate, first", 0)):
-        word, least = ("link", 1) if name == "link" else ("rate", 101)
-        kind = Kind(name, [f"{word},s{server},{least + row}" for row in range(ROWS)], Net(all_paths))
-        if word == "link":
-            kind.net.link[server] = least
+    for name, server in (("link", middle), ("rate, last server", SERVERS - 1), ("rate, first server", 0)):
+        net = Net(all_paths)
+        if name == "link":
+            net.link[server] = 1
+            kinds.append(Kind(name, f"link,s{server},1", f"link,s{server},0", net))
         else:
-            kind.net.service[server] = (least, LATENCY)
-        kinds.append(kind)
+            net.service[server] = (101, LATENCY)
+            kinds.append(Kind(name, f"rate,s{server},101", f"rate,s{server},100", net))
     return kinds
 
 
 def on_flows(all_paths: list[list[int]], flow: int) -> list[Kind]:
     bucket, packet, add, drop = (Net(all_paths) for _ in range(4))
+    length = packet.packet[flow]
     bucket.arrival[flow] = ("bucket", 9000, 1)
     packet.packet[flow] = 11400
     add.path.append([(server, add.queue(server, 1)) for server in all_paths[flow]])
     add.packet.append(8000)
     add.arrival.append(("bucket", 8000, 1))
     drop.packet[flow] = None
-    hops = " ".join(f"s{at}" if QUEUES[add.discipline[at]] == 1 else f"s{at}:{queue}" for at, queue in add.path[-1])
     others = [other for other in range(len(all_paths)) if other != flow]
+    hops = " ".join(f"s{at}" if QUEUES[add.discipline[at]] == 1 else f"s{at}:{queue}" for at, queue in add.path[-1])
     return [
-        Kind("bucket", [f"bucket,f{flow},{9000 + row},1" for row in range(ROWS)], bucket),
-        Kind("packet", [f"packet,f{flow},{11400 + row}" for row in range(ROWS)], packet),
-        Kind("add", [f"add,more{row},8000,8000,1,{hops}" for row in range(50)], add),
-        Kind("drop", [f"drop,f{other}" for other in [flow] + others[:49]], drop),
+        Kind("bucket", f"bucket,f{flow},9000,1", f"stair,f{flow},{8000 * 2 ** (flow % 3)},0", bucket),
+        Kind("packet", f"packet,f{flow},11400", f"packet,f{flow},{length}", packet),
+        Kind("add", f"add,more,8000,8000,1,{hops}", "drop,more", add),
+        Kind("drop", f"drop,f{flow}", "", drop, [f"drop,f{other}" for other in [flow] + others[:49]]),
     ]
 
 
@@ -178,22 +185,53 @@ def islands() -> list[list[int]]:
 class Program:
     """The program on one network, with one edit list or another."""
 
-    def __init__(self, program: str, folder: Path) -> None:
-        self.words, self.folder = [program, "edit", "n.toml", "e.csv"], folder
+    def __init__(self, program: str, folder: Path, is_counted: bool) -> None:
+        self.words, self.folder, self.is_counted = [program, "edit", "n.toml", "e.csv"], folder, is_counted
 
     def took(self, rows: list[str]) -> tuple[float, float, str]:
-        """The least processor time of the process in seconds, how much longer the next run took, and what it wrote first."""
+        """What a run costs, how far the next one was from it, and what it wrote first."""
         (self.folder / "e.csv").write_text("".join(f"{row}\n" for row in rows))
-        times = []
-        for _ in range(RUNS):
-            with (self.folder / "out").open("w") as out:
-                child = subprocess.Popen(self.words, cwd=self.folder, stdout=out, stderr=subprocess.DEVNULL)
-                _, status, usage = os.wait4(child.pid, 0)
-                child.returncode = os.waitstatus_to_exitcode(status)
-            times.append(usage.ru_utime + usage.ru_stime)
-        least, second = sorted(times)[:2]
+        costs = sorted([self.counted()] if self.is_counted else [self.timed() for _ in range(RUNS)])
         with (self.folder / "out").open() as out:
-            return least, second - least, out.readline().rstrip()
+            return costs[0], costs[:2][-1] - costs[0], out.readline().rstrip()
+
+    def timed(self) -> float:
+        """Milliseconds of processor time."""
+        with (self.folder / "out").open("w") as out:
+            child = subprocess.Popen(self.words, cwd=self.folder, stdout=out, stderr=subprocess.DEVNULL)
+            _, status, usage = os.wait4(child.pid, 0)
+            child.returncode = os.waitstatus_to_exitcode(status)
+        return 1e3 * (usage.ru_utime + usage.ru_stime)
+
+    def counted(self) -> float:
+        """Millions of instructions."""
+        counter = ["valgrind", "--tool=cachegrind", "--cache-sim=no", "--cachegrind-out-file=/dev/null"]
+        with (self.folder / "out").open("w") as out:
+            child = subprocess.run([*counter, *self.words], cwd=self.folder, stdout=out, stderr=subprocess.PIPE, text=True, check=False)
+        return int(re.search("I +refs: +([0-9,]+)", child.stderr)[1].replace(",", "")) / 1e6
+
+
+class Measured:
+    """What one network costs without edits."""
+
+    def __init__(self, program: Program) -> None:
+        self.program = program
+        self.none = program.took([])[0]
+        self.fresh = self.none - program.took(["no such edit"])[0]
+
+    def undo(self, kind: Kind, times: int) -> tuple[float, float]:
+        """What an undo costs, and at most."""
+        edits = kind.rows[:times] if kind.rows else [kind.row, kind.back] * times
+        undos = ["undo"] * len(edits)
+        edited, spread, _ = self.program.took(edits)
+        gone_back, other_spread, _ = self.program.took(edits + undos)
+        cost = max(0.0, gone_back - edited) / len(undos)
+        return cost, cost + (spread + other_spread) / len(undos)
+
+    def edit(self, kind: Kind, times: int, undo: float) -> tuple[float, str]:
+        """What an edit costs, and what is said of the first."""
+        cost, _, said = self.program.took([kind.row, "undo"] * times)
+        return (cost - self.none) / times - undo, said
 
 
 def measure(program: Program, title: str, all_paths: list[list[int]]) -> None:
@@ -201,40 +239,38 @@ def measure(program: Program, title: str, all_paths: list[list[int]]) -> None:
     (program.folder / "n.toml").write_text(text + "".join(flow_text(flow, hops) for flow, hops in enumerate(all_paths)))
     old = Net(all_paths).cells()
     all_work = sum(work for _, _, work in old.values())
-    none = program.took([])[0]
-    fresh = none - program.took(["no such edit"])[0]
-    print(f"{title}: {len(old)} cells, {all_work} operators, a fresh analysis takes {1e3 * fresh:.0f} ms")
-    print(f"{'edit':<12}{'cells':>7}{'work':>8}{'ms':>8}{'time':>8}{'time/work':>11}{'fresh/edit':>12}{'fresh/undo':>12}")
+    measured = Measured(program)
+    unit, most = ("million instructions", 0.3) if program.is_counted else ("ms", 3)
+    print(f"{title}: {len(old)} cells, {all_work} operators, a fresh analysis takes {measured.fresh:.0f} {unit}\n")
+    print(f"| Edit | Cells touched | Share of the work | {unit.capitalize()} | Share of a fresh analysis | The second share over the first"
+          f" | Its undo: {unit} | A fresh analysis over that |\n|---|---|---|---|---|---|---|---|")
     # one of the longest paths, from the middle on
     flow = max(range(len(all_paths)), key=lambda flow: (len(all_paths[flow]), flow >= len(all_paths) // 2, -flow))
     for kind in on_servers(all_paths, all_paths[flow][1]) + on_flows(all_paths, flow):
         new = kind.net.cells()
         found = touched(old, new)
         share = sum(new[cell][2] for cell in found) / all_work
-        # as many times as take about as long as three fresh analyses; the rows of some kinds are fewer
-        times = min(ROWS, max(10, int(3 / share)))
-        count = min(len(kind.rows), times)
-        once, spread, said = program.took(kind.rows[:count])
+        # as many as cost a part of a fresh analysis, and in time some of them
+        times = min(20 if program.is_counted else 200, max(3, int(most / share)))
+        undo, undo_at_most = measured.undo(kind, times)
+        edit, said = measured.edit(kind, times, undo)
         if said != f"edit 1 ok cells {len(found)}":
-            sys.exit(f"{kind.rows[0]}: the program says {said}, the model {len(found)} cells")
-        gone_back, other_spread, _ = program.took(kind.rows[:count] + ["undo"] * count)
-        back = max(0.0, gone_back - once) / count
-        at_most = back + (spread + other_spread) / count
-        edit = (program.took([kind.rows[0], "undo"] * times)[0] - none) / times - back
+            sys.exit(f"{kind.row}: the program says {said}, the model {len(found)} cells")
         print(
-            f"{kind.name:<12}{len(found):>7}{share:>8.2%}{1e3 * edit:>8.2f}{edit / fresh:>8.2%}{edit / fresh / share:>11.2f}"
-            f"{fresh / edit:>12.0f}{fresh / max(at_most, 1e-9):>12.0f}",
+            f"| {kind.name} | {len(found)} | {share:.2%} | {edit:.2f} | {edit / measured.fresh:.2%} | {edit / measured.fresh / share:.2f}"
+            f" | {undo_at_most:.3f} | {measured.fresh / max(undo_at_most, 1e-9):,.0f} |",
             flush=True,
         )
+    print()
 
 
 def main() -> None:
-    if len(sys.argv) != 2:
+    if len(sys.argv) not in (2, 3) or sys.argv[2:] not in ([], ["instructions"]):
         sys.exit(__doc__)
     program = str(Path(sys.argv[1]).resolve())
     with tempfile.TemporaryDirectory(prefix="edits_bench_") as name:
         for title, all_paths in (("64 servers in a row", paths(SERVERS)), ("16 islands of four servers", islands())):
-            measure(Program(program, Path(name)), title, all_paths)
+            measure(Program(program, Path(name), len(sys.argv) == 3), title, all_paths)
 
 
 if __name__ == "__main__":
