@@ -9,17 +9,17 @@ first, a bucket, a packet, one flow more and one less, each with its undo.
 
 A line an edit, as a row of a table: the cells that it touches; the share of their work in that of all cells (operators on curves, counted here by a
 model of the network); its cost, and that as a share of a fresh analysis; this share over that of the work; what its undo costs; and how many times as
-much a fresh analysis does. A cost is processor time in milliseconds, the least of several runs, or with `instructions` millions of instructions by
-valgrind, which is slow, and which a busy machine does not change.
+much a fresh analysis does. It stops where the program touches other cells than the model; nothing is asserted about costs.
 
-- A fresh analysis is a run without edits less one whose edit list is refused, so that the files are only read.
-- An undo is a run of edits and undos of all of them less one of these edits. They leave the network as it was, since each edit is followed by one
-  that takes it back, so that both runs write the same report; its row and its line are in it. A flow that is dropped comes back by no edit: there the
-  report has a flow more after each undo.
-- An edit is a run of edits, each with its undo behind it, less a run without edits and the undos.
+With `instructions` a cost is in millions of instructions, which valgrind counts in one run, from one line of the report on edits to the next: the mean
+of some edits of the kind, each with its undo behind it. A fresh analysis is a run up to the first of these lines, and behind the last one, less a
+run whose edit list is refused, so that the files are only read. A busy machine does not change that.
 
-In time an undo takes about as long as such runs differ by, so the two least of them count against it, and a busy machine makes the times of short
-edits worthless. It stops where the program touches other cells than the model; nothing is asserted about costs.
+Else a cost is processor time in milliseconds, the least of several runs. A fresh analysis is a run without edits less one whose edit list is refused.
+An undo is a run of edits and undos of all of them less one of these edits, which leave the network as it was, since behind each comes one that takes it
+back, so that both runs write the same report (a flow that is dropped comes back by no edit: there the report has a flow more after each undo). An edit is
+a run of edits, each with its undo behind it, less a run without edits and the undos. An undo takes about as long as such runs differ by, so the two
+least of them count against it. A busy machine makes the times of short edits worthless.
 """
 
 import os
@@ -33,6 +33,7 @@ from analysis import DISCIPLINES, QUEUES, flow_text, paths, server_text
 
 SERVERS = 64
 RUNS = 9
+REPEATS = 4
 # as flow_text and server_text write them
 STAIR, LATENCY = "stair", 10
 
@@ -185,80 +186,96 @@ def islands() -> list[list[int]]:
 class Program:
     """The program on one network, with one edit list or another."""
 
-    def __init__(self, program: str, folder: Path, is_counted: bool) -> None:
-        self.words, self.folder, self.is_counted = [program, "edit", "n.toml", "e.csv"], folder, is_counted
+    def __init__(self, program: str, folder: Path) -> None:
+        self.words, self.folder = [program, "edit", "n.toml", "e.csv"], folder
 
-    def took(self, rows: list[str]) -> tuple[float, float, str]:
-        """What a run costs, how far the next one was from it, and what it wrote first."""
+    def run(self, rows: list[str], before: list[str]) -> tuple[float, list[str]]:
+        """Milliseconds of processor time, and the lines that were written."""
         (self.folder / "e.csv").write_text("".join(f"{row}\n" for row in rows))
-        costs = sorted([self.counted()] if self.is_counted else [self.timed() for _ in range(RUNS)])
-        with (self.folder / "out").open() as out:
-            return costs[0], costs[:2][-1] - costs[0], out.readline().rstrip()
-
-    def timed(self) -> float:
-        """Milliseconds of processor time."""
         with (self.folder / "out").open("w") as out:
-            child = subprocess.Popen(self.words, cwd=self.folder, stdout=out, stderr=subprocess.DEVNULL)
+            child = subprocess.Popen([*before, *self.words], cwd=self.folder, stdout=out, stderr=subprocess.DEVNULL)
             _, status, usage = os.wait4(child.pid, 0)
             child.returncode = os.waitstatus_to_exitcode(status)
-        return 1e3 * (usage.ru_utime + usage.ru_stime)
-
-    def counted(self) -> float:
-        """Millions of instructions."""
-        counter = ["valgrind", "--tool=cachegrind", "--cache-sim=no", "--cachegrind-out-file=/dev/null"]
-        with (self.folder / "out").open("w") as out:
-            child = subprocess.run([*counter, *self.words], cwd=self.folder, stdout=out, stderr=subprocess.PIPE, text=True, check=False)
-        return int(re.search("I +refs: +([0-9,]+)", child.stderr)[1].replace(",", "")) / 1e6
+        return 1e3 * (usage.ru_utime + usage.ru_stime), (self.folder / "out").read_text().splitlines()
 
 
-class Measured:
-    """What one network costs without edits."""
+class Timed:
+    """What edits of one network cost in time."""
 
-    def __init__(self, program: Program) -> None:
+    def __init__(self, program: Program, kinds: list[Kind]) -> None:
         self.program = program
-        self.none = program.took([])[0]
-        self.fresh = self.none - program.took(["no such edit"])[0]
+        self.none = self.took([])[0]
+        self.fresh = self.none - self.took(["no such edit"])[0]
 
-    def undo(self, kind: Kind, times: int) -> tuple[float, float]:
-        """What an undo costs, and at most."""
+    def took(self, rows: list[str]) -> tuple[float, float, str]:
+        """What a run takes at least, how far the next one was from it, and what it wrote first."""
+        runs = sorted(self.program.run(rows, []) for _ in range(RUNS))
+        return runs[0][0], runs[1][0] - runs[0][0], runs[0][1][0]
+
+    def of(self, kind: Kind, share: float) -> tuple[float, float, str]:
+        """What an edit and its undo take, and what is said of the first; as many as take about as long as three fresh analyses."""
+        times = min(200, max(5, int(3 / share)))
         edits = kind.rows[:times] if kind.rows else [kind.row, kind.back] * times
-        undos = ["undo"] * len(edits)
-        edited, spread, _ = self.program.took(edits)
-        gone_back, other_spread, _ = self.program.took(edits + undos)
-        cost = max(0.0, gone_back - edited) / len(undos)
-        return cost, cost + (spread + other_spread) / len(undos)
-
-    def edit(self, kind: Kind, times: int, undo: float) -> tuple[float, str]:
-        """What an edit costs, and what is said of the first."""
-        cost, _, said = self.program.took([kind.row, "undo"] * times)
-        return (cost - self.none) / times - undo, said
+        edited, spread, _ = self.took(edits)
+        gone_back, other_spread, _ = self.took(edits + ["undo"] * len(edits))
+        undo = max(0.0, gone_back - edited) / len(edits)
+        cost, _, said = self.took([kind.row, "undo"] * times)
+        return (cost - self.none) / times - undo, undo + (spread + other_spread) / len(edits), said
 
 
-def measure(program: Program, title: str, all_paths: list[list[int]]) -> None:
+class Counted:
+    """What edits of one network cost in instructions."""
+
+    def __init__(self, program: Program, kinds: list[Kind]) -> None:
+        self.program = program
+        # The row that is refused stands between the analysis and the first edit.
+        costs, self.lines = self.counted(["undo"] + [row for kind in kinds for row in [kind.row, "undo"] * REPEATS])
+        # the last part is written last, without a number
+        self.fresh = costs[0] + costs[-1] - sum(self.counted(["no such edit"])[0])
+        self.places = {kind.name: 1 + 2 * REPEATS * number for number, kind in enumerate(kinds)}
+        self.costs = costs
+
+    def counted(self, rows: list[str]) -> tuple[list[float], list[str]]:
+        """The millions of instructions up to each line on an edit, and behind the last."""
+        for file in self.program.folder.glob("counts*"):
+            file.unlink()
+        counter = ["valgrind", "--tool=callgrind", "--callgrind-out-file=counts", "--dump-after=edit_report::said::said_of"]
+        _, lines = self.program.run(rows, counter)
+        count = sum(line.startswith("edit ") for line in lines)
+        names = [f"counts.{number}" for number in range(1, count + 1)] + ["counts"]
+        texts = [(self.program.folder / name).read_text() for name in names]
+        return [int(re.search("^totals: ([0-9]+)", text, re.MULTILINE)[1]) / 1e6 for text in texts], lines
+
+    def of(self, kind: Kind, share: float) -> tuple[float, float, str]:
+        """What an edit and its undo cost in the mean, and what is said of the first."""
+        place = self.places[kind.name]
+        costs = self.costs[place : place + 2 * REPEATS]
+        return sum(costs[::2]) / REPEATS, sum(costs[1::2]) / REPEATS, self.lines[place].replace(f"edit {place + 1} ", "edit 1 ")
+
+
+def measure(program: Program, costs: type, title: str, all_paths: list[list[int]]) -> None:
     text = "".join(map(server_text, range(SERVERS)))
     (program.folder / "n.toml").write_text(text + "".join(flow_text(flow, hops) for flow, hops in enumerate(all_paths)))
     old = Net(all_paths).cells()
     all_work = sum(work for _, _, work in old.values())
-    measured = Measured(program)
-    unit, most = ("million instructions", 0.3) if program.is_counted else ("ms", 3)
-    print(f"{title}: {len(old)} cells, {all_work} operators, a fresh analysis takes {measured.fresh:.0f} {unit}\n")
-    print(f"| Edit | Cells touched | Share of the work | {unit.capitalize()} | Share of a fresh analysis | The second share over the first"
-          f" | Its undo: {unit} | A fresh analysis over that |\n|---|---|---|---|---|---|---|---|")
     # one of the longest paths, from the middle on
     flow = max(range(len(all_paths)), key=lambda flow: (len(all_paths[flow]), flow >= len(all_paths) // 2, -flow))
-    for kind in on_servers(all_paths, all_paths[flow][1]) + on_flows(all_paths, flow):
+    kinds = on_servers(all_paths, all_paths[flow][1]) + on_flows(all_paths, flow)
+    measured = costs(program, kinds)
+    unit = "ms" if costs is Timed else "million instructions"
+    print(f"{title}: {len(old):,} cells, {all_work:,} operators, a fresh analysis takes {measured.fresh:.0f} {unit}\n")
+    print(f"| Edit | Cells touched | Share of the work | {unit.capitalize()} | Share of a fresh analysis | The second share over the first"
+          f" | Its undo | A fresh analysis over that |\n|---|---|---|---|---|---|---|---|")
+    for kind in kinds:
         new = kind.net.cells()
         found = touched(old, new)
         share = sum(new[cell][2] for cell in found) / all_work
-        # as many as cost a part of a fresh analysis, and in time some of them
-        times = min(20 if program.is_counted else 200, max(3, int(most / share)))
-        undo, undo_at_most = measured.undo(kind, times)
-        edit, said = measured.edit(kind, times, undo)
+        edit, undo, said = measured.of(kind, share)
         if said != f"edit 1 ok cells {len(found)}":
             sys.exit(f"{kind.row}: the program says {said}, the model {len(found)} cells")
         print(
             f"| {kind.name} | {len(found)} | {share:.2%} | {edit:.2f} | {edit / measured.fresh:.2%} | {edit / measured.fresh / share:.2f}"
-            f" | {undo_at_most:.3f} | {measured.fresh / max(undo_at_most, 1e-9):,.0f} |",
+            f" | {undo:.4f} | {measured.fresh / max(undo, 1e-9):,.0f} |",
             flush=True,
         )
     print()
@@ -268,9 +285,10 @@ def main() -> None:
     if len(sys.argv) not in (2, 3) or sys.argv[2:] not in ([], ["instructions"]):
         sys.exit(__doc__)
     program = str(Path(sys.argv[1]).resolve())
+    costs = Counted if len(sys.argv) == 3 else Timed
     with tempfile.TemporaryDirectory(prefix="edits_bench_") as name:
         for title, all_paths in (("64 servers in a row", paths(SERVERS)), ("16 islands of four servers", islands())):
-            measure(Program(program, Path(name), len(sys.argv) == 3), title, all_paths)
+            measure(Program(program, Path(name)), costs, title, all_paths)
 
 
 if __name__ == "__main__":
