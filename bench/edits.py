@@ -12,7 +12,7 @@ model of the network); its cost, and that as a share of a fresh analysis; this s
 much a fresh analysis does. It stops where the program touches other cells than the model; nothing is asserted about costs.
 
 With `instructions` a cost is in millions of instructions, which valgrind counts in one run, from one line of the report on edits to the next: the mean
-of some edits of the kind, each with its undo behind it. A fresh analysis is a run up to the first of these lines, and behind the last one, less a
+of some edits of the kind, each with its undo behind it. There is one column more, what of an edit's cost is for its cells. A fresh analysis is a run up to the first of these lines, and behind the last one, less a
 run whose edit list is refused, so that the files are only read. A busy machine does not change that.
 
 Else a cost is processor time in milliseconds, the least of several runs. A fresh analysis is a run without edits less one whose edit list is refused.
@@ -231,12 +231,14 @@ class Counted:
         # The row that is refused stands between the analysis and the first edit.
         costs, self.lines = self.counted(["undo"] + [row for kind in kinds for row in [kind.row, "undo"] * REPEATS])
         # the last part is written last, without a number
-        self.fresh = costs[0] + costs[-1] - sum(self.counted(["no such edit"])[0])
+        read = sum(cost for cost, _ in self.counted(["no such edit"])[0])
+        self.fresh = costs[0][0] + costs[-1][0] - read
         self.places = {kind.name: 1 + 2 * REPEATS * number for number, kind in enumerate(kinds)}
-        self.costs = costs
+        self.costs = [cost for cost, _ in costs]
+        self.for_cells = [cells for _, cells in costs]
 
-    def counted(self, rows: list[str]) -> tuple[list[float], list[str]]:
-        """The millions of instructions up to each line on an edit, and behind the last."""
+    def counted(self, rows: list[str]) -> tuple[list[tuple[float, float]], list[str]]:
+        """The millions of instructions up to each line on an edit, and behind the last, with those for cells."""
         for file in self.program.folder.glob("counts*"):
             file.unlink()
         counter = ["valgrind", "--tool=callgrind", "--callgrind-out-file=counts", "--dump-after=edit_report::said::said_of"]
@@ -244,13 +246,25 @@ class Counted:
         count = sum(line.startswith("edit ") for line in lines)
         names = [f"counts.{number}" for number in range(1, count + 1)] + ["counts"]
         texts = [(self.program.folder / name).read_text() for name in names]
-        return [int(re.search("^totals: ([0-9]+)", text, re.MULTILINE)[1]) / 1e6 for text in texts], lines
+        return [(int(re.search("^totals: ([0-9]+)", text, re.MULTILINE)[1]) / 1e6, in_cells(text)) for text in texts], lines
 
     def of(self, kind: Kind, share: float) -> tuple[float, float, str]:
         """What an edit and its undo cost in the mean, and what is said of the first."""
         place = self.places[kind.name]
         costs = self.costs[place : place + 2 * REPEATS]
         return sum(costs[::2]) / REPEATS, sum(costs[1::2]) / REPEATS, self.lines[place].replace(f"edit {place + 1} ", "edit 1 ")
+
+    def cells_of(self, kind: Kind) -> float:
+        """What of an edit's cost is for its cells."""
+        place = self.places[kind.name]
+        return sum(self.for_cells[place : place + 2 * REPEATS : 2]) / REPEATS
+
+
+def in_cells(text: str) -> float:
+    """The millions of instructions that cells take which are made anew: of the calls of that function in a file of callgrind."""
+    name = re.search(r"^cfn=(\(\d+\)) cell_store::anew::made_anew", text, re.MULTILINE)
+    calls = re.findall(rf"^cfn={re.escape(name[1])}.*\ncalls=.*\n\S+ (\d+)$", text, re.MULTILINE) if name else []
+    return sum(map(int, calls)) / 1e6
 
 
 def measure(program: Program, costs: type, title: str, all_paths: list[list[int]]) -> None:
@@ -264,8 +278,10 @@ def measure(program: Program, costs: type, title: str, all_paths: list[list[int]
     measured = costs(program, kinds)
     unit = "ms" if costs is Timed else "million instructions"
     print(f"{title}: {len(old):,} cells, {all_work:,} operators, a fresh analysis takes {measured.fresh:.0f} {unit}\n")
-    print(f"| Edit | Cells touched | Share of the work | {unit.capitalize()} | Share of a fresh analysis | The second share over the first"
-          f" | Its undo | A fresh analysis over that |\n|---|---|---|---|---|---|---|---|")
+    more = ["Of these for its cells"] if costs is Counted else []
+    heads = ["Edit", "Cells touched", "Share of the work", unit.capitalize(), *more]
+    heads += ["Share of a fresh analysis", "The second share over the first", "Its undo", "A fresh analysis over that"]
+    print(f"| {' | '.join(heads)} |\n|{'---|' * len(heads)}")
     for kind in kinds:
         new = kind.net.cells()
         found = touched(old, new)
@@ -273,11 +289,11 @@ def measure(program: Program, costs: type, title: str, all_paths: list[list[int]
         edit, undo, said = measured.of(kind, share)
         if said != f"edit 1 ok cells {len(found)}":
             sys.exit(f"{kind.row}: the program says {said}, the model {len(found)} cells")
-        print(
-            f"| {kind.name} | {len(found)} | {share:.2%} | {edit:.2f} | {edit / measured.fresh:.2%} | {edit / measured.fresh / share:.2f}"
-            f" | {undo:.4f} | {measured.fresh / max(undo, 1e-9):,.0f} |",
-            flush=True,
-        )
+        cells = [f"{measured.cells_of(kind):.2f}"] if costs is Counted else []
+        of_fresh = edit / measured.fresh
+        said = [f"{of_fresh:.2%}", f"{of_fresh / share:.2f}", f"{undo:.4f}", f"{measured.fresh / max(undo, 1e-9):,.0f}"]
+        row = [kind.name, str(len(found)), f"{share:.2%}", f"{edit:.2f}", *cells, *said]
+        print(f"| {' | '.join(row)} |".replace("%", " %"), flush=True)
     print()
 
 

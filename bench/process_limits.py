@@ -1,15 +1,15 @@
 #!/usr/bin/env python3
 """What the program does where its process is short of something.
 
-    python3 bench/process_limits.py NETCALC [WORD]
+    python3 bench/process_limits.py NETCALC [LIMITS] [WORD]
 
 NETCALC is the program. It is tried on calls of all seven commands, with reports, reports as JSON and refusals, small ones and such as need some
 memory; with WORD on those alone whose name has it. A line for each call:
 
 - **Output**: to a closed one, a full device, a pipe whose reader has gone, with the signal of a broken pipe ignored and as a shell leaves it. Wanted:
   status 4 and no signal. With a limit on the size of files the system sends SIGXFSZ by itself, which is wanted.
-- **Memory**: under limits of its address space, from what the program needs to be loaded at all to what the call needs, about 200 of them. Wanted:
-  status 5 and no output, or the right answer.
+- **Memory**: under limits of its address space, from what the program needs to be loaded at all to what the call needs, LIMITS (200) or a few more of
+  them, a page or more apart; a small call needs no more than the loading. Wanted: status 5 and no output, or the right answer.
 - **Stack**: the least stack in KiB with which a call ends as it does without a limit. Nothing is asserted of it.
 
 It ends with 1 where something else came.
@@ -28,6 +28,7 @@ from heaviest import ONE_BUCKET, ONE_GATE, ONE_STAIR, constants, distant, rates,
 TOP = Path(__file__).resolve().parent.parent
 KIB = 1024
 MIB = 1024 * KIB
+PAGE = 4 * KIB
 
 
 def deep_keys() -> bytes:
@@ -137,17 +138,16 @@ def short_files() -> None:
     resource.setrlimit(resource.RLIMIT_FSIZE, (10, 10))
 
 
-def memory(program: str, words: list[str], folder: Path) -> tuple[str, dict[str, int]]:
+def memory(program: str, words: list[str], folder: Path, loads: int, count: int) -> tuple[str, dict[str, int]]:
     """What came under limits on memory, and how many limits were tried by what came."""
     wanted = run(program, words, folder)
-    loads = least(lambda size: run(program, [], folder, resource.RLIMIT_AS, size)[0] == 2, 64 * MIB, 4 * KIB)
-    needs = least(lambda size: run(program, words, folder, resource.RLIMIT_AS, size) == wanted, 512 * MIB, 4 * KIB)
-    step = max(4 * KIB, (needs - loads) // 200)
+    needs = max(loads, least(lambda size: run(program, words, folder, resource.RLIMIT_AS, size) == wanted, 512 * MIB, PAGE))
+    step = max(PAGE, (needs - loads) // count // PAGE * PAGE)
     counts = {"right": 0, "out of memory": 0, "another": 0}
     for size in range(loads, needs + step, step):
         came = run(program, words, folder, resource.RLIMIT_AS, size)
         counts["right" if came == wanted else "out of memory" if came == (5, b"") else "another"] += 1
-    return f"loads with {loads // KIB} KiB, needs {needs // KIB} KiB; limits tried: {counts}", counts
+    return f"needs {needs // KIB:,} KiB; limits tried: {counts}", counts
 
 
 def least(holds, most: int, step: int) -> int:
@@ -163,10 +163,13 @@ def least(holds, most: int, step: int) -> int:
 
 
 def main() -> None:
-    if len(sys.argv) not in (2, 3):
+    if len(sys.argv) not in (2, 3, 4):
         sys.exit(__doc__)
     program = str(Path(sys.argv[1]).resolve())
-    word = sys.argv[2] if len(sys.argv) > 2 else ""
+    count = int(sys.argv[2]) if len(sys.argv) > 2 else 200
+    word = sys.argv[3] if len(sys.argv) > 3 else ""
+    loads = least(lambda size: run(program, [], TOP, resource.RLIMIT_AS, size)[0] == 2, 64 * MIB, PAGE)
+    print(f"the program is loaded with {loads // KIB:,} KiB")
     tried = wrong = limits = deepest = 0
     for what, (words, files) in calls().items():
         if word not in what:
@@ -176,15 +179,15 @@ def main() -> None:
             for file, text in files.items():
                 (folder / file).write_bytes(text)
             others = outputs(program, words, folder)
-            said, counts = memory(program, words, folder)
+            said, counts = memory(program, words, folder, loads, count)
             wanted = run(program, words, folder)
-            stack = least(lambda size: run(program, words, folder, resource.RLIMIT_STACK, size) == wanted, 8 * MIB, 4 * KIB)
+            stack = least(lambda size: run(program, words, folder, resource.RLIMIT_STACK, size) == wanted, 8 * MIB, PAGE)
         print("; ".join([f"{what}: status {wanted[0]}", said, f"stack {stack // KIB} KiB", *others]), flush=True)
         tried += 1
         wrong += len(others) + counts["another"]
         limits += sum(counts.values())
         deepest = max(deepest, stack)
-    print(f"{tried} calls, each with five ends of its output; {limits} limits of memory; {deepest // KIB} KiB of stack at most; {wrong} ends not wanted")
+    print(f"{tried} calls, each with five ends of its output; {limits:,} limits of memory; {deepest // KIB} KiB of stack at most; {wrong} ends not wanted")
     sys.exit(1 if wrong else 0)
 
 
