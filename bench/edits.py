@@ -1,22 +1,29 @@
 #!/usr/bin/env python3
-"""Times edits and undos beside a fresh analysis of the whole network.
+"""What edits and undos cost beside a fresh analysis of the whole network.
 
-    python3 bench/edits.py NETCALC
+    python3 bench/edits.py NETCALC [instructions]
 
 NETCALC is the program. Two networks of 64 servers and 96 flows of stairs: a row, with paths of up to four servers anywhere in it (that of
 bench/analysis.py), and 16 islands of four servers each, with paths in one of them. Of each a link, the rate of the last server and of the
-first, a bucket, a packet, one flow more and one less.
+first, a bucket, a packet, one flow more and one less, each with its undo.
 
-A line an edit: the cells that it touches; the share of their work in that of all cells (operators on curves, counted here by a model of the
-network); its time in milliseconds, and as a share of a fresh analysis; that over the share of the work; how many times as long a fresh
-analysis takes as the edit, and how many times at least as its undo. An edit's time is that of one row and its undo, many times, less that of
-no rows and of the undos; an undo's is that of undos after as many edits less that of the edits; a fresh analysis' is that of a run without
-edits less that of one whose edit list is refused: processor time of the process, and the least of several runs. An undo takes about as long as
-such runs differ by, so the two least of them count against it. It stops where the program touches other cells than the model; nothing is
-asserted about time. A busy machine makes the times of short edits worthless.
+A line an edit, as a row of a table: the cells that it touches; the share of their work in that of all cells (operators on curves, counted here by a
+model of the network); its cost, and that as a share of a fresh analysis; this share over that of the work; what its undo costs; and how many times as
+much a fresh analysis does. It stops where the program touches other cells than the model; nothing is asserted about costs.
+
+With `instructions` a cost is in millions of instructions, which valgrind counts in one run, from one line of the report on edits to the next: the mean
+of some edits of the kind, each with its undo behind it. There is one column more, what of an edit's cost is for its cells. A fresh analysis is a run up to the first of these lines, and behind the last one, less a
+run whose edit list is refused, so that the files are only read. A busy machine does not change that.
+
+Else a cost is processor time in milliseconds, the least of several runs. A fresh analysis is a run without edits less one whose edit list is refused.
+An undo is a run of edits and undos of all of them less one of these edits, which leave the network as it was, since behind each comes one that takes it
+back, so that both runs write the same report (a flow that is dropped comes back by no edit: there the report has a flow more after each undo). An edit is
+a run of edits, each with its undo behind it, less a run without edits and the undos. An undo takes about as long as such runs differ by, so the two
+least of them count against it. A busy machine makes the times of short edits worthless.
 """
 
 import os
+import re
 import subprocess
 import sys
 import tempfile
@@ -25,8 +32,8 @@ from pathlib import Path
 from analysis import DISCIPLINES, QUEUES, flow_text, paths, server_text
 
 SERVERS = 64
-ROWS = 500
 RUNS = 9
+REPEATS = 4
 # as flow_text and server_text write them
 STAIR, LATENCY = "stair", 10
 
@@ -127,40 +134,41 @@ def touched(old: dict, new: dict) -> set[tuple]:
 
 
 class Kind:
-    """A kind of edit: its rows, all of them different, and the network that the first of them makes."""
+    """A kind of edit: its row, the network that it makes, and the row that takes it back, or else rows of the kind that can stand behind each other."""
 
-    def __init__(self, name: str, rows: list[str], net: Net) -> None:
-        self.name, self.rows, self.net = name, rows, net
+    def __init__(self, name: str, row: str, back: str, net: Net, rows: list[str] | None = None) -> None:
+        self.name, self.row, self.back, self.net, self.rows = name, row, back, net, rows
 
 
 def on_servers(all_paths: list[list[int]], middle: int) -> list[Kind]:
     kinds = []
-    for name, server in (("link", middle), ("rate, last", SERVERS - 1), ("rate, first", 0)):
-        word, least = ("link", 1) if name == "link" else ("rate", 101)
-        kind = Kind(name, [f"{word},s{server},{least + row}" for row in range(ROWS)], Net(all_paths))
-        if word == "link":
-            kind.net.link[server] = least
+    for name, server in (("link", middle), ("rate, last server", SERVERS - 1), ("rate, first server", 0)):
+        net = Net(all_paths)
+        if name == "link":
+            net.link[server] = 1
+            kinds.append(Kind(name, f"link,s{server},1", f"link,s{server},0", net))
         else:
-            kind.net.service[server] = (least, LATENCY)
-        kinds.append(kind)
+            net.service[server] = (101, LATENCY)
+            kinds.append(Kind(name, f"rate,s{server},101", f"rate,s{server},100", net))
     return kinds
 
 
 def on_flows(all_paths: list[list[int]], flow: int) -> list[Kind]:
     bucket, packet, add, drop = (Net(all_paths) for _ in range(4))
+    length = packet.packet[flow]
     bucket.arrival[flow] = ("bucket", 9000, 1)
     packet.packet[flow] = 11400
     add.path.append([(server, add.queue(server, 1)) for server in all_paths[flow]])
     add.packet.append(8000)
     add.arrival.append(("bucket", 8000, 1))
     drop.packet[flow] = None
-    hops = " ".join(f"s{at}" if QUEUES[add.discipline[at]] == 1 else f"s{at}:{queue}" for at, queue in add.path[-1])
     others = [other for other in range(len(all_paths)) if other != flow]
+    hops = " ".join(f"s{at}" if QUEUES[add.discipline[at]] == 1 else f"s{at}:{queue}" for at, queue in add.path[-1])
     return [
-        Kind("bucket", [f"bucket,f{flow},{9000 + row},1" for row in range(ROWS)], bucket),
-        Kind("packet", [f"packet,f{flow},{11400 + row}" for row in range(ROWS)], packet),
-        Kind("add", [f"add,more{row},8000,8000,1,{hops}" for row in range(50)], add),
-        Kind("drop", [f"drop,f{other}" for other in [flow] + others[:49]], drop),
+        Kind("bucket", f"bucket,f{flow},9000,1", f"stair,f{flow},{8000 * 2 ** (flow % 3)},0", bucket),
+        Kind("packet", f"packet,f{flow},11400", f"packet,f{flow},{length}", packet),
+        Kind("add", f"add,more,8000,8000,1,{hops}", "drop,more", add),
+        Kind("drop", f"drop,f{flow}", "", drop, [f"drop,f{other}" for other in [flow] + others[:49]]),
     ]
 
 
@@ -181,60 +189,122 @@ class Program:
     def __init__(self, program: str, folder: Path) -> None:
         self.words, self.folder = [program, "edit", "n.toml", "e.csv"], folder
 
-    def took(self, rows: list[str]) -> tuple[float, float, str]:
-        """The least processor time of the process in seconds, how much longer the next run took, and what it wrote first."""
+    def run(self, rows: list[str], before: list[str]) -> tuple[float, list[str]]:
+        """Milliseconds of processor time, and the lines that were written."""
         (self.folder / "e.csv").write_text("".join(f"{row}\n" for row in rows))
-        times = []
-        for _ in range(RUNS):
-            with (self.folder / "out").open("w") as out:
-                child = subprocess.Popen(self.words, cwd=self.folder, stdout=out, stderr=subprocess.DEVNULL)
-                _, status, usage = os.wait4(child.pid, 0)
-                child.returncode = os.waitstatus_to_exitcode(status)
-            times.append(usage.ru_utime + usage.ru_stime)
-        least, second = sorted(times)[:2]
-        with (self.folder / "out").open() as out:
-            return least, second - least, out.readline().rstrip()
+        with (self.folder / "out").open("w") as out:
+            child = subprocess.Popen([*before, *self.words], cwd=self.folder, stdout=out, stderr=subprocess.DEVNULL)
+            _, status, usage = os.wait4(child.pid, 0)
+            child.returncode = os.waitstatus_to_exitcode(status)
+        return 1e3 * (usage.ru_utime + usage.ru_stime), (self.folder / "out").read_text().splitlines()
 
 
-def measure(program: Program, title: str, all_paths: list[list[int]]) -> None:
+class Timed:
+    """What edits of one network cost in time."""
+
+    def __init__(self, program: Program, kinds: list[Kind]) -> None:
+        self.program = program
+        self.none = self.took([])[0]
+        self.fresh = self.none - self.took(["no such edit"])[0]
+
+    def took(self, rows: list[str]) -> tuple[float, float, str]:
+        """What a run takes at least, how far the next one was from it, and what it wrote first."""
+        runs = sorted(self.program.run(rows, []) for _ in range(RUNS))
+        return runs[0][0], runs[1][0] - runs[0][0], runs[0][1][0]
+
+    def of(self, kind: Kind, share: float) -> tuple[float, float, str]:
+        """What an edit and its undo take, and what is said of the first; as many as take about as long as three fresh analyses."""
+        times = min(200, max(5, int(3 / share)))
+        edits = kind.rows[:times] if kind.rows else [kind.row, kind.back] * times
+        edited, spread, _ = self.took(edits)
+        gone_back, other_spread, _ = self.took(edits + ["undo"] * len(edits))
+        undo = max(0.0, gone_back - edited) / len(edits)
+        cost, _, said = self.took([kind.row, "undo"] * times)
+        return (cost - self.none) / times - undo, undo + (spread + other_spread) / len(edits), said
+
+
+class Counted:
+    """What edits of one network cost in instructions."""
+
+    def __init__(self, program: Program, kinds: list[Kind]) -> None:
+        self.program = program
+        # The row that is refused stands between the analysis and the first edit.
+        costs, self.lines = self.counted(["undo"] + [row for kind in kinds for row in [kind.row, "undo"] * REPEATS])
+        # the last part is written last, without a number
+        read = sum(cost for cost, _ in self.counted(["no such edit"])[0])
+        self.fresh = costs[0][0] + costs[-1][0] - read
+        self.places = {kind.name: 1 + 2 * REPEATS * number for number, kind in enumerate(kinds)}
+        self.costs = [cost for cost, _ in costs]
+        self.for_cells = [cells for _, cells in costs]
+
+    def counted(self, rows: list[str]) -> tuple[list[tuple[float, float]], list[str]]:
+        """The millions of instructions up to each line on an edit, and behind the last, with those for cells."""
+        for file in self.program.folder.glob("counts*"):
+            file.unlink()
+        counter = ["valgrind", "--tool=callgrind", "--callgrind-out-file=counts", "--dump-after=edit_report::said::said_of"]
+        _, lines = self.program.run(rows, counter)
+        count = sum(line.startswith("edit ") for line in lines)
+        names = [f"counts.{number}" for number in range(1, count + 1)] + ["counts"]
+        texts = [(self.program.folder / name).read_text() for name in names]
+        return [(int(re.search("^totals: ([0-9]+)", text, re.MULTILINE)[1]) / 1e6, in_cells(text)) for text in texts], lines
+
+    def of(self, kind: Kind, share: float) -> tuple[float, float, str]:
+        """What an edit and its undo cost in the mean, and what is said of the first."""
+        place = self.places[kind.name]
+        costs = self.costs[place : place + 2 * REPEATS]
+        return sum(costs[::2]) / REPEATS, sum(costs[1::2]) / REPEATS, self.lines[place].replace(f"edit {place + 1} ", "edit 1 ")
+
+    def cells_of(self, kind: Kind) -> float:
+        """What of an edit's cost is for its cells."""
+        place = self.places[kind.name]
+        return sum(self.for_cells[place : place + 2 * REPEATS : 2]) / REPEATS
+
+
+def in_cells(text: str) -> float:
+    """The millions of instructions that cells take which are made anew: of the calls of that function in a file of callgrind."""
+    name = re.search(r"^cfn=(\(\d+\)) cell_store::anew::made_anew", text, re.MULTILINE)
+    calls = re.findall(rf"^cfn={re.escape(name[1])}.*\ncalls=.*\n\S+ (\d+)$", text, re.MULTILINE) if name else []
+    return sum(map(int, calls)) / 1e6
+
+
+def measure(program: Program, costs: type, title: str, all_paths: list[list[int]]) -> None:
     text = "".join(map(server_text, range(SERVERS)))
     (program.folder / "n.toml").write_text(text + "".join(flow_text(flow, hops) for flow, hops in enumerate(all_paths)))
     old = Net(all_paths).cells()
     all_work = sum(work for _, _, work in old.values())
-    none = program.took([])[0]
-    fresh = none - program.took(["no such edit"])[0]
-    print(f"{title}: {len(old)} cells, {all_work} operators, a fresh analysis takes {1e3 * fresh:.0f} ms")
-    print(f"{'edit':<12}{'cells':>7}{'work':>8}{'ms':>8}{'time':>8}{'time/work':>11}{'fresh/edit':>12}{'fresh/undo':>12}")
     # one of the longest paths, from the middle on
     flow = max(range(len(all_paths)), key=lambda flow: (len(all_paths[flow]), flow >= len(all_paths) // 2, -flow))
-    for kind in on_servers(all_paths, all_paths[flow][1]) + on_flows(all_paths, flow):
+    kinds = on_servers(all_paths, all_paths[flow][1]) + on_flows(all_paths, flow)
+    measured = costs(program, kinds)
+    unit = "ms" if costs is Timed else "million instructions"
+    print(f"{title}: {len(old):,} cells, {all_work:,} operators, a fresh analysis takes {measured.fresh:.0f} {unit}\n")
+    more = ["Of these for its cells"] if costs is Counted else []
+    heads = ["Edit", "Cells touched", "Share of the work", unit.capitalize(), *more]
+    heads += ["Share of a fresh analysis", "The second share over the first", "Its undo", "A fresh analysis over that"]
+    print(f"| {' | '.join(heads)} |\n|{'---|' * len(heads)}")
+    for kind in kinds:
         new = kind.net.cells()
         found = touched(old, new)
         share = sum(new[cell][2] for cell in found) / all_work
-        # as many times as take about as long as three fresh analyses; the rows of some kinds are fewer
-        times = min(ROWS, max(10, int(3 / share)))
-        count = min(len(kind.rows), times)
-        once, spread, said = program.took(kind.rows[:count])
+        edit, undo, said = measured.of(kind, share)
         if said != f"edit 1 ok cells {len(found)}":
-            sys.exit(f"{kind.rows[0]}: the program says {said}, the model {len(found)} cells")
-        gone_back, other_spread, _ = program.took(kind.rows[:count] + ["undo"] * count)
-        back = max(0.0, gone_back - once) / count
-        at_most = back + (spread + other_spread) / count
-        edit = (program.took([kind.rows[0], "undo"] * times)[0] - none) / times - back
-        print(
-            f"{kind.name:<12}{len(found):>7}{share:>8.2%}{1e3 * edit:>8.2f}{edit / fresh:>8.2%}{edit / fresh / share:>11.2f}"
-            f"{fresh / edit:>12.0f}{fresh / max(at_most, 1e-9):>12.0f}",
-            flush=True,
-        )
+            sys.exit(f"{kind.row}: the program says {said}, the model {len(found)} cells")
+        cells = [f"{measured.cells_of(kind):.2f}"] if costs is Counted else []
+        of_fresh = edit / measured.fresh
+        said = [f"{of_fresh:.2%}", f"{of_fresh / share:.2f}", f"{undo:.4f}", f"{measured.fresh / max(undo, 1e-9):,.0f}"]
+        row = [kind.name, str(len(found)), f"{share:.2%}", f"{edit:.2f}", *cells, *said]
+        print(f"| {' | '.join(row)} |".replace("%", " %"), flush=True)
+    print()
 
 
 def main() -> None:
-    if len(sys.argv) != 2:
+    if len(sys.argv) not in (2, 3) or sys.argv[2:] not in ([], ["instructions"]):
         sys.exit(__doc__)
     program = str(Path(sys.argv[1]).resolve())
+    costs = Counted if len(sys.argv) == 3 else Timed
     with tempfile.TemporaryDirectory(prefix="edits_bench_") as name:
         for title, all_paths in (("64 servers in a row", paths(SERVERS)), ("16 islands of four servers", islands())):
-            measure(Program(program, Path(name)), title, all_paths)
+            measure(Program(program, Path(name)), costs, title, all_paths)
 
 
 if __name__ == "__main__":

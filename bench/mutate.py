@@ -9,25 +9,28 @@ one, long ones too; keys, words, lines and fields left out, doubled, exchanged o
 part of another file in its place. The program runs on it with a limit of 10 seconds of processor time and 2 GiB of
 memory.
 
-What is no answer is printed with the number of its case, and with FOLDER its files are kept there: an end by a
-signal, a status outside 0 to 9, anything on standard error, a status of a report without a report, a status of a
-refusal without exactly one line `netcalc: ..`, a status 5 or 4 with no cause here, output with a status that has
-none. An end by the time limit is counted apart and printed too. The last line says how many cases there were, of
-which status. It ends with 1 where something was no answer.
+What is not wanted is printed with the number of its case, and with FOLDER its files are kept there: an end by a signal, a status that has no cause
+here or outside 0 to 9, anything on standard error, a report or a refusal that is not as docs/FORMATS.md says (bench/answers.py), want of memory at
+2 GiB, an end by the limit of processor time (`late`), and no end within ten minutes (`hangs`). The last lines say how many cases there were, of
+which commands and statuses, and what was not wanted. It ends with 1 where something was not.
 """
 
-import os
 import random
 import re
 import resource
+import signal
 import subprocess
 import sys
 import tempfile
 from collections import Counter
 from pathlib import Path
 
+from answers import fault
+
 TOP = Path(__file__).resolve().parent.parent
 SECONDS = 10
+# of the clock: a process that waits takes no processor time
+HANGS = 600
 NUMBERS = """
     0 1 -1 2 1/0 1/2 3/7 00 1e3 1.5 0x10 inf nan 64 65 256 257 16777216 16777217 4294967295 4294967296
     9223372036854775807 9223372036854775808 18446744073709551615 18446744073709551616 -9223372036854775808
@@ -39,9 +42,9 @@ BYTES = [
     b"\0", b"\xff", b"\xc3\x28", b"\n", b"\r\n", b"\r", b"\t", b'"', b"'", b",", b"=", b"[", b"]", b"{", b"}", b"#", b":",
     b"/", b"-", b" ", b"\xef\xbb\xbf", b"\\u0000", b'"""',
 ]
+COMMANDS = ("analyse", "edit", "simulate", "exercise", "check", "measure", "curve")
 NUMBER = re.compile(rb"-?\d+(?:/\d+)?")
 WORD = re.compile(rb"[A-Za-z_][A-Za-z0-9_-]*")
-REFUSED = re.compile(rb"\Anetcalc: [^\n]*\n\Z")
 
 
 class Case:
@@ -57,11 +60,23 @@ def cases() -> list[Case]:
     for words in sorted(TOP.glob("tests/*/*/words")):
         told = words.read_text().split()
         files = {name: (words.parent / name).read_bytes() for name in told if (words.parent / name).is_file()}
-        if files:
+        if files or told[:1] == ["exercise"]:
             found.append(Case(told, files))
     for net in sorted(TOP.glob("examples/**/*.toml")):
         found.append(Case(["analyse", net.name], {net.name: net.read_bytes()}))
     return found
+
+
+def near(draw: random.Random, number: bytes) -> bytes:
+    """A number of about the size, so that more of what is changed goes on to be worked out."""
+    whole = int(number.split(b"/")[0][:200])
+    return str(draw.choice([whole + 1, whole - 1, 2 * whole, 3 * whole + 1, whole // 2, draw.randint(0, 2 * abs(whole) + 2)])).encode()
+
+
+def far(draw: random.Random) -> str:
+    """Any number, or a text that is nearly one."""
+    number = draw.choice(NUMBERS) if draw.random() < 0.7 else str(draw.getrandbits(draw.randint(1, 140)))
+    return number + (f"/{draw.getrandbits(draw.randint(1, 130)) + 1}" if draw.random() < 0.2 else "")
 
 
 def changed_number(draw: random.Random, text: bytes) -> bytes:
@@ -69,10 +84,9 @@ def changed_number(draw: random.Random, text: bytes) -> bytes:
     if not places:
         return text
     place = draw.choice(places)
-    text_of = draw.choice(NUMBERS) if draw.random() < 0.7 else str(draw.getrandbits(draw.randint(1, 140)))
-    number = text_of.encode()
-    if draw.random() < 0.2:
-        number += b"/" + str(draw.getrandbits(draw.randint(1, 130)) + 1).encode()
+    if draw.random() < 0.3:
+        return text[:place.start()] + near(draw, place.group()) + text[place.end():]
+    number = far(draw).encode()
     stands_in_quotes = text[max(0, place.start() - 1):place.start()] == b'"'
     if not stands_in_quotes and draw.random() < 0.5:
         number = b'"' + number + b'"'
@@ -143,10 +157,13 @@ def drawn(draw: random.Random, known: list[Case]) -> Case:
     case = draw.choice(known)
     files = dict(case.files)
     words = list(case.words)
+    if not files:
+        words[draw.randrange(len(words))] = str(draw.getrandbits(64)) if draw.random() < 0.7 else far(draw)
+        return Case(words, files)
     for _ in range(draw.choice([1, 1, 1, 2, 3, 8])):
         name = draw.choice(sorted(files))
         if draw.random() < 0.1:
-            other = draw.choice(known)
+            other = draw.choice([other for other in known if other.files])
             files[name] = spliced(draw, files[name], other.files[draw.choice(sorted(other.files))])
         else:
             files[name] = draw.choice(CHANGES)(draw, files[name])[:2_000_000]
@@ -161,23 +178,44 @@ def limits() -> None:
     resource.setrlimit(resource.RLIMIT_AS, (2**31, 2**31))
 
 
-def wrong(status: int, out: bytes, err: bytes) -> str:
-    """What is wrong with an answer; nothing where it is one."""
-    if status in (-24, -9):
+class Came:
+    """What came of a case: the status of its process, what was written, and the seconds of processor time that it took."""
+
+    def __init__(self, program: str, case: Case, folder: Path):
+        for file in folder.iterdir():
+            file.unlink()
+        for file, text in case.files.items():
+            (folder / file).write_bytes(text)
+        before = processor_time()
+        try:
+            child = subprocess.run(
+                [program, *case.words], cwd=folder, capture_output=True, preexec_fn=limits, check=False, timeout=HANGS
+            )
+            self.status, self.out, self.err = child.returncode, child.stdout, child.stderr
+        except subprocess.TimeoutExpired:
+            self.status, self.out, self.err = None, b"", b""
+        self.seconds = processor_time() - before
+
+
+def processor_time() -> float:
+    """That of all processes that have ended."""
+    usage = resource.getrusage(resource.RUSAGE_CHILDREN)
+    return usage.ru_utime + usage.ru_stime
+
+
+def unwanted(came: Came, case: Case) -> str:
+    """Why what came is not wanted; nothing where it is."""
+    if came.status is None:
+        return "hangs"
+    if came.status == -signal.SIGXCPU or came.status == -signal.SIGKILL and came.seconds >= SECONDS:
         return "late"
-    if status < 0 or status > 9:
-        return f"ended by {status}"
-    if err:
+    if came.status < 0:
+        return f"ended by the signal {-came.status}"
+    if came.err:
         return "wrote on standard error"
-    if status in (0, 9):
-        return "" if not out.startswith(b"netcalc:") else "a refusal with the status of a report"
-    if status == 5:
-        return "out of memory" if not out else "out of memory, with output"
-    if status == 4:
-        return "a write fault"
-    # a word of the call may have a line break, and is written as it is
-    told = out.startswith(b"netcalc: ") and out.endswith(b"\n")
-    return "" if REFUSED.match(out) or status in (1, 2, 3) and told else "no line of a refusal"
+    said = fault(case.words, case.files, came.status, came.out)
+    # nothing refuses memory below 2 GiB here, nor a write
+    return said or {4: "a write fault", 5: "out of memory"}.get(came.status, "")
 
 
 def main() -> None:
@@ -189,23 +227,30 @@ def main() -> None:
     kept = Path(sys.argv[4]) if len(sys.argv) > 4 else None
     known = cases()
     statuses: Counter = Counter()
-    wrongs: Counter = Counter()
+    kinds: Counter = Counter()
+    others: Counter = Counter()
     with tempfile.TemporaryDirectory(prefix="mutate_") as name:
-        folder = Path(name)
         for number in range(count):
             case = drawn(random.Random(seed * 1_000_003 + number), known)
-            for file, text in case.files.items():
-                (folder / file).write_bytes(text)
-            child = subprocess.run([program, *case.words], cwd=folder, capture_output=True, preexec_fn=limits, check=False)
-            said = wrong(child.returncode, child.stdout, child.stderr)
-            statuses[child.returncode] += 1
+            came = Came(program, case, Path(name))
+            statuses[came.status] += 1
+            kinds.update(kinds_of(case))
+            said = unwanted(came, case)
             if said:
-                wrongs[said] += 1
+                others[said] += 1
                 print(f"case {number} of seed {seed}: {said}: {' '.join(case.words)}", flush=True)
                 keep(kept, f"{seed}_{number}", case)
-    told = ", ".join(f"{statuses[status]} with status {status}" for status in sorted(statuses))
-    print(f"{count} cases of seed {seed}: {told}; {sum(wrongs.values())} that are no answers {dict(wrongs)}")
-    sys.exit(1 if any(said != "late" for said in wrongs) else 0)
+    print("; ".join(f"{kinds[kind]} of {kind}" for kind in sorted(kinds)))
+    told = ", ".join(f"{statuses[status]} with status {status}" for status in sorted(statuses, key=str))
+    print(f"{count} cases of seed {seed}: {told}; {sum(others.values())} not wanted {dict(others)}")
+    sys.exit(1 if others else 0)
+
+
+def kinds_of(case: Case) -> list[str]:
+    """What a case tries: its command, and whether by JSON or by a file of version 2."""
+    version2 = any(re.search(rb"^version = 2", text, re.MULTILINE) for text in case.files.values())
+    command = case.words[0] if case.words and case.words[0] in COMMANDS else "no command"
+    return [command, *(["--json"] if "--json" in case.words else []), *(["version 2"] if version2 else [])]
 
 
 def keep(kept: Path | None, name: str, case: Case) -> None:

@@ -1,30 +1,34 @@
 #!/usr/bin/env python3
 """What the program does where its process is short of something.
 
-    python3 bench/process_limits.py NETCALC
+    python3 bench/process_limits.py NETCALC [LIMITS] [WORD]
 
-NETCALC is the program. A line for each thing that is tried:
+NETCALC is the program. It is tried on calls of all seven commands, with reports, reports as JSON and refusals, small ones and such as need some
+memory; with WORD on those alone whose name has it. A line for each call:
 
-- **Output**: a closed one, a full device, a pipe whose reader has gone, a limit on the size of files. Wanted: status
-  4 and no signal; for the last the signal SIGXFSZ, which the system sends by itself.
-- **Memory**: each call under limits of its address space, from what the program needs to be loaded at all to what the
-  call needs. Wanted: status 5 and no output, or the right answer. The table says how many limits were tried, and how
-  many ended in each.
-- **Stack**: the least stack in KiB with which a call ends as it does without a limit.
+- **Output**: to a closed one, a full device, a pipe whose reader has gone, with the signal of a broken pipe ignored and as a shell leaves it. Wanted:
+  status 4 and no signal. With a limit on the size of files the system sends SIGXFSZ by itself, which is wanted.
+- **Memory**: under limits of its address space, from what the program needs to be loaded at all to what the call needs, LIMITS (200) or a few more of
+  them, a page or more apart; a small call needs no more than the loading. Wanted: status 5 and no output, or the right answer.
+- **Stack**: the least stack in KiB with which a call ends as it does without a limit. Nothing is asserted of it.
 
-It ends with 1 where something else came, and asserts nothing of sizes.
+It ends with 1 where something else came.
 """
 
 import os
 import resource
+import signal
 import subprocess
 import sys
 import tempfile
 from pathlib import Path
 
+from heaviest import ONE_BUCKET, ONE_GATE, ONE_STAIR, constants, distant, rates, recorded, stairs, sums
+
 TOP = Path(__file__).resolve().parent.parent
 KIB = 1024
 MIB = 1024 * KIB
+PAGE = 4 * KIB
 
 
 def deep_keys() -> bytes:
@@ -59,20 +63,45 @@ def trace(rows: int) -> bytes:
     return "".join(f"packet,{number},a,1000\n" for number in range(rows)).encode()
 
 
+def stall(rows: int) -> bytes:
+    """Packets at a gate that stalls, so that its service is looked at window by window."""
+    return "".join(f"packet,{480 * number},f0,12000\n" for number in range(rows)).encode() + b"stall,s0,500,501\n"
+
+
 def calls() -> dict[str, tuple[list[str], dict[str, bytes]]]:
     examples = TOP / "examples"
+    one_flow, two_flows = ((examples / f"{name}.toml").read_bytes() for name in ("one_flow", "two_flows"))
     avionics = (examples / "avionics.toml").read_bytes()
-    two_flows = (examples / "two_flows.toml").read_bytes()
     edits = (examples / "two_flows_edits.csv").read_bytes()
+    four_packets = b"packet,0,f1,4000\npacket,10,f1,4000\npacket,10,f1,2000\npacket,30,f1,6000\n"
     return {
         "analyse, two flows": (["analyse", "n"], {"n": two_flows}),
+        "analyse --json, two flows": (["analyse", "n", "--json"], {"n": two_flows}),
+        "analyse, rates over links": (["analyse", "n"], {"n": (examples / "shared/version2.toml").read_bytes()}),
         "analyse, a key 80 deep": (["analyse", "n"], {"n": deep_keys()}),
         "analyse, brackets 80 deep": (["analyse", "n"], {"n": nested()}),
         "analyse, 1 MiB and 256 flows": (["analyse", "n"], {"n": long_file()}),
         "analyse, a closure": (["analyse", "n"], {"n": heavy_closure()}),
+        "analyse, stairs of 5,000 pieces": (["analyse", "n"], {"n": stairs(2, 5_000).encode()}),
+        "analyse, a cycle": (["analyse", "n"], {"n": (TOP / "tests/limits/a_cycle/n.toml").read_bytes()}),
+        "analyse, a total too many": (["analyse", "n"], {"n": (TOP / "tests/limits/a_total_too_many/n.toml").read_bytes()}),
         "edit, two flows": (["edit", "n", "e"], {"n": two_flows, "e": edits}),
+        "edit --json, two flows": (["edit", "--json", "n", "e"], {"n": two_flows, "e": edits}),
+        "edit, 40 rates": (["edit", "n", "e"], {"n": constants(8, 4).encode(), "e": rates(40).encode()}),
+        "edit --json, 40 rates": (["edit", "n", "e", "--json"], {"n": constants(8, 4).encode(), "e": rates(40).encode()}),
         "simulate, 9,999 packets": (["simulate", "n", "t"], {"n": avionics, "t": trace(9_999)}),
+        "simulate, a gate that stalls": (["simulate", "n", "t"], {"n": ONE_GATE.encode(), "t": stall(500)}),
+        "exercise, the workload 8": (["exercise", "8"], {}),
+        "check, one packet": (["check", "n", "r"], {"n": one_flow, "r": (examples / "one_flow_recorded.csv").read_bytes()}),
+        "check, 3,333 packets": (["check", "n", "r"], {"n": ONE_STAIR.encode(), "r": recorded(3_333, 6000, 60).encode()}),
+        "check, an unknown flow": (["check", "n", "r"], {"n": one_flow, "r": b"enter,0,f9,1\nend,1\n"}),
+        "measure, four packets": (["measure", "n", "t", "f1", "100"], {"n": one_flow, "t": four_packets}),
+        "measure, 200 packets": (["measure", "n", "t", "f0", "10"], {"n": ONE_BUCKET.encode(), "t": distant(200).encode()}),
+        "measure, an unknown flow": (["measure", "n", "t", "f9", "1"], {"n": one_flow, "t": four_packets}),
         "curve, the textbook": (["curve", "c"], {"c": (examples / "textbook.curve").read_bytes()}),
+        "curve, a sum of 26,000 pieces": (["curve", "c"], {"c": sums(1, 13_000).encode()}),
+        "curve, a fault": (["curve", "c"], {"c": b"let a = 1/0\n"}),
+        "a call without words": ([], {}),
     }
 
 
@@ -87,47 +116,38 @@ def run(program: str, words: list[str], folder: Path, kind: int | None = None, s
     return child.returncode, child.stdout
 
 
-def outputs(program: str, folder: Path) -> int:
-    """How many ends of the output were not as wanted."""
-    words = [program, "analyse", "n"]
-    wrong = 0
+def outputs(program: str, words: list[str], folder: Path) -> list[str]:
+    """The ends of the output that were not as wanted."""
+    came = {}
+    call = [program, *words]
     with open("/dev/full", "wb") as full:
-        wrong += told("output to a full device", subprocess.run(words, cwd=folder, stdout=full, check=False).returncode, 4)
-    closed = subprocess.run(words, cwd=folder, preexec_fn=lambda: os.close(1), check=False)
-    wrong += told("output closed", closed.returncode, 4)
+        came["a full device"] = subprocess.run(call, cwd=folder, stdout=full, check=False).returncode
+    came["closed"] = subprocess.run(call, cwd=folder, preexec_fn=lambda: os.close(1), check=False).returncode
     reader, writer = os.pipe()
     os.close(reader)
-    ignoring = subprocess.run(words, cwd=folder, stdout=writer, restore_signals=False, check=False)
-    wrong += told("a pipe whose reader has gone", ignoring.returncode, 4)
-    as_left = subprocess.run(words, cwd=folder, stdout=writer, check=False)
-    wrong += told("the same, with the signal of a broken pipe as a shell leaves it", as_left.returncode, 4)
+    came["no reader"] = subprocess.run(call, cwd=folder, stdout=writer, restore_signals=False, check=False).returncode
+    came["no reader, and the signal as a shell leaves it"] = subprocess.run(call, cwd=folder, stdout=writer, check=False).returncode
     os.close(writer)
+    others = [f"output to {end}: status {status}" for end, status in came.items() if status != 4]
     with open(folder / "out", "wb") as out:
-        child = subprocess.run(words, cwd=folder, stdout=out, preexec_fn=short_files, check=False)
-    wrong += told("a limit of 10 bytes a file (the system's signal 25)", child.returncode, -25)
-    return wrong
+        short = subprocess.run(call, cwd=folder, stdout=out, preexec_fn=short_files, check=False).returncode
+    return others + ([] if short == -signal.SIGXFSZ else [f"output of 10 bytes at most: status {short}"])
 
 
 def short_files() -> None:
     resource.setrlimit(resource.RLIMIT_FSIZE, (10, 10))
 
 
-def told(what: str, came: int, wanted: int) -> int:
-    print(f"{what}: status {came}, wanted {wanted}")
-    return came != wanted
-
-
-def memory(program: str, words: list[str], folder: Path) -> tuple[str, int]:
-    """What came under limits on memory, and how many ends were none of the two."""
+def memory(program: str, words: list[str], folder: Path, loads: int, count: int) -> tuple[str, dict[str, int]]:
+    """What came under limits on memory, and how many limits were tried by what came."""
     wanted = run(program, words, folder)
-    loads = least(lambda size: run(program, [], folder, resource.RLIMIT_AS, size)[0] == 2, 64 * MIB, 4 * KIB)
-    needs = least(lambda size: run(program, words, folder, resource.RLIMIT_AS, size) == wanted, 512 * MIB, 4 * KIB)
-    step = max(4 * KIB, (needs - loads) // 200)
+    needs = max(loads, least(lambda size: run(program, words, folder, resource.RLIMIT_AS, size) == wanted, 512 * MIB, PAGE))
+    step = max(PAGE, (needs - loads) // count // PAGE * PAGE)
     counts = {"right": 0, "out of memory": 0, "another": 0}
     for size in range(loads, needs + step, step):
         came = run(program, words, folder, resource.RLIMIT_AS, size)
         counts["right" if came == wanted else "out of memory" if came == (5, b"") else "another"] += 1
-    return f"loads with {loads // KIB} KiB, needs {needs // KIB} KiB; limits tried: {counts}", counts["another"]
+    return f"needs {needs // KIB:,} KiB; limits tried: {counts}", counts
 
 
 def least(holds, most: int, step: int) -> int:
@@ -143,23 +163,31 @@ def least(holds, most: int, step: int) -> int:
 
 
 def main() -> None:
-    if len(sys.argv) != 2:
+    if len(sys.argv) not in (2, 3, 4):
         sys.exit(__doc__)
     program = str(Path(sys.argv[1]).resolve())
-    wrong = 0
-    with tempfile.TemporaryDirectory(prefix="process_limits_") as name:
-        folder = Path(name)
-        (folder / "n").write_bytes((TOP / "examples/two_flows.toml").read_bytes())
-        wrong += outputs(program, folder)
-        for what, (words, files) in calls().items():
+    count = int(sys.argv[2]) if len(sys.argv) > 2 else 200
+    word = sys.argv[3] if len(sys.argv) > 3 else ""
+    loads = least(lambda size: run(program, [], TOP, resource.RLIMIT_AS, size)[0] == 2, 64 * MIB, PAGE)
+    print(f"the program is loaded with {loads // KIB:,} KiB")
+    tried = wrong = limits = deepest = 0
+    for what, (words, files) in calls().items():
+        if word not in what:
+            continue
+        with tempfile.TemporaryDirectory(prefix="process_limits_") as name:
+            folder = Path(name)
             for file, text in files.items():
                 (folder / file).write_bytes(text)
-            said, others = memory(program, words, folder)
+            others = outputs(program, words, folder)
+            said, counts = memory(program, words, folder, loads, count)
             wanted = run(program, words, folder)
-            stack = least(lambda size: run(program, words, folder, resource.RLIMIT_STACK, size) == wanted, 8 * MIB, 4 * KIB)
-            print(f"{what}: status {wanted[0]}; {said}; stack {stack // KIB} KiB", flush=True)
-            wrong += others
-    print(f"{wrong} ends that are not wanted")
+            stack = least(lambda size: run(program, words, folder, resource.RLIMIT_STACK, size) == wanted, 8 * MIB, PAGE)
+        print("; ".join([f"{what}: status {wanted[0]}", said, f"stack {stack // KIB} KiB", *others]), flush=True)
+        tried += 1
+        wrong += len(others) + counts["another"]
+        limits += sum(counts.values())
+        deepest = max(deepest, stack)
+    print(f"{tried} calls, each with five ends of its output; {limits:,} limits of memory; {deepest // KIB} KiB of stack at most; {wrong} ends not wanted")
     sys.exit(1 if wrong else 0)
 
 

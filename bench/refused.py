@@ -4,12 +4,12 @@
     python3 bench/refused.py NETCALC [CASE..]
 
 NETCALC is the program. A small library, which gcc makes in a folder that is removed, stands before the C library and lets the call of a number
-fail: malloc and realloc as where memory is refused, open and read with an error of the device, write with a full device. A CASE is a folder
-below tests/, as runs/avionics; without one the cases are those below.
+fail: malloc and realloc as where memory is refused, open and read with an error of the device, write with a full device. Memory is refused once, and
+in a run of its own from that call on. A CASE is a folder below tests/, as runs/avionics; without one the cases are those below.
 
 Wanted where memory is refused: status 5 and nothing written, or the answer as without it. Where a file cannot be opened or read: status 3 and the
-line of that file. Where output cannot be written: status 4 and a front of the answer. A line a case: how many of each were refused. What is not
-as wanted is printed, and makes it end with 1.
+line of that file. Where output cannot be written: status 4 and a front of the answer. A line a case: how many calls of each were refused in turn.
+What is not as wanted is printed, and makes it end with 1. The last line has the sums.
 """
 
 import os
@@ -26,6 +26,7 @@ CASES = """
     checks/two_hops_as_simulated checks/deficits_as_simulated checks/a_packet_a_unit_early check_faults/no_end
     measures/four_packets measures/an_unknown_flow exercises/flows_of_one_server
     curves/eight_lines curves/a_textbook_delay curves/parentheses_64_deep curves/a_sum_with_too_many_pieces
+    json/one_flow json/a_dropped_flow_and_back bounds/two_flows_that_share_a_link edits/a_rate_touches_the_sum_behind_its_link
 """.split()
 KINDS = ("memory", "open", "read", "write")
 LIBRARY = r"""
@@ -40,12 +41,13 @@ LIBRARY = r"""
 #include <unistd.h>
 
 static long counts[4], fail_at[4];
-static int ready, own;
+static int ready, own, from;
 
 static void begin(void) {
     static const char *names[4] = {"REFUSE_MEMORY", "REFUSE_OPEN", "REFUSE_READ", "REFUSE_WRITE"};
     if (ready) return;
     ready = 1;
+    from = getenv("REFUSE_FROM") != NULL;
     for (int kind = 0; kind < 4; kind++) {
         const char *text = getenv(names[kind]);
         fail_at[kind] = text ? atol(text) : 0;
@@ -55,7 +57,8 @@ static void begin(void) {
 static int refused(int kind) {
     if (own) return 0;
     begin();
-    return ++counts[kind] == fail_at[kind];
+    counts[kind]++;
+    return fail_at[kind] && (from ? counts[kind] >= fail_at[kind] : counts[kind] == fail_at[kind]);
 }
 
 void *malloc(size_t size) {
@@ -118,9 +121,10 @@ class Tried:
         source.write_text(LIBRARY)
         subprocess.run(["gcc", "-O1", "-shared", "-fPIC", "-o", str(self.library), str(source), "-ldl"], check=True)
 
-    def run(self, case: Path, kind: str = "", number: int = 0) -> tuple[int, bytes]:
+    def run(self, case: Path, kind: str = "", number: int = 0, is_from: bool = False) -> tuple[int, bytes]:
         words = (case / "words").read_text().split()
         refused = {f"REFUSE_{kind.upper()}": str(number)} if kind else {}
+        refused |= {"REFUSE_FROM": "1"} if is_from else {}
         env = {**os.environ, "LD_PRELOAD": str(self.library), "REFUSE_COUNTS": str(self.counts), **refused}
         child = subprocess.run([self.program, *words], cwd=case, env=env, stdout=subprocess.PIPE, stderr=subprocess.STDOUT, check=False)
         return child.returncode, child.stdout
@@ -139,29 +143,36 @@ def is_wanted(kind: str, answer: tuple[int, bytes], came: tuple[int, bytes], fil
     return came[0] == 3 and came[1] in [f"netcalc: cannot read {file}\n".encode() for file in files] or came == answer
 
 
+def others_of(tried: Tried, case: str, kind: str, count: int, answer: tuple[int, bytes]) -> int:
+    """How many ends are not as wanted where the calls of a kind are refused in turn."""
+    folder = TOP / "tests" / case
+    files = (folder / "words").read_text().split()[1:]
+    others = 0
+    for number in range(1, count + 1):
+        for is_from in (False, True) if kind == "memory" else (False,):
+            came = tried.run(folder, kind, number, is_from)
+            if not is_wanted(kind, answer, came, files):
+                others += 1
+                print(f"{case}: {kind} {number}{' and all after it' if is_from else ''} refused: status {came[0]}, {came[1][:100]!r}", flush=True)
+    return others
+
+
 def main() -> None:
     if len(sys.argv) < 2:
         sys.exit(__doc__)
     program = str(Path(sys.argv[1]).resolve())
+    cases = sys.argv[2:] or CASES
     wrong = 0
+    sums = dict.fromkeys(KINDS, 0)
     with tempfile.TemporaryDirectory(prefix="refused_") as name:
         tried = Tried(program, Path(name))
-        for case in sys.argv[2:] or CASES:
-            folder = TOP / "tests" / case
-            answer, counts = tried.counted(folder)
-            files = (folder / "words").read_text().split()[1:]
-            said = []
-            for kind, count in zip(KINDS, counts):
-                others = 0
-                for number in range(1, count + 1):
-                    came = tried.run(folder, kind, number)
-                    if not is_wanted(kind, answer, came, files):
-                        others += 1
-                        print(f"{case}: {kind} {number} refused: status {came[0]}, {came[1][:100]!r}")
-                said.append(f"{kind} {count}")
-                wrong += others
-            print(f"{case}: status {answer[0]}; refused in turn: {', '.join(said)}", flush=True)
-    print(f"{wrong} ends that are not wanted")
+        for case in cases:
+            answer, counts = tried.counted(TOP / "tests" / case)
+            by_kind = dict(zip(KINDS, counts))
+            wrong += sum(others_of(tried, case, kind, count, answer) for kind, count in by_kind.items())
+            sums = {kind: sums[kind] + count for kind, count in by_kind.items()}
+            print(f"{case}: status {answer[0]}; refused in turn: {', '.join(f'{kind} {count}' for kind, count in by_kind.items())}", flush=True)
+    print(f"{len(cases)} calls; refused in turn: {', '.join(f'{kind} {count:,}' for kind, count in sums.items())}; {wrong} ends not wanted")
     sys.exit(1 if wrong else 0)
 
 

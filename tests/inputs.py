@@ -65,6 +65,68 @@ INPUTS = {
 }
 
 
+# Places of a network's file: what is replaced, by what (N is the number), where that is, and what is said of 2^127 - 1, which is still a number.
+UNBOUNDED = "servers 1 flows 1\nqueue s1 0 delay unbounded backlog unbounded\nflow f1 tfa unbounded sfa unbounded bound unbounded\n"
+BUCKET = 'kind = "bucket", burst = 12000, rate = 10'
+STAIR_OF = 'kind = "stair", period = '
+PLACES = {
+    "latency": ("latency = 10", 'latency = "N"', "server[0].service.latency", "too wide: curve server[0].service"),
+    "cycle": ('"latency", latency = 10', '"gate", cycle = "N", slot = 1', "server[0].service.cycle", "too wide: curve server[0].service"),
+    "link": ("rate = 100", 'rate = 100\nlink = "N"', "server[0].link", "too wide: tfa f1"),
+    "bucket's rise": ("rate = 10 }", 'rate = "N" }', "flow[0].arrival.rate", None),
+    "burst": ("burst = 12000", 'burst = "N"', "flow[0].arrival.burst", "too wide: queue-delay s1 0"),
+    "period": (BUCKET, f'{STAIR_OF}"N"', "flow[0].arrival.period", "too wide: curve flow[0].arrival"),
+    "jitter": (BUCKET, f'{STAIR_OF}1000, jitter = "N"', "flow[0].arrival.jitter", "too wide: curve flow[0].arrival"),
+}
+# Rows: the words, the row, and what is said of 2^127 - 1: of an edit the first line, else the line of the refusal.
+ROWS = {
+    "packet's time": ("simulate n t", "packet,N,f1,1", "too wide: simulation"),
+    "packet's time that is measured": ("measure n t f1 1", "packet,N,f1,1", "too wide: measure"),
+    "packet's bits": ("simulate n t", "packet,0,f1,N", "t: T4 row 1"),
+    "stall's end": ("simulate n t", "stall,s1,0,N", "too wide: simulation"),
+    "recorded time": ("check n t", "enter,N,f1,1\nend,N", "too wide: check"),
+    "recorded work": ("check n t", "work,s1,0,0,1,N\nend,1", "too wide: check"),
+    "rate of an edit": ("edit n t", "rate,s1,N", "edit 1 refused too-wide queue-service s1 0"),
+    "latency of an edit": ("edit n t", "latency,s1,N", "edit 1 refused too-wide queue-service s1 0"),
+    "link of an edit": ("edit n t", "link,s1,N", "edit 1 refused too-wide tfa f1"),
+    "burst of an edit": ("edit n t", "bucket,f1,N,0", "edit 1 refused too-wide queue-delay s1 0"),
+    "period of an edit": ("edit n t", "stair,f1,N,0", "edit 1 refused too-wide in f1 0"),
+    "packet of an edit": ("edit n t", "packet,f1,N", "t: T4 row 1"),
+    "rate of a new flow": ("edit n t", "add,f2,1,1,N,s1", "edit 1 refused too-wide total s1 0"),
+    "latency of a script": ("curve t", "show latency(1, N)", "too wide: line 1"),
+    "period of a script": ("curve t", "show stair(1, N, 0)", "too wide: line 1"),
+    "packet of a script": ("curve t", "show stair(N, 1, 0)", "t: C7 line 1"),
+    "time of a script": ("curve t", "value zero at N", "too wide: line 1"),
+}
+
+
+def refusal(said: str) -> tuple[int, str]:
+    """The status and the text of a refusal."""
+    return 6 if said.startswith("too wide") else 1, f"netcalc: {said}\n"
+
+
+def large_numbers() -> dict:
+    """Numbers at 2^127 and past it, above and below 0 and as a denominator, which are none, and 2^127 - 1 in each place."""
+    cases = {}
+    for name, (old, new, place, at_last) in PLACES.items():
+        for number in (f"{LARGEST + 1}", f"-{LARGEST + 1}", f"1/{LARGEST + 1}", f"{2**128}"):
+            cases[f"a {name} of {number}"] = (["analyse", "n"], {"n": ONE_FLOW.replace(old, new.replace("N", number), 1)}, *refusal(f"n: M5 {place}"))
+        said = (0, UNBOUNDED) if at_last is None else refusal(at_last)
+        cases[f"a {name} of 2^127 - 1"] = (["analyse", "n"], {"n": ONE_FLOW.replace(old, new.replace("N", str(LARGEST)), 1)}, *said)
+    for name, (words, row, at_last) in ROWS.items():
+        for number in (LARGEST, LARGEST + 1, 2**128):
+            files = {"n": ONE_FLOW, "t": row.replace("N", str(number)) + "\n"}
+            of_row = "C3 line" if words.startswith("curve") else "T4 row"
+            said = refusal(at_last) if number == LARGEST else refusal(f"t: {of_row} 1")
+            if number == LARGEST and at_last.startswith("edit"):
+                said = 0, f"{at_last}\n{REPORT}"
+            cases[f"a {name} of {number}"] = (words.split(), files, *said)
+    for name, length, fault in (("an integer", LARGEST + 1, "M1"), ("a text", f'"{LARGEST + 1}"', "M4 flow[0].packet"), ("2^63 - 1", 2**63 - 1, "M6 flow[0].packet")):
+        cases[f"a packet as {name}"] = (["analyse", "n"], {"n": ONE_FLOW.replace("packet = 12000", f"packet = {length}")}, *refusal(f"n: {fault}"))
+    return cases
+
+
+INPUTS |= large_numbers()
 ROUND = (TOP / "tests/checks/deficits_as_simulated/n.toml").read_text()
 TWO_HOPS = (TOP / "tests/checks/two_hops_as_simulated/n.toml").read_text()
 SIDE_BY_SIDE = "".join(f'[[server]]\nname = "s{number}"\nrate = 100\n' for number in (1, 2)) + "".join(
