@@ -16,9 +16,3 @@ wants_at P c operator.NoMemory h = h refl
 pub wants_memory : (P : Type 0) (c : Cell) (fault : OpFault) (why : AnalysisFault) → why ≡ fault_at c fault
     → (fault ≡ operator.NoMemory → P) → WantsMemory P why
 wants_memory P c fault why e h = subst (λ (w : AnalysisFault). WantsMemory P w) (sym e) (wants_at P c fault h)
-
--- another place
-pub wants_as : {P Q : Type 0} (why : AnalysisFault) → (P → Q) → WantsMemory P why → WantsMemory Q why
-wants_as (TooMany c) h w = tt
-wants_as (TooWide c) h w = tt
-wants_as NoMemory h w = h w
