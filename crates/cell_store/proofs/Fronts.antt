@@ -1,7 +1,7 @@
 -- How far the cells of a network are answered, where the touched ones are made anew in their order.
-use Rattle.std.proofs.Common.{◌≡◌, ℕ, ◌<◌, ◌+◌, List, [], ◌∷◌, ◌++◌, length, drop, sym, ap, ◌∙◌, subst, inl, inr, true, add-one, drop-cons, append_assoc, append-nil}
+use Rattle.std.proofs.Common.{◌≡◌, ℕ, ◌<◌, ◌+◌, List, [], ◌∷◌, ◌++◌, length, take, drop, sum_by, sym, ap, ◌∙◌, subst, inl, inr, true, add-one, drop-cons, append_assoc, append-nil}
 use Rattle.std.specs.Prelude.{◌≢◌, Some, Ok, Err, Contains}
-use Rattle.std.proofs.lemmas.List.{get_or_default}
+use Rattle.std.proofs.lemmas.List.{get_or_default, take_more}
 use Rattle.upp_limits.specs.declared.op_kind.OpFault.{OpFault}
 use Rattle.upp_limits.specs.declared.op_kind.OpFault.TheVariants as operator
 use Rattle.net_model.specs.Networks.{Net}
@@ -15,21 +15,23 @@ use Rattle.net_cells.specs.CellFormulas.{formula}
 use Rattle.net_cells.specs.Meanings.{Meaning, CellTable}
 use Rattle.net_cells.specs.Equations.{MeetsBelow}
 use Rattle.net_cells.specs.FirstOver.{IsAnswered, AnswersAll, FirstOver}
-use Rattle.net_cells.proofs.Lists.{Has, contains_has, has_contains, has_either}
+use Rattle.net_cells.specs.Work.{work}
+use Rattle.net_cells.specs.MemoryEnds.{EndsAt}
+use Rattle.net_cells.proofs.Lists.{Has, contains_has, has_contains, has_either, has_left, has_right}
 use Rattle.net_cells.proofs.Members.{in_order}
 use Rattle.net_cells.proofs.Precedes.{in_front}
 use Rattle.net_cells.proofs.Tables.{front_meets_below}
 use Rattle.cell_table.specs.declared.fault.AnalysisFault.{AnalysisFault}
 use Rattle.cell_table.specs.Gives.{Gives}
 use Rattle.cell_table.specs.Refusals.{fault_at}
-use Rattle.cell_table.proofs.Fronts.{no_cell, cell_at, grown}
+use Rattle.cell_table.proofs.Fronts.{no_cell, cell_at, at_place, grown}
 use Rattle.cell_table.proofs.GivesAnswers.{gives_over}
 use Rattle.cell_changes.specs.Changes.{Touched, Untouched, TouchedOf, no_more, passed, taken}
 use Rattle.cell_changes.specs.Laws.{AgreeAtUntouched}
 use Rattle.cell_changes.specs.Slots.{HasSlot}
 use Rattle.cell_changes.proofs.HasSlots.{slots_are_own}
 use Rattle.cell_changes.proofs.CarriedOver.{not_both, answered_on, rule_of}
-use Rattle.cell_store.specs.Edits.{AllAnswered, IsFirst, IsFirstTouched, RefusesFor, SameButAt}
+use Rattle.cell_store.specs.Edits.{AllAnswered, IsFirst, IsFirstTouched, RefusesFor, SameButAt, EndsAtTouched}
 
 -- ---- touched cells
 -- every one of the touched cells is touched
@@ -46,22 +48,23 @@ pub same_untouched : (old new : Net) (cells touched : List Cell) (at other : Cel
 same_untouched old new cells touched at other p same c u =
     same c (λ h. not_both old new c (are_touched old new cells touched p c (contains_has touched c h)) u)
 
--- some cells of the order are answered, and the other touched cells are the last ones
-pub record Reached (old net : Net) (order : List ℕ) (at : CellTable) (left : List Cell) : Type 0 where
+-- some cells of the order are answered, the first i touched ones among them, and the other touched cells are the last ones
+pub record Reached (old net : Net) (order : List ℕ) (at : CellTable) (touched : List Cell) (i : ℕ) : Type 0 where
   pub front : List Cell
   pub back : List Cell
   pub split : evaluation_order net order ≡ front ++ back
-  pub are : TouchedOf old net back left
+  pub are : TouchedOf old net back (drop i touched)
   pub answers : AnswersAll net at front
+  pub inside : (c : Cell) → Has (take i touched) c → Has front c
 
 -- the same, where the next cell is the first of these
-pub record Next (old net : Net) (order : List ℕ) (at : CellTable) (c : Cell) (left : List Cell) : Type 0 where
+pub record Next (old net : Net) (order : List ℕ) (at : CellTable) (touched : List Cell) (i : ℕ) : Type 0 where
   pub front : List Cell
   pub back : List Cell
-  pub split : evaluation_order net order ≡ front ++ c ∷ back
-  pub touched : Touched old net c
-  pub are : TouchedOf old net back left
+  pub split : evaluation_order net order ≡ front ++ cell_at touched i ∷ back
+  pub are : TouchedOf old net back (drop (i + 1) touched)
   pub answers : AnswersAll net at front
+  pub inside : (c : Cell) → Has (take i touched) c → Has front c
 
 module _ (old net : Net) (order : List ℕ) (before at : CellTable) (all : AllAnswered old before)
     (same : AgreeAtUntouched old net before at) where
@@ -83,22 +86,23 @@ module _ (old net : Net) (order : List ℕ) (before at : CellTable) (all : AllAn
       → evaluation_order net order ≡ (front ++ c ∷ []) ++ cells
   onward front c cells split = split ∙ sym (append_assoc front (c ∷ []) cells)
 
-  to_next : (front back : List Cell) (c : Cell) (left : List Cell) (ts : List Cell) → ts ≡ c ∷ left
+  to_next : (touched : List Cell) (i : ℕ) (front back ts : List Cell) → ts ≡ cell_at touched i ∷ drop (i + 1) touched
       → evaluation_order net order ≡ front ++ back → TouchedOf old net back ts → AnswersAll net at front
-      → Next old net order at c left
-  to_next front _ c left _ e split no_more h = absurd (let bad : ⊥ = cc in bad)
-  to_next front _ c left ts e split (passed d cells _ u p) h =
-      to_next (front ++ d ∷ []) cells c left ts e (onward front d cells split) p (past front d u h)
-  to_next front _ c left _ e split (taken d cells ts t p) h =
-      let head : d ≡ c = cc in
-      let rest : ts ≡ left = cc in
+      → ((c : Cell) → Has (take i touched) c → Has front c) → Next old net order at touched i
+  to_next touched i front _ _ e split no_more h inside = absurd (let bad : ⊥ = cc in bad)
+  to_next touched i front _ ts e split (passed d cells _ u p) h inside =
+      to_next touched i (front ++ d ∷ []) cells ts e (onward front d cells split) p (past front d u h)
+      (λ c m. has_left front (d ∷ []) c (inside c m))
+  to_next touched i front _ _ e split (taken d cells ts t p) h inside =
+      let head : d ≡ cell_at touched i = cc in
+      let rest : ts ≡ drop (i + 1) touched = cc in
       record {
         front = front;
         back = cells;
         split = split ∙ ap (λ (x : Cell). front ++ x ∷ cells) head;
-        touched = subst (λ (x : Cell). Touched old net x) head t;
         are = subst (λ (xs : List Cell). TouchedOf old net cells xs) rest p;
         answers = h;
+        inside = inside;
       }
 
   to_end : (front back : List Cell) (ts : List Cell) → ts ≡ [] → evaluation_order net order ≡ front ++ back
@@ -111,38 +115,46 @@ module _ (old net : Net) (order : List ℕ) (before at : CellTable) (all : AllAn
 
 -- ---- at a place of the touched cells
 pub next_at : (old net : Net) (order : List ℕ) (before at : CellTable) (touched : List Cell) (i : ℕ) → AllAnswered old before
-    → AgreeAtUntouched old net before at → i < length touched → Reached old net order at (drop i touched)
-    → Next old net order at (cell_at touched i) (drop (i + 1) touched)
+    → AgreeAtUntouched old net before at → i < length touched → Reached old net order at touched i
+    → Next old net order at touched i
 next_at old net order before at touched i all same h r =
     let cons : drop i touched ≡ cell_at touched i ∷ drop (i + 1) touched =
     drop-cons touched i no_cell h ∙ ap (λ (n : ℕ). cell_at touched i ∷ drop n touched) (sym (add-one i)) in
-    to_next old net order before at all same r.front r.back (cell_at touched i) (drop (i + 1) touched) (drop i touched) cons
-    r.split r.are r.answers
+    to_next old net order before at all same touched i r.front r.back (drop i touched) cons r.split r.are r.answers r.inside
 
 -- the next cell made
-pub made_at : (old net : Net) (order : List ℕ) (at more : CellTable) (c : Cell) (left : List Cell) (v : Meaning)
-    → IsAccepted net → IsOrder net order → Next old net order at c left → Gives at (formula net c) (Ok v)
-    → more c ≡ Some v → ((d : Cell) → d ≢ c → more d ≡ at d) → Reached old net order more left
-made_at old net order at more c left v a o n gives put others = record {
-  front = n.front ++ c ∷ [];
-  back = n.back;
-  split = n.split ∙ sym (append_assoc n.front (c ∷ []) n.back);
-  are = n.are;
-  answers = grown net order at more n.front c n.back v a o n.split n.answers gives put others;
-}
+pub made_at : (old net : Net) (order : List ℕ) (at more : CellTable) (touched : List Cell) (i : ℕ) (v : Meaning)
+    → IsAccepted net → IsOrder net order → i < length touched → Next old net order at touched i
+    → Gives at (formula net (cell_at touched i)) (Ok v) → more (cell_at touched i) ≡ Some v
+    → ((d : Cell) → d ≢ cell_at touched i → more d ≡ at d) → Reached old net order more touched (i + 1)
+made_at old net order at more touched i v a o h n gives put others =
+    let c = cell_at touched i in
+    let longer : take (i + 1) touched ≡ take i touched ++ c ∷ [] = take_more touched i no_cell h in
+    record {
+      front = n.front ++ c ∷ [];
+      back = n.back;
+      split = n.split ∙ sym (append_assoc n.front (c ∷ []) n.back);
+      are = n.are;
+      answers = grown net order at more n.front c n.back v a o n.split n.answers gives put others;
+      inside = λ d m. elim (has_either (take i touched) (c ∷ []) d (subst (λ (xs : List Cell). Has xs d) longer m)) [
+        | inl l ↦ has_left n.front (c ∷ []) d (n.inside d l)
+        | inr r ↦ has_right n.front (c ∷ []) d r
+      ];
+    }
 
-pub all_answered : (old net : Net) (order : List ℕ) (before at : CellTable) (left : List Cell) → IsAccepted net
-    → IsOrder net order → AllAnswered old before → AgreeAtUntouched old net before at → left ≡ []
-    → Reached old net order at left → AllAnswered net at
-all_answered old net order before at left a o all same none r c h =
-    to_end old net order before at all same r.front r.back left none r.split r.are r.answers c
+pub all_answered : (old net : Net) (order : List ℕ) (before at : CellTable) (touched : List Cell) (i : ℕ) → IsAccepted net
+    → IsOrder net order → AllAnswered old before → AgreeAtUntouched old net before at → drop i touched ≡ []
+    → Reached old net order at touched i → AllAnswered net at
+all_answered old net order before at touched i a o all same none r c h =
+    to_end old net order before at all same r.front r.back (drop i touched) none r.split r.are r.answers c
     (has_contains (evaluation_order net order) c (in_order net order c a o h))
 
 -- a cell that is refused
-first_at : (old net : Net) (order : List ℕ) (at : CellTable) (c : Cell) (left : List Cell) (fault : OpFault)
-    → fault ≢ operator.NoMemory → IsOrder net order → Next old net order at c left
-    → Gives at (formula net c) (Err fault) → IsFirst net c fault
-first_at old net order at c left fault limit o n gives other p =
+first_at : (old net : Net) (order : List ℕ) (at : CellTable) (touched : List Cell) (i : ℕ) (fault : OpFault)
+    → fault ≢ operator.NoMemory → IsOrder net order → Next old net order at touched i
+    → Gives at (formula net (cell_at touched i)) (Err fault) → IsFirst net (cell_at touched i) fault
+first_at old net order at touched i fault limit o n gives other p =
+    let c = cell_at touched i in
     subst (λ (xs : List ℕ). FirstOver net xs c fault) (one_order net order other o p) (record {
       before = n.front;
       after = n.back;
@@ -153,42 +165,60 @@ first_at old net order at c left fault limit o n gives other p =
       limit = limit;
     })
 
-why : (old net : Net) (order : List ℕ) (at : CellTable) (touched : List Cell) (c : Cell) (left : List Cell)
-    (fault : OpFault) → Contains touched c → IsOrder net order → Next old net order at c left
-    → Gives at (formula net c) (Err fault) → RefusesFor (IsFirstTouched net touched) (fault_at c fault)
-why old net order at touched c left operator.TooMany among o n gives = record {
+why : (old net : Net) (order : List ℕ) (at : CellTable) (touched : List Cell) (i : ℕ) (fault : OpFault)
+    → Contains touched (cell_at touched i) → IsOrder net order → Next old net order at touched i
+    → Gives at (formula net (cell_at touched i)) (Err fault)
+    → RefusesFor (IsFirstTouched net touched) (fault_at (cell_at touched i) fault)
+why old net order at touched i operator.TooMany among o n gives = record {
   among = among;
-  first = first_at old net order at c left operator.TooMany (λ e. cc) o n gives;
+  first = first_at old net order at touched i operator.TooMany (λ e. cc) o n gives;
 }
-why old net order at touched c left operator.TooWide among o n gives = record {
+why old net order at touched i operator.TooWide among o n gives = record {
   among = among;
-  first = first_at old net order at c left operator.TooWide (λ e. cc) o n gives;
+  first = first_at old net order at touched i operator.TooWide (λ e. cc) o n gives;
 }
-why old net order at touched c left operator.NoMemory among o n gives = tt
+why old net order at touched i operator.NoMemory among o n gives = tt
 
-pub refused : (old net : Net) (order : List ℕ) (at : CellTable) (touched : List Cell) (i : ℕ) (left : List Cell)
-    (fault : OpFault) (fault_is : AnalysisFault) → fault_is ≡ fault_at (cell_at touched i) fault → i < length touched
-    → IsOrder net order → Next old net order at (cell_at touched i) left
-    → Gives at (formula net (cell_at touched i)) (Err fault) → RefusesFor (IsFirstTouched net touched) fault_is
-refused old net order at touched i left fault fault_is e h o n gives =
+pub refused : (old net : Net) (order : List ℕ) (at : CellTable) (touched : List Cell) (i : ℕ) (fault : OpFault)
+    (fault_is : AnalysisFault) → fault_is ≡ fault_at (cell_at touched i) fault → i < length touched → IsOrder net order
+    → Next old net order at touched i → Gives at (formula net (cell_at touched i)) (Err fault)
+    → RefusesFor (IsFirstTouched net touched) fault_is
+refused old net order at touched i fault fault_is e h o n gives =
     subst (λ (w : AnalysisFault). RefusesFor (IsFirstTouched net touched) w) (sym e)
-    (why old net order at touched (cell_at touched i) left fault
-    (i, h, get_or_default touched i (cell_at touched i) no_cell h) o n gives)
+    (why old net order at touched i fault (i, h, get_or_default touched i (cell_at touched i) no_cell h) o n gives)
 
 -- ---- what the next cell needs
-pub next_is_cell : (old net : Net) (order : List ℕ) (at : CellTable) (c : Cell) (left : List Cell)
-    → Next old net order at c left → has_cell net c ≡ true
-next_is_cell old net order at c left n = in_front net order n.front c n.back n.split
+module _ (old net : Net) (order : List ℕ) (at : CellTable) (touched : List Cell) (i : ℕ) (a : IsAccepted net) (o : IsOrder net order)
+    (n : Next old net order at touched i) where
+  pub next_is_cell : has_cell net (cell_at touched i) ≡ true
+  next_is_cell = in_front net order n.front (cell_at touched i) n.back n.split
 
-pub next_below : (old net : Net) (order : List ℕ) (at : CellTable) (c : Cell) (left : List Cell) → IsAccepted net
-    → IsOrder net order → Next old net order at c left → MeetsBelow net at c
-next_below old net order at c left a o n = front_meets_below net order at a o n.front n.back c n.split n.answers
+  pub next_below : MeetsBelow net at (cell_at touched i)
+  next_below = front_meets_below net order at a o n.front n.back (cell_at touched i) n.split n.answers
 
-pub next_has_slot : (old net : Net) (order : List ℕ) (at : CellTable) (c : Cell) (left : List Cell) → IsAccepted net
-    → Next old net order at c left → HasSlot c
-next_has_slot old net order at c left a n = slots_are_own.has net c a (next_is_cell old net order at c left n)
+  pub next_has_slot : HasSlot (cell_at touched i)
+  next_has_slot = slots_are_own.has net (cell_at touched i) a next_is_cell
 
 pub still_others : (touched : List Cell) (i : ℕ) (before at more : CellTable) → i < length touched
     → SameButAt touched before at → ((d : Cell) → d ≢ cell_at touched i → more d ≡ at d) → SameButAt touched before more
 still_others touched i before at more h same others c out =
     others c (λ e. out (i, h, get_or_default touched i c no_cell h ∙ sym e)) ∙ same c out
+
+-- ---- want of memory at the next cell, where so many operators are counted for it
+pub ends_at : (old net : Net) (order : List ℕ) (before at : CellTable) (touched : List Cell) (i counted n : ℕ) → i < length touched
+    → SameButAt touched before at → Next old net order at touched i → EndsAt at (formula net (cell_at touched i)) counted
+    → n ≡ sum_by (work net) (take i touched) + counted → EndsAtTouched net touched before n
+ends_at old net order before at touched i counted n h same next ends count = record {
+  ends = record {
+    before = take i touched;
+    cell = cell_at touched i;
+    after = drop (i + 1) touched;
+    is = at_place touched i h;
+    table = at;
+    answered = λ d m. next.answers d (has_contains next.front d (next.inside d (contains_has (take i touched) d m)));
+    counted = counted;
+    ends = ends;
+    count = count;
+  };
+  others = same;
+}

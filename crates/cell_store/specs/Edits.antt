@@ -1,5 +1,5 @@
 -- A table of the network before an edit, and which cells the edit touches. Own choice.
-use Rattle.std.specs.Prelude.{◌≡◌, ℕ, List, None, false, IsTrue, Contains}
+use Rattle.std.specs.Prelude.{◌≡◌, ℕ, List, None, false, IsTrue, Contains, sum_by}
 use Rattle.upp_limits.specs.declared.op_kind.OpFault.{OpFault}
 use Rattle.upp_limits.specs.declared.op_kind.OpFault.TheVariants as operator
 use Rattle.net_model.specs.Networks.{Net}
@@ -9,6 +9,8 @@ use Rattle.net_cells.specs.Cells.{has_cell}
 use Rattle.net_cells.specs.Meanings.{CellTable}
 use Rattle.net_cells.specs.Order.{evaluation_order}
 use Rattle.net_cells.specs.FirstOver.{IsAnswered, FirstOver}
+use Rattle.net_cells.specs.Work.{work}
+use Rattle.net_cells.specs.MemoryEnds.{EndsAtCell}
 use Rattle.cell_table.specs.declared.fault.AnalysisFault.{AnalysisFault}
 use Rattle.cell_table.specs.declared.fault.AnalysisFault.TheVariants.{TooMany, TooWide, NoMemory}
 use Rattle.cell_changes.specs.Changes.{TouchedOf}
@@ -61,3 +63,29 @@ pub record IsEditedTable (net : Net) (gone touched : List Cell) (old new : CellT
   pub answers : AllAnswered net new
   pub nothing : (c : Cell) → Contains gone c → new c ≡ None
   pub others : (c : Cell) → ¬ (Contains gone c) → ¬ (Contains touched c) → new c ≡ old c
+
+-- ---- want of memory
+-- where memory is wanting, it is so at some place
+abbrev pub WantsMemory : Type 0 → AnalysisFault → Type 0
+WantsMemory P (TooMany c) = Unit {0}
+WantsMemory P (TooWide c) = Unit {0}
+WantsMemory P NoMemory = P
+
+-- of the touched cells those before one are answered, and it ends at that one; the table has at all other cells what
+-- that before the edit has
+pub record EndsAtTouched (net : Net) (touched : List Cell) (old : CellTable) (n : ℕ) : Type 0 where
+  pub ends : EndsAtCell net touched n
+  pub others : SameButAt touched old ends.table
+
+-- it ends after the last of them, in taking values of cells away that are gone
+pub record EndsPastTouched (net : Net) (touched : List Cell) (old : CellTable) (n : ℕ) : Type 0 where
+  pub table : CellTable
+  pub answered : AllAnswered net table
+  pub others : SameButAt touched old table
+  pub count : n ≡ sum_by (work net) touched
+
+-- before the first of them, at one, or past the last, by how many operators on curves are counted by then
+pub data EditEnds (net : Net) (touched : List Cell) (old : CellTable) (n : ℕ) : Type 0 where
+  at_none : n ≡ 0 → EditEnds net touched old n
+  at_touched : EndsAtTouched net touched old n → EditEnds net touched old n
+  past_touched : EndsPastTouched net touched old n → EditEnds net touched old n

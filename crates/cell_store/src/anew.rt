@@ -1,9 +1,9 @@
 //! The touched cells, one after the other.
 
-ghost use Rattle.std.specs.Prelude.{◌≡◌, ◌+◌, ◌≤◌, sum_by, IfErr, OnOk};
+ghost use Rattle.std.specs.Prelude.{◌≡◌, ◌+◌, ◌-◌, ◌≤◌, sum_by, IfErr, OnOk};
 ghost use Rattle.net_cells.specs.Equations.{MeetsEquations};
 ghost use Rattle.net_cells.specs.Work.{work};
-ghost use Rattle.cell_store.specs.Edits.{AllAnswered, IsEditOf, IsFirstTouched, SameButAt, RefusesFor};
+ghost use Rattle.cell_store.specs.Edits.{AllAnswered, IsEditOf, IsFirstTouched, SameButAt, RefusesFor, WantsMemory, EndsAtTouched};
 
 use crate::values::Values;
 use cell_table::{AnalysisFault, CellValue, Evaluator, Table, refusal};
@@ -14,8 +14,8 @@ use std::rc::Rc;
 
 /// The values of the touched cells of a network, each made once, in their order, over those that the network before it
 /// had; the other cells keep theirs. Refused for the first cell with an operator over a limit, and then the fault names
-/// it and which limit that is, or where there is no memory. It counts the work of the touched cells, and no more than
-/// that where it is refused.
+/// it and which limit that is, or where there is no memory, and then each operator that is counted is within its limits. It
+/// counts the work of the touched cells, and no more than that where it is refused.
 pub fn made_anew<V: CellValue + Drop, E: Evaluator<V>>(
     alloc: Global,
     values: &mut Values<V>,
@@ -30,6 +30,8 @@ pub fn made_anew<V: CellValue + Drop, E: Evaluator<V>>(
         (⟦<Values<V> as Table<V>>⟧.at values.old) (⟦<Values<V> as Table<V>>⟧.at values.new) }
     ensures before { values.new.versions.kept ≡ values.old.versions.kept }
     ensures refused { IfErr result (RefusesFor (IsFirstTouched net.now touched.now)) }
+    ensures memory { IfErr result (WantsMemory (EndsAtTouched net.now touched.now
+        (⟦<Values<V> as Table<V>>⟧.at values.old) (E.count eval.new - E.count eval.old))) }
     ensures exact { OnOk result (E.count eval.new ≡ E.count eval.old + sum_by (work net.now) touched.now) }
     ensures rises { E.count eval.old ≤ E.count eval.new }
     ensures within { E.count eval.new ≤ E.count eval.old + sum_by (work net.now) touched.now }

@@ -20,7 +20,7 @@ use Rattle.net_edits.specs.Edited.{edited}
 use Rattle.net_edits.specs.Replies.{IsReply}
 use Rattle.cell_store.specs.Edits.{IsFirstTouched, RefusesFor}
 use Rattle.cell_store.proofs.Fronts.{are_touched}
-use Rattle.edit_store.specs.Stored.{Stored, networks, AreTouched, IsAdvanced, IsBack}
+use Rattle.edit_store.specs.Stored.{Stored, AreTouched, IsAdvanced, IsBack}
 use Rattle.edit_store.specs.Applied.{Gives, IsTaken, IsTakenBack, IsCellOver, IsRefused, IsEvaluated, IsHidden, IsUnplanned}
 use Rattle.edit_store.specs.Faults.{graph_fault, analysis_fault}
 use Rattle.edit_store.proofs.Steps.{same_touched, gives_one}

@@ -16,7 +16,6 @@ use Rattle.net_edits.specs.Changed as change
 use Rattle.net_edits.proofs.Replaced.{server_replaced, flow_replaced}
 use Rattle.version_table.specs.Histories.{History}
 use Rattle.edit_store.specs.declared.replaced.Replaced.{Replaced}
-use Rattle.edit_store.specs.declared.replaced.Replaced.TheVariants as what
 use Rattle.edit_store.specs.Stored.{Stored, IsStored, HoldsTable, IsAdvanced, IsBack}
 use Rattle.edit_store.specs.Replaced.{without_last, put_back, first_network, networks_before, IsKept, IsServerChanged, IsFlowChanged, IsFlowAdded}
 use Rattle.edit_store.proofs.Steps.{stored_more, stored_less}

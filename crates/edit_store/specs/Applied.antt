@@ -1,5 +1,5 @@
 -- What an edit of a store answers: one network more, one less, or why there is neither. Own choice.
-use Rattle.std.specs.Prelude.{◌≡◌, ◌≢◌, ◌⊎◌, ◌≤◌, ℕ, List, [], ◌∷◌, ◌++◌, length, Ok}
+use Rattle.std.specs.Prelude.{◌≡◌, ◌≢◌, ◌⊎◌, ◌≤◌, ℕ, List, [], ◌∷◌, ◌++◌, length}
 use Rattle.upp_limits.specs.declared.op_kind.OpFault.{OpFault}
 use Rattle.upp_limits.specs.declared.op_kind.OpFault.TheVariants as operator
 use Rattle.upp_limits.specs.declared.own_limits.OverLimit.{OverLimit}
@@ -11,11 +11,13 @@ use Rattle.net_model.specs.Orders.{IsOrder}
 use Rattle.net_model.specs.Walks.{IsCycle}
 use Rattle.net_cells.specs.declared.cell.Cell.{Cell}
 use Rattle.net_cells.specs.FirstOver.{FirstOver}
+use Rattle.net_cells.specs.Meanings.{CellTable}
 use Rattle.net_edits.specs.declared.fault.EditFault.{EditFault}
 use Rattle.net_edits.specs.declared.fault.EditFault.TheVariants.{UnknownName, NameTaken, BadValue, LimitReached, Cycle, TooMany, TooWide, NothingToUndo, NoMemory}
 use Rattle.net_edits.specs.Edited.{edited}
 use Rattle.net_edits.specs.Replies.{Refuses, IsEdited, IsEditOver}
 use Rattle.cell_changes.specs.Changes.{Touched}
+use Rattle.cell_store.specs.Edits.{EditEnds}
 use Rattle.edit_store.specs.Stored.{Stored, networks, AreTouched}
 
 -- an edit gives this network: what it makes of the present one, where the curve that it makes is over no limit
@@ -74,6 +76,20 @@ IsRefused s edit (TooMany cell) = IsOver s.present edit cell limit.TooMany opera
 IsRefused s edit (TooWide cell) = IsOver s.present edit cell limit.TooWide operator.TooWide
 IsRefused s edit NothingToUndo = (edit ≡ Undo) × (s.before ≡ [])
 IsRefused s edit NoMemory = edit ≢ Undo
+
+-- ---- want of memory, by how many operators on curves are counted by then
+-- there is an edited network, and it ends in making its touched cells
+pub record EndsInCells (present : Net) (edit : Edit) (old : CellTable) (n : ℕ) : Type 0 where
+  pub net : Net
+  pub gives : Gives present edit net
+  pub touched : List Cell
+  pub are : AreTouched present net touched
+  pub ends : EditEnds net touched old n
+
+-- before that none is counted
+pub data EndsInEdit (present : Net) (edit : Edit) (old : CellTable) (n : ℕ) : Type 0 where
+  before_cells : n ≡ 0 → EndsInEdit present edit old n
+  in_cells : EndsInCells present edit old n → EndsInEdit present edit old n
 
 -- ---- what an edit will do
 -- it gives this network, and touches these cells there

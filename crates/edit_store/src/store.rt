@@ -58,15 +58,18 @@ impl<V: CellValue + Drop> Store<V> {
     ghost use Rattle.net_cells.specs.Equations.{MeetsEquations};
     ghost use Rattle.net_cells.specs.Order.{evaluation_order};
     ghost use Rattle.net_cells.specs.Work.{work};
+    ghost use Rattle.net_cells.specs.MemoryEnds.{MemoryEnds};
     ghost use Rattle.cell_changes.specs.Slots.{slots};
-    ghost use Rattle.cell_store.specs.Edits.{IsFirst, IsFirstTouched, RefusesFor};
+    ghost use Rattle.cell_store.specs.Edits.{IsFirst, IsFirstTouched, RefusesFor, WantsMemory, EditEnds};
     ghost use Rattle.edit_store.specs.Stored.{AreTouched, AreLost, IsStored, IsAdvanced, IsBack};
     ghost use Rattle.edit_store.specs.Replaced.{put_back};
     ghost use Rattle.edit_store.specs.Applied.{Gives, IsApplied, IsTaken, IsRefused, IsEvaluated, IsShown, IsHidden};
+    ghost use Rattle.edit_store.specs.Applied.{EndsInEdit};
+    ghost use Rattle.edit_store.specs.Faults.{EditWants};
 
     /// A store of one network, by the order of its servers: each cell's value is made once. Refused for the first cell
-    /// with an operator over a limit, or where there is no memory. It counts the work of all cells, and no more than
-    /// that where it is refused.
+    /// with an operator over a limit, or where there is no memory, and then each operator that is counted is within its
+    /// limits. It counts the work of all cells, and no more than that where it is refused.
     pub fn new<E: Evaluator<V>>(
         alloc: Global,
         net: Network,
@@ -78,6 +81,8 @@ impl<V: CellValue + Drop> Store<V> {
         ensures present { IfOk result (λ s. s.present ≡ net) }
         ensures meets { IfOk result (λ s. MeetsEquations net (⟦<Store<V> as Table<V>>⟧.at s)) }
         ensures refused { IfErr result (RefusesFor (IsFirst net)) }
+        ensures memory { IfErr result (WantsMemory
+            (MemoryEnds net (evaluation_order net order.now) (E.count eval.new - E.count eval.old))) }
         ensures exact { OnOk result
             (E.count eval.new ≡ E.count eval.old + sum_by (work net) (evaluation_order net order.now)) }
         ensures rises { E.count eval.old ≤ E.count eval.new }
@@ -143,6 +148,8 @@ impl<V: CellValue + Drop> Store<V> {
         ensures advanced { OnOk result (IsAdvanced self.old net self.new) }
         ensures kept { OnErr result (self.new ≡ self.old) }
         ensures refused { IfErr result (RefusesFor (IsFirstTouched net touched.now)) }
+        ensures memory { IfErr result (WantsMemory (EditEnds net touched.now
+            (⟦<Store<V> as Table<V>>⟧.at self.old) (E.count eval.new - E.count eval.old))) }
         ensures exact { OnOk result (E.count eval.new ≡ E.count eval.old + sum_by (work net) touched.now) }
         ensures rises { E.count eval.old ≤ E.count eval.new }
         ensures within { E.count eval.new ≤ E.count eval.old + sum_by (work net) touched.now }
@@ -177,6 +184,8 @@ impl<V: CellValue + Drop> Store<V> {
         ensures taken { IfOk result (λ cells. IsTaken self.old edit.now cells self.new) }
         ensures kept { OnErr result (self.new ≡ self.old) }
         ensures refused { IfErr result (IsRefused self.old edit.now) }
+        ensures memory { IfErr result (EditWants (EndsInEdit self.old.present edit.now
+            (⟦<Store<V> as Table<V>>⟧.at self.old) (E.count eval.new - E.count eval.old))) }
         ensures exact { OnOk result ((touched : List Cell) → AreTouched self.old.present self.new.present touched
             → E.count eval.new ≡ E.count eval.old + sum_by (work self.new.present) touched) }
         ensures rises { E.count eval.old ≤ E.count eval.new }
@@ -197,15 +206,18 @@ impl<V: CellValue + Drop> Store<V> {
 
     /// Makes an edit: on success the store has the edited network, as a table it meets that network's equations, and
     /// the answer tells how many cells the edit touched; an undo goes back to the network before, touches none and
-    /// takes no memory. Refused for the first cause of those that `EditFault` lists, and then all is as it was. Exactly
-    /// the work of the touched cells is counted, no more than that where the edit is refused, and nothing where there
-    /// is no edited network to be evaluated.
+    /// takes no memory. Refused for the first cause of those that `EditFault` lists, and then all is as it was; where
+    /// that is want of memory, each operator that is counted is within its limits. Exactly the work of the touched cells
+    /// is counted, no more than that where the edit is refused, and nothing where there is no edited network to be
+    /// evaluated.
     pub fn apply<E: Evaluator<V>>(&mut self, edit: &Edit, eval: &mut E) -> Result<Done, EditFault>
         requires { edit.now ≢ Undo → length self.old.before < 2 ^ 32 - 1 }
         ensures applied { IfOk result (λ done. IsApplied self.old edit.now done.cells self.new) }
         ensures meets { OnOk result (MeetsEquations self.new.present (⟦<Store<V> as Table<V>>⟧.at self.new)) }
         ensures kept { OnErr result (self.new ≡ self.old) }
         ensures refused { IfErr result (IsRefused self.old edit.now) }
+        ensures memory { IfErr result (EditWants (EndsInEdit self.old.present edit.now
+            (⟦<Store<V> as Table<V>>⟧.at self.old) (E.count eval.new - E.count eval.old))) }
         ensures exact { OnOk result (edit.now ≢ Undo → (touched : List Cell)
             → AreTouched self.old.present self.new.present touched
             → E.count eval.new ≡ E.count eval.old + sum_by (work self.new.present) touched) }

@@ -1,12 +1,18 @@
-use Rattle.std.proofs.Common.{◌≡◌, ◌+◌, Some, drop, ◌∙◌, ap, arith}
+use Rattle.std.proofs.Common.{◌≡◌, ◌-◌, Some, Err, ◌∙◌, ap, arith}
 use Rattle.std.proofs.lemmas.List.{drop_all}
 use Rattle.std.proofs.lemmas.List.Sums.{sum_by_more, sum_by_more_le}
 use Rattle.net_cells.specs.Meanings.{CellTable}
+use Rattle.net_cells.specs.CellFormulas.{formula}
 use Rattle.net_cells.specs.Work.{work}
+use Rattle.net_cells.specs.MemoryEnds.{making, keeping}
 use Rattle.net_cells.proofs.Tables.{answered_meets}
-use Rattle.cell_store.specs.Placed.{placed}
+use Rattle.net_cells.proofs.Works.{work_is}
 use Rattle.cell_table.proofs.Fronts.{no_cell, cell_at}
-use Rattle.cell_store.proofs.Fronts.{next_at, next_is_cell, next_below, next_has_slot, made_at, all_answered, refused, same_untouched, still_others}
+use Rattle.cell_table.proofs.GivesAnswers.{gives_ok}
+use Rattle.cell_store.specs.Placed.{placed}
+use Rattle.cell_store.specs.Edits.{EndsAtTouched}
+use Rattle.cell_store.proofs.Fronts.{next_at, next_is_cell, next_below, next_has_slot, made_at, all_answered, refused, same_untouched, still_others, ends_at}
+use Rattle.cell_store.proofs.Wanting.{wants_memory}
 use Rattle.cell_store.proofs.anew.made_anew.Goals as goal
 
 pub eval-requires-clause-cell : goal.eval-requires-clause-cell
@@ -18,7 +24,7 @@ eval-requires-clause-cell g c =
     let before : CellTable = placed g.V.CellValue.meaning c.args.values.now.versions.newest in
     let at : CellTable = placed g.V.CellValue.meaning c.loop-cell.values.versions.newest in
     let same = same_untouched edit.old net _ touched before at edit.are c.loop-cell.invariant.others in
-    next_is_cell edit.old net edit.order at (cell_at touched i) (drop (i + 1) touched)
+    next_is_cell edit.old net edit.order at touched i c.keeps.ensures edit.servers
     (next_at edit.old net edit.order before at touched i edit.answered same (omega arith) (c.loop-cell.invariant.reached edit))
 
 pub eval-requires-clause-below : goal.eval-requires-clause-below
@@ -30,7 +36,7 @@ eval-requires-clause-below g c =
     let before : CellTable = placed g.V.CellValue.meaning c.args.values.now.versions.newest in
     let at : CellTable = placed g.V.CellValue.meaning c.loop-cell.values.versions.newest in
     let same = same_untouched edit.old net _ touched before at edit.are c.loop-cell.invariant.others in
-    next_below edit.old net edit.order at (cell_at touched i) (drop (i + 1) touched) c.keeps.ensures edit.servers
+    next_below edit.old net edit.order at touched i c.keeps.ensures edit.servers
     (next_at edit.old net edit.order before at touched i edit.answered same (omega arith) (c.loop-cell.invariant.reached edit))
 
 pub put-requires : goal.put-requires
@@ -42,7 +48,7 @@ put-requires g c =
     let before : CellTable = placed g.V.CellValue.meaning c.args.values.now.versions.newest in
     let at : CellTable = placed g.V.CellValue.meaning c.loop-cell.values.versions.newest in
     let same = same_untouched edit.old net _ touched before at edit.are c.loop-cell.invariant.others in
-    next_has_slot edit.old net edit.order at (cell_at touched i) (drop (i + 1) touched) c.keeps.ensures
+    next_has_slot edit.old net edit.order at touched i c.keeps.ensures edit.servers
     (next_at edit.old net edit.order before at touched i edit.answered same (omega arith) (c.loop-cell.invariant.reached edit))
 
 pub returns-in-Err-clause-refused : goal.returns-in-Err-clause-refused
@@ -54,8 +60,7 @@ returns-in-Err-clause-refused g c =
     let before : CellTable = placed g.V.CellValue.meaning c.args.values.now.versions.newest in
     let at : CellTable = placed g.V.CellValue.meaning c.loop-cell.values.versions.newest in
     let same = same_untouched edit.old net _ touched before at edit.are c.loop-cell.invariant.others in
-    refused edit.old net edit.order at touched i (drop (i + 1) touched) c.in-Err.fault c.refusal.result c.refusal.ensures
-    (omega arith) edit.servers
+    refused edit.old net edit.order at touched i c.in-Err.fault c.refusal.result c.refusal.ensures (omega arith) edit.servers
     (next_at edit.old net edit.order before at touched i edit.answered same (omega arith) (c.loop-cell.invariant.reached edit))
     c.in-Err.ensures.answer
 
@@ -74,6 +79,61 @@ returns-in-Err-put-clause-within g c =
     let more = sum_by_more_le (work c.args.net.now) c.args.touched.now c.loop-cell.cell-index no_cell (omega arith) in
     omega (arith, more, c.in-Ok.ensures.within, c.loop-cell.invariant.cost)
 
+pub returns-in-Err-clause-memory : goal.returns-in-Err-clause-memory
+returns-in-Err-clause-memory g c =
+    let net = c.args.net.now in
+    let touched = c.args.touched.now in
+    let i = c.loop-cell.cell-index in
+    let edit = c.requires in
+    let before : CellTable = placed g.V.CellValue.meaning c.args.values.now.versions.newest in
+    let at : CellTable = placed g.V.CellValue.meaning c.loop-cell.values.versions.newest in
+    let same = same_untouched edit.old net _ touched before at edit.are c.loop-cell.invariant.others in
+    let cost = c.loop-cell.invariant.cost in
+    let rises = c.in-Err.ensures.rises in
+    let mid = g.E.Evaluator.count c.loop-cell.eval in
+    let new = g.E.Evaluator.count c.eval.new.self in
+    let counted = new - g.E.Evaluator.count c.args.eval.now in
+    wants_memory (EndsAtTouched net touched before counted) (cell_at touched i) c.in-Err.fault c.refusal.result c.refusal.ensures
+    (λ lack. ends_at edit.old net edit.order before at touched i (new - mid) counted (omega arith) c.loop-cell.invariant.others
+    (next_at edit.old net edit.order before at touched i edit.answered same (omega arith) (c.loop-cell.invariant.reached edit))
+    (making (c.in-Err.ensures.memory (ap Err lack))) (omega (arith, cost, rises)))
+
+pub returns-in_default-clause-memory : goal.returns-in_default-clause-memory
+returns-in_default-clause-memory g c =
+    let net = c.args.net.now in
+    let touched = c.args.touched.now in
+    let i = c.loop-cell.cell-index in
+    let edit = c.requires in
+    let before : CellTable = placed g.V.CellValue.meaning c.args.values.now.versions.newest in
+    let at : CellTable = placed g.V.CellValue.meaning c.loop-cell.values.versions.newest in
+    let same = same_untouched edit.old net _ touched before at edit.are c.loop-cell.invariant.others in
+    let cost = c.loop-cell.invariant.cost in
+    let exact = c.in-Ok.ensures.exact in
+    let counted = g.E.Evaluator.count c.eval.new.self - g.E.Evaluator.count c.args.eval.now in
+    let value = g.V.CellValue.meaning c.in-Ok.value in
+    ends_at edit.old net edit.order before at touched i (work net (cell_at touched i)) counted (omega arith) c.loop-cell.invariant.others
+    (next_at edit.old net edit.order before at touched i edit.answered same (omega arith) (c.loop-cell.invariant.reached edit))
+    (keeping value (gives_ok at (formula net (cell_at touched i)) value c.in-Ok.ensures.answer) (work_is net (cell_at touched i)))
+    (omega (arith, cost, exact))
+
+pub returns-in-Err-put-clause-memory : goal.returns-in-Err-put-clause-memory
+returns-in-Err-put-clause-memory g c =
+    let net = c.args.net.now in
+    let touched = c.args.touched.now in
+    let i = c.loop-cell.cell-index in
+    let edit = c.requires in
+    let before : CellTable = placed g.V.CellValue.meaning c.args.values.now.versions.newest in
+    let at : CellTable = placed g.V.CellValue.meaning c.loop-cell.values.versions.newest in
+    let same = same_untouched edit.old net _ touched before at edit.are c.loop-cell.invariant.others in
+    let cost = c.loop-cell.invariant.cost in
+    let exact = c.in-Ok.ensures.exact in
+    let counted = g.E.Evaluator.count c.eval.new.self - g.E.Evaluator.count c.args.eval.now in
+    let value = g.V.CellValue.meaning c.in-Ok.value in
+    ends_at edit.old net edit.order before at touched i (work net (cell_at touched i)) counted (omega arith) c.loop-cell.invariant.others
+    (next_at edit.old net edit.order before at touched i edit.answered same (omega arith) (c.loop-cell.invariant.reached edit))
+    (keeping value (gives_ok at (formula net (cell_at touched i)) value c.in-Ok.ensures.answer) (work_is net (cell_at touched i)))
+    (omega (arith, cost, exact))
+
 pub loop-cell-preserved : goal.loop-cell-preserved
 loop-cell-preserved g c =
     let net = c.args.net.now in
@@ -88,8 +148,7 @@ loop-cell-preserved g c =
     record {
       reached = λ edit.
           let same = same_untouched edit.old net _ touched before at edit.are c.loop-cell.invariant.others in
-          made_at edit.old net edit.order at next (cell_at touched i) (drop (i + 1) touched) (meaning c.in-Ok.value)
-          c.keeps.ensures edit.servers
+          made_at edit.old net edit.order at next touched i (meaning c.in-Ok.value) c.keeps.ensures edit.servers (omega arith)
           (next_at edit.old net edit.order before at touched i edit.answered same (omega arith) (c.loop-cell.invariant.reached edit))
           c.in-Ok.ensures.answer put c.in_default-put.ensures.others;
       others = still_others touched i before at next (omega arith) c.loop-cell.invariant.others c.in_default-put.ensures.others;
@@ -107,8 +166,7 @@ returns-clause-answers g c =
     let before : CellTable = placed g.V.CellValue.meaning c.args.values.now.versions.newest in
     let at : CellTable = placed g.V.CellValue.meaning c.loop-cell.values.versions.newest in
     let same = same_untouched edit.old net _ touched before at edit.are c.loop-cell.invariant.others in
-    all_answered edit.old net edit.order before at (drop c.loop-cell.cell-index touched) c.keeps.ensures edit.servers
-    edit.answered same (drop_all c.loop-cell.cell-index touched (omega arith)) (c.loop-cell.invariant.reached edit)
+    all_answered edit.old net edit.order before at touched c.loop-cell.cell-index c.keeps.ensures edit.servers edit.answered same (drop_all c.loop-cell.cell-index touched (omega arith)) (c.loop-cell.invariant.reached edit)
 
 pub returns-clause-meets : goal.returns-clause-meets
 returns-clause-meets g c = λ d h.

@@ -1,4 +1,5 @@
-use Rattle.std.proofs.Common.{◌∙◌, List, sym, subst}
+use Rattle.std.proofs.Common.{◌∙◌, List, sym, subst, arith}
+use Rattle.net_cells.specs.MemoryEnds.{at_none}
 use Rattle.cell_store.specs.Placed.{placed}
 use Rattle.edit_store.specs.declared.replaced.Replaced.{Replaced}
 use Rattle.edit_store.specs.Replaced.{IsKept}
@@ -22,3 +23,6 @@ invariant_of-result g c =
     (placed meaning c.in-Ok.values.versions.newest) values c.requires (c.deref.ensures.value ∙ c.in-Ok-cells.ensures)
     (c.made_anew.ensures.before ∙ c.in-Ok.ensures.first) c.in_ok-made_anew.ensures.answers c.in-Ok.ensures.nothing
     c.made_anew.ensures.others))
+
+pub returns-in_default-clause-memory : goal.returns-in_default-clause-memory
+returns-in_default-clause-memory g c = at_none (omega arith)
