@@ -1,3 +1,4 @@
 pub mod OnFiles
 pub mod AnswerCounts
+pub mod AnswerWants
 pub mod AnswerLaws

@@ -6,7 +6,7 @@ use Rattle.curve_script.specs.declared.fault.LangKind.TheVariants.{TooMany, TooW
 use Rattle.upp_limits.specs.declared.own_limits.OverLimit.TheVariants as limits
 use Rattle.curve_script.specs.Scripts.{Numbered, IsScript, IsFirstFault, out_of_memory}
 use Rattle.curve_lang.specs.Answers.{Answered, ScriptMeans}
-use Rattle.curve_lang.specs.Found.{ScriptFinds}
+use Rattle.curve_lang.specs.Found.{ScriptTells}
 use Rattle.command_replies.specs.declared.answer.Answer.{Answer}
 use Rattle.command_replies.specs.Faults.{script_reply_of_kind, script_fault_reply}
 use Rattle.command_replies.specs.Replies.{breaks_script_rule}
@@ -25,7 +25,7 @@ by_rule file fault kind rule = refl
 
 -- on the statements of a script
 found : (file bytes : List ℕ) (lines : List Numbered) → IsScript bytes lines → (kind : LangKind) (line : ℕ)
-    → kind ≢ NoMemory → ScriptFinds [] [] lines (Err record { kind = kind; line = line })
+    → kind ≢ NoMemory → ScriptTells lines (Err record { kind = kind; line = line })
     → IsScriptReply file bytes (script_reply_of_kind file record { kind = kind; line = line } kind)
 found file bytes lines script TooMany line told first =
     LineOver limits.TooMany record { lines = lines; script = script; line = line; first = first; is = refl }
@@ -43,7 +43,7 @@ found file bytes lines script kind line told first =
     }
 
 pub on_found : {E : Type 0} (file : List ℕ) (lines : List Numbered) (fault : LangFault) (r : Result Answer E)
-    → ScriptFinds [] [] lines (Err fault)
+    → ScriptTells lines (Err fault)
     → IfOk r (λ a. reply_of a ≡ script_fault_reply file fault) → IfOk r (λ a. fault.kind ≢ NoMemory)
     → IfOk r (λ a. IsReplyOnLines file lines (reply_of a))
 on_found file lines fault (Ok a) first is told =
@@ -52,7 +52,7 @@ on_found file lines fault (Ok a) first is told =
 on_found file lines fault (Err e) first is told = tt
 
 pub on_answers : {E : Type 0} (file : List ℕ) (lines : List Numbered) (answers : List Answered) (r : Result Answer E)
-    → ScriptFinds [] [] lines (Ok answers) → ScriptMeans [] lines answers
+    → ScriptTells lines (Ok answers) → ScriptMeans [] lines answers
     → IfOk r (λ a. reply_of a ≡ answered answers)
     → IfOk r (λ a. IsReplyOnLines file lines (reply_of a))
 on_answers file lines answers (Ok a) finds means is =

@@ -1,11 +1,11 @@
 -- There is one reply on a script.
-use Rattle.std.proofs.Common.{◌≡◌, ◌≢◌, ◌⊎◌, ℕ, List, [], Ok, Err, inl, inr, refl, sym, ap, ap₂, ◌∙◌, subst}
+use Rattle.std.proofs.Common.{◌≡◌, ◌≢◌, ◌⊎◌, ℕ, List, Ok, Err, inl, inr, refl, sym, ap, ap₂, ◌∙◌, subst}
 use Rattle.upp_limits.specs.declared.own_limits.OverLimit.TheVariants.{TooMany, TooWide}
 use Rattle.curve_script.specs.declared.fault.LangFault.{LangFault}
 use Rattle.curve_script.specs.declared.fault.LangKind.TheVariants.{NoMemory}
 use Rattle.curve_script.specs.Scripts.{Numbered, IsScript, out_of_memory}
 use Rattle.curve_script.proofs.OneScript.{text_is_one, fault_excludes_script}
-use Rattle.curve_lang.specs.Found.{Told, ScriptFinds}
+use Rattle.curve_lang.specs.Found.{Told, ScriptTells}
 use Rattle.curve_lang.proofs.OneFound.{scripts_find_one}
 use Rattle.command_replies.specs.Faults.{script_fault_reply}
 use Rattle.command_replies.specs.Replies.{Reply, breaks_script_rule}
@@ -27,7 +27,7 @@ record OnScript (file bytes : List ℕ) (reply : Reply) : Type 0 where
   lines : List Numbered
   script : IsScript bytes lines
   told : Told
-  finds : ScriptFinds [] [] lines told
+  finds : ScriptTells lines told
   some : told ≢ Err out_of_memory
   is : reply ≡ reply_told file told
 
@@ -88,7 +88,7 @@ one_misread file bytes x y h k =
 one_script : (file bytes : List ℕ) (x y : Reply) → OnScript file bytes x → OnScript file bytes y → x ≡ y
 one_script file bytes x y h k =
     let lines = text_is_one bytes k.lines h.lines k.script h.script in
-    let finds = subst (λ ls. ScriptFinds [] [] ls k.told) lines k.finds in
+    let finds = subst (λ ls. ScriptTells ls k.told) lines k.finds in
     let told = scripts_find_one h.lines h.told k.told h.finds finds h.some k.some in
     h.is ∙ ap (reply_told file) told ∙ sym k.is
 
@@ -119,9 +119,9 @@ complete file bytes reply w (inl h) =
     absurd (fault_excludes_script bytes w.lines h.fault.kind h.fault.line w.script h.first)
 complete file bytes reply w (inr h) =
     let lines = text_is_one bytes h.lines w.lines h.script w.script in
-    let finds = subst (λ ls. ScriptFinds [] [] ls h.told) lines h.finds in
+    let finds = subst (λ ls. ScriptTells ls h.told) lines h.finds in
     let none = λ (fault : LangFault) (e : h.told ≡ Err fault).
-    h.some (e ∙ ap Err (w.within fault (subst (λ t. ScriptFinds [] [] w.lines t) e finds))) in
+    h.some (e ∙ ap Err (w.within fault (subst (λ t. ScriptTells w.lines t) e finds))) in
     by_told file reply h.told none h.is
 
 pub replies_are_complete : RepliesAreComplete

@@ -1,8 +1,8 @@
 -- What holds of the replies on scripts.
-use Rattle.std.specs.Prelude.{◌≡◌, ℕ, List, [], Err}
+use Rattle.std.specs.Prelude.{◌≡◌, ℕ, List, Err}
 use Rattle.curve_script.specs.declared.fault.LangFault.{LangFault}
 use Rattle.curve_script.specs.Scripts.{Numbered, IsScript, out_of_memory}
-use Rattle.curve_lang.specs.Found.{ScriptFinds}
+use Rattle.curve_lang.specs.Found.{ScriptTells}
 use Rattle.command_replies.specs.Replies.{Reply}
 use Rattle.curve_command.specs.OnScripts.{IsScriptReply}
 
@@ -15,7 +15,7 @@ RepliesAreDetermined =
 pub record IsWithinRules (bytes : List ℕ) : Type 0 where
   pub lines : List Numbered
   pub script : IsScript bytes lines
-  pub within : (fault : LangFault) → ScriptFinds [] [] lines (Err fault) → fault ≡ out_of_memory
+  pub within : (fault : LangFault) → ScriptTells lines (Err fault) → fault ≡ out_of_memory
 
 -- the one reply on it has the answers
 abbrev pub RepliesAreComplete : Type 0

@@ -8,7 +8,7 @@ use Rattle.curve_script.specs.declared.fault.LangKind.{LangKind}
 use Rattle.curve_script.specs.declared.fault.LangKind.TheVariants as lang
 use Rattle.curve_script.specs.Scripts.{Numbered, IsScript, IsFirstFault}
 use Rattle.curve_lang.specs.Answers.{Answered, ScriptMeans}
-use Rattle.curve_lang.specs.Found.{ScriptFinds}
+use Rattle.curve_lang.specs.Found.{ScriptTells}
 use Rattle.curve_lang.specs.Texts.{answers_text}
 use Rattle.command_replies.specs.Replies.{Reply, breaks_script_rule, line_over}
 
@@ -31,7 +31,7 @@ pub record IsFaulty (file bytes : List ℕ) (reply : Reply) : Type 0 where
   pub script : IsScript bytes lines
   pub fault : LangFault
   pub by_rule : IsByRule fault.kind
-  pub first : ScriptFinds [] [] lines (Err fault)
+  pub first : ScriptTells lines (Err fault)
   pub is : reply ≡ breaks_script_rule file fault
 
 -- a line that has a curve, an operator or a value over this limit
@@ -44,7 +44,7 @@ pub record IsLineOver (limit : OverLimit) (bytes : List ℕ) (reply : Reply) : T
   pub lines : List Numbered
   pub script : IsScript bytes lines
   pub line : ℕ
-  pub first : ScriptFinds [] [] lines (Err (fault_over limit line))
+  pub first : ScriptTells lines (Err (fault_over limit line))
   pub is : reply ≡ line_over limit line
 
 -- the lines of the answers
@@ -56,7 +56,7 @@ pub record IsAnswered (bytes : List ℕ) (reply : Reply) : Type 0 where
   pub lines : List Numbered
   pub script : IsScript bytes lines
   pub answers : List Answered
-  pub finds : ScriptFinds [] [] lines (Ok answers)
+  pub finds : ScriptTells lines (Ok answers)
   pub means : ScriptMeans [] lines answers
   pub is : reply ≡ answered answers
 

@@ -8,7 +8,7 @@ use Rattle.rational.proofs.Integers.{nat_nonneg}
 use Rattle.rational.proofs.Laws.{le_of_not_lt, lt_of_not_le, not_le_of_lt, antisym, zero_mul, add_zero}
 use Rattle.min_plus.specs.Functions.{zero_q, IsFinite, IsNonnegative}
 use Rattle.upp_curve.specs.Curve.{SpecCurve, value_at}
-use Rattle.upp_curve.specs.Kinds.{bucket, rate_latency, stair, gate}
+use Rattle.upp_curve.specs.Kinds.{bucket}
 use Rattle.upp_kinds.proofs.KindsAre.{kinds_have_their_values}
 use Rattle.curve_script.specs.declared.keyword.NumberPair.{NumberPair}
 use Rattle.curve_script.specs.declared.keyword.NumberPair.TheVariants.{Bucket, Latency}
@@ -19,7 +19,7 @@ use Rattle.curve_script.specs.declared.keyword.CurveOperator.TheVariants.{Close,
 use Rattle.curve_script.specs.Grammar.{Expression, Named, Nought, OfPair, OfTriple, OnCurve, OnNumber, OnTwo}
 use Rattle.curve_library.specs.Causes.{OneNegative}
 use Rattle.curve_lang.specs.Meaning.{FromZero, Given, given, Means, pair_value, triple_value, call_with, call_of_two, IsOnCurve}
-use Rattle.curve_lang.specs.Finding.{OneFinds, CurveFinds, PairFinds, TripleFinds, NoStair, NoGate, MayCall, MayCallWith, zero_curve}
+use Rattle.curve_lang.specs.Finding.{Once, OneFinds, CurveFinds, PairFinds, TripleFinds, NoStair, NoGate, MayCall, MayCallWith, zero_curve}
 use Rattle.curve_lang.specs.Found.{Let, curve_named, with_values, NameFinds, Finds, Tested, OneMade}
 use Rattle.curve_lang.proofs.Findings.{then_ok, gives_ok, guarded_ok, bucket_ok}
 
@@ -82,39 +82,53 @@ triple_means Gate x y z c (fine, within, e) t n =
     let k = gate_numbers x y z fine in ap (λ d. value_at d t) e ∙ kinds_have_their_values.gate x y z t k.rate k.slot k.within n
 
 -- ---- operators
-one_means : (k : CurveOperator) (f c : SpecCurve) → OneFinds k f (Ok c) → FromZero (λ t. IsOnCurve k (value_at f) t (value_at c t))
-one_means Close f c h = h.2
-one_means RunSup f c h = h.1.answers
-one_means RunInf f c h = h.1.answers
+one_means : (k : CurveOperator) (f c : SpecCurve) (old new : ℕ) → OneFinds k f (Ok c) old new
+    → FromZero (λ t. IsOnCurve k (value_at f) t (value_at c t))
+one_means Close f c old new h = h.2
+one_means RunSup f c old new h = h.0.1.answers
+one_means RunInf f c old new h = h.0.1.answers
 
-pub one_made : (k : CurveOperator) (f c : SpecCurve) → OneMade k f (Ok c) → OneFinds k f (Ok c)
-one_made k f c h =
-    let finite = guarded_ok (IsFinite (value_at f)) (Tested f (OneFinds k f)) c h in
+-- the operator alone, after the test
+pub record IsOneMade (k : CurveOperator) (f c : SpecCurve) (new : ℕ) : Type 0 where
+  pub tested : ℕ
+  pub is : OneFinds k f (Ok c) tested new
+
+pub one_made : (k : CurveOperator) (f c : SpecCurve) (old new : ℕ) → OneMade k f (Ok c) old new → IsOneMade k f c new
+one_made k f c old new h =
+    let finite = guarded_ok (IsFinite (value_at f)) (Tested f (OneFinds k f)) c old new h in
     let zero = then_ok finite.1 in
     let test = then_ok zero.second in
-    (guarded_ok (IsNonnegative (value_at f)) (OneFinds k f) c test.second).1
+    record {
+      tested = test.between;
+      is = (guarded_ok (IsNonnegative (value_at f)) (OneFinds k f) c test.between new test.second).1;
+    }
 
 -- ---- expressions
-pub found_means : (ls : List Let) (e : Expression ℚ) (c : SpecCurve) → Finds ls e (Ok c) → Means (with_values ls) e (value_at c)
-found_means ls (Named w) c h = (value_at c, given_values ls w c (name_ok (curve_named ls w) c h), λ t n. refl)
-found_means ls Nought c h = λ t n. ap (λ d. value_at d t) (gives_ok zero_curve c h) ∙ zero_value t n
-found_means ls (OfPair k x y) c h = pair_means k x y c h
-found_means ls (OfTriple k x y z) c h = triple_means k x y z c h
-found_means ls (OnCurve k e) c h =
+pub found_means : (ls : List Let) (e : Expression ℚ) (c : SpecCurve) (old new : ℕ) → Finds ls e (Ok c) old new
+    → Means (with_values ls) e (value_at c)
+found_means ls (Named w) c old new h = (value_at c, given_values ls w c (name_ok (curve_named ls w) c h.0), λ t n. refl)
+found_means ls Nought c old new h = λ t n. ap (λ d. value_at d t) (gives_ok zero_curve c h.0) ∙ zero_value t n
+found_means ls (OfPair k x y) c old new h = pair_means k x y c h.0
+found_means ls (OfTriple k x y z) c old new h = triple_means k x y z c h.0
+found_means ls (OnCurve k e) c old new h =
     let b = then_ok h in
-    (value_at b.value, found_means ls e b.value b.first, one_means k b.value c (one_made k b.value c b.second))
-found_means ls (OnNumber k e x) c h =
+    let made = one_made k b.value c b.between new b.second in (
+      value_at b.value,
+      found_means ls e b.value old b.between b.first,
+      one_means k b.value c made.tested new made.is,
+    )
+found_means ls (OnNumber k e x) c old new h =
     let b = then_ok h in (
       value_at b.value,
-      found_means ls e b.value b.first,
-      (guarded_ok (MayCallWith k b.value x) (CurveFinds (call_with k x) b.value b.value) c b.second).1.1.answers,
+      found_means ls e b.value old b.between b.first,
+      (guarded_ok (MayCallWith k b.value x) (Once (CurveFinds (call_with k x) b.value b.value)) c b.between new b.second).1.0.1.answers,
     )
-found_means ls (OnTwo k d e) c h =
+found_means ls (OnTwo k d e) c old new h =
     let a = then_ok h in
     let b = then_ok a.second in (
       value_at a.value,
       value_at b.value,
-      found_means ls d a.value a.first,
-      found_means ls e b.value b.first,
-      (guarded_ok (MayCall k a.value b.value) (CurveFinds (call_of_two k) a.value b.value) c b.second).1.1.answers,
+      found_means ls d a.value old a.between a.first,
+      found_means ls e b.value a.between b.between b.first,
+      (guarded_ok (MayCall k a.value b.value) (Once (CurveFinds (call_of_two k) a.value b.value)) c b.between new b.second).1.0.1.answers,
     )

@@ -18,7 +18,7 @@ use Rattle.min_plus.specs.Functions.{zero_q}
 use Rattle.upp_curve.specs.Kinds.{bucket}
 use Rattle.curve_library.specs.Causes.{OneNegative}
 use Rattle.curve_lang.specs.Meaning.{call_with, call_of_two}
-use Rattle.curve_lang.specs.Finding.{PairFinds, TripleFinds, OneFinds, CurveFinds, MayCall, MayCallWith, zero_curve}
+use Rattle.curve_lang.specs.Finding.{Once, PairFinds, TripleFinds, OneFinds, CurveFinds, MayCall, MayCallWith, zero_curve}
 use Rattle.curve_lang.specs.Found.{Let, curve_named, Finds}
 use Rattle.curve_lang.proofs.Findings.{then_ok, gives_ok, guarded_ok, bucket_ok}
 use Rattle.curve_lang.proofs.Meant.{name_ok, one_made, stair_numbers, gate_numbers}
@@ -52,23 +52,24 @@ triple_normal Stair x y z c (fine, within, e) =
 triple_normal Gate x y z c (fine, within, e) =
     let n = gate_numbers x y z fine in subst IsNormal (sym e) (kinds_are_normal.gate x y z n.rate n.slot n.within)
 
-one_normal : (k : CurveOperator) (f c : SpecCurve) → OneFinds k f (Ok c) → IsNormal c
-one_normal Close f c h = h.1.normal
-one_normal RunSup f c h = h.1.curve.normal
-one_normal RunInf f c h = h.1.curve.normal
+one_normal : (k : CurveOperator) (f c : SpecCurve) (old new : ℕ) → OneFinds k f (Ok c) old new → IsNormal c
+one_normal Close f c old new h = h.1.normal
+one_normal RunSup f c old new h = h.0.1.curve.normal
+one_normal RunInf f c old new h = h.0.1.curve.normal
 
-pub found_normal : (ls : List Let) (e : Expression ℚ) (c : SpecCurve) → EachNormal ls → Finds ls e (Ok c) → IsNormal c
-found_normal ls (Named w) c each h = named_normal ls w c each (name_ok (curve_named ls w) c h)
-found_normal ls Nought c each h = subst IsNormal (sym (gives_ok zero_curve c h)) (kinds_are_normal.bucket zero_q zero_q)
-found_normal ls (OfPair k x y) c each h = pair_normal k x y c h
-found_normal ls (OfTriple k x y z) c each h = triple_normal k x y z c h
-found_normal ls (OnCurve k e) c each h =
+pub found_normal : (ls : List Let) (e : Expression ℚ) (c : SpecCurve) (old new : ℕ) → EachNormal ls → Finds ls e (Ok c) old new → IsNormal c
+found_normal ls (Named w) c old new each h = named_normal ls w c each (name_ok (curve_named ls w) c h.0)
+found_normal ls Nought c old new each h = subst IsNormal (sym (gives_ok zero_curve c h.0)) (kinds_are_normal.bucket zero_q zero_q)
+found_normal ls (OfPair k x y) c old new each h = pair_normal k x y c h.0
+found_normal ls (OfTriple k x y z) c old new each h = triple_normal k x y z c h.0
+found_normal ls (OnCurve k e) c old new each h =
     let b = then_ok h in
-    one_normal k b.value c (one_made k b.value c b.second)
-found_normal ls (OnNumber k e x) c each h =
+    let made = one_made k b.value c b.between new b.second in
+    one_normal k b.value c made.tested new made.is
+found_normal ls (OnNumber k e x) c old new each h =
     let b = then_ok h in
-    (guarded_ok (MayCallWith k b.value x) (CurveFinds (call_with k x) b.value b.value) c b.second).1.1.curve.normal
-found_normal ls (OnTwo k d e) c each h =
+    (guarded_ok (MayCallWith k b.value x) (Once (CurveFinds (call_with k x) b.value b.value)) c b.between new b.second).1.0.1.curve.normal
+found_normal ls (OnTwo k d e) c old new each h =
     let a = then_ok h in
     let b = then_ok a.second in
-    (guarded_ok (MayCall k a.value b.value) (CurveFinds (call_of_two k) a.value b.value) c b.second).1.1.curve.normal
+    (guarded_ok (MayCall k a.value b.value) (Once (CurveFinds (call_of_two k) a.value b.value)) c b.between new b.second).1.0.1.curve.normal

@@ -38,13 +38,17 @@ use Rattle.curve_script.specs.Scripts.{Numbered, out_of_memory}
 use Rattle.curve_lang.specs.declared.answer.Word.TheVariants as words
 use Rattle.curve_lang.specs.Answers.{Answered, NumberIs, TruthIs, one_answer}
 use Rattle.curve_lang.specs.Meaning.{FromZero, call_with, call_of_two}
-use Rattle.curve_lang.specs.Finding.{Found, Then, goes_on, stops, Gives, Guarded, CallFinds, CurveFinds, TestFinds, KindFinds, BucketFinds, PairFinds, TripleFinds, NoStair, NoGate, OneFinds, CloseFinds, MayCall, MayCallWith, MayWait, ValueFinds, value_gauge, zero_curve}
-use Rattle.curve_lang.specs.Found.{Let, NameFinds, curve_named, Finds, Tested, OneMade, NumberMade, TwoMade, TwoFinds, IsDelay, IsBacklog, IsBelow, TellsValue, TimeFinds, AsksTime, AsksOf, AsksBoth, Kept, NewName, Added, AddsName, AddsAnswer, StatementFinds, Told, LineThen, goes_on as line_on, stops as line_stops, fault_at, after_added, ScriptFinds}
+use Rattle.curve_lang.specs.Finding.{Found, Still, Once, Then, goes_on, stops, Gives, Guarded, CallFinds, CurveFinds, TestFinds, KindFinds, BucketFinds, PairFinds, TripleFinds, NoStair, NoGate, OneFinds, CloseFinds, MayCall, MayCallWith, MayWait, ValueFinds, value_gauge, zero_curve}
+use Rattle.curve_lang.specs.Found.{Let, NameFinds, curve_named, Finds, Tested, OneMade, NumberMade, TwoMade, TwoFinds, TellsEqual, IsDelay, IsBacklog, IsBelow, TellsValue, TimeFinds, AsksTime, AsksOf, AsksBoth, Kept, NewName, Added, AddsName, AddsAnswer, StatementFinds, Told, LineThen, goes_on as line_on, stops as line_stops, fault_at, after_added, ScriptFinds}
 use Rattle.curve_lang.specs.Laws.{ScriptsFindOne}
 
 -- two findings that P allows are one, where neither is want of memory
-abbrev pub IsOne : {A : Type 0} → (Result A LangKind → Type 0) → Type 0
-IsOne {A} P = (r s : Result A LangKind) → P r → P s → r ≢ Err NoMemory → s ≢ Err NoMemory → r ≡ s
+abbrev pub IsOneAlone : {A : Type 0} → (Result A LangKind → Type 0) → Type 0
+IsOneAlone {A} P = (r s : Result A LangKind) → P r → P s → r ≢ Err NoMemory → s ≢ Err NoMemory → r ≡ s
+
+-- whatever they count
+abbrev pub IsOne : {A : Type 0} → (Result A LangKind → (old new : ℕ) → Type 0) → Type 0
+IsOne {A} P = (r s : Result A LangKind) (a b v w : ℕ) → P r a b → P s v w → r ≢ Err NoMemory → s ≢ Err NoMemory → r ≡ s
 
 -- ---- words
 found_not_none : {A : Type 0} (x : A) → Ok x ≢ Err NoMemory
@@ -54,31 +58,37 @@ found_not_none x e = absurd (cc e)
 err_lost : {A B : Type 0} (k : LangKind) → ◌≡◌ {A = Result A LangKind} (Err k) (Err NoMemory) → ◌≡◌ {A = Result B LangKind} (Err k) (Err NoMemory)
 err_lost k w = let e : k ≡ NoMemory = cc w in ap Err e
 
-then_one : {A B : Type 0} (P : Result A LangKind → Type 0) (Q : A → Result B LangKind → Type 0) → IsOne P → ((x : A) → IsOne (Q x))
-    → IsOne (Then P Q)
-then_one P Q p q r s (goes_on x px qx) (goes_on y py qy) m n =
-    let same = p (Ok x) (Ok y) px py (found_not_none x) (found_not_none y) in
+then_one : {A B : Type 0} (P : Result A LangKind → (old new : ℕ) → Type 0) (Q : A → Result B LangKind → (old new : ℕ) → Type 0) → IsOne P
+    → ((x : A) → IsOne (Q x)) → IsOne (Then P Q)
+then_one P Q p q r s a b v w (goes_on x i px qx) (goes_on y j py qy) m n =
+    let same = p (Ok x) (Ok y) a i v j px py (found_not_none x) (found_not_none y) in
     let e : x ≡ y = cc same in
-    q y r s (subst (λ z. Q z r) e qx) qy m n
-then_one P Q p q r s (goes_on x px qx) (stops k pk e) m n =
-    let same = p (Ok x) (Err k) px pk (found_not_none x) (λ w. n (e ∙ err_lost k w)) in absurd (cc same)
-then_one P Q p q r s (stops k pk e) (goes_on y py qy) m n =
-    let same = p (Err k) (Ok y) pk py (λ w. m (e ∙ err_lost k w)) (found_not_none y) in absurd (cc same)
-then_one P Q p q r s (stops j pj d) (stops k pk e) m n =
-    let same = p (Err j) (Err k) pj pk (λ w. m (d ∙ err_lost j w)) (λ w. n (e ∙ err_lost k w)) in
+    q y r s i b j w (subst (λ z. Q z r i b) e qx) qy m n
+then_one P Q p q r s a b v w (goes_on x i px qx) (stops k pk e) m n =
+    let same = p (Ok x) (Err k) a i v w px pk (found_not_none x) (λ l. n (e ∙ err_lost k l)) in absurd (cc same)
+then_one P Q p q r s a b v w (stops k pk e) (goes_on y j py qy) m n =
+    let same = p (Err k) (Ok y) a b v j pk py (λ l. m (e ∙ err_lost k l)) (found_not_none y) in absurd (cc same)
+then_one P Q p q r s a b v w (stops j pj d) (stops k pk e) m n =
+    let same = p (Err j) (Err k) a b v w pj pk (λ l. m (d ∙ err_lost j l)) (λ l. n (e ∙ err_lost k l)) in
     let kinds : j ≡ k = cc same in
     d ∙ ap Err kinds ∙ sym e
 
-gives_one : {A : Type 0} (x : A) → IsOne (Gives x)
+still_one : {A : Type 0} (P : Result A LangKind → Type 0) → IsOneAlone P → IsOne (Still P)
+still_one P one r s a b v w h k m n = one r s h.0 k.0 m n
+
+once_one : {A : Type 0} (P : Result A LangKind → Type 0) → IsOneAlone P → IsOne (Once P)
+once_one P one r s a b v w h k m n = one r s h.0 k.0 m n
+
+gives_one : {A : Type 0} (x : A) → IsOneAlone (Gives x)
 gives_one x r s (inl e) (inl d) m n = e ∙ sym d
 gives_one x r s (inr e) k m n = absurd (m e)
 gives_one x r s (inl e) (inr d) m n = absurd (n d)
 
-guarded_one : {A : Type 0} (P : Type 0) (next : Result A LangKind → Type 0) → IsOne next → IsOne (Guarded P next)
-guarded_one P next one r s (inl h) (inl k) m n = one r s h.1 k.1 m n
-guarded_one P next one r s (inl h) (inr k) m n = absurd (k.0 h.0)
-guarded_one P next one r s (inr h) (inl k) m n = absurd (h.0 k.0)
-guarded_one P next one r s (inr h) (inr k) m n = h.1 ∙ sym k.1
+guarded_one : {A : Type 0} (P : Type 0) (next : Result A LangKind → (old new : ℕ) → Type 0) → IsOne next → IsOne (Guarded P next)
+guarded_one P next one r s a b v w (inl h) (inl k) m n = one r s a b v w h.1 k.1 m n
+guarded_one P next one r s a b v w (inl h) (inr k) m n = absurd (k.0 h.0)
+guarded_one P next one r s a b v w (inr h) (inl k) m n = absurd (h.0 k.0)
+guarded_one P next one r s a b v w (inr h) (inr k) m n = h.1.0 ∙ sym k.1.0
 
 -- ---- answers by limits: something that is one at most, or the limit that is passed
 data Limited {A : Type 0} (Is : A → Type 0) (Refused : LangKind → Type 0) (r : Result A LangKind) : Type 0 where
@@ -130,7 +140,7 @@ not_over op f g TooMany w h = w.few h
 not_over op f g TooWide w h = w.narrow h
 not_over op f g k w h = h
 
-call_one : {A : Type 0} (op : OpKind) (f g : SpecCurve) (Q : A → Type 0) → ((x y : A) → Q x → Q y → x ≡ y) → IsOne (CallFinds op f g Q)
+call_one : {A : Type 0} (op : OpKind) (f g : SpecCurve) (Q : A → Type 0) → ((x y : A) → Q x → Q y → x ≡ y) → IsOneAlone (CallFinds op f g Q)
 call_one op f g Q same r s h k m n =
     limited_one (λ x. IsWithin op f g × Q x) (OverCall op f g)
     record {
@@ -140,10 +150,10 @@ call_one op f g Q same r s h k m n =
     }
     r s (call_limited op f g Q r h) (call_limited op f g Q s k) m n
 
-curve_one : (op : OpKind) (f g : SpecCurve) → IsOne (CurveFinds op f g)
+curve_one : (op : OpKind) (f g : SpecCurve) → IsOneAlone (CurveFinds op f g)
 curve_one op f g = call_one op f g (IsMadeBy op f g) (λ x y a b. applies_determined.curve op f g x y a b)
 
-test_one : (z f : SpecCurve) → IsOne (TestFinds z f)
+test_one : (z f : SpecCurve) → IsOneAlone (TestFinds z f)
 test_one z f = call_one calls.Vertical z f (IsVerticalDeviation (value_at z) (value_at f)) (λ x y a b. (deviations_are_unique (value_at z) (value_at f) x y).1 a b)
 
 -- ---- kinds
@@ -188,7 +198,7 @@ kind_either R c TooMany fine w h = absurd (omega (arith, w.few, h.1.1))
 kind_either R c TooWide fine w h = absurd (omega (arith, w.narrow, h.1))
 kind_either R c k fine w h = h
 
-kind_one : (R : Type 0) (c : SpecCurve) → IsOne (KindFinds R c)
+kind_one : (R : Type 0) (c : SpecCurve) → IsOneAlone (KindFinds R c)
 kind_one R c r s h k m n =
     limited_one (λ x. ¬ R × IsWithinOwn c × (x ≡ c)) (OverKind R c)
     record {
@@ -198,17 +208,17 @@ kind_one R c r s h k m n =
     }
     r s (kind_limited R c r h) (kind_limited R c s k) m n
 
-bucket_one : (R : Type 0) (c : SpecCurve) → IsOne (BucketFinds R c)
+bucket_one : (R : Type 0) (c : SpecCurve) → IsOneAlone (BucketFinds R c)
 bucket_one R c r s (inl h) (inl k) m n = h.1 ∙ sym k.1
 bucket_one R c r s (inl h) (inr k) m n = absurd (k.0 h.0)
 bucket_one R c r s (inr h) (inl k) m n = absurd (h.0 k.0)
 bucket_one R c r s (inr h) (inr k) m n = gives_one c r s h.1 k.1 m n
 
-pair_one : (k : NumberPair) (x y : ℚ) → IsOne (PairFinds k x y)
+pair_one : (k : NumberPair) (x y : ℚ) → IsOneAlone (PairFinds k x y)
 pair_one Bucket x y = bucket_one (OneNegative x y) (bucket x y)
 pair_one Latency x y = kind_one (OneNegative x y) (rate_latency x y)
 
-triple_one : (k : NumberTriple) (x y z : ℚ) → IsOne (TripleFinds k x y z)
+triple_one : (k : NumberTriple) (x y z : ℚ) → IsOneAlone (TripleFinds k x y z)
 triple_one Stair x y z = kind_one (NoStair x y z) (stair x y z)
 triple_one Gate x y z = kind_one (NoGate x y z) (gate x y z)
 
@@ -218,12 +228,12 @@ OverClose f TooMany = CloseAnswer f (Err call_faults.TooMany)
 OverClose f TooWide = CloseAnswer f (Err call_faults.TooWide)
 OverClose f k = ⊥
 
-close_limited : (f : SpecCurve) (r : Found) → CloseFinds f r → Limited (λ h. CloseAnswer f (Ok h)) (OverClose f) r
-close_limited f (Ok x) h = is x h.0 refl
-close_limited f (Err TooMany) h = fault TooMany h refl
-close_limited f (Err TooWide) h = fault TooWide h refl
-close_limited f (Err NoMemory) h = memory refl
-close_limited f (Err k) h = absurd h
+close_limited : (f : SpecCurve) (r : Found) (old new : ℕ) → CloseFinds f r old new → Limited (λ h. CloseAnswer f (Ok h)) (OverClose f) r
+close_limited f (Ok x) old new h = is x h.0 refl
+close_limited f (Err TooMany) old new h = fault TooMany h.0 refl
+close_limited f (Err TooWide) old new h = fault TooWide h.0 refl
+close_limited f (Err NoMemory) old new h = memory refl
+close_limited f (Err k) old new h = absurd h
 
 fold_one : (f : SpecCurve) (r s : Result SpecCurve OpFault) → CloseAnswer f r → CloseAnswer f s → r ≢ Err call_faults.NoMemory
     → s ≢ Err call_faults.NoMemory → r ≡ s
@@ -249,39 +259,42 @@ close_limit f TooWide k a b = absurd b
 close_limit f j k a b = absurd a
 
 close_one : (f : SpecCurve) → IsOne (CloseFinds f)
-close_one f r s h k m n =
+close_one f r s a b v w h k m n =
     limited_one (λ x. CloseAnswer f (Ok x)) (OverClose f) record { same = close_same f; either = close_either f; one = close_limit f } r s
-    (close_limited f r h) (close_limited f s k) m n
+    (close_limited f r a b h) (close_limited f s v w k) m n
 
 -- ---- operators
 one_one : (k : CurveOperator) (f : SpecCurve) → IsOne (OneFinds k f)
 one_one Close f = close_one f
-one_one RunSup f = curve_one calls.RunSup f f
-one_one RunInf f = curve_one calls.RunInf f f
+one_one RunSup f = once_one (CurveFinds calls.RunSup f f) (curve_one calls.RunSup f f)
+one_one RunInf f = once_one (CurveFinds calls.RunInf f f) (curve_one calls.RunInf f f)
 
 one_made_one : (k : CurveOperator) (f : SpecCurve) → IsOne (OneMade k f)
 one_made_one k f =
     guarded_one (IsFinite (value_at f)) (Tested f (OneFinds k f))
-    (then_one (Gives zero_curve) (λ z. Then (TestFinds z f) (λ v. Guarded (IsNonnegative (value_at f)) (OneFinds k f))) (gives_one zero_curve)
-    (λ z. then_one (TestFinds z f) (λ v. Guarded (IsNonnegative (value_at f)) (OneFinds k f)) (test_one z f)
+    (then_one (Still (Gives zero_curve)) (λ z. Then (Once (TestFinds z f)) (λ v. Guarded (IsNonnegative (value_at f)) (OneFinds k f)))
+    (still_one (Gives zero_curve) (gives_one zero_curve))
+    (λ z. then_one (Once (TestFinds z f)) (λ v. Guarded (IsNonnegative (value_at f)) (OneFinds k f)) (once_one (TestFinds z f) (test_one z f))
     (λ v. guarded_one (IsNonnegative (value_at f)) (OneFinds k f) (one_one k f))))
 
 number_one : (k : NumberOperator) (f : SpecCurve) (x : ℚ) → IsOne (NumberMade k f x)
-number_one k f x = guarded_one (MayCallWith k f x) (CurveFinds (call_with k x) f f) (curve_one (call_with k x) f f)
+number_one k f x =
+    guarded_one (MayCallWith k f x) (Once (CurveFinds (call_with k x) f f)) (once_one (CurveFinds (call_with k x) f f) (curve_one (call_with k x) f f))
 
 two_one : (k : PairOperator) (f g : SpecCurve) → IsOne (TwoMade k f g)
-two_one k f g = guarded_one (MayCall k f g) (CurveFinds (call_of_two k) f g) (curve_one (call_of_two k) f g)
+two_one k f g =
+    guarded_one (MayCall k f g) (Once (CurveFinds (call_of_two k) f g)) (once_one (CurveFinds (call_of_two k) f g) (curve_one (call_of_two k) f g))
 
 -- ---- expressions
-name_one : (o : Option SpecCurve) → IsOne (NameFinds o)
+name_one : (o : Option SpecCurve) → IsOneAlone (NameFinds o)
 name_one None r s h k m n = h ∙ sym k
 name_one (Some c) r s h k m n = gives_one c r s h k m n
 
 pub finds_one : (ls : List Let) (e : Expression ℚ) → IsOne (Finds ls e)
-finds_one ls (Named w) = name_one (curve_named ls w)
-finds_one ls Nought = gives_one zero_curve
-finds_one ls (OfPair k x y) = pair_one k x y
-finds_one ls (OfTriple k x y z) = triple_one k x y z
+finds_one ls (Named w) = still_one (NameFinds (curve_named ls w)) (name_one (curve_named ls w))
+finds_one ls Nought = still_one (Gives zero_curve) (gives_one zero_curve)
+finds_one ls (OfPair k x y) = still_one (PairFinds k x y) (pair_one k x y)
+finds_one ls (OfTriple k x y z) = still_one (TripleFinds k x y z) (triple_one k x y z)
 finds_one ls (OnCurve k e) = then_one (Finds ls e) (OneMade k) (finds_one ls e) (one_made_one k)
 finds_one ls (OnNumber k e x) = then_one (Finds ls e) (λ f. NumberMade k f x) (finds_one ls e) (λ f. number_one k f x)
 finds_one ls (OnTwo k d e) =
@@ -294,7 +307,7 @@ value_limited f t (Ok v) h = inl (h.0, ap Ok h.1)
 value_limited f t (Err TooWide) h = inr (h, refl)
 value_limited f t (Err k) h = absurd h
 
-value_one : (f : SpecCurve) (t : ℚ) → IsOne (ValueFinds f t)
+value_one : (f : SpecCurve) (t : ℚ) → IsOneAlone (ValueFinds f t)
 value_one f t r s h k m n = elim (value_limited f t r h) [
   | inl a ↦ elim (value_limited f t s k) [ inl b ↦ a.1 ∙ sym b.1 | inr b ↦ absurd (apart a.0 b.0) ]
   | inr a ↦ elim (value_limited f t s k) [ inl b ↦ absurd (apart b.0 a.0) | inr b ↦ a.1 ∙ sym b.1 ]
@@ -303,13 +316,14 @@ value_one f t r s h k m n = elim (value_limited f t r h) [
     apart : {x y : ℕ} → x < y → y ≤ x → ⊥
     apart p q = omega arith
 
-equation_one : {A : Type 0} (x : A) (r s : Result A LangKind) → r ≡ Ok x → s ≡ Ok x → r ≡ s
-equation_one x r s h k = h ∙ sym k
+equation_one : {A : Type 0} (x : A) → IsOneAlone (λ r. r ≡ Ok x)
+equation_one x r s h k m n = h ∙ sym k
 
 time_one : (f : SpecCurve) (t : ℚ) → IsOne (TimeFinds f t)
 time_one f t =
     guarded_one (zero_q ≤ℚ t) (TellsValue f t)
-    (then_one (ValueFinds f t) (λ v s. s ≡ Ok (NumberIs words.Value v)) (value_one f t) (λ v r s h k m n. equation_one (NumberIs words.Value v) r s h k))
+    (then_one (Still (ValueFinds f t)) (λ v. Still (λ s. s ≡ Ok (NumberIs words.Value v))) (still_one (ValueFinds f t) (value_one f t))
+    (λ v. still_one (λ s. s ≡ Ok (NumberIs words.Value v)) (equation_one (NumberIs words.Value v))))
 
 same_truth : (P : Type 0) (a b : Bool) → (IsTrue a ↔ P) → (IsTrue b ↔ P) → a ≡ b
 same_truth P true true h k = refl
@@ -327,68 +341,74 @@ below_same : (f g : SpecCurve) (x y : Answered) → IsBelow f g x → IsBelow f 
 below_same f g x y (a, h, e) (b, k, d) =
     e ∙ ap (λ z. TruthIs words.Below z) (same_truth (FromZero (λ t. value_at f t ≤ₑ value_at g t)) a b h k) ∙ sym d
 
-equal_one : (f g : SpecCurve) → IsOne (TwoFinds Equal f g)
+equal_one : (f g : SpecCurve) → IsOneAlone (TellsEqual f g)
 equal_one f g r s (a, h, e) (b, k, d) m n = e ∙ ap (λ z. Ok (TruthIs words.Equal z)) (same_truth (HasSameValues f g) a b h k) ∙ sym d
 
 asked_one : (q : TwoAsked) (f g : SpecCurve) → IsOne (TwoFinds q f g)
-asked_one Delay f g = guarded_one (MayWait f g) (CallFinds calls.Horizontal f g (IsDelay f g)) (call_one calls.Horizontal f g (IsDelay f g) (delay_same f g))
-asked_one Backlog f g = guarded_one (IsFinite (value_at g)) (CallFinds calls.Vertical f g (IsBacklog f g)) (call_one calls.Vertical f g (IsBacklog f g) (backlog_same f g))
-asked_one Equal f g = equal_one f g
-asked_one Below f g = call_one calls.Min f g (IsBelow f g) (below_same f g)
+asked_one Delay f g =
+    guarded_one (MayWait f g) (Once (CallFinds calls.Horizontal f g (IsDelay f g)))
+    (once_one (CallFinds calls.Horizontal f g (IsDelay f g)) (call_one calls.Horizontal f g (IsDelay f g) (delay_same f g)))
+asked_one Backlog f g =
+    guarded_one (IsFinite (value_at g)) (Once (CallFinds calls.Vertical f g (IsBacklog f g)))
+    (once_one (CallFinds calls.Vertical f g (IsBacklog f g)) (call_one calls.Vertical f g (IsBacklog f g) (backlog_same f g)))
+asked_one Equal f g = still_one (TellsEqual f g) (equal_one f g)
+asked_one Below f g = once_one (CallFinds calls.Min f g (IsBelow f g)) (call_one calls.Min f g (IsBelow f g) (below_same f g))
 
 -- ---- statements
-kept_one : (P : Result Answered LangKind → Type 0) → IsOne P → IsOne (Kept P)
-kept_one P one = then_one P (λ a. Gives (AddsAnswer a)) one (λ a. gives_one (AddsAnswer a))
+kept_one : (P : Result Answered LangKind → (old new : ℕ) → Type 0) → IsOne P → IsOne (Kept P)
+kept_one P one = then_one P (λ a. Still (Gives (AddsAnswer a))) one (λ a. still_one (Gives (AddsAnswer a)) (gives_one (AddsAnswer a)))
 
-new_one : (o : Option SpecCurve) (next : Result Added LangKind → Type 0) → IsOne next → IsOne (NewName o next)
-new_one None next one r s h k m n = one r s h k m n
-new_one (Some c) next one r s h k m n = h ∙ sym k
+new_one : (o : Option SpecCurve) (next : Result Added LangKind → (old new : ℕ) → Type 0) → IsOne next → IsOne (NewName o next)
+new_one None next one r s a b v w h k m n = one r s a b v w h k m n
+new_one (Some c) next one r s a b v w h k m n = h.0 ∙ sym k.0
 
 statement_one : (ls : List Let) (s : Statement ℚ) → IsOne (StatementFinds ls s)
 statement_one ls (Lets w e) =
-    new_one (curve_named ls w) (Then (Finds ls e) (λ c. Gives (AddsName record { name = w; curve = c })))
-    (then_one (Finds ls e) (λ c. Gives (AddsName record { name = w; curve = c })) (finds_one ls e) (λ c. gives_one (AddsName record { name = w; curve = c })))
+    new_one (curve_named ls w) (Then (Finds ls e) (λ c. Still (Gives (AddsName record { name = w; curve = c }))))
+    (then_one (Finds ls e) (λ c. Still (Gives (AddsName record { name = w; curve = c }))) (finds_one ls e)
+    (λ c. still_one (Gives (AddsName record { name = w; curve = c })) (gives_one (AddsName record { name = w; curve = c }))))
 statement_one ls (ValueAt e t) = kept_one (AsksTime ls e t) (then_one (Finds ls e) (λ f. TimeFinds f t) (finds_one ls e) (λ f. time_one f t))
 statement_one ls (AsksOne q e) =
     kept_one (AsksOf ls q e)
-    (then_one (Finds ls e) (λ f s. s ≡ Ok (one_answer q f)) (finds_one ls e) (λ f r s h k m n. equation_one (one_answer q f) r s h k))
+    (then_one (Finds ls e) (λ f. Still (λ s. s ≡ Ok (one_answer q f))) (finds_one ls e)
+    (λ f. still_one (λ s. s ≡ Ok (one_answer q f)) (equation_one (one_answer q f))))
 statement_one ls (AsksTwo q d e) =
     kept_one (AsksBoth ls q d e)
     (then_one (Finds ls d) (λ f. Then (Finds ls e) (TwoFinds q f)) (finds_one ls d) (λ f. then_one (Finds ls e) (TwoFinds q f) (finds_one ls e) (asked_one q f)))
 
 -- ---- scripts
 -- the same of what is told of a script
-abbrev IsToldOnce : (Told → Type 0) → Type 0
-IsToldOnce P = (r s : Told) → P r → P s → r ≢ Err out_of_memory → s ≢ Err out_of_memory → r ≡ s
+abbrev IsToldOnce : (Told → (old new : ℕ) → Type 0) → Type 0
+IsToldOnce P = (r s : Told) (a b v w : ℕ) → P r a b → P s v w → r ≢ Err out_of_memory → s ≢ Err out_of_memory → r ≡ s
 
 fault_not : (k : LangKind) (line : ℕ) (r : Told) → r ≡ Err (fault_at k line) → r ≢ Err out_of_memory → ◌≢◌ {A = Result Added LangKind} (Err k) (Err NoMemory)
 fault_not k line r e m w = let same : k ≡ NoMemory = cc w in m (e ∙ ap (λ j. Err (fault_at j line)) same)
 
-line_one : (line : ℕ) (P : Result Added LangKind → Type 0) (next : Added → Told → Type 0) → IsOne P → ((x : Added) → IsToldOnce (next x))
-    → IsToldOnce (LineThen line P next)
-line_one line P next p q r s (line_on x px qx) (line_on y py qy) m n =
-    let same = p (Ok x) (Ok y) px py (found_not_none x) (found_not_none y) in
+line_one : (line : ℕ) (P : Result Added LangKind → (old new : ℕ) → Type 0) (next : Added → Told → (old new : ℕ) → Type 0) → IsOne P
+    → ((x : Added) → IsToldOnce (next x)) → IsToldOnce (LineThen line P next)
+line_one line P next p q r s a b v w (line_on x i px qx) (line_on y j py qy) m n =
+    let same = p (Ok x) (Ok y) a i v j px py (found_not_none x) (found_not_none y) in
     let e : x ≡ y = cc same in
-    q y r s (subst (λ z. next z r) e qx) qy m n
-line_one line P next p q r s (line_on x px qx) (line_stops k pk e) m n =
-    let same = p (Ok x) (Err k) px pk (found_not_none x) (fault_not k line s e n) in absurd (cc same)
-line_one line P next p q r s (line_stops k pk e) (line_on y py qy) m n =
-    let same = p (Err k) (Ok y) pk py (fault_not k line r e m) (found_not_none y) in absurd (cc same)
-line_one line P next p q r s (line_stops j pj d) (line_stops k pk e) m n =
-    let same = p (Err j) (Err k) pj pk (fault_not j line r d m) (fault_not k line s e n) in
+    q y r s i b j w (subst (λ z. next z r i b) e qx) qy m n
+line_one line P next p q r s a b v w (line_on x i px qx) (line_stops k pk e) m n =
+    let same = p (Ok x) (Err k) a i v w px pk (found_not_none x) (fault_not k line s e n) in absurd (cc same)
+line_one line P next p q r s a b v w (line_stops k pk e) (line_on y j py qy) m n =
+    let same = p (Err k) (Ok y) a b v j pk py (fault_not k line r e m) (found_not_none y) in absurd (cc same)
+line_one line P next p q r s a b v w (line_stops j pj d) (line_stops k pk e) m n =
+    let same = p (Err j) (Err k) a b v w pj pk (fault_not j line r d m) (fault_not k line s e n) in
     let kinds : j ≡ k = cc same in
     d ∙ ap (λ i. Err (fault_at i line)) kinds ∙ sym e
 
-added_one : (next : List Let → List Answered → Told → Type 0) → ((ls : List Let) (out : List Answered) → IsToldOnce (next ls out))
-    → (ls : List Let) (out : List Answered) (x : Added) → IsToldOnce (λ s. after_added (λ ms more. next ms more s) ls out x)
+added_one : (next : List Let → List Answered → Told → (old new : ℕ) → Type 0) → ((ls : List Let) (out : List Answered) → IsToldOnce (next ls out))
+    → (ls : List Let) (out : List Answered) (x : Added) → IsToldOnce (λ s m n. after_added (λ ms more. next ms more s m n) ls out x)
 added_one next one ls out (AddsName l) = one (ls ++ l ∷ []) out
 added_one next one ls out (AddsAnswer a) = one ls (out ++ a ∷ [])
 
 script_one : (lines : List Numbered) (ls : List Let) (out : List Answered) → IsToldOnce (ScriptFinds ls out lines)
-script_one [] ls out r s h k m n = h ∙ sym k
-script_one (l ∷ rest) ls out r s h k m n =
-    line_one l.0 (StatementFinds ls l.1) (λ x s. after_added (λ ms more. ScriptFinds ms more rest s) ls out x) (statement_one ls l.1)
-    (added_one (λ ms more s. ScriptFinds ms more rest s) (λ ms more. script_one rest ms more) ls out) r s h k m n
+script_one [] ls out r s a b v w h k m n = h.0 ∙ sym k.0
+script_one (l ∷ rest) ls out r s a b v w h k m n =
+    line_one l.0 (StatementFinds ls l.1) (λ x t i j. after_added (λ ms more. ScriptFinds ms more rest t i j) ls out x) (statement_one ls l.1)
+    (added_one (λ ms more t i j. ScriptFinds ms more rest t i j) (λ ms more. script_one rest ms more) ls out) r s a b v w h k m n
 
 pub scripts_find_one : ScriptsFindOne
-scripts_find_one lines = script_one lines [] []
+scripts_find_one lines r s h k m n = script_one lines [] [] r s h.old h.new k.old k.new h.finds k.finds m n

@@ -1,11 +1,12 @@
--- What calls of the evaluator find: what they make, or why there is none; and how they follow one another. Want of
--- memory may come at each place where a call takes any. (Own choice.)
-use Rattle.std.specs.Prelude.{◌≡◌, ◌⊎◌, ℕ, pos, ◌≤◌, ◌<◌, ◌^◌, Result, Ok, Err}
+-- What calls of the evaluator find: what they make, or why there is none; how they follow one another; and how many
+-- operators on curves are counted, `old` of them before and `new` by then. Want of memory may come at each place where a
+-- call takes any, and what is counted by then tells which operators were made before it: so the limit of an operator that
+-- is counted is never told as want of memory. (Own choice.)
+use Rattle.std.specs.Prelude.{◌≡◌, ◌⊎◌, ℕ, pos, ◌+◌, ◌≤◌, ◌<◌, ◌^◌, Result, Ok, Err}
 use Rattle.rational.specs.Rational.{ℚ, int, ◌≤ℚ◌, ◌<ℚ◌}
 use Rattle.rational.specs.MinMax.{max_q}
 use Rattle.rational.specs.Extended.{Ext}
-use Rattle.rational.specs.declared.Extended.TheVariants.{Fin}
-use Rattle.min_plus.specs.Functions.{zero_q, IsFinite, IsRising, IsNonnegative}
+use Rattle.min_plus.specs.Functions.{zero_q, IsFinite, IsRising}
 use Rattle.min_plus.specs.Convolution.{IsSubadditiveClosure}
 use Rattle.min_plus.specs.Deviations.{IsVerticalDeviation}
 use Rattle.upp_curve.specs.Curve.{SpecCurve, value_at}
@@ -22,6 +23,8 @@ use Rattle.upp_limits.specs.OwnLimits.{IsOver, IsWithinOwn}
 use Rattle.curve_call.specs.Answers.{IsMadeBy}
 use Rattle.curve_library.specs.Causes.{OneNegative, NoSlot}
 use Rattle.subadd_closure.specs.Folds.{CloseAnswer}
+use Rattle.subadd_closure.specs.FoldMemory.{CloseWants}
+use Rattle.subadd_closure.specs.FoldWork.{fold_work}
 use Rattle.curve_script.specs.declared.keyword.NumberPair.{NumberPair}
 use Rattle.curve_script.specs.declared.keyword.NumberPair.TheVariants.{Bucket, Latency}
 use Rattle.curve_script.specs.declared.keyword.NumberTriple.{NumberTriple}
@@ -33,27 +36,37 @@ use Rattle.curve_script.specs.declared.keyword.NumberOperator.TheVariants.{PosMi
 use Rattle.curve_script.specs.declared.keyword.PairOperator.{PairOperator}
 use Rattle.curve_script.specs.declared.keyword.PairOperator.TheVariants.{Sum, Min, Max, Conv, PosDiff, Deconv}
 use Rattle.curve_script.specs.declared.fault.LangKind.{LangKind}
-use Rattle.curve_script.specs.declared.fault.LangKind.TheVariants.{C1, C2, C3, C4, C5, C6, C7, C8, TooMany, TooWide, NoMemory}
+use Rattle.curve_script.specs.declared.fault.LangKind.TheVariants.{C7, C8, TooMany, TooWide, NoMemory}
 use Rattle.curve_lang.specs.Meaning.{FromZero}
 
 -- a curve, or why there is none
 abbrev pub Found : Type 0
 Found = Result SpecCurve LangKind
 
+-- ---- what is counted
+-- no operator is
+abbrev pub Still : {A : Type 0} → (Result A LangKind → Type 0) → Result A LangKind → (old new : ℕ) → Type 0
+Still P r old new = P r × (new ≡ old)
+
+-- one is
+abbrev pub Once : {A : Type 0} → (Result A LangKind → Type 0) → Result A LangKind → (old new : ℕ) → Type 0
+Once P r old new = P r × (new ≡ old + 1)
+
 -- ---- one finding after another
 -- r is what Q finds with what P finds, or why P finds nothing
-pub data Then {A B : Type 0} (P : Result A LangKind → Type 0) (Q : A → Result B LangKind → Type 0)
-    (r : Result B LangKind) : Type 0 where
-  goes_on : (x : A) → P (Ok x) → Q x r → Then P Q r
-  stops : (k : LangKind) → P (Err k) → r ≡ Err k → Then P Q r
+pub data Then {A B : Type 0} (P : Result A LangKind → (old new : ℕ) → Type 0)
+    (Q : A → Result B LangKind → (old new : ℕ) → Type 0) (r : Result B LangKind) (old new : ℕ) : Type 0 where
+  goes_on : (x : A) (between : ℕ) → P (Ok x) old between → Q x r between new → Then P Q r old new
+  stops : (k : LangKind) → P (Err k) old new → r ≡ Err k → Then P Q r old new
 
 -- x, unless memory runs out
 abbrev pub Gives : {A : Type 0} → A → Result A LangKind → Type 0
 Gives x r = (r ≡ Ok x) ⊎ (r ≡ Err NoMemory)
 
 -- what `next` finds where P holds, else C8
-abbrev pub Guarded : {A : Type 0} → Type 0 → (Result A LangKind → Type 0) → Result A LangKind → Type 0
-Guarded P next r = (P × next r) ⊎ (¬ P × (r ≡ Err C8))
+abbrev pub Guarded : {A : Type 0} → Type 0 → (Result A LangKind → (old new : ℕ) → Type 0) → Result A LangKind
+    → (old new : ℕ) → Type 0
+Guarded P next r old new = (P × next r old new) ⊎ (¬ P × Still (λ s. s ≡ Err C8) r old new)
 
 -- ---- calls on curves
 -- what a call on two curves finds by its limits; Q holds of what it makes
@@ -111,19 +124,21 @@ TripleFinds Stair packet period jitter r = KindFinds (NoStair packet period jitt
 TripleFinds Gate rate cycle slot r = KindFinds (NoGate rate cycle slot) (gate rate cycle slot) r
 
 -- ---- operators on one curve
--- what the closure of f finds, by the first operator of its fold that is over a limit
-abbrev pub CloseFinds : SpecCurve → Found → Type 0
-CloseFinds f (Ok h) = CloseAnswer f (Ok h) × IsCurve h
-    × FromZero (λ t. IsSubadditiveClosure (value_at f) t (value_at h t))
-CloseFinds f (Err TooMany) = CloseAnswer f (Err call_faults.TooMany)
-CloseFinds f (Err TooWide) = CloseAnswer f (Err call_faults.TooWide)
-CloseFinds f (Err NoMemory) = CloseAnswer f (Err call_faults.NoMemory) ⊎ ((h : SpecCurve) × CloseAnswer f (Ok h))
-CloseFinds f (Err k) = ⊥
+-- what the closure of f finds, by the first operator of its fold that is over a limit; where memory is wanting, by which
+-- of them was counted last, or after all
+abbrev pub CloseFinds : SpecCurve → Found → (old new : ℕ) → Type 0
+CloseFinds f (Ok h) old new = CloseAnswer f (Ok h) × IsCurve h
+    × FromZero (λ t. IsSubadditiveClosure (value_at f) t (value_at h t)) × (new ≡ old + fold_work f)
+CloseFinds f (Err TooMany) old new = CloseAnswer f (Err call_faults.TooMany) × (new ≤ old + fold_work f)
+CloseFinds f (Err TooWide) old new = CloseAnswer f (Err call_faults.TooWide) × (new ≤ old + fold_work f)
+CloseFinds f (Err NoMemory) old new =
+    CloseWants f old new ⊎ ((h : SpecCurve) × CloseAnswer f (Ok h) × (new ≡ old + fold_work f))
+CloseFinds f (Err k) old new = ⊥
 
-abbrev pub OneFinds : CurveOperator → SpecCurve → Found → Type 0
-OneFinds Close f r = CloseFinds f r
-OneFinds RunSup f r = CurveFinds calls.RunSup f f r
-OneFinds RunInf f r = CurveFinds calls.RunInf f f r
+abbrev pub OneFinds : CurveOperator → SpecCurve → Found → (old new : ℕ) → Type 0
+OneFinds Close f r old new = CloseFinds f r old new
+OneFinds RunSup f r old new = Once (CurveFinds calls.RunSup f f) r old new
+OneFinds RunInf f r old new = Once (CurveFinds calls.RunInf f f) r old new
 
 -- ---- conditions
 -- of an operator on two curves: the first of a positive difference is finite, and the second of a deconvolution

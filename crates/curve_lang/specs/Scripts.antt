@@ -15,14 +15,16 @@ HasAdded ls out (AddsAnswer a) ms more = (ms ≡ ls) × (more ≡ out ++ a ∷ [
 
 -- a statement is looked at: it finds something, which is added, or nothing
 abbrev pub IsAdded : {U : Type 0} → List Let → List Answered → Statement ℚ → List Let → List Answered
-    → Result U LangKind → Type 0
-IsAdded ls out s ms more (Ok u) = (x : Added) × StatementFinds ls s (Ok x) × HasAdded ls out x ms more
-IsAdded ls out s ms more (Err k) = StatementFinds ls s (Err k)
+    → Result U LangKind → (old new : ℕ) → Type 0
+IsAdded ls out s ms more (Ok u) old new = (x : Added) × StatementFinds ls s (Ok x) old new × HasAdded ls out x ms more
+IsAdded ls out s ms more (Err k) old new = StatementFinds ls s (Err k) old new
 
 -- a name is given
-abbrev pub IsGiven : {U : Type 0} → List Let → List ℕ → Expression ℚ → List Let → Result U LangKind → Type 0
-IsGiven ls w e ms (Ok u) = (l : Let) × StatementFinds ls (Lets w e) (Ok (AddsName l)) × (ms ≡ ls ++ l ∷ [])
-IsGiven ls w e ms (Err k) = StatementFinds ls (Lets w e) (Err k)
+abbrev pub IsGiven : {U : Type 0} → List Let → List ℕ → Expression ℚ → List Let → Result U LangKind → (old new : ℕ)
+    → Type 0
+IsGiven ls w e ms (Ok u) old new =
+    (l : Let) × StatementFinds ls (Lets w e) (Ok (AddsName l)) old new × (ms ≡ ls ++ l ∷ [])
+IsGiven ls w e ms (Err k) old new = StatementFinds ls (Lets w e) (Err k) old new
 
 -- an answer is added, unless memory runs out; a refusal stays
 abbrev pub IsKept : {U : Type 0} → Result Answered LangKind → List Answered → List Answered → Result U LangKind → Type 0

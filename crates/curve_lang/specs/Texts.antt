@@ -2,8 +2,6 @@
 use Rattle.std.specs.Prelude.{ℕ, Bool, true, false, List, [], ◌∷◌, ◌++◌, Option, Some, None, codes}
 use Rattle.std.specs.List.{flat_map}
 use Rattle.rational.specs.Rational.{ℚ}
-use Rattle.rational.specs.Extended.{Ext}
-use Rattle.rational.specs.declared.Extended.TheVariants.{Fin, Inf}
 use Rattle.fraction128.specs.Text.{text_of}
 use Rattle.plain_text.specs.Numbers.{number_text}
 use Rattle.affine_segment.specs.declared.line.Line.{Line}

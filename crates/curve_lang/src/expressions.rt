@@ -25,7 +25,7 @@ fn one_after<L: Ledger>(
     part: Result<Rc<Curve>, LangKind>,
     steps: &mut Steps<L>,
 ) -> Result<Rc<Curve>, LangKind>
-    ensures { OneAfter operator (found part) (found result) }
+    ensures { OneAfter operator (found part) (found result) steps.old steps.new }
 {
     match part {
         Ok(f) => one_made(alloc, operator, &f, steps),
@@ -41,7 +41,7 @@ fn number_after<L: Ledger>(
     x: Frac,
     steps: &mut Steps<L>,
 ) -> Result<Rc<Curve>, LangKind>
-    ensures { NumberAfter operator x (found part) (found result) }
+    ensures { NumberAfter operator x (found part) (found result) steps.old steps.new }
 {
     match part {
         Ok(f) => number_made(alloc, operator, &f, x, steps),
@@ -57,7 +57,7 @@ fn two_after<L: Ledger>(
     part: Result<Rc<Curve>, LangKind>,
     steps: &mut Steps<L>,
 ) -> Result<Rc<Curve>, LangKind>
-    ensures { TwoAfter operator f.now (found part) (found result) }
+    ensures { TwoAfter operator f.now (found part) (found result) steps.old steps.new }
 {
     match part {
         Ok(g) => two_made(alloc, operator, f, &g, steps),
@@ -72,7 +72,7 @@ pub(crate) fn curve_of<L: Ledger>(
     e: &Expr,
     steps: &mut Steps<L>,
 ) -> Result<Rc<Curve>, LangKind>
-    ensures { Finds (map let_view lets.now) (expression_view e.now) (found result) }
+    ensures { Finds (map let_view lets.now) (expression_view e.now) (found result) steps.old steps.new }
 {
     match form_of(e) {
         Form::Named(word) => named_curve(lets, word),

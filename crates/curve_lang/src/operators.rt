@@ -9,7 +9,7 @@ ghost use Rattle.curve_script.specs.declared.keyword.NumberOperator.TheVariants 
 ghost use Rattle.curve_script.specs.declared.keyword.CurveOperator.TheVariants as ones;
 ghost use Rattle.rational.specs.Extended.{◌<ₑ◌};
 ghost use Rattle.rational.specs.declared.Extended.TheVariants.{Fin};
-ghost use Rattle.curve_lang.specs.Finding.{OneFinds, TestFinds, zero_curve};
+ghost use Rattle.curve_lang.specs.Finding.{Once, OneFinds, TestFinds, zero_curve};
 ghost use Rattle.curve_lang.specs.Found.{TestedBy, OneMade, NumberMade, TwoMade};
 ghost use Rattle.curve_lang.specs.Views.{found};
 
@@ -37,7 +37,7 @@ fn sum_made<L: Ledger>(
     g: &Curve,
     steps: &mut Steps<L>,
 ) -> Result<Rc<Curve>, LangKind>
-    ensures { TwoMade twos.Sum f.now g.now (found result) }
+    ensures { TwoMade twos.Sum f.now g.now (found result) steps.old steps.new }
 {
     kept_call(alloc, intact(sum(alloc, f, g, steps)))
 }
@@ -48,7 +48,7 @@ fn min_made<L: Ledger>(
     g: &Curve,
     steps: &mut Steps<L>,
 ) -> Result<Rc<Curve>, LangKind>
-    ensures { TwoMade twos.Min f.now g.now (found result) }
+    ensures { TwoMade twos.Min f.now g.now (found result) steps.old steps.new }
 {
     kept_call(alloc, intact(min(alloc, f, g, steps)))
 }
@@ -59,7 +59,7 @@ fn max_made<L: Ledger>(
     g: &Curve,
     steps: &mut Steps<L>,
 ) -> Result<Rc<Curve>, LangKind>
-    ensures { TwoMade twos.Max f.now g.now (found result) }
+    ensures { TwoMade twos.Max f.now g.now (found result) steps.old steps.new }
 {
     kept_call(alloc, intact(max(alloc, f, g, steps)))
 }
@@ -70,7 +70,7 @@ fn convolution_made<L: Ledger>(
     g: &Curve,
     steps: &mut Steps<L>,
 ) -> Result<Rc<Curve>, LangKind>
-    ensures { TwoMade twos.Conv f.now g.now (found result) }
+    ensures { TwoMade twos.Conv f.now g.now (found result) steps.old steps.new }
 {
     kept_call(alloc, intact(convolve(alloc, f, g, steps)))
 }
@@ -81,7 +81,7 @@ fn difference_made<L: Ledger>(
     g: &Curve,
     steps: &mut Steps<L>,
 ) -> Result<Rc<Curve>, LangKind>
-    ensures { TwoMade twos.PosDiff f.now g.now (found result) }
+    ensures { TwoMade twos.PosDiff f.now g.now (found result) steps.old steps.new }
 {
     if !f.is_finite() {
         return Err(LangKind::C8);
@@ -95,7 +95,7 @@ fn deconvolution_made<L: Ledger>(
     g: &Curve,
     steps: &mut Steps<L>,
 ) -> Result<Rc<Curve>, LangKind>
-    ensures { TwoMade twos.Deconv f.now g.now (found result) }
+    ensures { TwoMade twos.Deconv f.now g.now (found result) steps.old steps.new }
 {
     if !g.is_finite() {
         return Err(LangKind::C8);
@@ -111,7 +111,7 @@ pub(crate) fn two_made<L: Ledger>(
     g: &Curve,
     steps: &mut Steps<L>,
 ) -> Result<Rc<Curve>, LangKind>
-    ensures { TwoMade operator f.now g.now (found result) }
+    ensures { TwoMade operator f.now g.now (found result) steps.old steps.new }
 {
     match operator {
         PairOperator::Sum => sum_made(alloc, f, g, steps),
@@ -129,7 +129,7 @@ fn less_made<L: Ledger>(
     level: Frac,
     steps: &mut Steps<L>,
 ) -> Result<Rc<Curve>, LangKind>
-    ensures { NumberMade numbers.PosMinus f.now level (found result) }
+    ensures { NumberMade numbers.PosMinus f.now level (found result) steps.old steps.new }
 {
     if !f.is_finite() {
         return Err(LangKind::C8);
@@ -146,7 +146,7 @@ fn multiple_made<L: Ledger>(
     factor: Frac,
     steps: &mut Steps<L>,
 ) -> Result<Rc<Curve>, LangKind>
-    ensures { NumberMade numbers.Scale f.now factor (found result) }
+    ensures { NumberMade numbers.Scale f.now factor (found result) steps.old steps.new }
 {
     if !f.is_finite() {
         return Err(LangKind::C8);
@@ -163,7 +163,7 @@ fn shift_made<L: Ledger>(
     by: Frac,
     steps: &mut Steps<L>,
 ) -> Result<Rc<Curve>, LangKind>
-    ensures { NumberMade numbers.Shift f.now by (found result) }
+    ensures { NumberMade numbers.Shift f.now by (found result) steps.old steps.new }
 {
     if is_less(by, Frac::zero()) {
         return Err(LangKind::C8);
@@ -179,7 +179,7 @@ pub(crate) fn number_made<L: Ledger>(
     x: Frac,
     steps: &mut Steps<L>,
 ) -> Result<Rc<Curve>, LangKind>
-    ensures { NumberMade operator f.now x (found result) }
+    ensures { NumberMade operator f.now x (found result) steps.old steps.new }
 {
     match operator {
         NumberOperator::PosMinus => less_made(alloc, f, x, steps),
@@ -195,7 +195,7 @@ fn closure_made<L: Ledger>(
 ) -> Result<Rc<Curve>, LangKind>
     requires finite { IsFinite (value_at f.now) }
     requires nonneg { IsNonnegative (value_at f.now) }
-    ensures { OneFinds ones.Close f.now (found result) }
+    ensures { OneFinds ones.Close f.now (found result) steps.old steps.new }
 {
     kept_call(alloc, intact(close(alloc, f, steps)))
 }
@@ -207,7 +207,7 @@ fn supremum_made<L: Ledger>(
 ) -> Result<Rc<Curve>, LangKind>
     requires finite { IsFinite (value_at f.now) }
     requires nonneg { IsNonnegative (value_at f.now) }
-    ensures { OneFinds ones.RunSup f.now (found result) }
+    ensures { OneFinds ones.RunSup f.now (found result) steps.old steps.new }
 {
     kept_call(alloc, intact(run_sup(alloc, f, steps)))
 }
@@ -219,7 +219,7 @@ fn infimum_made<L: Ledger>(
 ) -> Result<Rc<Curve>, LangKind>
     requires finite { IsFinite (value_at f.now) }
     requires nonneg { IsNonnegative (value_at f.now) }
-    ensures { OneFinds ones.RunInf f.now (found result) }
+    ensures { OneFinds ones.RunInf f.now (found result) steps.old steps.new }
 {
     kept_call(alloc, intact(run_inf(alloc, f, steps)))
 }
@@ -233,7 +233,7 @@ fn one_of<L: Ledger>(
 ) -> Result<Rc<Curve>, LangKind>
     requires finite { IsFinite (value_at f.now) }
     requires nonneg { IsNonnegative (value_at f.now) }
-    ensures { OneFinds operator f.now (found result) }
+    ensures { OneFinds operator f.now (found result) steps.old steps.new }
 {
     match operator {
         CurveOperator::Close => closure_made(alloc, f, steps),
@@ -245,7 +245,7 @@ fn one_of<L: Ledger>(
 // How far the zero curve is above a curve.
 fn tested<L: Ledger>(zero: &Curve, f: &Curve, steps: &mut Steps<L>) -> Result<Ext, LangKind>
     requires { IsFinite (value_at f.now) }
-    ensures { TestFinds zero.now f.now result }
+    ensures { Once (TestFinds zero.now f.now) result steps.old steps.new }
 {
     match vertical(zero, f, steps) {
         Ok(above) => Ok(above),
@@ -272,7 +272,7 @@ fn one_tested<L: Ledger>(
 ) -> Result<Rc<Curve>, LangKind>
     requires finite { IsFinite (value_at f.now) }
     requires zero { zero.now ≡ zero_curve }
-    ensures { TestedBy zero.now f.now (OneFinds operator f.now) (found result) }
+    ensures { TestedBy zero.now f.now (OneFinds operator f.now) (found result) steps.old steps.new }
 {
     match tested(zero, f, steps) {
         Ok(above) => {
@@ -292,7 +292,7 @@ pub(crate) fn one_made<L: Ledger>(
     f: &Curve,
     steps: &mut Steps<L>,
 ) -> Result<Rc<Curve>, LangKind>
-    ensures { OneMade operator f.now (found result) }
+    ensures { OneMade operator f.now (found result) steps.old steps.new }
 {
     if !f.is_finite() {
         return Err(LangKind::C8);

@@ -1,6 +1,6 @@
 //! Answers of questions about curves.
 
-ghost use Rattle.std.specs.Prelude.{◌≡◌, Ok};
+ghost use Rattle.std.specs.Prelude.{◌≡◌, ℕ, Ok};
 ghost use Rattle.curve_script.specs.declared.keyword.TwoAsked.TheVariants as asked;
 ghost use Rattle.curve_lang.specs.Answers.{one_answer};
 ghost use Rattle.curve_lang.specs.Finding.{Guarded};
@@ -22,7 +22,7 @@ use upp_curve::{Curve, equal};
 
 /// The answer of a question about the value at a time.
 pub(crate) fn value_told(f: &Curve, t: Frac) -> Result<Answer, LangKind>
-    ensures { TimeFinds f.now t (told result) }
+    ensures { (n : ℕ) → TimeFinds f.now t (told result) n n }
 {
     if is_less(t, Frac::zero()) {
         return Err(LangKind::C8);
@@ -50,7 +50,7 @@ pub(crate) fn one_told(question: OneAsked, f: Rc<Curve>) -> Answer
 }
 
 fn delay_told<L: Ledger>(f: &Curve, g: &Curve, steps: &mut Steps<L>) -> Result<Answer, LangKind>
-    ensures { TwoFinds asked.Delay f.now g.now (told result) }
+    ensures { TwoFinds asked.Delay f.now g.now (told result) steps.old steps.new }
 {
     if !g.is_finite() {
         return Err(LangKind::C8);
@@ -71,7 +71,7 @@ fn delay_told<L: Ledger>(f: &Curve, g: &Curve, steps: &mut Steps<L>) -> Result<A
 }
 
 fn backlog_told<L: Ledger>(f: &Curve, g: &Curve, steps: &mut Steps<L>) -> Result<Answer, LangKind>
-    ensures { TwoFinds asked.Backlog f.now g.now (told result) }
+    ensures { TwoFinds asked.Backlog f.now g.now (told result) steps.old steps.new }
 {
     if !g.is_finite() {
         return Err(LangKind::C8);
@@ -86,7 +86,7 @@ fn backlog_told<L: Ledger>(f: &Curve, g: &Curve, steps: &mut Steps<L>) -> Result
 }
 
 fn equal_told(f: &Curve, g: &Curve) -> Result<Answer, LangKind>
-    ensures { TwoFinds asked.Equal f.now g.now (told result) }
+    ensures { (n : ℕ) → TwoFinds asked.Equal f.now g.now (told result) n n }
 {
     Ok(Answer::Truth {
         word: Word::Equal,
@@ -101,7 +101,7 @@ fn below_told<L: Ledger>(
     g: &Curve,
     steps: &mut Steps<L>,
 ) -> Result<Answer, LangKind>
-    ensures { TwoFinds asked.Below f.now g.now (told result) }
+    ensures { TwoFinds asked.Below f.now g.now (told result) steps.old steps.new }
 {
     match min(alloc, f, g, steps) {
         Ok(lesser) => Ok(Answer::Truth {
@@ -120,7 +120,7 @@ pub(crate) fn two_told<L: Ledger>(
     g: &Curve,
     steps: &mut Steps<L>,
 ) -> Result<Answer, LangKind>
-    ensures { TwoFinds question f.now g.now (told result) }
+    ensures { TwoFinds question f.now g.now (told result) steps.old steps.new }
 {
     match question {
         TwoAsked::Delay => delay_told(f, g, steps),

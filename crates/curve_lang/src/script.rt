@@ -31,7 +31,7 @@ fn give<L: Ledger>(
     steps: &mut Steps<L>,
 ) -> Result<(), LangKind>
     ensures { IsGiven (map let_view lets.old.items) word.now (expression_view e.now)
-        (map let_view lets.new.items) result }
+        (map let_view lets.new.items) result steps.old steps.new }
 {
     if is_given(lets, word) {
         return Err(LangKind::C5);
@@ -53,7 +53,7 @@ fn time_asked<L: Ledger>(
     t: Frac,
     steps: &mut Steps<L>,
 ) -> Result<Answer, LangKind>
-    ensures { AsksTime (map let_view lets.now) (expression_view e.now) t (told result) }
+    ensures { AsksTime (map let_view lets.now) (expression_view e.now) t (told result) steps.old steps.new }
 {
     match curve_of(alloc, lets, e, steps) {
         Ok(f) => value_told(&f, t),
@@ -69,7 +69,7 @@ fn one_asked<L: Ledger>(
     e: &Expr,
     steps: &mut Steps<L>,
 ) -> Result<Answer, LangKind>
-    ensures { AsksOf (map let_view lets.now) question (expression_view e.now) (told result) }
+    ensures { AsksOf (map let_view lets.now) question (expression_view e.now) (told result) steps.old steps.new }
 {
     match curve_of(alloc, lets, e, steps) {
         Ok(f) => Ok(one_told(question, f)),
@@ -85,7 +85,7 @@ fn asked_after<L: Ledger>(
     part: Result<Rc<Curve>, LangKind>,
     steps: &mut Steps<L>,
 ) -> Result<Answer, LangKind>
-    ensures { AskedAfter question f.now (found part) (told result) }
+    ensures { AskedAfter question f.now (found part) (told result) steps.old steps.new }
 {
     match part {
         Ok(g) => two_told(alloc, question, f, &g, steps),
@@ -102,7 +102,8 @@ fn two_asked<L: Ledger>(
     b: &Expr,
     steps: &mut Steps<L>,
 ) -> Result<Answer, LangKind>
-    ensures { AsksBoth (map let_view lets.now) question (expression_view a.now) (expression_view b.now) (told result) }
+    ensures { AsksBoth (map let_view lets.now) question (expression_view a.now) (expression_view b.now) (told result)
+        steps.old steps.new }
 {
     match curve_of(alloc, lets, a, steps) {
         Ok(f) => {
@@ -135,7 +136,7 @@ fn add<L: Ledger>(
     steps: &mut Steps<L>,
 ) -> Result<(), LangKind>
     ensures { IsAdded (map let_view lets.old.items) (map answer_view answers.old.items) (statement_view statement.now)
-        (map let_view lets.new.items) (map answer_view answers.new.items) result }
+        (map let_view lets.new.items) (map answer_view answers.new.items) result steps.old steps.new }
 {
     match question_of(statement) {
         Question::Lets(word, e) => give(alloc, lets, word, e, steps),
@@ -163,13 +164,14 @@ fn fault_at(kind: LangKind, line: u32) -> LangFault
 /// a name that is given twice (C5) or was not given before (C6), a kind of curve that is refused (C7), a condition of
 /// an operator that is not met or a time below 0 (C8), and a curve, an operator or a `value` that is over a limit.
 /// The arguments of an operator are looked at before it, from left to right, and a `let` looks at its name first. The
-/// line is 0 where memory ran out, and only there.
+/// line is 0 where memory ran out, and only there. Each operator on curves counts one step, and a closure one for each of
+/// its fold: what was counted tells where memory ran out, so that each operator that is counted is within its limits.
 pub fn eval_script<L: Ledger>(
     alloc: Global,
     script: &Script,
     steps: &mut Steps<L>,
 ) -> Result<Vec<Answer>, LangFault>
-    ensures found { ScriptFinds [] [] (map line_view script.now.lines.items) (told_script result) }
+    ensures found { ScriptFinds [] [] (map line_view script.now.lines.items) (told_script result) steps.old steps.new }
     ensures meaning { IfOk result
         (λ v. ScriptMeans [] (map line_view script.now.lines.items) (map answer_view v.items)) }
 {

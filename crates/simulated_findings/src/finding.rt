@@ -47,14 +47,15 @@ fn found_in(
 
 /// What is found in the stated run of a network and a trace: how many packets enter, when it ends, the largest delay of
 /// each flow (in units of time), the greatest backlog of each queue (in bits), and what it breaks first. Want of memory
-/// apart, `TooWide` exactly where the simulation gauge of both is 2^120 or more; `NoMemory` only where an allocation is
-/// refused.
+/// apart, `TooWide` exactly where the simulation gauge of both is 2^120 or more; `NoMemory` only below it, where an
+/// allocation is refused.
 pub fn find(alloc: Global, net: &Network, trace: &Trace) -> Result<RunFound, SimFault>
     requires curves { AreCurves net.now }
     requires named { IsTraceOf net.now trace.now }
     requires free { IsFeedForward net.now }
     ensures found { IfOk result (λ f. IsFound net.now trace.now (found_of f)) }
     ensures refused { IsErrOf result SimFault.TooWide → 2 ^ 120 ≤ simulation_gauge net.now trace.now }
+    ensures memory { IsErrOf result SimFault.NoMemory → simulation_gauge net.now trace.now < 2 ^ 120 }
 {
     let sim = simulate(alloc, net, trace)?;
     let found = found_in(alloc, net, trace, sim)?;

@@ -33,29 +33,42 @@ pub returns-in-OnCurve : goal.returns-in-OnCurve
 returns-in-OnCurve g t c =
     let ls = map let_view c.args.lets.now in
     let r = found c.one_after.result in
-    subst (λ e. Finds ls e r) (sym (ap form_view c.in-OnCurve.is) ∙ c.form_of.ensures)
-    (one_then (Finds ls (expression_view c.in-OnCurve.a.now)) c.in-OnCurve.operator (found c.curve_of-part.result) r c.curve_of-part.ensures c.one_after.ensures)
+    let old = c.args.steps.now in
+    let between = c.curve_of-part.new.steps in
+    let new = c.one_after.new.steps in
+    subst (λ e. Finds ls e r old new) (sym (ap form_view c.in-OnCurve.is) ∙ c.form_of.ensures)
+    (one_then (Finds ls (expression_view c.in-OnCurve.a.now)) c.in-OnCurve.operator (found c.curve_of-part.result) r old between new
+    c.curve_of-part.ensures c.one_after.ensures)
 
 pub returns-in-OnNumber : goal.returns-in-OnNumber
 returns-in-OnNumber g t c =
     let ls = map let_view c.args.lets.now in
     let r = found c.number_after.result in
-    subst (λ e. Finds ls e r) (sym (ap form_view c.in-OnNumber.is) ∙ c.form_of.ensures)
-    (number_then (Finds ls (expression_view c.in-OnNumber.a.now)) c.in-OnNumber.operator c.in-OnNumber.x (found c.curve_of-part-in-OnNumber.result) r c.curve_of-part-in-OnNumber.ensures
-    c.number_after.ensures)
+    let old = c.args.steps.now in
+    let between = c.curve_of-part-in-OnNumber.new.steps in
+    let new = c.number_after.new.steps in
+    subst (λ e. Finds ls e r old new) (sym (ap form_view c.in-OnNumber.is) ∙ c.form_of.ensures)
+    (number_then (Finds ls (expression_view c.in-OnNumber.a.now)) c.in-OnNumber.operator c.in-OnNumber.x (found c.curve_of-part-in-OnNumber.result) r old between new
+    c.curve_of-part-in-OnNumber.ensures c.number_after.ensures)
 
 pub returns-in-Ok : goal.returns-in-Ok
 returns-in-Ok g t c =
     let ls = map let_view c.args.lets.now in
     let r = found c.two_after.result in
     let part = found c.curve_of-part-in-Ok.result in
-    subst (λ e. Finds ls e r) (sym (ap form_view c.in-OnTwo.is) ∙ c.form_of.ensures)
-    (goes_on c.in-Ok.f.value (subst (λ x. Finds ls (expression_view c.in-OnTwo.a.now) (found x)) c.in-Ok.is c.curve_of.ensures)
-    (two_then (Finds ls (expression_view c.in-OnTwo.b.now)) c.in-OnTwo.operator c.in-Ok.f.value part r c.curve_of-part-in-Ok.ensures
-    (subst (λ f. TwoAfter c.in-OnTwo.operator f part r) c.deref.ensures c.two_after.ensures)))
+    let old = c.args.steps.now in
+    let first = c.curve_of.new.steps in
+    let both = c.curve_of-part-in-Ok.new.steps in
+    let new = c.two_after.new.steps in
+    subst (λ e. Finds ls e r old new) (sym (ap form_view c.in-OnTwo.is) ∙ c.form_of.ensures)
+    (goes_on c.in-Ok.f.value first (subst (λ x. Finds ls (expression_view c.in-OnTwo.a.now) (found x) old first) c.in-Ok.is c.curve_of.ensures)
+    (two_then (Finds ls (expression_view c.in-OnTwo.b.now)) c.in-OnTwo.operator c.in-Ok.f.value part r first both new c.curve_of-part-in-Ok.ensures
+    (subst (λ f. TwoAfter c.in-OnTwo.operator f part r both new) c.deref.ensures c.two_after.ensures)))
 
 pub returns-in-Err : goal.returns-in-Err
 returns-in-Err g t c =
     let ls = map let_view c.args.lets.now in
-    subst (λ e. Finds ls e (found (Err c.in-Err.kind))) (sym (ap form_view c.in-OnTwo.is) ∙ c.form_of.ensures)
-    (stops c.in-Err.kind (subst (λ x. Finds ls (expression_view c.in-OnTwo.a.now) (found x)) c.in-Err.is c.curve_of.ensures) refl)
+    let old = c.args.steps.now in
+    let new = c.curve_of.new.steps in
+    subst (λ e. Finds ls e (found (Err c.in-Err.kind)) old new) (sym (ap form_view c.in-OnTwo.is) ∙ c.form_of.ensures)
+    (stops c.in-Err.kind (subst (λ x. Finds ls (expression_view c.in-OnTwo.a.now) (found x) old new) c.in-Err.is c.curve_of.ensures) refl)

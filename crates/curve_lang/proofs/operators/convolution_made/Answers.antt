@@ -8,7 +8,10 @@ use Rattle.curve_lang.proofs.operators.convolution_made.Goals as goal
 pub returns : goal.returns
 returns g c = inl (
   tt,
-  call_found (calls.Convolve) c.args.f.now c.args.g.now c.intact.result (found c.kept_call.result)
-      (applied_seen (calls.Convolve) c.args.f.now c.args.g.now c.convolve.result c.intact.result c.intact.ensures.same c.convolve.ensures.value c.convolve.ensures.limits c.intact.ensures.kept)
-      c.kept_call.ensures,
+  (
+    call_found (calls.Convolve) c.args.f.now c.args.g.now c.intact.result (found c.kept_call.result)
+        (applied_seen (calls.Convolve) c.args.f.now c.args.g.now c.convolve.result c.intact.result c.intact.ensures.same c.convolve.ensures.value c.convolve.ensures.limits c.intact.ensures.kept)
+        c.kept_call.ensures,
+    c.convolve.ensures.count,
+  ),
 )

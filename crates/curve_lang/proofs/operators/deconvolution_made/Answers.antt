@@ -11,7 +11,10 @@ deconvolve-requires g c = c.is_finite.ensures.0 c.if-not-is_finite.false
 pub returns : goal.returns
 returns g c = inl (
   c.is_finite.ensures.0 c.if-not-is_finite.false,
-  call_found (calls.Deconvolve) c.args.f.now c.args.g.now c.intact.result (found c.kept_call.result)
-      (applied_seen (calls.Deconvolve) c.args.f.now c.args.g.now c.deconvolve.result c.intact.result c.intact.ensures.same c.deconvolve.ensures.value c.deconvolve.ensures.limits c.intact.ensures.kept)
-      c.kept_call.ensures,
+  (
+    call_found (calls.Deconvolve) c.args.f.now c.args.g.now c.intact.result (found c.kept_call.result)
+        (applied_seen (calls.Deconvolve) c.args.f.now c.args.g.now c.deconvolve.result c.intact.result c.intact.ensures.same c.deconvolve.ensures.value c.deconvolve.ensures.limits c.intact.ensures.kept)
+        c.kept_call.ensures,
+    c.deconvolve.ensures.count,
+  ),
 )

@@ -11,7 +11,10 @@ pos_diff-requires g c = c.is_finite.ensures.0 c.if-not-is_finite.false
 pub returns : goal.returns
 returns g c = inl (
   c.is_finite.ensures.0 c.if-not-is_finite.false,
-  call_found (calls.PosDiff) c.args.f.now c.args.g.now c.intact.result (found c.kept_call.result)
-      (applied_seen (calls.PosDiff) c.args.f.now c.args.g.now c.pos_diff.result c.intact.result c.intact.ensures.same c.pos_diff.ensures.value c.pos_diff.ensures.limits c.intact.ensures.kept)
-      c.kept_call.ensures,
+  (
+    call_found (calls.PosDiff) c.args.f.now c.args.g.now c.intact.result (found c.kept_call.result)
+        (applied_seen (calls.PosDiff) c.args.f.now c.args.g.now c.pos_diff.result c.intact.result c.intact.ensures.same c.pos_diff.ensures.value c.pos_diff.ensures.limits c.intact.ensures.kept)
+        c.kept_call.ensures,
+    c.pos_diff.ensures.count,
+  ),
 )

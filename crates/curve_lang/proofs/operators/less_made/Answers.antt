@@ -9,10 +9,10 @@ use Rattle.curve_lang.proofs.Kept.{call_found}
 use Rattle.curve_lang.proofs.operators.less_made.Goals as goal
 
 pub returns-then-not-is_finite : goal.returns-then-not-is_finite
-returns-then-not-is_finite g c = inr ((λ h. true≢false (sym (c.if-not-is_finite.ensures.1 h.0))), refl)
+returns-then-not-is_finite g c = inr ((λ h. true≢false (sym (c.if-not-is_finite.ensures.1 h.0))), (refl, refl))
 
 pub returns-then-is_less : goal.returns-then-is_less
-returns-then-is_less g c = inr ((λ h. not_le_of_lt (subst (λ z. c.args.level <ℚ z) c.zero.ensures (c.is_less.ensures.less.0 c.if-is_less.true)) h.1), refl)
+returns-then-is_less g c = inr ((λ h. not_le_of_lt (subst (λ z. c.args.level <ℚ z) c.zero.ensures (c.is_less.ensures.less.0 c.if-is_less.true)) h.1), (refl, refl))
 
 pub pos_minus-requires : goal.pos_minus-requires
 pos_minus-requires g c = c.is_finite.ensures.0 c.if-not-is_finite.false
@@ -20,7 +20,10 @@ pos_minus-requires g c = c.is_finite.ensures.0 c.if-not-is_finite.false
 pub returns : goal.returns
 returns g c = inl (
   (c.is_finite.ensures.0 c.if-not-is_finite.false, subst (λ z. z ≤ℚ c.args.level) c.zero.ensures (not_less_out c.is_less.result c.args.level c.zero.result c.is_less.ensures.less c.if-is_less.false)),
-  call_found (calls.PosMinus c.args.level) c.args.f.now c.args.f.now c.intact.result (found c.kept_call.result)
-      (applied_seen (calls.PosMinus c.args.level) c.args.f.now c.args.f.now c.pos_minus.result c.intact.result c.intact.ensures.same c.pos_minus.ensures.value c.pos_minus.ensures.limits c.intact.ensures.kept)
-      c.kept_call.ensures,
+  (
+    call_found (calls.PosMinus c.args.level) c.args.f.now c.args.f.now c.intact.result (found c.kept_call.result)
+        (applied_seen (calls.PosMinus c.args.level) c.args.f.now c.args.f.now c.pos_minus.result c.intact.result c.intact.ensures.same c.pos_minus.ensures.value c.pos_minus.ensures.limits c.intact.ensures.kept)
+        c.kept_call.ensures,
+    c.pos_minus.ensures.count,
+  ),
 )

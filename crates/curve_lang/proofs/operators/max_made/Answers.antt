@@ -8,7 +8,10 @@ use Rattle.curve_lang.proofs.operators.max_made.Goals as goal
 pub returns : goal.returns
 returns g c = inl (
   tt,
-  call_found (calls.Max) c.args.f.now c.args.g.now c.intact.result (found c.kept_call.result)
-      (applied_seen (calls.Max) c.args.f.now c.args.g.now c.max.result c.intact.result c.intact.ensures.same c.max.ensures.value c.max.ensures.limits c.intact.ensures.kept)
-      c.kept_call.ensures,
+  (
+    call_found (calls.Max) c.args.f.now c.args.g.now c.intact.result (found c.kept_call.result)
+        (applied_seen (calls.Max) c.args.f.now c.args.g.now c.max.result c.intact.result c.intact.ensures.same c.max.ensures.value c.max.ensures.limits c.intact.ensures.kept)
+        c.kept_call.ensures,
+    c.max.ensures.count,
+  ),
 )

@@ -8,7 +8,10 @@ use Rattle.curve_lang.proofs.operators.min_made.Goals as goal
 pub returns : goal.returns
 returns g c = inl (
   tt,
-  call_found (calls.Min) c.args.f.now c.args.g.now c.intact.result (found c.kept_call.result)
-      (applied_seen (calls.Min) c.args.f.now c.args.g.now c.min.result c.intact.result c.intact.ensures.same c.min.ensures.value c.min.ensures.limits c.intact.ensures.kept)
-      c.kept_call.ensures,
+  (
+    call_found (calls.Min) c.args.f.now c.args.g.now c.intact.result (found c.kept_call.result)
+        (applied_seen (calls.Min) c.args.f.now c.args.g.now c.min.result c.intact.result c.intact.ensures.same c.min.ensures.value c.min.ensures.limits c.intact.ensures.kept)
+        c.kept_call.ensures,
+    c.min.ensures.count,
+  ),
 )

@@ -16,13 +16,14 @@ pub returns-in-Ok : goal.returns-in-Ok
 returns-in-Ok g c =
     inl (
       c.is_finite.ensures.0 c.if-not-is_finite.false,
-      goes_on c.in-Ok.zero.value (subst (λ x. Gives zero_curve (found x)) c.in-Ok.is c.zero_found.ensures)
-          (subst (λ z. TestedBy z c.args.f.now (OneFinds c.args.operator c.args.f.now) (found c.one_tested.result)) c.deref.ensures c.one_tested.ensures),
+      goes_on c.in-Ok.zero.value c.args.steps.now (subst (λ x. Gives zero_curve (found x)) c.in-Ok.is c.zero_found.ensures, refl)
+          (subst (λ z. TestedBy z c.args.f.now (OneFinds c.args.operator c.args.f.now) (found c.one_tested.result) c.args.steps.now c.one_tested.new.steps)
+          c.deref.ensures c.one_tested.ensures),
     )
 
 pub returns-in-Err : goal.returns-in-Err
 returns-in-Err g c =
     inl (
       c.is_finite.ensures.0 c.if-not-is_finite.false,
-      stops c.in-Err.kind (subst (λ x. Gives zero_curve (found x)) c.in-Err.is c.zero_found.ensures) refl,
+      stops c.in-Err.kind (subst (λ x. Gives zero_curve (found x)) c.in-Err.is c.zero_found.ensures, refl) refl,
     )

@@ -10,7 +10,7 @@ use Rattle.curve_lang.proofs.Kept.{call_found}
 use Rattle.curve_lang.proofs.operators.shift_made.Goals as goal
 
 pub returns-then-is_less : goal.returns-then-is_less
-returns-then-is_less g c = inr ((λ h. not_le_of_lt (subst (λ z. c.args.by <ℚ z) c.zero.ensures (c.is_less.ensures.less.0 c.if-is_less.true)) h), refl)
+returns-then-is_less g c = inr ((λ h. not_le_of_lt (subst (λ z. c.args.by <ℚ z) c.zero.ensures (c.is_less.ensures.less.0 c.if-is_less.true)) h), (refl, refl))
 
 pub shift-requires : goal.shift-requires
 shift-requires g c = subst (λ z. z ≤ℚ c.args.by) c.zero.ensures (not_less_out c.is_less.result c.args.by c.zero.result c.is_less.ensures.less c.if-is_less.false)
@@ -18,7 +18,10 @@ shift-requires g c = subst (λ z. z ≤ℚ c.args.by) c.zero.ensures (not_less_o
 pub returns : goal.returns
 returns g c = inl (
   subst (λ z. z ≤ℚ c.args.by) c.zero.ensures (not_less_out c.is_less.result c.args.by c.zero.result c.is_less.ensures.less c.if-is_less.false),
-  call_found (calls.Shift (Fin c.args.by)) c.args.f.now c.args.f.now c.intact.result (found c.kept_call.result)
-      (applied_seen (calls.Shift (Fin c.args.by)) c.args.f.now c.args.f.now c.shift.result c.intact.result c.intact.ensures.same c.shift.ensures.value c.shift.ensures.limits c.intact.ensures.kept)
-      c.kept_call.ensures,
+  (
+    call_found (calls.Shift (Fin c.args.by)) c.args.f.now c.args.f.now c.intact.result (found c.kept_call.result)
+        (applied_seen (calls.Shift (Fin c.args.by)) c.args.f.now c.args.f.now c.shift.result c.intact.result c.intact.ensures.same c.shift.ensures.value c.shift.ensures.limits c.intact.ensures.kept)
+        c.kept_call.ensures,
+    c.shift.ensures.count,
+  ),
 )

@@ -5,6 +5,9 @@ use Rattle.curve_lang.proofs.Kept.{call_found}
 use Rattle.curve_lang.proofs.operators.supremum_made.Goals as goal
 
 pub returns : goal.returns
-returns g c = call_found (calls.RunSup) c.args.f.now c.args.f.now c.intact.result (found c.kept_call.result)
-    (applied_seen (calls.RunSup) c.args.f.now c.args.f.now c.run_sup.result c.intact.result c.intact.ensures.same c.run_sup.ensures.value c.run_sup.ensures.limits c.intact.ensures.kept)
-    c.kept_call.ensures
+returns g c = (
+  call_found (calls.RunSup) c.args.f.now c.args.f.now c.intact.result (found c.kept_call.result)
+      (applied_seen (calls.RunSup) c.args.f.now c.args.f.now c.run_sup.result c.intact.result c.intact.ensures.same c.run_sup.ensures.value c.run_sup.ensures.limits c.intact.ensures.kept)
+      c.kept_call.ensures,
+  c.run_sup.ensures.count,
+)

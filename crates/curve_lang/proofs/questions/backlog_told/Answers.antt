@@ -19,8 +19,11 @@ returns-in-Ok g c =
     inl (
       c.is_finite.ensures.0 c.if-not-is_finite.false,
       (
-        subst (λ x. KeepsLimits calls.Vertical f h x) c.in-Ok.is c.vertical.ensures.limits,
-        (c.in-Ok.value, subst (λ x. IfOk x (IsVerticalDeviation (value_at f) (value_at h))) c.in-Ok.is c.vertical.ensures.value, refl),
+        (
+          subst (λ x. KeepsLimits calls.Vertical f h x) c.in-Ok.is c.vertical.ensures.limits,
+          (c.in-Ok.value, subst (λ x. IfOk x (IsVerticalDeviation (value_at f) (value_at h))) c.in-Ok.is c.vertical.ensures.value, refl),
+        ),
+        c.vertical.ensures.count,
       ),
     )
 
@@ -30,6 +33,9 @@ returns-in-Err g c =
     let h = c.args.g.now in
     inl (
       c.is_finite.ensures.0 c.if-not-is_finite.false,
-      subst (λ k. CallFinds calls.Vertical f h (IsBacklog f h) (Err k)) (sym c.told_call.ensures)
-          (refused calls.Vertical f h (IsBacklog f h) c.in-Err.fault (subst (λ x. KeepsLimits calls.Vertical f h x) c.in-Err.is c.vertical.ensures.limits)),
+      (
+        subst (λ k. CallFinds calls.Vertical f h (IsBacklog f h) (Err k)) (sym c.told_call.ensures)
+            (refused calls.Vertical f h (IsBacklog f h) c.in-Err.fault (subst (λ x. KeepsLimits calls.Vertical f h x) c.in-Err.is c.vertical.ensures.limits)),
+        c.vertical.ensures.count,
+      ),
     )

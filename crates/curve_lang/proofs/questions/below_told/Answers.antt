@@ -16,6 +16,9 @@ returns-in-Ok g c =
     let k = c.in-Ok.lesser in
     let least = subst (λ x. IfOk x (λ (d : SpecCurve). (t : ℚ) → zero_q ≤ℚ t → IsMinimum (value_at f) (value_at h) t (value_at d t))) c.in-Ok.is c.min.ensures.value in
     let both = lesser_is f h k least in (
-      subst (λ x. KeepsLimits calls.Min f h x) c.in-Ok.is c.min.ensures.limits,
-      (c.equal.result, (λ e. both.0 (c.equal.ensures.0 e), λ below. c.equal.ensures.1 (both.1 below)), refl),
+      (
+        subst (λ x. KeepsLimits calls.Min f h x) c.in-Ok.is c.min.ensures.limits,
+        (c.equal.result, (λ e. both.0 (c.equal.ensures.0 e), λ below. c.equal.ensures.1 (both.1 below)), refl),
+      ),
+      c.min.ensures.count,
     )

@@ -10,13 +10,13 @@ use Rattle.curve_lang.proofs.Kept.{refused}
 use Rattle.curve_lang.proofs.questions.delay_told.Goals as goal
 
 pub returns-then-not-is_finite : goal.returns-then-not-is_finite
-returns-then-not-is_finite g c = inr ((λ h. true≢false (sym (c.if-not-is_finite.ensures.1 h.finite))), refl)
+returns-then-not-is_finite g c = inr ((λ h. true≢false (sym (c.if-not-is_finite.ensures.1 h.finite))), (refl, refl))
 
 pub returns-then-not-is_rising : goal.returns-then-not-is_rising
-returns-then-not-is_rising g c = inr ((λ h. true≢false (sym (c.if-not-is_rising.ensures.1 h.first))), refl)
+returns-then-not-is_rising g c = inr ((λ h. true≢false (sym (c.if-not-is_rising.ensures.1 h.first))), (refl, refl))
 
 pub returns-then-not-is_rising-2 : goal.returns-then-not-is_rising-2
-returns-then-not-is_rising-2 g c = inr ((λ h. true≢false (sym (c.if-not-is_rising-2.ensures.1 h.second))), refl)
+returns-then-not-is_rising-2 g c = inr ((λ h. true≢false (sym (c.if-not-is_rising-2.ensures.1 h.second))), (refl, refl))
 
 pub horizontal-requires-clause-finite : goal.horizontal-requires-clause-finite
 horizontal-requires-clause-finite g c = c.is_finite.ensures.0 c.if-not-is_finite.false
@@ -31,8 +31,11 @@ returns-in-Ok g c =
     inl (
       record { finite = c.is_finite.ensures.0 c.if-not-is_finite.false; first = c.is_rising.ensures.0 c.if-not-is_rising.false; second = c.is_rising-2.ensures.0 c.if-not-is_rising-2.false },
       (
-        subst (λ x. KeepsLimits calls.Horizontal f h x) c.in-Ok.is c.horizontal.ensures.limits,
-        (c.in-Ok.value, subst (λ x. IfOk x (IsHorizontalDeviation (value_at f) (value_at h))) c.in-Ok.is c.horizontal.ensures.value, refl),
+        (
+          subst (λ x. KeepsLimits calls.Horizontal f h x) c.in-Ok.is c.horizontal.ensures.limits,
+          (c.in-Ok.value, subst (λ x. IfOk x (IsHorizontalDeviation (value_at f) (value_at h))) c.in-Ok.is c.horizontal.ensures.value, refl),
+        ),
+        c.horizontal.ensures.count,
       ),
     )
 
@@ -42,6 +45,9 @@ returns-in-Err g c =
     let h = c.args.g.now in
     inl (
       record { finite = c.is_finite.ensures.0 c.if-not-is_finite.false; first = c.is_rising.ensures.0 c.if-not-is_rising.false; second = c.is_rising-2.ensures.0 c.if-not-is_rising-2.false },
-      subst (λ k. CallFinds calls.Horizontal f h (IsDelay f h) (Err k)) (sym c.told_call.ensures)
-          (refused calls.Horizontal f h (IsDelay f h) c.in-Err.fault (subst (λ x. KeepsLimits calls.Horizontal f h x) c.in-Err.is c.horizontal.ensures.limits)),
+      (
+        subst (λ k. CallFinds calls.Horizontal f h (IsDelay f h) (Err k)) (sym c.told_call.ensures)
+            (refused calls.Horizontal f h (IsDelay f h) c.in-Err.fault (subst (λ x. KeepsLimits calls.Horizontal f h x) c.in-Err.is c.horizontal.ensures.limits)),
+        c.horizontal.ensures.count,
+      ),
     )

@@ -7,8 +7,12 @@ use Rattle.curve_lang.proofs.script.time_asked.Goals as goal
 
 pub returns-in-Ok : goal.returns-in-Ok
 returns-in-Ok g c =
-    goes_on c.in-Ok.f.value (subst (λ x. Finds (map let_view c.args.lets.now) (expression_view c.args.e.now) (found x)) c.in-Ok.is c.curve_of.ensures)
-    (subst (λ f. TimeFinds f c.args.t (told c.value_told.result)) c.deref.ensures c.value_told.ensures)
+    let old = c.args.steps.now in
+    let new = c.curve_of.new.steps in
+    goes_on c.in-Ok.f.value new (subst (λ x. Finds (map let_view c.args.lets.now) (expression_view c.args.e.now) (found x) old new) c.in-Ok.is c.curve_of.ensures)
+    (subst (λ f. TimeFinds f c.args.t (told c.value_told.result) new new) c.deref.ensures (c.value_told.ensures new))
 
 pub returns-in-Err : goal.returns-in-Err
-returns-in-Err g c = stops c.in-Err.kind (subst (λ x. Finds (map let_view c.args.lets.now) (expression_view c.args.e.now) (found x)) c.in-Err.is c.curve_of.ensures) refl
+returns-in-Err g c =
+    stops c.in-Err.kind
+    (subst (λ x. Finds (map let_view c.args.lets.now) (expression_view c.args.e.now) (found x) c.args.steps.now c.curve_of.new.steps) c.in-Err.is c.curve_of.ensures) refl
