@@ -1,6 +1,6 @@
 -- Where an answer ended for want of memory.
-use Rattle.std.proofs.Common.{◌≡◌, ◌+◌, ◌-◌, ◌<◌, ◌≤◌, ℕ, List, Result, Ok, Err, inl, inr, refl, arith}
-use Rattle.std.specs.Prelude.{◌⊎◌, OnErr}
+use Rattle.std.proofs.Common.{◌≡◌, ◌+◌, ◌-◌, ◌<◌, ℕ, List, Result, Ok, Err, inl, inr, arith}
+use Rattle.std.specs.Prelude.{OnErr}
 use Rattle.net_model.specs.declared.fault.NetFault.{NetFault}
 use Rattle.net_model.specs.declared.fault.NetKind.TheVariants.{NoMemory}
 use Rattle.net_model.specs.Networks.{Net}

@@ -1,11 +1,10 @@
 -- Where an answer on a file ended for want of memory, by the steps that are counted. In reading and in the analysis no
 -- operator that is over its limit is among those counted; a limit that is known by then is that of the line for which the
 -- memory was wanting. Own choice.
-use Rattle.std.specs.Prelude.{◌≡◌, ◌+◌, ◌-◌, ◌<◌, ◌≤◌, ℕ, List}
+use Rattle.std.specs.Prelude.{◌≡◌, ◌-◌, ◌<◌, ◌≤◌, ℕ, List}
 use Rattle.upp_limits.specs.declared.op_kind.OpFault.{OpFault}
 use Rattle.net_model.specs.Networks.{Net}
 use Rattle.net_model.specs.Orders.{IsOrder}
-use Rattle.net_model.specs.Walks.{IsCycle}
 use Rattle.net_draft.specs.Faults.{Fault}
 use Rattle.net_text.specs.FoldLimits.{OverFold}
 use Rattle.net_text.specs.Reading.{IsNetworkOf, FirstFault}
