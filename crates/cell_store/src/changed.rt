@@ -2,7 +2,7 @@
 
 ghost use Rattle.std.specs.Prelude.{◌≡◌, ◌+◌, ◌-◌, ◌^◌, ◌<◌, ◌≤◌, ◌++◌, ◌∷◌, [], sum_by, IfErr, OnOk, OnErr, length};
 ghost use Rattle.net_cells.specs.Work.{work};
-ghost use Rattle.cell_store.specs.Edits.{IsEditOf, IsFirstTouched, AreGone, IsCleared, IsEditedTable, RefusesFor, WantsMemory, EditEnds};
+ghost use Rattle.cell_store.specs.Edits.{IsEditOf, IsFirstTouched, AreGone, IsCleared, IsEditedTable, RefusesFor, EditEnds};
 
 use crate::anew::made_anew;
 use crate::values::Values;
@@ -43,8 +43,8 @@ fn changed<V: CellValue + Drop, E: Evaluator<V>>(
         (⟦<Values<V> as Table<V>>⟧.at values.old) (⟦<Values<V> as Table<V>>⟧.at values.new)) }
     ensures before { values.new.versions.kept ≡ values.old.versions.kept }
     ensures refused { IfErr result (RefusesFor (IsFirstTouched net.now touched.now)) }
-    ensures memory { IfErr result (WantsMemory (EditEnds net.now touched.now
-        (⟦<Values<V> as Table<V>>⟧.at values.old) (E.count eval.new - E.count eval.old))) }
+    ensures memory { result ≡ Err AnalysisFault.NoMemory → EditEnds net.now touched.now
+        (⟦<Values<V> as Table<V>>⟧.at values.old) (E.count eval.new - E.count eval.old) }
     ensures exact { OnOk result (E.count eval.new ≡ E.count eval.old + sum_by (work net.now) touched.now) }
     ensures rises { E.count eval.old ≤ E.count eval.new }
     ensures within { E.count eval.new ≤ E.count eval.old + sum_by (work net.now) touched.now }
@@ -79,8 +79,8 @@ pub fn edited_values<V: CellValue + Drop, E: Evaluator<V>>(
         values.old.versions.kept ++ values.old.versions.newest ∷ []) }
     ensures kept { OnErr result (values.new.versions ≡ values.old.versions) }
     ensures refused { IfErr result (RefusesFor (IsFirstTouched net.now touched.now)) }
-    ensures memory { IfErr result (WantsMemory (EditEnds net.now touched.now
-        (⟦<Values<V> as Table<V>>⟧.at values.old) (E.count eval.new - E.count eval.old))) }
+    ensures memory { result ≡ Err AnalysisFault.NoMemory → EditEnds net.now touched.now
+        (⟦<Values<V> as Table<V>>⟧.at values.old) (E.count eval.new - E.count eval.old) }
     ensures exact { OnOk result (E.count eval.new ≡ E.count eval.old + sum_by (work net.now) touched.now) }
     ensures rises { E.count eval.old ≤ E.count eval.new }
     ensures within { E.count eval.new ≤ E.count eval.old + sum_by (work net.now) touched.now }

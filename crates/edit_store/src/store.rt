@@ -60,7 +60,7 @@ impl<V: CellValue + Drop> Store<V> {
     ghost use Rattle.net_cells.specs.Work.{work};
     ghost use Rattle.net_cells.specs.MemoryEnds.{MemoryEnds};
     ghost use Rattle.cell_changes.specs.Slots.{slots};
-    ghost use Rattle.cell_store.specs.Edits.{IsFirst, IsFirstTouched, RefusesFor, WantsMemory, EditEnds};
+    ghost use Rattle.cell_store.specs.Edits.{IsFirst, IsFirstTouched, RefusesFor, EditEnds};
     ghost use Rattle.edit_store.specs.Stored.{AreTouched, AreLost, IsStored, IsAdvanced, IsBack};
     ghost use Rattle.edit_store.specs.Replaced.{put_back};
     ghost use Rattle.edit_store.specs.Applied.{Gives, IsApplied, IsTaken, IsRefused, IsEvaluated, IsShown, IsHidden};
@@ -81,8 +81,8 @@ impl<V: CellValue + Drop> Store<V> {
         ensures present { IfOk result (λ s. s.present ≡ net) }
         ensures meets { IfOk result (λ s. MeetsEquations net (⟦<Store<V> as Table<V>>⟧.at s)) }
         ensures refused { IfErr result (RefusesFor (IsFirst net)) }
-        ensures memory { IfErr result (WantsMemory
-            (MemoryEnds net (evaluation_order net order.now) (E.count eval.new - E.count eval.old))) }
+        ensures memory { result ≡ Err AnalysisFault.NoMemory →
+            MemoryEnds net (evaluation_order net order.now) (E.count eval.new - E.count eval.old) }
         ensures exact { OnOk result
             (E.count eval.new ≡ E.count eval.old + sum_by (work net) (evaluation_order net order.now)) }
         ensures rises { E.count eval.old ≤ E.count eval.new }
@@ -148,8 +148,8 @@ impl<V: CellValue + Drop> Store<V> {
         ensures advanced { OnOk result (IsAdvanced self.old net self.new) }
         ensures kept { OnErr result (self.new ≡ self.old) }
         ensures refused { IfErr result (RefusesFor (IsFirstTouched net touched.now)) }
-        ensures memory { IfErr result (WantsMemory (EditEnds net touched.now
-            (⟦<Store<V> as Table<V>>⟧.at self.old) (E.count eval.new - E.count eval.old))) }
+        ensures memory { result ≡ Err AnalysisFault.NoMemory → EditEnds net touched.now
+            (⟦<Store<V> as Table<V>>⟧.at self.old) (E.count eval.new - E.count eval.old) }
         ensures exact { OnOk result (E.count eval.new ≡ E.count eval.old + sum_by (work net) touched.now) }
         ensures rises { E.count eval.old ≤ E.count eval.new }
         ensures within { E.count eval.new ≤ E.count eval.old + sum_by (work net) touched.now }

@@ -93,10 +93,10 @@ returns-in-Err-clause-memory g c =
     let mid = g.E.Evaluator.count c.loop-cell.eval in
     let new = g.E.Evaluator.count c.eval.new.self in
     let counted = new - g.E.Evaluator.count c.args.eval.now in
-    wants_memory (EndsAtTouched net touched before counted) (cell_at touched i) c.in-Err.fault c.refusal.result c.refusal.ensures
+    λ told. wants_memory (EndsAtTouched net touched before counted) (cell_at touched i) c.in-Err.fault c.refusal.result c.refusal.ensures
     (λ lack. ends_at edit.old net edit.order before at touched i (new - mid) counted (omega arith) c.loop-cell.invariant.others
     (next_at edit.old net edit.order before at touched i edit.answered same (omega arith) (c.loop-cell.invariant.reached edit))
-    (making (c.in-Err.ensures.memory (ap Err lack))) (omega (arith, cost, rises)))
+    (making (c.in-Err.ensures.memory (ap Err lack))) (omega (arith, cost, rises))) (cc told)
 
 pub returns-in_default-clause-memory : goal.returns-in_default-clause-memory
 returns-in_default-clause-memory g c =
@@ -111,7 +111,7 @@ returns-in_default-clause-memory g c =
     let exact = c.in-Ok.ensures.exact in
     let counted = g.E.Evaluator.count c.eval.new.self - g.E.Evaluator.count c.args.eval.now in
     let value = g.V.CellValue.meaning c.in-Ok.value in
-    ends_at edit.old net edit.order before at touched i (work net (cell_at touched i)) counted (omega arith) c.loop-cell.invariant.others
+    λ told. ends_at edit.old net edit.order before at touched i (work net (cell_at touched i)) counted (omega arith) c.loop-cell.invariant.others
     (next_at edit.old net edit.order before at touched i edit.answered same (omega arith) (c.loop-cell.invariant.reached edit))
     (keeping value (gives_ok at (formula net (cell_at touched i)) value c.in-Ok.ensures.answer) (work_is net (cell_at touched i)))
     (omega (arith, cost, exact))
@@ -129,7 +129,7 @@ returns-in-Err-put-clause-memory g c =
     let exact = c.in-Ok.ensures.exact in
     let counted = g.E.Evaluator.count c.eval.new.self - g.E.Evaluator.count c.args.eval.now in
     let value = g.V.CellValue.meaning c.in-Ok.value in
-    ends_at edit.old net edit.order before at touched i (work net (cell_at touched i)) counted (omega arith) c.loop-cell.invariant.others
+    λ told. ends_at edit.old net edit.order before at touched i (work net (cell_at touched i)) counted (omega arith) c.loop-cell.invariant.others
     (next_at edit.old net edit.order before at touched i edit.answered same (omega arith) (c.loop-cell.invariant.reached edit))
     (keeping value (gives_ok at (formula net (cell_at touched i)) value c.in-Ok.ensures.answer) (work_is net (cell_at touched i)))
     (omega (arith, cost, exact))

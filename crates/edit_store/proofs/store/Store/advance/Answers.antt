@@ -1,5 +1,8 @@
-use Rattle.std.proofs.Common.{◌≡◌, ◌++◌, ◌∷◌, [], List, ap, ◌∙◌, subst, sym}
+use Rattle.std.proofs.Common.{◌≡◌, ◌++◌, ◌-◌, ◌∷◌, [], List, Err, ap, ◌∙◌, subst, sym}
+use Rattle.std.proofs.lemmas.Result.{err_from_is_err_and}
 use Rattle.net_model.specs.Networks.{Net}
+use Rattle.cell_store.specs.Placed.{placed}
+use Rattle.cell_store.specs.Edits.{EditEnds}
 use Rattle.edit_store.specs.declared.replaced.Replaced.{Replaced}
 use Rattle.edit_store.specs.Stored.{AreTouched, AreLost}
 use Rattle.edit_store.specs.Replaced.{put_back}
@@ -34,3 +37,11 @@ returns-clause-advanced g c =
     c.in-Ok.ensures.items ∙ ap (λ (rs : List Replaced). rs ++ c.args.replaced ∷ []) c.reserve.ensures.items in
     advanced g.V.CellValue.meaning c.args.self.now fields.replaced.items c.push.new.self.items c.args.replaced fields.present c.args.net
     fields.values.versions c.edited_values.new.values.versions c.self.view_is more back c.in_ok-edited_values.ensures.before
+
+pub returns-in_err-edited_values-clause-memory : goal.returns-in_err-edited_values-clause-memory
+returns-in_err-edited_values-clause-memory g c = λ told.
+    let p = err_from_is_err_and c.from_residual.result c.from_residual.ensures.1 in
+    subst
+    (λ version. EditEnds c.args.net c.args.touched.now (placed g.V.CellValue.meaning version)
+    (g.E.Evaluator.count c.edited_values.new.eval - g.E.Evaluator.count c.args.eval.now))
+    (ap (λ s. s.values.newest) c.self.view_is) (c.in_err-edited_values.ensures.memory (ap Err (sym p.2) ∙ sym p.1 ∙ told))

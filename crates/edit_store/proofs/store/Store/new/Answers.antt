@@ -25,4 +25,4 @@ invariant_of-result g c =
     c.made_anew.ensures.others))
 
 pub returns-in_default-clause-memory : goal.returns-in_default-clause-memory
-returns-in_default-clause-memory g c = at_none (omega arith)
+returns-in_default-clause-memory g c = λ told. at_none (omega arith)
