@@ -1,0 +1,5 @@
+pub mod Deciding
+pub mod Shortest
+pub mod Lowest
+pub mod Periods
+pub mod Forms
