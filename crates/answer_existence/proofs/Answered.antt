@@ -43,7 +43,7 @@ is_frame : (op : OpKind) (f g : SpecCurve) (k m : ℕ) → IsCurve f → SecondI
 unfolding frame_of
 is_frame op f g k m F G l t = record { first = F; second = G; start = refl; period = refl; end = refl; times = refl; values = refl; gauge = l; tally = t }
 
-at_least : (op : OpKind) (f g : SpecCurve) (k m : ℕ) → IsCurve f → SecondIsCurve op g → ¬ (IsKnownAtOnce op f g) → IsLeastPeriods op f g k m → IsMadeWithin op f g → HasAnswer op f g
+pub at_least : (op : OpKind) (f g : SpecCurve) (k m : ℕ) → IsCurve f → SecondIsCurve op g → ¬ (IsKnownAtOnce op f g) → IsLeastPeriods op f g k m → IsMadeWithin op f g → HasAnswer op f g
 at_least op f g k m F G looks L makes = elim (cases_lt (gauge_at op f g k m) (2 ^ 120)) [
   | inr wide ↦ too_wide op f g (wide_at_least op f g k m looks L wide)
   | inl small ↦ elim (cases_lt (2 ^ 20) (tally_at op f g k m)) [
