@@ -1,0 +1,6 @@
+use Rattle.curve_pointwise.proofs.ExistingSums.{sum_answered}
+use Rattle.curve_pointwise.proofs.ExistingLattices.{lower_answered, upper_answered, above_answered}
+use Rattle.curve_pointwise.proofs.laws.answers_exist.Goals as goal
+
+pub returns : goal.returns
+returns c = record { sum = sum_answered; min = lower_answered; max = upper_answered; pos_diff = above_answered }
