@@ -11,6 +11,7 @@ use Rattle.upp_limits.specs.Windows.{IsLeastPeriods, window_at}
 use Rattle.upp_curve.specs.Curve.{SpecCurve}
 use Rattle.upp_curve.specs.Curves.{IsCurve}
 use Rattle.curve_call.specs.declared.frame.Frame.{Frame}
+use Rattle.curve_call.specs.Answers.{IsMadeBy}
 use Rattle.curve_call.specs.CallWindows.{SecondIsCurve, start_of, period_in}
 use Rattle.curve_call.specs.Frames.{IsFrame, sizes_at}
 use Rattle.curve_call.proofs.Limited.{wide_at_least, many_at_least, within_at_least}
@@ -23,7 +24,7 @@ wide_found r e h = cc
 many_found : (r : Result SpecCurve OpFault) → r ≡ Err TooMany → r ≢ Err NoMemory
 many_found r e h = cc
 
-ok_found : (r : Result SpecCurve OpFault) (h : SpecCurve) → r ≡ Ok h → r ≢ Err NoMemory
+pub ok_found : (r : Result SpecCurve OpFault) (h : SpecCurve) → r ≡ Ok h → r ≢ Err NoMemory
 ok_found r h e k = cc
 
 pub too_wide : (op : OpKind) (f g : SpecCurve) → IsTooWide op f g → HasAnswer op f g
@@ -43,17 +44,18 @@ is_frame : (op : OpKind) (f g : SpecCurve) (k m : ℕ) → IsCurve f → SecondI
 unfolding frame_of
 is_frame op f g k m F G l t = record { first = F; second = G; start = refl; period = refl; end = refl; times = refl; values = refl; gauge = l; tally = t }
 
-pub at_least : (op : OpKind) (f g : SpecCurve) (k m : ℕ) → IsCurve f → SecondIsCurve op g → ¬ (IsKnownAtOnce op f g) → IsLeastPeriods op f g k m → IsMadeWithin op f g → HasAnswer op f g
+pub at_least : (op : OpKind) (f g : SpecCurve) (k m : ℕ) → IsCurve f → SecondIsCurve op g → ¬ (IsKnownAtOnce op f g) → IsLeastPeriods op f g k m
+    → ((r : Frame) → IsFrame op f g k m r → (h : SpecCurve) × IsMadeBy op f g h) → HasAnswer op f g
 at_least op f g k m F G looks L makes = elim (cases_lt (gauge_at op f g k m) (2 ^ 120)) [
   | inr wide ↦ too_wide op f g (wide_at_least op f g k m looks L wide)
   | inl small ↦ elim (cases_lt (2 ^ 20) (tally_at op f g k m)) [
     | inl many ↦ record { answer = Err TooMany; applies = many_at_least op f g k m looks L small many; found = many_found (Err TooMany) refl }
     | inr few ↦
-        let (h, made) = makes k m (frame_of op f g k m) L (is_frame op f g k m F G small few) in
+        let (h, made) = makes (frame_of op f g k m) (is_frame op f g k m F G small few) in
         record { answer = Ok h; applies = record { within = within_at_least op f g k m L small few; made = made }; found = ok_found (Ok h) h refl }
   ]
 ]
 
 pub answered : (op : OpKind) (f g : SpecCurve) → IsCurve f → SecondIsCurve op g → ¬ (IsKnownAtOnce op f g) → IsDecided op f g → IsMadeWithin op f g → HasAnswer op f g
 answered op f g F G looks (inl none) makes = too_wide op f g record { looks = looks; gauge = λ k m L. absurd (none k m L) }
-answered op f g F G looks (inr (k, m, L)) makes = at_least op f g k m F G looks L makes
+answered op f g F G looks (inr (k, m, L)) makes = at_least op f g k m F G looks L (λ r h. makes k m r L h)

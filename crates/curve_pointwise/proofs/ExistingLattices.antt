@@ -24,11 +24,9 @@ use Rattle.curve_call.specs.Answers.{IsMadeBy}
 use Rattle.curve_call.specs.CallWindows.{SecondIsCurve, start_of, period_in}
 use Rattle.curve_call.specs.FirstWindows.{IsFirstWindow}
 use Rattle.curve_call.specs.Frames.{IsFrame}
-use Rattle.curve_call.proofs.Limited.{min_least, max_least, pos_diff_least}
 use Rattle.curve_least.proofs.EitherOrder.{IsEnough}
-use Rattle.answer_existence.specs.Answered.{HasAnswer, IsMadeWithin}
+use Rattle.answer_existence.specs.Answered.{HasAnswer}
 use Rattle.answer_existence.proofs.Answered.{at_least, too_wide}
-use Rattle.answer_existence.proofs.Numbers.{with_number}
 use Rattle.answer_existence.proofs.Windows.{answer_curve}
 use Rattle.least_existence.proofs.Least.{IsFound, least_of}
 use Rattle.curve_pointwise.specs.declared.lattice.Lattice.{Lattice}
@@ -84,12 +82,17 @@ is_first : (of : Lattice) (f g : SpecCurve) → gauge_at (kind_of of) f g 0 0 < 
 unfolding first_window
 is_first of f g small = record { window = record { start = refl; period = refl; end = refl }; gauge = small }
 
-by_number : (of : Lattice) (f g : SpecCurve) → IsCurve f → IsCurve g → IsMadeWithin (kind_of of) f g → IsFound (IsEnough f g (start_of (kind_of of) f g) (period_in (kind_of of) f g)) → HasAnswer (kind_of of) f g
+-- with a number that is the least a curve is made
+abbrev IsMadeAtLeast : Lattice → SpecCurve → SpecCurve → Type 0
+IsMadeAtLeast of f g =
+    (k : ℕ) (r : Frame) → IsLeast (IsEnough f g (start_of (kind_of of) f g) (period_in (kind_of of) f g)) k → IsFrame (kind_of of) f g k 0 r → (h : SpecCurve) × IsMadeBy (kind_of of) f g h
+
+by_number : (of : Lattice) (f g : SpecCurve) → IsCurve f → IsCurve g → IsMadeAtLeast of f g → IsFound (IsEnough f g (start_of (kind_of of) f g) (period_in (kind_of of) f g)) → HasAnswer (kind_of of) f g
 by_number of f g F G makes (None, none) = too_wide (kind_of of) f g (none_wide of f g (start_of (kind_of of) f g) (period_in (kind_of of) f g) refl refl none)
 by_number of f g F G makes (Some k, h) =
-    at_least (kind_of of) f g k 0 F (second of g G) (looks of f g) (some_least of f g (start_of (kind_of of) f g) (period_in (kind_of of) f g) k refl refl h) makes
+    at_least (kind_of of) f g k 0 F (second of g G) (looks of f g) (some_least of f g (start_of (kind_of of) f g) (period_in (kind_of of) f g) k refl refl h) (λ r R. makes k r h R)
 
-answered : (of : Lattice) (f g : SpecCurve) → IsCurve f → IsCurve g → IsMadeWithin (kind_of of) f g → HasAnswer (kind_of of) f g
+answered : (of : Lattice) (f g : SpecCurve) → IsCurve f → IsCurve g → IsMadeAtLeast of f g → HasAnswer (kind_of of) f g
 unfolding first_window
 answered of f g F G makes = elim (cases_lt (gauge_at (kind_of of) f g 0 0) (2 ^ 120)) [
   | inr wide ↦ too_wide (kind_of of) f g (wide_first of f g TooWide F G wide)
@@ -99,26 +102,26 @@ answered of f g F G makes = elim (cases_lt (gauge_at (kind_of of) f g 0 0) (2 ^ 
 ]
 
 -- ---- each kind
-lower_made : (f g : SpecCurve) (k : ℕ) (r : Frame) → IsLeast (Meets Min f g) k → IsFrame Min f g k 0 r → (h : SpecCurve) × IsMadeBy Min f g h
+lower_made : (f g : SpecCurve) (k : ℕ) (r : Frame) → IsLeast (IsEnough f g (both_steady f g) (common_period f g)) k → IsFrame Min f g k 0 r → (h : SpecCurve) × IsMadeBy Min f g h
 lower_made f g k r L F =
     let (c, curve, same) = lattice_curve Lower f g r (lattice_frame Lower f g (both_steady f g) (common_period f g) k r refl refl L F) tt in
     (c, record { curve = curve; answers = same })
 
-upper_made : (f g : SpecCurve) (k : ℕ) (r : Frame) → IsLeast (Meets Max f g) k → IsFrame Max f g k 0 r → (h : SpecCurve) × IsMadeBy Max f g h
+upper_made : (f g : SpecCurve) (k : ℕ) (r : Frame) → IsLeast (IsEnough f g (both_steady f g) (common_period f g)) k → IsFrame Max f g k 0 r → (h : SpecCurve) × IsMadeBy Max f g h
 upper_made f g k r L F =
     let (c, curve, same) = lattice_curve Upper f g r (lattice_frame Upper f g (both_steady f g) (common_period f g) k r refl refl L F) tt in
     (c, record { curve = curve; answers = same })
 
-above_made : (f g : SpecCurve) → IsFinite (value_at f) → (k : ℕ) (r : Frame) → IsLeast (Meets PosDiff f g) k → IsFrame PosDiff f g k 0 r → (h : SpecCurve) × IsMadeBy PosDiff f g h
+above_made : (f g : SpecCurve) → IsFinite (value_at f) → (k : ℕ) (r : Frame) → IsLeast (IsEnough f g (both_steady f g) (common_period f g)) k → IsFrame PosDiff f g k 0 r → (h : SpecCurve) × IsMadeBy PosDiff f g h
 above_made f g finite k r L F =
     let (c, curve, same) = lattice_curve Excess f g r (lattice_frame Excess f g (both_steady f g) (common_period f g) k r refl refl L F) finite in
     (c, record { curve = curve; answers = same })
 
 pub lower_answered : (f g : SpecCurve) → IsCurve f → IsCurve g → HasAnswer Min f g
-lower_answered f g F G = answered Lower f g F G (with_number Min f g (min_least f g) (lower_made f g))
+lower_answered f g F G = answered Lower f g F G (lower_made f g)
 
 pub upper_answered : (f g : SpecCurve) → IsCurve f → IsCurve g → HasAnswer Max f g
-upper_answered f g F G = answered Upper f g F G (with_number Max f g (max_least f g) (upper_made f g))
+upper_answered f g F G = answered Upper f g F G (upper_made f g)
 
 pub above_answered : (f g : SpecCurve) → IsCurve f → IsCurve g → IsFinite (value_at f) → HasAnswer PosDiff f g
-above_answered f g F G finite = answered Excess f g F G (with_number PosDiff f g (pos_diff_least f g) (above_made f g finite))
+above_answered f g F G finite = answered Excess f g F G (above_made f g finite)

@@ -14,7 +14,6 @@ use Rattle.curve_call.specs.Frames.{IsFrame, sizes_at}
 use Rattle.curve_call.proofs.Limited.{sum_least}
 use Rattle.answer_existence.specs.Answered.{HasAnswer}
 use Rattle.answer_existence.proofs.Answered.{at_least}
-use Rattle.answer_existence.proofs.Numbers.{with_none}
 use Rattle.answer_existence.proofs.Windows.{answer_curve}
 use Rattle.curve_pointwise.proofs.SumCall.{sum_call, left_pieces, right_pieces, sum_answer, sum_values}
 
@@ -30,4 +29,4 @@ made f g r F =
     (c, record { curve = curve; answers = sum_values f g r z ls rs ps rise c S refl refl W refl same })
 
 pub sum_answered : (f g : SpecCurve) → IsCurve f → IsCurve g → HasAnswer Sum f g
-sum_answered f g F G = at_least Sum f g 0 0 F G (λ h. h) (sum_least f g) (with_none Sum f g (sum_least f g) (made f g))
+sum_answered f g F G = at_least Sum f g 0 0 F G (λ h. h) (sum_least f g) (made f g)

@@ -11,3 +11,5 @@ pub mod Nowhere
 pub mod StraightSums
 pub mod ExistingSums
 pub mod ExistingLattices
+pub mod ExistingMoves
+pub mod ExistingLevels
