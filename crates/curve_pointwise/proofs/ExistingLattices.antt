@@ -1,5 +1,5 @@
 -- A minimum, a maximum and a positive difference have answers.
-use Rattle.std.specs.Prelude.{◌≡◌, ◌⊎◌, ℕ, ◌<◌, ◌^◌, pos, List, Option, Some, None, MatchOption}
+use Rattle.std.specs.Prelude.{◌≡◌, ◌⊎◌, ℕ, ◌<◌, ◌^◌, pos, List, Some, None}
 use Rattle.std.proofs.Common.{refl, inl, inr}
 use Rattle.std.proofs.lemmas.Bool.{cases_lt}
 use Rattle.rational.specs.Rational.{ℚ, ◌-ℚ◌, ◌≤ℚ◌, int}
@@ -13,7 +13,7 @@ use Rattle.upp_limits.specs.declared.op_kind.OpKind.TheVariants.{Min, Max, PosDi
 use Rattle.upp_limits.specs.declared.op_kind.OpFault.TheVariants.{TooWide}
 use Rattle.upp_limits.specs.Gauges.{IsKnownAtOnce, gauge_at}
 use Rattle.upp_limits.specs.Periods.{both_steady, common_period}
-use Rattle.upp_limits.specs.Windows.{window_at, Meets, IsLeast}
+use Rattle.upp_limits.specs.Windows.{window_at, IsLeast}
 use Rattle.min_plus.specs.Functions.{IsFinite}
 use Rattle.curve_window.specs.Operands.{HaveSizes, IsMadeOf}
 use Rattle.curve_window.specs.Existing.{HaveWindows}

@@ -1,6 +1,6 @@
 -- A multiple and a shift have answers.
-use Rattle.std.specs.Prelude.{◌≡◌, ◌⊎◌, List, [], ◌∷◌, map, Result, Ok, Err}
-use Rattle.std.proofs.Common.{refl, ap, inl, inr}
+use Rattle.std.specs.Prelude.{List, [], ◌∷◌, map, Ok}
+use Rattle.std.proofs.Common.{refl, ap}
 use Rattle.rational.specs.Rational.{ℚ, ◌-ℚ◌, ◌≤ℚ◌}
 use Rattle.rational.specs.Extended.{Ext}
 use Rattle.rational.specs.declared.Extended.TheVariants.{Fin, Inf}
@@ -12,12 +12,9 @@ use Rattle.upp_curve.specs.Curves.{IsCurve}
 use Rattle.upp_curve.specs.Steady.{rise_over}
 use Rattle.upp_curve.specs.Unrolled.{unroll}
 use Rattle.upp_limits.specs.declared.op_kind.OpKind.TheVariants.{Scale, Shift}
-use Rattle.upp_limits.specs.declared.op_kind.OpFault.{OpFault}
-use Rattle.upp_limits.specs.declared.op_kind.OpFault.TheVariants.{NoMemory}
 use Rattle.upp_limits.specs.Gauges.{scaled_piece, scaled_tail}
 use Rattle.curve_call.specs.declared.frame.Frame.{Frame}
 use Rattle.curve_call.specs.Answers.{IsMadeBy}
-use Rattle.curve_call.specs.CallWindows.{IsForward}
 use Rattle.curve_call.specs.Frames.{IsFrame, sizes_at}
 use Rattle.curve_call.proofs.Limited.{scale_least, shift_least}
 use Rattle.curve_existence.proofs.Forms.{curve_with_room}

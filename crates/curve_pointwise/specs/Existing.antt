@@ -1,5 +1,4 @@
 -- Each call has an answer that is not want of memory. Own choice.
-use Rattle.std.specs.Prelude.{◌≡◌, ◌⊎◌}
 use Rattle.rational.specs.Rational.{ℚ}
 use Rattle.rational.specs.Extended.{Ext}
 use Rattle.upp_curve.specs.Curve.{SpecCurve, value_at}
