@@ -1,11 +1,12 @@
 -- A call has an answer, where it is known which numbers of periods it needs and within the limits a curve is made by it.
-use Rattle.std.specs.Prelude.{◌≡◌, ◌≢◌, ℕ, ◌<◌, ◌≤◌, ◌^◌, Result, Ok, Err}
+use Rattle.std.specs.Prelude.{◌≡◌, ◌≢◌, ◌⊎◌, ℕ, ◌<◌, ◌≤◌, ◌^◌, Result, Ok, Err}
 use Rattle.std.proofs.Common.{refl, inl, inr}
 use Rattle.std.proofs.lemmas.Bool.{cases_lt}
 use Rattle.upp_limits.specs.declared.op_kind.OpKind.{OpKind}
 use Rattle.upp_limits.specs.declared.op_kind.OpFault.{OpFault}
 use Rattle.upp_limits.specs.declared.op_kind.OpFault.TheVariants.{TooMany, TooWide, NoMemory}
-use Rattle.upp_limits.specs.Gauges.{IsKnownAtOnce, IsTooWide, gauge_at, tally_at}
+use Rattle.upp_limits.specs.Gauges.{IsKnownAtOnce, IsTooWide, IsTooMany, gauge_at, tally_at}
+use Rattle.upp_limits.specs.Outcome.{IsWithin}
 use Rattle.upp_limits.specs.Sized.{grid_of}
 use Rattle.upp_limits.specs.Windows.{IsLeastPeriods, window_at}
 use Rattle.upp_curve.specs.Curve.{SpecCurve}
@@ -44,16 +45,25 @@ is_frame : (op : OpKind) (f g : SpecCurve) (k m : ℕ) → IsCurve f → SecondI
 unfolding frame_of
 is_frame op f g k m F G l t = record { first = F; second = G; start = refl; period = refl; end = refl; times = refl; values = refl; gauge = l; tally = t }
 
+-- which limit the call is over, or the frame of one that is over neither
+abbrev pub IsLimited : OpKind → SpecCurve → SpecCurve → ℕ → ℕ → Type 0
+IsLimited op f g k m = IsTooWide op f g ⊎ (IsTooMany op f g ⊎ ((r : Frame) × IsFrame op f g k m r × IsWithin op f g))
+
+pub limited : (op : OpKind) (f g : SpecCurve) (k m : ℕ) → IsCurve f → SecondIsCurve op g → ¬ (IsKnownAtOnce op f g) → IsLeastPeriods op f g k m → IsLimited op f g k m
+limited op f g k m F G looks L = elim (cases_lt (gauge_at op f g k m) (2 ^ 120)) [
+  | inr wide ↦ inl (wide_at_least op f g k m looks L wide)
+  | inl small ↦ elim (cases_lt (2 ^ 20) (tally_at op f g k m)) [
+    | inl many ↦ inr (inl (many_at_least op f g k m looks L small many))
+    | inr few ↦ inr (inr (frame_of op f g k m, is_frame op f g k m F G small few, within_at_least op f g k m L small few))
+  ]
+]
+
 pub at_least : (op : OpKind) (f g : SpecCurve) (k m : ℕ) → IsCurve f → SecondIsCurve op g → ¬ (IsKnownAtOnce op f g) → IsLeastPeriods op f g k m
     → ((r : Frame) → IsFrame op f g k m r → (h : SpecCurve) × IsMadeBy op f g h) → HasAnswer op f g
-at_least op f g k m F G looks L makes = elim (cases_lt (gauge_at op f g k m) (2 ^ 120)) [
-  | inr wide ↦ too_wide op f g (wide_at_least op f g k m looks L wide)
-  | inl small ↦ elim (cases_lt (2 ^ 20) (tally_at op f g k m)) [
-    | inl many ↦ record { answer = Err TooMany; applies = many_at_least op f g k m looks L small many; found = many_found (Err TooMany) refl }
-    | inr few ↦
-        let (h, made) = makes (frame_of op f g k m) (is_frame op f g k m F G small few) in
-        record { answer = Ok h; applies = record { within = within_at_least op f g k m L small few; made = made }; found = ok_found (Ok h) h refl }
-  ]
+at_least op f g k m F G looks L makes = elim (limited op f g k m F G looks L) [
+  | inl wide ↦ too_wide op f g wide
+  | inr (inl many) ↦ record { answer = Err TooMany; applies = many; found = many_found (Err TooMany) refl }
+  | inr (inr (r, R, within)) ↦ let (h, made) = makes r R in record { answer = Ok h; applies = record { within = within; made = made }; found = ok_found (Ok h) h refl }
 ]
 
 pub answered : (op : OpKind) (f g : SpecCurve) → IsCurve f → SecondIsCurve op g → ¬ (IsKnownAtOnce op f g) → IsDecided op f g → IsMadeWithin op f g → HasAnswer op f g
