@@ -1,0 +1,3 @@
+pub mod InTurn
+pub mod Services
+pub mod Numbers
