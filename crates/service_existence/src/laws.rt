@@ -1,6 +1,7 @@
 //! The laws. Each is the contract of a function that does nothing.
 
 ghost use Rattle.service_existence.specs.Found.{ServicesExist, NumberSumsExist};
+ghost use Rattle.service_existence.specs.Formulas.{CurveSumsExist, FormulasHaveAnswers};
 
 /// The calls that make the service of a priority queue or of a deficit round robin queue have an answer that is not
 /// want of memory, where each call alone has one.
@@ -11,4 +12,14 @@ pub fn services_exist()
 /// A sum of numbers has an answer.
 pub fn number_sums_exist()
     ensures { NumberSumsExist }
+{}
+
+/// Several curves have a sum, where any two have one, or one of the calls is over a limit.
+pub fn curve_sums_exist()
+    ensures { CurveSumsExist }
+{}
+
+/// A formula has an answer that is not want of memory, where its cells have values and each of its calls has an answer.
+pub fn formulas_have_answers()
+    ensures { FormulasHaveAnswers }
 {}

@@ -3,4 +3,4 @@
 
 mod laws;
 
-pub use laws::{number_sums_exist, services_exist};
+pub use laws::{curve_sums_exist, formulas_have_answers, number_sums_exist, services_exist};
