@@ -4,3 +4,4 @@ pub mod Numbers
 pub mod Values
 pub mod Sums
 pub mod Formulas
+pub mod Tables

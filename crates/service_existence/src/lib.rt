@@ -3,4 +3,6 @@
 
 mod laws;
 
-pub use laws::{curve_sums_exist, formulas_have_answers, number_sums_exist, services_exist};
+pub use laws::{
+    curve_sums_exist, formulas_have_answers, number_sums_exist, services_exist, tables_exist,
+};
