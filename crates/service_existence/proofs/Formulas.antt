@@ -1,5 +1,5 @@
 -- A formula has an answer, where each of its calls has one.
-use Rattle.std.specs.Prelude.{◌≡◌, List, [], ◌∷◌, ◌++◌, Some, Ok}
+use Rattle.std.specs.Prelude.{◌≡◌, List, [], ◌∷◌, ◌++◌}
 use Rattle.std.proofs.Common.{refl, sym, subst}
 use Rattle.rational.specs.Extended.{Ext, min_ext}
 use Rattle.min_plus.specs.Deviations.{IsHorizontalDeviation, IsVerticalDeviation}
@@ -11,9 +11,9 @@ use Rattle.residual_laws.specs.curve_call.specs.Again.{IsAgain}
 use Rattle.curve_call.specs.Calls.{Applies, AppliesTo}
 use Rattle.residual_laws.specs.PriorityCalls.{MakesPriority}
 use Rattle.residual_laws.specs.DrrCalls.{MakesDrr}
-use Rattle.net_cells.specs.Answers.{Answer, Answers, AnswersFrom, CutsBy, Deviates, IsOnly, MakesCurve, MakesNumber, SumsOf, ThenCurves, ThenNumber}
+use Rattle.net_cells.specs.Answers.{Answer, AnswersFrom, CutsBy, Deviates, IsOnly, MakesCurve, MakesNumber, ThenCurves, ThenNumber}
 use Rattle.net_cells.specs.Formulas.{Formula, value_of, given, empty_sum, made, made_of, moved, cut, part, no_part, leftover, priority, deficit, horizontal, vertical, smaller, along, delayed}
-use Rattle.net_cells.specs.Meanings.{Meaning, curve, number, CellTable}
+use Rattle.net_cells.specs.Meanings.{curve, number, CellTable}
 use Rattle.net_cells.specs.Means.{with_links}
 use Rattle.net_cells.specs.NumberSums.{Sums}
 use Rattle.net_cells.specs.Numbered.{zero_curve}

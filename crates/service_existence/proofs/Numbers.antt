@@ -1,12 +1,12 @@
 -- A sum of numbers has an answer.
-use Rattle.std.specs.Prelude.{◌≡◌, ◌≢◌, ◌<◌, ◌≤◌, ◌^◌, List, Result, Ok, Err}
+use Rattle.std.specs.Prelude.{◌≡◌, ◌≢◌, ◌^◌, Result, Ok, Err}
 use Rattle.std.proofs.Common.{refl, inl, inr}
 use Rattle.std.proofs.lemmas.Bool.{cases_lt}
 use Rattle.rational.specs.Extended.{Ext}
 use Rattle.upp_limits.specs.declared.op_kind.OpFault.{OpFault}
 use Rattle.upp_limits.specs.declared.op_kind.OpFault.TheVariants.{TooMany, TooWide, NoMemory}
-use Rattle.net_cells.specs.NumberSums.{Sums, sum_gauge, sum_tally, sum_of_numbers}
-use Rattle.service_existence.specs.Found.{IsFound, NumberSumsExist}
+use Rattle.net_cells.specs.NumberSums.{sum_gauge, sum_tally, sum_of_numbers}
+use Rattle.service_existence.specs.Found.{NumberSumsExist}
 
 many_found : (r : Result Ext OpFault) → r ≡ Err TooMany → r ≢ Err NoMemory
 many_found r e h = cc

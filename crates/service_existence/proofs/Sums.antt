@@ -1,5 +1,5 @@
 -- Sums of curves have answers.
-use Rattle.std.specs.Prelude.{◌≡◌, List, [], ◌∷◌, Ok}
+use Rattle.std.specs.Prelude.{List, [], ◌∷◌}
 use Rattle.std.proofs.Common.{refl}
 use Rattle.upp_curve.specs.Curve.{SpecCurve}
 use Rattle.upp_curve.specs.Curves.{IsCurve}
@@ -12,7 +12,7 @@ use Rattle.answer_existence.specs.Answered.{HasAnswer}
 use Rattle.service_existence.specs.Found.{IsFound}
 use Rattle.service_existence.specs.Formulas.{AreCurves, CurveSumsExist}
 use Rattle.service_existence.proofs.InTurn.{call_found}
-use Rattle.service_existence.proofs.Values.{found_as, value_found, curve_found, then_curve, made_gives}
+use Rattle.service_existence.proofs.Values.{value_found, curve_found, then_curve, made_gives}
 
 sums_onto : ((f g : SpecCurve) → IsCurve f → IsCurve g → HasAnswer Sum f g) → (f : SpecCurve) (gs : List SpecCurve) → IsCurve f → AreCurves gs → IsFound (SumsOnto f gs)
 sums_onto E f [] F h = value_found (SumsOnto f []) (curve f) refl

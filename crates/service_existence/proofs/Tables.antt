@@ -1,5 +1,5 @@
 -- A table, made cell by cell in the order: or a cell that is the first over a limit.
-use Rattle.std.specs.Prelude.{◌≡◌, ◌≢◌, ◌⊎◌, ℕ, zero, suc, ◌<◌, ◌≤◌, Option, Some, None, Ok, Err, List, [], ◌∷◌, ◌++◌, get_or}
+use Rattle.std.specs.Prelude.{◌≡◌, ◌≢◌, ◌⊎◌, ℕ, Option, Some, None, Ok, Err, List, [], ◌∷◌, ◌++◌, get_or}
 use Rattle.std.proofs.Common.{refl, sym, ap, ◌∙◌, subst, inl, inr, arith, append_assoc, append-nil}
 use Rattle.std.proofs.lemmas.Bool.{cases_lt}
 use Rattle.upp_limits.specs.declared.op_kind.OpFault.{OpFault}
@@ -17,13 +17,12 @@ use Rattle.net_cells.specs.Formulas.{leaves}
 use Rattle.net_cells.specs.CellFormulas.{formula}
 use Rattle.net_cells.specs.Meanings.{Meaning, CellTable}
 use Rattle.net_cells.specs.Answers.{Answer, Answers}
-use Rattle.net_cells.specs.FirstOver.{IsAnswered, AnswersAll, FirstOver}
+use Rattle.net_cells.specs.FirstOver.{IsAnswered, AnswersAll}
 use Rattle.net_cells.proofs.Lists.{Apart}
 use Rattle.net_cells.proofs.Members.{apart_cells}
 use Rattle.net_cells.proofs.Places.{rank}
 use Rattle.net_cells.proofs.Precedes.{leaf_in_front}
 use Rattle.net_cells.proofs.SameLeaves.{answers_same}
-use Rattle.service_existence.specs.Found.{IsFound}
 use Rattle.service_existence.specs.Tables.{TableOrLimit, FormulasAreFound, TablesExist}
 
 -- ---- cells that are the same
