@@ -6,12 +6,13 @@ use Rattle.upp_limits.specs.declared.op_kind.OpFault.TheVariants.{NoMemory}
 use Rattle.net_cells.specs.Meanings.{Meaning, CellTable}
 use Rattle.net_cells.specs.Formulas.{Formula}
 use Rattle.net_cells.specs.Answers.{Answer}
-use Rattle.net_cells.specs.Refusals.{RefusedAt, Stops}
+use Rattle.net_cells.specs.Refusals.{AtNone, RefusedAt, StopsAtNone, Stops}
 use Rattle.cell_table.specs.Values.{answer_of}
 
 -- ---- no operator, and one
-pub none_stops : (at : CellTable) (F : Formula) (n : ℕ) → Stops at F NoMemory (n - n)
-none_stops at F n = inl (omega arith, refl)
+pub none_stops : (at : CellTable) (F : Formula) (n : ℕ) → (AtNone NoMemory (n - n) → StopsAtNone F NoMemory (n - n))
+    → Stops at F NoMemory (n - n)
+none_stops at F n none = inl (none (omega arith, refl))
 
 pub one_stops : (at : CellTable) (F : Formula) (old new : ℕ) → new ≡ old + 1 → RefusedAt at F NoMemory 1 → Stops at F NoMemory (new - old)
 one_stops at F old new e r =

@@ -14,7 +14,7 @@ use Rattle.net_cells.specs.Numbered.{zero_curve}
 use Rattle.net_cells.specs.Formulas.{Formula, operators, value_of, given, empty_sum, made, made_of, moved, cut, part, no_part, leftover, priority, deficit, horizontal, vertical, smaller, along, delayed}
 use Rattle.net_cells.specs.CellFormulas.{sum_of_cells, sum_from}
 use Rattle.net_cells.specs.Answers.{Answer, Answers, MakesCurve}
-use Rattle.net_cells.specs.Refusals.{RefusedAt, Stops}
+use Rattle.net_cells.specs.Refusals.{RefusedAt, StopsAtNone, Stops}
 use Rattle.net_cells.proofs.Placing.{refusals_placed}
 use Rattle.net_cells.proofs.Works.{terms}
 use Rattle.cell_table.specs.Gives.{Gives}
@@ -218,11 +218,11 @@ pub made_stops : (at : CellTable) (cells : List Cell) (p : Partial) (old new : �
 made_stops at cells Nothing old new a =
     let none = ap (λ (cs : List Cell). length cs) a.0 in
     let count = a.1 in
-    inl (omega (arith, count, none), refl)
+    inl (subst (λ (cs : List Cell). StopsAtNone (sum_of_cells cs) NoMemory (new - old)) (sym a.0) (omega (arith, count, none), refl))
 made_stops at cells (One c) old new a =
     let one = ap (λ (cs : List Cell). length cs) a.0 in
     let count = a.1 in
-    inl (omega (arith, count, one), refl)
+    inl (subst (λ (cs : List Cell). StopsAtNone (sum_of_cells cs) NoMemory (new - old)) (sym a.0) (omega (arith, count, one), refl))
 made_stops at cells (Made f) old new a =
     let count = a.1 in
     let same : length cells - 1 ≡ new - old = omega (arith, count) in

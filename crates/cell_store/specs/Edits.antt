@@ -65,12 +65,6 @@ pub record IsEditedTable (net : Net) (gone touched : List Cell) (old new : CellT
   pub others : (c : Cell) → ¬ (Contains gone c) → ¬ (Contains touched c) → new c ≡ old c
 
 -- ---- want of memory
--- where memory is wanting, it is so at some place
-abbrev pub WantsMemory : Type 0 → AnalysisFault → Type 0
-WantsMemory P (TooMany c) = Unit {0}
-WantsMemory P (TooWide c) = Unit {0}
-WantsMemory P NoMemory = P
-
 -- of the touched cells those before one are answered, and it ends at that one; the table has at all other cells what
 -- that before the edit has
 pub record EndsAtTouched (net : Net) (touched : List Cell) (old : CellTable) (n : ℕ) : Type 0 where

@@ -3,7 +3,8 @@
 ghost use Rattle.std.specs.Prelude.{◌≡◌, ◌+◌, ◌-◌, ◌≤◌, sum_by, IfErr, OnOk};
 ghost use Rattle.net_cells.specs.Equations.{MeetsEquations};
 ghost use Rattle.net_cells.specs.Work.{work};
-ghost use Rattle.cell_store.specs.Edits.{AllAnswered, IsEditOf, IsFirstTouched, SameButAt, RefusesFor, WantsMemory, EndsAtTouched};
+ghost use Rattle.cell_table.specs.Refusals.{WantsMemory};
+ghost use Rattle.cell_store.specs.Edits.{AllAnswered, IsEditOf, IsFirstTouched, SameButAt, RefusesFor, EndsAtTouched};
 
 use crate::values::Values;
 use cell_table::{AnalysisFault, CellValue, Evaluator, Table, refusal};

@@ -2,7 +2,8 @@
 
 ghost use Rattle.std.specs.Prelude.{◌≡◌, ◌+◌, ◌-◌, ◌^◌, ◌<◌, ◌≤◌, ◌++◌, ◌∷◌, [], sum_by, IfErr, OnOk, OnErr, length};
 ghost use Rattle.net_cells.specs.Work.{work};
-ghost use Rattle.cell_store.specs.Edits.{IsEditOf, IsFirstTouched, AreGone, IsCleared, IsEditedTable, RefusesFor, WantsMemory, EditEnds};
+ghost use Rattle.cell_table.specs.Refusals.{WantsMemory};
+ghost use Rattle.cell_store.specs.Edits.{IsEditOf, IsFirstTouched, AreGone, IsCleared, IsEditedTable, RefusesFor, EditEnds};
 
 use crate::anew::made_anew;
 use crate::values::Values;

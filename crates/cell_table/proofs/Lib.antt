@@ -1,2 +1,3 @@
 pub mod GivesAnswers
 pub mod Fronts
+pub mod Wanting

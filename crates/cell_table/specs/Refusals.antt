@@ -10,3 +10,9 @@ abbrev pub fault_at : Cell → OpFault → AnalysisFault
 fault_at c operator.TooMany = TooMany c
 fault_at c operator.TooWide = TooWide c
 fault_at c operator.NoMemory = NoMemory
+
+-- where memory is wanting, it is so at some place
+abbrev pub WantsMemory : Type 0 → AnalysisFault → Type 0
+WantsMemory P (TooMany c) = Unit {0}
+WantsMemory P (TooWide c) = Unit {0}
+WantsMemory P NoMemory = P

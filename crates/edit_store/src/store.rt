@@ -60,7 +60,8 @@ impl<V: CellValue + Drop> Store<V> {
     ghost use Rattle.net_cells.specs.Work.{work};
     ghost use Rattle.net_cells.specs.MemoryEnds.{MemoryEnds};
     ghost use Rattle.cell_changes.specs.Slots.{slots};
-    ghost use Rattle.cell_store.specs.Edits.{IsFirst, IsFirstTouched, RefusesFor, WantsMemory, EditEnds};
+    ghost use Rattle.cell_table.specs.Refusals.{WantsMemory};
+    ghost use Rattle.cell_store.specs.Edits.{IsFirst, IsFirstTouched, RefusesFor, EditEnds};
     ghost use Rattle.edit_store.specs.Stored.{AreTouched, AreLost, IsStored, IsAdvanced, IsBack};
     ghost use Rattle.edit_store.specs.Replaced.{put_back};
     ghost use Rattle.edit_store.specs.Applied.{Gives, IsApplied, IsTaken, IsRefused, IsEvaluated, IsShown, IsHidden};

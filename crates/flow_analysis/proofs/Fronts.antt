@@ -1,5 +1,5 @@
 -- The cells before one, where they are answered by a table: those that a table has nothing at, and one that is refused.
-use Rattle.std.proofs.Common.{◌≡◌, List, [], ◌∷◌, ◌++◌, refl, sym, ◌∙◌, subst, inl}
+use Rattle.std.proofs.Common.{◌≡◌, List, [], ◌∷◌, ◌++◌, sym, ◌∙◌, subst, inl}
 use Rattle.std.specs.Prelude.{◌≢◌, None, Err, Contains}
 use Rattle.upp_limits.specs.declared.op_kind.OpFault.{OpFault}
 use Rattle.upp_limits.specs.declared.op_kind.OpFault.TheVariants as operator
@@ -13,7 +13,7 @@ use Rattle.cell_table.specs.declared.fault.AnalysisFault.{AnalysisFault}
 use Rattle.cell_table.specs.Gives.{Gives}
 use Rattle.cell_table.specs.Refusals.{fault_at}
 use Rattle.cell_table.proofs.GivesAnswers.{gives_over}
-use Rattle.flow_analysis.specs.Analyses.{IsFirstOver, IsRefusal, WantsMemory}
+use Rattle.flow_analysis.specs.Analyses.{IsFirstOver, IsRefusal}
 
 -- ---- nothing at other cells
 pub still_nothing : (at more : CellTable) (front : List Cell) (c : Cell)
@@ -53,13 +53,3 @@ pub refused : (net : Net) (cells : List Cell) (at : CellTable) (front : List Cel
 refused net cells at front c back fault why e split all gives =
     subst (λ (w : AnalysisFault). IsRefusal (IsFirstOver net cells) w) (sym e)
     (refused_at net cells at front c back fault split all gives)
-
--- ---- want of memory
-wants_at : (P : Type 0) (c : Cell) (fault : OpFault) → (fault ≡ operator.NoMemory → P) → WantsMemory P (fault_at c fault)
-wants_at P c operator.TooMany h = tt
-wants_at P c operator.TooWide h = tt
-wants_at P c operator.NoMemory h = h refl
-
-pub wants_memory : (P : Type 0) (c : Cell) (fault : OpFault) (why : AnalysisFault) → why ≡ fault_at c fault
-    → (fault ≡ operator.NoMemory → P) → WantsMemory P why
-wants_memory P c fault why e h = subst (λ (w : AnalysisFault). WantsMemory P w) (sym e) (wants_at P c fault h)

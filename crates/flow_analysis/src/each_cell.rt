@@ -5,7 +5,8 @@ ghost use Rattle.net_cells.specs.Equations.{MeetsEquations};
 ghost use Rattle.net_cells.specs.FirstOver.{AnswersAll};
 ghost use Rattle.net_cells.specs.Work.{work};
 ghost use Rattle.net_cells.specs.MemoryEnds.{MemoryEnds};
-ghost use Rattle.flow_analysis.specs.Analyses.{AreAllCells, HasNothingElse, IsFirstOver, IsRefusal, WantsMemory};
+ghost use Rattle.cell_table.specs.Refusals.{WantsMemory};
+ghost use Rattle.flow_analysis.specs.Analyses.{AreAllCells, HasNothingElse, IsFirstOver, IsRefusal};
 
 use cell_table::{Analysis, AnalysisFault, CellValue, Evaluator, Table, refusal};
 use net_cells::Cell;

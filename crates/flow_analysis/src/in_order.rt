@@ -7,7 +7,8 @@ ghost use Rattle.net_cells.specs.FirstOver.{AnswersAll, FirstOver};
 ghost use Rattle.net_cells.specs.Order.{evaluation_order};
 ghost use Rattle.net_cells.specs.Work.{work};
 ghost use Rattle.net_cells.specs.MemoryEnds.{MemoryEnds};
-ghost use Rattle.flow_analysis.specs.Analyses.{HasNothingElse, IsRefusal, WantsMemory};
+ghost use Rattle.cell_table.specs.Refusals.{WantsMemory};
+ghost use Rattle.flow_analysis.specs.Analyses.{HasNothingElse, IsRefusal};
 
 use crate::each_cell::analysed;
 use cell_table::{Analysis, AnalysisFault, CellValue, Evaluator, Table};

@@ -9,11 +9,11 @@ use Rattle.net_graph.specs.net_model.specs.Accepted.{IsAccepted}
 use Rattle.net_graph.specs.net_model.specs.Orders.{IsOrder}
 use Rattle.net_cells.specs.declared.cell.Cell.{Cell}
 use Rattle.net_cells.specs.Order.{evaluation_order}
-use Rattle.net_cells.specs.Formulas.{Formula, operators}
+use Rattle.net_cells.specs.Formulas.{Formula, operators, along}
 use Rattle.net_cells.specs.CellFormulas.{formula}
 use Rattle.net_cells.specs.Meanings.{CellTable}
 use Rattle.net_cells.specs.Answers.{Answers}
-use Rattle.net_cells.specs.Refusals.{RefusedAt}
+use Rattle.net_cells.specs.Refusals.{AtNone, RefusedAt, StopsAtNone}
 use Rattle.net_cells.specs.FirstOver.{AnswersAll, FirstOver}
 use Rattle.net_cells.specs.Work.{work}
 use Rattle.net_cells.specs.MemoryEnds.{EndsAt, making, keeping, EndsAtCell, at_none, at_cell, EndsSooner, MemoryEndsSooner}
@@ -24,15 +24,19 @@ use Rattle.net_cells.proofs.Works.{work_is}
 use Rattle.run_laws.proofs.Members.{Has, has_left, has_right, has_contains}
 
 -- ---- at one cell
+counts_none : (F : Formula) (fault : OpFault) (n : ℕ) → StopsAtNone F fault n → AtNone fault n
+counts_none (along cells links) fault n none = absurd none
+counts_none _ fault n none = none
+
 ends_most : (at : CellTable) (F : Formula) (n : ℕ) → EndsAt at F n → n ≤ operators F
-ends_most at F n (making (inl none)) = let e = none.0 in omega (arith, e)
+ends_most at F n (making (inl none)) = let e = (counts_none F NoMemory n none).0 in omega (arith, e)
 ends_most at F n (making (inr r)) = (refusals_placed at F).most n r
 ends_most at F n (keeping v a e) = omega (arith, e)
 
 ends_fewer : (at : CellTable) (F : Formula) (fault : OpFault) (n : ℕ) → fault ≢ NoMemory → EndsAt at F n → Answers at F (Err fault)
     → (k : ℕ) × RefusedAt at F fault k × (n < k)
 ends_fewer at F fault n limit (making (inl none)) over =
-    let e = none.0 in
+    let e = (counts_none F NoMemory n none).0 in
     let p = refusals_placed at F in
     let found = p.place fault over in
     let some = p.least fault found.0 limit found.1 in

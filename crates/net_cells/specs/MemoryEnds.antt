@@ -1,5 +1,6 @@
--- Where an analysis ends for want of memory, by how many operators on curves are counted by then; and that a limit is
--- told so nowhere. Own choice.
+-- Where an analysis ends for want of memory, by how many operators on curves are counted by then; and that the limit of an
+-- operator that is counted is told so nowhere. A sum of numbers alone counts none and takes no memory, so nothing ends in
+-- making it; but the count does not tell it from keeping the value of the cell before it. Own choice.
 use Rattle.std.specs.Prelude.{◌≡◌, ◌≢◌, ℕ, ◌+◌, ◌<◌, List, ◌∷◌, ◌++◌, Ok, sum_by}
 use Rattle.upp_limits.specs.declared.op_kind.OpFault.{OpFault}
 use Rattle.upp_limits.specs.declared.op_kind.OpFault.TheVariants.{NoMemory}

@@ -97,7 +97,11 @@ abbrev pub RefusedAt : CellTable → Formula → OpFault → ℕ → Type 0
 RefusedAt at F fault n = RefusedFrom at F [] fault n
 
 -- ---- a cell
--- what making the value of a cell is refused for, when n operators are counted: want of memory with none counted, as where
--- another cell's value is shared, or as above
+-- want of memory with none counted, as where another cell's value is shared; a sum of numbers takes no memory
+abbrev pub StopsAtNone : Formula → OpFault → ℕ → Type 0
+StopsAtNone (along cells links) fault n = ⊥
+StopsAtNone _ fault n = AtNone fault n
+
+-- what making the value of a cell is refused for, when n operators are counted: that, or as above
 abbrev pub Stops : CellTable → Formula → OpFault → ℕ → Type 0
-Stops at F fault n = AtNone fault n ⊎ RefusedAt at F fault n
+Stops at F fault n = StopsAtNone F fault n ⊎ RefusedAt at F fault n

@@ -29,5 +29,5 @@ returns-else-hop-eq0 g c = λ n.
     subst (λ k. Evaluates net at (cell_of In i k) n n r) next (record {
       answer = c.again.ensures;
       counts = counts_none n r;
-      memory = λ is. none_stops at (formula net (cell_of In i (suc (c.args.hop - 1)))) n;
+      memory = λ is. none_stops at (formula net (cell_of In i (suc (c.args.hop - 1)))) n (λ h. h);
     })

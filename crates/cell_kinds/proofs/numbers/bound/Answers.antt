@@ -23,5 +23,5 @@ returns g c = λ n. record {
       c.number_at-hop_by_hop.result c.number_at-whole_path.result
       c.number_at-hop_by_hop.ensures c.number_at-whole_path.ensures);
   counts = counts_none n _;
-  memory = λ is. none_stops (g.T.Table.at c.args.table.now) (formula c.args.net.now (cell_of Bound c.args.flow 0)) n;
+  memory = λ is. none_stops (g.T.Table.at c.args.table.now) (formula c.args.net.now (cell_of Bound c.args.flow 0)) n (λ h. h);
 }

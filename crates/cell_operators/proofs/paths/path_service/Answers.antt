@@ -38,11 +38,18 @@ returns-else-count-eq1-clause-answer g c =
 pub returns-then-count-eq1-clause-refused : goal.returns-then-count-eq1-clause-refused
 returns-then-count-eq1-clause-refused g c =
     let at = g.T.Table.at c.args.table.now in
-    let only = cell_of Residual c.args.flow 0 in
-    let none : c.args.steps.now - c.args.steps.now ≡ 0 = omega arith in
+    let net = c.args.net.now in
+    let i = c.args.flow in
+    let only = cell_of Residual i 0 in
+    let counted = c.args.steps.now - c.args.steps.now in
+    let none : counted ≡ 0 = omega arith in
+    let n = c.hops-count.ensures.hops in
+    let one = c.if-count-eq1.true in
+    let first : 0 ≡ hops net i - 1 = omega (arith, n, one) in
     if_err c.again.result
-    (λ e. Stops at (served_to c.args.net.now c.args.flow (hops c.args.net.now c.args.flow - 1)) e (c.args.steps.now - c.args.steps.now))
-    (λ e refused. inl (none, again_memory at only e (subst (λ r. Gives at (value_of only) (answer_of meaning_of r)) refused c.again.ensures)))
+    (λ e. Stops at (served_to net i (hops net i - 1)) e counted)
+    (λ e refused. subst (λ k. Stops at (served_to net i k) e counted) first
+    (inl (none, again_memory at only e (subst (λ r. Gives at (value_of only) (answer_of meaning_of r)) refused c.again.ensures))))
 
 pub returns-else-count-eq1-clause-refused : goal.returns-else-count-eq1-clause-refused
 returns-else-count-eq1-clause-refused g c =

@@ -12,7 +12,7 @@ use Rattle.cell_table.proofs.GivesAnswers.{gives_ok}
 use Rattle.cell_store.specs.Placed.{placed}
 use Rattle.cell_store.specs.Edits.{EndsAtTouched}
 use Rattle.cell_store.proofs.Fronts.{next_at, next_is_cell, next_below, next_has_slot, made_at, all_answered, refused, same_untouched, still_others, ends_at}
-use Rattle.cell_store.proofs.Wanting.{wants_memory}
+use Rattle.cell_table.proofs.Wanting.{wants_memory}
 use Rattle.cell_store.proofs.anew.made_anew.Goals as goal
 
 pub eval-requires-clause-cell : goal.eval-requires-clause-cell

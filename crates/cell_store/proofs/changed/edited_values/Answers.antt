@@ -1,6 +1,7 @@
 use Rattle.std.proofs.Common.{◌-◌, subst, arith}
 use Rattle.cell_store.specs.Placed.{placed}
-use Rattle.cell_store.specs.Edits.{WantsMemory, EditEnds, at_none}
+use Rattle.cell_table.specs.Refusals.{WantsMemory}
+use Rattle.cell_store.specs.Edits.{EditEnds, at_none}
 use Rattle.cell_store.proofs.changed.edited_values.Goals as goal
 
 pub returns-in-Err-clause-memory : goal.returns-in-Err-clause-memory

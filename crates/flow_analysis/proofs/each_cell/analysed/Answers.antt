@@ -12,7 +12,8 @@ use Rattle.net_cells.proofs.Tables.{answers_meet, front_meets_below}
 use Rattle.cell_table.specs.Values.{held}
 use Rattle.flow_analysis.specs.Analyses.{HasNothingElse}
 use Rattle.cell_table.proofs.Fronts.{no_cell, cell_at, at_place, grown}
-use Rattle.flow_analysis.proofs.Fronts.{still_nothing, refused, wants_memory}
+use Rattle.cell_table.proofs.Wanting.{wants_memory}
+use Rattle.flow_analysis.proofs.Fronts.{still_nothing, refused}
 use Rattle.net_cells.specs.CellFormulas.{formula}
 use Rattle.net_cells.specs.MemoryEnds.{MemoryEnds, making, keeping, at_cell}
 use Rattle.net_cells.proofs.Works.{work_is}

@@ -2,7 +2,8 @@ use Rattle.std.proofs.Common.{List, IfOk, IfErr, ◌-◌, ◌∙◌, subst, arit
 use Rattle.net_cells.specs.declared.cell.Cell.{Cell}
 use Rattle.net_cells.specs.contracts.cell.CellOrd.TheImpl as order
 use Rattle.cell_table.specs.Values.{held}
-use Rattle.flow_analysis.specs.Analyses.{HasNothingElse, WantsMemory}
+use Rattle.cell_table.specs.Refusals.{WantsMemory}
+use Rattle.flow_analysis.specs.Analyses.{HasNothingElse}
 use Rattle.net_cells.specs.MemoryEnds.{MemoryEnds, at_none}
 use Rattle.flow_analysis.proofs.in_order.analysed_in_order.Goals as goal
 

@@ -5,8 +5,7 @@ use Rattle.upp_limits.specs.declared.op_kind.OpFault.TheVariants as operator
 use Rattle.net_cells.specs.declared.cell.Cell.{Cell}
 use Rattle.cell_table.specs.declared.fault.AnalysisFault.{AnalysisFault}
 use Rattle.cell_table.specs.declared.fault.AnalysisFault.TheVariants.{TooMany, TooWide, NoMemory}
-use Rattle.cell_table.specs.Refusals.{fault_at}
-use Rattle.cell_store.specs.Edits.{WantsMemory}
+use Rattle.cell_table.specs.Refusals.{fault_at, WantsMemory}
 
 wants_at : (P : Type 0) (c : Cell) (fault : OpFault) → (fault ≡ operator.NoMemory → P) → WantsMemory P (fault_at c fault)
 wants_at P c operator.TooMany h = tt
