@@ -1,6 +1,5 @@
 pub mod Sorted
 pub mod OneReply
-pub mod Wanting
 pub mod Counting
 pub mod Unbounded
 pub mod ByStatus

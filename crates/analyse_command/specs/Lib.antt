@@ -1,4 +1,3 @@
 pub mod OnFiles
 pub mod AnswerCounts
-pub mod AnswerWants
 pub mod AnswerLaws

@@ -1,8 +1,7 @@
 //! The answer on a file.
 
-ghost use Rattle.std.specs.Prelude.{IfOk, OnErr};
+ghost use Rattle.std.specs.Prelude.{IfOk};
 ghost use Rattle.analyse_command.specs.AnswerCounts.{CountsOn};
-ghost use Rattle.analyse_command.specs.AnswerWants.{AnswerWants};
 ghost use Rattle.analyse_command.specs.OnFiles.{IsReplyOn};
 ghost use Rattle.command_replies.specs.View.{reply_of, status_of};
 
@@ -15,8 +14,7 @@ use std::sync::ledger::Ledger;
 use steps::Steps;
 
 /// The answer on a file with this name and these bytes, in this order: a rule that its tables break, a curve over a
-/// limit, a cycle, a cell over a limit, and else the report in a form. Refused only for want of memory: in reading or in
-/// the analysis, where each operator that is counted is within its limits, for the line of a refusal, or for the report.
+/// limit, a cycle, a cell over a limit, and else the report in a form. Refused only for want of memory.
 pub fn on_bytes<L: Ledger>(
     alloc: Global,
     file: &str,
@@ -26,7 +24,6 @@ pub fn on_bytes<L: Ledger>(
 ) -> Result<Answer, AllocError>
     ensures reply { IfOk result (λ r. IsReplyOn form file.now bytes.now (reply_of r)) }
     ensures counts { CountsOn bytes.now (status_of result) steps.old steps.new }
-    ensures memory { OnErr result (AnswerWants bytes.now steps.old steps.new) }
 {
     match read_network(alloc, bytes, steps) {
         Ok(network) => on_network(alloc, &network, form, steps),

@@ -1,9 +1,8 @@
 //! The answer on a network.
 
-ghost use Rattle.std.specs.Prelude.{◌-◌, IfOk, OnErr};
+ghost use Rattle.std.specs.Prelude.{IfOk};
 ghost use Rattle.net_model.specs.Orders.{IsOrder};
 ghost use Rattle.analyse_command.specs.AnswerCounts.{CountsOnNet};
-ghost use Rattle.analyse_command.specs.AnswerWants.{CellsWant, NetWants};
 ghost use Rattle.analyse_command.specs.OnFiles.{IsReplyOnNet};
 ghost use Rattle.command_replies.specs.View.{reply_of, status_of};
 
@@ -28,7 +27,6 @@ fn in_order<L: Ledger>(
     requires { IsOrder net.now order.now }
     ensures reply { IfOk result (λ r. IsReplyOnNet form net.now (reply_of r)) }
     ensures counts { CountsOnNet net.now (status_of result) steps.old steps.new }
-    ensures memory { OnErr result (CellsWant net.now order.now (steps.new - steps.old)) }
 {
     net.keeps();
     match analyse(alloc, net, order, steps) {
@@ -55,7 +53,6 @@ pub(crate) fn on_network<L: Ledger>(
 ) -> Result<Answer, AllocError>
     ensures reply { IfOk result (λ r. IsReplyOnNet form net.now (reply_of r)) }
     ensures counts { CountsOnNet net.now (status_of result) steps.old steps.new }
-    ensures memory { OnErr result (NetWants net.now steps.old steps.new) }
 {
     net.keeps();
     match order(alloc, net) {

@@ -1,9 +1,7 @@
-use Rattle.std.proofs.lemmas.Result.{IfOk-weaker, on_err_weaker}
+use Rattle.std.proofs.lemmas.Result.{IfOk-weaker}
 use Rattle.command_replies.specs.View.{reply_of, status_of}
-use Rattle.analyse_command.specs.AnswerWants.{on_net}
 use Rattle.analyse_command.proofs.Counting.{of_network}
 use Rattle.analyse_command.proofs.OnNets.{on_no_network}
-use Rattle.analyse_command.proofs.Wanting.{always, without_network}
 use Rattle.command_replies.proofs.FirstFaults.{on_told}
 use Rattle.analyse_command.proofs.on_file.on_bytes.Goals as goal
 
@@ -24,14 +22,3 @@ returns-in-Err-clause-reply g c =
     (λ r told. on_no_network c.args.form c.args.file.now c.args.bytes.now (reply_of r) told)
     (on_told c.args.file.now c.args.bytes.now c.in-Err.fault c.on_fault.result c.in-Err.ensures.fault
     c.on_fault.ensures.reply c.on_fault.ensures.told)
-
-pub returns-in-Ok-clause-memory : goal.returns-in-Ok-clause-memory
-returns-in-Ok-clause-memory g c =
-    on_err_weaker c.on_network.result
-    (on_net c.in-Ok.network c.read_network.new.steps c.in-Ok.ensures.network c.read_network.ensures.rises) c.on_network.ensures.memory
-
-pub returns-in-Err-clause-memory : goal.returns-in-Err-clause-memory
-returns-in-Err-clause-memory g c =
-    always c.on_fault.result _
-    (without_network c.args.bytes.now c.in-Err.fault c.args.steps.now c.read_network.new.steps c.in-Err.ensures.fault
-    c.in-Err.ensures.memory)

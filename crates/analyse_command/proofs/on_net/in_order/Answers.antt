@@ -1,14 +1,11 @@
 use Rattle.std.proofs.lemmas.Result.{IfOk-weaker}
 use Rattle.upp_limits.specs.declared.own_limits.OverLimit.TheVariants.{TooMany, TooWide}
-use Rattle.upp_limits.specs.declared.op_kind.OpFault.TheVariants as limit
 use Rattle.report_text.specs.CellWords.{cell_words}
 use Rattle.command_replies.specs.Replies.{cell_over}
 use Rattle.command_replies.specs.View.{reply_of, status_of}
 use Rattle.command_replies.proofs.Statuses.{refused}
 use Rattle.analyse_command.proofs.Counting.{by_order}
-use Rattle.analyse_command.specs.AnswerWants.{analysing, refusing}
 use Rattle.analyse_command.proofs.OnNets.{on_over}
-use Rattle.analyse_command.proofs.Wanting.{always, for_report}
 use Rattle.analyse_command.proofs.on_net.in_order.Goals as goal
 
 pub returns-in_err-text-in-Ok-clause-counts : goal.returns-in_err-text-in-Ok-clause-counts
@@ -55,21 +52,3 @@ pub returns-in-Err-NoMemory-clause-counts : goal.returns-in-Err-NoMemory-clause-
 returns-in-Err-NoMemory-clause-counts g c =
     by_order c.args.net.now c.args.order.now 5 c.args.steps.now c.analyse.new.steps
     c.keeps.ensures c.requires c.analyse.ensures.rises c.analyse.ensures.within (λ zero. absurd (cc))
-
-pub returns-in_err-text-in-Ok-clause-memory : goal.returns-in_err-text-in-Ok-clause-memory
-returns-in_err-text-in-Ok-clause-memory g c =
-    always c.from_residual.result _
-    (for_report c.args.net.now c.args.order.now _ c.args.steps.now c.analyse.new.steps c.in-Ok.ensures.answers c.in-Ok.ensures.exact)
-
-pub returns-in-Err-TooMany-clause-memory : goal.returns-in-Err-TooMany-clause-memory
-returns-in-Err-TooMany-clause-memory g c =
-    always c.cell_too_many.result _
-    (refusing c.in-Err-TooMany.cell limit.TooMany (rw c.in-Err-TooMany.field-0-is at c.in-Err-TooMany.ensures.refused))
-
-pub returns-in-Err-TooWide-clause-memory : goal.returns-in-Err-TooWide-clause-memory
-returns-in-Err-TooWide-clause-memory g c =
-    always c.cell_too_wide.result _
-    (refusing c.in-Err-TooWide.cell limit.TooWide (rw c.in-Err-TooWide.field-0-is at c.in-Err-TooWide.ensures.refused))
-
-pub returns-in-Err-NoMemory-clause-memory : goal.returns-in-Err-NoMemory-clause-memory
-returns-in-Err-NoMemory-clause-memory g c = analysing (rw c.in-Err-NoMemory.field-0-is at c.in-Err-NoMemory.ensures.memory)
