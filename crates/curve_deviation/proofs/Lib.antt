@@ -15,3 +15,4 @@ pub mod WindowTimes
 pub mod Searching
 pub mod PeriodsFound
 pub mod HorizontalCall
+pub mod ExistingVerticals

@@ -3,3 +3,4 @@ pub mod Parts
 pub mod Rises
 pub mod Lags
 pub mod Stages
+pub mod Existing

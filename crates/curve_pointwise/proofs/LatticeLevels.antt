@@ -150,7 +150,7 @@ minus_none l f w F W none = record {
   gauge = λ k m L. absurd (named l f w W (λ s p. (k : ℕ) → ¬ (Enough l f s p k)) none k (meets_in l f k (late l f w k F W) L.first.meets));
 }
 
-minus_least : (l : ℚ) (f : SpecCurve) (w : CallWindow) (k : ℕ) → IsCurve f → IsFirstWindow (PosMinus l) f f w → IsLeast (Enough l f w.start w.period) k → IsLeastPeriods (PosMinus l) f f k 0
+pub minus_least : (l : ℚ) (f : SpecCurve) (w : CallWindow) (k : ℕ) → IsCurve f → IsFirstWindow (PosMinus l) f f w → IsLeast (Enough l f w.start w.period) k → IsLeastPeriods (PosMinus l) f f k 0
 minus_least l f w k F W L =
     pos_minus_least l f f k
     (same_least (Meets (PosMinus l) f f) (Enough l f (steady f) (own_period f)) k (λ i M. meets_in l f i (late l f w i F W) M) (λ i E. meets_out l f i (late l f w i F W) E)

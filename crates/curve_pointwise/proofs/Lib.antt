@@ -9,3 +9,7 @@ pub mod LeftWindow
 pub mod ShiftCall
 pub mod Nowhere
 pub mod StraightSums
+pub mod ExistingSums
+pub mod ExistingLattices
+pub mod ExistingMoves
+pub mod ExistingLevels

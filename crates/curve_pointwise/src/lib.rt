@@ -4,6 +4,7 @@
 
 mod extremes;
 mod lattice;
+mod laws;
 mod levels;
 mod scaling;
 mod shifts;
@@ -11,6 +12,7 @@ mod straight;
 mod sums;
 
 pub use extremes::{max, min, pos_diff};
+pub use laws::answers_exist;
 pub use levels::pos_minus;
 pub use scaling::scale;
 pub use shifts::{infinite_curve, left_window, shift};

@@ -20,3 +20,6 @@ pub mod InfimumRuns
 pub mod FirstWindows
 pub mod Dips
 pub mod FiniteRuns
+pub mod ExistingScans
+pub mod ExistingRuns
+pub mod ExistingInfima

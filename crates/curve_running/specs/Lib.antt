@@ -4,3 +4,4 @@ pub mod Made
 pub mod Between
 pub mod Periods
 pub mod Runs
+pub mod Existing

@@ -15,3 +15,4 @@ pub mod MadeWindows
 pub mod TailGrids
 pub mod Worked
 pub mod LowerWindows
+pub mod Existing

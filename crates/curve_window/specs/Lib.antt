@@ -6,3 +6,4 @@ pub mod Made
 pub mod Operands
 pub mod Worked
 pub mod Lower
+pub mod Existing

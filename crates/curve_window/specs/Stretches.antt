@@ -1,11 +1,10 @@
 -- Two windows read together: at each start of either, both are cut, so that up to the next one each goes on with one
 -- line. A window is a list of pieces from 0 on, read up to some end. Own choice.
-use Rattle.std.specs.Prelude.{◌≡◌, ◌+◌, ◌≤◌, pos, List, [], ◌∷◌, length, Option, None, ◌⊎◌}
+use Rattle.std.specs.Prelude.{◌≡◌, ◌+◌, ◌≤◌, pos, List, [], ◌∷◌, length, ◌⊎◌}
 use Rattle.rational.specs.Rational.{ℚ, ◌≤ℚ◌, int}
-use Rattle.affine_segment.specs.declared.line.Line.{Line}
 use Rattle.affine_segment.specs.declared.line.Piece.{Piece}
 use Rattle.affine_segment.specs.Values.{line_value}
-use Rattle.affine_segment.specs.Reading.{read, piece_in, line_in}
+use Rattle.affine_segment.specs.Reading.{read, line_in}
 use Rattle.affine_segment.specs.Pieces.{HasStart, StartsAtZero}
 use Rattle.affine_segment.specs.Fits.{LineFitsAt}
 use Rattle.curve_window.specs.declared.stretch.Both.{Both}

@@ -3,6 +3,7 @@
 #![tactic(auto)]
 
 mod compared;
+mod laws;
 mod lie;
 mod lower;
 mod made;
@@ -10,6 +11,7 @@ mod stretch;
 mod sum;
 
 pub use compared::{window_excess, window_max, window_min};
+pub use laws::windows_exist;
 pub use lower::window_lower;
 pub use made::{excess_value, lines_apart};
 pub use stretch::{Both, overlay};

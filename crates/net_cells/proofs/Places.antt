@@ -243,7 +243,7 @@ kind_at_rank Tfa = refl
 kind_at_rank Sfa = refl
 kind_at_rank Bound = refl
 
-rank_one : (j k : Kind) → rank j ≡ rank k → j ≡ k
+pub rank_one : (j k : Kind) → rank j ≡ rank k → j ≡ k
 rank_one j k e = sym (kind_at_rank j) ∙ ap kind_at e ∙ kind_at_rank k
 
 pub kinds_before : (j k : Kind) → rank j < rank k → rank k < 13 → Before j k server_kinds

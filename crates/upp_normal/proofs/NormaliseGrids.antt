@@ -105,7 +105,7 @@ q_same_or x y = elim (le_or_lt x y) [
   ]
 ]
 
-ext_same_or : (x y : Ext) → (x ≡ y) ⊎ ¬ (x ≡ y)
+pub ext_same_or : (x y : Ext) → (x ≡ y) ⊎ ¬ (x ≡ y)
 ext_same_or Inf Inf = inl refl
 ext_same_or Inf (Fin y) = inr (λ e. cc)
 ext_same_or (Fin x) Inf = inr (λ e. cc)
@@ -117,7 +117,7 @@ ext_same_or (Fin x) (Fin y) = elim (q_same_or x y) [
 pub some_same : (x y : Line) → Some x ≡ Some y → x ≡ y
 some_same x y e = cc
 
-line_same_or : (l m : Option Line) → (l ≡ m) ⊎ ¬ (l ≡ m)
+pub line_same_or : (l m : Option Line) → (l ≡ m) ⊎ ¬ (l ≡ m)
 line_same_or None None = inl refl
 line_same_or None (Some m) = inr (λ e. cc)
 line_same_or (Some l) None = inr (λ e. cc)

@@ -144,7 +144,7 @@ copy_fits m times values p ps r d c T low some inside =
 
 -- ---- a period between breaks
 -- a share is no larger
-share_within : (v x : ℚ) (n : ℕ) → 1 ≤ n → Within v x → Within v (x /ℚ int (pos n))
+pub share_within : (v x : ℚ) (n : ℕ) → 1 ≤ n → Within v x → Within v (x /ℚ int (pos n))
 share_within v x n h W =
     let k = int (pos n) in
     let q = x /ℚ k in
@@ -168,7 +168,7 @@ share_within v x n h W =
           record { low = with3 v x q (λ c. omega (arith, c.le, c.lt, c.same)); high = with2 v q (λ c. omega (arith, c.le, c.lt, c.same)) }
     ]
 
-share_less : (x : ℚ) (n : ℕ) → 1 ≤ n → int (pos 0) ≤ℚ x → x /ℚ int (pos n) ≤ℚ x
+pub share_less : (x : ℚ) (n : ℕ) → 1 ≤ n → int (pos 0) ≤ℚ x → x /ℚ int (pos n) ≤ℚ x
 share_less x n h s = (share_within x x n h record { low = with1 x (λ c. omega (arith, c.le, c.lt, c.same)); high = le_refl x }).high
 
 share_move : (m : Room) (period rise : ℚ) (n : ℕ) → 1 ≤ n → int (pos 0) <ℚ period → IsMove m period rise → Whole m.times (period /ℚ int (pos n)) → Whole (m.base * m.slopes) (rise /ℚ int (pos n))

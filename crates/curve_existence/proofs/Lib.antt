@@ -1,0 +1,6 @@
+pub mod Deciding
+pub mod Shortest
+pub mod Lowest
+pub mod Periods
+pub mod Forms
+pub mod Stretches
