@@ -27,5 +27,5 @@ pub record MayBeMade (net : Net) (at : CellTable) (c : Cell) : Type 0 where
 pub record Evaluates (net : Net) (at : CellTable) (c : Cell) (old new : ℕ) (r : Answer) : Type 0 where
   pub answer : Gives at (formula net c) r
   pub counts : Counts (work net c) old new r
-  -- no limit is told as want of memory
+  -- no limit of a counted operator is told as want of memory
   pub memory : r ≡ Err NoMemory → Stops at (formula net c) NoMemory (new - old)

@@ -30,7 +30,7 @@ pub fn formulas_are_determined()
 {}
 
 /// Where the making of a formula's value is refused has a place among its operators. Want of memory has fewer of them
-/// counted than a limit of the same formula is at, so that no limit can be told so.
+/// counted than a limit of the same formula is at, so that no limit of a counted one can be told so.
 pub fn refusals_are_placed()
     ensures { RefusalsArePlaced }
 {}

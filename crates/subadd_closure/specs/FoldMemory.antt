@@ -1,6 +1,6 @@
 -- Where the fold of a closure stopped for want of memory, by how many of its calls are counted: those before have made
--- their curves, and the last that is counted is within its limits. So no limit of a call is told as want of memory. Own
--- choice.
+-- their curves, and the last that is counted is within its limits. So no limit of a counted call is told as want of
+-- memory. Own choice.
 use Rattle.std.specs.Prelude.{◌≡◌, ◌⊎◌, ℕ, ◌+◌, ◌≤◌, List, [], ◌∷◌, ◌++◌, Ok, Err}
 use Rattle.upp_limits.specs.declared.op_kind.OpKind.TheVariants.{Convolve}
 use Rattle.upp_limits.specs.declared.op_kind.OpFault.TheVariants.{NoMemory}
