@@ -72,6 +72,7 @@ def piece_text(x, at, after=None, slope=None) -> str:
 
 PRIORITY = 'discipline = "priority"\nqueues = 2\n'
 DEFICIT = 'discipline = "drr"\nquanta = [16, 16]\n'
+DIVISORS = (1, 2, 3, 4, 6, 8, 12, 16, 24, 32)
 
 
 def gate_beside_stair(period: str, more: str = PRIORITY) -> str:
@@ -155,7 +156,9 @@ CASES = {
     "gates of cycles 300 and 301, rates close to each other": (
         "analyse", two_gates((300, 100), (301, 100), ("100", "100001/1000")), 7),
     "gates of cycles 1000 and 1001": ("analyse", two_gates((1000, 250), (1001, 250), ("10", "20")), 7),
-    "16 stairs of periods 1 to 32 over 4 hops": ("analyse", many_stairs(16, 4, lambda number: 2 * number + 2), 7),
+    "16 stairs of periods 1 to 32, powers of 2, over 4 hops": ("analyse", many_stairs(16, 4, lambda number: 2 ** (5 - number % 6)), 7),
+    "16 stairs of periods 1 to 32 that divide 96 over 4 hops": ("analyse", many_stairs(16, 4, lambda number: DIVISORS[number % 10]), 7),
+    "16 stairs of even periods 2 to 32 over 4 hops": ("analyse", many_stairs(16, 4, lambda number: 2 * number + 2), 7),
     "16 stairs of odd periods over 4 hops": ("analyse", many_stairs(16, 4, lambda number: 2 * number + 1), 7),
     "256 stairs of one period over 4 hops": ("analyse", many_stairs(256, 4, lambda number: 1000), 7),
     "256 stairs of periods 1000 to 1255": ("analyse", many_stairs(256, 1, lambda number: 1000 + number), 7),
