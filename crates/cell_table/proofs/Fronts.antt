@@ -11,20 +11,13 @@ use Rattle.net_cells.specs.Order.{evaluation_order}
 use Rattle.net_cells.specs.CellFormulas.{formula}
 use Rattle.net_cells.specs.Meanings.{Meaning, CellTable}
 use Rattle.net_cells.specs.FirstOver.{IsAnswered, AnswersAll}
-use Rattle.net_cells.proofs.Lists.{Has, Apart, contains_has, has_contains, has_either, has_right}
+use Rattle.net_cells.proofs.Lists.{Has, Apart, apart_middle, contains_has, has_contains, has_either}
 use Rattle.net_cells.proofs.SameLeaves.{AgreeOn, answers_same}
 use Rattle.net_cells.proofs.Members.{apart_cells}
 use Rattle.net_cells.proofs.Precedes.{leaf_in_front}
 use Rattle.net_cells.proofs.Tables.{closed_front}
 use Rattle.cell_table.specs.Gives.{Gives}
 use Rattle.cell_table.proofs.GivesAnswers.{gives_ok}
-
--- ---- lists
--- what stands before an element that is not repeated is another one
-not_in_front : (front : List Cell) (c : Cell) (back : List Cell) → Apart (front ++ c ∷ back) → ¬ (Has front c)
-not_in_front [] c back a h = h
-not_in_front (x ∷ xs) c back a (inl e) = a.0 (has_right xs (c ∷ back) x (inl (sym e)))
-not_in_front (x ∷ xs) c back a (inr h) = not_in_front xs c back a.1 h
 
 -- any cell, for a place past the last
 abbrev pub no_cell : Cell
@@ -50,7 +43,7 @@ grown net order at more front c back v a o is all gives put others d m =
     elim (has_either front (c ∷ []) d (contains_has (front ++ c ∷ []) d m)) [ inl l ↦ old d l | inr r ↦ new d r ]
   where
     away : ¬ (Has front c)
-    away = not_in_front front c back (subst (λ (cs : List Cell). Apart cs) is (apart_cells net order o))
+    away = apart_middle front c back (subst (λ (cs : List Cell). Apart cs) is (apart_cells net order o))
 
     same : AgreeOn front at more
     same e h = sym (others e (λ k. away (subst (λ (x : Cell). Has front x) k h)))

@@ -1,7 +1,7 @@
 -- Two curves have a vertical deviation, or their call is over a limit.
-use Rattle.std.specs.Prelude.{◌≡◌, ◌≢◌, ◌⊎◌, pos, Bool, true, false, List, [], ◌∷◌, Result, Ok, Err, Option, None, Some}
+use Rattle.std.specs.Prelude.{◌≡◌, ◌≢◌, ◌⊎◌, pos, true, false, List, [], ◌∷◌, Result, Ok, Err, Option, None, Some}
 use Rattle.std.proofs.Common.{refl, sym, inl, inr, subst, true≢false}
-use Rattle.rational.specs.Rational.{ℚ, ◌+ℚ◌, int}
+use Rattle.rational.specs.Rational.{◌+ℚ◌, int}
 use Rattle.rational.specs.Extended.{Ext, ◌<ₑ◌}
 use Rattle.rational.specs.declared.Extended.TheVariants.{Fin, Inf}
 use Rattle.affine_segment.specs.declared.line.Line.{Line}
@@ -29,7 +29,7 @@ use Rattle.curve_least.specs.declared.gaps.Gap.{Gap}
 use Rattle.curve_least.specs.declared.gaps.Gap.TheVariants.{NoTime, Never, Is}
 use Rattle.curve_least.specs.Gaps.{InWindow, IsGap}
 use Rattle.answer_existence.proofs.Answered.{limited}
-use Rattle.least_existence.proofs.Gaps.{gap_over}
+use Rattle.curve_least.proofs.GapThere.{gap_there}
 use Rattle.curve_deviation.specs.Existing.{Measures}
 use Rattle.curve_deviation.proofs.AtOnce.{not_finite_deviation}
 use Rattle.curve_deviation.proofs.VerticalCall.{frame_compared, known_within, faster_at_once, not_known}
@@ -92,7 +92,7 @@ by_frame f g r R within first second slow =
     let z = sizes_at Vertical f g 0 0 in
     let C = frame_compared f g r R in
     let W = whole_window z r.start r.period f g C in
-    by_gap (gap_over z f g (int (pos 0)) (r.start +ℚ r.period) W.0 W.1 W.2)
+    by_gap (gap_there z f g (int (pos 0)) (r.start +ℚ r.period) W.0 W.1 W.2)
   where
     by_gap : (gap : Gap) × IsGap (InWindow (int (pos 0)) (r.start +ℚ r.period)) (value_at f) (value_at g) gap → HasVertical f g
     by_gap (Is q, h) = (Ok (Fin q), (within, vertical_is (sizes_at Vertical f g 0 0) r.start r.period f g q (frame_compared f g r R) first second slow h))

@@ -19,6 +19,7 @@ use Rattle.upp_curve.specs.Normal.{IsRaw, IsNormal, NoMerge, FitsPeriod}
 use Rattle.upp_curve.specs.Readable.{EachFits}
 use Rattle.upp_curve.specs.Unrolled.{upto}
 use Rattle.upp_curve.proofs.ByTail.{value_of}
+use Rattle.upp_curve.proofs.CurveShapes.{curve}
 use Rattle.upp_curve.proofs.OneForm.{affine, infinite}
 use Rattle.upp_curve.proofs.Repeats.{repeated_rule}
 use Rattle.upp_limits.specs.Limits.{own_end, own_sizes, own_gauge}
@@ -149,20 +150,17 @@ record CurveFits (c : SpecCurve) : Type 0 where
   grids : TailOnGrids times heights c.tail (value_at c)
   room : TailHasRoom times heights c.pieces c.tail
 
-abbrev curve_of : List Piece → Tail → SpecCurve
-curve_of ps tail = record { pieces = ps; tail = tail }
-
-raw_form : (ps : List Piece) (tail : Tail) → IsRaw (curve_of ps tail) → HasForm (value_at (curve_of ps tail)) (CurveFits (curve_of ps tail))
+raw_form : (ps : List Piece) (tail : Tail) → IsRaw (curve ps tail) → HasForm (value_at (curve ps tail)) (CurveFits (curve ps tail))
 raw_form ps (Affine r) raw =
-    through (read ps) (value_at (curve_of ps (Affine r))) (λ t h. value_of (curve_of ps (Affine r)) ps (Affine r) (Affine r) t refl refl)
+    through (read ps) (value_at (curve ps (Affine r))) (λ t h. value_of (curve ps (Affine r)) ps (Affine r) (Affine r) t refl refl)
     (λ k. (k.room.0, more_room k.room.0 ps k.room.1)) (of_pieces ps raw.starts)
 raw_form ps (Infinite r) raw =
-    through (read (ended ps r)) (value_at (curve_of ps (Infinite r)))
-    (λ t h. ended_reads ps r t raw.starts h ∙ value_of (curve_of ps (Infinite r)) ps (Infinite r) (Infinite r) t refl refl)
+    through (read (ended ps r)) (value_at (curve ps (Infinite r)))
+    (λ t h. ended_reads ps r t raw.starts h ∙ value_of (curve ps (Infinite r)) ps (Infinite r) (Infinite r) t refl refl)
     (λ k. (k.room.0, ended_room k.room.0 ps r k.room.1 raw.starts raw.tail.nonneg)) (of_pieces (ended ps r) (ended_starts ps r raw.starts raw.tail.nonneg))
 raw_form ps (Periodic r d c) raw =
-    let f = value_at (curve_of ps (Periodic r d c)) in
-    let same = λ (t : ℚ). value_of (curve_of ps (Periodic r d c)) ps (Periodic r d c) (Periodic r d c) t refl refl in
+    let f = value_at (curve ps (Periodic r d c)) in
+    let same = λ (t : ℚ). value_of (curve ps (Periodic r d c)) ps (Periodic r d c) (Periodic r d c) t refl refl in
     through (repeated (read ps) r d c) f (λ t h. same t)
     (λ k. record { room = k.room.0; times = k.times; heights = k.heights; has = k.room.1; grids = grids_through k.times k.heights (repeated (read ps) r d c) f r d c same k.grids })
     (of_periodic ps r d c raw.starts raw.tail)

@@ -3,4 +3,3 @@ pub mod Shortest
 pub mod Lowest
 pub mod Periods
 pub mod Forms
-pub mod Stretches

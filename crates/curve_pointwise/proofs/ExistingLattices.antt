@@ -11,7 +11,7 @@ use Rattle.upp_curve.specs.Steady.{rate, rise_over}
 use Rattle.upp_curve.specs.Unrolled.{unroll}
 use Rattle.upp_limits.specs.declared.op_kind.OpKind.TheVariants.{Min, Max, PosDiff}
 use Rattle.upp_limits.specs.declared.op_kind.OpFault.TheVariants.{TooWide}
-use Rattle.upp_limits.specs.Gauges.{IsKnownAtOnce, gauge_at}
+use Rattle.upp_limits.specs.Gauges.{gauge_at}
 use Rattle.upp_limits.specs.Periods.{both_steady, common_period}
 use Rattle.upp_limits.specs.Windows.{window_at, IsLeast}
 use Rattle.min_plus.specs.Functions.{IsFinite}
@@ -35,7 +35,7 @@ use Rattle.curve_pointwise.specs.Lattice.{kind_of, made_of, rises_of, FiniteFor,
 use Rattle.curve_pointwise.specs.LatticeCall.{IsLatticeFrame}
 use Rattle.curve_pointwise.proofs.LatticeAnswers.{slower_or_not, lattice_answer, lattice_values}
 use Rattle.curve_pointwise.proofs.LatticeCalls.{operands, first_compared}
-use Rattle.curve_pointwise.proofs.LatticeLimits.{wide_first, none_wide, some_least, lattice_frame}
+use Rattle.curve_pointwise.proofs.LatticeLimits.{looks, wide_first, none_wide, some_least, lattice_frame}
 
 -- ---- within both limits
 rises_by : (P : Type 0) (a b : ℚ) → P ⊎ ¬ P → (rise : ℚ) × RisesBy P a b rise
@@ -65,11 +65,6 @@ lattice_curve of f g r F finite =
     (c, curve, lattice_values of f g r ls rs ps from rise c F finite refl refl W refl R same)
 
 -- ---- the number of periods
-looks : (of : Lattice) (f g : SpecCurve) → ¬ (IsKnownAtOnce (kind_of of) f g)
-looks Lower f g h = h
-looks Upper f g h = h
-looks Excess f g h = h
-
 second : (of : Lattice) (g : SpecCurve) → IsCurve g → SecondIsCurve (kind_of of) g
 second Lower g G = G
 second Upper g G = G

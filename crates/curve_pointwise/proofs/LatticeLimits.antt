@@ -34,7 +34,7 @@ forward_kind Lower = tt
 forward_kind Upper = tt
 forward_kind Excess = tt
 
-looks : (of : Lattice) (f g : SpecCurve) → ¬ (IsKnownAtOnce (kind_of of) f g)
+pub looks : (of : Lattice) (f g : SpecCurve) → ¬ (IsKnownAtOnce (kind_of of) f g)
 looks Lower f g h = h
 looks Upper f g h = h
 looks Excess f g h = h

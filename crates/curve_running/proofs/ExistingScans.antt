@@ -1,11 +1,11 @@
 -- The scan for the running supremum of a window, and its supremum between two times, without memory.
-use Rattle.std.specs.Prelude.{◌≡◌, ℕ, zero, suc, ◌+◌, ◌-◌, ◌<◌, ◌≤◌, pos, List, [], ◌++◌, drop, length, Option, Some, None, ◌⊎◌}
-use Rattle.std.proofs.Common.{arith, get_or, sym, ap, refl, subst, inl, inr, ◌∙◌}
+use Rattle.std.specs.Prelude.{◌≡◌, ℕ, zero, suc, ◌+◌, ◌-◌, ◌<◌, ◌≤◌, pos, List, [], ◌++◌, drop, length, Option, Some, None}
+use Rattle.std.proofs.Common.{arith, sym, refl, subst, inl, inr, ◌∙◌}
 use Rattle.std.proofs.lemmas.Bool.{cases_lt}
 use Rattle.std.proofs.lemmas.Option.{slice_get_cases}
 use Rattle.rational.specs.Rational.{ℚ, ◌-ℚ◌, ◌/ℚ◌, ◌≤ℚ◌, ◌<ℚ◌, int}
 use Rattle.rational.specs.MinMax.{max_q, min_q}
-use Rattle.rational.specs.Extended.{Ext, ◌≤ₑ◌}
+use Rattle.rational.specs.Extended.{◌≤ₑ◌}
 use Rattle.rational.specs.declared.Extended.TheVariants.{Fin}
 use Rattle.rational.specs.Gauge.{size_up}
 use Rattle.rational.proofs.Laws.{le_or_lt, lt_irrefl}

@@ -1,9 +1,8 @@
 -- From which number of periods on the slower of two curves is nowhere above the faster.
-use Rattle.std.specs.Prelude.{ℕ, pos, Option, Some, None, MatchOption}
+use Rattle.std.specs.Prelude.{ℕ, Option, Some, None, MatchOption}
 use Rattle.std.proofs.Common.{inl, inr, sym}
-use Rattle.rational.specs.Rational.{ℚ, ◌+ℚ◌, ◌-ℚ◌, ◌*ℚ◌, ◌≤ℚ◌, ◌<ℚ◌, int}
+use Rattle.rational.specs.Rational.{ℚ, ◌+ℚ◌, ◌-ℚ◌}
 use Rattle.rational.specs.Extended.{◌<ₑ◌}
-use Rattle.rational.proofs.Laws.{le_or_lt}
 use Rattle.upp_curve.specs.Curve.{SpecCurve, value_at}
 use Rattle.upp_curve.specs.Steady.{rate, rise_over}
 use Rattle.upp_limits.specs.Limits.{Sizes}
@@ -14,29 +13,23 @@ use Rattle.curve_least.specs.declared.gaps.Gap.{Gap}
 use Rattle.curve_least.specs.declared.gaps.Gap.TheVariants.{NoTime, Never, Is}
 use Rattle.curve_least.specs.Gaps.{InWindow, IsGap, IsLargest}
 use Rattle.curve_least.proofs.EitherOrder.{IsEnough, other_way, of_first, of_second, of_equal}
-use Rattle.curve_least.proofs.LeastNumber.{IsBelowAfter, number_zero, number_least, compared_window, largest_finite, lead_is, least_none, least_endless, least_gap}
-use Rattle.least_existence.proofs.Gaps.{gap_over}
+use Rattle.curve_least.proofs.LeastNumber.{IsBelowAfter, compared_window, largest_finite, lead_is, least_none, least_endless, least_gap}
+use Rattle.curve_least.proofs.BoundedNumber.{least_found}
+use Rattle.curve_least.proofs.GapThere.{gap_there}
 
 -- some number is the least with P, or none has it
 abbrev pub IsFound : (ℕ → Type 0) → Type 0
 IsFound P = (k : Option ℕ) × MatchOption k ((n : ℕ) → ¬ (P n)) (IsLeast P)
 
--- ---- the number of leads that make up for a gap
-least_times : (gap lead : ℚ) → int (pos 0) <ℚ lead → (k : ℕ) × IsLeast (λ n. gap ≤ℚ int (pos n) *ℚ lead) k
-least_times gap lead some = elim (le_or_lt gap (int (pos 0))) [
-  | inl low ↦ (0, number_zero gap lead low)
-  | inr high ↦ (_, number_least gap lead high some)
-]
-
 -- ---- a slower and a faster curve
 below : (z : Sizes) (from d : ℚ) (slow fast : SpecCurve) → rate slow <ₑ rate fast → AreCompared z from d slow fast → IsFound (IsBelowAfter slow fast from d)
-below z from d slow fast slower C = let (V, W, T) = compared_window z from d slow fast C.first.curve C.second.curve C in by_gap (gap_over z slow fast from (from +ℚ d) V W T)
+below z from d slow fast slower C = let (V, W, T) = compared_window z from d slow fast C.first.curve C.second.curve C in by_gap (gap_there z slow fast from (from +ℚ d) V W T)
   where
     by_largest : (q : ℚ) → IsLargest (InWindow from (from +ℚ d)) (value_at slow) (value_at fast) q → IsFound (IsBelowAfter slow fast from d)
     by_largest q L =
         let finite = largest_finite from (from +ℚ d) q slow fast L in
         let lead = lead_is z from d slow fast slower C finite.0 finite.1 in
-        let (k, least) = least_times q (rise_over fast d -ℚ rise_over slow d) lead.some in
+        let (k, least) = least_found q (rise_over fast d -ℚ rise_over slow d) lead.some in
         (Some k, least_gap z from d slow fast q k C.first.curve C.second.curve C L least)
 
     by_gap : (gap : Gap) × IsGap (InWindow from (from +ℚ d)) (value_at slow) (value_at fast) gap → IsFound (IsBelowAfter slow fast from d)

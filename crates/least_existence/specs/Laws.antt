@@ -8,14 +8,9 @@ use Rattle.upp_limits.specs.Periods.{periods_after}
 use Rattle.upp_limits.specs.Windows.{IsSlowerBelow, IsLeast}
 use Rattle.curve_least.specs.Compared.{AreCompared}
 
--- k periods are enough
-abbrev pub AreEnough : SpecCurve → SpecCurve → ℚ → ℚ → ℕ → Type 0
-AreEnough f g from period k =
-    IsSlowerBelow (value_at f) (value_at g) (rate f) (rate g) (periods_after from k period) period
-
 -- some number is the least that is enough, or none is
 abbrev pub LeastPeriodsExist : Type 0
 LeastPeriodsExist =
     (z : Sizes) (from period : ℚ) (f g : SpecCurve) → AreCompared z from period f g
-    → (k : Option ℕ)
-    × MatchOption k ((n : ℕ) → ¬ (AreEnough f g from period n)) (IsLeast (AreEnough f g from period))
+    → let AreEnough = λ (k : ℕ). IsSlowerBelow (value_at f) (value_at g) (rate f) (rate g) (periods_after from k period) period in
+    (k : Option ℕ) × MatchOption k ((n : ℕ) → ¬ (AreEnough n)) (IsLeast AreEnough)

@@ -15,6 +15,12 @@ abbrev pub Before : {X : Type 0} → X → X → List X → Type 0
 Before x y [] = ⊥
 Before x y (z ∷ zs) = ((z ≡ x) × Has zs y) ⊎ Before x y zs
 
+-- what stands before an element that is not repeated is another one
+pub apart_middle : {X : Type 0} (front : List X) (x : X) (back : List X) → Apart (front ++ x ∷ back) → ¬ (Has front x)
+apart_middle [] x back a h = h
+apart_middle (y ∷ front) x back a (inl e) = a.0 (has_right front (x ∷ back) y (inl (sym e)))
+apart_middle (y ∷ front) x back a (inr h) = apart_middle front x back a.1 h
+
 -- ---- by places
 pub apart_pairs : {X : Type 0} (xs : List X) → Apart xs → AllPairs (λ x y. x ≢ y) xs
 apart_pairs [] a i j d h k = absurd (omega (arith, k))

@@ -7,7 +7,7 @@ use Rattle.upp_limits.specs.declared.op_kind.OpFault.TheVariants.{NoMemory}
 use Rattle.net_graph.specs.net_model.specs.Networks.{Net}
 use Rattle.net_graph.specs.net_model.specs.Accepted.{IsAccepted}
 use Rattle.net_graph.specs.net_model.specs.Orders.{IsOrder}
-use Rattle.run_laws.proofs.Members.{Has, has_right, has_either, contains_has, has_contains}
+use Rattle.run_laws.proofs.Members.{Has, has_either, contains_has, has_contains}
 use Rattle.net_cells.specs.declared.cell.Cell.{Cell}
 use Rattle.net_cells.specs.declared.cell.Kind.{Kind}
 use Rattle.net_cells.specs.Cells.{cell_of}
@@ -16,7 +16,7 @@ use Rattle.net_cells.specs.CellFormulas.{formula}
 use Rattle.net_cells.specs.Meanings.{Meaning, CellTable}
 use Rattle.net_cells.specs.Answers.{Answer, Answers}
 use Rattle.net_cells.specs.FirstOver.{IsAnswered, AnswersAll}
-use Rattle.net_cells.proofs.Lists.{Apart}
+use Rattle.net_cells.proofs.Lists.{Apart, apart_middle}
 use Rattle.net_cells.proofs.Members.{apart_cells}
 use Rattle.net_cells.proofs.Places.{rank, rank_one}
 use Rattle.net_cells.proofs.Precedes.{leaf_in_front}
@@ -72,11 +72,6 @@ put_there : (at : CellTable) (c : Cell) (v : Meaning) (d : Cell) → c ≢ d →
 put_there at c v d n = passed c d (same_cell c d) v (at d) n
 
 -- ---- one more cell
-apart_middle : (front : List Cell) (c : Cell) (back : List Cell) → Apart (front ++ c ∷ back) → ¬ (Has front c)
-apart_middle [] c back a h = h
-apart_middle (x ∷ front) c back a (inl e) = a.0 (has_right front (c ∷ back) x (inl (sym e)))
-apart_middle (x ∷ front) c back a (inr h) = apart_middle front c back a.1 h
-
 grown : (net : Net) (order : List ℕ) (before : List Cell) (c : Cell) (after : List Cell) (at : CellTable) (v : Meaning) → IsAccepted net → IsOrder net order
     → evaluation_order net order ≡ before ++ c ∷ after → AnswersAll net at before → Answers at (formula net c) (Ok v) → AnswersAll net (put at c v) (before ++ c ∷ [])
 grown net order before c after at v a o is all answer d h = elim (has_either before (c ∷ []) d (contains_has (before ++ c ∷ []) d h)) [
