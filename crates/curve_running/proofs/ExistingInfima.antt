@@ -68,7 +68,7 @@ back (suc i) ps end level out W F L most =
     let one = one_back ps end i level out W F (subst (λ n. InfimumLoop ps end n level out) next L) (omega (arith, most)) in
     back i ps end one.level one.out W F one.loop (omega (arith, most))
 
-scan_back : (ps : List Piece) (end : ℚ) → IsWindow end ps → ScanFits end ps → (qs : List Piece) × IsInfimumScan ps end qs
+pub scan_back : (ps : List Piece) (end : ℚ) → IsWindow end ps → ScanFits end ps → (qs : List Piece) × IsInfimumScan ps end qs
 scan_back ps end W F =
     let some : 0 < length ps = zero_some ps W.starts in
     let last : length ps - 1 + 1 ≡ length ps = omega (arith, some) in
@@ -79,7 +79,7 @@ scan_back ps end W F =
 none_first : (xs : List Piece) (p : Piece) (more : List Piece) → xs ≡ [] → xs ≡ p ∷ more → ⊥
 none_first xs p more e k = cc
 
-front_of : (ps : List Piece) (end : ℚ) → (front : List Piece) × IsFrontBefore ps end front
+pub front_of : (ps : List Piece) (end : ℚ) → (front : List Piece) × IsFrontBefore ps end front
 front_of [] end = ([], record { before = tt; rest = []; whole = refl; late = λ p more k. absurd (none_first [] p more refl k) })
 front_of (p ∷ ps) end = elim (le_or_lt end p.x) [
   | inl late ↦ ([], record { before = tt; rest = p ∷ ps; whole = refl; late = λ q more k. subst (λ z. end ≤ℚ z.x) (heads_same p q ps more k) late })

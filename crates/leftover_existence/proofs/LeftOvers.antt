@@ -45,7 +45,7 @@ use Rattle.curve_envelope.proofs.LeftLimits.{left_wide, left_frame}
 use Rattle.curve_envelope.proofs.LowestCalls.{first_window, first_fits, first_number, last_fits, level_stands, second_window, second_fits, lowest_is}
 use Rattle.curve_envelope.proofs.MostBehind.{least_there}
 use Rattle.curve_envelope.proofs.Nothing.{nothing_curve, nothing_value}
-use Rattle.leftover_existence.proofs.Scans.{scan_back, front_of}
+use Rattle.curve_running.proofs.ExistingInfima.{scan_back, front_of}
 
 -- ---- the pieces
 window : (f g : SpecCurve) (theta : ℚ) (r : Frame) → IsLeftFrame f g theta r → (ps : List Piece) × IsLeftWindow f g theta r.end ps
