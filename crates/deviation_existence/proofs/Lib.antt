@@ -1,0 +1,4 @@
+pub mod Cells
+pub mod Walks
+pub mod Numbers
+pub mod Horizontals
