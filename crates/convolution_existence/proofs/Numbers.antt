@@ -10,10 +10,10 @@ use Rattle.curve_least.specs.declared.gaps.Gap.TheVariants.{NoTime, Never, Is}
 use Rattle.curve_least.specs.Gaps.{InWindow, IsGap}
 use Rattle.curve_least.proofs.BoundedNumber.{least_found}
 use Rattle.curve_conv.specs.Late.{IsLateAfter, IsLateNumber, IsLateCall, IsSlowerAfter, IsSlowerNumber, IsPartsCall}
+use Rattle.curve_conv.proofs.FoundGaps.{call_gap}
 use Rattle.curve_conv.proofs.LateNumbers.{Values, late_of, soon_of, some_lead, number_none, number_endless, number_gap}
 use Rattle.curve_conv.proofs.LateShifts.{values_are}
 use Rattle.curve_conv.proofs.Orders.{first_call, second_call, of_first, of_second, of_equal}
-use Rattle.convolution_existence.proofs.Gaps.{parts_gap}
 
 -- some number is the least, or none is enough
 abbrev HasLate : SpecCurve → SpecCurve → ℚ → ℚ → Type 0
@@ -31,10 +31,10 @@ by_gap slow fast from d end C V (Is q) h =
 
 late_found : (slow fast : SpecCurve) (from d end : ℚ) → IsLateCall slow fast from d end → HasLate slow fast from d
 late_found slow fast from d end C =
-    let (gap, W) = parts_gap slow fast from d end C in
-    let V = W.values in
-    by_gap slow fast from d end C V gap
-    (W.gap_is (late_of slow fast from end V) (soon_of slow fast from end V) (values_are (value_at slow) (value_at fast) (steady slow) (steady fast) from end V))
+    let F = call_gap slow fast from d end C in
+    let V = F.walk.values in
+    by_gap slow fast from d end C V F.gap
+    (F.walk.gap_is (late_of slow fast from end V) (soon_of slow fast from end V) (values_are (value_at slow) (value_at fast) (steady slow) (steady fast) from end V))
 
 -- ---- either order of the rates
 pub slower_found : (f g : SpecCurve) (from d end : ℚ) → IsPartsCall f g from d end

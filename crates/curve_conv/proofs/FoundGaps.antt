@@ -29,9 +29,9 @@ use Rattle.curve_conv.proofs.LateShifts.{values_are}
 use Rattle.curve_conv.proofs.LateNumbers.{Values, late_of, soon_of, late_times, zero_time, late_in, some_lead, number_none, number_endless, number_gap}
 
 -- ---- the gap
-record GapFound (z : Sizes) (f g : ℚ → Ext) (first second from end : ℚ) : Type 0 where
-  gap : Gap
-  walk : PartGapWalk z f g first second from end end gap
+pub record GapFound (z : Sizes) (f g : ℚ → Ext) (first second from end : ℚ) : Type 0 where
+  pub gap : Gap
+  pub walk : PartGapWalk z f g first second from end end gap
 
 abbrev Lates : Sizes → ℚ → (ℚ → Ext) → (ℚ → Ext) → ℚ → Type 0
 Lates z end f g first = (t : ℚ) → SumTimeIn z end t → PartGoing z end t f g first None (int (pos 0))
@@ -82,10 +82,10 @@ gap_found z f g first second from end A F late soon (suc n) t gap few W = elim (
       gap_found z f g first second from end A F late soon n S.next S.gap (omega (arith, few, less)) S.walk
 ]
 
-abbrev CallGap : SpecCurve → SpecCurve → ℚ → ℚ → Type 0
+abbrev pub CallGap : SpecCurve → SpecCurve → ℚ → ℚ → Type 0
 CallGap slow fast from end = GapFound (sizes_in slow fast end) (value_at slow) (value_at fast) (steady slow) (steady fast) from end
 
-call_gap : (slow fast : SpecCurve) (from d end : ℚ) → IsLateCall slow fast from d end → CallGap slow fast from end
+pub call_gap : (slow fast : SpecCurve) (from d end : ℚ) → IsLateCall slow fast from d end → CallGap slow fast from end
 call_gap slow fast from d end C =
     let z = sizes_in slow fast end in
     let f = value_at slow in

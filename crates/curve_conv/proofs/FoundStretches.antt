@@ -1,8 +1,8 @@
 -- What elements make, as it goes on from a time, is there: found by proof alone, where no code runs.
 use Rattle.std.specs.Prelude.{◌≡◌, ◌⊎◌, List, [], ◌∷◌, Option, Some, None}
 use Rattle.std.proofs.Common.{sym, refl, subst, inl, inr}
-use Rattle.rational.specs.Rational.{ℚ, ◌+ℚ◌, ◌-ℚ◌, ◌*ℚ◌, ◌/ℚ◌, ◌<ℚ◌}
-use Rattle.rational.specs.Extended.{Ext, ◌<ₑ◌, ◌+ₑ◌, min_ext}
+use Rattle.rational.specs.Rational.{ℚ, ◌-ℚ◌, ◌/ℚ◌, ◌<ℚ◌}
+use Rattle.rational.specs.Extended.{Ext, ◌<ₑ◌, min_ext}
 use Rattle.rational.specs.declared.Extended.TheVariants.{Fin, Inf}
 use Rattle.rational.proofs.Laws.{lt_cases, le_or_lt, lt_irrefl, le_lt_trans}
 use Rattle.affine_segment.specs.declared.line.Line.{Line}
@@ -10,12 +10,9 @@ use Rattle.affine_segment.specs.declared.element.Element.{Element}
 use Rattle.affine_segment.specs.declared.element.Element.TheVariants.{Point, Open}
 use Rattle.affine_segment.specs.declared.element.Joined.{Joined}
 use Rattle.affine_segment.specs.Elements.{IsProper, element_value, part_value, joined_value, IsConvolved}
-use Rattle.affine_segment.specs.MadeParts.{alone_part, AreParts, BentParts}
-use Rattle.affine_segment.specs.Segments.{IsThrough}
+use Rattle.affine_segment.specs.MadeParts.{AreParts}
 use Rattle.affine_segment.specs.Values.{line_at}
-use Rattle.affine_segment.proofs.Through.{through}
 use Rattle.affine_segment.proofs.Meeting.{lines_meet}
-use Rattle.affine_segment.proofs.Convolved.{points_convolved, moved_convolved, straight_convolved, endless_convolved, bent_convolved, turned_convolved}
 use Rattle.upp_normal.specs.declared.ahead.Stretch.{Stretch}
 use Rattle.upp_limits.specs.Limits.{Sizes}
 use Rattle.upp_normal.specs.Ahead.{GoesOn, IsBeforeNext}
@@ -24,91 +21,12 @@ use Rattle.element_envelope.specs.ElementRoom.{OperandElement, SumElement, SumPa
 use Rattle.element_envelope.specs.Envelopes.{ListSplit, list_sum}
 use Rattle.element_envelope.proofs.ElementSizes.{parts_stand}
 use Rattle.element_envelope.proofs.Envelopes.{envelope_rules}
+use Rattle.pair_existence.proofs.Pairs.{pair_of}
 use Rattle.curve_conv.specs.declared.lower.Under.{Under}
 use Rattle.curve_conv.specs.Stretches.{SumStretch, SumTimeIn, IsUnder, IsEarliest, IsAhead, end_time, IsProperPart}
 use Rattle.curve_conv.proofs.Lowers.{meeting_before, meeting_after, parallel_first, parallel_second, under_turned, under_none, under_left, earliest_first, earliest_second, lower_goes, lower_next, lower_stands}
 use Rattle.curve_conv.proofs.ElementStretches.{point_before, point_here, point_after, point_stands, open_before, open_here, open_within, open_after, here_stands, within_stands}
 use Rattle.curve_conv.proofs.PairStretches.{first_proper, join_proper, second_proper, none_stands}
-
--- ---- what two elements make
-line_from : ℚ → ℚ → ℚ → Line
-line_from r x v = record { icept = v -ℚ r *ℚ x; slope = r }
-
-through_from : (r x v : ℚ) → IsThrough r x v (line_from r x v)
-unfolding line_from
-through_from r x v = through r x v (r *ℚ x) (v -ℚ r *ℚ x) refl refl
-
-record Made (a b : Element) : Type 0 where
-  joined : Joined
-  convolved : IsConvolved a b joined
-  parts : AreParts a b joined
-
-record Bent (f : ℚ) (to : Ext) (l : Line) (g : ℚ) (end : Ext) (m : Line) : Type 0 where
-  joined : Joined
-  convolved : IsConvolved (Open f to l) (Open g end m) joined
-  parts : BentParts record { from = f; to = to; line = l } to record { from = g; to = end; line = m } joined
-
-bent : (f : ℚ) (to : Ext) (l : Line) (g : ℚ) (end : Ext) (m : Line) → Fin f <ₑ to → Fin g <ₑ end → l.slope <ℚ m.slope → Bent f to l g end m
-bent f Inf l g end m p q h =
-    let n = line_from l.slope (f +ℚ g) (line_at l f +ℚ line_at m g) in
-    let th = through_from l.slope (f +ℚ g) (line_at l f +ℚ line_at m g) in
-    record {
-      joined = alone_part (Open (f +ℚ g) Inf n);
-      convolved = endless_convolved f l g end m n (f +ℚ g) q h refl th;
-      parts = record { line = n; through = th; parts = refl };
-    }
-bent f (Fin e) l g end m p q h =
-    let n = line_from l.slope (f +ℚ g) (line_at l f +ℚ line_at m g) in
-    let k = line_from m.slope (e +ℚ g) (line_at l e +ℚ line_at m g) in
-    let th = through_from l.slope (f +ℚ g) (line_at l f +ℚ line_at m g) in
-    let next = through_from m.slope (e +ℚ g) (line_at l e +ℚ line_at m g) in
-    record {
-      joined = record {
-        first = Open (f +ℚ g) (Fin (e +ℚ g)) n;
-        join = Some (Point (e +ℚ g) (line_at l e +ℚ line_at m g));
-        second = Some (Open (e +ℚ g) (Fin e +ₑ end) k);
-      };
-      convolved = bent_convolved f e l g end m n k (f +ℚ g) (e +ℚ g) (line_at l e +ℚ line_at m g) (Fin e +ₑ end) p q h refl refl refl refl th next;
-      parts = record { line = n; next = k; through = th; turned = next; parts = refl };
-    }
-
-made_of : (a b : Element) → IsProper a → IsProper b → Made a b
-made_of (Point x v) (Point y u) p q = record {
-  joined = alone_part (Point (x +ℚ y) (v +ℚ u));
-  convolved = points_convolved x v y u (x +ℚ y) (v +ℚ u) refl refl;
-  parts = refl;
-}
-made_of (Point x v) (Open from to l) p q =
-    let n = line_from l.slope (x +ℚ from) (v +ℚ line_at l from) in
-    let th = through_from l.slope (x +ℚ from) (v +ℚ line_at l from) in
-    record {
-      joined = alone_part (Open (x +ℚ from) (Fin x +ₑ to) n);
-      convolved = moved_convolved x v from to l (x +ℚ from) (line_at l from) (v +ℚ line_at l from) (Fin x +ₑ to) n q refl refl refl refl th;
-      parts = record { moved = n; through = th; parts = refl };
-    }
-made_of (Open from to l) (Point x v) p q =
-    let n = line_from l.slope (x +ℚ from) (v +ℚ line_at l from) in
-    let th = through_from l.slope (x +ℚ from) (v +ℚ line_at l from) in
-    record {
-      joined = alone_part (Open (x +ℚ from) (Fin x +ₑ to) n);
-      convolved = turned_convolved (Point x v) (Open from to l) (alone_part (Open (x +ℚ from) (Fin x +ₑ to) n))
-          (moved_convolved x v from to l (x +ℚ from) (line_at l from) (v +ℚ line_at l from) (Fin x +ₑ to) n p refl refl refl refl th);
-      parts = record { moved = n; through = th; parts = refl };
-    }
-made_of (Open f to l) (Open g end m) p q = elim (lt_cases l.slope m.slope) [
-  | inl h ↦ let B = bent f to l g end m p q h in record { joined = B.joined; convolved = B.convolved; parts = inl (h, B.parts) }
-  | inr (inl e) ↦
-      let n = line_from l.slope (f +ℚ g) (line_at l f +ℚ line_at m g) in
-      let th = through_from l.slope (f +ℚ g) (line_at l f +ℚ line_at m g) in
-      record {
-        joined = alone_part (Open (f +ℚ g) (to +ₑ end) n);
-        convolved = straight_convolved f to l g end m n (f +ℚ g) (to +ₑ end) p q e refl refl th;
-        parts = inr (inr (e, record { line = n; through = th; parts = refl }));
-      }
-  | inr (inr h) ↦
-      let B = bent g end m f to l q p h in
-      record { joined = B.joined; convolved = turned_convolved (Open g end m) (Open f to l) B.joined B.convolved; parts = inr (inl (h, B.parts)) }
-]
 
 -- ---- the lower of two
 not_same : (x y : ℚ) → x <ℚ y → x ≡ y → ⊥
@@ -209,13 +127,12 @@ part_goes z end t None T S p = record {
 part_goes z end t (Some e) T S p = element_goes z end t e T S p
 
 -- ---- two elements
-joined_goes : (z : Sizes) (end t : ℚ) (a b : Element) → SumTimeIn z end t → OperandElement z end a → OperandElement z end b → (M : Made a b) → Going z (joined_value M.joined) t
-joined_goes z end t a b T A B M =
-    let j = M.joined in
-    let S = parts_stand z end a b j T.limited A B M.parts in
-    let F = element_goes z end t j.first T S.first (first_proper j.first j.join j.second M.convolved.adjoined) in
-    let J = part_goes z end t j.join T S.join (join_proper j.first j.join j.second M.convolved.adjoined) in
-    let N = part_goes z end t j.second T S.second (second_proper j.first j.join j.second M.convolved.adjoined) in
+joined_goes : (z : Sizes) (end t : ℚ) (a b : Element) → SumTimeIn z end t → OperandElement z end a → OperandElement z end b → (j : Joined) → IsConvolved a b j → AreParts a b j → Going z (joined_value j) t
+joined_goes z end t a b T A B j C P =
+    let S = parts_stand z end a b j T.limited A B P in
+    let F = element_goes z end t j.first T S.first (first_proper j.first j.join j.second C.adjoined) in
+    let J = part_goes z end t j.join T S.join (join_proper j.first j.join j.second C.adjoined) in
+    let N = part_goes z end t j.second T S.second (second_proper j.first j.join j.second C.adjoined) in
     let R = lowered z end t J.stretch N.stretch T J.stands N.stands in
     let W = lowered z end t F.stretch R.stretch T F.stands R.stands in
     record {
@@ -254,17 +171,17 @@ row_goes z end t a [] T p A Y = record {
   stands = none_stands z t;
 }
 row_goes z end t a (b ∷ bs) T p A Y =
-    let M = made_of a b p (Y.proper b (inl refl)) in
-    let P = joined_goes z end t a b T A (Y.stands b (inl refl)) M in
+    let (j, C, M) = pair_of a b p (Y.proper b (inl refl)) in
+    let P = joined_goes z end t a b T A (Y.stands b (inl refl)) j C M in
     let R = row_goes z end t a bs T p A (rest_of z end b bs Y) in
     let W = lowered z end t P.stretch R.stretch T P.stands R.stands in
     record {
       stretch = W.stretch;
       ahead = record {
-        value = λ u. min_ext (joined_value M.joined u) (R.ahead.value u);
+        value = λ u. min_ext (joined_value j u) (R.ahead.value u);
         is = λ u late early before.
-            envelope_rules.right (a ∷ []) (b ∷ []) bs u (joined_value M.joined u) (R.ahead.value u) (envelope_rules.pair a b M.joined u M.convolved) (R.ahead.is u late early (W.next u before).1);
-        goes = W.goes (joined_value M.joined) R.ahead.value P.goes R.ahead.goes;
+            envelope_rules.right (a ∷ []) (b ∷ []) bs u (joined_value j u) (R.ahead.value u) (envelope_rules.pair a b j u C) (R.ahead.is u late early (W.next u before).1);
+        goes = W.goes (joined_value j) R.ahead.value P.goes R.ahead.goes;
       };
       stands = W.stands;
     }

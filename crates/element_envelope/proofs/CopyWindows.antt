@@ -284,15 +284,16 @@ from_zero end f g r = record {
   right = operand_pieces r.sizes end g r.right;
 }
 
+pub since_zero : (end : ℚ) (f g ps : List Piece) → IsConvolutionFrom f g (int (pos 0)) end ps → IsConvolutionWindow f g end ps
+unfolding from_zero
+since_zero end f g ps K = record {
+  starts = K.starts;
+  reads = λ t low high. K.reads t low low high;
+  stands = λ r. K.stands (from_zero end f g r);
+  arches = λ r. K.arches (from_zero end f g r);
+}
+
 pub ok_from_zero : {E : Type 0} (r : Result (Vec Piece Global) E) (from end : ℚ) (f g : List Piece) → from ≡ int (pos 0) → IfOk r (λ w. IsConvolutionFrom f g from end w.items)
     → IfOk r (λ w. IsConvolutionWindow f g end w.items)
-unfolding from_zero
-ok_from_zero (Ok w) from end f g e k =
-    let K = subst (λ z. IsConvolutionFrom f g z end w.items) e k in
-    record {
-      starts = K.starts;
-      reads = λ t low high. K.reads t low low high;
-      stands = λ r. K.stands (from_zero end f g r);
-      arches = λ r. K.arches (from_zero end f g r);
-    }
+ok_from_zero (Ok w) from end f g e k = since_zero end f g w.items (subst (λ z. IsConvolutionFrom f g z end w.items) e k)
 ok_from_zero (Err x) from end f g e k = k

@@ -18,7 +18,7 @@ pub endless : (ps : List Piece) → StartBefore Inf ps
 endless [] = tt
 endless (p ∷ ps) = (tt, endless ps)
 
-room_of : (from end : ℚ) (f g : List Piece) → WindowsFrom from end f g → EnvelopeRoom end (elements_of f Inf) (elements_of g Inf)
+pub room_of : (from end : ℚ) (f g : List Piece) → WindowsFrom from end f g → EnvelopeRoom end (elements_of f Inf) (elements_of g Inf)
 room_of from end f g r = record {
   sizes = r.sizes;
   limited = r.limited;
@@ -33,7 +33,7 @@ room_of from end f g r = record {
 pub elements_room : (from end : ℚ) (f g : List Piece) (xs ys : List Element) → xs ≡ elements_of f Inf → ys ≡ elements_of g Inf → WindowsFrom from end f g → EnvelopeRoom end xs ys
 elements_room from end f g xs ys e h r = subst (λ z. EnvelopeRoom end z ys) (sym e) (subst (λ z. EnvelopeRoom end (elements_of f Inf) z) (sym h) (room_of from end f g r))
 
-envelope_convolves : (from end : ℚ) (f g : List Piece) (ps : List Piece) → WindowsFrom from end f g → IsEnvelopeWindow end (elements_of f Inf) (elements_of g Inf) ps → IsConvolutionFrom f g from end ps
+pub envelope_convolves : (from end : ℚ) (f g : List Piece) (ps : List Piece) → WindowsFrom from end f g → IsEnvelopeWindow end (elements_of f Inf) (elements_of g Inf) ps → IsConvolutionFrom f g from end ps
 unfolding room_of
 envelope_convolves from end f g ps o E = record {
   starts = E.starts;

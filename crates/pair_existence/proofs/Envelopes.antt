@@ -3,24 +3,20 @@ use Rattle.std.specs.Prelude.{pos, List, [], ◌∷◌}
 use Rattle.std.proofs.Common.{refl, inl}
 use Rattle.rational.specs.Rational.{ℚ, int}
 use Rattle.rational.specs.declared.Extended.TheVariants.{Inf}
-use Rattle.rational.proofs.Grid.{whole_int}
-use Rattle.rational.proofs.Laws.{le_refl}
 use Rattle.affine_segment.specs.declared.line.Piece.{Piece}
 use Rattle.affine_segment.specs.declared.element.Element.{Element}
-use Rattle.affine_segment.specs.Reading.{read, nothing_at}
+use Rattle.affine_segment.specs.Reading.{nothing_at}
 use Rattle.upp_curve.specs.Unrolled.{upto}
 use Rattle.curve_window.proofs.Existing.{lower_window}
 use Rattle.element_envelope.specs.ConvolutionWindows.{OperandWindows, IsConvolutionWindow, WindowsFrom, IsConvolutionFrom}
 use Rattle.element_envelope.specs.EnvelopeWindows.{EnvelopeRoom, IsEnvelopeWindow}
 use Rattle.element_envelope.specs.JoinedWindows.{window_of}
 use Rattle.element_envelope.specs.PieceElements.{elements_of}
-use Rattle.element_envelope.proofs.Cover.{cover}
 use Rattle.element_envelope.proofs.EnvelopeHalves.{none_left, none_right, left_front, left_back, right_front, right_back, left_ready, right_ready, left_halves, right_halves}
 use Rattle.element_envelope.proofs.JoinedReads.{window_is}
-use Rattle.element_envelope.proofs.OperandElements.{window_elements_stand, operand_pieces}
 use Rattle.element_envelope.proofs.PairWindows.{pair_is, pair_start}
-use Rattle.element_envelope.proofs.WindowConvolution.{endless}
-use Rattle.element_envelope.proofs.Windows.{windows_convolve}
+use Rattle.element_envelope.proofs.CopyWindows.{from_zero, since_zero}
+use Rattle.element_envelope.proofs.WindowConvolution.{room_of, envelope_convolves}
 use Rattle.pair_existence.proofs.Pairs.{pair_of}
 
 abbrev HasEnvelope : ℚ → List Element → List Element → Type 0
@@ -52,51 +48,10 @@ envelope_of end (a ∷ xs) ys r =
     (ps, left_halves end (a ∷ xs) (a ∷ []) xs ys f g ps refl F G L)
 
 -- ---- two windows
--- as element_envelope has these for its own proofs
-room_of : (from end : ℚ) (f g : List Piece) → WindowsFrom from end f g → EnvelopeRoom end (elements_of f Inf) (elements_of g Inf)
-room_of from end f g r = record {
-  sizes = r.sizes;
-  limited = r.limited;
-  some = r.some;
-  left_proper = λ e h. (cover f Inf r.left.starts (endless f)).proper e h;
-  right_proper = λ e h. (cover g Inf r.right.starts (endless g)).proper e h;
-  left = λ e h. window_elements_stand r.sizes end f Inf e r.left tt h;
-  right = λ e h. window_elements_stand r.sizes end g Inf e r.right tt h;
-}
-
-envelope_convolves : (from end : ℚ) (f g ps : List Piece) → WindowsFrom from end f g → IsEnvelopeWindow end (elements_of f Inf) (elements_of g Inf) ps → IsConvolutionFrom f g from end ps
-unfolding room_of
-envelope_convolves from end f g ps o E = record {
-  starts = E.starts;
-  reads = λ t low late high. (windows_convolve f g Inf t (read ps t) o.left.starts o.right.starts (endless f) (endless g) tt).0 (E.reads t low high);
-  stands = λ r. E.stands (room_of from end f g r);
-  arches = λ r. E.arches (room_of from end f g r);
-}
-
 pub convolution_from : (from end : ℚ) (f g : List Piece) → WindowsFrom from end f g → (ps : List Piece) × IsConvolutionFrom f g from end ps
 convolution_from from end f g r =
     let (ps, E) = envelope_of end (elements_of f Inf) (elements_of g Inf) (room_of from end f g r) in (ps, envelope_convolves from end f g ps r E)
 
 -- from 0 on
-from_zero : (end : ℚ) (f g : List Piece) → OperandWindows end f g → WindowsFrom (int (pos 0)) end f g
-from_zero end f g r = record {
-  sizes = r.sizes;
-  limited = r.limited;
-  some = r.some;
-  late = record { whole = whole_int r.sizes.dt (pos 0); nonneg = le_refl (int (pos 0)); early = r.limited.some };
-  left = operand_pieces r.sizes end f r.left;
-  right = operand_pieces r.sizes end g r.right;
-}
-
 pub convolution_of : (end : ℚ) (f g : List Piece) → OperandWindows end f g → (ps : List Piece) × IsConvolutionWindow f g end ps
-unfolding from_zero
-convolution_of end f g r =
-    let (ps, K) = convolution_from (int (pos 0)) end f g (from_zero end f g r) in (
-      ps,
-      record {
-        starts = K.starts;
-        reads = λ t low high. K.reads t low low high;
-        stands = λ r. K.stands (from_zero end f g r);
-        arches = λ r. K.arches (from_zero end f g r);
-      },
-    )
+convolution_of end f g r = let (ps, K) = convolution_from (int (pos 0)) end f g (from_zero end f g r) in (ps, since_zero end f g ps K)
