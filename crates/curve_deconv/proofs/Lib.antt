@@ -11,3 +11,4 @@ pub mod MovedGrids
 pub mod Moved
 pub mod DeconvolveCall
 pub mod Kept
+pub mod Existing

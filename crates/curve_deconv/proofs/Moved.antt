@@ -223,7 +223,7 @@ deconvolved_at end reach f g p ps o R =
           (sums_on_grids r.sizes end (from +ℚ reach) period (neg_ℚ rise) (p ∷ ps) r.limited (R.form.stands r) (R.form.arches r) tail);
     }
 
-deconvolved_is : (end reach : ℚ) (f g rs ms : List Piece) → OperandWindows end reach f g → IsRaisedWindow end reach f g rs → IsLeftOf reach rs ms → IsDeconvolutionWindow end reach f g (map neg_piece ms)
+pub deconvolved_is : (end reach : ℚ) (f g rs ms : List Piece) → OperandWindows end reach f g → IsRaisedWindow end reach f g rs → IsLeftOf reach rs ms → IsDeconvolutionWindow end reach f g (map neg_piece ms)
 deconvolved_is end reach f g [] ms o R m = absurd (R.form.stands o).starts
 deconvolved_is end reach f g (p ∷ ps) ms o R m = subst (λ us. IsDeconvolutionWindow end reach f g (map neg_piece us)) (sym (m p ps refl)) (deconvolved_at end reach f g p ps o R)
 

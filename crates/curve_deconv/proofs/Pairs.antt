@@ -157,7 +157,7 @@ turned_pairs f g F G reach t v T some C =
           same_le_ext (ap₂ (λ (i j : Ext). i +ₑ j) first second ∙ ap Fin sum),
         )
 
-pairs_is : (end reach : ℚ) (f g front ps : List Piece) → OperandWindows end reach f g → IsFrontBefore g reach front → IsConvolutionFrom (map neg_piece f) (mirror_pieces reach (read g reach) front) reach end ps
+pub pairs_is : (end reach : ℚ) (f g front ps : List Piece) → OperandWindows end reach f g → IsFrontBefore g reach front → IsConvolutionFrom (map neg_piece f) (mirror_pieces reach (read g reach) front) reach end ps
     → IsPairsWindow end reach f g ps
 unfolding room_of
 pairs_is end reach f g front ps o F E =

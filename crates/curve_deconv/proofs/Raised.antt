@@ -135,7 +135,7 @@ raised_at end reach f g ps t v r P low early e =
           | inr k ↦ inr (subst (λ w. IsFiniteFrom (read f) w end) (sym s) k.1, finite (value ∙ k.0))
         ]
 
-raised_is : (end reach : ℚ) (f g ps rs : List Piece) → OperandWindows end reach f g → IsPairsWindow end reach f g ps → IsWindowSum ps (mark_pieces (last_of f end first_last) reach end) rs
+pub raised_is : (end reach : ℚ) (f g ps rs : List Piece) → OperandWindows end reach f g → IsPairsWindow end reach f g ps → IsWindowSum ps (mark_pieces (last_of f end first_last) reach end) rs
     → IsRaisedWindow end reach f g rs
 raised_is end reach f g ps rs o P S =
     let last = last_of f end first_last in

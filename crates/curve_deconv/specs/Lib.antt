@@ -2,3 +2,4 @@ pub mod Mirrored
 pub mod Marks
 pub mod DeconvolutionWindows
 pub mod DeconvolutionLaws
+pub mod Existing
