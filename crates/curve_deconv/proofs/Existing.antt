@@ -21,13 +21,14 @@ use Rattle.curve_call.specs.Answers.{IsMadeBy}
 use Rattle.curve_call.specs.Frames.{IsFrame, sizes_at}
 use Rattle.curve_call.proofs.Limited.{deconvolve_least}
 use Rattle.curve_running.specs.Runs.{IsFrontBefore}
+use Rattle.curve_running.proofs.ExistingInfima.{front_of}
 use Rattle.curve_pointwise.specs.Shifting.{moved_left}
 use Rattle.curve_pointwise.proofs.LatticeAnswers.{slower_or_not}
 use Rattle.curve_pointwise.proofs.Nowhere.{IsNowhere, made_curve, made_values}
+use Rattle.pair_existence.proofs.Envelopes.{convolution_from}
 use Rattle.answer_existence.specs.Answered.{HasAnswer}
 use Rattle.answer_existence.proofs.Answered.{at_least, ok_found}
 use Rattle.answer_existence.proofs.Windows.{answer_curve}
-use Rattle.curve_deconv.specs.Existing.{ConvolutionsFromExist}
 use Rattle.curve_deconv.specs.Marks.{first_last, last_of, mark_pieces}
 use Rattle.curve_deconv.specs.Mirrored.{neg_piece, mirror_pieces}
 use Rattle.curve_deconv.specs.DeconvolutionWindows.{OperandWindows, IsDeconvolutionWindow}
@@ -38,28 +39,16 @@ use Rattle.curve_deconv.proofs.Slower.{faster_deconvolves}
 use Rattle.curve_deconv.proofs.DeconvolveCall.{answer_period, reach_of, deconvolve_call, windows, deconvolve_answer, deconvolve_values, known_within}
 
 -- ---- the pieces of the window
-never : (p : Piece) (ps : List Piece) → [] ≡ p ∷ ps → ⊥
-never p ps e = cc
-
-pub front_of : (ps : List Piece) (end : ℚ) → (front : List Piece) × IsFrontBefore ps end front
-front_of [] end = ([], record { before = tt; rest = []; whole = refl; late = λ q more e. absurd (never q more e) })
-front_of (p ∷ ps) end = elim (le_or_lt end p.x) [
-  | inl late ↦ ([], record { before = tt; rest = p ∷ ps; whole = refl; late = λ q more e. subst (λ s. end ≤ℚ s.x) (heads_same p q ps more e) late })
-  | inr early ↦
-      let (front, F) = front_of ps end in
-      (p ∷ front, record { before = (early, F.before); rest = F.rest; whole = ap (λ us. p ∷ us) F.whole; late = F.late })
-]
-
 abbrev left_of : ℚ → List Piece → List Piece
 left_of x [] = []
 left_of x (p ∷ ps) = moved_left x p ps
 
-window_of : ConvolutionsFromExist → (end reach : ℚ) (f g : List Piece) → OperandWindows end reach f g → (ps : List Piece) × IsDeconvolutionWindow end reach f g ps
-window_of convolved end reach f g W =
+window_of : (end reach : ℚ) (f g : List Piece) → OperandWindows end reach f g → (ps : List Piece) × IsDeconvolutionWindow end reach f g ps
+window_of end reach f g W =
     let (front, F) = front_of g reach in
     let xs = map neg_piece f in
     let ys = mirror_pieces reach (read g reach) front in
-    let (ps, C) = convolved reach end xs ys (pairs_room end reach f g front xs ys W F refl refl) in
+    let (ps, C) = convolution_from reach end xs ys (pairs_room end reach f g front xs ys W F refl refl) in
     let P = pairs_is end reach f g front ps W F C in
     let last = last_of f end first_last in
     let ms = mark_pieces last reach end in
@@ -68,14 +57,14 @@ window_of convolved end reach f g W =
     (map neg_piece (left_of reach rs), deconvolved_is end reach f g rs (left_of reach rs) W (raised_is end reach f g ps rs W P S) (λ q qs e. ap (left_of reach) e))
 
 -- ---- where the first is not the faster
-made : ConvolutionsFromExist → (f g : SpecCurve) → IsFinite (value_at g) → ¬ (rate g <ₑ rate f) → (r : Frame) → IsFrame Deconvolve f g 0 0 r → (h : SpecCurve) × IsMadeBy Deconvolve f g h
-made convolved f g finite slow r F =
+made : (f g : SpecCurve) → IsFinite (value_at g) → ¬ (rate g <ₑ rate f) → (r : Frame) → IsFrame Deconvolve f g 0 0 r → (h : SpecCurve) × IsMadeBy Deconvolve f g h
+made f g finite slow r F =
     let z = sizes_at Deconvolve f g 0 0 in
     let D = deconvolve_call f g r F in
     let ls = unroll f r.end in
     let rs = unroll g r.end in
     let period = answer_period f g in
-    let (ps, W) = window_of convolved r.end (reach_of f g r) ls rs (windows f g r z ls rs D finite refl refl) in
+    let (ps, W) = window_of r.end (reach_of f g r) ls rs (windows f g r z ls rs D finite refl refl) in
     let (c, curve, same) = answer_curve ps (steady f) period (rise_over f period) r.times r.values (deconvolve_answer f g r z ls rs ps D finite refl refl W) in
     (c, record { curve = curve; answers = λ t low. (deconvolve_values f g r z ls rs ps c D finite slow refl refl W same t low).deconvolves })
 
@@ -97,8 +86,8 @@ infinite f g F G finite faster =
       found = ok_found (Ok c) c refl;
     }
 
-pub deconvolution_answered : ConvolutionsFromExist → (f g : SpecCurve) → IsCurve f → IsCurve g → IsFinite (value_at g) → HasAnswer Deconvolve f g
-deconvolution_answered convolved f g F G finite = elim (slower_or_not (rate g) (rate f)) [
+pub deconvolution_answered : (f g : SpecCurve) → IsCurve f → IsCurve g → IsFinite (value_at g) → HasAnswer Deconvolve f g
+deconvolution_answered f g F G finite = elim (slower_or_not (rate g) (rate f)) [
   | inl faster ↦ infinite f g F G finite faster
-  | inr slow ↦ at_least Deconvolve f g 0 0 F G slow (deconvolve_least f g) (made convolved f g finite slow)
+  | inr slow ↦ at_least Deconvolve f g 0 0 F G slow (deconvolve_least f g) (made f g finite slow)
 ]
