@@ -1,12 +1,10 @@
 -- A deconvolution has an answer: infinity where the first is the faster, else the curve of its window's pieces, unless the call is over a limit.
-use Rattle.std.specs.Prelude.{◌≡◌, List, [], ◌∷◌, map, Ok}
+use Rattle.std.specs.Prelude.{List, [], ◌∷◌, map, Ok}
 use Rattle.std.proofs.Common.{refl, sym, ap, subst, inl, inr}
-use Rattle.rational.specs.Rational.{ℚ, ◌≤ℚ◌}
+use Rattle.rational.specs.Rational.{ℚ}
 use Rattle.rational.specs.Extended.{◌<ₑ◌}
-use Rattle.rational.proofs.Laws.{le_or_lt}
 use Rattle.affine_segment.specs.declared.line.Piece.{Piece}
 use Rattle.affine_segment.specs.Reading.{read, nothing_at}
-use Rattle.affine_segment.proofs.PieceOrder.{heads_same}
 use Rattle.min_plus.specs.Functions.{IsFinite, zero_q}
 use Rattle.min_plus.specs.Convolution.{IsDeconvolution}
 use Rattle.upp_curve.specs.declared.curve.Tail.TheVariants.{Infinite}
@@ -20,9 +18,8 @@ use Rattle.curve_call.specs.declared.frame.Frame.{Frame}
 use Rattle.curve_call.specs.Answers.{IsMadeBy}
 use Rattle.curve_call.specs.Frames.{IsFrame, sizes_at}
 use Rattle.curve_call.proofs.Limited.{deconvolve_least}
-use Rattle.curve_running.specs.Runs.{IsFrontBefore}
 use Rattle.curve_running.proofs.ExistingInfima.{front_of}
-use Rattle.curve_pointwise.specs.Shifting.{moved_left}
+use Rattle.curve_pointwise.proofs.ExistingMoves.{left_of}
 use Rattle.curve_pointwise.proofs.LatticeAnswers.{slower_or_not}
 use Rattle.curve_pointwise.proofs.Nowhere.{IsNowhere, made_curve, made_values}
 use Rattle.pair_existence.proofs.Envelopes.{convolution_from}
@@ -39,10 +36,6 @@ use Rattle.curve_deconv.proofs.Slower.{faster_deconvolves}
 use Rattle.curve_deconv.proofs.DeconvolveCall.{answer_period, reach_of, deconvolve_call, windows, deconvolve_answer, deconvolve_values, known_within}
 
 -- ---- the pieces of the window
-abbrev left_of : ℚ → List Piece → List Piece
-left_of x [] = []
-left_of x (p ∷ ps) = moved_left x p ps
-
 window_of : (end reach : ℚ) (f g : List Piece) → OperandWindows end reach f g → (ps : List Piece) × IsDeconvolutionWindow end reach f g ps
 window_of end reach f g W =
     let (front, F) = front_of g reach in

@@ -43,7 +43,7 @@ pub scale_answered : (q : ℚ) (f : SpecCurve) → IsCurve f → HasAnswer (Scal
 scale_answered q f F = at_least (Scale q) f f 0 0 F tt (λ h. h) (scale_least q f f) (scale_made q f)
 
 -- ---- shifts
-abbrev left_of : ℚ → List Piece → List Piece
+abbrev pub left_of : ℚ → List Piece → List Piece
 left_of x [] = []
 left_of x (p ∷ ps) = moved_left x p ps
 

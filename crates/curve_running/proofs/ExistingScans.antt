@@ -32,7 +32,7 @@ use Rattle.curve_running.proofs.Middle.{finite_at, right_fits, left_fits, stretc
 use Rattle.curve_running.proofs.SupremumLoop.{SupremumLoop, supremum_start, supremum_step, supremum_end}
 
 -- ---- the stretches of a window
-line_of : (o : Option Line) → IsLine o → (l : Line) × (o ≡ Some l)
+pub line_of : (o : Option Line) → IsLine o → (l : Line) × (o ≡ Some l)
 line_of None h = absurd h
 line_of (Some l) h = (l, refl)
 

@@ -1,21 +1,20 @@
 -- How two finite curves that rise go on from a time each, and how long the second lies behind the first on these stretches.
-use Rattle.std.specs.Prelude.{◌≡◌, pos, Option, Some, None}
+use Rattle.std.specs.Prelude.{◌≡◌, pos, None}
 use Rattle.std.proofs.Common.{sym, refl, subst, inl, inr}
 use Rattle.rational.specs.Rational.{ℚ, ◌+ℚ◌, ◌-ℚ◌, ◌*ℚ◌, ◌/ℚ◌, ◌≤ℚ◌, ◌<ℚ◌, int}
 use Rattle.rational.specs.MinMax.{min_q}
 use Rattle.rational.proofs.Laws.{le_or_lt, le_of_lt, le_lt_trans, lt_le_trans, div_mul, not_zero}
-use Rattle.affine_segment.specs.declared.line.Line.{Line}
 use Rattle.affine_segment.specs.Reading.{read, line_in, next_in}
 use Rattle.affine_segment.specs.Values.{line_at}
 use Rattle.min_plus.specs.Functions.{IsRising}
 use Rattle.upp_curve.specs.declared.curve.Tail.{Tail}
 use Rattle.upp_curve.specs.declared.curve.Tail.TheVariants.{Periodic, Affine, Infinite}
 use Rattle.upp_curve.specs.Curve.{SpecCurve, value_at}
-use Rattle.upp_curve.specs.Shapes.{IsLine}
 use Rattle.upp_limits.specs.Limits.{Sizes}
 use Rattle.upp_normal.specs.Ahead.{IsOverBy, IsTimeIn}
 use Rattle.curve_least.specs.GapSteps.{earlier_of}
 use Rattle.curve_least.proofs.FoundCurves.{curve_goes}
+use Rattle.curve_running.proofs.ExistingScans.{line_of}
 use Rattle.curve_deviation.specs.declared.cells.Cell.{Cell}
 use Rattle.curve_deviation.specs.declared.parts.Part.{Part}
 use Rattle.curve_deviation.specs.Cells.{RisingCell, CellSizes, IsTimeTo, IsCellLag}
@@ -54,10 +53,6 @@ part_of z end c t S T = by_tail c.tail refl
     by_tail (Affine rank) e = early z end c t S T (subst (IsEarlyBy end) (sym e) tt)
     by_tail (Infinite rank) e = early z end c t S T (subst (IsEarlyBy end) (sym e) tt)
 
-the_line : (l : Option Line) → IsLine l → (m : Line) × (l ≡ Some m)
-the_line None h = absurd h
-the_line (Some l) h = (l, refl)
-
 -- ---- a stretch of each
 pub record HasCell (z : Sizes) (f g : SpecCurve) (t x until end : ℚ) : Type 0 where
   pub cell : Cell
@@ -71,8 +66,8 @@ cell_at z f g t x until end F G up rise T X U before =
     let Q = part_of z end g x G X in
     let p = P.part in
     let q = Q.part in
-    let (k, first) = the_line p.line (part_line (value_at f) t end p T.nonneg F.finite P.goes) in
-    let (l, second) = the_line q.line (part_line (value_at g) x end q X.nonneg G.finite Q.goes) in
+    let (k, first) = line_of p.line (part_line (value_at f) t end p T.nonneg F.finite P.goes) in
+    let (l, second) = line_of q.line (part_line (value_at g) x end q X.nonneg G.finite Q.goes) in
     let c : Cell = record { first = k; start = t; end = min_q until p.until; second = l; from = x; until = q.until } in
     record {
       cell = c;

@@ -3,7 +3,7 @@ use Rattle.std.specs.Prelude.{◌≡◌, ◌≢◌, ℕ, zero, suc, ◌+◌, ◌
 use Rattle.std.proofs.Common.{arith, sym, subst, inl, inr}
 use Rattle.std.proofs.lemmas.Bool.{cases_lt}
 use Rattle.rational.specs.Rational.{int}
-use Rattle.rational.specs.Extended.{Ext, ◌≤ₑ◌, ◌<ₑ◌}
+use Rattle.rational.specs.Extended.{Ext, ◌≤ₑ◌}
 use Rattle.rational.specs.declared.Extended.TheVariants.{Fin}
 use Rattle.rational.proofs.ExtendedOrder.{le_or_lt_ext, lt_le_ext, lt_ext_irrefl}
 use Rattle.upp_curve.specs.Curve.{SpecCurve, value_at}
@@ -14,6 +14,7 @@ use Rattle.upp_limits.specs.Gauges.{gauge_at}
 use Rattle.upp_limits.specs.Periods.{common_period, periods_after}
 use Rattle.upp_limits.specs.Windows.{IsConstantFrom, IsLeast, Meets, Reaches}
 use Rattle.curve_call.proofs.TailMoves.{rates_compared, not_same}
+use Rattle.curve_pointwise.proofs.LatticeAnswers.{slower_or_not}
 use Rattle.curve_deviation.specs.Stages.{AreFinite, IsPast, IsFirst, settled}
 use Rattle.curve_deviation.proofs.PeriodsFound.{level_constant, constant_level}
 use Rattle.curve_deviation.proofs.WindowTimes.{few_within}
@@ -32,9 +33,6 @@ count_up P (suc n) k decided some below = elim (decided k) [
 ]
 
 -- ---- what is decided at each number
-less_or : (v w : Ext) → (v <ₑ w) ⊎ ¬ (v <ₑ w)
-less_or v w = elim (le_or_lt_ext w v) [ inl h ↦ inr (λ l. lt_ext_irrefl v (lt_le_ext v w v l h)) | inr l ↦ inl l ]
-
 at_most_or : (v w : Ext) → (v ≤ₑ w) ⊎ ¬ (v ≤ₑ w)
 at_most_or v w = elim (le_or_lt_ext v w) [ inl h ↦ inl h | inr l ↦ inr (λ h. lt_ext_irrefl w (lt_le_ext w v w l h)) ]
 
@@ -61,7 +59,7 @@ constant_or f g F G both = elim (level_or f) [
 
 meets_or : (f g : SpecCurve) (k : ℕ) → IsConstantFrom (value_at f) (steady f) ⊎ ¬ (IsConstantFrom (value_at f) (steady f)) → Meets Horizontal f g k ⊎ ¬ (Meets Horizontal f g k)
 meets_or f g k (inl level) = inl (inl level)
-meets_or f g k (inr not) = elim (less_or (value_at g (steady g)) (value_at f (periods_after (steady f) k (common_period f g)))) [
+meets_or f g k (inr not) = elim (slower_or_not (value_at g (steady g)) (value_at f (periods_after (steady f) k (common_period f g)))) [
   | inl h ↦ inl (inr h)
   | inr low ↦ inr (λ m. elim m [ inl level ↦ not level | inr h ↦ low h ])
 ]
