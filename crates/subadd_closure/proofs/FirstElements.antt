@@ -71,18 +71,20 @@ pub record BeginsWith (v : ℚ) (es : List Element) : Type 0 where
   pub end : Ext
   pub line : Line
   pub others : List Element
+  pub at_zero : start ≡ zero_q
   pub is : es ≡ Point start v ∷ Open start end line ∷ others
 
-begins : (x : ℚ) (at : Ext) (line : Option Line) (next : Ext) (es : List Element) (v m q : ℚ) → at ≡ Fin v
-    → line_value line m ≡ Fin q → BeginsWith v ((point_of x at ++ segment_of x next line) ++ es)
-begins x Inf line next es v m q a h = absurd cc
-begins x (Fin u) None next es v m q a h = absurd cc
-begins x (Fin u) (Some l) next es v m q a h = record {
+begins : (x : ℚ) (at : Ext) (line : Option Line) (next : Ext) (es : List Element) (v m q : ℚ) → x ≡ zero_q
+    → at ≡ Fin v → line_value line m ≡ Fin q → BeginsWith v ((point_of x at ++ segment_of x next line) ++ es)
+begins x Inf line next es v m q z a h = absurd cc
+begins x (Fin u) None next es v m q z a h = absurd cc
+begins x (Fin u) (Some l) next es v m q z a h = record {
   start = x;
   end = next;
   line = l;
   others = es;
-  is = let same : u ≡ v = cc in ap (λ z. Point x z ∷ Open x next l ∷ es) same;
+  at_zero = z;
+  is = let same : u ≡ v = cc in ap (λ w. Point x w ∷ Open x next l ∷ es) same;
 }
 
 pub first_value : (ps : List Piece) (tail : Tail) (p : Piece) (qs : List Piece)
@@ -111,7 +113,7 @@ first_two p ps tail v raw finite at =
     let line : line_value p.line m ≡ Fin q =
     sym (read_early p ps end m (subst (λ x. x <ℚ m) (sym raw.starts.0) w.past) w.before)
     ∙ sym (value_read (p ∷ ps) tail m raw.tail finite (next_before p ps end m before w.before)) ∙ is in
-    begins p.x p.at p.line (next_start ps end) (elements_of ps end) v m q
+    begins p.x p.at p.line (next_start ps end) (elements_of ps end) v m q raw.starts.0
     (sym (first_value (p ∷ ps) tail p ps raw finite refl) ∙ at) line
 
 pub elements_begin : (c : SpecCurve) (v : ℚ) → IsRaw c → IsFinite (value_at c) → value_at c zero_q ≡ Fin v

@@ -2,7 +2,7 @@
 use Rattle.std.specs.Prelude.{◌≡◌, ℕ, ◌+◌, ◌<◌, ◌≤◌, List, [], ◌∷◌, ◌++◌, length, map}
 use Rattle.std.specs.List.{All}
 use Rattle.std.proofs.Common.{arith, sym, refl, ap, ◌∙◌, inl, inr, get_or, take, drop, length-append, length-take}
-use Rattle.std.proofs.lemmas.List.{map-append, take_more, take-append-drop, drop_more, drop_all, length-map}
+use Rattle.std.proofs.lemmas.List.{map-append, take_more, take-append-drop, take-take, drop_more, drop_all, length-map, append_assoc}
 use Rattle.std.proofs.lemmas.List.Elements.{All-nil, All-cons, All-same}
 use Rattle.std.proofs.lemmas.List.Sums.{sum_by_push, sum_by-append, sum_by-cons}
 use Rattle.affine_segment.specs.declared.element.Element.{Element}
@@ -27,6 +27,16 @@ split_at tail es i e h is =
     ap (map (part_of tail)) (sym (take-append-drop i es) ∙ ap (λ x. take i es ++ x) (drop_more es i e h)
     ∙ ap (λ x. take i es ++ x ∷ drop (i + 1) es) (sym is))
     ∙ map-append (part_of tail) (take i es) (e ∷ drop (i + 1) es)
+
+-- of those before the n-th
+pub split_front : (tail : Tail) (es : List Element) (i n : ℕ) (e : Element) → i < n → n ≤ length es → e ≡ get_or es i e
+    → map (part_of tail) (take n es) ≡ map (part_of tail) (take i es) ++ part_of tail e ∷ map (part_of tail) (drop (i + 1) (take n es))
+split_front tail es i n e low high is =
+    let rest = drop (i + 1) (take n es) in
+    ap (map (part_of tail)) (sym (take-append-drop (i + 1) (take n es)) ∙ ap (λ x. x ++ rest) (take-take (i + 1) n es (omega (arith, low))))
+    ∙ map-append (part_of tail) (take (i + 1) es) rest
+    ∙ ap (λ x. x ++ map (part_of tail) rest) (one_more tail es i e (omega (arith, low, high)) is)
+    ∙ append_assoc (map (part_of tail) (take i es)) (part_of tail e ∷ []) (map (part_of tail) rest)
 
 -- ---- the work
 pub work_one : (p : Part) → parts_work (p ∷ []) ≡ part_work p

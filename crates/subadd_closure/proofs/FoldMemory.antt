@@ -1,13 +1,16 @@
 -- At which call of the fold memory was wanting.
-use Rattle.std.specs.Prelude.{◌≡◌, ℕ, ◌+◌, ◌≤◌, List, [], ◌∷◌, ◌++◌, map, Option, Some, None, Result, Ok, Err}
-use Rattle.std.proofs.Common.{arith, sym, refl, ap, ◌∙◌, subst}
-use Rattle.std.proofs.lemmas.List.{append_assoc}
-use Rattle.rational.specs.Rational.{ℚ}
+use Rattle.std.specs.Prelude.{◌≡◌, ℕ, ◌+◌, ◌<◌, ◌≤◌, List, [], ◌∷◌, length, map, Option, Some, None, Result, Ok, Err}
+use Rattle.std.proofs.Common.{arith, sym, refl, ap, ◌∙◌, subst, get_or, drop}
+use Rattle.std.proofs.lemmas.List.{drop_more}
+use Rattle.rational.specs.Rational.{ℚ, ◌≤ℚ◌}
+use Rattle.rational.specs.Extended.{Ext}
+use Rattle.rational.specs.declared.Extended.TheVariants.{Fin, Inf}
 use Rattle.rational.proofs.Laws.{le_refl}
+use Rattle.affine_segment.specs.declared.line.Line.{Line}
 use Rattle.affine_segment.specs.declared.element.Element.{Element}
 use Rattle.affine_segment.specs.declared.element.Element.TheVariants.{Point, Open}
 use Rattle.upp_limits.specs.declared.op_kind.OpKind.{OpKind}
-use Rattle.upp_limits.specs.declared.op_kind.OpKind.TheVariants.{Convolve}
+use Rattle.upp_limits.specs.declared.op_kind.OpKind.TheVariants.{Min, Convolve}
 use Rattle.upp_limits.specs.declared.op_kind.OpFault.{OpFault}
 use Rattle.upp_limits.specs.declared.op_kind.OpFault.TheVariants.{NoMemory}
 use Rattle.upp_limits.specs.Outcome.{KeepsLimits}
@@ -16,17 +19,21 @@ use Rattle.upp_curve.specs.Normal.{IsRaw}
 use Rattle.min_plus.specs.Functions.{zero_q, IsFinite}
 use Rattle.curve_call.specs.Calls.{Applies, Then, goes_on, stops}
 use Rattle.closure_elements.specs.ElementAnswers.{IsElementClosure}
-use Rattle.closure_elements.specs.Lattices.{lattice_curve}
+use Rattle.closure_elements.specs.Lattices.{lattice_curve, origin_curve}
+use Rattle.element_envelope.specs.PieceElements.{elements_of}
+use Rattle.subadd_closure.specs.declared.part.Copies.{Copies as PartCopies}
 use Rattle.subadd_closure.specs.declared.part.Part.{Part}
-use Rattle.subadd_closure.specs.CurveParts.{copies_of, part_of, parts_of}
-use Rattle.subadd_closure.specs.Folds.{segment_number, SegmentCause, SegmentWithin, PartsAnswer}
-use Rattle.subadd_closure.specs.FoldMemory.{PartWants, StopsAt, StopsAfter, PartsWant, CloseWants}
-use Rattle.subadd_closure.specs.FoldWork.{part_work, parts_work}
+use Rattle.subadd_closure.specs.CurveParts.{pieces_end, copies_of, part_of, parts_of}
+use Rattle.subadd_closure.specs.Folds.{segment_number, SegmentCause, SegmentWithin, ElementAnswer, CopiedAnswer, LoweredAnswer, PartAnswer, PartsAnswer}
+use Rattle.subadd_closure.specs.FoldMemory.{PartWants, StopsAt, StopsAfter, FirstWithin, CloseWants}
+use Rattle.subadd_closure.specs.FoldWork.{copies_work, part_work, parts_work}
 use Rattle.subadd_closure.specs.PartStars.{turn_of}
 use Rattle.subadd_closure.specs.StartsAt.{StartsAt}
 use Rattle.subadd_closure.specs.Stars.{answers, wants, Copies, StarWants, ElementWants}
 use Rattle.subadd_closure.proofs.FirstElements.{elements_begin}
+use Rattle.subadd_closure.proofs.FoldStars.{went_on, same_ok}
 use Rattle.subadd_closure.proofs.OneFold.{one_closure}
+use Rattle.subadd_closure.proofs.SegmentLimits.{number_early}
 
 -- ---- one call
 -- what `?` hands on is the fault that was there
@@ -105,21 +112,50 @@ segment_wants f e d fault n same cause want =
     (cause_within f (segment_number d) (subst (λ z. SegmentCause f (segment_number d) z) one cause))
     (no_call (turn_of (copies_of f.tail e)) d n n refl)
 
+-- where all calls on it are counted and made
+made_star : (o : Option PartCopies) (c s : SpecCurve) (old new : ℕ) → Then (CopiedAnswer o c) LoweredAnswer (Ok s)
+    → new ≡ old + copies_work o → StarWants (turn_of o) c old new
+made_star None c s old new a is =
+    let (d, same, low) = went_on (CopiedAnswer None c) LoweredAnswer s a in
+    λ one. subst (λ z. Applies Min z origin_curve (Err NoMemory)) (same_ok (Ok d) d c refl same) low.within
+made_star (Some k) c s old new a is =
+    let (d, all, low) = went_on (CopiedAnswer (Some k) c) LoweredAnswer s a in
+    (λ one. all.within, λ two. (d, all, low.within))
+
+pub made_wants : (f : SpecCurve) (p : Part) (s : SpecCurve) (old new : ℕ) → PartAnswer f p (Ok s)
+    → new ≡ old + part_work p → PartWants f p old new
+made_wants f p s old new made is =
+    let (c, closed, a) = went_on (ElementAnswer f p.element) (λ z. Then (CopiedAnswer p.copies z) LoweredAnswer) s made in
+    record {
+      most = omega (arith, is);
+      segment = closed.0;
+      calls = closure_wants (turn_of p.copies) p.element c old new closed.1 (made_star p.copies c s old new a is);
+    }
+
+-- ---- the segment of the part after some
+start_within : (f : SpecCurve) (a : ℚ) (b : Ext) (l : Line) → a ≤ℚ zero_q → SegmentWithin f (segment_number (Open a b l))
+start_within f a Inf l low = tt
+start_within f a (Fin b) l low = subst (SegmentWithin f) (sym (number_early a b l low)) tt
+
+-- the second element of a curve begins at 0
+pub second_within : (c : SpecCurve) (es : List Element) → es ≡ elements_of c.pieces (pieces_end c.tail) → IsRaw c
+    → IsFinite (value_at c) → FirstWithin c (map (part_of c.tail) (drop 1 es))
+second_within c es all raw finite =
+    let (v, at) = finite zero_q (le_refl zero_q) in
+    let b = elements_begin c v raw finite at in
+    subst (λ z. FirstWithin c (map (part_of c.tail) (drop 1 z))) (sym (all ∙ b.is))
+    (start_within c b.start b.end b.line (subst (λ z. z ≤ℚ zero_q) (sym b.at_zero) (le_refl zero_q)))
+
+pub later_within : (f : SpecCurve) (es : List Element) (i : ℕ) (e : Element) → i < length es → e ≡ get_or es i e
+    → SegmentWithin f (segment_number e) → FirstWithin f (map (part_of f.tail) (drop i es))
+later_within f es i e h is within =
+    subst (λ z. FirstWithin f (map (part_of f.tail) z)) (sym (drop_more es i e h ∙ ap (λ z. z ∷ drop (i + 1) es) (sym is))) within
+
 -- ---- the parts in their order
 pub after_parts : (f s : SpecCurve) (before : List Part) (p : Part) (old between new : ℕ) → PartsAnswer f before (Ok s)
     → between ≡ old + parts_work before → StopsAt f s p between new → StopsAfter f before p old new
 after_parts f s [] p old between new made is h = absurd made
 after_parts f s (q ∷ qs) p old between new made is h = (s, made, subst (λ k. StopsAt f s p k new) is h)
-
-pub more_parts : (f : SpecCurve) (ps qs all : List Part) (old new : ℕ) → all ≡ ps ++ qs → PartsWant f ps old new
-    → PartsWant f all old new
-more_parts f ps qs all old new is h = record {
-  before = h.before;
-  part = h.part;
-  after = h.after ++ qs;
-  are = is ∙ ap (λ z. z ++ qs) h.are ∙ append_assoc h.before (h.part ∷ h.after) qs;
-  stops = h.stops;
-}
 
 -- before the first part
 pub none_wants : (c : SpecCurve) (n : ℕ) → IsRaw c → IsFinite (value_at c) → CloseWants c n n
@@ -139,4 +175,5 @@ none_wants c n raw finite =
         segment = tt;
         calls = no_call (turn_of first.copies) first.element n n refl;
       };
+      next = λ counted. start_within c b.start b.end b.line (subst (λ z. z ≤ℚ zero_q) (sym b.at_zero) (le_refl zero_q));
     }

@@ -12,7 +12,7 @@ use Rattle.min_plus.specs.Functions.{zero_q}
 use Rattle.min_plus.specs.Convolution.{IsSubadditiveClosure}
 use Rattle.curve_call.specs.Answers.{IsMadeBy}
 use Rattle.curve_call.specs.Calls.{Applies, Then, goes_on, stops}
-use Rattle.closure_laws.specs.Star.{IsStar, AreStars, origin, least_of}
+use Rattle.closure_laws.specs.Star.{IsStar, AreStars, least_of}
 use Rattle.closure_laws.proofs.StarSums.{star_of_closure, stars_of_values}
 use Rattle.closure_laws.proofs.CopiedParts.{closure_of_copies}
 use Rattle.closure_elements.specs.ElementAnswers.{IsElementClosure}

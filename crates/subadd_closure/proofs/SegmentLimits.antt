@@ -58,7 +58,7 @@ number a b = whole_part (a /ℚ (b -ℚ a))
 number_late : (a b : ℚ) (l : Line) → zero_q <ℚ a → segment_number (Open a (Fin b) l) ≡ Some (suc (number a b))
 number_late a b l h = ap (λ t. cond t (Some (suc (number a b))) None) (lt_q_out zero_q a h)
 
-number_early : (a b : ℚ) (l : Line) → a ≤ℚ zero_q → segment_number (Open a (Fin b) l) ≡ None
+pub number_early : (a b : ℚ) (l : Line) → a ≤ℚ zero_q → segment_number (Open a (Fin b) l) ≡ None
 number_early a b l h = ap (λ t. cond t (Some (suc (number a b))) None) (lt_q_not zero_q a h)
 
 -- ---- without a number

@@ -1,6 +1,6 @@
 -- Where the fold of a closure stopped for want of memory, by how many of its calls are counted: those before have made
--- their curves, and the last that is counted is within its limits. So no limit of a counted call is told as want of
--- memory. Own choice.
+-- their curves, the last that is counted is within its limits, and so is the segment of the part that comes next. So no
+-- limit of a counted call, and none of a segment's own operator, is told as want of memory. Own choice.
 use Rattle.std.specs.Prelude.{◌≡◌, ◌⊎◌, ℕ, ◌+◌, ◌≤◌, List, [], ◌∷◌, ◌++◌, Ok, Err}
 use Rattle.upp_limits.specs.declared.op_kind.OpKind.TheVariants.{Convolve}
 use Rattle.upp_limits.specs.declared.op_kind.OpFault.TheVariants.{NoMemory}
@@ -35,13 +35,19 @@ StopsAfter f [] p old new = PartWants f p old new
 StopsAfter f (q ∷ qs) p old new = (sofar : SpecCurve) × PartsAnswer f (q ∷ qs) (Ok sofar)
     × StopsAt f sofar p (old + parts_work (q ∷ qs)) new
 
--- at one of all parts
+-- the segment of the first of some parts is over no limit
+abbrev pub FirstWithin : SpecCurve → List Part → Type 0
+FirstWithin f [] = Unit {0}
+FirstWithin f (p ∷ ps) = SegmentWithin f (segment_number p.element)
+
+-- at one of all parts; where all calls up to the end of that part are counted, the next one's segment is over no limit
 pub record PartsWant (f : SpecCurve) (all : List Part) (old new : ℕ) : Type 0 where
   pub before : List Part
   pub part : Part
   pub after : List Part
   pub are : all ≡ before ++ part ∷ after
   pub stops : StopsAfter f before part old new
+  pub next : new ≡ old + parts_work (before ++ part ∷ []) → FirstWithin f after
 
 abbrev pub CloseWants : SpecCurve → (old new : ℕ) → Type 0
 CloseWants f old new = PartsWant f (parts_of f) old new

@@ -3,7 +3,7 @@
 -- of a minimum is the convolution of the stars: Bouillard, Boyer and Le Corronc; the order and the limits are own
 -- choice.)
 use Rattle.std.specs.Prelude.{◌≡◌, ℕ, suc, ◌+◌, ◌*◌, ◌^◌, ◌<◌, ◌≤◌, cond, List, [], ◌∷◌, Option, Some, None, Result, Ok, Err}
-use Rattle.rational.specs.Rational.{ℚ, ◌-ℚ◌, ◌/ℚ◌, ◌<ℚ◌, lt_q}
+use Rattle.rational.specs.Rational.{◌-ℚ◌, ◌/ℚ◌, lt_q}
 use Rattle.rational.specs.Whole.{whole_part}
 use Rattle.rational.specs.declared.Extended.TheVariants.{Fin, Inf}
 use Rattle.affine_segment.specs.declared.element.Element.{Element}

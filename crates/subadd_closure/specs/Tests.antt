@@ -12,6 +12,6 @@ abbrev pub TestsSubadditive : SpecCurve → Result Bool OpFault → Type 0
 TestsSubadditive f r = Then (Applies Convolve f f) (λ c. KeepsLimits Min f c) r
 
 -- where both are counted and memory is wanting, the first has made a curve, and of it the second is within its limits:
--- so no limit is told as want of memory
+-- so no limit of the two is told as want of memory once they are counted
 abbrev pub TestWants : SpecCurve → (old new : ℕ) → Type 0
 TestWants f old new = new ≡ old + 2 → (c : SpecCurve) × Applies Convolve f f (Ok c) × IsWithin Min f c

@@ -1,6 +1,6 @@
 //! The subadditive closure of a curve: the fold of the stars of its parts.
 
-ghost use Rattle.std.specs.Prelude.{◌≡◌, ◌+◌, ◌<◌, ◌≤◌, map, length, All, IfOk, Err};
+ghost use Rattle.std.specs.Prelude.{◌≡◌, ◌+◌, ◌<◌, ◌≤◌, map, length, take, IfOk, IsTrue, Err};
 ghost use Rattle.rational.specs.Rational.{ℚ, ◌≤ℚ◌};
 ghost use Rattle.upp_curve.specs.Curve.{value_at};
 ghost use Rattle.min_plus.specs.Convolution.{IsSubadditive, IsSubadditiveClosure};
@@ -12,15 +12,15 @@ ghost use Rattle.curve_call.specs.Calls.{Applies, Then};
 ghost use Rattle.closure_laws.specs.ClosureLaws.{ClosureKeeps};
 ghost use Rattle.subadd_closure.specs.CurveParts.{pieces_end, part_of};
 ghost use Rattle.subadd_closure.specs.Folds.{PartAnswer, PartsAnswer, CloseAnswer};
-ghost use Rattle.subadd_closure.specs.FoldMemory.{StopsAt, PartsWant, CloseWants};
+ghost use Rattle.subadd_closure.specs.FoldMemory.{StopsAt, CloseWants};
 ghost use Rattle.subadd_closure.specs.FoldWork.{part_work, parts_work, fold_work};
 ghost use Rattle.subadd_closure.specs.SegmentLimits.{IsElementOf, IsOwnGauge};
 
 use crate::from_start::started_from;
-use crate::overlaps::own_gauge;
+use crate::overlaps::{is_within, own_gauge};
 use crate::part::elements;
 use crate::part_stars::element_star;
-use crate::star_convolution::convolve_stars;
+use crate::star_convolution::convolve_counted;
 use affine_segment::Element;
 use curve_call::intact;
 use fraction128::Frac;
@@ -31,13 +31,16 @@ use steps::Steps;
 use upp_curve::Curve;
 use upp_limits::OpFault;
 
-// What the parts so far make, convolved with the star of one more element.
+// What the parts so far make, convolved with the star of one more element. Where `next_within` is false, the segment of
+// the next part may be over a limit: then the convolution is counted once it is answered, so that where all calls are
+// counted no want of memory is told in place of that limit.
 fn with_star<L: Ledger>(
     alloc: Global,
     f: &Curve,
     gauge: Option<u128>,
     sofar: &Curve,
     e: &Element,
+    next_within: bool,
     steps: &mut Steps<L>,
 ) -> Result<Curve, OpFault>
     requires part { IsElementOf f.now e.now }
@@ -49,38 +52,44 @@ fn with_star<L: Ledger>(
     ensures answer { Then (PartAnswer f.now (part_of f.now.tail e.now)) (λ c. Applies Convolve sofar.now c) result }
     ensures memory { result ≡ Err OpFault.NoMemory
         → StopsAt f.now sofar.now (part_of f.now.tail e.now) steps.old steps.new }
+    ensures next { result ≡ Err OpFault.NoMemory
+        → steps.new ≡ steps.old + (part_work (part_of f.now.tail e.now) + 1) → IsTrue next_within }
     ensures rises { steps.old ≤ steps.new }
     ensures most { steps.new ≤ steps.old + (part_work (part_of f.now.tail e.now) + 1) }
     ensures all { IfOk result (λ _. steps.new ≡ steps.old + (part_work (part_of f.now.tail e.now) + 1)) }
 {
     let star = element_star(alloc, f, gauge, e, steps)?;
-    intact(convolve_stars(alloc, sofar, &star, true, steps))
+    intact(convolve_counted(alloc, sofar, &star, true, next_within, steps))
 }
 
-// The stars of some elements, convolved one after another.
+// The stars of the elements before the one at `last`, convolved one after another.
 fn folded<L: Ledger>(
     alloc: Global,
     f: &Curve,
     gauge: Option<u128>,
     es: &[Element],
+    last: usize,
     steps: &mut Steps<L>,
 ) -> Result<Curve, OpFault>
-    requires some { 0 < length es.now }
-    requires parts { All (IsElementOf f.now) es.now }
+    requires elements { es.now ≡ elements_of f.now.pieces (pieces_end f.now.tail) }
+    requires some { 0 < last }
+    requires inside { last < length es.now }
     requires finite { IsFinite (value_at f.now) }
     requires nonneg { IsNonnegative (value_at f.now) }
     requires curve { IsCurve f.now }
     requires gauge { IsOwnGauge f.now gauge }
-    ensures answer { PartsAnswer f.now (map (part_of f.now.tail) es.now) result }
-    ensures memory { result ≡ Err OpFault.NoMemory
-        → PartsWant f.now (map (part_of f.now.tail) es.now) steps.old steps.new }
+    ensures answer { PartsAnswer f.now (map (part_of f.now.tail) (take last es.now)) result }
+    ensures memory { result ≡ Err OpFault.NoMemory → CloseWants f.now steps.old steps.new }
     ensures rises { steps.old ≤ steps.new }
-    ensures most { steps.new ≤ steps.old + parts_work (map (part_of f.now.tail) es.now) }
-    ensures all { IfOk result (λ _. steps.new ≡ steps.old + parts_work (map (part_of f.now.tail) es.now)) }
+    ensures most { steps.new ≤ steps.old + parts_work (map (part_of f.now.tail) (take last es.now)) }
+    ensures all { IfOk result (λ _. steps.new ≡ steps.old
+        + parts_work (map (part_of f.now.tail) (take last es.now))) }
 {
     let mut sofar = element_star(alloc, f, gauge, &es[0], steps)?;
-    for i in 1..es.len() {
-        sofar = with_star(alloc, f, gauge, &sofar, &es[i], steps)?;
+    for i in 1..last {
+        let next = i + 1;
+        let next_within = is_within(f, gauge, &es[next]);
+        sofar = with_star(alloc, f, gauge, &sofar, &es[i], next_within, steps)?;
     }
     Ok(sofar)
 }
@@ -115,7 +124,7 @@ fn closed<L: Ledger>(
 {
     let gauge = own_gauge(f);
     let last = es.len() - 1;
-    let sofar = folded(alloc, f, gauge, &es[..last], steps)?;
+    let sofar = folded(alloc, f, gauge, es, last, steps)?;
     let star = element_star(alloc, f, gauge, &es[last], steps)?;
     started_from(alloc, &sofar, &star, start_of(f), true, steps)
 }
@@ -126,8 +135,9 @@ fn closed<L: Ledger>(
 /// closure, lowered by the point 0 at 0; and these are convolved in the order of their starts, with the value at 0 set
 /// back to f at 0. Refused with TooWide or TooMany exactly where the first operator of that fold that is over a limit
 /// is over that one: an open segment after 0 that has an end has an operator of its own, before the calls on curves.
-/// Else only for want of memory, and then each call that is counted is within its limits. Each call on curves counts one
-/// step.
+/// Else only for want of memory, and then each call that is counted is within its limits, and so is the operator of a
+/// segment that comes next. Each call on curves counts one step; one that is followed by a segment over a limit counts
+/// it as soon as it is answered.
 pub fn close<L: Ledger>(alloc: Global, f: &Curve, steps: &mut Steps<L>) -> Result<Curve, OpFault>
     requires finite { IsFinite (value_at f.now) }
     requires nonneg { IsNonnegative (value_at f.now) }

@@ -1,15 +1,15 @@
 //! How many stretches of the sums of a segment end before the next begins, where that is within the limits of a
 //! closure's fold: so a closure of too many pieces is never made.
 
-ghost use Rattle.std.specs.Prelude.{◌≡◌, ◌+◌, ◌*◌, ◌<◌, ◌≤◌, ◌^◌, IfOk, IfErr};
+ghost use Rattle.std.specs.Prelude.{◌≡◌, ◌+◌, ◌*◌, ◌<◌, ◌≤◌, ◌^◌, IfOk, IfErr, IsTrue};
 ghost use Rattle.rational.specs.Rational.{◌-ℚ◌, ◌/ℚ◌, ◌<ℚ◌};
 ghost use Rattle.rational.specs.Whole.{whole_part};
 ghost use Rattle.affine_segment.specs.declared.element.Element.TheVariants.{Open};
 ghost use Rattle.min_plus.specs.Functions.{zero_q};
-ghost use Rattle.subadd_closure.specs.Folds.{segment_number, SegmentCause};
+ghost use Rattle.subadd_closure.specs.Folds.{segment_number, SegmentWithin, SegmentCause};
 ghost use Rattle.subadd_closure.specs.SegmentLimits.{IsElementOf, IsOwnGauge, LengthsFit, IsOverLimit, IsOverlap};
 
-use affine_segment::Line;
+use affine_segment::{Element, Line};
 use curve_call::first_window;
 use fraction128::{Ext, Frac, difference, is_less, quotient};
 use rational::Extended;
@@ -86,5 +86,21 @@ pub(crate) fn overlap(
     match gauge {
         None => Err(OpFault::TooWide),
         Some(own) => within_limits(own, lengths_before(a, end)),
+    }
+}
+
+/// Whether the operator of an element of f is known to be over no limit: a point has none, and of a segment `overlap` is
+/// asked. No memory is taken.
+pub(crate) fn is_within(f: &Curve, gauge: Option<u128>, e: &Element) -> bool
+    requires part { IsElementOf f.now e.now }
+    requires gauge { IsOwnGauge f.now gauge }
+    ensures { IsTrue result → SegmentWithin f.now (segment_number e.now) }
+{
+    match e {
+        Element::Point { x: _, v: _ } => true,
+        Element::Open { from, to, line } => match overlap(f, gauge, *from, *to, line) {
+            Ok(_) => true,
+            Err(_) => false,
+        },
     }
 }

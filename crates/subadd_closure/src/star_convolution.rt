@@ -1,7 +1,7 @@
 //! The convolution of two curves in the fold of a closure: as `convolve`, where few numbers of the curves mostly tell how
 //! many periods it needs.
 
-ghost use Rattle.std.specs.Prelude.{◌≡◌, ◌+◌, IfOk, IfErr, IfSome};
+ghost use Rattle.std.specs.Prelude.{◌≡◌, ◌⊎◌, ◌+◌, ◌≤◌, IfOk, IfErr, IfSome, IsTrue, Err};
 ghost use Rattle.rational.specs.Rational.{ℚ, ◌-ℚ◌, ◌≤ℚ◌};
 ghost use Rattle.upp_curve.specs.Curve.{value_at};
 ghost use Rattle.upp_curve.specs.Curves.{IsCurve};
@@ -115,6 +115,20 @@ fn convolved_within(
     curve_of(alloc, f, g, frame, pieces)
 }
 
+// The convolution of two curves; `thin` as of `window_of`. Nothing is counted.
+fn stars_convolved(alloc: Global, f: &Curve, g: &Curve, thin: bool) -> Result<Curve, OpFault>
+    requires { MayThin thin f.now g.now }
+    ensures value { IfOk result (λ c. (t : ℚ) → zero_q ≤ℚ t
+        → IsConvolution (value_at f.now) (value_at g.now) t (value_at c t)) }
+    ensures limits { KeepsLimits Convolve f.now g.now result }
+{
+    let frame = star_frame(alloc, f, g)?;
+    match convolved_within(alloc, f, g, &frame, thin) {
+        Ok(c) => Ok(c),
+        Err(_) => Err(OpFault::NoMemory),
+    }
+}
+
 /// The convolution of two curves, with the contract of `convolve` of `curve_conv`; `thin` as of `window_of`. One step is
 /// counted.
 pub(crate) fn convolve_stars<L: Ledger>(
@@ -131,9 +145,45 @@ pub(crate) fn convolve_stars<L: Ledger>(
     ensures limits { KeepsLimits Convolve f.now g.now result }
 {
     steps.tick();
-    let frame = star_frame(alloc, f, g)?;
-    match convolved_within(alloc, f, g, &frame, thin) {
-        Ok(c) => Ok(c),
-        Err(_) => Err(OpFault::NoMemory),
+    stars_convolved(alloc, f, g, thin)
+}
+
+/// The convolution of two curves, as `convolve_stars` makes it. Its step is counted before it where `at_once` is true,
+/// else as soon as it is answered: then none is counted where memory is wanting.
+pub(crate) fn convolve_counted<L: Ledger>(
+    alloc: Global,
+    f: &Curve,
+    g: &Curve,
+    thin: bool,
+    at_once: bool,
+    steps: &mut Steps<L>,
+) -> Result<Curve, OpFault>
+    requires { MayThin thin f.now g.now }
+    ensures memory { result ≡ Err OpFault.NoMemory
+        → (IsTrue at_once × (steps.new ≡ steps.old + 1)) ⊎ (steps.new ≡ steps.old) }
+    ensures rises { steps.old ≤ steps.new }
+    ensures most { steps.new ≤ steps.old + 1 }
+    ensures all { IfOk result (λ _. steps.new ≡ steps.old + 1) }
+    ensures value { IfOk result (λ c. (t : ℚ) → zero_q ≤ℚ t
+        → IsConvolution (value_at f.now) (value_at g.now) t (value_at c t)) }
+    ensures limits { KeepsLimits Convolve f.now g.now result }
+{
+    if at_once {
+        return convolve_stars(alloc, f, g, thin, steps);
+    }
+    match stars_convolved(alloc, f, g, thin) {
+        Ok(c) => {
+            steps.tick();
+            Ok(c)
+        }
+        Err(OpFault::NoMemory) => Err(OpFault::NoMemory),
+        Err(OpFault::TooMany) => {
+            steps.tick();
+            Err(OpFault::TooMany)
+        }
+        Err(OpFault::TooWide) => {
+            steps.tick();
+            Err(OpFault::TooWide)
+        }
     }
 }

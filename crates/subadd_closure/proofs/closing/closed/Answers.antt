@@ -1,16 +1,15 @@
 use Rattle.std.specs.Prelude.{[]}
 use Rattle.std.proofs.Common.{◌≡◌, ◌+◌, ◌-◌, length, map, take}
-use Rattle.std.proofs.Common.{drop, length-take, sym, refl, ap, subst, arith, inl, inr}
-use Rattle.std.proofs.lemmas.List.Elements.{All-take}
+use Rattle.std.proofs.Common.{drop, sym, refl, ap, subst, arith, inl, inr}
 use Rattle.std.proofs.lemmas.Result.{err_from_is_err_and}
 use Rattle.rational.specs.Extended.{◌≤ₑ◌}
 use Rattle.rational.specs.declared.Extended.TheVariants.{Fin}
 use Rattle.rational.proofs.Laws.{le_refl}
 use Rattle.min_plus.specs.Functions.{zero_q}
-use Rattle.subadd_closure.specs.CurveParts.{part_of, parts_of}
+use Rattle.subadd_closure.specs.CurveParts.{part_of}
 use Rattle.subadd_closure.specs.FoldWork.{parts_work, fold_work}
 use Rattle.subadd_closure.specs.SegmentLimits.{IsElementOf}
-use Rattle.subadd_closure.proofs.FoldMemory.{same_want, then_wants, after_parts, more_parts}
+use Rattle.subadd_closure.proofs.FoldMemory.{same_want, then_wants, after_parts}
 use Rattle.subadd_closure.proofs.FirstElements.{two_elements}
 use Rattle.subadd_closure.proofs.FoldSteps.{early_refusal, last_refusal, last_part, always}
 use Rattle.subadd_closure.proofs.FoldLists.{all_elements, split_parts, split_last}
@@ -26,15 +25,15 @@ overflow_sub-last g c =
 
 pub folded-requires-clause-some : goal.folded-requires-clause-some
 folded-requires-clause-some g c =
-    let es = c.args.es.now in
-    let two = two_elements c.args.f.now es c.requires.elements c.requires.curve.normal.raw c.requires.finite in
-    omega (arith, two, length-take (length es - 1) es)
+    let two = two_elements c.args.f.now c.args.es.now c.requires.elements c.requires.curve.normal.raw
+    c.requires.finite in
+    omega (arith, two)
 
-pub folded-requires-clause-parts : goal.folded-requires-clause-parts
-folded-requires-clause-parts g c =
-    let f = c.args.f.now in
-    let es = c.args.es.now in
-    All-take (IsElementOf f) (length es - 1) es (all_elements f es c.requires.elements)
+pub folded-requires-clause-inside : goal.folded-requires-clause-inside
+folded-requires-clause-inside g c =
+    let two = two_elements c.args.f.now c.args.es.now c.requires.elements c.requires.curve.normal.raw
+    c.requires.finite in
+    omega (arith, two)
 
 pub returns-in_err-sofar-clause-answer : goal.returns-in_err-sofar-clause-answer
 returns-in_err-sofar-clause-answer g c =
@@ -180,14 +179,9 @@ returns-clause-exact g c =
 
 pub returns-in_err-sofar-clause-memory : goal.returns-in_err-sofar-clause-memory
 returns-in_err-sofar-clause-memory g c is =
-    let f = c.args.f.now in
-    let es = c.args.es.now in
-    let n = length es - 1 in
     let r = c.from_residual in
     let p = err_from_is_err_and r.result r.ensures.1 in
-    more_parts f (map (part_of f.tail) (take n es)) (map (part_of f.tail) (drop n es)) (parts_of f) c.args.steps.now
-    c.folded.new.steps (split_parts f es n c.requires.elements)
-    (c.in_err-sofar.ensures.memory (same_want r.result p.0 c.in_err-sofar.field-0.0 p.1 p.2 is))
+    c.in_err-sofar.ensures.memory (same_want r.result p.0 c.in_err-sofar.field-0.0 p.1 p.2 is)
 
 pub returns-in_err-star-clause-memory : goal.returns-in_err-star-clause-memory
 returns-in_err-star-clause-memory g c is =
@@ -206,6 +200,7 @@ returns-in_err-star-clause-memory g c is =
       stops = after_parts f c.in_ok-sofar.sofar (map (part_of f.tail) (take n es)) (part_of f.tail e) c.args.steps.now
           c.folded.new.steps c.element_star.new.steps c.in_ok-sofar.ensures.answer c.in_ok-sofar.ensures.all
           (inl (c.in_err-star.ensures.memory (same_want r.result p.0 c.in_err-star.field-0.0 p.1 p.2 is)));
+      next = λ counted. tt;
     }
 
 pub returns-clause-memory : goal.returns-clause-memory
@@ -231,6 +226,7 @@ returns-clause-memory g c is =
             within = then_wants c.in_ok-sofar.sofar c.in_ok-star.star c.start_of.result c.started_from.result
                 c.started_from.ensures.answer is;
           });
+      next = λ counted. tt;
     }
 
 pub started_from-requires-clause-thin : goal.started_from-requires-clause-thin
