@@ -201,3 +201,13 @@ returns-clause-all g c =
     let low = c.requires.some in
     let done : c.loop-i.i ≡ c.args.last = omega (arith, low) in
     c.loop-i.invariant.count ∙ ap (λ k. c.args.steps.now + parts_work (map (part_of f.tail) (take k es))) done
+
+pub returns-clause-most : goal.returns-clause-most
+returns-clause-most g c =
+    let f = c.args.f.now in
+    let es = c.args.es.now in
+    let low = c.requires.some in
+    let done : c.loop-i.i ≡ c.args.last = omega (arith, low) in
+    let count = c.loop-i.invariant.count in
+    let all = ap (λ k. parts_work (map (part_of f.tail) (take k es))) done in
+    omega (arith, count, all)
