@@ -1,6 +1,6 @@
 -- Where the fold of a closure stopped for want of memory, by how many of its calls are counted: those before have made
 -- their curves, the last that is counted is within its limits, and so is the segment of the part that comes next. So no
--- limit of a counted call, and none of a segment's own operator, is told as want of memory. Own choice.
+-- limit of a counted call, and none of the segment after it, is told as want of memory. Own choice.
 use Rattle.std.specs.Prelude.{◌≡◌, ◌⊎◌, ℕ, ◌+◌, ◌≤◌, List, [], ◌∷◌, ◌++◌, Ok, Err}
 use Rattle.upp_limits.specs.declared.op_kind.OpKind.TheVariants.{Convolve}
 use Rattle.upp_limits.specs.declared.op_kind.OpFault.TheVariants.{NoMemory}
