@@ -1,0 +1,7 @@
+pub mod Kept
+pub mod Sound
+pub mod Found
+pub mod Sums
+pub mod EachKind
+pub mod Tables
+pub mod Answered
