@@ -17,6 +17,7 @@ use Rattle.curve_call.specs.Calls.{Applies, AppliesTo}
 use Rattle.residual_laws.specs.PriorityCalls.{MakesPriority}
 use Rattle.net_model.specs.Networks.{Net}
 use Rattle.net_model.specs.Accepted.{IsAccepted}
+use Rattle.net_bounds.proofs.Cells.{curve_map}
 use Rattle.net_cells.specs.declared.cell.Cell.{Cell}
 use Rattle.net_cells.specs.declared.cell.Kind.{Kind}
 use Rattle.net_cells.specs.declared.cell.Kind.TheVariants.{In, Cross, Total, Higher, QueueService, Theta, Residual, QueueDelay, QueueBacklog, HopDelay, ShiftOut, DeconvOut, Out, PathService, Tfa, Sfa, Bound}
@@ -50,7 +51,7 @@ use Rattle.service_existence.proofs.Services.{by_priority, by_deficit}
 use Rattle.table_existence.specs.Calls.{CallsHaveAnswers}
 use Rattle.table_existence.specs.Curves.{HasCurves}
 use Rattle.table_existence.proofs.Sound.{IsSound, service_curve}
-use Rattle.table_existence.proofs.Found.{IsArriving, IsFiniteCurve, IsServing, CurveIsFound, NumberIsFound, curve_in, then_found, then_number_found, value_found, number_found, made_found, less_found, horizontal_found, vertical_found}
+use Rattle.table_existence.proofs.Found.{IsArriving, IsFiniteCurve, IsServing, CurveIsFound, NumberIsFound, then_found, then_number_found, value_found, number_found, made_found, less_found, horizontal_found, vertical_found}
 use Rattle.table_existence.proofs.Sums.{sum_found, parts_found}
 
 calls_exist : CallsExist
@@ -84,7 +85,7 @@ module _ (E : CallsHaveAnswers) (net : Net) (at : CellTable) (i : ℕ) where
   packets_found : (k : ℕ) → ((j : ℕ) → j ≤ k → HasCurve at (cell_of Residual i j) IsFiniteCurve) → CurveIsFound at (packets_to net i k) IsCurve
   packets_found zero each =
       let only = hop_found 0 (each 0 (omega arith)) in
-      record { calls = only.calls; means = λ v m. curve_in IsFiniteCurve IsCurve v (λ f q. q.0) (only.means v m) }
+      record { calls = only.calls; means = λ v m. curve_map IsFiniteCurve IsCurve v (λ f q. q.0) (only.means v m) }
   packets_found (suc k) each =
       made_found at Convolve (packets_to net i k) (less (value Residual i (suc k)) (packet net i)) IsCurve IsFiniteCurve
       (packets_found k (λ j h. each j (omega arith))) (hop_found (suc k) (each (suc k) (omega arith))) (λ f g q s. E.convolve f g q s.0)
@@ -129,13 +130,13 @@ module _ (E : CallsHaveAnswers) (net : Net) (at : CellTable) (P : Cell → Type 
   shift_curve i k p =
       let e = M.meet (cell_of ShiftOut i k) p in
       has_curve at (cell_of ShiftOut i k) IsCurve e.value e.is
-      (curve_in (IsMadeBy (Shift e.means.gives.operand) e.means.operand e.means.operand) IsCurve e.value (λ h b. b.curve) e.means.gives.gives)
+      (curve_map (IsMadeBy (Shift e.means.gives.operand) e.means.operand e.means.operand) IsCurve e.value (λ h b. b.curve) e.means.gives.gives)
 
   spread_curve : (i k : ℕ) → P (cell_of DeconvOut i k) → HasCurve at (cell_of DeconvOut i k) IsCurve
   spread_curve i k p =
       let e = M.meet (cell_of DeconvOut i k) p in
       has_curve at (cell_of DeconvOut i k) IsCurve e.value e.is
-      (curve_in (IsMadeBy Deconvolve e.means.operand e.means.gives.operand) IsCurve e.value (λ h b. b.curve) e.means.gives.gives)
+      (curve_map (IsMadeBy Deconvolve e.means.operand e.means.gives.operand) IsCurve e.value (λ h b. b.curve) e.means.gives.gives)
 
   left_curve : (i k : ℕ) → k < hops net i → P (cell_of Residual i k) → HasCurve at (cell_of Residual i k) IsServing
   left_curve i k h p = growing (cell_of Residual i k) p (residual_grows net at P M a i k h p)

@@ -15,6 +15,8 @@ use Rattle.run_laws.specs.Cards.{whole}
 use Rattle.curve_call.specs.Answers.{IsMadeBy}
 use Rattle.curve_call.specs.Calls.{Applies, AppliesTo}
 use Rattle.residual_laws.proofs.PriorityCalls.{above_finite}
+use Rattle.net_bounds.proofs.Cells.{curve_map}
+use Rattle.net_bounds.proofs.FormulaParts.{number_map}
 use Rattle.net_cells.specs.declared.cell.Cell.{Cell}
 use Rattle.net_cells.specs.Meanings.{Meaning, curve, number, CellTable, IsCurveIn, IsNumberIn}
 use Rattle.net_cells.specs.TableValues.{HasCurve, HasNumber}
@@ -52,22 +54,14 @@ pub record NumberIsFound (at : CellTable) (F : Formula) (Q : Ext → Type 0) : T
   pub calls : CallsAreFound at F []
   pub means : (v : Meaning) → Means at F v → IsNumberIn Q v
 
-pub curve_in : (P Q : SpecCurve → Type 0) (v : Meaning) → ((f : SpecCurve) → P f → Q f) → IsCurveIn P v → IsCurveIn Q v
-curve_in P Q (curve f) k h = k f h
-curve_in P Q (number x) k h = absurd h
-
-pub number_in : (P Q : Ext → Type 0) (v : Meaning) → ((x : Ext) → P x → Q x) → IsNumberIn P v → IsNumberIn Q v
-number_in P Q (curve f) k h = absurd h
-number_in P Q (number x) k h = k x h
-
 -- so is what it answers, and what is then called on that has an answer
 pub then_found : (at : CellTable) (F : Formula) (Q T : SpecCurve → Type 0) → CurveIsFound at F Q → ((f : SpecCurve) → Q f → T f)
     → GivesCurve (AnswersFrom at F []) T
-then_found at F Q T h k v a = curve_in Q T v k (h.means v (answers_mean at F v a))
+then_found at F Q T h k v a = curve_map Q T v k (h.means v (answers_mean at F v a))
 
 pub then_number_found : (at : CellTable) (F : Formula) (Q T : Ext → Type 0) → NumberIsFound at F Q → ((x : Ext) → Q x → T x)
     → GivesNumber (AnswersFrom at F []) T
-then_number_found at F Q T h k v a = number_in Q T v k (h.means v (answers_mean at F v a))
+then_number_found at F Q T h k v a = number_map Q T v k (h.means v (answers_mean at F v a))
 
 pub then_both_found : (at : CellTable) (F G : Formula) (Q S : SpecCurve → Type 0) (T : SpecCurve → SpecCurve → Type 0) → CurveIsFound at F Q
     → CurveIsFound at G S → ((f g : SpecCurve) → Q f → S g → T f g) → GivesCurve (AnswersFrom at F []) (λ f. GivesCurve (AnswersFrom at G []) (T f))
@@ -103,7 +97,7 @@ made_found at op F G Q S first second k = record {
     second.calls,
     then_both_found at F G Q S (λ f g. IsFound (Applies op f g)) first second (λ f g q s. call_found op f g (k f g q s)),
   );
-  means = λ v m. curve_in (IsMadeBy op m.operand m.gives.operand) IsCurve v (λ h b. b.curve) m.gives.gives;
+  means = λ v m. curve_map (IsMadeBy op m.operand m.gives.operand) IsCurve v (λ h b. b.curve) m.gives.gives;
 }
 
 -- a finite curve less one packet
@@ -115,7 +109,7 @@ less_found at F bits first = record {
         (λ f q. call_found (PosMinus (whole bits)) f f (minus_answered (whole bits) f q.0 q.1)),
   );
   means = λ v m.
-      curve_in (IsMadeBy (PosMinus (whole bits)) m.operand m.operand) IsFiniteCurve v
+      curve_map (IsMadeBy (PosMinus (whole bits)) m.operand m.operand) IsFiniteCurve v
       (λ h b. (b.curve, above_finite (whole bits) m.operand h (first.means (curve m.operand) m.is).1 b)) m.gives;
 }
 
@@ -138,7 +132,7 @@ horizontal_found at F G E first second = record {
     then_both_found at F G IsArriving IsServing (λ f g. IsFound (Deviates Horizontal IsHorizontalDeviation f g)) first second
         (λ f g q s. let r = E.horizontal f g q.0 s.0.0 s.0.1 q.1 s.1 in measured Horizontal IsHorizontalDeviation f g r.0 r.1),
   );
-  means = λ v m. number_in (IsHorizontalDeviation (value_at m.operand) (value_at m.gives.operand)) (λ x. Unit {0}) v (λ x d. tt) m.gives.gives;
+  means = λ v m. number_map (IsHorizontalDeviation (value_at m.operand) (value_at m.gives.operand)) (λ x. Unit {0}) v (λ x d. tt) m.gives.gives;
 }
 
 pub vertical_found : (at : CellTable) (F G : Formula) → CurveIsFound at F IsCurve → CurveIsFound at G IsFiniteCurve → CallsAreFound at (vertical F G) []

@@ -18,6 +18,7 @@ use Rattle.curve_call.specs.Answers.{IsMadeBy}
 use Rattle.curve_call.specs.Calls.{Applies}
 use Rattle.net_model.specs.Networks.{Net, NetFlow}
 use Rattle.net_model.specs.Accepted.{IsAccepted}
+use Rattle.net_bounds.proofs.Cells.{curve_map}
 use Rattle.net_cells.specs.declared.cell.Cell.{Cell}
 use Rattle.net_cells.specs.declared.cell.Kind.TheVariants.{In}
 use Rattle.net_cells.specs.Numbered.{flow_at, packet, packet_of, rate}
@@ -38,7 +39,7 @@ use Rattle.service_existence.specs.Formulas.{AreCurves, CallsAreFound}
 use Rattle.service_existence.proofs.InTurn.{call_found}
 use Rattle.service_existence.proofs.Sums.{sums_of}
 use Rattle.table_existence.proofs.Sound.{zero_is, curves_push}
-use Rattle.table_existence.proofs.Found.{CurveIsFound, curve_in, then_found, value_found, made_found}
+use Rattle.table_existence.proofs.Found.{CurveIsFound, then_found, value_found, made_found}
 
 -- ---- sums of cells
 module _ (at : CellTable) where
@@ -84,7 +85,7 @@ module _ (net : Net) (at : CellTable) (s q : ℕ) (a : IsAccepted net) where
       let B_is = bucket_curve (whole (longest_of net vs)) (rate net p) (number_small (longest_of net vs) (omega (arith, most))) in
       record {
         calls = (first.calls, then_found at F IsCurve (λ f. IsFound (Applies Min f B)) first (λ f h. call_found Min f B (lower_answered f B h B_is)));
-        means = λ v m. curve_in (IsMadeBy Min m.operand B) IsCurve v (λ h b. b.curve) m.gives;
+        means = λ v m. curve_map (IsMadeBy Min m.operand B) IsCurve v (λ h b. b.curve) m.gives;
       }
 
   pub parts_found : (ks : List ℕ) (fs : List SpecCurve) → AreCurves fs → ((u : Visit) → Has (by_parts net s q ks) u → HasCurve at (at_visit In u) IsCurve)
