@@ -13,7 +13,7 @@ use Rattle.residual_laws.specs.DrrCalls.{MakesDrr}
 use Rattle.answer_existence.specs.Answered.{HasAnswer}
 use Rattle.net_cells.specs.NumberSums.{Sums}
 
-pub record IsFound {A : Type 0} (P : Result A OpFault → Type 0) : Type 0 where
+pub record HasAnswerOf {A : Type 0} (P : Result A OpFault → Type 0) : Type 0 where
   pub answer : Result A OpFault
   pub is : P answer
   pub found : answer ≢ Err NoMemory
@@ -27,12 +27,12 @@ pub record CallsExist : Type 0 where
   pub run_sup : (f : SpecCurve) → IsCurve f → IsFinite (value_at f) → IsNonnegative (value_at f) → HasAnswer RunSup f f
 
 pub record ServicesAreFound : Type 0 where
-  pub priority : (β higher : SpecCurve) (lower : ℕ) → IsCurve β → IsCurve higher → IsFinite (value_at β) → IsFound (MakesPriority β higher lower)
-  pub deficit : (β : SpecCurve) (quanta longest : List ℕ) (i : ℕ) → IsCurve β → IsFinite (value_at β) → IsFound (MakesDrr β quanta longest i)
+  pub priority : (β higher : SpecCurve) (lower : ℕ) → IsCurve β → IsCurve higher → IsFinite (value_at β) → HasAnswerOf (MakesPriority β higher lower)
+  pub deficit : (β : SpecCurve) (quanta longest : List ℕ) (i : ℕ) → IsCurve β → IsFinite (value_at β) → HasAnswerOf (MakesDrr β quanta longest i)
 
 abbrev pub ServicesExist : Type 0
 ServicesExist = CallsExist → ServicesAreFound
 
 -- ---- sums of numbers
 abbrev pub NumberSumsExist : Type 0
-NumberSumsExist = (xs : List Ext) → IsFound (Sums xs)
+NumberSumsExist = (xs : List Ext) → HasAnswerOf (Sums xs)

@@ -17,7 +17,7 @@ use Rattle.curve_call.specs.Calls.{Applies, AppliesTo}
 use Rattle.residual_laws.specs.PriorityCalls.{MakesPriority}
 use Rattle.net_model.specs.Networks.{Net}
 use Rattle.net_model.specs.Accepted.{IsAccepted}
-use Rattle.net_bounds.proofs.Cells.{curve_map}
+use Rattle.net_bounds.proofs.Cells.{curve_map as sort_map}
 use Rattle.net_cells.specs.declared.cell.Cell.{Cell}
 use Rattle.net_cells.specs.declared.cell.Kind.{Kind}
 use Rattle.net_cells.specs.declared.cell.Kind.TheVariants.{In, Cross, Total, Higher, QueueService, Theta, Residual, QueueDelay, QueueBacklog, HopDelay, ShiftOut, DeconvOut, Out, PathService, Tfa, Sfa, Bound}
@@ -44,12 +44,14 @@ use Rattle.curve_pointwise.proofs.ExistingLattices.{lower_answered, above_answer
 use Rattle.curve_pointwise.proofs.ExistingLevels.{minus_answered}
 use Rattle.curve_pointwise.proofs.ExistingMoves.{scale_answered, shift_answered}
 use Rattle.curve_running.proofs.ExistingRuns.{supremum_answered}
-use Rattle.service_existence.specs.Found.{IsFound, CallsExist}
+use Rattle.leftover_existence.proofs.LeftOvers.{left_over_answered}
+use Rattle.convolution_existence.proofs.Convolutions.{convolution_answered}
+use Rattle.curve_deconv.proofs.Existing.{deconvolution_answered}
+use Rattle.service_existence.specs.Found.{HasAnswerOf, CallsExist}
 use Rattle.service_existence.specs.Formulas.{GivesCurve, GivesNumber, CallsAreFound}
 use Rattle.service_existence.proofs.InTurn.{call_found}
 use Rattle.service_existence.proofs.Services.{by_priority, by_deficit}
-use Rattle.table_existence.specs.Calls.{CallsHaveAnswers}
-use Rattle.table_existence.specs.Curves.{HasCurves}
+use Rattle.simulated_sizes.specs.Laws.{AreCurves}
 use Rattle.table_existence.proofs.Sound.{IsSound, service_curve}
 use Rattle.table_existence.proofs.Found.{IsArriving, IsFiniteCurve, IsServing, CurveIsFound, NumberIsFound, then_found, then_number_found, value_found, number_found, made_found, less_found, horizontal_found, vertical_found}
 use Rattle.table_existence.proofs.Sums.{sum_found, parts_found}
@@ -78,17 +80,17 @@ numbers_there at (c ∷ cs) each =
     (first.value ∷ rest.0, (first.is, rest.1))
 
 -- ---- services along a path
-module _ (E : CallsHaveAnswers) (net : Net) (at : CellTable) (i : ℕ) where
+module _ (net : Net) (at : CellTable) (i : ℕ) where
   hop_found : (j : ℕ) → HasCurve at (cell_of Residual i j) IsFiniteCurve → CurveIsFound at (less (value Residual i j) (packet net i)) IsFiniteCurve
   hop_found j h = less_found at (value Residual i j) (packet net i) (value_found at (cell_of Residual i j) IsFiniteCurve h)
 
   packets_found : (k : ℕ) → ((j : ℕ) → j ≤ k → HasCurve at (cell_of Residual i j) IsFiniteCurve) → CurveIsFound at (packets_to net i k) IsCurve
   packets_found zero each =
       let only = hop_found 0 (each 0 (omega arith)) in
-      record { calls = only.calls; means = λ v m. curve_map IsFiniteCurve IsCurve v (λ f q. q.0) (only.means v m) }
+      record { calls = only.calls; means = λ v m. sort_map IsFiniteCurve IsCurve v (λ f q. q.0) (only.means v m) }
   packets_found (suc k) each =
       made_found at Convolve (packets_to net i k) (less (value Residual i (suc k)) (packet net i)) IsCurve IsFiniteCurve
-      (packets_found k (λ j h. each j (omega arith))) (hop_found (suc k) (each (suc k) (omega arith))) (λ f g q s. E.convolve f g q s.0)
+      (packets_found k (λ j h. each j (omega arith))) (hop_found (suc k) (each (suc k) (omega arith))) (λ f g q s. convolution_answered f g q s.0)
 
   hop_curve : (j : ℕ) → HasCurve at (cell_of Residual i j) IsFiniteCurve → CurveIsFound at (value Residual i j) IsCurve
   hop_curve j h = value_found at (cell_of Residual i j) IsCurve (curve_map at (cell_of Residual i j) IsFiniteCurve IsCurve h (λ f q. q.0))
@@ -97,10 +99,10 @@ module _ (E : CallsHaveAnswers) (net : Net) (at : CellTable) (i : ℕ) where
   served_found zero each = hop_curve 0 (each 0 (omega arith))
   served_found (suc k) each =
       made_found at Convolve (packets_to net i k) (value Residual i (suc k)) IsCurve IsCurve
-      (packets_found k (λ j h. each j (omega arith))) (hop_curve (suc k) (each (suc k) (omega arith))) E.convolve
+      (packets_found k (λ j h. each j (omega arith))) (hop_curve (suc k) (each (suc k) (omega arith))) convolution_answered
 
-module _ (E : CallsHaveAnswers) (net : Net) (at : CellTable) (P : Cell → Type 0) (M : Meets net at P) (S : (c : Cell) (v : Meaning) → P c → at c ≡ Some v → IsSound v)
-    (a : IsAccepted net) (H : HasCurves net) where
+module _ (net : Net) (at : CellTable) (P : Cell → Type 0) (M : Meets net at P) (S : (c : Cell) (v : Meaning) → P c → at c ≡ Some v → IsSound v)
+    (a : IsAccepted net) (H : AreCurves net) where
   -- ---- the cells that others are made of
   also_curve : (c : Cell) (Q : SpecCurve → Type 0) → P c → HasCurve at c Q → HasCurve at c (λ f. IsCurve f × Q f)
   also_curve c Q p h = record { value = h.value; is = h.is; holds = (S c (curve h.value) p h.is, h.holds) }
@@ -130,13 +132,13 @@ module _ (E : CallsHaveAnswers) (net : Net) (at : CellTable) (P : Cell → Type 
   shift_curve i k p =
       let e = M.meet (cell_of ShiftOut i k) p in
       has_curve at (cell_of ShiftOut i k) IsCurve e.value e.is
-      (curve_map (IsMadeBy (Shift e.means.gives.operand) e.means.operand e.means.operand) IsCurve e.value (λ h b. b.curve) e.means.gives.gives)
+      (sort_map (IsMadeBy (Shift e.means.gives.operand) e.means.operand e.means.operand) IsCurve e.value (λ h b. b.curve) e.means.gives.gives)
 
   spread_curve : (i k : ℕ) → P (cell_of DeconvOut i k) → HasCurve at (cell_of DeconvOut i k) IsCurve
   spread_curve i k p =
       let e = M.meet (cell_of DeconvOut i k) p in
       has_curve at (cell_of DeconvOut i k) IsCurve e.value e.is
-      (curve_map (IsMadeBy Deconvolve e.means.operand e.means.gives.operand) IsCurve e.value (λ h b. b.curve) e.means.gives.gives)
+      (sort_map (IsMadeBy Deconvolve e.means.operand e.means.gives.operand) IsCurve e.value (λ h b. b.curve) e.means.gives.gives)
 
   left_curve : (i k : ℕ) → k < hops net i → P (cell_of Residual i k) → HasCurve at (cell_of Residual i k) IsServing
   left_curve i k h p = growing (cell_of Residual i k) p (residual_grows net at P M a i k h p)
@@ -163,7 +165,7 @@ module _ (E : CallsHaveAnswers) (net : Net) (at : CellTable) (P : Cell → Type 
       let p = leaf (cell_of Higher s q) (inl refl) in
       let higher = value_found at (cell_of Higher s q) IsCurve (only_curve (cell_of Higher s q) Rises p (higher_rises net at P M a s q p)) in (
         higher.calls,
-        then_found at (value Higher s q) IsCurve (λ g. IsFound (MakesPriority (service net s) g (longest_after net s q))) higher
+        then_found at (value Higher s q) IsCurve (λ g. HasAnswerOf (MakesPriority (service net s) g (longest_after net s q))) higher
             (λ g k. by_priority calls_exist (service net s) g (longest_after net s q) (service_curve net s H) k (service_grows net s it).finite),
       )
   service_calls s q (Drr quanta) it leaf =
@@ -182,10 +184,10 @@ module _ (E : CallsHaveAnswers) (net : Net) (at : CellTable) (P : Cell → Type 
       let x = number_from (IsHorizontalDeviation (value_at f) (value_at g)) e.value e.means.gives.gives in
       let served = curve_holds at queue Serving g (hop_served net at P M a i k h queue_there) e.means.gives.is in
       let answer = call_found (FifoLeft x.0) g f
-      (E.fifo_left x.0 g f (S queue (curve g) queue_there e.means.gives.is) (S cross (curve f) cross_there e.means.is) served.finite served.rising served.nonneg x.2) in
-      let Last : Ext → Type 0 = λ y. IsFound (Applies (FifoLeft y) g f) in
-      let Next : SpecCurve → Type 0 = λ u. GivesNumber (AnswersFrom at (value_of theta) []) (λ y. IsFound (Applies (FifoLeft y) g u)) in
-      let All : SpecCurve → Type 0 = λ w. GivesCurve (AnswersFrom at (value_of cross) []) (λ u. GivesNumber (AnswersFrom at (value_of theta) []) (λ y. IsFound (Applies (FifoLeft y) w u))) in
+      (left_over_answered x.0 g f (S queue (curve g) queue_there e.means.gives.is) (S cross (curve f) cross_there e.means.is) served.finite served.rising served.nonneg x.2) in
+      let Last : Ext → Type 0 = λ y. HasAnswerOf (Applies (FifoLeft y) g f) in
+      let Next : SpecCurve → Type 0 = λ u. GivesNumber (AnswersFrom at (value_of theta) []) (λ y. HasAnswerOf (Applies (FifoLeft y) g u)) in
+      let All : SpecCurve → Type 0 = λ w. GivesCurve (AnswersFrom at (value_of cross) []) (λ u. GivesNumber (AnswersFrom at (value_of theta) []) (λ y. HasAnswerOf (Applies (FifoLeft y) w u))) in
       let last = number_found at theta Last record { value = x.0; is = e.is ∙ ap Some x.1; holds = answer } in
       let next = value_found at cross Next record { value = f; is = e.means.is; holds = then_number_found at (value_of theta) Last Last last (λ y m. m) } in
       let all = value_found at queue All record { value = g; is = e.means.gives.is; holds = then_found at (value_of cross) Next Next next (λ u m. m) } in
@@ -204,14 +206,14 @@ module _ (E : CallsHaveAnswers) (net : Net) (at : CellTable) (P : Cell → Type 
       let cross = leaf (cell_of Cross i k) (inl refl) in
       let queue = cell_of QueueService (server_of_hop net i k) (queue_of_hop net i k) in
       let there = leaf queue (inr (inl refl)) in
-      (horizontal_found at (value Cross i k) (service_at net i k) E
+      (horizontal_found at (value Cross i k) (service_at net i k)
       (value_found at (cell_of Cross i k) IsArriving (also_curve (cell_of Cross i k) Rises cross (cross_rises net at P M a i k cross)))
       (value_found at queue IsServing (serving queue there (hop_served net at P M a i k (ltb-true k (hops net i) e) there)))).calls
   calls_of Residual i k e leaf = residual_calls i k (ltb-true k (hops net i) e) leaf
   calls_of QueueDelay s q e leaf =
       let comes = leaf (cell_of Total s q) (inl refl) in
       let there = leaf (cell_of QueueService s q) (inr (inl refl)) in
-      (horizontal_found at (value Total s q) (value QueueService s q) E
+      (horizontal_found at (value Total s q) (value QueueService s q)
       (value_found at (cell_of Total s q) IsArriving (also_curve (cell_of Total s q) Rises comes (total_rises net at P M a s q comes)))
       (value_found at (cell_of QueueService s q) IsServing
       (serving (cell_of QueueService s q) there (queue_served net at P M a s q (ltb-true q (queues net s) e) there)))).calls
@@ -229,7 +231,7 @@ module _ (E : CallsHaveAnswers) (net : Net) (at : CellTable) (P : Cell → Type 
       let left = leaf (cell_of Residual i k) (inr (inr (inl refl))) in
       smaller_found at (value_of queue) (horizontal (value In i k) (value Residual i k)) IsNonneg (λ x. Unit {0})
       (number_found at queue IsNonneg (queue_delay_ahead net at P M (server_of_hop net i k) (queue_of_hop net i k) (leaf queue (inl refl))))
-      (horizontal_found at (value In i k) (value Residual i k) E
+      (horizontal_found at (value In i k) (value Residual i k)
       (value_found at (cell_of In i k) IsArriving (also_curve (cell_of In i k) Rises comes (in_rises net at P M a k i comes)))
       (value_found at (cell_of Residual i k) IsServing (left_curve i k (ltb-true k (hops net i) e) left)))
   calls_of ShiftOut i k e leaf =
@@ -239,8 +241,8 @@ module _ (E : CallsHaveAnswers) (net : Net) (at : CellTable) (P : Cell → Type 
       let second = number_found at (cell_of HopDelay i k) IsNonneg (hop_delay_ahead net at P M i k later) in (
         first.calls,
         second.calls,
-        then_found at (value In i k) IsCurve (λ f. GivesNumber (AnswersFrom at (value HopDelay i k) []) (λ x. IsFound (AppliesTo (Shift x) f))) first
-            (λ f q. then_number_found at (value HopDelay i k) IsNonneg (λ x. IsFound (AppliesTo (Shift x) f)) second
+        then_found at (value In i k) IsCurve (λ f. GivesNumber (AnswersFrom at (value HopDelay i k) []) (λ x. HasAnswerOf (AppliesTo (Shift x) f))) first
+            (λ f q. then_number_found at (value HopDelay i k) IsNonneg (λ x. HasAnswerOf (AppliesTo (Shift x) f)) second
             (λ x n. call_found (Shift x) f f (shift_answered x f (ahead x n) q))),
       )
   calls_of DeconvOut i k e leaf =
@@ -251,14 +253,14 @@ module _ (E : CallsHaveAnswers) (net : Net) (at : CellTable) (P : Cell → Type 
       (value_found at (cell_of In i k) IsCurve (only_curve (cell_of In i k) Rises comes (in_rises net at P M a k i comes)))
       (less_found at (value Residual i k) (packet net i)
       (value_found at (cell_of Residual i k) IsFiniteCurve (finite_curve (cell_of Residual i k) (left_curve i k (omega (arith, on_path)) left))))
-      (λ f g q s. E.deconvolve f g q s.0 s.1)).calls
+      (λ f g q s. deconvolution_answered f g q s.0 s.1)).calls
   calls_of Out i k e leaf =
       (made_found at Min (value ShiftOut i k) (value DeconvOut i k) IsCurve IsCurve
       (value_found at (cell_of ShiftOut i k) IsCurve (shift_curve i k (leaf (cell_of ShiftOut i k) (inl refl))))
       (value_found at (cell_of DeconvOut i k) IsCurve (spread_curve i k (leaf (cell_of DeconvOut i k) (inr (inl refl))))) lower_answered).calls
   calls_of PathService i b e leaf =
       let some = some_hop net i a (and_parts (is_live net i) (b == 0) e).0 in
-      (served_found E net at i (hops net i - 1)
+      (served_found net at i (hops net i - 1)
       (λ j h. finite_curve (cell_of Residual i j) (left_curve i j (omega (arith, h, some)) (leaf (cell_of Residual i j) (served_leaf net i (hops net i - 1) j h))))).calls
   calls_of Tfa i b e leaf =
       numbers_there at (hop_delay_cells net i)
@@ -270,7 +272,7 @@ module _ (E : CallsHaveAnswers) (net : Net) (at : CellTable) (P : Cell → Type 
       let comes = leaf (cell_of In i 0) (inl refl) in
       let there = leaf (cell_of PathService i 0) (inr (inl refl)) in
       let F = horizontal (value In i 0) (value PathService i 0) in
-      let first = horizontal_found at (value In i 0) (value PathService i 0) E
+      let first = horizontal_found at (value In i 0) (value PathService i 0)
       (value_found at (cell_of In i 0) IsArriving (also_curve (cell_of In i 0) Rises comes (in_rises net at P M a 0 i comes)))
       (value_found at (cell_of PathService i 0) IsServing (growing (cell_of PathService i 0) there (path_grows net at P M a i 0 some there))) in
       (first.calls, then_number_found at F (λ x. Unit {0}) (λ x. Unit {0}) first (λ x q. tt))

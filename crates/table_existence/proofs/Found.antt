@@ -29,10 +29,10 @@ use Rattle.answer_existence.specs.Answered.{HasAnswer}
 use Rattle.curve_deviation.specs.Existing.{Measures}
 use Rattle.curve_deviation.proofs.ExistingVerticals.{vertical_answered}
 use Rattle.curve_pointwise.proofs.ExistingLevels.{minus_answered}
-use Rattle.service_existence.specs.Found.{IsFound}
+use Rattle.deviation_existence.proofs.Horizontals.{horizontal_answered}
+use Rattle.service_existence.specs.Found.{HasAnswerOf}
 use Rattle.service_existence.specs.Formulas.{GivesCurve, GivesNumber, CallsAreFound}
 use Rattle.service_existence.proofs.InTurn.{call_found}
-use Rattle.table_existence.specs.Calls.{CallsHaveAnswers}
 
 -- ---- sorts of curves
 abbrev pub IsArriving : SpecCurve → Type 0
@@ -95,7 +95,7 @@ made_found at op F G Q S first second k = record {
   calls = (
     first.calls,
     second.calls,
-    then_both_found at F G Q S (λ f g. IsFound (Applies op f g)) first second (λ f g q s. call_found op f g (k f g q s)),
+    then_both_found at F G Q S (λ f g. HasAnswerOf (Applies op f g)) first second (λ f g q s. call_found op f g (k f g q s)),
   );
   means = λ v m. curve_map (IsMadeBy op m.operand m.gives.operand) IsCurve v (λ h b. b.curve) m.gives.gives;
 }
@@ -105,7 +105,7 @@ pub less_found : (at : CellTable) (F : Formula) (bits : ℕ) → CurveIsFound at
 less_found at F bits first = record {
   calls = (
     first.calls,
-    then_found at F IsFiniteCurve (λ f. IsFound (AppliesTo (PosMinus (whole bits)) f)) first
+    then_found at F IsFiniteCurve (λ f. HasAnswerOf (AppliesTo (PosMinus (whole bits)) f)) first
         (λ f q. call_found (PosMinus (whole bits)) f f (minus_answered (whole bits) f q.0 q.1)),
   );
   means = λ v m.
@@ -115,7 +115,7 @@ less_found at F bits first = record {
 
 -- ---- deviations
 measured : (op : OpKind) (D : (ℚ → Ext) → (ℚ → Ext) → Ext → Type 0) (f g : SpecCurve) (r : Result Ext OpFault) → Measures op D f g r
-    → IsFound (Deviates op D f g)
+    → HasAnswerOf (Deviates op D f g)
 measured op D f g (Ok x) m = record { answer = Ok x; is = m; found = λ e. absurd (let bad : Ok x ≡ Err NoMemory = e in cc) }
 measured op D f g (Err fault) m = record {
   answer = Err fault;
@@ -123,14 +123,14 @@ measured op D f g (Err fault) m = record {
   found = λ e. m.1 (let both : Err fault ≡ Err NoMemory = e in cc);
 }
 
-pub horizontal_found : (at : CellTable) (F G : Formula) → CallsHaveAnswers → CurveIsFound at F IsArriving → CurveIsFound at G IsServing
+pub horizontal_found : (at : CellTable) (F G : Formula) → CurveIsFound at F IsArriving → CurveIsFound at G IsServing
     → NumberIsFound at (horizontal F G) (λ x. Unit {0})
-horizontal_found at F G E first second = record {
+horizontal_found at F G first second = record {
   calls = (
     first.calls,
     second.calls,
-    then_both_found at F G IsArriving IsServing (λ f g. IsFound (Deviates Horizontal IsHorizontalDeviation f g)) first second
-        (λ f g q s. let r = E.horizontal f g q.0 s.0.0 s.0.1 q.1 s.1 in measured Horizontal IsHorizontalDeviation f g r.0 r.1),
+    then_both_found at F G IsArriving IsServing (λ f g. HasAnswerOf (Deviates Horizontal IsHorizontalDeviation f g)) first second
+        (λ f g q s. let r = horizontal_answered f g q.0 s.0.0 s.0.1 q.1 s.1 in measured Horizontal IsHorizontalDeviation f g r.0 r.1),
   );
   means = λ v m. number_map (IsHorizontalDeviation (value_at m.operand) (value_at m.gives.operand)) (λ x. Unit {0}) v (λ x d. tt) m.gives.gives;
 }
@@ -139,6 +139,6 @@ pub vertical_found : (at : CellTable) (F G : Formula) → CurveIsFound at F IsCu
 vertical_found at F G first second = (
   first.calls,
   second.calls,
-  then_both_found at F G IsCurve IsFiniteCurve (λ f g. IsFound (Deviates Vertical IsVerticalDeviation f g)) first second
+  then_both_found at F G IsCurve IsFiniteCurve (λ f g. HasAnswerOf (Deviates Vertical IsVerticalDeviation f g)) first second
       (λ f g q s. let r = vertical_answered f g q s.0 s.1 in measured Vertical IsVerticalDeviation f g r.0 r.1),
 )

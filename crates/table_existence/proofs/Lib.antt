@@ -1,7 +1,5 @@
-pub mod Kept
 pub mod Sound
 pub mod Found
 pub mod Sums
 pub mod EachKind
 pub mod Tables
-pub mod Answered

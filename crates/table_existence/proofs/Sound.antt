@@ -1,10 +1,8 @@
 -- The curves that a table has at the cells of a front of the order are curves, where those of the network are.
-use Rattle.std.proofs.Common.{◌≡◌, ℕ, zero, suc, ◌-◌, List, [], ◌∷◌, ◌++◌, length, map, refl, sym, ap, ◌∙◌, subst, inl, inr, true, false, Bool, append_assoc, append-nil}
-use Rattle.std.specs.Prelude.{Option, Some, None, slice_get, ◌==◌}
+use Rattle.std.proofs.Common.{◌≡◌, ℕ, zero, suc, ◌-◌, List, [], ◌∷◌, ◌++◌, map, refl, sym, ap, ◌∙◌, subst, inl, inr, true, false, Bool, append_assoc, append-nil}
+use Rattle.std.specs.Prelude.{IsTrue, is_some, Option, Some, None, slice_get, ◌==◌}
 use Rattle.std.specs.List.{range_with_len}
-use Rattle.std.proofs.lemmas.Bool.{cases_lt}
-use Rattle.std.proofs.lemmas.List.{get_or_default, get_or_past}
-use Rattle.std.proofs.lemmas.Option.{slice_get_within, get_or_from_slice_get}
+use Rattle.std.proofs.lemmas.Option.{slice_get_within}
 use Rattle.rational.specs.Extended.{Ext}
 use Rattle.min_plus.specs.Functions.{zero_q}
 use Rattle.min_plus.specs.Deviations.{IsHorizontalDeviation, IsVerticalDeviation}
@@ -36,8 +34,8 @@ use Rattle.net_cells.specs.Means.{MeansFrom, IsSumOnto, IsSumOf, IsPriorityCurve
 use Rattle.net_cells.specs.FirstOver.{IsAnswered, AnswersAll}
 use Rattle.net_cells.proofs.AnswersMean.{answers_mean}
 use Rattle.net_cells.proofs.Precedes.{leaf_in_front}
-use Rattle.service_existence.specs.Formulas.{AreCurves}
-use Rattle.table_existence.specs.Curves.{HasCurves}
+use Rattle.service_existence.specs.Formulas.{EachIsCurve}
+use Rattle.simulated_sizes.specs.Laws.{AreCurves}
 
 abbrev pub IsSound : Meaning → Type 0
 IsSound (curve f) = IsCurve f
@@ -55,7 +53,7 @@ pub zero_is : IsCurve zero_curve
 zero_is = bucket_curve zero_q zero_q zero_small
 
 -- ---- sums of curves
-pub curves_push : (fs : List SpecCurve) (f : SpecCurve) → AreCurves fs → IsCurve f → AreCurves (fs ++ f ∷ [])
+pub curves_push : (fs : List SpecCurve) (f : SpecCurve) → EachIsCurve fs → IsCurve f → EachIsCurve (fs ++ f ∷ [])
 curves_push [] f h k = (k, tt)
 curves_push (g ∷ fs) f h k = (h.0, curves_push fs f h.1 k)
 
@@ -63,7 +61,7 @@ sum_onto_sound : (f : SpecCurve) (gs : List SpecCurve) (v : Meaning) → IsCurve
 sum_onto_sound f [] v F m = subst IsSound (sym m) F
 sum_onto_sound f (g ∷ gs) v F m = sum_onto_sound m.operand gs v m.is.curve m.gives
 
-sum_sound : (fs : List SpecCurve) (v : Meaning) → AreCurves fs → IsSumOf fs v → IsSound v
+sum_sound : (fs : List SpecCurve) (v : Meaning) → EachIsCurve fs → IsSumOf fs v → IsSound v
 sum_sound [] v h m = subst IsSound (sym m) zero_is
 sum_sound (f ∷ fs) v h m = sum_onto_sound f fs v h.0 m
 
@@ -75,7 +73,7 @@ GivenAreCurves (part F G) = GivenAreCurves F × GivenAreCurves G
 GivenAreCurves _ = Unit {0}
 
 means_sound : (at : CellTable) (F : Formula) (fs : List SpecCurve) (v : Meaning) → GivenAreCurves F
-    → ((c : Cell) (w : Meaning) → Has (leaves F) c → at c ≡ Some w → IsSound w) → AreCurves fs → MeansFrom at F fs v → IsSound v
+    → ((c : Cell) (w : Meaning) → Has (leaves F) c → at c ≡ Some w → IsSound w) → EachIsCurve fs → MeansFrom at F fs v → IsSound v
 means_sound at (value_of c) fs v g each k m = each c v (inl refl) m
 means_sound at (given f) fs v g each k m = subst IsSound (sym m) g
 means_sound at empty_sum fs v g each k m = subst IsSound (sym m) zero_is
@@ -101,22 +99,18 @@ means_sound at (along cells links) fs v g each k m = subst IsSound (sym m.gives)
 means_sound at (delayed F links) fs v g each k m = subst IsSound (sym m.gives) tt
 
 -- ---- the curves of a network
-service_from : (net : Net) (s : ℕ) (o : Option NetServer) → HasCurves net → slice_get net.servers s ≡ o → IsCurve (service_of o)
+service_from : (net : Net) (s : ℕ) (o : Option NetServer) → AreCurves net → slice_get net.servers s ≡ o → IsCurve (service_of o)
 service_from net s None H e = zero_is
-service_from net s (Some x) H e = H.services x (s, slice_get_within net.servers s x e, get_or_from_slice_get net.servers s x x e)
+service_from net s (Some x) H e = subst (λ (o : Option NetServer). IsCurve (service_of o)) e (H.services s (slice_get_within net.servers s x e))
 
-pub service_curve : (net : Net) (s : ℕ) → HasCurves net → IsCurve (service net s)
+pub service_curve : (net : Net) (s : ℕ) → AreCurves net → IsCurve (service net s)
 service_curve net s H = service_from net s (slice_get net.servers s) H refl
 
-arrival_from : (net : Net) (i : ℕ) (o : Option NetFlow) → HasCurves net → flow_at net i ≡ o → IsCurve (arrival_of o)
+arrival_from : (net : Net) (i : ℕ) (o : Option NetFlow) → AreCurves net → flow_at net i ≡ o → IsCurve (arrival_of o)
 arrival_from net i None H e = zero_is
-arrival_from net i (Some f) H e =
-    elim (cases_lt i (length net.flows)) [
-      | inl l ↦ H.arrivals f (i, l, get_or_default net.flows i (Some f) None l ∙ e)
-      | inr l ↦ absurd (let bad : None ≡ Some f = sym (get_or_past net.flows i None l) ∙ e in cc)
-    ]
+arrival_from net i (Some f) H e = subst (λ (o : Option NetFlow). IsCurve (arrival_of o)) e (H.arrivals i (subst (λ (o : Option NetFlow). IsTrue (is_some o)) (sym e) tt))
 
-pub arrival_curve : (net : Net) (i : ℕ) → HasCurves net → IsCurve (arrival net i)
+pub arrival_curve : (net : Net) (i : ℕ) → AreCurves net → IsCurve (arrival net i)
 arrival_curve net i H = arrival_from net i (flow_at net i) H refl
 
 -- ---- the formulas of the cells
@@ -144,7 +138,7 @@ total_given : (net : Net) (s q : ℕ) (by_links : Bool) → GivenAreCurves (tota
 total_given net s q false = sum_given (map (at_visit In) (visits_in net s q))
 total_given net s q true = parts_given net s q (part_numbers net)
 
-service_given : (net : Net) (s q : ℕ) (d : Discipline) → HasCurves net → GivenAreCurves (queue_service net s q d)
+service_given : (net : Net) (s q : ℕ) (d : Discipline) → AreCurves net → GivenAreCurves (queue_service net s q d)
 service_given net s q Fifo H = service_curve net s H
 service_given net s q (Priority n) H = tt
 service_given net s q (Drr quanta) H = tt
@@ -153,7 +147,7 @@ served_given : (net : Net) (i k : ℕ) → GivenAreCurves (served_to net i k)
 served_given net i zero = tt
 served_given net i (suc k) = tt
 
-cell_given : (net : Net) (kind : Kind) (a b : ℕ) → HasCurves net → GivenAreCurves (formula_of net kind a b)
+cell_given : (net : Net) (kind : Kind) (a b : ℕ) → AreCurves net → GivenAreCurves (formula_of net kind a b)
 cell_given net In i zero H = arrival_curve net i H
 cell_given net In i (suc k) H = tt
 cell_given net Cross i k H = sum_given (map (at_visit In) (others net i (server_of_hop net i k) (queue_of_hop net i k)))
@@ -177,7 +171,7 @@ cell_given net Bound i b H = tt
 abbrev pub AllSound : CellTable → List Cell → Type 0
 AllSound at cells = (c : Cell) (v : Meaning) → Has cells c → at c ≡ Some v → IsSound v
 
-module _ (net : Net) (order : List ℕ) (at : CellTable) (a : IsAccepted net) (H : HasCurves net) (o : IsOrder net order) where
+module _ (net : Net) (order : List ℕ) (at : CellTable) (a : IsAccepted net) (H : AreCurves net) (o : IsOrder net order) where
   next_sound : (front : List Cell) (c : Cell) (back : List Cell) → evaluation_order net order ≡ front ++ c ∷ back → AllSound at front → IsAnswered net at c
       → (v : Meaning) → at c ≡ Some v → IsSound v
   next_sound front c back is all answered v e =

@@ -34,8 +34,8 @@ use Rattle.net_cells.proofs.Lists.{map_has}
 use Rattle.net_cells.proofs.Stored.{flow_kept}
 use Rattle.curve_pointwise.proofs.ExistingSums.{sum_answered}
 use Rattle.curve_pointwise.proofs.ExistingLattices.{lower_answered}
-use Rattle.service_existence.specs.Found.{IsFound}
-use Rattle.service_existence.specs.Formulas.{AreCurves, CallsAreFound}
+use Rattle.service_existence.specs.Found.{HasAnswerOf}
+use Rattle.service_existence.specs.Formulas.{EachIsCurve, CallsAreFound}
 use Rattle.service_existence.proofs.InTurn.{call_found}
 use Rattle.service_existence.proofs.Sums.{sums_of}
 use Rattle.table_existence.proofs.Sound.{zero_is, curves_push}
@@ -84,11 +84,11 @@ module _ (net : Net) (at : CellTable) (s q : ℕ) (a : IsAccepted net) where
       let most = longest_most net vs a in
       let B_is = bucket_curve (whole (longest_of net vs)) (rate net p) (number_small (longest_of net vs) (omega (arith, most))) in
       record {
-        calls = (first.calls, then_found at F IsCurve (λ f. IsFound (Applies Min f B)) first (λ f h. call_found Min f B (lower_answered f B h B_is)));
+        calls = (first.calls, then_found at F IsCurve (λ f. HasAnswerOf (Applies Min f B)) first (λ f h. call_found Min f B (lower_answered f B h B_is)));
         means = λ v m. curve_map (IsMadeBy Min m.operand B) IsCurve v (λ h b. b.curve) m.gives;
       }
 
-  pub parts_found : (ks : List ℕ) (fs : List SpecCurve) → AreCurves fs → ((u : Visit) → Has (by_parts net s q ks) u → HasCurve at (at_visit In u) IsCurve)
+  pub parts_found : (ks : List ℕ) (fs : List SpecCurve) → EachIsCurve fs → ((u : Visit) → Has (by_parts net s q ks) u → HasCurve at (at_visit In u) IsCurve)
       → CallsAreFound at (parts_sum net s q ks) fs
   parts_found [] fs h each = sums_of sum_answered fs h
   parts_found (k ∷ ks) fs h each =
@@ -96,7 +96,7 @@ module _ (net : Net) (at : CellTable) (s q : ℕ) (a : IsAccepted net) where
       (λ gs g. parts_found ks gs g (λ u l. each u (has_right (in_part net s q k) (by_parts net s q ks) u l)))
     where
       one : (vs : List Visit) → ((u : Visit) → Has vs u → HasCurve at (at_visit In u) IsCurve)
-          → ((gs : List SpecCurve) → AreCurves gs → CallsAreFound at (parts_sum net s q ks) gs)
+          → ((gs : List SpecCurve) → EachIsCurve gs → CallsAreFound at (parts_sum net s q ks) gs)
           → CallsAreFound at (with_part net k vs (parts_sum net s q ks)) fs
       one [] here rest = rest fs h
       one (u ∷ vs) here rest =

@@ -1,3 +1,1 @@
-pub mod Curves
-pub mod Calls
 pub mod Networks

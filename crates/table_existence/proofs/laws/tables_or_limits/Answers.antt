@@ -1,4 +1,4 @@
-use Rattle.table_existence.proofs.Answered.{tables_or_limits}
+use Rattle.table_existence.proofs.Tables.{tables_or_limits}
 use Rattle.table_existence.proofs.laws.tables_or_limits.Goals as goal
 
 pub returns : goal.returns

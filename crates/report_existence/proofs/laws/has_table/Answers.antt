@@ -1,5 +1,5 @@
-use Rattle.table_existence.proofs.Answered.{tables_or_limits, have_tables}
-use Rattle.table_existence.proofs.laws.has_table.Goals as goal
+use Rattle.table_existence.proofs.Tables.{tables_or_limits, have_tables}
+use Rattle.report_existence.proofs.laws.has_table.Goals as goal
 
 pub returns : goal.returns
 returns c = record {
