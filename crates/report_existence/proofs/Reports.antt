@@ -33,7 +33,7 @@ all_tt : {X : Type 0} (xs : List X) → All (λ x. Unit {0}) xs
 all_tt xs = λ k e l. tt
 
 live : (t : FlowText) (o : Option NetFlow) → Unit {0} → IsLiveFlowOf OverFold t o → LiveCurve o
-live t o p r = subst LiveCurve r.live (becomes t.closes t.arrival r.flow.arrival r.is.arrival)
+live t o p r = subst LiveCurve (sym r.live) (becomes t.closes t.arrival r.flow.arrival r.is.arrival)
 
 -- ---- the curves of the network that a draft becomes
 module _ (d : DraftText) (net : Net) (b : IsBuilt OverFold d net) where
@@ -63,8 +63,7 @@ pub files_have : FilesHaveReports
 files_have form bytes net order g o never =
     elim (tables_or_limits net order g.accepted (are_curves g.reads.draft net g.reads.built) o) [
       | inl (at, all) ↦
-          let m = answers_meet net order at g.accepted o all in
-          (
+          let m = answers_meet net order at g.accepted o all in (
             at,
             report form net at,
             record { gives = g; order = order; ordered = o; answers = all; meets = m; is = refl },

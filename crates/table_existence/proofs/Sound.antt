@@ -108,7 +108,7 @@ service_curve net s H = service_from net s (slice_get net.servers s) H refl
 
 arrival_from : (net : Net) (i : ℕ) (o : Option NetFlow) → AreCurves net → flow_at net i ≡ o → IsCurve (arrival_of o)
 arrival_from net i None H e = zero_is
-arrival_from net i (Some f) H e = subst (λ (o : Option NetFlow). IsCurve (arrival_of o)) e (H.arrivals i (subst (λ (o : Option NetFlow). IsTrue (is_some o)) (sym e) tt))
+arrival_from net i (Some f) H e = subst (λ (o : Option NetFlow). IsCurve (arrival_of o)) e (H.arrivals i (subst (λ (o : Option NetFlow). IsTrue (is_some o)) (sym e) refl))
 
 pub arrival_curve : (net : Net) (i : ℕ) → AreCurves net → IsCurve (arrival net i)
 arrival_curve net i H = arrival_from net i (flow_at net i) H refl
