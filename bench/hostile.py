@@ -15,6 +15,7 @@ differs, and asserts nothing about time.
 """
 
 import os
+import random
 import re
 import resource
 import subprocess
@@ -103,6 +104,16 @@ def closed_steps(n: int) -> str:
     return server("s1", "1000") + flow("f0", listed(pieces, close=True), ["s1"])
 
 
+def closed_walk(n: int) -> str:
+    """Steps of 1 to 9 at distances of 1 to 3, drawn once for all."""
+    drawn, x, y, pieces = random.Random(5), 0, 20, []
+    for number in range(n):
+        at, y = y, y + drawn.randint(1, 9)
+        pieces.append((x, at if number else 8, y))
+        x += drawn.randint(1, 3)
+    return server("s1", "1000") + flow("f0", listed(pieces, close=True), ["s1"])
+
+
 def closed_late(rank: int) -> str:
     return server("s1", "1000") + flow("f0", listed([(0, 8)], (rank, 16, 1), True), ["s1"])
 
@@ -144,6 +155,9 @@ CASES = {
     "closure of steps, n = 45": ("analyse", closed_steps(45), 7),
     "closure of steps, n = 70": ("analyse", closed_steps(70), 7),
     "closure of steps, n = 150": ("analyse", closed_steps(150), 7),
+    "closure of 20 steps at drawn times": ("analyse", closed_walk(20), 0),
+    "closure of 28 steps at drawn times": ("analyse", closed_walk(28), 0),
+    "closure of 64 steps at drawn times": ("analyse", closed_walk(64), 7),
     "closure with a tail at 103": ("analyse", closed_late(103), 0),
     "closure with a tail at 203": ("analyse", closed_late(203), 7),
     "closure with a tail at 1003": ("analyse", closed_late(1003), 7),
