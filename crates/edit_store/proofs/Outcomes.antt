@@ -17,7 +17,8 @@ use Rattle.cell_table.specs.declared.fault.AnalysisFault.TheVariants as analysis
 use Rattle.net_edits.specs.declared.fault.EditFault.{EditFault}
 use Rattle.net_edits.specs.declared.fault.EditFault.TheVariants.{UnknownName, NameTaken, BadValue, LimitReached, Cycle, TooMany, TooWide, NothingToUndo, NoMemory}
 use Rattle.net_edits.specs.Edited.{edited}
-use Rattle.net_edits.specs.Replies.{IsReply}
+use Rattle.net_edits.specs.Replies.{IsReply, IsOverNone}
+use Rattle.net_edits.proofs.OverNone.{within_none}
 use Rattle.cell_store.specs.Edits.{IsFirstTouched, RefusesFor}
 use Rattle.cell_store.proofs.Fronts.{are_touched}
 use Rattle.edit_store.specs.Stored.{Stored, AreTouched, IsAdvanced, IsBack}
@@ -141,3 +142,7 @@ reply_unplanned present edit (TooMany cell) r = r
 reply_unplanned present edit (TooWide cell) r = r
 reply_unplanned present edit NothingToUndo r = absurd r
 reply_unplanned present edit NoMemory r = tt
+
+-- ---- want of memory
+pub given_none : (present net : Net) (edit : Edit) → Gives present edit net → IsOverNone (edited present edit)
+given_none present net edit gives = within_none (edited present edit) gives.edited gives.is gives.within

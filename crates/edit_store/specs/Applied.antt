@@ -15,7 +15,7 @@ use Rattle.net_cells.specs.Meanings.{CellTable}
 use Rattle.net_edits.specs.declared.fault.EditFault.{EditFault}
 use Rattle.net_edits.specs.declared.fault.EditFault.TheVariants.{UnknownName, NameTaken, BadValue, LimitReached, Cycle, TooMany, TooWide, NothingToUndo, NoMemory}
 use Rattle.net_edits.specs.Edited.{edited}
-use Rattle.net_edits.specs.Replies.{Refuses, IsEdited, IsEditOver}
+use Rattle.net_edits.specs.Replies.{Refuses, IsEdited, IsEditOver, IsOverNone}
 use Rattle.cell_changes.specs.Changes.{Touched}
 use Rattle.cell_store.specs.Edits.{EditEnds}
 use Rattle.edit_store.specs.Stored.{Stored, networks, AreTouched}
@@ -86,9 +86,9 @@ pub record EndsInCells (present : Net) (edit : Edit) (old : CellTable) (n : ℕ)
   pub are : AreTouched present net touched
   pub ends : EditEnds net touched old n
 
--- before that none is counted
+-- before that none is counted, and the curve that the edit makes is over no limit
 pub data EndsInEdit (present : Net) (edit : Edit) (old : CellTable) (n : ℕ) : Type 0 where
-  before_cells : n ≡ 0 → EndsInEdit present edit old n
+  before_cells : n ≡ 0 → IsOverNone (edited present edit) → EndsInEdit present edit old n
   in_cells : EndsInCells present edit old n → EndsInEdit present edit old n
 
 -- ---- what an edit will do

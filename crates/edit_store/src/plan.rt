@@ -1,8 +1,10 @@
 //! What an edit makes of a network, and which cells it touches there.
 
-ghost use Rattle.std.specs.Prelude.{◌≢◌, ◌≤◌, length, IfOk, IfErr};
+ghost use Rattle.std.specs.Prelude.{◌≡◌, ◌≢◌, ◌≤◌, length, IfOk, IfErr};
 ghost use Rattle.net_model.specs.declared.edit.Edit.TheVariants.{Undo};
 ghost use Rattle.net_model.specs.Orders.{IsOrder};
+ghost use Rattle.net_edits.specs.Edited.{edited};
+ghost use Rattle.net_edits.specs.Replies.{IsOverNone};
 ghost use Rattle.cell_rules.specs.Finding.{HaveSameCellsBut};
 ghost use Rattle.edit_store.specs.Stored.{AreTouched, AreLost};
 ghost use Rattle.edit_store.specs.Applied.{Gives, IsPlanned, IsUnplanned};
@@ -99,11 +101,12 @@ fn ordered_plan(
 }
 
 /// The network that an edit other than the undo makes of another one, and the touched cells; refused for the first
-/// cause but a cell over a limit.
+/// cause but a cell over a limit. Where that is want of memory, the curve that the edit makes is over no limit.
 pub(crate) fn plan(alloc: Global, present: &Network, edit: &Edit) -> Result<Planned, EditFault>
     requires { edit.now ≢ Undo }
     ensures planned { IfOk result (λ p. IsPlanned present.now edit.now p.net p.touched.items) }
     ensures refused { IfErr result (IsUnplanned present.now edit.now) }
+    ensures memory { result ≡ Err EditFault.NoMemory → IsOverNone (edited present.now edit.now) }
 {
     match edited_network(alloc, present, edit) {
         Ok(net) => ordered_plan(alloc, present, edit, net),

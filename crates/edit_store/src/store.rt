@@ -207,9 +207,9 @@ impl<V: CellValue + Drop> Store<V> {
     /// Makes an edit: on success the store has the edited network, as a table it meets that network's equations, and
     /// the answer tells how many cells the edit touched; an undo goes back to the network before, touches none and
     /// takes no memory. Refused for the first cause of those that `EditFault` lists, and then all is as it was; where
-    /// that is want of memory, each operator that is counted is within its limits. Exactly the work of the touched cells
-    /// is counted, no more than that where the edit is refused, and nothing where there is no edited network to be
-    /// evaluated.
+    /// that is want of memory, each operator that is counted is within its limits, and so is the curve that the edit
+    /// makes. Exactly the work of the touched cells is counted, no more than that where the edit is refused, and nothing
+    /// where there is no edited network to be evaluated.
     pub fn apply<E: Evaluator<V>>(&mut self, edit: &Edit, eval: &mut E) -> Result<Done, EditFault>
         requires { edit.now ≢ Undo → length self.old.before < 2 ^ 32 - 1 }
         ensures applied { IfOk result (λ done. IsApplied self.old edit.now done.cells self.new) }

@@ -1,6 +1,7 @@
 pub mod Texts
 pub mod Places
 pub mod Steps
+pub mod OverNone
 pub mod Signs
 pub mod Found
 pub mod Fitting

@@ -1,6 +1,7 @@
 -- What edits of one server give.
 use Rattle.std.proofs.Common.{◌≡◌, ℕ, List, Option, Some, None, Bool, true, false, refl, sym, ap, ◌∙◌}
-use Rattle.std.specs.Prelude.{Result, Ok, Err, slice_get, ℤ}
+use Rattle.std.specs.Prelude.{Result, Ok, Err, slice_get, ℤ, not, ◌&&◌}
+use Rattle.std.proofs.lemmas.Bool.{and_from, not_from_false}
 use Rattle.rational.specs.Rational.{ℚ, ◌≤ℚ◌, ◌<ℚ◌}
 use Rattle.min_plus.specs.Functions.{zero_q}
 use Rattle.net_model.specs.Networks.{Net, NetServer}
@@ -12,8 +13,9 @@ use Rattle.net_edits.specs.Refusals.{Or, bad_value, and_then, only_if}
 use Rattle.net_edits.specs.Lookups.{server_number}
 use Rattle.net_edits.specs.Values.{whole_that, is_length, is_quantum_of, quanta_fit}
 use Rattle.net_edits.specs.Changed.{put_server, server_changed, at_server, with_rate, with_latency, with_link, with_quantum}
-use Rattle.net_edits.specs.Edited.{MadeCurve, Edited, fitting, quantum_edited}
+use Rattle.net_edits.specs.Edited.{MadeCurve, Edited, fitting, is_positive, is_negative, is_latency, has_latency, rate_made, latency_made, rate_edited, latency_edited, quantum_edited}
 use Rattle.net_edits.specs.Replies.{Refuses, Tells, IsReply}
+use Rattle.net_edits.proofs.Signs.{positive_of, nonneg_of}
 use Rattle.net_edits.proofs.Steps.{then_ok, passed}
 use Rattle.net_edits.proofs.Fitting.{accepted_fits}
 use Rattle.net_edits.proofs.Standing.{same_discipline, quanta_stand}
@@ -49,6 +51,26 @@ module _ (net : Net) (s : ℕ) (old : NetServer) (a : IsAccepted net) (at : slic
   quantum_stands queue bits is_length fits =
       quanta_stand net s old (with_quantum queue bits old) a at (quantum_server old queue bits is_length is) refl
       (as_many old.discipline queue bits) fits
+
+-- ---- a rate or a latency
+pub rate_edit : (net : Net) (name : List ℕ) (s : ℕ) (rate : ℚ) (old : NetServer) → IsAccepted net → server_number net name ≡ Ok s
+    → slice_get net.servers s ≡ Some old → IsServer old → is_positive rate ≡ true
+    → rate_edited net name rate
+    ≡ Ok (record { net = put_server net s (with_rate rate old); made = rate_made rate s (Some old) })
+rate_edit net name s rate old a found at is some =
+    server_edit net name s (λ o. is_positive rate) (with_rate rate) (rate_made rate) old found at some
+    (rate_stands net s old a at is rate (positive_of rate some))
+
+pub latency_edit : (net : Net) (name : List ℕ) (s : ℕ) (latency : ℚ) (old : NetServer) → IsAccepted net
+    → server_number net name ≡ Ok s → slice_get net.servers s ≡ Some old → IsServer old → is_negative latency ≡ false
+    → is_latency old.kind ≡ true
+    → latency_edited net name latency
+    ≡ Ok (record { net = put_server net s (with_latency latency old); made = latency_made latency s (Some old) })
+latency_edit net name s latency old a found at is none kind =
+    server_edit net name s (λ o. not (is_negative latency) && has_latency o) (with_latency latency)
+    (λ n o. latency_made latency n o) old found at
+    (and_from (not (is_negative latency)) (is_latency old.kind) (not_from_false (is_negative latency) none) kind)
+    (latency_stands net s old a at is latency (nonneg_of latency none))
 
 -- ---- a quantum
 -- at the server that was found

@@ -4,7 +4,7 @@ use Rattle.std.specs.List.{position}
 use Rattle.std.specs.Cmp.Lexicographic.{pointwise}
 use Rattle.net_model.specs.declared.edit.PathEntry.{PathEntry}
 use Rattle.net_model.specs.Networks.{Net, NetServer, NetFlow}
-use Rattle.net_edits.specs.Refusals.{Refusal, unknown_name, Or, and_then}
+use Rattle.net_edits.specs.Refusals.{unknown_name, Or, and_then}
 
 abbrev pub same_name : List ℕ → List ℕ → Bool
 same_name = pointwise nat_eq

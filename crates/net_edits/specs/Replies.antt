@@ -1,5 +1,5 @@
 -- What calls that edit may answer. Own choice.
-use Rattle.std.specs.Prelude.{◌≡◌, ℕ, List, Option, Some, None, Result, Ok, Err, string_bytes}
+use Rattle.std.specs.Prelude.{◌≡◌, Option, Some, None, Result, Ok, Err, string_bytes}
 use Rattle.upp_limits.specs.declared.own_limits.OverLimit.{OverLimit}
 use Rattle.upp_limits.specs.declared.own_limits.OverLimit.TheVariants as limit
 use Rattle.upp_limits.specs.OwnLimits.{IsOver, IsWithinOwn}
@@ -7,7 +7,7 @@ use Rattle.net_model.specs.Networks.{Net}
 use Rattle.net_cells.specs.declared.cell.Cell.{Cell}
 use Rattle.net_edits.specs.declared.fault.EditFault.{EditFault}
 use Rattle.net_edits.specs.declared.fault.EditFault.TheVariants.{UnknownName, NameTaken, BadValue, LimitReached, Cycle, TooMany, TooWide, NothingToUndo, NoMemory}
-use Rattle.net_edits.specs.Refusals.{Refusal, unknown_name, name_taken, bad_value, no_number_left, Or}
+use Rattle.net_edits.specs.Refusals.{unknown_name, name_taken, bad_value, no_number_left, Or}
 use Rattle.net_edits.specs.Edited.{MadeCurve, Edited}
 
 -- ---- refusals
@@ -38,6 +38,7 @@ abbrev pub IsMadeOver : Option MadeCurve → Cell → OverLimit → Type 0
 IsMadeOver None cell over = ⊥
 IsMadeOver (Some made) cell over = (cell ≡ made.cell) × IsOver made.curve over
 
+-- why nothing was made for it: the limit that it is over, or want of memory, and that only where it is over none
 abbrev pub MakesNone : Option MadeCurve → EditFault → Type 0
 MakesNone made (UnknownName name) = ⊥
 MakesNone made (NameTaken name) = ⊥
@@ -47,7 +48,7 @@ MakesNone made (Cycle walk) = ⊥
 MakesNone made (TooMany cell) = IsMadeOver made cell limit.TooMany
 MakesNone made (TooWide cell) = IsMadeOver made cell limit.TooWide
 MakesNone made NothingToUndo = ⊥
-MakesNone made NoMemory = Unit {0}
+MakesNone made NoMemory = IsMadeWithin made
 
 -- something for which a curve was made
 abbrev pub Makes : {X : Type 0} → Option MadeCurve → (X → Type 0) → Result X EditFault → Type 0
@@ -67,6 +68,11 @@ pub record IsEditOver (r : Or Edited) (cell : Cell) (which : OverLimit) : Type 0
   pub edited : Edited
   pub is : r ≡ Ok edited
   pub over : IsMadeOver edited.made cell which
+
+-- no limit is a cause to refuse the edit: where there would be an edited network, its curve is over none
+abbrev pub IsOverNone : Or Edited → Type 0
+IsOverNone (Ok edited) = IsMadeWithin edited.made
+IsOverNone (Err refusal) = Unit {0}
 
 -- what an edit of one network answers: the network; the first refusal; or the limit that its curve is over
 abbrev pub IsReply : Or Edited → Result Net EditFault → Type 0

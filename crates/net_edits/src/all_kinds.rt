@@ -1,9 +1,9 @@
 //! Edits of each kind.
 
-ghost use Rattle.std.specs.Prelude.{◌≢◌};
+ghost use Rattle.std.specs.Prelude.{◌≡◌, ◌≢◌};
 ghost use Rattle.net_model.specs.declared.edit.Edit.TheVariants.{Undo};
 ghost use Rattle.net_edits.specs.Edited.{edited};
-ghost use Rattle.net_edits.specs.Replies.{IsReply};
+ghost use Rattle.net_edits.specs.Replies.{IsReply, IsOverNone};
 
 use crate::add::add_edited;
 use crate::fault::EditFault;
@@ -15,10 +15,11 @@ use std::alloc::Global;
 /// The network that an edit makes of one; the first reason why it makes none; or the limit that a curve is over which
 /// the edit makes, at the cell as which that counts: the service of the server's first queue, or the curve with which
 /// the flow comes to its first hop. Whether the edited network has a cycle, or a cell over a limit, is not looked at.
-/// An undo is no edit of one network alone.
+/// Where that is want of memory, the curve that the edit makes is over no limit. An undo is no edit of one network alone.
 pub fn edited_network(alloc: Global, net: &Network, edit: &Edit) -> Result<Network, EditFault>
     requires { edit.now ≢ Undo }
-    ensures { IsReply (edited net.now edit.now) result }
+    ensures reply { IsReply (edited net.now edit.now) result }
+    ensures memory { result ≡ Err EditFault.NoMemory → IsOverNone (edited net.now edit.now) }
 {
     match edit {
         Edit::Rate(name, rate) => rate_edited(alloc, net, name, *rate),

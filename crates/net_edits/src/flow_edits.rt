@@ -7,7 +7,7 @@ ghost use Rattle.upp_curve.specs.Kinds as kinds;
 ghost use Rattle.net_model.specs.Views.{flow_of};
 ghost use Rattle.net_edits.specs.Changed as changed;
 ghost use Rattle.net_edits.specs.Edited as spec;
-ghost use Rattle.net_edits.specs.Replies.{Makes, IsReply};
+ghost use Rattle.net_edits.specs.Replies.{Makes, IsReply, IsOverNone};
 
 use crate::fault::EditFault;
 use crate::names::{flow_number, flow_of_number, server_numbers};
@@ -96,7 +96,8 @@ pub(crate) fn stair_edited(
     period: Frac,
     jitter: Frac,
 ) -> Result<Network, EditFault>
-    ensures { IsReply (spec.stair_edited net.now name.now period jitter) result }
+    ensures reply { IsReply (spec.stair_edited net.now name.now period jitter) result }
+    ensures memory { result ≡ Err EditFault.NoMemory → IsOverNone (spec.stair_edited net.now name.now period jitter) }
 {
     let number = flow_number(alloc, net, name)?;
     if !is_positive(period) {

@@ -5,6 +5,7 @@ ghost use Rattle.net_model.specs.Accepted.{IsAccepted, IsServer, IsFlow};
 ghost use Rattle.net_model.specs.Views.{server_of, flow_of};
 ghost use Rattle.net_cells.specs.Numbered.{flow_at};
 ghost use Rattle.net_edits.specs.Lookups as spec;
+ghost use Rattle.net_edits.specs.Refusals.{unknown_name};
 ghost use Rattle.net_edits.specs.Replies.{Tells, Refuses};
 
 use crate::fault::EditFault;
@@ -15,6 +16,7 @@ use std::alloc::Global;
 /// The number of the server with a name.
 pub(crate) fn server_number(alloc: Global, net: &Network, name: &str) -> Result<u32, EditFault>
     ensures number { Tells (spec.server_number net.now name.now) result }
+    ensures unknown { IfErr result (λ _. spec.server_number net.now name.now ≡ Err (unknown_name name.now)) }
     ensures within { IfOk result (λ s. s < length net.now.servers) }
 {
     net.keeps();
@@ -27,6 +29,7 @@ pub(crate) fn server_number(alloc: Global, net: &Network, name: &str) -> Result<
 /// The number of the live flow with a name.
 pub(crate) fn flow_number(alloc: Global, net: &Network, name: &str) -> Result<u32, EditFault>
     ensures number { Tells (spec.flow_number net.now name.now) result }
+    ensures unknown { IfErr result (λ _. spec.flow_number net.now name.now ≡ Err (unknown_name name.now)) }
     ensures live { IfOk result (λ i. IsSome (flow_at net.now i)) }
 {
     net.keeps();

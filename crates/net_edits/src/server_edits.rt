@@ -4,7 +4,7 @@ ghost use Rattle.std.specs.Prelude.{◌≡◌, IfOk};
 ghost use Rattle.net_model.specs.Views.{discipline_of, server_of};
 ghost use Rattle.net_edits.specs.Changed as changed;
 ghost use Rattle.net_edits.specs.Edited as spec;
-ghost use Rattle.net_edits.specs.Replies.{IsReply};
+ghost use Rattle.net_edits.specs.Replies.{IsReply, IsOverNone};
 
 use crate::fault::EditFault;
 use crate::names::{server_at, server_number};
@@ -22,7 +22,8 @@ pub(crate) fn rate_edited(
     name: &str,
     rate: Frac,
 ) -> Result<Network, EditFault>
-    ensures { IsReply (spec.rate_edited net.now name.now rate) result }
+    ensures reply { IsReply (spec.rate_edited net.now name.now rate) result }
+    ensures memory { result ≡ Err EditFault.NoMemory → IsOverNone (spec.rate_edited net.now name.now rate) }
 {
     let number = server_number(alloc, net, name)?;
     if !is_positive(rate) {
@@ -49,7 +50,8 @@ pub(crate) fn latency_edited(
     name: &str,
     latency: Frac,
 ) -> Result<Network, EditFault>
-    ensures { IsReply (spec.latency_edited net.now name.now latency) result }
+    ensures reply { IsReply (spec.latency_edited net.now name.now latency) result }
+    ensures memory { result ≡ Err EditFault.NoMemory → IsOverNone (spec.latency_edited net.now name.now latency) }
 {
     let number = server_number(alloc, net, name)?;
     let old = server_at(net, number);

@@ -1,4 +1,4 @@
-use Rattle.std.proofs.Common.{w64, ◌≡◌, List, ℕ, Ok, sym, ap, ◌∙◌, subst, None, true, false, Option}
+use Rattle.std.proofs.Common.{w64, ◌≡◌, List, ℕ, Ok, sym, ap, ◌∙◌, subst, None, Option}
 use Rattle.std.specs.Prelude.{ℤ}
 use Rattle.std.proofs.lemmas.Int.{to_z-of_z}
 use Rattle.net_model.specs.Accepted.{IsAccepted}

@@ -1,4 +1,5 @@
 use Rattle.std.proofs.Common.{Err, List, ℕ, ap, ◌∙◌, sym}
+use Rattle.std.proofs.lemmas.Result.{err_from_is_err_and}
 use Rattle.net_edits.specs.Refusals.{unknown_name}
 use Rattle.net_edits.proofs.Found.{flow_found, flow_unknown}
 use Rattle.net_edits.proofs.FlowEdits.{live_at}
@@ -15,3 +16,11 @@ pub returns-in_ok-from_str-in-None-clause-number : goal.returns-in_ok-from_str-i
 returns-in_ok-from_str-in-None-clause-number c =
     flow_unknown c.args.net.now c.args.name.now c.in-None.ensures
     ∙ ap (λ (bytes : List ℕ). Err (unknown_name bytes)) (sym c.in_ok-from_str-in-None.ensures.ok)
+
+pub returns-in_ok-from_str-in-None-clause-unknown : goal.returns-in_ok-from_str-in-None-clause-unknown
+returns-in_ok-from_str-in-None-clause-unknown c = flow_unknown c.args.net.now c.args.name.now c.in-None.ensures
+
+pub returns-in_err-from_str-in-None-clause-unknown : goal.returns-in_err-from_str-in-None-clause-unknown
+returns-in_err-from_str-in-None-clause-unknown c =
+    let p = err_from_is_err_and c.from_residual.result c.from_residual.ensures.1 in
+    rw p.1 (flow_unknown c.args.net.now c.args.name.now c.in-None.ensures)

@@ -1,4 +1,4 @@
-use Rattle.std.proofs.Common.{List, Option, Ok, refl, sym, ap, ap₂, ◌∙◌, subst, true, false}
+use Rattle.std.proofs.Common.{List, Option, Ok, refl, sym, ap, ap₂, ◌∙◌, subst}
 use Rattle.std.specs.List.{list_all}
 use Rattle.net_model.specs.declared.flow.Flow.{Flow}
 use Rattle.net_model.specs.declared.server.Server.{Server}

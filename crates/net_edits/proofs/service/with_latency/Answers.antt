@@ -45,3 +45,14 @@ returns c =
           ∙ ap (λ (x : SpecCurve). record (server_of server) { kind = Latency latency; service = x }) made.0,
       subst IsMadeWithin (c.first_queue.ensures (rate_latency server.rate latency)) made.1,
     )
+
+pub returns-in_err-changed : goal.returns-in_err-changed
+returns-in_err-changed c =
+    let p = err_from_is_err_and c.from_residual-in_err-changed.result c.from_residual-in_err-changed.ensures.1 in
+    let rate = c.args.server.now.rate in
+    let latency = c.args.latency in
+    let own =
+    own_of (OneNegative rate latency) ⊥ (rate_latency rate latency) c.rate_latency-made.result
+    (none_below rate latency c.requires.kept.rate c.requires.latency) (λ h. h) c.rate_latency-made.ensures.causes in
+    rw (p.1, p.2)
+    (subst IsMadeWithin (c.first_queue.ensures (rate_latency rate latency)) (c.in_ok-service.ensures (rate_latency rate latency) own).1)
