@@ -1,6 +1,6 @@
 -- What one flow more gives.
-use Rattle.std.proofs.Common.{◌≡◌, ℕ, ◌<◌, ◌≤◌, List, length, None, Bool, true, false, sym, ap, ◌∙◌}
-use Rattle.std.specs.Prelude.{Ok, Err, ℤ, nat_le, nat_lt, ◌&&◌, not}
+use Rattle.std.proofs.Common.{◌≡◌, ℕ, ◌<◌, ◌≤◌, List, length, None, Bool, true, false, refl, sym, ap, ◌∙◌, arith}
+use Rattle.std.specs.Prelude.{Ok, Err, IfErr, ℤ, nat_le, nat_lt, ◌&&◌, not}
 use Rattle.std.specs.List.{list_all}
 use Rattle.std.proofs.lemmas.Bool.{and_parts, and_from, not_from_false, leb-true, lt-ltb, le-ltb}
 use Rattle.std.proofs.lemmas.List.Sums.{AllPass-from_list_all}
@@ -10,15 +10,15 @@ use Rattle.net_model.specs.Networks.{Net}
 use Rattle.net_model.specs.Names.{IsName, is_name_byte}
 use Rattle.net_model.specs.Accepted.{IsFlow, IsAccepted}
 use Rattle.net_model.proofs.KindsStand.{kinds_may_stand}
-use Rattle.net_edits.specs.Refusals.{Or, no_number_left, and_then, only_if}
+use Rattle.net_edits.specs.Refusals.{Or, name_taken, bad_value, no_number_left, and_then, only_if}
 use Rattle.net_edits.specs.Lookups.{server_numbers, is_free}
 use Rattle.net_edits.specs.Values.{whole_that, is_length, is_name, entry_queues, may_be_path, fits_along, quanta_fit}
 use Rattle.net_edits.specs.Changed.{with_more}
 use Rattle.net_edits.specs.Edited.{Edited, is_negative, fitting, new_flow, only_if_free, only_if_left, add_edited}
-use Rattle.net_edits.proofs.Steps.{passed}
+use Rattle.net_edits.proofs.Steps.{passed, stopped, whole_is_bad}
 use Rattle.net_edits.proofs.Signs.{nonneg_of}
-use Rattle.net_edits.proofs.Found.{free_differs}
-use Rattle.net_edits.proofs.Pathways.{way_of, hops_of}
+use Rattle.net_edits.proofs.Found.{free_differs, numbers_long}
+use Rattle.net_edits.proofs.Pathways.{way_of, long_way, hops_of}
 use Rattle.net_edits.proofs.Flows.{more_stands, more_fits}
 use Rattle.net_edits.proofs.FlowEdits.{bits_length, lanes_long}
 
@@ -31,6 +31,13 @@ name_of name e =
       few = leb-true (length name) 32 second.0;
       bytes = AllPass-from_list_all is_name_byte name second.1;
     }
+
+-- steps that are a bad value where they are one, and one that is at the end
+bad_in_the_end : (test : Bool) (r : Or ℕ) (next : ℕ → Or Edited) → IfErr r (λ refusal. refusal ≡ bad_value)
+    → ((m : ℕ) → next m ≡ Err bad_value) → only_if test (and_then r next) ≡ Err bad_value
+bad_in_the_end true (Ok m) next e bad = bad m
+bad_in_the_end true (Err refusal) next e bad = ap Err e
+bad_in_the_end false r next e bad = refl
 
 module _ (net : Net) (name : List ℕ) (bits : ℤ) (b : ℕ) (burst rate : ℚ) (entries : List PathEntry) (path lanes : List ℕ)
     (a : IsAccepted net) (servers : server_numbers net entries ≡ Ok path) (free : is_free net name ≡ true)
@@ -110,3 +117,46 @@ module _ (net : Net) (name : List ℕ) (bits : ℤ) (b : ℕ) (burst rate : ℚ)
       added
       ∙ ap (λ (t : Bool). only_if_left t (record { net = with_more (new_flow name b burst rate path lanes) net; made = None }))
       (le-ltb (length net.flows) 256 full)
+
+-- ---- names come first, and a path of too many servers is a bad value
+module _ (net : Net) (name : List ℕ) (bits : ℤ) (burst rate : ℚ) (entries : List PathEntry) (path : List ℕ)
+    (servers : server_numbers net entries ≡ Ok path) where
+  after_servers : add_edited net name bits burst rate entries
+      ≡ only_if_free (is_free net name) name (
+      only_if (is_name name && (not (is_negative burst) && not (is_negative rate))) (
+      and_then (whole_that is_length bits) (λ m.
+      only_if (may_be_path net path (entry_queues entries)) (
+      and_then (fitting (with_more (new_flow name m burst rate path (entry_queues entries)) net) None)
+      (only_if_left (nat_lt (length net.flows) 256))))))
+  after_servers =
+      ap (λ (r : Or (List ℕ)). and_then r (λ ss.
+      only_if_free (is_free net name) name (
+      only_if (is_name name && (not (is_negative burst) && not (is_negative rate))) (
+      and_then (whole_that is_length bits) (λ m.
+      only_if (may_be_path net ss (entry_queues entries)) (
+      and_then (fitting (with_more (new_flow name m burst rate ss (entry_queues entries)) net) None)
+      (only_if_left (nat_lt (length net.flows) 256)))))))) servers
+
+  pub name_is_taken : is_free net name ≡ false → add_edited net name bits burst rate entries ≡ Err (name_taken name)
+  name_is_taken taken =
+      after_servers
+      ∙ ap (λ (t : Bool). only_if_free t name (
+      only_if (is_name name && (not (is_negative burst) && not (is_negative rate))) (
+      and_then (whole_that is_length bits) (λ m.
+      only_if (may_be_path net path (entry_queues entries)) (
+      and_then (fitting (with_more (new_flow name m burst rate path (entry_queues entries)) net) None)
+      (only_if_left (nat_lt (length net.flows) 256))))))) taken
+
+  pub too_long : is_free net name ≡ true → 16 < length entries → add_edited net name bits burst rate entries ≡ Err bad_value
+  too_long free many =
+      after_servers
+      ∙ ap (λ (t : Bool). only_if_free t name (
+      only_if (is_name name && (not (is_negative burst) && not (is_negative rate))) (
+      and_then (whole_that is_length bits) (λ m.
+      only_if (may_be_path net path (entry_queues entries)) (
+      and_then (fitting (with_more (new_flow name m burst rate path (entry_queues entries)) net) None)
+      (only_if_left (nat_lt (length net.flows) 256))))))) free
+      ∙ bad_in_the_end (is_name name && (not (is_negative burst) && not (is_negative rate))) (whole_that is_length bits) _
+      (whole_is_bad is_length bits)
+      (λ m. stopped (may_be_path net path (entry_queues entries)) _
+      (long_way net path (entry_queues entries) (omega (arith, many, numbers_long net entries path servers))))

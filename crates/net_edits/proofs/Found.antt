@@ -7,7 +7,7 @@ use Rattle.net_model.specs.declared.edit.PathEntry.{PathEntry}
 use Rattle.net_model.specs.Networks.{Net, NetServer, NetFlow}
 use Rattle.net_model.specs.Names.{DifferInName, IsServerNamed, IsFlowNamed, FindsServer, FindsFlow}
 use Rattle.net_edits.specs.declared.fault.EditFault.{EditFault}
-use Rattle.net_edits.specs.Refusals.{Or, unknown_name, and_then}
+use Rattle.net_edits.specs.Refusals.{Refusal, Or, unknown_name, and_then}
 use Rattle.net_edits.specs.Lookups.{is_server_named, is_flow_named, number_of, server_number, flow_number, before, server_numbers, is_free}
 use Rattle.net_edits.specs.Replies.{Refuses}
 use Rattle.net_edits.proofs.Texts.{same_to, not_same, differ_of}
@@ -139,6 +139,14 @@ module _ (net : Net) where
       fault all
       (then_refused (server_numbers net (entry ∷ rest)) (λ ts. Ok (ss ++ ts)) fault
       (then_refused (server_number net (string_bytes entry.server)) (λ k. before k (server_numbers net rest)) fault refused))
+
+  pub numbers_stop : (front : List PathEntry) (entry : PathEntry) (rest : List PathEntry) (ss : List ℕ) (refusal : Refusal)
+      → server_numbers net front ≡ Ok ss → server_number net (string_bytes entry.server) ≡ Err refusal
+      → server_numbers net (front ++ entry ∷ rest) ≡ Err refusal
+  unfolding joined
+  numbers_stop front entry rest ss refusal h e =
+      numbers-append front (entry ∷ rest)
+      ∙ ap₂ joined h (ap (λ (r : Or ℕ). and_then r (λ k. before k (server_numbers net rest))) e)
 
   -- as many as there are entries
   pub numbers_long : (path : List PathEntry) (ss : List ℕ) → server_numbers net path ≡ Ok ss → length ss ≡ length path

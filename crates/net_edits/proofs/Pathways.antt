@@ -1,7 +1,7 @@
 -- Paths that may be.
-use Rattle.std.proofs.Common.{◌≡◌, ◌≢◌, ℕ, zero, suc, ◌<◌, ◌≤◌, List, [], ◌∷◌, length, Option, Some, None, true, refl, arith}
+use Rattle.std.proofs.Common.{◌≡◌, ◌≢◌, ℕ, zero, suc, ◌<◌, ◌≤◌, List, [], ◌∷◌, length, Option, Some, None, Bool, true, false, refl, ap, ◌∙◌, arith}
 use Rattle.std.specs.Prelude.{◌&&◌, AllPairs, nat_le, nat_lt, slice_get, slice_index}
-use Rattle.std.proofs.lemmas.Bool.{and_parts, leb-true, ltb-true}
+use Rattle.std.proofs.lemmas.Bool.{and_parts, leb-true, ltb-true, lt-leb}
 use Rattle.run_laws.specs.Servers.{queue_count}
 use Rattle.net_model.specs.Accepted.{IsHop}
 use Rattle.net_model.specs.Networks.{Net, NetServer}
@@ -28,6 +28,16 @@ way_of net path lanes e =
       once = differ path third.0;
       queues = third.1;
     }
+
+never : (b : Bool) → b && false ≡ false
+never true = refl
+never false = refl
+
+pub long_way : (net : Net) (path lanes : List ℕ) → 16 < length path → may_be_path net path lanes ≡ false
+long_way net path lanes many =
+    ap (λ (b : Bool). nat_le 1 (length path) && (b && (all_differ path && are_queues net path lanes)))
+    (lt-leb (length path) 16 many)
+    ∙ never (nat_le 1 (length path))
 
 queue_at : (net : Net) (path lanes : List ℕ) (k : ℕ) → are_queues net path lanes ≡ true → k < length path
     → length lanes ≡ length path → slice_index lanes k < queues net (slice_index path k)

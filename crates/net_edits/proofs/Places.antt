@@ -105,3 +105,9 @@ split_at {X} xs i x within is =
 pub take_one : {X : Type 0} (xs : List X) (i : ℕ) (x : X) → i < length xs → x ≡ get_or xs i x
     → take (i + 1) xs ≡ take i xs ++ x ∷ []
 take_one {X} xs i x within is = take_more xs i x within ∙ ap (λ (y : X). take i xs ++ y ∷ []) (sym is)
+
+-- of the first ones, and then more
+pub take_capped : {X : Type 0} (n : ℕ) (xs ys : List X) → take n (take n xs ++ ys) ≡ take n (xs ++ ys)
+take_capped zero xs ys = refl
+take_capped (suc n) [] ys = refl
+take_capped {X} (suc n) (x ∷ xs) ys = ap (λ (zs : List X). x ∷ zs) (take_capped n xs ys)

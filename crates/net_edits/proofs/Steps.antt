@@ -1,10 +1,11 @@
 -- Steps of which the first refusal counts, and what is answered after them.
-use Rattle.std.proofs.Common.{◌≡◌, Bool, true, false, ap}
-use Rattle.std.specs.Prelude.{Ok, Err}
+use Rattle.std.proofs.Common.{◌≡◌, ℕ, Bool, true, false, refl, ap}
+use Rattle.std.specs.Prelude.{Ok, Err, IfErr, ℤ, pos, negsuc, if◌then◌else◌}
 use Rattle.net_model.specs.Networks.{Net}
 use Rattle.net_edits.specs.declared.fault.EditFault.{EditFault}
 use Rattle.net_edits.specs.declared.fault.EditFault.TheVariants.{UnknownName, NameTaken, BadValue, LimitReached, Cycle, TooMany, TooWide, NothingToUndo, NoMemory}
-use Rattle.net_edits.specs.Refusals.{Or, bad_value, and_then, only_if}
+use Rattle.net_edits.specs.Refusals.{Refusal, Or, bad_value, and_then, only_if}
+use Rattle.net_edits.specs.Values.{whole_that}
 use Rattle.net_edits.specs.Edited.{Edited}
 use Rattle.net_edits.specs.Replies.{Refuses, IsMadeWithin, MakesNone, IsReply}
 
@@ -41,6 +42,15 @@ module _ {X : Type 0} where
 
   pub stopped : (b : Bool) (r : Or X) → b ≡ false → only_if b r ≡ Err bad_value
   stopped b r e = ap (λ (t : Bool). only_if t r) e
+
+-- a number that may not be is a bad value
+pub whole_is_bad : (test : ℕ → Bool) (z : ℤ) → IfErr (whole_that test z) (λ refusal. refusal ≡ bad_value)
+whole_is_bad test (pos n) = by (test n)
+  where
+    by : (b : Bool) → IfErr {T = ℕ} {E = Refusal} (if b then Ok n else Err bad_value) (λ refusal. refusal ≡ bad_value)
+    by true = tt
+    by false = refl
+whole_is_bad test (negsuc n) = refl
 
 -- ---- answers
 pub refused_reply : (r : Or Edited) (fault : EditFault) → Refuses r fault → IsReply r (Err fault)

@@ -1,10 +1,10 @@
 -- The servers and flows that an edit names. Own choice.
-use Rattle.std.specs.Prelude.{ℕ, List, [], ◌∷◌, Option, Some, None, Ok, Err, Bool, false, is_none, nat_eq, string_bytes}
+use Rattle.std.specs.Prelude.{◌≡◌, ◌<◌, ◌≤◌, ℕ, List, [], ◌∷◌, length, Option, Some, None, Ok, Err, Bool, false, is_none, nat_eq, string_bytes}
 use Rattle.std.specs.List.{position}
 use Rattle.std.specs.Cmp.Lexicographic.{pointwise}
 use Rattle.net_model.specs.declared.edit.PathEntry.{PathEntry}
 use Rattle.net_model.specs.Networks.{Net, NetServer, NetFlow}
-use Rattle.net_edits.specs.Refusals.{unknown_name, Or, and_then}
+use Rattle.net_edits.specs.Refusals.{Refusal, unknown_name, Or, and_then}
 
 abbrev pub same_name : List ℕ → List ℕ → Bool
 same_name = pointwise nat_eq
@@ -37,6 +37,16 @@ abbrev pub server_numbers : Net → List PathEntry → Or (List ℕ)
 server_numbers net [] = Ok []
 server_numbers net (entry ∷ entries) =
     and_then (server_number net (string_bytes entry.server)) (λ number. before number (server_numbers net entries))
+
+-- each server of the path is known, and these are their numbers; or they are more than a path may have
+pub record IsShortPath (net : Net) (path : List PathEntry) (numbers : List ℕ) : Type 0 where
+  pub are : server_numbers net path ≡ Ok numbers
+  pub few : length path ≤ 16
+
+pub record IsLongPath (net : Net) (path : List PathEntry) : Type 0 where
+  pub numbers : List ℕ
+  pub are : server_numbers net path ≡ Ok numbers
+  pub many : 16 < length path
 
 -- no live flow has the name
 abbrev pub is_free : Net → List ℕ → Bool

@@ -1,5 +1,5 @@
 -- What calls that edit may answer. Own choice.
-use Rattle.std.specs.Prelude.{◌≡◌, Option, Some, None, Result, Ok, Err, string_bytes}
+use Rattle.std.specs.Prelude.{◌≡◌, ℕ, List, Option, Some, None, Result, Ok, Err, string_bytes}
 use Rattle.upp_limits.specs.declared.own_limits.OverLimit.{OverLimit}
 use Rattle.upp_limits.specs.declared.own_limits.OverLimit.TheVariants as limit
 use Rattle.upp_limits.specs.OwnLimits.{IsOver, IsWithinOwn}
@@ -7,7 +7,7 @@ use Rattle.net_model.specs.Networks.{Net}
 use Rattle.net_cells.specs.declared.cell.Cell.{Cell}
 use Rattle.net_edits.specs.declared.fault.EditFault.{EditFault}
 use Rattle.net_edits.specs.declared.fault.EditFault.TheVariants.{UnknownName, NameTaken, BadValue, LimitReached, Cycle, TooMany, TooWide, NothingToUndo, NoMemory}
-use Rattle.net_edits.specs.Refusals.{unknown_name, name_taken, bad_value, no_number_left, Or}
+use Rattle.net_edits.specs.Refusals.{Refusal, unknown_name, name_taken, bad_value, no_number_left, nothing_to_undo, Or}
 use Rattle.net_edits.specs.Edited.{MadeCurve, Edited}
 
 -- ---- refusals
@@ -69,10 +69,18 @@ pub record IsEditOver (r : Or Edited) (cell : Cell) (which : OverLimit) : Type 0
   pub is : r ≡ Ok edited
   pub over : IsMadeOver edited.made cell which
 
--- no limit is a cause to refuse the edit: where there would be an edited network, its curve is over none
+-- no limit is a cause to refuse the edit: where there would be an edited network, its curve is over none; and there is
+-- a number left for one flow more
+abbrev pub IsNoLimit : Refusal → Type 0
+IsNoLimit (unknown_name name) = Unit {0}
+IsNoLimit (name_taken name) = Unit {0}
+IsNoLimit bad_value = Unit {0}
+IsNoLimit no_number_left = ⊥
+IsNoLimit nothing_to_undo = Unit {0}
+
 abbrev pub IsOverNone : Or Edited → Type 0
 IsOverNone (Ok edited) = IsMadeWithin edited.made
-IsOverNone (Err refusal) = Unit {0}
+IsOverNone (Err refusal) = IsNoLimit refusal
 
 -- what an edit of one network answers: the network; the first refusal; or the limit that its curve is over
 abbrev pub IsReply : Or Edited → Result Net EditFault → Type 0

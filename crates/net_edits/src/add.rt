@@ -5,7 +5,7 @@ ghost use Rattle.rational.specs.Rational.{◌≤ℚ◌};
 ghost use Rattle.min_plus.specs.Functions.{zero_q};
 ghost use Rattle.net_model.specs.Views.{flow_of};
 ghost use Rattle.net_edits.specs.Edited as spec;
-ghost use Rattle.net_edits.specs.Replies.{IsReply};
+ghost use Rattle.net_edits.specs.Replies.{IsReply, IsOverNone};
 
 use crate::fault::EditFault;
 use crate::flow_edits::bucket_of;
@@ -25,17 +25,17 @@ fn new_flow(
     name: &str,
     bits: u32,
     bucket: (Frac, Frac),
-    path: Vec<u32>,
-    lanes: Vec<u32>,
+    path: &[u32],
+    lanes: &[u32],
 ) -> Result<Flow, AllocError>
     requires burst { zero_q ≤ℚ bucket.0 }
     requires rate { zero_q ≤ℚ bucket.1 }
-    ensures { IfOk result (λ f. flow_of f ≡ spec.new_flow name.now bits bucket.0 bucket.1 path.items lanes.items) }
+    ensures { IfOk result (λ f. flow_of f ≡ spec.new_flow name.now bits bucket.0 bucket.1 path.now lanes.now) }
 {
     Ok(Flow {
         name: String::from_str(alloc, name)?,
-        path,
-        queues: lanes,
+        path: Vec::from_slice(alloc, path)?,
+        queues: Vec::from_slice(alloc, lanes)?,
         packet: bits,
         arrival: bucket_of(alloc, bucket.0, bucket.1)?,
     })
@@ -50,12 +50,17 @@ pub(crate) fn add_edited(
     bucket: (Frac, Frac),
     entries: &[PathEntry],
 ) -> Result<Network, EditFault>
-    ensures { IsReply (spec.add_edited net.now name.now bits bucket.0 bucket.1 entries.now) result }
+    ensures reply { IsReply (spec.add_edited net.now name.now bits bucket.0 bucket.1 entries.now) result }
+    ensures memory { result ≡ Err EditFault.NoMemory →
+        IsOverNone (spec.add_edited net.now name.now bits bucket.0 bucket.1 entries.now) }
 {
-    let path = server_numbers(alloc, net, entries)?;
+    let found = server_numbers(alloc, net, entries)?;
     if !is_free(net, name) {
         return Err(EditFault::NameTaken(String::from_str(alloc, name)?));
     }
+    let Some(path) = found else {
+        return Err(EditFault::BadValue);
+    };
     if !is_name(name) {
         return Err(EditFault::BadValue);
     }
@@ -66,7 +71,7 @@ pub(crate) fn add_edited(
         return Err(EditFault::BadValue);
     }
     let bits = length_of(bits)?;
-    let lanes = entry_queues(alloc, entries)?;
+    let lanes = entry_queues(entries);
     if !may_be_path(net, &path, &lanes) {
         return Err(EditFault::BadValue);
     }
@@ -76,6 +81,6 @@ pub(crate) fn add_edited(
     if net.flows().len() >= MOST_FLOWS {
         return Err(EditFault::LimitReached);
     }
-    let flow = new_flow(alloc, name, bits, bucket, path, lanes)?;
+    let flow = new_flow(alloc, name, bits, bucket, &path, &lanes)?;
     Ok(with_more(net, flow)?)
 }

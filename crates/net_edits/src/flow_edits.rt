@@ -139,12 +139,12 @@ pub(crate) fn packet_edited(
     Ok(with_flow(net, number, Some(flow))?)
 }
 
-fn with_path(flow: &Flow, path: Vec<u32>, lanes: Vec<u32>) -> Result<Flow, AllocError>
-    ensures { IfOk result (λ f. Some (flow_of f) ≡ changed.with_path path.items lanes.items (flow_of flow.now)) }
+fn with_path(alloc: Global, flow: &Flow, path: &[u32], lanes: &[u32]) -> Result<Flow, AllocError>
+    ensures { IfOk result (λ f. Some (flow_of f) ≡ changed.with_path path.now lanes.now (flow_of flow.now)) }
 {
     let mut copy = flow.copy()?;
-    copy.path = path;
-    copy.queues = lanes;
+    copy.path = Vec::from_slice(alloc, path)?;
+    copy.queues = Vec::from_slice(alloc, lanes)?;
     Ok(copy)
 }
 
@@ -158,8 +158,10 @@ pub(crate) fn route_edited(
     ensures { IsReply (spec.route_edited net.now name.now entries.now) result }
 {
     let number = flow_number(alloc, net, name)?;
-    let path = server_numbers(alloc, net, entries)?;
-    let lanes = entry_queues(alloc, entries)?;
+    let Some(path) = server_numbers(alloc, net, entries)? else {
+        return Err(EditFault::BadValue);
+    };
+    let lanes = entry_queues(entries);
     let old = flow_of_number(net, number);
     if !may_be_path(net, &path, &lanes) {
         return Err(EditFault::BadValue);
@@ -167,7 +169,7 @@ pub(crate) fn route_edited(
     if !fits_along(net.servers(), old.packet, &path, &lanes) {
         return Err(EditFault::BadValue);
     }
-    let flow = with_path(old, path, lanes)?;
+    let flow = with_path(alloc, old, &path, &lanes)?;
     Ok(with_flow(net, number, Some(flow))?)
 }
 

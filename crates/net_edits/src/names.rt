@@ -1,14 +1,18 @@
 //! The servers and flows that an edit names.
 
-ghost use Rattle.std.specs.Prelude.{◌≡◌, ◌<◌, length, slice_get, IsSome, IfOk, IfErr};
+ghost use Rattle.std.specs.Prelude.{◌≡◌, ◌<◌, ◌≤◌, ◌++◌, ◌∷◌, [], List, ℕ, length, take, slice_get, IsSome, IfOk, IfErr, MatchOption};
+ghost use Rattle.arrayvec.specs.ArrayVec.{array_vec_len};
 ghost use Rattle.net_model.specs.Accepted.{IsAccepted, IsServer, IsFlow};
 ghost use Rattle.net_model.specs.Views.{server_of, flow_of};
 ghost use Rattle.net_cells.specs.Numbered.{flow_at};
 ghost use Rattle.net_edits.specs.Lookups as spec;
+ghost use Rattle.net_edits.specs.Lookups.{IsShortPath, IsLongPath};
 ghost use Rattle.net_edits.specs.Refusals.{unknown_name};
 ghost use Rattle.net_edits.specs.Replies.{Tells, Refuses};
 
 use crate::fault::EditFault;
+use crate::ways::MOST_HOPS;
+use arrayvec::ArrayVec;
 use net_cells::live_flow;
 use net_model::{Flow, Network, PathEntry, Server};
 use std::alloc::Global;
@@ -39,21 +43,39 @@ pub(crate) fn flow_number(alloc: Global, net: &Network, name: &str) -> Result<u3
     }
 }
 
-/// The numbers of the servers of a path.
+// One number more, where there is room for it.
+fn push_first(numbers: &mut ArrayVec<u32, MOST_HOPS>, number: u32)
+    requires { array_vec_len numbers.old ≤ 16 }
+    ensures { numbers.new.items ≡ take 16 (numbers.old.items ++ number ∷ []) }
+{
+    if numbers.len() < MOST_HOPS {
+        numbers.push(number);
+    }
+}
+
+/// The numbers of the servers of a path, or none where they are more than a path may have. It takes memory only to tell
+/// a name of no server.
 pub(crate) fn server_numbers(
     alloc: Global,
     net: &Network,
     path: &[PathEntry],
-) -> Result<Vec<u32>, EditFault>
-    ensures numbers { IfOk result (λ v. spec.server_numbers net.now path.now ≡ Ok v.items) }
+) -> Result<Option<ArrayVec<u32, MOST_HOPS>>, EditFault>
+    ensures numbers { IfOk result (λ found. MatchOption found (IsLongPath net.now path.now)
+        (λ v. IsShortPath net.now path.now v.items)) }
     ensures refused { IfErr result (Refuses (spec.server_numbers net.now path.now)) }
+    ensures unknown { IfErr result (λ _. (name : List ℕ)
+        × (spec.server_numbers net.now path.now ≡ Err (unknown_name name))) }
 {
-    let mut numbers = Vec::with_capacity(alloc, path.len())?;
+    let mut numbers = ArrayVec::new();
     for entry in path {
         let number = server_number(alloc, net, &entry.server)?;
-        numbers.push(number)?;
+        push_first(&mut numbers, number);
     }
-    Ok(numbers)
+    if path.len() > MOST_HOPS {
+        Ok(None)
+    } else {
+        Ok(Some(numbers))
+    }
 }
 
 /// Whether no live flow has a name.

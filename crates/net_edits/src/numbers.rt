@@ -1,6 +1,6 @@
 //! Tests of the values of an edit.
 
-ghost use Rattle.std.specs.Prelude.{◌≡◌};
+ghost use Rattle.std.specs.Prelude.{◌≡◌, IfErr};
 ghost use Rattle.net_model.specs.Accepted.{HasFewQueues};
 ghost use Rattle.net_model.specs.Views.{discipline_of};
 ghost use Rattle.net_edits.specs.Edited as spec;
@@ -36,7 +36,8 @@ pub(crate) fn is_positive(x: Frac) -> bool
 
 /// The bits of a packet or a quantum.
 pub(crate) fn length_of(bits: i64) -> Result<u32, EditFault>
-    ensures { Tells (values.whole_that values.is_length bits) result }
+    ensures bits { Tells (values.whole_that values.is_length bits) result }
+    ensures bad { IfErr result (λ fault. fault ≡ EditFault.BadValue) }
 {
     if 1 <= bits && bits <= MOST_BITS {
         Ok(bits as u32)

@@ -1,21 +1,27 @@
 //! Paths of an edit.
 
-ghost use Rattle.std.specs.Prelude.{◌≡◌, ◌≤◌, length, nat_eq, IfOk};
+ghost use Rattle.std.specs.Prelude.{◌≡◌, ◌≤◌, length, nat_eq};
 ghost use Rattle.std.specs.List.{list_any};
 ghost use Rattle.net_edits.specs.Values as spec;
 ghost use Rattle.net_model.specs.Plain as plain;
 
+use arrayvec::ArrayVec;
 use net_cells::queues;
 use net_model::{Network, PathEntry};
-use std::alloc::{AllocError, Global};
 
-const MOST_HOPS: usize = 16;
+/// How many servers a path may have.
+pub(crate) const MOST_HOPS: usize = 16;
 
-/// The queues along a path.
-pub(crate) fn entry_queues(alloc: Global, path: &[PathEntry]) -> Result<Vec<u32>, AllocError>
-    ensures { IfOk result (λ v. v.items ≡ spec.entry_queues path.now) }
+/// The queues along a path of no more servers than a path may have.
+pub(crate) fn entry_queues(path: &[PathEntry]) -> ArrayVec<u32, MOST_HOPS>
+    requires { length path.now ≤ 16 }
+    ensures { result.items ≡ spec.entry_queues path.now }
 {
-    path.iter().map(|entry| entry.queue).collect(alloc)
+    let mut queues = ArrayVec::new();
+    for entry in path {
+        queues.push(entry.queue);
+    }
+    queues
 }
 
 fn is_among(number: u32, numbers: &[u32]) -> bool
