@@ -1,5 +1,5 @@
 -- The packets that arrive at a server of a lawful run: each is of a live flow that passes the server, and keeps its flow's size.
-use Rattle.std.specs.Prelude.{◌≡◌, ◌<◌, ℕ, ◌==◌, List, [], ◌∷◌, ◌++◌, length}
+use Rattle.std.specs.Prelude.{◌≡◌, ◌<◌, ◌≤◌, ℕ, true, ◌==◌, List, [], ◌∷◌, ◌++◌, length}
 use Rattle.std.proofs.Common.{arith, sym, ap, ◌∙◌, refl, inl, inr, subst}
 use Rattle.std.proofs.lemmas.Bool.{cases_Bool, eqb-true}
 use Rattle.rational.specs.Rational.{ℚ}
@@ -16,7 +16,7 @@ use Rattle.run_laws.proofs.Entries.{entry_last, EachDue, each_due_at, passes_fir
 use Rattle.run_laws.proofs.Totals.{queue_keeps_total}
 use Rattle.net_laws.specs.Multicast.{NextServers, next_run_by, AllAllowedBy, IsLawfulBy, StaysInside}
 use Rattle.tree_runs.specs.Trees.{TreeRoutes, flat, next_servers, IsLawfulTree}
-use Rattle.tree_runs.specs.Packets.{KeepsTreeSizes, IsOfTree, PacketsAreOfTrees, TreeQueueKeepsTotal}
+use Rattle.tree_runs.specs.Packets.{KeepsTreeSizes, IsOfTree, PacketsAreOfTrees, TreeQueuesKeepSizes, TreeQueueKeepsTotal}
 use Rattle.net_laws.proofs.Dues.{IsDueBy, due_next_by}
 use Rattle.tree_runs.proofs.Trees.{hops_are, live_is, stays_inside}
 
@@ -96,6 +96,14 @@ packets_are_of_trees net run packet s lawful sizes =
       its_queue = p.its_queue ∙ ap (queue_at s) (hops_are net c.flow);
       small = p.small;
     }) (view (flat net) run s) (tree_passing_at net run packet s lawful sizes)
+
+pub tree_queues_keep_sizes : TreeQueuesKeepSizes
+tree_queues_keep_sizes net run packet s test bits lawful sizes small =
+    arrivals_map (IsOfTree net packet s) (λ c. test c.queue ≡ true → c.bits ≤ bits)
+    (λ c own e.
+    let most = small c.flow own.is_live own.passes (subst (λ (q : ℕ). test q ≡ true) own.its_queue e) in
+    let its = own.small in
+    omega arith) (view (flat net) run s) (packets_are_of_trees net run packet s lawful sizes)
 
 pub tree_queue_keeps_total : TreeQueueKeepsTotal
 tree_queue_keeps_total net run packet s q α lawful sizes keeps =

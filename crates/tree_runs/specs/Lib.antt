@@ -5,6 +5,7 @@ pub mod Branches
 pub mod Unbranched
 pub mod Packets
 pub mod Bounded
+pub mod BoundedByParts
 pub mod Parts
 pub mod Examples
 pub mod Buckets

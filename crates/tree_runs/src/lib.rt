@@ -5,12 +5,13 @@
 #![tactic(auto)]
 
 ghost use Rattle.tree_runs.specs.Bounded.{TreesAreBounded, TreesAreBoundedByQueues};
+ghost use Rattle.tree_runs.specs.BoundedByParts.{TreesAreBoundedByParts};
 ghost use Rattle.tree_runs.specs.Branches.{BranchDelayFromHops, BranchDelayFromService};
 ghost use Rattle.tree_runs.specs.Examples.{OverAFork};
 ghost use Rattle.tree_runs.specs.Laws.{TreeViewsAreLawful, TreeLinkCarries, TreeNextKeeps, TreeNoneArrivesTwice, TreeClassLeavesByDelay};
 ghost use Rattle.tree_runs.specs.Buckets.{BucketsGrow};
 ghost use Rattle.tree_runs.specs.Orders.{TreeKeptEverywhere};
-ghost use Rattle.tree_runs.specs.Packets.{PacketsAreOfTrees, TreeQueueKeepsTotal};
+ghost use Rattle.tree_runs.specs.Packets.{PacketsAreOfTrees, TreeQueuesKeepSizes, TreeQueueKeepsTotal};
 ghost use Rattle.tree_runs.specs.Parts.{TreeGroupIsCut, TreePartsAreKept};
 ghost use Rattle.tree_runs.specs.Unbranched.{UnbranchedTreesArePaths, PathsAreTrees};
 
@@ -105,10 +106,22 @@ pub fn branch_delay_from_service()
     ensures { BranchDelayFromService }
 {}
 
-/// The same by queues: where each server bounds its queues' delays by the curves that its flows keep, and the curves grow
-/// along the trees by these delays, all hold, and so do the branches' sums of delays and links.
+/// The same by queues: where each server bounds its queues' delays and backlogs by the curves that its flows keep, and
+/// the curves grow along the trees by these delays, all hold, and so do the branches' sums of delays and links.
 pub fn trees_are_bounded_by_queues()
     ensures { TreesAreBoundedByQueues }
+{}
+
+/// The same by parts: where each server bounds its queues by the sums of parts that these keep, those over a link cut by
+/// the pace of the server before.
+pub fn trees_are_bounded_by_parts()
+    ensures { TreesAreBoundedByParts }
+{}
+
+/// The packets in some queues of a server, as one or all after one, are no longer than the longest packets of the flows
+/// in them.
+pub fn tree_queues_keep_sizes()
+    ensures { TreeQueuesKeepSizes }
 {}
 
 /// Where the curves are token buckets, the bursts have to grow along the trees by the rate times the queue's delay.
