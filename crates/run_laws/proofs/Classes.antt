@@ -5,10 +5,12 @@ use Rattle.std.proofs.Common.{sym, ap, ◌∙◌, refl, inl, inr, subst}
 use Rattle.std.proofs.lemmas.Bool.{cases_Bool, eqb-true, eq-eqb, and_parts, and_from, and_right}
 use Rattle.min_plus.specs.rational.specs.Rational.{ℚ, int, ◌-ℚ◌, ◌≤ℚ◌}
 use Rattle.min_plus.specs.rational.specs.Extended.{Ext, ◌≤ₑ◌}
+use Rattle.min_plus.specs.rational.specs.declared.Extended.TheVariants.{Fin, Inf}
 use Rattle.min_plus.specs.rational.specs.declared.Extended.TheVariants.{Fin}
 use Rattle.min_plus.specs.Functions.{IsRising}
 use Rattle.min_plus.specs.Pointwise.{shifted}
 use Rattle.min_plus.specs.Deviations.{IsHorizontalDeviation}
+use Rattle.min_plus.proofs.Deviations.{within_deviation, deviation_nonneg}
 use Rattle.run_laws.specs.Runs.{SpecRun}
 use Rattle.run_laws.specs.Cards.{Card, Class, of_flow, of_queue, ServerStep, Arrives, Works, Leaves, Visits}
 use Rattle.run_laws.specs.Servers.{Discipline, Server, Under, Round, ServerState, head_of, without_head, start}
@@ -19,13 +21,14 @@ use Rattle.run_laws.specs.Premises.{EachArrival, KeepsArrivals, NoneTwice}
 use Rattle.run_laws.specs.Classes.{IsOfQueue, IsPart, AreParts}
 use Rattle.run_laws.specs.Serves.{Serves}
 use Rattle.run_laws.specs.Delays.{hop_delays, AreAtMost}
+use Rattle.run_laws.specs.Waits.{IsReachedAfter}
 use Rattle.run_laws.specs.Routes.{Routes, route_of, queue_at}
 use Rattle.run_laws.specs.Views.{view}
 use Rattle.run_laws.proofs.Heads.{same_some, pick_is_head}
 use Rattle.run_laws.proofs.Arrivals.{arrivals_map, arrivals_both}
 use Rattle.run_laws.proofs.Always.{IsAlwaysOfQueue, AreAlwaysParts}
 use Rattle.run_laws.proofs.Seen.{EachCard, arriving_cards, IsInOwnQueue, in_own_queues, Agree, agree_back, keeps_same, serves_same, same_delays, same_departed_in}
-use Rattle.run_laws.proofs.Delay.{delay_always}
+use Rattle.run_laws.proofs.Delay.{each_delay, none_above_infinity}
 use Rattle.run_laws.proofs.Shifted.{part_output_always, delay_output_always}
 
 -- ---- what holds of each packet that arrives holds of each that is worked on or leaves
@@ -161,15 +164,23 @@ cut_other_agrees server end V Q f g q lawful own parts =
     (arrivals_both (λ c. Q c ≡ (f c || g c)) (λ c. (f c && g c) ≡ false) V parts.of_one parts.apart)))
 
 -- ---- the laws
+pub delay_from_wait : (server : Server) (end : ℚ) (V : List ServerStep) (C : Class) (q : ℕ) (α β : ℚ → Ext) (d : ℚ)
+    → IsLawfulView server end V → IsOfQueue C q V → KeepsArrivals C α V → Serves C β end V → int (pos 0) ≤ℚ d
+    → IsReachedAfter α β d → AreAtMost (Fin d) (hop_delays C end V)
+delay_from_wait server end V C q α β d lawful own keeps serves on reached =
+    let same = cut_agrees server end V C q lawful own in
+    let back = agree_back (cut C q) C V same in
+    subst (AreAtMost (Fin d)) (same_delays (cut C q) C end V same)
+    (each_delay server end V [] V (cut C q) q α β d lawful refl (cut_queue C q) (serves_same C (cut C q) β end V back serves)
+    (keeps_same C (cut C q) α V back keeps) on reached)
+
 pub delay_from_service : (server : Server) (end : ℚ) (V : List ServerStep) (C : Class) (q : ℕ) (α β : ℚ → Ext)
     (delay : Ext) → IsLawfulView server end V → IsOfQueue C q V → KeepsArrivals C α V → Serves C β end V
     → IsRising β → IsHorizontalDeviation α β delay → AreAtMost delay (hop_delays C end V)
-delay_from_service server end V C q α β delay lawful own keeps serves rises dev =
-    let same = cut_agrees server end V C q lawful own in
-    let back = agree_back (cut C q) C V same in
-    subst (AreAtMost delay) (same_delays (cut C q) C end V same)
-    (delay_always server end V (cut C q) q α β delay lawful (cut_queue C q) (keeps_same C (cut C q) α V back keeps)
-    (serves_same C (cut C q) β end V back serves) rises dev)
+delay_from_service server end V C q α β Inf lawful own keeps serves rises dev = none_above_infinity (hop_delays C end V)
+delay_from_service server end V C q α β (Fin d) lawful own keeps serves rises dev =
+    delay_from_wait server end V C q α β d lawful own keeps serves (deviation_nonneg α β d dev)
+    (within_deviation α β d rises dev)
 
 pub part_output_from_service : (server : Server) (end : ℚ) (V : List ServerStep) (Q f : Class) (q : ℕ)
     (α β own : ℚ → Ext) (d : Ext) (s t : ℚ) → IsLawfulView server end V → IsOfQueue Q q V → IsPart f Q V

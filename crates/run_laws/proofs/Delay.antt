@@ -150,7 +150,7 @@ pub kept_rest : (b : Bool) (x : ℚ) (xs : List ℚ) (most : Ext) → AreAtMost 
 kept_rest true x xs most h = h.1
 kept_rest false x xs most h = h
 
-each_delay : (server : Server) (end : ℚ) (V front back : List ServerStep) (C : Class) (q : ℕ) (α β : ℚ → Ext) (delay : ℚ)
+pub each_delay : (server : Server) (end : ℚ) (V front back : List ServerStep) (C : Class) (q : ℕ) (α β : ℚ → Ext) (delay : ℚ)
     → IsLawfulView server end V → V ≡ front ++ back → IsAlwaysOfQueue C q
     → Serves C β end V → KeepsArrivals C α V → int (pos 0) ≤ℚ delay → Within α β delay → AreAtMost (Fin delay) (hop_delays C end back)
 each_delay server end V front [] C q α β delay lawful joined g serves keeps on within = tt
@@ -175,3 +175,10 @@ pub delay_always : (server : Server) (end : ℚ) (V : List ServerStep) (C : Clas
 delay_always server end V C q α β Inf lawful g keeps serves rises dev = none_above_infinity (hop_delays C end V)
 delay_always server end V C q α β (Fin delay) lawful g keeps serves rises dev =
     each_delay server end V [] V C q α β delay lawful refl g serves keeps (deviation_nonneg α β delay dev) (within_deviation α β delay rises dev)
+
+-- where the service never falls, one wait is enough
+pub one_wait_is_enough : (α β : ℚ → Ext) (d : ℚ) → int (pos 0) ≤ℚ d → IsRising β
+    → ((t : ℚ) → int (pos 0) ≤ℚ t → α t ≤ₑ β (t +ℚ d)) → Within α β d
+one_wait_is_enough α β d on rises reached t wait low l =
+    le_ext_trans (α t) (β (t +ℚ d)) (β (t +ℚ wait)) (reached t low)
+    (rises (t +ℚ d) (t +ℚ wait) (with2 t d (λ c. omega (arith, c.le, c.lt, c.same))) (with3 t d wait (λ c. omega (arith, c.le, c.lt, c.same))))

@@ -42,3 +42,4 @@ pub mod Rounds
 pub mod Seen
 pub mod Classes
 pub mod Closures
+pub mod Weaker

@@ -1,5 +1,5 @@
 -- What one server sees: packets that arrive, work on them, packets that leave, and visits of its queues.
-use Rattle.std.specs.Prelude.{ℕ, pos, Bool, true, ◌==◌, ltb, leb}
+use Rattle.std.specs.Prelude.{ℕ, Bool, true, ◌==◌, ltb, leb}
 use Rattle.min_plus.specs.rational.specs.Rational.{ℚ}
 pub use Rattle.min_plus.specs.Functions.{whole}
 

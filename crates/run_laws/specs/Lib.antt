@@ -16,6 +16,8 @@ pub mod Lawful
 pub mod FlowDelays
 pub mod RunPremises
 pub mod Closures
+pub mod Weaker
+pub mod Waits
 pub mod Bounds
 pub mod Totals
 pub mod Laws

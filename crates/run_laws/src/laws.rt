@@ -1,4 +1,6 @@
 ghost use Rattle.run_laws.specs.Closures.{ClosureIsKept, ClosuresKeepPremises};
+ghost use Rattle.run_laws.specs.Waits.{DelayFromWait, OneWaitIsEnough, BacklogFromGap};
+ghost use Rattle.run_laws.specs.Weaker.{GreaterIsKept, WeakerPremisesAreKept, LesserIsKept, LesserServes, LesserServesPackets};
 ghost use Rattle.run_laws.specs.Laws.{FlowIsOfOneQueue, FlowIsPart};
 ghost use Rattle.run_laws.specs.Laws.{ServerIsServed, FifoQueueIsServed, PacketsAreServed, DelayFromService, BacklogFromService, OutputFromService, PartOutputFromService, OutputFromDelay, ViewsAreLawful, OneFlowIsBounded, SeveralFlowsAreBounded};
 
@@ -25,6 +27,19 @@ pub fn delay_from_service()
 /// The backlog of a class is at most the vertical deviation of its curves, whole packets counted.
 pub fn backlog_from_service()
     ensures { BacklogFromService }
+{}
+
+/// No packet of a class of one queue stays longer than d, where after each longer wait the curve that serves the class is at
+/// least where its arrival curve was; where the former never falls, the wait d is enough.
+pub fn delay_from_wait()
+    ensures delay { DelayFromWait }
+    ensures one_wait { OneWaitIsEnough }
+{}
+
+/// The backlog of a class is no more than its arrival curve is anywhere above the curve that serves it, whole packets
+/// counted.
+pub fn backlog_from_gap()
+    ensures { BacklogFromGap }
 {}
 
 /// What leaves in a closed window is at most the deconvolution of the curves, whole packets counted.
@@ -60,6 +75,20 @@ pub fn flow_is_of_one_queue()
 pub fn closure_is_kept()
     ensures arrivals { ClosureIsKept }
     ensures premises { ClosuresKeepPremises }
+{}
+
+/// Who keeps an arrival curve keeps each that is nowhere below it: a class of packets that arrive at a server, and the flows
+/// of a run, whose servers then also keep each service curve that is nowhere above theirs.
+pub fn who_keeps_keeps_greater()
+    ensures arrivals { GreaterIsKept }
+    ensures premises { WeakerPremisesAreKept }
+{}
+
+/// What a service curve promises, each that is nowhere above it does: of a server, of a class, of its whole packets.
+pub fn who_serves_serves_lesser()
+    ensures server { LesserIsKept }
+    ensures class { LesserServes }
+    ensures packets { LesserServesPackets }
 {}
 
 /// One flow over a first in, first out server: no delay and no backlog passes the two deviations.

@@ -17,9 +17,9 @@ pub use examples::{
     visits_go_by_the_list, work_past_the_bits_is_refused,
 };
 pub use laws::{
-    backlog_from_service, closure_is_kept, delay_from_service, fifo_queue_is_served,
-    flow_is_of_one_queue, one_flow_is_bounded, output_from_delay, output_from_service,
-    packets_are_served, part_output_from_service, server_is_served, several_flows_are_bounded,
-    views_are_lawful,
+    backlog_from_gap, backlog_from_service, closure_is_kept, delay_from_service, delay_from_wait,
+    fifo_queue_is_served, flow_is_of_one_queue, one_flow_is_bounded, output_from_delay,
+    output_from_service, packets_are_served, part_output_from_service, server_is_served,
+    several_flows_are_bounded, views_are_lawful, who_keeps_keeps_greater, who_serves_serves_lesser,
 };
 pub use steps::{Run, Step};
