@@ -10,3 +10,4 @@ pub mod Parts
 pub mod Unbranched
 pub mod Examples
 pub mod Buckets
+pub mod Stairs

@@ -9,3 +9,4 @@ pub mod BoundedByParts
 pub mod Parts
 pub mod Examples
 pub mod Buckets
+pub mod Stairs

@@ -13,6 +13,7 @@ ghost use Rattle.tree_runs.specs.Buckets.{BucketsGrow};
 ghost use Rattle.tree_runs.specs.Orders.{TreeKeptEverywhere};
 ghost use Rattle.tree_runs.specs.Packets.{PacketsAreOfTrees, TreeQueuesKeepSizes, TreeQueueKeepsTotal};
 ghost use Rattle.tree_runs.specs.Parts.{TreeGroupIsCut, TreePartsAreKept};
+ghost use Rattle.tree_runs.specs.Stairs.{StairsGrow};
 ghost use Rattle.tree_runs.specs.Unbranched.{UnbranchedTreesArePaths, PathsAreTrees};
 
 /// What each server sees of a lawful run over trees is a lawful view, so that each law of one server holds there.
@@ -30,12 +31,6 @@ pub fn tree_next_keeps()
     ensures { TreeNextKeeps }
 {}
 
-/// In a network of trees without a cycle in which each server passes its flows' curves on, all flows keep theirs at
-/// every server.
-pub fn tree_kept_everywhere()
-    ensures { TreeKeptEverywhere }
-{}
-
 /// Where each live flow has a tree, no packet arrives twice at a server.
 pub fn tree_none_arrives_twice()
     ensures { TreeNoneArrivesTwice }
@@ -47,15 +42,20 @@ pub fn tree_class_leaves_by_delay()
     ensures { TreeClassLeavesByDelay }
 {}
 
-/// A tree in which no server has two next ones is a path, and a run is lawful over such trees where it is lawful over
-/// the paths, and only there.
-pub fn unbranched_trees_are_paths()
-    ensures { UnbranchedTreesArePaths }
+/// In a network of trees without a cycle in which each server passes its flows' curves on, all flows keep theirs at
+/// every server.
+pub fn tree_kept_everywhere()
+    ensures { TreeKeptEverywhere }
 {}
 
-/// Each network of paths is one of such trees.
-pub fn paths_are_trees()
-    ensures { PathsAreTrees }
+/// Where the curves are token buckets, the bursts have to grow along the trees by the rate times the queue's delay.
+pub fn buckets_grow()
+    ensures { BucketsGrow }
+{}
+
+/// Where the curves are stairs, the jitters have to grow along the trees by the queue's delay.
+pub fn stairs_grow()
+    ensures { StairsGrow }
 {}
 
 /// No packet takes longer to the end of the link behind the last server of a branch than the sum of its flow's delays
@@ -64,22 +64,27 @@ pub fn branch_delay_from_hops()
     ensures { BranchDelayFromHops }
 {}
 
+/// No packet takes longer along a branch than the horizontal deviation of its flow's curve and the branch's service, and
+/// the links.
+pub fn branch_delay_from_service()
+    ensures { BranchDelayFromService }
+{}
+
 /// Each packet that arrives at a server is of a live flow whose tree has the server, in the queue that the tree has there,
 /// and no longer than its flow's longest packet.
 pub fn packets_are_of_trees()
     ensures { PacketsAreOfTrees }
 {}
 
+/// The packets in some queues of a server, as one or all after one, are no longer than the longest packets of the flows
+/// in them.
+pub fn tree_queues_keep_sizes()
+    ensures { TreeQueuesKeepSizes }
+{}
+
 /// A queue keeps the sum of the curves that its flows keep there.
 pub fn tree_queue_keeps_total()
     ensures { TreeQueueKeepsTotal }
-{}
-
-/// Where each server whose flows keep their curves bounds their packets' stays, and these curves grow along the trees by
-/// the stays, all flows keep their curves and stays at every server, and no packet takes longer along a branch than the
-/// sum of its flow's stays and of the links.
-pub fn trees_are_bounded()
-    ensures { TreesAreBounded }
 {}
 
 /// The flows that come to a server over one link, from a server whose pace is limited, arrive together within a bucket
@@ -94,16 +99,11 @@ pub fn tree_parts_are_kept()
     ensures { TreePartsAreKept }
 {}
 
-/// A lawful run over a tree with a fork, in which a packet goes on at both of the next servers, and one that is not lawful,
-/// in which it goes on at one alone.
-pub fn a_fork_is_passed_by_both()
-    ensures { OverAFork }
-{}
-
-/// No packet takes longer along a branch than the horizontal deviation of its flow's curve and the branch's service, and
-/// the links.
-pub fn branch_delay_from_service()
-    ensures { BranchDelayFromService }
+/// Where each server whose flows keep their curves bounds their packets' stays, and these curves grow along the trees by
+/// the stays, all flows keep their curves and stays at every server, and no packet takes longer along a branch than the
+/// sum of its flow's stays and of the links.
+pub fn trees_are_bounded()
+    ensures { TreesAreBounded }
 {}
 
 /// The same by queues: where each server bounds its queues' delays and backlogs by the curves that its flows keep, and
@@ -118,13 +118,19 @@ pub fn trees_are_bounded_by_parts()
     ensures { TreesAreBoundedByParts }
 {}
 
-/// The packets in some queues of a server, as one or all after one, are no longer than the longest packets of the flows
-/// in them.
-pub fn tree_queues_keep_sizes()
-    ensures { TreeQueuesKeepSizes }
+/// A tree in which no server has two next ones is a path, and a run is lawful over such trees where it is lawful over
+/// the paths, and only there.
+pub fn unbranched_trees_are_paths()
+    ensures { UnbranchedTreesArePaths }
 {}
 
-/// Where the curves are token buckets, the bursts have to grow along the trees by the rate times the queue's delay.
-pub fn buckets_grow()
-    ensures { BucketsGrow }
+/// Each network of paths is one of such trees.
+pub fn paths_are_trees()
+    ensures { PathsAreTrees }
+{}
+
+/// A lawful run over a tree with a fork, in which a packet goes on at both of the next servers, and one that is not lawful,
+/// in which it goes on at one alone.
+pub fn a_fork_is_passed_by_both()
+    ensures { OverAFork }
 {}
