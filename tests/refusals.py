@@ -197,7 +197,7 @@ kind = 'list'
 piece = [{ x = 0, at = 0 }, { x = 1, at = 0, after = 0, slope = 3 }]
 [[server]]
 name = 'plain'
-rate = 7
+rate = 16777216
 """,
     """
 server = [
@@ -205,7 +205,7 @@ server = [
   { name = "s2", rate = "201/2", service = { kind = "gate", cycle = "1000", slot = "250" }, link = "2/4", discipline = "drr", quanta = [1000, 2000] },
   { name = "s3", rate = "5/1", link = 0, discipline = "fifo", service = { kind = "list", piece = [
     { x = 0, at = 0, after = 0, slope = 0 }, { x = 1, at = 0, after = 0, slope = 3 } ] } },
-  { name = "plain", rate = 7, link = 0, discipline = "fifo", service = { kind = "latency", latency = 0 } },
+  { name = "plain", rate = 16777216, link = 0, discipline = "fifo", service = { kind = "latency", latency = 0 } },
 ]
 flow = [
   { name = "f1", packet = 1000, arrival = { kind = "bucket", burst = 3, rate = "2/4" }, path = ["s1:1", "s2:0"] },
