@@ -1,8 +1,8 @@
 #!/usr/bin/env python3
-"""Writes the cases of this folder as tests of the top call, so that one list is the source of the quick check and of the gate's.
+"""Writes the worked examples of this folder as tests of the top call, so that one list is the source of the quick check and of the gate's.
 
-`tests/to_rattle.py` writes crates/netcalc/src/cases.rt, one test function for each group; `tests/to_rattle.py --check` ends with 1
-where that file is not what it would write.
+`tests/to_rattle.py` writes crates/netcalc/src/cases.rt, one test function for each group, of the cases that tests/worked names;
+`tests/to_rattle.py --check` ends with 1 where that file is not what it would write. The quick check runs these cases and all others.
 """
 
 import pathlib
@@ -11,7 +11,7 @@ import sys
 
 HERE = pathlib.Path(__file__).resolve().parent
 TARGET = HERE.parent / "crates" / "netcalc" / "src" / "cases.rt"
-HEAD = """//! The cases of the folder tests/, written by tests/to_rattle.py: change them there.
+HEAD = """//! The cases that tests/worked names, written by tests/to_rattle.py: change them there.
 
 use crate::asking::check;
 use std::test::Fail;
@@ -45,12 +45,23 @@ def row(folder):
     )
 
 
+def worked():
+    """The folders that tests/worked names, in order, by their groups."""
+    groups = {}
+    lines = (HERE / "worked").read_text().splitlines()
+    for name in sorted(it for it in lines if it and not it.startswith("#")):
+        folder = HERE / name
+        if not (folder / "words").exists():
+            sys.exit(f"tests/worked: {name} is no case")
+        groups.setdefault(folder.parent.name, []).append(folder)
+    return groups
+
+
 def text():
     parts = [HEAD]
-    for group in sorted(it for it in HERE.iterdir() if it.is_dir() and not it.name.startswith("_")):
-        cases = sorted(it for it in group.iterdir() if (it / "words").exists())
+    for group, cases in worked().items():
         parts.append(
-            f"\n#[test]\nfn {group.name}(rt: HostRuntime) -> Result<(), Fail> {{\n    let alloc = rt.alloc();\n"
+            f"\n#[test]\nfn {group}(rt: HostRuntime) -> Result<(), Fail> {{\n    let alloc = rt.alloc();\n"
             f"    let rows: [(&str, &[(&str, &str)], u8, &str); {len(cases)}] = [\n"
             + "".join(row(it) for it in cases)
             + "    ];\n    for (line, files, status, wanted) in rows {\n        check(&rt, alloc, line, files, status, wanted)?;\n    }\n    Ok(())\n}\n"

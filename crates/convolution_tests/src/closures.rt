@@ -1,20 +1,17 @@
-//! Values worked out by hand.
+//! Which curves are subadditive, worked out by hand.
 
-ghost use Rattle.std.specs.Prelude.{◌≡◌, ◌<◌, IsTrue};
-ghost use Rattle.rational.specs.Extended.{◌≤ₑ◌};
-ghost use Rattle.upp_curve.specs.Curve.{value_at};
-ghost use Rattle.min_plus.specs.Functions.{zero_q};
+ghost use Rattle.std.specs.Prelude.{◌≡◌, ◌<◌};
 
-use fraction128::{Frac, is_less};
+use fraction128::Frac;
 use rational::Extended;
 use std::alloc::Global;
 use std::marker::Brand;
 use std::sync::ledger::{Blank, Ledger};
 use std::test::Fail;
 use steps::Steps;
-use subadd_closure::{close, is_subadditive};
-use test_curves::{bucket, curve, piece, ratio, whole};
-use upp_curve::{Curve, Tail, equal};
+use subadd_closure::is_subadditive;
+use test_curves::{bucket, curve, piece, whole};
+use upp_curve::{Curve, Tail};
 use upp_limits::OpFault;
 
 // The rate 1 after the time 1.
@@ -22,15 +19,6 @@ fn late(alloc: Global) -> Result<Curve, OpFault> {
     let list = [
         piece(0, Extended::Fin(Frac::zero()), Some((0, 0))),
         piece(1, Extended::Fin(Frac::zero()), Some((-1, 1))),
-    ];
-    curve(alloc, &list, Tail::Affine { rank: Frac::one() })
-}
-
-// The rate 1 up to the time 1, and 3 after it.
-fn bent(alloc: Global) -> Result<Curve, OpFault> {
-    let list = [
-        piece(0, Extended::Fin(Frac::zero()), Some((0, 1))),
-        piece(1, Extended::Fin(Frac::one()), Some((-2, 3))),
     ];
     curve(alloc, &list, Tail::Affine { rank: Frac::one() })
 }
@@ -77,64 +65,5 @@ fn stairs(rt: HostRuntime) -> Result<(), Fail> {
     let g = steps_up(rt.alloc(), 0, 0, whole(2), 1)?;
     assert!(rt; told::<Brand>(rt.alloc(), Blank::new(1), &f)?);
     assert!(rt; !told::<Brand>(rt.alloc(), Blank::new(1), &g)?);
-    Ok(())
-}
-
-// Whether the value at 0 is 0 or more.
-fn starts_high(f: &Curve) -> bool
-    ensures { IsTrue result → Extended.Fin zero_q ≤ₑ value_at f.now zero_q }
-{
-    match f.value_at(Frac::zero()) {
-        Ok(Extended::Fin(v)) => !is_less(v, Frac::zero()),
-        _ => false,
-    }
-}
-
-// The closure of a curve that is finite and rises from 0 or more.
-pub(crate) fn closure<L: Ledger>(alloc: Global, blank: Blank, f: &Curve) -> Result<Curve, OpFault>
-    requires name { blank.name ≡ L.name }
-    requires parts { blank.parts ≡ L.parts }
-    requires one { 0 < blank.parts }
-{
-    if !f.is_finite() {
-        return Err(OpFault::TooWide);
-    }
-    if !f.is_rising() {
-        return Err(OpFault::TooWide);
-    }
-    if !starts_high(f) {
-        return Err(OpFault::TooWide);
-    }
-    let mut steps = Steps::<L>::new(blank);
-    close(alloc, f, &mut steps)
-}
-
-#[test]
-fn slow_starts_are_what_stays(rt: HostRuntime) -> Result<(), Fail> {
-    let f = bent(rt.alloc())?;
-    let one = bucket(rt.alloc(), 0, 1)?;
-    assert!(rt; equal(&closure::<Brand>(rt.alloc(), Blank::new(1), &f)?, &one));
-    let g = late(rt.alloc())?;
-    let h = steps_up(rt.alloc(), 0, 0, whole(2), 1)?;
-    let none = bucket(rt.alloc(), 0, 0)?;
-    assert!(rt; equal(&closure::<Brand>(rt.alloc(), Blank::new(1), &g)?, &none));
-    assert!(rt; equal(&closure::<Brand>(rt.alloc(), Blank::new(1), &h)?, &none));
-    Ok(())
-}
-
-#[test]
-fn subadditive_curves_stay(rt: HostRuntime) -> Result<(), Fail> {
-    let f = bucket(rt.alloc(), 3, 2)?;
-    let g = steps_up(rt.alloc(), 1, 1, whole(2), 1)?;
-    assert!(rt; equal(&closure::<Brand>(rt.alloc(), Blank::new(1), &f)?, &f));
-    assert!(rt; equal(&closure::<Brand>(rt.alloc(), Blank::new(1), &g)?, &g));
-    Ok(())
-}
-
-#[test]
-fn a_stair_of_short_steps_has_too_many_pieces(rt: HostRuntime) -> Result<(), Fail> {
-    let f = steps_up(rt.alloc(), 1, 1, ratio(1, 1 << 21), 1)?;
-    let answer = closure::<Brand>(rt.alloc(), Blank::new(1), &f);
-    assert!(rt; matches!(answer, Err(OpFault::TooMany)));
     Ok(())
 }

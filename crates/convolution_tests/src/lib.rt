@@ -1,8 +1,6 @@
-//! Tests of convolutions, closures and of what servers leave, worked out by hand.
+//! Tests of convolutions of curves that no command makes, of what closures are made of, and of what servers leave, worked out by hand.
 #![tactic(auto)]
 
-#[cfg(test)]
-mod closings;
 #[cfg(test)]
 mod closures;
 #[cfg(test)]

@@ -39,11 +39,6 @@ fn ask(
     Ok((status, Vec::from_slice(alloc, out.bytes())?))
 }
 
-/// What a call on `n.toml` does, where it holds this text.
-fn ask_for(alloc: Global, text: &str) -> Result<(u8, Vec<u8>), Fail> {
-    ask(alloc, "netcalc analyse n.toml", text.as_bytes(), 0, 0)
-}
-
 /// A network file of one server and one flow.
 fn network(
     alloc: Global,
@@ -59,41 +54,6 @@ fn network(
     Ok(format!(in alloc;
         "{server}[[flow]]\nname = \"f1\"\npacket = {packet}\n{arrival}path = [\"s1\"]\n"
     )?)
-}
-
-#[test]
-fn one_server_and_one_flow_have_these_bounds(rt: HostRuntime) -> Result<(), Fail> {
-    let alloc = rt.alloc();
-    for (rate, latency, packet, bucket, delay, backlog) in [
-        ("100", "10", "12000", "burst = 0, rate = 1", "10", "130"),
-        ("7", "3", "5", "burst = 9, rate = 2", "30/7", "115/7"),
-        (
-            "16777216",
-            "16777216",
-            "16777216",
-            "burst = 16777216, rate = 16777216",
-            "16777217",
-            "281475010265088",
-        ),
-        (
-            "16777213",
-            "16777216",
-            "16777215",
-            "burst = 16777211, rate = 16777212",
-            "281474943156219/16777213",
-            "4722365075494744883219/16777213",
-        ),
-    ] {
-        let text = network(alloc, rate, latency, packet, bucket)?;
-        let (status, bytes) = ask_for(alloc, text.as_str())?;
-        let flow = format!(in alloc; "flow f1 tfa {delay} sfa {delay} bound {delay}\n")?;
-        let want = format!(in alloc;
-            "servers 1 flows 1\nqueue s1 0 delay {delay} backlog {backlog}\n{flow}"
-        )?;
-        assert_eq!(rt; bytes.as_slice(), want.as_bytes(), "rate {rate} {bucket}");
-        assert_eq!(rt; status, 0, "rate {rate} {bucket}");
-    }
-    Ok(())
 }
 
 #[test]
@@ -165,39 +125,38 @@ fn words_files_and_sinks_are_refused(rt: HostRuntime) -> Result<(), Fail> {
 }
 
 #[test]
-fn a_report_on_edits_is_not_written_where_the_sink_fails(rt: HostRuntime) -> Result<(), Fail> {
+fn five_hundred_rates_are_set_and_taken_back(rt: HostRuntime) -> Result<(), Fail> {
     let alloc = rt.alloc();
-    // An empty line is a network without servers, and a list without edits.
-    let line = "netcalc edit n.toml n.toml";
-    let (status, bytes) = ask(alloc, line, b"\n", 0, 1)?;
-    assert_eq!(rt; bytes.as_slice(), "".as_bytes());
-    assert_eq!(rt; status, 4);
-    let (status, bytes) = ask(alloc, line, b"\n", 0, 0)?;
-    assert_eq!(rt; bytes.as_slice(), "servers 0 flows 0\n".as_bytes());
-    assert_eq!(rt; status, 0);
-    Ok(())
-}
-
-#[test]
-fn a_script_has_at_most_256_statements(rt: HostRuntime) -> Result<(), Fail> {
-    let alloc = rt.alloc();
-    let mut script = Vec::new(alloc);
-    let mut want = Vec::new(alloc);
-    for _ in 0..256 {
-        script.extend_from_slice(b"rate zero\n")?;
-        want.extend_from_slice(b"rate 0\n")?;
+    let server = "rate = 100\nservice = { kind = \"latency\", latency = 10 }\n";
+    let arrival = "arrival = { kind = \"bucket\", burst = 12000, rate = 10 }\n";
+    let net = format!(in alloc;
+        "[[server]]\nname = \"s1\"\n{server}[[server]]\nname = \"s2\"\n{server}\
+        [[flow]]\nname = \"f1\"\npacket = 12000\n{arrival}path = [\"s1\", \"s2\"]\n"
+    )?;
+    let mut rows = String::new(alloc);
+    let mut want = String::new(alloc);
+    for number in 1u32..1001 {
+        let cells = if number <= 500 { 18 } else { 0 };
+        let line = format!(in alloc; "edit {number} ok cells {cells}\n")?;
+        want.push_str(line.as_str())?;
+        let rate = format!(in alloc; "rate,s1,{}\n", number.saturating_add(100))?;
+        rows.push_str(if number <= 500 {
+            rate.as_str()
+        } else {
+            "undo\n"
+        })?;
     }
-    let (status, bytes) = ask(alloc, "netcalc curve n.toml", &script, 0, 0)?;
-    assert_eq!(rt; bytes.as_slice(), want.as_slice());
-    assert_eq!(rt; status, 0);
-    script.extend_from_slice(b"rate zero\n")?;
-    let (status, bytes) = ask(alloc, "netcalc curve n.toml", &script, 0, 0)?;
-    assert_eq!(rt;
-        bytes.as_slice(),
-        "netcalc: n.toml: C4 line 257\n".as_bytes()
-    );
-    assert_eq!(rt; status, 1);
-    Ok(())
+    want.push_str("servers 2 flows 1\nqueue s1 0 delay 130 backlog 13300\n")?;
+    want.push_str("queue s2 0 delay 143 backlog 14600\nflow f1 tfa 273 sfa 260 bound 260\n")?;
+    let files = [("n.toml", net.as_str()), ("e.csv", rows.as_str())];
+    check(
+        &rt,
+        alloc,
+        "netcalc edit n.toml e.csv",
+        &files,
+        0,
+        want.as_str(),
+    )
 }
 
 #[test]

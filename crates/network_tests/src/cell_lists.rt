@@ -109,7 +109,7 @@ path = ['a', 'c']
 // First the flow that enters, then those that come from `a`, then the one from `b`: three sums, and two parts are cut.
 #[test]
 fn parts_go_by_the_server_before(rt: HostRuntime) -> Result<(), Fail> {
-    let net = network(rt.alloc(), &[SHARED_LINKS])?;
+    let net = network(rt.alloc(), SHARED_LINKS)?;
     let parts = [
         cell(Kind::In, 1, 0),
         cell(Kind::In, 0, 1),

@@ -4,10 +4,10 @@
 #[cfg(test)]
 mod cell_lists;
 #[cfg(test)]
-mod drafts;
-#[cfg(test)]
 mod networks;
 #[cfg(test)]
 mod orders;
 #[cfg(test)]
 mod texts;
+#[cfg(test)]
+mod words;

@@ -1,8 +1,6 @@
-//! Copies and names. What no clause says is that the words are the ones meant.
+//! A copy of a network.
 
-use fraction128::Frac;
-use net_model::{Discipline, Flow, Network, Server, Stall, Trace, TracePacket, plain_network};
-use std::alloc::{AllocError, Global};
+use net_model::{Discipline, Flow, Network, Server, plain_network};
 use std::cmp::Ordering;
 use std::process::Abort;
 use std::test::Fail;
@@ -55,62 +53,5 @@ fn a_copy_has_each_field(rt: HostRuntime) -> Result<(), Fail> {
     assert_eq!(rt; copy.servers().len(), 3);
     assert_eq!(rt; copy.flows().len(), 3);
     same_network(&rt, &net, &copy);
-    Ok(())
-}
-
-#[test]
-fn names_are_found_as_they_are_spelt(rt: HostRuntime) -> Result<(), Fail> {
-    let net = plain_network(rt.alloc(), 2, &[&[0], &[0, 1], &[1]])?;
-    assert_eq!(rt; net.server_named("a"), Some(0));
-    assert_eq!(rt; net.server_named("b"), Some(1));
-    assert_eq!(rt; net.server_named("c"), None);
-    assert_eq!(rt; net.server_named("B"), None);
-    assert_eq!(rt; net.server_named(""), None);
-    assert_eq!(rt; net.flow_named("c"), Some(2));
-    assert_eq!(rt; net.flow_named("C"), None);
-    assert_eq!(rt; net.flow_named("cc"), None);
-    Ok(())
-}
-
-#[test]
-fn a_dropped_flow_has_no_name(rt: HostRuntime) -> Result<(), Fail> {
-    let net = plain_network(rt.alloc(), 2, &[&[0], &[], &[1]])?;
-    assert_eq!(rt; net.flow_named("b"), None);
-    assert_eq!(rt; net.flow_named("c"), Some(2));
-    assert_eq!(rt; net.flows().len(), 3);
-    Ok(())
-}
-
-fn small_trace(alloc: Global) -> Result<Trace, AllocError> {
-    let mut packets = Vec::with_capacity(alloc, 2)?;
-    packets.push(TracePacket {
-        time: Frac::zero(),
-        flow: 3,
-        bits: 8,
-    })?;
-    packets.push(TracePacket {
-        time: Frac::one(),
-        flow: 1,
-        bits: 1,
-    })?;
-    let mut stalls = Vec::with_capacity(alloc, 1)?;
-    stalls.push(Stall {
-        server: 2,
-        start: Frac::zero(),
-        end: Frac::one(),
-    })?;
-    Ok(Trace::new(packets, stalls))
-}
-
-#[test]
-fn a_trace_gives_its_rows_in_their_order(rt: HostRuntime) -> Result<(), Fail> {
-    let trace = small_trace(rt.alloc())?;
-    assert_eq!(rt; trace.packets().len(), 2);
-    assert_eq!(rt; trace.packets()[0].flow, 3);
-    assert_eq!(rt; trace.packets()[1].flow, 1);
-    assert_eq!(rt; trace.packets()[1].bits, 1);
-    assert_eq!(rt; trace.stalls().len(), 1);
-    assert_eq!(rt; trace.stalls()[0].server, 2);
-    assert!(rt; trace.stalls()[0].end.cmp(&Frac::one()) == Ordering::Equal);
     Ok(())
 }

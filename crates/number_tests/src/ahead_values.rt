@@ -1,50 +1,18 @@
-//! Values of a curve past its rank, and how it goes on there, worked out by hand.
+//! How a curve goes on past its rank, worked out by hand.
 
 ghost use Rattle.std.specs.Prelude.{◌≡◌, pos, IsTrue};
 ghost use Rattle.rational.specs.Rational.{int};
 ghost use Rattle.upp_normal.specs.Ahead.{IsOverBy};
 
-use crate::curves::value;
-use crate::normal_forms::{normal, stair, start};
+use crate::normal_forms::stair;
 use crate::own_limits::teeth;
-use fraction128::{Frac, Wide, is_less};
+use fraction128::{Frac, is_less};
 use rational::Extended;
-use std::alloc::Global;
-use std::cmp::Ordering;
-use std::process::Abort;
 use std::test::Fail;
 use test_curves::{ratio, whole};
 use upp_curve::{Curve, Tail};
-use upp_limits::{OpFault, OpKind, gauge};
+use upp_limits::{OpKind, gauge};
 use upp_normal::{Stretch, stretch_at};
-
-// 0 at 0, and infinite after it.
-fn wall(rt: &impl Abort, alloc: Global) -> Result<Curve, OpFault> {
-    let rank = Frac::zero();
-    match start(alloc, Extended::Fin(rank), None) {
-        Ok(pieces) => normal(rt, pieces, Tail::Infinite { rank }),
-        Err(_) => Err(OpFault::NoMemory),
-    }
-}
-
-// The stair is 1 packet from 0 on, 2 from 2 on and 3 from 4 on.
-#[test]
-fn values_past_the_rank(rt: HostRuntime) -> Result<(), Fail> {
-    let c = stair(&rt, rt.alloc())?;
-    for (t, packets) in [
-        (whole(0), 1),
-        (ratio(3, 2), 1),
-        (whole(2), 2),
-        (whole(3), 2),
-        (whole(5), 3),
-    ] {
-        assert_eq!(rt; value(&c, t), Ok(Some(whole(packets))), "at {t:?}");
-    }
-    let late = wall(&rt, rt.alloc())?;
-    assert_eq!(rt; value(&late, whole(0)), Ok(Some(whole(0))));
-    assert_eq!(rt; value(&late, whole(1)), Ok(None));
-    Ok(())
-}
 
 // Whether c repeats, and has ended a first period before `end`.
 fn is_over(c: &Curve, end: Frac) -> bool

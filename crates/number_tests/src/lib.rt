@@ -4,8 +4,6 @@
 #[cfg(test)]
 mod ahead_values;
 #[cfg(test)]
-mod curves;
-#[cfg(test)]
 mod elements;
 #[cfg(test)]
 mod fractions;

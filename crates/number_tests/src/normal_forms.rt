@@ -37,7 +37,7 @@ fn levels(alloc: Global, rows: &[(i128, i128)]) -> Result<Vec<Piece>, AllocError
 }
 
 // A value at 0, and a line after it.
-pub(crate) fn start(alloc: Global, at: Ext, line: Option<Line>) -> Result<Vec<Piece>, AllocError> {
+fn start(alloc: Global, at: Ext, line: Option<Line>) -> Result<Vec<Piece>, AllocError> {
     let mut pieces = Vec::new(alloc);
     pieces.push(Piece {
         x: Frac::zero(),
@@ -55,7 +55,7 @@ fn periodic(parts: (i128, i128, i128)) -> Tail {
     }
 }
 
-pub(crate) fn normal(rt: &impl Abort, pieces: Vec<Piece>, tail: Tail) -> Result<Curve, OpFault> {
+fn normal(rt: &impl Abort, pieces: Vec<Piece>, tail: Tail) -> Result<Curve, OpFault> {
     let raw = RawCurve { pieces, tail };
     assert!(rt; raw.is_raw());
     normalise(raw)

@@ -7,7 +7,7 @@ use std::alloc::{AllocError, Global};
 use std::process::Abort;
 use std::test::Fail;
 use test_curves::{ratio, whole};
-use upp_curve::{Curve, Tail, is_continuous};
+use upp_curve::{Curve, Tail};
 use upp_limits::{OpFault, OpKind, gauge, tally};
 use upp_normal::{RawCurve, normalise};
 
@@ -85,41 +85,5 @@ fn tallies_of_kinds(rt: HostRuntime) -> Result<(), Fail> {
     ] {
         assert_eq!(rt; tally(op, &f, &g, Some(end)), count, "{op:?}");
     }
-    Ok(())
-}
-
-fn is_joined(c: &Curve) -> bool {
-    if c.is_rising() {
-        is_continuous(c)
-    } else {
-        false
-    }
-}
-
-fn rate(c: &Curve) -> Option<Frac> {
-    match c.rate() {
-        Ok(Extended::Fin(rate)) => Some(rate),
-        _ => None,
-    }
-}
-
-// `teeth` fall from 23/8 to 17/14 at 3/2; a stair jumps; t from 0 to 1, repeated 1 higher, does neither.
-#[test]
-fn shapes_of_repeated_curves(rt: HostRuntime) -> Result<(), Fail> {
-    let alloc = rt.alloc();
-    let f = teeth(&rt, alloc)?;
-    assert!(rt; !f.is_rising());
-    assert_eq!(rt; rate(&f), Some(ratio(10, 21)));
-    let g = stair(&rt, alloc)?;
-    assert!(rt; g.is_rising());
-    assert!(rt; !is_joined(&g));
-    assert_eq!(rt; rate(&g), Some(ratio(1, 2)));
-    let ramp = repeated(
-        &rt,
-        first(alloc, whole(0), whole(0), whole(1))?,
-        whole(1),
-        whole(1),
-    )?;
-    assert!(rt; is_joined(&ramp));
     Ok(())
 }

@@ -78,8 +78,8 @@ fn has_values(c: &Curve, row: [i128; 6]) -> bool {
         && value(c, whole(5)) == whole(row[5])
 }
 
-/// What f has above g, for finite f.
-pub(crate) fn excess<L: Ledger>(
+// What f has above g, for finite f.
+fn excess<L: Ledger>(
     alloc: Global,
     f: &Curve,
     g: &Curve,
@@ -92,8 +92,8 @@ pub(crate) fn excess<L: Ledger>(
     }
 }
 
-/// What f has above a level, for finite f.
-pub(crate) fn above<L: Ledger>(
+// What f has above a level, for finite f.
+fn above<L: Ledger>(
     alloc: Global,
     f: &Curve,
     l: Frac,

@@ -1,8 +1,0 @@
-use Rattle.std.proofs.Common.{subst}
-use Rattle.rational.specs.Rational.{◌≤ℚ◌}
-use Rattle.rational.proofs.Compared.{not_less}
-use Rattle.network_tests.proofs.texts.value.Goals as goal
-
-pub value_at-requires : goal.value_at-requires
-value_at-requires c =
-    subst (λ z. z ≤ℚ c.args.time) c.zero.ensures (not_less c.cmp.result c.cmp.ensures.ranks c.in_default.not-Less)
