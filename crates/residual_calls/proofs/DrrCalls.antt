@@ -14,7 +14,7 @@ use Rattle.min_plus.specs.Pointwise.{excess, scaled}
 use Rattle.curve_call.specs.Answers.{IsMadeBy}
 use Rattle.curve_call.specs.Calls.{AppliesTo, goes_on, stops}
 use Rattle.curve_call.proofs.InTurn.{applies_determined, then_determined}
-use Rattle.residual_laws.specs.DrrCalls.{IsQuantum, share_in, owed_in, MakesDrr, DrrCurveServes, DrrIsDetermined}
+use Rattle.residual_calls.specs.DrrCalls.{IsQuantum, share_in, owed_in, MakesDrr, DrrCurveServes, DrrIsDetermined}
 use Rattle.residual_laws.specs.DrrLaws.{IsDrrService}
 use Rattle.residual_laws.proofs.DrrLaw.{drr_serves}
 

@@ -14,9 +14,9 @@ use Rattle.run_laws.proofs.Sizes.{whole_nonneg}
 use Rattle.curve_call.specs.Growth.{GrowsFromZero, IsBoundedFromZero}
 use Rattle.curve_call.proofs.Excesses.{excess_nonneg, excess_nothing, excess_most}
 use Rattle.curve_call.proofs.GrowingAnswers.{supremum_grows}
-use Rattle.residual_laws.specs.PriorityGrowth.{PriorityServiceGrows, PriorityCurveGrows}
+use Rattle.residual_calls.specs.PriorityGrowth.{PriorityServiceGrows, PriorityCurveGrows}
 use Rattle.residual_laws.specs.PriorityLaws.{priority_left}
-use Rattle.residual_laws.proofs.PriorityCalls.{made_curve, service_is}
+use Rattle.residual_calls.proofs.PriorityCalls.{made_curve, service_is}
 
 left_most : (β higher : ℚ → Ext) (lower : ℕ) (t : ℚ) → zero_q ≤ℚ t → IsNonnegative β → IsNonnegative higher
     → priority_left β higher lower t ≤ₑ β t

@@ -15,11 +15,11 @@ use Rattle.run_laws.specs.Cards.{whole}
 use Rattle.run_laws.proofs.Sizes.{whole_nonneg}
 use Rattle.curve_call.specs.Growth.{GrowsFromZero}
 use Rattle.curve_call.proofs.GrowingAnswers.{growing_answers}
-use Rattle.residual_laws.specs.DrrCalls.{IsQuantum}
-use Rattle.residual_laws.specs.DrrGrowth.{DrrServiceGrows, DrrCurveGrows}
+use Rattle.residual_calls.specs.DrrCalls.{IsQuantum}
+use Rattle.residual_calls.specs.DrrGrowth.{DrrServiceGrows, DrrCurveGrows}
 use Rattle.residual_laws.specs.DrrLaws.{share, owed, drr_left}
-use Rattle.residual_laws.proofs.DrrCalls.{service_is, made_curve}
-use Rattle.residual_laws.proofs.Numbers.{in_sum, owed_whole}
+use Rattle.residual_calls.proofs.DrrCalls.{service_is, made_curve}
+use Rattle.residual_calls.proofs.Numbers.{in_sum, owed_whole}
 
 share_low : (Q F : ℕ) → 0 < F → zero_q ≤ℚ share Q F
 share_low Q F some = div_nonneg (whole Q) (whole F) (nat_lt 0 F some) (whole_nonneg Q)

@@ -5,7 +5,7 @@ use Rattle.rational.specs.Rational.{ℚ}
 use Rattle.rational.specs.Extended.{Ext}
 use Rattle.curve_call.specs.upp_curve.specs.Curve.{SpecCurve, value_at}
 use Rattle.curve_call.specs.Growth.{GrowsFromZero, IsGrowingCurve}
-use Rattle.residual_laws.specs.DrrCalls.{AreQueues, MakesDrr}
+use Rattle.residual_calls.specs.DrrCalls.{AreQueues, MakesDrr}
 use Rattle.residual_laws.specs.DrrLaws.{IsDrrService}
 
 -- R is queue i's share of β, less what is owed

@@ -11,9 +11,9 @@ use Rattle.run_laws.specs.Cards.{whole}
 use Rattle.curve_call.specs.Calls.{Applies, AppliesTo, Then, goes_on, stops}
 use Rattle.curve_call.specs.Determined.{IsDetermined}
 use Rattle.curve_call.proofs.InTurn.{applies_determined, then_determined}
-use Rattle.residual_laws.specs.PriorityCalls.{LeavesPriority}
-use Rattle.residual_laws.specs.DrrCalls.{share_in, owed_in}
-use Rattle.residual_laws.specs.InTurn.{AtCall, InTurn, on_the_way, past, IsPlaced, LeftRefused, ServicesArePlaced}
+use Rattle.residual_calls.specs.PriorityCalls.{LeavesPriority}
+use Rattle.residual_calls.specs.DrrCalls.{share_in, owed_in}
+use Rattle.residual_calls.specs.InTurn.{AtCall, InTurn, on_the_way, past, IsPlaced, LeftRefused, ServicesArePlaced}
 
 -- ---- one call
 -- a call is not refused both for want of memory and for a limit

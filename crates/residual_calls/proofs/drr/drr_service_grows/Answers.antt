@@ -1,5 +1,5 @@
-use Rattle.residual_laws.proofs.DrrGrowth.{service_grows, curve_grows}
-use Rattle.residual_laws.proofs.drr.drr_service_grows.Goals as goal
+use Rattle.residual_calls.proofs.DrrGrowth.{service_grows, curve_grows}
+use Rattle.residual_calls.proofs.drr.drr_service_grows.Goals as goal
 
 pub returns-clause-service : goal.returns-clause-service
 returns-clause-service c = service_grows

@@ -6,7 +6,7 @@ use Rattle.rational.specs.Extended.{Ext}
 use Rattle.curve_call.specs.upp_curve.specs.Curve.{SpecCurve, value_at}
 use Rattle.min_plus.specs.Functions.{IsNonnegative}
 use Rattle.curve_call.specs.Growth.{GrowsFromZero, IsGrowingCurve}
-use Rattle.residual_laws.specs.PriorityCalls.{MakesPriority}
+use Rattle.residual_calls.specs.PriorityCalls.{MakesPriority}
 use Rattle.residual_laws.specs.PriorityLaws.{IsPriorityService}
 
 -- R is what β, the higher queues and one packet of the lower ones leave

@@ -1,5 +1,5 @@
-use Rattle.residual_laws.proofs.PriorityGrowth.{service_grows, curve_grows}
-use Rattle.residual_laws.proofs.priority.priority_service_grows.Goals as goal
+use Rattle.residual_calls.proofs.PriorityGrowth.{service_grows, curve_grows}
+use Rattle.residual_calls.proofs.priority.priority_service_grows.Goals as goal
 
 pub returns-clause-service : goal.returns-clause-service
 returns-clause-service c = service_grows

@@ -18,7 +18,7 @@ use Rattle.curve_call.specs.Answers.{IsMadeBy}
 use Rattle.curve_call.specs.Calls.{Applies, AppliesTo, goes_on, stops}
 use Rattle.curve_call.proofs.Excesses.{finite_excess, excess_nonneg}
 use Rattle.curve_call.proofs.InTurn.{applies_determined, then_determined}
-use Rattle.residual_laws.specs.PriorityCalls.{LeavesPriority, MakesPriority, PriorityCurveServes, PriorityIsDetermined}
+use Rattle.residual_calls.specs.PriorityCalls.{LeavesPriority, MakesPriority, PriorityCurveServes, PriorityIsDetermined}
 use Rattle.residual_laws.specs.PriorityLaws.{priority_left, IsPriorityService}
 use Rattle.residual_laws.proofs.PriorityLaw.{priority_serves}
 

@@ -7,8 +7,8 @@ use Rattle.curve_call.specs.upp_limits.specs.declared.op_kind.OpFault.TheVariant
 use Rattle.curve_call.specs.upp_curve.specs.Curve.{SpecCurve}
 use Rattle.run_laws.specs.Cards.{whole}
 use Rattle.curve_call.specs.Calls.{Applies, AppliesTo}
-use Rattle.residual_laws.specs.PriorityCalls.{LeavesPriority, MakesPriority}
-use Rattle.residual_laws.specs.DrrCalls.{share_in, owed_in, MakesDrr}
+use Rattle.residual_calls.specs.PriorityCalls.{LeavesPriority, MakesPriority}
+use Rattle.residual_calls.specs.DrrCalls.{share_in, owed_in, MakesDrr}
 
 -- the first call that is counted is refused
 abbrev pub AtCall : {A : Type 0} → (Result A OpFault → Type 0) → OpFault → ℕ → Type 0

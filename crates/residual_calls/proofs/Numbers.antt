@@ -12,7 +12,7 @@ use Rattle.run_laws.specs.Cards.{whole}
 use Rattle.run_laws.proofs.Sizes.{whole_sum, whole_times}
 use Rattle.fraction128.specs.declared.fault.FracFault.{FracFault}
 use Rattle.fraction128.specs.declared.fault.FracFault.TheVariants.{ZeroDen, TooBig}
-use Rattle.residual_laws.specs.DrrCalls.{IsQuantum, AreQueues}
+use Rattle.residual_calls.specs.DrrCalls.{IsQuantum, AreQueues}
 use Rattle.residual_laws.specs.DrrLaws.{owed}
 
 -- ---- sums
