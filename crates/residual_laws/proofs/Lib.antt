@@ -1,4 +1,6 @@
+pub mod InTurn
 pub mod PriorityLaw
+pub mod RestLaw
 pub mod Turns
 pub mod Along
 pub mod Shares

@@ -1,2 +1,3 @@
 pub mod PriorityLaws
 pub mod DrrLaws
+pub mod RestLaws

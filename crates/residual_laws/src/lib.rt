@@ -1,9 +1,12 @@
-//! What a queue of a priority server, and of a deficit round robin server, is served, as a function of time: definitions
-//! and laws. What is said of the calls that make these services stands in `residual_calls`.
+//! What a queue of a priority server, and of a deficit round robin server, is served, and what a server of any discipline
+//! leaves, as functions of time: definitions and laws. What is said of the calls that make the first two of these services
+//! stands in `residual_calls`.
 #![tactic(auto)]
 
 mod drr;
 mod priority;
+mod rest;
 
 pub use drr::drr_serves;
 pub use priority::priority_serves;
+pub use rest::rest_serves;

@@ -1,0 +1,5 @@
+use Rattle.residual_laws.proofs.RestLaw
+use Rattle.residual_laws.proofs.rest.rest_serves.Goals as goal
+
+pub returns : goal.returns
+returns c = RestLaw.rest_serves
