@@ -181,11 +181,29 @@ in_stretch server end V own first last up_to bits β higher R t s turn service f
     part_caught : (A Ai Ah W Wi Wh : ℚ) → A ≡ Ai +ℚ Ah → W ≡ Wi +ℚ Wh → Wh ≤ℚ Ah → A ≤ℚ W → Ai ≤ℚ Wi
     part_caught A Ai Ah W Wi Wh e f h k = with6 A Ai Ah W Wi Wh (λ c. omega (arith, c.le, c.lt, c.same))
 
+-- where something of the class is there, it is served since the stretch began in which something of it or of those before it is
+pub turn_served_since : (server : Server) (end : ℚ) (V : List ServerStep) (own first last up_to : Class) (bits : ℕ) (β higher R : ℚ → Ext)
+    → AreInTurn server end V own first last up_to bits → KeepsService β end V → IsZeroAtStart β → KeepsArrivals first higher V
+    → IsPriorityService β higher bits R → (t : ℚ) → t ≤ℚ end → departed own V t <ℚ arrived own V t
+    → (s : ℚ) × IsStretch up_to V t s × IsServed own R V t s
+turn_served_since server end V own first last up_to bits β higher R turn service flat keeps running t l waits =
+    let lawful = turn.lawful in
+    let sum_A = arrived_parts up_to own first V t turn.upto_parts in
+    let sum_L = departed_parts up_to own first V t turn.upto_parts in
+    let before_L = left_worked server end V first t lawful in
+    let before_A = worked_arrived server end V first t lawful in
+    let behind : departed up_to V t <ℚ arrived up_to V t =
+    below (arrived up_to V t) (arrived own V t) (arrived first V t) (departed up_to V t) (departed own V t) (departed first V t) (worked first V t) sum_A sum_L before_L before_A waits in
+    let found = stretch server end V up_to t lawful behind in
+    (found.0, found.1, in_stretch server end V own first last up_to bits β higher R t found.0 turn service flat keeps running l found.1)
+  where
+    below : (A Ai Ah L Li Lh Wh : ℚ) → A ≡ Ai +ℚ Ah → L ≡ Li +ℚ Lh → Lh ≤ℚ Wh → Wh ≤ℚ Ah → Li <ℚ Ai → L <ℚ A
+    below A Ai Ah L Li Lh Wh e f h k m = with7 A Ai Ah L Li Lh Wh (λ c. omega (arith, c.le, c.lt, c.same))
+
 pub turn_serves : (server : Server) (end : ℚ) (V : List ServerStep) (own first last up_to : Class) (bits : ℕ) (β higher R : ℚ → Ext)
     → AreInTurn server end V own first last up_to bits → KeepsService β end V → IsZeroAtStart β → KeepsArrivals first higher V
     → IsPriorityService β higher bits R → Serves own R end V
 turn_serves server end V own first last up_to bits β higher R turn service flat keeps running t l =
-    let lawful = turn.lawful in
     elim (le_or_lt (arrived own V t) (departed own V t)) [
       | inl m ↦
           let at_0 : R (int (pos 0)) ≤ₑ Fin (int (pos 0)) =
@@ -193,17 +211,8 @@ turn_serves server end V own first last up_to bits β higher R turn service flat
           (λ y.
           let zero : int (pos 0) ≡ y.at = antisym (y.nonneg, y.most) in
           subst (λ (x : ℚ). priority_left β higher bits x ≤ₑ Fin (int (pos 0))) zero (first_member V first β higher bits (int (pos 0)) flat keeps (le_refl (int (pos 0))))) in
-          (t, record { earlier = le_refl t; left = m; kept_up = add_low (arrived own V t) (worked own V t) (R (t -ℚ t)) (itself R t at_0) (le_trans m (left_worked server end V own t lawful)) })
+          (t, record { earlier = le_refl t; left = m; kept_up = add_low (arrived own V t) (worked own V t) (R (t -ℚ t)) (itself R t at_0) (le_trans m (left_worked server end V own t turn.lawful)) })
       | inr m ↦
-          let sum_A = arrived_parts up_to own first V t turn.upto_parts in
-          let sum_L = departed_parts up_to own first V t turn.upto_parts in
-          let before_L = left_worked server end V first t lawful in
-          let before_A = worked_arrived server end V first t lawful in
-          let behind : departed up_to V t <ℚ arrived up_to V t =
-          below (arrived up_to V t) (arrived own V t) (arrived first V t) (departed up_to V t) (departed own V t) (departed first V t) (worked first V t) sum_A sum_L before_L before_A m in
-          let found = stretch server end V up_to t lawful behind in
-          (found.0, in_stretch server end V own first last up_to bits β higher R t found.0 turn service flat keeps running l found.1)
+          let since = turn_served_since server end V own first last up_to bits β higher R turn service flat keeps running t l m in
+          (since.0, since.2)
     ]
-  where
-    below : (A Ai Ah L Li Lh Wh : ℚ) → A ≡ Ai +ℚ Ah → L ≡ Li +ℚ Lh → Lh ≤ℚ Wh → Wh ≤ℚ Ah → Li <ℚ Ai → L <ℚ A
-    below A Ai Ah L Li Lh Wh e f h k m = with7 A Ai Ah L Li Lh Wh (λ c. omega (arith, c.le, c.lt, c.same))

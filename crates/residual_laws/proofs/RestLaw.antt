@@ -23,8 +23,8 @@ use Rattle.run_laws.proofs.Counts.{worked_nonneg}
 use Rattle.run_laws.proofs.Cuts.{all_works}
 use Rattle.run_laws.proofs.Orders.{worked_arrived}
 use Rattle.residual_laws.specs.PriorityLaws.{priority_left, IsPriorityService}
-use Rattle.residual_laws.specs.RestLaws.{others, rest_left, IsRestService, RestServes}
-use Rattle.residual_laws.proofs.InTurn.{turn_serves}
+use Rattle.residual_laws.specs.RestLaws.{others, rest_left, IsRestService, RestServes, RestServesSince}
+use Rattle.residual_laws.proofs.InTurn.{AreInTurn, turn_served_since, turn_serves}
 
 -- ---- the classes
 abbrev none : Class
@@ -80,13 +80,24 @@ rest_in_turn β brought R is t on =
     (λ y. (y, same_le_ext (less_nothing (β y.at) (brought y.at))))
     (is t on)
 
--- ---- the law
+-- ---- the laws
+in_turn : (server : Server) (end : ℚ) (V : List ServerStep) (C : Class) → IsLawfulView server end V
+    → AreInTurn server end V C (others C) none all 0
+in_turn server end V C lawful = record {
+  lawful = lawful;
+  all_parts = all_parts;
+  upto_parts = own_parts C;
+  last_work = λ s z l busy. no_work server end V s z lawful;
+}
+
 pub rest_serves : RestServes
 rest_serves server end V C β brought R lawful service flat keeps is =
-    turn_serves server end V C (others C) none all 0 β brought R
-    record {
-      lawful = lawful;
-      all_parts = all_parts;
-      upto_parts = own_parts C;
-      last_work = λ s z l busy. no_work server end V s z lawful;
-    } service flat keeps (rest_in_turn β brought R is)
+    turn_serves server end V C (others C) none all 0 β brought R (in_turn server end V C lawful) service flat keeps
+    (rest_in_turn β brought R is)
+
+pub rest_serves_since : RestServesSince
+rest_serves_since server end V C β brought R lawful service flat keeps is t l waits =
+    let since = turn_served_since server end V C (others C) none all 0 β brought R (in_turn server end V C lawful) service flat keeps
+    (rest_in_turn β brought R is) t l waits in
+    let stretch = since.1 in
+    (since.0, record { begins = stretch.begins; empty = stretch.caught_up; waiting = stretch.busy }, since.2)

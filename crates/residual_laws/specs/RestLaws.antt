@@ -3,15 +3,16 @@
 -- is empty: where the class alone has nothing there, others may wait, and nothing bounds the work on what they brought.
 -- (Le Boudec and Thiran, section 6.2: blind multiplexing.)
 use Rattle.std.specs.Prelude.{pos, not, List}
-use Rattle.rational.specs.Rational.{ℚ, int, ◌≤ℚ◌}
+use Rattle.rational.specs.Rational.{ℚ, int, ◌≤ℚ◌, ◌<ℚ◌}
 use Rattle.rational.specs.Extended.{Ext}
 use Rattle.min_plus.specs.Pointwise.{excess}
 use Rattle.min_plus.specs.Running.{IsRunningSupremum}
-use Rattle.run_laws.specs.Cards.{Class, ServerStep}
+use Rattle.run_laws.specs.Cards.{Class, all, ServerStep}
 use Rattle.run_laws.specs.Servers.{Server}
 use Rattle.run_laws.specs.Allows.{IsLawfulView}
 use Rattle.run_laws.specs.Premises.{KeepsArrivals, KeepsService, IsZeroAtStart}
-use Rattle.run_laws.specs.Serves.{Serves}
+use Rattle.run_laws.specs.Counts.{arrived, worked, departed}
+use Rattle.run_laws.specs.Serves.{Serves, IsServed}
 
 -- all packets but those of the class
 abbrev pub others : Class → Class
@@ -30,3 +31,17 @@ abbrev pub RestServes : Type 0
 RestServes = (server : Server) (end : ℚ) (view : List ServerStep) (C : Class) (β brought R : ℚ → Ext) →
     IsLawfulView server end view → KeepsService β end view → IsZeroAtStart β → KeepsArrivals (others C) brought view →
     IsRestService β brought R → Serves C R end view
+
+-- ---- since when
+-- something of the class is there all through the open window from s to t, and at s nothing is
+pub record IsBacklogged (C : Class) (view : List ServerStep) (s t : ℚ) : Type 0 where
+  pub begins : s <ℚ t
+  pub empty : arrived C view s ≤ℚ worked C view s
+  pub waiting : (x : ℚ) → s <ℚ x → x <ℚ t → worked C view x <ℚ arrived C view x
+
+-- a class that has not left whole by t is served since the server's backlogged period began
+abbrev pub RestServesSince : Type 0
+RestServesSince = (server : Server) (end : ℚ) (view : List ServerStep) (C : Class) (β brought R : ℚ → Ext) →
+    IsLawfulView server end view → KeepsService β end view → IsZeroAtStart β → KeepsArrivals (others C) brought view →
+    IsRestService β brought R → (t : ℚ) → t ≤ℚ end → departed C view t <ℚ arrived C view t →
+    (s : ℚ) × IsBacklogged all view s t × IsServed C R view t s
