@@ -210,7 +210,8 @@ server = [
 flow = [
   { name = "f1", packet = 1000, arrival = { kind = "bucket", burst = 3, rate = "2/4" }, path = ["s1:1", "s2:0"] },
   { name = "f2", packet = 2000, arrival = { kind = "stair", period = 1000, jitter = 2 }, path = ["s2:1", "s3:0", "plain:0"] },
-  { name = "f3", packet = 16777216, arrival = { kind = "list", piece = [{ x = 0, at = 1, after = 1, slope = 0 }], tail = { rank = 0, period = 2, rise = 1 } }, path = ["plain:0"] },
+  { name = "f3", packet = 16777216, path = ["plain:0"], arrival = { kind = "list", piece = [{ x = 0, at = 1, after = 1, slope = 0 }], tail = {
+    rank = 0, period = 2, rise = 1 } } },
 ]
 """,
 ]
@@ -325,8 +326,10 @@ ARRIVALS = [
     ("kind = 'list', piece = [{ x = 0, at = 1, after = 2 }]", None),
     (f"kind = 'list', piece = [{{ x = 0, at = 1, slope = '-1/{2**61}' }}]", "too wide"),
     # A start in the second period is refused also where the sum of rank and period does not fit: 1/2 is just before it, and just in it.
-    (f"kind = 'list', piece = [{{ x = 0, at = 0 }}, {{ x = '1/2', at = 0 }}], tail = {{ rank = '1/{2**126 + 1}', period = '{PERIOD}', rise = 0 }}", "too wide"),
-    (f"kind = 'list', piece = [{{ x = 0, at = 0 }}, {{ x = '1/2', at = 0 }}], tail = {{ rank = '1/{2**126 + 3}', period = '{PERIOD}', rise = 0 }}", "not-rising"),
+    *[
+        (f"kind = 'list', piece = [{{ x = 0, at = 0 }}, {{ x = '1/2', at = 0 }}], tail = {{ rank = '{rank}', period = '{PERIOD}', rise = 0 }}", told)
+        for rank, told in [(f"1/{2**126 + 1}", "too wide"), (f"1/{2**126 + 3}", "not-rising")]
+    ],
     # A closure has limits of its own: 2^20 pieces and more, and numbers that are too wide as well; not closed, both are curves.
     ("kind = 'list', piece = [{ x = 0, at = 0 }, { x = 1, at = 1 }, { x = '1048577/1048576', at = 2 }], close = true", "too many"),
     (f"kind = 'list', piece = [{{ x = 0, at = 0 }}, {{ x = 1, at = 1 }}, {{ x = '{2**60 + 1}/{2**60}', at = 2 }}], close = true", "too wide"),
@@ -444,7 +447,8 @@ def cases():
     for arrival, told in ARRIVALS:
         # A later curve that is over a limit by itself is not looked at before.
         later = "[[flow]]\nname = 'f2'\npacket = 1\n" + NARROW + PATH
-        yield "analyse f", {"f": SERVER + PACKET + f"arrival = {{ {arrival} }}\n" + PATH + later}, of_curve(told, "flow[0].arrival") or "too wide: curve flow[1].arrival"
+        text = SERVER + PACKET + f"arrival = {{ {arrival} }}\n" + PATH + later
+        yield "analyse f", {"f": text}, of_curve(told, "flow[0].arrival") or "too wide: curve flow[1].arrival"
     for script, told in SCRIPTS:
         yield "curve f", {"f": script}, told
     for command, rows, told in ROWS:
