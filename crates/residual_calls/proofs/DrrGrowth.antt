@@ -1,39 +1,28 @@
 -- What a queue of a deficit round robin server is served grows from zero where the service does: its share and what
 -- is owed are from 0 on.
-use Rattle.std.specs.Prelude.{◌≡◌, ◌+◌, ◌-◌, ◌*◌, ◌≤◌, ◌<◌, ℕ, get_or, sum}
-use Rattle.std.proofs.Common.{arith, refl, subst}
+use Rattle.std.specs.Prelude.{◌≡◌, ◌≤◌, ◌<◌, ℕ, get_or, sum}
+use Rattle.std.proofs.Common.{arith, refl}
 use Rattle.std.proofs.lemmas.List.Elements.{All-get_or}
 use Rattle.rational.specs.Rational.{ℚ, ◌≤ℚ◌}
 use Rattle.rational.specs.Extended.{Ext}
-use Rattle.rational.proofs.Integers.{nat_lt}
-use Rattle.rational.proofs.Quotients.{div_nonneg}
 use Rattle.curve_call.specs.upp_limits.specs.declared.op_kind.OpKind.TheVariants.{Scale, PosMinus}
 use Rattle.curve_call.specs.upp_curve.specs.Curve.{value_at}
 use Rattle.min_plus.specs.Functions.{zero_q}
 use Rattle.min_plus.specs.Pointwise.{scaled}
-use Rattle.run_laws.specs.Cards.{whole}
-use Rattle.run_laws.proofs.Sizes.{whole_nonneg}
 use Rattle.curve_call.specs.Growth.{GrowsFromZero}
 use Rattle.curve_call.proofs.GrowingAnswers.{growing_answers}
 use Rattle.residual_calls.specs.DrrCalls.{IsQuantum}
 use Rattle.residual_calls.specs.DrrGrowth.{DrrServiceGrows, DrrCurveGrows}
 use Rattle.residual_laws.specs.DrrLaws.{share, owed, drr_left}
 use Rattle.residual_calls.proofs.DrrCalls.{service_is, made_curve}
-use Rattle.residual_calls.proofs.Numbers.{in_sum, owed_whole}
-
-share_low : (Q F : ℕ) → 0 < F → zero_q ≤ℚ share Q F
-share_low Q F some = div_nonneg (whole Q) (whole F) (nat_lt 0 F some) (whole_nonneg Q)
-
-owed_low : (Q l F L : ℕ) → 0 < F → Q ≤ F → l ≤ L → zero_q ≤ℚ owed Q l F L
-owed_low Q l F L some own packet =
-    let bits = Q * (L - l) + (F - Q) * (Q + l) in
-    subst (λ (x : ℚ). zero_q ≤ℚ x) (owed_whole Q l F L own packet) (div_nonneg (whole bits) (whole F) (nat_lt 0 F some) (whole_nonneg bits))
+use Rattle.residual_laws.proofs.Owed.{share_nonneg, owed_nonneg}
+use Rattle.residual_calls.proofs.Numbers.{in_sum}
 
 -- the share first, and then what is owed
 share_grows : (β R : ℚ → Ext) (Q l F L : ℕ) → 0 < F → Q ≤ F → l ≤ L → GrowsFromZero β → ((t : ℚ) → zero_q ≤ℚ t → R t ≡ drr_left β Q l F L t) → GrowsFromZero R
 share_grows β R Q l F L some own packet grows is =
     growing_answers (PosMinus (owed Q l F L)) part part R
-    (owed_low Q l F L some own packet, growing_answers (Scale (share Q F)) β β part (share_low Q F some, grows) (λ t p. refl)) is
+    (owed_nonneg Q l F L some own packet, growing_answers (Scale (share Q F)) β β part (share_nonneg Q F some, grows) (λ t p. refl)) is
   where
     part : ℚ → Ext
     part t = scaled (share Q F) (β t)
