@@ -11,4 +11,3 @@ pub mod WideConvolution
 pub mod ElementLaws
 pub mod MadeParts
 pub use Rattle.fraction128 as fraction128
-pub use Rattle.fraction128.specs.rational as rational

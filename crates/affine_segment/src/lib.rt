@@ -14,6 +14,5 @@ pub use convolution::element_conv;
 pub use cut::{Cut, element_min, is_before};
 pub use element::{Element, Joined, start_of};
 pub use fraction128;
-pub use fraction128::rational;
 pub use line::{Line, Piece, cross, value};
 pub use reading::{line_at, line_value, next_start, piece_at, piece_value, read};

@@ -6,9 +6,9 @@ use Rattle.net_model.specs.Accepted.{IsAccepted}
 use Rattle.net_model.specs.Networks.{Net}
 use Rattle.net_model.specs.Orders.{IsOrder}
 use Rattle.net_model.specs.Walks.{IsCycle}
-use Rattle.net_cells.specs.declared.cell.Cell.{Cell}
-use Rattle.net_cells.specs.FirstOver.{FirstOver}
-use Rattle.report_text.specs.CellWords.{server_name, cell_words}
+use Rattle.json_report.specs.net_cells.specs.declared.cell.Cell.{Cell}
+use Rattle.json_report.specs.net_cells.specs.FirstOver.{FirstOver}
+use Rattle.json_report.specs.report_text.specs.CellWords.{server_name, cell_words}
 use Rattle.command_replies.specs.OnFiles.{IsNetOf, IsNoNetwork}
 use Rattle.json_report.specs.declared.form.Form.{Form}
 use Rattle.analyse_command.specs.OnFiles.{Broken, CurveOver, Cyclic, CellOver, IsReplyOn, IsReplyOnNet}

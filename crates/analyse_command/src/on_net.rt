@@ -6,9 +6,9 @@ ghost use Rattle.analyse_command.specs.AnswerCounts.{CountsOnNet};
 ghost use Rattle.analyse_command.specs.OnFiles.{IsReplyOnNet};
 ghost use Rattle.command_replies.specs.View.{reply_of, status_of};
 
-use cell_table::AnalysisFault;
 use command_replies::{Answer, Status, cell_too_many, cell_too_wide, goes_round};
 use flow_analysis::analyse;
+use json_report::cell_table::AnalysisFault;
 use json_report::{Form, text_in};
 use net_graph::{GraphFault, order};
 use net_model::Network;

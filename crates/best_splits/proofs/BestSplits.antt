@@ -1,17 +1,17 @@
 -- A best split moved a little either way is no better: so the slope of the one before it is at most that of the other after it.
 use Rattle.std.specs.Prelude.{◌≡◌, ◌⊎◌, Option, Some, None}
 use Rattle.std.proofs.Common.{arith, sym, ap, ap₂, ◌∙◌, subst, inl, inr, refl}
-use Rattle.rational.specs.Rational.{ℚ, ◌+ℚ◌, ◌-ℚ◌, ◌*ℚ◌, ◌≤ℚ◌, ◌<ℚ◌}
-use Rattle.rational.specs.Extended.{Ext, ◌≤ₑ◌, ◌+ₑ◌}
-use Rattle.rational.specs.declared.Extended.TheVariants.{Fin}
-use Rattle.rational.specs.Line.{line_at}
-use Rattle.rational.specs.MinMax.{min_q}
-use Rattle.rational.specs.Stretch.{Between}
-use Rattle.rational.proofs.Linear.{with2, with3, with4}
-use Rattle.rational.proofs.Laws.{le_or_lt, le_of_lt, le_trans, lt_le_trans, lt_irrefl, antisym, half, half_is, half_pos, mul_lt_mul_right, mul_zero, add_zero, sub_mul}
-use Rattle.rational.proofs.MinMax.{min_q_le_left}
-use Rattle.rational.proofs.Bounds.{greatest}
-use Rattle.rational.proofs.Stretch.{line_infimum}
+use Rattle.min_plus.specs.rational.specs.Rational.{ℚ, ◌+ℚ◌, ◌-ℚ◌, ◌*ℚ◌, ◌≤ℚ◌, ◌<ℚ◌}
+use Rattle.min_plus.specs.rational.specs.Extended.{Ext, ◌≤ₑ◌, ◌+ₑ◌}
+use Rattle.min_plus.specs.rational.specs.declared.Extended.TheVariants.{Fin}
+use Rattle.min_plus.specs.rational.specs.Line.{line_at}
+use Rattle.min_plus.specs.rational.specs.MinMax.{min_q}
+use Rattle.min_plus.specs.rational.specs.Stretch.{Between}
+use Rattle.min_plus.specs.rational.proofs.Linear.{with2, with3, with4}
+use Rattle.min_plus.specs.rational.proofs.Laws.{le_or_lt, le_of_lt, le_trans, lt_le_trans, lt_irrefl, antisym, half, half_is, half_pos, mul_lt_mul_right, mul_zero, add_zero, sub_mul}
+use Rattle.min_plus.specs.rational.proofs.MinMax.{min_q_le_left}
+use Rattle.min_plus.specs.rational.proofs.Bounds.{greatest}
+use Rattle.min_plus.specs.rational.proofs.Stretch.{line_infimum}
 use Rattle.min_plus.specs.Functions.{zero_q}
 use Rattle.min_plus.specs.Convolution.{Split, IsConvolution}
 use Rattle.best_splits.specs.Turns.{Ray, IsBeside, IsAbove, BendsUp, TurnsUp}

@@ -1,11 +1,11 @@
 -- What two lines make of the splits of a time is a line too.
 use Rattle.std.specs.Prelude.{◌≡◌, pos}
 use Rattle.std.proofs.Common.{arith, sym, ap, ◌∙◌, inl, inr}
-use Rattle.rational.specs.Rational.{ℚ, ◌+ℚ◌, ◌-ℚ◌, ◌*ℚ◌, ◌≤ℚ◌, int}
-use Rattle.rational.specs.Line.{line_at}
-use Rattle.rational.proofs.Laws.{le_or_lt, le_of_lt, mul_sub, sub_mul}
-use Rattle.rational.proofs.Linear.{with5}
-use Rattle.rational.proofs.Lines.{line_rises, line_falls}
+use Rattle.min_plus.specs.rational.specs.Rational.{ℚ, ◌+ℚ◌, ◌-ℚ◌, ◌*ℚ◌, ◌≤ℚ◌, int}
+use Rattle.min_plus.specs.rational.specs.Line.{line_at}
+use Rattle.min_plus.specs.rational.proofs.Laws.{le_or_lt, le_of_lt, mul_sub, sub_mul}
+use Rattle.min_plus.specs.rational.proofs.Linear.{with5}
+use Rattle.min_plus.specs.rational.proofs.Lines.{line_rises, line_falls}
 use Rattle.best_splits.specs.BestSplits.{split_value, LeastAtEnds}
 
 split_line : (k r l q t s : ℚ) → line_at (k +ℚ line_at l q t) (r -ℚ q) s ≡ split_value k r l q t s

@@ -2,10 +2,10 @@
 -- at the ends. (Bouillard, Boyer and Le Corronc: the convolution of
 -- piecewise linear functions; the law is our own choice.)
 use Rattle.std.specs.Prelude.{◌⊎◌, Option}
-use Rattle.rational.specs.Rational.{ℚ, ◌+ℚ◌, ◌-ℚ◌, ◌≤ℚ◌, ◌<ℚ◌}
-use Rattle.rational.specs.Extended.{Ext}
-use Rattle.rational.specs.declared.Extended.TheVariants.{Fin}
-use Rattle.rational.specs.Line.{line_at}
+use Rattle.min_plus.specs.rational.specs.Rational.{ℚ, ◌+ℚ◌, ◌-ℚ◌, ◌≤ℚ◌, ◌<ℚ◌}
+use Rattle.min_plus.specs.rational.specs.Extended.{Ext}
+use Rattle.min_plus.specs.rational.specs.declared.Extended.TheVariants.{Fin}
+use Rattle.min_plus.specs.rational.specs.Line.{line_at}
 use Rattle.min_plus.specs.Functions.{zero_q}
 use Rattle.min_plus.specs.Convolution.{Split, IsConvolution}
 use Rattle.best_splits.specs.Turns.{Ray, IsBeside, TurnsUp}

@@ -4,20 +4,20 @@ use Rattle.std.specs.Prelude.{Option}
 use Rattle.std.proofs.lemmas.Bool.{cases_eq}
 use Rattle.rational.specs.Rational.{ℚ, ◌+ℚ◌, ◌≤ℚ◌, ◌<ℚ◌}
 use Rattle.rational.proofs.Laws.{le_of_not_lt, lt_of_not_le, not_le_of_lt}
-use Rattle.run_laws.specs.declared.steps.Step.{Step}
-use Rattle.run_laws.specs.declared.steps.Step.TheVariants.{Enter, Reach, Work, Leave, Visit}
-use Rattle.run_laws.specs.Cards.{Card, whole, size}
-use Rattle.run_laws.specs.Servers.{Under}
-use Rattle.run_laws.specs.Allows.{IsInTime, KeepsPace, MayArrive, next_card, pick}
-use Rattle.run_laws.specs.Routes.{Routes, route_of, server_at, queue_at, PassesServer, first_server}
-use Rattle.run_laws.specs.Views.{Entry, entry_of, hops_of, card_of, server_of}
-use Rattle.run_laws.specs.Lawful.{Due, RunState, state_at, AllowsInRun}
-use Rattle.run_laws.proofs.Entries.{entry_last}
-use Rattle.run_laws.proofs.Heads.{same_some}
-use Rattle.stated_runs.specs.DueSteps.{step_time}
-use Rattle.stated_runs.proofs.Lists.{In, contains_in, in_contains}
-use Rattle.stated_runs.proofs.GoodServers.{IsCardAt}
-use Rattle.stated_runs.proofs.Routed.{place_of, first_passes}
+use Rattle.sim_states.specs.run_laws.specs.declared.steps.Step.{Step}
+use Rattle.sim_states.specs.run_laws.specs.declared.steps.Step.TheVariants.{Enter, Reach, Work, Leave, Visit}
+use Rattle.sim_states.specs.run_laws.specs.Cards.{Card, whole, size}
+use Rattle.sim_states.specs.run_laws.specs.Servers.{Under}
+use Rattle.sim_states.specs.run_laws.specs.Allows.{IsInTime, KeepsPace, MayArrive, next_card, pick}
+use Rattle.sim_states.specs.run_laws.specs.Routes.{Routes, route_of, server_at, queue_at, PassesServer, first_server}
+use Rattle.sim_states.specs.run_laws.specs.Views.{Entry, entry_of, hops_of, card_of, server_of}
+use Rattle.sim_states.specs.run_laws.specs.Lawful.{Due, RunState, state_at, AllowsInRun}
+use Rattle.sim_states.specs.run_laws.proofs.Entries.{entry_last}
+use Rattle.sim_states.specs.run_laws.proofs.Heads.{same_some}
+use Rattle.sim_states.specs.stated_runs.specs.DueSteps.{step_time}
+use Rattle.sim_states.specs.stated_runs.proofs.Lists.{In, contains_in, in_contains}
+use Rattle.sim_states.specs.stated_runs.proofs.GoodServers.{IsCardAt}
+use Rattle.sim_states.specs.stated_runs.proofs.Routed.{place_of, first_passes}
 use Rattle.broken_laws.specs.declared.law.Law.{Law}
 use Rattle.broken_laws.specs.declared.law.Law.TheVariants.{L1, L2, L3, L4, L5, L6, L7, L8, L9}
 use Rattle.broken_laws.specs.declared.place.Place.{Place}
@@ -107,7 +107,7 @@ module _ (net : Routes) (end : ℚ) (before : List Step) (r : RunState) (tracks 
 
   -- ---- and one that breaks none is allowed
   module _ (paths : HasPaths net) where
-    known_place : (p s : ℕ) → p < length r.entered → PassesServer s (hops_of net r.entered p) → Rattle.stated_runs.proofs.Routed.IsPlace net s (card_of net r.entered p s).queue
+    known_place : (p s : ℕ) → p < length r.entered → PassesServer s (hops_of net r.entered p) → Rattle.sim_states.specs.stated_runs.proofs.Routed.IsPlace net s (card_of net r.entered p s).queue
     known_place p s l k = place_of net s (hops_of net r.entered p) (paths (entry_of r.entered p).flow (h.entries p l).is_live).hops_are k
 
     timed : (x : Step) → (IsOutOfTime net end r x → ⊥) → IsInTime end (state_at r (server_of net x)) (step_time x)
@@ -193,7 +193,7 @@ module _ (net : Routes) (end : ℚ) (before : List Step) (r : RunState) (tracks 
         let here = go c t (state_at r s).under refl may in
         record { known = record { has_entered = here.entered_one; passes = here.passes }; known_server = k; at_server = (timed (Leave s p t) (n L1), may) }
       where
-        go : (c : Card) (t : ℚ) (o : Option Under) → (state_at r s).under ≡ o → Rattle.run_laws.specs.Allows.MayLeave o c t → IsCardAt net r.entered s c
+        go : (c : Card) (t : ℚ) (o : Option Under) → (state_at r s).under ≡ o → Rattle.sim_states.specs.run_laws.specs.Allows.MayLeave o c t → IsCardAt net r.entered s c
         go c t None e m = absurd m
         go c t (Some u) e m = subst (IsCardAt net r.entered s) m.is_card (under_here net before r tracks h s u e).card
 

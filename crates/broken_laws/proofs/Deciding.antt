@@ -4,11 +4,11 @@ use Rattle.std.specs.Prelude.{Option}
 use Rattle.std.proofs.lemmas.Bool.{cases_eq}
 use Rattle.rational.specs.Rational.{ℚ, ◌<ℚ◌}
 use Rattle.rational.proofs.Laws.{le_or_lt, antisym, lt_irrefl}
-use Rattle.run_laws.specs.Cards.{Card, size}
-use Rattle.run_laws.specs.Servers.{Discipline, Fifo, Priority, Drr, Under, ServerState, done}
-use Rattle.run_laws.specs.Allows.{MayLeave, MayVisit, IsFirst}
-use Rattle.run_laws.specs.Lawful.{Due}
-use Rattle.stated_runs.proofs.Lists.{In}
+use Rattle.sim_states.specs.run_laws.specs.Cards.{Card, size}
+use Rattle.sim_states.specs.run_laws.specs.Servers.{Discipline, Fifo, Priority, Drr, Under, ServerState, done}
+use Rattle.sim_states.specs.run_laws.specs.Allows.{MayLeave, MayVisit, IsFirst}
+use Rattle.sim_states.specs.run_laws.specs.Lawful.{Due}
+use Rattle.sim_states.specs.stated_runs.proofs.Lists.{In}
 
 -- it holds or not
 abbrev pub Decided : Type 0 → Type 0

@@ -6,12 +6,12 @@ use Rattle.std.proofs.lemmas.Option.{slice_get_within}
 use Rattle.std.proofs.Math.Seq.{take-length}
 use Rattle.rational.specs.Rational.{ℚ, ◌<ℚ◌}
 use Rattle.rational.proofs.Laws.{lt_of_not_le, lt_irrefl, lt_le_trans}
-use Rattle.run_laws.specs.declared.steps.Step.{Step}
-use Rattle.run_laws.specs.Servers.{ServerState}
-use Rattle.run_laws.specs.Runs.{SpecRun}
-use Rattle.run_laws.specs.Allows.{IsComplete}
-use Rattle.run_laws.specs.Routes.{Routes}
-use Rattle.run_laws.specs.Lawful.{Due, RunState, next_run, run_start, after_run, AllowsInRun, AllAllowedInRun, IsLawful}
+use Rattle.sim_states.specs.run_laws.specs.declared.steps.Step.{Step}
+use Rattle.sim_states.specs.run_laws.specs.Servers.{ServerState}
+use Rattle.sim_states.specs.run_laws.specs.Runs.{SpecRun}
+use Rattle.sim_states.specs.run_laws.specs.Allows.{IsComplete}
+use Rattle.sim_states.specs.run_laws.specs.Routes.{Routes}
+use Rattle.sim_states.specs.run_laws.specs.Lawful.{Due, RunState, next_run, run_start, after_run, AllowsInRun, AllAllowedInRun, IsLawful}
 use Rattle.broken_laws.specs.declared.law.Law.{Law}
 use Rattle.broken_laws.specs.declared.law.Law.TheVariants.{L1, L2, L3, L4, L5, L6, L7, L8, L9}
 use Rattle.broken_laws.specs.declared.place.Place.{Place}

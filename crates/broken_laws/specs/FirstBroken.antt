@@ -3,11 +3,11 @@
 use Rattle.std.specs.Prelude.{Some, ◌≡◌, ◌⊎◌, ℕ, suc, ◌<◌, List, [], ◌∷◌, ◌++◌, length, take, slice_get}
 use Rattle.std.specs.List.{Any}
 use Rattle.rational.specs.Rational.{ℚ, ◌≤ℚ◌}
-use Rattle.run_laws.specs.declared.steps.Step.{Step}
-use Rattle.run_laws.specs.Runs.{SpecRun}
-use Rattle.run_laws.specs.Allows.{IsComplete}
-use Rattle.run_laws.specs.Routes.{Routes}
-use Rattle.run_laws.specs.Lawful.{RunState, next_run, run_start, after_run}
+use Rattle.sim_states.specs.run_laws.specs.declared.steps.Step.{Step}
+use Rattle.sim_states.specs.run_laws.specs.Runs.{SpecRun}
+use Rattle.sim_states.specs.run_laws.specs.Allows.{IsComplete}
+use Rattle.sim_states.specs.run_laws.specs.Routes.{Routes}
+use Rattle.sim_states.specs.run_laws.specs.Lawful.{RunState, next_run, run_start, after_run}
 use Rattle.broken_laws.specs.declared.law.Law.{Law}
 use Rattle.broken_laws.specs.declared.law.Law.TheVariants.{L1, L2, L3, L4, L5, L6, L7, L8, L9}
 use Rattle.broken_laws.specs.Broken.{Breaks}

@@ -1,9 +1,9 @@
 -- What holds of all recorded runs: one that breaks a law is not lawful, one that breaks none is, and there is one first
 -- broken law.
 use Rattle.std.specs.Prelude.{◌≡◌, ℕ, []}
-use Rattle.run_laws.specs.Runs.{SpecRun}
-use Rattle.run_laws.specs.Routes.{Routes}
-use Rattle.run_laws.specs.Lawful.{run_start, after_run, IsLawful}
+use Rattle.sim_states.specs.run_laws.specs.Runs.{SpecRun}
+use Rattle.sim_states.specs.run_laws.specs.Routes.{Routes}
+use Rattle.sim_states.specs.run_laws.specs.Lawful.{run_start, after_run, IsLawful}
 use Rattle.broken_laws.specs.declared.law.Law.{Law}
 use Rattle.broken_laws.specs.Recorded.{HasPaths, AreRecorded}
 use Rattle.broken_laws.specs.FirstBroken.{NoneBreaks, IsUnfinished, IsFirstBroken}

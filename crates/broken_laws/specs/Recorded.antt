@@ -1,11 +1,11 @@
 -- What is asked of a recorded run before its laws are looked at: its steps name live flows and servers of the network,
 -- and its packets, each of some bits, are numbered in the order in which they enter. Own choice.
 use Rattle.std.specs.Prelude.{◌≡◌, ℕ, ◌<◌, ◌≤◌, true, List, [], ◌∷◌, length}
-use Rattle.run_laws.specs.declared.steps.Step.{Step}
-use Rattle.run_laws.specs.declared.steps.Step.TheVariants.{Enter, Reach, Work, Leave, Visit}
-use Rattle.run_laws.specs.Routes.{Hop, Routes, route_of, PassesServer}
-use Rattle.run_laws.specs.Views.{Entry, entered_after}
-use Rattle.stated_runs.specs.Setups.{AreHopsOf}
+use Rattle.sim_states.specs.run_laws.specs.declared.steps.Step.{Step}
+use Rattle.sim_states.specs.run_laws.specs.declared.steps.Step.TheVariants.{Enter, Reach, Work, Leave, Visit}
+use Rattle.sim_states.specs.run_laws.specs.Routes.{Hop, Routes, route_of, PassesServer}
+use Rattle.sim_states.specs.run_laws.specs.Views.{Entry, entered_after}
+use Rattle.sim_states.specs.stated_runs.specs.Setups.{AreHopsOf}
 
 -- ---- paths
 -- no server twice

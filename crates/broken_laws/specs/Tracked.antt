@@ -2,17 +2,17 @@
 use Rattle.std.specs.Prelude.{Option, Some, None, ◌≡◌, ℕ, pos, ◌<◌, ◌≤◌, Bool, true, false, ◌==◌, if◌then◌else◌}
 use Rattle.std.specs.Prelude.{List, [], ◌∷◌, ◌++◌, length, get_or, set}
 use Rattle.rational.specs.Rational.{ℚ, int, ◌+ℚ◌}
-use Rattle.run_laws.specs.declared.steps.Step.{Step}
-use Rattle.run_laws.specs.declared.steps.Step.TheVariants.{Enter, Reach, Work, Leave, Visit}
-use Rattle.run_laws.specs.Cards.{Card, whole}
-use Rattle.run_laws.specs.Counts.{when}
-use Rattle.run_laws.specs.Servers.{Under, done}
-use Rattle.run_laws.specs.Routes.{Hop, Routes, route_of, link_at, PassesServer, first_server, server_after}
-use Rattle.run_laws.specs.Views.{Entry, entry_of, hops_of, card_of}
-use Rattle.run_laws.specs.Lawful.{Due, RunState, state_at}
-use Rattle.run_laws.proofs.Members.{Has}
-use Rattle.run_laws.proofs.States.{IsSound}
-use Rattle.stated_runs.proofs.GoodServers.{IsCardAt}
+use Rattle.sim_states.specs.run_laws.specs.declared.steps.Step.{Step}
+use Rattle.sim_states.specs.run_laws.specs.declared.steps.Step.TheVariants.{Enter, Reach, Work, Leave, Visit}
+use Rattle.sim_states.specs.run_laws.specs.Cards.{Card, whole}
+use Rattle.sim_states.specs.run_laws.specs.Counts.{when}
+use Rattle.sim_states.specs.run_laws.specs.Servers.{Under, done}
+use Rattle.sim_states.specs.run_laws.specs.Routes.{Hop, Routes, route_of, link_at, PassesServer, first_server, server_after}
+use Rattle.sim_states.specs.run_laws.specs.Views.{Entry, entry_of, hops_of, card_of}
+use Rattle.sim_states.specs.run_laws.specs.Lawful.{Due, RunState, state_at}
+use Rattle.sim_states.specs.run_laws.proofs.Members.{Has}
+use Rattle.sim_states.specs.run_laws.proofs.States.{IsSound}
+use Rattle.sim_states.specs.stated_runs.proofs.GoodServers.{IsCardAt}
 use Rattle.sim_states.specs.Places.{ArePlaced}
 use Rattle.broken_laws.specs.declared.place.Place.{Place}
 use Rattle.broken_laws.specs.declared.place.Place.TheVariants.{At, OnLink, Gone}

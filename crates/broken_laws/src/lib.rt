@@ -9,3 +9,4 @@ mod place;
 pub use law::Law;
 pub use laws::{broken_runs_are_unlawful, first_broken_is_one, unbroken_runs_are_lawful};
 pub use place::Place;
+pub use sim_states::{net_model, sim_servers};

@@ -1,9 +1,9 @@
 -- What an edit leaves untouched keeps its values.
 use Rattle.std.proofs.Common.{◌≡◌, ◌≢◌, ◌⊎◌, List, [], ◌∷◌, refl, sym, ap, ◌∙◌, subst, inl, inr}
 use Rattle.std.specs.Prelude.{false, Some, Ok, Err, IsTrue, Contains}
-use Rattle.upp_limits.specs.declared.op_kind.OpFault.{OpFault}
-use Rattle.upp_limits.specs.declared.op_kind.OpFault.TheVariants.{NoMemory}
-use Rattle.net_model.specs.Networks.{Net}
+use Rattle.net_cells.specs.upp_limits.specs.declared.op_kind.OpFault.{OpFault}
+use Rattle.net_cells.specs.upp_limits.specs.declared.op_kind.OpFault.TheVariants.{NoMemory}
+use Rattle.net_cells.specs.net_model.specs.Networks.{Net}
 use Rattle.net_cells.specs.declared.cell.Cell.{Cell}
 use Rattle.net_cells.specs.Cells.{has_cell}
 use Rattle.net_cells.specs.Formulas.{Formula, leaves}

@@ -4,10 +4,10 @@ use Rattle.std.specs.Prelude.{Option, Some, None, slice_get}
 use Rattle.std.proofs.lemmas.Bool.{ltb-true, eqb-true, and_parts}
 use Rattle.std.proofs.lemmas.List.{get_or_default}
 use Rattle.std.proofs.lemmas.Option.{slice_get_within, get_or_from_slice_get}
-use Rattle.run_laws.specs.Servers.{queue_count}
-use Rattle.net_model.specs.Networks.{Net, NetServer}
-use Rattle.net_model.specs.Accepted.{IsAccepted, IsFlow}
-use Rattle.net_model.proofs.FewQueues.{few_of}
+use Rattle.net_cells.specs.run_laws.specs.Servers.{queue_count}
+use Rattle.net_cells.specs.net_model.specs.Networks.{Net, NetServer}
+use Rattle.net_cells.specs.net_model.specs.Accepted.{IsAccepted, IsFlow}
+use Rattle.net_cells.specs.net_model.proofs.FewQueues.{few_of}
 use Rattle.net_cells.specs.declared.cell.Scope.{Scope}
 use Rattle.net_cells.specs.declared.cell.Scope.TheVariants.{EachHop, EachHopButLast, EachQueue, EachPriorityQueue, EachPath}
 use Rattle.net_cells.specs.Numbered.{hops, queues, levels, discipline_of, is_live}

@@ -1,13 +1,13 @@
 //! The evaluator of the program.
 
 use crate::each_kind::eval;
+use cell_table::net_cells::Cell;
+use cell_table::net_model::Network;
 use cell_table::{Evaluator, Table, Value};
-use net_cells::Cell;
-use net_model::Network;
+use curve_conv::upp_limits::OpFault;
 use std::alloc::Global;
 use std::sync::ledger::Ledger;
 use steps::Steps;
-use upp_limits::OpFault;
 
 /// Makes values by the definitions, and counts each operator on curves in the caller's counter.
 #[derive(Drop)]

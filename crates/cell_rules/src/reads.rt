@@ -2,16 +2,16 @@
 
 ghost use Rattle.std.specs.Prelude.{◌≡◌, IsTrue};
 ghost use Rattle.upp_curve.specs.Curves.{IsCurve};
-ghost use Rattle.net_cells.specs.CellFormulas.{link_delays};
-ghost use Rattle.net_cells.specs.Numbered as at;
+ghost use Rattle.cell_eval.specs.net_cells.specs.CellFormulas.{link_delays};
+ghost use Rattle.cell_eval.specs.net_cells.specs.Numbered as at;
 ghost use Rattle.cell_rules.specs.Rules.{TellsSame, hop_queue};
 
+use cell_eval::net_cells::{hops, live_flow, queue_of_hop, server_of_hop};
+use cell_eval::net_model::Network;
+use cell_eval::upp_normal::normal_form_is_unique;
+use cell_eval::{link, packet};
 use fraction128::Frac;
-use net_cells::{hops, live_flow, queue_of_hop, server_of_hop};
-use net_model::Network;
-use queue_hops::{link, packet};
 use upp_curve::{Curve, equal};
-use upp_normal::normal_form_is_unique;
 
 /// Whether two curves are one.
 pub(crate) fn same_curve(f: &Curve, g: &Curve) -> bool

@@ -3,7 +3,7 @@ use Rattle.std.specs.Prelude.{Result, Ok, Err}
 use Rattle.std.specs.Option.{option_map}
 use Rattle.std.specs.declared.cmp.Ordering.{Ordering}
 use Rattle.std.specs.BTreeMap.{BTreeMap, get}
-use Rattle.upp_limits.specs.declared.op_kind.OpFault.{OpFault}
+use Rattle.net_cells.specs.upp_limits.specs.declared.op_kind.OpFault.{OpFault}
 use Rattle.net_cells.specs.declared.cell.Cell.{Cell}
 use Rattle.net_cells.specs.Meanings.{Meaning, curve, number, CellTable}
 use Rattle.net_cells.specs.Answers.{Answer}

@@ -11,8 +11,8 @@ ghost use Rattle.cell_table.specs.Values.{answer_of};
 
 use crate::table::{CellValue, Table};
 use net_cells::Cell;
-use net_model::Network;
-use upp_limits::OpFault;
+use net_cells::net_model::Network;
+use net_cells::upp_limits::OpFault;
 
 /// What makes the value of a cell from those of the cells that it is made of.
 pub trait Evaluator<V: CellValue> {

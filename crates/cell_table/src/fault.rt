@@ -4,7 +4,7 @@ ghost use Rattle.std.specs.Prelude.{◌≡◌};
 ghost use Rattle.cell_table.specs.Refusals.{fault_at};
 
 use net_cells::Cell;
-use upp_limits::OpFault;
+use net_cells::upp_limits::OpFault;
 
 /// Why there is no table of all values.
 #[derive(Debug, Clone, Copy, PartialEq, Eq)]

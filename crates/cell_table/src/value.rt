@@ -3,9 +3,9 @@
 ghost use Rattle.cell_table.specs.Values.{meaning_of};
 
 use crate::table::CellValue;
-use fraction128::Ext;
+use net_cells::fraction128::Ext;
+use net_cells::upp_curve::Curve;
 use std::rc::Rc;
-use upp_curve::Curve;
 
 /// What a cell has: a curve, which other cells may share, or a number, which may be infinite.
 #[derive(Drop)]

@@ -9,7 +9,7 @@ use Rattle.run_laws.specs.Runs.{SpecRun}
 use Rattle.net_model.specs.Networks.{Net}
 use Rattle.run_table.specs.ReadRuns as read
 use Rattle.run_table.specs.ReadRuns.{IsRecordedRun}
-use Rattle.check_gauge.specs.Runs.{times_of, IsFromZero}
+use Rattle.recorded_sizes.specs.check_gauge.specs.Runs.{times_of, IsFromZero}
 
 times_from : (xs : List Step) → AllByRecursion read.IsFromZero xs
     → AllByRecursion (λ t. int (pos 0) ≤ℚ t) (times_of xs)

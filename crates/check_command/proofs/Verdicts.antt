@@ -5,11 +5,11 @@ use Rattle.run_laws.specs.Runs.{SpecRun}
 use Rattle.net_model.specs.Accepted.{IsAccepted}
 use Rattle.net_model.specs.Networks.{Net}
 use Rattle.net_model.specs.NetRoutes.{routes_of}
-use Rattle.net_cells.specs.Meanings.{CellTable}
-use Rattle.broken_laws.proofs.WholeRuns.{broken_is_unlawful}
-use Rattle.run_check.proofs.Started.{has_paths}
-use Rattle.simulated_sizes.specs.Laws.{AreCurves}
-use Rattle.command_replies.specs.Replies.{Reply}
+use Rattle.run_findings.specs.net_cells.specs.Meanings.{CellTable}
+use Rattle.recorded_sizes.specs.broken_laws.proofs.WholeRuns.{broken_is_unlawful}
+use Rattle.recorded_sizes.specs.run_check.proofs.Started.{has_paths}
+use Rattle.run_findings.specs.simulated_sizes.specs.Laws.{AreCurves}
+use Rattle.run_findings.specs.command_replies.specs.Replies.{Reply}
 use Rattle.run_findings.specs.Statuses.{StatusTells}
 use Rattle.run_findings.proofs.Reports.{tells}
 use Rattle.check_report.specs.CheckReport.{lawful_report_of}

@@ -8,11 +8,11 @@ use Rattle.run_laws.specs.Lawful.{IsLawful}
 use Rattle.run_laws.specs.Runs.{SpecRun}
 use Rattle.net_model.specs.Networks.{Net}
 use Rattle.net_model.specs.NetRoutes.{routes_of}
-use Rattle.net_cells.specs.Meanings.{CellTable}
-use Rattle.broken_laws.specs.declared.law.Law.{Law}
-use Rattle.broken_laws.specs.FirstBroken.{IsFirstBroken}
-use Rattle.check_gauge.specs.Gauge.{check_gauge}
-use Rattle.command_replies.specs.Replies.{Reply, refusal, over}
+use Rattle.run_findings.specs.net_cells.specs.Meanings.{CellTable}
+use Rattle.recorded_sizes.specs.broken_laws.specs.declared.law.Law.{Law}
+use Rattle.recorded_sizes.specs.broken_laws.specs.FirstBroken.{IsFirstBroken}
+use Rattle.recorded_sizes.specs.check_gauge.specs.Gauge.{check_gauge}
+use Rattle.run_findings.specs.command_replies.specs.Replies.{Reply, refusal, over}
 use Rattle.run_table.specs.declared.fault.RunFault.{RunFault}
 use Rattle.run_table.specs.declared.fault.RunKind.{RunKind}
 use Rattle.run_table.specs.declared.fault.RunKind.TheVariants.{T1, T2, T3, T4, T5, T7, T8, NoMemory}

@@ -3,16 +3,16 @@
 ghost use Rattle.std.specs.Prelude.{IfOk};
 ghost use Rattle.net_model.specs.Orders.{IsOrder};
 ghost use Rattle.run_table.specs.ReadRuns.{IsRecordedRun};
-ghost use Rattle.command_replies.specs.View.{reply_of, status_of};
+ghost use Rattle.run_findings.specs.command_replies.specs.View.{reply_of, status_of};
 ghost use Rattle.run_findings.specs.CellCounts.{CountsOnCells};
 ghost use Rattle.check_command.specs.OnRuns.{IsCheckReplyOnRun};
 
 use crate::checked::checked;
-use cell_table::AnalysisFault;
-use command_replies::{Answer, cell_too_many, cell_too_wide, goes_round};
 use flow_analysis::analyse;
 use net_graph::{GraphFault, order};
 use net_model::Network;
+use run_findings::cell_table::AnalysisFault;
+use run_findings::command_replies::{Answer, cell_too_many, cell_too_wide, goes_round};
 use run_findings::keeps_curves;
 use run_laws::Run;
 use std::alloc::{AllocError, Global};

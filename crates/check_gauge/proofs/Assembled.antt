@@ -8,8 +8,8 @@ use Rattle.upp_limits.proofs.Every.{every_append, every_left, every_right}
 use Rattle.upp_limits.proofs.JoinedNumbers.{joined_assoc}
 use Rattle.upp_limits.proofs.SameSizes.{Equals}
 use Rattle.run_laws.specs.Runs.{SpecRun}
-use Rattle.net_model.specs.Networks.{Net, NetServer}
-use Rattle.sim_bounds.specs.Gauge.{arrivals_of}
+use Rattle.window_numbers.specs.net_model.specs.Networks.{Net, NetServer}
+use Rattle.window_numbers.specs.sim_bounds.specs.Gauge.{arrivals_of}
 use Rattle.window_numbers.proofs.NetCurves.{services, arrivals}
 use Rattle.window_numbers.proofs.SameGathered.{curves_split, gathers_equal}
 use Rattle.check_gauge.specs.Runs.{last_time}

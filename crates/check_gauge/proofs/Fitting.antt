@@ -16,12 +16,12 @@ use Rattle.upp_limits.proofs.Stands.{stands_right}
 use Rattle.run_laws.specs.declared.steps.Step.{Step}
 use Rattle.run_laws.specs.declared.steps.Step.TheVariants.{Enter, Reach, Work, Leave, Visit}
 use Rattle.run_laws.specs.Runs.{SpecRun}
-use Rattle.net_model.specs.Networks.{Net, NetServer}
-use Rattle.stated_runs.specs.TimeGrids.{IsTime}
-use Rattle.stated_runs.proofs.GridTimes.{sum_fits, difference_fits}
-use Rattle.sim_bounds.specs.Horizons.{latest_of}
-use Rattle.sim_bounds.specs.Gauge.{numbers_of_curves, curves_of}
-use Rattle.sim_bounds.proofs.Spans.{latest_nonneg}
+use Rattle.window_numbers.specs.net_model.specs.Networks.{Net, NetServer}
+use Rattle.window_numbers.specs.stated_runs.specs.TimeGrids.{IsTime}
+use Rattle.window_numbers.specs.stated_runs.proofs.GridTimes.{sum_fits, difference_fits}
+use Rattle.window_numbers.specs.sim_bounds.specs.Horizons.{latest_of}
+use Rattle.window_numbers.specs.sim_bounds.specs.Gauge.{numbers_of_curves, curves_of}
+use Rattle.window_numbers.specs.sim_bounds.proofs.Spans.{latest_nonneg}
 use Rattle.window_numbers.proofs.NetCurves.{CurvesHeld, held_apart}
 use Rattle.check_gauge.specs.Runs.{step_times, times_of, step_end, last_time, IsFromZero, work_pace, paces_of}
 use Rattle.check_gauge.specs.Gauge.{links_of, named_numbers, largest_link, farthest, check_sizes}

@@ -19,11 +19,11 @@ use Rattle.upp_limits.proofs.NarrowSizes.{narrow_limit, scaled_fits}
 use Rattle.upp_limits.proofs.SameSizes.{make_sizes}
 use Rattle.upp_limits.proofs.Stands.{stands_left, stands_right}
 use Rattle.run_laws.specs.Runs.{SpecRun}
-use Rattle.net_model.specs.Networks.{Net, NetServer}
-use Rattle.stated_runs.specs.TimeGrids.{HasRoom}
-use Rattle.sim_bounds.specs.Horizons.{latest_of}
-use Rattle.sim_bounds.specs.Gauge.{numbers_of_curves, curves_of}
-use Rattle.sim_bounds.proofs.Spans.{latest_nonneg}
+use Rattle.window_numbers.specs.net_model.specs.Networks.{Net, NetServer}
+use Rattle.window_numbers.specs.stated_runs.specs.TimeGrids.{HasRoom}
+use Rattle.window_numbers.specs.sim_bounds.specs.Horizons.{latest_of}
+use Rattle.window_numbers.specs.sim_bounds.specs.Gauge.{numbers_of_curves, curves_of}
+use Rattle.window_numbers.specs.sim_bounds.proofs.Spans.{latest_nonneg}
 use Rattle.window_numbers.specs.Rated.{gauge_with}
 use Rattle.window_numbers.proofs.Products.{sizes_with, held_all}
 use Rattle.check_gauge.specs.Runs.{times_of, last_time, step_end, total_bits}

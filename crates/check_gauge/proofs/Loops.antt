@@ -5,9 +5,9 @@ use Rattle.std.specs.Prelude.{true, false}
 use Rattle.rational.specs.Rational.{ℚ, ◌-ℚ◌, ◌/ℚ◌, lt_q}
 use Rattle.upp_limits.specs.Limits.{Numbers, joined, time_alone, value_alone, slope_alone}
 use Rattle.upp_limits.proofs.JoinedNumbers.{joined_assoc, joined_three}
-use Rattle.net_model.specs.declared.server.Server.{Server}
-use Rattle.net_model.specs.Networks.{NetServer}
-use Rattle.net_model.specs.Views.{server_of, servers_of}
+use Rattle.window_numbers.specs.net_model.specs.declared.server.Server.{Server}
+use Rattle.window_numbers.specs.net_model.specs.Networks.{NetServer}
+use Rattle.window_numbers.specs.net_model.specs.Views.{server_of, servers_of}
 use Rattle.window_numbers.proofs.Loops.{IsPartwise}
 use Rattle.check_gauge.specs.Runs.{work_pace}
 use Rattle.check_gauge.specs.Named.{link_and_rate, links_and_rates, work_numbers, step_numbers, steps_numbers}

@@ -6,9 +6,9 @@ use Rattle.rational.specs.Gauge.{common_den, bound_of}
 use Rattle.min_plus.specs.WholeUp.{whole_up}
 use Rattle.upp_limits.specs.Limits.{Numbers, Sizes, joined, twice, gauge_of}
 use Rattle.run_laws.specs.Runs.{SpecRun}
-use Rattle.net_model.specs.Networks.{Net, NetServer}
-use Rattle.sim_bounds.specs.Horizons.{latest_of}
-use Rattle.sim_bounds.specs.Gauge.{numbers_of_curves, curves_of, rates_of}
+use Rattle.window_numbers.specs.net_model.specs.Networks.{Net, NetServer}
+use Rattle.window_numbers.specs.sim_bounds.specs.Horizons.{latest_of}
+use Rattle.window_numbers.specs.sim_bounds.specs.Gauge.{numbers_of_curves, curves_of, rates_of}
 use Rattle.check_gauge.specs.Runs.{times_of, last_time, total_bits, works_of, paces_of}
 
 abbrev pub links_of : Net → List ℚ

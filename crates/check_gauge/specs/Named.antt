@@ -4,7 +4,7 @@ use Rattle.std.specs.List.{flat_map}
 use Rattle.rational.specs.Rational.{ℚ}
 use Rattle.run_laws.specs.declared.steps.Step.{Step}
 use Rattle.upp_limits.specs.Limits.{Numbers}
-use Rattle.net_model.specs.Networks.{NetServer}
+use Rattle.window_numbers.specs.net_model.specs.Networks.{NetServer}
 use Rattle.check_gauge.specs.Runs.{step_times, step_works, step_paces, work_pace}
 
 -- links and rates

@@ -6,7 +6,7 @@ use Rattle.rational.specs.MinMax.{max_q}
 use Rattle.run_laws.specs.declared.steps.Step.{Step}
 use Rattle.run_laws.specs.declared.steps.Step.TheVariants.{Enter, Reach, Work, Leave, Visit}
 use Rattle.run_laws.specs.Runs.{SpecRun}
-use Rattle.sim_bounds.specs.Horizons.{latest_of}
+use Rattle.window_numbers.specs.sim_bounds.specs.Horizons.{latest_of}
 
 -- ---- times: of work its start and its end, of another step its time
 abbrev pub step_times : Step → List ℚ

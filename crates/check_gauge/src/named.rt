@@ -4,14 +4,14 @@ ghost use Rattle.std.specs.Prelude.{◌≡◌, pos, IfSome, IsSome};
 ghost use Rattle.rational.specs.Rational.{int, ◌-ℚ◌, ◌/ℚ◌, ◌<ℚ◌};
 ghost use Rattle.upp_limits.specs.Gathered.{Gathers};
 ghost use Rattle.upp_limits.specs.Limits.{Numbers, joined};
-ghost use Rattle.net_model.specs.Views.{server_of, servers_of};
+ghost use Rattle.window_numbers.specs.net_model.specs.Views.{server_of, servers_of};
 ghost use Rattle.check_gauge.specs.Named.{link_and_rate, links_and_rates, work_numbers, step_numbers, steps_numbers};
 ghost use Rattle.check_gauge.specs.Paces.{WorkFits, PaceFits, PacesFit};
 
 use fraction128::{Frac, is_less};
-use net_model::Server;
 use run_laws::Step;
 use upp_limits::gathered::Gathered;
+use window_numbers::net_model::Server;
 use window_numbers::{minus, over};
 
 /// The link and the rate of a server more.

@@ -1,15 +1,15 @@
 //! How late the steps of a run are, how long a packet may be on a link, and the bits of all packets.
 
 ghost use Rattle.std.specs.Prelude.{◌≡◌, ◌<◌, ◌^◌, length};
-ghost use Rattle.net_model.specs.Networks.{NetServer};
-ghost use Rattle.net_model.specs.Views.{servers_of};
-ghost use Rattle.sim_bounds.specs.Horizons.{latest_of};
+ghost use Rattle.window_numbers.specs.net_model.specs.Networks.{NetServer};
+ghost use Rattle.window_numbers.specs.net_model.specs.Views.{servers_of};
+ghost use Rattle.window_numbers.specs.sim_bounds.specs.Horizons.{latest_of};
 ghost use Rattle.check_gauge.specs.Runs.{step_end, last_time, entering_bits, total_bits};
 ghost use Rattle.check_gauge.specs.Gauge.{largest_link};
 
 use fraction128::{Frac, greater};
-use net_model::{Network, Server};
 use run_laws::{Run, Step};
+use window_numbers::net_model::{Network, Server};
 
 /// The time of a step; of work the later of its start and its end.
 fn step_end(step: &Step) -> Frac

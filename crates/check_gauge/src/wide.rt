@@ -8,9 +8,9 @@ ghost use Rattle.check_gauge.specs.Gauge.{check_numbers, check_gauge};
 use crate::named::{with_links_and_rates, with_steps};
 use crate::times::{largest_link, last_time, total_bits};
 use fraction128::Frac;
-use net_model::Network;
 use run_laws::Run;
 use upp_limits::gathered::Gathered;
+use window_numbers::net_model::Network;
 use window_numbers::{is_over, plus, with_arrivals, with_services};
 
 /// All numbers of a check. None only where the gauge is 2^120 or more.

@@ -6,9 +6,9 @@ ghost use Rattle.check_report.specs.CheckReport.{lawful_report_of, unlawful_repo
 
 use crate::verdict::{push_unlawful, push_verdict};
 use broken_laws::Law;
-use cell_table::Table;
 use fraction128::Frac;
-use net_model::Network;
+use report_text::cell_table::Table;
+use report_text::net_model::Network;
 use report_text::{RunFound, ShownValue, push_head, push_peaks, push_run_line, push_worsts};
 use std::alloc::{AllocError, Global};
 

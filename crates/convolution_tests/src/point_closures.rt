@@ -1,9 +1,9 @@
 //! Closures worked out by hand.
 
-use closure_elements::point_closure;
 use fraction128::{Frac, is_less};
 use std::alloc::Global;
 use std::test::Fail;
+use subadd_closure::point_closure;
 use test_curves::{value, whole};
 use upp_curve::Curve;
 use upp_limits::OpFault;

@@ -1,11 +1,11 @@
 //! Closures of lines on open stretches, worked out by hand.
 
 use affine_segment::Line;
-use closure_elements::segment_closure;
 use fraction128::Frac;
 use rational::Extended;
 use std::alloc::Global;
 use std::test::Fail;
+use subadd_closure::segment_closure;
 use test_curves::{ratio, value};
 use upp_curve::Curve;
 use upp_limits::OpFault;

@@ -1,27 +1,27 @@
 -- What elements make, as it goes on from a time, is there: found by proof alone, where no code runs.
 use Rattle.std.specs.Prelude.{◌≡◌, ◌⊎◌, List, [], ◌∷◌, Option, Some, None}
 use Rattle.std.proofs.Common.{sym, refl, subst, inl, inr}
-use Rattle.rational.specs.Rational.{ℚ, ◌-ℚ◌, ◌/ℚ◌, ◌<ℚ◌}
-use Rattle.rational.specs.Extended.{Ext, ◌<ₑ◌, min_ext}
-use Rattle.rational.specs.declared.Extended.TheVariants.{Fin, Inf}
-use Rattle.rational.proofs.Laws.{lt_cases, le_or_lt, lt_irrefl, le_lt_trans}
-use Rattle.affine_segment.specs.declared.line.Line.{Line}
-use Rattle.affine_segment.specs.declared.element.Element.{Element}
-use Rattle.affine_segment.specs.declared.element.Element.TheVariants.{Point, Open}
-use Rattle.affine_segment.specs.declared.element.Joined.{Joined}
-use Rattle.affine_segment.specs.Elements.{IsProper, element_value, part_value, joined_value, IsConvolved}
-use Rattle.affine_segment.specs.MadeParts.{AreParts}
-use Rattle.affine_segment.specs.Values.{line_at}
-use Rattle.affine_segment.proofs.Meeting.{lines_meet}
-use Rattle.upp_normal.specs.declared.ahead.Stretch.{Stretch}
-use Rattle.upp_limits.specs.Limits.{Sizes}
-use Rattle.upp_normal.specs.Ahead.{GoesOn, IsBeforeNext}
+use Rattle.curve_pointwise.specs.rational.specs.Rational.{ℚ, ◌-ℚ◌, ◌/ℚ◌, ◌<ℚ◌}
+use Rattle.curve_pointwise.specs.rational.specs.Extended.{Ext, ◌<ₑ◌, min_ext}
+use Rattle.curve_pointwise.specs.rational.specs.declared.Extended.TheVariants.{Fin, Inf}
+use Rattle.curve_pointwise.specs.rational.proofs.Laws.{lt_cases, le_or_lt, lt_irrefl, le_lt_trans}
+use Rattle.curve_pointwise.specs.affine_segment.specs.declared.line.Line.{Line}
+use Rattle.curve_pointwise.specs.affine_segment.specs.declared.element.Element.{Element}
+use Rattle.curve_pointwise.specs.affine_segment.specs.declared.element.Element.TheVariants.{Point, Open}
+use Rattle.curve_pointwise.specs.affine_segment.specs.declared.element.Joined.{Joined}
+use Rattle.curve_pointwise.specs.affine_segment.specs.Elements.{IsProper, element_value, part_value, joined_value, IsConvolved}
+use Rattle.curve_pointwise.specs.affine_segment.specs.MadeParts.{AreParts}
+use Rattle.curve_pointwise.specs.affine_segment.specs.Values.{line_at}
+use Rattle.curve_pointwise.specs.affine_segment.proofs.Meeting.{lines_meet}
+use Rattle.curve_pointwise.specs.upp_normal.specs.declared.ahead.Stretch.{Stretch}
+use Rattle.curve_pointwise.specs.upp_limits.specs.Limits.{Sizes}
+use Rattle.curve_pointwise.specs.upp_normal.specs.Ahead.{GoesOn, IsBeforeNext}
 use Rattle.element_envelope.specs.PieceElements.{Among}
 use Rattle.element_envelope.specs.ElementRoom.{OperandElement, SumElement, SumPart}
 use Rattle.element_envelope.specs.Envelopes.{ListSplit, list_sum}
 use Rattle.element_envelope.proofs.ElementSizes.{parts_stand}
 use Rattle.element_envelope.proofs.Envelopes.{envelope_rules}
-use Rattle.pair_existence.proofs.Pairs.{pair_of}
+use Rattle.element_envelope.proofs.FoundPairs.{pair_of}
 use Rattle.curve_conv.specs.declared.lower.Under.{Under}
 use Rattle.curve_conv.specs.Stretches.{SumStretch, SumTimeIn, IsUnder, IsEarliest, IsAhead, end_time, IsProperPart}
 use Rattle.curve_conv.proofs.Lowers.{meeting_before, meeting_after, parallel_first, parallel_second, under_turned, under_none, under_left, earliest_first, earliest_second, lower_goes, lower_next, lower_stands}

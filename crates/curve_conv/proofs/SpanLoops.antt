@@ -1,26 +1,26 @@
 -- The elements of a curve over some times, stretch by stretch, and the part that the pairs of two lists of them make.
 use Rattle.std.specs.Prelude.{◌≡◌, ◌↔◌, ℕ, pos, Bool, true, false, IsTrue, List, [], ◌++◌, Option, Some, None}
 use Rattle.std.proofs.Common.{arith, sym, ap, ap₂, ◌∙◌, refl, subst, inl, inr, true≢false}
-use Rattle.rational.specs.Rational.{ℚ, ◌+ℚ◌, ◌≤ℚ◌, ◌<ℚ◌, int}
-use Rattle.rational.specs.Grid.{Whole}
-use Rattle.rational.specs.Extended.{Ext, ◌≤ₑ◌, ◌+ₑ◌}
-use Rattle.rational.specs.declared.Extended.TheVariants.{Fin, Inf}
-use Rattle.rational.proofs.Linear.{with4}
-use Rattle.rational.proofs.Laws.{le_refl, le_trans, le_of_lt, le_lt_trans, lt_le_trans, lt_cases, lt_irrefl}
-use Rattle.rational.proofs.ExtendedOrder.{same_le_ext, finite_sum}
-use Rattle.affine_segment.specs.declared.line.Line.{Line}
-use Rattle.affine_segment.specs.declared.line.Piece.{Piece}
-use Rattle.affine_segment.specs.declared.element.Element.{Element}
-use Rattle.affine_segment.specs.declared.element.Element.TheVariants.{Point, Open}
-use Rattle.affine_segment.specs.Elements.{IsProper, Covers}
-use Rattle.affine_segment.specs.Values.{line_value}
-use Rattle.upp_normal.specs.declared.ahead.Stretch.{Stretch}
-use Rattle.upp_curve.specs.Curve.{SpecCurve, value_at}
-use Rattle.upp_limits.specs.Limits.{Sizes}
-use Rattle.affine_segment.specs.Reading.{read}
-use Rattle.upp_normal.specs.Operand.{AreLimited, OperandLineAt}
-use Rattle.upp_normal.specs.Ahead.{GoesOn, IsBeforeNext, AtNext, HasWindow, IsTimeIn, TimesStand, GridValue}
-use Rattle.upp_normal.proofs.StretchSizes.{times_stand}
+use Rattle.curve_pointwise.specs.rational.specs.Rational.{ℚ, ◌+ℚ◌, ◌≤ℚ◌, ◌<ℚ◌, int}
+use Rattle.curve_pointwise.specs.rational.specs.Grid.{Whole}
+use Rattle.curve_pointwise.specs.rational.specs.Extended.{Ext, ◌≤ₑ◌, ◌+ₑ◌}
+use Rattle.curve_pointwise.specs.rational.specs.declared.Extended.TheVariants.{Fin, Inf}
+use Rattle.curve_pointwise.specs.rational.proofs.Linear.{with4}
+use Rattle.curve_pointwise.specs.rational.proofs.Laws.{le_refl, le_trans, le_of_lt, le_lt_trans, lt_le_trans, lt_cases, lt_irrefl}
+use Rattle.curve_pointwise.specs.rational.proofs.ExtendedOrder.{same_le_ext, finite_sum}
+use Rattle.curve_pointwise.specs.affine_segment.specs.declared.line.Line.{Line}
+use Rattle.curve_pointwise.specs.affine_segment.specs.declared.line.Piece.{Piece}
+use Rattle.curve_pointwise.specs.affine_segment.specs.declared.element.Element.{Element}
+use Rattle.curve_pointwise.specs.affine_segment.specs.declared.element.Element.TheVariants.{Point, Open}
+use Rattle.curve_pointwise.specs.affine_segment.specs.Elements.{IsProper, Covers}
+use Rattle.curve_pointwise.specs.affine_segment.specs.Values.{line_value}
+use Rattle.curve_pointwise.specs.upp_normal.specs.declared.ahead.Stretch.{Stretch}
+use Rattle.curve_pointwise.specs.upp_curve.specs.Curve.{SpecCurve, value_at}
+use Rattle.curve_pointwise.specs.upp_limits.specs.Limits.{Sizes}
+use Rattle.curve_pointwise.specs.affine_segment.specs.Reading.{read}
+use Rattle.curve_pointwise.specs.upp_normal.specs.Operand.{AreLimited, OperandLineAt}
+use Rattle.curve_pointwise.specs.upp_normal.specs.Ahead.{GoesOn, IsBeforeNext, AtNext, HasWindow, IsTimeIn, TimesStand, GridValue}
+use Rattle.curve_pointwise.specs.upp_normal.proofs.StretchSizes.{times_stand}
 use Rattle.element_envelope.specs.PieceElements.{Among, ElementAt}
 use Rattle.element_envelope.specs.ElementRoom.{WindowTime, OperandElement}
 use Rattle.element_envelope.specs.Envelopes.{ListSplit, list_sum, IsEnvelope}

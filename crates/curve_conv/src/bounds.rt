@@ -1,8 +1,8 @@
 //! Between which numbers of periods the least one of a convolution is, from few numbers of each curve.
 
 ghost use Rattle.std.specs.Prelude.{◌≡◌, ◌+◌, pos, IfSome};
-ghost use Rattle.rational.specs.Rational.{int, ◌-ℚ◌, ◌*ℚ◌, ◌≤ℚ◌, ◌<ℚ◌};
-ghost use Rattle.upp_curve.specs.Steady.{steady, rise_over};
+ghost use Rattle.curve_pointwise.specs.rational.specs.Rational.{int, ◌-ℚ◌, ◌*ℚ◌, ◌≤ℚ◌, ◌<ℚ◌};
+ghost use Rattle.curve_pointwise.specs.upp_curve.specs.Steady.{steady, rise_over};
 ghost use Rattle.curve_conv.specs.Late.{IsLateAfter, IsLateCall, IsPartsCall};
 ghost use Rattle.curve_conv.specs.LateBounds.{IsLateBounds, IsSlowerBounds};
 
@@ -10,10 +10,9 @@ use crate::extremes::{checked_sum, depth_over, extremes_of, most_gap, rest, top_
 use crate::number::lead;
 use crate::order::is_slower_curve;
 use crate::rows::Scan;
-use curve_call::{begin, rise_over};
-use curve_least::{Bounds, Side, is_slower, zero_level};
-use fraction128::{Frac, is_less};
-use upp_curve::Curve;
+use curve_pointwise::curve_call::{Bounds, Side, begin, is_slower, rise_over, zero_level};
+use curve_pointwise::fraction128::{Frac, is_less};
+use curve_pointwise::upp_curve::Curve;
 
 /// A number n of periods with the gap at most n + 1 times the lead; none where the gap over the lead does not fit.
 pub fn periods_over(gap: Frac, lead: Frac) -> Option<u128>

@@ -12,34 +12,34 @@ use Rattle.rational.proofs.MinMax.{max_q_ge_left, max_q_ge_right}
 use Rattle.rational.proofs.Laws.{le_or_lt, le_refl, le_trans, le_of_lt}
 use Rattle.rational.proofs.ExtendedOrder.{le_ext_trans, finite_below, fin_same}
 use Rattle.rational.proofs.Bounds.{smallest}
-use Rattle.affine_segment.specs.declared.line.Line.{Line}
-use Rattle.affine_segment.specs.declared.line.Piece.{Piece}
-use Rattle.affine_segment.specs.Values.{line_at, line_value}
-use Rattle.affine_segment.specs.Reading.{read, piece_in, piece_value}
-use Rattle.upp_curve.specs.Curve.{SpecCurve, value_at}
-use Rattle.upp_curve.specs.Curves.{IsCurve}
+use Rattle.curve_running.specs.affine_segment.specs.declared.line.Line.{Line}
+use Rattle.curve_running.specs.affine_segment.specs.declared.line.Piece.{Piece}
+use Rattle.curve_running.specs.affine_segment.specs.Values.{line_at, line_value}
+use Rattle.curve_running.specs.affine_segment.specs.Reading.{read, piece_in, piece_value}
+use Rattle.curve_running.specs.upp_curve.specs.Curve.{SpecCurve, value_at}
+use Rattle.curve_running.specs.upp_curve.specs.Curves.{IsCurve}
 use Rattle.min_plus.specs.Functions.{zero_q, IsRising, IsNonnegative, FiniteTime}
-use Rattle.affine_segment.specs.Pieces.{Each, StartsAtZero}
-use Rattle.upp_curve.specs.Steady.{steady, rise_over}
-use Rattle.upp_limits.specs.Periods.{common_period, both_steady}
-use Rattle.upp_curve.specs.Unrolled.{unroll}
-use Rattle.upp_limits.specs.Gauges.{both_numbers}
-use Rattle.upp_limits.specs.Limits.{Sizes, curve_numbers, sizes_of}
-use Rattle.upp_limits.specs.Sized.{AreSizes, LineStands, Stands, ValueStands}
-use Rattle.upp_normal.proofs.Below.{unroll_reads}
-use Rattle.upp_limits.proofs.CurveStands.{are_sizes}
-use Rattle.affine_segment.proofs.PieceIn.{value_past, value_by}
-use Rattle.upp_limits.proofs.NarrowSizes.{run_within}
-use Rattle.upp_normal.proofs.NormaliseRoomy.{each_in, found_early}
-use Rattle.upp_limits.proofs.Stands.{sizes_stand, stands_left, stands_right}
-use Rattle.upp_normal.proofs.UnrolledPieces.{PieceStands, each_nonneg, each_with, pieces_stand, unroll_each, unroll_starts}
-use Rattle.upp_limits.proofs.PieceLists.{starts_nonneg}
-use Rattle.curve_call.proofs.CurveRises.{common_first, common_second}
+use Rattle.curve_running.specs.affine_segment.specs.Pieces.{Each, StartsAtZero}
+use Rattle.curve_running.specs.upp_curve.specs.Steady.{steady, rise_over}
+use Rattle.curve_running.specs.upp_limits.specs.Periods.{common_period, both_steady}
+use Rattle.curve_running.specs.upp_curve.specs.Unrolled.{unroll}
+use Rattle.curve_running.specs.upp_limits.specs.Gauges.{both_numbers}
+use Rattle.curve_running.specs.upp_limits.specs.Limits.{Sizes, curve_numbers, sizes_of}
+use Rattle.curve_running.specs.upp_limits.specs.Sized.{AreSizes, LineStands, Stands, ValueStands}
+use Rattle.curve_running.specs.upp_normal.proofs.Below.{unroll_reads}
+use Rattle.curve_running.specs.upp_limits.proofs.CurveStands.{are_sizes}
+use Rattle.curve_running.specs.affine_segment.proofs.PieceIn.{value_past, value_by}
+use Rattle.curve_running.specs.upp_limits.proofs.NarrowSizes.{run_within}
+use Rattle.curve_running.specs.upp_normal.proofs.NormaliseRoomy.{each_in, found_early}
+use Rattle.curve_running.specs.upp_limits.proofs.Stands.{sizes_stand, stands_left, stands_right}
+use Rattle.curve_running.specs.upp_normal.proofs.UnrolledPieces.{PieceStands, each_nonneg, each_with, pieces_stand, unroll_each, unroll_starts}
+use Rattle.curve_running.specs.upp_limits.proofs.PieceLists.{starts_nonneg}
+use Rattle.curve_running.specs.curve_call.proofs.CurveRises.{common_first, common_second}
 use Rattle.curve_deconv.specs.DeconvolutionLaws.{IsDeconvolved, DeconvolutionKeeps, DeconvolutionIsFinite}
 use Rattle.curve_deconv.proofs.Reduced.{AreRepeating, early}
 use Rattle.curve_deconv.proofs.Slower.{slower_rise, repeats_from}
-use Rattle.upp_curve.proofs.SteadyTimes.{steady_nonneg}
-use Rattle.curve_call.proofs.CurveTimes.{common_some}
+use Rattle.curve_running.specs.upp_curve.proofs.SteadyTimes.{steady_nonneg}
+use Rattle.curve_running.specs.curve_call.proofs.CurveTimes.{common_some}
 use Rattle.element_envelope.proofs.Growth.{line_gains}
 
 -- ---- of any functions

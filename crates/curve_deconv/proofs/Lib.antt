@@ -11,4 +11,3 @@ pub mod MovedGrids
 pub mod Moved
 pub mod DeconvolveCall
 pub mod Kept
-pub mod Existing

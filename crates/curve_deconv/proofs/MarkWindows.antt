@@ -13,24 +13,24 @@ use Rattle.rational.proofs.Laws.{le_or_lt, le_refl, le_of_lt, lt_le_trans, le_lt
 use Rattle.rational.proofs.MinMax.{lt_q_not}
 use Rattle.rational.proofs.Over.{lt_q_out}
 use Rattle.rational.proofs.ExtendedOrder.{add_zero_ext}
-use Rattle.affine_segment.specs.declared.line.Line.{Line}
-use Rattle.affine_segment.specs.declared.line.Piece.{Piece}
-use Rattle.affine_segment.specs.Values.{line_value}
-use Rattle.affine_segment.specs.Reading.{read, piece_in, piece_value, line_in}
-use Rattle.upp_limits.specs.Limits.{Sizes}
-use Rattle.upp_normal.specs.Operand.{AreLimited}
-use Rattle.upp_limits.specs.Sized.{times_largest}
-use Rattle.affine_segment.proofs.PieceIn.{value_past, read_go, read_one, read_stop, value_by}
-use Rattle.affine_segment.proofs.PieceOrder.{each_map}
-use Rattle.curve_window.specs.Pointwise.{ValueSumFits, LineSumFits, SumsFit, IsSumPiece, IsWindowSum, sum_line}
-use Rattle.curve_window.specs.Made.{ValueApartFits, LineApartFits, zero_line}
+use Rattle.curve_running.specs.affine_segment.specs.declared.line.Line.{Line}
+use Rattle.curve_running.specs.affine_segment.specs.declared.line.Piece.{Piece}
+use Rattle.curve_running.specs.affine_segment.specs.Values.{line_value}
+use Rattle.curve_running.specs.affine_segment.specs.Reading.{read, piece_in, piece_value, line_in}
+use Rattle.curve_running.specs.upp_limits.specs.Limits.{Sizes}
+use Rattle.curve_running.specs.upp_normal.specs.Operand.{AreLimited}
+use Rattle.curve_running.specs.upp_limits.specs.Sized.{times_largest}
+use Rattle.curve_running.specs.affine_segment.proofs.PieceIn.{value_past, read_go, read_one, read_stop, value_by}
+use Rattle.curve_running.specs.affine_segment.proofs.PieceOrder.{each_map}
+use Rattle.curve_running.specs.curve_call.specs.Pointwise.{ValueSumFits, LineSumFits, SumsFit, IsSumPiece, IsWindowSum, sum_line}
+use Rattle.curve_running.specs.curve_call.specs.Made.{ValueApartFits, LineApartFits, zero_line}
 use Rattle.element_envelope.specs.SumWindows.{SumStart, SumValueAt, SumLineAt, SumPiece, SumWindow}
 use Rattle.element_envelope.specs.Arches.{Arches}
 use Rattle.element_envelope.proofs.SumSteps.{start_in, sum_line_in, sum_read}
 use Rattle.element_envelope.proofs.SumLower.{values_apart, lines_apart, zero_is}
 use Rattle.curve_deconv.specs.declared.marks.Last.{Last}
 use Rattle.curve_deconv.specs.Marks.{nothing_yet, mark_after, after_pieces, mark_pieces}
-use Rattle.curve_window.proofs.MadeStands.{some_largest}
+use Rattle.curve_running.specs.curve_call.proofs.MadeStands.{some_largest}
 
 -- ---- what they read
 zero_value : (t : ℚ) → line_value (Some zero_line) t ≡ Fin (int (pos 0))

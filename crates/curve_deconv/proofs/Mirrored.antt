@@ -6,13 +6,13 @@ use Rattle.rational.specs.Extended.{Ext}
 use Rattle.rational.specs.declared.Extended.TheVariants.{Fin, Inf}
 use Rattle.rational.proofs.Linear.{with1, with2, with3, with5}
 use Rattle.rational.proofs.Laws.{le_or_lt, le_of_lt, le_refl, lt_le_trans, lt_trans, antisym, neg_mul, mul_sub}
-use Rattle.affine_segment.specs.declared.line.Line.{Line}
-use Rattle.affine_segment.specs.declared.line.Piece.{Piece}
-use Rattle.affine_segment.specs.Values.{line_at, line_value}
-use Rattle.affine_segment.specs.Reading.{read, piece_value}
-use Rattle.affine_segment.specs.Pieces.{Each, RisesFrom, StartsAtZero}
-use Rattle.affine_segment.proofs.PieceIn.{value_past, value_by, read_first, read_go, read_one, read_stop}
-use Rattle.affine_segment.proofs.PieceOrder.{each_append, each_map, rises_append}
+use Rattle.curve_running.specs.affine_segment.specs.declared.line.Line.{Line}
+use Rattle.curve_running.specs.affine_segment.specs.declared.line.Piece.{Piece}
+use Rattle.curve_running.specs.affine_segment.specs.Values.{line_at, line_value}
+use Rattle.curve_running.specs.affine_segment.specs.Reading.{read, piece_value}
+use Rattle.curve_running.specs.affine_segment.specs.Pieces.{Each, RisesFrom, StartsAtZero}
+use Rattle.curve_running.specs.affine_segment.proofs.PieceIn.{value_past, value_by, read_first, read_go, read_one, read_stop}
+use Rattle.curve_running.specs.affine_segment.proofs.PieceOrder.{each_append, each_map, rises_append}
 use Rattle.curve_running.specs.Runs.{IsFrontBefore}
 use Rattle.curve_running.proofs.Fronts.{kept_reads}
 use Rattle.curve_deconv.specs.Mirrored.{neg_ext, neg_line, neg_option, neg_piece, mirror_line, mirror_option, mirror_piece}

@@ -9,16 +9,16 @@ use Rattle.rational.specs.declared.Extended.TheVariants.{Fin, Inf}
 use Rattle.rational.proofs.Grid.{whole_sub, whole_neg, within_neg}
 use Rattle.rational.proofs.Linear.{with2, with3}
 use Rattle.rational.proofs.Laws.{le_of_lt}
-use Rattle.affine_segment.specs.declared.line.Line.{Line}
-use Rattle.affine_segment.specs.declared.line.Piece.{Piece}
-use Rattle.affine_segment.specs.Pieces.{Each, StartsAtZero}
-use Rattle.affine_segment.specs.Values.{line_value}
-use Rattle.affine_segment.proofs.PieceOrder.{each_append, each_map}
-use Rattle.upp_limits.specs.Limits.{Sizes}
-use Rattle.upp_limits.specs.Sized.{ValueStands}
-use Rattle.upp_normal.specs.Ahead.{GridValue}
-use Rattle.upp_normal.specs.Operand.{AreLimited, OperandLineAt, OperandPiece, OperandPieces}
-use Rattle.upp_normal.proofs.AnswerRoom.{operand_line_fits, stands_operand_value}
+use Rattle.curve_running.specs.affine_segment.specs.declared.line.Line.{Line}
+use Rattle.curve_running.specs.affine_segment.specs.declared.line.Piece.{Piece}
+use Rattle.curve_running.specs.affine_segment.specs.Pieces.{Each, StartsAtZero}
+use Rattle.curve_running.specs.affine_segment.specs.Values.{line_value}
+use Rattle.curve_running.specs.affine_segment.proofs.PieceOrder.{each_append, each_map}
+use Rattle.curve_running.specs.upp_limits.specs.Limits.{Sizes}
+use Rattle.curve_running.specs.upp_limits.specs.Sized.{ValueStands}
+use Rattle.curve_running.specs.upp_normal.specs.Ahead.{GridValue}
+use Rattle.curve_running.specs.upp_normal.specs.Operand.{AreLimited, OperandLineAt, OperandPiece, OperandPieces}
+use Rattle.curve_running.specs.upp_normal.proofs.AnswerRoom.{operand_line_fits, stands_operand_value}
 use Rattle.element_envelope.specs.ConvolutionWindows.{WindowPiece, WindowPieces}
 use Rattle.curve_deconv.specs.Mirrored.{neg_ext, neg_option, neg_piece, mirror_option, mirror_piece}
 use Rattle.curve_deconv.specs.Mirrored.{first_start, first_at, back_pieces, mirror_pieces, IsMirrorable, AreMirrorable}

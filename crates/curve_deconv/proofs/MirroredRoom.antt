@@ -7,15 +7,15 @@ use Rattle.rational.specs.Grid.{Whole, Within}
 use Rattle.rational.proofs.Grid.{whole_neg, within_neg, within_add}
 use Rattle.rational.proofs.Linear.{with1, with2, with3}
 use Rattle.rational.proofs.Laws.{le_of_lt}
-use Rattle.affine_segment.specs.declared.line.Line.{Line}
-use Rattle.affine_segment.specs.declared.line.Piece.{Piece}
-use Rattle.affine_segment.specs.Values.{line_at, line_value}
-use Rattle.upp_limits.specs.Limits.{Sizes}
-use Rattle.upp_limits.specs.Sized.{IsSlope, IsValue, ValueStands, grid_of, times_largest}
-use Rattle.upp_normal.specs.Operand.{AreLimited, OperandLine, OperandPiece}
-use Rattle.upp_limits.proofs.NarrowSizes.{narrow_gauge}
-use Rattle.upp_normal.proofs.AnswerRoom.{operand_line, operand_line_value, steep_run}
-use Rattle.curve_call.proofs.CurveTimes.{sum_fits, time_within}
+use Rattle.curve_running.specs.affine_segment.specs.declared.line.Line.{Line}
+use Rattle.curve_running.specs.affine_segment.specs.declared.line.Piece.{Piece}
+use Rattle.curve_running.specs.affine_segment.specs.Values.{line_at, line_value}
+use Rattle.curve_running.specs.upp_limits.specs.Limits.{Sizes}
+use Rattle.curve_running.specs.upp_limits.specs.Sized.{IsSlope, IsValue, ValueStands, grid_of, times_largest}
+use Rattle.curve_running.specs.upp_normal.specs.Operand.{AreLimited, OperandLine, OperandPiece}
+use Rattle.curve_running.specs.upp_limits.proofs.NarrowSizes.{narrow_gauge}
+use Rattle.curve_running.specs.upp_normal.proofs.AnswerRoom.{operand_line, operand_line_value, steep_run}
+use Rattle.curve_running.specs.curve_call.proofs.CurveTimes.{sum_fits, time_within}
 use Rattle.curve_deconv.specs.Mirrored.{neg_line, mirror_line}
 use Rattle.element_envelope.proofs.Growth.{line_gains}
 

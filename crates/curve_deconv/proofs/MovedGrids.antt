@@ -10,12 +10,12 @@ use Rattle.rational.proofs.Grid.{whole_neg}
 use Rattle.rational.proofs.Linear.{with1, with2, with3, with4, with5}
 use Rattle.rational.proofs.Laws.{le_of_lt, le_or_lt, neg_mul, mul_neg, mul_add, zero_mul}
 use Rattle.rational.proofs.Whole.{periods_low, periods_small}
-use Rattle.affine_segment.specs.declared.line.Line.{Line}
-use Rattle.affine_segment.specs.Values.{line_at, line_value}
-use Rattle.upp_curve.specs.Curve.{repeated}
-use Rattle.upp_curve.specs.Steady.{Repeats}
-use Rattle.upp_normal.specs.Normalising.{IsOneLine, OnGridsUnlessLine}
-use Rattle.upp_normal.proofs.NormaliseLeast.{share_some}
+use Rattle.curve_running.specs.affine_segment.specs.declared.line.Line.{Line}
+use Rattle.curve_running.specs.affine_segment.specs.Values.{line_at, line_value}
+use Rattle.curve_running.specs.upp_curve.specs.Curve.{repeated}
+use Rattle.curve_running.specs.upp_curve.specs.Steady.{Repeats}
+use Rattle.curve_running.specs.upp_normal.specs.Normalising.{IsOneLine, OnGridsUnlessLine}
+use Rattle.curve_running.specs.upp_normal.proofs.NormaliseLeast.{share_some}
 use Rattle.curve_deconv.specs.Mirrored.{neg_ext}
 
 -- ---- minus a value

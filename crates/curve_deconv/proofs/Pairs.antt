@@ -8,20 +8,20 @@ use Rattle.rational.specs.declared.Extended.TheVariants.{Fin, Inf}
 use Rattle.rational.proofs.Linear.{with2, with3, with4}
 use Rattle.rational.proofs.Laws.{le_of_lt, le_or_lt, le_refl}
 use Rattle.rational.proofs.ExtendedOrder.{finite_sum, fin_same, same_le_ext}
-use Rattle.affine_segment.specs.declared.line.Piece.{Piece}
-use Rattle.affine_segment.specs.Values.{line_value}
-use Rattle.affine_segment.specs.Fits.{ReadFits}
-use Rattle.affine_segment.specs.Reading.{read, piece_in, piece_value}
-use Rattle.affine_segment.specs.Pieces.{Each, StartsAtZero}
-use Rattle.affine_segment.proofs.PieceIn.{read_is, value_by, value_past}
+use Rattle.curve_running.specs.affine_segment.specs.declared.line.Piece.{Piece}
+use Rattle.curve_running.specs.affine_segment.specs.Values.{line_value}
+use Rattle.curve_running.specs.affine_segment.specs.Fits.{ReadFits}
+use Rattle.curve_running.specs.affine_segment.specs.Reading.{read, piece_in, piece_value}
+use Rattle.curve_running.specs.affine_segment.specs.Pieces.{Each, StartsAtZero}
+use Rattle.curve_running.specs.affine_segment.proofs.PieceIn.{read_is, value_by, value_past}
 use Rattle.min_plus.specs.Convolution.{Split, IsConvolution}
-use Rattle.upp_curve.proofs.Finite.{each_in}
-use Rattle.upp_limits.specs.Limits.{Sizes}
-use Rattle.upp_limits.specs.Sized.{ValueStands}
-use Rattle.upp_normal.specs.Ahead.{GridValue}
-use Rattle.upp_normal.specs.Operand.{AreLimited, OperandPiece}
-use Rattle.upp_normal.proofs.AnswerRoom.{operand_line_fits, operand_line_value, stands_operand_value}
-use Rattle.upp_normal.proofs.UnrolledPieces.{each_with}
+use Rattle.curve_running.specs.upp_curve.proofs.Finite.{each_in}
+use Rattle.curve_running.specs.upp_limits.specs.Limits.{Sizes}
+use Rattle.curve_running.specs.upp_limits.specs.Sized.{ValueStands}
+use Rattle.curve_running.specs.upp_normal.specs.Ahead.{GridValue}
+use Rattle.curve_running.specs.upp_normal.specs.Operand.{AreLimited, OperandPiece}
+use Rattle.curve_running.specs.upp_normal.proofs.AnswerRoom.{operand_line_fits, operand_line_value, stands_operand_value}
+use Rattle.curve_running.specs.upp_normal.proofs.UnrolledPieces.{each_with}
 use Rattle.curve_running.specs.Runs.{IsFrontBefore}
 use Rattle.curve_running.proofs.Fronts.{kept_each, kept_starts, kept_reads}
 use Rattle.element_envelope.specs.ConvolutionWindows.{WindowsFrom, IsConvolutionFrom}

@@ -10,15 +10,15 @@ use Rattle.rational.proofs.Grid.{whole_int, whole_add}
 use Rattle.rational.proofs.Linear.{with2, with3}
 use Rattle.rational.proofs.Laws.{le_or_lt, le_of_lt, antisym}
 use Rattle.rational.proofs.ExtendedOrder.{add_zero_ext}
-use Rattle.affine_segment.specs.declared.line.Piece.{Piece}
-use Rattle.affine_segment.specs.Reading.{read}
-use Rattle.affine_segment.specs.Pieces.{Each, StartsAtZero}
-use Rattle.upp_normal.specs.Operand.{OperandPiece}
-use Rattle.upp_limits.proofs.NarrowSizes.{narrow_gauge}
-use Rattle.affine_segment.proofs.PieceOrder.{each_map}
-use Rattle.curve_window.specs.Stretches.{CutsFit}
-use Rattle.curve_window.specs.Pointwise.{SumsFit, IsWindowSum}
-use Rattle.curve_call.proofs.CurveTimes.{sum_fits, time_within}
+use Rattle.curve_running.specs.affine_segment.specs.declared.line.Piece.{Piece}
+use Rattle.curve_running.specs.affine_segment.specs.Reading.{read}
+use Rattle.curve_running.specs.affine_segment.specs.Pieces.{Each, StartsAtZero}
+use Rattle.curve_running.specs.upp_normal.specs.Operand.{OperandPiece}
+use Rattle.curve_running.specs.upp_limits.proofs.NarrowSizes.{narrow_gauge}
+use Rattle.curve_running.specs.affine_segment.proofs.PieceOrder.{each_map}
+use Rattle.curve_running.specs.curve_call.specs.Stretches.{CutsFit}
+use Rattle.curve_running.specs.curve_call.specs.Pointwise.{SumsFit, IsWindowSum}
+use Rattle.curve_running.specs.curve_call.proofs.CurveTimes.{sum_fits, time_within}
 use Rattle.element_envelope.proofs.Arching.{same_arches}
 use Rattle.element_envelope.proofs.SumSteps.{sum_cuts_fit}
 use Rattle.curve_deconv.specs.declared.marks.Last.{Last}

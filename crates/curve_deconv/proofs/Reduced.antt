@@ -14,9 +14,9 @@ use Rattle.rational.proofs.Whole.{periods_low, periods_high}
 use Rattle.rational.proofs.ExtendedOrder.{same_le_ext, fin_same}
 use Rattle.rational.proofs.Bounds.{infinite_member, unbounded, supremum_shift}
 use Rattle.min_plus.specs.Functions.{IsFinite, FiniteTime}
-use Rattle.upp_curve.specs.Steady.{Repeats}
+use Rattle.curve_running.specs.upp_curve.specs.Steady.{Repeats}
 use Rattle.min_plus.specs.Convolution.{IsDeconvolution}
-use Rattle.curve_least.proofs.Shifts.{later_value}
+use Rattle.curve_running.specs.curve_call.proofs.Shifts.{later_value}
 use Rattle.curve_deconv.specs.DeconvolutionWindows.{EarlyTime, IsReached}
 
 -- both repeat from `from` on with the period d, the second rises by at least as much, and `reach` is one period after

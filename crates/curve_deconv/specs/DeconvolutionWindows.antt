@@ -5,19 +5,19 @@ use Rattle.rational.specs.Grid.{Whole}
 use Rattle.rational.specs.Extended.{Ext, ◌-ₑ◌}
 use Rattle.rational.specs.declared.Extended.TheVariants.{Fin, Inf}
 use Rattle.rational.specs.Bounds.{IsInfimum, IsSupremum}
-use Rattle.affine_segment.specs.declared.line.Piece.{Piece}
-use Rattle.affine_segment.specs.Values.{line_value}
-use Rattle.upp_limits.specs.Limits.{Sizes}
-use Rattle.affine_segment.specs.Pieces.{Each, StartsAtZero}
-use Rattle.upp_normal.specs.Normalising.{OnGridsUnlessLine}
-use Rattle.upp_normal.specs.Operand.{AreLimited, OperandPieces, answer_room}
-use Rattle.affine_segment.specs.Reading.{read}
-use Rattle.upp_curve.specs.Curve.{repeated}
-use Rattle.upp_normal.specs.Room.{PieceHasRoom}
-use Rattle.upp_limits.specs.Sized.{ValueStands, grid_of}
+use Rattle.curve_running.specs.affine_segment.specs.declared.line.Piece.{Piece}
+use Rattle.curve_running.specs.affine_segment.specs.Values.{line_value}
+use Rattle.curve_running.specs.upp_limits.specs.Limits.{Sizes}
+use Rattle.curve_running.specs.affine_segment.specs.Pieces.{Each, StartsAtZero}
+use Rattle.curve_running.specs.upp_normal.specs.Normalising.{OnGridsUnlessLine}
+use Rattle.curve_running.specs.upp_normal.specs.Operand.{AreLimited, OperandPieces, answer_room}
+use Rattle.curve_running.specs.affine_segment.specs.Reading.{read}
+use Rattle.curve_running.specs.upp_curve.specs.Curve.{repeated}
+use Rattle.curve_running.specs.upp_normal.specs.Room.{PieceHasRoom}
+use Rattle.curve_running.specs.upp_limits.specs.Sized.{ValueStands, grid_of}
 use Rattle.element_envelope.specs.SumWindows.{SumWindow}
 use Rattle.element_envelope.specs.Arches.{Arches}
-use Rattle.curve_window.proofs.TailGrids.{TailOf}
+use Rattle.curve_running.specs.curve_call.proofs.TailGrids.{TailOf}
 
 -- ---- pairs of times
 -- a time u from 0 on and up to `reach` at which g is finite, and f at t + u

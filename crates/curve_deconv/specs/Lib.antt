@@ -2,4 +2,3 @@ pub mod Mirrored
 pub mod Marks
 pub mod DeconvolutionWindows
 pub mod DeconvolutionLaws
-pub mod Existing

@@ -4,10 +4,10 @@ use Rattle.std.specs.Prelude.{pos, cond, List, [], ◌∷◌, Option, Some, None
 use Rattle.rational.specs.Rational.{ℚ, ◌+ℚ◌, int, lt_q}
 use Rattle.rational.specs.Extended.{Ext}
 use Rattle.rational.specs.declared.Extended.TheVariants.{Fin, Inf}
-use Rattle.affine_segment.specs.declared.line.Line.{Line}
-use Rattle.affine_segment.specs.declared.line.Piece.{Piece}
+use Rattle.curve_running.specs.affine_segment.specs.declared.line.Line.{Line}
+use Rattle.curve_running.specs.affine_segment.specs.declared.line.Piece.{Piece}
 use Rattle.curve_deconv.specs.declared.marks.Last.{Last}
-use Rattle.curve_window.specs.Made.{zero_line}
+use Rattle.curve_running.specs.curve_call.specs.Made.{zero_line}
 
 -- nowhere yet
 abbrev pub first_last : Last

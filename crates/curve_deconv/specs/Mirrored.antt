@@ -6,11 +6,11 @@ use Rattle.rational.specs.Rational.{ℚ, ◌-ℚ◌, neg_ℚ}
 use Rattle.rational.specs.Ratio.{SumFits}
 use Rattle.rational.specs.Extended.{Ext}
 use Rattle.rational.specs.declared.Extended.TheVariants.{Fin, Inf}
-use Rattle.affine_segment.specs.declared.line.Line.{Line}
-use Rattle.affine_segment.specs.declared.line.Piece.{Piece}
-use Rattle.affine_segment.specs.Values.{line_at}
-use Rattle.affine_segment.specs.Fits.{LineFitsAt}
-use Rattle.affine_segment.specs.Pieces.{Each}
+use Rattle.curve_running.specs.affine_segment.specs.declared.line.Line.{Line}
+use Rattle.curve_running.specs.affine_segment.specs.declared.line.Piece.{Piece}
+use Rattle.curve_running.specs.affine_segment.specs.Values.{line_at}
+use Rattle.curve_running.specs.affine_segment.specs.Fits.{LineFitsAt}
+use Rattle.curve_running.specs.affine_segment.specs.Pieces.{Each}
 
 -- ---- minus the values; infinity stays
 abbrev pub neg_ext : Ext → Ext

@@ -1,7 +1,6 @@
 //! What a deconvolution keeps, and that it exists: theorems, by their contracts.
 
 ghost use Rattle.curve_deconv.specs.DeconvolutionLaws.{DeconvolutionKeeps, DeconvolutionIsFinite};
-ghost use Rattle.curve_deconv.specs.Existing.{DeconvolutionsExist};
 
 /// The deconvolution of a rising function rises. That of any function is at least the function less the second's value
 /// at 0, and so nowhere below 0 where the function is not and the second is at most 0 at 0.
@@ -12,9 +11,4 @@ pub fn deconvolution_keeps()
 /// The deconvolution of finite curves, the first not the faster, is finite.
 pub fn deconvolution_is_finite()
     ensures { DeconvolutionIsFinite }
-{}
-
-/// Two curves of which the second is finite have a deconvolution, or its call is over a limit.
-pub fn deconvolutions_exist()
-    ensures { DeconvolutionsExist }
 {}

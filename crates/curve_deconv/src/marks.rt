@@ -4,8 +4,8 @@ ghost use Rattle.std.specs.Prelude.{◌≡◌, ◌+◌, ◌<◌, ◌++◌, lengt
 ghost use Rattle.rational.specs.Ratio.{SumFits};
 ghost use Rattle.curve_deconv.specs.Marks.{last_step, last_of, first_last, next_time, after_pieces, mark_pieces};
 
-use affine_segment::{Line, Piece};
-use fraction128::{Ext, Frac, sum};
+use curve_running::affine_segment::{Line, Piece};
+use curve_running::fraction128::{Ext, Frac, sum};
 use rational::Extended;
 use std::alloc::{AllocError, Global};
 use std::cmp::Ordering;

@@ -3,12 +3,12 @@
 ghost use Rattle.std.specs.Prelude.{◌≡◌, map, Some, IfOk};
 ghost use Rattle.rational.specs.Rational.{neg_ℚ};
 ghost use Rattle.rational.specs.Ratio.{SumFits};
-ghost use Rattle.affine_segment.specs.Fits.{LineFitsAt};
+ghost use Rattle.curve_running.specs.affine_segment.specs.Fits.{LineFitsAt};
 ghost use Rattle.curve_deconv.specs.Mirrored.{neg_ext, neg_line, neg_option, neg_piece};
 ghost use Rattle.curve_deconv.specs.Mirrored.{mirror_line, mirror_option, mirror_piece, mirror_pieces, AreMirrorable};
 
-use affine_segment::{Line, Piece, value};
-use fraction128::{Ext, Frac, difference};
+use curve_running::affine_segment::{Line, Piece, value};
+use curve_running::fraction128::{Ext, Frac, difference};
 use rational::Extended;
 use std::alloc::{AllocError, Global};
 

@@ -10,17 +10,17 @@ use Rattle.rational.proofs.Grid.{whole_weaken}
 use Rattle.rational.proofs.Integers.{nat_le, nat_nonneg, int_mul}
 use Rattle.rational.proofs.Linear.{with2}
 use Rattle.rational.proofs.Laws.{div_mul, not_zero}
-use Rattle.affine_segment.specs.declared.line.Line.{Line}
-use Rattle.affine_segment.specs.Values.{line_at}
-use Rattle.affine_segment.specs.Fits.{LineFits}
-use Rattle.upp_limits.specs.Limits.{Sizes}
-use Rattle.upp_limits.specs.Sized.{grid_of, times_largest, IsSlope}
-use Rattle.upp_normal.specs.Operand.{AreLimited, OperandLine}
-use Rattle.upp_normal.proofs.AnswerRoom.{operand_line_fits, operand_line_value, values_fit, value_difference_stands, tight}
-use Rattle.upp_limits.proofs.NarrowSizes.{grid_pos}
-use Rattle.upp_normal.proofs.StretchSizes.{times_fit}
+use Rattle.curve_call.specs.affine_segment.specs.declared.line.Line.{Line}
+use Rattle.curve_call.specs.affine_segment.specs.Values.{line_at}
+use Rattle.curve_call.specs.affine_segment.specs.Fits.{LineFits}
+use Rattle.curve_call.specs.upp_limits.specs.Limits.{Sizes}
+use Rattle.curve_call.specs.upp_limits.specs.Sized.{grid_of, times_largest, IsSlope}
+use Rattle.curve_call.specs.upp_normal.specs.Operand.{AreLimited, OperandLine}
+use Rattle.curve_call.specs.upp_normal.proofs.AnswerRoom.{operand_line_fits, operand_line_value, values_fit, value_difference_stands, tight}
+use Rattle.curve_call.specs.upp_limits.proofs.NarrowSizes.{grid_pos}
+use Rattle.curve_call.specs.upp_normal.proofs.StretchSizes.{times_fit}
 use Rattle.curve_deviation.specs.Cells.{IsTimeTo}
-use Rattle.upp_normal.specs.Ahead.{IsGridValue}
+use Rattle.curve_call.specs.upp_normal.specs.Ahead.{IsGridValue}
 use Rattle.rational.proofs.Compared.{least_by_test}
 
 -- ---- values and their differences

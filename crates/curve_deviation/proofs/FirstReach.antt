@@ -12,26 +12,26 @@ use Rattle.rational.proofs.Integers.{nat_nonneg}
 use Rattle.rational.proofs.Quotients.{times_above}
 use Rattle.rational.proofs.MinMax.{max_q_ge_left, max_q_ge_right}
 use Rattle.rational.proofs.ExtendedOrder.{le_ext_trans, le_lt_ext, le_or_lt_ext}
-use Rattle.affine_segment.specs.declared.line.Line.{Line}
-use Rattle.affine_segment.specs.declared.line.Piece.{Piece}
-use Rattle.affine_segment.specs.Values.{line_at, line_value}
-use Rattle.affine_segment.specs.Reading.{read, piece_value}
-use Rattle.affine_segment.specs.Pieces.{RisesFrom, StartsAtZero}
-use Rattle.upp_curve.specs.Curve.{SpecCurve, value_at}
-use Rattle.upp_curve.specs.Curves.{IsCurve}
+use Rattle.curve_call.specs.affine_segment.specs.declared.line.Line.{Line}
+use Rattle.curve_call.specs.affine_segment.specs.declared.line.Piece.{Piece}
+use Rattle.curve_call.specs.affine_segment.specs.Values.{line_at, line_value}
+use Rattle.curve_call.specs.affine_segment.specs.Reading.{read, piece_value}
+use Rattle.curve_call.specs.affine_segment.specs.Pieces.{RisesFrom, StartsAtZero}
+use Rattle.curve_call.specs.upp_curve.specs.Curve.{SpecCurve, value_at}
+use Rattle.curve_call.specs.upp_curve.specs.Curves.{IsCurve}
 use Rattle.min_plus.specs.Functions.{IsFinite, IsRising}
-use Rattle.upp_curve.specs.Steady.{Repeats}
-use Rattle.upp_curve.specs.Unrolled.{unroll}
+use Rattle.curve_call.specs.upp_curve.specs.Steady.{Repeats}
+use Rattle.curve_call.specs.upp_curve.specs.Unrolled.{unroll}
 use Rattle.min_plus.proofs.FiniteValues.{no_inf}
-use Rattle.affine_segment.proofs.PieceIn.{piece_in_stop, piece_in_go, piece_in_end, value_past, read_is}
-use Rattle.upp_curve.proofs.FirstStretch.{read_in}
-use Rattle.upp_normal.proofs.Below.{unroll_reads}
-use Rattle.upp_normal.proofs.UnrolledPieces.{unroll_starts}
-use Rattle.curve_least.proofs.Shifts.{later_value}
+use Rattle.curve_call.specs.affine_segment.proofs.PieceIn.{piece_in_stop, piece_in_go, piece_in_end, value_past, read_is}
+use Rattle.curve_call.specs.upp_curve.proofs.FirstStretch.{read_in}
+use Rattle.curve_call.specs.upp_normal.proofs.Below.{unroll_reads}
+use Rattle.curve_call.specs.upp_normal.proofs.UnrolledPieces.{unroll_starts}
+use Rattle.curve_call.proofs.Shifts.{later_value}
 use Rattle.curve_deviation.specs.Rises.{RisesOn}
 use Rattle.curve_deviation.proofs.CellLag.{rises_more, gets_higher, before_both}
 use Rattle.curve_deviation.proofs.RisingParts.{rises_on}
-use Rattle.affine_segment.proofs.LineValues.{value_later, value_rises}
+use Rattle.curve_call.specs.affine_segment.proofs.LineValues.{value_later, value_rises}
 
 -- x is the first time from t on at which g has reached v, or the limit of such times
 pub record IsReached (g : ℚ → Ext) (v t x : ℚ) : Type 0 where

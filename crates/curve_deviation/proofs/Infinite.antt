@@ -8,19 +8,19 @@ use Rattle.rational.proofs.Linear.{with1, with2}
 use Rattle.rational.proofs.Laws.{le_refl, le_trans, le_of_lt, lt_le_trans, between, mul_nonneg}
 use Rattle.rational.proofs.Integers.{nat_nonneg}
 use Rattle.rational.proofs.Quotients.{times_above, past_each}
-use Rattle.affine_segment.specs.declared.line.Line.{Line}
-use Rattle.affine_segment.specs.declared.line.Piece.{Piece}
-use Rattle.affine_segment.specs.Values.{line_value}
-use Rattle.affine_segment.specs.Reading.{piece_value}
-use Rattle.affine_segment.specs.Pieces.{RisesFrom, Each}
-use Rattle.upp_curve.specs.Shapes.{IsFinitePiece, IsNumber, IsLine}
+use Rattle.curve_call.specs.affine_segment.specs.declared.line.Line.{Line}
+use Rattle.curve_call.specs.affine_segment.specs.declared.line.Piece.{Piece}
+use Rattle.curve_call.specs.affine_segment.specs.Values.{line_value}
+use Rattle.curve_call.specs.affine_segment.specs.Reading.{piece_value}
+use Rattle.curve_call.specs.affine_segment.specs.Pieces.{RisesFrom, Each}
+use Rattle.curve_call.specs.upp_curve.specs.Shapes.{IsFinitePiece, IsNumber, IsLine}
 use Rattle.min_plus.specs.Functions.{IsFinite}
-use Rattle.upp_curve.specs.Steady.{Repeats}
+use Rattle.curve_call.specs.upp_curve.specs.Steady.{Repeats}
 use Rattle.min_plus.specs.Deviations.{IsVerticalDeviation}
-use Rattle.affine_segment.proofs.PieceIn.{piece_in_stop, piece_in_go, piece_in_end, value_past}
-use Rattle.upp_curve.proofs.FirstStretch.{read_in, at_start}
-use Rattle.curve_least.proofs.Shifts.{later_value}
-use Rattle.upp_normal.specs.Ahead.{IsBeforeNext}
+use Rattle.curve_call.specs.affine_segment.proofs.PieceIn.{piece_in_stop, piece_in_go, piece_in_end, value_past}
+use Rattle.curve_call.specs.upp_curve.proofs.FirstStretch.{read_in, at_start}
+use Rattle.curve_call.proofs.Shifts.{later_value}
+use Rattle.curve_call.specs.upp_normal.specs.Ahead.{IsBeforeNext}
 
 -- ---- a piece that is not finite gives a time
 pub record InfiniteTime (p : Piece) (ps : List Piece) (end : Option ℚ) : Type 0 where

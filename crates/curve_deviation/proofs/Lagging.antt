@@ -12,7 +12,7 @@ use Rattle.rational.proofs.MinMax.{max_q_ge_left, max_q_ge_right}
 use Rattle.rational.proofs.ExtendedOrder.{le_ext_trans, le_lt_ext, lt_le_ext, le_or_lt_ext, lt_ext_irrefl}
 use Rattle.min_plus.specs.Functions.{Time, IsFinite, IsRising}
 use Rattle.min_plus.specs.Deviations.{Lag, IsLag, IsHorizontalDeviation}
-use Rattle.upp_normal.proofs.UnrollSteps.{ext_cases}
+use Rattle.curve_call.specs.upp_normal.proofs.UnrollSteps.{ext_cases}
 use Rattle.curve_deviation.specs.Lags.{IsBehindAt, LagsBy, IsLongestLag}
 use Rattle.curve_deviation.proofs.FirstReach.{IsReached, StaysBelow}
 

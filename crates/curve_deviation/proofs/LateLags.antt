@@ -11,9 +11,9 @@ use Rattle.rational.proofs.Integers.{nat_nonneg}
 use Rattle.rational.proofs.Whole.{periods_low, periods_high}
 use Rattle.rational.proofs.ExtendedOrder.{le_lt_ext, lt_le_ext}
 use Rattle.min_plus.specs.Functions.{IsFinite, IsRising}
-use Rattle.upp_curve.specs.Steady.{Repeats, steady}
-use Rattle.upp_limits.specs.Windows.{IsConstantFrom}
-use Rattle.curve_least.proofs.Shifts.{later_value}
+use Rattle.curve_call.specs.upp_curve.specs.Steady.{Repeats, steady}
+use Rattle.curve_call.specs.upp_limits.specs.Windows.{IsConstantFrom}
+use Rattle.curve_call.proofs.Shifts.{later_value}
 use Rattle.curve_deviation.specs.Lags.{IsBehindAt, IsLongestLag}
 use Rattle.curve_deviation.proofs.Lagging.{Always}
 

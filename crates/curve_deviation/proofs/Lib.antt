@@ -15,4 +15,3 @@ pub mod WindowTimes
 pub mod Searching
 pub mod PeriodsFound
 pub mod HorizontalCall
-pub mod ExistingVerticals

@@ -10,37 +10,37 @@ use Rattle.rational.proofs.Laws.{le_refl, le_trans, le_of_lt, le_or_lt, lt_le_tr
 use Rattle.rational.proofs.Integers.{nat_le}
 use Rattle.rational.proofs.Quotients.{times_above, mul_zero_cases}
 use Rattle.rational.proofs.ExtendedOrder.{le_ext_trans, lt_le_ext, lt_ext_irrefl, antisym_ext, fin_same, same_le_ext}
-use Rattle.fraction128.specs.declared.fault.Wide.{Wide}
-use Rattle.affine_segment.specs.declared.line.Line.{Line}
-use Rattle.affine_segment.specs.declared.line.Piece.{Piece}
-use Rattle.upp_curve.specs.declared.curve.Tail.{Tail}
-use Rattle.upp_curve.specs.declared.curve.Tail.TheVariants.{Periodic, Affine, Infinite}
-use Rattle.upp_limits.specs.declared.op_kind.OpKind.TheVariants.{Horizontal}
-use Rattle.upp_limits.specs.declared.op_kind.OpFault.{OpFault}
-use Rattle.upp_limits.specs.declared.op_kind.OpFault.TheVariants.{TooMany, TooWide, NoMemory}
-use Rattle.upp_curve.specs.Steps.{IsWideLine, IsWideRead, IsWideAt, IsWideValueAt}
-use Rattle.affine_segment.specs.Fits.{LineFitsAt}
-use Rattle.affine_segment.specs.Reading.{piece_in, line_in}
-use Rattle.upp_curve.specs.Curve.{SpecCurve, value_at}
-use Rattle.upp_curve.specs.Curves.{IsCurve}
+use Rattle.curve_call.specs.fraction128.specs.declared.fault.Wide.{Wide}
+use Rattle.curve_call.specs.affine_segment.specs.declared.line.Line.{Line}
+use Rattle.curve_call.specs.affine_segment.specs.declared.line.Piece.{Piece}
+use Rattle.curve_call.specs.upp_curve.specs.declared.curve.Tail.{Tail}
+use Rattle.curve_call.specs.upp_curve.specs.declared.curve.Tail.TheVariants.{Periodic, Affine, Infinite}
+use Rattle.curve_call.specs.upp_limits.specs.declared.op_kind.OpKind.TheVariants.{Horizontal}
+use Rattle.curve_call.specs.upp_limits.specs.declared.op_kind.OpFault.{OpFault}
+use Rattle.curve_call.specs.upp_limits.specs.declared.op_kind.OpFault.TheVariants.{TooMany, TooWide, NoMemory}
+use Rattle.curve_call.specs.upp_curve.specs.Steps.{IsWideLine, IsWideRead, IsWideAt, IsWideValueAt}
+use Rattle.curve_call.specs.affine_segment.specs.Fits.{LineFitsAt}
+use Rattle.curve_call.specs.affine_segment.specs.Reading.{piece_in, line_in}
+use Rattle.curve_call.specs.upp_curve.specs.Curve.{SpecCurve, value_at}
+use Rattle.curve_call.specs.upp_curve.specs.Curves.{IsCurve}
 use Rattle.min_plus.specs.Functions.{IsFinite, IsRising}
-use Rattle.upp_curve.specs.Steady.{steady, steady_in, rise_over, rate}
-use Rattle.upp_limits.specs.Periods.{common_period, periods_after}
-use Rattle.upp_limits.specs.Windows.{window_at, IsConstantFrom, IsLeastPeriods, Reaches, Meets}
-use Rattle.upp_limits.specs.Limits.{Sizes}
-use Rattle.upp_normal.specs.Ahead.{IsTimeIn}
-use Rattle.upp_limits.specs.Gauges.{IsKnownAtOnce, gauge_at, IsTooWide}
-use Rattle.upp_limits.specs.Outcome.{IsWithin, IsCauseOf}
-use Rattle.upp_normal.proofs.AnswerRoom.{operand_line_fits, wide_narrow}
+use Rattle.curve_call.specs.upp_curve.specs.Steady.{steady, steady_in, rise_over, rate}
+use Rattle.curve_call.specs.upp_limits.specs.Periods.{common_period, periods_after}
+use Rattle.curve_call.specs.upp_limits.specs.Windows.{window_at, IsConstantFrom, IsLeastPeriods, Reaches, Meets}
+use Rattle.curve_call.specs.upp_limits.specs.Limits.{Sizes}
+use Rattle.curve_call.specs.upp_normal.specs.Ahead.{IsTimeIn}
+use Rattle.curve_call.specs.upp_limits.specs.Gauges.{IsKnownAtOnce, gauge_at, IsTooWide}
+use Rattle.curve_call.specs.upp_limits.specs.Outcome.{IsWithin, IsCauseOf}
+use Rattle.curve_call.specs.upp_normal.proofs.AnswerRoom.{operand_line_fits, wide_narrow}
 use Rattle.curve_call.specs.declared.frame.Frame.{Frame}
 use Rattle.curve_call.specs.Frames.{IsFrame, IsRefusedAt, sizes_at}
 use Rattle.curve_call.specs.Times.{OneLaterFits}
 use Rattle.curve_call.proofs.CurveTimes.{steady_whole, one_later, common_some}
 use Rattle.curve_call.proofs.FirstGate.{gauge_grows}
 use Rattle.curve_call.proofs.Limited.{refused_cause, frame_within}
-use Rattle.curve_least.proofs.Shifts.{later_value}
-use Rattle.upp_normal.proofs.UnrollSteps.{ext_cases}
-use Rattle.curve_least.proofs.Rises.{rate_rise, infinite_value}
+use Rattle.curve_call.proofs.Shifts.{later_value}
+use Rattle.curve_call.specs.upp_normal.proofs.UnrollSteps.{ext_cases}
+use Rattle.curve_call.proofs.Rises.{rate_rise, infinite_value}
 use Rattle.curve_deviation.specs.Parts.{IsFiniteInSizes}
 use Rattle.curve_deviation.proofs.EarlyParts.{endless, early_here}
 use Rattle.curve_deviation.specs.declared.horizontals.Periods.{Periods}
@@ -48,9 +48,9 @@ use Rattle.curve_deviation.specs.declared.horizontals.Turn.{Turn}
 use Rattle.curve_deviation.specs.Stages.{AreFinite, HasLeft, HasReached, settled, IsPast, IsWideCall, IsFirst, IsSettledAt, IsNarrowWindow, AreFound, ArePlain, IsPlainCall}
 use Rattle.curve_deviation.proofs.KnownLags.{first_repeats}
 use Rattle.curve_deviation.proofs.WindowTimes.{times_at, periods_low}
-use Rattle.upp_curve.proofs.RisingCurves.{GoesOn}
-use Rattle.upp_curve.proofs.SteadyTimes.{steady_nonneg}
-use Rattle.upp_limits.proofs.LeastNumbers.{least_unique}
+use Rattle.curve_call.specs.upp_curve.proofs.RisingCurves.{GoesOn}
+use Rattle.curve_call.specs.upp_curve.proofs.SteadyTimes.{steady_nonneg}
+use Rattle.curve_call.specs.upp_limits.proofs.LeastNumbers.{least_unique}
 
 -- ---- a curve of rate 0 is constant from when it repeats
 pub level_constant : (f g : SpecCurve) → IsCurve f → IsCurve g → IsFinite (value_at f) → IsRising (value_at f) → rate f ≡ Fin (int (pos 0)) → IsConstantFrom (value_at f) (steady f)

@@ -12,14 +12,14 @@ use Rattle.rational.proofs.Laws.{le_refl, le_trans, le_of_lt, le_or_lt, lt_le_tr
 use Rattle.rational.proofs.Bounds.{greatest, smallest}
 use Rattle.rational.proofs.Stretch.{rising_infimum, rising_supremum}
 use Rattle.rational.proofs.MinMax.{min_q_le_left, min_q_le_right, min_q_one, below_min_in}
-use Rattle.affine_segment.specs.declared.line.Line.{Line}
-use Rattle.affine_segment.specs.Values.{line_at, line_value}
-use Rattle.upp_curve.specs.Curve.{SpecCurve, value_at}
+use Rattle.curve_call.specs.affine_segment.specs.declared.line.Line.{Line}
+use Rattle.curve_call.specs.affine_segment.specs.Values.{line_at, line_value}
+use Rattle.curve_call.specs.upp_curve.specs.Curve.{SpecCurve, value_at}
 use Rattle.min_plus.specs.Functions.{IsFinite, IsRising}
-use Rattle.upp_curve.specs.Shapes.{IsLine}
-use Rattle.upp_limits.specs.Limits.{Sizes}
-use Rattle.upp_normal.specs.Operand.{OperandLine, OperandLineAt}
-use Rattle.upp_normal.specs.Ahead.{IsTimeIn}
+use Rattle.curve_call.specs.upp_curve.specs.Shapes.{IsLine}
+use Rattle.curve_call.specs.upp_limits.specs.Limits.{Sizes}
+use Rattle.curve_call.specs.upp_normal.specs.Operand.{OperandLine, OperandLineAt}
+use Rattle.curve_call.specs.upp_normal.specs.Ahead.{IsTimeIn}
 use Rattle.min_plus.proofs.FiniteValues.{no_inf}
 use Rattle.curve_deviation.specs.declared.cells.Cell.{Cell}
 use Rattle.curve_deviation.specs.declared.parts.Part.{Part}

@@ -8,16 +8,16 @@ use Rattle.rational.proofs.Linear.{with3}
 use Rattle.rational.proofs.Laws.{le_trans, le_of_lt, lt_le_trans, lt_irrefl, mul_le_mul_right}
 use Rattle.rational.proofs.Integers.{nat_le}
 use Rattle.rational.proofs.ExtendedOrder.{le_ext_trans, lt_le_ext}
-use Rattle.upp_curve.specs.Curve.{SpecCurve, value_at}
-use Rattle.upp_curve.specs.Curves.{IsCurve}
-use Rattle.upp_curve.specs.Steady.{steady}
-use Rattle.upp_limits.specs.Periods.{common_period, periods_after}
+use Rattle.curve_call.specs.upp_curve.specs.Curve.{SpecCurve, value_at}
+use Rattle.curve_call.specs.upp_curve.specs.Curves.{IsCurve}
+use Rattle.curve_call.specs.upp_curve.specs.Steady.{steady}
+use Rattle.curve_call.specs.upp_limits.specs.Periods.{common_period, periods_after}
 use Rattle.curve_deviation.specs.declared.search.Stage.{Stage}
 use Rattle.curve_deviation.specs.declared.search.Stage.TheVariants.{First, Second}
 use Rattle.curve_deviation.specs.Stages.{AreFinite, HasLeft, HasReached, settled, Meets, stage_gauge, IsBefore, IsPast}
 use Rattle.curve_deviation.proofs.WindowTimes.{WindowTimes, periods_low, few_within, twice_is}
-use Rattle.upp_limits.specs.Limits.{Sizes}
-use Rattle.upp_curve.proofs.SteadyTimes.{steady_nonneg}
+use Rattle.curve_call.specs.upp_limits.specs.Limits.{Sizes}
+use Rattle.curve_call.specs.upp_curve.proofs.SteadyTimes.{steady_nonneg}
 use Rattle.curve_call.proofs.CurveTimes.{common_some}
 
 -- more periods are later

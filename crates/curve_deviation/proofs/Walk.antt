@@ -14,18 +14,18 @@ use Rattle.rational.proofs.Grid.{whole_sub, whole_int}
 use Rattle.rational.proofs.Stretch.{rising_supremum}
 use Rattle.rational.proofs.MinMax.{max_q_one, max_q_ge_left, max_q_ge_right}
 use Rattle.rational.proofs.ExtendedOrder.{le_ext_trans, le_lt_ext, lt_le_ext}
-use Rattle.affine_segment.specs.declared.line.Line.{Line}
-use Rattle.affine_segment.specs.Values.{line_at}
+use Rattle.curve_call.specs.affine_segment.specs.declared.line.Line.{Line}
+use Rattle.curve_call.specs.affine_segment.specs.Values.{line_at}
 use Rattle.min_plus.specs.Functions.{IsRising}
-use Rattle.upp_limits.specs.Limits.{Sizes}
-use Rattle.upp_normal.specs.Ahead.{IsTimeIn}
+use Rattle.curve_call.specs.upp_limits.specs.Limits.{Sizes}
+use Rattle.curve_call.specs.upp_normal.specs.Ahead.{IsTimeIn}
 use Rattle.curve_deviation.specs.declared.cells.Cell.{Cell}
 use Rattle.curve_deviation.specs.declared.walks.Walk.{Walk}
 use Rattle.curve_deviation.specs.Cells.{CellSizes, IsTimeTo, IsBehind, IsCellLag}
 use Rattle.curve_deviation.specs.Rises.{RisesOn, IsCellOf}
 use Rattle.curve_deviation.specs.Lags.{IsBehindAt, LagsBy, IsLongestLag}
-use Rattle.curve_least.proofs.GapWalk.{fewer_whole, one_step}
-use Rattle.affine_segment.proofs.LineValues.{value_rises}
+use Rattle.curve_call.proofs.GapWalk.{fewer_whole, one_step}
+use Rattle.curve_call.specs.affine_segment.proofs.LineValues.{value_rises}
 
 -- what holds on the way: the pairs of times that are looked at have no longer lag
 pub record IsWalked (z : Sizes) (f g : ℚ → Ext) (until end : ℚ) (w : Walk) : Type 0 where

@@ -11,19 +11,19 @@ use Rattle.rational.proofs.Integers.{nat_nonneg}
 use Rattle.rational.proofs.Whole.{periods_low, periods_high}
 use Rattle.rational.proofs.Grid.{whole_int}
 use Rattle.rational.proofs.ExtendedOrder.{add_le_ext, same_le_ext}
-use Rattle.upp_curve.specs.Curve.{SpecCurve, value_at}
+use Rattle.curve_call.specs.upp_curve.specs.Curve.{SpecCurve, value_at}
 use Rattle.min_plus.specs.Functions.{IsFinite}
-use Rattle.upp_curve.specs.Steady.{Repeats, rise_over, rate}
-use Rattle.upp_limits.specs.Limits.{Sizes}
+use Rattle.curve_call.specs.upp_curve.specs.Steady.{Repeats, rise_over, rate}
+use Rattle.curve_call.specs.upp_limits.specs.Limits.{Sizes}
 use Rattle.min_plus.specs.Deviations.{IsVerticalDeviation}
-use Rattle.upp_normal.specs.Ahead.{HasWindow, IsTimeIn}
-use Rattle.curve_least.specs.Gaps.{InWindow, IsWithin, IsEndless, IsLargest}
-use Rattle.curve_least.specs.Compared.{RepeatsIn, AreCompared}
-use Rattle.curve_least.proofs.Shifts.{later_value}
-use Rattle.curve_least.proofs.Rises.{rate_rise, infinite_value, from_low}
-use Rattle.upp_normal.proofs.UnrollSteps.{ext_cases}
-use Rattle.curve_least.proofs.LeastNumber.{repeats_from, compared_window}
-use Rattle.upp_curve.proofs.Rules.{swap_ext}
+use Rattle.curve_call.specs.upp_normal.specs.Ahead.{HasWindow, IsTimeIn}
+use Rattle.curve_call.specs.Gaps.{InWindow, IsWithin, IsEndless, IsLargest}
+use Rattle.curve_call.specs.Compared.{RepeatsIn, AreCompared}
+use Rattle.curve_call.proofs.Shifts.{later_value}
+use Rattle.curve_call.proofs.Rises.{rate_rise, infinite_value, from_low}
+use Rattle.curve_call.specs.upp_normal.proofs.UnrollSteps.{ext_cases}
+use Rattle.curve_call.proofs.LeastNumber.{repeats_from, compared_window}
+use Rattle.curve_call.specs.upp_curve.proofs.Rules.{swap_ext}
 
 -- ---- later times add nothing
 

@@ -3,9 +3,9 @@
 use Rattle.std.specs.Prelude.{pos, ◌⊎◌}
 use Rattle.rational.specs.Rational.{ℚ, ◌-ℚ◌, ◌≤ℚ◌, ◌<ℚ◌, int}
 use Rattle.rational.specs.Grid.{Whole}
-use Rattle.affine_segment.specs.Values.{line_at}
-use Rattle.upp_limits.specs.Limits.{Sizes}
-use Rattle.upp_normal.specs.Operand.{AreLimited, OperandLine}
+use Rattle.curve_call.specs.affine_segment.specs.Values.{line_at}
+use Rattle.curve_call.specs.upp_limits.specs.Limits.{Sizes}
+use Rattle.curve_call.specs.upp_normal.specs.Operand.{AreLimited, OperandLine}
 use Rattle.curve_deviation.specs.declared.cells.Cell.{Cell}
 
 -- no line falls, and no stretch is empty

@@ -3,4 +3,3 @@ pub mod Parts
 pub mod Rises
 pub mod Lags
 pub mod Stages
-pub mod Existing

@@ -3,16 +3,16 @@ use Rattle.std.specs.Prelude.{◌≡◌}
 use Rattle.rational.specs.Rational.{ℚ, ◌+ℚ◌, ◌≤ℚ◌, ◌<ℚ◌}
 use Rattle.rational.specs.Grid.{Whole}
 use Rattle.rational.specs.Extended.{Ext}
-use Rattle.affine_segment.specs.Values.{line_value}
-use Rattle.upp_curve.specs.declared.curve.Tail.{Tail}
-use Rattle.upp_curve.specs.declared.curve.Tail.TheVariants.{Periodic, Affine, Infinite}
-use Rattle.upp_curve.specs.Curve.{SpecCurve, value_at}
-use Rattle.upp_curve.specs.Curves.{IsCurve}
+use Rattle.curve_call.specs.affine_segment.specs.Values.{line_value}
+use Rattle.curve_call.specs.upp_curve.specs.declared.curve.Tail.{Tail}
+use Rattle.curve_call.specs.upp_curve.specs.declared.curve.Tail.TheVariants.{Periodic, Affine, Infinite}
+use Rattle.curve_call.specs.upp_curve.specs.Curve.{SpecCurve, value_at}
+use Rattle.curve_call.specs.upp_curve.specs.Curves.{IsCurve}
 use Rattle.min_plus.specs.Functions.{IsFinite}
-use Rattle.upp_limits.specs.Limits.{Sizes, curve_numbers}
-use Rattle.upp_limits.specs.Sized.{Stands}
-use Rattle.upp_normal.specs.Operand.{AreLimited, OperandLineAt}
-use Rattle.upp_normal.specs.Ahead.{GridValue}
+use Rattle.curve_call.specs.upp_limits.specs.Limits.{Sizes, curve_numbers}
+use Rattle.curve_call.specs.upp_limits.specs.Sized.{Stands}
+use Rattle.curve_call.specs.upp_normal.specs.Operand.{AreLimited, OperandLineAt}
+use Rattle.curve_call.specs.upp_normal.specs.Ahead.{GridValue}
 use Rattle.curve_deviation.specs.declared.parts.Part.{Part}
 
 -- a finite curve whose numbers up to `end` have the sizes z

@@ -5,12 +5,10 @@
 mod cells;
 mod horizontals;
 mod known;
-mod laws;
 mod parts;
 mod search;
 mod verticals;
 mod walks;
 
 pub use horizontals::horizontal;
-pub use laws::verticals_exist;
 pub use verticals::vertical;

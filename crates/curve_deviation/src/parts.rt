@@ -4,22 +4,22 @@ ghost use Rattle.std.specs.Prelude.{◌≡◌, ◌↔◌, IsTrue, pos, List, ◌
 ghost use Rattle.rational.specs.Rational.{ℚ, int, ◌+ℚ◌, ◌≤ℚ◌, ◌<ℚ◌, le_q};
 ghost use Rattle.rational.specs.MinMax.{min_q};
 ghost use Rattle.rational.specs.Ratio.{SumFits};
-ghost use Rattle.affine_segment.specs.Values.{line_value};
-ghost use Rattle.affine_segment.specs.Reading.{piece_in, piece_value, read, next_in, line_in};
-ghost use Rattle.affine_segment.specs.Pieces.{StartsAtZero};
-ghost use Rattle.upp_curve.specs.Curve.{value_at};
-ghost use Rattle.upp_curve.specs.Curves.{IsCurve};
-ghost use Rattle.affine_segment.specs.Fits.{LineFitsAt, ReadFits};
-ghost use Rattle.upp_limits.specs.Limits.{Sizes};
-ghost use Rattle.upp_normal.specs.Ahead.{IsOverBy, IsTimeIn};
+ghost use Rattle.curve_call.specs.affine_segment.specs.Values.{line_value};
+ghost use Rattle.curve_call.specs.affine_segment.specs.Reading.{piece_in, piece_value, read, next_in, line_in};
+ghost use Rattle.curve_call.specs.affine_segment.specs.Pieces.{StartsAtZero};
+ghost use Rattle.curve_call.specs.upp_curve.specs.Curve.{value_at};
+ghost use Rattle.curve_call.specs.upp_curve.specs.Curves.{IsCurve};
+ghost use Rattle.curve_call.specs.affine_segment.specs.Fits.{LineFitsAt, ReadFits};
+ghost use Rattle.curve_call.specs.upp_limits.specs.Limits.{Sizes};
+ghost use Rattle.curve_call.specs.upp_normal.specs.Ahead.{IsOverBy, IsTimeIn};
 ghost use Rattle.curve_deviation.specs.Parts.{IsFiniteInSizes, GoesTo, PartStands, IsEarlyBy};
-ghost use Rattle.curve_least.specs.GapSteps.{earlier_of};
+ghost use Rattle.curve_call.specs.GapSteps.{earlier_of};
 
-use affine_segment::{Line, Piece, next_start, piece_at, piece_value};
-use curve_least::earlier;
-use fraction128::{Ext, Frac, is_less, sum};
-use upp_curve::{Curve, Tail};
-use upp_normal::stretch_at;
+use curve_call::affine_segment::{Line, Piece, next_start, piece_at, piece_value};
+use curve_call::earlier;
+use curve_call::fraction128::{Ext, Frac, is_less, sum};
+use curve_call::upp_curve::{Curve, Tail};
+use curve_call::upp_normal::stretch_at;
 
 /// How a curve goes on from a time of a window.
 #[derive(Debug, Clone, Copy)]

@@ -3,4 +3,8 @@
 
 mod laws;
 
-pub use laws::{curves_exist, normal_forms_exist};
+pub use laws::{
+    answer_windows_have_curves, answers_exist, convolutions_exist, curves_exist,
+    decided_calls_have_answers, deconvolutions_exist, horizontals_exist, infima_exist,
+    least_periods_exist, left_overs_exist, normal_forms_exist, suprema_exist, verticals_exist,
+};

@@ -9,7 +9,7 @@ use Rattle.rational.proofs.Laws.{le_of_not_lt, lt_of_not_le, not_le_of_lt, antis
 use Rattle.min_plus.specs.Functions.{zero_q, IsFinite, IsNonnegative}
 use Rattle.upp_curve.specs.Curve.{SpecCurve, value_at}
 use Rattle.upp_curve.specs.Kinds.{bucket}
-use Rattle.upp_kinds.proofs.KindsAre.{kinds_have_their_values}
+use Rattle.upp_curve.proofs.KindsAre.{kinds_have_their_values}
 use Rattle.curve_script.specs.declared.keyword.NumberPair.{NumberPair}
 use Rattle.curve_script.specs.declared.keyword.NumberPair.TheVariants.{Bucket, Latency}
 use Rattle.curve_script.specs.declared.keyword.NumberTriple.{NumberTriple}

@@ -6,7 +6,7 @@ use Rattle.rational.specs.Rational.{ℚ}
 use Rattle.rational.proofs.Laws.{le_of_not_lt}
 use Rattle.upp_curve.specs.Curve.{SpecCurve}
 use Rattle.upp_curve.specs.Normal.{IsNormal}
-use Rattle.upp_kinds.proofs.KindsAre.{kinds_are_normal}
+use Rattle.upp_curve.proofs.KindsAre.{kinds_are_normal}
 use Rattle.curve_script.specs.declared.keyword.NumberPair.{NumberPair}
 use Rattle.curve_script.specs.declared.keyword.NumberPair.TheVariants.{Bucket, Latency}
 use Rattle.curve_script.specs.declared.keyword.NumberTriple.{NumberTriple}

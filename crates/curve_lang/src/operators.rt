@@ -16,11 +16,10 @@ ghost use Rattle.curve_lang.specs.Views.{found};
 use crate::kinds::zero_found;
 use crate::sharing::{kept_call, told_call};
 use curve_call::intact;
-use curve_conv::convolve;
+use curve_deconv::curve_pointwise::{max, min, pos_diff, pos_minus, scale, shift, sum};
+use curve_deconv::curve_running::{run_inf, run_sup};
 use curve_deconv::deconvolve;
 use curve_deviation::vertical;
-use curve_pointwise::{max, min, pos_diff, pos_minus, scale, shift, sum};
-use curve_running::{run_inf, run_sup};
 use curve_script::{CurveOperator, LangKind, NumberOperator, PairOperator};
 use fraction128::{Ext, Frac, is_less};
 use rational::Extended;
@@ -29,6 +28,7 @@ use std::rc::Rc;
 use std::sync::ledger::Ledger;
 use steps::Steps;
 use subadd_closure::close;
+use subadd_closure::curve_conv::convolve;
 use upp_curve::Curve;
 
 fn sum_made<L: Ledger>(

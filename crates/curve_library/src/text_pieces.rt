@@ -5,11 +5,11 @@ ghost use Rattle.curve_library.specs.Listed.{text_line, text_piece, text_pieces,
 
 use crate::formed;
 use crate::texts::{PieceText, TailText};
-use affine_segment::{Line, Piece};
-use fraction128::Frac;
-use rational::Extended;
 use std::alloc::Global;
-use upp_curve::Tail;
+use upp_normal::affine_segment::{Line, Piece};
+use upp_normal::fraction128::Frac;
+use upp_normal::rational::Extended;
+use upp_normal::upp_curve::Tail;
 
 // The line of a piece; None where a step to it does not fit.
 fn line_of(p: &PieceText) -> Option<Line>

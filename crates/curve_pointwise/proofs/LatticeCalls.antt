@@ -1,32 +1,32 @@
 -- The sizes and the times of a call on two curves that both repeat from its start on.
 use Rattle.std.specs.Prelude.{◌≡◌, ℕ, suc, ◌+◌, ◌<◌, ◌^◌, pos, List}
 use Rattle.std.proofs.Common.{arith, sym, ap, ◌∙◌, refl, subst}
-use Rattle.rational.specs.Rational.{ℚ, neg_ℚ, ◌+ℚ◌, ◌-ℚ◌, ◌*ℚ◌, ◌≤ℚ◌, ◌<ℚ◌, int}
-use Rattle.rational.specs.Ratio.{SumFits}
-use Rattle.rational.specs.Grid.{Whole}
-use Rattle.rational.proofs.Grid.{whole_neg, whole_sub, within_neg}
-use Rattle.rational.proofs.Linear.{with2, with3, with4}
-use Rattle.rational.proofs.Laws.{le_refl, le_trans, le_of_lt, one_mul, mul_nonneg}
-use Rattle.rational.proofs.Integers.{nat_nonneg}
-use Rattle.rational.proofs.Whole.{one_more_times}
-use Rattle.rational.proofs.MinMax.{max_q_ge_left, max_q_ge_right}
-use Rattle.affine_segment.specs.declared.line.Piece.{Piece}
-use Rattle.upp_limits.specs.declared.op_kind.OpKind.{OpKind}
-use Rattle.upp_limits.specs.declared.op_kind.OpKind.TheVariants.{Min, Max, PosDiff}
-use Rattle.upp_curve.specs.Curve.{SpecCurve}
-use Rattle.upp_curve.specs.Curves.{IsCurve}
-use Rattle.upp_curve.specs.Steady.{steady, rise_over, IsWholePeriods}
-use Rattle.upp_limits.specs.Periods.{common_period, both_steady, periods_after}
-use Rattle.upp_limits.specs.Windows.{window_at}
-use Rattle.upp_limits.specs.Limits.{Sizes, sizes_of, curve_numbers}
-use Rattle.upp_limits.specs.Gauges.{numbers_over, gauge_over, gauge_at}
-use Rattle.upp_limits.specs.Sized.{Stands, grid_of, times_largest}
-use Rattle.upp_curve.specs.Unrolled.{unroll}
-use Rattle.upp_normal.specs.Operand.{AreLimited}
-use Rattle.upp_limits.proofs.NarrowSizes.{small_sum}
-use Rattle.upp_limits.proofs.CurveStands.{are_sizes}
-use Rattle.upp_limits.proofs.Stands.{sizes_stand}
-use Rattle.curve_window.specs.Operands.{AreOperands}
+use Rattle.curve_call.specs.rational.specs.Rational.{ℚ, neg_ℚ, ◌+ℚ◌, ◌-ℚ◌, ◌*ℚ◌, ◌≤ℚ◌, ◌<ℚ◌, int}
+use Rattle.curve_call.specs.rational.specs.Ratio.{SumFits}
+use Rattle.curve_call.specs.rational.specs.Grid.{Whole}
+use Rattle.curve_call.specs.rational.proofs.Grid.{whole_neg, whole_sub, within_neg}
+use Rattle.curve_call.specs.rational.proofs.Linear.{with2, with3, with4}
+use Rattle.curve_call.specs.rational.proofs.Laws.{le_refl, le_trans, le_of_lt, one_mul, mul_nonneg}
+use Rattle.curve_call.specs.rational.proofs.Integers.{nat_nonneg}
+use Rattle.curve_call.specs.rational.proofs.Whole.{one_more_times}
+use Rattle.curve_call.specs.rational.proofs.MinMax.{max_q_ge_left, max_q_ge_right}
+use Rattle.curve_call.specs.affine_segment.specs.declared.line.Piece.{Piece}
+use Rattle.curve_call.specs.upp_limits.specs.declared.op_kind.OpKind.{OpKind}
+use Rattle.curve_call.specs.upp_limits.specs.declared.op_kind.OpKind.TheVariants.{Min, Max, PosDiff}
+use Rattle.curve_call.specs.upp_curve.specs.Curve.{SpecCurve}
+use Rattle.curve_call.specs.upp_curve.specs.Curves.{IsCurve}
+use Rattle.curve_call.specs.upp_curve.specs.Steady.{steady, rise_over, IsWholePeriods}
+use Rattle.curve_call.specs.upp_limits.specs.Periods.{common_period, both_steady, periods_after}
+use Rattle.curve_call.specs.upp_limits.specs.Windows.{window_at}
+use Rattle.curve_call.specs.upp_limits.specs.Limits.{Sizes, sizes_of, curve_numbers}
+use Rattle.curve_call.specs.upp_limits.specs.Gauges.{numbers_over, gauge_over, gauge_at}
+use Rattle.curve_call.specs.upp_limits.specs.Sized.{Stands, grid_of, times_largest}
+use Rattle.curve_call.specs.upp_curve.specs.Unrolled.{unroll}
+use Rattle.curve_call.specs.upp_normal.specs.Operand.{AreLimited}
+use Rattle.curve_call.specs.upp_limits.proofs.NarrowSizes.{small_sum}
+use Rattle.curve_call.specs.upp_limits.proofs.CurveStands.{are_sizes}
+use Rattle.curve_call.specs.upp_limits.proofs.Stands.{sizes_stand}
+use Rattle.curve_call.specs.Operands.{AreOperands}
 use Rattle.curve_call.specs.declared.windows.CallWindow.{CallWindow}
 use Rattle.curve_call.specs.CallWindows.{IsForward, SecondIsCurve, start_of, number_of, period_in}
 use Rattle.curve_call.specs.Frames.{sizes_at}
@@ -35,13 +35,13 @@ use Rattle.curve_call.proofs.CallTimes.{first_stands, second_stands, IsCall, sta
 use Rattle.curve_call.proofs.CallFits.{call_early}
 use Rattle.curve_call.proofs.CurveRises.{IsRise, rise_is, common_first, common_second}
 use Rattle.curve_call.proofs.Operands.{unrolled_pieces}
-use Rattle.curve_least.specs.Compared.{AreCompared}
+use Rattle.curve_call.specs.Compared.{AreCompared}
 use Rattle.curve_pointwise.specs.declared.lattice.Lattice.{Lattice}
 use Rattle.curve_pointwise.specs.declared.lattice.Lattice.TheVariants.{Lower, Upper, Excess}
 use Rattle.curve_pointwise.specs.Lattice.{kind_of}
 use Rattle.curve_call.specs.FirstWindows.{IsFirstWindow}
 use Rattle.curve_pointwise.specs.LatticeCall.{LatticeCall}
-use Rattle.upp_normal.proofs.AnswerRoom.{wide_narrow}
+use Rattle.curve_call.specs.upp_normal.proofs.AnswerRoom.{wide_narrow}
 
 -- ---- from a kind of call
 pub call_from : (op : OpKind) (f g h : SpecCurve) (k : ℕ) → IsCurve f → IsCurve h → SecondIsCurve op g → IsForward op → gauge_at op f g k 0 < 2 ^ 120 → number_of op k 0 ≡ k + 1

@@ -1,34 +1,34 @@
 -- A call on a curve and a level: its sizes and times, its limits, and its answer.
 use Rattle.std.specs.Prelude.{◌≡◌, ℕ, ◌<◌, ◌^◌, pos, [], ◌∷◌, Option, Some, None, MatchOption}
 use Rattle.std.proofs.Common.{arith, sym, ap, ◌∙◌, refl, subst}
-use Rattle.rational.specs.Rational.{ℚ, ◌-ℚ◌, ◌*ℚ◌, ◌≤ℚ◌, ◌<ℚ◌, int}
-use Rattle.rational.specs.Ratio.{IsSmall}
-use Rattle.rational.specs.Extended.{Ext, ◌≤ₑ◌, ◌<ₑ◌}
-use Rattle.rational.specs.declared.Extended.TheVariants.{Fin}
-use Rattle.rational.proofs.Integers.{nat_nonneg}
-use Rattle.rational.proofs.Linear.{with2, with3}
-use Rattle.rational.proofs.Laws.{le_refl, le_trans, le_of_lt, zero_mul, mul_nonneg}
-use Rattle.affine_segment.specs.declared.line.Piece.{Piece}
-use Rattle.upp_limits.specs.declared.op_kind.OpKind.TheVariants.{PosMinus}
-use Rattle.upp_limits.specs.declared.op_kind.OpFault.{OpFault}
-use Rattle.upp_limits.specs.declared.op_kind.OpFault.TheVariants.{TooMany, TooWide, NoMemory}
-use Rattle.upp_curve.specs.Curve.{SpecCurve, value_at}
-use Rattle.upp_curve.specs.Curves.{IsCurve}
-use Rattle.upp_curve.specs.Steady.{steady, rate, rise_over, later_unless}
-use Rattle.upp_limits.specs.Periods.{own_period, periods_after}
-use Rattle.upp_limits.specs.Windows.{window_at, Meets, IsLeast, IsLeastPeriods, IsBelowFor, IsSlowerBelow}
-use Rattle.upp_limits.specs.Limits.{Sizes, sizes_of}
-use Rattle.upp_limits.specs.Gauges.{numbers_over, gauge_at, gauge_over, IsTooWide}
-use Rattle.upp_limits.specs.Sized.{IsValue}
-use Rattle.upp_curve.specs.Unrolled.{unroll}
-use Rattle.upp_limits.specs.Outcome.{IsWithin, IsCauseOf}
-use Rattle.min_plus.specs.Pointwise.{excess, IsPositiveMinus}
-use Rattle.upp_limits.proofs.AtRank.{same_by}
-use Rattle.upp_curve.proofs.Unique.{upto_some, upto_end}
-use Rattle.upp_limits.proofs.CurveStands.{are_sizes}
-use Rattle.upp_limits.proofs.Stands.{sizes_stand}
-use Rattle.upp_limits.proofs.NarrowSizes.{narrow_gauge, small_number, value_whole, value_within}
-use Rattle.upp_curve.proofs.ReadableKinds.{bucket_curve}
+use Rattle.curve_call.specs.rational.specs.Rational.{ℚ, ◌-ℚ◌, ◌*ℚ◌, ◌≤ℚ◌, ◌<ℚ◌, int}
+use Rattle.curve_call.specs.rational.specs.Ratio.{IsSmall}
+use Rattle.curve_call.specs.rational.specs.Extended.{Ext, ◌≤ₑ◌, ◌<ₑ◌}
+use Rattle.curve_call.specs.rational.specs.declared.Extended.TheVariants.{Fin}
+use Rattle.curve_call.specs.rational.proofs.Integers.{nat_nonneg}
+use Rattle.curve_call.specs.rational.proofs.Linear.{with2, with3}
+use Rattle.curve_call.specs.rational.proofs.Laws.{le_refl, le_trans, le_of_lt, zero_mul, mul_nonneg}
+use Rattle.curve_call.specs.affine_segment.specs.declared.line.Piece.{Piece}
+use Rattle.curve_call.specs.upp_limits.specs.declared.op_kind.OpKind.TheVariants.{PosMinus}
+use Rattle.curve_call.specs.upp_limits.specs.declared.op_kind.OpFault.{OpFault}
+use Rattle.curve_call.specs.upp_limits.specs.declared.op_kind.OpFault.TheVariants.{TooMany, TooWide, NoMemory}
+use Rattle.curve_call.specs.upp_curve.specs.Curve.{SpecCurve, value_at}
+use Rattle.curve_call.specs.upp_curve.specs.Curves.{IsCurve}
+use Rattle.curve_call.specs.upp_curve.specs.Steady.{steady, rate, rise_over, later_unless}
+use Rattle.curve_call.specs.upp_limits.specs.Periods.{own_period, periods_after}
+use Rattle.curve_call.specs.upp_limits.specs.Windows.{window_at, Meets, IsLeast, IsLeastPeriods, IsBelowFor, IsSlowerBelow}
+use Rattle.curve_call.specs.upp_limits.specs.Limits.{Sizes, sizes_of}
+use Rattle.curve_call.specs.upp_limits.specs.Gauges.{numbers_over, gauge_at, gauge_over, IsTooWide}
+use Rattle.curve_call.specs.upp_limits.specs.Sized.{IsValue}
+use Rattle.curve_call.specs.upp_curve.specs.Unrolled.{unroll}
+use Rattle.curve_call.specs.upp_limits.specs.Outcome.{IsWithin, IsCauseOf}
+use Rattle.curve_call.specs.min_plus.specs.Pointwise.{excess, IsPositiveMinus}
+use Rattle.curve_call.specs.upp_limits.proofs.AtRank.{same_by}
+use Rattle.curve_call.specs.upp_curve.proofs.Unique.{upto_some, upto_end}
+use Rattle.curve_call.specs.upp_limits.proofs.CurveStands.{are_sizes}
+use Rattle.curve_call.specs.upp_limits.proofs.Stands.{sizes_stand}
+use Rattle.curve_call.specs.upp_limits.proofs.NarrowSizes.{narrow_gauge, small_number, value_whole, value_within}
+use Rattle.curve_call.specs.upp_curve.proofs.ReadableKinds.{bucket_curve}
 use Rattle.curve_call.specs.declared.frame.Frame.{Frame}
 use Rattle.curve_call.specs.declared.windows.CallWindow.{CallWindow}
 use Rattle.curve_call.specs.Frames.{IsFrame, IsRefusedAt, sizes_at}
@@ -37,19 +37,19 @@ use Rattle.curve_call.proofs.CallFits.{call_early}
 use Rattle.curve_call.proofs.CurveRises.{own_whole}
 use Rattle.curve_call.proofs.Limited.{refused_cause, frame_within, pos_minus_least}
 use Rattle.curve_call.proofs.FirstGate.{first_gate}
-use Rattle.curve_least.specs.Levels.{level_curve}
-use Rattle.curve_least.specs.Compared.{AreCompared}
-use Rattle.curve_least.proofs.Levels.{level_value, level_stands}
-use Rattle.curve_least.proofs.Rises.{rate_rise}
-use Rattle.curve_least.proofs.Shifts.{same_least}
+use Rattle.curve_call.specs.Levels.{level_curve}
+use Rattle.curve_call.specs.Compared.{AreCompared}
+use Rattle.curve_call.proofs.Levels.{level_value, level_stands}
+use Rattle.curve_call.proofs.Rises.{rate_rise}
+use Rattle.curve_call.proofs.Shifts.{same_least}
 use Rattle.curve_pointwise.specs.declared.lattice.Lattice.TheVariants.{Excess}
 use Rattle.curve_pointwise.specs.Lattice.{RisesBy, IsTailRise}
 use Rattle.curve_call.specs.FirstWindows.{IsFirstWindow, IsWideAtFirst}
 use Rattle.curve_pointwise.specs.LatticeCall.{LatticeCall, IsLatticeFrame}
 use Rattle.curve_pointwise.proofs.LatticeCalls.{call_from, at_times, compared}
-use Rattle.curve_least.proofs.EitherOrder.{IsEnough}
-use Rattle.upp_limits.proofs.Copies.{plus_zero}
-use Rattle.curve_least.proofs.MostAbove.{level_is}
+use Rattle.curve_call.proofs.EitherOrder.{IsEnough}
+use Rattle.curve_call.specs.upp_limits.proofs.Copies.{plus_zero}
+use Rattle.curve_call.proofs.MostAbove.{level_is}
 
 -- ---- a level is steady from 0 on
 

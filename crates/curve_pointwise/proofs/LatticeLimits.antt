@@ -1,31 +1,31 @@
 -- Which limits the call is over, from the least number of periods; and the frame of one that is over neither.
 use Rattle.std.specs.Prelude.{◌≡◌, ℕ, Option, Some, None, MatchOption, Result, Ok, Err, IfErr}
 use Rattle.std.proofs.Common.{sym, ◌∙◌, subst}
-use Rattle.rational.specs.Rational.{ℚ}
-use Rattle.upp_limits.specs.declared.op_kind.OpKind.{OpKind}
-use Rattle.upp_limits.specs.declared.op_kind.OpFault.{OpFault}
-use Rattle.upp_limits.specs.declared.op_kind.OpFault.TheVariants.{TooMany, TooWide, NoMemory}
-use Rattle.upp_curve.specs.Curve.{SpecCurve}
-use Rattle.upp_curve.specs.Curves.{IsCurve}
-use Rattle.upp_limits.specs.Periods.{common_period, both_steady}
-use Rattle.upp_limits.specs.Windows.{window_at, Meets, IsLeast, IsLeastPeriods}
-use Rattle.upp_limits.specs.Gauges.{IsKnownAtOnce, IsTooWide}
-use Rattle.upp_limits.specs.Outcome.{IsWithin, IsCauseOf}
+use Rattle.curve_call.specs.rational.specs.Rational.{ℚ}
+use Rattle.curve_call.specs.upp_limits.specs.declared.op_kind.OpKind.{OpKind}
+use Rattle.curve_call.specs.upp_limits.specs.declared.op_kind.OpFault.{OpFault}
+use Rattle.curve_call.specs.upp_limits.specs.declared.op_kind.OpFault.TheVariants.{TooMany, TooWide, NoMemory}
+use Rattle.curve_call.specs.upp_curve.specs.Curve.{SpecCurve}
+use Rattle.curve_call.specs.upp_curve.specs.Curves.{IsCurve}
+use Rattle.curve_call.specs.upp_limits.specs.Periods.{common_period, both_steady}
+use Rattle.curve_call.specs.upp_limits.specs.Windows.{window_at, Meets, IsLeast, IsLeastPeriods}
+use Rattle.curve_call.specs.upp_limits.specs.Gauges.{IsKnownAtOnce, IsTooWide}
+use Rattle.curve_call.specs.upp_limits.specs.Outcome.{IsWithin, IsCauseOf}
 use Rattle.curve_call.specs.declared.frame.Frame.{Frame}
 use Rattle.curve_call.specs.CallWindows.{IsForward, SecondIsCurve, start_of, period_in}
 use Rattle.curve_call.specs.Frames.{IsFrame, IsRefusedAt, sizes_at}
 use Rattle.curve_call.proofs.Limited.{refused_cause, frame_within, min_least, max_least, pos_diff_least}
 use Rattle.curve_call.proofs.FirstGate.{first_gate}
-use Rattle.curve_least.proofs.EitherOrder.{enough_meets, IsEnough}
+use Rattle.curve_call.proofs.EitherOrder.{enough_meets, IsEnough}
 use Rattle.curve_pointwise.specs.declared.lattice.Lattice.{Lattice}
 use Rattle.curve_pointwise.specs.declared.lattice.Lattice.TheVariants.{Lower, Upper, Excess}
 use Rattle.curve_pointwise.specs.Lattice.{kind_of}
 use Rattle.curve_call.specs.declared.windows.CallWindow.{CallWindow}
-use Rattle.upp_limits.specs.Limits.{Sizes}
-use Rattle.curve_least.specs.Compared.{AreCompared}
+use Rattle.curve_call.specs.upp_limits.specs.Limits.{Sizes}
+use Rattle.curve_call.specs.Compared.{AreCompared}
 use Rattle.curve_call.specs.FirstWindows.{IsFirstWindow, IsWideAtFirst, IsRefusedBetween}
-use Rattle.curve_least.specs.declared.bounds.Bounds.{Bounds}
-use Rattle.curve_least.specs.Bounds.{AreBounds}
+use Rattle.curve_call.specs.declared.bounds.Bounds.{Bounds}
+use Rattle.curve_call.specs.Bounds.{AreBounds}
 use Rattle.curve_pointwise.specs.LatticeCall.{IsLatticeFrame}
 use Rattle.curve_pointwise.proofs.LatticeCalls.{lattice_call, at_times, kind_start, kind_period, first_compared}
 

@@ -9,7 +9,3 @@ pub mod LeftWindow
 pub mod ShiftCall
 pub mod Nowhere
 pub mod StraightSums
-pub mod ExistingSums
-pub mod ExistingLattices
-pub mod ExistingMoves
-pub mod ExistingLevels

@@ -2,37 +2,37 @@
 use Rattle.std.specs.Prelude.{◌≡◌, pos, List, map}
 use Rattle.std.specs.List.{AllByRecursion}
 use Rattle.std.proofs.Common.{arith, sym, ap, ap₂, ◌∙◌, subst}
-use Rattle.rational.specs.Rational.{ℚ, ◌+ℚ◌, ◌≤ℚ◌, ◌<ℚ◌, int}
-use Rattle.rational.proofs.Linear.{with3}
-use Rattle.rational.proofs.Laws.{lt_le_trans}
-use Rattle.affine_segment.specs.declared.line.Piece.{Piece}
-use Rattle.upp_curve.specs.declared.curve.Tail.{Tail}
-use Rattle.upp_curve.specs.declared.curve.Tail.TheVariants.{Periodic, Affine, Infinite}
-use Rattle.upp_limits.specs.declared.op_kind.OpKind.TheVariants.{Scale}
-use Rattle.upp_curve.specs.Curve.{SpecCurve, value_at, HasSameValues}
-use Rattle.upp_curve.specs.Curves.{IsCurve}
-use Rattle.affine_segment.specs.Pieces.{Each}
-use Rattle.upp_curve.specs.Normal.{IsNormal, IsRaw}
-use Rattle.upp_curve.specs.Steady.{steady}
-use Rattle.upp_limits.specs.Periods.{own_period}
-use Rattle.min_plus.specs.Pointwise.{IsScaled}
-use Rattle.upp_limits.specs.Spans.{piece_read, spans}
-use Rattle.upp_limits.specs.Limits.{Sizes, curve_numbers, own_end}
-use Rattle.upp_limits.specs.Sized.{Stands, HeldBy}
-use Rattle.upp_limits.specs.Gauges.{scaled_piece, scaled_tail, scaled_curve, kind_numbers}
-use Rattle.upp_limits.specs.ClosedOperands.{PieceScales, KnowsTimes, KnowsScaled}
-use Rattle.upp_limits.proofs.Stands.{stands_right}
-use Rattle.upp_limits.proofs.Every.{every_weaken}
-use Rattle.upp_limits.proofs.Operands.{held_scaled}
-use Rattle.upp_limits.proofs.CurveStands.{starts_below_own_end}
-use Rattle.upp_normal.proofs.UnrolledPieces.{each_of_spans, each_with, all_read}
-use Rattle.affine_segment.proofs.PieceOrder.{each_map}
-use Rattle.upp_normal.proofs.NormaliseOwn.{EndsBy, Found, limited_found}
+use Rattle.curve_call.specs.rational.specs.Rational.{ℚ, ◌+ℚ◌, ◌≤ℚ◌, ◌<ℚ◌, int}
+use Rattle.curve_call.specs.rational.proofs.Linear.{with3}
+use Rattle.curve_call.specs.rational.proofs.Laws.{lt_le_trans}
+use Rattle.curve_call.specs.affine_segment.specs.declared.line.Piece.{Piece}
+use Rattle.curve_call.specs.upp_curve.specs.declared.curve.Tail.{Tail}
+use Rattle.curve_call.specs.upp_curve.specs.declared.curve.Tail.TheVariants.{Periodic, Affine, Infinite}
+use Rattle.curve_call.specs.upp_limits.specs.declared.op_kind.OpKind.TheVariants.{Scale}
+use Rattle.curve_call.specs.upp_curve.specs.Curve.{SpecCurve, value_at, HasSameValues}
+use Rattle.curve_call.specs.upp_curve.specs.Curves.{IsCurve}
+use Rattle.curve_call.specs.affine_segment.specs.Pieces.{Each}
+use Rattle.curve_call.specs.upp_curve.specs.Normal.{IsNormal, IsRaw}
+use Rattle.curve_call.specs.upp_curve.specs.Steady.{steady}
+use Rattle.curve_call.specs.upp_limits.specs.Periods.{own_period}
+use Rattle.curve_call.specs.min_plus.specs.Pointwise.{IsScaled}
+use Rattle.curve_call.specs.upp_limits.specs.Spans.{piece_read, spans}
+use Rattle.curve_call.specs.upp_limits.specs.Limits.{Sizes, curve_numbers, own_end}
+use Rattle.curve_call.specs.upp_limits.specs.Sized.{Stands, HeldBy}
+use Rattle.curve_call.specs.upp_limits.specs.Gauges.{scaled_piece, scaled_tail, scaled_curve, kind_numbers}
+use Rattle.curve_call.specs.upp_limits.specs.ClosedOperands.{PieceScales, KnowsTimes, KnowsScaled}
+use Rattle.curve_call.specs.upp_limits.proofs.Stands.{stands_right}
+use Rattle.curve_call.specs.upp_limits.proofs.Every.{every_weaken}
+use Rattle.curve_call.specs.upp_limits.proofs.Operands.{held_scaled}
+use Rattle.curve_call.specs.upp_limits.proofs.CurveStands.{starts_below_own_end}
+use Rattle.curve_call.specs.upp_normal.proofs.UnrolledPieces.{each_of_spans, each_with, all_read}
+use Rattle.curve_call.specs.affine_segment.proofs.PieceOrder.{each_map}
+use Rattle.curve_call.specs.upp_normal.proofs.NormaliseOwn.{EndsBy, Found, limited_found}
 use Rattle.curve_call.specs.declared.frame.Frame.{Frame}
 use Rattle.curve_call.specs.Frames.{IsFrame, sizes_at}
 use Rattle.curve_call.proofs.FrameFacts.{FrameFacts, frame_facts}
 use Rattle.curve_pointwise.proofs.ScaledValues.{curve_scaled, each_start, raw_scaled}
-use Rattle.upp_curve.proofs.SteadyTimes.{rank_early}
+use Rattle.curve_call.specs.upp_curve.proofs.SteadyTimes.{rank_early}
 
 -- ---- what the frame gives
 pub record ScaleCall (q : ℚ) (f : SpecCurve) (r : Frame) (z : Sizes) : Type 0 where

@@ -1,24 +1,24 @@
 -- A curve times a number, piece by piece: its values, and that it is a curve in some form.
 use Rattle.std.specs.Prelude.{◌≡◌, pos, Bool, true, false, cond, List, [], ◌∷◌, map, Option, Some, None}
 use Rattle.std.proofs.Common.{sym, ap, ap₂, ◌∙◌, refl, inl, inr}
-use Rattle.rational.specs.Rational.{ℚ, ◌+ℚ◌, ◌-ℚ◌, ◌*ℚ◌, ◌≤ℚ◌, ◌<ℚ◌, int, le_q}
-use Rattle.rational.specs.Whole.{periods}
-use Rattle.rational.specs.Extended.{Ext, ◌+ₑ◌}
-use Rattle.rational.specs.declared.Extended.TheVariants.{Fin, Inf}
-use Rattle.rational.proofs.Laws.{le_or_lt, mul_add, mul_assoc, mul_comm}
-use Rattle.affine_segment.specs.declared.line.Line.{Line}
-use Rattle.affine_segment.specs.declared.line.Piece.{Piece}
-use Rattle.affine_segment.specs.Values.{line_value}
-use Rattle.upp_curve.specs.declared.curve.Tail.{Tail}
-use Rattle.upp_curve.specs.declared.curve.Tail.TheVariants.{Periodic, Affine, Infinite}
-use Rattle.affine_segment.specs.Reading.{read, piece_in, piece_value}
-use Rattle.upp_curve.specs.Curve.{SpecCurve, repeated, cut, with_tail, value_at}
-use Rattle.affine_segment.specs.Pieces.{Each, RisesFrom}
-use Rattle.upp_curve.specs.Normal.{TailFits, IsRaw}
-use Rattle.min_plus.specs.Pointwise.{scaled}
-use Rattle.upp_limits.specs.Gauges.{scaled_line, scaled_piece, scaled_tail, scaled_curve}
-use Rattle.affine_segment.proofs.PieceIn.{piece_in_stop, piece_in_go, piece_in_end}
-use Rattle.upp_limits.proofs.ScaledCurves.{starts_scaled}
+use Rattle.curve_call.specs.rational.specs.Rational.{ℚ, ◌+ℚ◌, ◌-ℚ◌, ◌*ℚ◌, ◌≤ℚ◌, ◌<ℚ◌, int, le_q}
+use Rattle.curve_call.specs.rational.specs.Whole.{periods}
+use Rattle.curve_call.specs.rational.specs.Extended.{Ext, ◌+ₑ◌}
+use Rattle.curve_call.specs.rational.specs.declared.Extended.TheVariants.{Fin, Inf}
+use Rattle.curve_call.specs.rational.proofs.Laws.{le_or_lt, mul_add, mul_assoc, mul_comm}
+use Rattle.curve_call.specs.affine_segment.specs.declared.line.Line.{Line}
+use Rattle.curve_call.specs.affine_segment.specs.declared.line.Piece.{Piece}
+use Rattle.curve_call.specs.affine_segment.specs.Values.{line_value}
+use Rattle.curve_call.specs.upp_curve.specs.declared.curve.Tail.{Tail}
+use Rattle.curve_call.specs.upp_curve.specs.declared.curve.Tail.TheVariants.{Periodic, Affine, Infinite}
+use Rattle.curve_call.specs.affine_segment.specs.Reading.{read, piece_in, piece_value}
+use Rattle.curve_call.specs.upp_curve.specs.Curve.{SpecCurve, repeated, cut, with_tail, value_at}
+use Rattle.curve_call.specs.affine_segment.specs.Pieces.{Each, RisesFrom}
+use Rattle.curve_call.specs.upp_curve.specs.Normal.{TailFits, IsRaw}
+use Rattle.curve_call.specs.min_plus.specs.Pointwise.{scaled}
+use Rattle.curve_call.specs.upp_limits.specs.Gauges.{scaled_line, scaled_piece, scaled_tail, scaled_curve}
+use Rattle.curve_call.specs.affine_segment.proofs.PieceIn.{piece_in_stop, piece_in_go, piece_in_end}
+use Rattle.curve_call.specs.upp_limits.proofs.ScaledCurves.{starts_scaled}
 
 -- ---- values
 scaled_value : (q t : ℚ) (l : Option Line) → line_value (scaled_line q l) t ≡ scaled q (line_value l t)

@@ -2,37 +2,37 @@
 use Rattle.std.specs.Prelude.{◌≡◌, ℕ, ◌*◌, pos, List}
 use Prim.Native.Nat.{◌∣◌}
 use Rattle.std.proofs.Common.{arith, sym, ap, ap₂, ◌∙◌, refl, subst}
-use Rattle.rational.specs.Rational.{ℚ, ◌+ℚ◌, ◌≤ℚ◌, ◌<ℚ◌, int}
-use Rattle.rational.specs.Ratio.{SumFits}
-use Rattle.rational.specs.Grid.{Whole, Within}
-use Rattle.rational.specs.Extended.{Ext, ◌+ₑ◌}
-use Rattle.rational.specs.declared.Extended.TheVariants.{Fin, Inf}
-use Rattle.rational.proofs.Linear.{with4}
-use Rattle.rational.proofs.Laws.{le_trans, le_of_lt}
-use Rattle.rational.proofs.MinMax.{max_q_ge_left, max_q_ge_right}
-use Rattle.rational.proofs.Grid.{whole_add, within_add, within_weaken}
-use Rattle.affine_segment.specs.declared.line.Piece.{Piece}
-use Rattle.upp_limits.specs.declared.op_kind.OpKind.TheVariants.{Sum}
-use Rattle.affine_segment.specs.Reading.{read}
-use Rattle.upp_curve.specs.Curve.{SpecCurve, repeated, value_at}
-use Rattle.upp_curve.specs.Curves.{IsCurve}
-use Rattle.affine_segment.specs.Pieces.{Each}
-use Rattle.upp_normal.specs.Normalising.{HasValues}
-use Rattle.upp_curve.specs.Unrolled.{unroll}
-use Rattle.upp_curve.specs.Steady.{steady, rise_over, IsWholePeriods}
-use Rattle.upp_limits.specs.Windows.{window_at}
-use Rattle.min_plus.specs.Pointwise.{IsSum}
-use Rattle.upp_limits.specs.Limits.{Sizes, curve_numbers}
-use Rattle.upp_limits.specs.Sized.{Stands, grid_of, times_largest}
-use Rattle.upp_normal.specs.Operand.{OperandPieces, answer_room}
-use Rattle.upp_normal.specs.Room.{PieceHasRoom}
-use Rattle.upp_limits.proofs.NarrowSizes.{narrow_gauge, small_sum, slope_time_divides}
-use Rattle.upp_normal.proofs.NormaliseGrids.{PieceOn, raw_on}
-use Rattle.affine_segment.proofs.PieceOrder.{each_map}
-use Rattle.upp_curve.proofs.Steady.{steady_rule}
-use Rattle.upp_normal.proofs.Below.{unroll_reads}
-use Rattle.curve_window.specs.Pointwise.{IsWindowSum, IsSumPiece}
-use Rattle.curve_window.proofs.OperandWindows.{StartsWithRoom, sum_room}
+use Rattle.curve_call.specs.rational.specs.Rational.{ℚ, ◌+ℚ◌, ◌≤ℚ◌, ◌<ℚ◌, int}
+use Rattle.curve_call.specs.rational.specs.Ratio.{SumFits}
+use Rattle.curve_call.specs.rational.specs.Grid.{Whole, Within}
+use Rattle.curve_call.specs.rational.specs.Extended.{Ext, ◌+ₑ◌}
+use Rattle.curve_call.specs.rational.specs.declared.Extended.TheVariants.{Fin, Inf}
+use Rattle.curve_call.specs.rational.proofs.Linear.{with4}
+use Rattle.curve_call.specs.rational.proofs.Laws.{le_trans, le_of_lt}
+use Rattle.curve_call.specs.rational.proofs.MinMax.{max_q_ge_left, max_q_ge_right}
+use Rattle.curve_call.specs.rational.proofs.Grid.{whole_add, within_add, within_weaken}
+use Rattle.curve_call.specs.affine_segment.specs.declared.line.Piece.{Piece}
+use Rattle.curve_call.specs.upp_limits.specs.declared.op_kind.OpKind.TheVariants.{Sum}
+use Rattle.curve_call.specs.affine_segment.specs.Reading.{read}
+use Rattle.curve_call.specs.upp_curve.specs.Curve.{SpecCurve, repeated, value_at}
+use Rattle.curve_call.specs.upp_curve.specs.Curves.{IsCurve}
+use Rattle.curve_call.specs.affine_segment.specs.Pieces.{Each}
+use Rattle.curve_call.specs.upp_normal.specs.Normalising.{HasValues}
+use Rattle.curve_call.specs.upp_curve.specs.Unrolled.{unroll}
+use Rattle.curve_call.specs.upp_curve.specs.Steady.{steady, rise_over, IsWholePeriods}
+use Rattle.curve_call.specs.upp_limits.specs.Windows.{window_at}
+use Rattle.curve_call.specs.min_plus.specs.Pointwise.{IsSum}
+use Rattle.curve_call.specs.upp_limits.specs.Limits.{Sizes, curve_numbers}
+use Rattle.curve_call.specs.upp_limits.specs.Sized.{Stands, grid_of, times_largest}
+use Rattle.curve_call.specs.upp_normal.specs.Operand.{OperandPieces, answer_room}
+use Rattle.curve_call.specs.upp_normal.specs.Room.{PieceHasRoom}
+use Rattle.curve_call.specs.upp_limits.proofs.NarrowSizes.{narrow_gauge, small_sum, slope_time_divides}
+use Rattle.curve_call.specs.upp_normal.proofs.NormaliseGrids.{PieceOn, raw_on}
+use Rattle.curve_call.specs.affine_segment.proofs.PieceOrder.{each_map}
+use Rattle.curve_call.specs.upp_curve.proofs.Steady.{steady_rule}
+use Rattle.curve_call.specs.upp_normal.proofs.Below.{unroll_reads}
+use Rattle.curve_call.specs.Pointwise.{IsWindowSum, IsSumPiece}
+use Rattle.curve_call.proofs.OperandWindows.{StartsWithRoom, sum_room}
 use Rattle.curve_call.specs.declared.frame.Frame.{Frame}
 use Rattle.curve_call.specs.Frames.{IsFrame, sizes_at}
 use Rattle.curve_call.specs.Answering.{IsAnswerWindow}

@@ -2,14 +2,14 @@
 -- two values, and by how much it rises over a common period. (Bouillard, Boyer and Le Corronc: from some time on the
 -- slower of two curves is below the faster.)
 use Rattle.std.specs.Prelude.{◌≡◌, Bool, true, false, pos}
-use Rattle.rational.specs.Rational.{ℚ, ◌-ℚ◌, int}
-use Rattle.rational.specs.Extended.{Ext, ◌<ₑ◌, min_ext, max_ext}
-use Rattle.upp_limits.specs.declared.op_kind.OpKind.{OpKind}
-use Rattle.upp_limits.specs.declared.op_kind.OpKind.TheVariants.{Min, Max, PosDiff}
-use Rattle.upp_curve.specs.Curve.{SpecCurve}
-use Rattle.min_plus.specs.Functions.{IsFinite}
-use Rattle.min_plus.specs.Pointwise.{excess}
-use Rattle.upp_curve.specs.Steady.{rate}
+use Rattle.curve_call.specs.rational.specs.Rational.{ℚ, ◌-ℚ◌, int}
+use Rattle.curve_call.specs.rational.specs.Extended.{Ext, ◌<ₑ◌, min_ext, max_ext}
+use Rattle.curve_call.specs.upp_limits.specs.declared.op_kind.OpKind.{OpKind}
+use Rattle.curve_call.specs.upp_limits.specs.declared.op_kind.OpKind.TheVariants.{Min, Max, PosDiff}
+use Rattle.curve_call.specs.upp_curve.specs.Curve.{SpecCurve}
+use Rattle.curve_call.specs.min_plus.specs.Functions.{IsFinite}
+use Rattle.curve_call.specs.min_plus.specs.Pointwise.{excess}
+use Rattle.curve_call.specs.upp_curve.specs.Steady.{rate}
 use Rattle.curve_pointwise.specs.declared.lattice.Lattice.{Lattice}
 use Rattle.curve_pointwise.specs.declared.lattice.Lattice.TheVariants.{Lower, Upper, Excess}
 

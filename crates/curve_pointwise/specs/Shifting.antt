@@ -1,15 +1,15 @@
 -- Pieces of a window read from a time on, and moved left by it. Own choice.
 use Rattle.std.specs.Prelude.{List, ◌∷◌, map, Option, Some, None}
-use Rattle.rational.specs.Rational.{ℚ, ◌-ℚ◌, ◌≤ℚ◌, neg_ℚ}
-use Rattle.rational.specs.Ratio.{SumFits}
-use Rattle.rational.specs.Extended.{Ext}
-use Rattle.rational.specs.declared.Extended.TheVariants.{Fin, Inf}
-use Rattle.affine_segment.specs.declared.line.Line.{Line}
-use Rattle.affine_segment.specs.declared.line.Piece.{Piece}
-use Rattle.affine_segment.specs.Values.{line_at}
-use Rattle.min_plus.specs.Functions.{zero_q}
-use Rattle.affine_segment.specs.Fits.{LineFitsAt}
-use Rattle.upp_normal.specs.Normalising.{cut_at, past}
+use Rattle.curve_call.specs.rational.specs.Rational.{ℚ, ◌-ℚ◌, ◌≤ℚ◌, neg_ℚ}
+use Rattle.curve_call.specs.rational.specs.Ratio.{SumFits}
+use Rattle.curve_call.specs.rational.specs.Extended.{Ext}
+use Rattle.curve_call.specs.rational.specs.declared.Extended.TheVariants.{Fin, Inf}
+use Rattle.curve_call.specs.affine_segment.specs.declared.line.Line.{Line}
+use Rattle.curve_call.specs.affine_segment.specs.declared.line.Piece.{Piece}
+use Rattle.curve_call.specs.affine_segment.specs.Values.{line_at}
+use Rattle.curve_call.specs.min_plus.specs.Functions.{zero_q}
+use Rattle.curve_call.specs.affine_segment.specs.Fits.{LineFitsAt}
+use Rattle.curve_call.specs.upp_normal.specs.Normalising.{cut_at, past}
 
 -- a line moved left by x
 abbrev pub left_line : ℚ → Option Line → Option Line

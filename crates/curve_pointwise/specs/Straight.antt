@@ -1,16 +1,16 @@
 -- A curve of one piece: a value at 0, and after it one line for ever; and numbers so small that a sum of two such
 -- curves is within both limits. (Le Boudec and Thiran: a token bucket, whose value at 0 is any one here.) Own choice.
 use Rattle.std.specs.Prelude.{◌<◌, ◌≤◌, ◌^◌, pos, [], ◌∷◌, Some}
-use Rattle.rational.specs.Rational.{ℚ, ◌+ℚ◌, int}
-use Rattle.rational.specs.Grid.{Whole, Within}
-use Rattle.rational.specs.Ratio.{SumFits}
-use Rattle.rational.specs.declared.Extended.TheVariants.{Fin}
-use Rattle.affine_segment.specs.declared.line.Line.{Line}
-use Rattle.affine_segment.specs.declared.line.Piece.{Piece}
-use Rattle.upp_curve.specs.Curve.{SpecCurve}
-use Rattle.upp_curve.specs.declared.curve.Tail.TheVariants.{Affine}
-use Rattle.upp_limits.specs.declared.op_kind.OpKind.TheVariants.{Sum}
-use Rattle.upp_limits.specs.Gauges.{gauge_at, tally_at}
+use Rattle.curve_call.specs.rational.specs.Rational.{ℚ, ◌+ℚ◌, int}
+use Rattle.curve_call.specs.rational.specs.Grid.{Whole, Within}
+use Rattle.curve_call.specs.rational.specs.Ratio.{SumFits}
+use Rattle.curve_call.specs.rational.specs.declared.Extended.TheVariants.{Fin}
+use Rattle.curve_call.specs.affine_segment.specs.declared.line.Line.{Line}
+use Rattle.curve_call.specs.affine_segment.specs.declared.line.Piece.{Piece}
+use Rattle.curve_call.specs.upp_curve.specs.Curve.{SpecCurve}
+use Rattle.curve_call.specs.upp_curve.specs.declared.curve.Tail.TheVariants.{Affine}
+use Rattle.curve_call.specs.upp_limits.specs.declared.op_kind.OpKind.TheVariants.{Sum}
+use Rattle.curve_call.specs.upp_limits.specs.Gauges.{gauge_at, tally_at}
 use Rattle.curve_pointwise.specs.declared.straight.Straight.{Straight}
 
 abbrev pub straight_piece : Straight → Piece

@@ -1,31 +1,32 @@
 //! What is made of two curves at each time: the lower, the upper, and what the first has above the second.
 
 ghost use Rattle.std.specs.Prelude.{ℕ, ◌≡◌, ◌+◌, ◌↔◌, pos, true, IsTrue, IfOk, IfErr};
-ghost use Rattle.rational.specs.Rational.{ℚ, int, ◌-ℚ◌, ◌≤ℚ◌, ◌<ℚ◌, neg_ℚ};
-ghost use Rattle.rational.specs.Ratio.{SumFits};
-ghost use Rattle.rational.specs.Extended.{◌<ₑ◌};
-ghost use Rattle.upp_curve.specs.Curve.{value_at};
-ghost use Rattle.upp_curve.specs.Steady.{rate, rise_over};
-ghost use Rattle.upp_curve.specs.Unrolled.{unroll};
-ghost use Rattle.upp_curve.specs.Curves.{IsCurve};
-ghost use Rattle.upp_limits.specs.Outcome.{KeepsLimits, IsCauseOf};
-ghost use Rattle.curve_window.specs.Operands.{HaveSizes, IsMadeOf};
+ghost use Rattle.curve_call.specs.rational.specs.Rational.{ℚ, int, ◌-ℚ◌, ◌≤ℚ◌, ◌<ℚ◌, neg_ℚ};
+ghost use Rattle.curve_call.specs.rational.specs.Ratio.{SumFits};
+ghost use Rattle.curve_call.specs.rational.specs.Extended.{◌<ₑ◌};
+ghost use Rattle.curve_call.specs.upp_curve.specs.Curve.{value_at};
+ghost use Rattle.curve_call.specs.upp_curve.specs.Steady.{rate, rise_over};
+ghost use Rattle.curve_call.specs.upp_curve.specs.Unrolled.{unroll};
+ghost use Rattle.curve_call.specs.upp_curve.specs.Curves.{IsCurve};
+ghost use Rattle.curve_call.specs.upp_limits.specs.Outcome.{KeepsLimits, IsCauseOf};
+ghost use Rattle.curve_call.specs.Operands.{HaveSizes, IsMadeOf};
 ghost use Rattle.curve_call.specs.FirstWindows.{IsFirstWindow};
 ghost use Rattle.curve_call.specs.Rises.{CurveRiseFits};
 ghost use Rattle.curve_pointwise.specs.Lattice.{kind_of, made_of, rises_of, FiniteFor, RisesBy, IsTailRise};
 ghost use Rattle.curve_pointwise.specs.LatticeCall.{IsLatticeFrame};
 
-use affine_segment::Piece;
-use curve_call::{CallWindow, Frame, answer, first_window, refuse_between, rise_over, within};
-use curve_least::{Side, least_periods, period_bounds};
-use curve_window::{window_excess, window_max, window_min};
-use fraction128::{Frac, difference};
+use curve_call::affine_segment::Piece;
+use curve_call::fraction128::{Frac, difference};
+use curve_call::upp_curve::Curve;
+use curve_call::upp_limits::{OpFault, OpKind};
+use curve_call::upp_normal::unrolled;
+use curve_call::{
+    CallWindow, Frame, Side, answer, first_window, least_periods, period_bounds, refuse_between,
+    rise_over, window_excess, window_max, window_min, within,
+};
 use std::alloc::{AllocError, Global};
 use std::sync::ledger::Ledger;
 use steps::Steps;
-use upp_curve::Curve;
-use upp_limits::{OpFault, OpKind};
-use upp_normal::unrolled;
 
 /// What is made of two curves.
 #[derive(Debug, Clone, Copy)]
@@ -52,7 +53,7 @@ fn kind_of(of: Lattice) -> OpKind
 fn is_slower(f: &Curve, g: &Curve) -> bool
     ensures { IsTrue result ↔ (rate f.now <ₑ rate g.now) }
 {
-    curve_least::is_slower(&Side::of(f), &Side::of(g))
+    curve_call::is_slower(&Side::of(f), &Side::of(g))
 }
 
 // By how much the slower of two curves rises, or the faster.

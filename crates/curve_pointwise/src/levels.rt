@@ -1,35 +1,35 @@
 //! What a curve has above a level.
 
 ghost use Rattle.std.specs.Prelude.{◌≡◌, ◌+◌, ◌↔◌, pos, IsTrue, IfOk};
-ghost use Rattle.rational.specs.Rational.{ℚ, int, ◌≤ℚ◌};
-ghost use Rattle.rational.specs.declared.Extended.TheVariants.{Fin};
-ghost use Rattle.rational.specs.Extended.{◌<ₑ◌};
-ghost use Rattle.upp_curve.specs.Curve.{value_at};
-ghost use Rattle.min_plus.specs.Functions.{IsFinite};
-ghost use Rattle.upp_curve.specs.Steady.{rate, rise_over};
-ghost use Rattle.upp_curve.specs.Unrolled.{unroll};
-ghost use Rattle.curve_window.specs.Operands.{IsMadeOf};
-ghost use Rattle.min_plus.specs.Pointwise.{IsPositiveMinus};
-ghost use Rattle.upp_limits.specs.Outcome.{KeepsLimits};
-ghost use Rattle.upp_limits.specs.declared.op_kind.OpKind.TheVariants.{PosMinus};
+ghost use Rattle.curve_call.specs.rational.specs.Rational.{ℚ, int, ◌≤ℚ◌};
+ghost use Rattle.curve_call.specs.rational.specs.declared.Extended.TheVariants.{Fin};
+ghost use Rattle.curve_call.specs.rational.specs.Extended.{◌<ₑ◌};
+ghost use Rattle.curve_call.specs.upp_curve.specs.Curve.{value_at};
+ghost use Rattle.curve_call.specs.min_plus.specs.Functions.{IsFinite};
+ghost use Rattle.curve_call.specs.upp_curve.specs.Steady.{rate, rise_over};
+ghost use Rattle.curve_call.specs.upp_curve.specs.Unrolled.{unroll};
+ghost use Rattle.curve_call.specs.Operands.{IsMadeOf};
+ghost use Rattle.curve_call.specs.min_plus.specs.Pointwise.{IsPositiveMinus};
+ghost use Rattle.curve_call.specs.upp_limits.specs.Outcome.{KeepsLimits};
+ghost use Rattle.curve_call.specs.upp_limits.specs.declared.op_kind.OpKind.TheVariants.{PosMinus};
 ghost use Rattle.curve_call.specs.Rises.{CurveRiseFits};
-ghost use Rattle.curve_least.specs.Levels.{level_curve};
+ghost use Rattle.curve_call.specs.Levels.{level_curve};
 ghost use Rattle.curve_pointwise.specs.declared.lattice.Lattice.TheVariants.{Excess};
 ghost use Rattle.curve_pointwise.specs.Lattice.{RisesBy, made_of, rises_of};
 ghost use Rattle.curve_pointwise.specs.LatticeCall.{IsLatticeFrame};
 
-use affine_segment::{Line, Piece};
-use curve_call::{Frame, answer, first_window, rise_over, within};
-use curve_least::{Side, is_slower, side_periods};
-use curve_window::window_excess;
-use fraction128::{Frac, difference};
-use rational::Extended;
+use curve_call::affine_segment::{Line, Piece};
+use curve_call::fraction128::{Frac, difference};
+use curve_call::rational::Extended;
+use curve_call::upp_curve::Curve;
+use curve_call::upp_limits::{OpFault, OpKind};
+use curve_call::upp_normal::unrolled;
+use curve_call::{
+    Frame, Side, answer, first_window, is_slower, rise_over, side_periods, window_excess, within,
+};
 use std::alloc::{AllocError, Global};
 use std::sync::ledger::Ledger;
 use steps::Steps;
-use upp_curve::Curve;
-use upp_limits::{OpFault, OpKind};
-use upp_normal::unrolled;
 
 // The piece of a level.
 fn level_pieces(alloc: Global, l: Frac) -> Result<Vec<Piece>, AllocError>

@@ -4,15 +4,15 @@
 
 mod extremes;
 mod lattice;
-mod laws;
 mod levels;
 mod scaling;
 mod shifts;
 mod straight;
 mod sums;
 
+pub use curve_call;
+pub use curve_call::{affine_segment, fraction128, rational, upp_curve, upp_limits, upp_normal};
 pub use extremes::{max, min, pos_diff};
-pub use laws::answers_exist;
 pub use levels::pos_minus;
 pub use scaling::scale;
 pub use shifts::{infinite_curve, left_window, shift};

@@ -1,30 +1,30 @@
 //! A curve as it is some time later.
 
 ghost use Rattle.std.specs.Prelude.{◌≡◌, ◌+◌, pos, List, ◌∷◌, IfOk, IfErr};
-ghost use Rattle.rational.specs.Rational.{ℚ, int, ◌-ℚ◌, ◌≤ℚ◌, le_q, neg_ℚ};
-ghost use Rattle.rational.specs.Ratio.{SumFits};
-ghost use Rattle.rational.specs.declared.Extended.TheVariants.{Fin, Inf};
-ghost use Rattle.affine_segment.specs.Values.{line_value};
-ghost use Rattle.affine_segment.specs.Reading.{piece_in, piece_value};
-ghost use Rattle.upp_curve.specs.Curve.{value_at};
-ghost use Rattle.affine_segment.specs.Pieces.{Each, StartsAtZero};
-ghost use Rattle.affine_segment.specs.Fits.{LineFitsAt};
-ghost use Rattle.min_plus.specs.Pointwise.{IsShift};
-ghost use Rattle.upp_limits.specs.Outcome.{KeepsLimits};
+ghost use Rattle.curve_call.specs.rational.specs.Rational.{ℚ, int, ◌-ℚ◌, ◌≤ℚ◌, le_q, neg_ℚ};
+ghost use Rattle.curve_call.specs.rational.specs.Ratio.{SumFits};
+ghost use Rattle.curve_call.specs.rational.specs.declared.Extended.TheVariants.{Fin, Inf};
+ghost use Rattle.curve_call.specs.affine_segment.specs.Values.{line_value};
+ghost use Rattle.curve_call.specs.affine_segment.specs.Reading.{piece_in, piece_value};
+ghost use Rattle.curve_call.specs.upp_curve.specs.Curve.{value_at};
+ghost use Rattle.curve_call.specs.affine_segment.specs.Pieces.{Each, StartsAtZero};
+ghost use Rattle.curve_call.specs.affine_segment.specs.Fits.{LineFitsAt};
+ghost use Rattle.curve_call.specs.min_plus.specs.Pointwise.{IsShift};
+ghost use Rattle.curve_call.specs.upp_limits.specs.Outcome.{KeepsLimits};
 ghost use Rattle.curve_call.specs.Frames.{IsFrame};
 ghost use Rattle.curve_pointwise.specs.Shifting.{left_line, left_piece, moved_left, LeftFits, IsAhead};
 
-use affine_segment::{Line, Piece, piece_at, piece_value, value};
+use curve_call::affine_segment::{Line, Piece, piece_at, piece_value, value};
+use curve_call::fraction128::{Ext, Frac, difference};
+use curve_call::rational::Extended;
+use curve_call::upp_curve::{Curve, Tail};
+use curve_call::upp_limits::{OpFault, OpKind};
+use curve_call::upp_normal::unrolled;
 use curve_call::{Frame, answer, rise_over, within};
-use fraction128::{Ext, Frac, difference};
-use rational::Extended;
 use std::alloc::{AllocError, Global};
 use std::cmp::Ordering;
 use std::sync::ledger::Ledger;
 use steps::Steps;
-use upp_curve::{Curve, Tail};
-use upp_limits::{OpFault, OpKind};
-use upp_normal::unrolled;
 
 // A line that may be missing, moved left by x.
 fn left_line(line: Option<Line>, x: Frac) -> Option<Line>

@@ -1,22 +1,22 @@
 //! Curves of one line each, and their sum without a window.
 
 ghost use Rattle.std.specs.Prelude.{◌≡◌, ◌∷◌, [], pos, IfOk, IfErr, IfSome, IsTrue};
-ghost use Rattle.rational.specs.Rational.{ℚ, int, ◌≤ℚ◌};
-ghost use Rattle.affine_segment.specs.Pieces.{StartsAtZero};
-ghost use Rattle.upp_curve.specs.Curve.{value_at};
-ghost use Rattle.upp_curve.specs.Curves.{IsCurve};
-ghost use Rattle.min_plus.specs.Pointwise.{IsSum};
-ghost use Rattle.upp_limits.specs.Outcome.{KeepsLimits};
+ghost use Rattle.curve_call.specs.rational.specs.Rational.{ℚ, int, ◌≤ℚ◌};
+ghost use Rattle.curve_call.specs.affine_segment.specs.Pieces.{StartsAtZero};
+ghost use Rattle.curve_call.specs.upp_curve.specs.Curve.{value_at};
+ghost use Rattle.curve_call.specs.upp_curve.specs.Curves.{IsCurve};
+ghost use Rattle.curve_call.specs.min_plus.specs.Pointwise.{IsSum};
+ghost use Rattle.curve_call.specs.upp_limits.specs.Outcome.{KeepsLimits};
 ghost use Rattle.curve_call.specs.Frames.{IsRefusedAt};
 ghost use Rattle.curve_pointwise.specs.Straight.{straight_piece, straight_curve, total, TotalFits, IsSumWithin, IsLittle, AreLittle};
 
-use affine_segment::{Line, Piece};
+use curve_call::affine_segment::{Line, Piece};
+use curve_call::fraction128::Frac;
+use curve_call::rational::Extended;
+use curve_call::upp_curve::{Curve, Tail};
+use curve_call::upp_limits::{OpFault, OpKind};
 use curve_call::within;
-use fraction128::Frac;
-use rational::Extended;
 use std::alloc::{AllocError, Global};
-use upp_curve::{Curve, Tail};
-use upp_limits::{OpFault, OpKind};
 
 /// A curve of one piece: a value at 0, and after it one line for ever.
 #[derive(Debug, Clone, Copy)]
@@ -77,9 +77,9 @@ fn total_of(alloc: Global, f: &Straight, g: &Straight) -> Result<Curve, AllocErr
     requires { TotalFits f.now g.now }
     ensures { IfOk result (λ c. c ≡ straight_curve (total f.now g.now)) }
 {
-    let at = fraction128::sum(f.at, g.at);
-    let icept = fraction128::sum(f.line.icept, g.line.icept);
-    let slope = fraction128::sum(f.line.slope, g.line.slope);
+    let at = curve_call::fraction128::sum(f.at, g.at);
+    let icept = curve_call::fraction128::sum(f.line.icept, g.line.icept);
+    let slope = curve_call::fraction128::sum(f.line.slope, g.line.slope);
     let both = Straight {
         at,
         line: Line { icept, slope },

@@ -1,25 +1,24 @@
 //! The sum of two curves.
 
 ghost use Rattle.std.specs.Prelude.{◌≡◌, ◌+◌, pos, IfOk};
-ghost use Rattle.rational.specs.Rational.{ℚ, int, ◌+ℚ◌, ◌≤ℚ◌};
-ghost use Rattle.rational.specs.Ratio.{SumFits};
-ghost use Rattle.upp_curve.specs.Curve.{value_at};
-ghost use Rattle.min_plus.specs.Pointwise.{IsSum};
-ghost use Rattle.upp_limits.specs.Outcome.{KeepsLimits};
-ghost use Rattle.upp_curve.specs.Unrolled.{unroll};
-ghost use Rattle.curve_window.specs.Pointwise.{IsWindowSum};
+ghost use Rattle.curve_call.specs.rational.specs.Rational.{ℚ, int, ◌+ℚ◌, ◌≤ℚ◌};
+ghost use Rattle.curve_call.specs.rational.specs.Ratio.{SumFits};
+ghost use Rattle.curve_call.specs.upp_curve.specs.Curve.{value_at};
+ghost use Rattle.curve_call.specs.min_plus.specs.Pointwise.{IsSum};
+ghost use Rattle.curve_call.specs.upp_limits.specs.Outcome.{KeepsLimits};
+ghost use Rattle.curve_call.specs.upp_curve.specs.Unrolled.{unroll};
+ghost use Rattle.curve_call.specs.Pointwise.{IsWindowSum};
 ghost use Rattle.curve_call.specs.Frames.{IsFrame};
 
 use crate::straight::{straight_of, sum_straight};
-use affine_segment::Piece;
-use curve_call::{Frame, answer, rise_over, within};
-use curve_window::window_sum;
+use curve_call::affine_segment::Piece;
+use curve_call::upp_curve::Curve;
+use curve_call::upp_limits::{OpFault, OpKind};
+use curve_call::upp_normal::unrolled;
+use curve_call::{Frame, answer, rise_over, window_sum, within};
 use std::alloc::{AllocError, Global};
 use std::sync::ledger::Ledger;
 use steps::Steps;
-use upp_curve::Curve;
-use upp_limits::{OpFault, OpKind};
-use upp_normal::unrolled;
 
 // The pieces of a sum below the end of its call's window. Those of the operands are let go here, before the normal form
 // takes memory.
@@ -45,7 +44,7 @@ fn sum_within(alloc: Global, f: &Curve, g: &Curve, frame: &Frame) -> Result<Curv
     let pieces = pieces_of_sum(alloc, f, g, frame)?;
     let first = rise_over(f, frame.period);
     let second = rise_over(g, frame.period);
-    let rise = fraction128::sum(first, second);
+    let rise = curve_call::fraction128::sum(first, second);
     answer(
         alloc,
         pieces,

@@ -1,15 +1,15 @@
 -- Pieces appended one by one, or put in front one by one, that keep a property of each reading.
 use Rattle.std.specs.Prelude.{◌≡◌, pos, List, [], ◌∷◌, ◌++◌}
 use Rattle.std.proofs.Common.{sym, ap, ◌∙◌, subst, inl, inr}
-use Rattle.rational.specs.Rational.{ℚ, ◌≤ℚ◌, ◌<ℚ◌, int}
-use Rattle.rational.specs.Extended.{Ext}
-use Rattle.rational.proofs.Laws.{antisym, le_or_lt, lt_irrefl, lt_le_trans, lt_trans}
-use Rattle.affine_segment.specs.declared.line.Piece.{Piece}
-use Rattle.affine_segment.specs.Values.{line_value}
-use Rattle.affine_segment.specs.Reading.{read, piece_in, piece_value}
-use Rattle.affine_segment.specs.Pieces.{Each, RisesFrom, StartsAtZero}
-use Rattle.affine_segment.proofs.PieceIn.{piece_in_end, piece_in_go, piece_in_stop, value_past, value_at_start, read_stop, read_go, read_one}
-use Rattle.curve_window.proofs.Surgery.{read_middle}
+use Rattle.curve_pointwise.specs.rational.specs.Rational.{ℚ, ◌≤ℚ◌, ◌<ℚ◌, int}
+use Rattle.curve_pointwise.specs.rational.specs.Extended.{Ext}
+use Rattle.curve_pointwise.specs.rational.proofs.Laws.{antisym, le_or_lt, lt_irrefl, lt_le_trans, lt_trans}
+use Rattle.curve_pointwise.specs.affine_segment.specs.declared.line.Piece.{Piece}
+use Rattle.curve_pointwise.specs.affine_segment.specs.Values.{line_value}
+use Rattle.curve_pointwise.specs.affine_segment.specs.Reading.{read, piece_in, piece_value}
+use Rattle.curve_pointwise.specs.affine_segment.specs.Pieces.{Each, RisesFrom, StartsAtZero}
+use Rattle.curve_pointwise.specs.affine_segment.proofs.PieceIn.{piece_in_end, piece_in_go, piece_in_stop, value_past, value_at_start, read_stop, read_go, read_one}
+use Rattle.curve_pointwise.specs.curve_call.proofs.Surgery.{read_middle}
 
 -- ---- appended
 -- up to b each reading has the property, and a piece that starts at b comes next

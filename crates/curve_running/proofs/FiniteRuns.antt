@@ -1,22 +1,22 @@
 -- The running bounds of a finite curve are finite: of the supremum by its pieces, of the infimum by its value.
 use Rattle.std.specs.Prelude.{◌≡◌, Bool, List, [], ◌∷◌, Option, Some}
 use Rattle.std.proofs.Common.{sym, ◌∙◌, subst, inl, inr}
-use Rattle.rational.specs.Rational.{ℚ}
-use Rattle.rational.specs.Extended.{Ext, ◌≤ₑ◌}
-use Rattle.rational.proofs.Laws.{le_refl}
-use Rattle.affine_segment.specs.declared.line.Line.{Line}
-use Rattle.affine_segment.specs.declared.line.Piece.{Piece}
-use Rattle.affine_segment.specs.Reading.{read}
-use Rattle.upp_curve.specs.Curve.{SpecCurve, value_at, repeated}
-use Rattle.min_plus.specs.Functions.{IsFinite}
-use Rattle.affine_segment.specs.Pieces.{Each, StartsAtZero}
-use Rattle.upp_normal.specs.Normalising.{HasValues}
-use Rattle.upp_curve.specs.Shapes.{IsNumber, IsLine, IsFinitePiece}
-use Rattle.upp_curve.proofs.Finite.{level_of, number_of, read_number, repeated_number}
+use Rattle.curve_pointwise.specs.rational.specs.Rational.{ℚ}
+use Rattle.curve_pointwise.specs.rational.specs.Extended.{Ext, ◌≤ₑ◌}
+use Rattle.curve_pointwise.specs.rational.proofs.Laws.{le_refl}
+use Rattle.curve_pointwise.specs.affine_segment.specs.declared.line.Line.{Line}
+use Rattle.curve_pointwise.specs.affine_segment.specs.declared.line.Piece.{Piece}
+use Rattle.curve_pointwise.specs.affine_segment.specs.Reading.{read}
+use Rattle.curve_pointwise.specs.upp_curve.specs.Curve.{SpecCurve, value_at, repeated}
+use Rattle.curve_pointwise.specs.min_plus.specs.Functions.{IsFinite}
+use Rattle.curve_pointwise.specs.affine_segment.specs.Pieces.{Each, StartsAtZero}
+use Rattle.curve_pointwise.specs.upp_normal.specs.Normalising.{HasValues}
+use Rattle.curve_pointwise.specs.upp_curve.specs.Shapes.{IsNumber, IsLine, IsFinitePiece}
+use Rattle.curve_pointwise.specs.upp_curve.proofs.Finite.{level_of, number_of, read_number, repeated_number}
 use Rattle.curve_running.specs.Made.{IsMade, IsScan}
 use Rattle.curve_running.specs.Runs.{RunsFrom}
-use Rattle.affine_segment.proofs.PieceIn.{read_is}
-use Rattle.rational.proofs.ExtendedOrder.{finite_below}
+use Rattle.curve_pointwise.specs.affine_segment.proofs.PieceIn.{read_is}
+use Rattle.curve_pointwise.specs.rational.proofs.ExtendedOrder.{finite_below}
 
 -- ---- the supremum
 some_line : (line : Option Line) (l : Line) → line ≡ Some l → IsLine line

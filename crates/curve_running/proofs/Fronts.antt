@@ -1,17 +1,17 @@
 -- The first of some pieces, up to a time: a list that is cut there keeps what holds of its pieces, and its readings before that time.
 use Rattle.std.specs.Prelude.{◌≡◌, ℕ, suc, Bool, ◌+◌, ◌<◌, pos, List, [], ◌∷◌, ◌++◌, length, drop}
 use Rattle.std.proofs.Common.{arith, get_or, drop-cons, sym, ap, ap₂, ◌∙◌, refl, subst, inl, inr}
-use Rattle.rational.specs.Rational.{ℚ, ◌≤ℚ◌, ◌<ℚ◌, int}
-use Rattle.rational.proofs.Laws.{le_or_lt, lt_irrefl, lt_le_trans, le_lt_trans}
-use Rattle.affine_segment.specs.declared.line.Piece.{Piece}
-use Rattle.upp_normal.specs.Bends.{OnlyBend}
-use Rattle.affine_segment.specs.Reading.{read, piece_in, piece_value}
-use Rattle.affine_segment.specs.Pieces.{Each, StartsAtZero}
-use Rattle.affine_segment.proofs.PieceIn.{piece_in_end, piece_in_go, piece_in_stop}
-use Rattle.curve_window.proofs.Surgery.{one_more}
+use Rattle.curve_pointwise.specs.rational.specs.Rational.{ℚ, ◌≤ℚ◌, ◌<ℚ◌, int}
+use Rattle.curve_pointwise.specs.rational.proofs.Laws.{le_or_lt, lt_irrefl, lt_le_trans, le_lt_trans}
+use Rattle.curve_pointwise.specs.affine_segment.specs.declared.line.Piece.{Piece}
+use Rattle.curve_pointwise.specs.upp_normal.specs.Bends.{OnlyBend}
+use Rattle.curve_pointwise.specs.affine_segment.specs.Reading.{read, piece_in, piece_value}
+use Rattle.curve_pointwise.specs.affine_segment.specs.Pieces.{Each, StartsAtZero}
+use Rattle.curve_pointwise.specs.affine_segment.proofs.PieceIn.{piece_in_end, piece_in_go, piece_in_stop}
+use Rattle.curve_pointwise.specs.curve_call.proofs.Surgery.{one_more}
 use Rattle.curve_running.specs.Runs.{IsFrontBefore}
-use Rattle.affine_segment.proofs.PieceOrder.{heads_same, each_left, rises_left}
-use Rattle.upp_normal.proofs.Bends.{bend_front}
+use Rattle.curve_pointwise.specs.affine_segment.proofs.PieceOrder.{heads_same, each_left, rises_left}
+use Rattle.curve_pointwise.specs.upp_normal.proofs.Bends.{bend_front}
 
 -- ---- the loop
 pub record FrontLoop (ps : List Piece) (end : ℚ) (i : ℕ) (front : List Piece) : Type 0 where

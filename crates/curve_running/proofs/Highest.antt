@@ -1,19 +1,19 @@
 -- The supremum between two times, piece by piece.
 use Rattle.std.specs.Prelude.{◌≡◌, ℕ, ◌+◌, ◌≤◌, pos, List, length, drop, ◌⊎◌}
 use Rattle.std.proofs.Common.{drop_of_length-le, sym, ap, ap₂, ◌∙◌, refl, subst, inl, inr}
-use Rattle.rational.specs.Rational.{ℚ, ◌≤ℚ◌, ◌<ℚ◌, int}
-use Rattle.rational.specs.MinMax.{min_q, max_q}
-use Rattle.rational.specs.Extended.{Ext, ◌≤ₑ◌, ◌<ₑ◌}
-use Rattle.rational.specs.declared.Extended.TheVariants.{Fin}
-use Rattle.rational.proofs.Laws.{antisym, le_refl, le_of_lt, le_or_lt, le_trans, lt_irrefl, lt_le_trans, le_lt_trans}
-use Rattle.rational.proofs.ExtendedOrder.{le_ext_trans, same_le_ext, lt_le_ext}
-use Rattle.rational.proofs.MinMax.{max_q_one, max_q_ge_left, max_q_ge_right, max_q_le, min_q_one, min_q_le_left, min_q_le_right, below_min_in}
-use Rattle.rational.proofs.Stretch.{line_supremum}
-use Rattle.affine_segment.specs.declared.line.Line.{Line}
-use Rattle.affine_segment.specs.declared.line.Piece.{Piece}
-use Rattle.affine_segment.specs.Values.{line_at}
-use Rattle.affine_segment.specs.Reading.{read}
-use Rattle.affine_segment.specs.Fits.{LineFits}
+use Rattle.curve_pointwise.specs.rational.specs.Rational.{ℚ, ◌≤ℚ◌, ◌<ℚ◌, int}
+use Rattle.curve_pointwise.specs.rational.specs.MinMax.{min_q, max_q}
+use Rattle.curve_pointwise.specs.rational.specs.Extended.{Ext, ◌≤ₑ◌, ◌<ₑ◌}
+use Rattle.curve_pointwise.specs.rational.specs.declared.Extended.TheVariants.{Fin}
+use Rattle.curve_pointwise.specs.rational.proofs.Laws.{antisym, le_refl, le_of_lt, le_or_lt, le_trans, lt_irrefl, lt_le_trans, le_lt_trans}
+use Rattle.curve_pointwise.specs.rational.proofs.ExtendedOrder.{le_ext_trans, same_le_ext, lt_le_ext}
+use Rattle.curve_pointwise.specs.rational.proofs.MinMax.{max_q_one, max_q_ge_left, max_q_ge_right, max_q_le, min_q_one, min_q_le_left, min_q_le_right, below_min_in}
+use Rattle.curve_pointwise.specs.rational.proofs.Stretch.{line_supremum}
+use Rattle.curve_pointwise.specs.affine_segment.specs.declared.line.Line.{Line}
+use Rattle.curve_pointwise.specs.affine_segment.specs.declared.line.Piece.{Piece}
+use Rattle.curve_pointwise.specs.affine_segment.specs.Values.{line_at}
+use Rattle.curve_pointwise.specs.affine_segment.specs.Reading.{read}
+use Rattle.curve_pointwise.specs.affine_segment.specs.Fits.{LineFits}
 use Rattle.curve_running.specs.declared.stretch.Stretch.{Stretch}
 use Rattle.curve_running.specs.Scans.{start_or, Until, IsStretch, IsWindow, IsLevel, IsSupremumIn}
 use Rattle.curve_running.specs.Between.{FitsAtBoth, IsLevelBetween, Above, IsHighestIn}

@@ -2,18 +2,18 @@
 -- value: the limit at the end, which no time there takes.
 use Rattle.std.specs.Prelude.{◌≡◌, ◌⊎◌}
 use Rattle.std.proofs.Common.{sym, ap, ◌∙◌, subst, inl, inr}
-use Rattle.rational.specs.Rational.{ℚ, ◌≤ℚ◌, ◌<ℚ◌}
-use Rattle.rational.specs.MinMax.{min_q, max_q}
-use Rattle.rational.specs.Extended.{Ext, ◌≤ₑ◌, ◌<ₑ◌}
-use Rattle.rational.specs.Bounds.{IsInfimum}
-use Rattle.rational.specs.Stretch.{Between}
-use Rattle.rational.specs.declared.Extended.TheVariants.{Fin}
-use Rattle.rational.proofs.Laws.{antisym, le_refl, le_of_lt, le_or_lt, le_trans, lt_irrefl, lt_le_trans, le_lt_trans}
-use Rattle.rational.proofs.ExtendedOrder.{le_ext_trans, same_le_ext}
-use Rattle.rational.proofs.MinMax.{min_q_one, min_q_le_left, min_q_le_right, max_q_ge_left, max_q_ge_right, max_q_lt}
-use Rattle.rational.proofs.Stretch.{line_infimum}
-use Rattle.affine_segment.specs.declared.line.Line.{Line}
-use Rattle.affine_segment.specs.Values.{line_at}
+use Rattle.curve_pointwise.specs.rational.specs.Rational.{ℚ, ◌≤ℚ◌, ◌<ℚ◌}
+use Rattle.curve_pointwise.specs.rational.specs.MinMax.{min_q, max_q}
+use Rattle.curve_pointwise.specs.rational.specs.Extended.{Ext, ◌≤ₑ◌, ◌<ₑ◌}
+use Rattle.curve_pointwise.specs.rational.specs.Bounds.{IsInfimum}
+use Rattle.curve_pointwise.specs.rational.specs.Stretch.{Between}
+use Rattle.curve_pointwise.specs.rational.specs.declared.Extended.TheVariants.{Fin}
+use Rattle.curve_pointwise.specs.rational.proofs.Laws.{antisym, le_refl, le_of_lt, le_or_lt, le_trans, lt_irrefl, lt_le_trans, le_lt_trans}
+use Rattle.curve_pointwise.specs.rational.proofs.ExtendedOrder.{le_ext_trans, same_le_ext}
+use Rattle.curve_pointwise.specs.rational.proofs.MinMax.{min_q_one, min_q_le_left, min_q_le_right, max_q_ge_left, max_q_ge_right, max_q_lt}
+use Rattle.curve_pointwise.specs.rational.proofs.Stretch.{line_infimum}
+use Rattle.curve_pointwise.specs.affine_segment.specs.declared.line.Line.{Line}
+use Rattle.curve_pointwise.specs.affine_segment.specs.Values.{line_at}
 use Rattle.curve_running.specs.Scans.{Until, IsInfimumUntil}
 use Rattle.curve_running.specs.Bends.{sunk}
 use Rattle.curve_running.proofs.Levels.{line_bottom}

@@ -2,16 +2,16 @@
 use Rattle.std.specs.Prelude.{◌≡◌, ℕ, false, ◌+◌, ◌-◌, ◌*◌, ◌<◌, ◌≤◌, pos, List, [], ◌∷◌, ◌++◌, length, drop, Option, Some, None, reverse}
 use Rattle.std.proofs.Common.{arith, length-append, drop_of_length-le, sym, ap, ap₂, ◌∙◌, refl, subst}
 use Rattle.std.proofs.lemmas.List.{reverse-append, length-reverse}
-use Rattle.rational.specs.Rational.{ℚ, ◌≤ℚ◌, ◌<ℚ◌, int}
-use Rattle.rational.specs.MinMax.{min_q}
-use Rattle.rational.specs.Extended.{Ext}
-use Rattle.rational.specs.declared.Extended.TheVariants.{Fin}
-use Rattle.rational.proofs.Laws.{lt_irrefl, lt_le_trans, lt_trans, le_of_lt, le_trans}
-use Rattle.affine_segment.specs.declared.line.Line.{Line}
-use Rattle.affine_segment.specs.declared.line.Piece.{Piece}
-use Rattle.affine_segment.specs.Values.{line_at}
-use Rattle.affine_segment.specs.Reading.{read}
-use Rattle.affine_segment.specs.Pieces.{Each}
+use Rattle.curve_pointwise.specs.rational.specs.Rational.{ℚ, ◌≤ℚ◌, ◌<ℚ◌, int}
+use Rattle.curve_pointwise.specs.rational.specs.MinMax.{min_q}
+use Rattle.curve_pointwise.specs.rational.specs.Extended.{Ext}
+use Rattle.curve_pointwise.specs.rational.specs.declared.Extended.TheVariants.{Fin}
+use Rattle.curve_pointwise.specs.rational.proofs.Laws.{lt_irrefl, lt_le_trans, lt_trans, le_of_lt, le_trans}
+use Rattle.curve_pointwise.specs.affine_segment.specs.declared.line.Line.{Line}
+use Rattle.curve_pointwise.specs.affine_segment.specs.declared.line.Piece.{Piece}
+use Rattle.curve_pointwise.specs.affine_segment.specs.Values.{line_at}
+use Rattle.curve_pointwise.specs.affine_segment.specs.Reading.{read}
+use Rattle.curve_pointwise.specs.affine_segment.specs.Pieces.{Each}
 use Rattle.curve_running.specs.declared.stretch.Stretch.{Stretch}
 use Rattle.curve_running.specs.declared.bend.Bend.{Bend}
 use Rattle.curve_running.specs.Scans.{start_or, IsWindow, IsLevel, IsStretch, IsInfimumUntil}
@@ -21,7 +21,7 @@ use Rattle.curve_running.proofs.Suprema.{IsLineOn}
 use Rattle.curve_running.proofs.Infima.{IsLate, late_start, late_line, late_value, late_end}
 use Rattle.curve_running.proofs.Building.{BuiltBack, back_more}
 use Rattle.curve_running.proofs.Makings.{lesser_level, bent_made, bent_turns, turns_join}
-use Rattle.affine_segment.proofs.PieceOrder.{each_append}
+use Rattle.curve_pointwise.specs.affine_segment.proofs.PieceOrder.{each_append}
 use Rattle.curve_running.proofs.SupremumLoop.{first_start}
 
 -- w is the limit at the end of the last line

@@ -1,37 +1,37 @@
 -- The running infimum of a curve: from its scan in the window to every time.
 use Rattle.std.specs.Prelude.{◌≡◌, false, pos, List, None}
 use Rattle.std.proofs.Common.{arith, sym, ap, ◌∙◌, subst}
-use Rattle.rational.specs.Rational.{ℚ, ◌+ℚ◌, ◌*ℚ◌, ◌≤ℚ◌, ◌<ℚ◌, int}
-use Rattle.rational.specs.Grid.{Whole, Within}
-use Rattle.rational.specs.Extended.{Ext}
-use Rattle.rational.proofs.Grid.{within_weaken}
-use Rattle.rational.proofs.Integers.{nat_le, nat_nonneg}
-use Rattle.rational.proofs.Laws.{le_of_lt, le_trans, lt_le_trans, mul_le_mul_right}
-use Rattle.rational.proofs.Linear.{with2}
-use Rattle.rational.proofs.Bounds.{same_infimum}
-use Rattle.rational.proofs.ExtendedOrder.{same_le_ext}
-use Rattle.affine_segment.specs.declared.line.Piece.{Piece}
-use Rattle.upp_limits.specs.declared.op_kind.OpKind.TheVariants.{RunInf}
-use Rattle.affine_segment.specs.Reading.{read}
-use Rattle.upp_curve.specs.Curve.{SpecCurve, value_at, repeated}
-use Rattle.min_plus.specs.Functions.{zero_q, IsFinite, IsNonnegative}
-use Rattle.affine_segment.specs.Pieces.{Each, StartsAtZero}
-use Rattle.upp_normal.specs.Normalising.{HasValues}
-use Rattle.upp_normal.specs.Room.{PieceHasRoom}
-use Rattle.min_plus.specs.Running.{IsRunningInfimum}
-use Rattle.upp_curve.specs.Steady.{Repeats, rise_over}
-use Rattle.upp_limits.specs.Periods.{own_period, periods_after}
-use Rattle.upp_limits.specs.Limits.{Sizes}
-use Rattle.upp_limits.specs.Sized.{grid_of, times_largest}
-use Rattle.upp_normal.specs.Operand.{OperandPieces, answer_room}
-use Rattle.upp_curve.specs.Unrolled.{unroll}
-use Rattle.upp_limits.specs.Windows.{window_at}
-use Rattle.upp_normal.proofs.Bends.{bends_on}
-use Rattle.curve_call.specs.declared.frame.Frame.{Frame}
-use Rattle.curve_call.specs.Answering.{IsAnswerWindow}
-use Rattle.curve_call.specs.Frames.{IsFrame, sizes_at}
-use Rattle.curve_call.proofs.Answering.{answer_relation}
-use Rattle.curve_call.proofs.CurveRises.{IsRise}
+use Rattle.curve_pointwise.specs.rational.specs.Rational.{ℚ, ◌+ℚ◌, ◌*ℚ◌, ◌≤ℚ◌, ◌<ℚ◌, int}
+use Rattle.curve_pointwise.specs.rational.specs.Grid.{Whole, Within}
+use Rattle.curve_pointwise.specs.rational.specs.Extended.{Ext}
+use Rattle.curve_pointwise.specs.rational.proofs.Grid.{within_weaken}
+use Rattle.curve_pointwise.specs.rational.proofs.Integers.{nat_le, nat_nonneg}
+use Rattle.curve_pointwise.specs.rational.proofs.Laws.{le_of_lt, le_trans, lt_le_trans, mul_le_mul_right}
+use Rattle.curve_pointwise.specs.rational.proofs.Linear.{with2}
+use Rattle.curve_pointwise.specs.rational.proofs.Bounds.{same_infimum}
+use Rattle.curve_pointwise.specs.rational.proofs.ExtendedOrder.{same_le_ext}
+use Rattle.curve_pointwise.specs.affine_segment.specs.declared.line.Piece.{Piece}
+use Rattle.curve_pointwise.specs.upp_limits.specs.declared.op_kind.OpKind.TheVariants.{RunInf}
+use Rattle.curve_pointwise.specs.affine_segment.specs.Reading.{read}
+use Rattle.curve_pointwise.specs.upp_curve.specs.Curve.{SpecCurve, value_at, repeated}
+use Rattle.curve_pointwise.specs.min_plus.specs.Functions.{zero_q, IsFinite, IsNonnegative}
+use Rattle.curve_pointwise.specs.affine_segment.specs.Pieces.{Each, StartsAtZero}
+use Rattle.curve_pointwise.specs.upp_normal.specs.Normalising.{HasValues}
+use Rattle.curve_pointwise.specs.upp_normal.specs.Room.{PieceHasRoom}
+use Rattle.curve_pointwise.specs.min_plus.specs.Running.{IsRunningInfimum}
+use Rattle.curve_pointwise.specs.upp_curve.specs.Steady.{Repeats, rise_over}
+use Rattle.curve_pointwise.specs.upp_limits.specs.Periods.{own_period, periods_after}
+use Rattle.curve_pointwise.specs.upp_limits.specs.Limits.{Sizes}
+use Rattle.curve_pointwise.specs.upp_limits.specs.Sized.{grid_of, times_largest}
+use Rattle.curve_pointwise.specs.upp_normal.specs.Operand.{OperandPieces, answer_room}
+use Rattle.curve_pointwise.specs.upp_curve.specs.Unrolled.{unroll}
+use Rattle.curve_pointwise.specs.upp_limits.specs.Windows.{window_at}
+use Rattle.curve_pointwise.specs.upp_normal.proofs.Bends.{bends_on}
+use Rattle.curve_pointwise.specs.curve_call.specs.declared.frame.Frame.{Frame}
+use Rattle.curve_pointwise.specs.curve_call.specs.Answering.{IsAnswerWindow}
+use Rattle.curve_pointwise.specs.curve_call.specs.Frames.{IsFrame, sizes_at}
+use Rattle.curve_pointwise.specs.curve_call.proofs.Answering.{answer_relation}
+use Rattle.curve_pointwise.specs.curve_call.proofs.CurveRises.{IsRise}
 use Rattle.curve_running.specs.Made.{IsMade, TurnsAfter, IsScan, IsInfimumScan}
 use Rattle.curve_running.specs.Runs.{RunsFrom, IsFrontBefore}
 use Rattle.curve_running.specs.Scans.{Until, IsInfimumUntil}
@@ -39,7 +39,7 @@ use Rattle.curve_running.proofs.Fronts.{kept_each, kept_starts, kept_reads, kept
 use Rattle.curve_running.proofs.LevelSizes.{scan_room, only_bend}
 use Rattle.curve_running.proofs.RunFacts.{RunFacts, inf_facts, run_pieces, run_reads, run_rise, run_repeats, run_low}
 use Rattle.curve_running.proofs.Shifts.{infimum_repeats, infimum_until}
-use Rattle.curve_window.proofs.TailGrids.{grids_nest}
+use Rattle.curve_pointwise.specs.curve_call.proofs.TailGrids.{grids_nest}
 
 inf_end : (f : SpecCurve) (r : Frame) → IsFrame RunInf f f 0 0 r → r.end ≡ r.start +ℚ int (pos 2) *ℚ r.period
 unfolding window_at

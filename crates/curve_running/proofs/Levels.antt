@@ -1,18 +1,18 @@
 -- A line against a level on one stretch: which of the two is the greater, or the lesser, of all up to a time, or from it on.
 use Rattle.std.specs.Prelude.{◌≡◌, pos, Some}
 use Rattle.std.proofs.Common.{arith, sym, ap, ◌∙◌, subst, inl, inr}
-use Rattle.rational.specs.Rational.{ℚ, ◌≤ℚ◌, ◌<ℚ◌, int}
-use Rattle.rational.specs.MinMax.{min_q, max_q}
-use Rattle.rational.specs.declared.Extended.TheVariants.{Fin}
-use Rattle.rational.proofs.Linear.{with1}
-use Rattle.rational.proofs.Laws.{antisym, le_refl, le_of_lt, le_or_lt, le_trans, zero_mul}
-use Rattle.rational.proofs.Lines.{line_falls}
-use Rattle.rational.proofs.MinMax.{max_q_le, max_q_ge_left, max_q_ge_right, min_q_ge, min_q_le_left, min_q_le_right}
-use Rattle.affine_segment.specs.declared.line.Line.{Line}
-use Rattle.affine_segment.specs.Values.{line_at}
+use Rattle.curve_pointwise.specs.rational.specs.Rational.{ℚ, ◌≤ℚ◌, ◌<ℚ◌, int}
+use Rattle.curve_pointwise.specs.rational.specs.MinMax.{min_q, max_q}
+use Rattle.curve_pointwise.specs.rational.specs.declared.Extended.TheVariants.{Fin}
+use Rattle.curve_pointwise.specs.rational.proofs.Linear.{with1}
+use Rattle.curve_pointwise.specs.rational.proofs.Laws.{antisym, le_refl, le_of_lt, le_or_lt, le_trans, zero_mul}
+use Rattle.curve_pointwise.specs.rational.proofs.Lines.{line_falls}
+use Rattle.curve_pointwise.specs.rational.proofs.MinMax.{max_q_le, max_q_ge_left, max_q_ge_right, min_q_ge, min_q_le_left, min_q_le_right}
+use Rattle.curve_pointwise.specs.affine_segment.specs.declared.line.Line.{Line}
+use Rattle.curve_pointwise.specs.affine_segment.specs.Values.{line_at}
 use Rattle.curve_running.specs.Scans.{flat}
 use Rattle.curve_running.specs.Bends.{risen, sunk, IsOn, TakesOver}
-use Rattle.affine_segment.proofs.LineValues.{value_later, value_rises}
+use Rattle.curve_pointwise.specs.affine_segment.proofs.LineValues.{value_later, value_rises}
 
 pub flat_at : (v t : ℚ) → line_at (flat v) t ≡ v
 flat_at v t = rw (zero_mul t) (with1 v (λ c. omega (arith, c.le, c.lt, c.same)))

@@ -1,14 +1,14 @@
 -- That the pieces of a bend are made of levels and lines of the scanned pieces.
 use Rattle.std.specs.Prelude.{◌≡◌, ℕ, Bool, List, [], ◌∷◌, ◌++◌, Option, Some, None, IfSome, ◌⊎◌}
 use Rattle.std.proofs.Common.{sym, ap, refl, subst, inl, inr}
-use Rattle.rational.specs.Rational.{ℚ}
-use Rattle.rational.specs.MinMax.{min_q, max_q}
-use Rattle.rational.specs.declared.Extended.TheVariants.{Fin}
-use Rattle.rational.proofs.MinMax.{max_q_one, min_q_one}
-use Rattle.affine_segment.specs.declared.line.Line.{Line}
-use Rattle.affine_segment.specs.declared.line.Piece.{Piece}
-use Rattle.upp_normal.specs.Bends.{SlopeTurns}
-use Rattle.affine_segment.specs.Pieces.{Each, HasStart}
+use Rattle.curve_pointwise.specs.rational.specs.Rational.{ℚ}
+use Rattle.curve_pointwise.specs.rational.specs.MinMax.{min_q, max_q}
+use Rattle.curve_pointwise.specs.rational.specs.declared.Extended.TheVariants.{Fin}
+use Rattle.curve_pointwise.specs.rational.proofs.MinMax.{max_q_one, min_q_one}
+use Rattle.curve_pointwise.specs.affine_segment.specs.declared.line.Line.{Line}
+use Rattle.curve_pointwise.specs.affine_segment.specs.declared.line.Piece.{Piece}
+use Rattle.curve_pointwise.specs.upp_normal.specs.Bends.{SlopeTurns}
+use Rattle.curve_pointwise.specs.affine_segment.specs.Pieces.{Each, HasStart}
 use Rattle.curve_running.specs.declared.stretch.Stretch.{Stretch}
 use Rattle.curve_running.specs.declared.bend.Bend.{Bend}
 use Rattle.curve_running.specs.Scans.{flat, IsLevel, HasLine, IsStretch}

@@ -1,12 +1,12 @@
 -- What the meeting of a line that rises with a level line gives.
 use Rattle.std.specs.Prelude.{◌≡◌, ◌↔◌, pos, Option, Some, None, Result, Ok, Err, IfOk, IfErr, IfSome}
 use Rattle.std.proofs.Common.{ap, ◌∙◌, subst}
-use Rattle.rational.specs.Rational.{ℚ, ◌<ℚ◌, int}
-use Rattle.rational.proofs.Laws.{lt_irrefl}
-use Rattle.fraction128.specs.declared.fault.Wide.{Wide}
-use Rattle.affine_segment.specs.declared.line.Line.{Line}
-use Rattle.affine_segment.specs.Values.{line_at}
-use Rattle.affine_segment.specs.Steps.{IsWideCross}
+use Rattle.curve_pointwise.specs.rational.specs.Rational.{ℚ, ◌<ℚ◌, int}
+use Rattle.curve_pointwise.specs.rational.proofs.Laws.{lt_irrefl}
+use Rattle.curve_pointwise.specs.fraction128.specs.declared.fault.Wide.{Wide}
+use Rattle.curve_pointwise.specs.affine_segment.specs.declared.line.Line.{Line}
+use Rattle.curve_pointwise.specs.affine_segment.specs.Values.{line_at}
+use Rattle.curve_pointwise.specs.affine_segment.specs.Steps.{IsWideCross}
 use Rattle.curve_running.specs.Scans.{flat, MeetingFits}
 use Rattle.curve_running.proofs.Levels.{flat_at}
 

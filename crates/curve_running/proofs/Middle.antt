@@ -1,21 +1,21 @@
 -- One piece in the middle of a window: how it is read, where it ends, and that its steps fit.
 use Rattle.std.specs.Prelude.{◌≡◌, ℕ, suc, ◌+◌, ◌<◌, List, [], ◌∷◌, ◌++◌, length, take, drop, Option, Some}
 use Rattle.std.proofs.Common.{arith, get_or, drop-cons, take-append-drop, sym, ap, ◌∙◌, subst, inl, inr}
-use Rattle.rational.specs.Rational.{ℚ, ◌≤ℚ◌, ◌<ℚ◌}
-use Rattle.rational.specs.declared.Extended.TheVariants.{Fin}
-use Rattle.rational.proofs.Laws.{le_refl, le_of_lt}
-use Rattle.affine_segment.specs.declared.line.Line.{Line}
-use Rattle.affine_segment.specs.declared.line.Piece.{Piece}
-use Rattle.affine_segment.specs.Values.{line_at, line_value}
-use Rattle.affine_segment.specs.Reading.{read}
-use Rattle.affine_segment.specs.Pieces.{Each, HasStart, RisesFrom, StartsAtZero, start_after}
-use Rattle.upp_curve.specs.Readable.{EachFits, LineFitsTo}
-use Rattle.affine_segment.specs.Fits.{LineFitsAt, LineFits}
-use Rattle.upp_curve.specs.Shapes.{IsFinitePiece}
-use Rattle.affine_segment.proofs.PieceIn.{value_past, value_at_start}
-use Rattle.curve_window.proofs.Surgery.{BeforeNext, read_middle, rest_rises, start_nonneg, before_own}
+use Rattle.curve_pointwise.specs.rational.specs.Rational.{ℚ, ◌≤ℚ◌, ◌<ℚ◌}
+use Rattle.curve_pointwise.specs.rational.specs.declared.Extended.TheVariants.{Fin}
+use Rattle.curve_pointwise.specs.rational.proofs.Laws.{le_refl, le_of_lt}
+use Rattle.curve_pointwise.specs.affine_segment.specs.declared.line.Line.{Line}
+use Rattle.curve_pointwise.specs.affine_segment.specs.declared.line.Piece.{Piece}
+use Rattle.curve_pointwise.specs.affine_segment.specs.Values.{line_at, line_value}
+use Rattle.curve_pointwise.specs.affine_segment.specs.Reading.{read}
+use Rattle.curve_pointwise.specs.affine_segment.specs.Pieces.{Each, HasStart, RisesFrom, StartsAtZero, start_after}
+use Rattle.curve_pointwise.specs.upp_curve.specs.Readable.{EachFits, LineFitsTo}
+use Rattle.curve_pointwise.specs.affine_segment.specs.Fits.{LineFitsAt, LineFits}
+use Rattle.curve_pointwise.specs.upp_curve.specs.Shapes.{IsFinitePiece}
+use Rattle.curve_pointwise.specs.affine_segment.proofs.PieceIn.{value_past, value_at_start}
+use Rattle.curve_pointwise.specs.curve_call.proofs.Surgery.{BeforeNext, read_middle, rest_rises, start_nonneg, before_own}
 use Rattle.curve_running.specs.Scans.{start_or, IsWindow, ScanFits, IsLevel, HasLine, IsStretch}
-use Rattle.affine_segment.proofs.PieceOrder.{each_mid, has_mid}
+use Rattle.curve_pointwise.specs.affine_segment.proofs.PieceOrder.{each_mid, has_mid}
 
 -- the list falls into what comes before the i-th piece, that piece, and what comes after it
 pub record Parts (ps : List Piece) (i : ℕ) (p : Piece) : Type 0 where

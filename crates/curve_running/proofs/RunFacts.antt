@@ -1,53 +1,53 @@
 -- What the limits of a call for a running bound give: sizes that hold the curve's numbers, its pieces in the window, and how it repeats.
 use Rattle.std.specs.Prelude.{◌≡◌, ℕ, ◌<◌, ◌^◌, List, [], ◌∷◌, Some}
 use Rattle.std.proofs.Common.{arith, sym, ◌∙◌, refl, subst}
-use Rattle.rational.specs.Rational.{ℚ, ◌+ℚ◌, neg_ℚ, ◌≤ℚ◌, ◌<ℚ◌}
-use Rattle.rational.specs.Ratio.{SumFits}
-use Rattle.rational.specs.Grid.{Whole}
-use Rattle.rational.specs.declared.Extended.TheVariants.{Inf}
-use Rattle.rational.proofs.Grid.{whole_neg, within_neg}
-use Rattle.rational.proofs.Laws.{le_refl, le_of_lt, le_trans}
-use Rattle.rational.proofs.Linear.{with3}
-use Rattle.affine_segment.specs.declared.line.Piece.{Piece}
-use Rattle.upp_limits.specs.declared.op_kind.OpKind.TheVariants.{RunSup, RunInf}
-use Rattle.affine_segment.specs.Reading.{read}
-use Rattle.upp_curve.specs.Curve.{SpecCurve, value_at}
-use Rattle.upp_curve.specs.Curves.{IsCurve}
-use Rattle.min_plus.specs.Functions.{zero_q, IsFinite, IsNonnegative}
-use Rattle.upp_limits.specs.Gauges.{numbers_over, gauge_at}
-use Rattle.affine_segment.specs.Pieces.{Each, StartsAtZero}
-use Rattle.upp_curve.specs.Shapes.{IsFinitePiece, IsNumber}
-use Rattle.upp_curve.specs.Steady.{Repeats, steady, rise_over, IsWholePeriods}
-use Rattle.upp_limits.specs.Periods.{own_period}
-use Rattle.upp_limits.specs.Limits.{Sizes, curve_numbers}
-use Rattle.upp_limits.specs.Sized.{Stands, grid_of, times_largest}
-use Rattle.upp_normal.specs.Operand.{AreLimited, OperandPieces}
-use Rattle.upp_curve.specs.Unrolled.{unroll}
-use Rattle.upp_normal.specs.Unrolling.{IsOperandTo}
-use Rattle.upp_limits.specs.Windows.{window_at}
-use Rattle.upp_normal.proofs.AnswerRoom.{wide_narrow}
-use Rattle.upp_normal.proofs.Below.{unroll_reads}
-use Rattle.upp_curve.proofs.Finite.{pieces_finite, number_of}
-use Rattle.upp_normal.proofs.GaugeRises.{limited_over}
-use Rattle.upp_limits.proofs.NarrowSizes.{small_sum}
-use Rattle.upp_limits.proofs.Stands.{sizes_stand}
-use Rattle.upp_curve.proofs.Steady.{steady_rule}
-use Rattle.upp_normal.proofs.UnrolledPieces.{operand_pieces, unroll_starts, unroll_before}
-use Rattle.upp_normal.proofs.UnrollSteps.{time_within}
-use Rattle.curve_call.specs.declared.frame.Frame.{Frame}
-use Rattle.curve_call.specs.declared.windows.CallWindow.{CallWindow}
-use Rattle.curve_call.specs.CallWindows.{IsWindow as IsCallWindow}
-use Rattle.curve_call.specs.Frames.{IsFrame, sizes_at}
-use Rattle.curve_call.proofs.CallFits.{call_early}
-use Rattle.curve_call.proofs.CallTimes.{IsCall, period_on, start_on, first_stands}
-use Rattle.curve_call.proofs.CurveRises.{IsRise, rise_is, own_whole}
-use Rattle.curve_call.proofs.FrameFacts.{frame_facts}
+use Rattle.curve_pointwise.specs.rational.specs.Rational.{ℚ, ◌+ℚ◌, neg_ℚ, ◌≤ℚ◌, ◌<ℚ◌}
+use Rattle.curve_pointwise.specs.rational.specs.Ratio.{SumFits}
+use Rattle.curve_pointwise.specs.rational.specs.Grid.{Whole}
+use Rattle.curve_pointwise.specs.rational.specs.declared.Extended.TheVariants.{Inf}
+use Rattle.curve_pointwise.specs.rational.proofs.Grid.{whole_neg, within_neg}
+use Rattle.curve_pointwise.specs.rational.proofs.Laws.{le_refl, le_of_lt, le_trans}
+use Rattle.curve_pointwise.specs.rational.proofs.Linear.{with3}
+use Rattle.curve_pointwise.specs.affine_segment.specs.declared.line.Piece.{Piece}
+use Rattle.curve_pointwise.specs.upp_limits.specs.declared.op_kind.OpKind.TheVariants.{RunSup, RunInf}
+use Rattle.curve_pointwise.specs.affine_segment.specs.Reading.{read}
+use Rattle.curve_pointwise.specs.upp_curve.specs.Curve.{SpecCurve, value_at}
+use Rattle.curve_pointwise.specs.upp_curve.specs.Curves.{IsCurve}
+use Rattle.curve_pointwise.specs.min_plus.specs.Functions.{zero_q, IsFinite, IsNonnegative}
+use Rattle.curve_pointwise.specs.upp_limits.specs.Gauges.{numbers_over, gauge_at}
+use Rattle.curve_pointwise.specs.affine_segment.specs.Pieces.{Each, StartsAtZero}
+use Rattle.curve_pointwise.specs.upp_curve.specs.Shapes.{IsFinitePiece, IsNumber}
+use Rattle.curve_pointwise.specs.upp_curve.specs.Steady.{Repeats, steady, rise_over, IsWholePeriods}
+use Rattle.curve_pointwise.specs.upp_limits.specs.Periods.{own_period}
+use Rattle.curve_pointwise.specs.upp_limits.specs.Limits.{Sizes, curve_numbers}
+use Rattle.curve_pointwise.specs.upp_limits.specs.Sized.{Stands, grid_of, times_largest}
+use Rattle.curve_pointwise.specs.upp_normal.specs.Operand.{AreLimited, OperandPieces}
+use Rattle.curve_pointwise.specs.upp_curve.specs.Unrolled.{unroll}
+use Rattle.curve_pointwise.specs.upp_normal.specs.Unrolling.{IsOperandTo}
+use Rattle.curve_pointwise.specs.upp_limits.specs.Windows.{window_at}
+use Rattle.curve_pointwise.specs.upp_normal.proofs.AnswerRoom.{wide_narrow}
+use Rattle.curve_pointwise.specs.upp_normal.proofs.Below.{unroll_reads}
+use Rattle.curve_pointwise.specs.upp_curve.proofs.Finite.{pieces_finite, number_of}
+use Rattle.curve_pointwise.specs.upp_normal.proofs.GaugeRises.{limited_over}
+use Rattle.curve_pointwise.specs.upp_limits.proofs.NarrowSizes.{small_sum}
+use Rattle.curve_pointwise.specs.upp_limits.proofs.Stands.{sizes_stand}
+use Rattle.curve_pointwise.specs.upp_curve.proofs.Steady.{steady_rule}
+use Rattle.curve_pointwise.specs.upp_normal.proofs.UnrolledPieces.{operand_pieces, unroll_starts, unroll_before}
+use Rattle.curve_pointwise.specs.upp_normal.proofs.UnrollSteps.{time_within}
+use Rattle.curve_pointwise.specs.curve_call.specs.declared.frame.Frame.{Frame}
+use Rattle.curve_pointwise.specs.curve_call.specs.declared.windows.CallWindow.{CallWindow}
+use Rattle.curve_pointwise.specs.curve_call.specs.CallWindows.{IsWindow as IsCallWindow}
+use Rattle.curve_pointwise.specs.curve_call.specs.Frames.{IsFrame, sizes_at}
+use Rattle.curve_pointwise.specs.curve_call.proofs.CallFits.{call_early}
+use Rattle.curve_pointwise.specs.curve_call.proofs.CallTimes.{IsCall, period_on, start_on, first_stands}
+use Rattle.curve_pointwise.specs.curve_call.proofs.CurveRises.{IsRise, rise_is, own_whole}
+use Rattle.curve_pointwise.specs.curve_call.proofs.FrameFacts.{frame_facts}
 use Rattle.curve_running.specs.Scans.{IsWindow, ScanFits}
 use Rattle.curve_running.specs.Periods.{IsSupremumCall}
 use Rattle.curve_running.proofs.Covers.{no_fall}
 use Rattle.curve_running.proofs.LevelSizes.{scan_fits}
-use Rattle.affine_segment.proofs.PieceIn.{read_is}
-use Rattle.upp_normal.proofs.StretchSizes.{time_whole}
+use Rattle.curve_pointwise.specs.affine_segment.proofs.PieceIn.{read_is}
+use Rattle.curve_pointwise.specs.upp_normal.proofs.StretchSizes.{time_whole}
 
 pub record RunFacts (f : SpecCurve) (start period end : ℚ) (z : Sizes) : Type 0 where
   pub curve : IsCurve f

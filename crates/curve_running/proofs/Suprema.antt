@@ -1,19 +1,19 @@
 -- The supremum over the times up to a time, taken further: by a value, and along a line.
 use Rattle.std.specs.Prelude.{◌≡◌, ◌⊎◌}
 use Rattle.std.proofs.Common.{sym, ap, ◌∙◌, subst, inl, inr}
-use Rattle.rational.specs.Rational.{ℚ, ◌≤ℚ◌, ◌<ℚ◌}
-use Rattle.rational.specs.MinMax.{max_q}
-use Rattle.rational.specs.Extended.{Ext, ◌≤ₑ◌, ◌<ₑ◌}
-use Rattle.rational.specs.Bounds.{IsSupremum}
-use Rattle.rational.specs.Stretch.{Between}
-use Rattle.rational.specs.declared.Extended.TheVariants.{Fin}
-use Rattle.rational.proofs.Laws.{antisym, le_refl, le_of_lt, le_or_lt, le_trans, lt_irrefl, lt_le_trans, le_lt_trans}
-use Rattle.rational.proofs.ExtendedOrder.{le_ext_trans, same_le_ext}
-use Rattle.rational.proofs.MinMax.{max_q_one, max_q_ge_left, max_q_ge_right}
-use Rattle.rational.proofs.Stretch.{line_supremum}
-use Rattle.affine_segment.specs.declared.line.Line.{Line}
-use Rattle.affine_segment.specs.Values.{line_at}
-use Rattle.min_plus.specs.Functions.{zero_q, UpTo}
+use Rattle.curve_pointwise.specs.rational.specs.Rational.{ℚ, ◌≤ℚ◌, ◌<ℚ◌}
+use Rattle.curve_pointwise.specs.rational.specs.MinMax.{max_q}
+use Rattle.curve_pointwise.specs.rational.specs.Extended.{Ext, ◌≤ₑ◌, ◌<ₑ◌}
+use Rattle.curve_pointwise.specs.rational.specs.Bounds.{IsSupremum}
+use Rattle.curve_pointwise.specs.rational.specs.Stretch.{Between}
+use Rattle.curve_pointwise.specs.rational.specs.declared.Extended.TheVariants.{Fin}
+use Rattle.curve_pointwise.specs.rational.proofs.Laws.{antisym, le_refl, le_of_lt, le_or_lt, le_trans, lt_irrefl, lt_le_trans, le_lt_trans}
+use Rattle.curve_pointwise.specs.rational.proofs.ExtendedOrder.{le_ext_trans, same_le_ext}
+use Rattle.curve_pointwise.specs.rational.proofs.MinMax.{max_q_one, max_q_ge_left, max_q_ge_right}
+use Rattle.curve_pointwise.specs.rational.proofs.Stretch.{line_supremum}
+use Rattle.curve_pointwise.specs.affine_segment.specs.declared.line.Line.{Line}
+use Rattle.curve_pointwise.specs.affine_segment.specs.Values.{line_at}
+use Rattle.curve_pointwise.specs.min_plus.specs.Functions.{zero_q, UpTo}
 use Rattle.curve_running.specs.Bends.{risen}
 use Rattle.curve_running.proofs.Levels.{line_top}
 

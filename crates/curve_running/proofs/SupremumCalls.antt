@@ -3,51 +3,51 @@ use Rattle.std.specs.Prelude.{◌≡◌, ℕ, ◌*◌, ◌≤◌, pos, List, [],
 use Rattle.std.proofs.Common.{arith, sym, ap, ◌∙◌, refl, subst, inl, inr}
 use Rattle.std.specs.List.{AllByRecursion}
 use native.Mathlib.Nat.{mul-le-mul_right}
-use Rattle.rational.specs.Rational.{ℚ, ◌+ℚ◌, ◌-ℚ◌, ◌*ℚ◌, ◌≤ℚ◌, ◌<ℚ◌, int}
-use Rattle.rational.specs.Grid.{Whole, Within}
-use Rattle.rational.specs.Extended.{Ext, ◌≤ₑ◌}
-use Rattle.rational.specs.declared.Extended.TheVariants.{Fin}
-use Rattle.rational.proofs.Grid.{whole_int, whole_sub, within_sub, within_nonneg, whole_add}
-use Rattle.rational.proofs.Integers.{int_mul, nat_le, nat_nonneg}
-use Rattle.rational.proofs.Laws.{antisym, le_refl, le_of_lt, le_trans, lt_le_trans, mul_le_mul, not_zero}
-use Rattle.rational.proofs.Linear.{with2}
-use Rattle.rational.proofs.Sizes.{quotient_on_grid}
-use Rattle.rational.proofs.Bounds.{same_supremum}
-use Rattle.rational.proofs.ExtendedOrder.{same_le_ext}
-use Rattle.affine_segment.specs.declared.line.Line.{Line}
-use Rattle.affine_segment.specs.declared.line.Piece.{Piece}
-use Rattle.affine_segment.specs.Values.{line_at, line_value}
-use Rattle.upp_curve.specs.declared.curve.Tail.{Tail}
-use Rattle.upp_curve.specs.declared.curve.Tail.TheVariants.{Periodic, Affine, Infinite}
-use Rattle.affine_segment.specs.Reading.{read}
-use Rattle.upp_curve.specs.Curve.{SpecCurve, value_at}
-use Rattle.min_plus.specs.Functions.{zero_q, IsFinite}
-use Rattle.affine_segment.specs.Pieces.{Each}
-use Rattle.upp_curve.specs.Normal.{IsNormal}
-use Rattle.upp_limits.specs.Spans.{spans}
-use Rattle.upp_curve.specs.Steady.{Repeats, steady, rise_over, IsWholePeriods}
-use Rattle.upp_limits.specs.declared.op_kind.OpKind.TheVariants.{RunSup}
-use Rattle.upp_limits.specs.Periods.{own_period}
-use Rattle.upp_limits.specs.Windows.{IsLeast, Meets}
-use Rattle.upp_limits.specs.Limits.{Sizes, own_end}
-use Rattle.upp_limits.specs.Sized.{grid_of, times_largest, AreSizes, SpanStands, ValueStands, LineStands}
-use Rattle.upp_normal.specs.Operand.{AreLimited, OperandLine, OperandLineAt, OperandPieces}
-use Rattle.upp_normal.specs.Room.{top}
-use Rattle.upp_limits.proofs.CurveStands.{curve_stands, starts_below_own_end}
-use Rattle.upp_limits.proofs.NarrowSizes.{grid_pos, line_parts}
-use Rattle.upp_limits.proofs.PieceLists.{starts_nonneg}
-use Rattle.upp_curve.proofs.Repeats.{repeated_first}
-use Rattle.upp_curve.proofs.RisingCurves.{GoesOn, finite_pieces_by_tail, infinite_is_not_finite}
-use Rattle.upp_curve.proofs.Steady.{steady_rule}
-use Rattle.upp_normal.proofs.AnswerRoom.{tight, operand_line_fits, operand_line_value, values_fit}
-use Rattle.curve_call.proofs.CurveRises.{IsRise, rise_is, own_whole}
+use Rattle.curve_pointwise.specs.rational.specs.Rational.{ℚ, ◌+ℚ◌, ◌-ℚ◌, ◌*ℚ◌, ◌≤ℚ◌, ◌<ℚ◌, int}
+use Rattle.curve_pointwise.specs.rational.specs.Grid.{Whole, Within}
+use Rattle.curve_pointwise.specs.rational.specs.Extended.{Ext, ◌≤ₑ◌}
+use Rattle.curve_pointwise.specs.rational.specs.declared.Extended.TheVariants.{Fin}
+use Rattle.curve_pointwise.specs.rational.proofs.Grid.{whole_int, whole_sub, within_sub, within_nonneg, whole_add}
+use Rattle.curve_pointwise.specs.rational.proofs.Integers.{int_mul, nat_le, nat_nonneg}
+use Rattle.curve_pointwise.specs.rational.proofs.Laws.{antisym, le_refl, le_of_lt, le_trans, lt_le_trans, mul_le_mul, not_zero}
+use Rattle.curve_pointwise.specs.rational.proofs.Linear.{with2}
+use Rattle.curve_pointwise.specs.rational.proofs.Sizes.{quotient_on_grid}
+use Rattle.curve_pointwise.specs.rational.proofs.Bounds.{same_supremum}
+use Rattle.curve_pointwise.specs.rational.proofs.ExtendedOrder.{same_le_ext}
+use Rattle.curve_pointwise.specs.affine_segment.specs.declared.line.Line.{Line}
+use Rattle.curve_pointwise.specs.affine_segment.specs.declared.line.Piece.{Piece}
+use Rattle.curve_pointwise.specs.affine_segment.specs.Values.{line_at, line_value}
+use Rattle.curve_pointwise.specs.upp_curve.specs.declared.curve.Tail.{Tail}
+use Rattle.curve_pointwise.specs.upp_curve.specs.declared.curve.Tail.TheVariants.{Periodic, Affine, Infinite}
+use Rattle.curve_pointwise.specs.affine_segment.specs.Reading.{read}
+use Rattle.curve_pointwise.specs.upp_curve.specs.Curve.{SpecCurve, value_at}
+use Rattle.curve_pointwise.specs.min_plus.specs.Functions.{zero_q, IsFinite}
+use Rattle.curve_pointwise.specs.affine_segment.specs.Pieces.{Each}
+use Rattle.curve_pointwise.specs.upp_curve.specs.Normal.{IsNormal}
+use Rattle.curve_pointwise.specs.upp_limits.specs.Spans.{spans}
+use Rattle.curve_pointwise.specs.upp_curve.specs.Steady.{Repeats, steady, rise_over, IsWholePeriods}
+use Rattle.curve_pointwise.specs.upp_limits.specs.declared.op_kind.OpKind.TheVariants.{RunSup}
+use Rattle.curve_pointwise.specs.upp_limits.specs.Periods.{own_period}
+use Rattle.curve_pointwise.specs.upp_limits.specs.Windows.{IsLeast, Meets}
+use Rattle.curve_pointwise.specs.upp_limits.specs.Limits.{Sizes, own_end}
+use Rattle.curve_pointwise.specs.upp_limits.specs.Sized.{grid_of, times_largest, AreSizes, SpanStands, ValueStands, LineStands}
+use Rattle.curve_pointwise.specs.upp_normal.specs.Operand.{AreLimited, OperandLine, OperandLineAt, OperandPieces}
+use Rattle.curve_pointwise.specs.upp_normal.specs.Room.{top}
+use Rattle.curve_pointwise.specs.upp_limits.proofs.CurveStands.{curve_stands, starts_below_own_end}
+use Rattle.curve_pointwise.specs.upp_limits.proofs.NarrowSizes.{grid_pos, line_parts}
+use Rattle.curve_pointwise.specs.upp_limits.proofs.PieceLists.{starts_nonneg}
+use Rattle.curve_pointwise.specs.upp_curve.proofs.Repeats.{repeated_first}
+use Rattle.curve_pointwise.specs.upp_curve.proofs.RisingCurves.{GoesOn, finite_pieces_by_tail, infinite_is_not_finite}
+use Rattle.curve_pointwise.specs.upp_curve.proofs.Steady.{steady_rule}
+use Rattle.curve_pointwise.specs.upp_normal.proofs.AnswerRoom.{tight, operand_line_fits, operand_line_value, values_fit}
+use Rattle.curve_pointwise.specs.curve_call.proofs.CurveRises.{IsRise, rise_is, own_whole}
 use Rattle.curve_running.specs.Scans.{IsWindow, IsSupremumIn, Until}
 use Rattle.curve_running.specs.Between.{FitsAtBoth, IsLevelBetween}
 use Rattle.curve_running.specs.Periods.{CoverFits, IsFirstPeriod, IsCovering, IsSupremumCall, IsCoveredAfter}
 use Rattle.curve_running.proofs.LevelSizes.{EachOperand, level_value, line_operand, scan_fits}
-use Rattle.upp_normal.proofs.AnswerRoom.{many_more}
+use Rattle.curve_pointwise.specs.upp_normal.proofs.AnswerRoom.{many_more}
 use Rattle.curve_running.proofs.Covers.{no_fall, least_by_cover, covered_by_cover, least_flat, least_from_zero}
-use Rattle.upp_normal.specs.Ahead.{IsGridValue}
+use Rattle.curve_pointwise.specs.upp_normal.specs.Ahead.{IsGridValue}
 
 -- sizes hold a shorter window
 pub limited_less : (z : Sizes) (end e : ℚ) → AreLimited z end → Whole z.dt e → zero_q ≤ℚ e → e ≤ℚ end → AreLimited z e

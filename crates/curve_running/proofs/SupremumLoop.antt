@@ -1,17 +1,17 @@
 -- The scan for the supremum: what holds after each piece.
 use Rattle.std.specs.Prelude.{◌≡◌, ℕ, true, ◌+◌, ◌*◌, ◌≤◌, pos, List, [], ◌∷◌, ◌++◌, length, drop, Option, Some, None}
 use Rattle.std.proofs.Common.{arith, length-append, drop_of_length-le, sym, ap, ap₂, ◌∙◌, refl, subst}
-use Rattle.rational.specs.Rational.{ℚ, ◌<ℚ◌, int}
-use Rattle.rational.specs.MinMax.{max_q}
-use Rattle.rational.specs.Extended.{Ext}
-use Rattle.rational.specs.declared.Extended.TheVariants.{Fin}
-use Rattle.rational.proofs.Laws.{lt_trans}
-use Rattle.affine_segment.specs.declared.line.Line.{Line}
-use Rattle.affine_segment.specs.declared.line.Piece.{Piece}
-use Rattle.affine_segment.specs.Reading.{read}
-use Rattle.affine_segment.specs.Pieces.{Each, StartsAtZero}
-use Rattle.min_plus.specs.Running.{IsRunningSupremum}
-use Rattle.curve_window.proofs.Surgery.{one_more}
+use Rattle.curve_pointwise.specs.rational.specs.Rational.{ℚ, ◌<ℚ◌, int}
+use Rattle.curve_pointwise.specs.rational.specs.MinMax.{max_q}
+use Rattle.curve_pointwise.specs.rational.specs.Extended.{Ext}
+use Rattle.curve_pointwise.specs.rational.specs.declared.Extended.TheVariants.{Fin}
+use Rattle.curve_pointwise.specs.rational.proofs.Laws.{lt_trans}
+use Rattle.curve_pointwise.specs.affine_segment.specs.declared.line.Line.{Line}
+use Rattle.curve_pointwise.specs.affine_segment.specs.declared.line.Piece.{Piece}
+use Rattle.curve_pointwise.specs.affine_segment.specs.Reading.{read}
+use Rattle.curve_pointwise.specs.affine_segment.specs.Pieces.{Each, StartsAtZero}
+use Rattle.curve_pointwise.specs.min_plus.specs.Running.{IsRunningSupremum}
+use Rattle.curve_pointwise.specs.curve_call.proofs.Surgery.{one_more}
 use Rattle.curve_running.specs.declared.stretch.Stretch.{Stretch}
 use Rattle.curve_running.specs.declared.bend.Bend.{Bend}
 use Rattle.curve_running.specs.Scans.{start_or, IsWindow, IsLevel, IsStretch}
@@ -20,7 +20,7 @@ use Rattle.curve_running.specs.Made.{IsMadeOf, IsMade, TurnsAfter, IsSupremumSca
 use Rattle.curve_running.proofs.Suprema.{IsEarly, IsUpTo, early_start, upto_value, upto_line, early_line}
 use Rattle.curve_running.proofs.Building.{Built, built_none, built_more, built_whole}
 use Rattle.curve_running.proofs.Makings.{greater_level, bent_made, bent_turns, turns_join}
-use Rattle.affine_segment.proofs.PieceOrder.{each_append}
+use Rattle.curve_pointwise.specs.affine_segment.proofs.PieceOrder.{each_append}
 
 -- the pieces before the i-th are scanned: `level` is the supremum before its start
 pub record SupremumLoop (ps : List Piece) (end : ℚ) (i : ℕ) (level : ℚ) (out : List Piece) : Type 0 where

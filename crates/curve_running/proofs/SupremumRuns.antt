@@ -1,45 +1,45 @@
 -- The running supremum of a curve: from its scan in the window to every time.
 use Rattle.std.specs.Prelude.{◌≡◌, ℕ, suc, true, ◌+◌, pos, List, None}
 use Rattle.std.proofs.Common.{arith, sym, ap, ◌∙◌, subst, inl, inr}
-use Rattle.rational.specs.Rational.{ℚ, ◌+ℚ◌, ◌-ℚ◌, ◌*ℚ◌, ◌≤ℚ◌, ◌<ℚ◌, int}
-use Rattle.rational.specs.Grid.{Whole, Within}
-use Rattle.rational.specs.Extended.{Ext, ◌+ₑ◌}
-use Rattle.rational.specs.declared.Extended.TheVariants.{Fin}
-use Rattle.rational.proofs.Grid.{whole_sub, within_weaken}
-use Rattle.rational.proofs.Integers.{nat_le, nat_nonneg}
-use Rattle.rational.proofs.Laws.{le_refl, le_of_lt, le_trans, le_lt_trans, mul_le_mul_right, zero_mul}
-use Rattle.rational.proofs.Linear.{with2, with3, with4, with5}
-use Rattle.rational.proofs.Whole.{one_more_times}
-use Rattle.rational.proofs.Bounds.{same_supremum}
-use Rattle.rational.proofs.ExtendedOrder.{same_le_ext}
-use Rattle.affine_segment.specs.declared.line.Piece.{Piece}
-use Rattle.upp_limits.specs.declared.op_kind.OpKind.TheVariants.{RunSup}
-use Rattle.affine_segment.specs.Reading.{read}
-use Rattle.upp_curve.specs.Curve.{SpecCurve, value_at, repeated}
-use Rattle.min_plus.specs.Functions.{zero_q, UpTo, IsFinite, IsNonnegative}
-use Rattle.affine_segment.specs.Pieces.{Each}
-use Rattle.upp_normal.specs.Normalising.{HasValues}
-use Rattle.min_plus.specs.Running.{IsRunningSupremum}
-use Rattle.upp_curve.specs.Steady.{Repeats, steady, rise_over}
-use Rattle.upp_limits.specs.Periods.{own_period, periods_after}
-use Rattle.upp_limits.specs.Limits.{Sizes}
-use Rattle.upp_limits.specs.Sized.{grid_of, times_largest}
-use Rattle.upp_normal.specs.Operand.{OperandPieces}
-use Rattle.upp_curve.specs.Unrolled.{unroll}
-use Rattle.upp_limits.specs.Windows.{window_at}
-use Rattle.upp_normal.proofs.Bends.{bends_on}
-use Rattle.curve_call.specs.declared.frame.Frame.{Frame}
-use Rattle.curve_call.specs.Answering.{IsAnswerWindow}
-use Rattle.curve_call.specs.Frames.{IsFrame, sizes_at}
-use Rattle.curve_call.proofs.Answering.{answer_relation}
-use Rattle.curve_call.proofs.CurveRises.{IsRise}
+use Rattle.curve_pointwise.specs.rational.specs.Rational.{ℚ, ◌+ℚ◌, ◌-ℚ◌, ◌*ℚ◌, ◌≤ℚ◌, ◌<ℚ◌, int}
+use Rattle.curve_pointwise.specs.rational.specs.Grid.{Whole, Within}
+use Rattle.curve_pointwise.specs.rational.specs.Extended.{Ext, ◌+ₑ◌}
+use Rattle.curve_pointwise.specs.rational.specs.declared.Extended.TheVariants.{Fin}
+use Rattle.curve_pointwise.specs.rational.proofs.Grid.{whole_sub, within_weaken}
+use Rattle.curve_pointwise.specs.rational.proofs.Integers.{nat_le, nat_nonneg}
+use Rattle.curve_pointwise.specs.rational.proofs.Laws.{le_refl, le_of_lt, le_trans, le_lt_trans, mul_le_mul_right, zero_mul}
+use Rattle.curve_pointwise.specs.rational.proofs.Linear.{with2, with3, with4, with5}
+use Rattle.curve_pointwise.specs.rational.proofs.Whole.{one_more_times}
+use Rattle.curve_pointwise.specs.rational.proofs.Bounds.{same_supremum}
+use Rattle.curve_pointwise.specs.rational.proofs.ExtendedOrder.{same_le_ext}
+use Rattle.curve_pointwise.specs.affine_segment.specs.declared.line.Piece.{Piece}
+use Rattle.curve_pointwise.specs.upp_limits.specs.declared.op_kind.OpKind.TheVariants.{RunSup}
+use Rattle.curve_pointwise.specs.affine_segment.specs.Reading.{read}
+use Rattle.curve_pointwise.specs.upp_curve.specs.Curve.{SpecCurve, value_at, repeated}
+use Rattle.curve_pointwise.specs.min_plus.specs.Functions.{zero_q, UpTo, IsFinite, IsNonnegative}
+use Rattle.curve_pointwise.specs.affine_segment.specs.Pieces.{Each}
+use Rattle.curve_pointwise.specs.upp_normal.specs.Normalising.{HasValues}
+use Rattle.curve_pointwise.specs.min_plus.specs.Running.{IsRunningSupremum}
+use Rattle.curve_pointwise.specs.upp_curve.specs.Steady.{Repeats, steady, rise_over}
+use Rattle.curve_pointwise.specs.upp_limits.specs.Periods.{own_period, periods_after}
+use Rattle.curve_pointwise.specs.upp_limits.specs.Limits.{Sizes}
+use Rattle.curve_pointwise.specs.upp_limits.specs.Sized.{grid_of, times_largest}
+use Rattle.curve_pointwise.specs.upp_normal.specs.Operand.{OperandPieces}
+use Rattle.curve_pointwise.specs.upp_curve.specs.Unrolled.{unroll}
+use Rattle.curve_pointwise.specs.upp_limits.specs.Windows.{window_at}
+use Rattle.curve_pointwise.specs.upp_normal.proofs.Bends.{bends_on}
+use Rattle.curve_pointwise.specs.curve_call.specs.declared.frame.Frame.{Frame}
+use Rattle.curve_pointwise.specs.curve_call.specs.Answering.{IsAnswerWindow}
+use Rattle.curve_pointwise.specs.curve_call.specs.Frames.{IsFrame, sizes_at}
+use Rattle.curve_pointwise.specs.curve_call.proofs.Answering.{answer_relation}
+use Rattle.curve_pointwise.specs.curve_call.proofs.CurveRises.{IsRise}
 use Rattle.curve_running.specs.Made.{IsMade, TurnsAfter, IsScan, IsSupremumScan}
 use Rattle.curve_running.specs.Periods.{IsCoveredAfter}
 use Rattle.curve_running.specs.Runs.{RunsUpTo, IsNumberOf}
 use Rattle.curve_running.proofs.LevelSizes.{scan_room, only_bend}
 use Rattle.curve_running.proofs.RunFacts.{RunFacts, sup_facts, run_pieces, run_reads, run_rise, run_repeats, run_low}
 use Rattle.curve_running.proofs.Shifts.{supremum_repeats, supremum_from_start, supremum_constant}
-use Rattle.curve_window.proofs.TailGrids.{grids_nest}
+use Rattle.curve_pointwise.specs.curve_call.proofs.TailGrids.{grids_nest}
 
 -- ---- the window: k periods, and two more
 pub two_more : (start d : ℚ) (k : ℕ) → periods_after start (k + 2) d ≡ periods_after start k d +ℚ d +ℚ d

@@ -1,15 +1,15 @@
 -- What the pieces of a scan are made of: levels, lines of the scanned pieces, and the times at which the two meet.
 -- Own choice.
 use Rattle.std.specs.Prelude.{◌≡◌, ◌*◌, ◌≤◌, Bool, true, false, List, [], ◌∷◌, length, Option, Some, None, IfSome, ◌⊎◌, pos}
-use Rattle.rational.specs.Rational.{ℚ, ◌≤ℚ◌, ◌<ℚ◌, int}
-use Rattle.rational.specs.declared.Extended.TheVariants.{Fin}
-use Rattle.affine_segment.specs.declared.line.Line.{Line}
-use Rattle.affine_segment.specs.declared.line.Piece.{Piece}
-use Rattle.affine_segment.specs.Values.{line_at}
-use Rattle.upp_normal.specs.Bends.{SlopeTurns}
-use Rattle.affine_segment.specs.Reading.{read}
-use Rattle.affine_segment.specs.Pieces.{Each, HasStart, StartsAtZero}
-use Rattle.min_plus.specs.Running.{IsRunningSupremum}
+use Rattle.curve_pointwise.specs.rational.specs.Rational.{ℚ, ◌≤ℚ◌, ◌<ℚ◌, int}
+use Rattle.curve_pointwise.specs.rational.specs.declared.Extended.TheVariants.{Fin}
+use Rattle.curve_pointwise.specs.affine_segment.specs.declared.line.Line.{Line}
+use Rattle.curve_pointwise.specs.affine_segment.specs.declared.line.Piece.{Piece}
+use Rattle.curve_pointwise.specs.affine_segment.specs.Values.{line_at}
+use Rattle.curve_pointwise.specs.upp_normal.specs.Bends.{SlopeTurns}
+use Rattle.curve_pointwise.specs.affine_segment.specs.Reading.{read}
+use Rattle.curve_pointwise.specs.affine_segment.specs.Pieces.{Each, HasStart, StartsAtZero}
+use Rattle.curve_pointwise.specs.min_plus.specs.Running.{IsRunningSupremum}
 use Rattle.curve_running.specs.declared.stretch.Stretch.{Stretch}
 use Rattle.curve_running.specs.declared.bend.Bend.{Bend}
 use Rattle.curve_running.specs.Scans.{flat, IsLevel, HasLine, IsInfimumUntil}

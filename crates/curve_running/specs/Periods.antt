@@ -1,21 +1,21 @@
 -- From when on the running supremum of a curve repeats: where one whole period has passed all that comes before the
 -- curve itself repeats. Own choice.
 use Rattle.std.specs.Prelude.{◌≡◌, ℕ, ◌<◌, ◌⊎◌, pos, List}
-use Rattle.rational.specs.Rational.{ℚ, ◌+ℚ◌, ◌-ℚ◌, ◌*ℚ◌, ◌/ℚ◌, neg_ℚ, ◌≤ℚ◌, ◌<ℚ◌, int}
-use Rattle.rational.specs.Ratio.{IsSmall, SumFits}
-use Rattle.rational.specs.Grid.{Whole}
-use Rattle.rational.specs.Extended.{Ext, ◌≤ₑ◌}
-use Rattle.rational.specs.declared.Extended.TheVariants.{Fin}
-use Rattle.affine_segment.specs.declared.line.Piece.{Piece}
-use Rattle.affine_segment.specs.Reading.{read}
-use Rattle.upp_curve.specs.Curve.{SpecCurve, value_at}
-use Rattle.upp_curve.specs.Curves.{IsCurve}
-use Rattle.min_plus.specs.Functions.{zero_q, IsFinite, IsNonnegative}
-use Rattle.upp_curve.specs.Steady.{steady, rise_over}
-use Rattle.upp_limits.specs.Periods.{own_period, periods_after}
-use Rattle.upp_limits.specs.Limits.{Sizes, curve_numbers}
-use Rattle.upp_limits.specs.Sized.{Stands}
-use Rattle.upp_normal.specs.Operand.{AreLimited}
+use Rattle.curve_pointwise.specs.rational.specs.Rational.{ℚ, ◌+ℚ◌, ◌-ℚ◌, ◌*ℚ◌, ◌/ℚ◌, neg_ℚ, ◌≤ℚ◌, ◌<ℚ◌, int}
+use Rattle.curve_pointwise.specs.rational.specs.Ratio.{IsSmall, SumFits}
+use Rattle.curve_pointwise.specs.rational.specs.Grid.{Whole}
+use Rattle.curve_pointwise.specs.rational.specs.Extended.{Ext, ◌≤ₑ◌}
+use Rattle.curve_pointwise.specs.rational.specs.declared.Extended.TheVariants.{Fin}
+use Rattle.curve_pointwise.specs.affine_segment.specs.declared.line.Piece.{Piece}
+use Rattle.curve_pointwise.specs.affine_segment.specs.Reading.{read}
+use Rattle.curve_pointwise.specs.upp_curve.specs.Curve.{SpecCurve, value_at}
+use Rattle.curve_pointwise.specs.upp_curve.specs.Curves.{IsCurve}
+use Rattle.curve_pointwise.specs.min_plus.specs.Functions.{zero_q, IsFinite, IsNonnegative}
+use Rattle.curve_pointwise.specs.upp_curve.specs.Steady.{steady, rise_over}
+use Rattle.curve_pointwise.specs.upp_limits.specs.Periods.{own_period, periods_after}
+use Rattle.curve_pointwise.specs.upp_limits.specs.Limits.{Sizes, curve_numbers}
+use Rattle.curve_pointwise.specs.upp_limits.specs.Sized.{Stands}
+use Rattle.curve_pointwise.specs.upp_normal.specs.Operand.{AreLimited}
 use Rattle.curve_running.specs.Scans.{IsWindow, ScanFits, IsSupremumIn}
 use Rattle.curve_running.specs.Between.{FitsAtBoth, IsLevelBetween}
 

@@ -1,15 +1,15 @@
 -- The running bounds of a curve as curves, and the number of periods that the supremum needs. Own choice.
 use Rattle.std.specs.Prelude.{◌≡◌, ℕ, List, ◌∷◌, ◌++◌}
-use Rattle.rational.specs.Rational.{ℚ, ◌≤ℚ◌, ◌<ℚ◌}
-use Rattle.affine_segment.specs.declared.line.Piece.{Piece}
-use Rattle.upp_limits.specs.declared.op_kind.OpKind.TheVariants.{RunSup}
-use Rattle.upp_curve.specs.Curve.{SpecCurve, value_at}
-use Rattle.min_plus.specs.Functions.{zero_q}
-use Rattle.affine_segment.specs.Pieces.{Each}
-use Rattle.upp_limits.specs.Periods.{own_period}
-use Rattle.min_plus.specs.Running.{IsRunningSupremum, IsRunningInfimum}
-use Rattle.upp_curve.specs.Steady.{steady, rise_over}
-use Rattle.upp_limits.specs.Windows.{IsLeast, Meets}
+use Rattle.curve_pointwise.specs.rational.specs.Rational.{ℚ, ◌≤ℚ◌, ◌<ℚ◌}
+use Rattle.curve_pointwise.specs.affine_segment.specs.declared.line.Piece.{Piece}
+use Rattle.curve_pointwise.specs.upp_limits.specs.declared.op_kind.OpKind.TheVariants.{RunSup}
+use Rattle.curve_pointwise.specs.upp_curve.specs.Curve.{SpecCurve, value_at}
+use Rattle.curve_pointwise.specs.min_plus.specs.Functions.{zero_q}
+use Rattle.curve_pointwise.specs.affine_segment.specs.Pieces.{Each}
+use Rattle.curve_pointwise.specs.upp_limits.specs.Periods.{own_period}
+use Rattle.curve_pointwise.specs.min_plus.specs.Running.{IsRunningSupremum, IsRunningInfimum}
+use Rattle.curve_pointwise.specs.upp_curve.specs.Steady.{steady, rise_over}
+use Rattle.curve_pointwise.specs.upp_limits.specs.Windows.{IsLeast, Meets}
 use Rattle.curve_running.specs.Periods.{IsCoveredAfter}
 
 -- c is the running supremum of f at each time from 0 on

@@ -1,20 +1,20 @@
 -- Finite pieces scanned one by one, up to an end: the stretches between their starts, the levels that are compared on
 -- the way, and the bounds that come out. Own choice.
 use Rattle.std.specs.Prelude.{◌≡◌, ℕ, ◌+◌, List, [], ◌∷◌, drop, Some, ◌⊎◌, pos}
-use Rattle.rational.specs.Rational.{ℚ, ◌≤ℚ◌, ◌<ℚ◌, int}
-use Rattle.rational.specs.Extended.{Ext}
-use Rattle.rational.specs.Bounds.{IsInfimum, IsSupremum}
-use Rattle.rational.specs.declared.Extended.TheVariants.{Fin}
-use Rattle.affine_segment.specs.declared.line.Line.{Line}
-use Rattle.affine_segment.specs.declared.line.Piece.{Piece}
-use Rattle.fraction128.specs.declared.fault.Wide.{Wide}
-use Rattle.affine_segment.specs.Values.{line_at, line_value}
-use Rattle.affine_segment.specs.Steps.{IsWideCross}
-use Rattle.affine_segment.specs.Reading.{read}
-use Rattle.affine_segment.specs.Pieces.{Each, HasStart, StartsAtZero}
-use Rattle.upp_curve.specs.Readable.{EachFits}
-use Rattle.affine_segment.specs.Fits.{LineFits}
-use Rattle.upp_curve.specs.Shapes.{IsFinitePiece}
+use Rattle.curve_pointwise.specs.rational.specs.Rational.{ℚ, ◌≤ℚ◌, ◌<ℚ◌, int}
+use Rattle.curve_pointwise.specs.rational.specs.Extended.{Ext}
+use Rattle.curve_pointwise.specs.rational.specs.Bounds.{IsInfimum, IsSupremum}
+use Rattle.curve_pointwise.specs.rational.specs.declared.Extended.TheVariants.{Fin}
+use Rattle.curve_pointwise.specs.affine_segment.specs.declared.line.Line.{Line}
+use Rattle.curve_pointwise.specs.affine_segment.specs.declared.line.Piece.{Piece}
+use Rattle.curve_pointwise.specs.fraction128.specs.declared.fault.Wide.{Wide}
+use Rattle.curve_pointwise.specs.affine_segment.specs.Values.{line_at, line_value}
+use Rattle.curve_pointwise.specs.affine_segment.specs.Steps.{IsWideCross}
+use Rattle.curve_pointwise.specs.affine_segment.specs.Reading.{read}
+use Rattle.curve_pointwise.specs.affine_segment.specs.Pieces.{Each, HasStart, StartsAtZero}
+use Rattle.curve_pointwise.specs.upp_curve.specs.Readable.{EachFits}
+use Rattle.curve_pointwise.specs.affine_segment.specs.Fits.{LineFits}
+use Rattle.curve_pointwise.specs.upp_curve.specs.Shapes.{IsFinitePiece}
 use Rattle.curve_running.specs.declared.stretch.Stretch.{Stretch}
 
 -- where the first of some pieces starts, and `end` where there is none

@@ -1,16 +1,16 @@
 //! The greatest and the least of a level and of a line, on one stretch.
 
 ghost use Rattle.std.specs.Prelude.{◌≡◌, pos, ◌++◌, true, false, IfOk};
-ghost use Rattle.rational.specs.Rational.{◌<ℚ◌, int};
-ghost use Rattle.affine_segment.specs.Values.{line_at};
+ghost use Rattle.curve_pointwise.specs.rational.specs.Rational.{◌<ℚ◌, int};
+ghost use Rattle.curve_pointwise.specs.affine_segment.specs.Values.{line_at};
 ghost use Rattle.curve_running.specs.Scans.{flat, MeetingFits};
 ghost use Rattle.curve_running.specs.Bends.{risen, sunk, Follows, bent, bent_back};
 ghost use Rattle.curve_running.specs.Made.{IsMeeting, IsMadeOf};
 
 use crate::stretch::Stretch;
-use affine_segment::{Line, Piece, cross};
-use fraction128::{Frac, greater, lesser};
-use rational::Extended;
+use curve_pointwise::affine_segment::{Line, Piece, cross};
+use curve_pointwise::fraction128::{Frac, greater, lesser};
+use curve_pointwise::rational::Extended;
 use std::alloc::AllocError;
 use std::cmp::Ordering;
 

@@ -1,16 +1,16 @@
 //! The supremum of a window between two times.
 
 ghost use Rattle.std.specs.Prelude.{◌≡◌, ◌+◌, ◌<◌, pos, length, drop};
-ghost use Rattle.rational.specs.Rational.{ℚ, int, ◌≤ℚ◌, ◌<ℚ◌};
-ghost use Rattle.rational.specs.Extended.{◌≤ₑ◌};
-ghost use Rattle.rational.specs.declared.Extended.TheVariants.{Fin};
-ghost use Rattle.affine_segment.specs.Reading.{read};
+ghost use Rattle.curve_pointwise.specs.rational.specs.Rational.{ℚ, int, ◌≤ℚ◌, ◌<ℚ◌};
+ghost use Rattle.curve_pointwise.specs.rational.specs.Extended.{◌≤ₑ◌};
+ghost use Rattle.curve_pointwise.specs.rational.specs.declared.Extended.TheVariants.{Fin};
+ghost use Rattle.curve_pointwise.specs.affine_segment.specs.Reading.{read};
 ghost use Rattle.curve_running.specs.Scans.{start_or, IsWindow, ScanFits, IsSupremumIn};
 ghost use Rattle.curve_running.specs.Between.{FitsAtBoth, IsLevelBetween, IsHighestIn};
 
 use crate::stretch::stretch_at;
-use affine_segment::{Piece, line_at};
-use fraction128::{Frac, greater, lesser};
+use curve_pointwise::affine_segment::{Piece, line_at};
+use curve_pointwise::fraction128::{Frac, greater, lesser};
 use std::cmp::Ordering;
 
 // What the i-th piece has between two times: 0 where it has none of them.

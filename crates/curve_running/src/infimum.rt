@@ -6,8 +6,8 @@ ghost use Rattle.curve_running.specs.Made.{IsInfimumScan};
 
 use crate::bend::{lowest, push_back};
 use crate::stretch::stretch_at;
-use affine_segment::Piece;
-use fraction128::{Frac, lesser};
+use curve_pointwise::affine_segment::Piece;
+use curve_pointwise::fraction128::{Frac, lesser};
 use std::alloc::{AllocError, Global};
 
 /// The infimum of a window over the times from each time on that are before `end`. A limit that is not taken counts.

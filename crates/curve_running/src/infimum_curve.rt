@@ -1,24 +1,24 @@
 //! The running infimum of a curve.
 
 ghost use Rattle.std.specs.Prelude.{◌≡◌, ◌+◌, IfOk};
-ghost use Rattle.upp_limits.specs.declared.op_kind.OpKind.TheVariants.{RunInf};
-ghost use Rattle.upp_curve.specs.Curve.{value_at};
-ghost use Rattle.min_plus.specs.Functions.{IsFinite, IsNonnegative};
-ghost use Rattle.upp_limits.specs.Outcome.{KeepsLimits};
-ghost use Rattle.curve_call.specs.Frames.{IsFrame};
+ghost use Rattle.curve_pointwise.specs.upp_limits.specs.declared.op_kind.OpKind.TheVariants.{RunInf};
+ghost use Rattle.curve_pointwise.specs.upp_curve.specs.Curve.{value_at};
+ghost use Rattle.curve_pointwise.specs.min_plus.specs.Functions.{IsFinite, IsNonnegative};
+ghost use Rattle.curve_pointwise.specs.upp_limits.specs.Outcome.{KeepsLimits};
+ghost use Rattle.curve_pointwise.specs.curve_call.specs.Frames.{IsFrame};
 ghost use Rattle.curve_running.specs.Runs.{RunsFrom, IsFrontBefore};
 
 use crate::infimum::infimum_scan;
-use affine_segment::Piece;
-use curve_call::{Frame, answer, rise_over, within};
-use fraction128::{Frac, sum};
+use curve_pointwise::affine_segment::Piece;
+use curve_pointwise::curve_call::{Frame, answer, rise_over, within};
+use curve_pointwise::fraction128::{Frac, sum};
+use curve_pointwise::upp_curve::Curve;
+use curve_pointwise::upp_limits::{OpFault, OpKind};
+use curve_pointwise::upp_normal::unrolled;
 use std::alloc::{AllocError, Global};
 use std::cmp::Ordering;
 use std::sync::ledger::Ledger;
 use steps::Steps;
-use upp_curve::Curve;
-use upp_limits::{OpFault, OpKind};
-use upp_normal::unrolled;
 
 /// The pieces up to the first that starts at `end` or later.
 pub fn front_before(alloc: Global, pieces: &[Piece], end: Frac) -> Result<Vec<Piece>, AllocError>

@@ -1,19 +1,30 @@
 //! The running supremum and the running infimum of a curve.
 #![tactic(auto)]
 
+mod behind;
 mod bend;
 mod between;
 mod infimum;
 mod infimum_curve;
-mod laws;
+mod leftover;
+mod lowest;
+mod moved;
+mod numbers;
+mod parts;
 mod periods;
 mod stretch;
 mod supremum;
 mod supremum_curve;
 
+pub use crate::{run_inf, run_sup};
+pub use curve_pointwise;
+pub use curve_pointwise::{
+    affine_segment, curve_call, fraction128, infinite_curve, left_window, max, min, pos_diff,
+    pos_minus, scale, shift, sum, upp_curve, upp_limits, upp_normal,
+};
 pub use infimum::infimum_scan;
 pub use infimum_curve::{front_before, run_inf};
-pub use laws::{infima_exist, suprema_exist};
+pub use leftover::fifo_left;
 pub use periods::supremum_periods;
 pub use supremum::supremum_scan;
 pub use supremum_curve::run_sup;

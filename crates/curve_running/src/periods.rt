@@ -1,18 +1,18 @@
 //! How many periods pass before the running supremum of a curve repeats.
 
 ghost use Rattle.std.specs.Prelude.{◌≡◌, ◌<◌, pos};
-ghost use Rattle.rational.specs.Rational.{int, ◌<ℚ◌, ◌+ℚ◌};
-ghost use Rattle.rational.specs.Ratio.{SumFits};
-ghost use Rattle.upp_limits.specs.declared.op_kind.OpKind.TheVariants.{RunSup};
-ghost use Rattle.affine_segment.specs.Reading.{read};
-ghost use Rattle.upp_limits.specs.Windows.{IsLeast, Meets};
+ghost use Rattle.curve_pointwise.specs.rational.specs.Rational.{int, ◌<ℚ◌, ◌+ℚ◌};
+ghost use Rattle.curve_pointwise.specs.rational.specs.Ratio.{SumFits};
+ghost use Rattle.curve_pointwise.specs.upp_limits.specs.declared.op_kind.OpKind.TheVariants.{RunSup};
+ghost use Rattle.curve_pointwise.specs.affine_segment.specs.Reading.{read};
+ghost use Rattle.curve_pointwise.specs.upp_limits.specs.Windows.{IsLeast, Meets};
 ghost use Rattle.curve_running.specs.Periods.{IsCover, CoverFits, IsFirstPeriod, IsCovering, IsSupremumCall, IsCoveredAfter};
 
 use crate::between::supremum_between;
-use affine_segment::Piece;
-use fraction128::{Frac, sum};
+use curve_pointwise::affine_segment::Piece;
+use curve_pointwise::fraction128::{Frac, sum};
+use curve_pointwise::upp_curve::Curve;
 use std::cmp::Ordering;
-use upp_curve::Curve;
 
 // The least number of rises that take `once` up to `early`.
 fn cover(early: Frac, once: Frac, rise: Frac) -> u128

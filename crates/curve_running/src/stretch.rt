@@ -1,15 +1,15 @@
 //! One finite piece of a window, with its end.
 
 ghost use Rattle.std.specs.Prelude.{◌≡◌, ◌<◌, length, drop, Some};
-ghost use Rattle.rational.specs.declared.Extended.TheVariants.{Fin};
-ghost use Rattle.affine_segment.specs.Values.{line_at};
-ghost use Rattle.affine_segment.specs.Fits.{LineFits};
-ghost use Rattle.upp_curve.specs.Shapes.{IsNumber, IsLine};
+ghost use Rattle.curve_pointwise.specs.rational.specs.declared.Extended.TheVariants.{Fin};
+ghost use Rattle.curve_pointwise.specs.affine_segment.specs.Values.{line_at};
+ghost use Rattle.curve_pointwise.specs.affine_segment.specs.Fits.{LineFits};
+ghost use Rattle.curve_pointwise.specs.upp_curve.specs.Shapes.{IsNumber, IsLine};
 ghost use Rattle.curve_running.specs.Scans.{start_or, IsWindow, ScanFits, IsStretch};
 
-use affine_segment::{Line, Piece, line_at};
-use fraction128::{Ext, Frac};
-use rational::Extended;
+use curve_pointwise::affine_segment::{Line, Piece, line_at};
+use curve_pointwise::fraction128::{Ext, Frac};
+use curve_pointwise::rational::Extended;
 
 /// A piece with a number at its start and a line after it, the time at which it ends, and the limits of the line:
 /// the right one at its start, the left one at its end.

@@ -6,8 +6,8 @@ ghost use Rattle.curve_running.specs.Made.{IsSupremumScan};
 
 use crate::bend::{highest, push_bent};
 use crate::stretch::stretch_at;
-use affine_segment::Piece;
-use fraction128::{Frac, greater};
+use curve_pointwise::affine_segment::Piece;
+use curve_pointwise::fraction128::{Frac, greater};
 use std::alloc::{AllocError, Global};
 
 /// The supremum of a window over the times up to each time before `end`. A limit that is not taken counts.

@@ -1,27 +1,27 @@
 //! The running supremum of a curve.
 
 ghost use Rattle.std.specs.Prelude.{◌≡◌, ◌+◌, ◌≤◌, ◌^◌, IfOk, MatchOption};
-ghost use Rattle.rational.specs.Rational.{◌-ℚ◌, neg_ℚ};
-ghost use Rattle.rational.specs.Ratio.{SumFits};
-ghost use Rattle.upp_limits.specs.declared.op_kind.OpKind.TheVariants.{RunSup};
-ghost use Rattle.upp_curve.specs.Curve.{value_at};
-ghost use Rattle.upp_curve.specs.Curves.{IsCurve};
-ghost use Rattle.min_plus.specs.Functions.{IsFinite, IsNonnegative};
-ghost use Rattle.upp_limits.specs.Gauges.{gauge_at};
-ghost use Rattle.upp_limits.specs.Outcome.{KeepsLimits};
-ghost use Rattle.curve_call.specs.Frames.{IsFrame};
+ghost use Rattle.curve_pointwise.specs.rational.specs.Rational.{◌-ℚ◌, neg_ℚ};
+ghost use Rattle.curve_pointwise.specs.rational.specs.Ratio.{SumFits};
+ghost use Rattle.curve_pointwise.specs.upp_limits.specs.declared.op_kind.OpKind.TheVariants.{RunSup};
+ghost use Rattle.curve_pointwise.specs.upp_curve.specs.Curve.{value_at};
+ghost use Rattle.curve_pointwise.specs.upp_curve.specs.Curves.{IsCurve};
+ghost use Rattle.curve_pointwise.specs.min_plus.specs.Functions.{IsFinite, IsNonnegative};
+ghost use Rattle.curve_pointwise.specs.upp_limits.specs.Gauges.{gauge_at};
+ghost use Rattle.curve_pointwise.specs.upp_limits.specs.Outcome.{KeepsLimits};
+ghost use Rattle.curve_pointwise.specs.curve_call.specs.Frames.{IsFrame};
 ghost use Rattle.curve_running.specs.Runs.{RunsUpTo, IsNumberOf};
 
 use crate::periods::supremum_periods;
 use crate::supremum::supremum_scan;
-use curve_call::{Frame, answer, first_window, rise_over, within};
-use fraction128::{Frac, difference};
+use curve_pointwise::curve_call::{Frame, answer, first_window, rise_over, within};
+use curve_pointwise::fraction128::{Frac, difference};
+use curve_pointwise::upp_curve::Curve;
+use curve_pointwise::upp_limits::{OpFault, OpKind};
+use curve_pointwise::upp_normal::unrolled;
 use std::alloc::{AllocError, Global};
 use std::sync::ledger::Ledger;
 use steps::Steps;
-use upp_curve::Curve;
-use upp_limits::{OpFault, OpKind};
-use upp_normal::unrolled;
 
 // The least number of periods of the call; none where already the window without any period is too wide.
 fn least_number(f: &Curve) -> Option<u128>

@@ -3,7 +3,7 @@ use Rattle.std.proofs.Common.{◌≡◌, ℕ, zero, suc, ◌<◌, ◌≤◌, Lis
 use Rattle.std.specs.Prelude.{option_map}
 use Rattle.std.proofs.lemmas.List.{append_assoc}
 use Rattle.std.proofs.lemmas.Bool.{cases_lt}
-use Rattle.rational.specs.Rational.{ℚ}
+use Rattle.plain_text.specs.rational.specs.Rational.{ℚ}
 use Rattle.curve_script.specs.declared.token.Sign.TheVariants.{Close, Comma, Equals}
 use Rattle.curve_script.specs.declared.keyword.Keyword.{Keyword}
 use Rattle.curve_script.specs.declared.keyword.Keyword.TheVariants as words

@@ -3,7 +3,7 @@ use Rattle.std.proofs.Common.{◌≡◌, ℕ, suc, ◌<◌, ◌≤◌, List, [],
 use Rattle.std.specs.Prelude.{is_some, max}
 use Rattle.std.proofs.lemmas.List.{append-nil}
 use Rattle.std.proofs.lemmas.Bool.{cases_lt}
-use Rattle.rational.specs.Rational.{ℚ}
+use Rattle.plain_text.specs.rational.specs.Rational.{ℚ}
 use Rattle.curve_script.specs.declared.shape.Symbol.TheVariants.{Statement as Whole}
 use Rattle.curve_script.specs.declared.fault.LangKind.TheVariants.{C2, C3, C4}
 use Rattle.curve_script.specs.Tokens.{Token, Says}

@@ -2,8 +2,8 @@
 use Rattle.std.proofs.Common.{◌≡◌, ℕ, ◌+◌, ◌<◌, List, [], ◌∷◌, ◌++◌, length, drop, get_or, map, reverse, Some, None, Bool, refl, sym, ap, ◌∙◌, arith}
 use Rattle.std.specs.Prelude.{is_some, is_ok, ◌&&◌, Result, Ok, Err}
 use Rattle.std.proofs.lemmas.List.{reverse-append, length-reverse, drop_more, drop-map}
-use Rattle.rational.specs.Rational.{ℚ}
-use Rattle.fraction128.specs.declared.fault.FracText.{FracText}
+use Rattle.plain_text.specs.rational.specs.Rational.{ℚ}
+use Rattle.plain_text.specs.fraction128.specs.declared.fault.FracText.{FracText}
 use Rattle.curve_script.specs.declared.shape.Symbol.{Symbol}
 use Rattle.curve_script.specs.declared.token.Token.{Token as CodeToken}
 use Rattle.curve_script.specs.declared.token.Token.TheVariants.{Word as CodeWord}

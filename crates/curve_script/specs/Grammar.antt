@@ -1,9 +1,9 @@
 -- What a statement is spelt like. Numbers are of any type: in a draft they are words as they stand. (Own choice.)
 use Rattle.std.specs.Prelude.{◌≡◌, ◌≢◌, ℕ, suc, ◌<◌, ◌≤◌, max, List, [], ◌∷◌, ◌++◌, length, Option, Some, None, Bool, ◌||◌, ◌==◌, true, option_map, Result, Ok, Err}
 use Rattle.std.specs.List.{list_all}
-use Rattle.rational.specs.Rational.{ℚ}
-use Rattle.fraction128.specs.Text.{parse_of}
-use Rattle.fraction128.specs.declared.fault.FracText.{FracText}
+use Rattle.plain_text.specs.rational.specs.Rational.{ℚ}
+use Rattle.plain_text.specs.fraction128.specs.Text.{parse_of}
+use Rattle.plain_text.specs.fraction128.specs.declared.fault.FracText.{FracText}
 use Rattle.curve_script.specs.declared.token.Sign.TheVariants.{Open, Close, Comma, Equals}
 use Rattle.curve_script.specs.declared.keyword.Keyword.{Keyword}
 use Rattle.curve_script.specs.declared.keyword.Keyword.TheVariants.{Let, At, Value, AskOne, AskTwo, Zero, TwoNumbers, ThreeNumbers, OneCurve, CurveAndNumber, TwoCurves}

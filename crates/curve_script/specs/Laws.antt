@@ -1,6 +1,6 @@
 -- Laws of scripts. (Own choice.)
 use Rattle.std.specs.Prelude.{◌≡◌, ℕ, List}
-use Rattle.rational.specs.Rational.{ℚ}
+use Rattle.plain_text.specs.rational.specs.Rational.{ℚ}
 use Rattle.curve_script.specs.declared.fault.LangKind.{LangKind}
 use Rattle.curve_script.specs.Tokens.{Token, Says}
 use Rattle.curve_script.specs.Grammar.{Statement}

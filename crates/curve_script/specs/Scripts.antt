@@ -1,6 +1,6 @@
 -- What script a text is, and its first fault. (Own choice.)
 use Rattle.std.specs.Prelude.{◌≡◌, ℕ, suc, ◌<◌, ◌≤◌, List, [], ◌∷◌, ◌++◌, length, Bool, true, false, ◌==◌, ◌⊎◌, MatchBool}
-use Rattle.rational.specs.Rational.{ℚ}
+use Rattle.plain_text.specs.rational.specs.Rational.{ℚ}
 use Rattle.curve_script.specs.declared.fault.LangKind.{LangKind}
 use Rattle.curve_script.specs.declared.fault.LangKind.TheVariants.{C4, NoMemory}
 use Rattle.curve_script.specs.declared.fault.LangFault.{LangFault}

@@ -1,6 +1,6 @@
 -- Statements and expressions apart from where they lie in memory.
 use Rattle.std.specs.String.{string_bytes}
-use Rattle.rational.specs.Rational.{ℚ}
+use Rattle.plain_text.specs.rational.specs.Rational.{ℚ}
 use Rattle.curve_script.specs.declared.script.Expr.{Expr}
 use Rattle.curve_script.specs.declared.script.Expr.TheVariants.{Name, Zero, Bucket, Stair, Latency, Gate, Sum', Min', Max', Conv', PosDiff', PosMinus', Scale', Shift', Deconv', Close', RunSup', RunInf'}
 use Rattle.curve_script.specs.declared.script.Stat.{Stat}

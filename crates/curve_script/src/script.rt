@@ -1,6 +1,6 @@
 //! Statements and expressions of a script.
 
-use fraction128::Frac;
+use plain_text::fraction128::Frac;
 
 /// An expression, whose value is a curve. The fields stand in the order of the text. Times are in the file's unit of
 /// time and values in bits, as in a network's file; what a kind or an operator refuses is looked for when the script is

@@ -10,7 +10,7 @@ ghost use Rattle.curve_script.specs.Shapes.{is_name_text, begins_with_letter, be
 
 use crate::keyword::{Keyword, keyword_of};
 use crate::token::{Sign, Token, is_digit, is_letter};
-use fraction128::Frac;
+use plain_text::fraction128::Frac;
 use std::alloc::{AllocError, Global};
 
 /// What may be to come in a line.

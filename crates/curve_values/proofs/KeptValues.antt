@@ -10,29 +10,29 @@ use Rattle.rational.specs.declared.Extended.TheVariants.{Fin, Inf}
 use Rattle.rational.proofs.Laws.{le_refl, le_of_lt, le_or_lt, le_trans}
 use Rattle.rational.proofs.Grid.{whole_sub}
 use Rattle.rational.proofs.Linear.{with2, with3}
-use Rattle.affine_segment.specs.declared.line.Piece.{Piece}
-use Rattle.affine_segment.specs.Pieces.{Each, StartsAtZero}
-use Rattle.affine_segment.specs.Reading.{piece_in, read}
-use Rattle.affine_segment.specs.Fits.{ReadFits}
-use Rattle.affine_segment.proofs.PieceOrder.{each_map}
-use Rattle.upp_curve.specs.declared.curve.Tail.{Tail}
-use Rattle.upp_curve.specs.declared.curve.Tail.TheVariants.{Periodic, Affine, Infinite}
-use Rattle.upp_curve.specs.Curve.{SpecCurve, value_at}
-use Rattle.upp_curve.specs.Curves.{IsCurve}
-use Rattle.upp_curve.specs.Normal.{IsNormal}
-use Rattle.upp_curve.specs.Readable.{SumFitsAt, TailReadable}
-use Rattle.upp_curve.specs.Steady.{rank_of}
-use Rattle.upp_curve.proofs.OneForm.{infinite_value}
-use Rattle.upp_curve.proofs.Repeats.{repeated_first, repeated_next}
-use Rattle.upp_curve.proofs.SteadyTimes.{curve_rank}
-use Rattle.upp_limits.specs.Limits.{Sizes, curve_numbers, stored_period, stored_rise}
-use Rattle.upp_limits.specs.Sized.{IsValue, Stands}
-use Rattle.upp_limits.specs.Spans.{once_below, piece_read, span_below, spans, spans_below}
-use Rattle.upp_limits.specs.Periods.{HasPeriod}
-use Rattle.upp_limits.proofs.CurveStands.{once_out}
-use Rattle.upp_limits.proofs.Every.{every_left, every_weaken}
-use Rattle.upp_limits.proofs.Operands.{curve_period}
-use Rattle.upp_limits.proofs.PieceLists.{starts_nonneg}
+use Rattle.upp_normal.specs.affine_segment.specs.declared.line.Piece.{Piece}
+use Rattle.upp_normal.specs.affine_segment.specs.Pieces.{Each, StartsAtZero}
+use Rattle.upp_normal.specs.affine_segment.specs.Reading.{piece_in, read}
+use Rattle.upp_normal.specs.affine_segment.specs.Fits.{ReadFits}
+use Rattle.upp_normal.specs.affine_segment.proofs.PieceOrder.{each_map}
+use Rattle.upp_normal.specs.upp_curve.specs.declared.curve.Tail.{Tail}
+use Rattle.upp_normal.specs.upp_curve.specs.declared.curve.Tail.TheVariants.{Periodic, Affine, Infinite}
+use Rattle.upp_normal.specs.upp_curve.specs.Curve.{SpecCurve, value_at}
+use Rattle.upp_normal.specs.upp_curve.specs.Curves.{IsCurve}
+use Rattle.upp_normal.specs.upp_curve.specs.Normal.{IsNormal}
+use Rattle.upp_normal.specs.upp_curve.specs.Readable.{SumFitsAt, TailReadable}
+use Rattle.upp_normal.specs.upp_curve.specs.Steady.{rank_of}
+use Rattle.upp_normal.specs.upp_curve.proofs.OneForm.{infinite_value}
+use Rattle.upp_normal.specs.upp_curve.proofs.Repeats.{repeated_first, repeated_next}
+use Rattle.upp_normal.specs.upp_curve.proofs.SteadyTimes.{curve_rank}
+use Rattle.upp_normal.specs.upp_limits.specs.Limits.{Sizes, curve_numbers, stored_period, stored_rise}
+use Rattle.upp_normal.specs.upp_limits.specs.Sized.{IsValue, Stands}
+use Rattle.upp_normal.specs.upp_limits.specs.Spans.{once_below, piece_read, span_below, spans, spans_below}
+use Rattle.upp_normal.specs.upp_limits.specs.Periods.{HasPeriod}
+use Rattle.upp_normal.specs.upp_limits.proofs.CurveStands.{once_out}
+use Rattle.upp_normal.specs.upp_limits.proofs.Every.{every_left, every_weaken}
+use Rattle.upp_normal.specs.upp_limits.proofs.Operands.{curve_period}
+use Rattle.upp_normal.specs.upp_limits.proofs.PieceLists.{starts_nonneg}
 use Rattle.upp_normal.specs.Ahead.{GridValue, HasWindow, IsOverBy, IsTimeIn}
 use Rattle.upp_normal.specs.Operand.{AreLimited}
 use Rattle.upp_normal.specs.Unrolling.{IsOperandTo}

@@ -3,17 +3,17 @@
 ghost use Rattle.std.specs.Prelude.{◌≡◌, ◌↔◌, IsTrue};
 ghost use Rattle.rational.specs.Rational.{◌-ℚ◌, ◌+ℚ◌, ◌≤ℚ◌};
 ghost use Rattle.rational.specs.Extended.{◌+ₑ◌};
-ghost use Rattle.upp_curve.specs.Curve.{value_at};
-ghost use Rattle.upp_curve.specs.Curves.{IsCurve};
-ghost use Rattle.upp_curve.specs.Readable.{SumFitsAt};
+ghost use Rattle.upp_normal.specs.upp_curve.specs.Curve.{value_at};
+ghost use Rattle.upp_normal.specs.upp_curve.specs.Curves.{IsCurve};
+ghost use Rattle.upp_normal.specs.upp_curve.specs.Readable.{SumFitsAt};
 ghost use Rattle.upp_normal.specs.Unrolling.{IsOperandTo};
 ghost use Rattle.curve_values.specs.Early.{IsEarly};
 
-use affine_segment::read;
 use fraction128::{Ext, Frac, difference, is_less, sum};
 use rational::Extended;
-use upp_curve::{Curve, Tail};
+use upp_normal::affine_segment::read;
 use upp_normal::stretch_at;
+use upp_normal::upp_curve::{Curve, Tail};
 
 /// Whether a time is before the end of a curve's first period, where it has one.
 pub fn is_early(c: &Curve, t: Frac) -> bool

@@ -1,20 +1,20 @@
 //! The curve of a deficit round robin queue's service.
 
 ghost use Rattle.std.specs.Prelude.{◌≡◌, ◌+◌, ◌-◌, ◌<◌, ◌≤◌, length, IfOk, IfErr};
-ghost use Rattle.upp_curve.specs.Curve.{value_at};
+ghost use Rattle.curve_pointwise.specs.upp_curve.specs.Curve.{value_at};
 ghost use Rattle.min_plus.specs.Functions.{IsFinite};
 ghost use Rattle.residual_calls.specs.DrrCalls.{AreQueues, MakesDrr};
-ghost use Rattle.residual_laws.specs.DrrLaws.{IsDrrService};
+ghost use Rattle.residual_calls.specs.residual_laws.specs.DrrLaws.{IsDrrService};
 ghost use Rattle.residual_calls.specs.InTurn.{DrrRefused};
 
 use crate::turn::turn_of;
-use curve_call::intact;
+use curve_pointwise::curve_call::intact;
+use curve_pointwise::upp_curve::Curve;
+use curve_pointwise::upp_limits::OpFault;
 use curve_pointwise::{pos_minus, scale};
 use std::alloc::Global;
 use std::sync::ledger::Ledger;
 use steps::Steps;
-use upp_curve::Curve;
-use upp_limits::OpFault;
 
 /// The service of one queue of a deficit round robin server whose curve is `beta`: with the queue's quantum Q, the
 /// sum F of the quanta, the queue's longest packet l and the sum L of all queues' longest packets, at each time the

@@ -8,10 +8,10 @@ use Rattle.upp_curve.specs.Curve.{SpecCurve}
 use Rattle.net_model.specs.declared.edit.Edit.{Edit}
 use Rattle.net_model.specs.declared.edit.Edit.TheVariants as edit
 use Rattle.net_model.specs.Networks.{Net}
-use Rattle.net_cells.specs.declared.cell.Cell.{Cell}
-use Rattle.net_edits.specs.Edited.{Edited, MadeCurve, edited}
-use Rattle.net_edits.specs.Refusals.{Refusal, Or}
-use Rattle.net_edits.specs.Replies.{IsMadeWithin, IsMadeOver, IsEdited, IsEditOver}
+use Rattle.command_replies.specs.net_cells.specs.declared.cell.Cell.{Cell}
+use Rattle.edit_store.specs.net_edits.specs.Edited.{Edited, MadeCurve, edited}
+use Rattle.edit_store.specs.net_edits.specs.Refusals.{Refusal, Or}
+use Rattle.edit_store.specs.net_edits.specs.Replies.{IsMadeWithin, IsMadeOver, IsEdited, IsEditOver}
 use Rattle.edit_store.specs.Applied.{Gives}
 
 -- ---- a curve is within its limits, or over one

@@ -3,8 +3,8 @@ use Rattle.std.specs.Prelude.{◌≡◌, Result, Ok, Err}
 use Rattle.net_model.specs.declared.edit.Done.{Done}
 use Rattle.net_model.specs.declared.edit.Edit.{Edit}
 use Rattle.net_model.specs.Networks.{Net}
-use Rattle.net_edits.specs.declared.fault.EditFault.{EditFault}
-use Rattle.net_edits.specs.declared.fault.EditFault.TheVariants.{UnknownName, NameTaken, BadValue, LimitReached, Cycle, TooMany, TooWide, NothingToUndo, NoMemory}
+use Rattle.edit_store.specs.net_edits.specs.declared.fault.EditFault.{EditFault}
+use Rattle.edit_store.specs.net_edits.specs.declared.fault.EditFault.TheVariants.{UnknownName, NameTaken, BadValue, LimitReached, Cycle, TooMany, TooWide, NothingToUndo, NoMemory}
 use Rattle.edit_store.specs.Stored.{Stored}
 use Rattle.edit_report.specs.Said.{EditSaid, said_of}
 use Rattle.edit_command.specs.NetHistories.{history_of}

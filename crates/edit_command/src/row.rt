@@ -10,10 +10,10 @@ ghost use Rattle.edit_command.specs.Answered.{IsAnswered};
 ghost use Rattle.edit_command.specs.Said.{IsOfEdited, IsSaidOf, IsSaid};
 ghost use Rattle.edit_command.specs.EditCounts.{IsWorkOf, IsTakenWork};
 
-use cell_table::{Evaluator, Value};
+use command_replies::cell_table::{Evaluator, Value};
 use edit_report::{Said, said_of};
 use edit_store::Store;
-use net_edits::EditFault;
+use edit_store::net_edits::EditFault;
 use net_model::{Done, Edit, Network};
 use std::alloc::{AllocError, Global};
 

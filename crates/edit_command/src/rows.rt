@@ -7,7 +7,7 @@ ghost use Rattle.edit_command.specs.Answered.{AreAnswered};
 ghost use Rattle.edit_command.specs.EditCounts.{WorkOfEdits};
 
 use crate::row::answered;
-use cell_table::{Evaluator, Value};
+use command_replies::cell_table::{Evaluator, Value};
 use edit_report::Said;
 use edit_store::Store;
 use net_model::Edit;

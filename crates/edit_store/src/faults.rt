@@ -3,9 +3,9 @@
 ghost use Rattle.std.specs.Prelude.{◌≡◌};
 ghost use Rattle.edit_store.specs.Faults as spec;
 
-use cell_table::AnalysisFault;
+use cell_store::cell_table::AnalysisFault;
+use cell_store::net_graph::GraphFault;
 use net_edits::EditFault;
-use net_graph::GraphFault;
 
 pub(crate) fn graph_fault(fault: GraphFault) -> EditFault
     ensures { result ≡ spec.graph_fault fault }

@@ -1,24 +1,24 @@
 -- A copy of an operand's window bends nowhere between the times of the grid.
 use Rattle.std.specs.Prelude.{◌≡◌, pos, List, ◌∷◌}
 use Rattle.std.proofs.Common.{arith, sym, ap, ap₂, ◌∙◌, refl, subst, inl, inr}
-use Rattle.rational.specs.Rational.{ℚ, ◌+ℚ◌, ◌-ℚ◌, ◌≤ℚ◌, ◌<ℚ◌, int}
-use Rattle.rational.specs.Extended.{Ext, ◌≤ₑ◌, ◌+ₑ◌}
-use Rattle.rational.specs.declared.Extended.TheVariants.{Fin, Inf}
-use Rattle.rational.specs.Grid.{Whole}
-use Rattle.rational.proofs.Grid.{whole_add, within_weaken}
-use Rattle.rational.proofs.Linear.{with2, with3, with4}
-use Rattle.rational.proofs.Laws.{le_or_lt, le_of_lt, le_trans, le_lt_trans}
-use Rattle.rational.proofs.ExtendedOrder.{same_le_ext, le_inf, le_ext_trans, le_ext_refl, add_le_ext}
-use Rattle.affine_segment.specs.declared.line.Piece.{Piece}
-use Rattle.affine_segment.specs.declared.element.Element.{Element}
-use Rattle.affine_segment.specs.declared.element.Element.TheVariants.{Point, Open}
-use Rattle.affine_segment.specs.Elements.{element_value}
-use Rattle.affine_segment.specs.Reading.{read}
-use Rattle.affine_segment.proofs.ElementValues.{value_in, value_cases}
-use Rattle.upp_limits.specs.Limits.{Sizes}
-use Rattle.upp_limits.specs.Sized.{times_largest}
+use Rattle.curve_call.specs.rational.specs.Rational.{ℚ, ◌+ℚ◌, ◌-ℚ◌, ◌≤ℚ◌, ◌<ℚ◌, int}
+use Rattle.curve_call.specs.rational.specs.Extended.{Ext, ◌≤ₑ◌, ◌+ₑ◌}
+use Rattle.curve_call.specs.rational.specs.declared.Extended.TheVariants.{Fin, Inf}
+use Rattle.curve_call.specs.rational.specs.Grid.{Whole}
+use Rattle.curve_call.specs.rational.proofs.Grid.{whole_add, within_weaken}
+use Rattle.curve_call.specs.rational.proofs.Linear.{with2, with3, with4}
+use Rattle.curve_call.specs.rational.proofs.Laws.{le_or_lt, le_of_lt, le_trans, le_lt_trans}
+use Rattle.curve_call.specs.rational.proofs.ExtendedOrder.{same_le_ext, le_inf, le_ext_trans, le_ext_refl, add_le_ext}
+use Rattle.curve_call.specs.affine_segment.specs.declared.line.Piece.{Piece}
+use Rattle.curve_call.specs.affine_segment.specs.declared.element.Element.{Element}
+use Rattle.curve_call.specs.affine_segment.specs.declared.element.Element.TheVariants.{Point, Open}
+use Rattle.curve_call.specs.affine_segment.specs.Elements.{element_value}
+use Rattle.curve_call.specs.affine_segment.specs.Reading.{read}
+use Rattle.curve_call.specs.affine_segment.proofs.ElementValues.{value_in, value_cases}
+use Rattle.curve_call.specs.upp_limits.specs.Limits.{Sizes}
+use Rattle.curve_call.specs.upp_limits.specs.Sized.{times_largest}
 use Rattle.element_envelope.specs.ConvolutionWindows.{WindowPieces}
-use Rattle.upp_normal.proofs.AnswerRoom.{more_largest}
+use Rattle.curve_call.specs.upp_normal.proofs.AnswerRoom.{more_largest}
 use Rattle.element_envelope.specs.Arches.{IsAround, Arches}
 use Rattle.element_envelope.specs.PieceElements.{elements_of, Among}
 use Rattle.element_envelope.specs.ElementRoom.{WindowTime, WindowEnd, OperandElement, SumTime, SumEnd, SumElement}

@@ -1,25 +1,25 @@
 -- The elements of pieces: where each is, what it reads, and that a time with a finite value is a time of exactly one.
 use Rattle.std.specs.Prelude.{◌≡◌, ◌⊎◌, pos, List, [], ◌∷◌, ◌++◌, Option, Some, None}
 use Rattle.std.proofs.Common.{sym, ap, ◌∙◌, refl, subst, inl, inr}
-use Rattle.rational.specs.Rational.{ℚ, ◌≤ℚ◌, ◌<ℚ◌, int}
-use Rattle.rational.specs.Extended.{Ext, ◌<ₑ◌}
-use Rattle.rational.specs.declared.Extended.TheVariants.{Fin, Inf}
-use Rattle.rational.proofs.Laws.{le_or_lt, le_of_lt, le_refl, le_trans, lt_irrefl, le_lt_trans, antisym}
-use Rattle.rational.proofs.ExtendedOrder.{fin_same, lt_ext_trans}
-use Rattle.affine_segment.specs.declared.line.Line.{Line}
-use Rattle.affine_segment.specs.declared.line.Piece.{Piece}
-use Rattle.affine_segment.specs.declared.element.Element.{Element}
-use Rattle.affine_segment.specs.declared.element.Element.TheVariants.{Point, Open}
-use Rattle.affine_segment.specs.Values.{line_value}
-use Rattle.affine_segment.specs.Elements.{IsProper, Covers, level}
-use Rattle.affine_segment.specs.Reading.{piece_value, read}
-use Rattle.affine_segment.specs.Pieces.{RisesFrom, StartsAtZero}
-use Rattle.affine_segment.proofs.PieceIn.{value_past, read_go, read_one, read_stop, value_by}
+use Rattle.curve_call.specs.rational.specs.Rational.{ℚ, ◌≤ℚ◌, ◌<ℚ◌, int}
+use Rattle.curve_call.specs.rational.specs.Extended.{Ext, ◌<ₑ◌}
+use Rattle.curve_call.specs.rational.specs.declared.Extended.TheVariants.{Fin, Inf}
+use Rattle.curve_call.specs.rational.proofs.Laws.{le_or_lt, le_of_lt, le_refl, le_trans, lt_irrefl, le_lt_trans, antisym}
+use Rattle.curve_call.specs.rational.proofs.ExtendedOrder.{fin_same, lt_ext_trans}
+use Rattle.curve_call.specs.affine_segment.specs.declared.line.Line.{Line}
+use Rattle.curve_call.specs.affine_segment.specs.declared.line.Piece.{Piece}
+use Rattle.curve_call.specs.affine_segment.specs.declared.element.Element.{Element}
+use Rattle.curve_call.specs.affine_segment.specs.declared.element.Element.TheVariants.{Point, Open}
+use Rattle.curve_call.specs.affine_segment.specs.Values.{line_value}
+use Rattle.curve_call.specs.affine_segment.specs.Elements.{IsProper, Covers, level}
+use Rattle.curve_call.specs.affine_segment.specs.Reading.{piece_value, read}
+use Rattle.curve_call.specs.affine_segment.specs.Pieces.{RisesFrom, StartsAtZero}
+use Rattle.curve_call.specs.affine_segment.proofs.PieceIn.{value_past, read_go, read_one, read_stop, value_by}
 use Rattle.element_envelope.specs.PieceElements.{point_of, segment_of, elements_of, StartBefore, Among, ElementAt}
 use Rattle.element_envelope.specs.ConvolutionLaws.{ElementsCover}
 use Rattle.element_envelope.proofs.Members.{among_left, among_right, among_cases}
-use Rattle.upp_normal.proofs.NormaliseGrids.{some_same}
-use Rattle.affine_segment.proofs.LineValues.{line_found}
+use Rattle.curve_call.specs.upp_normal.proofs.NormaliseGrids.{some_same}
+use Rattle.curve_call.specs.affine_segment.proofs.LineValues.{line_found}
 
 -- ---- one piece
 abbrev pub head : ℚ → Ext → Option Line → Ext → List Element

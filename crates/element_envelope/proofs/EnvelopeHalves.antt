@@ -1,24 +1,24 @@
 -- The least of all pairs from that of two halves of a list.
 use Rattle.std.specs.Prelude.{◌≡◌, ◌↔◌, Bool, true, false, not, IsTrue, pos, suc, List, [], ◌∷◌, ◌++◌, Result, Ok, Err, IfOk, Vec, All}
 use Rattle.std.proofs.Common.{arith, sym, ap, ap₂, ◌∙◌, true≢false, refl, subst, inl, inr, length, get_or, ◌≤◌, Global}
-use Rattle.rational.specs.Rational.{ℚ, int, ◌+ℚ◌, ◌≤ℚ◌, ◌<ℚ◌}
-use Rattle.rational.specs.Extended.{min_ext}
-use Rattle.rational.specs.declared.Extended.TheVariants.{Inf}
-use Rattle.rational.proofs.Grid.{whole_int}
-use Rattle.rational.proofs.Compared.{not_less_out}
-use Rattle.rational.proofs.Laws.{le_refl}
-use Rattle.affine_segment.specs.declared.line.Piece.{Piece}
-use Rattle.affine_segment.specs.declared.element.Element.{Element}
-use Rattle.affine_segment.specs.Elements.{start_of}
-use Rattle.affine_segment.specs.Fits.{LineFitsAt}
-use Rattle.affine_segment.specs.Reading.{read, nothing_at}
-use Rattle.affine_segment.proofs.PieceOrder.{each_map}
-use Rattle.upp_limits.specs.Limits.{Sizes}
-use Rattle.upp_normal.specs.Operand.{AreLimited}
-use Rattle.upp_normal.specs.Normalising.{IsPart, IsMerged}
-use Rattle.upp_normal.proofs.NormaliseForm.{each_part}
-use Rattle.curve_window.specs.Stretches.{CutsFit}
-use Rattle.curve_window.specs.Lower.{LowerFits, IsLowerPiece, IsLowerOf}
+use Rattle.curve_call.specs.rational.specs.Rational.{ℚ, int, ◌+ℚ◌, ◌≤ℚ◌, ◌<ℚ◌}
+use Rattle.curve_call.specs.rational.specs.Extended.{min_ext}
+use Rattle.curve_call.specs.rational.specs.declared.Extended.TheVariants.{Inf}
+use Rattle.curve_call.specs.rational.proofs.Grid.{whole_int}
+use Rattle.curve_call.specs.rational.proofs.Compared.{not_less_out}
+use Rattle.curve_call.specs.rational.proofs.Laws.{le_refl}
+use Rattle.curve_call.specs.affine_segment.specs.declared.line.Piece.{Piece}
+use Rattle.curve_call.specs.affine_segment.specs.declared.element.Element.{Element}
+use Rattle.curve_call.specs.affine_segment.specs.Elements.{start_of}
+use Rattle.curve_call.specs.affine_segment.specs.Fits.{LineFitsAt}
+use Rattle.curve_call.specs.affine_segment.specs.Reading.{read, nothing_at}
+use Rattle.curve_call.specs.affine_segment.proofs.PieceOrder.{each_map}
+use Rattle.curve_call.specs.upp_limits.specs.Limits.{Sizes}
+use Rattle.curve_call.specs.upp_normal.specs.Operand.{AreLimited}
+use Rattle.curve_call.specs.upp_normal.specs.Normalising.{IsPart, IsMerged}
+use Rattle.curve_call.specs.upp_normal.proofs.NormaliseForm.{each_part}
+use Rattle.curve_call.specs.Stretches.{CutsFit}
+use Rattle.curve_call.specs.Lower.{LowerFits, IsLowerPiece, IsLowerOf}
 use Rattle.element_envelope.specs.PieceElements.{Among}
 use Rattle.element_envelope.specs.Envelopes.{IsEnvelope}
 use Rattle.element_envelope.specs.SumWindows.{SumPiece, SumWindow}
@@ -28,7 +28,7 @@ use Rattle.element_envelope.proofs.Envelopes.{envelope_rules}
 use Rattle.element_envelope.proofs.Arching.{same_arches, lesser_arches, nothing_arches}
 use Rattle.element_envelope.proofs.SumSteps.{line_fits_at, sum_cuts_fit}
 use Rattle.element_envelope.proofs.SumLower.{sum_lower_fits, sum_lower}
-use Rattle.affine_segment.proofs.PieceIn.{read_one, nothing_read}
+use Rattle.curve_call.specs.affine_segment.proofs.PieceIn.{read_one, nothing_read}
 
 -- ---- no pair
 nothing_is : (end : ℚ) (xs ys : List Element) → ((t : ℚ) → t <ℚ end → IsEnvelope xs ys t Inf) → IsEnvelopeWindow end xs ys (nothing_at (int (pos 0)) ∷ [])

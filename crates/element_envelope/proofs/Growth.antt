@@ -1,19 +1,19 @@
 -- What is read of pieces that go on from their values with no jump up, and with slopes of at most r: it gains no more than that.
 use Rattle.std.specs.Prelude.{◌≡◌, pos, List, [], ◌∷◌}
 use Rattle.std.proofs.Common.{arith, sym, ap, ◌∙◌, subst, inl, inr}
-use Rattle.rational.specs.Rational.{ℚ, ◌+ℚ◌, ◌-ℚ◌, ◌*ℚ◌, ◌≤ℚ◌, ◌<ℚ◌, int}
-use Rattle.rational.specs.Extended.{◌≤ₑ◌}
-use Rattle.rational.specs.declared.Extended.TheVariants.{Fin}
-use Rattle.rational.proofs.Linear.{with2, with3, with4, with5, with6}
-use Rattle.rational.proofs.Laws.{le_or_lt, le_of_lt, le_refl, le_trans, mul_sub, mul_le_mul_right}
-use Rattle.rational.proofs.ExtendedOrder.{fin_same}
-use Rattle.affine_segment.specs.declared.line.Line.{Line}
-use Rattle.affine_segment.specs.declared.line.Piece.{Piece}
-use Rattle.affine_segment.specs.Pieces.{Each, RisesFrom, StartsAtZero}
-use Rattle.affine_segment.specs.Reading.{read, piece_in, piece_value}
-use Rattle.affine_segment.specs.Values.{line_at, line_value}
-use Rattle.affine_segment.proofs.PieceIn.{value_past, value_by, read_first, read_go, read_is, read_one, read_stop}
-use Rattle.upp_curve.proofs.Finite.{each_in}
+use Rattle.curve_call.specs.rational.specs.Rational.{ℚ, ◌+ℚ◌, ◌-ℚ◌, ◌*ℚ◌, ◌≤ℚ◌, ◌<ℚ◌, int}
+use Rattle.curve_call.specs.rational.specs.Extended.{◌≤ₑ◌}
+use Rattle.curve_call.specs.rational.specs.declared.Extended.TheVariants.{Fin}
+use Rattle.curve_call.specs.rational.proofs.Linear.{with2, with3, with4, with5, with6}
+use Rattle.curve_call.specs.rational.proofs.Laws.{le_or_lt, le_of_lt, le_refl, le_trans, mul_sub, mul_le_mul_right}
+use Rattle.curve_call.specs.rational.proofs.ExtendedOrder.{fin_same}
+use Rattle.curve_call.specs.affine_segment.specs.declared.line.Line.{Line}
+use Rattle.curve_call.specs.affine_segment.specs.declared.line.Piece.{Piece}
+use Rattle.curve_call.specs.affine_segment.specs.Pieces.{Each, RisesFrom, StartsAtZero}
+use Rattle.curve_call.specs.affine_segment.specs.Reading.{read, piece_in, piece_value}
+use Rattle.curve_call.specs.affine_segment.specs.Values.{line_at, line_value}
+use Rattle.curve_call.specs.affine_segment.proofs.PieceIn.{value_past, value_by, read_first, read_go, read_is, read_one, read_stop}
+use Rattle.curve_call.specs.upp_curve.proofs.Finite.{each_in}
 use Rattle.element_envelope.specs.Copies.{LowAfter, LowAtStarts}
 use Rattle.element_envelope.specs.NearStarts.{RisesWithin}
 

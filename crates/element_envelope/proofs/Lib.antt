@@ -24,3 +24,5 @@ pub mod StartTurns
 pub mod Growth
 pub mod NearCopies
 pub mod LimitSplits
+pub mod FoundPairs
+pub mod FoundEnvelopes

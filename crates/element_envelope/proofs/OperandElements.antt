@@ -1,17 +1,17 @@
 -- The elements of an operand's pieces, and of a window's, stand where the pieces do.
 use Rattle.std.specs.Prelude.{List, [], ◌∷◌}
 use Rattle.std.proofs.Common.{sym, subst, inl, inr}
-use Rattle.rational.specs.Rational.{ℚ}
-use Rattle.rational.specs.Extended.{Ext}
-use Rattle.rational.proofs.Laws.{le_of_lt}
-use Rattle.affine_segment.specs.declared.line.Piece.{Piece}
-use Rattle.affine_segment.specs.declared.element.Element.{Element}
-use Rattle.upp_limits.specs.Limits.{Sizes}
-use Rattle.affine_segment.specs.Pieces.{Each}
-use Rattle.affine_segment.proofs.PieceOrder.{each_map}
-use Rattle.upp_normal.specs.Ahead.{GridValue}
-use Rattle.upp_normal.proofs.AnswerRoom.{stands_operand_value}
-use Rattle.upp_normal.specs.Operand.{OperandPiece, OperandPieces, OperandLineAt}
+use Rattle.curve_call.specs.rational.specs.Rational.{ℚ}
+use Rattle.curve_call.specs.rational.specs.Extended.{Ext}
+use Rattle.curve_call.specs.rational.proofs.Laws.{le_of_lt}
+use Rattle.curve_call.specs.affine_segment.specs.declared.line.Piece.{Piece}
+use Rattle.curve_call.specs.affine_segment.specs.declared.element.Element.{Element}
+use Rattle.curve_call.specs.upp_limits.specs.Limits.{Sizes}
+use Rattle.curve_call.specs.affine_segment.specs.Pieces.{Each}
+use Rattle.curve_call.specs.affine_segment.proofs.PieceOrder.{each_map}
+use Rattle.curve_call.specs.upp_normal.specs.Ahead.{GridValue}
+use Rattle.curve_call.specs.upp_normal.proofs.AnswerRoom.{stands_operand_value}
+use Rattle.curve_call.specs.upp_normal.specs.Operand.{OperandPiece, OperandPieces, OperandLineAt}
 use Rattle.element_envelope.specs.ConvolutionWindows.{WindowPiece, WindowPieces}
 use Rattle.element_envelope.specs.PieceElements.{next_start, elements_of, Among}
 use Rattle.element_envelope.specs.ElementRoom.{WindowTime, WindowEnd, OperandElement}

@@ -1,22 +1,22 @@
 -- Before the end of two windows, and of the pieces of two curves, the least of all pairs of elements is the convolution.
 use Rattle.std.specs.Prelude.{◌≡◌, pos, List}
 use Rattle.std.proofs.Common.{arith, sym, ap₂, ◌∙◌}
-use Rattle.rational.specs.Rational.{ℚ, ◌≤ℚ◌, ◌<ℚ◌, int}
-use Rattle.rational.specs.Extended.{Ext, ◌≤ₑ◌, ◌<ₑ◌, ◌+ₑ◌}
-use Rattle.rational.specs.declared.Extended.TheVariants.{Fin}
-use Rattle.rational.proofs.Linear.{with3}
-use Rattle.rational.proofs.Laws.{le_lt_trans}
-use Rattle.rational.proofs.ExtendedOrder.{same_le_ext, lt_le_ext, le_lt_ext, finite_sum}
-use Rattle.rational.proofs.Bounds.{same_infimum}
-use Rattle.affine_segment.specs.declared.line.Piece.{Piece}
-use Rattle.upp_curve.specs.Curve.{SpecCurve, value_at}
-use Rattle.affine_segment.specs.Pieces.{StartsAtZero}
-use Rattle.affine_segment.specs.Reading.{read}
-use Rattle.min_plus.specs.Convolution.{Split, IsConvolution}
-use Rattle.upp_curve.specs.Unrolled.{unroll}
-use Rattle.upp_normal.proofs.Below.{unroll_reads}
-use Rattle.affine_segment.proofs.PieceOrder.{each_map}
-use Rattle.upp_normal.proofs.UnrolledPieces.{unroll_starts, unroll_before}
+use Rattle.curve_call.specs.rational.specs.Rational.{ℚ, ◌≤ℚ◌, ◌<ℚ◌, int}
+use Rattle.curve_call.specs.rational.specs.Extended.{Ext, ◌≤ₑ◌, ◌<ₑ◌, ◌+ₑ◌}
+use Rattle.curve_call.specs.rational.specs.declared.Extended.TheVariants.{Fin}
+use Rattle.curve_call.specs.rational.proofs.Linear.{with3}
+use Rattle.curve_call.specs.rational.proofs.Laws.{le_lt_trans}
+use Rattle.curve_call.specs.rational.proofs.ExtendedOrder.{same_le_ext, lt_le_ext, le_lt_ext, finite_sum}
+use Rattle.curve_call.specs.rational.proofs.Bounds.{same_infimum}
+use Rattle.curve_call.specs.affine_segment.specs.declared.line.Piece.{Piece}
+use Rattle.curve_call.specs.upp_curve.specs.Curve.{SpecCurve, value_at}
+use Rattle.curve_call.specs.affine_segment.specs.Pieces.{StartsAtZero}
+use Rattle.curve_call.specs.affine_segment.specs.Reading.{read}
+use Rattle.curve_call.specs.min_plus.specs.Convolution.{Split, IsConvolution}
+use Rattle.curve_call.specs.upp_curve.specs.Unrolled.{unroll}
+use Rattle.curve_call.specs.upp_normal.proofs.Below.{unroll_reads}
+use Rattle.curve_call.specs.affine_segment.proofs.PieceOrder.{each_map}
+use Rattle.curve_call.specs.upp_normal.proofs.UnrolledPieces.{unroll_starts, unroll_before}
 use Rattle.element_envelope.specs.PieceElements.{elements_of, StartBefore}
 use Rattle.element_envelope.specs.Envelopes.{ListSplit, list_sum}
 use Rattle.element_envelope.specs.ConvolutionLaws.{PairsConvolveWindows, PairsConvolveCurves}

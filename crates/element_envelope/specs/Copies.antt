@@ -2,16 +2,16 @@
 -- the convolution. (Bouillard, Boyer and Le Corronc: the convolution of piecewise linear functions; the law is our own
 -- choice.)
 use Rattle.std.specs.Prelude.{◌⊎◌, ◌≡◌, pos, List, [], ◌∷◌, ◌++◌, Option, None}
-use Rattle.rational.specs.Rational.{ℚ, ◌-ℚ◌, ◌≤ℚ◌, ◌<ℚ◌, int}
-use Rattle.rational.specs.Extended.{Ext, ◌≤ₑ◌, ◌+ₑ◌, min_ext}
-use Rattle.rational.specs.declared.Extended.TheVariants.{Inf}
-use Rattle.rational.specs.Bounds.{IsInfimum}
-use Rattle.affine_segment.specs.declared.line.Line.{Line}
-use Rattle.affine_segment.specs.declared.line.Piece.{Piece}
-use Rattle.affine_segment.specs.Pieces.{StartsAtZero}
-use Rattle.affine_segment.specs.Reading.{read}
-use Rattle.affine_segment.specs.Values.{line_value}
-use Rattle.min_plus.specs.Convolution.{IsConvolution}
+use Rattle.curve_call.specs.rational.specs.Rational.{ℚ, ◌-ℚ◌, ◌≤ℚ◌, ◌<ℚ◌, int}
+use Rattle.curve_call.specs.rational.specs.Extended.{Ext, ◌≤ₑ◌, ◌+ₑ◌, min_ext}
+use Rattle.curve_call.specs.rational.specs.declared.Extended.TheVariants.{Inf}
+use Rattle.curve_call.specs.rational.specs.Bounds.{IsInfimum}
+use Rattle.curve_call.specs.affine_segment.specs.declared.line.Line.{Line}
+use Rattle.curve_call.specs.affine_segment.specs.declared.line.Piece.{Piece}
+use Rattle.curve_call.specs.affine_segment.specs.Pieces.{StartsAtZero}
+use Rattle.curve_call.specs.affine_segment.specs.Reading.{read}
+use Rattle.curve_call.specs.affine_segment.specs.Values.{line_value}
+use Rattle.curve_call.specs.min_plus.specs.Convolution.{IsConvolution}
 
 -- ---- the least of the copies
 -- p is one of these

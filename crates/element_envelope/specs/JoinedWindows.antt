@@ -1,15 +1,15 @@
 -- What two elements make as a window: pieces from 0 on, infinite where no part is. Own choice.
 use Rattle.std.specs.Prelude.{◌≡◌, pos, cond, List, [], ◌∷◌, ◌++◌, Option, Some, None}
-use Rattle.rational.specs.Rational.{ℚ, ◌≤ℚ◌, int, le_q}
-use Rattle.rational.specs.Extended.{Ext}
-use Rattle.rational.specs.declared.Extended.TheVariants.{Fin, Inf}
-use Rattle.affine_segment.specs.declared.line.Piece.{Piece}
-use Rattle.affine_segment.specs.declared.element.Element.{Element}
-use Rattle.affine_segment.specs.declared.element.Element.TheVariants.{Point, Open}
-use Rattle.affine_segment.specs.declared.element.Joined.{Joined}
-use Rattle.affine_segment.specs.Elements.{start_of, joined_value}
-use Rattle.affine_segment.specs.Reading.{read, nothing_at}
-use Rattle.affine_segment.specs.Pieces.{StartsAtZero}
+use Rattle.curve_call.specs.rational.specs.Rational.{ℚ, ◌≤ℚ◌, int, le_q}
+use Rattle.curve_call.specs.rational.specs.Extended.{Ext}
+use Rattle.curve_call.specs.rational.specs.declared.Extended.TheVariants.{Fin, Inf}
+use Rattle.curve_call.specs.affine_segment.specs.declared.line.Piece.{Piece}
+use Rattle.curve_call.specs.affine_segment.specs.declared.element.Element.{Element}
+use Rattle.curve_call.specs.affine_segment.specs.declared.element.Element.TheVariants.{Point, Open}
+use Rattle.curve_call.specs.affine_segment.specs.declared.element.Joined.{Joined}
+use Rattle.curve_call.specs.affine_segment.specs.Elements.{start_of, joined_value}
+use Rattle.curve_call.specs.affine_segment.specs.Reading.{read, nothing_at}
+use Rattle.curve_call.specs.affine_segment.specs.Pieces.{StartsAtZero}
 
 -- from an end on
 abbrev pub after_end : Ext → List Piece

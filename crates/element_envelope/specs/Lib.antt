@@ -15,3 +15,4 @@ pub mod CopyWindows
 pub mod Turnings
 pub mod LimitCopies
 pub mod NearStarts
+pub mod Found

@@ -1,11 +1,11 @@
 -- The lower of two windows of what elements make. Own choice.
 use Rattle.std.specs.Prelude.{List}
-use Rattle.rational.specs.Rational.{ℚ}
-use Rattle.affine_segment.specs.declared.line.Piece.{Piece}
-use Rattle.upp_limits.specs.Limits.{Sizes}
-use Rattle.upp_normal.specs.Operand.{AreLimited}
-use Rattle.curve_window.specs.Stretches.{CutsFit}
-use Rattle.curve_window.specs.Lower.{LowerFits, IsLowerOf}
+use Rattle.curve_call.specs.rational.specs.Rational.{ℚ}
+use Rattle.curve_call.specs.affine_segment.specs.declared.line.Piece.{Piece}
+use Rattle.curve_call.specs.upp_limits.specs.Limits.{Sizes}
+use Rattle.curve_call.specs.upp_normal.specs.Operand.{AreLimited}
+use Rattle.curve_call.specs.Stretches.{CutsFit}
+use Rattle.curve_call.specs.Lower.{LowerFits, IsLowerOf}
 use Rattle.element_envelope.specs.SumWindows.{SumWindow}
 
 -- no step that cuts two of them is too wide

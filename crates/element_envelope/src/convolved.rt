@@ -12,9 +12,9 @@ use crate::cutting::cut;
 use crate::least::{envelope, lower_joined};
 use crate::near::{near_starts, steepest};
 use crate::starts::{are_low_at_starts, turning_starts};
-use affine_segment::Piece;
-use fraction128::Frac;
-use rational::Extended;
+use curve_call::affine_segment::Piece;
+use curve_call::fraction128::Frac;
+use curve_call::rational::Extended;
 use std::alloc::{AllocError, Global};
 
 // The least of the copies of g at some starts, of which those are left out that are so far above the first one that their

@@ -3,9 +3,9 @@
 ghost use Rattle.std.specs.Prelude.{◌≡◌, ◌+◌, ◌<◌, ◌++◌, length, drop, OnOk, IfOk};
 ghost use Rattle.element_envelope.specs.PieceElements.{point_of, segment_of, next_start, elements_of};
 
-use affine_segment::{Element, Piece};
-use fraction128::Ext;
-use rational::Extended;
+use curve_call::affine_segment::{Element, Piece};
+use curve_call::fraction128::Ext;
+use curve_call::rational::Extended;
 use std::alloc::{AllocError, Global};
 
 // Where the piece after the i-th starts; `end` where there is none.

@@ -7,6 +7,8 @@ ghost use Rattle.element_envelope.specs.Copies.{StartsSuffice, CopyRules};
 ghost use Rattle.element_envelope.specs.LimitCopies.{LimitsSuffice};
 ghost use Rattle.element_envelope.specs.Turnings.{TurnsSuffice};
 ghost use Rattle.element_envelope.specs.RoomLaws.{ElementsStand, JoinedStand};
+ghost use Rattle.element_envelope.specs.Found.{PairsExist, EnvelopesExist};
+ghost use Rattle.element_envelope.specs.Found.{ConvolutionsFromExist, ConvolutionWindowsExist};
 
 /// The elements of pieces: each reads as the pieces at its times, and a time with a finite value is a time of exactly
 /// one of them.
@@ -61,4 +63,16 @@ pub fn limits_suffice()
 /// How the least of copies comes from that of parts of the starts, and of one start.
 pub fn copies_join()
     ensures { CopyRules }
+{}
+
+/// What two elements make exists, and so does the least of all pairs of two lists of them, as a window.
+pub fn envelopes_exist()
+    ensures pairs { PairsExist }
+    ensures lists { EnvelopesExist }
+{}
+
+/// Two windows of operands have a convolution, as a window; and so have two that are made of operands', from a time on.
+pub fn window_convolutions_exist()
+    ensures from { ConvolutionsFromExist }
+    ensures windows { ConvolutionWindowsExist }
 {}

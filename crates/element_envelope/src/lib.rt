@@ -13,6 +13,7 @@ mod window;
 
 pub use convolved::{window_convolution, window_convolution_from};
 pub use cutting::cut;
+pub use laws::{envelopes_exist, window_convolutions_exist};
 pub use least::envelope;
 pub use pair::joined;
 pub use window::joined_window;

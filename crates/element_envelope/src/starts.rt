@@ -1,17 +1,17 @@
 //! Whether pieces are nowhere above the limits beside a start, and the starts at which they do not bend downwards.
 
 ghost use Rattle.std.specs.Prelude.{◌≡◌, IsTrue, IfOk, None};
-ghost use Rattle.rational.specs.Rational.{ℚ, ◌<ℚ◌};
-ghost use Rattle.rational.specs.Extended.{◌≤ₑ◌};
-ghost use Rattle.affine_segment.specs.Values.{line_at, line_value};
-ghost use Rattle.affine_segment.specs.Fits.{LineFits, LineFitsAt};
+ghost use Rattle.curve_call.specs.rational.specs.Rational.{ℚ, ◌<ℚ◌};
+ghost use Rattle.curve_call.specs.rational.specs.Extended.{◌≤ₑ◌};
+ghost use Rattle.curve_call.specs.affine_segment.specs.Values.{line_at, line_value};
+ghost use Rattle.curve_call.specs.affine_segment.specs.Fits.{LineFits, LineFitsAt};
 ghost use Rattle.element_envelope.specs.Copies.{LowAtStarts};
 ghost use Rattle.element_envelope.specs.CopyWindows.{HaveWindowRoom};
 ghost use Rattle.element_envelope.specs.Turnings.{BendsDown, IsThinned};
 
-use affine_segment::{Line, Piece, value};
-use fraction128::{Ext, Frac, is_less};
-use rational::Extended;
+use curve_call::affine_segment::{Line, Piece, value};
+use curve_call::fraction128::{Ext, Frac, is_less};
+use curve_call::rational::Extended;
 use std::alloc::{AllocError, Global};
 
 // Whether a value is at most that of a line at x; no line is infinity.

@@ -9,8 +9,8 @@ use Rattle.min_plus.specs.Functions.{zero_q}
 use Rattle.upp_curve.specs.Curve.{SpecCurve}
 use Rattle.upp_curve.specs.Kinds.{rate_latency, stair}
 use Rattle.upp_curve.specs.Steady.{steady, same_ext}
-use Rattle.net_model.proofs.PlainNets.{each_passes}
-use Rattle.upp_kinds.proofs.Worked.{computing}
+use Rattle.net_graph.specs.net_model.proofs.PlainNets.{each_passes}
+use Rattle.upp_curve.proofs.Worked.{computing}
 use Rattle.upp_limits.specs.Limits.{gauge_of, own_end, own_sizes, own_gauge, own_tally}
 use Rattle.upp_limits.specs.OwnLimits.{IsWithinOwn}
 use Rattle.upp_limits.specs.Periods.{own_period}

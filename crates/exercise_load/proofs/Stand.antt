@@ -14,17 +14,17 @@ use Rattle.rational.proofs.Integers.{nat_nonneg, nat_lt}
 use Rattle.rational.proofs.Laws.{le_refl}
 use Rattle.min_plus.specs.Functions.{zero_q}
 use Rattle.run_laws.specs.Servers.{Fifo, Priority, Drr, queue_count}
-use Rattle.net_model.specs.Accepted.{IsAccepted, IsServer, IsFlow, IsHop, IsInQuantum, HasFewQueues, IsLength}
-use Rattle.net_model.specs.declared.trace.TracePacket.{TracePacket}
-use Rattle.net_model.specs.Names.{IsName, is_name_byte, DifferInName}
-use Rattle.net_model.specs.Networks.{NetServer, NetFlow}
-use Rattle.net_model.specs.declared.flow.Flow.{Flow}
-use Rattle.net_model.specs.declared.server.Server.{Server}
-use Rattle.net_model.specs.Views.{net_of, servers_of, flows_of}
-use Rattle.net_model.specs.Walks.{IsNext, IsStep, Chain, IsFeedForward}
-use Rattle.net_model.proofs.KindsStand.{kinds_may_stand}
-use Rattle.net_model.proofs.PlainNets.{each_passes}
-use Rattle.net_model.proofs.Short.{all_of}
+use Rattle.net_graph.specs.net_model.specs.Accepted.{IsAccepted, IsServer, IsFlow, IsHop, IsInQuantum, HasFewQueues, IsLength}
+use Rattle.net_graph.specs.net_model.specs.declared.trace.TracePacket.{TracePacket}
+use Rattle.net_graph.specs.net_model.specs.Names.{IsName, is_name_byte, DifferInName}
+use Rattle.net_graph.specs.net_model.specs.Networks.{NetServer, NetFlow}
+use Rattle.net_graph.specs.net_model.specs.declared.flow.Flow.{Flow}
+use Rattle.net_graph.specs.net_model.specs.declared.server.Server.{Server}
+use Rattle.net_graph.specs.net_model.specs.Views.{net_of, servers_of, flows_of}
+use Rattle.net_graph.specs.net_model.specs.Walks.{IsNext, IsStep, Chain, IsFeedForward}
+use Rattle.net_graph.specs.net_model.proofs.KindsStand.{kinds_may_stand}
+use Rattle.net_graph.specs.net_model.proofs.PlainNets.{each_passes}
+use Rattle.net_graph.specs.net_model.proofs.Short.{all_of}
 use Rattle.stated_runs.specs.FromTraces.{IsLive}
 use Rattle.exercise_load.specs.declared.drawn.DrawnFlow.{DrawnFlow}
 use Rattle.exercise_load.specs.Bounds.{IsDrawn}

@@ -7,10 +7,10 @@ use Rattle.min_plus.specs.Functions.{zero_q}
 pub use Rattle.min_plus.specs.Functions.{whole}
 use Rattle.upp_curve.specs.Kinds.{rate_latency, stair}
 use Rattle.run_laws.specs.Servers.{Discipline, Fifo, Priority, Drr}
-use Rattle.net_model.specs.declared.server.ServiceKind.TheVariants.{Latency}
-use Rattle.net_model.specs.declared.trace.TracePacket.{TracePacket}
-use Rattle.net_model.specs.Networks.{Net, NetServer, NetFlow}
-use Rattle.net_model.specs.Traces.{SpecTrace}
+use Rattle.net_graph.specs.net_model.specs.declared.server.ServiceKind.TheVariants.{Latency}
+use Rattle.net_graph.specs.net_model.specs.declared.trace.TracePacket.{TracePacket}
+use Rattle.net_graph.specs.net_model.specs.Networks.{Net, NetServer, NetFlow}
+use Rattle.net_graph.specs.net_model.specs.Traces.{SpecTrace}
 use Rattle.exercise_load.specs.declared.drawn.DrawnFlow.{DrawnFlow}
 use Rattle.exercise_load.specs.Drawn.{drawn_flows}
 

@@ -5,14 +5,14 @@ ghost use Rattle.std.specs.List.{range_with_len};
 ghost use Rattle.std.specs.String.{string_bytes};
 ghost use Rattle.min_plus.specs.Functions.{zero_q};
 ghost use Rattle.upp_curve.specs.Kinds.{stair};
-ghost use Rattle.net_model.specs.Views as model;
+ghost use Rattle.net_graph.specs.net_model.specs.Views as model;
 ghost use Rattle.exercise_load.specs.Bounds.{IsDrawn, AreDrawn};
 ghost use Rattle.exercise_load.specs.Workloads as loads;
 
 use crate::drawn::DrawnFlow;
 use curve_library::{CurveFault, stair};
 use fraction128::Frac;
-use net_model::Flow;
+use net_graph::net_model::Flow;
 use std::alloc::{AllocError, Global};
 use upp_curve::Curve;
 

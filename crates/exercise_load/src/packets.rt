@@ -7,7 +7,7 @@ ghost use Rattle.exercise_load.specs.Workloads as loads;
 
 use crate::drawn::DrawnFlow;
 use fraction128::Frac;
-use net_model::TracePacket;
+use net_graph::net_model::TracePacket;
 use std::alloc::{AllocError, Global};
 
 /// Between two times at which flows send.

@@ -11,10 +11,10 @@ use Rattle.rational.proofs.ExtendedOrder.{le_ext_refl, le_ext_trans, max_left, m
 use Rattle.rational.proofs.Laws.{le_refl, le_trans}
 use Rattle.rational.proofs.MinMax.{max_q_ge_left, max_q_ge_right, max_q_one}
 use Rattle.min_plus.specs.Functions.{zero_q}
-use Rattle.net_model.specs.Networks.{Net, NetFlow}
-use Rattle.net_cells.specs.Meanings.{Meaning, curve, number, CellTable}
-use Rattle.net_cells.specs.Numbered.{flow_at}
-use Rattle.net_cells.proofs.Places.{live_inside}
+use Rattle.report_text.specs.net_model.specs.Networks.{Net, NetFlow}
+use Rattle.report_text.specs.net_cells.specs.Meanings.{Meaning, curve, number, CellTable}
+use Rattle.report_text.specs.net_cells.specs.Numbered.{flow_at}
+use Rattle.report_text.specs.net_cells.proofs.Places.{live_inside}
 use Rattle.exercise_report.specs.Largest.{number_alone, bound_cell, bound_of, bound_at, bounds, largest_bound, largest_delay}
 use Rattle.exercise_report.specs.SummaryLaws.{IsBoundOf, LargestBoundIsOne, LargestDelayIsOne}
 use Rattle.exercise_report.proofs.Folds.{Greater, from, each, one}

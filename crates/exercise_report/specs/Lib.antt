@@ -1,3 +1,4 @@
 pub mod Largest
 pub mod Summary
 pub mod SummaryLaws
+pub use Rattle.exercise_load as exercise_load

@@ -4,8 +4,8 @@ use Rattle.std.specs.Fmt.{decimal}
 use Rattle.rational.specs.Extended.{Ext}
 use Rattle.fraction128.specs.Text.{text_of}
 use Rattle.plain_text.specs.Numbers.{number_text}
-use Rattle.net_model.specs.Networks.{Net}
-use Rattle.net_cells.specs.Meanings.{CellTable}
+use Rattle.report_text.specs.net_model.specs.Networks.{Net}
+use Rattle.report_text.specs.net_cells.specs.Meanings.{CellTable}
 use Rattle.report_text.specs.Report.{live_flows}
 use Rattle.report_text.specs.RunReport.{Found, breach_line}
 use Rattle.exercise_report.specs.Largest.{largest_bound, largest_delay}

@@ -5,12 +5,12 @@ ghost use Rattle.rational.specs.Extended.{max_ext};
 ghost use Rattle.std.specs.List.{fold};
 ghost use Rattle.exercise_report.specs.Largest as spec;
 
-use cell_table::Table;
 use fraction128::{Ext, Frac, greater, greater_value};
-use net_cells::{Cell, Kind, live_flow};
-use net_model::Network;
 use rational::Extended;
 use report_text::ShownValue;
+use report_text::cell_table::Table;
+use report_text::net_cells::{Cell, Kind, live_flow};
+use report_text::net_model::Network;
 
 // The greater of a value and the number of a cell, where the table has one.
 fn with_number<V: ShownValue, T: Table<V>>(most: Ext, table: &T, flow: u32) -> Ext

@@ -1,5 +1,5 @@
 -- The curve that the call makes serves the flow, since its values are what the others leave.
-use Rattle.upp_curve.specs.Curve.{value_at}
+use Rattle.curve_running.specs.upp_curve.specs.Curve.{value_at}
 use Rattle.fifo_residual.specs.Curves.{FifoCurveServes}
 use Rattle.fifo_residual.proofs.FifoClasses.{fifo_serves}
 

@@ -9,8 +9,8 @@ use Rattle.rational.proofs.MinMax.{max_q_left, max_q_right}
 use Rattle.rational.proofs.Laws.{le_refl, le_trans, le_of_lt, le_or_lt}
 use Rattle.rational.proofs.ExtendedOrder.{le_ext_refl, le_ext_trans, add_le_ext}
 use Rattle.rational.proofs.Linear.{with2, with3, with4, with5, with6, with7, with8}
-use Rattle.min_plus.specs.Pointwise.{excess}
-use Rattle.min_plus.specs.Running.{left_after}
+use Rattle.run_laws.specs.min_plus.specs.Pointwise.{excess}
+use Rattle.run_laws.specs.min_plus.specs.Running.{left_after}
 use Rattle.run_laws.specs.Cards.{size, Class, ServerStep}
 use Rattle.run_laws.proofs.Always.{IsAlwaysOfQueue, IsAlwaysPart, AreAlwaysParts}
 use Rattle.run_laws.specs.Servers.{Server}
@@ -26,7 +26,7 @@ use Rattle.run_laws.proofs.Orders.{left_worked}
 use Rattle.run_laws.proofs.Sizes.{size_pos}
 use Rattle.run_laws.proofs.Oldest.{oldest, Oldest}
 use Rattle.fifo_residual.specs.Laws.{IsResidual}
-use Rattle.curve_call.proofs.FiniteAnswers.{late_left}
+use Rattle.curve_running.specs.curve_call.proofs.FiniteAnswers.{late_left}
 
 -- ---- the parts
 left_is_part : (Q f g : Class) → AreAlwaysParts Q f g → IsAlwaysPart f Q

@@ -4,11 +4,11 @@ use Rattle.std.specs.Prelude.{Ok}
 use Rattle.rational.specs.Rational.{ℚ}
 use Rattle.rational.specs.Extended.{Ext, ◌≤ₑ◌}
 use Rattle.rational.specs.declared.Extended.TheVariants.{Fin}
-use Rattle.upp_limits.specs.declared.op_kind.OpKind.TheVariants.{FifoLeft}
-use Rattle.upp_curve.specs.Curve.{SpecCurve, value_at}
-use Rattle.min_plus.specs.Functions.{zero_q, IsFinite}
-use Rattle.curve_call.specs.Calls.{Applies}
-use Rattle.curve_call.specs.Growth.{GrowsFromZero, IsGrowingCurve}
+use Rattle.curve_running.specs.upp_limits.specs.declared.op_kind.OpKind.TheVariants.{FifoLeft}
+use Rattle.curve_running.specs.upp_curve.specs.Curve.{SpecCurve, value_at}
+use Rattle.run_laws.specs.min_plus.specs.Functions.{zero_q, IsFinite}
+use Rattle.curve_running.specs.curve_call.specs.Calls.{Applies}
+use Rattle.curve_running.specs.curve_call.specs.Growth.{GrowsFromZero, IsGrowingCurve}
 use Rattle.fifo_residual.specs.Laws.{IsResidual}
 
 -- R is what β leaves of the others' curve

@@ -4,7 +4,7 @@ use Rattle.std.specs.Prelude.{ℕ, pos, List}
 use Rattle.rational.specs.Rational.{ℚ, int, ◌≤ℚ◌}
 use Rattle.rational.specs.Extended.{Ext, ◌≤ₑ◌}
 use Rattle.rational.specs.declared.Extended.TheVariants.{Fin}
-use Rattle.min_plus.specs.Running.{IsFifoLeftover}
+use Rattle.run_laws.specs.min_plus.specs.Running.{IsFifoLeftover}
 use Rattle.run_laws.specs.Cards.{Class, ServerStep}
 use Rattle.run_laws.specs.Classes.{IsOfQueue, AreParts}
 use Rattle.run_laws.specs.Servers.{Server}

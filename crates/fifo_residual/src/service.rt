@@ -1,21 +1,21 @@
 //! What the other flows of a first in, first out queue leave to one.
 
 ghost use Rattle.std.specs.Prelude.{◌≡◌, ◌+◌, IfOk};
-ghost use Rattle.upp_limits.specs.declared.op_kind.OpKind.TheVariants.{FifoLeft};
-ghost use Rattle.upp_curve.specs.Curve.{value_at};
-ghost use Rattle.min_plus.specs.Deviations.{IsHorizontalDeviation};
-ghost use Rattle.min_plus.specs.Functions.{IsFinite, IsRising, IsNonnegative};
-ghost use Rattle.curve_call.specs.Calls.{Applies};
+ghost use Rattle.curve_running.specs.upp_limits.specs.declared.op_kind.OpKind.TheVariants.{FifoLeft};
+ghost use Rattle.curve_running.specs.upp_curve.specs.Curve.{value_at};
+ghost use Rattle.run_laws.specs.min_plus.specs.Deviations.{IsHorizontalDeviation};
+ghost use Rattle.run_laws.specs.min_plus.specs.Functions.{IsFinite, IsRising, IsNonnegative};
+ghost use Rattle.curve_running.specs.curve_call.specs.Calls.{Applies};
 ghost use Rattle.fifo_residual.specs.Laws.{IsResidual};
 
-use curve_call::intact;
-use curve_envelope::fifo_left;
-use fraction128::Ext;
+use curve_running::curve_call::intact;
+use curve_running::fifo_left;
+use curve_running::fraction128::Ext;
+use curve_running::upp_curve::Curve;
+use curve_running::upp_limits::OpFault;
 use std::alloc::Global;
 use std::sync::ledger::Ledger;
 use steps::Steps;
-use upp_curve::Curve;
-use upp_limits::OpFault;
 
 /// The service of a flow of a first in, first out queue that is served by `beta`, where the other flows of the queue
 /// keep the curve `cross`: what first in, first out leaves of beta, by the wait `theta` (Le Boudec and Thiran, chapter

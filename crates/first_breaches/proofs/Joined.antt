@@ -5,15 +5,15 @@ use Rattle.std.proofs.lemmas.Bool.{cases_lt}
 use Rattle.std.proofs.lemmas.List.{length-map}
 use Rattle.rational.specs.Rational.{ℚ, ◌≤ℚ◌}
 use Rattle.rational.proofs.Laws.{lt_cases, lt_irrefl, lt_le_trans}
-use Rattle.run_laws.specs.Runs.{SpecRun}
-use Rattle.run_laws.specs.Cards.{whole}
-use Rattle.run_laws.proofs.Sizes.{whole_lt}
-use Rattle.net_model.specs.declared.breach.Breach.{Breach}
-use Rattle.net_model.specs.declared.breach.Breach.TheVariants.{Size, Arrival, Service}
-use Rattle.net_model.specs.Networks.{Net}
-use Rattle.net_model.specs.NetRoutes.{server_for}
+use Rattle.net_cells.specs.run_laws.specs.Runs.{SpecRun}
+use Rattle.net_cells.specs.run_laws.specs.Cards.{whole}
+use Rattle.net_cells.specs.run_laws.proofs.Sizes.{whole_lt}
+use Rattle.net_cells.specs.net_model.specs.declared.breach.Breach.{Breach}
+use Rattle.net_cells.specs.net_model.specs.declared.breach.Breach.TheVariants.{Size, Arrival, Service}
+use Rattle.net_cells.specs.net_model.specs.Networks.{Net}
+use Rattle.net_cells.specs.net_model.specs.NetRoutes.{server_for}
 use Rattle.net_cells.proofs.Places.{live_inside}
-use Rattle.watch_laws.specs.Breaches.{order_key, NoLater}
+use Rattle.run_watch.specs.watch_laws.specs.Breaches.{order_key, NoLater}
 use Rattle.run_watch.specs.declared.found.Found.{Found}
 use Rattle.run_watch.specs.FirstOf.{time_of, IsBest, earlier, GoesBefore, IsBoth}
 use Rattle.run_watch.proofs.FirstOfTwo.{first_of_both}

@@ -6,25 +6,25 @@ use Rattle.std.proofs.lemmas.List.{length-map}
 use Rattle.std.proofs.lemmas.Option.{slice_get_cases}
 use Rattle.rational.specs.Rational.{ℚ}
 use Rattle.rational.proofs.ExtendedOrder.{same_le_ext}
-use Rattle.upp_curve.specs.Curve.{SpecCurve, value_at}
+use Rattle.net_cells.specs.upp_curve.specs.Curve.{SpecCurve, value_at}
 use Rattle.min_plus.specs.Functions.{IsRising, IsNonnegative}
-use Rattle.upp_curve.specs.Curves.{IsCurve}
-use Rattle.run_laws.specs.Runs.{SpecRun}
-use Rattle.run_laws.specs.Routes.{route_of, server_at}
-use Rattle.run_laws.specs.Lawful.{IsLawful}
-use Rattle.run_laws.specs.Views.{view}
-use Rattle.run_laws.proofs.Views.{views_are_lawful}
-use Rattle.net_model.specs.declared.breach.Breach.{Breach}
-use Rattle.net_model.specs.declared.breach.Breach.TheVariants.{Size, Arrival, Service}
-use Rattle.net_model.specs.Networks.{Net, NetServer, NetFlow}
-use Rattle.net_model.specs.NetRoutes.{routes_of, server_for}
-use Rattle.net_model.specs.Accepted.{IsAccepted, IsServer}
+use Rattle.net_cells.specs.upp_curve.specs.Curves.{IsCurve}
+use Rattle.net_cells.specs.run_laws.specs.Runs.{SpecRun}
+use Rattle.net_cells.specs.run_laws.specs.Routes.{route_of, server_at}
+use Rattle.net_cells.specs.run_laws.specs.Lawful.{IsLawful}
+use Rattle.net_cells.specs.run_laws.specs.Views.{view}
+use Rattle.net_cells.specs.run_laws.proofs.Views.{views_are_lawful}
+use Rattle.net_cells.specs.net_model.specs.declared.breach.Breach.{Breach}
+use Rattle.net_cells.specs.net_model.specs.declared.breach.Breach.TheVariants.{Size, Arrival, Service}
+use Rattle.net_cells.specs.net_model.specs.Networks.{Net, NetServer, NetFlow}
+use Rattle.net_cells.specs.net_model.specs.NetRoutes.{routes_of, server_for}
+use Rattle.net_cells.specs.net_model.specs.Accepted.{IsAccepted, IsServer}
 use Rattle.net_cells.specs.Numbered.{flow_at, is_live, packet, packet_of, arrival, arrival_of, service, service_of}
 use Rattle.net_cells.proofs.Stored.{flow_kept, server_kept}
-use Rattle.watch_laws.specs.Entries.{entries, entering, IsCrowded}
-use Rattle.watch_laws.specs.Breaches.{IsIdle, IsTooSlow}
-use Rattle.watch_laws.specs.Laws.{MayArrive, MayServe, HaveCurves}
-use Rattle.watch_laws.proofs.Premises.{breaches_tell, watch_points_suffice}
+use Rattle.run_watch.specs.watch_laws.specs.Entries.{entries, entering, IsCrowded}
+use Rattle.run_watch.specs.watch_laws.specs.Breaches.{IsIdle, IsTooSlow}
+use Rattle.run_watch.specs.watch_laws.specs.Laws.{MayArrive, MayServe, HaveCurves}
+use Rattle.run_watch.specs.watch_laws.proofs.Premises.{breaches_tell, watch_points_suffice}
 use Rattle.run_watch.specs.declared.found.Found.{Found}
 use Rattle.run_watch.specs.FirstOf.{IsBest, IsLongOn, IsCrowdOn, IsIdleOn}
 use Rattle.first_breaches.specs.Firsts.{TellsFirst, kind_of, IsOne, IsOfKinds, HaveServices}

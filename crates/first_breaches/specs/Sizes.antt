@@ -3,19 +3,19 @@
 use Rattle.std.specs.Prelude.{ℕ, ◌+◌, ◌<◌, ◌≤◌, ◌^◌, IsTrue, List, [], ◌∷◌, length}
 use Rattle.std.specs.List.{AllByRecursion}
 use Rattle.rational.specs.Rational.{ℚ, ◌-ℚ◌, ◌/ℚ◌}
-use Rattle.upp_limits.specs.Limits.{Sizes, curve_numbers}
-use Rattle.upp_limits.specs.Sized.{IsSlope, Stands}
-use Rattle.upp_normal.specs.Operand.{AreLimited}
-use Rattle.run_laws.specs.declared.steps.Step.{Step}
-use Rattle.run_laws.specs.declared.steps.Step.TheVariants.{Enter, Reach, Work, Leave, Visit}
-use Rattle.run_laws.specs.Cards.{ServerStep, Arrives, Works, Leaves, Visits}
-use Rattle.run_laws.specs.Runs.{SpecRun}
-use Rattle.run_laws.specs.Views.{view}
-use Rattle.net_model.specs.Networks.{Net}
-use Rattle.net_model.specs.NetRoutes.{routes_of}
+use Rattle.net_cells.specs.upp_limits.specs.Limits.{Sizes, curve_numbers}
+use Rattle.net_cells.specs.upp_limits.specs.Sized.{IsSlope, Stands}
+use Rattle.run_watch.specs.upp_normal.specs.Operand.{AreLimited}
+use Rattle.net_cells.specs.run_laws.specs.declared.steps.Step.{Step}
+use Rattle.net_cells.specs.run_laws.specs.declared.steps.Step.TheVariants.{Enter, Reach, Work, Leave, Visit}
+use Rattle.net_cells.specs.run_laws.specs.Cards.{ServerStep, Arrives, Works, Leaves, Visits}
+use Rattle.net_cells.specs.run_laws.specs.Runs.{SpecRun}
+use Rattle.net_cells.specs.run_laws.specs.Views.{view}
+use Rattle.net_cells.specs.net_model.specs.Networks.{Net}
+use Rattle.net_cells.specs.net_model.specs.NetRoutes.{routes_of}
 use Rattle.net_cells.specs.Numbered.{is_live, arrival, service}
-use Rattle.watch_laws.specs.Entries.{entries}
-use Rattle.watch_laws.specs.MarkSizes.{IsTime}
+use Rattle.run_watch.specs.watch_laws.specs.Entries.{entries}
+use Rattle.run_watch.specs.watch_laws.specs.MarkSizes.{IsTime}
 
 -- work starts and ends at times of the run, and its pace counts as a slope
 pub record IsWorkTime (z : Sizes) (end a b w : ℚ) : Type 0 where

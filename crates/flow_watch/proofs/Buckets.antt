@@ -12,22 +12,22 @@ use Rattle.rational.specs.MinMax.{min_q, max_q}
 use Rattle.rational.proofs.MinMax.{max_q_ge_left, max_q_ge_right, min_q_le_left, min_q_le_right}
 use Rattle.rational.proofs.Over.{le_q_in}
 use Rattle.rational.proofs.Linear.{with2, with3, with4, with_atoms, sub_nonneg}
-use Rattle.affine_segment.specs.declared.line.Line.{Line}
-use Rattle.affine_segment.specs.declared.line.Piece.{Piece}
-use Rattle.affine_segment.specs.Pieces.{StartsAtZero}
-use Rattle.affine_segment.specs.Reading.{piece_value, read}
-use Rattle.affine_segment.proofs.PieceIn.{read_go, read_one, read_stop}
-use Rattle.upp_curve.specs.declared.curve.Tail.{Tail}
-use Rattle.upp_curve.specs.declared.curve.Tail.TheVariants.{Periodic, Affine, Infinite}
-use Rattle.upp_curve.specs.Curve.{SpecCurve, value_at}
-use Rattle.upp_curve.specs.Curves.{IsCurve}
+use Rattle.step_lines.specs.affine_segment.specs.declared.line.Line.{Line}
+use Rattle.step_lines.specs.affine_segment.specs.declared.line.Piece.{Piece}
+use Rattle.step_lines.specs.affine_segment.specs.Pieces.{StartsAtZero}
+use Rattle.step_lines.specs.affine_segment.specs.Reading.{piece_value, read}
+use Rattle.step_lines.specs.affine_segment.proofs.PieceIn.{read_go, read_one, read_stop}
+use Rattle.step_lines.specs.upp_curve.specs.declared.curve.Tail.{Tail}
+use Rattle.step_lines.specs.upp_curve.specs.declared.curve.Tail.TheVariants.{Periodic, Affine, Infinite}
+use Rattle.step_lines.specs.upp_curve.specs.Curve.{SpecCurve, value_at}
+use Rattle.step_lines.specs.upp_curve.specs.Curves.{IsCurve}
 use Rattle.curve_values.specs.Early.{IsEarly}
 use Rattle.curve_values.proofs.KeptValues.{early_value}
-use Rattle.run_laws.specs.Cards.{whole}
-use Rattle.run_laws.proofs.Sizes.{whole_sum}
-use Rattle.watch_laws.specs.declared.entering.Entering.{Entering}
-use Rattle.watch_laws.specs.Entries.{entering, bits_to, bits_between}
-use Rattle.watch_laws.specs.Segments.{next_start}
+use Rattle.step_lines.specs.run_laws.specs.Cards.{whole}
+use Rattle.step_lines.specs.run_laws.proofs.Sizes.{whole_sum}
+use Rattle.step_lines.specs.watch_laws.specs.declared.entering.Entering.{Entering}
+use Rattle.step_lines.specs.watch_laws.specs.Entries.{entering, bits_to, bits_between}
+use Rattle.step_lines.specs.watch_laws.specs.Segments.{next_start}
 use Rattle.flow_watch.specs.Flows.{FlowReads, NoneCrowded, IsUnderLine, IsUnderPiece, KeepsBucket, TimesRiseIn, gap, KeepsPiece, KeepsAt, KeepsBefore, IsRaised, IsLevel, first_time, last_time}
 use Rattle.flow_watch.specs.Repeats.{HasAtLeast}
 use Rattle.flow_watch.proofs.EntryLists.{bits_past, bits_one_more}

@@ -6,11 +6,11 @@ use Rattle.std.proofs.lemmas.Bool.{cases_lt}
 use Rattle.rational.specs.Rational.{ℚ, int, ◌-ℚ◌}
 use Rattle.rational.specs.Extended.{Ext, ◌<ₑ◌}
 use Rattle.rational.specs.declared.Extended.TheVariants.{Fin}
-use Rattle.upp_curve.specs.Curve.{SpecCurve}
-use Rattle.upp_normal.specs.Unrolling.{IsOperandTo}
-use Rattle.run_laws.specs.Cards.{whole}
-use Rattle.watch_laws.specs.declared.entering.Entering.{Entering}
-use Rattle.watch_laws.specs.Entries.{entering, bits_between, IsCrowded}
+use Rattle.step_lines.specs.upp_curve.specs.Curve.{SpecCurve}
+use Rattle.step_lines.specs.upp_normal.specs.Unrolling.{IsOperandTo}
+use Rattle.step_lines.specs.run_laws.specs.Cards.{whole}
+use Rattle.step_lines.specs.watch_laws.specs.declared.entering.Entering.{Entering}
+use Rattle.step_lines.specs.watch_laws.specs.Entries.{entering, bits_between, IsCrowded}
 use Rattle.flow_watch.specs.Flows.{WindowReads, FlowReads, NoneCrowdedFrom, FindsFirst}
 use Rattle.flow_watch.proofs.EntryLists.{bits_one_more}
 

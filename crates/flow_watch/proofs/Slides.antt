@@ -6,10 +6,10 @@ use Rattle.std.proofs.lemmas.Bool.{cases_lt}
 use Rattle.rational.specs.Rational.{ℚ, int, ◌-ℚ◌, ◌≤ℚ◌, ◌<ℚ◌}
 use Rattle.rational.proofs.Laws.{le_trans, le_lt_trans, lt_irrefl}
 use Rattle.rational.proofs.Linear.{with_atoms}
-use Rattle.run_laws.specs.Cards.{whole}
-use Rattle.run_laws.proofs.Sizes.{whole_le}
-use Rattle.watch_laws.specs.declared.entering.Entering.{Entering}
-use Rattle.watch_laws.specs.Entries.{entering, bits_between}
+use Rattle.step_lines.specs.run_laws.specs.Cards.{whole}
+use Rattle.step_lines.specs.run_laws.proofs.Sizes.{whole_le}
+use Rattle.step_lines.specs.watch_laws.specs.declared.entering.Entering.{Entering}
+use Rattle.step_lines.specs.watch_laws.specs.Entries.{entering, bits_between}
 use Rattle.flow_watch.specs.Flows.{TimesRiseIn, gap, KeepsBefore, IsNarrow}
 use Rattle.flow_watch.proofs.Buckets.{between_more, own_bits}
 use Rattle.flow_watch.proofs.EntryLists.{bits_one_more}

@@ -4,17 +4,17 @@ use Rattle.rational.specs.Rational.{ℚ, int, ◌+ℚ◌, ◌-ℚ◌, ◌*ℚ◌
 use Rattle.rational.specs.Ratio.{SumFits}
 use Rattle.rational.specs.Extended.{Ext, ◌≤ₑ◌}
 use Rattle.rational.specs.declared.Extended.TheVariants.{Fin}
-use Rattle.affine_segment.specs.declared.line.Line.{Line}
-use Rattle.affine_segment.specs.declared.line.Piece.{Piece}
-use Rattle.affine_segment.specs.Reading.{piece_value}
-use Rattle.upp_curve.specs.Curve.{SpecCurve}
-use Rattle.upp_normal.specs.Unrolling.{IsOperandTo}
-use Rattle.run_laws.specs.Cards.{whole}
-use Rattle.run_laws.specs.declared.steps.Step.{Step}
-use Rattle.run_laws.specs.declared.steps.Step.TheVariants.{Enter, Reach, Work, Leave, Visit}
-use Rattle.watch_laws.specs.declared.entering.Entering.{Entering}
-use Rattle.watch_laws.specs.Entries.{entering, bits_between, IsCrowded}
-use Rattle.watch_laws.specs.Segments.{next_start}
+use Rattle.step_lines.specs.affine_segment.specs.declared.line.Line.{Line}
+use Rattle.step_lines.specs.affine_segment.specs.declared.line.Piece.{Piece}
+use Rattle.step_lines.specs.affine_segment.specs.Reading.{piece_value}
+use Rattle.step_lines.specs.upp_curve.specs.Curve.{SpecCurve}
+use Rattle.step_lines.specs.upp_normal.specs.Unrolling.{IsOperandTo}
+use Rattle.step_lines.specs.run_laws.specs.Cards.{whole}
+use Rattle.step_lines.specs.run_laws.specs.declared.steps.Step.{Step}
+use Rattle.step_lines.specs.run_laws.specs.declared.steps.Step.TheVariants.{Enter, Reach, Work, Leave, Visit}
+use Rattle.step_lines.specs.watch_laws.specs.declared.entering.Entering.{Entering}
+use Rattle.step_lines.specs.watch_laws.specs.Entries.{entering, bits_between, IsCrowded}
+use Rattle.step_lines.specs.watch_laws.specs.Segments.{next_start}
 
 -- the packet that enters on the flow by this step, if one does
 abbrev pub entering_in : ℕ → Step → Option Entering

@@ -4,12 +4,12 @@ use Rattle.std.specs.Prelude.{◌≡◌, ℕ, pos, ◌<◌, ◌≤◌, List, [],
 use Rattle.rational.specs.Rational.{ℚ, int, ◌+ℚ◌, ◌-ℚ◌, ◌*ℚ◌, ◌≤ℚ◌, ◌<ℚ◌}
 use Rattle.rational.specs.Extended.{◌≤ₑ◌}
 use Rattle.rational.specs.declared.Extended.TheVariants.{Fin}
-use Rattle.affine_segment.specs.declared.line.Piece.{Piece}
-use Rattle.affine_segment.specs.Reading.{piece_value}
-use Rattle.run_laws.specs.Cards.{whole}
-use Rattle.watch_laws.specs.declared.entering.Entering.{Entering}
-use Rattle.watch_laws.specs.Entries.{bits_between}
-use Rattle.watch_laws.specs.Segments.{next_start}
+use Rattle.step_lines.specs.affine_segment.specs.declared.line.Piece.{Piece}
+use Rattle.step_lines.specs.affine_segment.specs.Reading.{piece_value}
+use Rattle.step_lines.specs.run_laws.specs.Cards.{whole}
+use Rattle.step_lines.specs.watch_laws.specs.declared.entering.Entering.{Entering}
+use Rattle.step_lines.specs.watch_laws.specs.Entries.{bits_between}
+use Rattle.step_lines.specs.watch_laws.specs.Segments.{next_start}
 use Rattle.flow_watch.specs.declared.repeats.Cover.{Cover}
 use Rattle.flow_watch.specs.declared.repeats.Climb.{Climb}
 use Rattle.flow_watch.specs.Flows.{gap, KeepsPiece}

@@ -4,10 +4,10 @@ use Rattle.std.specs.Prelude.{◌≡◌, ℕ, suc, pos, ◌<◌, List, [], ◌�
 use Rattle.rational.specs.Rational.{ℚ, int, ◌+ℚ◌, ◌*ℚ◌, ◌≤ℚ◌, ◌<ℚ◌}
 use Rattle.rational.specs.Extended.{Ext, ◌≤ₑ◌}
 use Rattle.rational.specs.declared.Extended.TheVariants.{Fin}
-use Rattle.affine_segment.specs.declared.line.Piece.{Piece}
-use Rattle.affine_segment.specs.Reading.{piece_value}
-use Rattle.run_laws.specs.Cards.{whole}
-use Rattle.watch_laws.specs.Segments.{next_start}
+use Rattle.step_lines.specs.affine_segment.specs.declared.line.Piece.{Piece}
+use Rattle.step_lines.specs.affine_segment.specs.Reading.{piece_value}
+use Rattle.step_lines.specs.run_laws.specs.Cards.{whole}
+use Rattle.step_lines.specs.watch_laws.specs.Segments.{next_start}
 
 -- ---- pieces
 -- so many steps fit under v

@@ -3,24 +3,24 @@
 ghost use Rattle.std.specs.Prelude.{◌≡◌, ◌↔◌, ℕ, ◌<◌, ◌≤◌, ◌^◌, length, drop, IfOk, IfSome, IsTrue, MatchOption};
 ghost use Rattle.rational.specs.Rational.{◌-ℚ◌, ◌≤ℚ◌};
 ghost use Rattle.rational.specs.Extended.{◌<ₑ◌};
-ghost use Rattle.upp_curve.specs.Curve.{value_at};
-ghost use Rattle.upp_normal.specs.Unrolling.{IsOperandTo};
-ghost use Rattle.run_laws.specs.Cards.{whole};
-ghost use Rattle.watch_laws.specs.Entries.{entries};
+ghost use Rattle.step_lines.specs.upp_curve.specs.Curve.{value_at};
+ghost use Rattle.step_lines.specs.upp_normal.specs.Unrolling.{IsOperandTo};
+ghost use Rattle.step_lines.specs.run_laws.specs.Cards.{whole};
+ghost use Rattle.step_lines.specs.watch_laws.specs.Entries.{entries};
 ghost use Rattle.flow_watch.specs.Flows.{entering_in, NoneLonger, IsFirstLonger, FlowReads, FindsFirst, NoneCrowded, IsFirstCrowded, IsUnderLine, IsUnderPiece, KeepsBucket, TimesRiseIn, KeepsPiece, KeepsAt, IsRaised, first_time, last_time};
 
 use crate::ends::next_start;
 use crate::repeats::repeated_upto;
 use crate::sliding::before_upto;
 use crate::stairs::kept_upto;
-use affine_segment::{Line, Piece};
 use curve_values::{is_early, value_within};
 use fraction128::{Frac, Wide, difference, greater, is_less, lesser};
 use rational::Extended;
-use run_laws::Step;
 use std::alloc::{AllocError, Global};
-use upp_curve::Curve;
-use watch_laws::Entering;
+use step_lines::affine_segment::{Line, Piece};
+use step_lines::run_laws::Step;
+use step_lines::upp_curve::Curve;
+use step_lines::watch_laws::Entering;
 
 /// The packet that enters on a flow by a step, if one does.
 fn entering_of(step: &Step, flow: u32) -> Option<Entering>

@@ -9,3 +9,5 @@ mod stairs;
 
 pub use ends::next_start;
 pub use flows::{entries_of, first_crowded, first_too_long};
+pub use step_lines;
+pub use step_lines::{affine_segment, net_model, run_laws, upp_curve, upp_normal, watch_laws};

@@ -3,18 +3,18 @@
 
 ghost use Rattle.std.specs.Prelude.{ℕ, ◌<◌, pos, length, drop, IfSome};
 ghost use Rattle.rational.specs.Rational.{int, ◌<ℚ◌};
-ghost use Rattle.upp_curve.specs.Curve.{value_at};
+ghost use Rattle.step_lines.specs.upp_curve.specs.Curve.{value_at};
 ghost use Rattle.flow_watch.specs.Flows.{FlowReads, NoneCrowded, TimesRiseIn};
 ghost use Rattle.flow_watch.specs.Repeats.{IsCover, IsLineTo, HasAtLeast, KeepsSteps, HoldsPiece, HoldsAt};
 
 use crate::ends::next_start;
 use crate::flows::{bucket_of, fewer, piece_upto};
-use affine_segment::Piece;
 use fraction128::{Frac, is_less};
 use std::alloc::Global;
+use step_lines::affine_segment::Piece;
 use step_lines::seen_upto;
-use upp_curve::{Curve, Tail};
-use watch_laws::Entering;
+use step_lines::upp_curve::{Curve, Tail};
+use step_lines::watch_laws::Entering;
 
 /// Steps that hold a value, and what they hold more.
 #[derive(Debug, Clone, Copy)]

@@ -2,18 +2,18 @@
 
 ghost use Rattle.std.specs.Prelude.{◌≡◌, ℕ, ◌<◌, pos, length, drop, IfOk, IfSome, IsTrue};
 ghost use Rattle.rational.specs.Rational.{int, ◌+ℚ◌, ◌*ℚ◌, ◌≤ℚ◌, ◌<ℚ◌};
-ghost use Rattle.upp_curve.specs.Curve.{value_at};
+ghost use Rattle.step_lines.specs.upp_curve.specs.Curve.{value_at};
 ghost use Rattle.flow_watch.specs.Flows.{FlowReads, NoneCrowded};
 ghost use Rattle.flow_watch.specs.Stairs.{IsCount, HasSteps, IsStep, IsStepAt, IsStair, RisesWith};
 
 use crate::ends::next_start;
 use crate::flows::bucket_of;
-use affine_segment::Piece;
 use fraction128::{Frac, Wide, is_less, lesser};
 use std::alloc::Global;
+use step_lines::affine_segment::Piece;
+use step_lines::upp_curve::{Curve, Tail};
+use step_lines::watch_laws::Entering;
 use step_lines::{is_at_most, seen_upto};
-use upp_curve::{Curve, Tail};
-use watch_laws::Entering;
 
 /// Steps of a height, and a line: how many of them it has, in steps.
 #[derive(Debug, Clone, Copy)]

@@ -15,8 +15,8 @@ use Rattle.net_model.specs.declared.trace.TracePacket.{TracePacket}
 use Rattle.net_model.specs.Names.{FindsFlow, IsFlowNamed}
 use Rattle.net_model.specs.Networks.{Net}
 use Rattle.net_model.specs.Traces.{SpecTrace}
-use Rattle.net_text.specs.Reading.{IsNetworkOf}
-use Rattle.net_text.specs.FoldLimits.{OverFold}
+use Rattle.command_replies.specs.net_text.specs.Reading.{IsNetworkOf}
+use Rattle.command_replies.specs.net_text.specs.FoldLimits.{OverFold}
 use Rattle.table_text.specs.Rows.{rows_of}
 use Rattle.table_text.specs.Traces.{IsTraceOf}
 use Rattle.measure_curve.specs.Bursts.{IsLeastBurst}

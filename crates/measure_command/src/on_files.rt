@@ -8,10 +8,10 @@ ghost use Rattle.measure_command.specs.MeasureCounts.{CountsOn};
 ghost use Rattle.measure_command.specs.OnMeasures.{IsMeasureReply, IsReplyOnNet};
 
 use crate::on_trace::on_trace;
+use command_replies::net_text::read_network;
 use command_replies::{Answer, on_fault, on_table_fault};
 use fraction128::Frac;
 use net_model::Network;
-use net_text::read_network;
 use std::alloc::{AllocError, Global};
 use std::sync::ledger::Ledger;
 use steps::Steps;

@@ -6,8 +6,8 @@ ghost use Rattle.command_replies.specs.View.{code_of, reply_of};
 ghost use Rattle.measure_command.specs.OnMeasures as measures;
 ghost use Rattle.upp_limits.specs.declared.own_limits.OverLimit.TheVariants as limits;
 
+use command_replies::report_text::{push_after, push_text};
 use command_replies::{Answer, Status};
-use report_text::{push_after, push_text};
 use std::alloc::{AllocError, Global};
 
 // The answer with the line of a reason.

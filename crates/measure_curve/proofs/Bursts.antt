@@ -12,7 +12,7 @@ use Rattle.min_plus.specs.Functions.{zero_q, FiniteTime, IsFinite}
 use Rattle.min_plus.specs.Deviations.{IsVerticalDeviation}
 use Rattle.upp_curve.specs.Curve.{value_at}
 use Rattle.upp_curve.specs.Kinds.{bucket}
-use Rattle.upp_kinds.proofs.KindValues.{bucket_is}
+use Rattle.upp_curve.proofs.KindValues.{bucket_is}
 use Rattle.measure_curve.specs.Bursts.{IsBounded, IsLeastBurst}
 
 pub line_finite : (rate : ℚ) → IsFinite (value_at (bucket zero_q rate))

@@ -10,7 +10,7 @@ use Rattle.affine_segment.specs.Pieces.{Each, HasStart}
 use Rattle.affine_segment.specs.Reading.{read}
 use Rattle.affine_segment.proofs.PieceIn.{read_first, read_go, read_stop, read_one}
 use Rattle.upp_curve.specs.Curve.{value_at}
-use Rattle.upp_kinds.proofs.StairValues.{flat_value}
+use Rattle.upp_curve.proofs.StairValues.{flat_value}
 use Rattle.run_laws.specs.Cards.{whole}
 use Rattle.run_laws.proofs.Sizes.{whole_lt}
 use Rattle.measure_curve.specs.declared.windows.Window.{Window}

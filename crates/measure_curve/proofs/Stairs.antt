@@ -25,7 +25,7 @@ use Rattle.upp_curve.specs.Readable.{EachFits}
 use Rattle.upp_curve.specs.Steady.{last_of}
 use Rattle.upp_curve.proofs.ReadableKinds.{bucket_curve, zero_small}
 use Rattle.upp_curve.proofs.ByTail.{some_is}
-use Rattle.upp_kinds.proofs.StairValues.{flat_value}
+use Rattle.upp_curve.proofs.StairValues.{flat_value}
 use Rattle.run_laws.specs.Cards.{whole}
 use Rattle.run_laws.proofs.Sizes.{whole_lt}
 use Rattle.measure_curve.specs.declared.windows.Window.{Window}

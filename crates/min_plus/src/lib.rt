@@ -24,3 +24,5 @@ pub fn deviations_are_nonnegative()
 pub fn bucket_deviations()
     ensures { BucketDeviations }
 {}
+
+pub use rational;

@@ -22,7 +22,6 @@ pub use upp_normal::{RawCurve, normalise};
 pub use curve_conv::convolve;
 pub use curve_deconv::deconvolve;
 pub use curve_deviation::{horizontal, vertical};
-pub use curve_envelope::fifo_left;
 pub use curve_pointwise::{max, min, pos_diff, pos_minus, scale, shift, sum};
-pub use curve_running::{run_inf, run_sup};
+pub use curve_running::{fifo_left, run_inf, run_sup};
 pub use subadd_closure::{close, is_subadditive};

@@ -7,11 +7,11 @@ use Rattle.rational.specs.Extended.{Ext, ◌≤ₑ◌, ◌+ₑ◌}
 use Rattle.rational.specs.declared.Extended.TheVariants.{Fin}
 use Rattle.rational.proofs.ExtendedOrder.{add_ext_comm, add_ext_assoc}
 use Rattle.min_plus.specs.Functions.{zero_q}
-use Rattle.run_laws.specs.Runs.{SpecRun}
-use Rattle.run_laws.specs.Cards.{of_flow}
-use Rattle.run_laws.specs.Delays.{hop_delays, AreAtMost}
-use Rattle.net_laws.specs.Paths.{StaysAtMost, sum_along}
-use Rattle.net_model.specs.Networks.{Net}
+use Rattle.net_cells.specs.run_laws.specs.Runs.{SpecRun}
+use Rattle.net_cells.specs.run_laws.specs.Cards.{of_flow}
+use Rattle.net_cells.specs.run_laws.specs.Delays.{hop_delays, AreAtMost}
+use Rattle.pace_laws.specs.net_laws.specs.Paths.{StaysAtMost, sum_along}
+use Rattle.net_cells.specs.net_model.specs.Networks.{Net}
 use Rattle.net_cells.specs.declared.cell.Kind.TheVariants.{HopDelay}
 use Rattle.net_cells.specs.Numbered.{link}
 use Rattle.net_cells.specs.Cells.{cell_of}

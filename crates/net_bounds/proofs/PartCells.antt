@@ -8,13 +8,13 @@ use Rattle.rational.specs.declared.Extended.TheVariants.{Fin}
 use Rattle.rational.proofs.ExtendedOrder.{add_zero_ext, add_ext_assoc, add_ext_comm}
 use Rattle.min_plus.specs.Functions.{zero_q}
 use Rattle.min_plus.specs.Formulas.{bucket_value}
-use Rattle.upp_limits.specs.declared.op_kind.OpKind.TheVariants.{Min}
-use Rattle.upp_curve.specs.Curve.{SpecCurve, value_at}
-use Rattle.upp_curve.specs.Kinds.{bucket}
-use Rattle.upp_kinds.proofs.KindValues.{bucket_is}
-use Rattle.run_laws.specs.Cards.{whole}
-use Rattle.curve_call.specs.Answers.{IsMadeBy}
-use Rattle.net_model.specs.Networks.{Net}
+use Rattle.net_cells.specs.upp_limits.specs.declared.op_kind.OpKind.TheVariants.{Min}
+use Rattle.net_cells.specs.upp_curve.specs.Curve.{SpecCurve, value_at}
+use Rattle.net_cells.specs.upp_curve.specs.Kinds.{bucket}
+use Rattle.net_cells.specs.upp_curve.proofs.KindValues.{bucket_is}
+use Rattle.net_cells.specs.run_laws.specs.Cards.{whole}
+use Rattle.net_cells.specs.curve_call.specs.Answers.{IsMadeBy}
+use Rattle.net_cells.specs.net_model.specs.Networks.{Net}
 use Rattle.net_cells.specs.declared.cell.Kind.TheVariants.{In, Total}
 use Rattle.net_cells.specs.declared.visit.Visit.{Visit}
 use Rattle.net_cells.specs.Numbered.{rate, queues}

@@ -6,20 +6,20 @@ use Rattle.rational.specs.Rational.{ℚ, int, ◌-ℚ◌, ◌≤ℚ◌}
 use Rattle.rational.specs.declared.Extended.TheVariants.{Fin}
 use Rattle.rational.proofs.Laws.{le_of_lt}
 use Rattle.rational.proofs.ExtendedOrder.{min_greatest}
-use Rattle.run_laws.specs.Runs.{SpecRun}
-use Rattle.run_laws.specs.Cards.{Card, of_queue}
-use Rattle.run_laws.specs.Servers.{Fifo, Server}
-use Rattle.run_laws.specs.Counts.{arrived_in}
-use Rattle.run_laws.specs.Premises.{KeepsArrivals, KeepsSizes}
-use Rattle.run_laws.specs.Routes.{Hop, server_at}
-use Rattle.run_laws.proofs.Arrivals.{IsPassing, arrivals_map}
-use Rattle.run_laws.proofs.Members.{Has}
-use Rattle.net_laws.specs.Laws.{IsLink}
-use Rattle.net_laws.proofs.Paths.{link_of_path}
+use Rattle.net_cells.specs.run_laws.specs.Runs.{SpecRun}
+use Rattle.net_cells.specs.run_laws.specs.Cards.{Card, of_queue}
+use Rattle.net_cells.specs.run_laws.specs.Servers.{Fifo, Server}
+use Rattle.net_cells.specs.run_laws.specs.Counts.{arrived_in}
+use Rattle.net_cells.specs.run_laws.specs.Premises.{KeepsArrivals, KeepsSizes}
+use Rattle.net_cells.specs.run_laws.specs.Routes.{Hop, server_at}
+use Rattle.net_cells.specs.run_laws.proofs.Arrivals.{IsPassing, arrivals_map}
+use Rattle.net_cells.specs.run_laws.proofs.Members.{Has}
+use Rattle.pace_laws.specs.net_laws.specs.Laws.{IsLink}
+use Rattle.pace_laws.specs.net_laws.proofs.Paths.{link_of_path}
 use Rattle.pace_laws.specs.Groups.{of_flows, IsPaced}
 use Rattle.pace_laws.proofs.Groups.{group_is_cut}
-use Rattle.net_model.specs.Networks.{Net}
-use Rattle.net_model.specs.Accepted.{IsAccepted}
+use Rattle.net_cells.specs.net_model.specs.Networks.{Net}
+use Rattle.net_cells.specs.net_model.specs.Accepted.{IsAccepted}
 use Rattle.net_cells.specs.Numbered.{packet, path, hops, rate, rate_of, server_of_hop, queue_of_hop}
 use Rattle.net_cells.specs.declared.visit.Visit.{Visit}
 use Rattle.net_cells.specs.Visits.{visit, visits, visits_in, longest_of}

@@ -7,7 +7,7 @@ use Rattle.rational.proofs.ExtendedOrder.{le_ext_trans, le_ext_refl, same_le_ext
 use Rattle.rational.proofs.Laws.{add_zero}
 use Rattle.min_plus.specs.Functions.{zero_q}
 use Rattle.min_plus.specs.Convolution.{Split, AllNonneg, sum_of}
-use Rattle.net_laws.specs.Paths.{IsWithinSplits, sum_of_values}
+use Rattle.pace_laws.specs.net_laws.specs.Paths.{IsWithinSplits, sum_of_values}
 use Rattle.min_plus.proofs.TimeSums.{nonneg_total, sum_more}
 
 -- ---- the last of some times

@@ -2,7 +2,7 @@
 use Rattle.std.specs.Prelude.{◌≡◌, Some}
 use Rattle.rational.specs.Rational.{ℚ}
 use Rattle.rational.specs.Extended.{Ext}
-use Rattle.upp_curve.specs.Curve.{SpecCurve, value_at}
+use Rattle.net_cells.specs.upp_curve.specs.Curve.{SpecCurve, value_at}
 use Rattle.net_cells.specs.declared.cell.Cell.{Cell}
 use Rattle.net_cells.specs.Meanings.{curve, CellTable}
 pub use Rattle.net_cells.specs.TableValues.{HasNumber}

@@ -1,15 +1,15 @@
 -- A formula that is answered by a value means that value.
 use Rattle.std.proofs.Common.{◌≡◌, ℕ, List, [], ◌∷◌, ◌++◌, ap, subst}
 use Rattle.std.specs.Prelude.{Ok, Err, Result}
-use Rattle.rational.specs.Extended.{Ext, min_ext}
-use Rattle.upp_limits.specs.declared.op_kind.OpKind.{OpKind}
-use Rattle.upp_limits.specs.declared.op_kind.OpKind.TheVariants.{Sum, Min, Shift, FifoLeft, Horizontal, Vertical}
-use Rattle.upp_limits.specs.declared.op_kind.OpFault.{OpFault}
-use Rattle.upp_curve.specs.Curve.{SpecCurve, value_at}
-use Rattle.upp_curve.specs.Curves.{IsCurve}
-use Rattle.upp_curve.specs.Kinds.{bucket}
-use Rattle.run_laws.specs.Cards.{whole}
-use Rattle.min_plus.specs.Deviations.{IsHorizontalDeviation, IsVerticalDeviation}
+use Rattle.net_graph.specs.rational.specs.Extended.{Ext, min_ext}
+use Rattle.net_graph.specs.upp_limits.specs.declared.op_kind.OpKind.{OpKind}
+use Rattle.net_graph.specs.upp_limits.specs.declared.op_kind.OpKind.TheVariants.{Sum, Min, Shift, FifoLeft, Horizontal, Vertical}
+use Rattle.net_graph.specs.upp_limits.specs.declared.op_kind.OpFault.{OpFault}
+use Rattle.net_graph.specs.upp_curve.specs.Curve.{SpecCurve, value_at}
+use Rattle.net_graph.specs.upp_curve.specs.Curves.{IsCurve}
+use Rattle.net_graph.specs.upp_curve.specs.Kinds.{bucket}
+use Rattle.residual_calls.specs.run_laws.specs.Cards.{whole}
+use Rattle.net_graph.specs.min_plus.specs.Deviations.{IsHorizontalDeviation, IsVerticalDeviation}
 use Rattle.residual_calls.specs.curve_call.specs.Again.{IsAgain}
 use Rattle.residual_calls.specs.curve_call.specs.Answers.{IsMadeBy}
 use Rattle.residual_calls.specs.curve_call.specs.Calls.{Applies, AppliesTo, goes_on, stops}

@@ -1,18 +1,18 @@
 -- What making a formula's value answers is determined.
 use Rattle.std.proofs.Common.{◌≡◌, ◌≢◌, List, [], ◌∷◌, ◌++◌, refl, sym, ap, ◌∙◌, subst, arith}
 use Rattle.std.specs.Prelude.{Some, Result, Ok, Err}
-use Rattle.rational.specs.Rational.{ℚ}
-use Rattle.rational.specs.Extended.{Ext, min_ext}
-use Rattle.upp_limits.specs.declared.op_kind.OpKind.{OpKind}
-use Rattle.upp_limits.specs.declared.op_kind.OpKind.TheVariants.{Sum, Min, Shift, FifoLeft, Horizontal, Vertical}
-use Rattle.upp_limits.specs.declared.op_kind.OpFault.{OpFault}
-use Rattle.upp_limits.specs.declared.op_kind.OpFault.TheVariants.{TooMany, TooWide, NoMemory}
-use Rattle.upp_curve.specs.Curve.{SpecCurve, value_at}
-use Rattle.upp_curve.specs.Kinds.{bucket}
-use Rattle.run_laws.specs.Cards.{whole}
-use Rattle.min_plus.specs.Deviations.{IsHorizontalDeviation, IsVerticalDeviation}
-use Rattle.upp_limits.specs.Outcome.{IsWithin, IsCauseOf}
-use Rattle.min_plus.proofs.Unambiguous.{deviations_are_unique}
+use Rattle.net_graph.specs.rational.specs.Rational.{ℚ}
+use Rattle.net_graph.specs.rational.specs.Extended.{Ext, min_ext}
+use Rattle.net_graph.specs.upp_limits.specs.declared.op_kind.OpKind.{OpKind}
+use Rattle.net_graph.specs.upp_limits.specs.declared.op_kind.OpKind.TheVariants.{Sum, Min, Shift, FifoLeft, Horizontal, Vertical}
+use Rattle.net_graph.specs.upp_limits.specs.declared.op_kind.OpFault.{OpFault}
+use Rattle.net_graph.specs.upp_limits.specs.declared.op_kind.OpFault.TheVariants.{TooMany, TooWide, NoMemory}
+use Rattle.net_graph.specs.upp_curve.specs.Curve.{SpecCurve, value_at}
+use Rattle.net_graph.specs.upp_curve.specs.Kinds.{bucket}
+use Rattle.residual_calls.specs.run_laws.specs.Cards.{whole}
+use Rattle.net_graph.specs.min_plus.specs.Deviations.{IsHorizontalDeviation, IsVerticalDeviation}
+use Rattle.net_graph.specs.upp_limits.specs.Outcome.{IsWithin, IsCauseOf}
+use Rattle.net_graph.specs.min_plus.proofs.Unambiguous.{deviations_are_unique}
 use Rattle.residual_calls.specs.curve_call.specs.Again.{IsAgain, again_determined}
 use Rattle.residual_calls.specs.curve_call.specs.Calls.{Applies, AppliesTo}
 use Rattle.residual_calls.specs.curve_call.specs.Determined.{IsDetermined}

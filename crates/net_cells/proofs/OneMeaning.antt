@@ -1,15 +1,15 @@
 -- A formula means one value by one table.
 use Rattle.std.proofs.Common.{◌≡◌, ℕ, List, [], ◌∷◌, ◌++◌, refl, sym, ap, ap₂, ◌∙◌, subst}
 use Rattle.std.specs.Prelude.{Some}
-use Rattle.rational.specs.Extended.{Ext, min_ext}
-use Rattle.rational.proofs.Bounds.{supremum_unique}
-use Rattle.upp_limits.specs.declared.op_kind.OpKind.TheVariants.{Sum, Min, Shift, FifoLeft}
-use Rattle.upp_curve.specs.Curve.{SpecCurve, value_at}
-use Rattle.min_plus.specs.Deviations.{IsHorizontalDeviation, IsVerticalDeviation}
-use Rattle.upp_curve.proofs.OneForm.{normal_unique}
-use Rattle.min_plus.proofs.Unambiguous.{deviations_are_unique}
-use Rattle.upp_curve.specs.Kinds.{bucket}
-use Rattle.run_laws.specs.Cards.{whole}
+use Rattle.net_graph.specs.rational.specs.Extended.{Ext, min_ext}
+use Rattle.net_graph.specs.rational.proofs.Bounds.{supremum_unique}
+use Rattle.net_graph.specs.upp_limits.specs.declared.op_kind.OpKind.TheVariants.{Sum, Min, Shift, FifoLeft}
+use Rattle.net_graph.specs.upp_curve.specs.Curve.{SpecCurve, value_at}
+use Rattle.net_graph.specs.min_plus.specs.Deviations.{IsHorizontalDeviation, IsVerticalDeviation}
+use Rattle.net_graph.specs.upp_curve.proofs.OneForm.{normal_unique}
+use Rattle.net_graph.specs.min_plus.proofs.Unambiguous.{deviations_are_unique}
+use Rattle.net_graph.specs.upp_curve.specs.Kinds.{bucket}
+use Rattle.residual_calls.specs.run_laws.specs.Cards.{whole}
 use Rattle.residual_calls.specs.curve_call.specs.Answers.{IsMadeBy}
 use Rattle.residual_calls.specs.curve_call.proofs.SameAnswers.{made_unique}
 use Rattle.net_cells.specs.declared.cell.Cell.{Cell}

@@ -1,6 +1,6 @@
 -- What holds of the cells of every network whose servers have an order. Own choice.
 use Rattle.std.specs.Prelude.{◌≡◌, ◌≢◌, ℕ, List, ◌∷◌, ◌++◌, Ok, IsTrue, Contains, AllPairs}
-use Rattle.upp_limits.specs.declared.op_kind.OpFault.{OpFault}
+use Rattle.net_graph.specs.upp_limits.specs.declared.op_kind.OpFault.{OpFault}
 use Rattle.net_graph.specs.net_model.specs.Networks.{Net}
 use Rattle.net_graph.specs.net_model.specs.Accepted.{IsAccepted}
 use Rattle.net_graph.specs.net_model.specs.Orders.{IsOrder}

@@ -1,6 +1,6 @@
 -- How many operators on curves a cell takes. Own choice.
 use Rattle.std.specs.Prelude.{ℕ, ◌+◌, ◌-◌, ◌*◌, Bool, true, false, ◌==◌, length}
-use Rattle.run_laws.specs.Servers.{Discipline, Fifo, Priority, Drr}
+use Rattle.residual_calls.specs.run_laws.specs.Servers.{Discipline, Fifo, Priority, Drr}
 use Rattle.net_graph.specs.net_model.specs.Networks.{Net}
 use Rattle.net_cells.specs.declared.cell.Cell.{Cell}
 use Rattle.net_cells.specs.declared.cell.Kind.{Kind}

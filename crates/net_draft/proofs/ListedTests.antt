@@ -3,19 +3,19 @@ use Rattle.std.specs.Prelude.{◌≡◌, ◌<◌, ◌≤◌, ◌^◌, Bool, true
 use Rattle.std.specs.List.{AllByRecursion}
 use Rattle.rational.specs.Rational.{ℚ, ◌+ℚ◌, ◌≤ℚ◌, ◌<ℚ◌}
 use Rattle.rational.specs.Extended.{Ext, ◌≤ₑ◌}
-use Rattle.affine_segment.specs.declared.line.Line.{Line}
-use Rattle.affine_segment.specs.declared.line.Piece.{Piece}
-use Rattle.affine_segment.specs.Values.{line_value}
-use Rattle.upp_curve.specs.Curve.{SpecCurve, value_at}
+use Rattle.net_model.specs.affine_segment.specs.declared.line.Line.{Line}
+use Rattle.net_model.specs.affine_segment.specs.declared.line.Piece.{Piece}
+use Rattle.net_model.specs.affine_segment.specs.Values.{line_value}
+use Rattle.net_model.specs.upp_curve.specs.Curve.{SpecCurve, value_at}
 use Rattle.min_plus.specs.Functions.{zero_q, IsRising}
-use Rattle.affine_segment.specs.Pieces.{RisesFrom, StartsAtZero}
-use Rattle.upp_curve.specs.Normal.{IsRaw}
-use Rattle.upp_curve.specs.Shapes.{LineRises, PieceRises}
+use Rattle.net_model.specs.affine_segment.specs.Pieces.{RisesFrom, StartsAtZero}
+use Rattle.net_model.specs.upp_curve.specs.Normal.{IsRaw}
+use Rattle.net_model.specs.upp_curve.specs.Shapes.{LineRises, PieceRises}
 use Rattle.min_plus.specs.Continuity.{IsContinuous}
-use Rattle.upp_curve.specs.JoinedPieces.{PieceJoins}
-use Rattle.upp_limits.specs.Limits.{own_gauge, own_tally}
-use Rattle.upp_limits.specs.OwnLimits.{IsWithinOwn}
-use Rattle.upp_curve.proofs.RisingCurves.{GoesOn}
+use Rattle.net_model.specs.upp_curve.specs.JoinedPieces.{PieceJoins}
+use Rattle.net_model.specs.upp_limits.specs.Limits.{own_gauge, own_tally}
+use Rattle.net_model.specs.upp_limits.specs.OwnLimits.{IsWithinOwn}
+use Rattle.net_model.specs.upp_curve.proofs.RisingCurves.{GoesOn}
 use Rattle.curve_library.specs.declared.texts.PieceText.{PieceText}
 use Rattle.curve_library.specs.declared.texts.TailText.{TailText}
 use Rattle.curve_library.specs.Listed.{text_pieces, IsNonnegText, IsNonnegTail, AreNonneg, HasLength, StartsBelow, AreInOrder}

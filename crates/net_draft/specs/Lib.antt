@@ -17,3 +17,7 @@ pub mod NameTexts
 pub mod ListViews
 pub mod KeyOrder
 pub mod FaultKinds
+pub use Rattle.net_model as net_model
+pub use Rattle.net_model.specs.run_laws as run_laws
+pub use Rattle.net_model.specs.upp_curve as upp_curve
+pub use Rattle.net_model.specs.upp_limits as upp_limits

@@ -38,6 +38,8 @@ pub use hop::Hop;
 pub use laws::{
     faults_are_of_tables, keys_ascend, made_may_stand, refusals_are_causes, unknown_key_is_least,
 };
+pub use net_model;
+pub use net_model::{upp_curve, upp_limits};
 pub use places::{nth, under};
 pub use reading::read_draft;
 pub use server_draft::ServerDraft;

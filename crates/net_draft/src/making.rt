@@ -12,9 +12,9 @@ use crate::curve_text::CurveText;
 use crate::fault::DraftFault;
 use crate::places::fault_at;
 use curve_library::{CurveFault, bucket, gate, listed, rate_latency, stair};
+use net_model::upp_curve::Curve;
 use net_model::{CurveRefusal, NetKind};
 use std::alloc::Global;
-use upp_curve::Curve;
 
 fn made(alloc: Global, text: &CurveText) -> Result<Curve, CurveFault>
     ensures { CurveAnswers (text_of text.now) result }

@@ -5,11 +5,11 @@ use Rattle.std.specs.List.{list_all}
 use Rattle.std.proofs.lemmas.Bool.{and_parts, and_from, not_from_false, leb-true, lt-ltb, le-ltb}
 use Rattle.std.proofs.lemmas.List.Sums.{AllPass-from_list_all}
 use Rattle.rational.specs.Rational.{ℚ}
-use Rattle.net_model.specs.declared.edit.PathEntry.{PathEntry}
-use Rattle.net_model.specs.Networks.{Net}
-use Rattle.net_model.specs.Names.{IsName, is_name_byte}
-use Rattle.net_model.specs.Accepted.{IsFlow, IsAccepted}
-use Rattle.net_model.proofs.KindsStand.{kinds_may_stand}
+use Rattle.net_cells.specs.net_model.specs.declared.edit.PathEntry.{PathEntry}
+use Rattle.net_cells.specs.net_model.specs.Networks.{Net}
+use Rattle.net_cells.specs.net_model.specs.Names.{IsName, is_name_byte}
+use Rattle.net_cells.specs.net_model.specs.Accepted.{IsFlow, IsAccepted}
+use Rattle.net_cells.specs.net_model.proofs.KindsStand.{kinds_may_stand}
 use Rattle.net_edits.specs.Refusals.{Or, no_number_left, and_then, only_if}
 use Rattle.net_edits.specs.Lookups.{server_numbers, is_free}
 use Rattle.net_edits.specs.Values.{whole_that, is_length, is_name, entry_queues, may_be_path, fits_along, quanta_fit}

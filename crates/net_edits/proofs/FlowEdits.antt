@@ -9,10 +9,10 @@ use Rattle.rational.proofs.Integers.{nat_nonneg}
 use Rattle.min_plus.specs.Functions.{zero_q}
 use Rattle.upp_curve.specs.Curve.{SpecCurve}
 use Rattle.upp_curve.specs.Kinds.{bucket, stair}
-use Rattle.net_model.specs.declared.edit.PathEntry.{PathEntry}
-use Rattle.net_model.specs.Networks.{Net, NetServer, NetFlow}
-use Rattle.net_model.specs.Accepted.{IsLength, IsArrivalCurve, IsFlow, IsAccepted}
-use Rattle.net_model.proofs.KindsStand.{kinds_may_stand}
+use Rattle.net_cells.specs.net_model.specs.declared.edit.PathEntry.{PathEntry}
+use Rattle.net_cells.specs.net_model.specs.Networks.{Net, NetServer, NetFlow}
+use Rattle.net_cells.specs.net_model.specs.Accepted.{IsLength, IsArrivalCurve, IsFlow, IsAccepted}
+use Rattle.net_cells.specs.net_model.proofs.KindsStand.{kinds_may_stand}
 use Rattle.net_cells.specs.Numbered.{flow_at, packet, packet_of, discipline_of}
 use Rattle.net_cells.proofs.Stored.{flow_kept}
 use Rattle.net_edits.specs.Refusals.{Or, bad_value, and_then, only_if}

@@ -11,11 +11,11 @@ use Rattle.upp_curve.specs.Kinds.{rate_latency, gate}
 use Rattle.curve_library.specs.Causes.{OneNegative, NoSlot}
 use Rattle.curve_library.proofs.SignTests.{none_negative}
 use Rattle.run_laws.specs.Servers.{Discipline, Fifo, Priority, Drr, queue_count}
-use Rattle.net_model.specs.declared.server.ServiceKind.{ServiceKind}
-use Rattle.net_model.specs.declared.server.ServiceKind.TheVariants.{Latency, Gate, Listed}
-use Rattle.net_model.specs.Networks.{NetServer}
-use Rattle.net_model.specs.Accepted.{IsLength, IsOfKind, IsServiceCurve, HasFewQueues, IsServer}
-use Rattle.net_model.proofs.KindsStand.{kinds_may_stand}
+use Rattle.net_cells.specs.net_model.specs.declared.server.ServiceKind.{ServiceKind}
+use Rattle.net_cells.specs.net_model.specs.declared.server.ServiceKind.TheVariants.{Latency, Gate, Listed}
+use Rattle.net_cells.specs.net_model.specs.Networks.{NetServer}
+use Rattle.net_cells.specs.net_model.specs.Accepted.{IsLength, IsOfKind, IsServiceCurve, HasFewQueues, IsServer}
+use Rattle.net_cells.specs.net_model.proofs.KindsStand.{kinds_may_stand}
 use Rattle.net_cells.specs.declared.cell.Cell.{Cell}
 use Rattle.net_edits.specs.declared.fault.EditFault.{EditFault}
 use Rattle.net_edits.specs.Changed.{service_of_kind, with_rate, with_latency, with_link, set_quantum, with_quantum}

@@ -4,9 +4,9 @@ use Rattle.rational.specs.Rational.{ℚ}
 use Rattle.upp_curve.specs.Curve.{SpecCurve}
 use Rattle.upp_curve.specs.Kinds.{rate_latency, gate}
 use Rattle.run_laws.specs.Servers.{Discipline, Fifo, Priority, Drr}
-use Rattle.net_model.specs.declared.server.ServiceKind.{ServiceKind}
-use Rattle.net_model.specs.declared.server.ServiceKind.TheVariants.{Latency, Gate, Listed}
-use Rattle.net_model.specs.Networks.{Net, NetServer, NetFlow}
+use Rattle.net_cells.specs.net_model.specs.declared.server.ServiceKind.{ServiceKind}
+use Rattle.net_cells.specs.net_model.specs.declared.server.ServiceKind.TheVariants.{Latency, Gate, Listed}
+use Rattle.net_cells.specs.net_model.specs.Networks.{Net, NetServer, NetFlow}
 
 -- ---- one server of a network
 abbrev pub put_server : Net → ℕ → NetServer → Net

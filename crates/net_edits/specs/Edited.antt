@@ -5,12 +5,12 @@ use Rattle.rational.specs.Rational.{ℚ, lt_q, int}
 use Rattle.min_plus.specs.Functions.{zero_q}
 use Rattle.upp_curve.specs.Curve.{SpecCurve}
 use Rattle.upp_curve.specs.Kinds.{bucket, stair, rate_latency}
-use Rattle.net_model.specs.declared.server.ServiceKind.{ServiceKind}
-use Rattle.net_model.specs.declared.server.ServiceKind.TheVariants.{Latency, Gate, Listed}
-use Rattle.net_model.specs.declared.edit.Edit.{Edit}
-use Rattle.net_model.specs.declared.edit.Edit.TheVariants as edit
-use Rattle.net_model.specs.declared.edit.PathEntry.{PathEntry}
-use Rattle.net_model.specs.Networks.{Net, NetServer, NetFlow}
+use Rattle.net_cells.specs.net_model.specs.declared.server.ServiceKind.{ServiceKind}
+use Rattle.net_cells.specs.net_model.specs.declared.server.ServiceKind.TheVariants.{Latency, Gate, Listed}
+use Rattle.net_cells.specs.net_model.specs.declared.edit.Edit.{Edit}
+use Rattle.net_cells.specs.net_model.specs.declared.edit.Edit.TheVariants as edit
+use Rattle.net_cells.specs.net_model.specs.declared.edit.PathEntry.{PathEntry}
+use Rattle.net_cells.specs.net_model.specs.Networks.{Net, NetServer, NetFlow}
 use Rattle.net_cells.specs.declared.cell.Cell.{Cell}
 use Rattle.net_cells.specs.declared.cell.Kind.TheVariants as kind
 use Rattle.net_cells.specs.Cells.{cell_of}

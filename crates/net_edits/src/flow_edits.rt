@@ -4,7 +4,7 @@ ghost use Rattle.std.specs.Prelude.{◌≡◌, pos, Some, IfOk};
 ghost use Rattle.rational.specs.Rational.{int, ◌≤ℚ◌, ◌<ℚ◌};
 ghost use Rattle.min_plus.specs.Functions.{zero_q};
 ghost use Rattle.upp_curve.specs.Kinds as kinds;
-ghost use Rattle.net_model.specs.Views.{flow_of};
+ghost use Rattle.net_cells.specs.net_model.specs.Views.{flow_of};
 ghost use Rattle.net_edits.specs.Changed as changed;
 ghost use Rattle.net_edits.specs.Edited as spec;
 ghost use Rattle.net_edits.specs.Replies.{Makes, IsReply, IsOverNone};
@@ -18,8 +18,8 @@ use crate::service::within_limits;
 use crate::ways::{entry_queues, may_be_path};
 use curve_library::{CurveFault, bucket, stair};
 use fraction128::Frac;
+use net_cells::net_model::{Flow, Network, PathEntry};
 use net_cells::{Cell, Kind};
-use net_model::{Flow, Network, PathEntry};
 use std::alloc::{AllocError, Global};
 use upp_curve::Curve;
 

@@ -10,4 +10,5 @@ mod waits;
 
 pub use laws::{one_order, order_goes_forward, order_has_each_server, order_or_cycle};
 pub use net_model;
+pub use net_model::{upp_curve, upp_limits};
 pub use placing::{GraphFault, order};

@@ -5,8 +5,8 @@ use Rattle.rational.specs.Rational.{ℚ, ◌-ℚ◌, ◌≤ℚ◌}
 use Rattle.rational.specs.Extended.{Ext, ◌≤ₑ◌, min_ext}
 use Rattle.rational.specs.declared.Extended.TheVariants.{Fin}
 use Rattle.rational.proofs.ExtendedOrder.{min_one, min_greatest}
-use Rattle.min_plus.specs.Pointwise.{packetised, shifted}
-use Rattle.min_plus.specs.Convolution.{IsDeconvolution}
+use Rattle.run_laws.specs.min_plus.specs.Pointwise.{packetised, shifted}
+use Rattle.run_laws.specs.min_plus.specs.Convolution.{IsDeconvolution}
 use Rattle.run_laws.specs.Cards.{Class, whole, ServerStep, Arrives, Works, Leaves, Visits}
 use Rattle.run_laws.specs.Classes.{IsPart}
 use Rattle.run_laws.specs.Servers.{Server}

@@ -7,8 +7,8 @@ use Rattle.rational.specs.declared.Extended.TheVariants.{Fin, Inf}
 use Rattle.rational.proofs.Laws.{le_refl, le_trans}
 use Rattle.rational.proofs.ExtendedOrder.{le_ext_trans, add_le_ext, le_ext_refl}
 use Rattle.rational.proofs.Linear.{with2, with3, with4, with5, with6}
-use Rattle.min_plus.specs.Functions.{IsNonnegative}
-use Rattle.min_plus.specs.Convolution.{AllNonneg, sum_of}
+use Rattle.run_laws.specs.min_plus.specs.Functions.{IsNonnegative}
+use Rattle.run_laws.specs.min_plus.specs.Convolution.{AllNonneg, sum_of}
 use Rattle.run_laws.specs.Runs.{SpecRun}
 use Rattle.run_laws.specs.Cards.{of_flow}
 use Rattle.run_laws.specs.Counts.{arrived, worked, departed}

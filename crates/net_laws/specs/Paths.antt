@@ -5,8 +5,8 @@ use Rattle.std.specs.Prelude.{◌≡◌, ◌<◌, ℕ, pos, List, [], ◌∷◌,
 use Rattle.rational.specs.Rational.{ℚ, int, ◌+ℚ◌, ◌-ℚ◌, ◌≤ℚ◌}
 use Rattle.rational.specs.Extended.{Ext, ◌≤ₑ◌, ◌+ₑ◌}
 use Rattle.rational.specs.declared.Extended.TheVariants.{Fin}
-use Rattle.min_plus.specs.Functions.{IsNonnegative}
-use Rattle.min_plus.specs.Convolution.{AllNonneg, sum_of}
+use Rattle.run_laws.specs.min_plus.specs.Functions.{IsNonnegative}
+use Rattle.run_laws.specs.min_plus.specs.Convolution.{AllNonneg, sum_of}
 use Rattle.run_laws.specs.Runs.{SpecRun}
 use Rattle.run_laws.specs.Cards.{of_flow}
 use Rattle.run_laws.specs.Counts.{arrived, worked, departed}

@@ -4,10 +4,10 @@ use Rattle.std.specs.Prelude.{ℕ, List}
 use Rattle.rational.specs.Rational.{ℚ, ◌-ℚ◌, ◌≤ℚ◌}
 use Rattle.rational.specs.Extended.{Ext, ◌≤ₑ◌, min_ext}
 use Rattle.rational.specs.declared.Extended.TheVariants.{Fin}
-use Rattle.min_plus.specs.Functions.{IsRising}
-use Rattle.min_plus.specs.Pointwise.{packetised, shifted}
-use Rattle.min_plus.specs.Convolution.{IsDeconvolution}
-use Rattle.min_plus.specs.Deviations.{IsHorizontalDeviation}
+use Rattle.run_laws.specs.min_plus.specs.Functions.{IsRising}
+use Rattle.run_laws.specs.min_plus.specs.Pointwise.{packetised, shifted}
+use Rattle.run_laws.specs.min_plus.specs.Convolution.{IsDeconvolution}
+use Rattle.run_laws.specs.min_plus.specs.Deviations.{IsHorizontalDeviation}
 use Rattle.run_laws.specs.Cards.{Class, whole, ServerStep}
 use Rattle.run_laws.specs.Classes.{IsOfQueue, IsPart}
 use Rattle.run_laws.specs.Servers.{Server}

@@ -16,8 +16,8 @@ use Rattle.upp_limits.specs.upp_curve.specs.Curve.{value_at}
 use Rattle.upp_limits.specs.upp_curve.specs.Kinds.{gate}
 use Rattle.upp_limits.specs.min_plus.specs.WholeUp.{whole_up}
 use Rattle.upp_limits.proofs.Rounding.{whole_up_least, whole_up_most}
-use Rattle.upp_kinds.proofs.StairValues.{ratio_low}
-use Rattle.upp_kinds.proofs.GateValues.{gate_is}
+use Rattle.upp_limits.specs.upp_curve.proofs.StairValues.{ratio_low}
+use Rattle.upp_limits.specs.upp_curve.proofs.GateValues.{gate_is}
 use Rattle.net_model.proofs.Paces.{HasPace}
 
 -- the cycles that are over at t, and those that have begun before it

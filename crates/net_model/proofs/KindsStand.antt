@@ -11,8 +11,8 @@ use Rattle.upp_limits.specs.rational.proofs.Linear.{with3, with4}
 use Rattle.upp_limits.specs.min_plus.specs.Functions.{zero_q}
 use Rattle.upp_limits.specs.upp_curve.specs.Curve.{SpecCurve, value_at}
 use Rattle.upp_limits.specs.upp_curve.specs.Kinds.{rate_latency, bucket, gate, stair}
-use Rattle.upp_kinds.proofs.KindValues.{service_is, bucket_is}
-use Rattle.upp_kinds.proofs.StairValues.{stair_is}
+use Rattle.upp_limits.specs.upp_curve.proofs.KindValues.{service_is, bucket_is}
+use Rattle.upp_limits.specs.upp_curve.proofs.StairValues.{stair_is}
 use Rattle.net_model.specs.Accepted.{IsServiceCurve, IsArrivalCurve}
 use Rattle.net_model.specs.CurveKinds.{KindsMayStand}
 use Rattle.net_model.proofs.Paces.{HasPace, pace_finite, pace_rising, pace_continuous, service_pace, bucket_pace}

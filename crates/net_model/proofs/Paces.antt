@@ -11,7 +11,7 @@ use Rattle.upp_limits.specs.rational.proofs.Linear.{with3, with4, with5, with6}
 use Rattle.upp_limits.specs.min_plus.specs.Functions.{zero_q, IsFinite, IsRising}
 use Rattle.upp_limits.specs.upp_curve.specs.Curve.{value_at}
 use Rattle.upp_limits.specs.upp_curve.specs.Kinds.{rate_latency, bucket}
-use Rattle.upp_kinds.proofs.KindValues.{service_is, bucket_is}
+use Rattle.upp_limits.specs.upp_curve.proofs.KindValues.{service_is, bucket_is}
 use Rattle.upp_limits.specs.min_plus.specs.Continuity.{AreNear, IsContinuous}
 
 -- f is v, which rises by at most `rate` in a unit of time

@@ -6,15 +6,15 @@ use Rattle.std.proofs.lemmas.List.{length-map, get_or-map}
 use Rattle.std.proofs.lemmas.List.Elements.{All-contains}
 use Rattle.std.proofs.lemmas.Option.{same_Some}
 use Rattle.rational.specs.Rational.{ℚ, ◌≤ℚ◌, ◌<ℚ◌}
-use Rattle.upp_curve.specs.Curve.{SpecCurve, value_at}
+use Rattle.net_draft.specs.upp_curve.specs.Curve.{SpecCurve, value_at}
 use Rattle.min_plus.specs.Functions.{zero_q}
-use Rattle.upp_limits.specs.declared.own_limits.OverLimit.{OverLimit}
-use Rattle.run_laws.specs.Servers.{Discipline, queue_count}
-use Rattle.closure_laws.proofs.KeptShapes.{closures_keep}
-use Rattle.net_model.specs.declared.server.ServiceKind.{ServiceKind}
-use Rattle.net_model.specs.Accepted.{IsVersion, IsLength, HasFewQueues, IsInQuantum, IsOfKind, IsServer, IsArrivalCurve, IsHop, IsFlow, IsAccepted}
-use Rattle.net_model.specs.Names.{IsName, DifferInName}
-use Rattle.net_model.specs.Networks.{Net, NetServer, NetFlow}
+use Rattle.net_draft.specs.upp_limits.specs.declared.own_limits.OverLimit.{OverLimit}
+use Rattle.net_draft.specs.run_laws.specs.Servers.{Discipline, queue_count}
+use Rattle.subadd_closure.specs.closure_laws.proofs.KeptShapes.{closures_keep}
+use Rattle.net_draft.specs.net_model.specs.declared.server.ServiceKind.{ServiceKind}
+use Rattle.net_draft.specs.net_model.specs.Accepted.{IsVersion, IsLength, HasFewQueues, IsInQuantum, IsOfKind, IsServer, IsArrivalCurve, IsHop, IsFlow, IsAccepted}
+use Rattle.net_draft.specs.net_model.specs.Names.{IsName, DifferInName}
+use Rattle.net_draft.specs.net_model.specs.Networks.{Net, NetServer, NetFlow}
 use Rattle.net_draft.specs.declared.hop.Hop.{Hop}
 use Rattle.net_draft.specs.declared.server_draft.ServerDraft.{ServerDraft}
 use Rattle.net_draft.specs.declared.flow_draft.FlowDraft.{FlowDraft}
@@ -30,7 +30,7 @@ use Rattle.net_draft.proofs.Named.{All-unmap}
 use Rattle.net_text.specs.Becoming.{Becomes}
 use Rattle.net_text.specs.Built.{IsServerOf, IsFlowOf, IsLiveFlowOf, IsBuilt}
 use Rattle.net_text.proofs.Zips.{zip_unmap, zip_length, partner, zip_all, zip_pairs}
-use Rattle.net_model.proofs.Placed.{MayBe}
+use Rattle.net_draft.specs.net_model.proofs.Placed.{MayBe}
 
 -- ---- servers
 is_server : (d : ServerDraft) (s : NetServer) → IsServerDraft d → IsServerOf (server_text d) s → IsServer s

@@ -1,10 +1,10 @@
 -- The network of a file, and its first fault. Own choice.
 use Rattle.std.specs.Prelude.{◌≡◌, ◌⊎◌, ℕ, List, Ok, Err}
-use Rattle.upp_curve.specs.Curve.{SpecCurve}
-use Rattle.upp_limits.specs.declared.own_limits.OverLimit.{OverLimit}
-use Rattle.net_model.specs.Networks.{Net}
-use Rattle.net_model.specs.declared.fault.NetFault.{NetFault}
-use Rattle.net_model.specs.declared.fault.NetKind.TheVariants.{NoMemory}
+use Rattle.net_draft.specs.upp_curve.specs.Curve.{SpecCurve}
+use Rattle.net_draft.specs.upp_limits.specs.declared.own_limits.OverLimit.{OverLimit}
+use Rattle.net_draft.specs.net_model.specs.Networks.{Net}
+use Rattle.net_draft.specs.net_model.specs.declared.fault.NetFault.{NetFault}
+use Rattle.net_draft.specs.net_model.specs.declared.fault.NetKind.TheVariants.{NoMemory}
 use Rattle.net_draft.specs.declared.fault.DraftFault.{DraftFault}
 use Rattle.net_draft.specs.declared.fault.DraftFault.TheVariants as answers
 use Rattle.net_draft.specs.Drafts.{draft_of}

@@ -2,8 +2,8 @@
 
 ghost use Rattle.std.specs.Prelude.{◌≡◌, ◌≤◌, ◌+◌, Ok, Err, IfOk, IfErr};
 ghost use Rattle.std.specs.String.{string_bytes};
-ghost use Rattle.upp_curve.specs.Curve.{value_at};
-ghost use Rattle.upp_curve.specs.Curves.{IsCurve};
+ghost use Rattle.net_draft.specs.upp_curve.specs.Curve.{value_at};
+ghost use Rattle.net_draft.specs.upp_curve.specs.Curves.{IsCurve};
 ghost use Rattle.min_plus.specs.Functions.{IsFinite, IsNonnegative};
 ghost use Rattle.net_draft.specs.CurveTexts.{text_of};
 ghost use Rattle.net_draft.specs.Kept.{IsArrivalDraft};
@@ -18,12 +18,12 @@ ghost use Rattle.subadd_closure.specs.FoldWork.{fold_work};
 use crate::closing::closed;
 use crate::limits::limit_fault;
 use crate::services::copy_of;
+use net_draft::upp_curve::Curve;
+use net_draft::upp_limits::{OpFault, OverLimit};
 use net_draft::{DraftFault, FlowDraft};
 use std::alloc::Global;
 use std::sync::ledger::Ledger;
 use steps::Steps;
-use upp_curve::Curve;
-use upp_limits::{OpFault, OverLimit};
 
 /// The closure of the arrival curve at a place.
 fn closure_of<L: Ledger>(

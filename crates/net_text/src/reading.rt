@@ -10,8 +10,8 @@ ghost use Rattle.subadd_closure.specs.FoldWork.{fold_work};
 
 use crate::flows::flows_of;
 use crate::servers::servers_of;
+use net_draft::net_model::{NetFault, NetKind, Network};
 use net_draft::{DraftFault, read_draft};
-use net_model::{NetFault, NetKind, Network};
 use std::alloc::Global;
 use std::sync::ledger::Ledger;
 use steps::Steps;

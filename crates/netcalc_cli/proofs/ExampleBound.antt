@@ -18,7 +18,7 @@ use Rattle.net_cells.specs.Equations.{MeetsEquations}
 use Rattle.net_cells.specs.Meanings.{Meaning, curve, number, CellTable, IsNumberIn}
 use Rattle.net_cells.specs.Means.{HaveNumbers, with_links}
 use Rattle.net_cells.specs.NumberSums.{sum_of_numbers}
-use Rattle.net_bounds.proofs.Kept.{table_bounds_every_run}
+use Rattle.exercise_command.specs.net_bounds.proofs.Kept.{table_bounds_every_run}
 use Rattle.netcalc_cli.specs.Example.{its_server, its_flow, one_flow, OneFlowReachesItsBound}
 use Rattle.netcalc_cli.proofs.ExampleNet.{accepted, ordered, reached, is_run}
 use Rattle.net_cells.proofs.TableValues.{same_number}

@@ -7,7 +7,7 @@ use Rattle.rational.specs.declared.Extended.TheVariants.{Fin}
 use Rattle.rational.proofs.Integers.{nat_lt, nat_nonneg}
 use Rattle.upp_curve.specs.Curve.{value_at}
 use Rattle.upp_limits.specs.Windows.{IsLeast}
-use Rattle.upp_kinds.proofs.KindValues.{bucket_is, service_is}
+use Rattle.upp_curve.proofs.KindValues.{bucket_is, service_is}
 use Rattle.run_laws.specs.Cards.{whole}
 use Rattle.run_laws.specs.Examples.{one_packet, ReachesItsBound}
 use Rattle.run_laws.specs.Premises.{KeepsService}
@@ -23,7 +23,7 @@ use Rattle.net_model.specs.Walks.{IsNext}
 use Rattle.net_model.proofs.KindsStand.{kinds_may_stand}
 use Rattle.net_model.proofs.Short.{no_pairs, alone, named_by_two}
 use Rattle.net_cells.specs.Numbered.{packet, arrival, service}
-use Rattle.net_bounds.specs.NetRuns.{routes_of, IsRunOf}
+use Rattle.exercise_command.specs.net_bounds.specs.NetRuns.{routes_of, IsRunOf}
 use Rattle.netcalc_cli.specs.Example.{its_server, its_flow, one_flow}
 
 -- ---- accepted

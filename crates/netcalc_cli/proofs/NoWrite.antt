@@ -3,12 +3,12 @@ use Rattle.std.proofs.Common.{◌≡◌, ◌≢◌, ℕ, List, [], ◌∷◌, Op
 use Rattle.rational.specs.Rational.{ℚ}
 use Rattle.upp_limits.specs.declared.own_limits.OverLimit.TheVariants.{TooMany, TooWide}
 use Rattle.net_model.specs.declared.breach.Breach.{Breach}
-use Rattle.command_replies.specs.Replies.{Reply, cannot_read, too_long}
-use Rattle.json_report.specs.declared.form.Form.{Form}
-use Rattle.command_replies.proofs.Statuses.{status_is as status_of}
+use Rattle.exercise_command.specs.command_replies.specs.Replies.{Reply, cannot_read, too_long}
+use Rattle.analyse_command.specs.json_report.specs.declared.form.Form.{Form}
+use Rattle.exercise_command.specs.command_replies.proofs.Statuses.{status_is as status_of}
 use Rattle.analyse_command.specs.OnFiles as analyse
 use Rattle.edit_command.specs.OnEdits as edits
-use Rattle.run_findings.specs.Findings.{status_by}
+use Rattle.exercise_command.specs.run_findings.specs.Findings.{status_by}
 use Rattle.simulate_command.specs.OnTraces as traces
 use Rattle.check_command.proofs.Causes.{causes}
 use Rattle.exercise_command.specs.OnSeeds as seeds

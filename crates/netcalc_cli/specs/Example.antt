@@ -15,7 +15,7 @@ use Rattle.net_cells.specs.declared.cell.Kind.TheVariants.{Bound}
 use Rattle.net_cells.specs.Cells.{cell_of}
 use Rattle.net_cells.specs.Equations.{MeetsEquations}
 use Rattle.net_cells.specs.Meanings.{CellTable, number}
-use Rattle.net_bounds.specs.NetRuns.{routes_of, IsRunOf}
+use Rattle.exercise_command.specs.net_bounds.specs.NetRuns.{routes_of, IsRunOf}
 
 -- 100 bits a unit of time, after a latency of 10
 abbrev pub its_server : NetServer

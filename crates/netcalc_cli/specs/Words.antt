@@ -10,7 +10,7 @@ use Rattle.rational.specs.Rational.{ℚ, lt_q}
 use Rattle.min_plus.specs.Functions.{zero_q}
 use Rattle.fraction128.specs.declared.fault.FracText.{FracText}
 use Rattle.fraction128.specs.Text.{is_numeral, parse_of}
-use Rattle.json_report.specs.declared.form.Form.TheVariants.{Lines, Json}
+use Rattle.analyse_command.specs.json_report.specs.declared.form.Form.TheVariants.{Lines, Json}
 use Rattle.command_words.specs.Lines.{is_operand, operands_of, asks_json}
 use Rattle.netcalc_cli.specs.Commands.{Command, Analyse, Edit, Simulate, Exercise, Check, Measure, Curve}
 

@@ -9,9 +9,9 @@ ghost use Rattle.netcalc_cli.specs.View.{command_view};
 ghost use Rattle.netcalc_cli.specs.Words.{texts, in_64_bits, seed_of, rate_of, on_one, on_two, on_four};
 ghost use Rattle.netcalc_cli.specs.Words.{in_lines, in_json, called, command_on, command_of};
 
+use analyse_command::json_report::Form;
 use command_words::{around_json, is_operand, parse, word_of};
 use fraction128::{Frac, is_less, read_digits};
-use json_report::Form;
 use outside::NoMemory;
 use std::alloc::Global;
 

@@ -9,7 +9,7 @@
 ghost use Rattle.std.specs.Prelude.{◌≡◌, ◌<◌};
 
 use affine_segment::{Line, Piece};
-use curve_envelope::{max, min, pos_diff, pos_minus, run_inf, run_sup, scale, shift, sum};
+use curve_running::{max, min, pos_diff, pos_minus, run_inf, run_sup, scale, shift, sum};
 use fraction128::{Ext, Frac};
 use rational::Extended;
 use std::alloc::Global;

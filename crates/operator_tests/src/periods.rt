@@ -6,7 +6,7 @@ ghost use Rattle.upp_curve.specs.Curves.{IsCurve};
 ghost use Rattle.upp_curve.specs.Steady.{steady, IsWholePeriods};
 
 use affine_segment::{Line, Piece};
-use curve_least::least_periods;
+use curve_call::least_periods;
 use fraction128::{Frac, is_less};
 use rational::Extended;
 use std::alloc::{AllocError, Global};

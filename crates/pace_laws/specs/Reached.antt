@@ -1,11 +1,11 @@
 -- A view in which the bound on what leaves by the pace is reached. (Own choice.)
 use Rattle.std.specs.Prelude.{Some, ◌≡◌, ℕ, List, [], ◌∷◌}
 use Rattle.rational.specs.Rational.{◌+ℚ◌, ◌-ℚ◌, ◌*ℚ◌}
-use Rattle.run_laws.specs.Cards.{Card, all, whole, ServerStep, Arrives, Works, Leaves}
-use Rattle.run_laws.specs.Servers.{Fifo, Server}
-use Rattle.run_laws.specs.Allows.{IsLawfulView}
-use Rattle.run_laws.specs.Counts.{departed_in}
-use Rattle.run_laws.specs.Premises.{KeepsSizes}
+use Rattle.net_laws.specs.run_laws.specs.Cards.{Card, all, whole, ServerStep, Arrives, Works, Leaves}
+use Rattle.net_laws.specs.run_laws.specs.Servers.{Fifo, Server}
+use Rattle.net_laws.specs.run_laws.specs.Allows.{IsLawfulView}
+use Rattle.net_laws.specs.run_laws.specs.Counts.{departed_in}
+use Rattle.net_laws.specs.run_laws.specs.Premises.{KeepsSizes}
 
 -- a first in, first out server that works at most one bit a unit of time
 abbrev pub paced : Server

@@ -11,28 +11,28 @@ use Rattle.run_laws.specs.Routes.{Hop, server_at, route_of, queue_at, first_serv
 use Rattle.run_laws.specs.Views.{Entry, card_of, hops_of, server_of, seen}
 use Rattle.run_laws.specs.Lawful as lawful
 use Rattle.run_laws.specs.Lawful.{state_at}
-use Rattle.queue_sched.specs.Turns.{IsCard}
+use Rattle.sim_loop.specs.queue_sched.specs.Turns.{IsCard}
 use Rattle.index_links.specs.Chains.{Chains, IsLinked, unlinked}
-use Rattle.net_model.specs.declared.trace.TracePacket.{TracePacket}
-use Rattle.stated_runs.specs.Setups.{Entering, Setup, packet_of}
-use Rattle.stated_runs.specs.DueSteps.{step_time}
-use Rattle.stated_runs.specs.FromTraces.{entering}
-use Rattle.stated_runs.specs.Simulated.{IsNext}
-use Rattle.stated_runs.specs.Laws.{state_after}
-use Rattle.stated_runs.proofs.Lists.{In, in_contains}
-use Rattle.stated_runs.proofs.GoodSteps.{coming}
-use Rattle.sim_servers.specs.declared.due.Due.{Due}
-use Rattle.sim_servers.specs.declared.due.DueKind.TheVariants as kinds
-use Rattle.sim_servers.specs.declared.station.Station.{Station}
-use Rattle.sim_servers.specs.Openings.{opening_for, OpeningRoom}
-use Rattle.sim_servers.specs.Firsts.{kind_number}
-use Rattle.sim_servers.specs.Stations.{IsStation, MayTake}
-use Rattle.sim_states.specs.declared.arrival.Arrival.{Arrival}
-use Rattle.sim_states.specs.Laws.{IsAfter}
-use Rattle.sim_states.specs.Running.{arrival_at, due_at}
-use Rattle.sim_states.proofs.Firsts.{first_is_next}
-use Rattle.sim_states.proofs.Steps.{step_at, enter_keeps, reach_keeps}
-use Rattle.sim_states.proofs.Taking.{may_take_enter, may_take_reach}
+use Rattle.sim_bounds.specs.net_model.specs.declared.trace.TracePacket.{TracePacket}
+use Rattle.sim_bounds.specs.stated_runs.specs.Setups.{Entering, Setup, packet_of}
+use Rattle.sim_bounds.specs.stated_runs.specs.DueSteps.{step_time}
+use Rattle.sim_bounds.specs.stated_runs.specs.FromTraces.{entering}
+use Rattle.sim_bounds.specs.stated_runs.specs.Simulated.{IsNext}
+use Rattle.sim_bounds.specs.stated_runs.specs.Laws.{state_after}
+use Rattle.sim_bounds.specs.stated_runs.proofs.Lists.{In, in_contains}
+use Rattle.sim_bounds.specs.stated_runs.proofs.GoodSteps.{coming}
+use Rattle.sim_loop.specs.sim_servers.specs.declared.due.Due.{Due}
+use Rattle.sim_loop.specs.sim_servers.specs.declared.due.DueKind.TheVariants as kinds
+use Rattle.sim_loop.specs.sim_servers.specs.declared.station.Station.{Station}
+use Rattle.sim_loop.specs.sim_servers.specs.Openings.{opening_for, OpeningRoom}
+use Rattle.sim_loop.specs.sim_servers.specs.Firsts.{kind_number}
+use Rattle.sim_loop.specs.sim_servers.specs.Stations.{IsStation, MayTake}
+use Rattle.sim_loop.specs.sim_states.specs.declared.arrival.Arrival.{Arrival}
+use Rattle.sim_loop.specs.sim_states.specs.Laws.{IsAfter}
+use Rattle.sim_loop.specs.sim_states.specs.Running.{arrival_at, due_at}
+use Rattle.sim_loop.specs.sim_states.proofs.Firsts.{first_is_next}
+use Rattle.sim_loop.specs.sim_states.proofs.Steps.{step_at, enter_keeps, reach_keeps}
+use Rattle.sim_loop.specs.sim_states.proofs.Taking.{may_take_enter, may_take_reach}
 use Rattle.sim_loop.specs.Moves.{HasTaken}
 use Rattle.packet_sim.specs.Simulating.{IsSimulating, IsFirstDue}
 use Rattle.packet_sim.proofs.Candidates.{IsEnterDue, enters, reaches, before_start}

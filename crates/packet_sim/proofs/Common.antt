@@ -8,19 +8,19 @@ use Rattle.run_laws.specs.declared.steps.Step.{Step}
 use Rattle.run_laws.specs.Routes.{route_of}
 use Rattle.run_laws.specs.Views.{Entry, entry_of, hops_of}
 use Rattle.index_links.specs.Chains.{Chains}
-use Rattle.net_model.specs.declared.trace.TracePacket.{TracePacket}
-use Rattle.stated_runs.specs.Setups.{Entering, Setup, packet_of}
-use Rattle.stated_runs.specs.DueSteps.{Rank, IsDue, step_time}
-use Rattle.stated_runs.specs.FromTraces.{entering}
-use Rattle.stated_runs.specs.Laws.{state_after}
-use Rattle.stated_runs.specs.TimeGrids.{IsGateTime, AreStallTimes}
-use Rattle.sim_servers.specs.declared.opening.Span.{Span}
-use Rattle.sim_servers.specs.declared.station.Station.{Station}
-use Rattle.sim_servers.specs.Openings.{stall_times, opening_for, IsSameOpening, OpeningRoom}
-use Rattle.sim_states.specs.declared.arrival.Arrival.{Arrival}
-use Rattle.sim_states.specs.Running.{IsRunning}
-use Rattle.sim_states.proofs.Kept.{set_same, set_other}
-use Rattle.sim_states.proofs.SoFar.{IsSound, sound_so_far}
+use Rattle.sim_bounds.specs.net_model.specs.declared.trace.TracePacket.{TracePacket}
+use Rattle.sim_bounds.specs.stated_runs.specs.Setups.{Entering, Setup, packet_of}
+use Rattle.sim_bounds.specs.stated_runs.specs.DueSteps.{Rank, IsDue, step_time}
+use Rattle.sim_bounds.specs.stated_runs.specs.FromTraces.{entering}
+use Rattle.sim_bounds.specs.stated_runs.specs.Laws.{state_after}
+use Rattle.sim_bounds.specs.stated_runs.specs.TimeGrids.{IsGateTime, AreStallTimes}
+use Rattle.sim_loop.specs.sim_servers.specs.declared.opening.Span.{Span}
+use Rattle.sim_loop.specs.sim_servers.specs.declared.station.Station.{Station}
+use Rattle.sim_loop.specs.sim_servers.specs.Openings.{stall_times, opening_for, IsSameOpening, OpeningRoom}
+use Rattle.sim_loop.specs.sim_states.specs.declared.arrival.Arrival.{Arrival}
+use Rattle.sim_loop.specs.sim_states.specs.Running.{IsRunning}
+use Rattle.sim_loop.specs.sim_states.proofs.Kept.{set_same, set_other}
+use Rattle.sim_loop.specs.sim_states.proofs.SoFar.{IsSound, sound_so_far}
 use Rattle.packet_sim.specs.Simulating.{HaveStallTimes, IsSimulating}
 
 pub rank_same : (k k' s s' p p' : ℕ) → k ≡ k' → s ≡ s' → p ≡ p'

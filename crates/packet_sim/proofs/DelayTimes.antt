@@ -16,13 +16,13 @@ use Rattle.run_laws.specs.FlowDelays.{delivered_at}
 use Rattle.run_laws.specs.Routes.{Routes, link_at, route_of, last_server}
 use Rattle.run_laws.specs.Runs.{SpecRun}
 use Rattle.run_laws.specs.Lawful.{run_start}
-use Rattle.stated_runs.specs.Setups.{Setup}
-use Rattle.stated_runs.specs.DueSteps.{step_time}
-use Rattle.stated_runs.specs.Simulated.{Follows, FollowsSoFar, last_time, IsSimulated}
-use Rattle.stated_runs.specs.Laws.{state_after}
-use Rattle.stated_runs.specs.TimeGrids.{HasRoom, IsTime, RunFits}
-use Rattle.sim_servers.proofs.GridSteps.{sum_fits}
-use Rattle.sim_states.proofs.SoFar.{after_push, follows_push}
+use Rattle.sim_bounds.specs.stated_runs.specs.Setups.{Setup}
+use Rattle.sim_bounds.specs.stated_runs.specs.DueSteps.{step_time}
+use Rattle.sim_bounds.specs.stated_runs.specs.Simulated.{Follows, FollowsSoFar, last_time, IsSimulated}
+use Rattle.sim_bounds.specs.stated_runs.specs.Laws.{state_after}
+use Rattle.sim_bounds.specs.stated_runs.specs.TimeGrids.{HasRoom, IsTime, RunFits}
+use Rattle.sim_loop.specs.sim_servers.proofs.GridSteps.{sum_fits}
+use Rattle.sim_loop.specs.sim_states.proofs.SoFar.{after_push, follows_push}
 use Rattle.run_measures.specs.Worst.{DelaysFit}
 
 -- ---- the times of all steps

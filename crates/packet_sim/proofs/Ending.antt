@@ -4,14 +4,14 @@ use Rattle.std.proofs.Common.{subst}
 use Rattle.run_laws.specs.declared.steps.Step.{Step}
 use Rattle.run_laws.specs.Lawful.{run_start}
 use Rattle.index_links.specs.Chains.{Chains}
-use Rattle.stated_runs.specs.Setups.{Setup}
-use Rattle.stated_runs.specs.Simulated.{Follows}
-use Rattle.sim_servers.specs.declared.due.Due.{Due}
-use Rattle.sim_servers.specs.declared.station.Station.{Station}
-use Rattle.sim_states.specs.declared.arrival.Arrival.{Arrival}
-use Rattle.sim_states.specs.Running.{IsFirstCandidate}
-use Rattle.sim_states.proofs.Firsts.{none_is_due}
-use Rattle.sim_states.proofs.SoFar.{follows_whole}
+use Rattle.sim_bounds.specs.stated_runs.specs.Setups.{Setup}
+use Rattle.sim_bounds.specs.stated_runs.specs.Simulated.{Follows}
+use Rattle.sim_loop.specs.sim_servers.specs.declared.due.Due.{Due}
+use Rattle.sim_loop.specs.sim_servers.specs.declared.station.Station.{Station}
+use Rattle.sim_loop.specs.sim_states.specs.declared.arrival.Arrival.{Arrival}
+use Rattle.sim_loop.specs.sim_states.specs.Running.{IsFirstCandidate}
+use Rattle.sim_loop.specs.sim_states.proofs.Firsts.{none_is_due}
+use Rattle.sim_loop.specs.sim_states.proofs.SoFar.{follows_whole}
 use Rattle.packet_sim.specs.Simulating.{IsSimulating, IsFirstDue}
 
 pub comes_next : (S : Setup) (stations : List Station) (links : Chains) (arrivals : List Arrival) (n : ℕ) (xs : List Step) (d : Due)

@@ -3,8 +3,8 @@ use Rattle.std.specs.Prelude.{Some, ◌≡◌, suc, ◌-◌, List, [], ◌∷◌
 use Rattle.std.proofs.Common.{ap, ◌∙◌, arith}
 use Rattle.rational.specs.Rational.{ℚ}
 use Rattle.run_laws.specs.declared.steps.Step.{Step}
-use Rattle.stated_runs.specs.DueSteps.{step_time}
-use Rattle.stated_runs.specs.Simulated.{last_time}
+use Rattle.sim_bounds.specs.stated_runs.specs.DueSteps.{step_time}
+use Rattle.sim_bounds.specs.stated_runs.specs.Simulated.{last_time}
 
 pub last_is : (from : ℚ) (xs : List Step) (x : Step) → Some x ≡ slice_get xs (length xs - 1) → step_time x ≡ last_time from xs
 last_is from [] x e = absurd (cc)

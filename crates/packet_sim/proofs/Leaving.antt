@@ -11,24 +11,24 @@ use Rattle.run_laws.specs.Routes.{Hop, server_at, link_at, route_of, server_afte
 use Rattle.run_laws.specs.Views.{card_of}
 use Rattle.run_laws.specs.Lawful.{state_at}
 use Rattle.index_links.specs.Chains.{Chains, IsFree, list_at, with_list}
-use Rattle.net_model.specs.declared.trace.TracePacket.{TracePacket}
-use Rattle.stated_runs.specs.Setups.{Setup, packet_of}
-use Rattle.stated_runs.specs.FromTraces.{entering}
-use Rattle.stated_runs.specs.Simulated.{IsNext}
-use Rattle.stated_runs.specs.Laws.{state_after}
-use Rattle.sim_servers.specs.declared.due.Due.{Due}
-use Rattle.sim_servers.specs.declared.due.DueKind.TheVariants as kinds
-use Rattle.sim_servers.specs.declared.station.Next.{Next}
-use Rattle.sim_servers.specs.declared.station.Next.TheVariants.{Leave}
-use Rattle.sim_servers.specs.declared.station.Station.{Station}
-use Rattle.sim_servers.specs.Openings.{opening_for, OpeningRoom}
-use Rattle.sim_servers.specs.Firsts.{kind_number}
-use Rattle.sim_servers.specs.Stations.{IsStation, IsNextOf, WillLeave, MayLose}
-use Rattle.sim_servers.proofs.GridSteps.{sum_fits}
-use Rattle.sim_states.specs.declared.arrival.Arrival.{Arrival}
-use Rattle.sim_states.specs.Laws.{IsAfter}
-use Rattle.sim_states.proofs.Firsts.{first_is_next}
-use Rattle.sim_states.proofs.Steps.{step_at, going, leave_keeps, last_leave_keeps}
+use Rattle.sim_bounds.specs.net_model.specs.declared.trace.TracePacket.{TracePacket}
+use Rattle.sim_bounds.specs.stated_runs.specs.Setups.{Setup, packet_of}
+use Rattle.sim_bounds.specs.stated_runs.specs.FromTraces.{entering}
+use Rattle.sim_bounds.specs.stated_runs.specs.Simulated.{IsNext}
+use Rattle.sim_bounds.specs.stated_runs.specs.Laws.{state_after}
+use Rattle.sim_loop.specs.sim_servers.specs.declared.due.Due.{Due}
+use Rattle.sim_loop.specs.sim_servers.specs.declared.due.DueKind.TheVariants as kinds
+use Rattle.sim_loop.specs.sim_servers.specs.declared.station.Next.{Next}
+use Rattle.sim_loop.specs.sim_servers.specs.declared.station.Next.TheVariants.{Leave}
+use Rattle.sim_loop.specs.sim_servers.specs.declared.station.Station.{Station}
+use Rattle.sim_loop.specs.sim_servers.specs.Openings.{opening_for, OpeningRoom}
+use Rattle.sim_loop.specs.sim_servers.specs.Firsts.{kind_number}
+use Rattle.sim_loop.specs.sim_servers.specs.Stations.{IsStation, IsNextOf, WillLeave, MayLose}
+use Rattle.sim_loop.specs.sim_servers.proofs.GridSteps.{sum_fits}
+use Rattle.sim_loop.specs.sim_states.specs.declared.arrival.Arrival.{Arrival}
+use Rattle.sim_loop.specs.sim_states.specs.Laws.{IsAfter}
+use Rattle.sim_loop.specs.sim_states.proofs.Firsts.{first_is_next}
+use Rattle.sim_loop.specs.sim_states.proofs.Steps.{step_at, going, leave_keeps, last_leave_keeps}
 use Rattle.sim_loop.specs.Moves.{HasLost}
 use Rattle.packet_sim.specs.Simulating.{IsSimulating, IsFirstDue}
 use Rattle.packet_sim.proofs.Candidates.{at_station, leaving}

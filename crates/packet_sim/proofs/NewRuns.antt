@@ -10,26 +10,26 @@ use Rattle.run_laws.specs.Servers.{Fifo, Server, start}
 use Rattle.run_laws.specs.Routes.{server_at}
 use Rattle.run_laws.specs.Lawful.{state_at, run_start}
 use Rattle.index_links.specs.Chains.{Chains, list_at, Has}
-use Rattle.net_model.specs.declared.trace.Stall.{Stall}
-use Rattle.net_model.specs.Networks.{Net, NetServer}
-use Rattle.net_model.specs.Accepted.{IsAccepted}
-use Rattle.net_model.specs.NetRoutes.{server_for}
-use Rattle.net_model.specs.Traces.{SpecTrace, IsTrace, IsStall}
-use Rattle.stated_runs.specs.Setups as setups
-use Rattle.stated_runs.specs.Setups.{Setup, StallTimes, IsGateFor, IsStalled, opening_of, rate_of}
-use Rattle.stated_runs.specs.FromTraces.{gate_of, stalls_at, openings_from, entering, setup_of, IsTraceOf}
-use Rattle.stated_runs.specs.TimeGrids.{AreStallTimes, RunFits}
-use Rattle.stated_runs.proofs.MadeSetups.{traces_make_setups}
-use Rattle.sim_servers.specs.declared.opening.Opening.{Opening}
-use Rattle.sim_servers.specs.declared.opening.Span.{Span}
-use Rattle.sim_servers.specs.declared.station.Next.TheVariants.{Nothing}
-use Rattle.sim_servers.specs.declared.station.Station.{Station}
-use Rattle.sim_servers.specs.Openings.{stall_times, opening_for}
-use Rattle.sim_servers.specs.Stations.{IsStation, IsOpeningOf, IsNextOf}
-use Rattle.sim_states.specs.declared.arrival.Arrival.{Arrival}
-use Rattle.sim_states.specs.Places.{ArePlaced}
-use Rattle.sim_states.specs.Running.{AreRising, AreLinks}
-use Rattle.sim_states.proofs.Places.{none_placed}
+use Rattle.sim_bounds.specs.net_model.specs.declared.trace.Stall.{Stall}
+use Rattle.sim_bounds.specs.net_model.specs.Networks.{Net, NetServer}
+use Rattle.sim_bounds.specs.net_model.specs.Accepted.{IsAccepted}
+use Rattle.sim_bounds.specs.net_model.specs.NetRoutes.{server_for}
+use Rattle.sim_bounds.specs.net_model.specs.Traces.{SpecTrace, IsTrace, IsStall}
+use Rattle.sim_bounds.specs.stated_runs.specs.Setups as setups
+use Rattle.sim_bounds.specs.stated_runs.specs.Setups.{Setup, StallTimes, IsGateFor, IsStalled, opening_of, rate_of}
+use Rattle.sim_bounds.specs.stated_runs.specs.FromTraces.{gate_of, stalls_at, openings_from, entering, setup_of, IsTraceOf}
+use Rattle.sim_bounds.specs.stated_runs.specs.TimeGrids.{AreStallTimes, RunFits}
+use Rattle.sim_bounds.specs.stated_runs.proofs.MadeSetups.{traces_make_setups}
+use Rattle.sim_loop.specs.sim_servers.specs.declared.opening.Opening.{Opening}
+use Rattle.sim_loop.specs.sim_servers.specs.declared.opening.Span.{Span}
+use Rattle.sim_loop.specs.sim_servers.specs.declared.station.Next.TheVariants.{Nothing}
+use Rattle.sim_loop.specs.sim_servers.specs.declared.station.Station.{Station}
+use Rattle.sim_loop.specs.sim_servers.specs.Openings.{stall_times, opening_for}
+use Rattle.sim_loop.specs.sim_servers.specs.Stations.{IsStation, IsOpeningOf, IsNextOf}
+use Rattle.sim_loop.specs.sim_states.specs.declared.arrival.Arrival.{Arrival}
+use Rattle.sim_loop.specs.sim_states.specs.Places.{ArePlaced}
+use Rattle.sim_loop.specs.sim_states.specs.Running.{AreRising, AreLinks}
+use Rattle.sim_loop.specs.sim_states.proofs.Places.{none_placed}
 use Rattle.packet_sim.specs.Fresh.{IsFreshAt, AreFresh}
 use Rattle.packet_sim.specs.Simulating.{HaveStallTimes, IsSimulating}
 
@@ -78,7 +78,7 @@ fresh_opening net trace ok fine named k x f =
     record {
       order = record {
         gate = subst IsGateFor (sym gate) ((traces_make_setups net trace ok fine named).gates k);
-        stalls = subst Rattle.sim_servers.specs.Openings.AreInOrder (sym f.fresh.stalls) record {
+        stalls = subst Rattle.sim_loop.specs.sim_servers.specs.Openings.AreInOrder (sym f.fresh.stalls) record {
           sorted = f.sorted.in_order;
           forward = f.sorted.forward (stalls_forward k trace.stalls (λ j d l. (fine.stalls j d l)));
         };

@@ -12,13 +12,13 @@ use Rattle.rational.specs.Ratio.{cmp_q}
 use Rattle.rational.proofs.Compared.{not_less}
 use Rattle.rational.proofs.Comparison.{cmp_ranks}
 use Rattle.fraction128.specs.Order.{cmp_q_total}
-use Rattle.net_model.specs.declared.trace.Stall.{Stall}
-use Rattle.stated_runs.specs.Setups.{StallTimes, IsStalled}
-use Rattle.stated_runs.specs.FromTraces.{stalls_at}
-use Rattle.stated_runs.specs.TimeGrids.{IsTime, AreStallTimes}
-use Rattle.stated_runs.proofs.Lists.{In, contains_in, in_contains}
-use Rattle.sim_servers.specs.declared.opening.Span.{Span}
-use Rattle.sim_servers.specs.Openings.{stall_times}
+use Rattle.sim_bounds.specs.net_model.specs.declared.trace.Stall.{Stall}
+use Rattle.sim_bounds.specs.stated_runs.specs.Setups.{StallTimes, IsStalled}
+use Rattle.sim_bounds.specs.stated_runs.specs.FromTraces.{stalls_at}
+use Rattle.sim_bounds.specs.stated_runs.specs.TimeGrids.{IsTime, AreStallTimes}
+use Rattle.sim_bounds.specs.stated_runs.proofs.Lists.{In, contains_in, in_contains}
+use Rattle.sim_loop.specs.sim_servers.specs.declared.opening.Span.{Span}
+use Rattle.sim_loop.specs.sim_servers.specs.Openings.{stall_times}
 use Rattle.packet_sim.specs.Fresh.{AreSorted}
 
 -- ---- one more stall of the trace

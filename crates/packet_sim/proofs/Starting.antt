@@ -16,39 +16,39 @@ use Rattle.run_laws.specs.Routes.{Hop, PassesServer, server_at, route_of}
 use Rattle.run_laws.specs.Views.{card_of, entry_of}
 use Rattle.run_laws.specs.Lawful.{state_at}
 use Rattle.run_laws.proofs.Heads.{pick_is_head}
-use Rattle.queue_sched.specs.Turns.{IsIdle, Starts, Sends}
-use Rattle.queue_sched.specs.declared.turn.Turn.{Turn}
-use Rattle.queue_sched.specs.declared.turn.Turn.TheVariants as turns
+use Rattle.sim_loop.specs.queue_sched.specs.Turns.{IsIdle, Starts, Sends}
+use Rattle.sim_loop.specs.queue_sched.specs.declared.turn.Turn.{Turn}
+use Rattle.sim_loop.specs.queue_sched.specs.declared.turn.Turn.TheVariants as turns
 use Rattle.index_links.specs.Chains.{Chains}
-use Rattle.net_model.specs.declared.trace.TracePacket.{TracePacket}
-use Rattle.stated_runs.specs.Setups.{Entering, Setup, packet_of, rate_of}
-use Rattle.stated_runs.specs.DueSteps.{work_kind}
-use Rattle.stated_runs.specs.FromTraces.{entering}
-use Rattle.stated_runs.specs.Simulated.{IsNext}
-use Rattle.stated_runs.specs.Laws.{state_after}
-use Rattle.stated_runs.specs.TimeGrids.{IsTime}
-use Rattle.stated_runs.proofs.GoodServers.{IsCardAt}
-use Rattle.stated_runs.proofs.Lists.{head_in}
+use Rattle.sim_bounds.specs.net_model.specs.declared.trace.TracePacket.{TracePacket}
+use Rattle.sim_bounds.specs.stated_runs.specs.Setups.{Entering, Setup, packet_of, rate_of}
+use Rattle.sim_bounds.specs.stated_runs.specs.DueSteps.{work_kind}
+use Rattle.sim_bounds.specs.stated_runs.specs.FromTraces.{entering}
+use Rattle.sim_bounds.specs.stated_runs.specs.Simulated.{IsNext}
+use Rattle.sim_bounds.specs.stated_runs.specs.Laws.{state_after}
+use Rattle.sim_bounds.specs.stated_runs.specs.TimeGrids.{IsTime}
+use Rattle.sim_bounds.specs.stated_runs.proofs.GoodServers.{IsCardAt}
+use Rattle.sim_bounds.specs.stated_runs.proofs.Lists.{head_in}
 use Rattle.run_laws.proofs.Sizes.{size_pos}
-use Rattle.stated_runs.proofs.Progress.{fair_card}
-use Rattle.sim_servers.specs.declared.due.Due.{Due}
-use Rattle.sim_servers.specs.declared.due.DueKind.TheVariants as kinds
-use Rattle.sim_servers.specs.declared.station.Next.{Next}
-use Rattle.sim_servers.specs.declared.station.Next.TheVariants.{Start}
-use Rattle.sim_servers.specs.declared.station.Station.{Station}
-use Rattle.sim_servers.specs.declared.station.Stretch.{Stretch}
-use Rattle.sim_servers.specs.declared.opening.Opening.{Opening}
-use Rattle.sim_servers.specs.Openings.{opening_for, HasOpened, IsSameOpening}
-use Rattle.sim_servers.specs.Firsts.{kind_number}
-use Rattle.sim_servers.specs.Queues.{served_by, room_of, StandFor}
-use Rattle.sim_servers.specs.Stations.{IsStation, IsOpeningOf, IsNextOf, WillStart}
-use Rattle.sim_servers.proofs.GridSteps.{time_fits}
-use Rattle.sim_servers.proofs.Openings.{first_later}
-use Rattle.sim_states.specs.declared.arrival.Arrival.{Arrival}
-use Rattle.sim_states.specs.Laws.{IsAfter}
-use Rattle.sim_states.proofs.Firsts.{first_is_next}
-use Rattle.sim_states.proofs.Kept.{set_same}
-use Rattle.sim_states.proofs.Steps.{visit_keeps, work_keeps}
+use Rattle.sim_bounds.specs.stated_runs.proofs.Progress.{fair_card}
+use Rattle.sim_loop.specs.sim_servers.specs.declared.due.Due.{Due}
+use Rattle.sim_loop.specs.sim_servers.specs.declared.due.DueKind.TheVariants as kinds
+use Rattle.sim_loop.specs.sim_servers.specs.declared.station.Next.{Next}
+use Rattle.sim_loop.specs.sim_servers.specs.declared.station.Next.TheVariants.{Start}
+use Rattle.sim_loop.specs.sim_servers.specs.declared.station.Station.{Station}
+use Rattle.sim_loop.specs.sim_servers.specs.declared.station.Stretch.{Stretch}
+use Rattle.sim_loop.specs.sim_servers.specs.declared.opening.Opening.{Opening}
+use Rattle.sim_loop.specs.sim_servers.specs.Openings.{opening_for, HasOpened, IsSameOpening}
+use Rattle.sim_loop.specs.sim_servers.specs.Firsts.{kind_number}
+use Rattle.sim_loop.specs.sim_servers.specs.Queues.{served_by, room_of, StandFor}
+use Rattle.sim_loop.specs.sim_servers.specs.Stations.{IsStation, IsOpeningOf, IsNextOf, WillStart}
+use Rattle.sim_loop.specs.sim_servers.proofs.GridSteps.{time_fits}
+use Rattle.sim_loop.specs.sim_servers.proofs.Openings.{first_later}
+use Rattle.sim_loop.specs.sim_states.specs.declared.arrival.Arrival.{Arrival}
+use Rattle.sim_loop.specs.sim_states.specs.Laws.{IsAfter}
+use Rattle.sim_loop.specs.sim_states.proofs.Firsts.{first_is_next}
+use Rattle.sim_loop.specs.sim_states.proofs.Kept.{set_same}
+use Rattle.sim_loop.specs.sim_states.proofs.Steps.{visit_keeps, work_keeps}
 use Rattle.sim_loop.specs.Moves.{HasWorked, MayWorkOn}
 use Rattle.packet_sim.specs.Simulating.{IsSimulating, IsFirstDue, IsTurning}
 use Rattle.packet_sim.proofs.Candidates.{at_station, starting}
@@ -308,7 +308,7 @@ sent S stations links arrivals n xs d p h kind e is rate rates left left_is =
       fit = record {
         opening = subst (IsOpeningOf S s) (sym t.opening) k.keeps.opening;
         rate = t.rate ∙ k.keeps.rate;
-        stalls = subst (λ o. Rattle.stated_runs.specs.TimeGrids.AreStallTimes now.grid now.most (opening_for o).stalls) (sym t.opening) (now.stalls s t.old t.moved.was);
+        stalls = subst (λ o. Rattle.sim_bounds.specs.stated_runs.specs.TimeGrids.AreStallTimes now.grid now.most (opening_for o).stalls) (sym t.opening) (now.stalls s t.old t.moved.was);
       };
       opened = subst (λ o. HasOpened o d.time) (sym t.opening) k.will.opened;
       left_is = first_left S s k.card e.bits left rate l.bits_are same left_is;

@@ -13,31 +13,31 @@ use Rattle.run_laws.specs.Routes.{server_at}
 use Rattle.run_laws.specs.Views.{card_of}
 use Rattle.run_laws.specs.Lawful.{state_at}
 use Rattle.index_links.specs.Chains.{Chains}
-use Rattle.stated_runs.specs.Setups.{Setup, IsSetup, IsFirstOpen, IsStretch, rate_of}
-use Rattle.stated_runs.specs.DueSteps.{IsDue, work_kind}
-use Rattle.stated_runs.specs.Simulated.{IsNext}
-use Rattle.stated_runs.specs.Laws.{state_after}
-use Rattle.stated_runs.specs.TimeGrids.{IsTime, IsGateTime, AreStallTimes}
-use Rattle.stated_runs.proofs.Opens.{stretch_of}
-use Rattle.stated_runs.proofs.Unique.{open_once}
-use Rattle.sim_servers.specs.declared.due.Due.{Due}
-use Rattle.sim_servers.specs.declared.due.DueKind.TheVariants as kinds
-use Rattle.sim_servers.specs.declared.station.Next.{Next}
-use Rattle.sim_servers.specs.declared.station.Next.TheVariants.{Resume}
-use Rattle.sim_servers.specs.declared.station.Rest.{Rest}
-use Rattle.sim_servers.specs.declared.station.Station.{Station}
-use Rattle.sim_servers.specs.declared.station.Stretch.{Stretch}
-use Rattle.sim_servers.specs.declared.server_queues.ServerQueues.{ServerQueues}
-use Rattle.sim_servers.specs.Openings.{opening_for, HasOpened}
-use Rattle.sim_servers.specs.Firsts.{kind_number}
-use Rattle.sim_servers.specs.Queues.{served_by, StandFor, work_goes_on}
-use Rattle.sim_servers.specs.Stations.{IsStation, IsOpeningOf, IsNextOf, WillResume, rest_for, IsWorkOf, IsAfterWork}
-use Rattle.sim_servers.proofs.Openings.{same_server}
-use Rattle.sim_servers.proofs.StationSteps.{work_next, stretch_there}
-use Rattle.sim_states.specs.declared.arrival.Arrival.{Arrival}
-use Rattle.sim_states.specs.Laws.{IsAfter}
-use Rattle.sim_states.proofs.Firsts.{first_is_next}
-use Rattle.sim_states.proofs.Steps.{work_keeps}
+use Rattle.sim_bounds.specs.stated_runs.specs.Setups.{Setup, IsSetup, IsFirstOpen, IsStretch, rate_of}
+use Rattle.sim_bounds.specs.stated_runs.specs.DueSteps.{IsDue, work_kind}
+use Rattle.sim_bounds.specs.stated_runs.specs.Simulated.{IsNext}
+use Rattle.sim_bounds.specs.stated_runs.specs.Laws.{state_after}
+use Rattle.sim_bounds.specs.stated_runs.specs.TimeGrids.{IsTime, IsGateTime, AreStallTimes}
+use Rattle.sim_bounds.specs.stated_runs.proofs.Opens.{stretch_of}
+use Rattle.sim_bounds.specs.stated_runs.proofs.Unique.{open_once}
+use Rattle.sim_loop.specs.sim_servers.specs.declared.due.Due.{Due}
+use Rattle.sim_loop.specs.sim_servers.specs.declared.due.DueKind.TheVariants as kinds
+use Rattle.sim_loop.specs.sim_servers.specs.declared.station.Next.{Next}
+use Rattle.sim_loop.specs.sim_servers.specs.declared.station.Next.TheVariants.{Resume}
+use Rattle.sim_loop.specs.sim_servers.specs.declared.station.Rest.{Rest}
+use Rattle.sim_loop.specs.sim_servers.specs.declared.station.Station.{Station}
+use Rattle.sim_loop.specs.sim_servers.specs.declared.station.Stretch.{Stretch}
+use Rattle.sim_loop.specs.sim_servers.specs.declared.server_queues.ServerQueues.{ServerQueues}
+use Rattle.sim_loop.specs.sim_servers.specs.Openings.{opening_for, HasOpened}
+use Rattle.sim_loop.specs.sim_servers.specs.Firsts.{kind_number}
+use Rattle.sim_loop.specs.sim_servers.specs.Queues.{served_by, StandFor, work_goes_on}
+use Rattle.sim_loop.specs.sim_servers.specs.Stations.{IsStation, IsOpeningOf, IsNextOf, WillResume, rest_for, IsWorkOf, IsAfterWork}
+use Rattle.sim_loop.specs.sim_servers.proofs.Openings.{same_server}
+use Rattle.sim_loop.specs.sim_servers.proofs.StationSteps.{work_next, stretch_there}
+use Rattle.sim_loop.specs.sim_states.specs.declared.arrival.Arrival.{Arrival}
+use Rattle.sim_loop.specs.sim_states.specs.Laws.{IsAfter}
+use Rattle.sim_loop.specs.sim_states.proofs.Firsts.{first_is_next}
+use Rattle.sim_loop.specs.sim_states.proofs.Steps.{work_keeps}
 use Rattle.sim_loop.specs.Moves.{HasWorked, MayWorkOn}
 use Rattle.packet_sim.specs.Simulating.{IsSimulating, IsFirstDue}
 use Rattle.packet_sim.proofs.Candidates.{at_station, resuming}
@@ -231,7 +231,7 @@ resume_done S stations links arrivals n xs d h kind rest is_rest after w worked_
     let station = worked S h.now.setup s σ u.card rest.packet k.will.packet_is stations after d.time rest.left w worked_on keeps.opening keeps.rate keeps.inside keeps.discipline left_is stands in
     let own : IsAfter S xs x worked_on.new = (
       subst (λ c. IsStation S s (next (server_at S.net s).discipline σ (Works c d.time w.end w.bits)) worked_on.new) card station,
-      ap Rattle.sim_servers.specs.Queues.room_of worked_on.queues ∙ h.now.running.servers.rooms s worked_on.old worked_on.was,
+      ap Rattle.sim_loop.specs.sim_servers.specs.Queues.room_of worked_on.queues ∙ h.now.running.servers.rooms s worked_on.old worked_on.was,
     ) in
     simulating_after S stations links arrivals n xs h.now s worked_on.old worked_on.new worked_on.was worked_on.same after worked_on.is links arrivals n
     (xs ++ x ∷ [])

@@ -2,16 +2,16 @@
 use Rattle.std.specs.Prelude.{Some, ◌≡◌, ◌↔◌, ℕ, List, length, map, slice_get, All, AllPairs}
 use Rattle.rational.specs.Rational.{ℚ, ◌≤ℚ◌, ◌<ℚ◌}
 use Rattle.run_laws.specs.Servers.{start}
-use Rattle.net_model.specs.Networks.{NetServer}
-use Rattle.net_model.specs.Traces.{SpecTrace}
-use Rattle.stated_runs.specs.Setups.{StallTimes, IsStalled}
-use Rattle.stated_runs.specs.FromTraces.{gate_of, stalls_at}
-use Rattle.stated_runs.specs.TimeGrids.{AreStallTimes}
-use Rattle.sim_servers.specs.declared.opening.Span.{Span}
-use Rattle.sim_servers.specs.declared.station.Next.TheVariants.{Nothing}
-use Rattle.sim_servers.specs.declared.station.Station.{Station}
-use Rattle.sim_servers.specs.Openings.{gate_for, stall_times}
-use Rattle.sim_servers.specs.Queues.{served_by, room_of, StandFor}
+use Rattle.sim_bounds.specs.net_model.specs.Networks.{NetServer}
+use Rattle.sim_bounds.specs.net_model.specs.Traces.{SpecTrace}
+use Rattle.sim_bounds.specs.stated_runs.specs.Setups.{StallTimes, IsStalled}
+use Rattle.sim_bounds.specs.stated_runs.specs.FromTraces.{gate_of, stalls_at}
+use Rattle.sim_bounds.specs.stated_runs.specs.TimeGrids.{AreStallTimes}
+use Rattle.sim_loop.specs.sim_servers.specs.declared.opening.Span.{Span}
+use Rattle.sim_loop.specs.sim_servers.specs.declared.station.Next.TheVariants.{Nothing}
+use Rattle.sim_loop.specs.sim_servers.specs.declared.station.Station.{Station}
+use Rattle.sim_loop.specs.sim_servers.specs.Openings.{gate_for, stall_times}
+use Rattle.sim_loop.specs.sim_servers.specs.Queues.{served_by, room_of, StandFor}
 
 -- the same stalls, in the order of their starts
 pub record AreSorted (stalls : List StallTimes) (spans : List Span) : Type 0 where

@@ -3,14 +3,14 @@ use Rattle.std.specs.Prelude.{Option, Some, ◌≡◌, ℕ, ◌<◌, ◌^◌, Li
 use Rattle.rational.specs.Rational.{ℚ}
 use Rattle.run_laws.specs.declared.steps.Step.{Step}
 use Rattle.index_links.specs.Chains.{Chains}
-use Rattle.queue_sched.specs.declared.turn.Turn.{Turn}
-use Rattle.stated_runs.specs.Setups.{Setup, IsSetup}
-use Rattle.stated_runs.specs.TimeGrids.{AreStallTimes, RunFits}
-use Rattle.sim_servers.specs.declared.due.Due.{Due}
-use Rattle.sim_servers.specs.declared.station.Station.{Station}
-use Rattle.sim_servers.specs.Openings.{opening_for}
-use Rattle.sim_states.specs.declared.arrival.Arrival.{Arrival}
-use Rattle.sim_states.specs.Running.{IsRunning, IsFirstCandidate}
+use Rattle.sim_loop.specs.queue_sched.specs.declared.turn.Turn.{Turn}
+use Rattle.sim_bounds.specs.stated_runs.specs.Setups.{Setup, IsSetup}
+use Rattle.sim_bounds.specs.stated_runs.specs.TimeGrids.{AreStallTimes, RunFits}
+use Rattle.sim_loop.specs.sim_servers.specs.declared.due.Due.{Due}
+use Rattle.sim_loop.specs.sim_servers.specs.declared.station.Station.{Station}
+use Rattle.sim_loop.specs.sim_servers.specs.Openings.{opening_for}
+use Rattle.sim_loop.specs.sim_states.specs.declared.arrival.Arrival.{Arrival}
+use Rattle.sim_loop.specs.sim_states.specs.Running.{IsRunning, IsFirstCandidate}
 use Rattle.sim_loop.specs.Moves.{HasTurned}
 
 -- the stalls that the stations keep are times of the grid

@@ -1,12 +1,12 @@
 -- What a step of the simulator asks for, and what it gives.
 use Rattle.std.specs.Prelude.{Option, ◌≡◌, ◌+◌, length}
-use Rattle.queue_sched.specs.declared.turn.Turn.{Turn}
-use Rattle.net_model.specs.Networks.{Net}
-use Rattle.net_model.specs.Traces.{SpecTrace}
+use Rattle.sim_loop.specs.queue_sched.specs.declared.turn.Turn.{Turn}
+use Rattle.sim_bounds.specs.net_model.specs.Networks.{Net}
+use Rattle.sim_bounds.specs.net_model.specs.Traces.{SpecTrace}
 use Rattle.run_laws.specs.Lawful.{run_start}
-use Rattle.stated_runs.specs.FromTraces.{setup_of}
-use Rattle.stated_runs.specs.Simulated.{Follows}
-use Rattle.sim_servers.specs.declared.due.Due.{Due}
+use Rattle.sim_bounds.specs.stated_runs.specs.FromTraces.{setup_of}
+use Rattle.sim_bounds.specs.stated_runs.specs.Simulated.{Follows}
+use Rattle.sim_loop.specs.sim_servers.specs.declared.due.Due.{Due}
 use Rattle.packet_sim.specs.declared.simulation.Simulation.{Simulation}
 use Rattle.packet_sim.specs.Simulating.{IsSimulating, IsFirstDue, IsTurning}
 

@@ -3,12 +3,12 @@
 ghost use Rattle.std.specs.Prelude.{◌≡◌, ◌+◌, ◌<◌, ◌≤◌, ◌^◌, IfOk, AllPairs, length, map};
 ghost use Rattle.std.specs.List.Sorted.{IsPermutation};
 ghost use Rattle.rational.specs.Rational.{◌≤ℚ◌};
-ghost use Rattle.net_model.specs.Accepted.{HasFewQueues};
-ghost use Rattle.net_model.specs.Views.{discipline_of, server_of};
-ghost use Rattle.stated_runs.specs.FromTraces.{gate_of as gate_times_of, stalls_at, IsTraceOf};
-ghost use Rattle.sim_servers.specs.declared.opening.Span.{Span as SpecSpan};
-ghost use Rattle.sim_servers.specs.Openings.{gate_for, stall_times};
-ghost use Rattle.net_model.specs.Walks.{IsFeedForward};
+ghost use Rattle.sim_bounds.specs.net_model.specs.Accepted.{HasFewQueues};
+ghost use Rattle.sim_bounds.specs.net_model.specs.Views.{discipline_of, server_of};
+ghost use Rattle.sim_bounds.specs.stated_runs.specs.FromTraces.{gate_of as gate_times_of, stalls_at, IsTraceOf};
+ghost use Rattle.sim_loop.specs.sim_servers.specs.declared.opening.Span.{Span as SpecSpan};
+ghost use Rattle.sim_loop.specs.sim_servers.specs.Openings.{gate_for, stall_times};
+ghost use Rattle.sim_bounds.specs.net_model.specs.Walks.{IsFeedForward};
 ghost use Rattle.sim_bounds.specs.Gauge.{simulation_gauge};
 ghost use Rattle.packet_sim.specs.Fresh.{AreSorted, IsFresh, AreFresh};
 ghost use Rattle.packet_sim.specs.Stepping.{Simulates};
@@ -16,9 +16,9 @@ ghost use Rattle.packet_sim.specs.Stepping.{Simulates};
 use crate::simulation::Simulation;
 use fraction128::Frac;
 use index_links::Links;
-use net_model::{Network, Server, ServiceKind, Stall, Trace};
-use sim_servers::{Gate, Next, Opening, ServerQueues, Span, Station};
-use sim_states::Arrival;
+use sim_bounds::net_model::{Network, Server, ServiceKind, Stall, Trace};
+use sim_loop::sim_servers::{Gate, Next, Opening, ServerQueues, Span, Station};
+use sim_loop::sim_states::Arrival;
 use std::alloc::{AllocError, Global};
 
 /// The gate of a server, if it has one.

@@ -1,19 +1,19 @@
 //! The run with its worst delays and its peaks.
 
 ghost use Rattle.std.specs.Prelude.{◌<◌, ◌^◌, IfOk, length};
-ghost use Rattle.net_model.specs.NetRoutes.{routes_of};
-ghost use Rattle.net_model.specs.Walks.{IsFeedForward};
-ghost use Rattle.stated_runs.specs.FromTraces.{setup_of, IsTraceOf};
-ghost use Rattle.stated_runs.specs.Simulated.{IsSimulated};
+ghost use Rattle.sim_bounds.specs.net_model.specs.NetRoutes.{routes_of};
+ghost use Rattle.sim_bounds.specs.net_model.specs.Walks.{IsFeedForward};
+ghost use Rattle.sim_bounds.specs.stated_runs.specs.FromTraces.{setup_of, IsTraceOf};
+ghost use Rattle.sim_bounds.specs.stated_runs.specs.Simulated.{IsSimulated};
 ghost use Rattle.sim_bounds.specs.Gauge.{simulation_gauge};
 ghost use Rattle.run_measures.specs.Peaks.{rows_of, ArePeaks};
 ghost use Rattle.run_measures.specs.Worst.{AreWorst};
 
 use crate::run::run_of;
 use fraction128::Frac;
-use net_model::{Network, Trace};
 use run_laws::Run;
 use run_measures::{peaks, worst_delays};
+use sim_bounds::net_model::{Network, Trace};
 use std::alloc::{AllocError, Global};
 
 /// The stated run of a network and a trace, its worst delays and its peaks.

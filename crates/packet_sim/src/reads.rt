@@ -1,14 +1,14 @@
 //! What is looked up for a step.
 
 ghost use Rattle.std.specs.Prelude.{◌≡◌, ◌<◌, Some, length, map, slice_get};
-ghost use Rattle.stated_runs.specs.Setups.{Setup, packet_of};
-ghost use Rattle.stated_runs.specs.FromTraces.{entering};
-ghost use Rattle.sim_servers.specs.declared.station.Station.{Station as SpecStation};
-ghost use Rattle.sim_servers.specs.Stations.{rest_for};
+ghost use Rattle.sim_bounds.specs.stated_runs.specs.Setups.{Setup, packet_of};
+ghost use Rattle.sim_bounds.specs.stated_runs.specs.FromTraces.{entering};
+ghost use Rattle.sim_loop.specs.sim_servers.specs.declared.station.Station.{Station as SpecStation};
+ghost use Rattle.sim_loop.specs.sim_servers.specs.Stations.{rest_for};
 
 use fraction128::Frac;
-use net_model::{Trace, TracePacket};
-use sim_servers::{Rest, Station, rest_of};
+use sim_bounds::net_model::{Trace, TracePacket};
+use sim_loop::sim_servers::{Rest, Station, rest_of};
 
 /// The packet of a number.
 pub(crate) fn packet_at(trace: &Trace, number: u32) -> TracePacket

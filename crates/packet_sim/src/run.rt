@@ -3,21 +3,21 @@
 ghost use Rattle.std.specs.Prelude.{◌≡◌, ◌+◌, ◌<◌, ◌^◌, ℕ, pos, IfOk, OnOk, length};
 ghost use Rattle.rational.specs.Rational.{ℚ, int};
 ghost use Rattle.run_laws.specs.Lawful.{IsLawful};
-ghost use Rattle.net_model.specs.NetRoutes.{routes_of};
-ghost use Rattle.net_model.specs.Walks.{IsFeedForward};
-ghost use Rattle.stated_runs.specs.DueSteps.{step_time};
-ghost use Rattle.stated_runs.specs.FromTraces.{setup_of, IsTraceOf};
-ghost use Rattle.stated_runs.specs.Simulated.{IsSimulated, last_time};
+ghost use Rattle.sim_bounds.specs.net_model.specs.NetRoutes.{routes_of};
+ghost use Rattle.sim_bounds.specs.net_model.specs.Walks.{IsFeedForward};
+ghost use Rattle.sim_bounds.specs.stated_runs.specs.DueSteps.{step_time};
+ghost use Rattle.sim_bounds.specs.stated_runs.specs.FromTraces.{setup_of, IsTraceOf};
+ghost use Rattle.sim_bounds.specs.stated_runs.specs.Simulated.{IsSimulated, last_time};
 ghost use Rattle.sim_bounds.specs.Gauge.{simulation_gauge};
 ghost use Rattle.run_measures.specs.Worst.{DelaysFit};
 ghost use Rattle.packet_sim.specs.Stepping.{Simulates, ComesNext, HasStepped, HasEnded};
 
 use crate::simulation::Simulation;
 use fraction128::Frac;
-use net_model::{Network, Trace};
 use run_laws::{Run, Step};
+use sim_bounds::net_model::{Network, Trace};
 use sim_loop::first_due;
-use sim_servers::{Due, DueKind};
+use sim_loop::sim_servers::{Due, DueKind};
 use std::alloc::{AllocError, Global};
 
 impl Simulation {

@@ -2,8 +2,8 @@
 
 use index_links::Links;
 use run_laws::Step;
-use sim_servers::Station;
-use sim_states::Arrival;
+use sim_loop::sim_servers::Station;
+use sim_loop::sim_states::Arrival;
 
 /// The state of a simulation between two steps.
 #[derive(Drop)]

@@ -1,17 +1,17 @@
 //! Steps in which a server works, or turns to a queue.
 
 ghost use Rattle.std.specs.Prelude.{◌≡◌, OnOk, Some};
-ghost use Rattle.queue_sched.specs.declared.turn.Turn.TheVariants as turns;
+ghost use Rattle.sim_loop.specs.queue_sched.specs.declared.turn.Turn.TheVariants as turns;
 ghost use Rattle.packet_sim.specs.Stepping.{ComesNext, TakesTurn, HasStepped};
 
 use crate::reads::{packet_at, rate_at, rest_at};
 use crate::simulation::Simulation;
 use fraction128::{Frac, quotient};
-use net_model::{Network, Trace};
-use queue_sched::Turn;
 use run_laws::Step;
+use sim_bounds::net_model::{Network, Trace};
+use sim_loop::queue_sched::Turn;
+use sim_loop::sim_servers::{Due, DueKind};
 use sim_loop::{turn_at, work_at};
-use sim_servers::{Due, DueKind};
 use std::alloc::AllocError;
 
 impl Simulation {

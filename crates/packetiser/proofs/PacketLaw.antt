@@ -5,7 +5,7 @@ use Rattle.rational.specs.Rational.{ℚ, ◌-ℚ◌, ◌≤ℚ◌}
 use Rattle.rational.specs.Extended.{Ext, ◌≤ₑ◌, ◌+ₑ◌}
 use Rattle.rational.specs.declared.Extended.TheVariants.{Fin}
 use Rattle.rational.proofs.Linear.{with2}
-use Rattle.upp_curve.specs.Curve.{value_at}
+use Rattle.curve_pointwise.specs.upp_curve.specs.Curve.{value_at}
 use Rattle.min_plus.specs.Functions.{zero_q}
 use Rattle.min_plus.specs.Pointwise.{packetised}
 use Rattle.run_laws.specs.Cards.{Class, whole, ServerStep}

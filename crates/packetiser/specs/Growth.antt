@@ -2,12 +2,12 @@
 use Rattle.std.specs.Prelude.{Ok}
 use Rattle.rational.specs.Rational.{ℚ, ◌≤ℚ◌}
 use Rattle.rational.specs.Extended.{Ext}
-use Rattle.upp_limits.specs.declared.op_kind.OpKind.TheVariants.{PosMinus}
-use Rattle.upp_curve.specs.Curve.{SpecCurve, value_at}
+use Rattle.curve_pointwise.specs.upp_limits.specs.declared.op_kind.OpKind.TheVariants.{PosMinus}
+use Rattle.curve_pointwise.specs.upp_curve.specs.Curve.{SpecCurve, value_at}
 use Rattle.min_plus.specs.Functions.{zero_q}
 use Rattle.min_plus.specs.Pointwise.{IsPositiveMinus}
-use Rattle.curve_call.specs.Calls.{AppliesTo}
-use Rattle.curve_call.specs.Growth.{GrowsFromZero, IsGrowingCurve}
+use Rattle.curve_pointwise.specs.curve_call.specs.Calls.{AppliesTo}
+use Rattle.curve_pointwise.specs.curve_call.specs.Growth.{GrowsFromZero, IsGrowingCurve}
 
 -- R is β less l bits
 abbrev pub PacketServiceGrows : Type 0

@@ -2,20 +2,20 @@
 
 ghost use Rattle.std.specs.Prelude.{◌≡◌, ◌+◌, IfOk};
 ghost use Rattle.rational.specs.Rational.{ℚ, ◌≤ℚ◌};
-ghost use Rattle.upp_limits.specs.declared.op_kind.OpKind.TheVariants.{PosMinus};
-ghost use Rattle.upp_curve.specs.Curve.{value_at};
+ghost use Rattle.curve_pointwise.specs.upp_limits.specs.declared.op_kind.OpKind.TheVariants.{PosMinus};
+ghost use Rattle.curve_pointwise.specs.upp_curve.specs.Curve.{value_at};
 ghost use Rattle.min_plus.specs.Functions.{zero_q, IsFinite};
 ghost use Rattle.min_plus.specs.Pointwise.{IsPositiveMinus};
-ghost use Rattle.curve_call.specs.Calls.{AppliesTo};
+ghost use Rattle.curve_pointwise.specs.curve_call.specs.Calls.{AppliesTo};
 
-use curve_call::intact;
+use curve_pointwise::curve_call::intact;
 use curve_pointwise::pos_minus;
+use curve_pointwise::upp_curve::Curve;
+use curve_pointwise::upp_limits::OpFault;
 use fraction128::Frac;
 use std::alloc::Global;
 use std::sync::ledger::Ledger;
 use steps::Steps;
-use upp_curve::Curve;
-use upp_limits::OpFault;
 
 /// The service of whole packets by a server whose curve is `beta`: at each time the greater of 0 and beta less `l`,
 /// the bits of the longest packet (Le Boudec and Thiran, packetisers). beta is finite. One operator, one step; it is

@@ -3,4 +3,5 @@
 
 mod plain;
 
+pub use fraction128;
 pub use plain::is_plain;

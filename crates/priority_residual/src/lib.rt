@@ -3,6 +3,7 @@
 
 mod service;
 
+pub use curve_running;
+pub use residual_calls::residual_laws::priority_serves;
 pub use residual_calls::{priority_curve_serves, priority_is_determined, priority_service_grows};
-pub use residual_laws::priority_serves;
 pub use service::priority_service;

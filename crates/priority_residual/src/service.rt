@@ -1,21 +1,21 @@
 //! The curve of a priority queue's service.
 
 ghost use Rattle.std.specs.Prelude.{◌≡◌, ◌+◌, ◌-◌, ◌≤◌, IfOk, IfErr};
-ghost use Rattle.upp_curve.specs.Curve.{value_at};
+ghost use Rattle.curve_running.specs.upp_curve.specs.Curve.{value_at};
 ghost use Rattle.min_plus.specs.Functions.{IsFinite};
 ghost use Rattle.residual_calls.specs.PriorityCalls.{LeavesPriority, MakesPriority};
-ghost use Rattle.residual_laws.specs.PriorityLaws.{IsPriorityService};
+ghost use Rattle.residual_calls.specs.residual_laws.specs.PriorityLaws.{IsPriorityService};
 ghost use Rattle.residual_calls.specs.InTurn.{LeftRefused, PriorityRefused};
 
-use curve_call::intact;
-use curve_pointwise::{pos_diff, pos_minus};
+use curve_running::curve_pointwise::{pos_diff, pos_minus};
 use curve_running::run_sup;
-use run_laws::whole;
+use curve_running::upp_curve::Curve;
+use curve_running::upp_limits::OpFault;
+use residual_calls::curve_call::intact;
+use residual_calls::run_laws::whole;
 use std::alloc::Global;
 use std::sync::ledger::Ledger;
 use steps::Steps;
-use upp_curve::Curve;
-use upp_limits::OpFault;
 // What the service has above the higher queues' curve, less one packet of the lower queues. Its first curve is let go
 // here.
 fn priority_left<L: Ledger>(

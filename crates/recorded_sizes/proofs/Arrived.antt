@@ -12,7 +12,7 @@ use Rattle.run_laws.specs.Premises.{EachArrival, NoneTwice}
 use Rattle.run_laws.specs.Routes.{Routes}
 use Rattle.run_laws.specs.Views.{Entry, entry_of, entered_after, server_of, seen, view_from, view}
 use Rattle.run_laws.proofs.Entries.{entry_before}
-use Rattle.first_breaches.specs.Sizes.{bits_in}
+use Rattle.simulated_sizes.specs.first_breaches.specs.Sizes.{bits_in}
 use Rattle.check_gauge.specs.Runs.{entering_bits, total_bits}
 
 abbrev bits_of : Entry → ℕ

@@ -14,11 +14,11 @@ use Rattle.upp_limits.proofs.NarrowSizes.{narrow_limit, scaled_fits}
 use Rattle.run_laws.specs.declared.steps.Step.{Step}
 use Rattle.run_laws.specs.declared.steps.Step.TheVariants.{Enter, Reach, Work, Leave, Visit}
 use Rattle.run_laws.specs.Runs.{SpecRun}
-use Rattle.net_model.specs.Networks.{Net}
-use Rattle.net_model.specs.NetRoutes.{routes_of}
-use Rattle.net_model.specs.Accepted.{IsAccepted}
-use Rattle.stated_runs.specs.TimeGrids.{HasRoom, IsTime}
-use Rattle.sim_bounds.specs.Gauge.{numbers_of_curves, curves_of}
+use Rattle.simulated_sizes.specs.net_model.specs.Networks.{Net}
+use Rattle.simulated_sizes.specs.net_model.specs.NetRoutes.{routes_of}
+use Rattle.simulated_sizes.specs.net_model.specs.Accepted.{IsAccepted}
+use Rattle.simulated_sizes.specs.stated_runs.specs.TimeGrids.{HasRoom, IsTime}
+use Rattle.simulated_sizes.specs.sim_bounds.specs.Gauge.{numbers_of_curves, curves_of}
 use Rattle.run_check.specs.Walks.{StepFits}
 use Rattle.check_gauge.specs.Runs.{entering_bits, total_bits, works_of, last_time}
 use Rattle.check_gauge.specs.Gauge.{check_sizes, farthest}

@@ -20,15 +20,15 @@ use Rattle.run_laws.specs.Lawful.{RunState, next_run, run_start, AllAllowedInRun
 use Rattle.net_laws.specs.Paths as paths
 use Rattle.net_laws.specs.Once.{IsOverPaths}
 use Rattle.net_laws.proofs.PathRuns.{none_arrives_twice}
-use Rattle.net_model.specs.Networks.{Net}
-use Rattle.net_model.specs.NetRoutes.{routes_of}
-use Rattle.net_model.specs.Accepted.{IsAccepted}
-use Rattle.stated_runs.specs.Setups.{AreHopsOf}
-use Rattle.sim_bounds.specs.Horizons.{latest_of}
-use Rattle.sim_bounds.specs.Gauge.{numbers_of_curves, curves_of}
-use Rattle.watch_laws.specs.Entries.{entries}
-use Rattle.first_breaches.specs.Sizes.{StepStands}
-use Rattle.broken_laws.specs.Recorded.{PassOnce}
+use Rattle.simulated_sizes.specs.net_model.specs.Networks.{Net}
+use Rattle.simulated_sizes.specs.net_model.specs.NetRoutes.{routes_of}
+use Rattle.simulated_sizes.specs.net_model.specs.Accepted.{IsAccepted}
+use Rattle.simulated_sizes.specs.stated_runs.specs.Setups.{AreHopsOf}
+use Rattle.simulated_sizes.specs.sim_bounds.specs.Horizons.{latest_of}
+use Rattle.simulated_sizes.specs.sim_bounds.specs.Gauge.{numbers_of_curves, curves_of}
+use Rattle.simulated_sizes.specs.watch_laws.specs.Entries.{entries}
+use Rattle.simulated_sizes.specs.first_breaches.specs.Sizes.{StepStands}
+use Rattle.run_check.specs.broken_laws.specs.Recorded.{PassOnce}
 use Rattle.run_check.proofs.Started.{has_paths}
 use Rattle.simulated_sizes.proofs.Numbers.{service_stands, arrival_stands}
 use Rattle.check_gauge.specs.Runs.{step_end, last_time, work_pace, paces_of, IsFromZero}

@@ -9,15 +9,15 @@ use Rattle.upp_curve.specs.Curve.{SpecCurve}
 use Rattle.upp_curve.specs.Curves.{IsCurve}
 use Rattle.net_model.specs.Networks.{Net, NetServer, NetFlow}
 use Rattle.net_draft.specs.Texts.{FlowText, CurveText, DraftText}
-use Rattle.net_text.specs.Becoming.{Becomes}
-use Rattle.net_text.specs.Built.{IsServerOf, IsLiveFlowOf, IsBuilt}
-use Rattle.net_text.specs.FoldLimits.{OverFold}
-use Rattle.net_text.proofs.Zips.{zip_all}
+use Rattle.run_findings.specs.net_text.specs.Becoming.{Becomes}
+use Rattle.run_findings.specs.net_text.specs.Built.{IsServerOf, IsLiveFlowOf, IsBuilt}
+use Rattle.run_findings.specs.net_text.specs.FoldLimits.{OverFold}
+use Rattle.run_findings.specs.net_text.proofs.Zips.{zip_all}
 use Rattle.net_cells.specs.Numbered.{service_of, arrival_of, flow_at}
 use Rattle.net_cells.proofs.Tables.{answers_meet}
-use Rattle.net_bounds.proofs.Kept.{table_bounds_every_run}
+use Rattle.run_findings.specs.net_bounds.proofs.Kept.{table_bounds_every_run}
 use Rattle.analyse_command.specs.OnFiles.{report}
-use Rattle.simulated_sizes.specs.Laws.{AreCurves}
+use Rattle.run_findings.specs.simulated_sizes.specs.Laws.{AreCurves}
 use Rattle.table_existence.proofs.Sound.{zero_is}
 use Rattle.table_existence.proofs.Tables.{tables_or_limits}
 use Rattle.report_existence.specs.Laws.{FilesHaveReports}

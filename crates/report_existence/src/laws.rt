@@ -3,7 +3,7 @@
 ghost use Rattle.net_model.specs.Orders.{IsOrder};
 ghost use Rattle.net_cells.specs.Meanings.{CellTable};
 ghost use Rattle.net_cells.specs.Equations.{MeetsEquations};
-ghost use Rattle.service_existence.specs.Tables.{TableOrLimit};
+ghost use Rattle.table_existence.specs.Tables.{TableOrLimit};
 ghost use Rattle.table_existence.specs.Networks.{NoneIsOver};
 ghost use Rattle.report_existence.specs.Laws.{FilesHaveReports};
 

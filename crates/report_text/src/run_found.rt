@@ -1,7 +1,7 @@
 //! What a report on a run tells.
 
-use fraction128::Frac;
-use net_model::Breach;
+use table_text::fraction128::Frac;
+use table_text::net_model::Breach;
 
 /// What a simulation of a network found.
 #[derive(Debug, Drop)]

@@ -11,9 +11,9 @@ use crate::run_lines::{push_breach_line, push_peak_line, push_run_line, push_wor
 use crate::shown::ShownValue;
 use cell_table::Table;
 use cell_table::net_cells::{live_flow, queues};
-use fraction128::Frac;
-use net_model::Network;
 use std::alloc::{AllocError, Global};
+use table_text::fraction128::Frac;
+use table_text::net_model::Network;
 
 // The line of a flow, where it is live.
 fn push_live_worst<V: ShownValue, T: Table<V>>(

@@ -2,15 +2,15 @@
 use Rattle.std.specs.Prelude.{◌≡◌, ℕ, List, Result, Ok, Err, IfOk}
 use Rattle.std.proofs.Common.{ap, ◌∙◌, subst}
 use Rattle.std.proofs.lemmas.List.Elements.{All-get_or}
-use Rattle.rational.specs.Rational.{ℚ, ◌*ℚ◌}
-use Rattle.rational.specs.Extended.{Ext}
-use Rattle.rational.specs.declared.Extended.TheVariants.{Fin}
+use Rattle.curve_call.specs.rational.specs.Rational.{ℚ, ◌*ℚ◌}
+use Rattle.curve_call.specs.rational.specs.Extended.{Ext}
+use Rattle.curve_call.specs.rational.specs.declared.Extended.TheVariants.{Fin}
 use Rattle.curve_call.specs.upp_limits.specs.declared.op_kind.OpKind.TheVariants.{Scale, PosMinus}
 use Rattle.curve_call.specs.upp_limits.specs.declared.op_kind.OpFault.{OpFault}
 use Rattle.curve_call.specs.upp_curve.specs.Curve.{SpecCurve, value_at}
 use Rattle.curve_call.specs.upp_curve.specs.Curves.{IsCurve}
-use Rattle.min_plus.specs.Functions.{IsFinite}
-use Rattle.min_plus.specs.Pointwise.{excess, scaled}
+use Rattle.curve_call.specs.min_plus.specs.Functions.{IsFinite}
+use Rattle.curve_call.specs.min_plus.specs.Pointwise.{excess, scaled}
 use Rattle.curve_call.specs.Answers.{IsMadeBy}
 use Rattle.curve_call.specs.Calls.{AppliesTo, goes_on, stops}
 use Rattle.curve_call.proofs.InTurn.{applies_determined, then_determined}

@@ -3,12 +3,12 @@
 use Rattle.std.specs.Prelude.{◌≡◌, ◌≤◌, ◌<◌, ℕ, get_or, sum}
 use Rattle.std.proofs.Common.{arith, refl}
 use Rattle.std.proofs.lemmas.List.Elements.{All-get_or}
-use Rattle.rational.specs.Rational.{ℚ, ◌≤ℚ◌}
-use Rattle.rational.specs.Extended.{Ext}
+use Rattle.curve_call.specs.rational.specs.Rational.{ℚ, ◌≤ℚ◌}
+use Rattle.curve_call.specs.rational.specs.Extended.{Ext}
 use Rattle.curve_call.specs.upp_limits.specs.declared.op_kind.OpKind.TheVariants.{Scale, PosMinus}
 use Rattle.curve_call.specs.upp_curve.specs.Curve.{value_at}
-use Rattle.min_plus.specs.Functions.{zero_q}
-use Rattle.min_plus.specs.Pointwise.{scaled}
+use Rattle.curve_call.specs.min_plus.specs.Functions.{zero_q}
+use Rattle.curve_call.specs.min_plus.specs.Pointwise.{scaled}
 use Rattle.curve_call.specs.Growth.{GrowsFromZero}
 use Rattle.curve_call.proofs.GrowingAnswers.{growing_answers}
 use Rattle.residual_calls.specs.DrrCalls.{IsQuantum}

@@ -3,15 +3,15 @@ use Rattle.std.specs.Prelude.{◌≡◌, ◌≢◌, ◌+◌, ◌-◌, ◌*◌, �
 use Rattle.std.proofs.Common.{arith, sym, ap, ap₂, ◌∙◌, refl}
 use Rattle.std.proofs.lemmas.List.Elements.{All-get_or, All-from_get_or}
 use Rattle.std.proofs.lemmas.List.Sums.{sum_by-le, get_or-le-sum_by}
-use Rattle.rational.specs.Rational.{ℚ, ◌+ℚ◌, ◌-ℚ◌, ◌*ℚ◌, ◌/ℚ◌}
-use Rattle.rational.specs.Ratio.{ratio, IsSmall}
-use Rattle.rational.proofs.Parts.{small_ratio}
-use Rattle.rational.proofs.Linear.{with3}
-use Rattle.rational.proofs.Quotients.{frac_is_div}
-use Rattle.run_laws.specs.Cards.{whole}
-use Rattle.run_laws.proofs.Sizes.{whole_sum, whole_times}
-use Rattle.fraction128.specs.declared.fault.FracFault.{FracFault}
-use Rattle.fraction128.specs.declared.fault.FracFault.TheVariants.{ZeroDen, TooBig}
+use Rattle.curve_call.specs.rational.specs.Rational.{ℚ, ◌+ℚ◌, ◌-ℚ◌, ◌*ℚ◌, ◌/ℚ◌}
+use Rattle.curve_call.specs.rational.specs.Ratio.{ratio, IsSmall}
+use Rattle.curve_call.specs.rational.proofs.Parts.{small_ratio}
+use Rattle.curve_call.specs.rational.proofs.Linear.{with3}
+use Rattle.curve_call.specs.rational.proofs.Quotients.{frac_is_div}
+use Rattle.residual_laws.specs.run_laws.specs.Cards.{whole}
+use Rattle.residual_laws.specs.run_laws.proofs.Sizes.{whole_sum, whole_times}
+use Rattle.curve_call.specs.fraction128.specs.declared.fault.FracFault.{FracFault}
+use Rattle.curve_call.specs.fraction128.specs.declared.fault.FracFault.TheVariants.{ZeroDen, TooBig}
 use Rattle.residual_calls.specs.DrrCalls.{IsQuantum, AreQueues}
 use Rattle.residual_laws.specs.DrrLaws.{owed}
 

@@ -7,7 +7,7 @@ use Rattle.curve_call.specs.upp_limits.specs.declared.op_kind.OpFault.{OpFault}
 use Rattle.curve_call.specs.upp_limits.specs.declared.op_kind.OpFault.TheVariants.{TooMany, TooWide, NoMemory}
 use Rattle.curve_call.specs.upp_limits.specs.Outcome.{IsWithin, IsCauseOf}
 use Rattle.curve_call.specs.upp_curve.specs.Curve.{SpecCurve}
-use Rattle.run_laws.specs.Cards.{whole}
+use Rattle.residual_laws.specs.run_laws.specs.Cards.{whole}
 use Rattle.curve_call.specs.Calls.{Applies, AppliesTo, Then, goes_on, stops}
 use Rattle.curve_call.specs.Determined.{IsDetermined}
 use Rattle.curve_call.proofs.InTurn.{applies_determined, then_determined}

@@ -2,18 +2,18 @@
 -- priority queue.
 use Rattle.std.specs.Prelude.{◌≡◌, ℕ, Result, Ok, Err, IfOk}
 use Rattle.std.proofs.Common.{sym, ap, ◌∙◌, subst}
-use Rattle.rational.specs.Rational.{ℚ, ◌≤ℚ◌}
-use Rattle.rational.specs.Extended.{Ext, ◌≤ₑ◌}
-use Rattle.rational.specs.declared.Extended.TheVariants.{Fin}
-use Rattle.rational.proofs.Bounds.{same_supremum}
-use Rattle.rational.proofs.ExtendedOrder.{same_le_ext}
+use Rattle.curve_call.specs.rational.specs.Rational.{ℚ, ◌≤ℚ◌}
+use Rattle.curve_call.specs.rational.specs.Extended.{Ext, ◌≤ₑ◌}
+use Rattle.curve_call.specs.rational.specs.declared.Extended.TheVariants.{Fin}
+use Rattle.curve_call.specs.rational.proofs.Bounds.{same_supremum}
+use Rattle.curve_call.specs.rational.proofs.ExtendedOrder.{same_le_ext}
 use Rattle.curve_call.specs.upp_limits.specs.declared.op_kind.OpKind.TheVariants.{PosDiff, PosMinus, RunSup}
 use Rattle.curve_call.specs.upp_limits.specs.declared.op_kind.OpFault.{OpFault}
 use Rattle.curve_call.specs.upp_curve.specs.Curve.{SpecCurve, value_at}
 use Rattle.curve_call.specs.upp_curve.specs.Curves.{IsCurve}
-use Rattle.min_plus.specs.Functions.{zero_q, UpTo, IsFinite, IsNonnegative}
-use Rattle.min_plus.specs.Pointwise.{excess}
-use Rattle.run_laws.specs.Cards.{whole}
+use Rattle.curve_call.specs.min_plus.specs.Functions.{zero_q, UpTo, IsFinite, IsNonnegative}
+use Rattle.curve_call.specs.min_plus.specs.Pointwise.{excess}
+use Rattle.residual_laws.specs.run_laws.specs.Cards.{whole}
 use Rattle.curve_call.specs.Answers.{IsMadeBy}
 use Rattle.curve_call.specs.Calls.{Applies, AppliesTo, goes_on, stops}
 use Rattle.curve_call.proofs.Excesses.{finite_excess, excess_nonneg}

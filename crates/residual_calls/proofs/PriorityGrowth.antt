@@ -1,16 +1,16 @@
 -- What a queue of a priority server is served grows from zero where the service does: what is left is at most the
 -- service, and so at most the service at any later time.
 use Rattle.std.specs.Prelude.{ℕ}
-use Rattle.rational.specs.Rational.{ℚ, ◌≤ℚ◌}
-use Rattle.rational.specs.Extended.{Ext, ◌≤ₑ◌}
-use Rattle.rational.specs.declared.Extended.TheVariants.{Fin}
-use Rattle.rational.proofs.ExtendedOrder.{le_ext_trans, same_le_ext}
-use Rattle.rational.proofs.Laws.{le_refl}
+use Rattle.curve_call.specs.rational.specs.Rational.{ℚ, ◌≤ℚ◌}
+use Rattle.curve_call.specs.rational.specs.Extended.{Ext, ◌≤ₑ◌}
+use Rattle.curve_call.specs.rational.specs.declared.Extended.TheVariants.{Fin}
+use Rattle.curve_call.specs.rational.proofs.ExtendedOrder.{le_ext_trans, same_le_ext}
+use Rattle.curve_call.specs.rational.proofs.Laws.{le_refl}
 use Rattle.curve_call.specs.upp_curve.specs.Curve.{value_at}
-use Rattle.min_plus.specs.Functions.{zero_q, IsNonnegative}
-use Rattle.min_plus.specs.Pointwise.{excess}
-use Rattle.run_laws.specs.Cards.{whole}
-use Rattle.run_laws.proofs.Sizes.{whole_nonneg}
+use Rattle.curve_call.specs.min_plus.specs.Functions.{zero_q, IsNonnegative}
+use Rattle.curve_call.specs.min_plus.specs.Pointwise.{excess}
+use Rattle.residual_laws.specs.run_laws.specs.Cards.{whole}
+use Rattle.residual_laws.specs.run_laws.proofs.Sizes.{whole_nonneg}
 use Rattle.curve_call.specs.Growth.{GrowsFromZero, IsBoundedFromZero}
 use Rattle.curve_call.proofs.Excesses.{excess_nonneg, excess_nothing, excess_most}
 use Rattle.curve_call.proofs.GrowingAnswers.{supremum_grows}

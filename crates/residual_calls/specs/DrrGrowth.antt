@@ -1,8 +1,8 @@
 -- What a queue of a deficit round robin server is served has the shape of a service curve, where the service has it.
 -- (Bouillard, Boyer and Le Corronc.)
 use Rattle.std.specs.Prelude.{◌≡◌, ◌≤◌, ◌<◌, ℕ, List, length, get_or, Ok}
-use Rattle.rational.specs.Rational.{ℚ}
-use Rattle.rational.specs.Extended.{Ext}
+use Rattle.curve_call.specs.rational.specs.Rational.{ℚ}
+use Rattle.curve_call.specs.rational.specs.Extended.{Ext}
 use Rattle.curve_call.specs.upp_curve.specs.Curve.{SpecCurve, value_at}
 use Rattle.curve_call.specs.Growth.{GrowsFromZero, IsGrowingCurve}
 use Rattle.residual_calls.specs.DrrCalls.{AreQueues, MakesDrr}

@@ -5,7 +5,7 @@ use Rattle.curve_call.specs.upp_limits.specs.declared.op_kind.OpKind.TheVariants
 use Rattle.curve_call.specs.upp_limits.specs.declared.op_kind.OpFault.{OpFault}
 use Rattle.curve_call.specs.upp_limits.specs.declared.op_kind.OpFault.TheVariants.{NoMemory}
 use Rattle.curve_call.specs.upp_curve.specs.Curve.{SpecCurve}
-use Rattle.run_laws.specs.Cards.{whole}
+use Rattle.residual_laws.specs.run_laws.specs.Cards.{whole}
 use Rattle.curve_call.specs.Calls.{Applies, AppliesTo}
 use Rattle.residual_calls.specs.PriorityCalls.{LeavesPriority, MakesPriority}
 use Rattle.residual_calls.specs.DrrCalls.{share_in, owed_in, MakesDrr}

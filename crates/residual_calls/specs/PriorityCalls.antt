@@ -2,15 +2,15 @@
 -- that less one packet of the lower queues, and its running supremum. (Le Boudec and Thiran, non-preemptive priority;
 -- the order of the calls is own choice.)
 use Rattle.std.specs.Prelude.{◌≡◌, ℕ, List, Result, Ok}
-use Rattle.rational.specs.Rational.{ℚ}
+use Rattle.curve_call.specs.rational.specs.Rational.{ℚ}
 use Rattle.curve_call.specs.upp_limits.specs.declared.op_kind.OpKind.TheVariants.{PosDiff, PosMinus, RunSup}
 use Rattle.curve_call.specs.upp_limits.specs.declared.op_kind.OpFault.{OpFault}
 use Rattle.curve_call.specs.upp_curve.specs.Curve.{SpecCurve, value_at}
-use Rattle.run_laws.specs.Cards.{whole, of_queue, before_queue, after_queue, ServerStep}
-use Rattle.run_laws.specs.Servers.{Priority, Server}
-use Rattle.run_laws.specs.Allows.{IsLawfulView}
-use Rattle.run_laws.specs.Premises.{KeepsArrivals, KeepsService, KeepsSizes, IsZeroAtStart}
-use Rattle.run_laws.specs.Serves.{Serves}
+use Rattle.residual_laws.specs.run_laws.specs.Cards.{whole, of_queue, before_queue, after_queue, ServerStep}
+use Rattle.residual_laws.specs.run_laws.specs.Servers.{Priority, Server}
+use Rattle.residual_laws.specs.run_laws.specs.Allows.{IsLawfulView}
+use Rattle.residual_laws.specs.run_laws.specs.Premises.{KeepsArrivals, KeepsService, KeepsSizes, IsZeroAtStart}
+use Rattle.residual_laws.specs.run_laws.specs.Serves.{Serves}
 use Rattle.curve_call.specs.Calls.{Applies, AppliesTo, Then}
 use Rattle.curve_call.specs.Determined.{IsDetermined}
 

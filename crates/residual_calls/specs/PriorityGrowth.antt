@@ -1,10 +1,10 @@
 -- What a queue of a priority server is served has the shape of a service curve, where the service has it and the
 -- higher queues' curve is nowhere below 0. (Le Boudec and Thiran, non-preemptive priority.)
 use Rattle.std.specs.Prelude.{ℕ, Ok}
-use Rattle.rational.specs.Rational.{ℚ}
-use Rattle.rational.specs.Extended.{Ext}
+use Rattle.curve_call.specs.rational.specs.Rational.{ℚ}
+use Rattle.curve_call.specs.rational.specs.Extended.{Ext}
 use Rattle.curve_call.specs.upp_curve.specs.Curve.{SpecCurve, value_at}
-use Rattle.min_plus.specs.Functions.{IsNonnegative}
+use Rattle.curve_call.specs.min_plus.specs.Functions.{IsNonnegative}
 use Rattle.curve_call.specs.Growth.{GrowsFromZero, IsGrowingCurve}
 use Rattle.residual_calls.specs.PriorityCalls.{MakesPriority}
 use Rattle.residual_laws.specs.PriorityLaws.{IsPriorityService}

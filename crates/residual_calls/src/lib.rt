@@ -6,6 +6,10 @@ mod drr;
 mod in_turn;
 mod priority;
 
+pub use curve_call;
+pub use curve_call::fraction128;
 pub use drr::{drr_curve_serves, drr_is_determined, drr_service_grows};
 pub use in_turn::services_are_placed;
 pub use priority::{priority_curve_serves, priority_is_determined, priority_service_grows};
+pub use residual_laws;
+pub use residual_laws::run_laws;

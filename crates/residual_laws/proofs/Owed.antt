@@ -1,11 +1,11 @@
 -- A queue's share of a deficit round robin server's service, and what is taken from that first, are from 0 on.
 use Rattle.std.specs.Prelude.{◌<◌, ◌≤◌, ℕ}
 use Rattle.std.proofs.Common.{arith}
-use Rattle.rational.specs.Rational.{ℚ, ◌+ℚ◌, ◌-ℚ◌, ◌*ℚ◌, ◌≤ℚ◌}
-use Rattle.rational.proofs.Laws.{mul_nonneg}
-use Rattle.rational.proofs.Linear.{with2, sub_nonneg}
-use Rattle.rational.proofs.Quotients.{div_nonneg}
-use Rattle.min_plus.specs.Functions.{zero_q}
+use Rattle.run_laws.specs.rational.specs.Rational.{ℚ, ◌+ℚ◌, ◌-ℚ◌, ◌*ℚ◌, ◌≤ℚ◌}
+use Rattle.run_laws.specs.rational.proofs.Laws.{mul_nonneg}
+use Rattle.run_laws.specs.rational.proofs.Linear.{with2, sub_nonneg}
+use Rattle.run_laws.specs.rational.proofs.Quotients.{div_nonneg}
+use Rattle.run_laws.specs.min_plus.specs.Functions.{zero_q}
 use Rattle.run_laws.specs.Cards.{whole}
 use Rattle.run_laws.proofs.Sizes.{whole_nonneg, whole_le, whole_lt}
 use Rattle.residual_laws.specs.DrrLaws.{share, owed}

@@ -12,7 +12,7 @@ use Rattle.run_laws.specs.Servers.{ServerState, Under, Fifo, start, done}
 use Rattle.run_laws.specs.Allows.{IsComplete}
 use Rattle.run_laws.specs.Routes.{Routes}
 use Rattle.run_laws.specs.Lawful.{Due, RunState, state_at}
-use Rattle.stated_runs.proofs.Lists.{at_in, in_contains}
+use Rattle.broken_laws.specs.stated_runs.proofs.Lists.{at_in, in_contains}
 use Rattle.broken_laws.specs.declared.place.Place.{Place}
 use Rattle.broken_laws.specs.declared.place.Place.TheVariants.{At, OnLink, Gone}
 use Rattle.broken_laws.specs.FirstBroken.{IsUnfinished}

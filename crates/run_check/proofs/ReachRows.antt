@@ -13,7 +13,7 @@ use Rattle.run_laws.specs.Lawful.{RunState, state_at}
 use Rattle.run_laws.proofs.Entries.{entry_last}
 use Rattle.queue_sched.specs.Turns.{IsCard}
 use Rattle.queue_sched.specs.Waiting.{HasPacket}
-use Rattle.stated_runs.proofs.Lists.{In, contains_in, in_contains}
+use Rattle.broken_laws.specs.stated_runs.proofs.Lists.{In, contains_in, in_contains}
 use Rattle.broken_laws.specs.declared.law.Law.{Law}
 use Rattle.broken_laws.specs.declared.law.Law.TheVariants.{L1, L2, L3, L4, L5, L6, L7, L8, L9}
 use Rattle.broken_laws.specs.declared.place.Place.TheVariants.{At, OnLink}
@@ -29,7 +29,7 @@ use Rattle.run_check.specs.Walks.{Stands, Told}
 use Rattle.run_check.proofs.WalkSteps.{walk_next, below_first, timely, untimely}
 use Rattle.run_check.proofs.LeaveRows.{flow_at, bits_at}
 use Rattle.run_check.proofs.RowSteps.{in_time, out_of_time}
-use Rattle.stated_runs.proofs.Routed.{first_passes}
+use Rattle.broken_laws.specs.stated_runs.proofs.Routed.{first_passes}
 
 -- a packet that is there has a card there
 pub has_card : (cs : List Card) (p : ℕ) → HasPacket cs p → (c : Card) × In cs c × (c.packet ≡ p)
@@ -236,4 +236,4 @@ pub known_entrance : (net : Routes) (w : Walk) (f p : ℕ) (t : ℚ) (b : ℕ) (
 known_entrance net w f p t b k =
     let path = k.paths f k.recorded.is_live in
     let first = first_passes (route_of net f).hops path.some in
-    (Rattle.stated_runs.proofs.Routed.place_of net (first_server (route_of net f).hops) (route_of net f).hops path.hops_are first.0).known_server
+    (Rattle.broken_laws.specs.stated_runs.proofs.Routed.place_of net (first_server (route_of net f).hops) (route_of net f).hops path.hops_are first.0).known_server

@@ -12,9 +12,9 @@ use Rattle.run_laws.specs.Servers.{Discipline, Under, ServerState, done, done_so
 use Rattle.run_laws.specs.Next.{next}
 use Rattle.run_laws.specs.Allows.{next_card}
 use Rattle.run_laws.proofs.Heads.{same_some}
-use Rattle.stated_runs.specs.TimeGrids.{HasRoom, IsTime}
-use Rattle.stated_runs.proofs.GridTimes.{difference_fits, rest_is_time}
-use Rattle.sim_servers.specs.Queues.{served_by, StandFor, work_goes_on}
+use Rattle.broken_laws.specs.stated_runs.specs.TimeGrids.{HasRoom, IsTime}
+use Rattle.broken_laws.specs.stated_runs.proofs.GridTimes.{difference_fits, rest_is_time}
+use Rattle.broken_laws.specs.sim_servers.specs.Queues.{served_by, StandFor, work_goes_on}
 use Rattle.run_check.specs.declared.site.Underway.{Underway}
 use Rattle.run_check.specs.declared.site.Piece.{Piece}
 use Rattle.run_check.specs.declared.site.Site.{Site}
@@ -133,7 +133,7 @@ worked d room σ before taken after w fresh rest left h f e k n l latest busy qu
       under = subst (AreUnder (Some new)) (sym under) now;
       queues = subst (λ z. StandFor z (next d σ (Works k.card w.start w.end w.bits))) (sym queues) (k.queues w.start w.end w.bits);
       serves = ap served_by queues ∙ k.serves;
-      has_room = ap Rattle.sim_servers.specs.Queues.room_of queues ∙ k.has_room;
+      has_room = ap Rattle.broken_laws.specs.sim_servers.specs.Queues.room_of queues ∙ k.has_room;
     }
 
 -- ---- numbers

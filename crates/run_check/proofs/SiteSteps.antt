@@ -13,11 +13,11 @@ use Rattle.run_laws.specs.Rounds.{count_of, presence}
 use Rattle.run_laws.proofs.Heads.{pick_is_head}
 use Rattle.queue_sched.specs.Turns.{Starts as Begins, Sends}
 use Rattle.queue_sched.specs.declared.turn.Turn.TheVariants.{Visit}
-use Rattle.stated_runs.proofs.Unique.{no_visit, not_idle, visit_once}
-use Rattle.stated_runs.proofs.Lists.{In, head_in}
-use Rattle.sim_servers.specs.declared.server_queues.ServerQueues.{ServerQueues}
-use Rattle.sim_servers.specs.declared.server_queues.ServerQueues.TheVariants as kinds
-use Rattle.sim_servers.specs.Queues.{served_by, room_of, StandFor}
+use Rattle.broken_laws.specs.stated_runs.proofs.Unique.{no_visit, not_idle, visit_once}
+use Rattle.broken_laws.specs.stated_runs.proofs.Lists.{In, head_in}
+use Rattle.broken_laws.specs.sim_servers.specs.declared.server_queues.ServerQueues.{ServerQueues}
+use Rattle.broken_laws.specs.sim_servers.specs.declared.server_queues.ServerQueues.TheVariants as kinds
+use Rattle.broken_laws.specs.sim_servers.specs.Queues.{served_by, room_of, StandFor}
 use Rattle.run_check.specs.declared.site.Underway.{Underway}
 use Rattle.run_check.specs.declared.site.Site.{Site}
 use Rattle.run_check.specs.declared.site.Piece.{Piece}

@@ -15,8 +15,8 @@ use Rattle.run_laws.specs.Views.{Entry, entry_of, entered_after, server_of, seen
 use Rattle.run_laws.specs.Lawful.{RunState, state_at, next_run}
 use Rattle.run_laws.proofs.Entries.{entry_before, entry_last}
 use Rattle.run_laws.proofs.Views.{own_state, other_state}
-use Rattle.stated_runs.specs.TimeGrids.{IsTime}
-use Rattle.sim_states.proofs.Kept.{set_same, set_other}
+use Rattle.broken_laws.specs.stated_runs.specs.TimeGrids.{IsTime}
+use Rattle.broken_laws.specs.sim_states.proofs.Kept.{set_same, set_other}
 use Rattle.broken_laws.specs.declared.law.Law.{Law}
 use Rattle.broken_laws.specs.declared.law.Law.TheVariants.{L1, L2, L3, L4, L5, L6, L7, L8, L9}
 use Rattle.broken_laws.specs.FirstBroken.{number_of, BreaksNone}

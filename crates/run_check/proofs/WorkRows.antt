@@ -16,8 +16,8 @@ use Rattle.run_laws.specs.Routes.{Routes, server_at, route_of}
 use Rattle.run_laws.specs.Views.{entry_of, card_of, hops_of}
 use Rattle.run_laws.specs.Lawful.{RunState, state_at}
 use Rattle.run_laws.proofs.Heads.{pick_is_head}
-use Rattle.stated_runs.specs.TimeGrids.{HasRoom, IsTime}
-use Rattle.stated_runs.proofs.Lists.{head_in}
+use Rattle.broken_laws.specs.stated_runs.specs.TimeGrids.{HasRoom, IsTime}
+use Rattle.broken_laws.specs.stated_runs.proofs.Lists.{head_in}
 use Rattle.broken_laws.specs.declared.law.Law.{Law}
 use Rattle.broken_laws.specs.declared.law.Law.TheVariants.{L1, L2, L3, L4, L5, L6, L7, L8, L9}
 use Rattle.broken_laws.specs.declared.place.Place.TheVariants.{At}

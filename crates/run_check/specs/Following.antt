@@ -5,7 +5,7 @@ use Rattle.run_laws.specs.declared.steps.Step.{Step}
 use Rattle.run_laws.specs.Runs.{SpecRun}
 use Rattle.run_laws.specs.Routes.{Routes}
 use Rattle.run_laws.specs.Lawful.{run_start}
-use Rattle.stated_runs.specs.TimeGrids.{HasRoom}
+use Rattle.broken_laws.specs.stated_runs.specs.TimeGrids.{HasRoom}
 use Rattle.broken_laws.specs.declared.law.Law.{Law}
 use Rattle.broken_laws.specs.Recorded.{HasPaths, AreRecorded}
 use Rattle.broken_laws.specs.FirstBroken.{NoneBreaks, IsBrokenAtStep, state_before}

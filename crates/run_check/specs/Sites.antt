@@ -7,8 +7,8 @@ use Rattle.run_laws.specs.Servers.{Discipline, queue_count, Under, ServerState, 
 use Rattle.run_laws.specs.Next.{next}
 use Rattle.run_laws.specs.Allows.{pick, next_card, MayLeave, MayVisit}
 use Rattle.queue_sched.specs.Waiting.{HasPacket}
-use Rattle.stated_runs.specs.TimeGrids.{HasRoom, IsTime}
-use Rattle.sim_servers.specs.Queues.{served_by, room_of, StandFor}
+use Rattle.broken_laws.specs.stated_runs.specs.TimeGrids.{HasRoom, IsTime}
+use Rattle.broken_laws.specs.sim_servers.specs.Queues.{served_by, room_of, StandFor}
 use Rattle.broken_laws.specs.declared.law.Law.{Law}
 use Rattle.broken_laws.specs.declared.law.Law.TheVariants.{L1, L2, L3, L4, L5, L6, L7, L8, L9}
 use Rattle.broken_laws.specs.Broken.{IsTooFast}

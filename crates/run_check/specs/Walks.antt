@@ -10,7 +10,7 @@ use Rattle.run_laws.specs.Cards.{whole}
 use Rattle.run_laws.specs.Routes.{Routes, server_at, link_at, route_of, server_after}
 use Rattle.run_laws.specs.Views.{entry_of}
 use Rattle.run_laws.specs.Lawful.{RunState, state_at, next_run}
-use Rattle.stated_runs.specs.TimeGrids.{HasRoom, IsTime}
+use Rattle.broken_laws.specs.stated_runs.specs.TimeGrids.{HasRoom, IsTime}
 use Rattle.broken_laws.specs.declared.law.Law.{Law}
 use Rattle.broken_laws.specs.declared.place.Place.{Place}
 use Rattle.broken_laws.specs.Recorded.{HasPaths, IsRecordedStep}

@@ -2,7 +2,7 @@
 
 ghost use Rattle.std.specs.Prelude.{◌<◌, ◌-◌, ◌^◌, [], IfOk, MatchOption, length};
 ghost use Rattle.run_laws.specs.Lawful.{IsLawful};
-ghost use Rattle.net_model.specs.NetRoutes.{routes_of};
+ghost use Rattle.broken_laws.specs.net_model.specs.NetRoutes.{routes_of};
 ghost use Rattle.broken_laws.specs.Recorded.{AreRecorded};
 ghost use Rattle.broken_laws.specs.FirstBroken.{IsFirstBroken};
 ghost use Rattle.run_check.specs.Following.{Follows, HaveNumbers};
@@ -11,7 +11,7 @@ ghost use Rattle.run_check.specs.Fresh.{AreFresh};
 use crate::site::Site;
 use crate::walk::Walk;
 use broken_laws::Law;
-use net_model::Network;
+use broken_laws::net_model::Network;
 use run_laws::Run;
 use std::alloc::{AllocError, Global};
 

@@ -7,18 +7,18 @@ ghost use Rattle.run_laws.specs.Servers.{Discipline as SpecDiscipline, ServerSta
 ghost use Rattle.run_laws.specs.Next.{next};
 ghost use Rattle.run_laws.specs.Allows.{MayLeave};
 ghost use Rattle.queue_sched.specs.Turns.{IsCard};
-ghost use Rattle.net_model.specs.Accepted.{HasFewQueues};
-ghost use Rattle.net_model.specs.Views.{discipline_of};
+ghost use Rattle.broken_laws.specs.net_model.specs.Accepted.{HasFewQueues};
+ghost use Rattle.broken_laws.specs.net_model.specs.Views.{discipline_of};
 ghost use Rattle.run_check.specs.Sites.{LeaveAnswer, VisitAnswer, WorkAnswer, TakesOn, IsFast, HasPace};
 ghost use Rattle.run_check.specs.Sites.{WorkRoom, IsOnGrid, IsFine, IsFresh, rest_of};
 ghost use Rattle.run_check.specs.Sites.{IsSite, KeepsSome, IsOther, MayLose, MayGo};
 ghost use Rattle.run_check.specs.Sites.{IsWrong, MayTake, Turns, Starts, is_worked_off};
 
 use broken_laws::Law;
+use broken_laws::net_model::Discipline;
+use broken_laws::sim_servers::ServerQueues;
 use fraction128::{Frac, difference, is_less, quotient};
-use net_model::Discipline;
 use queue_sched::{Scheduler, Turn};
-use sim_servers::ServerQueues;
 use std::alloc::{AllocError, Global};
 
 /// The packet under way at a server: the bits of it that are yet to be worked, and when its last work ends.

@@ -8,7 +8,7 @@ ghost use Rattle.run_laws.specs.declared.steps.Step.{Step as SpecStep};
 ghost use Rattle.broken_laws.specs.FirstBroken.{IsUnfinished};
 ghost use Rattle.run_laws.specs.Routes.{Routes, link_at};
 ghost use Rattle.run_laws.specs.declared.steps.Step.TheVariants as steps;
-ghost use Rattle.net_model.specs.NetRoutes.{routes_of};
+ghost use Rattle.broken_laws.specs.net_model.specs.NetRoutes.{routes_of};
 ghost use Rattle.broken_laws.specs.Tracked.{place_of};
 ghost use Rattle.run_check.specs.Following.{Follows, Goes};
 ghost use Rattle.run_check.specs.Walks.{work_of, Keeps, Stands, Told, fresh_for, sent_places};
@@ -17,11 +17,11 @@ use crate::ends::{some_complete, some_late};
 use crate::rows::{arrive_row, is_out_at, leave_row, visit_row, work_row};
 use crate::site::{Piece, Site};
 use crate::ways::{destination, has_left, pace_of};
+use broken_laws::net_model::Network;
 use broken_laws::{Law, Place};
 use fraction128::Frac;
-use net_model::Network;
 use run_laws::{Run, Step, whole};
-use sim_routes::{entrance, queue_of};
+use run_measures::sim_routes::{entrance, queue_of};
 use std::alloc::AllocError;
 
 /// What is known after some rows: the flow and the bits of each packet that has entered, where it is, and the site of

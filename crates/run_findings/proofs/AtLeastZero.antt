@@ -10,21 +10,21 @@ use Rattle.rational.proofs.ExtendedOrder.{le_ext_trans, le_or_lt_ext, add_le_ext
 use Rattle.rational.proofs.Laws.{le_refl, le_lt_trans, lt_irrefl}
 use Rattle.min_plus.specs.Deviations.{IsLag, IsHorizontalDeviation}
 use Rattle.min_plus.specs.Functions.{IsNonneg, zero_q, Time}
-use Rattle.upp_curve.specs.Curve.{value_at}
-use Rattle.net_model.specs.Accepted.{IsAccepted}
-use Rattle.net_model.specs.Networks.{Net}
-use Rattle.net_model.specs.Orders.{IsOrder}
-use Rattle.net_cells.specs.declared.cell.Cell.{Cell}
-use Rattle.net_cells.specs.declared.cell.Kind.TheVariants.{QueueDelay, HopDelay, Tfa, Sfa, Bound}
-use Rattle.net_cells.specs.Cells.{cell_of, has_cell}
-use Rattle.net_cells.specs.Equations.{MeetsEquations}
-use Rattle.net_cells.specs.Means.{HaveNumbers, with_links, OfCurves}
-use Rattle.net_cells.specs.Meanings.{Meaning, number, CellTable, IsNumberIn}
-use Rattle.net_cells.specs.Numbered.{hops, is_live, link, path, server_of_hop, queue_of_hop}
-use Rattle.net_cells.specs.NumberSums.{sum_of_numbers}
-use Rattle.net_cells.specs.TableValues.{HasNumber}
-use Rattle.net_cells.proofs.Precedes.{operands_are_cells}
-use Rattle.net_cells.proofs.TableValues.{has_number, same_number}
+use Rattle.simulated_sizes.specs.upp_curve.specs.Curve.{value_at}
+use Rattle.simulated_sizes.specs.net_model.specs.Accepted.{IsAccepted}
+use Rattle.simulated_sizes.specs.net_model.specs.Networks.{Net}
+use Rattle.simulated_sizes.specs.net_model.specs.Orders.{IsOrder}
+use Rattle.run_measures.specs.net_cells.specs.declared.cell.Cell.{Cell}
+use Rattle.run_measures.specs.net_cells.specs.declared.cell.Kind.TheVariants.{QueueDelay, HopDelay, Tfa, Sfa, Bound}
+use Rattle.run_measures.specs.net_cells.specs.Cells.{cell_of, has_cell}
+use Rattle.run_measures.specs.net_cells.specs.Equations.{MeetsEquations}
+use Rattle.run_measures.specs.net_cells.specs.Means.{HaveNumbers, with_links, OfCurves}
+use Rattle.run_measures.specs.net_cells.specs.Meanings.{Meaning, number, CellTable, IsNumberIn}
+use Rattle.run_measures.specs.net_cells.specs.Numbered.{hops, is_live, link, path, server_of_hop, queue_of_hop}
+use Rattle.run_measures.specs.net_cells.specs.NumberSums.{sum_of_numbers}
+use Rattle.run_measures.specs.net_cells.specs.TableValues.{HasNumber}
+use Rattle.run_measures.specs.net_cells.proofs.Precedes.{operands_are_cells}
+use Rattle.run_measures.specs.net_cells.proofs.TableValues.{has_number, same_number}
 use Rattle.command_replies.specs.net_bounds.proofs.FormulaParts.{number_map}
 use Rattle.command_replies.specs.net_bounds.proofs.Routed.{link_nonneg}
 

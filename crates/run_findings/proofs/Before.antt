@@ -5,9 +5,9 @@ use Rattle.rational.specs.Rational.{ℚ, int, le_q, lt_q, ◌+ℚ◌, ◌-ℚ◌
 use Rattle.rational.proofs.Laws.{le_refl, le_trans, le_or_lt, le_lt_trans, le_of_lt}
 use Rattle.rational.proofs.Linear.{with1, with2}
 use Rattle.rational.proofs.MinMax.{le_q_not, lt_q_not}
-use Rattle.run_laws.specs.Cards.{Class, size, ServerStep, Arrives, Works, Leaves, Visits}
-use Rattle.run_laws.specs.Counts.{when, arrived_upto, departed}
-use Rattle.run_laws.specs.Delays.{backlog}
+use Rattle.simulated_sizes.specs.run_laws.specs.Cards.{Class, size, ServerStep, Arrives, Works, Leaves, Visits}
+use Rattle.simulated_sizes.specs.run_laws.specs.Counts.{when, arrived_upto, departed}
+use Rattle.simulated_sizes.specs.run_laws.specs.Delays.{backlog}
 
 -- no packet arrives or leaves at this time or before it
 abbrev IsBefore : ℚ → List ServerStep → Type 0

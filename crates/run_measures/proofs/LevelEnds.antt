@@ -6,23 +6,23 @@ use Rattle.std.proofs.lemmas.List.{get_or-map, length-map, get_or-replicate, len
 use Rattle.rational.specs.Rational.{ℚ, int, le_q, ◌+ℚ◌, ◌-ℚ◌, ◌≤ℚ◌}
 use Rattle.rational.proofs.Laws.{le_refl}
 use Rattle.rational.proofs.Linear.{with2}
-use Rattle.run_laws.specs.Runs.{SpecRun}
-use Rattle.run_laws.specs.Cards.{of_queue, whole, ServerStep}
-use Rattle.run_laws.specs.Servers.{Fifo, Discipline, ServerState, queue_count, start}
-use Rattle.run_laws.specs.Delays.{backlog}
-use Rattle.run_laws.specs.Routes.{Routes, server_at}
-use Rattle.run_laws.specs.Views.{view, view_from}
-use Rattle.run_laws.specs.Lawful.{state_at, run_start}
-use Rattle.run_laws.proofs.Sums.{add_nothing}
-use Rattle.net_model.specs.Networks.{Net, NetServer}
-use Rattle.net_model.specs.NetRoutes.{routes_of, server_for}
+use Rattle.sim_routes.specs.run_laws.specs.Runs.{SpecRun}
+use Rattle.sim_routes.specs.run_laws.specs.Cards.{of_queue, whole, ServerStep}
+use Rattle.sim_routes.specs.run_laws.specs.Servers.{Fifo, Discipline, ServerState, queue_count, start}
+use Rattle.sim_routes.specs.run_laws.specs.Delays.{backlog}
+use Rattle.sim_routes.specs.run_laws.specs.Routes.{Routes, server_at}
+use Rattle.sim_routes.specs.run_laws.specs.Views.{view, view_from}
+use Rattle.sim_routes.specs.run_laws.specs.Lawful.{state_at, run_start}
+use Rattle.sim_routes.specs.run_laws.proofs.Sums.{add_nothing}
+use Rattle.sim_routes.specs.net_model.specs.Networks.{Net, NetServer}
+use Rattle.sim_routes.specs.net_model.specs.NetRoutes.{routes_of, server_for}
 use Rattle.run_measures.specs.declared.gauge.Gauge.{Gauge}
 use Rattle.run_measures.specs.declared.levels.Levels.{Levels}
 use Rattle.run_measures.specs.Gauges.{counted, level_at, empty_gauge, empty_row_of, gauge_in, gauges_of, peak_of}
 use Rattle.run_measures.specs.Gauged.{WasThere, IsGauged, AreGauged, state_after}
 use Rattle.run_measures.specs.Levels.{Tells}
 use Rattle.run_measures.specs.Peaks.{backlog_at, IsReached, IsPeak, peak_in, ArePeaks}
-use Rattle.run_laws.proofs.Views.{start_state}
+use Rattle.sim_routes.specs.run_laws.proofs.Views.{start_state}
 
 -- one map after another
 pub mapped_twice : {X Y Z : Type 0} (g : Y → Z) (f : X → Y) (xs : List X) → map (λ x. g (f x)) xs ≡ map g (map f xs)

@@ -2,9 +2,9 @@
 use Rattle.std.specs.Prelude.{Some, ◌≡◌, ℕ, zero, suc, ◌+◌, List, [], ◌∷◌, slice_get, drop}
 use Rattle.std.proofs.Common.{arith, ap}
 use Rattle.rational.specs.Rational.{ℚ}
-use Rattle.run_laws.specs.declared.steps.Step.{Step}
-use Rattle.run_laws.specs.declared.steps.Step.TheVariants.{Enter, Reach, Work, Leave, Visit}
-use Rattle.run_laws.specs.Routes.{Routes}
+use Rattle.sim_routes.specs.run_laws.specs.declared.steps.Step.{Step}
+use Rattle.sim_routes.specs.run_laws.specs.declared.steps.Step.TheVariants.{Enter, Reach, Work, Leave, Visit}
+use Rattle.sim_routes.specs.run_laws.specs.Routes.{Routes}
 use Rattle.run_measures.specs.Numbered.{AreNumberedFrom, flows_in}
 use Rattle.run_measures.specs.Worst.{DelaysFit}
 

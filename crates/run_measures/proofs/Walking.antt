@@ -5,10 +5,10 @@ use Rattle.std.proofs.Math.Seq.{drop-cons}
 use Rattle.std.proofs.lemmas.Option.{slice_get-get_or, slice_get_within, get_or_from_slice_get}
 use Rattle.rational.specs.Rational.{ℚ, neg_ℚ}
 use Rattle.rational.specs.Ratio.{SumFits}
-use Rattle.run_laws.specs.declared.steps.Step.{Step}
-use Rattle.run_laws.specs.declared.steps.Step.TheVariants.{Enter, Reach, Work, Leave, Visit}
-use Rattle.run_laws.specs.FlowDelays.{delivered_at}
-use Rattle.run_laws.specs.Routes.{Routes, route_of, last_server}
+use Rattle.sim_routes.specs.run_laws.specs.declared.steps.Step.{Step}
+use Rattle.sim_routes.specs.run_laws.specs.declared.steps.Step.TheVariants.{Enter, Reach, Work, Leave, Visit}
+use Rattle.sim_routes.specs.run_laws.specs.FlowDelays.{delivered_at}
+use Rattle.sim_routes.specs.run_laws.specs.Routes.{Routes, route_of, last_server}
 use Rattle.run_measures.specs.declared.worst.Tally.{Tally}
 use Rattle.run_measures.specs.Numbered.{AreNumberedFrom, flows_in}
 use Rattle.run_measures.specs.Worst.{AreWorst, DelaysFit}

@@ -4,7 +4,7 @@ ghost use Rattle.std.specs.Prelude.{◌≡◌, ◌+◌, ◌<◌, ◌≤◌, ◌^
 ghost use Rattle.rational.specs.Rational.{le_q};
 ghost use Rattle.run_measures.specs.Gauges.{Gains, Loses, counted, empty_gauge};
 
-use fraction128::{Frac, is_less};
+use sim_routes::fraction128::{Frac, is_less};
 
 /// One queue, as it is known after some steps of a run.
 #[derive(Debug, Clone, Copy)]

@@ -5,8 +5,8 @@ use Rattle.rational.specs.Rational.{ℚ}
 use Rattle.run_laws.specs.declared.steps.Step.{Step}
 use Rattle.run_laws.specs.declared.steps.Step.TheVariants.{Enter, Reach, Work, Leave, Visit}
 use Rattle.run_laws.specs.Runs.{SpecRun}
-use Rattle.net_model.specs.Accepted.{IsAccepted}
-use Rattle.net_model.specs.Networks.{Net}
+use Rattle.table_text.specs.net_model.specs.Accepted.{IsAccepted}
+use Rattle.table_text.specs.net_model.specs.Networks.{Net}
 use Rattle.table_text.specs.Rows.{Row, rows_of}
 use Rattle.table_text.specs.Traces.{most_rows}
 use Rattle.table_text.proofs.OneTrace.{same_value, same_kind, not_both_ways, flow_one, server_one, Places, same, sooner, later, places}

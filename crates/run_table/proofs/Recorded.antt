@@ -14,9 +14,9 @@ use Rattle.run_laws.specs.declared.steps.Step.{Step}
 use Rattle.run_laws.specs.declared.steps.Step.TheVariants.{Enter, Reach, Work, Leave, Visit}
 use Rattle.run_laws.specs.Routes.{Route}
 use Rattle.run_laws.specs.Views.{Entry, entered_after}
-use Rattle.net_model.specs.Names.{IsServerNamed}
-use Rattle.net_model.specs.Networks.{Net, NetFlow}
-use Rattle.net_model.specs.NetRoutes.{routes_of, route_for, server_for}
+use Rattle.table_text.specs.net_model.specs.Names.{IsServerNamed}
+use Rattle.table_text.specs.net_model.specs.Networks.{Net, NetFlow}
+use Rattle.table_text.specs.net_model.specs.NetRoutes.{routes_of, route_for, server_for}
 use Rattle.broken_laws.specs.Recorded.{IsRecordedStep, AreRecorded}
 use Rattle.table_text.specs.Fields.{time_in, not_below_zero, number_in, bits_in, length_of, whole_in}
 use Rattle.table_text.specs.Rows.{Row, field, is_plain}

@@ -1,8 +1,8 @@
 -- Rows of a recorded run.
 use Rattle.std.proofs.Common.{Ok, ◌≡◌, ℕ, List, Some, None, refl, sym, ap, subst, inr, ◌∙◌}
 use Rattle.rational.specs.Rational.{ℚ}
-use Rattle.net_model.specs.Networks.{Net}
-use Rattle.net_model.specs.Names.{IsServerNamed, IsFlowNamed, FindsServer, FindsFlow}
+use Rattle.table_text.specs.net_model.specs.Networks.{Net}
+use Rattle.table_text.specs.net_model.specs.Names.{IsServerNamed, IsFlowNamed, FindsServer, FindsFlow}
 use Rattle.run_laws.specs.declared.steps.Step.TheVariants.{Enter, Reach, Work, Leave, Visit}
 use Rattle.run_table.specs.declared.fault.RunKind.TheVariants.{T5}
 use Rattle.run_table.specs.declared.run_rows.RunEntry.TheVariants.{Does, Ends}

@@ -5,7 +5,7 @@ use Rattle.run_laws.specs.declared.steps.Step.{Step}
 use Rattle.run_laws.specs.declared.steps.Step.TheVariants.{Enter, Reach, Work, Leave, Visit}
 use Rattle.run_laws.specs.Runs.{SpecRun}
 use Rattle.rational.specs.Rational.{ℚ}
-use Rattle.net_model.specs.Networks.{Net}
+use Rattle.table_text.specs.net_model.specs.Networks.{Net}
 use Rattle.run_table.specs.declared.fault.RunKind.{RunKind}
 use Rattle.run_table.specs.declared.fault.RunKind.TheVariants.{T1, T2, T3, T4, T5, T7, T8, NoMemory}
 use Rattle.run_table.specs.declared.run_rows.RunEntry.TheVariants.{Does}

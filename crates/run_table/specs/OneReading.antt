@@ -1,8 +1,8 @@
 -- A text is one run of a network at most, or has one first fault.
 use Rattle.std.specs.Prelude.{◌≡◌, ℕ, List}
 use Rattle.run_laws.specs.Runs.{SpecRun}
-use Rattle.net_model.specs.Accepted.{IsAccepted}
-use Rattle.net_model.specs.Networks.{Net}
+use Rattle.table_text.specs.net_model.specs.Accepted.{IsAccepted}
+use Rattle.table_text.specs.net_model.specs.Networks.{Net}
 use Rattle.table_text.specs.Rows.{rows_of}
 use Rattle.run_table.specs.declared.fault.RunKind.{RunKind}
 use Rattle.run_table.specs.Runs.{IsRunOf, IsFirstFault}

@@ -6,8 +6,8 @@ use Rattle.min_plus.specs.Functions.{zero_q}
 use Rattle.run_laws.specs.declared.steps.Step.{Step}
 use Rattle.run_laws.specs.declared.steps.Step.TheVariants.{Enter, Reach, Work, Leave, Visit}
 use Rattle.run_laws.specs.Runs.{SpecRun}
-use Rattle.net_model.specs.Networks.{Net}
-use Rattle.net_model.specs.NetRoutes.{routes_of}
+use Rattle.table_text.specs.net_model.specs.Networks.{Net}
+use Rattle.table_text.specs.net_model.specs.NetRoutes.{routes_of}
 use Rattle.broken_laws.specs.Recorded.{AreRecorded}
 use Rattle.table_text.specs.Rows.{Row}
 use Rattle.table_text.specs.Traces.{most_rows}

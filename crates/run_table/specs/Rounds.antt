@@ -2,7 +2,7 @@
 use Rattle.std.specs.Prelude.{◌≡◌, ◌⊎◌, ℕ, ◌<◌, ◌≤◌, List, [], ◌∷◌, ◌++◌, Ok}
 use Rattle.rational.specs.Rational.{ℚ}
 use Rattle.run_laws.specs.declared.steps.Step.{Step}
-use Rattle.net_model.specs.Networks.{Net}
+use Rattle.table_text.specs.net_model.specs.Networks.{Net}
 use Rattle.table_text.specs.Rows.{Row}
 use Rattle.table_text.specs.Traces.{most_rows}
 use Rattle.run_table.specs.declared.fault.RunKind.{RunKind}

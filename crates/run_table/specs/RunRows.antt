@@ -6,8 +6,8 @@ use Rattle.std.specs.Str.{bytes_eq}
 use Rattle.rational.specs.Rational.{ℚ}
 use Rattle.run_laws.specs.declared.steps.Step.{Step}
 use Rattle.run_laws.specs.declared.steps.Step.TheVariants as steps
-use Rattle.net_model.specs.Networks.{Net}
-use Rattle.net_model.specs.Names.{IsServerNamed, IsFlowNamed, FindsServer, FindsFlow}
+use Rattle.table_text.specs.net_model.specs.Networks.{Net}
+use Rattle.table_text.specs.net_model.specs.Names.{IsServerNamed, IsFlowNamed, FindsServer, FindsFlow}
 use Rattle.table_text.specs.Rows.{Row, field, is_plain}
 use Rattle.table_text.specs.Fields.{number_in, time_in, whole_in, bits_in}
 use Rattle.run_table.specs.declared.fault.RunKind.{RunKind}

@@ -3,7 +3,7 @@ use Rattle.std.specs.Prelude.{◌≡◌, ◌⊎◌, ℕ, suc, ◌<◌, ◌≤◌
 use Rattle.run_laws.specs.declared.steps.Step.{Step}
 use Rattle.run_laws.specs.declared.steps.Step.TheVariants.{Enter, Reach, Work, Leave, Visit}
 use Rattle.run_laws.specs.Runs.{SpecRun}
-use Rattle.net_model.specs.Networks.{Net}
+use Rattle.table_text.specs.net_model.specs.Networks.{Net}
 use Rattle.table_text.specs.Rows.{Row, rows_of}
 use Rattle.table_text.specs.Traces.{most_rows}
 use Rattle.run_table.specs.declared.fault.RunKind.{RunKind}

@@ -8,8 +8,8 @@ ghost use Rattle.run_table.specs.RunRows as spec;
 use crate::fault::RunKind;
 use csv::ByteRecord;
 use fraction128::Frac;
-use net_model::Network;
 use run_laws::Step;
+use table_text::net_model::Network;
 use table_text::{bits_in, is_plain, number_in, text_at, time_in, whole_in};
 
 /// The words with which rows begin.

@@ -12,10 +12,10 @@ use crate::fault::{RunFault, RunKind};
 use crate::run_rows::{RunEntry, entry_in};
 use csv::ByteRecord;
 use fraction128::Frac;
-use net_model::Network;
 use run_laws::{Run, Step};
 use std::alloc::Global;
 use table_text::first_rows;
+use table_text::net_model::Network;
 
 const MOST_ROWS: usize = 10_000;
 

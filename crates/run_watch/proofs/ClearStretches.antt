@@ -7,23 +7,23 @@ use Rattle.rational.specs.Extended.{◌<ₑ◌, ◌+ₑ◌}
 use Rattle.rational.specs.declared.Extended.TheVariants.{Fin}
 use Rattle.rational.proofs.Laws.{le_trans, le_of_lt, le_or_lt, lt_le_trans, lt_irrefl, antisym}
 use Rattle.rational.proofs.Linear.{with3, with4, sub_pos}
-use Rattle.affine_segment.specs.Pieces.{HasStart}
-use Rattle.upp_curve.specs.Curve.{SpecCurve, value_at}
-use Rattle.upp_curve.specs.Unrolled.{unroll}
-use Rattle.run_laws.specs.Cards.{all, ServerStep}
-use Rattle.run_laws.specs.Counts.{worked}
-use Rattle.run_laws.specs.Servers.{Server}
-use Rattle.watch_laws.specs.Affine.{Among}
-use Rattle.watch_laws.specs.Stretches.{IsTurn}
-use Rattle.watch_laws.specs.Breaks.{IsBreak}
-use Rattle.watch_laws.specs.Windows.{IsPair}
-use Rattle.watch_laws.specs.Breaches.{IsIdle}
-use Rattle.watch_laws.specs.declared.point.Segment.{Segment}
-use Rattle.watch_laws.specs.Segments.{segments}
-use Rattle.watch_laws.specs.Shorts.{EachSegment, HasSegment, IsShortBy}
-use Rattle.watch_laws.proofs.CurveSegments.{segments_tell, starts_tell}
-use Rattle.watch_laws.proofs.Premises.{turns_suffice_within, turns_suffice_between}
-use Rattle.watch_laws.proofs.UnrolledStarts.{start_before}
+use Rattle.flow_watch.specs.affine_segment.specs.Pieces.{HasStart}
+use Rattle.flow_watch.specs.upp_curve.specs.Curve.{SpecCurve, value_at}
+use Rattle.flow_watch.specs.upp_curve.specs.Unrolled.{unroll}
+use Rattle.flow_watch.specs.run_laws.specs.Cards.{all, ServerStep}
+use Rattle.flow_watch.specs.run_laws.specs.Counts.{worked}
+use Rattle.flow_watch.specs.run_laws.specs.Servers.{Server}
+use Rattle.flow_watch.specs.watch_laws.specs.Affine.{Among}
+use Rattle.flow_watch.specs.watch_laws.specs.Stretches.{IsTurn}
+use Rattle.flow_watch.specs.watch_laws.specs.Breaks.{IsBreak}
+use Rattle.flow_watch.specs.watch_laws.specs.Windows.{IsPair}
+use Rattle.flow_watch.specs.watch_laws.specs.Breaches.{IsIdle}
+use Rattle.flow_watch.specs.watch_laws.specs.declared.point.Segment.{Segment}
+use Rattle.flow_watch.specs.watch_laws.specs.Segments.{segments}
+use Rattle.flow_watch.specs.watch_laws.specs.Shorts.{EachSegment, HasSegment, IsShortBy}
+use Rattle.flow_watch.specs.watch_laws.proofs.CurveSegments.{segments_tell, starts_tell}
+use Rattle.flow_watch.specs.watch_laws.proofs.Premises.{turns_suffice_within, turns_suffice_between}
+use Rattle.flow_watch.specs.watch_laws.proofs.UnrolledStarts.{start_before}
 use Rattle.run_watch.specs.declared.watched.Watched.{Watched}
 use Rattle.run_watch.specs.declared.watched.Stretch.{Stretch}
 use Rattle.run_watch.specs.Watching.{stretches, HoldsTimes}

@@ -6,16 +6,16 @@ use Rattle.rational.specs.Extended.{◌<ₑ◌, ◌+ₑ◌}
 use Rattle.rational.specs.declared.Extended.TheVariants.{Fin}
 use Rattle.rational.proofs.Laws.{le_trans, le_or_lt, antisym}
 use Rattle.rational.proofs.Linear.{with2}
-use Rattle.affine_segment.specs.declared.line.Piece.{Piece}
-use Rattle.upp_curve.specs.Curve.{SpecCurve, value_at}
-use Rattle.upp_curve.specs.Unrolled.{unroll}
-use Rattle.run_laws.specs.Cards.{all, ServerStep}
-use Rattle.run_laws.specs.Counts.{worked}
-use Rattle.run_laws.specs.Servers.{Server}
-use Rattle.watch_laws.specs.declared.point.Segment.{Segment}
-use Rattle.watch_laws.specs.Laws.{MayServe}
-use Rattle.watch_laws.specs.Segments.{segments}
-use Rattle.watch_laws.proofs.CurveSegments.{segments_tell}
+use Rattle.flow_watch.specs.affine_segment.specs.declared.line.Piece.{Piece}
+use Rattle.flow_watch.specs.upp_curve.specs.Curve.{SpecCurve, value_at}
+use Rattle.flow_watch.specs.upp_curve.specs.Unrolled.{unroll}
+use Rattle.flow_watch.specs.run_laws.specs.Cards.{all, ServerStep}
+use Rattle.flow_watch.specs.run_laws.specs.Counts.{worked}
+use Rattle.flow_watch.specs.run_laws.specs.Servers.{Server}
+use Rattle.flow_watch.specs.watch_laws.specs.declared.point.Segment.{Segment}
+use Rattle.flow_watch.specs.watch_laws.specs.Laws.{MayServe}
+use Rattle.flow_watch.specs.watch_laws.specs.Segments.{segments}
+use Rattle.flow_watch.specs.watch_laws.proofs.CurveSegments.{segments_tell}
 use Rattle.run_watch.specs.declared.span.Ramp.{Ramp}
 use Rattle.run_watch.specs.declared.watched.Watched.{Watched}
 use Rattle.run_watch.specs.declared.watched.Stretch.{Stretch}

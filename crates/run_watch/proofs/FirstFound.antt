@@ -6,16 +6,16 @@ use Rattle.std.proofs.lemmas.Bool.{cases_lt}
 use Rattle.rational.specs.Rational.{ℚ, ◌≤ℚ◌}
 use Rattle.rational.specs.Extended.{Ext}
 use Rattle.rational.proofs.Laws.{lt_cases, lt_irrefl, lt_le_trans}
-use Rattle.upp_curve.specs.Curve.{SpecCurve}
-use Rattle.run_laws.specs.Runs.{SpecRun}
-use Rattle.run_laws.specs.Cards.{whole, ServerStep}
-use Rattle.run_laws.proofs.Sizes.{whole_lt}
-use Rattle.net_model.specs.declared.breach.Breach.{Breach}
-use Rattle.net_model.specs.declared.breach.Breach.TheVariants.{Size, Arrival, Service}
-use Rattle.watch_laws.specs.declared.entering.Entering.{Entering}
-use Rattle.watch_laws.specs.Breaches.{order_key, NoLater, IsIdle}
-use Rattle.watch_laws.specs.Entries.{entries, entering, IsCrowded, EntersFrom}
-use Rattle.watch_laws.proofs.Crowds.{times_rise}
+use Rattle.flow_watch.specs.upp_curve.specs.Curve.{SpecCurve}
+use Rattle.flow_watch.specs.run_laws.specs.Runs.{SpecRun}
+use Rattle.flow_watch.specs.run_laws.specs.Cards.{whole, ServerStep}
+use Rattle.flow_watch.specs.run_laws.proofs.Sizes.{whole_lt}
+use Rattle.flow_watch.specs.net_model.specs.declared.breach.Breach.{Breach}
+use Rattle.flow_watch.specs.net_model.specs.declared.breach.Breach.TheVariants.{Size, Arrival, Service}
+use Rattle.flow_watch.specs.watch_laws.specs.declared.entering.Entering.{Entering}
+use Rattle.flow_watch.specs.watch_laws.specs.Breaches.{order_key, NoLater, IsIdle}
+use Rattle.flow_watch.specs.watch_laws.specs.Entries.{entries, entering, IsCrowded, EntersFrom}
+use Rattle.flow_watch.specs.watch_laws.proofs.Crowds.{times_rise}
 use Rattle.flow_watch.specs.Flows.{NoneLonger, IsFirstLonger, NoneCrowded, IsFirstCrowded}
 use Rattle.run_watch.specs.FirstOf.{IsBest, IsLongOn, IsCrowdOn, IsIdleOn, EnterInOrder}
 use Rattle.run_watch.specs.Held.{FindsIdle, IsFirstIdle}

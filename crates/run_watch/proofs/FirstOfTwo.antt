@@ -4,11 +4,11 @@ use Rattle.std.proofs.Common.{subst, inl, inr}
 use Rattle.std.proofs.lemmas.Bool.{cases_Bool, or_left, or_right}
 use Rattle.rational.specs.Rational.{◌≤ℚ◌, ◌<ℚ◌, lt_q}
 use Rattle.rational.proofs.Over.{lt_q_in}
-use Rattle.run_laws.specs.Runs.{SpecRun}
-use Rattle.net_model.specs.declared.breach.Breach.{Breach}
-use Rattle.net_model.specs.declared.breach.Breach.TheVariants.{Size, Arrival, Service}
-use Rattle.watch_laws.specs.Breaches.{order_key, NoLater}
-use Rattle.watch_laws.proofs.Order.{no_later_trans}
+use Rattle.flow_watch.specs.run_laws.specs.Runs.{SpecRun}
+use Rattle.flow_watch.specs.net_model.specs.declared.breach.Breach.{Breach}
+use Rattle.flow_watch.specs.net_model.specs.declared.breach.Breach.TheVariants.{Size, Arrival, Service}
+use Rattle.flow_watch.specs.watch_laws.specs.Breaches.{order_key, NoLater}
+use Rattle.flow_watch.specs.watch_laws.proofs.Order.{no_later_trans}
 use Rattle.run_watch.specs.declared.found.Found.{Found}
 use Rattle.run_watch.specs.FirstOf.{time_of, IsBest, earlier, GoesBefore, IsBoth, EarlierIsFirst}
 use Rattle.run_watch.proofs.RampLists.{not_less}

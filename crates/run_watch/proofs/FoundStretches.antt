@@ -7,14 +7,14 @@ use Rattle.rational.specs.Rational.{ℚ, int, ◌+ℚ◌, ◌≤ℚ◌, ◌<ℚ�
 use Rattle.rational.proofs.Laws.{le_refl, le_trans, le_or_lt, le_of_lt, lt_le_trans, lt_irrefl, lt_cases, add_assoc, add_zero}
 use Rattle.rational.proofs.Over.{le_q_out, le_q_in, lt_q_out, lt_q_in}
 use Rattle.rational.proofs.Linear.{with_atoms}
-use Rattle.run_laws.specs.Cards.{all, ServerStep, Arrives, Works, Leaves, Visits}
-use Rattle.run_laws.specs.Servers as servers
-use Rattle.run_laws.specs.Counts.{arrived, worked}
-use Rattle.run_laws.proofs.Sums.{add_nothing}
-use Rattle.run_laws.proofs.Sizes.{size_nonneg}
-use Rattle.watch_laws.specs.Stretches.{IsStretch}
-use Rattle.watch_laws.specs.Times.{HasArrival}
-use Rattle.watch_laws.proofs.Times.{stretches_begin}
+use Rattle.flow_watch.specs.run_laws.specs.Cards.{all, ServerStep, Arrives, Works, Leaves, Visits}
+use Rattle.flow_watch.specs.run_laws.specs.Servers as servers
+use Rattle.flow_watch.specs.run_laws.specs.Counts.{arrived, worked}
+use Rattle.flow_watch.specs.run_laws.proofs.Sums.{add_nothing}
+use Rattle.flow_watch.specs.run_laws.proofs.Sizes.{size_nonneg}
+use Rattle.flow_watch.specs.watch_laws.specs.Stretches.{IsStretch}
+use Rattle.flow_watch.specs.watch_laws.specs.Times.{HasArrival}
+use Rattle.flow_watch.specs.watch_laws.proofs.Times.{stretches_begin}
 use Rattle.run_watch.specs.declared.span.Span.{Span}
 use Rattle.run_watch.specs.declared.span.Ramp.{Ramp}
 use Rattle.run_watch.specs.declared.watched.Watched.{Watched}

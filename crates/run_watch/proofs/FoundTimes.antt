@@ -6,17 +6,17 @@ use Rattle.rational.specs.Rational.{ℚ, int, ◌+ℚ◌, ◌-ℚ◌, ◌≤ℚ�
 use Rattle.rational.proofs.Laws.{le_or_lt, antisym}
 use Rattle.rational.proofs.Over.{le_q_out, le_q_in}
 use Rattle.rational.proofs.Linear.{with2, with3, with4}
-use Rattle.affine_segment.specs.declared.line.Piece.{Piece}
-use Rattle.upp_curve.specs.Curve.{SpecCurve}
-use Rattle.affine_segment.specs.Pieces.{HasStart, StartsAtZero}
-use Rattle.upp_curve.specs.Normal.{IsNormal}
-use Rattle.upp_curve.specs.Unrolled.{unroll}
-use Rattle.upp_normal.proofs.UnrolledPieces.{unroll_starts}
-use Rattle.run_laws.specs.Cards.{ServerStep}
-use Rattle.watch_laws.specs.Affine.{EachTime, Among}
-use Rattle.watch_laws.specs.Breaks.{IsBreak}
-use Rattle.watch_laws.specs.Stretches.{IsTurn, IsWatchPoint}
-use Rattle.watch_laws.proofs.UnrolledStarts.{start_before}
+use Rattle.flow_watch.specs.affine_segment.specs.declared.line.Piece.{Piece}
+use Rattle.flow_watch.specs.upp_curve.specs.Curve.{SpecCurve}
+use Rattle.flow_watch.specs.affine_segment.specs.Pieces.{HasStart, StartsAtZero}
+use Rattle.flow_watch.specs.upp_curve.specs.Normal.{IsNormal}
+use Rattle.flow_watch.specs.upp_curve.specs.Unrolled.{unroll}
+use Rattle.flow_watch.specs.upp_normal.proofs.UnrolledPieces.{unroll_starts}
+use Rattle.flow_watch.specs.run_laws.specs.Cards.{ServerStep}
+use Rattle.flow_watch.specs.watch_laws.specs.Affine.{EachTime, Among}
+use Rattle.flow_watch.specs.watch_laws.specs.Breaks.{IsBreak}
+use Rattle.flow_watch.specs.watch_laws.specs.Stretches.{IsTurn, IsWatchPoint}
+use Rattle.flow_watch.specs.watch_laws.proofs.UnrolledStarts.{start_before}
 use Rattle.run_watch.specs.declared.watched.Stretch.{Stretch}
 use Rattle.run_watch.specs.WatchTimes.{inside, around, watched_from}
 use Rattle.run_watch.proofs.FoundTurns.{among_left, among_right, among_parts}

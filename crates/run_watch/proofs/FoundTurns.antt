@@ -7,12 +7,12 @@ use Rattle.rational.specs.Rational.{ℚ, int, ◌+ℚ◌}
 use Rattle.rational.proofs.Comparison.{cmp_self}
 use Rattle.fraction128.specs.Order.{same_q}
 pub use Rattle.fraction128.specs.Order.{same_out as same_in}
-use Rattle.run_laws.specs.Cards.{ServerStep}
-use Rattle.run_laws.specs.Servers as servers
-use Rattle.watch_laws.specs.Affine.{Among}
-use Rattle.watch_laws.specs.Paces.{pace_before, pace_after}
-use Rattle.watch_laws.specs.Stretches.{IsTurn}
-use Rattle.watch_laws.proofs.Times.{work_same}
+use Rattle.flow_watch.specs.run_laws.specs.Cards.{ServerStep}
+use Rattle.flow_watch.specs.run_laws.specs.Servers as servers
+use Rattle.flow_watch.specs.watch_laws.specs.Affine.{Among}
+use Rattle.flow_watch.specs.watch_laws.specs.Paces.{pace_before, pace_after}
+use Rattle.flow_watch.specs.watch_laws.specs.Stretches.{IsTurn}
+use Rattle.flow_watch.specs.watch_laws.proofs.Times.{work_same}
 use Rattle.run_watch.specs.declared.span.Span.{Span}
 use Rattle.run_watch.specs.declared.span.Ramp.{Ramp}
 use Rattle.run_watch.specs.declared.watched.Watched.{Watched}

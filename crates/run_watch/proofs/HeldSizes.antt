@@ -14,19 +14,19 @@ use Rattle.rational.proofs.Grid.{whole_int, whole_add, whole_sub, whole_neg, who
 use Rattle.rational.proofs.Linear.{with2, with3, with_atoms}
 use Rattle.rational.proofs.MinMax.{lt_q_not}
 use Rattle.rational.proofs.Over.{lt_q_out}
-use Rattle.affine_segment.specs.declared.line.Line.{Line}
-use Rattle.affine_segment.specs.declared.line.Piece.{Piece}
-use Rattle.upp_limits.specs.Limits.{Sizes}
-use Rattle.affine_segment.specs.Pieces.{Each, HasStart}
-use Rattle.upp_limits.specs.Sized.{IsSlope, ValueStands, grid_of, times_largest}
-use Rattle.upp_normal.specs.Operand.{AreLimited, OperandLineAt, OperandPiece, OperandPieces}
-use Rattle.run_laws.proofs.Sums.{add_nothing}
-use Rattle.watch_laws.specs.Affine.{EachTime}
-use Rattle.watch_laws.specs.declared.point.Segment.{Segment}
-use Rattle.watch_laws.specs.Shorts.{EachSegment}
-use Rattle.watch_laws.specs.Segments.{number_at, slope_of, next_start, segments}
-use Rattle.watch_laws.specs.MarkSizes.{IsTime, IsAmount, IsTimeIfAny}
-use Rattle.watch_laws.proofs.MarkSizes.{time_whole, time_within, sum_fits, marks_fit, keys_fit}
+use Rattle.flow_watch.specs.affine_segment.specs.declared.line.Line.{Line}
+use Rattle.flow_watch.specs.affine_segment.specs.declared.line.Piece.{Piece}
+use Rattle.flow_watch.specs.upp_limits.specs.Limits.{Sizes}
+use Rattle.flow_watch.specs.affine_segment.specs.Pieces.{Each, HasStart}
+use Rattle.flow_watch.specs.upp_limits.specs.Sized.{IsSlope, ValueStands, grid_of, times_largest}
+use Rattle.flow_watch.specs.upp_normal.specs.Operand.{AreLimited, OperandLineAt, OperandPiece, OperandPieces}
+use Rattle.flow_watch.specs.run_laws.proofs.Sums.{add_nothing}
+use Rattle.flow_watch.specs.watch_laws.specs.Affine.{EachTime}
+use Rattle.flow_watch.specs.watch_laws.specs.declared.point.Segment.{Segment}
+use Rattle.flow_watch.specs.watch_laws.specs.Shorts.{EachSegment}
+use Rattle.flow_watch.specs.watch_laws.specs.Segments.{number_at, slope_of, next_start, segments}
+use Rattle.flow_watch.specs.watch_laws.specs.MarkSizes.{IsTime, IsAmount, IsTimeIfAny}
+use Rattle.flow_watch.specs.watch_laws.proofs.MarkSizes.{time_whole, time_within, sum_fits, marks_fit, keys_fit}
 use Rattle.run_watch.specs.declared.span.Span.{Span}
 use Rattle.run_watch.specs.declared.span.Ramp.{Ramp}
 use Rattle.run_watch.specs.Ramps.{as_span, amount, pace_in, InOrder, ramps_after, spans_of, part, ReadsRamp, EachRamp}
@@ -34,9 +34,9 @@ use Rattle.run_watch.specs.FirstEnds.{mark_of, rule_of, KeySteps, GapSteps}
 use Rattle.run_watch.specs.WatchTimes.{point_at, AroundFits, TimesFit}
 use Rattle.run_watch.specs.IdleWindows.{TimeFits, SegmentsFit}
 use Rattle.run_watch.specs.Held.{IsHeldRamp, AreHeld}
-use Rattle.watch_laws.specs.Marks.{FitsRule}
+use Rattle.flow_watch.specs.watch_laws.specs.Marks.{FitsRule}
 use Rattle.run_watch.proofs.RampLists.{part_first, clip_past, spans_are, pace_is}
-use Rattle.affine_segment.proofs.PieceOrder.{each_map}
+use Rattle.flow_watch.specs.affine_segment.proofs.PieceOrder.{each_map}
 
 some_largest : (z : Sizes) → int (pos 0) ≤ℚ times_largest 1 z
 some_largest z = mul_nonneg (nat_nonneg 1) (nat_nonneg z.largest)

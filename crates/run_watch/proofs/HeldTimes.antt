@@ -6,20 +6,20 @@ use Rattle.rational.specs.Rational.{ℚ, int, ◌≤ℚ◌, ◌<ℚ◌, lt_q}
 use Rattle.rational.proofs.Laws.{le_refl, le_trans, lt_le_trans, lt_irrefl}
 use Rattle.rational.specs.Grid.{Whole}
 use Rattle.rational.proofs.Grid.{whole_add, whole_sub}
-use Rattle.affine_segment.specs.declared.line.Piece.{Piece}
-use Rattle.upp_curve.specs.Curve.{SpecCurve}
-use Rattle.upp_limits.specs.Limits.{Sizes}
-use Rattle.upp_normal.specs.Operand.{AreLimited, OperandPieces}
-use Rattle.upp_curve.specs.Unrolled.{unroll}
-use Rattle.upp_normal.specs.Unrolling.{IsOperandTo}
-use Rattle.upp_normal.proofs.UnrolledPieces.{operand_pieces}
-use Rattle.run_laws.specs.Cards.{ServerStep}
-use Rattle.run_laws.specs.Servers.{Server}
-use Rattle.watch_laws.specs.Affine.{EachTime, Among}
-use Rattle.watch_laws.specs.Breaches.{IsIdle}
-use Rattle.watch_laws.specs.Laws.{MayServe}
-use Rattle.watch_laws.specs.MarkSizes.{IsTime}
-use Rattle.watch_laws.specs.Segments.{segments}
+use Rattle.flow_watch.specs.affine_segment.specs.declared.line.Piece.{Piece}
+use Rattle.flow_watch.specs.upp_curve.specs.Curve.{SpecCurve}
+use Rattle.flow_watch.specs.upp_limits.specs.Limits.{Sizes}
+use Rattle.flow_watch.specs.upp_normal.specs.Operand.{AreLimited, OperandPieces}
+use Rattle.flow_watch.specs.upp_curve.specs.Unrolled.{unroll}
+use Rattle.flow_watch.specs.upp_normal.specs.Unrolling.{IsOperandTo}
+use Rattle.flow_watch.specs.upp_normal.proofs.UnrolledPieces.{operand_pieces}
+use Rattle.flow_watch.specs.run_laws.specs.Cards.{ServerStep}
+use Rattle.flow_watch.specs.run_laws.specs.Servers.{Server}
+use Rattle.flow_watch.specs.watch_laws.specs.Affine.{EachTime, Among}
+use Rattle.flow_watch.specs.watch_laws.specs.Breaches.{IsIdle}
+use Rattle.flow_watch.specs.watch_laws.specs.Laws.{MayServe}
+use Rattle.flow_watch.specs.watch_laws.specs.MarkSizes.{IsTime}
+use Rattle.flow_watch.specs.watch_laws.specs.Segments.{segments}
 use Rattle.run_watch.specs.declared.span.Ramp.{Ramp}
 use Rattle.run_watch.specs.declared.watched.Watched.{Watched}
 use Rattle.run_watch.specs.declared.watched.Stretch.{Stretch}
@@ -35,7 +35,7 @@ use Rattle.run_watch.proofs.FoundTimes.{in_watched}
 use Rattle.run_watch.proofs.HeldSizes.{ramps_read, segments_fit, moves_fit, start_time}
 use Rattle.run_watch.proofs.SortedPoints.{each_time_from}
 use Rattle.run_watch.proofs.IdleIn.{IsSearched}
-use Rattle.run_laws.proofs.Times.{each_time_map, each_time_append}
+use Rattle.flow_watch.specs.run_laws.proofs.Times.{each_time_map, each_time_append}
 
 -- ---- reading
 pub reads_at : (w : Watched) (c : SpecCurve) (t : ℚ) (h : IsHeld w c) → IsTime h.sizes w.end t → ReadsAt w t

@@ -7,19 +7,19 @@ use Rattle.rational.specs.Extended.{Ext, ◌≤ₑ◌, ◌<ₑ◌, ◌+ₑ◌}
 use Rattle.rational.specs.declared.Extended.TheVariants.{Fin}
 use Rattle.rational.proofs.Laws.{le_refl, le_trans, le_or_lt, le_of_lt, lt_le_trans, le_lt_trans, lt_irrefl, antisym}
 use Rattle.rational.proofs.Linear.{with2, with3}
-use Rattle.upp_curve.specs.Curve.{SpecCurve, value_at}
-use Rattle.upp_curve.specs.Unrolled.{unroll}
+use Rattle.flow_watch.specs.upp_curve.specs.Curve.{SpecCurve, value_at}
+use Rattle.flow_watch.specs.upp_curve.specs.Unrolled.{unroll}
 use Rattle.min_plus.specs.Functions.{zero_q}
-use Rattle.run_laws.specs.Cards.{all, ServerStep}
-use Rattle.run_laws.specs.Servers.{Server}
-use Rattle.run_laws.specs.Counts.{worked}
-use Rattle.watch_laws.specs.Breaches.{IsIdle}
-use Rattle.watch_laws.specs.Laws.{MayServe}
-use Rattle.watch_laws.specs.Shorts.{EachSegment}
-use Rattle.watch_laws.specs.Segments.{segments}
-use Rattle.watch_laws.specs.Stretches.{IsStretch}
-use Rattle.watch_laws.proofs.CurveSegments.{segments_tell}
-use Rattle.watch_laws.proofs.Idle.{below_number, apart_or_one}
+use Rattle.flow_watch.specs.run_laws.specs.Cards.{all, ServerStep}
+use Rattle.flow_watch.specs.run_laws.specs.Servers.{Server}
+use Rattle.flow_watch.specs.run_laws.specs.Counts.{worked}
+use Rattle.flow_watch.specs.watch_laws.specs.Breaches.{IsIdle}
+use Rattle.flow_watch.specs.watch_laws.specs.Laws.{MayServe}
+use Rattle.flow_watch.specs.watch_laws.specs.Shorts.{EachSegment}
+use Rattle.flow_watch.specs.watch_laws.specs.Segments.{segments}
+use Rattle.flow_watch.specs.watch_laws.specs.Stretches.{IsStretch}
+use Rattle.flow_watch.specs.watch_laws.proofs.CurveSegments.{segments_tell}
+use Rattle.flow_watch.specs.watch_laws.proofs.Idle.{below_number, apart_or_one}
 use Rattle.run_watch.specs.declared.watched.Watched.{Watched}
 use Rattle.run_watch.specs.declared.watched.Stretch.{Stretch}
 use Rattle.run_watch.specs.Watching.{stretches}

@@ -6,9 +6,9 @@ use Rattle.std.proofs.lemmas.Bool.{cases_Bool}
 use Rattle.rational.specs.Rational.{ℚ, lt_q}
 use Rattle.rational.proofs.Laws.{le_trans, le_of_lt, le_of_not_lt}
 use Rattle.rational.proofs.Over.{lt_q_in, lt_q_out}
-use Rattle.watch_laws.specs.declared.point.Point.{Point}
-use Rattle.watch_laws.specs.declared.point.Segment.{Segment}
-use Rattle.watch_laws.specs.Shorts.{HasPoint, HasSegment}
+use Rattle.flow_watch.specs.watch_laws.specs.declared.point.Point.{Point}
+use Rattle.flow_watch.specs.watch_laws.specs.declared.point.Segment.{Segment}
+use Rattle.flow_watch.specs.watch_laws.specs.Shorts.{HasPoint, HasSegment}
 use Rattle.run_watch.specs.NearWindows.{earlier_time, IsLeast}
 
 pub least_both : (P Q : ℚ → Type 0) (a b : Option ℚ) → IsLeast P a → IsLeast Q b → IsLeast (λ t. P t ⊎ Q t) (earlier_time a b)

@@ -6,9 +6,9 @@ use Rattle.std.proofs.Common.{true≢false, arith, refl, sym, subst, ap, ◌∙�
 use Rattle.rational.specs.Rational.{ℚ, ◌+ℚ◌, ◌≤ℚ◌, ◌<ℚ◌}
 use Rattle.rational.proofs.Laws.{le_refl, le_trans, le_of_lt, lt_le_trans, lt_irrefl, le_of_not_lt}
 use Rattle.rational.proofs.Linear.{with_atoms, with4}
-use Rattle.watch_laws.specs.declared.mark.Mark.{Mark}
-use Rattle.watch_laws.specs.declared.mark.Rule.{Rule}
-use Rattle.watch_laws.specs.Marks.{Each, Has, TimesRise, IsPast, IsUnder, IsOver, IsUnderSome}
+use Rattle.flow_watch.specs.watch_laws.specs.declared.mark.Mark.{Mark}
+use Rattle.flow_watch.specs.watch_laws.specs.declared.mark.Rule.{Rule}
+use Rattle.flow_watch.specs.watch_laws.specs.Marks.{Each, Has, TimesRise, IsPast, IsUnder, IsOver, IsUnderSome}
 use Rattle.run_watch.specs.Queue.{Falls, HasStandIn, Scans, EndsAbove, StartsNear, IsNotFar, Lowered, Passed, FrontUnder, Scanned}
 
 -- ---- lists of marks

@@ -10,22 +10,22 @@ use Rattle.rational.proofs.Integers.{nat_nonneg}
 use Rattle.rational.proofs.Grid.{whole_add, whole_sub}
 use Rattle.rational.proofs.Over.{lt_q_in}
 use Rattle.rational.proofs.Linear.{with2, with3}
-use Rattle.affine_segment.specs.declared.line.Piece.{Piece}
-use Rattle.affine_segment.proofs.PieceOrder.{each_map}
-use Rattle.upp_curve.specs.Curve.{SpecCurve}
-use Rattle.upp_curve.specs.Unrolled.{unroll}
-use Rattle.upp_limits.specs.Limits.{Sizes}
-use Rattle.upp_limits.proofs.Operands.{curve_period}
-use Rattle.upp_normal.specs.Operand.{AreLimited, OperandPiece, OperandPieces}
-use Rattle.upp_normal.specs.Unrolling.{IsOperandTo}
-use Rattle.upp_normal.proofs.GaugeRises.{curve_earlier}
-use Rattle.upp_normal.proofs.UnrolledPieces.{operand_pieces}
-use Rattle.watch_laws.specs.Affine.{EachTime}
-use Rattle.watch_laws.specs.declared.point.Point.{Point}
-use Rattle.watch_laws.specs.declared.point.Segment.{Segment}
-use Rattle.watch_laws.specs.MarkSizes.{IsTime}
-use Rattle.watch_laws.specs.Segments.{segments}
-use Rattle.watch_laws.specs.Shorts.{EachPoint, IsShortBy}
+use Rattle.flow_watch.specs.affine_segment.specs.declared.line.Piece.{Piece}
+use Rattle.flow_watch.specs.affine_segment.proofs.PieceOrder.{each_map}
+use Rattle.flow_watch.specs.upp_curve.specs.Curve.{SpecCurve}
+use Rattle.flow_watch.specs.upp_curve.specs.Unrolled.{unroll}
+use Rattle.flow_watch.specs.upp_limits.specs.Limits.{Sizes}
+use Rattle.flow_watch.specs.upp_limits.proofs.Operands.{curve_period}
+use Rattle.flow_watch.specs.upp_normal.specs.Operand.{AreLimited, OperandPiece, OperandPieces}
+use Rattle.flow_watch.specs.upp_normal.specs.Unrolling.{IsOperandTo}
+use Rattle.flow_watch.specs.upp_normal.proofs.GaugeRises.{curve_earlier}
+use Rattle.flow_watch.specs.upp_normal.proofs.UnrolledPieces.{operand_pieces}
+use Rattle.flow_watch.specs.watch_laws.specs.Affine.{EachTime}
+use Rattle.flow_watch.specs.watch_laws.specs.declared.point.Point.{Point}
+use Rattle.flow_watch.specs.watch_laws.specs.declared.point.Segment.{Segment}
+use Rattle.flow_watch.specs.watch_laws.specs.MarkSizes.{IsTime}
+use Rattle.flow_watch.specs.watch_laws.specs.Segments.{segments}
+use Rattle.flow_watch.specs.watch_laws.specs.Shorts.{EachPoint, IsShortBy}
 use Rattle.run_watch.specs.declared.span.Ramp.{Ramp}
 use Rattle.run_watch.specs.declared.watched.Watched.{Watched}
 use Rattle.run_watch.specs.declared.watched.Stretch.{Stretch}

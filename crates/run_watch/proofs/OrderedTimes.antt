@@ -8,8 +8,8 @@ use Rattle.std.proofs.lemmas.List.{append-nil, drop_all}
 use Rattle.rational.specs.Rational.{ℚ}
 use Rattle.rational.specs.Ratio.{cmp_q}
 use Rattle.fraction128.specs.Order.{same_q, same_out}
-use Rattle.affine_segment.specs.declared.line.Piece.{Piece}
-use Rattle.watch_laws.specs.Affine.{Among}
+use Rattle.flow_watch.specs.affine_segment.specs.declared.line.Piece.{Piece}
+use Rattle.flow_watch.specs.watch_laws.specs.Affine.{Among}
 use Rattle.run_watch.specs.declared.watched.Stretch.{Stretch}
 use Rattle.run_watch.specs.Watching.{RiseFrom}
 use Rattle.run_watch.specs.WatchTimes.{around, watched_from, HaveSameTimes}

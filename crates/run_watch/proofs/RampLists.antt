@@ -8,8 +8,8 @@ use Rattle.rational.proofs.Laws.{le_refl, le_trans, le_or_lt, le_of_lt, lt_le_tr
 use Rattle.rational.proofs.Linear.{with2}
 use Rattle.rational.proofs.Over.{le_q_out, lt_q_out, lt_q_in, le_q_in}
 use Rattle.rational.proofs.MinMax.{le_q_not, lt_q_not}
-use Rattle.run_laws.specs.Servers as servers
-use Rattle.run_laws.proofs.Sums.{when_true, when_false, add_nothing}
+use Rattle.flow_watch.specs.run_laws.specs.Servers as servers
+use Rattle.flow_watch.specs.run_laws.proofs.Sums.{when_true, when_false, add_nothing}
 use Rattle.run_watch.specs.declared.span.Span.{Span}
 use Rattle.run_watch.specs.declared.span.Ramp.{Ramp}
 use Rattle.run_watch.specs.Ramps.{as_span, amount, pace_in, rate_before, rate_after, InOrder, TakeTime, ramps_after, AreRamps, spans_of, part, all_done, paced_before, paced_after, EachRamp}

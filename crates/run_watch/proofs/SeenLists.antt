@@ -8,16 +8,16 @@ use Rattle.rational.specs.Rational.{ℚ, int, ◌+ℚ◌, le_q, lt_q}
 use Rattle.rational.proofs.Laws.{le_or_lt, le_of_lt}
 use Rattle.rational.proofs.Over.{le_q_out, lt_q_out}
 use Rattle.rational.proofs.MinMax.{le_q_not, lt_q_not}
-use Rattle.run_laws.specs.declared.steps.Step.{Step}
-use Rattle.run_laws.specs.declared.steps.Step.TheVariants.{Enter, Reach, Work, Leave, Visit}
-use Rattle.run_laws.specs.Cards.{all, ServerStep, Arrives, Works, Leaves, Visits}
-use Rattle.run_laws.specs.Servers as servers
-use Rattle.run_laws.specs.Counts.{when, arrived, worked}
-use Rattle.run_laws.specs.Routes.{Routes, route_of, first_server}
-use Rattle.run_laws.specs.Views.{Entry, entry_of, view_from, entered_after, server_of}
-use Rattle.run_laws.proofs.Sums.{when_true, when_false, add_nothing}
-use Rattle.watch_laws.specs.Times.{leave_times}
-use Rattle.watch_laws.specs.Paces.{pace_of, pace_before, pace_after}
+use Rattle.flow_watch.specs.run_laws.specs.declared.steps.Step.{Step}
+use Rattle.flow_watch.specs.run_laws.specs.declared.steps.Step.TheVariants.{Enter, Reach, Work, Leave, Visit}
+use Rattle.flow_watch.specs.run_laws.specs.Cards.{all, ServerStep, Arrives, Works, Leaves, Visits}
+use Rattle.flow_watch.specs.run_laws.specs.Servers as servers
+use Rattle.flow_watch.specs.run_laws.specs.Counts.{when, arrived, worked}
+use Rattle.flow_watch.specs.run_laws.specs.Routes.{Routes, route_of, first_server}
+use Rattle.flow_watch.specs.run_laws.specs.Views.{Entry, entry_of, view_from, entered_after, server_of}
+use Rattle.flow_watch.specs.run_laws.proofs.Sums.{when_true, when_false, add_nothing}
+use Rattle.flow_watch.specs.watch_laws.specs.Times.{leave_times}
+use Rattle.flow_watch.specs.watch_laws.specs.Paces.{pace_of, pace_before, pace_after}
 use Rattle.run_watch.specs.declared.span.Span.{Span}
 use Rattle.run_watch.specs.Ramps.{amount, rate_before, rate_after, as_span}
 use Rattle.run_watch.specs.Seen.{at_once, arrival_spans, work_spans, works_at, leaves_at, sizes_after, arrival_in, arrivals_at, AreFirsts}

@@ -4,21 +4,21 @@ use Rattle.std.proofs.Common.{arith, refl, sym, subst, inl, inr}
 use Rattle.rational.specs.Rational.{ℚ, int, ◌+ℚ◌, ◌-ℚ◌, ◌≤ℚ◌, ◌<ℚ◌}
 use Rattle.rational.proofs.Laws.{le_refl, le_trans, le_or_lt, le_lt_trans}
 use Rattle.rational.proofs.Linear.{with2}
-use Rattle.affine_segment.specs.declared.line.Piece.{Piece}
-use Rattle.affine_segment.specs.Pieces.{Each, HasStart}
-use Rattle.upp_curve.specs.Curve.{SpecCurve}
-use Rattle.upp_curve.specs.Unrolled.{unroll}
-use Rattle.upp_limits.specs.Limits.{Sizes}
-use Rattle.upp_normal.specs.Operand.{OperandPiece}
-use Rattle.upp_normal.proofs.UnrolledPieces.{unroll_starts}
-use Rattle.watch_laws.specs.Affine.{EachTime, Among}
-use Rattle.watch_laws.specs.declared.point.Point.{Point}
-use Rattle.watch_laws.specs.declared.point.Segment.{Segment}
-use Rattle.watch_laws.specs.Laws.{MayServe}
-use Rattle.watch_laws.specs.Segments.{segments}
-use Rattle.watch_laws.specs.Shorts.{EachSegment, HasSegment}
-use Rattle.watch_laws.proofs.CurveSegments.{segments_tell}
-use Rattle.watch_laws.proofs.UnrolledStarts.{start_before}
+use Rattle.flow_watch.specs.affine_segment.specs.declared.line.Piece.{Piece}
+use Rattle.flow_watch.specs.affine_segment.specs.Pieces.{Each, HasStart}
+use Rattle.flow_watch.specs.upp_curve.specs.Curve.{SpecCurve}
+use Rattle.flow_watch.specs.upp_curve.specs.Unrolled.{unroll}
+use Rattle.flow_watch.specs.upp_limits.specs.Limits.{Sizes}
+use Rattle.flow_watch.specs.upp_normal.specs.Operand.{OperandPiece}
+use Rattle.flow_watch.specs.upp_normal.proofs.UnrolledPieces.{unroll_starts}
+use Rattle.flow_watch.specs.watch_laws.specs.Affine.{EachTime, Among}
+use Rattle.flow_watch.specs.watch_laws.specs.declared.point.Point.{Point}
+use Rattle.flow_watch.specs.watch_laws.specs.declared.point.Segment.{Segment}
+use Rattle.flow_watch.specs.watch_laws.specs.Laws.{MayServe}
+use Rattle.flow_watch.specs.watch_laws.specs.Segments.{segments}
+use Rattle.flow_watch.specs.watch_laws.specs.Shorts.{EachSegment, HasSegment}
+use Rattle.flow_watch.specs.watch_laws.proofs.CurveSegments.{segments_tell}
+use Rattle.flow_watch.specs.watch_laws.proofs.UnrolledStarts.{start_before}
 use Rattle.run_watch.specs.declared.span.Ramp.{Ramp}
 use Rattle.run_watch.specs.declared.watched.Watched.{Watched}
 use Rattle.run_watch.specs.declared.watched.Stretch.{Stretch}

@@ -7,12 +7,12 @@ use Rattle.rational.specs.Rational.{ℚ, ◌+ℚ◌, ◌-ℚ◌, ◌*ℚ◌, ◌
 use Rattle.rational.specs.Ratio.{SumFits}
 use Rattle.rational.proofs.Laws.{mul_sub, le_refl, le_trans, le_lt_trans, lt_le_trans, lt_irrefl}
 use Rattle.rational.proofs.Linear.{with_atoms, with3, with4}
-use Rattle.watch_laws.specs.declared.mark.Mark.{Mark}
-use Rattle.watch_laws.specs.declared.mark.Rule.{Rule}
-use Rattle.watch_laws.specs.declared.point.Point.{Point}
-use Rattle.watch_laws.specs.declared.point.Segment.{Segment}
-use Rattle.watch_laws.specs.Marks.{Each, Has, TimesRise, IsPast, IsUnder, IsOver, IsUnderSome, FitsRule, MostFits}
-use Rattle.watch_laws.specs.Shorts.{EachPoint, HasPoint, EachSegment, HasSegment, PointsRise, IsPastEnd, IsShortBy, NoneShortTo, IsShortEnd}
+use Rattle.flow_watch.specs.watch_laws.specs.declared.mark.Mark.{Mark}
+use Rattle.flow_watch.specs.watch_laws.specs.declared.mark.Rule.{Rule}
+use Rattle.flow_watch.specs.watch_laws.specs.declared.point.Point.{Point}
+use Rattle.flow_watch.specs.watch_laws.specs.declared.point.Segment.{Segment}
+use Rattle.flow_watch.specs.watch_laws.specs.Marks.{Each, Has, TimesRise, IsPast, IsUnder, IsOver, IsUnderSome, FitsRule, MostFits}
+use Rattle.flow_watch.specs.watch_laws.specs.Shorts.{EachPoint, HasPoint, EachSegment, HasSegment, PointsRise, IsPastEnd, IsShortBy, NoneShortTo, IsShortEnd}
 use Rattle.run_watch.specs.FirstEnds.{mark_of, rule_of, KeySteps, FitsMarks, IsTooLate, HoldsStarts, IsFirstBy, IsFirstEnd}
 
 -- ---- one window

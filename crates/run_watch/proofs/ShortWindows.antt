@@ -4,12 +4,12 @@ use Rattle.std.specs.List.{slice_index_or}
 use Rattle.std.proofs.Common.{arith, inl, inr, refl, sym, subst, ◌∙◌, add-one}
 use Rattle.rational.specs.Rational.{ℚ, ◌+ℚ◌, ◌≤ℚ◌, ◌<ℚ◌}
 use Rattle.rational.proofs.Laws.{le_refl, lt_le_trans, lt_irrefl, le_of_not_lt}
-use Rattle.watch_laws.specs.declared.mark.Mark.{Mark}
-use Rattle.watch_laws.specs.declared.mark.Rule.{Rule}
-use Rattle.watch_laws.specs.declared.point.Point.{Point}
-use Rattle.watch_laws.specs.declared.point.Segment.{Segment}
-use Rattle.watch_laws.specs.Marks.{IsPast, IsUnder}
-use Rattle.watch_laws.specs.Shorts.{EachPoint, HasPoint, PointsRise, IsShortBy}
+use Rattle.flow_watch.specs.watch_laws.specs.declared.mark.Mark.{Mark}
+use Rattle.flow_watch.specs.watch_laws.specs.declared.mark.Rule.{Rule}
+use Rattle.flow_watch.specs.watch_laws.specs.declared.point.Point.{Point}
+use Rattle.flow_watch.specs.watch_laws.specs.declared.point.Segment.{Segment}
+use Rattle.flow_watch.specs.watch_laws.specs.Marks.{IsPast, IsUnder}
+use Rattle.flow_watch.specs.watch_laws.specs.Shorts.{EachPoint, HasPoint, PointsRise, IsShortBy}
 use Rattle.run_watch.specs.FirstEnds.{mark_of, rule_of, HoldsStarts, FitsMarks, FitsSegments}
 use Rattle.run_watch.specs.WatchTimes.{StartsBy}
 use Rattle.run_watch.specs.NearWindows.{IsLeast}

@@ -2,8 +2,8 @@
 use Rattle.std.specs.Prelude.{◌≡◌, pos, List, []}
 use Rattle.std.proofs.Common.{sym, ap, ◌∙◌}
 use Rattle.rational.specs.Rational.{int}
-use Rattle.run_laws.specs.Views.{view}
-use Rattle.run_laws.proofs.Views.{views_are_lawful}
+use Rattle.flow_watch.specs.run_laws.specs.Views.{view}
+use Rattle.flow_watch.specs.run_laws.proofs.Views.{views_are_lawful}
 use Rattle.run_watch.specs.declared.span.Span.{Span}
 use Rattle.run_watch.specs.Ramps.{amount, ramps_after, spans_of}
 use Rattle.run_watch.specs.Seen.{arrival_spans, work_spans}

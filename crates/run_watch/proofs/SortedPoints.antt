@@ -9,10 +9,10 @@ use Rattle.rational.specs.Rational.{ℚ, int, ◌≤ℚ◌}
 use Rattle.rational.specs.Ratio.{cmp_q}
 use Rattle.rational.proofs.Laws.{le_refl, le_trans, le_or_lt, le_of_lt, antisym}
 use Rattle.rational.proofs.Linear.{with3}
-use Rattle.watch_laws.specs.Affine.{EachTime, Among}
-use Rattle.watch_laws.specs.declared.point.Point.{Point}
-use Rattle.watch_laws.specs.declared.point.Segment.{Segment}
-use Rattle.watch_laws.specs.Shorts.{EachPoint, HasPoint, EachSegment, HasSegment, PointsRise, IsShortBy, NoneShortTo}
+use Rattle.flow_watch.specs.watch_laws.specs.Affine.{EachTime, Among}
+use Rattle.flow_watch.specs.watch_laws.specs.declared.point.Point.{Point}
+use Rattle.flow_watch.specs.watch_laws.specs.declared.point.Segment.{Segment}
+use Rattle.flow_watch.specs.watch_laws.specs.Shorts.{EachPoint, HasPoint, EachSegment, HasSegment, PointsRise, IsShortBy, NoneShortTo}
 use Rattle.run_watch.specs.declared.span.Ramp.{Ramp}
 use Rattle.run_watch.specs.Ramps.{EachRamp, ReadsRamp}
 use Rattle.run_watch.specs.declared.watched.Stretch.{Stretch}
@@ -21,12 +21,12 @@ use Rattle.run_watch.specs.FirstEnds.{KeySteps, GapSteps, FitsMarks, FitsSegment
 use Rattle.run_watch.specs.WatchTimes.{HaveSameTimes, point_at, IsShortTo, StartsTo}
 use Rattle.run_watch.specs.NearWindows.{IsLeast}
 use Rattle.run_watch.specs.IdleWindows.{IsShortWindow, NoneIsShort, IsFirstShort, NoneEndsBy, TimeFits, SegmentsFit}
-use Rattle.watch_laws.specs.Marks.{FitsRule}
+use Rattle.flow_watch.specs.watch_laws.specs.Marks.{FitsRule}
 use Rattle.run_watch.proofs.ShortMarks.{has_each, point_in}
 use Rattle.run_watch.proofs.ShortWindows.{first_or_later}
 use Rattle.run_watch.proofs.LeastTimes.{points_taken}
-use Rattle.run_laws.proofs.Times.{each_time_map}
-use Rattle.step_lines.proofs.SortedParts.{no_less}
+use Rattle.flow_watch.specs.run_laws.proofs.Times.{each_time_map}
+use Rattle.flow_watch.specs.step_lines.proofs.SortedParts.{no_less}
 
 -- ---- membership
 among_contains : (t : ℚ) (ts : List ℚ) → Among t ts → Contains ts t

@@ -2,12 +2,12 @@
 use Rattle.std.specs.Prelude.{pos, List, [], ◌∷◌}
 use Rattle.rational.specs.Rational.{ℚ, int, ◌≤ℚ◌}
 use Rattle.rational.proofs.Laws.{le_refl, le_trans, le_of_lt}
-use Rattle.run_laws.specs.Cards.{ServerStep, Arrives, Works, Leaves, Visits}
-use Rattle.run_laws.specs.Servers.{Server, ServerState, start}
-use Rattle.run_laws.specs.Next.{next}
-use Rattle.run_laws.specs.Allows.{AllAllowed, IsLawfulView}
-use Rattle.watch_laws.specs.Affine.{EachTime}
-use Rattle.watch_laws.specs.Times.{leave_times}
+use Rattle.flow_watch.specs.run_laws.specs.Cards.{ServerStep, Arrives, Works, Leaves, Visits}
+use Rattle.flow_watch.specs.run_laws.specs.Servers.{Server, ServerState, start}
+use Rattle.flow_watch.specs.run_laws.specs.Next.{next}
+use Rattle.flow_watch.specs.run_laws.specs.Allows.{AllAllowed, IsLawfulView}
+use Rattle.flow_watch.specs.watch_laws.specs.Affine.{EachTime}
+use Rattle.flow_watch.specs.watch_laws.specs.Times.{leave_times}
 use Rattle.run_watch.specs.declared.span.Span.{Span}
 use Rattle.run_watch.specs.Ramps.{InOrder, TakeTime}
 use Rattle.run_watch.specs.Seen.{arrival_spans, work_spans}

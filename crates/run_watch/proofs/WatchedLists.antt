@@ -7,7 +7,7 @@ use Rattle.rational.proofs.Laws.{le_refl, le_trans}
 use Rattle.rational.proofs.Over.{le_q_out, le_q_in, lt_q_out}
 use Rattle.rational.proofs.MinMax.{lt_q_not}
 use Rattle.run_watch.specs.Watching.{RiseFrom, next_after}
-use Rattle.run_laws.specs.Counts.{upto}
+use Rattle.flow_watch.specs.run_laws.specs.Counts.{upto}
 
 -- ---- stops
 -- ---- the first time after u

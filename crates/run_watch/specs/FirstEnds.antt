@@ -3,12 +3,12 @@
 use Rattle.std.specs.Prelude.{◌≡◌, ℕ, ◌<◌, ◌≤◌, List, length, take, slice_get, Some}
 use Rattle.rational.specs.Rational.{ℚ, ◌-ℚ◌, ◌*ℚ◌, ◌+ℚ◌, ◌≤ℚ◌, ◌<ℚ◌, neg_ℚ}
 use Rattle.rational.specs.Ratio.{IsSmall, SumFits}
-use Rattle.watch_laws.specs.declared.mark.Mark.{Mark}
-use Rattle.watch_laws.specs.declared.mark.Rule.{Rule}
-use Rattle.watch_laws.specs.declared.point.Point.{Point}
-use Rattle.watch_laws.specs.declared.point.Segment.{Segment}
-use Rattle.watch_laws.specs.Marks.{FitsRule}
-use Rattle.watch_laws.specs.Shorts.{EachPoint, HasPoint, EachSegment, PointsRise, IsShortBy, NoneShortTo, IsShortEnd}
+use Rattle.flow_watch.specs.watch_laws.specs.declared.mark.Mark.{Mark}
+use Rattle.flow_watch.specs.watch_laws.specs.declared.mark.Rule.{Rule}
+use Rattle.flow_watch.specs.watch_laws.specs.declared.point.Point.{Point}
+use Rattle.flow_watch.specs.watch_laws.specs.declared.point.Segment.{Segment}
+use Rattle.flow_watch.specs.watch_laws.specs.Marks.{FitsRule}
+use Rattle.flow_watch.specs.watch_laws.specs.Shorts.{EachPoint, HasPoint, EachSegment, PointsRise, IsShortBy, NoneShortTo, IsShortEnd}
 
 -- ---- as marks under a rule
 abbrev pub mark_of : ℚ → Point → Mark

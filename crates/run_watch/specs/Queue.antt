@@ -2,9 +2,9 @@
 -- (A queue whose keys fall; textbook.)
 use Rattle.std.specs.Prelude.{◌≡◌, ◌⊎◌, ℕ, ◌≤◌, List, [], ◌∷◌, ◌++◌, length, take, Option}
 use Rattle.rational.specs.Rational.{ℚ, ◌+ℚ◌, ◌≤ℚ◌, ◌<ℚ◌}
-use Rattle.watch_laws.specs.declared.mark.Mark.{Mark}
-use Rattle.watch_laws.specs.declared.mark.Rule.{Rule}
-use Rattle.watch_laws.specs.Marks.{Each, Has, IsPast, IsOver}
+use Rattle.flow_watch.specs.watch_laws.specs.declared.mark.Mark.{Mark}
+use Rattle.flow_watch.specs.watch_laws.specs.declared.mark.Rule.{Rule}
+use Rattle.flow_watch.specs.watch_laws.specs.Marks.{Each, Has, IsPast, IsOver}
 
 -- no key is greater than one before it
 abbrev pub Falls : List Mark → Type 0

@@ -2,8 +2,8 @@
 use Rattle.std.specs.Prelude.{◌≡◌, pos, ◌&&◌, List, [], ◌∷◌, map, if◌then◌else◌}
 use Rattle.rational.specs.Rational.{ℚ, int, ◌+ℚ◌, ◌-ℚ◌, ◌*ℚ◌, ◌/ℚ◌, ◌≤ℚ◌, ◌<ℚ◌, neg_ℚ, lt_q, le_q}
 use Rattle.rational.specs.Ratio.{IsSmall, SumFits}
-use Rattle.run_laws.specs.Servers as servers
-use Rattle.run_laws.specs.Counts.{when}
+use Rattle.flow_watch.specs.run_laws.specs.Servers as servers
+use Rattle.flow_watch.specs.run_laws.specs.Counts.{when}
 use Rattle.run_watch.specs.declared.span.Span.{Span}
 use Rattle.run_watch.specs.declared.span.Ramp.{Ramp}
 

@@ -2,10 +2,10 @@
 use Rattle.std.specs.Prelude.{◌≡◌, ◌⊎◌, ℕ, ◌<◌, List, length, Option, MatchOption}
 use Rattle.std.specs.List.{slice_index_or}
 use Rattle.rational.specs.Rational.{ℚ, ◌-ℚ◌, ◌<ℚ◌}
-use Rattle.upp_curve.specs.Curve.{SpecCurve}
-use Rattle.upp_curve.specs.Unrolled.{unroll}
-use Rattle.watch_laws.specs.Affine.{Among}
-use Rattle.watch_laws.specs.Segments.{segments}
+use Rattle.flow_watch.specs.upp_curve.specs.Curve.{SpecCurve}
+use Rattle.flow_watch.specs.upp_curve.specs.Unrolled.{unroll}
+use Rattle.flow_watch.specs.watch_laws.specs.Affine.{Among}
+use Rattle.flow_watch.specs.watch_laws.specs.Segments.{segments}
 use Rattle.run_watch.specs.declared.watched.Watched.{Watched}
 use Rattle.run_watch.specs.declared.watched.Stretch.{Stretch}
 use Rattle.run_watch.specs.Watching.{stretches, turns, RiseFrom, HoldsTimes}

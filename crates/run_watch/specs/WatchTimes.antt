@@ -2,12 +2,12 @@
 use Rattle.std.specs.Prelude.{◌≡◌, ◌&&◌, List, [], ◌∷◌, ◌++◌, if◌then◌else◌}
 use Rattle.rational.specs.Rational.{ℚ, ◌+ℚ◌, ◌-ℚ◌, le_q, neg_ℚ}
 use Rattle.rational.specs.Ratio.{SumFits}
-use Rattle.affine_segment.specs.declared.line.Piece.{Piece}
-use Rattle.affine_segment.specs.Pieces.{Each}
-use Rattle.watch_laws.specs.Affine.{EachTime, Among}
-use Rattle.watch_laws.specs.declared.point.Point.{Point}
-use Rattle.watch_laws.specs.declared.point.Segment.{Segment}
-use Rattle.watch_laws.specs.Shorts.{HasPoint, HasSegment, IsShortBy}
+use Rattle.flow_watch.specs.affine_segment.specs.declared.line.Piece.{Piece}
+use Rattle.flow_watch.specs.affine_segment.specs.Pieces.{Each}
+use Rattle.flow_watch.specs.watch_laws.specs.Affine.{EachTime, Among}
+use Rattle.flow_watch.specs.watch_laws.specs.declared.point.Point.{Point}
+use Rattle.flow_watch.specs.watch_laws.specs.declared.point.Segment.{Segment}
+use Rattle.flow_watch.specs.watch_laws.specs.Shorts.{HasPoint, HasSegment, IsShortBy}
 use Rattle.run_watch.specs.declared.span.Ramp.{Ramp}
 use Rattle.run_watch.specs.declared.watched.Stretch.{Stretch}
 use Rattle.run_watch.specs.Ramps.{amount, spans_of}

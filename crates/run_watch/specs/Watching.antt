@@ -3,8 +3,8 @@ use Rattle.std.specs.Prelude.{◌≡◌, ℕ, pos, Bool, ◌&&◌, List, [], ◌
 use Rattle.std.specs.Option.{option_to_list}
 use Rattle.rational.specs.Rational.{ℚ, int, ◌≤ℚ◌, lt_q, le_q}
 use Rattle.fraction128.specs.Order.{same_q}
-use Rattle.run_laws.specs.declared.steps.Step.{Step}
-use Rattle.watch_laws.specs.Affine.{Among}
+use Rattle.flow_watch.specs.run_laws.specs.declared.steps.Step.{Step}
+use Rattle.flow_watch.specs.watch_laws.specs.Affine.{Among}
 use Rattle.run_watch.specs.declared.span.Ramp.{Ramp}
 use Rattle.run_watch.specs.declared.watched.Watched.{Watched}
 use Rattle.run_watch.specs.declared.watched.Stretch.{Stretch}

@@ -5,9 +5,9 @@ ghost use Rattle.rational.specs.Rational.{int, ◌≤ℚ◌, ◌<ℚ◌, lt_q, l
 ghost use Rattle.run_watch.specs.Ramps.{amount, rate_before, rate_after, pace_in, TakeTime, ramps_after, AreRamps, spans_of, part, all_done, paced_before, paced_after, PaceFits, RampsFit, PartFits, ReadsRamp, EachRamp};
 
 use crate::span::{Ramp, Span};
+use flow_watch::step_lines::is_at_most;
 use fraction128::{Frac, difference, is_less, product, quotient, sum};
 use std::alloc::{AllocError, Global};
-use step_lines::is_at_most;
 
 /// The pace of a span.
 fn pace_of(s: &Span) -> Frac

@@ -4,16 +4,16 @@ use Rattle.std.specs.Prelude.{Option, pos, Contains, ◌==◌, slice_get}
 use Rattle.std.specs.List.{AllByRecursion}
 use Rattle.std.proofs.lemmas.Bool.{cases_Bool}
 use Rattle.std.proofs.lemmas.List.{get_or-map, length-map}
-use Rattle.rational.specs.Rational.{int, ◌≤ℚ◌}
-use Rattle.rational.proofs.Laws.{le_of_lt}
-use Rattle.run_laws.specs.Routes.{Route, route_of}
-use Rattle.net_model.specs.declared.trace.TracePacket.{TracePacket}
-use Rattle.net_model.specs.declared.trace.Stall.{Stall}
-use Rattle.net_model.specs.Networks.{Net, NetServer, NetFlow}
-use Rattle.net_model.specs.NetRoutes.{hops_along, route_for, routes_of}
-use Rattle.net_model.specs.Accepted.{IsAccepted}
-use Rattle.net_model.specs.Traces.{SpecTrace, IsTrace, IsStall}
-use Rattle.net_model.specs.Walks.{IsFeedForward}
+use Rattle.net_graph.specs.rational.specs.Rational.{int, ◌≤ℚ◌}
+use Rattle.net_graph.specs.rational.proofs.Laws.{le_of_lt}
+use Rattle.net_graph.specs.run_laws.specs.Routes.{Route, route_of}
+use Rattle.net_graph.specs.net_model.specs.declared.trace.TracePacket.{TracePacket}
+use Rattle.net_graph.specs.net_model.specs.declared.trace.Stall.{Stall}
+use Rattle.net_graph.specs.net_model.specs.Networks.{Net, NetServer, NetFlow}
+use Rattle.net_graph.specs.net_model.specs.NetRoutes.{hops_along, route_for, routes_of}
+use Rattle.net_graph.specs.net_model.specs.Accepted.{IsAccepted}
+use Rattle.net_graph.specs.net_model.specs.Traces.{SpecTrace, IsTrace, IsStall}
+use Rattle.net_graph.specs.net_model.specs.Walks.{IsFeedForward}
 use Rattle.stated_runs.specs.Setups.{Entering, GateTimes, StallTimes, Opening, opening_of, packet_of}
 use Rattle.stated_runs.specs.FromTraces.{gate_of, stalls_at, openings_from, entering, setup_of, IsTraceOf}
 use Rattle.stated_runs.proofs.Lists.{In, in_contains}

@@ -1,12 +1,12 @@
 -- The laws of times.
 use Rattle.std.proofs.Common.{◌≡◌, ℕ, List, ap, subst}
-use Rattle.rational.specs.Rational.{◌-ℚ◌, ◌/ℚ◌}
-use Rattle.rational.specs.Grid.{Whole}
-use Rattle.rational.proofs.Laws.{le_trans}
-use Rattle.run_laws.specs.declared.steps.Step.{Step}
-use Rattle.run_laws.specs.Cards.{size}
-use Rattle.run_laws.specs.Servers.{done, done_so_far}
-use Rattle.run_laws.specs.Lawful.{state_at, run_start, after_run}
+use Rattle.net_graph.specs.rational.specs.Rational.{◌-ℚ◌, ◌/ℚ◌}
+use Rattle.net_graph.specs.rational.specs.Grid.{Whole}
+use Rattle.net_graph.specs.rational.proofs.Laws.{le_trans}
+use Rattle.net_graph.specs.run_laws.specs.declared.steps.Step.{Step}
+use Rattle.net_graph.specs.run_laws.specs.Cards.{size}
+use Rattle.net_graph.specs.run_laws.specs.Servers.{done, done_so_far}
+use Rattle.net_graph.specs.run_laws.specs.Lawful.{state_at, run_start, after_run}
 use Rattle.stated_runs.specs.Setups.{Setup, IsSetup, rate_of}
 use Rattle.stated_runs.specs.DueSteps.{IsDue}
 use Rattle.sim_bounds.specs.Horizons.{IsForward}

@@ -1,11 +1,11 @@
 -- The laws of the times of stated runs.
 use Rattle.std.specs.Prelude.{ℕ, ◌<◌, ◌^◌, List}
-use Rattle.run_laws.specs.declared.steps.Step.{Step}
-use Rattle.run_laws.specs.Lawful.{run_start, after_run}
-use Rattle.net_model.specs.Networks.{Net}
-use Rattle.net_model.specs.Accepted.{IsAccepted}
-use Rattle.net_model.specs.Traces.{SpecTrace, IsTrace}
-use Rattle.net_model.specs.Walks.{IsFeedForward}
+use Rattle.net_graph.specs.run_laws.specs.declared.steps.Step.{Step}
+use Rattle.net_graph.specs.run_laws.specs.Lawful.{run_start, after_run}
+use Rattle.net_graph.specs.net_model.specs.Networks.{Net}
+use Rattle.net_graph.specs.net_model.specs.Accepted.{IsAccepted}
+use Rattle.net_graph.specs.net_model.specs.Traces.{SpecTrace, IsTrace}
+use Rattle.net_graph.specs.net_model.specs.Walks.{IsFeedForward}
 use Rattle.stated_runs.specs.Setups.{Setup, IsSetup}
 use Rattle.stated_runs.specs.FromTraces.{setup_of, IsTraceOf}
 use Rattle.stated_runs.specs.TimeGrids.{RunFits}

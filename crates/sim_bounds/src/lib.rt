@@ -6,3 +6,4 @@ mod laws;
 pub use laws::{
     due_steps_are_in_time, due_steps_are_on_grid, horizons_fit, simulations_fit, states_have_times,
 };
+pub use net_graph::net_model;

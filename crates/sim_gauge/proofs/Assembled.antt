@@ -3,18 +3,18 @@ use Rattle.std.proofs.Common.{◌≡◌, ◌<◌, ◌^◌, [], ◌++◌, map, sy
 use Rattle.std.specs.Prelude.{pos}
 use Rattle.std.specs.List.{flat_map}
 use Rattle.rational.specs.Rational.{ℚ, int}
-use Rattle.upp_limits.specs.declared.gathered.Gathered.{Gathered}
-use Rattle.upp_limits.specs.Limits.{Numbers, joined, time_alone, value_alone, sizes_of}
-use Rattle.upp_limits.specs.Gathered.{Gathers}
-use Rattle.upp_limits.specs.Sized.{HeldBy}
-use Rattle.upp_limits.proofs.Operands.{held_left, held_right}
-use Rattle.net_model.specs.declared.trace.TracePacket.{TracePacket}
-use Rattle.net_model.specs.Networks.{Net, NetServer}
-use Rattle.net_model.specs.Accepted.{IsAccepted}
-use Rattle.net_model.specs.Traces.{SpecTrace}
-use Rattle.stated_runs.specs.FromTraces.{setup_of}
-use Rattle.sim_bounds.specs.Horizons.{horizon}
-use Rattle.sim_bounds.specs.Gauge.{server_times, stall_times, trace_times, rates_of, common_num, numbers_of_curves, arrivals_of, curves_of, simulation_numbers, total_bits, simulation_gauge}
+use Rattle.window_numbers.specs.upp_limits.specs.declared.gathered.Gathered.{Gathered}
+use Rattle.window_numbers.specs.upp_limits.specs.Limits.{Numbers, joined, time_alone, value_alone, sizes_of}
+use Rattle.window_numbers.specs.upp_limits.specs.Gathered.{Gathers}
+use Rattle.window_numbers.specs.upp_limits.specs.Sized.{HeldBy}
+use Rattle.window_numbers.specs.upp_limits.proofs.Operands.{held_left, held_right}
+use Rattle.window_numbers.specs.net_model.specs.declared.trace.TracePacket.{TracePacket}
+use Rattle.window_numbers.specs.net_model.specs.Networks.{Net, NetServer}
+use Rattle.window_numbers.specs.net_model.specs.Accepted.{IsAccepted}
+use Rattle.window_numbers.specs.net_model.specs.Traces.{SpecTrace}
+use Rattle.window_numbers.specs.stated_runs.specs.FromTraces.{setup_of}
+use Rattle.window_numbers.specs.sim_bounds.specs.Horizons.{horizon}
+use Rattle.window_numbers.specs.sim_bounds.specs.Gauge.{server_times, stall_times, trace_times, rates_of, common_num, numbers_of_curves, arrivals_of, curves_of, simulation_numbers, total_bits, simulation_gauge}
 use Rattle.sim_gauge.specs.Named.{packet_numbers, stall_numbers, server_numbers}
 use Rattle.window_numbers.proofs.Products.{finer, held_all}
 use Rattle.sim_gauge.proofs.Products.{gauge_is}

@@ -7,15 +7,15 @@ use Rattle.rational.specs.Rational.{ℚ, int, ◌≤ℚ◌}
 use Rattle.rational.specs.MinMax.{max_q}
 use Rattle.rational.proofs.Laws.{le_refl, le_trans, antisym}
 use Rattle.rational.proofs.MinMax.{max_q_assoc, max_q_is_left, max_q_right, max_q_ge_left, max_q_ge_right, max_q_le}
-use Rattle.net_model.specs.declared.trace.TracePacket.{TracePacket}
-use Rattle.net_model.specs.declared.trace.Stall.{Stall}
-use Rattle.net_model.specs.Networks.{Net, NetServer}
-use Rattle.net_model.specs.Traces.{SpecTrace}
-use Rattle.stated_runs.specs.Setups.{Entering, StallTimes, Opening}
-use Rattle.stated_runs.specs.FromTraces.{stalls_at, openings_from, entering, setup_of}
-use Rattle.stated_runs.proofs.Lists.{In}
-use Rattle.sim_bounds.specs.Horizons.{latest_of, first_time}
-use Rattle.sim_bounds.proofs.Spans.{latest_nonneg}
+use Rattle.window_numbers.specs.net_model.specs.declared.trace.TracePacket.{TracePacket}
+use Rattle.window_numbers.specs.net_model.specs.declared.trace.Stall.{Stall}
+use Rattle.window_numbers.specs.net_model.specs.Networks.{Net, NetServer}
+use Rattle.window_numbers.specs.net_model.specs.Traces.{SpecTrace}
+use Rattle.window_numbers.specs.stated_runs.specs.Setups.{Entering, StallTimes, Opening}
+use Rattle.window_numbers.specs.stated_runs.specs.FromTraces.{stalls_at, openings_from, entering, setup_of}
+use Rattle.window_numbers.specs.stated_runs.proofs.Lists.{In}
+use Rattle.window_numbers.specs.sim_bounds.specs.Horizons.{latest_of, first_time}
+use Rattle.window_numbers.specs.sim_bounds.proofs.Spans.{latest_nonneg}
 
 -- ---- one after another
 pub latest_step : {A : Type 0} (time : A → ℚ) (xs : List A) (i : ℕ) (d : A) (m : ℚ) → i < length xs

@@ -2,10 +2,10 @@
 use Rattle.std.proofs.Common.{◌≡◌, ℕ, zero, suc, ◌<◌, List, [], ◌∷◌, length, get_or, sym, ap, arith, inl, inr, Some}
 use Rattle.std.specs.Prelude.{Option, Contains}
 use Rattle.std.specs.Option.{option_map}
-use Rattle.net_model.specs.declared.flow.Flow.{Flow}
-use Rattle.net_model.specs.NetRoutes.{route_for}
-use Rattle.net_model.specs.Views.{flow_of, flows_of}
-use Rattle.stated_runs.proofs.Lists.{In, in_contains}
+use Rattle.window_numbers.specs.net_model.specs.declared.flow.Flow.{Flow}
+use Rattle.window_numbers.specs.net_model.specs.NetRoutes.{route_for}
+use Rattle.window_numbers.specs.net_model.specs.Views.{flow_of, flows_of}
+use Rattle.window_numbers.specs.stated_runs.proofs.Lists.{In, in_contains}
 use Rattle.sim_gauge.specs.Flows.{hops_of}
 
 pub flow_route : (fs : List (Option Flow)) (i : ℕ) (x : Option Flow) → i < length fs → x ≡ get_or fs i x → hops_of (flows_of fs) i ≡ (route_for (option_map flow_of x)).hops

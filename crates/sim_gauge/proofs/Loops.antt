@@ -1,15 +1,15 @@
 -- The numbers of packets, stalls and servers, gathered part by part.
 use Rattle.std.proofs.Common.{◌≡◌, List, [], ◌∷◌, refl, ap, ◌∙◌, append-nil}
 use Rattle.rational.specs.Rational.{ℚ}
-use Rattle.upp_limits.specs.Limits.{Numbers, joined, time_alone, slope_alone}
-use Rattle.upp_limits.proofs.JoinedNumbers.{joined_three}
-use Rattle.net_model.specs.declared.server.Server.{Server}
-use Rattle.net_model.specs.declared.trace.TracePacket.{TracePacket}
-use Rattle.net_model.specs.declared.trace.Stall.{Stall}
-use Rattle.net_model.specs.Networks.{NetServer}
-use Rattle.net_model.specs.Views.{server_of, servers_of}
-use Rattle.stated_runs.specs.FromTraces.{gate_of}
-use Rattle.sim_bounds.specs.Gauge.{gate_times, stall_times}
+use Rattle.window_numbers.specs.upp_limits.specs.Limits.{Numbers, joined, time_alone, slope_alone}
+use Rattle.window_numbers.specs.upp_limits.proofs.JoinedNumbers.{joined_three}
+use Rattle.window_numbers.specs.net_model.specs.declared.server.Server.{Server}
+use Rattle.window_numbers.specs.net_model.specs.declared.trace.TracePacket.{TracePacket}
+use Rattle.window_numbers.specs.net_model.specs.declared.trace.Stall.{Stall}
+use Rattle.window_numbers.specs.net_model.specs.Networks.{NetServer}
+use Rattle.window_numbers.specs.net_model.specs.Views.{server_of, servers_of}
+use Rattle.window_numbers.specs.stated_runs.specs.FromTraces.{gate_of}
+use Rattle.window_numbers.specs.sim_bounds.specs.Gauge.{gate_times, stall_times}
 use Rattle.window_numbers.proofs.Loops.{IsPartwise}
 use Rattle.sim_gauge.specs.Named.{times_alone, packet_numbers, stall_numbers, server_number, server_numbers}
 

@@ -9,14 +9,14 @@ use Rattle.rational.proofs.Linear.{with6}
 use Rattle.rational.proofs.Laws.{antisym}
 use Rattle.run_laws.specs.Cards.{whole}
 use Rattle.run_laws.specs.Routes.{link_at}
-use Rattle.net_model.specs.declared.trace.Stall.{Stall}
-use Rattle.net_model.specs.Networks.{Net, NetServer}
-use Rattle.net_model.specs.Traces.{SpecTrace}
-use Rattle.stated_runs.specs.Setups.{StallTimes, Opening}
-use Rattle.stated_runs.proofs.ServerSetups.{ServerIs}
-use Rattle.stated_runs.specs.FromTraces.{gate_of, stalls_at, setup_of}
-use Rattle.sim_bounds.specs.Horizons.{load, stalled_for}
-use Rattle.sim_bounds.specs.Way.{open_time, gated_time, gated, plain_time, plain_span}
+use Rattle.window_numbers.specs.net_model.specs.declared.trace.Stall.{Stall}
+use Rattle.window_numbers.specs.net_model.specs.Networks.{Net, NetServer}
+use Rattle.window_numbers.specs.net_model.specs.Traces.{SpecTrace}
+use Rattle.window_numbers.specs.stated_runs.specs.Setups.{StallTimes, Opening}
+use Rattle.window_numbers.specs.stated_runs.proofs.ServerSetups.{ServerIs}
+use Rattle.window_numbers.specs.stated_runs.specs.FromTraces.{gate_of, stalls_at, setup_of}
+use Rattle.window_numbers.specs.sim_bounds.specs.Horizons.{load, stalled_for}
+use Rattle.window_numbers.specs.sim_bounds.specs.Way.{open_time, gated_time, gated, plain_time, plain_span}
 use Rattle.sim_gauge.specs.Steps.{StallsFit}
 
 -- the parts of the span, from a server's own fields

@@ -2,8 +2,8 @@
 use Rattle.std.proofs.Common.{◌≡◌, ℕ, zero, suc, ◌<◌, List, [], ◌∷◌, length, get_or, refl, arith, inl, inr}
 use Rattle.std.specs.Prelude.{◌≢◌}
 use Rattle.std.proofs.lemmas.Bool.{cases_eq, eq-eqb, ne_eqb}
-use Rattle.net_model.specs.NetRoutes.{hops_along}
-use Rattle.sim_bounds.specs.Horizons.{path_bits}
+use Rattle.window_numbers.specs.net_model.specs.NetRoutes.{hops_along}
+use Rattle.window_numbers.specs.sim_bounds.specs.Horizons.{path_bits}
 
 -- the path has the server
 pub bits_at : (path queues : List ℕ) (s b k : ℕ) → length queues ≡ length path → k < length path → get_or path k 0 ≡ s → path_bits s (hops_along path queues) b ≡ b

@@ -2,12 +2,12 @@
 use Rattle.std.proofs.Common.{◌≡◌, ap}
 use Rattle.std.specs.Prelude.{pos}
 use Rattle.rational.specs.Rational.{int}
-use Rattle.upp_limits.specs.Limits.{joined, value_alone, sizes_of, gauge_of}
-use Rattle.net_model.specs.Networks.{Net}
-use Rattle.net_model.specs.Traces.{SpecTrace}
-use Rattle.stated_runs.specs.FromTraces.{setup_of}
-use Rattle.sim_bounds.specs.Horizons.{horizon}
-use Rattle.sim_bounds.specs.Gauge.{rates_of, common_num, simulation_numbers, total_bits, simulation_gauge}
+use Rattle.window_numbers.specs.upp_limits.specs.Limits.{joined, value_alone, sizes_of, gauge_of}
+use Rattle.window_numbers.specs.net_model.specs.Networks.{Net}
+use Rattle.window_numbers.specs.net_model.specs.Traces.{SpecTrace}
+use Rattle.window_numbers.specs.stated_runs.specs.FromTraces.{setup_of}
+use Rattle.window_numbers.specs.sim_bounds.specs.Horizons.{horizon}
+use Rattle.window_numbers.specs.sim_bounds.specs.Gauge.{rates_of, common_num, simulation_numbers, total_bits, simulation_gauge}
 use Rattle.window_numbers.specs.Rated.{gauge_with}
 use Rattle.window_numbers.proofs.Products.{sizes_with}
 

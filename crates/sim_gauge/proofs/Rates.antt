@@ -4,15 +4,15 @@ use Rattle.std.specs.Prelude.{pos, nat_abs}
 use Rattle.std.specs.List.{AllByRecursion}
 use Rattle.std.proofs.lemmas.List.{drop_more}
 use Rattle.rational.specs.Gauge.{Kept, lcm}
-use Rattle.net_model.specs.declared.server.Server.{Server}
-use Rattle.net_model.specs.Views.{servers_of}
+use Rattle.window_numbers.specs.net_model.specs.declared.server.Server.{Server}
+use Rattle.window_numbers.specs.net_model.specs.Views.{servers_of}
 use Rattle.rational.specs.Rational.{int, ◌<ℚ◌}
-use Rattle.net_model.specs.Networks.{Net, NetServer}
-use Rattle.net_model.specs.Accepted.{IsAccepted}
-use Rattle.stated_runs.proofs.Lists.{In, in_contains}
-use Rattle.upp_limits.proofs.Every.{every_map}
-use Rattle.sim_bounds.specs.Gauge.{rates_of, common_num}
-use Rattle.sim_bounds.proofs.Gauged.{common_num_pos}
+use Rattle.window_numbers.specs.net_model.specs.Networks.{Net, NetServer}
+use Rattle.window_numbers.specs.net_model.specs.Accepted.{IsAccepted}
+use Rattle.window_numbers.specs.stated_runs.proofs.Lists.{In, in_contains}
+use Rattle.window_numbers.specs.upp_limits.proofs.Every.{every_map}
+use Rattle.window_numbers.specs.sim_bounds.specs.Gauge.{rates_of, common_num}
+use Rattle.window_numbers.specs.sim_bounds.proofs.Gauged.{common_num_pos}
 
 each_rate : (xs : List NetServer) → ((x : NetServer) → In xs x → int (pos 0) <ℚ x.rate) → AllByRecursion (λ (x : NetServer). int (pos 0) <ℚ x.rate) xs
 each_rate [] h = tt

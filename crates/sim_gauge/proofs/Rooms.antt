@@ -6,10 +6,10 @@ use Rattle.rational.proofs.Linear.{with2, with3}
 use Rattle.rational.proofs.Laws.{antisym}
 use Rattle.rational.proofs.Grid.{whole_sub}
 use Rattle.rational.proofs.Sizes.{largest_part, sum_on_grid}
-use Rattle.stated_runs.specs.Setups.{StallTimes}
-use Rattle.stated_runs.proofs.GridTimes.{within, room_two, difference_fits}
-use Rattle.stated_runs.specs.TimeGrids.{HasRoom, IsTime, AreStallTimes}
-use Rattle.sim_bounds.specs.Horizons.{stalled_for}
+use Rattle.window_numbers.specs.stated_runs.specs.Setups.{StallTimes}
+use Rattle.window_numbers.specs.stated_runs.proofs.GridTimes.{within, room_two, difference_fits}
+use Rattle.window_numbers.specs.stated_runs.specs.TimeGrids.{HasRoom, IsTime, AreStallTimes}
+use Rattle.window_numbers.specs.sim_bounds.specs.Horizons.{stalled_for}
 use Rattle.sim_gauge.specs.Steps.{StallsFit}
 
 few : (d : ℕ) (e : ℚ) → HasRoom d e → d ≤ largest_part

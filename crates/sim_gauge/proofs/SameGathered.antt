@@ -2,9 +2,9 @@
 use Rattle.std.proofs.Common.{List, [], ◌∷◌, ◌++◌}
 use Rattle.std.specs.List.{AllByRecursion}
 use Rattle.rational.specs.Rational.{ℚ}
-use Rattle.upp_limits.specs.Limits.{Numbers, joined, time_alone}
-use Rattle.upp_limits.proofs.Every.{every_append, every_left, every_right}
-use Rattle.upp_limits.proofs.SameSizes.{Equals}
+use Rattle.window_numbers.specs.upp_limits.specs.Limits.{Numbers, joined, time_alone}
+use Rattle.window_numbers.specs.upp_limits.proofs.Every.{every_append, every_left, every_right}
+use Rattle.window_numbers.specs.upp_limits.proofs.SameSizes.{Equals}
 use Rattle.sim_gauge.specs.Named.{times_alone}
 
 -- ---- the horizon first, then the numbers in the order of the code or of the definition

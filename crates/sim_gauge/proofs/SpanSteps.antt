@@ -7,31 +7,31 @@ use Rattle.rational.specs.Rational.{ℚ, int, ◌+ℚ◌, ◌*ℚ◌}
 use Rattle.rational.specs.Ratio.{IsSmall, SumFits}
 use Rattle.upp_curve.specs.Curve.{SpecCurve}
 use Rattle.run_laws.specs.Routes.{link_at}
-use Rattle.net_model.specs.declared.server.Server.{Server}
-use Rattle.net_model.specs.declared.server.ServiceKind.{ServiceKind}
-use Rattle.net_model.specs.declared.server.ServiceKind.TheVariants.{Latency, Gate, Listed}
-use Rattle.net_model.specs.Accepted.{IsOfKind}
-use Rattle.net_model.specs.Networks.{Net, NetServer}
-use Rattle.net_model.specs.NetRoutes.{server_for}
-use Rattle.net_model.specs.Traces.{SpecTrace}
-use Rattle.net_model.specs.Views.{server_of, servers_of}
-use Rattle.stated_runs.specs.Setups.{Opening, IsGateFor, opening_of}
-use Rattle.stated_runs.specs.FromTraces.{gate_of, stalls_at, setup_of}
-use Rattle.stated_runs.proofs.Lists.{In, in_contains}
-use Rattle.sim_bounds.specs.Horizons.{gate_ratio, stalled_for, first_time, sum_below, horizon}
+use Rattle.window_numbers.specs.net_model.specs.declared.server.Server.{Server}
+use Rattle.window_numbers.specs.net_model.specs.declared.server.ServiceKind.{ServiceKind}
+use Rattle.window_numbers.specs.net_model.specs.declared.server.ServiceKind.TheVariants.{Latency, Gate, Listed}
+use Rattle.window_numbers.specs.net_model.specs.Accepted.{IsOfKind}
+use Rattle.window_numbers.specs.net_model.specs.Networks.{Net, NetServer}
+use Rattle.window_numbers.specs.net_model.specs.NetRoutes.{server_for}
+use Rattle.window_numbers.specs.net_model.specs.Traces.{SpecTrace}
+use Rattle.window_numbers.specs.net_model.specs.Views.{server_of, servers_of}
+use Rattle.window_numbers.specs.stated_runs.specs.Setups.{Opening, IsGateFor, opening_of}
+use Rattle.window_numbers.specs.stated_runs.specs.FromTraces.{gate_of, stalls_at, setup_of}
+use Rattle.window_numbers.specs.stated_runs.proofs.Lists.{In, in_contains}
+use Rattle.window_numbers.specs.sim_bounds.specs.Horizons.{gate_ratio, stalled_for, first_time, sum_below, horizon}
 use Rattle.rational.proofs.Linear.{with1, with4, with5}
 use Rattle.rational.proofs.Laws.{antisym}
-use Rattle.sim_bounds.specs.Way.{open_time, gated, plain_time, plain_span, HorizonFits}
-use Rattle.sim_bounds.proofs.WayFits.{horizon_parts}
-use Rattle.stated_runs.specs.TimeGrids.{IsTime}
-use Rattle.upp_limits.proofs.Every.{every_append}
+use Rattle.window_numbers.specs.sim_bounds.specs.Way.{open_time, gated, plain_time, plain_span, HorizonFits}
+use Rattle.window_numbers.specs.sim_bounds.proofs.WayFits.{horizon_parts}
+use Rattle.window_numbers.specs.stated_runs.specs.TimeGrids.{IsTime}
+use Rattle.window_numbers.specs.upp_limits.proofs.Every.{every_append}
 use Rattle.wide_sums.specs.declared.products.Product.{Product}
 use Rattle.wide_sums.specs.Sums.{IsFromZero, sum_of_products}
-use Rattle.sim_bounds.proofs.Members.{at_in_list}
+use Rattle.window_numbers.specs.sim_bounds.proofs.Members.{at_in_list}
 use Rattle.sim_gauge.specs.Steps.{StallsFit}
-use Rattle.stated_runs.proofs.ServerSetups.{ServerIs, made_at}
+use Rattle.window_numbers.specs.stated_runs.proofs.ServerSetups.{ServerIs, made_at}
 use Rattle.sim_gauge.proofs.Rooms.{stalls_fit}
-use Rattle.stated_runs.proofs.GridTimes.{time_fits, sum_fits}
+use Rattle.window_numbers.specs.stated_runs.proofs.GridTimes.{time_fits, sum_fits}
 
 pub record SpanSteps (time : ℚ) (o : Opening) (wire : ℚ) : Type 0 where
   pub ratio : IsSmall (gate_ratio o.gate)

@@ -2,11 +2,11 @@
 use Rattle.std.specs.Prelude.{List, [], ◌∷◌, map}
 use Rattle.std.specs.List.{flat_map}
 use Rattle.rational.specs.Rational.{ℚ}
-use Rattle.upp_limits.specs.Limits.{Numbers}
-use Rattle.net_model.specs.declared.trace.TracePacket.{TracePacket}
-use Rattle.net_model.specs.declared.trace.Stall.{Stall}
-use Rattle.net_model.specs.Networks.{NetServer}
-use Rattle.sim_bounds.specs.Gauge.{server_times, stall_times}
+use Rattle.window_numbers.specs.upp_limits.specs.Limits.{Numbers}
+use Rattle.window_numbers.specs.net_model.specs.declared.trace.TracePacket.{TracePacket}
+use Rattle.window_numbers.specs.net_model.specs.declared.trace.Stall.{Stall}
+use Rattle.window_numbers.specs.net_model.specs.Networks.{NetServer}
+use Rattle.window_numbers.specs.sim_bounds.specs.Gauge.{server_times, stall_times}
 
 abbrev pub times_alone : List ℚ → Numbers
 times_alone ts = record { times = ts; values = []; slopes = [] }

@@ -2,7 +2,7 @@
 use Rattle.std.specs.Prelude.{List, [], ◌∷◌}
 use Rattle.rational.specs.Rational.{ℚ, ◌+ℚ◌, ◌-ℚ◌, neg_ℚ}
 use Rattle.rational.specs.Ratio.{SumFits}
-use Rattle.stated_runs.specs.Setups.{StallTimes}
+use Rattle.window_numbers.specs.stated_runs.specs.Setups.{StallTimes}
 
 -- the lengths of stalls can be added to a sum, one after another
 abbrev pub StallsFit : ℚ → List StallTimes → Type 0

@@ -5,16 +5,16 @@ ghost use Rattle.std.specs.List.{AllByRecursion};
 ghost use Rattle.rational.specs.Rational.{ℚ, int, ◌+ℚ◌, ◌*ℚ◌, ◌≤ℚ◌};
 ghost use Rattle.rational.specs.Ratio.{SumFits};
 ghost use Rattle.wide_sums.specs.Sums.{IsFromZero, sum_of_products};
-ghost use Rattle.stated_runs.specs.FromTraces.{setup_of, IsTraceOf};
-ghost use Rattle.sim_bounds.specs.Horizons.{first_time, sum_below, horizon};
-ghost use Rattle.sim_bounds.specs.Way.{open_time, gated, plain_span, HorizonFits};
+ghost use Rattle.window_numbers.specs.stated_runs.specs.FromTraces.{setup_of, IsTraceOf};
+ghost use Rattle.window_numbers.specs.sim_bounds.specs.Horizons.{first_time, sum_below, horizon};
+ghost use Rattle.window_numbers.specs.sim_bounds.specs.Way.{open_time, gated, plain_span, HorizonFits};
 
 use crate::loads::load;
 use crate::spans::{gate_product, no_product, plain_time, stalled, work_time};
 use arrayvec::ArrayVec;
 use fraction128::{Frac, greater};
-use net_model::{Network, ServiceKind, Trace};
 use wide_sums::{MOST_PRODUCTS, Product, sum_of_products};
+use window_numbers::net_model::{Network, ServiceKind, Trace};
 use window_numbers::plus;
 
 /// The latest of the times at which packets enter and stalls end, and 0 where there is none.

@@ -1,14 +1,14 @@
 //! The bits that pass a server.
 
 ghost use Rattle.std.specs.Prelude.{◌≡◌, ℕ, List, Some, length, Contains};
-ghost use Rattle.net_model.specs.NetRoutes.{hops_along};
-ghost use Rattle.net_model.specs.Networks.{NetFlow};
-ghost use Rattle.net_model.specs.Views.{flows_of};
-ghost use Rattle.sim_bounds.specs.Horizons.{path_bits, load};
-ghost use Rattle.stated_runs.specs.FromTraces.{setup_of};
+ghost use Rattle.window_numbers.specs.net_model.specs.NetRoutes.{hops_along};
+ghost use Rattle.window_numbers.specs.net_model.specs.Networks.{NetFlow};
+ghost use Rattle.window_numbers.specs.net_model.specs.Views.{flows_of};
+ghost use Rattle.window_numbers.specs.sim_bounds.specs.Horizons.{path_bits, load};
+ghost use Rattle.window_numbers.specs.stated_runs.specs.FromTraces.{setup_of};
 ghost use Rattle.sim_gauge.specs.Flows.{hops_of};
 
-use net_model::{Flow, Network, Trace, TracePacket};
+use window_numbers::net_model::{Flow, Network, Trace, TracePacket};
 
 /// The bits where the path has the server, and else 0.
 fn bits_on(path: &[u32], server: u32, bits: u32) -> u32

@@ -1,14 +1,14 @@
 //! The numbers that a network and a trace name: times, and the servers' rates.
 
-ghost use Rattle.upp_limits.specs.Gathered.{Gathers};
-ghost use Rattle.upp_limits.specs.Limits.{Numbers, joined};
-ghost use Rattle.net_model.specs.Views.{server_of, servers_of};
-ghost use Rattle.stated_runs.specs.FromTraces.{gate_of};
-ghost use Rattle.sim_bounds.specs.Gauge.{gate_times, stall_times};
+ghost use Rattle.window_numbers.specs.upp_limits.specs.Gathered.{Gathers};
+ghost use Rattle.window_numbers.specs.upp_limits.specs.Limits.{Numbers, joined};
+ghost use Rattle.window_numbers.specs.net_model.specs.Views.{server_of, servers_of};
+ghost use Rattle.window_numbers.specs.stated_runs.specs.FromTraces.{gate_of};
+ghost use Rattle.window_numbers.specs.sim_bounds.specs.Gauge.{gate_times, stall_times};
 ghost use Rattle.sim_gauge.specs.Named.{times_alone, packet_numbers, stall_numbers, server_number, server_numbers};
 
-use net_model::{Server, ServiceKind, Stall, TracePacket};
-use upp_limits::gathered::Gathered;
+use window_numbers::net_model::{Server, ServiceKind, Stall, TracePacket};
+use window_numbers::upp_limits::gathered::Gathered;
 
 /// The times at which packets enter more.
 pub(crate) fn with_packets(g: Gathered, packets: &[TracePacket]) -> Gathered

@@ -5,14 +5,14 @@ ghost use Rattle.rational.specs.Rational.{int, ◌+ℚ◌, ◌-ℚ◌, neg_ℚ, 
 ghost use Rattle.rational.specs.Ratio.{IsSmall, SumFits};
 ghost use Rattle.wide_sums.specs.Sums.{IsFromZero};
 ghost use Rattle.run_laws.specs.Cards.{whole};
-ghost use Rattle.stated_runs.specs.FromTraces.{gate_of, stalls_at};
-ghost use Rattle.sim_bounds.specs.Horizons.{stalled_for};
-ghost use Rattle.sim_bounds.specs.Way.{plain_time};
+ghost use Rattle.window_numbers.specs.stated_runs.specs.FromTraces.{gate_of, stalls_at};
+ghost use Rattle.window_numbers.specs.sim_bounds.specs.Horizons.{stalled_for};
+ghost use Rattle.window_numbers.specs.sim_bounds.specs.Way.{plain_time};
 ghost use Rattle.sim_gauge.specs.Steps.{StallsFit};
 
 use fraction128::Frac;
-use net_model::{ServiceKind, Stall};
 use wide_sums::Product;
+use window_numbers::net_model::{ServiceKind, Stall};
 use window_numbers::{minus, over, plus};
 
 /// How long a server works on so many bits while it is open.

@@ -4,21 +4,21 @@ ghost use Rattle.std.specs.Prelude.{ℕ, ◌≡◌, ◌↔◌, ◌<◌, ◌≤�
 ghost use Rattle.std.specs.List.{AllByRecursion};
 ghost use Rattle.rational.specs.Rational.{int, ◌<ℚ◌};
 ghost use Rattle.rational.specs.Gauge.{Kept};
-ghost use Rattle.upp_limits.specs.Limits.{joined, time_alone};
-ghost use Rattle.upp_limits.specs.Gathered.{Gathers};
-ghost use Rattle.net_model.specs.declared.trace.TracePacket.{TracePacket};
-ghost use Rattle.net_model.specs.Networks.{NetServer};
-ghost use Rattle.net_model.specs.Views.{servers_of};
-ghost use Rattle.net_model.specs.Walks.{IsFeedForward};
-ghost use Rattle.stated_runs.specs.FromTraces.{setup_of, IsTraceOf};
-ghost use Rattle.sim_bounds.specs.Horizons.{horizon};
-ghost use Rattle.sim_bounds.specs.Gauge.{common_num, simulation_numbers, simulation_gauge};
+ghost use Rattle.window_numbers.specs.upp_limits.specs.Limits.{joined, time_alone};
+ghost use Rattle.window_numbers.specs.upp_limits.specs.Gathered.{Gathers};
+ghost use Rattle.window_numbers.specs.net_model.specs.declared.trace.TracePacket.{TracePacket};
+ghost use Rattle.window_numbers.specs.net_model.specs.Networks.{NetServer};
+ghost use Rattle.window_numbers.specs.net_model.specs.Views.{servers_of};
+ghost use Rattle.window_numbers.specs.net_model.specs.Walks.{IsFeedForward};
+ghost use Rattle.window_numbers.specs.stated_runs.specs.FromTraces.{setup_of, IsTraceOf};
+ghost use Rattle.window_numbers.specs.sim_bounds.specs.Horizons.{horizon};
+ghost use Rattle.window_numbers.specs.sim_bounds.specs.Gauge.{common_num, simulation_numbers, simulation_gauge};
 
 use crate::horizons::horizon;
 use crate::named::{with_packets, with_servers, with_stalls};
 use fraction128::Frac;
-use net_model::{Network, Server, Trace, TracePacket};
-use upp_limits::gathered::{Gathered, common_multiple};
+use window_numbers::net_model::{Network, Server, Trace, TracePacket};
+use window_numbers::upp_limits::gathered::{Gathered, common_multiple};
 use window_numbers::{is_over, with_arrivals, with_services};
 
 /// All numbers of a simulation. None only where the simulation gauge is 2^120 or more.

@@ -3,12 +3,12 @@ use Rattle.std.specs.Prelude.{Option, Some, None, ◌≡◌, ◌⊎◌, ℕ, zer
 use Rattle.std.proofs.Common.{arith, refl, sym, ap, ◌∙◌, subst, inl, inr}
 use Rattle.std.proofs.lemmas.Bool.{cases_lt}
 use Rattle.index_links.specs.Chains.{Chains, list_at, first_of}
-use Rattle.stated_runs.specs.Setups.{Setup}
-use Rattle.sim_servers.specs.declared.due.Due.{Due}
-use Rattle.sim_servers.specs.declared.station.Station.{Station}
-use Rattle.sim_servers.specs.Firsts.{IsNoLater, IsEither, IsFirstOf}
-use Rattle.sim_servers.specs.Stations.{due_for}
-use Rattle.sim_servers.proofs.Firsts.{no_later_refl, no_later_trans}
+use Rattle.sim_states.specs.stated_runs.specs.Setups.{Setup}
+use Rattle.sim_states.specs.sim_servers.specs.declared.due.Due.{Due}
+use Rattle.sim_states.specs.sim_servers.specs.declared.station.Station.{Station}
+use Rattle.sim_states.specs.sim_servers.specs.Firsts.{IsNoLater, IsEither, IsFirstOf}
+use Rattle.sim_states.specs.sim_servers.specs.Stations.{due_for}
+use Rattle.sim_states.specs.sim_servers.proofs.Firsts.{no_later_refl, no_later_trans}
 use Rattle.sim_states.specs.declared.arrival.Arrival.{Arrival}
 use Rattle.sim_states.specs.Running.{enter_first, reach_first, station_due, IsCandidate, IsFirstCandidate}
 pub use Rattle.index_links.proofs.Popped.{first_has}

@@ -1,18 +1,18 @@
 -- What steps do to stations: one of them changes.
 use Rattle.std.specs.Prelude.{Option, Some, None, ◌≡◌, ℕ, pos, List, set, slice_get}
 use Rattle.rational.specs.Rational.{ℚ, int, ◌≤ℚ◌, ◌<ℚ◌}
-use Rattle.run_laws.specs.Cards.{Card, Arrives, Leaves}
-use Rattle.run_laws.specs.Servers.{Under, ServerState}
-use Rattle.run_laws.specs.Next.{next}
-use Rattle.run_laws.specs.Routes.{server_at}
-use Rattle.queue_sched.specs.Turns.{IsCard, Starts}
-use Rattle.queue_sched.specs.declared.turn.Turn.{Turn}
-use Rattle.stated_runs.specs.Setups.{Setup}
-use Rattle.sim_servers.specs.declared.station.Station.{Station}
-use Rattle.sim_servers.specs.declared.station.Stretch.{Stretch}
-use Rattle.sim_servers.specs.Openings.{opening_for, IsInOrder, HasOpened, IsSameOpening}
-use Rattle.sim_servers.specs.Queues.{served_by, room_of, StandFor}
-use Rattle.sim_servers.specs.Stations.{IsStation, IsBeforeStart, IsWorkOf, IsAfterWork, WorkRoom}
+use Rattle.sim_states.specs.run_laws.specs.Cards.{Card, Arrives, Leaves}
+use Rattle.sim_states.specs.run_laws.specs.Servers.{Under, ServerState}
+use Rattle.sim_states.specs.run_laws.specs.Next.{next}
+use Rattle.sim_states.specs.run_laws.specs.Routes.{server_at}
+use Rattle.sim_states.specs.queue_sched.specs.Turns.{IsCard, Starts}
+use Rattle.sim_states.specs.queue_sched.specs.declared.turn.Turn.{Turn}
+use Rattle.sim_states.specs.stated_runs.specs.Setups.{Setup}
+use Rattle.sim_states.specs.sim_servers.specs.declared.station.Station.{Station}
+use Rattle.sim_states.specs.sim_servers.specs.declared.station.Stretch.{Stretch}
+use Rattle.sim_states.specs.sim_servers.specs.Openings.{opening_for, IsInOrder, HasOpened, IsSameOpening}
+use Rattle.sim_states.specs.sim_servers.specs.Queues.{served_by, room_of, StandFor}
+use Rattle.sim_states.specs.sim_servers.specs.Stations.{IsStation, IsBeforeStart, IsWorkOf, IsAfterWork, WorkRoom}
 
 -- the station of server s is another
 pub record IsMoved (before after : List Station) (s : ℕ) (old new : Station) : Type 0 where

@@ -2,14 +2,14 @@
 
 ghost use Rattle.std.specs.Prelude.{◌≡◌, ◌<◌, ◌≤◌, ◌^◌, length, map, slice_get};
 ghost use Rattle.index_links.specs.Chains.{list_at, first_of as head_of_list};
-ghost use Rattle.stated_runs.specs.Setups.{Setup};
-ghost use Rattle.stated_runs.specs.FromTraces.{entering};
+ghost use Rattle.sim_states.specs.stated_runs.specs.Setups.{Setup};
+ghost use Rattle.sim_states.specs.stated_runs.specs.FromTraces.{entering};
 ghost use Rattle.sim_states.specs.Running.{enter_first, reach_first, IsFirstCandidate};
 
 use index_links::Links;
-use net_model::TracePacket;
-use sim_servers::{Due, DueKind, Station, due_of, first_of};
 use sim_states::Arrival;
+use sim_states::net_model::TracePacket;
+use sim_states::sim_servers::{Due, DueKind, Station, due_of, first_of};
 
 /// The next packet of the trace.
 fn next_enter(packets: &[TracePacket], entered: u32) -> Option<Due>

@@ -7,3 +7,5 @@ mod moves;
 
 pub use candidates::first_due;
 pub use moves::{arrive_at, leave_at, turn_at, work_at};
+pub use sim_states;
+pub use sim_states::{queue_sched, sim_servers};

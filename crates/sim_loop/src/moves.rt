@@ -1,16 +1,16 @@
 //! What steps do to stations.
 
 ghost use Rattle.std.specs.Prelude.{◌≡◌, ◌<◌, Some, length, slice_get};
-ghost use Rattle.sim_servers.specs.declared.station.Station.{Station as SpecStation};
-ghost use Rattle.sim_servers.specs.Openings.{opening_for, OpeningRoom};
-ghost use Rattle.queue_sched.specs.Turns.{IsIdle};
-ghost use Rattle.sim_servers.specs.Queues.{StandFor};
-ghost use Rattle.sim_servers.specs.Stations.{MayTake, MayLose};
+ghost use Rattle.sim_states.specs.sim_servers.specs.declared.station.Station.{Station as SpecStation};
+ghost use Rattle.sim_states.specs.sim_servers.specs.Openings.{opening_for, OpeningRoom};
+ghost use Rattle.sim_states.specs.queue_sched.specs.Turns.{IsIdle};
+ghost use Rattle.sim_states.specs.sim_servers.specs.Queues.{StandFor};
+ghost use Rattle.sim_states.specs.sim_servers.specs.Stations.{MayTake, MayLose};
 ghost use Rattle.sim_loop.specs.Moves.{HasTaken, HasLost, HasTurned, HasWorked, MayWorkOn};
 
 use fraction128::Frac;
-use queue_sched::{Scheduler, Turn};
-use sim_servers::{Station, Stretch};
+use sim_states::queue_sched::{Scheduler, Turn};
+use sim_states::sim_servers::{Station, Stretch};
 
 /// A packet arrives at a server.
 pub fn arrive_at(

@@ -1,8 +1,8 @@
 //! Paths.
 
 ghost use Rattle.std.specs.Prelude.{◌≡◌, ◌<◌, length, slice_get};
-ghost use Rattle.run_laws.specs.Routes.{queue_at, server_after, first_server, last_server};
-ghost use Rattle.net_model.specs.NetRoutes.{hops_along};
+ghost use Rattle.net_cells.specs.run_laws.specs.Routes.{queue_at, server_after, first_server, last_server};
+ghost use Rattle.net_cells.specs.net_model.specs.NetRoutes.{hops_along};
 
 /// The server at a place of a path, if it has the place.
 pub(crate) fn server_on(path: &[u32], place: usize) -> Option<u32>

@@ -1,13 +1,13 @@
 //! The paths of flows.
 
 ghost use Rattle.std.specs.Prelude.{◌≡◌};
-ghost use Rattle.run_laws.specs.Routes.{queue_at, server_after, route_of, link_at, first_server, last_server};
-ghost use Rattle.net_model.specs.NetRoutes.{routes_of};
+ghost use Rattle.net_cells.specs.run_laws.specs.Routes.{queue_at, server_after, route_of, link_at, first_server, last_server};
+ghost use Rattle.net_cells.specs.net_model.specs.NetRoutes.{routes_of};
 
 use crate::paths::{first_on, last_on, queue_on, server_after_on};
-use fraction128::Frac;
+use net_cells::fraction128::Frac;
+use net_cells::net_model::Network;
 use net_cells::{live_flow, server};
-use net_model::Network;
 
 /// The queue of a flow at a server; 0 where it does not pass there, or is not live.
 pub fn queue_of(net: &Network, flow: u32, server: u32) -> u32

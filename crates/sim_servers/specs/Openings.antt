@@ -3,7 +3,7 @@
 use Rattle.std.specs.Prelude.{Option, ◌≡◌, ℕ, ◌<◌, ◌≤◌, List, length, map, get_or, All, AllPairs}
 use Rattle.std.specs.Option.{option_map}
 use Rattle.rational.specs.Rational.{ℚ, ◌+ℚ◌, ◌*ℚ◌, ◌≤ℚ◌, ◌<ℚ◌}
-use Rattle.run_laws.specs.Cards.{whole}
+use Rattle.stated_runs.specs.run_laws.specs.Cards.{whole}
 use Rattle.stated_runs.specs.Setups as setups
 use Rattle.stated_runs.specs.Setups.{GateTimes, StallTimes, IsGateFor}
 use Rattle.stated_runs.specs.TimeGrids.{HasRoom, IsTime, IsGateTime, AreStallTimes}

@@ -1,10 +1,10 @@
 -- The state of a server in a stated run, as the simulator keeps it.
 use Rattle.std.specs.Prelude.{Option, Some, None, ◌≡◌, ◌≢◌, ◌↔◌, ℕ, pos, ◌<◌, ◌^◌, [], length}
 use Rattle.rational.specs.Rational.{ℚ, int, ◌+ℚ◌, ◌-ℚ◌, ◌*ℚ◌, ◌/ℚ◌, ◌≤ℚ◌, ◌<ℚ◌}
-use Rattle.run_laws.specs.Cards.{size}
-use Rattle.run_laws.specs.Servers.{queue_count, Under, ServerState, done}
-use Rattle.run_laws.specs.Routes.{server_at}
-use Rattle.queue_sched.specs.Waiting.{HasPacket}
+use Rattle.stated_runs.specs.run_laws.specs.Cards.{size}
+use Rattle.stated_runs.specs.run_laws.specs.Servers.{queue_count, Under, ServerState, done}
+use Rattle.stated_runs.specs.run_laws.specs.Routes.{server_at}
+use Rattle.stated_runs.specs.queue_sched.specs.Waiting.{HasPacket}
 use Rattle.stated_runs.specs.Setups as setups
 use Rattle.stated_runs.specs.Setups.{Setup, IsStalled, IsOpenAt, IsFirstOpen, IsFirstOpenAt, StaysTo, opening_of, rate_of}
 use Rattle.sim_servers.specs.declared.due.Due.{Due}

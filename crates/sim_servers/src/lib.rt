@@ -9,4 +9,5 @@ mod station;
 pub use due::{Due, DueKind, first_of};
 pub use opening::{Gate, Opening, Span};
 pub use server_queues::ServerQueues;
+pub use stated_runs::{fraction128, net_model, queue_sched};
 pub use station::{Next, Rest, Station, Stretch, due_of, rest_of};

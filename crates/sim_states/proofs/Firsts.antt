@@ -3,22 +3,22 @@ use Rattle.std.specs.Prelude.{Some, None, ◌≡◌, ◌≢◌, ℕ, ◌≤◌, 
 use Rattle.std.proofs.Common.{arith, sym, ap, ◌∙◌, subst, inl, inr}
 use Rattle.rational.specs.Rational.{ℚ, ◌≤ℚ◌}
 use Rattle.rational.proofs.Laws.{le_trans, antisym}
-use Rattle.run_laws.specs.declared.steps.Step.{Step}
-use Rattle.run_laws.specs.Cards.{Card}
+use Rattle.sim_servers.specs.run_laws.specs.declared.steps.Step.{Step}
+use Rattle.sim_servers.specs.run_laws.specs.Cards.{Card}
 use Rattle.std.proofs.lemmas.Bool.{cases_lt}
 use Rattle.std.proofs.lemmas.List.{get_or_past}
-use Rattle.run_laws.specs.Servers.{Discipline, Fifo, Priority, Drr, Server, ServerState, head_of}
-use Rattle.run_laws.specs.Allows.{MayVisit}
-use Rattle.run_laws.specs.Rounds.{presence}
-use Rattle.run_laws.specs.Routes.{server_at}
-use Rattle.run_laws.specs.Lawful.{RunState, state_at}
-use Rattle.run_laws.proofs.Rounds.{first_counts}
+use Rattle.sim_servers.specs.run_laws.specs.Servers.{Discipline, Fifo, Priority, Drr, Server, ServerState, head_of}
+use Rattle.sim_servers.specs.run_laws.specs.Allows.{MayVisit}
+use Rattle.sim_servers.specs.run_laws.specs.Rounds.{presence}
+use Rattle.sim_servers.specs.run_laws.specs.Routes.{server_at}
+use Rattle.sim_servers.specs.run_laws.specs.Lawful.{RunState, state_at}
+use Rattle.sim_servers.specs.run_laws.proofs.Rounds.{first_counts}
 use Rattle.index_links.specs.Chains.{Chains}
-use Rattle.stated_runs.specs.Setups.{Setup, IsSetup}
-use Rattle.stated_runs.specs.DueSteps.{IsVisited, IsDue, rank_of, step_time, RankAtMost}
-use Rattle.stated_runs.specs.Simulated.{IsNext}
-use Rattle.stated_runs.specs.Laws.{state_after}
-use Rattle.stated_runs.proofs.Turning.{KeepsTurns}
+use Rattle.sim_servers.specs.stated_runs.specs.Setups.{Setup, IsSetup}
+use Rattle.sim_servers.specs.stated_runs.specs.DueSteps.{IsVisited, IsDue, rank_of, step_time, RankAtMost}
+use Rattle.sim_servers.specs.stated_runs.specs.Simulated.{IsNext}
+use Rattle.sim_servers.specs.stated_runs.specs.Laws.{state_after}
+use Rattle.sim_servers.specs.stated_runs.proofs.Turning.{KeepsTurns}
 use Rattle.sim_servers.specs.declared.due.Due.{Due}
 use Rattle.sim_servers.specs.declared.station.Station.{Station}
 use Rattle.sim_servers.specs.Firsts.{place_of}

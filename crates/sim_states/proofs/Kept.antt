@@ -5,13 +5,13 @@ use Rattle.std.proofs.lemmas.Bool.{cases_eq, eq-eqb, ne_eqb}
 use Rattle.std.proofs.lemmas.List.{get_or-set_same, get_or-set_other, length-map}
 use Rattle.std.proofs.Math.ListN.{length-set}
 use Rattle.rational.specs.Rational.{ℚ, int, ◌<ℚ◌}
-use Rattle.run_laws.specs.Lawful as lawful
-use Rattle.run_laws.specs.Lawful.{RunState, without, state_at}
+use Rattle.sim_servers.specs.run_laws.specs.Lawful as lawful
+use Rattle.sim_servers.specs.run_laws.specs.Lawful.{RunState, without, state_at}
 use Rattle.index_links.specs.Chains as chains
 use Rattle.index_links.specs.Chains.{Chains, list_at, Has, unlinked, with_list}
 use Rattle.index_links.proofs.Members.{has_left, has_right, has_either, has_without, without_has}
-use Rattle.stated_runs.specs.Setups.{Setup}
-use Rattle.stated_runs.proofs.Lists.{In, in_left, in_either, in_without, in_without_other}
+use Rattle.sim_servers.specs.stated_runs.specs.Setups.{Setup}
+use Rattle.sim_servers.specs.stated_runs.proofs.Lists.{In, in_left, in_either, in_without, in_without_other}
 use Rattle.sim_servers.specs.declared.station.Station.{Station}
 use Rattle.sim_servers.specs.Queues.{room_of}
 use Rattle.sim_servers.specs.Stations.{IsStation}

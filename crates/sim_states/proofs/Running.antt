@@ -4,18 +4,18 @@ use Rattle.std.proofs.Common.{arith, sym, ap, ◌∙◌, subst, inl, inr}
 use Rattle.std.proofs.lemmas.Bool.{cases_eq}
 use Rattle.std.proofs.lemmas.List.{get_or_push, get_or_append_left}
 use Rattle.rational.specs.Rational.{ℚ, ◌+ℚ◌, ◌≤ℚ◌, ◌<ℚ◌}
-use Rattle.run_laws.specs.declared.steps.Step.{Step}
-use Rattle.run_laws.specs.Cards.{Card, Arrives, Works, Leaves, Visits}
-use Rattle.run_laws.specs.Servers.{Discipline, ServerState}
-use Rattle.run_laws.specs.Next.{next}
-use Rattle.run_laws.specs.Routes.{server_at, link_at}
-use Rattle.run_laws.specs.Views.{Entry, entry_of, server_of, seen}
-use Rattle.run_laws.specs.Lawful.{RunState, state_at, next_run, run_start}
+use Rattle.sim_servers.specs.run_laws.specs.declared.steps.Step.{Step}
+use Rattle.sim_servers.specs.run_laws.specs.Cards.{Card, Arrives, Works, Leaves, Visits}
+use Rattle.sim_servers.specs.run_laws.specs.Servers.{Discipline, ServerState}
+use Rattle.sim_servers.specs.run_laws.specs.Next.{next}
+use Rattle.sim_servers.specs.run_laws.specs.Routes.{server_at, link_at}
+use Rattle.sim_servers.specs.run_laws.specs.Views.{Entry, entry_of, server_of, seen}
+use Rattle.sim_servers.specs.run_laws.specs.Lawful.{RunState, state_at, next_run, run_start}
 use Rattle.index_links.specs.Chains.{Chains}
-use Rattle.stated_runs.specs.Setups.{Setup, packet_of}
-use Rattle.stated_runs.specs.Simulated.{IsNext, FollowsSoFar}
-use Rattle.stated_runs.specs.Laws.{state_after}
-use Rattle.stated_runs.proofs.Good.{own_state, other_state}
+use Rattle.sim_servers.specs.stated_runs.specs.Setups.{Setup, packet_of}
+use Rattle.sim_servers.specs.stated_runs.specs.Simulated.{IsNext, FollowsSoFar}
+use Rattle.sim_servers.specs.stated_runs.specs.Laws.{state_after}
+use Rattle.sim_servers.specs.stated_runs.proofs.Good.{own_state, other_state}
 use Rattle.sim_servers.specs.declared.station.Station.{Station}
 use Rattle.sim_states.specs.declared.arrival.Arrival.{Arrival}
 use Rattle.sim_states.specs.Running.{IsAheadOf, AreLinks, AreStations, IsRunning}

@@ -5,20 +5,20 @@ use Rattle.std.proofs.lemmas.Bool.{cases_lt}
 use Rattle.std.proofs.lemmas.List.{get_or_past}
 use Rattle.rational.specs.Rational.{ℚ, int, ◌≤ℚ◌, ◌<ℚ◌}
 use Rattle.rational.proofs.Laws.{le_refl, le_of_lt, lt_irrefl}
-use Rattle.run_laws.specs.declared.steps.Step.{Step}
-use Rattle.run_laws.specs.declared.steps.Step.TheVariants as steps
-use Rattle.run_laws.specs.Cards.{size}
-use Rattle.run_laws.specs.Servers.{Under, done}
-use Rattle.run_laws.specs.Routes.{server_at}
-use Rattle.run_laws.proofs.Heads.{pick_is_head}
-use Rattle.run_laws.specs.Lawful as lawful
-use Rattle.run_laws.specs.Lawful.{RunState, state_at}
+use Rattle.sim_servers.specs.run_laws.specs.declared.steps.Step.{Step}
+use Rattle.sim_servers.specs.run_laws.specs.declared.steps.Step.TheVariants as steps
+use Rattle.sim_servers.specs.run_laws.specs.Cards.{size}
+use Rattle.sim_servers.specs.run_laws.specs.Servers.{Under, done}
+use Rattle.sim_servers.specs.run_laws.specs.Routes.{server_at}
+use Rattle.sim_servers.specs.run_laws.proofs.Heads.{pick_is_head}
+use Rattle.sim_servers.specs.run_laws.specs.Lawful as lawful
+use Rattle.sim_servers.specs.run_laws.specs.Lawful.{RunState, state_at}
 use Rattle.index_links.specs.Chains.{Chains, list_at, Has, first_of}
-use Rattle.stated_runs.specs.Setups.{Entering, Setup, packet_of, IsFirstOpen}
-use Rattle.stated_runs.specs.DueSteps.{IsLeaving, IsResumed, IsStarted, IsVisited, IsDue, Rank, RankAtMost, rank_of, step_time, work_kind}
-use Rattle.stated_runs.specs.Laws.{state_after}
-use Rattle.stated_runs.proofs.Lists.{In, contains_in, head_in}
-use Rattle.stated_runs.proofs.Unique.{open_once}
+use Rattle.sim_servers.specs.stated_runs.specs.Setups.{Entering, Setup, packet_of, IsFirstOpen}
+use Rattle.sim_servers.specs.stated_runs.specs.DueSteps.{IsLeaving, IsResumed, IsStarted, IsVisited, IsDue, Rank, RankAtMost, rank_of, step_time, work_kind}
+use Rattle.sim_servers.specs.stated_runs.specs.Laws.{state_after}
+use Rattle.sim_servers.specs.stated_runs.proofs.Lists.{In, contains_in, head_in}
+use Rattle.sim_servers.specs.stated_runs.proofs.Unique.{open_once}
 use Rattle.sim_servers.specs.declared.due.Due.{Due}
 use Rattle.sim_servers.specs.declared.due.DueKind.TheVariants as kinds
 use Rattle.sim_servers.specs.declared.station.Next.{Next}
@@ -29,7 +29,7 @@ use Rattle.sim_servers.specs.Stations.{IsNextOf, due_for}
 use Rattle.sim_servers.proofs.Firsts.{rank_refl}
 use Rattle.sim_states.specs.declared.arrival.Arrival.{Arrival}
 use Rattle.sim_states.specs.Running.{arrival_at, AreRising, IsRunning, enter_first, reach_first, station_due, IsCandidate, IsNotAfter}
-use Rattle.run_laws.proofs.Rounds.{visit_idle}
+use Rattle.sim_servers.specs.run_laws.proofs.Rounds.{visit_idle}
 
 -- ---- members
 pub some_at : {X : Type 0} (xs : List X) (i : ℕ) → i < length xs → (x : X) × (slice_get xs i ≡ Some x)

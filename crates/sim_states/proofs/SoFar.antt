@@ -2,16 +2,16 @@
 use Rattle.std.specs.Prelude.{◌≡◌, pos, List, [], ◌∷◌, ◌++◌}
 use Rattle.std.proofs.Common.{refl}
 use Rattle.rational.specs.Rational.{ℚ, int}
-use Rattle.run_laws.specs.declared.steps.Step.{Step}
-use Rattle.run_laws.specs.Lawful.{RunState, next_run, run_start, after_run}
-use Rattle.stated_runs.specs.Setups.{Setup, IsSetup}
-use Rattle.stated_runs.specs.DueSteps.{IsDue, step_time}
-use Rattle.stated_runs.specs.Simulated.{IsNext, Follows, FollowsSoFar}
-use Rattle.stated_runs.specs.Laws.{state_after}
-use Rattle.stated_runs.proofs.Good.{IsGood, good_from_step}
-use Rattle.stated_runs.proofs.GoodSteps.{good_next}
-use Rattle.stated_runs.proofs.Lawfulness.{good_start}
-use Rattle.stated_runs.proofs.Progress.{AllKeepTurns, turn_next, turn_start}
+use Rattle.sim_servers.specs.run_laws.specs.declared.steps.Step.{Step}
+use Rattle.sim_servers.specs.run_laws.specs.Lawful.{RunState, next_run, run_start, after_run}
+use Rattle.sim_servers.specs.stated_runs.specs.Setups.{Setup, IsSetup}
+use Rattle.sim_servers.specs.stated_runs.specs.DueSteps.{IsDue, step_time}
+use Rattle.sim_servers.specs.stated_runs.specs.Simulated.{IsNext, Follows, FollowsSoFar}
+use Rattle.sim_servers.specs.stated_runs.specs.Laws.{state_after}
+use Rattle.sim_servers.specs.stated_runs.proofs.Good.{IsGood, good_from_step}
+use Rattle.sim_servers.specs.stated_runs.proofs.GoodSteps.{good_next}
+use Rattle.sim_servers.specs.stated_runs.proofs.Lawfulness.{good_start}
+use Rattle.sim_servers.specs.stated_runs.proofs.Progress.{AllKeepTurns, turn_next, turn_start}
 
 -- what the proofs of stated runs know of each state
 pub record IsSound (S : Setup) (r : RunState) : Type 0 where

@@ -2,23 +2,23 @@
 use Rattle.std.specs.Prelude.{Some, None, ◌≡◌, ℕ, ◌+◌, ◌<◌, ◌≤◌, List, [], ◌∷◌, ◌++◌, length, set}
 use Rattle.std.proofs.Common.{arith, refl, sym, ap, ◌∙◌, subst}
 use Rattle.rational.specs.Rational.{ℚ, ◌+ℚ◌, ◌≤ℚ◌, ◌<ℚ◌}
-use Rattle.run_laws.specs.declared.steps.Step.{Step}
-use Rattle.run_laws.specs.declared.steps.Step.TheVariants.{Enter, Reach, Work, Leave, Visit}
-use Rattle.run_laws.specs.Cards.{Card}
-use Rattle.run_laws.specs.Servers.{Under, head_of}
-use Rattle.run_laws.specs.Routes.{server_at, link_at, server_after}
-use Rattle.run_laws.specs.Views.{hops_of, card_of, server_of}
-use Rattle.run_laws.specs.Lawful as lawful
-use Rattle.run_laws.specs.Lawful.{RunState, sent, state_at, next_run}
+use Rattle.sim_servers.specs.run_laws.specs.declared.steps.Step.{Step}
+use Rattle.sim_servers.specs.run_laws.specs.declared.steps.Step.TheVariants.{Enter, Reach, Work, Leave, Visit}
+use Rattle.sim_servers.specs.run_laws.specs.Cards.{Card}
+use Rattle.sim_servers.specs.run_laws.specs.Servers.{Under, head_of}
+use Rattle.sim_servers.specs.run_laws.specs.Routes.{server_at, link_at, server_after}
+use Rattle.sim_servers.specs.run_laws.specs.Views.{hops_of, card_of, server_of}
+use Rattle.sim_servers.specs.run_laws.specs.Lawful as lawful
+use Rattle.sim_servers.specs.run_laws.specs.Lawful.{RunState, sent, state_at, next_run}
 use Rattle.index_links.specs.Chains.{Chains, list_at, Has, unlinked, with_list}
-use Rattle.stated_runs.specs.Setups.{Setup, packet_of, IsSetup}
-use Rattle.stated_runs.specs.DueSteps.{IsEntering, IsLeaving}
-use Rattle.stated_runs.specs.Simulated.{IsNext}
-use Rattle.stated_runs.specs.Laws.{state_after}
-use Rattle.stated_runs.proofs.Lists.{contains_in, head_in}
-use Rattle.stated_runs.proofs.Good.{own_state, other_state}
-use Rattle.stated_runs.proofs.GoodSteps.{good_next}
-use Rattle.stated_runs.proofs.GoodWork.{good_work_of}
+use Rattle.sim_servers.specs.stated_runs.specs.Setups.{Setup, packet_of, IsSetup}
+use Rattle.sim_servers.specs.stated_runs.specs.DueSteps.{IsEntering, IsLeaving}
+use Rattle.sim_servers.specs.stated_runs.specs.Simulated.{IsNext}
+use Rattle.sim_servers.specs.stated_runs.specs.Laws.{state_after}
+use Rattle.sim_servers.specs.stated_runs.proofs.Lists.{contains_in, head_in}
+use Rattle.sim_servers.specs.stated_runs.proofs.Good.{own_state, other_state}
+use Rattle.sim_servers.specs.stated_runs.proofs.GoodSteps.{good_next}
+use Rattle.sim_servers.specs.stated_runs.proofs.GoodWork.{good_work_of}
 use Rattle.sim_servers.specs.declared.station.Station.{Station}
 use Rattle.sim_servers.specs.Stations.{IsStation}
 use Rattle.sim_states.specs.declared.arrival.Arrival.{Arrival}
@@ -64,7 +64,7 @@ enter_keeps S ok stations links arrivals n xs h f p t b next_one new own =
     (stations_after S xs x stations new h.servers k own)
     (links_kept S r (next_run S.net r x) links arrivals h.on_links refl
     (ahead_next S r x k.many (λ u a. ahead_arrive S (server_of S.net x) (server_at S.net (server_of S.net x)).discipline (state_at r (server_of S.net x))
-    (card_of S.net (Rattle.run_laws.specs.Views.entered_after r.entered x) p (server_of S.net x)) t u a)))
+    (card_of S.net (Rattle.sim_servers.specs.run_laws.specs.Views.entered_after r.entered x) p (server_of S.net x)) t u a)))
     (let z = Rattle.std.proofs.lemmas.List.length_push r.entered record { flow = f; bits = b } in omega (arith, z, h.entered_is))
     (omega (arith, in_trace))
     (entries_push S r.entered n f b h.entered_is (due.flow_is ∙ ap (λ j. (packet_of S j).flow) same) (due.bits_are ∙ ap (λ j. (packet_of S j).bits) same) h.entries)

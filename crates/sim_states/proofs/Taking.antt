@@ -4,23 +4,23 @@ use Rattle.std.proofs.Common.{arith, refl, sym, ap, ◌∙◌, subst, inl, inr}
 use Rattle.std.proofs.lemmas.Bool.{cases_eq}
 use Rattle.rational.specs.Rational.{ℚ, ◌≤ℚ◌}
 use Rattle.rational.proofs.Laws.{le_trans}
-use Rattle.run_laws.specs.declared.steps.Step.{Step}
-use Rattle.run_laws.specs.declared.steps.Step.TheVariants.{Enter, Reach}
-use Rattle.run_laws.specs.Cards.{Card}
-use Rattle.run_laws.specs.Servers.{queue_count}
-use Rattle.run_laws.specs.Routes.{server_at, route_of, queue_at, first_server}
-use Rattle.run_laws.specs.Views.{hops_of}
-use Rattle.run_laws.specs.Lawful as lawful
-use Rattle.run_laws.specs.Lawful.{state_at}
-use Rattle.queue_sched.specs.Waiting.{HasPacket}
+use Rattle.sim_servers.specs.run_laws.specs.declared.steps.Step.{Step}
+use Rattle.sim_servers.specs.run_laws.specs.declared.steps.Step.TheVariants.{Enter, Reach}
+use Rattle.sim_servers.specs.run_laws.specs.Cards.{Card}
+use Rattle.sim_servers.specs.run_laws.specs.Servers.{queue_count}
+use Rattle.sim_servers.specs.run_laws.specs.Routes.{server_at, route_of, queue_at, first_server}
+use Rattle.sim_servers.specs.run_laws.specs.Views.{hops_of}
+use Rattle.sim_servers.specs.run_laws.specs.Lawful as lawful
+use Rattle.sim_servers.specs.run_laws.specs.Lawful.{state_at}
+use Rattle.sim_servers.specs.queue_sched.specs.Waiting.{HasPacket}
 use Rattle.index_links.specs.Chains.{Chains}
-use Rattle.stated_runs.specs.Setups.{Setup, IsSetup}
-use Rattle.stated_runs.specs.DueSteps.{IsEntering}
-use Rattle.stated_runs.specs.Simulated.{IsNext}
-use Rattle.stated_runs.specs.Laws.{state_after}
-use Rattle.stated_runs.proofs.Lists.{In, contains_in}
-use Rattle.stated_runs.proofs.Routed.{place_of}
-use Rattle.stated_runs.proofs.GoodSteps.{coming}
+use Rattle.sim_servers.specs.stated_runs.specs.Setups.{Setup, IsSetup}
+use Rattle.sim_servers.specs.stated_runs.specs.DueSteps.{IsEntering}
+use Rattle.sim_servers.specs.stated_runs.specs.Simulated.{IsNext}
+use Rattle.sim_servers.specs.stated_runs.specs.Laws.{state_after}
+use Rattle.sim_servers.specs.stated_runs.proofs.Lists.{In, contains_in}
+use Rattle.sim_servers.specs.stated_runs.proofs.Routed.{place_of}
+use Rattle.sim_servers.specs.stated_runs.proofs.GoodSteps.{coming}
 use Rattle.sim_servers.specs.declared.station.Station.{Station}
 use Rattle.sim_servers.specs.Stations.{MayTake}
 use Rattle.sim_states.specs.declared.arrival.Arrival.{Arrival}

@@ -1,17 +1,17 @@
 -- What the simulator's state is good for, and what keeps it.
 use Rattle.std.specs.Prelude.{Some, None, ◌≡◌, ℕ, ◌+◌, List, [], ◌∷◌, ◌++◌, length, set, ◌<◌, ◌^◌, slice_get}
 use Rattle.rational.specs.Rational.{ℚ, ◌+ℚ◌}
-use Rattle.run_laws.specs.declared.steps.Step.{Step}
-use Rattle.run_laws.specs.declared.steps.Step.TheVariants.{Enter, Reach, Work, Leave, Visit}
-use Rattle.run_laws.specs.Next.{next}
-use Rattle.run_laws.specs.Routes.{server_at, link_at, server_after, route_of, queue_at, first_server}
-use Rattle.run_laws.specs.Views.{hops_of, server_of, seen}
-use Rattle.run_laws.specs.Lawful.{state_at}
+use Rattle.sim_servers.specs.run_laws.specs.declared.steps.Step.{Step}
+use Rattle.sim_servers.specs.run_laws.specs.declared.steps.Step.TheVariants.{Enter, Reach, Work, Leave, Visit}
+use Rattle.sim_servers.specs.run_laws.specs.Next.{next}
+use Rattle.sim_servers.specs.run_laws.specs.Routes.{server_at, link_at, server_after, route_of, queue_at, first_server}
+use Rattle.sim_servers.specs.run_laws.specs.Views.{hops_of, server_of, seen}
+use Rattle.sim_servers.specs.run_laws.specs.Lawful.{state_at}
 use Rattle.index_links.specs.Chains.{Chains, list_at, unlinked, with_list}
-use Rattle.stated_runs.specs.Setups.{Setup, IsSetup}
-use Rattle.stated_runs.specs.DueSteps.{IsDue, rank_of, step_time}
-use Rattle.stated_runs.specs.Simulated.{IsNext}
-use Rattle.stated_runs.specs.Laws.{state_after}
+use Rattle.sim_servers.specs.stated_runs.specs.Setups.{Setup, IsSetup}
+use Rattle.sim_servers.specs.stated_runs.specs.DueSteps.{IsDue, rank_of, step_time}
+use Rattle.sim_servers.specs.stated_runs.specs.Simulated.{IsNext}
+use Rattle.sim_servers.specs.stated_runs.specs.Laws.{state_after}
 use Rattle.sim_servers.specs.declared.due.Due.{Due}
 use Rattle.sim_servers.specs.declared.station.Station.{Station}
 use Rattle.sim_servers.specs.Queues.{room_of}

@@ -1,18 +1,18 @@
 -- The state of the simulator between two steps, and what it takes for due.
 use Rattle.std.specs.Prelude.{Option, Some, None, ◌≡◌, ◌⊎◌, ℕ, pos, ◌<◌, ◌≤◌, List, [], ◌∷◌, length, get_or, slice_get}
 use Rattle.rational.specs.Rational.{ℚ, int, ◌+ℚ◌, ◌≤ℚ◌, ◌<ℚ◌}
-use Rattle.run_laws.specs.declared.steps.Step.{Step}
-use Rattle.run_laws.specs.Servers.{Under, ServerState}
-use Rattle.run_laws.specs.Routes.{link_at}
-use Rattle.run_laws.specs.Views.{entry_of}
-use Rattle.run_laws.specs.Lawful as lawful
-use Rattle.run_laws.specs.Lawful.{RunState, state_at, run_start}
+use Rattle.sim_servers.specs.run_laws.specs.declared.steps.Step.{Step}
+use Rattle.sim_servers.specs.run_laws.specs.Servers.{Under, ServerState}
+use Rattle.sim_servers.specs.run_laws.specs.Routes.{link_at}
+use Rattle.sim_servers.specs.run_laws.specs.Views.{entry_of}
+use Rattle.sim_servers.specs.run_laws.specs.Lawful as lawful
+use Rattle.sim_servers.specs.run_laws.specs.Lawful.{RunState, state_at, run_start}
 use Rattle.index_links.specs.Chains.{Chains, list_at, Has, first_of}
-use Rattle.stated_runs.specs.Setups.{Entering, Setup, packet_of}
-use Rattle.stated_runs.specs.DueSteps.{RankAtMost, rank_of, step_time}
-use Rattle.stated_runs.specs.Simulated.{FollowsSoFar}
-use Rattle.stated_runs.specs.Laws.{state_after}
-use Rattle.stated_runs.proofs.Lists.{In}
+use Rattle.sim_servers.specs.stated_runs.specs.Setups.{Entering, Setup, packet_of}
+use Rattle.sim_servers.specs.stated_runs.specs.DueSteps.{RankAtMost, rank_of, step_time}
+use Rattle.sim_servers.specs.stated_runs.specs.Simulated.{FollowsSoFar}
+use Rattle.sim_servers.specs.stated_runs.specs.Laws.{state_after}
+use Rattle.sim_servers.specs.stated_runs.proofs.Lists.{In}
 use Rattle.sim_states.specs.Places.{ArePlaced}
 use Rattle.sim_servers.specs.declared.due.Due.{Due}
 use Rattle.sim_servers.specs.declared.due.DueKind.TheVariants as kinds

@@ -1,6 +1,6 @@
 //! Packets on links.
 
-use fraction128::Frac;
+use sim_servers::fraction128::Frac;
 
 /// Where a packet on a link goes, and when it is there.
 #[derive(Debug, Clone, Copy)]

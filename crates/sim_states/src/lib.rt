@@ -11,3 +11,5 @@ pub use laws::{
     entries_keep_the_state, entries_may_be_taken, first_is_next, last_departures_keep_the_state,
     nothing_is_left, visits_keep_the_state, work_keeps_the_state,
 };
+pub use sim_servers;
+pub use sim_servers::{net_model, queue_sched};

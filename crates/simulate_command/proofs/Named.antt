@@ -7,8 +7,8 @@ use Rattle.net_model.specs.declared.trace.TracePacket.{TracePacket}
 use Rattle.net_model.specs.declared.trace.Stall.{Stall}
 use Rattle.net_model.specs.Networks.{Net}
 use Rattle.net_model.specs.Traces.{SpecTrace}
-use Rattle.stated_runs.specs.FromTraces.{IsLive}
-use Rattle.stated_runs.specs.FromTraces as stated
+use Rattle.simulated_findings.specs.stated_runs.specs.FromTraces.{IsLive}
+use Rattle.simulated_findings.specs.stated_runs.specs.FromTraces as stated
 use Rattle.table_text.specs.declared.trace_rows.Entry.{Entry}
 use Rattle.table_text.specs.declared.trace_rows.Entry.TheVariants.{Packet, Stop}
 use Rattle.table_text.specs.Rows.{Row}

@@ -8,8 +8,8 @@ use Rattle.net_model.specs.declared.breach.Breach.{Breach}
 use Rattle.net_model.specs.declared.breach.Breach.TheVariants.{Service}
 use Rattle.net_model.specs.Networks.{Net}
 use Rattle.net_model.specs.NetRoutes.{server_for}
-use Rattle.first_breaches.specs.Firsts.{TellsFirst, IsNetBreach}
-use Rattle.first_breaches.proofs.Parts.{have_curves, kept_is_not_slow}
+use Rattle.simulated_findings.specs.first_breaches.specs.Firsts.{TellsFirst, IsNetBreach}
+use Rattle.simulated_findings.specs.first_breaches.proofs.Parts.{have_curves, kept_is_not_slow}
 use Rattle.table_text.specs.Rows.{rows_of}
 use Rattle.simulated_findings.proofs.OpenServers.{keeps}
 use Rattle.simulate_command.specs.Laws.{OpenServersBreakNothing}

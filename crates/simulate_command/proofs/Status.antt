@@ -3,8 +3,8 @@ use Rattle.std.proofs.Common.{ℕ, List, length}
 use Rattle.run_laws.specs.Lawful.{IsLawful}
 use Rattle.net_model.specs.NetRoutes.{routes_of}
 use Rattle.table_text.specs.Rows.{rows_of}
-use Rattle.report_text.specs.RunReport.{run_report_of}
-use Rattle.command_replies.specs.Replies.{Reply}
+use Rattle.simulated_findings.specs.report_text.specs.RunReport.{run_report_of}
+use Rattle.simulated_findings.specs.command_replies.specs.Replies.{Reply}
 use Rattle.simulated_findings.proofs.Lawful.{lawful}
 use Rattle.simulated_findings.specs.run_findings.proofs.Reports.{tells}
 use Rattle.simulate_command.specs.OnTraces.{IsRunReport}

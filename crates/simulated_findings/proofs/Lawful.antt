@@ -3,17 +3,17 @@
 use Rattle.std.specs.Prelude.{◌<◌, ◌^◌}
 use Rattle.run_laws.specs.Lawful.{IsLawful}
 use Rattle.run_laws.specs.Runs.{SpecRun}
-use Rattle.net_model.specs.Accepted.{IsAccepted}
-use Rattle.net_model.specs.Networks.{Net}
-use Rattle.net_model.specs.NetRoutes.{routes_of}
-use Rattle.net_model.specs.Traces.{SpecTrace, IsTrace}
-use Rattle.net_model.specs.Walks.{IsFeedForward}
-use Rattle.stated_runs.specs.FromTraces.{setup_of, IsTraceOf}
-use Rattle.stated_runs.specs.Simulated.{IsSimulated}
-use Rattle.stated_runs.proofs.Lawfulness.{simulated_is_lawful}
-use Rattle.stated_runs.proofs.MadeSetups as made
-use Rattle.sim_bounds.specs.Gauge.{simulation_gauge, simulation_sizes}
-use Rattle.first_breaches.specs.Sizes.{HaveSizes}
+use Rattle.run_findings.specs.net_model.specs.Accepted.{IsAccepted}
+use Rattle.run_findings.specs.net_model.specs.Networks.{Net}
+use Rattle.run_findings.specs.net_model.specs.NetRoutes.{routes_of}
+use Rattle.run_findings.specs.net_model.specs.Traces.{SpecTrace, IsTrace}
+use Rattle.run_findings.specs.net_model.specs.Walks.{IsFeedForward}
+use Rattle.run_findings.specs.stated_runs.specs.FromTraces.{setup_of, IsTraceOf}
+use Rattle.run_findings.specs.stated_runs.specs.Simulated.{IsSimulated}
+use Rattle.run_findings.specs.stated_runs.proofs.Lawfulness.{simulated_is_lawful}
+use Rattle.run_findings.specs.stated_runs.proofs.MadeSetups as made
+use Rattle.run_findings.specs.sim_bounds.specs.Gauge.{simulation_gauge, simulation_sizes}
+use Rattle.run_findings.specs.first_breaches.specs.Sizes.{HaveSizes}
 use Rattle.run_findings.specs.simulated_sizes.specs.Laws.{AreCurves}
 use Rattle.run_findings.specs.simulated_sizes.proofs.Stand.{simulated_stand}
 

@@ -7,21 +7,21 @@ use Rattle.rational.specs.Rational.{ℚ, int, ◌*ℚ◌, ◌≤ℚ◌}
 use Rattle.rational.specs.Grid.{Whole, Within}
 use Rattle.rational.specs.Gauge.{common_den, bound_of}
 use Rattle.min_plus.specs.WholeUp.{whole_up}
-use Rattle.upp_curve.specs.Curve.{SpecCurve}
-use Rattle.upp_curve.specs.Curves.{IsCurve}
-use Rattle.upp_limits.specs.Limits.{Numbers, Sizes, curve_numbers, twice}
-use Rattle.upp_limits.specs.Sized.{IsValue, IsSlope, Stands}
-use Rattle.upp_limits.proofs.CommonDen.{common_den_each, bound_each}
-use Rattle.upp_limits.proofs.Stands.{stands_right}
-use Rattle.net_model.specs.Networks.{Net, NetServer, NetFlow}
-use Rattle.net_model.specs.Traces.{SpecTrace}
-use Rattle.net_cells.specs.Numbered.{is_live, arrival, arrival_of, service, service_of}
-use Rattle.stated_runs.specs.FromTraces.{setup_of}
-use Rattle.stated_runs.proofs.Lists.{In}
-use Rattle.sim_bounds.specs.Horizons.{horizon}
-use Rattle.sim_bounds.specs.Gauge.{trace_times, server_times, rates_of, numbers_of_curves, arrivals_of, curves_of, total_bits, simulation_numbers, simulation_sizes}
-use Rattle.sim_bounds.proofs.Members.{in_right, in_left, in_map, each_in}
-use Rattle.sim_bounds.proofs.Fits.{times_whole}
+use Rattle.first_breaches.specs.upp_curve.specs.Curve.{SpecCurve}
+use Rattle.first_breaches.specs.upp_curve.specs.Curves.{IsCurve}
+use Rattle.window_numbers.specs.upp_limits.specs.Limits.{Numbers, Sizes, curve_numbers, twice}
+use Rattle.window_numbers.specs.upp_limits.specs.Sized.{IsValue, IsSlope, Stands}
+use Rattle.window_numbers.specs.upp_limits.proofs.CommonDen.{common_den_each, bound_each}
+use Rattle.window_numbers.specs.upp_limits.proofs.Stands.{stands_right}
+use Rattle.window_numbers.specs.net_model.specs.Networks.{Net, NetServer, NetFlow}
+use Rattle.window_numbers.specs.net_model.specs.Traces.{SpecTrace}
+use Rattle.first_breaches.specs.net_cells.specs.Numbered.{is_live, arrival, arrival_of, service, service_of}
+use Rattle.window_numbers.specs.stated_runs.specs.FromTraces.{setup_of}
+use Rattle.window_numbers.specs.stated_runs.proofs.Lists.{In}
+use Rattle.window_numbers.specs.sim_bounds.specs.Horizons.{horizon}
+use Rattle.window_numbers.specs.sim_bounds.specs.Gauge.{trace_times, server_times, rates_of, numbers_of_curves, arrivals_of, curves_of, total_bits, simulation_numbers, simulation_sizes}
+use Rattle.window_numbers.specs.sim_bounds.proofs.Members.{in_right, in_left, in_map, each_in}
+use Rattle.window_numbers.specs.sim_bounds.proofs.Fits.{times_whole}
 use Rattle.window_numbers.proofs.CurvesBelow.{curve_stands}
 
 every_of : {X : Type 0} (P : X → Type 0) (xs : List X) → ((x : X) → In xs x → P x) → AllByRecursion P xs

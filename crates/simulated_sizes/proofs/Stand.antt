@@ -7,26 +7,26 @@ use Rattle.rational.proofs.Laws.{le_trans, mul_le_mul}
 use Rattle.rational.proofs.Integers.{nat_nonneg}
 use Rattle.rational.proofs.Grid.{whole_int}
 use Rattle.rational.proofs.Laws.{le_refl}
-use Rattle.upp_normal.specs.Operand.{AreLimited}
-use Rattle.run_laws.specs.Lawful.{run_start, IsLawful}
-use Rattle.run_laws.specs.Routes.{server_at}
-use Rattle.run_laws.specs.Servers.{start}
-use Rattle.run_laws.specs.Views.{view}
-use Rattle.run_laws.proofs.Views.{views_are_lawful}
-use Rattle.net_model.specs.Networks.{Net}
-use Rattle.net_model.specs.NetRoutes.{routes_of, server_for}
-use Rattle.net_model.specs.Accepted.{IsAccepted}
-use Rattle.net_model.specs.Traces.{SpecTrace}
-use Rattle.stated_runs.specs.FromTraces.{setup_of, entering}
-use Rattle.stated_runs.specs.TimeGrids as grids
-use Rattle.stated_runs.proofs.MadeSetups.{traces_make_setups}
-use Rattle.stated_runs.proofs.Lawfulness.{simulated_is_lawful}
-use Rattle.stated_runs.proofs.AllLeft.{all_left}
-use Rattle.sim_bounds.specs.Horizons.{horizon}
-use Rattle.sim_bounds.specs.Gauge.{simulation_gauge, simulation_sizes, grid_of}
-use Rattle.sim_bounds.proofs.MadeBounds.{made_forward}
-use Rattle.sim_bounds.proofs.Places.{place_of_server}
-use Rattle.sim_bounds.proofs.Fits.{IsReach, sizes_some, reach_of, run_fits}
+use Rattle.first_breaches.specs.upp_normal.specs.Operand.{AreLimited}
+use Rattle.first_breaches.specs.run_laws.specs.Lawful.{run_start, IsLawful}
+use Rattle.first_breaches.specs.run_laws.specs.Routes.{server_at}
+use Rattle.first_breaches.specs.run_laws.specs.Servers.{start}
+use Rattle.first_breaches.specs.run_laws.specs.Views.{view}
+use Rattle.first_breaches.specs.run_laws.proofs.Views.{views_are_lawful}
+use Rattle.window_numbers.specs.net_model.specs.Networks.{Net}
+use Rattle.window_numbers.specs.net_model.specs.NetRoutes.{routes_of, server_for}
+use Rattle.window_numbers.specs.net_model.specs.Accepted.{IsAccepted}
+use Rattle.window_numbers.specs.net_model.specs.Traces.{SpecTrace}
+use Rattle.window_numbers.specs.stated_runs.specs.FromTraces.{setup_of, entering}
+use Rattle.window_numbers.specs.stated_runs.specs.TimeGrids as grids
+use Rattle.window_numbers.specs.stated_runs.proofs.MadeSetups.{traces_make_setups}
+use Rattle.window_numbers.specs.stated_runs.proofs.Lawfulness.{simulated_is_lawful}
+use Rattle.window_numbers.specs.stated_runs.proofs.AllLeft.{all_left}
+use Rattle.window_numbers.specs.sim_bounds.specs.Horizons.{horizon}
+use Rattle.window_numbers.specs.sim_bounds.specs.Gauge.{simulation_gauge, simulation_sizes, grid_of}
+use Rattle.window_numbers.specs.sim_bounds.proofs.MadeBounds.{made_forward}
+use Rattle.window_numbers.specs.sim_bounds.proofs.Places.{place_of_server}
+use Rattle.window_numbers.specs.sim_bounds.proofs.Fits.{IsReach, sizes_some, reach_of, run_fits}
 use Rattle.first_breaches.proofs.Views.{view_stands, spans_stand}
 use Rattle.simulated_sizes.specs.Laws.{SimulatedRunsHaveSizes}
 use Rattle.simulated_sizes.proofs.Worked.{bits_most}

@@ -7,24 +7,24 @@ use Rattle.rational.specs.Rational.{ℚ, int, ◌-ℚ◌, ◌*ℚ◌, ◌/ℚ◌
 use Rattle.rational.proofs.Laws.{not_zero}
 use Rattle.rational.proofs.Quotients.{div_unique}
 use Rattle.rational.proofs.Linear.{with2}
-use Rattle.upp_limits.specs.Sized.{IsSlope}
-use Rattle.run_laws.specs.declared.steps.Step.{Step}
-use Rattle.run_laws.specs.declared.steps.Step.TheVariants.{Enter, Reach, Work, Leave, Visit}
-use Rattle.run_laws.specs.Lawful.{RunState, state_at, next_run, after_run, run_start, AllowsInRun, AllAllowedInRun}
-use Rattle.run_laws.proofs.Views.{after_more}
-use Rattle.net_model.specs.Networks.{Net, NetServer}
-use Rattle.net_model.specs.NetRoutes.{server_for}
-use Rattle.net_model.specs.Traces.{SpecTrace}
-use Rattle.stated_runs.specs.Setups.{Setup, rate_of}
-use Rattle.stated_runs.specs.FromTraces.{setup_of}
-use Rattle.stated_runs.specs.TimeGrids as grids
-use Rattle.stated_runs.specs.TimeGrids.{RunFits}
-use Rattle.stated_runs.specs.DueSteps.{IsDue, IsResumed, IsStarted, step_time}
-use Rattle.stated_runs.specs.Simulated.{IsNext, Follows, FollowsSoFar, last_time}
-use Rattle.stated_runs.specs.Laws.{state_after}
-use Rattle.sim_bounds.specs.Horizons.{horizon}
-use Rattle.sim_bounds.specs.Gauge.{simulation_sizes, grid_of}
-use Rattle.sim_bounds.proofs.Members.{made_from}
+use Rattle.window_numbers.specs.upp_limits.specs.Sized.{IsSlope}
+use Rattle.first_breaches.specs.run_laws.specs.declared.steps.Step.{Step}
+use Rattle.first_breaches.specs.run_laws.specs.declared.steps.Step.TheVariants.{Enter, Reach, Work, Leave, Visit}
+use Rattle.first_breaches.specs.run_laws.specs.Lawful.{RunState, state_at, next_run, after_run, run_start, AllowsInRun, AllAllowedInRun}
+use Rattle.first_breaches.specs.run_laws.proofs.Views.{after_more}
+use Rattle.window_numbers.specs.net_model.specs.Networks.{Net, NetServer}
+use Rattle.window_numbers.specs.net_model.specs.NetRoutes.{server_for}
+use Rattle.window_numbers.specs.net_model.specs.Traces.{SpecTrace}
+use Rattle.window_numbers.specs.stated_runs.specs.Setups.{Setup, rate_of}
+use Rattle.window_numbers.specs.stated_runs.specs.FromTraces.{setup_of}
+use Rattle.window_numbers.specs.stated_runs.specs.TimeGrids as grids
+use Rattle.window_numbers.specs.stated_runs.specs.TimeGrids.{RunFits}
+use Rattle.window_numbers.specs.stated_runs.specs.DueSteps.{IsDue, IsResumed, IsStarted, step_time}
+use Rattle.window_numbers.specs.stated_runs.specs.Simulated.{IsNext, Follows, FollowsSoFar, last_time}
+use Rattle.window_numbers.specs.stated_runs.specs.Laws.{state_after}
+use Rattle.window_numbers.specs.sim_bounds.specs.Horizons.{horizon}
+use Rattle.window_numbers.specs.sim_bounds.specs.Gauge.{simulation_sizes, grid_of}
+use Rattle.window_numbers.specs.sim_bounds.proofs.Members.{made_from}
 use Rattle.first_breaches.specs.Sizes.{StepStands}
 use Rattle.simulated_sizes.proofs.Numbers.{rate_slope}
 

@@ -8,19 +8,19 @@ use Rattle.rational.proofs.Laws.{le_of_lt, mul_le_mul, mul_le_mul_right, mul_sub
 use Rattle.rational.proofs.Integers.{nat_nonneg, nat_le_out}
 use Rattle.rational.proofs.Linear.{with2, with_atoms}
 use Rattle.rational.proofs.Over.{le_q_out}
-use Rattle.upp_limits.specs.Limits.{Sizes}
-use Rattle.upp_limits.specs.Sized.{IsSlope}
-use Rattle.upp_normal.specs.Operand.{AreLimited}
-use Rattle.run_laws.specs.Cards.{Card, time_of, all, whole, size, ServerStep, Arrives, Works, Leaves, Visits}
-use Rattle.run_laws.specs.Counts.{when, upto, arrived_upto, departed_upto, worked}
-use Rattle.run_laws.specs.Servers.{Server, ServerState, start}
-use Rattle.run_laws.specs.Next.{next, after}
-use Rattle.run_laws.specs.Allows.{AllAllowed, IsLawfulView}
-use Rattle.run_laws.proofs.Sizes.{whole_sum}
-use Rattle.run_laws.proofs.Sums.{Each}
-use Rattle.run_laws.proofs.Heads.{sum_of}
-use Rattle.run_laws.proofs.Orders.{at_upto, left_upto_worked}
-use Rattle.run_laws.proofs.Cuts.{IsAfter, time_in_order}
+use Rattle.window_numbers.specs.upp_limits.specs.Limits.{Sizes}
+use Rattle.window_numbers.specs.upp_limits.specs.Sized.{IsSlope}
+use Rattle.first_breaches.specs.upp_normal.specs.Operand.{AreLimited}
+use Rattle.first_breaches.specs.run_laws.specs.Cards.{Card, time_of, all, whole, size, ServerStep, Arrives, Works, Leaves, Visits}
+use Rattle.first_breaches.specs.run_laws.specs.Counts.{when, upto, arrived_upto, departed_upto, worked}
+use Rattle.first_breaches.specs.run_laws.specs.Servers.{Server, ServerState, start}
+use Rattle.first_breaches.specs.run_laws.specs.Next.{next, after}
+use Rattle.first_breaches.specs.run_laws.specs.Allows.{AllAllowed, IsLawfulView}
+use Rattle.first_breaches.specs.run_laws.proofs.Sizes.{whole_sum}
+use Rattle.first_breaches.specs.run_laws.proofs.Sums.{Each}
+use Rattle.first_breaches.specs.run_laws.proofs.Heads.{sum_of}
+use Rattle.first_breaches.specs.run_laws.proofs.Orders.{at_upto, left_upto_worked}
+use Rattle.first_breaches.specs.run_laws.proofs.Cuts.{IsAfter, time_in_order}
 use Rattle.first_breaches.specs.run_watch.specs.declared.span.Span.{Span}
 use Rattle.first_breaches.specs.run_watch.specs.Ramps.{InOrder}
 use Rattle.first_breaches.specs.run_watch.specs.Seen.{work_spans}

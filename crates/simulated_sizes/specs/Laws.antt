@@ -1,17 +1,17 @@
 -- The numbers of a simulated run whose gauge is below 2 ^ 120. Own choice.
 use Rattle.std.specs.Prelude.{ℕ, ◌<◌, ◌^◌, IsTrue, length}
-use Rattle.upp_curve.specs.Curves.{IsCurve}
-use Rattle.run_laws.specs.Runs.{SpecRun}
-use Rattle.run_laws.specs.Lawful.{IsLawful}
-use Rattle.net_model.specs.Networks.{Net}
-use Rattle.net_model.specs.NetRoutes.{routes_of}
-use Rattle.net_model.specs.Accepted.{IsAccepted}
-use Rattle.net_model.specs.Traces.{SpecTrace, IsTrace}
-use Rattle.net_model.specs.Walks.{IsFeedForward}
-use Rattle.net_cells.specs.Numbered.{is_live, arrival, service}
-use Rattle.stated_runs.specs.FromTraces.{setup_of, IsTraceOf}
-use Rattle.stated_runs.specs.Simulated.{IsSimulated}
-use Rattle.sim_bounds.specs.Gauge.{simulation_gauge, simulation_sizes}
+use Rattle.first_breaches.specs.upp_curve.specs.Curves.{IsCurve}
+use Rattle.first_breaches.specs.run_laws.specs.Runs.{SpecRun}
+use Rattle.first_breaches.specs.run_laws.specs.Lawful.{IsLawful}
+use Rattle.window_numbers.specs.net_model.specs.Networks.{Net}
+use Rattle.window_numbers.specs.net_model.specs.NetRoutes.{routes_of}
+use Rattle.window_numbers.specs.net_model.specs.Accepted.{IsAccepted}
+use Rattle.window_numbers.specs.net_model.specs.Traces.{SpecTrace, IsTrace}
+use Rattle.window_numbers.specs.net_model.specs.Walks.{IsFeedForward}
+use Rattle.first_breaches.specs.net_cells.specs.Numbered.{is_live, arrival, service}
+use Rattle.window_numbers.specs.stated_runs.specs.FromTraces.{setup_of, IsTraceOf}
+use Rattle.window_numbers.specs.stated_runs.specs.Simulated.{IsSimulated}
+use Rattle.window_numbers.specs.sim_bounds.specs.Gauge.{simulation_gauge, simulation_sizes}
 use Rattle.first_breaches.specs.Sizes.{RunStands}
 
 -- each curve of a network is in normal form and readable, as the type of curves keeps

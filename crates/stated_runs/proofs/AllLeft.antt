@@ -3,11 +3,11 @@ use Rattle.std.proofs.Common.{◌≡◌, ◌≤◌, List, [], ◌∷◌, length,
 use Rattle.std.specs.Prelude.{pos}
 use Rattle.std.proofs.lemmas.Bool.{cases_lt}
 use Rattle.std.proofs.lemmas.List.{length_push}
-use Rattle.rational.specs.Rational.{ℚ, int}
-use Rattle.run_laws.specs.declared.steps.Step.{Step}
-use Rattle.run_laws.specs.declared.steps.Step.TheVariants.{Enter, Reach, Work, Leave, Visit}
-use Rattle.run_laws.specs.Runs.{SpecRun}
-use Rattle.run_laws.specs.Lawful.{RunState, next_run, run_start, after_run}
+use Rattle.queue_sched.specs.rational.specs.Rational.{ℚ, int}
+use Rattle.queue_sched.specs.run_laws.specs.declared.steps.Step.{Step}
+use Rattle.queue_sched.specs.run_laws.specs.declared.steps.Step.TheVariants.{Enter, Reach, Work, Leave, Visit}
+use Rattle.queue_sched.specs.run_laws.specs.Runs.{SpecRun}
+use Rattle.queue_sched.specs.run_laws.specs.Lawful.{RunState, next_run, run_start, after_run}
 use Rattle.stated_runs.specs.Setups.{Setup, packet_of, IsSetup}
 use Rattle.stated_runs.specs.DueSteps.{IsDue, step_time}
 use Rattle.stated_runs.specs.Simulated.{Follows, IsSimulated}

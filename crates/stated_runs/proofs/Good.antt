@@ -4,21 +4,21 @@ use Rattle.std.specs.Prelude.{pos}
 use Rattle.std.proofs.lemmas.Bool.{cases_eq}
 use Rattle.std.proofs.lemmas.List.{get_or_append_left, length_push}
 use Rattle.std.proofs.Math.ListN.{length-set}
-use Rattle.rational.specs.Rational.{ℚ, int, ◌≤ℚ◌}
-use Rattle.rational.proofs.Laws.{le_trans}
-use Rattle.run_laws.specs.declared.steps.Step.{Step}
-use Rattle.run_laws.specs.declared.steps.Step.TheVariants.{Enter, Reach, Work, Leave, Visit}
-use Rattle.run_laws.specs.Servers.{Under, ServerState}
-use Rattle.run_laws.specs.Next.{next}
-use Rattle.run_laws.specs.Routes.{Routes, server_at, route_of, PassesServer}
-use Rattle.run_laws.specs.Views.{Entry, entry_of, hops_of, entered_after, server_of, seen}
-use Rattle.run_laws.specs.Lawful.{Due, RunState, next_due, state_at, next_run}
+use Rattle.queue_sched.specs.rational.specs.Rational.{ℚ, int, ◌≤ℚ◌}
+use Rattle.queue_sched.specs.rational.proofs.Laws.{le_trans}
+use Rattle.queue_sched.specs.run_laws.specs.declared.steps.Step.{Step}
+use Rattle.queue_sched.specs.run_laws.specs.declared.steps.Step.TheVariants.{Enter, Reach, Work, Leave, Visit}
+use Rattle.queue_sched.specs.run_laws.specs.Servers.{Under, ServerState}
+use Rattle.queue_sched.specs.run_laws.specs.Next.{next}
+use Rattle.queue_sched.specs.run_laws.specs.Routes.{Routes, server_at, route_of, PassesServer}
+use Rattle.queue_sched.specs.run_laws.specs.Views.{Entry, entry_of, hops_of, entered_after, server_of, seen}
+use Rattle.queue_sched.specs.run_laws.specs.Lawful.{Due, RunState, next_due, state_at, next_run}
 use Rattle.stated_runs.specs.Setups.{Setup, AreHopsOf}
 use Rattle.stated_runs.specs.DueSteps.{IsLeaving, IsResumed, IsStarted, IsVisited, IsEntering, IsDue, step_time}
 use Rattle.stated_runs.specs.Simulated.{IsNext}
 use Rattle.stated_runs.proofs.Lists.{In, contains_in}
 use Rattle.stated_runs.proofs.GoodServers.{IsExtendedBy, extends_same, IsGoodAt, good_later}
-pub use Rattle.run_laws.proofs.Views.{own_state, other_state}
+pub use Rattle.queue_sched.specs.run_laws.proofs.Views.{own_state, other_state}
 
 -- a packet that has entered: its path is over the network, and it has some bits
 pub record IsEntry (net : Routes) (e : Entry) : Type 0 where

@@ -1,14 +1,14 @@
 -- What holds of each server's state in a stated run.
 use Rattle.std.proofs.Common.{◌≡◌, ℕ, ◌<◌, List, length, refl, sym, ap, ◌∙◌, subst, arith, inl, inr, Some, None}
 use Rattle.std.specs.Prelude.{pos}
-use Rattle.rational.specs.Rational.{ℚ, int, ◌+ℚ◌, ◌≤ℚ◌, ◌<ℚ◌}
-use Rattle.rational.proofs.Linear.{with2}
-use Rattle.rational.proofs.Laws.{le_refl, le_trans}
-use Rattle.run_laws.specs.Cards.{Card, size, Arrives, Works, Leaves, Visits}
-use Rattle.run_laws.specs.Servers.{Discipline, Under, Span, ServerState, done, done_so_far}
-use Rattle.run_laws.specs.Next.{next}
-use Rattle.run_laws.specs.Routes.{Routes, PassesServer}
-use Rattle.run_laws.specs.Views.{Entry, entry_of, hops_of, card_of}
+use Rattle.queue_sched.specs.rational.specs.Rational.{ℚ, int, ◌+ℚ◌, ◌≤ℚ◌, ◌<ℚ◌}
+use Rattle.queue_sched.specs.rational.proofs.Linear.{with2}
+use Rattle.queue_sched.specs.rational.proofs.Laws.{le_refl, le_trans}
+use Rattle.queue_sched.specs.run_laws.specs.Cards.{Card, size, Arrives, Works, Leaves, Visits}
+use Rattle.queue_sched.specs.run_laws.specs.Servers.{Discipline, Under, Span, ServerState, done, done_so_far}
+use Rattle.queue_sched.specs.run_laws.specs.Next.{next}
+use Rattle.queue_sched.specs.run_laws.specs.Routes.{Routes, PassesServer}
+use Rattle.queue_sched.specs.run_laws.specs.Views.{Entry, entry_of, hops_of, card_of}
 use Rattle.stated_runs.proofs.Lists.{In, in_either, in_rest}
 
 -- the later list knows the packets of the earlier
@@ -28,9 +28,9 @@ pub card_extends : (net : Routes) (before after : List Entry) (s : ℕ) (c : Car
 card_extends net before after s c x h =
     let e = x c.packet h.entered_one in
     record {
-      is = h.is ∙ ap (λ (t : Entry). let f : Card = record { packet = c.packet; flow = t.flow; queue = Rattle.run_laws.specs.Routes.queue_at s (Rattle.run_laws.specs.Routes.route_of net t.flow).hops; bits = t.bits } in f) (sym e.1);
+      is = h.is ∙ ap (λ (t : Entry). let f : Card = record { packet = c.packet; flow = t.flow; queue = Rattle.queue_sched.specs.run_laws.specs.Routes.queue_at s (Rattle.queue_sched.specs.run_laws.specs.Routes.route_of net t.flow).hops; bits = t.bits } in f) (sym e.1);
       entered_one = e.0;
-      passes = subst (λ (t : Entry). PassesServer s (Rattle.run_laws.specs.Routes.route_of net t.flow).hops) (sym e.1) h.passes;
+      passes = subst (λ (t : Entry). PassesServer s (Rattle.queue_sched.specs.run_laws.specs.Routes.route_of net t.flow).hops) (sym e.1) h.passes;
     }
 
 pub record IsGoodUnder (net : Routes) (entered : List Entry) (s : ℕ) (busy : ℚ) (u : Under) : Type 0 where

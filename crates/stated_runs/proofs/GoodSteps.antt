@@ -3,17 +3,17 @@ use Rattle.std.proofs.Common.{◌≡◌, ℕ, ◌<◌, ◌≤◌, ◌+◌, ◌^�
 use Rattle.std.specs.Prelude.{Option}
 use Rattle.std.proofs.lemmas.Bool.{cases_eq}
 use Rattle.std.proofs.lemmas.List.{get_or_push, length_push}
-use Rattle.rational.specs.Rational.{ℚ, ◌+ℚ◌, ◌≤ℚ◌}
-use Rattle.rational.proofs.Linear.{with2}
-use Rattle.rational.proofs.Laws.{le_refl, le_of_lt}
-use Rattle.run_laws.specs.declared.steps.Step.{Step}
-use Rattle.run_laws.specs.declared.steps.Step.TheVariants.{Enter, Reach, Work, Leave, Visit}
-use Rattle.run_laws.specs.Cards.{Arrives, Works, Leaves, Visits}
-use Rattle.run_laws.specs.Servers.{Under, Span, done_so_far}
-use Rattle.run_laws.specs.Next.{next}
-use Rattle.run_laws.specs.Routes.{Routes, server_at, link_at, route_of, PassesServer, first_server, server_after}
-use Rattle.run_laws.specs.Views.{Entry, entry_of, hops_of, card_of}
-use Rattle.run_laws.specs.Lawful.{Due, RunState, sent, state_at, next_run}
+use Rattle.queue_sched.specs.rational.specs.Rational.{ℚ, ◌+ℚ◌, ◌≤ℚ◌}
+use Rattle.queue_sched.specs.rational.proofs.Linear.{with2}
+use Rattle.queue_sched.specs.rational.proofs.Laws.{le_refl, le_of_lt}
+use Rattle.queue_sched.specs.run_laws.specs.declared.steps.Step.{Step}
+use Rattle.queue_sched.specs.run_laws.specs.declared.steps.Step.TheVariants.{Enter, Reach, Work, Leave, Visit}
+use Rattle.queue_sched.specs.run_laws.specs.Cards.{Arrives, Works, Leaves, Visits}
+use Rattle.queue_sched.specs.run_laws.specs.Servers.{Under, Span, done_so_far}
+use Rattle.queue_sched.specs.run_laws.specs.Next.{next}
+use Rattle.queue_sched.specs.run_laws.specs.Routes.{Routes, server_at, link_at, route_of, PassesServer, first_server, server_after}
+use Rattle.queue_sched.specs.run_laws.specs.Views.{Entry, entry_of, hops_of, card_of}
+use Rattle.queue_sched.specs.run_laws.specs.Lawful.{Due, RunState, sent, state_at, next_run}
 use Rattle.stated_runs.specs.Setups.{Setup, packet_of, IsSetup, AreHopsOf, MayComeIn}
 use Rattle.stated_runs.specs.DueSteps.{IsEntering, step_time}
 use Rattle.stated_runs.specs.Simulated.{IsNext}
@@ -42,7 +42,7 @@ enter_later S r r' x n same f p t b h =
 pub record IsComing (S : Setup) (r : RunState) (f p b : ℕ) : Type 0 where
   pub entry : entry_of (r.entered ++ record { flow = f; bits = b } ∷ []) p ≡ record { flow = f; bits = b }
   pub is_entry : IsEntry S.net record { flow = f; bits = b }
-  pub place : IsPlace S.net (first_server (route_of S.net f).hops) (Rattle.run_laws.specs.Routes.queue_at (first_server (route_of S.net f).hops) (route_of S.net f).hops)
+  pub place : IsPlace S.net (first_server (route_of S.net f).hops) (Rattle.queue_sched.specs.run_laws.specs.Routes.queue_at (first_server (route_of S.net f).hops) (route_of S.net f).hops)
   pub passes : PassesServer (first_server (route_of S.net f).hops) (route_of S.net f).hops
   pub may : MayComeIn S.net (packet_of S p)
 

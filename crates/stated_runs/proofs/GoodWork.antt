@@ -1,15 +1,15 @@
 -- What holds of work that is due.
 use Rattle.std.proofs.Common.{◌≡◌, ℕ, List, sym, ap, ◌∙◌, subst, arith, inl, inr, ◌⊎◌, Some}
 use Rattle.std.specs.Prelude.{pos}
-use Rattle.rational.specs.Rational.{ℚ, int, ◌+ℚ◌, ◌-ℚ◌, ◌*ℚ◌, ◌≤ℚ◌, ◌<ℚ◌}
-use Rattle.rational.proofs.Linear.{with2, with3}
-use Rattle.rational.proofs.Laws.{le_refl, le_trans, mul_pos}
-use Rattle.run_laws.specs.Cards.{Card, size}
-use Rattle.run_laws.specs.Servers.{ServerState, done, done_so_far}
-use Rattle.run_laws.specs.Allows.{next_card, KeepsPace}
-use Rattle.run_laws.specs.Routes.{server_at}
-use Rattle.run_laws.specs.Views.{Entry, card_of}
-use Rattle.run_laws.proofs.Heads.{pick_is_head}
+use Rattle.queue_sched.specs.rational.specs.Rational.{ℚ, int, ◌+ℚ◌, ◌-ℚ◌, ◌*ℚ◌, ◌≤ℚ◌, ◌<ℚ◌}
+use Rattle.queue_sched.specs.rational.proofs.Linear.{with2, with3}
+use Rattle.queue_sched.specs.rational.proofs.Laws.{le_refl, le_trans, mul_pos}
+use Rattle.queue_sched.specs.run_laws.specs.Cards.{Card, size}
+use Rattle.queue_sched.specs.run_laws.specs.Servers.{ServerState, done, done_so_far}
+use Rattle.queue_sched.specs.run_laws.specs.Allows.{next_card, KeepsPace}
+use Rattle.queue_sched.specs.run_laws.specs.Routes.{server_at}
+use Rattle.queue_sched.specs.run_laws.specs.Views.{Entry, card_of}
+use Rattle.queue_sched.specs.run_laws.proofs.Heads.{pick_is_head}
 use Rattle.stated_runs.specs.Setups.{Setup, rate_of, IsSetup, IsStretch}
 use Rattle.stated_runs.specs.DueSteps.{IsResumed, IsStarted}
 use Rattle.stated_runs.proofs.Lists.{In, head_in}

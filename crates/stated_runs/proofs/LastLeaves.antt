@@ -3,17 +3,17 @@ use Rattle.std.proofs.Common.{◌≡◌, ℕ, ◌<◌, ◌≤◌, ◌+◌, List,
 use Rattle.std.specs.Prelude.{Option, pos}
 use Rattle.std.proofs.lemmas.Bool.{cases_eq, eq-eqb, ne_eqb}
 use Rattle.std.proofs.lemmas.List.{get_or_push, length_push}
-use Rattle.rational.specs.Rational.{ℚ, int, ◌+ℚ◌}
-use Rattle.run_laws.specs.declared.steps.Step.{Step}
-use Rattle.run_laws.specs.declared.steps.Step.TheVariants.{Enter, Reach, Work, Leave, Visit}
-use Rattle.run_laws.specs.Runs.{SpecRun}
-use Rattle.run_laws.specs.Cards.{Card}
-use Rattle.run_laws.specs.Servers.{ServerState, head_of, without_head}
-use Rattle.run_laws.specs.Next.{next_inside}
-use Rattle.run_laws.specs.Routes.{Hop, link_at, route_of, PassesServer, first_server, server_after, last_server}
-use Rattle.run_laws.specs.Views.{Entry, entry_of, hops_of, card_of, server_of, seen}
-use Rattle.run_laws.specs.Lawful.{Due, RunState, sent, state_at, next_run, run_start}
-use Rattle.run_laws.proofs.Members.{has_right}
+use Rattle.queue_sched.specs.rational.specs.Rational.{ℚ, int, ◌+ℚ◌}
+use Rattle.queue_sched.specs.run_laws.specs.declared.steps.Step.{Step}
+use Rattle.queue_sched.specs.run_laws.specs.declared.steps.Step.TheVariants.{Enter, Reach, Work, Leave, Visit}
+use Rattle.queue_sched.specs.run_laws.specs.Runs.{SpecRun}
+use Rattle.queue_sched.specs.run_laws.specs.Cards.{Card}
+use Rattle.queue_sched.specs.run_laws.specs.Servers.{ServerState, head_of, without_head}
+use Rattle.queue_sched.specs.run_laws.specs.Next.{next_inside}
+use Rattle.queue_sched.specs.run_laws.specs.Routes.{Hop, link_at, route_of, PassesServer, first_server, server_after, last_server}
+use Rattle.queue_sched.specs.run_laws.specs.Views.{Entry, entry_of, hops_of, card_of, server_of, seen}
+use Rattle.queue_sched.specs.run_laws.specs.Lawful.{Due, RunState, sent, state_at, next_run, run_start}
+use Rattle.queue_sched.specs.run_laws.proofs.Members.{has_right}
 use Rattle.stated_runs.specs.Setups.{Setup, IsSetup, packet_of}
 use Rattle.stated_runs.specs.DueSteps.{IsLeaving, IsEntering, IsDue, step_time}
 use Rattle.stated_runs.specs.Simulated.{Follows, IsSimulated}

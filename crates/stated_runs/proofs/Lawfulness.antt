@@ -4,19 +4,19 @@ use Rattle.std.specs.Prelude.{Option, pos}
 use Rattle.std.proofs.lemmas.Bool.{cases_eq}
 use Rattle.std.proofs.lemmas.List.{get_or-map, length-map}
 use Rattle.std.proofs.lemmas.List.Elements.{All-from_get_or}
-use Rattle.rational.specs.Rational.{ℚ, int, ◌-ℚ◌, ◌≤ℚ◌, ◌<ℚ◌}
-use Rattle.rational.proofs.Linear.{with2}
-use Rattle.rational.proofs.Laws.{le_refl, le_trans, le_of_lt, le_or_lt, antisym}
-use Rattle.run_laws.specs.declared.steps.Step.{Step}
-use Rattle.run_laws.specs.declared.steps.Step.TheVariants.{Enter, Reach, Work, Leave, Visit}
-use Rattle.run_laws.specs.Runs.{SpecRun}
-use Rattle.run_laws.specs.Cards.{Card, size}
-use Rattle.run_laws.specs.Servers.{Fifo, Server, Under, ServerState, done, start}
-use Rattle.run_laws.specs.Next.{next_busy}
-use Rattle.run_laws.specs.Allows.{Allows, MayLeave, MayWork, IsInTime, IsComplete}
-use Rattle.run_laws.specs.Routes.{Routes, server_at, route_of, PassesServer, first_server}
-use Rattle.run_laws.specs.Views.{Entry, hops_of, card_of, server_of, seen}
-use Rattle.run_laws.specs.Lawful.{Due, RunState, state_at, next_run, run_start, after_run, AllowsInRun, AllAllowedInRun, IsLawful}
+use Rattle.queue_sched.specs.rational.specs.Rational.{ℚ, int, ◌-ℚ◌, ◌≤ℚ◌, ◌<ℚ◌}
+use Rattle.queue_sched.specs.rational.proofs.Linear.{with2}
+use Rattle.queue_sched.specs.rational.proofs.Laws.{le_refl, le_trans, le_of_lt, le_or_lt, antisym}
+use Rattle.queue_sched.specs.run_laws.specs.declared.steps.Step.{Step}
+use Rattle.queue_sched.specs.run_laws.specs.declared.steps.Step.TheVariants.{Enter, Reach, Work, Leave, Visit}
+use Rattle.queue_sched.specs.run_laws.specs.Runs.{SpecRun}
+use Rattle.queue_sched.specs.run_laws.specs.Cards.{Card, size}
+use Rattle.queue_sched.specs.run_laws.specs.Servers.{Fifo, Server, Under, ServerState, done, start}
+use Rattle.queue_sched.specs.run_laws.specs.Next.{next_busy}
+use Rattle.queue_sched.specs.run_laws.specs.Allows.{Allows, MayLeave, MayWork, IsInTime, IsComplete}
+use Rattle.queue_sched.specs.run_laws.specs.Routes.{Routes, server_at, route_of, PassesServer, first_server}
+use Rattle.queue_sched.specs.run_laws.specs.Views.{Entry, hops_of, card_of, server_of, seen}
+use Rattle.queue_sched.specs.run_laws.specs.Lawful.{Due, RunState, state_at, next_run, run_start, after_run, AllowsInRun, AllAllowedInRun, IsLawful}
 use Rattle.stated_runs.specs.Setups.{Setup, IsSetup}
 use Rattle.stated_runs.specs.DueSteps.{IsEntering, IsDue, step_time}
 use Rattle.stated_runs.specs.Simulated.{IsNext, Follows, last_time, IsSimulated}
@@ -142,8 +142,8 @@ allowed S ok r T end g (Enter f p t b) n k e l =
       known_server = k.known;
       at_server = (
         in_time S.net r.entered s (state_at r s) T t end (g.servers s k.known) (g.later (Enter f p t b) n.due) e,
-        subst (λ (i : Entry). Rattle.run_laws.specs.Allows.MayArrive (server_at S.net s).discipline
-            (let z : Card = record { packet = p; flow = i.flow; queue = Rattle.run_laws.specs.Routes.queue_at s (route_of S.net i.flow).hops; bits = i.bits } in z)) (sym c.entry)
+        subst (λ (i : Entry). Rattle.queue_sched.specs.run_laws.specs.Allows.MayArrive (server_at S.net s).discipline
+            (let z : Card = record { packet = p; flow = i.flow; queue = Rattle.queue_sched.specs.run_laws.specs.Routes.queue_at s (route_of S.net i.flow).hops; bits = i.bits } in z)) (sym c.entry)
             record { known_queue = c.place.known_queue; some_bits = c.is_entry.some_bits },
       );
     }

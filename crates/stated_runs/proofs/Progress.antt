@@ -3,17 +3,17 @@ use Rattle.std.proofs.Common.{◌≡◌, ℕ, ◌<◌, ◌≤◌, ◌^◌, List,
 use Rattle.std.specs.Prelude.{pos}
 use Rattle.std.proofs.lemmas.Bool.{cases_eq}
 use Rattle.std.proofs.lemmas.List.{get_or-map}
-use Rattle.rational.specs.Rational.{ℚ, int}
-use Rattle.rational.proofs.Linear.{with1}
-use Rattle.run_laws.specs.declared.steps.Step.{Step}
-use Rattle.run_laws.specs.declared.steps.Step.TheVariants.{Enter, Reach, Work, Leave, Visit}
-use Rattle.run_laws.specs.Cards.{Card, size, Works, Leaves}
-use Rattle.run_laws.specs.Servers.{Discipline, Fifo, Priority, Drr, Server, queue_count, head_of, without_head, start}
-use Rattle.run_laws.specs.Next.{next}
-use Rattle.run_laws.specs.Routes.{server_at, route_of, queue_at, first_server}
-use Rattle.run_laws.specs.Views.{entry_of, hops_of, card_of, server_of, seen}
-use Rattle.run_laws.specs.Lawful.{RunState, state_at, next_run, run_start, after_run}
-use Rattle.run_laws.proofs.Heads.{head_queue}
+use Rattle.queue_sched.specs.rational.specs.Rational.{ℚ, int}
+use Rattle.queue_sched.specs.rational.proofs.Linear.{with1}
+use Rattle.queue_sched.specs.run_laws.specs.declared.steps.Step.{Step}
+use Rattle.queue_sched.specs.run_laws.specs.declared.steps.Step.TheVariants.{Enter, Reach, Work, Leave, Visit}
+use Rattle.queue_sched.specs.run_laws.specs.Cards.{Card, size, Works, Leaves}
+use Rattle.queue_sched.specs.run_laws.specs.Servers.{Discipline, Fifo, Priority, Drr, Server, queue_count, head_of, without_head, start}
+use Rattle.queue_sched.specs.run_laws.specs.Next.{next}
+use Rattle.queue_sched.specs.run_laws.specs.Routes.{server_at, route_of, queue_at, first_server}
+use Rattle.queue_sched.specs.run_laws.specs.Views.{entry_of, hops_of, card_of, server_of, seen}
+use Rattle.queue_sched.specs.run_laws.specs.Lawful.{RunState, state_at, next_run, run_start, after_run}
+use Rattle.queue_sched.specs.run_laws.proofs.Heads.{head_queue}
 use Rattle.stated_runs.specs.Setups.{Setup, IsSetup}
 use Rattle.stated_runs.specs.DueSteps.{IsDue, IsLeaving, IsVisited, step_time}
 use Rattle.stated_runs.specs.Simulated.{Follows}
@@ -26,7 +26,7 @@ use Rattle.stated_runs.proofs.Good.{IsGood, own_state, other_state, good_from_st
 use Rattle.stated_runs.proofs.GoodSteps.{good_next}
 use Rattle.stated_runs.proofs.Lawfulness.{none_under}
 use Rattle.stated_runs.proofs.Turning.{KeepsTurns, KeepsRound, AreHeads, turning_arrive, turning_work, turning_leave, turning_visit, progress}
-use Rattle.run_laws.proofs.Sizes.{size_pos}
+use Rattle.queue_sched.specs.run_laws.proofs.Sizes.{size_pos}
 
 abbrev pub AllKeepTurns : Setup → RunState → Type 0
 AllKeepTurns S r = (s : ℕ) → s < length S.net.servers → KeepsTurns (server_at S.net s).discipline (state_at r s)
@@ -120,7 +120,7 @@ none_inside S ok r T g a none s h =
           let idle = none_under S ok r T g none s h in
           absurd (elim (progress (server_at S.net s).discipline σ k.0 k.1 k.2 idle (heads_at S r T g s h) (a s h)) [
             | inl e ↦
-                let here = (g.servers s h).cards e.0 (head_in e.0.queue σ.inside e.0 (Rattle.run_laws.proofs.Heads.pick_is_head (server_at S.net s).discipline σ.inside σ.round e.0 e.1)) in
+                let here = (g.servers s h).cards e.0 (head_in e.0.queue σ.inside e.0 (Rattle.queue_sched.specs.run_laws.proofs.Heads.pick_is_head (server_at S.net s).discipline σ.inside σ.round e.0 e.1)) in
                 let o = stretch_of S s (ok.rates s) (ok.gates s) σ.now (size e.0) (g.servers s h).from_zero (size_pos e.0 (fair_card S r T g s e.0 here).some) in
                 none (Work s e.0.packet o.0 o.1 o.2) (h, inr record { idle = idle; card = e.0; packet_is = refl; picked = e.1; stretch = o.3 })
             | inr v ↦

@@ -1,10 +1,10 @@
 -- Paths over the servers of a network.
 use Rattle.std.proofs.Common.{◌≡◌, ℕ, ◌<◌, ◌≤◌, List, [], ◌∷◌, length, refl, subst, arith, inl, inr, Some}
 use Rattle.std.proofs.lemmas.Bool.{cases_eq, eq-eqb, ne_eqb}
-use Rattle.run_laws.specs.Servers.{queue_count}
-use Rattle.run_laws.specs.Routes.{Hop, Routes, server_at, queue_at, PassesServer, first_of, first_server}
+use Rattle.queue_sched.specs.run_laws.specs.Servers.{queue_count}
+use Rattle.queue_sched.specs.run_laws.specs.Routes.{Hop, Routes, server_at, queue_at, PassesServer, first_of, first_server}
 use Rattle.stated_runs.specs.Setups.{AreHopsOf}
-pub use Rattle.run_laws.proofs.Entries.{passes_next as after_passes}
+pub use Rattle.queue_sched.specs.run_laws.proofs.Entries.{passes_next as after_passes}
 
 pub record IsPlace (net : Routes) (s q : ℕ) : Type 0 where
   pub known_server : s < length net.servers

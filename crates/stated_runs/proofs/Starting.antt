@@ -2,16 +2,16 @@
 use Rattle.std.proofs.Common.{◌≡◌, ℕ, ◌<◌, List, [], ◌∷◌, ◌++◌, length, refl, sym, ap, ◌∙◌, subst, inl, inr, Some, None}
 use Rattle.std.specs.Prelude.{◌≢◌, pos}
 use Rattle.std.proofs.lemmas.Bool.{cases_eq}
-use Rattle.rational.specs.Rational.{ℚ, int, ◌≤ℚ◌}
-use Rattle.run_laws.specs.declared.steps.Step.{Step}
-use Rattle.run_laws.specs.declared.steps.Step.TheVariants.{Enter, Reach, Work, Leave, Visit}
-use Rattle.run_laws.specs.Runs.{SpecRun}
-use Rattle.run_laws.specs.Cards.{size}
-use Rattle.run_laws.specs.Servers.{ServerState}
-use Rattle.run_laws.specs.Routes.{server_at}
-use Rattle.run_laws.specs.Views.{server_of}
-use Rattle.run_laws.specs.Lawful.{RunState, state_at, next_run, run_start, after_run}
-use Rattle.run_laws.proofs.Heads.{pick_is_head}
+use Rattle.queue_sched.specs.rational.specs.Rational.{ℚ, int, ◌≤ℚ◌}
+use Rattle.queue_sched.specs.run_laws.specs.declared.steps.Step.{Step}
+use Rattle.queue_sched.specs.run_laws.specs.declared.steps.Step.TheVariants.{Enter, Reach, Work, Leave, Visit}
+use Rattle.queue_sched.specs.run_laws.specs.Runs.{SpecRun}
+use Rattle.queue_sched.specs.run_laws.specs.Cards.{size}
+use Rattle.queue_sched.specs.run_laws.specs.Servers.{ServerState}
+use Rattle.queue_sched.specs.run_laws.specs.Routes.{server_at}
+use Rattle.queue_sched.specs.run_laws.specs.Views.{server_of}
+use Rattle.queue_sched.specs.run_laws.specs.Lawful.{RunState, state_at, next_run, run_start, after_run}
+use Rattle.queue_sched.specs.run_laws.proofs.Heads.{pick_is_head}
 use Rattle.stated_runs.specs.Setups.{Setup, IsFirstOpen, IsSetup}
 use Rattle.stated_runs.specs.DueSteps.{IsDue, step_time}
 use Rattle.stated_runs.specs.Simulated.{Follows, IsSimulated}
@@ -24,7 +24,7 @@ use Rattle.stated_runs.proofs.Lawfulness.{good_start}
 use Rattle.stated_runs.proofs.Unique.{open_once}
 use Rattle.stated_runs.proofs.Turning.{progress}
 use Rattle.stated_runs.proofs.Progress.{AllKeepTurns, inside_cases, fair_card, heads_at, turn_next, turn_start, none_inside}
-use Rattle.run_laws.proofs.Sizes.{size_pos}
+use Rattle.queue_sched.specs.run_laws.proofs.Sizes.{size_pos}
 
 -- a start is due at the time at which it opens
 pub due_start : (S : Setup) → IsSetup S → (r : RunState) (T : ℚ) → IsGood S r T → AllKeepTurns S r → (s : ℕ) → s < length S.net.servers

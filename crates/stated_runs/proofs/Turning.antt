@@ -2,14 +2,14 @@
 use Rattle.std.proofs.Common.{◌≡◌, ℕ, zero, suc, ◌<◌, ◌≤◌, ◌+◌, ◌^◌, List, [], ◌∷◌, length, get_or, refl, sym, ap, ◌∙◌, subst, arith, inl, inr, ◌⊎◌, Some, None}
 use Rattle.std.specs.Prelude.{Option}
 use Rattle.std.proofs.lemmas.Bool.{le-leb, eq-eqb}
-use Rattle.rational.specs.Rational.{ℚ}
-use Rattle.run_laws.specs.Cards.{Card, Arrives, Works, Leaves, Visits}
-use Rattle.run_laws.specs.Servers.{Discipline, Fifo, Priority, Drr, queue_count, Under, Round, ServerState, head_of, without_head, done_so_far}
-use Rattle.run_laws.specs.Next.{next, fits, worked_round}
-use Rattle.run_laws.specs.Allows.{pick, or_else, first_head, visited_head, next_card, MayVisit, IsFirst}
-use Rattle.run_laws.proofs.Heads.{same_some, head_push, pick_is_head}
-use Rattle.run_laws.specs.Rounds.{VisitIsFirst, count_of, presence}
-use Rattle.run_laws.proofs.Rounds.{HasLeft, first_counts, head_without}
+use Rattle.queue_sched.specs.rational.specs.Rational.{ℚ}
+use Rattle.queue_sched.specs.run_laws.specs.Cards.{Card, Arrives, Works, Leaves, Visits}
+use Rattle.queue_sched.specs.run_laws.specs.Servers.{Discipline, Fifo, Priority, Drr, queue_count, Under, Round, ServerState, head_of, without_head, done_so_far}
+use Rattle.queue_sched.specs.run_laws.specs.Next.{next, fits, worked_round}
+use Rattle.queue_sched.specs.run_laws.specs.Allows.{pick, or_else, first_head, visited_head, next_card, MayVisit, IsFirst}
+use Rattle.queue_sched.specs.run_laws.proofs.Heads.{same_some, head_push, pick_is_head}
+use Rattle.queue_sched.specs.run_laws.specs.Rounds.{VisitIsFirst, count_of, presence}
+use Rattle.queue_sched.specs.run_laws.proofs.Rounds.{HasLeft, first_counts, head_without}
 use Rattle.queue_sched.specs.InTurn.{IsInTurn, quantum_of, longest, turn_goes_on}
 use Rattle.queue_sched.proofs.InTurnSteps.{turn_arrives, turn_starts, turn_left, turn_visits}
 
@@ -114,7 +114,7 @@ turning_visit (Drr quanta) σ q t m k h =
     ] in
     record {
       head = h.head;
-      turn = subst (λ o. IsInTurn quanta σ.inside o (Rattle.run_laws.specs.Next.visited_round (get_or quanta q 0) (head_of q σ.inside) q σ.round)) (sym m.idle)
+      turn = subst (λ o. IsInTurn quanta σ.inside o (Rattle.queue_sched.specs.run_laws.specs.Next.visited_round (get_or quanta q 0) (head_of q σ.inside) q σ.round)) (sym m.idle)
           (turn_visits quanta σ.inside σ.round q (head_of q σ.inside) refl (k.small q) known m.no_visit m.is_first g);
     }
 

@@ -1,17 +1,17 @@
 -- There is one stated run at most: of the steps that are due one comes first.
 use Rattle.std.proofs.Common.{◌≡◌, ℕ, ◌<◌, ◌≤◌, List, [], ◌∷◌, refl, sym, ap, ◌∙◌, subst, arith, inl, inr, ◌⊎◌, Some, None}
 use Rattle.std.specs.Prelude.{Option, pos}
-use Rattle.rational.specs.Rational.{ℚ, int, ◌-ℚ◌, ◌*ℚ◌, ◌≤ℚ◌, ◌<ℚ◌}
-use Rattle.rational.proofs.Linear.{with3}
-use Rattle.rational.proofs.Laws.{le_of_lt, lt_cases, lt_irrefl, lt_le_trans, antisym, mul_lt_mul}
-use Rattle.run_laws.specs.declared.steps.Step.{Step}
-use Rattle.run_laws.specs.declared.steps.Step.TheVariants.{Enter, Reach, Work, Leave, Visit}
-use Rattle.run_laws.specs.Runs.{SpecRun}
-use Rattle.run_laws.specs.Cards.{Card, size}
-use Rattle.run_laws.specs.Servers.{Discipline, Fifo, Priority, Drr, Under, ServerState, done}
-use Rattle.run_laws.specs.Allows.{pick, visited_head, MayVisit, IsFirst}
-use Rattle.run_laws.specs.Routes.{server_at}
-use Rattle.run_laws.specs.Lawful.{RunState, state_at, next_run, run_start}
+use Rattle.queue_sched.specs.rational.specs.Rational.{ℚ, int, ◌-ℚ◌, ◌*ℚ◌, ◌≤ℚ◌, ◌<ℚ◌}
+use Rattle.queue_sched.specs.rational.proofs.Linear.{with3}
+use Rattle.queue_sched.specs.rational.proofs.Laws.{le_of_lt, lt_cases, lt_irrefl, lt_le_trans, antisym, mul_lt_mul}
+use Rattle.queue_sched.specs.run_laws.specs.declared.steps.Step.{Step}
+use Rattle.queue_sched.specs.run_laws.specs.declared.steps.Step.TheVariants.{Enter, Reach, Work, Leave, Visit}
+use Rattle.queue_sched.specs.run_laws.specs.Runs.{SpecRun}
+use Rattle.queue_sched.specs.run_laws.specs.Cards.{Card, size}
+use Rattle.queue_sched.specs.run_laws.specs.Servers.{Discipline, Fifo, Priority, Drr, Under, ServerState, done}
+use Rattle.queue_sched.specs.run_laws.specs.Allows.{pick, visited_head, MayVisit, IsFirst}
+use Rattle.queue_sched.specs.run_laws.specs.Routes.{server_at}
+use Rattle.queue_sched.specs.run_laws.specs.Lawful.{RunState, state_at, next_run, run_start}
 use Rattle.stated_runs.specs.Setups.{Setup, rate_of, packet_of, IsFirstOpen, IsStretch, IsSetup}
 use Rattle.stated_runs.specs.DueSteps.{IsLeaving, IsResumed, IsStarted, IsVisited, IsDue, step_time, Rank, RankAtMost, rank_of, work_kind}
 use Rattle.stated_runs.specs.Simulated.{IsNext, Follows, last_time, IsSimulated}

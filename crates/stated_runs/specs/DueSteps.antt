@@ -1,13 +1,13 @@
 -- Which step is due after those of a state, and which of several that are due comes first.
 use Rattle.std.specs.Prelude.{Option, Some, None, ◌≡◌, ◌⊎◌, ℕ, ◌<◌, ◌≤◌, length, Contains}
-use Rattle.rational.specs.Rational.{ℚ, ◌-ℚ◌, ◌≤ℚ◌, ◌<ℚ◌}
-use Rattle.run_laws.specs.declared.steps.Step.{Step}
-use Rattle.run_laws.specs.declared.steps.Step.TheVariants.{Enter, Reach, Work, Leave, Visit}
-use Rattle.run_laws.specs.Cards.{Card, size}
-use Rattle.run_laws.specs.Servers.{Under, ServerState, done}
-use Rattle.run_laws.specs.Allows.{pick, MayVisit}
-use Rattle.run_laws.specs.Routes.{server_at}
-use Rattle.run_laws.specs.Lawful.{RunState, state_at}
+use Rattle.queue_sched.specs.rational.specs.Rational.{ℚ, ◌-ℚ◌, ◌≤ℚ◌, ◌<ℚ◌}
+use Rattle.queue_sched.specs.run_laws.specs.declared.steps.Step.{Step}
+use Rattle.queue_sched.specs.run_laws.specs.declared.steps.Step.TheVariants.{Enter, Reach, Work, Leave, Visit}
+use Rattle.queue_sched.specs.run_laws.specs.Cards.{Card, size}
+use Rattle.queue_sched.specs.run_laws.specs.Servers.{Under, ServerState, done}
+use Rattle.queue_sched.specs.run_laws.specs.Allows.{pick, MayVisit}
+use Rattle.queue_sched.specs.run_laws.specs.Routes.{server_at}
+use Rattle.queue_sched.specs.run_laws.specs.Lawful.{RunState, state_at}
 use Rattle.stated_runs.specs.Setups.{Setup, packet_of, IsFirstOpen, IsStretch}
 
 -- ---- what is due at one server, by its state alone

@@ -1,12 +1,12 @@
 -- What is promised of stated runs.
 use Rattle.std.specs.Prelude.{◌≡◌, ◌≢◌, ◌⊎◌, ℕ, ◌<◌, List, [], ◌∷◌, ◌++◌, length, None, Contains, pos}
-use Rattle.rational.specs.Rational.{ℚ, int, ◌≤ℚ◌}
-use Rattle.run_laws.specs.declared.steps.Step.{Step}
-use Rattle.run_laws.specs.declared.steps.Step.TheVariants.{Enter, Reach, Work, Leave, Visit}
-use Rattle.run_laws.specs.Runs.{SpecRun}
-use Rattle.run_laws.specs.Routes.{Routes, route_of, last_server}
-use Rattle.run_laws.specs.Views.{server_of}
-use Rattle.run_laws.specs.Lawful.{IsLawful, RunState, state_at, after_run, run_start}
+use Rattle.queue_sched.specs.rational.specs.Rational.{ℚ, int, ◌≤ℚ◌}
+use Rattle.queue_sched.specs.run_laws.specs.declared.steps.Step.{Step}
+use Rattle.queue_sched.specs.run_laws.specs.declared.steps.Step.TheVariants.{Enter, Reach, Work, Leave, Visit}
+use Rattle.queue_sched.specs.run_laws.specs.Runs.{SpecRun}
+use Rattle.queue_sched.specs.run_laws.specs.Routes.{Routes, route_of, last_server}
+use Rattle.queue_sched.specs.run_laws.specs.Views.{server_of}
+use Rattle.queue_sched.specs.run_laws.specs.Lawful.{IsLawful, RunState, state_at, after_run, run_start}
 use Rattle.stated_runs.specs.Setups.{Setup, IsSetup, IsFirstOpen, packet_of}
 use Rattle.stated_runs.specs.DueSteps.{step_time}
 use Rattle.stated_runs.specs.Simulated.{IsSimulated}

@@ -1,9 +1,9 @@
 -- The stated run: at each place the first of the steps that are due, until none is.
 use Rattle.std.specs.Prelude.{◌≡◌, pos, List, [], ◌∷◌}
-use Rattle.rational.specs.Rational.{ℚ, int}
-use Rattle.run_laws.specs.declared.steps.Step.{Step}
-use Rattle.run_laws.specs.Runs.{SpecRun}
-use Rattle.run_laws.specs.Lawful.{RunState, next_run, run_start}
+use Rattle.queue_sched.specs.rational.specs.Rational.{ℚ, int}
+use Rattle.queue_sched.specs.run_laws.specs.declared.steps.Step.{Step}
+use Rattle.queue_sched.specs.run_laws.specs.Runs.{SpecRun}
+use Rattle.queue_sched.specs.run_laws.specs.Lawful.{RunState, next_run, run_start}
 use Rattle.stated_runs.specs.Setups.{Setup}
 use Rattle.stated_runs.specs.DueSteps.{IsDue, ComesFirst, step_time}
 

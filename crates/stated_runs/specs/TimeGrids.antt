@@ -1,14 +1,14 @@
 -- The numbers that a simulation meets: times that are multiples of 1 / D, from 0 up to E. (Own choice.)
 use Rattle.std.specs.Prelude.{Option, Some, None, ◌≡◌, ℕ, pos, ◌<◌, ◌≤◌, ◌-◌, ◌^◌, List, [], ◌∷◌, length}
-use Rattle.rational.specs.Rational.{ℚ, int, ◌-ℚ◌, ◌*ℚ◌, ◌/ℚ◌, ◌≤ℚ◌}
-use Rattle.rational.specs.Grid.{Whole}
-use Rattle.rational.specs.Ratio.{IsSmall}
-use Rattle.run_laws.specs.declared.steps.Step.{Step}
-use Rattle.run_laws.specs.declared.steps.Step.TheVariants.{Work}
-use Rattle.run_laws.specs.Cards.{whole, size}
-use Rattle.run_laws.specs.Servers.{Under, done}
-use Rattle.run_laws.specs.Routes.{PassesServer, link_at, route_of}
-use Rattle.run_laws.specs.Lawful.{state_at, run_start}
+use Rattle.queue_sched.specs.rational.specs.Rational.{ℚ, int, ◌-ℚ◌, ◌*ℚ◌, ◌/ℚ◌, ◌≤ℚ◌}
+use Rattle.queue_sched.specs.rational.specs.Grid.{Whole}
+use Rattle.queue_sched.specs.rational.specs.Ratio.{IsSmall}
+use Rattle.queue_sched.specs.run_laws.specs.declared.steps.Step.{Step}
+use Rattle.queue_sched.specs.run_laws.specs.declared.steps.Step.TheVariants.{Work}
+use Rattle.queue_sched.specs.run_laws.specs.Cards.{whole, size}
+use Rattle.queue_sched.specs.run_laws.specs.Servers.{Under, done}
+use Rattle.queue_sched.specs.run_laws.specs.Routes.{PassesServer, link_at, route_of}
+use Rattle.queue_sched.specs.run_laws.specs.Lawful.{state_at, run_start}
 use Rattle.stated_runs.specs.Setups.{GateTimes, StallTimes, Setup, opening_of, rate_of, packet_of}
 use Rattle.stated_runs.specs.DueSteps.{IsDue, step_time}
 use Rattle.stated_runs.specs.Simulated.{FollowsSoFar}

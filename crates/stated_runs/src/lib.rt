@@ -7,3 +7,6 @@ pub use laws::{
     each_leaves_its_last, every_packet_leaves, open_servers_start, stated_run_is_unique,
     stated_runs_are_lawful, stated_runs_go_by_time, traces_make_setups,
 };
+pub use net_model;
+pub use queue_sched;
+pub use queue_sched::fraction128;

@@ -15,9 +15,9 @@ use Rattle.run_laws.proofs.Counts.{IsWork, worked_rises, worked_nonneg}
 use Rattle.run_laws.proofs.Heads.{sum_of, sum_push, sum_without}
 use Rattle.run_laws.proofs.Sizes.{size_nonneg}
 use Rattle.run_laws.proofs.Sums.{Each, when_true, when_false, when_most}
-use Rattle.stated_runs.specs.Setups.{Setup, IsSetup, IsGateOpen, IsOpen, IsFirstOpen, IsStretch, opening_of, rate_of}
-use Rattle.stated_runs.proofs.Progress.{inside_cases}
-use Rattle.stated_runs.proofs.Lawfulness.{under_cases}
+use Rattle.sim_bounds.specs.stated_runs.specs.Setups.{Setup, IsSetup, IsGateOpen, IsOpen, IsFirstOpen, IsStretch, opening_of, rate_of}
+use Rattle.sim_bounds.specs.stated_runs.proofs.Progress.{inside_cases}
+use Rattle.sim_bounds.specs.stated_runs.proofs.Lawfulness.{under_cases}
 use Rattle.sim_bounds.proofs.Levels.{clock_of, clock}
 use Rattle.sim_bounds.proofs.OpenTime.{open_time, open_time_of}
 use Rattle.stated_service.proofs.Gains.{Gains, IsBusyWith, gains_none, glue, gains_flat}
@@ -39,7 +39,7 @@ pub record IsSteady (S : Setup) (s : ℕ) (σ : ServerState) : Type 0 where
   pub from_zero : int (pos 0) ≤ℚ clock σ
 
 closed_gate : (S : Setup) (s : ℕ) (z : ℚ) → (opening_of S s).stalls ≡ [] → ¬ (IsOpen S s z) → ¬ (IsGateOpen (opening_of S s).gate z)
-closed_gate S s z e n g = n (g, λ i. subst (λ xs. Rattle.stated_runs.specs.Setups.IsStalled xs z) e i)
+closed_gate S s z e n g = n (g, λ i. subst (λ xs. Rattle.sim_bounds.specs.stated_runs.specs.Setups.IsStalled xs z) e i)
 
 -- where the server is closed no open time is added
 flat : (S : Setup) (s : ℕ) (σ : ServerState) (W : ℚ → ℚ) (to x y : ℚ) → IsSteady S s σ → ((z : ℚ) → clock σ ≤ℚ z → z <ℚ to → ¬ (IsOpen S s z)) → clock σ ≤ℚ x → x ≤ℚ y → y ≤ℚ to

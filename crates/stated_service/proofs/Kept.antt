@@ -12,8 +12,8 @@ use Rattle.rational.proofs.Laws.{le_trans, le_of_lt, lt_le_trans, le_or_lt, betw
 use Rattle.rational.proofs.MinMax.{below_min_in, below_min_out, max_q_le}
 use Rattle.min_plus.specs.Functions.{zero_q}
 use Rattle.upp_curve.specs.Curve.{SpecCurve, value_at}
-use Rattle.upp_kinds.proofs.KindValues.{service_is}
-use Rattle.upp_kinds.proofs.GateValues.{gate_is}
+use Rattle.upp_curve.proofs.KindValues.{service_is}
+use Rattle.upp_curve.proofs.GateValues.{gate_is}
 use Rattle.run_laws.specs.declared.steps.Step.{Step}
 use Rattle.run_laws.specs.declared.steps.Step.TheVariants.{Enter, Reach, Work, Leave, Visit}
 use Rattle.run_laws.specs.Cards.{Card, ServerStep, all, size}
@@ -26,30 +26,30 @@ use Rattle.run_laws.specs.Views.{card_of, entered_after, server_of, seen, view_f
 use Rattle.run_laws.specs.Lawful.{RunState, state_at, next_run, run_start}
 use Rattle.run_laws.specs.Premises.{KeepsService, IsBusy}
 use Rattle.run_laws.proofs.Counts.{worked_nonneg}
-use Rattle.net_model.specs.declared.server.ServiceKind.{ServiceKind}
-use Rattle.net_model.specs.declared.server.ServiceKind.TheVariants.{Latency, Gate, Listed}
-use Rattle.net_model.specs.Networks.{Net, NetServer}
-use Rattle.net_model.specs.NetRoutes.{routes_of, server_for}
-use Rattle.net_model.specs.Accepted.{IsAccepted, IsOfKind}
-use Rattle.net_model.specs.Traces.{SpecTrace, IsTrace}
-use Rattle.stated_runs.specs.Setups.{Setup, IsSetup, Opening, IsOpen, opening_of, rate_of}
-use Rattle.stated_runs.specs.FromTraces.{gate_of, stalls_at, setup_of, IsTraceOf}
-use Rattle.stated_runs.specs.DueSteps.{IsLeaving, step_time}
-use Rattle.stated_runs.specs.Simulated.{IsNext, Follows, IsSimulated}
-use Rattle.stated_runs.proofs.Good.{IsGood, own_state, other_state, good_from_step}
-use Rattle.stated_runs.proofs.GoodSteps.{good_next}
-use Rattle.stated_runs.proofs.Lawfulness.{good_start, none_under}
-use Rattle.stated_runs.proofs.MadeSetups.{traces_make_setups}
-use Rattle.stated_runs.proofs.Opens.{stretch_of}
-use Rattle.stated_runs.proofs.Progress.{AllKeepTurns, turn_next, turn_start, none_inside}
-use Rattle.stated_runs.proofs.ServerSetups.{server_is, listed}
-use Rattle.stated_runs.proofs.Starting.{due_start}
+use Rattle.sim_bounds.specs.net_model.specs.declared.server.ServiceKind.{ServiceKind}
+use Rattle.sim_bounds.specs.net_model.specs.declared.server.ServiceKind.TheVariants.{Latency, Gate, Listed}
+use Rattle.sim_bounds.specs.net_model.specs.Networks.{Net, NetServer}
+use Rattle.sim_bounds.specs.net_model.specs.NetRoutes.{routes_of, server_for}
+use Rattle.sim_bounds.specs.net_model.specs.Accepted.{IsAccepted, IsOfKind}
+use Rattle.sim_bounds.specs.net_model.specs.Traces.{SpecTrace, IsTrace}
+use Rattle.sim_bounds.specs.stated_runs.specs.Setups.{Setup, IsSetup, Opening, IsOpen, opening_of, rate_of}
+use Rattle.sim_bounds.specs.stated_runs.specs.FromTraces.{gate_of, stalls_at, setup_of, IsTraceOf}
+use Rattle.sim_bounds.specs.stated_runs.specs.DueSteps.{IsLeaving, step_time}
+use Rattle.sim_bounds.specs.stated_runs.specs.Simulated.{IsNext, Follows, IsSimulated}
+use Rattle.sim_bounds.specs.stated_runs.proofs.Good.{IsGood, own_state, other_state, good_from_step}
+use Rattle.sim_bounds.specs.stated_runs.proofs.GoodSteps.{good_next}
+use Rattle.sim_bounds.specs.stated_runs.proofs.Lawfulness.{good_start, none_under}
+use Rattle.sim_bounds.specs.stated_runs.proofs.MadeSetups.{traces_make_setups}
+use Rattle.sim_bounds.specs.stated_runs.proofs.Opens.{stretch_of}
+use Rattle.sim_bounds.specs.stated_runs.proofs.Progress.{AllKeepTurns, turn_next, turn_start, none_inside}
+use Rattle.sim_bounds.specs.stated_runs.proofs.ServerSetups.{server_is, listed}
+use Rattle.sim_bounds.specs.stated_runs.proofs.Starting.{due_start}
 use Rattle.sim_bounds.proofs.Bounded.{stretch_from, idle_of}
 use Rattle.sim_bounds.proofs.Levels.{clock_of, clock}
 use Rattle.sim_bounds.proofs.OpenTime.{open_time}
 use Rattle.stated_service.specs.Laws.{IsByFormula}
 use Rattle.stated_service.proofs.Driven.{backlog, IsDriven, backlog_zero, driven_end, driven_arrive, driven_visit, driven_leave, driven_work}
-use Rattle.stated_runs.proofs.Lawfulness.{under_cases}
+use Rattle.sim_bounds.specs.stated_runs.proofs.Lawfulness.{under_cases}
 use Rattle.stated_service.proofs.Gains.{Gains}
 use Rattle.stated_service.proofs.Windows.{window_open}
 

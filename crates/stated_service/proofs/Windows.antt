@@ -11,7 +11,7 @@ use Rattle.rational.proofs.MinMax.{min_q_le_right, min_q_ge, min_q_mono, max_q_l
 use Rattle.rational.proofs.Quotients.{div_le}
 use Rattle.rational.proofs.Integers.{nat_nonneg}
 use Rattle.min_plus.specs.WholeUp.{whole_up}
-use Rattle.upp_limits.proofs.Rounding.{whole_up_least}
+use Rattle.sim_bounds.specs.upp_limits.proofs.Rounding.{whole_up_least}
 use Rattle.run_laws.specs.Cards.{whole}
 use Rattle.run_laws.proofs.Sizes.{whole_sum}
 use Rattle.sim_bounds.proofs.OpenTime.{cycles, IsInCycle, in_cycle, cycle_order, fewer, gate_time, gate_lipschitz}

@@ -4,14 +4,14 @@ use Rattle.upp_curve.specs.Curve.{value_at}
 use Rattle.run_laws.specs.Runs.{SpecRun}
 use Rattle.run_laws.specs.Views.{view}
 use Rattle.run_laws.specs.Premises.{KeepsService}
-use Rattle.net_model.specs.declared.server.ServiceKind.{ServiceKind}
-use Rattle.net_model.specs.declared.server.ServiceKind.TheVariants.{Latency, Gate, Listed}
-use Rattle.net_model.specs.Networks.{Net, NetServer}
-use Rattle.net_model.specs.NetRoutes.{routes_of}
-use Rattle.net_model.specs.Accepted.{IsAccepted}
-use Rattle.net_model.specs.Traces.{SpecTrace, IsTrace}
-use Rattle.stated_runs.specs.FromTraces.{stalls_at, setup_of, IsTraceOf}
-use Rattle.stated_runs.specs.Simulated.{IsSimulated}
+use Rattle.sim_bounds.specs.net_model.specs.declared.server.ServiceKind.{ServiceKind}
+use Rattle.sim_bounds.specs.net_model.specs.declared.server.ServiceKind.TheVariants.{Latency, Gate, Listed}
+use Rattle.sim_bounds.specs.net_model.specs.Networks.{Net, NetServer}
+use Rattle.sim_bounds.specs.net_model.specs.NetRoutes.{routes_of}
+use Rattle.sim_bounds.specs.net_model.specs.Accepted.{IsAccepted}
+use Rattle.sim_bounds.specs.net_model.specs.Traces.{SpecTrace, IsTrace}
+use Rattle.sim_bounds.specs.stated_runs.specs.FromTraces.{stalls_at, setup_of, IsTraceOf}
+use Rattle.sim_bounds.specs.stated_runs.specs.Simulated.{IsSimulated}
 
 -- not listed by its pieces
 abbrev pub IsByFormula : ServiceKind → Type 0

@@ -12,8 +12,8 @@ use Rattle.rational.proofs.Laws.{add_mul, div_mul, le_of_lt, le_of_mul, le_or_lt
 use Rattle.rational.proofs.Linear.{with_atoms}
 use Rattle.rational.proofs.MinMax.{min_q_le_left, min_q_le_right}
 use Rattle.rational.proofs.Whole.{whole_gt, whole_le as whole_part_le}
-use Rattle.run_laws.specs.Cards.{whole}
-use Rattle.run_laws.proofs.Sizes.{whole_le, whole_sum}
+use Rattle.watch_laws.specs.run_laws.specs.Cards.{whole}
+use Rattle.watch_laws.specs.run_laws.proofs.Sizes.{whole_le, whole_sum}
 use Rattle.watch_laws.specs.declared.entering.Entering.{Entering}
 use Rattle.watch_laws.specs.Entries.{entering, bits_to, bits_between}
 use Rattle.step_lines.specs.declared.places.Placed.{Placed}

@@ -11,7 +11,7 @@ use Rattle.rational.specs.Ratio.{cmp_q}
 use Rattle.rational.proofs.Comparison.{cmp_ranks}
 use Rattle.rational.proofs.Laws.{le_refl, le_trans, le_of_lt, le_lt_trans}
 use Rattle.rational.proofs.Over.{lt_q_in, lt_q_out}
-use Rattle.run_laws.specs.Counts.{before}
+use Rattle.watch_laws.specs.run_laws.specs.Counts.{before}
 use Rattle.step_lines.specs.declared.places.Placed.{Placed}
 use Rattle.step_lines.specs.Places.{IsIn}
 

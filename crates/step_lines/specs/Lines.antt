@@ -1,7 +1,7 @@
 -- Packets that keep a line in whole steps. Own choice.
 use Rattle.std.specs.Prelude.{ℕ, suc, pos, ◌<◌, ◌≤◌, List}
 use Rattle.rational.specs.Rational.{ℚ, int, ◌+ℚ◌, ◌-ℚ◌, ◌*ℚ◌, ◌≤ℚ◌}
-use Rattle.run_laws.specs.Cards.{whole}
+use Rattle.watch_laws.specs.run_laws.specs.Cards.{whole}
 use Rattle.watch_laws.specs.declared.entering.Entering.{Entering}
 use Rattle.watch_laws.specs.Entries.{entering, bits_between}
 

@@ -6,3 +6,5 @@ mod lows;
 mod places;
 
 pub use places::{is_at_most, is_under, seen_upto, whole_of};
+pub use watch_laws;
+pub use watch_laws::{affine_segment, net_model, run_laws, upp_curve, upp_normal};

@@ -4,7 +4,7 @@ ghost use Rattle.std.specs.Prelude.{◌≡◌, ℕ, ◌*◌, ◌<◌, ◌≤◌,
 ghost use Rattle.std.specs.List.Sorted.{IsSorted};
 ghost use Rattle.rational.specs.Ratio.{cmp_q};
 ghost use Rattle.rational.specs.Rational.{ℚ, int, ◌+ℚ◌, ◌≤ℚ◌, ◌<ℚ◌, lt_q, le_q};
-ghost use Rattle.run_laws.specs.Cards.{whole};
+ghost use Rattle.watch_laws.specs.run_laws.specs.Cards.{whole};
 ghost use Rattle.step_lines.specs.Lines.{KeepsLine};
 ghost use Rattle.step_lines.specs.Lows.{Covers};
 ghost use Rattle.step_lines.specs.Places.{IsFill, IsBetween, IsPlaced, ArePlaced, KeepPlaces, IsIn};

@@ -11,24 +11,24 @@ use Rattle.rational.proofs.Over.{le_q_out}
 use Rattle.rational.proofs.MinMax.{le_q_not}
 use Rattle.rational.proofs.Whole.{periods_unique}
 use Rattle.rational.proofs.ExtendedOrder.{same_le_ext, finite_sum, le_inf}
-use Rattle.affine_segment.specs.declared.line.Piece.{Piece}
-use Rattle.affine_segment.specs.declared.element.Element.{Element}
-use Rattle.affine_segment.specs.Elements.{Covers, start_of, element_value}
-use Rattle.affine_segment.proofs.ElementValues.{value_cases}
-use Rattle.upp_curve.specs.declared.curve.Tail.{Tail}
-use Rattle.upp_curve.specs.declared.curve.Tail.TheVariants.{Periodic, Affine, Infinite}
-use Rattle.upp_curve.specs.Curve.{SpecCurve, repeated}
+use Rattle.curve_conv.specs.affine_segment.specs.declared.line.Piece.{Piece}
+use Rattle.curve_conv.specs.affine_segment.specs.declared.element.Element.{Element}
+use Rattle.curve_conv.specs.affine_segment.specs.Elements.{Covers, start_of, element_value}
+use Rattle.curve_conv.specs.affine_segment.proofs.ElementValues.{value_cases}
+use Rattle.curve_conv.specs.upp_curve.specs.declared.curve.Tail.{Tail}
+use Rattle.curve_conv.specs.upp_curve.specs.declared.curve.Tail.TheVariants.{Periodic, Affine, Infinite}
+use Rattle.curve_conv.specs.upp_curve.specs.Curve.{SpecCurve, repeated}
 use Rattle.min_plus.specs.Functions.{zero_q}
-use Rattle.affine_segment.specs.Pieces.{Each, StartsAtZero}
-use Rattle.upp_curve.specs.Normal.{TailFits, IsNormal}
-use Rattle.element_envelope.specs.PieceElements.{elements_of, StartBefore, Among}
-use Rattle.element_envelope.proofs.Cover.{cover, element_times}
+use Rattle.curve_conv.specs.affine_segment.specs.Pieces.{Each, StartsAtZero}
+use Rattle.curve_conv.specs.upp_curve.specs.Normal.{TailFits, IsNormal}
+use Rattle.curve_conv.specs.element_envelope.specs.PieceElements.{elements_of, StartBefore, Among}
+use Rattle.curve_conv.specs.element_envelope.proofs.Cover.{cover, element_times}
 use Rattle.closure_laws.specs.ClosureLaws.{IsCopy, HasCopies}
 use Rattle.subadd_closure.specs.CurveParts.{pieces_end, copies_of, part_of}
 use Rattle.subadd_closure.specs.declared.part.Part.{Part}
 use Rattle.subadd_closure.specs.PartLaws.{EachPart, IsCopied, IsPart, PartsAreParts}
 use Rattle.subadd_closure.proofs.ElementTimes.{starts_nonneg}
-use Rattle.element_envelope.proofs.Envelopes.{from_start}
+use Rattle.curve_conv.specs.element_envelope.proofs.Envelopes.{from_start}
 
 -- ---- what is at t is n periods after what is at u
 pub repeated_at : (f : ℚ → Ext) (s d c t : ℚ) → repeated f s d c t ≡ f (t -ℚ int (pos (periods s d t)) *ℚ d) +ₑ Fin (int (pos (periods s d t)) *ℚ c)

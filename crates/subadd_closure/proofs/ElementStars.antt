@@ -2,15 +2,15 @@
 use Rattle.std.specs.Prelude.{◌≡◌, Option, Some, None, Result, Ok, Err}
 use Rattle.std.proofs.Common.{sym, refl, subst}
 use Rattle.rational.specs.Rational.{ℚ}
-use Rattle.affine_segment.specs.declared.element.Element.{Element}
-use Rattle.upp_limits.specs.declared.op_kind.OpFault.{OpFault}
-use Rattle.upp_limits.specs.declared.op_kind.OpFault.TheVariants.{TooMany, TooWide, NoMemory}
-use Rattle.upp_curve.specs.Curve.{SpecCurve}
-use Rattle.curve_call.specs.Calls.{goes_on, stops}
-use Rattle.closure_elements.specs.ElementAnswers.{IsElementClosure, ClosureAnswer}
-use Rattle.closure_elements.specs.Lattices.{lattice_curve, origin_curve}
-use Rattle.closure_elements.proofs.HeavyCalls.{heavy_is_refused}
-use Rattle.closure_elements.proofs.LatticeCurves.{lattice_normal, origin_is_curve}
+use Rattle.curve_conv.specs.affine_segment.specs.declared.element.Element.{Element}
+use Rattle.curve_conv.specs.upp_limits.specs.declared.op_kind.OpFault.{OpFault}
+use Rattle.curve_conv.specs.upp_limits.specs.declared.op_kind.OpFault.TheVariants.{TooMany, TooWide, NoMemory}
+use Rattle.curve_conv.specs.upp_curve.specs.Curve.{SpecCurve}
+use Rattle.curve_conv.specs.curve_call.specs.Calls.{goes_on, stops}
+use Rattle.subadd_closure.specs.ElementAnswers.{IsElementClosure, ClosureAnswer}
+use Rattle.subadd_closure.specs.Lattices.{lattice_curve, origin_curve}
+use Rattle.subadd_closure.proofs.HeavyCalls.{heavy_is_refused}
+use Rattle.subadd_closure.proofs.LatticeCurves.{lattice_normal, origin_is_curve}
 use Rattle.subadd_closure.specs.Stars.{OrWants, answers, wants, Lowers, Copies, StarOf, MakesStar, IsPeriodAndRise}
 
 -- ---- what is answered

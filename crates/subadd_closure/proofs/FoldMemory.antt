@@ -6,21 +6,21 @@ use Rattle.rational.specs.Rational.{ℚ, ◌≤ℚ◌}
 use Rattle.rational.specs.Extended.{Ext}
 use Rattle.rational.specs.declared.Extended.TheVariants.{Fin, Inf}
 use Rattle.rational.proofs.Laws.{le_refl}
-use Rattle.affine_segment.specs.declared.line.Line.{Line}
-use Rattle.affine_segment.specs.declared.element.Element.{Element}
-use Rattle.affine_segment.specs.declared.element.Element.TheVariants.{Point, Open}
-use Rattle.upp_limits.specs.declared.op_kind.OpKind.{OpKind}
-use Rattle.upp_limits.specs.declared.op_kind.OpKind.TheVariants.{Min, Convolve}
-use Rattle.upp_limits.specs.declared.op_kind.OpFault.{OpFault}
-use Rattle.upp_limits.specs.declared.op_kind.OpFault.TheVariants.{NoMemory}
-use Rattle.upp_limits.specs.Outcome.{KeepsLimits}
-use Rattle.upp_curve.specs.Curve.{SpecCurve, value_at}
-use Rattle.upp_curve.specs.Normal.{IsRaw}
+use Rattle.curve_conv.specs.affine_segment.specs.declared.line.Line.{Line}
+use Rattle.curve_conv.specs.affine_segment.specs.declared.element.Element.{Element}
+use Rattle.curve_conv.specs.affine_segment.specs.declared.element.Element.TheVariants.{Point, Open}
+use Rattle.curve_conv.specs.upp_limits.specs.declared.op_kind.OpKind.{OpKind}
+use Rattle.curve_conv.specs.upp_limits.specs.declared.op_kind.OpKind.TheVariants.{Min, Convolve}
+use Rattle.curve_conv.specs.upp_limits.specs.declared.op_kind.OpFault.{OpFault}
+use Rattle.curve_conv.specs.upp_limits.specs.declared.op_kind.OpFault.TheVariants.{NoMemory}
+use Rattle.curve_conv.specs.upp_limits.specs.Outcome.{KeepsLimits}
+use Rattle.curve_conv.specs.upp_curve.specs.Curve.{SpecCurve, value_at}
+use Rattle.curve_conv.specs.upp_curve.specs.Normal.{IsRaw}
 use Rattle.min_plus.specs.Functions.{zero_q, IsFinite}
-use Rattle.curve_call.specs.Calls.{Applies, Then, goes_on, stops}
-use Rattle.closure_elements.specs.ElementAnswers.{IsElementClosure}
-use Rattle.closure_elements.specs.Lattices.{lattice_curve, origin_curve}
-use Rattle.element_envelope.specs.PieceElements.{elements_of}
+use Rattle.curve_conv.specs.curve_call.specs.Calls.{Applies, Then, goes_on, stops}
+use Rattle.subadd_closure.specs.ElementAnswers.{IsElementClosure}
+use Rattle.subadd_closure.specs.Lattices.{lattice_curve, origin_curve}
+use Rattle.curve_conv.specs.element_envelope.specs.PieceElements.{elements_of}
 use Rattle.subadd_closure.specs.declared.part.Copies.{Copies as PartCopies}
 use Rattle.subadd_closure.specs.declared.part.Part.{Part}
 use Rattle.subadd_closure.specs.CurveParts.{pieces_end, copies_of, part_of, parts_of}

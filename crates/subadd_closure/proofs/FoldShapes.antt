@@ -9,9 +9,9 @@ use Rattle.rational.proofs.Bounds.{greatest}
 use Rattle.rational.proofs.Laws.{le_of_lt, add_zero}
 use Rattle.rational.proofs.ExtendedOrder.{le_ext_trans, same_le_ext}
 use Rattle.rational.proofs.ExtendedOrder.{add_zero_ext, min_left, min_right}
-use Rattle.upp_curve.specs.Curve.{SpecCurve, value_at}
+use Rattle.curve_conv.specs.upp_curve.specs.Curve.{SpecCurve, value_at}
 use Rattle.min_plus.specs.Functions.{zero_q, IsFinite, IsNonnegative}
-use Rattle.upp_curve.specs.Normal.{IsNormal}
+use Rattle.curve_conv.specs.upp_curve.specs.Normal.{IsNormal}
 use Rattle.min_plus.specs.Convolution.{sum_at, IsConvolution}
 use Rattle.closure_laws.specs.Star.{Times, IsStar, AreStars, lesser, least_of}
 use Rattle.closure_laws.proofs.StarSums.{star_of_lesser, least_of_more}

@@ -3,19 +3,19 @@ use Rattle.std.specs.Prelude.{◌≡◌, List, [], ◌∷◌, map, Option, Some,
 use Rattle.std.proofs.Common.{sym, refl, ap, ◌∙◌, subst}
 use Rattle.rational.specs.Rational.{ℚ, ◌≤ℚ◌}
 use Rattle.rational.specs.Extended.{Ext, min_ext}
-use Rattle.affine_segment.specs.declared.element.Element.{Element}
-use Rattle.affine_segment.specs.Elements.{element_value}
-use Rattle.upp_limits.specs.declared.op_kind.OpKind.TheVariants.{Min, Convolve}
-use Rattle.upp_limits.specs.declared.op_kind.OpFault.{OpFault}
-use Rattle.upp_curve.specs.Curve.{SpecCurve, value_at}
+use Rattle.curve_conv.specs.affine_segment.specs.declared.element.Element.{Element}
+use Rattle.curve_conv.specs.affine_segment.specs.Elements.{element_value}
+use Rattle.curve_conv.specs.upp_limits.specs.declared.op_kind.OpKind.TheVariants.{Min, Convolve}
+use Rattle.curve_conv.specs.upp_limits.specs.declared.op_kind.OpFault.{OpFault}
+use Rattle.curve_conv.specs.upp_curve.specs.Curve.{SpecCurve, value_at}
 use Rattle.min_plus.specs.Functions.{zero_q}
 use Rattle.min_plus.specs.Convolution.{IsSubadditiveClosure}
-use Rattle.curve_call.specs.Answers.{IsMadeBy}
-use Rattle.curve_call.specs.Calls.{Applies, Then, goes_on, stops}
+use Rattle.curve_conv.specs.curve_call.specs.Answers.{IsMadeBy}
+use Rattle.curve_conv.specs.curve_call.specs.Calls.{Applies, Then, goes_on, stops}
 use Rattle.closure_laws.specs.Star.{IsStar, AreStars, least_of}
 use Rattle.closure_laws.proofs.StarSums.{star_of_closure, stars_of_values}
 use Rattle.closure_laws.proofs.CopiedParts.{closure_of_copies}
-use Rattle.closure_elements.specs.ElementAnswers.{IsElementClosure}
+use Rattle.subadd_closure.specs.ElementAnswers.{IsElementClosure}
 use Rattle.subadd_closure.specs.CurveParts.{parts_of, part_value}
 use Rattle.subadd_closure.specs.declared.part.Copies.{Copies}
 use Rattle.subadd_closure.specs.declared.part.Part.{Part}
@@ -25,8 +25,8 @@ use Rattle.subadd_closure.specs.Folds.{ElementAnswer, CopiedAnswer, LoweredAnswe
 use Rattle.subadd_closure.specs.FoldLaws.{PartAnswerIsStar, CloseAnswerIsClosure}
 use Rattle.subadd_closure.proofs.EachParts.{parts_are_parts}
 use Rattle.subadd_closure.proofs.LeastParts.{parts_make_curve}
-use Rattle.closure_elements.specs.Lattices.{lattice_curve, origin_curve}
-use Rattle.closure_elements.proofs.LatticeCurves.{lattice_values}
+use Rattle.subadd_closure.specs.Lattices.{lattice_curve, origin_curve}
+use Rattle.subadd_closure.proofs.LatticeCurves.{lattice_values}
 use Rattle.closure_laws.proofs.StarFolding.{star_of_least, closure_of_set_back}
 
 -- ---- a call that goes on

@@ -11,11 +11,11 @@ use Rattle.rational.proofs.Laws.{le_refl, zero_mul}
 use Rattle.min_plus.specs.Functions.{zero_q}
 use Rattle.min_plus.specs.Convolution.{Parts, sum_of, sum_at, IsSubadditive, IsSubadditiveClosure}
 use Rattle.min_plus.proofs.TimeSums.{append_sum, nonneg_sum}
-use Rattle.upp_curve.specs.Curve.{value_at}
+use Rattle.curve_conv.specs.upp_curve.specs.Curve.{value_at}
 use Rattle.closure_laws.specs.Star.{Times, AreStars}
 use Rattle.closure_laws.proofs.TimeLists.{append_at, append_nonneg}
-use Rattle.closure_elements.specs.Lattices.{lattice_curve}
-use Rattle.closure_elements.proofs.LatticeCurves.{lattice_values}
+use Rattle.subadd_closure.specs.Lattices.{lattice_curve}
+use Rattle.subadd_closure.proofs.LatticeCurves.{lattice_values}
 
 -- the sum of two lists of times
 both_sum : (xs ys : List ℚ) (s u : ℚ) → sum_of xs ≡ s → sum_of ys ≡ u → sum_of (xs ++ ys) ≡ s +ℚ u

@@ -4,21 +4,21 @@ use Rattle.std.proofs.Common.{arith, sym, refl, ap, ◌∙◌, subst, inl, inr}
 use Rattle.rational.specs.Rational.{ℚ, ◌≤ℚ◌}
 use Rattle.rational.proofs.Laws.{le_or_lt, antisym}
 use Rattle.rational.proofs.Bounds.{infimum_unique}
-use Rattle.affine_segment.specs.declared.element.Element.{Element}
-use Rattle.upp_limits.specs.declared.op_kind.OpKind.TheVariants.{Min, Convolve}
-use Rattle.upp_limits.specs.declared.op_kind.OpFault.{OpFault}
-use Rattle.upp_limits.specs.declared.op_kind.OpFault.TheVariants.{TooMany, TooWide, NoMemory}
-use Rattle.upp_curve.specs.Curve.{SpecCurve, value_at}
+use Rattle.curve_conv.specs.affine_segment.specs.declared.element.Element.{Element}
+use Rattle.curve_conv.specs.upp_limits.specs.declared.op_kind.OpKind.TheVariants.{Min, Convolve}
+use Rattle.curve_conv.specs.upp_limits.specs.declared.op_kind.OpFault.{OpFault}
+use Rattle.curve_conv.specs.upp_limits.specs.declared.op_kind.OpFault.TheVariants.{TooMany, TooWide, NoMemory}
+use Rattle.curve_conv.specs.upp_curve.specs.Curve.{SpecCurve, value_at}
 use Rattle.min_plus.specs.Functions.{zero_q}
-use Rattle.upp_curve.proofs.OneForm.{normal_unique}
-use Rattle.curve_call.specs.Calls.{Applies, Then}
-use Rattle.curve_call.specs.Determined.{IsDetermined}
-use Rattle.curve_call.proofs.InTurn.{applies_determined, then_determined}
-use Rattle.closure_elements.specs.ElementAnswers.{IsElementClosure}
+use Rattle.curve_conv.specs.upp_curve.proofs.OneForm.{normal_unique}
+use Rattle.curve_conv.specs.curve_call.specs.Calls.{Applies, Then}
+use Rattle.curve_conv.specs.curve_call.specs.Determined.{IsDetermined}
+use Rattle.curve_conv.specs.curve_call.proofs.InTurn.{applies_determined, then_determined}
+use Rattle.subadd_closure.specs.ElementAnswers.{IsElementClosure}
 use Rattle.subadd_closure.specs.CurveParts.{parts_of}
 use Rattle.subadd_closure.specs.declared.part.Copies.{Copies}
 use Rattle.subadd_closure.specs.declared.part.Part.{Part}
-use Rattle.closure_elements.specs.Lattices.{lattice_curve, origin_curve}
+use Rattle.subadd_closure.specs.Lattices.{lattice_curve, origin_curve}
 use Rattle.subadd_closure.specs.Folds.{segment_number, SegmentWithin, SegmentCause, ElementAnswer, CopiedAnswer, LoweredAnswer, PartAnswer, FoldAnswer, PartsAnswer, IsSetBackCurve, SetBackAnswer}
 use Rattle.subadd_closure.specs.FoldLaws.{CloseAnswerIsDetermined}
 

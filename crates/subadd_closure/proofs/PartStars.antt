@@ -3,14 +3,14 @@
 use Rattle.std.specs.Prelude.{◌≡◌, ℕ, Option, Some, None, Result, Ok, Err}
 use Rattle.std.proofs.Common.{sym, refl, ap, ◌∙◌, subst}
 use Rattle.rational.specs.Rational.{ℚ}
-use Rattle.affine_segment.specs.declared.element.Element.{Element}
-use Rattle.upp_limits.specs.declared.op_kind.OpKind.TheVariants.{Min, Convolve}
-use Rattle.upp_limits.specs.declared.op_kind.OpFault.{OpFault}
-use Rattle.upp_limits.specs.declared.op_kind.OpFault.TheVariants.{NoMemory}
-use Rattle.upp_curve.specs.Curve.{SpecCurve}
-use Rattle.curve_call.specs.Calls.{Applies, Then, goes_on, stops}
-use Rattle.closure_elements.specs.ElementAnswers.{IsElementClosure}
-use Rattle.closure_elements.specs.Lattices.{lattice_curve, origin_curve}
+use Rattle.curve_conv.specs.affine_segment.specs.declared.element.Element.{Element}
+use Rattle.curve_conv.specs.upp_limits.specs.declared.op_kind.OpKind.TheVariants.{Min, Convolve}
+use Rattle.curve_conv.specs.upp_limits.specs.declared.op_kind.OpFault.{OpFault}
+use Rattle.curve_conv.specs.upp_limits.specs.declared.op_kind.OpFault.TheVariants.{NoMemory}
+use Rattle.curve_conv.specs.upp_curve.specs.Curve.{SpecCurve}
+use Rattle.curve_conv.specs.curve_call.specs.Calls.{Applies, Then, goes_on, stops}
+use Rattle.subadd_closure.specs.ElementAnswers.{IsElementClosure}
+use Rattle.subadd_closure.specs.Lattices.{lattice_curve, origin_curve}
 use Rattle.subadd_closure.specs.declared.part.Copies.{Copies}
 use Rattle.subadd_closure.specs.declared.part.Part.{Part}
 use Rattle.subadd_closure.specs.CurveParts.{copies_of, part_of}

@@ -9,11 +9,11 @@ use Rattle.rational.proofs.Linear.{with_atoms, with2, with3, with4, with5, with6
 use Rattle.rational.proofs.Laws.{le_refl, le_trans, le_of_lt, add_comm, add_zero, sub_add, mul_add, sub_mul, mul_le_mul, mul_nonneg}
 use Rattle.rational.proofs.Integers.{nat_nonneg}
 use Rattle.rational.proofs.ExtendedOrder.{le_ext_trans, add_le_ext, le_ext_refl, same_le_ext}
-use Rattle.upp_curve.specs.Steady.{Repeats}
-use Rattle.upp_normal.proofs.UnrollSteps.{ext_cases}
-use Rattle.upp_limits.specs.Windows.{IsLateLeast}
-use Rattle.curve_least.proofs.MostAbove.{moved_back, times_rate}
-use Rattle.curve_least.proofs.Shifts.{later_value}
+use Rattle.curve_conv.specs.upp_curve.specs.Steady.{Repeats}
+use Rattle.curve_conv.specs.upp_normal.proofs.UnrollSteps.{ext_cases}
+use Rattle.curve_conv.specs.upp_limits.specs.Windows.{IsLateLeast}
+use Rattle.curve_conv.specs.curve_call.proofs.MostAbove.{moved_back, times_rate}
+use Rattle.curve_conv.specs.curve_call.proofs.Shifts.{later_value}
 use Rattle.curve_conv.specs.LateBounds.{IsTop, IsDepth}
 use Rattle.subadd_closure.specs.QuickBounds.{Reaches}
 use Rattle.rational.proofs.Stretch.{not_earlier}

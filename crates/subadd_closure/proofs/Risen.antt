@@ -12,8 +12,8 @@ use Rattle.rational.proofs.Bounds.{greatest}
 use Rattle.rational.proofs.ExtendedOrder.{add_le_ext, add_zero_ext, fin_same}
 use Rattle.min_plus.specs.Convolution.{IsConvolution, Split}
 use Rattle.min_plus.specs.Functions.{zero_q, IsNonnegative}
-use Rattle.upp_curve.specs.Steady.{Repeats}
-use Rattle.upp_curve.proofs.Repeats.{repeats_times}
+use Rattle.curve_conv.specs.upp_curve.specs.Steady.{Repeats}
+use Rattle.curve_conv.specs.upp_curve.proofs.Repeats.{repeats_times}
 
 -- ---- a convolution of what is nowhere below 0
 sum_nonneg : (x y : Ext) → Fin zero_q ≤ₑ x → Fin zero_q ≤ₑ y → Fin zero_q ≤ₑ x +ₑ y

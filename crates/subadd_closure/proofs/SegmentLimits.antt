@@ -10,22 +10,22 @@ use Rattle.rational.proofs.Laws.{one_mul}
 use Rattle.rational.proofs.Quotients.{div_lt}
 use Rattle.rational.proofs.Linear.{with2}
 use Rattle.rational.proofs.Whole.{whole_small}
-use Rattle.affine_segment.specs.declared.line.Line.{Line}
-use Rattle.affine_segment.specs.declared.element.Element.TheVariants.{Open}
-use Rattle.upp_limits.specs.declared.op_kind.OpKind.TheVariants.{Itself}
-use Rattle.upp_limits.specs.declared.op_kind.OpFault.{OpFault}
-use Rattle.upp_limits.specs.declared.op_kind.OpFault.TheVariants.{TooMany, TooWide, NoMemory}
-use Rattle.upp_curve.specs.Curve.{SpecCurve}
+use Rattle.curve_conv.specs.affine_segment.specs.declared.line.Line.{Line}
+use Rattle.curve_conv.specs.affine_segment.specs.declared.element.Element.TheVariants.{Open}
+use Rattle.curve_conv.specs.upp_limits.specs.declared.op_kind.OpKind.TheVariants.{Itself}
+use Rattle.curve_conv.specs.upp_limits.specs.declared.op_kind.OpFault.{OpFault}
+use Rattle.curve_conv.specs.upp_limits.specs.declared.op_kind.OpFault.TheVariants.{TooMany, TooWide, NoMemory}
+use Rattle.curve_conv.specs.upp_curve.specs.Curve.{SpecCurve}
 use Rattle.min_plus.specs.Functions.{zero_q}
-use Rattle.upp_limits.specs.Limits.{gauge_of, sizes_of, own_end, own_sizes, own_gauge}
-use Rattle.upp_limits.specs.Windows.{window_at}
-use Rattle.upp_limits.specs.Gauges.{numbers_over, gauge_over, gauge_at}
-use Rattle.upp_limits.specs.declared.call_sizes.CallNumbers.{CallNumbers}
-use Rattle.upp_limits.specs.CallNumbers.{AreCallNumbers}
-use Rattle.curve_call.specs.declared.windows.CallWindow.{CallWindow}
-use Rattle.curve_call.specs.FirstWindows.{IsFirstWindow, IsWideAtFirst}
-use Rattle.closure_elements.specs.ElementCurves.{IsStretch}
-use Rattle.closure_elements.specs.MeetLaws.{StretchesMeet}
+use Rattle.curve_conv.specs.upp_limits.specs.Limits.{gauge_of, sizes_of, own_end, own_sizes, own_gauge}
+use Rattle.curve_conv.specs.upp_limits.specs.Windows.{window_at}
+use Rattle.curve_conv.specs.upp_limits.specs.Gauges.{numbers_over, gauge_over, gauge_at}
+use Rattle.curve_conv.specs.upp_limits.specs.declared.call_sizes.CallNumbers.{CallNumbers}
+use Rattle.curve_conv.specs.upp_limits.specs.CallNumbers.{AreCallNumbers}
+use Rattle.curve_conv.specs.curve_call.specs.declared.windows.CallWindow.{CallWindow}
+use Rattle.curve_conv.specs.curve_call.specs.FirstWindows.{IsFirstWindow, IsWideAtFirst}
+use Rattle.subadd_closure.specs.ElementCurves.{IsStretch}
+use Rattle.subadd_closure.specs.MeetLaws.{StretchesMeet}
 use Rattle.subadd_closure.specs.Folds.{segment_number, SegmentWithin}
 use Rattle.subadd_closure.specs.SegmentLimits.{IsOwnGauge, IsOverlap}
 

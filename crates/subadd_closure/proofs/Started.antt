@@ -6,25 +6,25 @@ use Rattle.rational.specs.Grid.{Whole}
 use Rattle.rational.specs.Extended.{Ext, ◌≤ₑ◌, ◌+ₑ◌}
 use Rattle.rational.proofs.Linear.{with3}
 use Rattle.rational.proofs.Laws.{le_refl, le_of_lt}
-use Rattle.affine_segment.specs.declared.line.Piece.{Piece}
-use Rattle.affine_segment.specs.Reading.{read}
-use Rattle.upp_curve.specs.Curve.{SpecCurve}
+use Rattle.curve_conv.specs.affine_segment.specs.declared.line.Piece.{Piece}
+use Rattle.curve_conv.specs.affine_segment.specs.Reading.{read}
+use Rattle.curve_conv.specs.upp_curve.specs.Curve.{SpecCurve}
 use Rattle.min_plus.specs.Functions.{zero_q}
-use Rattle.upp_limits.specs.Limits.{Sizes}
-use Rattle.affine_segment.specs.Pieces.{Each, StartsAtZero}
-use Rattle.affine_segment.proofs.PieceOrder.{each_map}
-use Rattle.curve_window.proofs.TailGrids.{TailOf}
-use Rattle.curve_call.specs.declared.frame.Frame.{Frame}
-use Rattle.curve_call.specs.Answering.{IsAnswerWindow}
-use Rattle.curve_pointwise.proofs.LatticeCalls.{from_whole}
-use Rattle.element_envelope.specs.SumWindows.{SumValueAt, SumPiece, SumWindow}
-use Rattle.element_envelope.specs.Arches.{Arches}
-use Rattle.element_envelope.proofs.SumRoom.{pieces_room}
-use Rattle.element_envelope.proofs.ArchBends.{sums_on_grids}
+use Rattle.curve_conv.specs.upp_limits.specs.Limits.{Sizes}
+use Rattle.curve_conv.specs.affine_segment.specs.Pieces.{Each, StartsAtZero}
+use Rattle.curve_conv.specs.affine_segment.proofs.PieceOrder.{each_map}
+use Rattle.curve_conv.specs.curve_call.proofs.TailGrids.{TailOf}
+use Rattle.curve_conv.specs.curve_call.specs.declared.frame.Frame.{Frame}
+use Rattle.curve_conv.specs.curve_call.specs.Answering.{IsAnswerWindow}
+use Rattle.curve_conv.specs.curve_pointwise.proofs.LatticeCalls.{from_whole}
+use Rattle.curve_conv.specs.element_envelope.specs.SumWindows.{SumValueAt, SumPiece, SumWindow}
+use Rattle.curve_conv.specs.element_envelope.specs.Arches.{Arches}
+use Rattle.curve_conv.specs.element_envelope.proofs.SumRoom.{pieces_room}
+use Rattle.curve_conv.specs.element_envelope.proofs.ArchBends.{sums_on_grids}
 use Rattle.subadd_closure.specs.Starting.{first_at}
 use Rattle.subadd_closure.proofs.Starts.{read_past}
 use Rattle.subadd_closure.proofs.Windowed.{IsConvolved, stands_of, arches_of, from_some}
-use Rattle.curve_pointwise.proofs.LatticeAnswers.{back}
+use Rattle.curve_conv.specs.curve_pointwise.proofs.LatticeAnswers.{back}
 use Rattle.curve_conv.proofs.ConvolveAnswers.{rise_room}
 
 -- ---- the window

@@ -8,16 +8,16 @@ use Rattle.rational.specs.declared.Extended.TheVariants.{Fin}
 use Rattle.rational.proofs.Linear.{with2, with3}
 use Rattle.rational.proofs.Laws.{le_or_lt, le_refl, lt_le_trans}
 use Rattle.rational.proofs.Whole.{periods_low}
-use Rattle.affine_segment.specs.declared.line.Piece.{Piece}
-use Rattle.upp_curve.specs.Curve.{repeated}
-use Rattle.affine_segment.specs.Reading.{read}
+use Rattle.curve_conv.specs.affine_segment.specs.declared.line.Piece.{Piece}
+use Rattle.curve_conv.specs.upp_curve.specs.Curve.{repeated}
+use Rattle.curve_conv.specs.affine_segment.specs.Reading.{read}
 use Rattle.min_plus.specs.Functions.{zero_q}
-use Rattle.upp_curve.specs.Steady.{Repeats, last_line}
-use Rattle.affine_segment.specs.Pieces.{Each, HasStart, RisesFrom, StartsAtZero}
-use Rattle.upp_curve.specs.Normal.{NoMerge}
-use Rattle.upp_curve.specs.Readable.{EachFits}
-use Rattle.affine_segment.proofs.PieceIn.{value_past, read_go, read_one, read_stop, value_by}
-use Rattle.upp_curve.proofs.Repeats.{repeated_first}
+use Rattle.curve_conv.specs.upp_curve.specs.Steady.{Repeats, last_line}
+use Rattle.curve_conv.specs.affine_segment.specs.Pieces.{Each, HasStart, RisesFrom, StartsAtZero}
+use Rattle.curve_conv.specs.upp_curve.specs.Normal.{NoMerge}
+use Rattle.curve_conv.specs.upp_curve.specs.Readable.{EachFits}
+use Rattle.curve_conv.specs.affine_segment.proofs.PieceIn.{value_past, read_go, read_one, read_stop, value_by}
+use Rattle.curve_conv.specs.upp_curve.proofs.Repeats.{repeated_first}
 use Rattle.subadd_closure.specs.Starting.{first_at}
 use Rattle.subadd_closure.proofs.EachParts.{repeated_at}
 

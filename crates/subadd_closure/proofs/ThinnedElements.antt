@@ -8,22 +8,22 @@ use Rattle.rational.specs.declared.Extended.TheVariants.{Fin}
 use Rattle.rational.proofs.Linear.{with4}
 use Rattle.rational.proofs.Laws.{le_or_lt, le_trans, le_of_lt, le_lt_trans, antisym, le_of_not_lt, mul_le_mul_right}
 use Rattle.rational.proofs.ExtendedOrder.{le_ext_trans, same_le_ext}
-use Rattle.affine_segment.specs.declared.line.Line.{Line}
-use Rattle.affine_segment.specs.declared.line.Piece.{Piece}
-use Rattle.affine_segment.specs.declared.element.Element.{Element}
-use Rattle.affine_segment.specs.declared.element.Element.TheVariants.{Open}
-use Rattle.affine_segment.specs.Values.{line_at, line_value}
-use Rattle.affine_segment.specs.Reading.{read, piece_in, piece_value}
-use Rattle.affine_segment.specs.Pieces.{Each, RisesFrom, StartsAtZero}
-use Rattle.affine_segment.proofs.PieceIn.{piece_in_stop, piece_in_go, piece_in_end, read_is, value_past, value_by}
+use Rattle.curve_conv.specs.affine_segment.specs.declared.line.Line.{Line}
+use Rattle.curve_conv.specs.affine_segment.specs.declared.line.Piece.{Piece}
+use Rattle.curve_conv.specs.affine_segment.specs.declared.element.Element.{Element}
+use Rattle.curve_conv.specs.affine_segment.specs.declared.element.Element.TheVariants.{Open}
+use Rattle.curve_conv.specs.affine_segment.specs.Values.{line_at, line_value}
+use Rattle.curve_conv.specs.affine_segment.specs.Reading.{read, piece_in, piece_value}
+use Rattle.curve_conv.specs.affine_segment.specs.Pieces.{Each, RisesFrom, StartsAtZero}
+use Rattle.curve_conv.specs.affine_segment.proofs.PieceIn.{piece_in_stop, piece_in_go, piece_in_end, read_is, value_past, value_by}
 use Rattle.min_plus.specs.Functions.{zero_q}
-use Rattle.affine_segment.proofs.NextPiece.{next_piece}
-use Rattle.upp_curve.specs.Curve.{SpecCurve, value_at}
-use Rattle.upp_curve.specs.Curves.{IsCurve}
-use Rattle.upp_curve.specs.Unrolled.{unroll, upto}
-use Rattle.upp_curve.proofs.Unique.{upto_none, upto_some, upto_end}
-use Rattle.upp_normal.proofs.Below.{read_upto, read_from_cut, unroll_reads}
-use Rattle.element_envelope.specs.PieceElements.{Among}
+use Rattle.curve_conv.specs.affine_segment.proofs.NextPiece.{next_piece}
+use Rattle.curve_conv.specs.upp_curve.specs.Curve.{SpecCurve, value_at}
+use Rattle.curve_conv.specs.upp_curve.specs.Curves.{IsCurve}
+use Rattle.curve_conv.specs.upp_curve.specs.Unrolled.{unroll, upto}
+use Rattle.curve_conv.specs.upp_curve.proofs.Unique.{upto_none, upto_some, upto_end}
+use Rattle.curve_conv.specs.upp_normal.proofs.Below.{read_upto, read_from_cut, unroll_reads}
+use Rattle.curve_conv.specs.element_envelope.specs.PieceElements.{Among}
 use Rattle.subadd_closure.specs.Thinned.{LiesUnder, IsOver, IsThinned}
 
 -- ---- numbers

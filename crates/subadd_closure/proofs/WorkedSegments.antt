@@ -6,12 +6,12 @@ use Rattle.rational.specs.Rational.{frac, int, neg_ℚ, inv_ℚ, ◌+ℚ◌, ◌
 use Rattle.rational.specs.Whole.{whole_part}
 use Rattle.rational.specs.declared.Extended.TheVariants.{Fin, Inf}
 use Rattle.rational.proofs.Linear.{with1}
-use Rattle.affine_segment.specs.declared.line.Line.{Line}
+use Rattle.curve_conv.specs.affine_segment.specs.declared.line.Line.{Line}
 use Rattle.min_plus.specs.Functions.{zero_q}
-use Rattle.affine_segment.specs.Fits.{LineFitsAt}
-use Rattle.closure_elements.specs.ElementCurves.{IsStretch}
-use Rattle.closure_elements.specs.ElementAnswers.{IsOpenPart}
-use Rattle.closure_elements.proofs.MeetNumbers.{stretches_meet}
+use Rattle.curve_conv.specs.affine_segment.specs.Fits.{LineFitsAt}
+use Rattle.subadd_closure.specs.ElementCurves.{IsStretch}
+use Rattle.subadd_closure.specs.ElementAnswers.{IsOpenPart}
+use Rattle.subadd_closure.proofs.MeetNumbers.{stretches_meet}
 
 -- ---- 1 between 2 and 3
 abbrev pub constant_line : Line

@@ -12,3 +12,13 @@ pub mod FoldMemory
 pub mod QuickBounds
 pub mod SegmentLimits
 pub mod Thinned
+pub mod Heavy
+pub mod ElementCurves
+pub mod PieceFits
+pub mod ElementAnswers
+pub mod MeetLaws
+pub mod HeavyLaws
+pub mod Lattices
+pub mod ElementClosures
+pub use Rattle.closure_laws as closure_laws
+pub use Rattle.curve_conv.specs.curve_call as curve_call

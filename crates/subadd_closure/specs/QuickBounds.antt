@@ -7,9 +7,9 @@ use Rattle.rational.specs.Extended.{Ext, ◌≤ₑ◌, ◌+ₑ◌}
 use Rattle.rational.specs.declared.Extended.TheVariants.{Fin, Inf}
 use Rattle.min_plus.specs.Convolution.{Split}
 use Rattle.min_plus.specs.Functions.{zero_q}
-use Rattle.upp_curve.specs.Curve.{SpecCurve, value_at}
-use Rattle.upp_curve.specs.Steady.{steady, rate, rise_over}
-use Rattle.curve_least.specs.Bounds.{own_or, IsFiniteLate}
+use Rattle.curve_conv.specs.upp_curve.specs.Curve.{SpecCurve, value_at}
+use Rattle.curve_conv.specs.upp_curve.specs.Steady.{steady, rate, rise_over}
+use Rattle.curve_conv.specs.curve_call.specs.Bounds.{own_or, IsFiniteLate}
 use Rattle.curve_conv.specs.LateBounds.{IsDepth}
 
 -- ---- up

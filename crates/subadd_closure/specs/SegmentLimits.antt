@@ -3,16 +3,16 @@ use Rattle.std.specs.Prelude.{◌≡◌, ℕ, ◌+◌, ◌*◌, ◌^◌, ◌<◌
 use Rattle.rational.specs.Rational.{ℚ, ◌-ℚ◌, ◌/ℚ◌, neg_ℚ}
 use Rattle.rational.specs.Ratio.{IsSmall, SumFits}
 use Rattle.rational.specs.Extended.{Ext}
-use Rattle.affine_segment.specs.declared.line.Line.{Line}
-use Rattle.affine_segment.specs.declared.element.Element.{Element}
-use Rattle.affine_segment.specs.declared.element.Element.TheVariants.{Open}
-use Rattle.upp_limits.specs.declared.op_kind.OpFault.{OpFault}
-use Rattle.upp_limits.specs.declared.op_kind.OpFault.TheVariants.{TooMany, TooWide, NoMemory}
-use Rattle.upp_curve.specs.Curve.{SpecCurve}
-use Rattle.upp_limits.specs.Limits.{own_gauge}
-use Rattle.closure_elements.specs.ElementCurves.{IsStretch}
+use Rattle.curve_conv.specs.affine_segment.specs.declared.line.Line.{Line}
+use Rattle.curve_conv.specs.affine_segment.specs.declared.element.Element.{Element}
+use Rattle.curve_conv.specs.affine_segment.specs.declared.element.Element.TheVariants.{Open}
+use Rattle.curve_conv.specs.upp_limits.specs.declared.op_kind.OpFault.{OpFault}
+use Rattle.curve_conv.specs.upp_limits.specs.declared.op_kind.OpFault.TheVariants.{TooMany, TooWide, NoMemory}
+use Rattle.curve_conv.specs.upp_curve.specs.Curve.{SpecCurve}
+use Rattle.curve_conv.specs.upp_limits.specs.Limits.{own_gauge}
+use Rattle.subadd_closure.specs.ElementCurves.{IsStretch}
 use Rattle.subadd_closure.specs.Folds.{segment_number, SegmentWithin}
-use Rattle.element_envelope.specs.PieceElements.{elements_of, Among}
+use Rattle.curve_conv.specs.element_envelope.specs.PieceElements.{elements_of, Among}
 use Rattle.subadd_closure.specs.CurveParts.{pieces_end}
 
 -- e is a point or an open segment of f

@@ -3,15 +3,15 @@
 use Rattle.std.specs.Prelude.{◌≡◌, ℕ, ◌+◌, Option, Some, None, Result, Ok, Err}
 use Rattle.rational.specs.Rational.{ℚ, ◌/ℚ◌, ◌<ℚ◌}
 use Rattle.rational.specs.Ratio.{IsSmall}
-use Rattle.affine_segment.specs.declared.element.Element.{Element}
-use Rattle.upp_limits.specs.declared.op_kind.OpKind.TheVariants.{Min, Convolve}
-use Rattle.upp_limits.specs.declared.op_kind.OpFault.{OpFault}
-use Rattle.upp_limits.specs.declared.op_kind.OpFault.TheVariants.{NoMemory}
-use Rattle.upp_curve.specs.Curve.{SpecCurve}
+use Rattle.curve_conv.specs.affine_segment.specs.declared.element.Element.{Element}
+use Rattle.curve_conv.specs.upp_limits.specs.declared.op_kind.OpKind.TheVariants.{Min, Convolve}
+use Rattle.curve_conv.specs.upp_limits.specs.declared.op_kind.OpFault.{OpFault}
+use Rattle.curve_conv.specs.upp_limits.specs.declared.op_kind.OpFault.TheVariants.{NoMemory}
+use Rattle.curve_conv.specs.upp_curve.specs.Curve.{SpecCurve}
 use Rattle.min_plus.specs.Functions.{zero_q}
-use Rattle.curve_call.specs.Calls.{Applies, Then}
-use Rattle.closure_elements.specs.ElementAnswers.{IsElementClosure}
-use Rattle.closure_elements.specs.Lattices.{lattice_curve, origin_curve}
+use Rattle.curve_conv.specs.curve_call.specs.Calls.{Applies, Then}
+use Rattle.subadd_closure.specs.ElementAnswers.{IsElementClosure}
+use Rattle.subadd_closure.specs.Lattices.{lattice_curve, origin_curve}
 
 -- what P says; or want of memory, before a call of P is made
 pub data OrWants {A : Type 0} (P : Result A OpFault → Type 0) (r : Result A OpFault) : Type 0 where

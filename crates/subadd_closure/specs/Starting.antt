@@ -2,12 +2,12 @@
 use Rattle.std.specs.Prelude.{◌≡◌, List, [], ◌∷◌}
 use Rattle.rational.specs.Rational.{ℚ, ◌<ℚ◌}
 use Rattle.rational.specs.Extended.{Ext}
-use Rattle.affine_segment.specs.declared.line.Piece.{Piece}
-use Rattle.upp_curve.specs.declared.curve.Tail.{Tail}
-use Rattle.upp_curve.specs.declared.curve.Tail.TheVariants.{Periodic, Affine, Infinite}
-use Rattle.upp_curve.specs.Curve.{SpecCurve, value_at}
+use Rattle.curve_conv.specs.affine_segment.specs.declared.line.Piece.{Piece}
+use Rattle.curve_conv.specs.upp_curve.specs.declared.curve.Tail.{Tail}
+use Rattle.curve_conv.specs.upp_curve.specs.declared.curve.Tail.TheVariants.{Periodic, Affine, Infinite}
+use Rattle.curve_conv.specs.upp_curve.specs.Curve.{SpecCurve, value_at}
 use Rattle.min_plus.specs.Functions.{zero_q}
-use Rattle.upp_curve.specs.Steady.{Repeats}
+use Rattle.curve_conv.specs.upp_curve.specs.Steady.{Repeats}
 
 -- the first of some pieces, from 0 on, with the value v at its start
 abbrev pub first_at : Ext → List Piece → List Piece

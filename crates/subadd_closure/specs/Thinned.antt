@@ -4,17 +4,17 @@ use Rattle.std.specs.Prelude.{◌⊎◌, Bool, true, false, List}
 use Rattle.rational.specs.Rational.{ℚ, ◌≤ℚ◌, ◌<ℚ◌}
 use Rattle.rational.specs.Extended.{Ext, ◌≤ₑ◌}
 use Rattle.rational.specs.declared.Extended.TheVariants.{Fin}
-use Rattle.affine_segment.specs.declared.line.Line.{Line}
-use Rattle.affine_segment.specs.declared.line.Piece.{Piece}
-use Rattle.affine_segment.specs.declared.element.Element.{Element}
-use Rattle.affine_segment.specs.declared.element.Element.TheVariants.{Point, Open}
-use Rattle.affine_segment.specs.Elements.{Covers, level}
-use Rattle.affine_segment.specs.Reading.{piece_value}
-use Rattle.affine_segment.specs.Values.{line_at}
+use Rattle.curve_conv.specs.affine_segment.specs.declared.line.Line.{Line}
+use Rattle.curve_conv.specs.affine_segment.specs.declared.line.Piece.{Piece}
+use Rattle.curve_conv.specs.affine_segment.specs.declared.element.Element.{Element}
+use Rattle.curve_conv.specs.affine_segment.specs.declared.element.Element.TheVariants.{Point, Open}
+use Rattle.curve_conv.specs.affine_segment.specs.Elements.{Covers, level}
+use Rattle.curve_conv.specs.affine_segment.specs.Reading.{piece_value}
+use Rattle.curve_conv.specs.affine_segment.specs.Values.{line_at}
 use Rattle.min_plus.specs.Convolution.{IsSubadditive}
 use Rattle.min_plus.specs.Functions.{zero_q}
-use Rattle.upp_curve.specs.Curve.{SpecCurve, value_at}
-use Rattle.element_envelope.specs.PieceElements.{Among}
+use Rattle.curve_conv.specs.upp_curve.specs.Curve.{SpecCurve, value_at}
+use Rattle.curve_conv.specs.element_envelope.specs.PieceElements.{Among}
 
 -- ---- what is left out
 -- the piece, from its start on, is nowhere above the line

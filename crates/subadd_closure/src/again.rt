@@ -3,28 +3,28 @@
 ghost use Rattle.std.specs.Prelude.{◌≡◌, IfOk};
 ghost use Rattle.rational.specs.Extended.{◌<ₑ◌, ◌≤ₑ◌};
 ghost use Rattle.rational.specs.declared.Extended.TheVariants.{Fin};
-ghost use Rattle.affine_segment.specs.Reading.{read};
+ghost use Rattle.curve_conv.specs.affine_segment.specs.Reading.{read};
 ghost use Rattle.min_plus.specs.Convolution.{IsSubadditive};
 ghost use Rattle.min_plus.specs.Functions.{zero_q};
-ghost use Rattle.upp_curve.specs.Curve.{value_at};
-ghost use Rattle.upp_curve.specs.Curves.{IsCurve};
-ghost use Rattle.upp_curve.specs.Steady.{rate, rise_over};
-ghost use Rattle.upp_curve.specs.Unrolled.{unroll};
-ghost use Rattle.element_envelope.specs.ConvolutionWindows.{OperandWindows, IsConvolutionWindow};
+ghost use Rattle.curve_conv.specs.upp_curve.specs.Curve.{value_at};
+ghost use Rattle.curve_conv.specs.upp_curve.specs.Curves.{IsCurve};
+ghost use Rattle.curve_conv.specs.upp_curve.specs.Steady.{rate, rise_over};
+ghost use Rattle.curve_conv.specs.upp_curve.specs.Unrolled.{unroll};
+ghost use Rattle.curve_conv.specs.element_envelope.specs.ConvolutionWindows.{OperandWindows, IsConvolutionWindow};
 ghost use Rattle.curve_conv.specs.ConvolveCall.{IsConvolveFrame};
-ghost use Rattle.curve_pointwise.specs.Lattice.{RisesBy};
+ghost use Rattle.curve_conv.specs.curve_pointwise.specs.Lattice.{RisesBy};
 ghost use Rattle.subadd_closure.specs.Thinned.{MayThin};
 
 use crate::thinned::thinned;
-use affine_segment::Piece;
-use curve_call::{Frame, rise_over};
+use curve_conv::affine_segment::Piece;
+use curve_conv::curve_call::{Frame, rise_over};
+use curve_conv::element_envelope::{cut, envelope, window_convolution};
+use curve_conv::fraction128::Frac;
 use curve_conv::is_slower_curve;
-use element_envelope::{cut, envelope, window_convolution};
-use fraction128::Frac;
+use curve_conv::upp_curve::Curve;
+use curve_conv::upp_normal::unrolled;
 use rational::Extended;
 use std::alloc::{AllocError, Global};
-use upp_curve::Curve;
-use upp_normal::unrolled;
 
 // The pieces of the convolution, of which `left` and `right` are the operands' pieces: with the elements of the second
 // left out that are nowhere below the first, where these are at least half.

@@ -2,13 +2,13 @@
 
 ghost use Rattle.std.specs.Prelude.{◌≡◌, ◌+◌, ◌<◌, ◌≤◌, map, length, take, IfOk, IsTrue, Err};
 ghost use Rattle.rational.specs.Rational.{ℚ, ◌≤ℚ◌};
-ghost use Rattle.upp_curve.specs.Curve.{value_at};
+ghost use Rattle.curve_conv.specs.upp_curve.specs.Curve.{value_at};
 ghost use Rattle.min_plus.specs.Convolution.{IsSubadditive, IsSubadditiveClosure};
-ghost use Rattle.upp_curve.specs.Curves.{IsCurve};
+ghost use Rattle.curve_conv.specs.upp_curve.specs.Curves.{IsCurve};
 ghost use Rattle.min_plus.specs.Functions.{IsFinite, IsNonnegative, zero_q};
-ghost use Rattle.upp_limits.specs.declared.op_kind.OpKind.TheVariants.{Convolve};
-ghost use Rattle.element_envelope.specs.PieceElements.{elements_of};
-ghost use Rattle.curve_call.specs.Calls.{Applies, Then};
+ghost use Rattle.curve_conv.specs.upp_limits.specs.declared.op_kind.OpKind.TheVariants.{Convolve};
+ghost use Rattle.curve_conv.specs.element_envelope.specs.PieceElements.{elements_of};
+ghost use Rattle.curve_conv.specs.curve_call.specs.Calls.{Applies, Then};
 ghost use Rattle.closure_laws.specs.ClosureLaws.{ClosureKeeps};
 ghost use Rattle.subadd_closure.specs.CurveParts.{pieces_end, part_of};
 ghost use Rattle.subadd_closure.specs.Folds.{PartAnswer, PartsAnswer, CloseAnswer};
@@ -21,15 +21,15 @@ use crate::overlaps::{is_within, own_gauge};
 use crate::part::elements;
 use crate::part_stars::element_star;
 use crate::star_convolution::convolve_counted;
-use affine_segment::Element;
-use curve_call::intact;
-use fraction128::Frac;
+use curve_conv::affine_segment::Element;
+use curve_conv::curve_call::intact;
+use curve_conv::fraction128::Frac;
+use curve_conv::upp_curve::Curve;
+use curve_conv::upp_limits::OpFault;
 use rational::Extended;
 use std::alloc::Global;
 use std::sync::ledger::Ledger;
 use steps::Steps;
-use upp_curve::Curve;
-use upp_limits::OpFault;
 
 // What the parts so far make, convolved with the star of one more element. Where `next_within` is false, the segment of
 // the next part may be over a limit: then the convolution is counted once it is answered, so that where all calls are

@@ -2,11 +2,11 @@
 
 ghost use Rattle.std.specs.Prelude.{◌≡◌, ◌+◌, IfOk, IsTrue};
 ghost use Rattle.rational.specs.Rational.{◌≤ℚ◌};
-ghost use Rattle.upp_curve.specs.Curve.{value_at};
+ghost use Rattle.curve_conv.specs.upp_curve.specs.Curve.{value_at};
 ghost use Rattle.min_plus.specs.Functions.{IsNonnegative, zero_q};
-ghost use Rattle.upp_limits.specs.declared.op_kind.OpKind.TheVariants.{Convolve};
+ghost use Rattle.curve_conv.specs.upp_limits.specs.declared.op_kind.OpKind.TheVariants.{Convolve};
 ghost use Rattle.curve_conv.specs.ConvolveCall.{IsConvolveFrame};
-ghost use Rattle.curve_call.specs.Calls.{Applies, Then};
+ghost use Rattle.curve_conv.specs.curve_call.specs.Calls.{Applies, Then};
 ghost use Rattle.subadd_closure.specs.StartsAt.{ConvolvesFinitely, ConvolvesPastZero, StartsAt};
 ghost use Rattle.subadd_closure.specs.Thinned.{MayThin};
 
@@ -14,14 +14,14 @@ use crate::again::{slower_rise, window_of};
 use crate::parts::{repeats_start, with_first};
 use crate::star_convolution::{convolve_stars, star_frame};
 use crate::starting::with_start;
-use curve_call::{Frame, answer, intact};
-use fraction128::{Frac, difference};
+use curve_conv::curve_call::{Frame, answer, intact};
+use curve_conv::fraction128::{Frac, difference};
+use curve_conv::upp_curve::Curve;
+use curve_conv::upp_limits::OpFault;
 use rational::Extended;
 use std::alloc::{AllocError, Global};
 use std::sync::ledger::Ledger;
 use steps::Steps;
-use upp_curve::Curve;
-use upp_limits::OpFault;
 
 // Whether the value at 0 is known to be `start`.
 fn begins_at(c: &Curve, start: Frac) -> bool

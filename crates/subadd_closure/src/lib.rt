@@ -4,18 +4,29 @@
 
 mod again;
 mod closing;
+mod element_laws;
 mod from_start;
+mod lattices;
 pub mod laws;
+mod multiples;
 mod overlaps;
 mod part;
 mod part_stars;
 mod parts;
+mod points;
 mod quick_bounds;
+mod segments;
 mod star_convolution;
 mod stars;
 mod starting;
+mod stretches;
 mod subadditive;
 mod thinned;
 
 pub use closing::close;
+pub use curve_conv;
+pub use element_laws::{elements_close, heavy_is_refused, lattice_values, stretches_meet};
+pub use lattices::{lattice, origin};
+pub use points::point_closure;
+pub use segments::segment_closure;
 pub use subadditive::is_subadditive;

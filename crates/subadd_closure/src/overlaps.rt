@@ -4,17 +4,17 @@
 ghost use Rattle.std.specs.Prelude.{◌≡◌, ◌+◌, ◌*◌, ◌<◌, ◌≤◌, ◌^◌, IfOk, IfErr, IsTrue};
 ghost use Rattle.rational.specs.Rational.{◌-ℚ◌, ◌/ℚ◌, ◌<ℚ◌};
 ghost use Rattle.rational.specs.Whole.{whole_part};
-ghost use Rattle.affine_segment.specs.declared.element.Element.TheVariants.{Open};
+ghost use Rattle.curve_conv.specs.affine_segment.specs.declared.element.Element.TheVariants.{Open};
 ghost use Rattle.min_plus.specs.Functions.{zero_q};
 ghost use Rattle.subadd_closure.specs.Folds.{segment_number, SegmentWithin, SegmentCause};
 ghost use Rattle.subadd_closure.specs.SegmentLimits.{IsElementOf, IsOwnGauge, LengthsFit, IsOverLimit, IsOverlap};
 
-use affine_segment::{Element, Line};
-use curve_call::first_window;
-use fraction128::{Ext, Frac, difference, is_less, quotient};
+use curve_conv::affine_segment::{Element, Line};
+use curve_conv::curve_call::first_window;
+use curve_conv::fraction128::{Ext, Frac, difference, is_less, quotient};
+use curve_conv::upp_curve::Curve;
+use curve_conv::upp_limits::{OpFault, OpKind, call_numbers};
 use rational::Extended;
-use upp_curve::Curve;
-use upp_limits::{OpFault, OpKind, call_numbers};
 
 /// The gauge of a curve by itself; None where it is 2^120 or more. No memory is taken.
 pub(crate) fn own_gauge(f: &Curve) -> Option<u128>

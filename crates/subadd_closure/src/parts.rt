@@ -2,15 +2,15 @@
 
 ghost use Rattle.std.specs.Prelude.{◌≡◌, pos, List, ◌∷◌, IsTrue, ◌↔◌};
 ghost use Rattle.rational.specs.Rational.{ℚ, int, ◌+ℚ◌, ◌≤ℚ◌, ◌<ℚ◌, neg_ℚ, le_q};
-ghost use Rattle.affine_segment.specs.Values.{line_value};
-ghost use Rattle.affine_segment.specs.Fits.{ReadFits, LineFitsAt};
-ghost use Rattle.affine_segment.specs.Pieces.{StartsAtZero};
-ghost use Rattle.upp_curve.specs.Readable.{SumFitsAt};
-ghost use Rattle.affine_segment.specs.Reading.{piece_in, piece_value, read};
+ghost use Rattle.curve_conv.specs.affine_segment.specs.Values.{line_value};
+ghost use Rattle.curve_conv.specs.affine_segment.specs.Fits.{ReadFits, LineFitsAt};
+ghost use Rattle.curve_conv.specs.affine_segment.specs.Pieces.{StartsAtZero};
+ghost use Rattle.curve_conv.specs.upp_curve.specs.Readable.{SumFitsAt};
+ghost use Rattle.curve_conv.specs.affine_segment.specs.Reading.{piece_in, piece_value, read};
 ghost use Rattle.subadd_closure.specs.Starting.{first_at};
 
-use affine_segment::{Piece, read};
-use fraction128::{Ext, Frac, difference};
+use curve_conv::affine_segment::{Piece, read};
+use curve_conv::fraction128::{Ext, Frac, difference};
 use rational::Extended;
 
 /// Whether the value a period after 0 is `start`, risen by `rise`.

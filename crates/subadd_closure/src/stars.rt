@@ -4,28 +4,28 @@
 ghost use Rattle.std.specs.Prelude.{◌≡◌, ◌+◌, ◌≤◌, ◌^◌, IfOk, Some, None, Err};
 ghost use Rattle.rational.specs.Rational.{◌<ℚ◌, ◌≤ℚ◌, ◌/ℚ◌};
 ghost use Rattle.rational.specs.Ratio.{IsSmall};
-ghost use Rattle.affine_segment.specs.declared.element.Element.TheVariants.{Point, Open};
+ghost use Rattle.curve_conv.specs.affine_segment.specs.declared.element.Element.TheVariants.{Point, Open};
 ghost use Rattle.min_plus.specs.Functions.{zero_q};
 ghost use Rattle.min_plus.specs.Convolution.{IsSubadditive};
-ghost use Rattle.upp_curve.specs.Curve.{value_at};
-ghost use Rattle.upp_limits.specs.declared.op_kind.OpKind.TheVariants.{Convolve};
-ghost use Rattle.curve_call.specs.Calls.{Applies};
-ghost use Rattle.closure_elements.specs.Lattices.{lattice_curve};
-ghost use Rattle.affine_segment.specs.Fits.{LineFitsAt};
-ghost use Rattle.closure_elements.specs.ElementAnswers.{IsOpenPart};
+ghost use Rattle.curve_conv.specs.upp_curve.specs.Curve.{value_at};
+ghost use Rattle.curve_conv.specs.upp_limits.specs.declared.op_kind.OpKind.TheVariants.{Convolve};
+ghost use Rattle.curve_conv.specs.curve_call.specs.Calls.{Applies};
+ghost use Rattle.subadd_closure.specs.Lattices.{lattice_curve};
+ghost use Rattle.curve_conv.specs.affine_segment.specs.Fits.{LineFitsAt};
+ghost use Rattle.subadd_closure.specs.ElementAnswers.{IsOpenPart};
 ghost use Rattle.subadd_closure.specs.Stars.{Copies, ElementWants, IsPeriodAndRise, Lowers, MakesStar, StarOf, StarWants, turn_work};
 
 use crate::star_convolution::convolve_stars;
-use affine_segment::Line;
-use closure_elements::{lattice, origin, point_closure, segment_closure};
-use curve_call::intact;
-use curve_pointwise::min;
-use fraction128::{Ext, Frac};
+use crate::{lattice, origin, point_closure, segment_closure};
+use curve_conv::affine_segment::Line;
+use curve_conv::curve_call::intact;
+use curve_conv::curve_pointwise::min;
+use curve_conv::fraction128::{Ext, Frac};
+use curve_conv::upp_curve::Curve;
+use curve_conv::upp_limits::OpFault;
 use std::alloc::Global;
 use std::sync::ledger::Ledger;
 use steps::Steps;
-use upp_curve::Curve;
-use upp_limits::OpFault;
 
 // A curve lowered by the point 0 at 0.
 fn lowered<L: Ledger>(alloc: Global, c: &Curve, steps: &mut Steps<L>) -> Result<Curve, OpFault>

@@ -1,14 +1,14 @@
 //! A curve with its value at 0 set to another.
 
 ghost use Rattle.std.specs.Prelude.{◌≡◌, IfOk};
-ghost use Rattle.upp_curve.specs.Curve.{value_at};
+ghost use Rattle.curve_conv.specs.upp_curve.specs.Curve.{value_at};
 ghost use Rattle.subadd_closure.specs.Starting.{first_at, started_at, KeepsTail, IsStartedAt};
 
-use affine_segment::Piece;
-use fraction128::{Ext, Frac};
+use curve_conv::affine_segment::Piece;
+use curve_conv::fraction128::{Ext, Frac};
+use curve_conv::upp_curve::Curve;
 use rational::Extended;
 use std::alloc::{AllocError, Global};
-use upp_curve::Curve;
 
 // The pieces with the value v at the start of the first.
 fn first_at(alloc: Global, pieces: &[Piece], v: Frac) -> Result<Vec<Piece>, AllocError>

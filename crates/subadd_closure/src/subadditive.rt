@@ -1,18 +1,18 @@
 //! Whether a curve is subadditive.
 
 ghost use Rattle.std.specs.Prelude.{◌≡◌, ◌+◌, ◌≤◌, ◌↔◌, IfOk, IsTrue, Err};
-ghost use Rattle.upp_curve.specs.Curve.{value_at};
+ghost use Rattle.curve_conv.specs.upp_curve.specs.Curve.{value_at};
 ghost use Rattle.min_plus.specs.Convolution.{IsSubadditive};
 ghost use Rattle.subadd_closure.specs.Tests.{TestsSubadditive, TestWants};
 
-use curve_call::intact;
 use curve_conv::convolve;
-use curve_pointwise::min;
+use curve_conv::curve_call::intact;
+use curve_conv::curve_pointwise::min;
+use curve_conv::upp_curve::{Curve, equal};
+use curve_conv::upp_limits::OpFault;
 use std::alloc::Global;
 use std::sync::ledger::Ledger;
 use steps::Steps;
-use upp_curve::{Curve, equal};
-use upp_limits::OpFault;
 
 /// Whether f(s + u) is at most f(s) + f(u) for all times s and u from 0 on (Le Boudec and Thiran, chapter 3); f may be
 /// infinite anywhere. Two operators, one step each: the convolution of f with itself, and the lesser of f and that,

@@ -36,21 +36,21 @@ use Rattle.net_cells.specs.Answers.{AnswersFrom}
 use Rattle.net_cells.proofs.Lists.{map_has}
 use Rattle.net_cells.proofs.LeavesOf.{parts_leaves}
 use Rattle.net_cells.proofs.Precedes.{some_hop}
-use Rattle.cell_operators.specs.Shapes.{Rises, Serving, Grows}
-use Rattle.cell_operators.proofs.Meeting.{Meets, curve_map, curve_holds, has_curve, number_from, sum_leaf, served_leaf}
-use Rattle.cell_operators.proofs.Shapes.{in_rises, cross_rises, total_rises, higher_rises, queue_served, hop_served, residual_grows, path_grows, queue_delay_ahead, hop_delay_ahead, IsServerAt, server_there, service_grows}
+use Rattle.cell_eval.specs.Shapes.{Rises, Serving, Grows}
+use Rattle.cell_eval.proofs.Meeting.{Meets, curve_map, curve_holds, has_curve, number_from, sum_leaf, served_leaf}
+use Rattle.cell_eval.proofs.Shapes.{in_rises, cross_rises, total_rises, higher_rises, queue_served, hop_served, residual_grows, path_grows, queue_delay_ahead, hop_delay_ahead, IsServerAt, server_there, service_grows}
 use Rattle.curve_pointwise.specs.Shifting.{IsAhead}
-use Rattle.curve_pointwise.proofs.ExistingLattices.{lower_answered, above_answered}
-use Rattle.curve_pointwise.proofs.ExistingLevels.{minus_answered}
-use Rattle.curve_pointwise.proofs.ExistingMoves.{scale_answered, shift_answered}
-use Rattle.curve_running.proofs.ExistingRuns.{supremum_answered}
-use Rattle.leftover_existence.proofs.LeftOvers.{left_over_answered}
-use Rattle.convolution_existence.proofs.Convolutions.{convolution_answered}
-use Rattle.curve_deconv.proofs.Existing.{deconvolution_answered}
-use Rattle.service_existence.specs.Found.{HasAnswerOf, CallsExist}
-use Rattle.service_existence.specs.Formulas.{GivesCurve, GivesNumber, CallsAreFound}
-use Rattle.service_existence.proofs.InTurn.{call_found}
-use Rattle.service_existence.proofs.Services.{by_priority, by_deficit}
+use Rattle.curve_existence.proofs.Lattices.{lower_answered, above_answered}
+use Rattle.curve_existence.proofs.Levels.{minus_answered}
+use Rattle.curve_existence.proofs.Moves.{scale_answered, shift_answered}
+use Rattle.curve_existence.proofs.Runs.{supremum_answered}
+use Rattle.curve_existence.proofs.LeftOvers.{left_over_answered}
+use Rattle.curve_existence.proofs.Convolutions.{convolution_answered}
+use Rattle.curve_existence.proofs.Deconvolutions.{deconvolution_answered}
+use Rattle.table_existence.specs.Found.{HasAnswerOf, CallsExist}
+use Rattle.table_existence.specs.Formulas.{GivesCurve, GivesNumber, CallsAreFound}
+use Rattle.table_existence.proofs.InTurn.{call_found}
+use Rattle.table_existence.proofs.Services.{by_priority, by_deficit}
 use Rattle.simulated_sizes.specs.Laws.{AreCurves}
 use Rattle.table_existence.proofs.Sound.{IsSound, service_curve}
 use Rattle.table_existence.proofs.Found.{IsArriving, IsFiniteCurve, IsServing, CurveIsFound, NumberIsFound, then_found, then_number_found, value_found, number_found, made_found, less_found, horizontal_found, vertical_found}

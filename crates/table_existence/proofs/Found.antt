@@ -25,14 +25,14 @@ use Rattle.net_cells.specs.CellFormulas.{less}
 use Rattle.net_cells.specs.Means.{Means}
 use Rattle.net_cells.specs.Answers.{AnswersFrom, Deviates}
 use Rattle.net_cells.proofs.AnswersMean.{answers_mean}
-use Rattle.answer_existence.specs.Answered.{HasAnswer}
-use Rattle.curve_deviation.specs.Existing.{Measures}
-use Rattle.curve_deviation.proofs.ExistingVerticals.{vertical_answered}
-use Rattle.curve_pointwise.proofs.ExistingLevels.{minus_answered}
-use Rattle.deviation_existence.proofs.Horizontals.{horizontal_answered}
-use Rattle.service_existence.specs.Found.{HasAnswerOf}
-use Rattle.service_existence.specs.Formulas.{GivesCurve, GivesNumber, CallsAreFound}
-use Rattle.service_existence.proofs.InTurn.{call_found}
+use Rattle.curve_existence.specs.Answered.{HasAnswer}
+use Rattle.curve_existence.specs.Verticals.{Measures}
+use Rattle.curve_existence.proofs.Verticals.{vertical_answered}
+use Rattle.curve_existence.proofs.Levels.{minus_answered}
+use Rattle.curve_existence.proofs.Horizontals.{horizontal_answered}
+use Rattle.table_existence.specs.Found.{HasAnswerOf}
+use Rattle.table_existence.specs.Formulas.{GivesCurve, GivesNumber, CallsAreFound}
+use Rattle.table_existence.proofs.InTurn.{call_found}
 
 -- ---- sorts of curves
 abbrev pub IsArriving : SpecCurve → Type 0

@@ -34,7 +34,7 @@ use Rattle.net_cells.specs.Means.{MeansFrom, IsSumOnto, IsSumOf, IsPriorityCurve
 use Rattle.net_cells.specs.FirstOver.{IsAnswered, AnswersAll}
 use Rattle.net_cells.proofs.AnswersMean.{answers_mean}
 use Rattle.net_cells.proofs.Precedes.{leaf_in_front}
-use Rattle.service_existence.specs.Formulas.{EachIsCurve}
+use Rattle.table_existence.specs.Formulas.{EachIsCurve}
 use Rattle.simulated_sizes.specs.Laws.{AreCurves}
 
 abbrev pub IsSound : Meaning → Type 0

@@ -32,12 +32,12 @@ use Rattle.net_cells.specs.Formulas.{Formula, value_of, made}
 use Rattle.net_cells.specs.CellFormulas.{sum_from, sum_of_cells, part_sum, with_part, parts_sum}
 use Rattle.net_cells.proofs.Lists.{map_has}
 use Rattle.net_cells.proofs.Stored.{flow_kept}
-use Rattle.curve_pointwise.proofs.ExistingSums.{sum_answered}
-use Rattle.curve_pointwise.proofs.ExistingLattices.{lower_answered}
-use Rattle.service_existence.specs.Found.{HasAnswerOf}
-use Rattle.service_existence.specs.Formulas.{EachIsCurve, CallsAreFound}
-use Rattle.service_existence.proofs.InTurn.{call_found}
-use Rattle.service_existence.proofs.Sums.{sums_of}
+use Rattle.curve_existence.proofs.Sums.{sum_answered}
+use Rattle.curve_existence.proofs.Lattices.{lower_answered}
+use Rattle.table_existence.specs.Found.{HasAnswerOf}
+use Rattle.table_existence.specs.Formulas.{EachIsCurve, CallsAreFound}
+use Rattle.table_existence.proofs.InTurn.{call_found}
+use Rattle.table_existence.proofs.OperatorSums.{sums_of}
 use Rattle.table_existence.proofs.Sound.{zero_is, curves_push}
 use Rattle.table_existence.proofs.Found.{CurveIsFound, then_found, value_found, made_found}
 

@@ -8,9 +8,9 @@ use Rattle.net_model.specs.Orders.{IsOrder}
 use Rattle.net_cells.proofs.Precedes.{in_front, leaf_in_front}
 use Rattle.net_cells.proofs.Tables.{answered_meets, answers_meet, closed_front}
 use Rattle.net_cells.specs.CellFormulas.{formula}
-use Rattle.service_existence.specs.Tables.{FormulasAreFound}
-use Rattle.service_existence.proofs.Formulas.{formulas}
-use Rattle.service_existence.proofs.Tables.{tables}
+use Rattle.table_existence.specs.Tables.{FormulasAreFound}
+use Rattle.table_existence.proofs.Formulas.{formulas}
+use Rattle.table_existence.proofs.OrderedTables.{tables}
 use Rattle.simulated_sizes.specs.Laws.{AreCurves}
 use Rattle.table_existence.specs.Networks.{NetworksHaveTables, TablesOrLimits}
 use Rattle.table_existence.proofs.Sound.{front_sound}

@@ -8,7 +8,7 @@ use Rattle.net_cells.specs.declared.cell.Cell.{Cell}
 use Rattle.net_cells.specs.Meanings.{CellTable}
 use Rattle.net_cells.specs.Equations.{MeetsEquations}
 use Rattle.net_cells.specs.FirstOver.{FirstOver}
-use Rattle.service_existence.specs.Tables.{TableOrLimit}
+use Rattle.table_existence.specs.Tables.{TableOrLimit}
 use Rattle.simulated_sizes.specs.Laws.{AreCurves}
 
 -- no cell is over a limit

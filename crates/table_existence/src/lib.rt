@@ -3,4 +3,7 @@
 
 mod laws;
 
-pub use laws::{networks_have_tables, tables_or_limits};
+pub use laws::{
+    curve_sums_exist, formulas_have_answers, networks_have_tables, number_sums_exist,
+    services_exist, tables_exist, tables_or_limits,
+};

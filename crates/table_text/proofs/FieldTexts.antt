@@ -2,12 +2,12 @@
 use Rattle.std.proofs.Common.{◌≡◌, ℕ, zero, suc, ℤ, pos, neg_ℤ, ◌^◌, ◌-◌, ◌≤◌, ◌<◌, nat_lt, min, Bool, true, false, List, Option, None, refl, sym, ap, subst, arith, ◌∙◌}
 use Rattle.std.specs.Str.Parse.{digits_value, starts_with_minus}
 use Rattle.std.proofs.lemmas.Bool.Decides.{nat_tests}
-use Rattle.rational.specs.Gauge.{cap}
-use Rattle.rational.specs.Rational.{ℚ, lt_q, ◌≤ℚ◌}
-use Rattle.rational.proofs.Over.{lt_q_out}
-use Rattle.rational.proofs.Laws.{le_of_not_lt}
-use Rattle.min_plus.specs.Functions.{zero_q}
-use Rattle.fraction128.specs.Text.{signed_value, is_numeral, unsigned_text}
+use Rattle.plain_text.specs.rational.specs.Gauge.{cap}
+use Rattle.plain_text.specs.rational.specs.Rational.{ℚ, lt_q, ◌≤ℚ◌}
+use Rattle.plain_text.specs.rational.proofs.Over.{lt_q_out}
+use Rattle.plain_text.specs.rational.proofs.Laws.{le_of_not_lt}
+use Rattle.net_model.specs.min_plus.specs.Functions.{zero_q}
+use Rattle.plain_text.specs.fraction128.specs.Text.{signed_value, is_numeral, unsigned_text}
 use Rattle.table_text.specs.Fields.{in_64_bits, whole_in}
 
 -- ---- past 64 bits

@@ -8,8 +8,8 @@ use Rattle.std.specs.Str.Parse.{digits_value}
 use Rattle.std.proofs.lemmas.Bool.{eq-eqb, ne_eqb}
 use Rattle.std.proofs.lemmas.Bool.Decides.{nat_tests}
 use Rattle.std.proofs.lemmas.Str.{IsUtf8-from_ascii}
-use Rattle.rational.specs.Gauge.{cap}
-use Rattle.fraction128.specs.Text.{is_numeral}
+use Rattle.plain_text.specs.rational.specs.Gauge.{cap}
+use Rattle.plain_text.specs.fraction128.specs.Text.{is_numeral}
 use Rattle.net_model.specs.Names.{is_name_byte}
 use Rattle.table_text.specs.declared.fault.TableKind.{TableKind}
 use Rattle.table_text.specs.declared.fault.TableKind.TheVariants.{T1, T2, T3, T4, T5, T6, T7, NoMemory}

@@ -4,7 +4,7 @@ use Rattle.table_text.specs.declared.fault.TableKind.{TableKind}
 use Rattle.table_text.specs.declared.fault.TableKind.TheVariants.{T1, T2, T3, T4, NoMemory}
 use Rattle.table_text.specs.declared.trace_rows.TraceWord.{TraceWord}
 use Rattle.table_text.specs.declared.trace_rows.TraceWord.TheVariants as words
-use Rattle.rational.specs.Rational.{lt_q}
+use Rattle.plain_text.specs.rational.specs.Rational.{lt_q}
 use Rattle.net_model.specs.Networks.{Net}
 use Rattle.table_text.specs.Rows.{Row, Read, and_then, field, is_plain}
 use Rattle.table_text.specs.Fields.{number_in, time_in, bits_in}

@@ -1,7 +1,7 @@
 -- Rows of an edit list: a word, and what the word asks for. Own choice.
 use Rattle.std.specs.Prelude.{◌≡◌, ℕ, ℤ, List, Option, Some, None, ok_or, option_and_then, option_map, map, Result, Ok, Err, not, ◌==◌, length, codes, string_bytes, if◌then◌else◌}
 use Rattle.std.specs.Str.{bytes_eq}
-use Rattle.rational.specs.Rational.{ℚ}
+use Rattle.plain_text.specs.rational.specs.Rational.{ℚ}
 use Rattle.net_model.specs.declared.edit.Edit.{Edit}
 use Rattle.net_model.specs.declared.edit.Edit.TheVariants as edit
 use Rattle.table_text.specs.declared.fault.TableKind.{TableKind}

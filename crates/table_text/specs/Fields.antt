@@ -3,9 +3,9 @@ use Rattle.std.specs.Prelude.{ℕ, ℤ, pos, negsuc, List, Option, Some, None, �
 use Rattle.std.specs.Option.{option_and_then}
 use Rattle.std.specs.Result.{result_ok}
 use Rattle.std.specs.Str.Parse.{digits_value, starts_with_minus}
-use Rattle.rational.specs.Rational.{ℚ, lt_q}
-use Rattle.min_plus.specs.Functions.{zero_q}
-use Rattle.fraction128.specs.Text.{parse_of, is_numeral, unsigned_text, signed_value}
+use Rattle.plain_text.specs.rational.specs.Rational.{ℚ, lt_q}
+use Rattle.net_model.specs.min_plus.specs.Functions.{zero_q}
+use Rattle.plain_text.specs.fraction128.specs.Text.{parse_of, is_numeral, unsigned_text, signed_value}
 
 -- a number: `p` or `p/q`, as in a file of a network
 abbrev pub number_in : List ℕ → Option ℚ

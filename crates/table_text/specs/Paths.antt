@@ -4,7 +4,7 @@ use Rattle.std.specs.Prelude.{ℕ, ◌+◌, ◌-◌, ◌^◌, min, ◌==◌, ◌
 use Rattle.std.specs.Prelude.{List, [], ◌∷◌, length, map, drop, Option, Some, None, option_map, string_bytes}
 use Rattle.std.specs.List.{list_all, position}
 use Rattle.std.specs.Str.Parse.{digits_value}
-use Rattle.fraction128.specs.Text.{is_numeral, before_at}
+use Rattle.plain_text.specs.fraction128.specs.Text.{is_numeral, before_at}
 use Rattle.net_model.specs.declared.edit.PathEntry.{PathEntry}
 use Rattle.net_model.specs.Names.{is_name_byte, is_colon}
 

@@ -16,8 +16,8 @@ use crate::fields::{number_in, whole_in};
 use crate::paths::path_in;
 use crate::rows::{is_plain, text_at};
 use csv::ByteRecord;
-use fraction128::Frac;
 use net_model::{Edit, PathEntry};
+use plain_text::fraction128::Frac;
 use std::alloc::{AllocError, Global};
 
 fn name_at(alloc: Global, row: &ByteRecord) -> Result<String, AllocError>

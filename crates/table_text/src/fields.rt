@@ -2,13 +2,13 @@
 
 ghost use Rattle.std.specs.Prelude.{◌≡◌, ◌≤◌, IfSome};
 ghost use Rattle.std.specs.Str.Parse.{starts_with_minus};
-ghost use Rattle.rational.specs.Rational.{◌≤ℚ◌};
-ghost use Rattle.fraction128.specs.Text.{unsigned_text, signed_value};
-ghost use Rattle.min_plus.specs.Functions.{zero_q};
+ghost use Rattle.plain_text.specs.rational.specs.Rational.{◌≤ℚ◌};
+ghost use Rattle.plain_text.specs.fraction128.specs.Text.{unsigned_text, signed_value};
+ghost use Rattle.net_model.specs.min_plus.specs.Functions.{zero_q};
 ghost use Rattle.net_model.specs.Accepted.{IsLength};
 ghost use Rattle.table_text.specs.Fields as spec;
 
-use fraction128::{Frac, is_less, read_digits};
+use plain_text::fraction128::{Frac, is_less, read_digits};
 
 const MOST_BITS: i64 = 16_777_216;
 

@@ -20,5 +20,7 @@ pub use laws::{
     edit_faults_are_of_rows, edit_faults_are_one, edits_are_one, faults_are_of_rows,
     faults_are_one, faults_exclude_edits, faults_exclude_traces, traces_are_one,
 };
+pub use net_model;
+pub use plain_text::fraction128;
 pub use rows::{first_rows, is_plain, text_at};
 pub use traces::read_trace;

@@ -5,8 +5,8 @@ ghost use Rattle.table_text.specs.EditRows.{Finds};
 ghost use Rattle.table_text.specs.Paths as spec;
 
 use crate::fault::TableKind;
-use fraction128::read_digits;
 use net_model::{PathEntry, are_name_bytes, find_colon};
+use plain_text::fraction128::read_digits;
 use std::alloc::Global;
 
 fn is_name(text: &[u8]) -> bool

@@ -11,8 +11,8 @@ use crate::fault::TableKind;
 use crate::fields::{bits_in, number_in, time_in};
 use crate::rows::{is_plain, text_at};
 use csv::ByteRecord;
-use fraction128::is_less;
 use net_model::{Network, Stall, TracePacket};
+use plain_text::fraction128::is_less;
 
 /// The words with which rows begin.
 #[derive(Debug, Clone, Copy, PartialEq, Eq)]

@@ -1,7 +1,7 @@
 //! Traces from their text.
 
 ghost use Rattle.std.specs.Prelude.{◌≡◌, ◌⊎◌, ◌++◌, ◌∷◌, [], true, false, All, AllPairs, IfOk, IfErr, OnOk};
-ghost use Rattle.rational.specs.Rational.{◌≤ℚ◌};
+ghost use Rattle.plain_text.specs.rational.specs.Rational.{◌≤ℚ◌};
 ghost use Rattle.csv.specs.Records.{fields_of};
 ghost use Rattle.net_model.specs.Traces.{IsTracePacket, IsStall};
 ghost use Rattle.table_text.specs.declared.fault.TableKind.TheVariants.{T6, NoMemory};
@@ -13,8 +13,8 @@ use crate::fault::{TableFault, TableKind, fault_at};
 use crate::rows::first_rows;
 use crate::trace_rows::{Entry, entry_in};
 use csv::ByteRecord;
-use fraction128::{Frac, is_less};
 use net_model::{Network, Stall, Trace, TracePacket};
+use plain_text::fraction128::{Frac, is_less};
 use std::alloc::Global;
 
 const MOST_ROWS: usize = 10_000;

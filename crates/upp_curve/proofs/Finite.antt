@@ -1,19 +1,19 @@
 -- Pieces that are finite are finite as a function of time, and the other way round.
 use Rattle.std.specs.Prelude.{◌≡◌, pos, List, [], ◌∷◌, Option, Some, None}
 use Rattle.std.proofs.Common.{arith, sym, ap, ◌∙◌, refl, subst, inl, inr}
-use Rattle.affine_segment.specs.rational.specs.Rational.{ℚ, ◌+ℚ◌, ◌-ℚ◌, ◌*ℚ◌, ◌≤ℚ◌, ◌<ℚ◌, int}
-use Rattle.affine_segment.specs.rational.specs.Extended.{Ext, ◌+ₑ◌}
-use Rattle.affine_segment.specs.rational.specs.declared.Extended.TheVariants.{Fin, Inf}
-use Rattle.affine_segment.specs.rational.proofs.Linear.{with2}
-use Rattle.affine_segment.specs.rational.proofs.Laws.{le_refl, le_of_lt, le_or_lt, le_trans, between}
-use Rattle.affine_segment.specs.rational.proofs.MinMax.{le_q_not}
-use Rattle.affine_segment.specs.rational.proofs.Over.{le_q_out}
+use Rattle.min_plus.specs.rational.specs.Rational.{ℚ, ◌+ℚ◌, ◌-ℚ◌, ◌*ℚ◌, ◌≤ℚ◌, ◌<ℚ◌, int}
+use Rattle.min_plus.specs.rational.specs.Extended.{Ext, ◌+ₑ◌}
+use Rattle.min_plus.specs.rational.specs.declared.Extended.TheVariants.{Fin, Inf}
+use Rattle.min_plus.specs.rational.proofs.Linear.{with2}
+use Rattle.min_plus.specs.rational.proofs.Laws.{le_refl, le_of_lt, le_or_lt, le_trans, between}
+use Rattle.min_plus.specs.rational.proofs.MinMax.{le_q_not}
+use Rattle.min_plus.specs.rational.proofs.Over.{le_q_out}
 use Rattle.affine_segment.specs.declared.line.Line.{Line}
 use Rattle.affine_segment.specs.declared.line.Piece.{Piece}
 use Rattle.affine_segment.specs.Values.{line_value}
 use Rattle.upp_curve.specs.declared.shape.End.{End}
 use Rattle.affine_segment.specs.Reading.{piece_in, piece_value}
-use Rattle.affine_segment.specs.rational.specs.Whole.{periods}
+use Rattle.min_plus.specs.rational.specs.Whole.{periods}
 use Rattle.upp_curve.specs.Curve.{repeated}
 use Rattle.affine_segment.specs.Pieces.{Each, RisesFrom}
 use Rattle.upp_curve.specs.Shapes.{IsNumber, IsLine, IsFinitePiece}

@@ -1,11 +1,11 @@
 -- How the first of some pieces is read: at its start, and up to the next start.
-use Rattle.affine_segment.specs.rational.proofs.MinMax.{below_min_in, below_min_out}
+use Rattle.min_plus.specs.rational.proofs.MinMax.{below_min_in, below_min_out}
 use Rattle.std.specs.Prelude.{◌≡◌, List, [], ◌∷◌}
 use Rattle.std.proofs.Common.{ap, ◌∙◌}
-use Rattle.affine_segment.specs.rational.specs.Rational.{ℚ, ◌<ℚ◌}
-use Rattle.affine_segment.specs.rational.specs.Extended.{Ext}
+use Rattle.min_plus.specs.rational.specs.Rational.{ℚ, ◌<ℚ◌}
+use Rattle.min_plus.specs.rational.specs.Extended.{Ext}
 use Rattle.affine_segment.specs.declared.line.Piece.{Piece}
-use Rattle.affine_segment.specs.rational.specs.MinMax.{min_q}
+use Rattle.min_plus.specs.rational.specs.MinMax.{min_q}
 use Rattle.affine_segment.specs.Reading.{piece_in, piece_value}
 use Rattle.affine_segment.specs.Values.{line_value}
 use Rattle.affine_segment.specs.Pieces.{RisesFrom}

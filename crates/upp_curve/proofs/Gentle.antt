@@ -1,16 +1,16 @@
 -- Pieces that join make a function that rises no faster than the steepest of them, and so is continuous where it never falls.
 use Rattle.std.specs.Prelude.{◌≡◌, ℕ, zero, suc, pos, List, [], ◌∷◌, Option, Some, None}
 use Rattle.std.proofs.Common.{arith, sym, ap, ◌∙◌, refl, subst, inl, inr}
-use Rattle.affine_segment.specs.rational.specs.Rational.{ℚ, ◌+ℚ◌, ◌-ℚ◌, ◌*ℚ◌, ◌/ℚ◌, ◌≤ℚ◌, ◌<ℚ◌, int}
-use Rattle.affine_segment.specs.rational.specs.MinMax.{max_q}
-use Rattle.affine_segment.specs.rational.specs.Whole.{periods}
-use Rattle.affine_segment.specs.rational.specs.Extended.{Ext, ◌≤ₑ◌, ◌+ₑ◌}
-use Rattle.affine_segment.specs.rational.specs.declared.Extended.TheVariants.{Fin, Inf}
-use Rattle.affine_segment.specs.rational.proofs.Linear.{with1, with2, with3, with4}
-use Rattle.affine_segment.specs.rational.proofs.Laws.{antisym, le_refl, le_or_lt, le_of_lt, le_trans, le_total, mul_le_mul, mul_le_mul_right, mul_comm, mul_sub, mul_add, add_mul, one_mul, div_mul, not_zero}
-use Rattle.affine_segment.specs.rational.proofs.Quotients.{div_pos}
-use Rattle.affine_segment.specs.rational.proofs.MinMax.{max_q_ge_left, max_q_ge_right}
-use Rattle.affine_segment.specs.rational.proofs.Whole.{periods_small, periods_high, periods_next}
+use Rattle.min_plus.specs.rational.specs.Rational.{ℚ, ◌+ℚ◌, ◌-ℚ◌, ◌*ℚ◌, ◌/ℚ◌, ◌≤ℚ◌, ◌<ℚ◌, int}
+use Rattle.min_plus.specs.rational.specs.MinMax.{max_q}
+use Rattle.min_plus.specs.rational.specs.Whole.{periods}
+use Rattle.min_plus.specs.rational.specs.Extended.{Ext, ◌≤ₑ◌, ◌+ₑ◌}
+use Rattle.min_plus.specs.rational.specs.declared.Extended.TheVariants.{Fin, Inf}
+use Rattle.min_plus.specs.rational.proofs.Linear.{with1, with2, with3, with4}
+use Rattle.min_plus.specs.rational.proofs.Laws.{antisym, le_refl, le_or_lt, le_of_lt, le_trans, le_total, mul_le_mul, mul_le_mul_right, mul_comm, mul_sub, mul_add, add_mul, one_mul, div_mul, not_zero}
+use Rattle.min_plus.specs.rational.proofs.Quotients.{div_pos}
+use Rattle.min_plus.specs.rational.proofs.MinMax.{max_q_ge_left, max_q_ge_right}
+use Rattle.min_plus.specs.rational.proofs.Whole.{periods_small, periods_high, periods_next}
 use Rattle.affine_segment.specs.declared.line.Line.{Line}
 use Rattle.affine_segment.specs.declared.line.Piece.{Piece}
 use Rattle.affine_segment.specs.Values.{line_value}

@@ -1,15 +1,15 @@
 -- The pieces of a curve that never falls join exactly where it is continuous.
 use Rattle.std.specs.Prelude.{◌≡◌, ◌↔◌, Bool, IsTrue, pos, List, [], ◌∷◌, Option, Some, None}
 use Rattle.std.proofs.Common.{arith, sym, ap, ◌∙◌, refl, subst, inl, inr}
-use Rattle.affine_segment.specs.rational.specs.Rational.{ℚ, ◌+ℚ◌, ◌-ℚ◌, ◌≤ℚ◌, ◌<ℚ◌, int}
-use Rattle.affine_segment.specs.rational.specs.MinMax.{min_q, max_q}
-use Rattle.affine_segment.specs.rational.specs.Extended.{Ext, ◌≤ₑ◌, ◌+ₑ◌}
-use Rattle.affine_segment.specs.rational.specs.declared.Extended.TheVariants.{Fin, Inf}
-use Rattle.affine_segment.specs.rational.proofs.Linear.{with1, with2, with3}
-use Rattle.affine_segment.specs.rational.proofs.Laws.{le_refl, le_or_lt, le_of_lt, le_trans, le_lt_trans, between, half, half_is, half_pos}
-use Rattle.affine_segment.specs.rational.proofs.Integers.{nat_lt}
-use Rattle.affine_segment.specs.rational.proofs.MinMax.{below_min_in, below_min_out, max_q_ge_left, max_q_ge_right, max_q_lt}
-use Rattle.affine_segment.specs.rational.proofs.ExtendedOrder.{le_ext_refl, le_ext_trans, antisym_ext, add_le_ext}
+use Rattle.min_plus.specs.rational.specs.Rational.{ℚ, ◌+ℚ◌, ◌-ℚ◌, ◌≤ℚ◌, ◌<ℚ◌, int}
+use Rattle.min_plus.specs.rational.specs.MinMax.{min_q, max_q}
+use Rattle.min_plus.specs.rational.specs.Extended.{Ext, ◌≤ₑ◌, ◌+ₑ◌}
+use Rattle.min_plus.specs.rational.specs.declared.Extended.TheVariants.{Fin, Inf}
+use Rattle.min_plus.specs.rational.proofs.Linear.{with1, with2, with3}
+use Rattle.min_plus.specs.rational.proofs.Laws.{le_refl, le_or_lt, le_of_lt, le_trans, le_lt_trans, between, half, half_is, half_pos}
+use Rattle.min_plus.specs.rational.proofs.Integers.{nat_lt}
+use Rattle.min_plus.specs.rational.proofs.MinMax.{below_min_in, below_min_out, max_q_ge_left, max_q_ge_right, max_q_lt}
+use Rattle.min_plus.specs.rational.proofs.ExtendedOrder.{le_ext_refl, le_ext_trans, antisym_ext, add_le_ext}
 use Rattle.affine_segment.specs.declared.line.Line.{Line}
 use Rattle.affine_segment.specs.declared.line.Piece.{Piece}
 use Rattle.affine_segment.specs.Values.{line_value}

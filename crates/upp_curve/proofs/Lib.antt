@@ -19,3 +19,14 @@ pub mod JoinLoops
 pub mod Gentle
 pub mod Joins
 pub mod SteadyTimes
+pub mod KindValues
+pub mod Worked
+pub mod WorkedOperators
+pub mod WorkedStairs
+pub mod WorkedShifts
+pub mod WorkedRunning
+pub mod WorkedJump
+pub mod StairValues
+pub mod GateValues
+pub mod KindForms
+pub mod KindsAre

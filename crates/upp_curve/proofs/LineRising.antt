@@ -1,10 +1,10 @@
 -- Whether a piece with a line rises, by the three tests of it.
 use Rattle.std.specs.Prelude.{◌≡◌, ◌↔◌, Option, Some}
 use Rattle.std.proofs.Common.{sym, subst}
-use Rattle.affine_segment.specs.rational.specs.Rational.{ℚ, ◌≤ℚ◌, ◌<ℚ◌}
-use Rattle.affine_segment.specs.rational.specs.Extended.{◌≤ₑ◌}
-use Rattle.affine_segment.specs.rational.specs.declared.Extended.TheVariants.{Fin}
-use Rattle.affine_segment.specs.rational.proofs.Laws.{lt_irrefl, lt_le_trans}
+use Rattle.min_plus.specs.rational.specs.Rational.{ℚ, ◌≤ℚ◌, ◌<ℚ◌}
+use Rattle.min_plus.specs.rational.specs.Extended.{◌≤ₑ◌}
+use Rattle.min_plus.specs.rational.specs.declared.Extended.TheVariants.{Fin}
+use Rattle.min_plus.specs.rational.proofs.Laws.{lt_irrefl, lt_le_trans}
 use Rattle.affine_segment.specs.declared.line.Line.{Line}
 use Rattle.affine_segment.specs.declared.line.Piece.{Piece}
 use Rattle.affine_segment.specs.Values.{line_at, line_value}

@@ -1,7 +1,7 @@
 -- What a refusal says, said of another step.
 use Rattle.std.specs.Prelude.{◌≡◌, Result, Ok, Err, IfErr, List, [], ◌∷◌}
 use Rattle.std.proofs.Common.{refl, subst}
-use Rattle.affine_segment.specs.rational.specs.Rational.{ℚ}
+use Rattle.min_plus.specs.rational.specs.Rational.{ℚ}
 use Rattle.affine_segment.specs.fraction128.specs.declared.fault.Wide.{Wide}
 use Rattle.affine_segment.specs.declared.line.Piece.{Piece}
 use Rattle.affine_segment.specs.Pieces.{StartsAtZero}

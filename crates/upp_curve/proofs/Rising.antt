@@ -1,14 +1,14 @@
 -- Pieces that rise from one to the next rise as a function of time, and a tail that repeats keeps that.
 use Rattle.std.specs.Prelude.{◌≡◌, ℕ, zero, suc, pos, List, [], ◌∷◌, Option, Some, None}
 use Rattle.std.proofs.Common.{arith, sym, ap, ◌∙◌, refl, subst, inl, inr}
-use Rattle.affine_segment.specs.rational.specs.Rational.{ℚ, ◌+ℚ◌, ◌-ℚ◌, ◌*ℚ◌, ◌≤ℚ◌, ◌<ℚ◌, int}
-use Rattle.affine_segment.specs.rational.specs.Whole.{periods}
-use Rattle.affine_segment.specs.rational.specs.Extended.{Ext, ◌≤ₑ◌, ◌+ₑ◌}
-use Rattle.affine_segment.specs.rational.specs.declared.Extended.TheVariants.{Fin}
-use Rattle.affine_segment.specs.rational.proofs.Linear.{with2, with3}
-use Rattle.affine_segment.specs.rational.proofs.Laws.{antisym, le_refl, le_or_lt, le_of_lt, le_trans, mul_le_mul}
-use Rattle.affine_segment.specs.rational.proofs.ExtendedOrder.{le_ext_trans, same_le_ext, add_le_ext}
-use Rattle.affine_segment.specs.rational.proofs.Whole.{periods_small, periods_high, periods_next}
+use Rattle.min_plus.specs.rational.specs.Rational.{ℚ, ◌+ℚ◌, ◌-ℚ◌, ◌*ℚ◌, ◌≤ℚ◌, ◌<ℚ◌, int}
+use Rattle.min_plus.specs.rational.specs.Whole.{periods}
+use Rattle.min_plus.specs.rational.specs.Extended.{Ext, ◌≤ₑ◌, ◌+ₑ◌}
+use Rattle.min_plus.specs.rational.specs.declared.Extended.TheVariants.{Fin}
+use Rattle.min_plus.specs.rational.proofs.Linear.{with2, with3}
+use Rattle.min_plus.specs.rational.proofs.Laws.{antisym, le_refl, le_or_lt, le_of_lt, le_trans, mul_le_mul}
+use Rattle.min_plus.specs.rational.proofs.ExtendedOrder.{le_ext_trans, same_le_ext, add_le_ext}
+use Rattle.min_plus.specs.rational.proofs.Whole.{periods_small, periods_high, periods_next}
 use Rattle.affine_segment.specs.declared.line.Line.{Line}
 use Rattle.affine_segment.specs.declared.line.Piece.{Piece}
 use Rattle.affine_segment.specs.Values.{line_value}

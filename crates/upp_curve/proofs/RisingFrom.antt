@@ -1,15 +1,15 @@
 -- Where a function rises, each of the pieces that it is read from rises to the next.
 use Rattle.std.specs.Prelude.{◌≡◌, pos, List, [], ◌∷◌, Option, Some, None}
 use Rattle.std.proofs.Common.{arith, ap, ◌∙◌, subst}
-use Rattle.affine_segment.specs.rational.specs.Rational.{ℚ, ◌+ℚ◌, ◌-ℚ◌, ◌*ℚ◌, ◌≤ℚ◌, ◌<ℚ◌, int}
-use Rattle.affine_segment.specs.rational.specs.Extended.{Ext, ◌≤ₑ◌}
-use Rattle.affine_segment.specs.rational.specs.declared.Extended.TheVariants.{Fin}
-use Rattle.affine_segment.specs.rational.specs.Stretch.{Between}
-use Rattle.affine_segment.specs.rational.proofs.Linear.{with2, with3}
-use Rattle.affine_segment.specs.rational.proofs.Laws.{le_refl, le_of_lt, le_trans, between, mul_sub, mul_comm, mul_zero}
-use Rattle.affine_segment.specs.rational.proofs.Whole.{le_of_mul}
-use Rattle.affine_segment.specs.rational.proofs.Bounds.{greatest, smallest}
-use Rattle.affine_segment.specs.rational.proofs.Stretch.{rising_infimum, rising_supremum}
+use Rattle.min_plus.specs.rational.specs.Rational.{ℚ, ◌+ℚ◌, ◌-ℚ◌, ◌*ℚ◌, ◌≤ℚ◌, ◌<ℚ◌, int}
+use Rattle.min_plus.specs.rational.specs.Extended.{Ext, ◌≤ₑ◌}
+use Rattle.min_plus.specs.rational.specs.declared.Extended.TheVariants.{Fin}
+use Rattle.min_plus.specs.rational.specs.Stretch.{Between}
+use Rattle.min_plus.specs.rational.proofs.Linear.{with2, with3}
+use Rattle.min_plus.specs.rational.proofs.Laws.{le_refl, le_of_lt, le_trans, between, mul_sub, mul_comm, mul_zero}
+use Rattle.min_plus.specs.rational.proofs.Whole.{le_of_mul}
+use Rattle.min_plus.specs.rational.proofs.Bounds.{greatest, smallest}
+use Rattle.min_plus.specs.rational.proofs.Stretch.{rising_infimum, rising_supremum}
 use Rattle.affine_segment.specs.declared.line.Line.{Line}
 use Rattle.affine_segment.specs.declared.line.Piece.{Piece}
 use Rattle.affine_segment.specs.Values.{line_at, line_value}

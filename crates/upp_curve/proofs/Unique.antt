@@ -1,25 +1,25 @@
 -- Two lists of pieces without needless pieces, which read alike below a time, are one below it.
-use Rattle.affine_segment.specs.rational.proofs.MinMax.{below_min_in, below_min_out, lt_q_not}
+use Rattle.min_plus.specs.rational.proofs.MinMax.{below_min_in, below_min_out, lt_q_not}
 use Rattle.std.specs.Prelude.{◌≡◌, pos, List, [], ◌∷◌, Option, Some, None}
 use Rattle.std.proofs.Common.{arith, sym, ap, ap₂, ◌∙◌, refl, subst, inl, inr}
-use Rattle.affine_segment.specs.rational.specs.Rational.{ℚ, ◌+ℚ◌, ◌-ℚ◌, ◌*ℚ◌, ◌≤ℚ◌, ◌<ℚ◌, int}
-use Rattle.affine_segment.specs.rational.proofs.Linear.{with2, with3, with4, with6}
-use Rattle.affine_segment.specs.rational.proofs.Over.{lt_q_out}
-use Rattle.affine_segment.specs.rational.proofs.Laws.{antisym, le_trans, le_lt_trans, le_or_lt, le_of_lt, le_refl, mul_sub, mul_cancel, between}
-use Rattle.affine_segment.specs.rational.specs.Extended.{Ext}
+use Rattle.min_plus.specs.rational.specs.Rational.{ℚ, ◌+ℚ◌, ◌-ℚ◌, ◌*ℚ◌, ◌≤ℚ◌, ◌<ℚ◌, int}
+use Rattle.min_plus.specs.rational.proofs.Linear.{with2, with3, with4, with6}
+use Rattle.min_plus.specs.rational.proofs.Over.{lt_q_out}
+use Rattle.min_plus.specs.rational.proofs.Laws.{antisym, le_trans, le_lt_trans, le_or_lt, le_of_lt, le_refl, mul_sub, mul_cancel, between}
+use Rattle.min_plus.specs.rational.specs.Extended.{Ext}
 use Rattle.affine_segment.specs.declared.line.Line.{Line}
 use Rattle.affine_segment.specs.declared.line.Piece.{Piece}
-use Rattle.affine_segment.specs.rational.specs.MinMax.{min_q}
+use Rattle.min_plus.specs.rational.specs.MinMax.{min_q}
 use Rattle.affine_segment.specs.Reading.{piece_value}
 use Rattle.affine_segment.specs.Values.{line_value}
 use Rattle.affine_segment.specs.Pieces.{RisesFrom}
 use Rattle.upp_curve.specs.Normal.{NoneContinues}
 use Rattle.upp_curve.specs.Unrolled.{upto}
-use Rattle.affine_segment.specs.rational.proofs.Whole.{not_zero}
+use Rattle.min_plus.specs.rational.proofs.Whole.{not_zero}
 use Rattle.upp_curve.proofs.FirstStretch.{end_of, end_at_most, start_before, read_in, on_stretch, at_start}
 use Rattle.min_plus.proofs.FiniteValues.{no_inf}
 use Rattle.affine_segment.proofs.PieceIn.{piece_in_go}
-use Rattle.affine_segment.specs.rational.proofs.ExtendedOrder.{fin_same}
+use Rattle.min_plus.specs.rational.proofs.ExtendedOrder.{fin_same}
 
 -- ---- two values fix a line
 -- two lines that meet at two times have one slope

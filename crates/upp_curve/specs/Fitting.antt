@@ -1,7 +1,7 @@
 -- Steps that fit: a piece moved in time and height, and what is read of pieces. Own choice.
 use Rattle.std.specs.Prelude.{List, [], ◌∷◌, Option, Some, None}
-use Rattle.affine_segment.specs.rational.specs.Rational.{ℚ, ◌+ℚ◌, ◌*ℚ◌, ◌<ℚ◌, neg_ℚ}
-use Rattle.affine_segment.specs.rational.specs.Ratio.{IsSmall, SumFits}
+use Rattle.min_plus.specs.rational.specs.Rational.{ℚ, ◌+ℚ◌, ◌*ℚ◌, ◌<ℚ◌, neg_ℚ}
+use Rattle.min_plus.specs.rational.specs.Ratio.{IsSmall, SumFits}
 use Rattle.affine_segment.specs.declared.line.Line.{Line}
 use Rattle.affine_segment.specs.declared.line.Piece.{Piece}
 use Rattle.affine_segment.specs.Reading.{piece_in}

@@ -1,10 +1,10 @@
 -- What is read of a curve by steps that always fit: its lines at the start and at the end of each piece, rank + period,
 -- the value there, and rise / period. (Own choice: with it a curve's rate and whether it rises are always known.)
 use Rattle.std.specs.Prelude.{List, [], ◌∷◌, Option, Some, None}
-use Rattle.affine_segment.specs.rational.specs.Rational.{ℚ, ◌+ℚ◌, ◌*ℚ◌, ◌/ℚ◌}
-use Rattle.affine_segment.specs.rational.specs.Ratio.{IsSmall, SumFits}
-use Rattle.affine_segment.specs.rational.specs.Extended.{Ext}
-use Rattle.affine_segment.specs.rational.specs.declared.Extended.TheVariants.{Fin, Inf}
+use Rattle.min_plus.specs.rational.specs.Rational.{ℚ, ◌+ℚ◌, ◌*ℚ◌, ◌/ℚ◌}
+use Rattle.min_plus.specs.rational.specs.Ratio.{IsSmall, SumFits}
+use Rattle.min_plus.specs.rational.specs.Extended.{Ext}
+use Rattle.min_plus.specs.rational.specs.declared.Extended.TheVariants.{Fin, Inf}
 use Rattle.affine_segment.specs.declared.line.Line.{Line}
 use Rattle.affine_segment.specs.declared.line.Piece.{Piece}
 use Rattle.upp_curve.specs.declared.curve.Tail.{Tail}

@@ -1,8 +1,8 @@
 -- When pieces are finite and when they rise, by what is read of each. Own choice.
 use Rattle.std.specs.Prelude.{List, [], ◌∷◌, Option, Some, None}
-use Rattle.affine_segment.specs.rational.specs.Rational.{ℚ, ◌≤ℚ◌}
-use Rattle.affine_segment.specs.rational.specs.Extended.{Ext, ◌≤ₑ◌}
-use Rattle.affine_segment.specs.rational.specs.declared.Extended.TheVariants.{Fin, Inf}
+use Rattle.min_plus.specs.rational.specs.Rational.{ℚ, ◌≤ℚ◌}
+use Rattle.min_plus.specs.rational.specs.Extended.{Ext, ◌≤ₑ◌}
+use Rattle.min_plus.specs.rational.specs.declared.Extended.TheVariants.{Fin, Inf}
 use Rattle.affine_segment.specs.declared.line.Line.{Line}
 use Rattle.affine_segment.specs.declared.line.Piece.{Piece}
 use Rattle.affine_segment.specs.Values.{line_value}

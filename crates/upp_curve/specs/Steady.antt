@@ -1,9 +1,9 @@
 -- From when on a curve repeats, and by how much it rises. (Bouillard, Boyer and Le Corronc: the rank, the period and
 -- the increment of a pseudo-periodic function; the time one after the rank of other tails is our own choice.)
 use Rattle.std.specs.Prelude.{◌≡◌, ℕ, pos, Bool, true, false, ◌&&◌, List, [], ◌∷◌, Option, Some, None}
-use Rattle.affine_segment.specs.rational.specs.Rational.{ℚ, ◌+ℚ◌, ◌*ℚ◌, ◌/ℚ◌, ◌≤ℚ◌, int, le_q}
-use Rattle.affine_segment.specs.rational.specs.Extended.{Ext, ◌+ₑ◌}
-use Rattle.affine_segment.specs.rational.specs.declared.Extended.TheVariants.{Fin, Inf}
+use Rattle.min_plus.specs.rational.specs.Rational.{ℚ, ◌+ℚ◌, ◌*ℚ◌, ◌/ℚ◌, ◌≤ℚ◌, int, le_q}
+use Rattle.min_plus.specs.rational.specs.Extended.{Ext, ◌+ₑ◌}
+use Rattle.min_plus.specs.rational.specs.declared.Extended.TheVariants.{Fin, Inf}
 use Rattle.affine_segment.specs.declared.line.Line.{Line}
 use Rattle.affine_segment.specs.declared.line.Piece.{Piece}
 use Rattle.affine_segment.specs.Values.{line_value}

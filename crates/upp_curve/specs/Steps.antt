@@ -1,9 +1,9 @@
 -- Which step of a curve's value was too wide. Own choice.
 use Rattle.std.specs.Prelude.{pos, List, [], ◌∷◌, Option, Some, None, ◌⊎◌}
-use Rattle.affine_segment.specs.rational.specs.Rational.{ℚ, ◌-ℚ◌, ◌*ℚ◌, ◌≤ℚ◌, ◌<ℚ◌, int}
-use Rattle.affine_segment.specs.rational.specs.Whole.{periods}
-use Rattle.affine_segment.specs.rational.specs.Extended.{Ext}
-use Rattle.affine_segment.specs.rational.specs.declared.Extended.TheVariants.{Fin, Inf}
+use Rattle.min_plus.specs.rational.specs.Rational.{ℚ, ◌-ℚ◌, ◌*ℚ◌, ◌≤ℚ◌, ◌<ℚ◌, int}
+use Rattle.min_plus.specs.rational.specs.Whole.{periods}
+use Rattle.min_plus.specs.rational.specs.Extended.{Ext}
+use Rattle.min_plus.specs.rational.specs.declared.Extended.TheVariants.{Fin, Inf}
 use Rattle.affine_segment.specs.fraction128.specs.declared.fault.Wide.{Wide}
 use Rattle.affine_segment.specs.declared.line.Line.{Line}
 use Rattle.affine_segment.specs.declared.line.Piece.{Piece}

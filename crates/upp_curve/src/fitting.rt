@@ -1,14 +1,14 @@
 //! A piece moved in time and height, where each step is known to fit.
 
 ghost use Rattle.std.specs.Prelude.{◌≡◌};
-ghost use Rattle.affine_segment.specs.rational.specs.Extended.{◌+ₑ◌};
+ghost use Rattle.min_plus.specs.rational.specs.Extended.{◌+ₑ◌};
 ghost use Rattle.upp_curve.specs.Readable.{SumFitsAt};
 ghost use Rattle.upp_curve.specs.Unrolled.{line_later, later};
 ghost use Rattle.upp_curve.specs.Fitting.{LaterFits, LineLaterFits};
 
 use affine_segment::fraction128::{Ext, Frac, difference, product, sum};
-use affine_segment::rational::Extended;
 use affine_segment::{Line, Piece};
+use min_plus::rational::Extended;
 
 /// A value, risen.
 pub(crate) fn raised(v: Ext, by: Frac) -> Ext

@@ -13,8 +13,8 @@ ghost use Rattle.upp_curve.specs.JoinedPieces.{PieceJoins, PiecesJoin};
 use crate::curve::{Curve, Tail};
 use crate::shape::{End, period_end};
 use affine_segment::fraction128::{Ext, Frac};
-use affine_segment::rational::Extended;
 use affine_segment::{Line, Piece, line_at};
+use min_plus::rational::Extended;
 
 // Whether the value of a line at x, infinity where there is none, is this one.
 fn line_reaches(line: Option<Line>, x: Frac, at: Ext) -> bool

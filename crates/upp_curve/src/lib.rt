@@ -5,11 +5,16 @@
 mod curve;
 pub mod fitting;
 mod jumps;
+mod kind_laws;
 mod reading;
 pub mod same;
 mod shape;
+mod worked_laws;
 
 pub use affine_segment;
-pub use affine_segment::{fraction128, rational};
+pub use affine_segment::fraction128;
 pub use curve::{Curve, Tail, equal};
 pub use jumps::is_continuous;
+pub use kind_laws::kinds_are_curves;
+pub use min_plus::rational;
+pub use worked_laws::{worked_kinds, worked_operators, worked_shifts, worked_stairs};

@@ -4,8 +4,8 @@ ghost use Rattle.std.specs.Prelude.{◌≡◌, ◌↔◌, IsTrue};
 
 use crate::curve::Tail;
 use affine_segment::fraction128::Ext;
-use affine_segment::rational::Extended;
 use affine_segment::{Line, Piece};
+use min_plus::rational::Extended;
 
 /// Whether two values are one.
 pub fn same_ext(a: Ext, b: Ext) -> bool

@@ -1,9 +1,9 @@
 //! Whether pieces are finite and whether they rise, by what is read of each.
 
 ghost use Rattle.std.specs.Prelude.{◌≡◌, ◌↔◌, pos, ◌∷◌, IsTrue};
-ghost use Rattle.affine_segment.specs.rational.specs.Rational.{int, ◌+ℚ◌, ◌≤ℚ◌};
-ghost use Rattle.affine_segment.specs.rational.specs.Ratio.{SumFits};
-ghost use Rattle.affine_segment.specs.rational.specs.Extended.{◌≤ₑ◌, ◌+ₑ◌};
+ghost use Rattle.min_plus.specs.rational.specs.Rational.{int, ◌+ℚ◌, ◌≤ℚ◌};
+ghost use Rattle.min_plus.specs.rational.specs.Ratio.{SumFits};
+ghost use Rattle.min_plus.specs.rational.specs.Extended.{◌≤ₑ◌, ◌+ₑ◌};
 ghost use Rattle.affine_segment.specs.Reading.{read};
 ghost use Rattle.affine_segment.specs.Pieces.{Each, HasStart, StartsAtZero};
 ghost use Rattle.affine_segment.specs.Fits.{LineFits, LineFitsAt};
@@ -13,8 +13,8 @@ ghost use Rattle.upp_curve.specs.Shapes.{IsFinitePiece, EndsBelow, PieceRises, P
 
 use crate::fitting::raised;
 use affine_segment::fraction128::{Ext, Frac, sum};
-use affine_segment::rational::Extended;
 use affine_segment::{Line, Piece, line_at, piece_at};
+use min_plus::rational::Extended;
 use std::cmp::Ordering;
 
 /// The end of a piece's stretch: the next start, and the value there.

@@ -8,17 +8,17 @@ use Rattle.rational.specs.declared.Extended.TheVariants.{Fin, Inf}
 use Rattle.rational.proofs.Laws.{le_refl, le_trans, le_or_lt, le_of_lt, lt_le_trans, le_lt_trans, antisym, between, half, half_is, half_pos, div_mul, mul_comm, mul_sub, mul_le_mul_right, neg_mul, not_zero, lt_of_mul, zero_mul}
 use Rattle.rational.proofs.MinMax.{below_min_in, below_min_out, max_q_ge_left, max_q_ge_right, max_q_lt}
 use Rattle.rational.proofs.Linear.{with1, with2, with3, with4, with5, with6}
-use Rattle.affine_segment.specs.declared.line.Line.{Line}
-use Rattle.affine_segment.specs.declared.line.Piece.{Piece}
-use Rattle.affine_segment.specs.Values.{line_value}
-use Rattle.upp_curve.specs.Curve.{SpecCurve, value_at}
+use Rattle.upp_normal.specs.affine_segment.specs.declared.line.Line.{Line}
+use Rattle.upp_normal.specs.affine_segment.specs.declared.line.Piece.{Piece}
+use Rattle.upp_normal.specs.affine_segment.specs.Values.{line_value}
+use Rattle.upp_normal.specs.upp_curve.specs.Curve.{SpecCurve, value_at}
 use Rattle.min_plus.specs.Functions.{zero_q, IsFinite}
 use Rattle.min_plus.specs.Continuity.{IsContinuous}
-use Rattle.affine_segment.specs.Pieces.{HasStart, StartsAtZero}
-use Rattle.upp_curve.specs.Normal.{IsNormal}
-use Rattle.affine_segment.specs.Reading.{read, piece_in, piece_value}
-use Rattle.upp_curve.specs.Unrolled.{unroll}
-use Rattle.affine_segment.proofs.PieceIn.{piece_in_stop, piece_in_go, piece_in_end, value_past}
+use Rattle.upp_normal.specs.affine_segment.specs.Pieces.{HasStart, StartsAtZero}
+use Rattle.upp_normal.specs.upp_curve.specs.Normal.{IsNormal}
+use Rattle.upp_normal.specs.affine_segment.specs.Reading.{read, piece_in, piece_value}
+use Rattle.upp_normal.specs.upp_curve.specs.Unrolled.{unroll}
+use Rattle.upp_normal.specs.affine_segment.proofs.PieceIn.{piece_in_stop, piece_in_go, piece_in_end, value_past}
 use Rattle.upp_normal.proofs.Below.{unroll_reads}
 use Rattle.upp_normal.proofs.UnrolledPieces.{unroll_starts}
 use Rattle.watch_laws.specs.Affine.{IsLineOn, NoneInside, IsAffineOff, EachTime, IsPiecewise}

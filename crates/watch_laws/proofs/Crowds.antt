@@ -9,13 +9,13 @@ use Rattle.rational.proofs.Laws.{le_refl, le_trans, le_or_lt, lt_le_trans, lt_ir
 use Rattle.rational.proofs.Linear.{with_atoms, with2, with3, with4}
 use Rattle.rational.proofs.Over.{le_q_out, le_q_in}
 use Rattle.rational.proofs.ExtendedOrder.{le_ext_trans}
-use Rattle.run_laws.specs.declared.steps.Step.{Step}
-use Rattle.run_laws.specs.declared.steps.Step.TheVariants.{Enter, Reach, Work, Leave, Visit}
-use Rattle.run_laws.specs.Cards.{whole}
-use Rattle.run_laws.specs.Counts.{when, within}
-use Rattle.run_laws.specs.RunPremises.{entered_in}
-use Rattle.run_laws.proofs.Sizes.{whole_nonneg, whole_le, whole_sum}
-use Rattle.run_laws.proofs.Sums.{when_true, when_false, when_nonneg, add_nothing}
+use Rattle.net_model.specs.run_laws.specs.declared.steps.Step.{Step}
+use Rattle.net_model.specs.run_laws.specs.declared.steps.Step.TheVariants.{Enter, Reach, Work, Leave, Visit}
+use Rattle.net_model.specs.run_laws.specs.Cards.{whole}
+use Rattle.net_model.specs.run_laws.specs.Counts.{when, within}
+use Rattle.net_model.specs.run_laws.specs.RunPremises.{entered_in}
+use Rattle.net_model.specs.run_laws.proofs.Sizes.{whole_nonneg, whole_le, whole_sum}
+use Rattle.net_model.specs.run_laws.proofs.Sums.{when_true, when_false, when_nonneg, add_nothing}
 use Rattle.min_plus.specs.Functions.{zero_q, IsRising, IsNonnegative}
 use Rattle.watch_laws.specs.declared.entering.Entering.{Entering}
 use Rattle.watch_laws.specs.Entries.{entries, entering, bits_to, bits_between, IsCrowded, EntersFrom}

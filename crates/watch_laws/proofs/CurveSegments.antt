@@ -6,16 +6,16 @@ use Rattle.rational.specs.Extended.{Ext, ◌<ₑ◌, ◌+ₑ◌}
 use Rattle.rational.specs.declared.Extended.TheVariants.{Fin}
 use Rattle.rational.proofs.Laws.{le_refl, le_trans, le_or_lt, le_of_lt, lt_le_trans, lt_of_not_le, lt_irrefl}
 use Rattle.rational.proofs.Linear.{with2}
-use Rattle.affine_segment.specs.declared.line.Piece.{Piece}
-use Rattle.affine_segment.specs.Values.{line_value}
-use Rattle.upp_curve.specs.Curve.{SpecCurve, value_at}
+use Rattle.upp_normal.specs.affine_segment.specs.declared.line.Piece.{Piece}
+use Rattle.upp_normal.specs.affine_segment.specs.Values.{line_value}
+use Rattle.upp_normal.specs.upp_curve.specs.Curve.{SpecCurve, value_at}
 use Rattle.min_plus.specs.Functions.{zero_q, IsFinite}
 use Rattle.min_plus.specs.Continuity.{IsContinuous}
-use Rattle.affine_segment.specs.Pieces.{Each, HasStart, StartsAtZero, RisesFrom}
-use Rattle.affine_segment.specs.Reading.{read, piece_value}
-use Rattle.upp_curve.specs.Unrolled.{unroll}
-use Rattle.affine_segment.proofs.PieceIn.{piece_in_stop, piece_in_end, value_past, read_go}
-use Rattle.upp_curve.proofs.FirstStretch.{at_start}
+use Rattle.upp_normal.specs.affine_segment.specs.Pieces.{Each, HasStart, StartsAtZero, RisesFrom}
+use Rattle.upp_normal.specs.affine_segment.specs.Reading.{read, piece_value}
+use Rattle.upp_normal.specs.upp_curve.specs.Unrolled.{unroll}
+use Rattle.upp_normal.specs.affine_segment.proofs.PieceIn.{piece_in_stop, piece_in_end, value_past, read_go}
+use Rattle.upp_normal.specs.upp_curve.proofs.FirstStretch.{at_start}
 use Rattle.upp_normal.proofs.Below.{unroll_reads}
 use Rattle.upp_normal.proofs.UnrolledPieces.{unroll_starts, unroll_before}
 use Rattle.watch_laws.specs.declared.point.Point.{Point}

@@ -5,19 +5,19 @@ use Rattle.std.proofs.lemmas.Bool.{cases_Bool, cases_eq, eqb-true}
 use Rattle.std.proofs.lemmas.List.{get_or-set_same, length-set, length-map}
 use Rattle.rational.specs.Rational.{ℚ, ◌≤ℚ◌}
 use Rattle.rational.proofs.Laws.{le_refl, le_trans}
-use Rattle.run_laws.specs.declared.steps.Step.{Step}
-use Rattle.run_laws.specs.declared.steps.Step.TheVariants.{Enter, Reach, Work, Leave, Visit}
-use Rattle.run_laws.specs.Runs.{SpecRun}
-use Rattle.run_laws.specs.Cards.{time_of}
-use Rattle.run_laws.specs.Servers.{Fifo, Server, ServerState, start}
-use Rattle.run_laws.specs.Next.{next}
-use Rattle.run_laws.specs.Routes.{Routes, server_at, route_of, first_server}
-use Rattle.run_laws.specs.Views.{server_of, seen}
-use Rattle.run_laws.specs.Lawful.{RunState, state_at, next_run, AllowsInRun, AllAllowedInRun, run_start, IsLawful}
-use Rattle.run_laws.proofs.Cuts.{time_in_order}
+use Rattle.net_model.specs.run_laws.specs.declared.steps.Step.{Step}
+use Rattle.net_model.specs.run_laws.specs.declared.steps.Step.TheVariants.{Enter, Reach, Work, Leave, Visit}
+use Rattle.net_model.specs.run_laws.specs.Runs.{SpecRun}
+use Rattle.net_model.specs.run_laws.specs.Cards.{time_of}
+use Rattle.net_model.specs.run_laws.specs.Servers.{Fifo, Server, ServerState, start}
+use Rattle.net_model.specs.run_laws.specs.Next.{next}
+use Rattle.net_model.specs.run_laws.specs.Routes.{Routes, server_at, route_of, first_server}
+use Rattle.net_model.specs.run_laws.specs.Views.{server_of, seen}
+use Rattle.net_model.specs.run_laws.specs.Lawful.{RunState, state_at, next_run, AllowsInRun, AllAllowedInRun, run_start, IsLawful}
+use Rattle.net_model.specs.run_laws.proofs.Cuts.{time_in_order}
 use Rattle.watch_laws.specs.declared.entering.Entering.{Entering}
 use Rattle.watch_laws.specs.Entries.{entries, EntersFrom}
-use Rattle.run_laws.proofs.Views.{other_state}
+use Rattle.net_model.specs.run_laws.proofs.Views.{other_state}
 
 -- a step does not set a server's clock back
 clock_own : (net : Routes) (r : RunState) (x : Step) → server_of net x < length r.servers

@@ -6,16 +6,16 @@ use Rattle.rational.specs.Extended.{Ext, ◌≤ₑ◌, ◌<ₑ◌, ◌+ₑ◌}
 use Rattle.rational.specs.declared.Extended.TheVariants.{Fin}
 use Rattle.rational.proofs.Laws.{le_refl, le_trans, le_or_lt, le_of_lt, lt_le_trans, le_lt_trans, lt_irrefl, antisym}
 use Rattle.rational.proofs.Linear.{with2}
-use Rattle.run_laws.specs.Cards.{all, ServerStep}
-use Rattle.run_laws.specs.Servers.{Server, start}
-use Rattle.run_laws.specs.Allows.{IsLawfulView}
-use Rattle.run_laws.specs.Counts.{arrived, worked}
-use Rattle.run_laws.specs.Premises.{IsBusy, KeepsService, IsZeroAtStart}
-use Rattle.run_laws.proofs.Cuts.{all_works}
-use Rattle.upp_curve.specs.Curve.{SpecCurve, value_at}
+use Rattle.net_model.specs.run_laws.specs.Cards.{all, ServerStep}
+use Rattle.net_model.specs.run_laws.specs.Servers.{Server, start}
+use Rattle.net_model.specs.run_laws.specs.Allows.{IsLawfulView}
+use Rattle.net_model.specs.run_laws.specs.Counts.{arrived, worked}
+use Rattle.net_model.specs.run_laws.specs.Premises.{IsBusy, KeepsService, IsZeroAtStart}
+use Rattle.net_model.specs.run_laws.proofs.Cuts.{all_works}
+use Rattle.upp_normal.specs.upp_curve.specs.Curve.{SpecCurve, value_at}
 use Rattle.min_plus.specs.Functions.{zero_q, IsFinite}
 use Rattle.min_plus.specs.Continuity.{IsContinuous}
-use Rattle.upp_curve.specs.Normal.{IsNormal}
+use Rattle.upp_normal.specs.upp_curve.specs.Normal.{IsNormal}
 use Rattle.watch_laws.specs.Affine.{IsPiecewise}
 use Rattle.watch_laws.specs.Windows.{IsPair}
 use Rattle.watch_laws.specs.Paces.{IsPaceChange}

@@ -11,11 +11,11 @@ use Rattle.rational.proofs.Sizes.{sum_on_grid, small_on_grid}
 use Rattle.rational.proofs.Integers.{nat_le, nat_nonneg, int_mul}
 use Rattle.rational.proofs.Laws.{le_trans, mul_assoc}
 use Rattle.rational.proofs.Linear.{with1, with2}
-use Rattle.upp_limits.specs.Limits.{Sizes}
-use Rattle.upp_limits.specs.Sized.{IsSlope, grid_of, times_largest}
+use Rattle.net_model.specs.upp_limits.specs.Limits.{Sizes}
+use Rattle.net_model.specs.upp_limits.specs.Sized.{IsSlope, grid_of, times_largest}
 use Rattle.upp_normal.specs.Operand.{AreLimited}
 use Rattle.upp_normal.proofs.AnswerRoom.{tight, many_more}
-use Rattle.upp_limits.proofs.OwnGauge.{end_within}
+use Rattle.net_model.specs.upp_limits.proofs.OwnGauge.{end_within}
 use Rattle.watch_laws.specs.Marks.{MostFits}
 use Rattle.watch_laws.specs.MarkSizes.{IsTime, IsTimeIfAny, MarksFit, KeysFit}
 pub use Rattle.upp_normal.proofs.StretchSizes.{time_whole}

@@ -5,8 +5,8 @@ use Rattle.rational.specs.Rational.{ℚ, int, ◌≤ℚ◌, ◌<ℚ◌}
 use Rattle.rational.proofs.Laws.{lt_irrefl, lt_trans}
 use Rattle.rational.proofs.Integers.{nat_le_out}
 use Rattle.rational.proofs.Laws.{le_refl}
-use Rattle.run_laws.specs.Runs.{SpecRun}
-use Rattle.run_laws.specs.Cards.{whole}
+use Rattle.net_model.specs.run_laws.specs.Runs.{SpecRun}
+use Rattle.net_model.specs.run_laws.specs.Cards.{whole}
 use Rattle.net_model.specs.declared.breach.Breach.{Breach}
 use Rattle.net_model.specs.declared.breach.Breach.TheVariants.{Size, Arrival, Service}
 use Rattle.watch_laws.specs.Breaches.{order_key, NoLater}

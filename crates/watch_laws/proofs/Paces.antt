@@ -7,12 +7,12 @@ use Rattle.rational.proofs.Laws.{le_refl, le_trans, le_or_lt, le_of_lt, lt_le_tr
 use Rattle.rational.proofs.Linear.{with_atoms, with2, with3, with4, with6}
 use Rattle.rational.proofs.Over.{le_q_out, lt_q_out}
 use Rattle.rational.proofs.MinMax.{le_q_not, lt_q_not}
-use Rattle.run_laws.specs.Cards.{all, ServerStep, Arrives, Works, Leaves, Visits}
-use Rattle.run_laws.specs.Servers.{Span, clip}
-use Rattle.run_laws.specs.Counts.{when, works, worked}
-use Rattle.run_laws.proofs.Clips.{IsSpan, clip_early, clip_late}
-use Rattle.run_laws.proofs.Counts.{IsWork}
-use Rattle.run_laws.proofs.Sums.{Each, when_true, when_false}
+use Rattle.net_model.specs.run_laws.specs.Cards.{all, ServerStep, Arrives, Works, Leaves, Visits}
+use Rattle.net_model.specs.run_laws.specs.Servers.{Span, clip}
+use Rattle.net_model.specs.run_laws.specs.Counts.{when, works, worked}
+use Rattle.net_model.specs.run_laws.proofs.Clips.{IsSpan, clip_early, clip_late}
+use Rattle.net_model.specs.run_laws.proofs.Counts.{IsWork}
+use Rattle.net_model.specs.run_laws.proofs.Sums.{Each, when_true, when_false}
 use Rattle.watch_laws.specs.Affine.{IsLineOn, NoneInside, EachTime, Among, IsPiecewise}
 use Rattle.watch_laws.specs.Paces.{pace_of, goes_after, goes_before, pace_after, pace_before, IsPaceChange}
 

@@ -5,17 +5,17 @@ use Rattle.std.proofs.lemmas.Bool.{cases_Bool, cases_lt, eq-eqb, eqb-true, both_
 use Rattle.rational.specs.Rational.{ℚ, ◌-ℚ◌}
 use Rattle.rational.specs.Extended.{Ext, ◌≤ₑ◌, ◌+ₑ◌}
 use Rattle.rational.specs.declared.Extended.TheVariants.{Fin}
-use Rattle.upp_curve.specs.Curve.{SpecCurve, value_at}
-use Rattle.run_laws.specs.declared.steps.Step.{Step}
-use Rattle.run_laws.specs.declared.steps.Step.TheVariants.{Enter, Reach, Work, Leave, Visit}
-use Rattle.run_laws.specs.Runs.{SpecRun}
-use Rattle.run_laws.specs.Cards.{all}
-use Rattle.run_laws.specs.Counts.{worked}
-use Rattle.run_laws.specs.Routes.{Routes, server_at}
-use Rattle.run_laws.specs.Views.{view}
-use Rattle.run_laws.specs.Lawful.{IsLawful}
-use Rattle.run_laws.specs.RunPremises.{EnterSizes, KeepsPremises}
-use Rattle.run_laws.proofs.Views.{views_are_lawful}
+use Rattle.upp_normal.specs.upp_curve.specs.Curve.{SpecCurve, value_at}
+use Rattle.net_model.specs.run_laws.specs.declared.steps.Step.{Step}
+use Rattle.net_model.specs.run_laws.specs.declared.steps.Step.TheVariants.{Enter, Reach, Work, Leave, Visit}
+use Rattle.net_model.specs.run_laws.specs.Runs.{SpecRun}
+use Rattle.net_model.specs.run_laws.specs.Cards.{all}
+use Rattle.net_model.specs.run_laws.specs.Counts.{worked}
+use Rattle.net_model.specs.run_laws.specs.Routes.{Routes, server_at}
+use Rattle.net_model.specs.run_laws.specs.Views.{view}
+use Rattle.net_model.specs.run_laws.specs.Lawful.{IsLawful}
+use Rattle.net_model.specs.run_laws.specs.RunPremises.{EnterSizes, KeepsPremises}
+use Rattle.net_model.specs.run_laws.proofs.Views.{views_are_lawful}
 use Rattle.net_model.specs.declared.breach.Breach.{Breach}
 use Rattle.net_model.specs.declared.breach.Breach.TheVariants.{Size, Arrival, Service}
 use Rattle.watch_laws.specs.declared.entering.Entering.{Entering}

@@ -6,19 +6,19 @@ use Rattle.rational.proofs.Laws.{le_refl, le_trans, le_or_lt, le_of_lt, lt_le_tr
 use Rattle.rational.proofs.Linear.{with4}
 use Rattle.rational.proofs.Over.{le_q_out}
 use Rattle.rational.proofs.MinMax.{le_q_not}
-use Rattle.run_laws.specs.Cards.{all, ServerStep, Arrives, Works, Leaves, Visits}
-use Rattle.run_laws.specs.Servers.{Server}
-use Rattle.run_laws.specs.Allows.{IsLawfulView}
-use Rattle.run_laws.specs.Counts.{total, leaves, upto, arrived, worked, departed_upto}
-use Rattle.run_laws.specs.Premises.{IsBusy}
-use Rattle.run_laws.proofs.Counts.{arrived_rises}
-use Rattle.run_laws.proofs.Orders.{left_worked, left_upto_worked}
-use Rattle.run_laws.proofs.Gone.{gone_by}
-use Rattle.run_laws.proofs.Stretches.{stretch}
+use Rattle.net_model.specs.run_laws.specs.Cards.{all, ServerStep, Arrives, Works, Leaves, Visits}
+use Rattle.net_model.specs.run_laws.specs.Servers.{Server}
+use Rattle.net_model.specs.run_laws.specs.Allows.{IsLawfulView}
+use Rattle.net_model.specs.run_laws.specs.Counts.{total, leaves, upto, arrived, worked, departed_upto}
+use Rattle.net_model.specs.run_laws.specs.Premises.{IsBusy}
+use Rattle.net_model.specs.run_laws.proofs.Counts.{arrived_rises}
+use Rattle.net_model.specs.run_laws.proofs.Orders.{left_worked, left_upto_worked}
+use Rattle.net_model.specs.run_laws.proofs.Gone.{gone_by}
+use Rattle.net_model.specs.run_laws.proofs.Stretches.{stretch}
 use Rattle.watch_laws.specs.Affine.{EachTime, Among}
 use Rattle.watch_laws.specs.Stretches.{IsAround}
 use Rattle.watch_laws.specs.Times.{leave_times}
-pub use Rattle.run_laws.proofs.Times.{each_time_map, each_time_at}
+pub use Rattle.net_model.specs.run_laws.proofs.Times.{each_time_map, each_time_at}
 
 -- two tests that agree on these times count the same
 leaves_same : (p q : ℚ → Bool) (V : List ServerStep) → EachTime (λ u. p u ≡ q u) (leave_times V) → total (leaves all p) V ≡ total (leaves all q) V

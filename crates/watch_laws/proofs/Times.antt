@@ -7,18 +7,18 @@ use Rattle.rational.proofs.Laws.{le_refl, le_trans, le_or_lt, le_of_lt, lt_le_tr
 use Rattle.rational.proofs.Linear.{with_atoms, with2, with4}
 use Rattle.rational.proofs.Over.{le_q_out, lt_q_out, lt_q_in}
 use Rattle.rational.proofs.MinMax.{le_q_not, lt_q_not}
-use Rattle.run_laws.specs.Cards.{all, size, ServerStep, Arrives, Works, Leaves, Visits}
-use Rattle.run_laws.specs.Servers.{Server, ServerState, start}
-use Rattle.run_laws.specs.Next.{next}
-use Rattle.run_laws.specs.Allows.{AllAllowed, IsLawfulView}
-use Rattle.run_laws.specs.Premises.{EachArrival}
-use Rattle.run_laws.proofs.Sizes.{size_nonneg, whole_lt}
-use Rattle.run_laws.specs.Counts.{when, total, arrives, before, upto, arrived, worked, departed_upto}
-use Rattle.run_laws.proofs.Cuts.{all_works}
-use Rattle.run_laws.proofs.Counts.{arrived_rises, worked_rises}
-use Rattle.run_laws.proofs.Orders.{left_upto_worked, worked_arrived}
-use Rattle.run_laws.proofs.Gone.{gone_by}
-use Rattle.run_laws.proofs.Sums.{when_true, when_false, when_rises}
+use Rattle.net_model.specs.run_laws.specs.Cards.{all, size, ServerStep, Arrives, Works, Leaves, Visits}
+use Rattle.net_model.specs.run_laws.specs.Servers.{Server, ServerState, start}
+use Rattle.net_model.specs.run_laws.specs.Next.{next}
+use Rattle.net_model.specs.run_laws.specs.Allows.{AllAllowed, IsLawfulView}
+use Rattle.net_model.specs.run_laws.specs.Premises.{EachArrival}
+use Rattle.net_model.specs.run_laws.proofs.Sizes.{size_nonneg, whole_lt}
+use Rattle.net_model.specs.run_laws.specs.Counts.{when, total, arrives, before, upto, arrived, worked, departed_upto}
+use Rattle.net_model.specs.run_laws.proofs.Cuts.{all_works}
+use Rattle.net_model.specs.run_laws.proofs.Counts.{arrived_rises, worked_rises}
+use Rattle.net_model.specs.run_laws.proofs.Orders.{left_upto_worked, worked_arrived}
+use Rattle.net_model.specs.run_laws.proofs.Gone.{gone_by}
+use Rattle.net_model.specs.run_laws.proofs.Sums.{when_true, when_false, when_rises}
 use Rattle.watch_laws.specs.Affine.{EachTime, Among}
 use Rattle.watch_laws.specs.Paces.{pace_of, pace_after, pace_before}
 use Rattle.watch_laws.specs.Stretches.{IsStretch}

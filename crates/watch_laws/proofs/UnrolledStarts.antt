@@ -8,17 +8,17 @@ use Rattle.rational.proofs.Laws.{le_refl, le_trans, le_of_lt, zero_mul, mul_le_m
 use Rattle.rational.proofs.Integers.{nat_le}
 use Rattle.rational.proofs.Whole.{one_more_times, periods_high}
 use Rattle.rational.proofs.Linear.{with_atoms, with2, with3}
-use Rattle.affine_segment.specs.declared.line.Piece.{Piece}
-use Rattle.upp_curve.specs.declared.curve.Tail.{Tail}
-use Rattle.upp_curve.specs.declared.curve.Tail.TheVariants.{Periodic, Affine, Infinite}
-use Rattle.upp_curve.specs.Curve.{SpecCurve}
-use Rattle.affine_segment.specs.Pieces.{HasStart, RisesFrom}
-use Rattle.upp_curve.specs.Normal.{IsNormal}
-use Rattle.upp_curve.specs.Unrolled.{each_later, copies, upto, from, unrolled, unroll}
+use Rattle.upp_normal.specs.affine_segment.specs.declared.line.Piece.{Piece}
+use Rattle.upp_normal.specs.upp_curve.specs.declared.curve.Tail.{Tail}
+use Rattle.upp_normal.specs.upp_curve.specs.declared.curve.Tail.TheVariants.{Periodic, Affine, Infinite}
+use Rattle.upp_normal.specs.upp_curve.specs.Curve.{SpecCurve}
+use Rattle.upp_normal.specs.affine_segment.specs.Pieces.{HasStart, RisesFrom}
+use Rattle.upp_normal.specs.upp_curve.specs.Normal.{IsNormal}
+use Rattle.upp_normal.specs.upp_curve.specs.Unrolled.{each_later, copies, upto, from, unrolled, unroll}
 use Rattle.upp_normal.proofs.Below.{cut_at_start}
-use Rattle.upp_curve.proofs.Normal.{start_in_upto, start_from_upto}
+use Rattle.upp_normal.specs.upp_curve.proofs.Normal.{start_in_upto, start_from_upto}
 use Rattle.upp_normal.proofs.UnrolledPieces.{periodic_starts}
-use Rattle.affine_segment.proofs.PieceIn.{low_start}
+use Rattle.upp_normal.specs.affine_segment.proofs.PieceIn.{low_start}
 
 start_parts : (x : ℚ) (ps qs : List Piece) → HasStart x (ps ++ qs) → HasStart x ps ⊎ HasStart x qs
 start_parts x [] qs h = inr h

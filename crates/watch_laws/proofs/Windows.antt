@@ -9,7 +9,7 @@ use Rattle.watch_laws.specs.Affine.{IsLineOn, NoneInside, IsAffineOff, EachTime,
 use Rattle.watch_laws.specs.Windows.{FallsShort, IsShort}
 use Rattle.watch_laws.proofs.Slides.{low_somewhere}
 use Rattle.rational.proofs.Stretch.{not_earlier}
-use Rattle.run_laws.proofs.Times.{each_time_map, each_time_append}
+use Rattle.net_model.specs.run_laws.proofs.Times.{each_time_map, each_time_append}
 
 -- ---- lists of times
 none-append : (x y : ℚ) (ls ms : List ℚ) → NoneInside x y (ls ++ ms) → NoneInside x y ls × NoneInside x y ms

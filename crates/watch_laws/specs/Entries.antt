@@ -3,9 +3,9 @@ use Rattle.std.specs.Prelude.{ℕ, zero, suc, ◌+◌, ◌<◌, ◌≤◌, ◌==
 use Rattle.rational.specs.Rational.{ℚ, int, ◌-ℚ◌, ◌≤ℚ◌}
 use Rattle.rational.specs.Extended.{Ext, ◌<ₑ◌}
 use Rattle.rational.specs.declared.Extended.TheVariants.{Fin}
-use Rattle.run_laws.specs.declared.steps.Step.{Step}
-use Rattle.run_laws.specs.declared.steps.Step.TheVariants.{Enter, Reach, Work, Leave, Visit}
-use Rattle.run_laws.specs.Cards.{whole}
+use Rattle.net_model.specs.run_laws.specs.declared.steps.Step.{Step}
+use Rattle.net_model.specs.run_laws.specs.declared.steps.Step.TheVariants.{Enter, Reach, Work, Leave, Visit}
+use Rattle.net_model.specs.run_laws.specs.Cards.{whole}
 use Rattle.watch_laws.specs.declared.entering.Entering.{Entering}
 
 -- the packets of a flow as they enter, in their order

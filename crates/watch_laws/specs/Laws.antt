@@ -3,21 +3,21 @@ use Rattle.std.specs.Prelude.{◌≡◌, ◌↔◌, ◌⊎◌, ◌<◌, ℕ, tru
 use Rattle.rational.specs.Rational.{ℚ, ◌-ℚ◌, ◌≤ℚ◌, ◌<ℚ◌}
 use Rattle.rational.specs.Extended.{Ext, ◌≤ₑ◌, ◌<ₑ◌, ◌+ₑ◌}
 use Rattle.rational.specs.declared.Extended.TheVariants.{Fin}
-use Rattle.upp_curve.specs.Curve.{SpecCurve, value_at}
+use Rattle.upp_normal.specs.upp_curve.specs.Curve.{SpecCurve, value_at}
 use Rattle.min_plus.specs.Functions.{IsFinite, IsRising, IsNonnegative}
 use Rattle.min_plus.specs.Continuity.{IsContinuous}
-use Rattle.affine_segment.specs.Pieces.{HasStart}
-use Rattle.upp_curve.specs.Normal.{IsNormal}
-use Rattle.upp_curve.specs.Unrolled.{unroll}
-use Rattle.run_laws.specs.Runs.{SpecRun}
-use Rattle.run_laws.specs.Cards.{all, ServerStep}
-use Rattle.run_laws.specs.Counts.{worked}
-use Rattle.run_laws.specs.Servers.{Server}
-use Rattle.run_laws.specs.Allows.{IsLawfulView}
-use Rattle.run_laws.specs.Premises.{KeepsService, IsZeroAtStart}
-use Rattle.run_laws.specs.Routes.{Routes, route_of}
-use Rattle.run_laws.specs.Lawful.{IsLawful}
-use Rattle.run_laws.specs.RunPremises.{entered_in, KeepsPremises}
+use Rattle.upp_normal.specs.affine_segment.specs.Pieces.{HasStart}
+use Rattle.upp_normal.specs.upp_curve.specs.Normal.{IsNormal}
+use Rattle.upp_normal.specs.upp_curve.specs.Unrolled.{unroll}
+use Rattle.net_model.specs.run_laws.specs.Runs.{SpecRun}
+use Rattle.net_model.specs.run_laws.specs.Cards.{all, ServerStep}
+use Rattle.net_model.specs.run_laws.specs.Counts.{worked}
+use Rattle.net_model.specs.run_laws.specs.Servers.{Server}
+use Rattle.net_model.specs.run_laws.specs.Allows.{IsLawfulView}
+use Rattle.net_model.specs.run_laws.specs.Premises.{KeepsService, IsZeroAtStart}
+use Rattle.net_model.specs.run_laws.specs.Routes.{Routes, route_of}
+use Rattle.net_model.specs.run_laws.specs.Lawful.{IsLawful}
+use Rattle.net_model.specs.run_laws.specs.RunPremises.{entered_in, KeepsPremises}
 use Rattle.net_model.specs.declared.breach.Breach.{Breach}
 use Rattle.watch_laws.specs.Breaks.{IsBreak}
 use Rattle.watch_laws.specs.Windows.{IsPair}

@@ -4,8 +4,8 @@ use Rattle.std.specs.Prelude.{Option, Some, None, pos}
 use Rattle.rational.specs.Rational.{ℚ, int, ◌-ℚ◌, ◌*ℚ◌, ◌≤ℚ◌, neg_ℚ}
 use Rattle.rational.specs.Grid.{Whole, Within}
 use Rattle.rational.specs.Ratio.{IsSmall, SumFits}
-use Rattle.upp_limits.specs.Limits.{Sizes}
-use Rattle.upp_limits.specs.Sized.{IsSlope, grid_of, times_largest}
+use Rattle.net_model.specs.upp_limits.specs.Limits.{Sizes}
+use Rattle.net_model.specs.upp_limits.specs.Sized.{IsSlope, grid_of, times_largest}
 use Rattle.upp_normal.specs.Operand.{AreLimited}
 use Rattle.watch_laws.specs.declared.mark.Mark.{Mark}
 use Rattle.watch_laws.specs.declared.mark.Rule.{Rule}

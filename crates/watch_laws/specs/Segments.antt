@@ -3,10 +3,10 @@ use Rattle.std.specs.Prelude.{◌↔◌, List, [], ◌∷◌, Option, Some, None
 use Rattle.rational.specs.Rational.{ℚ, int, ◌-ℚ◌, ◌≤ℚ◌, ◌<ℚ◌}
 use Rattle.rational.specs.Extended.{Ext, ◌<ₑ◌, ◌+ₑ◌}
 use Rattle.rational.specs.declared.Extended.TheVariants.{Fin, Inf}
-use Rattle.affine_segment.specs.declared.line.Line.{Line}
-use Rattle.affine_segment.specs.declared.line.Piece.{Piece}
-use Rattle.upp_curve.specs.Curve.{SpecCurve, value_at}
-use Rattle.upp_curve.specs.Unrolled.{unroll}
+use Rattle.upp_normal.specs.affine_segment.specs.declared.line.Line.{Line}
+use Rattle.upp_normal.specs.affine_segment.specs.declared.line.Piece.{Piece}
+use Rattle.upp_normal.specs.upp_curve.specs.Curve.{SpecCurve, value_at}
+use Rattle.upp_normal.specs.upp_curve.specs.Unrolled.{unroll}
 use Rattle.watch_laws.specs.declared.point.Point.{Point}
 use Rattle.watch_laws.specs.declared.point.Segment.{Segment}
 use Rattle.watch_laws.specs.Laws.{MayServe}

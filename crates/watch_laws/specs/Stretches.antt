@@ -2,9 +2,9 @@
 -- (Own choice; that these suffice is the law `watch_points_suffice`.)
 use Rattle.std.specs.Prelude.{◌≡◌, ◌⊎◌, List}
 use Rattle.rational.specs.Rational.{ℚ, ◌-ℚ◌, ◌≤ℚ◌, ◌<ℚ◌}
-use Rattle.run_laws.specs.Cards.{all, ServerStep}
-use Rattle.run_laws.specs.Counts.{arrived, worked}
-use Rattle.run_laws.specs.Premises.{IsBusy}
+use Rattle.net_model.specs.run_laws.specs.Cards.{all, ServerStep}
+use Rattle.net_model.specs.run_laws.specs.Counts.{arrived, worked}
+use Rattle.net_model.specs.run_laws.specs.Premises.{IsBusy}
 use Rattle.watch_laws.specs.Paces.{IsPaceChange}
 
 -- from u to e something that has arrived is still to be worked, and the two are as far apart as may be: at u all that

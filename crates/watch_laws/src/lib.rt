@@ -16,4 +16,8 @@ pub use laws::{
     turns_suffice_within, watch_points_suffice,
 };
 pub use mark::{Mark, Rule};
+pub use net_model;
+pub use net_model::run_laws;
 pub use point::{Point, Segment};
+pub use upp_normal;
+pub use upp_normal::{affine_segment, upp_curve};

@@ -4,16 +4,16 @@ use Rattle.std.specs.List.{flat_map, AllByRecursion}
 use Rattle.std.proofs.Common.{subst, inl, inr}
 use Rattle.rational.specs.Rational.{ℚ, ◌≤ℚ◌}
 use Rattle.rational.specs.Grid.{Whole}
-use Rattle.upp_curve.specs.Curve.{SpecCurve}
-use Rattle.upp_curve.specs.Curves.{IsCurve}
-use Rattle.upp_limits.specs.Limits.{Sizes, curve_numbers, stored_period, stored_rise, span_values, span_slopes}
-use Rattle.upp_limits.specs.Sized.{IsValue, IsSlope, Stands}
-use Rattle.upp_limits.specs.Spans.{spans_below}
-use Rattle.upp_limits.proofs.Every.{every_append, every_left, every_right, every_map, every_map_out, every_flat, every_flat_out}
-use Rattle.upp_limits.proofs.Operands.{curve_period}
-use Rattle.upp_limits.proofs.Stands.{stands_left, stands_right}
+use Rattle.upp_normal.specs.upp_curve.specs.Curve.{SpecCurve}
+use Rattle.upp_normal.specs.upp_curve.specs.Curves.{IsCurve}
+use Rattle.upp_normal.specs.upp_limits.specs.Limits.{Sizes, curve_numbers, stored_period, stored_rise, span_values, span_slopes}
+use Rattle.upp_normal.specs.upp_limits.specs.Sized.{IsValue, IsSlope, Stands}
+use Rattle.upp_normal.specs.upp_limits.specs.Spans.{spans_below}
+use Rattle.upp_normal.specs.upp_limits.proofs.Every.{every_append, every_left, every_right, every_map, every_map_out, every_flat, every_flat_out}
+use Rattle.upp_normal.specs.upp_limits.proofs.Operands.{curve_period}
+use Rattle.upp_normal.specs.upp_limits.proofs.Stands.{stands_left, stands_right}
 use Rattle.upp_normal.proofs.GaugeRises.{spans_earlier}
-use Rattle.run_laws.proofs.Members.{Has}
+use Rattle.sim_bounds.specs.run_laws.proofs.Members.{Has}
 use Rattle.sim_bounds.specs.Gauge.{numbers_to, numbers_of_curves}
 
 one_curve : (z : Sizes) (far : ℚ) (cs : List SpecCurve) (c : SpecCurve) → Has cs c → Stands z (numbers_of_curves far cs) → Stands z (curve_numbers far c)

@@ -12,20 +12,20 @@ use Rattle.rational.proofs.Integers.{nat_lt}
 use Rattle.rational.proofs.Whole.{mul_lt_mul_right}
 use Rattle.rational.proofs.Over.{le_q_out, lt_q_out}
 use Rattle.rational.proofs.MinMax.{le_q_not, lt_q_not}
-use Rattle.affine_segment.specs.declared.line.Piece.{Piece}
-use Rattle.upp_curve.specs.declared.curve.Tail.{Tail}
-use Rattle.upp_curve.specs.declared.curve.Tail.TheVariants.{Periodic, Affine, Infinite}
-use Rattle.upp_curve.specs.Curve.{SpecCurve}
-use Rattle.upp_curve.specs.Unrolled.{copies_below}
-use Rattle.upp_limits.specs.Periods.{HasPeriod}
-use Rattle.upp_limits.specs.Spans.{Span, copy_of, copies_of, once_below, span_below, spans, spans_below}
-use Rattle.upp_limits.specs.Limits.{Numbers, joined, time_alone, slopes_alone, line_slope, span_values, span_slopes, curve_numbers}
-use Rattle.upp_limits.specs.Seen.{seen_of, seen_risen}
-use Rattle.upp_limits.specs.ClosedForm.{seen_values, span_numbers, last_numbers}
-use Rattle.upp_limits.proofs.ClosedForms.{seen_copy, slope_later}
-use Rattle.upp_limits.proofs.JoinedNumbers.{make_numbers, joined_assoc, joined_nothing, joined_three}
-use Rattle.upp_limits.proofs.PieceLists.{spans_none}
-use Rattle.upp_limits.proofs.Copies.{copies_in, copies_out}
+use Rattle.upp_normal.specs.affine_segment.specs.declared.line.Piece.{Piece}
+use Rattle.upp_normal.specs.upp_curve.specs.declared.curve.Tail.{Tail}
+use Rattle.upp_normal.specs.upp_curve.specs.declared.curve.Tail.TheVariants.{Periodic, Affine, Infinite}
+use Rattle.upp_normal.specs.upp_curve.specs.Curve.{SpecCurve}
+use Rattle.upp_normal.specs.upp_curve.specs.Unrolled.{copies_below}
+use Rattle.upp_normal.specs.upp_limits.specs.Periods.{HasPeriod}
+use Rattle.upp_normal.specs.upp_limits.specs.Spans.{Span, copy_of, copies_of, once_below, span_below, spans, spans_below}
+use Rattle.upp_normal.specs.upp_limits.specs.Limits.{Numbers, joined, time_alone, slopes_alone, line_slope, span_values, span_slopes, curve_numbers}
+use Rattle.upp_normal.specs.upp_limits.specs.Seen.{seen_of, seen_risen}
+use Rattle.upp_normal.specs.upp_limits.specs.ClosedForm.{seen_values, span_numbers, last_numbers}
+use Rattle.upp_normal.specs.upp_limits.proofs.ClosedForms.{seen_copy, slope_later}
+use Rattle.upp_normal.specs.upp_limits.proofs.JoinedNumbers.{make_numbers, joined_assoc, joined_nothing, joined_three}
+use Rattle.upp_normal.specs.upp_limits.proofs.PieceLists.{spans_none}
+use Rattle.upp_normal.specs.upp_limits.proofs.Copies.{copies_in, copies_out}
 use Rattle.sim_bounds.specs.Gauge.{starts_at, spans_at, numbers_to}
 use Rattle.window_numbers.specs.CurveEnds.{itself_at, next_copy, copy_at, at_end, numbers_with, end_numbers, all_end_numbers}
 

@@ -10,24 +10,24 @@ use Rattle.rational.proofs.Laws.{le_of_lt, mul_nonneg, antisym}
 use Rattle.rational.proofs.Integers.{nat_nonneg}
 use Rattle.rational.proofs.Over.{lt_q_out}
 use Rattle.rational.proofs.MinMax.{lt_q_not}
-use Rattle.upp_curve.specs.declared.curve.Tail.{Tail}
-use Rattle.upp_curve.specs.declared.curve.Tail.TheVariants.{Periodic, Affine, Infinite}
-use Rattle.upp_curve.specs.Curve.{SpecCurve}
-use Rattle.upp_curve.specs.Curves.{IsCurve}
-use Rattle.upp_curve.specs.Unrolled.{copies_below}
-use Rattle.upp_limits.specs.Periods.{HasPeriod}
-use Rattle.upp_limits.specs.Spans.{Span, copy_of, copies_of, once_below, span_below, spans, spans_below}
-use Rattle.upp_limits.specs.Limits.{Numbers, Sizes, span_values, span_slopes, curve_numbers}
-use Rattle.upp_limits.specs.Sized.{AreSizes, IsValue, IsSlope, SpanStands, TailStands, Stands, HeldBy}
-use Rattle.upp_limits.specs.Seen.{SpanFits}
-use Rattle.upp_limits.proofs.Every.{every_weaken, every_flat_out}
-use Rattle.upp_limits.proofs.Copies.{copies_in, copy_zero, copy_among}
-use Rattle.upp_limits.proofs.CurveStands.{unrolled_stand, tail_stands}
-use Rattle.upp_limits.proofs.KnownNumbers.{span_fits, seen_rises, few_periods, nonneg_spans}
-use Rattle.upp_limits.proofs.NarrowSizes.{IsNarrow, narrow_gauge}
-use Rattle.upp_limits.proofs.Operands.{curve_period}
-use Rattle.upp_limits.proofs.PieceLists.{starts_nonneg}
-use Rattle.upp_limits.proofs.Stands.{stands_left, stands_right, span_stands}
+use Rattle.upp_normal.specs.upp_curve.specs.declared.curve.Tail.{Tail}
+use Rattle.upp_normal.specs.upp_curve.specs.declared.curve.Tail.TheVariants.{Periodic, Affine, Infinite}
+use Rattle.upp_normal.specs.upp_curve.specs.Curve.{SpecCurve}
+use Rattle.upp_normal.specs.upp_curve.specs.Curves.{IsCurve}
+use Rattle.upp_normal.specs.upp_curve.specs.Unrolled.{copies_below}
+use Rattle.upp_normal.specs.upp_limits.specs.Periods.{HasPeriod}
+use Rattle.upp_normal.specs.upp_limits.specs.Spans.{Span, copy_of, copies_of, once_below, span_below, spans, spans_below}
+use Rattle.upp_normal.specs.upp_limits.specs.Limits.{Numbers, Sizes, span_values, span_slopes, curve_numbers}
+use Rattle.upp_normal.specs.upp_limits.specs.Sized.{AreSizes, IsValue, IsSlope, SpanStands, TailStands, Stands, HeldBy}
+use Rattle.upp_normal.specs.upp_limits.specs.Seen.{SpanFits}
+use Rattle.upp_normal.specs.upp_limits.proofs.Every.{every_weaken, every_flat_out}
+use Rattle.upp_normal.specs.upp_limits.proofs.Copies.{copies_in, copy_zero, copy_among}
+use Rattle.upp_normal.specs.upp_limits.proofs.CurveStands.{unrolled_stand, tail_stands}
+use Rattle.upp_normal.specs.upp_limits.proofs.KnownNumbers.{span_fits, seen_rises, few_periods, nonneg_spans}
+use Rattle.upp_normal.specs.upp_limits.proofs.NarrowSizes.{IsNarrow, narrow_gauge}
+use Rattle.upp_normal.specs.upp_limits.proofs.Operands.{curve_period}
+use Rattle.upp_normal.specs.upp_limits.proofs.PieceLists.{starts_nonneg}
+use Rattle.upp_normal.specs.upp_limits.proofs.Stands.{stands_left, stands_right, span_stands}
 use Rattle.sim_bounds.specs.Gauge.{spans_at, numbers_to}
 use Rattle.window_numbers.specs.CurveEnds.{itself_at, next_copy, copy_at, at_end, CopyFits, KnowsEnd}
 use Rattle.window_numbers.proofs.EndSpans.{starts_true, next_from, curve_at_end}

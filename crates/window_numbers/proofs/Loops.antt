@@ -3,14 +3,14 @@ use Rattle.std.proofs.Common.{◌≡◌, ℕ, zero, suc, ◌<◌, ◌≤◌, ◌
 use Rattle.std.specs.Prelude.{Option, map}
 use Rattle.std.proofs.lemmas.List.{drop_more, drop_all}
 use Rattle.rational.specs.Rational.{ℚ}
-use Rattle.upp_limits.specs.Limits.{Numbers, Sizes, no_numbers, joined}
-use Rattle.upp_limits.specs.Sized.{HeldBy}
-use Rattle.upp_limits.proofs.JoinedNumbers.{joined_assoc, joined_nothing}
-use Rattle.upp_limits.proofs.Operands.{held_left, held_right}
-use Rattle.net_model.specs.declared.flow.Flow.{Flow}
-use Rattle.net_model.specs.declared.server.Server.{Server}
-use Rattle.net_model.specs.Networks.{NetServer}
-use Rattle.net_model.specs.Views.{flows_of, servers_of}
+use Rattle.upp_normal.specs.upp_limits.specs.Limits.{Numbers, Sizes, no_numbers, joined}
+use Rattle.upp_normal.specs.upp_limits.specs.Sized.{HeldBy}
+use Rattle.upp_normal.specs.upp_limits.proofs.JoinedNumbers.{joined_assoc, joined_nothing}
+use Rattle.upp_normal.specs.upp_limits.proofs.Operands.{held_left, held_right}
+use Rattle.sim_bounds.specs.net_model.specs.declared.flow.Flow.{Flow}
+use Rattle.sim_bounds.specs.net_model.specs.declared.server.Server.{Server}
+use Rattle.sim_bounds.specs.net_model.specs.Networks.{NetServer}
+use Rattle.sim_bounds.specs.net_model.specs.Views.{flows_of, servers_of}
 use Rattle.sim_bounds.specs.Gauge.{numbers_to, numbers_of_curves, arrivals_of}
 use Rattle.window_numbers.proofs.SameGathered.{curves_split}
 

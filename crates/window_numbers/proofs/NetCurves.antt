@@ -1,10 +1,10 @@
 -- The numbers of a network's service curves, and of its arrival curves.
 use Rattle.std.proofs.Common.{map, sym, subst}
 use Rattle.rational.specs.Rational.{ℚ}
-use Rattle.upp_limits.specs.Limits.{Numbers, Sizes}
-use Rattle.upp_limits.specs.Sized.{HeldBy}
-use Rattle.upp_limits.proofs.Operands.{held_left, held_right}
-use Rattle.net_model.specs.Networks.{Net, NetServer}
+use Rattle.upp_normal.specs.upp_limits.specs.Limits.{Numbers, Sizes}
+use Rattle.upp_normal.specs.upp_limits.specs.Sized.{HeldBy}
+use Rattle.upp_normal.specs.upp_limits.proofs.Operands.{held_left, held_right}
+use Rattle.sim_bounds.specs.net_model.specs.Networks.{Net, NetServer}
 use Rattle.sim_bounds.specs.Gauge.{numbers_of_curves, arrivals_of, curves_of}
 use Rattle.window_numbers.proofs.SameGathered.{curves_split}
 

@@ -5,18 +5,18 @@ use native.Mathlib.Nat.{le-mul_of_pos_right}
 use Rattle.rational.specs.Rational.{ℚ, int, ◌*ℚ◌}
 use Rattle.rational.specs.Gauge.{common_den, bound_of, size_up}
 use Rattle.min_plus.specs.WholeUp.{whole_up}
-use Rattle.upp_limits.specs.Limits.{Numbers, Sizes, joined, value_alone, twice, sizes_of, gauge_of}
-use Rattle.upp_limits.specs.Sized.{HeldBy}
-use Rattle.upp_limits.proofs.Gathering.{bound_more}
-use Rattle.upp_limits.proofs.CurveStands.{are_sizes}
-use Rattle.upp_limits.proofs.CommonDen.{common_den_each, same_common_den, size_up_within, size_up_least}
-use Rattle.upp_limits.proofs.Every.{every_append, every_left}
+use Rattle.upp_normal.specs.upp_limits.specs.Limits.{Numbers, Sizes, joined, value_alone, twice, sizes_of, gauge_of}
+use Rattle.upp_normal.specs.upp_limits.specs.Sized.{HeldBy}
+use Rattle.upp_normal.specs.upp_limits.proofs.Gathering.{bound_more}
+use Rattle.upp_normal.specs.upp_limits.proofs.CurveStands.{are_sizes}
+use Rattle.upp_normal.specs.upp_limits.proofs.CommonDen.{common_den_each, same_common_den, size_up_within, size_up_least}
+use Rattle.upp_normal.specs.upp_limits.proofs.Every.{every_append, every_left}
 use Rattle.rational.specs.Grid.{Whole}
 use Rattle.rational.proofs.Grid.{whole_int, within_nonneg}
 use Rattle.rational.proofs.Laws.{le_refl}
 use Rattle.rational.proofs.Integers.{nat_nonneg, nat_le_out}
-use Rattle.upp_limits.proofs.SameSizes.{make_sizes}
-use Rattle.upp_limits.proofs.Stands.{sizes_stand}
+use Rattle.upp_normal.specs.upp_limits.proofs.SameSizes.{make_sizes}
+use Rattle.upp_normal.specs.upp_limits.proofs.Stands.{sizes_stand}
 use Rattle.window_numbers.specs.Rated.{gauge_with}
 
 -- ---- a finer grid makes no gauge smaller

@@ -2,13 +2,13 @@
 use Rattle.std.proofs.Common.{◌≡◌, List, [], ◌∷◌, ◌++◌, refl, ap, ◌∙◌, subst}
 use Rattle.rational.specs.Rational.{ℚ}
 use Rattle.rational.specs.Gauge.{Kept, common_den}
-use Rattle.upp_curve.specs.Curve.{SpecCurve}
-use Rattle.upp_limits.specs.declared.gathered.Gathered.{Gathered}
-use Rattle.upp_limits.specs.Limits.{Numbers, joined}
-use Rattle.upp_limits.specs.Gathered.{Gathers}
-use Rattle.upp_limits.proofs.CommonDen.{common_den_each, same_common_den}
-use Rattle.upp_limits.proofs.JoinedNumbers.{joined_assoc}
-use Rattle.upp_limits.proofs.SameSizes.{Equals, turned, times_pass, den_values, den_slopes, bound_values, bound_slopes}
+use Rattle.upp_normal.specs.upp_curve.specs.Curve.{SpecCurve}
+use Rattle.upp_normal.specs.upp_limits.specs.declared.gathered.Gathered.{Gathered}
+use Rattle.upp_normal.specs.upp_limits.specs.Limits.{Numbers, joined}
+use Rattle.upp_normal.specs.upp_limits.specs.Gathered.{Gathers}
+use Rattle.upp_normal.specs.upp_limits.proofs.CommonDen.{common_den_each, same_common_den}
+use Rattle.upp_normal.specs.upp_limits.proofs.JoinedNumbers.{joined_assoc}
+use Rattle.upp_normal.specs.upp_limits.proofs.SameSizes.{Equals, turned, times_pass, den_values, den_slopes, bound_values, bound_slopes}
 use Rattle.sim_bounds.specs.Gauge.{numbers_to, numbers_of_curves}
 
 den_times : (a b : Numbers) → Equals a b → common_den a.times ≡ common_den b.times

@@ -2,12 +2,12 @@
 use Rattle.std.specs.Prelude.{◌≡◌, ◌<◌, ◌^◌, pos, cond, List, [], ◌∷◌}
 use Rattle.std.specs.List.{flat_map}
 use Rattle.rational.specs.Rational.{ℚ, ◌+ℚ◌, ◌*ℚ◌, ◌≤ℚ◌, ◌<ℚ◌, int, lt_q}
-use Rattle.upp_curve.specs.declared.curve.Tail.{Tail}
-use Rattle.upp_curve.specs.declared.curve.Tail.TheVariants.{Periodic, Affine, Infinite}
-use Rattle.upp_curve.specs.Unrolled.{copies_below}
-use Rattle.upp_limits.specs.Spans.{Span, copy_of}
-use Rattle.upp_limits.specs.Limits.{Numbers, no_numbers, joined, span_values, span_slopes}
-use Rattle.upp_limits.specs.Seen.{SpanFits, SeenRises, seen_of}
+use Rattle.upp_normal.specs.upp_curve.specs.declared.curve.Tail.{Tail}
+use Rattle.upp_normal.specs.upp_curve.specs.declared.curve.Tail.TheVariants.{Periodic, Affine, Infinite}
+use Rattle.upp_normal.specs.upp_curve.specs.Unrolled.{copies_below}
+use Rattle.upp_normal.specs.upp_limits.specs.Spans.{Span, copy_of}
+use Rattle.upp_normal.specs.upp_limits.specs.Limits.{Numbers, no_numbers, joined, span_values, span_slopes}
+use Rattle.upp_normal.specs.upp_limits.specs.Seen.{SpanFits, SeenRises, seen_of}
 use Rattle.sim_bounds.specs.Gauge.{starts_at}
 
 -- ---- what of a span starts at `end`

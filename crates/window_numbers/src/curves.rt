@@ -1,17 +1,17 @@
 //! The numbers of all curves of a network up to the end of a window.
 
 ghost use Rattle.std.specs.Prelude.{[], ◌∷◌, map, IfSome, IsSome};
-ghost use Rattle.upp_limits.specs.Limits.{Numbers, Sizes, joined};
-ghost use Rattle.upp_limits.specs.Sized.{HeldBy};
-ghost use Rattle.upp_limits.specs.Gathered.{Gathers};
-ghost use Rattle.net_model.specs.Networks.{NetServer};
-ghost use Rattle.net_model.specs.Views.{servers_of, flows_of};
+ghost use Rattle.upp_normal.specs.upp_limits.specs.Limits.{Numbers, Sizes, joined};
+ghost use Rattle.upp_normal.specs.upp_limits.specs.Sized.{HeldBy};
+ghost use Rattle.upp_normal.specs.upp_limits.specs.Gathered.{Gathers};
+ghost use Rattle.sim_bounds.specs.net_model.specs.Networks.{NetServer};
+ghost use Rattle.sim_bounds.specs.net_model.specs.Views.{servers_of, flows_of};
 ghost use Rattle.sim_bounds.specs.Gauge.{numbers_of_curves, arrivals_of};
 
 use crate::curve_ends::with_curve;
-use fraction128::Frac;
-use net_model::{Flow, Server};
-use upp_limits::gathered::Gathered;
+use sim_bounds::net_model::{Flow, Server};
+use upp_normal::fraction128::Frac;
+use upp_normal::upp_limits::gathered::Gathered;
 
 /// The numbers of the service curves more.
 pub fn with_services(g: Gathered, servers: &[Server], end: Frac) -> Option<Gathered>

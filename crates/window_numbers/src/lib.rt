@@ -7,5 +7,7 @@ mod steps;
 mod wide;
 
 pub use curves::{with_arrivals, with_services};
+pub use sim_bounds::net_model;
 pub use steps::{minus, over, plus};
+pub use upp_normal::upp_limits;
 pub use wide::is_over;

@@ -4,7 +4,7 @@ ghost use Rattle.std.specs.Prelude.{◌≡◌, ◌≢◌, pos, IfSome, IsSome};
 ghost use Rattle.rational.specs.Rational.{int, ◌+ℚ◌, ◌-ℚ◌, neg_ℚ, ◌/ℚ◌};
 ghost use Rattle.rational.specs.Ratio.{IsSmall, SumFits};
 
-use fraction128::Frac;
+use upp_normal::fraction128::Frac;
 
 /// a + b, where it fits.
 pub fn plus(a: Frac, b: Frac) -> Option<Frac>

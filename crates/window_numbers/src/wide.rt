@@ -2,13 +2,13 @@
 
 ghost use Rattle.std.specs.Prelude.{ℕ, ◌↔◌, ◌≤◌, ◌^◌, IsTrue};
 ghost use Rattle.rational.specs.Gauge.{Kept};
-ghost use Rattle.upp_limits.specs.Limits.{Numbers, joined, time_alone, sizes_of};
-ghost use Rattle.upp_limits.specs.Gathered.{Gathers};
+ghost use Rattle.upp_normal.specs.upp_limits.specs.Limits.{Numbers, joined, time_alone, sizes_of};
+ghost use Rattle.upp_normal.specs.upp_limits.specs.Gathered.{Gathers};
 ghost use Rattle.window_numbers.specs.Rated.{gauge_with};
 
-use fraction128::Frac;
-use upp_limits::gathered::Gathered;
-use upp_limits::gauges::{product, reach};
+use upp_normal::fraction128::Frac;
+use upp_normal::upp_limits::gathered::Gathered;
+use upp_normal::upp_limits::gauges::{product, reach};
 
 /// Whether the gauge of the numbers gathered, on a grid of times made finer by `rates`, is 2^120 or more.
 pub fn is_over(g: Gathered, rates: u128, end: Frac) -> bool

@@ -14,8 +14,8 @@ use Rattle.upp_curve.specs.Curve.{value_at}
 use Rattle.upp_curve.specs.Curves.{IsCurve}
 use Rattle.upp_curve.specs.Kinds.{bucket, rate_latency}
 use Rattle.upp_curve.proofs.ReadableKinds.{bucket_curve}
-use Rattle.upp_kinds.proofs.KindForms.{late_normal}
-use Rattle.upp_kinds.proofs.KindValues.{bucket_is, service_is}
+use Rattle.upp_curve.proofs.KindForms.{late_normal}
+use Rattle.upp_curve.proofs.KindValues.{bucket_is, service_is}
 
 -- ---- steps that fit 127 bits
 abbrev pub small : ℚ → Bool

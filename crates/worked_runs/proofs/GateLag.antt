@@ -19,8 +19,8 @@ use Rattle.min_plus.specs.Pointwise.{excess}
 use Rattle.min_plus.specs.Deviations.{Lag, IsLag, IsHorizontalDeviation, IsVerticalDeviation}
 use Rattle.upp_curve.specs.Curve.{SpecCurve, value_at}
 use Rattle.upp_curve.specs.Kinds.{gate, stair}
-use Rattle.upp_kinds.proofs.StairValues.{stair_is, ratio_low}
-use Rattle.upp_kinds.proofs.Worked.{computing}
+use Rattle.upp_curve.proofs.StairValues.{stair_is, ratio_low}
+use Rattle.upp_curve.proofs.Worked.{computing}
 use Rattle.run_laws.specs.Cards.{whole}
 use Rattle.run_laws.proofs.Small.{le_t, lt_t, sum_t}
 use Rattle.run_laws.proofs.Sizes.{whole_times}

@@ -26,8 +26,8 @@ use Rattle.upp_curve.specs.Normal.{IsNormal}
 use Rattle.upp_curve.specs.Readable.{IsReadable, SumFitsAt}
 use Rattle.upp_curve.specs.Steady.{Repeats}
 use Rattle.upp_curve.proofs.Repeats.{repeated_first}
-use Rattle.upp_kinds.proofs.KindValues.{on_line}
-use Rattle.upp_kinds.proofs.Worked.{computing}
+use Rattle.upp_curve.proofs.KindValues.{on_line}
+use Rattle.upp_curve.proofs.Worked.{computing}
 use Rattle.curve_call.specs.Answers.{IsMadeBy}
 use Rattle.run_laws.specs.Cards.{whole}
 use Rattle.run_laws.proofs.Small.{le_t, lt_t}

@@ -14,8 +14,8 @@ use Rattle.affine_segment.specs.Reading.{read}
 use Rattle.min_plus.specs.Functions.{zero_q}
 use Rattle.upp_curve.specs.Curve.{value_at, repeated}
 use Rattle.upp_curve.specs.Kinds.{gate, gated}
-use Rattle.upp_kinds.proofs.GateValues.{gate_pieces, closed_value, open_value}
-use Rattle.upp_kinds.proofs.Worked.{computing}
+use Rattle.upp_curve.proofs.GateValues.{gate_pieces, closed_value, open_value}
+use Rattle.upp_curve.proofs.Worked.{computing}
 use Rattle.run_laws.specs.Cards.{whole}
 use Rattle.run_laws.proofs.Small.{lt_t}
 

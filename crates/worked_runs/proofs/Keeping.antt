@@ -11,7 +11,7 @@ use Rattle.min_plus.specs.Functions.{zero_q}
 use Rattle.min_plus.specs.Formulas.{IsService}
 use Rattle.upp_curve.specs.Curve.{value_at}
 use Rattle.upp_curve.specs.Kinds.{bucket}
-use Rattle.upp_kinds.proofs.KindValues.{bucket_is}
+use Rattle.upp_curve.proofs.KindValues.{bucket_is}
 use Rattle.run_laws.specs.Cards.{whole, all, ServerStep}
 use Rattle.run_laws.specs.Counts.{when, arrived, worked}
 use Rattle.run_laws.specs.Premises.{KeepsService}

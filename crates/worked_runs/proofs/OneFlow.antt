@@ -8,7 +8,7 @@ use Rattle.rational.specs.declared.Extended.TheVariants.{Fin}
 use Rattle.rational.proofs.Integers.{nat_nonneg}
 use Rattle.upp_curve.specs.Curve.{value_at}
 use Rattle.upp_curve.specs.Kinds.{bucket, rate_latency}
-use Rattle.upp_kinds.proofs.KindValues.{bucket_is, service_is}
+use Rattle.upp_curve.proofs.KindValues.{bucket_is, service_is}
 use Rattle.run_laws.specs.Cards.{whole}
 use Rattle.run_laws.specs.Examples.{one_packet, ReachesItsBound}
 use Rattle.run_laws.specs.Premises.{KeepsService}

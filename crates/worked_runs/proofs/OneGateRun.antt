@@ -12,7 +12,7 @@ use Rattle.rational.proofs.Linear.{with1, with2}
 use Rattle.min_plus.specs.Functions.{zero_q}
 use Rattle.upp_curve.specs.Curve.{value_at}
 use Rattle.upp_curve.specs.Kinds.{gate, stair}
-use Rattle.upp_kinds.proofs.StairValues.{stair_is}
+use Rattle.upp_curve.proofs.StairValues.{stair_is}
 use Rattle.run_laws.specs.Cards.{whole, all}
 use Rattle.run_laws.specs.Servers.{Span, clip}
 use Rattle.run_laws.specs.Counts.{when, within, arrived, worked}

@@ -19,9 +19,9 @@ use Rattle.upp_limits.specs.declared.op_kind.OpKind.TheVariants.{PosMinus, FifoL
 use Rattle.upp_curve.specs.Curve.{value_at}
 use Rattle.upp_curve.specs.Curves.{IsCurve}
 use Rattle.upp_curve.specs.Readable.{IsReadable, SumFitsAt}
-use Rattle.upp_kinds.proofs.GateValues.{closed_value}
-use Rattle.upp_kinds.proofs.KindForms.{gate_normal}
-use Rattle.upp_kinds.proofs.Worked.{computing}
+use Rattle.upp_curve.proofs.GateValues.{closed_value}
+use Rattle.upp_curve.proofs.KindForms.{gate_normal}
+use Rattle.upp_curve.proofs.Worked.{computing}
 use Rattle.curve_call.specs.Answers.{IsMadeBy}
 use Rattle.run_laws.specs.Cards.{whole}
 use Rattle.run_laws.proofs.Small.{le_t, lt_t}

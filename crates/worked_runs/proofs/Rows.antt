@@ -14,8 +14,8 @@ use Rattle.upp_curve.specs.Curve.{SpecCurve, value_at}
 use Rattle.upp_curve.specs.Kinds.{bucket, rate_latency}
 use Rattle.curve_call.specs.Answers.{IsMadeBy}
 use Rattle.run_laws.proofs.Small.{le_t, lt_t}
-use Rattle.upp_kinds.proofs.KindValues.{bucket_is}
-use Rattle.upp_kinds.proofs.Worked.{computing}
+use Rattle.upp_curve.proofs.KindValues.{bucket_is}
+use Rattle.upp_curve.proofs.Worked.{computing}
 use Rattle.run_laws.specs.Cards.{whole}
 use Rattle.net_cells.specs.NumberSums.{sum_of_numbers}
 use Rattle.worked_runs.proofs.Curves.{IsBurst, burst_by, IsLate, late_by}

@@ -11,7 +11,7 @@ use Rattle.curve_call.specs.Answers.{IsMadeBy}
 use Rattle.upp_limits.specs.declared.op_kind.OpKind.TheVariants.{PosMinus, FifoLeft}
 use Rattle.upp_curve.specs.Curve.{SpecCurve, value_at}
 use Rattle.upp_curve.specs.Kinds.{bucket, rate_latency}
-use Rattle.upp_kinds.proofs.Worked.{computing}
+use Rattle.upp_curve.proofs.Worked.{computing}
 use Rattle.run_laws.specs.Cards.{whole}
 use Rattle.run_laws.specs.Servers.{Priority}
 use Rattle.run_laws.proofs.Small.{le_t, lt_t}

@@ -9,7 +9,7 @@ use Rattle.rational.proofs.Integers.{nat_nonneg}
 use Rattle.rational.proofs.Linear.{with1}
 use Rattle.upp_curve.specs.Curve.{value_at}
 use Rattle.upp_limits.specs.Windows.{IsLeast}
-use Rattle.upp_kinds.proofs.KindValues.{service_is}
+use Rattle.upp_curve.proofs.KindValues.{service_is}
 use Rattle.run_laws.specs.Cards.{whole}
 use Rattle.run_laws.specs.Counts.{when, within}
 use Rattle.run_laws.specs.Premises.{KeepsService}

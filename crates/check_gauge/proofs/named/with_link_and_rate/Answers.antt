@@ -1,7 +1,7 @@
 use Rattle.std.proofs.Common.{subst}
 use Rattle.upp_limits.specs.Limits.{joined, time_alone}
 use Rattle.upp_limits.specs.Gathered.{Gathers}
-use Rattle.net_model.specs.Views.{server_of}
+use Rattle.window_numbers.specs.net_model.specs.Views.{server_of}
 use Rattle.check_gauge.proofs.Loops.{server_joined}
 use Rattle.check_gauge.proofs.named.with_link_and_rate.Goals as goal
 

@@ -1,7 +1,7 @@
 use Rattle.std.proofs.Common.{◌≡◌, drop}
 use Rattle.upp_limits.specs.Limits.{Numbers, joined}
 use Rattle.upp_limits.specs.Gathered.{Gathers}
-use Rattle.net_model.specs.Views.{servers_of}
+use Rattle.window_numbers.specs.net_model.specs.Views.{servers_of}
 use Rattle.check_gauge.specs.Named.{links_and_rates}
 use Rattle.check_gauge.proofs.named.with_links_and_rates.Given as goal
 

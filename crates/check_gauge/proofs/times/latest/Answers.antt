@@ -1,7 +1,7 @@
 use Rattle.std.proofs.Common.{length, sym, ap, ◌∙◌, arith, ◌≤◌}
 use Rattle.std.proofs.lemmas.List.{drop_all}
 use Rattle.rational.specs.MinMax.{max_q}
-use Rattle.sim_bounds.specs.Horizons.{latest_of}
+use Rattle.window_numbers.specs.sim_bounds.specs.Horizons.{latest_of}
 use Rattle.check_gauge.specs.Runs.{step_end}
 use Rattle.check_gauge.proofs.Loops.{one_before}
 use Rattle.check_gauge.proofs.times.latest.Goals as goal

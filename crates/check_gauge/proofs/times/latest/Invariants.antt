@@ -1,5 +1,5 @@
 use Rattle.std.proofs.Common.{◌≡◌, drop}
-use Rattle.sim_bounds.specs.Horizons.{latest_of}
+use Rattle.window_numbers.specs.sim_bounds.specs.Horizons.{latest_of}
 use Rattle.check_gauge.specs.Runs.{step_end}
 use Rattle.check_gauge.proofs.times.latest.Given as goal
 

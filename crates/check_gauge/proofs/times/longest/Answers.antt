@@ -1,10 +1,10 @@
 use Rattle.std.proofs.Common.{length, sym, ap, ◌∙◌, arith, ◌≤◌}
 use Rattle.std.proofs.lemmas.List.{drop_all}
 use Rattle.rational.specs.MinMax.{max_q}
-use Rattle.net_model.specs.declared.server.Server.{Server}
-use Rattle.net_model.specs.Networks.{NetServer}
-use Rattle.net_model.specs.Views.{servers_of}
-use Rattle.sim_bounds.specs.Horizons.{latest_of}
+use Rattle.window_numbers.specs.net_model.specs.declared.server.Server.{Server}
+use Rattle.window_numbers.specs.net_model.specs.Networks.{NetServer}
+use Rattle.window_numbers.specs.net_model.specs.Views.{servers_of}
+use Rattle.window_numbers.specs.sim_bounds.specs.Horizons.{latest_of}
 use Rattle.check_gauge.proofs.Loops.{one_before}
 use Rattle.check_gauge.proofs.times.longest.Goals as goal
 

@@ -1,7 +1,7 @@
 use Rattle.std.proofs.Common.{◌≡◌, drop}
-use Rattle.net_model.specs.Networks.{NetServer}
-use Rattle.net_model.specs.Views.{servers_of}
-use Rattle.sim_bounds.specs.Horizons.{latest_of}
+use Rattle.window_numbers.specs.net_model.specs.Networks.{NetServer}
+use Rattle.window_numbers.specs.net_model.specs.Views.{servers_of}
+use Rattle.window_numbers.specs.sim_bounds.specs.Horizons.{latest_of}
 use Rattle.check_gauge.proofs.times.longest.Given as goal
 
 -- that of the servers from number i on

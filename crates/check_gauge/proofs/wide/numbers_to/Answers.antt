@@ -4,8 +4,8 @@ use Rattle.upp_limits.specs.Gathered.{Gathers}
 use Rattle.upp_limits.specs.Sized.{HeldBy}
 use Rattle.upp_limits.proofs.SpanNumbers.{if_some_map}
 use Rattle.run_laws.specs.Runs.{SpecRun}
-use Rattle.net_model.specs.Networks.{NetServer}
-use Rattle.sim_bounds.specs.Gauge.{numbers_of_curves, arrivals_of}
+use Rattle.window_numbers.specs.net_model.specs.Networks.{NetServer}
+use Rattle.window_numbers.specs.sim_bounds.specs.Gauge.{numbers_of_curves, arrivals_of}
 use Rattle.window_numbers.proofs.NetCurves.{services}
 use Rattle.check_gauge.specs.Named.{links_and_rates, steps_numbers}
 use Rattle.check_gauge.specs.Paces.{PacesFit}

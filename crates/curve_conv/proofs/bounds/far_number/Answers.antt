@@ -1,8 +1,8 @@
 use Rattle.std.proofs.Common.{pos, sym, subst, true≢false}
-use Rattle.rational.specs.Rational.{int}
-use Rattle.rational.specs.Extended.{◌<ₑ◌}
-use Rattle.upp_curve.specs.Steady.{rate}
-use Rattle.curve_least.specs.Levels.{level_curve}
+use Rattle.curve_pointwise.specs.rational.specs.Rational.{int}
+use Rattle.curve_pointwise.specs.rational.specs.Extended.{◌<ₑ◌}
+use Rattle.curve_pointwise.specs.upp_curve.specs.Steady.{rate}
+use Rattle.curve_pointwise.specs.curve_call.specs.Levels.{level_curve}
 use Rattle.curve_conv.proofs.BoundsFound.{begins_early, far_number_is}
 use Rattle.curve_conv.proofs.bounds.far_number.Goals as goal
 

@@ -2,8 +2,8 @@ use Rattle.std.proofs.Common.{◌≡◌, ◌≤◌, ◌<◌, ◌+◌, ◌-◌, �
 use Rattle.std.proofs.lemmas.List.{drop_all}
 use Rattle.rational.specs.Rational.{neg_ℚ}
 use Rattle.rational.specs.Ratio.{SumFits}
-use Rattle.affine_segment.proofs.NextPiece.{next_piece}
-use Rattle.upp_normal.proofs.NormaliseRank.{each_index}
+use Rattle.curve_running.specs.affine_segment.proofs.NextPiece.{next_piece}
+use Rattle.curve_running.specs.upp_normal.proofs.NormaliseRank.{each_index}
 use Rattle.curve_deconv.specs.Mirrored.{IsMirrorable}
 use Rattle.curve_deconv.proofs.MirroredPieces.{MirrorLoop, fits_from, mirror_next, mirror_last}
 use Rattle.curve_deconv.proofs.mirroring.mirrored_pieces.Goals as goal

@@ -1,5 +1,5 @@
 use Rattle.std.proofs.Common.{refl, sym, subst}
-use Rattle.affine_segment.specs.Values.{line_at}
+use Rattle.curve_call.specs.affine_segment.specs.Values.{line_at}
 use Rattle.curve_deviation.specs.Cells.{IsCellLag}
 use Rattle.curve_deviation.proofs.CellLag.{apart_lag}
 use Rattle.curve_deviation.proofs.CellSizes.{value_fits, times_differ, less_as, not_less_as}

@@ -1,8 +1,8 @@
 use Rattle.std.proofs.Common.{◌∙◌, ap}
-use Rattle.affine_segment.proofs.PieceIn.{read_found}
+use Rattle.curve_call.specs.affine_segment.proofs.PieceIn.{read_found}
 use Rattle.curve_deviation.proofs.EarlyParts.{fits_found, line_found}
 use Rattle.curve_deviation.proofs.parts.plain_part.Goals as goal
-use Rattle.curve_least.specs.GapSteps.{earlier_of}
+use Rattle.curve_call.specs.GapSteps.{earlier_of}
 
 pub piece_value-requires : goal.piece_value-requires
 piece_value-requires c = fits_found c.args.pieces.now c.args.t c.piece_at-piece.result c.requires.starts c.requires.fits c.piece_at-piece.ensures

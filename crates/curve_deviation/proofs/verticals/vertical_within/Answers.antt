@@ -1,10 +1,10 @@
 use Rattle.std.proofs.Common.{pos, sym, subst}
 use Rattle.rational.specs.Rational.{int, ◌+ℚ◌}
-use Rattle.upp_curve.specs.Curve.{value_at}
-use Rattle.upp_normal.specs.Ahead.{HasWindow, IsTimeIn}
-use Rattle.curve_least.specs.declared.gaps.Gap.TheVariants.{NoTime, Never, Is}
-use Rattle.curve_least.specs.Gaps.{InWindow, IsGap}
-use Rattle.curve_least.proofs.LeastNumber.{end_fits}
+use Rattle.curve_call.specs.upp_curve.specs.Curve.{value_at}
+use Rattle.curve_call.specs.upp_normal.specs.Ahead.{HasWindow, IsTimeIn}
+use Rattle.curve_call.specs.declared.gaps.Gap.TheVariants.{NoTime, Never, Is}
+use Rattle.curve_call.specs.Gaps.{InWindow, IsGap}
+use Rattle.curve_call.proofs.LeastNumber.{end_fits}
 use Rattle.curve_deviation.proofs.WholeGap.{vertical_is, some_time, never_endless, whole_window}
 use Rattle.curve_deviation.proofs.verticals.vertical_within.Goals as goal
 

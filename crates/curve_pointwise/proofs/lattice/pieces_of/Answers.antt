@@ -1,7 +1,7 @@
 use Rattle.std.proofs.Common.{◌∙◌, subst}
-use Rattle.upp_curve.specs.Unrolled.{unroll}
-use Rattle.upp_normal.proofs.NormaliseForm.{ok_map}
-use Rattle.curve_window.specs.Operands.{IsMadeOf}
+use Rattle.curve_call.specs.upp_curve.specs.Unrolled.{unroll}
+use Rattle.curve_call.specs.upp_normal.proofs.NormaliseForm.{ok_map}
+use Rattle.curve_call.specs.Operands.{IsMadeOf}
 use Rattle.curve_pointwise.specs.Lattice.{made_of, rises_of}
 use Rattle.curve_pointwise.proofs.LatticeCalls.{operands}
 use Rattle.curve_pointwise.proofs.lattice.pieces_of.Goals as goal

@@ -1,9 +1,9 @@
 use Rattle.std.proofs.Common.{refl, sym, subst, pos}
 use Rattle.std.specs.Prelude.{◌↔◌, IsTrue}
-use Rattle.rational.specs.Rational.{int}
-use Rattle.rational.specs.Extended.{◌<ₑ◌}
-use Rattle.upp_curve.specs.Steady.{rate}
-use Rattle.curve_least.proofs.Levels.{level_rate}
+use Rattle.curve_call.specs.rational.specs.Rational.{int}
+use Rattle.curve_call.specs.rational.specs.Extended.{◌<ₑ◌}
+use Rattle.curve_call.specs.upp_curve.specs.Steady.{rate}
+use Rattle.curve_call.proofs.Levels.{level_rate}
 use Rattle.curve_pointwise.proofs.levels.is_gaining.Goals as goal
 
 pub returns : goal.returns

@@ -1,7 +1,7 @@
 use Rattle.std.proofs.Common.{refl}
-use Rattle.upp_curve.specs.Unrolled.{unroll}
-use Rattle.upp_normal.proofs.NormaliseForm.{ok_map}
-use Rattle.curve_least.specs.Levels.{level_curve}
+use Rattle.curve_call.specs.upp_curve.specs.Unrolled.{unroll}
+use Rattle.curve_call.specs.upp_normal.proofs.NormaliseForm.{ok_map}
+use Rattle.curve_call.specs.Levels.{level_curve}
 use Rattle.curve_pointwise.specs.declared.lattice.Lattice.TheVariants.{Excess}
 use Rattle.curve_pointwise.proofs.LatticeCalls.{left_rise, from_fits}
 use Rattle.curve_pointwise.proofs.LatticeAnswers.{lattice_answer, lattice_values}

@@ -1,8 +1,8 @@
 use Rattle.std.proofs.Common.{◌∙◌, subst}
-use Rattle.upp_curve.specs.Unrolled.{unroll}
-use Rattle.upp_normal.proofs.NormaliseForm.{ok_map}
-use Rattle.curve_window.specs.Operands.{IsMadeOf}
-use Rattle.curve_least.specs.Levels.{level_curve}
+use Rattle.curve_call.specs.upp_curve.specs.Unrolled.{unroll}
+use Rattle.curve_call.specs.upp_normal.proofs.NormaliseForm.{ok_map}
+use Rattle.curve_call.specs.Operands.{IsMadeOf}
+use Rattle.curve_call.specs.Levels.{level_curve}
 use Rattle.curve_pointwise.specs.declared.lattice.Lattice.TheVariants.{Excess}
 use Rattle.curve_pointwise.specs.Lattice.{made_of, rises_of}
 use Rattle.curve_pointwise.proofs.LatticeCalls.{operands, some_end}

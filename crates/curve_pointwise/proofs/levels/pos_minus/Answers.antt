@@ -1,5 +1,5 @@
 use Rattle.std.proofs.lemmas.Result.{err_from_is_err_and}
-use Rattle.curve_least.specs.Levels.{level_curve}
+use Rattle.curve_call.specs.Levels.{level_curve}
 use Rattle.curve_pointwise.proofs.LatticeLevels.{minus_wide, minus_compared, minus_none, minus_refused, minus_is_within, minus_frame, sides_compared, sides_least, sides_none}
 use Rattle.curve_pointwise.proofs.levels.pos_minus.Goals as goal
 

@@ -1,5 +1,5 @@
 use Rattle.std.proofs.Common.{◌≡◌, map, take}
-use Rattle.upp_limits.specs.Gauges.{scaled_piece}
+use Rattle.curve_call.specs.upp_limits.specs.Gauges.{scaled_piece}
 use Rattle.curve_pointwise.proofs.scaling.fitting_pieces.Given as goal
 
 abbrev pub invariant-loop-piece : goal.invariant-loop-piece

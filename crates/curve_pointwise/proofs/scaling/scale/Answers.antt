@@ -1,5 +1,5 @@
 use Rattle.std.proofs.lemmas.Result.{err_from_is_err_and}
-use Rattle.upp_limits.specs.declared.op_kind.OpKind.TheVariants.{Scale}
+use Rattle.curve_call.specs.upp_limits.specs.declared.op_kind.OpKind.TheVariants.{Scale}
 use Rattle.curve_call.proofs.Limited.{scale_least, frame_within}
 use Rattle.curve_pointwise.proofs.scaling.scale.Goals as goal
 

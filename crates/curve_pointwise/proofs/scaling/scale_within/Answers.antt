@@ -1,12 +1,12 @@
 use Rattle.std.proofs.Common.{◌∙◌, sym, ap, subst}
 use Rattle.std.specs.Prelude.{List, map}
-use Rattle.affine_segment.specs.declared.line.Piece.{Piece}
-use Rattle.upp_limits.specs.declared.op_kind.OpKind.TheVariants.{Scale}
-use Rattle.upp_curve.specs.declared.curve.Tail.{Tail}
-use Rattle.affine_segment.specs.Pieces.{Each}
-use Rattle.upp_limits.specs.Gauges.{scaled_piece, scaled_tail}
-use Rattle.upp_limits.specs.ClosedOperands.{PieceScales, TailScales}
-use Rattle.upp_normal.proofs.NormaliseForm.{ok_map}
+use Rattle.curve_call.specs.affine_segment.specs.declared.line.Piece.{Piece}
+use Rattle.curve_call.specs.upp_limits.specs.declared.op_kind.OpKind.TheVariants.{Scale}
+use Rattle.curve_call.specs.upp_curve.specs.declared.curve.Tail.{Tail}
+use Rattle.curve_call.specs.affine_segment.specs.Pieces.{Each}
+use Rattle.curve_call.specs.upp_limits.specs.Gauges.{scaled_piece, scaled_tail}
+use Rattle.curve_call.specs.upp_limits.specs.ClosedOperands.{PieceScales, TailScales}
+use Rattle.curve_call.specs.upp_normal.proofs.NormaliseForm.{ok_map}
 use Rattle.curve_call.specs.Frames.{sizes_at}
 use Rattle.curve_pointwise.proofs.ScaleCall.{IsMade, scale_call, pieces_scale, made_raw, made_found, made_values}
 use Rattle.curve_pointwise.proofs.scaling.scale_within.Goals as goal

@@ -1,9 +1,9 @@
 use Rattle.std.proofs.Common.{◌+◌, ◌∙◌, ◌∷◌, ap, sym, subst, drop, drop_of_length-le, map}
-use Rattle.rational.specs.Rational.{◌≤ℚ◌}
-use Rattle.affine_segment.specs.Pieces.{StartsAtZero}
-use Rattle.upp_normal.specs.Normalising.{cut_at, past}
-use Rattle.affine_segment.proofs.NextPiece.{next_piece}
-use Rattle.upp_normal.proofs.NormaliseLoops.{past_go}
+use Rattle.curve_call.specs.rational.specs.Rational.{◌≤ℚ◌}
+use Rattle.curve_call.specs.affine_segment.specs.Pieces.{StartsAtZero}
+use Rattle.curve_call.specs.upp_normal.specs.Normalising.{cut_at, past}
+use Rattle.curve_call.specs.affine_segment.proofs.NextPiece.{next_piece}
+use Rattle.curve_call.specs.upp_normal.proofs.NormaliseLoops.{past_go}
 use Rattle.curve_pointwise.specs.Shifting.{left_piece}
 use Rattle.curve_pointwise.proofs.LeftWindow.{left_more, left_skips, left_ends}
 use Rattle.curve_pointwise.proofs.ShiftCall.{here_fits}

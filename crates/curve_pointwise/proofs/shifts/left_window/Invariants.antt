@@ -1,6 +1,6 @@
 use Rattle.std.proofs.Common.{◌≡◌, ◌++◌, ◌∷◌, List, drop, map}
-use Rattle.affine_segment.specs.declared.line.Piece.{Piece}
-use Rattle.upp_normal.specs.Normalising.{past, cut_at}
+use Rattle.curve_call.specs.affine_segment.specs.declared.line.Piece.{Piece}
+use Rattle.curve_call.specs.upp_normal.specs.Normalising.{past, cut_at}
 use Rattle.curve_pointwise.specs.Shifting.{left_piece}
 use Rattle.curve_pointwise.proofs.shifts.left_window.Given as goal
 

@@ -1,6 +1,6 @@
 use Rattle.std.proofs.lemmas.Result.{err_from_is_err_and}
-use Rattle.rational.specs.declared.Extended.TheVariants.{Fin}
-use Rattle.upp_limits.specs.declared.op_kind.OpKind.TheVariants.{Shift}
+use Rattle.curve_call.specs.rational.specs.declared.Extended.TheVariants.{Fin}
+use Rattle.curve_call.specs.upp_limits.specs.declared.op_kind.OpKind.TheVariants.{Shift}
 use Rattle.curve_call.proofs.Limited.{shift_least, frame_within}
 use Rattle.curve_pointwise.proofs.shifts.shift_by.Goals as goal
 

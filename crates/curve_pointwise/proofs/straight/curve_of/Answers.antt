@@ -1,6 +1,6 @@
 use Rattle.std.specs.Prelude.{nat_abs, ◌<◌, ◌^◌}
 use Rattle.std.proofs.Common.{subst}
-use Rattle.rational.specs.Ratio.{IsSmall}
+use Rattle.curve_call.specs.rational.specs.Ratio.{IsSmall}
 use Rattle.curve_pointwise.proofs.StraightSums.{straight_is_curve}
 use Rattle.curve_pointwise.proofs.straight.curve_of.Goals as goal
 

@@ -1,6 +1,6 @@
 use Rattle.std.specs.Prelude.{◌≡◌, ◌≤◌, ◌^◌, nat_abs}
 use Rattle.std.proofs.Common.{arith}
-use Rattle.rational.specs.Rational.{den}
+use Rattle.curve_call.specs.rational.specs.Rational.{den}
 use Rattle.curve_pointwise.proofs.StraightSums.{little_in}
 use Rattle.curve_pointwise.proofs.straight.is_little.Goals as goal
 

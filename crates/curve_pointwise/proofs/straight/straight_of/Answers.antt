@@ -1,5 +1,5 @@
 use Rattle.std.proofs.Common.{sym, subst}
-use Rattle.affine_segment.specs.Pieces.{StartsAtZero}
+use Rattle.curve_call.specs.affine_segment.specs.Pieces.{StartsAtZero}
 use Rattle.curve_pointwise.proofs.straight.straight_of.Goals as goal
 
 pub one_line-requires : goal.one_line-requires

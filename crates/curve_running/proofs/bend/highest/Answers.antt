@@ -1,6 +1,6 @@
 use Rattle.std.proofs.Common.{subst}
-use Rattle.rational.specs.Rational.{◌<ℚ◌}
-use Rattle.rational.proofs.Compared.{is_greater, not_greater}
+use Rattle.curve_pointwise.specs.rational.specs.Rational.{◌<ℚ◌}
+use Rattle.curve_pointwise.specs.rational.proofs.Compared.{is_greater, not_greater}
 use Rattle.curve_running.proofs.Bending.{sup_falling}
 use Rattle.curve_running.proofs.bend.highest.Goals as goal
 

@@ -1,4 +1,4 @@
-use Rattle.rational.proofs.Compared.{is_greater, is_less, not_less, not_greater}
+use Rattle.curve_pointwise.specs.rational.proofs.Compared.{is_greater, is_less, not_less, not_greater}
 use Rattle.curve_running.proofs.Bending.{sup_turning, sup_level, sup_rising}
 use Rattle.curve_running.proofs.bend.highest_rising.Goals as goal
 

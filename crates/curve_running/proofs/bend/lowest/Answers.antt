@@ -1,6 +1,6 @@
 use Rattle.std.proofs.Common.{subst}
-use Rattle.rational.specs.Rational.{◌<ℚ◌}
-use Rattle.rational.proofs.Compared.{is_greater, not_greater}
+use Rattle.curve_pointwise.specs.rational.specs.Rational.{◌<ℚ◌}
+use Rattle.curve_pointwise.specs.rational.proofs.Compared.{is_greater, not_greater}
 use Rattle.curve_running.proofs.Bending.{inf_falling}
 use Rattle.curve_running.proofs.bend.lowest.Goals as goal
 

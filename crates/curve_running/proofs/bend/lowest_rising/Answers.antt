@@ -1,4 +1,4 @@
-use Rattle.rational.proofs.Compared.{is_greater, is_less, not_less, not_greater}
+use Rattle.curve_pointwise.specs.rational.proofs.Compared.{is_greater, is_less, not_less, not_greater}
 use Rattle.curve_running.proofs.Bending.{inf_turning, inf_level, inf_rising}
 use Rattle.curve_running.proofs.bend.lowest_rising.Goals as goal
 

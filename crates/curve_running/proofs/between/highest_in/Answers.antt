@@ -1,6 +1,6 @@
 use Rattle.std.proofs.Common.{sym, subst}
-use Rattle.rational.proofs.Compared.{is_greater, not_greater, is_less, not_less}
-use Rattle.affine_segment.specs.Fits.{LineFits}
+use Rattle.curve_pointwise.specs.rational.proofs.Compared.{is_greater, not_greater, is_less, not_less}
+use Rattle.curve_pointwise.specs.affine_segment.specs.Fits.{LineFits}
 use Rattle.curve_running.proofs.Highest.{low_fits, high_fits, inside_is, start_is, none_is}
 use Rattle.curve_running.proofs.between.highest_in.Goals as goal
 

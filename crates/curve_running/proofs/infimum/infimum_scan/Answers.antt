@@ -1,6 +1,6 @@
 use Rattle.std.proofs.Common.{◌≡◌, ◌<◌, ◌+◌, ◌-◌, arith, length, subst}
 use Rattle.curve_running.proofs.SupremumLoop.{window_end}
-use Rattle.affine_segment.proofs.PieceOrder.{zero_some}
+use Rattle.curve_pointwise.specs.affine_segment.proofs.PieceOrder.{zero_some}
 use Rattle.curve_running.proofs.InfimumLoop.{InfimumLoop, infimum_start, infimum_next, infimum_end}
 use Rattle.curve_running.proofs.infimum.infimum_scan.Goals as goal
 

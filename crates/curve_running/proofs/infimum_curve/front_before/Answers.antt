@@ -1,4 +1,4 @@
-use Rattle.rational.proofs.Compared.{not_less}
+use Rattle.curve_pointwise.specs.rational.proofs.Compared.{not_less}
 use Rattle.curve_running.proofs.Fronts.{front_stop}
 use Rattle.curve_running.proofs.infimum_curve.front_before.Goals as goal
 

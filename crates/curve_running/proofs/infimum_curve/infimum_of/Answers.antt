@@ -1,6 +1,6 @@
 use Rattle.std.proofs.lemmas.Result.{err_from_is_err_and}
-use Rattle.upp_limits.specs.declared.op_kind.OpKind.TheVariants.{RunInf}
-use Rattle.curve_call.proofs.Limited.{within_at_least, refused_cause, run_inf_least}
+use Rattle.curve_pointwise.specs.upp_limits.specs.declared.op_kind.OpKind.TheVariants.{RunInf}
+use Rattle.curve_pointwise.specs.curve_call.proofs.Limited.{within_at_least, refused_cause, run_inf_least}
 use Rattle.curve_running.proofs.FiniteRuns.{infimum_finite}
 use Rattle.curve_running.proofs.infimum_curve.infimum_of.Goals as goal
 

@@ -1,10 +1,10 @@
 use Rattle.std.proofs.Common.{◌∙◌, sym, subst}
-use Rattle.upp_limits.specs.declared.op_kind.OpKind.TheVariants.{RunInf}
-use Rattle.affine_segment.specs.Reading.{read}
-use Rattle.upp_curve.specs.Curve.{repeated}
-use Rattle.upp_normal.specs.Normalising.{HasValues}
-use Rattle.curve_call.specs.Frames.{sizes_at}
-use Rattle.upp_normal.proofs.NormaliseForm.{ok_map}
+use Rattle.curve_pointwise.specs.upp_limits.specs.declared.op_kind.OpKind.TheVariants.{RunInf}
+use Rattle.curve_pointwise.specs.affine_segment.specs.Reading.{read}
+use Rattle.curve_pointwise.specs.upp_curve.specs.Curve.{repeated}
+use Rattle.curve_pointwise.specs.upp_normal.specs.Normalising.{HasValues}
+use Rattle.curve_pointwise.specs.curve_call.specs.Frames.{sizes_at}
+use Rattle.curve_pointwise.specs.upp_normal.proofs.NormaliseForm.{ok_map}
 use Rattle.curve_running.specs.Scans.{IsWindow, ScanFits}
 use Rattle.curve_running.specs.Runs.{RunsFrom, IsFrontBefore}
 use Rattle.curve_running.proofs.RunFacts.{inf_facts, operand_to, run_window, run_fits, run_rise, sum_fits}

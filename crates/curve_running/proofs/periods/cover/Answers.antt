@@ -1,5 +1,5 @@
-use Rattle.rational.proofs.Laws.{not_zero}
-use Rattle.rational.proofs.Compared.{is_greater, not_greater}
+use Rattle.curve_pointwise.specs.rational.proofs.Laws.{not_zero}
+use Rattle.curve_pointwise.specs.rational.proofs.Compared.{is_greater, not_greater}
 use Rattle.curve_running.proofs.Covers.{no_cover, cover_is}
 use Rattle.curve_running.proofs.periods.cover.Goals as goal
 

@@ -1,9 +1,9 @@
 use Rattle.std.proofs.Common.{sym, subst}
-use Rattle.rational.specs.Rational.{◌≤ℚ◌, ◌<ℚ◌}
-use Rattle.rational.specs.declared.Extended.TheVariants.{Fin}
-use Rattle.rational.proofs.Laws.{le_refl, le_of_lt}
-use Rattle.min_plus.specs.Functions.{zero_q}
-use Rattle.affine_segment.specs.Reading.{read}
+use Rattle.curve_pointwise.specs.rational.specs.Rational.{◌≤ℚ◌, ◌<ℚ◌}
+use Rattle.curve_pointwise.specs.rational.specs.declared.Extended.TheVariants.{Fin}
+use Rattle.curve_pointwise.specs.rational.proofs.Laws.{le_refl, le_of_lt}
+use Rattle.curve_pointwise.specs.min_plus.specs.Functions.{zero_q}
+use Rattle.curve_pointwise.specs.affine_segment.specs.Reading.{read}
 use Rattle.curve_running.specs.Scans.{IsSupremumIn}
 use Rattle.curve_running.specs.Between.{IsLevelBetween}
 use Rattle.curve_running.proofs.Covers.{later_end}

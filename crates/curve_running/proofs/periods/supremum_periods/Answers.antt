@@ -1,6 +1,6 @@
 use Rattle.std.proofs.Common.{subst}
-use Rattle.rational.specs.Rational.{◌≤ℚ◌, ◌<ℚ◌}
-use Rattle.rational.proofs.Compared.{is_less, not_less}
+use Rattle.curve_pointwise.specs.rational.specs.Rational.{◌≤ℚ◌, ◌<ℚ◌}
+use Rattle.curve_pointwise.specs.rational.proofs.Compared.{is_less, not_less}
 use Rattle.curve_running.proofs.SupremumCalls.{first_period, found_number, flat_number, early_number}
 use Rattle.curve_running.proofs.periods.supremum_periods.Goals as goal
 

@@ -1,5 +1,5 @@
-use Rattle.upp_limits.specs.declared.op_kind.OpKind.TheVariants.{RunSup}
-use Rattle.curve_call.specs.Frames.{sizes_at}
+use Rattle.curve_pointwise.specs.upp_limits.specs.declared.op_kind.OpKind.TheVariants.{RunSup}
+use Rattle.curve_pointwise.specs.curve_call.specs.Frames.{sizes_at}
 use Rattle.curve_running.proofs.RunFacts.{window_facts, run_rise, run_call}
 use Rattle.curve_running.proofs.FirstWindows.{wide_gauge}
 use Rattle.curve_running.proofs.supremum_curve.least_number.Goals as goal

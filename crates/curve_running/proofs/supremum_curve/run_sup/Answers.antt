@@ -1,5 +1,5 @@
-use Rattle.upp_limits.specs.declared.op_kind.OpKind.TheVariants.{RunSup}
-use Rattle.curve_call.proofs.FirstGate.{first_gate}
+use Rattle.curve_pointwise.specs.upp_limits.specs.declared.op_kind.OpKind.TheVariants.{RunSup}
+use Rattle.curve_pointwise.specs.curve_call.proofs.FirstGate.{first_gate}
 use Rattle.curve_running.proofs.supremum_curve.run_sup.Goals as goal
 
 pub returns-in-None-clause-limits : goal.returns-in-None-clause-limits

@@ -1,6 +1,6 @@
 use Rattle.std.proofs.lemmas.Result.{err_from_is_err_and}
-use Rattle.upp_limits.specs.declared.op_kind.OpKind.TheVariants.{RunSup}
-use Rattle.curve_call.proofs.Limited.{within_at_least, refused_cause, run_sup_least}
+use Rattle.curve_pointwise.specs.upp_limits.specs.declared.op_kind.OpKind.TheVariants.{RunSup}
+use Rattle.curve_pointwise.specs.curve_call.proofs.Limited.{within_at_least, refused_cause, run_sup_least}
 use Rattle.curve_running.proofs.supremum_curve.supremum_after.Goals as goal
 
 pub returns-in_err-frame-clause-limits : goal.returns-in_err-frame-clause-limits

@@ -1,12 +1,12 @@
 use Rattle.std.specs.Prelude.{true}
 use Rattle.std.proofs.Common.{◌∙◌, sym, subst}
-use Rattle.upp_limits.specs.declared.op_kind.OpKind.TheVariants.{RunSup}
-use Rattle.affine_segment.specs.Reading.{read}
-use Rattle.upp_curve.specs.Curve.{value_at, repeated}
-use Rattle.min_plus.specs.Functions.{IsFinite}
-use Rattle.upp_normal.specs.Normalising.{HasValues}
-use Rattle.curve_call.specs.Frames.{sizes_at}
-use Rattle.upp_normal.proofs.NormaliseForm.{ok_map}
+use Rattle.curve_pointwise.specs.upp_limits.specs.declared.op_kind.OpKind.TheVariants.{RunSup}
+use Rattle.curve_pointwise.specs.affine_segment.specs.Reading.{read}
+use Rattle.curve_pointwise.specs.upp_curve.specs.Curve.{value_at, repeated}
+use Rattle.curve_pointwise.specs.min_plus.specs.Functions.{IsFinite}
+use Rattle.curve_pointwise.specs.upp_normal.specs.Normalising.{HasValues}
+use Rattle.curve_pointwise.specs.curve_call.specs.Frames.{sizes_at}
+use Rattle.curve_pointwise.specs.upp_normal.proofs.NormaliseForm.{ok_map}
 use Rattle.curve_running.specs.Scans.{IsWindow, ScanFits}
 use Rattle.curve_running.specs.Runs.{RunsUpTo}
 use Rattle.curve_running.proofs.RunFacts.{sup_facts, operand_to, run_window, run_fits, run_rise, difference_fits}

@@ -1,7 +1,7 @@
 use Rattle.std.proofs.Common.{sym, subst, ◌∙◌}
 use Rattle.std.specs.Prelude.{◌↔◌, IsTrue}
 use Rattle.rational.specs.Rational.{ℚ, ◌<ℚ◌}
-use Rattle.upp_curve.specs.declared.curve.Tail.{Tail}
+use Rattle.upp_normal.specs.upp_curve.specs.declared.curve.Tail.{Tail}
 use Rattle.curve_values.specs.Early.{IsEarly}
 use Rattle.curve_values.proofs.KeptValues.{end_fits, early_always}
 use Rattle.curve_values.proofs.values.is_early.Goals as goal

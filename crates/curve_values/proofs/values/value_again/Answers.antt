@@ -1,7 +1,7 @@
 use Rattle.std.proofs.Common.{◌∙◌, sym, subst, ap}
 use Rattle.rational.specs.Extended.{◌+ₑ◌}
 use Rattle.rational.specs.declared.Extended.TheVariants.{Fin}
-use Rattle.upp_curve.specs.Curve.{value_at}
+use Rattle.upp_normal.specs.upp_curve.specs.Curve.{value_at}
 use Rattle.upp_normal.specs.Ahead.{IsTimeIn}
 use Rattle.curve_values.proofs.KeptValues.{earlier}
 use Rattle.curve_values.proofs.values.value_again.Goals as goal

@@ -1,8 +1,8 @@
 use Rattle.std.proofs.Common.{◌∙◌, List, sym, subst, ap}
-use Rattle.affine_segment.specs.declared.line.Piece.{Piece}
-use Rattle.affine_segment.specs.Pieces.{StartsAtZero}
-use Rattle.affine_segment.specs.Reading.{read}
-use Rattle.affine_segment.specs.Fits.{ReadFits}
+use Rattle.upp_normal.specs.affine_segment.specs.declared.line.Piece.{Piece}
+use Rattle.upp_normal.specs.affine_segment.specs.Pieces.{StartsAtZero}
+use Rattle.upp_normal.specs.affine_segment.specs.Reading.{read}
+use Rattle.upp_normal.specs.affine_segment.specs.Fits.{ReadFits}
 use Rattle.curve_values.proofs.KeptValues.{stored_fits, early_value}
 use Rattle.curve_values.proofs.values.value_kept.Goals as goal
 

@@ -1,8 +1,8 @@
 use Rattle.std.proofs.Common.{◌≡◌, ◌+◌, ◌-◌, Ok, Err, refl, subst, arith}
 use Rattle.std.proofs.lemmas.Result.{err_from_is_err_and}
-use Rattle.upp_limits.specs.declared.op_kind.OpKind.TheVariants.{Scale, PosMinus}
-use Rattle.curve_call.specs.Calls.{AppliesTo, stops}
-use Rattle.curve_call.proofs.Applied.{applied_seen}
+use Rattle.curve_pointwise.specs.upp_limits.specs.declared.op_kind.OpKind.TheVariants.{Scale, PosMinus}
+use Rattle.curve_pointwise.specs.curve_call.specs.Calls.{AppliesTo, stops}
+use Rattle.curve_pointwise.specs.curve_call.proofs.Applied.{applied_seen}
 use Rattle.residual_calls.specs.DrrCalls.{owed_in}
 use Rattle.residual_calls.specs.InTurn.{on_the_way, past, DrrRefused}
 use Rattle.residual_calls.proofs.Placed.{if_err}

@@ -1,5 +1,5 @@
 use Rattle.std.proofs.Common.{sym, subst}
-use Rattle.curve_window.specs.Lower.{IsLowerOf}
+use Rattle.curve_call.specs.Lower.{IsLowerOf}
 use Rattle.element_envelope.proofs.EnvelopeHalves.{ok_joined}
 use Rattle.element_envelope.proofs.least.lower_joined.Goals as goal
 

@@ -1,6 +1,6 @@
 use Rattle.std.proofs.Common.{drop}
-use Rattle.rational.specs.Rational.{ℚ, ◌≤ℚ◌}
-use Rattle.affine_segment.specs.Pieces.{Each}
+use Rattle.curve_call.specs.rational.specs.Rational.{ℚ, ◌≤ℚ◌}
+use Rattle.curve_call.specs.affine_segment.specs.Pieces.{Each}
 use Rattle.element_envelope.specs.NearStarts.{RisesWithin}
 use Rattle.element_envelope.proofs.near.steepest.Given as goal
 

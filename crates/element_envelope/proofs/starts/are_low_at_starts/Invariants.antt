@@ -1,8 +1,8 @@
 use Rattle.std.proofs.Common.{drop}
-use Rattle.rational.specs.Rational.{ℚ}
-use Rattle.affine_segment.specs.Pieces.{Each}
-use Rattle.upp_limits.specs.Limits.{Sizes}
-use Rattle.upp_normal.specs.Operand.{OperandLineAt}
+use Rattle.curve_call.specs.rational.specs.Rational.{ℚ}
+use Rattle.curve_call.specs.affine_segment.specs.Pieces.{Each}
+use Rattle.curve_call.specs.upp_limits.specs.Limits.{Sizes}
+use Rattle.curve_call.specs.upp_normal.specs.Operand.{OperandLineAt}
 use Rattle.element_envelope.specs.ConvolutionWindows.{WindowPiece}
 use Rattle.element_envelope.specs.Copies.{LowAfter, LowAtStarts}
 use Rattle.element_envelope.proofs.starts.are_low_at_starts.Given as goal

@@ -1,11 +1,11 @@
 use Rattle.std.specs.Prelude.{Vec}
 use Rattle.std.proofs.Common.{◌+◌, ◌∙◌, ap, inl, inr, drop, drop_of_length-le, sym, subst, Global}
-use Rattle.affine_segment.specs.declared.line.Piece.{Piece}
-use Rattle.affine_segment.proofs.NextPiece.{next_piece}
-use Rattle.rational.proofs.Laws.{le_of_lt}
+use Rattle.curve_call.specs.affine_segment.specs.declared.line.Piece.{Piece}
+use Rattle.curve_call.specs.affine_segment.proofs.NextPiece.{next_piece}
+use Rattle.curve_call.specs.rational.proofs.Laws.{le_of_lt}
 use Rattle.element_envelope.specs.ConvolutionWindows.{WindowPiece}
-use Rattle.upp_normal.proofs.AnswerRoom.{operand_line_fits}
-use Rattle.upp_normal.proofs.NormaliseRank.{each_index}
+use Rattle.curve_call.specs.upp_normal.proofs.AnswerRoom.{operand_line_fits}
+use Rattle.curve_call.specs.upp_normal.proofs.NormaliseRank.{each_index}
 use Rattle.element_envelope.proofs.StartTests.{IsKeptOrBent, thinned_step, thinned_end, thinned_none}
 use Rattle.element_envelope.proofs.starts.turning_starts.Goals as goal
 use Rattle.element_envelope.proofs.starts.turning_starts.Goals.{then-not-bends_down+in_ok-push, else-not-bends_down}

@@ -1,10 +1,10 @@
 use Rattle.std.proofs.Common.{List, ◌++◌, drop}
 use Rattle.std.specs.Prelude.{None}
-use Rattle.rational.specs.Rational.{ℚ}
-use Rattle.affine_segment.specs.declared.line.Piece.{Piece}
-use Rattle.affine_segment.specs.Pieces.{Each}
-use Rattle.upp_limits.specs.Limits.{Sizes}
-use Rattle.upp_normal.specs.Operand.{OperandLineAt}
+use Rattle.curve_call.specs.rational.specs.Rational.{ℚ}
+use Rattle.curve_call.specs.affine_segment.specs.declared.line.Piece.{Piece}
+use Rattle.curve_call.specs.affine_segment.specs.Pieces.{Each}
+use Rattle.curve_call.specs.upp_limits.specs.Limits.{Sizes}
+use Rattle.curve_call.specs.upp_normal.specs.Operand.{OperandLineAt}
 use Rattle.element_envelope.specs.ConvolutionWindows.{WindowPiece}
 use Rattle.element_envelope.specs.Turnings.{IsThinned}
 use Rattle.element_envelope.proofs.starts.turning_starts.Given as goal

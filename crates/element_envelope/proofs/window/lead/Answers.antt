@@ -1,10 +1,10 @@
 use Rattle.std.proofs.Common.{List, [], ◌∷◌, ◌++◌, sym, ap₂, subst, ◌∙◌}
-use Rattle.rational.specs.Rational.{ℚ, ◌≤ℚ◌, ◌<ℚ◌}
-use Rattle.affine_segment.specs.declared.line.Piece.{Piece}
-use Rattle.rational.proofs.Compared.{is_greater, not_greater}
+use Rattle.curve_call.specs.rational.specs.Rational.{ℚ, ◌≤ℚ◌, ◌<ℚ◌}
+use Rattle.curve_call.specs.affine_segment.specs.declared.line.Piece.{Piece}
+use Rattle.curve_call.specs.rational.proofs.Compared.{is_greater, not_greater}
 use Rattle.element_envelope.proofs.JoinedReads.{lead_empty, lead_one}
 use Rattle.element_envelope.proofs.window.lead.Goals as goal
-use Rattle.affine_segment.specs.Reading.{nothing_at}
+use Rattle.curve_call.specs.affine_segment.specs.Reading.{nothing_at}
 
 pub returns-in_ok-push-in-Greater : goal.returns-in_ok-push-in-Greater
 returns-in_ok-push-in-Greater c =

@@ -1,15 +1,15 @@
 use Rattle.std.proofs.Common.{◌≡◌, ◌∙◌, List, [], Option, refl, sym, subst, ap, pos}
 use Rattle.std.proofs.lemmas.Result.{IfOk-weaker}
 use Rattle.rational.specs.Rational.{int}
-use Rattle.upp_curve.specs.Curves.{IsCurve}
-use Rattle.run_laws.specs.declared.steps.Step.{Step}
-use Rattle.run_laws.specs.Runs.{SpecRun}
-use Rattle.run_laws.specs.Routes.{server_at}
-use Rattle.run_laws.specs.Views.{view}
-use Rattle.net_model.specs.NetRoutes.{routes_of}
-use Rattle.net_model.specs.Views.{server_of}
+use Rattle.net_cells.specs.upp_curve.specs.Curves.{IsCurve}
+use Rattle.net_cells.specs.run_laws.specs.declared.steps.Step.{Step}
+use Rattle.net_cells.specs.run_laws.specs.Runs.{SpecRun}
+use Rattle.net_cells.specs.run_laws.specs.Routes.{server_at}
+use Rattle.net_cells.specs.run_laws.specs.Views.{view}
+use Rattle.net_cells.specs.net_model.specs.NetRoutes.{routes_of}
+use Rattle.net_cells.specs.net_model.specs.Views.{server_of}
 use Rattle.net_cells.specs.Numbered.{service, service_of}
-use Rattle.watch_laws.specs.Laws.{MayServe}
+use Rattle.run_watch.specs.watch_laws.specs.Laws.{MayServe}
 use Rattle.run_watch.specs.declared.found.Found.{Found}
 use Rattle.run_watch.specs.Ramps.{RampsFit}
 use Rattle.run_watch.specs.Seen.{arrivals_at, works_at}
@@ -17,7 +17,7 @@ use Rattle.run_watch.specs.Held.{IsHeld}
 use Rattle.run_watch.specs.FirstOf.{IsBest, IsIdleOn}
 use Rattle.first_breaches.specs.Firsts.{IsOne, HasService}
 use Rattle.first_breaches.proofs.Views.{watchable, sees_as}
-use Rattle.curve_call.proofs.Applied.{if_ok}
+use Rattle.net_cells.specs.curve_call.proofs.Applied.{if_ok}
 use Rattle.first_breaches.proofs.Parts.{service_one, may_serve, no_server, none_of_kept}
 use Rattle.first_breaches.proofs.services.first_service_of.Goals as goal
 

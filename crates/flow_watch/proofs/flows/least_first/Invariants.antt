@@ -1,6 +1,6 @@
 use Rattle.std.proofs.Common.{◌≡◌, ◌+◌, ◌-◌, ◌*◌, ◌^◌, ◌≤◌}
-use Rattle.upp_curve.specs.Curve.{value_at}
-use Rattle.watch_laws.specs.Entries.{bits_between}
+use Rattle.step_lines.specs.upp_curve.specs.Curve.{value_at}
+use Rattle.step_lines.specs.watch_laws.specs.Entries.{bits_between}
 use Rattle.flow_watch.specs.Flows.{FindsFirst}
 use Rattle.flow_watch.proofs.flows.least_first.Given as goal
 

@@ -1,7 +1,7 @@
 use Rattle.std.proofs.Common.{List, ℕ, ◌<◌, length, drop, sym, subst, ◌∙◌}
 use Rattle.std.proofs.lemmas.Option.{IfSome_then}
 use Rattle.rational.specs.Rational.{ℚ}
-use Rattle.affine_segment.specs.declared.line.Piece.{Piece}
+use Rattle.step_lines.specs.affine_segment.specs.declared.line.Piece.{Piece}
 use Rattle.flow_watch.specs.Repeats.{HoldsAt}
 use Rattle.flow_watch.proofs.Buckets.{times_rise}
 use Rattle.flow_watch.proofs.Repeated.{none_repeated}

@@ -3,9 +3,9 @@ use Rattle.std.proofs.lemmas.Result.{err_from_is_err_and}
 use Rattle.rational.specs.Rational.{int}
 use Rattle.upp_curve.specs.Curve.{SpecCurve}
 use Rattle.upp_curve.specs.Kinds.{stair}
-use Rattle.net_model.specs.Accepted.{IsAccepted}
-use Rattle.net_model.specs.Networks.{NetFlow}
-use Rattle.net_model.specs.Views.{flow_of}
+use Rattle.net_cells.specs.net_model.specs.Accepted.{IsAccepted}
+use Rattle.net_cells.specs.net_model.specs.Networks.{NetFlow}
+use Rattle.net_cells.specs.net_model.specs.Views.{flow_of}
 use Rattle.net_edits.specs.declared.fault.EditFault.TheVariants.{NoMemory}
 use Rattle.net_edits.specs.Changed.{put_flow, with_arrival}
 use Rattle.net_edits.specs.Edited.{as_arrival, stair_edited}

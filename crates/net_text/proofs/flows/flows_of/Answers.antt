@@ -2,7 +2,7 @@ use Rattle.std.specs.Option.{option_map}
 use Rattle.std.proofs.Common.{◌≡◌, ◌+◌, [], ◌∷◌, ◌++◌, map, drop, Some, refl, sym, ap, ◌∙◌, subst, arith}
 use Rattle.std.proofs.lemmas.List.{map_push}
 use Rattle.std.proofs.lemmas.Result.{err_from_is_err_and}
-use Rattle.net_model.specs.Views.{flow_of}
+use Rattle.net_draft.specs.net_model.specs.Views.{flow_of}
 use Rattle.net_draft.specs.declared.flow_draft.FlowDraft.{FlowDraft}
 use Rattle.net_draft.specs.Kept.{IsArrivalDraft}
 use Rattle.net_draft.specs.Views.{flow_text}

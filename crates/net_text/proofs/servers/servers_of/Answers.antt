@@ -1,7 +1,7 @@
 use Rattle.std.proofs.Common.{◌≡◌, ◌+◌, [], ◌∷◌, ◌++◌, map, drop, sym, ap, ◌∙◌, subst}
 use Rattle.std.proofs.lemmas.List.{map_push}
 use Rattle.std.proofs.lemmas.Result.{err_from_is_err_and}
-use Rattle.net_model.specs.Views.{server_of}
+use Rattle.net_draft.specs.net_model.specs.Views.{server_of}
 use Rattle.net_draft.specs.Kept.{IsServerDraft}
 use Rattle.net_draft.specs.Views.{server_text}
 use Rattle.net_text.specs.Built.{IsServerOf}

@@ -3,7 +3,7 @@ use Rattle.rational.specs.Rational.{◌≤ℚ◌, ◌<ℚ◌, ◌+ℚ◌}
 use Rattle.rational.proofs.Laws.{le_of_not_lt}
 use Rattle.upp_limits.specs.Gauges.{gauge_over}
 use Rattle.upp_limits.specs.declared.op_kind.OpKind.TheVariants.{Min}
-use Rattle.curve_least.proofs.KnownGauge.{min_sizes, known_compared}
+use Rattle.curve_call.proofs.KnownGauge.{min_sizes, known_compared}
 use Rattle.operator_tests.proofs.periods.least_of.Goals as goal
 
 pub least_periods-requires : goal.least_periods-requires

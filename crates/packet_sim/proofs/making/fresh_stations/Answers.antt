@@ -1,10 +1,10 @@
 use Rattle.std.specs.Prelude.{List, length}
 use Rattle.std.proofs.Common.{subst}
-use Rattle.net_model.specs.declared.trace.Stall.{Stall}
-use Rattle.net_model.specs.declared.trace.TracePacket.{TracePacket}
-use Rattle.net_model.specs.Views.{server_of}
-use Rattle.net_cells.proofs.Stored.{server_stored, server_kept}
-use Rattle.stated_runs.specs.FromTraces.{stalls_at}
+use Rattle.sim_bounds.specs.net_model.specs.declared.trace.Stall.{Stall}
+use Rattle.sim_bounds.specs.net_model.specs.declared.trace.TracePacket.{TracePacket}
+use Rattle.sim_bounds.specs.net_model.specs.Views.{server_of}
+use Rattle.run_measures.specs.net_cells.proofs.Stored.{server_stored, server_kept}
+use Rattle.sim_bounds.specs.stated_runs.specs.FromTraces.{stalls_at}
 use Rattle.packet_sim.specs.Fresh.{AreSorted, IsFresh}
 use Rattle.packet_sim.proofs.NewRuns.{fresh_push}
 use Rattle.packet_sim.proofs.making.fresh_stations.Goals as goal

@@ -1,7 +1,7 @@
 use Rattle.std.specs.Prelude.{◌≡◌}
 use Rattle.std.proofs.Common.{rules}
 use Rattle.std.proofs.lemmas.List.Sorted.{answers_always}
-use Rattle.sim_servers.specs.declared.opening.Span.{Span}
+use Rattle.sim_loop.specs.sim_servers.specs.declared.opening.Span.{Span}
 use Rattle.packet_sim.proofs.SortedStalls.{by_starts}
 use Rattle.packet_sim.proofs.making.put_in_order.Goals as goal
 

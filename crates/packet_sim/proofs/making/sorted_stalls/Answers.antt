@@ -1,4 +1,4 @@
-use Rattle.stated_runs.specs.FromTraces.{stalls_at}
+use Rattle.sim_bounds.specs.stated_runs.specs.FromTraces.{stalls_at}
 use Rattle.packet_sim.proofs.SortedStalls.{are_sorted}
 use Rattle.packet_sim.proofs.making.sorted_stalls.Goals as goal
 

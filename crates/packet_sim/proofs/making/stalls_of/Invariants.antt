@@ -1,6 +1,6 @@
 use Rattle.std.proofs.Common.{◌≡◌, map, take}
-use Rattle.stated_runs.specs.FromTraces.{stalls_at}
-use Rattle.sim_servers.specs.Openings.{stall_times}
+use Rattle.sim_bounds.specs.stated_runs.specs.FromTraces.{stalls_at}
+use Rattle.sim_loop.specs.sim_servers.specs.Openings.{stall_times}
 use Rattle.packet_sim.proofs.making.stalls_of.Given as goal
 
 abbrev pub invariant-loop-stall : goal.invariant-loop-stall

@@ -1,4 +1,4 @@
-use Rattle.net_model.specs.NetRoutes.{routes_of}
+use Rattle.sim_bounds.specs.net_model.specs.NetRoutes.{routes_of}
 use Rattle.run_measures.proofs.Lawful.{lawful_runs_are_numbered}
 use Rattle.packet_sim.proofs.measured.measured_run.Goals as goal
 

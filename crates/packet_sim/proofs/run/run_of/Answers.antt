@@ -2,9 +2,9 @@ use Rattle.std.specs.Prelude.{pos}
 use Rattle.std.proofs.Common.{ap, ◌∙◌}
 use Rattle.rational.specs.Rational.{int}
 use Rattle.run_laws.specs.Runs.{SpecRun}
-use Rattle.stated_runs.specs.FromTraces.{setup_of}
-use Rattle.stated_runs.specs.Simulated.{last_time, IsSimulated}
-use Rattle.stated_runs.proofs.Lawfulness.{simulated_is_lawful}
+use Rattle.sim_bounds.specs.stated_runs.specs.FromTraces.{setup_of}
+use Rattle.sim_bounds.specs.stated_runs.specs.Simulated.{last_time, IsSimulated}
+use Rattle.sim_bounds.specs.stated_runs.proofs.Lawfulness.{simulated_is_lawful}
 use Rattle.packet_sim.proofs.DelayTimes.{simulated_delays_fit}
 use Rattle.packet_sim.proofs.run.run_of.Goals as goal
 

@@ -1,5 +1,5 @@
-use Rattle.upp_limits.specs.declared.op_kind.OpKind.TheVariants.{PosMinus}
-use Rattle.curve_call.proofs.Applied.{applied_seen}
+use Rattle.curve_pointwise.specs.upp_limits.specs.declared.op_kind.OpKind.TheVariants.{PosMinus}
+use Rattle.curve_pointwise.specs.curve_call.proofs.Applied.{applied_seen}
 use Rattle.packetiser.proofs.service.packetised.Goals as goal
 
 pub returns-clause-answer : goal.returns-clause-answer

@@ -2,7 +2,7 @@ use Rattle.std.proofs.Common.{refl, true≢false, sym, subst, arith, ◌<◌, �
 use Rattle.std.proofs.lemmas.Grind.{common_steps}
 use Rattle.rational.specs.Rational.{ℚ, ◌+ℚ◌, ◌≤ℚ◌, ◌<ℚ◌}
 use Rattle.rational.proofs.Laws.{le_of_not_lt}
-use Rattle.watch_laws.specs.declared.mark.Mark.{Mark}
+use Rattle.flow_watch.specs.watch_laws.specs.declared.mark.Mark.{Mark}
 use Rattle.run_watch.specs.Queue.{Scans}
 use Rattle.run_watch.proofs.Marks.{pushed_at, rest_not_far}
 use Rattle.run_watch.proofs.scan.let_in.Goals as goal

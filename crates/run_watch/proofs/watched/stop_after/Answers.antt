@@ -4,7 +4,7 @@ use Rattle.rational.specs.Rational.{ℚ, le_q}
 use Rattle.run_watch.proofs.RampLists.{not_most}
 use Rattle.run_watch.proofs.WatchedLists.{parted_at, next_found, next_none}
 use Rattle.run_watch.proofs.watched.stop_after.Goals as goal
-use Rattle.run_laws.specs.Counts.{upto}
+use Rattle.flow_watch.specs.run_laws.specs.Counts.{upto}
 
 pub returns-then-past-stops : goal.returns-then-past-stops
 returns-then-past-stops c =

@@ -3,7 +3,7 @@ use Rattle.std.proofs.lemmas.List.{take_rest}
 use Rattle.std.proofs.lemmas.List.Sorted.{IsPartitionPoint-from_clause}
 use Rattle.rational.specs.Rational.{ℚ}
 use Rattle.run_watch.specs.Watching.{RiseFrom}
-use Rattle.run_laws.specs.Counts.{before, upto}
+use Rattle.flow_watch.specs.run_laws.specs.Counts.{before, upto}
 use Rattle.run_watch.proofs.WatchedLists.{parted_at}
 use Rattle.run_watch.proofs.OwnTurns.{parted_before_at, rise_drop, rise_take, holds}
 use Rattle.run_watch.proofs.watched.turns_in.Goals as goal

@@ -1,8 +1,8 @@
 use Rattle.std.proofs.Common.{length, ap, arith}
 use Rattle.std.proofs.lemmas.List.{length-map}
-use Rattle.net_model.specs.Views.{server_of}
-use Rattle.stated_runs.specs.FromTraces.{setup_of}
-use Rattle.sim_bounds.specs.Way.{gated}
+use Rattle.window_numbers.specs.net_model.specs.Views.{server_of}
+use Rattle.window_numbers.specs.stated_runs.specs.FromTraces.{setup_of}
+use Rattle.window_numbers.specs.sim_bounds.specs.Way.{gated}
 use Rattle.sim_gauge.proofs.SpanSteps.{products_more, from_zero_end}
 use Rattle.sim_gauge.proofs.horizons.all_gated.Goals as goal
 

@@ -2,9 +2,9 @@ use Rattle.std.proofs.Common.{◌≡◌}
 use Rattle.std.specs.List.{AllByRecursion}
 use Rattle.arrayvec.specs.ArrayVec.{array_vec_len}
 use Rattle.wide_sums.specs.Sums.{IsFromZero, sum_of_products}
-use Rattle.stated_runs.specs.FromTraces.{setup_of}
-use Rattle.sim_bounds.specs.Horizons.{sum_below}
-use Rattle.sim_bounds.specs.Way.{gated}
+use Rattle.window_numbers.specs.stated_runs.specs.FromTraces.{setup_of}
+use Rattle.window_numbers.specs.sim_bounds.specs.Horizons.{sum_below}
+use Rattle.window_numbers.specs.sim_bounds.specs.Way.{gated}
 use Rattle.sim_gauge.proofs.horizons.all_gated.Given as goal
 
 abbrev pub invariant-loop-server : goal.invariant-loop-server

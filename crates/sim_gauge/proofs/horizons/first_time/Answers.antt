@@ -5,11 +5,11 @@ use Rattle.rational.specs.Rational.{ℚ, int}
 use Rattle.rational.specs.MinMax.{max_q}
 use Rattle.rational.proofs.Laws.{le_refl, le_trans}
 use Rattle.rational.proofs.MinMax.{max_q_ge_left}
-use Rattle.net_model.specs.declared.trace.TracePacket.{TracePacket}
-use Rattle.net_model.specs.declared.trace.Stall.{Stall}
-use Rattle.sim_bounds.specs.Horizons.{latest_of}
-use Rattle.sim_bounds.proofs.Spans.{latest_nonneg}
-use Rattle.sim_bounds.proofs.Members.{all_in}
+use Rattle.window_numbers.specs.net_model.specs.declared.trace.TracePacket.{TracePacket}
+use Rattle.window_numbers.specs.net_model.specs.declared.trace.Stall.{Stall}
+use Rattle.window_numbers.specs.sim_bounds.specs.Horizons.{latest_of}
+use Rattle.window_numbers.specs.sim_bounds.proofs.Spans.{latest_nonneg}
+use Rattle.window_numbers.specs.sim_bounds.proofs.Members.{all_in}
 use Rattle.sim_gauge.proofs.FirstTimes.{latest_step, max_zero, zero_max, first_is}
 use Rattle.sim_gauge.proofs.horizons.first_time.Goals as goal
 

@@ -2,9 +2,9 @@ use Rattle.std.proofs.Common.{◌≡◌, drop}
 use Rattle.std.specs.Prelude.{pos}
 use Rattle.rational.specs.Rational.{int, ◌≤ℚ◌}
 use Rattle.rational.specs.MinMax.{max_q}
-use Rattle.net_model.specs.declared.trace.TracePacket.{TracePacket}
-use Rattle.net_model.specs.declared.trace.Stall.{Stall}
-use Rattle.sim_bounds.specs.Horizons.{latest_of}
+use Rattle.window_numbers.specs.net_model.specs.declared.trace.TracePacket.{TracePacket}
+use Rattle.window_numbers.specs.net_model.specs.declared.trace.Stall.{Stall}
+use Rattle.window_numbers.specs.sim_bounds.specs.Horizons.{latest_of}
 use Rattle.sim_gauge.proofs.horizons.first_time.Given as goal
 
 abbrev pub invariant-loop-packet : goal.invariant-loop-packet

@@ -1,14 +1,14 @@
 use Rattle.std.proofs.Common.{sym, ap, ◌∙◌, subst}
 use Rattle.rational.specs.Rational.{◌*ℚ◌, ◌/ℚ◌}
 use Rattle.rational.specs.Ratio.{IsSmall}
-use Rattle.upp_limits.proofs.SpanNumbers.{if_some_map}
-use Rattle.net_model.specs.declared.server.Server.{Server}
-use Rattle.net_model.specs.Views.{server_of}
-use Rattle.stated_runs.specs.Setups.{IsGateFor}
-use Rattle.stated_runs.specs.FromTraces.{gate_of, setup_of}
-use Rattle.stated_runs.proofs.ServerSetups.{server_is}
-use Rattle.sim_bounds.specs.Horizons.{gate_ratio}
-use Rattle.sim_bounds.specs.Way.{open_time, gated_time}
+use Rattle.window_numbers.specs.upp_limits.proofs.SpanNumbers.{if_some_map}
+use Rattle.window_numbers.specs.net_model.specs.declared.server.Server.{Server}
+use Rattle.window_numbers.specs.net_model.specs.Views.{server_of}
+use Rattle.window_numbers.specs.stated_runs.specs.Setups.{IsGateFor}
+use Rattle.window_numbers.specs.stated_runs.specs.FromTraces.{gate_of, setup_of}
+use Rattle.window_numbers.specs.stated_runs.proofs.ServerSetups.{server_is}
+use Rattle.window_numbers.specs.sim_bounds.specs.Horizons.{gate_ratio}
+use Rattle.window_numbers.specs.sim_bounds.specs.Way.{open_time, gated_time}
 use Rattle.sim_gauge.proofs.Parts.{own_gated}
 use Rattle.sim_gauge.proofs.SpanSteps.{span_steps, stored, kind_gates}
 use Rattle.sim_gauge.proofs.horizons.gated.Goals as goal

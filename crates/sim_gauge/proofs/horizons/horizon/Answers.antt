@@ -1,11 +1,11 @@
 use Rattle.std.proofs.Common.{◌≡◌, length, sym, ap, ◌∙◌, subst, true≢false}
 use Rattle.std.specs.List.{AllByRecursion}
 use Rattle.rational.specs.Ratio.{IsSmall}
-use Rattle.upp_limits.proofs.SpanNumbers.{if_some_map}
+use Rattle.window_numbers.specs.upp_limits.proofs.SpanNumbers.{if_some_map}
 use Rattle.wide_sums.specs.Sums.{IsFromZero, sum_of_products}
-use Rattle.stated_runs.specs.FromTraces.{setup_of}
-use Rattle.sim_bounds.specs.Horizons.{sum_below}
-use Rattle.sim_bounds.specs.Way.{gated}
+use Rattle.window_numbers.specs.stated_runs.specs.FromTraces.{setup_of}
+use Rattle.window_numbers.specs.sim_bounds.specs.Horizons.{sum_below}
+use Rattle.window_numbers.specs.sim_bounds.specs.Way.{gated}
 use Rattle.sim_gauge.proofs.SpanSteps.{last_step, gated_small, horizon_is}
 use Rattle.sim_gauge.proofs.horizons.horizon.Goals as goal
 

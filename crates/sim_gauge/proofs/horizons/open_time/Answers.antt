@@ -2,11 +2,11 @@ use Rattle.std.proofs.Common.{sym, ap, ◌∙◌, subst}
 use Rattle.std.specs.Prelude.{pos}
 use Rattle.rational.specs.Rational.{int, ◌/ℚ◌, ◌<ℚ◌}
 use Rattle.rational.specs.Ratio.{IsSmall}
-use Rattle.upp_limits.proofs.SpanNumbers.{if_some_map}
+use Rattle.window_numbers.specs.upp_limits.proofs.SpanNumbers.{if_some_map}
 use Rattle.run_laws.specs.Cards.{whole}
-use Rattle.net_model.specs.declared.server.Server.{Server}
-use Rattle.net_model.specs.Views.{server_of}
-use Rattle.stated_runs.proofs.ServerSetups.{server_is}
+use Rattle.window_numbers.specs.net_model.specs.declared.server.Server.{Server}
+use Rattle.window_numbers.specs.net_model.specs.Views.{server_of}
+use Rattle.window_numbers.specs.stated_runs.proofs.ServerSetups.{server_is}
 use Rattle.sim_gauge.proofs.Parts.{own_open}
 use Rattle.sim_gauge.proofs.SpanSteps.{open_small, stored}
 use Rattle.sim_gauge.proofs.horizons.open_time.Goals as goal

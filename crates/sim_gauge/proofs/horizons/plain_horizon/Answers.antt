@@ -1,10 +1,10 @@
 use Rattle.std.proofs.Common.{length, sym, ap, ◌∙◌, arith}
 use Rattle.std.proofs.lemmas.List.{length-map}
 use Rattle.rational.proofs.Laws.{add_zero}
-use Rattle.net_model.specs.Views.{server_of}
-use Rattle.stated_runs.specs.FromTraces.{setup_of}
-use Rattle.sim_bounds.specs.Horizons.{first_time}
-use Rattle.sim_bounds.specs.Way.{plain_span}
+use Rattle.window_numbers.specs.net_model.specs.Views.{server_of}
+use Rattle.window_numbers.specs.stated_runs.specs.FromTraces.{setup_of}
+use Rattle.window_numbers.specs.sim_bounds.specs.Horizons.{first_time}
+use Rattle.window_numbers.specs.sim_bounds.specs.Way.{plain_span}
 use Rattle.sim_gauge.proofs.SpanSteps.{sum_step, sum_more}
 use Rattle.sim_gauge.proofs.horizons.plain_horizon.Goals as goal
 

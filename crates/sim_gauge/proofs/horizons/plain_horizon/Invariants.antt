@@ -1,8 +1,8 @@
 use Rattle.std.proofs.Common.{◌≡◌}
 use Rattle.rational.specs.Rational.{◌+ℚ◌}
-use Rattle.stated_runs.specs.FromTraces.{setup_of}
-use Rattle.sim_bounds.specs.Horizons.{first_time, sum_below}
-use Rattle.sim_bounds.specs.Way.{plain_span}
+use Rattle.window_numbers.specs.stated_runs.specs.FromTraces.{setup_of}
+use Rattle.window_numbers.specs.sim_bounds.specs.Horizons.{first_time, sum_below}
+use Rattle.window_numbers.specs.sim_bounds.specs.Way.{plain_span}
 use Rattle.sim_gauge.proofs.horizons.plain_horizon.Given as goal
 
 abbrev pub invariant-loop-server : goal.invariant-loop-server

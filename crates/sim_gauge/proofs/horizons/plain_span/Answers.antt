@@ -2,13 +2,13 @@ use Rattle.std.proofs.Common.{sym, ap, ◌∙◌, subst}
 use Rattle.std.specs.Prelude.{pos}
 use Rattle.rational.specs.Rational.{int, ◌+ℚ◌}
 use Rattle.rational.specs.Ratio.{SumFits}
-use Rattle.upp_limits.proofs.SpanNumbers.{if_some_map}
-use Rattle.net_model.specs.Views.{server_of}
-use Rattle.stated_runs.specs.FromTraces.{gate_of, setup_of, stalls_at}
-use Rattle.sim_bounds.specs.Horizons.{stalled_for}
-use Rattle.sim_bounds.specs.Way.{open_time, plain_time}
+use Rattle.window_numbers.specs.upp_limits.proofs.SpanNumbers.{if_some_map}
+use Rattle.window_numbers.specs.net_model.specs.Views.{server_of}
+use Rattle.window_numbers.specs.stated_runs.specs.FromTraces.{gate_of, setup_of, stalls_at}
+use Rattle.window_numbers.specs.sim_bounds.specs.Horizons.{stalled_for}
+use Rattle.window_numbers.specs.sim_bounds.specs.Way.{open_time, plain_time}
 use Rattle.sim_gauge.specs.Steps.{StallsFit}
-use Rattle.stated_runs.proofs.ServerSetups.{server_is}
+use Rattle.window_numbers.specs.stated_runs.proofs.ServerSetups.{server_is}
 use Rattle.sim_gauge.proofs.Parts.{own_plain}
 use Rattle.sim_gauge.proofs.SpanSteps.{span_steps, stored}
 use Rattle.sim_gauge.proofs.horizons.plain_span.Goals as goal

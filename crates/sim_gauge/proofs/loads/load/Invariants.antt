@@ -1,7 +1,7 @@
 use Rattle.std.proofs.Common.{◌≡◌, ◌≤◌, ◌+◌, ◌*◌, ◌^◌, map, drop}
-use Rattle.net_model.specs.NetRoutes.{routes_of}
-use Rattle.stated_runs.specs.FromTraces.{entering}
-use Rattle.sim_bounds.specs.Horizons.{bits_through}
+use Rattle.window_numbers.specs.net_model.specs.NetRoutes.{routes_of}
+use Rattle.window_numbers.specs.stated_runs.specs.FromTraces.{entering}
+use Rattle.window_numbers.specs.sim_bounds.specs.Horizons.{bits_through}
 use Rattle.sim_gauge.proofs.loads.load.Given as goal
 
 abbrev pub invariant-loop-packet : goal.invariant-loop-packet

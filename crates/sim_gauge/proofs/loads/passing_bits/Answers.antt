@@ -1,7 +1,7 @@
 use Rattle.std.proofs.Common.{◌≡◌, ◌<◌, length, get_or, sym, ap, ◌∙◌, subst, arith, Some, None}
-use Rattle.net_model.specs.NetRoutes.{hops_along}
-use Rattle.net_model.specs.Views.{flow_of}
-use Rattle.sim_bounds.specs.Horizons.{path_bits}
+use Rattle.window_numbers.specs.net_model.specs.NetRoutes.{hops_along}
+use Rattle.window_numbers.specs.net_model.specs.Views.{flow_of}
+use Rattle.window_numbers.specs.sim_bounds.specs.Horizons.{path_bits}
 use Rattle.sim_gauge.proofs.FlowsOf.{flow_route, flow_there}
 use Rattle.sim_gauge.proofs.loads.passing_bits.Goals as goal
 

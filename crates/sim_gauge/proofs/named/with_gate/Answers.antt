@@ -1,9 +1,9 @@
 use Rattle.std.proofs.Common.{sym, subst}
-use Rattle.upp_limits.specs.Limits.{joined, time_alone}
-use Rattle.upp_limits.specs.Gathered.{Gathers}
-use Rattle.upp_limits.proofs.JoinedNumbers.{joined_assoc}
-use Rattle.stated_runs.specs.FromTraces.{gate_of}
-use Rattle.sim_bounds.specs.Gauge.{gate_times}
+use Rattle.window_numbers.specs.upp_limits.specs.Limits.{joined, time_alone}
+use Rattle.window_numbers.specs.upp_limits.specs.Gathered.{Gathers}
+use Rattle.window_numbers.specs.upp_limits.proofs.JoinedNumbers.{joined_assoc}
+use Rattle.window_numbers.specs.stated_runs.specs.FromTraces.{gate_of}
+use Rattle.window_numbers.specs.sim_bounds.specs.Gauge.{gate_times}
 use Rattle.sim_gauge.specs.Named.{times_alone}
 use Rattle.sim_gauge.proofs.named.with_gate.Goals as goal
 

@@ -1,9 +1,9 @@
 use Rattle.std.proofs.Common.{subst}
-use Rattle.upp_limits.specs.Limits.{joined, time_alone}
-use Rattle.upp_limits.specs.Gathered.{Gathers}
-use Rattle.net_model.specs.Views.{server_of}
-use Rattle.stated_runs.specs.FromTraces.{gate_of}
-use Rattle.sim_bounds.specs.Gauge.{gate_times}
+use Rattle.window_numbers.specs.upp_limits.specs.Limits.{joined, time_alone}
+use Rattle.window_numbers.specs.upp_limits.specs.Gathered.{Gathers}
+use Rattle.window_numbers.specs.net_model.specs.Views.{server_of}
+use Rattle.window_numbers.specs.stated_runs.specs.FromTraces.{gate_of}
+use Rattle.window_numbers.specs.sim_bounds.specs.Gauge.{gate_times}
 use Rattle.sim_gauge.specs.Named.{times_alone}
 use Rattle.sim_gauge.proofs.Loops.{server_joined}
 use Rattle.sim_gauge.proofs.named.with_server.Goals as goal

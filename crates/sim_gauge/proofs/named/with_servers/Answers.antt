@@ -1,7 +1,7 @@
 use Rattle.std.proofs.Common.{subst}
-use Rattle.upp_limits.specs.Limits.{joined}
-use Rattle.upp_limits.specs.Gathered.{Gathers}
-use Rattle.net_model.specs.Views.{server_of}
+use Rattle.window_numbers.specs.upp_limits.specs.Limits.{joined}
+use Rattle.window_numbers.specs.upp_limits.specs.Gathered.{Gathers}
+use Rattle.window_numbers.specs.net_model.specs.Views.{server_of}
 use Rattle.sim_gauge.specs.Named.{server_number}
 use Rattle.window_numbers.proofs.Loops.{next_part, last_part}
 use Rattle.sim_gauge.proofs.Loops.{server_parts}

@@ -1,7 +1,7 @@
 use Rattle.std.proofs.Common.{◌≡◌, drop}
-use Rattle.upp_limits.specs.Limits.{Numbers, joined}
-use Rattle.upp_limits.specs.Gathered.{Gathers}
-use Rattle.net_model.specs.Views.{servers_of}
+use Rattle.window_numbers.specs.upp_limits.specs.Limits.{Numbers, joined}
+use Rattle.window_numbers.specs.upp_limits.specs.Gathered.{Gathers}
+use Rattle.window_numbers.specs.net_model.specs.Views.{servers_of}
 use Rattle.sim_gauge.specs.Named.{server_numbers}
 use Rattle.sim_gauge.proofs.named.with_servers.Given as goal
 

@@ -1,7 +1,7 @@
 use Rattle.std.proofs.Common.{subst}
-use Rattle.upp_limits.specs.Limits.{joined, time_alone}
-use Rattle.upp_limits.specs.Gathered.{Gathers}
-use Rattle.upp_limits.proofs.JoinedNumbers.{joined_assoc}
+use Rattle.window_numbers.specs.upp_limits.specs.Limits.{joined, time_alone}
+use Rattle.window_numbers.specs.upp_limits.specs.Gathered.{Gathers}
+use Rattle.window_numbers.specs.upp_limits.proofs.JoinedNumbers.{joined_assoc}
 use Rattle.sim_gauge.proofs.named.with_stall.Goals as goal
 
 pub returns : goal.returns

@@ -1,7 +1,7 @@
 use Rattle.std.proofs.Common.{subst}
-use Rattle.upp_limits.specs.Limits.{joined}
-use Rattle.upp_limits.specs.Gathered.{Gathers}
-use Rattle.sim_bounds.specs.Gauge.{stall_times}
+use Rattle.window_numbers.specs.upp_limits.specs.Limits.{joined}
+use Rattle.window_numbers.specs.upp_limits.specs.Gathered.{Gathers}
+use Rattle.window_numbers.specs.sim_bounds.specs.Gauge.{stall_times}
 use Rattle.sim_gauge.specs.Named.{times_alone}
 use Rattle.window_numbers.proofs.Loops.{next_part, last_part}
 use Rattle.sim_gauge.proofs.Loops.{stall_parts}

@@ -1,6 +1,6 @@
 use Rattle.std.proofs.Common.{◌≡◌, drop}
-use Rattle.upp_limits.specs.Limits.{Numbers, joined}
-use Rattle.upp_limits.specs.Gathered.{Gathers}
+use Rattle.window_numbers.specs.upp_limits.specs.Limits.{Numbers, joined}
+use Rattle.window_numbers.specs.upp_limits.specs.Gathered.{Gathers}
 use Rattle.sim_gauge.specs.Named.{stall_numbers}
 use Rattle.sim_gauge.proofs.named.with_stalls.Given as goal
 

@@ -3,9 +3,9 @@ use Rattle.std.proofs.lemmas.List.{drop_all}
 use Rattle.rational.specs.Rational.{◌+ℚ◌}
 use Rattle.rational.proofs.Laws.{antisym, add_zero}
 use Rattle.rational.proofs.Linear.{with1}
-use Rattle.net_model.specs.declared.trace.Stall.{Stall}
-use Rattle.stated_runs.specs.FromTraces.{stalls_at}
-use Rattle.sim_bounds.specs.Horizons.{stalled_for}
+use Rattle.window_numbers.specs.net_model.specs.declared.trace.Stall.{Stall}
+use Rattle.window_numbers.specs.stated_runs.specs.FromTraces.{stalls_at}
+use Rattle.window_numbers.specs.sim_bounds.specs.Horizons.{stalled_for}
 use Rattle.sim_gauge.specs.Steps.{StallsFit}
 use Rattle.sim_gauge.proofs.Parts.{stalled_step, fits_step, stall_elsewhere}
 use Rattle.sim_gauge.proofs.spans.stalled.Goals.{then-stall-server+in-Some, else-stall-server}

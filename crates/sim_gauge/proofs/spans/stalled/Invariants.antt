@@ -1,8 +1,8 @@
 use Rattle.std.proofs.Common.{◌≡◌, drop}
 use Rattle.std.specs.Prelude.{pos}
 use Rattle.rational.specs.Rational.{int, ◌+ℚ◌}
-use Rattle.stated_runs.specs.FromTraces.{stalls_at}
-use Rattle.sim_bounds.specs.Horizons.{stalled_for}
+use Rattle.window_numbers.specs.stated_runs.specs.FromTraces.{stalls_at}
+use Rattle.window_numbers.specs.sim_bounds.specs.Horizons.{stalled_for}
 use Rattle.sim_gauge.specs.Steps.{StallsFit}
 use Rattle.sim_gauge.proofs.spans.stalled.Given as goal
 

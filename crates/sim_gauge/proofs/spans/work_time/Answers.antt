@@ -6,7 +6,7 @@ use Rattle.rational.specs.Rational.{int, ◌≤ℚ◌}
 use Rattle.rational.proofs.Laws.{not_zero}
 use Rattle.rational.proofs.Integers.{nat_nonneg}
 use Rattle.rational.proofs.Quotients.{div_nonneg}
-use Rattle.upp_limits.proofs.SpanNumbers.{if_some_map}
+use Rattle.window_numbers.specs.upp_limits.proofs.SpanNumbers.{if_some_map}
 use Rattle.sim_gauge.proofs.spans.work_time.Goals as goal
 
 pub over-requires : goal.over-requires

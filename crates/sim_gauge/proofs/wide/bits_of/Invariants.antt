@@ -1,6 +1,6 @@
 use Rattle.std.proofs.Common.{◌≡◌, ◌≤◌, ◌+◌, ◌*◌, ◌^◌, drop}
 use Rattle.std.specs.Prelude.{sum_by}
-use Rattle.net_model.specs.declared.trace.TracePacket.{TracePacket}
+use Rattle.window_numbers.specs.net_model.specs.declared.trace.TracePacket.{TracePacket}
 use Rattle.sim_gauge.proofs.wide.bits_of.Given as goal
 
 abbrev pub invariant-loop-packet : goal.invariant-loop-packet

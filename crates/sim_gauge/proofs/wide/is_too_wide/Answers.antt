@@ -6,15 +6,15 @@ use Rattle.std.specs.Prelude.{IsTrue, pos, sum_by, ◌↔◌}
 use Rattle.std.specs.List.{AllByRecursion}
 use Rattle.rational.specs.Rational.{int, ◌<ℚ◌}
 use Rattle.rational.specs.Gauge.{Kept}
-use Rattle.upp_limits.specs.Limits.{joined, time_alone, value_alone, sizes_of}
-use Rattle.upp_limits.specs.Gathered.{Gathers}
-use Rattle.upp_limits.proofs.JoinedNumbers.{joined_assoc}
-use Rattle.net_model.specs.declared.trace.TracePacket.{TracePacket}
-use Rattle.net_model.specs.Networks.{NetServer}
-use Rattle.stated_runs.specs.FromTraces.{setup_of}
-use Rattle.sim_bounds.specs.Horizons.{horizon}
-use Rattle.sim_bounds.specs.Gauge.{rates_of, common_num, simulation_numbers, simulation_gauge, grid_of, total_bits}
-use Rattle.sim_bounds.proofs.WayFits.{horizon_fits}
+use Rattle.window_numbers.specs.upp_limits.specs.Limits.{joined, time_alone, value_alone, sizes_of}
+use Rattle.window_numbers.specs.upp_limits.specs.Gathered.{Gathers}
+use Rattle.window_numbers.specs.upp_limits.proofs.JoinedNumbers.{joined_assoc}
+use Rattle.window_numbers.specs.net_model.specs.declared.trace.TracePacket.{TracePacket}
+use Rattle.window_numbers.specs.net_model.specs.Networks.{NetServer}
+use Rattle.window_numbers.specs.stated_runs.specs.FromTraces.{setup_of}
+use Rattle.window_numbers.specs.sim_bounds.specs.Horizons.{horizon}
+use Rattle.window_numbers.specs.sim_bounds.specs.Gauge.{rates_of, common_num, simulation_numbers, simulation_gauge, grid_of, total_bits}
+use Rattle.window_numbers.specs.sim_bounds.proofs.WayFits.{horizon_fits}
 use Rattle.window_numbers.specs.Rated.{gauge_with}
 use Rattle.sim_gauge.proofs.Products.{gauge_is}
 use Rattle.sim_gauge.proofs.Rates.{server_rates}

@@ -1,10 +1,10 @@
 use Rattle.std.proofs.Common.{map, sym, subst, true≢false}
-use Rattle.upp_limits.specs.Limits.{no_numbers, joined, time_alone}
-use Rattle.upp_limits.specs.Gathered.{Gathers}
-use Rattle.upp_limits.specs.Sized.{HeldBy}
-use Rattle.upp_limits.proofs.SpanNumbers.{if_some_map}
-use Rattle.net_model.specs.Networks.{NetServer}
-use Rattle.sim_bounds.specs.Gauge.{numbers_of_curves, arrivals_of}
+use Rattle.window_numbers.specs.upp_limits.specs.Limits.{no_numbers, joined, time_alone}
+use Rattle.window_numbers.specs.upp_limits.specs.Gathered.{Gathers}
+use Rattle.window_numbers.specs.upp_limits.specs.Sized.{HeldBy}
+use Rattle.window_numbers.specs.upp_limits.proofs.SpanNumbers.{if_some_map}
+use Rattle.window_numbers.specs.net_model.specs.Networks.{NetServer}
+use Rattle.window_numbers.specs.sim_bounds.specs.Gauge.{numbers_of_curves, arrivals_of}
 use Rattle.sim_gauge.specs.Named.{packet_numbers, stall_numbers, server_numbers}
 use Rattle.sim_gauge.proofs.Assembled.{all_gathered, curves_held}
 use Rattle.sim_gauge.proofs.wide.numbers_to.Goals as goal

@@ -3,12 +3,12 @@ use Rattle.std.specs.Prelude.{nat_abs}
 use Rattle.std.proofs.lemmas.List.{drop_all}
 use Rattle.rational.specs.Gauge.{Kept}
 use Rattle.rational.proofs.Gauges.{kept_one}
-use Rattle.net_model.specs.declared.server.Server.{Server}
-use Rattle.net_model.specs.Networks.{NetServer}
-use Rattle.net_model.specs.Views.{servers_of}
-use Rattle.sim_bounds.specs.Gauge.{common_num}
+use Rattle.window_numbers.specs.net_model.specs.declared.server.Server.{Server}
+use Rattle.window_numbers.specs.net_model.specs.Networks.{NetServer}
+use Rattle.window_numbers.specs.net_model.specs.Views.{servers_of}
+use Rattle.window_numbers.specs.sim_bounds.specs.Gauge.{common_num}
 use Rattle.sim_gauge.proofs.Rates.{rate_at, next_rate}
-use Rattle.sim_bounds.proofs.Gauged.{num_pos}
+use Rattle.window_numbers.specs.sim_bounds.proofs.Gauged.{num_pos}
 use Rattle.sim_gauge.proofs.wide.numerators.Goals as goal
 
 pub common_multiple-common-requires : goal.common_multiple-common-requires

@@ -1,8 +1,8 @@
 use Rattle.std.proofs.Common.{map, drop}
 use Rattle.rational.specs.Gauge.{Kept}
-use Rattle.net_model.specs.Networks.{NetServer}
-use Rattle.net_model.specs.Views.{servers_of}
-use Rattle.sim_bounds.specs.Gauge.{common_num}
+use Rattle.window_numbers.specs.net_model.specs.Networks.{NetServer}
+use Rattle.window_numbers.specs.net_model.specs.Views.{servers_of}
+use Rattle.window_numbers.specs.sim_bounds.specs.Gauge.{common_num}
 use Rattle.sim_gauge.proofs.wide.numerators.Given as goal
 
 -- those of the servers from number i on

@@ -1,7 +1,7 @@
 use Rattle.std.specs.Prelude.{Some, ◌≡◌, length, slice_get}
 use Rattle.std.proofs.Common.{arith, sym, ap, ◌∙◌, subst}
 use Rattle.index_links.specs.Chains.{list_at, first_of}
-use Rattle.sim_servers.specs.Firsts.{IsFirstOf}
+use Rattle.sim_states.specs.sim_servers.specs.Firsts.{IsFirstOf}
 use Rattle.sim_states.specs.Running.{enter_first, reach_first, IsFirstCandidate}
 use Rattle.sim_loop.proofs.Merged.{first_entry, merged, found_at}
 use Rattle.sim_loop.proofs.candidates.first_due.Goals as goal

@@ -1,6 +1,6 @@
 use Rattle.std.specs.Prelude.{◌≡◌, map}
-use Rattle.stated_runs.specs.Setups.{Setup}
-use Rattle.stated_runs.specs.FromTraces.{entering}
+use Rattle.sim_states.specs.stated_runs.specs.Setups.{Setup}
+use Rattle.sim_states.specs.stated_runs.specs.FromTraces.{entering}
 use Rattle.sim_states.specs.Running.{IsFirstCandidate}
 use Rattle.sim_loop.proofs.candidates.first_due.Given as goal
 

@@ -4,8 +4,8 @@ use Rattle.std.proofs.lemmas.List.{get_or_default}
 use Rattle.rational.specs.Rational.{int}
 use Rattle.std.specs.Prelude.{pos}
 use Rattle.index_links.specs.Chains.{list_at}
-use Rattle.sim_servers.specs.declared.due.Due.{Due}
-use Rattle.sim_servers.specs.declared.due.DueKind.TheVariants.{Reach}
+use Rattle.sim_states.specs.sim_servers.specs.declared.due.Due.{Due}
+use Rattle.sim_states.specs.sim_servers.specs.declared.due.DueKind.TheVariants.{Reach}
 use Rattle.sim_states.specs.declared.arrival.Arrival.{Arrival}
 use Rattle.sim_states.specs.Running.{arrival_at, reach_first}
 use Rattle.sim_loop.proofs.Merged.{first_has}

@@ -1,5 +1,5 @@
 use Rattle.std.proofs.Common.{◌∙◌}
-use Rattle.net_model.specs.Views.{server_of}
+use Rattle.net_cells.specs.net_model.specs.Views.{server_of}
 use Rattle.sim_routes.proofs.Places.{link_is, link_none}
 use Rattle.sim_routes.proofs.routes.link_of.Goals as goal
 

@@ -1,4 +1,4 @@
-use Rattle.report_text.specs.RunReport.{found_of}
+use Rattle.simulated_findings.specs.report_text.specs.RunReport.{found_of}
 use Rattle.simulated_findings.specs.run_findings.proofs.Reports.{same_reply}
 use Rattle.simulate_command.proofs.reported.reported.Goals as goal
 

@@ -1,5 +1,5 @@
 use Rattle.std.proofs.Common.{◌∙◌}
-use Rattle.affine_segment.proofs.PieceIn.{le_test}
+use Rattle.watch_laws.specs.affine_segment.proofs.PieceIn.{le_test}
 use Rattle.step_lines.proofs.places.is_at_most.Goals as goal
 
 pub returns : goal.returns

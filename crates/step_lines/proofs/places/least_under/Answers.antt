@@ -1,6 +1,6 @@
 use Rattle.std.proofs.Common.{◌+◌, ◌<◌, ◌≤◌, length, arith, rules}
 use Rattle.std.proofs.lemmas.List.Sorted.{IsPartitionPoint-from_clause}
-use Rattle.run_laws.specs.Counts.{before}
+use Rattle.watch_laws.specs.run_laws.specs.Counts.{before}
 use Rattle.step_lines.proofs.SortedParts.{parted, is_among}
 use Rattle.step_lines.proofs.places.least_under.Goals as goal
 

@@ -1,5 +1,5 @@
 use Rattle.std.proofs.Common.{◌≡◌, [], length}
-use Rattle.run_tests.proofs.version_tables.four_thousand_versions_of_a_million_cells_fit.Given as goal
+use Rattle.store_tests.proofs.version_tables.four_thousand_versions_of_a_million_cells_fit.Given as goal
 
 abbrev pub invariant-loop-cell : goal.invariant-loop-cell
 invariant-loop-cell g l = record { cells : l.table.cells ≡ l.cells; none : l.table.kept ≡ [] }

@@ -1,5 +1,5 @@
 use Rattle.std.proofs.Common.{◌+◌, drop, drop_of_length-le, refl}
-use Rattle.affine_segment.proofs.NextPiece.{next_piece}
+use Rattle.curve_conv.specs.affine_segment.proofs.NextPiece.{next_piece}
 use Rattle.subadd_closure.proofs.ThinnedElements.{under_more, under_stops, under_ends}
 use Rattle.rational.proofs.Compared.{least_by_test}
 use Rattle.subadd_closure.proofs.thinned.all_under.Goals as goal

@@ -3,16 +3,16 @@ use Rattle.std.specs.Prelude.{pos}
 use Rattle.rational.specs.Rational.{int, ◌+ℚ◌, ◌*ℚ◌, ◌≤ℚ◌, ◌<ℚ◌}
 use Rattle.rational.proofs.Compared.{not_less_out}
 use Rattle.rational.proofs.Laws.{le_of_lt}
-use Rattle.upp_curve.specs.Unrolled.{copies_below}
-use Rattle.upp_limits.specs.Spans.{Span}
-use Rattle.upp_limits.specs.Limits.{joined, time_alone, slopes_alone, line_slope}
-use Rattle.upp_limits.specs.Seen.{seen_of, SeenRises}
-use Rattle.upp_limits.specs.ClosedForm.{last_numbers}
-use Rattle.upp_limits.specs.Gathered.{Gathers}
-use Rattle.upp_limits.proofs.SpanNumbers.{if_some_map}
+use Rattle.upp_normal.specs.upp_curve.specs.Unrolled.{copies_below}
+use Rattle.upp_normal.specs.upp_limits.specs.Spans.{Span}
+use Rattle.upp_normal.specs.upp_limits.specs.Limits.{joined, time_alone, slopes_alone, line_slope}
+use Rattle.upp_normal.specs.upp_limits.specs.Seen.{seen_of, SeenRises}
+use Rattle.upp_normal.specs.upp_limits.specs.ClosedForm.{last_numbers}
+use Rattle.upp_normal.specs.upp_limits.specs.Gathered.{Gathers}
+use Rattle.upp_normal.specs.upp_limits.proofs.SpanNumbers.{if_some_map}
 use Rattle.window_numbers.specs.CurveEnds.{next_copy}
 use Rattle.window_numbers.proofs.EndSpans.{copy_numbers, copy_there, no_copy}
-use Rattle.upp_limits.proofs.SpanNumbers.{cap_exact, cap_many}
+use Rattle.upp_normal.specs.upp_limits.proofs.SpanNumbers.{cap_exact, cap_many}
 use Rattle.window_numbers.proofs.curve_ends.with_copy.Goals as goal
 
 pub returns-then-copies-clause-fits : goal.returns-then-copies-clause-fits

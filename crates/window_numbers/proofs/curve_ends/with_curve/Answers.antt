@@ -1,12 +1,12 @@
 use Rattle.std.proofs.Common.{subst}
-use Rattle.upp_limits.specs.Spans.{spans}
-use Rattle.upp_limits.specs.Limits.{joined, curve_numbers}
-use Rattle.upp_limits.specs.ClosedForm.{closed_numbers}
-use Rattle.upp_limits.specs.Gathered.{Gathers}
-use Rattle.upp_limits.proofs.JoinedNumbers.{joined_assoc}
-use Rattle.upp_limits.proofs.Operands.{held_left, curve_period}
-use Rattle.upp_limits.proofs.SameSizes.{equals_self, equals_joined, equals_curve}
-use Rattle.upp_limits.proofs.SpanNumbers.{if_some_map}
+use Rattle.upp_normal.specs.upp_limits.specs.Spans.{spans}
+use Rattle.upp_normal.specs.upp_limits.specs.Limits.{joined, curve_numbers}
+use Rattle.upp_normal.specs.upp_limits.specs.ClosedForm.{closed_numbers}
+use Rattle.upp_normal.specs.upp_limits.specs.Gathered.{Gathers}
+use Rattle.upp_normal.specs.upp_limits.proofs.JoinedNumbers.{joined_assoc}
+use Rattle.upp_normal.specs.upp_limits.proofs.Operands.{held_left, curve_period}
+use Rattle.upp_normal.specs.upp_limits.proofs.SameSizes.{equals_self, equals_joined, equals_curve}
+use Rattle.upp_normal.specs.upp_limits.proofs.SpanNumbers.{if_some_map}
 use Rattle.window_numbers.specs.CurveEnds.{all_end_numbers}
 use Rattle.window_numbers.proofs.EndSpans.{numbers_to_end}
 use Rattle.window_numbers.proofs.KnownEnds.{ends_known}

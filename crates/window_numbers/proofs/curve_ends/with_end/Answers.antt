@@ -1,6 +1,6 @@
 use Rattle.std.proofs.Common.{subst}
 use Rattle.rational.proofs.Compared.{not_less_out}
-use Rattle.upp_limits.specs.Spans.{Span}
+use Rattle.upp_normal.specs.upp_limits.specs.Spans.{Span}
 use Rattle.window_numbers.specs.CurveEnds.{KnowsEnd}
 use Rattle.window_numbers.proofs.curve_ends.with_end.Goals as goal
 

@@ -1,11 +1,11 @@
 use Rattle.std.proofs.Common.{subst, sym, ◌+◌, drop}
 use Rattle.rational.specs.Rational.{◌≤ℚ◌, int}
 use Rattle.std.proofs.Common.{pos}
-use Rattle.upp_limits.specs.Spans.{Span, spans}
+use Rattle.upp_normal.specs.upp_limits.specs.Spans.{Span, spans}
 use Rattle.window_numbers.specs.CurveEnds.{end_numbers, KnowsEnd}
-use Rattle.upp_limits.specs.Limits.{joined}
-use Rattle.upp_limits.specs.Gathered.{Gathers}
-use Rattle.upp_limits.proofs.PieceLists.{starts_nonneg, every_at, next_span, span_at}
+use Rattle.upp_normal.specs.upp_limits.specs.Limits.{joined}
+use Rattle.upp_normal.specs.upp_limits.specs.Gathered.{Gathers}
+use Rattle.upp_normal.specs.upp_limits.proofs.PieceLists.{starts_nonneg, every_at, next_span, span_at}
 use Rattle.window_numbers.proofs.EndSpans.{one_more, all_done}
 use Rattle.window_numbers.proofs.curve_ends.with_ends.Goals as goal
 

@@ -1,7 +1,7 @@
 use Rattle.std.proofs.Common.{◌≡◌, drop}
-use Rattle.upp_limits.specs.Spans.{spans}
-use Rattle.upp_limits.specs.Limits.{Numbers, joined}
-use Rattle.upp_limits.specs.Gathered.{Gathers}
+use Rattle.upp_normal.specs.upp_limits.specs.Spans.{spans}
+use Rattle.upp_normal.specs.upp_limits.specs.Limits.{Numbers, joined}
+use Rattle.upp_normal.specs.upp_limits.specs.Gathered.{Gathers}
 use Rattle.window_numbers.specs.CurveEnds.{all_end_numbers}
 use Rattle.window_numbers.proofs.curve_ends.with_ends.Given as goal
 

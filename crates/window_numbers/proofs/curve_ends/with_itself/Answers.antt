@@ -1,8 +1,8 @@
 use Rattle.std.proofs.Common.{◌∙◌, sym, subst, true≢false}
-use Rattle.upp_limits.specs.Spans.{Span}
-use Rattle.upp_limits.specs.Limits.{joined}
-use Rattle.upp_limits.specs.Gathered.{Gathers}
-use Rattle.upp_limits.proofs.SpanNumbers.{if_some_map}
+use Rattle.upp_normal.specs.upp_limits.specs.Spans.{Span}
+use Rattle.upp_normal.specs.upp_limits.specs.Limits.{joined}
+use Rattle.upp_normal.specs.upp_limits.specs.Gathered.{Gathers}
+use Rattle.upp_normal.specs.upp_limits.proofs.SpanNumbers.{if_some_map}
 use Rattle.window_numbers.proofs.EndSpans.{itself_numbers, no_itself}
 use Rattle.window_numbers.proofs.curve_ends.with_itself.Goals as goal
 

@@ -1,8 +1,8 @@
 use Rattle.std.proofs.Common.{subst}
-use Rattle.upp_limits.specs.Limits.{joined}
-use Rattle.upp_limits.specs.Gathered.{Gathers}
+use Rattle.upp_normal.specs.upp_limits.specs.Limits.{joined}
+use Rattle.upp_normal.specs.upp_limits.specs.Gathered.{Gathers}
 use Rattle.std.specs.Prelude.{[], ◌∷◌}
-use Rattle.net_model.specs.Views.{flows_of}
+use Rattle.sim_bounds.specs.net_model.specs.Views.{flows_of}
 use Rattle.sim_bounds.specs.Gauge.{numbers_of_curves, arrivals_of}
 use Rattle.window_numbers.proofs.Loops.{next_part, last_part, held_part, arrival_parts}
 use Rattle.window_numbers.proofs.curves.with_arrivals.Goals as goal

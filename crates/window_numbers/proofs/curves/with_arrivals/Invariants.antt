@@ -1,7 +1,7 @@
 use Rattle.std.proofs.Common.{◌≡◌, drop}
-use Rattle.upp_limits.specs.Limits.{Numbers, joined}
-use Rattle.upp_limits.specs.Gathered.{Gathers}
-use Rattle.net_model.specs.Views.{flows_of}
+use Rattle.upp_normal.specs.upp_limits.specs.Limits.{Numbers, joined}
+use Rattle.upp_normal.specs.upp_limits.specs.Gathered.{Gathers}
+use Rattle.sim_bounds.specs.net_model.specs.Views.{flows_of}
 use Rattle.sim_bounds.specs.Gauge.{numbers_of_curves, arrivals_of}
 use Rattle.window_numbers.proofs.curves.with_arrivals.Given as goal
 

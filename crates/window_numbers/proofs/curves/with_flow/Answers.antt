@@ -1,12 +1,12 @@
 use Rattle.std.proofs.Common.{◌≡◌, sym, ap, ◌∙◌, subst}
 use Rattle.std.specs.Prelude.{[], ◌∷◌}
-use Rattle.upp_limits.specs.Limits.{joined}
-use Rattle.upp_limits.specs.Sized.{HeldBy}
-use Rattle.upp_limits.specs.Gathered.{Gathers}
-use Rattle.upp_limits.proofs.Gathering.{gathers_same}
-use Rattle.upp_limits.proofs.JoinedNumbers.{joined_nothing}
-use Rattle.upp_limits.proofs.SpanNumbers.{if_some_map}
-use Rattle.net_model.specs.Views.{flows_of}
+use Rattle.upp_normal.specs.upp_limits.specs.Limits.{joined}
+use Rattle.upp_normal.specs.upp_limits.specs.Sized.{HeldBy}
+use Rattle.upp_normal.specs.upp_limits.specs.Gathered.{Gathers}
+use Rattle.upp_normal.specs.upp_limits.proofs.Gathering.{gathers_same}
+use Rattle.upp_normal.specs.upp_limits.proofs.JoinedNumbers.{joined_nothing}
+use Rattle.upp_normal.specs.upp_limits.proofs.SpanNumbers.{if_some_map}
+use Rattle.sim_bounds.specs.net_model.specs.Views.{flows_of}
 use Rattle.sim_bounds.specs.Gauge.{numbers_to, numbers_of_curves, arrivals_of}
 use Rattle.window_numbers.proofs.curves.with_flow.Goals as goal
 

@@ -1,6 +1,6 @@
 use Rattle.std.proofs.Common.{subst}
-use Rattle.upp_limits.specs.Limits.{joined}
-use Rattle.upp_limits.specs.Gathered.{Gathers}
+use Rattle.upp_normal.specs.upp_limits.specs.Limits.{joined}
+use Rattle.upp_normal.specs.upp_limits.specs.Gathered.{Gathers}
 use Rattle.sim_bounds.specs.Gauge.{numbers_to}
 use Rattle.window_numbers.proofs.Loops.{next_part, last_part, held_part, service_parts}
 use Rattle.window_numbers.proofs.curves.with_services.Goals as goal

@@ -1,9 +1,9 @@
 use Rattle.std.proofs.Common.{◌≡◌, drop}
-use Rattle.upp_limits.specs.Limits.{Numbers, joined}
-use Rattle.upp_limits.specs.Gathered.{Gathers}
+use Rattle.upp_normal.specs.upp_limits.specs.Limits.{Numbers, joined}
+use Rattle.upp_normal.specs.upp_limits.specs.Gathered.{Gathers}
 use Rattle.std.specs.Prelude.{map}
-use Rattle.net_model.specs.Networks.{NetServer}
-use Rattle.net_model.specs.Views.{servers_of}
+use Rattle.sim_bounds.specs.net_model.specs.Networks.{NetServer}
+use Rattle.sim_bounds.specs.net_model.specs.Views.{servers_of}
 use Rattle.sim_bounds.specs.Gauge.{numbers_of_curves}
 use Rattle.window_numbers.proofs.curves.with_services.Given as goal
 

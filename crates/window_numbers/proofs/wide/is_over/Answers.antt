@@ -1,8 +1,8 @@
 use Rattle.std.proofs.Common.{◌*◌, ◌<◌, ◌^◌, ◌≤◌, arith, refl, subst, sym}
 use Rattle.std.proofs.lemmas.Bool.{leb-true, le-leb}
-use Rattle.upp_limits.specs.Limits.{sizes_of}
-use Rattle.upp_limits.proofs.CurveStands.{are_sizes}
-use Rattle.upp_limits.proofs.GaugeProduct.{gathered_steep, gathered_far, gathered_largest}
+use Rattle.upp_normal.specs.upp_limits.specs.Limits.{sizes_of}
+use Rattle.upp_normal.specs.upp_limits.proofs.CurveStands.{are_sizes}
+use Rattle.upp_normal.specs.upp_limits.proofs.GaugeProduct.{gathered_steep, gathered_far, gathered_largest}
 use Rattle.rational.proofs.Gauges.{kept_times}
 use Rattle.rational.specs.Gauge.{Kept}
 use Rattle.window_numbers.specs.Rated.{gauge_with}

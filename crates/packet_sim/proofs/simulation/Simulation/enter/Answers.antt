@@ -2,8 +2,8 @@ use Rattle.std.specs.Prelude.{◌+◌, List}
 use Rattle.std.proofs.Common.{refl, sym, subst, arith}
 use Rattle.std.proofs.lemmas.List.{length-map, with_items_is}
 use Rattle.run_laws.specs.declared.steps.Step.TheVariants as steps
-use Rattle.stated_runs.specs.FromTraces.{entering, setup_of}
-use Rattle.sim_servers.specs.declared.station.Station.{Station}
+use Rattle.sim_bounds.specs.stated_runs.specs.FromTraces.{entering, setup_of}
+use Rattle.sim_loop.specs.sim_servers.specs.declared.station.Station.{Station}
 use Rattle.sim_loop.specs.Moves.{HasTaken}
 use Rattle.packet_sim.proofs.Arriving.{MayArriveAt, enter_in_trace, enter_may, enter_done}
 use Rattle.packet_sim.proofs.Stepped.{stepped}

@@ -3,9 +3,9 @@ use Rattle.std.proofs.Common.{refl, sym, subst, arith}
 use Rattle.std.proofs.lemmas.List.{length-map, with_items_is}
 use Rattle.run_laws.specs.declared.steps.Step.TheVariants as steps
 use Rattle.index_links.specs.Chains.{list_at, with_list}
-use Rattle.stated_runs.specs.FromTraces.{entering, setup_of}
-use Rattle.sim_servers.specs.declared.station.Station.{Station}
-use Rattle.sim_states.specs.declared.arrival.Arrival.{Arrival}
+use Rattle.sim_bounds.specs.stated_runs.specs.FromTraces.{entering, setup_of}
+use Rattle.sim_loop.specs.sim_servers.specs.declared.station.Station.{Station}
+use Rattle.sim_loop.specs.sim_states.specs.declared.arrival.Arrival.{Arrival}
 use Rattle.sim_loop.specs.Moves.{HasLost}
 use Rattle.packet_sim.proofs.Leaving.{MayLeaveAt, leave_may, leave_gone, leave_list, link_fits, leave_done, leave_last}
 use Rattle.packet_sim.proofs.Stepped.{stepped}

@@ -3,8 +3,8 @@ use Rattle.std.proofs.Common.{refl, sym, subst, arith}
 use Rattle.std.proofs.lemmas.List.{length-map, with_items_is}
 use Rattle.run_laws.specs.declared.steps.Step.TheVariants as steps
 use Rattle.index_links.specs.Chains.{unlinked}
-use Rattle.stated_runs.specs.FromTraces.{entering, setup_of}
-use Rattle.sim_servers.specs.declared.station.Station.{Station}
+use Rattle.sim_bounds.specs.stated_runs.specs.FromTraces.{entering, setup_of}
+use Rattle.sim_loop.specs.sim_servers.specs.declared.station.Station.{Station}
 use Rattle.sim_loop.specs.Moves.{HasTaken}
 use Rattle.packet_sim.proofs.Arriving.{MayArriveAt, reach_in_trace, reach_linked, reach_may, reach_done}
 use Rattle.packet_sim.proofs.Stepped.{stepped}

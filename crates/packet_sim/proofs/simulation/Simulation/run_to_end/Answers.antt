@@ -1,9 +1,9 @@
 use Rattle.std.specs.Prelude.{Some, None, List, length, map}
 use Rattle.std.proofs.Common.{sym, ap, subst}
-use Rattle.stated_runs.specs.FromTraces.{entering, setup_of}
-use Rattle.sim_servers.specs.declared.station.Station.{Station}
-use Rattle.sim_states.specs.declared.arrival.Arrival.{Arrival}
-use Rattle.sim_states.specs.Running.{IsFirstCandidate}
+use Rattle.sim_bounds.specs.stated_runs.specs.FromTraces.{entering, setup_of}
+use Rattle.sim_loop.specs.sim_servers.specs.declared.station.Station.{Station}
+use Rattle.sim_loop.specs.sim_states.specs.declared.arrival.Arrival.{Arrival}
+use Rattle.sim_loop.specs.sim_states.specs.Running.{IsFirstCandidate}
 use Rattle.packet_sim.proofs.Ending.{comes_next, has_ended}
 use Rattle.packet_sim.proofs.simulation.Simulation.run_to_end.Goals as goal
 

@@ -4,9 +4,9 @@ use Rattle.std.proofs.lemmas.List.{length-map, with_items_is}
 use Rattle.rational.specs.Rational.{◌/ℚ◌}
 use Rattle.rational.specs.Ratio.{IsSmall}
 use Rattle.run_laws.specs.declared.steps.Step.TheVariants as steps
-use Rattle.queue_sched.specs.declared.turn.Turn.TheVariants as turns
-use Rattle.stated_runs.specs.FromTraces.{entering, setup_of}
-use Rattle.sim_servers.specs.declared.station.Station.{Station}
+use Rattle.sim_loop.specs.queue_sched.specs.declared.turn.Turn.TheVariants as turns
+use Rattle.sim_bounds.specs.stated_runs.specs.FromTraces.{entering, setup_of}
+use Rattle.sim_loop.specs.sim_servers.specs.declared.station.Station.{Station}
 use Rattle.sim_loop.specs.Moves.{HasWorked}
 use Rattle.packet_sim.proofs.Working.{MayWorkAt}
 use Rattle.packet_sim.proofs.Starting.{send_in_trace, send_known, send_fits, send_may, send_done}

@@ -1,7 +1,7 @@
 use Rattle.std.specs.Prelude.{None, List}
 use Rattle.std.proofs.Common.{sym, subst}
-use Rattle.stated_runs.specs.FromTraces.{setup_of}
-use Rattle.sim_servers.specs.declared.station.Station.{Station}
+use Rattle.sim_bounds.specs.stated_runs.specs.FromTraces.{setup_of}
+use Rattle.sim_loop.specs.sim_servers.specs.declared.station.Station.{Station}
 use Rattle.sim_loop.specs.Moves.{HasTurned}
 use Rattle.packet_sim.proofs.Starting.{MayTurnAt, start_may, some_turn}
 use Rattle.packet_sim.proofs.simulation.Simulation.start.Goals as goal

@@ -1,6 +1,6 @@
 use Rattle.std.proofs.Common.{refl}
 use Rattle.run_laws.specs.declared.steps.Step.TheVariants as steps
-use Rattle.stated_runs.specs.FromTraces.{setup_of}
+use Rattle.sim_bounds.specs.stated_runs.specs.FromTraces.{setup_of}
 use Rattle.packet_sim.proofs.Starting.{visit_done}
 use Rattle.packet_sim.proofs.Stepped.{stepped}
 use Rattle.packet_sim.proofs.simulation.Simulation.visit.Goals as goal

@@ -1,6 +1,6 @@
 use Rattle.std.proofs.Common.{ap}
 use Rattle.run_laws.specs.declared.steps.Step.TheVariants as steps
-use Rattle.net_model.specs.NetRoutes.{routes_of}
+use Rattle.broken_laws.specs.net_model.specs.NetRoutes.{routes_of}
 use Rattle.run_measures.proofs.LevelSteps.{step_at}
 use Rattle.run_check.proofs.Along.{stands, goes_by, goes_ok_by}
 use Rattle.run_check.proofs.walk.Walk.tell.Goals as goal

@@ -1,8 +1,8 @@
 use Rattle.std.specs.Prelude.{pos}
 use Rattle.std.proofs.Common.{◌≡◌, ◌∙◌, ap, subst, IfOk, inl, inr}
 use Rattle.upp_curve.specs.declared.curve.Tail.TheVariants.{Periodic, Affine, Infinite}
-use Rattle.affine_segment.specs.rational.specs.Rational.{int}
-use Rattle.affine_segment.specs.rational.specs.Whole.{periods}
+use Rattle.min_plus.specs.rational.specs.Rational.{int}
+use Rattle.min_plus.specs.rational.specs.Whole.{periods}
 use Rattle.affine_segment.specs.Reading.{read}
 use Rattle.upp_curve.specs.Curve.{repeated}
 use Rattle.upp_curve.specs.Steps.{IsWideRead, IsWidePast, IsWideValueAt}

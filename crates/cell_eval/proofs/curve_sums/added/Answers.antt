@@ -1,0 +1,23 @@
+use Rattle.std.proofs.Common.{sym, ap, ◌∙◌, subst}
+use Rattle.std.specs.Prelude.{Some}
+use Rattle.cell_table.specs.net_cells.specs.Meanings.{curve}
+use Rattle.cell_eval.specs.Partial.{IsPartial}
+use Rattle.cell_eval.proofs.SumSteps.{adds_first, one_summed, made_summed}
+use Rattle.cell_eval.proofs.sums.added.Goals as goal
+
+pub returns-in-Nothing-clause-sum : goal.returns-in-Nothing-clause-sum
+returns-in-Nothing-clause-sum g c = λ cells h.
+    let at = g.T.Table.at c.args.table.now in
+    adds_first at cells c.args.cell c.args.steps.now (subst (IsPartial at cells) c.in-Nothing.is h)
+
+pub returns-in-One-clause-sum : goal.returns-in-One-clause-sum
+returns-in-One-clause-sum g c = λ cells h.
+    let at = g.T.Table.at c.args.table.now in
+    c.with_cell.ensures.sum cells
+    (one_summed at cells c.in-One.first c.deref.result.now (subst (IsPartial at cells) c.in-One.is h)
+    (c.curve_at.ensures ∙ ap (λ f. Some (curve f)) (sym c.deref.ensures)))
+
+pub returns-in-Made-clause-sum : goal.returns-in-Made-clause-sum
+returns-in-Made-clause-sum g c = λ cells h.
+    let at = g.T.Table.at c.args.table.now in
+    c.with_cell-in-Made.ensures.sum cells (made_summed at cells c.in-Made.made (subst (IsPartial at cells) c.in-Made.is h))

@@ -1,0 +1,13 @@
+use Rattle.std.proofs.Common.{[], map}
+use Rattle.std.specs.Prelude.{Ok}
+use Rattle.cell_table.specs.net_cells.specs.declared.cell.Kind.TheVariants.{In}
+use Rattle.cell_table.specs.net_cells.specs.Order.{at_visit}
+use Rattle.cell_eval.specs.Chosen.{all_chosen}
+use Rattle.cell_eval.specs.Partial.{IsReady, Adds}
+use Rattle.cell_eval.proofs.sums.flows_sum.Given as goal
+
+abbrev pub invariant-loop-flow : goal.invariant-loop-flow
+invariant-loop-flow g l = record {
+  sum : Adds (g.T.Table.at l.table) [] (map (at_visit In) (all_chosen l.net l.server l.pick l.except l.flow)) l.fn.steps l.steps (Ok l.so_far);
+  ready : IsReady (g.T.Table.at l.table) l.so_far;
+}

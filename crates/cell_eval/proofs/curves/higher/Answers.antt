@@ -1,0 +1,25 @@
+use Rattle.std.proofs.Common.{◌-◌, map, subst}
+use Rattle.std.specs.List.{range_with_len}
+use Rattle.std.proofs.lemmas.List.FromFn.{length-map-range_with_len}
+use Rattle.cell_table.specs.net_cells.specs.declared.cell.Kind.TheVariants.{Total}
+use Rattle.cell_table.specs.net_cells.specs.Cells.{cell_of}
+use Rattle.cell_table.specs.Values.{answer_of, meaning_of}
+use Rattle.cell_eval.specs.Evaluates.{Counts}
+use Rattle.cell_eval.proofs.Arms.{higher_ready}
+use Rattle.cell_eval.proofs.curves.higher.Goals as goal
+
+pub queues_sum-made-requires : goal.queues_sum-made-requires
+queues_sum-made-requires g c = higher_ready c.args.net.now (g.T.Table.at c.args.table.now) c.args.server c.args.queue c.requires
+
+pub returns : goal.returns
+returns g c =
+    let old = c.args.steps.now in
+    let new = c.queues_sum-made.new.steps in
+    let cells = map (cell_of Total c.args.server) (range_with_len 0 c.args.queue) in
+    let adds = c.queues_sum-made.ensures.sum in
+    record {
+      answer = c.summed.ensures.answer cells old new adds;
+      counts = subst (λ n. Counts (n - 1) old new (answer_of meaning_of c.summed.result))
+          (length-map-range_with_len (cell_of Total c.args.server) 0 c.args.queue) (c.summed.ensures.counts cells old new adds);
+      memory = c.summed.ensures.memory cells old new adds;
+    }

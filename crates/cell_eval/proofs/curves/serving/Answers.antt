@@ -1,0 +1,25 @@
+use Rattle.cell_eval.proofs.Arms.{service_above}
+use Rattle.std.proofs.Common.{◌-◌, inr}
+use Rattle.cell_table.specs.net_cells.specs.declared.cell.Kind.TheVariants.{QueueService}
+use Rattle.cell_table.specs.net_cells.specs.Numbered.{discipline}
+use Rattle.cell_table.specs.net_cells.specs.Cells.{cell_of}
+use Rattle.cell_table.specs.net_cells.specs.CellFormulas.{formula, queue_service}
+use Rattle.cell_table.specs.net_cells.specs.Refusals.{RefusedAt}
+use Rattle.cell_table.specs.Values.{answer_of, meaning_of}
+use Rattle.cell_eval.proofs.Arms.{service_given}
+use Rattle.cell_eval.proofs.Stopping.{at_refusal}
+use Rattle.cell_eval.proofs.curves.serving.Goals as goal
+
+pub queue_service-requires-clause-above : goal.queue_service-requires-clause-above
+queue_service-requires-clause-above g c = λ n is.
+    service_above c.args.net.now (g.T.Table.at c.args.table.now) c.args.server c.args.queue n c.requires is
+
+pub returns : goal.returns
+returns g c = record {
+  answer = service_given (g.T.Table.at c.args.table.now) c.args.net.now c.args.server c.args.queue (discipline c.args.net.now c.args.server)
+      (answer_of meaning_of c.queue_service.result) c.queue_service.ensures.answer;
+  counts = c.queue_service.ensures.counts;
+  memory = λ is. inr (at_refusal meaning_of c.queue_service.result
+      (λ e. RefusedAt (g.T.Table.at c.args.table.now) (formula c.args.net.now (cell_of QueueService c.args.server c.args.queue)) e
+      (c.queue_service.new.steps - c.args.steps.now)) c.queue_service.ensures.refused is);
+}

@@ -1,0 +1,41 @@
+use Rattle.std.proofs.Common.{◌-◌, sym, ap, ◌∙◌, subst, inr}
+use Rattle.std.specs.Prelude.{IfErr}
+use Rattle.cell_table.specs.net_cells.specs.Formulas.{value_of, vertical}
+use Rattle.cell_table.specs.net_cells.specs.Meanings.{number}
+use Rattle.cell_eval.proofs.Counting.{ok_answer}
+use Rattle.cell_eval.proofs.Arms.{backlog_comes, backlog_served_by}
+use Rattle.cell_table.specs.net_cells.specs.Visits.{longest_of}
+use Rattle.cell_eval.specs.declared.found.Pick.TheVariants.{InQueue}
+use Rattle.cell_eval.proofs.Choosing.{picked_are}
+use Rattle.cell_table.specs.net_cells.specs.declared.cell.Kind.TheVariants.{Total, QueueService, QueueBacklog}
+use Rattle.cell_table.specs.net_cells.specs.Cells.{cell_of}
+use Rattle.cell_table.specs.net_cells.specs.CellFormulas.{less, formula}
+use Rattle.cell_table.specs.net_cells.specs.Refusals.{RefusedAt}
+use Rattle.cell_eval.proofs.Stopping.{at_refusal}
+use Rattle.cell_eval.proofs.numbers.queue_backlog.Goals as goal
+
+pub backlog-requires-clause-curve : goal.backlog-requires-clause-curve
+backlog-requires-clause-curve g c = backlog_comes c.args.net.now (g.T.Table.at c.args.table.now) c.args.server c.args.queue c.requires
+
+pub backlog-requires-clause-serves : goal.backlog-requires-clause-serves
+backlog-requires-clause-serves g c = backlog_served_by c.args.net.now (g.T.Table.at c.args.table.now) c.args.server c.args.queue c.requires
+
+pub returns : goal.returns
+returns g c =
+    let bits = c.longest_at-bits.ensures ∙ ap (longest_of c.args.net.now) (sym (picked_are c.args.net.now c.args.server (InQueue c.args.queue))) in
+    record {
+      answer = rw c.numbered.ensures (rw bits at c.backlog.ensures.answer);
+      counts = record {
+        exact = rw c.numbered.ensures (ok_answer _ number c.backlog.result c.backlog.ensures.all);
+        least = c.backlog.ensures.least;
+        most = c.backlog.ensures.most;
+      };
+      memory = λ is. let at = g.T.Table.at c.args.table.now in
+          let counted = c.backlog.new.steps - c.args.steps.now in
+          let from = value_of (cell_of Total c.args.server c.args.queue) in
+          let service = value_of (cell_of QueueService c.args.server c.args.queue) in
+          inr (at_refusal number c.backlog.result
+          (λ e. RefusedAt at (formula c.args.net.now (cell_of QueueBacklog c.args.server c.args.queue)) e counted)
+          (subst (λ b. IfErr c.backlog.result (λ e. RefusedAt at (vertical from (less service b)) e counted)) bits
+          c.backlog.ensures.refused) (sym c.numbered.ensures ∙ is));
+    }

@@ -1,0 +1,12 @@
+use Rattle.std.proofs.Common.{◌≡◌, ◌+◌, ◌*◌}
+use Rattle.std.specs.Prelude.{Ok}
+use Rattle.cell_table.specs.net_cells.specs.Meanings.{curve}
+use Rattle.cell_table.specs.net_cells.specs.CellFormulas.{packets_to}
+use Rattle.cell_table.specs.net_cells.specs.Answers.{Answers}
+use Rattle.cell_eval.proofs.paths.to_hop.Given as goal
+
+abbrev pub invariant-loop-hop : goal.invariant-loop-hop
+invariant-loop-hop g l = record {
+  answers : Answers (g.T.Table.at l.table) (packets_to l.net l.flow l.hop) (Ok (curve l.so_far));
+  count : l.steps ≡ l.fn.steps + (2 * l.hop + 1);
+}

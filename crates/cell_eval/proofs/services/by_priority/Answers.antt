@@ -1,0 +1,63 @@
+use Rattle.std.proofs.Common.{◌≡◌, ◌+◌, ◌-◌, sym, ap, ◌∙◌, subst, arith}
+use Rattle.std.specs.Prelude.{Some}
+use Rattle.cell_table.specs.residual_calls.specs.PriorityCalls.{MakesPriority}
+use Rattle.cell_table.specs.net_cells.specs.declared.cell.Kind.TheVariants.{Higher}
+use Rattle.cell_table.specs.net_cells.specs.Cells.{cell_of}
+use Rattle.cell_table.specs.net_cells.specs.Visits.{longest_of}
+use Rattle.cell_table.specs.net_cells.specs.Meanings.{curve}
+use Rattle.cell_table.specs.net_cells.specs.Formulas.{value_of, priority}
+use Rattle.cell_table.specs.net_cells.specs.Answers.{Answers, MakesCurve}
+use Rattle.cell_table.specs.Values.{answer_of, meaning_of}
+use Rattle.cell_eval.proofs.Handing.{priority_out, shared_makes, on_cell}
+use Rattle.cell_eval.specs.declared.found.Pick.TheVariants.{AfterQueue}
+use Rattle.cell_eval.proofs.Choosing.{picked_are}
+use Rattle.cell_eval.proofs.SharedCounts.{shared_ok}
+use Rattle.std.specs.Prelude.{IfErr}
+use Rattle.cell_table.specs.net_cells.specs.Refusals.{RefusedAt}
+use Rattle.cell_table.specs.residual_calls.specs.InTurn.{past, PriorityRefused}
+use Rattle.cell_eval.proofs.OperatorStopping.{priority_full, shared_refused, err_map, ok_map}
+use Rattle.cell_eval.proofs.services.by_priority.Goals as goal
+
+pub returns-clause-answer : goal.returns-clause-answer
+returns-clause-answer g c =
+    let at = g.T.Table.at c.args.table.now in
+    let net = c.args.net.now in
+    let β = c.args.service.now in
+    let above = cell_of Higher c.args.place.0 c.args.place.1 in
+    let f = c.deref.result.now in
+    let l = c.longest_at-lower.result in
+    let r = answer_of meaning_of c.shared.result in
+    let lower = c.longest_at-lower.ensures ∙ ap (longest_of net) (sym (picked_are net c.args.place.0 (AfterQueue c.args.place.1))) in
+    subst (λ n. Answers at (priority β (value_of above) n) r) lower
+    (on_cell at above f (λ k. MakesCurve (MakesPriority β k l)) r (c.curve_at.ensures ∙ ap (λ f. Some (curve f)) (sym c.deref.ensures))
+    (shared_makes (MakesPriority β f l) c.priority_service-made.result r (priority_out β f l) c.priority_service-made.ensures.answer c.shared.ensures))
+
+pub returns-clause-counts : goal.returns-clause-counts
+returns-clause-counts g c =
+    let low = c.priority_service-made.ensures.least in
+    record {
+      exact = shared_ok (c.priority_service-made.new.steps ≡ c.args.steps.now + 3) c.priority_service-made.result (answer_of meaning_of c.shared.result)
+          c.shared.ensures c.priority_service-made.ensures.all;
+      least = omega (arith, low);
+      most = c.priority_service-made.ensures.most;
+    }
+
+pub returns-clause-refused : goal.returns-clause-refused
+returns-clause-refused g c =
+    let at = g.T.Table.at c.args.table.now in
+    let net = c.args.net.now in
+    let β = c.args.service.now in
+    let above = cell_of Higher c.args.place.0 c.args.place.1 in
+    let f = c.deref.result.now in
+    let l = c.longest_at-lower.result in
+    let made = c.priority_service-made.result in
+    let counted = c.priority_service-made.new.steps - c.args.steps.now in
+    let lower = c.longest_at-lower.ensures ∙ ap (longest_of net) (sym (picked_are net c.args.place.0 (AfterQueue c.args.place.1))) in
+    let low = c.priority_service-made.ensures.least in
+    let all = ok_map made (c.priority_service-made.new.steps ≡ c.args.steps.now + 3) (counted ≡ 3) (λ e. omega (arith, e))
+    c.priority_service-made.ensures.all in
+    subst (λ n. IfErr c.shared.result (λ e. RefusedAt at (priority β (value_of above) n) e counted)) lower
+    (err_map c.shared.result (λ e. PriorityRefused β f l e counted) (λ e. RefusedAt at (priority β (value_of above) l) e counted)
+    (λ e r. past (curve f) counted (c.curve_at.ensures ∙ ap (λ f. Some (curve f)) (sym c.deref.ensures)) (omega arith) r)
+    (shared_refused meaning_of (MakesPriority β f l) (PriorityRefused β f l) made c.shared.result counted 3 (priority_full β f l)
+    c.priority_service-made.ensures.answer c.priority_service-made.ensures.refused all c.shared.ensures))

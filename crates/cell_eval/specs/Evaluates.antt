@@ -1,0 +1,31 @@
+-- What evaluating a cell asks for, what it gives, and how many operators it counts. Own choice.
+use Rattle.std.specs.Prelude.{◌≡◌, ℕ, ◌+◌, ◌-◌, ◌≤◌, IsTrue, OnOk, Err}
+use Rattle.curve_conv.specs.upp_limits.specs.declared.op_kind.OpFault.TheVariants.{NoMemory}
+use Rattle.cell_table.specs.net_model.specs.Networks.{Net}
+use Rattle.cell_table.specs.net_model.specs.Accepted.{IsAccepted}
+use Rattle.cell_table.specs.net_cells.specs.declared.cell.Cell.{Cell}
+use Rattle.cell_table.specs.net_cells.specs.Cells.{has_cell}
+use Rattle.cell_table.specs.net_cells.specs.Meanings.{CellTable}
+use Rattle.cell_table.specs.net_cells.specs.CellFormulas.{formula}
+use Rattle.cell_table.specs.net_cells.specs.Answers.{Answer}
+use Rattle.cell_table.specs.net_cells.specs.Equations.{MeetsBelow}
+use Rattle.cell_table.specs.net_cells.specs.Work.{work}
+use Rattle.cell_table.specs.net_cells.specs.Refusals.{Stops}
+use Rattle.cell_table.specs.Gives.{Gives}
+
+-- n operators are counted where there is an answer, and at most so many where it is refused
+pub record Counts (n old new : ℕ) (r : Answer) : Type 0 where
+  pub exact : OnOk r (new ≡ old + n)
+  pub least : old ≤ new
+  pub most : new ≤ old + n
+
+pub record MayBeMade (net : Net) (at : CellTable) (c : Cell) : Type 0 where
+  pub accepted : IsAccepted net
+  pub exists : IsTrue (has_cell net c)
+  pub below : MeetsBelow net at c
+
+pub record Evaluates (net : Net) (at : CellTable) (c : Cell) (old new : ℕ) (r : Answer) : Type 0 where
+  pub answer : Gives at (formula net c) r
+  pub counts : Counts (work net c) old new r
+  -- no limit of a counted operator is told as want of memory
+  pub memory : r ≡ Err NoMemory → Stops at (formula net c) NoMemory (new - old)

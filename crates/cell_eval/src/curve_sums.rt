@@ -1,0 +1,191 @@
+//! Sums of the curves of cells, one cell after the other: no memory is taken but for the curves themselves.
+
+ghost use Rattle.std.specs.Prelude.{◌≡◌, ◌<◌, ℕ, List, [], ◌∷◌, length, map, Some, IfOk};
+ghost use Rattle.std.specs.List.{range_with_len};
+ghost use Rattle.curve_conv.specs.curve_call.specs.Again.{IsAgain};
+ghost use Rattle.cell_table.specs.net_cells.specs.declared.cell.Cell.{Cell};
+ghost use Rattle.cell_table.specs.net_cells.specs.declared.cell.Kind.TheVariants.{In, Total};
+ghost use Rattle.cell_table.specs.net_cells.specs.Numbered.{zero_curve};
+ghost use Rattle.cell_table.specs.net_cells.specs.Cells.{cell_of};
+ghost use Rattle.cell_table.specs.net_cells.specs.Order.{at_visit};
+ghost use Rattle.cell_table.specs.net_cells.specs.CellFormulas.{sum_of_cells};
+ghost use Rattle.cell_table.specs.Gives.{Gives};
+ghost use Rattle.cell_table.specs.Values.{answer_of, meaning_of};
+ghost use Rattle.cell_eval.specs.Chosen.{chosen, all_chosen, visit_list};
+ghost use Rattle.cell_eval.specs.Partial.{IsPartial, IsReady, IsSummed, Adds};
+ghost use Rattle.cell_eval.specs.TableValues.{IsCurveAt};
+
+use crate::reading::curve_at;
+use crate::sharing::{again, shared};
+use crate::{Pick, chosen_at};
+use cell_table::net_cells::{Cell, Kind};
+use cell_table::net_model::Network;
+use cell_table::{Table, Value};
+use curve_conv::curve_call::intact;
+use curve_conv::upp_curve::Curve;
+use curve_conv::upp_limits::OpFault;
+use curve_library::bucket;
+use fraction128::Frac;
+use priority_residual::curve_running::sum;
+use std::alloc::Global;
+use std::sync::ledger::Ledger;
+use steps::Steps;
+
+/// The sum of no cell, of one, or of more.
+#[derive(Drop, Default)]
+pub enum Partial {
+    #[default]
+    Nothing,
+    One(Cell),
+    Made(Curve),
+}
+
+/// The curve that is 0 at each time.
+pub(crate) fn nothing(alloc: Global) -> Result<Curve, OpFault>
+    ensures { IsAgain zero_curve result }
+{
+    match bucket(alloc, Frac::zero(), Frac::zero()) {
+        Ok(made) => Ok(made),
+        Err(_) => Err(OpFault::NoMemory),
+    }
+}
+
+// The sum of a curve and a cell's.
+fn with_cell<T: Table<Value>, L: Ledger>(
+    alloc: Global,
+    so_far: &Curve,
+    table: &T,
+    cell: Cell,
+    steps: &mut Steps<L>,
+) -> Result<Partial, OpFault>
+    requires { IsCurveAt (T.at table.now) cell }
+    ensures sum { (cells : List Cell) → IsSummed (T.at table.now) cells so_far.now →
+        Adds (T.at table.now) cells (cell ∷ []) steps.old steps.new result }
+    ensures ready { IfOk result (IsReady (T.at table.now)) }
+{
+    match intact(sum(alloc, so_far, curve_at(table, cell), steps)) {
+        Ok(made) => Ok(Partial::Made(made)),
+        Err(fault) => Err(fault),
+    }
+}
+
+/// A sum and a cell more.
+pub fn added<T: Table<Value>, L: Ledger>(
+    alloc: Global,
+    so_far: Partial,
+    table: &T,
+    cell: Cell,
+    steps: &mut Steps<L>,
+) -> Result<Partial, OpFault>
+    requires cell { IsCurveAt (T.at table.now) cell }
+    requires ready { IsReady (T.at table.now) so_far }
+    ensures sum { (cells : List Cell) → IsPartial (T.at table.now) cells so_far →
+        Adds (T.at table.now) cells (cell ∷ []) steps.old steps.new result }
+    ensures ready { IfOk result (IsReady (T.at table.now)) }
+{
+    match so_far {
+        Partial::Nothing => Ok(Partial::One(cell)),
+        Partial::One(first) => with_cell(alloc, curve_at(table, first), table, cell, steps),
+        Partial::Made(made) => with_cell(alloc, &made, table, cell, steps),
+    }
+}
+
+/// The value of a sum of cells: of none the curve that is 0, of one that cell's own curve, shared.
+pub fn finished<T: Table<Value>>(alloc: Global, table: &T, whole: Partial) -> Result<Value, OpFault>
+    requires ready { IsReady (T.at table.now) whole }
+    ensures { (cells : List Cell) → IsPartial (T.at table.now) cells whole →
+        Gives (T.at table.now) (sum_of_cells cells) (answer_of meaning_of result) }
+{
+    match whole {
+        Partial::Nothing => shared(alloc, nothing(alloc)),
+        Partial::One(cell) => again(table, cell),
+        Partial::Made(made) => shared(alloc, Ok(made)),
+    }
+}
+
+// A sum and the flow's curve at its hop that is meant, if there is one.
+fn with_flow<T: Table<Value>, L: Ledger>(
+    alloc: Global,
+    so_far: Partial,
+    table: &T,
+    net: &Network,
+    server: u32,
+    pick: Pick,
+    except: Option<u32>,
+    flow: u32,
+    steps: &mut Steps<L>,
+) -> Result<Partial, OpFault>
+    requires curves { (k : ℕ) → chosen net.now server pick except flow ≡ visit_list flow (Some k) →
+        IsCurveAt (T.at table.now) (cell_of In flow k) }
+    requires ready { IsReady (T.at table.now) so_far }
+    ensures sum { (cells : List Cell) → IsPartial (T.at table.now) cells so_far → Adds (T.at table.now) cells
+        (map (at_visit In) (chosen net.now server pick except flow)) steps.old steps.new result }
+    ensures ready { IfOk result (IsReady (T.at table.now)) }
+{
+    match chosen_at(net, flow, server, pick, except) {
+        Some(hop) => {
+            let cell = Cell {
+                kind: Kind::In,
+                a: flow,
+                b: hop,
+            };
+            added(alloc, so_far, table, cell, steps)
+        }
+        None => Ok(so_far),
+    }
+}
+
+/// The sum of the curves with which flows come to the hops at a server that are meant, one flow left out.
+pub fn flows_sum<T: Table<Value>, L: Ledger>(
+    alloc: Global,
+    table: &T,
+    net: &Network,
+    server: u32,
+    pick: Pick,
+    except: Option<u32>,
+    steps: &mut Steps<L>,
+) -> Result<Partial, OpFault>
+    requires { (i k : ℕ) → chosen net.now server pick except i ≡ visit_list i (Some k) →
+        IsCurveAt (T.at table.now) (cell_of In i k) }
+    ensures sum { Adds (T.at table.now) [] (map (at_visit In)
+        (all_chosen net.now server pick except (length net.now.flows))) steps.old steps.new result }
+    ensures ready { IfOk result (IsReady (T.at table.now)) }
+{
+    let count = net.flows().len() as u32;
+    let mut so_far = Partial::Nothing;
+    for flow in 0..count {
+        match with_flow(alloc, so_far, table, net, server, pick, except, flow, steps) {
+            Ok(more) => so_far = more,
+            Err(fault) => return Err(fault),
+        }
+    }
+    Ok(so_far)
+}
+
+/// The sum of the curves of the first queues of a server.
+pub fn queues_sum<T: Table<Value>, L: Ledger>(
+    alloc: Global,
+    table: &T,
+    server: u32,
+    queues: u32,
+    steps: &mut Steps<L>,
+) -> Result<Partial, OpFault>
+    requires { (q : ℕ) → q < queues → IsCurveAt (T.at table.now) (cell_of Total server q) }
+    ensures sum { Adds (T.at table.now) []
+        (map (cell_of Total server) (range_with_len 0 queues)) steps.old steps.new result }
+    ensures ready { IfOk result (IsReady (T.at table.now)) }
+{
+    let mut so_far = Partial::Nothing;
+    for queue in 0..queues {
+        let cell = Cell {
+            kind: Kind::Total,
+            a: server,
+            b: queue,
+        };
+        match added(alloc, so_far, table, cell, steps) {
+            Ok(more) => so_far = more,
+            Err(fault) => return Err(fault),
+        }
+    }
+    Ok(so_far)
+}

@@ -1,0 +1,187 @@
+//! What operators make of the values of cells.
+
+ghost use Rattle.std.specs.Prelude.{◌≡◌, ◌+◌, ◌-◌, ◌≤◌, IfOk, IfErr};
+ghost use Rattle.curve_conv.specs.upp_limits.specs.declared.op_kind.OpKind.TheVariants.{Min, PosMinus, Deconvolve};
+ghost use Rattle.curve_conv.specs.upp_curve.specs.Curve.{value_at};
+ghost use Rattle.min_plus.specs.Functions.{IsNonneg, IsFinite};
+ghost use Rattle.cell_table.specs.run_laws.specs.Cards.{whole};
+ghost use Rattle.curve_conv.specs.curve_call.specs.Calls.{AppliesTo};
+ghost use Rattle.cell_table.specs.net_cells.specs.Meanings.{number};
+ghost use Rattle.cell_table.specs.net_cells.specs.Formulas.{value_of, made, moved, leftover, horizontal, vertical};
+ghost use Rattle.cell_table.specs.net_cells.specs.CellFormulas.{less};
+ghost use Rattle.cell_table.specs.net_cells.specs.Answers.{Answers};
+ghost use Rattle.cell_table.specs.net_cells.specs.Refusals.{RefusedAt};
+ghost use Rattle.cell_table.specs.Values.{answer_of, meaning_of};
+ghost use Rattle.cell_eval.specs.Shapes.{Rises, Serving};
+ghost use Rattle.cell_eval.specs.TableValues.{HasCurve, HasNumber, IsCurveAt, Deviate};
+
+use crate::reading::{curve_at, number_at};
+use crate::sharing::shared;
+use cell_table::net_cells::Cell;
+use cell_table::run_laws::whole;
+use cell_table::{Table, Value};
+use curve_conv::curve_call::intact;
+use curve_conv::upp_curve::Curve;
+use curve_conv::upp_limits::OpFault;
+use curve_deconv::deconvolve;
+use curve_deviation::{horizontal, vertical};
+use fifo_residual::fifo_service;
+use fraction128::{Ext, Frac};
+use packetiser::packetised;
+use priority_residual::curve_running::{min, shift};
+use std::alloc::Global;
+use std::sync::ledger::Ledger;
+use steps::Steps;
+/// The horizontal deviation of a cell's curve, which rises, and another's, which serves. One step is counted; refused
+/// only where that call is over a limit.
+pub fn delay_between<T: Table<Value>, L: Ledger>(
+    table: &T,
+    from: Cell,
+    by: Cell,
+    steps: &mut Steps<L>,
+) -> Result<Ext, OpFault>
+    requires rises { HasCurve (T.at table.now) from Rises }
+    requires serves { HasCurve (T.at table.now) by Serving }
+    ensures answer { Answers (T.at table.now) (horizontal (value_of from) (value_of by)) (answer_of number result) }
+    ensures count { steps.new ≡ steps.old + 1 }
+{
+    horizontal(curve_at(table, from), curve_at(table, by), steps)
+}
+
+/// What a queue's service leaves to a flow of it.
+pub fn left_over<T: Table<Value>, L: Ledger>(
+    alloc: Global,
+    table: &T,
+    service: Cell,
+    cross: Cell,
+    theta: Cell,
+    steps: &mut Steps<L>,
+) -> Result<Value, OpFault>
+    requires serves { HasCurve (T.at table.now) service Serving }
+    requires cross { IsCurveAt (T.at table.now) cross }
+    requires theta { Deviate (T.at table.now) cross service theta }
+    ensures answer { Answers (T.at table.now) (leftover (value_of service) (value_of cross) (value_of theta))
+        (answer_of meaning_of result) }
+    ensures count { steps.new ≡ steps.old + 1 }
+{
+    let by = number_at(table, theta);
+    let made = fifo_service(
+        alloc,
+        curve_at(table, service),
+        curve_at(table, cross),
+        by,
+        steps,
+    );
+    shared(alloc, made)
+}
+
+/// A cell's curve later by another's number.
+pub fn later<T: Table<Value>, L: Ledger>(
+    alloc: Global,
+    table: &T,
+    from: Cell,
+    by: Cell,
+    steps: &mut Steps<L>,
+) -> Result<Value, OpFault>
+    requires curve { IsCurveAt (T.at table.now) from }
+    requires ahead { HasNumber (T.at table.now) by IsNonneg }
+    ensures answer { Answers (T.at table.now) (moved (value_of from) (value_of by)) (answer_of meaning_of result) }
+    ensures count { steps.new ≡ steps.old + 1 }
+{
+    let by = number_at(table, by);
+    let made = intact(shift(alloc, curve_at(table, from), by, steps));
+    shared(alloc, made)
+}
+
+/// The lesser of the curves of two cells.
+pub fn lesser<T: Table<Value>, L: Ledger>(
+    alloc: Global,
+    table: &T,
+    first: Cell,
+    second: Cell,
+    steps: &mut Steps<L>,
+) -> Result<Value, OpFault>
+    requires first { IsCurveAt (T.at table.now) first }
+    requires second { IsCurveAt (T.at table.now) second }
+    ensures answer { Answers (T.at table.now) (made Min (value_of first) (value_of second))
+        (answer_of meaning_of result) }
+    ensures count { steps.new ≡ steps.old + 1 }
+{
+    let made = intact(min(
+        alloc,
+        curve_at(table, first),
+        curve_at(table, second),
+        steps,
+    ));
+    shared(alloc, made)
+}
+
+/// A service less one packet.
+pub fn in_packets<L: Ledger>(
+    alloc: Global,
+    service: &Curve,
+    bits: u32,
+    steps: &mut Steps<L>,
+) -> Result<Curve, OpFault>
+    requires { IsFinite (value_at service.now) }
+    ensures answer { AppliesTo (PosMinus (whole bits)) service.now result }
+    ensures finite { IfOk result (λ c. IsFinite (value_at c)) }
+    ensures count { steps.new ≡ steps.old + 1 }
+{
+    packetised(alloc, service, whole(bits), steps)
+}
+
+/// With what curve one goes on that comes with a cell's curve and is served in whole packets by another's.
+pub fn spread<T: Table<Value>, L: Ledger>(
+    alloc: Global,
+    table: &T,
+    from: Cell,
+    service: Cell,
+    bits: u32,
+    steps: &mut Steps<L>,
+) -> Result<Value, OpFault>
+    requires curve { IsCurveAt (T.at table.now) from }
+    requires serves { HasCurve (T.at table.now) service Serving }
+    ensures answer { Answers (T.at table.now) (made Deconvolve (value_of from) (less (value_of service) bits))
+        (answer_of meaning_of result) }
+    ensures refused { IfErr result (λ fault. RefusedAt (T.at table.now)
+        (made Deconvolve (value_of from) (less (value_of service) bits)) fault (steps.new - steps.old)) }
+    ensures all { IfOk result (λ _. steps.new ≡ steps.old + 2) }
+    ensures least { steps.old ≤ steps.new }
+    ensures most { steps.new ≤ steps.old + 2 }
+{
+    let from = curve_at(table, from);
+    match in_packets(alloc, curve_at(table, service), bits, steps) {
+        Ok(packets) => {
+            let made = intact(deconvolve(alloc, from, &packets, steps));
+            shared(alloc, made)
+        }
+        Err(fault) => Err(fault),
+    }
+}
+
+/// How many bits are above a cell's service in whole packets.
+pub fn backlog<T: Table<Value>, L: Ledger>(
+    alloc: Global,
+    table: &T,
+    from: Cell,
+    service: Cell,
+    bits: u32,
+    steps: &mut Steps<L>,
+) -> Result<Ext, OpFault>
+    requires curve { IsCurveAt (T.at table.now) from }
+    requires serves { HasCurve (T.at table.now) service Serving }
+    ensures answer { Answers (T.at table.now) (vertical (value_of from) (less (value_of service) bits))
+        (answer_of number result) }
+    ensures refused { IfErr result (λ fault. RefusedAt (T.at table.now)
+        (vertical (value_of from) (less (value_of service) bits)) fault (steps.new - steps.old)) }
+    ensures all { IfOk result (λ _. steps.new ≡ steps.old + 2) }
+    ensures least { steps.old ≤ steps.new }
+    ensures most { steps.new ≤ steps.old + 2 }
+{
+    let from = curve_at(table, from);
+    match in_packets(alloc, curve_at(table, service), bits, steps) {
+        Ok(packets) => vertical(from, &packets, steps),
+        Err(fault) => Err(fault),
+    }
+}

@@ -1,0 +1,147 @@
+//! The service along a path: those of its hops, all but the last in whole packets.
+
+ghost use Rattle.std.specs.Prelude.{◌≡◌, ◌+◌, ◌-◌, ◌*◌, ◌<◌, ◌≤◌, ℕ, Ok, IfErr};
+ghost use Rattle.curve_conv.specs.upp_limits.specs.declared.op_kind.OpKind.TheVariants.{Convolve};
+ghost use Rattle.cell_table.specs.net_cells.specs.declared.cell.Kind.TheVariants.{Residual};
+ghost use Rattle.cell_table.specs.net_cells.specs.Numbered as at;
+ghost use Rattle.cell_table.specs.net_cells.specs.Cells.{cell_of};
+ghost use Rattle.cell_table.specs.net_cells.specs.Meanings.{curve};
+ghost use Rattle.cell_table.specs.net_cells.specs.Formulas.{Formula, value_of, made, operators};
+ghost use Rattle.cell_table.specs.net_cells.specs.CellFormulas.{less, packets_to, served_to};
+ghost use Rattle.cell_table.specs.net_cells.specs.Answers.{Answers};
+ghost use Rattle.cell_table.specs.net_cells.specs.Refusals.{RefusedAt, Stops};
+ghost use Rattle.cell_table.specs.Gives.{Gives};
+ghost use Rattle.cell_table.specs.Values.{answer_of, meaning_of};
+ghost use Rattle.cell_eval.specs.Evaluates.{Counts};
+ghost use Rattle.cell_eval.specs.Shapes.{Serving};
+ghost use Rattle.cell_eval.specs.TableValues.{HasCurve};
+
+use crate::nodes::in_packets;
+use crate::packet;
+use crate::reading::curve_at;
+use crate::sharing::{again, shared};
+use cell_table::net_cells::{Cell, Kind, hops};
+use cell_table::net_model::Network;
+use cell_table::{Table, Value};
+use curve_conv::convolve;
+use curve_conv::curve_call::intact;
+use curve_conv::upp_curve::Curve;
+use curve_conv::upp_limits::OpFault;
+use std::alloc::Global;
+use std::sync::ledger::Ledger;
+use steps::Steps;
+
+macro_rules! residual {
+    ($flow:expr, $hop:expr) => {
+        Cell {
+            kind: Kind::Residual,
+            a: $flow,
+            b: $hop,
+        }
+    };
+}
+
+// A service and a cell's in whole packets after it.
+fn with_hop<T: Table<Value>, L: Ledger>(
+    alloc: Global,
+    so_far: &Curve,
+    table: &T,
+    cell: Cell,
+    bits: u32,
+    steps: &mut Steps<L>,
+) -> Result<Curve, OpFault>
+    requires { HasCurve (T.at table.now) cell Serving }
+    ensures answer { (F : Formula) → Answers (T.at table.now) F (Ok (curve so_far.now)) →
+        Answers (T.at table.now) (made Convolve F (less (value_of cell) bits)) (answer_of curve result) }
+    ensures refused { IfErr result (λ fault. (F : Formula) → Answers (T.at table.now) F (Ok (curve so_far.now)) →
+        RefusedAt (T.at table.now) (made Convolve F (less (value_of cell) bits)) fault
+        (operators F + (steps.new - steps.old))) }
+    ensures counts { Counts 2 steps.old steps.new (answer_of curve result) }
+{
+    match in_packets(alloc, curve_at(table, cell), bits, steps) {
+        Ok(next) => intact(convolve(alloc, so_far, &next, steps)),
+        Err(fault) => Err(fault),
+    }
+}
+
+// The services of the hops up to one, each in whole packets.
+fn to_hop<T: Table<Value>, L: Ledger>(
+    alloc: Global,
+    table: &T,
+    net: &Network,
+    flow: u32,
+    last: u32,
+    steps: &mut Steps<L>,
+) -> Result<Curve, OpFault>
+    requires { (j : ℕ) → j ≤ last → HasCurve (T.at table.now) (cell_of Residual flow j) Serving }
+    ensures answer { Answers (T.at table.now) (packets_to net.now flow last) (answer_of curve result) }
+    ensures refused { IfErr result (λ fault. RefusedAt (T.at table.now) (packets_to net.now flow last) fault
+        (steps.new - steps.old)) }
+    ensures counts { Counts (2 * last + 1) steps.old steps.new (answer_of curve result) }
+{
+    let bits = packet(net, flow);
+    let first = residual!(flow, 0);
+    let mut so_far = match in_packets(alloc, curve_at(table, first), bits, steps) {
+        Ok(made) => made,
+        Err(fault) => return Err(fault),
+    };
+    for hop in 0..last {
+        let next = residual!(flow, hop + 1);
+        match with_hop(alloc, &so_far, table, next, bits, steps) {
+            Ok(more) => so_far = more,
+            Err(fault) => return Err(fault),
+        }
+    }
+    Ok(so_far)
+}
+
+// The same and the hop after them, which is not in whole packets.
+fn past_hop<T: Table<Value>, L: Ledger>(
+    alloc: Global,
+    table: &T,
+    net: &Network,
+    flow: u32,
+    last: u32,
+    steps: &mut Steps<L>,
+) -> Result<Value, OpFault>
+    requires last { last < 16 }
+    requires serves { (j : ℕ) → j ≤ last + 1 → HasCurve (T.at table.now) (cell_of Residual flow j) Serving }
+    ensures answer { Answers (T.at table.now) (made Convolve (packets_to net.now flow last)
+        (value_of (cell_of Residual flow (last + 1)))) (answer_of meaning_of result) }
+    ensures refused { IfErr result (λ fault. RefusedAt (T.at table.now) (made Convolve (packets_to net.now flow last)
+        (value_of (cell_of Residual flow (last + 1)))) fault (steps.new - steps.old)) }
+    ensures counts { Counts (2 * last + 2) steps.old steps.new (answer_of meaning_of result) }
+{
+    match to_hop(alloc, table, net, flow, last, steps) {
+        Ok(packets) => {
+            let end = curve_at(table, residual!(flow, last + 1));
+            let made = intact(convolve(alloc, &packets, end, steps));
+            shared(alloc, made)
+        }
+        Err(fault) => Err(fault),
+    }
+}
+
+/// The service along a path.
+pub fn path_service<T: Table<Value>, L: Ledger>(
+    alloc: Global,
+    table: &T,
+    net: &Network,
+    flow: u32,
+    steps: &mut Steps<L>,
+) -> Result<Value, OpFault>
+    requires some { 0 < at.hops net.now flow }
+    requires serves { (j : ℕ) → j < at.hops net.now flow → HasCurve (T.at table.now) (cell_of Residual flow j) Serving }
+    ensures answer { Gives (T.at table.now) (served_to net.now flow (at.hops net.now flow - 1))
+        (answer_of meaning_of result) }
+    ensures refused { IfErr result (λ fault. Stops (T.at table.now) (served_to net.now flow (at.hops net.now flow - 1))
+        fault (steps.new - steps.old)) }
+    ensures counts { Counts (2 * (at.hops net.now flow - 1)) steps.old steps.new (answer_of meaning_of result) }
+{
+    let count = hops(net, flow);
+    if count == 1 {
+        again(table, residual!(flow, 0))
+    } else {
+        past_hop(alloc, table, net, flow, count - 2, steps)
+    }
+}

@@ -1,0 +1,50 @@
+//! Curves that are shared.
+
+ghost use Rattle.curve_conv.specs.curve_call.specs.Again.{IsAgain};
+ghost use Rattle.cell_table.specs.net_cells.specs.Formulas.{value_of};
+ghost use Rattle.cell_table.specs.Gives.{Gives};
+ghost use Rattle.cell_table.specs.Values.{answer_of, meaning_of};
+ghost use Rattle.cell_eval.specs.Sharing.{IsShared};
+ghost use Rattle.cell_eval.specs.TableValues.{IsCurveAt};
+
+use crate::reading::curve_at;
+use cell_table::net_cells::Cell;
+use cell_table::{Table, Value};
+use curve_conv::upp_curve::Curve;
+use curve_conv::upp_limits::OpFault;
+use std::alloc::Global;
+use std::rc::Rc;
+
+/// A curve that was made, to be shared from now on; a refusal stays.
+pub fn shared(alloc: Global, made: Result<Curve, OpFault>) -> Result<Value, OpFault>
+    ensures { IsShared made (answer_of meaning_of result) }
+{
+    match made {
+        Ok(curve) => match Rc::new(alloc, curve) {
+            Ok(handle) => Ok(Value::Curve(handle)),
+            Err(_) => Err(OpFault::NoMemory),
+        },
+        Err(fault) => Err(fault),
+    }
+}
+
+/// A cell's curve, shared once more.
+pub fn again<T: Table<Value>>(table: &T, cell: Cell) -> Result<Value, OpFault>
+    requires { IsCurveAt (T.at table.now) cell }
+    ensures { Gives (T.at table.now) (value_of cell) (answer_of meaning_of result) }
+{
+    match curve_at(table, cell).clone() {
+        Ok(handle) => Ok(Value::Curve(handle)),
+        Err(_) => Err(OpFault::NoMemory),
+    }
+}
+
+/// A curve of the network, once more.
+pub fn copied(curve: &Curve) -> Result<Curve, OpFault>
+    ensures { IsAgain curve.now result }
+{
+    match curve.copy() {
+        Ok(made) => Ok(made),
+        Err(_) => Err(OpFault::NoMemory),
+    }
+}

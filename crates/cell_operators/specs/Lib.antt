@@ -1,6 +1,0 @@
-pub mod TableValues
-pub mod Shapes
-pub mod Sharing
-pub mod Partial
-pub mod Parts
-pub mod Evaluates

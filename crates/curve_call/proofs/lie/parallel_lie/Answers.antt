@@ -1,0 +1,17 @@
+use Rattle.std.proofs.Common.{sym, subst}
+use Rattle.std.specs.Prelude.{Some}
+use Rattle.upp_normal.specs.rational.proofs.Laws.{le_of_lt}
+use Rattle.upp_normal.specs.rational.proofs.Compared.{is_greater, not_greater}
+use Rattle.curve_call.specs.Lies.{IsLie}
+use Rattle.curve_call.proofs.LinesLie.{parallel_lines}
+use Rattle.curve_call.proofs.lie.parallel_lie.Goals as goal
+
+pub returns-in-Greater : goal.returns-in-Greater
+returns-in-Greater c =
+    subst (IsLie (Some c.args.a.now) (Some c.args.b.now) c.args.from c.args.to) (sym c.throughout.ensures)
+    (λ t a b. parallel_lines c.args.b.now c.args.a.now t (sym c.requires) (le_of_lt (is_greater c.cmp.result c.cmp.ensures.ranks c.in-Greater.is)))
+
+pub returns-in_default : goal.returns-in_default
+returns-in_default c =
+    subst (IsLie (Some c.args.a.now) (Some c.args.b.now) c.args.from c.args.to) (sym c.throughout-in_default.ensures)
+    (λ t a b. parallel_lines c.args.a.now c.args.b.now t c.requires (not_greater c.cmp.result c.cmp.ensures.ranks c.in_default.not-Greater))

@@ -1,0 +1,32 @@
+-- Two curves, compared from a time on: how large their numbers are up to a period later. Own choice.
+use Rattle.std.specs.Prelude.{pos}
+use Rattle.upp_normal.specs.rational.specs.Rational.{ℚ, ◌+ℚ◌, ◌≤ℚ◌, ◌<ℚ◌, int}
+use Rattle.upp_normal.specs.rational.specs.Grid.{Whole}
+use Rattle.upp_normal.specs.upp_curve.specs.Curve.{SpecCurve}
+use Rattle.upp_normal.specs.upp_curve.specs.Curves.{IsCurve}
+use Rattle.upp_normal.specs.upp_curve.specs.Steady.{steady, IsWholePeriods}
+use Rattle.upp_normal.specs.upp_limits.specs.Limits.{Sizes, curve_numbers}
+use Rattle.upp_normal.specs.upp_limits.specs.Sized.{Stands}
+use Rattle.upp_normal.specs.Operand.{AreLimited}
+
+-- a curve that repeats from `from` on with the period d, and whose numbers below from + d have the sizes z
+pub record RepeatsIn (z : Sizes) (from d : ℚ) (c : SpecCurve) : Type 0 where
+  pub curve : IsCurve c
+  pub stands : Stands z (curve_numbers (from +ℚ d) c)
+  pub steady_by : steady c ≤ℚ from
+  pub periods : IsWholePeriods c.tail d
+
+-- both do, and `from` stands on the grid of times
+pub record AreCompared (z : Sizes) (from d : ℚ) (f g : SpecCurve) : Type 0 where
+  pub limited : AreLimited z (from +ℚ d)
+  pub start : Whole z.dt from
+  pub some : int (pos 0) <ℚ d
+  pub first : RepeatsIn z from d f
+  pub second : RepeatsIn z from d g
+
+-- one does, and `from` stands on the grid of times
+pub record IsLookedAt (z : Sizes) (from d : ℚ) (c : SpecCurve) : Type 0 where
+  pub limited : AreLimited z (from +ℚ d)
+  pub start : Whole z.dt from
+  pub some : int (pos 0) <ℚ d
+  pub curve : RepeatsIn z from d c

@@ -1,0 +1,19 @@
+-- Two windows for tests: a level at 1, and a ramp that rises by 1. They meet at 1.
+use Rattle.std.specs.Prelude.{pos, List, [], ◌∷◌, Some}
+use Rattle.upp_normal.specs.rational.specs.Rational.{int}
+use Rattle.upp_normal.specs.rational.specs.declared.Extended.TheVariants.{Fin}
+use Rattle.upp_normal.specs.affine_segment.specs.declared.line.Piece.{Piece}
+
+abbrev pub level_pieces : List Piece
+level_pieces = record {
+  x = int (pos 0);
+  at = Fin (int (pos 1));
+  line = Some record { icept = int (pos 1); slope = int (pos 0) };
+} ∷ []
+
+abbrev pub ramp_pieces : List Piece
+ramp_pieces = record {
+  x = int (pos 0);
+  at = Fin (int (pos 0));
+  line = Some record { icept = int (pos 0); slope = int (pos 1) };
+} ∷ []

@@ -1,0 +1,79 @@
+//! How two lines lie on an open stretch.
+
+ghost use Rattle.std.specs.Prelude.{◌≡◌, Some, None};
+ghost use Rattle.upp_normal.specs.affine_segment.specs.declared.line.Line.{Line};
+ghost use Rattle.curve_call.specs.Lies.{IsLie, MeetsAt, CrossFits};
+
+use crate::stretch::Both;
+use std::cmp::Ordering;
+use upp_normal::affine_segment::{Line, cross};
+use upp_normal::fraction128::Frac;
+
+/// How two lines lie on an open stretch, up to where they change places, or to its end.
+#[derive(Debug, Clone, Copy)]
+pub(crate) struct Lie {
+    /// Whether the first is nowhere above the second at the beginning; else it is nowhere below it.
+    pub(crate) below: bool,
+    /// Where the two change places; `None` where they do not.
+    pub(crate) turn: Option<Frac>,
+}
+
+fn throughout(below: bool) -> Lie
+    ensures { result ≡ record { below = below; turn = None } }
+{
+    Lie { below, turn: None }
+}
+
+// Of two lines with one slope.
+fn parallel_lie(a: &Line, b: &Line, from: Frac, to: Frac) -> Lie
+    requires { a.now.slope ≡ b.now.slope }
+    ensures { IsLie (Some a.now) (Some b.now) from to result }
+{
+    match a.icept.cmp(&b.icept) {
+        Ordering::Greater => throughout(false),
+        _ => throughout(true),
+    }
+}
+
+// Of two lines that meet at x, where the first rises past the second, or falls past it.
+fn meeting_lie(rises: bool, x: Frac, from: Frac, to: Frac) -> Lie
+    ensures { (l m : Line) → MeetsAt rises l m x → IsLie (Some l) (Some m) from to result }
+{
+    match x.cmp(&from) {
+        Ordering::Greater => match x.cmp(&to) {
+            Ordering::Less => Lie {
+                below: rises,
+                turn: Some(x),
+            },
+            _ => throughout(rises),
+        },
+        _ => throughout(!rises),
+    }
+}
+
+fn lie_of_lines(a: &Line, b: &Line, from: Frac, to: Frac) -> Lie
+    requires { CrossFits (Some a.now) (Some b.now) }
+    ensures { IsLie (Some a.now) (Some b.now) from to result }
+{
+    match cross(a, b).unwrap() {
+        Some(x) => match a.slope.cmp(&b.slope) {
+            Ordering::Less => meeting_lie(false, x, from, to),
+            _ => meeting_lie(true, x, from, to),
+        },
+        None => parallel_lie(a, b, from, to),
+    }
+}
+
+/// How the lines of a stretch lie, up to its end.
+pub(crate) fn lie_of(b: &Both, to: Frac) -> Lie
+    requires { CrossFits b.now.left.line b.now.right.line }
+    ensures { IsLie b.now.left.line b.now.right.line b.now.left.x to result }
+{
+    match b.right.line {
+        None => throughout(true),
+        Some(m) => match b.left.line {
+            None => throughout(false),
+            Some(l) => lie_of_lines(&l, &m, b.left.x, to),
+        },
+    }
+}

@@ -1,0 +1,174 @@
+//! What is made of two windows at each time: the lower, the upper, and what the first has above the second.
+
+ghost use Rattle.std.specs.Prelude.{◌≡◌, pos, IfOk};
+ghost use Rattle.upp_normal.specs.rational.specs.Rational.{◌-ℚ◌, ◌≤ℚ◌, neg_ℚ, int};
+ghost use Rattle.upp_normal.specs.rational.specs.Ratio.{SumFits};
+ghost use Rattle.upp_normal.specs.rational.specs.MinMax.{min_q, max_q};
+ghost use Rattle.upp_normal.specs.rational.specs.Extended.{min_ext, max_ext};
+ghost use Rattle.upp_normal.specs.min_plus.specs.Pointwise.{excess};
+ghost use Rattle.upp_normal.specs.affine_segment.specs.Pieces.{StartsAtZero};
+ghost use Rattle.curve_call.specs.Stretches.{CutsFit};
+ghost use Rattle.curve_call.specs.Made.{made_value, made_line, line_apart, zero_line, first_piece, IsParts, IsMadeWindow, ValueApartFits, LineApartFits, StretchMadeFits, MadeWindowFits};
+
+use crate::lie::lie_of;
+use crate::stretch::{Both, Walk, cut, present, start_of, step};
+use std::alloc::{AllocError, Global};
+use upp_normal::affine_segment::{Line, Piece};
+use upp_normal::fraction128::{Ext, Frac, difference, greater, greater_value, lesser_value};
+use upp_normal::rational::Extended;
+
+/// What is made of two windows.
+#[derive(Debug, Clone, Copy)]
+pub(crate) enum Made {
+    /// The lower of the two.
+    Lower,
+    /// The upper of the two.
+    Upper,
+    /// What the first has above the second; 0 where it has nothing, or the second is infinite.
+    Excess,
+}
+
+// The pieces of a stretch: its beginning, and what follows where its lines change places.
+#[derive(Debug, Clone, Copy)]
+struct Parts {
+    first: Piece,
+    turn: Option<Piece>,
+}
+
+/// What a has above b; 0 where it has nothing, or b is infinite.
+pub fn excess_value(a: Ext, b: Ext) -> Ext
+    requires { ValueApartFits a b }
+    ensures { result ≡ excess a b }
+{
+    match b {
+        Extended::Inf => Extended::Fin(Frac::zero()),
+        Extended::Fin(y) => match a {
+            Extended::Inf => Extended::Inf,
+            Extended::Fin(x) => Extended::Fin(greater(Frac::zero(), difference(x, y))),
+        },
+    }
+}
+
+fn made_values(made: Made, a: Ext, b: Ext) -> Ext
+    requires { ValueApartFits a b }
+    ensures { result ≡ made_value made a b }
+{
+    match made {
+        Made::Lower => lesser_value(a, b),
+        Made::Upper => greater_value(a, b),
+        Made::Excess => excess_value(a, b),
+    }
+}
+
+/// The first line less the second; 0 where the second is infinite.
+pub fn lines_apart(a: Option<Line>, b: Option<Line>) -> Option<Line>
+    requires { LineApartFits a b }
+    ensures { result ≡ line_apart a b }
+{
+    match b {
+        None => Some(Line {
+            icept: Frac::zero(),
+            slope: Frac::zero(),
+        }),
+        Some(m) => match a {
+            None => None,
+            Some(l) => Some(Line {
+                icept: difference(l.icept, m.icept),
+                slope: difference(l.slope, m.slope),
+            }),
+        },
+    }
+}
+
+fn excess_line(below: bool, a: Option<Line>, b: Option<Line>) -> Option<Line>
+    requires { LineApartFits a b }
+    ensures { result ≡ made_line Made.Excess below a b }
+{
+    if below {
+        return lines_apart(None, None);
+    }
+    lines_apart(a, b)
+}
+
+fn made_lines(made: Made, below: bool, a: Option<Line>, b: Option<Line>) -> Option<Line>
+    requires { LineApartFits a b }
+    ensures { result ≡ made_line made below a b }
+{
+    match made {
+        Made::Lower => { if below { a } else { b } }
+        Made::Upper => { if below { b } else { a } }
+        Made::Excess => excess_line(below, a, b),
+    }
+}
+
+fn first_of(made: Made, below: bool, b: &Both) -> Piece
+    requires value { ValueApartFits b.now.left.at b.now.right.at }
+    requires line { LineApartFits b.now.left.line b.now.right.line }
+    ensures { result ≡ first_piece made below b.now }
+{
+    Piece {
+        x: b.left.x,
+        at: made_values(made, b.left.at, b.right.at),
+        line: made_lines(made, below, b.left.line, b.right.line),
+    }
+}
+
+// The pieces of a stretch.
+#[inline]
+fn parts_up_to(made: Made, b: &Both, to: Frac, end: Frac) -> Parts
+    requires fits { StretchMadeFits end b.now }
+    requires early { to ≤ℚ end }
+    ensures { IsParts made b.now to result }
+{
+    let lie = lie_of(b, to);
+    let first = first_of(made, lie.below, b);
+    match lie.turn {
+        None => Parts { first, turn: None },
+        Some(x) => Parts {
+            first,
+            turn: Some(cut(&first_of(made, !lie.below, b), x)),
+        },
+    }
+}
+
+/// What is made of two windows up to `end`, in one pass over both: two pieces at most of each stretch on which both go
+/// on with one line.
+pub(crate) fn made_of(
+    alloc: Global,
+    made: Made,
+    f: &[Piece],
+    g: &[Piece],
+    end: Frac,
+) -> Result<Vec<Piece>, AllocError>
+    requires left { StartsAtZero f.now }
+    requires right { StartsAtZero g.now }
+    requires cuts { CutsFit f.now g.now }
+    requires fits { MadeWindowFits end f.now g.now }
+    ensures { IfOk result (λ v. IsMadeWindow made f.now g.now end v.items) }
+{
+    let mut walk = Walk {
+        i: 1,
+        j: 1,
+        here: Both {
+            left: f[0],
+            right: g[0],
+        },
+    };
+    let mut pieces = Vec::with_capacity(alloc, f.len().saturating_add(g.len()))?;
+    let mut here = present(&walk);
+    while walk.i < f.len() || walk.j < g.len() {
+        step(f, g, &mut walk);
+        let parts = parts_up_to(made, &here, start_of(&walk), end);
+        pieces.push(parts.first)?;
+        if let Some(turn) = parts.turn {
+            pieces.push(turn)?;
+        }
+        here = present(&walk);
+    }
+    let last = parts_up_to(made, &here, end, end);
+    pieces.push(last.first)?;
+    if let Some(turn) = last.turn {
+        pieces.push(turn)?;
+    }
+    Ok(pieces)
+}

@@ -1,5 +1,0 @@
-use Rattle.curve_running.proofs.ExistingInfima.{infimum_answered}
-use Rattle.curve_running.proofs.laws.infima_exist.Goals as goal
-
-pub returns : goal.returns
-returns c = infimum_answered

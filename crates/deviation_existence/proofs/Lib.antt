@@ -1,4 +1,0 @@
-pub mod Cells
-pub mod Walks
-pub mod Numbers
-pub mod Horizontals

@@ -1,9 +1,0 @@
-use Rattle.pair_existence.proofs.Pairs.{pair_of}
-use Rattle.pair_existence.proofs.Envelopes.{envelope_of}
-use Rattle.pair_existence.proofs.laws.envelopes_exist.Goals as goal
-
-pub returns-clause-pairs : goal.returns-clause-pairs
-returns-clause-pairs c = pair_of
-
-pub returns-clause-lists : goal.returns-clause-lists
-returns-clause-lists c = envelope_of

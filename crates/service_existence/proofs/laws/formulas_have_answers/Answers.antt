@@ -1,5 +1,0 @@
-use Rattle.service_existence.proofs.Formulas.{formulas}
-use Rattle.service_existence.proofs.laws.formulas_have_answers.Goals as goal
-
-pub returns : goal.returns
-returns c = formulas

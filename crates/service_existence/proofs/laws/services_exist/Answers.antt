@@ -1,5 +1,0 @@
-use Rattle.service_existence.proofs.Services.{services}
-use Rattle.service_existence.proofs.laws.services_exist.Goals as goal
-
-pub returns : goal.returns
-returns c = services

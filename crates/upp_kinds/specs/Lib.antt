@@ -1,4 +1,0 @@
-pub mod KindLaws
-pub mod WorkedRows
-pub mod WorkedStairs
-pub mod WorkedShifts
