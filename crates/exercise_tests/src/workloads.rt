@@ -14,6 +14,12 @@ fn the_flows_of_7_pass_one_server_each(rt: HostRuntime) -> Result<(), Fail> {
             None => assert!(rt; false),
         }
     }
+    Ok(())
+}
+
+#[test]
+fn the_first_flow_of_7_starts_at_server_2(rt: HostRuntime) -> Result<(), Fail> {
+    let load = workload(rt.alloc(), 7)?;
     let first = load.net.flow_named("f0").ok_or("no flow f0")?;
     match load.net.flows().get(first as usize) {
         Some(Some(flow)) => assert_eq!(rt; flow.path.as_slice(), [2].as_slice()),

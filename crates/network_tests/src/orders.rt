@@ -21,8 +21,12 @@ fn the_least_ready_server_comes_first(rt: HostRuntime) -> Result<(), Fail> {
     expect_order(&rt, rt.alloc(), &free, &[0, 1, 2]);
     let none = plain_network(rt.alloc(), 0, &[])?;
     expect_order(&rt, rt.alloc(), &none, &[]);
-    // A dropped flow counts for nothing.
-    let dropped = plain_network(rt.alloc(), 2, &[&[0, 1], &[]])?;
-    expect_order(&rt, rt.alloc(), &dropped, &[0, 1]);
+    Ok(())
+}
+
+#[test]
+fn a_dropped_flow_counts_for_nothing(rt: HostRuntime) -> Result<(), Fail> {
+    let net = plain_network(rt.alloc(), 2, &[&[0, 1], &[]])?;
+    expect_order(&rt, rt.alloc(), &net, &[0, 1]);
     Ok(())
 }

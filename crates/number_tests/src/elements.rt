@@ -91,11 +91,15 @@ fn second_open(j: &Joined) -> Option<(Frac, Option<Frac>, Frac, Frac)> {
 }
 
 #[test]
-fn a_point_or_one_slope_makes_one_part(rt: HostRuntime) {
+fn points_add(rt: HostRuntime) {
     let j = parts(&point(1, 2), &point(3, 4));
     assert_eq!(rt; seen_point(&j.first), Some((whole(4), whole(6))));
     assert!(rt; j.join.is_none());
     assert!(rt; j.second.is_none());
+}
+
+#[test]
+fn a_point_moves_a_segment(rt: HostRuntime) {
     let moved = Some((whole(1), Some(whole(6)), whole(3), whole(2)));
     let s = open(0, Some(5), 3, 2);
     let p = point(1, 2);
@@ -105,13 +109,6 @@ fn a_point_or_one_slope_makes_one_part(rt: HostRuntime) {
     assert!(rt; j.second.is_none());
     let k = parts(&s, &p);
     assert_eq!(rt; seen_open(&k.first), moved);
-    let endless = Some((whole(1), None, whole(3), whole(1)));
-    let j = parts(&open(0, Some(2), 1, 1), &open(1, None, 2, 1));
-    assert_eq!(rt; seen_open(&j.first), endless);
-    assert!(rt; j.join.is_none());
-    let k = parts(&open(1, Some(2), 0, 3), &open(0, None, 1, 1));
-    assert_eq!(rt; seen_open(&k.first), endless);
-    assert!(rt; k.second.is_none());
 }
 
 // 5 just after both starts; the falling one gives up 3 until its end at 4, and the other then rises by 6 until 6.
@@ -128,6 +125,17 @@ fn the_smaller_slope_comes_first(rt: HostRuntime) {
     let k = parts(&falling, &rising);
     assert_eq!(rt; seen_open(&k.first), before);
     assert_eq!(rt; second_open(&k), after);
+}
+
+#[test]
+fn one_slope_or_no_end_makes_one_part(rt: HostRuntime) {
+    let endless = Some((whole(1), None, whole(3), whole(1)));
+    let j = parts(&open(0, Some(2), 1, 1), &open(1, None, 2, 1));
+    assert_eq!(rt; seen_open(&j.first), endless);
+    assert!(rt; j.join.is_none());
+    let k = parts(&open(1, Some(2), 0, 3), &open(0, None, 1, 1));
+    assert_eq!(rt; seen_open(&k.first), endless);
+    assert!(rt; k.second.is_none());
 }
 
 #[test]

@@ -8,7 +8,7 @@ use test_curves::{line, ratio, whole};
 const LARGEST: i128 = i128::MAX;
 
 #[test]
-fn values_and_crossings_of_lines(rt: HostRuntime) {
+fn values_of_lines(rt: HostRuntime) {
     assert_eq!(rt; value(&line(3, -2), ratio(1, 2)), Ok(whole(2)));
     assert_eq!(rt; value(&line(0, LARGEST), whole(1)), Ok(whole(LARGEST)));
     let product = Wide {
@@ -23,6 +23,10 @@ fn values_and_crossings_of_lines(rt: HostRuntime) {
         b: whole(1),
     };
     assert_eq!(rt; value(&line(LARGEST, 1), whole(1)), Err(sum));
+}
+
+#[test]
+fn crossings(rt: HostRuntime) {
     assert_eq!(rt; cross(&line(5, 1), &line(3, 2)), Ok(Some(whole(2))));
     assert_eq!(rt; cross(&line(3, 2), &line(5, 1)), Ok(Some(whole(2))));
     assert_eq!(rt; cross(&line(0, 3), &line(1, 1)), Ok(Some(ratio(1, 2))));
