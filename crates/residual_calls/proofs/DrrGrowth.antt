@@ -15,8 +15,7 @@ use Rattle.residual_calls.specs.DrrCalls.{IsQuantum}
 use Rattle.residual_calls.specs.DrrGrowth.{DrrServiceGrows, DrrCurveGrows}
 use Rattle.residual_laws.specs.DrrLaws.{share, owed, drr_left}
 use Rattle.residual_calls.proofs.DrrCalls.{service_is, made_curve}
-use Rattle.residual_laws.proofs.Owed.{share_nonneg, owed_nonneg}
-use Rattle.residual_calls.proofs.Numbers.{in_sum}
+use Rattle.residual_laws.proofs.Owed.{in_sum, share_nonneg, owed_nonneg}
 
 -- the share first, and then what is owed
 share_grows : (β R : ℚ → Ext) (Q l F L : ℕ) → 0 < F → Q ≤ F → l ≤ L → GrowsFromZero β → ((t : ℚ) → zero_q ≤ℚ t → R t ≡ drr_left β Q l F L t) → GrowsFromZero R

@@ -2,7 +2,7 @@
 use Rattle.std.specs.Prelude.{◌≡◌, ◌≢◌, ◌+◌, ◌-◌, ◌*◌, ◌<◌, ◌≤◌, ◌^◌, ℕ, zero, suc, ℤ, pos, List, length, get_or, sum, ◌↔◌, Result, Ok, Err, IsOk}
 use Rattle.std.proofs.Common.{arith, sym, ap, ap₂, ◌∙◌, refl}
 use Rattle.std.proofs.lemmas.List.Elements.{All-get_or, All-from_get_or}
-use Rattle.std.proofs.lemmas.List.Sums.{sum_by-le, get_or-le-sum_by}
+use Rattle.std.proofs.lemmas.List.Sums.{sum_by-le}
 use Rattle.curve_call.specs.rational.specs.Rational.{ℚ, ◌+ℚ◌, ◌-ℚ◌, ◌*ℚ◌, ◌/ℚ◌}
 use Rattle.curve_call.specs.rational.specs.Ratio.{ratio, IsSmall}
 use Rattle.curve_call.specs.rational.proofs.Parts.{small_ratio}
@@ -14,6 +14,7 @@ use Rattle.curve_call.specs.fraction128.specs.declared.fault.FracFault.{FracFaul
 use Rattle.curve_call.specs.fraction128.specs.declared.fault.FracFault.TheVariants.{ZeroDen, TooBig}
 use Rattle.residual_calls.specs.DrrCalls.{IsQuantum, AreQueues}
 use Rattle.residual_laws.specs.DrrLaws.{owed}
+use Rattle.residual_laws.proofs.Owed.{in_sum}
 
 -- ---- sums
 pub quanta_small : (quanta longest : List ℕ) → AreQueues quanta longest → sum quanta ≤ 2 ^ 27
@@ -22,9 +23,6 @@ quanta_small quanta longest q =
     (All-from_get_or (λ x. x ≤ 2 ^ 24) quanta 0 (λ i h. (All-get_or IsQuantum quanta i 0 h q.each).1)) in
     let few = q.few in
     omega arith
-
-pub in_sum : (xs : List ℕ) (i : ℕ) → i < length xs → get_or xs i 0 ≤ sum xs
-in_sum xs i h = get_or-le-sum_by (λ x. x) xs i 0 h
 
 pub sum_some : (quanta longest : List ℕ) (i : ℕ) → AreQueues quanta longest → i < length quanta → 0 < sum quanta
 sum_some quanta longest i q h =

@@ -1,6 +1,8 @@
--- A queue's share of a deficit round robin server's service, and what is taken from that first, are from 0 on.
-use Rattle.std.specs.Prelude.{◌<◌, ◌≤◌, ℕ}
+-- The numbers of a deficit round robin queue: each is among its sum; its share of the service, and what is taken from that
+-- first, are from 0 on.
+use Rattle.std.specs.Prelude.{◌<◌, ◌≤◌, ℕ, List, length, get_or, sum}
 use Rattle.std.proofs.Common.{arith}
+use Rattle.std.proofs.lemmas.List.Sums.{get_or-le-sum_by}
 use Rattle.run_laws.specs.rational.specs.Rational.{ℚ, ◌+ℚ◌, ◌-ℚ◌, ◌*ℚ◌, ◌≤ℚ◌}
 use Rattle.run_laws.specs.rational.proofs.Laws.{mul_nonneg}
 use Rattle.run_laws.specs.rational.proofs.Linear.{with2, sub_nonneg}
@@ -9,6 +11,9 @@ use Rattle.run_laws.specs.min_plus.specs.Functions.{zero_q}
 use Rattle.run_laws.specs.Cards.{whole}
 use Rattle.run_laws.proofs.Sizes.{whole_nonneg, whole_le, whole_lt}
 use Rattle.residual_laws.specs.DrrLaws.{share, owed}
+
+pub in_sum : (xs : List ℕ) (i : ℕ) → i < length xs → get_or xs i 0 ≤ sum xs
+in_sum xs i h = get_or-le-sum_by (λ x. x) xs i 0 h
 
 pub share_nonneg : (Q F : ℕ) → 0 < F → zero_q ≤ℚ share Q F
 share_nonneg Q F some = div_nonneg (whole Q) (whole F) (whole_lt 0 F some) (whole_nonneg Q)

@@ -3,7 +3,7 @@ use Rattle.std.specs.Prelude.{Some}
 use Rattle.cell_table.specs.net_cells.specs.Meanings.{curve}
 use Rattle.cell_eval.specs.Partial.{IsPartial}
 use Rattle.cell_eval.proofs.SumSteps.{adds_first, one_summed, made_summed}
-use Rattle.cell_eval.proofs.sums.added.Goals as goal
+use Rattle.cell_eval.proofs.curve_sums.added.Goals as goal
 
 pub returns-in-Nothing-clause-sum : goal.returns-in-Nothing-clause-sum
 returns-in-Nothing-clause-sum g c = λ cells h.

@@ -5,7 +5,7 @@ use Rattle.cell_table.specs.Values.{answer_of, meaning_of}
 use Rattle.cell_eval.specs.Partial.{IsPartial}
 use Rattle.cell_eval.proofs.Handing.{again_out, shared_makes}
 use Rattle.cell_eval.proofs.SumSteps.{none_given, one_given, made_given}
-use Rattle.cell_eval.proofs.sums.finished.Goals as goal
+use Rattle.cell_eval.proofs.curve_sums.finished.Goals as goal
 
 pub returns-in-Nothing : goal.returns-in-Nothing
 returns-in-Nothing g c = λ cells h.

@@ -9,7 +9,7 @@ use Rattle.cell_eval.specs.Chosen.{chosen, all_chosen}
 use Rattle.cell_eval.specs.Partial.{Adds}
 use Rattle.cell_eval.proofs.Choosing.{all_chosen_more, flat_front}
 use Rattle.cell_eval.proofs.SumSteps.{adds_then, adds_rest}
-use Rattle.cell_eval.proofs.sums.flows_sum.Goals as goal
+use Rattle.cell_eval.proofs.curve_sums.flows_sum.Goals as goal
 
 pub with_flow-requires-clause-curves : goal.with_flow-requires-clause-curves
 with_flow-requires-clause-curves g c = c.requires c.loop-flow.flow

@@ -7,7 +7,7 @@ use Rattle.cell_table.specs.net_cells.specs.Cells.{cell_of}
 use Rattle.cell_eval.specs.Partial.{Adds}
 use Rattle.cell_eval.proofs.Choosing.{map_front}
 use Rattle.cell_eval.proofs.SumSteps.{adds_then, adds_rest}
-use Rattle.cell_eval.proofs.sums.queues_sum.Goals as goal
+use Rattle.cell_eval.proofs.curve_sums.queues_sum.Goals as goal
 
 pub loop-queue-preserved : goal.loop-queue-preserved
 loop-queue-preserved g c =

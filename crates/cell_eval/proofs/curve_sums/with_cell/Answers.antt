@@ -5,7 +5,7 @@ use Rattle.curve_conv.specs.curve_call.specs.Calls.{Applies}
 use Rattle.curve_conv.specs.curve_call.proofs.Applied.{applied_seen}
 use Rattle.cell_table.specs.net_cells.specs.Meanings.{curve}
 use Rattle.cell_eval.proofs.SumSteps.{adds_made, adds_refused}
-use Rattle.cell_eval.proofs.sums.with_cell.Goals as goal
+use Rattle.cell_eval.proofs.curve_sums.with_cell.Goals as goal
 
 pub returns-in-Ok-clause-sum : goal.returns-in-Ok-clause-sum
 returns-in-Ok-clause-sum g c = λ cells h.

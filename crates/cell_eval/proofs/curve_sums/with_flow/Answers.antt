@@ -5,7 +5,7 @@ use Rattle.cell_table.specs.net_cells.specs.Order.{at_visit}
 use Rattle.cell_eval.specs.Chosen.{visit_list}
 use Rattle.cell_eval.specs.Partial.{Adds}
 use Rattle.cell_eval.proofs.SumSteps.{adds_none}
-use Rattle.cell_eval.proofs.sums.with_flow.Goals as goal
+use Rattle.cell_eval.proofs.curve_sums.with_flow.Goals as goal
 
 pub added-requires-clause-cell : goal.added-requires-clause-cell
 added-requires-clause-cell g c =

@@ -1,5 +1,5 @@
 use Rattle.curve_call.proofs.Existing.{overlay_of, sum_of, made_windows, lower_window}
-use Rattle.curve_call.proofs.laws.windows_exist.Goals as goal
+use Rattle.curve_call.proofs.window_laws.windows_exist.Goals as goal
 
 pub returns-clause-overlays : goal.returns-clause-overlays
 returns-clause-overlays c = overlay_of

@@ -1,5 +1,5 @@
 use Rattle.subadd_closure.proofs.ElementSums.{closure_of_point, closure_of_segment}
-use Rattle.subadd_closure.proofs.laws.elements_close.Goals as goal
+use Rattle.subadd_closure.proofs.element_laws.elements_close.Goals as goal
 
 pub returns-clause-point : goal.returns-clause-point
 returns-clause-point c = closure_of_point

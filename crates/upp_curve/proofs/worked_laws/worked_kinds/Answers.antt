@@ -1,5 +1,5 @@
 use Rattle.upp_curve.proofs.Worked.{stair_rows, gate_rows, bucket_rows, rate_latency_rows}
-use Rattle.upp_curve.proofs.laws.worked_kinds.Goals as goal
+use Rattle.upp_curve.proofs.worked_laws.worked_kinds.Goals as goal
 
 pub returns-clause-stair : goal.returns-clause-stair
 returns-clause-stair c = stair_rows

@@ -1,7 +1,7 @@
 use Rattle.upp_curve.proofs.Worked.{minimum_rows}
 use Rattle.upp_curve.proofs.WorkedRunning.{running_rows}
 use Rattle.upp_curve.proofs.WorkedOperators.{convolution_rows}
-use Rattle.upp_curve.proofs.laws.worked_operators.Goals as goal
+use Rattle.upp_curve.proofs.worked_laws.worked_operators.Goals as goal
 
 pub returns-clause-minimum : goal.returns-clause-minimum
 returns-clause-minimum c = minimum_rows

@@ -1,5 +1,5 @@
 use Rattle.upp_curve.proofs.WorkedShifts.{shift_rows, scale_rows, minus_rows, difference_rows, left_over_rows}
-use Rattle.upp_curve.proofs.laws.worked_shifts.Goals as goal
+use Rattle.upp_curve.proofs.worked_laws.worked_shifts.Goals as goal
 
 pub returns-clause-shift : goal.returns-clause-shift
 returns-clause-shift c = shift_rows

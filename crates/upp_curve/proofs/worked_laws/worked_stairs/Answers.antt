@@ -1,6 +1,6 @@
 use Rattle.upp_curve.proofs.WorkedStairs.{stair_formula, two_stairs, stair_leaves}
 use Rattle.upp_curve.proofs.WorkedJump.{jump_leaves}
-use Rattle.upp_curve.proofs.laws.worked_stairs.Goals as goal
+use Rattle.upp_curve.proofs.worked_laws.worked_stairs.Goals as goal
 
 pub returns-clause-formula : goal.returns-clause-formula
 returns-clause-formula c = stair_formula
