@@ -4,7 +4,7 @@ use Rattle.cell_table.specs.net_cells.specs.declared.cell.Kind.TheVariants.{In}
 use Rattle.cell_table.specs.net_cells.specs.Order.{at_visit}
 use Rattle.cell_eval.specs.Chosen.{all_chosen}
 use Rattle.cell_eval.specs.Partial.{IsReady, Adds}
-use Rattle.cell_eval.proofs.sums.flows_sum.Given as goal
+use Rattle.cell_eval.proofs.curve_sums.flows_sum.Given as goal
 
 abbrev pub invariant-loop-flow : goal.invariant-loop-flow
 invariant-loop-flow g l = record {

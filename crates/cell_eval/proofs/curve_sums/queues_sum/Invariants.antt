@@ -4,7 +4,7 @@ use Rattle.std.specs.List.{range_with_len}
 use Rattle.cell_table.specs.net_cells.specs.declared.cell.Kind.TheVariants.{Total}
 use Rattle.cell_table.specs.net_cells.specs.Cells.{cell_of}
 use Rattle.cell_eval.specs.Partial.{IsReady, Adds}
-use Rattle.cell_eval.proofs.sums.queues_sum.Given as goal
+use Rattle.cell_eval.proofs.curve_sums.queues_sum.Given as goal
 
 abbrev pub invariant-loop-queue : goal.invariant-loop-queue
 invariant-loop-queue g l = record {

@@ -2,7 +2,7 @@ use Rattle.curve_existence.proofs.Sums.{sum_answered}
 use Rattle.curve_existence.proofs.Lattices.{lower_answered, upper_answered, above_answered}
 use Rattle.curve_existence.proofs.Levels.{minus_answered}
 use Rattle.curve_existence.proofs.Moves.{scale_answered, shift_answered}
-use Rattle.curve_pointwise.proofs.laws.answers_exist.Goals as goal
+use Rattle.curve_existence.proofs.laws.answers_exist.Goals as goal
 
 pub returns : goal.returns
 returns c = record {

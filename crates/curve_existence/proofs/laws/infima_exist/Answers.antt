@@ -1,5 +1,5 @@
 use Rattle.curve_existence.proofs.Infima.{infimum_answered}
-use Rattle.curve_running.proofs.laws.infima_exist.Goals as goal
+use Rattle.curve_existence.proofs.laws.infima_exist.Goals as goal
 
 pub returns : goal.returns
 returns c = infimum_answered
