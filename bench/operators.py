@@ -20,7 +20,7 @@ from fractions import Fraction
 
 BENCH = {
     "bench_curves": "rational fraction128 affine_segment upp_curve",
-    "bench": "fraction128 upp_curve steps curve_envelope bench_curves",
+    "bench": "fraction128 upp_curve steps curve_running bench_curves",
 }
 
 LIBRARY = r"""
@@ -126,7 +126,7 @@ PROGRAM = r"""
 ghost use Rattle.std.specs.Prelude.{◌≡◌, ◌<◌};
 
 use bench_curves::turning;
-use curve_envelope::{min, sum};
+use curve_running::{min, sum};
 use std::alloc::Global;
 use std::io;
 use std::marker::Brand;

@@ -12,7 +12,7 @@ number that may be printed, and one that fits); what tests use in the crates bel
 all others, and lemmas in the answers of crates of tests; proofs by hand, whose statements the prover gives, and what a
 function says of its own loops; and the pairs of APART.
 
-    tools/doubles.py [FOLDER ..]    folders below crates/, as curve_least; without one, all
+    tools/doubles.py [FOLDER ..]    folders below crates/, as curve_call; without one, all
 
 Prints each group with file and line, and how many there are; the status is 1 where something is found."""
 import pathlib

@@ -5,7 +5,7 @@ reaches from the sources, the specs, and the answers to the prover.
 Two lemmas of one name count as one, and a name within a comment does not count. A lemma that only lemmas without a use
 name has no use either.
 
-    tools/unused.py [--drop] [FOLDER ..]    folders below crates/, as curve_least; without one, all
+    tools/unused.py [--drop] [FOLDER ..]    folders below crates/, as curve_call; without one, all
 
 Prints each as FILE:LINE: NAMES, and how many there are; the status is 1 where something is found. With --drop they are
 taken out, over and over until nothing is left (then `rt fmt` and `rt ci`, since a tactic may need an import that no line
