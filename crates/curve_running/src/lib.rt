@@ -1,4 +1,5 @@
-//! The running supremum and the running infimum of a curve.
+//! Operators whose answer at a time is made of all times on one side of it: the running supremum and the running infimum of a
+//! curve, and what first in, first out leaves of a service. The operators that look at one time are handed on.
 #![tactic(auto)]
 
 mod behind;
@@ -16,7 +17,6 @@ mod stretch;
 mod supremum;
 mod supremum_curve;
 
-pub use crate::{run_inf, run_sup};
 pub use curve_pointwise;
 pub use curve_pointwise::{
     affine_segment, curve_call, fraction128, infinite_curve, left_window, max, min, pos_diff,
