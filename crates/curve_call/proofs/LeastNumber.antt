@@ -31,7 +31,7 @@ use Rattle.curve_call.specs.Compared.{RepeatsIn, AreCompared}
 use Rattle.curve_call.specs.Bounds.{IsFiniteLate}
 use Rattle.curve_call.proofs.Shifts.{below_in, below_out, largest_bounds, endless_bounds, same_least, least_zero}
 use Rattle.curve_call.proofs.GapParts.{within_none}
-use Rattle.curve_call.proofs.Rises.{rate_rise, infinite_value, has_window, from_low}
+use Rattle.curve_call.proofs.RateRises.{rate_rise, infinite_value, has_window, from_low}
 use Rattle.curve_call.proofs.RiseSizes.{rise_stands}
 use Rattle.upp_normal.proofs.UnrollSteps.{ext_cases}
 use Rattle.upp_normal.proofs.AnswerRoom.{wide_narrow, value_difference_stands}

@@ -19,7 +19,7 @@ pub mod GapParts
 pub mod GapWalk
 pub mod GapSizes
 pub mod Shifts
-pub mod Rises
+pub mod RateRises
 pub mod RiseSizes
 pub mod LeastNumber
 pub mod EverAfter

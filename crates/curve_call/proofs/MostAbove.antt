@@ -29,7 +29,7 @@ use Rattle.curve_call.specs.Levels.{level_curve}
 use Rattle.curve_call.specs.Compared.{AreCompared, IsLookedAt}
 use Rattle.curve_call.specs.Bounds.{own_or, OwnWindow, IsFiniteLate, IsMost}
 use Rattle.curve_call.proofs.Levels.{level_value}
-use Rattle.curve_call.proofs.Rises.{rate_rise, infinite_value}
+use Rattle.curve_call.proofs.RateRises.{rate_rise, infinite_value}
 use Rattle.curve_call.proofs.RiseSizes.{rise_stands}
 use Rattle.curve_call.proofs.Shifts.{later_value}
 use Rattle.curve_call.proofs.LeastNumber.{largest_finite, rise_small}

@@ -27,7 +27,7 @@ use Rattle.curve_call.specs.Compared.{AreCompared, IsLookedAt}
 use Rattle.curve_call.specs.Gaps.{InWindow, IsLargest}
 use Rattle.curve_call.specs.Bounds.{own_or, OwnWindow}
 use Rattle.curve_call.specs.Levels.{level_curve}
-use Rattle.curve_call.proofs.Rises.{some_periods}
+use Rattle.curve_call.proofs.RateRises.{some_periods}
 use Rattle.curve_call.proofs.LeastNumber.{compared_window, end_fits}
 use Rattle.curve_call.proofs.Levels.{zero_window}
 

@@ -39,7 +39,7 @@ use Rattle.upp_normal.proofs.StretchTurns.{repeated_at}
 use Rattle.upp_normal.proofs.StretchSizes.{CopiesStand, copies_of_span, each_below, some_period, starts_over, RiseParts, rise_parts}
 use Rattle.upp_normal.proofs.StretchValues.{value_periodic, with_pieces}
 use Rattle.upp_normal.specs.upp_curve.proofs.Finite.{each_in}
-use Rattle.curve_call.proofs.Rises.{some_periods}
+use Rattle.curve_call.proofs.RateRises.{some_periods}
 use Rattle.upp_normal.proofs.UnrollSteps.{IsSomewhere}
 use Rattle.upp_normal.specs.affine_segment.proofs.LineValues.{line_found}
 

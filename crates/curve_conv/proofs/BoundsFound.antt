@@ -29,7 +29,7 @@ use Rattle.curve_pointwise.specs.curve_call.specs.Levels.{level_curve}
 use Rattle.curve_pointwise.specs.curve_call.specs.Compared.{IsLookedAt}
 use Rattle.curve_pointwise.specs.curve_call.proofs.EitherOrder.{apart}
 use Rattle.curve_pointwise.specs.curve_call.proofs.OwnPeriods.{own_period_is}
-use Rattle.curve_pointwise.specs.curve_call.proofs.Rises.{rate_rise}
+use Rattle.curve_pointwise.specs.curve_call.proofs.RateRises.{rate_rise}
 use Rattle.curve_pointwise.specs.curve_call.proofs.MostAbove.{own_repeats, finite_rate, not_falling, rates_order}
 use Rattle.curve_conv.specs.declared.extremes.Extremes.{Extremes}
 use Rattle.curve_conv.specs.Late.{IsLateAfter, IsLateCall}

@@ -32,7 +32,7 @@ use Rattle.curve_pointwise.specs.curve_call.proofs.CallFits.{call_early}
 use Rattle.curve_pointwise.specs.curve_call.proofs.CurveRises.{common_first, common_second}
 use Rattle.curve_pointwise.specs.curve_call.proofs.FirstGate.{first_gate, gauge_grows}
 use Rattle.curve_pointwise.specs.curve_call.proofs.Limited.{refused_cause, frame_within, within_at_least, convolve_least}
-use Rattle.curve_pointwise.specs.curve_call.proofs.Rises.{has_window}
+use Rattle.curve_pointwise.specs.curve_call.proofs.RateRises.{has_window}
 use Rattle.curve_pointwise.specs.curve_call.proofs.Shifts.{same_least}
 use Rattle.curve_pointwise.specs.LatticeCall.{LatticeCall}
 use Rattle.curve_pointwise.specs.curve_call.specs.FirstWindows.{IsFirstWindow, IsWideAtFirst}

@@ -17,7 +17,7 @@ use Rattle.curve_pointwise.specs.upp_limits.specs.Windows.{IsLateLeast}
 use Rattle.curve_pointwise.specs.upp_curve.proofs.Steady.{steady_rule}
 use Rattle.curve_pointwise.specs.curve_call.proofs.Answering.{answer_relation}
 use Rattle.curve_pointwise.specs.upp_normal.proofs.UnrollSteps.{ext_cases}
-use Rattle.curve_pointwise.specs.curve_call.proofs.Rises.{rate_rise, infinite_value}
+use Rattle.curve_pointwise.specs.curve_call.proofs.RateRises.{rate_rise, infinite_value}
 use Rattle.curve_conv.specs.Parts.{IsPart, FirstLate}
 use Rattle.curve_conv.specs.Late.{IsSlowerLate}
 use Rattle.curve_conv.proofs.Moves.{AreRising, late_moves, late_ever, late_only, alike_moves}

@@ -19,7 +19,7 @@ use Rattle.curve_running.specs.curve_call.proofs.CurveTimes.{common_some}
 use Rattle.curve_running.specs.curve_call.proofs.CurveRises.{common_first, common_second}
 use Rattle.curve_running.specs.upp_normal.proofs.UnrollSteps.{ext_cases}
 use Rattle.curve_running.specs.curve_call.proofs.LeastNumber.{gains}
-use Rattle.curve_running.specs.curve_call.proofs.Rises.{rate_rise, infinite_value}
+use Rattle.curve_running.specs.curve_call.proofs.RateRises.{rate_rise, infinite_value}
 use Rattle.curve_deconv.proofs.Reduced.{gaining}
 use Rattle.curve_running.specs.upp_curve.proofs.SteadyTimes.{steady_nonneg}
 

@@ -22,7 +22,7 @@ use Rattle.curve_call.specs.declared.frame.Frame.{Frame}
 use Rattle.curve_call.specs.Frames.{IsFrame, sizes_at}
 use Rattle.rational.proofs.Grid.{whole_add, whole_times}
 use Rattle.curve_call.specs.upp_normal.proofs.UnrollSteps.{ext_cases}
-use Rattle.curve_call.proofs.Rises.{rate_rise, infinite_value}
+use Rattle.curve_call.proofs.RateRises.{rate_rise, infinite_value}
 use Rattle.curve_deviation.specs.Parts.{IsFiniteInSizes}
 use Rattle.curve_deviation.specs.Lags.{IsLongestLag}
 use Rattle.curve_deviation.specs.declared.horizontals.Periods.{Periods}

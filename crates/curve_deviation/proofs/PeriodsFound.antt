@@ -40,7 +40,7 @@ use Rattle.curve_call.proofs.FirstGate.{gauge_grows}
 use Rattle.curve_call.proofs.Limited.{refused_cause, frame_within}
 use Rattle.curve_call.proofs.Shifts.{later_value}
 use Rattle.curve_call.specs.upp_normal.proofs.UnrollSteps.{ext_cases}
-use Rattle.curve_call.proofs.Rises.{rate_rise, infinite_value}
+use Rattle.curve_call.proofs.RateRises.{rate_rise, infinite_value}
 use Rattle.curve_deviation.specs.Parts.{IsFiniteInSizes}
 use Rattle.curve_deviation.proofs.EarlyParts.{endless, early_here}
 use Rattle.curve_deviation.specs.declared.horizontals.Periods.{Periods}

@@ -20,7 +20,7 @@ use Rattle.curve_call.specs.upp_normal.specs.Ahead.{HasWindow, IsTimeIn}
 use Rattle.curve_call.specs.Gaps.{InWindow, IsWithin, IsEndless, IsLargest}
 use Rattle.curve_call.specs.Compared.{RepeatsIn, AreCompared}
 use Rattle.curve_call.proofs.Shifts.{later_value}
-use Rattle.curve_call.proofs.Rises.{rate_rise, infinite_value, from_low}
+use Rattle.curve_call.proofs.RateRises.{rate_rise, infinite_value, from_low}
 use Rattle.curve_call.specs.upp_normal.proofs.UnrollSteps.{ext_cases}
 use Rattle.curve_call.proofs.LeastNumber.{repeats_from, compared_window}
 use Rattle.curve_call.specs.upp_curve.proofs.Rules.{swap_ext}

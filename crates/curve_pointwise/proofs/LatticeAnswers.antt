@@ -28,7 +28,7 @@ use Rattle.curve_call.specs.declared.frame.Frame.{Frame}
 use Rattle.curve_call.specs.Answering.{IsAnswerWindow}
 use Rattle.curve_call.proofs.Answering.{answer_relation}
 use Rattle.curve_call.specs.Ever.{IsSlowerBelowFrom, RepeatsBy}
-use Rattle.curve_call.proofs.Rises.{rate_rise, rate_none}
+use Rattle.curve_call.proofs.RateRises.{rate_rise, rate_none}
 use Rattle.curve_call.proofs.EverAfter.{ever_after}
 use Rattle.curve_pointwise.specs.declared.lattice.Lattice.{Lattice}
 use Rattle.curve_pointwise.specs.declared.lattice.Lattice.TheVariants.{Lower, Upper, Excess}

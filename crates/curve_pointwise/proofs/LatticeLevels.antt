@@ -40,7 +40,7 @@ use Rattle.curve_call.proofs.FirstGate.{first_gate}
 use Rattle.curve_call.specs.Levels.{level_curve}
 use Rattle.curve_call.specs.Compared.{AreCompared}
 use Rattle.curve_call.proofs.Levels.{level_value, level_stands}
-use Rattle.curve_call.proofs.Rises.{rate_rise}
+use Rattle.curve_call.proofs.RateRises.{rate_rise}
 use Rattle.curve_call.proofs.Shifts.{same_least}
 use Rattle.curve_pointwise.specs.declared.lattice.Lattice.TheVariants.{Excess}
 use Rattle.curve_pointwise.specs.Lattice.{RisesBy, IsTailRise}

@@ -28,7 +28,7 @@ use Rattle.curve_pointwise.specs.curve_call.specs.Compared.{RepeatsIn}
 use Rattle.curve_pointwise.specs.curve_call.specs.Gaps.{InWindow, IsWithin}
 use Rattle.curve_pointwise.specs.curve_call.specs.GapSteps.{IsGapValue}
 use Rattle.curve_pointwise.specs.curve_call.proofs.LeastNumber.{number_fits, number_least}
-use Rattle.curve_pointwise.specs.curve_call.proofs.Rises.{has_window}
+use Rattle.curve_pointwise.specs.curve_call.proofs.RateRises.{has_window}
 use Rattle.curve_pointwise.specs.curve_call.proofs.Shifts.{below_in, below_out, same_least, least_zero}
 use Rattle.curve_running.specs.Behind.{moved, IsBehindCall, IsBehindAt, IsMostBehind, IsMost}
 use Rattle.curve_running.specs.LeftCall.{LeftCall, IsLeftGate}

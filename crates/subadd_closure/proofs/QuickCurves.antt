@@ -31,7 +31,7 @@ use Rattle.curve_conv.specs.curve_call.specs.Bounds.{own_or, IsFiniteLate}
 use Rattle.curve_conv.specs.curve_call.specs.Gaps.{InWindow, IsLargest}
 use Rattle.curve_conv.specs.curve_call.specs.Levels.{level_curve}
 use Rattle.curve_conv.specs.curve_call.proofs.OwnPeriods.{own_period_is, own_looked}
-use Rattle.curve_conv.specs.curve_call.proofs.Rises.{rate_rise}
+use Rattle.curve_conv.specs.curve_call.proofs.RateRises.{rate_rise}
 use Rattle.curve_conv.specs.curve_call.proofs.MostAbove.{own_repeats, finite_rate, not_falling, rates_order, top_bounds, depth_bounds, depth_finite}
 use Rattle.curve_conv.specs.Late.{IsLateAfter, IsLateCall}
 use Rattle.curve_conv.specs.LateBounds.{IsTop, IsLateBounds}
