@@ -12,9 +12,9 @@ use Rattle.min_plus.specs.Functions.{IsFinite}
 use Rattle.upp_limits.specs.Outcome.{KeepsLimits}
 use Rattle.curve_call.specs.Again.{IsAgain}
 use Rattle.curve_call.specs.Calls.{Applies, AppliesTo, Then, goes_on, stops}
-use Rattle.residual_laws.specs.PriorityCalls.{MakesPriority}
-use Rattle.residual_laws.proofs.PriorityCalls.{above_finite}
-use Rattle.residual_laws.specs.DrrCalls.{MakesDrr}
+use Rattle.residual_calls.specs.PriorityCalls.{MakesPriority}
+use Rattle.residual_calls.proofs.PriorityCalls.{above_finite}
+use Rattle.residual_calls.specs.DrrCalls.{MakesDrr}
 use Rattle.net_cells.specs.declared.cell.Cell.{Cell}
 use Rattle.net_cells.specs.Meanings.{curve, number, CellTable}
 use Rattle.min_plus.specs.Deviations.{IsVerticalDeviation}

@@ -9,7 +9,7 @@ use Rattle.rational.specs.Rational.{ℚ}
 use Rattle.upp_limits.specs.declared.op_kind.OpFault.{OpFault}
 use Rattle.upp_curve.specs.Curve.{SpecCurve}
 use Rattle.curve_call.specs.Calls.{goes_on, stops}
-use Rattle.residual_laws.specs.InTurn.{on_the_way, past}
+use Rattle.residual_calls.specs.InTurn.{on_the_way, past}
 use Rattle.net_model.specs.Networks.{Net}
 use Rattle.net_cells.specs.declared.cell.Cell.{Cell}
 use Rattle.net_cells.specs.declared.cell.Kind.TheVariants.{In}

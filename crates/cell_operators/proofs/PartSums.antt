@@ -15,7 +15,7 @@ use Rattle.net_cells.specs.Meanings.{Meaning, curve, number, CellTable}
 use Rattle.net_cells.specs.Formulas.{value_of}
 use Rattle.net_cells.specs.Answers.{Answer, MakesCurve, SumsOnto, SumsOf}
 use Rattle.net_cells.specs.Refusals.{SumsOntoRefused, SumsRefused}
-use Rattle.residual_laws.specs.InTurn.{on_the_way, past}
+use Rattle.residual_calls.specs.InTurn.{on_the_way, past}
 use Rattle.cell_table.specs.Gives.{Gives}
 use Rattle.cell_table.specs.Values.{answer_of}
 use Rattle.cell_operators.specs.Evaluates.{Counts}

@@ -17,7 +17,7 @@ use Rattle.net_cells.specs.Formulas.{Formula, operators, value_of, made}
 use Rattle.net_cells.specs.CellFormulas.{less, packets_to, served_to}
 use Rattle.net_cells.specs.Answers.{Answer, Answers, MakesCurve}
 use Rattle.net_cells.specs.Refusals.{RefusedAt}
-use Rattle.residual_laws.specs.InTurn.{on_the_way}
+use Rattle.residual_calls.specs.InTurn.{on_the_way}
 use Rattle.cell_table.specs.Gives.{Gives}
 use Rattle.cell_table.specs.Values.{answer_of}
 

@@ -24,7 +24,7 @@ use Rattle.run_laws.proofs.Sizes.{whole_nonneg}
 use Rattle.curve_call.specs.Answers.{IsMadeBy}
 use Rattle.curve_call.proofs.GrowingAnswers.{grown, growing_answers}
 use Rattle.fifo_residual.proofs.FifoGrowth as fifo
-use Rattle.residual_laws.proofs.DrrGrowth as drr
+use Rattle.residual_calls.proofs.DrrGrowth as drr
 use Rattle.net_model.specs.Networks.{Net, NetServer, NetFlow}
 use Rattle.net_model.specs.Accepted.{IsAccepted, IsServer, IsLength, HasFewQueues}
 use Rattle.net_model.proofs.KindsStand.{kinds_may_stand}

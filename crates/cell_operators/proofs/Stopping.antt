@@ -9,9 +9,9 @@ use Rattle.upp_curve.specs.Curve.{SpecCurve}
 use Rattle.min_plus.specs.Deviations.{IsVerticalDeviation}
 use Rattle.run_laws.specs.Cards.{whole}
 use Rattle.curve_call.specs.Calls.{Applies, AppliesTo, goes_on, stops}
-use Rattle.residual_laws.specs.PriorityCalls.{MakesPriority}
-use Rattle.residual_laws.specs.DrrCalls.{MakesDrr}
-use Rattle.residual_laws.specs.InTurn.{on_the_way, past, PriorityRefused, DrrRefused}
+use Rattle.residual_calls.specs.PriorityCalls.{MakesPriority}
+use Rattle.residual_calls.specs.DrrCalls.{MakesDrr}
+use Rattle.residual_calls.specs.InTurn.{on_the_way, past, PriorityRefused, DrrRefused}
 use Rattle.net_cells.specs.declared.cell.Cell.{Cell}
 use Rattle.net_cells.specs.Meanings.{Meaning, curve, number, CellTable}
 use Rattle.net_cells.specs.Formulas.{Formula, operators, value_of, made, vertical}

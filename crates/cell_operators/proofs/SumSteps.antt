@@ -6,7 +6,7 @@ use Rattle.upp_limits.specs.declared.op_kind.OpFault.{OpFault}
 use Rattle.upp_limits.specs.declared.op_kind.OpFault.TheVariants.{NoMemory}
 use Rattle.upp_curve.specs.Curve.{SpecCurve}
 use Rattle.curve_call.specs.Calls.{Applies, goes_on}
-use Rattle.residual_laws.specs.InTurn.{on_the_way}
+use Rattle.residual_calls.specs.InTurn.{on_the_way}
 use Rattle.net_cells.specs.declared.cell.Cell.{Cell}
 use Rattle.net_cells.specs.Meanings.{curve, CellTable}
 use Rattle.curve_call.specs.Again.{IsAgain}

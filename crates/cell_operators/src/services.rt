@@ -16,7 +16,7 @@ ghost use Rattle.net_cells.specs.CellFormulas as formulas;
 ghost use Rattle.net_cells.specs.Work.{service_work};
 ghost use Rattle.net_cells.specs.Answers.{Answers};
 ghost use Rattle.net_cells.specs.Refusals.{RefusedAt};
-ghost use Rattle.residual_laws.specs.InTurn.{DrrRefused};
+ghost use Rattle.residual_calls.specs.InTurn.{DrrRefused};
 ghost use Rattle.cell_table.specs.Values.{answer_of, meaning_of};
 ghost use Rattle.cell_operators.specs.Evaluates.{Counts};
 ghost use Rattle.cell_operators.specs.TableValues.{IsCurveAt};

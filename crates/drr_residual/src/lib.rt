@@ -4,5 +4,6 @@
 mod service;
 mod turn;
 
-pub use residual_laws::{drr_curve_serves, drr_is_determined, drr_serves, drr_service_grows};
+pub use residual_calls::{drr_curve_serves, drr_is_determined, drr_service_grows};
+pub use residual_laws::drr_serves;
 pub use service::drr_service;

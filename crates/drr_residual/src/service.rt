@@ -3,9 +3,9 @@
 ghost use Rattle.std.specs.Prelude.{◌≡◌, ◌+◌, ◌-◌, ◌<◌, ◌≤◌, length, IfOk, IfErr};
 ghost use Rattle.upp_curve.specs.Curve.{value_at};
 ghost use Rattle.min_plus.specs.Functions.{IsFinite};
-ghost use Rattle.residual_laws.specs.DrrCalls.{AreQueues, MakesDrr};
+ghost use Rattle.residual_calls.specs.DrrCalls.{AreQueues, MakesDrr};
 ghost use Rattle.residual_laws.specs.DrrLaws.{IsDrrService};
-ghost use Rattle.residual_laws.specs.InTurn.{DrrRefused};
+ghost use Rattle.residual_calls.specs.InTurn.{DrrRefused};
 
 use crate::turn::turn_of;
 use curve_call::intact;

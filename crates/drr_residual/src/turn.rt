@@ -3,7 +3,7 @@
 ghost use Rattle.std.specs.Prelude.{◌≡◌, ◌+◌, ◌-◌, ◌*◌, ◌<◌, ◌≤◌, ◌^◌, length, sum};
 ghost use Rattle.rational.specs.Rational.{◌/ℚ◌};
 ghost use Rattle.run_laws.specs.Cards.{whole};
-ghost use Rattle.residual_laws.specs.DrrCalls.{AreQueues, share_in, owed_in};
+ghost use Rattle.residual_calls.specs.DrrCalls.{AreQueues, share_in, owed_in};
 
 use fraction128::Frac;
 

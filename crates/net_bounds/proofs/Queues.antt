@@ -24,9 +24,9 @@ use Rattle.run_laws.proofs.Delay.{delay_always}
 use Rattle.run_laws.proofs.FifoQueue.{fifo_queue_is_served}
 use Rattle.run_laws.proofs.Views.{views_are_lawful}
 use Rattle.residual_laws.proofs.PriorityLaw.{priority_serves}
-use Rattle.residual_laws.proofs.PriorityGrowth as priority
+use Rattle.residual_calls.proofs.PriorityGrowth as priority
 use Rattle.residual_laws.proofs.DrrLaw.{drr_serves}
-use Rattle.residual_laws.proofs.DrrGrowth as drr
+use Rattle.residual_calls.proofs.DrrGrowth as drr
 use Rattle.net_model.specs.Networks.{Net, NetServer}
 use Rattle.net_model.specs.Accepted.{IsAccepted, HasFewQueues}
 use Rattle.net_cells.specs.declared.cell.Kind.TheVariants.{Total, Higher, QueueService, QueueDelay, QueueBacklog}

@@ -10,13 +10,13 @@ use Rattle.upp_curve.specs.Curves.{IsCurve}
 use Rattle.upp_curve.specs.Kinds.{bucket}
 use Rattle.run_laws.specs.Cards.{whole}
 use Rattle.min_plus.specs.Deviations.{IsHorizontalDeviation, IsVerticalDeviation}
-use Rattle.residual_laws.specs.curve_call.specs.Again.{IsAgain}
-use Rattle.residual_laws.specs.curve_call.specs.Answers.{IsMadeBy}
-use Rattle.residual_laws.specs.curve_call.specs.Calls.{Applies, AppliesTo, goes_on, stops}
-use Rattle.residual_laws.specs.PriorityCalls.{MakesPriority}
-use Rattle.residual_laws.proofs.PriorityCalls as priority_calls
-use Rattle.residual_laws.specs.DrrCalls.{MakesDrr}
-use Rattle.residual_laws.proofs.DrrCalls as drr_calls
+use Rattle.residual_calls.specs.curve_call.specs.Again.{IsAgain}
+use Rattle.residual_calls.specs.curve_call.specs.Answers.{IsMadeBy}
+use Rattle.residual_calls.specs.curve_call.specs.Calls.{Applies, AppliesTo, goes_on, stops}
+use Rattle.residual_calls.specs.PriorityCalls.{MakesPriority}
+use Rattle.residual_calls.proofs.PriorityCalls as priority_calls
+use Rattle.residual_calls.specs.DrrCalls.{MakesDrr}
+use Rattle.residual_calls.proofs.DrrCalls as drr_calls
 use Rattle.net_cells.specs.Numbered.{zero_curve}
 use Rattle.net_cells.specs.Meanings.{Meaning, curve, number, CellTable, IsCurveIn, IsNumberIn}
 use Rattle.net_cells.specs.NumberSums.{Sums, sum_of_numbers}

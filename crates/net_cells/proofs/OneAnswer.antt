@@ -13,14 +13,14 @@ use Rattle.run_laws.specs.Cards.{whole}
 use Rattle.min_plus.specs.Deviations.{IsHorizontalDeviation, IsVerticalDeviation}
 use Rattle.upp_limits.specs.Outcome.{IsWithin, IsCauseOf}
 use Rattle.min_plus.proofs.Unambiguous.{deviations_are_unique}
-use Rattle.residual_laws.specs.curve_call.specs.Again.{IsAgain, again_determined}
-use Rattle.residual_laws.specs.curve_call.specs.Calls.{Applies, AppliesTo}
-use Rattle.residual_laws.specs.curve_call.specs.Determined.{IsDetermined}
-use Rattle.residual_laws.specs.curve_call.proofs.InTurn.{applies_determined, then_determined}
-use Rattle.residual_laws.specs.PriorityCalls.{MakesPriority}
-use Rattle.residual_laws.proofs.PriorityCalls as priority_calls
-use Rattle.residual_laws.specs.DrrCalls.{MakesDrr}
-use Rattle.residual_laws.proofs.DrrCalls as drr_calls
+use Rattle.residual_calls.specs.curve_call.specs.Again.{IsAgain, again_determined}
+use Rattle.residual_calls.specs.curve_call.specs.Calls.{Applies, AppliesTo}
+use Rattle.residual_calls.specs.curve_call.specs.Determined.{IsDetermined}
+use Rattle.residual_calls.specs.curve_call.proofs.InTurn.{applies_determined, then_determined}
+use Rattle.residual_calls.specs.PriorityCalls.{MakesPriority}
+use Rattle.residual_calls.proofs.PriorityCalls as priority_calls
+use Rattle.residual_calls.specs.DrrCalls.{MakesDrr}
+use Rattle.residual_calls.proofs.DrrCalls as drr_calls
 use Rattle.net_cells.specs.declared.cell.Cell.{Cell}
 use Rattle.net_cells.specs.Numbered.{zero_curve}
 use Rattle.net_cells.specs.Meanings.{Meaning, curve, number, CellTable}

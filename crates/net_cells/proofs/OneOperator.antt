@@ -6,8 +6,8 @@ use Rattle.rational.specs.Rational.{ℚ}
 use Rattle.upp_limits.specs.declared.op_kind.OpKind.{OpKind}
 use Rattle.upp_limits.specs.declared.op_kind.OpFault.{OpFault}
 use Rattle.upp_limits.specs.declared.op_kind.OpFault.TheVariants.{NoMemory}
-use Rattle.residual_laws.specs.curve_call.specs.Calls.{goes_on, stops}
-use Rattle.residual_laws.specs.InTurn.{past}
+use Rattle.residual_calls.specs.curve_call.specs.Calls.{goes_on, stops}
+use Rattle.residual_calls.specs.InTurn.{past}
 use Rattle.net_cells.specs.declared.cell.Cell.{Cell}
 use Rattle.net_cells.specs.Meanings.{curve, number, CellTable}
 use Rattle.net_cells.specs.Formulas.{value_of, made, moved, leftover, horizontal, delayed}

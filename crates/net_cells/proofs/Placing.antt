@@ -9,12 +9,12 @@ use Rattle.upp_curve.specs.Curve.{SpecCurve}
 use Rattle.upp_curve.specs.Kinds.{bucket}
 use Rattle.run_laws.specs.Cards.{whole}
 use Rattle.min_plus.specs.Deviations.{IsHorizontalDeviation, IsVerticalDeviation}
-use Rattle.residual_laws.specs.curve_call.specs.Again.{IsAgain, again_determined}
-use Rattle.residual_laws.specs.curve_call.specs.Calls.{Applies, AppliesTo}
-use Rattle.residual_laws.specs.PriorityCalls.{MakesPriority}
-use Rattle.residual_laws.specs.DrrCalls.{MakesDrr}
-use Rattle.residual_laws.specs.InTurn.{AtCall, InTurn, IsPlaced, PriorityRefused, DrrRefused}
-use Rattle.residual_laws.proofs.Placed.{call_placed, applies_placed, then_placed, placed_within, services_placed}
+use Rattle.residual_calls.specs.curve_call.specs.Again.{IsAgain, again_determined}
+use Rattle.residual_calls.specs.curve_call.specs.Calls.{Applies, AppliesTo}
+use Rattle.residual_calls.specs.PriorityCalls.{MakesPriority}
+use Rattle.residual_calls.specs.DrrCalls.{MakesDrr}
+use Rattle.residual_calls.specs.InTurn.{AtCall, InTurn, IsPlaced, PriorityRefused, DrrRefused}
+use Rattle.residual_calls.proofs.Placed.{call_placed, applies_placed, then_placed, placed_within, services_placed}
 use Rattle.net_cells.specs.Numbered.{zero_curve}
 use Rattle.net_cells.specs.Meanings.{Meaning, curve, number, CellTable}
 use Rattle.net_cells.specs.NumberSums.{Sums}

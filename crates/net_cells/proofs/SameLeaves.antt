@@ -7,10 +7,10 @@ use Rattle.upp_curve.specs.Curve.{SpecCurve, value_at}
 use Rattle.upp_curve.specs.Kinds.{bucket}
 use Rattle.run_laws.specs.Cards.{whole}
 use Rattle.min_plus.specs.Deviations.{IsHorizontalDeviation, IsVerticalDeviation}
-use Rattle.residual_laws.specs.curve_call.specs.Again.{IsAgain}
-use Rattle.residual_laws.specs.curve_call.specs.Answers.{IsMadeBy}
-use Rattle.residual_laws.specs.curve_call.specs.Calls.{Applies, AppliesTo, goes_on, stops}
-use Rattle.residual_laws.specs.PriorityCalls.{MakesPriority}
+use Rattle.residual_calls.specs.curve_call.specs.Again.{IsAgain}
+use Rattle.residual_calls.specs.curve_call.specs.Answers.{IsMadeBy}
+use Rattle.residual_calls.specs.curve_call.specs.Calls.{Applies, AppliesTo, goes_on, stops}
+use Rattle.residual_calls.specs.PriorityCalls.{MakesPriority}
 use Rattle.net_cells.specs.declared.cell.Cell.{Cell}
 use Rattle.net_cells.specs.Meanings.{Meaning, curve, number, CellTable, IsCurveIn, IsNumberIn}
 use Rattle.net_cells.specs.NumberSums.{Sums, sum_of_numbers}

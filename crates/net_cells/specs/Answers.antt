@@ -11,10 +11,10 @@ use Rattle.upp_curve.specs.Curve.{SpecCurve, value_at}
 use Rattle.upp_curve.specs.Kinds.{bucket}
 use Rattle.min_plus.specs.Deviations.{IsHorizontalDeviation, IsVerticalDeviation}
 use Rattle.upp_limits.specs.Outcome.{IsWithin, IsCauseOf}
-use Rattle.residual_laws.specs.curve_call.specs.Again.{IsAgain}
-use Rattle.residual_laws.specs.curve_call.specs.Calls.{Applies, AppliesTo, Then}
-use Rattle.residual_laws.specs.PriorityCalls.{MakesPriority}
-use Rattle.residual_laws.specs.DrrCalls.{MakesDrr}
+use Rattle.residual_calls.specs.curve_call.specs.Again.{IsAgain}
+use Rattle.residual_calls.specs.curve_call.specs.Calls.{Applies, AppliesTo, Then}
+use Rattle.residual_calls.specs.PriorityCalls.{MakesPriority}
+use Rattle.residual_calls.specs.DrrCalls.{MakesDrr}
 use Rattle.run_laws.specs.Cards.{whole}
 use Rattle.net_cells.specs.declared.cell.Cell.{Cell}
 use Rattle.net_cells.specs.Numbered.{zero_curve}

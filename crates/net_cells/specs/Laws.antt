@@ -4,8 +4,8 @@ use Rattle.upp_limits.specs.declared.op_kind.OpFault.{OpFault}
 use Rattle.net_graph.specs.net_model.specs.Networks.{Net}
 use Rattle.net_graph.specs.net_model.specs.Accepted.{IsAccepted}
 use Rattle.net_graph.specs.net_model.specs.Orders.{IsOrder}
-use Rattle.residual_laws.specs.curve_call.specs.Determined.{IsDetermined}
-use Rattle.residual_laws.specs.InTurn.{IsPlaced}
+use Rattle.residual_calls.specs.curve_call.specs.Determined.{IsDetermined}
+use Rattle.residual_calls.specs.InTurn.{IsPlaced}
 use Rattle.net_cells.specs.declared.cell.Cell.{Cell}
 use Rattle.net_cells.specs.Cells.{has_cell}
 use Rattle.net_cells.specs.Order.{evaluation_order}

@@ -9,9 +9,9 @@ use Rattle.upp_limits.specs.declared.op_kind.OpFault.TheVariants.{NoMemory}
 use Rattle.upp_curve.specs.Curve.{SpecCurve}
 use Rattle.upp_curve.specs.Kinds.{bucket}
 use Rattle.min_plus.specs.Deviations.{IsHorizontalDeviation, IsVerticalDeviation}
-use Rattle.residual_laws.specs.curve_call.specs.Again.{IsAgain}
-use Rattle.residual_laws.specs.curve_call.specs.Calls.{Applies, AppliesTo}
-use Rattle.residual_laws.specs.InTurn.{AtCall, InTurn, PriorityRefused, DrrRefused}
+use Rattle.residual_calls.specs.curve_call.specs.Again.{IsAgain}
+use Rattle.residual_calls.specs.curve_call.specs.Calls.{Applies, AppliesTo}
+use Rattle.residual_calls.specs.InTurn.{AtCall, InTurn, PriorityRefused, DrrRefused}
 use Rattle.run_laws.specs.Cards.{whole}
 use Rattle.net_cells.specs.declared.cell.Cell.{Cell}
 use Rattle.net_cells.specs.Meanings.{Meaning, curve, number, CellTable}

@@ -3,7 +3,6 @@
 
 mod service;
 
-pub use residual_laws::{
-    priority_curve_serves, priority_is_determined, priority_serves, priority_service_grows,
-};
+pub use residual_calls::{priority_curve_serves, priority_is_determined, priority_service_grows};
+pub use residual_laws::priority_serves;
 pub use service::priority_service;

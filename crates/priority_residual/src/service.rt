@@ -3,9 +3,9 @@
 ghost use Rattle.std.specs.Prelude.{◌≡◌, ◌+◌, ◌-◌, ◌≤◌, IfOk, IfErr};
 ghost use Rattle.upp_curve.specs.Curve.{value_at};
 ghost use Rattle.min_plus.specs.Functions.{IsFinite};
-ghost use Rattle.residual_laws.specs.PriorityCalls.{LeavesPriority, MakesPriority};
+ghost use Rattle.residual_calls.specs.PriorityCalls.{LeavesPriority, MakesPriority};
 ghost use Rattle.residual_laws.specs.PriorityLaws.{IsPriorityService};
-ghost use Rattle.residual_laws.specs.InTurn.{LeftRefused, PriorityRefused};
+ghost use Rattle.residual_calls.specs.InTurn.{LeftRefused, PriorityRefused};
 
 use curve_call::intact;
 use curve_pointwise::{pos_diff, pos_minus};

@@ -1,11 +1,8 @@
-pub mod PriorityCalls
+pub mod InTurn
 pub mod PriorityLaw
-pub mod PriorityGrowth
+pub mod RestLaw
+pub mod Owed
 pub mod Turns
 pub mod Along
 pub mod Shares
 pub mod DrrLaw
-pub mod DrrCalls
-pub mod Numbers
-pub mod DrrGrowth
-pub mod Placed

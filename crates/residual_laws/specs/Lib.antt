@@ -1,8 +1,3 @@
 pub mod PriorityLaws
-pub mod PriorityCalls
-pub mod PriorityGrowth
 pub mod DrrLaws
-pub mod DrrCalls
-pub mod DrrGrowth
-pub mod InTurn
-pub use Rattle.curve_call as curve_call
+pub mod RestLaws

@@ -7,10 +7,10 @@ use Rattle.upp_curve.specs.Curve.{SpecCurve}
 use Rattle.upp_curve.specs.Kinds.{bucket}
 use Rattle.upp_limits.specs.declared.op_kind.OpKind.TheVariants.{Min, Shift, FifoLeft, Horizontal, Vertical}
 use Rattle.run_laws.specs.Cards.{whole}
-use Rattle.residual_laws.specs.curve_call.specs.Again.{IsAgain}
+use Rattle.residual_calls.specs.curve_call.specs.Again.{IsAgain}
 use Rattle.curve_call.specs.Calls.{Applies, AppliesTo}
-use Rattle.residual_laws.specs.PriorityCalls.{MakesPriority}
-use Rattle.residual_laws.specs.DrrCalls.{MakesDrr}
+use Rattle.residual_calls.specs.PriorityCalls.{MakesPriority}
+use Rattle.residual_calls.specs.DrrCalls.{MakesDrr}
 use Rattle.net_cells.specs.Answers.{Answer, AnswersFrom, CutsBy, Deviates, IsOnly, MakesCurve, MakesNumber, ThenCurves, ThenNumber}
 use Rattle.net_cells.specs.Formulas.{Formula, value_of, given, empty_sum, made, made_of, moved, cut, part, no_part, leftover, priority, deficit, horizontal, vertical, smaller, along, delayed}
 use Rattle.net_cells.specs.Meanings.{curve, number, CellTable}

@@ -6,10 +6,10 @@ use Rattle.upp_curve.specs.Curves.{IsCurve}
 use Rattle.upp_limits.specs.declared.op_kind.OpKind.TheVariants.{PosDiff, PosMinus, Scale, RunSup}
 use Rattle.run_laws.specs.Cards.{whole}
 use Rattle.curve_call.specs.Calls.{Applies, AppliesTo, goes_on, stops}
-use Rattle.residual_laws.specs.PriorityCalls.{LeavesPriority, MakesPriority}
-use Rattle.residual_laws.specs.DrrCalls.{share_in, owed_in, MakesDrr}
-use Rattle.residual_laws.proofs.PriorityCalls.{difference_finite, left_finite, left_nonneg}
-use Rattle.residual_laws.proofs.DrrCalls.{scaled_finite}
+use Rattle.residual_calls.specs.PriorityCalls.{LeavesPriority, MakesPriority}
+use Rattle.residual_calls.specs.DrrCalls.{share_in, owed_in, MakesDrr}
+use Rattle.residual_calls.proofs.PriorityCalls.{difference_finite, left_finite, left_nonneg}
+use Rattle.residual_calls.proofs.DrrCalls.{scaled_finite}
 use Rattle.service_existence.specs.Found.{HasAnswerOf, CallsExist, ServicesExist}
 use Rattle.service_existence.proofs.InTurn.{call_found, in_turn}
 

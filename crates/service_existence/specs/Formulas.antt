@@ -8,8 +8,8 @@ use Rattle.upp_curve.specs.Kinds.{bucket}
 use Rattle.upp_limits.specs.declared.op_kind.OpKind.TheVariants.{Sum, Min, Shift, FifoLeft, Horizontal, Vertical}
 use Rattle.run_laws.specs.Cards.{whole}
 use Rattle.curve_call.specs.Calls.{Applies, AppliesTo}
-use Rattle.residual_laws.specs.PriorityCalls.{MakesPriority}
-use Rattle.residual_laws.specs.DrrCalls.{MakesDrr}
+use Rattle.residual_calls.specs.PriorityCalls.{MakesPriority}
+use Rattle.residual_calls.specs.DrrCalls.{MakesDrr}
 use Rattle.net_cells.specs.Answers.{Answer, Answers, AnswersFrom, Deviates, SumsOf}
 use Rattle.net_cells.specs.Formulas.{Formula, value_of, given, empty_sum, made, made_of, moved, cut, part, no_part, leftover, priority, deficit, horizontal, vertical, smaller, along, delayed}
 use Rattle.net_cells.specs.Meanings.{Meaning, CellTable, IsCurveIn, IsNumberIn}

@@ -14,7 +14,7 @@ use Rattle.run_laws.specs.Servers.{Discipline, Fifo, Priority, Drr}
 use Rattle.run_laws.proofs.Members.{Has, has_map}
 use Rattle.curve_call.specs.Answers.{IsMadeBy}
 use Rattle.curve_call.specs.Calls.{Applies, AppliesTo}
-use Rattle.residual_laws.specs.PriorityCalls.{MakesPriority}
+use Rattle.residual_calls.specs.PriorityCalls.{MakesPriority}
 use Rattle.net_model.specs.Networks.{Net}
 use Rattle.net_model.specs.Accepted.{IsAccepted}
 use Rattle.net_bounds.proofs.Cells.{curve_map as sort_map}

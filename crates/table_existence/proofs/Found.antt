@@ -14,7 +14,7 @@ use Rattle.upp_curve.specs.Curves.{IsCurve}
 use Rattle.run_laws.specs.Cards.{whole}
 use Rattle.curve_call.specs.Answers.{IsMadeBy}
 use Rattle.curve_call.specs.Calls.{Applies, AppliesTo}
-use Rattle.residual_laws.proofs.PriorityCalls.{above_finite}
+use Rattle.residual_calls.proofs.PriorityCalls.{above_finite}
 use Rattle.net_bounds.proofs.Cells.{curve_map}
 use Rattle.net_bounds.proofs.FormulaParts.{number_map}
 use Rattle.net_cells.specs.declared.cell.Cell.{Cell}

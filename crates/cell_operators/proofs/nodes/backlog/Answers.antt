@@ -9,7 +9,7 @@ use Rattle.cell_table.specs.Values.{answer_of}
 use Rattle.cell_operators.specs.Shapes.{Serving}
 use Rattle.cell_operators.proofs.Meeting.{curve_holds}
 use Rattle.cell_operators.proofs.Handing.{deviates, backlog_made, backlog_refused}
-use Rattle.residual_laws.proofs.Placed.{if_err}
+use Rattle.residual_calls.proofs.Placed.{if_err}
 use Rattle.net_cells.specs.Answers.{MakesNumber, Deviates}
 use Rattle.net_cells.specs.Formulas.{value_of, vertical}
 use Rattle.net_cells.specs.CellFormulas.{less}

@@ -9,7 +9,7 @@ use Rattle.cell_table.specs.Values.{answer_of, meaning_of}
 use Rattle.cell_operators.specs.Shapes.{Serving}
 use Rattle.cell_operators.proofs.Meeting.{curve_holds}
 use Rattle.cell_operators.proofs.Handing.{applies_out, shared_makes, spread_made, spread_refused}
-use Rattle.residual_laws.proofs.Placed.{if_err}
+use Rattle.residual_calls.proofs.Placed.{if_err}
 use Rattle.net_cells.specs.Answers.{MakesCurve}
 use Rattle.net_cells.specs.Formulas.{value_of, made}
 use Rattle.net_cells.specs.CellFormulas.{less}

@@ -11,7 +11,7 @@ use Rattle.curve_call.specs.Again.{IsAgain}
 use Rattle.net_cells.specs.Meanings.{curve}
 use Rattle.net_cells.specs.Answers.{MakesCurve, SumsOf}
 use Rattle.net_cells.specs.Refusals.{SumsRefused}
-use Rattle.residual_laws.proofs.Placed.{if_err}
+use Rattle.residual_calls.proofs.Placed.{if_err}
 use Rattle.std.proofs.lemmas.List.{length-map}
 use Rattle.cell_operators.proofs.PartSums.{no_parts_refused, one_part_refused}
 use Rattle.cell_operators.proofs.Stopping.{shared_refused, sums_full, counted_ok}

@@ -9,8 +9,8 @@ use Rattle.net_cells.specs.Meanings.{curve}
 use Rattle.cell_operators.proofs.Counting.{counts_all}
 use Rattle.cell_operators.proofs.PathSteps.{made_answer}
 use Rattle.std.specs.Prelude.{Ok}
-use Rattle.residual_laws.specs.InTurn.{past, on_the_way}
-use Rattle.residual_laws.proofs.Placed.{if_err}
+use Rattle.residual_calls.specs.InTurn.{past, on_the_way}
+use Rattle.residual_calls.proofs.Placed.{if_err}
 use Rattle.net_cells.specs.Meanings.{CellTable}
 use Rattle.net_cells.specs.Formulas.{Formula, operators, cut}
 use Rattle.net_cells.specs.Answers.{Answers}

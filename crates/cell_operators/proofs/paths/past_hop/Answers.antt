@@ -16,7 +16,7 @@ use Rattle.cell_operators.proofs.PathSteps.{joined_answer, first_fails}
 use Rattle.net_cells.specs.Answers.{MakesCurve}
 use Rattle.net_cells.specs.Formulas.{operators, made}
 use Rattle.net_cells.specs.Refusals.{RefusedAt}
-use Rattle.residual_laws.proofs.Placed.{if_err}
+use Rattle.residual_calls.proofs.Placed.{if_err}
 use Rattle.cell_operators.proofs.PathSteps.{packets_operators}
 use Rattle.cell_operators.proofs.Stopping.{first_refused, both_refused}
 use Rattle.cell_operators.proofs.paths.past_hop.Goals as goal

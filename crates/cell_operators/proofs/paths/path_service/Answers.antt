@@ -9,7 +9,7 @@ use Rattle.cell_operators.proofs.PathSteps.{last_served, only_served}
 use Rattle.std.specs.Prelude.{IfErr}
 use Rattle.net_cells.specs.CellFormulas.{packets_to, served_to}
 use Rattle.net_cells.specs.Refusals.{RefusedAt, Stops}
-use Rattle.residual_laws.proofs.Placed.{if_err}
+use Rattle.residual_calls.proofs.Placed.{if_err}
 use Rattle.cell_operators.proofs.PathSteps.{last_formula}
 use Rattle.net_cells.specs.Formulas.{value_of, made}
 use Rattle.upp_limits.specs.declared.op_kind.OpKind.TheVariants.{Convolve}

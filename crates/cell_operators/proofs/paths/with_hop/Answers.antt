@@ -15,7 +15,7 @@ use Rattle.cell_operators.proofs.PathSteps.{made_answer, less_answer, joined_ans
 use Rattle.net_cells.specs.Answers.{Answers}
 use Rattle.net_cells.specs.Formulas.{Formula, operators, made}
 use Rattle.net_cells.specs.Refusals.{RefusedAt}
-use Rattle.residual_laws.proofs.Placed.{if_err}
+use Rattle.residual_calls.proofs.Placed.{if_err}
 use Rattle.cell_operators.proofs.Stopping.{second_refused, both_refused, less_refused, less_made}
 use Rattle.cell_operators.proofs.paths.with_hop.Goals as goal
 

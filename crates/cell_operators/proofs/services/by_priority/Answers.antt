@@ -1,6 +1,6 @@
 use Rattle.std.proofs.Common.{◌≡◌, ◌+◌, ◌-◌, sym, ap, ◌∙◌, subst, arith}
 use Rattle.std.specs.Prelude.{Some}
-use Rattle.residual_laws.specs.PriorityCalls.{MakesPriority}
+use Rattle.residual_calls.specs.PriorityCalls.{MakesPriority}
 use Rattle.net_cells.specs.declared.cell.Kind.TheVariants.{Higher}
 use Rattle.net_cells.specs.Cells.{cell_of}
 use Rattle.net_cells.specs.Visits.{longest_of}
@@ -14,7 +14,7 @@ use Rattle.queue_hops.proofs.Choosing.{picked_are}
 use Rattle.cell_operators.proofs.SharedCounts.{shared_ok}
 use Rattle.std.specs.Prelude.{IfErr}
 use Rattle.net_cells.specs.Refusals.{RefusedAt}
-use Rattle.residual_laws.specs.InTurn.{past, PriorityRefused}
+use Rattle.residual_calls.specs.InTurn.{past, PriorityRefused}
 use Rattle.cell_operators.proofs.Stopping.{priority_full, shared_refused, err_map, ok_map}
 use Rattle.cell_operators.proofs.services.by_priority.Goals as goal
 

@@ -12,8 +12,8 @@ use Rattle.net_cells.specs.Answers.{Answers, MakesCurve}
 use Rattle.cell_table.specs.Values.{answer_of, meaning_of}
 use Rattle.cell_operators.proofs.Handing.{again_out, shared_makes}
 use Rattle.std.specs.Prelude.{IfErr}
-use Rattle.residual_laws.proofs.Placed.{if_err}
-use Rattle.residual_laws.specs.InTurn.{DrrRefused}
+use Rattle.residual_calls.proofs.Placed.{if_err}
+use Rattle.residual_calls.specs.InTurn.{DrrRefused}
 use Rattle.net_cells.specs.Refusals.{AtNone, RefusedAt}
 use Rattle.cell_operators.proofs.services.queue_service.Goals as goal
 

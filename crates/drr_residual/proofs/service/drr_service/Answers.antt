@@ -3,10 +3,10 @@ use Rattle.std.proofs.lemmas.Result.{err_from_is_err_and}
 use Rattle.upp_limits.specs.declared.op_kind.OpKind.TheVariants.{Scale, PosMinus}
 use Rattle.curve_call.specs.Calls.{AppliesTo, stops}
 use Rattle.curve_call.proofs.Applied.{applied_seen}
-use Rattle.residual_laws.specs.DrrCalls.{owed_in}
-use Rattle.residual_laws.specs.InTurn.{on_the_way, past, DrrRefused}
-use Rattle.residual_laws.proofs.Placed.{if_err}
-use Rattle.residual_laws.proofs.DrrCalls.{made, scaled_finite, ok_service}
+use Rattle.residual_calls.specs.DrrCalls.{owed_in}
+use Rattle.residual_calls.specs.InTurn.{on_the_way, past, DrrRefused}
+use Rattle.residual_calls.proofs.Placed.{if_err}
+use Rattle.residual_calls.proofs.DrrCalls.{made, scaled_finite, ok_service}
 use Rattle.drr_residual.proofs.service.drr_service.Goals as goal
 
 pub returns-in_err-scaled-clause-answer : goal.returns-in_err-scaled-clause-answer

@@ -2,7 +2,7 @@ use Rattle.std.proofs.Common.{◌≡◌, ◌∙◌, ap₂, arith, pos, to_z}
 use Rattle.std.proofs.lemmas.Int.{ints}
 use mir.Syntax.{w128}
 use Rattle.rational.specs.Ratio.{ratio}
-use Rattle.residual_laws.proofs.Numbers.{new_ok, ratio_whole}
+use Rattle.residual_calls.proofs.Numbers.{new_ok, ratio_whole}
 use Rattle.drr_residual.proofs.turn.quotient.Goals as goal
 
 pub unwrap-requires : goal.unwrap-requires

@@ -1,5 +1,6 @@
 use Rattle.std.proofs.Common.{◌<◌, arith, length, get_or, sum}
-use Rattle.residual_laws.proofs.Numbers.{quanta_small, in_sum, sum_some, owed_whole}
+use Rattle.residual_laws.proofs.Owed.{in_sum}
+use Rattle.residual_calls.proofs.Numbers.{quanta_small, sum_some, owed_whole}
 use Rattle.drr_residual.proofs.turn.turn_of.Goals as goal
 
 pub quanta_sum-all-requires : goal.quanta_sum-all-requires

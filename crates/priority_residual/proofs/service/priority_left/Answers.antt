@@ -4,9 +4,9 @@ use Rattle.upp_limits.specs.declared.op_kind.OpKind.TheVariants.{PosDiff, PosMin
 use Rattle.curve_call.specs.Calls.{AppliesTo, goes_on, stops}
 use Rattle.curve_call.proofs.Applied.{applied_seen}
 use Rattle.run_laws.specs.Cards.{whole}
-use Rattle.residual_laws.specs.InTurn.{on_the_way, past, LeftRefused}
-use Rattle.residual_laws.proofs.PriorityCalls.{difference_finite}
-use Rattle.residual_laws.proofs.Placed.{if_err}
+use Rattle.residual_calls.specs.InTurn.{on_the_way, past, LeftRefused}
+use Rattle.residual_calls.proofs.PriorityCalls.{difference_finite}
+use Rattle.residual_calls.proofs.Placed.{if_err}
 use Rattle.priority_residual.proofs.service.priority_left.Goals as goal
 
 pub returns-in_err-above-clause-answer : goal.returns-in_err-above-clause-answer

@@ -3,9 +3,9 @@ use Rattle.std.proofs.lemmas.Result.{err_from_is_err_and}
 use Rattle.upp_limits.specs.declared.op_kind.OpKind.TheVariants.{RunSup}
 use Rattle.curve_call.specs.Calls.{AppliesTo, goes_on, stops}
 use Rattle.curve_call.proofs.Applied.{applied_seen, if_ok}
-use Rattle.residual_laws.specs.InTurn.{on_the_way, past, PriorityRefused}
-use Rattle.residual_laws.proofs.Placed.{if_err}
-use Rattle.residual_laws.proofs.PriorityCalls.{left_finite, left_nonneg, ok_service}
+use Rattle.residual_calls.specs.InTurn.{on_the_way, past, PriorityRefused}
+use Rattle.residual_calls.proofs.Placed.{if_err}
+use Rattle.residual_calls.proofs.PriorityCalls.{left_finite, left_nonneg, ok_service}
 use Rattle.priority_residual.proofs.service.priority_service.Goals as goal
 
 pub returns-in_err-left-clause-answer : goal.returns-in_err-left-clause-answer

@@ -1,0 +1,5 @@
+use Rattle.line_residuals.proofs.Lines
+use Rattle.line_residuals.proofs.laws.rest_line_serves.Goals as goal
+
+pub returns : goal.returns
+returns c = Lines.rest_line

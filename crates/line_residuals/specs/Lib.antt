@@ -1,0 +1,2 @@
+pub mod RateDebt
+pub mod LineLaws
