@@ -5,6 +5,7 @@ pub mod Orders
 pub mod Once
 pub mod Branches
 pub mod Packets
+pub mod Premises
 pub mod Bounded
 pub mod Parts
 pub mod Unbranched

@@ -2,7 +2,8 @@
 use Rattle.std.specs.Prelude.{◌≤◌, suc, pos}
 use Rattle.std.proofs.Common.{arith, inl, inr}
 use Rattle.rational.specs.Rational.{ℚ, int, ◌+ℚ◌, ◌≤ℚ◌, ◌<ℚ◌}
-use Rattle.rational.specs.Extended.{◌≤ₑ◌}
+use Rattle.rational.specs.Extended.{Ext, ◌≤ₑ◌, ◌+ₑ◌}
+use Rattle.rational.specs.declared.Extended.TheVariants.{Fin, Inf}
 use Rattle.rational.specs.Whole.{whole_part}
 use Rattle.rational.proofs.Integers.{nat_le, nat_lt_out}
 use Rattle.rational.proofs.Laws.{le_or_lt, le_trans, le_lt_trans, mul_le_mul}
@@ -10,9 +11,10 @@ use Rattle.rational.proofs.Linear.{with2, with4}
 use Rattle.rational.proofs.Quotients.{div_mono}
 use Rattle.rational.proofs.Whole.{whole_le, whole_gt, whole_small}
 use Rattle.min_plus.specs.Formulas.{stair_value}
+use Rattle.min_plus.specs.Pointwise.{shifted}
 use Rattle.run_laws.specs.Routes.{queue_at}
 use Rattle.tree_runs.specs.Trees.{tree_of, hops_in}
-use Rattle.tree_runs.specs.Stairs.{StairsGrow}
+use Rattle.tree_runs.specs.Stairs.{stair_of, StairsGrow}
 
 whole_rises : (x y : ℚ) → x ≤ℚ y → whole_part x ≤ whole_part y
 whole_rises x y l = elim (le_or_lt (int (pos 0)) x) [
@@ -30,9 +32,17 @@ stair_rises packet period jitter later t u some on l =
     let steps = whole_rises _ _ (div_mono (t +ℚ jitter) (u +ℚ later) period on l) in
     mul_le_mul packet some (nat_le _ _ (omega arith))
 
+-- a stair is at most a later one whose jitter takes up the stay
+pub moved_stair : (packet period : ℚ) (jitter stay later : Ext) (t : ℚ) → int (pos 0) ≤ℚ packet → int (pos 0) <ℚ period
+    → (jitter +ₑ stay) ≤ₑ later → shifted (stair_of packet period jitter) stay t ≤ₑ stair_of packet period later t
+moved_stair packet period jitter stay Inf t some on h = tt
+moved_stair packet period Inf Inf (Fin later) t some on h = absurd h
+moved_stair packet period Inf (Fin stay) (Fin later) t some on h = absurd h
+moved_stair packet period (Fin jitter) Inf (Fin later) t some on h = absurd h
+moved_stair packet period (Fin jitter) (Fin stay) (Fin later) t some on h =
+    stair_rises packet period jitter later (t +ℚ stay) t some on (with4 jitter stay later t (λ c. omega (arith, c.le, c.lt, c.same)))
+
 pub stairs_grow : StairsGrow
-stairs_grow net packet period jitter most some on grow i a b live hangs t from =
-    let delay = most a (queue_at a (hops_in (tree_of net i).nodes)) in
-    let l = grow i a b live hangs in
-    stair_rises (packet i) (period i) (jitter i a) (jitter i b) (t +ℚ delay) t (some i) (on i)
-    (with4 (jitter i a) delay (jitter i b) t (λ c. omega (arith, c.le, c.lt, c.same)))
+stairs_grow net packet period jitter delay some on grow i a b live hangs t from =
+    moved_stair (packet i) (period i) (jitter i a) (delay a (queue_at a (hops_in (tree_of net i).nodes))) (jitter i b) t (some i) (on i)
+    (grow i a b live hangs)

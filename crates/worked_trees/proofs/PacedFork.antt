@@ -1,12 +1,12 @@
 -- The numbers bound every run over the fork that keeps its premises: each queue by what its parts bring.
 use Rattle.std.specs.Prelude.{Some, None, ◌≡◌, ◌<◌, ℕ, zero, suc, pos, ◌==◌, true}
-use Rattle.std.proofs.Common.{arith, sym, ap, ◌∙◌, refl, inl, inr}
+use Rattle.std.proofs.Common.{arith, sym, ap, refl, inl, inr}
 use Rattle.std.proofs.lemmas.Bool.{eqb-true, ne_eqb}
 use Rattle.rational.specs.Rational.{ℚ, int, ◌+ℚ◌, ◌≤ℚ◌}
 use Rattle.rational.specs.MinMax.{min_q}
 use Rattle.rational.specs.Extended.{◌≤ₑ◌}
 use Rattle.rational.specs.declared.Extended.TheVariants.{Fin}
-use Rattle.rational.proofs.ExtendedOrder.{min_left}
+use Rattle.rational.proofs.ExtendedOrder.{le_ext_refl, min_left}
 use Rattle.rational.proofs.Linear.{with1, with2}
 use Rattle.min_plus.specs.Formulas.{IsService}
 use Rattle.run_laws.specs.Runs.{SpecRun}
@@ -14,9 +14,10 @@ use Rattle.run_laws.specs.Bounds.{IsQueueBounded}
 use Rattle.run_laws.specs.Cards.{whole, of_queue}
 use Rattle.run_laws.specs.Delays.{hop_delays}
 use Rattle.run_laws.specs.Premises.{KeepsArrivals}
-use Rattle.run_laws.specs.Routes.{server_at}
+use Rattle.run_laws.specs.Routes.{first_server, server_at}
 use Rattle.run_laws.specs.Servers.{Fifo}
 use Rattle.run_laws.specs.Views.{view}
+use Rattle.run_laws.specs.Weaker.{IsNowhereAbove}
 use Rattle.run_laws.proofs.Arrivals.{arrivals_all}
 use Rattle.run_laws.proofs.Backlog.{backlog_from_gap}
 use Rattle.run_laws.proofs.Classes.{delay_from_wait}
@@ -25,18 +26,16 @@ use Rattle.run_laws.proofs.FifoQueue.{fifo_queue_is_served}
 use Rattle.run_laws.proofs.Latency.{latency_is_zero_at_start, latency_rises}
 use Rattle.run_laws.proofs.Small.{le_t, lt_t}
 use Rattle.run_laws.proofs.Weaker.{greater_kept}
-use Rattle.net_laws.specs.Orders.{EntersKept}
-use Rattle.tree_runs.specs.Trees.{Hangs, IsTree, IsOverTrees, flat, IsLawfulTree, KeepsTreePremises}
+use Rattle.tree_runs.specs.Trees.{tree_of, hops_in, Hangs, IsTree, IsOverTrees, flat, IsLawfulTree, KeepsTreePremises}
 use Rattle.tree_runs.specs.Orders.{TreeGoesForward}
-use Rattle.tree_runs.specs.Packets.{KeepsTreeSizes}
 use Rattle.tree_runs.specs.Parts.{tree_parts_curve, AreTreePaced}
 use Rattle.tree_runs.specs.Bounded.{GrowsByStays, stay_in, QueuesAreBounded, IsBoundedByQueues}
 use Rattle.tree_runs.specs.BoundedByParts.{PartsAreKept}
 use Rattle.tree_runs.proofs.Bounded.{trees_are_bounded_by_parts}
 use Rattle.tree_runs.proofs.Examples as fork
 use Rattle.tree_runs.proofs.Packets.{tree_queues_keep_sizes}
+use Rattle.tree_runs.proofs.Premises.{sizes_kept, enters_kept}
 use Rattle.tree_runs.proofs.Stairs.{stair_rises}
-use Rattle.tree_runs.proofs.Trees.{live_is}
 use Rattle.tree_runs.proofs.Views.{tree_views_are_lawful}
 use Rattle.worked_trees.specs.PacedFork.{paced_fork, longest, at_entry, service, delay, held, jitter, arrival, BranchReachesItsSum}
 use Rattle.worked_trees.proofs.Numbers.{waits_at_most, above_by_one}
@@ -102,9 +101,6 @@ parts_below (suc (suc zero)) l t on = comes_cut _ _
 parts_below (suc (suc (suc s))) l t on = absurd (omega arith)
 
 -- ---- each queue is bounded
-sizes_of : (run : SpecRun) → KeepsTreePremises paced_fork longest at_entry service run → KeepsTreeSizes paced_fork longest run
-sizes_of run keeps i live = keeps.sizes i (live_is paced_fork i ∙ live)
-
 jitter_on : (i s : ℕ) → (whole 0 ≤ℚ jitter i s) × (jitter i s ≤ℚ whole 130)
 jitter_on i zero = (le_t 0 0 refl, le_t 0 130 refl)
 jitter_on i (suc s) = (le_t 0 130 refl, le_t 130 130 refl)
@@ -131,7 +127,7 @@ queue_bounded run s l lawful keeps arrives =
           (arrivals_all (λ c. of_queue 0 c ≡ true → c.queue ≡ 0) (λ c e. eqb-true c.queue 0 e) V) arrives serves (le_t 0 130 refl)
           (one_wait_is_enough (arrival 0 s) (service s) (whole 130) (le_t 0 130 refl) rises (λ t on. waits_at_most (jitter 0 s) t early.0 early.1 on));
       backlogs = backlog_from_gap server run.end V (of_queue 0) 12000 (arrival 0 s) (service s) (Fin (whole 12000)) seen
-          (tree_queues_keep_sizes paced_fork run longest s (λ q. q == 0) 12000 lawful (sizes_of run keeps) (λ i live passes e. omega arith)) arrives serves
+          (tree_queues_keep_sizes paced_fork run longest s (λ q. q == 0) 12000 lawful (sizes_kept paced_fork longest at_entry service run keeps) (λ i live passes e. omega arith)) arrives serves
           (above_by_one (jitter 0 s) early.0 early.1);
     }
 
@@ -146,15 +142,15 @@ queues run s l lawful keeps parts (suc q) = record {
   backlogs = λ t in_run. tt;
 }
 
-enters_kept : (run : SpecRun) → KeepsTreePremises paced_fork longest at_entry service run → EntersKept (flat paced_fork) run arrival
-enters_kept run keeps zero live s t l = keeps.arrivals 0 live s t l
-enters_kept run keeps (suc i) live s t l = absurd (cc)
+first_kept : (i : ℕ) → (tree_of paced_fork i).live ≡ true → IsNowhereAbove (at_entry i) (arrival i (first_server (hops_in (tree_of paced_fork i).nodes)))
+first_kept zero live t on = le_ext_refl (at_entry 0 t)
+first_kept (suc i) live t on = absurd (cc)
 
 bounded : (run : SpecRun) → IsLawfulTree paced_fork run → KeepsTreePremises paced_fork longest at_entry service run
     → IsBoundedByQueues paced_fork run arrival delay held
 bounded run lawful keeps =
     trees_are_bounded_by_parts paced_fork run (λ s. s) longest (λ s q p. 12000) (λ p. whole 100) arrival delay held lawful over_trees forward
-    (sizes_of run keeps) (enters_kept run keeps) known_paced on_time grows (λ s l parts. queues run s l lawful keeps parts)
+    (sizes_kept paced_fork longest at_entry service run keeps) (enters_kept paced_fork longest at_entry service run arrival keeps first_kept) known_paced on_time grows (λ s l parts. queues run s l lawful keeps parts)
 
 -- ---- and the run that reaches the sum of the branch keeps the premises
 pub a_branch_reaches_its_sum : BranchReachesItsSum
