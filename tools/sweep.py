@@ -48,7 +48,7 @@ import sys
 import time
 from fractions import Fraction
 
-from networks import PROGRAM, Fault, ended, mark_of, text_in
+from networks import PROGRAM, Fault, ended, mark_of, text_in, the_program
 
 
 def answer_of(program, text, seconds):
@@ -238,8 +238,8 @@ def study(words):
             file.flush()
             progress.step()
     if progress.fresh:
-        seconds = time.monotonic() - progress.start
-        print(f"{progress.fresh} variants in {seconds:.1f} s", file=sys.stderr)
+        seconds = max(time.monotonic() - progress.start, 0.001)
+        print(f"{progress.fresh} variants in {seconds:.1f} s, {progress.fresh / seconds:.0f} a second", file=sys.stderr)
     return variants, answers
 
 
@@ -347,7 +347,7 @@ def main():
     parser.add_argument("--scheduler", metavar="ADDRESS", help="a Dask scheduler, as tcp://host:8786")
     parser.add_argument("--plot", nargs=2, metavar=("COLUMN", "OUT.svg"))
     words = parser.parse_args()
-    words.program = str(pathlib.Path(words.program).resolve())
+    words.program = str(pathlib.Path(the_program(words.program)).resolve())
     if not pathlib.Path(words.source).is_dir() and words.parameters is None:
         parser.error("a template needs a file of parameters")
     if not words.seconds > 0 or words.workers < 1:
