@@ -18,7 +18,9 @@ from places import Places  # noqa: E402
 
 SERVER = '[[server]]\nname = "s1"\nrate = 100\n'
 SECOND = '\n[[server]]\nname = "s2"\nrate = 100\n'
-FLOW = '\n[[flow]]\nname = "video"\npacket = 1000\narrival = { kind = "bucket", burst = 1000, rate = 1 }\npath = ["s1"]\n'
+FLOW = (
+    '\n[[flow]]\nname = "video"\npacket = 1000\narrival = { kind = "bucket", burst = 1000, rate = 1 }\npath = ["s1"]\n'
+)
 
 # A network's file, the fault, the words that tell its place, and the hint at what was meant.
 NETWORKS = [
@@ -81,7 +83,9 @@ class Explain(WithFolder):
     def test_each_code_has_its_sentences(self):
         known = explain.sentences()
         codes = [f"M{n}" for n in range(1, 13)] + [f"T{n}" for n in range(1, 9)] + [f"C{n}" for n in range(1, 9)]
-        codes += [f"L{n}" for n in range(1, 10)] + [f"refused {word}" for word in "unknown-name bad-value limit cycle".split()]
+        codes += [f"L{n}" for n in range(1, 10)] + [
+            f"refused {word}" for word in "unknown-name bad-value limit cycle".split()
+        ]
         for code in codes + OTHERS:
             means, mend = known[code]
             self.assertTrue(len(means) > 10 and len(mend) > 10, code)
@@ -112,13 +116,34 @@ class Explain(WithFolder):
 
     def test_limits_and_cycles(self):
         wide = FLOW.replace("rate = 1 ", 'rate = "1/1329227995784915872903807060280344576" ')
-        ring = SERVER + SECOND + FLOW.replace('["s1"]', '["s1", "s2"]') + FLOW.replace("video", "back").replace('["s1"]', '["s2", "s1"]')
-        stairs = [FLOW.replace("video", f"f{n}").replace('"bucket", burst = 1000, rate = 1', f'"stair", period = "{n}/1000"') for n in (999983, 999979)]
+        ring = (
+            SERVER
+            + SECOND
+            + FLOW.replace('["s1"]', '["s1", "s2"]')
+            + FLOW.replace("video", "back").replace('["s1"]', '["s2", "s1"]')
+        )
+        stairs = [
+            FLOW.replace("video", f"f{n}").replace('"bucket", burst = 1000, rate = 1', f'"stair", period = "{n}/1000"')
+            for n in (999983, 999979)
+        ]
         for text, told in [
-            (ring, ["n.toml: the paths go round over s1 s2 s1", "s1 to s2: flow video, line 13", "s2 to s1: flow back, line 19"]),
-            (SERVER + "".join(stairs), ["queue 0 of server s1 (n.toml line 1)", "total: the sum of the curves", "too many: an operator"]),
+            (
+                ring,
+                [
+                    "n.toml: the paths go round over s1 s2 s1",
+                    "s1 to s2: flow video, line 13",
+                    "s2 to s1: flow back, line 19",
+                ],
+            ),
+            (
+                SERVER + "".join(stairs),
+                ["queue 0 of server s1 (n.toml line 1)", "total: the sum of the curves", "too many: an operator"],
+            ),
             (SERVER + wide + wide.replace("video", "other"), ["server s1 (n.toml line 1)", "too wide: a number"]),
-            (SERVER + FLOW.replace('"bucket", burst = 1000, rate = 1', f'"stair", period = "1/{2**120}"'), ["n.toml line 8: flow video"]),
+            (
+                SERVER + FLOW.replace('"bucket", burst = 1000, rate = 1', f'"stair", period = "1/{2**120}"'),
+                ["n.toml line 8: flow video"],
+            ),
         ]:
             self.file("n.toml", text)
             _, lines = self.explained("analyse", "n.toml")
@@ -144,9 +169,23 @@ class Explain(WithFolder):
         self.assertIn("queue 0 of server s1", lines)
 
     def test_odd_texts_have_no_places_and_no_fault(self):
-        for text in ["[", "[[a", 'a = "', "a = {b", "a = '''x", "]", "a.b.c", "=", "[a]\nb = [1, {c = 2},\n", "\x00", 9000 * "["]:
+        for text in [
+            "[",
+            "[[a",
+            'a = "',
+            "a = {b",
+            "a = '''x",
+            "]",
+            "a.b.c",
+            "=",
+            "[a]\nb = [1, {c = 2},\n",
+            "\x00",
+            9000 * "[",
+        ]:
             Places(text)
-        places = Places('[[server]]\n"na\\"me" = 1 # x\nname = """s"""\nservice = { kind = "list",\n  piece = [ { x = 0 } ] }')
+        places = Places(
+            '[[server]]\n"na\\"me" = 1 # x\nname = """s"""\nservice = { kind = "list",\n  piece = [ { x = 0 } ] }'
+        )
         self.assertEqual(places.lines['server[0].na"me'], 2)
         self.assertEqual((places.line("server[0].service.piece[0].x"), places.owner("server[0].x")), (5, "server s"))
 
@@ -155,7 +194,9 @@ class Launcher(WithFolder):
     """What the launcher adds, with the program of bin/ (or the launcher's own)."""
 
     def run_it(self, *words, text=None):
-        return subprocess.run([TOP / "netcalc", *words], input=text, cwd=self.folder, capture_output=True, text=True, check=False)
+        return subprocess.run(
+            [TOP / "netcalc", *words], input=text, cwd=self.folder, capture_output=True, text=True, check=False
+        )
 
     def test_help_and_version(self):
         usage = (TOP / "tests/words/help/stdout").read_text()
@@ -184,7 +225,9 @@ class Launcher(WithFolder):
         self.file("good.toml", SERVER + FLOW)
         for name, status, told in [("n.toml", 1, "flow video, path[0]"), ("good.toml", 0, "")]:
             there, here = pty.openpty()
-            run = subprocess.run([TOP / "netcalc", "analyse", name], cwd=self.folder, stdout=subprocess.PIPE, stderr=here, check=False)
+            run = subprocess.run(
+                [TOP / "netcalc", "analyse", name], cwd=self.folder, stdout=subprocess.PIPE, stderr=here, check=False
+            )
             os.write(here, b".")
             seen = os.read(there, 10000).decode()
             os.close(here), os.close(there)
@@ -200,7 +243,9 @@ class Launcher(WithFolder):
         self.file("good.toml", SERVER + FLOW)
         there, here = pty.openpty()
         with open("/dev/full", "w") as full:
-            run = subprocess.run([TOP / "netcalc", "analyse", "good.toml"], cwd=self.folder, stdout=full, stderr=here, check=False)
+            run = subprocess.run(
+                [TOP / "netcalc", "analyse", "good.toml"], cwd=self.folder, stdout=full, stderr=here, check=False
+            )
         os.close(here), os.close(there)
         self.assertEqual(run.returncode, 4)
 

@@ -1,6 +1,6 @@
 #!/usr/bin/env python3
-"""Tries the tools for a designer's tables: lint, report, what_if, and what import_icd, sweep and plot have for them. Needs
-Python 3.11."""
+"""Tries the tools for a designer's tables: lint, report, what_if, and what import_icd, sweep and plot have for them.
+Needs Python 3.11."""
 
 import csv
 import json
@@ -28,11 +28,23 @@ CLASSES = '[[server]]\nname = "p{}"\nrate = 100\ndiscipline = "priority"\nqueues
 
 # What is lawful and hardly meant: the file, its line, and words of what is told.
 ODD = [
-    (SERVER + FLOW.replace("burst = 1000", "burst = 999"), 8, "flow f1: its curve lets in 999 bits at once, less than its packet of 1000"),
+    (
+        SERVER + FLOW.replace("burst = 1000", "burst = 999"),
+        8,
+        "flow f1: its curve lets in 999 bits at once, less than its packet of 1000",
+    ),
     (SERVER + FLOW.replace("burst = 1000", "burst = 125"), 8, "its burst of 125 is an eighth of its packet: bytes"),
-    (SERVER + FLOW.replace("1000", "1518"), 7, "flow f1: a packet of 1518 bits: bytes? A frame of 1518 bytes has 12144 bits"),
+    (
+        SERVER + FLOW.replace("1000", "1518"),
+        7,
+        "flow f1: a packet of 1518 bits: bytes? A frame of 1518 bytes has 12144 bits",
+    ),
     (SERVER + FLOW.replace("rate = 1 ", "rate = 101 "), 2, "server s1: its load is above 1: 1.010 of"),
-    (SERVER + 'service = { kind = "gate", cycle = 100, slot = 9 }\n' + FLOW, 4, "a slot has 900 bits, and a packet of f1 1000: a real"),
+    (
+        SERVER + 'service = { kind = "gate", cycle = 100, slot = 9 }\n' + FLOW,
+        4,
+        "a slot has 900 bits, and a packet of f1 1000: a real",
+    ),
     (
         "version = 2\n" + SERVER + 'service = { kind = "list", piece = [{ x = 0, at = 0, slope = 101 }] }\n' + FLOW,
         5,
@@ -40,10 +52,18 @@ ODD = [
     ),
     ("", 1, "the network: it has no server"),
     (SERVER, 1, "the network: it has no flow"),
-    (SERVER + FLOW.replace('"bucket", burst = 1000, rate = 1', '"stair", period = "1/101"'), 8, "a period of 1/101 is far below 1"),
+    (
+        SERVER + FLOW.replace('"bucket", burst = 1000, rate = 1', '"stair", period = "1/101"'),
+        8,
+        "a period of 1/101 is far below 1",
+    ),
     (CLASSES.format(1) + CLASSES.format(2) + FLOW.replace('"s1"', '"p1:0", "p2:1"'), 16, "queue 0 at p1, and 1 at p2"),
-    (SERVER + 'discipline = "drr"\nquanta = [1000, 9000]\n' + FLOW.replace("rate = 1 ", "rate = 20 "), 2, "the load of queue 0 is 2.000 of its share"),
-]  # fmt: skip
+    (
+        SERVER + 'discipline = "drr"\nquanta = [1000, 9000]\n' + FLOW.replace("rate = 1 ", "rate = 20 "),
+        2,
+        "the load of queue 0 is above 1: it is 2.000 of its share",
+    ),
+]
 
 
 class Lint(WithFolder):
@@ -81,7 +101,10 @@ class Loads(unittest.TestCase):
             self.assertEqual((loads.rounded_up(value), loads.rounded_down(value)), (up, down))
 
     def test_values_of_a_list(self):
-        curve = {"piece": [{"x": 0, "at": 8}, {"x": 2, "at": 9, "after": 10, "slope": 3}], "tail": {"rank": 2, "period": 4, "rise": 20}}
+        curve = {
+            "piece": [{"x": 0, "at": 8}, {"x": 2, "at": 9, "after": 10, "slope": 3}],
+            "tail": {"rank": 2, "period": 4, "rise": 20},
+        }
         values = [loads.value_of_list(curve, Fraction(time)) for time in (0, 1, 2, 3, 5, 6, 7, 10)]
         self.assertEqual(values, [8, 8, 9, 13, 19, 29, 33, 49])
         self.assertEqual(loads.slope_of_list(curve), 5)
@@ -89,7 +112,10 @@ class Loads(unittest.TestCase):
     def test_loads_of_queues(self):
         network = networks.load(TOP / "examples/tutorial/priority.toml")
         server = next(server for server in network["server"] if server["name"] == "sw1-sw2")
-        self.assertEqual([loads.load_of_queue(server, queue, network["flow"]) for queue in (0, 1)], [Fraction(4032, 10**5), Fraction(10184, 10**5)])
+        self.assertEqual(
+            [loads.load_of_queue(server, queue, network["flow"]) for queue in (0, 1)],
+            [Fraction(4032, 10**5), Fraction(10184, 10**5)],
+        )
 
 
 class Page(HTMLParser):
@@ -152,7 +178,12 @@ class Report(WithFolder):
         self.assertIn("f1 none FAIL none".split(), [line.split() for line in run.stdout.splitlines()])
 
     def test_a_refusal_is_explained(self):
-        ring = SERVER + SERVER.replace("s1", "s2") + FLOW.replace('["s1"]', '["s1", "s2"]') + FLOW.replace("f1", "f2").replace('["s1"]', '["s2", "s1"]')
+        ring = (
+            SERVER
+            + SERVER.replace("s1", "s2")
+            + FLOW.replace('["s1"]', '["s1", "s2"]')
+            + FLOW.replace("f1", "f2").replace('["s1"]', '["s2", "s1"]')
+        )
         run = tool("report.py", self.file("n.toml", ring), "--program", PROGRAM)
         self.assertEqual((run.returncode, run.stdout), (1, ""))
         self.assertIn("report: netcalc: cycle s1 s2 s1\n", run.stderr)
@@ -177,15 +208,29 @@ class Report(WithFolder):
         text = (self.folder / "o.html").read_text()
         page = Page(text)
         self.assertEqual(page.open, [])
-        for words in ["tracks", "399.740", "FAIL", "-0.001", "19987/50", "sw1-sw2:0", "179.360", "2042", "video 75 %, tracks 25 %"]:
+        for words in [
+            "tracks",
+            "399.740",
+            "FAIL",
+            "-0.001",
+            "19987/50",
+            "sw1-sw2:0",
+            "179.360",
+            "2042",
+            "video 75 %, tracks 25 %",
+        ]:
             self.assertIn(words, page.cells)
         # nothing is fetched from elsewhere
-        self.assertEqual([tag for tag, found in page.tags if {"src", "href"} & found.keys() or tag in ("link", "img", "iframe")], [])
+        self.assertEqual(
+            [tag for tag, found in page.tags if {"src", "href"} & found.keys() or tag in ("link", "img", "iframe")], []
+        )
         self.assertNotRegex(re.sub("<title>.*?</title>", "", text), r"https?:|@import|url\(")
         self.assertEqual(len([tag for tag, _ in page.tags if tag == "script"]), 1)
 
     def test_odd_names_are_escaped(self):
-        flow = report.Flow("<b>&", Fraction(1), Fraction(2), [report.Hop("<i>", Fraction(1), Fraction(1), [("<u>", Fraction(1))])])
+        flow = report.Flow(
+            "<b>&", Fraction(1), Fraction(2), [report.Hop("<i>", Fraction(1), Fraction(1), [("<u>", Fraction(1))])]
+        )
         text = report_page.page(report.Report(["network <x>"], ["<y>"], [flow], []))
         self.assertEqual(Page(text).open, [])
         for word in ("<b>", "<i>", "<u>", "<x>", "<y>"):
@@ -198,24 +243,43 @@ class Report(WithFolder):
                 {"bound": "12.346", "deadline": "12.345", "link": "b", "met": False, "port": "p"},
                 {"bound": "none", "link": "c", "port": "p"},
             ],
-            "ports": [{"backlog": "17", "delay": "1.500", "load": "0.250", "name": "p", "queue": 0}, {"backlog": "none", "delay": "none", "load": "1.200", "name": "q", "queue": 1}],
-        }  # fmt: skip
+            "ports": [
+                {"backlog": "17", "delay": "1.500", "load": "0.250", "name": "p", "queue": 0},
+                {"backlog": "none", "delay": "none", "load": "1.200", "name": "q", "queue": 1},
+            ],
+        }
         run = tool("report.py", self.file("n.json", json.dumps(made)), "--html", self.folder / "o.html")
         self.assertEqual((run.returncode, run.stderr), (1, ""))
         lines = [line.split() for line in run.stdout.splitlines()]
-        for line in ["a to p 12.346 12.346 PASS 0.000 6173/500", "b to p 12.346 12.345 FAIL -0.001 6173/500", "c to p none FAIL none", "p:0 0.250 1.500 3", "q:1 1.200 none none"]:
+        for line in [
+            "a to p 12.346 12.346 PASS 0.000 6173/500",
+            "b to p 12.346 12.345 FAIL -0.001 6173/500",
+            "c to p none FAIL none",
+            "p:0 0.250 1.500 3",
+            "q:1 1.200 none none",
+        ]:
             self.assertIn(line.split(), lines)
-        for text in ["{", "{}", '{"branches": [1], "ports": []}', '{"branches": [], "ports": [{}]}', '{"branches": [{"link": "a", "port": "p", "bound": "x"}], "ports": []}']:
+        for text in [
+            "{",
+            "{}",
+            '{"branches": [1], "ports": []}',
+            '{"branches": [], "ports": [{}]}',
+            '{"branches": [{"link": "a", "port": "p", "bound": "x"}], "ports": []}',
+        ]:
             self.refused("n.json: ", "report.py", self.file("n.json", text))
 
 
 class WhatIf(WithFolder):
     def rows(self, text, net=STAIR, deadlines="flow,deadline\nvideo,470\ntracks,500\n"):
         words = ["--deadlines", self.file("d.csv", deadlines)] if deadlines else []
-        return tool("what_if.py", net, self.file("e.csv", text), *words, "--write", self.folder / "o.toml", "--program", PROGRAM)
+        return tool(
+            "what_if.py", net, self.file("e.csv", text), *words, "--write", self.folder / "o.toml", "--program", PROGRAM
+        )
 
     def test_each_row_has_its_line(self):
-        run = self.rows("latency,sw1-sw2,8\nrate,s9,1\nlatency,sw2-computer,8\nundo\nadd,log,4032,4032,1,radar sw1-sw2\ndrop,log\n")
+        run = self.rows(
+            "latency,sw1-sw2,8\nrate,s9,1\nlatency,sw2-computer,8\nundo\nadd,log,4032,4032,1,radar sw1-sw2\ndrop,log\n"
+        )
         self.assertEqual((run.returncode, run.stderr), (1, ""))
         lines = run.stdout.splitlines()
         self.assertEqual(lines[0], "1  latency,sw1-sw2,8: taken; 2 fell, video most, by 8.000")
@@ -232,22 +296,34 @@ class WhatIf(WithFolder):
 
     def test_the_written_file_has_the_same_bounds(self):
         """After edits of each kind that are taken, on files of each kind of server."""
-        every = "rate,sw1-sw2,90\nlatency,sw1-sw2,8\nlink,radar,1/3\npacket,tracks,2016\nstair,video,4000,5\npacket,video,8000\nbucket,tracks,5000,5\nundo\n"
-        every += "add,log,4032,4032,1,radar sw1-sw2\nroute,log,radar\nundo\ndrop,tracks\nadd,tracks,4032,9999,1/3,radar\n"
+        every = "rate,sw1-sw2,90\nlatency,sw1-sw2,8\nlink,radar,1/3\npacket,tracks,2016\nstair,video,4000,5\n"
+        every += "packet,video,8000\nbucket,tracks,5000,5\nundo\n"
+        every += (
+            "add,log,4032,4032,1,radar sw1-sw2\nroute,log,radar\nundo\ndrop,tracks\nadd,tracks,4032,9999,1/3,radar\n"
+        )
         drr = SERVER + 'discipline = "drr"\nquanta = [1000, 9000]\n' + FLOW
         stalled = (TOP / "examples/tutorial/stair.toml").read_text().replace("jitter = 200", "jitter = 1300")
-        for name, text, rows in [("n.toml", STAIR.read_text(), every), ("q.toml", drr, "quantum,s1,0,3000\n"), ("j.toml", stalled, "packet,tracks,2016\n")]:
+        for name, text, rows in [
+            ("n.toml", STAIR.read_text(), every),
+            ("q.toml", drr, "quantum,s1,0,3000\n"),
+            ("j.toml", stalled, "packet,tracks,2016\n"),
+        ]:
             path = self.file(name, text)
             run = self.rows(rows, path, None)
             self.assertEqual((run.returncode, run.stderr), (0, ""))
             self.assertNotIn("refused", run.stdout)
-            wanted = what_if.subprocess.run([PROGRAM, "edit", path, self.folder / "e.csv"], capture_output=True, text=True, check=True).stdout
+            wanted = what_if.subprocess.run(
+                [PROGRAM, "edit", path, self.folder / "e.csv"], capture_output=True, text=True, check=True
+            ).stdout
             wanted = [line for line in wanted.splitlines() if not line.startswith("edit ")]
             self.assertEqual(networks.analyse(self.folder / "o.toml", PROGRAM).text.splitlines(), wanted)
 
     def test_a_longer_packet_leaves_its_curve(self):
         run = self.rows("packet,tracks,8000\n", deadlines=None)
-        self.assertIn("odd after all rows: flow tracks: its curve lets in 4032 bits at once, less than its packet of 8000", run.stdout)
+        self.assertIn(
+            "odd after all rows: flow tracks: its curve lets in 4032 bits at once, less than its packet of 8000",
+            run.stdout,
+        )
         self.assertNotIn("odd", self.rows("packet,tracks,8000\nstair,tracks,1000,200\n", deadlines=None).stdout)
 
     def test_faults(self):
@@ -258,7 +334,16 @@ class WhatIf(WithFolder):
         self.assertEqual(tool("what_if.py", STAIR, "--greatest-load").returncode, 2)
 
     def greatest(self, *words, deadlines="flow,deadline\nvideo,600\ntracks,500\n"):
-        return tool("what_if.py", STAIR, "--greatest-load", *words, "--deadlines", self.file("d.csv", deadlines), "--program", PROGRAM)
+        return tool(
+            "what_if.py",
+            STAIR,
+            "--greatest-load",
+            *words,
+            "--deadlines",
+            self.file("d.csv", deadlines),
+            "--program",
+            PROGRAM,
+        )
 
     def test_the_greatest_load(self):
         """The factor keeps all deadlines, one part more does not, each asked of the program by another file."""
@@ -267,15 +352,31 @@ class WhatIf(WithFolder):
         factor = Fraction(re.match(r"all rates times (\S+) \(", run.stdout)[1])
         for times, is_kept in ((factor, True), (factor + Fraction(1, 64), False)):
             lower = Fraction(1000 / times * 64 // 1, 64)  # the period of tracks, and half that of video
-            text = STAIR.read_text().replace("period = 2000", f'period = "{2 * lower}"').replace("period = 1000", f'period = "{lower}"')
+            text = (
+                STAIR.read_text()
+                .replace("period = 2000", f'period = "{2 * lower}"')
+                .replace("period = 1000", f'period = "{lower}"')
+            )
             answer = networks.analyse(self.file("n.toml", text), PROGRAM)
             bounds = [answer.flows[name]["bound"] for name in ("video", "tracks")]
             self.assertEqual(bounds[0] <= 600 and bounds[1] <= 500, is_kept, (times, bounds))
-        self.assertRegex(self.greatest("video").stdout, r"^the rate of video times \S+ \([0-9.]+\): all deadlines kept\n")
+        self.assertRegex(
+            self.greatest("video").stdout, r"^the rate of video times \S+ \([0-9.]+\): all deadlines kept\n"
+        )
         run = self.greatest(deadlines="flow,deadline\nvideo,1\n")
         self.assertEqual(run.returncode, 1)
         self.assertIn("no factor on all rates keeps all deadlines: with the least, video has", run.stdout)
-        self.refused("no flow vidoe", "what_if.py", STAIR, "--greatest-load", "vidoe", "--deadlines", self.folder / "d.csv", "--program", PROGRAM)
+        self.refused(
+            "no flow vidoe",
+            "what_if.py",
+            STAIR,
+            "--greatest-load",
+            "vidoe",
+            "--deadlines",
+            self.folder / "d.csv",
+            "--program",
+            PROGRAM,
+        )
 
 
 class ImportAndSweep(WithFolder):
@@ -290,9 +391,17 @@ class ImportAndSweep(WithFolder):
     def test_gaps_are_cut_and_the_head_says_so(self):
         run = self.made("--longest-gap", "3", "--version", "2")
         network = networks.load(self.file("n.toml", run.stdout))
-        self.assertEqual((network["version"], [flow["arrival"]["period"] for flow in network["flow"]]), (2, [2000, 3000]))
+        self.assertEqual(
+            (network["version"], [flow["arrival"]["period"] for flow in network["flow"]]), (2, [2000, 3000])
+        )
         head = run.stdout.splitlines()[2:4]
-        self.assertEqual(head, ["# 1 gaps above 3 ms are cut to it: who sends less often keeps that too.", "# No port sends faster than its rate."])
+        self.assertEqual(
+            head,
+            [
+                "# 1 gaps above 3 ms are cut to it: who sends less often keeps that too.",
+                "# No port sends faster than its rate.",
+            ],
+        )
         self.assertNotIn("version", networks.load(self.file("n.toml", self.made().stdout)))
         for words in (["--longest-gap", "0"], ["--longest-gap", "x"], ["--version", "3"]):
             self.assertEqual(self.made(*words).returncode, 2)
@@ -320,7 +429,8 @@ class ImportAndSweep(WithFolder):
         ports = "name,rate,latency,link,discipline\n" + "".join(f"p{number},100,16,1/2,\n" for number in range(5))
         links = "name,bag,largest_frame,jitter,priority,path\n"
         for number in range(8):
-            links += f"v{number},{2 ** (1 + number % 7)},{84 + 37 * number},,,{' '.join(f'p{at}' for at in range(number % 3, 5))}\n"
+            path = " ".join(f"p{at}" for at in range(number % 3, 5))
+            links += f"v{number},{2 ** (1 + number % 7)},{84 + 37 * number},,,{path}\n"
         stairs, buckets = self.answers(self.file("links.csv", links), self.file("ports.csv", ports))
         self.assertEqual((stairs.status, buckets.status), (0, 6))
         self.assertIn("too wide", buckets.text)
@@ -343,7 +453,14 @@ class ImportAndSweep(WithFolder):
 
 class Pictures(WithFolder):
     def test_numbers_at_bars_are_rounded_up(self):
-        for value, told in [(Fraction(1, 3), "0.333334"), (Fraction(19987, 50), "399.74"), (Fraction(12345671, 10), "1234570"), (0, "0"), (Fraction(2999999, 3), "1000000"), (Fraction(1, 10**9), "0.000001")]:
+        for value, told in [
+            (Fraction(1, 3), "0.333334"),
+            (Fraction(19987, 50), "399.74"),
+            (Fraction(12345671, 10), "1234570"),
+            (0, "0"),
+            (Fraction(2999999, 3), "1000000"),
+            (Fraction(1, 10**9), "0.000001"),
+        ]:
             self.assertEqual(plot.rounded_up(value), told)
             self.assertGreaterEqual(Fraction(told), value)
 
@@ -351,13 +468,17 @@ class Pictures(WithFolder):
         self.assertEqual(len({plot.colour_of(place) for place in range(64)}), 64)
 
     def test_the_largest_rows_stay(self):
-        names, columns, label = plot.largest_rows([f"f{n}" for n in range(300)], [("delay", [*range(299), None], "red")], "delay")
+        names, columns, label = plot.largest_rows(
+            [f"f{n}" for n in range(300)], [("delay", [*range(299), None], "red")], "delay"
+        )
         self.assertEqual((names[0], names[-1], len(names), len(columns[0][1])), ("f100", "f299", 200, 200))
         self.assertEqual(label, "delay: the largest 200 of 300")
 
     @unittest.skipUnless(has("matplotlib"), "matplotlib is not installed")
     def test_no_picture_is_too_tall(self):
-        text = "".join(f"queue s{n} {q} delay {n}/7 backlog {q}\n" for n in range(64) for q in range(8)) + "".join(f"flow f{n} tfa {n} sfa {n} bound {n}\n" for n in range(256))
+        text = "".join(f"queue s{n} {q} delay {n}/7 backlog {q}\n" for n in range(64) for q in range(8)) + "".join(
+            f"flow f{n} tfa {n} sfa {n} bound {n}\n" for n in range(256)
+        )
         picture = self.folder / "o.png"
         self.assertEqual(tool("plot.py", "bounds", self.file("answer", text), "-o", picture).returncode, 0)
         data = picture.read_bytes()
@@ -365,7 +486,11 @@ class Pictures(WithFolder):
 
     def test_a_run_of_some_ports_between_two_times(self):
         words = ["run", TOP / "examples/tutorial/meeting.csv", "--net", STAIR, "-o", self.folder / "o.svg"]
-        for more, told in [(["--ports", "sw1-sw2,x"], "no server of"), (["--from", "9", "--to", "8"], "nothing to draw from 9 to 8"), (["--from", "x"], "'x' is no number")]:
+        for more, told in [
+            (["--ports", "sw1-sw2,x"], "no server of"),
+            (["--from", "9", "--to", "8"], "nothing to draw from 9 to 8"),
+            (["--from", "x"], "'x' is no number"),
+        ]:
             self.refused(told, "plot.py", *words, *more)
         self.assertEqual(tool("plot.py", "bounds", STAIR, "-o", self.folder / "o.svg", "--ports", "a").returncode, 2)
         if has("matplotlib"):

@@ -1,16 +1,15 @@
 #!/usr/bin/env python3
-"""Says what a refusal of netcalc means: the file, the line and the name that its place means, the rule in words, and how
-to mend it.
+"""Says what a refusal of netcalc means: the file, the line and the name that its place means, the rule in words, and
+how to mend it.
 
     ./netcalc explain analyse NET        runs the words behind it, and explains what is refused
     ./netcalc analyse NET | ./netcalc explain
                                          explains the refusal that it reads
 
 What netcalc prints goes on to the standard output as it is, the words to the standard error, and of words that were run
-the status is that of netcalc. The rules and how to mend them are read in docs/FORMATS.md and docs/CALCULATOR.md, so they
-stand in one place. Read alone, a refusal names its file or none: then the line is known of a file that is there. Rows of
-an edit list that were refused are explained too.
-"""
+the status is that of netcalc. The rules and how to mend them are read in docs/FORMATS.md and docs/CALCULATOR.md, so
+they stand in one place. Read alone, a refusal names its file or none: then the line is known of a file that is there.
+Rows of an edit list that were refused are explained too."""
 
 import csv
 import difflib
@@ -25,7 +24,9 @@ from networks import TOP, PROGRAM, ended, the_program
 from places import Places
 
 FORMATS, CALCULATOR = TOP / "docs/FORMATS.md", TOP / "docs/CALCULATOR.md"
-CELLS = "in|cross|total|higher|queue-service|theta|residual|queue-delay|queue-backlog|hop-delay|shift-out|deconv-out|out"
+CELLS = (
+    "in|cross|total|higher|queue-service|theta|residual|queue-delay|queue-backlog|hop-delay|shift-out|deconv-out|out"
+)
 CELL = re.compile(rf"({CELLS}|path-service|tfa|sfa|bound) (\S+)(?: ([0-9]+))?")
 READS = {  # the files that the words name, by what is told of them
     "analyse": ["network"],
@@ -161,7 +162,7 @@ def of_network(name, code, place, cause, files, known):
 KEYS = {  # of tables, for a key that is misspelt
     "": ["version", "server", "flow"],
     "server": "name rate service link discipline queues quanta kind latency cycle slot piece tail".split(),
-    "flow": "name packet arrival path kind burst rate period jitter piece tail close x at after slope rank rise".split(),
+    "flow": "name packet arrival path kind burst rate period jitter piece tail close".split(),
 }
 
 
@@ -253,7 +254,11 @@ def of_limit(why, what, files, known):
     if found := re.fullmatch("line ([0-9]+)", what):
         name = files.name("script")
         line = int(found[1])
-        return [f"{name or 'the script'} line {line}", *shown_line(files.text(name), line), *rule(f"{why}: line", known)]
+        return [
+            f"{name or 'the script'} line {line}",
+            *shown_line(files.text(name), line),
+            *rule(f"{why}: line", known),
+        ]
     if cell := CELL.fullmatch(what):
         return of_cell(why, cell, files, known)
     return rule(f"{why}: {what}", known) if f"{why}: {what}" in known else []

@@ -3,10 +3,9 @@
 
     ./netcalc import --version 2 --longest-gap 8 LINKS.csv PORTS.csv > network.toml
 
-Both are CSV with a head line; the tables stand in any order, and the columns too; the table with a column `path` is that of
-links, and other columns are left alone. Numbers are decimal or
-fractions ("1.5", "3/2"), and stay exact. The file is in microseconds and bits, so a rate in Mbit/s is the number of its
-bits in a microsecond.
+Both are CSV with a head line; the tables stand in any order, and the columns too; the table with a column `path` is
+that of links, and other columns are left alone. Numbers are decimal or fractions ("1.5", "3/2"), and stay exact. The
+file is in microseconds and bits, so a rate in Mbit/s is the number of its bits in a microsecond.
 
 LINKS.csv, a line a virtual link:
     name           a name of 1 to 32 letters, digits, _ and -
@@ -24,16 +23,16 @@ PORTS.csv, a line an output port (also those of end systems):
     discipline     `fifo` (also where it is empty), `priority N` with N queues, or
                    `drr Q0 Q1 ..` with the quantum of each queue in bytes
 
-`--version 2` says that no port sends faster than its rate, as a line does: links that come over one line are cut together
-then, and the bounds are lower. `--longest-gap G` cuts each gap above G milliseconds to G. That is safe, since a link that
-sends less often keeps the shorter gap too; it costs little, and the curves of all links repeat together after G
-milliseconds, if the other gaps divide it.
+`--version 2` says that no port sends faster than its rate, as a line does: links that come over one line are cut
+together then, and the bounds are lower. `--longest-gap G` cuts each gap above G milliseconds to G. That is safe, since
+a link that sends less often keeps the shorter gap too; it costs little, and the curves of all links repeat together
+after G milliseconds, if the other gaps divide it.
 
 `--buckets` describes each link by the token bucket above its stair (burst of one frame, and of what the jitter adds;
-rate of one frame a gap) in place of the stair itself. The bounds are greater, and over more than two ports the fractions
-get too wide for most networks of more than 20 links: it warns then. `--grid N` rounds every number to a multiple of 1/N,
-links to more and ports to less, as round.py does with a file: each bound stays a bound. With `--version 2` a rate has to be
-such a multiple already.
+rate of one frame a gap) in place of the stair itself. The bounds are greater, and over more than two ports the
+fractions soon get too wide, of which it warns. `--grid N` rounds every number to a multiple of 1/N, links to more and
+ports to less, as round.py does with a file: each bound stays a bound. With `--version 2` a rate has to be such a
+multiple already.
 
 The file begins with a comment that names both tables and how they were read.
 
@@ -149,7 +148,9 @@ def port(row, taken, words):
     if words.grid:
         rounding.round_server(server, words.grid)
         if words.version == 2 and server["rate"] != rate:
-            raise Fault(f"rate {rate} is no multiple of 1/{words.grid}, and in version 2 a rate may not be rounded down")
+            raise Fault(
+                f"rate {rate} is no multiple of 1/{words.grid}, and in version 2 a rate may not be rounded down"
+            )
     return server | discipline_of(row["discipline"])
 
 
@@ -254,7 +255,9 @@ def head_of_file(words):
         f"frames as {kind}, with {words.overhead} bytes of the wire beside their own{grid}.",
     ]
     if words.longest_gap is not None:
-        lines.append(f"{words.cut} gaps above {words.longest_gap} ms are cut to it: who sends less often keeps that too.")
+        lines.append(
+            f"{words.cut} gaps above {words.longest_gap} ms are cut to it: who sends less often keeps that too."
+        )
     if words.version == 2:
         lines.append("No port sends faster than its rate.")
     return "\n".join(lines)
@@ -280,8 +283,12 @@ def main():
     parser = argparse.ArgumentParser(description=__doc__, formatter_class=argparse.RawDescriptionHelpFormatter)
     parser.add_argument("links")
     parser.add_argument("ports")
-    parser.add_argument("--version", type=int, choices=[1, 2], default=1, help="2: no port sends faster than its rate (1)")
-    parser.add_argument("--longest-gap", type=milliseconds, metavar="MS", help="longer gaps are cut to so many milliseconds")
+    parser.add_argument(
+        "--version", type=int, choices=[1, 2], default=1, help="2: no port sends faster than its rate (1)"
+    )
+    parser.add_argument(
+        "--longest-gap", type=milliseconds, metavar="MS", help="longer gaps are cut to so many milliseconds"
+    )
     parser.add_argument(
         "--overhead", type=int, default=20, metavar="BYTES", help="bytes on the wire beside a frame's own (20)"
     )

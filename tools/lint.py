@@ -6,11 +6,10 @@
 A line for each finding: the file, the line, the server or flow, and what is odd. The status is 0 where nothing is found
 and 1 where something is. A file that is not lawful is refused as by the program, with the words of `./netcalc explain`.
 
-What is looked for: an arrival curve that lets in less at once than the flow's longest packet; more load than a server or a
-queue is promised; a packet longer than a gate's slot; a listed service that rises faster than its server's rate in version
-2; a network without a server or a flow; packets and bursts that look like bytes; times far below 1; a flow whose priority
-changes on its way.
-"""
+What is looked for: an arrival curve that lets in less at once than the flow's longest packet; more load than a server
+or a queue is promised; a packet longer than a gate's slot; a listed service that rises faster than its server's rate in
+version 2; a network without a server or a flow; packets and bursts that look like bytes; times far below 1; a flow
+whose priority changes on its way."""
 
 import argparse
 import subprocess
@@ -28,8 +27,8 @@ LONGEST = 1542  # bytes of a long Ethernet frame with its tag, preamble and gap
 
 
 def hold_lawful(path, program):
-    """Refuses a file that the program refuses for its rules, with the words of it. Asked for a flow that cannot be there, the
-    program reads the file and analyses nothing."""
+    """Refuses a file that the program refuses for its rules, with the words of it. Asked for a flow that cannot be
+    there, the program reads the file and analyses nothing."""
     words = ["measure", str(path), "/dev/null", NOBODY, "1"]
     run = subprocess.run([the_program(program), *words], capture_output=True, text=True, check=False)
     if run.stdout != f"netcalc: unknown flow {NOBODY}\n":
@@ -42,7 +41,8 @@ def of_flow(flow, servers):
     packet, arrival = flow["packet"], flow["arrival"]
     at_once = loads.bits_within(flow, 0)
     if at_once < packet:
-        yield "arrival", f"its curve lets in {at_once} bits at once, less than its packet of {packet}: no packet of that length keeps it"
+        told = f"its curve lets in {at_once} bits at once, less than its packet of {packet}"
+        yield "arrival", f"{told}: no packet of that length keeps it"
     if arrival["kind"] == "bucket" and 8 * at_once == packet:
         yield "arrival", f"its burst of {at_once} is an eighth of its packet: bytes in place of bits?"
     if packet <= LONGEST and (packet % 8 or packet < SHORTEST):
@@ -71,7 +71,8 @@ def of_gate(server, flows):
     room = number(server["rate"]) * number(service["slot"])
     for flow in flows:
         if flow["packet"] > room and server["name"] in [name for name, _ in loads.hops_of(flow)]:
-            yield "service", f"a slot has {room} bits, and a packet of {flow['name']} {flow['packet']}: a real time-aware port would never send it"
+            told = f"a slot has {room} bits, and a packet of {flow['name']} {flow['packet']}"
+            yield "service", f"{told}: a real time-aware port would never send it"
     if number(service["cycle"]) < Fraction(1, 100):
         yield "service", f"a cycle of {service['cycle']} is far below 1: take a smaller unit of time"
 
@@ -91,7 +92,8 @@ def of_load(server, flows):
     for queue in range(loads.queues_of(server)):
         share = loads.load_of_queue(server, queue, flows)
         if share is None or share > 1:
-            yield "name", f"the load of queue {queue} is {loads.rounded_up(share)} of its share: take longer quanta for it"
+            told = "none is promised" if share is None else f"it is {loads.rounded_up(share)} of its share"
+            yield "name", f"the load of queue {queue} is above 1: {told}; take longer quanta for it"
 
 
 def of_server(server, flows, version):
@@ -100,7 +102,8 @@ def of_server(server, flows, version):
     yield from of_gate(server, flows)
     service = server.get("service", {})
     if version == 2 and service.get("kind") == "list" and steepest(service) > number(server["rate"]):
-        yield "service", f"it promises {steepest(service)} bits a unit of time, and in version 2 no server works faster than its rate of {server['rate']}"
+        told = f"in version 2 no server works faster than its rate of {server['rate']}"
+        yield "service", f"it promises {steepest(service)} bits a unit of time, and {told}"
 
 
 def findings(network, places):

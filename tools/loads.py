@@ -1,5 +1,5 @@
-"""What the tools beside the program reckon of a network's file by themselves: loads, the bits that a flow may bring at once,
-and decimals that are rounded to the safe side. The bounds are those of the program alone.
+"""What the tools beside the program reckon of a network's file by themselves: loads, the bits that a flow may bring at
+once, and decimals that are rounded to the safe side. The bounds are those of the program alone.
 
 The network is one that the program accepts, as `networks.load` reads it.
 """
@@ -50,7 +50,9 @@ def rate_of_flow(flow):
     arrival = flow["arrival"]
     if arrival["kind"] == "bucket":
         return number(arrival["rate"])
-    return Fraction(flow["packet"]) / number(arrival["period"]) if arrival["kind"] == "stair" else slope_of_list(arrival)
+    return (
+        Fraction(flow["packet"]) / number(arrival["period"]) if arrival["kind"] == "stair" else slope_of_list(arrival)
+    )
 
 
 def rate_of_server(server):
@@ -63,7 +65,10 @@ def rate_of_server(server):
 
 def value_of_list(curve, time):
     """The value of a listed curve at a time from 0 on."""
-    pieces = [(number(p["x"]), number(p["at"]), number(p.get("after", p["at"])), number(p.get("slope", 0))) for p in curve["piece"]]
+    pieces = [
+        (number(p["x"]), number(p["at"]), number(p.get("after", p["at"])), number(p.get("slope", 0)))
+        for p in curve["piece"]
+    ]
     risen = Fraction(0)
     if "tail" in curve and time >= number(curve["tail"]["rank"]):
         rank, period, rise = (number(curve["tail"][key]) for key in ("rank", "period", "rise"))
@@ -74,8 +79,8 @@ def value_of_list(curve, time):
 
 
 def bits_within(flow, time):
-    """The bits that a flow's arrival curve lets in within a closed window of a length: of the length 0 those that come at
-    once."""
+    """The bits that a flow's arrival curve lets in within a closed window of a length: of the length 0 those that come
+    at once."""
     arrival = flow["arrival"]
     if arrival["kind"] == "bucket":
         return number(arrival["burst"]) + number(arrival["rate"]) * time
@@ -87,19 +92,26 @@ def bits_within(flow, time):
 def load_of_server(server, flows):
     """The share of its long-run service that the flows over a server ask for; None where it promises none."""
     rate = rate_of_server(server)
-    asked = sum((rate_of_flow(flow) for flow in flows if any(name == server["name"] for name, _ in hops_of(flow))), Fraction(0))
+    asked = sum(
+        (rate_of_flow(flow) for flow in flows if any(name == server["name"] for name, _ in hops_of(flow))), Fraction(0)
+    )
     return asked / rate if rate else (Fraction(0) if not asked else None)
 
 
 def load_of_queue(server, queue, flows):
-    """The share of its long-run service that the flows of a queue ask for: at a deficit round robin server of the queue's own
-    share, at a priority server with the flows of the queues before it; None where it is promised none."""
+    """The share of its long-run service that the flows of a queue ask for: at a deficit round robin server of the
+    queue's own share, at a priority server with the flows of the queues before it; None where it is promised none."""
     rate = rate_of_server(server)
     first = 0 if server.get("discipline") == "priority" else queue
     if server.get("discipline") == "drr":
         rate *= Fraction(server["quanta"][queue], sum(server["quanta"]))
     asked = sum(
-        (rate_of_flow(flow) for flow in flows for name, at in hops_of(flow) if name == server["name"] and first <= at <= queue),
+        (
+            rate_of_flow(flow)
+            for flow in flows
+            for name, at in hops_of(flow)
+            if name == server["name"] and first <= at <= queue
+        ),
         Fraction(0),
     )
     return asked / rate if rate else (Fraction(0) if not asked else None)
@@ -112,4 +124,6 @@ def time_of(text, what):
     try:
         return number(plain)
     except Fault as fault:
-        raise Fault(f"{what}: {fault}" if "/1" not in plain or "/" in text else f"{what} {text!r} is no number") from None
+        raise Fault(
+            f"{what}: {fault}" if "/1" not in plain or "/" in text else f"{what} {text!r} is no number"
+        ) from None

@@ -1,8 +1,7 @@
 """Where in a network file each table, key and value stands: the line of a place that netcalc names.
 
-A place is written as keys and numbers of entries counted from 0, as `flow[2].path[1]`. The text is taken as TOML 1.1; one
-that is no TOML has the places up to its fault.
-"""
+A place is written as keys and numbers of entries counted from 0, as `flow[2].path[1]`. The text is taken as TOML 1.1;
+one that is no TOML has the places up to its fault."""
 
 import bisect
 import re
@@ -161,7 +160,8 @@ class Places:
             self.skip(BLANKS)
 
     def line(self, place):
-        """The line of a place; that of the table or array that lacks it where it is missing; None where nothing of it is there."""
+        """The line of a place; that of the table or array that lacks it where it is missing; None where nothing of it
+        is there."""
         while place:
             if place in self.lines:
                 return self.lines[place]
@@ -169,8 +169,8 @@ class Places:
         return None
 
     def owner(self, place):
-        """The words for the server or flow that a place lies in, with its name: `flow video`; None where it lies in none, or
-        in one that is not there."""
+        """The words for the server or flow that a place lies in, with its name: `flow video`; None where it lies in
+        none, or in one that is not there."""
         found = re.match(r"(server|flow)\[[0-9]+\]", place)
         if not found or found[0] not in self.lines:
             return None

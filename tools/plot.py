@@ -15,9 +15,8 @@
 ANSWER.txt and RUN.csv may be `-`, for the standard input. OUT ends with .svg or .png. An `unbounded` number is drawn as
 a bar to the edge, with the word. Of an answer only the printed numbers are read, so a picture shows what was proved of
 it and nothing else. A time line shows the rows that stand in the file: whether they are a run of the network `check`
-alone says. Drawing rounds lengths to the screen; the numbers at bars are rounded up, to six digits. No picture has more than
-4,000 pixels in a row or a column.
-"""
+alone says. Drawing rounds lengths to the screen; the numbers at bars are rounded up, to six digits. No picture has more
+than 4,000 pixels in a row or a column."""
 
 import argparse
 import colorsys
@@ -59,7 +58,8 @@ def rounded_up(value, digits=6):
 
 
 def colour_of(place):
-    """The colour of a flow by its place: the first have chosen ones, the others their own, each far from the one before."""
+    """The colour of a flow by its place: the first have chosen ones, the others their own, each far from the one
+    before."""
     if place < len(FLOWS):
         return FLOWS[place]
     return colorsys.hsv_to_rgb(place * 0.618034 % 1, 0.55 + 0.15 * (place % 3), 0.85 - 0.15 * (place % 2))
@@ -565,7 +565,9 @@ def draw_recorded(text, net, path, ports=None, start=Fraction(0), stop=None):
     all_axes[-1][0].set_xlabel("time", fontsize=8)
     works = [work for server in used.values() for work in server.works]
     seen = {flows[packet] for packet, begin, until in works if begin < stop and until > start} or set(flows)
-    handles = [plot.Rectangle((0, 0), 1, 1, color=colours[flow], label=f"works of {flow}") for flow in paths if flow in seen]
+    handles = [
+        plot.Rectangle((0, 0), 1, 1, color=colours[flow], label=f"works of {flow}") for flow in paths if flow in seen
+    ]
     columns = 6 if max(map(len, seen), default=0) <= 12 else 3
     all_axes[0][0].legend(
         handles=handles, fontsize=8, ncol=columns, loc="lower right", bbox_to_anchor=(1.0, 1.0), frameon=False
@@ -598,7 +600,9 @@ def main():
     parser.add_argument("answer")
     parser.add_argument("-o", "--output", required=True, metavar="OUT")
     parser.add_argument("--net", metavar="NET", help="of `run`: the network's file")
-    parser.add_argument("--ports", metavar="A,B", type=lambda text: text.split(","), help="of `run`: these servers alone")
+    parser.add_argument(
+        "--ports", metavar="A,B", type=lambda text: text.split(","), help="of `run`: these servers alone"
+    )
     parser.add_argument("--from", dest="start", metavar="T", help="of `run`: from this time on")
     parser.add_argument("--to", dest="stop", metavar="T", help="of `run`: up to this time")
     words = parser.parse_args()

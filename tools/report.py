@@ -1,27 +1,26 @@
 #!/usr/bin/env python3
-"""A table to sign: the bounds of a network beside deadlines, the ports with their loads and buffers, and where each delay
-comes from.
+"""A table to sign: the bounds of a network beside deadlines, the ports with their loads and buffers, and where each
+delay comes from.
 
     ./netcalc report NET [--deadlines D.csv] [--html OUT] [--csv OUT]
 
-NET is a network's file in microseconds and bits. D.csv has a head line with a column `flow` (or `name`) and one `deadline`
-in microseconds, decimal or a fraction; other columns are left alone, and lines without a deadline are skipped, so a table
-of links with a column of deadlines will do.
+NET is a network's file in microseconds and bits. D.csv has a head line with a column `flow` (or `name`) and one
+`deadline` in microseconds, decimal or a fraction; other columns are left alone, and lines without a deadline are
+skipped, so a table of links with a column of deadlines will do.
 
-The program's exact bounds are shown as decimals of three digits, **rounded up**, beside the fractions; a slack is rounded
-down; PASS and FAIL compare exactly. A buffer is the backlog bound in bytes, rounded up. A load is what the flows ask for in
-the long run over what is promised: at a priority server with the queues before, at a deficit round robin server over the
-queue's own share. A flow's delay is shared out by the delay bounds of its ports and its links; `brings most` names the
-flows that may bring most bits at once to that queue (at a priority server: to it and those before it), by their curves and
-the delay bounds on their way so far. The findings of lint.py stand on top. `--html` writes the report as one page that
-needs no other file, `--csv` the flows alone, for a spreadsheet.
+The program's exact bounds are shown as decimals of three digits, **rounded up**, beside the fractions; a slack is
+rounded down; PASS and FAIL compare exactly. A buffer is the backlog bound in bytes, rounded up. A load is what the
+flows ask for in the long run over what is promised: at a priority server with the queues before, at a deficit round
+robin server over the queue's own share. A flow's delay is shared out by the delay bounds of its ports and its links;
+`brings most` names the flows that may bring most bits at once to that queue (at a priority server: to it and those
+before it), by their curves and the delay bounds on their way so far. The findings of lint.py stand on top. `--html`
+writes the report as one page that needs no other file, `--csv` the flows alone, for a spreadsheet.
 
 NET may also be a report in JSON with `branches` and `ports`, whose bounds are decimals already and which tells its own
 deadlines; it has no paths, so no delay is shared out.
 
-The status is 0 where each flow has a bound and no deadline fails, else 1. A network that the program refuses is refused in
-its words and those of `./netcalc explain`.
-"""
+The status is 0 where each flow has a bound and no deadline fails, else 1. A network that the program refuses is refused
+in its words and those of `./netcalc explain`."""
 
 import argparse
 import csv
@@ -147,8 +146,8 @@ def share_out(flow, answer, servers):
 
 
 def brought(network, answer):
-    """The bits that each flow may bring at once to each queue that it passes: by its curve, which the delays so far let it
-    gather. None where a delay has no bound."""
+    """The bits that each flow may bring at once to each queue that it passes: by its curve, which the delays so far let
+    it gather. None where a delay has no bound."""
     found = {}
     for flow in network.get("flow", []):
         waited = Fraction(0)
@@ -303,7 +302,9 @@ def text_of(report):
     for flow in sorted(report.flows, key=by_slack):
         if flow.hops:
             yield ""
-            table = list(aligned([flow.name, "delay us", "share", ""], [[*hop_words(hop)[:3], ""] for hop in flow.hops]))
+            table = list(
+                aligned([flow.name, "delay us", "share", ""], [[*hop_words(hop)[:3], ""] for hop in flow.hops])
+            )
             yield table[0]
             yield from (line + hop_words(hop)[3] for line, hop in zip(table[1:], flow.hops))
 

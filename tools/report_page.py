@@ -1,5 +1,5 @@
-"""The page that report.py writes: one file of HTML with tables that a click on a column sorts, bars as SVG, and no script,
-font or picture from elsewhere. Bars round to the screen; the numbers beside them do not."""
+"""The page that report.py writes: one file of HTML with tables that a click on a column sorts, bars as SVG, and no
+script, font or picture from elsewhere. Bars round to the screen; the numbers beside them do not."""
 
 from html import escape
 
@@ -18,14 +18,16 @@ p { margin: .25rem 0 .75rem; }
 .stand { display: inline-block; font-size: 1.15rem; font-weight: 600; padding: .45rem .9rem; border-radius: .4rem;
   color: #fff; background: var(--good); }
 .stand.bad { background: var(--bad); }
-.from { color: var(--soft); font: 12px/1.6 ui-monospace, "DejaVu Sans Mono", monospace; overflow-wrap: anywhere; margin-top: .9rem; }
+.from { color: var(--soft); font: 12px/1.6 ui-monospace, "DejaVu Sans Mono", monospace; overflow-wrap: anywhere;
+  margin-top: .9rem; }
 .odd { border-left: .3rem solid #c98a00; background: #fff6e0; padding: .6rem 1rem; margin-top: 1.25rem; }
 .odd ul { margin: .3rem 0 0; padding-left: 1.1rem; }
 .note { color: var(--soft); font-size: .87rem; max-width: 60rem; }
 table { border-collapse: collapse; width: 100%; margin-top: .5rem; }
 th, td { text-align: right; padding: .28rem .6rem; border-bottom: 1px solid var(--line); white-space: nowrap;
   font-variant-numeric: tabular-nums; }
-th { font-size: .82rem; font-weight: 600; color: var(--soft); border-bottom: 2px solid var(--line); vertical-align: bottom; }
+th { font-size: .82rem; font-weight: 600; color: var(--soft); border-bottom: 2px solid var(--line);
+  vertical-align: bottom; }
 th button { all: unset; cursor: pointer; }
 th button:hover, th button:focus-visible { color: var(--ink); text-decoration: underline; }
 th[aria-sort=ascending] button::after { content: " \\25b2"; font-size: .7em; }
@@ -42,7 +44,8 @@ details { border-bottom: 1px solid var(--line); padding: .35rem 0; }
 summary { cursor: pointer; display: flex; gap: .8rem; align-items: center; }
 summary::before { content: "\\25b8"; color: var(--soft); }
 details[open] summary::before { content: "\\25be"; }
-summary .name { flex: 0 0 14rem; font-family: ui-monospace, "DejaVu Sans Mono", monospace; font-size: .9em; overflow-wrap: anywhere; }
+summary .name { flex: 0 0 14rem; font-family: ui-monospace, "DejaVu Sans Mono", monospace; font-size: .9em;
+  overflow-wrap: anywhere; }
 summary .bound { flex: 0 0 8rem; text-align: right; font-variant-numeric: tabular-nums; }
 details table { width: auto; margin: .4rem 0 .6rem 1.6rem; }
 .swatch { display: inline-block; width: .7rem; height: .7rem; margin-right: .45rem; border-radius: .12rem; }
@@ -64,7 +67,8 @@ for (const button of document.querySelectorAll("th button")) button.addEventList
   for (const other of head.parentNode.cells) other.removeAttribute("aria-sort");
   head.setAttribute("aria-sort", up ? "ascending" : "descending");
   const value = row => row.cells[place].dataset.v;
-  const before = (a, b) => isNaN(a) || isNaN(b) || a === "" || b === "" ? a.localeCompare(b, "en", { numeric: true }) : a - b;
+  const is_word = text => text === "" || isNaN(text);
+  const before = (a, b) => is_word(a) || is_word(b) ? a.localeCompare(b, "en", { numeric: true }) : a - b;
   body.append(...[...body.rows].sort((a, b) => (up ? 1 : -1) * before(value(a), value(b))));
 });
 """
@@ -98,7 +102,11 @@ def table(columns, rows):
 def bar(share, colour, width=150, mark=None):
     """A bar of a share of the width, and an upright line at a mark."""
     filled = max(0, min(1, float(share))) * width
-    line = "" if mark is None else f'<line x1="{mark * width:.1f}" x2="{mark * width:.1f}" y1="0" y2="14" stroke="#1c2430"/>'
+    line = (
+        ""
+        if mark is None
+        else f'<line x1="{mark * width:.1f}" x2="{mark * width:.1f}" y1="0" y2="14" stroke="#1c2430"/>'
+    )
     return (
         f'<svg width="{width}" height="14" role="img" aria-label="{float(share):.2f}">'
         f'<rect width="{width}" height="8" y="3" fill="#eef1f4"/>'
@@ -107,7 +115,7 @@ def bar(share, colour, width=150, mark=None):
 
 
 def bound_bar(flow, largest):
-    """A flow's bound: of its deadline, which the line marks at four fifths; without one of the largest bound, in grey."""
+    """A flow's bound: of its deadline, which a line marks at four fifths; without one of the largest bound, in grey."""
     if flow.bound is None:
         return bar(1, BAD)
     if flow.deadline is None:
@@ -155,7 +163,10 @@ def stacked(hops, width=420):
     for place, hop in enumerate(hops):
         wide = float(hop.share or 0) * width
         colour = HOPS[place % len(HOPS)]
-        parts.append(f'<rect x="{left:.1f}" width="{wide:.1f}" height="14" fill="{colour}"><title>{escape(hop.place)}</title></rect>')
+        parts.append(
+            f'<rect x="{left:.1f}" width="{wide:.1f}" height="14" fill="{colour}">'
+            f"<title>{escape(hop.place)}</title></rect>"
+        )
         left += wide
     return f'<svg width="{width}" height="14" role="img" aria-label="shares of the delay">{"".join(parts)}</svg>'
 
@@ -206,20 +217,23 @@ def page(report):
         f'<div class="from">{"<br>".join(escape(line) for line in report.head)}</div>',
         odd(report.findings),
         "<h2>Flows</h2>",
-        '<p class="note">No packet of the flow takes longer than its bound, from its entry to the end of its last link, in any run that keeps what the file promises. '
+        '<p class="note">No packet of the flow takes longer than its bound, from its entry to the end of its last '
+        "link, in any run that keeps what the file promises. "
         "Bounds are rounded up, slacks down; the exact bound stands last. The upright line marks the deadline.</p>",
         table(columns, flow_rows(flows)),
         "<h2>Ports</h2>",
-        '<p class="note">The load is what flows ask for in the long run over what they are promised; no packet stays longer than the delay, and the queue never holds more bytes.</p>',
+        '<p class="note">The load is what flows ask for in the long run over what they are promised; no packet stays '
+        "longer than the delay, and the queue never holds more bytes.</p>",
         table(ports, port_rows(sorted(report.ports, key=by_delay))),
     ]
     if shares:
         body += [
             "<h2>Where each delay comes from</h2>",
-            '<p class="note">The delay bounds of the ports on the way, in their order, and of the links together. Click a flow for the numbers, '
-            "and for the flows that may bring most bits at once to each port.</p>",
+            '<p class="note">The delay bounds of the ports on the way, in their order, and of the links together. '
+            "Click a flow for the numbers, and for the flows that may bring most bits at once to each port.</p>",
             *shares,
         ]
     body.append('<div class="sign"><span>Checked by</span><span>Date</span></div>')
-    head = f'<meta charset="utf-8"><meta name="viewport" content="width=device-width"><title>{title}</title><style>{STYLE}</style>'
-    return f'<!DOCTYPE html>\n<html lang="en"><head>{head}</head><body>{"".join(body)}<script>{SCRIPT}</script></body></html>\n'
+    head = f'<meta charset="utf-8"><meta name="viewport" content="width=device-width"><title>{title}</title>'
+    head = f'<html lang="en"><head>{head}<style>{STYLE}</style></head>'
+    return f'<!DOCTYPE html>\n{head}<body>{"".join(body)}<script>{SCRIPT}</script></body></html>\n'

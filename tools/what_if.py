@@ -7,14 +7,15 @@
     tools/what_if.py NET --greatest-load [FLOW] --deadlines D.csv
         the largest factor on the rates of a flow, or of all flows, that still keeps all deadlines, by halving
 
-NET is in microseconds and bits; EDITS is an edit list as `netcalc edit` reads it, D.csv a table of deadlines as report.py
-reads it. Bounds are shown as decimals, rounded up. `--write` writes the network after all rows as a file, with the same
-bounds; a stair that a row `packet` leaves as it was, with its former packet, is written as a list.
+NET is in microseconds and bits; EDITS is an edit list as `netcalc edit` reads it, D.csv a table of deadlines as
+report.py reads it. Bounds are shown as decimals, rounded up. `--write` writes the network after all rows as a file,
+with the same bounds; a stair that a row `packet` leaves as it was, with its former packet, is written as a list.
 
-The factor is a multiple of 1/64, at most 64. A stair's period is divided by it and rounded down, so the load is at least
-that large; periods that divide one another go on doing so, or nearly so where one flow alone is faster. A bucket's rate is multiplied, a list
-goes faster in time. A network that the program refuses counts as one that keeps no deadline, and is told. Between two
-factors that were tried bounds may still go up and down: a factor above the one that is told may keep all deadlines too.
+The factor is a multiple of 1/64, at most 64. A stair's period is divided by it and rounded down, so the load is at
+least that large; periods that divide one another go on doing so, or nearly so where one flow alone is faster. A
+bucket's rate is multiplied, a list goes faster in time. A network that the program refuses counts as one that keeps no
+deadline, and is told. Between two factors that were tried bounds may still go up and down: a factor above the one that
+is told may keep all deadlines too.
 
 The status is 1 where a deadline fails: after all rows, or already with no load.
 """
@@ -88,7 +89,9 @@ def changes(before, after, deadlines):
         if found:
             most = max(found, key=found.get)
             yield f"{len(found)} {word}, {most} most, by {rounded_up(found[most])}"
-    yield from (f"{name} {'now' if after[name] is None else 'no longer'} unbounded" for name, by in moved.items() if by is None)
+    yield from (
+        f"{name} {'now' if after[name] is None else 'no longer'} unbounded" for name, by in moved.items() if by is None
+    )
     yield from (f"{name} is new: {report.shown(after[name])}" for name in after if name not in before)
     yield from (f"{name} is gone" for name in before if name not in after)
     for name in both:
@@ -103,7 +106,9 @@ def table_of(rows, texts, deadlines):
     for place, row in enumerate(rows):
         said = texts[place + 1].splitlines()[place].split(" ", 2)[2]
         told = "; ".join(changes(found[place], found[place + 1], deadlines)) if said.startswith("ok") else ""
-        yield f"{place + 1}  {','.join(row)}: {'taken' if said.startswith('ok') else said}" + (f"; {told}" if told else "")
+        yield f"{place + 1}  {','.join(row)}: {'taken' if said.startswith('ok') else said}" + (
+            f"; {told}" if told else ""
+        )
 
 
 def flows_of(before, after, deadlines):
@@ -152,7 +157,9 @@ def make(network, row):
     if what == "add":
         packet, burst, rate = (written(number(value)) for value in values[:3])
         arrival = {"kind": "bucket", "burst": burst, "rate": rate}
-        network.setdefault("flow", []).append({"name": name, "packet": packet, "arrival": arrival, "path": path_of(values[3])})
+        network.setdefault("flow", []).append(
+            {"name": name, "packet": packet, "arrival": arrival, "path": path_of(values[3])}
+        )
     elif what == "drop":
         network["flow"] = [flow for flow in network["flow"] if flow["name"] != name]
     elif what in ("rate", "link"):
@@ -219,8 +226,8 @@ def divisor_of(flows):
 
 
 def with_factor(network, parts, name):
-    """The network with the rates of a flow, or of all, times a number of parts. Periods stay multiples of one number: of all
-    flows together of what their divisor becomes, of one flow of a part of that."""
+    """The network with the rates of a flow, or of all, times a number of parts. Periods stay multiples of one number:
+    of all flows together of what their divisor becomes, of one flow of a part of that."""
     factor, divisor = Fraction(parts, PARTS), divisor_of(network["flow"])
     grid = divisor / PARTS if name or divisor < PARTS else Fraction(1, PARTS)
     lower = lambda time: math.floor(time / factor / grid) * grid
@@ -240,13 +247,17 @@ def broken(network, deadlines, program):
     late = [name for name, deadline in deadlines.items() if not is_kept(answer.flows[name]["bound"], deadline)]
     if not late:
         return None
-    worst = max(late, key=lambda name: (answer.flows[name]["bound"] is None, (answer.flows[name]["bound"] or 0) - deadlines[name]))
+    worst = max(
+        late,
+        key=lambda name: (answer.flows[name]["bound"] is None, (answer.flows[name]["bound"] or 0) - deadlines[name]),
+    )
     more = f", and {len(late) - 1} more" if len(late) > 1 else ""
     return f"{worst} has {report.shown(answer.flows[worst]['bound'])} of {rounded_up(deadlines[worst])}{more}"
 
 
 def greatest(network, deadlines, program, name):
-    """The largest number of parts that keeps all deadlines, and why one more does not; None for that where none is tried."""
+    """The largest number of parts that keeps all deadlines, and why one more does not; None for that where none is
+    tried."""
     low, high, why = 0, None, None
     parts = PARTS
     while high is None and low < GREATEST * PARTS or high is not None and high - low > 1:
@@ -277,24 +288,29 @@ def tell_load(words, network, deadlines):
     return 0
 
 
+def odd_after(made, program):
+    """What is odd in the network after all rows."""
+    with tempfile.NamedTemporaryFile("w", suffix=".toml", encoding="utf-8") as file:
+        file.write(made)
+        file.flush()
+        return [line.partition(": ")[2] for line in lint.lint(file.name, program)]
+
+
 def tell_edits(words, network, deadlines):
     """Tells what the rows do."""
     rows = rows_of(words.edits)
     texts = list(answers_of(words.network, rows, words.program))
+    made = dump(edited(network, rows, texts[-1].splitlines()), f"{words.network} after the edits of {words.edits}.")
+    if words.write:
+        pathlib.Path(words.write).write_text(made, encoding="utf-8")
     for line in table_of(rows, texts, deadlines):
         print(line)
     print()
     before, after = bounds_of(texts[0]), bounds_of(texts[-1])
     for line in flows_of(before, after, deadlines):
         print(line)
-    made = dump(edited(network, rows, texts[-1].splitlines()), f"{words.network} after the edits of {words.edits}.")
-    with tempfile.NamedTemporaryFile("w", suffix=".toml", encoding="utf-8") as file:
-        file.write(made)
-        file.flush()
-        for line in lint.lint(file.name, words.program):
-            print(f"odd after all rows: {line.partition(': ')[2]}")
-    if words.write:
-        pathlib.Path(words.write).write_text(made, encoding="utf-8")
+    for line in odd_after(made, words.program):
+        print(f"odd after all rows: {line}")
     return 1 if any(is_kept(after[name], deadlines.get(name)) is False for name in after) else 0
 
 
