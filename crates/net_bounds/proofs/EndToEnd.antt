@@ -11,8 +11,7 @@ use Rattle.run_laws.specs.Premises.{KeepsArrivals}
 use Rattle.run_laws.specs.Routes.{Hop, route_of, first_server}
 use Rattle.run_laws.specs.Bounds.{IsFlowBounded}
 use Rattle.net_laws.specs.Paths.{IsPath, StaysAtMost, IsServedAlong, sum_along, links_along}
-use Rattle.net_laws.proofs.Ends.{delay_from_hops, delay_from_path_service}
-use Rattle.net_laws.proofs.Paths.{path_is_served}
+use Rattle.net_laws.proofs.PathRuns.{delay_from_hops, delay_from_path_service, path_is_served}
 use Rattle.net_laws.proofs.Queues.{of_lesser}
 use Rattle.net_model.specs.Networks.{Net}
 use Rattle.net_model.specs.Accepted.{IsAccepted}

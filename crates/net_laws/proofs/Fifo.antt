@@ -1,5 +1,5 @@
 -- A packet of a flow at one server: what its flow's work there comes to before it is gone, and by then.
-use Rattle.std.specs.Prelude.{Option, Some, None, ◌≡◌, ◌<◌, ℕ, pos, ◌==◌, Bool, true, false, ◌&&◌, List, [], ◌∷◌, ◌++◌, length}
+use Rattle.std.specs.Prelude.{Option, Some, None, ◌≡◌, ℕ, pos, ◌==◌, Bool, true, false, ◌&&◌, List, [], ◌∷◌, ◌++◌}
 use Rattle.std.proofs.Common.{arith, sym, ap, ◌∙◌, refl, inl, inr, subst, append_assoc}
 use Rattle.std.proofs.lemmas.Bool.{cases_Bool, both_ways, eqb-true, eq-eqb, and_parts, and_from}
 use Rattle.rational.specs.Rational.{ℚ, int, ◌+ℚ◌, ◌≤ℚ◌, ◌<ℚ◌}
@@ -18,7 +18,6 @@ use Rattle.run_laws.specs.Counts.{total, arrives, leaves, works, before, upto, w
 use Rattle.run_laws.specs.Delays.{gone_at}
 use Rattle.run_laws.specs.Routes.{Routes, server_at, route_of, queue_at, first_server}
 use Rattle.run_laws.specs.Views.{Entry, card_of, entered_after, server_of, seen, view_from, view}
-use Rattle.run_laws.specs.Lawful.{IsLawful}
 use Rattle.run_laws.proofs.Sums.{when_true, when_false, Each, each_map, each-append, total-append, total_same, add_nothing}
 use Rattle.run_laws.proofs.Counts.{arrived_in_is, arrivals_nonneg}
 use Rattle.run_laws.proofs.Heads.{sum_of}
@@ -28,7 +27,6 @@ use Rattle.run_laws.proofs.Orders.{worked_arrived}
 use Rattle.run_laws.proofs.Waiting.{of_class, bits_of, class-append, class_head, sum_class, bits_nonneg, KeepsPacket, allowed-append, all_upto, not_worked}
 use Rattle.run_laws.proofs.Oldest.{departures_of, arrivals_of, queue_order}
 use Rattle.run_laws.proofs.Sizes.{size_nonneg, size_pos}
-use Rattle.run_laws.proofs.Views.{views_are_lawful}
 use Rattle.run_laws.proofs.Lag.{Begins, begins_more}
 
 -- ---- the packets that left before it is gone are none of its number
@@ -231,8 +229,7 @@ upto_packet i V front back p u joined flow =
 
 -- ---- so of a flow in a run
 pub record IsAt (net : Routes) (run : SpecRun) (i s : ℕ) (card : Card) (u : ℚ) (front back : List ServerStep) : Type 0 where
-  pub lawful : IsLawful net run
-  pub known : s < length net.servers
+  pub lawful : IsLawfulView (server_at net s) run.end (view net run s)
   pub joined : view net run s ≡ front ++ Arrives card u ∷ back
   pub flow : card.flow ≡ i
 
@@ -258,7 +255,7 @@ pub work_before_gone : (net : Routes) (run : SpecRun) (i s : ℕ) (card : Card) 
 work_before_gone net run i s card u t front back at l m =
     let V = view net run s in
     let counts = counts_of net run i s card u front back at in
-    let below = not_worked (server_at net s) run.end V front back (own net s i) (queue_at s (route_of net i).hops) card u t (views_are_lawful net run s at.lawful at.known) at.joined (own_queue net s i) counts.of_own l m in
+    let below = not_worked (server_at net s) run.end V front back (own net s i) (queue_at s (route_of net i).hops) card u t at.lawful at.joined (own_queue net s i) counts.of_own l m in
     let work = counts.work t in
     let came = counts.came in
     let upto_u = upto_packet i V front back card u at.joined at.flow in
@@ -272,7 +269,7 @@ pub work_by_gone : (net : Routes) (run : SpecRun) (i s : ℕ) (card : Card) (u g
 work_by_gone net run i s card u g front back at l m =
     let V = view net run s in
     let counts = counts_of net run i s card u front back at in
-    let most = by_gone (server_at net s) run.end V front back (own net s i) (queue_at s (route_of net i).hops) card u g (views_are_lawful net run s at.lawful at.known) at.joined (own_queue net s i) counts.of_own l m in
+    let most = by_gone (server_at net s) run.end V front back (own net s i) (queue_at s (route_of net i).hops) card u g at.lawful at.joined (own_queue net s i) counts.of_own l m in
     let work = counts.work g in
     let came = counts.came in
     let upto_u = upto_packet i V front back card u at.joined at.flow in
@@ -286,7 +283,7 @@ some_bits : (net : Routes) (run : SpecRun) (i s : ℕ) (card : Card) (u : ℚ) (
     → (int (pos 0) <ℚ size card) × (u ≤ℚ run.end)
 some_bits net run i s card u front back at =
     let server = server_at net s in
-    let lawful = views_are_lawful net run s at.lawful at.known in
+    let lawful = at.lawful in
     let all = allowed-append server run.end (start server.discipline) front (Arrives card u ∷ back) (subst (AllAllowed server run.end (start server.discipline)) at.joined lawful.allowed) in
     (size_pos card all.1.0.1.some_bits, all.1.0.0.in_run)
 
@@ -299,7 +296,7 @@ pub work_before_came : (net : Routes) (run : SpecRun) (i s : ℕ) (card : Card) 
     → t ≤ℚ u → worked (of_flow i) (view net run s) t <ℚ arrived_upto (of_flow i) (view net run s) u
 work_before_came net run i s card u t front back at l =
     let V = view net run s in
-    let order = worked_arrived (server_at net s) run.end V (of_flow i) t (views_are_lawful net run s at.lawful at.known) in
+    let order = worked_arrived (server_at net s) run.end V (of_flow i) t at.lawful in
     let window = arrived_in_is (of_flow i) V t u l in
     let some = (some_bits net run i s card u front back at).0 in
     let one = at_least i V front back card t u u at.joined at.flow l (le_refl u) in

@@ -1,5 +1,5 @@
--- A packet along its flow's path: at each server it is gone in time, and then at the next a link later, or the run ends.
-use Rattle.std.specs.Prelude.{Option, Some, None, ◌≡◌, ◌<◌, ◌⊎◌, ℕ, suc, pos, ◌==◌, false, List, [], ◌∷◌, ◌++◌, length, All}
+-- A packet from server to server: at each it is gone in time, and then at a next one a link later, or the run ends.
+use Rattle.std.specs.Prelude.{◌≡◌, ◌⊎◌, ℕ, suc, pos, ◌==◌, false, List, [], ◌∷◌, ◌++◌, All, ◌≤◌, ◌+◌}
 use Rattle.std.proofs.Common.{arith, sym, ap, ◌∙◌, refl, inl, inr, subst, append_assoc}
 use Rattle.std.proofs.lemmas.Bool.{cases_Bool, eqb-true, eq-eqb}
 use Rattle.rational.specs.Rational.{ℚ, int, ◌+ℚ◌, ◌≤ℚ◌, ◌<ℚ◌}
@@ -12,13 +12,15 @@ use Rattle.run_laws.specs.Servers.{Server, ServerState}
 use Rattle.run_laws.specs.Next.{next}
 use Rattle.run_laws.specs.Allows.{AllAllowed}
 use Rattle.run_laws.specs.Delays.{gone_at}
-use Rattle.run_laws.specs.Routes.{Routes, route_of, link_at, server_after}
-use Rattle.run_laws.specs.Views.{Entry, entry_of, hops_of, card_of, entered_after, server_of, seen, view_from}
-use Rattle.run_laws.specs.Lawful.{Due, RunState, same_due, without, sent, next_run, AllAllowedInRun, after_run}
+use Rattle.run_laws.specs.Routes.{Routes, link_at}
+use Rattle.run_laws.specs.Views.{Entry, entry_of, card_of, entered_after, server_of, seen, view_from}
+use Rattle.run_laws.specs.Lawful.{Due, RunState, same_due, without}
 use Rattle.run_laws.proofs.Cuts.{time_in_order}
-use Rattle.run_laws.proofs.Entries.{entry_before, one_more}
 use Rattle.net_laws.proofs.Links.{same_is}
 use Rattle.run_laws.proofs.OneHop.{gone_other}
+use Rattle.run_laws.specs.Rounds.{count_of}
+use Rattle.net_laws.specs.Multicast.{NextServers, sent_to, next_run_by, AllAllowedBy, after_run_by}
+use Rattle.net_laws.proofs.Dues.{Knows, knows_next_by}
 
 -- ---- the steps that are left of a run, and what each server sees of them
 abbrev pub Since : Routes → RunState → List Step → RunState → List Step → Type 0
@@ -27,8 +29,8 @@ Since net r xs q ys = (s : ℕ) → (front : List ServerStep) × (view_from net 
 pub since_start : (net : Routes) (r : RunState) (xs : List Step) → Since net r xs r xs
 since_start net r xs s = ([], refl)
 
-pub since_next : (net : Routes) (r : RunState) (x : Step) (xs : List Step) → Since net r (x ∷ xs) (next_run net r x) xs
-since_next net r x xs s = elim (cases_Bool (server_of net x == s)) [
+pub since_next_by : (net : Routes) (to : NextServers) (r : RunState) (x : Step) (xs : List Step) → Since net r (x ∷ xs) (next_run_by net to r x) xs
+since_next_by net to r x xs s = elim (cases_Bool (server_of net x == s)) [
   | inl e ↦ (seen net r.entered x ∷ [], rw e refl)
   | inr e ↦ ([], rw e refl)
 ]
@@ -40,27 +42,12 @@ since_both net r xs q ys p zs h k s = (
   (h s).1 ∙ ap (λ (V : List ServerStep). (h s).0 ++ V) (k s).1 ∙ sym (append_assoc (h s).0 (k s).0 (view_from net s p.entered zs)),
 )
 
--- ---- a packet that has entered
-pub record Knows (r : RunState) (p : ℕ) (e : Entry) : Type 0 where
-  pub has_entered : p < length r.entered
-  pub is : entry_of r.entered p ≡ e
-
-pub knows_next : (net : Routes) (r : RunState) (x : Step) (p : ℕ) (e : Entry) → Knows r p e → Knows (next_run net r x) p e
-knows_next net r (Enter f q t b) p e k =
-    let h = k.has_entered in
-    let m = one_more r.entered record { flow = f; bits = b } in
-    record { has_entered = omega arith; is = entry_before r.entered record { flow = f; bits = b } p k.has_entered ∙ k.is }
-knows_next net r (Reach s q t) p e k = record { has_entered = k.has_entered; is = k.is }
-knows_next net r (Work s q a b w) p e k = record { has_entered = k.has_entered; is = k.is }
-knows_next net r (Leave s q t) p e k = record { has_entered = k.has_entered; is = k.is }
-knows_next net r (Visit s q t) p e k = record { has_entered = k.has_entered; is = k.is }
-
--- it arrives at server s at u, among the steps that are left
-pub record Comes (net : Routes) (end : ℚ) (r : RunState) (xs : List Step) (s p : ℕ) (e : Entry) (u : ℚ) : Type 0 where
+-- packet p arrives at server s at u, among the steps that are left
+pub record ComesBy (net : Routes) (to : NextServers) (end : ℚ) (r : RunState) (xs : List Step) (s p : ℕ) (e : Entry) (u : ℚ) : Type 0 where
   pub state : RunState
   pub rest : List Step
-  pub allowed : AllAllowedInRun net end state rest
-  pub late : All (λ (d : Due). end <ℚ d.time) (after_run net state rest).due
+  pub allowed : AllAllowedBy net to end state rest
+  pub late : All (λ (d : Due). end <ℚ d.time) (after_run_by net to state rest).due
   pub knows : Knows state p e
   pub card : Card
   pub packet : card.packet ≡ p
@@ -69,9 +56,9 @@ pub record Comes (net : Routes) (end : ℚ) (r : RunState) (xs : List Step) (s p
   pub joined : view_from net s r.entered xs ≡ front ++ Arrives card u ∷ view_from net s state.entered rest
   pub since : Since net r xs state rest
 
-abbrev pub comes_since : (net : Routes) (end : ℚ) (r : RunState) (xs : List Step) (q : RunState) (ys : List Step) (s p : ℕ) (e : Entry) (u : ℚ)
-    → Since net r xs q ys → (c : Comes net end q ys s p e u) → Comes net end r xs s p e u
-comes_since net end r xs q ys s p e u h c = record {
+abbrev pub comes_since_by : (net : Routes) (to : NextServers) (end : ℚ) (r : RunState) (xs : List Step) (q : RunState) (ys : List Step) (s p : ℕ) (e : Entry) (u : ℚ)
+    → Since net r xs q ys → (c : ComesBy net to end q ys s p e u) → ComesBy net to end r xs s p e u
+comes_since_by net to end r xs q ys s p e u h c = record {
   state = c.state;
   rest = c.rest;
   allowed = c.allowed;
@@ -85,17 +72,17 @@ comes_since net end r xs q ys s p e u h c = record {
   since = since_both net r xs q ys c.state c.rest h c.since;
 }
 
--- ---- what is due within the run reaches its server
-abbrev IsDue : Due → List Due → Type 0
+-- ---- what is due stays so until it reaches its server
+abbrev pub IsDue : Due → List Due → Type 0
 IsDue d [] = ⊥
 IsDue d (c ∷ ds) = (c ≡ d) ⊎ IsDue d ds
 
-due_late : (end : ℚ) (d : Due) (ds : List Due) → IsDue d ds → All (λ (d : Due). end <ℚ d.time) ds → end <ℚ d.time
+pub due_late : (end : ℚ) (d : Due) (ds : List Due) → IsDue d ds → All (λ (d : Due). end <ℚ d.time) ds → end <ℚ d.time
 due_late end d [] h k = absurd h
 due_late end d (c ∷ ds) (inl e) k = subst (λ (x : Due). end <ℚ x.time) e (k 0 c (omega arith))
 due_late end d (c ∷ ds) (inr h) k = due_late end d ds h (λ j x m. k (suc j) x (omega arith))
 
-due_stays : (d c : Due) (ds : List Due) → IsDue d ds → same_due c d ≡ false → IsDue d (without c ds)
+pub due_stays : (d c : Due) (ds : List Due) → IsDue d ds → same_due c d ≡ false → IsDue d (without c ds)
 due_stays d c [] h n = absurd h
 due_stays d c (x ∷ ds) (inl e) n = rw (subst (λ (y : Due). same_due c y ≡ false) (sym e) n) (inl e)
 due_stays d c (x ∷ ds) (inr h) n = elim (cases_Bool (same_due c x)) [
@@ -103,110 +90,134 @@ due_stays d c (x ∷ ds) (inr h) n = elim (cases_Bool (same_due c x)) [
   | inr f ↦ rw f (inr (due_stays d c ds h n))
 ]
 
-due_pushed : (d : Due) (ds : List Due) (c : Due) → IsDue d ds → IsDue d (ds ++ c ∷ [])
+pub due_pushed : (d : Due) (ds : List Due) (c : Due) → IsDue d ds → IsDue d (ds ++ c ∷ [])
 due_pushed d [] c h = absurd h
 due_pushed d (x ∷ ds) c (inl e) = inl e
 due_pushed d (x ∷ ds) c (inr h) = inr (due_pushed d ds c h)
 
-due_last : (ds : List Due) (d : Due) → IsDue d (ds ++ d ∷ [])
+pub due_last : (ds : List Due) (d : Due) → IsDue d (ds ++ d ∷ [])
 due_last [] d = inl refl
 due_last (x ∷ ds) d = inr (due_last ds d)
 
-due_sent : (d : Due) (y : Option ℕ) (q : ℕ) (t : ℚ) (ds : List Due) → IsDue d ds → IsDue d (sent y q t ds)
-due_sent d None q t ds h = h
-due_sent d (Some b) q t ds h = due_pushed d ds record { packet = q; server = b; time = t } h
+-- ---- what is due within the run reaches its server
+due_sent : (d : Due) (ss : List ℕ) (q : ℕ) (t : ℚ) (ds : List Due) → IsDue d ds → IsDue d (sent_to ss q t ds)
+due_sent d [] q t ds h = h
+due_sent d (b ∷ ss) q t ds h =
+    let c : Due = record { packet = q; server = b; time = t } in
+    due_sent d ss q t (ds ++ c ∷ []) (due_pushed d ds c h)
 
-found : (net : Routes) (end : ℚ) (r : RunState) (xs : List Step) (s q : ℕ) (t : ℚ) (d : Due) (e : Entry)
-    → AllAllowedInRun net end (next_run net r (Reach s q t)) xs
-    → All (λ (c : Due). end <ℚ c.time) (after_run net (next_run net r (Reach s q t)) xs).due → Knows r d.packet e
-    → d ≡ record { packet = q; server = s; time = t } → Comes net end r (Reach s q t ∷ xs) d.server d.packet e d.time
-found net end r xs s q t d e a late k same =
-    subst (λ (c : Due). Comes net end r (Reach s q t ∷ xs) c.server c.packet e c.time) (sym same) record {
-      state = next_run net r (Reach s q t);
+due_new : (b q : ℕ) (t : ℚ) (ss : List ℕ) (ds : List Due) → 1 ≤ count_of b ss → IsDue record { packet = q; server = b; time = t } (sent_to ss q t ds)
+due_new b q t [] ds h = absurd (omega arith)
+due_new b q t (y ∷ ss) ds h =
+    let c : Due = record { packet = q; server = y; time = t } in
+    elim (cases_Bool (y == b)) [
+      | inl e ↦
+          subst (λ (k : ℕ). IsDue record { packet = q; server = k; time = t } (sent_to ss q t (ds ++ c ∷ []))) (eqb-true y b e)
+          (due_sent c ss q t (ds ++ c ∷ []) (due_last ds c))
+      | inr e ↦
+          let more : 1 ≤ 0 + count_of b ss = rw e at h in
+          due_new b q t ss (ds ++ c ∷ []) (omega arith)
+    ]
+
+found : (net : Routes) (to : NextServers) (end : ℚ) (r : RunState) (xs : List Step) (s q : ℕ) (t : ℚ) (d : Due) (e : Entry)
+    → AllAllowedBy net to end (next_run_by net to r (Reach s q t)) xs
+    → All (λ (c : Due). end <ℚ c.time) (after_run_by net to (next_run_by net to r (Reach s q t)) xs).due → Knows r d.packet e
+    → d ≡ record { packet = q; server = s; time = t } → ComesBy net to end r (Reach s q t ∷ xs) d.server d.packet e d.time
+found net to end r xs s q t d e a late k same =
+    subst (λ (c : Due). ComesBy net to end r (Reach s q t ∷ xs) c.server c.packet e c.time) (sym same) record {
+      state = next_run_by net to r (Reach s q t);
       rest = xs;
       allowed = a;
       late = late;
-      knows = subst (λ (c : Due). Knows (next_run net r (Reach s q t)) c.packet e) same (knows_next net r (Reach s q t) d.packet e k);
+      knows = subst (λ (c : Due). Knows (next_run_by net to r (Reach s q t)) c.packet e) same (knows_next_by net to r (Reach s q t) d.packet e k);
       card = card_of net r.entered q s;
       packet = refl;
       flow = ap (λ (x : Entry). x.flow) (subst (λ (c : Due). entry_of r.entered c.packet ≡ e) same k.is);
       front = [];
       joined = rw (eq-eqb s s refl) refl;
-      since = since_next net r (Reach s q t) xs;
+      since = since_next_by net to r (Reach s q t) xs;
     }
 
-reached : (net : Routes) (end : ℚ) (r : RunState) (xs : List Step) (d : Due) (e : Entry) → AllAllowedInRun net end r xs
-    → All (λ (c : Due). end <ℚ c.time) (after_run net r xs).due → Knows r d.packet e → d.time ≤ℚ end → IsDue d r.due
-    → Comes net end r xs d.server d.packet e d.time
-reached net end r [] d e a late k l h =
+-- one step on
+one_on : (net : Routes) (to : NextServers) (end : ℚ) (r : RunState) (x : Step) (xs : List Step) (s p : ℕ) (e : Entry) (u : ℚ)
+    → ComesBy net to end (next_run_by net to r x) xs s p e u → ComesBy net to end r (x ∷ xs) s p e u
+one_on net to end r x xs s p e u c = comes_since_by net to end r (x ∷ xs) (next_run_by net to r x) xs s p e u (since_next_by net to r x xs) c
+
+reached : (net : Routes) (to : NextServers) (end : ℚ) (r : RunState) (xs : List Step) (d : Due) (e : Entry) → AllAllowedBy net to end r xs
+    → All (λ (c : Due). end <ℚ c.time) (after_run_by net to r xs).due → Knows r d.packet e → d.time ≤ℚ end → IsDue d r.due
+    → ComesBy net to end r xs d.server d.packet e d.time
+reached net to end r [] d e a late k l h =
     let m = due_late end d r.due h late in
     absurd (with2 d.time end (λ c. omega (arith, c.le, c.lt, c.same)))
-reached net end r (Enter f q t b ∷ xs) d e a late k l h =
-    comes_since net end r (Enter f q t b ∷ xs) (next_run net r (Enter f q t b)) xs d.server d.packet e d.time (since_next net r (Enter f q t b) xs) (reached net end (next_run net r (Enter f q t b)) xs d e a.1 late (knows_next net r (Enter f q t b) d.packet e k) l h)
-reached net end r (Work s q c b w ∷ xs) d e a late k l h =
-    comes_since net end r (Work s q c b w ∷ xs) (next_run net r (Work s q c b w)) xs d.server d.packet e d.time (since_next net r (Work s q c b w) xs) (reached net end (next_run net r (Work s q c b w)) xs d e a.1 late (knows_next net r (Work s q c b w) d.packet e k) l h)
-reached net end r (Visit s q t ∷ xs) d e a late k l h =
-    comes_since net end r (Visit s q t ∷ xs) (next_run net r (Visit s q t)) xs d.server d.packet e d.time (since_next net r (Visit s q t) xs) (reached net end (next_run net r (Visit s q t)) xs d e a.1 late (knows_next net r (Visit s q t) d.packet e k) l h)
-reached net end r (Leave s q t ∷ xs) d e a late k l h =
-    comes_since net end r (Leave s q t ∷ xs) (next_run net r (Leave s q t)) xs d.server d.packet e d.time (since_next net r (Leave s q t) xs) (reached net end (next_run net r (Leave s q t)) xs d e a.1 late (knows_next net r (Leave s q t) d.packet e k) l
-    (due_sent d (server_after s (hops_of net r.entered q)) q (t +ℚ link_at net s) r.due h))
-reached net end r (Reach s q t ∷ xs) d e a late k l h = elim (cases_Bool (same_due record { packet = q; server = s; time = t } d)) [
-  | inl f ↦ found net end r xs s q t d e a.1 late k (same_is record { packet = q; server = s; time = t } d f)
+reached net to end r (Enter f q t b ∷ xs) d e a late k l h =
+    one_on net to end r (Enter f q t b) xs d.server d.packet e d.time (reached net to end (next_run_by net to r (Enter f q t b)) xs d e a.1 late (knows_next_by net to r (Enter f q t b) d.packet e k) l h)
+reached net to end r (Work s q c b w ∷ xs) d e a late k l h =
+    one_on net to end r (Work s q c b w) xs d.server d.packet e d.time (reached net to end (next_run_by net to r (Work s q c b w)) xs d e a.1 late (knows_next_by net to r (Work s q c b w) d.packet e k) l h)
+reached net to end r (Visit s q t ∷ xs) d e a late k l h =
+    one_on net to end r (Visit s q t) xs d.server d.packet e d.time (reached net to end (next_run_by net to r (Visit s q t)) xs d e a.1 late (knows_next_by net to r (Visit s q t) d.packet e k) l h)
+reached net to end r (Leave s q t ∷ xs) d e a late k l h =
+    one_on net to end r (Leave s q t) xs d.server d.packet e d.time (reached net to end (next_run_by net to r (Leave s q t)) xs d e a.1 late (knows_next_by net to r (Leave s q t) d.packet e k) l
+    (due_sent d (to (entry_of r.entered q).flow s) q (t +ℚ link_at net s) r.due h))
+reached net to end r (Reach s q t ∷ xs) d e a late k l h = elim (cases_Bool (same_due record { packet = q; server = s; time = t } d)) [
+  | inl f ↦ found net to end r xs s q t d e a.1 late k (same_is record { packet = q; server = s; time = t } d f)
   | inr f ↦
-      comes_since net end r (Reach s q t ∷ xs) (next_run net r (Reach s q t)) xs d.server d.packet e d.time (since_next net r (Reach s q t) xs) (reached net end (next_run net r (Reach s q t)) xs d e a.1 late (knows_next net r (Reach s q t) d.packet e k) l
+      one_on net to end r (Reach s q t) xs d.server d.packet e d.time (reached net to end (next_run_by net to r (Reach s q t)) xs d e a.1 late (knows_next_by net to r (Reach s q t) d.packet e k) l
       (due_stays d record { packet = q; server = s; time = t } r.due h f))
 ]
 
--- ---- from one server to the next, or up to the end
-abbrev pub Onward : Routes → ℚ → RunState → List Step → ℕ → ℕ → ℕ → Entry → Type 0
-Onward net end r xs a b p e =
+-- ---- from one server to a next, or up to the end
+abbrev pub OnwardBy : Routes → NextServers → ℚ → RunState → List Step → ℕ → ℕ → ℕ → Entry → Type 0
+OnwardBy net to end r xs a b p e =
     (end ≤ℚ gone_at end p (view_from net a r.entered xs) +ℚ link_at net a)
-    ⊎ Comes net end r xs b p e (gone_at end p (view_from net a r.entered xs) +ℚ link_at net a)
+    ⊎ ComesBy net to end r xs b p e (gone_at end p (view_from net a r.entered xs) +ℚ link_at net a)
 
-skip : (net : Routes) (end : ℚ) (r : RunState) (x : Step) (xs : List Step) (a b p : ℕ) (e : Entry)
+skip : (net : Routes) (to : NextServers) (end : ℚ) (r : RunState) (x : Step) (xs : List Step) (a b p : ℕ) (e : Entry)
     → gone_at end p (view_from net a r.entered (x ∷ xs)) ≡ gone_at end p (view_from net a (entered_after r.entered x) xs)
-    → Onward net end (next_run net r x) xs a b p e → Onward net end r (x ∷ xs) a b p e
-skip net end r x xs a b p e same (inl l) = inl (subst (λ (g : ℚ). end ≤ℚ g +ℚ link_at net a) (sym same) l)
-skip net end r x xs a b p e same (inr c) =
-    inr (subst (λ (g : ℚ). Comes net end r (x ∷ xs) b p e (g +ℚ link_at net a)) (sym same) (comes_since net end r (x ∷ xs) (next_run net r x) xs b p e (gone_at end p (view_from net a (entered_after r.entered x) xs) +ℚ link_at net a) (since_next net r x xs) c))
+    → OnwardBy net to end (next_run_by net to r x) xs a b p e → OnwardBy net to end r (x ∷ xs) a b p e
+skip net to end r x xs a b p e same (inl l) = inl (subst (λ (g : ℚ). end ≤ℚ g +ℚ link_at net a) (sym same) l)
+skip net to end r x xs a b p e same (inr c) =
+    inr (subst (λ (g : ℚ). ComesBy net to end r (x ∷ xs) b p e (g +ℚ link_at net a)) (sym same) (one_on net to end r x xs b p e (gone_at end p (view_from net a (entered_after r.entered x) xs) +ℚ link_at net a) c))
 
 -- where it leaves
-leaves_now : (net : Routes) (end : ℚ) (r : RunState) (xs : List Step) (a b p s q : ℕ) (t : ℚ) (e : Entry)
-    → AllAllowedInRun net end (next_run net r (Leave s q t)) xs
-    → All (λ (c : Due). end <ℚ c.time) (after_run net (next_run net r (Leave s q t)) xs).due → Knows r p e
-    → server_after a (route_of net e.flow).hops ≡ Some b → s ≡ a → q ≡ p
-    → (end ≤ℚ t +ℚ link_at net a) ⊎ Comes net end r (Leave s q t ∷ xs) b p e (t +ℚ link_at net a)
-leaves_now net end r xs a b p s q t e al late k goes here it = elim (le_or_lt end (t +ℚ link_at net a)) [
+leaves_now : (net : Routes) (to : NextServers) (end : ℚ) (r : RunState) (xs : List Step) (a b p s q : ℕ) (t : ℚ) (e : Entry)
+    → AllAllowedBy net to end (next_run_by net to r (Leave s q t)) xs
+    → All (λ (c : Due). end <ℚ c.time) (after_run_by net to (next_run_by net to r (Leave s q t)) xs).due → Knows r p e
+    → 1 ≤ count_of b (to e.flow a) → s ≡ a → q ≡ p
+    → (end ≤ℚ t +ℚ link_at net a) ⊎ ComesBy net to end r (Leave s q t ∷ xs) b p e (t +ℚ link_at net a)
+leaves_now net to end r xs a b p s q t e al late k goes here it = elim (le_or_lt end (t +ℚ link_at net a)) [
   | inl l ↦ inl l
   | inr l ↦
       let d : Due = record { packet = p; server = b; time = t +ℚ link_at net a } in
-      let to : server_after s (hops_of net r.entered q) ≡ Some b = ap (λ (j : ℕ). server_after j (hops_of net r.entered q)) here ∙ ap (λ (j : ℕ). server_after a (hops_of net r.entered j)) it ∙ ap (λ (x : Entry). server_after a (route_of net x.flow).hops) k.is ∙ goes in
-      let due : IsDue d (sent (server_after s (hops_of net r.entered q)) q (t +ℚ link_at net s) r.due) = rw (to, here, it) (due_last r.due d) in
-      inr (comes_since net end r (Leave s q t ∷ xs) (next_run net r (Leave s q t)) xs b p e (t +ℚ link_at net a) (since_next net r (Leave s q t) xs)
-      (reached net end (next_run net r (Leave s q t)) xs d e al late (knows_next net r (Leave s q t) p e k) (with2 (t +ℚ link_at net a) end (λ c. omega (arith, c.le, c.lt, c.same))) due))
+      let there : 1 ≤ count_of b (to (entry_of r.entered p).flow a) = subst (λ (x : Entry). 1 ≤ count_of b (to x.flow a)) (sym k.is) goes in
+      let due : IsDue d (sent_to (to (entry_of r.entered q).flow s) q (t +ℚ link_at net s) r.due) =
+      subst (λ (c : ℕ). IsDue d (sent_to (to (entry_of r.entered q).flow c) q (t +ℚ link_at net c) r.due)) (sym here)
+      (subst (λ (j : ℕ). IsDue d (sent_to (to (entry_of r.entered j).flow a) j (t +ℚ link_at net a) r.due)) (sym it)
+      (due_new b p (t +ℚ link_at net a) (to (entry_of r.entered p).flow a) r.due there)) in
+      inr (one_on net to end r (Leave s q t) xs b p e (t +ℚ link_at net a)
+      (reached net to end (next_run_by net to r (Leave s q t)) xs d e al late (knows_next_by net to r (Leave s q t) p e k) (with2 (t +ℚ link_at net a) end (λ c. omega (arith, c.le, c.lt, c.same))) due))
 ]
 
-pub onward : (net : Routes) (end : ℚ) (r : RunState) (xs : List Step) (a b p : ℕ) (e : Entry) → AllAllowedInRun net end r xs
-    → All (λ (c : Due). end <ℚ c.time) (after_run net r xs).due → Knows r p e → server_after a (route_of net e.flow).hops ≡ Some b
-    → int (pos 0) ≤ℚ link_at net a → Onward net end r xs a b p e
-onward net end r [] a b p e al late k goes on = inl (with2 end (link_at net a) (λ c. omega (arith, c.le, c.lt, c.same)))
-onward net end r (Enter f q t c ∷ xs) a b p e al late k goes on =
-    skip net end r (Enter f q t c) xs a b p e (gone_other net end a p r.entered (Enter f q t c) xs refl) (onward net end (next_run net r (Enter f q t c)) xs a b p e al.1 late (knows_next net r (Enter f q t c) p e k) goes on)
-onward net end r (Reach s q t ∷ xs) a b p e al late k goes on =
-    skip net end r (Reach s q t) xs a b p e (gone_other net end a p r.entered (Reach s q t) xs refl) (onward net end (next_run net r (Reach s q t)) xs a b p e al.1 late (knows_next net r (Reach s q t) p e k) goes on)
-onward net end r (Work s q c d w ∷ xs) a b p e al late k goes on =
-    skip net end r (Work s q c d w) xs a b p e (gone_other net end a p r.entered (Work s q c d w) xs refl) (onward net end (next_run net r (Work s q c d w)) xs a b p e al.1 late (knows_next net r (Work s q c d w) p e k) goes on)
-onward net end r (Visit s q t ∷ xs) a b p e al late k goes on =
-    skip net end r (Visit s q t) xs a b p e (gone_other net end a p r.entered (Visit s q t) xs refl) (onward net end (next_run net r (Visit s q t)) xs a b p e al.1 late (knows_next net r (Visit s q t) p e k) goes on)
-onward net end r (Leave s q t ∷ xs) a b p e al late k goes on =
-    let rest = onward net end (next_run net r (Leave s q t)) xs a b p e al.1 late (knows_next net r (Leave s q t) p e k) goes on in
+pub onward_by : (net : Routes) (to : NextServers) (end : ℚ) (r : RunState) (xs : List Step) (a b p : ℕ) (e : Entry) → AllAllowedBy net to end r xs
+    → All (λ (c : Due). end <ℚ c.time) (after_run_by net to r xs).due → Knows r p e → 1 ≤ count_of b (to e.flow a)
+    → int (pos 0) ≤ℚ link_at net a → OnwardBy net to end r xs a b p e
+onward_by net to end r [] a b p e al late k goes on = inl (with2 end (link_at net a) (λ c. omega (arith, c.le, c.lt, c.same)))
+onward_by net to end r (Enter f q t c ∷ xs) a b p e al late k goes on =
+    skip net to end r (Enter f q t c) xs a b p e (gone_other net end a p r.entered (Enter f q t c) xs refl) (onward_by net to end (next_run_by net to r (Enter f q t c)) xs a b p e al.1 late (knows_next_by net to r (Enter f q t c) p e k) goes on)
+onward_by net to end r (Reach s q t ∷ xs) a b p e al late k goes on =
+    skip net to end r (Reach s q t) xs a b p e (gone_other net end a p r.entered (Reach s q t) xs refl) (onward_by net to end (next_run_by net to r (Reach s q t)) xs a b p e al.1 late (knows_next_by net to r (Reach s q t) p e k) goes on)
+onward_by net to end r (Work s q c d w ∷ xs) a b p e al late k goes on =
+    skip net to end r (Work s q c d w) xs a b p e (gone_other net end a p r.entered (Work s q c d w) xs refl) (onward_by net to end (next_run_by net to r (Work s q c d w)) xs a b p e al.1 late (knows_next_by net to r (Work s q c d w) p e k) goes on)
+onward_by net to end r (Visit s q t ∷ xs) a b p e al late k goes on =
+    skip net to end r (Visit s q t) xs a b p e (gone_other net end a p r.entered (Visit s q t) xs refl) (onward_by net to end (next_run_by net to r (Visit s q t)) xs a b p e al.1 late (knows_next_by net to r (Visit s q t) p e k) goes on)
+onward_by net to end r (Leave s q t ∷ xs) a b p e al late k goes on =
+    let rest = onward_by net to end (next_run_by net to r (Leave s q t)) xs a b p e al.1 late (knows_next_by net to r (Leave s q t) p e k) goes on in
     elim (cases_Bool (s == a)) [
-      | inr f ↦ skip net end r (Leave s q t) xs a b p e (rw f refl) rest
+      | inr f ↦ skip net to end r (Leave s q t) xs a b p e (rw f refl) rest
       | inl f ↦ elim (cases_Bool (q == p)) [
-        | inr g ↦ skip net end r (Leave s q t) xs a b p e (rw (f, g) refl) rest
+        | inr g ↦ skip net to end r (Leave s q t) xs a b p e (rw (f, g) refl) rest
         | inl g ↦
             let gone : gone_at end p (view_from net a r.entered (Leave s q t ∷ xs)) ≡ t = rw (f, g) refl in
-            subst (λ (x : ℚ). (end ≤ℚ x +ℚ link_at net a) ⊎ Comes net end r (Leave s q t ∷ xs) b p e (x +ℚ link_at net a)) (sym gone) (leaves_now net end r xs a b p s q t e al.1 late k goes (eqb-true s a f) (eqb-true q p g))
+            subst (λ (x : ℚ). (end ≤ℚ x +ℚ link_at net a) ⊎ ComesBy net to end r (Leave s q t ∷ xs) b p e (x +ℚ link_at net a)) (sym gone) (leaves_now net to end r xs a b p s q t e al.1 late k goes (eqb-true s a f) (eqb-true q p g))
       ]
     ]
 

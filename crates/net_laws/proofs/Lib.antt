@@ -1,9 +1,14 @@
+pub mod Views
+pub mod Dues
+pub mod FirstHop
 pub mod Links
+pub mod Once
 pub mod Paths
 pub mod Fifo
 pub mod Journeys
+pub mod Walks
 pub mod Ends
+pub mod PathRuns
 pub mod Sums
 pub mod Orders
 pub mod Queues
-pub mod Once

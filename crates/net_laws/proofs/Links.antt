@@ -1,5 +1,5 @@
--- What arrives at the next server of a flow's path is what left the server before, a link's time ago.
-use Rattle.std.specs.Prelude.{Option, Some, None, ◌≡◌, ◌≢◌, ◌<◌, ℕ, zero, suc, pos, ◌==◌, Bool, true, false, ◌&&◌, List, [], ◌∷◌, ◌++◌, length, slice_index_or, All}
+-- What arrives of a flow at a next server is what left the server before, a link's time ago.
+use Rattle.std.specs.Prelude.{◌≡◌, ◌≢◌, ◌<◌, ℕ, zero, suc, pos, ◌==◌, Bool, true, false, ◌&&◌, List, [], ◌∷◌, ◌++◌, length, slice_index_or, All, ◌+◌}
 use Rattle.std.proofs.Common.{arith, sym, ap, ◌∙◌, refl, inl, inr, subst}
 use Rattle.std.proofs.lemmas.Bool.{cases_Bool, cases_eq, eqb-true, eq-eqb, ne_eqb, and_parts, and_left, and_right}
 use Rattle.rational.specs.Rational.{ℚ, int, ◌+ℚ◌, ◌-ℚ◌, ◌≤ℚ◌, ◌<ℚ◌, le_q, lt_q}
@@ -16,15 +16,16 @@ use Rattle.run_laws.specs.Runs.{SpecRun}
 use Rattle.run_laws.specs.Cards.{size, whole, of_flow, ServerStep, Arrives, Works, Leaves, Visits}
 use Rattle.run_laws.specs.Counts.{when, total, arrives, leaves, before, arrived, departed, within, arrived_in, departed_in}
 use Rattle.run_laws.specs.Premises.{KeepsArrivals}
-use Rattle.run_laws.specs.Routes.{Routes, route_of, link_at, first_server, server_after}
-use Rattle.run_laws.specs.Views.{Entry, entry_of, hops_of, entered_after, server_of, seen, view_from, view}
-use Rattle.run_laws.specs.Lawful.{Due, RunState, same_due, without, sent, next_due, next_run, IsKnown, AllAllowedInRun, after_run, run_start, IsLawful}
+use Rattle.run_laws.specs.Routes.{Routes, route_of, link_at, first_server}
+use Rattle.run_laws.specs.Views.{Entry, entry_of, entered_after, server_of, seen, view_from, view}
+use Rattle.run_laws.specs.Lawful.{Due, RunState, same_due, without, IsKnown, run_start}
 use Rattle.run_laws.proofs.Sizes.{whole_nonneg}
-use Rattle.run_laws.proofs.Heads.{same_some}
 use Rattle.run_laws.proofs.Sums.{when_true, when_false, when_none, each_all, total_same, when_nonneg}
-use Rattle.run_laws.proofs.Entries.{same_due_self, entry_before, entry_last, EachDue, IsDueAfter, due_next}
+use Rattle.run_laws.proofs.Entries.{same_due_self, entry_before, entry_last, EachDue}
 use Rattle.run_laws.proofs.FirstHop.{at_server}
-use Rattle.net_laws.specs.Laws.{IsLink}
+use Rattle.run_laws.specs.Rounds.{count_of}
+use Rattle.net_laws.specs.Multicast.{NextServers, sent_to, next_due_by, next_run_by, AllAllowedBy, after_run_by, IsLawfulBy, IsArc}
+use Rattle.net_laws.proofs.Dues.{IsDueBy, due_next_by}
 
 -- the bits of flow i that are due at server b, at times that pass the test
 abbrev pub due_term : List Entry → ℕ → ℕ → (ℚ → Bool) → Due → ℚ
@@ -33,11 +34,6 @@ due_term entered i b p d = when (((entry_of entered d.packet).flow == i) && ((d.
 abbrev pub due_bits : List Entry → ℕ → ℕ → (ℚ → Bool) → List Due → ℚ
 due_bits entered i b p [] = int (pos 0)
 due_bits entered i b p (d ∷ ds) = due_term entered i b p d +ℚ due_bits entered i b p ds
-
-due_stable : (net : Routes) (entered : List Entry) (e : Entry) (i b : ℕ) (p : ℚ → Bool) (ds : List Due)
-    → EachDue (IsDueAfter net entered) ds → due_bits (entered ++ e ∷ []) i b p ds ≡ due_bits entered i b p ds
-due_stable net entered e i b p [] h = refl
-due_stable net entered e i b p (d ∷ ds) h = rw (entry_before entered e d.packet h.0.has_entered, due_stable net entered e i b p ds h.1) refl
 
 -- ---- one entry is taken out
 make_due : ℕ → ℕ → ℚ → Due
@@ -54,7 +50,7 @@ same_is d e h =
     let time : e.time ≡ d.time = antisym (le_q_in e.time d.time c.1, le_q_in d.time e.time c.0) in
     ap (λ (x : ℕ). make_due x e.server e.time) packet ∙ ap (λ (x : ℕ). make_due d.packet x e.time) server ∙ ap (λ (x : ℚ). make_due d.packet d.server x) time
 
-due_without : (entered : List Entry) (i b : ℕ) (p : ℚ → Bool) (ds : List Due) (d : Due) (k : ℕ) → k < length ds → slice_index_or ds k d ≡ d
+pub due_without : (entered : List Entry) (i b : ℕ) (p : ℚ → Bool) (ds : List Due) (d : Due) (k : ℕ) → k < length ds → slice_index_or ds k d ≡ d
     → due_bits entered i b p (without d ds) +ℚ due_term entered i b p d ≡ due_bits entered i b p ds
 due_without entered i b p [] d k l e = absurd (omega arith)
 due_without entered i b p (c ∷ ds) d zero l e =
@@ -69,14 +65,14 @@ due_without entered i b p (c ∷ ds) d (suc k) l e =
       | inr f ↦ rw f (with4 (due_term entered i b p c) (due_bits entered i b p (without d ds)) (due_term entered i b p d) (due_bits entered i b p ds) (λ c. omega (arith, c.le, c.lt, c.same)))
     ]
 
-due_push : (entered : List Entry) (i b : ℕ) (p : ℚ → Bool) (ds : List Due) (d : Due)
+pub due_push : (entered : List Entry) (i b : ℕ) (p : ℚ → Bool) (ds : List Due) (d : Due)
     → due_bits entered i b p (ds ++ d ∷ []) ≡ due_bits entered i b p ds +ℚ due_term entered i b p d
 due_push entered i b p [] d = with1 (due_term entered i b p d) (λ c. omega (arith, c.le, c.lt, c.same))
 due_push entered i b p (c ∷ ds) d =
     let h = due_push entered i b p ds d in
     with4 (due_term entered i b p c) (due_bits entered i b p ds) (due_term entered i b p d) (due_bits entered i b p (ds ++ d ∷ [])) (λ c. omega (arith, c.le, c.lt, c.same))
 
-when_when : (x y z : Bool) (v : ℚ) → when x (when (y && z) v) ≡ when (y && (x && z)) v
+pub when_when : (x y z : Bool) (v : ℚ) → when x (when (y && z) v) ≡ when (y && (x && z)) v
 unfolding when
 when_when true true z v = refl
 when_when true false z v = refl
@@ -87,7 +83,7 @@ when_when false false z v = refl
 abbrev pub moved_test : Routes → ℕ → (ℚ → Bool) → ℚ → Bool
 moved_test net a p u = p (u +ℚ link_at net a)
 
-enter_none : (net : Routes) (i b f q : ℕ) (t : ℚ) (bits : ℕ) (entered : List Entry) (p : ℚ → Bool) → first_server (route_of net i).hops ≢ b
+pub enter_none : (net : Routes) (i b f q : ℕ) (t : ℚ) (bits : ℕ) (entered : List Entry) (p : ℚ → Bool) → first_server (route_of net i).hops ≢ b
     → q ≡ length entered
     → when (first_server (route_of net f).hops == b) (arrives (of_flow i) p (seen net entered (Enter f q t bits))) ≡ int (pos 0)
 enter_none net i b f q t bits entered p n e =
@@ -102,74 +98,122 @@ enter_none net i b f q t bits entered p n e =
           ap (when (first_server (route_of net f).hops == b)) (when_false _ _ (and_left _ (p t) other)) ∙ when_none (first_server (route_of net f).hops == b)
     ]
 
-leave_sent : (net : Routes) (i a b s q : ℕ) (t : ℚ) (entered : List Entry) (p : ℚ → Bool) (due : List Due) (y : Option ℕ)
-    → IsLink net i a b → server_after s (hops_of net entered q) ≡ y
-    → when (s == a) (when (((entry_of entered q).flow == i) && p (t +ℚ link_at net a)) (whole (entry_of entered q).bits)) +ℚ due_bits entered i b p due ≡ due_bits entered i b p (sent y q (t +ℚ link_at net s) due)
-leave_sent net i a b s q t entered p due None k e = elim (cases_eq (entry_of entered q).flow i) [
-  | inr f ↦
-      let z = ap (when (s == a)) (when_false _ (whole (entry_of entered q).bits) (and_left _ (p (t +ℚ link_at net a)) (ne_eqb (entry_of entered q).flow i f))) ∙ when_none (s == a) in
-      with2 (when (s == a) (when (((entry_of entered q).flow == i) && p (t +ℚ link_at net a)) (whole (entry_of entered q).bits))) (due_bits entered i b p due) (λ c. omega (arith, c.le, c.lt, c.same))
-  | inl f ↦
-      let z = when_false (s == a) (when (((entry_of entered q).flow == i) && p (t +ℚ link_at net a)) (whole (entry_of entered q).bits)) (ne_eqb s a (λ g.
-      let w : None ≡ Some b = sym e ∙ ap (λ (j : ℕ). server_after s (route_of net j).hops) f ∙ ap (λ (c : ℕ). server_after c (route_of net i).hops) g ∙ k.next in absurd (cc))) in
-      with2 (when (s == a) (when (((entry_of entered q).flow == i) && p (t +ℚ link_at net a)) (whole (entry_of entered q).bits))) (due_bits entered i b p due) (λ c. omega (arith, c.le, c.lt, c.same))
-]
-leave_sent net i a b s q t entered p due (Some r) k e =
-    let d : Due = record { packet = q; server = r; time = t +ℚ link_at net s } in
-    let push = due_push entered i b p due d in
-    let same : when (s == a) (when (((entry_of entered q).flow == i) && p (t +ℚ link_at net a)) (whole (entry_of entered q).bits)) ≡ due_term entered i b p d =
-    elim (cases_eq (entry_of entered q).flow i) [
-      | inr f ↦
-          let n = ne_eqb (entry_of entered q).flow i f in
-          ap (when (s == a)) (when_false _ (whole (entry_of entered q).bits) (and_left _ (p (t +ℚ link_at net a)) n)) ∙ when_none (s == a) ∙ sym (when_false _ (whole (entry_of entered q).bits) (and_left _ ((r == b) && p (t +ℚ link_at net s)) n))
-      | inl f ↦
-          let goes : server_after s (route_of net i).hops ≡ Some r = sym (ap (λ (j : ℕ). server_after s (route_of net j).hops) f) ∙ e in
-          let y = eq-eqb (entry_of entered q).flow i f in
-          elim (cases_eq r b) [
-            | inl g ↦
-                let from : s ≡ a = k.only s (goes ∙ ap (λ (c : ℕ). Some c) g) in
-                rw (y, eq-eqb s a from, eq-eqb r b g, from, when_true true (when (p (t +ℚ link_at net a)) (whole (entry_of entered q).bits)) refl) refl
-            | inr g ↦
-                let n : (s == a) ≡ false = ne_eqb s a (λ h. let w : Some r ≡ Some b = sym goes ∙ ap (λ (c : ℕ). server_after c (route_of net i).hops) h ∙ k.next in g (same_some r b w)) in
-                when_false (s == a) _ n ∙ sym (when_false _ (whole (entry_of entered q).bits) (and_right ((entry_of entered q).flow == i) _ (and_left (r == b) (p (t +ℚ link_at net s)) (ne_eqb r b g))))
-          ]
-    ] in
-    with4 (when (s == a) (when (((entry_of entered q).flow == i) && p (t +ℚ link_at net a)) (whole (entry_of entered q).bits))) (due_bits entered i b p due) (due_term entered i b p d) (due_bits entered i b p (due ++ d ∷ [])) (λ c. omega (arith, c.le, c.lt, c.same))
+due_stable : (to : NextServers) (entered : List Entry) (e : Entry) (i b : ℕ) (p : ℚ → Bool) (ds : List Due)
+    → EachDue (IsDueBy to entered) ds → due_bits (entered ++ e ∷ []) i b p ds ≡ due_bits entered i b p ds
+due_stable to entered e i b p [] h = refl
+due_stable to entered e i b p (d ∷ ds) h = rw (entry_before entered e d.packet h.0.has_entered, due_stable to entered e i b p ds h.1) refl
 
-link_step : (net : Routes) (r : RunState) (x : Step) (i a b : ℕ) (p : ℚ → Bool) → IsLink net i a b → IsKnown net r x
-    → EachDue (IsDueAfter net r.entered) r.due
-    → when (server_of net x == a) (leaves (of_flow i) (moved_test net a p) (seen net r.entered x)) +ℚ due_bits r.entered i b p r.due ≡ when (server_of net x == b) (arrives (of_flow i) p (seen net r.entered x)) +ℚ due_bits (entered_after r.entered x) i b p (next_due net r x)
-link_step net r (Enter f q t bits) i a b p k known have =
+-- ---- a packet that leaves is due at each next server
+-- of another flow
+sent_other : (entered : List Entry) (i b q : ℕ) (p : ℚ → Bool) (t : ℚ) (ss : List ℕ) (due : List Due)
+    → ((entry_of entered q).flow == i) ≡ false → due_bits entered i b p (sent_to ss q t due) ≡ due_bits entered i b p due
+sent_other entered i b q p t [] due n = refl
+sent_other entered i b q p t (y ∷ ss) due n =
+    let d : Due = record { packet = q; server = y; time = t } in
+    let rest = sent_other entered i b q p t ss (due ++ d ∷ []) n in
+    let push = due_push entered i b p due d in
+    let none = when_false _ (whole (entry_of entered q).bits) (and_left ((entry_of entered q).flow == i) ((y == b) && p t) n) in
+    rest ∙ push ∙ with2 (due_bits entered i b p due) (due_term entered i b p d) (λ c. omega (arith, c.le, c.lt, c.same))
+
+-- at other servers
+sent_none : (entered : List Entry) (i b q : ℕ) (p : ℚ → Bool) (t : ℚ) (ss : List ℕ) (due : List Due)
+    → count_of b ss ≡ 0 → due_bits entered i b p (sent_to ss q t due) ≡ due_bits entered i b p due
+sent_none entered i b q p t [] due n = refl
+sent_none entered i b q p t (y ∷ ss) due n = elim (cases_Bool (y == b)) [
+  | inl e ↦ let k : 1 + count_of b ss ≡ 0 = rw e at n in absurd (omega arith)
+  | inr e ↦
+      let d : Due = record { packet = q; server = y; time = t } in
+      let k : 0 + count_of b ss ≡ 0 = rw e at n in
+      let rest = sent_none entered i b q p t ss (due ++ d ∷ []) (omega arith) in
+      let push = due_push entered i b p due d in
+      let none = when_false _ (whole (entry_of entered q).bits) (and_right ((entry_of entered q).flow == i) _ (and_left (y == b) (p t) e)) in
+      rest ∙ push ∙ with2 (due_bits entered i b p due) (due_term entered i b p d) (λ c. omega (arith, c.le, c.lt, c.same))
+]
+
+-- once at this one
+sent_once : (entered : List Entry) (i b q : ℕ) (p : ℚ → Bool) (t : ℚ) (ss : List ℕ) (due : List Due)
+    → count_of b ss ≡ 1
+    → due_bits entered i b p (sent_to ss q t due) ≡ due_bits entered i b p due +ℚ when (((entry_of entered q).flow == i) && p t) (whole (entry_of entered q).bits)
+sent_once entered i b q p t [] due n = absurd (omega arith)
+sent_once entered i b q p t (y ∷ ss) due n =
+    let d : Due = record { packet = q; server = y; time = t } in
+    let push = due_push entered i b p due d in
+    elim (cases_Bool (y == b)) [
+      | inl e ↦
+          let k : 1 + count_of b ss ≡ 1 = rw e at n in
+          let rest = sent_none entered i b q p t ss (due ++ d ∷ []) (omega arith) in
+          let same : due_term entered i b p d ≡ when (((entry_of entered q).flow == i) && p t) (whole (entry_of entered q).bits) = rw e refl in
+          rest ∙ push ∙ ap (λ (x : ℚ). due_bits entered i b p due +ℚ x) same
+      | inr e ↦
+          let k : 0 + count_of b ss ≡ 1 = rw e at n in
+          let rest = sent_once entered i b q p t ss (due ++ d ∷ []) (omega arith) in
+          let none = when_false _ (whole (entry_of entered q).bits) (and_right ((entry_of entered q).flow == i) _ (and_left (y == b) (p t) e)) in
+          rest ∙ ap (λ (x : ℚ). x +ℚ when (((entry_of entered q).flow == i) && p t) (whole (entry_of entered q).bits)) push ∙ with3 (due_bits entered i b p due) (due_term entered i b p d) (when (((entry_of entered q).flow == i) && p t) (whole (entry_of entered q).bits)) (λ c. omega (arith, c.le, c.lt, c.same))
+    ]
+
+leave_sent : (net : Routes) (to : NextServers) (i a b s q : ℕ) (t : ℚ) (entered : List Entry) (p : ℚ → Bool) (due : List Due)
+    → IsArc net to i a b
+    → when (s == a) (when (((entry_of entered q).flow == i) && p (t +ℚ link_at net a)) (whole (entry_of entered q).bits)) +ℚ due_bits entered i b p due
+    ≡ due_bits entered i b p (sent_to (to (entry_of entered q).flow s) q (t +ℚ link_at net s) due)
+leave_sent net to i a b s q t entered p due k = elim (cases_eq (entry_of entered q).flow i) [
+  | inr f ↦
+      let n = ne_eqb (entry_of entered q).flow i f in
+      let none = ap (when (s == a)) (when_false _ (whole (entry_of entered q).bits) (and_left _ (p (t +ℚ link_at net a)) n)) ∙ when_none (s == a) in
+      let sent = sent_other entered i b q p (t +ℚ link_at net s) (to (entry_of entered q).flow s) due n in
+      with3 (when (s == a) (when (((entry_of entered q).flow == i) && p (t +ℚ link_at net a)) (whole (entry_of entered q).bits))) (due_bits entered i b p due) (due_bits entered i b p (sent_to (to (entry_of entered q).flow s) q (t +ℚ link_at net s) due)) (λ c. omega (arith, c.le, c.lt, c.same))
+  | inl f ↦ elim (cases_eq s a) [
+    | inr g ↦
+        let none = when_false (s == a) (when (((entry_of entered q).flow == i) && p (t +ℚ link_at net a)) (whole (entry_of entered q).bits)) (ne_eqb s a g) in
+        let away : count_of b (to (entry_of entered q).flow s) ≡ 0 = ap (λ (j : ℕ). count_of b (to j s)) f ∙ k.only s g in
+        let sent = sent_none entered i b q p (t +ℚ link_at net s) (to (entry_of entered q).flow s) due away in
+        with3 (when (s == a) (when (((entry_of entered q).flow == i) && p (t +ℚ link_at net a)) (whole (entry_of entered q).bits))) (due_bits entered i b p due) (due_bits entered i b p (sent_to (to (entry_of entered q).flow s) q (t +ℚ link_at net s) due)) (λ c. omega (arith, c.le, c.lt, c.same))
+    | inl g ↦
+        let here = when_true (s == a) (when (((entry_of entered q).flow == i) && p (t +ℚ link_at net a)) (whole (entry_of entered q).bits)) (eq-eqb s a g) in
+        let once : count_of b (to (entry_of entered q).flow s) ≡ 1 = ap (λ (j : ℕ). count_of b (to j s)) f ∙ ap (λ (c : ℕ). count_of b (to i c)) g ∙ k.next in
+        let sent = sent_once entered i b q p (t +ℚ link_at net s) (to (entry_of entered q).flow s) due once in
+        let same : when (((entry_of entered q).flow == i) && p (t +ℚ link_at net s)) (whole (entry_of entered q).bits) ≡ when (((entry_of entered q).flow == i) && p (t +ℚ link_at net a)) (whole (entry_of entered q).bits) =
+        ap (λ (c : ℕ). when (((entry_of entered q).flow == i) && p (t +ℚ link_at net c)) (whole (entry_of entered q).bits)) g in
+        summed (when (s == a) (when (((entry_of entered q).flow == i) && p (t +ℚ link_at net a)) (whole (entry_of entered q).bits))) (when (((entry_of entered q).flow == i) && p (t +ℚ link_at net a)) (whole (entry_of entered q).bits)) (when (((entry_of entered q).flow == i) && p (t +ℚ link_at net s)) (whole (entry_of entered q).bits)) (due_bits entered i b p due) (due_bits entered i b p (sent_to (to (entry_of entered q).flow s) q (t +ℚ link_at net s) due)) here same sent
+  ]
+]
+  where
+    summed : (left at_a at_s due later : ℚ) → left ≡ at_a → at_s ≡ at_a → later ≡ due +ℚ at_s → left +ℚ due ≡ later
+    summed left at_a at_s due later e f g = with7 left at_a at_s due later left left (λ c. omega (arith, c.le, c.lt, c.same))
+
+link_step : (net : Routes) (to : NextServers) (r : RunState) (x : Step) (i a b : ℕ) (p : ℚ → Bool) → IsArc net to i a b → IsKnown net r x
+    → EachDue (IsDueBy to r.entered) r.due
+    → when (server_of net x == a) (leaves (of_flow i) (moved_test net a p) (seen net r.entered x)) +ℚ due_bits r.entered i b p r.due ≡ when (server_of net x == b) (arrives (of_flow i) p (seen net r.entered x)) +ℚ due_bits (entered_after r.entered x) i b p (next_due_by net to r x)
+link_step net to r (Enter f q t bits) i a b p k known have =
     let one = enter_none net i b f q t bits r.entered p k.not_first known.in_turn in
     let two = when_none (first_server (route_of net f).hops == a) in
-    let same = due_stable net r.entered record { flow = f; bits = bits } i b p r.due have in
+    let same = due_stable to r.entered record { flow = f; bits = bits } i b p r.due have in
     rw (two, one, same) refl
-link_step net r (Reach s q t) i a b p k known have =
+link_step net to r (Reach s q t) i a b p k known have =
     let d : Due = record { packet = q; server = s; time = t } in
     let (n, l, e) = known in
     let out = due_without r.entered i b p r.due d n l e in
     let one = when_none (s == a) in
     let two = when_when (s == b) ((entry_of r.entered q).flow == i) (p t) (whole (entry_of r.entered q).bits) in
     rw (one, two) (with3 (due_bits r.entered i b p r.due) (due_term r.entered i b p d) (due_bits r.entered i b p (without d r.due)) (λ c. omega (arith, c.le, c.lt, c.same)))
-link_step net r (Work s q c d w) i a b p k known have = rw (when_none (s == a), when_none (s == b)) refl
-link_step net r (Leave s q t) i a b p k known have =
-    let one = leave_sent net i a b s q t r.entered p r.due (server_after s (hops_of net r.entered q)) k refl in
-    rw (when_none (s == b), one) (with1 (due_bits r.entered i b p (sent (server_after s (hops_of net r.entered q)) q (t +ℚ link_at net s) r.due)) (λ c. omega (arith, c.le, c.lt, c.same)))
-link_step net r (Visit s q t) i a b p k known have = rw (when_none (s == a), when_none (s == b)) refl
+link_step net to r (Work s q c d w) i a b p k known have = rw (when_none (s == a), when_none (s == b)) refl
+link_step net to r (Leave s q t) i a b p k known have =
+    let one = leave_sent net to i a b s q t r.entered p r.due k in
+    rw (when_none (s == b), one) (with1 (due_bits r.entered i b p (sent_to (to (entry_of r.entered q).flow s) q (t +ℚ link_at net s) r.due)) (λ c. omega (arith, c.le, c.lt, c.same)))
+link_step net to r (Visit s q t) i a b p k known have = rw (when_none (s == a), when_none (s == b)) refl
 
 -- along a run: what left a, moved by the link, is what arrived at b and what is still due there
-pub link_counts : (net : Routes) (end : ℚ) (r : RunState) (xs : List Step) (i a b : ℕ) (p : ℚ → Bool) → IsLink net i a b
-    → AllAllowedInRun net end r xs → EachDue (IsDueAfter net r.entered) r.due
-    → total (leaves (of_flow i) (moved_test net a p)) (view_from net a r.entered xs) +ℚ due_bits r.entered i b p r.due ≡ total (arrives (of_flow i) p) (view_from net b r.entered xs) +ℚ due_bits (after_run net r xs).entered i b p (after_run net r xs).due
-link_counts net end r [] i a b p k h have = refl
-link_counts net end r (x ∷ xs) i a b p k h have =
-    let s = next_run net r x in
-    let rest = link_counts net end s xs i a b p k h.1 (due_next net r x h.0.known have) in
-    let one = link_step net r x i a b p k h.0.known have in
+link_counts : (net : Routes) (to : NextServers) (end : ℚ) (r : RunState) (xs : List Step) (i a b : ℕ) (p : ℚ → Bool) → IsArc net to i a b
+    → AllAllowedBy net to end r xs → EachDue (IsDueBy to r.entered) r.due
+    → total (leaves (of_flow i) (moved_test net a p)) (view_from net a r.entered xs) +ℚ due_bits r.entered i b p r.due ≡ total (arrives (of_flow i) p) (view_from net b r.entered xs) +ℚ due_bits (after_run_by net to r xs).entered i b p (after_run_by net to r xs).due
+link_counts net to end r [] i a b p k h have = refl
+link_counts net to end r (x ∷ xs) i a b p k h have =
+    let s = next_run_by net to r x in
+    let rest = link_counts net to end s xs i a b p k h.1 (due_next_by net to r x h.0.known have) in
+    let one = link_step net to r x i a b p k h.0.known have in
     let at_a = at_server (leaves (of_flow i) (moved_test net a p)) net a r.entered x xs in
     let at_b = at_server (arrives (of_flow i) p) net b r.entered x xs in
     rw (at_a, at_b) (summed (when (server_of net x == a) (leaves (of_flow i) (moved_test net a p) (seen net r.entered x))) (total (leaves (of_flow i) (moved_test net a p)) (view_from net a (entered_after r.entered x) xs)) (due_bits r.entered i b p r.due)
-    (when (server_of net x == b) (arrives (of_flow i) p (seen net r.entered x))) (total (arrives (of_flow i) p) (view_from net b (entered_after r.entered x) xs)) (due_bits (entered_after r.entered x) i b p (next_due net r x)) (due_bits (after_run net s xs).entered i b p (after_run net s xs).due) one rest)
+    (when (server_of net x == b) (arrives (of_flow i) p (seen net r.entered x))) (total (arrives (of_flow i) p) (view_from net b (entered_after r.entered x) xs)) (due_bits (entered_after r.entered x) i b p (next_due_by net to r x)) (due_bits (after_run_by net to s xs).entered i b p (after_run_by net to s xs).due) one rest)
   where
     summed : (left left_later due arrived arrived_later due_later due_end : ℚ) → left +ℚ due ≡ arrived +ℚ due_later
         → left_later +ℚ due_later ≡ arrived_later +ℚ due_end
@@ -177,8 +221,8 @@ link_counts net end r (x ∷ xs) i a b p k h have =
     summed left left_later due arrived arrived_later due_later due_end e f =
         with7 left left_later due arrived arrived_later due_later due_end (λ c. omega (arith, c.le, c.lt, c.same))
 
--- ---- of a lawful run
-due_none : (entered : List Entry) (i b : ℕ) (end t : ℚ) (ds : List Due) → t ≤ℚ end → All (λ (d : Due). end <ℚ d.time) ds
+-- ---- at the end of a lawful run nothing is due before it
+pub due_none : (entered : List Entry) (i b : ℕ) (end t : ℚ) (ds : List Due) → t ≤ℚ end → All (λ (d : Due). end <ℚ d.time) ds
     → due_bits entered i b (before t) ds ≡ int (pos 0)
 due_none entered i b end t [] l h = refl
 due_none entered i b end t (d ∷ ds) l h =
@@ -198,20 +242,21 @@ same_moved D t u = elim (le_or_lt (t -ℚ D) u) [
       lt_q_out _ _ k ∙ sym (lt_q_out _ _ h)
 ]
 
-leaves_moved : (net : Routes) (i a : ℕ) (t : ℚ) (x : ServerStep)
+pub leaves_moved : (net : Routes) (i a : ℕ) (t : ℚ) (x : ServerStep)
     → leaves (of_flow i) (moved_test net a (before t)) x ≡ leaves (of_flow i) (before (t -ℚ link_at net a)) x
 leaves_moved net i a t (Arrives c u) = refl
 leaves_moved net i a t (Works c d b w) = refl
 leaves_moved net i a t (Leaves c u) = ap (λ (k : Bool). when ((c.flow == i) && k) (size c)) (same_moved (link_at net a) t u)
 leaves_moved net i a t (Visits q u) = refl
 
-pub link_carries : (net : Routes) (run : SpecRun) (i a b : ℕ) (t : ℚ) → IsLawful net run → IsLink net i a b → t ≤ℚ run.end
+pub arc_carries : (net : Routes) (to : NextServers) (run : SpecRun) (i a b : ℕ) (t : ℚ) → IsLawfulBy net to run → IsArc net to i a b → t ≤ℚ run.end
     → arrived (of_flow i) (view net run b) t ≡ departed (of_flow i) (view net run a) (t -ℚ link_at net a)
-link_carries net run i a b t lawful k l =
-    let counts = link_counts net run.end (run_start net) run.steps i a b (before t) k lawful.allowed tt in
-    let none = due_none (after_run net (run_start net) run.steps).entered i b run.end t (after_run net (run_start net) run.steps).due l lawful.none_overdue in
+arc_carries net to run i a b t lawful k l =
+    let last = after_run_by net to (run_start net) run.steps in
+    let counts = link_counts net to run.end (run_start net) run.steps i a b (before t) k lawful.allowed tt in
+    let none = due_none last.entered i b run.end t last.due l lawful.none_overdue in
     let same = total_same (leaves (of_flow i) (moved_test net a (before t))) (leaves (of_flow i) (before (t -ℚ link_at net a))) (view net run a) (each_all (λ x. leaves (of_flow i) (moved_test net a (before t)) x ≡ leaves (of_flow i) (before (t -ℚ link_at net a)) x) (leaves_moved net i a t) (view net run a)) in
-    summed (total (leaves (of_flow i) (moved_test net a (before t))) (view net run a)) (departed (of_flow i) (view net run a) (t -ℚ link_at net a)) (arrived (of_flow i) (view net run b) t) (due_bits (after_run net (run_start net) run.steps).entered i b (before t) (after_run net (run_start net) run.steps).due) counts none same
+    summed (total (leaves (of_flow i) (moved_test net a (before t))) (view net run a)) (departed (of_flow i) (view net run a) (t -ℚ link_at net a)) (arrived (of_flow i) (view net run b) t) (due_bits last.entered i b (before t) last.due) counts none same
   where
     summed : (moved left came due : ℚ) → moved +ℚ int (pos 0) ≡ came +ℚ due → due ≡ int (pos 0) → moved ≡ left → came ≡ left
     summed moved left came due e f g = with4 moved left came due (λ c. omega (arith, c.le, c.lt, c.same))
@@ -237,38 +282,40 @@ from_moved D s u = elim (le_or_lt (s -ℚ D) u) [
       le_q_not _ _ k ∙ sym (le_q_not _ _ h)
 ]
 
-leaves_window : (net : Routes) (i a : ℕ) (s t : ℚ) (x : ServerStep)
+pub leaves_window : (net : Routes) (i a : ℕ) (s t : ℚ) (x : ServerStep)
     → leaves (of_flow i) (moved_test net a (within s t)) x ≡ leaves (of_flow i) (within (s -ℚ link_at net a) (t -ℚ link_at net a)) x
 leaves_window net i a s t (Arrives c u) = refl
 leaves_window net i a s t (Works c d b w) = refl
 leaves_window net i a s t (Leaves c u) = rw (from_moved (link_at net a) s u, le_moved (link_at net a) t u) refl
 leaves_window net i a s t (Visits q u) = refl
 
-due_nonneg : (entered : List Entry) (i b : ℕ) (p : ℚ → Bool) (ds : List Due) → int (pos 0) ≤ℚ due_bits entered i b p ds
+pub due_nonneg : (entered : List Entry) (i b : ℕ) (p : ℚ → Bool) (ds : List Due) → int (pos 0) ≤ℚ due_bits entered i b p ds
 due_nonneg entered i b p [] = le_refl (int (pos 0))
 due_nonneg entered i b p (d ∷ ds) =
     let one = when_nonneg (((entry_of entered d.packet).flow == i) && ((d.server == b) && p d.time)) (whole (entry_of entered d.packet).bits) (whole_nonneg (entry_of entered d.packet).bits) in
     let rest = due_nonneg entered i b p ds in
     with2 (due_term entered i b p d) (due_bits entered i b p ds) (λ c. omega (arith, c.le, c.lt, c.same))
 
-pub link_window : (net : Routes) (run : SpecRun) (i a b : ℕ) (s t : ℚ) → IsLawful net run → IsLink net i a b
+-- what arrives in a window is at most what left the server before in that window, moved back
+pub arc_window : (net : Routes) (to : NextServers) (run : SpecRun) (i a b : ℕ) (s t : ℚ) → IsLawfulBy net to run → IsArc net to i a b
     → arrived_in (of_flow i) (view net run b) s t ≤ℚ departed_in (of_flow i) (view net run a) (s -ℚ link_at net a) (t -ℚ link_at net a)
-link_window net run i a b s t lawful k =
-    let counts = link_counts net run.end (run_start net) run.steps i a b (within s t) k lawful.allowed tt in
-    let rest = due_nonneg (after_run net (run_start net) run.steps).entered i b (within s t) (after_run net (run_start net) run.steps).due in
+arc_window net to run i a b s t lawful k =
+    let last = after_run_by net to (run_start net) run.steps in
+    let counts = link_counts net to run.end (run_start net) run.steps i a b (within s t) k lawful.allowed tt in
+    let rest = due_nonneg last.entered i b (within s t) last.due in
     let same = total_same (leaves (of_flow i) (moved_test net a (within s t))) (leaves (of_flow i) (within (s -ℚ link_at net a) (t -ℚ link_at net a))) (view net run a) (each_all (λ x. leaves (of_flow i) (moved_test net a (within s t)) x ≡ leaves (of_flow i) (within (s -ℚ link_at net a) (t -ℚ link_at net a)) x) (leaves_window net i a s t) (view net run a)) in
-    summed (total (leaves (of_flow i) (moved_test net a (within s t))) (view net run a)) (departed_in (of_flow i) (view net run a) (s -ℚ link_at net a) (t -ℚ link_at net a)) (arrived_in (of_flow i) (view net run b) s t) (due_bits (after_run net (run_start net) run.steps).entered i b (within s t) (after_run net (run_start net) run.steps).due) counts rest same
+    summed (total (leaves (of_flow i) (moved_test net a (within s t))) (view net run a)) (departed_in (of_flow i) (view net run a) (s -ℚ link_at net a) (t -ℚ link_at net a)) (arrived_in (of_flow i) (view net run b) s t) (due_bits last.entered i b (within s t) last.due) counts rest same
   where
     summed : (moved left came due : ℚ) → moved +ℚ int (pos 0) ≡ came +ℚ due → int (pos 0) ≤ℚ due → moved ≡ left → came ≤ℚ left
     summed moved left came due e f g = with4 moved left came due (λ c. omega (arith, c.le, c.lt, c.same))
 
 -- so a flow keeps at the next server the curve with which it leaves this one
-pub next_keeps : (net : Routes) (run : SpecRun) (i a b : ℕ) (out : ℚ → Ext) → IsLawful net run → IsLink net i a b
+pub arc_keeps : (net : Routes) (to : NextServers) (run : SpecRun) (i a b : ℕ) (out : ℚ → Ext) → IsLawfulBy net to run → IsArc net to i a b
     → ((s t : ℚ) → s ≤ℚ t → Fin (departed_in (of_flow i) (view net run a) s t) ≤ₑ out (t -ℚ s))
     → KeepsArrivals (of_flow i) out (view net run b)
-next_keeps net run i a b out lawful k leaves_so s t l =
+arc_keeps net to run i a b out lawful k leaves_so s t l =
     let D = link_at net a in
-    let less = link_window net run i a b s t lawful k in
+    let less = arc_window net to run i a b s t lawful k in
     let span : (t -ℚ D) -ℚ (s -ℚ D) ≡ t -ℚ s = with3 s t D (λ c. omega (arith, c.le, c.lt, c.same)) in
     let order : s -ℚ D ≤ℚ t -ℚ D = with3 s t D (λ c. omega (arith, c.le, c.lt, c.same)) in
     le_ext_trans (Fin (arrived_in (of_flow i) (view net run b) s t)) (Fin (departed_in (of_flow i) (view net run a) (s -ℚ D) (t -ℚ D))) (out (t -ℚ s)) less

@@ -1,87 +1,63 @@
 -- Along an order without a cycle all flows keep their curves at every server.
-use Rattle.std.specs.Prelude.{◌≡◌, ◌<◌, ◌⊎◌, ℕ, zero, suc, true, List, [], ◌∷◌, ◌++◌}
-use Rattle.std.proofs.Common.{arith, sym, ap, ◌∙◌, refl, inl, inr, subst}
-use Rattle.rational.specs.Rational.{ℚ}
-use Rattle.rational.specs.Extended.{Ext}
+use Rattle.std.specs.Prelude.{◌≡◌, ◌<◌, ◌≤◌, ℕ, zero, suc, true}
+use Rattle.std.proofs.Common.{arith, subst}
+use Rattle.rational.specs.Rational.{ℚ, ◌-ℚ◌, ◌≤ℚ◌}
+use Rattle.rational.specs.Extended.{Ext, ◌≤ₑ◌}
+use Rattle.rational.specs.declared.Extended.TheVariants.{Fin}
 use Rattle.run_laws.specs.Runs.{SpecRun}
-use Rattle.run_laws.specs.Premises.{KeepsArrivals}
 use Rattle.run_laws.specs.Cards.{of_flow}
-use Rattle.run_laws.specs.Routes.{Hop, Routes, route_of, PassesServer, first_server, server_after}
+use Rattle.run_laws.specs.Counts.{departed_in}
+use Rattle.run_laws.specs.Premises.{KeepsArrivals}
+use Rattle.run_laws.specs.RunPremises.{entered_in}
+use Rattle.run_laws.specs.Rounds.{count_of}
+use Rattle.run_laws.specs.Routes.{Routes, route_of, server_after}
 use Rattle.run_laws.specs.Views.{view}
-use Rattle.run_laws.specs.Lawful.{IsLawful}
-use Rattle.run_laws.specs.Bounds.{BeginsAt}
-use Rattle.run_laws.proofs.FirstHop.{first_hop_keeps}
-use Rattle.net_laws.specs.Paths.{IsPath}
-use Rattle.net_laws.specs.Orders.{GoesForward, EntersKept, KeptAt, PassedOn}
-use Rattle.net_laws.proofs.Links.{next_keeps}
-use Rattle.net_laws.proofs.Paths.{after_passes, link_of_path}
+use Rattle.net_laws.specs.Multicast.{NextServers, IsLawfulBy, IsReachedIn, IsSpanned, path_next_servers}
+use Rattle.net_laws.specs.Orders.{EntersKept, KeptAt, KeptEverywhere}
+use Rattle.net_laws.proofs.FirstHop.{root_keeps}
+use Rattle.net_laws.proofs.Links.{arc_keeps}
+use Rattle.net_laws.proofs.PathRuns.{path_runs_are_multicast, spanned_by_paths, some_listed}
 
--- ---- a server of a path is its first, or comes after another
-record ComesAfter (hops : List Hop) (s : ℕ) : Type 0 where
-  done : List Hop
-  here : Hop
-  next : Hop
-  rest : List Hop
-  is : hops ≡ done ++ here ∷ next ∷ rest
-  server : next.server ≡ s
+-- a server passes its flows' curves on to each next one
+abbrev pub PassedOnBy : Routes → NextServers → SpecRun → (ℕ → ℕ → ℚ → Ext) → ℕ → Type 0
+PassedOnBy net to run arrival server = (i next : ℕ) → (route_of net i).live ≡ true → 1 ≤ count_of next (to i server)
+    → (s t : ℚ) → s ≤ℚ t → Fin (departed_in (of_flow i) (view net run server) s t) ≤ₑ arrival i next (t -ℚ s)
 
-after_more : (x : Hop) (hops : List Hop) (s : ℕ) → ComesAfter hops s → ComesAfter (x ∷ hops) s
-after_more x hops s c = record {
-  done = x ∷ c.done;
-  here = c.here;
-  next = c.next;
-  rest = c.rest;
-  is = ap (λ (hs : List Hop). x ∷ hs) c.is;
-  server = c.server;
-}
-
-comes_after : (h : Hop) (hs : List Hop) (s : ℕ) → PassesServer s hs → ComesAfter (h ∷ hs) s
-comes_after h [] s p = absurd p
-comes_after h (g ∷ hs) s (inl e) = record { done = []; here = h; next = g; rest = hs; is = refl; server = e }
-comes_after h (g ∷ hs) s (inr p) = after_more h (g ∷ hs) s (comes_after g hs s p)
-
-first_or_after : (hops : List Hop) (s : ℕ) → PassesServer s hops → (first_server hops ≡ s) ⊎ ComesAfter hops s
-first_or_after [] s p = absurd p
-first_or_after (h ∷ hs) s (inl e) = inl e
-first_or_after (h ∷ hs) s (inr p) = inr (comes_after h hs s p)
-
-begins_at : (net : Routes) (i : ℕ) (hops : List Hop) → (route_of net i).hops ≡ hops → IsPath net hops → PassesServer (first_server hops) hops
-    → BeginsAt net i (first_server hops)
-begins_at net i [] is path p = absurd p
-begins_at net i (h ∷ hs) is path p = record {
-  first = ap first_server is;
-  never_again = λ a e. path.2 (after_passes a h.server h hs (ap (server_after a) (sym is) ∙ e));
-}
-
-record Network (net : Routes) (run : SpecRun) (place : ℕ → ℕ) (arrival : ℕ → ℕ → ℚ → Ext) : Type 0 where
-  lawful : IsLawful net run
-  paths : (i : ℕ) → (route_of net i).live ≡ true → IsPath net (route_of net i).hops
-  forward : GoesForward net place
+record Network (net : Routes) (to : NextServers) (run : SpecRun) (place : ℕ → ℕ) (arrival : ℕ → ℕ → ℚ → Ext) : Type 0 where
+  lawful : IsLawfulBy net to run
+  spread : IsSpanned net to
+  forward : (i a b : ℕ) → (route_of net i).live ≡ true → 1 ≤ count_of b (to i a) → place a < place b
   enters : EntersKept net run arrival
-  passes_on : (server : ℕ) → KeptAt net run arrival server → PassedOn net run arrival server
+  passes_on : (server : ℕ) → KeptAt net run arrival server → PassedOnBy net to run arrival server
+
+by_links : (net : Routes) (to : NextServers) (run : SpecRun) (place : ℕ → ℕ) (arrival : ℕ → ℕ → ℚ → Ext) (n : ℕ) → Network net to run place arrival
+    → (s : ℕ) → place s < suc n → (i : ℕ) → (route_of net i).live ≡ true → (m : ℕ) → IsReachedIn net to i m s
+    → ((a : ℕ) → place a < n → KeptAt net run arrival a) → KeepsArrivals (of_flow i) (arrival i s) (view net run s)
+by_links net to run place arrival n w s l i live zero root before =
+    root_keeps net to run i s (arrival i s) w.lawful root
+    (subst (λ (k : ℕ). (a b : ℚ) → a ≤ℚ b → Fin (entered_in i a b run.steps) ≤ₑ arrival i k (b -ℚ a)) root.first (w.enters i live))
+by_links net to run place arrival n w s l i live (suc m) r before =
+    let (a, q) = r in
+    let once : 1 ≤ count_of s (to i a) = let e = q.1.next in omega arith in
+    let sooner : place a < n = let forward = w.forward i a s live once in omega arith in
+    arc_keeps net to run i a s (arrival i s) w.lawful q.1 (w.passes_on a (before a sooner) i s live once)
 
 -- at the servers whose place is below n
-kept_below : (net : Routes) (run : SpecRun) (place : ℕ → ℕ) (arrival : ℕ → ℕ → ℚ → Ext) (n : ℕ) → Network net run place arrival
+kept_below : (net : Routes) (to : NextServers) (run : SpecRun) (place : ℕ → ℕ) (arrival : ℕ → ℕ → ℚ → Ext) (n : ℕ) → Network net to run place arrival
     → (s : ℕ) → place s < n → KeptAt net run arrival s
-kept_below net run place arrival zero w s l i live p = absurd (omega arith)
-kept_below net run place arrival (suc n) w s l i live p = elim (first_or_after (route_of net i).hops s p) [
-  | inl first ↦
-      subst (λ (k : ℕ). KeepsArrivals (of_flow i) (arrival i k) (view net run k)) first
-      (first_hop_keeps net run i (first_server (route_of net i).hops) (arrival i (first_server (route_of net i).hops)) w.lawful
-      (begins_at net i (route_of net i).hops refl (w.paths i live) (subst (λ (k : ℕ). PassesServer k (route_of net i).hops) (sym first) p)) (w.enters i live))
-  | inr c ↦
-      let link = link_of_path net i c.done c.here c.next c.rest (w.paths i live) c.is in
-      let sooner : place c.here.server < n =
-      let forward : place c.here.server < place c.next.server = w.forward i c.here.server c.next.server live link.next in
-      let same : place c.next.server ≡ place s = ap place c.server in
-      omega arith in
-      let kept = next_keeps net run i c.here.server c.next.server (arrival i c.next.server) w.lawful link
-      (w.passes_on c.here.server (kept_below net run place arrival n w c.here.server sooner) i c.next.server live link.next) in
-      subst (λ (k : ℕ). KeepsArrivals (of_flow i) (arrival i k) (view net run k)) c.server kept
-]
+kept_below net to run place arrival zero w s l i live p = absurd (omega arith)
+kept_below net to run place arrival (suc n) w s l i live p =
+    let (m, reached) = w.spread.reached i live s p in
+    by_links net to run place arrival n w s l i live m reached (λ a k. kept_below net to run place arrival n w a k)
 
-pub kept_everywhere : (net : Routes) (run : SpecRun) (place : ℕ → ℕ) (arrival : ℕ → ℕ → ℚ → Ext) → IsLawful net run
-    → ((i : ℕ) → (route_of net i).live ≡ true → IsPath net (route_of net i).hops) → GoesForward net place → EntersKept net run arrival
-    → ((server : ℕ) → KeptAt net run arrival server → PassedOn net run arrival server) → (server : ℕ) → KeptAt net run arrival server
-kept_everywhere net run place arrival lawful paths forward enters passes_on s =
-    kept_below net run place arrival (suc (place s)) record { lawful = lawful; paths = paths; forward = forward; enters = enters; passes_on = passes_on } s (omega arith)
+pub kept_by : (net : Routes) (to : NextServers) (run : SpecRun) (place : ℕ → ℕ) (arrival : ℕ → ℕ → ℚ → Ext) → IsLawfulBy net to run → IsSpanned net to
+    → ((i a b : ℕ) → (route_of net i).live ≡ true → 1 ≤ count_of b (to i a) → place a < place b) → EntersKept net run arrival
+    → ((server : ℕ) → KeptAt net run arrival server → PassedOnBy net to run arrival server) → (server : ℕ) → KeptAt net run arrival server
+kept_by net to run place arrival lawful spread forward enters passes_on s =
+    kept_below net to run place arrival (suc (place s)) record { lawful = lawful; spread = spread; forward = forward; enters = enters; passes_on = passes_on } s (omega arith)
+
+pub kept_everywhere : KeptEverywhere
+kept_everywhere net run place arrival lawful paths forward enters passes_on =
+    kept_by net (path_next_servers net) run place arrival ((path_runs_are_multicast net run).of_path lawful) (spanned_by_paths net paths)
+    (λ i a b live l. forward i a b live (some_listed b (server_after a (route_of net i).hops) l)) enters
+    (λ server kept i next live l. passes_on server kept i next live (some_listed next (server_after server (route_of net i).hops) l))

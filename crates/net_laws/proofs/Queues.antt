@@ -20,7 +20,7 @@ use Rattle.run_laws.proofs.Outputs.{output_from_service}
 use Rattle.net_laws.specs.Queues.{IsInQueue}
 
 -- the packets of a part stay no longer than those of the whole
-stays_of_part : (f Q : Class) (end : ℚ) (V : List ServerStep) (most : Ext) → IsPart f Q V → AreAtMost most (hop_delays Q end V)
+pub stays_of_part : (f Q : Class) (end : ℚ) (V : List ServerStep) (most : Ext) → IsPart f Q V → AreAtMost most (hop_delays Q end V)
     → AreAtMost most (hop_delays f end V)
 stays_of_part f Q end [] most part h = tt
 stays_of_part f Q end (Arrives c t ∷ V) most part h =

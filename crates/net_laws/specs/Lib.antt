@@ -5,3 +5,4 @@ pub mod Sums
 pub mod Orders
 pub mod Queues
 pub mod Once
+pub mod Multicast

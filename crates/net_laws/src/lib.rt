@@ -4,6 +4,7 @@
 #![tactic(auto)]
 
 ghost use Rattle.net_laws.specs.Laws.{LinkCarries, NextKeeps};
+ghost use Rattle.net_laws.specs.Multicast.{PathRunsAreMulticast};
 ghost use Rattle.net_laws.specs.Once.{NoneArrivesTwice, ClassLeavesByDelay};
 ghost use Rattle.net_laws.specs.Orders.{KeptEverywhere};
 ghost use Rattle.net_laws.specs.PathLaws.{PathIsServed, DelayFromPathService, DelayFromHops};
@@ -67,4 +68,10 @@ pub fn none_arrives_twice()
 /// class leaves with its arrival curve, moved left by d.
 pub fn class_leaves_by_delay()
     ensures { ClassLeavesByDelay }
+{}
+
+/// A run is lawful over paths where it is lawful as a multicast run with the list of a path's next server, if any, and
+/// only there.
+pub fn path_runs_are_multicast()
+    ensures { PathRunsAreMulticast }
 {}

@@ -19,7 +19,7 @@ use Rattle.run_laws.specs.Routes.{Hop, Routes, link_at, route_of}
 use Rattle.run_laws.specs.Lawful.{RunState, next_run, run_start, AllAllowedInRun}
 use Rattle.net_laws.specs.Paths as paths
 use Rattle.net_laws.specs.Once.{IsOverPaths}
-use Rattle.net_laws.proofs.Once.{none_arrives_twice}
+use Rattle.net_laws.proofs.PathRuns.{none_arrives_twice}
 use Rattle.net_model.specs.Networks.{Net}
 use Rattle.net_model.specs.NetRoutes.{routes_of}
 use Rattle.net_model.specs.Accepted.{IsAccepted}

@@ -67,14 +67,14 @@ pub record KnowsPackets (net : Routes) (packet : ℕ → ℕ) (r : RunState) : T
 abbrev pub AllSizes : Routes → (ℕ → ℕ) → List Step → Type 0
 AllSizes net packet xs = (flow : ℕ) → (route_of net flow).live ≡ true → EnterSizes flow (packet flow) xs
 
-rest_sizes : (net : Routes) (packet : ℕ → ℕ) (x : Step) (xs : List Step) → AllSizes net packet (x ∷ xs) → AllSizes net packet xs
+pub rest_sizes : (net : Routes) (packet : ℕ → ℕ) (x : Step) (xs : List Step) → AllSizes net packet (x ∷ xs) → AllSizes net packet xs
 rest_sizes net packet (Enter f p t b) xs h = λ flow live. (h flow live).1
 rest_sizes net packet (Reach s p t) xs h = h
 rest_sizes net packet (Work s p a b w) xs h = h
 rest_sizes net packet (Leave s p t) xs h = h
 rest_sizes net packet (Visit s q t) xs h = h
 
-entries_more : (net : Routes) (packet : ℕ → ℕ) (entered : List Entry) (e : Entry)
+pub entries_more : (net : Routes) (packet : ℕ → ℕ) (entered : List Entry) (e : Entry)
     → ((p : ℕ) → p < length entered → IsEntered net packet (entry_of entered p)) → IsEntered net packet e
     → (p : ℕ) → p < length (entered ++ e ∷ []) → IsEntered net packet (entry_of (entered ++ e ∷ []) p)
 entries_more net packet entered e h k p l =
@@ -107,7 +107,7 @@ pub record IsPassing (net : Routes) (packet : ℕ → ℕ) (s : ℕ) (c : Card) 
   pub its_queue : c.queue ≡ queue_at s (route_of net c.flow).hops
   pub small : c.bits ≤ packet c.flow
 
-passing_entry : (net : Routes) (packet : ℕ → ℕ) (entered : List Entry) (p s : ℕ) → IsEntered net packet (entry_of entered p)
+pub passing_entry : (net : Routes) (packet : ℕ → ℕ) (entered : List Entry) (p s : ℕ) → IsEntered net packet (entry_of entered p)
     → PassesServer s (hops_of net entered p) → IsPassing net packet s (card_of net entered p s)
 passing_entry net packet entered p s h k = record { is_live = h.is_live; passes = k; its_queue = refl; small = h.small }
 

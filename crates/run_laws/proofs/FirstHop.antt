@@ -67,7 +67,7 @@ adds net r (Work r_s q a b w) i s p begins k h = when_none (r_s == s)
 adds net r (Leave r_s q t) i s p begins k h = when_none (r_s == s)
 adds net r (Visit r_s q t) i s p begins k h = when_none (r_s == s)
 
-enters_more : (i : ℕ) (p : ℚ → Bool) (x : Step) (xs : List Step) → enters i p (x ∷ xs) ≡ enters_one i p x +ℚ enters i p xs
+pub enters_more : (i : ℕ) (p : ℚ → Bool) (x : Step) (xs : List Step) → enters i p (x ∷ xs) ≡ enters_one i p x +ℚ enters i p xs
 enters_more i p (Enter f q t b) xs = refl
 enters_more i p (Reach s q t) xs = with1 (enters i p xs) (λ c. omega (arith, c.le, c.lt, c.same))
 enters_more i p (Work s q a b w) xs = with1 (enters i p xs) (λ c. omega (arith, c.le, c.lt, c.same))

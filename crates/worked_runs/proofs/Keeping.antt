@@ -20,7 +20,7 @@ use Rattle.run_laws.proofs.Clips.{clip_early, clip_late}
 use Rattle.run_laws.proofs.Small.{sum_t}
 use Rattle.run_laws.proofs.Sums.{when_most}
 use Rattle.run_laws.proofs.Sizes.{whole_times}
-use Rattle.worked_runs.proofs.Busy.{none_over, not_yet, service_at_most, IsAtRate, keeps_at_rate, span_at_rate}
+use Rattle.worked_trees.proofs.Busy.{none_over, not_yet, service_at_most, IsAtRate, keeps_at_rate, span_at_rate}
 
 -- ---- arrivals
 -- a bucket's burst covers it in any window

@@ -1,4 +1,3 @@
-pub mod Busy
 pub mod Curves
 pub mod Operators
 pub mod Meanings

@@ -30,7 +30,7 @@ use Rattle.net_cells.specs.Numbered.{packet, arrival, service}
 use Rattle.net_bounds.specs.NetRuns.{routes_of}
 use Rattle.worked_runs.specs.OneGate.{one_gate, at_its_end}
 use Rattle.worked_runs.specs.Reached.{HasDelay}
-use Rattle.worked_runs.proofs.Busy.{none_over, not_yet, span_at_rate, IsAtMostService, IsAtRate, keeps_at_rate}
+use Rattle.worked_trees.proofs.Busy.{none_over, not_yet, span_at_rate, IsAtMostService, IsAtRate, keeps_at_rate}
 use Rattle.worked_runs.proofs.Gates.{while_closed, while_open}
 use Rattle.worked_runs.proofs.Keeping.{at_most}
 

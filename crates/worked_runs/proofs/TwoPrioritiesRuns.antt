@@ -20,7 +20,7 @@ use Rattle.run_laws.proofs.Small.{le_t, lt_t, sum_t, enters, works, leaves}
 use Rattle.run_laws.proofs.Clips.{clip_early, clip_late}
 use Rattle.rational.proofs.Laws.{le_or_lt, le_of_lt, le_trans}
 use Rattle.rational.specs.Rational.{◌*ℚ◌}
-use Rattle.worked_runs.proofs.Busy.{not_yet, in_span, span_at_rate, service_at_most, IsBusyOnly, keeps_latency}
+use Rattle.worked_trees.proofs.Busy.{not_yet, in_span, span_at_rate, service_at_most, IsBusyOnly, keeps_latency}
 use Rattle.run_laws.proofs.Sums.{when_true, when_false}
 use Rattle.run_laws.proofs.Sizes.{whole_times}
 use Rattle.run_laws.proofs.SmallRuns.{one_idle, none_due}

@@ -23,7 +23,7 @@ use Rattle.run_laws.proofs.OverALink.{two_idle}
 use Rattle.run_laws.proofs.SmallRuns.{none_due}
 use Rattle.net_bounds.specs.NetRuns.{routes_of}
 use Rattle.worked_runs.specs.TwoServers.{two_servers, over_both}
-use Rattle.worked_runs.proofs.Busy.{none_over, IsAtRate, keeps_at_rate, service_at_most, span_at_rate, not_yet}
+use Rattle.worked_trees.proofs.Busy.{none_over, IsAtRate, keeps_at_rate, service_at_most, span_at_rate, not_yet}
 
 abbrev net : Routes
 net = routes_of two_servers

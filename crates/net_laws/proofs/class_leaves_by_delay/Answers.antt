@@ -1,5 +1,5 @@
 use Rattle.net_laws.proofs.class_leaves_by_delay.Goals as goal
-use Rattle.net_laws.proofs.Once
+use Rattle.net_laws.proofs.PathRuns
 
 pub returns : goal.returns
-returns c = Once.class_leaves_by_delay
+returns c = PathRuns.class_leaves_by_delay

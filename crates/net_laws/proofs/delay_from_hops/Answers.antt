@@ -1,5 +1,5 @@
 use Rattle.net_laws.proofs.delay_from_hops.Goals as goal
-use Rattle.net_laws.proofs.Ends
+use Rattle.net_laws.proofs.PathRuns
 
 pub returns : goal.returns
-returns c = Ends.delay_from_hops
+returns c = PathRuns.delay_from_hops

@@ -1,5 +1,5 @@
 use Rattle.net_laws.proofs.link_carries.Goals as goal
-use Rattle.net_laws.proofs.Links
+use Rattle.net_laws.proofs.PathRuns
 
 pub returns : goal.returns
-returns c = Links.link_carries
+returns c = PathRuns.link_carries

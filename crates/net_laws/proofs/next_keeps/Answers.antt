@@ -1,5 +1,5 @@
 use Rattle.net_laws.proofs.next_keeps.Goals as goal
-use Rattle.net_laws.proofs.Links
+use Rattle.net_laws.proofs.PathRuns
 
 pub returns : goal.returns
-returns c = Links.next_keeps
+returns c = PathRuns.next_keeps

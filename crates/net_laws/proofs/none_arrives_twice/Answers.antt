@@ -1,5 +1,5 @@
 use Rattle.net_laws.proofs.none_arrives_twice.Goals as goal
-use Rattle.net_laws.proofs.Once
+use Rattle.net_laws.proofs.PathRuns
 
 pub returns : goal.returns
-returns c = Once.none_arrives_twice
+returns c = PathRuns.none_arrives_twice

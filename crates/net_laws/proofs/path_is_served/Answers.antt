@@ -1,5 +1,5 @@
 use Rattle.net_laws.proofs.path_is_served.Goals as goal
-use Rattle.net_laws.proofs.Paths
+use Rattle.net_laws.proofs.PathRuns
 
 pub returns : goal.returns
-returns c = Paths.path_is_served
+returns c = PathRuns.path_is_served

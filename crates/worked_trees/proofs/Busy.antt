@@ -19,8 +19,6 @@ use Rattle.run_laws.specs.Premises.{KeepsService, IsBusy}
 use Rattle.run_laws.proofs.Clips.{quotient}
 use Rattle.run_laws.proofs.Sums.{when_false}
 
--- ---- whole numbers
-
 -- ---- a span of work that takes k
 -- all through it, k times what is done is its bits times the time that has passed
 pub in_span : (s : Span) (k x : ℚ) → s.end ≡ s.start +ℚ k → zero_q <ℚ k → s.start ≤ℚ x → x ≤ℚ s.end

@@ -1,0 +1,13 @@
+pub mod Views
+pub mod Trees
+pub mod LinkLaws
+pub mod Orders
+pub mod Once
+pub mod Branches
+pub mod Packets
+pub mod Bounded
+pub mod Parts
+pub mod Unbranched
+pub mod Examples
+pub mod Buckets
+pub mod Stairs

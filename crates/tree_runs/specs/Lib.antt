@@ -1,0 +1,12 @@
+pub mod Trees
+pub mod Laws
+pub mod Orders
+pub mod Branches
+pub mod Unbranched
+pub mod Packets
+pub mod Bounded
+pub mod BoundedByParts
+pub mod Parts
+pub mod Examples
+pub mod Buckets
+pub mod Stairs

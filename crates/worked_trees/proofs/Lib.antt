@@ -1,0 +1,4 @@
+pub mod Busy
+pub mod Numbers
+pub mod PacedFork
+pub mod PacedForkRun
