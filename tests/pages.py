@@ -9,6 +9,7 @@ import concurrent.futures
 import os
 import pathlib
 import re
+import shlex
 import subprocess
 import sys
 import tempfile
@@ -66,12 +67,13 @@ def is_a_test(crate):
     return block is not None and block.group() in (crate / "src/example.rt").read_text()
 
 
-def tell(commands, folder):
+def tell(commands, folder, program):
     """Runs commands one after the other, with their files of /tmp in a folder; a line for each that printed something
-    else."""
+    else. The program's own words run it without the launcher, which looks at all sources each time."""
     told = []
     for place, command, shown in commands:
-        moved = command.replace("/tmp/", f"{folder}/")
+        moved = re.sub(r"\./netcalc (?=(analyse|edit|simulate|exercise|check|measure|curve) )", f"{program} ", command)
+        moved = moved.replace("/tmp/", f"{folder}/")
         run = subprocess.run(moved, shell=True, cwd=TOP, capture_output=True, text=True, timeout=300, check=False)
         if run.stdout != shown:
             told.append(f"{place}: {command}\n{run.stdout}{run.stderr}")
@@ -83,8 +85,10 @@ def main():
     if not is_a_test(TOP / "crates/min_plus_algebra"):
         told.append("crates/min_plus_algebra/README.md: its first lines are not those of src/example.rt")
     lists = list(wanted())
+    launcher = subprocess.run([TOP / "netcalc", "--program"], stdout=subprocess.PIPE, text=True, check=True)
+    program = shlex.quote(launcher.stdout.removesuffix("\n"))
     with tempfile.TemporaryDirectory() as folder, concurrent.futures.ThreadPoolExecutor(os.cpu_count()) as pool:
-        for faults in pool.map(lambda commands: tell(commands, folder), lists):
+        for faults in pool.map(lambda commands: tell(commands, folder, program), lists):
             told += faults
     print("\n".join(told), end="\n" if told else "", file=sys.stderr)
     print(f"pages: {sum(map(len, lists))} commands, {len(told)} faults")

@@ -1,11 +1,11 @@
 #!/usr/bin/env python3
 """Makes a network file of two tables of an interface control document: virtual links and ports.
 
-    tools/import_icd.py LINKS.csv PORTS.csv > network.toml
+    ./netcalc import --version 2 --longest-gap 8 LINKS.csv PORTS.csv > network.toml
 
-Both are CSV with a head line; columns stand in any order, and other columns are left alone. Numbers are decimal or
-fractions ("1.5", "3/2"), and stay exact. The file is in microseconds and bits, so a rate in Mbit/s is the number of its
-bits in a microsecond.
+Both are CSV with a head line; the tables stand in any order, and the columns too; the table with a column `path` is
+that of links, and other columns are left alone. Numbers are decimal or fractions ("1.5", "3/2"), and stay exact. The
+file is in microseconds and bits, so a rate in Mbit/s is the number of its bits in a microsecond.
 
 LINKS.csv, a line a virtual link:
     name           a name of 1 to 32 letters, digits, _ and -
@@ -23,10 +23,16 @@ PORTS.csv, a line an output port (also those of end systems):
     discipline     `fifo` (also where it is empty), `priority N` with N queues, or
                    `drr Q0 Q1 ..` with the quantum of each queue in bytes
 
+`--version 2` says that no port sends faster than its rate, as a line does: links that come over one line are cut
+together then, and the bounds are lower. `--longest-gap G` cuts each gap above G milliseconds to G. That is safe, since
+a link that sends less often keeps the shorter gap too; it costs little, and the curves of all links repeat together
+after G milliseconds, if the other gaps divide it.
+
 `--buckets` describes each link by the token bucket above its stair (burst of one frame, and of what the jitter adds;
-rate of one frame a gap) in place of the stair itself: the bounds are a little greater, and networks whose gaps have a
-large common multiple are answered at once. `--grid N` rounds every number to a multiple of 1/N, links to more and ports
-to less, as round.py does with a file: each bound stays a bound.
+rate of one frame a gap) in place of the stair itself. The bounds are greater, and over more than two ports the
+fractions soon get too wide, of which it warns. `--grid N` rounds every number to a multiple of 1/N, links to more and
+ports to less, as round.py does with a file: each bound stays a bound. With `--version 2` a rate has to be such a
+multiple already.
 
 The file begins with a comment that names both tables and how they were read.
 
@@ -129,17 +135,22 @@ def discipline_of(text):
     raise Fault(f"discipline {shortened(text)!r} is none of fifo, priority N, drr Q0 Q1 ..")
 
 
-def port(row, taken, grid):
+def port(row, taken, words):
     """The server of a line of ports."""
-    server = {"name": name_of(row["name"], taken), "rate": written(amount("rate", row["rate"], None))}
+    rate = written(amount("rate", row["rate"], None))
+    server = {"name": name_of(row["name"], taken), "rate": rate}
     latency = amount("latency", row["latency"], 0, default=0)
     if latency:
         server["service"] = {"kind": "latency", "latency": written(latency)}
     link = amount("link", row["link"], 0, default=0)
     if link:
         server["link"] = written(link)
-    if grid:
-        rounding.round_server(server, grid)
+    if words.grid:
+        rounding.round_server(server, words.grid)
+        if words.version == 2 and server["rate"] != rate:
+            raise Fault(
+                f"rate {rate} is no multiple of 1/{words.grid}, and in version 2 a rate may not be rounded down"
+            )
     return server | discipline_of(row["discipline"])
 
 
@@ -177,7 +188,11 @@ def virtual_link(row, taken, servers, words):
     if packet > 2**24:
         raise Fault(f"a frame of {row['largest_frame']} bytes and {words.overhead} more is longer than 2^24 bits")
     flow["packet"] = packet
-    period = 1000 * amount("bag", row["bag"], None)
+    gap = amount("bag", row["bag"], None)
+    if words.longest_gap is not None and gap > words.longest_gap:
+        gap = words.longest_gap
+        words.cut += 1
+    period = 1000 * gap
     jitter = amount("jitter", row["jitter"], 0, default=0)
     flow["arrival"] = arrival_of(packet, period, jitter, words.buckets)
     if words.grid:
@@ -206,12 +221,19 @@ def read_table(path, columns, make, most):
     return made
 
 
+def is_of_links(path):
+    """Whether the head line of a table has the column of paths."""
+    return "path" in [cell.strip().strip('"') for cell in text_in(path).partition("\n")[0].split(",")]
+
+
 def network_of(words):
     """The network of two files."""
+    if is_of_links(words.ports) and not is_of_links(words.links):
+        words.links, words.ports = words.ports, words.links
     servers = read_table(
         words.ports,
         ["name", "rate", "latency", "link", "discipline"],
-        lambda row, taken: port(row, taken, words.grid),
+        lambda row, taken: port(row, taken, words),
         64,
     )
     flows = read_table(
@@ -220,23 +242,53 @@ def network_of(words):
         lambda row, taken: virtual_link(row, taken, servers, words),
         256,
     )
-    return {"server": list(servers.values()), "flow": list(flows.values())}
+    version = {"version": 2} if words.version == 2 else {}
+    return version | {"server": list(servers.values()), "flow": list(flows.values())}
 
 
 def head_of_file(words):
     """The comment at the head of the file: what was read, and how."""
     kind = "token buckets" if words.buckets else "stairs"
     grid = f", on a grid of 1/{words.grid}: arrivals up, services down" if words.grid else ""
-    return (
-        f"Made by import_icd.py of {words.links} and {words.ports}, in microseconds and bits;\n"
-        f"frames as {kind}, with {words.overhead} bytes of the wire beside their own{grid}."
-    )
+    lines = [
+        f"Made by import_icd.py of {words.links} and {words.ports}, in microseconds and bits;",
+        f"frames as {kind}, with {words.overhead} bytes of the wire beside their own{grid}.",
+    ]
+    if words.longest_gap is not None:
+        lines.append(
+            f"{words.cut} gaps above {words.longest_gap} ms are cut to it: who sends less often keeps that too."
+        )
+    if words.version == 2:
+        lines.append("No port sends faster than its rate.")
+    return "\n".join(lines)
+
+
+def warn(network, words):
+    """Warns of what may be refused."""
+    far = sum(len(flow["path"]) > 2 for flow in network["flow"])
+    if words.buckets and far:
+        told = f"{far} links pass more than two ports as buckets, whose fractions may get too wide"
+        print(f"import_icd: {told}: take stairs with --longest-gap in place of --buckets", file=sys.stderr)
+
+
+def milliseconds(text):
+    """A gap of the command line."""
+    try:
+        return amount("the longest gap", text, None)
+    except Fault as fault:
+        raise argparse.ArgumentTypeError(str(fault)) from None
 
 
 def main():
     parser = argparse.ArgumentParser(description=__doc__, formatter_class=argparse.RawDescriptionHelpFormatter)
     parser.add_argument("links")
     parser.add_argument("ports")
+    parser.add_argument(
+        "--version", type=int, choices=[1, 2], default=1, help="2: no port sends faster than its rate (1)"
+    )
+    parser.add_argument(
+        "--longest-gap", type=milliseconds, metavar="MS", help="longer gaps are cut to so many milliseconds"
+    )
     parser.add_argument(
         "--overhead", type=int, default=20, metavar="BYTES", help="bytes on the wire beside a frame's own (20)"
     )
@@ -247,7 +299,10 @@ def main():
         parser.error("the overhead is from 0 bytes on, and below 2^21")
     if words.grid is not None and not 1 <= words.grid <= rounding.FINEST:
         parser.error(f"the grid is a whole number from 1 to {rounding.FINEST}")
-    sys.stdout.write(dump(network_of(words), head_of_file(words)))
+    words.cut = 0
+    network = network_of(words)
+    warn(network, words)
+    sys.stdout.write(dump(network, head_of_file(words)))
     return 0
 
 

@@ -2,6 +2,7 @@
 3.11."""
 
 import datetime
+import functools
 import hashlib
 import os
 import pathlib
@@ -178,28 +179,28 @@ def bound(word):
     return None if word == "unbounded" else Fraction(word)
 
 
+@functools.lru_cache(None)
+def the_program(program):
+    """The program that runs behind a name: of the launcher the one that it would run, built where it has to be, so that
+    each call does not look at all sources again; another program is itself."""
+    if pathlib.Path(program).resolve() != PROGRAM.resolve():
+        return str(program)
+    run = subprocess.run([str(program), "--program"], stdout=subprocess.PIPE, text=True, check=False)
+    if run.returncode:
+        raise Fault(f"{program} has no program to run")
+    return run.stdout.removesuffix("\n")
+
+
 def analyse(path, program=PROGRAM, seconds=None):
     """The answer of `netcalc analyse PATH`; subprocess.TimeoutExpired where it takes longer than `seconds`."""
-    run = subprocess.run(
-        [str(program), "analyse", str(path)], capture_output=True, text=True, timeout=seconds, check=False
-    )
+    words = [the_program(program), "analyse", str(path)]
+    run = subprocess.run(words, capture_output=True, text=True, timeout=seconds, check=False)
     return Answer(run.returncode, run.stdout)
 
 
 def mark_of(program):
-    """What stands for a program in a journal: a hash of its file, and, where it is the launcher, of the sources that it
-    runs."""
-    mark = hashlib.sha256(pathlib.Path(program).read_bytes())
-    if pathlib.Path(program).resolve() == PROGRAM.resolve():
-        # Called once by itself first, so that a program that has to be built is built once. Without words it ends with
-        # 2.
-        if (
-            subprocess.run([str(program)], stdout=subprocess.DEVNULL, stdin=subprocess.DEVNULL, check=False).returncode
-            != 2
-        ):
-            raise Fault(f"{program} has no program to run")
-        mark.update(subprocess.run([str(TOP / "bin/sources")], capture_output=True, check=True).stdout)
-    return mark.hexdigest()
+    """What stands for a program in a journal: a hash of its file."""
+    return hashlib.sha256(pathlib.Path(program).read_bytes()).hexdigest()
 
 
 def ended(tool, main):

@@ -4,31 +4,35 @@
     tools/plot.py bounds ANSWER.txt -o OUT.svg
         bars of an answer of `netcalc analyse` or `edit`: a flow's bounds by total-flow and by separate-flow analysis,
         each queue's delay and backlog; or of `netcalc simulate` or `check`: the worst of the run beside the bound;
-        flows or queues alone, where an answer has no others
+        flows or queues alone, where an answer has no others; of more than 200 those with the largest numbers
     tools/plot.py curves ANSWER.txt -o OUT.svg
         two curves, an arrival curve and a service curve, with their horizontal and vertical deviation: of an answer of
         `netcalc curve` that has `show A`, `show B`, `delay A, B` and `backlog A, B`
-    tools/plot.py run RUN.csv --net NET -o OUT.svg
+    tools/plot.py run RUN.csv --net NET [--ports A,B] [--from T] [--to T] -o OUT.svg
         a time line of a recorded run, as `netcalc check NET RUN.csv` reads it: at each server the works with the
-        numbers of their packets, and the bits that each queue holds
+        numbers of their packets, and the bits that each queue holds; of some servers alone, between two times
 
 ANSWER.txt and RUN.csv may be `-`, for the standard input. OUT ends with .svg or .png. An `unbounded` number is drawn as
 a bar to the edge, with the word. Of an answer only the printed numbers are read, so a picture shows what was proved of
 it and nothing else. A time line shows the rows that stand in the file: whether they are a run of the network `check`
-alone says. Drawing rounds numbers to the screen.
-"""
+alone says. Drawing rounds lengths to the screen; the numbers at bars are rounded up, to six digits. No picture has more
+than 4,000 pixels in a row or a column."""
 
 import argparse
+import colorsys
 import csv
+import math
 import re
 from fractions import Fraction
 
 from networks import Fault, ended, load, member, shortened, text_in
 
 BLUE, RED, GREY, GREEN = "#4477aa", "#cc3311", "#bbbbbb", "#228833"
-FLOWS = [BLUE, RED, GREEN, "#aa3377", "#ccbb44", "#66ccee"]  # colours of flows, which come again where there are more
+FLOWS = [BLUE, RED, GREEN, "#aa3377", "#ccbb44", "#66ccee"]  # colours of the first flows
 QUEUES = ["#ee7733", "#000000", "#009988", "#777777", "#882255", "#999933", "#0077bb", "#ee3377"]
 MOST = 2000  # pieces of a curve that are drawn
+ROWS = 200  # bars below one another
+TALLEST = 38  # inches of a picture's rows, of 100 pixels each
 
 
 def exact(word):
@@ -39,8 +43,26 @@ def exact(word):
 
 
 def number(word):
-    """A printed number that is rounded, or None for `unbounded`."""
-    return None if word == "unbounded" else float(exact(word))
+    """A printed number, or None for `unbounded`."""
+    return None if word == "unbounded" else exact(word)
+
+
+def rounded_up(value, digits=6):
+    """The least number of so many digits that is not below a number from 0 on, as it is written."""
+    if value == 0:
+        return "0"
+    place = digits - len(str(math.floor(value))) if value >= 1 else digits
+    units = math.ceil(value * Fraction(10) ** place)
+    whole, rest = divmod(units, 10**place) if place > 0 else (units * 10**-place, 0)
+    return f"{whole}.{rest:0{place}}".rstrip("0") if rest else str(whole)
+
+
+def colour_of(place):
+    """The colour of a flow by its place: the first have chosen ones, the others their own, each far from the one
+    before."""
+    if place < len(FLOWS):
+        return FLOWS[place]
+    return colorsys.hsv_to_rgb(place * 0.618034 % 1, 0.55 + 0.15 * (place % 3), 0.85 - 0.15 * (place % 2))
 
 
 def read_lines(text, read):
@@ -117,16 +139,17 @@ def read_answer(text):
 
 def bars(axes, names, columns, label):
     """Horizontal bars of one or two columns; those of nothing known reach to the edge."""
-    known = [value for column in columns for value in column[1] if value is not None]
+    known = [float(value) for column in columns for value in column[1] if value is not None]
     edge = 1.15 * max(known, default=1.0) or 1.0
     height = 0.8 / len(columns)
     for place, (what, values, colour) in enumerate(columns):
         ys = [row + place * height for row in range(len(names))]
-        axes.barh(ys, [edge if value is None else value for value in values], height=height, color=colour, label=what)
-        for y, value in zip(ys, values):
-            word = "unbounded" if value is None else f"{value:.6g}"
+        lengths = [edge if value is None else float(value) for value in values]
+        axes.barh(ys, lengths, height=height, color=colour, label=what)
+        for y, value, length in zip(ys, values, lengths):
+            word = "unbounded" if value is None else rounded_up(value)
             axes.text(
-                edge if value is None else value,
+                length,
                 y,
                 f" {word}",
                 va="center",
@@ -137,6 +160,8 @@ def bars(axes, names, columns, label):
         [row + height * (len(columns) - 1) / 2 for row in range(len(names))], names, fontsize=8, family="monospace"
     )
     axes.set_xlim(0, edge * 1.1)
+    axes.margins(y=min(0.05, 1 / max(1, len(names))))
+    axes.locator_params(axis="x", nbins=4)
     axes.invert_yaxis()
     axes.set_xlabel(label)
     axes.grid(axis="x", alpha=0.3)
@@ -144,16 +169,26 @@ def bars(axes, names, columns, label):
         axes.legend(fontsize=8, ncol=len(columns), loc="lower center", bbox_to_anchor=(0.5, 1.0), frameon=False)
 
 
+def largest_rows(names, columns, label):
+    """A panel of its largest rows, where it has too many to draw."""
+    if len(names) <= ROWS:
+        return names, columns, label
+    size = lambda row: max(math.inf if values[row] is None else values[row] for _, values, _ in columns)
+    rows = sorted(sorted(range(len(names)), key=size, reverse=True)[:ROWS])
+    kept = [(what, [values[row] for row in rows], colour) for what, values, colour in columns]
+    return [names[row] for row in rows], kept, f"{label}: the largest {ROWS} of {len(names)}"
+
+
 def draw_panels(panels, width, path):
     """The picture of panels beside one another, each with names, columns and a label, and of one width; a panel without
     a name is left out."""
-    panels = [panel for panel in panels if panel[0]]
+    panels = [largest_rows(*panel) for panel in panels if panel[0]]
     if not panels:
         raise Fault("the answer has no flow and no queue: nothing to draw")
     plot = drawing()
 
     rows = max(len(names) for names, _, _ in panels)
-    size = width * len(panels), 1.2 + 0.32 * rows
+    size = width * len(panels), 1.2 + min(0.32 * rows, TALLEST)
     figure, all_axes = plot.subplots(1, len(panels), figsize=size, squeeze=False, layout="constrained")
     for axes, panel in zip(all_axes[0], panels):
         bars(axes, *panel)
@@ -457,15 +492,20 @@ def read_recorded(text, names, paths):
     return run.servers, [flow for flow, _ in run.packets], run.end
 
 
-def draw_works(axes, server, flows, colours, end):
-    """The strip of a server's works, with the numbers of their packets where there is room, and its visits: `v1` of
-    queue 1."""
+def draw_works(axes, server, flows, colours, span):
+    """The strip of a server's works in a span of time, with the numbers of their packets where there is room, and its
+    visits: `v1` of queue 1."""
+    first, last = span
     for packet, start, stop in server.works:
+        start, stop = max(start, first), min(stop, last)
+        if start >= stop:
+            continue
         axes.broken_barh([(float(start), float(stop - start))], (0, 1), color=colours[flows[packet]], edgecolor="white")
-        if stop - start > end / 60:
+        if stop - start > (last - first) / 60:
             axes.text(float(start + stop) / 2, 0.5, str(packet), ha="center", va="center", color="white", fontsize=7)
     for time, queue in server.visits:
-        axes.text(float(time), 0.04, f" v{queue}", ha="left", va="bottom", fontsize=6)
+        if first <= time <= last:
+            axes.text(float(time), 0.04, f" v{queue}", ha="left", va="bottom", fontsize=6)
     axes.set_ylim(0, 1)
     axes.set_yticks([])
     axes.tick_params(axis="x", length=0)
@@ -488,21 +528,29 @@ def draw_queues(axes, server, end):
         axes.legend(fontsize=7, loc="upper right")
 
 
-def draw_recorded(text, net, path):
-    """The time line of a recorded run of the network's file `net`."""
+def chosen(servers, ports, path):
+    """The servers that are drawn: those that are asked for, else those that a packet reached."""
+    if ports is None:
+        return {name: server for name, server in servers.items() if server.moves} or servers
+    return {known(f"server of {path}", name, servers): servers[name] for name in ports}
+
+
+def draw_recorded(text, net, path, ports=None, start=Fraction(0), stop=None):
+    """The time line of a recorded run of the network's file `net`, of some ports alone, between two times."""
     names, paths = read_paths(net)
     servers, flows, end = read_recorded(text, names, paths)
     if not flows:
         raise Fault("no packet enters: nothing to draw")
+    stop = end if stop is None else min(stop, end)
+    if start >= stop and stop > 0:
+        raise Fault(f"nothing to draw from {start} to {stop}")
+    used = chosen(servers, ports, net)
     plot = drawing()
-
-    used = {name: server for name, server in servers.items() if server.moves} or servers
-    colours = {flow: FLOWS[place % len(FLOWS)] for place, flow in enumerate(paths)}
-    rows = 2 * len(used)
+    colours = {flow: colour_of(place) for place, flow in enumerate(paths)}
     figure, all_axes = plot.subplots(
-        rows,
+        2 * len(used),
         1,
-        figsize=(10, 0.6 + 1.3 * len(used)),
+        figsize=(10, 0.6 + min(1.3 * len(used), TALLEST)),
         sharex=True,
         height_ratios=[1, 2.6] * len(used),
         squeeze=False,
@@ -510,16 +558,19 @@ def draw_recorded(text, net, path):
     )
     for place, (name, server) in enumerate(used.items()):
         works, queues = all_axes[2 * place][0], all_axes[2 * place + 1][0]
-        draw_works(works, server, flows, colours, end)
+        draw_works(works, server, flows, colours, (start, stop))
         works.set_title(name, fontsize=8, family="monospace", loc="left", pad=2)
         draw_queues(queues, server, end)
-    all_axes[-1][0].set_xlim(0, float(end) or 1)
+    all_axes[-1][0].set_xlim(float(start), float(stop) or 1)
     all_axes[-1][0].set_xlabel("time", fontsize=8)
+    works = [work for server in used.values() for work in server.works]
+    seen = {flows[packet] for packet, begin, until in works if begin < stop and until > start} or set(flows)
     handles = [
-        plot.Rectangle((0, 0), 1, 1, color=colours[flow], label=f"works of {flow}") for flow in paths if flow in flows
+        plot.Rectangle((0, 0), 1, 1, color=colours[flow], label=f"works of {flow}") for flow in paths if flow in seen
     ]
+    columns = 6 if max(map(len, seen), default=0) <= 12 else 3
     all_axes[0][0].legend(
-        handles=handles, fontsize=8, ncol=6, loc="lower right", bbox_to_anchor=(1.0, 1.0), frameon=False
+        handles=handles, fontsize=8, ncol=columns, loc="lower right", bbox_to_anchor=(1.0, 1.0), frameon=False
     )
     save(figure, path)
 
@@ -549,13 +600,21 @@ def main():
     parser.add_argument("answer")
     parser.add_argument("-o", "--output", required=True, metavar="OUT")
     parser.add_argument("--net", metavar="NET", help="of `run`: the network's file")
+    parser.add_argument(
+        "--ports", metavar="A,B", type=lambda text: text.split(","), help="of `run`: these servers alone"
+    )
+    parser.add_argument("--from", dest="start", metavar="T", help="of `run`: from this time on")
+    parser.add_argument("--to", dest="stop", metavar="T", help="of `run`: up to this time")
     words = parser.parse_args()
     if (words.what == "run") != (words.net is not None):
         parser.error("`run` alone wants the network's file, by --net")
+    if words.what != "run" and (words.ports or words.start or words.stop):
+        parser.error("--ports, --from and --to are for `run` alone")
     text = text_in("/dev/stdin" if words.answer == "-" else words.answer)
     try:
         if words.what == "run":
-            draw_recorded(text, words.net, words.output)
+            span = exact(words.start or "0"), words.stop and exact(words.stop)
+            draw_recorded(text, words.net, words.output, words.ports, *span)
         else:
             (draw_bounds if words.what == "bounds" else draw_curves)(text, words.output)
     except Fault as fault:

@@ -20,18 +20,17 @@ Bounds are exact fractions.
 `--plot COLUMN OUT.svg` draws the largest bound of each variant over a parameter, with the front of those that no other
 variant beats in both (needs matplotlib).
 
-Tried on 28 November 2026 with 10,000 variants of the network of examples/tutorial/study.template (100 rates, 100
-latencies), on four processors that other work kept busy too (a load of 20 to 30):
+It calls the program, and not the launcher before it, which looks at all sources each time. Of the network of
+examples/tutorial/study.template on four processors that other work kept busy too:
 
-- Here, four programs at a time: 569.8 s, 17.6 variants a second. Each run took 0.2 s there, of which the program itself
-  worked some 5 ms.
-- On a scheduler of Dask 2022.12 with two workers on that machine: with one thread each, stopped by Ctrl-C after 1,056;
-  started again with four threads each, 8,944 in 740.1 s, 12.1 a second, though one worker was ended by SIGKILL after
-  5,004. Table and journal had each variant once, and but for the seconds the table was the same as here. What the
-  worker had under way, and one variant whose answer went with it, was run again.
+- Here, on 29 November 2026 at a load of 28: 1,000 variants in 12.6 s, 79 a second. Each took 4.9 ms of processor time,
+  2.1 of them in this process, so some 400 a second are within reach where nothing else runs (reckoned, not measured).
+- On a scheduler of Dask 2022.12 with two workers on that machine, on 28 November 2026, 10,000 variants by the launcher:
+  with one thread each, stopped by Ctrl-C after 1,056; started again with four threads each, 8,944 in 740.1 s, though
+  one worker was ended by SIGKILL after 5,004. Table and journal had each variant once, and but for the seconds the
+  table was the same as here. What the worker had under way, and one variant whose answer went with it, was run again.
 
-So 10,000 variants of such a size take minutes. Plan longer ones by a trial of a hundred: the bar shows how many a
-second there are.
+Plan long studies by a trial of a hundred: the bar and the last line say how many a second there are.
 """
 
 import argparse
@@ -48,7 +47,7 @@ import sys
 import time
 from fractions import Fraction
 
-from networks import PROGRAM, Fault, ended, mark_of, text_in
+from networks import PROGRAM, Fault, ended, mark_of, text_in, the_program
 
 
 def answer_of(program, text, seconds):
@@ -238,8 +237,8 @@ def study(words):
             file.flush()
             progress.step()
     if progress.fresh:
-        seconds = time.monotonic() - progress.start
-        print(f"{progress.fresh} variants in {seconds:.1f} s", file=sys.stderr)
+        seconds = max(time.monotonic() - progress.start, 0.001)
+        print(f"{progress.fresh} variants in {seconds:.1f} s, {progress.fresh / seconds:.0f} a second", file=sys.stderr)
     return variants, answers
 
 
@@ -347,7 +346,7 @@ def main():
     parser.add_argument("--scheduler", metavar="ADDRESS", help="a Dask scheduler, as tcp://host:8786")
     parser.add_argument("--plot", nargs=2, metavar=("COLUMN", "OUT.svg"))
     words = parser.parse_args()
-    words.program = str(pathlib.Path(words.program).resolve())
+    words.program = str(pathlib.Path(the_program(words.program)).resolve())
     if not pathlib.Path(words.source).is_dir() and words.parameters is None:
         parser.error("a template needs a file of parameters")
     if not words.seconds > 0 or words.workers < 1:

@@ -1,5 +1,6 @@
--- A rate with a debt: what a server gives by t that works at the rate and has to do so many bits of something else first.
--- With a debt of rate times latency it is the rate after the latency. (Le Boudec and Thiran, rate-latency functions.)
+-- A rate with a debt: what a server gives by t that works at the rate and has to do so many bits of something else
+-- first. With a debt of rate times latency it is the rate after the latency. (Le Boudec and Thiran, rate-latency
+-- functions.)
 use Rattle.rational.specs.Rational.{ℚ, ◌*ℚ◌, ◌-ℚ◌, ◌≤ℚ◌}
 use Rattle.rational.specs.MinMax.{max_q}
 use Rattle.rational.specs.Extended.{Ext}
