@@ -1,14 +1,14 @@
 -- The steps of an answer.
 use Rattle.std.proofs.Common.{◌≡◌, ◌≢◌, ◌+◌, ◌≤◌, ℕ, List, refl, subst, arith}
-use Rattle.net_model.specs.Accepted.{IsAccepted}
-use Rattle.net_model.specs.Networks.{Net}
-use Rattle.net_model.specs.Orders.{IsOrder}
-use Rattle.net_graph.proofs.OneOrders.{one_order}
-use Rattle.net_graph.proofs.Returns.{order_or_cycle}
-use Rattle.command_replies.specs.net_text.specs.Folds.{StepsAtMost}
-use Rattle.command_replies.specs.net_text.specs.Reading.{IsNetworkOf}
-use Rattle.command_replies.specs.net_text.specs.FoldLimits.{OverFold}
-use Rattle.command_replies.specs.subadd_closure.specs.FoldWork.{fold_work}
+use Rattle.net_cells.specs.net_model.specs.Accepted.{IsAccepted}
+use Rattle.net_cells.specs.net_model.specs.Networks.{Net}
+use Rattle.net_cells.specs.net_model.specs.Orders.{IsOrder}
+use Rattle.net_cells.specs.net_graph.proofs.OneOrders.{one_order}
+use Rattle.net_cells.specs.net_graph.proofs.Returns.{order_or_cycle}
+use Rattle.net_text.specs.Folds.{StepsAtMost}
+use Rattle.net_text.specs.Reading.{IsNetworkOf}
+use Rattle.net_text.specs.FoldLimits.{OverFold}
+use Rattle.subadd_closure.specs.FoldWork.{fold_work}
 use Rattle.command_replies.specs.CellWork.{work_of_cells}
 use Rattle.command_replies.proofs.FirstFaults.{says}
 use Rattle.analyse_command.specs.AnswerCounts.{CountsOnNet, CountsOn}

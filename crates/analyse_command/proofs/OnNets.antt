@@ -1,14 +1,14 @@
 -- The reply on a network, and its status.
 use Rattle.std.proofs.Common.{◌≡◌, ℕ, List, map, inl, inr}
-use Rattle.upp_limits.specs.LimitTest.{fault_of}
-use Rattle.upp_limits.specs.declared.own_limits.OverLimit.{OverLimit}
-use Rattle.net_model.specs.Accepted.{IsAccepted}
-use Rattle.net_model.specs.Networks.{Net}
-use Rattle.net_model.specs.Orders.{IsOrder}
-use Rattle.net_model.specs.Walks.{IsCycle}
-use Rattle.json_report.specs.net_cells.specs.declared.cell.Cell.{Cell}
-use Rattle.json_report.specs.net_cells.specs.FirstOver.{FirstOver}
-use Rattle.json_report.specs.report_text.specs.CellWords.{server_name, cell_words}
+use Rattle.net_cells.specs.upp_limits.specs.LimitTest.{fault_of}
+use Rattle.net_cells.specs.upp_limits.specs.declared.own_limits.OverLimit.{OverLimit}
+use Rattle.net_cells.specs.net_model.specs.Accepted.{IsAccepted}
+use Rattle.net_cells.specs.net_model.specs.Networks.{Net}
+use Rattle.net_cells.specs.net_model.specs.Orders.{IsOrder}
+use Rattle.net_cells.specs.net_model.specs.Walks.{IsCycle}
+use Rattle.net_cells.specs.declared.cell.Cell.{Cell}
+use Rattle.net_cells.specs.FirstOver.{FirstOver}
+use Rattle.report_text.specs.CellWords.{server_name, cell_words}
 use Rattle.command_replies.specs.OnFiles.{IsNetOf, IsNoNetwork}
 use Rattle.json_report.specs.declared.form.Form.{Form}
 use Rattle.analyse_command.specs.OnFiles.{Broken, CurveOver, Cyclic, CellOver, IsReplyOn, IsReplyOnNet}

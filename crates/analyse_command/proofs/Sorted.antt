@@ -1,11 +1,11 @@
 -- The replies on a file, sorted by what the file gives: a fault or a network; of a network, by cycle or order.
 use Rattle.std.proofs.Common.{◌≡◌, ℕ, List, ◌⊎◌, inl, inr}
-use Rattle.net_model.specs.Networks.{Net}
-use Rattle.net_model.specs.Orders.{IsOrder}
-use Rattle.json_report.specs.net_cells.specs.Meanings.{CellTable}
-use Rattle.json_report.specs.net_cells.specs.Equations.{MeetsEquations}
-use Rattle.json_report.specs.net_cells.specs.FirstOver.{AnswersAll}
-use Rattle.json_report.specs.net_cells.specs.Order.{evaluation_order}
+use Rattle.net_cells.specs.net_model.specs.Networks.{Net}
+use Rattle.net_cells.specs.net_model.specs.Orders.{IsOrder}
+use Rattle.net_cells.specs.Meanings.{CellTable}
+use Rattle.net_cells.specs.Equations.{MeetsEquations}
+use Rattle.net_cells.specs.FirstOver.{AnswersAll}
+use Rattle.net_cells.specs.Order.{evaluation_order}
 use Rattle.command_replies.specs.Replies.{Reply}
 use Rattle.command_replies.specs.OnFiles.{IsNetOf}
 use Rattle.command_replies.proofs.OneRefusal.{OnFault, OnCycle, IsOver, on_fault}

@@ -3,9 +3,9 @@ use Rattle.std.proofs.Common.{◌≡◌, Option, Some, None, ap}
 use Rattle.std.specs.Prelude.{codes}
 use Rattle.rational.specs.Extended.{Ext}
 use Rattle.rational.specs.declared.Extended.TheVariants.{Inf}
-use Rattle.json_report.specs.net_cells.specs.Meanings.{Meaning, curve, number}
-use Rattle.json_report.specs.report_text.specs.Shown.{shown_value}
-use Rattle.json_report.specs.report_text.proofs.TextLemmas.{only_infinity}
+use Rattle.net_cells.specs.Meanings.{Meaning, curve, number}
+use Rattle.report_text.specs.Shown.{shown_value}
+use Rattle.report_text.proofs.TextLemmas.{only_infinity}
 use Rattle.analyse_command.specs.AnswerLaws.{UnboundedIsInfinite}
 
 by_value : (m : Option Meaning) → shown_value m ≡ codes "unbounded" → m ≡ Some (number Inf)

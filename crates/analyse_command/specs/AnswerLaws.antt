@@ -1,16 +1,16 @@
 -- What holds of the replies on a file.
 use Rattle.std.specs.Prelude.{◌≡◌, ℕ, List, Some, codes}
 use Rattle.rational.specs.declared.Extended.TheVariants.{Inf}
-use Rattle.upp_limits.specs.declared.op_kind.OpFault.{OpFault}
-use Rattle.net_model.specs.Networks.{Net}
-use Rattle.net_model.specs.Orders.{IsOrder}
-use Rattle.net_model.specs.Walks.{IsFeedForward}
-use Rattle.command_replies.specs.net_text.specs.Reading.{IsNetworkOf}
-use Rattle.command_replies.specs.net_text.specs.FoldLimits.{OverFold}
-use Rattle.json_report.specs.net_cells.specs.declared.cell.Cell.{Cell}
-use Rattle.json_report.specs.net_cells.specs.Meanings.{number, CellTable}
-use Rattle.json_report.specs.net_cells.specs.FirstOver.{FirstOver}
-use Rattle.json_report.specs.report_text.specs.Shown.{shown}
+use Rattle.net_cells.specs.upp_limits.specs.declared.op_kind.OpFault.{OpFault}
+use Rattle.net_cells.specs.net_model.specs.Networks.{Net}
+use Rattle.net_cells.specs.net_model.specs.Orders.{IsOrder}
+use Rattle.net_cells.specs.net_model.specs.Walks.{IsFeedForward}
+use Rattle.net_text.specs.Reading.{IsNetworkOf}
+use Rattle.net_text.specs.FoldLimits.{OverFold}
+use Rattle.net_cells.specs.declared.cell.Cell.{Cell}
+use Rattle.net_cells.specs.Meanings.{number, CellTable}
+use Rattle.net_cells.specs.FirstOver.{FirstOver}
+use Rattle.report_text.specs.Shown.{shown}
 use Rattle.json_report.specs.declared.form.Form.{Form}
 use Rattle.command_replies.specs.Replies.{Reply, AreSame}
 use Rattle.analyse_command.specs.OnFiles.{IsReplyOn}

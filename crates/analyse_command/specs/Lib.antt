@@ -1,4 +1,3 @@
 pub mod OnFiles
 pub mod AnswerCounts
 pub mod AnswerLaws
-pub use Rattle.json_report as json_report

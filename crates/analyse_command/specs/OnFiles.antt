@@ -1,15 +1,15 @@
 -- What is answered on the bytes of a file: by its first fault, or by its network; by a cycle, or by the order of the
 -- servers; by the first cell over a limit, or by a table of all cells.
 use Rattle.std.specs.Prelude.{◌≡◌, ℕ, List}
-use Rattle.upp_limits.specs.declared.own_limits.OverLimit.{OverLimit}
-use Rattle.net_model.specs.Networks.{Net}
-use Rattle.net_model.specs.Orders.{IsOrder}
-use Rattle.command_replies.specs.net_text.specs.Reading.{IsNetworkOf}
-use Rattle.command_replies.specs.net_text.specs.FoldLimits.{OverFold}
-use Rattle.json_report.specs.net_cells.specs.Meanings.{CellTable}
-use Rattle.json_report.specs.net_cells.specs.Equations.{MeetsEquations}
-use Rattle.json_report.specs.net_cells.specs.FirstOver.{AnswersAll}
-use Rattle.json_report.specs.net_cells.specs.Order.{evaluation_order}
+use Rattle.net_cells.specs.upp_limits.specs.declared.own_limits.OverLimit.{OverLimit}
+use Rattle.net_cells.specs.net_model.specs.Networks.{Net}
+use Rattle.net_cells.specs.net_model.specs.Orders.{IsOrder}
+use Rattle.net_text.specs.Reading.{IsNetworkOf}
+use Rattle.net_text.specs.FoldLimits.{OverFold}
+use Rattle.net_cells.specs.Meanings.{CellTable}
+use Rattle.net_cells.specs.Equations.{MeetsEquations}
+use Rattle.net_cells.specs.FirstOver.{AnswersAll}
+use Rattle.net_cells.specs.Order.{evaluation_order}
 use Rattle.command_replies.specs.Replies.{Reply}
 use Rattle.json_report.specs.declared.form.Form.{Form}
 use Rattle.json_report.specs.Forms.{report_in}

@@ -7,5 +7,4 @@ mod on_file;
 mod on_net;
 
 pub use answer_laws::{answers_are_determined, replies_are_complete, unbounded_is_infinite};
-pub use json_report;
 pub use on_file::on_bytes;

@@ -6,9 +6,9 @@ ghost use Rattle.analyse_command.specs.OnFiles.{IsReplyOn};
 ghost use Rattle.command_replies.specs.View.{reply_of, status_of};
 
 use crate::on_net::on_network;
-use command_replies::net_text::read_network;
 use command_replies::{Answer, on_fault};
 use json_report::Form;
+use net_text::read_network;
 use std::alloc::{AllocError, Global};
 use std::sync::ledger::Ledger;
 use steps::Steps;

@@ -1,17 +1,17 @@
 //! The answer on a network.
 
 ghost use Rattle.std.specs.Prelude.{IfOk};
-ghost use Rattle.net_model.specs.Orders.{IsOrder};
+ghost use Rattle.net_cells.specs.net_model.specs.Orders.{IsOrder};
 ghost use Rattle.analyse_command.specs.AnswerCounts.{CountsOnNet};
 ghost use Rattle.analyse_command.specs.OnFiles.{IsReplyOnNet};
 ghost use Rattle.command_replies.specs.View.{reply_of, status_of};
 
+use cell_table::AnalysisFault;
 use command_replies::{Answer, Status, cell_too_many, cell_too_wide, goes_round};
 use flow_analysis::analyse;
-use json_report::cell_table::AnalysisFault;
 use json_report::{Form, text_in};
-use net_graph::{GraphFault, order};
-use net_model::Network;
+use net_cells::net_graph::{GraphFault, order};
+use net_cells::net_model::Network;
 use std::alloc::{AllocError, Global};
 use std::sync::ledger::Ledger;
 use steps::Steps;

@@ -3,31 +3,31 @@ use Rattle.std.proofs.Common.{◌≡◌, ℕ, suc, ◌<◌, ◌≤◌, ◌+◌, 
 use Rattle.std.specs.Prelude.{Option, None, Some, Ok, Err, Result, IfOk, ◌==◌}
 use Rattle.std.specs.List.{range_with_len}
 use Rattle.std.proofs.lemmas.Bool.{ltb-true, and_parts}
-use Rattle.rational.specs.Extended.{Ext}
-use Rattle.curve_conv.specs.upp_limits.specs.declared.op_kind.OpFault.{OpFault}
-use Rattle.curve_conv.specs.upp_limits.specs.declared.op_kind.OpFault.TheVariants.{NoMemory}
-use Rattle.curve_conv.specs.upp_curve.specs.Curve.{SpecCurve, value_at}
+use Rattle.fraction128.specs.rational.specs.Extended.{Ext}
+use Rattle.net_cells.specs.upp_limits.specs.declared.op_kind.OpFault.{OpFault}
+use Rattle.net_cells.specs.upp_limits.specs.declared.op_kind.OpFault.TheVariants.{NoMemory}
+use Rattle.net_cells.specs.upp_curve.specs.Curve.{SpecCurve, value_at}
 use Rattle.min_plus.specs.Deviations.{IsHorizontalDeviation}
-use Rattle.cell_table.specs.run_laws.specs.Servers.{Discipline, Fifo, Priority, Drr}
-use Rattle.cell_table.specs.net_model.specs.Networks.{Net}
-use Rattle.cell_table.specs.net_cells.specs.declared.cell.Cell.{Cell}
-use Rattle.cell_table.specs.net_cells.specs.declared.cell.Kind.TheVariants.{In, Cross, Total, Higher, QueueService, Theta, Residual, QueueDelay, QueueBacklog, HopDelay, ShiftOut, DeconvOut, Out, PathService, Tfa, Sfa, Bound}
-use Rattle.cell_table.specs.net_cells.specs.Numbered.{hops, server_of_hop, queue_of_hop, queues, discipline, is_live}
-use Rattle.cell_table.specs.net_cells.specs.declared.visit.Visit.{Visit}
-use Rattle.cell_table.specs.net_cells.specs.Visits.{visit, visits_in, others, is_at}
-use Rattle.cell_table.specs.net_cells.specs.QueueParts.{in_part, part_numbers, by_parts}
-use Rattle.cell_table.specs.net_cells.specs.Order.{at_visit}
-use Rattle.cell_table.specs.net_cells.specs.Cells.{cell_of}
-use Rattle.cell_table.specs.net_cells.specs.Meanings.{CellTable}
-use Rattle.cell_table.specs.net_cells.specs.Formulas.{leaves}
-use Rattle.cell_table.specs.net_cells.specs.CellFormulas.{queue_service, total}
-use Rattle.cell_table.specs.net_cells.specs.Answers.{Answer, Answers}
-use Rattle.cell_table.specs.net_cells.specs.Work.{total_work}
-use Rattle.cell_table.specs.net_cells.specs.Refusals.{Stops}
-use Rattle.cell_table.specs.net_cells.proofs.LeavesOf.{parts_leaves}
-use Rattle.cell_table.specs.net_cells.proofs.Lists.{map_has, filter_has, has_range, range_has}
-use Rattle.cell_table.specs.net_cells.proofs.Places.{flow_inside}
-use Rattle.cell_table.specs.net_cells.proofs.Precedes.{some_hop}
+use Rattle.net_cells.specs.run_laws.specs.Servers.{Discipline, Fifo, Priority, Drr}
+use Rattle.net_cells.specs.net_model.specs.Networks.{Net}
+use Rattle.net_cells.specs.declared.cell.Cell.{Cell}
+use Rattle.net_cells.specs.declared.cell.Kind.TheVariants.{In, Cross, Total, Higher, QueueService, Theta, Residual, QueueDelay, QueueBacklog, HopDelay, ShiftOut, DeconvOut, Out, PathService, Tfa, Sfa, Bound}
+use Rattle.net_cells.specs.Numbered.{hops, server_of_hop, queue_of_hop, queues, discipline, is_live}
+use Rattle.net_cells.specs.declared.visit.Visit.{Visit}
+use Rattle.net_cells.specs.Visits.{visit, visits_in, others, is_at}
+use Rattle.net_cells.specs.QueueParts.{in_part, part_numbers, by_parts}
+use Rattle.net_cells.specs.Order.{at_visit}
+use Rattle.net_cells.specs.Cells.{cell_of}
+use Rattle.net_cells.specs.Meanings.{CellTable}
+use Rattle.net_cells.specs.Formulas.{leaves}
+use Rattle.net_cells.specs.CellFormulas.{queue_service, total}
+use Rattle.net_cells.specs.Answers.{Answer, Answers}
+use Rattle.net_cells.specs.Work.{total_work}
+use Rattle.net_cells.specs.Refusals.{Stops}
+use Rattle.net_cells.proofs.LeavesOf.{parts_leaves}
+use Rattle.net_cells.proofs.Lists.{map_has, filter_has, has_range, range_has}
+use Rattle.net_cells.proofs.Places.{flow_inside}
+use Rattle.net_cells.proofs.Precedes.{some_hop}
 use Rattle.cell_eval.specs.declared.found.Pick.{Pick}
 use Rattle.cell_table.specs.Gives.{Gives}
 use Rattle.cell_eval.specs.declared.found.Pick.TheVariants.{InQueue, InPart}
@@ -41,7 +41,7 @@ use Rattle.cell_eval.proofs.Rises.{grows_served}
 use Rattle.cell_eval.proofs.Meeting.{InList, meets_below, operand, curve_map, number_map, curve_from, number_from, sum_leaf, served_leaf}
 use Rattle.cell_eval.proofs.Choosing.{queue_visits, other_visits, part_visits}
 use Rattle.cell_eval.proofs.Shapes.{in_rises, cross_rises, total_rises, higher_rises, queue_served, hop_served, residual_grows, path_grows, queue_delay_ahead, hop_delay_ahead}
-use Rattle.cell_table.specs.run_laws.proofs.Members.{Has, has_map, has_flat}
+use Rattle.net_cells.specs.run_laws.proofs.Members.{Has, has_map, has_flat}
 use Rattle.min_plus.specs.Functions.{IsNonneg}
 
 -- ---- what stands in the table

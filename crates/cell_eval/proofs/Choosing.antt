@@ -4,15 +4,15 @@ use Rattle.std.specs.Prelude.{Option, Some, None, slice_index, ◌==◌}
 use Rattle.std.specs.List.{filter, flat_map, range_with_len}
 use Rattle.std.proofs.lemmas.Bool.{cases_lt, cond-true, cond-false, eq-eqb, ne_eqb}
 use Rattle.std.proofs.lemmas.List.FromFn.{map-range_with_len_more}
-use Rattle.cell_table.specs.net_model.specs.Networks.{Net, NetFlow}
-use Rattle.cell_table.specs.net_model.specs.Accepted.{IsAccepted}
-use Rattle.cell_table.specs.net_cells.specs.Numbered.{flow_at, path_of, hops, server_of_hop, queue_of_hop}
-use Rattle.cell_table.specs.net_cells.specs.declared.visit.Visit.{Visit}
-use Rattle.cell_table.specs.net_cells.specs.Visits.{visit, visits, is_at, visits_in, others, longest_of}
-use Rattle.cell_table.specs.net_cells.specs.QueueParts.{part_of, in_part}
-use Rattle.cell_table.specs.net_cells.proofs.Counting.{filter_twice}
-use Rattle.cell_table.specs.net_cells.proofs.Growing.{filter_flat, flat_more, kept_number, dropped_number}
-use Rattle.cell_table.specs.net_cells.proofs.Stored.{flow_kept}
+use Rattle.net_cells.specs.net_model.specs.Networks.{Net, NetFlow}
+use Rattle.net_cells.specs.net_model.specs.Accepted.{IsAccepted}
+use Rattle.net_cells.specs.Numbered.{flow_at, path_of, hops, server_of_hop, queue_of_hop}
+use Rattle.net_cells.specs.declared.visit.Visit.{Visit}
+use Rattle.net_cells.specs.Visits.{visit, visits, is_at, visits_in, others, longest_of}
+use Rattle.net_cells.specs.QueueParts.{part_of, in_part}
+use Rattle.net_cells.proofs.Counting.{filter_twice}
+use Rattle.net_cells.proofs.Growing.{filter_flat, flat_more, kept_number, dropped_number}
+use Rattle.net_cells.proofs.Stored.{flow_kept}
 use Rattle.cell_eval.specs.declared.found.Pick.{Pick}
 use Rattle.cell_eval.specs.declared.found.Pick.TheVariants.{InQueue, InPart}
 use Rattle.cell_eval.specs.Chosen.{flow_visits, picks, is_other, picked, chosen, all_picked, all_chosen}

@@ -1,9 +1,9 @@
 -- How operators are counted.
 use Rattle.std.proofs.Common.{◌≡◌, ℕ, ◌+◌, arith}
 use Rattle.std.specs.Prelude.{Ok, Err, Result, IfOk, OnOk}
-use Rattle.curve_conv.specs.upp_limits.specs.declared.op_kind.OpFault.{OpFault}
-use Rattle.cell_table.specs.net_cells.specs.Meanings.{Meaning}
-use Rattle.cell_table.specs.net_cells.specs.Answers.{Answer}
+use Rattle.net_cells.specs.upp_limits.specs.declared.op_kind.OpFault.{OpFault}
+use Rattle.net_cells.specs.Meanings.{Meaning}
+use Rattle.net_cells.specs.Answers.{Answer}
 use Rattle.cell_table.specs.Values.{answer_of}
 use Rattle.cell_eval.specs.Evaluates.{Counts}
 

@@ -1,19 +1,19 @@
 -- The rate of a link is nowhere below 0, and so its bucket is refused only for want of memory.
 use Rattle.std.specs.Prelude.{◌≡◌, ◌⊎◌, ◌↔◌, ℕ, Option, Some, None, Result, Err, slice_get}
 use Rattle.std.proofs.Common.{refl, ap, subst, inl, inr}
-use Rattle.rational.specs.Rational.{ℚ, ◌≤ℚ◌, ◌<ℚ◌}
-use Rattle.rational.proofs.Laws.{le_refl, le_of_lt, lt_irrefl, le_lt_trans}
-use Rattle.rational.proofs.Integers.{nat_nonneg}
+use Rattle.fraction128.specs.rational.specs.Rational.{ℚ, ◌≤ℚ◌, ◌<ℚ◌}
+use Rattle.fraction128.specs.rational.proofs.Laws.{le_refl, le_of_lt, lt_irrefl, le_lt_trans}
+use Rattle.fraction128.specs.rational.proofs.Integers.{nat_nonneg}
 use Rattle.min_plus.specs.Functions.{zero_q}
-use Rattle.cell_table.specs.run_laws.specs.Cards.{whole}
-use Rattle.curve_conv.specs.upp_curve.specs.Curve.{SpecCurve}
+use Rattle.net_cells.specs.run_laws.specs.Cards.{whole}
+use Rattle.net_cells.specs.upp_curve.specs.Curve.{SpecCurve}
 use Rattle.curve_library.specs.Causes.{OneNegative}
 use Rattle.curve_library.specs.declared.fault.CurveFault.{CurveFault}
 use Rattle.curve_library.specs.declared.fault.CurveFault.TheVariants.{Negative, NoMemory}
-use Rattle.cell_table.specs.net_model.specs.Networks.{Net, NetServer}
-use Rattle.cell_table.specs.net_model.specs.Accepted.{IsServer, IsAccepted}
-use Rattle.cell_table.specs.net_cells.specs.Numbered.{rate, rate_of}
-use Rattle.cell_table.specs.net_cells.proofs.Stored.{server_kept}
+use Rattle.net_cells.specs.net_model.specs.Networks.{Net, NetServer}
+use Rattle.net_cells.specs.net_model.specs.Accepted.{IsServer, IsAccepted}
+use Rattle.net_cells.specs.Numbered.{rate, rate_of}
+use Rattle.net_cells.proofs.Stored.{server_kept}
 
 -- ---- rates
 of_found : (o : Option NetServer) → ((s : NetServer) → o ≡ Some s → IsServer s) → zero_q ≤ℚ rate_of o

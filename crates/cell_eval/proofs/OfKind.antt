@@ -2,15 +2,15 @@
 use Rattle.std.proofs.Common.{◌≡◌, ℕ, sym, subst}
 use Rattle.std.specs.Prelude.{IsTrue, ◌==◌}
 use Rattle.std.proofs.lemmas.Bool.{and_parts, eqb-true}
-use Rattle.cell_table.specs.net_model.specs.Networks.{Net}
-use Rattle.cell_table.specs.net_cells.specs.declared.cell.Cell.{Cell}
-use Rattle.cell_table.specs.net_cells.specs.declared.cell.Kind.{Kind}
-use Rattle.cell_table.specs.net_cells.specs.declared.cell.Scope.{Scope}
-use Rattle.cell_table.specs.net_cells.specs.declared.cell.Scope.TheVariants.{EachPath}
-use Rattle.cell_table.specs.net_cells.specs.Numbered.{is_live}
-use Rattle.cell_table.specs.net_cells.specs.Cells.{cell_of, scope_of, is_in_scope}
-use Rattle.cell_table.specs.net_cells.specs.Meanings.{CellTable}
-use Rattle.cell_table.specs.net_cells.specs.Answers.{Answer}
+use Rattle.net_cells.specs.net_model.specs.Networks.{Net}
+use Rattle.net_cells.specs.declared.cell.Cell.{Cell}
+use Rattle.net_cells.specs.declared.cell.Kind.{Kind}
+use Rattle.net_cells.specs.declared.cell.Scope.{Scope}
+use Rattle.net_cells.specs.declared.cell.Scope.TheVariants.{EachPath}
+use Rattle.net_cells.specs.Numbered.{is_live}
+use Rattle.net_cells.specs.Cells.{cell_of, scope_of, is_in_scope}
+use Rattle.net_cells.specs.Meanings.{CellTable}
+use Rattle.net_cells.specs.Answers.{Answer}
 use Rattle.cell_eval.specs.Evaluates.{MayBeMade, Evaluates}
 
 module _ (net : Net) (at : CellTable) (c : Cell) (kind : Kind) where

@@ -1,23 +1,23 @@
 -- At which operator calls on the values of cells are refused.
 use Rattle.std.proofs.Common.{◌≡◌, ℕ, ◌+◌, List, [], ◌∷◌, length, refl, sym, subst, arith}
 use Rattle.std.specs.Prelude.{Some, Result, Ok, Err, IfOk, IfErr, OnOk}
-use Rattle.curve_conv.specs.upp_limits.specs.declared.op_kind.OpKind.{OpKind}
-use Rattle.curve_conv.specs.upp_limits.specs.declared.op_kind.OpKind.TheVariants.{PosMinus, Vertical}
-use Rattle.curve_conv.specs.upp_limits.specs.declared.op_kind.OpFault.{OpFault}
-use Rattle.curve_conv.specs.upp_limits.specs.declared.op_kind.OpFault.TheVariants.{NoMemory}
-use Rattle.curve_conv.specs.upp_curve.specs.Curve.{SpecCurve}
+use Rattle.net_cells.specs.upp_limits.specs.declared.op_kind.OpKind.{OpKind}
+use Rattle.net_cells.specs.upp_limits.specs.declared.op_kind.OpKind.TheVariants.{PosMinus, Vertical}
+use Rattle.net_cells.specs.upp_limits.specs.declared.op_kind.OpFault.{OpFault}
+use Rattle.net_cells.specs.upp_limits.specs.declared.op_kind.OpFault.TheVariants.{NoMemory}
+use Rattle.net_cells.specs.upp_curve.specs.Curve.{SpecCurve}
 use Rattle.min_plus.specs.Deviations.{IsVerticalDeviation}
-use Rattle.cell_table.specs.run_laws.specs.Cards.{whole}
-use Rattle.curve_conv.specs.curve_call.specs.Calls.{Applies, AppliesTo, goes_on, stops}
-use Rattle.cell_table.specs.residual_calls.specs.PriorityCalls.{MakesPriority}
-use Rattle.cell_table.specs.residual_calls.specs.DrrCalls.{MakesDrr}
-use Rattle.cell_table.specs.residual_calls.specs.InTurn.{on_the_way, past, PriorityRefused, DrrRefused}
-use Rattle.cell_table.specs.net_cells.specs.declared.cell.Cell.{Cell}
-use Rattle.cell_table.specs.net_cells.specs.Meanings.{Meaning, curve, number, CellTable}
-use Rattle.cell_table.specs.net_cells.specs.Formulas.{Formula, operators, value_of, made, vertical}
-use Rattle.cell_table.specs.net_cells.specs.CellFormulas.{less}
-use Rattle.cell_table.specs.net_cells.specs.Answers.{Answers, Deviates, SumsOnto, SumsOf}
-use Rattle.cell_table.specs.net_cells.specs.Refusals.{RefusedAt, SumsOntoRefused, SumsRefused}
+use Rattle.net_cells.specs.run_laws.specs.Cards.{whole}
+use Rattle.curve_running.specs.curve_call.specs.Calls.{Applies, AppliesTo, goes_on, stops}
+use Rattle.net_cells.specs.residual_calls.specs.PriorityCalls.{MakesPriority}
+use Rattle.net_cells.specs.residual_calls.specs.DrrCalls.{MakesDrr}
+use Rattle.net_cells.specs.residual_calls.specs.InTurn.{on_the_way, past, PriorityRefused, DrrRefused}
+use Rattle.net_cells.specs.declared.cell.Cell.{Cell}
+use Rattle.net_cells.specs.Meanings.{Meaning, curve, number, CellTable}
+use Rattle.net_cells.specs.Formulas.{Formula, operators, value_of, made, vertical}
+use Rattle.net_cells.specs.CellFormulas.{less}
+use Rattle.net_cells.specs.Answers.{Answers, Deviates, SumsOnto, SumsOf}
+use Rattle.net_cells.specs.Refusals.{RefusedAt, SumsOntoRefused, SumsRefused}
 use Rattle.cell_table.specs.Gives.{Gives}
 use Rattle.cell_table.specs.Values.{answer_of}
 use Rattle.cell_eval.specs.Sharing.{IsShared}

@@ -5,30 +5,30 @@ use Rattle.std.specs.List.{range_with_len}
 use Rattle.std.proofs.lemmas.List.{map-append, length-map}
 use Rattle.std.proofs.lemmas.List.Concat.{flat_map-append}
 use Rattle.std.proofs.lemmas.List.Elements.{All-append}
-use Rattle.rational.specs.Rational.{ℚ}
-use Rattle.curve_conv.specs.upp_limits.specs.declared.op_kind.OpFault.{OpFault}
-use Rattle.curve_conv.specs.upp_curve.specs.Curve.{SpecCurve}
-use Rattle.curve_conv.specs.curve_call.specs.Calls.{goes_on, stops}
-use Rattle.cell_table.specs.residual_calls.specs.InTurn.{on_the_way, past}
-use Rattle.cell_table.specs.net_model.specs.Networks.{Net}
-use Rattle.cell_table.specs.net_cells.specs.declared.cell.Cell.{Cell}
-use Rattle.cell_table.specs.net_cells.specs.declared.cell.Kind.TheVariants.{In}
-use Rattle.cell_table.specs.net_cells.specs.Numbered.{rate}
-use Rattle.cell_table.specs.net_cells.specs.declared.visit.Visit.{Visit}
-use Rattle.cell_table.specs.net_cells.specs.Visits.{longest_of}
-use Rattle.cell_table.specs.net_cells.specs.QueueParts.{in_part, part_numbers, by_parts, link_of, link_part, links_among}
-use Rattle.cell_table.specs.net_cells.specs.Cells.{cell_of}
-use Rattle.cell_table.specs.net_cells.specs.Order.{at_visit}
-use Rattle.cell_table.specs.net_cells.specs.Meanings.{curve, CellTable}
-use Rattle.cell_table.specs.net_cells.specs.Formulas.{Formula, operators, cut}
-use Rattle.cell_table.specs.net_cells.specs.CellFormulas.{part_sum, with_part, parts_sum, sum_of_hops, sum_of_cells}
-use Rattle.cell_table.specs.net_cells.specs.Answers.{Answer, Answers, AnswersFrom, SumsOf}
-use Rattle.cell_table.specs.net_cells.specs.Refusals.{RefusedFrom, RefusedAt, SumsRefused}
-use Rattle.cell_table.specs.net_cells.specs.Work.{parts_work}
-use Rattle.cell_table.specs.net_cells.proofs.Placing.{refusals_placed}
-use Rattle.cell_table.specs.net_cells.proofs.Works.{terms, part_terms}
-use Rattle.cell_table.specs.net_cells.proofs.Growing.{range_more}
-use Rattle.cell_table.specs.net_cells.proofs.PartCounts.{more_items, links_append, links_more, no_hops, some_hops}
+use Rattle.fraction128.specs.rational.specs.Rational.{ℚ}
+use Rattle.net_cells.specs.upp_limits.specs.declared.op_kind.OpFault.{OpFault}
+use Rattle.net_cells.specs.upp_curve.specs.Curve.{SpecCurve}
+use Rattle.curve_running.specs.curve_call.specs.Calls.{goes_on, stops}
+use Rattle.net_cells.specs.residual_calls.specs.InTurn.{on_the_way, past}
+use Rattle.net_cells.specs.net_model.specs.Networks.{Net}
+use Rattle.net_cells.specs.declared.cell.Cell.{Cell}
+use Rattle.net_cells.specs.declared.cell.Kind.TheVariants.{In}
+use Rattle.net_cells.specs.Numbered.{rate}
+use Rattle.net_cells.specs.declared.visit.Visit.{Visit}
+use Rattle.net_cells.specs.Visits.{longest_of}
+use Rattle.net_cells.specs.QueueParts.{in_part, part_numbers, by_parts, link_of, link_part, links_among}
+use Rattle.net_cells.specs.Cells.{cell_of}
+use Rattle.net_cells.specs.Order.{at_visit}
+use Rattle.net_cells.specs.Meanings.{curve, CellTable}
+use Rattle.net_cells.specs.Formulas.{Formula, operators, cut}
+use Rattle.net_cells.specs.CellFormulas.{part_sum, with_part, parts_sum, sum_of_hops, sum_of_cells}
+use Rattle.net_cells.specs.Answers.{Answer, Answers, AnswersFrom, SumsOf}
+use Rattle.net_cells.specs.Refusals.{RefusedFrom, RefusedAt, SumsRefused}
+use Rattle.net_cells.specs.Work.{parts_work}
+use Rattle.net_cells.proofs.Placing.{refusals_placed}
+use Rattle.net_cells.proofs.Works.{terms, part_terms}
+use Rattle.net_cells.proofs.Growing.{range_more}
+use Rattle.net_cells.proofs.PartCounts.{more_items, links_append, links_more, no_hops, some_hops}
 use Rattle.cell_table.specs.Gives.{Gives}
 use Rattle.cell_eval.proofs.Choosing.{map_front}
 use Rattle.cell_eval.specs.declared.curve_sums.Partial.{Partial}

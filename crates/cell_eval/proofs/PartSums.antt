@@ -3,19 +3,19 @@ use Rattle.std.proofs.Common.{◌≡◌, ℕ, suc, ◌<◌, ◌≤◌, ◌+◌, 
 use Rattle.std.proofs.Math.Seq.{drop-cons, drop-length}
 use Rattle.std.specs.Prelude.{All, Result, Ok, Err}
 use Rattle.std.proofs.lemmas.List.Elements.{All-get_or}
-use Rattle.curve_conv.specs.upp_limits.specs.declared.op_kind.OpKind.TheVariants.{Sum}
-use Rattle.curve_conv.specs.upp_limits.specs.declared.op_kind.OpFault.{OpFault}
-use Rattle.curve_conv.specs.upp_limits.specs.declared.op_kind.OpFault.TheVariants.{NoMemory}
-use Rattle.curve_conv.specs.upp_curve.specs.Curve.{SpecCurve}
-use Rattle.curve_conv.specs.curve_call.specs.Again.{IsAgain}
-use Rattle.curve_conv.specs.curve_call.specs.Calls.{Applies, goes_on, stops}
-use Rattle.cell_table.specs.net_cells.specs.declared.cell.Cell.{Cell}
-use Rattle.cell_table.specs.net_cells.specs.Numbered.{zero_curve}
-use Rattle.cell_table.specs.net_cells.specs.Meanings.{Meaning, curve, number, CellTable}
-use Rattle.cell_table.specs.net_cells.specs.Formulas.{value_of}
-use Rattle.cell_table.specs.net_cells.specs.Answers.{Answer, MakesCurve, SumsOnto, SumsOf}
-use Rattle.cell_table.specs.net_cells.specs.Refusals.{SumsOntoRefused, SumsRefused}
-use Rattle.cell_table.specs.residual_calls.specs.InTurn.{on_the_way, past}
+use Rattle.net_cells.specs.upp_limits.specs.declared.op_kind.OpKind.TheVariants.{Sum}
+use Rattle.net_cells.specs.upp_limits.specs.declared.op_kind.OpFault.{OpFault}
+use Rattle.net_cells.specs.upp_limits.specs.declared.op_kind.OpFault.TheVariants.{NoMemory}
+use Rattle.net_cells.specs.upp_curve.specs.Curve.{SpecCurve}
+use Rattle.curve_running.specs.curve_call.specs.Again.{IsAgain}
+use Rattle.curve_running.specs.curve_call.specs.Calls.{Applies, goes_on, stops}
+use Rattle.net_cells.specs.declared.cell.Cell.{Cell}
+use Rattle.net_cells.specs.Numbered.{zero_curve}
+use Rattle.net_cells.specs.Meanings.{Meaning, curve, number, CellTable}
+use Rattle.net_cells.specs.Formulas.{value_of}
+use Rattle.net_cells.specs.Answers.{Answer, MakesCurve, SumsOnto, SumsOf}
+use Rattle.net_cells.specs.Refusals.{SumsOntoRefused, SumsRefused}
+use Rattle.net_cells.specs.residual_calls.specs.InTurn.{on_the_way, past}
 use Rattle.cell_table.specs.Gives.{Gives}
 use Rattle.cell_table.specs.Values.{answer_of}
 use Rattle.cell_eval.specs.Evaluates.{Counts}

@@ -2,22 +2,22 @@
 use Rattle.std.proofs.Common.{◌≡◌, ℕ, zero, suc, ◌+◌, ◌-◌, ◌*◌, ◌≤◌, refl, sym, ◌∙◌, subst, arith, inl, inr}
 use Rattle.std.specs.Prelude.{Some, Result, Ok, Err}
 use Rattle.std.proofs.lemmas.Bool.{cases_lt}
-use Rattle.curve_conv.specs.upp_limits.specs.declared.op_kind.OpKind.TheVariants.{PosMinus, Convolve}
-use Rattle.curve_conv.specs.upp_limits.specs.declared.op_kind.OpFault.{OpFault}
-use Rattle.curve_conv.specs.upp_curve.specs.Curve.{SpecCurve}
-use Rattle.cell_table.specs.run_laws.specs.Cards.{whole}
-use Rattle.curve_conv.specs.curve_call.specs.Calls.{Applies, AppliesTo, goes_on, stops}
-use Rattle.cell_table.specs.net_model.specs.Networks.{Net}
-use Rattle.cell_table.specs.net_cells.specs.declared.cell.Cell.{Cell}
-use Rattle.cell_table.specs.net_cells.specs.declared.cell.Kind.TheVariants.{Residual}
-use Rattle.cell_table.specs.net_cells.specs.Numbered.{packet}
-use Rattle.cell_table.specs.net_cells.specs.Cells.{cell_of}
-use Rattle.cell_table.specs.net_cells.specs.Meanings.{curve, CellTable}
-use Rattle.cell_table.specs.net_cells.specs.Formulas.{Formula, operators, value_of, made}
-use Rattle.cell_table.specs.net_cells.specs.CellFormulas.{less, packets_to, served_to}
-use Rattle.cell_table.specs.net_cells.specs.Answers.{Answer, Answers, MakesCurve}
-use Rattle.cell_table.specs.net_cells.specs.Refusals.{RefusedAt}
-use Rattle.cell_table.specs.residual_calls.specs.InTurn.{on_the_way}
+use Rattle.net_cells.specs.upp_limits.specs.declared.op_kind.OpKind.TheVariants.{PosMinus, Convolve}
+use Rattle.net_cells.specs.upp_limits.specs.declared.op_kind.OpFault.{OpFault}
+use Rattle.net_cells.specs.upp_curve.specs.Curve.{SpecCurve}
+use Rattle.net_cells.specs.run_laws.specs.Cards.{whole}
+use Rattle.curve_running.specs.curve_call.specs.Calls.{Applies, AppliesTo, goes_on, stops}
+use Rattle.net_cells.specs.net_model.specs.Networks.{Net}
+use Rattle.net_cells.specs.declared.cell.Cell.{Cell}
+use Rattle.net_cells.specs.declared.cell.Kind.TheVariants.{Residual}
+use Rattle.net_cells.specs.Numbered.{packet}
+use Rattle.net_cells.specs.Cells.{cell_of}
+use Rattle.net_cells.specs.Meanings.{curve, CellTable}
+use Rattle.net_cells.specs.Formulas.{Formula, operators, value_of, made}
+use Rattle.net_cells.specs.CellFormulas.{less, packets_to, served_to}
+use Rattle.net_cells.specs.Answers.{Answer, Answers, MakesCurve}
+use Rattle.net_cells.specs.Refusals.{RefusedAt}
+use Rattle.net_cells.specs.residual_calls.specs.InTurn.{on_the_way}
 use Rattle.cell_table.specs.Gives.{Gives}
 use Rattle.cell_table.specs.Values.{answer_of}
 

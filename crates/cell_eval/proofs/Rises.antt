@@ -1,27 +1,27 @@
 -- Which functions rise, by how they are made, whatever their values at 0.
 use Rattle.std.specs.Prelude.{ℕ}
 use Rattle.std.proofs.Common.{arith, subst}
-use Rattle.rational.specs.Rational.{ℚ, ◌+ℚ◌, ◌-ℚ◌, ◌≤ℚ◌}
-use Rattle.rational.specs.Extended.{Ext, ◌≤ₑ◌, ◌-ₑ◌, ◌+ₑ◌, min_ext}
-use Rattle.rational.specs.declared.Extended.TheVariants.{Fin, Inf}
-use Rattle.rational.proofs.Bounds.{smallest, supremum_le}
-use Rattle.rational.proofs.ExtendedOrder.{le_ext_refl, le_ext_trans, le_inf, add_le_ext, min_ext_mono}
-use Rattle.rational.proofs.Laws.{le_refl, le_trans, add_le_add}
-use Rattle.rational.proofs.Linear.{with3}
-use Rattle.rational.proofs.MinMax.{max_q_mono}
-use Rattle.curve_conv.specs.upp_limits.specs.declared.op_kind.OpKind.TheVariants.{Sum, Min, Shift, Deconvolve}
-use Rattle.curve_conv.specs.upp_curve.specs.Curve.{SpecCurve, value_at}
+use Rattle.fraction128.specs.rational.specs.Rational.{ℚ, ◌+ℚ◌, ◌-ℚ◌, ◌≤ℚ◌}
+use Rattle.fraction128.specs.rational.specs.Extended.{Ext, ◌≤ₑ◌, ◌-ₑ◌, ◌+ₑ◌, min_ext}
+use Rattle.fraction128.specs.rational.specs.declared.Extended.TheVariants.{Fin, Inf}
+use Rattle.fraction128.specs.rational.proofs.Bounds.{smallest, supremum_le}
+use Rattle.fraction128.specs.rational.proofs.ExtendedOrder.{le_ext_refl, le_ext_trans, le_inf, add_le_ext, min_ext_mono}
+use Rattle.fraction128.specs.rational.proofs.Laws.{le_refl, le_trans, add_le_add}
+use Rattle.fraction128.specs.rational.proofs.Linear.{with3}
+use Rattle.fraction128.specs.rational.proofs.MinMax.{max_q_mono}
+use Rattle.net_cells.specs.upp_limits.specs.declared.op_kind.OpKind.TheVariants.{Sum, Min, Shift, Deconvolve}
+use Rattle.net_cells.specs.upp_curve.specs.Curve.{SpecCurve, value_at}
 use Rattle.min_plus.specs.Functions.{zero_q, UpTo, FiniteTime, IsRising}
 use Rattle.min_plus.specs.Pointwise.{excess, shifted}
-use Rattle.cell_table.specs.run_laws.specs.Cards.{whole}
-use Rattle.cell_table.specs.run_laws.proofs.Sizes.{whole_nonneg}
-use Rattle.curve_conv.specs.curve_call.specs.Answers.{IsMadeBy}
-use Rattle.curve_conv.specs.curve_call.specs.Growth.{GrowsFromZero}
-use Rattle.curve_conv.specs.curve_call.proofs.Excesses.{finite_excess, excess_nonneg, excess_mono, excess_most}
-use Rattle.curve_conv.specs.curve_call.proofs.FiniteAnswers.{supremum_finite}
-use Rattle.curve_conv.specs.curve_call.proofs.GrowingAnswers.{same_rising}
+use Rattle.net_cells.specs.run_laws.specs.Cards.{whole}
+use Rattle.net_cells.specs.run_laws.proofs.Sizes.{whole_nonneg}
+use Rattle.curve_running.specs.curve_call.specs.Answers.{IsMadeBy}
+use Rattle.curve_running.specs.curve_call.specs.Growth.{GrowsFromZero}
+use Rattle.curve_running.specs.curve_call.proofs.Excesses.{finite_excess, excess_nonneg, excess_mono, excess_most}
+use Rattle.curve_running.specs.curve_call.proofs.FiniteAnswers.{supremum_finite}
+use Rattle.curve_running.specs.curve_call.proofs.GrowingAnswers.{same_rising}
 use Rattle.curve_deconv.proofs.Kept.{sub_le}
-use Rattle.cell_table.specs.residual_laws.specs.PriorityLaws.{IsPriorityService, priority_left}
+use Rattle.net_cells.specs.residual_laws.specs.PriorityLaws.{IsPriorityService, priority_left}
 use Rattle.cell_eval.specs.Shapes.{IsServed}
 use Rattle.min_plus.proofs.TimeSums.{nonneg_sum}
 

@@ -1,8 +1,8 @@
 -- A curve that is shared was made.
 use Rattle.std.specs.Prelude.{Result, Ok, Err, IfOk, OnOk}
-use Rattle.curve_conv.specs.upp_limits.specs.declared.op_kind.OpFault.{OpFault}
-use Rattle.curve_conv.specs.upp_curve.specs.Curve.{SpecCurve}
-use Rattle.cell_table.specs.net_cells.specs.Answers.{Answer}
+use Rattle.net_cells.specs.upp_limits.specs.declared.op_kind.OpFault.{OpFault}
+use Rattle.net_cells.specs.upp_curve.specs.Curve.{SpecCurve}
+use Rattle.net_cells.specs.Answers.{Answer}
 use Rattle.cell_eval.specs.Sharing.{IsShared}
 
 pub shared_ok : (P : Type 0) (made : Result SpecCurve OpFault) (r : Answer) → IsShared made r → IfOk made (λ _. P) → OnOk r P

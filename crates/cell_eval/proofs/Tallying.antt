@@ -1,17 +1,17 @@
 -- Numbers that are added up one after the other, and those of some cells.
 use Rattle.std.proofs.Common.{◌≡◌, ℕ, ◌≤◌, ◌^◌, List, [], ◌∷◌, ◌++◌, refl, sym, ap, ◌∙◌, subst, arith, true, false, append_assoc}
 use Rattle.std.specs.Prelude.{Option, Some, None, IfSome, IfNone, IsSome, ◌*◌, ◌/◌}
-use Rattle.rational.specs.Rational.{ℚ, den, ◌+ℚ◌}
-use Rattle.rational.specs.Extended.{Ext}
-use Rattle.rational.specs.declared.Extended.TheVariants.{Fin, Inf}
-use Rattle.rational.specs.Gauge.{lcm}
-use Rattle.curve_conv.specs.upp_limits.proofs.Gathering.{den_more}
-use Rattle.cell_table.specs.net_cells.specs.NumberSums.{has_infinite, finite}
+use Rattle.fraction128.specs.rational.specs.Rational.{ℚ, den, ◌+ℚ◌}
+use Rattle.fraction128.specs.rational.specs.Extended.{Ext}
+use Rattle.fraction128.specs.rational.specs.declared.Extended.TheVariants.{Fin, Inf}
+use Rattle.fraction128.specs.rational.specs.Gauge.{lcm}
+use Rattle.net_cells.specs.upp_limits.proofs.Gathering.{den_more}
+use Rattle.net_cells.specs.NumberSums.{has_infinite, finite}
 use Rattle.cell_eval.specs.declared.number_sums.Tally.{Tally}
 use Rattle.cell_eval.specs.declared.number_sums.Added.{Added}
 use Rattle.cell_eval.specs.Tallies.{Tallies, IsTallied, AreAdded, IsNarrow, size_of}
-use Rattle.rational.specs.Ratio.{SumFits}
-use Rattle.rational.proofs.Multiples.{lcm_swap}
+use Rattle.fraction128.specs.rational.specs.Ratio.{SumFits}
+use Rattle.fraction128.specs.rational.proofs.Multiples.{lcm_swap}
 use Rattle.fraction128.proofs.Coprime.{gcd_comm}
 use Rattle.cell_eval.proofs.Totals.{sizes_more, sizes_fit, sum_fits, den_fits}
 use Rattle.min_plus.proofs.TimeSums.{sum_more}

@@ -1,11 +1,11 @@
 -- The hops at a server, flow by flow. Own choice.
 use Rattle.std.specs.Prelude.{ℕ, ◌==◌, ◌&&◌, List, [], ◌∷◌, map, Bool, true, not, nat_lt, Option, Some, None}
 use Rattle.std.specs.List.{filter, flat_map, range_with_len}
-use Rattle.cell_table.specs.net_model.specs.Networks.{Net}
-use Rattle.cell_table.specs.net_cells.specs.Numbered.{hops, queue_of_hop}
-use Rattle.cell_table.specs.net_cells.specs.declared.visit.Visit.{Visit}
-use Rattle.cell_table.specs.net_cells.specs.Visits.{visit, is_at}
-use Rattle.cell_table.specs.net_cells.specs.QueueParts.{part_of}
+use Rattle.net_cells.specs.net_model.specs.Networks.{Net}
+use Rattle.net_cells.specs.Numbered.{hops, queue_of_hop}
+use Rattle.net_cells.specs.declared.visit.Visit.{Visit}
+use Rattle.net_cells.specs.Visits.{visit, is_at}
+use Rattle.net_cells.specs.QueueParts.{part_of}
 use Rattle.cell_eval.specs.declared.found.Pick.{Pick}
 use Rattle.cell_eval.specs.declared.found.Pick.TheVariants.{InQueue, AfterQueue, InPart}
 

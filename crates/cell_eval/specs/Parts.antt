@@ -1,16 +1,16 @@
 -- The parts of a queue while their sums are made, and then added up. Own choice.
 use Rattle.std.specs.Prelude.{◌≡◌, ℕ, ◌+◌, ◌-◌, ◌≤◌, List, [], ◌∷◌, ◌++◌, length, map, All, Option, None, Some, Result, Ok, Err}
 use Rattle.std.specs.List.{range_with_len}
-use Rattle.curve_conv.specs.upp_limits.specs.declared.op_kind.OpFault.{OpFault}
-use Rattle.curve_conv.specs.upp_curve.specs.Curve.{SpecCurve}
-use Rattle.cell_table.specs.net_model.specs.Networks.{Net}
-use Rattle.cell_table.specs.net_cells.specs.Numbered.{zero_curve}
-use Rattle.cell_table.specs.net_cells.specs.QueueParts.{in_part, part_numbers, by_parts, link_part, links_among}
-use Rattle.cell_table.specs.net_cells.specs.Meanings.{Meaning, curve, number, CellTable}
-use Rattle.cell_table.specs.net_cells.specs.CellFormulas.{part_sum, parts_sum}
-use Rattle.cell_table.specs.net_cells.specs.Answers.{Answer, Answers, AnswersFrom}
-use Rattle.cell_table.specs.net_cells.specs.Work.{parts_work}
-use Rattle.cell_table.specs.net_cells.specs.Refusals.{RefusedFrom, RefusedAt}
+use Rattle.net_cells.specs.upp_limits.specs.declared.op_kind.OpFault.{OpFault}
+use Rattle.net_cells.specs.upp_curve.specs.Curve.{SpecCurve}
+use Rattle.net_cells.specs.net_model.specs.Networks.{Net}
+use Rattle.net_cells.specs.Numbered.{zero_curve}
+use Rattle.net_cells.specs.QueueParts.{in_part, part_numbers, by_parts, link_part, links_among}
+use Rattle.net_cells.specs.Meanings.{Meaning, curve, number, CellTable}
+use Rattle.net_cells.specs.CellFormulas.{part_sum, parts_sum}
+use Rattle.net_cells.specs.Answers.{Answer, Answers, AnswersFrom}
+use Rattle.net_cells.specs.Work.{parts_work}
+use Rattle.net_cells.specs.Refusals.{RefusedFrom, RefusedAt}
 use Rattle.cell_eval.specs.declared.curve_sums.Partial.{Partial}
 use Rattle.cell_eval.specs.declared.curve_sums.Partial.TheVariants.{Nothing, One, Made}
 use Rattle.cell_eval.specs.TableValues.{IsCurveAt}

@@ -1,10 +1,10 @@
 -- A curve that is made and then shared, for which there may be no memory. Own choice.
 use Rattle.std.specs.Prelude.{◌≡◌, Result, Ok, Err}
-use Rattle.curve_conv.specs.upp_limits.specs.declared.op_kind.OpFault.{OpFault}
-use Rattle.curve_conv.specs.upp_limits.specs.declared.op_kind.OpFault.TheVariants.{NoMemory}
-use Rattle.curve_conv.specs.upp_curve.specs.Curve.{SpecCurve}
-use Rattle.cell_table.specs.net_cells.specs.Meanings.{curve}
-use Rattle.cell_table.specs.net_cells.specs.Answers.{Answer}
+use Rattle.net_cells.specs.upp_limits.specs.declared.op_kind.OpFault.{OpFault}
+use Rattle.net_cells.specs.upp_limits.specs.declared.op_kind.OpFault.TheVariants.{NoMemory}
+use Rattle.net_cells.specs.upp_curve.specs.Curve.{SpecCurve}
+use Rattle.net_cells.specs.Meanings.{curve}
+use Rattle.net_cells.specs.Answers.{Answer}
 
 -- what was made, or want of memory; a refusal stays
 abbrev pub IsShared : Result SpecCurve OpFault → Answer → Type 0

@@ -1,9 +1,9 @@
 -- Some curve, some number, and how far one curve is from another, by the cells of a table. Own choice.
-use Rattle.curve_conv.specs.upp_curve.specs.Curve.{value_at}
+use Rattle.net_cells.specs.upp_curve.specs.Curve.{value_at}
 use Rattle.min_plus.specs.Deviations.{IsHorizontalDeviation}
-use Rattle.cell_table.specs.net_cells.specs.declared.cell.Cell.{Cell}
-use Rattle.cell_table.specs.net_cells.specs.Meanings.{CellTable}
-pub use Rattle.cell_table.specs.net_cells.specs.TableValues.{HasCurve, HasNumber}
+use Rattle.net_cells.specs.declared.cell.Cell.{Cell}
+use Rattle.net_cells.specs.Meanings.{CellTable}
+pub use Rattle.net_cells.specs.TableValues.{HasCurve, HasNumber}
 
 -- some curve, some number
 abbrev pub IsCurveAt : CellTable → Cell → Type 0

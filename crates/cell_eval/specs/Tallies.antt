@@ -1,10 +1,10 @@
 -- What is gathered of numbers that are added up. Own choice.
 use Rattle.std.specs.Prelude.{◌≡◌, ℕ, ◌*◌, ◌^◌, ◌<◌, max, List, ◌++◌, Option, IfSome, IfNone}
-use Rattle.rational.specs.Rational.{ℚ, neg_ℚ}
-use Rattle.rational.specs.MinMax.{max_q}
-use Rattle.rational.specs.Gauge.{common_den, size_up}
-use Rattle.rational.specs.Extended.{Ext}
-use Rattle.cell_table.specs.net_cells.specs.NumberSums.{sizes, has_infinite, finite}
+use Rattle.fraction128.specs.rational.specs.Rational.{ℚ, neg_ℚ}
+use Rattle.fraction128.specs.rational.specs.MinMax.{max_q}
+use Rattle.fraction128.specs.rational.specs.Gauge.{common_den, size_up}
+use Rattle.fraction128.specs.rational.specs.Extended.{Ext}
+use Rattle.net_cells.specs.NumberSums.{sizes, has_infinite, finite}
 use Rattle.cell_eval.specs.declared.number_sums.Tally.{Tally}
 use Rattle.cell_eval.specs.declared.number_sums.Added.{Added}
 use Rattle.min_plus.specs.Convolution.{sum_of}

@@ -1,10 +1,10 @@
 //! The evaluator of the program.
 
 use crate::each_kind::eval;
-use cell_table::net_cells::Cell;
-use cell_table::net_model::Network;
 use cell_table::{Evaluator, Table, Value};
-use curve_conv::upp_limits::OpFault;
+use net_cells::Cell;
+use net_cells::net_model::Network;
+use net_cells::upp_limits::OpFault;
 use std::alloc::Global;
 use std::sync::ledger::Ledger;
 use steps::Steps;

@@ -1,12 +1,12 @@
 //! The cells whose values are curves: what comes to hops and queues, what serves queues and paths, what leaves hops.
 
-ghost use Rattle.cell_table.specs.net_cells.specs.declared.cell.Cell.{Cell};
-ghost use Rattle.cell_table.specs.net_cells.specs.declared.cell.Kind.TheVariants.{In, Cross, Total, Higher, QueueService};
-ghost use Rattle.cell_table.specs.net_cells.specs.declared.cell.Kind.TheVariants.{Theta, Residual, HopDelay, ShiftOut};
-ghost use Rattle.cell_table.specs.net_cells.specs.declared.cell.Kind.TheVariants.{DeconvOut, Out, PathService};
+ghost use Rattle.net_cells.specs.declared.cell.Cell.{Cell};
+ghost use Rattle.net_cells.specs.declared.cell.Kind.TheVariants.{In, Cross, Total, Higher, QueueService};
+ghost use Rattle.net_cells.specs.declared.cell.Kind.TheVariants.{Theta, Residual, HopDelay, ShiftOut};
+ghost use Rattle.net_cells.specs.declared.cell.Kind.TheVariants.{DeconvOut, Out, PathService};
 ghost use Rattle.std.specs.Prelude.{◌<◌, ℕ, Result};
-ghost use Rattle.curve_conv.specs.upp_limits.specs.declared.op_kind.OpFault.{OpFault};
-ghost use Rattle.cell_table.specs.net_cells.specs.Cells.{cell_of};
+ghost use Rattle.net_cells.specs.upp_limits.specs.declared.op_kind.OpFault.{OpFault};
+ghost use Rattle.net_cells.specs.Cells.{cell_of};
 ghost use Rattle.cell_table.specs.Values.{answer_of, meaning_of};
 ghost use Rattle.cell_eval.specs.Evaluates.{MayBeMade, Evaluates};
 
@@ -16,10 +16,10 @@ use crate::{
     Pick, again, copied, flows_sum, later, left_over, lesser, packet, parts_sum, path_service,
     queue_service, queues_sum, shared, spread,
 };
-use cell_table::net_cells::{Cell, Kind, live_flow};
-use cell_table::net_model::Network;
 use cell_table::{Table, Value};
-use curve_conv::upp_limits::OpFault;
+use net_cells::net_model::Network;
+use net_cells::upp_limits::OpFault;
+use net_cells::{Cell, Kind, live_flow};
 use std::alloc::Global;
 use std::sync::ledger::Ledger;
 use steps::Steps;

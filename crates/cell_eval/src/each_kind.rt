@@ -1,17 +1,17 @@
 //! The value of a cell, whatever its kind.
 
-ghost use Rattle.cell_table.specs.net_cells.specs.declared.cell.Cell.{Cell};
-ghost use Rattle.cell_table.specs.net_cells.specs.declared.cell.Kind.TheVariants.{In, Cross, Total, Higher, QueueService};
-ghost use Rattle.cell_table.specs.net_cells.specs.declared.cell.Kind.TheVariants.{Theta, Residual, QueueDelay, QueueBacklog};
-ghost use Rattle.cell_table.specs.net_cells.specs.declared.cell.Kind.TheVariants.{HopDelay, ShiftOut, DeconvOut, Out};
-ghost use Rattle.cell_table.specs.net_cells.specs.declared.cell.Kind.TheVariants.{PathService, Tfa, Sfa, Bound};
+ghost use Rattle.net_cells.specs.declared.cell.Cell.{Cell};
+ghost use Rattle.net_cells.specs.declared.cell.Kind.TheVariants.{In, Cross, Total, Higher, QueueService};
+ghost use Rattle.net_cells.specs.declared.cell.Kind.TheVariants.{Theta, Residual, QueueDelay, QueueBacklog};
+ghost use Rattle.net_cells.specs.declared.cell.Kind.TheVariants.{HopDelay, ShiftOut, DeconvOut, Out};
+ghost use Rattle.net_cells.specs.declared.cell.Kind.TheVariants.{PathService, Tfa, Sfa, Bound};
 ghost use Rattle.std.specs.Prelude.{◌≡◌, ◌+◌, ◌-◌, ◌≤◌, ◌<◌, IsTrue, OnOk, Result, Err};
-ghost use Rattle.curve_conv.specs.upp_limits.specs.declared.op_kind.OpFault.{OpFault};
-ghost use Rattle.cell_table.specs.net_cells.specs.Cells.{has_cell};
-ghost use Rattle.cell_table.specs.net_cells.specs.CellFormulas.{formula};
-ghost use Rattle.cell_table.specs.net_cells.specs.Equations.{MeetsBelow};
-ghost use Rattle.cell_table.specs.net_cells.specs.Work.{work};
-ghost use Rattle.cell_table.specs.net_cells.specs.Refusals.{Stops};
+ghost use Rattle.net_cells.specs.upp_limits.specs.declared.op_kind.OpFault.{OpFault};
+ghost use Rattle.net_cells.specs.Cells.{has_cell};
+ghost use Rattle.net_cells.specs.CellFormulas.{formula};
+ghost use Rattle.net_cells.specs.Equations.{MeetsBelow};
+ghost use Rattle.net_cells.specs.Work.{work};
+ghost use Rattle.net_cells.specs.Refusals.{Stops};
 ghost use Rattle.cell_table.specs.Gives.{Gives};
 ghost use Rattle.cell_table.specs.Values.{answer_of, meaning_of};
 ghost use Rattle.cell_eval.specs.Evaluates.{MayBeMade, Evaluates};
@@ -20,10 +20,10 @@ use crate::{
     arriving, bound, cross, deconv_out, higher, hop_delay, leaving, path, queue_backlog,
     queue_delay, residual, serving, sfa, shift_out, tfa, theta, total,
 };
-use cell_table::net_cells::{Cell, Kind};
-use cell_table::net_model::Network;
 use cell_table::{Table, Value};
-use curve_conv::upp_limits::OpFault;
+use net_cells::net_model::Network;
+use net_cells::upp_limits::OpFault;
+use net_cells::{Cell, Kind};
 use std::alloc::Global;
 use std::sync::ledger::Ledger;
 use steps::Steps;

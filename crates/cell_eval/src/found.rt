@@ -1,14 +1,14 @@
 //! Which hops are at a server, their longest packets, and the links of servers: nothing is stored.
 
 ghost use Rattle.std.specs.Prelude.{◌≡◌, ℕ, length, max};
-ghost use Rattle.cell_table.specs.net_cells.specs.Numbered as at;
-ghost use Rattle.cell_table.specs.net_cells.specs.Visits as visiting;
+ghost use Rattle.net_cells.specs.Numbered as at;
+ghost use Rattle.net_cells.specs.Visits as visiting;
 ghost use Rattle.cell_eval.specs.Chosen.{flow_visits, visit_list, picked, chosen, all_picked};
 ghost use Rattle.cell_eval.specs.Chosen as spec;
 
-use cell_table::net_cells::{Visit, hops, live_flow, part_of, queue_of_hop, server, server_of_hop};
-use cell_table::net_model::Network;
 use fraction128::Frac;
+use net_cells::net_model::Network;
+use net_cells::{Visit, hops, live_flow, part_of, queue_of_hop, server, server_of_hop};
 
 /// Which hops at a server are meant: those in a queue, those in the queues of greater number, or those in one part of a
 /// queue.

@@ -18,19 +18,15 @@ mod services;
 mod sharing;
 mod sums;
 
-pub use cell_table;
-pub use cell_table::net_cells::{Cell, Kind, cells, operands, work};
-pub use cell_table::{
-    Analysis, AnalysisFault, CellValue, Evaluator, Table, Value, net_cells, net_model,
-};
+pub use cell_table::{Analysis, AnalysisFault, CellValue, Evaluator, Table, Value};
 pub use counted::Counted;
-pub use curve_conv::upp_normal;
 pub use curve_sums::{Partial, finished, flows_sum, queues_sum};
 pub use curves::{
     arriving, cross, deconv_out, higher, leaving, path, residual, serving, shift_out, total,
 };
 pub use each_kind::eval;
 pub use found::{Pick, chosen_at, link, longest_at, packet, rate};
+pub use net_cells::{Cell, Kind, cells, operands, work};
 pub use nodes::{backlog, delay_between, later, left_over, lesser, spread};
 pub use numbers::{bound, hop_delay, queue_backlog, queue_delay, sfa, tfa, theta};
 pub use parts::parts_sum;

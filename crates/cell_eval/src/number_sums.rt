@@ -2,14 +2,14 @@
 
 ghost use Rattle.std.specs.Prelude.{◌≡◌, ◌≤◌, ◌^◌, ◌++◌, List, [], ◌∷◌, length, IfSome, IfNone, IfOk, IsOk, IsSome};
 ghost use Rattle.std.specs.Prelude.{MatchBool, false};
-ghost use Rattle.rational.specs.Rational.{ℚ};
-ghost use Rattle.rational.specs.Extended.{Ext};
-ghost use Rattle.cell_table.specs.net_cells.specs.NumberSums.{Sums, has_infinite, finite};
+ghost use Rattle.fraction128.specs.rational.specs.Rational.{ℚ};
+ghost use Rattle.fraction128.specs.rational.specs.Extended.{Ext};
+ghost use Rattle.net_cells.specs.NumberSums.{Sums, has_infinite, finite};
 ghost use Rattle.cell_eval.specs.Tallies.{Tallies, IsTallied, AreAdded, IsNarrow, size_of};
 
-use curve_conv::upp_limits::OpFault;
+use fraction128::rational::Extended;
 use fraction128::{Ext, Frac, Wide, least_common_multiple};
-use rational::Extended;
+use net_cells::upp_limits::OpFault;
 use std::cmp::Ordering;
 
 /// Of the numbers so far: their least common denominator, their sizes together, and their sum.

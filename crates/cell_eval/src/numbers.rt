@@ -1,12 +1,12 @@
 //! The cells whose values are numbers: delays and backlogs of queues, hops and whole paths.
 
-ghost use Rattle.cell_table.specs.net_cells.specs.declared.cell.Cell.{Cell};
-ghost use Rattle.cell_table.specs.net_cells.specs.declared.cell.Kind.TheVariants.{In, Cross, Total, QueueService, Theta};
-ghost use Rattle.cell_table.specs.net_cells.specs.declared.cell.Kind.TheVariants.{Residual, QueueDelay, QueueBacklog};
-ghost use Rattle.cell_table.specs.net_cells.specs.declared.cell.Kind.TheVariants.{HopDelay, PathService, Tfa, Sfa, Bound};
+ghost use Rattle.net_cells.specs.declared.cell.Cell.{Cell};
+ghost use Rattle.net_cells.specs.declared.cell.Kind.TheVariants.{In, Cross, Total, QueueService, Theta};
+ghost use Rattle.net_cells.specs.declared.cell.Kind.TheVariants.{Residual, QueueDelay, QueueBacklog};
+ghost use Rattle.net_cells.specs.declared.cell.Kind.TheVariants.{HopDelay, PathService, Tfa, Sfa, Bound};
 ghost use Rattle.std.specs.Prelude.{◌<◌, ℕ, Result};
-ghost use Rattle.curve_conv.specs.upp_limits.specs.declared.op_kind.OpFault.{OpFault};
-ghost use Rattle.cell_table.specs.net_cells.specs.Cells.{cell_of};
+ghost use Rattle.net_cells.specs.upp_limits.specs.declared.op_kind.OpFault.{OpFault};
+ghost use Rattle.net_cells.specs.Cells.{cell_of};
 ghost use Rattle.cell_table.specs.Values.{answer_of, meaning_of};
 ghost use Rattle.cell_eval.specs.Evaluates.{MayBeMade, Evaluates};
 
@@ -14,11 +14,11 @@ use crate::bounds::{delays, with_path};
 use crate::number_sums::{and, no_number, sum_of};
 use crate::places::{cell, numbered, place_of};
 use crate::{Pick, backlog, delay_between, longest_at, number_at};
-use cell_table::net_cells::{Cell, Kind};
-use cell_table::net_model::Network;
 use cell_table::{Table, Value};
-use curve_conv::upp_limits::OpFault;
 use fraction128::lesser_value;
+use net_cells::net_model::Network;
+use net_cells::upp_limits::OpFault;
+use net_cells::{Cell, Kind};
 use std::alloc::Global;
 use std::sync::ledger::Ledger;
 use steps::Steps;

@@ -1,13 +1,13 @@
 //! Values that a table has.
 
 ghost use Rattle.std.specs.Prelude.{◌≡◌, Some};
-ghost use Rattle.cell_table.specs.net_cells.specs.Meanings.{curve, number};
+ghost use Rattle.net_cells.specs.Meanings.{curve, number};
 ghost use Rattle.cell_eval.specs.TableValues.{IsCurveAt, IsNumberAt};
 
-use cell_table::net_cells::Cell;
 use cell_table::{Table, Value};
-use curve_conv::upp_curve::Curve;
 use fraction128::Ext;
+use net_cells::Cell;
+use net_cells::upp_curve::Curve;
 use std::rc::Rc;
 
 /// The curve of a cell that has one.

@@ -1,17 +1,17 @@
 //! Curves that are shared.
 
-ghost use Rattle.curve_conv.specs.curve_call.specs.Again.{IsAgain};
-ghost use Rattle.cell_table.specs.net_cells.specs.Formulas.{value_of};
+ghost use Rattle.curve_running.specs.curve_call.specs.Again.{IsAgain};
+ghost use Rattle.net_cells.specs.Formulas.{value_of};
 ghost use Rattle.cell_table.specs.Gives.{Gives};
 ghost use Rattle.cell_table.specs.Values.{answer_of, meaning_of};
 ghost use Rattle.cell_eval.specs.Sharing.{IsShared};
 ghost use Rattle.cell_eval.specs.TableValues.{IsCurveAt};
 
 use crate::reading::curve_at;
-use cell_table::net_cells::Cell;
 use cell_table::{Table, Value};
-use curve_conv::upp_curve::Curve;
-use curve_conv::upp_limits::OpFault;
+use net_cells::Cell;
+use net_cells::upp_curve::Curve;
+use net_cells::upp_limits::OpFault;
 use std::alloc::Global;
 use std::rc::Rc;
 

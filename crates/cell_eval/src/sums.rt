@@ -1,10 +1,10 @@
 //! The value of a sum, with what it took.
 
 ghost use Rattle.std.specs.Prelude.{◌≡◌, ℕ, ◌-◌, List, [], length, Result, Err, IfOk};
-ghost use Rattle.curve_conv.specs.upp_limits.specs.declared.op_kind.OpFault.{OpFault};
-ghost use Rattle.cell_table.specs.net_cells.specs.declared.cell.Cell.{Cell};
-ghost use Rattle.cell_table.specs.net_cells.specs.CellFormulas.{sum_of_cells};
-ghost use Rattle.cell_table.specs.net_cells.specs.Refusals.{Stops};
+ghost use Rattle.net_cells.specs.upp_limits.specs.declared.op_kind.OpFault.{OpFault};
+ghost use Rattle.net_cells.specs.declared.cell.Cell.{Cell};
+ghost use Rattle.net_cells.specs.CellFormulas.{sum_of_cells};
+ghost use Rattle.net_cells.specs.Refusals.{Stops};
 ghost use Rattle.cell_table.specs.Gives.{Gives};
 ghost use Rattle.cell_table.specs.Values.{answer_of, meaning_of};
 ghost use Rattle.cell_eval.specs.Partial.{Adds, IsReady};
@@ -12,7 +12,7 @@ ghost use Rattle.cell_eval.specs.Evaluates.{Counts};
 
 use crate::{Partial, finished};
 use cell_table::{Table, Value};
-use curve_conv::upp_limits::OpFault;
+use net_cells::upp_limits::OpFault;
 use std::alloc::Global;
 
 /// The value of a sum of cells that was made, which takes one operator less than it has terms; or its refusal.

@@ -7,17 +7,17 @@ use Rattle.std.proofs.lemmas.Bool.{cases_lt, eqb-true, ne_eqb, or_cases, or_part
 use Rattle.std.proofs.lemmas.Map.Keys.{IsDistinct-from_apart}
 use Rattle.std.proofs.lemmas.Map.Steps.{length-le_from_distinct_below}
 use Rattle.std.proofs.lemmas.Bool.Decides.{eqb_tells}
-use Rattle.cell_eval.specs.net_model.specs.Networks.{Net}
-use Rattle.cell_eval.specs.net_model.specs.Accepted.{IsAccepted}
-use Rattle.cell_eval.specs.net_model.specs.Orders.{IsOrder}
-use Rattle.cell_eval.specs.net_cells.specs.declared.cell.Cell.{Cell}
-use Rattle.cell_eval.specs.net_cells.specs.Cells.{has_cell}
-use Rattle.cell_eval.specs.net_cells.specs.Order.{evaluation_order}
-use Rattle.cell_eval.specs.net_cells.specs.Formulas.{leaves}
-use Rattle.cell_eval.specs.net_cells.specs.CellFormulas.{formula}
-use Rattle.cell_eval.specs.net_cells.proofs.Lists.{Has, Apart, contains_has, has_contains, has_either, map_has, apart_pairs}
-use Rattle.cell_eval.specs.net_cells.proofs.Members.{order_has, apart_cells}
-use Rattle.cell_eval.specs.net_cells.proofs.Precedes.{in_front, leaf_in_front, operands_are_cells}
+use Rattle.net_cells.specs.net_model.specs.Networks.{Net}
+use Rattle.net_cells.specs.net_model.specs.Accepted.{IsAccepted}
+use Rattle.net_cells.specs.net_model.specs.Orders.{IsOrder}
+use Rattle.net_cells.specs.declared.cell.Cell.{Cell}
+use Rattle.net_cells.specs.Cells.{has_cell}
+use Rattle.net_cells.specs.Order.{evaluation_order}
+use Rattle.net_cells.specs.Formulas.{leaves}
+use Rattle.net_cells.specs.CellFormulas.{formula}
+use Rattle.net_cells.proofs.Lists.{Has, Apart, contains_has, has_contains, has_either, map_has, apart_pairs}
+use Rattle.net_cells.proofs.Members.{order_has, apart_cells}
+use Rattle.net_cells.proofs.Precedes.{in_front, leaf_in_front, operands_are_cells}
 use Rattle.cell_changes.specs.Slots.{slot, HasSlot}
 use Rattle.cell_changes.specs.Changes.{HasSameRule, IsChanged, Touched, changed, made_of, Untouched, untouched, TouchedOf, no_more, passed, taken}
 use Rattle.cell_rules.specs.Finding.{flag_of, AreFlags, IsBareAtFirst, IsTold, IsNoted}

@@ -2,24 +2,24 @@
 use Rattle.std.proofs.Common.{◌≡◌, ◌≢◌, ◌⊎◌, ℕ, zero, suc, ◌==◌, List, Bool, true, false, map, refl, sym, ap, ◌∙◌, subst, inl, inr}
 use Rattle.std.specs.Prelude.{not}
 use Rattle.std.specs.List.{range_with_len}
-use Rattle.run_laws.specs.Servers.{Discipline, Fifo, Priority, Drr}
-use Rattle.cell_eval.specs.net_model.specs.Networks.{Net}
-use Rattle.cell_eval.specs.net_cells.specs.declared.cell.Cell.{Cell}
-use Rattle.cell_eval.specs.net_cells.specs.declared.cell.Kind.{Kind}
-use Rattle.cell_eval.specs.net_cells.specs.declared.cell.Kind.TheVariants.{In, Cross, Total, Higher, QueueService, Theta, Residual, QueueDelay, QueueBacklog, HopDelay, ShiftOut, DeconvOut, Out, PathService, Tfa, Sfa, Bound}
-use Rattle.cell_eval.specs.net_cells.specs.declared.cell.Scope.TheVariants.{EachPath}
-use Rattle.cell_eval.specs.net_cells.specs.Numbered.{server_of_hop, queue_of_hop, discipline}
-use Rattle.cell_eval.specs.net_cells.specs.declared.visit.Visit.{Visit}
-use Rattle.cell_eval.specs.net_cells.specs.Visits.{visits, visits_in, others}
-use Rattle.cell_eval.specs.net_cells.specs.QueueParts.{part_of, in_part, part_numbers, by_parts}
-use Rattle.cell_eval.specs.net_cells.specs.Cells.{cell_of, scope_of}
-use Rattle.cell_eval.specs.net_cells.specs.Order.{at_visit}
-use Rattle.cell_eval.specs.net_cells.specs.Formulas.{leaves}
-use Rattle.cell_eval.specs.net_cells.specs.CellFormulas.{formula_of, formula, total, queue_service}
-use Rattle.cell_eval.specs.net_cells.proofs.Lists.{Has, map_has, flat_has, filter_has}
-use Rattle.cell_eval.specs.net_cells.proofs.Places.{home, visit_has}
-use Rattle.cell_eval.specs.net_cells.proofs.LeavesOf.{parts_leaves}
-use Rattle.cell_eval.specs.net_cells.proofs.Precedes.{leaf_of_sum}
+use Rattle.net_cells.specs.run_laws.specs.Servers.{Discipline, Fifo, Priority, Drr}
+use Rattle.net_cells.specs.net_model.specs.Networks.{Net}
+use Rattle.net_cells.specs.declared.cell.Cell.{Cell}
+use Rattle.net_cells.specs.declared.cell.Kind.{Kind}
+use Rattle.net_cells.specs.declared.cell.Kind.TheVariants.{In, Cross, Total, Higher, QueueService, Theta, Residual, QueueDelay, QueueBacklog, HopDelay, ShiftOut, DeconvOut, Out, PathService, Tfa, Sfa, Bound}
+use Rattle.net_cells.specs.declared.cell.Scope.TheVariants.{EachPath}
+use Rattle.net_cells.specs.Numbered.{server_of_hop, queue_of_hop, discipline}
+use Rattle.net_cells.specs.declared.visit.Visit.{Visit}
+use Rattle.net_cells.specs.Visits.{visits, visits_in, others}
+use Rattle.net_cells.specs.QueueParts.{part_of, in_part, part_numbers, by_parts}
+use Rattle.net_cells.specs.Cells.{cell_of, scope_of}
+use Rattle.net_cells.specs.Order.{at_visit}
+use Rattle.net_cells.specs.Formulas.{leaves}
+use Rattle.net_cells.specs.CellFormulas.{formula_of, formula, total, queue_service}
+use Rattle.net_cells.proofs.Lists.{Has, map_has, flat_has, filter_has}
+use Rattle.net_cells.proofs.Places.{home, visit_has}
+use Rattle.net_cells.proofs.LeavesOf.{parts_leaves}
+use Rattle.net_cells.proofs.Precedes.{leaf_of_sum}
 
 -- it is what leaves the hop before, and the other one is what arrives
 pub record IsFromBefore (c d : Cell) : Type 0 where

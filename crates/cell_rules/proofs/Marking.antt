@@ -4,25 +4,25 @@ use Rattle.std.specs.Prelude.{slice_set, slice_index, nat_lt}
 use Rattle.std.proofs.lemmas.List.{get_or-set_same, get_or-set_other, get_or_past, length-set, take_more}
 use Rattle.std.proofs.lemmas.Bool.{cases_lt, eqb-true, eq-eqb, ne_eqb, cond-false, or_cases, or_left, or_right, and_parts, ltb-true}
 use Rattle.std.proofs.lemmas.Bool.Decides.{eqb_tells}
-use Rattle.cell_eval.specs.net_model.specs.Networks.{Net}
-use Rattle.cell_eval.specs.net_model.specs.Accepted.{IsAccepted}
-use Rattle.cell_eval.specs.net_cells.specs.declared.cell.Cell.{Cell}
-use Rattle.cell_eval.specs.net_cells.specs.declared.cell.Kind.{Kind}
-use Rattle.cell_eval.specs.net_cells.specs.declared.cell.Kind.TheVariants.{In, Cross, Total, Higher, QueueService, Theta, Residual, QueueDelay, QueueBacklog, HopDelay, ShiftOut, DeconvOut, Out, PathService, Tfa, Sfa, Bound}
-use Rattle.cell_eval.specs.net_cells.specs.declared.cell.Scope.TheVariants.{EachPath}
-use Rattle.cell_eval.specs.net_cells.specs.declared.visit.Visit.{Visit}
-use Rattle.cell_eval.specs.net_cells.specs.Numbered.{path, hops, server_of_hop, queue_of_hop}
-use Rattle.cell_eval.specs.net_cells.specs.Visits.{visits, visits_in}
-use Rattle.cell_eval.specs.net_cells.specs.QueueParts.{part_of, in_part}
-use Rattle.cell_eval.specs.net_cells.specs.Cells.{cell_of, scope_of, has_cell}
-use Rattle.cell_eval.specs.net_cells.specs.Order.{server_cells}
-use Rattle.cell_eval.specs.net_cells.proofs.Lists.{Has, contains_has, has_contains, has_either, filter_has}
-use Rattle.cell_eval.specs.net_cells.proofs.Places.{flow_inside, visit_has, home, server_have}
+use Rattle.net_cells.specs.net_model.specs.Networks.{Net}
+use Rattle.net_cells.specs.net_model.specs.Accepted.{IsAccepted}
+use Rattle.net_cells.specs.declared.cell.Cell.{Cell}
+use Rattle.net_cells.specs.declared.cell.Kind.{Kind}
+use Rattle.net_cells.specs.declared.cell.Kind.TheVariants.{In, Cross, Total, Higher, QueueService, Theta, Residual, QueueDelay, QueueBacklog, HopDelay, ShiftOut, DeconvOut, Out, PathService, Tfa, Sfa, Bound}
+use Rattle.net_cells.specs.declared.cell.Scope.TheVariants.{EachPath}
+use Rattle.net_cells.specs.declared.visit.Visit.{Visit}
+use Rattle.net_cells.specs.Numbered.{path, hops, server_of_hop, queue_of_hop}
+use Rattle.net_cells.specs.Visits.{visits, visits_in}
+use Rattle.net_cells.specs.QueueParts.{part_of, in_part}
+use Rattle.net_cells.specs.Cells.{cell_of, scope_of, has_cell}
+use Rattle.net_cells.specs.Order.{server_cells}
+use Rattle.net_cells.proofs.Lists.{Has, contains_has, has_contains, has_either, filter_has}
+use Rattle.net_cells.proofs.Places.{flow_inside, visit_has, home, server_have}
 use Rattle.cell_changes.specs.Slots.{columns, HasSlot}
 use Rattle.cell_rules.specs.declared.site.Site.TheVariants.{Server, Flow}
 use Rattle.cell_rules.specs.Sites.{is_among, passes, comes_by, has_hop, is_cut_by, reads_server, reads_flow}
 use Rattle.cell_rules.specs.Marks.{is_marked, goes_on, KeepsMarks, MarksEach, MarksPath, MarksBehind, MarksNext, MarksOnward, MarksCandidates}
-use Rattle.cell_eval.specs.cell_table.proofs.Fronts.{no_cell, cell_at}
+use Rattle.cell_table.proofs.Fronts.{no_cell, cell_at}
 
 -- ---- one mark more
 pub mark_here : (marks : List Bool) (s : ℕ) → is_marked (slice_set marks s true) s ≡ true

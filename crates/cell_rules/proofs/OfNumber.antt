@@ -2,17 +2,17 @@
 use Rattle.std.proofs.Common.{◌≡◌, ◌<◌, ◌≤◌, ℕ, ◌+◌, ◌==◌, List, ◌++◌, length, map, sym, ap, subst, arith, true, Option, None}
 use Rattle.std.specs.Prelude.{slice_get, slice_index_or, nat_lt, is_some, ◌&&◌}
 use Rattle.std.specs.List.{flat_map, range_with_len}
-use Rattle.run_laws.specs.Servers.{queue_count}
-use Rattle.cell_eval.specs.net_model.specs.Networks.{Net, NetServer, NetFlow}
-use Rattle.cell_eval.specs.net_model.specs.Accepted.{IsAccepted}
-use Rattle.cell_eval.specs.net_cells.specs.declared.cell.Cell.{Cell}
-use Rattle.cell_eval.specs.net_cells.specs.declared.cell.Kind.{Kind}
-use Rattle.cell_eval.specs.net_cells.specs.declared.cell.Scope.{Scope}
-use Rattle.cell_eval.specs.net_cells.specs.declared.cell.Scope.TheVariants.{EachHop, EachHopButLast, EachQueue, EachPriorityQueue, EachPath}
-use Rattle.cell_eval.specs.net_cells.specs.Numbered.{flow_at, path_of, discipline_of, levels_of}
-use Rattle.cell_eval.specs.net_cells.specs.Cells.{cell_of, scope_of, is_in_scope, has_cell, server_kinds, path_kinds}
-use Rattle.cell_eval.specs.net_cells.proofs.Lists.{Has, contains_has, has_contains, has_left, has_right, has_map, map_has, has_flat, flat_has, has_filter, filter_has, has_range}
-use Rattle.cell_eval.specs.net_cells.proofs.Places.{Side, at_servers, of_paths, side_of}
+use Rattle.net_cells.specs.run_laws.specs.Servers.{queue_count}
+use Rattle.net_cells.specs.net_model.specs.Networks.{Net, NetServer, NetFlow}
+use Rattle.net_cells.specs.net_model.specs.Accepted.{IsAccepted}
+use Rattle.net_cells.specs.declared.cell.Cell.{Cell}
+use Rattle.net_cells.specs.declared.cell.Kind.{Kind}
+use Rattle.net_cells.specs.declared.cell.Scope.{Scope}
+use Rattle.net_cells.specs.declared.cell.Scope.TheVariants.{EachHop, EachHopButLast, EachQueue, EachPriorityQueue, EachPath}
+use Rattle.net_cells.specs.Numbered.{flow_at, path_of, discipline_of, levels_of}
+use Rattle.net_cells.specs.Cells.{cell_of, scope_of, is_in_scope, has_cell, server_kinds, path_kinds}
+use Rattle.net_cells.proofs.Lists.{Has, contains_has, has_contains, has_left, has_right, has_map, map_has, has_flat, flat_has, has_filter, filter_has, has_range}
+use Rattle.net_cells.proofs.Places.{Side, at_servers, of_paths, side_of}
 use Rattle.cell_changes.specs.Slots.{columns_in}
 use Rattle.cell_changes.proofs.HasSlots.{slots_are_own}
 use Rattle.cell_rules.specs.Finding.{AreCellsOf, kind_cells_of, HaveSameCellsBut}

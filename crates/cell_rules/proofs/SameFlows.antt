@@ -4,13 +4,13 @@ use Rattle.std.proofs.Common.{◌≡◌, ◌⊎◌, ℕ, suc, ◌+◌, ◌-◌, 
 use Rattle.std.specs.Prelude.{Option, None, not, ◌&&◌, if◌then◌else◌, nat_lt, slice_index}
 use Rattle.std.specs.List.{filter, range_with_len}
 use Rattle.std.proofs.lemmas.List.{get_or_past}
-use Rattle.cell_eval.specs.net_model.specs.Networks.{Net, NetFlow}
-use Rattle.cell_eval.specs.net_cells.specs.Numbered.{flow_at, path, path_of, queues_of, hops, packet, packet_of}
-use Rattle.cell_eval.specs.net_cells.specs.declared.visit.Visit.{Visit}
-use Rattle.cell_eval.specs.net_cells.specs.Visits.{visit, visits, is_at, hops_at, others, longest_of}
-use Rattle.cell_eval.specs.net_cells.specs.QueueParts.{in_part}
-use Rattle.cell_eval.specs.net_cells.proofs.Growing.{filter_mapped}
-use Rattle.cell_eval.specs.net_cells.proofs.Lists.{Has, at_has, map_has, filter_has, flat_has, range_has}
+use Rattle.net_cells.specs.net_model.specs.Networks.{Net, NetFlow}
+use Rattle.net_cells.specs.Numbered.{flow_at, path, path_of, queues_of, hops, packet, packet_of}
+use Rattle.net_cells.specs.declared.visit.Visit.{Visit}
+use Rattle.net_cells.specs.Visits.{visit, visits, is_at, hops_at, others, longest_of}
+use Rattle.net_cells.specs.QueueParts.{in_part}
+use Rattle.net_cells.proofs.Growing.{filter_mapped}
+use Rattle.net_cells.proofs.Lists.{Has, at_has, map_has, filter_has, flat_has, range_has}
 use Rattle.cell_eval.specs.declared.found.Pick.{Pick}
 use Rattle.cell_eval.specs.declared.found.Pick.TheVariants.{InQueue, AfterQueue, InPart}
 use Rattle.cell_eval.specs.Chosen.{flow_visits, picks, picked, all_picked}

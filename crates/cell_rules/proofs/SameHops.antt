@@ -4,18 +4,18 @@ use Rattle.std.specs.Prelude.{Option, Some, None}
 use Rattle.std.specs.List.{filter, flat_map, range_with_len}
 use Rattle.std.proofs.lemmas.Bool.{cases_lt}
 use Rattle.std.proofs.lemmas.List.{get_or_past}
-use Rattle.cell_eval.specs.net_model.specs.Networks.{Net, NetFlow}
-use Rattle.cell_eval.specs.net_cells.specs.declared.cell.Cell.{Cell}
-use Rattle.cell_eval.specs.net_cells.specs.declared.cell.Kind.TheVariants.{In, Cross}
-use Rattle.cell_eval.specs.net_cells.specs.Numbered.{flow_at, path_of, server_of_hop, queue_of_hop}
-use Rattle.cell_eval.specs.net_cells.specs.declared.visit.Visit.{Visit}
-use Rattle.cell_eval.specs.net_cells.specs.Visits.{visit, visits_in, others, is_at, longest, longest_after, longest_of}
-use Rattle.cell_eval.specs.net_cells.specs.Order.{at_visit}
-use Rattle.cell_eval.specs.net_cells.specs.Formulas.{leaves}
-use Rattle.cell_eval.specs.net_cells.specs.CellFormulas.{sum_of_cells, sum_of_hops}
-use Rattle.cell_eval.specs.net_cells.proofs.Growing.{flat_more, flat_below}
-use Rattle.cell_eval.specs.net_cells.proofs.LeavesOf.{sum_leaves}
-use Rattle.cell_eval.specs.net_cells.proofs.Lists.{Has, map_has, filter_has, has_flat, flat_has, has_range}
+use Rattle.net_cells.specs.net_model.specs.Networks.{Net, NetFlow}
+use Rattle.net_cells.specs.declared.cell.Cell.{Cell}
+use Rattle.net_cells.specs.declared.cell.Kind.TheVariants.{In, Cross}
+use Rattle.net_cells.specs.Numbered.{flow_at, path_of, server_of_hop, queue_of_hop}
+use Rattle.net_cells.specs.declared.visit.Visit.{Visit}
+use Rattle.net_cells.specs.Visits.{visit, visits_in, others, is_at, longest, longest_after, longest_of}
+use Rattle.net_cells.specs.Order.{at_visit}
+use Rattle.net_cells.specs.Formulas.{leaves}
+use Rattle.net_cells.specs.CellFormulas.{sum_of_cells, sum_of_hops}
+use Rattle.net_cells.proofs.Growing.{flat_more, flat_below}
+use Rattle.net_cells.proofs.LeavesOf.{sum_leaves}
+use Rattle.net_cells.proofs.Lists.{Has, map_has, filter_has, has_flat, flat_has, has_range}
 use Rattle.cell_eval.specs.declared.found.Pick.{Pick}
 use Rattle.cell_eval.specs.declared.found.Pick.TheVariants.{InQueue, AfterQueue}
 use Rattle.cell_eval.specs.Chosen.{visit_list, picks, is_other, picked, chosen, flow_visits, all_chosen, all_picked}

@@ -3,20 +3,20 @@ use Rattle.std.proofs.Common.{◌≡◌, ◌≢◌, ℕ, zero, suc, ◌<◌, ◌
 use Rattle.std.specs.Prelude.{pos}
 use Rattle.std.specs.List.{range_with_len}
 use Rattle.std.proofs.lemmas.List.{length-map, get_or-map, same_lists}
-use Rattle.rational.specs.Rational.{ℚ}
-use Rattle.rational.proofs.Integers.{int_same}
-use Rattle.min_plus.specs.Functions.{zero_q}
-use Rattle.run_laws.specs.Cards.{whole}
-use Rattle.upp_limits.specs.declared.op_kind.OpKind.TheVariants.{Convolve, Deconvolve}
-use Rattle.cell_eval.specs.net_model.specs.Networks.{Net}
-use Rattle.cell_eval.specs.net_cells.specs.declared.cell.Cell.{Cell}
-use Rattle.cell_eval.specs.net_cells.specs.declared.cell.Kind.{Kind}
-use Rattle.cell_eval.specs.net_cells.specs.declared.cell.Kind.TheVariants.{In, Cross, Total, QueueService, Theta, Residual, QueueDelay, QueueBacklog, HopDelay, DeconvOut, PathService, Tfa, Sfa}
-use Rattle.cell_eval.specs.net_cells.specs.Numbered.{path, packet, hops, server_of_hop, link}
-use Rattle.cell_eval.specs.net_cells.specs.Visits.{longest}
-use Rattle.cell_eval.specs.net_cells.specs.Cells.{cell_of}
-use Rattle.cell_eval.specs.net_cells.specs.Formulas.{Formula, leaves, made, leftover, horizontal, vertical, smaller, along, delayed}
-use Rattle.cell_eval.specs.net_cells.specs.CellFormulas.{formula, formula_of, value, less, packets_to, served_to, link_delays, hop_delay_cells}
+use Rattle.upp_normal.specs.rational.specs.Rational.{ℚ}
+use Rattle.upp_normal.specs.rational.proofs.Integers.{int_same}
+use Rattle.upp_normal.specs.min_plus.specs.Functions.{zero_q}
+use Rattle.net_cells.specs.run_laws.specs.Cards.{whole}
+use Rattle.upp_normal.specs.upp_limits.specs.declared.op_kind.OpKind.TheVariants.{Convolve, Deconvolve}
+use Rattle.net_cells.specs.net_model.specs.Networks.{Net}
+use Rattle.net_cells.specs.declared.cell.Cell.{Cell}
+use Rattle.net_cells.specs.declared.cell.Kind.{Kind}
+use Rattle.net_cells.specs.declared.cell.Kind.TheVariants.{In, Cross, Total, QueueService, Theta, Residual, QueueDelay, QueueBacklog, HopDelay, DeconvOut, PathService, Tfa, Sfa}
+use Rattle.net_cells.specs.Numbered.{path, packet, hops, server_of_hop, link}
+use Rattle.net_cells.specs.Visits.{longest}
+use Rattle.net_cells.specs.Cells.{cell_of}
+use Rattle.net_cells.specs.Formulas.{Formula, leaves, made, leftover, horizontal, vertical, smaller, along, delayed}
+use Rattle.net_cells.specs.CellFormulas.{formula, formula_of, value, less, packets_to, served_to, link_delays, hop_delay_cells}
 use Rattle.cell_rules.specs.Rules.{TellsSame, TellsFormula, hop_queue}
 use Rattle.cell_rules.proofs.Tells.{tells_by}
 

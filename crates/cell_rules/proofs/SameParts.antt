@@ -4,22 +4,22 @@ use Rattle.std.specs.Prelude.{◌==◌, None, not, if◌then◌else◌}
 use mathlib.Core.Bool.{beq}
 use Rattle.std.specs.List.{filter, range_with_len}
 use Rattle.std.proofs.lemmas.Bool.{cases_lt, cases_eq, eqb-true, eq-eqb, ne_eqb}
-use Rattle.rational.specs.Rational.{ℚ}
-use Rattle.upp_limits.specs.declared.op_kind.OpKind.TheVariants.{Sum}
-use Rattle.cell_eval.specs.net_model.specs.Networks.{Net}
-use Rattle.cell_eval.specs.net_model.specs.Accepted.{IsAccepted}
-use Rattle.cell_eval.specs.net_cells.specs.declared.cell.Cell.{Cell}
-use Rattle.cell_eval.specs.net_cells.specs.declared.cell.Kind.TheVariants.{In, Total}
-use Rattle.cell_eval.specs.net_cells.specs.Numbered.{hops, rate, queue_of_hop}
-use Rattle.cell_eval.specs.net_cells.specs.declared.visit.Visit.{Visit}
-use Rattle.cell_eval.specs.net_cells.specs.Visits.{visit, visits_in, is_at, all_visits, longest_of}
-use Rattle.cell_eval.specs.net_cells.specs.QueueParts.{part_of, in_part, part_numbers}
-use Rattle.cell_eval.specs.net_cells.specs.Order.{at_visit}
-use Rattle.cell_eval.specs.net_cells.specs.Formulas.{Formula, leaves, value_of, made, cut, part, no_part}
-use Rattle.cell_eval.specs.net_cells.specs.CellFormulas.{part_sum, with_part, parts_sum, total, sum_of_hops, sum_from}
-use Rattle.cell_eval.specs.net_cells.proofs.LeavesOf.{sum_leaves}
-use Rattle.cell_eval.specs.net_cells.proofs.Lists.{Has, map_has, filter_has, flat_has, range_has}
-use Rattle.cell_eval.specs.net_cells.proofs.PartCounts.{part_small}
+use Rattle.upp_normal.specs.rational.specs.Rational.{ℚ}
+use Rattle.upp_normal.specs.upp_limits.specs.declared.op_kind.OpKind.TheVariants.{Sum}
+use Rattle.net_cells.specs.net_model.specs.Networks.{Net}
+use Rattle.net_cells.specs.net_model.specs.Accepted.{IsAccepted}
+use Rattle.net_cells.specs.declared.cell.Cell.{Cell}
+use Rattle.net_cells.specs.declared.cell.Kind.TheVariants.{In, Total}
+use Rattle.net_cells.specs.Numbered.{hops, rate, queue_of_hop}
+use Rattle.net_cells.specs.declared.visit.Visit.{Visit}
+use Rattle.net_cells.specs.Visits.{visit, visits_in, is_at, all_visits, longest_of}
+use Rattle.net_cells.specs.QueueParts.{part_of, in_part, part_numbers}
+use Rattle.net_cells.specs.Order.{at_visit}
+use Rattle.net_cells.specs.Formulas.{Formula, leaves, value_of, made, cut, part, no_part}
+use Rattle.net_cells.specs.CellFormulas.{part_sum, with_part, parts_sum, total, sum_of_hops, sum_from}
+use Rattle.net_cells.proofs.LeavesOf.{sum_leaves}
+use Rattle.net_cells.proofs.Lists.{Has, map_has, filter_has, flat_has, range_has}
+use Rattle.net_cells.proofs.PartCounts.{part_small}
 use Rattle.cell_eval.specs.declared.found.Pick.{Pick}
 use Rattle.cell_eval.specs.declared.found.Pick.TheVariants.{InPart}
 use Rattle.cell_eval.specs.Chosen.{all_chosen, all_picked}

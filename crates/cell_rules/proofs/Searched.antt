@@ -5,24 +5,24 @@ use Rattle.std.specs.Prelude.{Contains}
 use Rattle.std.specs.List.{flat_map}
 use Rattle.std.proofs.lemmas.List.{take-append-drop, take-append-le, drop_more, take_more, take_all, length-set, get_or_default}
 use Rattle.std.proofs.lemmas.List.Concat.{flat_map-append}
-use Rattle.cell_eval.specs.net_model.specs.Networks.{Net}
-use Rattle.cell_eval.specs.net_model.specs.Accepted.{IsAccepted}
-use Rattle.cell_eval.specs.net_model.specs.Orders.{IsOrder}
-use Rattle.cell_eval.specs.net_cells.specs.declared.cell.Cell.{Cell}
-use Rattle.cell_eval.specs.net_cells.specs.Cells.{has_cell, path_kinds}
-use Rattle.cell_eval.specs.net_cells.specs.Order.{evaluation_order, server_cells, path_cells}
-use Rattle.cell_eval.specs.net_cells.specs.Formulas.{leaves}
-use Rattle.cell_eval.specs.net_cells.specs.CellFormulas.{formula}
-use Rattle.cell_eval.specs.net_cells.proofs.Lists.{Has, contains_has, has_contains, has_either, has_right}
-use Rattle.cell_eval.specs.net_cells.proofs.Places.{home, IsHome, server_have}
-use Rattle.cell_eval.specs.net_cells.proofs.Growing.{flat_element}
-use Rattle.cell_eval.specs.net_cells.proofs.Precedes.{leaf_in_front, operands_are_cells}
+use Rattle.net_cells.specs.net_model.specs.Networks.{Net}
+use Rattle.net_cells.specs.net_model.specs.Accepted.{IsAccepted}
+use Rattle.net_cells.specs.net_model.specs.Orders.{IsOrder}
+use Rattle.net_cells.specs.declared.cell.Cell.{Cell}
+use Rattle.net_cells.specs.Cells.{has_cell, path_kinds}
+use Rattle.net_cells.specs.Order.{evaluation_order, server_cells, path_cells}
+use Rattle.net_cells.specs.Formulas.{leaves}
+use Rattle.net_cells.specs.CellFormulas.{formula}
+use Rattle.net_cells.proofs.Lists.{Has, contains_has, has_contains, has_either, has_right}
+use Rattle.net_cells.proofs.Places.{home, IsHome, server_have}
+use Rattle.net_cells.proofs.Growing.{flat_element}
+use Rattle.net_cells.proofs.Precedes.{leaf_in_front, operands_are_cells}
 use Rattle.cell_rules.proofs.Homes.{leaf_near}
 use Rattle.cell_changes.specs.Slots.{slot}
 use Rattle.cell_changes.specs.Changes.{Untouched, untouched, TouchedOf, no_more}
 use Rattle.cell_changes.proofs.CarriedOver.{none_is_both}
 use Rattle.cell_changes.proofs.HasSlots.{slots_are_own}
-use Rattle.cell_eval.specs.cell_table.proofs.Fronts.{no_cell, cell_at, at_place}
+use Rattle.cell_table.proofs.Fronts.{no_cell, cell_at, at_place}
 use Rattle.cell_rules.specs.declared.site.Site.{Site}
 use Rattle.cell_rules.specs.Sites.{IsSameBut, is_candidate}
 use Rattle.cell_rules.specs.Finding.{AreFlags, IsTold, IsNoted, flag_of}

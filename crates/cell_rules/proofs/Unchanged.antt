@@ -4,20 +4,20 @@ use Rattle.std.specs.Prelude.{Option, None, not, is_some, slice_get, slice_index
 use Rattle.std.specs.List.{range_with_len}
 use Rattle.std.proofs.lemmas.Bool.{or_parts, eq-eqb}
 use Rattle.std.proofs.lemmas.Bool.Decides.{eqb_tells}
-use Rattle.run_laws.specs.Servers.{Discipline, Fifo, Priority, Drr, queue_count}
-use Rattle.cell_eval.specs.net_model.specs.Networks.{Net, NetServer, NetFlow}
-use Rattle.cell_eval.specs.net_cells.specs.declared.cell.Cell.{Cell}
-use Rattle.cell_eval.specs.net_cells.specs.declared.cell.Kind.{Kind}
-use Rattle.cell_eval.specs.net_cells.specs.declared.cell.Kind.TheVariants.{In, Cross, Total, Higher, QueueService, Theta, Residual, QueueDelay, QueueBacklog, HopDelay, ShiftOut, DeconvOut, Out, PathService, Tfa, Sfa, Bound}
-use Rattle.cell_eval.specs.net_cells.specs.Numbered.{flow_at, path, path_of, queues_of, packet_of, arrival_of, hops, service_of, rate, rate_of, link, link_of, discipline, discipline_of, levels_of, server_of_hop, queue_of_hop}
-use Rattle.cell_eval.specs.net_cells.specs.declared.visit.Visit.{Visit}
-use Rattle.cell_eval.specs.net_cells.specs.Visits.{others, longest, longest_of}
-use Rattle.cell_eval.specs.net_cells.specs.QueueParts.{in_part}
-use Rattle.cell_eval.specs.net_cells.specs.Order.{at_visit}
-use Rattle.cell_eval.specs.net_cells.specs.Cells.{scope_of, is_in_scope, has_cell}
-use Rattle.cell_eval.specs.net_cells.specs.Formulas.{given, priority, deficit, cut, part, no_part}
-use Rattle.cell_eval.specs.net_cells.specs.CellFormulas.{formula_of, value, queue_service, sum_of_cells, sum_of_hops, with_part, parts_sum, total, served_to, link_delays}
-use Rattle.cell_eval.specs.net_cells.proofs.Lists.{Has}
+use Rattle.net_cells.specs.run_laws.specs.Servers.{Discipline, Fifo, Priority, Drr, queue_count}
+use Rattle.net_cells.specs.net_model.specs.Networks.{Net, NetServer, NetFlow}
+use Rattle.net_cells.specs.declared.cell.Cell.{Cell}
+use Rattle.net_cells.specs.declared.cell.Kind.{Kind}
+use Rattle.net_cells.specs.declared.cell.Kind.TheVariants.{In, Cross, Total, Higher, QueueService, Theta, Residual, QueueDelay, QueueBacklog, HopDelay, ShiftOut, DeconvOut, Out, PathService, Tfa, Sfa, Bound}
+use Rattle.net_cells.specs.Numbered.{flow_at, path, path_of, queues_of, packet_of, arrival_of, hops, service_of, rate, rate_of, link, link_of, discipline, discipline_of, levels_of, server_of_hop, queue_of_hop}
+use Rattle.net_cells.specs.declared.visit.Visit.{Visit}
+use Rattle.net_cells.specs.Visits.{others, longest, longest_of}
+use Rattle.net_cells.specs.QueueParts.{in_part}
+use Rattle.net_cells.specs.Order.{at_visit}
+use Rattle.net_cells.specs.Cells.{scope_of, is_in_scope, has_cell}
+use Rattle.net_cells.specs.Formulas.{given, priority, deficit, cut, part, no_part}
+use Rattle.net_cells.specs.CellFormulas.{formula_of, value, queue_service, sum_of_cells, sum_of_hops, with_part, parts_sum, total, served_to, link_delays}
+use Rattle.net_cells.proofs.Lists.{Has}
 use Rattle.cell_eval.specs.declared.found.Pick.TheVariants.{InQueue, AfterQueue, InPart}
 use Rattle.cell_eval.specs.Chosen.{all_chosen}
 use Rattle.cell_eval.proofs.Choosing.{part_visits}

@@ -1,12 +1,12 @@
 -- Which cells were found to be touched so far, which a network has by a number, and which are gone. Own choice.
 use Rattle.std.specs.Prelude.{◌≡◌, ◌≢◌, ◌⊎◌, ℕ, List, [], ◌∷◌, ◌++◌, length, map, Bool, true, false, not, IsTrue, Contains, slice_index_or, slice_set}
 use Rattle.std.specs.List.{filter, list_any, range_with_len}
-use Rattle.cell_eval.specs.net_model.specs.Networks.{Net}
-use Rattle.cell_eval.specs.net_cells.specs.declared.cell.Cell.{Cell}
-use Rattle.cell_eval.specs.net_cells.specs.declared.cell.Kind.{Kind}
-use Rattle.cell_eval.specs.net_cells.specs.Cells.{cell_of, has_cell}
-use Rattle.cell_eval.specs.net_cells.specs.Formulas.{leaves}
-use Rattle.cell_eval.specs.net_cells.specs.CellFormulas.{formula}
+use Rattle.net_cells.specs.net_model.specs.Networks.{Net}
+use Rattle.net_cells.specs.declared.cell.Cell.{Cell}
+use Rattle.net_cells.specs.declared.cell.Kind.{Kind}
+use Rattle.net_cells.specs.Cells.{cell_of, has_cell}
+use Rattle.net_cells.specs.Formulas.{leaves}
+use Rattle.net_cells.specs.CellFormulas.{formula}
 use Rattle.cell_changes.specs.Changes.{HasSameRule, Touched, Untouched}
 use Rattle.cell_changes.specs.Slots.{slot, HasSlot}
 

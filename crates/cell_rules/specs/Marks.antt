@@ -1,16 +1,16 @@
 -- Which servers are marked where touched cells are sought server by server: each that has a candidate, and each at which
 -- a cell is made of a touched one that was found. Own choice.
 use Rattle.std.specs.Prelude.{◌≡◌, ℕ, suc, ◌<◌, List, ◌++◌, Bool, true, false, ◌&&◌, Contains, slice_index, slice_index_or}
-use Rattle.cell_eval.specs.net_model.specs.Networks.{Net}
-use Rattle.cell_eval.specs.net_model.specs.Orders.{IsOrder}
-use Rattle.cell_eval.specs.net_cells.specs.declared.cell.Cell.{Cell}
-use Rattle.cell_eval.specs.net_cells.specs.declared.cell.Kind.{Kind}
-use Rattle.cell_eval.specs.net_cells.specs.declared.cell.Kind.TheVariants.{Out}
-use Rattle.cell_eval.specs.net_cells.specs.Numbered.{hops, server_of_hop}
-use Rattle.cell_eval.specs.net_cells.specs.Cells.{cell_of}
-use Rattle.cell_eval.specs.net_cells.specs.Formulas.{leaves}
-use Rattle.cell_eval.specs.net_cells.specs.CellFormulas.{formula}
-use Rattle.cell_eval.specs.net_cells.specs.Order.{server_cells, evaluation_order}
+use Rattle.net_cells.specs.net_model.specs.Networks.{Net}
+use Rattle.net_cells.specs.net_model.specs.Orders.{IsOrder}
+use Rattle.net_cells.specs.declared.cell.Cell.{Cell}
+use Rattle.net_cells.specs.declared.cell.Kind.{Kind}
+use Rattle.net_cells.specs.declared.cell.Kind.TheVariants.{Out}
+use Rattle.net_cells.specs.Numbered.{hops, server_of_hop}
+use Rattle.net_cells.specs.Cells.{cell_of}
+use Rattle.net_cells.specs.Formulas.{leaves}
+use Rattle.net_cells.specs.CellFormulas.{formula}
+use Rattle.net_cells.specs.Order.{server_cells, evaluation_order}
 use Rattle.cell_changes.specs.Changes.{Touched, TouchedOf}
 use Rattle.cell_rules.specs.declared.site.Site.{Site}
 use Rattle.cell_rules.specs.Sites.{is_among, passes, is_candidate}

@@ -1,13 +1,13 @@
 -- What tests of two networks tell: whether the two make a cell of the same. Own choice.
 use Rattle.std.specs.Prelude.{◌≡◌, ◌≢◌, ℕ, Bool, true, false, length}
-use Rattle.rational.specs.Rational.{ℚ}
-use Rattle.cell_eval.specs.net_model.specs.Networks.{Net}
-use Rattle.cell_eval.specs.net_cells.specs.declared.cell.Kind.{Kind}
-use Rattle.cell_eval.specs.net_cells.specs.Formulas.{Formula, no_part}
-use Rattle.cell_eval.specs.net_cells.specs.CellFormulas.{formula_of, with_part}
-use Rattle.cell_eval.specs.net_cells.specs.Numbered.{server_of_hop, queue_of_hop, rate}
-use Rattle.cell_eval.specs.net_cells.specs.Visits.{longest_of}
-use Rattle.cell_eval.specs.net_cells.specs.QueueParts.{in_part}
+use Rattle.upp_normal.specs.rational.specs.Rational.{ℚ}
+use Rattle.net_cells.specs.net_model.specs.Networks.{Net}
+use Rattle.net_cells.specs.declared.cell.Kind.{Kind}
+use Rattle.net_cells.specs.Formulas.{Formula, no_part}
+use Rattle.net_cells.specs.CellFormulas.{formula_of, with_part}
+use Rattle.net_cells.specs.Numbered.{server_of_hop, queue_of_hop, rate}
+use Rattle.net_cells.specs.Visits.{longest_of}
+use Rattle.net_cells.specs.QueueParts.{in_part}
 use Rattle.cell_eval.specs.declared.found.Pick.{Pick}
 use Rattle.cell_eval.specs.Chosen.{all_picked}
 

@@ -2,12 +2,12 @@
 
 ghost use Rattle.std.specs.Prelude.{◌≡◌, ◌≤◌, ℕ, IfOk, OnOk, IsTrue, Contains, length, slice_index_or, false};
 ghost use Rattle.std.specs.List.{flat_map};
-ghost use Rattle.cell_eval.specs.net_model.specs.Orders.{IsOrder};
-ghost use Rattle.cell_eval.specs.net_cells.specs.Cells.{has_cell, path_kinds};
-ghost use Rattle.cell_eval.specs.net_cells.specs.Order.{evaluation_order, path_cells, server_cells};
-ghost use Rattle.cell_eval.specs.net_cells.specs.Formulas.{leaves};
-ghost use Rattle.cell_eval.specs.net_cells.specs.CellFormulas.{formula};
-ghost use Rattle.cell_eval.specs.net_cells.specs.declared.cell.Cell.{Cell};
+ghost use Rattle.net_cells.specs.net_model.specs.Orders.{IsOrder};
+ghost use Rattle.net_cells.specs.Cells.{has_cell, path_kinds};
+ghost use Rattle.net_cells.specs.Order.{evaluation_order, path_cells, server_cells};
+ghost use Rattle.net_cells.specs.Formulas.{leaves};
+ghost use Rattle.net_cells.specs.CellFormulas.{formula};
+ghost use Rattle.net_cells.specs.declared.cell.Cell.{Cell};
 ghost use Rattle.cell_changes.specs.Changes.{TouchedOf};
 ghost use Rattle.cell_changes.specs.Slots.{HasSlot};
 ghost use Rattle.cell_rules.specs.Sites.{IsSameBut};
@@ -18,8 +18,8 @@ use crate::marks::{first_marks, is_marked, mark_onward};
 use crate::rule::{has_cell, same_rule};
 use crate::site::{Site, is_candidate, others_keep_their_rule};
 use cell_changes::{SLOTS, slot};
-use cell_eval::net_cells::{Cell, cells, operands};
-use cell_eval::net_model::Network;
+use net_cells::net_model::Network;
+use net_cells::{Cell, cells, operands};
 use std::alloc::{AllocError, Global};
 
 // So many flags, none of them set.

@@ -11,7 +11,6 @@ mod rule;
 mod services;
 mod site;
 
-pub use cell_eval;
 pub use finding::{gone_cells, touched_cells};
 pub use of_number::cells_of;
 pub use rule::{has_cell, same_rule};

@@ -2,17 +2,17 @@
 
 ghost use Rattle.std.specs.Prelude.{◌≡◌, ◌≤◌, ◌==◌, [], None, length, map};
 ghost use Rattle.std.specs.List.{range_with_len};
-ghost use Rattle.cell_eval.specs.net_cells.specs.declared.cell.Kind.TheVariants.{Cross, Total};
-ghost use Rattle.cell_eval.specs.net_cells.specs.Visits as visiting;
-ghost use Rattle.cell_eval.specs.net_cells.specs.QueueParts.{part_numbers};
-ghost use Rattle.cell_eval.specs.net_cells.specs.CellFormulas.{parts_sum};
+ghost use Rattle.net_cells.specs.declared.cell.Kind.TheVariants.{Cross, Total};
+ghost use Rattle.net_cells.specs.Visits as visiting;
+ghost use Rattle.net_cells.specs.QueueParts.{part_numbers};
+ghost use Rattle.net_cells.specs.CellFormulas.{parts_sum};
 ghost use Rattle.cell_eval.specs.Chosen.{all_chosen};
 ghost use Rattle.cell_rules.specs.Rules.{TellsSame, TellsFormula, link_of, one_part};
 
 use crate::reads::same_number;
-use cell_eval::net_cells::{queue_of_hop, server_of_hop};
-use cell_eval::net_model::Network;
 use cell_eval::{Pick, chosen_at, longest_at, rate};
+use net_cells::net_model::Network;
+use net_cells::{queue_of_hop, server_of_hop};
 
 /// How many numbers flows have at most.
 const MOST_FLOWS: u32 = 256;

@@ -1,9 +1,9 @@
 //! Servers at which cells may be touched, marked by a list of flags. Those past its end are all marked.
 
 ghost use Rattle.std.specs.Prelude.{◌≡◌, IfOk, Contains, length, slice_set, true};
-ghost use Rattle.cell_eval.specs.net_model.specs.Networks.{Net};
-ghost use Rattle.cell_eval.specs.net_cells.specs.declared.cell.Cell.{Cell};
-ghost use Rattle.cell_eval.specs.net_cells.specs.Numbered as at;
+ghost use Rattle.net_cells.specs.net_model.specs.Networks.{Net};
+ghost use Rattle.net_cells.specs.declared.cell.Cell.{Cell};
+ghost use Rattle.net_cells.specs.Numbered as at;
 ghost use Rattle.cell_changes.specs.Slots.{HasSlot};
 ghost use Rattle.cell_rules.specs.declared.site.Site.TheVariants as site;
 ghost use Rattle.cell_rules.specs.Marks as spec;
@@ -12,8 +12,8 @@ ghost use Rattle.cell_rules.specs.Marks.{KeepsMarks, MarksEach, MarksPath, Marks
 use crate::lists::is_by_links;
 use crate::site::Site;
 use cell_changes::slot;
-use cell_eval::net_cells::{Cell, Kind, live_flow, server_of_hop};
-use cell_eval::net_model::Network;
+use net_cells::net_model::Network;
+use net_cells::{Cell, Kind, live_flow, server_of_hop};
 use std::alloc::{AllocError, Global};
 
 /// How many servers a network has at most.

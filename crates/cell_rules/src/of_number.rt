@@ -4,8 +4,8 @@ ghost use Rattle.std.specs.Prelude.{◌≡◌, ◌++◌, IfOk, OnOk};
 ghost use Rattle.cell_rules.specs.Finding.{AreCellsOf, kind_cells_of};
 
 use crate::rule::has_cell;
-use cell_eval::net_cells::{Cell, Kind};
-use cell_eval::net_model::Network;
+use net_cells::net_model::Network;
+use net_cells::{Cell, Kind};
 use std::alloc::{AllocError, Global};
 
 /// How many hops a path has at most; a server has fewer queues.

@@ -1,17 +1,17 @@
 //! Whether two networks have the same of what a cell reads beside other cells: curves, packets, links, and places.
 
 ghost use Rattle.std.specs.Prelude.{◌≡◌, IsTrue};
-ghost use Rattle.upp_curve.specs.Curves.{IsCurve};
-ghost use Rattle.cell_eval.specs.net_cells.specs.CellFormulas.{link_delays};
-ghost use Rattle.cell_eval.specs.net_cells.specs.Numbered as at;
+ghost use Rattle.upp_normal.specs.upp_curve.specs.Curves.{IsCurve};
+ghost use Rattle.net_cells.specs.CellFormulas.{link_delays};
+ghost use Rattle.net_cells.specs.Numbered as at;
 ghost use Rattle.cell_rules.specs.Rules.{TellsSame, hop_queue};
 
-use cell_eval::net_cells::{hops, live_flow, queue_of_hop, server_of_hop};
-use cell_eval::net_model::Network;
-use cell_eval::upp_normal::normal_form_is_unique;
 use cell_eval::{link, packet};
-use fraction128::Frac;
-use upp_curve::{Curve, equal};
+use net_cells::net_model::Network;
+use net_cells::{hops, live_flow, queue_of_hop, server_of_hop};
+use upp_normal::fraction128::Frac;
+use upp_normal::normal_form_is_unique;
+use upp_normal::upp_curve::{Curve, equal};
 
 /// Whether two curves are one.
 pub(crate) fn same_curve(f: &Curve, g: &Curve) -> bool

@@ -1,18 +1,18 @@
 //! Whether two networks make a cell of the same.
 
 ghost use Rattle.std.specs.Prelude.{◌≡◌, ◌<◌, ◌-◌, ◌↔◌, IsTrue};
-ghost use Rattle.cell_eval.specs.net_cells.specs.declared.cell.Kind.TheVariants.{In, PathService};
-ghost use Rattle.cell_eval.specs.net_cells.specs.Cells.{has_cell};
-ghost use Rattle.cell_eval.specs.net_cells.specs.CellFormulas.{formula};
-ghost use Rattle.cell_eval.specs.net_cells.specs.Numbered as at;
+ghost use Rattle.net_cells.specs.declared.cell.Kind.TheVariants.{In, PathService};
+ghost use Rattle.net_cells.specs.Cells.{has_cell};
+ghost use Rattle.net_cells.specs.CellFormulas.{formula};
+ghost use Rattle.net_cells.specs.Numbered as at;
 ghost use Rattle.cell_changes.specs.Changes.{HasSameRule};
 ghost use Rattle.cell_rules.specs.Rules.{TellsSame, TellsFormula};
 
 use crate::lists::{same_cross, same_longest, same_total};
 use crate::reads::{same_arrival, same_links, same_packet, same_place};
 use crate::services::same_queue_service;
-use cell_eval::net_cells::{Cell, Kind, Scope, hops, levels, live_flow, queues};
-use cell_eval::net_model::Network;
+use net_cells::net_model::Network;
+use net_cells::{Cell, Kind, Scope, hops, levels, live_flow, queues};
 
 /// Whether a network has a cell. It takes no memory.
 pub fn has_cell(net: &Network, cell: Cell) -> bool

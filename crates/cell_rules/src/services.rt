@@ -1,17 +1,17 @@
 //! Whether two networks make a queue's service of the same.
 
 ghost use Rattle.std.specs.Prelude.{◌≡◌, ◌<◌, Some, slice_get};
-ghost use Rattle.cell_eval.specs.net_model.specs.Accepted.{IsServer};
-ghost use Rattle.cell_eval.specs.net_model.specs.Views.{discipline_of, server_of};
-ghost use Rattle.cell_eval.specs.net_cells.specs.declared.cell.Kind.TheVariants.{QueueService};
-ghost use Rattle.cell_eval.specs.net_cells.specs.CellFormulas.{queue_service};
-ghost use Rattle.cell_eval.specs.net_cells.specs.Numbered as at;
+ghost use Rattle.net_cells.specs.net_model.specs.Accepted.{IsServer};
+ghost use Rattle.net_cells.specs.net_model.specs.Views.{discipline_of, server_of};
+ghost use Rattle.net_cells.specs.declared.cell.Kind.TheVariants.{QueueService};
+ghost use Rattle.net_cells.specs.CellFormulas.{queue_service};
+ghost use Rattle.net_cells.specs.Numbered as at;
 ghost use Rattle.cell_rules.specs.Rules.{TellsSame, TellsFormula};
 
 use crate::lists::{same_longest_after, same_longest_each};
 use crate::reads::same_curve;
-use cell_eval::net_cells::server;
-use cell_eval::net_model::{Discipline, Network, Server};
+use net_cells::net_model::{Discipline, Network, Server};
+use net_cells::server;
 
 fn same_quanta(quanta: &[u64], others: &[u64]) -> bool
     ensures { TellsSame quanta.now others.now result }

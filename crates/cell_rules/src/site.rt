@@ -1,14 +1,14 @@
 //! Where an edit changes a network, and which cells it may change there.
 
 ghost use Rattle.std.specs.Prelude.{◌≡◌};
-ghost use Rattle.cell_eval.specs.net_cells.specs.QueueParts.{in_part};
+ghost use Rattle.net_cells.specs.QueueParts.{in_part};
 ghost use Rattle.cell_rules.specs.Sites as spec;
 ghost use Rattle.cell_rules.specs.Sites.{OthersKeepTheirRule};
 
 use crate::lists::{is_by_links, is_unused};
 use cell_eval::Pick;
-use cell_eval::net_cells::{Cell, Kind, live_flow, server_of_hop};
-use cell_eval::net_model::Network;
+use net_cells::net_model::Network;
+use net_cells::{Cell, Kind, live_flow, server_of_hop};
 
 /// Where two networks differ: at one server or one flow, by its number, or anywhere.
 #[derive(Debug, Clone, Copy)]

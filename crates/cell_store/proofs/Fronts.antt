@@ -2,25 +2,25 @@
 use Rattle.std.proofs.Common.{◌≡◌, ℕ, ◌<◌, ◌+◌, List, [], ◌∷◌, ◌++◌, length, take, drop, sum_by, sym, ap, ◌∙◌, subst, inl, inr, true, add-one, drop-cons, append_assoc, append-nil}
 use Rattle.std.specs.Prelude.{◌≢◌, Some, Ok, Err, Contains}
 use Rattle.std.proofs.lemmas.List.{get_or_default, take_more}
-use Rattle.upp_limits.specs.declared.op_kind.OpFault.{OpFault}
-use Rattle.upp_limits.specs.declared.op_kind.OpFault.TheVariants as operator
-use Rattle.cell_table.specs.net_model.specs.Networks.{Net}
-use Rattle.cell_table.specs.net_model.specs.Accepted.{IsAccepted}
-use Rattle.cell_table.specs.net_model.specs.Orders.{IsOrder}
-use Rattle.cell_table.specs.net_graph.proofs.OneOrders.{one_order}
-use Rattle.cell_table.specs.net_cells.specs.declared.cell.Cell.{Cell}
-use Rattle.cell_table.specs.net_cells.specs.Cells.{has_cell}
-use Rattle.cell_table.specs.net_cells.specs.Order.{evaluation_order}
-use Rattle.cell_table.specs.net_cells.specs.CellFormulas.{formula}
-use Rattle.cell_table.specs.net_cells.specs.Meanings.{Meaning, CellTable}
-use Rattle.cell_table.specs.net_cells.specs.Equations.{MeetsBelow}
-use Rattle.cell_table.specs.net_cells.specs.FirstOver.{IsAnswered, AnswersAll, FirstOver}
-use Rattle.cell_table.specs.net_cells.specs.Work.{work}
-use Rattle.cell_table.specs.net_cells.specs.MemoryEnds.{EndsAt}
-use Rattle.cell_table.specs.net_cells.proofs.Lists.{Has, contains_has, has_contains, has_either, has_left, has_right}
-use Rattle.cell_table.specs.net_cells.proofs.Members.{in_order}
-use Rattle.cell_table.specs.net_cells.proofs.Precedes.{in_front}
-use Rattle.cell_table.specs.net_cells.proofs.Tables.{front_meets_below}
+use Rattle.net_cells.specs.upp_limits.specs.declared.op_kind.OpFault.{OpFault}
+use Rattle.net_cells.specs.upp_limits.specs.declared.op_kind.OpFault.TheVariants as operator
+use Rattle.net_cells.specs.net_model.specs.Networks.{Net}
+use Rattle.net_cells.specs.net_model.specs.Accepted.{IsAccepted}
+use Rattle.net_cells.specs.net_model.specs.Orders.{IsOrder}
+use Rattle.net_cells.specs.net_graph.proofs.OneOrders.{one_order}
+use Rattle.net_cells.specs.declared.cell.Cell.{Cell}
+use Rattle.net_cells.specs.Cells.{has_cell}
+use Rattle.net_cells.specs.Order.{evaluation_order}
+use Rattle.net_cells.specs.CellFormulas.{formula}
+use Rattle.net_cells.specs.Meanings.{Meaning, CellTable}
+use Rattle.net_cells.specs.Equations.{MeetsBelow}
+use Rattle.net_cells.specs.FirstOver.{IsAnswered, AnswersAll, FirstOver}
+use Rattle.net_cells.specs.Work.{work}
+use Rattle.net_cells.specs.MemoryEnds.{EndsAt}
+use Rattle.net_cells.proofs.Lists.{Has, contains_has, has_contains, has_either, has_left, has_right}
+use Rattle.net_cells.proofs.Members.{in_order}
+use Rattle.net_cells.proofs.Precedes.{in_front}
+use Rattle.net_cells.proofs.Tables.{front_meets_below}
 use Rattle.cell_table.specs.declared.fault.AnalysisFault.{AnalysisFault}
 use Rattle.cell_table.specs.Gives.{Gives}
 use Rattle.cell_table.specs.Refusals.{fault_at}

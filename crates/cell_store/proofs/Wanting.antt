@@ -1,8 +1,8 @@
 -- Why there is no table, where that is why a cell has no value, and where memory is wanting.
 use Rattle.std.proofs.Common.{◌≡◌, sym, refl, ◌∙◌}
-use Rattle.upp_limits.specs.declared.op_kind.OpFault.{OpFault}
-use Rattle.upp_limits.specs.declared.op_kind.OpFault.TheVariants as operator
-use Rattle.cell_table.specs.net_cells.specs.declared.cell.Cell.{Cell}
+use Rattle.net_cells.specs.upp_limits.specs.declared.op_kind.OpFault.{OpFault}
+use Rattle.net_cells.specs.upp_limits.specs.declared.op_kind.OpFault.TheVariants as operator
+use Rattle.net_cells.specs.declared.cell.Cell.{Cell}
 use Rattle.cell_table.specs.declared.fault.AnalysisFault.{AnalysisFault}
 use Rattle.cell_table.specs.declared.fault.AnalysisFault.TheVariants.{NoMemory}
 use Rattle.cell_table.specs.Refusals.{fault_at}

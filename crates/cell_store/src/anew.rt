@@ -1,14 +1,14 @@
 //! The touched cells, one after the other.
 
 ghost use Rattle.std.specs.Prelude.{◌≡◌, ◌+◌, ◌-◌, ◌≤◌, sum_by, IfErr, OnOk};
-ghost use Rattle.cell_table.specs.net_cells.specs.Equations.{MeetsEquations};
-ghost use Rattle.cell_table.specs.net_cells.specs.Work.{work};
+ghost use Rattle.net_cells.specs.Equations.{MeetsEquations};
+ghost use Rattle.net_cells.specs.Work.{work};
 ghost use Rattle.cell_store.specs.Edits.{AllAnswered, IsEditOf, IsFirstTouched, SameButAt, RefusesFor, EndsAtTouched};
 
 use crate::values::Values;
-use cell_table::net_cells::Cell;
-use cell_table::net_model::Network;
 use cell_table::{AnalysisFault, CellValue, Evaluator, Table, refusal};
+use net_cells::Cell;
+use net_cells::net_model::Network;
 use std::alloc::Global;
 use std::rc::Rc;
 

@@ -1,14 +1,14 @@
 //! All that an edit changes of the values.
 
 ghost use Rattle.std.specs.Prelude.{◌≡◌, ◌+◌, ◌-◌, ◌^◌, ◌<◌, ◌≤◌, ◌++◌, ◌∷◌, [], sum_by, IfErr, OnOk, OnErr, length};
-ghost use Rattle.cell_table.specs.net_cells.specs.Work.{work};
+ghost use Rattle.net_cells.specs.Work.{work};
 ghost use Rattle.cell_store.specs.Edits.{IsEditOf, IsFirstTouched, AreGone, IsCleared, IsEditedTable, RefusesFor, EditEnds};
 
 use crate::anew::made_anew;
 use crate::values::Values;
-use cell_table::net_cells::Cell;
-use cell_table::net_model::Network;
 use cell_table::{AnalysisFault, CellValue, Evaluator, Table};
+use net_cells::Cell;
+use net_cells::net_model::Network;
 use std::alloc::{AllocError, Global};
 
 /// Takes away the values of cells that the network has not.

@@ -3,8 +3,8 @@
 ghost use Rattle.std.specs.Prelude.{◌≡◌};
 
 use cell_changes::{SLOTS, is_placed, slot};
-use cell_table::net_cells::Cell;
 use cell_table::{CellValue, Table};
+use net_cells::Cell;
 use std::alloc::{AllocError, Global};
 use std::rc::Rc;
 use version_table::Versions;
@@ -33,7 +33,7 @@ impl<V: CellValue + Drop> Table<V> for Values<V> {
 impl<V: CellValue + Drop> Values<V> {
     ghost use Rattle.std.specs.Prelude.{◌≡◌, ◌≢◌, Some, None, IfOk, OnOk, OnErr, [], MatchOption, ◌<◌, ◌-◌, ◌^◌};
     ghost use Rattle.std.specs.Prelude.{length};
-    ghost use Rattle.cell_table.specs.net_cells.specs.declared.cell.Cell.{Cell};
+    ghost use Rattle.net_cells.specs.declared.cell.Cell.{Cell};
     ghost use Rattle.cell_changes.specs.Slots.{HasSlot, slots};
     ghost use Rattle.version_table.specs.Histories.{IsMarked, IsUndone};
 

@@ -11,7 +11,5 @@ mod value;
 pub use analysis::Analysis;
 pub use evaluator::Evaluator;
 pub use fault::{AnalysisFault, refusal};
-pub use net_cells;
-pub use net_cells::{net_graph, net_model, run_laws};
 pub use table::{CellValue, Table};
 pub use value::Value;

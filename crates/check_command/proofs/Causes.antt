@@ -1,16 +1,16 @@
 -- Each status of a reply has its cause.
 use Rattle.std.proofs.Common.{◌≡◌, ℕ, List, ◌++◌, inl, inr, ap}
 use Rattle.std.specs.Prelude.{◌⊎◌, codes}
-use Rattle.upp_limits.specs.declared.own_limits.OverLimit.{OverLimit}
-use Rattle.upp_limits.specs.declared.own_limits.OverLimit.TheVariants.{TooMany, TooWide}
-use Rattle.run_findings.specs.command_replies.specs.Replies.{Reply, over}
+use Rattle.net_cells.specs.upp_limits.specs.declared.own_limits.OverLimit.{OverLimit}
+use Rattle.net_cells.specs.upp_limits.specs.declared.own_limits.OverLimit.TheVariants.{TooMany, TooWide}
+use Rattle.command_replies.specs.Replies.{Reply, over}
 use Rattle.run_findings.specs.Statuses.{IsOfReport}
 use Rattle.run_findings.proofs.Reports.{is_report}
-use Rattle.run_laws.specs.Runs.{SpecRun}
-use Rattle.net_model.specs.Networks.{Net}
-use Rattle.run_findings.specs.net_cells.specs.Meanings.{CellTable}
+use Rattle.net_cells.specs.run_laws.specs.Runs.{SpecRun}
+use Rattle.net_cells.specs.net_model.specs.Networks.{Net}
+use Rattle.net_cells.specs.Meanings.{CellTable}
 use Rattle.check_report.specs.CheckReport.{lawful_report_of}
-use Rattle.run_findings.specs.command_replies.proofs.Statuses.{status_is}
+use Rattle.command_replies.proofs.Statuses.{status_is}
 use Rattle.check_command.specs.Checked.{packets_in, IsReportOn}
 use Rattle.check_command.specs.OnRuns as on
 use Rattle.check_command.specs.OnRuns.{IsCheckReport, IsMalformed, IsOverLimit, IsCheckOver, HasCycleBehind}

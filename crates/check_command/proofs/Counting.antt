@@ -1,16 +1,16 @@
 -- The steps of an answer on a network and a recorded run.
 use Rattle.std.proofs.Common.{◌≤◌, ℕ, List, refl, subst}
-use Rattle.net_model.specs.Accepted.{IsAccepted}
-use Rattle.net_model.specs.Networks.{Net}
-use Rattle.run_findings.specs.net_text.specs.Folds.{StepsAtMost}
-use Rattle.run_findings.specs.net_text.specs.Reading.{IsNetworkOf}
-use Rattle.run_findings.specs.net_text.specs.FoldLimits.{OverFold}
-use Rattle.run_findings.specs.subadd_closure.specs.FoldWork.{fold_work}
-use Rattle.run_laws.specs.Runs.{SpecRun}
+use Rattle.net_cells.specs.net_model.specs.Accepted.{IsAccepted}
+use Rattle.net_cells.specs.net_model.specs.Networks.{Net}
+use Rattle.net_text.specs.Folds.{StepsAtMost}
+use Rattle.net_text.specs.Reading.{IsNetworkOf}
+use Rattle.net_text.specs.FoldLimits.{OverFold}
+use Rattle.subadd_closure.specs.FoldWork.{fold_work}
+use Rattle.net_cells.specs.run_laws.specs.Runs.{SpecRun}
 use Rattle.table_text.specs.Rows.{rows_of}
 use Rattle.run_table.specs.Runs.{IsRunOf}
 use Rattle.run_table.proofs.OneRun.{readings_are_one}
-use Rattle.run_findings.specs.command_replies.proofs.FirstFaults.{says}
+use Rattle.command_replies.proofs.FirstFaults.{says}
 use Rattle.run_findings.specs.CellCounts.{CountsOnCells}
 use Rattle.run_findings.specs.Statuses.{IsOfReport}
 use Rattle.run_findings.proofs.Counted.{none_on_cells}

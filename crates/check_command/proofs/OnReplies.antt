@@ -1,27 +1,27 @@
 -- The reply on a network and a recorded run.
 use Rattle.std.proofs.Common.{◌≡◌, ◌≢◌, ℕ, List, map, Result, Ok, Err, IfOk, inl, inr, ap}
 use Rattle.std.specs.Prelude.{◌⊎◌}
-use Rattle.upp_limits.specs.LimitTest.{fault_of}
-use Rattle.upp_limits.specs.declared.own_limits.OverLimit.{OverLimit}
-use Rattle.run_laws.specs.Runs.{SpecRun}
-use Rattle.net_model.specs.Accepted.{IsAccepted}
-use Rattle.net_model.specs.Networks.{Net}
-use Rattle.net_model.specs.Orders.{IsOrder}
-use Rattle.net_model.specs.Walks.{IsCycle}
-use Rattle.run_findings.specs.net_cells.specs.declared.cell.Cell.{Cell}
-use Rattle.run_findings.specs.net_cells.specs.Equations.{MeetsEquations}
-use Rattle.run_findings.specs.net_cells.specs.FirstOver.{AnswersAll, FirstOver}
-use Rattle.run_findings.specs.net_cells.specs.Meanings.{CellTable}
-use Rattle.run_findings.specs.net_cells.specs.Order.{evaluation_order}
-use Rattle.run_findings.specs.simulated_sizes.specs.Laws.{AreCurves}
+use Rattle.net_cells.specs.upp_limits.specs.LimitTest.{fault_of}
+use Rattle.net_cells.specs.upp_limits.specs.declared.own_limits.OverLimit.{OverLimit}
+use Rattle.net_cells.specs.run_laws.specs.Runs.{SpecRun}
+use Rattle.net_cells.specs.net_model.specs.Accepted.{IsAccepted}
+use Rattle.net_cells.specs.net_model.specs.Networks.{Net}
+use Rattle.net_cells.specs.net_model.specs.Orders.{IsOrder}
+use Rattle.net_cells.specs.net_model.specs.Walks.{IsCycle}
+use Rattle.net_cells.specs.declared.cell.Cell.{Cell}
+use Rattle.net_cells.specs.Equations.{MeetsEquations}
+use Rattle.net_cells.specs.FirstOver.{AnswersAll, FirstOver}
+use Rattle.net_cells.specs.Meanings.{CellTable}
+use Rattle.net_cells.specs.Order.{evaluation_order}
+use Rattle.simulated_sizes.specs.Laws.{AreCurves}
 use Rattle.run_table.specs.declared.fault.RunFault.{RunFault}
 use Rattle.run_table.specs.declared.fault.RunKind.TheVariants.{NoMemory}
 use Rattle.run_table.specs.Runs.{IsFirstFault, out_of_memory}
-use Rattle.run_findings.specs.report_text.specs.CellWords.{server_name, cell_words}
-use Rattle.run_findings.specs.command_replies.specs.declared.answer.Answer.{Answer}
-use Rattle.run_findings.specs.command_replies.specs.Replies.{Reply, goes_round, cell_over}
-use Rattle.run_findings.specs.command_replies.specs.OnFiles.{IsNoNetwork}
-use Rattle.run_findings.specs.command_replies.specs.View.{reply_of}
+use Rattle.report_text.specs.CellWords.{server_name, cell_words}
+use Rattle.command_replies.specs.declared.answer.Answer.{Answer}
+use Rattle.command_replies.specs.Replies.{Reply, goes_round, cell_over}
+use Rattle.command_replies.specs.OnFiles.{IsNoNetwork}
+use Rattle.command_replies.specs.View.{reply_of}
 use Rattle.check_command.specs.Checked.{run_fault_reply, IsVerdictReply}
 use Rattle.check_command.specs.OnRuns as on
 use Rattle.check_command.specs.OnRuns.{IsCheckReply, IsCheckReplyOnNet, IsCheckReplyOnRun}

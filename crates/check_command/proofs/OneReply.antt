@@ -2,27 +2,27 @@
 use Rattle.std.proofs.Common.{◌≡◌, ℕ, ◌<◌, ◌^◌, List, inl, inr, sym, ap, ◌∙◌, subst}
 use Rattle.std.specs.Prelude.{◌⊎◌}
 use native.Mathlib.Nat.{not-le_of_lt}
-use Rattle.upp_limits.specs.LimitTest.{fault_of}
-use Rattle.run_laws.specs.Runs.{SpecRun}
-use Rattle.net_model.specs.Accepted.{IsAccepted}
-use Rattle.net_model.specs.Networks.{Net}
-use Rattle.net_model.specs.NetRoutes.{routes_of}
-use Rattle.net_model.specs.Orders.{IsOrder}
-use Rattle.net_graph.proofs.OneOrders.{one_order}
-use Rattle.net_graph.proofs.Returns.{order_or_cycle}
-use Rattle.run_findings.specs.net_cells.specs.Equations.{MeetsEquations}
-use Rattle.run_findings.specs.net_cells.specs.Meanings.{CellTable}
-use Rattle.recorded_sizes.specs.broken_laws.specs.declared.law.Law.{Law}
-use Rattle.recorded_sizes.specs.broken_laws.proofs.WholeRuns.{broken_is_unlawful, first_once}
-use Rattle.recorded_sizes.specs.run_check.proofs.Started.{has_paths}
-use Rattle.recorded_sizes.specs.check_gauge.specs.Gauge.{check_gauge}
-use Rattle.run_findings.specs.simulated_sizes.specs.Laws.{AreCurves}
+use Rattle.net_cells.specs.upp_limits.specs.LimitTest.{fault_of}
+use Rattle.net_cells.specs.run_laws.specs.Runs.{SpecRun}
+use Rattle.net_cells.specs.net_model.specs.Accepted.{IsAccepted}
+use Rattle.net_cells.specs.net_model.specs.Networks.{Net}
+use Rattle.net_cells.specs.net_model.specs.NetRoutes.{routes_of}
+use Rattle.net_cells.specs.net_model.specs.Orders.{IsOrder}
+use Rattle.net_cells.specs.net_graph.proofs.OneOrders.{one_order}
+use Rattle.net_cells.specs.net_graph.proofs.Returns.{order_or_cycle}
+use Rattle.net_cells.specs.Equations.{MeetsEquations}
+use Rattle.net_cells.specs.Meanings.{CellTable}
+use Rattle.broken_laws.specs.declared.law.Law.{Law}
+use Rattle.broken_laws.proofs.WholeRuns.{broken_is_unlawful, first_once}
+use Rattle.run_check.proofs.Started.{has_paths}
+use Rattle.check_gauge.specs.Gauge.{check_gauge}
+use Rattle.simulated_sizes.specs.Laws.{AreCurves}
 use Rattle.run_table.specs.declared.fault.RunFault.{RunFault}
 use Rattle.run_table.proofs.OneRun.{readings_are_one}
-use Rattle.run_findings.specs.command_replies.specs.Replies.{Reply, AreSame}
-use Rattle.run_findings.specs.command_replies.proofs.FirstFaults.{says}
-use Rattle.run_findings.specs.command_replies.proofs.OneRefusal.{equal, OnFault, OnCycle, IsOver}
-use Rattle.run_findings.specs.command_replies.proofs.OneRefusal.{one_fault, no_network, one_cycle, one_over, no_answers}
+use Rattle.command_replies.specs.Replies.{Reply, AreSame}
+use Rattle.command_replies.proofs.FirstFaults.{says}
+use Rattle.command_replies.proofs.OneRefusal.{equal, OnFault, OnCycle, IsOver}
+use Rattle.command_replies.proofs.OneRefusal.{one_fault, no_network, one_cycle, one_over, no_answers}
 use Rattle.run_findings.specs.Statuses.{IsOfReport}
 use Rattle.run_findings.proofs.Reports.{same_telling}
 use Rattle.check_report.specs.CheckReport.{lawful_report_of}

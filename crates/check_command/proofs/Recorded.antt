@@ -3,13 +3,13 @@ use Rattle.std.proofs.Common.{◌<◌, ◌≤◌, ◌-◌, ◌^◌, List, [], �
 use Rattle.std.specs.List.{AllByRecursion}
 use Rattle.std.specs.Prelude.{pos}
 use Rattle.rational.specs.Rational.{int, ◌≤ℚ◌}
-use Rattle.run_laws.specs.declared.steps.Step.{Step}
-use Rattle.run_laws.specs.declared.steps.Step.TheVariants.{Enter, Reach, Work, Leave, Visit}
-use Rattle.run_laws.specs.Runs.{SpecRun}
-use Rattle.net_model.specs.Networks.{Net}
+use Rattle.net_cells.specs.run_laws.specs.declared.steps.Step.{Step}
+use Rattle.net_cells.specs.run_laws.specs.declared.steps.Step.TheVariants.{Enter, Reach, Work, Leave, Visit}
+use Rattle.net_cells.specs.run_laws.specs.Runs.{SpecRun}
+use Rattle.net_cells.specs.net_model.specs.Networks.{Net}
 use Rattle.run_table.specs.ReadRuns as read
 use Rattle.run_table.specs.ReadRuns.{IsRecordedRun}
-use Rattle.recorded_sizes.specs.check_gauge.specs.Runs.{times_of, IsFromZero}
+use Rattle.check_gauge.specs.Runs.{times_of, IsFromZero}
 
 times_from : (xs : List Step) → AllByRecursion read.IsFromZero xs
     → AllByRecursion (λ t. int (pos 0) ≤ℚ t) (times_of xs)

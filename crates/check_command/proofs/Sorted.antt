@@ -2,20 +2,20 @@
 -- run, or a run; with that a cycle, or an order; and by that a cell over a limit, or a table.
 use Rattle.std.proofs.Common.{◌≡◌, ℕ, List, inl, inr}
 use Rattle.std.specs.Prelude.{◌⊎◌}
-use Rattle.run_laws.specs.Runs.{SpecRun}
-use Rattle.net_model.specs.Networks.{Net}
-use Rattle.net_model.specs.Orders.{IsOrder}
-use Rattle.run_findings.specs.net_cells.specs.Equations.{MeetsEquations}
-use Rattle.run_findings.specs.net_cells.specs.FirstOver.{AnswersAll}
-use Rattle.run_findings.specs.net_cells.specs.Meanings.{CellTable}
-use Rattle.run_findings.specs.net_cells.specs.Order.{evaluation_order}
-use Rattle.run_findings.specs.simulated_sizes.specs.Laws.{AreCurves}
+use Rattle.net_cells.specs.run_laws.specs.Runs.{SpecRun}
+use Rattle.net_cells.specs.net_model.specs.Networks.{Net}
+use Rattle.net_cells.specs.net_model.specs.Orders.{IsOrder}
+use Rattle.net_cells.specs.Equations.{MeetsEquations}
+use Rattle.net_cells.specs.FirstOver.{AnswersAll}
+use Rattle.net_cells.specs.Meanings.{CellTable}
+use Rattle.net_cells.specs.Order.{evaluation_order}
+use Rattle.simulated_sizes.specs.Laws.{AreCurves}
 use Rattle.table_text.specs.Rows.{rows_of}
 use Rattle.run_table.specs.declared.fault.RunFault.{RunFault}
 use Rattle.run_table.specs.Runs.{IsRunOf, IsFirstFault}
-use Rattle.run_findings.specs.command_replies.specs.Replies.{Reply}
-use Rattle.run_findings.specs.command_replies.specs.OnFiles.{IsNetOf}
-use Rattle.run_findings.specs.command_replies.proofs.OneRefusal.{OnFault, on_fault, OnCycle, IsOver}
+use Rattle.command_replies.specs.Replies.{Reply}
+use Rattle.command_replies.specs.OnFiles.{IsNetOf}
+use Rattle.command_replies.proofs.OneRefusal.{OnFault, on_fault, OnCycle, IsOver}
 use Rattle.check_command.specs.Checked.{run_fault_reply, IsVerdictReply}
 use Rattle.check_command.specs.OnRuns as on
 use Rattle.check_command.specs.OnRuns.{IsCheckReply}

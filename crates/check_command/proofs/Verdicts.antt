@@ -1,15 +1,15 @@
 -- The status and the verdict of a report tell whether its run is lawful and keeps the premises.
 use Rattle.std.proofs.Common.{◌≡◌, inl, inr, ap}
-use Rattle.run_laws.specs.Lawful.{IsLawful}
-use Rattle.run_laws.specs.Runs.{SpecRun}
-use Rattle.net_model.specs.Accepted.{IsAccepted}
-use Rattle.net_model.specs.Networks.{Net}
-use Rattle.net_model.specs.NetRoutes.{routes_of}
-use Rattle.run_findings.specs.net_cells.specs.Meanings.{CellTable}
-use Rattle.recorded_sizes.specs.broken_laws.proofs.WholeRuns.{broken_is_unlawful}
-use Rattle.recorded_sizes.specs.run_check.proofs.Started.{has_paths}
-use Rattle.run_findings.specs.simulated_sizes.specs.Laws.{AreCurves}
-use Rattle.run_findings.specs.command_replies.specs.Replies.{Reply}
+use Rattle.net_cells.specs.run_laws.specs.Lawful.{IsLawful}
+use Rattle.net_cells.specs.run_laws.specs.Runs.{SpecRun}
+use Rattle.net_cells.specs.net_model.specs.Accepted.{IsAccepted}
+use Rattle.net_cells.specs.net_model.specs.Networks.{Net}
+use Rattle.net_cells.specs.net_model.specs.NetRoutes.{routes_of}
+use Rattle.net_cells.specs.Meanings.{CellTable}
+use Rattle.broken_laws.proofs.WholeRuns.{broken_is_unlawful}
+use Rattle.run_check.proofs.Started.{has_paths}
+use Rattle.simulated_sizes.specs.Laws.{AreCurves}
+use Rattle.command_replies.specs.Replies.{Reply}
 use Rattle.run_findings.specs.Statuses.{StatusTells}
 use Rattle.run_findings.proofs.Reports.{tells}
 use Rattle.check_report.specs.CheckReport.{lawful_report_of}

@@ -1,9 +1,9 @@
 -- A report on an admissible run shows no number above the bound beside it, and the bounds of each report hold.
 use Rattle.std.proofs.Common.{◌≡◌, ℕ, List, inl, refl, sym, ap, ◌∙◌}
 use Rattle.std.specs.Prelude.{Option, Some, None}
-use Rattle.net_model.specs.declared.breach.Breach.{Breach}
-use Rattle.run_findings.specs.net_bounds.proofs.Kept.{table_bounds_every_run}
-use Rattle.run_findings.specs.command_replies.specs.Replies.{Reply}
+use Rattle.net_cells.specs.net_model.specs.declared.breach.Breach.{Breach}
+use Rattle.net_bounds.proofs.Kept.{table_bounds_every_run}
+use Rattle.command_replies.specs.Replies.{Reply}
 use Rattle.run_findings.specs.Findings.{status_by}
 use Rattle.run_findings.proofs.Bounded.{within}
 use Rattle.check_command.specs.Checked.{packets_in}

@@ -1,11 +1,11 @@
 -- How many steps an answer on a network and a recorded run takes: an operator on curves takes one, and the run none.
 use Rattle.std.specs.Prelude.{◌≡◌, ◌≤◌, ℕ, List}
-use Rattle.net_model.specs.Networks.{Net}
-use Rattle.run_findings.specs.net_draft.specs.Faults.{Fault}
-use Rattle.run_findings.specs.net_text.specs.Folds.{StepsAtMost}
-use Rattle.run_findings.specs.net_text.specs.Reading.{IsNetworkOf, FirstFault}
-use Rattle.run_findings.specs.net_text.specs.FoldLimits.{OverFold}
-use Rattle.run_findings.specs.subadd_closure.specs.FoldWork.{fold_work}
+use Rattle.net_cells.specs.net_model.specs.Networks.{Net}
+use Rattle.net_draft.specs.Faults.{Fault}
+use Rattle.net_text.specs.Folds.{StepsAtMost}
+use Rattle.net_text.specs.Reading.{IsNetworkOf, FirstFault}
+use Rattle.net_text.specs.FoldLimits.{OverFold}
+use Rattle.subadd_closure.specs.FoldWork.{fold_work}
 use Rattle.run_table.specs.declared.fault.RunKind.{RunKind}
 use Rattle.run_table.specs.Runs.{IsFirstFault}
 use Rattle.run_findings.specs.CellCounts.{CountsOnCells}

@@ -1,25 +1,25 @@
 -- What holds of the replies on a network and a recorded run.
 use Rattle.std.specs.Prelude.{◌≡◌, ◌≢◌, ◌<◌, ◌^◌, ◌↔◌, ◌⊎◌, ℕ, List, None}
-use Rattle.upp_limits.specs.declared.op_kind.OpFault.{OpFault}
-use Rattle.upp_limits.specs.declared.own_limits.OverLimit.TheVariants.{TooMany, TooWide}
-use Rattle.run_laws.specs.Lawful.{IsLawful}
-use Rattle.run_laws.specs.Runs.{SpecRun}
-use Rattle.net_model.specs.Networks.{Net}
-use Rattle.net_model.specs.NetRoutes.{routes_of}
-use Rattle.net_model.specs.Orders.{IsOrder}
-use Rattle.net_model.specs.Walks.{IsFeedForward}
-use Rattle.run_findings.specs.net_text.specs.Reading.{IsNetworkOf}
-use Rattle.run_findings.specs.net_text.specs.FoldLimits.{OverFold}
-use Rattle.run_findings.specs.net_cells.specs.declared.cell.Cell.{Cell}
-use Rattle.run_findings.specs.net_cells.specs.FirstOver.{FirstOver}
-use Rattle.run_findings.specs.net_cells.specs.Meanings.{CellTable}
-use Rattle.run_findings.specs.net_bounds.specs.NetRuns as runs
-use Rattle.recorded_sizes.specs.check_gauge.specs.Gauge.{check_gauge}
+use Rattle.net_cells.specs.upp_limits.specs.declared.op_kind.OpFault.{OpFault}
+use Rattle.net_cells.specs.upp_limits.specs.declared.own_limits.OverLimit.TheVariants.{TooMany, TooWide}
+use Rattle.net_cells.specs.run_laws.specs.Lawful.{IsLawful}
+use Rattle.net_cells.specs.run_laws.specs.Runs.{SpecRun}
+use Rattle.net_cells.specs.net_model.specs.Networks.{Net}
+use Rattle.net_cells.specs.net_model.specs.NetRoutes.{routes_of}
+use Rattle.net_cells.specs.net_model.specs.Orders.{IsOrder}
+use Rattle.net_cells.specs.net_model.specs.Walks.{IsFeedForward}
+use Rattle.net_text.specs.Reading.{IsNetworkOf}
+use Rattle.net_text.specs.FoldLimits.{OverFold}
+use Rattle.net_cells.specs.declared.cell.Cell.{Cell}
+use Rattle.net_cells.specs.FirstOver.{FirstOver}
+use Rattle.net_cells.specs.Meanings.{CellTable}
+use Rattle.net_bounds.specs.NetRuns as runs
+use Rattle.check_gauge.specs.Gauge.{check_gauge}
 use Rattle.table_text.specs.Rows.{rows_of}
 use Rattle.run_table.specs.Runs.{IsRunOf}
-use Rattle.run_findings.specs.report_text.specs.RunReport.{Found}
-use Rattle.run_findings.specs.command_replies.specs.Guarantee.{Guarantees}
-use Rattle.run_findings.specs.command_replies.specs.Replies.{Reply, AreSame}
+use Rattle.report_text.specs.RunReport.{Found}
+use Rattle.command_replies.specs.Guarantee.{Guarantees}
+use Rattle.command_replies.specs.Replies.{Reply, AreSame}
 use Rattle.run_findings.specs.Findings.{AreFindings, found_report}
 use Rattle.run_findings.specs.RunBounds.{AreWithinBounds}
 use Rattle.run_findings.specs.Statuses.{IsOfReport}

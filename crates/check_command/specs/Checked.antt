@@ -1,18 +1,18 @@
 -- What is found when a recorded run of a network is checked, and the replies that tell it.
 use Rattle.std.specs.Prelude.{◌≡◌, ◌⊎◌, ℕ, Bool, true, false, ◌++◌, ◌≤◌, ◌<◌, ◌^◌, List, [], codes, count_by}
 use Rattle.std.specs.Fmt.{decimal}
-use Rattle.upp_limits.specs.declared.own_limits.OverLimit.TheVariants.{TooWide}
-use Rattle.run_laws.specs.declared.steps.Step.{Step}
-use Rattle.run_laws.specs.declared.steps.Step.TheVariants.{Enter, Reach, Work, Leave, Visit}
-use Rattle.run_laws.specs.Lawful.{IsLawful}
-use Rattle.run_laws.specs.Runs.{SpecRun}
-use Rattle.net_model.specs.Networks.{Net}
-use Rattle.net_model.specs.NetRoutes.{routes_of}
-use Rattle.run_findings.specs.net_cells.specs.Meanings.{CellTable}
-use Rattle.recorded_sizes.specs.broken_laws.specs.declared.law.Law.{Law}
-use Rattle.recorded_sizes.specs.broken_laws.specs.FirstBroken.{IsFirstBroken}
-use Rattle.recorded_sizes.specs.check_gauge.specs.Gauge.{check_gauge}
-use Rattle.run_findings.specs.command_replies.specs.Replies.{Reply, refusal, over}
+use Rattle.net_cells.specs.upp_limits.specs.declared.own_limits.OverLimit.TheVariants.{TooWide}
+use Rattle.net_cells.specs.run_laws.specs.declared.steps.Step.{Step}
+use Rattle.net_cells.specs.run_laws.specs.declared.steps.Step.TheVariants.{Enter, Reach, Work, Leave, Visit}
+use Rattle.net_cells.specs.run_laws.specs.Lawful.{IsLawful}
+use Rattle.net_cells.specs.run_laws.specs.Runs.{SpecRun}
+use Rattle.net_cells.specs.net_model.specs.Networks.{Net}
+use Rattle.net_cells.specs.net_model.specs.NetRoutes.{routes_of}
+use Rattle.net_cells.specs.Meanings.{CellTable}
+use Rattle.broken_laws.specs.declared.law.Law.{Law}
+use Rattle.broken_laws.specs.FirstBroken.{IsFirstBroken}
+use Rattle.check_gauge.specs.Gauge.{check_gauge}
+use Rattle.command_replies.specs.Replies.{Reply, refusal, over}
 use Rattle.run_table.specs.declared.fault.RunFault.{RunFault}
 use Rattle.run_table.specs.declared.fault.RunKind.{RunKind}
 use Rattle.run_table.specs.declared.fault.RunKind.TheVariants.{T1, T2, T3, T4, T5, T7, T8, NoMemory}

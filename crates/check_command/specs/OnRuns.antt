@@ -2,22 +2,22 @@
 -- fault; by a cycle of the network, or by the order of its servers; by the first cell over a limit, or by a table of all
 -- cells; and by the check of the run.
 use Rattle.std.specs.Prelude.{ℕ, List, ◌≡◌, ◌⊎◌}
-use Rattle.upp_limits.specs.declared.own_limits.OverLimit.{OverLimit}
-use Rattle.run_laws.specs.Runs.{SpecRun}
-use Rattle.net_model.specs.Networks.{Net}
-use Rattle.net_model.specs.Orders.{IsOrder}
-use Rattle.run_findings.specs.net_text.specs.Reading.{IsNetworkOf}
-use Rattle.run_findings.specs.net_text.specs.FoldLimits.{OverFold}
-use Rattle.run_findings.specs.net_cells.specs.Meanings.{CellTable}
-use Rattle.run_findings.specs.net_cells.specs.Equations.{MeetsEquations}
-use Rattle.run_findings.specs.net_cells.specs.FirstOver.{AnswersAll}
-use Rattle.run_findings.specs.net_cells.specs.Order.{evaluation_order}
-use Rattle.run_findings.specs.simulated_sizes.specs.Laws.{AreCurves}
+use Rattle.net_cells.specs.upp_limits.specs.declared.own_limits.OverLimit.{OverLimit}
+use Rattle.net_cells.specs.run_laws.specs.Runs.{SpecRun}
+use Rattle.net_cells.specs.net_model.specs.Networks.{Net}
+use Rattle.net_cells.specs.net_model.specs.Orders.{IsOrder}
+use Rattle.net_text.specs.Reading.{IsNetworkOf}
+use Rattle.net_text.specs.FoldLimits.{OverFold}
+use Rattle.net_cells.specs.Meanings.{CellTable}
+use Rattle.net_cells.specs.Equations.{MeetsEquations}
+use Rattle.net_cells.specs.FirstOver.{AnswersAll}
+use Rattle.net_cells.specs.Order.{evaluation_order}
+use Rattle.simulated_sizes.specs.Laws.{AreCurves}
 use Rattle.table_text.specs.Rows.{rows_of}
 use Rattle.run_table.specs.declared.fault.RunFault.{RunFault}
 use Rattle.run_table.specs.Runs.{IsRunOf, IsFirstFault}
-use Rattle.run_findings.specs.command_replies.specs.Replies.{Reply}
-use Rattle.run_findings.specs.command_replies.specs.OnFiles.{IsBroken, IsCurveOver, IsNetOf, HasCycle, IsCellOver}
+use Rattle.command_replies.specs.Replies.{Reply}
+use Rattle.command_replies.specs.OnFiles.{IsBroken, IsCurveOver, IsNetOf, HasCycle, IsCellOver}
 use Rattle.check_command.specs.Checked.{run_fault_reply, IsTooWide, IsReportOn}
 
 -- ---- runs

@@ -1,25 +1,25 @@
 //! The verdict on a recorded run, and the report on it.
 
 ghost use Rattle.std.specs.Prelude.{◌≡◌, ◌<◌, ◌^◌, IfOk, length};
-ghost use Rattle.run_laws.specs.Lawful.{IsLawful};
-ghost use Rattle.net_model.specs.NetRoutes.{routes_of};
-ghost use Rattle.recorded_sizes.specs.broken_laws.specs.FirstBroken.{IsFirstBroken};
-ghost use Rattle.recorded_sizes.specs.check_gauge.specs.Gauge.{check_gauge};
-ghost use Rattle.run_findings.specs.simulated_sizes.specs.Laws.{AreCurves};
+ghost use Rattle.net_cells.specs.run_laws.specs.Lawful.{IsLawful};
+ghost use Rattle.net_cells.specs.net_model.specs.NetRoutes.{routes_of};
+ghost use Rattle.broken_laws.specs.FirstBroken.{IsFirstBroken};
+ghost use Rattle.check_gauge.specs.Gauge.{check_gauge};
+ghost use Rattle.simulated_sizes.specs.Laws.{AreCurves};
 ghost use Rattle.run_table.specs.ReadRuns.{IsRecordedRun};
-ghost use Rattle.run_findings.specs.command_replies.specs.View.{reply_of};
+ghost use Rattle.command_replies.specs.View.{reply_of};
 ghost use Rattle.check_command.specs.Checked as spec;
 ghost use Rattle.check_command.specs.Checked.{IsUnlawfulOn, IsLawfulOn, IsReportOn, IsVerdictReply};
 
 use crate::refusals::check_too_wide;
+use cell_table::{Analysis, Table, Value};
+use check_gauge::is_too_wide;
 use check_report::{lawful_text, unlawful_text};
-use net_model::Network;
-use recorded_sizes::check_gauge::is_too_wide;
-use recorded_sizes::run_check::{Broken, first_broken};
-use run_findings::cell_table::{Analysis, Table, Value};
-use run_findings::command_replies::{Answer, Status};
+use command_replies::{Answer, Status};
+use net_cells::net_model::Network;
+use net_cells::run_laws::{Run, Step};
+use run_check::{Broken, first_broken};
 use run_findings::{findings, status_by};
-use run_laws::{Run, Step};
 use std::alloc::{AllocError, Global};
 
 // Whether a packet enters.

@@ -1,15 +1,15 @@
 //! The answer on the files of a network and of a recorded run.
 
 ghost use Rattle.std.specs.Prelude.{IfOk};
-ghost use Rattle.run_findings.specs.command_replies.specs.View.{reply_of, status_of};
+ghost use Rattle.command_replies.specs.View.{reply_of, status_of};
 ghost use Rattle.check_command.specs.OnRuns.{IsCheckReply, IsCheckReplyOnNet};
 ghost use Rattle.check_command.specs.CheckCounts.{CountsOn, CountsOnNet};
 
 use crate::on_net::on_network;
 use crate::refusals::on_run_fault;
-use net_model::Network;
-use run_findings::command_replies::{Answer, on_fault};
-use run_findings::net_text::read_network;
+use command_replies::{Answer, on_fault};
+use net_cells::net_model::Network;
+use net_text::read_network;
 use run_table::read_run;
 use std::alloc::{AllocError, Global};
 use std::sync::ledger::Ledger;

@@ -1,20 +1,20 @@
 //! The answer on a network and a recorded run of it.
 
 ghost use Rattle.std.specs.Prelude.{IfOk};
-ghost use Rattle.net_model.specs.Orders.{IsOrder};
+ghost use Rattle.net_cells.specs.net_model.specs.Orders.{IsOrder};
 ghost use Rattle.run_table.specs.ReadRuns.{IsRecordedRun};
-ghost use Rattle.run_findings.specs.command_replies.specs.View.{reply_of, status_of};
+ghost use Rattle.command_replies.specs.View.{reply_of, status_of};
 ghost use Rattle.run_findings.specs.CellCounts.{CountsOnCells};
 ghost use Rattle.check_command.specs.OnRuns.{IsCheckReplyOnRun};
 
 use crate::checked::checked;
+use cell_table::AnalysisFault;
+use command_replies::{Answer, cell_too_many, cell_too_wide, goes_round};
 use flow_analysis::analyse;
-use net_graph::{GraphFault, order};
-use net_model::Network;
-use run_findings::cell_table::AnalysisFault;
-use run_findings::command_replies::{Answer, cell_too_many, cell_too_wide, goes_round};
+use net_cells::net_graph::{GraphFault, order};
+use net_cells::net_model::Network;
+use net_cells::run_laws::Run;
 use run_findings::keeps_curves;
-use run_laws::Run;
 use std::alloc::{AllocError, Global};
 use std::sync::ledger::Ledger;
 use steps::Steps;

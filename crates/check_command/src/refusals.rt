@@ -2,12 +2,12 @@
 
 ghost use Rattle.std.specs.Prelude.{◌≡◌, ◌≢◌, ◌++◌, codes, IfOk, OnOk};
 ghost use Rattle.std.specs.Fmt.{decimal};
-ghost use Rattle.run_findings.specs.command_replies.specs.View.{reply_of};
+ghost use Rattle.command_replies.specs.View.{reply_of};
 ghost use Rattle.check_command.specs.Checked as spec;
 ghost use Rattle.run_table.specs.declared.fault.RunKind.TheVariants as kinds;
 
-use run_findings::command_replies::{Answer, Status};
-use run_findings::report_text::{push_after, push_decimal, push_text};
+use command_replies::{Answer, Status};
+use report_text::{push_after, push_decimal, push_text};
 use run_table::{RunFault, RunKind};
 use std::alloc::{AllocError, Global};
 

@@ -1,10 +1,10 @@
 -- Laws of the report on a recorded run.
 use Rattle.std.specs.Prelude.{◌≡◌, ℕ, List}
-use Rattle.report_text.specs.net_model.specs.Accepted.{IsAccepted}
-use Rattle.report_text.specs.net_model.specs.Networks.{Net}
-use Rattle.report_text.specs.net_model.specs.Orders.{IsOrder}
-use Rattle.report_text.specs.net_cells.specs.Equations.{MeetsEquations}
-use Rattle.report_text.specs.net_cells.specs.Meanings.{CellTable}
+use Rattle.net_cells.specs.net_model.specs.Accepted.{IsAccepted}
+use Rattle.net_cells.specs.net_model.specs.Networks.{Net}
+use Rattle.net_cells.specs.net_model.specs.Orders.{IsOrder}
+use Rattle.net_cells.specs.Equations.{MeetsEquations}
+use Rattle.net_cells.specs.Meanings.{CellTable}
 use Rattle.report_text.specs.RunReport.{Found}
 use Rattle.check_report.specs.CheckReport.{lawful_report_of}
 

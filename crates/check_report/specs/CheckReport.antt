@@ -5,9 +5,9 @@ use Rattle.std.specs.List.{flat_map, range_with_len}
 use Rattle.rational.specs.Rational.{ℚ}
 use Rattle.broken_laws.specs.declared.law.Law.{Law}
 use Rattle.broken_laws.specs.FirstBroken.{number_of}
-use Rattle.report_text.specs.net_model.specs.declared.breach.Breach.{Breach}
-use Rattle.report_text.specs.net_model.specs.Networks.{Net}
-use Rattle.report_text.specs.net_cells.specs.Meanings.{CellTable}
+use Rattle.net_cells.specs.net_model.specs.declared.breach.Breach.{Breach}
+use Rattle.net_cells.specs.net_model.specs.Networks.{Net}
+use Rattle.net_cells.specs.Meanings.{CellTable}
 use Rattle.report_text.specs.Report.{head_line}
 use Rattle.report_text.specs.RunReport.{Found, run_line, worst_lines, peak_lines, breach_words}
 

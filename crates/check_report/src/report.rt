@@ -6,9 +6,9 @@ ghost use Rattle.check_report.specs.CheckReport.{lawful_report_of, unlawful_repo
 
 use crate::verdict::{push_unlawful, push_verdict};
 use broken_laws::Law;
-use fraction128::Frac;
-use report_text::cell_table::Table;
-use report_text::net_model::Network;
+use cell_table::Table;
+use net_cells::fraction128::Frac;
+use net_cells::net_model::Network;
 use report_text::{RunFound, ShownValue, push_head, push_peaks, push_run_line, push_worsts};
 use std::alloc::{AllocError, Global};
 

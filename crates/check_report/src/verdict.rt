@@ -5,7 +5,7 @@ ghost use Rattle.broken_laws.specs.FirstBroken.{number_of};
 ghost use Rattle.check_report.specs.CheckReport as spec;
 
 use broken_laws::Law;
-use report_text::net_model::{Breach, Network};
+use net_cells::net_model::{Breach, Network};
 use report_text::{push_breach_words, push_decimal, push_text};
 use std::alloc::AllocError;
 

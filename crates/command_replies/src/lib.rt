@@ -5,10 +5,7 @@ mod answer;
 mod refusals;
 
 pub use answer::{Answer, Status};
-pub use net_text;
 pub use refusals::{
     cannot_read, cell_too_many, cell_too_wide, goes_round, on_fault, on_script_fault,
     on_table_fault, sim_too_wide, too_long,
 };
-pub use report_text;
-pub use report_text::cell_table;

@@ -2,8 +2,6 @@
 
 ghost use Rattle.std.specs.Prelude.{◌≡◌, ◌<◌};
 
-use fraction128::Frac;
-use rational::Extended;
 use std::alloc::Global;
 use std::marker::Brand;
 use std::sync::ledger::{Blank, Ledger};
@@ -11,8 +9,10 @@ use std::test::Fail;
 use steps::Steps;
 use subadd_closure::is_subadditive;
 use test_curves::{bucket, curve, piece, whole};
-use upp_curve::{Curve, Tail};
 use upp_limits::OpFault;
+use upp_limits::fraction128::Frac;
+use upp_limits::rational::Extended;
+use upp_limits::upp_curve::{Curve, Tail};
 
 // The rate 1 after the time 1.
 fn late(alloc: Global) -> Result<Curve, OpFault> {

@@ -3,16 +3,16 @@
 ghost use Rattle.std.specs.Prelude.{◌≡◌, ◌<◌};
 
 use curve_conv::convolve;
-use fraction128::Frac;
-use rational::Extended;
 use std::alloc::Global;
 use std::marker::Brand;
 use std::sync::ledger::{Blank, Ledger};
 use std::test::Fail;
 use steps::Steps;
 use test_curves::{curve, piece, repeating, repeats, value, whole};
-use upp_curve::{Curve, Tail, equal};
 use upp_limits::OpFault;
+use upp_limits::fraction128::Frac;
+use upp_limits::rational::Extended;
+use upp_limits::upp_curve::{Curve, Tail, equal};
 
 // One value at a time, and none elsewhere.
 fn point(alloc: Global, x: i128, v: i128) -> Result<Curve, OpFault> {

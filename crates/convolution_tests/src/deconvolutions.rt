@@ -3,16 +3,16 @@
 ghost use Rattle.std.specs.Prelude.{◌≡◌, ◌<◌};
 
 use curve_deconv::deconvolve;
-use fraction128::Frac;
-use rational::Extended;
 use std::alloc::Global;
 use std::marker::Brand;
 use std::sync::ledger::{Blank, Ledger};
 use std::test::Fail;
 use steps::Steps;
 use test_curves::{bucket, curve, piece, value, whole};
-use upp_curve::{Curve, Tail};
 use upp_limits::OpFault;
+use upp_limits::fraction128::Frac;
+use upp_limits::rational::Extended;
+use upp_limits::upp_curve::{Curve, Tail};
 
 fn deconvolved<L: Ledger>(
     alloc: Global,

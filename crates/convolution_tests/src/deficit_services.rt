@@ -3,15 +3,15 @@
 ghost use Rattle.std.specs.Prelude.{◌≡◌, ◌<◌};
 
 use drr_residual::drr_service;
-use fraction128::Frac;
 use std::alloc::Global;
 use std::marker::Brand;
 use std::sync::ledger::{Blank, Ledger};
 use std::test::Fail;
 use steps::Steps;
 use test_curves::{curve, fraction_piece, ratio};
-use upp_curve::{Curve, Tail, equal};
 use upp_limits::OpFault;
+use upp_limits::fraction128::Frac;
+use upp_limits::upp_curve::{Curve, Tail, equal};
 
 // A rate after a latency, with minus their product.
 fn late(alloc: Global, rate: Frac, latency: Frac, icept: Frac) -> Result<Curve, OpFault> {

@@ -1,11 +1,11 @@
 //! Pieces cut into elements, and what two elements make as pieces, worked out by hand.
 
-use affine_segment::{Element, Joined, Piece};
 use element_envelope::{cut, joined_window};
-use fraction128::Frac;
-use rational::Extended;
 use std::test::Fail;
 use test_curves::{line, seen_point, whole};
+use upp_limits::affine_segment::{Element, Joined, Piece};
+use upp_limits::fraction128::Frac;
+use upp_limits::rational::Extended;
 
 // Of a segment the ends and the slope.
 fn seen_open(e: &Element) -> Option<(Frac, Option<Frac>, Frac)> {

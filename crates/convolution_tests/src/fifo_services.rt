@@ -1,15 +1,13 @@
 //! Services worked out by hand, by the wait that the horizontal deviation of the two curves is.
 
 ghost use Rattle.std.specs.Prelude.{◌≡◌, ◌<◌, pos, IsTrue};
-ghost use Rattle.rational.specs.Rational.{int};
-ghost use Rattle.rational.specs.Extended.{◌≤ₑ◌};
-ghost use Rattle.rational.specs.declared.Extended.TheVariants.{Fin};
-ghost use Rattle.upp_curve.specs.Curve.{value_at};
+ghost use Rattle.upp_limits.specs.rational.specs.Rational.{int};
+ghost use Rattle.upp_limits.specs.rational.specs.Extended.{◌≤ₑ◌};
+ghost use Rattle.upp_limits.specs.rational.specs.declared.Extended.TheVariants.{Fin};
+ghost use Rattle.upp_limits.specs.upp_curve.specs.Curve.{value_at};
 
 use curve_deviation::horizontal;
 use fifo_residual::fifo_service;
-use fraction128::{Ext, Frac};
-use rational::Extended;
 use std::alloc::Global;
 use std::cmp::Ordering;
 use std::marker::Brand;
@@ -17,8 +15,10 @@ use std::sync::ledger::{Blank, Ledger};
 use std::test::Fail;
 use steps::Steps;
 use test_curves::{bucket, curve, line_piece, ratio, value, whole};
-use upp_curve::{Curve, Tail, equal};
 use upp_limits::OpFault;
+use upp_limits::fraction128::{Ext, Frac};
+use upp_limits::rational::Extended;
+use upp_limits::upp_curve::{Curve, Tail, equal};
 
 // A rate after a latency, with minus their product.
 fn late(alloc: Global, rate: i128, latency: i128, icept: i128) -> Result<Curve, OpFault> {

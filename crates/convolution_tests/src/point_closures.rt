@@ -1,12 +1,12 @@
 //! Closures worked out by hand.
 
-use fraction128::{Frac, is_less};
 use std::alloc::Global;
 use std::test::Fail;
 use subadd_closure::point_closure;
 use test_curves::{value, whole};
-use upp_curve::Curve;
 use upp_limits::OpFault;
+use upp_limits::fraction128::{Frac, is_less};
+use upp_limits::upp_curve::Curve;
 
 // The closure of a point.
 fn point(alloc: Global, x: Frac, v: Frac) -> Result<Curve, OpFault> {

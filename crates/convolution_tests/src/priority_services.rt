@@ -2,7 +2,6 @@
 
 ghost use Rattle.std.specs.Prelude.{◌≡◌, ◌<◌};
 
-use fraction128::Frac;
 use priority_residual::priority_service;
 use std::alloc::Global;
 use std::marker::Brand;
@@ -10,8 +9,9 @@ use std::sync::ledger::{Blank, Ledger};
 use std::test::Fail;
 use steps::Steps;
 use test_curves::{bucket, curve, fraction_piece, ratio, whole};
-use upp_curve::{Curve, Tail, equal};
 use upp_limits::OpFault;
+use upp_limits::fraction128::Frac;
+use upp_limits::upp_curve::{Curve, Tail, equal};
 
 // A rate after a latency, with minus their product.
 fn late(alloc: Global, rate: i128, latency: Frac, icept: i128) -> Result<Curve, OpFault> {

@@ -1,14 +1,14 @@
 //! Closures of lines on open stretches, worked out by hand.
 
-use affine_segment::Line;
-use fraction128::Frac;
-use rational::Extended;
 use std::alloc::Global;
 use std::test::Fail;
 use subadd_closure::segment_closure;
 use test_curves::{ratio, value};
-use upp_curve::Curve;
 use upp_limits::OpFault;
+use upp_limits::affine_segment::Line;
+use upp_limits::fraction128::Frac;
+use upp_limits::rational::Extended;
+use upp_limits::upp_curve::Curve;
 
 // The closure of the value 1 between 2 and 3.
 fn constant(alloc: Global) -> Result<Curve, OpFault> {

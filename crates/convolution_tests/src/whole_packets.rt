@@ -2,7 +2,6 @@
 
 ghost use Rattle.std.specs.Prelude.{◌≡◌, ◌<◌};
 
-use fraction128::Frac;
 use packetiser::packetised;
 use std::alloc::Global;
 use std::marker::Brand;
@@ -10,8 +9,9 @@ use std::sync::ledger::{Blank, Ledger};
 use std::test::Fail;
 use steps::Steps;
 use test_curves::{curve, fraction_piece, ratio};
-use upp_curve::{Curve, Tail, equal};
 use upp_limits::OpFault;
+use upp_limits::fraction128::Frac;
+use upp_limits::upp_curve::{Curve, Tail, equal};
 
 // Rate 95 after a latency, with minus their product.
 fn late(alloc: Global, latency: Frac, icept: i128) -> Result<Curve, OpFault> {

@@ -17,11 +17,6 @@ mod pieces;
 mod rows;
 
 pub use bounds::{late_bounds, periods_over};
-pub use curve_pointwise;
-pub use curve_pointwise::{
-    affine_segment, curve_call, fraction128, upp_curve, upp_limits, upp_normal,
-};
-pub use element_envelope;
 pub use extremes::{checked_sum, value_there};
 pub use operator::{convolve, convolve_frame};
 pub use order::{is_slower_curve, late_periods};

@@ -2,16 +2,16 @@
 -- the answer's values.
 use Rattle.std.specs.Prelude.{◌≡◌, pos, List}
 use Rattle.std.proofs.Common.{arith, sym, ap, ap₂, ◌∙◌, refl, subst, inl, inr}
-use Rattle.rational.specs.Rational.{ℚ, ◌+ℚ◌, ◌-ℚ◌, ◌≤ℚ◌, ◌<ℚ◌, neg_ℚ, int}
-use Rattle.rational.specs.Ratio.{SumFits}
-use Rattle.rational.specs.Grid.{Whole}
-use Rattle.rational.specs.Extended.{Ext, ◌≤ₑ◌, ◌<ₑ◌, ◌+ₑ◌, ◌-ₑ◌}
-use Rattle.rational.specs.declared.Extended.TheVariants.{Fin}
-use Rattle.rational.proofs.Grid.{whole_sub, whole_add, whole_neg, within_weaken}
-use Rattle.rational.proofs.Linear.{with2, with3, with4, with5}
-use Rattle.rational.proofs.MinMax.{max_q_ge_left, max_q_ge_right}
-use Rattle.rational.proofs.Laws.{le_refl, le_trans, le_of_lt, le_lt_trans, one_mul}
-use Rattle.rational.proofs.ExtendedOrder.{same_le_ext}
+use Rattle.min_plus.specs.rational.specs.Rational.{ℚ, ◌+ℚ◌, ◌-ℚ◌, ◌≤ℚ◌, ◌<ℚ◌, neg_ℚ, int}
+use Rattle.min_plus.specs.rational.specs.Ratio.{SumFits}
+use Rattle.min_plus.specs.rational.specs.Grid.{Whole}
+use Rattle.min_plus.specs.rational.specs.Extended.{Ext, ◌≤ₑ◌, ◌<ₑ◌, ◌+ₑ◌, ◌-ₑ◌}
+use Rattle.min_plus.specs.rational.specs.declared.Extended.TheVariants.{Fin}
+use Rattle.min_plus.specs.rational.proofs.Grid.{whole_sub, whole_add, whole_neg, within_weaken}
+use Rattle.min_plus.specs.rational.proofs.Linear.{with2, with3, with4, with5}
+use Rattle.min_plus.specs.rational.proofs.MinMax.{max_q_ge_left, max_q_ge_right}
+use Rattle.min_plus.specs.rational.proofs.Laws.{le_refl, le_trans, le_of_lt, le_lt_trans, one_mul}
+use Rattle.min_plus.specs.rational.proofs.ExtendedOrder.{same_le_ext}
 use Rattle.curve_running.specs.affine_segment.specs.declared.line.Piece.{Piece}
 use Rattle.curve_running.specs.affine_segment.specs.Values.{line_value}
 use Rattle.curve_running.specs.upp_curve.specs.declared.curve.Tail.{Tail}

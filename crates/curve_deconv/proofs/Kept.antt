@@ -1,17 +1,17 @@
 -- What a deconvolution keeps of its first operand, and that it is finite.
 use Rattle.std.specs.Prelude.{◌≡◌, pos, List, [], ◌∷◌, Option, Some, None}
 use Rattle.std.proofs.Common.{arith, sym, ◌∙◌, refl, subst, inl, inr}
-use Rattle.rational.specs.Rational.{ℚ, ◌+ℚ◌, ◌-ℚ◌, ◌*ℚ◌, ◌≤ℚ◌, ◌<ℚ◌, int}
-use Rattle.rational.specs.Grid.{Within}
-use Rattle.rational.specs.Extended.{Ext, ◌≤ₑ◌, ◌-ₑ◌}
-use Rattle.rational.specs.declared.Extended.TheVariants.{Fin, Inf}
-use Rattle.rational.proofs.Grid.{within_add, within_weaken}
-use Rattle.rational.proofs.Integers.{nat_nonneg}
-use Rattle.rational.proofs.Linear.{with1, with2, with3, with4}
-use Rattle.rational.proofs.MinMax.{max_q_ge_left, max_q_ge_right}
-use Rattle.rational.proofs.Laws.{le_or_lt, le_refl, le_trans, le_of_lt}
-use Rattle.rational.proofs.ExtendedOrder.{le_ext_trans, finite_below, fin_same}
-use Rattle.rational.proofs.Bounds.{smallest}
+use Rattle.min_plus.specs.rational.specs.Rational.{ℚ, ◌+ℚ◌, ◌-ℚ◌, ◌*ℚ◌, ◌≤ℚ◌, ◌<ℚ◌, int}
+use Rattle.min_plus.specs.rational.specs.Grid.{Within}
+use Rattle.min_plus.specs.rational.specs.Extended.{Ext, ◌≤ₑ◌, ◌-ₑ◌}
+use Rattle.min_plus.specs.rational.specs.declared.Extended.TheVariants.{Fin, Inf}
+use Rattle.min_plus.specs.rational.proofs.Grid.{within_add, within_weaken}
+use Rattle.min_plus.specs.rational.proofs.Integers.{nat_nonneg}
+use Rattle.min_plus.specs.rational.proofs.Linear.{with1, with2, with3, with4}
+use Rattle.min_plus.specs.rational.proofs.MinMax.{max_q_ge_left, max_q_ge_right}
+use Rattle.min_plus.specs.rational.proofs.Laws.{le_or_lt, le_refl, le_trans, le_of_lt}
+use Rattle.min_plus.specs.rational.proofs.ExtendedOrder.{le_ext_trans, finite_below, fin_same}
+use Rattle.min_plus.specs.rational.proofs.Bounds.{smallest}
 use Rattle.curve_running.specs.affine_segment.specs.declared.line.Line.{Line}
 use Rattle.curve_running.specs.affine_segment.specs.declared.line.Piece.{Piece}
 use Rattle.curve_running.specs.affine_segment.specs.Values.{line_at, line_value}

@@ -1,11 +1,11 @@
 -- Until when what pieces read is infinite at some later time.
 use Rattle.std.specs.Prelude.{◌≡◌, ◌⊎◌, ℕ, pos, List, [], ◌∷◌, Option, Some, None}
 use Rattle.std.proofs.Common.{sym, ap, ◌∙◌, refl, subst, inl, inr}
-use Rattle.rational.specs.Rational.{ℚ, ◌≤ℚ◌, ◌<ℚ◌, int}
-use Rattle.rational.specs.Grid.{Whole}
-use Rattle.rational.specs.Extended.{Ext}
-use Rattle.rational.specs.declared.Extended.TheVariants.{Fin, Inf}
-use Rattle.rational.proofs.Laws.{le_or_lt, le_refl, le_trans, le_of_lt, lt_irrefl, lt_trans, lt_le_trans, antisym, between}
+use Rattle.min_plus.specs.rational.specs.Rational.{ℚ, ◌≤ℚ◌, ◌<ℚ◌, int}
+use Rattle.min_plus.specs.rational.specs.Grid.{Whole}
+use Rattle.min_plus.specs.rational.specs.Extended.{Ext}
+use Rattle.min_plus.specs.rational.specs.declared.Extended.TheVariants.{Fin, Inf}
+use Rattle.min_plus.specs.rational.proofs.Laws.{le_or_lt, le_refl, le_trans, le_of_lt, lt_irrefl, lt_trans, lt_le_trans, antisym, between}
 use Rattle.curve_running.specs.affine_segment.specs.declared.line.Line.{Line}
 use Rattle.curve_running.specs.affine_segment.specs.declared.line.Piece.{Piece}
 use Rattle.curve_running.specs.affine_segment.specs.Values.{line_at, line_value}

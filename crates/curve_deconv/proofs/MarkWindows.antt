@@ -2,17 +2,17 @@
 -- their sum with such a window is.
 use Rattle.std.specs.Prelude.{◌≡◌, ◌⊎◌, ◌*◌, Bool, true, false, pos, cond, List, [], ◌∷◌, Option, Some, None}
 use Rattle.std.proofs.Common.{arith, sym, ap, ap₂, ◌∙◌, refl, subst, inl, inr}
-use Rattle.rational.specs.Rational.{ℚ, ◌+ℚ◌, ◌-ℚ◌, ◌*ℚ◌, ◌≤ℚ◌, ◌<ℚ◌, neg_ℚ, int, lt_q}
-use Rattle.rational.specs.Ratio.{SumFits}
-use Rattle.rational.specs.Grid.{Whole}
-use Rattle.rational.specs.Extended.{Ext, ◌≤ₑ◌, ◌+ₑ◌}
-use Rattle.rational.specs.declared.Extended.TheVariants.{Fin, Inf}
-use Rattle.rational.proofs.Grid.{whole_int, within_nonneg}
-use Rattle.rational.proofs.Linear.{with1, with3}
-use Rattle.rational.proofs.Laws.{le_or_lt, le_refl, le_of_lt, lt_le_trans, le_lt_trans, lt_trans, lt_irrefl, zero_mul, add_zero}
-use Rattle.rational.proofs.MinMax.{lt_q_not}
-use Rattle.rational.proofs.Over.{lt_q_out}
-use Rattle.rational.proofs.ExtendedOrder.{add_zero_ext}
+use Rattle.min_plus.specs.rational.specs.Rational.{ℚ, ◌+ℚ◌, ◌-ℚ◌, ◌*ℚ◌, ◌≤ℚ◌, ◌<ℚ◌, neg_ℚ, int, lt_q}
+use Rattle.min_plus.specs.rational.specs.Ratio.{SumFits}
+use Rattle.min_plus.specs.rational.specs.Grid.{Whole}
+use Rattle.min_plus.specs.rational.specs.Extended.{Ext, ◌≤ₑ◌, ◌+ₑ◌}
+use Rattle.min_plus.specs.rational.specs.declared.Extended.TheVariants.{Fin, Inf}
+use Rattle.min_plus.specs.rational.proofs.Grid.{whole_int, within_nonneg}
+use Rattle.min_plus.specs.rational.proofs.Linear.{with1, with3}
+use Rattle.min_plus.specs.rational.proofs.Laws.{le_or_lt, le_refl, le_of_lt, lt_le_trans, le_lt_trans, lt_trans, lt_irrefl, zero_mul, add_zero}
+use Rattle.min_plus.specs.rational.proofs.MinMax.{lt_q_not}
+use Rattle.min_plus.specs.rational.proofs.Over.{lt_q_out}
+use Rattle.min_plus.specs.rational.proofs.ExtendedOrder.{add_zero_ext}
 use Rattle.curve_running.specs.affine_segment.specs.declared.line.Line.{Line}
 use Rattle.curve_running.specs.affine_segment.specs.declared.line.Piece.{Piece}
 use Rattle.curve_running.specs.affine_segment.specs.Values.{line_value}

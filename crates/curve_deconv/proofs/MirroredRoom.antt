@@ -1,12 +1,12 @@
 -- The lines of an operand have room with minus their values, and mirrored in time.
 use Rattle.std.specs.Prelude.{◌≡◌, pos, Some}
 use Rattle.std.proofs.Common.{arith, sym, subst}
-use Rattle.rational.specs.Rational.{ℚ, ◌+ℚ◌, ◌-ℚ◌, ◌*ℚ◌, ◌≤ℚ◌, ◌<ℚ◌, neg_ℚ, int}
-use Rattle.rational.specs.Ratio.{SumFits}
-use Rattle.rational.specs.Grid.{Whole, Within}
-use Rattle.rational.proofs.Grid.{whole_neg, within_neg, within_add}
-use Rattle.rational.proofs.Linear.{with1, with2, with3}
-use Rattle.rational.proofs.Laws.{le_of_lt}
+use Rattle.min_plus.specs.rational.specs.Rational.{ℚ, ◌+ℚ◌, ◌-ℚ◌, ◌*ℚ◌, ◌≤ℚ◌, ◌<ℚ◌, neg_ℚ, int}
+use Rattle.min_plus.specs.rational.specs.Ratio.{SumFits}
+use Rattle.min_plus.specs.rational.specs.Grid.{Whole, Within}
+use Rattle.min_plus.specs.rational.proofs.Grid.{whole_neg, within_neg, within_add}
+use Rattle.min_plus.specs.rational.proofs.Linear.{with1, with2, with3}
+use Rattle.min_plus.specs.rational.proofs.Laws.{le_of_lt}
 use Rattle.curve_running.specs.affine_segment.specs.declared.line.Line.{Line}
 use Rattle.curve_running.specs.affine_segment.specs.declared.line.Piece.{Piece}
 use Rattle.curve_running.specs.affine_segment.specs.Values.{line_at, line_value}

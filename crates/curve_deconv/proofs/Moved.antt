@@ -2,16 +2,16 @@
 use Rattle.std.specs.Prelude.{◌≡◌, ◌⊎◌, ℕ, ◌*◌, ◌≤◌, pos, List, [], ◌∷◌, map, Option, Some, None, Result, Ok, Err, IfOk, Vec}
 use native.Mathlib.Nat.{dvd-mul_left, dvd-mul_right, dvd_trans, dvd_refl, mul-le-mul_left, mul-le-mul_right}
 use Rattle.std.proofs.Common.{arith, sym, ap, ◌∙◌, refl, subst, inl, inr, Global}
-use Rattle.rational.specs.Rational.{ℚ, ◌+ℚ◌, ◌-ℚ◌, ◌*ℚ◌, ◌≤ℚ◌, ◌<ℚ◌, neg_ℚ, int}
-use Rattle.rational.specs.Ratio.{SumFits}
-use Rattle.rational.specs.Grid.{Whole}
-use Rattle.rational.specs.Extended.{Ext, ◌≤ₑ◌, ◌<ₑ◌, ◌-ₑ◌}
-use Rattle.rational.specs.declared.Extended.TheVariants.{Fin, Inf}
-use Rattle.rational.proofs.Grid.{whole_sub, whole_add, whole_neg, whole_weaken, within_neg, within_nonneg}
-use Rattle.rational.proofs.Integers.{nat_nonneg}
-use Rattle.rational.proofs.Sizes.{sum_on_grid}
-use Rattle.rational.proofs.Linear.{with2, with3, with4}
-use Rattle.rational.proofs.Laws.{le_refl, le_trans, le_of_lt, lt_trans, mul_le_mul_right}
+use Rattle.min_plus.specs.rational.specs.Rational.{ℚ, ◌+ℚ◌, ◌-ℚ◌, ◌*ℚ◌, ◌≤ℚ◌, ◌<ℚ◌, neg_ℚ, int}
+use Rattle.min_plus.specs.rational.specs.Ratio.{SumFits}
+use Rattle.min_plus.specs.rational.specs.Grid.{Whole}
+use Rattle.min_plus.specs.rational.specs.Extended.{Ext, ◌≤ₑ◌, ◌<ₑ◌, ◌-ₑ◌}
+use Rattle.min_plus.specs.rational.specs.declared.Extended.TheVariants.{Fin, Inf}
+use Rattle.min_plus.specs.rational.proofs.Grid.{whole_sub, whole_add, whole_neg, whole_weaken, within_neg, within_nonneg}
+use Rattle.min_plus.specs.rational.proofs.Integers.{nat_nonneg}
+use Rattle.min_plus.specs.rational.proofs.Sizes.{sum_on_grid}
+use Rattle.min_plus.specs.rational.proofs.Linear.{with2, with3, with4}
+use Rattle.min_plus.specs.rational.proofs.Laws.{le_refl, le_trans, le_of_lt, lt_trans, mul_le_mul_right}
 use Rattle.curve_running.specs.affine_segment.specs.declared.line.Line.{Line}
 use Rattle.curve_running.specs.affine_segment.specs.declared.line.Piece.{Piece}
 use Rattle.curve_running.specs.affine_segment.specs.Values.{line_at}

@@ -1,13 +1,13 @@
 -- The window of the pairs: its operands have room, and it reads as the least of the second at u less the first at t + u.
 use Rattle.std.specs.Prelude.{◌≡◌, pos, List, [], ◌∷◌, map, Result, Ok, Err, IfOk, Vec}
 use Rattle.std.proofs.Common.{arith, sym, ap, ap₂, ◌∙◌, refl, subst, inl, inr, Global}
-use Rattle.rational.specs.Rational.{ℚ, ◌+ℚ◌, ◌-ℚ◌, ◌≤ℚ◌, ◌<ℚ◌, neg_ℚ, int}
-use Rattle.rational.specs.Grid.{Whole}
-use Rattle.rational.specs.Extended.{Ext, ◌≤ₑ◌, ◌+ₑ◌}
-use Rattle.rational.specs.declared.Extended.TheVariants.{Fin, Inf}
-use Rattle.rational.proofs.Linear.{with2, with3, with4}
-use Rattle.rational.proofs.Laws.{le_of_lt, le_or_lt, le_refl}
-use Rattle.rational.proofs.ExtendedOrder.{finite_sum, fin_same, same_le_ext}
+use Rattle.min_plus.specs.rational.specs.Rational.{ℚ, ◌+ℚ◌, ◌-ℚ◌, ◌≤ℚ◌, ◌<ℚ◌, neg_ℚ, int}
+use Rattle.min_plus.specs.rational.specs.Grid.{Whole}
+use Rattle.min_plus.specs.rational.specs.Extended.{Ext, ◌≤ₑ◌, ◌+ₑ◌}
+use Rattle.min_plus.specs.rational.specs.declared.Extended.TheVariants.{Fin, Inf}
+use Rattle.min_plus.specs.rational.proofs.Linear.{with2, with3, with4}
+use Rattle.min_plus.specs.rational.proofs.Laws.{le_of_lt, le_or_lt, le_refl}
+use Rattle.min_plus.specs.rational.proofs.ExtendedOrder.{finite_sum, fin_same, same_le_ext}
 use Rattle.curve_running.specs.affine_segment.specs.declared.line.Piece.{Piece}
 use Rattle.curve_running.specs.affine_segment.specs.Values.{line_value}
 use Rattle.curve_running.specs.affine_segment.specs.Fits.{ReadFits}

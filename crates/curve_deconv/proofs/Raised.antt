@@ -1,15 +1,15 @@
 -- The window of the pairs with the marks of infinity.
 use Rattle.std.specs.Prelude.{◌≡◌, pos, List, Result, Ok, Err, IfOk, Vec}
 use Rattle.std.proofs.Common.{arith, sym, ap, ◌∙◌, subst, inl, inr, Global}
-use Rattle.rational.specs.Rational.{ℚ, ◌+ℚ◌, ◌≤ℚ◌, ◌<ℚ◌, int}
-use Rattle.rational.specs.Ratio.{SumFits}
-use Rattle.rational.specs.Grid.{Whole}
-use Rattle.rational.specs.Extended.{Ext, ◌+ₑ◌}
-use Rattle.rational.specs.declared.Extended.TheVariants.{Fin}
-use Rattle.rational.proofs.Grid.{whole_int, whole_add}
-use Rattle.rational.proofs.Linear.{with2, with3}
-use Rattle.rational.proofs.Laws.{le_or_lt, le_of_lt, antisym}
-use Rattle.rational.proofs.ExtendedOrder.{add_zero_ext}
+use Rattle.min_plus.specs.rational.specs.Rational.{ℚ, ◌+ℚ◌, ◌≤ℚ◌, ◌<ℚ◌, int}
+use Rattle.min_plus.specs.rational.specs.Ratio.{SumFits}
+use Rattle.min_plus.specs.rational.specs.Grid.{Whole}
+use Rattle.min_plus.specs.rational.specs.Extended.{Ext, ◌+ₑ◌}
+use Rattle.min_plus.specs.rational.specs.declared.Extended.TheVariants.{Fin}
+use Rattle.min_plus.specs.rational.proofs.Grid.{whole_int, whole_add}
+use Rattle.min_plus.specs.rational.proofs.Linear.{with2, with3}
+use Rattle.min_plus.specs.rational.proofs.Laws.{le_or_lt, le_of_lt, antisym}
+use Rattle.min_plus.specs.rational.proofs.ExtendedOrder.{add_zero_ext}
 use Rattle.curve_running.specs.affine_segment.specs.declared.line.Piece.{Piece}
 use Rattle.curve_running.specs.affine_segment.specs.Reading.{read}
 use Rattle.curve_running.specs.affine_segment.specs.Pieces.{Each, StartsAtZero}

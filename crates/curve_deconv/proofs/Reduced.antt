@@ -2,17 +2,17 @@
 -- gains on the second it is infinite.
 use Rattle.std.specs.Prelude.{◌≡◌, pos}
 use Rattle.std.proofs.Common.{arith, sym, ap, ◌∙◌, refl, subst, inl, inr}
-use Rattle.rational.specs.Rational.{ℚ, ◌+ℚ◌, ◌-ℚ◌, ◌*ℚ◌, ◌≤ℚ◌, ◌<ℚ◌, int}
-use Rattle.rational.specs.Whole.{periods}
-use Rattle.rational.specs.Extended.{Ext, ◌≤ₑ◌, ◌<ₑ◌, ◌+ₑ◌, ◌-ₑ◌}
-use Rattle.rational.specs.declared.Extended.TheVariants.{Fin, Inf}
-use Rattle.rational.proofs.Linear.{with2, with3, with4, with5}
-use Rattle.rational.proofs.Laws.{le_or_lt, le_refl, le_trans, le_of_lt, mul_le_mul, mul_nonneg}
-use Rattle.rational.proofs.Integers.{nat_nonneg}
-use Rattle.rational.proofs.Quotients.{times_above, past_each}
-use Rattle.rational.proofs.Whole.{periods_low, periods_high}
-use Rattle.rational.proofs.ExtendedOrder.{same_le_ext, fin_same}
-use Rattle.rational.proofs.Bounds.{infinite_member, unbounded, supremum_shift}
+use Rattle.min_plus.specs.rational.specs.Rational.{ℚ, ◌+ℚ◌, ◌-ℚ◌, ◌*ℚ◌, ◌≤ℚ◌, ◌<ℚ◌, int}
+use Rattle.min_plus.specs.rational.specs.Whole.{periods}
+use Rattle.min_plus.specs.rational.specs.Extended.{Ext, ◌≤ₑ◌, ◌<ₑ◌, ◌+ₑ◌, ◌-ₑ◌}
+use Rattle.min_plus.specs.rational.specs.declared.Extended.TheVariants.{Fin, Inf}
+use Rattle.min_plus.specs.rational.proofs.Linear.{with2, with3, with4, with5}
+use Rattle.min_plus.specs.rational.proofs.Laws.{le_or_lt, le_refl, le_trans, le_of_lt, mul_le_mul, mul_nonneg}
+use Rattle.min_plus.specs.rational.proofs.Integers.{nat_nonneg}
+use Rattle.min_plus.specs.rational.proofs.Quotients.{times_above, past_each}
+use Rattle.min_plus.specs.rational.proofs.Whole.{periods_low, periods_high}
+use Rattle.min_plus.specs.rational.proofs.ExtendedOrder.{same_le_ext, fin_same}
+use Rattle.min_plus.specs.rational.proofs.Bounds.{infinite_member, unbounded, supremum_shift}
 use Rattle.min_plus.specs.Functions.{IsFinite, FiniteTime}
 use Rattle.curve_running.specs.upp_curve.specs.Steady.{Repeats}
 use Rattle.min_plus.specs.Convolution.{IsDeconvolution}

@@ -1,13 +1,13 @@
 -- Two curves of which the second is finite: by how much they rise, and the deconvolution where the first is the faster.
 use Rattle.std.specs.Prelude.{◌≡◌, pos}
 use Rattle.std.proofs.Common.{sym, ◌∙◌, subst, inl, inr, arith}
-use Rattle.rational.specs.Rational.{ℚ, ◌+ℚ◌, ◌*ℚ◌, ◌≤ℚ◌, ◌<ℚ◌, int}
-use Rattle.rational.specs.Extended.{◌<ₑ◌}
-use Rattle.rational.specs.declared.Extended.TheVariants.{Fin, Inf}
-use Rattle.rational.proofs.Linear.{with3}
-use Rattle.rational.proofs.MinMax.{max_q_ge_left, max_q_ge_right}
-use Rattle.rational.proofs.Laws.{le_refl, le_trans, le_of_lt, le_of_not_lt, mul_le_mul_right}
-use Rattle.rational.proofs.ExtendedOrder.{same_le_ext}
+use Rattle.min_plus.specs.rational.specs.Rational.{ℚ, ◌+ℚ◌, ◌*ℚ◌, ◌≤ℚ◌, ◌<ℚ◌, int}
+use Rattle.min_plus.specs.rational.specs.Extended.{◌<ₑ◌}
+use Rattle.min_plus.specs.rational.specs.declared.Extended.TheVariants.{Fin, Inf}
+use Rattle.min_plus.specs.rational.proofs.Linear.{with3}
+use Rattle.min_plus.specs.rational.proofs.MinMax.{max_q_ge_left, max_q_ge_right}
+use Rattle.min_plus.specs.rational.proofs.Laws.{le_refl, le_trans, le_of_lt, le_of_not_lt, mul_le_mul_right}
+use Rattle.min_plus.specs.rational.proofs.ExtendedOrder.{same_le_ext}
 use Rattle.curve_running.specs.upp_curve.specs.Curve.{SpecCurve, value_at}
 use Rattle.curve_running.specs.upp_curve.specs.Curves.{IsCurve}
 use Rattle.min_plus.specs.Functions.{IsFinite}

@@ -1,9 +1,9 @@
 -- Until when a function that is read off pieces is infinite at some later time, and pieces that are infinite that long.
 -- Own choice.
 use Rattle.std.specs.Prelude.{pos, cond, List, [], ◌∷◌, Option, Some, None}
-use Rattle.rational.specs.Rational.{ℚ, ◌+ℚ◌, int, lt_q}
-use Rattle.rational.specs.Extended.{Ext}
-use Rattle.rational.specs.declared.Extended.TheVariants.{Fin, Inf}
+use Rattle.min_plus.specs.rational.specs.Rational.{ℚ, ◌+ℚ◌, int, lt_q}
+use Rattle.min_plus.specs.rational.specs.Extended.{Ext}
+use Rattle.min_plus.specs.rational.specs.declared.Extended.TheVariants.{Fin, Inf}
 use Rattle.curve_running.specs.affine_segment.specs.declared.line.Line.{Line}
 use Rattle.curve_running.specs.affine_segment.specs.declared.line.Piece.{Piece}
 use Rattle.curve_deconv.specs.declared.marks.Last.{Last}

@@ -2,10 +2,10 @@
 -- deconvolution is, but for the sign, a convolution with the second mirrored: Bouillard, Boyer and Le Corronc. The form
 -- is own choice.)
 use Rattle.std.specs.Prelude.{List, [], ◌∷◌, ◌++◌, Option, Some, None}
-use Rattle.rational.specs.Rational.{ℚ, ◌-ℚ◌, neg_ℚ}
-use Rattle.rational.specs.Ratio.{SumFits}
-use Rattle.rational.specs.Extended.{Ext}
-use Rattle.rational.specs.declared.Extended.TheVariants.{Fin, Inf}
+use Rattle.min_plus.specs.rational.specs.Rational.{ℚ, ◌-ℚ◌, neg_ℚ}
+use Rattle.min_plus.specs.rational.specs.Ratio.{SumFits}
+use Rattle.min_plus.specs.rational.specs.Extended.{Ext}
+use Rattle.min_plus.specs.rational.specs.declared.Extended.TheVariants.{Fin, Inf}
 use Rattle.curve_running.specs.affine_segment.specs.declared.line.Line.{Line}
 use Rattle.curve_running.specs.affine_segment.specs.declared.line.Piece.{Piece}
 use Rattle.curve_running.specs.affine_segment.specs.Values.{line_at}

@@ -8,6 +8,4 @@ mod mirroring;
 mod operator;
 mod window;
 
-pub use curve_running;
-pub use curve_running::curve_pointwise;
 pub use operator::deconvolve;

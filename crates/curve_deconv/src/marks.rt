@@ -1,12 +1,12 @@
 //! Where a function is infinite last.
 
 ghost use Rattle.std.specs.Prelude.{◌≡◌, ◌+◌, ◌<◌, ◌++◌, length, drop, OnOk, IfOk};
-ghost use Rattle.rational.specs.Ratio.{SumFits};
+ghost use Rattle.min_plus.specs.rational.specs.Ratio.{SumFits};
 ghost use Rattle.curve_deconv.specs.Marks.{last_step, last_of, first_last, next_time, after_pieces, mark_pieces};
 
 use curve_running::affine_segment::{Line, Piece};
 use curve_running::fraction128::{Ext, Frac, sum};
-use rational::Extended;
+use min_plus::rational::Extended;
 use std::alloc::{AllocError, Global};
 use std::cmp::Ordering;
 

@@ -1,8 +1,8 @@
 //! The deconvolution of two curves.
 
 ghost use Rattle.std.specs.Prelude.{◌≡◌, ◌↔◌, ◌+◌, pos, IfOk, IsTrue};
-ghost use Rattle.rational.specs.Rational.{ℚ, int, ◌≤ℚ◌};
-ghost use Rattle.rational.specs.Extended.{◌<ₑ◌};
+ghost use Rattle.min_plus.specs.rational.specs.Rational.{ℚ, int, ◌≤ℚ◌};
+ghost use Rattle.min_plus.specs.rational.specs.Extended.{◌<ₑ◌};
 ghost use Rattle.curve_running.specs.upp_curve.specs.Curve.{value_at};
 ghost use Rattle.curve_running.specs.upp_curve.specs.Curves.{IsCurve};
 ghost use Rattle.min_plus.specs.Convolution.{IsDeconvolution};

@@ -2,20 +2,20 @@
 use Rattle.std.specs.Prelude.{◌≡◌, ◌≢◌, ◌⊎◌, ℕ, ◌<◌, ◌≤◌, ◌^◌, Result, Ok, Err}
 use Rattle.std.proofs.Common.{refl, inl, inr}
 use Rattle.std.proofs.lemmas.Bool.{cases_lt}
-use Rattle.upp_limits.specs.declared.op_kind.OpKind.{OpKind}
-use Rattle.upp_limits.specs.declared.op_kind.OpFault.{OpFault}
-use Rattle.upp_limits.specs.declared.op_kind.OpFault.TheVariants.{TooMany, TooWide, NoMemory}
-use Rattle.upp_limits.specs.Gauges.{IsKnownAtOnce, IsTooWide, IsTooMany, gauge_at, tally_at}
-use Rattle.upp_limits.specs.Outcome.{IsWithin}
-use Rattle.upp_limits.specs.Sized.{grid_of}
-use Rattle.upp_limits.specs.Windows.{IsLeastPeriods, window_at}
-use Rattle.upp_curve.specs.Curve.{SpecCurve}
-use Rattle.upp_curve.specs.Curves.{IsCurve}
-use Rattle.curve_call.specs.declared.frame.Frame.{Frame}
-use Rattle.curve_call.specs.Answers.{IsMadeBy}
-use Rattle.curve_call.specs.CallWindows.{SecondIsCurve, start_of, period_in}
-use Rattle.curve_call.specs.Frames.{IsFrame, sizes_at}
-use Rattle.curve_call.proofs.Limited.{wide_at_least, many_at_least, within_at_least}
+use Rattle.curve_running.specs.upp_limits.specs.declared.op_kind.OpKind.{OpKind}
+use Rattle.curve_running.specs.upp_limits.specs.declared.op_kind.OpFault.{OpFault}
+use Rattle.curve_running.specs.upp_limits.specs.declared.op_kind.OpFault.TheVariants.{TooMany, TooWide, NoMemory}
+use Rattle.curve_running.specs.upp_limits.specs.Gauges.{IsKnownAtOnce, IsTooWide, IsTooMany, gauge_at, tally_at}
+use Rattle.curve_running.specs.upp_limits.specs.Outcome.{IsWithin}
+use Rattle.curve_running.specs.upp_limits.specs.Sized.{grid_of}
+use Rattle.curve_running.specs.upp_limits.specs.Windows.{IsLeastPeriods, window_at}
+use Rattle.curve_running.specs.upp_curve.specs.Curve.{SpecCurve}
+use Rattle.curve_running.specs.upp_curve.specs.Curves.{IsCurve}
+use Rattle.curve_running.specs.curve_call.specs.declared.frame.Frame.{Frame}
+use Rattle.curve_running.specs.curve_call.specs.Answers.{IsMadeBy}
+use Rattle.curve_running.specs.curve_call.specs.CallWindows.{SecondIsCurve, start_of, period_in}
+use Rattle.curve_running.specs.curve_call.specs.Frames.{IsFrame, sizes_at}
+use Rattle.curve_running.specs.curve_call.proofs.Limited.{wide_at_least, many_at_least, within_at_least}
 use Rattle.curve_existence.specs.Answered.{HasAnswer, IsDecided, IsMadeWithin}
 
 -- ---- the three answers

@@ -1,17 +1,17 @@
 -- Whether values, lines and pieces are one, so that a proof may go by it.
 use Rattle.std.specs.Prelude.{◌≡◌, List, [], ◌∷◌, ◌⊎◌, Option}
 use Rattle.std.proofs.Common.{sym, ap, ap₂, refl, inl, inr}
-use Rattle.rational.specs.Rational.{ℚ, ◌+ℚ◌}
-use Rattle.rational.specs.Extended.{Ext, ◌+ₑ◌}
-use Rattle.rational.specs.declared.Extended.TheVariants.{Fin}
-use Rattle.rational.proofs.Laws.{le_or_lt, lt_irrefl, lt_le_trans}
-use Rattle.affine_segment.specs.declared.line.Line.{Line}
-use Rattle.affine_segment.specs.declared.line.Piece.{Piece}
-use Rattle.affine_segment.specs.Reading.{piece_value}
-use Rattle.affine_segment.proofs.PieceOrder.{heads_same, tails_same, nil_not_cons}
-use Rattle.upp_curve.specs.Unrolled.{line_later}
-use Rattle.upp_normal.specs.Normalising.{RepeatsIn}
-use Rattle.upp_normal.proofs.NormaliseGrids.{q_same_or, ext_same_or, line_same_or}
+use Rattle.min_plus.specs.rational.specs.Rational.{ℚ, ◌+ℚ◌}
+use Rattle.min_plus.specs.rational.specs.Extended.{Ext, ◌+ₑ◌}
+use Rattle.min_plus.specs.rational.specs.declared.Extended.TheVariants.{Fin}
+use Rattle.min_plus.specs.rational.proofs.Laws.{le_or_lt, lt_irrefl, lt_le_trans}
+use Rattle.curve_running.specs.affine_segment.specs.declared.line.Line.{Line}
+use Rattle.curve_running.specs.affine_segment.specs.declared.line.Piece.{Piece}
+use Rattle.curve_running.specs.affine_segment.specs.Reading.{piece_value}
+use Rattle.curve_running.specs.affine_segment.proofs.PieceOrder.{heads_same, tails_same, nil_not_cons}
+use Rattle.curve_running.specs.upp_curve.specs.Unrolled.{line_later}
+use Rattle.curve_running.specs.upp_normal.specs.Normalising.{RepeatsIn}
+use Rattle.curve_running.specs.upp_normal.proofs.NormaliseGrids.{q_same_or, ext_same_or, line_same_or}
 
 -- ---- of parts
 on_parts : {A B : Type 0} → (A → B) → (B → A) → A ⊎ ¬ A → B ⊎ ¬ B

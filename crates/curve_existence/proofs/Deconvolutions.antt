@@ -1,27 +1,27 @@
 -- A deconvolution has an answer: infinity where the first is the faster, else the curve of its window's pieces, unless the call is over a limit.
 use Rattle.std.specs.Prelude.{List, [], ◌∷◌, map, Ok}
 use Rattle.std.proofs.Common.{refl, sym, ap, subst, inl, inr}
-use Rattle.rational.specs.Rational.{ℚ}
-use Rattle.rational.specs.Extended.{◌<ₑ◌}
-use Rattle.affine_segment.specs.declared.line.Piece.{Piece}
-use Rattle.affine_segment.specs.Reading.{read, nothing_at}
+use Rattle.min_plus.specs.rational.specs.Rational.{ℚ}
+use Rattle.min_plus.specs.rational.specs.Extended.{◌<ₑ◌}
+use Rattle.curve_running.specs.affine_segment.specs.declared.line.Piece.{Piece}
+use Rattle.curve_running.specs.affine_segment.specs.Reading.{read, nothing_at}
 use Rattle.min_plus.specs.Functions.{IsFinite, zero_q}
 use Rattle.min_plus.specs.Convolution.{IsDeconvolution}
-use Rattle.upp_curve.specs.declared.curve.Tail.TheVariants.{Infinite}
-use Rattle.upp_curve.specs.Curve.{SpecCurve, value_at}
-use Rattle.upp_curve.specs.Curves.{IsCurve}
-use Rattle.upp_curve.specs.Steady.{steady, rate, rise_over}
-use Rattle.upp_curve.specs.Unrolled.{unroll}
-use Rattle.upp_limits.specs.declared.op_kind.OpKind.TheVariants.{Deconvolve}
-use Rattle.curve_call.proofs.Existing.{sum_of}
-use Rattle.curve_call.specs.declared.frame.Frame.{Frame}
-use Rattle.curve_call.specs.Answers.{IsMadeBy}
-use Rattle.curve_call.specs.Frames.{IsFrame, sizes_at}
-use Rattle.curve_call.proofs.Limited.{deconvolve_least}
+use Rattle.curve_running.specs.upp_curve.specs.declared.curve.Tail.TheVariants.{Infinite}
+use Rattle.curve_running.specs.upp_curve.specs.Curve.{SpecCurve, value_at}
+use Rattle.curve_running.specs.upp_curve.specs.Curves.{IsCurve}
+use Rattle.curve_running.specs.upp_curve.specs.Steady.{steady, rate, rise_over}
+use Rattle.curve_running.specs.upp_curve.specs.Unrolled.{unroll}
+use Rattle.curve_running.specs.upp_limits.specs.declared.op_kind.OpKind.TheVariants.{Deconvolve}
+use Rattle.curve_running.specs.curve_call.proofs.Existing.{sum_of}
+use Rattle.curve_running.specs.curve_call.specs.declared.frame.Frame.{Frame}
+use Rattle.curve_running.specs.curve_call.specs.Answers.{IsMadeBy}
+use Rattle.curve_running.specs.curve_call.specs.Frames.{IsFrame, sizes_at}
+use Rattle.curve_running.specs.curve_call.proofs.Limited.{deconvolve_least}
 use Rattle.curve_existence.proofs.Infima.{front_of}
 use Rattle.curve_existence.proofs.Moves.{left_of}
-use Rattle.curve_pointwise.proofs.LatticeAnswers.{slower_or_not}
-use Rattle.curve_pointwise.proofs.Nowhere.{IsNowhere, made_curve, made_values}
+use Rattle.curve_running.specs.curve_pointwise.proofs.LatticeAnswers.{slower_or_not}
+use Rattle.curve_running.specs.curve_pointwise.proofs.Nowhere.{IsNowhere, made_curve, made_values}
 use Rattle.element_envelope.proofs.FoundEnvelopes.{convolution_from}
 use Rattle.curve_existence.specs.Answered.{HasAnswer}
 use Rattle.curve_existence.proofs.Answered.{at_least, ok_found}

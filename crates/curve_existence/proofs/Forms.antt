@@ -1,40 +1,40 @@
 -- The normal form of a curve in any form, and that it is a curve where the numbers of the given one have room.
 use Rattle.std.specs.Prelude.{◌≡◌, ℕ, ◌-◌, ◌<◌, ◌^◌, pos, List, [], ◌∷◌, ◌++◌, length, Option, None, Some}
 use Rattle.std.proofs.Common.{sym, ap, ◌∙◌, refl, subst, inl, inr, get_or}
-use Rattle.rational.specs.Rational.{ℚ, ◌+ℚ◌, ◌≤ℚ◌, int}
-use Rattle.rational.specs.Extended.{Ext}
-use Rattle.rational.proofs.Laws.{le_or_lt}
-use Rattle.affine_segment.specs.declared.line.Line.{Line}
-use Rattle.affine_segment.specs.declared.line.Piece.{Piece}
-use Rattle.affine_segment.specs.Pieces.{StartsAtZero}
-use Rattle.affine_segment.specs.Reading.{read}
-use Rattle.affine_segment.proofs.PieceOrder.{zero_some}
+use Rattle.min_plus.specs.rational.specs.Rational.{ℚ, ◌+ℚ◌, ◌≤ℚ◌, int}
+use Rattle.min_plus.specs.rational.specs.Extended.{Ext}
+use Rattle.min_plus.specs.rational.proofs.Laws.{le_or_lt}
+use Rattle.curve_running.specs.affine_segment.specs.declared.line.Line.{Line}
+use Rattle.curve_running.specs.affine_segment.specs.declared.line.Piece.{Piece}
+use Rattle.curve_running.specs.affine_segment.specs.Pieces.{StartsAtZero}
+use Rattle.curve_running.specs.affine_segment.specs.Reading.{read}
+use Rattle.curve_running.specs.affine_segment.proofs.PieceOrder.{zero_some}
 use Rattle.min_plus.specs.Functions.{zero_q}
-use Rattle.upp_curve.specs.declared.curve.Tail.{Tail}
-use Rattle.upp_curve.specs.declared.curve.Tail.TheVariants.{Periodic, Affine, Infinite}
-use Rattle.upp_curve.specs.Curve.{SpecCurve, repeated, value_at, HasSameValues}
-use Rattle.upp_curve.specs.Curves.{IsCurve}
-use Rattle.upp_curve.specs.Kinds.{flat}
-use Rattle.upp_curve.specs.Normal.{IsRaw, IsNormal, NoMerge, FitsPeriod}
-use Rattle.upp_curve.specs.Readable.{EachFits}
-use Rattle.upp_curve.specs.Unrolled.{upto}
-use Rattle.upp_curve.proofs.ByTail.{value_of}
-use Rattle.upp_curve.proofs.CurveShapes.{curve}
-use Rattle.upp_curve.proofs.OneForm.{affine, infinite}
-use Rattle.upp_curve.proofs.Repeats.{repeated_rule}
-use Rattle.upp_limits.specs.Limits.{own_end, own_sizes, own_gauge}
-use Rattle.upp_limits.specs.Sized.{grid_of}
-use Rattle.upp_limits.specs.declared.own_window.OwnNumbers.{OwnNumbers}
-use Rattle.upp_normal.specs.Normalising.{IsMerged, IsTwoPeriods, IsLine, IsFront, OnGridsUnlessLine, TailOnGrids, ended, first_start, past, second_copy}
-use Rattle.upp_normal.specs.Room.{Room, PiecesHaveRoom, TwoHaveRoom, TurnHasRoom, TailHasRoom}
-use Rattle.upp_normal.proofs.NormaliseCuts.{front_self, front_upto}
-use Rattle.upp_normal.proofs.NormaliseForm.{merged_cons, two_periods_of, grids_through, infinite_form, affine_form, ended_starts, ended_reads}
-use Rattle.upp_normal.proofs.NormaliseGrids.{merge_of}
-use Rattle.upp_normal.proofs.NormaliseOwn.{own_found}
-use Rattle.upp_normal.proofs.NormalisePeriods.{two_periods_are}
-use Rattle.upp_normal.proofs.NormaliseRank.{Last, last_is}
-use Rattle.upp_normal.proofs.NormaliseShape.{line_for_ever, line_before, turns_at, start_late}
-use Rattle.upp_normal.proofs.NormaliseWhole.{infinite_curve, affine_curve, pieces_readable, two_room, turn_room, merged_room, more_room, longer_room, both_room, ended_room}
+use Rattle.curve_running.specs.upp_curve.specs.declared.curve.Tail.{Tail}
+use Rattle.curve_running.specs.upp_curve.specs.declared.curve.Tail.TheVariants.{Periodic, Affine, Infinite}
+use Rattle.curve_running.specs.upp_curve.specs.Curve.{SpecCurve, repeated, value_at, HasSameValues}
+use Rattle.curve_running.specs.upp_curve.specs.Curves.{IsCurve}
+use Rattle.curve_running.specs.upp_curve.specs.Kinds.{flat}
+use Rattle.curve_running.specs.upp_curve.specs.Normal.{IsRaw, IsNormal, NoMerge, FitsPeriod}
+use Rattle.curve_running.specs.upp_curve.specs.Readable.{EachFits}
+use Rattle.curve_running.specs.upp_curve.specs.Unrolled.{upto}
+use Rattle.curve_running.specs.upp_curve.proofs.ByTail.{value_of}
+use Rattle.curve_running.specs.upp_curve.proofs.CurveShapes.{curve}
+use Rattle.curve_running.specs.upp_curve.proofs.OneForm.{affine, infinite}
+use Rattle.curve_running.specs.upp_curve.proofs.Repeats.{repeated_rule}
+use Rattle.curve_running.specs.upp_limits.specs.Limits.{own_end, own_sizes, own_gauge}
+use Rattle.curve_running.specs.upp_limits.specs.Sized.{grid_of}
+use Rattle.curve_running.specs.upp_limits.specs.declared.own_window.OwnNumbers.{OwnNumbers}
+use Rattle.curve_running.specs.upp_normal.specs.Normalising.{IsMerged, IsTwoPeriods, IsLine, IsFront, OnGridsUnlessLine, TailOnGrids, ended, first_start, past, second_copy}
+use Rattle.curve_running.specs.upp_normal.specs.Room.{Room, PiecesHaveRoom, TwoHaveRoom, TurnHasRoom, TailHasRoom}
+use Rattle.curve_running.specs.upp_normal.proofs.NormaliseCuts.{front_self, front_upto}
+use Rattle.curve_running.specs.upp_normal.proofs.NormaliseForm.{merged_cons, two_periods_of, grids_through, infinite_form, affine_form, ended_starts, ended_reads}
+use Rattle.curve_running.specs.upp_normal.proofs.NormaliseGrids.{merge_of}
+use Rattle.curve_running.specs.upp_normal.proofs.NormaliseOwn.{own_found}
+use Rattle.curve_running.specs.upp_normal.proofs.NormalisePeriods.{two_periods_are}
+use Rattle.curve_running.specs.upp_normal.proofs.NormaliseRank.{Last, last_is}
+use Rattle.curve_running.specs.upp_normal.proofs.NormaliseShape.{line_for_ever, line_before, turns_at, start_late}
+use Rattle.curve_running.specs.upp_normal.proofs.NormaliseWhole.{infinite_curve, affine_curve, pieces_readable, two_room, turn_room, merged_room, more_room, longer_room, both_room, ended_room}
 use Rattle.curve_existence.proofs.Periods.{HasForm, turning_grids, turning_form}
 
 -- ---- the form of another function with the same values, and of other numbers

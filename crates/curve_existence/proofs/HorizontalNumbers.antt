@@ -2,19 +2,19 @@
 use Rattle.std.specs.Prelude.{◌≡◌, ◌≢◌, ℕ, zero, suc, ◌+◌, ◌<◌, ◌≤◌, ◌^◌, ◌⊎◌, pos}
 use Rattle.std.proofs.Common.{arith, sym, subst, inl, inr}
 use Rattle.std.proofs.lemmas.Bool.{cases_lt}
-use Rattle.rational.specs.Rational.{int}
-use Rattle.rational.specs.Extended.{Ext, ◌≤ₑ◌}
-use Rattle.rational.specs.declared.Extended.TheVariants.{Fin}
-use Rattle.rational.proofs.ExtendedOrder.{le_or_lt_ext, lt_le_ext, lt_ext_irrefl}
-use Rattle.upp_curve.specs.Curve.{SpecCurve, value_at}
-use Rattle.upp_curve.specs.Curves.{IsCurve}
-use Rattle.upp_curve.specs.Steady.{steady, rate}
-use Rattle.upp_limits.specs.declared.op_kind.OpKind.TheVariants.{Horizontal}
-use Rattle.upp_limits.specs.Gauges.{gauge_at}
-use Rattle.upp_limits.specs.Periods.{common_period, periods_after}
-use Rattle.upp_limits.specs.Windows.{IsConstantFrom, IsLeast, Meets, Reaches}
-use Rattle.curve_call.proofs.TailMoves.{rates_compared, not_same}
-use Rattle.curve_pointwise.proofs.LatticeAnswers.{slower_or_not}
+use Rattle.min_plus.specs.rational.specs.Rational.{int}
+use Rattle.min_plus.specs.rational.specs.Extended.{Ext, ◌≤ₑ◌}
+use Rattle.min_plus.specs.rational.specs.declared.Extended.TheVariants.{Fin}
+use Rattle.min_plus.specs.rational.proofs.ExtendedOrder.{le_or_lt_ext, lt_le_ext, lt_ext_irrefl}
+use Rattle.curve_running.specs.upp_curve.specs.Curve.{SpecCurve, value_at}
+use Rattle.curve_running.specs.upp_curve.specs.Curves.{IsCurve}
+use Rattle.curve_running.specs.upp_curve.specs.Steady.{steady, rate}
+use Rattle.curve_running.specs.upp_limits.specs.declared.op_kind.OpKind.TheVariants.{Horizontal}
+use Rattle.curve_running.specs.upp_limits.specs.Gauges.{gauge_at}
+use Rattle.curve_running.specs.upp_limits.specs.Periods.{common_period, periods_after}
+use Rattle.curve_running.specs.upp_limits.specs.Windows.{IsConstantFrom, IsLeast, Meets, Reaches}
+use Rattle.curve_running.specs.curve_call.proofs.TailMoves.{rates_compared, not_same}
+use Rattle.curve_running.specs.curve_pointwise.proofs.LatticeAnswers.{slower_or_not}
 use Rattle.curve_deviation.specs.Stages.{AreFinite, IsPast, IsFirst, settled}
 use Rattle.curve_deviation.proofs.PeriodsFound.{level_constant, constant_level}
 use Rattle.curve_deviation.proofs.WindowTimes.{few_within}

@@ -2,40 +2,40 @@
 use Rattle.std.specs.Prelude.{◌≡◌, ◌⊎◌, ℕ, ◌<◌, ◌^◌, pos, List, Some, None}
 use Rattle.std.proofs.Common.{refl, inl, inr}
 use Rattle.std.proofs.lemmas.Bool.{cases_lt}
-use Rattle.rational.specs.Rational.{ℚ, ◌-ℚ◌, ◌≤ℚ◌, int}
-use Rattle.rational.specs.Extended.{◌<ₑ◌}
-use Rattle.affine_segment.specs.declared.line.Piece.{Piece}
-use Rattle.upp_curve.specs.Curve.{SpecCurve, value_at}
-use Rattle.upp_curve.specs.Curves.{IsCurve}
-use Rattle.upp_curve.specs.Steady.{rate, rise_over}
-use Rattle.upp_curve.specs.Unrolled.{unroll}
-use Rattle.upp_limits.specs.declared.op_kind.OpKind.TheVariants.{Min, Max, PosDiff}
-use Rattle.upp_limits.specs.declared.op_kind.OpFault.TheVariants.{TooWide}
-use Rattle.upp_limits.specs.Gauges.{gauge_at}
-use Rattle.upp_limits.specs.Periods.{both_steady, common_period}
-use Rattle.upp_limits.specs.Windows.{window_at, IsLeast}
+use Rattle.min_plus.specs.rational.specs.Rational.{ℚ, ◌-ℚ◌, ◌≤ℚ◌, int}
+use Rattle.min_plus.specs.rational.specs.Extended.{◌<ₑ◌}
+use Rattle.curve_running.specs.affine_segment.specs.declared.line.Piece.{Piece}
+use Rattle.curve_running.specs.upp_curve.specs.Curve.{SpecCurve, value_at}
+use Rattle.curve_running.specs.upp_curve.specs.Curves.{IsCurve}
+use Rattle.curve_running.specs.upp_curve.specs.Steady.{rate, rise_over}
+use Rattle.curve_running.specs.upp_curve.specs.Unrolled.{unroll}
+use Rattle.curve_running.specs.upp_limits.specs.declared.op_kind.OpKind.TheVariants.{Min, Max, PosDiff}
+use Rattle.curve_running.specs.upp_limits.specs.declared.op_kind.OpFault.TheVariants.{TooWide}
+use Rattle.curve_running.specs.upp_limits.specs.Gauges.{gauge_at}
+use Rattle.curve_running.specs.upp_limits.specs.Periods.{both_steady, common_period}
+use Rattle.curve_running.specs.upp_limits.specs.Windows.{window_at, IsLeast}
 use Rattle.min_plus.specs.Functions.{IsFinite}
-use Rattle.curve_call.specs.Operands.{HaveSizes, IsMadeOf}
-use Rattle.curve_call.specs.Existing.{HaveWindows}
-use Rattle.curve_call.proofs.Existing.{made_windows}
-use Rattle.curve_call.specs.declared.frame.Frame.{Frame}
-use Rattle.curve_call.specs.declared.windows.CallWindow.{CallWindow}
-use Rattle.curve_call.specs.Answers.{IsMadeBy}
-use Rattle.curve_call.specs.CallWindows.{SecondIsCurve, start_of, period_in}
-use Rattle.curve_call.specs.FirstWindows.{IsFirstWindow}
-use Rattle.curve_call.specs.Frames.{IsFrame}
-use Rattle.curve_call.proofs.EitherOrder.{IsEnough}
+use Rattle.curve_running.specs.curve_call.specs.Operands.{HaveSizes, IsMadeOf}
+use Rattle.curve_running.specs.curve_call.specs.Existing.{HaveWindows}
+use Rattle.curve_running.specs.curve_call.proofs.Existing.{made_windows}
+use Rattle.curve_running.specs.curve_call.specs.declared.frame.Frame.{Frame}
+use Rattle.curve_running.specs.curve_call.specs.declared.windows.CallWindow.{CallWindow}
+use Rattle.curve_running.specs.curve_call.specs.Answers.{IsMadeBy}
+use Rattle.curve_running.specs.curve_call.specs.CallWindows.{SecondIsCurve, start_of, period_in}
+use Rattle.curve_running.specs.curve_call.specs.FirstWindows.{IsFirstWindow}
+use Rattle.curve_running.specs.curve_call.specs.Frames.{IsFrame}
+use Rattle.curve_running.specs.curve_call.proofs.EitherOrder.{IsEnough}
 use Rattle.curve_existence.specs.Answered.{HasAnswer}
 use Rattle.curve_existence.proofs.Answered.{at_least, too_wide}
 use Rattle.curve_existence.proofs.Windows.{answer_curve}
 use Rattle.curve_existence.proofs.Least.{IsFound, least_of}
-use Rattle.curve_pointwise.specs.declared.lattice.Lattice.{Lattice}
-use Rattle.curve_pointwise.specs.declared.lattice.Lattice.TheVariants.{Lower, Upper, Excess}
-use Rattle.curve_pointwise.specs.Lattice.{kind_of, made_of, rises_of, FiniteFor, RisesBy, IsTailRise}
-use Rattle.curve_pointwise.specs.LatticeCall.{IsLatticeFrame}
-use Rattle.curve_pointwise.proofs.LatticeAnswers.{slower_or_not, lattice_answer, lattice_values}
-use Rattle.curve_pointwise.proofs.LatticeCalls.{operands, first_compared}
-use Rattle.curve_pointwise.proofs.LatticeLimits.{looks, wide_first, none_wide, some_least, lattice_frame}
+use Rattle.curve_running.specs.curve_pointwise.specs.declared.lattice.Lattice.{Lattice}
+use Rattle.curve_running.specs.curve_pointwise.specs.declared.lattice.Lattice.TheVariants.{Lower, Upper, Excess}
+use Rattle.curve_running.specs.curve_pointwise.specs.Lattice.{kind_of, made_of, rises_of, FiniteFor, RisesBy, IsTailRise}
+use Rattle.curve_running.specs.curve_pointwise.specs.LatticeCall.{IsLatticeFrame}
+use Rattle.curve_running.specs.curve_pointwise.proofs.LatticeAnswers.{slower_or_not, lattice_answer, lattice_values}
+use Rattle.curve_running.specs.curve_pointwise.proofs.LatticeCalls.{operands, first_compared}
+use Rattle.curve_running.specs.curve_pointwise.proofs.LatticeLimits.{looks, wide_first, none_wide, some_least, lattice_frame}
 
 -- ---- within both limits
 rises_by : (P : Type 0) (a b : ℚ) → P ⊎ ¬ P → (rise : ℚ) × RisesBy P a b rise

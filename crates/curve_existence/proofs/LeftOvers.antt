@@ -2,36 +2,36 @@
 use Rattle.std.specs.Prelude.{ℕ, ◌<◌, ◌^◌, List, [], ◌∷◌, ◌++◌, Some, Ok}
 use Rattle.std.proofs.Common.{refl, inl, inr}
 use Rattle.std.proofs.lemmas.Bool.{cases_lt}
-use Rattle.rational.specs.Rational.{ℚ, ◌+ℚ◌, ◌-ℚ◌}
-use Rattle.rational.specs.MinMax.{min_q}
-use Rattle.rational.specs.Extended.{Ext}
-use Rattle.rational.specs.declared.Extended.TheVariants.{Fin, Inf}
-use Rattle.affine_segment.specs.declared.line.Piece.{Piece}
-use Rattle.affine_segment.specs.Reading.{read}
-use Rattle.affine_segment.specs.Values.{line_value}
+use Rattle.min_plus.specs.rational.specs.Rational.{ℚ, ◌+ℚ◌, ◌-ℚ◌}
+use Rattle.min_plus.specs.rational.specs.MinMax.{min_q}
+use Rattle.min_plus.specs.rational.specs.Extended.{Ext}
+use Rattle.min_plus.specs.rational.specs.declared.Extended.TheVariants.{Fin, Inf}
+use Rattle.curve_running.specs.affine_segment.specs.declared.line.Piece.{Piece}
+use Rattle.curve_running.specs.affine_segment.specs.Reading.{read}
+use Rattle.curve_running.specs.affine_segment.specs.Values.{line_value}
 use Rattle.min_plus.specs.Deviations.{IsHorizontalDeviation}
 use Rattle.min_plus.specs.Functions.{zero_q, IsFinite, IsRising, IsNonnegative}
-use Rattle.upp_curve.specs.declared.curve.Tail.TheVariants.{Affine}
-use Rattle.upp_curve.specs.Curve.{SpecCurve, value_at}
-use Rattle.upp_curve.specs.Curves.{IsCurve}
-use Rattle.upp_curve.specs.Steady.{last_line, rise_over}
-use Rattle.upp_curve.specs.Unrolled.{unroll}
-use Rattle.upp_curve.proofs.Finite.{level_of}
-use Rattle.upp_curve.proofs.ReadableKinds.{zero_small}
-use Rattle.upp_limits.specs.declared.op_kind.OpFault.TheVariants.{TooWide}
-use Rattle.upp_limits.specs.declared.op_kind.OpKind.TheVariants.{FifoLeft}
-use Rattle.upp_limits.specs.Gauges.{gauge_at}
-use Rattle.upp_limits.specs.Limits.{Sizes}
-use Rattle.upp_limits.specs.Periods.{common_period, moved_steady}
-use Rattle.upp_limits.specs.Windows.{window_at, IsLeast, Meets}
-use Rattle.curve_call.specs.declared.frame.Frame.{Frame}
-use Rattle.curve_call.specs.declared.windows.CallWindow.{CallWindow}
-use Rattle.curve_call.specs.Answers.{IsMadeBy}
-use Rattle.curve_call.specs.FirstWindows.{IsFirstWindow}
-use Rattle.curve_call.specs.Frames.{IsFrame}
-use Rattle.curve_call.proofs.Limited.{fifo_left_least}
-use Rattle.curve_call.specs.Pointwise.{mapped}
-use Rattle.curve_call.proofs.Existing.{overlay_of}
+use Rattle.curve_running.specs.upp_curve.specs.declared.curve.Tail.TheVariants.{Affine}
+use Rattle.curve_running.specs.upp_curve.specs.Curve.{SpecCurve, value_at}
+use Rattle.curve_running.specs.upp_curve.specs.Curves.{IsCurve}
+use Rattle.curve_running.specs.upp_curve.specs.Steady.{last_line, rise_over}
+use Rattle.curve_running.specs.upp_curve.specs.Unrolled.{unroll}
+use Rattle.curve_running.specs.upp_curve.proofs.Finite.{level_of}
+use Rattle.curve_running.specs.upp_curve.proofs.ReadableKinds.{zero_small}
+use Rattle.curve_running.specs.upp_limits.specs.declared.op_kind.OpFault.TheVariants.{TooWide}
+use Rattle.curve_running.specs.upp_limits.specs.declared.op_kind.OpKind.TheVariants.{FifoLeft}
+use Rattle.curve_running.specs.upp_limits.specs.Gauges.{gauge_at}
+use Rattle.curve_running.specs.upp_limits.specs.Limits.{Sizes}
+use Rattle.curve_running.specs.upp_limits.specs.Periods.{common_period, moved_steady}
+use Rattle.curve_running.specs.upp_limits.specs.Windows.{window_at, IsLeast, Meets}
+use Rattle.curve_running.specs.curve_call.specs.declared.frame.Frame.{Frame}
+use Rattle.curve_running.specs.curve_call.specs.declared.windows.CallWindow.{CallWindow}
+use Rattle.curve_running.specs.curve_call.specs.Answers.{IsMadeBy}
+use Rattle.curve_running.specs.curve_call.specs.FirstWindows.{IsFirstWindow}
+use Rattle.curve_running.specs.curve_call.specs.Frames.{IsFrame}
+use Rattle.curve_running.specs.curve_call.proofs.Limited.{fifo_left_least}
+use Rattle.curve_running.specs.curve_call.specs.Pointwise.{mapped}
+use Rattle.curve_running.specs.curve_call.proofs.Existing.{overlay_of}
 use Rattle.curve_existence.specs.Answered.{HasAnswer}
 use Rattle.curve_existence.proofs.Answered.{at_least, too_wide, ok_found}
 use Rattle.curve_existence.proofs.Windows.{answer_curve}

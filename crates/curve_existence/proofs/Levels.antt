@@ -2,29 +2,29 @@
 use Rattle.std.specs.Prelude.{ℕ, ◌<◌, ◌^◌, Some, None}
 use Rattle.std.proofs.Common.{refl, inl, inr}
 use Rattle.std.proofs.lemmas.Bool.{cases_lt}
-use Rattle.rational.specs.Rational.{ℚ}
-use Rattle.upp_curve.specs.Curve.{SpecCurve, value_at}
-use Rattle.upp_curve.specs.Curves.{IsCurve}
-use Rattle.upp_curve.specs.Steady.{steady}
-use Rattle.upp_limits.specs.declared.op_kind.OpKind.TheVariants.{PosMinus}
-use Rattle.upp_limits.specs.declared.op_kind.OpFault.TheVariants.{TooWide}
-use Rattle.upp_limits.specs.Gauges.{gauge_at}
-use Rattle.upp_limits.specs.Periods.{own_period}
-use Rattle.upp_limits.specs.Windows.{window_at, IsLeast}
+use Rattle.min_plus.specs.rational.specs.Rational.{ℚ}
+use Rattle.curve_running.specs.upp_curve.specs.Curve.{SpecCurve, value_at}
+use Rattle.curve_running.specs.upp_curve.specs.Curves.{IsCurve}
+use Rattle.curve_running.specs.upp_curve.specs.Steady.{steady}
+use Rattle.curve_running.specs.upp_limits.specs.declared.op_kind.OpKind.TheVariants.{PosMinus}
+use Rattle.curve_running.specs.upp_limits.specs.declared.op_kind.OpFault.TheVariants.{TooWide}
+use Rattle.curve_running.specs.upp_limits.specs.Gauges.{gauge_at}
+use Rattle.curve_running.specs.upp_limits.specs.Periods.{own_period}
+use Rattle.curve_running.specs.upp_limits.specs.Windows.{window_at, IsLeast}
 use Rattle.min_plus.specs.Functions.{IsFinite}
-use Rattle.curve_call.specs.declared.frame.Frame.{Frame}
-use Rattle.curve_call.specs.declared.windows.CallWindow.{CallWindow}
-use Rattle.curve_call.specs.Answers.{IsMadeBy}
-use Rattle.curve_call.specs.FirstWindows.{IsFirstWindow}
-use Rattle.curve_call.specs.Frames.{IsFrame}
-use Rattle.curve_call.specs.Levels.{level_curve}
-use Rattle.curve_call.proofs.EitherOrder.{IsEnough}
+use Rattle.curve_running.specs.curve_call.specs.declared.frame.Frame.{Frame}
+use Rattle.curve_running.specs.curve_call.specs.declared.windows.CallWindow.{CallWindow}
+use Rattle.curve_running.specs.curve_call.specs.Answers.{IsMadeBy}
+use Rattle.curve_running.specs.curve_call.specs.FirstWindows.{IsFirstWindow}
+use Rattle.curve_running.specs.curve_call.specs.Frames.{IsFrame}
+use Rattle.curve_running.specs.curve_call.specs.Levels.{level_curve}
+use Rattle.curve_running.specs.curve_call.proofs.EitherOrder.{IsEnough}
 use Rattle.curve_existence.specs.Answered.{HasAnswer}
 use Rattle.curve_existence.proofs.Answered.{at_least, too_wide}
 use Rattle.curve_existence.proofs.Least.{IsFound, least_of}
-use Rattle.curve_pointwise.specs.declared.lattice.Lattice.TheVariants.{Excess}
+use Rattle.curve_running.specs.curve_pointwise.specs.declared.lattice.Lattice.TheVariants.{Excess}
 use Rattle.curve_existence.proofs.Lattices.{lattice_curve}
-use Rattle.curve_pointwise.proofs.LatticeLevels.{minus_compared, minus_wide, minus_none, minus_least, minus_frame, minus_values}
+use Rattle.curve_running.specs.curve_pointwise.proofs.LatticeLevels.{minus_compared, minus_wide, minus_none, minus_least, minus_frame, minus_values}
 
 first_window : ℚ → SpecCurve → CallWindow
 first_window l f = record { start = steady f; period = own_period f; end = window_at (PosMinus l) f f 0 0 }

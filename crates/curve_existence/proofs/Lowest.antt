@@ -1,15 +1,15 @@
 -- The least rank of a periodic curve, one piece at a time.
 use Rattle.std.specs.Prelude.{◌≡◌, ℕ, zero, suc, ◌-◌, List, length}
 use Rattle.std.proofs.Common.{arith, refl, subst, inl, inr, get_or}
-use Rattle.rational.specs.Rational.{ℚ, ◌+ℚ◌}
-use Rattle.rational.specs.Extended.{Ext}
-use Rattle.affine_segment.specs.declared.line.Piece.{Piece}
-use Rattle.affine_segment.specs.Reading.{read}
-use Rattle.upp_curve.specs.Curve.{repeated}
-use Rattle.upp_curve.specs.Kinds.{flat}
-use Rattle.upp_curve.specs.Unrolled.{upto}
-use Rattle.upp_normal.specs.Normalising.{IsCycle, IsLowest, cut_last}
-use Rattle.upp_normal.proofs.NormaliseRank.{LowersOn, lowers_begins, lowers_more, lowers_to_zero, lowers_no_more, lowest_is}
+use Rattle.min_plus.specs.rational.specs.Rational.{ℚ, ◌+ℚ◌}
+use Rattle.min_plus.specs.rational.specs.Extended.{Ext}
+use Rattle.curve_running.specs.affine_segment.specs.declared.line.Piece.{Piece}
+use Rattle.curve_running.specs.affine_segment.specs.Reading.{read}
+use Rattle.curve_running.specs.upp_curve.specs.Curve.{repeated}
+use Rattle.curve_running.specs.upp_curve.specs.Kinds.{flat}
+use Rattle.curve_running.specs.upp_curve.specs.Unrolled.{upto}
+use Rattle.curve_running.specs.upp_normal.specs.Normalising.{IsCycle, IsLowest, cut_last}
+use Rattle.curve_running.specs.upp_normal.proofs.NormaliseRank.{LowersOn, lowers_begins, lowers_more, lowers_to_zero, lowers_no_more, lowest_is}
 use Rattle.min_plus.specs.Functions.{zero_q}
 use Rattle.curve_existence.proofs.Deciding.{repeats_or}
 

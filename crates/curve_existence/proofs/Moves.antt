@@ -1,31 +1,31 @@
 -- A multiple and a shift have answers.
 use Rattle.std.specs.Prelude.{List, [], ◌∷◌, map, Ok}
 use Rattle.std.proofs.Common.{refl, ap}
-use Rattle.rational.specs.Rational.{ℚ, ◌-ℚ◌, ◌≤ℚ◌}
-use Rattle.rational.specs.Extended.{Ext}
-use Rattle.rational.specs.declared.Extended.TheVariants.{Fin, Inf}
-use Rattle.affine_segment.specs.declared.line.Piece.{Piece}
+use Rattle.min_plus.specs.rational.specs.Rational.{ℚ, ◌-ℚ◌, ◌≤ℚ◌}
+use Rattle.min_plus.specs.rational.specs.Extended.{Ext}
+use Rattle.min_plus.specs.rational.specs.declared.Extended.TheVariants.{Fin, Inf}
+use Rattle.curve_running.specs.affine_segment.specs.declared.line.Piece.{Piece}
 use Rattle.min_plus.specs.Functions.{zero_q}
-use Rattle.upp_curve.specs.declared.curve.Tail.TheVariants.{Infinite}
-use Rattle.upp_curve.specs.Curve.{SpecCurve}
-use Rattle.upp_curve.specs.Curves.{IsCurve}
-use Rattle.upp_curve.specs.Steady.{rise_over}
-use Rattle.upp_curve.specs.Unrolled.{unroll}
-use Rattle.upp_limits.specs.declared.op_kind.OpKind.TheVariants.{Scale, Shift}
-use Rattle.upp_limits.specs.Gauges.{scaled_piece, scaled_tail}
-use Rattle.curve_call.specs.declared.frame.Frame.{Frame}
-use Rattle.curve_call.specs.Answers.{IsMadeBy}
-use Rattle.curve_call.specs.Frames.{IsFrame, sizes_at}
-use Rattle.curve_call.proofs.Limited.{scale_least, shift_least}
+use Rattle.curve_running.specs.upp_curve.specs.declared.curve.Tail.TheVariants.{Infinite}
+use Rattle.curve_running.specs.upp_curve.specs.Curve.{SpecCurve}
+use Rattle.curve_running.specs.upp_curve.specs.Curves.{IsCurve}
+use Rattle.curve_running.specs.upp_curve.specs.Steady.{rise_over}
+use Rattle.curve_running.specs.upp_curve.specs.Unrolled.{unroll}
+use Rattle.curve_running.specs.upp_limits.specs.declared.op_kind.OpKind.TheVariants.{Scale, Shift}
+use Rattle.curve_running.specs.upp_limits.specs.Gauges.{scaled_piece, scaled_tail}
+use Rattle.curve_running.specs.curve_call.specs.declared.frame.Frame.{Frame}
+use Rattle.curve_running.specs.curve_call.specs.Answers.{IsMadeBy}
+use Rattle.curve_running.specs.curve_call.specs.Frames.{IsFrame, sizes_at}
+use Rattle.curve_running.specs.curve_call.proofs.Limited.{scale_least, shift_least}
 use Rattle.curve_existence.proofs.Forms.{curve_with_room}
 use Rattle.curve_existence.specs.Answered.{HasAnswer}
 use Rattle.curve_existence.proofs.Answered.{at_least, ok_found}
 use Rattle.curve_existence.proofs.Windows.{answer_curve}
-use Rattle.curve_pointwise.specs.Shifting.{moved_left, IsAhead}
-use Rattle.affine_segment.specs.Reading.{nothing_at}
-use Rattle.curve_pointwise.proofs.Nowhere.{IsNowhere, made_curve, made_values as nowhere_values}
-use Rattle.curve_pointwise.proofs.ScaleCall.{IsMade, scale_call, made_raw, made_found, made_values}
-use Rattle.curve_pointwise.proofs.ShiftCall.{shift_call, window_pieces, shift_answer, shift_values}
+use Rattle.curve_running.specs.curve_pointwise.specs.Shifting.{moved_left, IsAhead}
+use Rattle.curve_running.specs.affine_segment.specs.Reading.{nothing_at}
+use Rattle.curve_running.specs.curve_pointwise.proofs.Nowhere.{IsNowhere, made_curve, made_values as nowhere_values}
+use Rattle.curve_running.specs.curve_pointwise.proofs.ScaleCall.{IsMade, scale_call, made_raw, made_found, made_values}
+use Rattle.curve_running.specs.curve_pointwise.proofs.ShiftCall.{shift_call, window_pieces, shift_answer, shift_values}
 
 -- ---- multiples
 scale_made : (q : ℚ) (f : SpecCurve) (r : Frame) → IsFrame (Scale q) f f 0 0 r → (h : SpecCurve) × IsMadeBy (Scale q) f f h

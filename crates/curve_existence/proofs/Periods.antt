@@ -1,31 +1,31 @@
 -- The normal form of a curve whose period begins and ends at a break; it is readable where the curve's numbers have room.
 use Rattle.std.specs.Prelude.{◌≡◌, ℕ, ◌≤◌, pos, List, length, Option}
 use Rattle.std.proofs.Common.{arith, sym, ap, ◌∙◌, refl, subst}
-use Rattle.rational.specs.Rational.{ℚ, ◌+ℚ◌, ◌≤ℚ◌, ◌<ℚ◌, int}
-use Rattle.rational.specs.Grid.{Whole}
-use Rattle.rational.specs.Extended.{Ext, ◌+ₑ◌}
-use Rattle.rational.specs.declared.Extended.TheVariants.{Fin}
-use Rattle.rational.proofs.Laws.{le_of_lt, le_trans}
-use Rattle.rational.proofs.Linear.{with4}
-use Rattle.affine_segment.specs.declared.line.Line.{Line}
-use Rattle.affine_segment.specs.declared.line.Piece.{Piece}
-use Rattle.affine_segment.specs.Reading.{read}
-use Rattle.affine_segment.specs.Values.{line_value}
-use Rattle.affine_segment.proofs.PieceOrder.{each_map}
-use Rattle.upp_curve.specs.Curve.{SpecCurve, value_at}
-use Rattle.upp_curve.specs.Steady.{Repeats}
-use Rattle.upp_curve.specs.Readable.{IsReadable}
-use Rattle.upp_curve.specs.Unrolled.{upto}
-use Rattle.upp_curve.proofs.Normal.{transfer, periodic}
-use Rattle.upp_curve.proofs.Repeats.{repeated_rule}
-use Rattle.upp_curve.proofs.Rules.{rule_extends}
-use Rattle.upp_normal.specs.Normalising.{Turned, IsFormOf, IsOneLine, OnGrids, OnGridsUnlessLine}
-use Rattle.upp_normal.specs.Room.{Room, many, PieceHasRoom, CycleHasRoom}
-use Rattle.upp_normal.proofs.NormaliseCuts.{each_front}
-use Rattle.upp_normal.proofs.NormaliseDivided.{cut_of, period_is, not_one_line}
-use Rattle.upp_normal.proofs.NormaliseLeast.{share_some}
-use Rattle.upp_normal.proofs.NormalisePeriods.{repeats_after}
-use Rattle.upp_normal.proofs.NormaliseRoomy.{period_readable, share_within, share_less}
+use Rattle.min_plus.specs.rational.specs.Rational.{ℚ, ◌+ℚ◌, ◌≤ℚ◌, ◌<ℚ◌, int}
+use Rattle.min_plus.specs.rational.specs.Grid.{Whole}
+use Rattle.min_plus.specs.rational.specs.Extended.{Ext, ◌+ₑ◌}
+use Rattle.min_plus.specs.rational.specs.declared.Extended.TheVariants.{Fin}
+use Rattle.min_plus.specs.rational.proofs.Laws.{le_of_lt, le_trans}
+use Rattle.min_plus.specs.rational.proofs.Linear.{with4}
+use Rattle.curve_running.specs.affine_segment.specs.declared.line.Line.{Line}
+use Rattle.curve_running.specs.affine_segment.specs.declared.line.Piece.{Piece}
+use Rattle.curve_running.specs.affine_segment.specs.Reading.{read}
+use Rattle.curve_running.specs.affine_segment.specs.Values.{line_value}
+use Rattle.curve_running.specs.affine_segment.proofs.PieceOrder.{each_map}
+use Rattle.curve_running.specs.upp_curve.specs.Curve.{SpecCurve, value_at}
+use Rattle.curve_running.specs.upp_curve.specs.Steady.{Repeats}
+use Rattle.curve_running.specs.upp_curve.specs.Readable.{IsReadable}
+use Rattle.curve_running.specs.upp_curve.specs.Unrolled.{upto}
+use Rattle.curve_running.specs.upp_curve.proofs.Normal.{transfer, periodic}
+use Rattle.curve_running.specs.upp_curve.proofs.Repeats.{repeated_rule}
+use Rattle.curve_running.specs.upp_curve.proofs.Rules.{rule_extends}
+use Rattle.curve_running.specs.upp_normal.specs.Normalising.{Turned, IsFormOf, IsOneLine, OnGrids, OnGridsUnlessLine}
+use Rattle.curve_running.specs.upp_normal.specs.Room.{Room, many, PieceHasRoom, CycleHasRoom}
+use Rattle.curve_running.specs.upp_normal.proofs.NormaliseCuts.{each_front}
+use Rattle.curve_running.specs.upp_normal.proofs.NormaliseDivided.{cut_of, period_is, not_one_line}
+use Rattle.curve_running.specs.upp_normal.proofs.NormaliseLeast.{share_some}
+use Rattle.curve_running.specs.upp_normal.proofs.NormalisePeriods.{repeats_after}
+use Rattle.curve_running.specs.upp_normal.proofs.NormaliseRoomy.{period_readable, share_within, share_less}
 use Rattle.curve_existence.proofs.Shortest.{share, values, Shortest, shortest_of, part_repeats}
 use Rattle.curve_existence.proofs.Lowest.{Lowest, lowest_of}
 

@@ -3,22 +3,22 @@ use Rattle.std.specs.Prelude.{◌≡◌, ℕ, zero, suc, ◌+◌, ◌-◌, ◌<�
 use Rattle.std.proofs.Common.{arith, sym, refl, subst, inl, inr, ◌∙◌}
 use Rattle.std.proofs.lemmas.Bool.{cases_lt}
 use Rattle.std.proofs.lemmas.Option.{slice_get_cases}
-use Rattle.rational.specs.Rational.{ℚ, ◌-ℚ◌, ◌/ℚ◌, ◌≤ℚ◌, ◌<ℚ◌, int}
-use Rattle.rational.specs.MinMax.{max_q, min_q}
-use Rattle.rational.specs.Extended.{◌≤ₑ◌}
-use Rattle.rational.specs.declared.Extended.TheVariants.{Fin}
-use Rattle.rational.specs.Gauge.{size_up}
-use Rattle.rational.proofs.Laws.{le_or_lt, lt_irrefl}
-use Rattle.affine_segment.specs.declared.line.Line.{Line}
-use Rattle.affine_segment.specs.declared.line.Piece.{Piece}
-use Rattle.affine_segment.specs.Reading.{read}
-use Rattle.affine_segment.specs.Values.{line_at}
-use Rattle.affine_segment.proofs.LineValues.{level_value}
-use Rattle.affine_segment.proofs.Meeting.{lines_meet}
-use Rattle.affine_segment.proofs.PieceOrder.{zero_some}
+use Rattle.min_plus.specs.rational.specs.Rational.{ℚ, ◌-ℚ◌, ◌/ℚ◌, ◌≤ℚ◌, ◌<ℚ◌, int}
+use Rattle.min_plus.specs.rational.specs.MinMax.{max_q, min_q}
+use Rattle.min_plus.specs.rational.specs.Extended.{◌≤ₑ◌}
+use Rattle.min_plus.specs.rational.specs.declared.Extended.TheVariants.{Fin}
+use Rattle.min_plus.specs.rational.specs.Gauge.{size_up}
+use Rattle.min_plus.specs.rational.proofs.Laws.{le_or_lt, lt_irrefl}
+use Rattle.curve_running.specs.affine_segment.specs.declared.line.Line.{Line}
+use Rattle.curve_running.specs.affine_segment.specs.declared.line.Piece.{Piece}
+use Rattle.curve_running.specs.affine_segment.specs.Reading.{read}
+use Rattle.curve_running.specs.affine_segment.specs.Values.{line_at}
+use Rattle.curve_running.specs.affine_segment.proofs.LineValues.{level_value}
+use Rattle.curve_running.specs.affine_segment.proofs.Meeting.{lines_meet}
+use Rattle.curve_running.specs.affine_segment.proofs.PieceOrder.{zero_some}
 use Rattle.min_plus.specs.Functions.{zero_q}
-use Rattle.upp_curve.specs.Shapes.{IsLine}
-use Rattle.upp_curve.proofs.Finite.{level_of}
+use Rattle.curve_running.specs.upp_curve.specs.Shapes.{IsLine}
+use Rattle.curve_running.specs.upp_curve.proofs.Finite.{level_of}
 use Rattle.curve_running.specs.declared.bend.Bend.{Bend}
 use Rattle.curve_running.specs.declared.stretch.Stretch.{Stretch}
 use Rattle.curve_running.specs.Bends.{bent}

@@ -4,20 +4,20 @@ use Rattle.std.proofs.Common.{arith, sym, ap, refl, subst, inl, inr, take}
 use Rattle.std.proofs.lemmas.Bool.{cases_lt}
 use Prim.Native.Nat.{◌∣◌}
 use native.Mathlib.Nat.{mul-div_cancel', le_of_dvd, dvd_of_mod-eq-zero, mod-eq-zero_of_dvd, mul-le-mul_left}
-use Rattle.rational.specs.Rational.{ℚ, ◌/ℚ◌, int}
-use Rattle.rational.specs.Extended.{Ext}
-use Rattle.rational.proofs.Laws.{le_of_lt}
-use Rattle.affine_segment.specs.declared.line.Piece.{Piece}
-use Rattle.affine_segment.specs.Reading.{read}
-use Rattle.upp_curve.specs.Curve.{repeated}
-use Rattle.upp_curve.specs.Steady.{Repeats}
-use Rattle.upp_curve.specs.Unrolled.{upto, from}
-use Rattle.upp_curve.proofs.Normal.{transfer}
-use Rattle.upp_curve.proofs.Repeats.{repeated_rule}
-use Rattle.upp_normal.specs.Normalising.{IsCycle, EndsInBreak, Turned, GoesOn, IsFront}
-use Rattle.upp_normal.proofs.NormaliseCuts.{front_self, front_take}
-use Rattle.upp_normal.proofs.NormaliseDivided.{cut_of, divides_count, goes_on_if, cut_turned}
-use Rattle.upp_normal.proofs.NormaliseLeast.{share_back, share_some, share_twice, whole_share}
+use Rattle.min_plus.specs.rational.specs.Rational.{ℚ, ◌/ℚ◌, int}
+use Rattle.min_plus.specs.rational.specs.Extended.{Ext}
+use Rattle.min_plus.specs.rational.proofs.Laws.{le_of_lt}
+use Rattle.curve_running.specs.affine_segment.specs.declared.line.Piece.{Piece}
+use Rattle.curve_running.specs.affine_segment.specs.Reading.{read}
+use Rattle.curve_running.specs.upp_curve.specs.Curve.{repeated}
+use Rattle.curve_running.specs.upp_curve.specs.Steady.{Repeats}
+use Rattle.curve_running.specs.upp_curve.specs.Unrolled.{upto, from}
+use Rattle.curve_running.specs.upp_curve.proofs.Normal.{transfer}
+use Rattle.curve_running.specs.upp_curve.proofs.Repeats.{repeated_rule}
+use Rattle.curve_running.specs.upp_normal.specs.Normalising.{IsCycle, EndsInBreak, Turned, GoesOn, IsFront}
+use Rattle.curve_running.specs.upp_normal.proofs.NormaliseCuts.{front_self, front_take}
+use Rattle.curve_running.specs.upp_normal.proofs.NormaliseDivided.{cut_of, divides_count, goes_on_if, cut_turned}
+use Rattle.curve_running.specs.upp_normal.proofs.NormaliseLeast.{share_back, share_some, share_twice, whole_share}
 use Rattle.curve_existence.proofs.Deciding.{pieces_same_or}
 
 -- a share of n parts

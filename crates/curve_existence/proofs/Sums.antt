@@ -1,20 +1,20 @@
 -- A sum has an answer.
 use Rattle.std.proofs.Common.{refl}
-use Rattle.rational.specs.Rational.{◌+ℚ◌}
-use Rattle.upp_curve.specs.Curve.{SpecCurve}
-use Rattle.upp_curve.specs.Curves.{IsCurve}
-use Rattle.upp_curve.specs.Steady.{rise_over}
-use Rattle.upp_curve.specs.Unrolled.{unroll}
-use Rattle.upp_limits.specs.declared.op_kind.OpKind.TheVariants.{Sum}
-use Rattle.curve_call.proofs.Existing.{sum_of}
-use Rattle.curve_call.specs.declared.frame.Frame.{Frame}
-use Rattle.curve_call.specs.Answers.{IsMadeBy}
-use Rattle.curve_call.specs.Frames.{IsFrame, sizes_at}
-use Rattle.curve_call.proofs.Limited.{sum_least}
+use Rattle.min_plus.specs.rational.specs.Rational.{◌+ℚ◌}
+use Rattle.curve_running.specs.upp_curve.specs.Curve.{SpecCurve}
+use Rattle.curve_running.specs.upp_curve.specs.Curves.{IsCurve}
+use Rattle.curve_running.specs.upp_curve.specs.Steady.{rise_over}
+use Rattle.curve_running.specs.upp_curve.specs.Unrolled.{unroll}
+use Rattle.curve_running.specs.upp_limits.specs.declared.op_kind.OpKind.TheVariants.{Sum}
+use Rattle.curve_running.specs.curve_call.proofs.Existing.{sum_of}
+use Rattle.curve_running.specs.curve_call.specs.declared.frame.Frame.{Frame}
+use Rattle.curve_running.specs.curve_call.specs.Answers.{IsMadeBy}
+use Rattle.curve_running.specs.curve_call.specs.Frames.{IsFrame, sizes_at}
+use Rattle.curve_running.specs.curve_call.proofs.Limited.{sum_least}
 use Rattle.curve_existence.specs.Answered.{HasAnswer}
 use Rattle.curve_existence.proofs.Answered.{at_least}
 use Rattle.curve_existence.proofs.Windows.{answer_curve}
-use Rattle.curve_pointwise.proofs.SumCall.{sum_call, left_pieces, right_pieces, sum_answer, sum_values}
+use Rattle.curve_running.specs.curve_pointwise.proofs.SumCall.{sum_call, left_pieces, right_pieces, sum_answer, sum_values}
 
 made : (f g : SpecCurve) (r : Frame) → IsFrame Sum f g 0 0 r → (h : SpecCurve) × IsMadeBy Sum f g h
 made f g r F =

@@ -1,14 +1,14 @@
 -- A call has an answer that is not want of memory: the curve that is made by it, or the limit that it is over. Own choice.
 use Rattle.std.specs.Prelude.{◌≢◌, ◌⊎◌, ℕ, Result, Err}
-use Rattle.upp_limits.specs.declared.op_kind.OpKind.{OpKind}
-use Rattle.upp_limits.specs.declared.op_kind.OpFault.{OpFault}
-use Rattle.upp_limits.specs.declared.op_kind.OpFault.TheVariants.{NoMemory}
-use Rattle.upp_limits.specs.Windows.{IsLeastPeriods}
-use Rattle.upp_curve.specs.Curve.{SpecCurve}
-use Rattle.curve_call.specs.declared.frame.Frame.{Frame}
-use Rattle.curve_call.specs.Answers.{IsMadeBy}
-use Rattle.curve_call.specs.Calls.{Applies}
-use Rattle.curve_call.specs.Frames.{IsFrame}
+use Rattle.curve_running.specs.upp_limits.specs.declared.op_kind.OpKind.{OpKind}
+use Rattle.curve_running.specs.upp_limits.specs.declared.op_kind.OpFault.{OpFault}
+use Rattle.curve_running.specs.upp_limits.specs.declared.op_kind.OpFault.TheVariants.{NoMemory}
+use Rattle.curve_running.specs.upp_limits.specs.Windows.{IsLeastPeriods}
+use Rattle.curve_running.specs.upp_curve.specs.Curve.{SpecCurve}
+use Rattle.curve_running.specs.curve_call.specs.declared.frame.Frame.{Frame}
+use Rattle.curve_running.specs.curve_call.specs.Answers.{IsMadeBy}
+use Rattle.curve_running.specs.curve_call.specs.Calls.{Applies}
+use Rattle.curve_running.specs.curve_call.specs.Frames.{IsFrame}
 
 pub record HasAnswer (op : OpKind) (f g : SpecCurve) : Type 0 where
   pub answer : Result SpecCurve OpFault

@@ -1,12 +1,12 @@
 -- Each call has an answer that is not want of memory. Own choice.
-use Rattle.rational.specs.Rational.{ℚ}
-use Rattle.rational.specs.Extended.{Ext}
-use Rattle.upp_curve.specs.Curve.{SpecCurve, value_at}
-use Rattle.upp_curve.specs.Curves.{IsCurve}
-use Rattle.upp_limits.specs.declared.op_kind.OpKind.TheVariants.{Sum, Min, Max, PosDiff, PosMinus, Scale, Shift}
+use Rattle.min_plus.specs.rational.specs.Rational.{ℚ}
+use Rattle.min_plus.specs.rational.specs.Extended.{Ext}
+use Rattle.curve_running.specs.upp_curve.specs.Curve.{SpecCurve, value_at}
+use Rattle.curve_running.specs.upp_curve.specs.Curves.{IsCurve}
+use Rattle.curve_running.specs.upp_limits.specs.declared.op_kind.OpKind.TheVariants.{Sum, Min, Max, PosDiff, PosMinus, Scale, Shift}
 use Rattle.min_plus.specs.Functions.{IsFinite}
 use Rattle.curve_existence.specs.Answered.{HasAnswer}
-use Rattle.curve_pointwise.specs.Shifting.{IsAhead}
+use Rattle.curve_running.specs.curve_pointwise.specs.Shifting.{IsAhead}
 
 pub record AnswersExist : Type 0 where
   pub sum : (f g : SpecCurve) → IsCurve f → IsCurve g → HasAnswer Sum f g

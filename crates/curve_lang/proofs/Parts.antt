@@ -1,8 +1,8 @@
 -- An operator after its parts.
 use Rattle.std.specs.Prelude.{◌≡◌, ◌<◌, ℕ, Result, Ok, Err}
 use Rattle.std.proofs.Common.{arith, sym, ap, subst}
-use Rattle.rational.specs.Rational.{ℚ}
-use Rattle.upp_curve.specs.Curve.{SpecCurve}
+use Rattle.min_plus.specs.rational.specs.Rational.{ℚ}
+use Rattle.curve_running.specs.upp_curve.specs.Curve.{SpecCurve}
 use Rattle.curve_script.specs.declared.keyword.CurveOperator.{CurveOperator}
 use Rattle.curve_script.specs.declared.keyword.NumberOperator.{NumberOperator}
 use Rattle.curve_script.specs.declared.keyword.PairOperator.{PairOperator}

@@ -1,8 +1,8 @@
 -- Statement after statement: what a script finds, from what each statement adds.
 use Rattle.std.specs.Prelude.{◌≡◌, ℕ, ◌≤◌, length, List, [], ◌∷◌, ◌++◌, map, Option, Some, None, Result, Ok, Err, is_some, false}
 use Rattle.std.proofs.Common.{refl, sym, ap, subst, inl, inr, drop, drop_of_length-le}
-use Rattle.rational.specs.Rational.{ℚ}
-use Rattle.upp_curve.specs.Curve.{SpecCurve}
+use Rattle.min_plus.specs.rational.specs.Rational.{ℚ}
+use Rattle.curve_running.specs.upp_curve.specs.Curve.{SpecCurve}
 use Rattle.curve_script.specs.declared.fault.LangKind.{LangKind}
 use Rattle.curve_script.specs.declared.fault.LangKind.TheVariants.{NoMemory}
 use Rattle.curve_script.specs.Grammar.{Expression, Statement, Lets}

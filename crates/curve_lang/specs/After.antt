@@ -1,7 +1,7 @@
 -- What an operator finds after its part: where the part found nothing, that. (Own choice.)
 use Rattle.std.specs.Prelude.{◌≡◌, ℕ, Result, Ok, Err}
-use Rattle.rational.specs.Rational.{ℚ}
-use Rattle.upp_curve.specs.Curve.{SpecCurve}
+use Rattle.min_plus.specs.rational.specs.Rational.{ℚ}
+use Rattle.curve_running.specs.upp_curve.specs.Curve.{SpecCurve}
 use Rattle.curve_script.specs.declared.keyword.CurveOperator.{CurveOperator}
 use Rattle.curve_script.specs.declared.keyword.NumberOperator.{NumberOperator}
 use Rattle.curve_script.specs.declared.keyword.PairOperator.{PairOperator}

@@ -1,12 +1,12 @@
 -- What the answers of a script mean. (Own choice.)
 use Rattle.std.specs.Prelude.{◌≡◌, ◌↔◌, IsTrue, Bool, List, [], ◌∷◌, ◌++◌}
-use Rattle.rational.specs.Rational.{ℚ, ◌≤ℚ◌}
-use Rattle.rational.specs.Extended.{Ext, ◌≤ₑ◌}
+use Rattle.min_plus.specs.rational.specs.Rational.{ℚ, ◌≤ℚ◌}
+use Rattle.min_plus.specs.rational.specs.Extended.{Ext, ◌≤ₑ◌}
 use Rattle.min_plus.specs.Functions.{zero_q}
 use Rattle.min_plus.specs.Deviations.{IsHorizontalDeviation, IsVerticalDeviation}
-use Rattle.upp_curve.specs.Curve.{SpecCurve, value_at}
-use Rattle.upp_curve.specs.Normal.{IsNormal}
-use Rattle.upp_curve.specs.Steady.{rate}
+use Rattle.curve_running.specs.upp_curve.specs.Curve.{SpecCurve, value_at}
+use Rattle.curve_running.specs.upp_curve.specs.Normal.{IsNormal}
+use Rattle.curve_running.specs.upp_curve.specs.Steady.{rate}
 use Rattle.curve_script.specs.declared.keyword.OneAsked.{OneAsked}
 use Rattle.curve_script.specs.declared.keyword.OneAsked.TheVariants.{Rate, Show}
 use Rattle.curve_script.specs.declared.keyword.TwoAsked.{TwoAsked}

@@ -1,5 +1,5 @@
 -- An expression and a statement by their forms: what they are the forms of.
-use Rattle.rational.specs.Rational.{ℚ}
+use Rattle.min_plus.specs.rational.specs.Rational.{ℚ}
 use Rattle.curve_script.specs.Grammar as grammar
 use Rattle.curve_script.specs.Grammar.{Expression, Statement}
 use Rattle.curve_script.specs.Views.{expression_view}

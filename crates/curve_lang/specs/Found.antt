@@ -3,12 +3,12 @@
 -- choice.)
 use Rattle.std.specs.Prelude.{◌≡◌, ◌↔◌, IsTrue, ℕ, List, [], ◌∷◌, ◌++◌, find, Option, Some, None, option_map, map, Bool, Result, Ok, Err}
 use Rattle.std.specs.Str.{bytes_eq}
-use Rattle.rational.specs.Rational.{ℚ, ◌≤ℚ◌}
-use Rattle.rational.specs.Extended.{Ext, ◌≤ₑ◌}
+use Rattle.min_plus.specs.rational.specs.Rational.{ℚ, ◌≤ℚ◌}
+use Rattle.min_plus.specs.rational.specs.Extended.{Ext, ◌≤ₑ◌}
 use Rattle.min_plus.specs.Functions.{zero_q, IsFinite, IsNonnegative}
 use Rattle.min_plus.specs.Deviations.{IsHorizontalDeviation, IsVerticalDeviation}
-use Rattle.upp_curve.specs.Curve.{SpecCurve, value_at, HasSameValues}
-use Rattle.upp_limits.specs.declared.op_kind.OpKind.TheVariants as calls
+use Rattle.curve_running.specs.upp_curve.specs.Curve.{SpecCurve, value_at, HasSameValues}
+use Rattle.curve_running.specs.upp_limits.specs.declared.op_kind.OpKind.TheVariants as calls
 use Rattle.curve_script.specs.declared.keyword.CurveOperator.{CurveOperator}
 use Rattle.curve_script.specs.declared.keyword.NumberOperator.{NumberOperator}
 use Rattle.curve_script.specs.declared.keyword.PairOperator.{PairOperator}

@@ -1,7 +1,7 @@
 -- Laws of the calculator. (Own choice.)
 use Rattle.std.specs.Prelude.{◌≡◌, ◌≢◌, ℕ, List, [], Ok, Err}
-use Rattle.rational.specs.Rational.{ℚ}
-use Rattle.upp_curve.specs.Curve.{SpecCurve, value_at}
+use Rattle.min_plus.specs.rational.specs.Rational.{ℚ}
+use Rattle.curve_running.specs.upp_curve.specs.Curve.{SpecCurve, value_at}
 use Rattle.curve_script.specs.Grammar.{Expression}
 use Rattle.curve_script.specs.Scripts.{Numbered, out_of_memory}
 use Rattle.curve_lang.specs.Meaning.{Means}

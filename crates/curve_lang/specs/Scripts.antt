@@ -1,7 +1,7 @@
 -- How the evaluator goes through a script: what a statement adds to the names and to the answers that there are. (Own
 -- choice.)
 use Rattle.std.specs.Prelude.{◌≡◌, ℕ, List, [], ◌∷◌, ◌++◌, Result, Ok, Err}
-use Rattle.rational.specs.Rational.{ℚ}
+use Rattle.min_plus.specs.rational.specs.Rational.{ℚ}
 use Rattle.curve_script.specs.declared.fault.LangKind.{LangKind}
 use Rattle.curve_script.specs.declared.fault.LangKind.TheVariants.{NoMemory}
 use Rattle.curve_script.specs.Grammar.{Expression, Statement, Lets}

@@ -10,13 +10,13 @@ use crate::form::{Form, form_of};
 use crate::kinds::{pair_found, triple_found, zero_found};
 use crate::naming::{Named, named_curve};
 use crate::operators::{number_made, one_made, two_made};
+use curve_running::upp_curve::Curve;
 use curve_script::{CurveOperator, Expr, LangKind, NumberOperator, PairOperator};
-use fraction128::Frac;
+use plain_text::fraction128::Frac;
 use std::alloc::Global;
 use std::rc::Rc;
 use std::sync::ledger::Ledger;
 use steps::Steps;
-use upp_curve::Curve;
 
 // An operator on the curve of a part; where the part has none, neither has the whole.
 fn one_after<L: Ledger>(

@@ -8,7 +8,7 @@ use curve_script::{
     CurveOperator, Expr, NumberOperator, NumberPair, NumberTriple, OneAsked, PairOperator, Stat,
     TwoAsked,
 };
-use fraction128::Frac;
+use plain_text::fraction128::Frac;
 
 /// What an expression is made of: numbers, and expressions within it.
 #[derive(Clone, Copy)]

@@ -10,15 +10,15 @@ ghost use Rattle.curve_lang.specs.Views.{answer_view, told};
 use crate::answer::{Answer, Word};
 use crate::sharing::told_call;
 use crate::values::value_found;
-use curve_deconv::curve_pointwise::min;
 use curve_deviation::{horizontal, vertical};
+use curve_running::curve_pointwise::min;
+use curve_running::upp_curve::{Curve, equal};
 use curve_script::{LangKind, OneAsked, TwoAsked};
-use fraction128::{Frac, is_less};
+use plain_text::fraction128::{Frac, is_less};
 use std::alloc::Global;
 use std::rc::Rc;
 use std::sync::ledger::Ledger;
 use steps::Steps;
-use upp_curve::{Curve, equal};
 
 /// The answer of a question about the value at a time.
 pub(crate) fn value_told(f: &Curve, t: Frac) -> Result<Answer, LangKind>

@@ -14,13 +14,13 @@ use crate::expressions::curve_of;
 use crate::form::{Question, question_of};
 use crate::naming::{Named, give_name, is_given};
 use crate::questions::{one_told, two_told, value_told};
+use curve_running::upp_curve::Curve;
 use curve_script::{Expr, LangFault, LangKind, OneAsked, Script, Stat, TwoAsked};
-use fraction128::Frac;
+use plain_text::fraction128::Frac;
 use std::alloc::Global;
 use std::rc::Rc;
 use std::sync::ledger::Ledger;
 use steps::Steps;
-use upp_curve::Curve;
 
 // Gives a new name to the curve of an expression.
 fn give<L: Ledger>(

@@ -1,9 +1,9 @@
 -- Each status of a reply has its cause.
 use Rattle.std.proofs.Common.{◌≡◌, ℕ, List, ◌++◌, inl, inr, ap, arith}
 use Rattle.std.specs.Prelude.{codes}
-use Rattle.upp_limits.specs.declared.own_limits.OverLimit.{OverLimit}
-use Rattle.upp_limits.specs.declared.own_limits.OverLimit.TheVariants.{TooMany, TooWide}
-use Rattle.edit_report.specs.json_report.specs.declared.form.Form.{Form}
+use Rattle.net_cells.specs.upp_limits.specs.declared.own_limits.OverLimit.{OverLimit}
+use Rattle.net_cells.specs.upp_limits.specs.declared.own_limits.OverLimit.TheVariants.{TooMany, TooWide}
+use Rattle.json_report.specs.declared.form.Form.{Form}
 use Rattle.command_replies.specs.Replies.{Reply, over}
 use Rattle.command_replies.proofs.Statuses.{status_is}
 use Rattle.edit_command.specs.OnEdits as on

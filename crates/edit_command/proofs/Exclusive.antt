@@ -1,17 +1,17 @@
 -- What an edit cannot do at once.
 use Rattle.std.proofs.Common.{◌≡◌, ◌≢◌, ◌⊎◌, List, [], ◌∷◌, ◌++◌, Option, Some, None, inl, inr, refl, sym, ap, ◌∙◌, subst, arith}
 use Rattle.std.specs.Prelude.{Ok, Err}
-use Rattle.upp_limits.specs.declared.own_limits.OverLimit.{OverLimit}
-use Rattle.upp_limits.specs.declared.own_limits.OverLimit.TheVariants.{TooMany, TooWide}
-use Rattle.upp_limits.specs.OwnLimits.{IsOver, IsWithinOwn}
-use Rattle.upp_curve.specs.Curve.{SpecCurve}
-use Rattle.net_model.specs.declared.edit.Edit.{Edit}
-use Rattle.net_model.specs.declared.edit.Edit.TheVariants as edit
-use Rattle.net_model.specs.Networks.{Net}
-use Rattle.command_replies.specs.net_cells.specs.declared.cell.Cell.{Cell}
-use Rattle.edit_store.specs.net_edits.specs.Edited.{Edited, MadeCurve, edited}
-use Rattle.edit_store.specs.net_edits.specs.Refusals.{Refusal, Or}
-use Rattle.edit_store.specs.net_edits.specs.Replies.{IsMadeWithin, IsMadeOver, IsEdited, IsEditOver}
+use Rattle.net_cells.specs.upp_limits.specs.declared.own_limits.OverLimit.{OverLimit}
+use Rattle.net_cells.specs.upp_limits.specs.declared.own_limits.OverLimit.TheVariants.{TooMany, TooWide}
+use Rattle.net_cells.specs.upp_limits.specs.OwnLimits.{IsOver, IsWithinOwn}
+use Rattle.net_cells.specs.upp_curve.specs.Curve.{SpecCurve}
+use Rattle.net_cells.specs.net_model.specs.declared.edit.Edit.{Edit}
+use Rattle.net_cells.specs.net_model.specs.declared.edit.Edit.TheVariants as edit
+use Rattle.net_cells.specs.net_model.specs.Networks.{Net}
+use Rattle.net_cells.specs.declared.cell.Cell.{Cell}
+use Rattle.net_edits.specs.Edited.{Edited, MadeCurve, edited}
+use Rattle.net_edits.specs.Refusals.{Refusal, Or}
+use Rattle.net_edits.specs.Replies.{IsMadeWithin, IsMadeOver, IsEdited, IsEditOver}
 use Rattle.edit_store.specs.Applied.{Gives}
 
 -- ---- a curve is within its limits, or over one

@@ -1,7 +1,7 @@
 -- Edits in turn: one more, and what is left of their work.
 use Rattle.std.proofs.Common.{◌≡◌, ℕ, suc, get_or, take, drop-cons, add-one, ◌+◌, ◌<◌, ◌≤◌, List, [], ◌∷◌, ◌++◌, length, drop, refl, sym, ap, ◌∙◌, subst, arith}
 use Rattle.std.proofs.lemmas.List.{length_push, take_more}
-use Rattle.net_model.specs.declared.edit.Edit.{Edit}
+use Rattle.net_cells.specs.net_model.specs.declared.edit.Edit.{Edit}
 use Rattle.edit_report.specs.Said.{EditSaid}
 use Rattle.edit_command.specs.NetHistories.{NetHistory}
 use Rattle.edit_command.specs.Answered.{IsAnswered, Taken, Undone, Refused, AreAnswered}

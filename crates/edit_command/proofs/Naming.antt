@@ -3,18 +3,18 @@ use Rattle.std.proofs.Common.{◌≡◌, ◌≢◌, ◌⊎◌, ℕ, inl, inr, re
 use Rattle.std.specs.Prelude.{Ok, Err, string_bytes}
 use Rattle.std.specs.declared.alloc.Global.{Global}
 use Rattle.std.specs.declared.vec.Vec.{Vec}
-use Rattle.upp_limits.specs.LimitTest.{fault_of}
-use Rattle.upp_limits.specs.declared.own_limits.OverLimit.{OverLimit}
-use Rattle.upp_limits.specs.declared.own_limits.OverLimit.TheVariants as limit
-use Rattle.net_model.specs.declared.edit.Edit.{Edit}
-use Rattle.net_model.specs.Networks.{Net}
-use Rattle.net_model.specs.Accepted.{IsAccepted}
-use Rattle.command_replies.specs.net_cells.specs.declared.cell.Cell.{Cell}
-use Rattle.edit_store.specs.net_edits.specs.declared.fault.EditFault.{EditFault}
-use Rattle.edit_store.specs.net_edits.specs.declared.fault.EditFault.TheVariants.{UnknownName, NameTaken, BadValue, LimitReached, Cycle, TooMany, TooWide, NothingToUndo, NoMemory}
-use Rattle.edit_store.specs.net_edits.specs.Edited.{edited}
-use Rattle.edit_store.specs.net_edits.specs.Refusals.{unknown_name, name_taken, bad_value, no_number_left}
-use Rattle.edit_store.specs.net_edits.specs.Replies.{IsEditOver}
+use Rattle.net_cells.specs.upp_limits.specs.LimitTest.{fault_of}
+use Rattle.net_cells.specs.upp_limits.specs.declared.own_limits.OverLimit.{OverLimit}
+use Rattle.net_cells.specs.upp_limits.specs.declared.own_limits.OverLimit.TheVariants as limit
+use Rattle.net_cells.specs.net_model.specs.declared.edit.Edit.{Edit}
+use Rattle.net_cells.specs.net_model.specs.Networks.{Net}
+use Rattle.net_cells.specs.net_model.specs.Accepted.{IsAccepted}
+use Rattle.net_cells.specs.declared.cell.Cell.{Cell}
+use Rattle.net_edits.specs.declared.fault.EditFault.{EditFault}
+use Rattle.net_edits.specs.declared.fault.EditFault.TheVariants.{UnknownName, NameTaken, BadValue, LimitReached, Cycle, TooMany, TooWide, NothingToUndo, NoMemory}
+use Rattle.net_edits.specs.Edited.{edited}
+use Rattle.net_edits.specs.Refusals.{unknown_name, name_taken, bad_value, no_number_left}
+use Rattle.net_edits.specs.Replies.{IsEditOver}
 use Rattle.edit_store.specs.Stored.{Stored}
 use Rattle.edit_store.specs.Applied as applied
 use Rattle.edit_store.specs.Applied.{Gives, IsShown, IsHidden, IsRefused}

@@ -1,23 +1,23 @@
 -- An edit leaves one history, whatever is said of it.
 use Rattle.std.proofs.Common.{◌≡◌, ℕ, List, [], ◌∷◌, ◌++◌, inl, inr, refl, sym, ap, ◌∙◌, subst}
 use Rattle.std.specs.Prelude.{Err, string_bytes}
-use Rattle.upp_limits.specs.LimitTest.{fault_of}
-use Rattle.upp_limits.specs.declared.own_limits.OverLimit.{OverLimit}
-use Rattle.upp_limits.specs.declared.own_limits.OverLimit.TheVariants as limit
-use Rattle.net_model.specs.declared.edit.Edit.{Edit}
-use Rattle.net_model.specs.declared.edit.Edit.TheVariants.{Undo}
-use Rattle.net_model.specs.Networks.{Net}
-use Rattle.net_model.specs.Orders.{IsOrder}
-use Rattle.net_graph.proofs.OneOrders.{one_order}
-use Rattle.net_graph.proofs.Returns.{order_or_cycle}
-use Rattle.command_replies.specs.net_cells.specs.declared.cell.Cell.{Cell}
-use Rattle.command_replies.specs.net_cells.specs.Meanings.{CellTable}
-use Rattle.command_replies.specs.net_cells.specs.FirstOver.{FirstOver}
-use Rattle.command_replies.specs.net_cells.proofs.Tables.{one_is_first_over}
-use Rattle.edit_store.specs.net_edits.specs.declared.fault.EditFault.{EditFault}
-use Rattle.edit_store.specs.net_edits.specs.declared.fault.EditFault.TheVariants.{UnknownName, NameTaken, BadValue, LimitReached, Cycle, TooMany, TooWide, NothingToUndo, NoMemory}
-use Rattle.edit_store.specs.net_edits.specs.Edited.{edited}
-use Rattle.edit_store.specs.net_edits.specs.Refusals.{unknown_name, name_taken, bad_value, no_number_left, nothing_to_undo}
+use Rattle.net_cells.specs.upp_limits.specs.LimitTest.{fault_of}
+use Rattle.net_cells.specs.upp_limits.specs.declared.own_limits.OverLimit.{OverLimit}
+use Rattle.net_cells.specs.upp_limits.specs.declared.own_limits.OverLimit.TheVariants as limit
+use Rattle.net_cells.specs.net_model.specs.declared.edit.Edit.{Edit}
+use Rattle.net_cells.specs.net_model.specs.declared.edit.Edit.TheVariants.{Undo}
+use Rattle.net_cells.specs.net_model.specs.Networks.{Net}
+use Rattle.net_cells.specs.net_model.specs.Orders.{IsOrder}
+use Rattle.net_cells.specs.net_graph.proofs.OneOrders.{one_order}
+use Rattle.net_cells.specs.net_graph.proofs.Returns.{order_or_cycle}
+use Rattle.net_cells.specs.declared.cell.Cell.{Cell}
+use Rattle.net_cells.specs.Meanings.{CellTable}
+use Rattle.net_cells.specs.FirstOver.{FirstOver}
+use Rattle.net_cells.proofs.Tables.{one_is_first_over}
+use Rattle.net_edits.specs.declared.fault.EditFault.{EditFault}
+use Rattle.net_edits.specs.declared.fault.EditFault.TheVariants.{UnknownName, NameTaken, BadValue, LimitReached, Cycle, TooMany, TooWide, NothingToUndo, NoMemory}
+use Rattle.net_edits.specs.Edited.{edited}
+use Rattle.net_edits.specs.Refusals.{unknown_name, name_taken, bad_value, no_number_left, nothing_to_undo}
 use Rattle.edit_store.specs.Applied.{Gives}
 use Rattle.edit_store.proofs.Steps.{gives_one}
 use Rattle.edit_report.specs.Said.{EditSaid}

@@ -2,24 +2,24 @@
 use Rattle.std.proofs.Common.{◌≡◌, ◌≢◌, ◌⊎◌, ◌≤◌, ℕ, List, length, map, inl, inr, refl, ap, subst, arith}
 use Rattle.std.specs.Prelude.{Result, Ok, Err, IfOk}
 use Rattle.std.proofs.lemmas.List.{length-map}
-use Rattle.net_model.specs.declared.edit.Edit.{Edit}
-use Rattle.net_model.specs.declared.fault.NetFault.{NetFault}
-use Rattle.net_model.specs.declared.fault.NetKind.{NetKind}
-use Rattle.net_model.specs.declared.fault.NetKind.TheVariants as kinds
-use Rattle.net_model.specs.Accepted.{IsAccepted}
-use Rattle.net_model.specs.Networks.{Net}
-use Rattle.command_replies.specs.net_draft.specs.Faults.{Fault, fault_of}
-use Rattle.command_replies.specs.net_text.specs.Folds.{StepsAtMost}
-use Rattle.command_replies.specs.net_text.specs.Reading.{IsNetworkOf}
-use Rattle.command_replies.specs.net_text.specs.FoldLimits.{OverFold}
-use Rattle.command_replies.specs.subadd_closure.specs.FoldWork.{fold_work}
+use Rattle.net_cells.specs.net_model.specs.declared.edit.Edit.{Edit}
+use Rattle.net_cells.specs.net_model.specs.declared.fault.NetFault.{NetFault}
+use Rattle.net_cells.specs.net_model.specs.declared.fault.NetKind.{NetKind}
+use Rattle.net_cells.specs.net_model.specs.declared.fault.NetKind.TheVariants as kinds
+use Rattle.net_cells.specs.net_model.specs.Accepted.{IsAccepted}
+use Rattle.net_cells.specs.net_model.specs.Networks.{Net}
+use Rattle.net_draft.specs.Faults.{Fault, fault_of}
+use Rattle.net_text.specs.Folds.{StepsAtMost}
+use Rattle.net_text.specs.Reading.{IsNetworkOf}
+use Rattle.net_text.specs.FoldLimits.{OverFold}
+use Rattle.subadd_closure.specs.FoldWork.{fold_work}
 use Rattle.table_text.specs.declared.fault.TableFault.{TableFault}
 use Rattle.table_text.specs.declared.fault.TableKind.TheVariants as tables
 use Rattle.table_text.specs.Rows.{rows_of, Read}
 use Rattle.table_text.specs.EditRows.{EditText, edit_row, edit_view}
 use Rattle.table_text.specs.EditLists.{AreEditsOf, IsFirstEditFault}
 use Rattle.table_text.specs.Traces.{out_of_memory}
-use Rattle.edit_report.specs.json_report.specs.declared.form.Form.{Form}
+use Rattle.json_report.specs.declared.form.Form.{Form}
 use Rattle.command_replies.specs.declared.answer.Answer.{Answer}
 use Rattle.command_replies.specs.OnFiles.{IsNetOf, IsNoNetwork}
 use Rattle.command_replies.specs.Replies.{Reply, table_fault_reply}

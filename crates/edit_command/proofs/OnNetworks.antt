@@ -1,26 +1,26 @@
 -- The reply on a network and edits, and its steps.
 use Rattle.std.proofs.Common.{◌≡◌, ◌≢◌, ℕ, ◌+◌, ◌≤◌, List, [], map, refl, sym, ap, subst, arith}
 use Rattle.std.specs.Prelude.{Result, Ok, Err, IfOk}
-use Rattle.upp_limits.specs.LimitTest.{fault_of}
-use Rattle.upp_limits.specs.declared.op_kind.OpFault.{OpFault}
-use Rattle.upp_limits.specs.declared.own_limits.OverLimit.{OverLimit}
-use Rattle.net_model.specs.declared.edit.Edit.{Edit}
-use Rattle.net_model.specs.Accepted.{IsAccepted}
-use Rattle.net_model.specs.Networks.{Net}
-use Rattle.net_model.specs.Orders.{IsOrder}
-use Rattle.net_model.specs.Walks.{IsCycle}
-use Rattle.net_graph.proofs.OneOrders.{one_order}
-use Rattle.net_graph.proofs.Returns.{order_or_cycle}
-use Rattle.command_replies.specs.net_cells.specs.declared.cell.Cell.{Cell}
-use Rattle.command_replies.specs.net_cells.specs.FirstOver.{FirstOver}
-use Rattle.command_replies.specs.net_cells.specs.Equations.{MeetsEquations}
-use Rattle.command_replies.specs.net_cells.specs.Meanings.{Meaning, CellTable}
+use Rattle.net_cells.specs.upp_limits.specs.LimitTest.{fault_of}
+use Rattle.net_cells.specs.upp_limits.specs.declared.op_kind.OpFault.{OpFault}
+use Rattle.net_cells.specs.upp_limits.specs.declared.own_limits.OverLimit.{OverLimit}
+use Rattle.net_cells.specs.net_model.specs.declared.edit.Edit.{Edit}
+use Rattle.net_cells.specs.net_model.specs.Accepted.{IsAccepted}
+use Rattle.net_cells.specs.net_model.specs.Networks.{Net}
+use Rattle.net_cells.specs.net_model.specs.Orders.{IsOrder}
+use Rattle.net_cells.specs.net_model.specs.Walks.{IsCycle}
+use Rattle.net_cells.specs.net_graph.proofs.OneOrders.{one_order}
+use Rattle.net_cells.specs.net_graph.proofs.Returns.{order_or_cycle}
+use Rattle.net_cells.specs.declared.cell.Cell.{Cell}
+use Rattle.net_cells.specs.FirstOver.{FirstOver}
+use Rattle.net_cells.specs.Equations.{MeetsEquations}
+use Rattle.net_cells.specs.Meanings.{Meaning, CellTable}
 use Rattle.table_text.specs.EditRows.{edit_view}
-use Rattle.edit_store.specs.cell_store.specs.Edits.{IsFirst}
-use Rattle.edit_store.specs.cell_store.specs.Placed.{placed}
+use Rattle.cell_store.specs.Edits.{IsFirst}
+use Rattle.cell_store.specs.Placed.{placed}
 use Rattle.edit_store.specs.Stored.{Stored, IsStored}
-use Rattle.command_replies.specs.report_text.specs.CellWords.{server_name, cell_words}
-use Rattle.edit_report.specs.json_report.specs.declared.form.Form.{Form}
+use Rattle.report_text.specs.CellWords.{server_name, cell_words}
+use Rattle.json_report.specs.declared.form.Form.{Form}
 use Rattle.edit_report.specs.Said.{EditSaid}
 use Rattle.command_replies.specs.declared.answer.Answer.{Answer}
 use Rattle.command_replies.specs.CellWork.{work_of_cells}

@@ -1,21 +1,21 @@
 -- Two replies on the same files are the same, but for the choice among cycles.
 use Rattle.std.proofs.Common.{◌≡◌, ◌⊎◌, ℕ, List, [], ◌∷◌, map, inl, inr, sym, ap, ◌∙◌, subst}
-use Rattle.net_model.specs.declared.edit.Edit.{Edit}
-use Rattle.net_model.specs.Accepted.{IsAccepted}
-use Rattle.net_model.specs.Networks.{Net}
-use Rattle.net_model.specs.Orders.{IsOrder}
-use Rattle.net_graph.proofs.OneOrders.{one_order}
-use Rattle.net_graph.proofs.Returns.{order_or_cycle}
-use Rattle.command_replies.specs.net_cells.specs.Meanings.{CellTable}
-use Rattle.command_replies.specs.net_cells.specs.FirstOver.{AnswersAll}
-use Rattle.command_replies.specs.net_cells.specs.Order.{evaluation_order}
+use Rattle.net_cells.specs.net_model.specs.declared.edit.Edit.{Edit}
+use Rattle.net_cells.specs.net_model.specs.Accepted.{IsAccepted}
+use Rattle.net_cells.specs.net_model.specs.Networks.{Net}
+use Rattle.net_cells.specs.net_model.specs.Orders.{IsOrder}
+use Rattle.net_cells.specs.net_graph.proofs.OneOrders.{one_order}
+use Rattle.net_cells.specs.net_graph.proofs.Returns.{order_or_cycle}
+use Rattle.net_cells.specs.Meanings.{CellTable}
+use Rattle.net_cells.specs.FirstOver.{AnswersAll}
+use Rattle.net_cells.specs.Order.{evaluation_order}
 use Rattle.table_text.specs.declared.fault.TableFault.{TableFault}
-use Rattle.command_replies.specs.net_cells.specs.Equations.{MeetsEquations}
+use Rattle.net_cells.specs.Equations.{MeetsEquations}
 use Rattle.table_text.specs.Rows.{rows_of}
 use Rattle.table_text.specs.EditRows.{EditText, edit_view}
 use Rattle.table_text.specs.EditLists.{IsFirstEditFault}
 use Rattle.table_text.proofs.OneEditList.{edits_one, no_edit_list, edit_fault_one}
-use Rattle.edit_report.specs.json_report.specs.declared.form.Form.{Form}
+use Rattle.json_report.specs.declared.form.Form.{Form}
 use Rattle.edit_report.specs.EditReport.{edit_report_in}
 use Rattle.edit_report.specs.Said.{EditSaid}
 use Rattle.edit_report.proofs.OneForm.{one_edit_report}

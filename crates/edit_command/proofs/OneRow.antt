@@ -2,17 +2,17 @@
 use Rattle.std.proofs.Common.{◌≡◌, ◌≢◌, ◌⊎◌, List, [], ◌∷◌, ◌++◌, Option, inl, inr, sym, ap, ◌∙◌, subst}
 use Rattle.std.specs.Prelude.{Result, Ok, Err, IfOk, OnErr}
 use Rattle.std.proofs.lemmas.List.{append_cancel_right}
-use Rattle.net_model.specs.declared.edit.Done.{Done}
-use Rattle.net_model.specs.declared.edit.Edit.{Edit}
-use Rattle.net_model.specs.declared.edit.Edit.TheVariants.{Undo}
-use Rattle.net_model.specs.Networks.{Net}
-use Rattle.net_model.specs.Accepted.{IsAccepted}
-use Rattle.command_replies.specs.net_cells.specs.Meanings.{Meaning}
-use Rattle.command_replies.specs.net_cells.specs.Order.{evaluation_order}
-use Rattle.command_replies.specs.net_cells.proofs.Lists.{contains_has}
-use Rattle.command_replies.specs.net_cells.proofs.Members.{order_has}
-use Rattle.edit_store.specs.net_edits.specs.declared.fault.EditFault.{EditFault}
-use Rattle.edit_store.specs.cell_store.specs.Placed.{placed}
+use Rattle.net_cells.specs.net_model.specs.declared.edit.Done.{Done}
+use Rattle.net_cells.specs.net_model.specs.declared.edit.Edit.{Edit}
+use Rattle.net_cells.specs.net_model.specs.declared.edit.Edit.TheVariants.{Undo}
+use Rattle.net_cells.specs.net_model.specs.Networks.{Net}
+use Rattle.net_cells.specs.net_model.specs.Accepted.{IsAccepted}
+use Rattle.net_cells.specs.Meanings.{Meaning}
+use Rattle.net_cells.specs.Order.{evaluation_order}
+use Rattle.net_cells.proofs.Lists.{contains_has}
+use Rattle.net_cells.proofs.Members.{order_has}
+use Rattle.net_edits.specs.declared.fault.EditFault.{EditFault}
+use Rattle.cell_store.specs.Placed.{placed}
 use Rattle.edit_store.specs.Stored.{Stored, HoldsTable, IsStored}
 use Rattle.edit_store.specs.Applied.{IsApplied}
 use Rattle.edit_report.specs.Said.{EditSaid, Made, said_of}

@@ -1,28 +1,28 @@
 -- What is said of an edit is one thing, but for the choice among cycles.
 use Rattle.std.proofs.Common.{◌≡◌, ◌⊎◌, ℕ, ◌++◌, List, length, Option, Some, None, inl, inr, sym, ap, ◌∙◌, subst}
 use Rattle.std.specs.Prelude.{Ok, Err, codes, string_bytes}
-use Rattle.upp_limits.specs.LimitTest.{fault_of}
-use Rattle.upp_limits.specs.declared.own_limits.OverLimit.{OverLimit}
-use Rattle.upp_limits.specs.declared.own_limits.OverLimit.TheVariants as limit
-use Rattle.upp_limits.proofs.OneLimit.{same_limit, one_limit}
-use Rattle.net_model.specs.declared.edit.Edit.{Edit}
-use Rattle.net_model.specs.Networks.{Net}
-use Rattle.net_model.specs.Orders.{IsOrder}
-use Rattle.net_graph.proofs.OneOrders.{one_order}
-use Rattle.net_graph.proofs.Returns.{order_or_cycle}
-use Rattle.command_replies.specs.net_cells.specs.declared.cell.Cell.{Cell}
-use Rattle.command_replies.specs.net_cells.specs.FirstOver.{FirstOver}
-use Rattle.command_replies.specs.net_cells.proofs.Tables.{one_is_first_over}
-use Rattle.edit_store.specs.net_edits.specs.declared.fault.EditFault.{EditFault}
-use Rattle.edit_store.specs.net_edits.specs.declared.fault.EditFault.TheVariants.{UnknownName, NameTaken, BadValue, LimitReached, Cycle, TooMany, TooWide, NothingToUndo, NoMemory}
-use Rattle.edit_store.specs.net_edits.specs.Edited.{Edited, MadeCurve, edited}
-use Rattle.edit_store.specs.net_edits.specs.Refusals.{Refusal, unknown_name, name_taken, bad_value, no_number_left, nothing_to_undo}
-use Rattle.edit_store.specs.net_edits.specs.Replies.{IsMadeOver, IsEditOver}
+use Rattle.net_cells.specs.upp_limits.specs.LimitTest.{fault_of}
+use Rattle.net_cells.specs.upp_limits.specs.declared.own_limits.OverLimit.{OverLimit}
+use Rattle.net_cells.specs.upp_limits.specs.declared.own_limits.OverLimit.TheVariants as limit
+use Rattle.net_cells.specs.upp_limits.proofs.OneLimit.{same_limit, one_limit}
+use Rattle.net_cells.specs.net_model.specs.declared.edit.Edit.{Edit}
+use Rattle.net_cells.specs.net_model.specs.Networks.{Net}
+use Rattle.net_cells.specs.net_model.specs.Orders.{IsOrder}
+use Rattle.net_cells.specs.net_graph.proofs.OneOrders.{one_order}
+use Rattle.net_cells.specs.net_graph.proofs.Returns.{order_or_cycle}
+use Rattle.net_cells.specs.declared.cell.Cell.{Cell}
+use Rattle.net_cells.specs.FirstOver.{FirstOver}
+use Rattle.net_cells.proofs.Tables.{one_is_first_over}
+use Rattle.net_edits.specs.declared.fault.EditFault.{EditFault}
+use Rattle.net_edits.specs.declared.fault.EditFault.TheVariants.{UnknownName, NameTaken, BadValue, LimitReached, Cycle, TooMany, TooWide, NothingToUndo, NoMemory}
+use Rattle.net_edits.specs.Edited.{Edited, MadeCurve, edited}
+use Rattle.net_edits.specs.Refusals.{Refusal, unknown_name, name_taken, bad_value, no_number_left, nothing_to_undo}
+use Rattle.net_edits.specs.Replies.{IsMadeOver, IsEditOver}
 use Rattle.edit_store.specs.Stored.{AreTouched}
 use Rattle.edit_store.proofs.Steps.{gives_one, same_touched}
 use Rattle.edit_report.specs.Said.{EditSaid, said_of}
 use Rattle.edit_report.specs.Said as edit_said
-use Rattle.command_replies.specs.report_text.specs.CellWords.{cell_words}
+use Rattle.report_text.specs.CellWords.{cell_words}
 use Rattle.edit_command.specs.NetHistories.{NetHistory}
 use Rattle.edit_command.specs.Causes.{GoesRound, HasCellOver, IsOverBy, IsCause}
 use Rattle.edit_command.specs.Answered.{IsTaken, IsAnswered, Taken, Undone, Refused}

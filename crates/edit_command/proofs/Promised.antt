@@ -1,11 +1,11 @@
 -- What holds of the replies on edits: the guarantee, and completeness.
 use Rattle.std.proofs.Common.{inl, inr, ap, subst}
-use Rattle.upp_limits.specs.LimitTest.{fault_of}
-use Rattle.net_model.specs.Networks.{Net}
-use Rattle.net_model.specs.Orders.{IsOrder}
-use Rattle.net_model.specs.Walks.{IsCycle}
-use Rattle.command_replies.specs.net_bounds.proofs.Kept.{table_bounds_every_run}
-use Rattle.command_replies.specs.net_cells.specs.FirstOver.{FirstOver}
+use Rattle.net_cells.specs.upp_limits.specs.LimitTest.{fault_of}
+use Rattle.net_cells.specs.net_model.specs.Networks.{Net}
+use Rattle.net_cells.specs.net_model.specs.Orders.{IsOrder}
+use Rattle.net_cells.specs.net_model.specs.Walks.{IsCycle}
+use Rattle.net_bounds.proofs.Kept.{table_bounds_every_run}
+use Rattle.net_cells.specs.FirstOver.{FirstOver}
 use Rattle.table_text.proofs.OneEditList.{no_edit_list}
 use Rattle.command_replies.specs.Replies.{Reply}
 use Rattle.command_replies.proofs.FirstFaults.{says}

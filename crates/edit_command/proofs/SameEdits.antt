@@ -1,24 +1,24 @@
 -- Edits that a text asks for make the same of a network, whatever strings and vectors hold them.
 use Rattle.std.proofs.Common.{◌≡◌, ℕ, ℤ, List, [], ◌∷◌, length, map, inl, inr, refl, sym, ap, ◌∙◌, subst}
 use Rattle.std.specs.Prelude.{None, Ok, Err, not, ◌&&◌, nat_lt, string_bytes}
-use Rattle.upp_limits.specs.declared.own_limits.OverLimit.{OverLimit}
-use Rattle.upp_limits.specs.declared.own_limits.OverLimit.TheVariants as limit
+use Rattle.net_cells.specs.upp_limits.specs.declared.own_limits.OverLimit.{OverLimit}
+use Rattle.net_cells.specs.upp_limits.specs.declared.own_limits.OverLimit.TheVariants as limit
 use Rattle.rational.specs.Rational.{ℚ}
-use Rattle.net_model.specs.declared.edit.Edit.{Edit}
-use Rattle.net_model.specs.declared.edit.Edit.TheVariants as edit
-use Rattle.net_model.specs.declared.edit.PathEntry.{PathEntry}
-use Rattle.net_model.specs.Networks.{Net}
-use Rattle.command_replies.specs.net_cells.specs.declared.cell.Cell.{Cell}
-use Rattle.edit_store.specs.net_edits.specs.declared.fault.EditFault.{EditFault}
-use Rattle.edit_store.specs.net_edits.specs.declared.fault.EditFault.TheVariants.{UnknownName, NameTaken, BadValue, LimitReached, Cycle, TooMany, TooWide, NothingToUndo, NoMemory}
-use Rattle.edit_store.specs.net_edits.specs.Refusals.{Or, and_then, only_if, nothing_to_undo}
-use Rattle.edit_store.specs.net_edits.specs.Lookups.{server_number, server_numbers, flow_number, is_free, before}
-use Rattle.edit_store.specs.net_edits.specs.Values.{whole_that, is_length, is_name, entry_queues, may_be_path}
-use Rattle.edit_store.specs.net_edits.specs.Changed.{at_flow, with_path, with_more}
-use Rattle.edit_store.specs.net_edits.specs.Edited.{Edited, edited, fitting, is_negative, only_if_free, only_if_left, new_flow}
-use Rattle.edit_store.specs.net_edits.specs.Edited.{rate_edited, latency_edited, link_edited, quantum_edited, bucket_edited, stair_edited}
-use Rattle.edit_store.specs.net_edits.specs.Edited.{packet_edited, drop_edited}
-use Rattle.edit_store.specs.net_edits.specs.Replies.{Refuses, IsEdited, IsEditOver}
+use Rattle.net_cells.specs.net_model.specs.declared.edit.Edit.{Edit}
+use Rattle.net_cells.specs.net_model.specs.declared.edit.Edit.TheVariants as edit
+use Rattle.net_cells.specs.net_model.specs.declared.edit.PathEntry.{PathEntry}
+use Rattle.net_cells.specs.net_model.specs.Networks.{Net}
+use Rattle.net_cells.specs.declared.cell.Cell.{Cell}
+use Rattle.net_edits.specs.declared.fault.EditFault.{EditFault}
+use Rattle.net_edits.specs.declared.fault.EditFault.TheVariants.{UnknownName, NameTaken, BadValue, LimitReached, Cycle, TooMany, TooWide, NothingToUndo, NoMemory}
+use Rattle.net_edits.specs.Refusals.{Or, and_then, only_if, nothing_to_undo}
+use Rattle.net_edits.specs.Lookups.{server_number, server_numbers, flow_number, is_free, before}
+use Rattle.net_edits.specs.Values.{whole_that, is_length, is_name, entry_queues, may_be_path}
+use Rattle.net_edits.specs.Changed.{at_flow, with_path, with_more}
+use Rattle.net_edits.specs.Edited.{Edited, edited, fitting, is_negative, only_if_free, only_if_left, new_flow}
+use Rattle.net_edits.specs.Edited.{rate_edited, latency_edited, link_edited, quantum_edited, bucket_edited, stair_edited}
+use Rattle.net_edits.specs.Edited.{packet_edited, drop_edited}
+use Rattle.net_edits.specs.Replies.{Refuses, IsEdited, IsEditOver}
 use Rattle.table_text.specs.EditRows.{EditText, edit_view}
 use Rattle.table_text.specs.EditRows as text
 use Rattle.table_text.specs.Paths.{EntryText, entry_view}

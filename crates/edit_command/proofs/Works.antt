@@ -1,13 +1,13 @@
 -- The steps of one edit of a store.
 use Rattle.std.proofs.Common.{◌≡◌, ◌≢◌, ℕ, ◌+◌, ◌≤◌, List, sum_by, inl, inr, sym, ap, ◌∙◌, subst, arith}
 use Rattle.std.specs.Prelude.{Result, Ok, Err, OnOk, OnErr}
-use Rattle.net_model.specs.declared.edit.Done.{Done}
-use Rattle.net_model.specs.declared.edit.Edit.{Edit}
-use Rattle.net_model.specs.declared.edit.Edit.TheVariants.{Undo}
-use Rattle.net_model.specs.Networks.{Net}
-use Rattle.command_replies.specs.net_cells.specs.declared.cell.Cell.{Cell}
-use Rattle.command_replies.specs.net_cells.specs.Work.{work}
-use Rattle.edit_store.specs.net_edits.specs.declared.fault.EditFault.{EditFault}
+use Rattle.net_cells.specs.net_model.specs.declared.edit.Done.{Done}
+use Rattle.net_cells.specs.net_model.specs.declared.edit.Edit.{Edit}
+use Rattle.net_cells.specs.net_model.specs.declared.edit.Edit.TheVariants.{Undo}
+use Rattle.net_cells.specs.net_model.specs.Networks.{Net}
+use Rattle.net_cells.specs.declared.cell.Cell.{Cell}
+use Rattle.net_cells.specs.Work.{work}
+use Rattle.net_edits.specs.declared.fault.EditFault.{EditFault}
 use Rattle.edit_store.specs.Stored.{Stored, AreTouched}
 use Rattle.edit_store.specs.Applied.{Gives, IsEvaluated}
 use Rattle.edit_store.proofs.Steps.{gives_one}

@@ -1,15 +1,15 @@
 -- What is said of edits, and which network is the present one after them. Own choice.
 use Rattle.std.specs.Prelude.{◌≡◌, ℕ, List, [], ◌∷◌, ◌++◌, length, Err}
-use Rattle.net_model.specs.declared.edit.Edit.{Edit}
-use Rattle.net_model.specs.declared.edit.Edit.TheVariants.{Undo}
-use Rattle.net_model.specs.Networks.{Net}
-use Rattle.net_model.specs.Accepted.{IsAccepted}
-use Rattle.net_model.specs.Orders.{IsOrder}
-use Rattle.command_replies.specs.net_cells.specs.declared.cell.Cell.{Cell}
-use Rattle.command_replies.specs.net_cells.specs.Meanings.{CellTable}
-use Rattle.command_replies.specs.net_cells.specs.FirstOver.{AnswersAll}
-use Rattle.command_replies.specs.net_cells.specs.Order.{evaluation_order}
-use Rattle.edit_store.specs.net_edits.specs.declared.fault.EditFault.{EditFault}
+use Rattle.net_cells.specs.net_model.specs.declared.edit.Edit.{Edit}
+use Rattle.net_cells.specs.net_model.specs.declared.edit.Edit.TheVariants.{Undo}
+use Rattle.net_cells.specs.net_model.specs.Networks.{Net}
+use Rattle.net_cells.specs.net_model.specs.Accepted.{IsAccepted}
+use Rattle.net_cells.specs.net_model.specs.Orders.{IsOrder}
+use Rattle.net_cells.specs.declared.cell.Cell.{Cell}
+use Rattle.net_cells.specs.Meanings.{CellTable}
+use Rattle.net_cells.specs.FirstOver.{AnswersAll}
+use Rattle.net_cells.specs.Order.{evaluation_order}
+use Rattle.net_edits.specs.declared.fault.EditFault.{EditFault}
 use Rattle.edit_store.specs.Stored.{AreTouched}
 use Rattle.edit_store.specs.Applied.{Gives}
 use Rattle.edit_report.specs.Said.{EditSaid, Made, said_of}

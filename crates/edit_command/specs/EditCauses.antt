@@ -1,9 +1,9 @@
 -- Of the replies on a network's file and a list of edits, those of each status.
 use Rattle.std.specs.Prelude.{◌≡◌, ◌≢◌, ◌⊎◌, ◌≤◌, ℕ, List}
-use Rattle.upp_limits.specs.declared.own_limits.OverLimit.{OverLimit}
-use Rattle.upp_limits.specs.declared.own_limits.OverLimit.TheVariants.{TooMany, TooWide}
+use Rattle.net_cells.specs.upp_limits.specs.declared.own_limits.OverLimit.{OverLimit}
+use Rattle.net_cells.specs.upp_limits.specs.declared.own_limits.OverLimit.TheVariants.{TooMany, TooWide}
 use Rattle.table_text.specs.EditRows.{EditText}
-use Rattle.edit_report.specs.json_report.specs.declared.form.Form.{Form}
+use Rattle.json_report.specs.declared.form.Form.{Form}
 use Rattle.command_replies.specs.Replies.{Reply}
 use Rattle.command_replies.specs.OnFiles.{IsBroken, IsCurveOver, HasCycle, IsCellOver}
 use Rattle.edit_command.specs.OnEdits.{AsksFor, IsBadList, IsEditReport, IsEditReply}

@@ -1,16 +1,16 @@
 -- How many steps a list of edits takes: an operator on curves takes one.
 use Rattle.std.specs.Prelude.{◌≡◌, ◌≢◌, ◌⊎◌, ◌+◌, ◌≤◌, ℕ, List, [], ◌∷◌, map, sum_by}
-use Rattle.net_model.specs.declared.edit.Edit.{Edit}
-use Rattle.net_model.specs.Networks.{Net}
-use Rattle.net_model.specs.Orders.{IsOrder}
-use Rattle.net_model.specs.Walks.{IsCycle}
-use Rattle.command_replies.specs.net_draft.specs.Faults.{Fault}
-use Rattle.command_replies.specs.net_text.specs.Folds.{StepsAtMost}
-use Rattle.command_replies.specs.net_text.specs.Reading.{IsNetworkOf, FirstFault}
-use Rattle.command_replies.specs.net_text.specs.FoldLimits.{OverFold}
-use Rattle.command_replies.specs.subadd_closure.specs.FoldWork.{fold_work}
-use Rattle.command_replies.specs.net_cells.specs.declared.cell.Cell.{Cell}
-use Rattle.command_replies.specs.net_cells.specs.Work.{work}
+use Rattle.net_cells.specs.net_model.specs.declared.edit.Edit.{Edit}
+use Rattle.net_cells.specs.net_model.specs.Networks.{Net}
+use Rattle.net_cells.specs.net_model.specs.Orders.{IsOrder}
+use Rattle.net_cells.specs.net_model.specs.Walks.{IsCycle}
+use Rattle.net_draft.specs.Faults.{Fault}
+use Rattle.net_text.specs.Folds.{StepsAtMost}
+use Rattle.net_text.specs.Reading.{IsNetworkOf, FirstFault}
+use Rattle.net_text.specs.FoldLimits.{OverFold}
+use Rattle.subadd_closure.specs.FoldWork.{fold_work}
+use Rattle.net_cells.specs.declared.cell.Cell.{Cell}
+use Rattle.net_cells.specs.Work.{work}
 use Rattle.table_text.specs.EditRows.{edit_view}
 use Rattle.edit_store.specs.Stored.{AreTouched}
 use Rattle.edit_store.specs.Applied.{Gives, IsEvaluated}

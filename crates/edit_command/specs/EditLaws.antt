@@ -1,19 +1,19 @@
 -- What holds of the replies on a network's file and a list of edits.
 use Rattle.std.specs.Prelude.{◌≡◌, ◌⊎◌, ◌++◌, ℕ, List, [], ◌∷◌, map, codes}
-use Rattle.upp_limits.specs.declared.op_kind.OpFault.{OpFault}
-use Rattle.net_model.specs.Networks.{Net}
-use Rattle.net_model.specs.Orders.{IsOrder}
-use Rattle.net_model.specs.Accepted.{IsAccepted}
-use Rattle.net_model.specs.Walks.{IsCycle, IsFeedForward}
-use Rattle.command_replies.specs.net_text.specs.Reading.{IsNetworkOf}
-use Rattle.command_replies.specs.net_text.specs.FoldLimits.{OverFold}
-use Rattle.command_replies.specs.net_cells.specs.declared.cell.Cell.{Cell}
-use Rattle.command_replies.specs.net_cells.specs.FirstOver.{FirstOver}
-use Rattle.command_replies.specs.net_cells.specs.Meanings.{CellTable}
+use Rattle.net_cells.specs.upp_limits.specs.declared.op_kind.OpFault.{OpFault}
+use Rattle.net_cells.specs.net_model.specs.Networks.{Net}
+use Rattle.net_cells.specs.net_model.specs.Orders.{IsOrder}
+use Rattle.net_cells.specs.net_model.specs.Accepted.{IsAccepted}
+use Rattle.net_cells.specs.net_model.specs.Walks.{IsCycle, IsFeedForward}
+use Rattle.net_text.specs.Reading.{IsNetworkOf}
+use Rattle.net_text.specs.FoldLimits.{OverFold}
+use Rattle.net_cells.specs.declared.cell.Cell.{Cell}
+use Rattle.net_cells.specs.FirstOver.{FirstOver}
+use Rattle.net_cells.specs.Meanings.{CellTable}
 use Rattle.table_text.specs.EditRows.{EditText}
-use Rattle.command_replies.specs.report_text.specs.Refusals.{spaced}
-use Rattle.command_replies.specs.report_text.specs.CellWords.{server_name}
-use Rattle.edit_report.specs.json_report.specs.declared.form.Form.{Form}
+use Rattle.report_text.specs.Refusals.{spaced}
+use Rattle.report_text.specs.CellWords.{server_name}
+use Rattle.json_report.specs.declared.form.Form.{Form}
 use Rattle.edit_report.specs.EditReport.{edit_report_in}
 use Rattle.edit_report.specs.Said.{EditSaid, Refused}
 use Rattle.command_replies.specs.Guarantee.{Guarantees}

@@ -1,6 +1,6 @@
 -- A network, and those that it came of by edits. Own choice.
 use Rattle.std.specs.Prelude.{List, []}
-use Rattle.net_model.specs.Networks.{Net}
+use Rattle.net_cells.specs.net_model.specs.Networks.{Net}
 use Rattle.edit_store.specs.Stored.{Stored}
 
 -- the present network, and those before it that an undo goes back to, the first one first

@@ -1,18 +1,18 @@
 -- What is answered on the bytes of a network's file and of a list of edits: by the network's first fault, or the
 -- list's; by a cycle of the network, or its first cell over a limit; or by the report on the edits.
 use Rattle.std.specs.Prelude.{◌≡◌, ℕ, List, map}
-use Rattle.upp_limits.specs.declared.own_limits.OverLimit.{OverLimit}
-use Rattle.net_model.specs.declared.edit.Edit.{Edit}
-use Rattle.net_model.specs.Networks.{Net}
-use Rattle.command_replies.specs.net_text.specs.Reading.{IsNetworkOf}
-use Rattle.command_replies.specs.net_text.specs.FoldLimits.{OverFold}
-use Rattle.command_replies.specs.net_cells.specs.Meanings.{CellTable}
-use Rattle.command_replies.specs.net_cells.specs.Equations.{MeetsEquations}
+use Rattle.net_cells.specs.upp_limits.specs.declared.own_limits.OverLimit.{OverLimit}
+use Rattle.net_cells.specs.net_model.specs.declared.edit.Edit.{Edit}
+use Rattle.net_cells.specs.net_model.specs.Networks.{Net}
+use Rattle.net_text.specs.Reading.{IsNetworkOf}
+use Rattle.net_text.specs.FoldLimits.{OverFold}
+use Rattle.net_cells.specs.Meanings.{CellTable}
+use Rattle.net_cells.specs.Equations.{MeetsEquations}
 use Rattle.table_text.specs.declared.fault.TableFault.{TableFault}
 use Rattle.table_text.specs.Rows.{rows_of}
 use Rattle.table_text.specs.EditRows.{EditText, edit_view}
 use Rattle.table_text.specs.EditLists.{AreEditsOf, IsFirstEditFault}
-use Rattle.edit_report.specs.json_report.specs.declared.form.Form.{Form}
+use Rattle.json_report.specs.declared.form.Form.{Form}
 use Rattle.edit_report.specs.EditReport.{edit_report_in}
 use Rattle.edit_report.specs.Said.{EditSaid}
 use Rattle.command_replies.specs.Replies.{Reply, table_fault_reply}

@@ -6,10 +6,10 @@ ghost use Rattle.edit_command.specs.EditCounts.{CountsOn, CountsOnNet};
 ghost use Rattle.edit_command.specs.OnEdits.{IsEditReply, IsReplyOnNet};
 
 use crate::on_net::on_network;
-use command_replies::net_text::read_network;
 use command_replies::{Answer, on_fault, on_table_fault};
-use edit_report::json_report::Form;
-use net_model::Network;
+use json_report::Form;
+use net_cells::net_model::Network;
+use net_text::read_network;
 use std::alloc::{AllocError, Global};
 use std::sync::ledger::Ledger;
 use steps::Steps;

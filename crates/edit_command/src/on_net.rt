@@ -1,23 +1,23 @@
 //! The answer on a network and edits.
 
 ghost use Rattle.std.specs.Prelude.{◌≡◌, ◌+◌, ◌≤◌, ℕ, [], length, IfOk};
-ghost use Rattle.net_model.specs.Orders.{IsOrder};
-ghost use Rattle.net_model.specs.Networks.{Net};
-ghost use Rattle.command_replies.specs.net_cells.specs.Meanings.{CellTable};
+ghost use Rattle.net_cells.specs.net_model.specs.Orders.{IsOrder};
+ghost use Rattle.net_cells.specs.net_model.specs.Networks.{Net};
+ghost use Rattle.net_cells.specs.Meanings.{CellTable};
 ghost use Rattle.command_replies.specs.View.{reply_of, status_of, code_of};
 ghost use Rattle.edit_command.specs.NetHistories.{begun};
 ghost use Rattle.edit_command.specs.OnEdits.{AreReported, IsReplyOnEdits};
 ghost use Rattle.edit_command.specs.EditCounts.{WorkOfEdits, CountsOnEdits};
 
 use crate::rows::all_answered;
-use command_replies::cell_table::{AnalysisFault, Evaluator, Value};
+use cell_eval::Counted;
+use cell_table::{AnalysisFault, Evaluator, Value};
 use command_replies::{Answer, Status, cell_too_many, cell_too_wide, goes_round};
 use edit_report::edit_text_in;
-use edit_report::json_report::Form;
 use edit_store::Store;
-use edit_store::cell_eval::Counted;
-use net_graph::{GraphFault, order};
-use net_model::{Edit, Network};
+use json_report::Form;
+use net_cells::net_graph::{GraphFault, order};
+use net_cells::net_model::{Edit, Network};
 use std::alloc::{AllocError, Global};
 use std::sync::ledger::Ledger;
 use steps::Steps;

@@ -1,7 +1,7 @@
 //! One edit of a list.
 
 ghost use Rattle.std.specs.Prelude.{◌≡◌, ◌≢◌, ◌+◌, ◌-◌, ◌^◌, ◌<◌, ◌≤◌, ℕ, length, Err, IfOk, IfErr};
-ghost use Rattle.net_model.specs.declared.edit.Edit.TheVariants.{Undo};
+ghost use Rattle.net_cells.specs.net_model.specs.declared.edit.Edit.TheVariants.{Undo};
 ghost use Rattle.edit_store.specs.Applied.{IsShown, IsRefused};
 ghost use Rattle.edit_report.specs.Said.{said_view};
 ghost use Rattle.edit_command.specs.NetHistories.{history_of};
@@ -10,11 +10,11 @@ ghost use Rattle.edit_command.specs.Answered.{IsAnswered};
 ghost use Rattle.edit_command.specs.Said.{IsOfEdited, IsSaidOf, IsSaid};
 ghost use Rattle.edit_command.specs.EditCounts.{IsWorkOf, IsTakenWork};
 
-use command_replies::cell_table::{Evaluator, Value};
+use cell_table::{Evaluator, Value};
 use edit_report::{Said, said_of};
 use edit_store::Store;
-use edit_store::net_edits::EditFault;
-use net_model::{Done, Edit, Network};
+use net_cells::net_model::{Done, Edit, Network};
+use net_edits::EditFault;
 use std::alloc::{AllocError, Global};
 
 // The network that an edit which no rule refuses would make, or the present one where the edit's own curve is over a

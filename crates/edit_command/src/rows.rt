@@ -7,10 +7,10 @@ ghost use Rattle.edit_command.specs.Answered.{AreAnswered};
 ghost use Rattle.edit_command.specs.EditCounts.{WorkOfEdits};
 
 use crate::row::answered;
-use command_replies::cell_table::{Evaluator, Value};
+use cell_table::{Evaluator, Value};
 use edit_report::Said;
 use edit_store::Store;
-use net_model::Edit;
+use net_cells::net_model::Edit;
 use std::alloc::{AllocError, Global};
 
 /// Makes edits in turn, and gives what is said of each. Refused only for want of memory.

@@ -1,12 +1,12 @@
 -- Whatever table meets the equations of a network, there is one report on edits in each form.
 use Rattle.std.proofs.Common.{◌≡◌, ℕ, List, ◌++◌, map, ap}
 use Rattle.std.specs.Prelude.{codes}
-use Rattle.json_report.specs.net_model.specs.Accepted.{IsAccepted}
-use Rattle.json_report.specs.net_model.specs.Networks.{Net}
-use Rattle.json_report.specs.net_model.specs.Orders.{IsOrder}
-use Rattle.json_report.specs.net_cells.specs.Equations.{MeetsEquations}
-use Rattle.json_report.specs.net_cells.specs.Meanings.{CellTable}
-use Rattle.json_report.specs.report_text.proofs.Agree.{one_report}
+use Rattle.net_cells.specs.net_model.specs.Accepted.{IsAccepted}
+use Rattle.net_cells.specs.net_model.specs.Networks.{Net}
+use Rattle.net_cells.specs.net_model.specs.Orders.{IsOrder}
+use Rattle.net_cells.specs.Equations.{MeetsEquations}
+use Rattle.net_cells.specs.Meanings.{CellTable}
+use Rattle.report_text.proofs.Agree.{one_report}
 use Rattle.serde_json.specs.Data.{Members, array, object, member}
 use Rattle.serde_json.specs.View.{items_of}
 use Rattle.json_report.specs.declared.form.Form.{Form}

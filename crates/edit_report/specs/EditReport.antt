@@ -3,9 +3,9 @@
 use Rattle.std.specs.Prelude.{ℕ, List, ◌++◌, ◌+◌, length, map, codes, slice_index_or, true, false}
 use Rattle.std.specs.Fmt.{decimal}
 use Rattle.std.specs.List.{flat_map, range_with_len}
-use Rattle.json_report.specs.net_model.specs.Networks.{Net}
-use Rattle.json_report.specs.net_cells.specs.Meanings.{CellTable}
-use Rattle.json_report.specs.report_text.specs.Report.{report_of}
+use Rattle.net_cells.specs.net_model.specs.Networks.{Net}
+use Rattle.net_cells.specs.Meanings.{CellTable}
+use Rattle.report_text.specs.Report.{report_of}
 use Rattle.serde_json.specs.Data.{Data, string, number, unsigned, boolean, array, object, no_members, member}
 use Rattle.serde_json.specs.View.{items_of}
 use Rattle.json_report.specs.declared.form.Form.{Form}

@@ -1,11 +1,11 @@
 -- What is said of an edit. Own choice.
 use Rattle.std.specs.Prelude.{ℕ, List, [], ◌++◌, map, Result, Ok, Err, codes, string_bytes}
-use Rattle.json_report.specs.net_model.specs.declared.edit.Done.{Done}
-use Rattle.json_report.specs.net_model.specs.Networks.{Net}
+use Rattle.net_cells.specs.net_model.specs.declared.edit.Done.{Done}
+use Rattle.net_cells.specs.net_model.specs.Networks.{Net}
 use Rattle.net_edits.specs.declared.fault.EditFault.{EditFault}
 use Rattle.net_edits.specs.declared.fault.EditFault.TheVariants.{UnknownName, NameTaken, BadValue, LimitReached, Cycle, TooMany, TooWide, NothingToUndo, NoMemory}
-use Rattle.json_report.specs.report_text.specs.CellWords.{server_name, cell_words}
-use Rattle.json_report.specs.report_text.specs.Refusals.{spaced}
+use Rattle.report_text.specs.CellWords.{server_name, cell_words}
+use Rattle.report_text.specs.Refusals.{spaced}
 use Rattle.edit_report.specs.declared.said.Said.{Said}
 use Rattle.edit_report.specs.declared.said.Said.TheVariants as code
 

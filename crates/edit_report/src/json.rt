@@ -7,10 +7,10 @@ ghost use Rattle.edit_report.specs.EditReport.{said_data, edit_report_data};
 ghost use Rattle.edit_report.specs.Said.{said_view};
 
 use crate::said::Said;
-use json_report::cell_table::Table;
-use json_report::net_model::Network;
-use json_report::report_text::ShownValue;
+use cell_table::Table;
 use json_report::{array_of, flow_values, json_line, queue_values};
+use net_cells::net_model::Network;
+use report_text::ShownValue;
 use serde_json::{Value, json};
 use std::alloc::{AllocError, Global};
 

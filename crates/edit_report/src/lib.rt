@@ -5,6 +5,5 @@ mod json;
 mod listing;
 mod said;
 
-pub use json_report;
 pub use listing::edit_text_in;
 pub use said::{Said, said_of};

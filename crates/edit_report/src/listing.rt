@@ -6,10 +6,10 @@ ghost use Rattle.edit_report.specs.Said.{said_view};
 
 use crate::json::json_text;
 use crate::said::Said;
+use cell_table::Table;
 use json_report::Form;
-use json_report::cell_table::Table;
-use json_report::net_model::Network;
-use json_report::report_text::{ShownValue, analysis_text, push_after, push_decimal, push_text};
+use net_cells::net_model::Network;
+use report_text::{ShownValue, analysis_text, push_after, push_decimal, push_text};
 use std::alloc::{AllocError, Global};
 
 fn push_said(into: &mut Vec<u8>, said: &Said) -> Result<(), AllocError>

@@ -1,14 +1,14 @@
 //! What is said of one edit.
 
 ghost use Rattle.std.specs.Prelude.{◌≡◌, ◌++◌, map, string_bytes, IfOk, OnOk};
-ghost use Rattle.json_report.specs.report_text.specs.CellWords.{server_name, cell_words};
-ghost use Rattle.json_report.specs.report_text.specs.Refusals.{spaced};
+ghost use Rattle.report_text.specs.CellWords.{server_name, cell_words};
+ghost use Rattle.report_text.specs.Refusals.{spaced};
 ghost use Rattle.edit_report.specs.Said as spec;
 
-use json_report::net_cells::Cell;
-use json_report::net_model::{Done, Network};
-use json_report::report_text::{cell_text, server_name};
+use net_cells::Cell;
+use net_cells::net_model::{Done, Network};
 use net_edits::EditFault;
+use report_text::{cell_text, server_name};
 use std::alloc::{AllocError, Global};
 
 /// What is said of an edit.

@@ -2,20 +2,20 @@
 use Rattle.std.proofs.Common.{◌≡◌, ℕ, ◌+◌, List, [], ◌∷◌, length, Option, None, true, false, sym, ap, ◌∙◌, subst, refl, arith, inl, inr}
 use Rattle.std.proofs.lemmas.Bool.{le-ltb}
 use Rattle.std.proofs.lemmas.Option.{slice_get_past}
-use Rattle.run_laws.specs.Servers.{queue_count}
-use Rattle.cell_store.specs.net_model.specs.Networks.{Net, NetServer}
-use Rattle.cell_store.specs.net_model.specs.Orders.{IsOrder}
-use Rattle.cell_store.specs.net_cells.specs.declared.cell.Cell.{Cell}
-use Rattle.cell_store.specs.net_cells.specs.declared.cell.Scope.{Scope}
-use Rattle.cell_store.specs.net_cells.specs.declared.cell.Scope.TheVariants.{EachHop, EachHopButLast, EachQueue, EachPriorityQueue, EachPath}
-use Rattle.cell_store.specs.net_cells.specs.Numbered.{hops, queues, levels, levels_of, discipline_of}
-use Rattle.cell_store.specs.net_cells.specs.Cells.{scope_of, is_in_scope, has_cell}
-use Rattle.cell_store.specs.net_cells.specs.Meanings.{Meaning, CellTable}
-use Rattle.cell_store.specs.net_cells.specs.Order.{evaluation_order}
-use Rattle.cell_store.specs.net_cells.proofs.Lists.{Has, contains_has}
-use Rattle.cell_store.specs.net_cells.proofs.Members.{order_has}
+use Rattle.net_cells.specs.run_laws.specs.Servers.{queue_count}
+use Rattle.net_cells.specs.net_model.specs.Networks.{Net, NetServer}
+use Rattle.net_cells.specs.net_model.specs.Orders.{IsOrder}
+use Rattle.net_cells.specs.declared.cell.Cell.{Cell}
+use Rattle.net_cells.specs.declared.cell.Scope.{Scope}
+use Rattle.net_cells.specs.declared.cell.Scope.TheVariants.{EachHop, EachHopButLast, EachQueue, EachPriorityQueue, EachPath}
+use Rattle.net_cells.specs.Numbered.{hops, queues, levels, levels_of, discipline_of}
+use Rattle.net_cells.specs.Cells.{scope_of, is_in_scope, has_cell}
+use Rattle.net_cells.specs.Meanings.{Meaning, CellTable}
+use Rattle.net_cells.specs.Order.{evaluation_order}
+use Rattle.net_cells.proofs.Lists.{Has, contains_has}
+use Rattle.net_cells.proofs.Members.{order_has}
 use Rattle.version_table.specs.Histories.{History}
-use Rattle.cell_store.specs.cell_changes.specs.Changes.{TouchedOf, changed, no_more, taken}
+use Rattle.cell_changes.specs.Changes.{TouchedOf, changed, no_more, taken}
 use Rattle.cell_store.specs.Placed.{placed}
 use Rattle.cell_store.specs.Edits.{AllAnswered, IsEditOf, SameButAt}
 use Rattle.edit_store.specs.Stored.{IsStored}

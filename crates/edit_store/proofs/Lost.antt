@@ -2,12 +2,12 @@
 use Rattle.std.proofs.Common.{◌≡◌, ℕ, ◌==◌, List, Bool, true, false, sym, ap, ◌∙◌, subst, refl}
 use Rattle.std.specs.Prelude.{Contains, not}
 use Rattle.std.proofs.lemmas.Bool.{eqb-true, eqb-false, not-true}
-use Rattle.cell_store.specs.net_model.specs.Networks.{Net}
-use Rattle.cell_store.specs.net_model.specs.Accepted.{IsAccepted}
-use Rattle.cell_store.specs.net_cells.specs.declared.cell.Cell.{Cell}
-use Rattle.cell_store.specs.net_cells.specs.Cells.{has_cell}
-use Rattle.cell_store.specs.net_cells.proofs.Lists.{Has, contains_has, has_contains, has_filter, filter_has}
-use Rattle.cell_store.specs.cell_changes.proofs.HasSlots.{slots_are_own}
+use Rattle.net_cells.specs.net_model.specs.Networks.{Net}
+use Rattle.net_cells.specs.net_model.specs.Accepted.{IsAccepted}
+use Rattle.net_cells.specs.declared.cell.Cell.{Cell}
+use Rattle.net_cells.specs.Cells.{has_cell}
+use Rattle.net_cells.proofs.Lists.{Has, contains_has, has_contains, has_filter, filter_has}
+use Rattle.cell_changes.proofs.HasSlots.{slots_are_own}
 use Rattle.cell_rules.specs.declared.site.Site.{Site}
 use Rattle.cell_rules.specs.declared.site.Site.TheVariants.{Anywhere, Server, Flow}
 use Rattle.cell_rules.specs.Finding.{AreCellsOf, HaveSameCellsBut, gone_of}

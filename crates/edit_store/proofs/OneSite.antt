@@ -5,11 +5,11 @@ use Rattle.std.specs.List.{position}
 use Rattle.std.proofs.lemmas.Bool.{cases_lt}
 use Rattle.std.proofs.lemmas.List.Quantifiers.{position-Some}
 use Rattle.std.proofs.lemmas.List.{get_or_past, get_or_append_left, get_or-set_other, length-set}
-use Rattle.cell_store.specs.net_model.specs.declared.edit.Edit.{Edit}
-use Rattle.cell_store.specs.net_model.specs.declared.edit.Edit.TheVariants.{Rate, Latency, Link, Quantum, Bucket, Stair, Packet, Route, Add, Drop, Undo}
-use Rattle.cell_store.specs.net_model.specs.Networks.{Net, NetServer, NetFlow}
-use Rattle.upp_curve.specs.Kinds.{bucket}
-use Rattle.cell_store.specs.net_cells.specs.Numbered.{discipline}
+use Rattle.net_cells.specs.net_model.specs.declared.edit.Edit.{Edit}
+use Rattle.net_cells.specs.net_model.specs.declared.edit.Edit.TheVariants.{Rate, Latency, Link, Quantum, Bucket, Stair, Packet, Route, Add, Drop, Undo}
+use Rattle.net_cells.specs.net_model.specs.Networks.{Net, NetServer, NetFlow}
+use Rattle.net_cells.specs.upp_curve.specs.Kinds.{bucket}
+use Rattle.net_cells.specs.Numbered.{discipline}
 use Rattle.net_edits.specs.Refusals.{Or, and_then, only_if}
 use Rattle.net_edits.specs.Lookups.{number_of, is_flow_named, server_number, flow_number}
 use Rattle.net_edits.specs.Changed as change

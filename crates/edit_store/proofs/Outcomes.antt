@@ -1,19 +1,19 @@
 -- What a store answers to an edit, from what the steps on the way answer.
 use Rattle.std.proofs.Common.{◌≡◌, ◌≢◌, ℕ, ◌+◌, ◌≤◌, List, [], ◌∷◌, ◌++◌, length, sum_by, sym, ap, ◌∙◌, subst, refl, inl, inr}
 use Rattle.std.specs.Prelude.{Ok, Err}
-use Rattle.upp_limits.specs.declared.op_kind.OpFault.{OpFault}
-use Rattle.upp_limits.specs.declared.op_kind.OpFault.TheVariants as operator
-use Rattle.cell_store.specs.net_model.specs.declared.edit.Edit.{Edit}
-use Rattle.cell_store.specs.net_model.specs.declared.edit.Edit.TheVariants.{Undo}
-use Rattle.cell_store.specs.net_model.specs.Networks.{Net}
-use Rattle.cell_store.specs.net_graph.specs.Faults.{IsGraphFault}
-use Rattle.cell_store.specs.net_graph.specs.declared.placing.GraphFault.{GraphFault}
-use Rattle.cell_store.specs.net_graph.specs.declared.placing.GraphFault.TheVariants as graph
-use Rattle.cell_store.specs.net_cells.specs.declared.cell.Cell.{Cell}
-use Rattle.cell_store.specs.net_cells.proofs.Lists.{contains_has}
-use Rattle.cell_store.specs.net_cells.specs.Work.{work}
-use Rattle.cell_store.specs.cell_table.specs.declared.fault.AnalysisFault.{AnalysisFault}
-use Rattle.cell_store.specs.cell_table.specs.declared.fault.AnalysisFault.TheVariants as analysis
+use Rattle.net_cells.specs.upp_limits.specs.declared.op_kind.OpFault.{OpFault}
+use Rattle.net_cells.specs.upp_limits.specs.declared.op_kind.OpFault.TheVariants as operator
+use Rattle.net_cells.specs.net_model.specs.declared.edit.Edit.{Edit}
+use Rattle.net_cells.specs.net_model.specs.declared.edit.Edit.TheVariants.{Undo}
+use Rattle.net_cells.specs.net_model.specs.Networks.{Net}
+use Rattle.net_cells.specs.net_graph.specs.Faults.{IsGraphFault}
+use Rattle.net_cells.specs.net_graph.specs.declared.placing.GraphFault.{GraphFault}
+use Rattle.net_cells.specs.net_graph.specs.declared.placing.GraphFault.TheVariants as graph
+use Rattle.net_cells.specs.declared.cell.Cell.{Cell}
+use Rattle.net_cells.proofs.Lists.{contains_has}
+use Rattle.net_cells.specs.Work.{work}
+use Rattle.cell_table.specs.declared.fault.AnalysisFault.{AnalysisFault}
+use Rattle.cell_table.specs.declared.fault.AnalysisFault.TheVariants as analysis
 use Rattle.net_edits.specs.declared.fault.EditFault.{EditFault}
 use Rattle.net_edits.specs.declared.fault.EditFault.TheVariants.{UnknownName, NameTaken, BadValue, LimitReached, Cycle, TooMany, TooWide, NothingToUndo, NoMemory}
 use Rattle.net_edits.specs.Edited.{edited}

@@ -5,13 +5,13 @@ use Rattle.std.specs.Option.{option_map}
 use Rattle.std.proofs.lemmas.List.{take-map, take_all, take_more, length-map, set-get_or, get_or-map}
 use Rattle.std.proofs.lemmas.Option.{get_or_from_slice_get, slice_get_within, slice_get-get_or}
 use Rattle.std.proofs.lemmas.List.Elements.{All-push, All-pop, All-nil}
-use Rattle.cell_store.specs.net_model.specs.declared.flow.Flow.{Flow}
-use Rattle.cell_store.specs.net_model.specs.declared.server.Server.{Server}
-use Rattle.cell_store.specs.net_model.specs.Networks.{Net, NetServer, NetFlow}
-use Rattle.cell_store.specs.net_model.specs.Accepted.{IsAccepted}
-use Rattle.cell_store.specs.net_model.specs.Views.{server_of, flow_of, servers_of, flows_of, net_of}
-use Rattle.cell_store.specs.net_cells.specs.Meanings.{Meaning}
-use Rattle.cell_store.specs.net_cells.proofs.Lists.{contains_has}
+use Rattle.net_cells.specs.net_model.specs.declared.flow.Flow.{Flow}
+use Rattle.net_cells.specs.net_model.specs.declared.server.Server.{Server}
+use Rattle.net_cells.specs.net_model.specs.Networks.{Net, NetServer, NetFlow}
+use Rattle.net_cells.specs.net_model.specs.Accepted.{IsAccepted}
+use Rattle.net_cells.specs.net_model.specs.Views.{server_of, flow_of, servers_of, flows_of, net_of}
+use Rattle.net_cells.specs.Meanings.{Meaning}
+use Rattle.net_cells.proofs.Lists.{contains_has}
 use Rattle.net_edits.specs.Changed as change
 use Rattle.net_edits.proofs.Replaced.{server_replaced, flow_replaced}
 use Rattle.version_table.specs.Histories.{History}

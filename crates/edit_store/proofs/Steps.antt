@@ -3,19 +3,19 @@ use Rattle.std.proofs.Common.{◌≡◌, ◌≢◌, ℕ, ◌<◌, ◌==◌, List
 use Rattle.std.specs.Prelude.{MatchOption, Ok}
 use Rattle.std.proofs.lemmas.List.{get_or_push, get_or_append_left, length_push}
 use Rattle.std.proofs.lemmas.Bool.Decides.{eqb_tells}
-use Rattle.cell_store.specs.net_model.specs.Networks.{Net}
-use Rattle.cell_store.specs.net_model.specs.declared.edit.Edit.{Edit}
-use Rattle.cell_store.specs.net_graph.proofs.OneOrders.{one_order}
-use Rattle.cell_store.specs.net_cells.specs.declared.cell.Cell.{Cell}
-use Rattle.cell_store.specs.net_cells.specs.Cells.{has_cell}
-use Rattle.cell_store.specs.net_cells.specs.Meanings.{Meaning}
-use Rattle.cell_store.specs.net_cells.specs.Order.{evaluation_order}
-use Rattle.cell_store.specs.net_cells.specs.Equations.{MeetsEquations}
-use Rattle.cell_store.specs.net_cells.proofs.Lists.{contains_has}
-use Rattle.cell_store.specs.net_cells.proofs.Tables.{answered_meets}
+use Rattle.net_cells.specs.net_model.specs.Networks.{Net}
+use Rattle.net_cells.specs.net_model.specs.declared.edit.Edit.{Edit}
+use Rattle.net_cells.specs.net_graph.proofs.OneOrders.{one_order}
+use Rattle.net_cells.specs.declared.cell.Cell.{Cell}
+use Rattle.net_cells.specs.Cells.{has_cell}
+use Rattle.net_cells.specs.Meanings.{Meaning}
+use Rattle.net_cells.specs.Order.{evaluation_order}
+use Rattle.net_cells.specs.Equations.{MeetsEquations}
+use Rattle.net_cells.proofs.Lists.{contains_has}
+use Rattle.net_cells.proofs.Tables.{answered_meets}
 use Rattle.version_table.specs.Histories.{History}
-use Rattle.cell_store.specs.cell_changes.specs.Changes.{TouchedOf}
-use Rattle.cell_store.specs.cell_changes.proofs.CarriedOver.{touched_has, one_touched_list}
+use Rattle.cell_changes.specs.Changes.{TouchedOf}
+use Rattle.cell_changes.proofs.CarriedOver.{touched_has, one_touched_list}
 use Rattle.cell_store.specs.Placed.{placed}
 use Rattle.cell_store.specs.Edits.{IsEditedTable}
 use Rattle.cell_store.proofs.Fronts.{are_touched}

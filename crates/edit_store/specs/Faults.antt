@@ -1,8 +1,8 @@
 -- Why an edit is refused, where its network has a cycle or no table. Own choice.
-use Rattle.cell_store.specs.net_graph.specs.declared.placing.GraphFault.{GraphFault}
-use Rattle.cell_store.specs.net_graph.specs.declared.placing.GraphFault.TheVariants as graph
-use Rattle.cell_store.specs.cell_table.specs.declared.fault.AnalysisFault.{AnalysisFault}
-use Rattle.cell_store.specs.cell_table.specs.declared.fault.AnalysisFault.TheVariants as analysis
+use Rattle.net_cells.specs.net_graph.specs.declared.placing.GraphFault.{GraphFault}
+use Rattle.net_cells.specs.net_graph.specs.declared.placing.GraphFault.TheVariants as graph
+use Rattle.cell_table.specs.declared.fault.AnalysisFault.{AnalysisFault}
+use Rattle.cell_table.specs.declared.fault.AnalysisFault.TheVariants as analysis
 use Rattle.net_edits.specs.declared.fault.EditFault.{EditFault}
 use Rattle.net_edits.specs.declared.fault.EditFault.TheVariants.{Cycle, TooMany, TooWide, NoMemory}
 

@@ -1,10 +1,10 @@
 -- What an edit replaced of a network, and the networks that come back where that is put back. Own choice.
 use Rattle.std.specs.Prelude.{◌≡◌, ◌⊎◌, ℕ, ◌-◌, ◌<◌, List, [], ◌∷◌, length, take, Option, All}
 use Rattle.std.specs.Option.{option_map}
-use Rattle.cell_store.specs.net_model.specs.Networks.{Net, NetServer, NetFlow}
-use Rattle.cell_store.specs.net_model.specs.Accepted.{IsAccepted}
-use Rattle.cell_store.specs.net_model.specs.Views.{server_of, flow_of}
-use Rattle.cell_store.specs.net_cells.specs.Meanings.{Meaning}
+use Rattle.net_cells.specs.net_model.specs.Networks.{Net, NetServer, NetFlow}
+use Rattle.net_cells.specs.net_model.specs.Accepted.{IsAccepted}
+use Rattle.net_cells.specs.net_model.specs.Views.{server_of, flow_of}
+use Rattle.net_cells.specs.Meanings.{Meaning}
 use Rattle.net_edits.specs.Changed.{put_server, put_flow, at_server, at_flow, with_more}
 use Rattle.version_table.specs.Histories.{History}
 use Rattle.cell_rules.specs.declared.site.Site.{Site}

@@ -1,13 +1,13 @@
 -- Where an edit changes a network: at the server or the flow that it names, or at the flow that it adds. Own choice.
 use Rattle.std.specs.Prelude.{◌≡◌, ℕ, length, false, IsTrue, Ok, Err, string_bytes}
-use Rattle.cell_store.specs.net_model.specs.declared.edit.Edit.{Edit}
-use Rattle.cell_store.specs.net_model.specs.declared.edit.Edit.TheVariants as edit
-use Rattle.cell_store.specs.net_model.specs.Networks.{Net}
-use Rattle.cell_store.specs.net_cells.specs.declared.cell.Cell.{Cell}
-use Rattle.cell_store.specs.net_cells.specs.Cells.{has_cell}
+use Rattle.net_cells.specs.net_model.specs.declared.edit.Edit.{Edit}
+use Rattle.net_cells.specs.net_model.specs.declared.edit.Edit.TheVariants as edit
+use Rattle.net_cells.specs.net_model.specs.Networks.{Net}
+use Rattle.net_cells.specs.declared.cell.Cell.{Cell}
+use Rattle.net_cells.specs.Cells.{has_cell}
 use Rattle.net_edits.specs.Refusals.{Or}
 use Rattle.net_edits.specs.Lookups.{server_number, flow_number}
-use Rattle.cell_store.specs.cell_changes.specs.Changes.{HasSameRule}
+use Rattle.cell_changes.specs.Changes.{HasSameRule}
 use Rattle.cell_rules.specs.declared.site.Site.{Site}
 use Rattle.cell_rules.specs.declared.site.Site.TheVariants.{Anywhere, Server, Flow}
 use Rattle.cell_rules.specs.Sites.{IsSameBut, is_candidate}

@@ -1,15 +1,15 @@
 -- Networks that come one after the other, each edited from the one before, with a version of the values for each. Own
 -- choice.
 use Rattle.std.specs.Prelude.{◌≡◌, ℕ, ◌<◌, List, [], ◌∷◌, ◌++◌, length, Option, None, false, Contains, IsTrue, slice_index_or}
-use Rattle.cell_store.specs.net_model.specs.Networks.{Net}
-use Rattle.cell_store.specs.net_model.specs.Orders.{IsOrder}
-use Rattle.cell_store.specs.net_cells.specs.declared.cell.Cell.{Cell}
-use Rattle.cell_store.specs.net_cells.specs.Cells.{has_cell}
-use Rattle.cell_store.specs.net_cells.specs.Meanings.{Meaning}
-use Rattle.cell_store.specs.net_cells.specs.Order.{evaluation_order}
+use Rattle.net_cells.specs.net_model.specs.Networks.{Net}
+use Rattle.net_cells.specs.net_model.specs.Orders.{IsOrder}
+use Rattle.net_cells.specs.declared.cell.Cell.{Cell}
+use Rattle.net_cells.specs.Cells.{has_cell}
+use Rattle.net_cells.specs.Meanings.{Meaning}
+use Rattle.net_cells.specs.Order.{evaluation_order}
 use Rattle.version_table.specs.Histories.{History}
-use Rattle.cell_store.specs.cell_changes.specs.Slots.{HasSlot}
-use Rattle.cell_store.specs.cell_changes.specs.Changes.{TouchedOf}
+use Rattle.cell_changes.specs.Slots.{HasSlot}
+use Rattle.cell_changes.specs.Changes.{TouchedOf}
 use Rattle.cell_store.specs.Placed.{placed}
 use Rattle.cell_store.specs.Edits.{AllAnswered}
 

@@ -3,8 +3,8 @@
 ghost use Rattle.std.specs.Prelude.{◌≡◌};
 ghost use Rattle.edit_store.specs.Faults as spec;
 
-use cell_store::cell_table::AnalysisFault;
-use cell_store::net_graph::GraphFault;
+use cell_table::AnalysisFault;
+use net_cells::net_graph::GraphFault;
 use net_edits::EditFault;
 
 pub(crate) fn graph_fault(fault: GraphFault) -> EditFault

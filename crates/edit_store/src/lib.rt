@@ -7,7 +7,5 @@ mod replaced;
 mod site;
 mod store;
 
-pub use cell_rules::cell_eval;
-pub use net_edits;
 pub use site::{edits_have_one_site, edits_keep_other_rules};
 pub use store::Store;

@@ -1,8 +1,8 @@
 //! What an edit makes of a network, and which cells it touches there.
 
 ghost use Rattle.std.specs.Prelude.{◌≡◌, ◌≢◌, ◌≤◌, length, IfOk, IfErr};
-ghost use Rattle.cell_store.specs.net_model.specs.declared.edit.Edit.TheVariants.{Undo};
-ghost use Rattle.cell_store.specs.net_model.specs.Orders.{IsOrder};
+ghost use Rattle.net_cells.specs.net_model.specs.declared.edit.Edit.TheVariants.{Undo};
+ghost use Rattle.net_cells.specs.net_model.specs.Orders.{IsOrder};
 ghost use Rattle.net_edits.specs.Edited.{edited};
 ghost use Rattle.net_edits.specs.Replies.{IsOverNone};
 ghost use Rattle.cell_rules.specs.Finding.{HaveSameCellsBut};
@@ -12,9 +12,9 @@ ghost use Rattle.edit_store.specs.Applied.{Gives, IsPlanned, IsUnplanned};
 use crate::faults::graph_fault;
 use crate::site::{edits_are_made_at_one_site, edits_have_one_site, site_of};
 use cell_rules::{Site, cells_of, gone_cells, touched_cells};
-use cell_store::net_cells::Cell;
-use cell_store::net_graph::order;
-use cell_store::net_model::{Edit, Network};
+use net_cells::Cell;
+use net_cells::net_graph::order;
+use net_cells::net_model::{Edit, Network};
 use net_edits::{EditFault, edited_network};
 use std::alloc::{AllocError, Global};
 

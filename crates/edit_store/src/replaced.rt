@@ -2,9 +2,9 @@
 
 ghost use Rattle.std.specs.Prelude.{◌≡◌, IfOk, slice_set};
 ghost use Rattle.std.specs.Option.{option_map};
-ghost use Rattle.cell_store.specs.net_model.specs.Accepted.{IsAccepted};
-ghost use Rattle.cell_store.specs.net_model.specs.Networks.{Net};
-ghost use Rattle.cell_store.specs.net_model.specs.Views.{server_of, flow_of};
+ghost use Rattle.net_cells.specs.net_model.specs.Accepted.{IsAccepted};
+ghost use Rattle.net_cells.specs.net_model.specs.Networks.{Net};
+ghost use Rattle.net_cells.specs.net_model.specs.Views.{server_of, flow_of};
 ghost use Rattle.net_edits.specs.Changed.{put_server, put_flow};
 ghost use Rattle.cell_rules.specs.declared.site.Site.TheVariants as site;
 ghost use Rattle.edit_store.specs.Applied.{Gives};
@@ -13,8 +13,8 @@ ghost use Rattle.edit_store.specs.Replaced.{IsReplacedAt, without_last};
 
 use crate::site::{edits_are_made_at_one_site, site_of};
 use cell_rules::Site;
-use cell_store::net_cells::server;
-use cell_store::net_model::{Edit, Flow, Network, Server};
+use net_cells::net_model::{Edit, Flow, Network, Server};
+use net_cells::server;
 use std::alloc::{AllocError, Global};
 
 /// What an edit replaced of a network, as it was.

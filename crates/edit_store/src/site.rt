@@ -6,7 +6,7 @@ ghost use Rattle.edit_store.specs.Sites as spec;
 ghost use Rattle.edit_store.specs.Sites.{EditsAreMadeAtOneSite, EditsHaveOneSite, EditsKeepOtherRules};
 
 use cell_rules::Site;
-use cell_store::net_model::{Edit, Network};
+use net_cells::net_model::{Edit, Network};
 
 fn server_site(net: &Network, name: &str) -> Site
     ensures { result ≡ spec.at_server (server_number net.now name.now) }

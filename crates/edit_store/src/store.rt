@@ -3,10 +3,10 @@
 use crate::faults::analysis_fault;
 use crate::plan::{Planned, lost_cells, plan};
 use crate::replaced::{Replaced, no_network, put_back, replaced_by};
-use cell_store::cell_table::{AnalysisFault, CellValue, Evaluator, Table};
-use cell_store::net_cells::{Cell, cells};
-use cell_store::net_model::{Done, Edit, Network};
 use cell_store::{Values, edited_values, made_anew};
+use cell_table::{AnalysisFault, CellValue, Evaluator, Table};
+use net_cells::net_model::{Done, Edit, Network};
+use net_cells::{Cell, cells};
 use net_edits::{EditFault, edited_network};
 use std::alloc::Global;
 use std::marker::Model;
@@ -51,15 +51,15 @@ impl<V: CellValue + Drop> Table<V> for Store<V> {
 impl<V: CellValue + Drop> Store<V> {
     ghost use Rattle.std.specs.Prelude.{◌≡◌, ◌≢◌, ◌+◌, ◌-◌, ◌^◌, ◌<◌, ◌≤◌, ℕ, List, [], sum_by, length, IfOk, IfErr};
     ghost use Rattle.std.specs.Prelude.{OnOk, OnErr, MatchOption};
-    ghost use Rattle.cell_store.specs.net_model.specs.declared.edit.Edit.TheVariants.{Undo};
-    ghost use Rattle.cell_store.specs.net_model.specs.Networks.{Net};
-    ghost use Rattle.cell_store.specs.net_model.specs.Orders.{IsOrder};
-    ghost use Rattle.cell_store.specs.net_cells.specs.declared.cell.Cell.{Cell};
-    ghost use Rattle.cell_store.specs.net_cells.specs.Equations.{MeetsEquations};
-    ghost use Rattle.cell_store.specs.net_cells.specs.Order.{evaluation_order};
-    ghost use Rattle.cell_store.specs.net_cells.specs.Work.{work};
-    ghost use Rattle.cell_store.specs.net_cells.specs.MemoryEnds.{MemoryEnds};
-    ghost use Rattle.cell_store.specs.cell_changes.specs.Slots.{slots};
+    ghost use Rattle.net_cells.specs.net_model.specs.declared.edit.Edit.TheVariants.{Undo};
+    ghost use Rattle.net_cells.specs.net_model.specs.Networks.{Net};
+    ghost use Rattle.net_cells.specs.net_model.specs.Orders.{IsOrder};
+    ghost use Rattle.net_cells.specs.declared.cell.Cell.{Cell};
+    ghost use Rattle.net_cells.specs.Equations.{MeetsEquations};
+    ghost use Rattle.net_cells.specs.Order.{evaluation_order};
+    ghost use Rattle.net_cells.specs.Work.{work};
+    ghost use Rattle.net_cells.specs.MemoryEnds.{MemoryEnds};
+    ghost use Rattle.cell_changes.specs.Slots.{slots};
     ghost use Rattle.cell_store.specs.Edits.{IsFirst, IsFirstTouched, RefusesFor, EditEnds};
     ghost use Rattle.edit_store.specs.Stored.{AreTouched, AreLost, IsStored, IsAdvanced, IsBack};
     ghost use Rattle.edit_store.specs.Replaced.{put_back};

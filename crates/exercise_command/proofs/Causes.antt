@@ -1,13 +1,13 @@
 -- Each status of a reply has its cause.
 use Rattle.std.proofs.Common.{◌≡◌, ℕ, List, inl, inr, ap}
 use Rattle.std.specs.Prelude.{Option, Some, None}
-use Rattle.upp_limits.specs.declared.own_limits.OverLimit.{OverLimit}
-use Rattle.upp_limits.specs.declared.own_limits.OverLimit.TheVariants.{TooMany, TooWide}
-use Rattle.net_model.specs.declared.breach.Breach.{Breach}
-use Rattle.simulated_findings.specs.command_replies.specs.Replies.{Reply, over}
-use Rattle.simulated_findings.specs.run_findings.specs.Findings.{status_by}
-use Rattle.exercise_report.specs.exercise_load.specs.Workloads.{network_of}
-use Rattle.simulated_findings.specs.command_replies.proofs.Statuses.{status_is}
+use Rattle.sim_bounds.specs.upp_limits.specs.declared.own_limits.OverLimit.{OverLimit}
+use Rattle.sim_bounds.specs.upp_limits.specs.declared.own_limits.OverLimit.TheVariants.{TooMany, TooWide}
+use Rattle.sim_bounds.specs.net_model.specs.declared.breach.Breach.{Breach}
+use Rattle.command_replies.specs.Replies.{Reply, over}
+use Rattle.run_findings.specs.Findings.{status_by}
+use Rattle.exercise_load.specs.Workloads.{network_of}
+use Rattle.command_replies.proofs.Statuses.{status_is}
 use Rattle.exercise_command.specs.OnSeeds as on
 use Rattle.exercise_command.specs.OnSeeds.{IsCellOver, IsSummarised, IsWide}
 use Rattle.exercise_command.specs.ExerciseLaws.{HasCause, ExerciseStatusesHaveCauses}

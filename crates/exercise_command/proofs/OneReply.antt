@@ -1,20 +1,20 @@
 -- A workload has one reply; within the limits it is a summary.
 use Rattle.std.proofs.Common.{◌≡◌, ℕ, List, inl, inr, subst}
 use Rattle.std.specs.Prelude.{◌⊎◌}
-use Rattle.upp_limits.specs.LimitTest.{fault_of}
-use Rattle.net_model.specs.Orders.{IsOrder}
-use Rattle.net_graph.proofs.OneOrders.{one_order}
-use Rattle.simulated_findings.specs.net_cells.specs.Equations.{MeetsEquations}
-use Rattle.simulated_findings.specs.net_cells.specs.FirstOver.{AnswersAll}
-use Rattle.simulated_findings.specs.net_cells.specs.Meanings.{CellTable}
-use Rattle.simulated_findings.specs.net_cells.specs.Order.{evaluation_order}
-use Rattle.simulated_findings.specs.simulated_sizes.specs.Laws.{AreCurves}
-use Rattle.simulated_findings.specs.command_replies.specs.Replies.{Reply}
-use Rattle.simulated_findings.specs.command_replies.proofs.OneRefusal.{IsOver, one_over, no_answers}
-use Rattle.simulated_findings.specs.run_findings.specs.Statuses.{IsOfReport}
+use Rattle.sim_bounds.specs.upp_limits.specs.LimitTest.{fault_of}
+use Rattle.sim_bounds.specs.net_model.specs.Orders.{IsOrder}
+use Rattle.net_cells.specs.net_graph.proofs.OneOrders.{one_order}
+use Rattle.net_cells.specs.Equations.{MeetsEquations}
+use Rattle.net_cells.specs.FirstOver.{AnswersAll}
+use Rattle.net_cells.specs.Meanings.{CellTable}
+use Rattle.net_cells.specs.Order.{evaluation_order}
+use Rattle.simulated_sizes.specs.Laws.{AreCurves}
+use Rattle.command_replies.specs.Replies.{Reply}
+use Rattle.command_replies.proofs.OneRefusal.{IsOver, one_over, no_answers}
+use Rattle.run_findings.specs.Statuses.{IsOfReport}
 use Rattle.simulated_findings.proofs.OneSimulation.{same_simulation, on_simulation}
-use Rattle.exercise_report.specs.exercise_load.specs.Workloads.{network_of, trace_of}
-use Rattle.exercise_report.specs.exercise_load.proofs.Stand.{workloads_stand}
+use Rattle.exercise_load.specs.Workloads.{network_of, trace_of}
+use Rattle.exercise_load.proofs.Stand.{workloads_stand}
 use Rattle.exercise_report.specs.Summary.{summary_of}
 use Rattle.exercise_report.proofs.OneSummary.{one_summary}
 use Rattle.exercise_command.specs.OnSeeds as on

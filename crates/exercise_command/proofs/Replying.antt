@@ -1,17 +1,17 @@
 -- The reply on a workload, from its parts.
 use Rattle.std.proofs.Common.{◌≡◌, ℕ, List, inl, inr, sym, subst}
-use Rattle.upp_limits.specs.declared.own_limits.OverLimit.{OverLimit}
-use Rattle.net_model.specs.Networks.{Net}
-use Rattle.net_model.specs.Traces.{SpecTrace}
-use Rattle.net_model.specs.Walks.{IsCycle, IsFeedForward}
-use Rattle.simulated_findings.specs.stated_runs.specs.FromTraces.{IsTraceOf}
-use Rattle.simulated_findings.specs.net_cells.specs.Meanings.{CellTable}
-use Rattle.simulated_findings.specs.command_replies.specs.Replies.{Reply}
+use Rattle.sim_bounds.specs.upp_limits.specs.declared.own_limits.OverLimit.{OverLimit}
+use Rattle.sim_bounds.specs.net_model.specs.Networks.{Net}
+use Rattle.sim_bounds.specs.net_model.specs.Traces.{SpecTrace}
+use Rattle.sim_bounds.specs.net_model.specs.Walks.{IsCycle, IsFeedForward}
+use Rattle.sim_bounds.specs.stated_runs.specs.FromTraces.{IsTraceOf}
+use Rattle.net_cells.specs.Meanings.{CellTable}
+use Rattle.command_replies.specs.Replies.{Reply}
 use Rattle.simulated_findings.specs.Found.{IsSimulationReplyBy}
-use Rattle.exercise_report.specs.exercise_load.specs.Loads.{AreOfWorkload}
-use Rattle.exercise_report.specs.exercise_load.specs.Workloads.{network_of}
+use Rattle.exercise_load.specs.Loads.{AreOfWorkload}
+use Rattle.exercise_load.specs.Workloads.{network_of}
 use Rattle.exercise_report.specs.Summary.{summary_of}
-use Rattle.exercise_report.specs.exercise_load.proofs.Stand.{workloads_stand}
+use Rattle.exercise_load.proofs.Stand.{workloads_stand}
 use Rattle.exercise_command.specs.OnSeeds as on
 use Rattle.exercise_command.specs.OnSeeds.{IsCellOver, IsAnalysed, IsExerciseReply, IsReplyBeside}
 

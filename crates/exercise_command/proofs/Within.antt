@@ -6,25 +6,25 @@ use Rattle.rational.specs.Rational.{ℚ}
 use Rattle.rational.specs.Extended.{Ext, ◌≤ₑ◌}
 use Rattle.rational.specs.declared.Extended.TheVariants.{Fin}
 use Rattle.rational.proofs.ExtendedOrder.{le_ext_trans}
-use Rattle.run_laws.specs.Delays.{AreAtMost}
-use Rattle.run_laws.specs.FlowDelays.{delays}
-use Rattle.run_laws.specs.Lawful.{IsLawful}
-use Rattle.net_model.specs.Accepted.{IsAccepted}
-use Rattle.net_model.specs.Networks.{Net}
-use Rattle.net_model.specs.NetRoutes.{routes_of}
-use Rattle.net_model.specs.Orders.{IsOrder}
-use Rattle.simulated_findings.specs.net_cells.specs.Equations.{MeetsEquations}
-use Rattle.simulated_findings.specs.net_cells.specs.Meanings.{CellTable}
-use Rattle.simulated_findings.specs.net_cells.specs.Numbered.{is_live}
-use Rattle.simulated_findings.specs.net_bounds.specs.NetRuns.{IsRunOf}
-use Rattle.simulated_findings.specs.net_bounds.proofs.Kept.{table_bounds_every_run}
-use Rattle.simulated_findings.specs.command_replies.specs.Replies.{Reply}
-use Rattle.simulated_findings.specs.run_findings.specs.RunBounds.{AreWithinBounds}
-use Rattle.simulated_findings.specs.run_findings.proofs.Bounded.{within}
+use Rattle.sim_bounds.specs.run_laws.specs.Delays.{AreAtMost}
+use Rattle.sim_bounds.specs.run_laws.specs.FlowDelays.{delays}
+use Rattle.sim_bounds.specs.run_laws.specs.Lawful.{IsLawful}
+use Rattle.sim_bounds.specs.net_model.specs.Accepted.{IsAccepted}
+use Rattle.sim_bounds.specs.net_model.specs.Networks.{Net}
+use Rattle.sim_bounds.specs.net_model.specs.NetRoutes.{routes_of}
+use Rattle.sim_bounds.specs.net_model.specs.Orders.{IsOrder}
+use Rattle.net_cells.specs.Equations.{MeetsEquations}
+use Rattle.net_cells.specs.Meanings.{CellTable}
+use Rattle.net_cells.specs.Numbered.{is_live}
+use Rattle.net_bounds.specs.NetRuns.{IsRunOf}
+use Rattle.net_bounds.proofs.Kept.{table_bounds_every_run}
+use Rattle.command_replies.specs.Replies.{Reply}
+use Rattle.run_findings.specs.RunBounds.{AreWithinBounds}
+use Rattle.run_findings.proofs.Bounded.{within}
 use Rattle.simulated_findings.proofs.Lawful.{lawful}
-use Rattle.simulated_findings.specs.run_findings.proofs.Reports.{tells}
-use Rattle.exercise_report.specs.exercise_load.specs.Workloads.{network_of, trace_of}
-use Rattle.exercise_report.specs.exercise_load.proofs.Stand.{workloads_stand, flow_at, flow_count}
+use Rattle.run_findings.proofs.Reports.{tells}
+use Rattle.exercise_load.specs.Workloads.{network_of, trace_of}
+use Rattle.exercise_load.proofs.Stand.{workloads_stand, flow_at, flow_count}
 use Rattle.exercise_report.specs.Summary.{summary_of}
 use Rattle.exercise_report.specs.Largest.{largest_bound, largest_delay}
 use Rattle.exercise_report.proofs.LargestIs.{largest_bound_is, delays_below}

@@ -2,24 +2,24 @@
 use Rattle.std.specs.Prelude.{◌≡◌, ◌≢◌, ◌<◌, ◌^◌, ℕ, List, IsTrue}
 use Rattle.rational.specs.Extended.{◌≤ₑ◌}
 use Rattle.rational.specs.declared.Extended.TheVariants.{Fin}
-use Rattle.upp_limits.specs.declared.op_kind.OpFault.{OpFault}
-use Rattle.upp_limits.specs.declared.own_limits.OverLimit.TheVariants.{TooMany}
-use Rattle.run_laws.specs.Bounds.{IsFlowBounded}
-use Rattle.run_laws.specs.Runs.{SpecRun}
-use Rattle.net_model.specs.NetRoutes.{routes_of}
-use Rattle.net_model.specs.Networks.{Net}
-use Rattle.net_model.specs.Orders.{IsOrder}
-use Rattle.simulated_findings.specs.net_cells.specs.declared.cell.Cell.{Cell}
-use Rattle.simulated_findings.specs.net_cells.specs.FirstOver.{FirstOver}
-use Rattle.simulated_findings.specs.net_cells.specs.Meanings.{CellTable}
-use Rattle.simulated_findings.specs.net_cells.specs.Numbered.{is_live}
-use Rattle.simulated_findings.specs.net_bounds.specs.NetRuns.{IsRunOf}
-use Rattle.simulated_findings.specs.sim_bounds.specs.Gauge.{simulation_gauge}
-use Rattle.simulated_findings.specs.command_replies.specs.Guarantee.{Guarantees}
-use Rattle.simulated_findings.specs.command_replies.specs.Replies.{Reply}
-use Rattle.simulated_findings.specs.run_findings.specs.RunBounds.{AreWithinBounds}
-use Rattle.simulated_findings.specs.run_findings.specs.Statuses.{IsOfReport, StatusTells}
-use Rattle.exercise_report.specs.exercise_load.specs.Workloads.{network_of, trace_of}
+use Rattle.sim_bounds.specs.upp_limits.specs.declared.op_kind.OpFault.{OpFault}
+use Rattle.sim_bounds.specs.upp_limits.specs.declared.own_limits.OverLimit.TheVariants.{TooMany}
+use Rattle.sim_bounds.specs.run_laws.specs.Bounds.{IsFlowBounded}
+use Rattle.sim_bounds.specs.run_laws.specs.Runs.{SpecRun}
+use Rattle.sim_bounds.specs.net_model.specs.NetRoutes.{routes_of}
+use Rattle.sim_bounds.specs.net_model.specs.Networks.{Net}
+use Rattle.sim_bounds.specs.net_model.specs.Orders.{IsOrder}
+use Rattle.net_cells.specs.declared.cell.Cell.{Cell}
+use Rattle.net_cells.specs.FirstOver.{FirstOver}
+use Rattle.net_cells.specs.Meanings.{CellTable}
+use Rattle.net_cells.specs.Numbered.{is_live}
+use Rattle.net_bounds.specs.NetRuns.{IsRunOf}
+use Rattle.sim_bounds.specs.Gauge.{simulation_gauge}
+use Rattle.command_replies.specs.Guarantee.{Guarantees}
+use Rattle.command_replies.specs.Replies.{Reply}
+use Rattle.run_findings.specs.RunBounds.{AreWithinBounds}
+use Rattle.run_findings.specs.Statuses.{IsOfReport, StatusTells}
+use Rattle.exercise_load.specs.Workloads.{network_of, trace_of}
 use Rattle.exercise_report.specs.Largest.{largest_bound, largest_delay}
 use Rattle.exercise_command.specs.OnSeeds.{IsCellOver, IsSummarised, IsExerciseReply, IsWide}
 

@@ -1,21 +1,21 @@
 -- What is answered on the number of a workload: by the first cell of its network over a limit, or by a table of all
 -- cells; and by the simulation of its trace.
 use Rattle.std.specs.Prelude.{◌≡◌, ◌⊎◌, ℕ, List}
-use Rattle.upp_limits.specs.LimitTest.{fault_of}
-use Rattle.upp_limits.specs.declared.own_limits.OverLimit.{OverLimit}
-use Rattle.upp_limits.specs.declared.own_limits.OverLimit.TheVariants.{TooWide}
-use Rattle.net_model.specs.Networks.{Net}
-use Rattle.net_model.specs.Orders.{IsOrder}
-use Rattle.simulated_findings.specs.net_cells.specs.declared.cell.Cell.{Cell}
-use Rattle.simulated_findings.specs.net_cells.specs.Equations.{MeetsEquations}
-use Rattle.simulated_findings.specs.net_cells.specs.FirstOver.{AnswersAll, FirstOver}
-use Rattle.simulated_findings.specs.net_cells.specs.Meanings.{CellTable}
-use Rattle.simulated_findings.specs.net_cells.specs.Order.{evaluation_order}
-use Rattle.simulated_findings.specs.simulated_sizes.specs.Laws.{AreCurves}
-use Rattle.simulated_findings.specs.report_text.specs.CellWords.{cell_words}
-use Rattle.simulated_findings.specs.command_replies.specs.Replies.{Reply, cell_over}
+use Rattle.sim_bounds.specs.upp_limits.specs.LimitTest.{fault_of}
+use Rattle.sim_bounds.specs.upp_limits.specs.declared.own_limits.OverLimit.{OverLimit}
+use Rattle.sim_bounds.specs.upp_limits.specs.declared.own_limits.OverLimit.TheVariants.{TooWide}
+use Rattle.sim_bounds.specs.net_model.specs.Networks.{Net}
+use Rattle.sim_bounds.specs.net_model.specs.Orders.{IsOrder}
+use Rattle.net_cells.specs.declared.cell.Cell.{Cell}
+use Rattle.net_cells.specs.Equations.{MeetsEquations}
+use Rattle.net_cells.specs.FirstOver.{AnswersAll, FirstOver}
+use Rattle.net_cells.specs.Meanings.{CellTable}
+use Rattle.net_cells.specs.Order.{evaluation_order}
+use Rattle.simulated_sizes.specs.Laws.{AreCurves}
+use Rattle.report_text.specs.CellWords.{cell_words}
+use Rattle.command_replies.specs.Replies.{Reply, cell_over}
 use Rattle.simulated_findings.specs.Found.{IsTooWide, IsReportBy, IsSimulationReplyBy}
-use Rattle.exercise_report.specs.exercise_load.specs.Workloads.{network_of, trace_of}
+use Rattle.exercise_load.specs.Workloads.{network_of, trace_of}
 use Rattle.exercise_report.specs.Summary.{summary_of}
 
 -- ---- cells

@@ -1,14 +1,14 @@
 //! The answer on the number of a workload.
 
 ghost use Rattle.std.specs.Prelude.{IfOk};
-ghost use Rattle.simulated_findings.specs.command_replies.specs.View.{reply_of, status_of};
-ghost use Rattle.simulated_findings.specs.run_findings.specs.CellCounts.{CountsOnCells};
-ghost use Rattle.exercise_report.specs.exercise_load.specs.Workloads.{network_of};
+ghost use Rattle.command_replies.specs.View.{reply_of, status_of};
+ghost use Rattle.run_findings.specs.CellCounts.{CountsOnCells};
+ghost use Rattle.exercise_load.specs.Workloads.{network_of};
 ghost use Rattle.exercise_command.specs.OnSeeds.{IsExerciseReply};
 
 use crate::on_workload::on_workload;
-use exercise_report::exercise_load::workload;
-use simulated_findings::command_replies::Answer;
+use command_replies::Answer;
+use exercise_load::workload;
 use std::alloc::{AllocError, Global};
 use std::sync::ledger::Ledger;
 use steps::Steps;

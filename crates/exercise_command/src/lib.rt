@@ -12,4 +12,3 @@ pub use laws::{
     exercise_replies_are_complete, exercise_replies_are_determined, exercise_statuses_have_causes,
     quiet_summaries_are_within_bounds, summaries_guarantee, summary_tells_premises,
 };
-pub use simulated_findings::command_replies;

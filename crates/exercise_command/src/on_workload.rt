@@ -1,20 +1,20 @@
 //! The answer on a workload.
 
 ghost use Rattle.std.specs.Prelude.{◌≡◌, IfOk};
-ghost use Rattle.net_model.specs.Orders.{IsOrder};
-ghost use Rattle.simulated_findings.specs.command_replies.specs.View.{reply_of, status_of};
-ghost use Rattle.simulated_findings.specs.run_findings.specs.CellCounts.{CountsOnCells};
-ghost use Rattle.exercise_report.specs.exercise_load.specs.Loads.{AreOfWorkload};
-ghost use Rattle.exercise_report.specs.exercise_load.specs.Workloads.{network_of};
+ghost use Rattle.sim_bounds.specs.net_model.specs.Orders.{IsOrder};
+ghost use Rattle.command_replies.specs.View.{reply_of, status_of};
+ghost use Rattle.run_findings.specs.CellCounts.{CountsOnCells};
+ghost use Rattle.exercise_load.specs.Loads.{AreOfWorkload};
+ghost use Rattle.exercise_load.specs.Workloads.{network_of};
 ghost use Rattle.exercise_command.specs.OnSeeds.{IsExerciseReply};
 
 use crate::summarised::summarised;
+use cell_table::AnalysisFault;
+use command_replies::{Answer, cell_too_many, cell_too_wide};
 use flow_analysis::analyse;
-use net_graph::{GraphFault, order};
-use net_model::{Network, Trace};
-use simulated_findings::cell_table::AnalysisFault;
-use simulated_findings::command_replies::{Answer, cell_too_many, cell_too_wide};
-use simulated_findings::run_findings::keeps_curves;
+use net_cells::net_graph::{GraphFault, order};
+use run_findings::keeps_curves;
+use sim_bounds::net_model::{Network, Trace};
 use std::alloc::{AllocError, Global};
 use std::sync::ledger::Ledger;
 use steps::Steps;

@@ -1,22 +1,22 @@
 //! The answer on a workload, once its network is analysed.
 
 ghost use Rattle.std.specs.Prelude.{IfOk};
-ghost use Rattle.net_model.specs.Walks.{IsFeedForward};
-ghost use Rattle.simulated_findings.specs.report_text.specs.RunReport.{found_of};
-ghost use Rattle.simulated_findings.specs.stated_runs.specs.FromTraces.{IsTraceOf};
-ghost use Rattle.simulated_findings.specs.simulated_sizes.specs.Laws.{AreCurves};
-ghost use Rattle.simulated_findings.specs.command_replies.specs.View.{reply_of};
+ghost use Rattle.sim_bounds.specs.net_model.specs.Walks.{IsFeedForward};
+ghost use Rattle.report_text.specs.RunReport.{found_of};
+ghost use Rattle.sim_bounds.specs.stated_runs.specs.FromTraces.{IsTraceOf};
+ghost use Rattle.simulated_sizes.specs.Laws.{AreCurves};
+ghost use Rattle.command_replies.specs.View.{reply_of};
 ghost use Rattle.simulated_findings.specs.Found.{IsFound, IsReportBy, IsSimulationReplyBy};
 ghost use Rattle.exercise_report.specs.Summary.{summary_of};
 
+use cell_table::{Analysis, Table, Value};
+use command_replies::{Answer, sim_too_wide};
 use exercise_report::summary_text;
-use net_model::{Network, Trace};
-use simulated_findings::cell_table::{Analysis, Table, Value};
-use simulated_findings::command_replies::{Answer, sim_too_wide};
+use net_simulator::SimFault;
+use report_text::RunFound;
+use run_findings::status_by;
+use sim_bounds::net_model::{Network, Trace};
 use simulated_findings::find;
-use simulated_findings::net_simulator::SimFault;
-use simulated_findings::report_text::RunFound;
-use simulated_findings::run_findings::status_by;
 use std::alloc::{AllocError, Global};
 
 // The summary of what was found, beside the numbers of a table.

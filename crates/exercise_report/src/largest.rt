@@ -1,16 +1,16 @@
 //! The largest of bounds and of delays.
 
 ghost use Rattle.std.specs.Prelude.{◌≡◌};
-ghost use Rattle.rational.specs.Extended.{max_ext};
+ghost use Rattle.min_plus.specs.rational.specs.Extended.{max_ext};
 ghost use Rattle.std.specs.List.{fold};
 ghost use Rattle.exercise_report.specs.Largest as spec;
 
-use fraction128::{Ext, Frac, greater, greater_value};
-use rational::Extended;
+use cell_table::Table;
+use min_plus::rational::Extended;
+use net_cells::net_model::Network;
+use net_cells::{Cell, Kind, live_flow};
+use plain_text::fraction128::{Ext, Frac, greater, greater_value};
 use report_text::ShownValue;
-use report_text::cell_table::Table;
-use report_text::net_cells::{Cell, Kind, live_flow};
-use report_text::net_model::Network;
 
 // The greater of a value and the number of a cell, where the table has one.
 fn with_number<V: ShownValue, T: Table<V>>(most: Ext, table: &T, flow: u32) -> Ext

@@ -5,6 +5,5 @@ mod largest;
 mod laws;
 mod summary;
 
-pub use exercise_load;
 pub use laws::{equations_give_one_summary, largest_bound_is_one, largest_delay_is_one};
 pub use summary::summary_text;

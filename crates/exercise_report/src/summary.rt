@@ -6,9 +6,9 @@ ghost use Rattle.report_text.specs.RunReport.{found_of};
 ghost use Rattle.exercise_report.specs.Summary as spec;
 
 use crate::largest::{largest_bound, largest_delay};
-use fraction128::Ext;
-use report_text::cell_table::Table;
-use report_text::net_model::Network;
+use cell_table::Table;
+use net_cells::net_model::Network;
+use plain_text::fraction128::Ext;
 use report_text::{
     RunFound, ShownValue, live_count, push_breach_line, push_decimal, push_number, push_text,
 };

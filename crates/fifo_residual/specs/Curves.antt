@@ -1,8 +1,8 @@
 -- The curve that serves a flow of a first in, first out queue, as a call makes it. (Le Boudec and Thiran, chapter 6.)
 use Rattle.std.specs.Prelude.{ℕ, pos, List, Ok}
-use Rattle.rational.specs.Rational.{ℚ, int}
-use Rattle.rational.specs.Extended.{Ext, ◌≤ₑ◌}
-use Rattle.rational.specs.declared.Extended.TheVariants.{Fin}
+use Rattle.run_laws.specs.rational.specs.Rational.{ℚ, int}
+use Rattle.run_laws.specs.rational.specs.Extended.{Ext, ◌≤ₑ◌}
+use Rattle.run_laws.specs.rational.specs.declared.Extended.TheVariants.{Fin}
 use Rattle.curve_running.specs.upp_limits.specs.declared.op_kind.OpKind.TheVariants.{FifoLeft}
 use Rattle.curve_running.specs.upp_curve.specs.Curve.{SpecCurve, value_at}
 use Rattle.run_laws.specs.Cards.{Class, ServerStep}

@@ -1,9 +1,9 @@
 -- What a flow of a first in, first out queue is served has the shape of a service curve, whatever the other flows'
 -- curve: the service that is left from need only be finite. (Le Boudec and Thiran, section 6.4.)
 use Rattle.std.specs.Prelude.{Ok}
-use Rattle.rational.specs.Rational.{ℚ}
-use Rattle.rational.specs.Extended.{Ext, ◌≤ₑ◌}
-use Rattle.rational.specs.declared.Extended.TheVariants.{Fin}
+use Rattle.run_laws.specs.rational.specs.Rational.{ℚ}
+use Rattle.run_laws.specs.rational.specs.Extended.{Ext, ◌≤ₑ◌}
+use Rattle.run_laws.specs.rational.specs.declared.Extended.TheVariants.{Fin}
 use Rattle.curve_running.specs.upp_limits.specs.declared.op_kind.OpKind.TheVariants.{FifoLeft}
 use Rattle.curve_running.specs.upp_curve.specs.Curve.{SpecCurve, value_at}
 use Rattle.run_laws.specs.min_plus.specs.Functions.{zero_q, IsFinite}

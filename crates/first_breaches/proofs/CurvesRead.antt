@@ -3,22 +3,22 @@ use Rattle.std.specs.Prelude.{◌≡◌, ℕ, zero, suc, ◌<◌, ◌≤◌, ◌
 use Rattle.std.specs.List.{AllByRecursion}
 use Rattle.std.proofs.Common.{arith, sym, subst, inl, inr}
 use Rattle.std.proofs.lemmas.Bool.{cases_Bool}
-use Rattle.rational.specs.Rational.{ℚ, ◌-ℚ◌}
-use Rattle.net_cells.specs.upp_curve.specs.Curve.{SpecCurve}
-use Rattle.net_cells.specs.upp_curve.specs.Curves.{IsCurve}
-use Rattle.net_cells.specs.upp_limits.specs.Limits.{Sizes, curve_numbers}
-use Rattle.net_cells.specs.upp_limits.specs.Sized.{Stands}
-use Rattle.net_cells.specs.upp_limits.proofs.Operands.{curve_period}
-use Rattle.run_watch.specs.upp_normal.specs.Operand.{AreLimited}
-use Rattle.run_watch.specs.upp_normal.specs.Unrolling.{IsOperandTo}
-use Rattle.run_watch.specs.upp_normal.proofs.GaugeRises.{curve_earlier}
-use Rattle.net_cells.specs.run_laws.specs.declared.steps.Step.{Step}
-use Rattle.net_cells.specs.run_laws.specs.declared.steps.Step.TheVariants.{Enter, Reach, Work, Leave, Visit}
-use Rattle.run_watch.specs.watch_laws.specs.declared.entering.Entering.{Entering}
-use Rattle.run_watch.specs.watch_laws.specs.Entries.{entries, entering}
-use Rattle.run_watch.specs.watch_laws.specs.MarkSizes.{IsTime}
-use Rattle.run_watch.specs.watch_laws.proofs.Crowds.{times_rise}
-use Rattle.run_watch.specs.flow_watch.specs.Flows.{FlowReads}
+use Rattle.min_plus.specs.rational.specs.Rational.{ℚ, ◌-ℚ◌}
+use Rattle.flow_watch.specs.upp_curve.specs.Curve.{SpecCurve}
+use Rattle.flow_watch.specs.upp_curve.specs.Curves.{IsCurve}
+use Rattle.flow_watch.specs.upp_limits.specs.Limits.{Sizes, curve_numbers}
+use Rattle.flow_watch.specs.upp_limits.specs.Sized.{Stands}
+use Rattle.flow_watch.specs.upp_limits.proofs.Operands.{curve_period}
+use Rattle.flow_watch.specs.upp_normal.specs.Operand.{AreLimited}
+use Rattle.flow_watch.specs.upp_normal.specs.Unrolling.{IsOperandTo}
+use Rattle.flow_watch.specs.upp_normal.proofs.GaugeRises.{curve_earlier}
+use Rattle.flow_watch.specs.run_laws.specs.declared.steps.Step.{Step}
+use Rattle.flow_watch.specs.run_laws.specs.declared.steps.Step.TheVariants.{Enter, Reach, Work, Leave, Visit}
+use Rattle.flow_watch.specs.watch_laws.specs.declared.entering.Entering.{Entering}
+use Rattle.flow_watch.specs.watch_laws.specs.Entries.{entries, entering}
+use Rattle.flow_watch.specs.watch_laws.specs.MarkSizes.{IsTime}
+use Rattle.flow_watch.specs.watch_laws.proofs.Crowds.{times_rise}
+use Rattle.flow_watch.specs.Flows.{FlowReads}
 use Rattle.run_watch.specs.FirstOf.{EnterInOrder}
 use Rattle.run_watch.proofs.HeldSizes.{length_time, times_differ}
 use Rattle.run_watch.proofs.NearWindows.{limited_to}

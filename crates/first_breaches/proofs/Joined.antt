@@ -3,17 +3,17 @@ use Rattle.std.specs.Prelude.{◌≡◌, ℕ, suc, ◌<◌, List, [], ◌∷◌,
 use Rattle.std.proofs.Common.{arith, refl, sym, subst, ap, ◌∙◌, inl, inr}
 use Rattle.std.proofs.lemmas.Bool.{cases_lt}
 use Rattle.std.proofs.lemmas.List.{length-map}
-use Rattle.rational.specs.Rational.{ℚ, ◌≤ℚ◌}
-use Rattle.rational.proofs.Laws.{lt_cases, lt_irrefl, lt_le_trans}
-use Rattle.net_cells.specs.run_laws.specs.Runs.{SpecRun}
-use Rattle.net_cells.specs.run_laws.specs.Cards.{whole}
-use Rattle.net_cells.specs.run_laws.proofs.Sizes.{whole_lt}
-use Rattle.net_cells.specs.net_model.specs.declared.breach.Breach.{Breach}
-use Rattle.net_cells.specs.net_model.specs.declared.breach.Breach.TheVariants.{Size, Arrival, Service}
-use Rattle.net_cells.specs.net_model.specs.Networks.{Net}
-use Rattle.net_cells.specs.net_model.specs.NetRoutes.{server_for}
+use Rattle.min_plus.specs.rational.specs.Rational.{ℚ, ◌≤ℚ◌}
+use Rattle.min_plus.specs.rational.proofs.Laws.{lt_cases, lt_irrefl, lt_le_trans}
+use Rattle.flow_watch.specs.run_laws.specs.Runs.{SpecRun}
+use Rattle.flow_watch.specs.run_laws.specs.Cards.{whole}
+use Rattle.flow_watch.specs.run_laws.proofs.Sizes.{whole_lt}
+use Rattle.flow_watch.specs.net_model.specs.declared.breach.Breach.{Breach}
+use Rattle.flow_watch.specs.net_model.specs.declared.breach.Breach.TheVariants.{Size, Arrival, Service}
+use Rattle.flow_watch.specs.net_model.specs.Networks.{Net}
+use Rattle.flow_watch.specs.net_model.specs.NetRoutes.{server_for}
 use Rattle.net_cells.proofs.Places.{live_inside}
-use Rattle.run_watch.specs.watch_laws.specs.Breaches.{order_key, NoLater}
+use Rattle.flow_watch.specs.watch_laws.specs.Breaches.{order_key, NoLater}
 use Rattle.run_watch.specs.declared.found.Found.{Found}
 use Rattle.run_watch.specs.FirstOf.{time_of, IsBest, earlier, GoesBefore, IsBoth}
 use Rattle.run_watch.proofs.FirstOfTwo.{first_of_both}

@@ -4,27 +4,27 @@ use Rattle.std.specs.Option.{option_map}
 use Rattle.std.proofs.Common.{arith, refl, sym, subst, ap, ◌∙◌, inl, inr}
 use Rattle.std.proofs.lemmas.List.{length-map}
 use Rattle.std.proofs.lemmas.Option.{slice_get_cases}
-use Rattle.rational.specs.Rational.{ℚ}
-use Rattle.rational.proofs.ExtendedOrder.{same_le_ext}
-use Rattle.net_cells.specs.upp_curve.specs.Curve.{SpecCurve, value_at}
+use Rattle.min_plus.specs.rational.specs.Rational.{ℚ}
+use Rattle.min_plus.specs.rational.proofs.ExtendedOrder.{same_le_ext}
+use Rattle.flow_watch.specs.upp_curve.specs.Curve.{SpecCurve, value_at}
 use Rattle.min_plus.specs.Functions.{IsRising, IsNonnegative}
-use Rattle.net_cells.specs.upp_curve.specs.Curves.{IsCurve}
-use Rattle.net_cells.specs.run_laws.specs.Runs.{SpecRun}
-use Rattle.net_cells.specs.run_laws.specs.Routes.{route_of, server_at}
-use Rattle.net_cells.specs.run_laws.specs.Lawful.{IsLawful}
-use Rattle.net_cells.specs.run_laws.specs.Views.{view}
-use Rattle.net_cells.specs.run_laws.proofs.Views.{views_are_lawful}
-use Rattle.net_cells.specs.net_model.specs.declared.breach.Breach.{Breach}
-use Rattle.net_cells.specs.net_model.specs.declared.breach.Breach.TheVariants.{Size, Arrival, Service}
-use Rattle.net_cells.specs.net_model.specs.Networks.{Net, NetServer, NetFlow}
-use Rattle.net_cells.specs.net_model.specs.NetRoutes.{routes_of, server_for}
-use Rattle.net_cells.specs.net_model.specs.Accepted.{IsAccepted, IsServer}
+use Rattle.flow_watch.specs.upp_curve.specs.Curves.{IsCurve}
+use Rattle.flow_watch.specs.run_laws.specs.Runs.{SpecRun}
+use Rattle.flow_watch.specs.run_laws.specs.Routes.{route_of, server_at}
+use Rattle.flow_watch.specs.run_laws.specs.Lawful.{IsLawful}
+use Rattle.flow_watch.specs.run_laws.specs.Views.{view}
+use Rattle.flow_watch.specs.run_laws.proofs.Views.{views_are_lawful}
+use Rattle.flow_watch.specs.net_model.specs.declared.breach.Breach.{Breach}
+use Rattle.flow_watch.specs.net_model.specs.declared.breach.Breach.TheVariants.{Size, Arrival, Service}
+use Rattle.flow_watch.specs.net_model.specs.Networks.{Net, NetServer, NetFlow}
+use Rattle.flow_watch.specs.net_model.specs.NetRoutes.{routes_of, server_for}
+use Rattle.flow_watch.specs.net_model.specs.Accepted.{IsAccepted, IsServer}
 use Rattle.net_cells.specs.Numbered.{flow_at, is_live, packet, packet_of, arrival, arrival_of, service, service_of}
 use Rattle.net_cells.proofs.Stored.{flow_kept, server_kept}
-use Rattle.run_watch.specs.watch_laws.specs.Entries.{entries, entering, IsCrowded}
-use Rattle.run_watch.specs.watch_laws.specs.Breaches.{IsIdle, IsTooSlow}
-use Rattle.run_watch.specs.watch_laws.specs.Laws.{MayArrive, MayServe, HaveCurves}
-use Rattle.run_watch.specs.watch_laws.proofs.Premises.{breaches_tell, watch_points_suffice}
+use Rattle.flow_watch.specs.watch_laws.specs.Entries.{entries, entering, IsCrowded}
+use Rattle.flow_watch.specs.watch_laws.specs.Breaches.{IsIdle, IsTooSlow}
+use Rattle.flow_watch.specs.watch_laws.specs.Laws.{MayArrive, MayServe, HaveCurves}
+use Rattle.flow_watch.specs.watch_laws.proofs.Premises.{breaches_tell, watch_points_suffice}
 use Rattle.run_watch.specs.declared.found.Found.{Found}
 use Rattle.run_watch.specs.FirstOf.{IsBest, IsLongOn, IsCrowdOn, IsIdleOn}
 use Rattle.first_breaches.specs.Firsts.{TellsFirst, kind_of, IsOne, IsOfKinds, HaveServices}

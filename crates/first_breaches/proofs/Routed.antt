@@ -3,10 +3,10 @@ use Rattle.std.specs.Prelude.{◌≡◌, ℕ, ◌<◌, ◌≤◌, List, [], ◌�
 use Rattle.std.proofs.Common.{arith, refl, sym, ap, ◌∙◌, inl, inr}
 use Rattle.std.proofs.lemmas.Bool.{cases_lt}
 use Rattle.std.proofs.lemmas.List.{get_or_past}
-use Rattle.net_cells.specs.run_laws.specs.Routes.{Route, route_of, first_server}
-use Rattle.net_cells.specs.net_model.specs.Networks.{Net, NetFlow}
-use Rattle.net_cells.specs.net_model.specs.NetRoutes.{hops_along, route_for, routes_of}
-use Rattle.net_cells.specs.net_model.specs.Accepted.{IsAccepted}
+use Rattle.flow_watch.specs.run_laws.specs.Routes.{Route, route_of, first_server}
+use Rattle.flow_watch.specs.net_model.specs.Networks.{Net, NetFlow}
+use Rattle.flow_watch.specs.net_model.specs.NetRoutes.{hops_along, route_for, routes_of}
+use Rattle.flow_watch.specs.net_model.specs.Accepted.{IsAccepted}
 use Rattle.net_cells.specs.Numbered.{flow_at, server_of_hop, path, path_of}
 use Rattle.net_cells.proofs.Stored.{flow_kept}
 pub use Rattle.net_cells.proofs.Routed.{route_is, live_is}

@@ -4,40 +4,40 @@ use Rattle.std.specs.List.{AllByRecursion}
 use Rattle.std.proofs.Common.{arith, refl, sym, subst, ap, ◌∙◌, inl, inr}
 use Rattle.std.proofs.lemmas.Bool.{cases_Bool}
 use Rattle.std.proofs.lemmas.List.{length-map}
-use Rattle.rational.specs.Rational.{ℚ, int, ◌+ℚ◌, ◌-ℚ◌, ◌*ℚ◌, ◌/ℚ◌, ◌≤ℚ◌, ◌<ℚ◌, lt_q}
-use Rattle.rational.specs.Ratio.{SumFits}
-use Rattle.rational.specs.Grid.{Whole}
-use Rattle.rational.proofs.Laws.{le_refl, le_trans, le_of_lt, lt_irrefl, add_assoc, one_mul, div_mul, not_zero}
-use Rattle.rational.proofs.Grid.{whole_int, whole_add, whole_sub, within_nonneg}
-use Rattle.rational.proofs.Linear.{with1, with2, with3, with_atoms}
-use Rattle.net_cells.specs.upp_curve.specs.Curve.{SpecCurve}
-use Rattle.net_cells.specs.upp_curve.specs.Curves.{IsCurve}
-use Rattle.net_cells.specs.upp_limits.specs.Limits.{Sizes, curve_numbers}
-use Rattle.net_cells.specs.upp_limits.specs.Sized.{IsSlope, Stands, grid_of, times_largest}
-use Rattle.net_cells.specs.upp_limits.proofs.NarrowSizes.{small_slope}
-use Rattle.run_watch.specs.upp_normal.specs.Operand.{AreLimited}
-use Rattle.run_watch.specs.upp_normal.proofs.AnswerRoom.{wide_narrow}
-use Rattle.net_cells.specs.run_laws.specs.declared.steps.Step.{Step}
-use Rattle.net_cells.specs.run_laws.specs.declared.steps.Step.TheVariants.{Enter, Reach, Work, Leave, Visit}
-use Rattle.net_cells.specs.run_laws.specs.Runs.{SpecRun}
-use Rattle.net_cells.specs.run_laws.specs.Cards.{all, whole, size, ServerStep, Arrives, Works, Leaves, Visits}
-use Rattle.net_cells.specs.run_laws.specs.Counts.{when, arrived}
-use Rattle.net_cells.specs.run_laws.specs.Servers.{Server, ServerState, start}
-use Rattle.net_cells.specs.run_laws.specs.Next.{next}
-use Rattle.net_cells.specs.run_laws.specs.Allows.{AllAllowed, IsLawfulView}
-use Rattle.net_cells.specs.run_laws.specs.Routes.{Routes, server_at}
-use Rattle.net_cells.specs.run_laws.specs.Lawful.{IsLawful}
-use Rattle.net_cells.specs.run_laws.specs.Views.{Entry, entered_after, server_of, seen, view_from, view}
-use Rattle.net_cells.specs.run_laws.proofs.Sizes.{whole_nonneg, whole_le, whole_sum, size_nonneg}
-use Rattle.net_cells.specs.run_laws.proofs.Orders.{worked_arrived}
-use Rattle.net_cells.specs.run_laws.proofs.Views.{views_are_lawful}
-use Rattle.net_cells.specs.net_model.specs.Networks.{Net}
-use Rattle.net_cells.specs.net_model.specs.NetRoutes.{routes_of, server_for}
+use Rattle.min_plus.specs.rational.specs.Rational.{ℚ, int, ◌+ℚ◌, ◌-ℚ◌, ◌*ℚ◌, ◌/ℚ◌, ◌≤ℚ◌, ◌<ℚ◌, lt_q}
+use Rattle.min_plus.specs.rational.specs.Ratio.{SumFits}
+use Rattle.min_plus.specs.rational.specs.Grid.{Whole}
+use Rattle.min_plus.specs.rational.proofs.Laws.{le_refl, le_trans, le_of_lt, lt_irrefl, add_assoc, one_mul, div_mul, not_zero}
+use Rattle.min_plus.specs.rational.proofs.Grid.{whole_int, whole_add, whole_sub, within_nonneg}
+use Rattle.min_plus.specs.rational.proofs.Linear.{with1, with2, with3, with_atoms}
+use Rattle.flow_watch.specs.upp_curve.specs.Curve.{SpecCurve}
+use Rattle.flow_watch.specs.upp_curve.specs.Curves.{IsCurve}
+use Rattle.flow_watch.specs.upp_limits.specs.Limits.{Sizes, curve_numbers}
+use Rattle.flow_watch.specs.upp_limits.specs.Sized.{IsSlope, Stands, grid_of, times_largest}
+use Rattle.flow_watch.specs.upp_limits.proofs.NarrowSizes.{small_slope}
+use Rattle.flow_watch.specs.upp_normal.specs.Operand.{AreLimited}
+use Rattle.flow_watch.specs.upp_normal.proofs.AnswerRoom.{wide_narrow}
+use Rattle.flow_watch.specs.run_laws.specs.declared.steps.Step.{Step}
+use Rattle.flow_watch.specs.run_laws.specs.declared.steps.Step.TheVariants.{Enter, Reach, Work, Leave, Visit}
+use Rattle.flow_watch.specs.run_laws.specs.Runs.{SpecRun}
+use Rattle.flow_watch.specs.run_laws.specs.Cards.{all, whole, size, ServerStep, Arrives, Works, Leaves, Visits}
+use Rattle.flow_watch.specs.run_laws.specs.Counts.{when, arrived}
+use Rattle.flow_watch.specs.run_laws.specs.Servers.{Server, ServerState, start}
+use Rattle.flow_watch.specs.run_laws.specs.Next.{next}
+use Rattle.flow_watch.specs.run_laws.specs.Allows.{AllAllowed, IsLawfulView}
+use Rattle.flow_watch.specs.run_laws.specs.Routes.{Routes, server_at}
+use Rattle.flow_watch.specs.run_laws.specs.Lawful.{IsLawful}
+use Rattle.flow_watch.specs.run_laws.specs.Views.{Entry, entered_after, server_of, seen, view_from, view}
+use Rattle.flow_watch.specs.run_laws.proofs.Sizes.{whole_nonneg, whole_le, whole_sum, size_nonneg}
+use Rattle.flow_watch.specs.run_laws.proofs.Orders.{worked_arrived}
+use Rattle.flow_watch.specs.run_laws.proofs.Views.{views_are_lawful}
+use Rattle.flow_watch.specs.net_model.specs.Networks.{Net}
+use Rattle.flow_watch.specs.net_model.specs.NetRoutes.{routes_of, server_for}
 use Rattle.net_cells.specs.Numbered.{service}
-use Rattle.run_watch.specs.watch_laws.specs.Affine.{EachTime}
-use Rattle.run_watch.specs.watch_laws.specs.MarkSizes.{IsTime, IsAmount}
-use Rattle.run_watch.specs.watch_laws.specs.Times.{leave_times}
-use Rattle.run_watch.specs.watch_laws.proofs.MarkSizes.{sum_fits, keys_fit}
+use Rattle.flow_watch.specs.watch_laws.specs.Affine.{EachTime}
+use Rattle.flow_watch.specs.watch_laws.specs.MarkSizes.{IsTime, IsAmount}
+use Rattle.flow_watch.specs.watch_laws.specs.Times.{leave_times}
+use Rattle.flow_watch.specs.watch_laws.proofs.MarkSizes.{sum_fits, keys_fit}
 use Rattle.run_watch.specs.declared.span.Span.{Span}
 use Rattle.run_watch.specs.declared.watched.Watched.{Watched}
 use Rattle.run_watch.specs.Ramps.{as_span, amount, TakeTime, ramps_after, RampsFit, EachRamp, spans_of}

@@ -1,15 +1,15 @@
 -- What a run of a network breaks first, and the breaches of one kind. Own choice.
 use Rattle.std.specs.Prelude.{◌≡◌, ℕ, ◌<◌, Option, MatchOption, length}
-use Rattle.net_cells.specs.upp_curve.specs.Curve.{value_at}
-use Rattle.net_cells.specs.upp_curve.specs.Curves.{IsCurve}
-use Rattle.net_cells.specs.run_laws.specs.Runs.{SpecRun}
-use Rattle.net_cells.specs.run_laws.specs.RunPremises.{KeepsPremises}
-use Rattle.net_cells.specs.net_model.specs.declared.breach.Breach.{Breach}
-use Rattle.net_cells.specs.net_model.specs.declared.breach.Breach.TheVariants.{Size, Arrival, Service}
-use Rattle.net_cells.specs.net_model.specs.Networks.{Net}
-use Rattle.net_cells.specs.net_model.specs.NetRoutes.{routes_of}
+use Rattle.flow_watch.specs.upp_curve.specs.Curve.{value_at}
+use Rattle.flow_watch.specs.upp_curve.specs.Curves.{IsCurve}
+use Rattle.flow_watch.specs.run_laws.specs.Runs.{SpecRun}
+use Rattle.flow_watch.specs.run_laws.specs.RunPremises.{KeepsPremises}
+use Rattle.flow_watch.specs.net_model.specs.declared.breach.Breach.{Breach}
+use Rattle.flow_watch.specs.net_model.specs.declared.breach.Breach.TheVariants.{Size, Arrival, Service}
+use Rattle.flow_watch.specs.net_model.specs.Networks.{Net}
+use Rattle.flow_watch.specs.net_model.specs.NetRoutes.{routes_of}
 use Rattle.net_cells.specs.Numbered.{packet, arrival, service}
-use Rattle.run_watch.specs.watch_laws.specs.Breaches.{IsBreach, IsFirstBreach}
+use Rattle.flow_watch.specs.watch_laws.specs.Breaches.{IsBreach, IsFirstBreach}
 
 -- ---- what is told
 -- something that the run breaks, by the network's packet lengths, arrival curves and service curves

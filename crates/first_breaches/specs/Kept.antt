@@ -1,11 +1,11 @@
 -- Servers that are known to keep their service curves in a run. Own choice.
 use Rattle.std.specs.Prelude.{◌≡◌, ◌<◌, ℕ, Bool, true, List, length, Some, slice_get}
-use Rattle.net_cells.specs.upp_curve.specs.Curve.{value_at}
-use Rattle.net_cells.specs.run_laws.specs.Runs.{SpecRun}
-use Rattle.net_cells.specs.run_laws.specs.Views.{view}
-use Rattle.net_cells.specs.run_laws.specs.Premises.{KeepsService}
-use Rattle.net_cells.specs.net_model.specs.Networks.{Net}
-use Rattle.net_cells.specs.net_model.specs.NetRoutes.{routes_of}
+use Rattle.flow_watch.specs.upp_curve.specs.Curve.{value_at}
+use Rattle.flow_watch.specs.run_laws.specs.Runs.{SpecRun}
+use Rattle.flow_watch.specs.run_laws.specs.Views.{view}
+use Rattle.flow_watch.specs.run_laws.specs.Premises.{KeepsService}
+use Rattle.flow_watch.specs.net_model.specs.Networks.{Net}
+use Rattle.flow_watch.specs.net_model.specs.NetRoutes.{routes_of}
 use Rattle.net_cells.specs.Numbered.{service}
 
 -- the server keeps its service curve in each window of the run in which it has work

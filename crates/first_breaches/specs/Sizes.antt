@@ -2,20 +2,20 @@
 -- simulation, or of the check of a recorded run, gives such sizes. Own choice.
 use Rattle.std.specs.Prelude.{ℕ, ◌+◌, ◌<◌, ◌≤◌, ◌^◌, IsTrue, List, [], ◌∷◌, length}
 use Rattle.std.specs.List.{AllByRecursion}
-use Rattle.rational.specs.Rational.{ℚ, ◌-ℚ◌, ◌/ℚ◌}
-use Rattle.net_cells.specs.upp_limits.specs.Limits.{Sizes, curve_numbers}
-use Rattle.net_cells.specs.upp_limits.specs.Sized.{IsSlope, Stands}
-use Rattle.run_watch.specs.upp_normal.specs.Operand.{AreLimited}
-use Rattle.net_cells.specs.run_laws.specs.declared.steps.Step.{Step}
-use Rattle.net_cells.specs.run_laws.specs.declared.steps.Step.TheVariants.{Enter, Reach, Work, Leave, Visit}
-use Rattle.net_cells.specs.run_laws.specs.Cards.{ServerStep, Arrives, Works, Leaves, Visits}
-use Rattle.net_cells.specs.run_laws.specs.Runs.{SpecRun}
-use Rattle.net_cells.specs.run_laws.specs.Views.{view}
-use Rattle.net_cells.specs.net_model.specs.Networks.{Net}
-use Rattle.net_cells.specs.net_model.specs.NetRoutes.{routes_of}
+use Rattle.min_plus.specs.rational.specs.Rational.{ℚ, ◌-ℚ◌, ◌/ℚ◌}
+use Rattle.flow_watch.specs.upp_limits.specs.Limits.{Sizes, curve_numbers}
+use Rattle.flow_watch.specs.upp_limits.specs.Sized.{IsSlope, Stands}
+use Rattle.flow_watch.specs.upp_normal.specs.Operand.{AreLimited}
+use Rattle.flow_watch.specs.run_laws.specs.declared.steps.Step.{Step}
+use Rattle.flow_watch.specs.run_laws.specs.declared.steps.Step.TheVariants.{Enter, Reach, Work, Leave, Visit}
+use Rattle.flow_watch.specs.run_laws.specs.Cards.{ServerStep, Arrives, Works, Leaves, Visits}
+use Rattle.flow_watch.specs.run_laws.specs.Runs.{SpecRun}
+use Rattle.flow_watch.specs.run_laws.specs.Views.{view}
+use Rattle.flow_watch.specs.net_model.specs.Networks.{Net}
+use Rattle.flow_watch.specs.net_model.specs.NetRoutes.{routes_of}
 use Rattle.net_cells.specs.Numbered.{is_live, arrival, service}
-use Rattle.run_watch.specs.watch_laws.specs.Entries.{entries}
-use Rattle.run_watch.specs.watch_laws.specs.MarkSizes.{IsTime}
+use Rattle.flow_watch.specs.watch_laws.specs.Entries.{entries}
+use Rattle.flow_watch.specs.watch_laws.specs.MarkSizes.{IsTime}
 
 -- work starts and ends at times of the run, and its pace counts as a slope
 pub record IsWorkTime (z : Sizes) (end a b w : ℚ) : Type 0 where

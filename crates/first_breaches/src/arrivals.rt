@@ -1,16 +1,16 @@
 //! The first pair of packets of a flow between which too many bits enter.
 
 ghost use Rattle.std.specs.Prelude.{length, IfOk};
-ghost use Rattle.net_cells.specs.run_laws.specs.Lawful.{IsLawful};
-ghost use Rattle.net_cells.specs.net_model.specs.NetRoutes.{routes_of};
+ghost use Rattle.flow_watch.specs.run_laws.specs.Lawful.{IsLawful};
+ghost use Rattle.flow_watch.specs.net_model.specs.NetRoutes.{routes_of};
 ghost use Rattle.run_watch.specs.FirstOf.{IsBest};
 ghost use Rattle.first_breaches.specs.Sizes.{HaveSizes};
 ghost use Rattle.first_breaches.specs.Firsts.{IsOne, IsBelow};
 
 use crate::counts::flow_count;
+use flow_watch::net_model::Network;
+use flow_watch::run_laws::Run;
 use net_cells::live_flow;
-use net_cells::net_model::Network;
-use net_cells::run_laws::Run;
 use run_watch::{Found, arrival_breach, earlier, entries_of};
 use std::alloc::{AllocError, Global};
 

@@ -1,9 +1,9 @@
 //! How many flows and servers a network has.
 
 ghost use Rattle.std.specs.Prelude.{◌≡◌, length};
-ghost use Rattle.net_cells.specs.net_model.specs.Accepted.{IsAccepted};
+ghost use Rattle.flow_watch.specs.net_model.specs.Accepted.{IsAccepted};
 
-use net_cells::net_model::Network;
+use flow_watch::net_model::Network;
 
 /// How many places for flows it has.
 pub(crate) fn flow_count(net: &Network) -> u32

@@ -1,8 +1,8 @@
 //! What a run of a network breaks first.
 
 ghost use Rattle.std.specs.Prelude.{IfOk};
-ghost use Rattle.net_cells.specs.run_laws.specs.Lawful.{IsLawful};
-ghost use Rattle.net_cells.specs.net_model.specs.NetRoutes.{routes_of};
+ghost use Rattle.flow_watch.specs.run_laws.specs.Lawful.{IsLawful};
+ghost use Rattle.flow_watch.specs.net_model.specs.NetRoutes.{routes_of};
 ghost use Rattle.first_breaches.specs.Sizes.{HaveSizes};
 ghost use Rattle.first_breaches.specs.Firsts.{TellsFirst};
 ghost use Rattle.first_breaches.specs.Kept.{AreKept};
@@ -10,8 +10,8 @@ ghost use Rattle.first_breaches.specs.Kept.{AreKept};
 use crate::arrivals::first_arrival;
 use crate::services::first_service;
 use crate::sizes::first_size;
-use net_cells::net_model::{Breach, Network};
-use net_cells::run_laws::Run;
+use flow_watch::net_model::{Breach, Network};
+use flow_watch::run_laws::Run;
 use run_watch::{Found, earlier};
 use std::alloc::{AllocError, Global};
 

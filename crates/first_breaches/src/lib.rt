@@ -9,4 +9,3 @@ mod services;
 mod sizes;
 
 pub use first::first_breach;
-pub use net_cells::run_laws;

@@ -1,8 +1,8 @@
 //! The first window in which a server works less than its curve.
 
 ghost use Rattle.std.specs.Prelude.{◌<◌, ◌↔◌, length, IfOk, IsTrue};
-ghost use Rattle.net_cells.specs.run_laws.specs.Lawful.{IsLawful};
-ghost use Rattle.net_cells.specs.net_model.specs.NetRoutes.{routes_of};
+ghost use Rattle.flow_watch.specs.run_laws.specs.Lawful.{IsLawful};
+ghost use Rattle.flow_watch.specs.net_model.specs.NetRoutes.{routes_of};
 ghost use Rattle.run_watch.specs.Seen.{AreFirsts};
 ghost use Rattle.run_watch.specs.FirstOf.{IsBest};
 ghost use Rattle.first_breaches.specs.Sizes.{HaveSizes};
@@ -10,8 +10,8 @@ ghost use Rattle.first_breaches.specs.Firsts.{IsOne, IsBelow, HasService, HaveSe
 ghost use Rattle.first_breaches.specs.Kept.{IsTold, AreKept};
 
 use crate::counts::{flow_count, server_count};
-use net_cells::net_model::Network;
-use net_cells::run_laws::Run;
+use flow_watch::net_model::Network;
+use flow_watch::run_laws::Run;
 use net_cells::{server, server_of_hop};
 use run_watch::{Found, earlier, service_breach, watch};
 use std::alloc::{AllocError, Global};

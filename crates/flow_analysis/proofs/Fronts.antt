@@ -1,18 +1,18 @@
 -- The cells before one, where they are answered by a table: those that a table has nothing at, and one that is refused.
 use Rattle.std.proofs.Common.{◌≡◌, List, [], ◌∷◌, ◌++◌, refl, sym, ◌∙◌, subst, inl}
 use Rattle.std.specs.Prelude.{◌≢◌, None, Err, Contains}
-use Rattle.cell_eval.specs.upp_limits.specs.declared.op_kind.OpFault.{OpFault}
-use Rattle.cell_eval.specs.upp_limits.specs.declared.op_kind.OpFault.TheVariants as operator
-use Rattle.cell_eval.specs.net_model.specs.Networks.{Net}
-use Rattle.cell_eval.specs.net_cells.specs.declared.cell.Cell.{Cell}
-use Rattle.cell_eval.specs.net_cells.specs.CellFormulas.{formula}
-use Rattle.cell_eval.specs.net_cells.specs.Meanings.{CellTable}
-use Rattle.cell_eval.specs.net_cells.specs.FirstOver.{AnswersAll}
-use Rattle.cell_eval.specs.net_cells.proofs.Lists.{has_left, has_right, contains_has, has_contains}
-use Rattle.cell_eval.specs.cell_table.specs.declared.fault.AnalysisFault.{AnalysisFault}
-use Rattle.cell_eval.specs.cell_table.specs.Gives.{Gives}
-use Rattle.cell_eval.specs.cell_table.specs.Refusals.{fault_at}
-use Rattle.cell_eval.specs.cell_table.proofs.GivesAnswers.{gives_over}
+use Rattle.net_cells.specs.upp_limits.specs.declared.op_kind.OpFault.{OpFault}
+use Rattle.net_cells.specs.upp_limits.specs.declared.op_kind.OpFault.TheVariants as operator
+use Rattle.net_cells.specs.net_model.specs.Networks.{Net}
+use Rattle.net_cells.specs.declared.cell.Cell.{Cell}
+use Rattle.net_cells.specs.CellFormulas.{formula}
+use Rattle.net_cells.specs.Meanings.{CellTable}
+use Rattle.net_cells.specs.FirstOver.{AnswersAll}
+use Rattle.net_cells.proofs.Lists.{has_left, has_right, contains_has, has_contains}
+use Rattle.cell_table.specs.declared.fault.AnalysisFault.{AnalysisFault}
+use Rattle.cell_table.specs.Gives.{Gives}
+use Rattle.cell_table.specs.Refusals.{fault_at}
+use Rattle.cell_table.proofs.GivesAnswers.{gives_over}
 use Rattle.flow_analysis.specs.Analyses.{IsFirstOver, IsRefusal, WantsMemory}
 
 -- ---- nothing at other cells

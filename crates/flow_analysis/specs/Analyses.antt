@@ -1,15 +1,15 @@
 -- What the analysis of a network goes over, and why there is none. Own choice.
 use Rattle.std.specs.Prelude.{◌≡◌, ℕ, List, None, Contains}
-use Rattle.cell_eval.specs.upp_limits.specs.declared.op_kind.OpFault.{OpFault}
-use Rattle.cell_eval.specs.upp_limits.specs.declared.op_kind.OpFault.TheVariants as operator
-use Rattle.cell_eval.specs.net_model.specs.Networks.{Net}
-use Rattle.cell_eval.specs.net_model.specs.Orders.{IsOrder}
-use Rattle.cell_eval.specs.net_cells.specs.declared.cell.Cell.{Cell}
-use Rattle.cell_eval.specs.net_cells.specs.Meanings.{CellTable}
-use Rattle.cell_eval.specs.net_cells.specs.Order.{evaluation_order}
-use Rattle.cell_eval.specs.net_cells.specs.FirstOver.{FirstOver}
-use Rattle.cell_eval.specs.cell_table.specs.declared.fault.AnalysisFault.{AnalysisFault}
-use Rattle.cell_eval.specs.cell_table.specs.declared.fault.AnalysisFault.TheVariants.{TooMany, TooWide, NoMemory}
+use Rattle.net_cells.specs.upp_limits.specs.declared.op_kind.OpFault.{OpFault}
+use Rattle.net_cells.specs.upp_limits.specs.declared.op_kind.OpFault.TheVariants as operator
+use Rattle.net_cells.specs.net_model.specs.Networks.{Net}
+use Rattle.net_cells.specs.net_model.specs.Orders.{IsOrder}
+use Rattle.net_cells.specs.declared.cell.Cell.{Cell}
+use Rattle.net_cells.specs.Meanings.{CellTable}
+use Rattle.net_cells.specs.Order.{evaluation_order}
+use Rattle.net_cells.specs.FirstOver.{FirstOver}
+use Rattle.cell_table.specs.declared.fault.AnalysisFault.{AnalysisFault}
+use Rattle.cell_table.specs.declared.fault.AnalysisFault.TheVariants.{TooMany, TooWide, NoMemory}
 
 -- all cells of a network whose servers have an order, in the order in which they are taken
 pub record AreAllCells (net : Net) (cells : List Cell) : Type 0 where

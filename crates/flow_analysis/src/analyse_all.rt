@@ -1,18 +1,18 @@
 //! The analysis of a network by the program's evaluator.
 
 ghost use Rattle.std.specs.Prelude.{◌≡◌, ◌+◌, ◌-◌, ◌≤◌, sum_by, IfOk, IfErr, OnOk};
-ghost use Rattle.cell_eval.specs.net_model.specs.Orders.{IsOrder};
-ghost use Rattle.cell_eval.specs.net_cells.specs.Equations.{MeetsEquations};
-ghost use Rattle.cell_eval.specs.net_cells.specs.FirstOver.{AnswersAll, FirstOver};
-ghost use Rattle.cell_eval.specs.net_cells.specs.Order.{evaluation_order};
-ghost use Rattle.cell_eval.specs.net_cells.specs.Work.{work};
-ghost use Rattle.cell_eval.specs.net_cells.specs.MemoryEnds.{MemoryEnds};
+ghost use Rattle.net_cells.specs.net_model.specs.Orders.{IsOrder};
+ghost use Rattle.net_cells.specs.Equations.{MeetsEquations};
+ghost use Rattle.net_cells.specs.FirstOver.{AnswersAll, FirstOver};
+ghost use Rattle.net_cells.specs.Order.{evaluation_order};
+ghost use Rattle.net_cells.specs.Work.{work};
+ghost use Rattle.net_cells.specs.MemoryEnds.{MemoryEnds};
 ghost use Rattle.flow_analysis.specs.Analyses.{HasNothingElse, IsRefusal, WantsMemory};
 
 use crate::in_order::analysed_in_order;
 use cell_eval::Counted;
-use cell_eval::cell_table::{Analysis, AnalysisFault, Table, Value};
-use cell_eval::net_model::Network;
+use cell_table::{Analysis, AnalysisFault, Table, Value};
+use net_cells::net_model::Network;
 use std::alloc::Global;
 use std::sync::ledger::Ledger;
 use steps::Steps;

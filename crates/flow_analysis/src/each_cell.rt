@@ -1,15 +1,15 @@
 //! All cells, one after the other.
 
 ghost use Rattle.std.specs.Prelude.{◌≡◌, ◌+◌, ◌-◌, ◌≤◌, sum_by, IfOk, IfErr, OnOk};
-ghost use Rattle.cell_eval.specs.net_cells.specs.Equations.{MeetsEquations};
-ghost use Rattle.cell_eval.specs.net_cells.specs.FirstOver.{AnswersAll};
-ghost use Rattle.cell_eval.specs.net_cells.specs.Work.{work};
-ghost use Rattle.cell_eval.specs.net_cells.specs.MemoryEnds.{MemoryEnds};
+ghost use Rattle.net_cells.specs.Equations.{MeetsEquations};
+ghost use Rattle.net_cells.specs.FirstOver.{AnswersAll};
+ghost use Rattle.net_cells.specs.Work.{work};
+ghost use Rattle.net_cells.specs.MemoryEnds.{MemoryEnds};
 ghost use Rattle.flow_analysis.specs.Analyses.{AreAllCells, HasNothingElse, IsFirstOver, IsRefusal, WantsMemory};
 
-use cell_eval::cell_table::{Analysis, AnalysisFault, CellValue, Evaluator, Table, refusal};
-use cell_eval::net_cells::Cell;
-use cell_eval::net_model::Network;
+use cell_table::{Analysis, AnalysisFault, CellValue, Evaluator, Table, refusal};
+use net_cells::Cell;
+use net_cells::net_model::Network;
 use std::alloc::Global;
 
 /// The values of all cells of a network, each made once, in their order, by the values before it. Refused for the first

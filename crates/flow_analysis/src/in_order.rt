@@ -1,18 +1,18 @@
 //! All cells, by an order of the servers.
 
 ghost use Rattle.std.specs.Prelude.{◌≡◌, ◌+◌, ◌-◌, ◌≤◌, sum_by, IfOk, IfErr, OnOk};
-ghost use Rattle.cell_eval.specs.net_model.specs.Orders.{IsOrder};
-ghost use Rattle.cell_eval.specs.net_cells.specs.Equations.{MeetsEquations};
-ghost use Rattle.cell_eval.specs.net_cells.specs.FirstOver.{AnswersAll, FirstOver};
-ghost use Rattle.cell_eval.specs.net_cells.specs.Order.{evaluation_order};
-ghost use Rattle.cell_eval.specs.net_cells.specs.Work.{work};
-ghost use Rattle.cell_eval.specs.net_cells.specs.MemoryEnds.{MemoryEnds};
+ghost use Rattle.net_cells.specs.net_model.specs.Orders.{IsOrder};
+ghost use Rattle.net_cells.specs.Equations.{MeetsEquations};
+ghost use Rattle.net_cells.specs.FirstOver.{AnswersAll, FirstOver};
+ghost use Rattle.net_cells.specs.Order.{evaluation_order};
+ghost use Rattle.net_cells.specs.Work.{work};
+ghost use Rattle.net_cells.specs.MemoryEnds.{MemoryEnds};
 ghost use Rattle.flow_analysis.specs.Analyses.{HasNothingElse, IsRefusal, WantsMemory};
 
 use crate::each_cell::analysed;
-use cell_eval::cell_table::{Analysis, AnalysisFault, CellValue, Evaluator, Table};
-use cell_eval::net_cells::cells;
-use cell_eval::net_model::Network;
+use cell_table::{Analysis, AnalysisFault, CellValue, Evaluator, Table};
+use net_cells::cells;
+use net_cells::net_model::Network;
 use std::alloc::Global;
 
 /// The values of all cells of a network, by the order of its servers; each is made once, after those that it is made

@@ -2,9 +2,9 @@
 use Rattle.std.proofs.Common.{◌≡◌, ℕ, zero, suc, List, [], ◌∷◌, ◌++◌, map, length, refl, Bool, true, false, ◌+◌}
 use Rattle.std.specs.Prelude.{Option, Some, None, ◌||◌}
 use Rattle.std.specs.List.{flat_map, range_with_len}
-use Rattle.report_text.specs.net_model.specs.Networks.{Net, NetFlow}
-use Rattle.report_text.specs.net_cells.specs.Meanings.{CellTable}
-use Rattle.report_text.specs.net_cells.specs.Numbered.{flow_at, queues}
+use Rattle.net_cells.specs.net_model.specs.Networks.{Net, NetFlow}
+use Rattle.net_cells.specs.Meanings.{CellTable}
+use Rattle.net_cells.specs.Numbered.{flow_at, queues}
 use Rattle.report_text.specs.CellWords.{server_name}
 use Rattle.serde_json.specs.Data.{Data}
 use Rattle.serde_json.specs.View.{items_of}

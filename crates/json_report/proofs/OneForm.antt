@@ -4,15 +4,15 @@ use Rattle.std.specs.Prelude.{◌==◌, ◌&&◌, is_some, Option, Some, None, c
 use Rattle.std.specs.List.{range_with_len}
 use Rattle.std.proofs.lemmas.Bool.{lt-ltb}
 use Rattle.std.proofs.lemmas.List.Concat.{flat_map_single}
-use Rattle.report_text.specs.net_model.specs.Accepted.{IsAccepted}
-use Rattle.report_text.specs.net_model.specs.Networks.{Net, NetFlow}
-use Rattle.report_text.specs.net_model.specs.Orders.{IsOrder}
-use Rattle.report_text.specs.net_cells.specs.Equations.{MeetsEquations}
-use Rattle.report_text.specs.net_cells.specs.declared.cell.Kind.TheVariants.{QueueDelay, QueueBacklog, Tfa, Sfa, Bound}
-use Rattle.report_text.specs.net_cells.specs.Meanings.{CellTable}
-use Rattle.report_text.specs.net_cells.specs.Numbered.{flow_at, is_live, queues}
-use Rattle.report_text.specs.net_cells.proofs.Growing.{flat_below}
-use Rattle.report_text.specs.net_cells.proofs.Tables.{tables_agree}
+use Rattle.net_cells.specs.net_model.specs.Accepted.{IsAccepted}
+use Rattle.net_cells.specs.net_model.specs.Networks.{Net, NetFlow}
+use Rattle.net_cells.specs.net_model.specs.Orders.{IsOrder}
+use Rattle.net_cells.specs.Equations.{MeetsEquations}
+use Rattle.net_cells.specs.declared.cell.Kind.TheVariants.{QueueDelay, QueueBacklog, Tfa, Sfa, Bound}
+use Rattle.net_cells.specs.Meanings.{CellTable}
+use Rattle.net_cells.specs.Numbered.{flow_at, is_live, queues}
+use Rattle.net_cells.proofs.Growing.{flat_below}
+use Rattle.net_cells.proofs.Tables.{tables_agree}
 use Rattle.report_text.specs.CellWords.{server_name}
 use Rattle.report_text.specs.Laws.{AgreeWherePrinted}
 use Rattle.report_text.specs.Shown.{shown}

@@ -1,7 +1,7 @@
 -- The forms of the report on a network, and its bytes in each. Own choice.
 use Rattle.std.specs.Prelude.{ℕ, ◌++◌, List, codes}
-use Rattle.report_text.specs.net_model.specs.Networks.{Net}
-use Rattle.report_text.specs.net_cells.specs.Meanings.{CellTable}
+use Rattle.net_cells.specs.net_model.specs.Networks.{Net}
+use Rattle.net_cells.specs.Meanings.{CellTable}
 use Rattle.report_text.specs.Report.{report_of}
 use Rattle.serde_json.specs.Data.{Data}
 use Rattle.serde_json.specs.Written.{compact_text}

@@ -1,10 +1,10 @@
 -- Laws of the report in its forms.
 use Rattle.std.specs.Prelude.{◌≡◌, ℕ, List}
-use Rattle.report_text.specs.net_model.specs.Accepted.{IsAccepted}
-use Rattle.report_text.specs.net_model.specs.Networks.{Net}
-use Rattle.report_text.specs.net_model.specs.Orders.{IsOrder}
-use Rattle.report_text.specs.net_cells.specs.Equations.{MeetsEquations}
-use Rattle.report_text.specs.net_cells.specs.Meanings.{CellTable}
+use Rattle.net_cells.specs.net_model.specs.Accepted.{IsAccepted}
+use Rattle.net_cells.specs.net_model.specs.Networks.{Net}
+use Rattle.net_cells.specs.net_model.specs.Orders.{IsOrder}
+use Rattle.net_cells.specs.Equations.{MeetsEquations}
+use Rattle.net_cells.specs.Meanings.{CellTable}
 use Rattle.json_report.specs.declared.form.Form.{Form}
 use Rattle.json_report.specs.Forms.{report_in}
 

@@ -1,10 +1,10 @@
 -- The report on a network as JSON: a value, from a table of the values of its cells. Own choice.
 use Rattle.std.specs.Prelude.{ℕ, List, [], ◌∷◌, length, Option, Some, None, map, codes}
 use Rattle.std.specs.List.{flat_map, range_with_len}
-use Rattle.report_text.specs.net_model.specs.Networks.{Net, NetFlow}
-use Rattle.report_text.specs.net_cells.specs.declared.cell.Kind.TheVariants.{QueueDelay, QueueBacklog, Tfa, Sfa, Bound}
-use Rattle.report_text.specs.net_cells.specs.Meanings.{CellTable}
-use Rattle.report_text.specs.net_cells.specs.Numbered.{flow_at, queues}
+use Rattle.net_cells.specs.net_model.specs.Networks.{Net, NetFlow}
+use Rattle.net_cells.specs.declared.cell.Kind.TheVariants.{QueueDelay, QueueBacklog, Tfa, Sfa, Bound}
+use Rattle.net_cells.specs.Meanings.{CellTable}
+use Rattle.net_cells.specs.Numbered.{flow_at, queues}
 use Rattle.report_text.specs.CellWords.{server_name}
 use Rattle.report_text.specs.Shown.{shown}
 use Rattle.serde_json.specs.Data.{Data, Members, string, number, unsigned, array, object, no_members, member}

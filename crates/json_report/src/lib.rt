@@ -10,6 +10,4 @@ mod values;
 pub use form::Form;
 pub use laws::equations_give_one_report_in_each_form;
 pub use report::{array_of, json_line, text_in};
-pub use report_text;
-pub use report_text::{cell_table, net_cells, net_model};
 pub use values::{flow_values, queue_values};

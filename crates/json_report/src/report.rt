@@ -9,8 +9,8 @@ ghost use Rattle.json_report.specs.ReportData.{report_data};
 
 use crate::form::Form;
 use crate::values::{flow_values, queue_values};
-use report_text::cell_table::Table;
-use report_text::net_model::Network;
+use cell_table::Table;
+use net_cells::net_model::Network;
 use report_text::{ShownValue, analysis_text};
 use serde_json::{Value, json};
 use std::alloc::{AllocError, Global};

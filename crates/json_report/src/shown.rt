@@ -7,10 +7,10 @@ ghost use Rattle.plain_text.specs.Numbers.{number_text};
 ghost use Rattle.report_text.specs.Laws.{IsPrintable};
 ghost use Rattle.report_text.specs.Shown.{shown};
 
-use fraction128::Ext;
+use cell_table::Table;
+use net_cells::{Cell, Kind};
+use plain_text::fraction128::Ext;
 use rational::Extended;
-use report_text::cell_table::Table;
-use report_text::net_cells::{Cell, Kind};
 use report_text::{ShownValue, push_number};
 use std::alloc::{AllocError, Global};
 

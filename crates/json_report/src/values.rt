@@ -5,9 +5,9 @@ ghost use Rattle.serde_json.specs.View.{view};
 ghost use Rattle.json_report.specs.ReportData as data_of;
 
 use crate::shown::shown_string;
-use report_text::cell_table::Table;
-use report_text::net_cells::{Kind, live_flow, queues};
-use report_text::net_model::Network;
+use cell_table::Table;
+use net_cells::net_model::Network;
+use net_cells::{Kind, live_flow, queues};
 use report_text::{ShownValue, server_name};
 use serde_json::{Value, json};
 use std::alloc::{AllocError, Global};

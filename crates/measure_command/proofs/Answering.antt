@@ -1,20 +1,20 @@
 -- From what single calls answer to the reply on the files.
 use Rattle.std.specs.Prelude.{◌≡◌, ◌≢◌, ◌⊎◌, ℕ, List, length, codes, Result, Ok, Err, IfOk}
 use Rattle.std.proofs.Common.{refl, ap, ◌∙◌, inl, inr}
-use Rattle.rational.specs.Rational.{ℚ}
-use Rattle.min_plus.specs.Functions.{zero_q}
-use Rattle.upp_curve.specs.Curve.{SpecCurve, value_at}
-use Rattle.upp_curve.specs.Curves.{IsCurve}
-use Rattle.upp_curve.specs.Kinds.{bucket}
-use Rattle.upp_limits.specs.declared.op_kind.OpKind.TheVariants.{Vertical}
-use Rattle.upp_limits.specs.declared.own_limits.OverLimit.{OverLimit}
-use Rattle.upp_limits.specs.declared.own_limits.OverLimit.TheVariants.{TooMany, TooWide}
-use Rattle.upp_limits.specs.Outcome.{IsWithin}
-use Rattle.net_model.specs.declared.trace.TracePacket.{TracePacket}
-use Rattle.net_model.specs.Accepted.{IsAccepted}
-use Rattle.net_model.specs.Names.{IsFlowNamed}
-use Rattle.net_model.specs.Networks.{Net}
-use Rattle.net_model.specs.Traces.{SpecTrace}
+use Rattle.curve_call.specs.rational.specs.Rational.{ℚ}
+use Rattle.curve_call.specs.min_plus.specs.Functions.{zero_q}
+use Rattle.curve_call.specs.upp_curve.specs.Curve.{SpecCurve, value_at}
+use Rattle.curve_call.specs.upp_curve.specs.Curves.{IsCurve}
+use Rattle.curve_call.specs.upp_curve.specs.Kinds.{bucket}
+use Rattle.curve_call.specs.upp_limits.specs.declared.op_kind.OpKind.TheVariants.{Vertical}
+use Rattle.curve_call.specs.upp_limits.specs.declared.own_limits.OverLimit.{OverLimit}
+use Rattle.curve_call.specs.upp_limits.specs.declared.own_limits.OverLimit.TheVariants.{TooMany, TooWide}
+use Rattle.curve_call.specs.upp_limits.specs.Outcome.{IsWithin}
+use Rattle.table_text.specs.net_model.specs.declared.trace.TracePacket.{TracePacket}
+use Rattle.table_text.specs.net_model.specs.Accepted.{IsAccepted}
+use Rattle.table_text.specs.net_model.specs.Names.{IsFlowNamed}
+use Rattle.table_text.specs.net_model.specs.Networks.{Net}
+use Rattle.table_text.specs.net_model.specs.Traces.{SpecTrace}
 use Rattle.table_text.specs.declared.fault.TableFault.{TableFault}
 use Rattle.table_text.specs.declared.fault.TableKind.TheVariants.{NoMemory}
 use Rattle.table_text.specs.Traces.{IsFirstFault, out_of_memory}

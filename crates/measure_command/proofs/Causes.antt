@@ -1,9 +1,9 @@
 -- Each status of a reply has its cause.
 use Rattle.std.proofs.Common.{◌≡◌, ℕ, List, ◌++◌, inl, inr, ap, arith}
 use Rattle.std.specs.Prelude.{codes}
-use Rattle.rational.specs.Rational.{ℚ}
-use Rattle.upp_limits.specs.declared.own_limits.OverLimit.{OverLimit}
-use Rattle.upp_limits.specs.declared.own_limits.OverLimit.TheVariants.{TooMany, TooWide}
+use Rattle.curve_call.specs.rational.specs.Rational.{ℚ}
+use Rattle.curve_call.specs.upp_limits.specs.declared.own_limits.OverLimit.{OverLimit}
+use Rattle.curve_call.specs.upp_limits.specs.declared.own_limits.OverLimit.TheVariants.{TooMany, TooWide}
 use Rattle.command_replies.specs.Replies.{Reply, over}
 use Rattle.measure_command.specs.OnMeasures as on
 use Rattle.measure_command.specs.OnMeasures.{IsMeasureReport}

@@ -1,9 +1,9 @@
 -- The steps of an answer, and the statuses of refusals.
 use Rattle.std.specs.Prelude.{◌≡◌, ◌≢◌, ℕ, ◌+◌, ◌≤◌, List, Result, Ok, Err, IfOk}
 use Rattle.std.proofs.Common.{arith, ap, inl, inr}
-use Rattle.upp_limits.specs.declared.own_limits.OverLimit.TheVariants.{TooMany, TooWide}
-use Rattle.command_replies.specs.net_text.specs.Folds.{StepsAtMost}
-use Rattle.command_replies.specs.subadd_closure.specs.FoldWork.{fold_work}
+use Rattle.curve_call.specs.upp_limits.specs.declared.own_limits.OverLimit.TheVariants.{TooMany, TooWide}
+use Rattle.net_text.specs.Folds.{StepsAtMost}
+use Rattle.subadd_closure.specs.FoldWork.{fold_work}
 use Rattle.command_replies.specs.declared.answer.Answer.{Answer}
 use Rattle.command_replies.specs.OnFiles.{IsNoNetwork}
 use Rattle.command_replies.specs.Replies.{Reply}

@@ -1,21 +1,21 @@
 -- The laws of the replies: what a report says, their statuses, completeness, and that there is one.
 use Rattle.std.specs.Prelude.{◌≡◌, ℕ, List, length, codes}
 use Rattle.std.proofs.Common.{arith, refl, sym, ap, ap₂, subst, ◌∙◌, inl, inr}
-use Rattle.rational.specs.Rational.{ℚ}
-use Rattle.rational.proofs.Laws.{antisym}
-use Rattle.upp_curve.specs.Curve.{SpecCurve, value_at}
-use Rattle.upp_curve.proofs.OneForm.{normal_unique}
-use Rattle.upp_limits.specs.declared.own_limits.OverLimit.{OverLimit}
-use Rattle.upp_limits.specs.declared.own_limits.OverLimit.TheVariants.{TooMany, TooWide}
-use Rattle.upp_limits.specs.declared.op_kind.OpKind.TheVariants.{Vertical}
-use Rattle.upp_curve.specs.Kinds.{bucket}
-use Rattle.min_plus.specs.Functions.{zero_q}
+use Rattle.curve_call.specs.rational.specs.Rational.{ℚ}
+use Rattle.curve_call.specs.rational.proofs.Laws.{antisym}
+use Rattle.curve_call.specs.upp_curve.specs.Curve.{SpecCurve, value_at}
+use Rattle.curve_call.specs.upp_curve.proofs.OneForm.{normal_unique}
+use Rattle.curve_call.specs.upp_limits.specs.declared.own_limits.OverLimit.{OverLimit}
+use Rattle.curve_call.specs.upp_limits.specs.declared.own_limits.OverLimit.TheVariants.{TooMany, TooWide}
+use Rattle.curve_call.specs.upp_limits.specs.declared.op_kind.OpKind.TheVariants.{Vertical}
+use Rattle.curve_call.specs.upp_curve.specs.Kinds.{bucket}
+use Rattle.curve_call.specs.min_plus.specs.Functions.{zero_q}
 use Rattle.curve_call.proofs.InTurn.{not_both}
-use Rattle.net_model.specs.declared.trace.TracePacket.{TracePacket}
-use Rattle.net_model.specs.Accepted.{IsAccepted}
-use Rattle.net_model.specs.Names.{IsFlowNamed}
-use Rattle.net_model.specs.Networks.{Net}
-use Rattle.net_model.specs.Traces.{SpecTrace}
+use Rattle.table_text.specs.net_model.specs.declared.trace.TracePacket.{TracePacket}
+use Rattle.table_text.specs.net_model.specs.Accepted.{IsAccepted}
+use Rattle.table_text.specs.net_model.specs.Names.{IsFlowNamed}
+use Rattle.table_text.specs.net_model.specs.Networks.{Net}
+use Rattle.table_text.specs.net_model.specs.Traces.{SpecTrace}
 use Rattle.table_text.specs.declared.fault.TableFault.{TableFault}
 use Rattle.table_text.specs.declared.fault.TableKind.{TableKind}
 use Rattle.table_text.specs.Traces.{IsTraceOf}

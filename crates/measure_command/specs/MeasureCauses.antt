@@ -1,8 +1,8 @@
 -- Of the replies on a network's file and a trace, those of each status.
 use Rattle.std.specs.Prelude.{◌≡◌, ◌≢◌, ◌⊎◌, ◌≤◌, ℕ, List}
-use Rattle.rational.specs.Rational.{ℚ}
-use Rattle.upp_limits.specs.declared.own_limits.OverLimit.{OverLimit}
-use Rattle.upp_limits.specs.declared.own_limits.OverLimit.TheVariants.{TooMany, TooWide}
+use Rattle.curve_call.specs.rational.specs.Rational.{ℚ}
+use Rattle.curve_call.specs.upp_limits.specs.declared.own_limits.OverLimit.{OverLimit}
+use Rattle.curve_call.specs.upp_limits.specs.declared.own_limits.OverLimit.TheVariants.{TooMany, TooWide}
 use Rattle.command_replies.specs.Replies.{Reply}
 use Rattle.command_replies.specs.OnFiles.{IsBroken, IsCurveOver, IsBadTrace}
 use Rattle.measure_command.specs.OnMeasures.{IsUnknownFlow, IsMeasureOver, IsBurstOver, IsMeasureReport}

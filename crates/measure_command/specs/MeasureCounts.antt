@@ -1,7 +1,7 @@
 -- How many steps an answer on a trace takes: an operator on curves takes one.
 use Rattle.std.specs.Prelude.{◌≡◌, ◌+◌, ◌≤◌, ℕ, List}
-use Rattle.command_replies.specs.net_text.specs.Folds.{StepsAtMost}
-use Rattle.command_replies.specs.subadd_closure.specs.FoldWork.{fold_work}
+use Rattle.net_text.specs.Folds.{StepsAtMost}
+use Rattle.subadd_closure.specs.FoldWork.{fold_work}
 
 -- no more than the operators of the folds of the file's closures, and one for the burst; with a report exactly that one
 -- after them

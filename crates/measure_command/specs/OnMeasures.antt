@@ -2,21 +2,21 @@
 -- of the network, or of the trace; where no live flow has the name; where its packets, or the burst, are over a
 -- limit; or by the report on the measured curve.
 use Rattle.std.specs.Prelude.{◌≡◌, ℕ, ◌++◌, List, length, codes}
-use Rattle.rational.specs.Rational.{ℚ}
-use Rattle.min_plus.specs.Functions.{zero_q}
-use Rattle.upp_curve.specs.Curve.{SpecCurve, value_at}
-use Rattle.upp_curve.specs.Curves.{IsCurve}
-use Rattle.upp_curve.specs.Kinds.{bucket}
-use Rattle.upp_limits.specs.declared.op_kind.OpKind.TheVariants.{Vertical}
-use Rattle.upp_limits.specs.declared.own_limits.OverLimit.{OverLimit}
-use Rattle.upp_limits.specs.declared.own_limits.OverLimit.TheVariants.{TooMany, TooWide}
-use Rattle.upp_limits.specs.Gauges.{IsTooMany, IsTooWide}
-use Rattle.net_model.specs.declared.trace.TracePacket.{TracePacket}
-use Rattle.net_model.specs.Names.{FindsFlow, IsFlowNamed}
-use Rattle.net_model.specs.Networks.{Net}
-use Rattle.net_model.specs.Traces.{SpecTrace}
-use Rattle.command_replies.specs.net_text.specs.Reading.{IsNetworkOf}
-use Rattle.command_replies.specs.net_text.specs.FoldLimits.{OverFold}
+use Rattle.curve_call.specs.rational.specs.Rational.{ℚ}
+use Rattle.curve_call.specs.min_plus.specs.Functions.{zero_q}
+use Rattle.curve_call.specs.upp_curve.specs.Curve.{SpecCurve, value_at}
+use Rattle.curve_call.specs.upp_curve.specs.Curves.{IsCurve}
+use Rattle.curve_call.specs.upp_curve.specs.Kinds.{bucket}
+use Rattle.curve_call.specs.upp_limits.specs.declared.op_kind.OpKind.TheVariants.{Vertical}
+use Rattle.curve_call.specs.upp_limits.specs.declared.own_limits.OverLimit.{OverLimit}
+use Rattle.curve_call.specs.upp_limits.specs.declared.own_limits.OverLimit.TheVariants.{TooMany, TooWide}
+use Rattle.curve_call.specs.upp_limits.specs.Gauges.{IsTooMany, IsTooWide}
+use Rattle.table_text.specs.net_model.specs.declared.trace.TracePacket.{TracePacket}
+use Rattle.table_text.specs.net_model.specs.Names.{FindsFlow, IsFlowNamed}
+use Rattle.table_text.specs.net_model.specs.Networks.{Net}
+use Rattle.table_text.specs.net_model.specs.Traces.{SpecTrace}
+use Rattle.net_text.specs.Reading.{IsNetworkOf}
+use Rattle.net_text.specs.FoldLimits.{OverFold}
 use Rattle.table_text.specs.Rows.{rows_of}
 use Rattle.table_text.specs.Traces.{IsTraceOf}
 use Rattle.measure_curve.specs.Bursts.{IsLeastBurst}

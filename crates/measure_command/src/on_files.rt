@@ -1,20 +1,20 @@
 //! The answer on a network's file and a trace.
 
 ghost use Rattle.std.specs.Prelude.{◌≡◌, ◌+◌, ◌≤◌, IfOk};
-ghost use Rattle.rational.specs.Rational.{◌≤ℚ◌};
-ghost use Rattle.min_plus.specs.Functions.{zero_q};
+ghost use Rattle.curve_call.specs.rational.specs.Rational.{◌≤ℚ◌};
+ghost use Rattle.curve_call.specs.min_plus.specs.Functions.{zero_q};
 ghost use Rattle.command_replies.specs.View.{reply_of, status_of};
 ghost use Rattle.measure_command.specs.MeasureCounts.{CountsOn};
 ghost use Rattle.measure_command.specs.OnMeasures.{IsMeasureReply, IsReplyOnNet};
 
 use crate::on_trace::on_trace;
-use command_replies::net_text::read_network;
 use command_replies::{Answer, on_fault, on_table_fault};
-use fraction128::Frac;
-use net_model::Network;
+use curve_call::fraction128::Frac;
+use net_text::read_network;
 use std::alloc::{AllocError, Global};
 use std::sync::ledger::Ledger;
 use steps::Steps;
+use table_text::net_model::Network;
 use table_text::read_trace;
 
 // The answer on a network and the bytes of a trace: by the trace's first fault, or on the trace.

@@ -4,10 +4,10 @@ ghost use Rattle.std.specs.Prelude.{◌≡◌, ◌++◌, codes, IfOk};
 ghost use Rattle.command_replies.specs.Replies as replies;
 ghost use Rattle.command_replies.specs.View.{code_of, reply_of};
 ghost use Rattle.measure_command.specs.OnMeasures as measures;
-ghost use Rattle.upp_limits.specs.declared.own_limits.OverLimit.TheVariants as limits;
+ghost use Rattle.curve_call.specs.upp_limits.specs.declared.own_limits.OverLimit.TheVariants as limits;
 
-use command_replies::report_text::{push_after, push_text};
 use command_replies::{Answer, Status};
+use report_text::{push_after, push_text};
 use std::alloc::{AllocError, Global};
 
 // The answer with the line of a reason.

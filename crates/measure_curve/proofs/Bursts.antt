@@ -8,11 +8,11 @@ use Rattle.rational.proofs.Linear.{with2, with3, with4}
 use Rattle.rational.proofs.Laws.{mul_nonneg, lt_irrefl}
 use Rattle.rational.proofs.Bounds.{smallest}
 use Rattle.rational.proofs.ExtendedOrder.{fin_same}
-use Rattle.min_plus.specs.Functions.{zero_q, FiniteTime, IsFinite}
-use Rattle.min_plus.specs.Deviations.{IsVerticalDeviation}
-use Rattle.upp_curve.specs.Curve.{value_at}
-use Rattle.upp_curve.specs.Kinds.{bucket}
-use Rattle.upp_curve.proofs.KindValues.{bucket_is}
+use Rattle.net_model.specs.min_plus.specs.Functions.{zero_q, FiniteTime, IsFinite}
+use Rattle.net_model.specs.min_plus.specs.Deviations.{IsVerticalDeviation}
+use Rattle.net_model.specs.upp_curve.specs.Curve.{value_at}
+use Rattle.net_model.specs.upp_curve.specs.Kinds.{bucket}
+use Rattle.net_model.specs.upp_curve.proofs.KindValues.{bucket_is}
 use Rattle.measure_curve.specs.Bursts.{IsBounded, IsLeastBurst}
 
 pub line_finite : (rate : ℚ) → IsFinite (value_at (bucket zero_q rate))

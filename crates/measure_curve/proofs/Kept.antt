@@ -8,15 +8,15 @@ use Rattle.rational.specs.Extended.{Ext, ◌≤ₑ◌}
 use Rattle.rational.specs.declared.Extended.TheVariants.{Fin}
 use Rattle.rational.proofs.Linear.{with2}
 use Rattle.rational.proofs.ExtendedOrder.{le_ext_trans, antisym_ext}
-use Rattle.min_plus.specs.Functions.{zero_q}
-use Rattle.min_plus.specs.Formulas.{bucket_value}
-use Rattle.run_laws.specs.declared.steps.Step.{Step}
-use Rattle.run_laws.specs.declared.steps.Step.TheVariants.{Enter, Reach, Work, Leave, Visit}
-use Rattle.run_laws.specs.Cards.{whole}
-use Rattle.run_laws.specs.Counts.{within}
-use Rattle.run_laws.specs.RunPremises.{entered_in}
-use Rattle.run_laws.proofs.Sizes.{whole_le, whole_sum}
-use Rattle.run_laws.proofs.Sums.{when_true, when_false, add_nothing}
+use Rattle.net_model.specs.min_plus.specs.Functions.{zero_q}
+use Rattle.net_model.specs.min_plus.specs.Formulas.{bucket_value}
+use Rattle.net_model.specs.run_laws.specs.declared.steps.Step.{Step}
+use Rattle.net_model.specs.run_laws.specs.declared.steps.Step.TheVariants.{Enter, Reach, Work, Leave, Visit}
+use Rattle.net_model.specs.run_laws.specs.Cards.{whole}
+use Rattle.net_model.specs.run_laws.specs.Counts.{within}
+use Rattle.net_model.specs.run_laws.specs.RunPremises.{entered_in}
+use Rattle.net_model.specs.run_laws.proofs.Sizes.{whole_le, whole_sum}
+use Rattle.net_model.specs.run_laws.proofs.Sums.{when_true, when_false, add_nothing}
 use Rattle.net_model.specs.declared.trace.TracePacket.{TracePacket}
 use Rattle.measure_curve.specs.Bursts.{IsBounded}
 use Rattle.measure_curve.specs.Laws.{PacketsKeepTheCurve, KeptCurvesAreAbove, LeastArrivalIsOne, LeastBucketIsKept, entering_in, LeastInRuns}

@@ -5,14 +5,14 @@ use Rattle.rational.specs.Rational.{ℚ, ◌≤ℚ◌, ◌<ℚ◌}
 use Rattle.rational.specs.Extended.{Ext, ◌<ₑ◌}
 use Rattle.rational.specs.declared.Extended.TheVariants.{Fin, Inf}
 use Rattle.rational.proofs.Laws.{le_refl, le_trans, le_of_lt, le_or_lt, lt_cases, lt_trans, lt_le_trans, le_lt_trans, lt_irrefl}
-use Rattle.min_plus.specs.Functions.{zero_q}
+use Rattle.net_model.specs.min_plus.specs.Functions.{zero_q}
 use Rattle.affine_segment.specs.Pieces.{Each, HasStart}
 use Rattle.affine_segment.specs.Reading.{read}
 use Rattle.affine_segment.proofs.PieceIn.{read_first, read_go, read_stop, read_one}
-use Rattle.upp_curve.specs.Curve.{value_at}
-use Rattle.upp_curve.proofs.StairValues.{flat_value}
-use Rattle.run_laws.specs.Cards.{whole}
-use Rattle.run_laws.proofs.Sizes.{whole_lt}
+use Rattle.net_model.specs.upp_curve.specs.Curve.{value_at}
+use Rattle.net_model.specs.upp_curve.proofs.StairValues.{flat_value}
+use Rattle.net_model.specs.run_laws.specs.Cards.{whole}
+use Rattle.net_model.specs.run_laws.proofs.Sizes.{whole_lt}
 use Rattle.measure_curve.specs.declared.windows.Window.{Window}
 use Rattle.measure_curve.specs.Staircases.{time_of, piece_of, staircase, StepUp, AreSteps, TellRises}
 use Rattle.measure_curve.specs.Windows.{RisesAt}

@@ -12,22 +12,22 @@ use Rattle.rational.proofs.Linear.{with2}
 use Rattle.rational.proofs.Over.{lt_over, int_over, le_q_out, le_q_in}
 use Rattle.rational.proofs.Parts.{small_ratio}
 use Rattle.rational.proofs.ExtendedOrder.{fin_same}
-use Rattle.min_plus.specs.Functions.{zero_q}
+use Rattle.net_model.specs.min_plus.specs.Functions.{zero_q}
 use Rattle.affine_segment.specs.declared.line.Piece.{Piece}
 use Rattle.affine_segment.specs.Pieces.{Each, HasStart, RisesFrom, StartsAtZero}
 use Rattle.affine_segment.specs.Reading.{read}
 use Rattle.affine_segment.specs.Fits.{LineFits}
 use Rattle.affine_segment.proofs.PieceIn.{read_go, read_stop, read_one}
-use Rattle.upp_curve.specs.Curve.{value_at}
-use Rattle.upp_curve.specs.Curves.{IsCurve}
-use Rattle.upp_curve.specs.Normal.{IsNormal, Continues, NoneContinues}
-use Rattle.upp_curve.specs.Readable.{EachFits}
-use Rattle.upp_curve.specs.Steady.{last_of}
-use Rattle.upp_curve.proofs.ReadableKinds.{bucket_curve, zero_small}
-use Rattle.upp_curve.proofs.ByTail.{some_is}
-use Rattle.upp_curve.proofs.StairValues.{flat_value}
-use Rattle.run_laws.specs.Cards.{whole}
-use Rattle.run_laws.proofs.Sizes.{whole_lt}
+use Rattle.net_model.specs.upp_curve.specs.Curve.{value_at}
+use Rattle.net_model.specs.upp_curve.specs.Curves.{IsCurve}
+use Rattle.net_model.specs.upp_curve.specs.Normal.{IsNormal, Continues, NoneContinues}
+use Rattle.net_model.specs.upp_curve.specs.Readable.{EachFits}
+use Rattle.net_model.specs.upp_curve.specs.Steady.{last_of}
+use Rattle.net_model.specs.upp_curve.proofs.ReadableKinds.{bucket_curve, zero_small}
+use Rattle.net_model.specs.upp_curve.proofs.ByTail.{some_is}
+use Rattle.net_model.specs.upp_curve.proofs.StairValues.{flat_value}
+use Rattle.net_model.specs.run_laws.specs.Cards.{whole}
+use Rattle.net_model.specs.run_laws.proofs.Sizes.{whole_lt}
 use Rattle.measure_curve.specs.declared.windows.Window.{Window}
 use Rattle.measure_curve.specs.Staircases.{time_of, piece_of, last_length, staircase, StepUp, AreSteps, Fit}
 use Rattle.measure_curve.proofs.Tests.{level}

@@ -10,9 +10,9 @@ use Rattle.rational.specs.Grid.{Whole, Within}
 use Rattle.rational.proofs.Grid.{whole_divides}
 use Rattle.rational.proofs.Integers.{int_mul, nat_lt, nat_nonneg, nat_le_out}
 use Rattle.rational.proofs.Laws.{mul_cancel, mul_le_mul_right, not_zero}
-use Rattle.upp_limits.proofs.CommonDen.{common_den_pos, common_den_each, bound_each}
+use Rattle.net_model.specs.upp_limits.proofs.CommonDen.{common_den_pos, common_den_each, bound_each}
 use Rattle.curve_library.proofs.SharesAre.{frac_times, steps_on}
-use Rattle.min_plus.specs.Functions.{zero_q}
+use Rattle.net_model.specs.min_plus.specs.Functions.{zero_q}
 use Rattle.net_model.specs.declared.trace.TracePacket.{TracePacket}
 use Rattle.net_model.specs.Traces.{IsTracePacket}
 use Rattle.measure_curve.specs.declared.windows.Entry.{Entry}

@@ -4,9 +4,9 @@ use Rattle.std.specs.Prelude.{◌≡◌, ℕ, ◌+◌, ◌≤◌, ◌==◌, List
 use Rattle.rational.specs.Rational.{ℚ, ◌+ℚ◌, ◌-ℚ◌, ◌≤ℚ◌, ◌<ℚ◌}
 use Rattle.rational.specs.Extended.{Ext, ◌≤ₑ◌, ◌<ₑ◌}
 use Rattle.rational.specs.declared.Extended.TheVariants.{Fin}
-use Rattle.min_plus.specs.Functions.{zero_q}
-use Rattle.run_laws.specs.Cards.{whole}
-use Rattle.run_laws.specs.Counts.{within}
+use Rattle.net_model.specs.min_plus.specs.Functions.{zero_q}
+use Rattle.net_model.specs.run_laws.specs.Cards.{whole}
+use Rattle.net_model.specs.run_laws.specs.Counts.{within}
 use Rattle.net_model.specs.declared.trace.TracePacket.{TracePacket}
 
 -- the packets of a flow

@@ -3,20 +3,20 @@
 ghost use Rattle.std.specs.Prelude.{◌≡◌, ◌+◌, ◌≤◌, Err, IfOk, OnOk};
 ghost use Rattle.rational.specs.Rational.{◌≤ℚ◌};
 ghost use Rattle.rational.specs.declared.Extended.TheVariants as extended;
-ghost use Rattle.min_plus.specs.Functions.{zero_q, IsFinite};
-ghost use Rattle.min_plus.specs.Deviations.{IsVerticalDeviation};
-ghost use Rattle.upp_curve.specs.Curve.{value_at};
-ghost use Rattle.upp_curve.specs.Kinds.{bucket};
+ghost use Rattle.net_model.specs.min_plus.specs.Functions.{zero_q, IsFinite};
+ghost use Rattle.net_model.specs.min_plus.specs.Deviations.{IsVerticalDeviation};
+ghost use Rattle.net_model.specs.upp_curve.specs.Curve.{value_at};
+ghost use Rattle.net_model.specs.upp_curve.specs.Kinds.{bucket};
 ghost use Rattle.measure_curve.specs.Bursts.{IsBounded, IsLeastBurst, KeepsBurstLimits};
 
+use affine_segment::fraction128::Frac;
 use curve_deviation::vertical;
-use fraction128::Frac;
+use net_model::upp_curve::Curve;
+use net_model::upp_limits::OpFault;
 use rational::Extended;
 use std::alloc::{AllocError, Global};
 use std::sync::ledger::Ledger;
 use steps::Steps;
-use upp_curve::Curve;
-use upp_limits::OpFault;
 
 /// The line of this slope from 0 at 0.
 fn line_of(alloc: Global, rate: Frac) -> Result<Curve, AllocError>

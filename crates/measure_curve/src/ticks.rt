@@ -5,7 +5,7 @@ ghost use Rattle.rational.specs.Rational.{int, ◌≤ℚ◌, den};
 ghost use Rattle.measure_curve.specs.Scans as scans;
 ghost use Rattle.measure_curve.specs.Staircases as staircases;
 
-use fraction128::Frac;
+use affine_segment::fraction128::Frac;
 
 /// A time as a number of steps of 1 / grid.
 pub(crate) fn ticks(time: Frac, grid: u128) -> u128

@@ -2,9 +2,9 @@
 use Rattle.std.specs.Prelude.{ℕ, List, ◌++◌, codes}
 use Rattle.std.specs.Fmt.{decimal}
 use Rattle.std.specs.List.{flat_map}
-use Rattle.rational.specs.Rational.{ℚ}
-use Rattle.fraction128.specs.Text.{text_of}
-use Rattle.affine_segment.specs.declared.line.Piece.{Piece}
+use Rattle.upp_curve.specs.rational.specs.Rational.{ℚ}
+use Rattle.upp_curve.specs.fraction128.specs.Text.{text_of}
+use Rattle.upp_curve.specs.affine_segment.specs.declared.line.Piece.{Piece}
 use Rattle.plain_text.specs.Numbers.{number_text}
 
 -- the flow's name, and how many packets it has

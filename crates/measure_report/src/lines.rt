@@ -2,15 +2,15 @@
 
 ghost use Rattle.std.specs.Prelude.{◌≡◌, ◌++◌, codes, OnOk};
 ghost use Rattle.std.specs.Fmt.{decimal};
-ghost use Rattle.fraction128.specs.Text.{text_of};
+ghost use Rattle.upp_curve.specs.fraction128.specs.Text.{text_of};
 ghost use Rattle.plain_text.specs.Numbers.{number_text};
 ghost use Rattle.measure_report.specs.MeasureReport.{head_line, step_line, burst_line};
 
-use affine_segment::Piece;
-use fraction128::{Ext, Frac};
-use rational::Extended;
 use report_text::{push_after, push_decimal, push_text};
 use std::alloc::AllocError;
+use upp_curve::affine_segment::Piece;
+use upp_curve::fraction128::{Ext, Frac};
+use upp_curve::rational::Extended;
 
 #[tactic(auto, unfolding(crate::specs::MeasureReport::head_line))]
 pub(crate) fn push_head_line(

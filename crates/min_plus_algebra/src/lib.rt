@@ -5,18 +5,18 @@
 mod example;
 
 // Numbers, and infinity; the counter of operators.
-pub use fraction128::{Ext, Frac, FracFault, FracText, Wide};
-pub use rational::Extended;
+pub use curve_pointwise::fraction128::{Ext, Frac, FracFault, FracText, Wide};
+pub use curve_pointwise::rational::Extended;
 pub use steps::Steps;
 
 // Curves: of the kinds of a network's file, of listed pieces, and of any pieces in normal form.
-pub use affine_segment::{Line, Piece};
 pub use curve_library::{
     CurveFault, PieceText, TailText, UseAs, bucket, gate, listed, rate_latency, stair,
 };
-pub use upp_curve::{Curve, Tail, equal, is_continuous};
-pub use upp_limits::{OpFault, OpKind, OverLimit};
-pub use upp_normal::{RawCurve, normalise};
+pub use curve_pointwise::affine_segment::{Line, Piece};
+pub use curve_pointwise::upp_curve::{Curve, Tail, equal, is_continuous};
+pub use curve_pointwise::upp_limits::{OpFault, OpKind, OverLimit};
+pub use curve_pointwise::upp_normal::{RawCurve, normalise};
 
 // Operators.
 pub use curve_conv::convolve;

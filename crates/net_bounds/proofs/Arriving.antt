@@ -3,11 +3,11 @@
 use Rattle.std.specs.Prelude.{◌≡◌, ℕ, ◌<◌, ◌≤◌, ◌==◌, ◌&&◌, List, [], ◌∷◌, length}
 use Rattle.std.proofs.Common.{arith, sym, ap, ◌∙◌, subst, inl, inr}
 use Rattle.std.proofs.lemmas.Bool.{eqb-true, eq-eqb}
-use Rattle.rational.specs.Rational.{ℚ, ◌-ℚ◌, ◌≤ℚ◌}
-use Rattle.rational.specs.Extended.{Ext, ◌≤ₑ◌}
-use Rattle.rational.specs.declared.Extended.TheVariants.{Fin}
-use Rattle.rational.proofs.ExtendedOrder.{le_ext_trans}
-use Rattle.rational.proofs.Linear.{with1, with2}
+use Rattle.min_plus.specs.rational.specs.Rational.{ℚ, ◌-ℚ◌, ◌≤ℚ◌}
+use Rattle.min_plus.specs.rational.specs.Extended.{Ext, ◌≤ₑ◌}
+use Rattle.min_plus.specs.rational.specs.declared.Extended.TheVariants.{Fin}
+use Rattle.min_plus.specs.rational.proofs.ExtendedOrder.{le_ext_trans}
+use Rattle.min_plus.specs.rational.proofs.Linear.{with1, with2}
 use Rattle.min_plus.specs.Functions.{zero_q, IsNonnegative}
 use Rattle.net_cells.specs.run_laws.specs.Runs.{SpecRun}
 use Rattle.net_cells.specs.run_laws.specs.Cards.{Card, Class, of_flow, ServerStep, Arrives, Works, Leaves, Visits}

@@ -1,11 +1,11 @@
 -- The curve and the number that a table has in a cell, as functions; and what a formula's meaning says of them.
 use Rattle.std.specs.Prelude.{◌≡◌, List, [], ◌∷◌, Option, Some, None}
 use Rattle.std.proofs.Common.{sym, ap, ◌∙◌, subst}
-use Rattle.rational.specs.Rational.{ℚ, ◌+ℚ◌, ◌*ℚ◌, ◌≤ℚ◌}
-use Rattle.rational.specs.Extended.{Ext, ◌+ₑ◌}
-use Rattle.rational.specs.declared.Extended.TheVariants.{Fin, Inf}
-use Rattle.rational.proofs.ExtendedOrder.{add_zero_ext, add_ext_assoc}
-use Rattle.rational.proofs.Laws.{mul_zero, mul_comm, add_zero}
+use Rattle.min_plus.specs.rational.specs.Rational.{ℚ, ◌+ℚ◌, ◌*ℚ◌, ◌≤ℚ◌}
+use Rattle.min_plus.specs.rational.specs.Extended.{Ext, ◌+ₑ◌}
+use Rattle.min_plus.specs.rational.specs.declared.Extended.TheVariants.{Fin, Inf}
+use Rattle.min_plus.specs.rational.proofs.ExtendedOrder.{add_zero_ext, add_ext_assoc}
+use Rattle.min_plus.specs.rational.proofs.Laws.{mul_zero, mul_comm, add_zero}
 use Rattle.net_cells.specs.upp_limits.specs.declared.op_kind.OpKind.{OpKind}
 use Rattle.net_cells.specs.upp_limits.specs.declared.op_kind.OpKind.TheVariants.{Sum}
 use Rattle.net_cells.specs.upp_curve.specs.Curve.{SpecCurve, value_at}

@@ -1,8 +1,8 @@
 -- What parts of formulas mean: a curve less one packet, and deviations of two cells' curves.
 use Rattle.std.specs.Prelude.{◌≡◌, ℕ, Some}
 use Rattle.std.proofs.Common.{sym, ◌∙◌}
-use Rattle.rational.specs.Rational.{ℚ}
-use Rattle.rational.specs.Extended.{Ext}
+use Rattle.min_plus.specs.rational.specs.Rational.{ℚ}
+use Rattle.min_plus.specs.rational.specs.Extended.{Ext}
 use Rattle.net_cells.specs.upp_limits.specs.declared.op_kind.OpKind.TheVariants.{PosMinus}
 use Rattle.net_cells.specs.upp_curve.specs.Curve.{value_at}
 use Rattle.min_plus.specs.Functions.{FiniteTime}

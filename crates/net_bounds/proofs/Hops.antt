@@ -3,11 +3,11 @@
 use Rattle.std.specs.Prelude.{◌≡◌, ℕ, suc, ◌<◌, ◌≤◌, ◌==◌, true, List}
 use Rattle.std.proofs.Common.{arith, sym, ap, ◌∙◌, refl, subst, get_or}
 use Rattle.std.proofs.lemmas.Bool.{eqb-true, eq-eqb, and_parts}
-use Rattle.rational.specs.Rational.{ℚ, ◌-ℚ◌, ◌≤ℚ◌}
-use Rattle.rational.specs.Extended.{Ext, ◌≤ₑ◌, min_ext}
-use Rattle.rational.specs.declared.Extended.TheVariants.{Fin}
-use Rattle.rational.proofs.ExtendedOrder.{min_greatest}
-use Rattle.rational.proofs.Linear.{with2}
+use Rattle.min_plus.specs.rational.specs.Rational.{ℚ, ◌-ℚ◌, ◌≤ℚ◌}
+use Rattle.min_plus.specs.rational.specs.Extended.{Ext, ◌≤ₑ◌, min_ext}
+use Rattle.min_plus.specs.rational.specs.declared.Extended.TheVariants.{Fin}
+use Rattle.min_plus.specs.rational.proofs.ExtendedOrder.{min_greatest}
+use Rattle.min_plus.specs.rational.proofs.Linear.{with2}
 use Rattle.min_plus.specs.Functions.{zero_q}
 use Rattle.min_plus.specs.Pointwise.{shifted, packetised}
 use Rattle.min_plus.specs.Running.{IsFifoLeftover}

@@ -2,10 +2,10 @@
 use Rattle.std.specs.Prelude.{◌≡◌, ◌<◌, ◌≤◌, ℕ, zero, suc, Bool, true, ◌==◌, ◌&&◌, nat_lt, pos, Some, None, List, [], ◌∷◌, ◌++◌, length, if◌then◌else◌}
 use Rattle.std.proofs.Common.{arith, sym, ap, ◌∙◌, refl, subst, inl, inr, get_or}
 use Rattle.std.proofs.lemmas.Bool.{cases_Bool, cases_eq, eqb-true, eq-eqb, ne_eqb, lt-ltb, ltb-true, and_parts, and_from}
-use Rattle.rational.specs.Rational.{ℚ, int, ◌-ℚ◌, ◌≤ℚ◌}
-use Rattle.rational.specs.declared.Extended.TheVariants.{Fin}
-use Rattle.rational.proofs.Laws.{le_of_lt}
-use Rattle.rational.proofs.ExtendedOrder.{min_greatest}
+use Rattle.min_plus.specs.rational.specs.Rational.{ℚ, int, ◌-ℚ◌, ◌≤ℚ◌}
+use Rattle.min_plus.specs.rational.specs.declared.Extended.TheVariants.{Fin}
+use Rattle.min_plus.specs.rational.proofs.Laws.{le_of_lt}
+use Rattle.min_plus.specs.rational.proofs.ExtendedOrder.{min_greatest}
 use Rattle.net_cells.specs.run_laws.specs.Runs.{SpecRun}
 use Rattle.net_cells.specs.run_laws.specs.Cards.{Card, of_queue}
 use Rattle.net_cells.specs.run_laws.specs.Servers.{Fifo, Server}

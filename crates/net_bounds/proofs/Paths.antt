@@ -2,7 +2,7 @@
 use Rattle.std.specs.Prelude.{◌≡◌, ℕ, suc, pos, ◌<◌, List, [], ◌∷◌, length, Some}
 use Rattle.std.proofs.Common.{arith, refl, inl, inr, get_or}
 use Rattle.std.proofs.lemmas.Bool.{cases_eq, eq-eqb, ne_eqb}
-use Rattle.rational.specs.Rational.{int, ◌≤ℚ◌}
+use Rattle.min_plus.specs.rational.specs.Rational.{int, ◌≤ℚ◌}
 use Rattle.net_cells.specs.run_laws.specs.Routes.{Routes, PassesServer, queue_at, first_of, first_server, server_after, link_at}
 use Rattle.pace_laws.specs.net_laws.specs.Paths.{IsPath}
 use Rattle.net_cells.proofs.Lists.{Apart}

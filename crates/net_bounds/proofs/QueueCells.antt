@@ -3,8 +3,8 @@ use Rattle.std.specs.Prelude.{◌≡◌, ℕ, ◌<◌, List, [], ◌∷◌, leng
 use Rattle.std.specs.List.{range_with_len}
 use Rattle.std.proofs.Common.{sym, ap, ◌∙◌, refl, subst, inl, inr}
 use Rattle.std.proofs.lemmas.Bool.{lt-ltb}
-use Rattle.rational.specs.Rational.{ℚ}
-use Rattle.rational.specs.Extended.{Ext, ◌+ₑ◌}
+use Rattle.min_plus.specs.rational.specs.Rational.{ℚ}
+use Rattle.min_plus.specs.rational.specs.Extended.{Ext, ◌+ₑ◌}
 use Rattle.net_cells.specs.upp_curve.specs.Curve.{value_at}
 use Rattle.min_plus.specs.Pointwise.{packetised}
 use Rattle.min_plus.specs.Deviations.{IsHorizontalDeviation, IsVerticalDeviation}

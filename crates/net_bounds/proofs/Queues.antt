@@ -5,9 +5,9 @@ use Rattle.std.proofs.Common.{arith, sym, ap, ◌∙◌, refl, subst, inl, inr, 
 use Rattle.std.proofs.lemmas.Bool.{cases_lt, eqb-true}
 use Rattle.std.proofs.lemmas.List.{length-map, get_or_past}
 use Rattle.std.proofs.lemmas.List.FromFn.{length-range_with_len, get_or-map-range_with_len}
-use Rattle.rational.specs.Rational.{ℚ}
-use Rattle.rational.specs.Extended.{Ext}
-use Rattle.rational.proofs.ExtendedOrder.{same_le_ext}
+use Rattle.min_plus.specs.rational.specs.Rational.{ℚ}
+use Rattle.min_plus.specs.rational.specs.Extended.{Ext}
+use Rattle.min_plus.specs.rational.proofs.ExtendedOrder.{same_le_ext}
 use Rattle.net_cells.specs.upp_curve.specs.Curve.{value_at}
 use Rattle.net_cells.specs.curve_call.specs.Growth.{GrowsFromZero}
 use Rattle.net_cells.specs.curve_call.proofs.GrowingAnswers.{grown}

@@ -3,8 +3,8 @@ use Rattle.std.specs.Prelude.{◌≡◌, ℕ, zero, suc, pos, ◌<◌, ◌≤◌
 use Rattle.std.proofs.Common.{arith, sym, ap, ◌∙◌, refl, subst, get_or}
 use Rattle.std.proofs.lemmas.List.{get_or_default, length-map}
 use Rattle.std.proofs.lemmas.Option.{slice_get_within}
-use Rattle.rational.specs.Rational.{ℚ, int, ◌≤ℚ◌}
-use Rattle.rational.proofs.Laws.{le_refl}
+use Rattle.min_plus.specs.rational.specs.Rational.{ℚ, int, ◌≤ℚ◌}
+use Rattle.min_plus.specs.rational.proofs.Laws.{le_refl}
 use Rattle.net_cells.specs.run_laws.specs.Servers.{Fifo, Server, queue_count}
 use Rattle.net_cells.specs.run_laws.specs.Routes as routes
 use Rattle.net_cells.specs.run_laws.specs.Routes.{Route, route_of, link_at, PassesServer}

@@ -1,9 +1,9 @@
 -- What a table promises of a hop, of a queue and of a path, in a run. An infinite number claims nothing. (Le Boudec and
 -- Thiran; Bouillard, Boyer and Le Corronc: total-flow and separate-flow analysis.)
 use Rattle.std.specs.Prelude.{◌<◌, ℕ, suc, List}
-use Rattle.rational.specs.Rational.{ℚ, ◌-ℚ◌, ◌≤ℚ◌}
-use Rattle.rational.specs.Extended.{Ext, ◌≤ₑ◌}
-use Rattle.rational.specs.declared.Extended.TheVariants.{Fin}
+use Rattle.min_plus.specs.rational.specs.Rational.{ℚ, ◌-ℚ◌, ◌≤ℚ◌}
+use Rattle.min_plus.specs.rational.specs.Extended.{Ext, ◌≤ₑ◌}
+use Rattle.min_plus.specs.rational.specs.declared.Extended.TheVariants.{Fin}
 use Rattle.net_cells.specs.run_laws.specs.Runs.{SpecRun}
 use Rattle.min_plus.specs.Pointwise.{packetised}
 use Rattle.net_cells.specs.run_laws.specs.Cards.{Class, of_flow, of_queue, whole, ServerStep}

@@ -1,7 +1,7 @@
 -- What a table of a network's cells has in a cell: a curve whose function is of a sort, or a number. (Own choice.)
 use Rattle.std.specs.Prelude.{◌≡◌, Some}
-use Rattle.rational.specs.Rational.{ℚ}
-use Rattle.rational.specs.Extended.{Ext}
+use Rattle.min_plus.specs.rational.specs.Rational.{ℚ}
+use Rattle.min_plus.specs.rational.specs.Extended.{Ext}
 use Rattle.net_cells.specs.upp_curve.specs.Curve.{SpecCurve, value_at}
 use Rattle.net_cells.specs.declared.cell.Cell.{Cell}
 use Rattle.net_cells.specs.Meanings.{curve, CellTable}

@@ -2,7 +2,7 @@
 use Rattle.std.proofs.Common.{◌≡◌, ℕ, List, Option, Some, None, Bool, true, false, refl, sym, ap, ◌∙◌}
 use Rattle.std.specs.Prelude.{Result, Ok, Err, slice_get, ℤ, not, ◌&&◌}
 use Rattle.std.proofs.lemmas.Bool.{and_from, not_from_false}
-use Rattle.rational.specs.Rational.{ℚ, ◌≤ℚ◌, ◌<ℚ◌}
+use Rattle.min_plus.specs.rational.specs.Rational.{ℚ, ◌≤ℚ◌, ◌<ℚ◌}
 use Rattle.min_plus.specs.Functions.{zero_q}
 use Rattle.net_cells.specs.net_model.specs.Networks.{Net, NetServer}
 use Rattle.net_cells.specs.net_model.specs.Accepted.{IsLength, IsServer, IsAccepted}

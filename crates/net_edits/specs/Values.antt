@@ -1,7 +1,7 @@
 -- Which values an edit may have. Own choice; packets and quanta are those of Shreedhar and Varghese.
 use Rattle.std.specs.Prelude.{ℕ, ℤ, pos, ◌^◌, List, [], ◌∷◌, length, map, Option, Some, None, Ok, Err, Bool, true, false, ◌&&◌, nat_le, nat_lt, slice_get, slice_index, if◌then◌else◌}
 use Rattle.std.specs.List.{list_all}
-use Rattle.run_laws.specs.Servers.{Discipline, Fifo, Priority, Drr}
+use Rattle.net_cells.specs.run_laws.specs.Servers.{Discipline, Fifo, Priority, Drr}
 use Rattle.net_cells.specs.net_model.specs.declared.edit.PathEntry.{PathEntry}
 use Rattle.net_cells.specs.net_model.specs.Networks.{Net, NetServer, NetFlow}
 use Rattle.net_cells.specs.net_model.specs.Plain.{all_differ}

@@ -8,7 +8,7 @@ ghost use Rattle.net_edits.specs.Replies.{Tells};
 ghost use Rattle.net_edits.specs.Values as values;
 
 use crate::fault::EditFault;
-use fraction128::Frac;
+use net_cells::fraction128::Frac;
 use net_cells::net_model::Discipline;
 use std::cmp::Ordering;
 

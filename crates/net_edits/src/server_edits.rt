@@ -11,7 +11,7 @@ use crate::names::{server_at, server_number};
 use crate::numbers::{is_negative, is_positive, length_of, quantum_of};
 use crate::replacing::{with_fitting_server, with_server};
 use crate::service::{with_latency, with_rate};
-use fraction128::Frac;
+use net_cells::fraction128::Frac;
 use net_cells::net_model::{Discipline, Network, Server, ServiceKind};
 use std::alloc::{AllocError, Global};
 

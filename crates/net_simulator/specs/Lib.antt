@@ -1,1 +1,0 @@
-pub use Rattle.packet_sim as packet_sim

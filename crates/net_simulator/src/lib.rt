@@ -5,5 +5,4 @@ mod fault;
 mod simulator;
 
 pub use fault::SimFault;
-pub use packet_sim;
 pub use simulator::simulate;

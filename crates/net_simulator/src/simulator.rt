@@ -1,17 +1,17 @@
 //! Simulations.
 
 ghost use Rattle.std.specs.Prelude.{◌<◌, ◌≤◌, ◌↔◌, ◌^◌, IfOk, IsErrOf, length};
-ghost use Rattle.packet_sim.specs.net_model.specs.NetRoutes.{routes_of};
-ghost use Rattle.packet_sim.specs.net_model.specs.Walks.{IsFeedForward};
-ghost use Rattle.packet_sim.specs.stated_runs.specs.FromTraces.{setup_of, IsTraceOf};
-ghost use Rattle.packet_sim.specs.stated_runs.specs.Simulated.{IsSimulated};
-ghost use Rattle.packet_sim.specs.sim_bounds.specs.Gauge.{simulation_gauge};
-ghost use Rattle.packet_sim.specs.run_measures.specs.Peaks.{rows_of, ArePeaks};
-ghost use Rattle.packet_sim.specs.run_measures.specs.Worst.{AreWorst};
+ghost use Rattle.sim_bounds.specs.net_model.specs.NetRoutes.{routes_of};
+ghost use Rattle.sim_bounds.specs.net_model.specs.Walks.{IsFeedForward};
+ghost use Rattle.sim_bounds.specs.stated_runs.specs.FromTraces.{setup_of, IsTraceOf};
+ghost use Rattle.sim_bounds.specs.stated_runs.specs.Simulated.{IsSimulated};
+ghost use Rattle.sim_bounds.specs.Gauge.{simulation_gauge};
+ghost use Rattle.run_measures.specs.Peaks.{rows_of, ArePeaks};
+ghost use Rattle.run_measures.specs.Worst.{AreWorst};
 
 use crate::fault::SimFault;
-use packet_sim::net_model::{Network, Trace};
 use packet_sim::{SimRun, measured_run};
+use sim_bounds::net_model::{Network, Trace};
 use sim_gauge::is_too_wide;
 use std::alloc::Global;
 

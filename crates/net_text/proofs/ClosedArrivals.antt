@@ -2,8 +2,8 @@
 use Rattle.std.specs.Prelude.{IfOk, IfErr}
 use Rattle.std.specs.String.{string_bytes}
 use Rattle.std.proofs.Common.{◌≡◌, refl, ℕ, Bool, true, false, List, Result, Ok, Err, subst, inr, true≢false, sym}
-use Rattle.net_draft.specs.upp_curve.specs.Curve.{SpecCurve}
-use Rattle.net_draft.specs.upp_limits.specs.declared.own_limits.OverLimit.{OverLimit}
+use Rattle.curve_call.specs.upp_curve.specs.Curve.{SpecCurve}
+use Rattle.curve_call.specs.upp_limits.specs.declared.own_limits.OverLimit.{OverLimit}
 use Rattle.net_draft.specs.net_model.specs.Accepted.{IsArrivalCurve}
 use Rattle.net_draft.specs.net_model.specs.declared.fault.NetFault.{NetFault}
 use Rattle.net_draft.specs.declared.curve_draft.CurveDraft.{CurveDraft}

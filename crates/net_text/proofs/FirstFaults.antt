@@ -1,8 +1,8 @@
 -- No first fault of a file is want of memory.
 use Rattle.std.specs.Prelude.{◌≡◌, List, [], ◌∷◌}
 use Rattle.std.proofs.Common.{sym, ap, ◌∙◌, subst, inl, inr}
-use Rattle.net_draft.specs.upp_limits.specs.declared.own_limits.OverLimit.{OverLimit}
-use Rattle.net_draft.specs.upp_limits.specs.declared.own_limits.OverLimit.TheVariants.{TooMany, TooWide}
+use Rattle.curve_call.specs.upp_limits.specs.declared.own_limits.OverLimit.{OverLimit}
+use Rattle.curve_call.specs.upp_limits.specs.declared.own_limits.OverLimit.TheVariants.{TooMany, TooWide}
 use Rattle.net_draft.specs.net_model.specs.declared.fault.NetKind.TheVariants.{NoMemory}
 use Rattle.net_draft.specs.FaultKinds.{IsOfTables}
 use Rattle.net_draft.specs.Faults.{Fault}

@@ -1,12 +1,12 @@
 -- A file says one thing.
 use Rattle.std.specs.List.{AllZip}
 use Rattle.std.proofs.Common.{◌≡◌, ℕ, ◌+◌, Bool, true, false, List, [], ◌∷◌, ◌++◌, Option, Some, Ok, Err, sym, ap, ◌∙◌, subst, inl, inr}
-use Rattle.rational.proofs.Bounds.{infimum_unique}
-use Rattle.net_draft.specs.upp_curve.specs.Curve.{SpecCurve, value_at}
-use Rattle.min_plus.specs.Convolution.{Parts, sum_at}
-use Rattle.net_draft.specs.upp_limits.specs.declared.own_limits.OverLimit.{OverLimit}
-use Rattle.net_draft.specs.upp_curve.proofs.OneForm.{normal_unique}
-use Rattle.net_draft.specs.upp_limits.proofs.OneLimit.{one_limit}
+use Rattle.curve_call.specs.rational.proofs.Bounds.{infimum_unique}
+use Rattle.curve_call.specs.upp_curve.specs.Curve.{SpecCurve, value_at}
+use Rattle.curve_call.specs.min_plus.specs.Convolution.{Parts, sum_at}
+use Rattle.curve_call.specs.upp_limits.specs.declared.own_limits.OverLimit.{OverLimit}
+use Rattle.curve_call.specs.upp_curve.proofs.OneForm.{normal_unique}
+use Rattle.curve_call.specs.upp_limits.proofs.OneLimit.{one_limit}
 use Rattle.net_draft.specs.net_model.specs.Networks.{Net, NetServer, NetFlow}
 use Rattle.net_draft.specs.Faults.{Fault, Read}
 use Rattle.net_draft.specs.Made.{IsMade}

@@ -1,10 +1,10 @@
 -- What a curve of a file becomes: a curve of the network, or the limit that it is over. Own choice.
 use Rattle.std.specs.Prelude.{◌≡◌, ◌⊎◌, ℕ, List, Bool, true, false, Result, Ok, Err}
 use Rattle.std.specs.String.{string_bytes}
-use Rattle.net_draft.specs.upp_curve.specs.Curve.{SpecCurve}
-use Rattle.net_draft.specs.upp_curve.specs.Curves.{IsCurve}
-use Rattle.net_draft.specs.upp_limits.specs.declared.own_limits.OverLimit.{OverLimit}
-use Rattle.net_draft.specs.upp_limits.specs.declared.own_limits.OverLimit.TheVariants.{TooMany, TooWide}
+use Rattle.curve_call.specs.upp_curve.specs.Curve.{SpecCurve}
+use Rattle.curve_call.specs.upp_curve.specs.Curves.{IsCurve}
+use Rattle.curve_call.specs.upp_limits.specs.declared.own_limits.OverLimit.{OverLimit}
+use Rattle.curve_call.specs.upp_limits.specs.declared.own_limits.OverLimit.TheVariants.{TooMany, TooWide}
 use Rattle.net_draft.specs.net_model.specs.declared.fault.NetKind.{NetKind}
 use Rattle.net_draft.specs.net_model.specs.declared.fault.NetKind.TheVariants.{CurveTooMany, CurveTooWide, NoMemory}
 use Rattle.net_draft.specs.net_model.specs.declared.fault.NetFault.{NetFault}

@@ -1,8 +1,8 @@
 -- The network that is built of a draft. Own choice.
 use Rattle.std.specs.Prelude.{◌≡◌, map, Option, Some, Ok}
 use Rattle.std.specs.List.{AllZip}
-use Rattle.net_draft.specs.upp_curve.specs.Curve.{SpecCurve}
-use Rattle.net_draft.specs.upp_limits.specs.declared.own_limits.OverLimit.{OverLimit}
+use Rattle.curve_call.specs.upp_curve.specs.Curve.{SpecCurve}
+use Rattle.curve_call.specs.upp_limits.specs.declared.own_limits.OverLimit.{OverLimit}
 use Rattle.net_draft.specs.net_model.specs.Networks.{Net, NetServer, NetFlow}
 use Rattle.net_draft.specs.Laws.{kind_of}
 use Rattle.net_draft.specs.Texts.{ServerText, FlowText, DraftText}

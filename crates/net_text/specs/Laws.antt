@@ -1,7 +1,7 @@
 -- What a file says is one thing: one network, or one first fault, and not both. Own choice.
 use Rattle.std.specs.Prelude.{◌≡◌, ℕ, List}
-use Rattle.net_draft.specs.upp_curve.specs.Curve.{SpecCurve}
-use Rattle.net_draft.specs.upp_limits.specs.declared.own_limits.OverLimit.{OverLimit}
+use Rattle.curve_call.specs.upp_curve.specs.Curve.{SpecCurve}
+use Rattle.curve_call.specs.upp_limits.specs.declared.own_limits.OverLimit.{OverLimit}
 use Rattle.net_draft.specs.net_model.specs.Networks.{Net}
 use Rattle.net_draft.specs.Faults.{Fault}
 use Rattle.net_text.specs.Reading.{IsNetworkOf, FirstFault}

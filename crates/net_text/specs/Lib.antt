@@ -8,5 +8,3 @@ pub mod Folds
 pub mod FoldLimits
 pub mod Wants
 pub mod FileLaws
-pub use Rattle.net_draft as net_draft
-pub use Rattle.subadd_closure as subadd_closure

@@ -1,7 +1,7 @@
 -- The network of a file, and its first fault. Own choice.
 use Rattle.std.specs.Prelude.{◌≡◌, ◌⊎◌, ℕ, List, Ok, Err}
-use Rattle.net_draft.specs.upp_curve.specs.Curve.{SpecCurve}
-use Rattle.net_draft.specs.upp_limits.specs.declared.own_limits.OverLimit.{OverLimit}
+use Rattle.curve_call.specs.upp_curve.specs.Curve.{SpecCurve}
+use Rattle.curve_call.specs.upp_limits.specs.declared.own_limits.OverLimit.{OverLimit}
 use Rattle.net_draft.specs.net_model.specs.Networks.{Net}
 use Rattle.net_draft.specs.net_model.specs.declared.fault.NetFault.{NetFault}
 use Rattle.net_draft.specs.net_model.specs.declared.fault.NetKind.TheVariants.{NoMemory}

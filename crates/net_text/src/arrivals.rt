@@ -2,9 +2,9 @@
 
 ghost use Rattle.std.specs.Prelude.{◌≡◌, ◌≤◌, ◌+◌, Ok, Err, IfOk, IfErr};
 ghost use Rattle.std.specs.String.{string_bytes};
-ghost use Rattle.net_draft.specs.upp_curve.specs.Curve.{value_at};
-ghost use Rattle.net_draft.specs.upp_curve.specs.Curves.{IsCurve};
-ghost use Rattle.min_plus.specs.Functions.{IsFinite, IsNonnegative};
+ghost use Rattle.curve_call.specs.upp_curve.specs.Curve.{value_at};
+ghost use Rattle.curve_call.specs.upp_curve.specs.Curves.{IsCurve};
+ghost use Rattle.curve_call.specs.min_plus.specs.Functions.{IsFinite, IsNonnegative};
 ghost use Rattle.net_draft.specs.CurveTexts.{text_of};
 ghost use Rattle.net_draft.specs.Kept.{IsArrivalDraft};
 ghost use Rattle.net_text.specs.Becoming.{Becomes, FailsAt};
@@ -18,8 +18,8 @@ ghost use Rattle.subadd_closure.specs.FoldWork.{fold_work};
 use crate::closing::closed;
 use crate::limits::limit_fault;
 use crate::services::copy_of;
-use net_draft::upp_curve::Curve;
-use net_draft::upp_limits::{OpFault, OverLimit};
+use curve_call::upp_curve::Curve;
+use curve_call::upp_limits::{OpFault, OverLimit};
 use net_draft::{DraftFault, FlowDraft};
 use std::alloc::Global;
 use std::sync::ledger::Ledger;

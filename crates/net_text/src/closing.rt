@@ -1,15 +1,15 @@
 //! The closures of files.
 
 ghost use Rattle.std.specs.Prelude.{◌≡◌, ◌≤◌, ◌+◌, Err, IfOk};
-ghost use Rattle.net_draft.specs.upp_curve.specs.Curve.{value_at};
-ghost use Rattle.min_plus.specs.Functions.{IsFinite, IsNonnegative};
+ghost use Rattle.curve_call.specs.upp_curve.specs.Curve.{value_at};
+ghost use Rattle.curve_call.specs.min_plus.specs.Functions.{IsFinite, IsNonnegative};
 ghost use Rattle.net_text.specs.Closing.{KeepsClosing};
 ghost use Rattle.net_text.specs.FoldLimits.{OverFold};
 ghost use Rattle.subadd_closure.specs.FoldMemory.{CloseWants};
 ghost use Rattle.subadd_closure.specs.FoldWork.{fold_work};
 
-use net_draft::upp_curve::Curve;
-use net_draft::upp_limits::OpFault;
+use curve_call::upp_curve::Curve;
+use curve_call::upp_limits::OpFault;
 use std::alloc::Global;
 use std::sync::ledger::Ledger;
 use steps::Steps;

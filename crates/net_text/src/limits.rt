@@ -5,8 +5,8 @@ ghost use Rattle.std.specs.String.{string_bytes};
 ghost use Rattle.net_draft.specs.Faults.{under, nth};
 ghost use Rattle.net_text.specs.Becoming.{limit_kind, IsLimitFault};
 
+use curve_call::upp_limits::OverLimit;
 use net_draft::net_model::{NetFault, NetKind};
-use net_draft::upp_limits::OverLimit;
 use net_draft::{DraftFault, nth, under};
 use std::alloc::{AllocError, Global};
 

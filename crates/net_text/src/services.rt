@@ -6,12 +6,12 @@ ghost use Rattle.net_draft.specs.CurveTexts.{text_of};
 ghost use Rattle.net_draft.specs.Kept.{IsMadeDraft};
 ghost use Rattle.net_draft.specs.Laws.{kind_of};
 ghost use Rattle.net_draft.specs.Made.{IsOverNone};
-ghost use Rattle.net_draft.specs.upp_curve.specs.Curves.{IsCurve};
+ghost use Rattle.curve_call.specs.upp_curve.specs.Curves.{IsCurve};
 ghost use Rattle.net_text.specs.Becoming.{IsCurveOf, BecomesItself, FailsAt};
 
 use crate::limits::limit_fault;
+use curve_call::upp_curve::Curve;
 use net_draft::net_model::ServiceKind;
-use net_draft::upp_curve::Curve;
 use net_draft::{CurveDraft, CurveText, DraftFault};
 use std::alloc::AllocError;
 

@@ -1,13 +1,13 @@
 -- What holds of the replies of each command. A new command has a case in each lemma.
 use Rattle.std.proofs.Common.{◌≡◌, ◌≢◌, ℕ, List, [], ◌∷◌, inl, inr, sym, ap, ◌∙◌, arith}
-use Rattle.upp_limits.specs.declared.own_limits.OverLimit.TheVariants.{TooMany, TooWide}
-use Rattle.net_model.specs.Networks.{Net}
+use Rattle.net_cells.specs.upp_limits.specs.declared.own_limits.OverLimit.TheVariants.{TooMany, TooWide}
+use Rattle.net_cells.specs.net_model.specs.Networks.{Net}
 use Rattle.net_cells.specs.Meanings.{CellTable}
-use Rattle.exercise_command.specs.net_bounds.proofs.Kept.{table_bounds_every_run}
-use Rattle.exercise_command.specs.command_replies.specs.Guarantee.{Guarantees}
-use Rattle.exercise_command.specs.command_replies.specs.Replies.{Reply}
-use Rattle.exercise_command.specs.command_replies.proofs.OneRefusal.{equal}
-use Rattle.analyse_command.specs.json_report.specs.declared.form.Form.{Form}
+use Rattle.net_bounds.proofs.Kept.{table_bounds_every_run}
+use Rattle.command_replies.specs.Guarantee.{Guarantees}
+use Rattle.command_replies.specs.Replies.{Reply}
+use Rattle.command_replies.proofs.OneRefusal.{equal}
+use Rattle.json_report.specs.declared.form.Form.{Form}
 use Rattle.analyse_command.specs.AnswerCounts.{CountsOn}
 use Rattle.analyse_command.specs.OnFiles.{IsReportOf, IsReport}
 use Rattle.analyse_command.proofs.ByStatus as analyse
@@ -17,13 +17,13 @@ use Rattle.edit_command.proofs.Causes as edit_statuses
 use Rattle.edit_command.proofs.OneReply as edited
 use Rattle.edit_command.proofs.Promised.{reports_are_guaranteed, replies_are_complete}
 use Rattle.simulate_command.specs.RunCounts as run_counts
-use Rattle.exercise_command.specs.run_findings.specs.Statuses.{IsOfReport}
+use Rattle.run_findings.specs.Statuses.{IsOfReport}
 use Rattle.simulate_command.proofs.Causes as run
 use Rattle.simulate_command.proofs.OneReply as simulated
 use Rattle.simulate_command.proofs.Status.{status_tells}
 use Rattle.simulate_command.proofs.Within.{quiet_runs, guarantee}
-use Rattle.exercise_command.specs.run_findings.specs.CellCounts.{CountsOnCells}
-use Rattle.exercise_command.specs.exercise_load.specs.Workloads.{network_of}
+use Rattle.run_findings.specs.CellCounts.{CountsOnCells}
+use Rattle.exercise_load.specs.Workloads.{network_of}
 use Rattle.exercise_command.proofs.Causes as exercise
 use Rattle.exercise_command.proofs.OneReply as exercised
 use Rattle.exercise_command.proofs.Within as summaries

@@ -1,14 +1,14 @@
 -- No reply has the status of a write that failed.
 use Rattle.std.proofs.Common.{◌≡◌, ◌≢◌, ℕ, List, [], ◌∷◌, Option, Some, None, inl, inr, sym, ◌∙◌, arith}
-use Rattle.rational.specs.Rational.{ℚ}
-use Rattle.upp_limits.specs.declared.own_limits.OverLimit.TheVariants.{TooMany, TooWide}
-use Rattle.net_model.specs.declared.breach.Breach.{Breach}
-use Rattle.exercise_command.specs.command_replies.specs.Replies.{Reply, cannot_read, too_long}
-use Rattle.analyse_command.specs.json_report.specs.declared.form.Form.{Form}
-use Rattle.exercise_command.specs.command_replies.proofs.Statuses.{status_is as status_of}
+use Rattle.fraction128.specs.rational.specs.Rational.{ℚ}
+use Rattle.net_cells.specs.upp_limits.specs.declared.own_limits.OverLimit.TheVariants.{TooMany, TooWide}
+use Rattle.net_cells.specs.net_model.specs.declared.breach.Breach.{Breach}
+use Rattle.command_replies.specs.Replies.{Reply, cannot_read, too_long}
+use Rattle.json_report.specs.declared.form.Form.{Form}
+use Rattle.command_replies.proofs.Statuses.{status_is as status_of}
 use Rattle.analyse_command.specs.OnFiles as analyse
 use Rattle.edit_command.specs.OnEdits as edits
-use Rattle.exercise_command.specs.run_findings.specs.Findings.{status_by}
+use Rattle.run_findings.specs.Findings.{status_by}
 use Rattle.simulate_command.specs.OnTraces as traces
 use Rattle.check_command.proofs.Causes.{causes}
 use Rattle.exercise_command.specs.OnSeeds as seeds

@@ -1,18 +1,18 @@
 -- The commands, and what each answers on its files. A new command has one line in each definition.
 use Rattle.std.specs.Prelude.{◌≡◌, ◌⊎◌, ℕ, List, [], ◌∷◌}
-use Rattle.rational.specs.Rational.{ℚ, ◌≤ℚ◌}
+use Rattle.fraction128.specs.rational.specs.Rational.{ℚ, ◌≤ℚ◌}
 use Rattle.min_plus.specs.Functions.{zero_q}
-use Rattle.upp_curve.specs.Curve.{SpecCurve}
-use Rattle.upp_limits.specs.declared.own_limits.OverLimit.{OverLimit}
-use Rattle.upp_limits.specs.declared.own_limits.OverLimit.TheVariants.{TooMany, TooWide}
-use Rattle.net_model.specs.declared.trace.TracePacket.{TracePacket}
-use Rattle.net_model.specs.Networks.{Net}
+use Rattle.net_cells.specs.upp_curve.specs.Curve.{SpecCurve}
+use Rattle.net_cells.specs.upp_limits.specs.declared.own_limits.OverLimit.{OverLimit}
+use Rattle.net_cells.specs.upp_limits.specs.declared.own_limits.OverLimit.TheVariants.{TooMany, TooWide}
+use Rattle.net_cells.specs.net_model.specs.declared.trace.TracePacket.{TracePacket}
+use Rattle.net_cells.specs.net_model.specs.Networks.{Net}
 use Rattle.net_cells.specs.Meanings.{CellTable}
-use Rattle.exercise_command.specs.net_bounds.specs.NetRuns.{IsRunOf}
-use Rattle.analyse_command.specs.json_report.specs.declared.form.Form.{Form}
-use Rattle.exercise_command.specs.command_replies.specs.Replies.{Reply, AreSame}
-use Rattle.exercise_command.specs.command_replies.specs.Guarantee.{Guarantees}
-use Rattle.exercise_command.specs.command_replies.specs.OnFiles.{IsBroken, IsOverLimit, HasCycle}
+use Rattle.net_bounds.specs.NetRuns.{IsRunOf}
+use Rattle.json_report.specs.declared.form.Form.{Form}
+use Rattle.command_replies.specs.Replies.{Reply, AreSame}
+use Rattle.command_replies.specs.Guarantee.{Guarantees}
+use Rattle.command_replies.specs.OnFiles.{IsBroken, IsOverLimit, HasCycle}
 use Rattle.analyse_command.specs.OnFiles.{IsReplyOn, IsReportOf}
 use Rattle.analyse_command.specs.AnswerCounts.{CountsOn}
 use Rattle.analyse_command.specs.AnswerLaws.{IsWithinLimits}
@@ -25,9 +25,9 @@ use Rattle.simulate_command.specs.OnTraces.{IsRunReply, IsRunReport, IsSimulatio
 use Rattle.simulate_command.specs.RunCounts as run_counts
 use Rattle.simulate_command.specs.Laws as run_laws
 use Rattle.simulate_command.specs.Laws.{IsQuietReport}
-use Rattle.exercise_command.specs.run_findings.specs.CellCounts.{CountsOnCells}
-use Rattle.exercise_command.specs.run_findings.specs.Statuses.{Keeps}
-use Rattle.exercise_command.specs.exercise_load.specs.Workloads.{network_of}
+use Rattle.run_findings.specs.CellCounts.{CountsOnCells}
+use Rattle.run_findings.specs.Statuses.{Keeps}
+use Rattle.exercise_load.specs.Workloads.{network_of}
 use Rattle.exercise_command.specs.OnSeeds.{IsExerciseReply, IsSummarised, IsWide, IsCellOver}
 use Rattle.exercise_command.specs.ExerciseLaws as exercise_laws
 use Rattle.exercise_command.specs.ExerciseLaws.{IsQuietSummary, SummaryGuarantees}

@@ -1,9 +1,9 @@
 //! The answer of a command. Each has a function of its own, which fetches its files and answers on them.
 
 ghost use Rattle.std.specs.Prelude.{IfOk};
-ghost use Rattle.rational.specs.Rational.{◌≤ℚ◌};
+ghost use Rattle.fraction128.specs.rational.specs.Rational.{◌≤ℚ◌};
 ghost use Rattle.min_plus.specs.Functions.{zero_q};
-ghost use Rattle.exercise_command.specs.command_replies.specs.View.{reply_of, status_of};
+ghost use Rattle.command_replies.specs.View.{reply_of, status_of};
 ghost use Rattle.netcalc_cli.specs.Commands as commands;
 ghost use Rattle.netcalc_cli.specs.Counts.{CountsOnCommand};
 ghost use Rattle.netcalc_cli.specs.Reply.{MayReplyTo};
@@ -11,14 +11,14 @@ ghost use Rattle.netcalc_cli.specs.View.{command_view};
 
 use crate::fetching::{fetch_one, fetch_two};
 use crate::words::Command;
-use analyse_command::json_report::Form;
 use analyse_command::on_bytes;
 use check_command::on_run;
+use command_replies::Answer;
 use curve_command::on_script;
 use edit_command::on_edits;
-use exercise_command::command_replies::Answer;
 use exercise_command::on_seed;
 use fraction128::Frac;
+use json_report::Form;
 use measure_command::on_measure;
 use outside::{Inputs, NoMemory};
 use simulate_command::on_trace;

@@ -1,11 +1,11 @@
 //! The files of a command, fetched in order.
 
 ghost use Rattle.std.specs.Prelude.{◌≡◌, ◌≤◌, [], ◌∷◌, List, ℕ, length, IfOk, IfErr};
-ghost use Rattle.exercise_command.specs.command_replies.specs.View.{reply_of};
+ghost use Rattle.command_replies.specs.View.{reply_of};
 ghost use Rattle.netcalc_cli.specs.Files.{most_bytes, MayHold, MayHoldAll, AllFit, FirstIs};
 ghost use Rattle.netcalc_cli.specs.Reply.{EndsAt};
 
-use exercise_command::command_replies::{Answer, cannot_read, too_long};
+use command_replies::{Answer, cannot_read, too_long};
 use outside::{FetchFault, Inputs, NoMemory};
 use std::alloc::Global;
 

@@ -1,7 +1,7 @@
 //! The words of the command line.
 ghost use Rattle.std.specs.Prelude.{◌≡◌, ◌++◌, IfOk, IfSome, IfNone, IsSome, is_some, map, option_map};
 ghost use Rattle.std.specs.List.{list_all};
-ghost use Rattle.rational.specs.Rational.{◌≤ℚ◌};
+ghost use Rattle.fraction128.specs.rational.specs.Rational.{◌≤ℚ◌};
 ghost use Rattle.min_plus.specs.Functions.{zero_q};
 ghost use Rattle.command_words.specs.Lines.{is_operand, operands_of, asks_json};
 ghost use Rattle.netcalc_cli.specs.Commands.{HasRate};
@@ -9,9 +9,9 @@ ghost use Rattle.netcalc_cli.specs.View.{command_view};
 ghost use Rattle.netcalc_cli.specs.Words.{texts, in_64_bits, seed_of, rate_of, on_one, on_two, on_four};
 ghost use Rattle.netcalc_cli.specs.Words.{in_lines, in_json, called, command_on, command_of};
 
-use analyse_command::json_report::Form;
 use command_words::{around_json, is_operand, parse, word_of};
 use fraction128::{Frac, is_less, read_digits};
+use json_report::Form;
 use outside::NoMemory;
 use std::alloc::Global;
 

@@ -8,10 +8,12 @@
 
 ghost use Rattle.std.specs.Prelude.{◌≡◌, ◌<◌};
 
-use affine_segment::{Line, Piece};
+use curve_pointwise::affine_segment::{Line, Piece};
+use curve_pointwise::fraction128::{Ext, Frac};
+use curve_pointwise::rational::Extended;
+use curve_pointwise::upp_curve::{Curve, Tail};
+use curve_pointwise::upp_limits::OpFault;
 use curve_running::{max, min, pos_diff, pos_minus, run_inf, run_sup, scale, shift, sum};
-use fraction128::{Ext, Frac};
-use rational::Extended;
 use std::alloc::Global;
 use std::cmp::Ordering;
 use std::marker::Brand;
@@ -19,8 +21,6 @@ use std::sync::ledger::{Blank, Ledger};
 use std::test::Fail;
 use steps::Steps;
 use test_curves::{curve, whole};
-use upp_curve::{Curve, Tail};
-use upp_limits::OpFault;
 
 // A piece from x on; no line: infinite after x.
 fn piece(x: i128, at: Ext, line: Option<Line>) -> Piece {

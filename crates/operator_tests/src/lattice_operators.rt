@@ -2,18 +2,18 @@
 
 ghost use Rattle.std.specs.Prelude.{◌≡◌, ◌<◌};
 
-use affine_segment::{Line, Piece};
+use curve_pointwise::affine_segment::{Line, Piece};
+use curve_pointwise::fraction128::Frac;
 use curve_pointwise::min;
-use fraction128::Frac;
-use rational::Extended;
+use curve_pointwise::rational::Extended;
+use curve_pointwise::upp_curve::{Curve, Tail};
+use curve_pointwise::upp_limits::OpFault;
 use std::alloc::Global;
 use std::marker::Brand;
 use std::sync::ledger::{Blank, Ledger};
 use std::test::Fail;
 use steps::Steps;
 use test_curves::{curve, whole};
-use upp_curve::{Curve, Tail};
-use upp_limits::OpFault;
 
 // A line from 0 on.
 fn straight(alloc: Global, icept: Frac, slope: Frac) -> Result<Curve, OpFault> {

@@ -1,16 +1,16 @@
 //! The trait of calls can be met.
 
-ghost use Rattle.curve_call.specs.Again.{IsAgain, again_determined};
+ghost use Rattle.curve_pointwise.specs.curve_call.specs.Again.{IsAgain, again_determined};
 
-use affine_segment::{Line, Piece};
-use curve_call::{Making, calls_in_turn, intact};
-use fraction128::Frac;
-use rational::Extended;
+use curve_pointwise::affine_segment::{Line, Piece};
+use curve_pointwise::curve_call::{Making, calls_in_turn, intact};
+use curve_pointwise::fraction128::Frac;
+use curve_pointwise::rational::Extended;
+use curve_pointwise::upp_curve::{Curve, Tail, equal};
+use curve_pointwise::upp_limits::OpFault;
+use curve_pointwise::upp_normal::{RawCurve, normalise};
 use std::alloc::Global;
 use std::test::Fail;
-use upp_curve::{Curve, Tail, equal};
-use upp_limits::OpFault;
-use upp_normal::{RawCurve, normalise};
 
 // The curve again.
 #[derive(Drop)]

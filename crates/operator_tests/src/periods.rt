@@ -1,20 +1,20 @@
 //! Numbers of periods worked out by hand.
 
 ghost use Rattle.std.specs.Prelude.{IsTrue};
-ghost use Rattle.rational.specs.Rational.{◌≤ℚ◌};
-ghost use Rattle.upp_curve.specs.Curves.{IsCurve};
-ghost use Rattle.upp_curve.specs.Steady.{steady, IsWholePeriods};
+ghost use Rattle.curve_pointwise.specs.rational.specs.Rational.{◌≤ℚ◌};
+ghost use Rattle.curve_pointwise.specs.upp_curve.specs.Curves.{IsCurve};
+ghost use Rattle.curve_pointwise.specs.upp_curve.specs.Steady.{steady, IsWholePeriods};
 
-use affine_segment::{Line, Piece};
-use curve_call::least_periods;
-use fraction128::{Frac, is_less};
-use rational::Extended;
+use curve_pointwise::affine_segment::{Line, Piece};
+use curve_pointwise::curve_call::least_periods;
+use curve_pointwise::fraction128::{Frac, is_less};
+use curve_pointwise::rational::Extended;
+use curve_pointwise::upp_curve::{Curve, Tail};
+use curve_pointwise::upp_limits::{OpKind, gauge};
+use curve_pointwise::upp_normal::{RawCurve, normalise, steady_time};
 use std::alloc::{AllocError, Global};
 use std::test::Fail;
 use test_curves::ratio;
-use upp_curve::{Curve, Tail};
-use upp_limits::{OpKind, gauge};
-use upp_normal::{RawCurve, normalise, steady_time};
 
 fn curve_of(raw: RawCurve) -> Option<Curve> {
     if !raw.is_raw() {

@@ -1,12 +1,12 @@
 //! Windows worked out by hand: a level at 1, and a ramp that rises by 1, which meet at 1.
 
 ghost use Rattle.std.specs.Prelude.{◌≡◌, IfOk};
-ghost use Rattle.curve_call.specs.Worked.{level_pieces, ramp_pieces};
+ghost use Rattle.curve_pointwise.specs.curve_call.specs.Worked.{level_pieces, ramp_pieces};
 
-use affine_segment::{Line, Piece};
-use curve_call::{overlay, window_excess, window_max, window_min, window_sum};
-use fraction128::Frac;
-use rational::Extended;
+use curve_pointwise::affine_segment::{Line, Piece};
+use curve_pointwise::curve_call::{overlay, window_excess, window_max, window_min, window_sum};
+use curve_pointwise::fraction128::Frac;
+use curve_pointwise::rational::Extended;
 use std::alloc::{AllocError, Global};
 use std::test::Fail;
 
@@ -114,7 +114,7 @@ fn both_of_one_start(rt: HostRuntime) -> Result<(), Fail> {
     Ok(())
 }
 
-fn both(alloc: Global) -> Result<Vec<curve_call::Both>, AllocError> {
+fn both(alloc: Global) -> Result<Vec<curve_pointwise::curve_call::Both>, AllocError> {
     let level = level(alloc)?;
     let ramp = ramp(alloc)?;
     overlay(alloc, &level, &ramp)

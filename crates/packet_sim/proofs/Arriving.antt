@@ -1,16 +1,16 @@
 -- Steps in which a packet arrives at a server: it enters, or it reaches the server.
 use Rattle.std.specs.Prelude.{Some, ◌≡◌, ℕ, ◌+◌, ◌<◌, List, [], ◌∷◌, ◌++◌, length, slice_get}
 use Rattle.std.proofs.Common.{refl, sym, ap, ◌∙◌, subst, arith}
-use Rattle.rational.specs.Rational.{ℚ, ◌≤ℚ◌}
-use Rattle.rational.proofs.Laws.{le_trans}
-use Rattle.run_laws.specs.declared.steps.Step.{Step}
-use Rattle.run_laws.specs.declared.steps.Step.TheVariants.{Enter, Reach}
-use Rattle.run_laws.specs.Cards.{Card, ServerStep, Arrives}
-use Rattle.run_laws.specs.Next.{next}
-use Rattle.run_laws.specs.Routes.{Hop, server_at, route_of, queue_at, first_server}
-use Rattle.run_laws.specs.Views.{Entry, card_of, hops_of, server_of, seen}
-use Rattle.run_laws.specs.Lawful as lawful
-use Rattle.run_laws.specs.Lawful.{state_at}
+use Rattle.fraction128.specs.rational.specs.Rational.{ℚ, ◌≤ℚ◌}
+use Rattle.fraction128.specs.rational.proofs.Laws.{le_trans}
+use Rattle.net_cells.specs.run_laws.specs.declared.steps.Step.{Step}
+use Rattle.net_cells.specs.run_laws.specs.declared.steps.Step.TheVariants.{Enter, Reach}
+use Rattle.net_cells.specs.run_laws.specs.Cards.{Card, ServerStep, Arrives}
+use Rattle.net_cells.specs.run_laws.specs.Next.{next}
+use Rattle.net_cells.specs.run_laws.specs.Routes.{Hop, server_at, route_of, queue_at, first_server}
+use Rattle.net_cells.specs.run_laws.specs.Views.{Entry, card_of, hops_of, server_of, seen}
+use Rattle.net_cells.specs.run_laws.specs.Lawful as lawful
+use Rattle.net_cells.specs.run_laws.specs.Lawful.{state_at}
 use Rattle.sim_loop.specs.queue_sched.specs.Turns.{IsCard}
 use Rattle.index_links.specs.Chains.{Chains, IsLinked, unlinked}
 use Rattle.sim_bounds.specs.net_model.specs.declared.trace.TracePacket.{TracePacket}

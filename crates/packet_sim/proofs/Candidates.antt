@@ -2,7 +2,7 @@
 use Rattle.std.specs.Prelude.{Option, Some, None, ◌≡◌, ◌⊎◌, ℕ, ◌<◌, List, length, slice_get}
 use Rattle.std.proofs.Common.{refl, sym, ap, ◌∙◌, subst, inl, inr}
 use Rattle.std.proofs.lemmas.Option.{slice_get_within}
-use Rattle.rational.specs.Rational.{ℚ}
+use Rattle.fraction128.specs.rational.specs.Rational.{ℚ}
 use Rattle.index_links.specs.Chains.{Chains, list_at, Has, first_of}
 use Rattle.sim_bounds.specs.stated_runs.specs.Setups.{Entering, Setup, packet_of}
 use Rattle.sim_loop.specs.sim_servers.specs.declared.due.Due.{Due}
@@ -16,7 +16,7 @@ use Rattle.sim_loop.proofs.Merged.{first_has}
 use Rattle.sim_loop.specs.sim_states.proofs.Scan.{packet_at}
 use Rattle.sim_loop.specs.sim_states.specs.declared.arrival.Arrival.{Arrival}
 use Rattle.sim_loop.specs.sim_states.specs.Running.{arrival_at, enter_first, reach_first, station_due, IsCandidate}
-use Rattle.rational.specs.Rational.{int}
+use Rattle.fraction128.specs.rational.specs.Rational.{int}
 use Rattle.std.specs.Prelude.{pos}
 
 -- ---- the parts of what is due

@@ -3,10 +3,10 @@ use Rattle.std.specs.Prelude.{Some, ◌≡◌, ℕ, ◌<◌, List, length, map, 
 use Rattle.std.proofs.Common.{sym, ap, ◌∙◌, subst, inl, inr, arith}
 use Rattle.std.proofs.lemmas.Bool.{cases_eq}
 use Rattle.std.proofs.lemmas.Option.{slice_get_within}
-use Rattle.rational.specs.Rational.{ℚ}
-use Rattle.run_laws.specs.declared.steps.Step.{Step}
-use Rattle.run_laws.specs.Routes.{route_of}
-use Rattle.run_laws.specs.Views.{Entry, entry_of, hops_of}
+use Rattle.fraction128.specs.rational.specs.Rational.{ℚ}
+use Rattle.net_cells.specs.run_laws.specs.declared.steps.Step.{Step}
+use Rattle.net_cells.specs.run_laws.specs.Routes.{route_of}
+use Rattle.net_cells.specs.run_laws.specs.Views.{Entry, entry_of, hops_of}
 use Rattle.index_links.specs.Chains.{Chains}
 use Rattle.sim_bounds.specs.net_model.specs.declared.trace.TracePacket.{TracePacket}
 use Rattle.sim_bounds.specs.stated_runs.specs.Setups.{Entering, Setup, packet_of}

@@ -2,20 +2,20 @@
 use Rattle.std.specs.Prelude.{◌≡◌, ℕ, pos, ◌==◌, ◌&&◌, List, [], ◌∷◌, ◌++◌}
 use Rattle.std.proofs.Common.{arith, sym, subst, inl, inr}
 use Rattle.std.proofs.lemmas.Bool.{cases_Bool}
-use Rattle.rational.specs.Rational.{ℚ, int, neg_ℚ, ◌+ℚ◌, ◌*ℚ◌, ◌≤ℚ◌}
-use Rattle.rational.specs.Ratio.{SumFits}
-use Rattle.rational.specs.Grid.{Whole, Within}
-use Rattle.rational.proofs.Grid.{whole_add, within_nonneg, within_add, within_weaken}
-use Rattle.rational.proofs.Integers.{nat_nonneg}
-use Rattle.rational.proofs.Laws.{le_trans, mul_le_mul_right}
-use Rattle.rational.proofs.Linear.{with1}
-use Rattle.rational.proofs.Sizes.{largest_part, difference_on_grid}
-use Rattle.run_laws.specs.declared.steps.Step.{Step}
-use Rattle.run_laws.specs.declared.steps.Step.TheVariants.{Enter, Reach, Work, Leave, Visit}
-use Rattle.run_laws.specs.FlowDelays.{delivered_at}
-use Rattle.run_laws.specs.Routes.{Routes, link_at, route_of, last_server}
-use Rattle.run_laws.specs.Runs.{SpecRun}
-use Rattle.run_laws.specs.Lawful.{run_start}
+use Rattle.fraction128.specs.rational.specs.Rational.{ℚ, int, neg_ℚ, ◌+ℚ◌, ◌*ℚ◌, ◌≤ℚ◌}
+use Rattle.fraction128.specs.rational.specs.Ratio.{SumFits}
+use Rattle.fraction128.specs.rational.specs.Grid.{Whole, Within}
+use Rattle.fraction128.specs.rational.proofs.Grid.{whole_add, within_nonneg, within_add, within_weaken}
+use Rattle.fraction128.specs.rational.proofs.Integers.{nat_nonneg}
+use Rattle.fraction128.specs.rational.proofs.Laws.{le_trans, mul_le_mul_right}
+use Rattle.fraction128.specs.rational.proofs.Linear.{with1}
+use Rattle.fraction128.specs.rational.proofs.Sizes.{largest_part, difference_on_grid}
+use Rattle.net_cells.specs.run_laws.specs.declared.steps.Step.{Step}
+use Rattle.net_cells.specs.run_laws.specs.declared.steps.Step.TheVariants.{Enter, Reach, Work, Leave, Visit}
+use Rattle.net_cells.specs.run_laws.specs.FlowDelays.{delivered_at}
+use Rattle.net_cells.specs.run_laws.specs.Routes.{Routes, link_at, route_of, last_server}
+use Rattle.net_cells.specs.run_laws.specs.Runs.{SpecRun}
+use Rattle.net_cells.specs.run_laws.specs.Lawful.{run_start}
 use Rattle.sim_bounds.specs.stated_runs.specs.Setups.{Setup}
 use Rattle.sim_bounds.specs.stated_runs.specs.DueSteps.{step_time}
 use Rattle.sim_bounds.specs.stated_runs.specs.Simulated.{Follows, FollowsSoFar, last_time, IsSimulated}

@@ -1,8 +1,8 @@
 -- The first of all that is due, and the end.
 use Rattle.std.specs.Prelude.{Some, None, ℕ, List, length}
 use Rattle.std.proofs.Common.{subst}
-use Rattle.run_laws.specs.declared.steps.Step.{Step}
-use Rattle.run_laws.specs.Lawful.{run_start}
+use Rattle.net_cells.specs.run_laws.specs.declared.steps.Step.{Step}
+use Rattle.net_cells.specs.run_laws.specs.Lawful.{run_start}
 use Rattle.index_links.specs.Chains.{Chains}
 use Rattle.sim_bounds.specs.stated_runs.specs.Setups.{Setup}
 use Rattle.sim_bounds.specs.stated_runs.specs.Simulated.{Follows}

@@ -1,8 +1,8 @@
 -- The time of the last step.
 use Rattle.std.specs.Prelude.{Some, ◌≡◌, suc, ◌-◌, List, [], ◌∷◌, length, slice_get}
 use Rattle.std.proofs.Common.{ap, ◌∙◌, arith}
-use Rattle.rational.specs.Rational.{ℚ}
-use Rattle.run_laws.specs.declared.steps.Step.{Step}
+use Rattle.fraction128.specs.rational.specs.Rational.{ℚ}
+use Rattle.net_cells.specs.run_laws.specs.declared.steps.Step.{Step}
 use Rattle.sim_bounds.specs.stated_runs.specs.DueSteps.{step_time}
 use Rattle.sim_bounds.specs.stated_runs.specs.Simulated.{last_time}
 

@@ -5,10 +5,10 @@ use Rattle.std.proofs.lemmas.Bool.{cases_eq, eq-eqb, ne_eqb}
 use Rattle.std.proofs.lemmas.List.{length-map, length_push}
 use Rattle.std.proofs.lemmas.Option.{get_or_from_slice_get, slice_get-map}
 use Rattle.std.specs.Option.{option_map}
-use Rattle.rational.specs.Rational.{ℚ, int, ◌<ℚ◌}
-use Rattle.run_laws.specs.Servers.{Fifo, Server, start}
-use Rattle.run_laws.specs.Routes.{server_at}
-use Rattle.run_laws.specs.Lawful.{state_at, run_start}
+use Rattle.fraction128.specs.rational.specs.Rational.{ℚ, int, ◌<ℚ◌}
+use Rattle.net_cells.specs.run_laws.specs.Servers.{Fifo, Server, start}
+use Rattle.net_cells.specs.run_laws.specs.Routes.{server_at}
+use Rattle.net_cells.specs.run_laws.specs.Lawful.{state_at, run_start}
 use Rattle.index_links.specs.Chains.{Chains, list_at, Has}
 use Rattle.sim_bounds.specs.net_model.specs.declared.trace.Stall.{Stall}
 use Rattle.sim_bounds.specs.net_model.specs.Networks.{Net, NetServer}

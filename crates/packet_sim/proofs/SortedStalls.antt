@@ -7,10 +7,10 @@ use Rattle.std.proofs.lemmas.Bool.{cases_eq, eq-eqb, ne_eqb}
 use Rattle.std.proofs.lemmas.List.{length-map, get_or-map, take_more}
 use Rattle.std.proofs.lemmas.List.Sorted.{IsPermutation-sym, All-permutation, Contains-permutation, sorted_far}
 use Rattle.std.proofs.lemmas.List.MinMax.{ranks_by}
-use Rattle.rational.specs.Rational.{ℚ, ◌≤ℚ◌, ◌<ℚ◌}
-use Rattle.rational.specs.Ratio.{cmp_q}
-use Rattle.rational.proofs.Compared.{not_less}
-use Rattle.rational.proofs.Comparison.{cmp_ranks}
+use Rattle.fraction128.specs.rational.specs.Rational.{ℚ, ◌≤ℚ◌, ◌<ℚ◌}
+use Rattle.fraction128.specs.rational.specs.Ratio.{cmp_q}
+use Rattle.fraction128.specs.rational.proofs.Compared.{not_less}
+use Rattle.fraction128.specs.rational.proofs.Comparison.{cmp_ranks}
 use Rattle.fraction128.specs.Order.{cmp_q_total}
 use Rattle.sim_bounds.specs.net_model.specs.declared.trace.Stall.{Stall}
 use Rattle.sim_bounds.specs.stated_runs.specs.Setups.{StallTimes, IsStalled}

@@ -2,7 +2,7 @@
 use Rattle.std.specs.Prelude.{◌≡◌, ℕ, List, [], ◌∷◌, ◌++◌, length}
 use Rattle.std.proofs.Common.{sym, ap, ◌∙◌, subst}
 use Rattle.std.proofs.lemmas.List.{length_push}
-use Rattle.run_laws.specs.declared.steps.Step.{Step}
+use Rattle.net_cells.specs.run_laws.specs.declared.steps.Step.{Step}
 use Rattle.index_links.specs.Chains.{Chains}
 use Rattle.sim_bounds.specs.net_model.specs.Networks.{Net}
 use Rattle.sim_bounds.specs.net_model.specs.Traces.{SpecTrace}

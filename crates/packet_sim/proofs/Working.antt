@@ -1,17 +1,17 @@
 -- Steps in which a server works.
 use Rattle.std.specs.Prelude.{Some, None, ◌≡◌, ℕ, pos, ◌<◌, List, [], ◌∷◌, ◌++◌, length, slice_get}
 use Rattle.std.proofs.Common.{refl, sym, ap, ◌∙◌, subst, arith, inl}
-use Rattle.rational.specs.Rational.{ℚ, int, ◌-ℚ◌, ◌*ℚ◌, ◌/ℚ◌, ◌≤ℚ◌, ◌<ℚ◌}
-use Rattle.rational.specs.Ratio.{IsSmall}
-use Rattle.rational.proofs.Linear.{sub_pos}
-use Rattle.run_laws.specs.declared.steps.Step.{Step}
-use Rattle.run_laws.specs.declared.steps.Step.TheVariants as steps
-use Rattle.run_laws.specs.Cards.{Card, Works, size}
-use Rattle.run_laws.specs.Servers.{ServerState, done, done_so_far}
-use Rattle.run_laws.specs.Next.{next}
-use Rattle.run_laws.specs.Routes.{server_at}
-use Rattle.run_laws.specs.Views.{card_of}
-use Rattle.run_laws.specs.Lawful.{state_at}
+use Rattle.fraction128.specs.rational.specs.Rational.{ℚ, int, ◌-ℚ◌, ◌*ℚ◌, ◌/ℚ◌, ◌≤ℚ◌, ◌<ℚ◌}
+use Rattle.fraction128.specs.rational.specs.Ratio.{IsSmall}
+use Rattle.fraction128.specs.rational.proofs.Linear.{sub_pos}
+use Rattle.net_cells.specs.run_laws.specs.declared.steps.Step.{Step}
+use Rattle.net_cells.specs.run_laws.specs.declared.steps.Step.TheVariants as steps
+use Rattle.net_cells.specs.run_laws.specs.Cards.{Card, Works, size}
+use Rattle.net_cells.specs.run_laws.specs.Servers.{ServerState, done, done_so_far}
+use Rattle.net_cells.specs.run_laws.specs.Next.{next}
+use Rattle.net_cells.specs.run_laws.specs.Routes.{server_at}
+use Rattle.net_cells.specs.run_laws.specs.Views.{card_of}
+use Rattle.net_cells.specs.run_laws.specs.Lawful.{state_at}
 use Rattle.index_links.specs.Chains.{Chains}
 use Rattle.sim_bounds.specs.stated_runs.specs.Setups.{Setup, IsSetup, IsFirstOpen, IsStretch, rate_of}
 use Rattle.sim_bounds.specs.stated_runs.specs.DueSteps.{IsDue, work_kind}
@@ -65,7 +65,7 @@ may_work S stations links arrivals n xs h s p from bits a left y ready fit opene
     let here : IsStretch S s from bits a o.1 o.2 = subst (λ u. IsStretch S s from bits u o.1 o.2) (open_once S s from o.0 a o.3.begins ready.opens) o.3 in
     record {
       order = fit.opening.order;
-      some = subst (λ u. int (pos 0) <ℚ u) (sym left_is) (Rattle.rational.proofs.Quotients.div_pos bits (rate_of S s) rate ready.some);
+      some = subst (λ u. int (pos 0) <ℚ u) (sym left_is) (Rattle.fraction128.specs.rational.proofs.Quotients.div_pos bits (rate_of S s) rate ready.some);
       opened = opened;
       room = record {
         grid = h.grid;

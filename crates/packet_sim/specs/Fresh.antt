@@ -1,7 +1,7 @@
 -- Stations of servers without packets.
 use Rattle.std.specs.Prelude.{Some, ◌≡◌, ◌↔◌, ℕ, List, length, map, slice_get, All, AllPairs}
-use Rattle.rational.specs.Rational.{ℚ, ◌≤ℚ◌, ◌<ℚ◌}
-use Rattle.run_laws.specs.Servers.{start}
+use Rattle.fraction128.specs.rational.specs.Rational.{ℚ, ◌≤ℚ◌, ◌<ℚ◌}
+use Rattle.net_cells.specs.run_laws.specs.Servers.{start}
 use Rattle.sim_bounds.specs.net_model.specs.Networks.{NetServer}
 use Rattle.sim_bounds.specs.net_model.specs.Traces.{SpecTrace}
 use Rattle.sim_bounds.specs.stated_runs.specs.Setups.{StallTimes, IsStalled}

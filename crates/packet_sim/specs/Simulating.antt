@@ -1,7 +1,7 @@
 -- What holds of a simulation between two steps.
 use Rattle.std.specs.Prelude.{Option, Some, ◌≡◌, ℕ, ◌<◌, ◌^◌, List, length, slice_get}
-use Rattle.rational.specs.Rational.{ℚ}
-use Rattle.run_laws.specs.declared.steps.Step.{Step}
+use Rattle.fraction128.specs.rational.specs.Rational.{ℚ}
+use Rattle.net_cells.specs.run_laws.specs.declared.steps.Step.{Step}
 use Rattle.index_links.specs.Chains.{Chains}
 use Rattle.sim_loop.specs.queue_sched.specs.declared.turn.Turn.{Turn}
 use Rattle.sim_bounds.specs.stated_runs.specs.Setups.{Setup, IsSetup}

@@ -3,7 +3,7 @@ use Rattle.std.specs.Prelude.{Option, ◌≡◌, ◌+◌, length}
 use Rattle.sim_loop.specs.queue_sched.specs.declared.turn.Turn.{Turn}
 use Rattle.sim_bounds.specs.net_model.specs.Networks.{Net}
 use Rattle.sim_bounds.specs.net_model.specs.Traces.{SpecTrace}
-use Rattle.run_laws.specs.Lawful.{run_start}
+use Rattle.net_cells.specs.run_laws.specs.Lawful.{run_start}
 use Rattle.sim_bounds.specs.stated_runs.specs.FromTraces.{setup_of}
 use Rattle.sim_bounds.specs.stated_runs.specs.Simulated.{Follows}
 use Rattle.sim_loop.specs.sim_servers.specs.declared.due.Due.{Due}

@@ -11,4 +11,3 @@ mod works;
 
 pub use measured::{SimRun, measured_run};
 pub use run::run_of;
-pub use sim_bounds::net_model;

@@ -2,7 +2,7 @@
 
 ghost use Rattle.std.specs.Prelude.{◌≡◌, ◌+◌, ◌<◌, ◌≤◌, ◌^◌, IfOk, AllPairs, length, map};
 ghost use Rattle.std.specs.List.Sorted.{IsPermutation};
-ghost use Rattle.rational.specs.Rational.{◌≤ℚ◌};
+ghost use Rattle.fraction128.specs.rational.specs.Rational.{◌≤ℚ◌};
 ghost use Rattle.sim_bounds.specs.net_model.specs.Accepted.{HasFewQueues};
 ghost use Rattle.sim_bounds.specs.net_model.specs.Views.{discipline_of, server_of};
 ghost use Rattle.sim_bounds.specs.stated_runs.specs.FromTraces.{gate_of as gate_times_of, stalls_at, IsTraceOf};

@@ -11,7 +11,7 @@ ghost use Rattle.run_measures.specs.Worst.{AreWorst};
 
 use crate::run::run_of;
 use fraction128::Frac;
-use run_laws::Run;
+use net_cells::run_laws::Run;
 use run_measures::{peaks, worst_delays};
 use sim_bounds::net_model::{Network, Trace};
 use std::alloc::{AllocError, Global};

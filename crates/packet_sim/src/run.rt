@@ -1,8 +1,8 @@
 //! The whole run.
 
 ghost use Rattle.std.specs.Prelude.{◌≡◌, ◌+◌, ◌<◌, ◌^◌, ℕ, pos, IfOk, OnOk, length};
-ghost use Rattle.rational.specs.Rational.{ℚ, int};
-ghost use Rattle.run_laws.specs.Lawful.{IsLawful};
+ghost use Rattle.fraction128.specs.rational.specs.Rational.{ℚ, int};
+ghost use Rattle.net_cells.specs.run_laws.specs.Lawful.{IsLawful};
 ghost use Rattle.sim_bounds.specs.net_model.specs.NetRoutes.{routes_of};
 ghost use Rattle.sim_bounds.specs.net_model.specs.Walks.{IsFeedForward};
 ghost use Rattle.sim_bounds.specs.stated_runs.specs.DueSteps.{step_time};
@@ -14,7 +14,7 @@ ghost use Rattle.packet_sim.specs.Stepping.{Simulates, ComesNext, HasStepped, Ha
 
 use crate::simulation::Simulation;
 use fraction128::Frac;
-use run_laws::{Run, Step};
+use net_cells::run_laws::{Run, Step};
 use sim_bounds::net_model::{Network, Trace};
 use sim_loop::first_due;
 use sim_loop::sim_servers::{Due, DueKind};

@@ -1,7 +1,7 @@
 //! The state of a simulation between two steps.
 
 use index_links::Links;
-use run_laws::Step;
+use net_cells::run_laws::Step;
 use sim_loop::sim_servers::Station;
 use sim_loop::sim_states::Arrival;
 

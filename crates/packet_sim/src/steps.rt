@@ -6,12 +6,12 @@ ghost use Rattle.packet_sim.specs.Stepping.{ComesNext, HasStepped};
 use crate::reads::packet_at;
 use crate::simulation::Simulation;
 use fraction128::sum;
-use run_laws::Step;
-use run_measures::sim_routes::{entrance, link_of, next_server, queue_of};
+use net_cells::run_laws::Step;
 use sim_bounds::net_model::{Network, Trace};
 use sim_loop::sim_servers::{Due, DueKind};
 use sim_loop::sim_states::Arrival;
 use sim_loop::{arrive_at, leave_at};
+use sim_routes::{entrance, link_of, next_server, queue_of};
 use std::alloc::AllocError;
 
 impl Simulation {

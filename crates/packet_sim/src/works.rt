@@ -7,7 +7,7 @@ ghost use Rattle.packet_sim.specs.Stepping.{ComesNext, TakesTurn, HasStepped};
 use crate::reads::{packet_at, rate_at, rest_at};
 use crate::simulation::Simulation;
 use fraction128::{Frac, quotient};
-use run_laws::Step;
+use net_cells::run_laws::Step;
 use sim_bounds::net_model::{Network, Trace};
 use sim_loop::queue_sched::Turn;
 use sim_loop::sim_servers::{Due, DueKind};

@@ -3,7 +3,6 @@
 
 mod service;
 
-pub use curve_running;
 pub use residual_calls::residual_laws::priority_serves;
 pub use residual_calls::{priority_curve_serves, priority_is_determined, priority_service_grows};
 pub use service::priority_service;

@@ -7,11 +7,11 @@ ghost use Rattle.residual_calls.specs.PriorityCalls.{LeavesPriority, MakesPriori
 ghost use Rattle.residual_calls.specs.residual_laws.specs.PriorityLaws.{IsPriorityService};
 ghost use Rattle.residual_calls.specs.InTurn.{LeftRefused, PriorityRefused};
 
+use curve_running::curve_call::intact;
 use curve_running::curve_pointwise::{pos_diff, pos_minus};
 use curve_running::run_sup;
 use curve_running::upp_curve::Curve;
 use curve_running::upp_limits::OpFault;
-use residual_calls::curve_call::intact;
 use residual_calls::run_laws::whole;
 use std::alloc::Global;
 use std::sync::ledger::Ledger;

@@ -3,18 +3,18 @@ use Rattle.std.specs.Prelude.{ℕ, ◌==◌, ◌&&◌, List, [], ◌∷◌}
 use Rattle.std.proofs.Common.{inl, inr}
 use Rattle.std.proofs.lemmas.Bool.{cases_Bool}
 use Rattle.rational.proofs.MinMax.{max_q_ge_left}
-use Rattle.run_laws.specs.declared.steps.Step.{Step}
-use Rattle.run_laws.specs.declared.steps.Step.TheVariants.{Enter, Reach, Work, Leave, Visit}
-use Rattle.run_laws.specs.Runs.{SpecRun}
-use Rattle.run_laws.specs.FlowDelays.{delivered_at}
-use Rattle.run_laws.specs.Routes.{route_of, last_server}
-use Rattle.simulated_sizes.specs.net_model.specs.Networks.{Net}
-use Rattle.simulated_sizes.specs.net_model.specs.NetRoutes.{routes_of}
-use Rattle.simulated_sizes.specs.net_model.specs.Accepted.{IsAccepted}
-use Rattle.simulated_sizes.specs.stated_runs.specs.TimeGrids.{IsTime}
-use Rattle.simulated_sizes.specs.stated_runs.proofs.GridTimes.{difference_fits}
-use Rattle.simulated_sizes.specs.sim_bounds.specs.Horizons.{latest_of}
-use Rattle.run_check.specs.run_measures.specs.Worst.{DelaysFit}
+use Rattle.watch_laws.specs.run_laws.specs.declared.steps.Step.{Step}
+use Rattle.watch_laws.specs.run_laws.specs.declared.steps.Step.TheVariants.{Enter, Reach, Work, Leave, Visit}
+use Rattle.watch_laws.specs.run_laws.specs.Runs.{SpecRun}
+use Rattle.watch_laws.specs.run_laws.specs.FlowDelays.{delivered_at}
+use Rattle.watch_laws.specs.run_laws.specs.Routes.{route_of, last_server}
+use Rattle.watch_laws.specs.net_model.specs.Networks.{Net}
+use Rattle.watch_laws.specs.net_model.specs.NetRoutes.{routes_of}
+use Rattle.watch_laws.specs.net_model.specs.Accepted.{IsAccepted}
+use Rattle.sim_bounds.specs.stated_runs.specs.TimeGrids.{IsTime}
+use Rattle.sim_bounds.specs.stated_runs.proofs.GridTimes.{difference_fits}
+use Rattle.sim_bounds.specs.Horizons.{latest_of}
+use Rattle.run_measures.specs.Worst.{DelaysFit}
 use Rattle.check_gauge.specs.Runs.{step_end, last_time}
 use Rattle.check_gauge.specs.Gauge.{check_sizes, farthest}
 use Rattle.check_gauge.proofs.Held.{Fits, fits, last_by}

@@ -9,19 +9,19 @@ use Rattle.rational.proofs.Grid.{whole_int, whole_add}
 use Rattle.rational.proofs.Laws.{le_refl, le_trans}
 use Rattle.rational.proofs.Linear.{with_atoms}
 use Rattle.rational.proofs.MinMax.{max_q_ge_left, max_q_ge_right}
-use Rattle.upp_limits.proofs.Every.{every_left}
-use Rattle.run_laws.specs.Runs.{SpecRun}
-use Rattle.run_laws.specs.Routes.{link_at}
-use Rattle.simulated_sizes.specs.net_model.specs.Networks.{Net, NetServer}
-use Rattle.simulated_sizes.specs.net_model.specs.NetRoutes.{routes_of, link_for}
-use Rattle.simulated_sizes.specs.net_model.specs.Accepted.{IsAccepted}
-use Rattle.simulated_sizes.specs.stated_runs.specs.TimeGrids.{IsTime}
-use Rattle.simulated_sizes.specs.stated_runs.proofs.Lists.{In, in_contains}
-use Rattle.simulated_sizes.specs.stated_runs.proofs.GridTimes.{sum_fits}
-use Rattle.simulated_sizes.specs.sim_bounds.specs.Horizons.{latest_of}
-use Rattle.simulated_sizes.specs.sim_bounds.specs.Gauge.{numbers_of_curves, curves_of}
-use Rattle.simulated_sizes.specs.sim_bounds.proofs.Members.{any_made, each_in, in_map}
-use Rattle.simulated_sizes.specs.sim_bounds.proofs.Spans.{latest_nonneg}
+use Rattle.watch_laws.specs.upp_limits.proofs.Every.{every_left}
+use Rattle.watch_laws.specs.run_laws.specs.Runs.{SpecRun}
+use Rattle.watch_laws.specs.run_laws.specs.Routes.{link_at}
+use Rattle.watch_laws.specs.net_model.specs.Networks.{Net, NetServer}
+use Rattle.watch_laws.specs.net_model.specs.NetRoutes.{routes_of, link_for}
+use Rattle.watch_laws.specs.net_model.specs.Accepted.{IsAccepted}
+use Rattle.sim_bounds.specs.stated_runs.specs.TimeGrids.{IsTime}
+use Rattle.sim_bounds.specs.stated_runs.proofs.Lists.{In, in_contains}
+use Rattle.sim_bounds.specs.stated_runs.proofs.GridTimes.{sum_fits}
+use Rattle.sim_bounds.specs.Horizons.{latest_of}
+use Rattle.sim_bounds.specs.Gauge.{numbers_of_curves, curves_of}
+use Rattle.sim_bounds.proofs.Members.{any_made, each_in, in_map}
+use Rattle.sim_bounds.proofs.Spans.{latest_nonneg}
 use Rattle.check_gauge.specs.Runs.{times_of, last_time}
 use Rattle.check_gauge.specs.Gauge.{links_of, largest_link, farthest, check_sizes}
 use Rattle.check_gauge.proofs.Held.{Fits, last_by, last_nonneg}

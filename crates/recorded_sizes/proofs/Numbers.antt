@@ -8,17 +8,17 @@ use Rattle.rational.specs.Rational.{ℚ, int}
 use Rattle.rational.proofs.Grid.{whole_int}
 use Rattle.rational.proofs.Integers.{nat_nonneg, nat_le}
 use Rattle.rational.proofs.Laws.{le_of_lt}
-use Rattle.upp_limits.specs.Sized.{IsValue, grid_of}
-use Rattle.upp_limits.proofs.Every.{every_left}
-use Rattle.upp_limits.proofs.NarrowSizes.{narrow_limit, scaled_fits}
-use Rattle.run_laws.specs.declared.steps.Step.{Step}
-use Rattle.run_laws.specs.declared.steps.Step.TheVariants.{Enter, Reach, Work, Leave, Visit}
-use Rattle.run_laws.specs.Runs.{SpecRun}
-use Rattle.simulated_sizes.specs.net_model.specs.Networks.{Net}
-use Rattle.simulated_sizes.specs.net_model.specs.NetRoutes.{routes_of}
-use Rattle.simulated_sizes.specs.net_model.specs.Accepted.{IsAccepted}
-use Rattle.simulated_sizes.specs.stated_runs.specs.TimeGrids.{HasRoom, IsTime}
-use Rattle.simulated_sizes.specs.sim_bounds.specs.Gauge.{numbers_of_curves, curves_of}
+use Rattle.watch_laws.specs.upp_limits.specs.Sized.{IsValue, grid_of}
+use Rattle.watch_laws.specs.upp_limits.proofs.Every.{every_left}
+use Rattle.watch_laws.specs.upp_limits.proofs.NarrowSizes.{narrow_limit, scaled_fits}
+use Rattle.watch_laws.specs.run_laws.specs.declared.steps.Step.{Step}
+use Rattle.watch_laws.specs.run_laws.specs.declared.steps.Step.TheVariants.{Enter, Reach, Work, Leave, Visit}
+use Rattle.watch_laws.specs.run_laws.specs.Runs.{SpecRun}
+use Rattle.watch_laws.specs.net_model.specs.Networks.{Net}
+use Rattle.watch_laws.specs.net_model.specs.NetRoutes.{routes_of}
+use Rattle.watch_laws.specs.net_model.specs.Accepted.{IsAccepted}
+use Rattle.sim_bounds.specs.stated_runs.specs.TimeGrids.{HasRoom, IsTime}
+use Rattle.sim_bounds.specs.Gauge.{numbers_of_curves, curves_of}
 use Rattle.run_check.specs.Walks.{StepFits}
 use Rattle.check_gauge.specs.Runs.{entering_bits, total_bits, works_of, last_time}
 use Rattle.check_gauge.specs.Gauge.{check_sizes, farthest}
@@ -80,7 +80,7 @@ steps_fit net run (Visit s q at ∷ xs) ok h t n v f =
 
 at_place : {A : Type 0} (P : A → Type 0) (xs : List A) (k : ℕ) (x : A) → AllByRecursion P xs → slice_get xs k ≡ Some x → P x
 at_place P [] k x h e = absurd (cc)
-at_place P (y ∷ ys) zero x h e = subst P (Rattle.run_laws.proofs.Heads.same_some y x e) h.0
+at_place P (y ∷ ys) zero x h e = subst P (Rattle.watch_laws.specs.run_laws.proofs.Heads.same_some y x e) h.0
 at_place P (y ∷ ys) (suc k) x h e = at_place P ys k x h.1 e
 
 pub recorded_numbers : RecordedRunsHaveNumbers

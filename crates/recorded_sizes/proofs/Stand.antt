@@ -8,27 +8,27 @@ use Rattle.rational.proofs.Integers.{nat_nonneg}
 use Rattle.rational.proofs.Laws.{le_trans, mul_le_mul}
 use Rattle.rational.proofs.MinMax.{max_q_ge_left}
 use Rattle.rational.proofs.Over.{lt_q_out}
-use Rattle.upp_limits.specs.Sized.{IsSlope, Stands}
-use Rattle.upp_limits.proofs.Every.{every_left, every_right}
-use Rattle.upp_limits.proofs.Stands.{stands_right}
-use Rattle.upp_normal.specs.Operand.{AreLimited}
-use Rattle.run_laws.specs.declared.steps.Step.{Step}
-use Rattle.run_laws.specs.declared.steps.Step.TheVariants.{Enter, Reach, Work, Leave, Visit}
-use Rattle.run_laws.specs.Runs.{SpecRun}
-use Rattle.run_laws.specs.Routes.{Hop, Routes, link_at, route_of}
-use Rattle.run_laws.specs.Lawful.{RunState, next_run, run_start, AllAllowedInRun}
+use Rattle.watch_laws.specs.upp_limits.specs.Sized.{IsSlope, Stands}
+use Rattle.watch_laws.specs.upp_limits.proofs.Every.{every_left, every_right}
+use Rattle.watch_laws.specs.upp_limits.proofs.Stands.{stands_right}
+use Rattle.watch_laws.specs.upp_normal.specs.Operand.{AreLimited}
+use Rattle.watch_laws.specs.run_laws.specs.declared.steps.Step.{Step}
+use Rattle.watch_laws.specs.run_laws.specs.declared.steps.Step.TheVariants.{Enter, Reach, Work, Leave, Visit}
+use Rattle.watch_laws.specs.run_laws.specs.Runs.{SpecRun}
+use Rattle.watch_laws.specs.run_laws.specs.Routes.{Hop, Routes, link_at, route_of}
+use Rattle.watch_laws.specs.run_laws.specs.Lawful.{RunState, next_run, run_start, AllAllowedInRun}
 use Rattle.net_laws.specs.Paths as paths
 use Rattle.net_laws.specs.Once.{IsOverPaths}
 use Rattle.net_laws.proofs.PathRuns.{none_arrives_twice}
-use Rattle.simulated_sizes.specs.net_model.specs.Networks.{Net}
-use Rattle.simulated_sizes.specs.net_model.specs.NetRoutes.{routes_of}
-use Rattle.simulated_sizes.specs.net_model.specs.Accepted.{IsAccepted}
-use Rattle.simulated_sizes.specs.stated_runs.specs.Setups.{AreHopsOf}
-use Rattle.simulated_sizes.specs.sim_bounds.specs.Horizons.{latest_of}
-use Rattle.simulated_sizes.specs.sim_bounds.specs.Gauge.{numbers_of_curves, curves_of}
-use Rattle.simulated_sizes.specs.watch_laws.specs.Entries.{entries}
-use Rattle.simulated_sizes.specs.first_breaches.specs.Sizes.{StepStands}
-use Rattle.run_check.specs.broken_laws.specs.Recorded.{PassOnce}
+use Rattle.watch_laws.specs.net_model.specs.Networks.{Net}
+use Rattle.watch_laws.specs.net_model.specs.NetRoutes.{routes_of}
+use Rattle.watch_laws.specs.net_model.specs.Accepted.{IsAccepted}
+use Rattle.sim_bounds.specs.stated_runs.specs.Setups.{AreHopsOf}
+use Rattle.sim_bounds.specs.Horizons.{latest_of}
+use Rattle.sim_bounds.specs.Gauge.{numbers_of_curves, curves_of}
+use Rattle.watch_laws.specs.Entries.{entries}
+use Rattle.first_breaches.specs.Sizes.{StepStands}
+use Rattle.broken_laws.specs.Recorded.{PassOnce}
 use Rattle.run_check.proofs.Started.{has_paths}
 use Rattle.simulated_sizes.proofs.Numbers.{service_stands, arrival_stands}
 use Rattle.check_gauge.specs.Runs.{step_end, last_time, work_pace, paces_of, IsFromZero}

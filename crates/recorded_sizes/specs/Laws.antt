@@ -1,13 +1,13 @@
 -- The numbers of a recorded run whose gauge is below 2 ^ 120. Own choice.
 use Rattle.std.specs.Prelude.{◌<◌, ◌≤◌, ◌^◌, length}
-use Rattle.run_laws.specs.Runs.{SpecRun}
-use Rattle.run_laws.specs.Lawful.{IsLawful}
-use Rattle.simulated_sizes.specs.net_model.specs.Networks.{Net}
-use Rattle.simulated_sizes.specs.net_model.specs.NetRoutes.{routes_of}
-use Rattle.simulated_sizes.specs.net_model.specs.Accepted.{IsAccepted}
+use Rattle.watch_laws.specs.run_laws.specs.Runs.{SpecRun}
+use Rattle.watch_laws.specs.run_laws.specs.Lawful.{IsLawful}
+use Rattle.watch_laws.specs.net_model.specs.Networks.{Net}
+use Rattle.watch_laws.specs.net_model.specs.NetRoutes.{routes_of}
+use Rattle.watch_laws.specs.net_model.specs.Accepted.{IsAccepted}
 use Rattle.run_check.specs.Following.{HaveNumbers}
-use Rattle.run_check.specs.run_measures.specs.Worst.{DelaysFit}
-use Rattle.simulated_sizes.specs.first_breaches.specs.Sizes.{RunStands}
+use Rattle.run_measures.specs.Worst.{DelaysFit}
+use Rattle.first_breaches.specs.Sizes.{RunStands}
 use Rattle.simulated_sizes.specs.Laws.{AreCurves}
 use Rattle.check_gauge.specs.Runs.{IsFromZero}
 use Rattle.check_gauge.specs.Gauge.{check_sizes, check_gauge}

@@ -3,6 +3,4 @@
 
 mod laws;
 
-pub use check_gauge;
 pub use laws::{lawful_runs_have_sizes, recorded_runs_have_delays, recorded_runs_have_numbers};
-pub use run_check;

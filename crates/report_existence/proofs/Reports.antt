@@ -5,19 +5,19 @@ use Rattle.std.proofs.lemmas.Bool.{cases_lt}
 use Rattle.std.proofs.lemmas.List.Elements.{All-contains}
 use Rattle.std.proofs.lemmas.List.{get_or_default, get_or_past}
 use Rattle.std.proofs.lemmas.Option.{slice_get_within, get_or_from_slice_get}
-use Rattle.upp_curve.specs.Curve.{SpecCurve}
-use Rattle.upp_curve.specs.Curves.{IsCurve}
-use Rattle.net_model.specs.Networks.{Net, NetServer, NetFlow}
+use Rattle.net_draft.specs.upp_curve.specs.Curve.{SpecCurve}
+use Rattle.net_draft.specs.upp_curve.specs.Curves.{IsCurve}
+use Rattle.net_draft.specs.net_model.specs.Networks.{Net, NetServer, NetFlow}
 use Rattle.net_draft.specs.Texts.{FlowText, CurveText, DraftText}
-use Rattle.run_findings.specs.net_text.specs.Becoming.{Becomes}
-use Rattle.run_findings.specs.net_text.specs.Built.{IsServerOf, IsLiveFlowOf, IsBuilt}
-use Rattle.run_findings.specs.net_text.specs.FoldLimits.{OverFold}
-use Rattle.run_findings.specs.net_text.proofs.Zips.{zip_all}
+use Rattle.net_text.specs.Becoming.{Becomes}
+use Rattle.net_text.specs.Built.{IsServerOf, IsLiveFlowOf, IsBuilt}
+use Rattle.net_text.specs.FoldLimits.{OverFold}
+use Rattle.net_text.proofs.Zips.{zip_all}
 use Rattle.net_cells.specs.Numbered.{service_of, arrival_of, flow_at}
 use Rattle.net_cells.proofs.Tables.{answers_meet}
-use Rattle.run_findings.specs.net_bounds.proofs.Kept.{table_bounds_every_run}
+use Rattle.net_bounds.proofs.Kept.{table_bounds_every_run}
 use Rattle.analyse_command.specs.OnFiles.{report}
-use Rattle.run_findings.specs.simulated_sizes.specs.Laws.{AreCurves}
+use Rattle.simulated_sizes.specs.Laws.{AreCurves}
 use Rattle.table_existence.proofs.Sound.{zero_is}
 use Rattle.table_existence.proofs.Tables.{tables_or_limits}
 use Rattle.report_existence.specs.Laws.{FilesHaveReports}

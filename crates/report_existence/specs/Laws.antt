@@ -1,13 +1,13 @@
 -- There is a report of each file that gives a network with an order and no cell over a limit, and every run keeps it. Own
 -- choice.
 use Rattle.std.specs.Prelude.{ℕ, List}
-use Rattle.net_model.specs.Networks.{Net}
-use Rattle.net_model.specs.Orders.{IsOrder}
+use Rattle.net_draft.specs.net_model.specs.Networks.{Net}
+use Rattle.net_draft.specs.net_model.specs.Orders.{IsOrder}
 use Rattle.net_cells.specs.Meanings.{CellTable}
-use Rattle.analyse_command.specs.json_report.specs.declared.form.Form.{Form}
-use Rattle.run_findings.specs.command_replies.specs.Replies.{Reply}
-use Rattle.run_findings.specs.command_replies.specs.OnFiles.{IsNetOf}
-use Rattle.run_findings.specs.command_replies.specs.Guarantee.{Guarantees}
+use Rattle.json_report.specs.declared.form.Form.{Form}
+use Rattle.command_replies.specs.Replies.{Reply}
+use Rattle.command_replies.specs.OnFiles.{IsNetOf}
+use Rattle.command_replies.specs.Guarantee.{Guarantees}
 use Rattle.analyse_command.specs.OnFiles.{IsReportOf}
 use Rattle.table_existence.specs.Networks.{NoneIsOver}
 

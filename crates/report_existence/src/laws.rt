@@ -1,13 +1,13 @@
 //! The laws. Each is the contract of a function that does nothing.
 
-ghost use Rattle.net_model.specs.Orders.{IsOrder};
+ghost use Rattle.net_draft.specs.net_model.specs.Orders.{IsOrder};
 ghost use Rattle.net_cells.specs.Meanings.{CellTable};
 ghost use Rattle.net_cells.specs.Equations.{MeetsEquations};
 ghost use Rattle.table_existence.specs.Tables.{TableOrLimit};
 ghost use Rattle.table_existence.specs.Networks.{NoneIsOver};
 ghost use Rattle.report_existence.specs.Laws.{FilesHaveReports};
 
-use net_model::Network;
+use net_draft::net_model::Network;
 use run_findings::keeps_curves;
 
 /// A network whose servers have an order has a table whose cells are all answered, or a cell that is the first over a

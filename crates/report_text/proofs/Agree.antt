@@ -5,13 +5,13 @@ use Rattle.std.specs.Fmt.{decimal}
 use Rattle.std.specs.List.{flat_map, range_with_len}
 use Rattle.std.proofs.lemmas.Bool.{lt-ltb}
 use Rattle.table_text.specs.net_model.specs.Networks.{Net, NetFlow}
-use Rattle.cell_table.specs.net_cells.specs.declared.cell.Kind.{Kind}
-use Rattle.cell_table.specs.net_cells.specs.declared.cell.Kind.TheVariants.{QueueDelay, QueueBacklog, Tfa, Sfa, Bound}
-use Rattle.cell_table.specs.net_cells.specs.Cells.{cell_of, has_cell}
-use Rattle.cell_table.specs.net_cells.specs.Numbered.{flow_at, is_live, queues}
-use Rattle.cell_table.specs.net_cells.specs.Meanings.{CellTable}
-use Rattle.cell_table.specs.net_cells.proofs.Growing.{flat_below}
-use Rattle.cell_table.specs.net_cells.proofs.Tables.{tables_agree}
+use Rattle.net_cells.specs.declared.cell.Kind.{Kind}
+use Rattle.net_cells.specs.declared.cell.Kind.TheVariants.{QueueDelay, QueueBacklog, Tfa, Sfa, Bound}
+use Rattle.net_cells.specs.Cells.{cell_of, has_cell}
+use Rattle.net_cells.specs.Numbered.{flow_at, is_live, queues}
+use Rattle.net_cells.specs.Meanings.{CellTable}
+use Rattle.net_cells.proofs.Growing.{flat_below}
+use Rattle.net_cells.proofs.Tables.{tables_agree}
 use Rattle.report_text.specs.CellWords.{server_name}
 use Rattle.report_text.specs.Shown.{shown, shown_value}
 use Rattle.report_text.specs.Report.{head_line, queue_line, flow_line, queue_lines, live_line, flow_lines, report_of}

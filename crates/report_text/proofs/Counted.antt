@@ -4,7 +4,7 @@ use Rattle.std.specs.List.{filter, range_with_len}
 use Rattle.std.proofs.lemmas.Bool.{cond-true, cond-false}
 use Rattle.std.proofs.lemmas.List.{length-append}
 use Rattle.std.proofs.lemmas.List.Elements.{filter-append}
-use Rattle.cell_table.specs.net_cells.proofs.Growing.{range_more}
+use Rattle.net_cells.proofs.Growing.{range_more}
 
 -- one more number, that is kept or not
 pub count_more : (p : ℕ → Bool) (n : ℕ) → p n ≡ true

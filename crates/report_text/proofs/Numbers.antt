@@ -3,11 +3,11 @@ use Rattle.std.proofs.Common.{◌≡◌, ℕ, refl, ap, ◌∙◌}
 use Rattle.std.specs.Prelude.{IsTrue, Some, true, false}
 use Rattle.rational.specs.Extended.{Ext}
 use Rattle.table_text.specs.net_model.specs.Networks.{Net}
-use Rattle.cell_table.specs.net_cells.specs.declared.cell.Kind.{Kind}
-use Rattle.cell_table.specs.net_cells.specs.declared.cell.Kind.TheVariants.{In, Cross, Total, Higher, QueueService, Theta, Residual, QueueDelay, QueueBacklog, HopDelay, ShiftOut, DeconvOut, Out, PathService, Tfa, Sfa, Bound}
-use Rattle.cell_table.specs.net_cells.specs.Meanings.{Meaning, curve, number, CellTable, IsNumberIn}
-use Rattle.cell_table.specs.net_cells.specs.CellFormulas.{formula_of}
-use Rattle.cell_table.specs.net_cells.specs.Means.{Means}
+use Rattle.net_cells.specs.declared.cell.Kind.{Kind}
+use Rattle.net_cells.specs.declared.cell.Kind.TheVariants.{In, Cross, Total, Higher, QueueService, Theta, Residual, QueueDelay, QueueBacklog, HopDelay, ShiftOut, DeconvOut, Out, PathService, Tfa, Sfa, Bound}
+use Rattle.net_cells.specs.Meanings.{Meaning, curve, number, CellTable, IsNumberIn}
+use Rattle.net_cells.specs.CellFormulas.{formula_of}
+use Rattle.net_cells.specs.Means.{Means}
 use Rattle.report_text.specs.Laws.{is_printed, EquationsGiveNumbers}
 
 abbrev IsNumber : Meaning → Type 0

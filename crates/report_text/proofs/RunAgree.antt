@@ -6,11 +6,11 @@ use Rattle.std.specs.List.{flat_map, range_with_len}
 use Rattle.std.proofs.lemmas.Bool.{lt-ltb}
 use Rattle.rational.specs.Rational.{ℚ}
 use Rattle.table_text.specs.net_model.specs.Networks.{Net, NetFlow}
-use Rattle.cell_table.specs.net_cells.specs.declared.cell.Kind.TheVariants.{QueueBacklog, Bound}
-use Rattle.cell_table.specs.net_cells.specs.Meanings.{CellTable}
-use Rattle.cell_table.specs.net_cells.specs.Numbered.{flow_at, is_live, queues}
-use Rattle.cell_table.specs.net_cells.proofs.Tables.{tables_agree}
-use Rattle.cell_table.specs.net_cells.proofs.Growing.{flat_below}
+use Rattle.net_cells.specs.declared.cell.Kind.TheVariants.{QueueBacklog, Bound}
+use Rattle.net_cells.specs.Meanings.{CellTable}
+use Rattle.net_cells.specs.Numbered.{flow_at, is_live, queues}
+use Rattle.net_cells.proofs.Tables.{tables_agree}
+use Rattle.net_cells.proofs.Growing.{flat_below}
 use Rattle.report_text.specs.CellWords.{server_name}
 use Rattle.report_text.specs.Laws.{AgreeWherePrinted, RunReportsAgree, EquationsGiveOneRunReport}
 use Rattle.report_text.specs.Report.{head_line}

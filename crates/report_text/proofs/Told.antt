@@ -11,14 +11,14 @@ use Rattle.table_text.specs.run_laws.specs.Servers.{Discipline, Fifo, Priority, 
 use Rattle.table_text.specs.net_model.specs.Networks.{Net, NetServer, NetFlow}
 use Rattle.table_text.specs.net_model.specs.Names.{is_name_byte, DifferInName}
 use Rattle.table_text.specs.net_model.specs.Accepted.{IsAccepted, HasFewQueues}
-use Rattle.cell_table.specs.net_cells.specs.declared.cell.Kind.{Kind}
-use Rattle.cell_table.specs.net_cells.specs.declared.cell.Kind.TheVariants.{In, Cross, Total, Higher, QueueService, Theta, Residual, QueueDelay, QueueBacklog, HopDelay, ShiftOut, DeconvOut, Out, PathService, Tfa, Sfa, Bound}
-use Rattle.cell_table.specs.net_cells.specs.declared.cell.Scope.{Scope}
-use Rattle.cell_table.specs.net_cells.specs.declared.cell.Scope.TheVariants.{EachHop, EachHopButLast, EachQueue, EachPriorityQueue, EachPath}
-use Rattle.cell_table.specs.net_cells.specs.Numbered.{flow_at, path_of, is_live, hops, queues, levels, levels_of, discipline_of}
-use Rattle.cell_table.specs.net_cells.specs.Cells.{cell_of, scope_of, is_in_scope}
+use Rattle.net_cells.specs.declared.cell.Kind.{Kind}
+use Rattle.net_cells.specs.declared.cell.Kind.TheVariants.{In, Cross, Total, Higher, QueueService, Theta, Residual, QueueDelay, QueueBacklog, HopDelay, ShiftOut, DeconvOut, Out, PathService, Tfa, Sfa, Bound}
+use Rattle.net_cells.specs.declared.cell.Scope.{Scope}
+use Rattle.net_cells.specs.declared.cell.Scope.TheVariants.{EachHop, EachHopButLast, EachQueue, EachPriorityQueue, EachPath}
+use Rattle.net_cells.specs.Numbered.{flow_at, path_of, is_live, hops, queues, levels, levels_of, discipline_of}
+use Rattle.net_cells.specs.Cells.{cell_of, scope_of, is_in_scope}
 use Rattle.table_text.specs.net_model.proofs.FewQueues.{few_of}
-use Rattle.cell_table.specs.net_cells.proofs.Stored.{flow_kept, few_hops, server_kept}
+use Rattle.net_cells.proofs.Stored.{flow_kept, few_hops, server_kept}
 use Rattle.report_text.specs.CellWords.{kind_word, name_of_server, name_of_flow, server_name, flow_name, words_at, cell_words}
 use Rattle.report_text.specs.Laws.{WordsTellCells}
 use Rattle.report_text.proofs.Fronts.{lacks, same_front, same_back}

@@ -2,13 +2,13 @@
 use Rattle.std.specs.Prelude.{ℕ, List, [], ◌++◌, Option, Some, None, codes, slice_get}
 use Rattle.std.specs.Fmt.{decimal}
 use Rattle.table_text.specs.net_model.specs.Networks.{Net, NetServer, NetFlow}
-use Rattle.cell_table.specs.net_cells.specs.declared.cell.Cell.{Cell}
-use Rattle.cell_table.specs.net_cells.specs.declared.cell.Kind.{Kind}
-use Rattle.cell_table.specs.net_cells.specs.declared.cell.Kind.TheVariants.{In, Cross, Total, Higher, QueueService, Theta, Residual, QueueDelay, QueueBacklog, HopDelay, ShiftOut, DeconvOut, Out, PathService, Tfa, Sfa, Bound}
-use Rattle.cell_table.specs.net_cells.specs.declared.cell.Scope.{Scope}
-use Rattle.cell_table.specs.net_cells.specs.declared.cell.Scope.TheVariants.{EachHop, EachHopButLast, EachQueue, EachPriorityQueue, EachPath}
-use Rattle.cell_table.specs.net_cells.specs.Cells.{scope_of}
-use Rattle.cell_table.specs.net_cells.specs.Numbered.{flow_at}
+use Rattle.net_cells.specs.declared.cell.Cell.{Cell}
+use Rattle.net_cells.specs.declared.cell.Kind.{Kind}
+use Rattle.net_cells.specs.declared.cell.Kind.TheVariants.{In, Cross, Total, Higher, QueueService, Theta, Residual, QueueDelay, QueueBacklog, HopDelay, ShiftOut, DeconvOut, Out, PathService, Tfa, Sfa, Bound}
+use Rattle.net_cells.specs.declared.cell.Scope.{Scope}
+use Rattle.net_cells.specs.declared.cell.Scope.TheVariants.{EachHop, EachHopButLast, EachQueue, EachPriorityQueue, EachPath}
+use Rattle.net_cells.specs.Cells.{scope_of}
+use Rattle.net_cells.specs.Numbered.{flow_at}
 
 -- ---- names; nothing where there is no such server, or no live flow
 abbrev pub name_of_server : Option NetServer → List ℕ

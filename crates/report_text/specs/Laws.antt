@@ -6,12 +6,12 @@ use Rattle.rational.specs.declared.Extended.TheVariants.{Fin, Inf}
 use Rattle.table_text.specs.net_model.specs.Networks.{Net}
 use Rattle.table_text.specs.net_model.specs.Accepted.{IsAccepted}
 use Rattle.table_text.specs.net_model.specs.Orders.{IsOrder}
-use Rattle.cell_table.specs.net_cells.specs.declared.cell.Cell.{Cell}
-use Rattle.cell_table.specs.net_cells.specs.declared.cell.Kind.{Kind}
-use Rattle.cell_table.specs.net_cells.specs.declared.cell.Kind.TheVariants.{QueueDelay, QueueBacklog, Tfa, Sfa, Bound}
-use Rattle.cell_table.specs.net_cells.specs.Cells.{has_cell}
-use Rattle.cell_table.specs.net_cells.specs.Meanings.{number, CellTable}
-use Rattle.cell_table.specs.net_cells.specs.Equations.{MeetsEquations}
+use Rattle.net_cells.specs.declared.cell.Cell.{Cell}
+use Rattle.net_cells.specs.declared.cell.Kind.{Kind}
+use Rattle.net_cells.specs.declared.cell.Kind.TheVariants.{QueueDelay, QueueBacklog, Tfa, Sfa, Bound}
+use Rattle.net_cells.specs.Cells.{has_cell}
+use Rattle.net_cells.specs.Meanings.{number, CellTable}
+use Rattle.net_cells.specs.Equations.{MeetsEquations}
 use Rattle.report_text.specs.CellWords.{cell_words}
 use Rattle.table_text.specs.plain_text.specs.Numbers.{number_text}
 use Rattle.report_text.specs.Report.{report_of}

@@ -7,9 +7,9 @@ use Rattle.table_text.specs.fraction128.specs.Text.{text_of}
 use Rattle.table_text.specs.net_model.specs.declared.breach.Breach.{Breach}
 use Rattle.table_text.specs.net_model.specs.declared.breach.Breach.TheVariants.{Size, Arrival, Service}
 use Rattle.table_text.specs.net_model.specs.Networks.{Net, NetFlow}
-use Rattle.cell_table.specs.net_cells.specs.declared.cell.Kind.TheVariants.{QueueBacklog, Bound}
-use Rattle.cell_table.specs.net_cells.specs.Meanings.{CellTable}
-use Rattle.cell_table.specs.net_cells.specs.Numbered.{flow_at, queues}
+use Rattle.net_cells.specs.declared.cell.Kind.TheVariants.{QueueBacklog, Bound}
+use Rattle.net_cells.specs.Meanings.{CellTable}
+use Rattle.net_cells.specs.Numbered.{flow_at, queues}
 use Rattle.report_text.specs.declared.run_found.RunFound.{RunFound}
 use Rattle.report_text.specs.CellWords.{server_name, flow_name}
 use Rattle.report_text.specs.Shown.{shown}

@@ -2,9 +2,9 @@
 use Rattle.std.specs.Prelude.{ℕ, List, [], Option, Some, None}
 use Rattle.rational.specs.Extended.{Ext}
 use Rattle.table_text.specs.plain_text.specs.Numbers.{number_text}
-use Rattle.cell_table.specs.net_cells.specs.Meanings.{Meaning, curve, number, CellTable}
-use Rattle.cell_table.specs.net_cells.specs.declared.cell.Kind.{Kind}
-use Rattle.cell_table.specs.net_cells.specs.Cells.{cell_of}
+use Rattle.net_cells.specs.Meanings.{Meaning, curve, number, CellTable}
+use Rattle.net_cells.specs.declared.cell.Kind.{Kind}
+use Rattle.net_cells.specs.Cells.{cell_of}
 
 -- the number, where it is one
 abbrev pub number_in : Meaning → Option Ext

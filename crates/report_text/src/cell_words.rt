@@ -5,8 +5,8 @@ ghost use Rattle.std.specs.Fmt.{decimal};
 ghost use Rattle.std.specs.String.{string_bytes};
 ghost use Rattle.report_text.specs.CellWords as words;
 
-use cell_table::net_cells::{Cell, Kind, Scope, live_flow, server};
 use itoa::Buffer;
+use net_cells::{Cell, Kind, Scope, live_flow, server};
 use std::alloc::{AllocError, Global};
 use table_text::net_model::Network;
 

@@ -13,10 +13,7 @@ mod run_report;
 mod shown;
 mod text;
 
-pub use cell_table;
-pub use cell_table::net_cells;
 pub use cell_words::{cell_text, server_name};
-pub use curve_script;
 pub use laws::{
     equations_give_numbers, equations_give_one_report, equations_give_one_run_report,
     only_infinity_is_unbounded, reports_agree, run_reports_agree, texts_tell_numbers,
@@ -28,6 +25,4 @@ pub use run_found::RunFound;
 pub use run_lines::{push_breach_line, push_breach_words, push_run_line};
 pub use run_report::{push_peaks, push_worsts, run_text};
 pub use shown::ShownValue;
-pub use table_text;
-pub use table_text::net_model;
 pub use text::{push_after, push_decimal, push_number, push_text};

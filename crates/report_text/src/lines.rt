@@ -8,7 +8,7 @@ ghost use Rattle.report_text.specs.Report.{queue_line, flow_line};
 use crate::shown::ShownValue;
 use crate::text::{push_after, push_decimal, push_number, push_text};
 use cell_table::Table;
-use cell_table::net_cells::{Cell, Kind};
+use net_cells::{Cell, Kind};
 use std::alloc::AllocError;
 
 // The number of a cell; nothing where the table has none.

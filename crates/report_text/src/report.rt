@@ -9,7 +9,7 @@ use crate::lines::{push_flow_line, push_queue_line};
 use crate::shown::ShownValue;
 use crate::text::{push_decimal, push_text};
 use cell_table::Table;
-use cell_table::net_cells::{live_flow, queues};
+use net_cells::{live_flow, queues};
 use std::alloc::{AllocError, Global};
 use table_text::net_model::Network;
 

@@ -10,7 +10,7 @@ use crate::lines::push_number_after;
 use crate::shown::ShownValue;
 use crate::text::{push_after, push_decimal, push_text};
 use cell_table::Table;
-use cell_table::net_cells::Kind;
+use net_cells::Kind;
 use std::alloc::AllocError;
 use table_text::fraction128::Frac;
 use table_text::net_model::{Breach, Network};

@@ -10,7 +10,7 @@ use crate::run_found::RunFound;
 use crate::run_lines::{push_breach_line, push_peak_line, push_run_line, push_worst_line};
 use crate::shown::ShownValue;
 use cell_table::Table;
-use cell_table::net_cells::{live_flow, queues};
+use net_cells::{live_flow, queues};
 use std::alloc::{AllocError, Global};
 use table_text::fraction128::Frac;
 use table_text::net_model::Network;

@@ -3,15 +3,15 @@ use Rattle.std.proofs.Common.{◌≡◌, ℕ, zero, suc, ◌<◌, List, [], ◌�
 use Rattle.std.specs.Prelude.{Option, slice_get, Bool, IsTrue, not, ◌↔◌, true, false}
 use Rattle.std.specs.List.{Any, All}
 use Rattle.std.proofs.lemmas.Option.{slice_get-get_or, get_or_from_slice_get}
-use Rattle.rational.specs.Rational.{ℚ, ◌≤ℚ◌, ◌<ℚ◌}
-use Rattle.rational.proofs.Laws.{le_of_not_lt, lt_irrefl, lt_le_trans}
-use Rattle.rational.proofs.Linear.{with3}
-use Rattle.run_laws.specs.declared.steps.Step.{Step}
-use Rattle.run_laws.specs.Cards.{size}
-use Rattle.run_laws.specs.Servers.{ServerState, Under, Fifo, start, done}
-use Rattle.run_laws.specs.Allows.{IsComplete}
-use Rattle.run_laws.specs.Routes.{Routes}
-use Rattle.run_laws.specs.Lawful.{Due, RunState, state_at}
+use Rattle.queue_sched.specs.rational.specs.Rational.{ℚ, ◌≤ℚ◌, ◌<ℚ◌}
+use Rattle.queue_sched.specs.rational.proofs.Laws.{le_of_not_lt, lt_irrefl, lt_le_trans}
+use Rattle.queue_sched.specs.rational.proofs.Linear.{with3}
+use Rattle.net_cells.specs.run_laws.specs.declared.steps.Step.{Step}
+use Rattle.net_cells.specs.run_laws.specs.Cards.{size}
+use Rattle.net_cells.specs.run_laws.specs.Servers.{ServerState, Under, Fifo, start, done}
+use Rattle.net_cells.specs.run_laws.specs.Allows.{IsComplete}
+use Rattle.net_cells.specs.run_laws.specs.Routes.{Routes}
+use Rattle.net_cells.specs.run_laws.specs.Lawful.{Due, RunState, state_at}
 use Rattle.broken_laws.specs.stated_runs.proofs.Lists.{at_in, in_contains}
 use Rattle.broken_laws.specs.declared.place.Place.{Place}
 use Rattle.broken_laws.specs.declared.place.Place.TheVariants.{At, OnLink, Gone}

@@ -3,7 +3,7 @@ use Rattle.std.specs.Prelude.{◌≡◌, ◌≢◌, ℕ, zero, suc, ◌<◌, tru
 use Rattle.std.proofs.Common.{arith, refl}
 use Rattle.std.proofs.lemmas.Bool.{eq-eqb, ne_eqb}
 use Rattle.broken_laws.specs.net_model.specs.NetRoutes.{hops_along}
-use Rattle.run_measures.specs.sim_routes.proofs.Places.{NoneBefore, none_before_tail}
+use Rattle.sim_routes.proofs.Places.{NoneBefore, none_before_tail}
 use Rattle.broken_laws.specs.Tracked.{is_on, is_before}
 
 pub before_stops : (path queues : List ℕ) (h s i : ℕ) → length queues ≡ length path → i < length path → get_or path i 0 ≡ s → NoneBefore path s i → NoneBefore path h i

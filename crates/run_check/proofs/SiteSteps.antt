@@ -2,15 +2,15 @@
 use Rattle.std.proofs.Common.{◌≡◌, ℕ, ◌+◌, List, [], ◌∷◌, refl, sym, ap, ◌∙◌, subst, arith, inl, inr, Some, None, true, false}
 use Rattle.std.specs.Prelude.{Option, ◌≢◌, ◌↔◌, Bool, ◌==◌, IsTrue, pos}
 use Rattle.std.proofs.lemmas.Bool.{cases_eq, eq-eqb, ne_eqb}
-use Rattle.rational.specs.Rational.{ℚ, int, ◌≤ℚ◌, ◌<ℚ◌}
-use Rattle.rational.proofs.Laws.{lt_irrefl, lt_le_trans}
-use Rattle.rational.proofs.Compared.{not_less_out}
-use Rattle.run_laws.specs.Cards.{Card, Works, Visits}
-use Rattle.run_laws.specs.Servers.{Discipline, Fifo, Priority, Drr, Under, ServerState, head_of}
-use Rattle.run_laws.specs.Next.{next}
-use Rattle.run_laws.specs.Allows.{pick, MayVisit, IsFirst}
-use Rattle.run_laws.specs.Rounds.{count_of, presence}
-use Rattle.run_laws.proofs.Heads.{pick_is_head}
+use Rattle.queue_sched.specs.rational.specs.Rational.{ℚ, int, ◌≤ℚ◌, ◌<ℚ◌}
+use Rattle.queue_sched.specs.rational.proofs.Laws.{lt_irrefl, lt_le_trans}
+use Rattle.queue_sched.specs.rational.proofs.Compared.{not_less_out}
+use Rattle.net_cells.specs.run_laws.specs.Cards.{Card, Works, Visits}
+use Rattle.net_cells.specs.run_laws.specs.Servers.{Discipline, Fifo, Priority, Drr, Under, ServerState, head_of}
+use Rattle.net_cells.specs.run_laws.specs.Next.{next}
+use Rattle.net_cells.specs.run_laws.specs.Allows.{pick, MayVisit, IsFirst}
+use Rattle.net_cells.specs.run_laws.specs.Rounds.{count_of, presence}
+use Rattle.net_cells.specs.run_laws.proofs.Heads.{pick_is_head}
 use Rattle.queue_sched.specs.Turns.{Starts as Begins, Sends}
 use Rattle.queue_sched.specs.declared.turn.Turn.TheVariants.{Visit}
 use Rattle.broken_laws.specs.stated_runs.proofs.Unique.{no_visit, not_idle, visit_once}

@@ -1,5 +1,5 @@
 -- What is left at the end of a recorded run.
-use Rattle.rational.specs.Rational.{ℚ, ◌≤ℚ◌}
+use Rattle.queue_sched.specs.rational.specs.Rational.{ℚ, ◌≤ℚ◌}
 use Rattle.broken_laws.specs.declared.place.Place.{Place}
 use Rattle.broken_laws.specs.declared.place.Place.TheVariants.{At, OnLink, Gone}
 

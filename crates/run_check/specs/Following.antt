@@ -1,10 +1,10 @@
 -- A recorded run that can be walked, and the walk along it. Own choice.
 use Rattle.std.specs.Prelude.{Option, Some, None, ◌≡◌, ℕ, ◌+◌, ◌≤◌, [], length, take, slice_get}
-use Rattle.rational.specs.Rational.{ℚ}
-use Rattle.run_laws.specs.declared.steps.Step.{Step}
-use Rattle.run_laws.specs.Runs.{SpecRun}
-use Rattle.run_laws.specs.Routes.{Routes}
-use Rattle.run_laws.specs.Lawful.{run_start}
+use Rattle.queue_sched.specs.rational.specs.Rational.{ℚ}
+use Rattle.net_cells.specs.run_laws.specs.declared.steps.Step.{Step}
+use Rattle.net_cells.specs.run_laws.specs.Runs.{SpecRun}
+use Rattle.net_cells.specs.run_laws.specs.Routes.{Routes}
+use Rattle.net_cells.specs.run_laws.specs.Lawful.{run_start}
 use Rattle.broken_laws.specs.stated_runs.specs.TimeGrids.{HasRoom}
 use Rattle.broken_laws.specs.declared.law.Law.{Law}
 use Rattle.broken_laws.specs.Recorded.{HasPaths, AreRecorded}

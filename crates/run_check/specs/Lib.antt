@@ -4,5 +4,3 @@ pub mod Walks
 pub mod Following
 pub mod Ends
 pub mod Fresh
-pub use Rattle.broken_laws as broken_laws
-pub use Rattle.run_measures as run_measures

@@ -1,7 +1,7 @@
 //! The first law that a recorded run breaks.
 
 ghost use Rattle.std.specs.Prelude.{◌<◌, ◌-◌, ◌^◌, [], IfOk, MatchOption, length};
-ghost use Rattle.run_laws.specs.Lawful.{IsLawful};
+ghost use Rattle.net_cells.specs.run_laws.specs.Lawful.{IsLawful};
 ghost use Rattle.broken_laws.specs.net_model.specs.NetRoutes.{routes_of};
 ghost use Rattle.broken_laws.specs.Recorded.{AreRecorded};
 ghost use Rattle.broken_laws.specs.FirstBroken.{IsFirstBroken};
@@ -12,7 +12,7 @@ use crate::site::Site;
 use crate::walk::Walk;
 use broken_laws::Law;
 use broken_laws::net_model::Network;
-use run_laws::Run;
+use net_cells::run_laws::Run;
 use std::alloc::{AllocError, Global};
 
 /// A law that a recorded run breaks, and the row at which it does. Rows are counted from 1, and the run's end is the

@@ -1,11 +1,11 @@
 //! One server of a recorded run, after some of its rows.
 
 ghost use Rattle.std.specs.Prelude.{◌≡◌, ◌↔◌, ◌⊎◌, ℕ, None, IfOk, IsTrue};
-ghost use Rattle.rational.specs.Rational.{ℚ, ◌<ℚ◌};
-ghost use Rattle.run_laws.specs.Cards.{Card, Arrives, Leaves};
-ghost use Rattle.run_laws.specs.Servers.{Discipline as SpecDiscipline, ServerState, start};
-ghost use Rattle.run_laws.specs.Next.{next};
-ghost use Rattle.run_laws.specs.Allows.{MayLeave};
+ghost use Rattle.queue_sched.specs.rational.specs.Rational.{ℚ, ◌<ℚ◌};
+ghost use Rattle.net_cells.specs.run_laws.specs.Cards.{Card, Arrives, Leaves};
+ghost use Rattle.net_cells.specs.run_laws.specs.Servers.{Discipline as SpecDiscipline, ServerState, start};
+ghost use Rattle.net_cells.specs.run_laws.specs.Next.{next};
+ghost use Rattle.net_cells.specs.run_laws.specs.Allows.{MayLeave};
 ghost use Rattle.queue_sched.specs.Turns.{IsCard};
 ghost use Rattle.broken_laws.specs.net_model.specs.Accepted.{HasFewQueues};
 ghost use Rattle.broken_laws.specs.net_model.specs.Views.{discipline_of};
@@ -17,7 +17,7 @@ ghost use Rattle.run_check.specs.Sites.{IsWrong, MayTake, Turns, Starts, is_work
 use broken_laws::Law;
 use broken_laws::net_model::Discipline;
 use broken_laws::sim_servers::ServerQueues;
-use fraction128::{Frac, difference, is_less, quotient};
+use queue_sched::fraction128::{Frac, difference, is_less, quotient};
 use queue_sched::{Scheduler, Turn};
 use std::alloc::{AllocError, Global};
 

@@ -1,13 +1,13 @@
 //! The walk over the rows of a recorded run.
 
 ghost use Rattle.std.specs.Prelude.{◌≡◌, ◌<◌, ◌↔◌, ◌++◌, ◌∷◌, [], ℕ, List, IsTrue, IfOk, OnOk, length, get_or, set};
-ghost use Rattle.rational.specs.Rational.{ℚ};
-ghost use Rattle.rational.specs.Ratio.{SumFits};
-ghost use Rattle.run_laws.specs.Lawful.{RunState};
-ghost use Rattle.run_laws.specs.declared.steps.Step.{Step as SpecStep};
+ghost use Rattle.queue_sched.specs.rational.specs.Rational.{ℚ};
+ghost use Rattle.queue_sched.specs.rational.specs.Ratio.{SumFits};
+ghost use Rattle.net_cells.specs.run_laws.specs.Lawful.{RunState};
+ghost use Rattle.net_cells.specs.run_laws.specs.declared.steps.Step.{Step as SpecStep};
 ghost use Rattle.broken_laws.specs.FirstBroken.{IsUnfinished};
-ghost use Rattle.run_laws.specs.Routes.{Routes, link_at};
-ghost use Rattle.run_laws.specs.declared.steps.Step.TheVariants as steps;
+ghost use Rattle.net_cells.specs.run_laws.specs.Routes.{Routes, link_at};
+ghost use Rattle.net_cells.specs.run_laws.specs.declared.steps.Step.TheVariants as steps;
 ghost use Rattle.broken_laws.specs.net_model.specs.NetRoutes.{routes_of};
 ghost use Rattle.broken_laws.specs.Tracked.{place_of};
 ghost use Rattle.run_check.specs.Following.{Follows, Goes};
@@ -19,9 +19,9 @@ use crate::site::{Piece, Site};
 use crate::ways::{destination, has_left, pace_of};
 use broken_laws::net_model::Network;
 use broken_laws::{Law, Place};
-use fraction128::Frac;
-use run_laws::{Run, Step, whole};
-use run_measures::sim_routes::{entrance, queue_of};
+use net_cells::run_laws::{Run, Step, whole};
+use queue_sched::fraction128::Frac;
+use sim_routes::{entrance, queue_of};
 use std::alloc::AllocError;
 
 /// What is known after some rows: the flow and the bits of each packet that has entered, where it is, and the site of

@@ -3,30 +3,30 @@ use Rattle.std.proofs.Common.{◌≡◌, ℕ, suc, List, [], ◌∷◌, map, inl
 use Rattle.std.specs.Prelude.{◌==◌, ◌&&◌, Some, IsTrue, Contains, true}
 use Rattle.std.specs.List.{range_with_len}
 use Rattle.std.proofs.lemmas.Bool.{and_from}
-use Rattle.rational.specs.Rational.{ℚ}
-use Rattle.rational.specs.Extended.{Ext, ◌≤ₑ◌, ◌+ₑ◌}
-use Rattle.rational.specs.declared.Extended.TheVariants.{Fin}
-use Rattle.rational.proofs.ExtendedOrder.{le_ext_trans, le_or_lt_ext, add_le_ext, zero_add_ext, min_greatest}
-use Rattle.rational.proofs.Laws.{le_refl, le_lt_trans, lt_irrefl}
+use Rattle.min_plus.specs.rational.specs.Rational.{ℚ}
+use Rattle.min_plus.specs.rational.specs.Extended.{Ext, ◌≤ₑ◌, ◌+ₑ◌}
+use Rattle.min_plus.specs.rational.specs.declared.Extended.TheVariants.{Fin}
+use Rattle.min_plus.specs.rational.proofs.ExtendedOrder.{le_ext_trans, le_or_lt_ext, add_le_ext, zero_add_ext, min_greatest}
+use Rattle.min_plus.specs.rational.proofs.Laws.{le_refl, le_lt_trans, lt_irrefl}
 use Rattle.min_plus.specs.Deviations.{IsLag, IsHorizontalDeviation}
 use Rattle.min_plus.specs.Functions.{IsNonneg, zero_q, Time}
-use Rattle.simulated_sizes.specs.upp_curve.specs.Curve.{value_at}
-use Rattle.simulated_sizes.specs.net_model.specs.Accepted.{IsAccepted}
-use Rattle.simulated_sizes.specs.net_model.specs.Networks.{Net}
-use Rattle.simulated_sizes.specs.net_model.specs.Orders.{IsOrder}
-use Rattle.run_measures.specs.net_cells.specs.declared.cell.Cell.{Cell}
-use Rattle.run_measures.specs.net_cells.specs.declared.cell.Kind.TheVariants.{QueueDelay, HopDelay, Tfa, Sfa, Bound}
-use Rattle.run_measures.specs.net_cells.specs.Cells.{cell_of, has_cell}
-use Rattle.run_measures.specs.net_cells.specs.Equations.{MeetsEquations}
-use Rattle.run_measures.specs.net_cells.specs.Means.{HaveNumbers, with_links, OfCurves}
-use Rattle.run_measures.specs.net_cells.specs.Meanings.{Meaning, number, CellTable, IsNumberIn}
-use Rattle.run_measures.specs.net_cells.specs.Numbered.{hops, is_live, link, path, server_of_hop, queue_of_hop}
-use Rattle.run_measures.specs.net_cells.specs.NumberSums.{sum_of_numbers}
-use Rattle.run_measures.specs.net_cells.specs.TableValues.{HasNumber}
-use Rattle.run_measures.specs.net_cells.proofs.Precedes.{operands_are_cells}
-use Rattle.run_measures.specs.net_cells.proofs.TableValues.{has_number, same_number}
-use Rattle.command_replies.specs.net_bounds.proofs.FormulaParts.{number_map}
-use Rattle.command_replies.specs.net_bounds.proofs.Routed.{link_nonneg}
+use Rattle.net_cells.specs.upp_curve.specs.Curve.{value_at}
+use Rattle.net_cells.specs.net_model.specs.Accepted.{IsAccepted}
+use Rattle.net_cells.specs.net_model.specs.Networks.{Net}
+use Rattle.net_cells.specs.net_model.specs.Orders.{IsOrder}
+use Rattle.net_cells.specs.declared.cell.Cell.{Cell}
+use Rattle.net_cells.specs.declared.cell.Kind.TheVariants.{QueueDelay, HopDelay, Tfa, Sfa, Bound}
+use Rattle.net_cells.specs.Cells.{cell_of, has_cell}
+use Rattle.net_cells.specs.Equations.{MeetsEquations}
+use Rattle.net_cells.specs.Means.{HaveNumbers, with_links, OfCurves}
+use Rattle.net_cells.specs.Meanings.{Meaning, number, CellTable, IsNumberIn}
+use Rattle.net_cells.specs.Numbered.{hops, is_live, link, path, server_of_hop, queue_of_hop}
+use Rattle.net_cells.specs.NumberSums.{sum_of_numbers}
+use Rattle.net_cells.specs.TableValues.{HasNumber}
+use Rattle.net_cells.proofs.Precedes.{operands_are_cells}
+use Rattle.net_cells.proofs.TableValues.{has_number, same_number}
+use Rattle.net_bounds.proofs.FormulaParts.{number_map}
+use Rattle.net_bounds.proofs.Routed.{link_nonneg}
 
 -- ---- numbers
 lag_nonneg : (f g : ℚ → Ext) (t : ℚ) (x : Ext) → IsLag f g t x → IsNonneg x

@@ -3,31 +3,31 @@ use Rattle.std.proofs.Common.{◌≡◌, ℕ, ◌<◌, List, [], length, get_or,
 use Rattle.std.specs.Prelude.{pos, Some, option_and_then, IsTrue, slice_get}
 use Rattle.std.specs.Option.{option_map}
 use Rattle.std.proofs.lemmas.Option.{slice_get-get_or}
-use Rattle.rational.specs.Rational.{ℚ, int, ◌≤ℚ◌}
-use Rattle.rational.specs.Extended.{Ext, ◌≤ₑ◌}
-use Rattle.rational.specs.declared.Extended.TheVariants.{Fin, Inf}
-use Rattle.simulated_sizes.specs.run_laws.specs.Cards.{whole, of_queue}
-use Rattle.simulated_sizes.specs.run_laws.specs.Delays.{AreAtMost}
-use Rattle.simulated_sizes.specs.run_laws.specs.FlowDelays.{delays_from}
-use Rattle.simulated_sizes.specs.run_laws.specs.Routes.{Routes, server_at}
-use Rattle.simulated_sizes.specs.run_laws.specs.Runs.{SpecRun}
-use Rattle.simulated_sizes.specs.run_laws.specs.Servers.{queue_count}
-use Rattle.simulated_sizes.specs.net_model.specs.Accepted.{IsAccepted}
-use Rattle.simulated_sizes.specs.net_model.specs.Networks.{Net}
-use Rattle.simulated_sizes.specs.net_model.specs.NetRoutes.{routes_of}
-use Rattle.run_measures.specs.net_cells.specs.declared.cell.Kind.TheVariants.{QueueBacklog, Bound}
-use Rattle.run_measures.specs.net_cells.specs.Cells.{cell_of}
-use Rattle.run_measures.specs.net_cells.specs.Meanings.{CellTable}
-use Rattle.run_measures.specs.net_cells.specs.Numbered.{is_live, queues}
-use Rattle.run_measures.specs.net_cells.proofs.Places.{live_inside}
-use Rattle.run_measures.specs.net_cells.proofs.TableValues.{same_number}
-use Rattle.command_replies.specs.net_bounds.specs.Guarantee.{IsKept}
-use Rattle.command_replies.specs.net_bounds.specs.Promises.{seen_by, HoldsAtMost}
-use Rattle.command_replies.specs.net_bounds.proofs.Kept.{table_bounds_every_run, with_queues}
-use Rattle.command_replies.specs.net_bounds.proofs.Routed.{servers_are, discipline_is}
+use Rattle.min_plus.specs.rational.specs.Rational.{ℚ, int, ◌≤ℚ◌}
+use Rattle.min_plus.specs.rational.specs.Extended.{Ext, ◌≤ₑ◌}
+use Rattle.min_plus.specs.rational.specs.declared.Extended.TheVariants.{Fin, Inf}
+use Rattle.net_cells.specs.run_laws.specs.Cards.{whole, of_queue}
+use Rattle.net_cells.specs.run_laws.specs.Delays.{AreAtMost}
+use Rattle.net_cells.specs.run_laws.specs.FlowDelays.{delays_from}
+use Rattle.net_cells.specs.run_laws.specs.Routes.{Routes, server_at}
+use Rattle.net_cells.specs.run_laws.specs.Runs.{SpecRun}
+use Rattle.net_cells.specs.run_laws.specs.Servers.{queue_count}
+use Rattle.net_cells.specs.net_model.specs.Accepted.{IsAccepted}
+use Rattle.net_cells.specs.net_model.specs.Networks.{Net}
+use Rattle.net_cells.specs.net_model.specs.NetRoutes.{routes_of}
+use Rattle.net_cells.specs.declared.cell.Kind.TheVariants.{QueueBacklog, Bound}
+use Rattle.net_cells.specs.Cells.{cell_of}
+use Rattle.net_cells.specs.Meanings.{CellTable}
+use Rattle.net_cells.specs.Numbered.{is_live, queues}
+use Rattle.net_cells.proofs.Places.{live_inside}
+use Rattle.net_cells.proofs.TableValues.{same_number}
+use Rattle.net_bounds.specs.Guarantee.{IsKept}
+use Rattle.net_bounds.specs.Promises.{seen_by, HoldsAtMost}
+use Rattle.net_bounds.proofs.Kept.{table_bounds_every_run, with_queues}
+use Rattle.net_bounds.proofs.Routed.{servers_are, discipline_is}
 use Rattle.run_measures.specs.Peaks.{IsPeak, ArePeaks, peak_in}
 use Rattle.run_measures.specs.Worst.{IsLargest, AreWorst}
-use Rattle.command_replies.specs.report_text.specs.RunReport.{peak_at}
+use Rattle.report_text.specs.RunReport.{peak_at}
 use Rattle.run_findings.specs.FindingLaws.{QuietFindingsAreWithinBounds}
 use Rattle.run_findings.specs.RunBounds.{IsWithin}
 use Rattle.run_findings.proofs.AtLeastZero.{Given, bound_nonneg}

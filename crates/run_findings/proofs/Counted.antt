@@ -1,10 +1,10 @@
 -- The steps of an answer by the cells of a network.
 use Rattle.std.proofs.Common.{◌≡◌, ◌≢◌, ◌+◌, ◌≤◌, ℕ, List, inl, inr, refl, subst, arith}
-use Rattle.simulated_sizes.specs.net_model.specs.Accepted.{IsAccepted}
-use Rattle.simulated_sizes.specs.net_model.specs.Networks.{Net}
-use Rattle.simulated_sizes.specs.net_model.specs.Orders.{IsOrder}
-use Rattle.simulated_sizes.specs.net_graph.proofs.OneOrders.{one_order}
-use Rattle.simulated_sizes.specs.net_graph.proofs.Returns.{order_or_cycle}
+use Rattle.net_cells.specs.net_model.specs.Accepted.{IsAccepted}
+use Rattle.net_cells.specs.net_model.specs.Networks.{Net}
+use Rattle.net_cells.specs.net_model.specs.Orders.{IsOrder}
+use Rattle.net_cells.specs.net_graph.proofs.OneOrders.{one_order}
+use Rattle.net_cells.specs.net_graph.proofs.Returns.{order_or_cycle}
 use Rattle.command_replies.specs.CellWork.{work_of_cells}
 use Rattle.run_findings.specs.CellCounts.{CountsOnCells}
 use Rattle.run_findings.specs.Statuses.{IsOfReport}

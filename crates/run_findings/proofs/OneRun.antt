@@ -3,30 +3,30 @@ use Rattle.std.proofs.Common.{◌≡◌, ℕ, zero, suc, ◌≤◌, ◌<◌, Lis
 use Rattle.std.proofs.Common.{None, inl, inr, refl, sym, ap, subst, ◌∙◌, arith}
 use Rattle.std.specs.Prelude.{pos}
 use Rattle.std.proofs.lemmas.List.{ext_get_or}
-use Rattle.rational.specs.Rational.{ℚ, int, ◌≤ℚ◌}
-use Rattle.rational.specs.declared.Extended.TheVariants.{Fin}
-use Rattle.rational.proofs.Integers.{nat_le_out}
-use Rattle.rational.proofs.Laws.{antisym}
-use Rattle.simulated_sizes.specs.run_laws.specs.Cards.{whole}
-use Rattle.simulated_sizes.specs.run_laws.specs.Delays.{AreAtMost}
-use Rattle.simulated_sizes.specs.run_laws.specs.Lawful.{IsLawful}
-use Rattle.simulated_sizes.specs.run_laws.specs.Routes.{Routes, server_at}
-use Rattle.simulated_sizes.specs.run_laws.specs.Runs.{SpecRun}
-use Rattle.simulated_sizes.specs.run_laws.specs.Servers.{queue_count}
-use Rattle.simulated_sizes.specs.run_laws.specs.FlowDelays.{delays_from}
-use Rattle.simulated_sizes.specs.run_laws.specs.RunPremises.{KeepsPremises}
-use Rattle.simulated_sizes.specs.net_model.specs.Accepted.{IsAccepted}
-use Rattle.simulated_sizes.specs.net_model.specs.declared.breach.Breach.{Breach}
-use Rattle.simulated_sizes.specs.net_model.specs.Networks.{Net}
-use Rattle.simulated_sizes.specs.net_model.specs.NetRoutes.{routes_of}
-use Rattle.run_measures.specs.net_cells.specs.Numbered.{packet, arrival, service}
-use Rattle.simulated_sizes.specs.upp_curve.specs.Curve.{value_at}
+use Rattle.min_plus.specs.rational.specs.Rational.{ℚ, int, ◌≤ℚ◌}
+use Rattle.min_plus.specs.rational.specs.declared.Extended.TheVariants.{Fin}
+use Rattle.min_plus.specs.rational.proofs.Integers.{nat_le_out}
+use Rattle.min_plus.specs.rational.proofs.Laws.{antisym}
+use Rattle.net_cells.specs.run_laws.specs.Cards.{whole}
+use Rattle.net_cells.specs.run_laws.specs.Delays.{AreAtMost}
+use Rattle.net_cells.specs.run_laws.specs.Lawful.{IsLawful}
+use Rattle.net_cells.specs.run_laws.specs.Routes.{Routes, server_at}
+use Rattle.net_cells.specs.run_laws.specs.Runs.{SpecRun}
+use Rattle.net_cells.specs.run_laws.specs.Servers.{queue_count}
+use Rattle.net_cells.specs.run_laws.specs.FlowDelays.{delays_from}
+use Rattle.net_cells.specs.run_laws.specs.RunPremises.{KeepsPremises}
+use Rattle.net_cells.specs.net_model.specs.Accepted.{IsAccepted}
+use Rattle.net_cells.specs.net_model.specs.declared.breach.Breach.{Breach}
+use Rattle.net_cells.specs.net_model.specs.Networks.{Net}
+use Rattle.net_cells.specs.net_model.specs.NetRoutes.{routes_of}
+use Rattle.net_cells.specs.Numbered.{packet, arrival, service}
+use Rattle.net_cells.specs.upp_curve.specs.Curve.{value_at}
 use Rattle.run_measures.specs.Peaks.{IsPeak, ArePeaks, peak_in}
 use Rattle.run_measures.specs.Worst.{IsLargest, AreWorst}
-use Rattle.simulated_sizes.specs.watch_laws.specs.Breaches.{IsBreach}
-use Rattle.simulated_sizes.specs.watch_laws.proofs.Premises.{breaches_tell, first_is_one}
-use Rattle.simulated_sizes.specs.first_breaches.specs.Firsts.{TellsFirst}
-use Rattle.simulated_sizes.specs.first_breaches.proofs.Parts.{have_curves}
+use Rattle.watch_laws.specs.Breaches.{IsBreach}
+use Rattle.watch_laws.proofs.Premises.{breaches_tell, first_is_one}
+use Rattle.first_breaches.specs.Firsts.{TellsFirst}
+use Rattle.first_breaches.proofs.Parts.{have_curves}
 use Rattle.simulated_sizes.specs.Laws.{AreCurves}
 use Rattle.run_findings.specs.FindingLaws.{FindingsAreOne}
 

@@ -1,15 +1,15 @@
 -- How reports end, and what their status tells.
 use Rattle.std.proofs.Common.{◌≡◌, ◌≢◌, ℕ, Result, Ok, Err, IfOk, inl, inr, refl, sym, ap, ◌∙◌, subst}
 use Rattle.std.specs.Prelude.{Option, Some, None}
-use Rattle.simulated_sizes.specs.run_laws.specs.Lawful.{IsLawful}
-use Rattle.simulated_sizes.specs.run_laws.specs.Runs.{SpecRun}
-use Rattle.simulated_sizes.specs.net_model.specs.Accepted.{IsAccepted}
-use Rattle.simulated_sizes.specs.net_model.specs.declared.breach.Breach.{Breach}
-use Rattle.simulated_sizes.specs.net_model.specs.Networks.{Net}
-use Rattle.simulated_sizes.specs.net_model.specs.NetRoutes.{routes_of}
-use Rattle.run_measures.specs.net_cells.specs.Meanings.{CellTable}
-use Rattle.simulated_sizes.specs.first_breaches.specs.Firsts.{TellsFirst}
-use Rattle.command_replies.specs.report_text.specs.RunReport.{Found}
+use Rattle.net_cells.specs.run_laws.specs.Lawful.{IsLawful}
+use Rattle.net_cells.specs.run_laws.specs.Runs.{SpecRun}
+use Rattle.net_cells.specs.net_model.specs.Accepted.{IsAccepted}
+use Rattle.net_cells.specs.net_model.specs.declared.breach.Breach.{Breach}
+use Rattle.net_cells.specs.net_model.specs.Networks.{Net}
+use Rattle.net_cells.specs.net_model.specs.NetRoutes.{routes_of}
+use Rattle.net_cells.specs.Meanings.{CellTable}
+use Rattle.first_breaches.specs.Firsts.{TellsFirst}
+use Rattle.report_text.specs.RunReport.{Found}
 use Rattle.simulated_sizes.specs.Laws.{AreCurves}
 use Rattle.command_replies.specs.declared.answer.Answer.{Answer}
 use Rattle.command_replies.specs.Replies.{Reply}

@@ -1,9 +1,9 @@
 -- How many steps an answer on a network takes that looks at a run, too: an operator on curves takes one, and the run
 -- none.
 use Rattle.std.specs.Prelude.{◌≡◌, ◌+◌, ◌≤◌, ℕ, List}
-use Rattle.simulated_sizes.specs.net_model.specs.Networks.{Net}
-use Rattle.simulated_sizes.specs.net_model.specs.Orders.{IsOrder}
-use Rattle.simulated_sizes.specs.net_model.specs.Walks.{IsCycle}
+use Rattle.net_cells.specs.net_model.specs.Networks.{Net}
+use Rattle.net_cells.specs.net_model.specs.Orders.{IsOrder}
+use Rattle.net_cells.specs.net_model.specs.Walks.{IsCycle}
 use Rattle.command_replies.specs.CellWork.{work_of_cells}
 use Rattle.run_findings.specs.Statuses.{IsOfReport}
 

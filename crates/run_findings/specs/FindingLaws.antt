@@ -1,16 +1,16 @@
 -- What holds of what is found in a lawful run.
 use Rattle.std.specs.Prelude.{◌≡◌, ℕ, List}
-use Rattle.simulated_sizes.specs.run_laws.specs.Lawful.{IsLawful}
-use Rattle.simulated_sizes.specs.run_laws.specs.Runs.{SpecRun}
-use Rattle.simulated_sizes.specs.net_model.specs.Accepted.{IsAccepted}
-use Rattle.simulated_sizes.specs.net_model.specs.Networks.{Net}
-use Rattle.simulated_sizes.specs.net_model.specs.NetRoutes.{routes_of}
-use Rattle.simulated_sizes.specs.net_model.specs.Orders.{IsOrder}
-use Rattle.run_measures.specs.net_cells.specs.Equations.{MeetsEquations}
-use Rattle.run_measures.specs.net_cells.specs.Meanings.{CellTable}
-use Rattle.command_replies.specs.net_bounds.specs.NetRuns.{IsRunOf}
+use Rattle.net_cells.specs.run_laws.specs.Lawful.{IsLawful}
+use Rattle.net_cells.specs.run_laws.specs.Runs.{SpecRun}
+use Rattle.net_cells.specs.net_model.specs.Accepted.{IsAccepted}
+use Rattle.net_cells.specs.net_model.specs.Networks.{Net}
+use Rattle.net_cells.specs.net_model.specs.NetRoutes.{routes_of}
+use Rattle.net_cells.specs.net_model.specs.Orders.{IsOrder}
+use Rattle.net_cells.specs.Equations.{MeetsEquations}
+use Rattle.net_cells.specs.Meanings.{CellTable}
+use Rattle.net_bounds.specs.NetRuns.{IsRunOf}
 use Rattle.simulated_sizes.specs.Laws.{AreCurves}
-use Rattle.command_replies.specs.report_text.specs.RunReport.{Found}
+use Rattle.report_text.specs.RunReport.{Found}
 use Rattle.command_replies.specs.Replies.{Reply}
 use Rattle.run_findings.specs.Findings.{AreFindings, FoundText, TellsFindings}
 use Rattle.run_findings.specs.RunBounds.{AreWithinBounds}

@@ -1,14 +1,14 @@
 -- What is found in a lawful run of a network, be it simulated or recorded, and a reply that tells it.
 use Rattle.std.specs.Prelude.{◌≡◌, ℕ, List, length, Option, Some, None}
-use Rattle.simulated_sizes.specs.run_laws.specs.Runs.{SpecRun}
-use Rattle.simulated_sizes.specs.net_model.specs.declared.breach.Breach.{Breach}
-use Rattle.simulated_sizes.specs.net_model.specs.Networks.{Net}
-use Rattle.simulated_sizes.specs.net_model.specs.NetRoutes.{routes_of}
+use Rattle.net_cells.specs.run_laws.specs.Runs.{SpecRun}
+use Rattle.net_cells.specs.net_model.specs.declared.breach.Breach.{Breach}
+use Rattle.net_cells.specs.net_model.specs.Networks.{Net}
+use Rattle.net_cells.specs.net_model.specs.NetRoutes.{routes_of}
 use Rattle.run_measures.specs.Peaks.{ArePeaks}
 use Rattle.run_measures.specs.Worst.{AreWorst}
-use Rattle.simulated_sizes.specs.first_breaches.specs.Firsts.{TellsFirst}
-use Rattle.run_measures.specs.net_cells.specs.Meanings.{CellTable}
-use Rattle.command_replies.specs.report_text.specs.RunReport.{Found}
+use Rattle.first_breaches.specs.Firsts.{TellsFirst}
+use Rattle.net_cells.specs.Meanings.{CellTable}
+use Rattle.report_text.specs.RunReport.{Found}
 use Rattle.command_replies.specs.Replies.{Reply}
 
 -- ---- a run

@@ -1,18 +1,18 @@
 -- What a report on a run shows beside its bounds.
 use Rattle.std.specs.Prelude.{◌≡◌, ◌<◌, ℕ, Option, Some, IsTrue, slice_get}
 use Rattle.std.specs.Option.{option_map}
-use Rattle.rational.specs.Rational.{ℚ}
-use Rattle.rational.specs.Extended.{◌≤ₑ◌}
-use Rattle.rational.specs.declared.Extended.TheVariants.{Fin}
-use Rattle.simulated_sizes.specs.run_laws.specs.Cards.{whole}
-use Rattle.simulated_sizes.specs.net_model.specs.Networks.{Net}
-use Rattle.run_measures.specs.net_cells.specs.declared.cell.Cell.{Cell}
-use Rattle.run_measures.specs.net_cells.specs.declared.cell.Kind.TheVariants.{QueueBacklog, Bound}
-use Rattle.run_measures.specs.net_cells.specs.Cells.{cell_of}
-use Rattle.run_measures.specs.net_cells.specs.Meanings.{CellTable}
-use Rattle.run_measures.specs.net_cells.specs.Numbered.{is_live, queues}
-use Rattle.run_measures.specs.net_cells.specs.TableValues.{HasNumber}
-use Rattle.command_replies.specs.report_text.specs.RunReport.{Found, peak_at}
+use Rattle.min_plus.specs.rational.specs.Rational.{ℚ}
+use Rattle.min_plus.specs.rational.specs.Extended.{◌≤ₑ◌}
+use Rattle.min_plus.specs.rational.specs.declared.Extended.TheVariants.{Fin}
+use Rattle.net_cells.specs.run_laws.specs.Cards.{whole}
+use Rattle.net_cells.specs.net_model.specs.Networks.{Net}
+use Rattle.net_cells.specs.declared.cell.Cell.{Cell}
+use Rattle.net_cells.specs.declared.cell.Kind.TheVariants.{QueueBacklog, Bound}
+use Rattle.net_cells.specs.Cells.{cell_of}
+use Rattle.net_cells.specs.Meanings.{CellTable}
+use Rattle.net_cells.specs.Numbered.{is_live, queues}
+use Rattle.net_cells.specs.TableValues.{HasNumber}
+use Rattle.report_text.specs.RunReport.{Found, peak_at}
 
 -- a number is shown, and the table's number at a cell is no less; an infinite one claims nothing
 pub record IsWithin (at : CellTable) (c : Cell) (shown : Option ℚ) : Type 0 where

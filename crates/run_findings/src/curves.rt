@@ -1,13 +1,13 @@
 //! What the curves of a network keep.
 
 ghost use Rattle.std.specs.Prelude.{◌<◌, ℕ, IsTrue, length};
-ghost use Rattle.run_measures.specs.net_cells.specs.Numbered.{is_live};
-ghost use Rattle.simulated_sizes.specs.first_breaches.specs.Firsts.{HasService};
+ghost use Rattle.net_cells.specs.Numbered.{is_live};
+ghost use Rattle.first_breaches.specs.Firsts.{HasService};
 ghost use Rattle.run_findings.specs.Curves.{HasArrival};
 ghost use Rattle.simulated_sizes.specs.Laws.{AreCurves};
 
-use run_measures::net_cells::{live_flow, server};
-use simulated_sizes::net_model::Network;
+use net_cells::net_model::Network;
+use net_cells::{live_flow, server};
 
 // What the service curve of a server keeps; it does nothing.
 fn keeps_service(net: &Network, number: u32)

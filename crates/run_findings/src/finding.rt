@@ -1,20 +1,20 @@
 //! What is found in a run.
 
 ghost use Rattle.std.specs.Prelude.{◌≡◌, IfOk};
-ghost use Rattle.simulated_sizes.specs.run_laws.specs.Lawful.{IsLawful};
-ghost use Rattle.simulated_sizes.specs.net_model.specs.NetRoutes.{routes_of};
+ghost use Rattle.net_cells.specs.run_laws.specs.Lawful.{IsLawful};
+ghost use Rattle.net_cells.specs.net_model.specs.NetRoutes.{routes_of};
 ghost use Rattle.run_measures.specs.Worst.{DelaysFit};
-ghost use Rattle.simulated_sizes.specs.first_breaches.specs.Sizes.{HaveSizes};
-ghost use Rattle.command_replies.specs.report_text.specs.RunReport.{found_of};
+ghost use Rattle.first_breaches.specs.Sizes.{HaveSizes};
+ghost use Rattle.report_text.specs.RunReport.{found_of};
 ghost use Rattle.command_replies.specs.View.{code_of};
 ghost use Rattle.run_findings.specs.Findings.{AreFindings, status_by};
 
 use command_replies::Status;
-use command_replies::report_text::RunFound;
+use first_breaches::first_breach;
+use net_cells::net_model::{Breach, Network};
+use net_cells::run_laws::Run;
+use report_text::RunFound;
 use run_measures::{peaks, worst_delays};
-use simulated_sizes::first_breaches::first_breach;
-use simulated_sizes::net_model::{Breach, Network};
-use simulated_sizes::run_laws::Run;
 use std::alloc::{AllocError, Global};
 
 /// What is found in a lawful run of a network that so many packets enter, of which nothing more is known: when it ends,

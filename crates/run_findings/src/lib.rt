@@ -6,9 +6,6 @@ mod curves;
 mod finding;
 mod laws;
 
-pub use command_replies;
-pub use command_replies::{cell_table, net_text, report_text};
 pub use curves::keeps_curves;
 pub use finding::{findings, status_by};
 pub use laws::{findings_are_one, findings_tell_premises, quiet_findings_are_within_bounds};
-pub use simulated_sizes::{first_breaches, net_model};

@@ -2,19 +2,19 @@
 use Rattle.std.specs.Prelude.{◌≡◌, ◌≢◌, ℕ, suc, ◌^◌, ◌<◌, List, [], ◌∷◌, length, get_or, drop}
 use Rattle.std.proofs.Common.{arith, refl, sym, ◌∙◌, subst, inl, inr}
 use Rattle.std.proofs.lemmas.Bool.{cases_eq, eq-eqb, ne_eqb}
-use Rattle.rational.specs.Rational.{ℚ}
-use Rattle.sim_routes.specs.run_laws.specs.declared.steps.Step.{Step}
-use Rattle.sim_routes.specs.run_laws.specs.declared.steps.Step.TheVariants.{Work, Visit}
-use Rattle.sim_routes.specs.run_laws.specs.Runs.{SpecRun}
-use Rattle.sim_routes.specs.run_laws.specs.Cards.{Card, ServerStep, Arrives, Works, Leaves, Visits}
-use Rattle.sim_routes.specs.run_laws.specs.Servers.{ServerState, queue_count}
-use Rattle.sim_routes.specs.run_laws.specs.Next.{next}
-use Rattle.sim_routes.specs.run_laws.specs.Allows.{Allows}
-use Rattle.sim_routes.specs.run_laws.specs.Routes.{Routes, server_at}
-use Rattle.sim_routes.specs.run_laws.specs.Views.{Entry, card_of, entered_after, server_of, seen, view_from}
-use Rattle.sim_routes.specs.run_laws.specs.Lawful.{RunState, state_at, next_run}
-use Rattle.sim_routes.specs.run_laws.proofs.States.{IsSound}
-use Rattle.sim_routes.specs.run_laws.proofs.Views.{own_state, other_state}
+use Rattle.net_model.specs.rational.specs.Rational.{ℚ}
+use Rattle.net_model.specs.run_laws.specs.declared.steps.Step.{Step}
+use Rattle.net_model.specs.run_laws.specs.declared.steps.Step.TheVariants.{Work, Visit}
+use Rattle.net_model.specs.run_laws.specs.Runs.{SpecRun}
+use Rattle.net_model.specs.run_laws.specs.Cards.{Card, ServerStep, Arrives, Works, Leaves, Visits}
+use Rattle.net_model.specs.run_laws.specs.Servers.{ServerState, queue_count}
+use Rattle.net_model.specs.run_laws.specs.Next.{next}
+use Rattle.net_model.specs.run_laws.specs.Allows.{Allows}
+use Rattle.net_model.specs.run_laws.specs.Routes.{Routes, server_at}
+use Rattle.net_model.specs.run_laws.specs.Views.{Entry, card_of, entered_after, server_of, seen, view_from}
+use Rattle.net_model.specs.run_laws.specs.Lawful.{RunState, state_at, next_run}
+use Rattle.net_model.specs.run_laws.proofs.States.{IsSound}
+use Rattle.net_model.specs.run_laws.proofs.Views.{own_state, other_state}
 use Rattle.run_measures.specs.declared.gauge.Gauge.{Gauge}
 use Rattle.run_measures.specs.Gauges.{Gains, Loses, gauge_in, HasGauge, ChangesOne}
 use Rattle.run_measures.specs.Gauged.{IsGauged, AreGauged, state_after}

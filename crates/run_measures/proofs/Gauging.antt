@@ -2,21 +2,21 @@
 use Rattle.std.specs.Prelude.{Option, Some, None, ◌≡◌, ◌≢◌, ◌⊎◌, ℕ, pos, ◌+◌, ◌<◌, ◌≤◌, ◌^◌, Bool, true, false, ◌==◌, ◌&&◌, List, [], ◌∷◌, ◌++◌}
 use Rattle.std.proofs.Common.{arith, refl, sym, ap, ◌∙◌, subst, inl, inr}
 use Rattle.std.proofs.lemmas.Bool.{cases_Bool, eq-eqb, ne_eqb}
-use Rattle.rational.specs.Rational.{ℚ, int, le_q, lt_q, ◌+ℚ◌, ◌-ℚ◌, ◌≤ℚ◌, ◌<ℚ◌}
-use Rattle.rational.proofs.Laws.{le_refl, le_trans, le_of_lt, lt_le_trans, le_lt_trans, le_or_lt, antisym}
-use Rattle.rational.proofs.Linear.{with2, with5, with6}
-use Rattle.rational.proofs.Over.{le_q_out, lt_q_out}
-use Rattle.rational.proofs.MinMax.{le_q_not, lt_q_not}
-use Rattle.rational.proofs.Stretch.{not_earlier}
-use Rattle.sim_routes.specs.run_laws.specs.Cards.{Card, Class, of_queue, size, whole, ServerStep, Arrives, Works, Leaves, Visits, time_of}
-use Rattle.sim_routes.specs.run_laws.specs.Servers.{Discipline, Server, Under, ServerState, head_of, without_head}
-use Rattle.sim_routes.specs.run_laws.specs.Next.{next, next_inside, next_under, next_busy}
-use Rattle.sim_routes.specs.run_laws.specs.Allows.{Allows, MayLeave}
-use Rattle.sim_routes.specs.run_laws.specs.Counts.{when, total, arrives, leaves, upto, before}
-use Rattle.sim_routes.specs.run_laws.proofs.Sizes.{whole_le, whole_sum, size_nonneg}
-use Rattle.sim_routes.specs.run_laws.proofs.Sums.{when_true, when_false, when_nonneg}
-use Rattle.sim_routes.specs.run_laws.proofs.Heads.{same_some}
-use Rattle.sim_routes.specs.run_laws.proofs.States.{IsSoundFor, IsSound, leaving}
+use Rattle.net_model.specs.rational.specs.Rational.{ℚ, int, le_q, lt_q, ◌+ℚ◌, ◌-ℚ◌, ◌≤ℚ◌, ◌<ℚ◌}
+use Rattle.net_model.specs.rational.proofs.Laws.{le_refl, le_trans, le_of_lt, lt_le_trans, le_lt_trans, le_or_lt, antisym}
+use Rattle.net_model.specs.rational.proofs.Linear.{with2, with5, with6}
+use Rattle.net_model.specs.rational.proofs.Over.{le_q_out, lt_q_out}
+use Rattle.net_model.specs.rational.proofs.MinMax.{le_q_not, lt_q_not}
+use Rattle.net_model.specs.rational.proofs.Stretch.{not_earlier}
+use Rattle.net_model.specs.run_laws.specs.Cards.{Card, Class, of_queue, size, whole, ServerStep, Arrives, Works, Leaves, Visits, time_of}
+use Rattle.net_model.specs.run_laws.specs.Servers.{Discipline, Server, Under, ServerState, head_of, without_head}
+use Rattle.net_model.specs.run_laws.specs.Next.{next, next_inside, next_under, next_busy}
+use Rattle.net_model.specs.run_laws.specs.Allows.{Allows, MayLeave}
+use Rattle.net_model.specs.run_laws.specs.Counts.{when, total, arrives, leaves, upto, before}
+use Rattle.net_model.specs.run_laws.proofs.Sizes.{whole_le, whole_sum, size_nonneg}
+use Rattle.net_model.specs.run_laws.proofs.Sums.{when_true, when_false, when_nonneg}
+use Rattle.net_model.specs.run_laws.proofs.Heads.{same_some}
+use Rattle.net_model.specs.run_laws.proofs.States.{IsSoundFor, IsSound, leaving}
 use Rattle.run_measures.specs.declared.gauge.Gauge.{Gauge}
 use Rattle.run_measures.specs.Gauges.{counted, level_at, Gains, Loses}
 use Rattle.run_measures.specs.Gauged.{bits_of, LeavesLater, WasThere, IsGauged}

@@ -1,10 +1,10 @@
 -- The largest of 0 and some numbers, with one more.
 use Rattle.std.specs.Prelude.{suc, pos, List, [], ◌∷◌, Contains}
 use Rattle.std.proofs.Common.{arith, refl, inl, inr}
-use Rattle.rational.specs.Rational.{ℚ, int, ◌≤ℚ◌, ◌<ℚ◌}
-use Rattle.rational.specs.declared.Extended.TheVariants.{Fin}
-use Rattle.rational.proofs.Laws.{le_refl, le_trans, le_of_lt}
-use Rattle.sim_routes.specs.run_laws.specs.Delays.{AreAtMost}
+use Rattle.net_model.specs.rational.specs.Rational.{ℚ, int, ◌≤ℚ◌, ◌<ℚ◌}
+use Rattle.net_model.specs.rational.specs.declared.Extended.TheVariants.{Fin}
+use Rattle.net_model.specs.rational.proofs.Laws.{le_refl, le_trans, le_of_lt}
+use Rattle.net_model.specs.run_laws.specs.Delays.{AreAtMost}
 use Rattle.run_measures.specs.Worst.{IsLargest}
 
 pub largest_none : IsLargest [] (int (pos 0))

@@ -2,13 +2,13 @@
 use Rattle.std.specs.Prelude.{◌≡◌, suc, List, [], ◌∷◌, ◌++◌, length}
 use Rattle.std.proofs.Common.{arith, subst}
 use Rattle.std.proofs.lemmas.List.{length_push}
-use Rattle.rational.specs.Rational.{ℚ}
-use Rattle.sim_routes.specs.run_laws.specs.declared.steps.Step.{Step}
-use Rattle.sim_routes.specs.run_laws.specs.declared.steps.Step.TheVariants.{Enter, Reach, Work, Leave, Visit}
-use Rattle.sim_routes.specs.run_laws.specs.Runs.{SpecRun}
-use Rattle.sim_routes.specs.run_laws.specs.Routes.{Routes}
-use Rattle.sim_routes.specs.run_laws.specs.Views.{Entry}
-use Rattle.sim_routes.specs.run_laws.specs.Lawful.{RunState, next_run, run_start, AllAllowedInRun, IsLawful}
+use Rattle.net_model.specs.rational.specs.Rational.{ℚ}
+use Rattle.net_model.specs.run_laws.specs.declared.steps.Step.{Step}
+use Rattle.net_model.specs.run_laws.specs.declared.steps.Step.TheVariants.{Enter, Reach, Work, Leave, Visit}
+use Rattle.net_model.specs.run_laws.specs.Runs.{SpecRun}
+use Rattle.net_model.specs.run_laws.specs.Routes.{Routes}
+use Rattle.net_model.specs.run_laws.specs.Views.{Entry}
+use Rattle.net_model.specs.run_laws.specs.Lawful.{RunState, next_run, run_start, AllAllowedInRun, IsLawful}
 use Rattle.run_measures.specs.Numbered.{AreNumberedFrom}
 
 numbered_from : (net : Routes) (end : ℚ) (r : RunState) (xs : List Step) → AllAllowedInRun net end r xs → AreNumberedFrom (length r.entered) xs

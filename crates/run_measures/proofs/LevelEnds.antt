@@ -3,26 +3,26 @@ use Rattle.std.specs.Prelude.{◌≡◌, ◌⊎◌, ℕ, zero, suc, ◌<◌, ◌
 use Rattle.std.proofs.Common.{arith, refl, sym, ap, ◌∙◌, subst, inl, inr}
 use Rattle.std.proofs.Math.Seq.{drop-length, take-length}
 use Rattle.std.proofs.lemmas.List.{get_or-map, length-map, get_or-replicate, length-replicate}
-use Rattle.rational.specs.Rational.{ℚ, int, le_q, ◌+ℚ◌, ◌-ℚ◌, ◌≤ℚ◌}
-use Rattle.rational.proofs.Laws.{le_refl}
-use Rattle.rational.proofs.Linear.{with2}
-use Rattle.sim_routes.specs.run_laws.specs.Runs.{SpecRun}
-use Rattle.sim_routes.specs.run_laws.specs.Cards.{of_queue, whole, ServerStep}
-use Rattle.sim_routes.specs.run_laws.specs.Servers.{Fifo, Discipline, ServerState, queue_count, start}
-use Rattle.sim_routes.specs.run_laws.specs.Delays.{backlog}
-use Rattle.sim_routes.specs.run_laws.specs.Routes.{Routes, server_at}
-use Rattle.sim_routes.specs.run_laws.specs.Views.{view, view_from}
-use Rattle.sim_routes.specs.run_laws.specs.Lawful.{state_at, run_start}
-use Rattle.sim_routes.specs.run_laws.proofs.Sums.{add_nothing}
-use Rattle.sim_routes.specs.net_model.specs.Networks.{Net, NetServer}
-use Rattle.sim_routes.specs.net_model.specs.NetRoutes.{routes_of, server_for}
+use Rattle.net_model.specs.rational.specs.Rational.{ℚ, int, le_q, ◌+ℚ◌, ◌-ℚ◌, ◌≤ℚ◌}
+use Rattle.net_model.specs.rational.proofs.Laws.{le_refl}
+use Rattle.net_model.specs.rational.proofs.Linear.{with2}
+use Rattle.net_model.specs.run_laws.specs.Runs.{SpecRun}
+use Rattle.net_model.specs.run_laws.specs.Cards.{of_queue, whole, ServerStep}
+use Rattle.net_model.specs.run_laws.specs.Servers.{Fifo, Discipline, ServerState, queue_count, start}
+use Rattle.net_model.specs.run_laws.specs.Delays.{backlog}
+use Rattle.net_model.specs.run_laws.specs.Routes.{Routes, server_at}
+use Rattle.net_model.specs.run_laws.specs.Views.{view, view_from}
+use Rattle.net_model.specs.run_laws.specs.Lawful.{state_at, run_start}
+use Rattle.net_model.specs.run_laws.proofs.Sums.{add_nothing}
+use Rattle.net_model.specs.Networks.{Net, NetServer}
+use Rattle.net_model.specs.NetRoutes.{routes_of, server_for}
 use Rattle.run_measures.specs.declared.gauge.Gauge.{Gauge}
 use Rattle.run_measures.specs.declared.levels.Levels.{Levels}
 use Rattle.run_measures.specs.Gauges.{counted, level_at, empty_gauge, empty_row_of, gauge_in, gauges_of, peak_of}
 use Rattle.run_measures.specs.Gauged.{WasThere, IsGauged, AreGauged, state_after}
 use Rattle.run_measures.specs.Levels.{Tells}
 use Rattle.run_measures.specs.Peaks.{backlog_at, IsReached, IsPeak, peak_in, ArePeaks}
-use Rattle.sim_routes.specs.run_laws.proofs.Views.{start_state}
+use Rattle.net_model.specs.run_laws.proofs.Views.{start_state}
 
 -- one map after another
 pub mapped_twice : {X Y Z : Type 0} (g : Y → Z) (f : X → Y) (xs : List X) → map (λ x. g (f x)) xs ≡ map g (map f xs)

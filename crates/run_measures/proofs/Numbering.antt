@@ -1,10 +1,10 @@
 -- Where a step stands among others.
 use Rattle.std.specs.Prelude.{Some, ◌≡◌, ℕ, zero, suc, ◌+◌, List, [], ◌∷◌, slice_get, drop}
 use Rattle.std.proofs.Common.{arith, ap}
-use Rattle.rational.specs.Rational.{ℚ}
-use Rattle.sim_routes.specs.run_laws.specs.declared.steps.Step.{Step}
-use Rattle.sim_routes.specs.run_laws.specs.declared.steps.Step.TheVariants.{Enter, Reach, Work, Leave, Visit}
-use Rattle.sim_routes.specs.run_laws.specs.Routes.{Routes}
+use Rattle.net_model.specs.rational.specs.Rational.{ℚ}
+use Rattle.net_model.specs.run_laws.specs.declared.steps.Step.{Step}
+use Rattle.net_model.specs.run_laws.specs.declared.steps.Step.TheVariants.{Enter, Reach, Work, Leave, Visit}
+use Rattle.net_model.specs.run_laws.specs.Routes.{Routes}
 use Rattle.run_measures.specs.Numbered.{AreNumberedFrom, flows_in}
 use Rattle.run_measures.specs.Worst.{DelaysFit}
 

@@ -4,12 +4,12 @@ use Rattle.std.proofs.Common.{arith, refl, sym, ap, ◌∙◌, subst, inl, inr}
 use Rattle.std.proofs.Math.ListN.{length-set}
 use Rattle.std.proofs.lemmas.Bool.{cases_eq, eq-eqb, ne_eqb}
 use Rattle.std.proofs.lemmas.List.{get_or-set_same, get_or-set_other}
-use Rattle.rational.specs.Rational.{ℚ, int, ◌+ℚ◌, ◌-ℚ◌, ◌≤ℚ◌, ◌<ℚ◌}
-use Rattle.sim_routes.specs.run_laws.specs.declared.steps.Step.{Step}
-use Rattle.sim_routes.specs.run_laws.specs.declared.steps.Step.TheVariants.{Enter, Reach, Work, Leave, Visit}
-use Rattle.sim_routes.specs.run_laws.specs.Delays.{kept}
-use Rattle.sim_routes.specs.run_laws.specs.FlowDelays.{delivered_at, delays_from}
-use Rattle.sim_routes.specs.run_laws.specs.Routes.{Routes, link_at, route_of, last_server}
+use Rattle.net_model.specs.rational.specs.Rational.{ℚ, int, ◌+ℚ◌, ◌-ℚ◌, ◌≤ℚ◌, ◌<ℚ◌}
+use Rattle.net_model.specs.run_laws.specs.declared.steps.Step.{Step}
+use Rattle.net_model.specs.run_laws.specs.declared.steps.Step.TheVariants.{Enter, Reach, Work, Leave, Visit}
+use Rattle.net_model.specs.run_laws.specs.Delays.{kept}
+use Rattle.net_model.specs.run_laws.specs.FlowDelays.{delivered_at, delays_from}
+use Rattle.net_model.specs.run_laws.specs.Routes.{Routes, link_at, route_of, last_server}
 use Rattle.run_measures.specs.Worst.{IsLargest, IsTallied}
 use Rattle.run_measures.proofs.Largest.{largest_none, largest_same, largest_new}
 

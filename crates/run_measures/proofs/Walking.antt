@@ -3,12 +3,12 @@ use Rattle.std.specs.Prelude.{Some, ◌≡◌, ℕ, suc, ◌-◌, ◌<◌, ◌�
 use Rattle.std.proofs.Common.{arith, sym, ap, ◌∙◌, subst}
 use Rattle.std.proofs.Math.Seq.{drop-cons}
 use Rattle.std.proofs.lemmas.Option.{slice_get-get_or, slice_get_within, get_or_from_slice_get}
-use Rattle.rational.specs.Rational.{ℚ, neg_ℚ}
-use Rattle.rational.specs.Ratio.{SumFits}
-use Rattle.sim_routes.specs.run_laws.specs.declared.steps.Step.{Step}
-use Rattle.sim_routes.specs.run_laws.specs.declared.steps.Step.TheVariants.{Enter, Reach, Work, Leave, Visit}
-use Rattle.sim_routes.specs.run_laws.specs.FlowDelays.{delivered_at}
-use Rattle.sim_routes.specs.run_laws.specs.Routes.{Routes, route_of, last_server}
+use Rattle.net_model.specs.rational.specs.Rational.{ℚ, neg_ℚ}
+use Rattle.net_model.specs.rational.specs.Ratio.{SumFits}
+use Rattle.net_model.specs.run_laws.specs.declared.steps.Step.{Step}
+use Rattle.net_model.specs.run_laws.specs.declared.steps.Step.TheVariants.{Enter, Reach, Work, Leave, Visit}
+use Rattle.net_model.specs.run_laws.specs.FlowDelays.{delivered_at}
+use Rattle.net_model.specs.run_laws.specs.Routes.{Routes, route_of, last_server}
 use Rattle.run_measures.specs.declared.worst.Tally.{Tally}
 use Rattle.run_measures.specs.Numbered.{AreNumberedFrom, flows_in}
 use Rattle.run_measures.specs.Worst.{AreWorst, DelaysFit}

@@ -1,14 +1,14 @@
 -- What the gauges of the queues tell after some steps of a run.
 use Rattle.std.specs.Prelude.{Option, Some, None, ◌≡◌, ◌⊎◌, ℕ, ◌+◌, ◌^◌, ◌<◌, ◌≤◌, List, [], ◌∷◌, length, map, take, drop, slice_index_or}
-use Rattle.rational.specs.Rational.{ℚ, ◌+ℚ◌, ◌≤ℚ◌, ◌<ℚ◌}
-use Rattle.sim_routes.specs.run_laws.specs.declared.steps.Step.{Step}
-use Rattle.sim_routes.specs.run_laws.specs.Runs.{SpecRun}
-use Rattle.sim_routes.specs.run_laws.specs.Cards.{Card, Class, of_queue, whole, ServerStep}
-use Rattle.sim_routes.specs.run_laws.specs.Servers.{Under, ServerState, queue_count}
-use Rattle.sim_routes.specs.run_laws.specs.Delays.{backlog}
-use Rattle.sim_routes.specs.run_laws.specs.Routes.{Routes, server_at}
-use Rattle.sim_routes.specs.run_laws.specs.Views.{Entry, entry_of, view_from}
-use Rattle.sim_routes.specs.run_laws.specs.Lawful.{RunState, state_at, run_start, after_run}
+use Rattle.net_model.specs.rational.specs.Rational.{ℚ, ◌+ℚ◌, ◌≤ℚ◌, ◌<ℚ◌}
+use Rattle.net_model.specs.run_laws.specs.declared.steps.Step.{Step}
+use Rattle.net_model.specs.run_laws.specs.Runs.{SpecRun}
+use Rattle.net_model.specs.run_laws.specs.Cards.{Card, Class, of_queue, whole, ServerStep}
+use Rattle.net_model.specs.run_laws.specs.Servers.{Under, ServerState, queue_count}
+use Rattle.net_model.specs.run_laws.specs.Delays.{backlog}
+use Rattle.net_model.specs.run_laws.specs.Routes.{Routes, server_at}
+use Rattle.net_model.specs.run_laws.specs.Views.{Entry, entry_of, view_from}
+use Rattle.net_model.specs.run_laws.specs.Lawful.{RunState, state_at, run_start, after_run}
 use Rattle.run_measures.specs.declared.gauge.Gauge.{Gauge}
 use Rattle.run_measures.specs.Gauges.{counted, level_at, gauge_in}
 use Rattle.run_measures.specs.Peaks.{backlog_at}

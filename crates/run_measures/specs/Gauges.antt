@@ -1,9 +1,9 @@
 -- What is kept of one queue of a run.
 use Rattle.std.specs.Prelude.{◌≡◌, ◌⊎◌, ℕ, pos, ◌+◌, ◌<◌, ◌≤◌, ◌^◌, Bool, List, [], length, map, replicate, slice_index_or, slice_set, if◌then◌else◌}
 use Rattle.std.specs.declared.vec.Vec.{Vec}
-use Rattle.rational.specs.Rational.{ℚ, int, le_q}
-use Rattle.sim_routes.specs.run_laws.specs.Servers.{queue_count}
-use Rattle.sim_routes.specs.net_model.specs.Networks.{NetServer}
+use Rattle.net_model.specs.rational.specs.Rational.{ℚ, int, le_q}
+use Rattle.net_model.specs.run_laws.specs.Servers.{queue_count}
+use Rattle.net_model.specs.Networks.{NetServer}
 use Rattle.run_measures.specs.declared.gauge.Gauge.{Gauge}
 
 -- n where the test holds, else 0

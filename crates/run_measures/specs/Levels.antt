@@ -1,8 +1,8 @@
 -- What is known of all packets and queues after some steps of a run.
 use Rattle.std.specs.Prelude.{◌≡◌, ℕ, ◌<◌, ◌≤◌, [], ◌∷◌, ◌++◌, length, slice_index_or}
-use Rattle.rational.specs.Rational.{ℚ}
-use Rattle.sim_routes.specs.run_laws.specs.Runs.{SpecRun}
-use Rattle.sim_routes.specs.run_laws.specs.Routes.{Routes, route_of, queue_at, first_server}
+use Rattle.net_model.specs.rational.specs.Rational.{ℚ}
+use Rattle.net_model.specs.run_laws.specs.Runs.{SpecRun}
+use Rattle.net_model.specs.run_laws.specs.Routes.{Routes, route_of, queue_at, first_server}
 use Rattle.run_measures.specs.declared.levels.Levels.{Levels}
 use Rattle.run_measures.specs.Gauges.{Gains, Loses, HasRoom, HasGauge, ChangesOne, gauge_in, gauges_of}
 use Rattle.run_measures.specs.Gauged.{state_after, AreEntered, AreGauged}

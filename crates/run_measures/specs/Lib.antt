@@ -6,5 +6,3 @@ pub mod Peaks
 pub mod Gauges
 pub mod Gauged
 pub mod Levels
-pub use Rattle.sim_routes as sim_routes
-pub use Rattle.sim_routes.specs.net_cells as net_cells

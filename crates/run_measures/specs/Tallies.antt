@@ -1,10 +1,10 @@
 -- What a tally tells, and when it may go on.
 use Rattle.std.specs.Prelude.{Some, ◌≡◌, ℕ, pos, List, ◌∷◌, slice_get, slice_index_or}
-use Rattle.rational.specs.Rational.{ℚ, int, neg_ℚ}
-use Rattle.rational.specs.Ratio.{SumFits}
-use Rattle.sim_routes.specs.run_laws.specs.declared.steps.Step.{Step}
-use Rattle.sim_routes.specs.run_laws.specs.declared.steps.Step.TheVariants.{Enter, Reach, Work, Leave, Visit}
-use Rattle.sim_routes.specs.run_laws.specs.Routes.{Routes, link_at}
+use Rattle.net_model.specs.rational.specs.Rational.{ℚ, int, neg_ℚ}
+use Rattle.net_model.specs.rational.specs.Ratio.{SumFits}
+use Rattle.net_model.specs.run_laws.specs.declared.steps.Step.{Step}
+use Rattle.net_model.specs.run_laws.specs.declared.steps.Step.TheVariants.{Enter, Reach, Work, Leave, Visit}
+use Rattle.net_model.specs.run_laws.specs.Routes.{Routes, link_at}
 use Rattle.run_measures.specs.declared.worst.Tally.{Tally}
 use Rattle.run_measures.specs.Worst.{IsTallied}
 

@@ -1,13 +1,13 @@
 -- The worst delays of a run.
 use Rattle.std.specs.Prelude.{◌≡◌, ◌⊎◌, ℕ, pos, ◌<◌, List, [], ◌∷◌, length, Contains, slice_index_or}
-use Rattle.rational.specs.Rational.{ℚ, int, neg_ℚ, ◌≤ℚ◌}
-use Rattle.rational.specs.Ratio.{SumFits}
-use Rattle.rational.specs.declared.Extended.TheVariants.{Fin}
-use Rattle.sim_routes.specs.run_laws.specs.declared.steps.Step.{Step}
-use Rattle.sim_routes.specs.run_laws.specs.declared.steps.Step.TheVariants.{Enter, Reach, Work, Leave, Visit}
-use Rattle.sim_routes.specs.run_laws.specs.Delays.{AreAtMost}
-use Rattle.sim_routes.specs.run_laws.specs.FlowDelays.{delivered_at, delays_from}
-use Rattle.sim_routes.specs.run_laws.specs.Routes.{Routes, link_at, route_of, last_server}
+use Rattle.net_model.specs.rational.specs.Rational.{ℚ, int, neg_ℚ, ◌≤ℚ◌}
+use Rattle.net_model.specs.rational.specs.Ratio.{SumFits}
+use Rattle.net_model.specs.rational.specs.declared.Extended.TheVariants.{Fin}
+use Rattle.net_model.specs.run_laws.specs.declared.steps.Step.{Step}
+use Rattle.net_model.specs.run_laws.specs.declared.steps.Step.TheVariants.{Enter, Reach, Work, Leave, Visit}
+use Rattle.net_model.specs.run_laws.specs.Delays.{AreAtMost}
+use Rattle.net_model.specs.run_laws.specs.FlowDelays.{delivered_at, delays_from}
+use Rattle.net_model.specs.run_laws.specs.Routes.{Routes, link_at, route_of, last_server}
 
 -- w is the largest of 0 and of these
 pub record IsLargest (xs : List ℚ) (w : ℚ) : Type 0 where

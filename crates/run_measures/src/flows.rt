@@ -3,7 +3,7 @@
 ghost use Rattle.std.specs.Prelude.{◌≡◌, IfOk};
 ghost use Rattle.run_measures.specs.Numbered.{flows_in};
 
-use sim_routes::run_laws::Step;
+use net_model::run_laws::Step;
 use std::alloc::{AllocError, Global};
 
 /// The flows of the packets that enter, in their order.

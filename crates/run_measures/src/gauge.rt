@@ -1,10 +1,10 @@
 //! One queue, as it is known after some steps of a run.
 
 ghost use Rattle.std.specs.Prelude.{◌≡◌, ◌+◌, ◌<◌, ◌≤◌, ◌^◌};
-ghost use Rattle.rational.specs.Rational.{le_q};
+ghost use Rattle.net_model.specs.rational.specs.Rational.{le_q};
 ghost use Rattle.run_measures.specs.Gauges.{Gains, Loses, counted, empty_gauge};
 
-use sim_routes::fraction128::{Frac, is_less};
+use fraction128::{Frac, is_less};
 
 /// One queue, as it is known after some steps of a run.
 #[derive(Debug, Clone, Copy)]

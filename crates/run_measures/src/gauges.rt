@@ -1,14 +1,14 @@
 //! The gauges of all queues.
 
 ghost use Rattle.std.specs.Prelude.{◌≡◌, ◌≤◌, IfOk, map};
-ghost use Rattle.sim_routes.specs.net_model.specs.Views.{server_of};
+ghost use Rattle.net_model.specs.Views.{server_of};
 ghost use Rattle.run_measures.specs.Gauges.{Gains, Loses, HasGauge, HasRoom, ChangesOne};
 ghost use Rattle.run_measures.specs.Gauges.{gauge_in, gauges_of, with_gauge, empty_row_of, peak_of};
 ghost use Rattle.run_measures.specs.Peaks.{rows_of};
 
 use crate::gauge::Gauge;
-use sim_routes::fraction128::Frac;
-use sim_routes::net_model::{Network, Server};
+use fraction128::Frac;
+use net_model::{Network, Server};
 use std::alloc::{AllocError, Global};
 
 /// The gauges of a server in which no packet has been.

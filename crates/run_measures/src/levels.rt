@@ -1,16 +1,16 @@
 //! The greatest backlog of each queue, found from the first step to the last.
 
 ghost use Rattle.std.specs.Prelude.{◌≡◌, ◌+◌, ◌<◌, IfOk, OnOk, length};
-ghost use Rattle.sim_routes.specs.run_laws.specs.Lawful.{IsLawful};
-ghost use Rattle.sim_routes.specs.net_model.specs.NetRoutes.{routes_of};
+ghost use Rattle.net_model.specs.run_laws.specs.Lawful.{IsLawful};
+ghost use Rattle.net_model.specs.NetRoutes.{routes_of};
 ghost use Rattle.run_measures.specs.Levels.{IsKnown, SamePackets, MayEnter, MayReach, MayLeave, Enters, Reaches, Leaves, Tells};
 ghost use Rattle.run_measures.specs.Peaks.{rows_of, ArePeaks};
 
 use crate::gauge::Gauge;
 use crate::gauges::{arrive, empty_rows, leave, peaks_of};
-use sim_routes::fraction128::Frac;
-use sim_routes::net_model::Network;
-use sim_routes::run_laws::{Run, Step};
+use fraction128::Frac;
+use net_model::Network;
+use net_model::run_laws::{Run, Step};
 use sim_routes::{entrance, queue_of};
 use std::alloc::{AllocError, Global};
 

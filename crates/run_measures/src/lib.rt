@@ -11,6 +11,4 @@ mod worst;
 
 pub use laws::lawful_runs_are_numbered;
 pub use levels::peaks;
-pub use sim_routes;
-pub use sim_routes::net_cells;
 pub use worst::worst_delays;

@@ -2,19 +2,19 @@
 //! is delivered.
 
 ghost use Rattle.std.specs.Prelude.{◌≡◌, ℕ, [], IfOk, Some, length, pos, slice_get, slice_index_or};
-ghost use Rattle.rational.specs.Rational.{int, neg_ℚ};
-ghost use Rattle.rational.specs.Ratio.{SumFits};
-ghost use Rattle.sim_routes.specs.run_laws.specs.declared.steps.Step.TheVariants as steps;
-ghost use Rattle.sim_routes.specs.run_laws.specs.Routes.{Routes, link_at};
-ghost use Rattle.sim_routes.specs.net_model.specs.NetRoutes.{routes_of};
+ghost use Rattle.net_model.specs.rational.specs.Rational.{int, neg_ℚ};
+ghost use Rattle.net_model.specs.rational.specs.Ratio.{SumFits};
+ghost use Rattle.net_model.specs.run_laws.specs.declared.steps.Step.TheVariants as steps;
+ghost use Rattle.net_model.specs.run_laws.specs.Routes.{Routes, link_at};
+ghost use Rattle.net_model.specs.NetRoutes.{routes_of};
 ghost use Rattle.run_measures.specs.Numbered.{AreNumberedFrom, flows_in};
 ghost use Rattle.run_measures.specs.Tallies.{IsTold, MayTell, Tells};
 ghost use Rattle.run_measures.specs.Worst.{AreWorst, DelaysFit};
 
 use crate::flows::flows_of;
-use sim_routes::fraction128::{Frac, difference, is_less, sum};
-use sim_routes::net_model::Network;
-use sim_routes::run_laws::{Run, Step};
+use fraction128::{Frac, difference, is_less, sum};
+use net_model::Network;
+use net_model::run_laws::{Run, Step};
 use sim_routes::{exit, link_of};
 use std::alloc::{AllocError, Global};
 

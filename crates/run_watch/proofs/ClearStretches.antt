@@ -2,11 +2,11 @@
 use Rattle.std.specs.Prelude.{◌≡◌, ℕ, ◌<◌, List, [], ◌∷◌, length, None}
 use Rattle.std.specs.List.{slice_index_or}
 use Rattle.std.proofs.Common.{arith, refl, sym, subst, inl, inr}
-use Rattle.rational.specs.Rational.{ℚ, ◌+ℚ◌, ◌-ℚ◌, ◌≤ℚ◌, ◌<ℚ◌}
-use Rattle.rational.specs.Extended.{◌<ₑ◌, ◌+ₑ◌}
-use Rattle.rational.specs.declared.Extended.TheVariants.{Fin}
-use Rattle.rational.proofs.Laws.{le_trans, le_of_lt, le_or_lt, lt_le_trans, lt_irrefl, antisym}
-use Rattle.rational.proofs.Linear.{with3, with4, sub_pos}
+use Rattle.fraction128.specs.rational.specs.Rational.{ℚ, ◌+ℚ◌, ◌-ℚ◌, ◌≤ℚ◌, ◌<ℚ◌}
+use Rattle.fraction128.specs.rational.specs.Extended.{◌<ₑ◌, ◌+ₑ◌}
+use Rattle.fraction128.specs.rational.specs.declared.Extended.TheVariants.{Fin}
+use Rattle.fraction128.specs.rational.proofs.Laws.{le_trans, le_of_lt, le_or_lt, lt_le_trans, lt_irrefl, antisym}
+use Rattle.fraction128.specs.rational.proofs.Linear.{with3, with4, sub_pos}
 use Rattle.flow_watch.specs.affine_segment.specs.Pieces.{HasStart}
 use Rattle.flow_watch.specs.upp_curve.specs.Curve.{SpecCurve, value_at}
 use Rattle.flow_watch.specs.upp_curve.specs.Unrolled.{unroll}

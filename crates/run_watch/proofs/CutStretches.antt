@@ -1,11 +1,11 @@
 -- No window that is short of work ends by the last turn of a stretch before the least end that the look at its turns finds.
 use Rattle.std.specs.Prelude.{◌≡◌, pos, List, [], ◌∷◌, Option, Some}
 use Rattle.std.proofs.Common.{arith, refl, subst, inl, inr}
-use Rattle.rational.specs.Rational.{ℚ, int, ◌-ℚ◌, ◌≤ℚ◌, ◌<ℚ◌}
-use Rattle.rational.specs.Extended.{◌<ₑ◌, ◌+ₑ◌}
-use Rattle.rational.specs.declared.Extended.TheVariants.{Fin}
-use Rattle.rational.proofs.Laws.{le_trans, le_or_lt, antisym}
-use Rattle.rational.proofs.Linear.{with2}
+use Rattle.fraction128.specs.rational.specs.Rational.{ℚ, int, ◌-ℚ◌, ◌≤ℚ◌, ◌<ℚ◌}
+use Rattle.fraction128.specs.rational.specs.Extended.{◌<ₑ◌, ◌+ₑ◌}
+use Rattle.fraction128.specs.rational.specs.declared.Extended.TheVariants.{Fin}
+use Rattle.fraction128.specs.rational.proofs.Laws.{le_trans, le_or_lt, antisym}
+use Rattle.fraction128.specs.rational.proofs.Linear.{with2}
 use Rattle.flow_watch.specs.affine_segment.specs.declared.line.Piece.{Piece}
 use Rattle.flow_watch.specs.upp_curve.specs.Curve.{SpecCurve, value_at}
 use Rattle.flow_watch.specs.upp_curve.specs.Unrolled.{unroll}

@@ -3,9 +3,9 @@ use Rattle.std.specs.Prelude.{◌≡◌, ℕ, ◌<◌, ◌≤◌, List, [], ◌�
 use Rattle.std.specs.List.{slice_index_or}
 use Rattle.std.proofs.Common.{arith, refl, sym, subst, ap, ◌∙◌, inl, inr}
 use Rattle.std.proofs.lemmas.Bool.{cases_lt}
-use Rattle.rational.specs.Rational.{ℚ, ◌≤ℚ◌}
-use Rattle.rational.specs.Extended.{Ext}
-use Rattle.rational.proofs.Laws.{lt_cases, lt_irrefl, lt_le_trans}
+use Rattle.fraction128.specs.rational.specs.Rational.{ℚ, ◌≤ℚ◌}
+use Rattle.fraction128.specs.rational.specs.Extended.{Ext}
+use Rattle.fraction128.specs.rational.proofs.Laws.{lt_cases, lt_irrefl, lt_le_trans}
 use Rattle.flow_watch.specs.upp_curve.specs.Curve.{SpecCurve}
 use Rattle.flow_watch.specs.run_laws.specs.Runs.{SpecRun}
 use Rattle.flow_watch.specs.run_laws.specs.Cards.{whole, ServerStep}

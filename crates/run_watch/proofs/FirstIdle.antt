@@ -2,7 +2,7 @@
 use Rattle.std.specs.Prelude.{◌≡◌, ℕ, zero, suc, ◌<◌, List, [], ◌∷◌, length}
 use Rattle.std.specs.List.{slice_index_or}
 use Rattle.std.proofs.Common.{arith, sym, subst}
-use Rattle.rational.specs.Rational.{ℚ}
+use Rattle.fraction128.specs.rational.specs.Rational.{ℚ}
 use Rattle.flow_watch.specs.upp_curve.specs.Curve.{SpecCurve}
 use Rattle.flow_watch.specs.watch_laws.specs.Affine.{EachTime}
 use Rattle.flow_watch.specs.watch_laws.specs.declared.point.Segment.{Segment}

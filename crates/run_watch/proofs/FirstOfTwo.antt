@@ -2,8 +2,8 @@
 use Rattle.std.specs.Prelude.{◌≡◌, ◌||◌, true, Option, Some, None}
 use Rattle.std.proofs.Common.{subst, inl, inr}
 use Rattle.std.proofs.lemmas.Bool.{cases_Bool, or_left, or_right}
-use Rattle.rational.specs.Rational.{◌≤ℚ◌, ◌<ℚ◌, lt_q}
-use Rattle.rational.proofs.Over.{lt_q_in}
+use Rattle.fraction128.specs.rational.specs.Rational.{◌≤ℚ◌, ◌<ℚ◌, lt_q}
+use Rattle.fraction128.specs.rational.proofs.Over.{lt_q_in}
 use Rattle.flow_watch.specs.run_laws.specs.Runs.{SpecRun}
 use Rattle.flow_watch.specs.net_model.specs.declared.breach.Breach.{Breach}
 use Rattle.flow_watch.specs.net_model.specs.declared.breach.Breach.TheVariants.{Size, Arrival, Service}

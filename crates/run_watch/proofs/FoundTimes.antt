@@ -2,10 +2,10 @@
 use Rattle.std.specs.Prelude.{◌≡◌, ◌⊎◌, pos, ◌&&◌, List, [], ◌∷◌, ◌++◌}
 use Rattle.std.proofs.Common.{arith, refl, sym, subst, inl, inr}
 use Rattle.std.proofs.lemmas.Bool.{cases_Bool, and_from, and_parts}
-use Rattle.rational.specs.Rational.{ℚ, int, ◌+ℚ◌, ◌-ℚ◌, ◌≤ℚ◌, ◌<ℚ◌, le_q}
-use Rattle.rational.proofs.Laws.{le_or_lt, antisym}
-use Rattle.rational.proofs.Over.{le_q_out, le_q_in}
-use Rattle.rational.proofs.Linear.{with2, with3, with4}
+use Rattle.fraction128.specs.rational.specs.Rational.{ℚ, int, ◌+ℚ◌, ◌-ℚ◌, ◌≤ℚ◌, ◌<ℚ◌, le_q}
+use Rattle.fraction128.specs.rational.proofs.Laws.{le_or_lt, antisym}
+use Rattle.fraction128.specs.rational.proofs.Over.{le_q_out, le_q_in}
+use Rattle.fraction128.specs.rational.proofs.Linear.{with2, with3, with4}
 use Rattle.flow_watch.specs.affine_segment.specs.declared.line.Piece.{Piece}
 use Rattle.flow_watch.specs.upp_curve.specs.Curve.{SpecCurve}
 use Rattle.flow_watch.specs.affine_segment.specs.Pieces.{HasStart, StartsAtZero}

@@ -3,8 +3,8 @@ use Rattle.std.specs.Prelude.{◌≡◌, ◌≢◌, ◌⊎◌, pos, true, List, 
 use Rattle.std.proofs.Common.{refl, sym, subst, ap, ap₂, ◌∙◌, inl, inr, true≢false}
 use Rattle.std.proofs.lemmas.Bool.{cases_Bool}
 use Rattle.std.specs.Ordering.{is_eq}
-use Rattle.rational.specs.Rational.{ℚ, int, ◌+ℚ◌}
-use Rattle.rational.proofs.Comparison.{cmp_self}
+use Rattle.fraction128.specs.rational.specs.Rational.{ℚ, int, ◌+ℚ◌}
+use Rattle.fraction128.specs.rational.proofs.Comparison.{cmp_self}
 use Rattle.fraction128.specs.Order.{same_q}
 pub use Rattle.fraction128.specs.Order.{same_out as same_in}
 use Rattle.flow_watch.specs.run_laws.specs.Cards.{ServerStep}

@@ -3,17 +3,17 @@ use Rattle.std.specs.Prelude.{◌≡◌, ℕ, ◌*◌, pos, List, [], ◌∷◌,
 use Rattle.std.proofs.Common.{arith, inl, inr, refl, sym, subst, ap, ◌∙◌}
 use Prim.Native.Nat.{◌∣◌}
 use native.Mathlib.Nat.{dvd-mul_right, dvd_trans}
-use Rattle.rational.specs.Rational.{ℚ, int, ◌+ℚ◌, ◌-ℚ◌, ◌*ℚ◌, ◌≤ℚ◌, ◌<ℚ◌, neg_ℚ}
-use Rattle.rational.specs.Ratio.{SumFits}
-use Rattle.rational.specs.Grid.{Whole, Within}
-use Rattle.rational.specs.declared.Extended.TheVariants.{Fin, Inf}
-use Rattle.rational.specs.Extended.{Ext}
-use Rattle.rational.proofs.Laws.{le_refl, le_or_lt, le_of_lt, lt_le_trans, le_lt_trans, add_assoc, add_zero, mul_le_mul, mul_nonneg, zero_mul, mul_zero, one_mul, le_of_mul, div_mul, not_zero}
-use Rattle.rational.proofs.Integers.{nat_nonneg}
-use Rattle.rational.proofs.Grid.{whole_int, whole_add, whole_sub, whole_neg, whole_weaken, within_neg, within_nonneg}
-use Rattle.rational.proofs.Linear.{with2, with3, with_atoms}
-use Rattle.rational.proofs.MinMax.{lt_q_not}
-use Rattle.rational.proofs.Over.{lt_q_out}
+use Rattle.fraction128.specs.rational.specs.Rational.{ℚ, int, ◌+ℚ◌, ◌-ℚ◌, ◌*ℚ◌, ◌≤ℚ◌, ◌<ℚ◌, neg_ℚ}
+use Rattle.fraction128.specs.rational.specs.Ratio.{SumFits}
+use Rattle.fraction128.specs.rational.specs.Grid.{Whole, Within}
+use Rattle.fraction128.specs.rational.specs.declared.Extended.TheVariants.{Fin, Inf}
+use Rattle.fraction128.specs.rational.specs.Extended.{Ext}
+use Rattle.fraction128.specs.rational.proofs.Laws.{le_refl, le_or_lt, le_of_lt, lt_le_trans, le_lt_trans, add_assoc, add_zero, mul_le_mul, mul_nonneg, zero_mul, mul_zero, one_mul, le_of_mul, div_mul, not_zero}
+use Rattle.fraction128.specs.rational.proofs.Integers.{nat_nonneg}
+use Rattle.fraction128.specs.rational.proofs.Grid.{whole_int, whole_add, whole_sub, whole_neg, whole_weaken, within_neg, within_nonneg}
+use Rattle.fraction128.specs.rational.proofs.Linear.{with2, with3, with_atoms}
+use Rattle.fraction128.specs.rational.proofs.MinMax.{lt_q_not}
+use Rattle.fraction128.specs.rational.proofs.Over.{lt_q_out}
 use Rattle.flow_watch.specs.affine_segment.specs.declared.line.Line.{Line}
 use Rattle.flow_watch.specs.affine_segment.specs.declared.line.Piece.{Piece}
 use Rattle.flow_watch.specs.upp_limits.specs.Limits.{Sizes}

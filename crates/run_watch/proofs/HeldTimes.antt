@@ -2,10 +2,10 @@
 use Rattle.std.specs.Prelude.{◌≡◌, pos, List, [], ◌∷◌, ◌++◌}
 use Rattle.std.proofs.Common.{sym, subst, inl, inr}
 use Rattle.std.proofs.lemmas.Bool.{cases_Bool}
-use Rattle.rational.specs.Rational.{ℚ, int, ◌≤ℚ◌, ◌<ℚ◌, lt_q}
-use Rattle.rational.proofs.Laws.{le_refl, le_trans, lt_le_trans, lt_irrefl}
-use Rattle.rational.specs.Grid.{Whole}
-use Rattle.rational.proofs.Grid.{whole_add, whole_sub}
+use Rattle.fraction128.specs.rational.specs.Rational.{ℚ, int, ◌≤ℚ◌, ◌<ℚ◌, lt_q}
+use Rattle.fraction128.specs.rational.proofs.Laws.{le_refl, le_trans, lt_le_trans, lt_irrefl}
+use Rattle.fraction128.specs.rational.specs.Grid.{Whole}
+use Rattle.fraction128.specs.rational.proofs.Grid.{whole_add, whole_sub}
 use Rattle.flow_watch.specs.affine_segment.specs.declared.line.Piece.{Piece}
 use Rattle.flow_watch.specs.upp_curve.specs.Curve.{SpecCurve}
 use Rattle.flow_watch.specs.upp_limits.specs.Limits.{Sizes}

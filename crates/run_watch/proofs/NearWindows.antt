@@ -3,13 +3,13 @@ use Rattle.std.specs.Prelude.{◌≡◌, ◌↔◌, ℕ, ◌<◌, pos, Bool, IsT
 use Rattle.std.specs.List.{slice_index_or}
 use Rattle.std.proofs.Common.{arith, refl, sym, subst, ap, inl, inr, ◌∙◌}
 use Rattle.std.proofs.lemmas.Bool.{cases_Bool, and_parts}
-use Rattle.rational.specs.Rational.{ℚ, int, ◌+ℚ◌, ◌-ℚ◌, ◌≤ℚ◌, ◌<ℚ◌, lt_q, le_q}
-use Rattle.rational.specs.Grid.{Whole}
-use Rattle.rational.proofs.Laws.{le_trans, le_of_lt, lt_le_trans, le_lt_trans, lt_irrefl, le_of_not_lt, mul_le_mul}
-use Rattle.rational.proofs.Integers.{nat_nonneg}
-use Rattle.rational.proofs.Grid.{whole_add, whole_sub}
-use Rattle.rational.proofs.Over.{lt_q_in}
-use Rattle.rational.proofs.Linear.{with2, with3}
+use Rattle.fraction128.specs.rational.specs.Rational.{ℚ, int, ◌+ℚ◌, ◌-ℚ◌, ◌≤ℚ◌, ◌<ℚ◌, lt_q, le_q}
+use Rattle.fraction128.specs.rational.specs.Grid.{Whole}
+use Rattle.fraction128.specs.rational.proofs.Laws.{le_trans, le_of_lt, lt_le_trans, le_lt_trans, lt_irrefl, le_of_not_lt, mul_le_mul}
+use Rattle.fraction128.specs.rational.proofs.Integers.{nat_nonneg}
+use Rattle.fraction128.specs.rational.proofs.Grid.{whole_add, whole_sub}
+use Rattle.fraction128.specs.rational.proofs.Over.{lt_q_in}
+use Rattle.fraction128.specs.rational.proofs.Linear.{with2, with3}
 use Rattle.flow_watch.specs.affine_segment.specs.declared.line.Piece.{Piece}
 use Rattle.flow_watch.specs.affine_segment.proofs.PieceOrder.{each_map}
 use Rattle.flow_watch.specs.upp_curve.specs.Curve.{SpecCurve}

@@ -4,10 +4,10 @@ use Rattle.std.specs.List.{slice_index_or}
 use Rattle.std.specs.Option.{option_to_list}
 use Rattle.std.proofs.Common.{inl, inr, refl, sym, ap, ap₂, ◌∙◌}
 use Rattle.std.proofs.lemmas.Bool.{cases_Bool}
-use Rattle.rational.specs.Rational.{ℚ, int, ◌+ℚ◌, le_q, lt_q}
-use Rattle.rational.proofs.Laws.{le_or_lt, le_of_lt}
-use Rattle.rational.proofs.Over.{le_q_out, lt_q_out}
-use Rattle.rational.proofs.MinMax.{le_q_not, lt_q_not}
+use Rattle.fraction128.specs.rational.specs.Rational.{ℚ, int, ◌+ℚ◌, le_q, lt_q}
+use Rattle.fraction128.specs.rational.proofs.Laws.{le_or_lt, le_of_lt}
+use Rattle.fraction128.specs.rational.proofs.Over.{le_q_out, lt_q_out}
+use Rattle.fraction128.specs.rational.proofs.MinMax.{le_q_not, lt_q_not}
 use Rattle.flow_watch.specs.run_laws.specs.declared.steps.Step.{Step}
 use Rattle.flow_watch.specs.run_laws.specs.declared.steps.Step.TheVariants.{Enter, Reach, Work, Leave, Visit}
 use Rattle.flow_watch.specs.run_laws.specs.Cards.{all, ServerStep, Arrives, Works, Leaves, Visits}

@@ -1,9 +1,9 @@
 -- A short window that a stretch's own turns show is one between its watch points; so the first is among those up to its end.
 use Rattle.std.specs.Prelude.{◌≡◌, ◌⊎◌, pos, List, [], ◌∷◌, Option, Some, None}
 use Rattle.std.proofs.Common.{arith, refl, sym, subst, inl, inr}
-use Rattle.rational.specs.Rational.{ℚ, int, ◌+ℚ◌, ◌-ℚ◌, ◌≤ℚ◌, ◌<ℚ◌}
-use Rattle.rational.proofs.Laws.{le_refl, le_trans, le_or_lt, le_lt_trans}
-use Rattle.rational.proofs.Linear.{with2}
+use Rattle.fraction128.specs.rational.specs.Rational.{ℚ, int, ◌+ℚ◌, ◌-ℚ◌, ◌≤ℚ◌, ◌<ℚ◌}
+use Rattle.fraction128.specs.rational.proofs.Laws.{le_refl, le_trans, le_or_lt, le_lt_trans}
+use Rattle.fraction128.specs.rational.proofs.Linear.{with2}
 use Rattle.flow_watch.specs.affine_segment.specs.declared.line.Piece.{Piece}
 use Rattle.flow_watch.specs.affine_segment.specs.Pieces.{Each, HasStart}
 use Rattle.flow_watch.specs.upp_curve.specs.Curve.{SpecCurve}

@@ -2,8 +2,8 @@
 use Rattle.std.specs.Prelude.{◌≡◌, ◌⊎◌, ℕ, zero, suc, ◌+◌, ◌<◌, ◌≤◌, List, [], ◌∷◌, length, take, Some, None}
 use Rattle.std.specs.List.{slice_index_or}
 use Rattle.std.proofs.Common.{arith, inl, inr, refl, sym, subst, ◌∙◌, add-one}
-use Rattle.rational.specs.Rational.{ℚ, ◌+ℚ◌, ◌≤ℚ◌, ◌<ℚ◌}
-use Rattle.rational.proofs.Laws.{le_refl, lt_le_trans, lt_irrefl, le_of_not_lt}
+use Rattle.fraction128.specs.rational.specs.Rational.{ℚ, ◌+ℚ◌, ◌≤ℚ◌, ◌<ℚ◌}
+use Rattle.fraction128.specs.rational.proofs.Laws.{le_refl, lt_le_trans, lt_irrefl, le_of_not_lt}
 use Rattle.flow_watch.specs.watch_laws.specs.declared.mark.Mark.{Mark}
 use Rattle.flow_watch.specs.watch_laws.specs.declared.mark.Rule.{Rule}
 use Rattle.flow_watch.specs.watch_laws.specs.declared.point.Point.{Point}

@@ -5,10 +5,10 @@ use Rattle.std.specs.List.Sorted.{IsSorted, IsPermutation}
 use Rattle.std.specs.Ordering.{is_lt}
 use Rattle.std.proofs.Common.{arith, inl, inr, refl, sym, subst, ap, ◌∙◌, add-one}
 use Rattle.std.proofs.lemmas.List.Sorted.{Contains-permutation, IsPermutation-sym}
-use Rattle.rational.specs.Rational.{ℚ, int, ◌≤ℚ◌}
-use Rattle.rational.specs.Ratio.{cmp_q}
-use Rattle.rational.proofs.Laws.{le_refl, le_trans, le_or_lt, le_of_lt, antisym}
-use Rattle.rational.proofs.Linear.{with3}
+use Rattle.fraction128.specs.rational.specs.Rational.{ℚ, int, ◌≤ℚ◌}
+use Rattle.fraction128.specs.rational.specs.Ratio.{cmp_q}
+use Rattle.fraction128.specs.rational.proofs.Laws.{le_refl, le_trans, le_or_lt, le_of_lt, antisym}
+use Rattle.fraction128.specs.rational.proofs.Linear.{with3}
 use Rattle.flow_watch.specs.watch_laws.specs.Affine.{EachTime, Among}
 use Rattle.flow_watch.specs.watch_laws.specs.declared.point.Point.{Point}
 use Rattle.flow_watch.specs.watch_laws.specs.declared.point.Segment.{Segment}

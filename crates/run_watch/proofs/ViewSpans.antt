@@ -1,7 +1,7 @@
 -- The spans and times of a lawful view are in order, and in the run.
 use Rattle.std.specs.Prelude.{pos, List, [], ◌∷◌}
-use Rattle.rational.specs.Rational.{ℚ, int, ◌≤ℚ◌}
-use Rattle.rational.proofs.Laws.{le_refl, le_trans, le_of_lt}
+use Rattle.fraction128.specs.rational.specs.Rational.{ℚ, int, ◌≤ℚ◌}
+use Rattle.fraction128.specs.rational.proofs.Laws.{le_refl, le_trans, le_of_lt}
 use Rattle.flow_watch.specs.run_laws.specs.Cards.{ServerStep, Arrives, Works, Leaves, Visits}
 use Rattle.flow_watch.specs.run_laws.specs.Servers.{Server, ServerState, start}
 use Rattle.flow_watch.specs.run_laws.specs.Next.{next}

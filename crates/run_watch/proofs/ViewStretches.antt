@@ -2,10 +2,10 @@
 use Rattle.std.specs.Prelude.{◌≡◌, ◌⊎◌, pos, true, List, [], ◌∷◌}
 use Rattle.std.proofs.Common.{sym, subst, ap, ◌∙◌, inl, inr}
 use Rattle.std.proofs.lemmas.Bool.{cases_Bool}
-use Rattle.rational.specs.Rational.{ℚ, int, ◌≤ℚ◌, ◌<ℚ◌}
-use Rattle.rational.proofs.Laws.{le_refl, le_trans, le_or_lt, lt_le_trans, le_lt_trans, lt_irrefl, antisym}
-use Rattle.rational.proofs.Over.{le_q_out, le_q_in, lt_q_out}
-use Rattle.rational.proofs.MinMax.{lt_q_not}
+use Rattle.fraction128.specs.rational.specs.Rational.{ℚ, int, ◌≤ℚ◌, ◌<ℚ◌}
+use Rattle.fraction128.specs.rational.proofs.Laws.{le_refl, le_trans, le_or_lt, lt_le_trans, le_lt_trans, lt_irrefl, antisym}
+use Rattle.fraction128.specs.rational.proofs.Over.{le_q_out, le_q_in, lt_q_out}
+use Rattle.fraction128.specs.rational.proofs.MinMax.{lt_q_not}
 use Rattle.flow_watch.specs.run_laws.specs.Cards.{all, ServerStep}
 use Rattle.flow_watch.specs.run_laws.specs.Servers.{Server}
 use Rattle.flow_watch.specs.run_laws.specs.Counts.{arrived, worked}

@@ -1,8 +1,8 @@
 -- Windows between points as pairs of marks, the points in reach of some ends, and the first end to which a window is short. Own
 -- choice.
 use Rattle.std.specs.Prelude.{◌≡◌, ℕ, ◌<◌, ◌≤◌, List, length, take, slice_get, Some}
-use Rattle.rational.specs.Rational.{ℚ, ◌-ℚ◌, ◌*ℚ◌, ◌+ℚ◌, ◌≤ℚ◌, ◌<ℚ◌, neg_ℚ}
-use Rattle.rational.specs.Ratio.{IsSmall, SumFits}
+use Rattle.fraction128.specs.rational.specs.Rational.{ℚ, ◌-ℚ◌, ◌*ℚ◌, ◌+ℚ◌, ◌≤ℚ◌, ◌<ℚ◌, neg_ℚ}
+use Rattle.fraction128.specs.rational.specs.Ratio.{IsSmall, SumFits}
 use Rattle.flow_watch.specs.watch_laws.specs.declared.mark.Mark.{Mark}
 use Rattle.flow_watch.specs.watch_laws.specs.declared.mark.Rule.{Rule}
 use Rattle.flow_watch.specs.watch_laws.specs.declared.point.Point.{Point}

@@ -1,10 +1,10 @@
 -- The first of some breaches, by time, then by kind, then by flow or server. Own choice.
 use Rattle.std.specs.Prelude.{◌≡◌, ◌⊎◌, ◌<◌, ◌||◌, ℕ, Bool, true, List, length, Option, Some, None, if◌then◌else◌}
-use Rattle.rational.specs.Rational.{ℚ, ◌≤ℚ◌, lt_q}
+use Rattle.fraction128.specs.rational.specs.Rational.{ℚ, ◌≤ℚ◌, lt_q}
 use Rattle.flow_watch.specs.run_laws.specs.Runs.{SpecRun}
 use Rattle.flow_watch.specs.net_model.specs.declared.breach.Breach.{Breach}
 use Rattle.flow_watch.specs.net_model.specs.declared.breach.Breach.TheVariants.{Size, Arrival, Service}
-use Rattle.rational.specs.Extended.{Ext}
+use Rattle.fraction128.specs.rational.specs.Extended.{Ext}
 use Rattle.flow_watch.specs.upp_curve.specs.Curve.{SpecCurve}
 use Rattle.flow_watch.specs.run_laws.specs.Cards.{ServerStep}
 use Rattle.flow_watch.specs.watch_laws.specs.declared.entering.Entering.{Entering}

@@ -1,7 +1,7 @@
 -- Where the numbers of a server stand, by the sizes of a gauge below 2 ^ 120 whose window ends with the run: then every step
 -- of the search for its first idle window fits. The gauge of a simulation, or of the check of a recorded run, gives it. Own choice.
 use Rattle.std.specs.Prelude.{◌≡◌, ◌⊎◌, pos, List, Option, MatchOption}
-use Rattle.rational.specs.Rational.{ℚ, int, ◌≤ℚ◌, ◌<ℚ◌}
+use Rattle.fraction128.specs.rational.specs.Rational.{ℚ, int, ◌≤ℚ◌, ◌<ℚ◌}
 use Rattle.flow_watch.specs.upp_curve.specs.Curve.{SpecCurve}
 use Rattle.flow_watch.specs.upp_curve.specs.Curves.{IsCurve}
 use Rattle.flow_watch.specs.upp_limits.specs.Limits.{Sizes, curve_numbers}

@@ -1,6 +1,6 @@
 -- The first window of a stretch that is short of work. Own choice.
 use Rattle.std.specs.Prelude.{◌≡◌, ◌⊎◌, List, Option, MatchOption, pos}
-use Rattle.rational.specs.Rational.{ℚ, int, ◌≤ℚ◌, ◌<ℚ◌}
+use Rattle.fraction128.specs.rational.specs.Rational.{ℚ, int, ◌≤ℚ◌, ◌<ℚ◌}
 use Rattle.flow_watch.specs.watch_laws.specs.Affine.{Among}
 use Rattle.flow_watch.specs.watch_laws.specs.declared.point.Segment.{Segment}
 use Rattle.flow_watch.specs.watch_laws.specs.Shorts.{EachSegment}

@@ -1,7 +1,7 @@
 -- Spans one after another, and how many bits they have up to a time. Own choice.
 use Rattle.std.specs.Prelude.{◌≡◌, pos, ◌&&◌, List, [], ◌∷◌, map, if◌then◌else◌}
-use Rattle.rational.specs.Rational.{ℚ, int, ◌+ℚ◌, ◌-ℚ◌, ◌*ℚ◌, ◌/ℚ◌, ◌≤ℚ◌, ◌<ℚ◌, neg_ℚ, lt_q, le_q}
-use Rattle.rational.specs.Ratio.{IsSmall, SumFits}
+use Rattle.fraction128.specs.rational.specs.Rational.{ℚ, int, ◌+ℚ◌, ◌-ℚ◌, ◌*ℚ◌, ◌/ℚ◌, ◌≤ℚ◌, ◌<ℚ◌, neg_ℚ, lt_q, le_q}
+use Rattle.fraction128.specs.rational.specs.Ratio.{IsSmall, SumFits}
 use Rattle.flow_watch.specs.run_laws.specs.Servers as servers
 use Rattle.flow_watch.specs.run_laws.specs.Counts.{when}
 use Rattle.run_watch.specs.declared.span.Span.{Span}

@@ -1,7 +1,7 @@
 -- The search of one stretch for its first window that is short of work. Own choice.
 use Rattle.std.specs.Prelude.{◌≡◌, ◌⊎◌, ℕ, ◌<◌, List, length, Option, MatchOption}
 use Rattle.std.specs.List.{slice_index_or}
-use Rattle.rational.specs.Rational.{ℚ, ◌-ℚ◌, ◌<ℚ◌}
+use Rattle.fraction128.specs.rational.specs.Rational.{ℚ, ◌-ℚ◌, ◌<ℚ◌}
 use Rattle.flow_watch.specs.upp_curve.specs.Curve.{SpecCurve}
 use Rattle.flow_watch.specs.upp_curve.specs.Unrolled.{unroll}
 use Rattle.flow_watch.specs.watch_laws.specs.Affine.{Among}

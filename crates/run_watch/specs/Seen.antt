@@ -1,7 +1,7 @@
 -- What one server sees of a run: the packets that arrive there and the works, as spans, and the times of its leaves. Own choice.
 use Rattle.std.specs.Prelude.{◌≡◌, ℕ, ◌==◌, List, [], ◌∷◌, ◌++◌, Option, Some, None, slice_index, if◌then◌else◌}
 use Rattle.std.specs.Option.{option_to_list}
-use Rattle.rational.specs.Rational.{ℚ}
+use Rattle.fraction128.specs.rational.specs.Rational.{ℚ}
 use Rattle.flow_watch.specs.run_laws.specs.declared.steps.Step.{Step}
 use Rattle.flow_watch.specs.run_laws.specs.declared.steps.Step.TheVariants.{Enter, Reach, Work, Leave, Visit}
 use Rattle.flow_watch.specs.run_laws.specs.Cards.{whole, ServerStep, Arrives, Works, Leaves, Visits}

@@ -1,7 +1,7 @@
 -- The watch points of a stretch, the segments of a curve, and the first start of a short window to a point. Own choice.
 use Rattle.std.specs.Prelude.{◌≡◌, ◌&&◌, List, [], ◌∷◌, ◌++◌, if◌then◌else◌}
-use Rattle.rational.specs.Rational.{ℚ, ◌+ℚ◌, ◌-ℚ◌, le_q, neg_ℚ}
-use Rattle.rational.specs.Ratio.{SumFits}
+use Rattle.fraction128.specs.rational.specs.Rational.{ℚ, ◌+ℚ◌, ◌-ℚ◌, le_q, neg_ℚ}
+use Rattle.fraction128.specs.rational.specs.Ratio.{SumFits}
 use Rattle.flow_watch.specs.affine_segment.specs.declared.line.Piece.{Piece}
 use Rattle.flow_watch.specs.affine_segment.specs.Pieces.{Each}
 use Rattle.flow_watch.specs.watch_laws.specs.Affine.{EachTime, Among}

@@ -1,7 +1,7 @@
 -- The stretches and the turns of a server, found from its packets, works and leaves. Own choice.
 use Rattle.std.specs.Prelude.{◌≡◌, ℕ, pos, Bool, ◌&&◌, List, [], ◌∷◌, ◌++◌, Option, Some, None, if◌then◌else◌}
 use Rattle.std.specs.Option.{option_to_list}
-use Rattle.rational.specs.Rational.{ℚ, int, ◌≤ℚ◌, lt_q, le_q}
+use Rattle.fraction128.specs.rational.specs.Rational.{ℚ, int, ◌≤ℚ◌, lt_q, le_q}
 use Rattle.fraction128.specs.Order.{same_q}
 use Rattle.flow_watch.specs.run_laws.specs.declared.steps.Step.{Step}
 use Rattle.flow_watch.specs.watch_laws.specs.Affine.{Among}

@@ -1,7 +1,7 @@
 //! The least end of a window of a stretch that is short of work, if there is one: the look at its own turns alone.
 
 ghost use Rattle.std.specs.Prelude.{◌≡◌, ◌↔◌, IfOk, IsTrue, map};
-ghost use Rattle.rational.specs.Rational.{ℚ};
+ghost use Rattle.fraction128.specs.rational.specs.Rational.{ℚ};
 ghost use Rattle.flow_watch.specs.watch_laws.specs.Affine.{EachTime};
 ghost use Rattle.flow_watch.specs.watch_laws.specs.Segments.{segments};
 ghost use Rattle.flow_watch.specs.watch_laws.specs.Shorts.{EachPoint};

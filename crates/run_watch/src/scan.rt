@@ -1,6 +1,6 @@
 ghost use Rattle.std.specs.Prelude.{◌≡◌, ◌↔◌, ℕ, ◌<◌, ◌≤◌, List, ◌++◌, length, take, drop, Some, slice_get, IsTrue, IfOk, IfSome, MatchOption};
-ghost use Rattle.rational.specs.Rational.{ℚ, int, ◌+ℚ◌, ◌≤ℚ◌};
-ghost use Rattle.rational.specs.Ratio.{SumFits};
+ghost use Rattle.fraction128.specs.rational.specs.Rational.{ℚ, int, ◌+ℚ◌, ◌≤ℚ◌};
+ghost use Rattle.fraction128.specs.rational.specs.Ratio.{SumFits};
 ghost use Rattle.flow_watch.specs.watch_laws.specs.Marks.{Each, TimesRise, IsPast, IsOver, IsUnderSome, MostFits, FitsRule};
 ghost use Rattle.run_watch.specs.Queue.{Scans, EndsAbove, StartsNear, IsNotFar, Lowered, Passed, FrontUnder};
 

@@ -1,5 +1,5 @@
 ghost use Rattle.std.specs.Prelude.{◌≡◌, ◌≤◌, length, take, drop, map, IfOk};
-ghost use Rattle.rational.specs.Ratio.{SumFits};
+ghost use Rattle.fraction128.specs.rational.specs.Ratio.{SumFits};
 ghost use Rattle.flow_watch.specs.watch_laws.specs.Marks.{IsPast, MostFits};
 ghost use Rattle.flow_watch.specs.watch_laws.specs.Shorts.{EachPoint, PointsRise};
 ghost use Rattle.run_watch.specs.FirstEnds.{mark_of, rule_of, KeySteps, GapSteps, FitsSegments, FitsMarks, IsTooLate, HoldsStarts, IsFirstBy, IsFirstEnd};

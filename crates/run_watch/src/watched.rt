@@ -1,7 +1,7 @@
 //! The stretches through which a server has work, and its turns.
 
 ghost use Rattle.std.specs.Prelude.{◌≡◌, ◌++◌, ℕ, pos, [], length, IfOk, OnOk};
-ghost use Rattle.rational.specs.Rational.{ℚ, int, le_q};
+ghost use Rattle.fraction128.specs.rational.specs.Rational.{ℚ, int, le_q};
 ghost use Rattle.flow_watch.specs.watch_laws.specs.Affine.{EachTime};
 ghost use Rattle.run_watch.specs.Ramps.{EachRamp, RampsFit, AreRamps, TakeTime, spans_of};
 ghost use Rattle.run_watch.specs.Seen.{works_at, arrivals_at};

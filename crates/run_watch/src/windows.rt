@@ -1,7 +1,7 @@
 //! The windows of a stretch that are looked at.
 
 ghost use Rattle.std.specs.Prelude.{◌≡◌, ◌↔◌, [], ◌∷◌, ◌++◌, ◌<◌, length, drop, map, IfOk, OnOk, IsTrue};
-ghost use Rattle.rational.specs.Rational.{ℚ};
+ghost use Rattle.fraction128.specs.rational.specs.Rational.{ℚ};
 ghost use Rattle.flow_watch.specs.affine_segment.specs.declared.line.Piece.{Piece};
 ghost use Rattle.flow_watch.specs.affine_segment.specs.Pieces.{Each};
 ghost use Rattle.flow_watch.specs.watch_laws.specs.Affine.{EachTime};
@@ -24,8 +24,8 @@ use flow_watch::affine_segment::Piece;
 use flow_watch::next_start;
 use flow_watch::step_lines::is_at_most;
 use flow_watch::watch_laws::{Point, Segment};
+use fraction128::rational::Extended;
 use fraction128::{Frac, difference, is_less, sum};
-use rational::Extended;
 use std::alloc::{AllocError, Global};
 
 /// One time more, where it is in the stretch.

@@ -5,6 +5,4 @@
 mod paths;
 mod routes;
 
-pub use net_cells;
-pub use net_cells::{fraction128, net_model, run_laws};
 pub use routes::{entrance, exit, link_of, next_server, queue_of};

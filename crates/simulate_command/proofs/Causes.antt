@@ -2,12 +2,12 @@
 use Rattle.std.proofs.Common.{◌≡◌, ℕ, List, ◌++◌, inl, inr, ap}
 use Rattle.std.specs.Prelude.{◌⊎◌, codes}
 use Rattle.std.specs.Prelude.{Option, Some, None}
-use Rattle.upp_limits.specs.declared.own_limits.OverLimit.{OverLimit}
-use Rattle.upp_limits.specs.declared.own_limits.OverLimit.TheVariants.{TooMany, TooWide}
-use Rattle.net_model.specs.declared.breach.Breach.{Breach}
-use Rattle.simulated_findings.specs.command_replies.specs.Replies.{Reply, over}
-use Rattle.simulated_findings.specs.command_replies.proofs.Statuses.{status_is}
-use Rattle.simulated_findings.specs.run_findings.specs.Findings.{status_by}
+use Rattle.sim_bounds.specs.upp_limits.specs.declared.own_limits.OverLimit.{OverLimit}
+use Rattle.sim_bounds.specs.upp_limits.specs.declared.own_limits.OverLimit.TheVariants.{TooMany, TooWide}
+use Rattle.sim_bounds.specs.net_model.specs.declared.breach.Breach.{Breach}
+use Rattle.command_replies.specs.Replies.{Reply, over}
+use Rattle.command_replies.proofs.Statuses.{status_is}
+use Rattle.run_findings.specs.Findings.{status_by}
 use Rattle.simulate_command.specs.OnTraces as on
 use Rattle.simulate_command.specs.OnTraces.{IsRunReport, IsMalformed, IsOverLimit, IsSimulationOver, HasCycleBehind}
 use Rattle.simulate_command.specs.Laws.{HasCause, StatusesHaveCauses}

@@ -1,19 +1,19 @@
 -- The steps of an answer on a network and a trace.
 use Rattle.std.proofs.Common.{◌≤◌, ℕ, List, refl, subst}
-use Rattle.net_model.specs.Accepted.{IsAccepted}
-use Rattle.net_model.specs.Networks.{Net}
-use Rattle.net_model.specs.Traces.{SpecTrace}
-use Rattle.simulated_findings.specs.net_text.specs.Folds.{StepsAtMost}
-use Rattle.simulated_findings.specs.net_text.specs.Reading.{IsNetworkOf}
-use Rattle.simulated_findings.specs.net_text.specs.FoldLimits.{OverFold}
-use Rattle.simulated_findings.specs.subadd_closure.specs.FoldWork.{fold_work}
+use Rattle.sim_bounds.specs.net_model.specs.Accepted.{IsAccepted}
+use Rattle.sim_bounds.specs.net_model.specs.Networks.{Net}
+use Rattle.sim_bounds.specs.net_model.specs.Traces.{SpecTrace}
+use Rattle.net_text.specs.Folds.{StepsAtMost}
+use Rattle.net_text.specs.Reading.{IsNetworkOf}
+use Rattle.net_text.specs.FoldLimits.{OverFold}
+use Rattle.subadd_closure.specs.FoldWork.{fold_work}
 use Rattle.table_text.specs.Rows.{rows_of}
 use Rattle.table_text.specs.Traces.{IsTraceOf}
 use Rattle.table_text.proofs.OneTrace.{no_trace}
-use Rattle.simulated_findings.specs.command_replies.proofs.FirstFaults.{says}
-use Rattle.simulated_findings.specs.run_findings.specs.CellCounts.{CountsOnCells}
-use Rattle.simulated_findings.specs.run_findings.specs.Statuses.{IsOfReport}
-use Rattle.simulated_findings.specs.run_findings.proofs.Counted.{none_on_cells}
+use Rattle.command_replies.proofs.FirstFaults.{says}
+use Rattle.run_findings.specs.CellCounts.{CountsOnCells}
+use Rattle.run_findings.specs.Statuses.{IsOfReport}
+use Rattle.run_findings.proofs.Counted.{none_on_cells}
 use Rattle.simulate_command.specs.RunCounts.{CountsOnNet, CountsOn}
 
 pub none_on_net : (net : Net) (trace_bytes : List ℕ) (status count : ℕ) → ¬ IsOfReport status

@@ -3,12 +3,12 @@ use Rattle.std.proofs.Common.{List, [], ◌∷◌, sym, subst, ◌<◌, length}
 use Rattle.std.specs.Prelude.{All}
 use Rattle.std.proofs.lemmas.List.Elements.{All-nil, All-cons}
 use Rattle.std.proofs.lemmas.Option.{slice_get_within}
-use Rattle.net_model.specs.declared.trace.TracePacket.{TracePacket}
-use Rattle.net_model.specs.declared.trace.Stall.{Stall}
-use Rattle.net_model.specs.Networks.{Net}
-use Rattle.net_model.specs.Traces.{SpecTrace}
-use Rattle.simulated_findings.specs.stated_runs.specs.FromTraces.{IsLive}
-use Rattle.simulated_findings.specs.stated_runs.specs.FromTraces as stated
+use Rattle.sim_bounds.specs.net_model.specs.declared.trace.TracePacket.{TracePacket}
+use Rattle.sim_bounds.specs.net_model.specs.declared.trace.Stall.{Stall}
+use Rattle.sim_bounds.specs.net_model.specs.Networks.{Net}
+use Rattle.sim_bounds.specs.net_model.specs.Traces.{SpecTrace}
+use Rattle.sim_bounds.specs.stated_runs.specs.FromTraces.{IsLive}
+use Rattle.sim_bounds.specs.stated_runs.specs.FromTraces as stated
 use Rattle.table_text.specs.declared.trace_rows.Entry.{Entry}
 use Rattle.table_text.specs.declared.trace_rows.Entry.TheVariants.{Packet, Stop}
 use Rattle.table_text.specs.Rows.{Row}

@@ -1,27 +1,27 @@
 -- The reply on a network and a trace.
 use Rattle.std.proofs.Common.{◌≡◌, ◌≢◌, ℕ, List, map, Result, Ok, Err, IfOk, inl, inr, ap}
 use Rattle.std.specs.Prelude.{◌⊎◌}
-use Rattle.upp_limits.specs.LimitTest.{fault_of}
-use Rattle.upp_limits.specs.declared.own_limits.OverLimit.{OverLimit}
-use Rattle.net_model.specs.Accepted.{IsAccepted}
-use Rattle.net_model.specs.Networks.{Net}
-use Rattle.net_model.specs.Orders.{IsOrder}
-use Rattle.net_model.specs.Traces.{SpecTrace, IsTrace}
-use Rattle.net_model.specs.Walks.{IsCycle}
-use Rattle.simulated_findings.specs.net_cells.specs.declared.cell.Cell.{Cell}
-use Rattle.simulated_findings.specs.net_cells.specs.Equations.{MeetsEquations}
-use Rattle.simulated_findings.specs.net_cells.specs.FirstOver.{AnswersAll, FirstOver}
-use Rattle.simulated_findings.specs.net_cells.specs.Meanings.{CellTable}
-use Rattle.simulated_findings.specs.net_cells.specs.Order.{evaluation_order}
-use Rattle.simulated_findings.specs.simulated_sizes.specs.Laws.{AreCurves}
+use Rattle.sim_bounds.specs.upp_limits.specs.LimitTest.{fault_of}
+use Rattle.sim_bounds.specs.upp_limits.specs.declared.own_limits.OverLimit.{OverLimit}
+use Rattle.sim_bounds.specs.net_model.specs.Accepted.{IsAccepted}
+use Rattle.sim_bounds.specs.net_model.specs.Networks.{Net}
+use Rattle.sim_bounds.specs.net_model.specs.Orders.{IsOrder}
+use Rattle.sim_bounds.specs.net_model.specs.Traces.{SpecTrace, IsTrace}
+use Rattle.sim_bounds.specs.net_model.specs.Walks.{IsCycle}
+use Rattle.net_cells.specs.declared.cell.Cell.{Cell}
+use Rattle.net_cells.specs.Equations.{MeetsEquations}
+use Rattle.net_cells.specs.FirstOver.{AnswersAll, FirstOver}
+use Rattle.net_cells.specs.Meanings.{CellTable}
+use Rattle.net_cells.specs.Order.{evaluation_order}
+use Rattle.simulated_sizes.specs.Laws.{AreCurves}
 use Rattle.table_text.specs.declared.fault.TableFault.{TableFault}
 use Rattle.table_text.specs.declared.fault.TableKind.TheVariants.{NoMemory}
 use Rattle.table_text.specs.Traces.{IsFirstFault, out_of_memory}
-use Rattle.simulated_findings.specs.report_text.specs.CellWords.{server_name, cell_words}
-use Rattle.simulated_findings.specs.command_replies.specs.declared.answer.Answer.{Answer}
-use Rattle.simulated_findings.specs.command_replies.specs.Replies.{Reply, goes_round, cell_over, table_fault_reply}
-use Rattle.simulated_findings.specs.command_replies.specs.OnFiles.{IsNoNetwork}
-use Rattle.simulated_findings.specs.command_replies.specs.View.{reply_of}
+use Rattle.report_text.specs.CellWords.{server_name, cell_words}
+use Rattle.command_replies.specs.declared.answer.Answer.{Answer}
+use Rattle.command_replies.specs.Replies.{Reply, goes_round, cell_over, table_fault_reply}
+use Rattle.command_replies.specs.OnFiles.{IsNoNetwork}
+use Rattle.command_replies.specs.View.{reply_of}
 use Rattle.simulate_command.specs.OnTraces as on
 use Rattle.simulate_command.specs.OnTraces.{IsRunReply, IsRunReplyOnNet, IsRunReplyOnTrace, IsSimulationReply}
 

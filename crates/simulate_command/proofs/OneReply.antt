@@ -1,24 +1,24 @@
 -- Two replies on the same files are the same, but for the choice among cycles; within the limits they are reports.
 use Rattle.std.proofs.Common.{◌≡◌, ℕ, List, inl, inr, sym, ap, ◌∙◌, subst}
 use Rattle.std.specs.Prelude.{◌⊎◌}
-use Rattle.upp_limits.specs.LimitTest.{fault_of}
-use Rattle.net_model.specs.Accepted.{IsAccepted}
-use Rattle.net_model.specs.Networks.{Net}
-use Rattle.net_model.specs.Orders.{IsOrder}
-use Rattle.net_model.specs.Traces.{SpecTrace, IsTrace}
-use Rattle.net_graph.proofs.OneOrders.{one_order}
-use Rattle.net_graph.proofs.Returns.{order_or_cycle}
-use Rattle.simulated_findings.specs.stated_runs.specs.FromTraces as stated
+use Rattle.sim_bounds.specs.upp_limits.specs.LimitTest.{fault_of}
+use Rattle.sim_bounds.specs.net_model.specs.Accepted.{IsAccepted}
+use Rattle.sim_bounds.specs.net_model.specs.Networks.{Net}
+use Rattle.sim_bounds.specs.net_model.specs.Orders.{IsOrder}
+use Rattle.sim_bounds.specs.net_model.specs.Traces.{SpecTrace, IsTrace}
+use Rattle.net_cells.specs.net_graph.proofs.OneOrders.{one_order}
+use Rattle.net_cells.specs.net_graph.proofs.Returns.{order_or_cycle}
+use Rattle.sim_bounds.specs.stated_runs.specs.FromTraces as stated
 use Rattle.table_text.specs.declared.fault.TableFault.{TableFault}
 use Rattle.table_text.specs.Rows.{rows_of}
 use Rattle.table_text.proofs.OneTrace.{trace_one, no_trace, fault_one}
-use Rattle.simulated_findings.specs.command_replies.specs.Replies.{Reply, AreSame, table_fault_reply}
-use Rattle.simulated_findings.specs.command_replies.proofs.FirstFaults.{says}
-use Rattle.simulated_findings.specs.command_replies.proofs.OneRefusal.{equal, OnFault, OnCycle, IsOver}
-use Rattle.simulated_findings.specs.command_replies.proofs.OneRefusal.{one_fault, no_network, one_cycle, one_over, no_answers}
-use Rattle.simulated_findings.specs.report_text.proofs.RunAgree.{one_run_report}
-use Rattle.simulated_findings.specs.report_text.specs.RunReport.{run_report_of}
-use Rattle.simulated_findings.specs.run_findings.specs.Statuses.{IsOfReport}
+use Rattle.command_replies.specs.Replies.{Reply, AreSame, table_fault_reply}
+use Rattle.command_replies.proofs.FirstFaults.{says}
+use Rattle.command_replies.proofs.OneRefusal.{equal, OnFault, OnCycle, IsOver}
+use Rattle.command_replies.proofs.OneRefusal.{one_fault, no_network, one_cycle, one_over, no_answers}
+use Rattle.report_text.proofs.RunAgree.{one_run_report}
+use Rattle.report_text.specs.RunReport.{run_report_of}
+use Rattle.run_findings.specs.Statuses.{IsOfReport}
 use Rattle.simulated_findings.proofs.OneSimulation.{same_simulation, on_simulation}
 use Rattle.simulate_command.specs.Laws.{RepliesAreDetermined, IsWithinLimits, RepliesAreComplete}
 use Rattle.simulate_command.proofs.Named.{named}

@@ -3,13 +3,13 @@ use Rattle.std.proofs.Common.{◌≡◌, ℕ, ◌<◌, sym, subst, Some}
 use Rattle.std.specs.Prelude.{Option}
 use Rattle.std.proofs.lemmas.Option.{slice_get_within}
 use Rattle.std.proofs.lemmas.List.{length-map}
-use Rattle.run_laws.specs.Runs.{SpecRun}
-use Rattle.net_model.specs.declared.breach.Breach.{Breach}
-use Rattle.net_model.specs.declared.breach.Breach.TheVariants.{Service}
-use Rattle.net_model.specs.Networks.{Net}
-use Rattle.net_model.specs.NetRoutes.{server_for}
-use Rattle.simulated_findings.specs.first_breaches.specs.Firsts.{TellsFirst, IsNetBreach}
-use Rattle.simulated_findings.specs.first_breaches.proofs.Parts.{have_curves, kept_is_not_slow}
+use Rattle.sim_bounds.specs.run_laws.specs.Runs.{SpecRun}
+use Rattle.sim_bounds.specs.net_model.specs.declared.breach.Breach.{Breach}
+use Rattle.sim_bounds.specs.net_model.specs.declared.breach.Breach.TheVariants.{Service}
+use Rattle.sim_bounds.specs.net_model.specs.Networks.{Net}
+use Rattle.sim_bounds.specs.net_model.specs.NetRoutes.{server_for}
+use Rattle.first_breaches.specs.Firsts.{TellsFirst, IsNetBreach}
+use Rattle.first_breaches.proofs.Parts.{have_curves, kept_is_not_slow}
 use Rattle.table_text.specs.Rows.{rows_of}
 use Rattle.simulated_findings.proofs.OpenServers.{keeps}
 use Rattle.simulate_command.specs.Laws.{OpenServersBreakNothing}

@@ -2,19 +2,19 @@
 -- trace, or a trace; with that a cycle, or an order; and by that a cell over a limit, or a table.
 use Rattle.std.proofs.Common.{◌≡◌, ℕ, List, inl, inr}
 use Rattle.std.specs.Prelude.{◌⊎◌}
-use Rattle.net_model.specs.Networks.{Net}
-use Rattle.net_model.specs.Orders.{IsOrder}
-use Rattle.net_model.specs.Traces.{SpecTrace}
-use Rattle.simulated_findings.specs.net_cells.specs.Equations.{MeetsEquations}
-use Rattle.simulated_findings.specs.net_cells.specs.FirstOver.{AnswersAll}
-use Rattle.simulated_findings.specs.net_cells.specs.Meanings.{CellTable}
-use Rattle.simulated_findings.specs.net_cells.specs.Order.{evaluation_order}
-use Rattle.simulated_findings.specs.simulated_sizes.specs.Laws.{AreCurves}
+use Rattle.sim_bounds.specs.net_model.specs.Networks.{Net}
+use Rattle.sim_bounds.specs.net_model.specs.Orders.{IsOrder}
+use Rattle.sim_bounds.specs.net_model.specs.Traces.{SpecTrace}
+use Rattle.net_cells.specs.Equations.{MeetsEquations}
+use Rattle.net_cells.specs.FirstOver.{AnswersAll}
+use Rattle.net_cells.specs.Meanings.{CellTable}
+use Rattle.net_cells.specs.Order.{evaluation_order}
+use Rattle.simulated_sizes.specs.Laws.{AreCurves}
 use Rattle.table_text.specs.declared.fault.TableFault.{TableFault}
 use Rattle.table_text.specs.Traces.{IsFirstFault}
-use Rattle.simulated_findings.specs.command_replies.specs.Replies.{Reply, table_fault_reply}
-use Rattle.simulated_findings.specs.command_replies.specs.OnFiles.{IsNetOf}
-use Rattle.simulated_findings.specs.command_replies.proofs.OneRefusal.{OnFault, on_fault, OnCycle, IsOver}
+use Rattle.command_replies.specs.Replies.{Reply, table_fault_reply}
+use Rattle.command_replies.specs.OnFiles.{IsNetOf}
+use Rattle.command_replies.proofs.OneRefusal.{OnFault, on_fault, OnCycle, IsOver}
 use Rattle.simulate_command.specs.OnTraces as on
 use Rattle.simulate_command.specs.OnTraces.{GivesTrace, IsRunReply, IsSimulationReply}
 

@@ -1,12 +1,12 @@
 -- The status of a report tells whether its run keeps the premises.
 use Rattle.std.proofs.Common.{ℕ, List, length}
-use Rattle.run_laws.specs.Lawful.{IsLawful}
-use Rattle.net_model.specs.NetRoutes.{routes_of}
+use Rattle.sim_bounds.specs.run_laws.specs.Lawful.{IsLawful}
+use Rattle.sim_bounds.specs.net_model.specs.NetRoutes.{routes_of}
 use Rattle.table_text.specs.Rows.{rows_of}
-use Rattle.simulated_findings.specs.report_text.specs.RunReport.{run_report_of}
-use Rattle.simulated_findings.specs.command_replies.specs.Replies.{Reply}
+use Rattle.report_text.specs.RunReport.{run_report_of}
+use Rattle.command_replies.specs.Replies.{Reply}
 use Rattle.simulated_findings.proofs.Lawful.{lawful}
-use Rattle.simulated_findings.specs.run_findings.proofs.Reports.{tells}
+use Rattle.run_findings.proofs.Reports.{tells}
 use Rattle.simulate_command.specs.OnTraces.{IsRunReport}
 use Rattle.simulate_command.specs.Laws.{StatusTellsPremises}
 use Rattle.simulate_command.proofs.Named.{named}

@@ -1,9 +1,9 @@
 -- A report without a breach shows no number above the bound beside it, and the bounds of each report hold.
 use Rattle.std.proofs.Common.{◌≡◌, ℕ, List, length, inl}
-use Rattle.simulated_findings.specs.net_bounds.specs.NetRuns.{IsRunOf}
-use Rattle.simulated_findings.specs.net_bounds.proofs.Kept.{table_bounds_every_run}
-use Rattle.simulated_findings.specs.command_replies.specs.Replies.{Reply}
-use Rattle.simulated_findings.specs.run_findings.proofs.Bounded.{within}
+use Rattle.net_bounds.specs.NetRuns.{IsRunOf}
+use Rattle.net_bounds.proofs.Kept.{table_bounds_every_run}
+use Rattle.command_replies.specs.Replies.{Reply}
+use Rattle.run_findings.proofs.Bounded.{within}
 use Rattle.simulate_command.specs.OnTraces.{IsRunReport}
 use Rattle.simulate_command.specs.Laws.{IsQuietReport, QuietRunsAreWithinBounds, ReportsGuarantee}
 use Rattle.simulate_command.proofs.Causes.{causes}

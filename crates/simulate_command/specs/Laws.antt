@@ -1,28 +1,28 @@
 -- What holds of the replies on a network and a trace.
 use Rattle.std.specs.Prelude.{◌≡◌, ◌≢◌, ◌<◌, ◌^◌, ◌⊎◌, ℕ, List, [], Some, slice_get}
 use Rattle.rational.specs.Rational.{ℚ}
-use Rattle.upp_limits.specs.declared.op_kind.OpFault.{OpFault}
-use Rattle.upp_limits.specs.declared.own_limits.OverLimit.TheVariants.{TooMany, TooWide}
-use Rattle.net_model.specs.declared.breach.Breach.TheVariants.{Service}
-use Rattle.net_model.specs.Networks.{Net, NetServer}
-use Rattle.net_model.specs.Orders.{IsOrder}
-use Rattle.net_model.specs.Traces.{SpecTrace}
-use Rattle.net_model.specs.Walks.{IsFeedForward}
-use Rattle.simulated_findings.specs.net_text.specs.Reading.{IsNetworkOf}
-use Rattle.simulated_findings.specs.net_text.specs.FoldLimits.{OverFold}
-use Rattle.simulated_findings.specs.net_cells.specs.declared.cell.Cell.{Cell}
-use Rattle.simulated_findings.specs.net_cells.specs.FirstOver.{FirstOver}
-use Rattle.simulated_findings.specs.net_bounds.specs.NetRuns.{IsRunOf}
-use Rattle.simulated_findings.specs.sim_bounds.specs.Gauge.{simulation_gauge}
-use Rattle.simulated_findings.specs.stated_runs.specs.FromTraces.{stalls_at}
-use Rattle.simulated_findings.specs.stated_service.specs.Laws.{IsByFormula}
-use Rattle.simulated_findings.specs.first_breaches.specs.Firsts.{IsNetBreach}
+use Rattle.sim_bounds.specs.upp_limits.specs.declared.op_kind.OpFault.{OpFault}
+use Rattle.sim_bounds.specs.upp_limits.specs.declared.own_limits.OverLimit.TheVariants.{TooMany, TooWide}
+use Rattle.sim_bounds.specs.net_model.specs.declared.breach.Breach.TheVariants.{Service}
+use Rattle.sim_bounds.specs.net_model.specs.Networks.{Net, NetServer}
+use Rattle.sim_bounds.specs.net_model.specs.Orders.{IsOrder}
+use Rattle.sim_bounds.specs.net_model.specs.Traces.{SpecTrace}
+use Rattle.sim_bounds.specs.net_model.specs.Walks.{IsFeedForward}
+use Rattle.net_text.specs.Reading.{IsNetworkOf}
+use Rattle.net_text.specs.FoldLimits.{OverFold}
+use Rattle.net_cells.specs.declared.cell.Cell.{Cell}
+use Rattle.net_cells.specs.FirstOver.{FirstOver}
+use Rattle.net_bounds.specs.NetRuns.{IsRunOf}
+use Rattle.sim_bounds.specs.Gauge.{simulation_gauge}
+use Rattle.sim_bounds.specs.stated_runs.specs.FromTraces.{stalls_at}
+use Rattle.stated_service.specs.Laws.{IsByFormula}
+use Rattle.first_breaches.specs.Firsts.{IsNetBreach}
 use Rattle.table_text.specs.Rows.{rows_of}
 use Rattle.table_text.specs.Traces.{IsTraceOf}
-use Rattle.simulated_findings.specs.command_replies.specs.Guarantee.{Guarantees}
-use Rattle.simulated_findings.specs.command_replies.specs.Replies.{Reply, AreSame}
-use Rattle.simulated_findings.specs.run_findings.specs.RunBounds.{AreWithinBounds}
-use Rattle.simulated_findings.specs.run_findings.specs.Statuses.{IsOfReport, StatusTells}
+use Rattle.command_replies.specs.Guarantee.{Guarantees}
+use Rattle.command_replies.specs.Replies.{Reply, AreSame}
+use Rattle.run_findings.specs.RunBounds.{AreWithinBounds}
+use Rattle.run_findings.specs.Statuses.{IsOfReport, StatusTells}
 use Rattle.simulate_command.specs.OnTraces.{IsMalformed, IsOverLimit, HasCycleBehind, IsSimulationOver}
 use Rattle.simulate_command.specs.OnTraces.{IsRunReport, IsRunReply}
 

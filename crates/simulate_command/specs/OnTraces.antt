@@ -2,22 +2,22 @@
 -- fault; by a cycle of the network, or by the order of its servers; by the first cell over a limit, or by a table of
 -- all cells; and by the simulation.
 use Rattle.std.specs.Prelude.{ℕ, List, ◌⊎◌}
-use Rattle.upp_limits.specs.declared.own_limits.OverLimit.{OverLimit}
-use Rattle.net_model.specs.Networks.{Net}
-use Rattle.net_model.specs.Orders.{IsOrder}
-use Rattle.net_model.specs.Traces.{SpecTrace, IsTrace}
-use Rattle.simulated_findings.specs.net_text.specs.Reading.{IsNetworkOf}
-use Rattle.simulated_findings.specs.net_text.specs.FoldLimits.{OverFold}
-use Rattle.simulated_findings.specs.net_cells.specs.Meanings.{CellTable}
-use Rattle.simulated_findings.specs.net_cells.specs.Equations.{MeetsEquations}
-use Rattle.simulated_findings.specs.net_cells.specs.FirstOver.{AnswersAll}
-use Rattle.simulated_findings.specs.net_cells.specs.Order.{evaluation_order}
-use Rattle.simulated_findings.specs.simulated_sizes.specs.Laws.{AreCurves}
+use Rattle.sim_bounds.specs.upp_limits.specs.declared.own_limits.OverLimit.{OverLimit}
+use Rattle.sim_bounds.specs.net_model.specs.Networks.{Net}
+use Rattle.sim_bounds.specs.net_model.specs.Orders.{IsOrder}
+use Rattle.sim_bounds.specs.net_model.specs.Traces.{SpecTrace, IsTrace}
+use Rattle.net_text.specs.Reading.{IsNetworkOf}
+use Rattle.net_text.specs.FoldLimits.{OverFold}
+use Rattle.net_cells.specs.Meanings.{CellTable}
+use Rattle.net_cells.specs.Equations.{MeetsEquations}
+use Rattle.net_cells.specs.FirstOver.{AnswersAll}
+use Rattle.net_cells.specs.Order.{evaluation_order}
+use Rattle.simulated_sizes.specs.Laws.{AreCurves}
 use Rattle.table_text.specs.Rows.{rows_of}
 use Rattle.table_text.specs.Traces.{IsTraceOf}
-use Rattle.simulated_findings.specs.command_replies.specs.Replies.{Reply}
-use Rattle.simulated_findings.specs.command_replies.specs.OnFiles.{IsBroken, IsCurveOver, IsNetOf, IsBadTrace, HasCycle, IsCellOver}
-use Rattle.simulated_findings.specs.report_text.specs.RunReport.{run_report_of}
+use Rattle.command_replies.specs.Replies.{Reply}
+use Rattle.command_replies.specs.OnFiles.{IsBroken, IsCurveOver, IsNetOf, IsBadTrace, HasCycle, IsCellOver}
+use Rattle.report_text.specs.RunReport.{run_report_of}
 use Rattle.simulated_findings.specs.Found.{IsTooWide, IsReportBy, IsSimulationReplyBy}
 
 -- ---- traces

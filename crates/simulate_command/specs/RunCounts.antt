@@ -1,14 +1,14 @@
 -- How many steps an answer on a network and a trace takes: an operator on curves takes one, and a simulation none.
 use Rattle.std.specs.Prelude.{◌≡◌, ◌≤◌, ℕ, List}
-use Rattle.net_model.specs.Networks.{Net}
-use Rattle.simulated_findings.specs.net_draft.specs.Faults.{Fault}
-use Rattle.simulated_findings.specs.net_text.specs.Folds.{StepsAtMost}
-use Rattle.simulated_findings.specs.net_text.specs.Reading.{IsNetworkOf, FirstFault}
-use Rattle.simulated_findings.specs.net_text.specs.FoldLimits.{OverFold}
-use Rattle.simulated_findings.specs.subadd_closure.specs.FoldWork.{fold_work}
+use Rattle.sim_bounds.specs.net_model.specs.Networks.{Net}
+use Rattle.net_draft.specs.Faults.{Fault}
+use Rattle.net_text.specs.Folds.{StepsAtMost}
+use Rattle.net_text.specs.Reading.{IsNetworkOf, FirstFault}
+use Rattle.net_text.specs.FoldLimits.{OverFold}
+use Rattle.subadd_closure.specs.FoldWork.{fold_work}
 use Rattle.table_text.specs.declared.fault.TableKind.{TableKind}
 use Rattle.table_text.specs.Traces.{IsFirstFault}
-use Rattle.simulated_findings.specs.run_findings.specs.CellCounts.{CountsOnCells}
+use Rattle.run_findings.specs.CellCounts.{CountsOnCells}
 
 -- by a network and a file: those, and none by a fault of the trace
 pub record CountsOnNet (net : Net) (trace_bytes : List ℕ) (status old new : ℕ) : Type 0 where

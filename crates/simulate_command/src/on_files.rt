@@ -1,14 +1,14 @@
 //! The answer on the files of a network and of a trace.
 
 ghost use Rattle.std.specs.Prelude.{IfOk};
-ghost use Rattle.simulated_findings.specs.command_replies.specs.View.{reply_of, status_of};
+ghost use Rattle.command_replies.specs.View.{reply_of, status_of};
 ghost use Rattle.simulate_command.specs.OnTraces.{IsRunReply, IsRunReplyOnNet};
 ghost use Rattle.simulate_command.specs.RunCounts.{CountsOn, CountsOnNet};
 
 use crate::on_net::on_network;
-use net_model::Network;
-use simulated_findings::command_replies::{Answer, on_fault, on_table_fault};
-use simulated_findings::net_text::read_network;
+use command_replies::{Answer, on_fault, on_table_fault};
+use net_text::read_network;
+use sim_bounds::net_model::Network;
 use std::alloc::{AllocError, Global};
 use std::sync::ledger::Ledger;
 use steps::Steps;

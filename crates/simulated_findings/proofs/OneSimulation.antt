@@ -1,17 +1,17 @@
 -- Two replies on one simulation are the same, where a text says the same beside both tables.
 use Rattle.std.proofs.Common.{◌≡◌, ◌<◌, ◌^◌, inl, inr, length, sym, subst, ◌∙◌}
 use native.Mathlib.Nat.{not-le_of_lt}
-use Rattle.run_findings.specs.net_model.specs.Accepted.{IsAccepted}
-use Rattle.run_findings.specs.net_model.specs.Networks.{Net}
-use Rattle.run_findings.specs.net_model.specs.Traces.{SpecTrace, IsTrace}
-use Rattle.run_findings.specs.net_cells.specs.Meanings.{CellTable}
-use Rattle.run_findings.specs.stated_runs.specs.FromTraces.{setup_of, IsTraceOf}
-use Rattle.run_findings.specs.stated_runs.proofs.MadeSetups as made
-use Rattle.run_findings.specs.stated_runs.proofs.Unique.{run_once}
-use Rattle.run_findings.specs.sim_bounds.specs.Gauge.{simulation_gauge}
-use Rattle.run_findings.specs.simulated_sizes.specs.Laws.{AreCurves}
-use Rattle.run_findings.specs.report_text.specs.RunReport.{Found}
-use Rattle.run_findings.specs.command_replies.specs.Replies.{Reply}
+use Rattle.sim_bounds.specs.net_model.specs.Accepted.{IsAccepted}
+use Rattle.sim_bounds.specs.net_model.specs.Networks.{Net}
+use Rattle.sim_bounds.specs.net_model.specs.Traces.{SpecTrace, IsTrace}
+use Rattle.net_cells.specs.Meanings.{CellTable}
+use Rattle.sim_bounds.specs.stated_runs.specs.FromTraces.{setup_of, IsTraceOf}
+use Rattle.sim_bounds.specs.stated_runs.proofs.MadeSetups as made
+use Rattle.sim_bounds.specs.stated_runs.proofs.Unique.{run_once}
+use Rattle.sim_bounds.specs.Gauge.{simulation_gauge}
+use Rattle.simulated_sizes.specs.Laws.{AreCurves}
+use Rattle.report_text.specs.RunReport.{Found}
+use Rattle.command_replies.specs.Replies.{Reply}
 use Rattle.run_findings.specs.Findings.{FoundText, TellsFindings}
 use Rattle.run_findings.specs.Statuses.{IsOfReport}
 use Rattle.run_findings.proofs.Reports.{same_telling, is_report}

@@ -5,25 +5,25 @@ use Rattle.std.specs.Option.{option_map}
 use Rattle.std.proofs.lemmas.Bool.{ne_eqb}
 use Rattle.std.proofs.lemmas.Option.{slice_get_cases, slice_get-map}
 use Rattle.std.proofs.lemmas.List.{length-map}
-use Rattle.upp_curve.specs.Curve.{SpecCurve, value_at}
-use Rattle.run_laws.specs.Runs.{SpecRun}
-use Rattle.run_laws.specs.Views.{view}
-use Rattle.run_laws.specs.Premises.{KeepsService}
-use Rattle.run_findings.specs.net_model.specs.Accepted.{IsAccepted}
-use Rattle.run_findings.specs.net_model.specs.declared.server.Server.{Server}
-use Rattle.run_findings.specs.net_model.specs.declared.server.ServiceKind.{ServiceKind}
-use Rattle.run_findings.specs.net_model.specs.declared.server.ServiceKind.TheVariants.{Latency, Gate, Listed}
-use Rattle.run_findings.specs.net_model.specs.declared.trace.Stall.{Stall}
-use Rattle.run_findings.specs.net_model.specs.Networks.{Net, NetServer}
-use Rattle.run_findings.specs.net_model.specs.NetRoutes.{routes_of}
-use Rattle.run_findings.specs.net_model.specs.Traces.{SpecTrace, IsTrace}
-use Rattle.run_findings.specs.net_model.specs.Views.{server_of, servers_of}
-use Rattle.run_findings.specs.net_cells.specs.Numbered.{service_of}
-use Rattle.run_findings.specs.stated_runs.specs.FromTraces.{setup_of, stalls_at, IsTraceOf}
-use Rattle.run_findings.specs.stated_runs.specs.Simulated.{IsSimulated}
+use Rattle.net_cells.specs.upp_curve.specs.Curve.{SpecCurve, value_at}
+use Rattle.sim_bounds.specs.run_laws.specs.Runs.{SpecRun}
+use Rattle.sim_bounds.specs.run_laws.specs.Views.{view}
+use Rattle.sim_bounds.specs.run_laws.specs.Premises.{KeepsService}
+use Rattle.sim_bounds.specs.net_model.specs.Accepted.{IsAccepted}
+use Rattle.sim_bounds.specs.net_model.specs.declared.server.Server.{Server}
+use Rattle.sim_bounds.specs.net_model.specs.declared.server.ServiceKind.{ServiceKind}
+use Rattle.sim_bounds.specs.net_model.specs.declared.server.ServiceKind.TheVariants.{Latency, Gate, Listed}
+use Rattle.sim_bounds.specs.net_model.specs.declared.trace.Stall.{Stall}
+use Rattle.sim_bounds.specs.net_model.specs.Networks.{Net, NetServer}
+use Rattle.sim_bounds.specs.net_model.specs.NetRoutes.{routes_of}
+use Rattle.sim_bounds.specs.net_model.specs.Traces.{SpecTrace, IsTrace}
+use Rattle.sim_bounds.specs.net_model.specs.Views.{server_of, servers_of}
+use Rattle.net_cells.specs.Numbered.{service_of}
+use Rattle.sim_bounds.specs.stated_runs.specs.FromTraces.{setup_of, stalls_at, IsTraceOf}
+use Rattle.sim_bounds.specs.stated_runs.specs.Simulated.{IsSimulated}
 use Rattle.stated_service.specs.Laws.{IsByFormula}
 use Rattle.stated_service.proofs.Kept.{servers_keep}
-use Rattle.run_findings.specs.first_breaches.specs.Kept.{KeepsCurve, AreKept}
+use Rattle.first_breaches.specs.Kept.{KeepsCurve, AreKept}
 use Rattle.simulated_findings.specs.Told.{is_by_formula, by_formula, less_stalled, open_servers}
 
 -- ---- what is told

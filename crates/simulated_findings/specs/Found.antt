@@ -1,18 +1,18 @@
 -- What is found when a trace of a network is simulated, and the replies that tell it.
 use Rattle.std.specs.Prelude.{◌≡◌, ◌≤◌, ◌<◌, ◌^◌, ◌⊎◌, length}
-use Rattle.run_laws.specs.Runs.{SpecRun}
-use Rattle.run_findings.specs.net_model.specs.Networks.{Net}
-use Rattle.run_findings.specs.net_model.specs.NetRoutes.{routes_of}
-use Rattle.run_findings.specs.net_model.specs.Traces.{SpecTrace}
-use Rattle.run_findings.specs.stated_runs.specs.FromTraces.{setup_of}
-use Rattle.run_findings.specs.stated_runs.specs.Simulated.{IsSimulated}
-use Rattle.run_findings.specs.sim_bounds.specs.Gauge.{simulation_gauge}
-use Rattle.run_findings.specs.run_measures.specs.Peaks.{rows_of, ArePeaks}
-use Rattle.run_findings.specs.run_measures.specs.Worst.{AreWorst}
-use Rattle.net_simulator.specs.packet_sim.specs.declared.measured.SimRun.{SimRun}
-use Rattle.run_findings.specs.net_cells.specs.Meanings.{CellTable}
-use Rattle.run_findings.specs.report_text.specs.RunReport.{Found}
-use Rattle.run_findings.specs.command_replies.specs.Replies.{Reply, too_wide_simulation}
+use Rattle.sim_bounds.specs.run_laws.specs.Runs.{SpecRun}
+use Rattle.sim_bounds.specs.net_model.specs.Networks.{Net}
+use Rattle.sim_bounds.specs.net_model.specs.NetRoutes.{routes_of}
+use Rattle.sim_bounds.specs.net_model.specs.Traces.{SpecTrace}
+use Rattle.sim_bounds.specs.stated_runs.specs.FromTraces.{setup_of}
+use Rattle.sim_bounds.specs.stated_runs.specs.Simulated.{IsSimulated}
+use Rattle.sim_bounds.specs.Gauge.{simulation_gauge}
+use Rattle.run_measures.specs.Peaks.{rows_of, ArePeaks}
+use Rattle.run_measures.specs.Worst.{AreWorst}
+use Rattle.packet_sim.specs.declared.measured.SimRun.{SimRun}
+use Rattle.net_cells.specs.Meanings.{CellTable}
+use Rattle.report_text.specs.RunReport.{Found}
+use Rattle.command_replies.specs.Replies.{Reply, too_wide_simulation}
 use Rattle.run_findings.specs.Findings.{AreFindings, FoundText, TellsFindings}
 
 -- ---- a run

@@ -1,11 +1,11 @@
 -- What is told of servers before their runs are looked at: those of kind latency or gate that have no stall keep their
 -- service curves. Own choice.
 use Rattle.std.specs.Prelude.{Bool, true, false, List, [], ◌∷◌, map, slice_set}
-use Rattle.run_findings.specs.net_model.specs.declared.server.ServiceKind.{ServiceKind}
-use Rattle.run_findings.specs.net_model.specs.declared.server.ServiceKind.TheVariants.{Latency, Gate, Listed}
-use Rattle.run_findings.specs.net_model.specs.declared.trace.Stall.{Stall}
-use Rattle.run_findings.specs.net_model.specs.Networks.{Net, NetServer}
-use Rattle.run_findings.specs.net_model.specs.Traces.{SpecTrace}
+use Rattle.sim_bounds.specs.net_model.specs.declared.server.ServiceKind.{ServiceKind}
+use Rattle.sim_bounds.specs.net_model.specs.declared.server.ServiceKind.TheVariants.{Latency, Gate, Listed}
+use Rattle.sim_bounds.specs.net_model.specs.declared.trace.Stall.{Stall}
+use Rattle.sim_bounds.specs.net_model.specs.Networks.{Net, NetServer}
+use Rattle.sim_bounds.specs.net_model.specs.Traces.{SpecTrace}
 
 -- not listed by its pieces
 abbrev pub is_by_formula : ServiceKind → Bool

@@ -1,20 +1,20 @@
 //! What is found in a simulated run.
 
 ghost use Rattle.std.specs.Prelude.{◌≤◌, ◌<◌, ◌^◌, IfOk, IsErrOf, length};
-ghost use Rattle.run_findings.specs.net_model.specs.Walks.{IsFeedForward};
-ghost use Rattle.run_findings.specs.stated_runs.specs.FromTraces.{IsTraceOf};
-ghost use Rattle.run_findings.specs.sim_bounds.specs.Gauge.{simulation_gauge};
-ghost use Rattle.run_findings.specs.simulated_sizes.specs.Laws.{AreCurves};
-ghost use Rattle.run_findings.specs.report_text.specs.RunReport.{found_of};
+ghost use Rattle.sim_bounds.specs.net_model.specs.Walks.{IsFeedForward};
+ghost use Rattle.sim_bounds.specs.stated_runs.specs.FromTraces.{IsTraceOf};
+ghost use Rattle.sim_bounds.specs.Gauge.{simulation_gauge};
+ghost use Rattle.simulated_sizes.specs.Laws.{AreCurves};
+ghost use Rattle.report_text.specs.RunReport.{found_of};
 ghost use Rattle.run_findings.specs.Findings.{AreFindings};
 ghost use Rattle.simulated_findings.specs.Found.{IsMeasured, IsFound};
 
 use crate::told::open_servers;
-use net_simulator::packet_sim::SimRun;
+use first_breaches::first_breach;
 use net_simulator::{SimFault, simulate};
-use run_findings::first_breaches::first_breach;
-use run_findings::net_model::{Network, Trace};
-use run_findings::report_text::RunFound;
+use packet_sim::SimRun;
+use report_text::RunFound;
+use sim_bounds::net_model::{Network, Trace};
 use std::alloc::{AllocError, Global};
 
 // What is found in the stated run of a network and a trace.

@@ -6,6 +6,3 @@ mod finding;
 mod told;
 
 pub use finding::find;
-pub use net_simulator;
-pub use run_findings;
-pub use run_findings::{cell_table, command_replies, net_text, report_text};

@@ -1,11 +1,11 @@
 //! Which servers are known to keep their service curves before their runs are looked at.
 
 ghost use Rattle.std.specs.Prelude.{◌≡◌, ◌<◌, length, map, All, IfOk};
-ghost use Rattle.run_findings.specs.net_model.specs.declared.server.Server.{Server};
-ghost use Rattle.run_findings.specs.stated_runs.specs.FromTraces.{IsTraceOf};
+ghost use Rattle.sim_bounds.specs.net_model.specs.declared.server.Server.{Server};
+ghost use Rattle.sim_bounds.specs.stated_runs.specs.FromTraces.{IsTraceOf};
 ghost use Rattle.simulated_findings.specs.Told as spec;
 
-use run_findings::net_model::{Network, Server, ServiceKind, Stall, Trace};
+use sim_bounds::net_model::{Network, Server, ServiceKind, Stall, Trace};
 use std::alloc::{AllocError, Global};
 
 // Whether a service curve is not listed by its pieces.

@@ -3,16 +3,16 @@ use Rattle.std.specs.Prelude.{◌≡◌, ℕ, ◌+◌, ◌<◌, ◌≤◌, ◌==
 use Rattle.std.proofs.Common.{arith, refl, sym, subst, ap, ◌∙◌, inl, inr}
 use Rattle.std.proofs.lemmas.Bool.{cases_Bool, eqb-true, eqb-false}
 use Rattle.std.proofs.lemmas.List.{length-map, length-set, get_or-map, length_push}
-use Rattle.rational.specs.Rational.{ℚ}
-use Rattle.first_breaches.specs.run_laws.specs.declared.steps.Step.{Step}
-use Rattle.first_breaches.specs.run_laws.specs.declared.steps.Step.TheVariants.{Enter, Reach, Work, Leave, Visit}
-use Rattle.first_breaches.specs.run_laws.specs.Runs.{SpecRun}
-use Rattle.first_breaches.specs.run_laws.specs.Servers.{Fifo, Server, ServerState, start}
-use Rattle.first_breaches.specs.run_laws.specs.Next.{next, after}
-use Rattle.first_breaches.specs.run_laws.specs.Routes.{Routes, server_at}
-use Rattle.first_breaches.specs.run_laws.specs.Views.{entered_after, server_of, seen, view_from, view}
-use Rattle.first_breaches.specs.run_laws.specs.Lawful.{RunState, state_at, next_run, after_run, run_start, AllAllowedInRun, IsLawful}
-use Rattle.first_breaches.specs.watch_laws.specs.Entries.{entries}
+use Rattle.min_plus.specs.rational.specs.Rational.{ℚ}
+use Rattle.watch_laws.specs.run_laws.specs.declared.steps.Step.{Step}
+use Rattle.watch_laws.specs.run_laws.specs.declared.steps.Step.TheVariants.{Enter, Reach, Work, Leave, Visit}
+use Rattle.watch_laws.specs.run_laws.specs.Runs.{SpecRun}
+use Rattle.watch_laws.specs.run_laws.specs.Servers.{Fifo, Server, ServerState, start}
+use Rattle.watch_laws.specs.run_laws.specs.Next.{next, after}
+use Rattle.watch_laws.specs.run_laws.specs.Routes.{Routes, server_at}
+use Rattle.watch_laws.specs.run_laws.specs.Views.{entered_after, server_of, seen, view_from, view}
+use Rattle.watch_laws.specs.run_laws.specs.Lawful.{RunState, state_at, next_run, after_run, run_start, AllAllowedInRun, IsLawful}
+use Rattle.watch_laws.specs.Entries.{entries}
 use Rattle.window_numbers.specs.stated_runs.proofs.Good.{own_state, other_state}
 
 -- ---- the state of a server after a run is the one after what it sees

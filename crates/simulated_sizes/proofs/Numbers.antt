@@ -3,19 +3,19 @@ use Rattle.std.specs.Prelude.{◌≡◌, ℕ, zero, suc, ◌<◌, ◌≤◌, pos
 use Rattle.std.specs.List.{AllByRecursion, flat_map}
 use Rattle.std.proofs.Common.{arith, refl, sym, subst, ap, inl, inr}
 use Rattle.std.proofs.Math.Nat.{le-max_left}
-use Rattle.rational.specs.Rational.{ℚ, int, ◌*ℚ◌, ◌≤ℚ◌}
-use Rattle.rational.specs.Grid.{Whole, Within}
-use Rattle.rational.specs.Gauge.{common_den, bound_of}
+use Rattle.min_plus.specs.rational.specs.Rational.{ℚ, int, ◌*ℚ◌, ◌≤ℚ◌}
+use Rattle.min_plus.specs.rational.specs.Grid.{Whole, Within}
+use Rattle.min_plus.specs.rational.specs.Gauge.{common_den, bound_of}
 use Rattle.min_plus.specs.WholeUp.{whole_up}
-use Rattle.first_breaches.specs.upp_curve.specs.Curve.{SpecCurve}
-use Rattle.first_breaches.specs.upp_curve.specs.Curves.{IsCurve}
-use Rattle.window_numbers.specs.upp_limits.specs.Limits.{Numbers, Sizes, curve_numbers, twice}
-use Rattle.window_numbers.specs.upp_limits.specs.Sized.{IsValue, IsSlope, Stands}
-use Rattle.window_numbers.specs.upp_limits.proofs.CommonDen.{common_den_each, bound_each}
-use Rattle.window_numbers.specs.upp_limits.proofs.Stands.{stands_right}
-use Rattle.window_numbers.specs.net_model.specs.Networks.{Net, NetServer, NetFlow}
-use Rattle.window_numbers.specs.net_model.specs.Traces.{SpecTrace}
-use Rattle.first_breaches.specs.net_cells.specs.Numbered.{is_live, arrival, arrival_of, service, service_of}
+use Rattle.watch_laws.specs.upp_curve.specs.Curve.{SpecCurve}
+use Rattle.watch_laws.specs.upp_curve.specs.Curves.{IsCurve}
+use Rattle.watch_laws.specs.upp_limits.specs.Limits.{Numbers, Sizes, curve_numbers, twice}
+use Rattle.watch_laws.specs.upp_limits.specs.Sized.{IsValue, IsSlope, Stands}
+use Rattle.watch_laws.specs.upp_limits.proofs.CommonDen.{common_den_each, bound_each}
+use Rattle.watch_laws.specs.upp_limits.proofs.Stands.{stands_right}
+use Rattle.watch_laws.specs.net_model.specs.Networks.{Net, NetServer, NetFlow}
+use Rattle.watch_laws.specs.net_model.specs.Traces.{SpecTrace}
+use Rattle.net_cells.specs.Numbered.{is_live, arrival, arrival_of, service, service_of}
 use Rattle.window_numbers.specs.stated_runs.specs.FromTraces.{setup_of}
 use Rattle.window_numbers.specs.stated_runs.proofs.Lists.{In}
 use Rattle.window_numbers.specs.sim_bounds.specs.Horizons.{horizon}

@@ -2,21 +2,21 @@
 use Rattle.std.specs.Prelude.{◌≡◌, ◌<◌, ◌^◌, pos, [], length}
 use Rattle.std.proofs.Common.{arith, sym, subst}
 use Rattle.std.proofs.lemmas.List.{length-map}
-use Rattle.rational.specs.Rational.{ℚ, int}
-use Rattle.rational.proofs.Laws.{le_trans, mul_le_mul}
-use Rattle.rational.proofs.Integers.{nat_nonneg}
-use Rattle.rational.proofs.Grid.{whole_int}
-use Rattle.rational.proofs.Laws.{le_refl}
-use Rattle.first_breaches.specs.upp_normal.specs.Operand.{AreLimited}
-use Rattle.first_breaches.specs.run_laws.specs.Lawful.{run_start, IsLawful}
-use Rattle.first_breaches.specs.run_laws.specs.Routes.{server_at}
-use Rattle.first_breaches.specs.run_laws.specs.Servers.{start}
-use Rattle.first_breaches.specs.run_laws.specs.Views.{view}
-use Rattle.first_breaches.specs.run_laws.proofs.Views.{views_are_lawful}
-use Rattle.window_numbers.specs.net_model.specs.Networks.{Net}
-use Rattle.window_numbers.specs.net_model.specs.NetRoutes.{routes_of, server_for}
-use Rattle.window_numbers.specs.net_model.specs.Accepted.{IsAccepted}
-use Rattle.window_numbers.specs.net_model.specs.Traces.{SpecTrace}
+use Rattle.min_plus.specs.rational.specs.Rational.{ℚ, int}
+use Rattle.min_plus.specs.rational.proofs.Laws.{le_trans, mul_le_mul}
+use Rattle.min_plus.specs.rational.proofs.Integers.{nat_nonneg}
+use Rattle.min_plus.specs.rational.proofs.Grid.{whole_int}
+use Rattle.min_plus.specs.rational.proofs.Laws.{le_refl}
+use Rattle.watch_laws.specs.upp_normal.specs.Operand.{AreLimited}
+use Rattle.watch_laws.specs.run_laws.specs.Lawful.{run_start, IsLawful}
+use Rattle.watch_laws.specs.run_laws.specs.Routes.{server_at}
+use Rattle.watch_laws.specs.run_laws.specs.Servers.{start}
+use Rattle.watch_laws.specs.run_laws.specs.Views.{view}
+use Rattle.watch_laws.specs.run_laws.proofs.Views.{views_are_lawful}
+use Rattle.watch_laws.specs.net_model.specs.Networks.{Net}
+use Rattle.watch_laws.specs.net_model.specs.NetRoutes.{routes_of, server_for}
+use Rattle.watch_laws.specs.net_model.specs.Accepted.{IsAccepted}
+use Rattle.watch_laws.specs.net_model.specs.Traces.{SpecTrace}
 use Rattle.window_numbers.specs.stated_runs.specs.FromTraces.{setup_of, entering}
 use Rattle.window_numbers.specs.stated_runs.specs.TimeGrids as grids
 use Rattle.window_numbers.specs.stated_runs.proofs.MadeSetups.{traces_make_setups}

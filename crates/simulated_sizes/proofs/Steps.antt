@@ -3,18 +3,18 @@ use Rattle.std.specs.Prelude.{◌≡◌, ◌⊎◌, ℕ, pos, List, [], ◌∷�
 use Rattle.std.specs.List.{AllByRecursion}
 use Rattle.std.proofs.Common.{arith, sym, subst, ◌∙◌, inl, inr}
 use Rattle.std.proofs.lemmas.List.{length-map}
-use Rattle.rational.specs.Rational.{ℚ, int, ◌-ℚ◌, ◌*ℚ◌, ◌/ℚ◌, ◌<ℚ◌}
-use Rattle.rational.proofs.Laws.{not_zero}
-use Rattle.rational.proofs.Quotients.{div_unique}
-use Rattle.rational.proofs.Linear.{with2}
-use Rattle.window_numbers.specs.upp_limits.specs.Sized.{IsSlope}
-use Rattle.first_breaches.specs.run_laws.specs.declared.steps.Step.{Step}
-use Rattle.first_breaches.specs.run_laws.specs.declared.steps.Step.TheVariants.{Enter, Reach, Work, Leave, Visit}
-use Rattle.first_breaches.specs.run_laws.specs.Lawful.{RunState, state_at, next_run, after_run, run_start, AllowsInRun, AllAllowedInRun}
-use Rattle.first_breaches.specs.run_laws.proofs.Views.{after_more}
-use Rattle.window_numbers.specs.net_model.specs.Networks.{Net, NetServer}
-use Rattle.window_numbers.specs.net_model.specs.NetRoutes.{server_for}
-use Rattle.window_numbers.specs.net_model.specs.Traces.{SpecTrace}
+use Rattle.min_plus.specs.rational.specs.Rational.{ℚ, int, ◌-ℚ◌, ◌*ℚ◌, ◌/ℚ◌, ◌<ℚ◌}
+use Rattle.min_plus.specs.rational.proofs.Laws.{not_zero}
+use Rattle.min_plus.specs.rational.proofs.Quotients.{div_unique}
+use Rattle.min_plus.specs.rational.proofs.Linear.{with2}
+use Rattle.watch_laws.specs.upp_limits.specs.Sized.{IsSlope}
+use Rattle.watch_laws.specs.run_laws.specs.declared.steps.Step.{Step}
+use Rattle.watch_laws.specs.run_laws.specs.declared.steps.Step.TheVariants.{Enter, Reach, Work, Leave, Visit}
+use Rattle.watch_laws.specs.run_laws.specs.Lawful.{RunState, state_at, next_run, after_run, run_start, AllowsInRun, AllAllowedInRun}
+use Rattle.watch_laws.specs.run_laws.proofs.Views.{after_more}
+use Rattle.watch_laws.specs.net_model.specs.Networks.{Net, NetServer}
+use Rattle.watch_laws.specs.net_model.specs.NetRoutes.{server_for}
+use Rattle.watch_laws.specs.net_model.specs.Traces.{SpecTrace}
 use Rattle.window_numbers.specs.stated_runs.specs.Setups.{Setup, rate_of}
 use Rattle.window_numbers.specs.stated_runs.specs.FromTraces.{setup_of}
 use Rattle.window_numbers.specs.stated_runs.specs.TimeGrids as grids

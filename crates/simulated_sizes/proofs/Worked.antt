@@ -3,29 +3,29 @@ use Rattle.std.specs.Prelude.{◌≡◌, ◌≤◌, pos, true, List, [], ◌∷�
 use Rattle.std.specs.List.{AllByRecursion}
 use Rattle.std.proofs.Common.{arith, refl, sym, subst, ap, ◌∙◌}
 use Rattle.std.proofs.lemmas.List.{append-nil}
-use Rattle.rational.specs.Rational.{ℚ, int, ◌+ℚ◌, ◌-ℚ◌, ◌*ℚ◌, ◌/ℚ◌, ◌≤ℚ◌, ◌<ℚ◌}
-use Rattle.rational.proofs.Laws.{le_of_lt, mul_le_mul, mul_le_mul_right, mul_sub, mul_zero, div_mul, not_zero}
-use Rattle.rational.proofs.Integers.{nat_nonneg, nat_le_out}
-use Rattle.rational.proofs.Linear.{with2, with_atoms}
-use Rattle.rational.proofs.Over.{le_q_out}
-use Rattle.window_numbers.specs.upp_limits.specs.Limits.{Sizes}
-use Rattle.window_numbers.specs.upp_limits.specs.Sized.{IsSlope}
-use Rattle.first_breaches.specs.upp_normal.specs.Operand.{AreLimited}
-use Rattle.first_breaches.specs.run_laws.specs.Cards.{Card, time_of, all, whole, size, ServerStep, Arrives, Works, Leaves, Visits}
-use Rattle.first_breaches.specs.run_laws.specs.Counts.{when, upto, arrived_upto, departed_upto, worked}
-use Rattle.first_breaches.specs.run_laws.specs.Servers.{Server, ServerState, start}
-use Rattle.first_breaches.specs.run_laws.specs.Next.{next, after}
-use Rattle.first_breaches.specs.run_laws.specs.Allows.{AllAllowed, IsLawfulView}
-use Rattle.first_breaches.specs.run_laws.proofs.Sizes.{whole_sum}
-use Rattle.first_breaches.specs.run_laws.proofs.Sums.{Each}
-use Rattle.first_breaches.specs.run_laws.proofs.Heads.{sum_of}
-use Rattle.first_breaches.specs.run_laws.proofs.Orders.{at_upto, left_upto_worked}
-use Rattle.first_breaches.specs.run_laws.proofs.Cuts.{IsAfter, time_in_order}
-use Rattle.first_breaches.specs.run_watch.specs.declared.span.Span.{Span}
-use Rattle.first_breaches.specs.run_watch.specs.Ramps.{InOrder}
-use Rattle.first_breaches.specs.run_watch.specs.Seen.{work_spans}
-use Rattle.first_breaches.specs.run_watch.proofs.SeenLists.{worked_is}
-use Rattle.first_breaches.specs.run_watch.proofs.ViewSpans.{works_in_order}
+use Rattle.min_plus.specs.rational.specs.Rational.{ℚ, int, ◌+ℚ◌, ◌-ℚ◌, ◌*ℚ◌, ◌/ℚ◌, ◌≤ℚ◌, ◌<ℚ◌}
+use Rattle.min_plus.specs.rational.proofs.Laws.{le_of_lt, mul_le_mul, mul_le_mul_right, mul_sub, mul_zero, div_mul, not_zero}
+use Rattle.min_plus.specs.rational.proofs.Integers.{nat_nonneg, nat_le_out}
+use Rattle.min_plus.specs.rational.proofs.Linear.{with2, with_atoms}
+use Rattle.min_plus.specs.rational.proofs.Over.{le_q_out}
+use Rattle.watch_laws.specs.upp_limits.specs.Limits.{Sizes}
+use Rattle.watch_laws.specs.upp_limits.specs.Sized.{IsSlope}
+use Rattle.watch_laws.specs.upp_normal.specs.Operand.{AreLimited}
+use Rattle.watch_laws.specs.run_laws.specs.Cards.{Card, time_of, all, whole, size, ServerStep, Arrives, Works, Leaves, Visits}
+use Rattle.watch_laws.specs.run_laws.specs.Counts.{when, upto, arrived_upto, departed_upto, worked}
+use Rattle.watch_laws.specs.run_laws.specs.Servers.{Server, ServerState, start}
+use Rattle.watch_laws.specs.run_laws.specs.Next.{next, after}
+use Rattle.watch_laws.specs.run_laws.specs.Allows.{AllAllowed, IsLawfulView}
+use Rattle.watch_laws.specs.run_laws.proofs.Sizes.{whole_sum}
+use Rattle.watch_laws.specs.run_laws.proofs.Sums.{Each}
+use Rattle.watch_laws.specs.run_laws.proofs.Heads.{sum_of}
+use Rattle.watch_laws.specs.run_laws.proofs.Orders.{at_upto, left_upto_worked}
+use Rattle.watch_laws.specs.run_laws.proofs.Cuts.{IsAfter, time_in_order}
+use Rattle.run_watch.specs.declared.span.Span.{Span}
+use Rattle.run_watch.specs.Ramps.{InOrder}
+use Rattle.run_watch.specs.Seen.{work_spans}
+use Rattle.run_watch.proofs.SeenLists.{worked_is}
+use Rattle.run_watch.proofs.ViewSpans.{works_in_order}
 use Rattle.first_breaches.specs.Sizes.{bits_in}
 use Rattle.first_breaches.proofs.Views.{SpanStands, sum_bits, sum_is}
 

@@ -1,14 +1,14 @@
 -- The numbers of a simulated run whose gauge is below 2 ^ 120. Own choice.
 use Rattle.std.specs.Prelude.{ℕ, ◌<◌, ◌^◌, IsTrue, length}
-use Rattle.first_breaches.specs.upp_curve.specs.Curves.{IsCurve}
-use Rattle.first_breaches.specs.run_laws.specs.Runs.{SpecRun}
-use Rattle.first_breaches.specs.run_laws.specs.Lawful.{IsLawful}
-use Rattle.window_numbers.specs.net_model.specs.Networks.{Net}
-use Rattle.window_numbers.specs.net_model.specs.NetRoutes.{routes_of}
-use Rattle.window_numbers.specs.net_model.specs.Accepted.{IsAccepted}
-use Rattle.window_numbers.specs.net_model.specs.Traces.{SpecTrace, IsTrace}
-use Rattle.window_numbers.specs.net_model.specs.Walks.{IsFeedForward}
-use Rattle.first_breaches.specs.net_cells.specs.Numbered.{is_live, arrival, service}
+use Rattle.watch_laws.specs.upp_curve.specs.Curves.{IsCurve}
+use Rattle.watch_laws.specs.run_laws.specs.Runs.{SpecRun}
+use Rattle.watch_laws.specs.run_laws.specs.Lawful.{IsLawful}
+use Rattle.watch_laws.specs.net_model.specs.Networks.{Net}
+use Rattle.watch_laws.specs.net_model.specs.NetRoutes.{routes_of}
+use Rattle.watch_laws.specs.net_model.specs.Accepted.{IsAccepted}
+use Rattle.watch_laws.specs.net_model.specs.Traces.{SpecTrace, IsTrace}
+use Rattle.watch_laws.specs.net_model.specs.Walks.{IsFeedForward}
+use Rattle.net_cells.specs.Numbered.{is_live, arrival, service}
 use Rattle.window_numbers.specs.stated_runs.specs.FromTraces.{setup_of, IsTraceOf}
 use Rattle.window_numbers.specs.stated_runs.specs.Simulated.{IsSimulated}
 use Rattle.window_numbers.specs.sim_bounds.specs.Gauge.{simulation_gauge, simulation_sizes}

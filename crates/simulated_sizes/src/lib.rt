@@ -4,7 +4,4 @@
 
 mod laws;
 
-pub use first_breaches;
-pub use first_breaches::run_laws;
 pub use laws::simulated_runs_have_sizes;
-pub use window_numbers::net_model;

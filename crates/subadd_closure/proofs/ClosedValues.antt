@@ -1,11 +1,11 @@
 -- What is answered for a finite curve that is nowhere below 0 is its closure, and keeps its shape.
 use Rattle.std.specs.Prelude.{Result, Ok, Err, IfOk}
-use Rattle.rational.specs.Rational.{ℚ, ◌≤ℚ◌}
-use Rattle.curve_conv.specs.upp_limits.specs.declared.op_kind.OpFault.{OpFault}
-use Rattle.curve_conv.specs.upp_curve.specs.Curve.{SpecCurve, value_at}
-use Rattle.min_plus.specs.Functions.{zero_q, IsFinite, IsNonnegative}
-use Rattle.curve_conv.specs.upp_curve.specs.Normal.{IsNormal}
-use Rattle.min_plus.specs.Convolution.{IsSubadditiveClosure}
+use Rattle.curve_pointwise.specs.rational.specs.Rational.{ℚ, ◌≤ℚ◌}
+use Rattle.curve_pointwise.specs.upp_limits.specs.declared.op_kind.OpFault.{OpFault}
+use Rattle.curve_pointwise.specs.upp_curve.specs.Curve.{SpecCurve, value_at}
+use Rattle.curve_pointwise.specs.min_plus.specs.Functions.{zero_q, IsFinite, IsNonnegative}
+use Rattle.curve_pointwise.specs.upp_curve.specs.Normal.{IsNormal}
+use Rattle.curve_pointwise.specs.min_plus.specs.Convolution.{IsSubadditiveClosure}
 use Rattle.closure_laws.specs.ClosureLaws.{ClosureKeeps}
 use Rattle.closure_laws.proofs.KeptShapes.{closures_keep}
 use Rattle.subadd_closure.specs.Folds.{CloseAnswer}

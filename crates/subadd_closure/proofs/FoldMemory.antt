@@ -2,25 +2,25 @@
 use Rattle.std.specs.Prelude.{◌≡◌, ℕ, ◌+◌, ◌<◌, ◌≤◌, List, [], ◌∷◌, length, map, Option, Some, None, Result, Ok, Err}
 use Rattle.std.proofs.Common.{arith, sym, refl, ap, ◌∙◌, subst, get_or, drop}
 use Rattle.std.proofs.lemmas.List.{drop_more}
-use Rattle.rational.specs.Rational.{ℚ, ◌≤ℚ◌}
-use Rattle.rational.specs.Extended.{Ext}
-use Rattle.rational.specs.declared.Extended.TheVariants.{Fin, Inf}
-use Rattle.rational.proofs.Laws.{le_refl}
-use Rattle.curve_conv.specs.affine_segment.specs.declared.line.Line.{Line}
-use Rattle.curve_conv.specs.affine_segment.specs.declared.element.Element.{Element}
-use Rattle.curve_conv.specs.affine_segment.specs.declared.element.Element.TheVariants.{Point, Open}
-use Rattle.curve_conv.specs.upp_limits.specs.declared.op_kind.OpKind.{OpKind}
-use Rattle.curve_conv.specs.upp_limits.specs.declared.op_kind.OpKind.TheVariants.{Min, Convolve}
-use Rattle.curve_conv.specs.upp_limits.specs.declared.op_kind.OpFault.{OpFault}
-use Rattle.curve_conv.specs.upp_limits.specs.declared.op_kind.OpFault.TheVariants.{NoMemory}
-use Rattle.curve_conv.specs.upp_limits.specs.Outcome.{KeepsLimits}
-use Rattle.curve_conv.specs.upp_curve.specs.Curve.{SpecCurve, value_at}
-use Rattle.curve_conv.specs.upp_curve.specs.Normal.{IsRaw}
-use Rattle.min_plus.specs.Functions.{zero_q, IsFinite}
-use Rattle.curve_conv.specs.curve_call.specs.Calls.{Applies, Then, goes_on, stops}
+use Rattle.curve_pointwise.specs.rational.specs.Rational.{ℚ, ◌≤ℚ◌}
+use Rattle.curve_pointwise.specs.rational.specs.Extended.{Ext}
+use Rattle.curve_pointwise.specs.rational.specs.declared.Extended.TheVariants.{Fin, Inf}
+use Rattle.curve_pointwise.specs.rational.proofs.Laws.{le_refl}
+use Rattle.curve_pointwise.specs.affine_segment.specs.declared.line.Line.{Line}
+use Rattle.curve_pointwise.specs.affine_segment.specs.declared.element.Element.{Element}
+use Rattle.curve_pointwise.specs.affine_segment.specs.declared.element.Element.TheVariants.{Point, Open}
+use Rattle.curve_pointwise.specs.upp_limits.specs.declared.op_kind.OpKind.{OpKind}
+use Rattle.curve_pointwise.specs.upp_limits.specs.declared.op_kind.OpKind.TheVariants.{Min, Convolve}
+use Rattle.curve_pointwise.specs.upp_limits.specs.declared.op_kind.OpFault.{OpFault}
+use Rattle.curve_pointwise.specs.upp_limits.specs.declared.op_kind.OpFault.TheVariants.{NoMemory}
+use Rattle.curve_pointwise.specs.upp_limits.specs.Outcome.{KeepsLimits}
+use Rattle.curve_pointwise.specs.upp_curve.specs.Curve.{SpecCurve, value_at}
+use Rattle.curve_pointwise.specs.upp_curve.specs.Normal.{IsRaw}
+use Rattle.curve_pointwise.specs.min_plus.specs.Functions.{zero_q, IsFinite}
+use Rattle.curve_pointwise.specs.curve_call.specs.Calls.{Applies, Then, goes_on, stops}
 use Rattle.subadd_closure.specs.ElementAnswers.{IsElementClosure}
 use Rattle.subadd_closure.specs.Lattices.{lattice_curve, origin_curve}
-use Rattle.curve_conv.specs.element_envelope.specs.PieceElements.{elements_of}
+use Rattle.element_envelope.specs.PieceElements.{elements_of}
 use Rattle.subadd_closure.specs.declared.part.Copies.{Copies as PartCopies}
 use Rattle.subadd_closure.specs.declared.part.Part.{Part}
 use Rattle.subadd_closure.specs.CurveParts.{pieces_end, copies_of, part_of, parts_of}

@@ -2,17 +2,17 @@
 use Rattle.std.specs.Prelude.{◌≡◌, ◌≢◌, List, [], ◌∷◌, ◌++◌, map, Ok}
 use Rattle.std.proofs.Common.{sym, ap, ◌∙◌, subst}
 use Rattle.std.proofs.lemmas.List.{map-append}
-use Rattle.rational.specs.Rational.{ℚ, ◌≤ℚ◌, ◌<ℚ◌}
-use Rattle.rational.specs.Extended.{Ext, ◌≤ₑ◌, ◌+ₑ◌, min_ext}
-use Rattle.rational.specs.declared.Extended.TheVariants.{Fin, Inf}
-use Rattle.rational.proofs.Bounds.{greatest}
-use Rattle.rational.proofs.Laws.{le_of_lt, add_zero}
-use Rattle.rational.proofs.ExtendedOrder.{le_ext_trans, same_le_ext}
-use Rattle.rational.proofs.ExtendedOrder.{add_zero_ext, min_left, min_right}
-use Rattle.curve_conv.specs.upp_curve.specs.Curve.{SpecCurve, value_at}
-use Rattle.min_plus.specs.Functions.{zero_q, IsFinite, IsNonnegative}
-use Rattle.curve_conv.specs.upp_curve.specs.Normal.{IsNormal}
-use Rattle.min_plus.specs.Convolution.{sum_at, IsConvolution}
+use Rattle.curve_pointwise.specs.rational.specs.Rational.{ℚ, ◌≤ℚ◌, ◌<ℚ◌}
+use Rattle.curve_pointwise.specs.rational.specs.Extended.{Ext, ◌≤ₑ◌, ◌+ₑ◌, min_ext}
+use Rattle.curve_pointwise.specs.rational.specs.declared.Extended.TheVariants.{Fin, Inf}
+use Rattle.curve_pointwise.specs.rational.proofs.Bounds.{greatest}
+use Rattle.curve_pointwise.specs.rational.proofs.Laws.{le_of_lt, add_zero}
+use Rattle.curve_pointwise.specs.rational.proofs.ExtendedOrder.{le_ext_trans, same_le_ext}
+use Rattle.curve_pointwise.specs.rational.proofs.ExtendedOrder.{add_zero_ext, min_left, min_right}
+use Rattle.curve_pointwise.specs.upp_curve.specs.Curve.{SpecCurve, value_at}
+use Rattle.curve_pointwise.specs.min_plus.specs.Functions.{zero_q, IsFinite, IsNonnegative}
+use Rattle.curve_pointwise.specs.upp_curve.specs.Normal.{IsNormal}
+use Rattle.curve_pointwise.specs.min_plus.specs.Convolution.{sum_at, IsConvolution}
 use Rattle.closure_laws.specs.Star.{Times, IsStar, AreStars, lesser, least_of}
 use Rattle.closure_laws.proofs.StarSums.{star_of_lesser, least_of_more}
 use Rattle.subadd_closure.specs.declared.part.Part.{Part}

@@ -1,17 +1,17 @@
 -- What the fold answers: for a part its star, for the parts the star of their least, and for the curve its closure.
 use Rattle.std.specs.Prelude.{◌≡◌, List, [], ◌∷◌, map, Option, Some, None, Result, Ok, Err}
 use Rattle.std.proofs.Common.{sym, refl, ap, ◌∙◌, subst}
-use Rattle.rational.specs.Rational.{ℚ, ◌≤ℚ◌}
-use Rattle.rational.specs.Extended.{Ext, min_ext}
-use Rattle.curve_conv.specs.affine_segment.specs.declared.element.Element.{Element}
-use Rattle.curve_conv.specs.affine_segment.specs.Elements.{element_value}
-use Rattle.curve_conv.specs.upp_limits.specs.declared.op_kind.OpKind.TheVariants.{Min, Convolve}
-use Rattle.curve_conv.specs.upp_limits.specs.declared.op_kind.OpFault.{OpFault}
-use Rattle.curve_conv.specs.upp_curve.specs.Curve.{SpecCurve, value_at}
-use Rattle.min_plus.specs.Functions.{zero_q}
-use Rattle.min_plus.specs.Convolution.{IsSubadditiveClosure}
-use Rattle.curve_conv.specs.curve_call.specs.Answers.{IsMadeBy}
-use Rattle.curve_conv.specs.curve_call.specs.Calls.{Applies, Then, goes_on, stops}
+use Rattle.curve_pointwise.specs.rational.specs.Rational.{ℚ, ◌≤ℚ◌}
+use Rattle.curve_pointwise.specs.rational.specs.Extended.{Ext, min_ext}
+use Rattle.curve_pointwise.specs.affine_segment.specs.declared.element.Element.{Element}
+use Rattle.curve_pointwise.specs.affine_segment.specs.Elements.{element_value}
+use Rattle.curve_pointwise.specs.upp_limits.specs.declared.op_kind.OpKind.TheVariants.{Min, Convolve}
+use Rattle.curve_pointwise.specs.upp_limits.specs.declared.op_kind.OpFault.{OpFault}
+use Rattle.curve_pointwise.specs.upp_curve.specs.Curve.{SpecCurve, value_at}
+use Rattle.curve_pointwise.specs.min_plus.specs.Functions.{zero_q}
+use Rattle.curve_pointwise.specs.min_plus.specs.Convolution.{IsSubadditiveClosure}
+use Rattle.curve_pointwise.specs.curve_call.specs.Answers.{IsMadeBy}
+use Rattle.curve_pointwise.specs.curve_call.specs.Calls.{Applies, Then, goes_on, stops}
 use Rattle.closure_laws.specs.Star.{IsStar, AreStars, least_of}
 use Rattle.closure_laws.proofs.StarSums.{star_of_closure, stars_of_values}
 use Rattle.closure_laws.proofs.CopiedParts.{closure_of_copies}

@@ -3,16 +3,16 @@ use Rattle.std.specs.Prelude.{◌≡◌, ℕ, List, [], ◌∷◌, map, Ok}
 use Rattle.std.specs.List.{All}
 use Rattle.std.proofs.Common.{sym, subst, inl, inr, take}
 use Rattle.std.proofs.lemmas.List.Elements.{All-head, All-tail, All-take}
-use Rattle.rational.specs.Rational.{ℚ, ◌<ℚ◌}
-use Rattle.rational.specs.Extended.{◌≤ₑ◌}
-use Rattle.rational.specs.declared.Extended.TheVariants.{Fin}
-use Rattle.curve_conv.specs.affine_segment.specs.declared.element.Element.{Element}
-use Rattle.curve_conv.specs.affine_segment.specs.Elements.{element_value}
-use Rattle.min_plus.specs.Functions.{zero_q}
-use Rattle.min_plus.specs.Convolution.{IsSubadditive}
-use Rattle.curve_conv.specs.upp_curve.specs.Curve.{SpecCurve, value_at}
-use Rattle.curve_conv.specs.upp_curve.specs.Normal.{IsNormal}
-use Rattle.curve_conv.specs.element_envelope.specs.PieceElements.{Among}
+use Rattle.curve_pointwise.specs.rational.specs.Rational.{ℚ, ◌<ℚ◌}
+use Rattle.curve_pointwise.specs.rational.specs.Extended.{◌≤ₑ◌}
+use Rattle.curve_pointwise.specs.rational.specs.declared.Extended.TheVariants.{Fin}
+use Rattle.curve_pointwise.specs.affine_segment.specs.declared.element.Element.{Element}
+use Rattle.curve_pointwise.specs.affine_segment.specs.Elements.{element_value}
+use Rattle.curve_pointwise.specs.min_plus.specs.Functions.{zero_q}
+use Rattle.curve_pointwise.specs.min_plus.specs.Convolution.{IsSubadditive}
+use Rattle.curve_pointwise.specs.upp_curve.specs.Curve.{SpecCurve, value_at}
+use Rattle.curve_pointwise.specs.upp_curve.specs.Normal.{IsNormal}
+use Rattle.element_envelope.specs.PieceElements.{Among}
 use Rattle.closure_laws.specs.Star.{least_of}
 use Rattle.subadd_closure.specs.ElementAnswers.{IsElementClosure}
 use Rattle.subadd_closure.specs.Lattices.{lattice_curve}

@@ -1,24 +1,24 @@
 -- The closures that rise and fall by their numbers are in normal form.
 use Rattle.std.specs.Prelude.{◌≡◌, ◌≢◌, ℕ, zero, suc, ◌≤◌, pos, [], ◌∷◌, Some}
 use Rattle.std.proofs.Common.{arith, sym, refl, ap, ◌∙◌, subst, inl, inr}
-use Rattle.rational.specs.Rational.{ℚ, ◌+ℚ◌, ◌*ℚ◌, ◌≤ℚ◌, ◌<ℚ◌, int}
-use Rattle.rational.specs.Extended.{Ext, ◌+ₑ◌}
-use Rattle.rational.specs.declared.Extended.TheVariants.{Fin, Inf}
-use Rattle.rational.proofs.Linear.{with1, with2, with3, with4}
-use Rattle.rational.proofs.Laws.{le_trans, le_lt_trans, lt_irrefl, le_refl, le_of_lt, antisym, not_zero, mul_le_mul_right, mul_lt_mul, mul_nonneg}
-use Rattle.rational.proofs.Integers.{nat_lt, nat_le, nat_nonneg}
-use Rattle.rational.proofs.Whole.{one_more_times}
-use Rattle.rational.proofs.Bounds.{infimum_unique}
-use Rattle.rational.proofs.ExtendedOrder.{finite_below}
-use Rattle.curve_conv.specs.affine_segment.specs.declared.line.Line.{Line}
-use Rattle.curve_conv.specs.affine_segment.specs.Values.{line_at}
-use Rattle.curve_conv.specs.upp_curve.specs.declared.curve.Tail.TheVariants.{Periodic}
-use Rattle.min_plus.specs.Functions.{zero_q}
-use Rattle.curve_conv.specs.upp_curve.specs.Curve.{SpecCurve, value_at}
-use Rattle.curve_conv.specs.upp_curve.specs.Steady.{Repeats}
-use Rattle.curve_conv.specs.affine_segment.specs.Pieces.{Each}
-use Rattle.curve_conv.specs.upp_curve.specs.Normal.{IsNormal}
-use Rattle.curve_conv.specs.upp_curve.proofs.Normal.{periodic_rule}
+use Rattle.curve_pointwise.specs.rational.specs.Rational.{ℚ, ◌+ℚ◌, ◌*ℚ◌, ◌≤ℚ◌, ◌<ℚ◌, int}
+use Rattle.curve_pointwise.specs.rational.specs.Extended.{Ext, ◌+ₑ◌}
+use Rattle.curve_pointwise.specs.rational.specs.declared.Extended.TheVariants.{Fin, Inf}
+use Rattle.curve_pointwise.specs.rational.proofs.Linear.{with1, with2, with3, with4}
+use Rattle.curve_pointwise.specs.rational.proofs.Laws.{le_trans, le_lt_trans, lt_irrefl, le_refl, le_of_lt, antisym, not_zero, mul_le_mul_right, mul_lt_mul, mul_nonneg}
+use Rattle.curve_pointwise.specs.rational.proofs.Integers.{nat_lt, nat_le, nat_nonneg}
+use Rattle.curve_pointwise.specs.rational.proofs.Whole.{one_more_times}
+use Rattle.curve_pointwise.specs.rational.proofs.Bounds.{infimum_unique}
+use Rattle.curve_pointwise.specs.rational.proofs.ExtendedOrder.{finite_below}
+use Rattle.curve_pointwise.specs.affine_segment.specs.declared.line.Line.{Line}
+use Rattle.curve_pointwise.specs.affine_segment.specs.Values.{line_at}
+use Rattle.curve_pointwise.specs.upp_curve.specs.declared.curve.Tail.TheVariants.{Periodic}
+use Rattle.curve_pointwise.specs.min_plus.specs.Functions.{zero_q}
+use Rattle.curve_pointwise.specs.upp_curve.specs.Curve.{SpecCurve, value_at}
+use Rattle.curve_pointwise.specs.upp_curve.specs.Steady.{Repeats}
+use Rattle.curve_pointwise.specs.affine_segment.specs.Pieces.{Each}
+use Rattle.curve_pointwise.specs.upp_curve.specs.Normal.{IsNormal}
+use Rattle.curve_pointwise.specs.upp_curve.proofs.Normal.{periodic_rule}
 use Rattle.subadd_closure.specs.ElementClosures.{Turn, IsSegmentClosure}
 use Rattle.subadd_closure.specs.ElementCurves.{turn, line_times, all_stretches, rising_closure, falling_closure}
 use Rattle.subadd_closure.proofs.TurnNumbers.{turn_in, more}

@@ -1,20 +1,20 @@
 -- Which numbers n have a time between n a and n b, and where their least sum is the closure of a segment.
 use Rattle.std.specs.Prelude.{◌≡◌, ℕ, suc, ◌≤◌, pos}
 use Rattle.std.proofs.Common.{arith, sym, ◌∙◌, subst, inl, inr}
-use Rattle.rational.specs.Rational.{ℚ, ◌+ℚ◌, ◌*ℚ◌, ◌/ℚ◌, ◌≤ℚ◌, ◌<ℚ◌, int, neg_ℚ}
-use Rattle.rational.specs.Extended.{Ext, ◌≤ₑ◌, ◌<ₑ◌}
-use Rattle.rational.specs.declared.Extended.TheVariants.{Fin, Inf}
-use Rattle.rational.proofs.Laws.{le_trans, le_lt_trans, lt_le_trans, lt_irrefl, mul_comm, mul_le_mul_right, mul_lt_mul, lt_of_mul, div_mul, not_zero, mul_neg}
-use Rattle.rational.proofs.Integers.{nat_le, le_or_more}
-use Rattle.rational.proofs.Bounds.{least_member, all_infinite}
-use Rattle.rational.proofs.Linear.{with1, with3, with4}
-use Rattle.curve_conv.specs.affine_segment.specs.declared.line.Line.{Line}
-use Rattle.curve_conv.specs.affine_segment.specs.Values.{line_at}
-use Rattle.min_plus.specs.Functions.{zero_q}
+use Rattle.curve_pointwise.specs.rational.specs.Rational.{ℚ, ◌+ℚ◌, ◌*ℚ◌, ◌/ℚ◌, ◌≤ℚ◌, ◌<ℚ◌, int, neg_ℚ}
+use Rattle.curve_pointwise.specs.rational.specs.Extended.{Ext, ◌≤ₑ◌, ◌<ₑ◌}
+use Rattle.curve_pointwise.specs.rational.specs.declared.Extended.TheVariants.{Fin, Inf}
+use Rattle.curve_pointwise.specs.rational.proofs.Laws.{le_trans, le_lt_trans, lt_le_trans, lt_irrefl, mul_comm, mul_le_mul_right, mul_lt_mul, lt_of_mul, div_mul, not_zero, mul_neg}
+use Rattle.curve_pointwise.specs.rational.proofs.Integers.{nat_le, le_or_more}
+use Rattle.curve_pointwise.specs.rational.proofs.Bounds.{least_member, all_infinite}
+use Rattle.curve_pointwise.specs.rational.proofs.Linear.{with1, with3, with4}
+use Rattle.curve_pointwise.specs.affine_segment.specs.declared.line.Line.{Line}
+use Rattle.curve_pointwise.specs.affine_segment.specs.Values.{line_at}
+use Rattle.curve_pointwise.specs.min_plus.specs.Functions.{zero_q}
 use Rattle.subadd_closure.specs.ElementClosures.{Turn, IsSegmentClosure}
 use Rattle.subadd_closure.specs.ElementCurves.{line_times, ext_times}
-use Rattle.rational.proofs.Grain.{some_int}
-use Rattle.rational.proofs.ExtendedOrder.{not_past}
+use Rattle.curve_pointwise.specs.rational.proofs.Grain.{some_int}
+use Rattle.curve_pointwise.specs.rational.proofs.ExtendedOrder.{not_past}
 use Rattle.closure_laws.specs.Star.{nat_times}
 
 -- ---- the two forms of a turn

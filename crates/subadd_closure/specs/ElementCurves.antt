@@ -1,16 +1,16 @@
 -- The closures of a point and of a line on an open stretch, as curves in normal form. (Bouillard, Boyer and Le Corronc:
 -- closures of elementary functions are ultimately pseudo-periodic.)
 use Rattle.std.specs.Prelude.{ℕ, zero, suc, ◌≤◌, pos, cond, List, [], ◌∷◌, Some, None}
-use Rattle.rational.specs.Rational.{ℚ, ◌*ℚ◌, ◌≤ℚ◌, int, lt_q}
-use Rattle.rational.specs.Extended.{Ext, ◌≤ₑ◌, ◌<ₑ◌}
-use Rattle.rational.specs.declared.Extended.TheVariants.{Fin, Inf}
-use Rattle.curve_conv.specs.affine_segment.specs.declared.line.Line.{Line}
-use Rattle.curve_conv.specs.affine_segment.specs.declared.line.Piece.{Piece}
-use Rattle.curve_conv.specs.affine_segment.specs.Values.{line_at}
-use Rattle.curve_conv.specs.upp_curve.specs.declared.curve.Tail.TheVariants.{Periodic, Affine, Infinite}
-use Rattle.curve_conv.specs.upp_curve.specs.Curve.{SpecCurve}
-use Rattle.min_plus.specs.Functions.{zero_q}
-use Rattle.curve_conv.specs.affine_segment.specs.Reading.{nothing_at}
+use Rattle.curve_pointwise.specs.rational.specs.Rational.{ℚ, ◌*ℚ◌, ◌≤ℚ◌, int, lt_q}
+use Rattle.curve_pointwise.specs.rational.specs.Extended.{Ext, ◌≤ₑ◌, ◌<ₑ◌}
+use Rattle.curve_pointwise.specs.rational.specs.declared.Extended.TheVariants.{Fin, Inf}
+use Rattle.curve_pointwise.specs.affine_segment.specs.declared.line.Line.{Line}
+use Rattle.curve_pointwise.specs.affine_segment.specs.declared.line.Piece.{Piece}
+use Rattle.curve_pointwise.specs.affine_segment.specs.Values.{line_at}
+use Rattle.curve_pointwise.specs.upp_curve.specs.declared.curve.Tail.TheVariants.{Periodic, Affine, Infinite}
+use Rattle.curve_pointwise.specs.upp_curve.specs.Curve.{SpecCurve}
+use Rattle.curve_pointwise.specs.min_plus.specs.Functions.{zero_q}
+use Rattle.curve_pointwise.specs.affine_segment.specs.Reading.{nothing_at}
 use Rattle.closure_laws.specs.Star.{nat_times}
 
 -- ---- pieces

@@ -1,11 +1,11 @@
 -- What the fold answers.
 use Rattle.std.specs.Prelude.{Ok}
-use Rattle.rational.specs.Rational.{ℚ, ◌≤ℚ◌}
-use Rattle.curve_conv.specs.upp_curve.specs.Curve.{SpecCurve, value_at}
-use Rattle.min_plus.specs.Functions.{zero_q, IsFinite, IsNonnegative}
-use Rattle.curve_conv.specs.upp_curve.specs.Normal.{IsNormal}
-use Rattle.min_plus.specs.Convolution.{IsSubadditiveClosure}
-use Rattle.curve_conv.specs.curve_call.specs.Determined.{IsDetermined}
+use Rattle.curve_pointwise.specs.rational.specs.Rational.{ℚ, ◌≤ℚ◌}
+use Rattle.curve_pointwise.specs.upp_curve.specs.Curve.{SpecCurve, value_at}
+use Rattle.curve_pointwise.specs.min_plus.specs.Functions.{zero_q, IsFinite, IsNonnegative}
+use Rattle.curve_pointwise.specs.upp_curve.specs.Normal.{IsNormal}
+use Rattle.curve_pointwise.specs.min_plus.specs.Convolution.{IsSubadditiveClosure}
+use Rattle.curve_pointwise.specs.curve_call.specs.Determined.{IsDetermined}
 use Rattle.closure_laws.specs.Star.{AreStars}
 use Rattle.subadd_closure.specs.CurveParts.{part_value}
 use Rattle.subadd_closure.specs.declared.part.Part.{Part}

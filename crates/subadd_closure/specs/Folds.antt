@@ -3,19 +3,19 @@
 -- of a minimum is the convolution of the stars: Bouillard, Boyer and Le Corronc; the order and the limits are own
 -- choice.)
 use Rattle.std.specs.Prelude.{◌≡◌, ℕ, suc, ◌+◌, ◌*◌, ◌^◌, ◌<◌, ◌≤◌, cond, List, [], ◌∷◌, Option, Some, None, Result, Ok, Err}
-use Rattle.rational.specs.Rational.{◌-ℚ◌, ◌/ℚ◌, lt_q}
-use Rattle.rational.specs.Whole.{whole_part}
-use Rattle.rational.specs.declared.Extended.TheVariants.{Fin, Inf}
-use Rattle.curve_conv.specs.affine_segment.specs.declared.element.Element.{Element}
-use Rattle.curve_conv.specs.affine_segment.specs.declared.element.Element.TheVariants.{Point, Open}
-use Rattle.curve_conv.specs.upp_limits.specs.declared.op_kind.OpKind.TheVariants.{Min, Convolve}
-use Rattle.curve_conv.specs.upp_limits.specs.declared.op_kind.OpFault.{OpFault}
-use Rattle.curve_conv.specs.upp_limits.specs.declared.op_kind.OpFault.TheVariants.{TooMany, TooWide, NoMemory}
-use Rattle.curve_conv.specs.upp_curve.specs.Curve.{SpecCurve, value_at}
-use Rattle.curve_conv.specs.upp_curve.specs.Curves.{IsCurve}
-use Rattle.min_plus.specs.Functions.{zero_q}
-use Rattle.curve_conv.specs.upp_limits.specs.Limits.{own_gauge}
-use Rattle.curve_conv.specs.curve_call.specs.Calls.{Applies, Then}
+use Rattle.curve_pointwise.specs.rational.specs.Rational.{◌-ℚ◌, ◌/ℚ◌, lt_q}
+use Rattle.curve_pointwise.specs.rational.specs.Whole.{whole_part}
+use Rattle.curve_pointwise.specs.rational.specs.declared.Extended.TheVariants.{Fin, Inf}
+use Rattle.curve_pointwise.specs.affine_segment.specs.declared.element.Element.{Element}
+use Rattle.curve_pointwise.specs.affine_segment.specs.declared.element.Element.TheVariants.{Point, Open}
+use Rattle.curve_pointwise.specs.upp_limits.specs.declared.op_kind.OpKind.TheVariants.{Min, Convolve}
+use Rattle.curve_pointwise.specs.upp_limits.specs.declared.op_kind.OpFault.{OpFault}
+use Rattle.curve_pointwise.specs.upp_limits.specs.declared.op_kind.OpFault.TheVariants.{TooMany, TooWide, NoMemory}
+use Rattle.curve_pointwise.specs.upp_curve.specs.Curve.{SpecCurve, value_at}
+use Rattle.curve_pointwise.specs.upp_curve.specs.Curves.{IsCurve}
+use Rattle.curve_pointwise.specs.min_plus.specs.Functions.{zero_q}
+use Rattle.curve_pointwise.specs.upp_limits.specs.Limits.{own_gauge}
+use Rattle.curve_pointwise.specs.curve_call.specs.Calls.{Applies, Then}
 use Rattle.subadd_closure.specs.ElementAnswers.{IsElementClosure}
 use Rattle.subadd_closure.specs.Lattices.{lattice_curve, origin_curve}
 use Rattle.subadd_closure.specs.CurveParts.{parts_of}

@@ -20,5 +20,3 @@ pub mod MeetLaws
 pub mod HeavyLaws
 pub mod Lattices
 pub mod ElementClosures
-pub use Rattle.closure_laws as closure_laws
-pub use Rattle.curve_conv.specs.curve_call as curve_call

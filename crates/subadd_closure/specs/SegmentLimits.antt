@@ -1,18 +1,18 @@
 -- The limits of a segment's operator, as the code tests them. Own choice.
 use Rattle.std.specs.Prelude.{◌≡◌, ℕ, ◌+◌, ◌*◌, ◌^◌, ◌<◌, ◌≤◌, Option, Some, None}
-use Rattle.rational.specs.Rational.{ℚ, ◌-ℚ◌, ◌/ℚ◌, neg_ℚ}
-use Rattle.rational.specs.Ratio.{IsSmall, SumFits}
-use Rattle.rational.specs.Extended.{Ext}
-use Rattle.curve_conv.specs.affine_segment.specs.declared.line.Line.{Line}
-use Rattle.curve_conv.specs.affine_segment.specs.declared.element.Element.{Element}
-use Rattle.curve_conv.specs.affine_segment.specs.declared.element.Element.TheVariants.{Open}
-use Rattle.curve_conv.specs.upp_limits.specs.declared.op_kind.OpFault.{OpFault}
-use Rattle.curve_conv.specs.upp_limits.specs.declared.op_kind.OpFault.TheVariants.{TooMany, TooWide, NoMemory}
-use Rattle.curve_conv.specs.upp_curve.specs.Curve.{SpecCurve}
-use Rattle.curve_conv.specs.upp_limits.specs.Limits.{own_gauge}
+use Rattle.curve_pointwise.specs.rational.specs.Rational.{ℚ, ◌-ℚ◌, ◌/ℚ◌, neg_ℚ}
+use Rattle.curve_pointwise.specs.rational.specs.Ratio.{IsSmall, SumFits}
+use Rattle.curve_pointwise.specs.rational.specs.Extended.{Ext}
+use Rattle.curve_pointwise.specs.affine_segment.specs.declared.line.Line.{Line}
+use Rattle.curve_pointwise.specs.affine_segment.specs.declared.element.Element.{Element}
+use Rattle.curve_pointwise.specs.affine_segment.specs.declared.element.Element.TheVariants.{Open}
+use Rattle.curve_pointwise.specs.upp_limits.specs.declared.op_kind.OpFault.{OpFault}
+use Rattle.curve_pointwise.specs.upp_limits.specs.declared.op_kind.OpFault.TheVariants.{TooMany, TooWide, NoMemory}
+use Rattle.curve_pointwise.specs.upp_curve.specs.Curve.{SpecCurve}
+use Rattle.curve_pointwise.specs.upp_limits.specs.Limits.{own_gauge}
 use Rattle.subadd_closure.specs.ElementCurves.{IsStretch}
 use Rattle.subadd_closure.specs.Folds.{segment_number, SegmentWithin}
-use Rattle.curve_conv.specs.element_envelope.specs.PieceElements.{elements_of, Among}
+use Rattle.element_envelope.specs.PieceElements.{elements_of, Among}
 use Rattle.subadd_closure.specs.CurveParts.{pieces_end}
 
 -- e is a point or an open segment of f

@@ -1,20 +1,20 @@
 -- The elements of the second operand of a convolution without those that are nowhere below the first operand. (Where f is
 -- subadditive and g is at most 0 at 0, f(s) + g(u) with f(u) at most g(u) is nowhere below f(s + u) + g(0): own choice.)
 use Rattle.std.specs.Prelude.{◌⊎◌, Bool, true, false, List}
-use Rattle.rational.specs.Rational.{ℚ, ◌≤ℚ◌, ◌<ℚ◌}
-use Rattle.rational.specs.Extended.{Ext, ◌≤ₑ◌}
-use Rattle.rational.specs.declared.Extended.TheVariants.{Fin}
-use Rattle.curve_conv.specs.affine_segment.specs.declared.line.Line.{Line}
-use Rattle.curve_conv.specs.affine_segment.specs.declared.line.Piece.{Piece}
-use Rattle.curve_conv.specs.affine_segment.specs.declared.element.Element.{Element}
-use Rattle.curve_conv.specs.affine_segment.specs.declared.element.Element.TheVariants.{Point, Open}
-use Rattle.curve_conv.specs.affine_segment.specs.Elements.{Covers, level}
-use Rattle.curve_conv.specs.affine_segment.specs.Reading.{piece_value}
-use Rattle.curve_conv.specs.affine_segment.specs.Values.{line_at}
-use Rattle.min_plus.specs.Convolution.{IsSubadditive}
-use Rattle.min_plus.specs.Functions.{zero_q}
-use Rattle.curve_conv.specs.upp_curve.specs.Curve.{SpecCurve, value_at}
-use Rattle.curve_conv.specs.element_envelope.specs.PieceElements.{Among}
+use Rattle.curve_pointwise.specs.rational.specs.Rational.{ℚ, ◌≤ℚ◌, ◌<ℚ◌}
+use Rattle.curve_pointwise.specs.rational.specs.Extended.{Ext, ◌≤ₑ◌}
+use Rattle.curve_pointwise.specs.rational.specs.declared.Extended.TheVariants.{Fin}
+use Rattle.curve_pointwise.specs.affine_segment.specs.declared.line.Line.{Line}
+use Rattle.curve_pointwise.specs.affine_segment.specs.declared.line.Piece.{Piece}
+use Rattle.curve_pointwise.specs.affine_segment.specs.declared.element.Element.{Element}
+use Rattle.curve_pointwise.specs.affine_segment.specs.declared.element.Element.TheVariants.{Point, Open}
+use Rattle.curve_pointwise.specs.affine_segment.specs.Elements.{Covers, level}
+use Rattle.curve_pointwise.specs.affine_segment.specs.Reading.{piece_value}
+use Rattle.curve_pointwise.specs.affine_segment.specs.Values.{line_at}
+use Rattle.curve_pointwise.specs.min_plus.specs.Convolution.{IsSubadditive}
+use Rattle.curve_pointwise.specs.min_plus.specs.Functions.{zero_q}
+use Rattle.curve_pointwise.specs.upp_curve.specs.Curve.{SpecCurve, value_at}
+use Rattle.element_envelope.specs.PieceElements.{Among}
 
 -- ---- what is left out
 -- the piece, from its start on, is nowhere above the line

@@ -1,29 +1,29 @@
 //! The call of a convolution once more: its pieces below the end of its window, and by how much it rises over a period.
 
 ghost use Rattle.std.specs.Prelude.{◌≡◌, IfOk};
-ghost use Rattle.rational.specs.Extended.{◌<ₑ◌, ◌≤ₑ◌};
-ghost use Rattle.rational.specs.declared.Extended.TheVariants.{Fin};
-ghost use Rattle.curve_conv.specs.affine_segment.specs.Reading.{read};
-ghost use Rattle.min_plus.specs.Convolution.{IsSubadditive};
-ghost use Rattle.min_plus.specs.Functions.{zero_q};
-ghost use Rattle.curve_conv.specs.upp_curve.specs.Curve.{value_at};
-ghost use Rattle.curve_conv.specs.upp_curve.specs.Curves.{IsCurve};
-ghost use Rattle.curve_conv.specs.upp_curve.specs.Steady.{rate, rise_over};
-ghost use Rattle.curve_conv.specs.upp_curve.specs.Unrolled.{unroll};
-ghost use Rattle.curve_conv.specs.element_envelope.specs.ConvolutionWindows.{OperandWindows, IsConvolutionWindow};
+ghost use Rattle.curve_pointwise.specs.rational.specs.Extended.{◌<ₑ◌, ◌≤ₑ◌};
+ghost use Rattle.curve_pointwise.specs.rational.specs.declared.Extended.TheVariants.{Fin};
+ghost use Rattle.curve_pointwise.specs.affine_segment.specs.Reading.{read};
+ghost use Rattle.curve_pointwise.specs.min_plus.specs.Convolution.{IsSubadditive};
+ghost use Rattle.curve_pointwise.specs.min_plus.specs.Functions.{zero_q};
+ghost use Rattle.curve_pointwise.specs.upp_curve.specs.Curve.{value_at};
+ghost use Rattle.curve_pointwise.specs.upp_curve.specs.Curves.{IsCurve};
+ghost use Rattle.curve_pointwise.specs.upp_curve.specs.Steady.{rate, rise_over};
+ghost use Rattle.curve_pointwise.specs.upp_curve.specs.Unrolled.{unroll};
+ghost use Rattle.element_envelope.specs.ConvolutionWindows.{OperandWindows, IsConvolutionWindow};
 ghost use Rattle.curve_conv.specs.ConvolveCall.{IsConvolveFrame};
-ghost use Rattle.curve_conv.specs.curve_pointwise.specs.Lattice.{RisesBy};
+ghost use Rattle.curve_pointwise.specs.Lattice.{RisesBy};
 ghost use Rattle.subadd_closure.specs.Thinned.{MayThin};
 
 use crate::thinned::thinned;
-use curve_conv::affine_segment::Piece;
-use curve_conv::curve_call::{Frame, rise_over};
-use curve_conv::element_envelope::{cut, envelope, window_convolution};
-use curve_conv::fraction128::Frac;
 use curve_conv::is_slower_curve;
-use curve_conv::upp_curve::Curve;
-use curve_conv::upp_normal::unrolled;
-use rational::Extended;
+use curve_pointwise::affine_segment::Piece;
+use curve_pointwise::curve_call::{Frame, rise_over};
+use curve_pointwise::fraction128::Frac;
+use curve_pointwise::rational::Extended;
+use curve_pointwise::upp_curve::Curve;
+use curve_pointwise::upp_normal::unrolled;
+use element_envelope::{cut, envelope, window_convolution};
 use std::alloc::{AllocError, Global};
 
 // The pieces of the convolution, of which `left` and `right` are the operands' pieces: with the elements of the second

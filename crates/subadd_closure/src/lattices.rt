@@ -1,15 +1,15 @@
 //! The curves that an element's closure is convolved with and lowered by.
 
 ghost use Rattle.std.specs.Prelude.{◌≡◌, IfOk};
-ghost use Rattle.rational.specs.Rational.{◌<ℚ◌, ◌/ℚ◌};
-ghost use Rattle.rational.specs.Ratio.{IsSmall};
-ghost use Rattle.min_plus.specs.Functions.{zero_q};
+ghost use Rattle.curve_pointwise.specs.rational.specs.Rational.{◌<ℚ◌, ◌/ℚ◌};
+ghost use Rattle.curve_pointwise.specs.rational.specs.Ratio.{IsSmall};
+ghost use Rattle.curve_pointwise.specs.min_plus.specs.Functions.{zero_q};
 ghost use Rattle.subadd_closure.specs.Lattices.{lattice_curve, origin_curve};
 
-use curve_conv::affine_segment::Piece;
-use curve_conv::fraction128::Frac;
-use curve_conv::upp_curve::{Curve, Tail};
-use rational::Extended;
+use curve_pointwise::affine_segment::Piece;
+use curve_pointwise::fraction128::Frac;
+use curve_pointwise::rational::Extended;
+use curve_pointwise::upp_curve::{Curve, Tail};
 use std::alloc::{AllocError, Global};
 
 /// n times the rise at n times the period for each natural n, and infinity elsewhere. The period is above 0, and rise /

@@ -24,7 +24,6 @@ mod subadditive;
 mod thinned;
 
 pub use closing::close;
-pub use curve_conv;
 pub use element_laws::{elements_close, heavy_is_refused, lattice_values, stretches_meet};
 pub use lattices::{lattice, origin};
 pub use points::point_closure;

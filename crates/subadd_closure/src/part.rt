@@ -1,17 +1,17 @@
 //! The parts of a curve.
 
 ghost use Rattle.std.specs.Prelude.{◌≡◌, IfOk};
-ghost use Rattle.rational.specs.Rational.{◌+ℚ◌};
-ghost use Rattle.rational.specs.Ratio.{SumFits};
-ghost use Rattle.curve_conv.specs.affine_segment.specs.Elements.{start_of};
+ghost use Rattle.curve_pointwise.specs.rational.specs.Rational.{◌+ℚ◌};
+ghost use Rattle.curve_pointwise.specs.rational.specs.Ratio.{SumFits};
+ghost use Rattle.curve_pointwise.specs.affine_segment.specs.Elements.{start_of};
 ghost use Rattle.subadd_closure.specs.CurveParts.{pieces_end, copies_of, part_of};
-ghost use Rattle.curve_conv.specs.element_envelope.specs.PieceElements.{elements_of};
+ghost use Rattle.element_envelope.specs.PieceElements.{elements_of};
 
-use curve_conv::affine_segment::{Element, start_of};
-use curve_conv::element_envelope::cut;
-use curve_conv::fraction128::{Ext, Frac, is_less, sum};
-use curve_conv::upp_curve::{Curve, Tail};
-use rational::Extended;
+use curve_pointwise::affine_segment::{Element, start_of};
+use curve_pointwise::fraction128::{Ext, Frac, is_less, sum};
+use curve_pointwise::rational::Extended;
+use curve_pointwise::upp_curve::{Curve, Tail};
+use element_envelope::cut;
 use std::alloc::{AllocError, Global};
 
 /// Copies, each a period later and a rise higher than the one before.

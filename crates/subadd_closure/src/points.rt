@@ -1,19 +1,19 @@
 //! The closure of a point.
 
-ghost use Rattle.rational.specs.Rational.{◌≤ℚ◌, ◌<ℚ◌};
-ghost use Rattle.curve_conv.specs.affine_segment.specs.declared.element.Element.TheVariants.{Point};
-ghost use Rattle.min_plus.specs.Functions.{zero_q};
+ghost use Rattle.curve_pointwise.specs.rational.specs.Rational.{◌≤ℚ◌, ◌<ℚ◌};
+ghost use Rattle.curve_pointwise.specs.affine_segment.specs.declared.element.Element.TheVariants.{Point};
+ghost use Rattle.curve_pointwise.specs.min_plus.specs.Functions.{zero_q};
 ghost use Rattle.subadd_closure.specs.ElementCurves.{point_closure, point_at_zero};
 ghost use Rattle.subadd_closure.specs.ElementAnswers.{ClosureAnswer};
 ghost use Rattle.subadd_closure.specs.PieceFits.{IsMade};
 
 use crate::segments::made;
-use curve_conv::affine_segment::Piece;
-use curve_conv::fraction128::{Frac, is_less};
-use curve_conv::upp_curve::{Curve, Tail};
-use curve_conv::upp_limits::OpFault;
-use curve_conv::upp_normal::RawCurve;
-use rational::Extended;
+use curve_pointwise::affine_segment::Piece;
+use curve_pointwise::fraction128::{Frac, is_less};
+use curve_pointwise::rational::Extended;
+use curve_pointwise::upp_curve::{Curve, Tail};
+use curve_pointwise::upp_limits::OpFault;
+use curve_pointwise::upp_normal::RawCurve;
 use std::alloc::Global;
 
 // n v at n x, x after 0.

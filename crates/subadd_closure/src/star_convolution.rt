@@ -2,27 +2,29 @@
 //! many periods it needs.
 
 ghost use Rattle.std.specs.Prelude.{◌≡◌, ◌⊎◌, ◌+◌, ◌≤◌, IfOk, IfErr, IfSome, IsTrue, Err};
-ghost use Rattle.rational.specs.Rational.{ℚ, ◌-ℚ◌, ◌≤ℚ◌};
-ghost use Rattle.curve_conv.specs.upp_curve.specs.Curve.{value_at};
-ghost use Rattle.curve_conv.specs.upp_curve.specs.Curves.{IsCurve};
-ghost use Rattle.curve_conv.specs.upp_curve.specs.Unrolled.{unroll};
-ghost use Rattle.min_plus.specs.Convolution.{IsConvolution};
-ghost use Rattle.min_plus.specs.Functions.{zero_q};
-ghost use Rattle.curve_conv.specs.upp_limits.specs.Outcome.{IsCauseOf, IsWithin, KeepsLimits};
-ghost use Rattle.curve_conv.specs.upp_limits.specs.declared.op_kind.OpKind.TheVariants.{Convolve};
-ghost use Rattle.curve_conv.specs.curve_call.specs.FirstWindows.{IsFirstWindow};
-ghost use Rattle.curve_conv.specs.element_envelope.specs.ConvolutionWindows.{IsConvolutionWindow};
+ghost use Rattle.curve_pointwise.specs.rational.specs.Rational.{ℚ, ◌-ℚ◌, ◌≤ℚ◌};
+ghost use Rattle.curve_pointwise.specs.upp_curve.specs.Curve.{value_at};
+ghost use Rattle.curve_pointwise.specs.upp_curve.specs.Curves.{IsCurve};
+ghost use Rattle.curve_pointwise.specs.upp_curve.specs.Unrolled.{unroll};
+ghost use Rattle.curve_pointwise.specs.min_plus.specs.Convolution.{IsConvolution};
+ghost use Rattle.curve_pointwise.specs.min_plus.specs.Functions.{zero_q};
+ghost use Rattle.curve_pointwise.specs.upp_limits.specs.Outcome.{IsCauseOf, IsWithin, KeepsLimits};
+ghost use Rattle.curve_pointwise.specs.upp_limits.specs.declared.op_kind.OpKind.TheVariants.{Convolve};
+ghost use Rattle.curve_pointwise.specs.curve_call.specs.FirstWindows.{IsFirstWindow};
+ghost use Rattle.element_envelope.specs.ConvolutionWindows.{IsConvolutionWindow};
 ghost use Rattle.curve_conv.specs.ConvolveCall.{IsConvolveFrame};
 ghost use Rattle.subadd_closure.specs.Thinned.{MayThin};
 
 use crate::again::{slower_rise, window_of};
 use crate::quick_bounds::quick_bounds;
-use curve_conv::affine_segment::Piece;
 use curve_conv::convolve_frame;
-use curve_conv::curve_call::{CallWindow, Frame, answer, first_window, refuse_between, within};
-use curve_conv::fraction128::{Frac, difference};
-use curve_conv::upp_curve::Curve;
-use curve_conv::upp_limits::{OpFault, OpKind, tally_over};
+use curve_pointwise::affine_segment::Piece;
+use curve_pointwise::curve_call::{
+    CallWindow, Frame, answer, first_window, refuse_between, within,
+};
+use curve_pointwise::fraction128::{Frac, difference};
+use curve_pointwise::upp_curve::Curve;
+use curve_pointwise::upp_limits::{OpFault, OpKind, tally_over};
 use std::alloc::{AllocError, Global};
 use std::sync::ledger::Ledger;
 use steps::Steps;

@@ -1,13 +1,13 @@
 //! A curve with its value at 0 set to another.
 
 ghost use Rattle.std.specs.Prelude.{◌≡◌, IfOk};
-ghost use Rattle.curve_conv.specs.upp_curve.specs.Curve.{value_at};
+ghost use Rattle.curve_pointwise.specs.upp_curve.specs.Curve.{value_at};
 ghost use Rattle.subadd_closure.specs.Starting.{first_at, started_at, KeepsTail, IsStartedAt};
 
-use curve_conv::affine_segment::Piece;
-use curve_conv::fraction128::{Ext, Frac};
-use curve_conv::upp_curve::Curve;
-use rational::Extended;
+use curve_pointwise::affine_segment::Piece;
+use curve_pointwise::fraction128::{Ext, Frac};
+use curve_pointwise::rational::Extended;
+use curve_pointwise::upp_curve::Curve;
 use std::alloc::{AllocError, Global};
 
 // The pieces with the value v at the start of the first.

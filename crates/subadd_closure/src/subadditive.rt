@@ -1,15 +1,15 @@
 //! Whether a curve is subadditive.
 
 ghost use Rattle.std.specs.Prelude.{◌≡◌, ◌+◌, ◌≤◌, ◌↔◌, IfOk, IsTrue, Err};
-ghost use Rattle.curve_conv.specs.upp_curve.specs.Curve.{value_at};
-ghost use Rattle.min_plus.specs.Convolution.{IsSubadditive};
+ghost use Rattle.curve_pointwise.specs.upp_curve.specs.Curve.{value_at};
+ghost use Rattle.curve_pointwise.specs.min_plus.specs.Convolution.{IsSubadditive};
 ghost use Rattle.subadd_closure.specs.Tests.{TestsSubadditive, TestWants};
 
 use curve_conv::convolve;
-use curve_conv::curve_call::intact;
-use curve_conv::curve_pointwise::min;
-use curve_conv::upp_curve::{Curve, equal};
-use curve_conv::upp_limits::OpFault;
+use curve_pointwise::curve_call::intact;
+use curve_pointwise::min;
+use curve_pointwise::upp_curve::{Curve, equal};
+use curve_pointwise::upp_limits::OpFault;
 use std::alloc::Global;
 use std::sync::ledger::Ledger;
 use steps::Steps;

@@ -1,22 +1,22 @@
 //! The elements of the second operand of a convolution without those that are nowhere below the first operand.
 
 ghost use Rattle.std.specs.Prelude.{◌≡◌, IfOk, IsTrue};
-ghost use Rattle.rational.specs.Rational.{ℚ, ◌≤ℚ◌, ◌<ℚ◌};
-ghost use Rattle.rational.specs.Extended.{◌≤ₑ◌, ◌<ₑ◌};
-ghost use Rattle.rational.specs.declared.Extended.TheVariants.{Fin};
-ghost use Rattle.curve_conv.specs.affine_segment.specs.Values.{line_at};
-ghost use Rattle.curve_conv.specs.affine_segment.specs.Reading.{read};
-ghost use Rattle.curve_conv.specs.affine_segment.specs.Pieces.{Each, StartsAtZero};
-ghost use Rattle.min_plus.specs.Functions.{zero_q};
-ghost use Rattle.curve_conv.specs.upp_curve.specs.Curve.{value_at};
-ghost use Rattle.curve_conv.specs.upp_curve.specs.Curves.{IsCurve};
-ghost use Rattle.curve_conv.specs.upp_curve.specs.Unrolled.{unroll, upto};
+ghost use Rattle.curve_pointwise.specs.rational.specs.Rational.{ℚ, ◌≤ℚ◌, ◌<ℚ◌};
+ghost use Rattle.curve_pointwise.specs.rational.specs.Extended.{◌≤ₑ◌, ◌<ₑ◌};
+ghost use Rattle.curve_pointwise.specs.rational.specs.declared.Extended.TheVariants.{Fin};
+ghost use Rattle.curve_pointwise.specs.affine_segment.specs.Values.{line_at};
+ghost use Rattle.curve_pointwise.specs.affine_segment.specs.Reading.{read};
+ghost use Rattle.curve_pointwise.specs.affine_segment.specs.Pieces.{Each, StartsAtZero};
+ghost use Rattle.curve_pointwise.specs.min_plus.specs.Functions.{zero_q};
+ghost use Rattle.curve_pointwise.specs.upp_curve.specs.Curve.{value_at};
+ghost use Rattle.curve_pointwise.specs.upp_curve.specs.Curves.{IsCurve};
+ghost use Rattle.curve_pointwise.specs.upp_curve.specs.Unrolled.{unroll, upto};
 ghost use Rattle.subadd_closure.specs.Thinned.{LiesUnder, IsOver, IsThinned};
 
-use curve_conv::affine_segment::{Element, Line, Piece, start_of, value};
-use curve_conv::fraction128::{Ext, Frac, is_less};
-use curve_conv::upp_curve::Curve;
-use rational::Extended;
+use curve_pointwise::affine_segment::{Element, Line, Piece, start_of, value};
+use curve_pointwise::fraction128::{Ext, Frac, is_less};
+use curve_pointwise::rational::Extended;
+use curve_pointwise::upp_curve::Curve;
 use std::alloc::{AllocError, Global};
 
 // Whether a is at most b.

@@ -1,16 +1,16 @@
 -- A formula has an answer, where each of its calls has one.
 use Rattle.std.specs.Prelude.{◌≡◌, List, [], ◌∷◌, ◌++◌}
 use Rattle.std.proofs.Common.{refl, sym, subst}
-use Rattle.rational.specs.Extended.{Ext, min_ext}
-use Rattle.min_plus.specs.Deviations.{IsHorizontalDeviation, IsVerticalDeviation}
-use Rattle.upp_curve.specs.Curve.{SpecCurve}
-use Rattle.upp_curve.specs.Kinds.{bucket}
-use Rattle.upp_limits.specs.declared.op_kind.OpKind.TheVariants.{Min, Shift, FifoLeft, Horizontal, Vertical}
-use Rattle.run_laws.specs.Cards.{whole}
-use Rattle.curve_call.specs.Again.{IsAgain}
-use Rattle.curve_call.specs.Calls.{Applies, AppliesTo}
-use Rattle.residual_calls.specs.PriorityCalls.{MakesPriority}
-use Rattle.residual_calls.specs.DrrCalls.{MakesDrr}
+use Rattle.curve_pointwise.specs.rational.specs.Extended.{Ext, min_ext}
+use Rattle.curve_pointwise.specs.min_plus.specs.Deviations.{IsHorizontalDeviation, IsVerticalDeviation}
+use Rattle.net_cells.specs.upp_curve.specs.Curve.{SpecCurve}
+use Rattle.net_cells.specs.upp_curve.specs.Kinds.{bucket}
+use Rattle.net_cells.specs.upp_limits.specs.declared.op_kind.OpKind.TheVariants.{Min, Shift, FifoLeft, Horizontal, Vertical}
+use Rattle.net_cells.specs.run_laws.specs.Cards.{whole}
+use Rattle.net_cells.specs.curve_call.specs.Again.{IsAgain}
+use Rattle.net_cells.specs.curve_call.specs.Calls.{Applies, AppliesTo}
+use Rattle.net_cells.specs.residual_calls.specs.PriorityCalls.{MakesPriority}
+use Rattle.net_cells.specs.residual_calls.specs.DrrCalls.{MakesDrr}
 use Rattle.net_cells.specs.Answers.{Answer, AnswersFrom, CutsBy, Deviates, IsOnly, MakesCurve, MakesNumber, ThenCurves, ThenNumber}
 use Rattle.net_cells.specs.Formulas.{Formula, value_of, given, empty_sum, made, made_of, moved, cut, part, no_part, leftover, priority, deficit, horizontal, vertical, smaller, along, delayed}
 use Rattle.net_cells.specs.Meanings.{curve, number, CellTable}

@@ -1,20 +1,20 @@
 -- Parts of formulas whose calls have answers, and of which sort their values are.
 use Rattle.std.specs.Prelude.{◌≡◌, ℕ, Some, Result, Ok, Err, []}
 use Rattle.std.proofs.Common.{sym, ◌∙◌, subst}
-use Rattle.rational.specs.Rational.{ℚ}
-use Rattle.rational.specs.Extended.{Ext}
-use Rattle.min_plus.specs.Deviations.{IsHorizontalDeviation, IsVerticalDeviation}
-use Rattle.min_plus.specs.Functions.{IsFinite, IsRising}
-use Rattle.upp_limits.specs.declared.op_kind.OpKind.{OpKind}
-use Rattle.upp_limits.specs.declared.op_kind.OpKind.TheVariants.{PosMinus, Horizontal, Vertical}
-use Rattle.upp_limits.specs.declared.op_kind.OpFault.{OpFault}
-use Rattle.upp_limits.specs.declared.op_kind.OpFault.TheVariants.{NoMemory}
-use Rattle.upp_curve.specs.Curve.{SpecCurve, value_at}
-use Rattle.upp_curve.specs.Curves.{IsCurve}
-use Rattle.run_laws.specs.Cards.{whole}
-use Rattle.curve_call.specs.Answers.{IsMadeBy}
-use Rattle.curve_call.specs.Calls.{Applies, AppliesTo}
-use Rattle.residual_calls.proofs.PriorityCalls.{above_finite}
+use Rattle.curve_pointwise.specs.rational.specs.Rational.{ℚ}
+use Rattle.curve_pointwise.specs.rational.specs.Extended.{Ext}
+use Rattle.curve_pointwise.specs.min_plus.specs.Deviations.{IsHorizontalDeviation, IsVerticalDeviation}
+use Rattle.curve_pointwise.specs.min_plus.specs.Functions.{IsFinite, IsRising}
+use Rattle.net_cells.specs.upp_limits.specs.declared.op_kind.OpKind.{OpKind}
+use Rattle.net_cells.specs.upp_limits.specs.declared.op_kind.OpKind.TheVariants.{PosMinus, Horizontal, Vertical}
+use Rattle.net_cells.specs.upp_limits.specs.declared.op_kind.OpFault.{OpFault}
+use Rattle.net_cells.specs.upp_limits.specs.declared.op_kind.OpFault.TheVariants.{NoMemory}
+use Rattle.net_cells.specs.upp_curve.specs.Curve.{SpecCurve, value_at}
+use Rattle.net_cells.specs.upp_curve.specs.Curves.{IsCurve}
+use Rattle.net_cells.specs.run_laws.specs.Cards.{whole}
+use Rattle.net_cells.specs.curve_call.specs.Answers.{IsMadeBy}
+use Rattle.net_cells.specs.curve_call.specs.Calls.{Applies, AppliesTo}
+use Rattle.net_cells.specs.residual_calls.proofs.PriorityCalls.{above_finite}
 use Rattle.net_bounds.proofs.Cells.{curve_map}
 use Rattle.net_bounds.proofs.FormulaParts.{number_map}
 use Rattle.net_cells.specs.declared.cell.Cell.{Cell}

@@ -1,11 +1,11 @@
 -- A call and then another have an answer.
 use Rattle.std.specs.Prelude.{◌≢◌, Result, Ok, Err}
 use Rattle.std.proofs.Common.{refl}
-use Rattle.upp_curve.specs.Curve.{SpecCurve}
-use Rattle.upp_limits.specs.declared.op_kind.OpKind.{OpKind}
-use Rattle.upp_limits.specs.declared.op_kind.OpFault.{OpFault}
-use Rattle.upp_limits.specs.declared.op_kind.OpFault.TheVariants.{NoMemory}
-use Rattle.curve_call.specs.Calls.{Applies, Then, goes_on, stops}
+use Rattle.net_cells.specs.upp_curve.specs.Curve.{SpecCurve}
+use Rattle.net_cells.specs.upp_limits.specs.declared.op_kind.OpKind.{OpKind}
+use Rattle.net_cells.specs.upp_limits.specs.declared.op_kind.OpFault.{OpFault}
+use Rattle.net_cells.specs.upp_limits.specs.declared.op_kind.OpFault.TheVariants.{NoMemory}
+use Rattle.net_cells.specs.curve_call.specs.Calls.{Applies, Then, goes_on, stops}
 use Rattle.curve_existence.specs.Answered.{HasAnswer}
 use Rattle.table_existence.specs.Found.{HasAnswerOf}
 

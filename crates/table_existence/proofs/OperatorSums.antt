@@ -1,10 +1,10 @@
 -- Sums of curves have answers.
 use Rattle.std.specs.Prelude.{List, [], ◌∷◌}
 use Rattle.std.proofs.Common.{refl}
-use Rattle.upp_curve.specs.Curve.{SpecCurve}
-use Rattle.upp_curve.specs.Curves.{IsCurve}
-use Rattle.upp_limits.specs.declared.op_kind.OpKind.TheVariants.{Sum}
-use Rattle.curve_call.specs.Calls.{Applies}
+use Rattle.net_cells.specs.upp_curve.specs.Curve.{SpecCurve}
+use Rattle.net_cells.specs.upp_curve.specs.Curves.{IsCurve}
+use Rattle.net_cells.specs.upp_limits.specs.declared.op_kind.OpKind.TheVariants.{Sum}
+use Rattle.net_cells.specs.curve_call.specs.Calls.{Applies}
 use Rattle.net_cells.specs.Answers.{MakesCurve, SumsOnto, SumsOf}
 use Rattle.net_cells.specs.Meanings.{curve}
 use Rattle.net_cells.specs.Numbered.{zero_curve}

@@ -1,15 +1,15 @@
 -- The services of a priority queue and of a deficit round robin queue have answers.
 use Rattle.std.specs.Prelude.{◌≡◌, ℕ, List, Ok, Err}
-use Rattle.min_plus.specs.Functions.{IsFinite}
-use Rattle.upp_curve.specs.Curve.{SpecCurve, value_at}
-use Rattle.upp_curve.specs.Curves.{IsCurve}
-use Rattle.upp_limits.specs.declared.op_kind.OpKind.TheVariants.{PosDiff, PosMinus, Scale, RunSup}
-use Rattle.run_laws.specs.Cards.{whole}
-use Rattle.curve_call.specs.Calls.{Applies, AppliesTo, goes_on, stops}
-use Rattle.residual_calls.specs.PriorityCalls.{LeavesPriority, MakesPriority}
-use Rattle.residual_calls.specs.DrrCalls.{share_in, owed_in, MakesDrr}
-use Rattle.residual_calls.proofs.PriorityCalls.{difference_finite, left_finite, left_nonneg}
-use Rattle.residual_calls.proofs.DrrCalls.{scaled_finite}
+use Rattle.curve_pointwise.specs.min_plus.specs.Functions.{IsFinite}
+use Rattle.net_cells.specs.upp_curve.specs.Curve.{SpecCurve, value_at}
+use Rattle.net_cells.specs.upp_curve.specs.Curves.{IsCurve}
+use Rattle.net_cells.specs.upp_limits.specs.declared.op_kind.OpKind.TheVariants.{PosDiff, PosMinus, Scale, RunSup}
+use Rattle.net_cells.specs.run_laws.specs.Cards.{whole}
+use Rattle.net_cells.specs.curve_call.specs.Calls.{Applies, AppliesTo, goes_on, stops}
+use Rattle.net_cells.specs.residual_calls.specs.PriorityCalls.{LeavesPriority, MakesPriority}
+use Rattle.net_cells.specs.residual_calls.specs.DrrCalls.{share_in, owed_in, MakesDrr}
+use Rattle.net_cells.specs.residual_calls.proofs.PriorityCalls.{difference_finite, left_finite, left_nonneg}
+use Rattle.net_cells.specs.residual_calls.proofs.DrrCalls.{scaled_finite}
 use Rattle.table_existence.specs.Found.{HasAnswerOf, CallsExist, ServicesExist}
 use Rattle.table_existence.proofs.InTurn.{call_found, in_turn}
 

@@ -1,23 +1,23 @@
 -- Sums of cells that are curves: their calls have answers.
 use Rattle.std.proofs.Common.{◌≡◌, ℕ, zero, suc, ◌<◌, ◌≤◌, ◌^◌, List, [], ◌∷◌, ◌++◌, map, pos, refl, sym, subst, arith, inl, inr}
 use Rattle.std.specs.Prelude.{Option, Some, None}
-use Rattle.rational.specs.Rational.{int, ◌≤ℚ◌}
-use Rattle.rational.specs.Ratio.{IsSmall}
-use Rattle.rational.proofs.Sizes.{largest_part, small_on_grid}
-use Rattle.rational.proofs.Grid.{whole_int, within_nonneg}
-use Rattle.rational.proofs.Integers.{nat_le, nat_nonneg}
-use Rattle.rational.proofs.Laws.{mul_one, le_refl}
-use Rattle.upp_limits.specs.declared.op_kind.OpKind.TheVariants.{Sum, Min}
-use Rattle.upp_curve.specs.Curve.{SpecCurve}
-use Rattle.upp_curve.specs.Curves.{IsCurve}
-use Rattle.upp_curve.specs.Kinds.{bucket}
-use Rattle.upp_curve.proofs.ReadableKinds.{bucket_curve}
-use Rattle.run_laws.specs.Cards.{whole}
-use Rattle.run_laws.proofs.Members.{Has, has_left, has_right}
-use Rattle.curve_call.specs.Answers.{IsMadeBy}
-use Rattle.curve_call.specs.Calls.{Applies}
-use Rattle.net_model.specs.Networks.{Net, NetFlow}
-use Rattle.net_model.specs.Accepted.{IsAccepted}
+use Rattle.curve_pointwise.specs.rational.specs.Rational.{int, ◌≤ℚ◌}
+use Rattle.curve_pointwise.specs.rational.specs.Ratio.{IsSmall}
+use Rattle.curve_pointwise.specs.rational.proofs.Sizes.{largest_part, small_on_grid}
+use Rattle.curve_pointwise.specs.rational.proofs.Grid.{whole_int, within_nonneg}
+use Rattle.curve_pointwise.specs.rational.proofs.Integers.{nat_le, nat_nonneg}
+use Rattle.curve_pointwise.specs.rational.proofs.Laws.{mul_one, le_refl}
+use Rattle.net_cells.specs.upp_limits.specs.declared.op_kind.OpKind.TheVariants.{Sum, Min}
+use Rattle.net_cells.specs.upp_curve.specs.Curve.{SpecCurve}
+use Rattle.net_cells.specs.upp_curve.specs.Curves.{IsCurve}
+use Rattle.net_cells.specs.upp_curve.specs.Kinds.{bucket}
+use Rattle.net_cells.specs.upp_curve.proofs.ReadableKinds.{bucket_curve}
+use Rattle.net_cells.specs.run_laws.specs.Cards.{whole}
+use Rattle.net_cells.specs.run_laws.proofs.Members.{Has, has_left, has_right}
+use Rattle.net_cells.specs.curve_call.specs.Answers.{IsMadeBy}
+use Rattle.net_cells.specs.curve_call.specs.Calls.{Applies}
+use Rattle.net_cells.specs.net_model.specs.Networks.{Net, NetFlow}
+use Rattle.net_cells.specs.net_model.specs.Accepted.{IsAccepted}
 use Rattle.net_bounds.proofs.Cells.{curve_map}
 use Rattle.net_cells.specs.declared.cell.Cell.{Cell}
 use Rattle.net_cells.specs.declared.cell.Kind.TheVariants.{In}

@@ -1,10 +1,10 @@
 -- Calls on the values of formulas have answers.
 use Rattle.std.specs.Prelude.{◌≡◌, ◌≢◌, Result, Ok, Err}
 use Rattle.std.proofs.Common.{refl}
-use Rattle.rational.specs.Extended.{Ext}
-use Rattle.upp_curve.specs.Curve.{SpecCurve}
-use Rattle.upp_limits.specs.declared.op_kind.OpFault.{OpFault}
-use Rattle.upp_limits.specs.declared.op_kind.OpFault.TheVariants.{NoMemory}
+use Rattle.curve_pointwise.specs.rational.specs.Extended.{Ext}
+use Rattle.net_cells.specs.upp_curve.specs.Curve.{SpecCurve}
+use Rattle.net_cells.specs.upp_limits.specs.declared.op_kind.OpFault.{OpFault}
+use Rattle.net_cells.specs.upp_limits.specs.declared.op_kind.OpFault.TheVariants.{NoMemory}
 use Rattle.net_cells.specs.Answers.{Answer, MakesCurve, MakesNumber, OnCurve, OnNumber, ThenCurve, ThenNumber, ThenCurves, ThenNumbers}
 use Rattle.net_cells.specs.Meanings.{Meaning, curve, number, IsCurveIn, IsNumberIn}
 use Rattle.table_existence.specs.Found.{HasAnswerOf}

@@ -1,15 +1,15 @@
 -- A formula has an answer that is not want of memory, where each of its calls has one. Own choice.
 use Rattle.std.specs.Prelude.{◌≡◌, List, [], ◌∷◌, ◌++◌, Some, Ok}
-use Rattle.rational.specs.Extended.{Ext}
-use Rattle.min_plus.specs.Deviations.{IsHorizontalDeviation, IsVerticalDeviation}
-use Rattle.upp_curve.specs.Curve.{SpecCurve}
-use Rattle.upp_curve.specs.Curves.{IsCurve}
-use Rattle.upp_curve.specs.Kinds.{bucket}
-use Rattle.upp_limits.specs.declared.op_kind.OpKind.TheVariants.{Sum, Min, Shift, FifoLeft, Horizontal, Vertical}
-use Rattle.run_laws.specs.Cards.{whole}
-use Rattle.curve_call.specs.Calls.{Applies, AppliesTo}
-use Rattle.residual_calls.specs.PriorityCalls.{MakesPriority}
-use Rattle.residual_calls.specs.DrrCalls.{MakesDrr}
+use Rattle.curve_pointwise.specs.rational.specs.Extended.{Ext}
+use Rattle.curve_pointwise.specs.min_plus.specs.Deviations.{IsHorizontalDeviation, IsVerticalDeviation}
+use Rattle.net_cells.specs.upp_curve.specs.Curve.{SpecCurve}
+use Rattle.net_cells.specs.upp_curve.specs.Curves.{IsCurve}
+use Rattle.net_cells.specs.upp_curve.specs.Kinds.{bucket}
+use Rattle.net_cells.specs.upp_limits.specs.declared.op_kind.OpKind.TheVariants.{Sum, Min, Shift, FifoLeft, Horizontal, Vertical}
+use Rattle.net_cells.specs.run_laws.specs.Cards.{whole}
+use Rattle.net_cells.specs.curve_call.specs.Calls.{Applies, AppliesTo}
+use Rattle.net_cells.specs.residual_calls.specs.PriorityCalls.{MakesPriority}
+use Rattle.net_cells.specs.residual_calls.specs.DrrCalls.{MakesDrr}
 use Rattle.net_cells.specs.Answers.{Answer, Answers, AnswersFrom, Deviates, SumsOf}
 use Rattle.net_cells.specs.Formulas.{Formula, value_of, given, empty_sum, made, made_of, moved, cut, part, no_part, leftover, priority, deficit, horizontal, vertical, smaller, along, delayed}
 use Rattle.net_cells.specs.Meanings.{Meaning, CellTable, IsCurveIn, IsNumberIn}

@@ -1,15 +1,15 @@
 -- Calls that are made one after the other have an answer that is not want of memory. Own choice.
 use Rattle.std.specs.Prelude.{◌≢◌, ℕ, List, Result, Err}
-use Rattle.rational.specs.Rational.{ℚ}
-use Rattle.rational.specs.Extended.{Ext}
-use Rattle.min_plus.specs.Functions.{IsFinite, IsNonnegative}
-use Rattle.upp_curve.specs.Curve.{SpecCurve, value_at}
-use Rattle.upp_curve.specs.Curves.{IsCurve}
-use Rattle.upp_limits.specs.declared.op_kind.OpFault.{OpFault}
-use Rattle.upp_limits.specs.declared.op_kind.OpFault.TheVariants.{NoMemory}
-use Rattle.upp_limits.specs.declared.op_kind.OpKind.TheVariants.{PosDiff, PosMinus, Scale, RunSup}
-use Rattle.residual_calls.specs.PriorityCalls.{MakesPriority}
-use Rattle.residual_calls.specs.DrrCalls.{MakesDrr}
+use Rattle.curve_pointwise.specs.rational.specs.Rational.{ℚ}
+use Rattle.curve_pointwise.specs.rational.specs.Extended.{Ext}
+use Rattle.curve_pointwise.specs.min_plus.specs.Functions.{IsFinite, IsNonnegative}
+use Rattle.net_cells.specs.upp_curve.specs.Curve.{SpecCurve, value_at}
+use Rattle.net_cells.specs.upp_curve.specs.Curves.{IsCurve}
+use Rattle.net_cells.specs.upp_limits.specs.declared.op_kind.OpFault.{OpFault}
+use Rattle.net_cells.specs.upp_limits.specs.declared.op_kind.OpFault.TheVariants.{NoMemory}
+use Rattle.net_cells.specs.upp_limits.specs.declared.op_kind.OpKind.TheVariants.{PosDiff, PosMinus, Scale, RunSup}
+use Rattle.net_cells.specs.residual_calls.specs.PriorityCalls.{MakesPriority}
+use Rattle.net_cells.specs.residual_calls.specs.DrrCalls.{MakesDrr}
 use Rattle.curve_existence.specs.Answered.{HasAnswer}
 use Rattle.net_cells.specs.NumberSums.{Sums}
 

@@ -2,7 +2,7 @@
 use Rattle.std.specs.Prelude.{Contains, codes}
 use Rattle.std.proofs.Common.{◌≡◌, ◌≢◌, [], ◌∷◌, length, Some, refl, subst, arith, inl, inr}
 use Rattle.std.proofs.lemmas.Option.{same_Some}
-use Rattle.run_laws.specs.Cards.{whole}
+use Rattle.net_model.specs.run_laws.specs.Cards.{whole}
 use Rattle.net_model.specs.Accepted.{IsServer, IsFlow, IsAccepted}
 use Rattle.net_model.specs.Names.{DifferInName}
 use Rattle.net_model.specs.Networks.{NetFlow}

@@ -1,29 +1,29 @@
 -- Two packets at a priority server.
 use Rattle.std.specs.Prelude.{◌≡◌, ◌⊎◌, ◌<◌, ℕ, zero, suc, true, ◌==◌, ◌&&◌, [], ◌∷◌}
 use Rattle.std.proofs.Common.{arith, ap, ap₂, ◌∙◌, refl, false, sym, inl, inr}
-use Rattle.rational.specs.Rational.{ℚ, ◌+ℚ◌, ◌-ℚ◌, ◌≤ℚ◌, ◌<ℚ◌, lt_q}
-use Rattle.rational.specs.Extended.{◌≤ₑ◌}
-use Rattle.rational.specs.declared.Extended.TheVariants.{Fin}
-use Rattle.rational.proofs.Integers.{nat_nonneg}
-use Rattle.rational.proofs.Linear.{with1, with2, with3, with4, with6}
-use Rattle.upp_curve.specs.Curve.{value_at}
-use Rattle.upp_curve.proofs.KindValues.{service_is}
-use Rattle.run_laws.specs.Cards.{whole, all}
-use Rattle.run_laws.specs.Servers.{Span, clip}
-use Rattle.run_laws.specs.Counts.{when, within, arrived, worked}
-use Rattle.run_laws.specs.Premises.{KeepsService}
-use Rattle.run_laws.specs.Lawful.{IsLawful}
-use Rattle.run_laws.specs.Routes.{Routes, route_of}
-use Rattle.run_laws.specs.RunPremises.{EnterSizes, entered_in}
-use Rattle.run_laws.specs.Views.{view}
-use Rattle.run_laws.proofs.Small.{le_t, lt_t, sum_t, enters, works, leaves}
-use Rattle.run_laws.proofs.Clips.{clip_early, clip_late}
-use Rattle.rational.proofs.Laws.{le_or_lt, le_of_lt, le_trans}
-use Rattle.rational.specs.Rational.{◌*ℚ◌}
+use Rattle.net_model.specs.rational.specs.Rational.{ℚ, ◌+ℚ◌, ◌-ℚ◌, ◌≤ℚ◌, ◌<ℚ◌, lt_q}
+use Rattle.net_model.specs.rational.specs.Extended.{◌≤ₑ◌}
+use Rattle.net_model.specs.rational.specs.declared.Extended.TheVariants.{Fin}
+use Rattle.net_model.specs.rational.proofs.Integers.{nat_nonneg}
+use Rattle.net_model.specs.rational.proofs.Linear.{with1, with2, with3, with4, with6}
+use Rattle.net_model.specs.upp_curve.specs.Curve.{value_at}
+use Rattle.net_model.specs.upp_curve.proofs.KindValues.{service_is}
+use Rattle.net_model.specs.run_laws.specs.Cards.{whole, all}
+use Rattle.net_model.specs.run_laws.specs.Servers.{Span, clip}
+use Rattle.net_model.specs.run_laws.specs.Counts.{when, within, arrived, worked}
+use Rattle.net_model.specs.run_laws.specs.Premises.{KeepsService}
+use Rattle.net_model.specs.run_laws.specs.Lawful.{IsLawful}
+use Rattle.net_model.specs.run_laws.specs.Routes.{Routes, route_of}
+use Rattle.net_model.specs.run_laws.specs.RunPremises.{EnterSizes, entered_in}
+use Rattle.net_model.specs.run_laws.specs.Views.{view}
+use Rattle.net_model.specs.run_laws.proofs.Small.{le_t, lt_t, sum_t, enters, works, leaves}
+use Rattle.net_model.specs.run_laws.proofs.Clips.{clip_early, clip_late}
+use Rattle.net_model.specs.rational.proofs.Laws.{le_or_lt, le_of_lt, le_trans}
+use Rattle.net_model.specs.rational.specs.Rational.{◌*ℚ◌}
 use Rattle.worked_trees.proofs.Busy.{not_yet, in_span, span_at_rate, service_at_most, IsBusyOnly, keeps_latency}
-use Rattle.run_laws.proofs.Sums.{when_true, when_false}
-use Rattle.run_laws.proofs.Sizes.{whole_times}
-use Rattle.run_laws.proofs.SmallRuns.{one_idle, none_due}
+use Rattle.net_model.specs.run_laws.proofs.Sums.{when_true, when_false}
+use Rattle.net_model.specs.run_laws.proofs.Sizes.{whole_times}
+use Rattle.net_model.specs.run_laws.proofs.SmallRuns.{one_idle, none_due}
 use Rattle.net_cells.specs.Numbered.{packet, arrival, service}
 use Rattle.net_bounds.specs.NetRuns.{routes_of}
 use Rattle.worked_runs.specs.TwoPriorities.{two_priorities, lower_first, higher_first}

@@ -2,8 +2,8 @@
 use Rattle.std.specs.Prelude.{All, Contains, codes}
 use Rattle.std.proofs.Common.{◌≡◌, ◌≢◌, zero, suc, [], ◌∷◌, length, Some, refl, subst, arith, inl, inr}
 use Rattle.std.proofs.lemmas.Option.{same_Some}
-use Rattle.run_laws.specs.Cards.{whole}
-use Rattle.run_laws.specs.Servers.{Drr}
+use Rattle.net_model.specs.run_laws.specs.Cards.{whole}
+use Rattle.net_model.specs.run_laws.specs.Servers.{Drr}
 use Rattle.net_model.specs.Accepted.{IsLength, IsServer, IsFlow, IsAccepted}
 use Rattle.net_model.specs.Names.{DifferInName}
 use Rattle.net_model.specs.Networks.{NetServer, NetFlow}

@@ -1,24 +1,24 @@
 -- Two packets at a deficit round robin server.
 use Rattle.std.specs.Prelude.{◌≡◌, ◌<◌, ℕ, zero, suc, true, ◌==◌, ◌&&◌, [], ◌∷◌}
 use Rattle.std.proofs.Common.{arith, ap, ap₂, ◌∙◌, refl, false, inl}
-use Rattle.rational.specs.Rational.{ℚ, ◌+ℚ◌, ◌-ℚ◌, ◌≤ℚ◌, lt_q}
-use Rattle.rational.specs.Extended.{◌≤ₑ◌}
-use Rattle.rational.specs.declared.Extended.TheVariants.{Fin}
-use Rattle.rational.proofs.Integers.{nat_nonneg}
-use Rattle.rational.proofs.Linear.{with1, with2}
-use Rattle.upp_curve.specs.Curve.{value_at}
-use Rattle.upp_curve.proofs.KindValues.{service_is}
-use Rattle.run_laws.specs.Cards.{whole}
-use Rattle.run_laws.specs.Servers.{clip}
-use Rattle.run_laws.specs.Counts.{when, within}
-use Rattle.run_laws.specs.Premises.{KeepsService}
-use Rattle.run_laws.specs.Lawful.{IsLawful}
-use Rattle.run_laws.specs.Routes.{Routes, route_of}
-use Rattle.run_laws.specs.RunPremises.{EnterSizes, entered_in}
-use Rattle.run_laws.specs.Views.{view}
-use Rattle.run_laws.proofs.Small.{sum_t, enters, works, leaves, visits}
-use Rattle.run_laws.proofs.Sums.{when_true, when_false}
-use Rattle.run_laws.proofs.SmallRuns.{one_idle, none_due}
+use Rattle.net_model.specs.rational.specs.Rational.{ℚ, ◌+ℚ◌, ◌-ℚ◌, ◌≤ℚ◌, lt_q}
+use Rattle.net_model.specs.rational.specs.Extended.{◌≤ₑ◌}
+use Rattle.net_model.specs.rational.specs.declared.Extended.TheVariants.{Fin}
+use Rattle.net_model.specs.rational.proofs.Integers.{nat_nonneg}
+use Rattle.net_model.specs.rational.proofs.Linear.{with1, with2}
+use Rattle.net_model.specs.upp_curve.specs.Curve.{value_at}
+use Rattle.net_model.specs.upp_curve.proofs.KindValues.{service_is}
+use Rattle.net_model.specs.run_laws.specs.Cards.{whole}
+use Rattle.net_model.specs.run_laws.specs.Servers.{clip}
+use Rattle.net_model.specs.run_laws.specs.Counts.{when, within}
+use Rattle.net_model.specs.run_laws.specs.Premises.{KeepsService}
+use Rattle.net_model.specs.run_laws.specs.Lawful.{IsLawful}
+use Rattle.net_model.specs.run_laws.specs.Routes.{Routes, route_of}
+use Rattle.net_model.specs.run_laws.specs.RunPremises.{EnterSizes, entered_in}
+use Rattle.net_model.specs.run_laws.specs.Views.{view}
+use Rattle.net_model.specs.run_laws.proofs.Small.{sum_t, enters, works, leaves, visits}
+use Rattle.net_model.specs.run_laws.proofs.Sums.{when_true, when_false}
+use Rattle.net_model.specs.run_laws.proofs.SmallRuns.{one_idle, none_due}
 use Rattle.net_cells.specs.Numbered.{packet, arrival, service}
 use Rattle.net_bounds.specs.NetRuns.{routes_of}
 use Rattle.worked_runs.specs.TwoQuanta.{two_quanta, first_flow_last, second_flow_last}

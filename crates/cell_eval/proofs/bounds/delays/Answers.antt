@@ -1,6 +1,6 @@
 use Rattle.std.proofs.Common.{◌≡◌, subst, arith}
-use Rattle.cell_table.specs.net_cells.specs.Numbered.{hops}
-use Rattle.cell_table.specs.net_cells.specs.Means.{HaveNumbers}
+use Rattle.net_cells.specs.Numbered.{hops}
+use Rattle.net_cells.specs.Means.{HaveNumbers}
 use Rattle.cell_eval.proofs.PathSums.{delays_to, none_added, delay_added}
 use Rattle.cell_eval.proofs.bounds.delays.Goals as goal
 

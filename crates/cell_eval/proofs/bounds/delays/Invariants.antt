@@ -1,6 +1,6 @@
 use Rattle.std.proofs.Common.{List}
-use Rattle.rational.specs.Extended.{Ext}
-use Rattle.cell_table.specs.net_cells.specs.Means.{HaveNumbers}
+use Rattle.fraction128.specs.rational.specs.Extended.{Ext}
+use Rattle.net_cells.specs.Means.{HaveNumbers}
 use Rattle.cell_eval.specs.Tallies.{AreAdded}
 use Rattle.cell_eval.proofs.PathSums.{delays_to}
 use Rattle.cell_eval.proofs.bounds.delays.Given as goal

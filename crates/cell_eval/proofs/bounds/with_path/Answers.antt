@@ -1,7 +1,7 @@
 use Rattle.std.proofs.Common.{map, sym, ap, ◌∙◌, subst, arith, append-nil}
 use Rattle.std.proofs.lemmas.List.{take_all}
-use Rattle.cell_table.specs.net_cells.specs.Numbered.{link, path}
-use Rattle.cell_table.specs.net_cells.specs.Means.{with_links}
+use Rattle.net_cells.specs.Numbered.{link, path}
+use Rattle.net_cells.specs.Means.{with_links}
 use Rattle.cell_eval.specs.Tallies.{AreAdded}
 use Rattle.cell_eval.proofs.PathSums.{link_added}
 use Rattle.cell_eval.proofs.bounds.with_path.Goals as goal

@@ -1,6 +1,6 @@
 use Rattle.std.proofs.Common.{List}
-use Rattle.rational.specs.Extended.{Ext}
-use Rattle.cell_table.specs.net_cells.specs.Means.{with_links}
+use Rattle.fraction128.specs.rational.specs.Extended.{Ext}
+use Rattle.net_cells.specs.Means.{with_links}
 use Rattle.cell_eval.specs.Tallies.{AreAdded}
 use Rattle.cell_eval.proofs.PathSums.{links_to}
 use Rattle.cell_eval.proofs.bounds.with_path.Given as goal

@@ -1,6 +1,6 @@
 use Rattle.std.proofs.Common.{sym, ap, ◌∙◌, subst}
 use Rattle.std.specs.Prelude.{Some}
-use Rattle.cell_table.specs.net_cells.specs.Meanings.{curve}
+use Rattle.net_cells.specs.Meanings.{curve}
 use Rattle.cell_eval.specs.Partial.{IsPartial}
 use Rattle.cell_eval.proofs.SumSteps.{adds_first, one_summed, made_summed}
 use Rattle.cell_eval.proofs.curve_sums.added.Goals as goal

@@ -1,6 +1,6 @@
 use Rattle.std.proofs.Common.{subst}
-use Rattle.curve_conv.specs.curve_call.specs.Again.{IsAgain}
-use Rattle.cell_table.specs.net_cells.specs.Numbered.{zero_curve}
+use Rattle.curve_running.specs.curve_call.specs.Again.{IsAgain}
+use Rattle.net_cells.specs.Numbered.{zero_curve}
 use Rattle.cell_table.specs.Values.{answer_of, meaning_of}
 use Rattle.cell_eval.specs.Partial.{IsPartial}
 use Rattle.cell_eval.proofs.Handing.{again_out, shared_makes}

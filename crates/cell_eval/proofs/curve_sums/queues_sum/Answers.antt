@@ -2,8 +2,8 @@ use Rattle.std.proofs.Common.{rules, ◌+◌, sym, ap, ◌∙◌, subst, arith, 
 use Rattle.std.specs.Prelude.{Ok, Err}
 use Rattle.std.specs.List.{range_with_len}
 use Rattle.std.proofs.lemmas.List.FromFn.{map-range_with_len_more}
-use Rattle.cell_table.specs.net_cells.specs.declared.cell.Kind.TheVariants.{Total}
-use Rattle.cell_table.specs.net_cells.specs.Cells.{cell_of}
+use Rattle.net_cells.specs.declared.cell.Kind.TheVariants.{Total}
+use Rattle.net_cells.specs.Cells.{cell_of}
 use Rattle.cell_eval.specs.Partial.{Adds}
 use Rattle.cell_eval.proofs.Choosing.{map_front}
 use Rattle.cell_eval.proofs.SumSteps.{adds_then, adds_rest}

@@ -1,8 +1,8 @@
 use Rattle.std.proofs.Common.{[], map}
 use Rattle.std.specs.Prelude.{Ok}
 use Rattle.std.specs.List.{range_with_len}
-use Rattle.cell_table.specs.net_cells.specs.declared.cell.Kind.TheVariants.{Total}
-use Rattle.cell_table.specs.net_cells.specs.Cells.{cell_of}
+use Rattle.net_cells.specs.declared.cell.Kind.TheVariants.{Total}
+use Rattle.net_cells.specs.Cells.{cell_of}
 use Rattle.cell_eval.specs.Partial.{IsReady, Adds}
 use Rattle.cell_eval.proofs.curve_sums.queues_sum.Given as goal
 

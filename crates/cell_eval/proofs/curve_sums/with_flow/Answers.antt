@@ -1,7 +1,7 @@
 use Rattle.std.proofs.Common.{sym, ap, ◌∙◌, subst, map}
 use Rattle.std.specs.Prelude.{Ok}
-use Rattle.cell_table.specs.net_cells.specs.declared.cell.Kind.TheVariants.{In}
-use Rattle.cell_table.specs.net_cells.specs.Order.{at_visit}
+use Rattle.net_cells.specs.declared.cell.Kind.TheVariants.{In}
+use Rattle.net_cells.specs.Order.{at_visit}
 use Rattle.cell_eval.specs.Chosen.{visit_list}
 use Rattle.cell_eval.specs.Partial.{Adds}
 use Rattle.cell_eval.proofs.SumSteps.{adds_none}

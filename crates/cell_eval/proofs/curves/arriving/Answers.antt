@@ -1,11 +1,11 @@
 use Rattle.std.proofs.Common.{◌≡◌, suc, ◌-◌, subst, arith}
-use Rattle.cell_table.specs.net_cells.specs.declared.cell.Kind.TheVariants.{In}
-use Rattle.cell_table.specs.net_cells.specs.Cells.{cell_of}
+use Rattle.net_cells.specs.declared.cell.Kind.TheVariants.{In}
+use Rattle.net_cells.specs.Cells.{cell_of}
 use Rattle.cell_table.specs.Values.{answer_of, meaning_of}
 use Rattle.cell_eval.specs.Evaluates.{MayBeMade, Evaluates}
 use Rattle.cell_eval.proofs.Counting.{counts_none}
 use Rattle.cell_eval.proofs.Arms.{in_before}
-use Rattle.cell_table.specs.net_cells.specs.CellFormulas.{formula}
+use Rattle.net_cells.specs.CellFormulas.{formula}
 use Rattle.cell_eval.proofs.Stopping.{none_stops}
 use Rattle.cell_eval.proofs.curves.arriving.Goals as goal
 

@@ -1,11 +1,11 @@
 use Rattle.std.proofs.Common.{◌-◌, List, [], length, map, sym, subst}
 use Rattle.std.specs.Prelude.{Some}
 use Rattle.std.proofs.lemmas.List.{length-map}
-use Rattle.cell_table.specs.net_cells.specs.declared.cell.Kind.TheVariants.{In}
-use Rattle.cell_table.specs.net_cells.specs.Numbered.{server_of_hop, queue_of_hop}
-use Rattle.cell_table.specs.net_cells.specs.declared.visit.Visit.{Visit}
-use Rattle.cell_table.specs.net_cells.specs.Visits.{others}
-use Rattle.cell_table.specs.net_cells.specs.Order.{at_visit}
+use Rattle.net_cells.specs.declared.cell.Kind.TheVariants.{In}
+use Rattle.net_cells.specs.Numbered.{server_of_hop, queue_of_hop}
+use Rattle.net_cells.specs.declared.visit.Visit.{Visit}
+use Rattle.net_cells.specs.Visits.{others}
+use Rattle.net_cells.specs.Order.{at_visit}
 use Rattle.cell_table.specs.Values.{answer_of, meaning_of}
 use Rattle.cell_eval.specs.declared.found.Pick.TheVariants.{InQueue}
 use Rattle.cell_eval.specs.Chosen.{all_chosen}

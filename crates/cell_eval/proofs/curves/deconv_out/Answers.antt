@@ -1,14 +1,14 @@
 use Rattle.std.proofs.Common.{◌-◌, subst, inr}
 use Rattle.std.specs.Prelude.{IfErr}
-use Rattle.curve_conv.specs.upp_limits.specs.declared.op_kind.OpKind.TheVariants.{Deconvolve}
-use Rattle.cell_table.specs.net_cells.specs.Formulas.{value_of, made}
+use Rattle.net_cells.specs.upp_limits.specs.declared.op_kind.OpKind.TheVariants.{Deconvolve}
+use Rattle.net_cells.specs.Formulas.{value_of, made}
 use Rattle.cell_table.specs.Values.{meaning_of}
 use Rattle.cell_eval.proofs.Counting.{ok_answer}
 use Rattle.cell_eval.proofs.Arms.{deconv_comes, deconv_served_by}
-use Rattle.cell_table.specs.net_cells.specs.declared.cell.Kind.TheVariants.{In, Residual, DeconvOut}
-use Rattle.cell_table.specs.net_cells.specs.Cells.{cell_of}
-use Rattle.cell_table.specs.net_cells.specs.CellFormulas.{less, formula}
-use Rattle.cell_table.specs.net_cells.specs.Refusals.{RefusedAt}
+use Rattle.net_cells.specs.declared.cell.Kind.TheVariants.{In, Residual, DeconvOut}
+use Rattle.net_cells.specs.Cells.{cell_of}
+use Rattle.net_cells.specs.CellFormulas.{less, formula}
+use Rattle.net_cells.specs.Refusals.{RefusedAt}
 use Rattle.cell_eval.proofs.Stopping.{at_refusal}
 use Rattle.cell_eval.proofs.curves.deconv_out.Goals as goal
 

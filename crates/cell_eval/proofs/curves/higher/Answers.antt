@@ -1,8 +1,8 @@
 use Rattle.std.proofs.Common.{◌-◌, map, subst}
 use Rattle.std.specs.List.{range_with_len}
 use Rattle.std.proofs.lemmas.List.FromFn.{length-map-range_with_len}
-use Rattle.cell_table.specs.net_cells.specs.declared.cell.Kind.TheVariants.{Total}
-use Rattle.cell_table.specs.net_cells.specs.Cells.{cell_of}
+use Rattle.net_cells.specs.declared.cell.Kind.TheVariants.{Total}
+use Rattle.net_cells.specs.Cells.{cell_of}
 use Rattle.cell_table.specs.Values.{answer_of, meaning_of}
 use Rattle.cell_eval.specs.Evaluates.{Counts}
 use Rattle.cell_eval.proofs.Arms.{higher_ready}

@@ -1,13 +1,13 @@
 use Rattle.cell_eval.proofs.Counting.{counts_all}
 use Rattle.cell_eval.proofs.Arms.{out_shifted, out_spread}
 use Rattle.std.proofs.Common.{subst}
-use Rattle.curve_conv.specs.upp_limits.specs.declared.op_kind.OpKind.TheVariants.{Min}
-use Rattle.cell_table.specs.net_cells.specs.declared.cell.Kind.TheVariants.{ShiftOut, DeconvOut, Out}
-use Rattle.cell_table.specs.net_cells.specs.Cells.{cell_of}
-use Rattle.cell_table.specs.net_cells.specs.Formulas.{value_of, made}
-use Rattle.cell_table.specs.net_cells.specs.CellFormulas.{formula}
-use Rattle.cell_table.specs.net_cells.specs.Answers.{Answers}
-use Rattle.cell_table.specs.net_cells.proofs.OneOperator.{made_stops}
+use Rattle.net_cells.specs.upp_limits.specs.declared.op_kind.OpKind.TheVariants.{Min}
+use Rattle.net_cells.specs.declared.cell.Kind.TheVariants.{ShiftOut, DeconvOut, Out}
+use Rattle.net_cells.specs.Cells.{cell_of}
+use Rattle.net_cells.specs.Formulas.{value_of, made}
+use Rattle.net_cells.specs.CellFormulas.{formula}
+use Rattle.net_cells.specs.Answers.{Answers}
+use Rattle.net_cells.proofs.OneOperator.{made_stops}
 use Rattle.cell_eval.proofs.Stopping.{one_stops}
 use Rattle.cell_eval.proofs.curves.leaving.Goals as goal
 

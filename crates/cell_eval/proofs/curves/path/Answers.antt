@@ -1,9 +1,9 @@
 use Rattle.cell_eval.proofs.Arms.{path_some, path_serves}
 use Rattle.std.proofs.Common.{◌-◌}
-use Rattle.cell_table.specs.net_cells.specs.declared.cell.Kind.TheVariants.{PathService}
-use Rattle.cell_table.specs.net_cells.specs.Cells.{cell_of}
-use Rattle.cell_table.specs.net_cells.specs.CellFormulas.{formula}
-use Rattle.cell_table.specs.net_cells.specs.Refusals.{Stops}
+use Rattle.net_cells.specs.declared.cell.Kind.TheVariants.{PathService}
+use Rattle.net_cells.specs.Cells.{cell_of}
+use Rattle.net_cells.specs.CellFormulas.{formula}
+use Rattle.net_cells.specs.Refusals.{Stops}
 use Rattle.cell_table.specs.Values.{meaning_of}
 use Rattle.cell_eval.proofs.Stopping.{at_refusal}
 use Rattle.cell_eval.proofs.curves.path.Goals as goal

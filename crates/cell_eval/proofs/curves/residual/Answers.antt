@@ -1,13 +1,13 @@
 use Rattle.cell_eval.proofs.Counting.{counts_all}
 use Rattle.cell_eval.proofs.Arms.{residual_service, residual_cross, residual_theta}
 use Rattle.std.proofs.Common.{subst}
-use Rattle.cell_table.specs.net_cells.specs.declared.cell.Kind.TheVariants.{Cross, QueueService, Theta, Residual}
-use Rattle.cell_table.specs.net_cells.specs.Numbered.{server_of_hop, queue_of_hop}
-use Rattle.cell_table.specs.net_cells.specs.Cells.{cell_of}
-use Rattle.cell_table.specs.net_cells.specs.Formulas.{value_of, leftover}
-use Rattle.cell_table.specs.net_cells.specs.CellFormulas.{formula}
-use Rattle.cell_table.specs.net_cells.specs.Answers.{Answers}
-use Rattle.cell_table.specs.net_cells.proofs.OneOperator.{leftover_stops}
+use Rattle.net_cells.specs.declared.cell.Kind.TheVariants.{Cross, QueueService, Theta, Residual}
+use Rattle.net_cells.specs.Numbered.{server_of_hop, queue_of_hop}
+use Rattle.net_cells.specs.Cells.{cell_of}
+use Rattle.net_cells.specs.Formulas.{value_of, leftover}
+use Rattle.net_cells.specs.CellFormulas.{formula}
+use Rattle.net_cells.specs.Answers.{Answers}
+use Rattle.net_cells.proofs.OneOperator.{leftover_stops}
 use Rattle.cell_eval.proofs.Stopping.{one_stops}
 use Rattle.cell_eval.proofs.curves.residual.Goals as goal
 

@@ -1,10 +1,10 @@
 use Rattle.cell_eval.proofs.Arms.{service_above}
 use Rattle.std.proofs.Common.{◌-◌, inr}
-use Rattle.cell_table.specs.net_cells.specs.declared.cell.Kind.TheVariants.{QueueService}
-use Rattle.cell_table.specs.net_cells.specs.Numbered.{discipline}
-use Rattle.cell_table.specs.net_cells.specs.Cells.{cell_of}
-use Rattle.cell_table.specs.net_cells.specs.CellFormulas.{formula, queue_service}
-use Rattle.cell_table.specs.net_cells.specs.Refusals.{RefusedAt}
+use Rattle.net_cells.specs.declared.cell.Kind.TheVariants.{QueueService}
+use Rattle.net_cells.specs.Numbered.{discipline}
+use Rattle.net_cells.specs.Cells.{cell_of}
+use Rattle.net_cells.specs.CellFormulas.{formula, queue_service}
+use Rattle.net_cells.specs.Refusals.{RefusedAt}
 use Rattle.cell_table.specs.Values.{answer_of, meaning_of}
 use Rattle.cell_eval.proofs.Arms.{service_given}
 use Rattle.cell_eval.proofs.Stopping.{at_refusal}

@@ -1,12 +1,12 @@
 use Rattle.cell_eval.proofs.Counting.{counts_all}
 use Rattle.cell_eval.proofs.Arms.{shift_comes, shift_by}
 use Rattle.std.proofs.Common.{subst}
-use Rattle.cell_table.specs.net_cells.specs.declared.cell.Kind.TheVariants.{In, HopDelay, ShiftOut}
-use Rattle.cell_table.specs.net_cells.specs.Cells.{cell_of}
-use Rattle.cell_table.specs.net_cells.specs.Formulas.{value_of, moved}
-use Rattle.cell_table.specs.net_cells.specs.CellFormulas.{formula}
-use Rattle.cell_table.specs.net_cells.specs.Answers.{Answers}
-use Rattle.cell_table.specs.net_cells.proofs.OneOperator.{moved_stops}
+use Rattle.net_cells.specs.declared.cell.Kind.TheVariants.{In, HopDelay, ShiftOut}
+use Rattle.net_cells.specs.Cells.{cell_of}
+use Rattle.net_cells.specs.Formulas.{value_of, moved}
+use Rattle.net_cells.specs.CellFormulas.{formula}
+use Rattle.net_cells.specs.Answers.{Answers}
+use Rattle.net_cells.proofs.OneOperator.{moved_stops}
 use Rattle.cell_eval.proofs.Stopping.{one_stops}
 use Rattle.cell_eval.proofs.curves.shift_out.Goals as goal
 

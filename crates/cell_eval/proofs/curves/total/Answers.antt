@@ -2,18 +2,18 @@ use Rattle.std.proofs.Common.{◌≡◌, ◌-◌, ◌∙◌, List, [], map, sym,
 use Rattle.std.specs.Prelude.{◌==◌}
 use Rattle.std.proofs.lemmas.Bool.{eq-eqb, ne_eqb}
 use Rattle.std.proofs.lemmas.List.{length-map}
-use Rattle.cell_table.specs.net_cells.specs.declared.cell.Kind.TheVariants.{In}
-use Rattle.cell_table.specs.net_cells.specs.declared.visit.Visit.{Visit}
-use Rattle.cell_table.specs.net_cells.specs.Visits.{visits_in}
-use Rattle.cell_table.specs.net_cells.specs.Order.{at_visit}
+use Rattle.net_cells.specs.declared.cell.Kind.TheVariants.{In}
+use Rattle.net_cells.specs.declared.visit.Visit.{Visit}
+use Rattle.net_cells.specs.Visits.{visits_in}
+use Rattle.net_cells.specs.Order.{at_visit}
 use Rattle.cell_table.specs.Values.{answer_of, meaning_of}
 use Rattle.cell_eval.specs.Partial.{Adds}
 use Rattle.cell_eval.proofs.Choosing.{queue_visits}
 use Rattle.cell_eval.specs.Evaluates.{Counts}
 use Rattle.cell_eval.proofs.Arms.{total_ready, parts_ready, total_evaluates}
-use Rattle.cell_table.specs.net_cells.specs.CellFormulas.{parts_sum}
-use Rattle.cell_table.specs.net_cells.specs.QueueParts.{part_numbers}
-use Rattle.cell_table.specs.net_cells.specs.Refusals.{RefusedAt}
+use Rattle.net_cells.specs.CellFormulas.{parts_sum}
+use Rattle.net_cells.specs.QueueParts.{part_numbers}
+use Rattle.net_cells.specs.Refusals.{RefusedAt}
 use Rattle.cell_eval.proofs.Stopping.{at_refusal}
 use Rattle.cell_eval.proofs.curves.total.Goals as goal
 

@@ -1,6 +1,6 @@
 use Rattle.std.proofs.Common.{◌≡◌, [], map}
 use Rattle.std.specs.List.{filter, range_with_len}
-use Rattle.cell_table.specs.net_cells.specs.Visits.{visit, is_at}
+use Rattle.net_cells.specs.Visits.{visit, is_at}
 use Rattle.cell_eval.proofs.found.hop_at.Given as goal
 
 abbrev pub invariant-loop-hop : goal.invariant-loop-hop

@@ -1,5 +1,5 @@
 use Rattle.std.proofs.Common.{ap, ◌∙◌, arith}
-use Rattle.cell_table.specs.net_cells.specs.Visits.{longest_of}
+use Rattle.net_cells.specs.Visits.{longest_of}
 use Rattle.cell_eval.specs.Chosen.{visit_list}
 use Rattle.cell_eval.proofs.found.longer.Goals as goal
 

@@ -1,5 +1,5 @@
 use Rattle.std.proofs.Common.{sym, ap, ◌∙◌, max}
-use Rattle.cell_table.specs.net_cells.specs.Visits.{longest_of}
+use Rattle.net_cells.specs.Visits.{longest_of}
 use Rattle.cell_eval.specs.Chosen.{picked, all_picked}
 use Rattle.cell_eval.proofs.Choosing.{longest_append, all_picked_more}
 use Rattle.cell_eval.proofs.found.longest_at.Goals as goal

@@ -1,5 +1,5 @@
 use Rattle.std.proofs.Common.{◌≡◌}
-use Rattle.cell_table.specs.net_cells.specs.Visits.{longest_of}
+use Rattle.net_cells.specs.Visits.{longest_of}
 use Rattle.cell_eval.specs.Chosen.{all_picked}
 use Rattle.cell_eval.proofs.found.longest_at.Given as goal
 

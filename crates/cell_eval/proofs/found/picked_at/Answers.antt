@@ -1,5 +1,5 @@
 use Rattle.std.proofs.Common.{sym, ap, ◌∙◌}
-use Rattle.cell_table.specs.net_cells.specs.Visits.{visit}
+use Rattle.net_cells.specs.Visits.{visit}
 use Rattle.cell_eval.specs.Chosen.{flow_visits, visit_list, picks}
 use Rattle.cell_eval.proofs.Choosing.{keep_one, drop_one, keep_none}
 use Rattle.cell_eval.proofs.found.picked_at.Goals as goal

@@ -1,19 +1,19 @@
 use Rattle.std.proofs.Common.{◌≡◌, ◌+◌, ◌-◌, sym, ap, ◌∙◌, subst, arith}
 use Rattle.std.specs.Prelude.{Some}
-use Rattle.curve_conv.specs.upp_limits.specs.declared.op_kind.OpKind.TheVariants.{PosMinus, Vertical}
+use Rattle.net_cells.specs.upp_limits.specs.declared.op_kind.OpKind.TheVariants.{PosMinus, Vertical}
 use Rattle.min_plus.specs.Deviations.{IsVerticalDeviation}
-use Rattle.cell_table.specs.run_laws.specs.Cards.{whole}
-use Rattle.curve_conv.specs.curve_call.specs.Calls.{AppliesTo}
-use Rattle.cell_table.specs.net_cells.specs.Meanings.{curve, number}
+use Rattle.net_cells.specs.run_laws.specs.Cards.{whole}
+use Rattle.curve_running.specs.curve_call.specs.Calls.{AppliesTo}
+use Rattle.net_cells.specs.Meanings.{curve, number}
 use Rattle.cell_table.specs.Values.{answer_of}
 use Rattle.cell_eval.specs.Shapes.{Serving}
 use Rattle.cell_eval.proofs.Meeting.{curve_holds}
 use Rattle.cell_eval.proofs.Handing.{deviates, backlog_made, backlog_refused}
-use Rattle.cell_table.specs.residual_calls.proofs.Placed.{if_err}
-use Rattle.cell_table.specs.net_cells.specs.Answers.{MakesNumber, Deviates}
-use Rattle.cell_table.specs.net_cells.specs.Formulas.{value_of, vertical}
-use Rattle.cell_table.specs.net_cells.specs.CellFormulas.{less}
-use Rattle.cell_table.specs.net_cells.specs.Refusals.{RefusedAt}
+use Rattle.net_cells.specs.residual_calls.proofs.Placed.{if_err}
+use Rattle.net_cells.specs.Answers.{MakesNumber, Deviates}
+use Rattle.net_cells.specs.Formulas.{value_of, vertical}
+use Rattle.net_cells.specs.CellFormulas.{less}
+use Rattle.net_cells.specs.Refusals.{RefusedAt}
 use Rattle.cell_eval.proofs.OperatorStopping.{backlog_first, backlog_second, less_refused, less_made}
 use Rattle.cell_eval.proofs.nodes.backlog.Goals as goal
 

@@ -1,9 +1,9 @@
 use Rattle.std.proofs.Common.{sym, ap, ◌∙◌}
 use Rattle.std.specs.Prelude.{Some}
-use Rattle.curve_conv.specs.upp_limits.specs.declared.op_kind.OpKind.TheVariants.{FifoLeft}
-use Rattle.curve_conv.specs.curve_call.specs.Calls.{Applies}
-use Rattle.cell_table.specs.net_cells.specs.Meanings.{curve}
-use Rattle.cell_table.specs.net_cells.specs.Answers.{MakesCurve}
+use Rattle.net_cells.specs.upp_limits.specs.declared.op_kind.OpKind.TheVariants.{FifoLeft}
+use Rattle.curve_running.specs.curve_call.specs.Calls.{Applies}
+use Rattle.net_cells.specs.Meanings.{curve}
+use Rattle.net_cells.specs.Answers.{MakesCurve}
 use Rattle.cell_table.specs.Values.{answer_of, meaning_of}
 use Rattle.cell_eval.specs.Shapes.{Serving}
 use Rattle.cell_eval.proofs.Meeting.{curve_holds}

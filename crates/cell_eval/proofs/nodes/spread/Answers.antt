@@ -1,19 +1,19 @@
 use Rattle.std.proofs.Common.{◌≡◌, ◌+◌, ◌-◌, sym, ap, ◌∙◌, subst, arith}
 use Rattle.std.specs.Prelude.{Some}
-use Rattle.curve_conv.specs.upp_limits.specs.declared.op_kind.OpKind.TheVariants.{PosMinus, Deconvolve}
-use Rattle.cell_table.specs.run_laws.specs.Cards.{whole}
-use Rattle.curve_conv.specs.curve_call.specs.Calls.{Applies, AppliesTo}
-use Rattle.curve_conv.specs.curve_call.proofs.Applied.{applied_seen}
-use Rattle.cell_table.specs.net_cells.specs.Meanings.{curve}
+use Rattle.net_cells.specs.upp_limits.specs.declared.op_kind.OpKind.TheVariants.{PosMinus, Deconvolve}
+use Rattle.net_cells.specs.run_laws.specs.Cards.{whole}
+use Rattle.curve_running.specs.curve_call.specs.Calls.{Applies, AppliesTo}
+use Rattle.curve_running.specs.curve_call.proofs.Applied.{applied_seen}
+use Rattle.net_cells.specs.Meanings.{curve}
 use Rattle.cell_table.specs.Values.{answer_of, meaning_of}
 use Rattle.cell_eval.specs.Shapes.{Serving}
 use Rattle.cell_eval.proofs.Meeting.{curve_holds}
 use Rattle.cell_eval.proofs.Handing.{applies_out, shared_makes, spread_made, spread_refused}
-use Rattle.cell_table.specs.residual_calls.proofs.Placed.{if_err}
-use Rattle.cell_table.specs.net_cells.specs.Answers.{MakesCurve}
-use Rattle.cell_table.specs.net_cells.specs.Formulas.{value_of, made}
-use Rattle.cell_table.specs.net_cells.specs.CellFormulas.{less}
-use Rattle.cell_table.specs.net_cells.specs.Refusals.{RefusedAt}
+use Rattle.net_cells.specs.residual_calls.proofs.Placed.{if_err}
+use Rattle.net_cells.specs.Answers.{MakesCurve}
+use Rattle.net_cells.specs.Formulas.{value_of, made}
+use Rattle.net_cells.specs.CellFormulas.{less}
+use Rattle.net_cells.specs.Refusals.{RefusedAt}
 use Rattle.cell_eval.proofs.OperatorStopping.{second_refused, both_refused, less_refused, less_made}
 use Rattle.cell_eval.proofs.nodes.spread.Goals as goal
 

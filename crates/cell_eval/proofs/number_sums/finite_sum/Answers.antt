@@ -1,6 +1,6 @@
 use Rattle.std.proofs.Common.{sym, subst, [], append-nil}
 use Rattle.std.specs.Prelude.{MatchBool}
-use Rattle.cell_table.specs.net_cells.specs.NumberSums.{finite}
+use Rattle.net_cells.specs.NumberSums.{finite}
 use Rattle.cell_eval.specs.Tallies.{IsTallied, IsNarrow}
 use Rattle.cell_eval.proofs.Totals.{sums_wide, sums_fine}
 use Rattle.cell_eval.proofs.number_sums.finite_sum.Goals as goal

@@ -1,11 +1,11 @@
-use Rattle.cell_table.specs.net_cells.specs.declared.cell.Kind.TheVariants.{Tfa, Sfa}
-use Rattle.cell_table.specs.net_cells.specs.Cells.{cell_of}
-use Rattle.cell_table.specs.net_cells.specs.Formulas.{value_of}
+use Rattle.net_cells.specs.declared.cell.Kind.TheVariants.{Tfa, Sfa}
+use Rattle.net_cells.specs.Cells.{cell_of}
+use Rattle.net_cells.specs.Formulas.{value_of}
 use Rattle.cell_eval.proofs.Counting.{counts_none}
 use Rattle.cell_eval.proofs.Arms.{bound_tfa, bound_sfa}
 use Rattle.cell_eval.proofs.PathSums.{smaller_answer}
-use Rattle.cell_table.specs.net_cells.specs.declared.cell.Kind.TheVariants.{Bound}
-use Rattle.cell_table.specs.net_cells.specs.CellFormulas.{formula}
+use Rattle.net_cells.specs.declared.cell.Kind.TheVariants.{Bound}
+use Rattle.net_cells.specs.CellFormulas.{formula}
 use Rattle.cell_eval.proofs.Stopping.{none_stops}
 use Rattle.cell_eval.proofs.numbers.bound.Goals as goal
 

@@ -1,12 +1,12 @@
-use Rattle.cell_table.specs.net_cells.specs.declared.cell.Kind.TheVariants.{In, Residual, QueueDelay}
-use Rattle.cell_table.specs.net_cells.specs.Numbered.{server_of_hop, queue_of_hop}
-use Rattle.cell_table.specs.net_cells.specs.Cells.{cell_of}
-use Rattle.cell_table.specs.net_cells.specs.Formulas.{value_of, horizontal}
+use Rattle.net_cells.specs.declared.cell.Kind.TheVariants.{In, Residual, QueueDelay}
+use Rattle.net_cells.specs.Numbered.{server_of_hop, queue_of_hop}
+use Rattle.net_cells.specs.Cells.{cell_of}
+use Rattle.net_cells.specs.Formulas.{value_of, horizontal}
 use Rattle.cell_eval.proofs.Counting.{counts_all}
 use Rattle.cell_eval.proofs.Arms.{hop_comes, hop_served_by, hop_queue}
 use Rattle.cell_eval.proofs.PathSums.{smaller_answer, smaller_refused}
 use Rattle.cell_eval.proofs.Stopping.{ok_stops}
-use Rattle.cell_table.specs.net_cells.proofs.OneOperator.{horizontal_refused}
+use Rattle.net_cells.proofs.OneOperator.{horizontal_refused}
 use Rattle.cell_eval.proofs.numbers.hop_delay.Goals as goal
 
 pub delay_between-requires-clause-rises : goal.delay_between-requires-clause-rises

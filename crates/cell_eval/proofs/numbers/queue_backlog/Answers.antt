@@ -1,16 +1,16 @@
 use Rattle.std.proofs.Common.{◌-◌, sym, ap, ◌∙◌, subst, inr}
 use Rattle.std.specs.Prelude.{IfErr}
-use Rattle.cell_table.specs.net_cells.specs.Formulas.{value_of, vertical}
-use Rattle.cell_table.specs.net_cells.specs.Meanings.{number}
+use Rattle.net_cells.specs.Formulas.{value_of, vertical}
+use Rattle.net_cells.specs.Meanings.{number}
 use Rattle.cell_eval.proofs.Counting.{ok_answer}
 use Rattle.cell_eval.proofs.Arms.{backlog_comes, backlog_served_by}
-use Rattle.cell_table.specs.net_cells.specs.Visits.{longest_of}
+use Rattle.net_cells.specs.Visits.{longest_of}
 use Rattle.cell_eval.specs.declared.found.Pick.TheVariants.{InQueue}
 use Rattle.cell_eval.proofs.Choosing.{picked_are}
-use Rattle.cell_table.specs.net_cells.specs.declared.cell.Kind.TheVariants.{Total, QueueService, QueueBacklog}
-use Rattle.cell_table.specs.net_cells.specs.Cells.{cell_of}
-use Rattle.cell_table.specs.net_cells.specs.CellFormulas.{less, formula}
-use Rattle.cell_table.specs.net_cells.specs.Refusals.{RefusedAt}
+use Rattle.net_cells.specs.declared.cell.Kind.TheVariants.{Total, QueueService, QueueBacklog}
+use Rattle.net_cells.specs.Cells.{cell_of}
+use Rattle.net_cells.specs.CellFormulas.{less, formula}
+use Rattle.net_cells.specs.Refusals.{RefusedAt}
 use Rattle.cell_eval.proofs.Stopping.{at_refusal}
 use Rattle.cell_eval.proofs.numbers.queue_backlog.Goals as goal
 

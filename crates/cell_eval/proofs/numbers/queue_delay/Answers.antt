@@ -1,12 +1,12 @@
 use Rattle.cell_eval.proofs.Counting.{counts_all}
 use Rattle.cell_eval.proofs.Arms.{delay_comes, delay_served_by}
 use Rattle.std.proofs.Common.{subst}
-use Rattle.cell_table.specs.net_cells.specs.declared.cell.Kind.TheVariants.{Total, QueueService}
-use Rattle.cell_table.specs.net_cells.specs.Cells.{cell_of}
-use Rattle.cell_table.specs.net_cells.specs.Formulas.{value_of, horizontal}
-use Rattle.cell_table.specs.net_cells.specs.Answers.{Answers}
+use Rattle.net_cells.specs.declared.cell.Kind.TheVariants.{Total, QueueService}
+use Rattle.net_cells.specs.Cells.{cell_of}
+use Rattle.net_cells.specs.Formulas.{value_of, horizontal}
+use Rattle.net_cells.specs.Answers.{Answers}
 use Rattle.cell_table.specs.Values.{answer_of, meaning_of}
-use Rattle.cell_table.specs.net_cells.proofs.OneOperator.{horizontal_never}
+use Rattle.net_cells.proofs.OneOperator.{horizontal_never}
 use Rattle.cell_eval.proofs.numbers.queue_delay.Goals as goal
 
 pub delay_between-requires-clause-rises : goal.delay_between-requires-clause-rises

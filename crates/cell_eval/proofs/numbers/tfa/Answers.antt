@@ -1,11 +1,11 @@
 use Rattle.cell_eval.proofs.Counting.{counts_none}
 use Rattle.cell_eval.proofs.Arms.{tfa_delays}
-use Rattle.cell_table.specs.net_cells.specs.Means.{with_links}
-use Rattle.cell_table.specs.net_cells.specs.CellFormulas.{link_delays}
+use Rattle.net_cells.specs.Means.{with_links}
+use Rattle.net_cells.specs.CellFormulas.{link_delays}
 use Rattle.cell_eval.proofs.PathSums.{path_answer}
-use Rattle.cell_table.specs.net_cells.specs.declared.cell.Kind.TheVariants.{Tfa}
-use Rattle.cell_table.specs.net_cells.specs.Cells.{cell_of}
-use Rattle.cell_table.specs.net_cells.specs.CellFormulas.{formula}
+use Rattle.net_cells.specs.declared.cell.Kind.TheVariants.{Tfa}
+use Rattle.net_cells.specs.Cells.{cell_of}
+use Rattle.net_cells.specs.CellFormulas.{formula}
 use Rattle.cell_eval.proofs.Stopping.{none_stops}
 use Rattle.cell_eval.proofs.numbers.tfa.Goals as goal
 

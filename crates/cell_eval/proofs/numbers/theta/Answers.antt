@@ -1,13 +1,13 @@
 use Rattle.cell_eval.proofs.Counting.{counts_all}
 use Rattle.cell_eval.proofs.Arms.{theta_cross, theta_service}
 use Rattle.std.proofs.Common.{subst}
-use Rattle.cell_table.specs.net_cells.specs.declared.cell.Kind.TheVariants.{Cross, QueueService}
-use Rattle.cell_table.specs.net_cells.specs.Numbered.{server_of_hop, queue_of_hop}
-use Rattle.cell_table.specs.net_cells.specs.Cells.{cell_of}
-use Rattle.cell_table.specs.net_cells.specs.Formulas.{value_of, horizontal}
-use Rattle.cell_table.specs.net_cells.specs.Answers.{Answers}
+use Rattle.net_cells.specs.declared.cell.Kind.TheVariants.{Cross, QueueService}
+use Rattle.net_cells.specs.Numbered.{server_of_hop, queue_of_hop}
+use Rattle.net_cells.specs.Cells.{cell_of}
+use Rattle.net_cells.specs.Formulas.{value_of, horizontal}
+use Rattle.net_cells.specs.Answers.{Answers}
 use Rattle.cell_table.specs.Values.{answer_of, meaning_of}
-use Rattle.cell_table.specs.net_cells.proofs.OneOperator.{horizontal_never}
+use Rattle.net_cells.proofs.OneOperator.{horizontal_never}
 use Rattle.cell_eval.proofs.numbers.theta.Goals as goal
 
 pub delay_between-requires-clause-rises : goal.delay_between-requires-clause-rises

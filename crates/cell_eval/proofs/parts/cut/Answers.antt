@@ -1,20 +1,20 @@
 use Rattle.std.proofs.Common.{◌≡◌, ℕ, ◌+◌, ◌-◌, refl, subst, arith}
-use Rattle.curve_conv.specs.upp_limits.specs.declared.op_kind.OpKind.TheVariants.{Min}
-use Rattle.curve_conv.specs.upp_curve.specs.Kinds.{bucket}
-use Rattle.cell_table.specs.run_laws.specs.Cards.{whole}
-use Rattle.curve_conv.specs.curve_call.specs.Again.{IsAgain}
-use Rattle.curve_conv.specs.curve_call.specs.Calls.{Applies, goes_on, stops}
-use Rattle.curve_conv.specs.curve_call.proofs.Applied.{applied_seen}
-use Rattle.cell_table.specs.net_cells.specs.Meanings.{curve}
+use Rattle.net_cells.specs.upp_limits.specs.declared.op_kind.OpKind.TheVariants.{Min}
+use Rattle.net_cells.specs.upp_curve.specs.Kinds.{bucket}
+use Rattle.net_cells.specs.run_laws.specs.Cards.{whole}
+use Rattle.curve_running.specs.curve_call.specs.Again.{IsAgain}
+use Rattle.curve_running.specs.curve_call.specs.Calls.{Applies, goes_on, stops}
+use Rattle.curve_running.specs.curve_call.proofs.Applied.{applied_seen}
+use Rattle.net_cells.specs.Meanings.{curve}
 use Rattle.cell_eval.proofs.Counting.{counts_all}
 use Rattle.cell_eval.proofs.PathSteps.{made_answer}
 use Rattle.std.specs.Prelude.{Ok}
-use Rattle.cell_table.specs.residual_calls.specs.InTurn.{past, on_the_way}
-use Rattle.cell_table.specs.residual_calls.proofs.Placed.{if_err}
-use Rattle.cell_table.specs.net_cells.specs.Meanings.{CellTable}
-use Rattle.cell_table.specs.net_cells.specs.Formulas.{Formula, operators, cut}
-use Rattle.cell_table.specs.net_cells.specs.Answers.{Answers}
-use Rattle.cell_table.specs.net_cells.specs.Refusals.{RefusedAt}
+use Rattle.net_cells.specs.residual_calls.specs.InTurn.{past, on_the_way}
+use Rattle.net_cells.specs.residual_calls.proofs.Placed.{if_err}
+use Rattle.net_cells.specs.Meanings.{CellTable}
+use Rattle.net_cells.specs.Formulas.{Formula, operators, cut}
+use Rattle.net_cells.specs.Answers.{Answers}
+use Rattle.net_cells.specs.Refusals.{RefusedAt}
 use Rattle.cell_eval.proofs.parts.cut.Goals as goal
 
 pub returns-in-Ok-clause-answer : goal.returns-in-Ok-clause-answer

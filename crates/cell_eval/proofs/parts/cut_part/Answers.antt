@@ -1,19 +1,19 @@
 use Rattle.std.proofs.Common.{◌≡◌, ℕ, ◌+◌, ◌-◌, sym, ap, ◌∙◌, subst, arith, [], map}
 use Rattle.std.specs.Prelude.{Some, Ok}
-use Rattle.cell_table.specs.net_cells.specs.declared.cell.Kind.TheVariants.{In}
-use Rattle.cell_table.specs.net_cells.specs.Order.{at_visit}
-use Rattle.cell_table.specs.net_cells.specs.QueueParts.{in_part}
-use Rattle.cell_table.specs.net_cells.specs.Meanings.{curve}
+use Rattle.net_cells.specs.declared.cell.Kind.TheVariants.{In}
+use Rattle.net_cells.specs.Order.{at_visit}
+use Rattle.net_cells.specs.QueueParts.{in_part}
+use Rattle.net_cells.specs.Meanings.{curve}
 use Rattle.cell_eval.specs.declared.curve_sums.Partial.TheVariants.{One, Made}
 use Rattle.cell_eval.specs.Partial.{Adds}
 use Rattle.cell_eval.specs.Parts.{part_answer}
 use Rattle.cell_eval.proofs.SumSteps.{one_summed, made_summed}
 use Rattle.cell_eval.proofs.PartSteps.{none_there, some_there, none_counts, cut_counts}
-use Rattle.cell_table.specs.net_cells.specs.Meanings.{CellTable}
-use Rattle.cell_table.specs.net_cells.specs.Answers.{Answers}
-use Rattle.cell_table.specs.net_cells.specs.Formulas.{operators}
-use Rattle.cell_table.specs.net_cells.specs.CellFormulas.{part_sum, sum_of_hops}
-use Rattle.cell_table.specs.net_cells.specs.Refusals.{RefusedAt}
+use Rattle.net_cells.specs.Meanings.{CellTable}
+use Rattle.net_cells.specs.Answers.{Answers}
+use Rattle.net_cells.specs.Formulas.{operators}
+use Rattle.net_cells.specs.CellFormulas.{part_sum, sum_of_hops}
+use Rattle.net_cells.specs.Refusals.{RefusedAt}
 use Rattle.cell_eval.proofs.PartSteps.{summed_operators}
 use Rattle.cell_eval.proofs.OperatorStopping.{err_map}
 use Rattle.cell_eval.proofs.parts.cut_part.Goals as goal

@@ -1,22 +1,22 @@
 use Rattle.std.proofs.Common.{ℕ, suc, ◌+◌, ◌-◌, sym, ap, ◌∙◌, subst, arith, ◌≡◌}
 use Rattle.std.specs.Prelude.{Ok, Err}
-use Rattle.cell_table.specs.net_cells.specs.Meanings.{curve}
-use Rattle.cell_table.specs.net_cells.specs.Visits.{longest_of}
-use Rattle.cell_table.specs.net_cells.specs.QueueParts.{in_part}
-use Rattle.cell_table.specs.net_cells.specs.CellFormulas.{sum_of_hops}
-use Rattle.cell_table.specs.net_cells.specs.Answers.{Answers}
-use Rattle.cell_table.specs.net_cells.specs.Formulas.{cut}
+use Rattle.net_cells.specs.Meanings.{curve}
+use Rattle.net_cells.specs.Visits.{longest_of}
+use Rattle.net_cells.specs.QueueParts.{in_part}
+use Rattle.net_cells.specs.CellFormulas.{sum_of_hops}
+use Rattle.net_cells.specs.Answers.{Answers}
+use Rattle.net_cells.specs.Formulas.{cut}
 use Rattle.cell_table.specs.Values.{answer_of}
 use Rattle.cell_eval.proofs.Choosing.{part_picked}
 use Rattle.cell_eval.specs.Evaluates.{Counts}
-use Rattle.rational.specs.Rational.{◌≤ℚ◌}
+use Rattle.fraction128.specs.rational.specs.Rational.{◌≤ℚ◌}
 use Rattle.min_plus.specs.Functions.{zero_q}
 use Rattle.cell_eval.proofs.LinkRates.{rate_low}
 use Rattle.cell_eval.proofs.PartSteps.{cut_is}
 use Rattle.std.specs.Prelude.{IfErr}
-use Rattle.cell_table.specs.net_cells.specs.Meanings.{CellTable}
-use Rattle.cell_table.specs.net_cells.specs.Formulas.{Formula, operators}
-use Rattle.cell_table.specs.net_cells.specs.Refusals.{RefusedAt}
+use Rattle.net_cells.specs.Meanings.{CellTable}
+use Rattle.net_cells.specs.Formulas.{Formula, operators}
+use Rattle.net_cells.specs.Refusals.{RefusedAt}
 use Rattle.cell_eval.proofs.PartSteps.{cut_formula}
 use Rattle.cell_eval.proofs.parts.cut_sum.Goals as goal
 

@@ -1,11 +1,11 @@
 use Rattle.std.proofs.Common.{◌≡◌, ◌+◌, ◌-◌, map, subst, arith}
 use Rattle.std.specs.Prelude.{Ok, Err}
-use Rattle.curve_conv.specs.upp_limits.specs.declared.op_kind.OpKind.TheVariants.{Sum}
-use Rattle.curve_conv.specs.curve_call.specs.Calls.{Applies}
-use Rattle.cell_table.specs.net_cells.specs.Meanings.{curve}
+use Rattle.net_cells.specs.upp_limits.specs.declared.op_kind.OpKind.TheVariants.{Sum}
+use Rattle.curve_running.specs.curve_call.specs.Calls.{Applies}
+use Rattle.net_cells.specs.Meanings.{curve}
 use Rattle.cell_eval.specs.Parts.{curve_of}
 use Rattle.cell_eval.proofs.PartSums.{first_sum, first_refused, next_sum, next_refused, last_sum, held_at}
-use Rattle.cell_table.specs.net_cells.specs.Refusals.{SumsRefused}
+use Rattle.net_cells.specs.Refusals.{SumsRefused}
 use Rattle.cell_eval.proofs.PartSums.{first_sum_refused, first_stops, next_sum_refused, next_stops}
 use Rattle.cell_eval.proofs.parts.many_added.Goals as goal
 

@@ -1,7 +1,7 @@
 use Rattle.std.proofs.Common.{◌≡◌, ℕ, ◌+◌, ◌-◌, map, drop}
-use Rattle.curve_conv.specs.upp_limits.specs.declared.op_kind.OpFault.{OpFault}
-use Rattle.cell_table.specs.net_cells.specs.Answers.{Answer, SumsOnto, SumsOf}
-use Rattle.cell_table.specs.net_cells.specs.Refusals.{SumsOntoRefused, SumsRefused}
+use Rattle.net_cells.specs.upp_limits.specs.declared.op_kind.OpFault.{OpFault}
+use Rattle.net_cells.specs.Answers.{Answer, SumsOnto, SumsOf}
+use Rattle.net_cells.specs.Refusals.{SumsOntoRefused, SumsRefused}
 use Rattle.cell_eval.specs.Parts.{curve_of}
 use Rattle.cell_eval.proofs.parts.many_added.Given as goal
 

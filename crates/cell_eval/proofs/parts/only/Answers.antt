@@ -1,7 +1,7 @@
 use Rattle.std.proofs.Common.{sym, subst}
-use Rattle.cell_table.specs.net_cells.specs.Answers.{MakesCurve}
+use Rattle.net_cells.specs.Answers.{MakesCurve}
 use Rattle.cell_eval.specs.Parts.{curve_of}
-use Rattle.curve_conv.specs.curve_call.specs.Again.{IsAgain}
+use Rattle.curve_running.specs.curve_call.specs.Again.{IsAgain}
 use Rattle.cell_table.specs.Values.{answer_of, meaning_of}
 use Rattle.cell_eval.proofs.Handing.{again_out, shared_makes}
 use Rattle.cell_eval.proofs.PartSums.{again_makes}

@@ -1,17 +1,17 @@
 use Rattle.std.proofs.Common.{rules, ℕ, ◌-◌, List, [], map, sym, subst}
 use Rattle.std.specs.Prelude.{Ok}
-use Rattle.cell_table.specs.net_cells.specs.declared.cell.Kind.TheVariants.{In}
-use Rattle.cell_table.specs.net_cells.specs.declared.visit.Visit.{Visit}
-use Rattle.cell_table.specs.net_cells.specs.Order.{at_visit}
-use Rattle.cell_table.specs.net_cells.specs.QueueParts.{in_part}
+use Rattle.net_cells.specs.declared.cell.Kind.TheVariants.{In}
+use Rattle.net_cells.specs.declared.visit.Visit.{Visit}
+use Rattle.net_cells.specs.Order.{at_visit}
+use Rattle.net_cells.specs.QueueParts.{in_part}
 use Rattle.cell_eval.proofs.Choosing.{part_visits}
 use Rattle.cell_eval.specs.Evaluates.{Counts}
 use Rattle.cell_eval.specs.Partial.{Adds}
 use Rattle.cell_eval.specs.Parts.{MakesPart, part_answer, part_work}
 use Rattle.cell_eval.proofs.Counting.{counts_all}
 use Rattle.cell_eval.proofs.PartSteps.{entering, entering_counts, refused_part, refused_counts}
-use Rattle.cell_table.specs.net_cells.specs.CellFormulas.{part_sum}
-use Rattle.cell_table.specs.net_cells.specs.Refusals.{RefusedAt}
+use Rattle.net_cells.specs.CellFormulas.{part_sum}
+use Rattle.net_cells.specs.Refusals.{RefusedAt}
 use Rattle.cell_eval.proofs.SumSteps.{failed_at}
 use Rattle.cell_eval.proofs.PartSteps.{part_refused}
 use Rattle.cell_eval.proofs.OperatorStopping.{err_map}

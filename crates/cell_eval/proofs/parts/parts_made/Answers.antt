@@ -1,13 +1,13 @@
 use Rattle.std.proofs.Common.{◌≡◌, suc, ◌+◌, ◌-◌, length, sym, ap, subst, arith}
 use Rattle.std.proofs.lemmas.List.{length-map}
-use Rattle.cell_table.specs.net_model.specs.Views.{server_of}
+use Rattle.net_cells.specs.net_model.specs.Views.{server_of}
 use Rattle.cell_eval.specs.Evaluates.{Counts}
 use Rattle.cell_eval.specs.Parts.{MakesPart, AreMade, part_answer, part_work}
 use Rattle.cell_eval.proofs.PartSteps.{none_made, next_made, refused_made}
 use Rattle.std.specs.Prelude.{IfErr}
-use Rattle.cell_table.specs.net_cells.specs.QueueParts.{in_part}
-use Rattle.cell_table.specs.net_cells.specs.CellFormulas.{part_sum}
-use Rattle.cell_table.specs.net_cells.specs.Refusals.{RefusedAt}
+use Rattle.net_cells.specs.QueueParts.{in_part}
+use Rattle.net_cells.specs.CellFormulas.{part_sum}
+use Rattle.net_cells.specs.Refusals.{RefusedAt}
 use Rattle.cell_eval.proofs.parts.parts_made.Goals as goal
 
 pub part_made-requires-clause-curves : goal.part_made-requires-clause-curves

@@ -1,14 +1,14 @@
 use Rattle.std.proofs.Common.{◌-◌, length, map, sym, subst}
 use Rattle.std.specs.Prelude.{All}
-use Rattle.cell_table.specs.net_cells.specs.Answers.{SumsOf}
+use Rattle.net_cells.specs.Answers.{SumsOf}
 use Rattle.cell_table.specs.Values.{answer_of, meaning_of}
 use Rattle.cell_eval.specs.Evaluates.{Counts}
 use Rattle.cell_eval.specs.Parts.{IsHeld, curve_of}
 use Rattle.cell_eval.proofs.PartSteps.{refused_gives, made_gives, made_counts}
 use Rattle.std.specs.Prelude.{IfErr}
-use Rattle.cell_table.specs.net_cells.specs.CellFormulas.{parts_sum}
-use Rattle.cell_table.specs.net_cells.specs.QueueParts.{part_numbers}
-use Rattle.cell_table.specs.net_cells.specs.Refusals.{RefusedAt, SumsRefused}
+use Rattle.net_cells.specs.CellFormulas.{parts_sum}
+use Rattle.net_cells.specs.QueueParts.{part_numbers}
+use Rattle.net_cells.specs.Refusals.{RefusedAt, SumsRefused}
 use Rattle.cell_eval.proofs.PartSteps.{made_refused}
 use Rattle.cell_eval.proofs.OperatorStopping.{err_map}
 use Rattle.cell_eval.proofs.parts.parts_sum.Goals as goal

@@ -1,17 +1,17 @@
 use Rattle.std.proofs.Common.{◌≡◌, ◌+◌, ◌-◌, sym, ap, ◌∙◌, subst, arith}
 use Rattle.std.specs.Prelude.{Some, Ok, Err}
-use Rattle.curve_conv.specs.upp_limits.specs.declared.op_kind.OpKind.TheVariants.{PosMinus}
-use Rattle.cell_table.specs.run_laws.specs.Cards.{whole}
-use Rattle.curve_conv.specs.curve_call.specs.Calls.{AppliesTo}
-use Rattle.cell_table.specs.net_cells.specs.declared.cell.Kind.TheVariants.{Residual}
-use Rattle.cell_table.specs.net_cells.specs.Cells.{cell_of}
-use Rattle.cell_table.specs.net_cells.specs.Meanings.{curve}
-use Rattle.cell_table.specs.net_cells.specs.CellFormulas.{packets_to}
+use Rattle.net_cells.specs.upp_limits.specs.declared.op_kind.OpKind.TheVariants.{PosMinus}
+use Rattle.net_cells.specs.run_laws.specs.Cards.{whole}
+use Rattle.curve_running.specs.curve_call.specs.Calls.{AppliesTo}
+use Rattle.net_cells.specs.declared.cell.Kind.TheVariants.{Residual}
+use Rattle.net_cells.specs.Cells.{cell_of}
+use Rattle.net_cells.specs.Meanings.{curve}
+use Rattle.net_cells.specs.CellFormulas.{packets_to}
 use Rattle.cell_eval.specs.Shapes.{Serving}
 use Rattle.cell_eval.proofs.Meeting.{curve_holds, curve_map}
 use Rattle.cell_eval.proofs.PathSteps.{packets_fail, first_packets, next_packets}
-use Rattle.cell_table.specs.net_cells.specs.Formulas.{operators}
-use Rattle.cell_table.specs.net_cells.specs.Refusals.{RefusedAt}
+use Rattle.net_cells.specs.Formulas.{operators}
+use Rattle.net_cells.specs.Refusals.{RefusedAt}
 use Rattle.cell_eval.proofs.PathSteps.{packets_refused, packets_operators, first_formula, next_formula}
 use Rattle.cell_eval.proofs.OperatorStopping.{less_refused}
 use Rattle.cell_eval.proofs.paths.to_hop.Goals as goal

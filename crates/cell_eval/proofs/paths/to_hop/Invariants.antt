@@ -1,8 +1,8 @@
 use Rattle.std.proofs.Common.{◌≡◌, ◌+◌, ◌*◌}
 use Rattle.std.specs.Prelude.{Ok}
-use Rattle.cell_table.specs.net_cells.specs.Meanings.{curve}
-use Rattle.cell_table.specs.net_cells.specs.CellFormulas.{packets_to}
-use Rattle.cell_table.specs.net_cells.specs.Answers.{Answers}
+use Rattle.net_cells.specs.Meanings.{curve}
+use Rattle.net_cells.specs.CellFormulas.{packets_to}
+use Rattle.net_cells.specs.Answers.{Answers}
 use Rattle.cell_eval.proofs.paths.to_hop.Given as goal
 
 abbrev pub invariant-loop-hop : goal.invariant-loop-hop

@@ -1,7 +1,7 @@
 use Rattle.std.proofs.Common.{◌≡◌, map}
 use Rattle.std.specs.List.{range_with_len}
 use Rattle.arrayvec.specs.ArrayVec.{array_vec_len}
-use Rattle.cell_table.specs.net_cells.specs.Visits.{longest}
+use Rattle.net_cells.specs.Visits.{longest}
 use Rattle.cell_eval.proofs.services.longest_each.Given as goal
 
 abbrev pub invariant-loop-queue : goal.invariant-loop-queue

@@ -1,6 +1,6 @@
 use Rattle.std.proofs.Common.{rules, refl}
 use Rattle.std.specs.Prelude.{Ok, Err}
-use Rattle.cell_table.specs.net_cells.specs.Meanings.{curve}
+use Rattle.net_cells.specs.Meanings.{curve}
 use Rattle.cell_eval.proofs.Handing.{again_given}
 use Rattle.cell_eval.proofs.sharing.again.Goals as goal
 

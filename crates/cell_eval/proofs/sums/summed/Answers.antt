@@ -5,9 +5,9 @@ use Rattle.cell_eval.specs.Partial.{Adds}
 use Rattle.cell_eval.proofs.SumSteps.{failed_given}
 use Rattle.cell_eval.proofs.Counting.{counts_all}
 use Rattle.cell_eval.proofs.Arms.{sum_counts}
-use Rattle.curve_conv.specs.upp_limits.specs.declared.op_kind.OpFault.TheVariants.{NoMemory}
-use Rattle.cell_table.specs.net_cells.specs.CellFormulas.{sum_of_cells}
-use Rattle.cell_table.specs.net_cells.specs.Refusals.{RefusedAt}
+use Rattle.net_cells.specs.upp_limits.specs.declared.op_kind.OpFault.TheVariants.{NoMemory}
+use Rattle.net_cells.specs.CellFormulas.{sum_of_cells}
+use Rattle.net_cells.specs.Refusals.{RefusedAt}
 use Rattle.cell_eval.proofs.SumSteps.{made_stops, failed_at}
 use Rattle.cell_eval.proofs.sums.summed.Goals as goal
 

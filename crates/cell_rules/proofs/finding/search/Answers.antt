@@ -1,7 +1,7 @@
 use Rattle.std.proofs.Common.{◌+◌, List, ◌++◌, take, drop, Bool, sym, subst, arith, append-nil}
-use Rattle.cell_eval.specs.net_cells.specs.declared.cell.Cell.{Cell}
-use Rattle.cell_eval.specs.net_cells.proofs.Precedes.{in_front}
-use Rattle.cell_eval.specs.cell_table.proofs.Fronts.{cell_at}
+use Rattle.net_cells.specs.declared.cell.Cell.{Cell}
+use Rattle.net_cells.proofs.Precedes.{in_front}
+use Rattle.cell_table.proofs.Fronts.{cell_at}
 use Rattle.cell_rules.specs.Finding.{IsTold}
 use Rattle.cell_rules.specs.Marks.{IsSearched}
 use Rattle.cell_rules.proofs.Found.{own_slot, part_slots, bare_noted}

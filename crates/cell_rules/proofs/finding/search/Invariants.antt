@@ -1,5 +1,5 @@
 use Rattle.std.proofs.Common.{◌≡◌, ◌++◌, List, length, take}
-use Rattle.cell_eval.specs.net_cells.specs.declared.cell.Cell.{Cell}
+use Rattle.net_cells.specs.declared.cell.Cell.{Cell}
 use Rattle.cell_rules.specs.Finding.{IsBareAtFirst}
 use Rattle.cell_rules.specs.Marks.{StandBehind, IsSearched}
 use Rattle.cell_rules.proofs.finding.search.Given as goal

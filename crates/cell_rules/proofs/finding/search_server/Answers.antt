@@ -1,9 +1,9 @@
 use Rattle.std.proofs.Common.{◌≡◌, List, ◌++◌, Bool, true, false, sym, ◌∙◌, subst}
 use Rattle.std.specs.Prelude.{Contains}
-use Rattle.cell_eval.specs.net_cells.specs.declared.cell.Cell.{Cell}
-use Rattle.cell_eval.specs.net_cells.specs.Order.{server_cells}
-use Rattle.cell_eval.specs.net_cells.proofs.Lists.{contains_has}
-use Rattle.cell_eval.specs.net_cells.proofs.Places.{server_have}
+use Rattle.net_cells.specs.declared.cell.Cell.{Cell}
+use Rattle.net_cells.specs.Order.{server_cells}
+use Rattle.net_cells.proofs.Lists.{contains_has}
+use Rattle.net_cells.proofs.Places.{server_have}
 use Rattle.cell_changes.proofs.HasSlots.{slots_are_own}
 use Rattle.cell_rules.specs.Marks.{is_marked, StandBehind, IsSearched, MarksOnward}
 use Rattle.cell_rules.proofs.Searched.{passed_over, reached_none, reached_on}

@@ -1,12 +1,12 @@
 use Rattle.std.proofs.Common.{◌≡◌, ℕ, ◌≤◌, List, [], ◌++◌, length, take, Bool, sym, ap, ◌∙◌, subst, arith}
 use Rattle.std.specs.List.{flat_map}
 use Rattle.std.proofs.lemmas.List.{take_all}
-use Rattle.cell_eval.specs.net_model.specs.Networks.{Net}
-use Rattle.cell_eval.specs.net_model.specs.Orders.{IsOrder}
-use Rattle.cell_eval.specs.net_cells.specs.declared.cell.Cell.{Cell}
-use Rattle.cell_eval.specs.net_cells.specs.Cells.{path_kinds}
-use Rattle.cell_eval.specs.net_cells.specs.Order.{evaluation_order, server_cells, path_cells}
-use Rattle.cell_eval.specs.net_cells.proofs.Lists.{contains_has}
+use Rattle.net_cells.specs.net_model.specs.Networks.{Net}
+use Rattle.net_cells.specs.net_model.specs.Orders.{IsOrder}
+use Rattle.net_cells.specs.declared.cell.Cell.{Cell}
+use Rattle.net_cells.specs.Cells.{path_kinds}
+use Rattle.net_cells.specs.Order.{evaluation_order, server_cells, path_cells}
+use Rattle.net_cells.proofs.Lists.{contains_has}
 use Rattle.cell_changes.specs.Changes.{TouchedOf}
 use Rattle.cell_rules.specs.Marks.{MarksReached, IsSearched, Searches, StandBehind}
 use Rattle.cell_rules.proofs.Found.{few_touched}

@@ -1,6 +1,6 @@
 use Rattle.std.proofs.Common.{take}
 use Rattle.std.specs.List.{flat_map}
-use Rattle.cell_eval.specs.net_cells.specs.Order.{server_cells}
+use Rattle.net_cells.specs.Order.{server_cells}
 use Rattle.cell_rules.specs.Marks.{MarksCandidates, MarksReached, IsSearched}
 use Rattle.cell_rules.proofs.finding.touched_cells.Given as goal
 

@@ -2,7 +2,7 @@ use Rattle.std.proofs.Common.{ap, arith, length}
 use Rattle.std.specs.Prelude.{None}
 use Rattle.std.specs.Option.{option_map}
 use Rattle.std.proofs.lemmas.List.{length-map}
-use Rattle.cell_eval.specs.net_model.specs.Views.{flow_of}
+use Rattle.net_cells.specs.net_model.specs.Views.{flow_of}
 use Rattle.cell_rules.proofs.Tells.{tells_yes, tells_no}
 use Rattle.cell_rules.proofs.SameHops.{none_chosen, some_chosen}
 use Rattle.cell_rules.proofs.lists.is_unused.Goals as goal

@@ -1,6 +1,6 @@
 use Rattle.std.proofs.Common.{refl, sym, subst}
 use Rattle.std.proofs.lemmas.Bool.{ne_eqb}
-use Rattle.cell_eval.specs.net_cells.specs.Numbered.{rate}
+use Rattle.net_cells.specs.Numbered.{rate}
 use Rattle.cell_rules.specs.Rules.{TellsSame, link_of}
 use Rattle.cell_rules.proofs.SameParts.{links_tell, links_differ}
 use Rattle.cell_rules.proofs.lists.same_cut.Goals as goal

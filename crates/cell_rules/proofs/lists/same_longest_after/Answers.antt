@@ -1,4 +1,4 @@
-use Rattle.cell_eval.specs.net_cells.specs.Visits.{longest_after}
+use Rattle.net_cells.specs.Visits.{longest_after}
 use Rattle.cell_rules.proofs.Tells.{tells_numbers}
 use Rattle.cell_rules.proofs.SameHops.{longest_after_is}
 use Rattle.cell_rules.proofs.lists.same_longest_after.Goals as goal

@@ -1,4 +1,4 @@
-use Rattle.cell_eval.specs.net_cells.specs.Visits.{longest}
+use Rattle.net_cells.specs.Visits.{longest}
 use Rattle.cell_rules.proofs.Tells.{tells_yes, tells_no, other_row, longer_row}
 use Rattle.cell_rules.proofs.lists.same_longest_each.Goals as goal
 use Rattle.std.proofs.Common.{arith}

@@ -1,6 +1,6 @@
 use Rattle.std.proofs.Common.{◌≡◌, map}
 use Rattle.std.specs.List.{range_with_len}
-use Rattle.cell_eval.specs.net_cells.specs.Visits.{longest}
+use Rattle.net_cells.specs.Visits.{longest}
 use Rattle.cell_rules.proofs.lists.same_longest_each.Given as goal
 
 abbrev pub invariant-loop-queue : goal.invariant-loop-queue

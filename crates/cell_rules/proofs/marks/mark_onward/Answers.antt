@@ -1,8 +1,8 @@
 use Rattle.std.proofs.Common.{◌≡◌, [], ℕ, ◌<◌, List, length, true, subst, ◌∙◌, arith}
 use Rattle.std.proofs.lemmas.List.{take_all, get_or_default}
-use Rattle.cell_eval.specs.net_cells.specs.declared.cell.Cell.{Cell}
-use Rattle.cell_eval.specs.net_cells.proofs.Lists.{contains_has}
-use Rattle.cell_eval.specs.cell_table.proofs.Fronts.{no_cell, cell_at}
+use Rattle.net_cells.specs.declared.cell.Cell.{Cell}
+use Rattle.net_cells.proofs.Lists.{contains_has}
+use Rattle.cell_table.proofs.Fronts.{no_cell, cell_at}
 use Rattle.cell_rules.specs.Marks.{is_marked, MarksOnward}
 use Rattle.cell_rules.proofs.Marking.{onward_more, few_columns}
 use Rattle.cell_rules.proofs.marks.mark_onward.Goals as goal

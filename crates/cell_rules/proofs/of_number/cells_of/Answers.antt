@@ -1,7 +1,7 @@
 use Rattle.std.proofs.Common.{[], ap, ◌∙◌, take}
 use Rattle.std.specs.List.{flat_map}
 use Rattle.std.proofs.lemmas.List.{take_all, get_or_default}
-use Rattle.cell_eval.specs.net_cells.proofs.Growing.{behind, flat_element}
+use Rattle.net_cells.proofs.Growing.{behind, flat_element}
 use Rattle.cell_rules.specs.Finding.{kind_cells_of}
 use Rattle.cell_rules.proofs.OfNumber.{all_kinds, are_cells}
 use Rattle.cell_rules.proofs.of_number.cells_of.Goals as goal

@@ -1,7 +1,7 @@
 use Rattle.std.proofs.Common.{◌≡◌, ◌++◌, ℕ, map, sym, ap, ◌∙◌, arith}
 use Rattle.std.specs.List.{filter, range_with_len}
-use Rattle.cell_eval.specs.net_cells.specs.Cells.{cell_of, has_cell}
-use Rattle.cell_eval.specs.net_cells.proofs.Growing.{behind, still, kept_number, dropped_number}
+use Rattle.net_cells.specs.Cells.{cell_of, has_cell}
+use Rattle.net_cells.proofs.Growing.{behind, still, kept_number, dropped_number}
 use Rattle.cell_rules.proofs.of_number.push_kind.Goals as goal
 use Rattle.cell_rules.proofs.of_number.push_kind.Goals.{then-has_cell+in_ok-push, else-has_cell}
 

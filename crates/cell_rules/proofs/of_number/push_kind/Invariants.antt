@@ -1,6 +1,6 @@
 use Rattle.std.proofs.Common.{◌≡◌, ◌++◌, map}
 use Rattle.std.specs.List.{filter, range_with_len}
-use Rattle.cell_eval.specs.net_cells.specs.Cells.{cell_of, has_cell}
+use Rattle.net_cells.specs.Cells.{cell_of, has_cell}
 use Rattle.cell_rules.proofs.of_number.push_kind.Given as goal
 
 abbrev pub invariant-loop-b : goal.invariant-loop-b

@@ -1,5 +1,5 @@
 use Rattle.std.proofs.Common.{◌∙◌, ap}
-use Rattle.cell_eval.specs.net_cells.specs.Numbered.{link}
+use Rattle.net_cells.specs.Numbered.{link}
 use Rattle.cell_rules.proofs.reads.link_at.Goals as goal
 
 pub returns : goal.returns

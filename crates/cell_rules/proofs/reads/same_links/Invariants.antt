@@ -1,5 +1,5 @@
 use Rattle.std.proofs.Common.{◌≡◌, ℕ, ◌<◌}
-use Rattle.cell_eval.specs.net_cells.specs.Numbered.{link, server_of_hop}
+use Rattle.net_cells.specs.Numbered.{link, server_of_hop}
 use Rattle.cell_rules.proofs.reads.same_links.Given as goal
 
 abbrev pub invariant-loop-hop : goal.invariant-loop-hop

@@ -1,4 +1,4 @@
-use Rattle.cell_eval.specs.net_cells.specs.declared.cell.Kind.TheVariants.{QueueBacklog, DeconvOut}
+use Rattle.net_cells.specs.declared.cell.Kind.TheVariants.{QueueBacklog, DeconvOut}
 use Rattle.cell_rules.proofs.SameMade.{at_kind, backlog_tells, deconv_tells}
 use Rattle.cell_rules.proofs.rule.same_formula.Goals as goal
 

@@ -1,12 +1,12 @@
 use Rattle.std.proofs.Common.{◌≡◌, ◌-◌, Some, Err, ◌∙◌, ap, arith}
 use Rattle.std.proofs.lemmas.List.{drop_all}
 use Rattle.std.proofs.lemmas.List.Sums.{sum_by_more, sum_by_more_le}
-use Rattle.cell_table.specs.net_cells.specs.Meanings.{CellTable}
-use Rattle.cell_table.specs.net_cells.specs.CellFormulas.{formula}
-use Rattle.cell_table.specs.net_cells.specs.Work.{work}
-use Rattle.cell_table.specs.net_cells.specs.MemoryEnds.{making, keeping}
-use Rattle.cell_table.specs.net_cells.proofs.Tables.{answered_meets}
-use Rattle.cell_table.specs.net_cells.proofs.Works.{work_is}
+use Rattle.net_cells.specs.Meanings.{CellTable}
+use Rattle.net_cells.specs.CellFormulas.{formula}
+use Rattle.net_cells.specs.Work.{work}
+use Rattle.net_cells.specs.MemoryEnds.{making, keeping}
+use Rattle.net_cells.proofs.Tables.{answered_meets}
+use Rattle.net_cells.proofs.Works.{work_is}
 use Rattle.cell_table.proofs.Fronts.{no_cell, cell_at}
 use Rattle.cell_table.proofs.GivesAnswers.{gives_ok}
 use Rattle.cell_store.specs.Placed.{placed}

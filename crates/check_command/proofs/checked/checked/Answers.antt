@@ -1,7 +1,7 @@
 use Rattle.std.proofs.Common.{◌^◌, ◌∙◌, inl, inr, sym, true≢false}
 use Rattle.std.proofs.lemmas.Bool.{cases_lt}
 use Rattle.std.proofs.lemmas.Result.{IfOk-weaker}
-use Rattle.recorded_sizes.specs.check_gauge.specs.Gauge.{check_gauge}
+use Rattle.check_gauge.specs.Gauge.{check_gauge}
 use Rattle.check_command.proofs.Recorded.{from_zero, steps_below}
 use Rattle.check_command.proofs.checked.checked.Goals as goal
 

@@ -1,6 +1,6 @@
 use Rattle.std.proofs.Common.{◌≡◌, ℕ, refl, ap, ◌∙◌}
 use Rattle.rational.specs.Rational.{ℚ}
-use Rattle.run_laws.specs.Runs.{SpecRun}
+use Rattle.net_cells.specs.run_laws.specs.Runs.{SpecRun}
 use Rattle.run_findings.proofs.Reports.{same_reply}
 use Rattle.check_report.specs.CheckReport.{unlawful_report_of}
 use Rattle.check_command.specs.Checked.{packets_in}

@@ -1,9 +1,9 @@
 use Rattle.std.proofs.Common.{◌≡◌, ◌∙◌, ℕ, ap, subst}
-use Rattle.run_laws.specs.Runs.{SpecRun}
-use Rattle.run_findings.specs.report_text.specs.RunReport.{found_of}
+use Rattle.net_cells.specs.run_laws.specs.Runs.{SpecRun}
+use Rattle.report_text.specs.RunReport.{found_of}
 use Rattle.run_findings.specs.Findings.{AreFindings}
 use Rattle.run_findings.proofs.Reports.{same_reply}
-use Rattle.recorded_sizes.specs.check_gauge.specs.Gauge.{check_sizes}
+use Rattle.check_gauge.specs.Gauge.{check_sizes}
 use Rattle.recorded_sizes.proofs.Delays.{recorded_delays}
 use Rattle.recorded_sizes.proofs.Stand.{lawful_stand}
 use Rattle.check_command.specs.Checked.{packets_in}

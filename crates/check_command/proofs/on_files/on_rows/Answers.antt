@@ -1,5 +1,5 @@
 use Rattle.std.proofs.lemmas.Result.{IfOk-weaker}
-use Rattle.run_findings.specs.command_replies.specs.View.{status_of}
+use Rattle.command_replies.specs.View.{status_of}
 use Rattle.table_text.specs.Rows.{rows_of}
 use Rattle.run_table.proofs.Recorded.{runs_read_are_recorded}
 use Rattle.check_command.proofs.Counting.{of_run}

@@ -1,6 +1,6 @@
 use Rattle.std.proofs.lemmas.Result.{IfOk-weaker}
-use Rattle.run_findings.specs.command_replies.specs.View.{reply_of, status_of}
-use Rattle.run_findings.specs.command_replies.proofs.FirstFaults.{on_told}
+use Rattle.command_replies.specs.View.{reply_of, status_of}
+use Rattle.command_replies.proofs.FirstFaults.{on_told}
 use Rattle.check_command.proofs.Counting.{of_network}
 use Rattle.check_command.proofs.OnReplies.{on_no_network}
 use Rattle.check_command.proofs.on_files.on_run.Goals as goal

@@ -1,8 +1,8 @@
 use Rattle.std.proofs.lemmas.Result.{IfOk-weaker}
-use Rattle.upp_limits.specs.declared.own_limits.OverLimit.TheVariants.{TooMany, TooWide}
-use Rattle.run_findings.specs.report_text.specs.CellWords.{cell_words}
-use Rattle.run_findings.specs.command_replies.specs.Replies.{cell_over}
-use Rattle.run_findings.specs.command_replies.specs.View.{reply_of, status_of}
+use Rattle.net_cells.specs.upp_limits.specs.declared.own_limits.OverLimit.TheVariants.{TooMany, TooWide}
+use Rattle.report_text.specs.CellWords.{cell_words}
+use Rattle.command_replies.specs.Replies.{cell_over}
+use Rattle.command_replies.specs.View.{reply_of, status_of}
 use Rattle.run_findings.proofs.Counted.{by_order, no_report}
 use Rattle.run_findings.proofs.Reports.{refused}
 use Rattle.check_command.proofs.OnReplies.{on_over, on_table}

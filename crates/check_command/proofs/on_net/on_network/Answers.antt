@@ -1,5 +1,5 @@
 use Rattle.std.proofs.lemmas.Result.{IfOk-weaker}
-use Rattle.run_findings.specs.command_replies.specs.View.{reply_of}
+use Rattle.command_replies.specs.View.{reply_of}
 use Rattle.check_command.proofs.OnReplies.{on_cycle}
 use Rattle.check_command.proofs.on_net.on_network.Goals as goal
 

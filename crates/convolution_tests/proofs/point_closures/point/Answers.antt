@@ -1,6 +1,6 @@
 use Rattle.std.proofs.Common.{subst}
-use Rattle.rational.specs.Rational.{◌≤ℚ◌}
-use Rattle.rational.proofs.Compared.{not_less_out}
+use Rattle.upp_limits.specs.rational.specs.Rational.{◌≤ℚ◌}
+use Rattle.upp_limits.specs.rational.proofs.Compared.{not_less_out}
 use Rattle.convolution_tests.proofs.point_closures.point.Goals as goal
 
 pub point_closure-requires-clause-time : goal.point_closure-requires-clause-time

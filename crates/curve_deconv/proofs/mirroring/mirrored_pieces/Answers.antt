@@ -1,7 +1,7 @@
 use Rattle.std.proofs.Common.{◌≡◌, ◌≤◌, ◌<◌, ◌+◌, ◌-◌, ◌∷◌, length, drop, arith, refl, sym, subst}
 use Rattle.std.proofs.lemmas.List.{drop_all}
-use Rattle.rational.specs.Rational.{neg_ℚ}
-use Rattle.rational.specs.Ratio.{SumFits}
+use Rattle.min_plus.specs.rational.specs.Rational.{neg_ℚ}
+use Rattle.min_plus.specs.rational.specs.Ratio.{SumFits}
 use Rattle.curve_running.specs.affine_segment.proofs.NextPiece.{next_piece}
 use Rattle.curve_running.specs.upp_normal.proofs.NormaliseRank.{each_index}
 use Rattle.curve_deconv.specs.Mirrored.{IsMirrorable}

@@ -1,8 +1,8 @@
 use Rattle.std.proofs.Common.{sym, subst}
 use Rattle.std.specs.Prelude.{IsTrue, ◌↔◌}
-use Rattle.rational.specs.Rational.{◌<ℚ◌}
-use Rattle.rational.specs.Extended.{◌<ₑ◌}
-use Rattle.rational.specs.declared.Extended.TheVariants.{Fin}
+use Rattle.min_plus.specs.rational.specs.Rational.{◌<ℚ◌}
+use Rattle.min_plus.specs.rational.specs.Extended.{◌<ₑ◌}
+use Rattle.min_plus.specs.rational.specs.declared.Extended.TheVariants.{Fin}
 use Rattle.min_plus.specs.Functions.{zero_q}
 use Rattle.curve_lang.proofs.operators.is_above_zero.Goals as goal
 

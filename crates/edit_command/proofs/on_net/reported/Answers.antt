@@ -1,8 +1,8 @@
 use Rattle.std.proofs.Common.{List, ℕ, map, ap, ◌∙◌, subst}
-use Rattle.net_model.specs.Accepted.{IsAccepted}
-use Rattle.net_model.specs.Networks.{Net}
-use Rattle.edit_store.specs.cell_store.specs.Placed.{placed}
-use Rattle.command_replies.specs.cell_table.specs.Values.{meaning_of}
+use Rattle.net_cells.specs.net_model.specs.Accepted.{IsAccepted}
+use Rattle.net_cells.specs.net_model.specs.Networks.{Net}
+use Rattle.cell_store.specs.Placed.{placed}
+use Rattle.cell_table.specs.Values.{meaning_of}
 use Rattle.edit_report.specs.EditReport.{edit_report_in}
 use Rattle.edit_report.specs.Said.{EditSaid, said_view}
 use Rattle.command_replies.specs.Replies.{Reply}

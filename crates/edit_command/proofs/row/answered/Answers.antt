@@ -1,7 +1,7 @@
 use Rattle.std.proofs.Common.{subst}
 use Rattle.std.proofs.lemmas.Result.{IfOk-weaker}
-use Rattle.net_model.specs.Accepted.{IsAccepted}
-use Rattle.command_replies.specs.cell_table.specs.Values.{meaning_of}
+use Rattle.net_cells.specs.net_model.specs.Accepted.{IsAccepted}
+use Rattle.cell_table.specs.Values.{meaning_of}
 use Rattle.edit_report.specs.Said.{said_view}
 use Rattle.edit_command.proofs.OneRow.{row_answered}
 use Rattle.edit_command.proofs.Works.{at_least}

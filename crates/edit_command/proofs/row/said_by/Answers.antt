@@ -1,6 +1,6 @@
 use Rattle.std.proofs.Common.{ap, ◌∙◌}
 use Rattle.std.proofs.lemmas.Result.{IfOk-weaker}
-use Rattle.net_model.specs.Networks.{Net}
+use Rattle.net_cells.specs.net_model.specs.Networks.{Net}
 use Rattle.edit_report.specs.Said.{said_view, said_of}
 use Rattle.edit_command.proofs.OneRow.{said_of_done, said_of_fault}
 use Rattle.edit_command.proofs.row.said_by.Goals as goal

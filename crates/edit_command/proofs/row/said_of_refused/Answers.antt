@@ -1,8 +1,8 @@
 use Rattle.std.proofs.Common.{ap, ◌∙◌}
 use Rattle.std.specs.Prelude.{Result}
 use Rattle.std.proofs.lemmas.Result.{IfOk-weaker}
-use Rattle.net_model.specs.declared.edit.Done.{Done}
-use Rattle.edit_store.specs.net_edits.specs.declared.fault.EditFault.{EditFault}
+use Rattle.net_cells.specs.net_model.specs.declared.edit.Done.{Done}
+use Rattle.net_edits.specs.declared.fault.EditFault.{EditFault}
 use Rattle.edit_report.specs.Said.{said_of}
 use Rattle.edit_command.proofs.Naming.{cause_of_rule, not_of_edited}
 use Rattle.edit_command.proofs.row.said_of_refused.Goals as goal

@@ -1,6 +1,6 @@
 use Rattle.std.proofs.Common.{◌≡◌, ◌++◌, ◌∷◌, [], List, ◌+◌, length, map, take, drop, refl, sym, ap, ◌∙◌, subst, arith}
 use Rattle.std.proofs.lemmas.List.{map-append}
-use Rattle.net_model.specs.declared.edit.Edit.{Edit}
+use Rattle.net_cells.specs.net_model.specs.declared.edit.Edit.{Edit}
 use Rattle.edit_report.specs.Said.{EditSaid, said_view}
 use Rattle.edit_command.specs.NetHistories.{history_of}
 use Rattle.edit_command.specs.Answered.{AreAnswered}

@@ -1,7 +1,7 @@
 use Rattle.std.proofs.Common.{◌≡◌, ◌++◌, ◌+◌, List, map, get_or, sym, ap, ◌∙◌}
 use Rattle.std.specs.List.{flat_map, range_with_len}
 use Rattle.std.proofs.lemmas.List.{get_or-map}
-use Rattle.json_report.specs.net_cells.proofs.Growing.{behind, flat_more}
+use Rattle.net_cells.proofs.Growing.{behind, flat_more}
 use Rattle.edit_report.specs.EditReport.{edit_line, line_at}
 use Rattle.edit_report.specs.Said.{EditSaid, Made, said_view}
 use Rattle.edit_report.proofs.listing.push_lines.Goals as goal

@@ -1,7 +1,7 @@
 use Rattle.std.proofs.Common.{◌≡◌, ◌++◌, map, take}
 use Rattle.std.specs.Prelude.{string_bytes}
-use Rattle.json_report.specs.report_text.specs.CellWords.{server_name}
-use Rattle.json_report.specs.report_text.specs.Refusals.{spaced}
+use Rattle.report_text.specs.CellWords.{server_name}
+use Rattle.report_text.specs.Refusals.{spaced}
 use Rattle.edit_report.proofs.said.push_walk.Given as goal
 
 abbrev pub invariant-loop-server : goal.invariant-loop-server

@@ -1,5 +1,5 @@
 use Rattle.std.specs.Option.{option_map}
-use Rattle.cell_store.specs.net_model.specs.Views.{flow_of}
+use Rattle.net_cells.specs.net_model.specs.Views.{flow_of}
 use Rattle.edit_store.proofs.PutBack.{place_at, flow_put_back}
 use Rattle.edit_store.proofs.replaced.flow_at.Goals as goal
 

@@ -1,5 +1,5 @@
 use Rattle.std.proofs.Common.{Some, sym, ap, ◌∙◌}
-use Rattle.cell_store.specs.net_model.specs.Views.{server_of}
+use Rattle.net_cells.specs.net_model.specs.Views.{server_of}
 use Rattle.edit_store.proofs.PutBack.{server_back}
 use Rattle.edit_store.proofs.replaced.server_at.Goals as goal
 

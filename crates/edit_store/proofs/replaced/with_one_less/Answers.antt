@@ -1,6 +1,6 @@
 use Rattle.std.proofs.Common.{rules, arith, ◌≡◌, ◌-◌, length, take, ap, sym, ◌∙◌, subst}
 use Rattle.std.proofs.lemmas.Grind.{common_steps}
-use Rattle.cell_store.specs.net_model.specs.Accepted.{IsAccepted}
+use Rattle.net_cells.specs.net_model.specs.Accepted.{IsAccepted}
 use Rattle.edit_store.proofs.PutBack.{one_less}
 use Rattle.edit_store.proofs.replaced.with_one_less.Goals as goal
 

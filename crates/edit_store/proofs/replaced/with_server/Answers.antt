@@ -1,5 +1,5 @@
 use Rattle.std.proofs.Common.{sym, ◌∙◌, subst}
-use Rattle.cell_store.specs.net_model.specs.Accepted.{IsAccepted}
+use Rattle.net_cells.specs.net_model.specs.Accepted.{IsAccepted}
 use Rattle.edit_store.proofs.PutBack.{server_set}
 use Rattle.edit_store.proofs.replaced.with_server.Goals as goal
 

@@ -1,5 +1,5 @@
 use Rattle.std.proofs.Common.{◌∙◌, ℕ, List, sym, ap}
-use Rattle.cell_store.specs.net_model.specs.declared.edit.Edit.{Edit}
+use Rattle.net_cells.specs.net_model.specs.declared.edit.Edit.{Edit}
 use Rattle.net_edits.specs.Lookups.{flow_number}
 use Rattle.edit_store.specs.Sites as spec
 use Rattle.edit_store.proofs.site.site_of.Goals as goal

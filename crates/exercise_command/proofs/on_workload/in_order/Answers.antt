@@ -1,13 +1,13 @@
 use Rattle.std.proofs.Common.{subst}
 use Rattle.std.proofs.lemmas.Result.{IfOk-weaker}
-use Rattle.upp_limits.specs.declared.own_limits.OverLimit.TheVariants.{TooMany, TooWide}
-use Rattle.net_model.specs.Networks.{Net}
-use Rattle.simulated_findings.specs.report_text.specs.CellWords.{cell_words}
-use Rattle.simulated_findings.specs.command_replies.specs.Replies.{cell_over}
-use Rattle.simulated_findings.specs.command_replies.specs.View.{reply_of, status_of}
-use Rattle.simulated_findings.specs.run_findings.specs.CellCounts.{CountsOnCells}
-use Rattle.simulated_findings.specs.run_findings.proofs.Counted.{by_order, no_report}
-use Rattle.simulated_findings.specs.run_findings.proofs.Reports.{refused}
+use Rattle.sim_bounds.specs.upp_limits.specs.declared.own_limits.OverLimit.TheVariants.{TooMany, TooWide}
+use Rattle.sim_bounds.specs.net_model.specs.Networks.{Net}
+use Rattle.report_text.specs.CellWords.{cell_words}
+use Rattle.command_replies.specs.Replies.{cell_over}
+use Rattle.command_replies.specs.View.{reply_of, status_of}
+use Rattle.run_findings.specs.CellCounts.{CountsOnCells}
+use Rattle.run_findings.proofs.Counted.{by_order, no_report}
+use Rattle.run_findings.proofs.Reports.{refused}
 use Rattle.exercise_command.proofs.Replying.{on_over, on_table, is_named, is_free}
 use Rattle.exercise_command.proofs.on_workload.in_order.Goals as goal
 

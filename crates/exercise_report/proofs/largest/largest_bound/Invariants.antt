@@ -1,7 +1,7 @@
 use Rattle.std.proofs.Common.{◌≡◌}
 use Rattle.std.specs.List.{flat_map, fold, range_with_len}
-use Rattle.rational.specs.Extended.{max_ext}
-use Rattle.rational.specs.declared.Extended.TheVariants.{Fin}
+use Rattle.min_plus.specs.rational.specs.Extended.{max_ext}
+use Rattle.min_plus.specs.rational.specs.declared.Extended.TheVariants.{Fin}
 use Rattle.min_plus.specs.Functions.{zero_q}
 use Rattle.exercise_report.specs.Largest.{bound_at}
 use Rattle.exercise_report.proofs.largest.largest_bound.Given as goal

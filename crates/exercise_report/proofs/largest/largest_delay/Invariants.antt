@@ -1,6 +1,6 @@
 use Rattle.std.proofs.Common.{◌≡◌, take}
 use Rattle.std.specs.List.{fold}
-use Rattle.rational.specs.MinMax.{max_q}
+use Rattle.min_plus.specs.rational.specs.MinMax.{max_q}
 use Rattle.min_plus.specs.Functions.{zero_q}
 use Rattle.exercise_report.proofs.largest.largest_delay.Given as goal
 

@@ -1,13 +1,13 @@
 use Rattle.std.proofs.Common.{◌≡◌, ◌∙◌, sym, subst, ap}
-use Rattle.net_cells.specs.upp_curve.specs.Curve.{SpecCurve}
-use Rattle.net_cells.specs.upp_limits.specs.Limits.{curve_numbers}
-use Rattle.net_cells.specs.upp_limits.specs.Sized.{Stands}
-use Rattle.net_cells.specs.run_laws.specs.Runs.{SpecRun}
-use Rattle.net_cells.specs.net_model.specs.NetRoutes.{routes_of}
-use Rattle.net_cells.specs.net_model.specs.Views.{flow_of}
+use Rattle.flow_watch.specs.upp_curve.specs.Curve.{SpecCurve}
+use Rattle.flow_watch.specs.upp_limits.specs.Limits.{curve_numbers}
+use Rattle.flow_watch.specs.upp_limits.specs.Sized.{Stands}
+use Rattle.flow_watch.specs.run_laws.specs.Runs.{SpecRun}
+use Rattle.flow_watch.specs.net_model.specs.NetRoutes.{routes_of}
+use Rattle.flow_watch.specs.net_model.specs.Views.{flow_of}
 use Rattle.net_cells.specs.Numbered.{arrival, arrival_of}
-use Rattle.run_watch.specs.watch_laws.specs.Entries.{entries}
-use Rattle.run_watch.specs.watch_laws.proofs.Entered.{in_order}
+use Rattle.flow_watch.specs.watch_laws.specs.Entries.{entries}
+use Rattle.flow_watch.specs.watch_laws.proofs.Entered.{in_order}
 use Rattle.run_watch.specs.FirstOf.{EnterInOrder}
 use Rattle.first_breaches.proofs.CurvesRead.{flow_reads}
 use Rattle.first_breaches.proofs.Parts.{arrival_one, live_flow_is}

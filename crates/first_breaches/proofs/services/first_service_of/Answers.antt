@@ -1,15 +1,15 @@
 use Rattle.std.proofs.Common.{◌≡◌, ◌∙◌, List, [], Option, refl, sym, subst, ap, pos}
 use Rattle.std.proofs.lemmas.Result.{IfOk-weaker}
-use Rattle.rational.specs.Rational.{int}
-use Rattle.net_cells.specs.upp_curve.specs.Curves.{IsCurve}
-use Rattle.net_cells.specs.run_laws.specs.declared.steps.Step.{Step}
-use Rattle.net_cells.specs.run_laws.specs.Runs.{SpecRun}
-use Rattle.net_cells.specs.run_laws.specs.Routes.{server_at}
-use Rattle.net_cells.specs.run_laws.specs.Views.{view}
-use Rattle.net_cells.specs.net_model.specs.NetRoutes.{routes_of}
-use Rattle.net_cells.specs.net_model.specs.Views.{server_of}
+use Rattle.min_plus.specs.rational.specs.Rational.{int}
+use Rattle.flow_watch.specs.upp_curve.specs.Curves.{IsCurve}
+use Rattle.flow_watch.specs.run_laws.specs.declared.steps.Step.{Step}
+use Rattle.flow_watch.specs.run_laws.specs.Runs.{SpecRun}
+use Rattle.flow_watch.specs.run_laws.specs.Routes.{server_at}
+use Rattle.flow_watch.specs.run_laws.specs.Views.{view}
+use Rattle.flow_watch.specs.net_model.specs.NetRoutes.{routes_of}
+use Rattle.flow_watch.specs.net_model.specs.Views.{server_of}
 use Rattle.net_cells.specs.Numbered.{service, service_of}
-use Rattle.run_watch.specs.watch_laws.specs.Laws.{MayServe}
+use Rattle.flow_watch.specs.watch_laws.specs.Laws.{MayServe}
 use Rattle.run_watch.specs.declared.found.Found.{Found}
 use Rattle.run_watch.specs.Ramps.{RampsFit}
 use Rattle.run_watch.specs.Seen.{arrivals_at, works_at}

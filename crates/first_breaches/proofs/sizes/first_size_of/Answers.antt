@@ -1,9 +1,9 @@
 use Rattle.std.proofs.Common.{◌≡◌, ◌∙◌, sym, subst, ap}
-use Rattle.net_cells.specs.run_laws.specs.Runs.{SpecRun}
-use Rattle.net_cells.specs.net_model.specs.NetRoutes.{routes_of}
-use Rattle.net_cells.specs.net_model.specs.Views.{flow_of}
-use Rattle.run_watch.specs.watch_laws.specs.Entries.{entries}
-use Rattle.run_watch.specs.watch_laws.proofs.Entered.{in_order}
+use Rattle.flow_watch.specs.run_laws.specs.Runs.{SpecRun}
+use Rattle.flow_watch.specs.net_model.specs.NetRoutes.{routes_of}
+use Rattle.flow_watch.specs.net_model.specs.Views.{flow_of}
+use Rattle.flow_watch.specs.watch_laws.specs.Entries.{entries}
+use Rattle.flow_watch.specs.watch_laws.proofs.Entered.{in_order}
 use Rattle.run_watch.specs.FirstOf.{EnterInOrder}
 use Rattle.first_breaches.proofs.Parts.{size_one}
 use Rattle.first_breaches.proofs.sizes.first_size_of.Goals as goal

@@ -1,22 +1,22 @@
 use Rattle.std.proofs.Common.{◌≡◌, ◌+◌, ◌-◌, List, ◌∷◌, [], ◌++◌, take, drop, sym, ap, ◌∙◌, subst, arith, Err}
 use Rattle.std.proofs.lemmas.List.{take_all, take_more}
 use Rattle.std.proofs.lemmas.List.Sums.{sum_by_more, sum_by_more_le}
-use Rattle.cell_eval.specs.net_cells.specs.declared.cell.Cell.{Cell}
-use Rattle.cell_eval.specs.net_cells.specs.contracts.cell.CellOrd.TheImpl as order
-use Rattle.cell_eval.specs.net_cells.specs.Meanings.{CellTable}
-use Rattle.cell_eval.specs.net_cells.specs.Order.{evaluation_order}
-use Rattle.cell_eval.specs.net_cells.specs.FirstOver.{AnswersAll}
-use Rattle.cell_eval.specs.net_cells.specs.Work.{work}
-use Rattle.cell_eval.specs.net_cells.proofs.Precedes.{in_front}
-use Rattle.cell_eval.specs.net_cells.proofs.Tables.{answers_meet, front_meets_below}
-use Rattle.cell_eval.specs.cell_table.specs.Values.{held}
+use Rattle.net_cells.specs.declared.cell.Cell.{Cell}
+use Rattle.net_cells.specs.contracts.cell.CellOrd.TheImpl as order
+use Rattle.net_cells.specs.Meanings.{CellTable}
+use Rattle.net_cells.specs.Order.{evaluation_order}
+use Rattle.net_cells.specs.FirstOver.{AnswersAll}
+use Rattle.net_cells.specs.Work.{work}
+use Rattle.net_cells.proofs.Precedes.{in_front}
+use Rattle.net_cells.proofs.Tables.{answers_meet, front_meets_below}
+use Rattle.cell_table.specs.Values.{held}
 use Rattle.flow_analysis.specs.Analyses.{HasNothingElse}
-use Rattle.cell_eval.specs.cell_table.proofs.Fronts.{no_cell, cell_at, at_place, grown}
+use Rattle.cell_table.proofs.Fronts.{no_cell, cell_at, at_place, grown}
 use Rattle.flow_analysis.proofs.Fronts.{still_nothing, refused, wants_memory}
-use Rattle.cell_eval.specs.net_cells.specs.CellFormulas.{formula}
-use Rattle.cell_eval.specs.net_cells.specs.MemoryEnds.{MemoryEnds, making, keeping, at_cell}
-use Rattle.cell_eval.specs.net_cells.proofs.Works.{work_is}
-use Rattle.cell_eval.specs.cell_table.proofs.GivesAnswers.{gives_ok}
+use Rattle.net_cells.specs.CellFormulas.{formula}
+use Rattle.net_cells.specs.MemoryEnds.{MemoryEnds, making, keeping, at_cell}
+use Rattle.net_cells.proofs.Works.{work_is}
+use Rattle.cell_table.proofs.GivesAnswers.{gives_ok}
 use Rattle.flow_analysis.proofs.each_cell.analysed.Goals as goal
 
 pub eval-requires-clause-cell : goal.eval-requires-clause-cell

@@ -1,8 +1,8 @@
 use Rattle.std.proofs.Common.{◌≡◌, ◌+◌, sum_by, take}
-use Rattle.cell_eval.specs.net_cells.specs.contracts.cell.CellOrd.TheImpl as order
-use Rattle.cell_eval.specs.net_cells.specs.FirstOver.{AnswersAll}
-use Rattle.cell_eval.specs.net_cells.specs.Work.{work}
-use Rattle.cell_eval.specs.cell_table.specs.Values.{held}
+use Rattle.net_cells.specs.contracts.cell.CellOrd.TheImpl as order
+use Rattle.net_cells.specs.FirstOver.{AnswersAll}
+use Rattle.net_cells.specs.Work.{work}
+use Rattle.cell_table.specs.Values.{held}
 use Rattle.flow_analysis.specs.Analyses.{HasNothingElse}
 use Rattle.flow_analysis.proofs.each_cell.analysed.Given as goal
 

@@ -1,9 +1,9 @@
 use Rattle.std.proofs.Common.{List, IfOk, IfErr, ◌-◌, ◌∙◌, subst, arith}
-use Rattle.cell_eval.specs.net_cells.specs.declared.cell.Cell.{Cell}
-use Rattle.cell_eval.specs.net_cells.specs.contracts.cell.CellOrd.TheImpl as order
-use Rattle.cell_eval.specs.cell_table.specs.Values.{held}
+use Rattle.net_cells.specs.declared.cell.Cell.{Cell}
+use Rattle.net_cells.specs.contracts.cell.CellOrd.TheImpl as order
+use Rattle.cell_table.specs.Values.{held}
 use Rattle.flow_analysis.specs.Analyses.{HasNothingElse, WantsMemory}
-use Rattle.cell_eval.specs.net_cells.specs.MemoryEnds.{MemoryEnds, at_none}
+use Rattle.net_cells.specs.MemoryEnds.{MemoryEnds, at_none}
 use Rattle.flow_analysis.proofs.in_order.analysed_in_order.Goals as goal
 
 pub returns-in-Ok-clause-nothing : goal.returns-in-Ok-clause-nothing

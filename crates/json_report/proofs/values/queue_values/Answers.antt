@@ -1,5 +1,5 @@
 use Rattle.std.proofs.Common.{List, ◌++◌, ap, sym, ◌∙◌}
-use Rattle.report_text.specs.net_cells.proofs.Growing.{flat_more}
+use Rattle.net_cells.proofs.Growing.{flat_more}
 use Rattle.serde_json.specs.Data.{Data}
 use Rattle.json_report.specs.ReportData.{server_queues}
 use Rattle.json_report.proofs.values.queue_values.Goals as goal

@@ -1,7 +1,7 @@
 use Rattle.std.proofs.Common.{arith, subst, sym}
-use Rattle.rational.specs.Rational.{◌≤ℚ◌}
-use Rattle.rational.proofs.Integers.{nat_le}
-use Rattle.min_plus.specs.Functions.{zero_q}
+use Rattle.curve_pointwise.specs.rational.specs.Rational.{◌≤ℚ◌}
+use Rattle.curve_pointwise.specs.rational.proofs.Integers.{nat_le}
+use Rattle.curve_pointwise.specs.min_plus.specs.Functions.{zero_q}
 use Rattle.operator_tests.proofs.all_operators.later.Goals as goal
 
 pub shift-requires : goal.shift-requires

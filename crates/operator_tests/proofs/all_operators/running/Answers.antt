@@ -1,12 +1,12 @@
 use Rattle.std.specs.Prelude.{pos}
 use Rattle.std.proofs.Common.{sym, subst}
-use Rattle.rational.specs.Rational.{ℚ, ◌≤ℚ◌, int}
-use Rattle.rational.specs.Extended.{◌≤ₑ◌}
-use Rattle.rational.specs.declared.Extended.TheVariants.{Fin}
-use Rattle.curve_call.proofs.Excesses.{excess_nonneg}
-use Rattle.upp_curve.specs.Curve.{SpecCurve, value_at}
-use Rattle.min_plus.specs.Functions.{IsNonnegative, zero_q}
-use Rattle.min_plus.specs.Pointwise.{IsPositiveMinus}
+use Rattle.curve_pointwise.specs.rational.specs.Rational.{ℚ, ◌≤ℚ◌, int}
+use Rattle.curve_pointwise.specs.rational.specs.Extended.{◌≤ₑ◌}
+use Rattle.curve_pointwise.specs.rational.specs.declared.Extended.TheVariants.{Fin}
+use Rattle.curve_pointwise.specs.curve_call.proofs.Excesses.{excess_nonneg}
+use Rattle.curve_pointwise.specs.upp_curve.specs.Curve.{SpecCurve, value_at}
+use Rattle.curve_pointwise.specs.min_plus.specs.Functions.{IsNonnegative, zero_q}
+use Rattle.curve_pointwise.specs.min_plus.specs.Pointwise.{IsPositiveMinus}
 use Rattle.operator_tests.proofs.all_operators.running.Goals as goal
 
 -- what a curve has above a level is nowhere below 0

@@ -1,6 +1,6 @@
 use Rattle.std.proofs.Common.{subst}
-use Rattle.rational.specs.Rational.{◌≤ℚ◌}
-use Rattle.rational.proofs.Compared.{not_less}
+use Rattle.curve_pointwise.specs.rational.specs.Rational.{◌≤ℚ◌}
+use Rattle.curve_pointwise.specs.rational.proofs.Compared.{not_less}
 use Rattle.operator_tests.proofs.all_operators.value.Goals as goal
 
 pub value_at-requires : goal.value_at-requires

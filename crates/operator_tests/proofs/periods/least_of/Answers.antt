@@ -1,9 +1,9 @@
 use Rattle.std.proofs.Common.{refl, sym, subst, ◌<◌, ◌^◌, true≢false}
-use Rattle.rational.specs.Rational.{◌≤ℚ◌, ◌<ℚ◌, ◌+ℚ◌}
-use Rattle.rational.proofs.Laws.{le_of_not_lt}
-use Rattle.upp_limits.specs.Gauges.{gauge_over}
-use Rattle.upp_limits.specs.declared.op_kind.OpKind.TheVariants.{Min}
-use Rattle.curve_call.proofs.KnownGauge.{min_sizes, known_compared}
+use Rattle.curve_pointwise.specs.rational.specs.Rational.{◌≤ℚ◌, ◌<ℚ◌, ◌+ℚ◌}
+use Rattle.curve_pointwise.specs.rational.proofs.Laws.{le_of_not_lt}
+use Rattle.curve_pointwise.specs.upp_limits.specs.Gauges.{gauge_over}
+use Rattle.curve_pointwise.specs.upp_limits.specs.declared.op_kind.OpKind.TheVariants.{Min}
+use Rattle.curve_pointwise.specs.curve_call.proofs.KnownGauge.{min_sizes, known_compared}
 use Rattle.operator_tests.proofs.periods.least_of.Goals as goal
 
 pub least_periods-requires : goal.least_periods-requires

@@ -1,7 +1,7 @@
 use Rattle.std.proofs.Common.{sym, subst, true≢false}
-use Rattle.rational.specs.Rational.{◌≤ℚ◌}
-use Rattle.rational.proofs.Laws.{le_of_not_lt}
-use Rattle.curve_call.proofs.KnownGauge.{one_period, any_period}
+use Rattle.curve_pointwise.specs.rational.specs.Rational.{◌≤ℚ◌}
+use Rattle.curve_pointwise.specs.rational.proofs.Laws.{le_of_not_lt}
+use Rattle.curve_pointwise.specs.curve_call.proofs.KnownGauge.{one_period, any_period}
 use Rattle.operator_tests.proofs.periods.repeats.Goals as goal
 
 pub returns-in-Periodic : goal.returns-in-Periodic

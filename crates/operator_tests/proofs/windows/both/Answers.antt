@@ -1,5 +1,5 @@
 use Rattle.std.proofs.Common.{◌∙◌}
-use Rattle.curve_call.proofs.Worked.{worked_cuts}
+use Rattle.curve_pointwise.specs.curve_call.proofs.Worked.{worked_cuts}
 use Rattle.operator_tests.proofs.windows.both.Goals as goal
 
 pub overlay-requires-clause-fits : goal.overlay-requires-clause-fits

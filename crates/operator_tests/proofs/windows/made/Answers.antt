@@ -1,5 +1,5 @@
 use Rattle.std.proofs.Common.{◌∙◌}
-use Rattle.curve_call.proofs.Worked.{level_first, ramp_first, worked_cuts, worked_sums}
+use Rattle.curve_pointwise.specs.curve_call.proofs.Worked.{level_first, ramp_first, worked_cuts, worked_sums}
 use Rattle.operator_tests.proofs.windows.made.Goals as goal
 
 pub window_sum-requires-clause-cuts : goal.window_sum-requires-clause-cuts

@@ -3,7 +3,7 @@ use Rattle.std.proofs.Common.{subst}
 use Rattle.sim_bounds.specs.net_model.specs.declared.trace.Stall.{Stall}
 use Rattle.sim_bounds.specs.net_model.specs.declared.trace.TracePacket.{TracePacket}
 use Rattle.sim_bounds.specs.net_model.specs.Views.{server_of}
-use Rattle.run_measures.specs.net_cells.proofs.Stored.{server_stored, server_kept}
+use Rattle.net_cells.proofs.Stored.{server_stored, server_kept}
 use Rattle.sim_bounds.specs.stated_runs.specs.FromTraces.{stalls_at}
 use Rattle.packet_sim.specs.Fresh.{AreSorted, IsFresh}
 use Rattle.packet_sim.proofs.NewRuns.{fresh_push}

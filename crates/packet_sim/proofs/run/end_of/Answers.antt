@@ -1,5 +1,5 @@
 use Rattle.std.proofs.Common.{◌∙◌}
-use Rattle.rational.specs.Rational.{int}
+use Rattle.fraction128.specs.rational.specs.Rational.{int}
 use Rattle.std.specs.Prelude.{pos}
 use Rattle.packet_sim.proofs.Last.{last_is}
 use Rattle.packet_sim.proofs.run.end_of.Goals as goal

@@ -1,7 +1,7 @@
 use Rattle.std.specs.Prelude.{pos}
 use Rattle.std.proofs.Common.{ap, ◌∙◌}
-use Rattle.rational.specs.Rational.{int}
-use Rattle.run_laws.specs.Runs.{SpecRun}
+use Rattle.fraction128.specs.rational.specs.Rational.{int}
+use Rattle.net_cells.specs.run_laws.specs.Runs.{SpecRun}
 use Rattle.sim_bounds.specs.stated_runs.specs.FromTraces.{setup_of}
 use Rattle.sim_bounds.specs.stated_runs.specs.Simulated.{last_time, IsSimulated}
 use Rattle.sim_bounds.specs.stated_runs.proofs.Lawfulness.{simulated_is_lawful}

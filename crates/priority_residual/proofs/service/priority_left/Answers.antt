@@ -1,8 +1,8 @@
 use Rattle.std.proofs.Common.{◌≡◌, ◌+◌, ◌-◌, refl, subst, arith}
 use Rattle.std.proofs.lemmas.Result.{err_from_is_err_and}
 use Rattle.curve_running.specs.upp_limits.specs.declared.op_kind.OpKind.TheVariants.{PosDiff, PosMinus}
-use Rattle.residual_calls.specs.curve_call.specs.Calls.{AppliesTo, goes_on, stops}
-use Rattle.residual_calls.specs.curve_call.proofs.Applied.{applied_seen}
+use Rattle.curve_running.specs.curve_call.specs.Calls.{AppliesTo, goes_on, stops}
+use Rattle.curve_running.specs.curve_call.proofs.Applied.{applied_seen}
 use Rattle.residual_calls.specs.run_laws.specs.Cards.{whole}
 use Rattle.residual_calls.specs.InTurn.{on_the_way, past, LeftRefused}
 use Rattle.residual_calls.proofs.PriorityCalls.{difference_finite}

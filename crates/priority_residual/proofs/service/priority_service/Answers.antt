@@ -1,8 +1,8 @@
 use Rattle.std.proofs.Common.{◌≡◌, ◌+◌, ◌-◌, arith, refl, subst}
 use Rattle.std.proofs.lemmas.Result.{err_from_is_err_and}
 use Rattle.curve_running.specs.upp_limits.specs.declared.op_kind.OpKind.TheVariants.{RunSup}
-use Rattle.residual_calls.specs.curve_call.specs.Calls.{AppliesTo, goes_on, stops}
-use Rattle.residual_calls.specs.curve_call.proofs.Applied.{applied_seen, if_ok}
+use Rattle.curve_running.specs.curve_call.specs.Calls.{AppliesTo, goes_on, stops}
+use Rattle.curve_running.specs.curve_call.proofs.Applied.{applied_seen, if_ok}
 use Rattle.residual_calls.specs.InTurn.{on_the_way, past, PriorityRefused}
 use Rattle.residual_calls.proofs.Placed.{if_err}
 use Rattle.residual_calls.proofs.PriorityCalls.{left_finite, left_nonneg, ok_service}

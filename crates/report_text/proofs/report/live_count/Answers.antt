@@ -1,6 +1,6 @@
 use Rattle.std.proofs.Common.{◌+◌, ap, sym, ◌∙◌, arith}
-use Rattle.cell_table.specs.net_cells.specs.Numbered.{is_live}
-use Rattle.cell_table.specs.net_cells.proofs.Stored.{live_stored}
+use Rattle.net_cells.specs.Numbered.{is_live}
+use Rattle.net_cells.proofs.Stored.{live_stored}
 use Rattle.report_text.proofs.Counted.{count_more, count_still}
 use Rattle.report_text.proofs.report.live_count.Goals as goal
 use Rattle.report_text.proofs.report.live_count.Goals.{then-is_some, else-is_some}

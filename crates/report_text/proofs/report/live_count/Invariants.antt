@@ -1,6 +1,6 @@
 use Rattle.std.proofs.Common.{◌≡◌, ◌≤◌, length}
 use Rattle.std.specs.List.{filter, range_with_len}
-use Rattle.cell_table.specs.net_cells.specs.Numbered.{is_live}
+use Rattle.net_cells.specs.Numbered.{is_live}
 use Rattle.report_text.proofs.report.live_count.Given as goal
 
 abbrev pub invariant-loop-number : goal.invariant-loop-number

@@ -1,5 +1,5 @@
 use Rattle.std.specs.List.{flat_map, range_with_len}
-use Rattle.cell_table.specs.net_cells.proofs.Growing.{behind, flat_more}
+use Rattle.net_cells.proofs.Growing.{behind, flat_more}
 use Rattle.report_text.specs.Report.{queue_lines}
 use Rattle.report_text.proofs.report.push_servers.Goals as goal
 

@@ -1,6 +1,6 @@
 use Rattle.std.proofs.Common.{map}
 use Rattle.std.specs.List.{flat_map, range_with_len}
-use Rattle.cell_table.specs.net_cells.proofs.Growing.{behind, flat_more}
+use Rattle.net_cells.proofs.Growing.{behind, flat_more}
 use Rattle.report_text.specs.RunReport.{peak_line}
 use Rattle.report_text.proofs.run_report.push_queue_peaks.Goals as goal
 

@@ -1,7 +1,7 @@
 use Rattle.std.specs.Prelude.{◌≡◌, length}
 use Rattle.std.proofs.Common.{ap, arith, refl, inr, subst, sym}
 use Rattle.broken_laws.specs.net_model.specs.NetRoutes.{routes_of}
-use Rattle.run_laws.specs.Lawful.{run_start, after_run}
+use Rattle.net_cells.specs.run_laws.specs.Lawful.{run_start, after_run}
 use Rattle.broken_laws.specs.FirstBroken.{IsUnfinished}
 use Rattle.broken_laws.proofs.WholeRuns.{unbroken_is_lawful}
 use Rattle.run_check.proofs.Along.{behind}

@@ -1,6 +1,6 @@
 use Rattle.std.proofs.Common.{below_more}
 use Rattle.std.specs.Prelude.{IsTrue}
-use Rattle.run_measures.specs.net_cells.specs.Numbered.{is_live}
+use Rattle.net_cells.specs.Numbered.{is_live}
 use Rattle.run_findings.specs.Curves.{HasArrival}
 use Rattle.run_findings.proofs.curves.keeps_arrivals.Goals as goal
 

@@ -1,7 +1,7 @@
 use Rattle.std.proofs.Common.{◌<◌, length, below_more, ap, arith}
 use Rattle.std.proofs.lemmas.List.{length-map}
-use Rattle.simulated_sizes.specs.net_model.specs.Views.{server_of}
-use Rattle.simulated_sizes.specs.first_breaches.specs.Firsts.{HasService}
+use Rattle.net_cells.specs.net_model.specs.Views.{server_of}
+use Rattle.first_breaches.specs.Firsts.{HasService}
 use Rattle.run_findings.proofs.curves.keeps_services.Goals as goal
 
 pub loop-number-preserved : goal.loop-number-preserved

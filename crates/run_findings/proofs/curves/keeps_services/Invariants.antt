@@ -1,5 +1,5 @@
 use Rattle.std.proofs.Common.{ℕ, ◌<◌}
-use Rattle.simulated_sizes.specs.first_breaches.specs.Firsts.{HasService}
+use Rattle.first_breaches.specs.Firsts.{HasService}
 use Rattle.run_findings.proofs.curves.keeps_services.Given as goal
 
 abbrev pub invariant-loop-number : goal.invariant-loop-number

@@ -1,4 +1,4 @@
-use Rattle.simulated_sizes.specs.net_model.specs.NetRoutes.{routes_of}
+use Rattle.net_cells.specs.net_model.specs.NetRoutes.{routes_of}
 use Rattle.run_measures.proofs.Lawful.{lawful_runs_are_numbered}
 use Rattle.run_findings.proofs.finding.findings.Goals as goal
 

@@ -1,9 +1,9 @@
 use Rattle.std.proofs.Common.{refl, arith}
-use Rattle.rational.specs.Rational.{◌<ℚ◌, ◌≤ℚ◌, le_q}
-use Rattle.rational.proofs.Over.{le_q_out}
-use Rattle.rational.proofs.MinMax.{le_q_not}
+use Rattle.net_model.specs.rational.specs.Rational.{◌<ℚ◌, ◌≤ℚ◌, le_q}
+use Rattle.net_model.specs.rational.proofs.Over.{le_q_out}
+use Rattle.net_model.specs.rational.proofs.MinMax.{le_q_not}
 use Rattle.run_measures.proofs.Gauging.{counted_own, counted_none}
-use Rattle.rational.proofs.Compared.{least_by_test}
+use Rattle.net_model.specs.rational.proofs.Compared.{least_by_test}
 use Rattle.run_measures.proofs.gauge.level.Goals as goal
 
 pub returns-then-is_less : goal.returns-then-is_less

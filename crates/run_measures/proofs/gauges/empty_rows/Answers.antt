@@ -1,5 +1,5 @@
 use Rattle.std.proofs.Common.{◌∙◌, ap, map}
-use Rattle.sim_routes.specs.net_model.specs.Views.{server_of}
+use Rattle.net_model.specs.Views.{server_of}
 use Rattle.run_measures.specs.Gauges.{empty_row_of}
 use Rattle.run_measures.proofs.LevelEnds.{mapped_all, mapped_twice}
 use Rattle.run_measures.proofs.gauges.empty_rows.Goals as goal

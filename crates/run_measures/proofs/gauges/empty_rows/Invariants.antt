@@ -1,5 +1,5 @@
 use Rattle.std.proofs.Common.{◌≡◌, map, take}
-use Rattle.sim_routes.specs.net_model.specs.Views.{server_of}
+use Rattle.net_model.specs.Views.{server_of}
 use Rattle.run_measures.specs.Gauges.{gauges_of, empty_row_of}
 use Rattle.run_measures.proofs.gauges.empty_rows.Given as goal
 

@@ -1,6 +1,6 @@
 use Rattle.std.specs.Prelude.{Result, Ok, Err, IfOk}
 use Rattle.std.proofs.Common.{◌≡◌, ◌∙◌, ap, length, map, subst, sym, arith}
-use Rattle.sim_routes.specs.net_model.specs.NetRoutes.{routes_of}
+use Rattle.net_model.specs.NetRoutes.{routes_of}
 use Rattle.run_measures.specs.Gauges.{gauges_of, peak_of}
 use Rattle.run_measures.specs.Peaks.{ArePeaks}
 use Rattle.run_measures.proofs.LevelEnds.{peaks_at_end}

@@ -1,4 +1,4 @@
-use Rattle.sim_routes.specs.net_model.specs.NetRoutes.{routes_of}
+use Rattle.net_model.specs.NetRoutes.{routes_of}
 use Rattle.run_measures.specs.Levels.{Tells}
 use Rattle.run_measures.proofs.levels.peaks.Given as goal
 

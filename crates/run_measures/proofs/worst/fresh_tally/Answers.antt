@@ -2,9 +2,9 @@ use Rattle.std.specs.Prelude.{◌≡◌, length, replicate, pos}
 use Rattle.std.proofs.Common.{arith, sym, ap, ◌∙◌}
 use Rattle.std.proofs.lemmas.List.{length-map}
 use Rattle.std.specs.Option.{option_map}
-use Rattle.rational.specs.Rational.{int}
-use Rattle.sim_routes.specs.net_model.specs.NetRoutes.{routes_of}
-use Rattle.sim_routes.specs.net_model.specs.Views.{flow_of}
+use Rattle.net_model.specs.rational.specs.Rational.{int}
+use Rattle.net_model.specs.NetRoutes.{routes_of}
+use Rattle.net_model.specs.Views.{flow_of}
 use Rattle.run_measures.proofs.Telling.{told_nothing}
 use Rattle.run_measures.proofs.worst.fresh_tally.Goals as goal
 

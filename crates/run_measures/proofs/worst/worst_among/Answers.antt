@@ -1,8 +1,8 @@
 use Rattle.std.specs.Prelude.{List, length}
 use Rattle.std.proofs.Common.{sym, subst, ◌∙◌}
 use Rattle.std.proofs.Math.Seq.{drop-length}
-use Rattle.sim_routes.specs.run_laws.specs.declared.steps.Step.{Step}
-use Rattle.sim_routes.specs.net_model.specs.NetRoutes.{routes_of}
+use Rattle.net_model.specs.run_laws.specs.declared.steps.Step.{Step}
+use Rattle.net_model.specs.NetRoutes.{routes_of}
 use Rattle.run_measures.specs.Tallies.{IsTold}
 use Rattle.run_measures.proofs.Walking.{may_tell, told_before, told_all}
 use Rattle.run_measures.proofs.worst.worst_among.Goals as goal

@@ -1,5 +1,5 @@
 use Rattle.std.proofs.Common.{◌≡◌, drop, length}
-use Rattle.sim_routes.specs.net_model.specs.NetRoutes.{routes_of}
+use Rattle.net_model.specs.NetRoutes.{routes_of}
 use Rattle.run_measures.specs.Numbered.{flows_in}
 use Rattle.run_measures.specs.Tallies.{IsTold}
 use Rattle.run_measures.proofs.worst.worst_among.Given as goal

@@ -1,6 +1,6 @@
 use Rattle.std.proofs.Common.{◌≡◌, ◌∙◌, Option, sym, subst, ap, inl}
 use Rattle.std.proofs.lemmas.Result.{IfOk-weaker}
-use Rattle.rational.specs.Rational.{ℚ, ◌-ℚ◌}
+use Rattle.fraction128.specs.rational.specs.Rational.{ℚ, ◌-ℚ◌}
 use Rattle.flow_watch.specs.upp_curve.specs.Unrolled.{unroll}
 use Rattle.flow_watch.specs.upp_normal.specs.Unrolling.{IsOperandTo}
 use Rattle.flow_watch.specs.watch_laws.specs.Segments.{segments}

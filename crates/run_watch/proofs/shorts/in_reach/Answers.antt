@@ -1,6 +1,6 @@
 use Rattle.std.proofs.Common.{take, refl, sym, subst}
 use Rattle.std.proofs.lemmas.List.{take_rest}
-use Rattle.rational.specs.Ratio.{SumFits}
+use Rattle.fraction128.specs.rational.specs.Ratio.{SumFits}
 use Rattle.flow_watch.specs.watch_laws.specs.Marks.{MostFits}
 use Rattle.flow_watch.specs.watch_laws.specs.Shorts.{EachPoint}
 use Rattle.flow_watch.specs.watch_laws.specs.declared.mark.Rule.{Rule}

@@ -1,6 +1,6 @@
 use Rattle.std.proofs.Common.{◌≡◌, ◌<◌, length, arith, rules, subst, sym, false}
 use Rattle.std.proofs.lemmas.List.Sorted.{IsPartitionPoint-from_clause}
-use Rattle.rational.specs.Rational.{ℚ, le_q}
+use Rattle.fraction128.specs.rational.specs.Rational.{ℚ, le_q}
 use Rattle.run_watch.proofs.RampLists.{not_most}
 use Rattle.run_watch.proofs.WatchedLists.{parted_at, next_found, next_none}
 use Rattle.run_watch.proofs.watched.stop_after.Goals as goal

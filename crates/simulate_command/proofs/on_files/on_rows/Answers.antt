@@ -1,5 +1,5 @@
 use Rattle.std.proofs.lemmas.Result.{IfOk-weaker}
-use Rattle.simulated_findings.specs.command_replies.specs.View.{status_of}
+use Rattle.command_replies.specs.View.{status_of}
 use Rattle.table_text.specs.Rows.{rows_of}
 use Rattle.simulate_command.proofs.Counting.{of_trace}
 use Rattle.simulate_command.proofs.Named.{named}

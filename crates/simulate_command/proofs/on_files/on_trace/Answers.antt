@@ -1,6 +1,6 @@
 use Rattle.std.proofs.lemmas.Result.{IfOk-weaker}
-use Rattle.simulated_findings.specs.command_replies.specs.View.{reply_of, status_of}
-use Rattle.simulated_findings.specs.command_replies.proofs.FirstFaults.{on_told}
+use Rattle.command_replies.specs.View.{reply_of, status_of}
+use Rattle.command_replies.proofs.FirstFaults.{on_told}
 use Rattle.simulate_command.proofs.Counting.{of_network}
 use Rattle.simulate_command.proofs.OnNets.{on_no_network}
 use Rattle.simulate_command.proofs.on_files.on_trace.Goals as goal

@@ -1,11 +1,11 @@
 use Rattle.std.proofs.lemmas.Result.{IfOk-weaker}
-use Rattle.upp_limits.specs.declared.own_limits.OverLimit.TheVariants.{TooMany, TooWide}
-use Rattle.net_graph.proofs.Returns.{order_or_cycle}
-use Rattle.simulated_findings.specs.report_text.specs.CellWords.{cell_words}
-use Rattle.simulated_findings.specs.command_replies.specs.Replies.{cell_over}
-use Rattle.simulated_findings.specs.command_replies.specs.View.{reply_of, status_of}
-use Rattle.simulated_findings.specs.run_findings.proofs.Counted.{by_order, no_report}
-use Rattle.simulated_findings.specs.run_findings.proofs.Reports.{refused}
+use Rattle.sim_bounds.specs.upp_limits.specs.declared.own_limits.OverLimit.TheVariants.{TooMany, TooWide}
+use Rattle.net_cells.specs.net_graph.proofs.Returns.{order_or_cycle}
+use Rattle.report_text.specs.CellWords.{cell_words}
+use Rattle.command_replies.specs.Replies.{cell_over}
+use Rattle.command_replies.specs.View.{reply_of, status_of}
+use Rattle.run_findings.proofs.Counted.{by_order, no_report}
+use Rattle.run_findings.proofs.Reports.{refused}
 use Rattle.simulate_command.proofs.OnNets.{on_over, on_table}
 use Rattle.simulate_command.proofs.on_net.in_order.Goals as goal
 

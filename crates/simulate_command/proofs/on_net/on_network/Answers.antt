@@ -1,5 +1,5 @@
 use Rattle.std.proofs.lemmas.Result.{IfOk-weaker}
-use Rattle.simulated_findings.specs.command_replies.specs.View.{reply_of}
+use Rattle.command_replies.specs.View.{reply_of}
 use Rattle.simulate_command.proofs.OnNets.{on_cycle}
 use Rattle.simulate_command.proofs.on_net.on_network.Goals as goal
 

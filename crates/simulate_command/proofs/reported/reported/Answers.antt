@@ -1,5 +1,5 @@
-use Rattle.simulated_findings.specs.report_text.specs.RunReport.{found_of}
-use Rattle.simulated_findings.specs.run_findings.proofs.Reports.{same_reply}
+use Rattle.report_text.specs.RunReport.{found_of}
+use Rattle.run_findings.proofs.Reports.{same_reply}
 use Rattle.simulate_command.proofs.reported.reported.Goals as goal
 
 pub returns : goal.returns

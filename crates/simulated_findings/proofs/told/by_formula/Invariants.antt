@@ -1,5 +1,5 @@
 use Rattle.std.proofs.Common.{◌≡◌, take, map}
-use Rattle.run_findings.specs.net_model.specs.declared.server.Server.{Server}
+use Rattle.sim_bounds.specs.net_model.specs.declared.server.Server.{Server}
 use Rattle.simulated_findings.specs.Told.{is_by_formula}
 use Rattle.simulated_findings.proofs.told.by_formula.Given as goal
 

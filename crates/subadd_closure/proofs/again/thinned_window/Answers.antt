@@ -1,8 +1,8 @@
 use Rattle.std.proofs.Common.{sym, subst, ◌∙◌}
-use Rattle.rational.specs.declared.Extended.TheVariants.{Inf}
-use Rattle.curve_conv.specs.upp_curve.specs.Curve.{value_at}
-use Rattle.curve_conv.specs.element_envelope.specs.EnvelopeWindows.{EnvelopeRoom}
-use Rattle.curve_conv.specs.element_envelope.specs.PieceElements.{elements_of}
+use Rattle.curve_pointwise.specs.rational.specs.declared.Extended.TheVariants.{Inf}
+use Rattle.curve_pointwise.specs.upp_curve.specs.Curve.{value_at}
+use Rattle.element_envelope.specs.EnvelopeWindows.{EnvelopeRoom}
+use Rattle.element_envelope.specs.PieceElements.{elements_of}
 use Rattle.subadd_closure.specs.Thinned.{IsThinned}
 use Rattle.subadd_closure.proofs.ThinnedElements.{window_reads}
 use Rattle.subadd_closure.proofs.Thinning.{thinned_room, ok_thinned}

@@ -1,7 +1,7 @@
 use Rattle.std.proofs.Common.{arith, ◌≡◌, ◌∙◌, ◌+◌, ◌≤◌, ◌^◌, suc, subst, sym, ap}
 use Rattle.std.proofs.lemmas.Result.{err_from_is_err_and}
-use Rattle.curve_conv.specs.upp_curve.specs.Normal.{IsRaw}
-use Rattle.curve_conv.specs.upp_limits.specs.Limits.{own_tally}
+use Rattle.curve_pointwise.specs.upp_curve.specs.Normal.{IsRaw}
+use Rattle.curve_pointwise.specs.upp_limits.specs.Limits.{own_tally}
 use Rattle.subadd_closure.specs.ElementCurves.{turn}
 use Rattle.subadd_closure.specs.PieceFits.{PieceFits, IsMade}
 use Rattle.subadd_closure.proofs.SegmentAnswers.{turn_unfit, turn_wide, rise_wide, turn_few, turn_is, falling_q}

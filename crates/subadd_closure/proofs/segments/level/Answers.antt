@@ -1,7 +1,7 @@
 use Rattle.std.proofs.Common.{arith, ◌≡◌, ◌∙◌, ◌+◌, suc, subst, sym}
 use Rattle.std.proofs.lemmas.Result.{err_from_is_err_and}
-use Rattle.rational.specs.Ratio.{IsSmall}
-use Rattle.curve_conv.specs.upp_curve.specs.Curves.{IsCurve}
+use Rattle.curve_pointwise.specs.rational.specs.Ratio.{IsSmall}
+use Rattle.curve_pointwise.specs.upp_curve.specs.Curves.{IsCurve}
 use Rattle.subadd_closure.specs.ElementCurves.{level_closure}
 use Rattle.subadd_closure.proofs.SegmentAnswers.{level_unfit, level_wide, level_blind, level_is, level_curve, formed}
 use Rattle.subadd_closure.proofs.segments.level.Goals as goal

@@ -1,10 +1,10 @@
 use Rattle.std.proofs.Common.{sym, subst}
-use Rattle.rational.specs.Rational.{◌≤ℚ◌}
-use Rattle.curve_conv.specs.affine_segment.specs.Pieces.{Each}
-use Rattle.curve_conv.specs.upp_curve.specs.Unrolled.{upto}
+use Rattle.curve_pointwise.specs.rational.specs.Rational.{◌≤ℚ◌}
+use Rattle.curve_pointwise.specs.affine_segment.specs.Pieces.{Each}
+use Rattle.curve_pointwise.specs.upp_curve.specs.Unrolled.{upto}
 use Rattle.subadd_closure.specs.Thinned.{LiesUnder}
 use Rattle.subadd_closure.proofs.ThinnedElements.{slice_is, slice_under}
-use Rattle.rational.proofs.Compared.{least_by_test}
+use Rattle.curve_pointwise.specs.rational.proofs.Compared.{least_by_test}
 use Rattle.subadd_closure.proofs.thinned.segment_over.Goals as goal
 
 pub returns : goal.returns

@@ -1,6 +1,6 @@
 use Rattle.std.proofs.Common.{◌≡◌, ◌++◌, ◌-◌, ◌∷◌, [], List, Err, ap, ◌∙◌, subst, sym}
 use Rattle.std.proofs.lemmas.Result.{err_from_is_err_and}
-use Rattle.cell_store.specs.net_model.specs.Networks.{Net}
+use Rattle.net_cells.specs.net_model.specs.Networks.{Net}
 use Rattle.cell_store.specs.Placed.{placed}
 use Rattle.cell_store.specs.Edits.{EditEnds}
 use Rattle.edit_store.specs.declared.replaced.Replaced.{Replaced}

@@ -1,6 +1,6 @@
 use Rattle.std.proofs.Common.{◌≡◌, ◌-◌, ◌++◌, ◌∷◌, [], List, length, take, Some, sym, ap, ◌∙◌, subst, refl}
 use Rattle.std.specs.Prelude.{slice_get}
-use Rattle.cell_store.specs.net_model.specs.Accepted.{IsAccepted}
+use Rattle.net_cells.specs.net_model.specs.Accepted.{IsAccepted}
 use Rattle.edit_store.specs.declared.replaced.Replaced.{Replaced}
 use Rattle.edit_store.specs.Replaced.{put_back, networks_before}
 use Rattle.edit_store.proofs.PutBack.{split_last, last_accepted, before_more}

@@ -1,5 +1,5 @@
 use Rattle.std.proofs.Common.{◌∙◌, List, sym, subst, arith}
-use Rattle.cell_store.specs.net_cells.specs.MemoryEnds.{at_none}
+use Rattle.net_cells.specs.MemoryEnds.{at_none}
 use Rattle.cell_store.specs.Placed.{placed}
 use Rattle.edit_store.specs.declared.replaced.Replaced.{Replaced}
 use Rattle.edit_store.specs.Replaced.{IsKept}

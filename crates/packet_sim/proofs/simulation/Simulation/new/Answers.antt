@@ -2,7 +2,7 @@ use Rattle.std.specs.Prelude.{◌≡◌, List, length}
 use Rattle.std.proofs.Common.{sym, ap, subst, arith, ◌∙◌}
 use Rattle.std.proofs.lemmas.List.{length-map}
 use Rattle.sim_bounds.specs.net_model.specs.Views.{server_of}
-use Rattle.run_laws.specs.declared.steps.Step.{Step}
+use Rattle.net_cells.specs.run_laws.specs.declared.steps.Step.{Step}
 use Rattle.sim_bounds.specs.stated_runs.specs.FromTraces.{setup_of}
 use Rattle.sim_bounds.specs.Gauge.{grid_of}
 use Rattle.sim_bounds.specs.Horizons.{horizon}

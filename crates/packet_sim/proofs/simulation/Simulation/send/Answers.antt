@@ -1,9 +1,9 @@
 use Rattle.std.specs.Prelude.{◌<◌, Some, List, length, slice_get}
 use Rattle.std.proofs.Common.{refl, sym, subst, arith, ap, ◌∙◌}
 use Rattle.std.proofs.lemmas.List.{length-map, with_items_is}
-use Rattle.rational.specs.Rational.{◌/ℚ◌}
-use Rattle.rational.specs.Ratio.{IsSmall}
-use Rattle.run_laws.specs.declared.steps.Step.TheVariants as steps
+use Rattle.fraction128.specs.rational.specs.Rational.{◌/ℚ◌}
+use Rattle.fraction128.specs.rational.specs.Ratio.{IsSmall}
+use Rattle.net_cells.specs.run_laws.specs.declared.steps.Step.TheVariants as steps
 use Rattle.sim_loop.specs.queue_sched.specs.declared.turn.Turn.TheVariants as turns
 use Rattle.sim_bounds.specs.stated_runs.specs.FromTraces.{entering, setup_of}
 use Rattle.sim_loop.specs.sim_servers.specs.declared.station.Station.{Station}

@@ -1,5 +1,5 @@
 use Rattle.std.proofs.Common.{refl}
-use Rattle.run_laws.specs.declared.steps.Step.TheVariants as steps
+use Rattle.net_cells.specs.run_laws.specs.declared.steps.Step.TheVariants as steps
 use Rattle.sim_bounds.specs.stated_runs.specs.FromTraces.{setup_of}
 use Rattle.packet_sim.proofs.Starting.{visit_done}
 use Rattle.packet_sim.proofs.Stepped.{stepped}

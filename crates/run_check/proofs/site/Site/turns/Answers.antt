@@ -1,5 +1,5 @@
 use Rattle.std.proofs.Common.{subst}
-use Rattle.run_laws.specs.Allows.{MayVisit}
+use Rattle.net_cells.specs.run_laws.specs.Allows.{MayVisit}
 use Rattle.queue_sched.specs.Turns.{Starts as Begins}
 use Rattle.broken_laws.specs.sim_servers.specs.Queues.{served_by, StandFor}
 use Rattle.run_check.proofs.SiteSteps.{idle_of, none_visited}

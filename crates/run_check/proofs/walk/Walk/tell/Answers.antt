@@ -1,5 +1,5 @@
 use Rattle.std.proofs.Common.{ap}
-use Rattle.run_laws.specs.declared.steps.Step.TheVariants as steps
+use Rattle.net_cells.specs.run_laws.specs.declared.steps.Step.TheVariants as steps
 use Rattle.broken_laws.specs.net_model.specs.NetRoutes.{routes_of}
 use Rattle.run_measures.proofs.LevelSteps.{step_at}
 use Rattle.run_check.proofs.Along.{stands, goes_by, goes_ok_by}

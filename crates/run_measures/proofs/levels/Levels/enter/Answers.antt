@@ -1,7 +1,7 @@
 use Rattle.std.proofs.Common.{ap, sym, arith, refl, subst}
 use Rattle.std.proofs.lemmas.List.{with_items_is}
 use Rattle.std.specs.Vec.{with_items}
-use Rattle.sim_routes.specs.net_model.specs.NetRoutes.{routes_of}
+use Rattle.net_model.specs.NetRoutes.{routes_of}
 use Rattle.run_measures.specs.Gauges.{Gains, gauges_of, ChangesOne}
 use Rattle.run_measures.specs.Levels.{queue_for}
 use Rattle.run_measures.proofs.GaugeRows.{changed_as}

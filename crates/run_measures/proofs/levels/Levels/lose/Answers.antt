@@ -1,7 +1,7 @@
 use Rattle.std.proofs.Common.{◌≡◌, ◌∙◌, ap, sym, arith}
 use Rattle.std.proofs.lemmas.List.{get_or_read, with_items_is}
-use Rattle.sim_routes.specs.run_laws.specs.Routes.{queue_at, route_of}
-use Rattle.sim_routes.specs.net_model.specs.NetRoutes.{routes_of}
+use Rattle.net_model.specs.run_laws.specs.Routes.{queue_at, route_of}
+use Rattle.net_model.specs.NetRoutes.{routes_of}
 use Rattle.run_measures.specs.Gauges.{Loses, gauges_of}
 use Rattle.run_measures.specs.Levels.{flow_for, bits_for, queue_for}
 use Rattle.run_measures.proofs.GaugeRows.{changed_as}

@@ -1,7 +1,7 @@
 use Rattle.std.specs.Prelude.{Result, Ok, Err, OnOk, ◌<◌, ◌^◌}
 use Rattle.std.proofs.Common.{arith, ap}
-use Rattle.sim_routes.specs.run_laws.specs.declared.steps.Step.TheVariants as steps
-use Rattle.sim_routes.specs.net_model.specs.NetRoutes.{routes_of}
+use Rattle.net_model.specs.run_laws.specs.declared.steps.Step.TheVariants as steps
+use Rattle.net_model.specs.NetRoutes.{routes_of}
 use Rattle.run_measures.proofs.LevelSteps.{step_at, next_place, next_number, may_enter, enter_tells, may_reach, reach_tells, may_leave, leave_tells, work_tells, visit_tells}
 use Rattle.run_measures.proofs.levels.Levels.tell.Goals as goal
 

@@ -2,8 +2,8 @@ use Rattle.std.specs.Prelude.{◌≡◌, ◌<◌, pos, length, get_or}
 use Rattle.std.proofs.Common.{arith, refl, ap, ◌∙◌, subst}
 use Rattle.std.proofs.lemmas.List.{get_or_read}
 use Rattle.std.proofs.lemmas.Option.{slice_get_within, get_or_from_slice_get}
-use Rattle.rational.specs.Rational.{int, ◌-ℚ◌, ◌≤ℚ◌, ◌<ℚ◌}
-use Rattle.rational.proofs.Compared.{least_by_test}
+use Rattle.net_model.specs.rational.specs.Rational.{int, ◌-ℚ◌, ◌≤ℚ◌, ◌<ℚ◌}
+use Rattle.net_model.specs.rational.proofs.Compared.{least_by_test}
 use Rattle.run_measures.proofs.Telling.{enter_unknown, enter_less, enter_more}
 use Rattle.run_measures.proofs.worst.Tally.enter.Goals as goal
 

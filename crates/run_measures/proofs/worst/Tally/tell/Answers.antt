@@ -1,7 +1,7 @@
 use Rattle.std.specs.Prelude.{◌∷◌}
 use Rattle.std.proofs.Common.{sym, subst}
-use Rattle.sim_routes.specs.run_laws.specs.declared.steps.Step.{Step}
-use Rattle.sim_routes.specs.net_model.specs.NetRoutes.{routes_of}
+use Rattle.net_model.specs.run_laws.specs.declared.steps.Step.{Step}
+use Rattle.net_model.specs.NetRoutes.{routes_of}
 use Rattle.run_measures.specs.Tallies.{IsTold}
 use Rattle.run_measures.proofs.Telling.{reach_told, work_told, visit_told}
 use Rattle.run_measures.proofs.worst.Tally.tell.Goals as goal
