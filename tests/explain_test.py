@@ -219,6 +219,17 @@ class Launcher(WithFolder):
         piped = self.run_it("explain", text=told.stdout)
         self.assertEqual((piped.returncode, piped.stdout, piped.stderr), (0, told.stdout, told.stderr))
 
+    def test_the_links_of_the_front_page(self):
+        """Its lines work in a home that has no folder yet."""
+        lines = re.findall("^    ((?:mkdir|ln) .*)$", (TOP / "README.md").read_text(), re.M)
+        home = {**os.environ, "HOME": str(self.folder)}
+        subprocess.run(["sh", "-ec", "\n".join(lines)], cwd=TOP, env=home, check=True)
+        links = [path for path in self.folder.rglob("*") if path.is_symlink()]
+        self.assertEqual({path.name for path in links}, {"netcalc", "netcalc.1"})
+        self.assertEqual((len(lines), len(links), all(path.exists() for path in links)), (4, 3, True))
+        told = subprocess.run([self.folder / ".local/bin/netcalc", "--version"], stdout=subprocess.PIPE, check=False)
+        self.assertEqual(told.returncode, 0)
+
     def test_a_terminal(self):
         """Its standard error alone decides; the bytes and the status of the program stay as they are."""
         self.file("n.toml", SERVER + FLOW.replace('"s1"', '"s2"'))
