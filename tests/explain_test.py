@@ -137,7 +137,12 @@ class Explain(WithFolder):
             ),
             (
                 SERVER + "".join(stairs),
-                ["queue 0 of server s1 (n.toml line 1)", "total: the sum of the curves", "too many: an operator"],
+                [
+                    "queue 0 of server s1 (n.toml line 1)",
+                    "at s1: 999979/1000, 999983/1000; together after 999962000357/1000",
+                    "total: the sum of the curves",
+                    "too many: an operator",
+                ],
             ),
             (SERVER + wide + wide.replace("video", "other"), ["server s1 (n.toml line 1)", "too wide: a number"]),
             (
