@@ -221,16 +221,16 @@ def periods_at(places, server):
 
 def of_cell(why, cell, files, known):
     """The explanation of a cell that is over a limit."""
-    word, name, number = cell.groups()
+    word, name, place = cell.groups()
     means, after = known[f"cell {word}"]
     told, places = files.name("network"), files.places()
     server = name
     if after == "server, queue":
-        where = f"queue {number} of {known_at(places, 'server', name, told)}"
+        where = f"queue {place} of {known_at(places, 'server', name, told)}"
     else:
         where = known_at(places, "flow", name, told)
-        hop = places.texts.get(f"{places.named('flow', name)}.path[{number}]") if number else None
-        where += f", hop {number}" if number else ""
+        hop = places.texts.get(f"{places.named('flow', name)}.path[{place}]") if place else None
+        where += f", hop {place}" if place else ""
         server = hop.partition(":")[0] if hop else ""
         where += f": {known_at(places, 'server', server, told)}" if hop else ""
     periods = periods_at(places, server) if why == "too many" else []
