@@ -137,7 +137,12 @@ class Explain(WithFolder):
             ),
             (
                 SERVER + "".join(stairs),
-                ["queue 0 of server s1 (n.toml line 1)", "total: the sum of the curves", "too many: an operator"],
+                [
+                    "queue 0 of server s1 (n.toml line 1)",
+                    "at s1: 999979/1000, 999983/1000; together after 999962000357/1000",
+                    "total: the sum of the curves",
+                    "too many: an operator",
+                ],
             ),
             (SERVER + wide + wide.replace("video", "other"), ["server s1 (n.toml line 1)", "too wide: a number"]),
             (
@@ -218,6 +223,17 @@ class Launcher(WithFolder):
         self.assertIn("n.toml line 9: flow video, path[0]", told.stderr)
         piped = self.run_it("explain", text=told.stdout)
         self.assertEqual((piped.returncode, piped.stdout, piped.stderr), (0, told.stdout, told.stderr))
+
+    def test_the_links_of_the_front_page(self):
+        """Its lines work in a home that has no folder yet."""
+        lines = re.findall("^    ((?:mkdir|ln) .*)$", (TOP / "README.md").read_text(), re.M)
+        home = {**os.environ, "HOME": str(self.folder)}
+        subprocess.run(["sh", "-ec", "\n".join(lines)], cwd=TOP, env=home, check=True)
+        links = [path for path in self.folder.rglob("*") if path.is_symlink()]
+        self.assertEqual({path.name for path in links}, {"netcalc", "netcalc.1"})
+        self.assertEqual((len(lines), len(links), all(path.exists() for path in links)), (4, 3, True))
+        told = subprocess.run([self.folder / ".local/bin/netcalc", "--version"], stdout=subprocess.PIPE, check=False)
+        self.assertEqual(told.returncode, 0)
 
     def test_a_terminal(self):
         """Its standard error alone decides; the bytes and the status of the program stay as they are."""

@@ -329,7 +329,8 @@ class WhatIf(WithFolder):
     def test_faults(self):
         run = self.rows("rate,sw1-sw2\n")
         self.assertEqual(run.returncode, 1)
-        self.assertIn("T3 row 1", run.stderr)
+        self.assertIn("e.csv: T3 row 1\n", run.stderr)
+        self.assertIn("e.csv line 1\n    rate,sw1-sw2\n  T3: it has more or fewer fields", run.stderr)
         self.assertEqual(tool("what_if.py", STAIR).returncode, 2)
         self.assertEqual(tool("what_if.py", STAIR, "--greatest-load").returncode, 2)
 

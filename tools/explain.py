@@ -14,13 +14,15 @@ Rows of an edit list that were refused are explained too."""
 import csv
 import difflib
 import io
+import math
 import pathlib
 import re
 import subprocess
 import sys
 import tomllib
+from fractions import Fraction
 
-from networks import TOP, PROGRAM, ended, the_program
+from networks import PROGRAM, TOP, Fault, ended, number, shortened, the_program
 from places import Places
 
 FORMATS, CALCULATOR = TOP / "docs/FORMATS.md", TOP / "docs/CALCULATOR.md"
@@ -198,19 +200,41 @@ def known_at(places, kind, name, told):
     return f"{kind} {name}" + (f" ({told} line {line})" if line and told else "")
 
 
+def periods_at(places, server):
+    """The line that tells the periods of the stairs that pass a server, the shortest first, and when they repeat
+    together; none where there are not two."""
+    periods = set()
+    for place, text in places.texts.items():
+        found = re.fullmatch(r"(flow\[[0-9]+\])\.path\[[0-9]+\]", place)
+        if found and text.partition(":")[0] == server:
+            try:
+                periods.add(number(places.texts.get(f"{found[1]}.arrival.period", "")))
+            except Fault:
+                pass  # no stair
+    if len(periods) < 2 or min(periods) <= 0:
+        return []
+    common = math.lcm(*(period.denominator for period in periods))
+    together = Fraction(math.lcm(*(int(period * common) for period in periods)), common)
+    told = ", ".join(map(str, sorted(periods)[:8])) + (", .." if len(periods) > 8 else "")
+    return [f"    periods of the stairs at {server}: {told}; together after {shortened(str(together))}"]
+
+
 def of_cell(why, cell, files, known):
     """The explanation of a cell that is over a limit."""
-    word, name, number = cell.groups()
+    word, name, place = cell.groups()
     means, after = known[f"cell {word}"]
     told, places = files.name("network"), files.places()
+    server = name
     if after == "server, queue":
-        where = f"queue {number} of {known_at(places, 'server', name, told)}"
+        where = f"queue {place} of {known_at(places, 'server', name, told)}"
     else:
         where = known_at(places, "flow", name, told)
-        hop = places.texts.get(f"{places.named('flow', name)}.path[{number}]") if number else None
-        where += f", hop {number}" if number else ""
-        where += f": {known_at(places, 'server', hop.partition(':')[0], told)}" if hop else ""
-    return [where, f"  {word}: {means}", *rule(why, known)]
+        hop = places.texts.get(f"{places.named('flow', name)}.path[{place}]") if place else None
+        where += f", hop {place}" if place else ""
+        server = hop.partition(":")[0] if hop else ""
+        where += f": {known_at(places, 'server', server, told)}" if hop else ""
+    periods = periods_at(places, server) if why == "too many" else []
+    return [where, *periods, f"  {word}: {means}", *rule(why, known)]
 
 
 def of_cycle(names, files, known):

@@ -170,11 +170,11 @@ def most_at(server, queue, gathered):
     return [(name, bits / whole) for name, bits in flows[:MOST]] if whole else []
 
 
-def hold_answer(path, answer):
-    """Refuses a network that the program refuses, in its words and those of the explanation."""
+def hold_answer(words, answer):
+    """Refuses what the program refuses of some words, in its own words and those of the explanation."""
     if answer.status:
         told = answer.text.strip() or f"netcalc ended with status {answer.status}"
-        raise Fault("\n".join([told, *explain.explain(answer.text, ["analyse", str(path)])]))
+        raise Fault("\n".join([told, *explain.explain(answer.text, words)]))
 
 
 def sum_of(path):
@@ -186,7 +186,7 @@ def of_network(path, deadlines, program):
     program = the_program(program)
     findings = lint.lint(path, program)
     answer = analyse(path, program)
-    hold_answer(path, answer)
+    hold_answer(["analyse", str(path)], answer)
     network = load(path)
     servers = {server["name"]: server for server in network.get("server", [])}
     gathered = brought(network, answer)

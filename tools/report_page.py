@@ -28,10 +28,10 @@ th, td { text-align: right; padding: .28rem .6rem; border-bottom: 1px solid var(
   font-variant-numeric: tabular-nums; }
 th { font-size: .82rem; font-weight: 600; color: var(--soft); border-bottom: 2px solid var(--line);
   vertical-align: bottom; }
-th button { all: unset; cursor: pointer; }
-th button:hover, th button:focus-visible { color: var(--ink); text-decoration: underline; }
-th[aria-sort=ascending] button::after { content: " \\25b2"; font-size: .7em; }
-th[aria-sort=descending] button::after { content: " \\25bc"; font-size: .7em; }
+th [role=button] { cursor: pointer; }
+th [role=button]:hover, th [role=button]:focus-visible { color: var(--ink); text-decoration: underline; }
+th[aria-sort=ascending] [role=button]::after { content: " \\25b2"; font-size: .7em; }
+th[aria-sort=descending] [role=button]::after { content: " \\25bc"; font-size: .7em; }
 td.name, th.name, td.words, th.words { text-align: left; }
 td.name { font-family: ui-monospace, "DejaVu Sans Mono", monospace; font-size: .9em; }
 td.words { white-space: normal; color: var(--soft); font-size: .9em; }
@@ -61,7 +61,9 @@ details table { width: auto; margin: .4rem 0 .6rem 1.6rem; }
 }
 """
 SCRIPT = """
-for (const button of document.querySelectorAll("th button")) button.addEventListener("click", () => {
+function sorted(event) {
+  if (event.type === "keydown" && event.key !== "Enter") return;
+  const button = event.currentTarget;
   const head = button.closest("th"), body = head.closest("table").tBodies[0], place = head.cellIndex;
   const up = head.getAttribute("aria-sort") !== "ascending";
   for (const other of head.parentNode.cells) other.removeAttribute("aria-sort");
@@ -70,7 +72,9 @@ for (const button of document.querySelectorAll("th button")) button.addEventList
   const is_word = text => text === "" || isNaN(text);
   const before = (a, b) => is_word(a) || is_word(b) ? a.localeCompare(b, "en", { numeric: true }) : a - b;
   body.append(...[...body.rows].sort((a, b) => (up ? 1 : -1) * before(value(a), value(b))));
-});
+}
+for (const button of document.querySelectorAll("th [role=button]"))
+  for (const what of ["click", "keydown"]) button.addEventListener(what, sorted);
 """
 
 
@@ -88,7 +92,7 @@ def heads(columns):
     """The head of a table. A column can be sorted, but for one without a name and for that of exact bounds."""
     cells = (
         f'<th class="{kind}" scope="col">'
-        + (name if kind == "exact" or not name else f'<button type="button">{name}</button>')
+        + (name if kind == "exact" or not name else f'<span role="button" tabindex="0">{name}</span>')
         + "</th>"
         for name, kind in columns
     )

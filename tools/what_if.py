@@ -50,8 +50,8 @@ def rows_of(path):
         raise Fault(f"{path} line {reader.line_num}: {fault}") from None
 
 
-def answers_of(path, rows, program):
-    """What `edit` says after none, one, two and so on of the rows; a Fault where it refuses the list."""
+def answers_of(path, edits, rows, program):
+    """What `edit` says after none, one, two and so on of the rows of a list; a Fault where it refuses it."""
     with tempfile.NamedTemporaryFile("w", suffix=".csv", encoding="utf-8") as file:
         table = csv.writer(file, lineterminator="\n")
         for count in range(len(rows) + 1):
@@ -60,7 +60,8 @@ def answers_of(path, rows, program):
             file.flush()
             words = [the_program(program), "edit", str(path), file.name]
             run = subprocess.run(words, capture_output=True, text=True, check=False)
-            report.hold_answer(path, Answer(run.returncode, run.stdout))
+            told = run.stdout.replace(file.name, str(edits))
+            report.hold_answer(["edit", str(path), str(edits)], Answer(run.returncode, told))
             yield run.stdout
 
 
@@ -299,7 +300,7 @@ def odd_after(made, program):
 def tell_edits(words, network, deadlines):
     """Tells what the rows do."""
     rows = rows_of(words.edits)
-    texts = list(answers_of(words.network, rows, words.program))
+    texts = list(answers_of(words.network, words.edits, rows, words.program))
     made = dump(edited(network, rows, texts[-1].splitlines()), f"{words.network} after the edits of {words.edits}.")
     if words.write:
         pathlib.Path(words.write).write_text(made, encoding="utf-8")
@@ -327,7 +328,7 @@ def main():
         parser.error("an edit list, or --greatest-load")
     if words.greatest_load is not None and not words.deadlines or words.write and not words.edits:
         parser.error("--greatest-load wants --deadlines, and --write an edit list")
-    report.hold_answer(words.network, analyse(words.network, words.program))
+    report.hold_answer(["analyse", words.network], analyse(words.network, words.program))
     network = load(words.network)
     names = [flow["name"] for flow in network.get("flow", [])]
     deadlines = report.deadlines_of(words.deadlines, names) if words.deadlines else {}
