@@ -99,7 +99,7 @@ module _ (a b fast slow rate x : ℕ) (low : slow ≤ rate) (high : rate < fast)
 pub excess_first : (parts : List Part) (lines : List Line) (rate : ℕ) (d : Line) → AreSteps parts lines → (get_or lines 0 d).rate ≤ rate
     → IsExcess parts rate (get_or lines 0 d).burst
 excess_first parts lines rate d are slow = record {
-  over = λ t on. slower_bounds (get_or lines 0 d).burst (get_or lines 0 d).rate rate t (parts_value parts t) on slow ((are.above 0 d are.some).above t on);
+  over = λ t on. slower_bounds (get_or lines 0 d).burst (get_or lines 0 d).rate rate t (parts_value parts t) on slow ((are.each 0 d are.some).above.above t on);
   at = zero_q;
   on = le_refl zero_q;
   near =
@@ -122,7 +122,7 @@ excess_cut parts lines rate x k d are inside fast slow above least =
     let b = get_or lines (suc k) d in
     let (t, on, same, near) = meeting a.burst b.burst a.rate b.rate rate x slow fast (are.rising k d inside) least in
     record {
-      over = λ u from. cut_bounds a.burst b.burst a.rate b.rate rate x u (parts_value parts u) slow fast above ((are.above k d (omega arith)).above u from) ((are.above (suc k) d inside).above u from);
+      over = λ u from. cut_bounds a.burst b.burst a.rate b.rate rate x u (parts_value parts u) slow fast above ((are.each k d (omega arith)).above.above u from) ((are.each (suc k) d inside).above.above u from);
       at = t;
       on = on;
       near = joined (bits x +ℚ speed rate *ℚ t) (line_value a t) (parts_value parts t) grain near (are.meet t k d on inside same);

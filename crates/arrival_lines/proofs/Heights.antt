@@ -171,7 +171,7 @@ module _ (parts : List Part) (lines : List Line) (x : ℕ) (service : Service) (
     | inl e ↦ plain_above e t on
     | inr one ↦
         let d : Line = record { burst = 0; rate = 0 } in
-        step_above (get_or lines one.0 d) (are.above one.0 d one.1.inside) (one.1.slow d) (one.2 d) t on
+        step_above (get_or lines one.0 d) (are.each one.0 d one.1.inside).above (one.1.slow d) (one.2 d) t on
   ]
 
   -- ---- near, where the rate has worked off debt and packet
@@ -254,7 +254,7 @@ module _ (parts : List Part) (lines : List Line) (x : ℕ) (service : Service) (
       let (k, inside, tight) = are.reached t on in
       elim (cases_lt service.rate (get_or lines k d).rate) [
         | inl fast ↦ near_late t (same (bits (service.debt + longest)) (speed service.rate *ℚ t) is)
-            (near_fast t over.at later (get_or lines k d) (omega (arith, fast)) ((are.above k d inside).above over.at over.on) over.near (tight d))
+            (near_fast t over.at later (get_or lines k d) (omega (arith, fast)) ((are.each k d inside).above.above over.at over.on) over.near (tight d))
         | inr slow ↦ near_step t is (get_or lines k d) (least.each k d record { inside = inside; slow = λ e. subst (λ (l : Line). l.rate ≤ service.rate) (get_or_default lines k d e inside) slow }) (tight d)
       ]
     where

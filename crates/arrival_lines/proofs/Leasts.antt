@@ -19,7 +19,7 @@ use Rattle.arrival_lines.specs.declared.grid.Queue.{Queue}
 use Rattle.arrival_lines.specs.declared.grid.Service.{Service}
 use Rattle.arrival_lines.specs.declared.queues.Stay.{Stay}
 use Rattle.arrival_lines.proofs.Units.{bits_add, bits_le, one_grain}
-use Rattle.arrival_lines.proofs.Promised.{served_in, holds_at_most}
+use Rattle.arrival_lines.proofs.Promised.{delay_serves, backlog_holds}
 
 -- ---- each is one number
 less_excess : (parts : List Part) (rate x y : ℕ) → IsExcess parts rate x → IsExcess parts rate y → y ≤ x
@@ -238,8 +238,8 @@ pub queue_kept : (parts : List Part) (services : List Service) (longest : ℕ) (
 queue_kept parts services longest queue is = record {
   soon = is.delay.place;
   soon_inside = is.delay.inside;
-  delay = λ e. served_in parts (get_or services is.delay.place e) queue.delay (is.delay.is e);
+  delay = λ e. delay_serves parts (get_or services is.delay.place e) queue.delay (is.delay.is e);
   low = is.backlog.place;
   low_inside = is.backlog.inside;
-  backlog = λ e. holds_at_most parts (get_or services is.backlog.place e) longest queue.backlog (is.backlog.is e);
+  backlog = λ e. backlog_holds parts (get_or services is.backlog.place e) longest queue.backlog (is.backlog.is e);
 }

@@ -33,8 +33,8 @@ caught_up x r n d t wait h long =
     joined : (p q s u v w k : ℚ) → s ≤ℚ v → s ≡ p +ℚ q → w ≡ u +ℚ v → w -ℚ q ≤ℚ k → p +ℚ u ≤ℚ k
     joined p q s u v w k a b m g = with7 p q s u v w k (λ c. omega (arith, c.le, c.lt, c.same))
 
-pub served_in : (parts : List Part) (s : Service) (d : ℕ) → IsDelayAt parts s d → IsServedIn parts s d
-served_in parts s d is = record {
+pub delay_serves : (parts : List Part) (s : Service) (d : ℕ) → IsDelayAt parts s d → IsServedIn parts s d
+delay_serves parts s d is = record {
   reached = caught;
   deviation = λ f g h brought served dev. smallest {I = Time} dev.lag h (Fin (micros d)) dev.is (λ t. (dev.is_lag t).below (member f g brought served t));
 }
@@ -80,8 +80,8 @@ passed_below s longest t level h =
     joined : (n l m u v k : ℚ) → m ≡ n +ℚ l → u -ℚ n ≤ℚ v → v -ℚ l ≤ℚ k → u -ℚ m ≤ℚ k
     joined n l m u v k e g h = with6 n l m u v k (λ c. omega (arith, c.le, c.lt, c.same))
 
-pub holds_at_most : (parts : List Part) (s : Service) (longest b : ℕ) → IsBacklogAt parts s longest b → HoldsAtMost parts s longest b
-holds_at_most parts s longest b is = record {
+pub backlog_holds : (parts : List Part) (s : Service) (longest b : ℕ) → IsBacklogAt parts s longest b → HoldsAtMost parts s longest b
+backlog_holds parts s longest b is = record {
   within = at_time;
   deviation = λ f g v brought served dev. smallest {I = FiniteTime (packetised g (bits longest))} (λ t. f t.at -ₑ t.level) v (Fin (whole b)) dev (λ t. at_time f g brought served t.at t.level t.nonneg t.is);
 }
