@@ -115,8 +115,11 @@ height_slow steps i x service longest b new d inside slow e least = record {
   one = elim (cases_lt (height_of (get_or steps i d) (service.debt + longest) service.rate) b) [
     | inl l ↦
         let at : new ≡ height_of (get_or steps i d) (service.debt + longest) service.rate = omega (arith, l, e) in
-        inr (i, record { inside = omega arith; slow = λ f. subst (λ (l : Line). l.rate ≤ service.rate) (same f) slow },
-          λ f. at ∙ ap (λ (l : Line). height_of l (service.debt + longest) service.rate) (same f))
+        inr (
+          i,
+          record { inside = omega arith; slow = λ f. subst (λ (l : Line). l.rate ≤ service.rate) (same f) slow },
+          λ f. at ∙ ap (λ (l : Line). height_of l (service.debt + longest) service.rate) (same f),
+        )
     | inr l ↦
         let at : new ≡ b = omega (arith, l, e) in
         elim least.one [

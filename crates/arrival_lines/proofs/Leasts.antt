@@ -144,50 +144,50 @@ module _ (parts : List Part) (services : List Service) (longest i : ℕ) (servic
   delay_more : (d new all : ℕ) → IsLeastDelay parts services i d → IsDelayAt parts service new → all ≡ min d new → IsLeastDelay parts services (i + 1) all
   delay_more d new all one this e = elim (cases_lt new d) [
     | inl l ↦ let at : new ≡ all = omega (arith, e, l) in subst (λ (n : ℕ). IsLeastDelay parts services (i + 1) n) at record {
-        place = i;
-        inside = omega arith;
-        is = λ f. from_here (λ (s : Service). IsDelayAt parts s new) f this;
-        least = λ k f other h there. elim (cases_lt k i) [
-          | inl m ↦ let n = one.least k f other m there in omega (arith, n, l)
-          | inr m ↦ let n = one_delay parts service new other this (at_here (λ (s : Service). IsDelayAt parts s other) k f (omega (arith, h, m)) there) in omega (arith, n)
-        ];
-      }
+      place = i;
+      inside = omega arith;
+      is = λ f. from_here (λ (s : Service). IsDelayAt parts s new) f this;
+      least = λ k f other h there. elim (cases_lt k i) [
+        | inl m ↦ let n = one.least k f other m there in omega (arith, n, l)
+        | inr m ↦ let n = one_delay parts service new other this (at_here (λ (s : Service). IsDelayAt parts s other) k f (omega (arith, h, m)) there) in omega (arith, n)
+      ];
+    }
     | inr l ↦ let at : d ≡ all = omega (arith, e, l) in subst (λ (n : ℕ). IsLeastDelay parts services (i + 1) n) at record {
-        place = one.place;
-        inside = let h = one.inside in omega (arith, h);
-        is = one.is;
-        least = λ k f other h there. elim (cases_lt k i) [
-          | inl m ↦ one.least k f other m there
-          | inr m ↦ let n = one_delay parts service new other this (at_here (λ (s : Service). IsDelayAt parts s other) k f (omega (arith, h, m)) there) in omega (arith, n, l)
-        ];
-      }
+      place = one.place;
+      inside = let h = one.inside in omega (arith, h);
+      is = one.is;
+      least = λ k f other h there. elim (cases_lt k i) [
+        | inl m ↦ one.least k f other m there
+        | inr m ↦ let n = one_delay parts service new other this (at_here (λ (s : Service). IsDelayAt parts s other) k f (omega (arith, h, m)) there) in omega (arith, n, l)
+      ];
+    }
   ]
 
   backlog_more : (d b new all : ℕ) → IsLeastBacklog parts services i longest b → IsDelayAt parts service d → IsBacklogAt parts service longest new → all ≡ min b new
       → IsLeastBacklog parts services (i + 1) longest all
   backlog_more d b new all one this low e = elim (cases_lt new b) [
     | inl l ↦ let at : new ≡ all = omega (arith, e, l) in subst (λ (n : ℕ). IsLeastBacklog parts services (i + 1) longest n) at record {
-        place = i;
-        inside = omega arith;
-        delay = d;
-        served = λ f. from_here (λ (s : Service). IsDelayAt parts s d) f this;
-        is = λ f. from_here (λ (s : Service). IsBacklogAt parts s longest new) f low;
-        least = λ k f x other h there back. elim (cases_lt k i) [
-          | inl m ↦ let n = one.least k f x other m there back in omega (arith, n, l)
-          | inr m ↦ let n = one_backlog parts service longest new other low (at_here (λ (s : Service). IsBacklogAt parts s longest other) k f (omega (arith, h, m)) back) in omega (arith, n)
-        ];
-      }
+      place = i;
+      inside = omega arith;
+      delay = d;
+      served = λ f. from_here (λ (s : Service). IsDelayAt parts s d) f this;
+      is = λ f. from_here (λ (s : Service). IsBacklogAt parts s longest new) f low;
+      least = λ k f x other h there back. elim (cases_lt k i) [
+        | inl m ↦ let n = one.least k f x other m there back in omega (arith, n, l)
+        | inr m ↦ let n = one_backlog parts service longest new other low (at_here (λ (s : Service). IsBacklogAt parts s longest other) k f (omega (arith, h, m)) back) in omega (arith, n)
+      ];
+    }
     | inr l ↦ let at : b ≡ all = omega (arith, e, l) in subst (λ (n : ℕ). IsLeastBacklog parts services (i + 1) longest n) at record {
-        place = one.place;
-        inside = let h = one.inside in omega (arith, h);
-        delay = one.delay;
-        served = one.served;
-        is = one.is;
-        least = λ k f x other h there back. elim (cases_lt k i) [
-          | inl m ↦ one.least k f x other m there back
-          | inr m ↦ let n = one_backlog parts service longest new other low (at_here (λ (s : Service). IsBacklogAt parts s longest other) k f (omega (arith, h, m)) back) in omega (arith, n, l)
-        ];
-      }
+      place = one.place;
+      inside = let h = one.inside in omega (arith, h);
+      delay = one.delay;
+      served = one.served;
+      is = one.is;
+      least = λ k f x other h there back. elim (cases_lt k i) [
+        | inl m ↦ one.least k f x other m there back
+        | inr m ↦ let n = one_backlog parts service longest new other low (at_here (λ (s : Service). IsBacklogAt parts s longest other) k f (omega (arith, h, m)) back) in omega (arith, n, l)
+      ];
+    }
   ]
 
 -- what is known after the first i services

@@ -161,13 +161,12 @@ in_lines parts lines above reached line piece =
     let high = le_trans piece.ends ((above k line inside).above piece.to on_to) in
     let middle = le_trans (tight line) (piece.above.above (half (piece.from +ℚ piece.to)) on_mid) in
     let e = averages other piece.from piece.to (half (piece.from +ℚ piece.to)) is in
-    let f = averages line piece.from piece.to (half (piece.from +ℚ piece.to)) is in
-    (
+    let f = averages line piece.from piece.to (half (piece.from +ℚ piece.to)) is in (
       k,
       inside,
       same_line other line piece.from piece.to piece.later
-      (meet_first (line_value other piece.from) (line_value other piece.to) (line_value other (half (piece.from +ℚ piece.to))) (line_value line piece.from) (line_value line piece.to) (line_value line (half (piece.from +ℚ piece.to))) low high middle e f)
-      (meet_last (line_value other piece.from) (line_value other piece.to) (line_value other (half (piece.from +ℚ piece.to))) (line_value line piece.from) (line_value line piece.to) (line_value line (half (piece.from +ℚ piece.to))) low high middle e f),
+          (meet_first (line_value other piece.from) (line_value other piece.to) (line_value other (half (piece.from +ℚ piece.to))) (line_value line piece.from) (line_value line piece.to) (line_value line (half (piece.from +ℚ piece.to))) low high middle e f)
+          (meet_last (line_value other piece.from) (line_value other piece.to) (line_value other (half (piece.from +ℚ piece.to))) (line_value line piece.from) (line_value line piece.to) (line_value line (half (piece.from +ℚ piece.to))) low high middle e f),
     )
   where
     mid_on : (t u m : ℚ) → m +ℚ m ≡ t +ℚ u → zero_q ≤ℚ t → t <ℚ u → zero_q ≤ℚ m

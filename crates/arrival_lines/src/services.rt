@@ -86,3 +86,40 @@ pub fn share_service(service: Service, part: u64, all: u64, owed: u128) -> Optio
     )?;
     Some(Service { rate, debt })
 }
+
+#[cfg(test)]
+mod tests {
+    use super::*;
+
+    #[test]
+    fn a_gate_with_a_latency(rt: HostRuntime) {
+        // 100 Mbit/s, 16 microseconds late, open for 100 of 1,000: 10 Mbit/s less 100 * 16 and 10 * 900 bits
+        let gate = Gate {
+            cycle: 1_000_000_000,
+            slot: 100_000_000,
+        };
+        let service = gate_service(102_400_000_000, 16_000_000, gate);
+        assert_eq!(rt;
+            service,
+            Some(Service {
+                rate: 10_240_000_000,
+                debt: 10_600 * 1_024
+            })
+        );
+    }
+
+    #[test]
+    fn a_line_is_served_first_and_a_share_is_given(rt: HostRuntime) {
+        let service = Service { rate: 10, debt: 5 };
+        let line = Line { burst: 7, rate: 4 };
+        assert_eq!(rt;
+            left_service(service, line, 3),
+            Some(Service { rate: 6, debt: 15 })
+        );
+        // a third of 10, and (5 + 4) / 3
+        assert_eq!(rt;
+            share_service(service, 1, 3, 4),
+            Some(Service { rate: 3, debt: 3 })
+        );
+    }
+}

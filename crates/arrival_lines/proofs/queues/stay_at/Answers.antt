@@ -9,8 +9,7 @@ returns-in_err-excess c = λ parts are.
 
 pub returns : goal.returns
 returns c = λ parts are.
-    let over = c.in_ok-excess.ensures parts are in
-    (
+    let over = c.in_ok-excess.ensures parts are in (
       record { some = omega arith; over = c.in_ok-excess.excess; excess = over; is = c.delay.ensures },
       backlog_is parts c.args.steps.now c.in_ok-excess.excess c.args.service c.args.longest c.backlog.result (omega arith) are over c.backlog.ensures,
     )
