@@ -1,5 +1,5 @@
 -- The excess of parts by their steps: the first burst where no step is faster, else where the last that is faster meets the next; none where each is faster.
-use Rattle.std.specs.Prelude.{◌≡◌, ℕ, zero, suc, ◌+◌, ◌-◌, ◌*◌, ◌<◌, ◌≤◌, List, get_or, length, nat_lt, Bool, true, false}
+use Rattle.std.specs.Prelude.{◌≡◌, ℕ, zero, suc, ◌+◌, ◌-◌, ◌*◌, ◌<◌, ◌≤◌, List, get_or, length, nat_lt, Bool, true}
 use Rattle.std.proofs.Common.{arith, sym, ap, subst, ◌∙◌, inl, inr}
 use Rattle.std.proofs.lemmas.Bool.Decides.{nat_tests}
 use Rattle.rational.specs.Rational.{ℚ, ◌+ℚ◌, ◌-ℚ◌, ◌*ℚ◌, ◌/ℚ◌, ◌≤ℚ◌, ◌<ℚ◌}
@@ -193,9 +193,3 @@ parted lines rate are i j d h inside fast =
   where
     faster_still : (r a b : ℕ) → a ≤ b → nat_lt r a ≡ true → nat_lt r b ≡ true
     faster_still r a b h e = grind (arith, nat_tests)
-
-pub is_fast : (a b : ℕ) → nat_lt a b ≡ true → a < b
-is_fast a b e = grind (arith, nat_tests)
-
-pub is_slow : (a b : ℕ) → nat_lt a b ≡ false → b ≤ a
-is_slow a b e = grind (arith, nat_tests)

@@ -1,5 +1,5 @@
 -- The least height of the steps is the backlog.
-use Rattle.std.specs.Prelude.{◌≡◌, ℕ, ◌+◌, ◌*◌, ◌^◌, ◌<◌, ◌≤◌, min, List, length, get_or}
+use Rattle.std.specs.Prelude.{◌≡◌, ℕ, ◌+◌, ◌*◌, ◌<◌, ◌≤◌, min, List, length, get_or}
 use Rattle.std.proofs.Common.{arith, sym, ap, ◌∙◌, refl, subst, inl, inr}
 use Rattle.std.specs.Int.{div_ceil}
 use Rattle.std.proofs.lemmas.Grind.{div_ceil_times}
@@ -15,7 +15,7 @@ use Rattle.min_plus.specs.Functions.{zero_q, whole}
 use Rattle.arrival_lines.specs.Grid.{grain, bits, speed, line_value, parts_value}
 use Rattle.arrival_lines.specs.Steps.{IsAbove, AreSteps}
 use Rattle.arrival_lines.specs.Excess.{IsExcess}
-use Rattle.arrival_lines.specs.Backlogs.{passed_value, IsBacklogAt, IsSlow, IsLeastHeight, height_of}
+use Rattle.arrival_lines.specs.Backlogs.{passed_value, IsBacklogAt, IsLeastHeight, height_of}
 use Rattle.arrival_lines.specs.declared.grid.Line.{Line}
 use Rattle.arrival_lines.specs.declared.grid.Part.{Part}
 use Rattle.arrival_lines.specs.declared.grid.Service.{Service}
@@ -77,10 +77,6 @@ below_kink s r t m q on slow some h = elim (le_or_lt (r *ℚ t) m) [
     high sr rs sm rq so ro all a e1 e e2 k = with7 sr rs sm rq so ro all (λ c. omega (arith, c.le, c.lt, c.same))
 
 -- ---- one step more
-pub height_none : (steps : List Line) (x : ℕ) (service : Service) (longest b : ℕ) → b ≡ div_ceil (x + (service.debt + longest)) 1024
-    → IsLeastHeight steps 0 x service longest b
-height_none steps x service longest b e = record { plain = omega (arith, e); each = λ k d slow. let h = slow.inside in absurd (omega (arith, h)); one = inl e }
-
 pub height_fast : (steps : List Line) (i x : ℕ) (service : Service) (longest b : ℕ) (d : Line) → service.rate < (get_or steps i d).rate
     → IsLeastHeight steps i x service longest b → IsLeastHeight steps (i + 1) x service longest b
 height_fast steps i x service longest b d fast least = record {
@@ -131,9 +127,6 @@ height_slow steps i x service longest b new d inside slow e least = record {
   where
     same : (f : Line) → get_or steps i d ≡ get_or steps i f
     same f = get_or_default steps i d f inside
-
-pub height_fits : (n b : ℕ) → n < 2 ^ 65 → b ≤ div_ceil n 1024 → b < 2 ^ 64
-height_fits n b h l = let k = up_near n 1024 (div_ceil n 1024) (omega arith) refl in omega (arith, k, h, l)
 
 -- ---- the least height is above, and less than a bit above
 module _ (parts : List Part) (lines : List Line) (x : ℕ) (service : Service) (longest b : ℕ) (some : 0 < service.rate) (are : AreSteps parts lines)

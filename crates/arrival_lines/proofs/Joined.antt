@@ -1,6 +1,6 @@
 -- Turns that come at one time, made one.
-use Rattle.std.specs.Prelude.{◌≡◌, ℕ, suc, ◌+◌, ◌-◌, ◌*◌, ◌^◌, ◌<◌, ◌≤◌, List, [], ◌∷◌, ◌++◌, length, get_or, take, drop, All, Some}
-use Rattle.std.proofs.Common.{arith, sym, ap, ◌∙◌, subst, add-one, inl, inr}
+use Rattle.std.specs.Prelude.{◌≡◌, ℕ, suc, ◌+◌, ◌-◌, ◌*◌, ◌^◌, ◌<◌, ◌≤◌, List, [], ◌∷◌, ◌++◌, length, get_or, take, drop, Some}
+use Rattle.std.proofs.Common.{arith, sym, ap, ◌∙◌, subst, inl, inr}
 use Rattle.std.specs.List.{sum_by}
 use Rattle.std.proofs.Math.Seq.{take-suc}
 use Rattle.std.proofs.Math.Nat.{mul-le-mul_right, mul-lt-mul_of_pos_right, lt_of_mul-lt-mul_right}
@@ -9,12 +9,12 @@ use Rattle.std.proofs.lemmas.List.{length-append, get_or_push, get_or_append_lef
 use Rattle.std.proofs.lemmas.List.Sums.{sum_by-cons, sum_by_push, sum_by-take-le}
 use Rattle.rational.specs.Rational.{ℚ, ◌+ℚ◌, ◌-ℚ◌, ◌*ℚ◌, ◌≤ℚ◌}
 use Rattle.rational.specs.MinMax.{min_q}
-use Rattle.rational.proofs.Laws.{add_mul, le_or_lt, le_of_lt, le_refl}
+use Rattle.rational.proofs.Laws.{add_mul, le_or_lt, le_of_lt}
 use Rattle.rational.proofs.MinMax.{min_q_left, min_q_is_right}
 use Rattle.rational.proofs.Linear.{with2, with3, with4, with6, with7}
 use Rattle.min_plus.specs.Functions.{zero_q}
 use Rattle.arrival_lines.specs.Grid.{bits, speed}
-use Rattle.arrival_lines.specs.Turns.{ahead, taken, AreInOrder, AreApart, AreJoined, Ties, both_turns, AllFit, IsBehind, IsAdded, IsJoined}
+use Rattle.arrival_lines.specs.Turns.{ahead, taken, AreInOrder, AreApart, AreJoined, Ties, both_turns, AllFit, IsJoined}
 use Rattle.arrival_lines.specs.declared.turns.Turn.{Turn}
 use Rattle.arrival_lines.proofs.Units.{bits_add, speed_add}
 use Rattle.arrival_lines.proofs.Taken.{off, taken_none, taken_more, taken_kept}
@@ -313,16 +313,3 @@ all_joined turns all i h are = record {
   where
     gone : (x y z : ℚ) → x +ℚ y ≡ z → y ≡ zero_q → x ≡ z
     gone x y z a b = with3 x y z (λ c. omega (arith, c.le, c.lt, c.same))
-
--- ---- what the call of one more does
-pub not_tied_last : (old rest : List Turn) (last next : Turn) (new : List Turn) → old ≡ rest ++ last ∷ [] → (Ties last next → ⊥) → new ≡ old ++ next ∷ [] → IsJoined old next new
-not_tied_last old rest last next new e free is = inl record {
-  is = is;
-  later = λ k d at ties.
-      let l = ap length e ∙ length-append rest (last ∷ []) in
-      let here = ap (λ (xs : List Turn). get_or xs k d) e ∙ get_or_push rest last d k (omega (arith, at, l)) in
-      free (subst (λ (x : Turn). Ties x next) here ties);
-}
-
-pub joined_first : (old : List Turn) (next : Turn) (new : List Turn) → old ≡ [] → new ≡ old ++ next ∷ [] → IsJoined old next new
-joined_first old next new e is = inl record { is = is; later = λ k d at ties. let l = ap length e in omega (arith, at, l) }

@@ -8,7 +8,7 @@ use Rattle.rational.specs.Rational.{ℚ, ◌+ℚ◌, ◌*ℚ◌, ◌≤ℚ◌, �
 use Rattle.rational.specs.Line.{line_at}
 use Rattle.rational.proofs.Integers.{nat_le, nat_next}
 use Rattle.rational.proofs.Linear.{with2, with5, with7}
-use Rattle.min_plus.specs.Functions.{zero_q, whole}
+use Rattle.min_plus.specs.Functions.{whole}
 use Rattle.arrival_lines.specs.Grid.{grain, bits, speed, parts_value}
 use Rattle.arrival_lines.specs.Excess.{IsExcess, IsEndless}
 use Rattle.arrival_lines.specs.Delays.{IsDelayAt, IsNever}
@@ -194,10 +194,6 @@ module _ (parts : List Part) (services : List Service) (longest i : ℕ) (servic
 abbrev pub Known : List Part → List Service → ℕ → ℕ → Option Stay → Type 0
 Known parts services longest i found = MatchOption found (AreNever parts services i)
     (λ stay. IsLeastDelay parts services i stay.delay × IsLeastBacklog parts services i longest stay.backlog)
-
-pub none_known : (parts : List Part) (services : List Service) (longest : ℕ) (found : Option Stay) → found ≡ None → Known parts services longest 0 found
-none_known parts services longest None e = record { never = λ k d h. absurd (omega arith) }
-none_known parts services longest (Some s) e = absurd (cc)
 
 pub more_known : (parts : List Part) (services : List Service) (longest i : ℕ) (e : Service) (found new : Option Stay) → i < length services
     → MatchOption new (IsNever parts (get_or services i e)) (λ stay. IsDelayAt parts (get_or services i e) stay.delay × IsBacklogAt parts (get_or services i e) longest stay.backlog)

@@ -1,4 +1,3 @@
-use Rattle.std.proofs.Common.{◌+◌, ◌^◌, ◌≤◌, ◌≡◌, ◌⊎◌, MatchOption, IfSome}
 use Rattle.arrival_lines.proofs.OnGrid.{total_found}
 use Rattle.arrival_lines.proofs.links.add.Goals as goal
 

@@ -1,4 +1,4 @@
-use Rattle.std.proofs.Common.{length, arith}
+use Rattle.std.proofs.Common.{arith}
 use Rattle.arrival_lines.proofs.Leasts.{none_unbounded, long_unbounded, queue_kept}
 use Rattle.arrival_lines.proofs.queues.queue_of.Goals as goal
 

@@ -1,4 +1,4 @@
-use Rattle.std.proofs.Common.{◌*◌, ◌^◌, ◌≡◌, ℕ, sym, subst, ◌∙◌}
+use Rattle.std.proofs.Common.{◌^◌, ◌≡◌, ℕ, sym, subst, ◌∙◌}
 use Rattle.std.specs.Int.{div_ceil}
 use Rattle.arrival_lines.specs.Services.{IsBelowLate}
 use Rattle.arrival_lines.specs.declared.grid.Service.{Service}

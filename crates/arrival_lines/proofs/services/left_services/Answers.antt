@@ -1,5 +1,5 @@
-use Rattle.std.proofs.Common.{◌≡◌, ap, sym, subst, ◌∙◌, filter_map, take, ◌+◌, All}
-use Rattle.arrival_lines.specs.Services.{IsLeftOfOne, left_of}
+use Rattle.std.proofs.Common.{ap, sym, subst, ◌∙◌, All}
+use Rattle.arrival_lines.specs.Services.{IsLeftOfOne}
 use Rattle.arrival_lines.proofs.ServedFirst.{left_one, left_none, left_all}
 use Rattle.arrival_lines.proofs.services.left_services.Goals as goal
 use Rattle.arrival_lines.proofs.services.left_services.Goals.{in-Some+in_ok-push, in_default}
