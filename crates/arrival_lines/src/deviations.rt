@@ -1,7 +1,8 @@
 //! The excess of arrivals over a rate, and the delay and the backlog at a service that come of it.
 
-ghost use Rattle.std.specs.Prelude.{◌≡◌, ◌+◌, ◌-◌, ◌*◌, ◌^◌, ◌<◌, ◌≤◌, List, length, MatchOption};
+ghost use Rattle.std.specs.Prelude.{◌≡◌, ℕ, ◌+◌, ◌-◌, ◌*◌, ◌^◌, ◌<◌, ◌≤◌, List, length, get_or, MatchOption};
 ghost use Rattle.std.specs.Int.{div_ceil};
+ghost use Rattle.arrival_lines.specs.declared.grid.Line.{Line};
 ghost use Rattle.arrival_lines.specs.declared.grid.Part.{Part};
 ghost use Rattle.arrival_lines.specs.Steps.{AreSteps, AreSlowing};
 ghost use Rattle.arrival_lines.specs.Excess.{IsExcess, IsEndless};
@@ -23,13 +24,23 @@ fn cut(fast: Line, slow: Line, rate: u64) -> u64
     height.div_ceil(below as u128 + above as u128) as u64
 }
 
+/// How many steps are faster than the rate: these come first.
+fn count_faster(steps: &[Line], rate: u64) -> usize
+    requires { AreSlowing steps.now }
+    ensures inside { result ≤ length steps.now }
+    ensures faster { (k : ℕ) (d : Line) → k < result → rate < (get_or steps.now k d).rate }
+    ensures slower { (k : ℕ) (d : Line) → result ≤ k → k < length steps.now → (get_or steps.now k d).rate ≤ rate }
+{
+    steps.partition_point(|step| step.rate > rate)
+}
+
 /// The excess over the rate of the parts with these steps; none where they come above each number over it.
 pub(crate) fn excess(steps: &[Line], rate: u64) -> Option<u64>
     requires { AreSlowing steps.now }
     ensures { (parts : List Part) → AreSteps parts steps.now
         → MatchOption result (IsEndless parts rate) (λ x. IsExcess parts rate x) }
 {
-    let faster = steps.partition_point(|step| step.rate > rate);
+    let faster = count_faster(steps, rate);
     if faster == steps.len() {
         return None;
     }

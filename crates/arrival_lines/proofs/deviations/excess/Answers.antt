@@ -1,40 +1,24 @@
-use Rattle.std.proofs.Common.{◌-◌, rules, arith}
-use Rattle.std.proofs.lemmas.List.Sorted.{IsPartitionPoint-from_clause}
-use Rattle.arrival_lines.proofs.Excesses.{excess_at, excess_between, endless, is_faster, parted}
-use Rattle.arrival_lines.proofs.InOrder.{is_less, not_less}
+use Rattle.std.proofs.Common.{◌-◌, arith}
+use Rattle.arrival_lines.proofs.Excesses.{excess_at, excess_between, endless}
 use Rattle.arrival_lines.proofs.deviations.excess.Goals as goal
 
 pub returns-then-faster-steps : goal.returns-then-faster-steps
 returns-then-faster-steps c = λ parts are.
-    let steps = c.args.steps.now in
-    let point = IsPartitionPoint-from_clause (is_faster c.args.rate) _ _ c.partition_point-faster.ensures.partitioned (parted steps c.args.rate c.requires) (λ a r q k. search rules) in
-    endless parts steps c.args.rate are (λ k d h. is_less c.args.rate _ (point.0 k d (omega arith) (omega arith)))
+    endless parts c.args.steps.now c.args.rate are (λ k d h. c.count_faster-faster.ensures.faster k d (omega arith))
 
 pub returns-then-faster-eq0 : goal.returns-then-faster-eq0
 returns-then-faster-eq0 c = λ parts are.
-    let steps = c.args.steps.now in
-    let at = c.partition_point-faster.result in
-    let point = IsPartitionPoint-from_clause (is_faster c.args.rate) _ _ c.partition_point-faster.ensures.partitioned (parted steps c.args.rate c.requires) (λ a r q k. search rules) in
-    excess_at parts steps c.args.rate at _ (omega arith) are (not_less c.args.rate _ (point.1 at _ (omega arith) (omega arith)))
+    let at = c.count_faster-faster.result in
+    excess_at parts c.args.steps.now c.args.rate at _ (omega arith) are (c.count_faster-faster.ensures.slower at _ (omega arith) (omega arith))
 
 pub cut-requires-clause-slow : goal.cut-requires-clause-slow
-cut-requires-clause-slow c =
-    let steps = c.args.steps.now in
-    let at = c.partition_point-faster.result in
-    let point = IsPartitionPoint-from_clause (is_faster c.args.rate) _ _ c.partition_point-faster.ensures.partitioned (parted steps c.args.rate c.requires) (λ a r q k. search rules) in
-    not_less c.args.rate _ (point.1 at _ (omega arith) (omega arith))
+cut-requires-clause-slow c = c.count_faster-faster.ensures.slower c.count_faster-faster.result _ (omega arith) (omega arith)
 
 pub cut-requires-clause-fast : goal.cut-requires-clause-fast
-cut-requires-clause-fast c =
-    let steps = c.args.steps.now in
-    let at = c.partition_point-faster.result in
-    let point = IsPartitionPoint-from_clause (is_faster c.args.rate) _ _ c.partition_point-faster.ensures.partitioned (parted steps c.args.rate c.requires) (λ a r q k. search rules) in
-    is_less c.args.rate _ (point.0 (at - 1) _ (omega arith) (omega arith))
+cut-requires-clause-fast c = c.count_faster-faster.ensures.faster (c.count_faster-faster.result - 1) _ (omega arith)
 
 pub returns : goal.returns
 returns c = λ parts are.
-    let steps = c.args.steps.now in
-    let at = c.partition_point-faster.result in
-    let point = IsPartitionPoint-from_clause (is_faster c.args.rate) _ _ c.partition_point-faster.ensures.partitioned (parted steps c.args.rate c.requires) (λ a r q k. search rules) in
-    excess_between parts steps c.args.rate c.cut.result (at - 1) at _ (omega arith) are (omega arith)
-    (is_less c.args.rate _ (point.0 (at - 1) _ (omega arith) (omega arith))) (not_less c.args.rate _ (point.1 at _ (omega arith) (omega arith))) c.cut.ensures.above c.cut.ensures.least
+    let at = c.count_faster-faster.result in
+    excess_between parts c.args.steps.now c.args.rate c.cut.result (at - 1) at _ (omega arith) are (omega arith)
+    (c.count_faster-faster.ensures.faster (at - 1) _ (omega arith)) (c.count_faster-faster.ensures.slower at _ (omega arith) (omega arith)) c.cut.ensures.above c.cut.ensures.least
