@@ -17,8 +17,8 @@ use Rattle.tree_runs.specs.Bounded.{GrowsByStays, stay_in, QueuesAreBounded, IsB
 
 -- each queue of server s keeps the sum of its parts; `longest` tells of a server, a queue there and a server before the
 -- longest packet that comes from it
-abbrev pub PartsAreKept : TreeRoutes → SpecRun → (ℕ → ℕ → ℚ → Ext) → (ℕ → ℕ → ℕ → ℕ) → (ℕ → ℚ) → ℕ → Type 0
-PartsAreKept net run arrival longest rate s = (q : ℕ) →
+abbrev pub QueuesKeepParts : TreeRoutes → SpecRun → (ℕ → ℕ → ℚ → Ext) → (ℕ → ℕ → ℕ → ℕ) → (ℕ → ℚ) → ℕ → Type 0
+QueuesKeepParts net run arrival longest rate s = (q : ℕ) →
     KeepsArrivals (of_queue q) (tree_parts_curve net s q (λ i. arrival i s) (longest s q) rate) (view (flat net) run s)
 
 abbrev pub TreesAreBoundedByParts : Type 0
@@ -27,5 +27,5 @@ TreesAreBoundedByParts = (net : TreeRoutes) (run : SpecRun) (place packet : ℕ 
     IsLawfulTree net run → IsOverTrees net → TreeGoesForward net place → KeepsTreeSizes net packet run →
     EntersKept (flat net) run arrival → ((s q : ℕ) → s < length net.servers → AreTreePaced net s q packet (longest s q) rate) →
     ((s q : ℕ) → Fin (int (pos 0)) ≤ₑ delay s q) → GrowsByStays net arrival (stay_in net delay) →
-    ((s : ℕ) → s < length net.servers → PartsAreKept net run arrival longest rate s → QueuesAreBounded net run delay held s) →
+    ((s : ℕ) → s < length net.servers → QueuesKeepParts net run arrival longest rate s → QueuesAreBounded net run delay held s) →
     IsBoundedByQueues net run arrival delay held

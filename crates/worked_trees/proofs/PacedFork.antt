@@ -30,7 +30,7 @@ use Rattle.tree_runs.specs.Trees.{tree_of, hops_in, Hangs, IsTree, IsOverTrees, 
 use Rattle.tree_runs.specs.Orders.{TreeGoesForward}
 use Rattle.tree_runs.specs.Parts.{tree_parts_curve, AreTreePaced}
 use Rattle.tree_runs.specs.Bounded.{GrowsByStays, stay_in, QueuesAreBounded, IsBoundedByQueues}
-use Rattle.tree_runs.specs.BoundedByParts.{PartsAreKept}
+use Rattle.tree_runs.specs.BoundedByParts.{QueuesKeepParts}
 use Rattle.tree_runs.proofs.Bounded.{trees_are_bounded_by_parts}
 use Rattle.tree_runs.proofs.Examples as fork
 use Rattle.tree_runs.proofs.Packets.{tree_queues_keep_sizes}
@@ -132,7 +132,7 @@ queue_bounded run s l lawful keeps arrives =
     }
 
 queues : (run : SpecRun) (s : ℕ) → s < 3 → IsLawfulTree paced_fork run → KeepsTreePremises paced_fork longest at_entry service run
-    → PartsAreKept paced_fork run arrival (λ s q p. 12000) (λ p. whole 100) s → QueuesAreBounded paced_fork run delay held s
+    → QueuesKeepParts paced_fork run arrival (λ s q p. 12000) (λ p. whole 100) s → QueuesAreBounded paced_fork run delay held s
 queues run s l lawful keeps parts zero =
     queue_bounded run s l lawful keeps
     (greater_kept (view (flat paced_fork) run s) (of_queue 0) (tree_parts_curve paced_fork s 0 (λ i. arrival i s) (λ p. 12000) (λ p. whole 100)) (arrival 0 s)
