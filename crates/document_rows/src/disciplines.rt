@@ -1,18 +1,19 @@
 //! Disciplines and gates of ports.
 
+ghost use Rattle.std.specs.Prelude.{◌≡◌, ◌≤◌, map, IfSome};
+ghost use Rattle.document_rows.specs.Disciplines as spec;
+ghost use Rattle.document_rows.specs.Reads.{Tells, at, Finds};
+ghost use Rattle.document_rows.specs.declared.fault.Column.TheVariants as column;
+
 use crate::cells::time_in;
-use crate::fault::Wrong;
-use std::alloc::Global;
-use table_cells::{Amount, whole_in, words_in};
+use crate::fault::{CellFault, Column, RowError, Wrong};
+use std::alloc::{AllocError, Global};
+use table_cells::{Amount, whole_in};
 use tree_network::Discipline;
 
 const MOST_QUEUES: u64 = 8;
-
 const LONGEST_QUANTUM: u64 = 2_097_152;
-
-pub(crate) const GRAINS_IN_A_BYTE: u64 = 8_192;
-
-const PICOSECONDS_IN_A_MICROSECOND: u64 = 1_000_000;
+const GRAINS_IN_A_BYTE: u64 = 8_192;
 
 /// When a port may send: for the slot at the end of each cycle, in microseconds.
 #[derive(Debug, Clone, Copy)]
@@ -21,69 +22,112 @@ pub struct GateRow {
     pub slot: Amount,
 }
 
-// The quanta of words, in grains.
-fn quanta_in(alloc: Global, words: &[&[u8]]) -> Result<Discipline, Wrong> {
-    let mut quanta = Vec::new(alloc);
-    for word in words {
-        match whole_in(*word) {
-            Some(bytes) if 1 <= bytes && bytes <= LONGEST_QUANTUM => {
-                quanta.push(bytes * GRAINS_IN_A_BYTE)?;
-            }
-            _ => return Err(Wrong::NoDiscipline),
-        }
-    }
-    if quanta.is_empty() || quanta.len() as u64 > MOST_QUEUES {
-        return Err(Wrong::NoDiscipline);
-    }
-    Ok(Discipline::Drr(quanta))
+fn whole_of(least: u64, most: u64, word: &[u8]) -> Option<u64>
+    ensures value { result ≡ spec.whole_of least most word.now }
+    ensures range { IfSome result (λ n. n ≤ most) }
+{
+    let n = whole_in(word)?;
+    if least <= n && n <= most { Some(n) } else { None }
 }
 
-fn queues_in(words: &[&[u8]]) -> Result<Discipline, Wrong> {
-    if words.len() != 1 {
-        return Err(Wrong::NoDiscipline);
-    }
-    match whole_in(words[0]) {
-        Some(queues) if 1 <= queues && queues <= MOST_QUEUES => {
-            Ok(Discipline::Priority(queues as usize))
+fn quantum_in(word: &[u8]) -> Option<u64>
+    ensures { result ≡ spec.quantum_in word.now }
+{
+    let bytes = whole_of(1, LONGEST_QUANTUM, word)?;
+    Some(bytes * GRAINS_IN_A_BYTE)
+}
+
+// The quanta of words, in grains.
+fn quanta_of(alloc: Global, words: &[&[u8]]) -> Result<Option<Vec<u64>>, AllocError>
+    ensures { Finds (λ v. v.items) result (spec.quanta_of (map (λ word. word.now) words.now)) }
+{
+    let mut quanta = Vec::new(alloc);
+    for word in words {
+        match quantum_in(*word) {
+            Some(quantum) => quanta.push(quantum)?,
+            None => return Ok(None),
         }
-        _ => Err(Wrong::NoDiscipline),
+    }
+    Ok(Some(quanta))
+}
+
+// No discipline stands in the column.
+fn no_discipline() -> RowError {
+    RowError::Cell(CellFault {
+        column: Column::Discipline,
+        wrong: Wrong::NoDiscipline,
+    })
+}
+
+fn quanta_in(alloc: Global, words: &[&[u8]]) -> Result<Discipline, RowError>
+    ensures { Tells spec.discipline_view result
+        (at column.Discipline (spec.quanta_in (map (λ word. word.now) words.now))) }
+{
+    if words.is_empty() || words.len() as u64 > MOST_QUEUES {
+        return Err(no_discipline());
+    }
+    match quanta_of(alloc, words)? {
+        Some(quanta) => Ok(Discipline::Drr(quanta)),
+        None => Err(no_discipline()),
+    }
+}
+
+fn queues_in(words: &[&[u8]]) -> Result<Discipline, RowError>
+    ensures { Tells spec.discipline_view result
+        (at column.Discipline (spec.queues_in (map (λ word. word.now) words.now))) }
+{
+    match words {
+        [word] => match whole_of(1, MOST_QUEUES, *word) {
+            Some(queues) => Ok(Discipline::Priority(queues as usize)),
+            None => Err(no_discipline()),
+        },
+        _ => Err(no_discipline()),
     }
 }
 
 /// A discipline: `fifo` (also nothing), `priority N` or `drr Q0 Q1 ..` with quanta in bytes.
-pub(crate) fn discipline_in(alloc: Global, cell: &[u8]) -> Result<Discipline, Wrong> {
-    let words = words_in(alloc, cell)?;
-    if words.is_empty() {
+pub(crate) fn discipline_of(alloc: Global, words: &[&[u8]]) -> Result<Discipline, RowError>
+    ensures { Tells spec.discipline_view result
+        (at column.Discipline (spec.discipline_of (map (λ word. word.now) words.now))) }
+{
+    let [word, rest @ ..] = words else {
+        return Ok(Discipline::Fifo);
+    };
+    if *word == b"priority".as_slice() {
+        return queues_in(rest);
+    }
+    if *word == b"drr".as_slice() {
+        return quanta_in(alloc, rest);
+    }
+    if *word == b"fifo".as_slice() && rest.is_empty() {
         return Ok(Discipline::Fifo);
     }
-    if words[0] == b"priority".as_slice() {
-        return queues_in(&words[1..]);
-    }
-    if words[0] == b"drr".as_slice() {
-        return quanta_in(alloc, &words[1..]);
-    }
-    if words[0] == b"fifo".as_slice() && words.len() == 1 {
-        return Ok(Discipline::Fifo);
-    }
-    Err(Wrong::NoDiscipline)
+    Err(no_discipline())
 }
 
-/// A gate: `CYCLE SLOT`, where there is one.
-pub(crate) fn gate_in(alloc: Global, cell: &[u8]) -> Result<Option<GateRow>, Wrong> {
-    let words = words_in(alloc, cell)?;
-    if words.is_empty() {
-        return Ok(None);
-    }
-    if words.len() != 2 {
-        return Err(Wrong::NoGate);
-    }
-    let cycle = time_in(words[0])?;
-    let slot = time_in(words[1])?;
-    if !slot.reaches_one(PICOSECONDS_IN_A_MICROSECOND) {
+fn gate_with(cycle: Amount, slot: Amount) -> Result<Option<GateRow>, Wrong>
+    ensures { result ≡ spec.gate_with cycle slot }
+{
+    if !slot.reaches_one(1_000_000) {
         return Err(Wrong::TooSmall);
     }
     if !slot.is_within(cycle) {
         return Err(Wrong::SlotTooLong);
     }
     Ok(Some(GateRow { cycle, slot }))
+}
+
+/// A gate: `CYCLE SLOT`, where there is one.
+pub(crate) fn gate_of(words: &[&[u8]]) -> Result<Option<GateRow>, Wrong>
+    ensures { result ≡ spec.gate_of (map (λ word. word.now) words.now) }
+{
+    match words {
+        [] => Ok(None),
+        [cycle, slot] => {
+            let cycle = time_in(*cycle)?;
+            let slot = time_in(*slot)?;
+            gate_with(cycle, slot)
+        }
+        _ => Err(Wrong::NoGate),
+    }
 }

@@ -1,7 +1,8 @@
 //! What is wrong with a row.
 
-ghost use Rattle.std.specs.Prelude.{◌≡◌};
-ghost use Rattle.document_rows.specs.declared.fault.Wrong.TheVariants.{NoMemory};
+ghost use Rattle.std.specs.Prelude.{◌≡◌, IfErr};
+ghost use Rattle.document_rows.specs.declared.fault.RowError.TheVariants as errors;
+ghost use Rattle.document_rows.specs.Reads as spec;
 
 use std::alloc::{AllocError, AllocFailed};
 
@@ -22,7 +23,7 @@ pub enum Column {
     Deadline,
 }
 
-/// What is wrong with a head line or with a cell of a row. Numbers of ports of a path count from 1.
+/// What is wrong with a head line or with a cell of a row. Ports of a path count from 1.
 #[derive(Debug, Clone, Copy, PartialEq, Eq)]
 pub enum Wrong {
     /// The head line lacks the column.
@@ -71,57 +72,52 @@ pub enum Wrong {
     BeginsElsewhere,
     /// This port of the path comes after another port than in an earlier path of the link.
     AfterAnother(usize),
-    /// An allocation was refused.
-    NoMemory,
 }
 
-/// What is wrong with a row, and in which of its columns. (In the first one where memory ran out.)
+/// What is wrong with a row, and in which of its columns.
 #[derive(Debug, Clone, Copy, PartialEq, Eq)]
 pub struct CellFault {
     pub column: Column,
     pub wrong: Wrong,
 }
 
-impl From<AllocError> for Wrong {
-    ghost from_gives = { λ _ e. e ≡ NoMemory };
+/// Why nothing is read of a row.
+#[derive(Debug, Clone, Copy, PartialEq, Eq)]
+pub enum RowError {
+    /// Something is wrong with it.
+    Cell(CellFault),
+    /// An allocation was refused.
+    NoMemory,
+}
 
-    fn from(_e: AllocError) -> Wrong {
-        Wrong::NoMemory
+impl From<CellFault> for RowError {
+    ghost from_gives = { λ fault e. e ≡ errors.Cell fault };
+
+    fn from(fault: CellFault) -> RowError {
+        RowError::Cell(fault)
     }
 }
 
-impl<T: Drop> From<AllocFailed<T>> for Wrong {
-    ghost from_gives = { λ _ e. e ≡ NoMemory };
+impl From<AllocError> for RowError {
+    ghost from_gives = { λ _ e. e ≡ errors.NoMemory };
 
-    fn from(_e: AllocFailed<T>) -> Wrong {
-        Wrong::NoMemory
+    fn from(_e: AllocError) -> RowError {
+        RowError::NoMemory
     }
 }
 
-impl<T: Drop> From<AllocFailed<T>> for CellFault {
-    ghost from_gives = { λ _ e. e.wrong ≡ NoMemory };
+impl<T: Drop> From<AllocFailed<T>> for RowError {
+    ghost from_gives = { λ _ e. e ≡ errors.NoMemory };
 
-    fn from(_e: AllocFailed<T>) -> CellFault {
-        CellFault {
-            column: Column::Name,
-            wrong: Wrong::NoMemory,
-        }
-    }
-}
-
-impl From<AllocError> for CellFault {
-    ghost from_gives = { λ _ e. e.wrong ≡ NoMemory };
-
-    fn from(_e: AllocError) -> CellFault {
-        CellFault {
-            column: Column::Name,
-            wrong: Wrong::NoMemory,
-        }
+    fn from(_e: AllocFailed<T>) -> RowError {
+        RowError::NoMemory
     }
 }
 
 /// What is read in a column.
-pub(crate) fn at<T: Drop>(column: Column, read: Result<T, Wrong>) -> Result<T, CellFault> {
+pub fn at<T>(column: Column, read: Result<T, Wrong>) -> Result<T, CellFault>
+    ensures { result ≡ spec.at column read }
+{
     match read {
         Ok(value) => Ok(value),
         Err(wrong) => Err(CellFault { column, wrong }),

@@ -1,8 +1,14 @@
 //! Head lines: in which column what stands.
 
-use crate::fault::{CellFault, Column, Wrong};
+ghost use Rattle.std.specs.Prelude.{◌≡◌, ◌+◌, drop, codes};
+ghost use Rattle.std.specs.List.{position_from};
+ghost use Rattle.std.specs.Str.{bytes_eq};
+ghost use Rattle.csv.specs.Records.{fields_of};
+ghost use Rattle.document_rows.specs.Heads as spec;
+ghost use Rattle.document_rows.specs.Rows as rows;
+
+use crate::fault::{CellFault, Column, Wrong, at};
 use csv::ByteRecord;
-use table_cells::{is_name, name_text};
 
 /// Where the columns of ports stand.
 #[derive(Debug, Clone, Copy)]
@@ -29,119 +35,112 @@ pub struct LinkHead {
     pub deadline: Option<usize>,
 }
 
-// The word of a column in a head line.
-fn word_of(column: Column) -> &'static [u8] {
+/// The word of a column in a head line.
+pub fn word_of(column: Column) -> &'static str
+    ensures { result.now ≡ spec.word_of column }
+{
     match column {
-        Column::Name => b"name",
-        Column::Rate => b"rate",
-        Column::Latency => b"latency",
-        Column::Link => b"link",
-        Column::Discipline => b"discipline",
-        Column::Gate => b"gate",
-        Column::Bag => b"bag",
-        Column::LargestFrame => b"largest_frame",
-        Column::Jitter => b"jitter",
-        Column::Priority => b"priority",
-        Column::Path => b"path",
-        Column::Deadline => b"deadline",
+        Column::Name => "name",
+        Column::Rate => "rate",
+        Column::Latency => "latency",
+        Column::Link => "link",
+        Column::Discipline => "discipline",
+        Column::Gate => "gate",
+        Column::Bag => "bag",
+        Column::LargestFrame => "largest_frame",
+        Column::Jitter => "jitter",
+        Column::Priority => "priority",
+        Column::Path => "path",
+        Column::Deadline => "deadline",
     }
-}
-
-// The place of a column that may be missing.
-fn optional(head: &ByteRecord, column: Column) -> Result<Option<usize>, CellFault> {
-    let word = word_of(column);
-    let mut found = None;
-    for (place, cell) in head.iter().enumerate() {
-        if cell == word {
-            if found.is_some() {
-                return Err(CellFault {
-                    column,
-                    wrong: Wrong::ColumnTwice,
-                });
-            }
-            found = Some(place);
-        }
-    }
-    Ok(found)
-}
-
-// The place of a column.
-fn required(head: &ByteRecord, column: Column) -> Result<usize, CellFault> {
-    match optional(head, column)? {
-        Some(place) => Ok(place),
-        None => Err(CellFault {
-            column,
-            wrong: Wrong::Missing,
-        }),
-    }
-}
-
-/// Where the columns of ports stand in a head line; other columns are left alone.
-pub fn port_head(head: &ByteRecord) -> Result<PortHead, CellFault> {
-    Ok(PortHead {
-        width: head.len(),
-        name: required(head, Column::Name)?,
-        rate: required(head, Column::Rate)?,
-        latency: required(head, Column::Latency)?,
-        link: required(head, Column::Link)?,
-        discipline: required(head, Column::Discipline)?,
-        gate: optional(head, Column::Gate)?,
-    })
-}
-
-/// Where the columns of links stand in a head line; other columns are left alone.
-pub fn link_head(head: &ByteRecord) -> Result<LinkHead, CellFault> {
-    Ok(LinkHead {
-        width: head.len(),
-        name: required(head, Column::Name)?,
-        bag: required(head, Column::Bag)?,
-        largest_frame: required(head, Column::LargestFrame)?,
-        jitter: required(head, Column::Jitter)?,
-        priority: required(head, Column::Priority)?,
-        path: required(head, Column::Path)?,
-        deadline: optional(head, Column::Deadline)?,
-    })
-}
-
-/// Whether all cells of a row are empty.
-pub fn is_blank(row: &ByteRecord) -> bool {
-    for cell in row {
-        if !cell.is_empty() {
-            return false;
-        }
-    }
-    true
 }
 
 /// The cell of a column, empty where the row is shorter.
-pub(crate) fn cell(row: &ByteRecord, place: usize) -> &[u8] {
+pub(crate) fn cell(row: &ByteRecord, place: usize) -> &[u8]
+    ensures { result.now ≡ rows.cell (fields_of row.now) place }
+{
     match row.get(place) {
         Some(cell) => cell,
         None => b"",
     }
 }
 
-/// The name of a row, after it was seen that it has no more cells than the head line.
-pub fn name_cell(place: usize, width: usize, row: &ByteRecord) -> Result<&str, CellFault> {
-    let column = Column::Name;
-    if row.len() > width {
-        return Err(CellFault {
-            column,
-            wrong: Wrong::TooManyCells,
-        });
+// Where a word stands first, from a place on.
+fn find_from(head: &ByteRecord, word: &[u8], from: usize) -> Option<usize>
+    ensures { result ≡ position_from (bytes_eq word.now) from (drop from (fields_of head.now)) }
+{
+    for place in from..head.len() {
+        if word == cell(head, place) {
+            return Some(place);
+        }
     }
-    let name = cell(row, place);
-    if name.is_empty() {
-        return Err(CellFault {
-            column,
-            wrong: Wrong::Empty,
-        });
+    None
+}
+
+// The place of a column, where it has one.
+fn place_of(column: Column, head: &ByteRecord) -> Result<Option<usize>, Wrong>
+    ensures { result ≡ spec.place_of column (fields_of head.now) }
+{
+    let word = word_of(column).as_bytes();
+    let Some(place) = find_from(head, word, 0) else {
+        return Ok(None);
+    };
+    match find_from(head, word, place + 1) {
+        Some(_) => Err(Wrong::ColumnTwice),
+        None => Ok(Some(place)),
     }
-    if !is_name(name) {
-        return Err(CellFault {
-            column,
-            wrong: Wrong::NoName,
-        });
+}
+
+fn some_place(column: Column, head: &ByteRecord) -> Result<usize, Wrong>
+    ensures { result ≡ spec.some_place column (fields_of head.now) }
+{
+    match place_of(column, head)? {
+        Some(place) => Ok(place),
+        None => Err(Wrong::Missing),
     }
-    Ok(name_text(name))
+}
+
+// The place of a column that may be missing.
+fn optional(column: Column, head: &ByteRecord) -> Result<Option<usize>, CellFault>
+    ensures { result ≡ spec.optional column (fields_of head.now) }
+{
+    at(column, place_of(column, head))
+}
+
+// The place of a column that may not.
+fn required(column: Column, head: &ByteRecord) -> Result<usize, CellFault>
+    ensures { result ≡ spec.required column (fields_of head.now) }
+{
+    at(column, some_place(column, head))
+}
+
+/// Where the columns of ports stand in a head line, or the first that is wrong; other columns are left alone.
+#[tactic(auto, unfolding(crate::specs::Heads::port_head))]
+pub fn port_head(head: &ByteRecord) -> Result<PortHead, CellFault>
+    ensures { result ≡ spec.port_head (fields_of head.now) }
+{
+    let name = required(Column::Name, head)?;
+    let rate = required(Column::Rate, head)?;
+    let latency = required(Column::Latency, head)?;
+    let link = required(Column::Link, head)?;
+    let discipline = required(Column::Discipline, head)?;
+    let gate = optional(Column::Gate, head)?;
+    let width = head.len();
+    Ok(PortHead { width, name, rate, latency, link, discipline, gate })
+}
+
+/// Where the columns of links stand in a head line, or the first that is wrong; other columns are left alone.
+#[tactic(auto, unfolding(crate::specs::Heads::link_head))]
+pub fn link_head(head: &ByteRecord) -> Result<LinkHead, CellFault>
+    ensures { result ≡ spec.link_head (fields_of head.now) }
+{
+    let name = required(Column::Name, head)?;
+    let bag = required(Column::Bag, head)?;
+    let largest_frame = required(Column::LargestFrame, head)?;
+    let jitter = required(Column::Jitter, head)?;
+    let priority = required(Column::Priority, head)?;
+    let path = required(Column::Path, head)?;
+    let deadline = optional(Column::Deadline, head)?;
+    let width = head.len();
+    Ok(LinkHead { width, name, bag, largest_frame, jitter, priority, path, deadline })
 }

@@ -7,9 +7,12 @@ mod disciplines;
 mod fault;
 mod heads;
 mod link_rows;
+mod names;
 mod port_rows;
 
-pub use fault::{CellFault, Column, Wrong};
-pub use heads::{LinkHead, PortHead, is_blank, link_head, name_cell, port_head};
+pub use disciplines::GateRow;
+pub use fault::{CellFault, Column, RowError, Wrong, at};
+pub use heads::{LinkHead, PortHead, link_head, port_head, word_of};
 pub use link_rows::{LinkRow, frame_on_wire, link_row};
+pub use names::{is_blank, row_name};
 pub use port_rows::{PortRow, port_row};

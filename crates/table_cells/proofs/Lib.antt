@@ -1,0 +1,4 @@
+pub mod Digits
+pub mod Cut
+pub mod NameTexts
+pub mod Rounding

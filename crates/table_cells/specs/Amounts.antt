@@ -1,5 +1,5 @@
 -- Exact numbers from 0 on, as the cells of a table write them. Own choice.
-use Rattle.std.specs.Prelude.{ℕ, ◌+◌, ◌-◌, ◌*◌, ◌/◌, ◌^◌, Bool, ◌==◌, ◌&&◌, nat_le, if◌then◌else◌, List, [], ◌∷◌, length, take, drop, Option, Some, None, option_map, option_and_then}
+use Rattle.std.specs.Prelude.{ℕ, ◌<◌, ◌≤◌, ◌+◌, ◌-◌, ◌*◌, ◌/◌, ◌^◌, Bool, ◌==◌, ◌&&◌, nat_le, if◌then◌else◌, List, [], ◌∷◌, length, take, drop, Option, Some, None, option_map, option_and_then}
 use Rattle.std.specs.List.{position}
 use Rattle.std.specs.Str.Parse.{digits_value}
 use Rattle.fraction128.specs.Text.{is_numeral, is_slash}
@@ -8,6 +8,12 @@ use Rattle.table_cells.specs.declared.amount.Amount.{Amount}
 -- how many digits a number has at most
 abbrev pub most_digits : ℕ
 most_digits = 18
+
+-- an amount that is written so: the number above 0 below, both of at most 18 digits
+pub record IsAmount (a : Amount) : Type 0 where
+  pub top : a.top < 10 ^ most_digits
+  pub some : 0 < a.bottom
+  pub bottom : a.bottom ≤ 10 ^ most_digits
 
 -- the number that 1 to 18 digits write, where nothing else is there
 abbrev pub few_digits : List ℕ → Option ℕ
@@ -56,6 +62,9 @@ abbrev pub amount_in : List ℕ → Option Amount
 amount_in text = amount_at (position is_slash text) text
 
 -- ---- compared and rounded
+abbrev pub whole : ℕ → Amount
+whole n = record { top = n; bottom = 1 }
+
 -- it is no more than so many
 abbrev pub is_at_most : Amount → ℕ → Bool
 is_at_most a most = nat_le a.top (most * a.bottom)

@@ -9,4 +9,4 @@ is_name_byte c = is_ascii_alphanumeric c || (c == 95) || (c == 45)
 
 -- 1 to 32 of these
 abbrev pub is_name : List ℕ → Bool
-is_name name = nat_le 1 (length name) && nat_le (length name) 32 && list_all is_name_byte name
+is_name name = nat_le 1 (length name) && (nat_le (length name) 32 && list_all is_name_byte name)

@@ -1,9 +1,20 @@
 //! Words of a cell.
 
-ghost use Rattle.std.specs.Prelude.{◌≡◌, map, IfOk};
+ghost use Rattle.std.specs.Prelude.{◌≡◌, ◌++◌, [], map, IfOk, OnOk};
 ghost use Rattle.table_cells.specs.Words as spec;
 
 use std::alloc::{AllocError, Global};
+
+// Puts a word behind others, unless it has no bytes.
+fn push_word<'a>(words: &mut Vec<&'a [u8]>, word: &'a [u8]) -> Result<(), AllocError>
+    ensures { OnOk result (map (λ word. word.now) words.new.items
+        ≡ map (λ word. word.now) words.old.items ++ spec.ended word.now []) }
+{
+    if !word.is_empty() {
+        words.push(word)?;
+    }
+    Ok(())
+}
 
 /// What stands between the blanks of a cell (ASCII white space), in order.
 pub fn words_in(alloc: Global, cell: &[u8]) -> Result<Vec<&[u8]>, AllocError>
@@ -13,14 +24,10 @@ pub fn words_in(alloc: Global, cell: &[u8]) -> Result<Vec<&[u8]>, AllocError>
     let mut start = 0;
     for (at, byte) in cell.iter().enumerate() {
         if byte.is_ascii_whitespace() {
-            if start < at {
-                words.push(&cell[start..at])?;
-            }
+            push_word(&mut words, &cell[start..at])?;
             start = at + 1;
         }
     }
-    if start < cell.len() {
-        words.push(&cell[start..])?;
-    }
+    push_word(&mut words, &cell[start..])?;
     Ok(words)
 }
