@@ -4,5 +4,5 @@
 mod lines;
 mod rows;
 
-pub use lines::line_of_row;
-pub use rows::read_rows;
+pub use lines::{Lines, lines_of};
+pub use rows::{TableRow, cell, read_table};

@@ -1,4 +1,4 @@
-//! The lines of rows.
+//! The lines on which rows begin.
 
 /// Where a byte of a text finds itself.
 #[derive(Debug, Clone, Copy, PartialEq, Eq)]
@@ -8,6 +8,13 @@ enum Place {
     Plain,
     Quoted,
     AfterQuote,
+}
+
+/// Goes over the rows of a text.
+#[derive(Debug, Drop)]
+pub struct Lines<'a> {
+    rest: &'a [u8],
+    line: usize,
 }
 
 fn place_after(place: Place, byte: u8) -> Place {
@@ -21,30 +28,53 @@ fn place_after(place: Place, byte: u8) -> Place {
     }
 }
 
-fn without_mark(text: &[u8]) -> &[u8] {
-    match text {
+/// Before the first row of a text. A byte order mark is no part of it.
+pub fn lines_of(text: &[u8]) -> Lines<'_> {
+    let rest = match text {
         [0xef, 0xbb, 0xbf, rest @ ..] => rest,
         _ => text,
-    }
+    };
+    Lines { rest, line: 1 }
 }
 
-/// The line on which a row begins, both counted: rows from 0 and lines from 1. A cell in quotes may have line ends.
-pub fn line_of_row(text: &[u8], row: usize) -> usize {
-    let mut place = Place::Between;
-    let mut line = 1;
-    let mut begun = 0;
-    for byte in without_mark(text) {
-        let after = place_after(place, *byte);
-        if place == Place::Between && after != Place::Between {
-            if begun == row {
-                return line;
+impl Lines<'_> {
+    // Passes over ends of lines.
+    fn to_row(&mut self) {
+        for (at, byte) in self.rest.iter().enumerate() {
+            match *byte {
+                b'\n' => self.line = self.line.wrapping_add(1),
+                b'\r' => {}
+                _ => {
+                    self.rest = &self.rest[at..];
+                    return;
+                }
             }
-            begun += 1;
         }
-        if *byte == b'\n' {
-            line += 1;
-        }
-        place = after;
+        self.rest = &[];
     }
-    line
+
+    // Passes over a row.
+    fn over_row(&mut self) {
+        let mut place = Place::Between;
+        for (at, byte) in self.rest.iter().enumerate() {
+            place = place_after(place, *byte);
+            if place == Place::Between {
+                self.rest = &self.rest[at..];
+                return;
+            }
+            if *byte == b'\n' {
+                self.line = self.line.wrapping_add(1);
+            }
+        }
+        self.rest = &[];
+    }
+
+    /// The line on which the next row begins, counted from 1, and passes over that row. A cell in quotes may have ends of
+    /// lines.
+    pub fn next_line(&mut self) -> usize {
+        self.to_row();
+        let line = self.line;
+        self.over_row();
+        line
+    }
 }

@@ -1,5 +1,5 @@
 -- Disciplines and gates of ports. Own choice.
-use Rattle.std.specs.Prelude.{ℕ, ◌*◌, ◌==◌, ◌&&◌, Bool, nat_le, nat_lt, not, List, [], ◌∷◌, length, codes, map, Option, Some, None, option_map, option_and_then, Result, Ok, Err, ok_or, if◌then◌else◌}
+use Rattle.std.specs.Prelude.{ℕ, ◌*◌, ◌==◌, ◌&&◌, Bool, nat_le, nat_lt, not, List, [], ◌∷◌, ◌++◌, length, slice_index_or, codes, Option, Some, None, option_map, option_and_then, Result, Ok, Err, ok_or, if◌then◌else◌}
 use Rattle.std.specs.Str.{bytes_eq}
 use Rattle.tree_network.specs.declared.network.Discipline.{Discipline}
 use Rattle.tree_network.specs.declared.network.Discipline.TheVariants as discipline
@@ -32,18 +32,21 @@ abbrev pub most_queues : ℕ
 most_queues = 8
 
 abbrev pub queues_in : List (List ℕ) → CellRead DisciplineText
-queues_in [] = Err NoDiscipline
-queues_in (word ∷ []) = ok_or (option_map Priority (whole_of 1 most_queues word)) NoDiscipline
-queues_in (word ∷ more ∷ words) = Err NoDiscipline
+queues_in words =
+    if not (length words == 1) then Err NoDiscipline
+    else ok_or (option_map Priority (whole_of 1 most_queues (slice_index_or words 0 []))) NoDiscipline
 
 -- a quantum: 1 to 2^21 bytes, of 8192 grains each
 abbrev pub quantum_in : List ℕ → Option ℕ
 quantum_in word = option_map (λ bytes. bytes * 8192) (whole_of 1 2097152 word)
 
--- all of them, where each is one
-unfoldable pub quanta_of : List (List ℕ) → Option (List ℕ)
-quanta_of [] = Some []
-quanta_of (word ∷ words) = option_and_then (λ q. option_map (λ qs. q ∷ qs) (quanta_of words)) (quantum_in word)
+-- those of words behind those before them, where each word is one
+unfoldable pub quanta_from : List ℕ → List (List ℕ) → Option (List ℕ)
+quanta_from before [] = Some before
+quanta_from before (word ∷ words) = option_and_then (λ q. quanta_from (before ++ q ∷ []) words) (quantum_in word)
+
+abbrev pub quanta_of : List (List ℕ) → Option (List ℕ)
+quanta_of words = quanta_from [] words
 
 abbrev pub quanta_in : List (List ℕ) → CellRead DisciplineText
 quanta_in words =
@@ -64,9 +67,12 @@ gate_with cycle slot =
     if not (reaches_one slot 1000000) then Err TooSmall
     else (if not (is_within slot cycle) then Err SlotTooLong else Ok (Some (record { cycle = cycle; slot = slot })))
 
+abbrev pub gate_times : (cycle slot : List ℕ) → CellRead (Option GateRow)
+gate_times cycle slot = and_then (time_in cycle) (λ c. and_then (time_in slot) (λ s. gate_with c s))
+
 -- nothing, or `CYCLE SLOT`
 abbrev pub gate_of : List (List ℕ) → CellRead (Option GateRow)
 gate_of [] = Ok None
 gate_of (one ∷ []) = Err NoGate
-gate_of (cycle ∷ slot ∷ []) = and_then (time_in cycle) (λ c. and_then (time_in slot) (λ s. gate_with c s))
+gate_of (cycle ∷ slot ∷ []) = gate_times cycle slot
 gate_of (one ∷ two ∷ three ∷ words) = Err NoGate

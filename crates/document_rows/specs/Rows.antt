@@ -1,7 +1,6 @@
 -- Rows of a table: cells without the white space at both ends. How cells stand in a text, with double quotes or without, is that
 -- of the crate `csv`.
 use Rattle.std.specs.Prelude.{ℕ, List, [], unwrap_or, Bool, ◌==◌, length}
-use Rattle.std.specs.List.{list_all}
 use Rattle.csv.specs.Records.{field_at}
 
 abbrev pub Row : Type 0
@@ -13,7 +12,3 @@ cell row place = unwrap_or (field_at row place) []
 
 abbrev pub is_empty : List ℕ → Bool
 is_empty cell = length cell == 0
-
--- all its cells are empty: such a row is passed over
-abbrev pub is_blank : Row → Bool
-is_blank = list_all is_empty

@@ -4,15 +4,19 @@ ghost use Rattle.std.specs.Prelude.{◌≡◌, ◌≤◌, map, IfSome};
 ghost use Rattle.document_rows.specs.Disciplines as spec;
 ghost use Rattle.document_rows.specs.Reads.{Tells, at, Finds};
 ghost use Rattle.document_rows.specs.declared.fault.Column.TheVariants as column;
+ghost use Rattle.document_rows.specs.declared.fault.RowError.TheVariants as errors;
+ghost use Rattle.document_rows.specs.declared.fault.Wrong.TheVariants as wrongs;
 
 use crate::cells::time_in;
 use crate::fault::{CellFault, Column, RowError, Wrong};
 use std::alloc::{AllocError, Global};
-use table_cells::{Amount, whole_in};
+use table_cells::{Amount, whole_in, word_at};
 use tree_network::Discipline;
 
 const MOST_QUEUES: u64 = 8;
+
 const LONGEST_QUANTUM: u64 = 2_097_152;
+
 const GRAINS_IN_A_BYTE: u64 = 8_192;
 
 /// When a port may send: for the slot at the end of each cycle, in microseconds.
@@ -27,7 +31,11 @@ fn whole_of(least: u64, most: u64, word: &[u8]) -> Option<u64>
     ensures range { IfSome result (λ n. n ≤ most) }
 {
     let n = whole_in(word)?;
-    if least <= n && n <= most { Some(n) } else { None }
+    if least <= n && n <= most {
+        Some(n)
+    } else {
+        None
+    }
 }
 
 fn quantum_in(word: &[u8]) -> Option<u64>
@@ -42,8 +50,8 @@ fn quanta_of(alloc: Global, words: &[&[u8]]) -> Result<Option<Vec<u64>>, AllocEr
     ensures { Finds (λ v. v.items) result (spec.quanta_of (map (λ word. word.now) words.now)) }
 {
     let mut quanta = Vec::new(alloc);
-    for word in words {
-        match quantum_in(*word) {
+    for place in 0..words.len() {
+        match quantum_in(word_at(words, place)) {
             Some(quantum) => quanta.push(quantum)?,
             None => return Ok(None),
         }
@@ -52,7 +60,9 @@ fn quanta_of(alloc: Global, words: &[&[u8]]) -> Result<Option<Vec<u64>>, AllocEr
 }
 
 // No discipline stands in the column.
-fn no_discipline() -> RowError {
+fn no_discipline() -> RowError
+    ensures { result ≡ errors.Cell (record { column = column.Discipline; wrong = wrongs.NoDiscipline }) }
+{
     RowError::Cell(CellFault {
         column: Column::Discipline,
         wrong: Wrong::NoDiscipline,
@@ -76,12 +86,12 @@ fn queues_in(words: &[&[u8]]) -> Result<Discipline, RowError>
     ensures { Tells spec.discipline_view result
         (at column.Discipline (spec.queues_in (map (λ word. word.now) words.now))) }
 {
-    match words {
-        [word] => match whole_of(1, MOST_QUEUES, *word) {
-            Some(queues) => Ok(Discipline::Priority(queues as usize)),
-            None => Err(no_discipline()),
-        },
-        _ => Err(no_discipline()),
+    if words.len() != 1 {
+        return Err(no_discipline());
+    }
+    match whole_of(1, MOST_QUEUES, word_at(words, 0)) {
+        Some(queues) => Ok(Discipline::Priority(queues as usize)),
+        None => Err(no_discipline()),
     }
 }
 
@@ -117,17 +127,21 @@ fn gate_with(cycle: Amount, slot: Amount) -> Result<Option<GateRow>, Wrong>
     Ok(Some(GateRow { cycle, slot }))
 }
 
+fn gate_times(cycle: &[u8], slot: &[u8]) -> Result<Option<GateRow>, Wrong>
+    ensures { result ≡ spec.gate_times cycle.now slot.now }
+{
+    let cycle = time_in(cycle)?;
+    let slot = time_in(slot)?;
+    gate_with(cycle, slot)
+}
+
 /// A gate: `CYCLE SLOT`, where there is one.
 pub(crate) fn gate_of(words: &[&[u8]]) -> Result<Option<GateRow>, Wrong>
     ensures { result ≡ spec.gate_of (map (λ word. word.now) words.now) }
 {
     match words {
         [] => Ok(None),
-        [cycle, slot] => {
-            let cycle = time_in(*cycle)?;
-            let slot = time_in(*slot)?;
-            gate_with(cycle, slot)
-        }
+        [cycle, slot] => gate_times(*cycle, *slot),
         _ => Err(Wrong::NoGate),
     }
 }

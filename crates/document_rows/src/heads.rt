@@ -126,7 +126,15 @@ pub fn port_head(head: &ByteRecord) -> Result<PortHead, CellFault>
     let discipline = required(Column::Discipline, head)?;
     let gate = optional(Column::Gate, head)?;
     let width = head.len();
-    Ok(PortHead { width, name, rate, latency, link, discipline, gate })
+    Ok(PortHead {
+        width,
+        name,
+        rate,
+        latency,
+        link,
+        discipline,
+        gate,
+    })
 }
 
 /// Where the columns of links stand in a head line, or the first that is wrong; other columns are left alone.
@@ -142,5 +150,14 @@ pub fn link_head(head: &ByteRecord) -> Result<LinkHead, CellFault>
     let path = required(Column::Path, head)?;
     let deadline = optional(Column::Deadline, head)?;
     let width = head.len();
-    Ok(LinkHead { width, name, bag, largest_frame, jitter, priority, path, deadline })
+    Ok(LinkHead {
+        width,
+        name,
+        bag,
+        largest_frame,
+        jitter,
+        priority,
+        path,
+        deadline,
+    })
 }

@@ -14,5 +14,5 @@ pub use disciplines::GateRow;
 pub use fault::{CellFault, Column, RowError, Wrong, at};
 pub use heads::{LinkHead, PortHead, link_head, port_head, word_of};
 pub use link_rows::{LinkRow, frame_on_wire, link_row};
-pub use names::{is_blank, row_name};
+pub use names::row_name;
 pub use port_rows::{PortRow, port_row};

@@ -14,8 +14,11 @@ use std::alloc::Global;
 use table_cells::{Amount, words_in};
 
 const LONGEST_FRAME: u64 = 1_048_576;
+
 const LAST_PRIORITY: u64 = 7;
+
 const LONGEST_PATH: usize = 64;
+
 const GRAINS_IN_A_BYTE: u64 = 8_192;
 
 /// What a row of links says beside its name: the gap in milliseconds, the largest frame in bytes, the jitter in
@@ -86,6 +89,16 @@ pub fn link_row<'a>(
     let priority = at(Column::Priority, priority_in(cell(row, head.priority)))?;
     let words = words_in(alloc, cell(row, head.path))?;
     let path = at(Column::Path, path_of(words))?;
-    let deadline = at(Column::Deadline, deadline_in(cell_or_empty(row, head.deadline)))?;
-    Ok(LinkRow { gap, largest_frame, jitter, priority, path, deadline })
+    let deadline = at(
+        Column::Deadline,
+        deadline_in(cell_or_empty(row, head.deadline)),
+    )?;
+    Ok(LinkRow {
+        gap,
+        largest_frame,
+        jitter,
+        priority,
+        path,
+        deadline,
+    })
 }

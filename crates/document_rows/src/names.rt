@@ -1,28 +1,15 @@
-//! Names, and rows that are passed over.
+//! Names of rows.
 
 ghost use Rattle.std.specs.Prelude.{◌≡◌};
 ghost use Rattle.csv.specs.Records.{fields_of};
 ghost use Rattle.document_rows.specs.Cells as cells;
 ghost use Rattle.document_rows.specs.Reads.{viewed};
 ghost use Rattle.document_rows.specs.Heads as heads;
-ghost use Rattle.document_rows.specs.Rows as rows;
 
 use crate::fault::{CellFault, Column, Wrong, at};
 use crate::heads::cell;
 use csv::ByteRecord;
 use table_cells::{is_name, name_text};
-
-/// Whether all cells of a row are empty.
-pub fn is_blank(row: &ByteRecord) -> bool
-    ensures { result ≡ rows.is_blank (fields_of row.now) }
-{
-    for place in 0..row.len() {
-        if !cell(row, place).is_empty() {
-            return false;
-        }
-    }
-    true
-}
 
 fn name_in(cell: &[u8]) -> Result<&str, Wrong>
     ensures { viewed (λ name. name.now) result ≡ cells.name_in cell.now }

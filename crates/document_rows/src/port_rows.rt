@@ -46,5 +46,11 @@ pub fn port_row(alloc: Global, head: &PortHead, row: &ByteRecord) -> Result<Port
     let discipline = discipline_of(alloc, &words)?;
     let words = words_in(alloc, cell_or_empty(row, head.gate))?;
     let gate = at(Column::Gate, gate_of(&words))?;
-    Ok(PortRow { rate, latency, link, discipline, gate })
+    Ok(PortRow {
+        rate,
+        latency,
+        link,
+        discipline,
+        gate,
+    })
 }

@@ -1,0 +1,5 @@
+pub mod Named
+pub mod Steps
+pub mod TreeFacts
+pub mod TreeSteps
+pub mod PathSteps

@@ -1,13 +1,12 @@
 //! Documents.
 
-use crate::fault::{RowFault, TableFault, TableFile};
+use crate::fault::{DocumentError, LineError, TableFile};
+use crate::grid::network_of;
 use crate::links::{Branch, read_links};
 use crate::ports::read_ports;
-use csv::ByteRecord;
-use csv_rows::{line_of_row, read_rows};
-use document_rows::{Column, Wrong};
+use csv_rows::{TableRow, read_table};
 use indexmap::IndexSet;
-use std::alloc::{AllocError, Global};
+use std::alloc::Global;
 use tree_network::Network;
 
 /// What a document means: its network, the names, and its branches in the order of the rows.
@@ -19,33 +18,17 @@ pub struct Document {
     pub branches: Vec<Branch>,
 }
 
-// Memory ran out.
-fn no_memory() -> TableFault {
-    TableFault {
-        file: TableFile::Ports,
-        line: 0,
-        column: Column::Name,
-        wrong: Wrong::NoMemory,
+fn in_file(file: TableFile, error: LineError) -> DocumentError {
+    match error {
+        LineError::Fault(fault) => DocumentError::Fault(file, fault),
+        LineError::NoMemory => DocumentError::NoMemory,
     }
 }
 
-// The fault of a row of a text.
-fn fault_in(file: TableFile, text: &[u8], e: RowFault) -> TableFault {
-    match e.fault.wrong {
-        Wrong::NoMemory => no_memory(),
-        wrong => TableFault {
-            file,
-            line: line_of_row(text, e.row),
-            column: e.fault.column,
-            wrong,
-        },
-    }
-}
-
-fn rows_or_fault(alloc: Global, text: &[u8]) -> Result<Vec<ByteRecord>, TableFault> {
-    match read_rows(alloc, text) {
+fn rows_of(alloc: Global, text: &[u8]) -> Result<Vec<TableRow>, DocumentError> {
+    match read_table(alloc, text) {
         Ok(rows) => Ok(rows),
-        Err(_) => Err(no_memory()),
+        Err(_) => Err(DocumentError::NoMemory),
     }
 }
 
@@ -56,28 +39,28 @@ pub fn read_document(
     ports_text: &[u8],
     links_text: &[u8],
     overhead: u64,
-) -> Result<Document, TableFault> {
-    let rows = rows_or_fault(alloc, ports_text)?;
+) -> Result<Document, DocumentError> {
+    let rows = rows_of(alloc, ports_text)?;
     let ports = match read_ports(alloc, &rows) {
         Ok(ports) => ports,
-        Err(e) => return Err(fault_in(TableFile::Ports, ports_text, e)),
+        Err(error) => return Err(in_file(TableFile::Ports, error)),
     };
-    let rows = rows_or_fault(alloc, links_text)?;
+    let rows = rows_of(alloc, links_text)?;
     let table = match read_links(alloc, &ports, overhead, &rows) {
         Ok(table) => table,
-        Err(e) => return Err(fault_in(TableFile::Links, links_text, e)),
+        Err(error) => return Err(in_file(TableFile::Links, error)),
     };
-    let links = match table.links(alloc, &ports.ports, overhead) {
-        Ok(links) => links,
-        Err(_) => return Err(no_memory()),
+    let port_names = match ports.names.clone() {
+        Ok(names) => names,
+        Err(_) => return Err(DocumentError::NoMemory),
     };
-    Ok(Document {
-        port_names: ports.names,
-        link_names: table.names,
-        network: Network {
-            ports: ports.ports,
-            links,
-        },
-        branches: table.branches,
-    })
+    match network_of(alloc, ports, overhead, &table) {
+        Ok(network) => Ok(Document {
+            port_names,
+            link_names: table.names,
+            network,
+            branches: table.branches,
+        }),
+        Err(_) => Err(DocumentError::NoMemory),
+    }
 }

@@ -3,11 +3,14 @@
 
 mod document;
 mod fault;
+mod grid;
 mod links;
+mod names;
 mod paths;
 mod ports;
 mod trees;
 
 pub use document::{Document, read_document};
-pub use fault::{TableFault, TableFile};
-pub use links::Branch;
+pub use fault::{DocumentError, LineError, LineFault, TableFile};
+pub use links::{Branch, LinkKeys, LinkTable, read_links};
+pub use ports::{PortTable, read_ports};

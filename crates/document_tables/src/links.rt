@@ -1,206 +1,192 @@
 //! The table of links.
 
-use crate::fault::{RowFault, at_row, wrong_in};
-use crate::paths::{path_ports, queue_at};
+use crate::fault::{LineError, line_error, no_head};
+use crate::names::{add_name, number_of};
+use crate::paths::path_ports;
 use crate::ports::PortTable;
 use crate::trees::Tree;
 use csv::ByteRecord;
+use csv_rows::TableRow;
 use document_rows::{
-    CellFault, Column, LinkHead, LinkRow, Wrong, frame_on_wire, is_blank, link_head, link_row,
-    name_cell,
+    CellFault, Column, LinkHead, LinkRow, RowError, Wrong, frame_on_wire, link_head, link_row,
+    row_name,
 };
 use indexmap::IndexSet;
-use std::alloc::{AllocError, Global};
+use std::alloc::Global;
 use table_cells::Amount;
-use tree_network::{Link, Node, Port};
 
 const MOST_LINKS: usize = 16_384;
 
 const MOST_BRANCHES: usize = 131_072;
 
-const PICOSECONDS_IN_A_MILLISECOND: u64 = 1_000_000_000;
-
-const PICOSECONDS_IN_A_MICROSECOND: u64 = 1_000_000;
+/// What the rows of a link agree in: the gap in milliseconds, the largest frame in bytes, the jitter in microseconds,
+/// the priority.
+#[derive(Debug, Clone, Copy)]
+pub struct LinkKeys {
+    pub gap: Amount,
+    pub largest_frame: u64,
+    pub jitter: Amount,
+    pub priority: u64,
+}
 
 /// A branch of a link: a row of the table.
-#[derive(Debug, Clone, Copy)]
+#[derive(Debug, Drop)]
 pub struct Branch {
     /// The number of the link.
     pub link: usize,
-    /// The place of its last port in the link's tree.
-    pub node: usize,
+    /// The numbers of its ports.
+    pub path: Vec<usize>,
     /// In microseconds, where it has one.
     pub deadline: Option<Amount>,
 }
 
-// What the rows of a link agree in, and its tree.
-#[derive(Drop)]
-struct LinkDraft {
-    gap: Amount,
-    largest_frame: u64,
-    jitter: Amount,
-    priority: usize,
-    tree: Tree,
-}
-
-/// The links of a table, in the order of their first rows, and its branches.
+/// The links of a table by their numbers, in the order of their first rows: the names, what the rows agree in, and the
+/// trees; and the branches in the order of the rows.
 #[derive(Drop)]
 pub struct LinkTable {
     pub names: IndexSet<String>,
-    drafts: Vec<LinkDraft>,
+    pub keys: Vec<LinkKeys>,
+    pub trees: Vec<Tree>,
     pub branches: Vec<Branch>,
 }
 
-// In what a row differs from the first one of its link.
-fn difference(draft: &LinkDraft, row: &LinkRow) -> Option<Column> {
-    if !draft.gap.equals(row.gap) {
-        return Some(Column::Bag);
-    }
-    if draft.largest_frame != row.largest_frame {
-        return Some(Column::LargestFrame);
-    }
-    if !draft.jitter.equals(row.jitter) {
-        return Some(Column::Jitter);
-    }
-    if draft.priority != row.priority {
-        return Some(Column::Priority);
-    }
-    None
+fn wrong_name(wrong: Wrong) -> RowError {
+    RowError::Cell(CellFault {
+        column: Column::Name,
+        wrong,
+    })
 }
 
-impl LinkTable {
-    // No link.
-    fn new(alloc: Global) -> LinkTable {
-        LinkTable {
-            names: IndexSet::new(alloc),
-            drafts: Vec::new(alloc),
-            branches: Vec::new(alloc),
-        }
+fn keys_of(row: &LinkRow) -> LinkKeys {
+    LinkKeys {
+        gap: row.gap,
+        largest_frame: row.largest_frame,
+        jitter: row.jitter,
+        priority: row.priority,
     }
+}
 
-    // The number of the link of a row; a new one has no tree yet.
-    fn link_of(&mut self, alloc: Global, name: &str, row: &LinkRow) -> Result<usize, CellFault> {
-        let (number, is_new) = self.names.insert_full(String::from_str(alloc, name)?)?;
-        if is_new {
-            self.drafts.push(LinkDraft {
-                gap: row.gap,
-                largest_frame: row.largest_frame,
-                jitter: row.jitter,
-                priority: row.priority,
-                tree: Tree::new(alloc),
-            })?;
-            return Ok(number);
-        }
-        match difference(&self.drafts[number], row) {
-            Some(column) => Err(wrong_in(column, Wrong::Differs)),
-            None => Ok(number),
-        }
+fn differs(column: Column) -> Result<LinkKeys, CellFault> {
+    Err(CellFault {
+        column,
+        wrong: Wrong::Differs,
+    })
+}
+
+// What two rows of a link agree in, by value, or the first column in which they differ.
+fn agrees(first: LinkKeys, row: LinkKeys) -> Result<LinkKeys, CellFault> {
+    if !first.gap.equals(row.gap) {
+        return differs(Column::Bag);
     }
-
-    // Whether a name is that of a link too many.
-    fn is_full_for(&self, name: &str) -> bool {
-        self.names.len() >= MOST_LINKS && !self.names.contains(name)
+    if first.largest_frame != row.largest_frame {
+        return differs(Column::LargestFrame);
     }
+    if !first.jitter.equals(row.jitter) {
+        return differs(Column::Jitter);
+    }
+    if first.priority != row.priority {
+        return differs(Column::Priority);
+    }
+    Ok(first)
+}
 
-    // Puts the branch of a row behind the others.
-    fn add(
-        &mut self,
-        alloc: Global,
-        ports: &PortTable,
-        overhead: u64,
-        head: &LinkHead,
-        row: &ByteRecord,
-    ) -> Result<(), CellFault> {
-        if self.branches.len() >= MOST_BRANCHES {
-            return Err(wrong_in(Column::Name, Wrong::TooManyRows));
-        }
-        let name = name_cell(head.name, head.width, row)?;
-        if self.is_full_for(name) {
-            return Err(wrong_in(Column::Name, Wrong::TooManyLinks));
-        }
-        let row = link_row(alloc, head, row)?;
-        let link = self.link_of(alloc, name, &row)?;
-        let frame = frame_on_wire(row.largest_frame, overhead);
-        let path = match path_ports(alloc, ports, row.priority, frame, &row.path) {
-            Ok(path) => path,
-            Err(wrong) => return Err(wrong_in(Column::Path, wrong)),
-        };
-        match self.drafts[link].tree.grow(&path) {
-            Ok(node) => {
-                self.branches.push(Branch {
-                    link,
-                    node,
-                    deadline: row.deadline,
-                })?;
-                Ok(())
+// The number of the link of a row, which comes behind the others where it is new.
+fn add_link(
+    alloc: Global,
+    table: &mut LinkTable,
+    name: &str,
+    number: Option<usize>,
+    row: LinkKeys,
+) -> Result<usize, RowError> {
+    match number {
+        Some(number) => match table.keys.get(number) {
+            Some(first) => {
+                agrees(*first, row)?;
+                Ok(number)
             }
-            Err(wrong) => Err(wrong_in(Column::Path, wrong)),
+            None => Ok(number),
+        },
+        None => {
+            let number = table.keys.len();
+            let _ = add_name(alloc, &mut table.names, name)?;
+            table.keys.push(row)?;
+            table.trees.push(Tree::new(alloc))?;
+            Ok(number)
         }
     }
 }
 
-/// The links and branches of a text.
-pub(crate) fn read_links(
+// Puts the branch of a row behind the others.
+fn add_branch(
     alloc: Global,
     ports: &PortTable,
     overhead: u64,
-    rows: &[ByteRecord],
-) -> Result<LinkTable, RowFault> {
-    let mut table = LinkTable::new(alloc);
-    let mut head = None;
-    for (number, row) in rows.iter().enumerate() {
-        if !is_blank(row) {
-            match head {
-                None => head = Some(at_row(number, link_head(row))?),
-                Some(head) => at_row(number, table.add(alloc, ports, overhead, &head, row))?,
-            }
-        }
-    }
-    match head {
-        Some(_) => Ok(table),
-        None => Err(RowFault {
-            row: 0,
-            fault: wrong_in(Column::Name, Wrong::Missing),
-        }),
-    }
+    table: &mut LinkTable,
+    link: usize,
+    row: &LinkRow,
+) -> Result<(), RowError> {
+    let frame = frame_on_wire(row.largest_frame, overhead);
+    let path = path_ports(alloc, ports, row.priority as usize, frame, &row.path)?;
+    let Some(tree) = table.trees.get_mut(link) else {
+        return Ok(());
+    };
+    tree.grow(&path)?;
+    table.branches.push(Branch {
+        link,
+        path,
+        deadline: row.deadline,
+    })?;
+    Ok(())
 }
 
-// The nodes of a tree, each with its queue.
-fn nodes_of(
+// Puts a row behind the others.
+fn add_row(
     alloc: Global,
-    ports: &[Port],
-    priority: usize,
-    tree: &Tree,
-) -> Result<Vec<Node>, AllocError> {
-    let mut nodes = Vec::new(alloc);
-    for (port, from) in tree.hangs() {
-        let queue = queue_at(&ports[*port], priority);
-        nodes.push(Node {
-            port: *port,
-            queue,
-            from: *from,
-        })?;
+    ports: &PortTable,
+    overhead: u64,
+    head: &LinkHead,
+    table: &mut LinkTable,
+    row: &ByteRecord,
+) -> Result<(), RowError> {
+    if table.branches.len() >= MOST_BRANCHES {
+        return Err(wrong_name(Wrong::TooManyRows));
     }
-    Ok(nodes)
+    let name = row_name(head.width, head.name, row)?;
+    let number = number_of(&table.names, name);
+    if number.is_none() && table.names.len() >= MOST_LINKS {
+        return Err(wrong_name(Wrong::TooManyLinks));
+    }
+    let row = link_row(alloc, head, row)?;
+    let link = add_link(alloc, table, name, number, keys_of(&row))?;
+    add_branch(alloc, ports, overhead, table, link, &row)
 }
 
-impl LinkTable {
-    /// The links on the grid: what may come rounded up.
-    pub(crate) fn links(
-        &self,
-        alloc: Global,
-        ports: &[Port],
-        overhead: u64,
-    ) -> Result<Vec<Link>, AllocError> {
-        let mut links = Vec::new(alloc);
-        for draft in &self.drafts {
-            links.push(Link {
-                frame: frame_on_wire(draft.largest_frame, overhead),
-                gap: draft.gap.rounded_down(PICOSECONDS_IN_A_MILLISECOND),
-                jitter: draft.jitter.rounded_up(PICOSECONDS_IN_A_MICROSECOND),
-                nodes: nodes_of(alloc, ports, draft.priority, &draft.tree)?,
-            })?;
+/// The links of the rows of a table over ports, or its first fault. A frame has `overhead` bytes on the wire beside its
+/// own.
+pub fn read_links(
+    alloc: Global,
+    ports: &PortTable,
+    overhead: u64,
+    rows: &[TableRow],
+) -> Result<LinkTable, LineError> {
+    let [first, rest @ ..] = rows else {
+        return Err(no_head());
+    };
+    let head = match link_head(&first.cells) {
+        Ok(head) => head,
+        Err(fault) => return Err(line_error(first.line, RowError::Cell(fault))),
+    };
+    let mut table = LinkTable {
+        names: IndexSet::new(alloc),
+        keys: Vec::new(alloc),
+        trees: Vec::new(alloc),
+        branches: Vec::new(alloc),
+    };
+    for row in rest {
+        match add_row(alloc, ports, overhead, &head, &mut table, &row.cells) {
+            Ok(()) => {}
+            Err(error) => return Err(line_error(row.line, error)),
         }
-        Ok(links)
     }
+    Ok(table)
 }

@@ -1,59 +1,103 @@
 //! The tree over which a link goes.
 
-use document_rows::Wrong;
+ghost use Rattle.std.specs.Prelude.{◌≡◌, ◌+◌, ◌<◌, ◌^◌, ◌==◌, ℕ, List, [], ◌∷◌, ◌++◌, length, Some, None, false};
+ghost use Rattle.std.specs.List.{list_any};
+ghost use Rattle.document_rows.specs.declared.fault.Column.TheVariants as column;
+ghost use Rattle.document_rows.specs.declared.fault.RowError.TheVariants as errors;
+ghost use Rattle.document_tables.specs.Trees as spec;
+ghost use Rattle.document_tables.specs.Growing.{Grows, HasOwnPorts};
+
+use document_rows::{CellFault, Column, RowError, Wrong};
 use indexmap::IndexMap;
 use std::alloc::Global;
 
-/// The ports of a link, in an order in which each comes after the one from which its frames come: that one's place.
+/// The ports of a link, each with the one after which it comes, and the one at which all paths begin. They stand in an
+/// order in which each comes after the one from which its frames come.
 #[derive(Drop)]
 pub struct Tree {
-    hangs: IndexMap<usize, Option<usize>>,
+    pub(crate) root: Option<usize>,
+    pub(crate) after: IndexMap<usize, Option<usize>>,
+}
+
+fn wrong_path(wrong: Wrong) -> RowError
+    ensures { result ≡ errors.Cell (record { column = column.Path; wrong = wrong }) }
+{
+    RowError::Cell(CellFault {
+        column: Column::Path,
+        wrong,
+    })
 }
 
 impl Tree {
     /// No port.
-    pub fn new(alloc: Global) -> Tree {
+    pub fn new(alloc: Global) -> Tree
+        ensures { spec.IsTreeOf [] result }
+    {
         Tree {
-            hangs: IndexMap::new(alloc),
+            root: None,
+            after: IndexMap::new(alloc),
         }
     }
 
-    // The place of a port behind the one at a place; it is the port at place `at` of a path.
-    fn step(&mut self, at: usize, from: Option<usize>, port: usize) -> Result<usize, Wrong> {
-        match self.hangs.get_full(&port) {
-            Some((place, _, hangs)) => {
-                if *hangs == from {
-                    return Ok(place);
+    // Puts the first port of a path into the tree.
+    fn begin(&mut self, port: usize) -> Result<(), RowError>
+        ensures { (paths : List (List ℕ)) → spec.IsTreeOf paths self.old
+            → Grows result (spec.hangs paths 0 None port) (Some port) (paths ++ (port ∷ []) ∷ []) self.new }
+    {
+        match self.root {
+            Some(root) => {
+                if root == port {
+                    Ok(())
+                } else {
+                    Err(wrong_path(Wrong::BeginsElsewhere))
                 }
             }
             None => {
-                if from.is_some() || self.hangs.is_empty() {
-                    let place = self.hangs.len();
-                    self.hangs.insert(port, from)?;
-                    return Ok(place);
-                }
+                self.after.insert(port, None)?;
+                self.root = Some(port);
+                Ok(())
             }
         }
-        if at == 0 {
-            Err(Wrong::BeginsElsewhere)
-        } else {
-            Err(Wrong::AfterAnother(at + 1))
+    }
+
+    // Puts a port behind the one before it in a path, at a place of that from 0.
+    fn step(&mut self, place: usize, after: usize, port: usize) -> Result<(), RowError>
+        requires { place + 1 < 2 ^ 64 }
+        ensures { (paths : List (List ℕ)) (path : List ℕ) → spec.IsTreeOf (paths ++ path ∷ []) self.old
+            → spec.last_of None path ≡ Some after → list_any (λ n. n == port) path ≡ false
+            → Grows result (spec.hangs paths place (Some after) port) (Some port) (paths ++ (path ++ port ∷ []) ∷ []) self.new }
+    {
+        match self.after.get(&port) {
+            Some(before) => {
+                if *before == Some(after) {
+                    Ok(())
+                } else {
+                    Err(wrong_path(Wrong::AfterAnother(place + 1)))
+                }
+            }
+            None => {
+                self.after.insert(port, Some(after))?;
+                Ok(())
+            }
         }
     }
 
-    /// Puts a path into the tree: the place of its last port.
-    pub fn grow(&mut self, path: &[usize]) -> Result<usize, Wrong> {
-        let mut from = None;
-        let mut last = 0;
-        for (at, port) in path.iter().enumerate() {
-            last = self.step(at, from, *port)?;
-            from = Some(last);
+    /// Puts a path into the tree.
+    pub fn grow(&mut self, path: &[usize]) -> Result<(), RowError>
+        requires some { 0 < length path.now }
+        requires own { HasOwnPorts path.now }
+        ensures { (paths : List (List ℕ)) → spec.IsTreeOf paths self.old
+            → Grows result (spec.hangs_from paths 0 None path.now) (spec.last_of None path.now) (paths ++ path.now ∷ []) self.new }
+    {
+        self.begin(path[0])?;
+        for place in 1..path.len() {
+            self.step(place, path[place - 1], path[place])?;
         }
-        Ok(last)
+        Ok(())
     }
 
-    /// Its ports with the places from which they come.
-    pub fn hangs(&self) -> &IndexMap<usize, Option<usize>> {
-        &self.hangs
+    /// The place of a port.
+    pub fn place_of(&self, port: usize) -> Option<usize> {
+        self.after.get_index_of(&port)
     }
 }

@@ -1,7 +1,7 @@
 //! One document for each fault.
 
 use document_rows::{Column, Wrong};
-use document_tables::{TableFile, read_document};
+use document_tables::{DocumentError, LineFault, TableFile, read_document};
 use std::alloc::Global;
 use std::test::Fail;
 
@@ -27,8 +27,16 @@ fn is_fault(
     wrong: Wrong,
 ) -> bool {
     match read_document(alloc, ports.as_bytes(), links.as_bytes(), 20) {
+        Err(error) => error
+            == DocumentError::Fault(
+                file,
+                LineFault {
+                    line,
+                    column,
+                    wrong,
+                },
+            ),
         Ok(_) => false,
-        Err(e) => e.file == file && e.line == line && e.column == column && e.wrong == wrong,
     }
 }
 

@@ -29,7 +29,7 @@ cut_blank cell start at words h b so =
     let word = slice_range cell start at in
     let rest = drop (at + 1) cell in
     let step : words_from word (drop at cell) ≡ ended word (words_from [] rest) =
-        ap (words_from word) (left cell at h) ∙ rw b refl in
+    ap (words_from word) (left cell at h) ∙ rw b refl in
     append_assoc words (ended word []) (words_from (slice_range cell (at + 1) (at + 1)) rest)
     ∙ ap (λ w. words ++ (ended word [] ++ words_from w rest)) (none_yet cell (at + 1))
     ∙ ap (λ ws. words ++ ws) (sym (ended_before word (words_from [] rest)) ∙ sym step)
@@ -51,7 +51,7 @@ cut_more cell start at words s h b so =
     let word = slice_range cell start at in
     let rest = drop (at + 1) cell in
     let step : words_from word (drop at cell) ≡ words_from (word ++ get_or cell at 0 ∷ []) rest =
-        ap (words_from word) (left cell at h) ∙ rw b refl in
+    ap (words_from word) (left cell at h) ∙ rw b refl in
     ap (λ w. words ++ words_from w rest) (longer cell start at s h)
     ∙ ap (λ ws. words ++ ws) (sym step)
     ∙ so

@@ -1,4 +1,3 @@
 pub mod Digits
 pub mod Cut
 pub mod NameTexts
-pub mod Rounding

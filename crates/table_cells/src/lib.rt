@@ -7,4 +7,4 @@ mod words;
 
 pub use amount::{Amount, whole_in};
 pub use names::{is_name, name_text};
-pub use words::words_in;
+pub use words::{word_at, words_in};

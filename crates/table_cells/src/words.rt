@@ -1,6 +1,6 @@
 //! Words of a cell.
 
-ghost use Rattle.std.specs.Prelude.{◌≡◌, ◌++◌, [], map, IfOk, OnOk};
+ghost use Rattle.std.specs.Prelude.{◌≡◌, ◌<◌, ◌++◌, [], length, map, slice_index_or, IfOk, OnOk};
 ghost use Rattle.table_cells.specs.Words as spec;
 
 use std::alloc::{AllocError, Global};
@@ -30,4 +30,12 @@ pub fn words_in(alloc: Global, cell: &[u8]) -> Result<Vec<&[u8]>, AllocError>
     }
     push_word(&mut words, &cell[start..])?;
     Ok(words)
+}
+
+/// One of several words.
+pub fn word_at<'a>(words: &[&'a [u8]], place: usize) -> &'a [u8]
+    requires { place < length words.now }
+    ensures { result.now ≡ slice_index_or (map (λ word. word.now) words.now) place [] }
+{
+    words[place]
 }

@@ -18,15 +18,15 @@ loop-at-preserved c =
     let blank = c.is_ascii_whitespace.ensures.value in
     let inv = c.loop-at.invariant in
     elim c.if-is_ascii_whitespace.branch [
-      then-is_ascii_whitespace+in_ok-push_word w ↦
+      | then-is_ascii_whitespace+in_ok-push_word w ↦
           let so = cut_blank cell start at old c.loop-at-test.true (sym blank ∙ w.if-is_ascii_whitespace.true) inv.cut in
           let grown : seen c.if-is_ascii_whitespace.words.items ≡ old ++ ended (slice_range cell start at) [] =
-              ap (λ v. seen v.items) w.words-is ∙ w.in_ok-push_word.ensures in
+          ap (λ v. seen v.items) w.words-is ∙ w.in_ok-push_word.ensures in
           record {
             near = let s = w.start-is in omega (arith, s);
             cut = subst (λ s. IsCut cell s (at + 1) (seen c.if-is_ascii_whitespace.words.items)) (sym w.start-is) (subst (λ ws. IsCut cell (at + 1) (at + 1) ws) (sym grown) so);
           }
-    | else-is_ascii_whitespace w ↦
+      | else-is_ascii_whitespace w ↦
           let so = cut_more cell start at old inv.near c.loop-at-test.true (sym blank ∙ w.if-is_ascii_whitespace.false) inv.cut in
           record {
             near = let s = w.start-is in let n = inv.near in omega (arith, s, n);
