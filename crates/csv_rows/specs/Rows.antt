@@ -33,7 +33,7 @@ used (row ∷ rows) = used_of (map trimmed row) ++ used rows
 pub record AreRowsOf (text : List ℕ) (rows : List Row) : Type 0 where
   pub records : List Row
   pub are : AreRecords default_config st.StartRecord (strip_bom text) records
-  pub rows : rows ≡ used records
+  pub all : rows ≡ used records
 
 abbrev pub cells_of : TableRow → Row
 cells_of row = fields_of row.cells

@@ -37,44 +37,44 @@ pub fn lines_of(text: &[u8]) -> Lines<'_> {
     Lines { rest, line: 1 }
 }
 
+// What is left of a text behind the ends of lines at its front, and how many of them there are.
+fn to_row(text: &[u8]) -> (&[u8], usize) {
+    let mut lines: usize = 0;
+    for (at, byte) in text.iter().enumerate() {
+        match *byte {
+            b'\n' => lines = lines.wrapping_add(1),
+            b'\r' => {}
+            _ => return (&text[at..], lines),
+        }
+    }
+    (&[], lines)
+}
+
+// What is left of a text behind the row at its front, and how many ends of lines are in that.
+fn over_row(text: &[u8]) -> (&[u8], usize) {
+    let mut place = Place::Between;
+    let mut lines: usize = 0;
+    for (at, byte) in text.iter().enumerate() {
+        place = place_after(place, *byte);
+        if place == Place::Between {
+            return (&text[at..], lines);
+        }
+        if *byte == b'\n' {
+            lines = lines.wrapping_add(1);
+        }
+    }
+    (&[], lines)
+}
+
 impl Lines<'_> {
-    // Passes over ends of lines.
-    fn to_row(&mut self) {
-        for (at, byte) in self.rest.iter().enumerate() {
-            match *byte {
-                b'\n' => self.line = self.line.wrapping_add(1),
-                b'\r' => {}
-                _ => {
-                    self.rest = &self.rest[at..];
-                    return;
-                }
-            }
-        }
-        self.rest = &[];
-    }
-
-    // Passes over a row.
-    fn over_row(&mut self) {
-        let mut place = Place::Between;
-        for (at, byte) in self.rest.iter().enumerate() {
-            place = place_after(place, *byte);
-            if place == Place::Between {
-                self.rest = &self.rest[at..];
-                return;
-            }
-            if *byte == b'\n' {
-                self.line = self.line.wrapping_add(1);
-            }
-        }
-        self.rest = &[];
-    }
-
     /// The line on which the next row begins, counted from 1, and passes over that row. A cell in quotes may have ends of
     /// lines.
     pub fn next_line(&mut self) -> usize {
-        self.to_row();
-        let line = self.line;
-        self.over_row();
+        let (row, ends) = to_row(self.rest);
+        let line = self.line.wrapping_add(ends);
+        let (rest, inner) = over_row(row);
+        self.rest = rest;
+        self.line = line.wrapping_add(inner);
         line
     }
 }

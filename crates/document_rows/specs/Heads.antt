@@ -1,6 +1,6 @@
 -- Head lines: in which column what stands. Own choice.
 use Rattle.std.specs.Prelude.{ℕ, ◌+◌, Bool, nat_lt, List, length, drop, codes, Option, Some, None, Result, Ok, Err, ok_or, if◌then◌else◌}
-use Rattle.std.specs.List.{list_any, position}
+use Rattle.std.specs.List.{position_from}
 use Rattle.std.specs.Str.{bytes_eq}
 use Rattle.document_rows.specs.declared.fault.Column.{Column}
 use Rattle.document_rows.specs.declared.fault.Column.TheVariants as column
@@ -26,14 +26,21 @@ word_of column.Priority = codes "priority"
 word_of column.Path = codes "path"
 word_of column.Deadline = codes "deadline"
 
--- where it stands first, if no other cell is it too
+-- where a word stands first, from a place on
+abbrev pub first_from : List ℕ → ℕ → Row → Option ℕ
+first_from word from head = position_from (bytes_eq word) from (drop from head)
+
+-- a place, if there is no other one behind it
+abbrev pub only_one : ℕ → Option ℕ → CellRead (Option ℕ)
+only_one place None = Ok (Some place)
+only_one place (Some other) = Err ColumnTwice
+
 abbrev pub only_place : List ℕ → Row → Option ℕ → CellRead (Option ℕ)
 only_place word head None = Ok None
-only_place word head (Some place) =
-    if list_any (bytes_eq word) (drop (place + 1) head) then Err ColumnTwice else Ok (Some place)
+only_place word head (Some place) = only_one place (first_from word (place + 1) head)
 
 abbrev pub place_of : Column → Row → CellRead (Option ℕ)
-place_of column head = only_place (word_of column) head (position (bytes_eq (word_of column)) head)
+place_of column head = only_place (word_of column) head (first_from (word_of column) 0 head)
 
 -- of a column that may be missing, and of one that may not
 abbrev pub optional : Column → Row → RowRead (Option ℕ)

@@ -1,8 +1,6 @@
 //! Head lines: in which column what stands.
 
-ghost use Rattle.std.specs.Prelude.{◌≡◌, ◌+◌, drop, codes};
-ghost use Rattle.std.specs.List.{position_from};
-ghost use Rattle.std.specs.Str.{bytes_eq};
+ghost use Rattle.std.specs.Prelude.{◌≡◌, ◌+◌, ◌<◌, ◌^◌, IfSome};
 ghost use Rattle.csv.specs.Records.{fields_of};
 ghost use Rattle.document_rows.specs.Heads as spec;
 ghost use Rattle.document_rows.specs.Rows as rows;
@@ -67,7 +65,8 @@ pub(crate) fn cell(row: &ByteRecord, place: usize) -> &[u8]
 
 // Where a word stands first, from a place on.
 fn find_from(head: &ByteRecord, word: &[u8], from: usize) -> Option<usize>
-    ensures { result ≡ position_from (bytes_eq word.now) from (drop from (fields_of head.now)) }
+    ensures value { result ≡ spec.first_from word.now from (fields_of head.now) }
+    ensures within { IfSome result (λ place. place + 1 < 2 ^ 64) }
 {
     for place in from..head.len() {
         if word == cell(head, place) {

@@ -3,3 +3,4 @@ pub mod Steps
 pub mod TreeFacts
 pub mod TreeSteps
 pub mod PathSteps
+pub mod GrowSteps

@@ -10,17 +10,17 @@ use Rattle.document_tables.specs.Paths.{next_port, path_from}
 use Rattle.document_tables.specs.Growing.{HasOwnPorts}
 
 module _ (ports : Ports) (priority frame : ℕ) where
-  here : (before : List ℕ) (words : List (List ℕ)) (k : ℕ) (word : List ℕ) → k < length words → get_or words k word ≡ word
+  here : (before : List ℕ) (words : List (List ℕ)) (k : ℕ) (word : List ℕ) → k < length words → word ≡ get_or words k []
       → path_from ports priority frame before (drop k words) ≡ and_then (next_port ports priority frame before word) (λ n. path_from ports priority frame (before ++ n ∷ []) (drop (k + 1) words))
   unfolding path_from
-  here before words k word h is = ap (path_from ports priority frame before) (drop_more words k word h ∙ ap (λ (w : List ℕ). w ∷ drop (k + 1) words) is)
+  here before words k word h is = ap (path_from ports priority frame before) (drop_more words k [] h ∙ ap (λ (w : List ℕ). w ∷ drop (k + 1) words) (sym is))
 
-  pub path_more : (before : List ℕ) (words : List (List ℕ)) (k : ℕ) (word : List ℕ) (n : ℕ) → k < length words → get_or words k word ≡ word → next_port ports priority frame before word ≡ Ok n
+  pub path_more : (before : List ℕ) (words : List (List ℕ)) (k : ℕ) (word : List ℕ) (n : ℕ) → k < length words → word ≡ get_or words k [] → next_port ports priority frame before word ≡ Ok n
       → path_from ports priority frame before (drop k words) ≡ path_from ports priority frame (before ++ n ∷ []) (drop (k + 1) words)
   path_more before words k word n h is ok =
       here before words k word h is ∙ ap (λ (read : CellRead ℕ). and_then read (λ n. path_from ports priority frame (before ++ n ∷ []) (drop (k + 1) words))) ok
 
-  pub path_wrong : (before : List ℕ) (words : List (List ℕ)) (k : ℕ) (word : List ℕ) (wrong : Wrong) → k < length words → get_or words k word ≡ word → next_port ports priority frame before word ≡ Err wrong
+  pub path_wrong : (before : List ℕ) (words : List (List ℕ)) (k : ℕ) (word : List ℕ) (wrong : Wrong) → k < length words → word ≡ get_or words k [] → next_port ports priority frame before word ≡ Err wrong
       → path_from ports priority frame before (drop k words) ≡ Err wrong
   path_wrong before words k word wrong h is bad =
       here before words k word h is ∙ ap (λ (read : CellRead ℕ). and_then read (λ n. path_from ports priority frame (before ++ n ∷ []) (drop (k + 1) words))) bad

@@ -1,5 +1,12 @@
 //! The table of links.
 
+ghost use Rattle.std.specs.Prelude.{◌≡◌, Err};
+ghost use Rattle.document_rows.specs.LinkRows.{link_view};
+ghost use Rattle.document_rows.specs.declared.fault.Column.TheVariants as column;
+ghost use Rattle.document_rows.specs.declared.fault.RowError.TheVariants as errors;
+ghost use Rattle.document_rows.specs.declared.fault.Wrong.TheVariants as wrongs;
+ghost use Rattle.document_tables.specs.Links as spec;
+
 use crate::fault::{LineError, line_error, no_head};
 use crate::names::{add_name, number_of};
 use crate::paths::path_ports;
@@ -36,6 +43,8 @@ pub struct Branch {
     pub link: usize,
     /// The numbers of its ports.
     pub path: Vec<usize>,
+    /// The place of its last port in the tree of the link.
+    pub node: usize,
     /// In microseconds, where it has one.
     pub deadline: Option<Amount>,
 }
@@ -50,14 +59,18 @@ pub struct LinkTable {
     pub branches: Vec<Branch>,
 }
 
-fn wrong_name(wrong: Wrong) -> RowError {
+fn wrong_name(wrong: Wrong) -> RowError
+    ensures { result ≡ errors.Cell (record { column = column.Name; wrong = wrong }) }
+{
     RowError::Cell(CellFault {
         column: Column::Name,
         wrong,
     })
 }
 
-fn keys_of(row: &LinkRow) -> LinkKeys {
+fn keys_of(row: &LinkRow) -> LinkKeys
+    ensures { result ≡ spec.keys_of (link_view row.now) }
+{
     LinkKeys {
         gap: row.gap,
         largest_frame: row.largest_frame,
@@ -66,7 +79,9 @@ fn keys_of(row: &LinkRow) -> LinkKeys {
     }
 }
 
-fn differs(column: Column) -> Result<LinkKeys, CellFault> {
+fn differs(column: Column) -> Result<LinkKeys, CellFault>
+    ensures { result ≡ Err (record { column = column; wrong = wrongs.Differs }) }
+{
     Err(CellFault {
         column,
         wrong: Wrong::Differs,
@@ -74,7 +89,9 @@ fn differs(column: Column) -> Result<LinkKeys, CellFault> {
 }
 
 // What two rows of a link agree in, by value, or the first column in which they differ.
-fn agrees(first: LinkKeys, row: LinkKeys) -> Result<LinkKeys, CellFault> {
+fn agrees(first: LinkKeys, row: LinkKeys) -> Result<LinkKeys, CellFault>
+    ensures { result ≡ spec.agrees first row }
+{
     if !first.gap.equals(row.gap) {
         return differs(Column::Bag);
     }
@@ -116,6 +133,14 @@ fn add_link(
     }
 }
 
+// The place of the last port of a path that is in the tree.
+fn place_of_last(tree: &Tree, path: &[usize]) -> usize {
+    match path.last() {
+        Some(port) => tree.place_of(*port).unwrap_or(0),
+        None => 0,
+    }
+}
+
 // Puts the branch of a row behind the others.
 fn add_branch(
     alloc: Global,
@@ -131,9 +156,11 @@ fn add_branch(
         return Ok(());
     };
     tree.grow(&path)?;
+    let node = place_of_last(tree, &path);
     table.branches.push(Branch {
         link,
         path,
+        node,
         deadline: row.deadline,
     })?;
     Ok(())

@@ -14,7 +14,7 @@ use crate::names::number_of;
 use crate::ports::PortTable;
 use document_rows::{CellFault, Column, RowError, Wrong};
 use std::alloc::Global;
-use table_cells::{is_name, name_text};
+use table_cells::{is_name, name_text, word_at};
 use tree_network::Discipline;
 
 /// The queue of a link of a priority: the only one, or that of the priority.
@@ -110,8 +110,8 @@ pub(crate) fn path_ports(
     ensures own { IfOk result (λ path. HasOwnPorts path.items) }
 {
     let mut path = Vec::new(alloc);
-    for word in words {
-        match next_port(table, priority, frame, &path, *word) {
+    for place in 0..words.len() {
+        match next_port(table, priority, frame, &path, word_at(words, place)) {
             Ok(number) => path.push(number)?,
             Err(wrong) => return Err(RowError::Cell(CellFault {
                 column: Column::Path,

@@ -1,5 +1,6 @@
 //! One document for each fault.
 
+use document_faults::fault_line;
 use document_rows::{Column, Wrong};
 use document_tables::{DocumentError, LineFault, TableFile, read_document};
 use std::alloc::Global;
@@ -265,5 +266,28 @@ fn faults_of_paths(rt: HostRuntime) -> Result<(), Fail> {
             Wrong::AfterAnother(3)
         )?
     );
+    Ok(())
+}
+
+#[test]
+fn a_fault_is_told_with_what_to_write(rt: HostRuntime) -> Result<(), Fail> {
+    let fault = LineFault {
+        line: 3,
+        column: Column::Path,
+        wrong: Wrong::UnknownPort(2),
+    };
+    let line = fault_line(rt.alloc(), "links.csv", &fault)?;
+    let wanted = "netbound: links.csv line 3 column path: \
+                  port 2 has no row in the table of ports: write a name of the table of ports\n";
+    assert!(rt; line.as_str() == wanted);
+    let fault = LineFault {
+        line: 1,
+        column: Column::Rate,
+        wrong: Wrong::TooSmall,
+    };
+    let line = fault_line(rt.alloc(), "ports.csv", &fault)?;
+    let wanted = "netbound: ports.csv line 1 column rate: \
+                  below the least: write Mbit/s, from 0.000001 to 1000000\n";
+    assert!(rt; line.as_str() == wanted);
     Ok(())
 }

@@ -74,10 +74,10 @@ fn branches_make_a_tree(rt: HostRuntime) -> Result<(), Fail> {
     assert!(rt; links[1].gap == 333_333_333);
     assert!(rt;
         document.branches[2].link == 0
-            && document.branches[2].path.as_slice() == [0, 1, 2].as_slice()
+            && document.branches[2].node == 2
     );
     assert!(rt;
-        document.branches[1].link == 1 && document.branches[1].path.as_slice() == [0, 2].as_slice()
+        document.branches[1].link == 1 && document.branches[1].node == 1
     );
     Ok(())
 }

@@ -41,7 +41,7 @@ loop-row-preserved c =
         m.0,
         m.1,
         m.2,
-        c.in_ok-push_row.ensures ∙ (ap (λ (rows : List Row). rows ++ used_of (map trimmed cells)) inv.rest.4 ∙ sym (used_push records cells)),
+        c.in_ok-push_row-in-Ok.ensures ∙ (ap (λ (rows : List Row). rows ++ used_of (map trimmed cells)) inv.rest.4 ∙ sym (used_push records cells)),
       );
     }
 
@@ -53,5 +53,5 @@ returns c =
     record {
       records = inv.rest.0;
       are = (c.loop-row.row-iterator.rdr.state, inv.rest.1, inv.rest.3, end);
-      rows = inv.rest.4;
+      all = inv.rest.4;
     }
