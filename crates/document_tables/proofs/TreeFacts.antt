@@ -42,7 +42,7 @@ is_false false f = refl
 pub equal : (a b : ℕ) → (a == b) ≡ true → a ≡ b
 equal a b h = grind (arith, nat_tests)
 
-same_is : (x y : Option ℕ) → same x y ≡ true → x ≡ y
+pub same_is : (x y : Option ℕ) → same x y ≡ true → x ≡ y
 same_is None None h = refl
 same_is None (Some q) h = absurd (clash false h refl)
 same_is (Some p) None h = absurd (clash false h refl)

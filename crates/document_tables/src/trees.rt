@@ -28,6 +28,16 @@ fn wrong_path(wrong: Wrong) -> RowError
     })
 }
 
+// Whether a port comes after this one.
+fn is_after(before: Option<usize>, after: usize) -> bool
+    ensures { result ≡ spec.same before (Some after) }
+{
+    match before {
+        Some(before) => before == after,
+        None => false,
+    }
+}
+
 impl Tree {
     /// No port.
     pub fn new(alloc: Global) -> Tree
@@ -69,7 +79,7 @@ impl Tree {
     {
         match self.after.get(&port) {
             Some(before) => {
-                if *before == Some(after) {
+                if is_after(*before, after) {
                     Ok(())
                 } else {
                     Err(wrong_path(Wrong::AfterAnother(place + 1)))
