@@ -1,0 +1,70 @@
+//! The rows of a table.
+
+ghost use Rattle.std.specs.Prelude.{◌≡◌, ◌++◌, map, IfOk, OnOk};
+ghost use Rattle.csv.specs.Records.{fields_of, trimmed};
+ghost use Rattle.csv_rows.specs.Rows as spec;
+
+use crate::lines::lines_of;
+use csv::{ByteRecord, ReaderBuilder};
+use std::alloc::{AllocError, Global};
+
+/// A row: the line on which it begins, from 1, and its cells without the white space at both ends.
+#[derive(Drop)]
+pub struct TableRow {
+    pub line: usize,
+    pub cells: ByteRecord,
+}
+
+/// The cell of a column, empty where the row is shorter.
+pub fn cell(row: &ByteRecord, place: usize) -> &[u8]
+    ensures { result.now ≡ spec.cell (fields_of row.now) place }
+{
+    match row.get(place) {
+        Some(cell) => cell,
+        None => b"",
+    }
+}
+
+// Whether all cells of a row are empty.
+fn is_blank(row: &ByteRecord) -> bool
+    ensures { result ≡ spec.is_blank (fields_of row.now) }
+{
+    for place in 0..row.len() {
+        if !cell(row, place).is_empty() {
+            return false;
+        }
+    }
+    true
+}
+
+// Puts a row behind others, unless all its cells are empty.
+fn push_row(rows: &mut Vec<TableRow>, line: usize, mut cells: ByteRecord) -> Result<(), AllocError>
+    ensures { OnOk result (map spec.cells_of rows.new.items
+        ≡ map spec.cells_of rows.old.items ++ spec.used_of (map trimmed (fields_of cells))) }
+{
+    cells.trim()?;
+    if !is_blank(&cells) {
+        rows.push(TableRow { line, cells })?;
+    }
+    Ok(())
+}
+
+/// The rows of a text of which some cell is not empty.
+pub fn read_table(alloc: Global, text: &[u8]) -> Result<Vec<TableRow>, AllocError>
+    ensures { IfOk result (λ rows. spec.AreRowsOf text.now (map spec.cells_of rows.items)) }
+{
+    let reader = ReaderBuilder::new()
+        .has_headers(false)
+        .flexible(true)
+        .from_reader(alloc, text);
+    let mut lines = lines_of(text);
+    let mut rows = Vec::new(alloc);
+    for row in reader.into_byte_records() {
+        match row {
+            Ok(cells) => push_row(&mut rows, lines.next_line(), cells)?,
+            // Bytes in memory can always be read and no length of rows is asked for: what is left is want of memory.
+            Err(_) => return Err(AllocError),
+        }
+    }
+    Ok(rows)
+}

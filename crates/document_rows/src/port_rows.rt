@@ -1,0 +1,56 @@
+//! Rows of ports.
+
+ghost use Rattle.std.specs.Prelude.{◌≡◌};
+ghost use Rattle.csv.specs.Records.{fields_of};
+ghost use Rattle.document_rows.specs.PortRows as spec;
+ghost use Rattle.document_rows.specs.Reads.{Tells};
+
+use crate::cells::{rate_in, time_or_zero};
+use crate::disciplines::{GateRow, discipline_of, gate_of};
+use crate::fault::{Column, RowError, at};
+use crate::heads::{PortHead, cell};
+use csv::ByteRecord;
+use std::alloc::Global;
+use table_cells::{Amount, words_in};
+use tree_network::Discipline;
+
+/// What a row of ports says beside its name: the rate in Mbit/s, times in microseconds, exact.
+#[derive(Debug, Drop)]
+pub struct PortRow {
+    pub rate: Amount,
+    pub latency: Amount,
+    pub link: Amount,
+    pub discipline: Discipline,
+    pub gate: Option<GateRow>,
+}
+
+/// The cell of a column that may be missing.
+pub(crate) fn cell_or_empty(row: &ByteRecord, place: Option<usize>) -> &[u8]
+    ensures { result.now ≡ spec.cell_or_empty (fields_of row.now) place }
+{
+    match place {
+        Some(place) => cell(row, place),
+        None => b"",
+    }
+}
+
+/// What a row of ports says beside its name, or the first of its faults by columns.
+#[tactic(auto, unfolding(crate::specs::PortRows::port_row))]
+pub fn port_row(alloc: Global, head: &PortHead, row: &ByteRecord) -> Result<PortRow, RowError>
+    ensures { Tells spec.port_view result (spec.port_row head.now (fields_of row.now)) }
+{
+    let rate = at(Column::Rate, rate_in(cell(row, head.rate)))?;
+    let latency = at(Column::Latency, time_or_zero(cell(row, head.latency)))?;
+    let link = at(Column::Link, time_or_zero(cell(row, head.link)))?;
+    let words = words_in(alloc, cell(row, head.discipline))?;
+    let discipline = discipline_of(alloc, &words)?;
+    let words = words_in(alloc, cell_or_empty(row, head.gate))?;
+    let gate = at(Column::Gate, gate_of(&words))?;
+    Ok(PortRow {
+        rate,
+        latency,
+        link,
+        discipline,
+        gate,
+    })
+}

@@ -1,0 +1,5 @@
+use Rattle.table_cells.proofs.NameTexts.{name_is_text}
+use Rattle.table_cells.proofs.names.name_text.Goals as goal
+
+pub unreachable-requires : goal.unreachable-requires
+unreachable-requires c = c.in-Err.ensures.cases.0 (name_is_text c.args.name.now c.requires)
