@@ -1,2 +1,6 @@
 pub mod Queues
 pub mod Debts
+pub mod Left
+pub mod Brought
+pub mod Served
+pub mod Held

@@ -1,6 +1,6 @@
 //! What arrives at the queues of a port.
 
-ghost use Rattle.std.specs.Prelude.{◌≡◌, ◌*◌, ◌++◌, IfOk};
+ghost use Rattle.std.specs.Prelude.{◌≡◌, ◌*◌, ◌++◌, max, IfOk};
 ghost use Rattle.std.specs.Option.{option_map};
 ghost use Rattle.port_bounds.specs.Incoming.{incoming, joined_parts, longest_frame_of, longest_frames_of, AddsParts};
 ghost use Rattle.port_bounds.specs.Ranges.{AreInRange};
@@ -51,13 +51,20 @@ pub(crate) fn together(
     Ok(Some(all))
 }
 
+/// The greater one.
+fn greater(a: u64, b: u64) -> u64
+    ensures { result ≡ max a b }
+{
+    if a < b { b } else { a }
+}
+
 /// The longest frame of some queues, in bits.
 pub(crate) fn longest_of(queues: &[Arrivals]) -> u64
     ensures { result ≡ longest_frame_of (incoming queues.now) }
 {
     let mut longest = 0;
     for queue in queues {
-        longest = longest.max(queue.longest);
+        longest = greater(longest, queue.longest);
     }
     longest
 }

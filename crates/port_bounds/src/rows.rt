@@ -9,7 +9,7 @@ ghost use Rattle.tree_network.specs.Networks.{PortIsInRange, queues_of};
 
 use crate::arrivals::{Arrivals, GRAINS};
 use crate::services::services_of;
-use arrival_lines::{Queue, queue_of};
+use arrival_lines::{Queue, queue_of, steps};
 use std::alloc::{AllocError, Global};
 use tree_network::Port;
 
@@ -35,8 +35,9 @@ fn queue_row(
     let Some(parts) = &queues[q].parts else {
         return Ok(None);
     };
+    let lines = steps(alloc, parts)?;
     let services = services_of(alloc, port, queues, q)?;
-    queue_of(alloc, parts, &services, queues[q].longest * GRAINS)
+    Ok(queue_of(&lines, &services, queues[q].longest * GRAINS))
 }
 
 /// What is promised of each queue of the port; none where nothing bounds what arrives there, or no service bounds its delay.
