@@ -1,0 +1,96 @@
+//! The lines of links: at their first port, together, and behind a queue.
+
+ghost use Rattle.std.specs.Prelude.{◌≡◌, ◌+◌, ◌*◌, ◌^◌, ◌<◌, ◌≤◌, ◌⊎◌, MatchOption, IfSome};
+ghost use Rattle.std.specs.Int.{div_ceil};
+ghost use Rattle.arrival_lines.specs.Links.{IsAboveStair, IsTotal, IsLater};
+
+use crate::grid::{Line, SECOND, short, times};
+
+/// Bursts of so many grains are not told.
+const ENDLESS: u128 = 1 << 58;
+
+/// The line of these numbers; none where its rate does not fit 64 bits or its burst is 2^58 grains or more.
+fn line_of(burst: u128, rate: u128) -> Option<Line>
+    ensures { MatchOption result ((2 ^ 64 ≤ rate) ⊎ (2 ^ 58 ≤ burst)) (λ line. (line.rate ≡ rate) × (line.burst ≡ burst)) }
+{
+    let rate = short(rate)?;
+    if burst >= ENDLESS {
+        return None;
+    }
+    Some(Line {
+        burst: burst as u64,
+        rate,
+    })
+}
+
+/// The rate of packets of at most so many grains, one each so many picoseconds: in grains a second, rounded up.
+pub fn link_rate(packet: u64, period: u64) -> u128
+    requires { 0 < period }
+    ensures { result ≡ div_ceil (packet * 10 ^ 12) period }
+{
+    (packet as u128 * SECOND).div_ceil(period as u128)
+}
+
+/// The line of a link at its first port: of packets of at most so many grains, one each so many picoseconds, each up to the jitter
+/// early. None where its rate does not fit 64 bits (no port is as fast) or its burst is 2^58 grains or more.
+pub fn link_line(packet: u64, period: u64, jitter: u64) -> Option<Line>
+    requires { 0 < period }
+    ensures least { let rate = div_ceil (packet * 10 ^ 12) period in let burst = packet + div_ceil (rate * jitter) (10 ^ 12) in
+        MatchOption result ((2 ^ 64 ≤ rate) ⊎ (2 ^ 58 ≤ burst)) (λ line. (line.rate ≡ rate) × (line.burst ≡ burst)) }
+    ensures above { IfSome result (λ line. IsAboveStair packet period jitter line) }
+{
+    let rate = short(link_rate(packet, period))?;
+    let early = times(rate, jitter).div_ceil(SECOND);
+    line_of(packet as u128 + early, rate as u128)
+}
+
+/// The line of two together; none where its rate does not fit 64 bits or its burst is 2^58 grains or more.
+pub fn add(one: Line, other: Line) -> Option<Line>
+    ensures least { MatchOption result ((2 ^ 64 ≤ one.rate + other.rate) ⊎ (2 ^ 58 ≤ one.burst + other.burst))
+        (λ both. (both.rate ≡ one.rate + other.rate) × (both.burst ≡ one.burst + other.burst)) }
+    ensures total { IfSome result (λ both. IsTotal one other both) }
+{
+    line_of(
+        one.burst as u128 + other.burst as u128,
+        one.rate as u128 + other.rate as u128,
+    )
+}
+
+/// The line of what leaves a queue in which nothing stays longer than the delay, in picoseconds; none where its burst is 2^58 grains or
+/// more.
+pub fn onward(line: Line, delay: u64) -> Option<Line>
+    ensures least { MatchOption result (2 ^ 58 ≤ line.burst + div_ceil (line.rate * delay) (10 ^ 12))
+        (λ later. (later.rate ≡ line.rate) × (later.burst ≡ line.burst + div_ceil (line.rate * delay) (10 ^ 12))) }
+    ensures above { IfSome result (λ later. IsLater line delay later) }
+{
+    let late = times(line.rate, delay).div_ceil(SECOND);
+    line_of(line.burst as u128 + late, line.rate as u128)
+}
+
+/// The load of rates together at a service of a rate: in thousandths, rounded up; none where nothing is served.
+pub fn load(rates: u128, rate: u64) -> Option<u128>
+    requires { rates < 2 ^ 100 }
+    ensures { MatchOption result (rate ≡ 0) (λ load. load ≡ div_ceil (rates * 1000) rate) }
+{
+    if rate == 0 {
+        return None;
+    }
+    Some((rates * 1000).div_ceil(rate as u128))
+}
+
+#[cfg(test)]
+mod tests {
+    use super::*;
+
+    #[test]
+    fn a_link_at_its_first_port_and_behind_a_queue(rt: HostRuntime) {
+        // 1,000 grains each 3 picoseconds, rounded up; 2 picoseconds of jitter bring 666.7 grains, and 5 of delay 1,666.7
+        let line = Line {
+            burst: 1_667,
+            rate: 333_333_333_333_334,
+        };
+        assert_eq!(rt; link_line(1_000, 3, 2), Some(line));
+        assert_eq!(rt; onward(line, 5).map(|l| l.burst), Some(1_667 + 1_667));
+        assert_eq!(rt; load(2, 3), Some(667));
+    }
+}
