@@ -27,7 +27,7 @@ use Rattle.arrival_lines.specs.Queues.{IsLeastQueue}
 use Rattle.arrival_lines.specs.declared.grid.Part.{Part}
 use Rattle.arrival_lines.specs.declared.grid.Queue.{Queue}
 use Rattle.arrival_lines.specs.declared.grid.Service.{Service}
-use Rattle.arrival_lines.proofs.Promised.{served_in, holds_at_most}
+use Rattle.arrival_lines.proofs.Promised.{delay_serves, backlog_holds}
 use Rattle.arrival_lines.proofs.Units.{bits_whole, micros_nonneg}
 use Rattle.tree_network.specs.Networks.{PortIsInRange, queues_of}
 use Rattle.tree_network.specs.declared.network.Port.{Port}
@@ -81,7 +81,7 @@ delay_held port queues q queue parts services end V range count inside seen know
     let place = least.delay.place in
     let s = get_or services place e in
     let serves = service_serves port queues q end V s range seen count inside (all.each place e least.delay.inside) in
-    let within = served_in parts s queue.delay (least.delay.is e) in
+    let within = delay_serves parts s queue.delay (least.delay.is e) in
     delay_from_wait (server_of port) end V (of_queue q) q (λ t. Fin (parts_value parts t)) (value_of s) (micros queue.delay) seen.lawful (its_own q V)
     (seen.arrivals q parts known) serves (micros_nonneg queue.delay)
     (λ t wait on later. within.reached (λ u. Fin (parts_value parts u)) (value_of s) record { brought = λ u h. le_refl (parts_value parts u) } (itself s) t wait on (le_of_lt later))
@@ -99,7 +99,7 @@ backlog_held port queues q queue parts services end V range count inside seen kn
     let s = get_or services place e in
     let l = (queue_in queues q).longest in
     let serves = service_serves port queues q end V s range seen count inside (all.each place e least.backlog.inside) in
-    let holds = holds_at_most parts s (1024 * l) queue.backlog (least.backlog.is e) in
+    let holds = backlog_holds parts s (1024 * l) queue.backlog (least.backlog.is e) in
     backlog_from_gap (server_of port) end V (of_queue q) l (λ t. Fin (parts_value parts t)) (value_of s) (Fin (whole queue.backlog)) seen.lawful (seen.sizes q)
     (seen.arrivals q parts known) serves
     (λ t level on is. holds.within (λ u. Fin (parts_value parts u)) (value_of s) record { brought = λ u h. le_refl (parts_value parts u) } (itself s) t level on

@@ -132,7 +132,24 @@ all_left own parts lines frame steps small debt packet = record {
       container (left_of own frame) lines line service is (gives ∙ ap Some (sym left.is));
 }
 
+small_left : (own : Service) (parts : List Part) (lines : List Line) (frame : ℕ) → AreSteps parts lines → sum_by most_burst parts < 2 ^ 62
+    → own.debt < 2 ^ 61 → frame < 2 ^ 61 → All (λ (s : Service). s.debt < 2 ^ 63) (filter_map (left_of own frame) lines)
+small_left own parts lines frame steps small debt packet k d h =
+    let services = filter_map (left_of own frame) lines in
+    let from = contained (left_of own frame) lines (get_or services k d) (Contains-get_or services k d h) in
+    let left = is_left own frame from.0 (get_or services k d) from.2 in
+    let place = at_from_Contains lines from.0 from.1 in
+    let burst : from.0.burst ≤ sum_by most_burst parts = subst (λ (l : Line). l.burst ≤ sum_by most_burst parts) (place.2 from.0) (steps.small place.0 from.0 place.1) in
+    subst (λ (s : Service). s.debt < 2 ^ 63) (sym left.1) (omega (arith, burst, small, debt, packet))
+
 -- of the parts of queues
+pub left_small : (own : Service) (queues : List Incoming) (parts : List Part) (lines : List Line) (frame : ℕ) (services : List Service) → AreInRange queues
+    → joined_parts queues ≡ Some parts → AreSteps parts lines → own.debt < 2 ^ 61 → frame < 2 ^ 61 → services ≡ filter_map (left_of own frame) lines
+    → All (λ (s : Service). s.debt < 2 ^ 63) services
+left_small own queues parts lines frame services range known steps debt packet is =
+    let small = joined_sum most_burst queues parts known in
+    subst (λ (xs : List Service). All (λ (s : Service). s.debt < 2 ^ 63) xs) (sym is) (small_left own parts lines frame steps (omega (arith, small, range.bursts)) debt packet)
+
 pub left_all : (own : Service) (queues : List Incoming) (parts : List Part) (lines : List Line) (frame : ℕ) (services : List Service) → AreInRange queues
     → joined_parts queues ≡ Some parts → AreSteps parts lines → own.debt < 2 ^ 61 → frame < 2 ^ 61 → services ≡ filter_map (left_of own frame) lines
     → AreAll (IsLeft own (joined_parts queues) frame) services

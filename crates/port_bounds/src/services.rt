@@ -56,7 +56,8 @@ fn left_by(
     requires range { AreInRange (incoming before.now ++ incoming behind.now) }
     requires debt { own.debt < 2 ^ 61 }
     requires frame { frame < 2 ^ 61 }
-    ensures { IfOk result (λ v. AreAll (IsLeft own (joined_parts (incoming before.now ++ incoming behind.now)) frame) v.items) }
+    ensures all { IfOk result (λ v. AreAll (IsLeft own (joined_parts (incoming before.now ++ incoming behind.now)) frame) v.items) }
+    ensures small { IfOk result (λ v. All (λ s. s.debt < 2 ^ 63) v.items) }
 {
     match together(alloc, before, behind)? {
         None => Ok(Vec::new(alloc)),
@@ -90,7 +91,8 @@ fn share_of(own: Service, quantum: u64, quanta: u64, longest: u64, frames: u64) 
     requires quanta { quanta ≤ 2 ^ 27 }
     requires longest { longest ≤ frames }
     requires frames { frames ≤ 2 ^ 27 }
-    ensures { result ≡ round_robin_share own quantum quanta longest frames }
+    ensures share { result ≡ round_robin_share own quantum quanta longest frames }
+    ensures small { result.debt < 2 ^ 63 }
 {
     let others = times(quantum, frames - longest);
     let visits = times(quanta - quantum, quantum + longest);
@@ -112,24 +114,23 @@ pub(crate) fn services_of(
     requires count { length queues.now ≡ queues_of port.now.discipline }
     requires range { AreInRange (incoming queues.now) }
     requires inside { q < length queues.now }
-    ensures { IfOk result (λ v. AreAll (IsServiceOf port.now (incoming queues.now) q) v.items) }
+    ensures all { IfOk result (λ v. AreAll (IsServiceOf port.now (incoming queues.now) q) v.items) }
+    ensures small { IfOk result (λ v. All (λ s. s.debt < 2 ^ 63) v.items) }
 {
     let own = own_service(port);
     let (before, behind) = (&queues[..q], &queues[q + 1..]);
     match &port.discipline {
         Discipline::Fifo => Ok(vec![in alloc; own]?),
         Discipline::Priority(_) => {
-            left_by(alloc, own, before, &[], longest_of(behind) * GRAINS)
+            let frame = longest_of(behind) * GRAINS;
+            left_by(alloc, own, before, &[], frame)
         }
         Discipline::Drr(quanta) => {
             let mut services = left_by(alloc, own, before, behind, 0)?;
-            services.push(share_of(
-                own,
-                quanta[q],
-                sum_of(quanta),
-                queues[q].longest,
-                longest_together(queues),
-            ))?;
+            let all = sum_of(quanta);
+            let frames = longest_together(queues);
+            let share = share_of(own, quanta[q], all, queues[q].longest, frames);
+            services.push(share)?;
             Ok(services)
         }
     }

@@ -3,6 +3,7 @@
 use crate::cycle::cycle_of;
 use crate::fault::Fault;
 use crate::incoming::arrivals_at;
+use crate::loads::loads_at;
 use crate::onward::{bounds_of, first_lines, pass_on};
 use crate::visits::{Visit, by_port, by_source, source_of};
 use port_bounds::arrival_lines::Queue;
@@ -15,6 +16,8 @@ use std::alloc::{AllocError, Global};
 pub struct Table {
     /// Of each queue, by port.
     pub rows: Vec<Vec<Option<Queue>>>,
+    /// The load of each queue, by port, in thousandths: the rates of its links over the port's.
+    pub loads: Vec<Vec<Option<u128>>>,
     /// Of each node, by link: how long a frame takes at most from its entry to the end of the link behind the node's port, in
     /// picoseconds.
     pub bounds: Vec<Vec<Option<u128>>>,
@@ -110,6 +113,32 @@ fn rows_in_order(
     Ok(rows)
 }
 
+/// The loads of each port.
+fn loads_of(
+    alloc: Global,
+    network: &Network,
+    ports: &[Vec<Visit>],
+) -> Result<Vec<Vec<Option<u128>>>, AllocError> {
+    let mut loads = Vec::with_capacity(alloc, ports.len())?;
+    for port in 0..ports.len() {
+        loads.push(loads_at(alloc, network, port, &ports[port])?)?;
+    }
+    Ok(loads)
+}
+
+/// The bounds of each link.
+fn all_bounds(
+    alloc: Global,
+    network: &Network,
+    rows: &[Vec<Option<Queue>>],
+) -> Result<Vec<Vec<Option<u128>>>, AllocError> {
+    let mut bounds = Vec::with_capacity(alloc, network.links.len())?;
+    for link in &network.links {
+        bounds.push(bounds_of(alloc, network, rows, link)?)?;
+    }
+    Ok(bounds)
+}
+
 /// The table of a network: each queue's delay and backlog, and each branch's bound, by the equations. A ring of ports where it has one.
 /// In proportion to the links times the ports that they pass, and a logarithm.
 pub fn analyse(alloc: Global, network: &Network) -> Result<Table, Fault> {
@@ -117,9 +146,11 @@ pub fn analyse(alloc: Global, network: &Network) -> Result<Table, Fault> {
     let ports = by_port(alloc, network, &sources)?;
     let order = order(alloc, network, &sources, &ports)?;
     let rows = rows_in_order(alloc, network, &sources, &ports, &order)?;
-    let mut bounds = Vec::with_capacity(alloc, network.links.len())?;
-    for link in &network.links {
-        bounds.push(bounds_of(alloc, network, &rows, link)?)?;
-    }
-    Ok(Table { rows, bounds })
+    let loads = loads_of(alloc, network, &ports)?;
+    let bounds = all_bounds(alloc, network, &rows)?;
+    Ok(Table {
+        rows,
+        loads,
+        bounds,
+    })
 }

@@ -5,6 +5,7 @@ mod analysis;
 mod cycle;
 mod fault;
 mod incoming;
+mod loads;
 mod onward;
 mod sums;
 mod visits;
@@ -12,3 +13,6 @@ mod visits;
 pub use analysis::{Table, analyse};
 pub use fault::Fault;
 pub use port_bounds;
+
+#[cfg(test)]
+mod tests;

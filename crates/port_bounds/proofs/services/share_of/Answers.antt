@@ -2,9 +2,6 @@ use Rattle.std.proofs.Common.{◌≡◌, ◌+◌, ◌-◌, ◌*◌, arith}
 use Rattle.port_bounds.proofs.Debts.{share_fits}
 use Rattle.port_bounds.proofs.services.share_of.Goals as goal
 
-pub share_service-requires-clause-stub : goal.share_service-requires-clause-stub
-share_service-requires-clause-stub c = ?
-
 pub unreachable-requires : goal.unreachable-requires
 unreachable-requires c =
     let r = c.requires in
