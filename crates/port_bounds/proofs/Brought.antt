@@ -40,7 +40,7 @@ unfolding parts_value
 no_parts t = refl
 
 -- ---- both lists of a join
-list_of : Option (List Part) → List Part
+abbrev list_of : Option (List Part) → List Part
 list_of None = []
 list_of (Some parts) = parts
 
@@ -52,7 +52,6 @@ record AreJoined (a b : Option (List Part)) (parts : List Part) : Type 0 where
   is : parts ≡ first ++ second
 
 are_joined : (a b : Option (List Part)) (parts : List Part) → both a b ≡ Some parts → AreJoined a b parts
-unfolding list_of
 are_joined None b parts h = absurd (grind (arith, h))
 are_joined (Some a) None parts h = absurd (grind (arith, h))
 are_joined (Some a) (Some b) parts h = record { first = a; second = b; is_first = refl; is_second = refl; is = sym (ap list_of h) }
@@ -101,10 +100,19 @@ between_parts k n some = record { of_one = λ c. one c.queue; apart = λ c. two 
     ]
 
 none_between : (k n : ℕ) → n ≤ k → (c : Card) → between k n c ≡ false
-none_between k n h c = elim (cases_Bool (leb k c.queue)) [
-  | inl e ↦ let f = leb-true k c.queue e in rw (e, le-ltb c.queue n (omega (arith, f, h))) refl
-  | inr e ↦ rw e refl
-]
+none_between k n h c = none c.queue
+  where
+    none : (q : ℕ) → (leb k q && ltb q n) ≡ false
+    none q = elim (cases_Bool (leb k q)) [
+      | inl e ↦ let f = leb-true k q e in rw (e, le-ltb q n (omega (arith, f, h))) refl
+      | inr e ↦ rw e refl
+    ]
+
+at_most_none : (a b : ℚ) → a ≡ int (pos 0) → int (pos 0) ≡ b → a ≤ℚ b
+at_most_none a b h k = rw (h, sym k) (le_refl (int (pos 0)))
+
+from_first : (q p : ℕ) → (leb 0 p && ltb p q) ≡ ltb p q
+from_first q p = rw (le-leb 0 p (omega arith)) refl
 
 -- each queue keeps its parts
 abbrev Keep : List Incoming → ℕ → List ServerStep → Type 0
@@ -113,11 +121,11 @@ Keep queues k V = (j i : ℕ) (parts : List Part) → i ≡ k + j → j < length
 
 queues_bring : (queues : List Incoming) (k n : ℕ) (V : List ServerStep) (parts : List Part) → n ≡ k + length queues → Keep queues k V
     → joined_parts queues ≡ Some parts → KeepsArrivals (between k n) (λ t. Fin (parts_value parts t)) V
-queues_bring [] k n V parts is keeps h s t l =
+queues_bring [] k n V parts is keeps h = λ s t l.
     let none = none_arrive (between k n) (within s t) V (arrivals_all (λ c. between k n c ≡ false) (none_between k n (omega (arith, is))) V) in
     let empty : [] ≡ parts = ap list_of (sym parts_none ∙ h) in
     let value = sym (no_parts (t -ℚ s)) ∙ ap (λ xs. parts_value xs (t -ℚ s)) empty in
-    rw (none, sym value) (le_refl (int (pos 0)))
+    at_most_none (arrived_in (between k n) V s t) (parts_value parts (t -ℚ s)) none value
 queues_bring (x ∷ xs) k n V parts is keeps h =
     let two = are_joined x.parts (joined_parts xs) parts (sym (parts_cons x xs) ∙ h) in
     let first = keeps 0 k two.first (omega arith) (omega arith) two.is_first in
@@ -147,7 +155,7 @@ pub above_bring : (queues : List Incoming) (q : ℕ) (V : List ServerStep) (part
     → joined_parts (before q queues) ≡ Some parts → KeepsArrivals (before_queue q) (λ t. Fin (parts_value parts t)) V
 above_bring queues q V parts keeps h known =
     let count : q ≡ 0 + length (before q queues) = omega (arith, length-take q queues, h) in
-    keeps_on (between 0 q) (before_queue q) (parts_value parts) V (arrivals_all (λ c. between 0 q c ≡ before_queue q c) (λ c. rw (le-leb 0 c.queue (omega arith)) refl) V)
+    keeps_on (between 0 q) (before_queue q) (parts_value parts) V (arrivals_all (λ c. between 0 q c ≡ before_queue q c) (λ c. from_first q c.queue) V)
     (queues_bring (before q queues) 0 q V parts count (before_keep queues q V keeps h) known)
 
 -- ---- all other queues

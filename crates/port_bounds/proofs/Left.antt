@@ -91,8 +91,8 @@ more_from : {X Y : Type 0} (h : X → Option Y) (x : X) (xs : List X) (y : Y) �
 more_from h x xs y (z, is, gives) = (z, Contains-append_right (x ∷ []) xs z is, gives)
 
 contained : {X Y : Type 0} (h : X → Option Y) (xs : List X) (y : Y) → Contains (filter_map h xs) y → From h xs y
-contained h [] y is = absurd (omega (arith, is.1))
-contained h (x ∷ xs) y is = by_head (h x) refl is
+contained {Y = Y} h [] y is = absurd (omega (arith, is.1))
+contained {Y = Y} h (x ∷ xs) y is = by_head (h x) refl is
   where
     by_head : (o : Option Y) → h x ≡ o → Contains (cons_option o (filter_map h xs)) y → From h (x ∷ xs) y
     by_head None gives is = more_from h x xs y (contained h xs y is)
@@ -102,8 +102,8 @@ contained h (x ∷ xs) y is = by_head (h x) refl is
     ]
 
 container : {X Y : Type 0} (h : X → Option Y) (xs : List X) (x : X) (y : Y) → Contains xs x → h x ≡ Some y → Contains (filter_map h xs) y
-container h [] x y is gives = absurd (omega (arith, is.1))
-container h (z ∷ zs) x y is gives = elim (Contains-append_cases (z ∷ []) zs x is) [
+container {Y = Y} h [] x y is gives = absurd (omega (arith, is.1))
+container {Y = Y} h (z ∷ zs) x y is gives = elim (Contains-append_cases (z ∷ []) zs x is) [
   | inl one ↦
       let same = ap h (only_one z x one) ∙ gives in
       subst (λ o. Contains (cons_option o (filter_map h zs)) y) (sym same) (Contains-append_left (y ∷ []) (filter_map h zs) y (Contains-push [] y))

@@ -219,14 +219,14 @@ share_serves port queues q end V quanta s range seen drr count inside some is =
     own_itself : (s : Service) (u : ℚ) → value_of s u ≤ₑ value_of s u
     own_itself s u = le_refl (service_value s u)
 
-    each_size : (queues : List Incoming) (V : List ServerStep) → ((j : ℕ) → KeepsSizes (of_queue j) (queue_in queues j).longest V) → (j : ℕ)
-        → KeepsSizes (of_queue j) (get_or (map (λ (w : Incoming). w.longest) queues) j 0) V
-    each_size queues V sizes j = subst (λ (b : ℕ). KeepsSizes (of_queue j) b V) (sym (at_each queues j)) (sizes j)
-
     at_each : (queues : List Incoming) (j : ℕ) → get_or (map (λ (w : Incoming). w.longest) queues) j 0 ≡ (queue_in queues j).longest
     at_each [] j = refl
     at_each (w ∷ ws) zero = refl
     at_each (w ∷ ws) (suc j) = at_each ws j
+
+    each_size : (queues : List Incoming) (V : List ServerStep) → ((j : ℕ) → KeepsSizes (of_queue j) (queue_in queues j).longest V) → (j : ℕ)
+        → KeepsSizes (of_queue j) (get_or (map (λ (w : Incoming). w.longest) queues) j 0) V
+    each_size queues V sizes j = subst (λ (b : ℕ). KeepsSizes (of_queue j) b V) (sym (at_each queues j)) (sizes j)
 
 -- ---- sizes behind a queue
 all_each : (P : ℕ → Card → Type 0) (V : List ServerStep) → ((j : ℕ) → EachArrival (P j) V) → EachArrival (λ c. (j : ℕ) → P j c) V

@@ -63,7 +63,8 @@ fn left_by(
         None => Ok(Vec::new(alloc)),
         Some(parts) => {
             let lines = steps(alloc, &parts)?;
-            left_services(alloc, own, &lines, frame)
+            let services = left_services(alloc, own, &lines, frame)?;
+            Ok(services)
         }
     }
 }
@@ -123,7 +124,8 @@ pub(crate) fn services_of(
         Discipline::Fifo => Ok(vec![in alloc; own]?),
         Discipline::Priority(_) => {
             let frame = longest_of(behind) * GRAINS;
-            left_by(alloc, own, before, &[], frame)
+            let services = left_by(alloc, own, before, &[], frame)?;
+            Ok(services)
         }
         Discipline::Drr(quanta) => {
             let mut services = left_by(alloc, own, before, behind, 0)?;

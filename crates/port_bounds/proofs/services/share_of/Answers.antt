@@ -8,3 +8,6 @@ unreachable-requires c =
     let is : (c.times-others.result + c.times-visits.result) * 1024 ≡ 1024 * (c.args.quantum * (c.args.frames - c.args.longest) + (c.args.quanta - c.args.quantum) * (c.args.quantum + c.args.longest))
         = omega (arith, c.times-others.ensures, c.times-visits.ensures) in
     share_fits c.args.own c.args.quantum c.args.quanta c.args.longest c.args.frames _ r.rate r.debt r.quantum r.frames r.quanta r.longest is c.in-None.ensures.most
+
+pub returns-in-Some : goal.returns-in-Some
+returns-in-Some c = ?
