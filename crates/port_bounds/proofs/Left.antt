@@ -92,13 +92,13 @@ more_from h x xs y (z, is, gives) = (z, Contains-append_right (x ∷ []) xs z is
 
 contained : {X Y : Type 0} (h : X → Option Y) (xs : List X) (y : Y) → Contains (filter_map h xs) y → From h xs y
 contained {Y = Y} h [] y is = absurd (omega (arith, is.1))
-contained {Y = Y} h (x ∷ xs) y is = by_head (h x) refl is
+contained {Y = Y} h (x ∷ xs) y is = by_head (h x) refl (contained h xs y) is
   where
-    by_head : (o : Option Y) → h x ≡ o → Contains (cons_option o (filter_map h xs)) y → From h (x ∷ xs) y
-    by_head None gives is = more_from h x xs y (contained h xs y is)
-    by_head (Some z) gives is = elim (Contains-append_cases (z ∷ []) (filter_map h xs) y is) [
+    by_head : (o : Option Y) → h x ≡ o → (Contains (filter_map h xs) y → From h xs y) → Contains (cons_option o (filter_map h xs)) y → From h (x ∷ xs) y
+    by_head None gives rest is = more_from h x xs y (rest is)
+    by_head (Some z) gives rest is = elim (Contains-append_cases (z ∷ []) (filter_map h xs) y is) [
       | inl one ↦ (x, Contains-append_left (x ∷ []) xs x (Contains-push [] x), gives ∙ ap Some (only_one z y one))
-      | inr rest ↦ more_from h x xs y (contained h xs y rest)
+      | inr later ↦ more_from h x xs y (rest later)
     ]
 
 container : {X Y : Type 0} (h : X → Option Y) (xs : List X) (x : X) (y : Y) → Contains xs x → h x ≡ Some y → Contains (filter_map h xs) y

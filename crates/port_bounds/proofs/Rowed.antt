@@ -80,3 +80,7 @@ row_known port queues q parts row some known least =
     by_length : (l : ℕ) → 0 < l → IsRowBy port queues q l (Some parts) row
     by_length zero h = absurd (omega (arith, h))
     by_length (suc l) h = least
+
+-- ---- the share of the same numbers
+pub same_share : (own : Service) (Q q F f l k Λ m : ℕ) → Q ≡ q → F ≡ f → l ≡ k → Λ ≡ m → round_robin_share own Q F l Λ ≡ round_robin_share own q f k m
+same_share own Q q F f l k Λ m a b c d = rw (a, b, c, d) refl
