@@ -1,5 +1,5 @@
 -- Some of the queues of a port: those before one and behind it.
-use Rattle.std.proofs.Common.{◌≡◌, ◌<◌, ◌≤◌, ◌+◌, ◌-◌, ◌*◌, ◌^◌, ◌++◌, ◌∷◌, [], ℕ, suc, List, length, get_or, take, drop, arith, refl, ap, sym, ◌∙◌, add-one, drop-cons, length-append, length-drop, All, Option, Some, None, sum}
+use Rattle.std.proofs.Common.{◌≡◌, ◌<◌, ◌≤◌, ◌+◌, ◌-◌, ◌*◌, ◌^◌, ◌++◌, ◌∷◌, [], ℕ, suc, List, length, get_or, take, drop, arith, refl, ap, sym, subst, ◌∙◌, add-one, drop-cons, length-append, length-drop, All, Option, Some, None, sum}
 use Rattle.std.specs.List.{sum_by}
 use Rattle.std.proofs.lemmas.List.{length-take, length-map, take-map, drop-map, take_all, append-nil, get_or-map}
 use Rattle.std.proofs.lemmas.List.Elements.{All-append, All-take, All-drop, All-nil}
@@ -66,7 +66,7 @@ above_in_range queues xs ys q is none range = subst AreInRange (sym (same_above 
 pub others_in_range : (queues xs ys : List Arrivals) (q : ℕ) → xs ≡ take q queues → ys ≡ drop (q + 1) queues → q < length queues → AreInRange (incoming queues)
     → AreInRange (incoming xs ++ incoming ys)
 others_in_range queues xs ys q first last h range =
-    let inside : q < length (incoming queues) = omega (arith, h, length-map incoming_of queues) in
+    let inside : q < length (incoming queues) = omega (arith, h, length-map queues incoming_of) in
     subst AreInRange (sym (same_others queues xs ys q first last)) (others_range (incoming queues) q inside range)
 
 -- ---- numbers that fit
@@ -95,7 +95,7 @@ at_queue queues q e h = get_or-map incoming_of queues q e record { parts = None;
 
 pub longest_among : (queues : List Arrivals) (q : ℕ) (e : Arrivals) → q < length queues → (get_or queues q e).longest ≤ longest_frames_of (incoming queues)
 longest_among queues q e h =
-    let inside : q < length (incoming queues) = omega (arith, h, length-map incoming_of queues) in
+    let inside : q < length (incoming queues) = omega (arith, h, length-map queues incoming_of) in
     let le = get_or-le-sum_by (λ (w : Incoming). w.longest) (incoming queues) q record { parts = None; longest = 0 } inside in
     let at = ap (λ (w : Incoming). w.longest) (at_queue queues q e h) in
     omega (arith, le, at)
@@ -112,6 +112,6 @@ part_fits queues q parts range h known =
 pub at_most_frame : (queues : List Arrivals) (q : ℕ) (e : Arrivals) → q < length queues → AreInRange (incoming queues) → (get_or queues q e).longest ≤ 2 ^ 24
 unfolding longest_frame
 at_most_frame queues q e h range =
-    let most = range.longest q record { parts = None; longest = 0 } (omega (arith, h, length-map incoming_of queues)) in
+    let most = range.longest q record { parts = None; longest = 0 } (omega (arith, h, length-map queues incoming_of)) in
     let at = ap (λ (w : Incoming). w.longest) (at_queue queues q e h) in
     omega (arith, most, at)

@@ -17,7 +17,7 @@ steps-requires c =
     let queues = c.args.queues.now in
     let q = c.args.q in
     let known = ap (λ (w : Incoming). w.parts) (at_queue queues q c.index-queues-q-2.result c.requires.inside) ∙ ap (option_map (λ v. v.items)) c.in-Some.is in
-    let inside : q < length (incoming queues) = omega (arith, c.requires.inside, length-map incoming_of queues) in
+    let inside : q < length (incoming queues) = omega (arith, c.requires.inside, length-map queues incoming_of) in
     rw c.deref.ensures.value (part_fits (incoming queues) q c.in-Some.parts.items c.requires.range inside known)
 
 pub overflow_mul-queues : goal.overflow_mul-queues
