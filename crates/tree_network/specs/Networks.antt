@@ -17,9 +17,9 @@ longest_time = 10 ^ 15
 unfoldable pub fastest : ℕ
 fastest = 1024 * 10 ^ 12
 
--- no frame and no quantum is above 2 MiB, in grains
+-- no frame and no quantum is above 2 MiB, in bits
 unfoldable pub longest_frame : ℕ
-longest_frame = 2 ^ 34
+longest_frame = 2 ^ 24
 
 -- ---- ports
 abbrev pub queues_of : Discipline → ℕ
@@ -34,7 +34,7 @@ GateIsInRange (Some gate) = (1 ≤ gate.slot) × (gate.slot ≤ gate.cycle) × (
 abbrev pub QuantaAreInRange : Discipline → Type 0
 QuantaAreInRange Fifo = Unit {0}
 QuantaAreInRange (Priority n) = Unit {0}
-QuantaAreInRange (Drr quanta) = All (λ q. q ≤ longest_frame) quanta.items
+QuantaAreInRange (Drr quanta) = All (λ q. (1 ≤ q) × (q ≤ longest_frame)) quanta.items
 
 pub record PortIsInRange (port : Port) : Type 0 where
   pub some_rate : 1 ≤ port.rate
@@ -60,7 +60,7 @@ abbrev pub HangsBefore : ℕ → Option ℕ → Type 0
 HangsBefore place None = place ≡ 0
 HangsBefore place (Some from) = from < place
 
--- a frame of so many grains fits the quantum of its queue
+-- a frame of so many bits fits the quantum of its queue
 abbrev pub FitsQuantum : Discipline → ℕ → ℕ → Type 0
 FitsQuantum Fifo queue frame = Unit {0}
 FitsQuantum (Priority n) queue frame = Unit {0}

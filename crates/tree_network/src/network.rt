@@ -16,7 +16,7 @@ pub enum Discipline {
     Fifo,
     /// The first of the first queue that has one, of so many queues.
     Priority(usize),
-    /// Deficit round robin: each queue's quantum, in grains.
+    /// Deficit round robin: each queue's quantum, in bits.
     Drr(Vec<u64>),
 }
 
@@ -50,7 +50,7 @@ pub struct Node {
 /// A multicast link: frames that go over a tree of ports.
 #[derive(Debug, Drop)]
 pub struct Link {
-    /// The longest frame with what goes with it on the wire, in grains.
+    /// The longest frame with what goes with it on the wire, in bits.
     pub frame: u64,
     /// The least time from one frame to the next, in picoseconds, rounded down.
     pub gap: u64,
