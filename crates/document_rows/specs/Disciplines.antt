@@ -36,9 +36,9 @@ queues_in words =
     if not (length words == 1) then Err NoDiscipline
     else ok_or (option_map Priority (whole_of 1 most_queues (slice_index_or words 0 []))) NoDiscipline
 
--- a quantum: 1 to 2^21 bytes, of 8192 grains each
+-- a quantum: 1 to 2^21 bytes, of 8 bits each
 abbrev pub quantum_in : List ℕ → Option ℕ
-quantum_in word = option_map (λ bytes. bytes * 8192) (whole_of 1 2097152 word)
+quantum_in word = option_map (λ bytes. bytes * 8) (whole_of 1 2097152 word)
 
 -- those of words behind those before them, where each word is one
 unfoldable pub quanta_from : List ℕ → List (List ℕ) → Option (List ℕ)

@@ -45,6 +45,6 @@ link_row head row =
     and_then (at column.Deadline (deadline_in (cell_or_empty row head.deadline))) (λ deadline.
     Ok (record { gap = gap; largest_frame = frame; jitter = jitter; priority = priority; path = path; deadline = deadline })))))))
 
--- a frame with what goes with it on the wire, in grains of 1/1024 bit
+-- a frame with what goes with it on the wire, in bits
 abbrev pub frame_on_wire : (bytes overhead : ℕ) → ℕ
-frame_on_wire bytes overhead = (bytes + overhead) * 8192
+frame_on_wire bytes overhead = (bytes + overhead) * 8

@@ -17,7 +17,7 @@ const MOST_QUEUES: u64 = 8;
 
 const LONGEST_QUANTUM: u64 = 2_097_152;
 
-const GRAINS_IN_A_BYTE: u64 = 8_192;
+const BITS_IN_A_BYTE: u64 = 8;
 
 /// When a port may send: for the slot at the end of each cycle, in microseconds.
 #[derive(Debug, Clone, Copy)]
@@ -42,10 +42,10 @@ fn quantum_in(word: &[u8]) -> Option<u64>
     ensures { result ≡ spec.quantum_in word.now }
 {
     let bytes = whole_of(1, LONGEST_QUANTUM, word)?;
-    Some(bytes * GRAINS_IN_A_BYTE)
+    Some(bytes * BITS_IN_A_BYTE)
 }
 
-// The quanta of words, in grains.
+// The quanta of words, in bits.
 fn quanta_of(alloc: Global, words: &[&[u8]]) -> Result<Option<Vec<u64>>, AllocError>
     ensures { Finds (λ v. v.items) result (spec.quanta_of (map (λ word. word.now) words.now)) }
 {

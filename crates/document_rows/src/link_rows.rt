@@ -19,7 +19,7 @@ const LAST_PRIORITY: u64 = 7;
 
 const LONGEST_PATH: usize = 64;
 
-const GRAINS_IN_A_BYTE: u64 = 8_192;
+const BITS_IN_A_BYTE: u64 = 8;
 
 /// What a row of links says beside its name: the gap in milliseconds, the largest frame in bytes, the jitter in
 /// microseconds, the priority, the words of its path, the deadline in microseconds.
@@ -33,12 +33,12 @@ pub struct LinkRow<'a> {
     pub deadline: Option<Amount>,
 }
 
-/// A frame of so many bytes with those that go with it on the wire, in grains.
+/// A frame of so many bytes with those that go with it on the wire, in bits.
 pub fn frame_on_wire(bytes: u64, overhead: u64) -> u64
     requires { (bytes ≤ 1048576) × (overhead ≤ 1048576) }
     ensures { result ≡ spec.frame_on_wire bytes overhead }
 {
-    (bytes + overhead) * GRAINS_IN_A_BYTE
+    (bytes + overhead) * BITS_IN_A_BYTE
 }
 
 fn priority_in(cell: &[u8]) -> Result<u64, Wrong>
