@@ -1,6 +1,6 @@
 -- The least delay and the least backlog over the services so far, and that each is one number.
 use Rattle.std.specs.Prelude.{◌≡◌, ℕ, suc, ◌+◌, ◌*◌, ◌^◌, ◌<◌, ◌≤◌, min, List, length, get_or, Option, Some, None, MatchOption}
-use Rattle.std.proofs.Common.{arith, sym, ap, ◌∙◌, refl, subst, inl, inr}
+use Rattle.std.proofs.Common.{arith, sym, ap, ap₂, ◌∙◌, refl, subst, inl, inr}
 use Rattle.std.specs.Int.{div_ceil}
 use Rattle.std.proofs.lemmas.Bool.{cases_lt}
 use Rattle.std.proofs.lemmas.List.{get_or_default}
@@ -13,7 +13,7 @@ use Rattle.arrival_lines.specs.Grid.{grain, bits, speed, parts_value}
 use Rattle.arrival_lines.specs.Excess.{IsExcess, IsEndless}
 use Rattle.arrival_lines.specs.Delays.{IsDelayAt, IsNever}
 use Rattle.arrival_lines.specs.Backlogs.{passed_value, IsBacklogAt}
-use Rattle.arrival_lines.specs.Queues.{IsLeastDelay, IsLeastBacklog, AreNever, IsLeastQueue, IsUnbounded, IsKept, lesser_stay}
+use Rattle.arrival_lines.specs.Queues.{IsLeastDelay, IsLeastBacklog, AreNever, IsLeastQueue, IsUnbounded, IsKept, BoundsAreOne, lesser_stay}
 use Rattle.arrival_lines.specs.declared.grid.Part.{Part}
 use Rattle.arrival_lines.specs.declared.grid.Queue.{Queue}
 use Rattle.arrival_lines.specs.declared.grid.Service.{Service}
@@ -239,3 +239,18 @@ queue_kept parts services longest queue is = record {
   low_inside = is.backlog.inside;
   backlog = λ e. backlog_holds parts (get_or services is.backlog.place e) longest queue.backlog (is.backlog.is e);
 }
+
+pub bounds_are_one : BoundsAreOne
+bounds_are_one parts services longest one other a b =
+    let d : one.delay ≡ other.delay =
+    let h = b.delay.least a.delay.place none one.delay a.delay.inside (a.delay.is none) in
+    let k = a.delay.least b.delay.place none other.delay b.delay.inside (b.delay.is none) in
+    omega (arith, h, k) in
+    let l : one.backlog ≡ other.backlog =
+    let h = b.backlog.least a.backlog.place none a.backlog.delay one.backlog a.backlog.inside (a.backlog.served none) (a.backlog.is none) in
+    let k = a.backlog.least b.backlog.place none b.backlog.delay other.backlog b.backlog.inside (b.backlog.served none) (b.backlog.is none) in
+    omega (arith, h, k) in
+    ap₂ (λ (x y : ℕ). let q : Queue = record { delay = x; backlog = y } in q) d l
+  where
+    none : Service
+    none = record { rate = 0; debt = 0 }
