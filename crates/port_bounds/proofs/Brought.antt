@@ -206,7 +206,7 @@ others_bring server end queues q V parts lawful count keeps h known =
     let second = queues_bring (behind q queues) (suc q) n V two.second (omega (arith, length-drop (suc q) queues, h)) (behind_keep queues q V keeps) two.is_second in
     let sum = two_keep (around q n) (between 0 q) (between (suc q) n) (parts_value two.first) (parts_value two.second) V (around_parts q n) first second in
     let all = keeps_equal (around q n) (λ t. parts_value two.first t +ℚ parts_value two.second t) (parts_value parts) V
-        (λ t. sym (parts_sum two.first two.second t) ∙ ap (λ ps. parts_value ps t) (sym two.is)) sum in
+    (λ t. sym (parts_sum two.first two.second t) ∙ ap (λ ps. parts_value ps t) (sym two.is)) sum in
     let same = arrivals_map (MayArrive server.discipline) (λ c. around q n c ≡ others (of_queue q) c)
-        (λ c may. around_others q n c.queue (let k = may.known_queue in omega (arith, k, count))) V (arrive_known server end V lawful) in
+    (λ c may. around_others q n c.queue (let k = may.known_queue in omega (arith, k, count))) V (arrive_known server end V lawful) in
     keeps_on (around q n) (others (of_queue q)) (parts_value parts) V same all

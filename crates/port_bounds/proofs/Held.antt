@@ -60,7 +60,7 @@ no_packet port queues q end V seen empty =
     arrivals_map (λ c. MayArrive (server_of port).discipline c × (of_queue q c ≡ true → c.bits ≤ (queue_in queues q).longest)) (λ c. of_queue q c ≡ false)
     (λ c both. none c both.0.some_bits both.1) V
     (arrivals_both (MayArrive (server_of port).discipline) (λ c. of_queue q c ≡ true → c.bits ≤ (queue_in queues q).longest) V
-      (arrive_known (server_of port) end V seen.lawful) (seen.sizes q))
+    (arrive_known (server_of port) end V seen.lawful) (seen.sizes q))
   where
     none : (c : Card) → 1 ≤ c.bits → (of_queue q c ≡ true → c.bits ≤ (queue_in queues q).longest) → of_queue q c ≡ false
     none c some small = elim (cases_Bool (of_queue q c)) [
@@ -103,7 +103,7 @@ backlog_held port queues q queue parts services end V range count inside seen kn
     backlog_from_gap (server_of port) end V (of_queue q) l (λ t. Fin (parts_value parts t)) (value_of s) (Fin (whole queue.backlog)) seen.lawful (seen.sizes q)
     (seen.arrivals q parts known) serves
     (λ t level on is. holds.within (λ u. Fin (parts_value parts u)) (value_of s) record { brought = λ u h. le_refl (parts_value parts u) } (itself s) t level on
-      (ap (λ (x : ℚ). packetised (value_of s) x t) (bits_whole l) ∙ is))
+    (ap (λ (x : ℚ). packetised (value_of s) x t) (bits_whole l) ∙ is))
   where
     itself : (s : Service) → IsServed (value_of s) s
     itself s = record { served = λ u h. le_refl (service_value s u) }

@@ -23,8 +23,8 @@ pub priority_services : (port : Port) (queues some : List Incoming) (q n frame :
 priority_services port queues some q n frame own services is its same bits all =
     subst (λ (d : Discipline). AreAll (λ s. IsServiceAt d (port_service port) queues q s) services) (sym is)
     (subst (λ (w : Service). AreAll (IsLeft w (joined_parts (before q queues)) (1024 * longest_frame_of (behind q queues))) services) its
-      (subst (λ (xs : List Incoming). AreAll (IsLeft own (joined_parts xs) (1024 * longest_frame_of (behind q queues))) services) same
-        (subst (λ (k : ℕ). AreAll (IsLeft own (joined_parts some) k) services) bits all)))
+    (subst (λ (xs : List Incoming). AreAll (IsLeft own (joined_parts xs) (1024 * longest_frame_of (behind q queues))) services) same
+    (subst (λ (k : ℕ). AreAll (IsLeft own (joined_parts some) k) services) bits all)))
 
 all_push : (P : Service → Type 0) (one : Service) (services more : List Service) → AreAll P services → more ≡ services ++ one ∷ []
     → AreAll (λ s. (s ≡ one) ⊎ P s) more

@@ -124,7 +124,7 @@ fifo_queue : (port : Port) (queues : List Incoming) (q : ℕ) (end : ℚ) (V : L
 fifo_queue port queues q end V s range seen fifo is own =
     subst (λ (k : ℕ). Serves (of_queue k) (value_of s) end V) (sym is)
     (subst (λ (w : Service). Serves (of_queue 0) (value_of w) end V) (sym own)
-      (fifo_serves (server_of port) end V (service_curve port) (speed (port_service port).rate) (bits (port_service port).debt) seen.lawful fifo seen.service (own_below port range)))
+    (fifo_serves (server_of port) end V (service_curve port) (speed (port_service port).rate) (bits (port_service port).debt) seen.lawful fifo seen.service (own_below port range)))
 
 priority_queue : (port : Port) (queues : List Incoming) (q n : ℕ) (end : ℚ) (V : List ServerStep) (s : Service) (parts : List Part) (lower : ℕ)
     → PortIsInRange port → IsSeenAt port queues end V
@@ -134,12 +134,12 @@ priority_queue port queues q n end V s parts lower range seen priority inside kn
     let own = port_service port in
     let line = left.line in
     let brought = greater_kept V (before_queue q) (λ t. Fin (parts_value parts t)) (bucket_value (bits line.burst) (speed line.rate)) (above_line parts line left.step)
-        (above_bring queues q V parts seen.arrivals (omega (arith, inside)) known) in
+    (above_bring queues q V parts seen.arrivals (omega (arith, inside)) known) in
     let serves = priority_line (server_of port) end V n q lower (service_curve port) (speed own.rate) (bits own.debt) (bits line.burst) (speed line.rate)
-        seen.lawful priority seen.service (own_below port range) (speed_le line.rate own.rate (omega (arith, left.slower))) brought sizes in
+    seen.lawful priority seen.service (own_below port range) (speed_le line.rate own.rate (omega (arith, left.slower))) brought sizes in
     subst (λ (w : Service). Serves (of_queue q) (value_of w) end V) (sym left.is)
     (served_so end V q record { rate = own.rate - line.rate; debt = own.debt + line.burst + 1024 * lower } (speed own.rate -ℚ speed line.rate) ((bits own.debt +ℚ bits line.burst) +ℚ whole lower)
-      (left_rate own.rate line.rate left.slower) (left_debt own.debt line.burst lower) serves)
+    (left_rate own.rate line.rate left.slower) (left_debt own.debt line.burst lower) serves)
 
 rest_queue : (port : Port) (queues : List Incoming) (q : ℕ) (end : ℚ) (V : List ServerStep) (s : Service) (parts : List Part)
     → PortIsInRange port → IsSeenAt port queues end V → servers.queue_count (server_of port).discipline ≡ length queues → q < length queues
@@ -148,12 +148,12 @@ rest_queue port queues q end V s parts range seen count inside known left =
     let own = port_service port in
     let line = left.line in
     let brought = greater_kept V (others (of_queue q)) (λ t. Fin (parts_value parts t)) (bucket_value (bits line.burst) (speed line.rate)) (above_line parts line left.step)
-        (others_bring (server_of port) end queues q V parts seen.lawful count seen.arrivals inside known) in
+    (others_bring (server_of port) end queues q V parts seen.lawful count seen.arrivals inside known) in
     let serves = rest_line (server_of port) end V (of_queue q) (service_curve port) (speed own.rate) (bits own.debt) (bits line.burst) (speed line.rate)
-        seen.lawful seen.service (own_below port range) (speed_le line.rate own.rate (omega (arith, left.slower))) brought in
+    seen.lawful seen.service (own_below port range) (speed_le line.rate own.rate (omega (arith, left.slower))) brought in
     subst (λ (w : Service). Serves (of_queue q) (value_of w) end V) (sym left.is)
     (served_so end V q record { rate = own.rate - line.rate; debt = own.debt + line.burst + 0 } (speed own.rate -ℚ speed line.rate) (bits own.debt +ℚ bits line.burst)
-      (left_rate own.rate line.rate left.slower) (rest_debt own.debt line.burst) serves)
+    (left_rate own.rate line.rate left.slower) (rest_debt own.debt line.burst) serves)
 
 -- ---- deficit round robin
 flat : (s : Service) → IsZeroAtStart (value_of s)
@@ -176,7 +176,7 @@ owed_on_grid Q F l Λ part own =
     let first = whole_times Q (Λ - l) ∙ ap (λ (x : ℚ). whole Q *ℚ x) (less_whole Λ l own) in
     let visits = whole_times (F - Q) (Q + l) ∙ ap (λ (x : ℚ). x *ℚ whole (Q + l)) (less_whole F Q part) ∙ ap (λ (x : ℚ). (whole F -ℚ whole Q) *ℚ x) (whole_sum Q l) in
     let both = whole_sum (Q * (Λ - l)) ((F - Q) * (Q + l)) ∙ ap (λ (x : ℚ). x +ℚ whole ((F - Q) * (Q + l))) first
-        ∙ ap (λ (x : ℚ). whole Q *ℚ (whole Λ -ℚ whole l) +ℚ x) visits in
+    ∙ ap (λ (x : ℚ). whole Q *ℚ (whole Λ -ℚ whole l) +ℚ x) visits in
     ap (λ (x : ℚ). x /ℚ whole F) (bits_whole (Q * (Λ - l) + (F - Q) * (Q + l)) ∙ both)
 
 covers : (n d q : ℕ) → 0 < d → q ≡ div_ceil n d → n ≤ q * d
@@ -204,17 +204,17 @@ share_serves port queues q end V quanta s range seen drr count inside some is =
     let sizes = λ (j : ℕ). each_size queues V seen.sizes j in
     let left = drr_left (value_of own) Q (get_or longest q 0) F (sum longest) in
     let serves = drr_serves (server_of port) end V quanta longest q (value_of own) left seen.lawful drr paired among some sizes
-        (lesser_kept end V (service_curve port) (value_of own) (own_below port range).below seen.service) (flat own) (λ t on. refl) in
+    (lesser_kept end V (service_curve port) (value_of own) (own_below port range).below seen.service) (flat own) (λ t on. refl) in
     let n = 1024 * (Q * (Λ - l) + (F - Q) * (Q + l)) in
     let on_grid = share_below own Q F n (own.rate * Q / F) (div_ceil (own.debt * Q + n) F) (omega (arith, some, part))
-        (div-mul-le_self (own.rate * Q) F) (covers (own.debt * Q + n) F (div_ceil (own.debt * Q + n) F) (omega (arith, some, part)) refl) in
+    (div-mul-le_self (own.rate * Q) F) (covers (own.debt * Q + n) F (div_ceil (own.debt * Q + n) F) (omega (arith, some, part)) refl) in
     let lesser : IsNowhereAbove (value_of (round_robin_share own Q F l Λ)) (drr_left (value_of own) Q l F Λ) =
-        λ t on. subst (λ (x : ℚ). value_of (round_robin_share own Q F l Λ) t ≤ₑ excess (scaled (share Q F) (value_of own t)) (Fin x)) (owed_on_grid Q F l Λ part own_frame)
-            (on_grid.below (value_of own) record { served = λ u h. own_itself own u } t on) in
+    λ t on. subst (λ (x : ℚ). value_of (round_robin_share own Q F l Λ) t ≤ₑ excess (scaled (share Q F) (value_of own t)) (Fin x)) (owed_on_grid Q F l Λ part own_frame)
+    (on_grid.below (value_of own) record { served = λ u h. own_itself own u } t on) in
     let same = λ (t : ℚ). ap (λ (k : ℕ). drr_left (value_of own) Q k F (sum longest) t) its ∙ ap (λ (k : ℕ). drr_left (value_of own) Q l F k t) total in
     subst (λ (w : Service). Serves (of_queue q) (value_of w) end V) (sym is)
     (lesser_serves end V (of_queue q) left (value_of (round_robin_share own Q F l Λ))
-      (λ t on. subst (λ (x : Ext). value_of (round_robin_share own Q F l Λ) t ≤ₑ x) (sym (same t)) (lesser t on)) serves)
+    (λ t on. subst (λ (x : Ext). value_of (round_robin_share own Q F l Λ) t ≤ₑ x) (sym (same t)) (lesser t on)) serves)
   where
     own_itself : (s : Service) (u : ℚ) → value_of s u ≤ₑ value_of s u
     own_itself s u = le_refl (service_value s u)

@@ -42,9 +42,9 @@ returns c =
     let first = ap (λ (w : Incoming). w.longest) (at_queue queues q c.index-queues-q.result c.requires.inside) in
     let third = ap (λ (w : Incoming). w.longest) (at_queue queues q c.index-queues-q-3.result c.requires.inside) in
     let pieces = subst (λ (ls : List Line). AreSteps parts ls) (sym c.deref-2.ensures.value)
-        (subst (λ (ps : List Part). AreSteps ps lines) c.deref.ensures.value c.in_ok-lines.ensures) in
+    (subst (λ (ps : List Part). AreSteps ps lines) c.deref.ensures.value c.in_ok-lines.ensures) in
     let found = subst (λ (ss : List Service). MatchOption row (IsUnbounded parts ss) (λ w. IsLeastQueue parts ss ((get_or queues q c.index-queues-q-3.result).longest * 1024) w))
-        c.deref-3.ensures.value (c.queue_of.ensures.least parts pieces) in
+    c.deref-3.ensures.value (c.queue_of.ensures.least parts pieces) in
     let grains : (get_or queues q c.index-queues-q-3.result).longest * 1024 ≡ 1024 * (queue_in (incoming queues) q).longest = omega (arith, third) in
     row_known c.args.port.now (incoming queues) q parts row (omega (arith, first, c.if-queues-q-eq0.false)) known record {
       services = services;
