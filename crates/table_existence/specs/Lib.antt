@@ -1,4 +1,0 @@
-pub mod Networks
-pub mod Found
-pub mod Formulas
-pub mod Tables
