@@ -1,5 +1,6 @@
 #!/usr/bin/env python3
-"""The table of a network of ports and multicast links, plainly, in whole numbers: what the proved program is held to.
+"""The table of a network of ports and multicast links, plainly, in whole numbers. Of it crates/port_bounds has one port's rows, proved; no
+program of this repository makes a whole table, and nothing in the gate compares this one with the crate.
 
 Times are picoseconds, rates grains of 1/1024 bit a second, bursts grains, frames and quanta bits. What bounds arrivals is rounded up, what a port does is rounded
 down. A network is a dictionary of `ports` and `links`, as random_network below makes it; table(network) tells each queue's delay in
