@@ -1,0 +1,10 @@
+-- A deconvolution has an answer that is not want of memory. Own choice.
+use Rattle.curve_running.specs.upp_curve.specs.Curve.{SpecCurve, value_at}
+use Rattle.curve_running.specs.upp_curve.specs.Curves.{IsCurve}
+use Rattle.curve_running.specs.upp_limits.specs.declared.op_kind.OpKind.TheVariants.{Deconvolve}
+use Rattle.min_plus.specs.Functions.{IsFinite}
+use Rattle.curve_existence.specs.Answered.{HasAnswer}
+
+abbrev pub DeconvolutionsExist : Type 0
+DeconvolutionsExist =
+    (f g : SpecCurve) → IsCurve f → IsCurve g → IsFinite (value_at g) → HasAnswer Deconvolve f g

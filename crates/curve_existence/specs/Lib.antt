@@ -1,0 +1,11 @@
+pub mod Forms
+pub mod LeastPeriods
+pub mod Answered
+pub mod Answers
+pub mod Horizontals
+pub mod Convolutions
+pub mod LeftOvers
+pub mod Pointwise
+pub mod Running
+pub mod Verticals
+pub mod Deconvolutions

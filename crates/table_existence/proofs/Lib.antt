@@ -1,0 +1,12 @@
+pub mod Sound
+pub mod Found
+pub mod Sums
+pub mod EachKind
+pub mod Tables
+pub mod InTurn
+pub mod Services
+pub mod Numbers
+pub mod Values
+pub mod OperatorSums
+pub mod Formulas
+pub mod OrderedTables

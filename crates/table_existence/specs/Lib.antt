@@ -1,0 +1,4 @@
+pub mod Networks
+pub mod Found
+pub mod Formulas
+pub mod Tables
