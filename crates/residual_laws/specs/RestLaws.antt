@@ -36,7 +36,8 @@ RestServes = (server : Server) (end : ℚ) (view : List ServerStep) (C : Class) 
 -- ---- since when
 -- a class that has not left whole by t is served since a backlogged period began: that of the class which `whose` names
 abbrev pub RestServesSincePeriodOf : (Class → Class) → Type 0
-RestServesSincePeriodOf whose = (server : Server) (end : ℚ) (view : List ServerStep) (C : Class) (β brought R : ℚ → Ext) →
+RestServesSincePeriodOf whose = (server : Server) (end : ℚ) (view : List ServerStep) (C : Class)
+    (β brought R : ℚ → Ext) →
     IsLawfulView server end view → KeepsService β end view → IsZeroAtStart β → KeepsArrivals (others C) brought view →
     IsRestService β brought R → (t : ℚ) → t ≤ℚ end → departed C view t <ℚ arrived C view t →
     (s : ℚ) × IsBacklogged (whose C) view s t × IsServed C R view t s
