@@ -87,7 +87,8 @@ abbrev spans_third : Span
 spans_third = record { start = whole 4; end = whole 5; bits = whole 3 }
 
 three_works : (p q r a b c : ℚ) → p ≡ a → q ≡ b → r ≡ c
-    → whole 0 +ℚ (p +ℚ (whole 0 +ℚ (whole 0 +ℚ (whole 0 +ℚ (whole 0 +ℚ (q +ℚ (whole 0 +ℚ (r +ℚ (whole 0 +ℚ whole 0)))))))))
+    → whole 0 +ℚ (p +ℚ (whole 0 +ℚ (whole 0 +ℚ (whole 0 +ℚ (whole 0 +ℚ
+    (q +ℚ (whole 0 +ℚ (r +ℚ (whole 0 +ℚ whole 0)))))))))
     ≡ a +ℚ (b +ℚ c)
 three_works p q r a b c e f g = rw (e, f, g) (with3 a b c (λ c. omega (arith, c.le, c.lt, c.same)))
 
@@ -95,17 +96,21 @@ all_worked : (x : ℚ) → worked all passed_by x ≡ clip spans_first x +ℚ (c
 all_worked x =
     three_works (when true (clip spans_first x)) (when true (clip spans_second x)) (when true (clip spans_third x))
     (clip spans_first x) (clip spans_second x) (clip spans_third x)
-    (when_true true (clip spans_first x) refl) (when_true true (clip spans_second x) refl) (when_true true (clip spans_third x) refl)
+    (when_true true (clip spans_first x) refl) (when_true true (clip spans_second x) refl)
+    (when_true true (clip spans_third x) refl)
 
 second_worked : (x : ℚ) → worked second passed_by x ≡ clip spans_first x +ℚ (whole 0 +ℚ whole 0)
 second_worked x =
     three_works (when true (clip spans_first x)) (when false (clip spans_second x)) (when false (clip spans_third x))
     (clip spans_first x) (whole 0) (whole 0)
-    (when_true true (clip spans_first x) refl) (when_false false (clip spans_second x) refl) (when_false false (clip spans_third x) refl)
+    (when_true true (clip spans_first x) refl) (when_false false (clip spans_second x) refl)
+    (when_false false (clip spans_third x) refl)
 
 -- of the class, 9 bits from 3 on
 nine_worked : (x : ℚ) → whole 3 ≤ℚ x → worked second passed_by x ≡ whole 9
-nine_worked x l = second_worked x ∙ ap (λ (y : ℚ). y +ℚ (whole 0 +ℚ whole 0)) (clip_late spans_first x (lt_t 0 3 refl) l) ∙ sum_9
+nine_worked x l =
+    second_worked x ∙ ap (λ (y : ℚ). y +ℚ (whole 0 +ℚ whole 0)) (clip_late spans_first x (lt_t 0 3 refl) l)
+    ∙ sum_9
   where
     sum_9 : whole 9 +ℚ (whole 0 +ℚ whole 0) ≡ whole 9
     sum_9 = with1 (whole 0) (λ c. omega (arith, c.le, c.lt, c.same))
@@ -134,13 +139,17 @@ steady x low high =
           let a = clip_late spans_first x (lt_t 0 3 refl) (le_of_lt l) in
           elim (le_or_lt x (whole 4)) [
             | inl m ↦
-                let b = span_at_rate (whole 3) (whole 1) spans_second x (sym (sum_t 3 1)) (lt_t 0 1 refl) three (le_of_lt l) m in
+                let b =
+                span_at_rate (whole 3) (whole 1) spans_second x (sym (sum_t 3 1)) (lt_t 0 1 refl) three
+                (le_of_lt l) m in
                 let c = clip_early spans_third x m in
                 with5 x (worked all passed_by x) (clip spans_first x) (clip spans_second x) (clip spans_third x)
                 (λ k. omega (arith, k.le, k.lt, k.same))
             | inr m ↦
                 let b = clip_late spans_second x (lt_t 3 4 refl) (le_of_lt m) in
-                let c = span_at_rate (whole 3) (whole 1) spans_third x (sym (sum_t 4 1)) (lt_t 0 1 refl) three (le_of_lt m) high in
+                let c =
+                span_at_rate (whole 3) (whole 1) spans_third x (sym (sum_t 4 1)) (lt_t 0 1 refl) three
+                (le_of_lt m) high in
                 with5 x (worked all passed_by x) (clip spans_first x) (clip spans_second x) (clip spans_third x)
                 (λ k. omega (arith, k.le, k.lt, k.same))
           ]
@@ -167,7 +176,8 @@ never u bits x = when_false (false && lt_q u x) bits refl
 -- of the class, 9 bits up to 3, and then 10
 second_at_3 : arrived second passed_by (whole 3) ≡ whole 9
 second_at_3 =
-    four_arrivals (when (true && lt_q (whole 0) (whole 3)) (whole 9)) (when (false && lt_q (whole 0) (whole 3)) (whole 3))
+    four_arrivals (when (true && lt_q (whole 0) (whole 3)) (whole 9))
+    (when (false && lt_q (whole 0) (whole 3)) (whole 3))
     (when (false && lt_q (whole 3) (whole 3)) (whole 3)) (when (true && lt_q (whole 3) (whole 3)) (whole 1))
     (whole 9) (whole 0) (whole 0) (whole 0)
     (came (whole 0) (whole 9) (whole 3) (lt_t 0 3 refl)) (never (whole 0) (whole 3) (whole 3))
@@ -236,7 +246,8 @@ keeps_service =
 
 from_zero : IsZeroAtStart service
 from_zero =
-    max_q_le zero_q (whole 3 *ℚ zero_q -ℚ whole 0) zero_q (le_refl zero_q) (with1 (whole 0) (λ c. omega (arith, c.le, c.lt, c.same)))
+    max_q_le zero_q (whole 3 *ℚ zero_q -ℚ whole 0) zero_q (le_refl zero_q)
+    (with1 (whole 0) (λ c. omega (arith, c.le, c.lt, c.same)))
 
 others_keep : KeepsArrivals (others second) brought passed_by
 others_keep s t l =
@@ -250,9 +261,13 @@ others_keep s t l =
     let a_most = when_most (true && one) (whole 3) (le_t 0 3 refl) in
     let b_most = when_most (true && two) (whole 3) (le_t 0 3 refl) in
     rw is (elim (cases_Bool one) [
-      | inr e ↦ let none = when_false (true && one) (whole 3) e in with4 s t a b (λ c. omega (arith, c.le, c.lt, c.same))
+      | inr e ↦
+          let none = when_false (true && one) (whole 3) e in
+          with4 s t a b (λ c. omega (arith, c.le, c.lt, c.same))
       | inl e ↦ elim (cases_Bool two) [
-        | inr f ↦ let none = when_false (true && two) (whole 3) f in with4 s t a b (λ c. omega (arith, c.le, c.lt, c.same))
+        | inr f ↦
+            let none = when_false (true && two) (whole 3) f in
+            with4 s t a b (λ c. omega (arith, c.le, c.lt, c.same))
         | inl f ↦
             let early = le_q_in s (whole 0) (and_parts (le_q s (whole 0)) (le_q (whole 0) t) e).0 in
             let late = le_q_in (whole 3) t (and_parts (le_q s (whole 3)) (le_q (whole 3) t) f).1 in
@@ -310,12 +325,14 @@ since_server = record {
   earlier = le_t 0 5 refl;
   left = rw none (left_nonneg second (before (whole 5)) passed_by);
   kept_up = rw (none, nine_worked (whole 5) (le_t 3 5 refl))
-      (subst (λ (y : ℚ). whole 0 +ℚ y ≤ℚ whole 9) (sym (max_q_right zero_q (whole 2 *ℚ (whole 5 -ℚ whole 0) -ℚ whole 3) on)) few);
+      (subst (λ (y : ℚ). whole 0 +ℚ y ≤ℚ whole 9)
+      (sym (max_q_right zero_q (whole 2 *ℚ (whole 5 -ℚ whole 0) -ℚ whole 3) on)) few);
 }
   where
     none : arrived second passed_by (whole 0) ≡ whole 0
     none =
-        four_arrivals (when (true && lt_q (whole 0) (whole 0)) (whole 9)) (when (false && lt_q (whole 0) (whole 0)) (whole 3))
+        four_arrivals (when (true && lt_q (whole 0) (whole 0)) (whole 9))
+        (when (false && lt_q (whole 0) (whole 0)) (whole 3))
         (when (false && lt_q (whole 3) (whole 0)) (whole 3)) (when (true && lt_q (whole 3) (whole 0)) (whole 1))
         (whole 0) (whole 0) (whole 0) (whole 0)
         (not_yet (whole 0) (whole 9) (whole 0) (le_refl (whole 0))) (never (whole 0) (whole 3) (whole 0))
@@ -331,7 +348,8 @@ since_server = record {
 claimed : (Fin (arrived second passed_by (whole 3)) +ₑ left (whole 5 -ℚ whole 3)) ≡ Fin (whole 10)
 claimed =
     rw second_at_3
-    (ap (λ (y : ℚ). Fin (whole 9 +ℚ y)) (max_q_right zero_q (whole 2 *ℚ (whole 5 -ℚ whole 3) -ℚ whole 3) on) ∙ ap Fin ten)
+    (ap (λ (y : ℚ). Fin (whole 9 +ℚ y))
+    (max_q_right zero_q (whole 2 *ℚ (whole 5 -ℚ whole 3) -ℚ whole 3) on) ∙ ap Fin ten)
   where
     on : zero_q ≤ℚ whole 2 *ℚ (whole 5 -ℚ whole 3) -ℚ whole 3
     on = with1 (whole 0) (λ c. omega (arith, c.le, c.lt, c.same))
@@ -349,7 +367,8 @@ waits =
     (never (whole 4) (whole 3) (whole 5)) (never (whole 5) (whole 3) (whole 5)))
   where
     few : (p q r : ℚ) → p ≤ℚ whole 9 → q ≡ whole 0 → r ≡ whole 0
-        → whole 0 +ℚ (whole 0 +ℚ (whole 0 +ℚ (p +ℚ (whole 0 +ℚ (whole 0 +ℚ (whole 0 +ℚ (q +ℚ (whole 0 +ℚ (r +ℚ whole 0)))))))))
+        → whole 0 +ℚ (whole 0 +ℚ (whole 0 +ℚ (p +ℚ (whole 0 +ℚ (whole 0 +ℚ (whole 0 +ℚ
+        (q +ℚ (whole 0 +ℚ (r +ℚ whole 0)))))))))
         <ℚ whole 10
     few p q r l e f = with3 p q r (λ c. omega (arith, c.le, c.lt, c.same))
 
@@ -358,7 +377,9 @@ not_since_own law =
     let (s, own, served) =
     law (paced_server (Priority 2) 3) (whole 5) passed_by second service brought left is_lawful keeps_service from_zero
     others_keep is_left (whole 5) (le_t 5 5 refl) waits in
-    let at_3 = subst (λ (u : ℚ). (Fin (arrived second passed_by u) +ₑ left (whole 5 -ℚ u)) ≤ₑ Fin (worked second passed_by (whole 5)))
+    let done = worked second passed_by (whole 5) in
+    let at_3 =
+    subst (λ (u : ℚ). (Fin (arrived second passed_by u) +ₑ left (whole 5 -ℚ u)) ≤ₑ Fin done)
     (no_other s own) served.kept_up in
     let more : whole 10 ≤ℚ worked second passed_by (whole 5) =
     subst (λ (x : Ext). x ≤ₑ Fin (worked second passed_by (whole 5))) claimed at_3 in
