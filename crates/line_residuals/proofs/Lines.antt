@@ -56,7 +56,7 @@ line_on V C burst rate t keeps on =
     (subst (λ (x : ℚ). arrived_in C V zero_q t ≤ℚ burst +ℚ rate *ℚ x) window (keeps zero_q t on))
 
 -- what is a rising function at each time is its running supremum
-running : (f R : ℚ → Ext) → IsRising R → ((t : ℚ) → zero_q ≤ℚ t → f t ≡ R t) → (t : ℚ) → zero_q ≤ℚ t → IsRunningSupremum f t (R t)
+pub running : (f R : ℚ → Ext) → IsRising R → ((t : ℚ) → zero_q ≤ℚ t → f t ≡ R t) → (t : ℚ) → zero_q ≤ℚ t → IsRunningSupremum f t (R t)
 running f R rise is t on =
     same_supremum (λ (s : UpTo t). R s.at) (λ (s : UpTo t). f s.at) (R t)
     (λ s. (s, same_le_ext (sym (is s.at s.nonneg))))

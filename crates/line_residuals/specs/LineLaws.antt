@@ -1,6 +1,6 @@
--- What a queue is served, as a rate with a debt, where the server's curve is at least such a rate, and what others bring
--- is at most a line. (Le Boudec and Thiran, non-preemptive priority and, in section 6.2, blind multiplexing; Bouillard,
--- Boyer and Le Corronc for deficit round robin. Lines in place of curves are own choice.)
+-- What a queue is served, as a rate with a debt, where the server's curve is at least such a rate, and what others
+-- bring is at most a line. (Le Boudec and Thiran, non-preemptive priority and, in section 6.2, blind multiplexing;
+-- Bouillard, Boyer and Le Corronc for deficit round robin. Lines in place of curves are own choice.)
 use Rattle.std.specs.Prelude.{◌≡◌, ◌≤◌, ◌<◌, ℕ, List, length, get_or, sum}
 use Rattle.rational.specs.Rational.{ℚ, ◌+ℚ◌, ◌-ℚ◌, ◌*ℚ◌, ◌≤ℚ◌}
 use Rattle.rational.specs.Extended.{Ext}

@@ -17,14 +17,14 @@ use Rattle.run_laws.specs.Cards.{of_flow, ServerStep, Arrives}
 use Rattle.run_laws.specs.Servers.{start}
 use Rattle.run_laws.specs.Next.{next, after}
 use Rattle.run_laws.specs.Allows.{AllAllowed}
-use Rattle.run_laws.specs.Counts.{arrived, arrived_upto, arrived_in, worked, departed, departed_upto, departed_in}
+use Rattle.run_laws.specs.Counts.{arrived, arrived_upto, arrived_in, worked, departed, departed_in}
 use Rattle.run_laws.specs.Premises.{KeepsArrivals}
 use Rattle.run_laws.specs.Delays.{gone_at, hop_delays, AreAtMost}
 use Rattle.run_laws.specs.FlowDelays.{delivered_at}
 use Rattle.run_laws.specs.Routes.{Hop, Routes, server_at, route_of, link_at, first_server, last_server}
 use Rattle.run_laws.specs.Views.{Entry, card_of, view_from, view}
 use Rattle.run_laws.specs.Lawful.{Due, RunState, run_start}
-use Rattle.run_laws.proofs.Counts.{arrived_in_is, upto_arrived, departed_rises}
+use Rattle.run_laws.proofs.Counts.{arrived_in_is, upto_arrived, departed_rises, departed_upto}
 use Rattle.run_laws.proofs.Delay.{delay_core, gone_most, kept_most, none_above_infinity}
 use Rattle.run_laws.specs.min_plus.proofs.Deviations.{Within, within_deviation, deviation_nonneg}
 use Rattle.run_laws.proofs.Entries.{entry_last, one_more}
@@ -37,7 +37,8 @@ use Rattle.net_laws.proofs.Fifo.{IsAt, work_before_gone, work_by_gone, work_befo
 use Rattle.run_laws.proofs.Shifted.{delay_at}
 use Rattle.run_laws.specs.Rounds.{count_of}
 use Rattle.net_laws.proofs.Views.{views_lawful}
-use Rattle.net_laws.specs.Multicast.{NextServers, next_run_by, AllAllowedBy, after_run_by, IsLawfulBy, IsArc, IsWalk, delays_to_from}
+use Rattle.net_laws.specs.Multicast.{NextServers, next_run_by, AllAllowedBy, after_run_by, IsLawfulBy, delays_to_from}
+use Rattle.net_laws.proofs.Arcs.{IsArc, IsWalk}
 use Rattle.net_laws.proofs.Links.{arc_carries, arc_window}
 use Rattle.net_laws.proofs.Walks.{links_nonneg, walk_is_served}
 use Rattle.net_laws.proofs.Journeys.{Since, since_start, since_next_by, since_both, ComesBy, comes_since_by, onward_by, now_gone, gone_later}

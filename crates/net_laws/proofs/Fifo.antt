@@ -11,7 +11,7 @@ use Rattle.run_laws.specs.declared.steps.Step.TheVariants.{Enter, Reach, Work, L
 use Rattle.run_laws.specs.Runs.{SpecRun}
 use Rattle.run_laws.specs.Cards.{Card, size, Class, of_flow, ServerStep, Arrives, Works, Leaves, Visits, time_of}
 use Rattle.run_laws.proofs.Always.{IsAlwaysOfQueue}
-use Rattle.run_laws.specs.Servers.{Server, Under, done_at, start}
+use Rattle.run_laws.specs.Servers.{Server, Under, start}
 use Rattle.run_laws.specs.Next.{next, after}
 use Rattle.run_laws.specs.Allows.{AllAllowed, IsLawfulView}
 use Rattle.run_laws.specs.Counts.{total, arrives, leaves, works, before, upto, within, arrived, arrived_upto, arrived_in, worked}
@@ -21,7 +21,7 @@ use Rattle.run_laws.specs.Views.{Entry, card_of, entered_after, server_of, seen,
 use Rattle.run_laws.proofs.Sums.{when_true, when_false, Each, each_map, each-append, total-append, total_same, add_nothing}
 use Rattle.run_laws.proofs.Counts.{arrived_in_is, arrivals_nonneg}
 use Rattle.run_laws.proofs.Heads.{sum_of}
-use Rattle.run_laws.proofs.States.{IsSoundFor, IsUnderWay, sound_next, sound_after, balance_after, work_after, if_true, done_by, done_at_most}
+use Rattle.run_laws.proofs.States.{IsSoundFor, IsUnderWay, sound_next, sound_after, balance_after, work_after, if_true, done_by, done_at_most, done_at}
 use Rattle.run_laws.proofs.Cuts.{before_edge, IsBefore, at_time}
 use Rattle.run_laws.proofs.Orders.{worked_arrived}
 use Rattle.run_laws.proofs.Waiting.{of_class, bits_of, class-append, class_head, sum_class, bits_nonneg, KeepsPacket, allowed-append, all_upto, not_worked}

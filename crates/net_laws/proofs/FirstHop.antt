@@ -19,7 +19,8 @@ use Rattle.run_laws.specs.RunPremises.{enters, entered_in}
 use Rattle.run_laws.proofs.Sums.{when_true, when_false, when_none}
 use Rattle.run_laws.proofs.Entries.{entry_last, EachDue, each_due_at}
 use Rattle.run_laws.proofs.FirstHop.{at_server, enters_one, enters_more}
-use Rattle.net_laws.specs.Multicast.{NextServers, next_run_by, AllAllowedBy, IsLawfulBy, IsRoot}
+use Rattle.net_laws.specs.Multicast.{NextServers, next_run_by, AllAllowedBy, IsLawfulBy}
+use Rattle.net_laws.proofs.Arcs.{IsRoot}
 use Rattle.net_laws.proofs.Dues.{IsDueBy, due_next_by}
 
 enter_adds : (i f s first : ℕ) (p : Bool) (v : ℚ) → (f ≡ i → first ≡ s)

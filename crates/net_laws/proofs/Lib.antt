@@ -1,3 +1,4 @@
+pub mod Arcs
 pub mod Views
 pub mod Dues
 pub mod FirstHop

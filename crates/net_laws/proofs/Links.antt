@@ -24,7 +24,8 @@ use Rattle.run_laws.proofs.Sums.{when_true, when_false, when_none, each_all, tot
 use Rattle.run_laws.proofs.Entries.{same_due_self, entry_before, entry_last, EachDue}
 use Rattle.run_laws.proofs.FirstHop.{at_server}
 use Rattle.run_laws.specs.Rounds.{count_of}
-use Rattle.net_laws.specs.Multicast.{NextServers, sent_to, next_due_by, next_run_by, AllAllowedBy, after_run_by, IsLawfulBy, IsArc}
+use Rattle.net_laws.specs.Multicast.{NextServers, sent_to, next_due_by, next_run_by, AllAllowedBy, after_run_by, IsLawfulBy}
+use Rattle.net_laws.proofs.Arcs.{IsArc}
 use Rattle.net_laws.proofs.Dues.{IsDueBy, due_next_by}
 
 -- the bits of flow i that are due at server b, at times that pass the test

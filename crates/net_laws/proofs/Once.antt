@@ -21,7 +21,8 @@ use Rattle.run_laws.proofs.Entries.{same_due_self, entry_last, one_more, EachDue
 use Rattle.run_laws.proofs.Sums.{one_if as one}
 use Rattle.run_laws.specs.Rounds.{count_of}
 use Rattle.net_laws.proofs.Views.{views_lawful}
-use Rattle.net_laws.specs.Multicast.{NextServers, sent_to, next_due_by, next_run_by, AllAllowedBy, after_run_by, IsLawfulBy, IsArc, StaysInside, IsReachedIn, IsSpanned}
+use Rattle.net_laws.specs.Multicast.{NextServers, sent_to, next_due_by, next_run_by, AllAllowedBy, after_run_by, IsLawfulBy}
+use Rattle.net_laws.proofs.Arcs.{IsArc, StaysInside, IsReachedIn, IsSpanned}
 use Rattle.net_laws.proofs.Dues.{IsDueBy, due_next_by, Knows, knows_next_by, AreLive, live_next}
 use Rattle.net_laws.proofs.Links.{same_is}
 

@@ -12,7 +12,8 @@ use Rattle.run_laws.specs.RunPremises.{entered_in}
 use Rattle.run_laws.specs.Rounds.{count_of}
 use Rattle.run_laws.specs.Routes.{Routes, route_of, server_after}
 use Rattle.run_laws.specs.Views.{view}
-use Rattle.net_laws.specs.Multicast.{NextServers, IsLawfulBy, IsReachedIn, IsSpanned, path_next_servers}
+use Rattle.net_laws.specs.Multicast.{NextServers, IsLawfulBy, path_next_servers}
+use Rattle.net_laws.proofs.Arcs.{IsReachedIn, IsSpanned}
 use Rattle.net_laws.specs.Orders.{EntersKept, KeptAt, KeptEverywhere}
 use Rattle.net_laws.proofs.FirstHop.{root_keeps}
 use Rattle.net_laws.proofs.Links.{arc_keeps}

@@ -21,7 +21,8 @@ use Rattle.run_laws.proofs.Classes.{output_from_delay}
 use Rattle.run_laws.proofs.Delay.{kept_most}
 use Rattle.run_laws.proofs.Entries.{passes_next}
 use Rattle.run_laws.proofs.Views.{views_are_lawful}
-use Rattle.net_laws.specs.Multicast.{NextServers, sent_to, next_due_by, next_run_by, AllAllowedBy, after_run_by, IsLawfulBy, IsArc, IsRoot, IsReachedIn, IsSpanned, IsWalk, delays_to_from, listed, path_next_servers, PathRunsAreMulticast}
+use Rattle.net_laws.specs.Multicast.{NextServers, sent_to, next_due_by, next_run_by, AllAllowedBy, after_run_by, IsLawfulBy, delays_to_from, listed, path_next_servers, PathRunsAreMulticast}
+use Rattle.net_laws.proofs.Arcs.{IsArc, IsRoot, IsReachedIn, IsSpanned, IsWalk}
 use Rattle.net_laws.specs.Laws.{IsLink, LinkCarries, NextKeeps}
 use Rattle.net_laws.specs.Once.{IsOverPaths, NoneArrivesTwice, ClassLeavesByDelay}
 use Rattle.net_laws.specs.Paths.{IsPath, IsServedAlong, links_along, StaysAtMost, sum_along}

@@ -16,7 +16,8 @@ use Rattle.run_laws.specs.Serves.{IsPacketServed}
 use Rattle.run_laws.specs.Routes.{Hop, Routes, link_at, first_server, last_server}
 use Rattle.run_laws.specs.Views.{view}
 use Rattle.net_laws.specs.Paths.{links_between, IsServedAlong, sum_of_values, IsWithinSplits, IsServedOver}
-use Rattle.net_laws.specs.Multicast.{NextServers, IsLawfulBy, IsWalk}
+use Rattle.net_laws.specs.Multicast.{NextServers, IsLawfulBy}
+use Rattle.net_laws.proofs.Arcs.{IsWalk}
 use Rattle.net_laws.proofs.Links.{arc_carries}
 
 -- ---- service along the hops that are left

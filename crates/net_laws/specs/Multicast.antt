@@ -1,8 +1,8 @@
--- Multicast: runs in which a packet that leaves a server is due, a link later, at each of several next ones. All else is
--- as in a lawful run over paths: what is recorded, what a server sees, when it allows a step, and what each step makes of
--- it. (As the virtual links of ARINC 664, part 7, which go to several destinations; own choice.)
-use Rattle.std.specs.Prelude.{Option, Some, None, ◌≡◌, ◌≢◌, ◌<◌, ◌≤◌, ℕ, zero, suc, pos, true, ◌==◌, List, [], ◌∷◌, ◌++◌, length, set, All}
-use Rattle.rational.specs.Rational.{ℚ, int, ◌+ℚ◌, ◌-ℚ◌, ◌<ℚ◌, ◌≤ℚ◌}
+-- Multicast: runs in which a packet that leaves a server is due, a link later, at each of several next ones. All else
+-- is as in a lawful run over paths: what is recorded, what a server sees, when it allows a step, and what each step
+-- makes of it. (As the virtual links of ARINC 664, part 7, which go to several destinations; own choice.)
+use Rattle.std.specs.Prelude.{Option, Some, None, ℕ, ◌==◌, List, [], ◌∷◌, ◌++◌, set, All}
+use Rattle.rational.specs.Rational.{ℚ, ◌+ℚ◌, ◌-ℚ◌, ◌<ℚ◌}
 use Rattle.run_laws.specs.Delays.{kept}
 use Rattle.run_laws.specs.FlowDelays.{delivered_at}
 use Rattle.run_laws.specs.declared.steps.Step.{Step}
@@ -10,8 +10,7 @@ use Rattle.run_laws.specs.declared.steps.Step.TheVariants.{Enter, Reach, Work, L
 use Rattle.run_laws.specs.Runs.{SpecRun}
 use Rattle.run_laws.specs.Next.{next}
 use Rattle.run_laws.specs.Allows.{IsComplete}
-use Rattle.run_laws.specs.Rounds.{count_of}
-use Rattle.run_laws.specs.Routes.{Hop, Routes, server_at, link_at, route_of, PassesServer, first_server, server_after}
+use Rattle.run_laws.specs.Routes.{Routes, server_at, link_at, route_of, server_after}
 use Rattle.run_laws.specs.Views.{entry_of, entered_after, server_of, seen}
 use Rattle.run_laws.specs.Lawful.{Due, RunState, without, state_at, AllowsInRun, run_start, IsLawful}
 
@@ -73,42 +72,7 @@ pub record IsSameRun (net : Routes) (run : SpecRun) : Type 0 where
 abbrev pub PathRunsAreMulticast : Type 0
 PathRunsAreMulticast = (net : Routes) (run : SpecRun) → IsSameRun net run
 
--- ---- links
--- for flow i, server b comes once after server a, and after no other, and is not the first
-pub record IsArc (net : Routes) (to : NextServers) (i a b : ℕ) : Type 0 where
-  pub next : count_of b (to i a) ≡ 1
-  pub not_first : first_server (route_of net i).hops ≢ b
-  pub only : (c : ℕ) → c ≢ a → count_of b (to i c) ≡ 0
-
--- flow i begins at server s, and does not come back to it
-pub record IsRoot (net : Routes) (to : NextServers) (i s : ℕ) : Type 0 where
-  pub first : first_server (route_of net i).hops ≡ s
-  pub never_again : (a : ℕ) → count_of s (to i a) ≡ 0
-
--- no flow goes to a server that it does not pass
-abbrev pub StaysInside : Routes → NextServers → Type 0
-StaysInside net to = (i a b : ℕ) → 1 ≤ count_of b (to i a) → PassesServer b (route_of net i).hops
-
--- a flow comes to server s over n links from its first
-abbrev pub IsReachedIn : Routes → NextServers → ℕ → ℕ → ℕ → Type 0
-IsReachedIn net to i zero s = IsRoot net to i s
-IsReachedIn net to i (suc n) s =
-    (a : ℕ) × ((a < length net.servers) × IsArc net to i a s × IsReachedIn net to i n a)
-
--- each live flow comes to each of its servers so, and to no other
-pub record IsSpanned (net : Routes) (to : NextServers) : Type 0 where
-  pub inside : StaysInside net to
-  pub reached : (i : ℕ) → (route_of net i).live ≡ true → (s : ℕ) → PassesServer s (route_of net i).hops →
-      (n : ℕ) × IsReachedIn net to i n s
-
--- servers that a flow goes through one after the other
-abbrev pub IsWalk : Routes → NextServers → ℕ → List Hop → Type 0
-IsWalk net to i [] = Unit {0}
-IsWalk net to i (h ∷ []) = (h.server < length net.servers) × (int (pos 0) ≤ℚ link_at net h.server)
-IsWalk net to i (h ∷ g ∷ hs) =
-    (h.server < length net.servers) × (int (pos 0) ≤ℚ link_at net h.server) × IsArc net to i h.server g.server ×
-    IsWalk net to i (g ∷ hs)
-
+-- ---- delays
 -- of the packets that enter among these steps: when they have left server s and passed its link, or the end of the run
 -- where they do not leave it, less when they entered
 abbrev pub delays_to_from : Routes → ℕ → ℕ → ℚ → List Step → List ℚ

@@ -32,7 +32,7 @@ use Rattle.net_laws.specs.Sums.{sum_of_curves, with_number, IsSummed}
 use Rattle.net_laws.proofs.PathRuns.{link_window}
 use Rattle.net_laws.proofs.Paths.{link_of_path, rest_of_path}
 use Rattle.net_laws.proofs.Sums.{sums_are_kept}
-use Rattle.pace_laws.specs.Groups.{of_flows, IsPaced, cut_sum, came_from, part_number, is_of_part, some_below, part_curve, parts_curve, ArePaced}
+use Rattle.pace_laws.specs.Groups.{of_flows, IsPaced, cut_sum, server_before, part_number, is_of_part, some_below, part_curve, parts_curve, ArePaced}
 use Rattle.pace_laws.proofs.Paces.{output_from_pace, pace_is_kept}
 
 -- ---- the counts of flows that pass a test are those of one of them and of the others
@@ -190,7 +190,7 @@ record CameOver (hops : List Hop) (p s : ℕ) : Type 0 where
   from : here.server ≡ p
   to : next.server ≡ s
 
-came_over : (s p : ℕ) (hops : List Hop) → came_from s hops ≡ Some p → CameOver hops p s
+came_over : (s p : ℕ) (hops : List Hop) → server_before s hops ≡ Some p → CameOver hops p s
 came_over s p [] e = absurd (cc)
 came_over s p (h ∷ []) e = absurd (cc)
 came_over s p (h ∷ g ∷ hs) e = elim (cases_Bool (g.server == s)) [
@@ -209,12 +209,12 @@ came_over s p (h ∷ g ∷ hs) e = elim (cases_Bool (g.server == s)) [
       to = c.to;
     }
 
-came_link : (net : Routes) (i p s : ℕ) → IsPath net (route_of net i).hops → came_from s (route_of net i).hops ≡ Some p → IsLink net i p s
+came_link : (net : Routes) (i p s : ℕ) → IsPath net (route_of net i).hops → server_before s (route_of net i).hops ≡ Some p → IsLink net i p s
 came_link net i p s path e =
     let c = came_over s p (route_of net i).hops e in
     subst (λ (b : ℕ). IsLink net i p b) c.to (subst (λ (a : ℕ). IsLink net i a c.next.server) c.from (link_of_path net i c.done c.here c.next c.rest path c.is))
 
-came_below : (net : Routes) (i s : ℕ) (from : Option ℕ) → IsPath net (route_of net i).hops → came_from s (route_of net i).hops ≡ from
+came_below : (net : Routes) (i s : ℕ) (from : Option ℕ) → IsPath net (route_of net i).hops → server_before s (route_of net i).hops ≡ from
     → part_number from < suc (length net.servers)
 came_below net i s None path e = omega arith
 came_below net i s (Some p) path e =
@@ -311,11 +311,11 @@ part_keeps : (net : Routes) (run : SpecRun) (s q k : ℕ) (packet longest : ℕ 
     → KeepsArrivals (of_flows (is_of_part net s q k)) (part_curve net s q α longest rate k) (view net run s)
 part_keeps net run s q zero packet longest rate α h l =
     let test = is_of_part net s q zero in
-    let inside = λ (i : ℕ) (e : test i ≡ true). (and_parts (is_in net s q i) (part_number (came_from s (route_of net i).hops) == zero) e).0 in
+    let inside = λ (i : ℕ) (e : test i ≡ true). (and_parts (is_in net s q i) (part_number (server_before s (route_of net i).hops) == zero) e).0 in
     flows_keep net test α (view net run s) (λ i e. in_flow net s q i (inside i e)) (λ i e. h.keeps i (inside i e))
 part_keeps net run s q (suc p) packet longest rate α h l =
     let test = is_of_part net s q (suc p) in
-    let parts = λ (i : ℕ) (e : test i ≡ true). and_parts (is_in net s q i) (part_number (came_from s (route_of net i).hops) == suc p) e in
+    let parts = λ (i : ℕ) (e : test i ≡ true). and_parts (is_in net s q i) (part_number (server_before s (route_of net i).hops) == suc p) e in
     let small = h.paced.none_longer p in
     group_keeps_lesser net run test p s (longest p) (rate p) α h.lawful
     record {
@@ -327,7 +327,7 @@ part_keeps net run s q (suc p) packet longest rate α h l =
     }
     (λ i e.
     let is_live = (and_parts (route_of net i).live (is_on s q (route_of net i).hops) (parts i e).0).0 in
-    came_link net i p s (h.paths i is_live) (came_is (came_from s (route_of net i).hops) p (eqb-true (part_number (came_from s (route_of net i).hops)) (suc p) (parts i e).1)))
+    came_link net i p s (h.paths i is_live) (came_is (server_before s (route_of net i).hops) p (eqb-true (part_number (server_before s (route_of net i).hops)) (suc p) (parts i e).1)))
     (λ i e. h.keeps i (parts i e).0)
 
 pub parts_are_kept : (net : Routes) (run : SpecRun) (s q : ℕ) (packet longest : ℕ → ℕ) (rate : ℕ → ℚ) (α : ℕ → ℚ → Ext)
@@ -336,7 +336,7 @@ pub parts_are_kept : (net : Routes) (run : SpecRun) (s q : ℕ) (packet longest 
     → KeepsArrivals (of_queue q) (parts_curve net s q α longest rate) (view net run s)
 parts_are_kept net run s q packet longest rate α lawful paths sizes paced keeps =
     let h : Kept net run s q packet longest rate α = record { lawful = lawful; paths = paths; sizes = sizes; paced = paced; keeps = keeps } in
-    queue_of_parts net run s q packet (λ i. came_from s (route_of net i).hops) (part_curve net s q α longest rate)
+    queue_of_parts net run s q packet (λ i. server_before s (route_of net i).hops) (part_curve net s q α longest rate)
     (passing_at net run packet s lawful sizes)
-    (λ i e. came_below net i s (came_from s (route_of net i).hops) (paths i (and_parts (route_of net i).live (is_on s q (route_of net i).hops) e).0) refl)
+    (λ i e. came_below net i s (server_before s (route_of net i).hops) (paths i (and_parts (route_of net i).live (is_on s q (route_of net i).hops) e).0) refl)
     (λ k l. part_keeps net run s q k packet longest rate α h l)

@@ -48,10 +48,10 @@ GroupKeepsLesser = (net : Routes) (run : SpecRun) (test : ℕ → Bool) (from to
 
 -- ---- the parts of a queue
 -- the server before s on a path, if s is not its first
-abbrev pub came_from : ℕ → List Hop → Option ℕ
-came_from s [] = None
-came_from s (h ∷ []) = None
-came_from s (h ∷ g ∷ hs) = if g.server == s then Some h.server else came_from s (g ∷ hs)
+abbrev pub server_before : ℕ → List Hop → Option ℕ
+server_before s [] = None
+server_before s (h ∷ []) = None
+server_before s (h ∷ g ∷ hs) = if g.server == s then Some h.server else server_before s (g ∷ hs)
 
 -- part 0 is of the flows that enter there, part p + 1 of those that come from server p
 abbrev pub part_number : Option ℕ → ℕ
@@ -60,7 +60,7 @@ part_number (Some p) = suc p
 
 -- flow i is in part k of queue q of server s
 abbrev pub is_of_part : Routes → ℕ → ℕ → ℕ → ℕ → Bool
-is_of_part net s q k i = is_in net s q i && (part_number (came_from s (route_of net i).hops) == k)
+is_of_part net s q k i = is_in net s q i && (part_number (server_before s (route_of net i).hops) == k)
 
 -- one of the numbers below n passes
 abbrev pub some_below : (ℕ → Bool) → ℕ → Bool

@@ -27,7 +27,9 @@ use Rattle.run_laws.proofs.Clips.{quotient}
 use Rattle.run_laws.proofs.Counts.{worked_rises, worked_nonneg}
 use Rattle.run_laws.proofs.Cuts.{all_works}
 use Rattle.run_laws.proofs.Orders.{left_worked, worked_arrived}
-use Rattle.run_laws.proofs.Stretches.{stretch, IsStretch}
+use Rattle.run_laws.specs.Backlogged.{IsBacklogged}
+use Rattle.run_laws.proofs.Backlogged.{backlogged_since}
+use Rattle.run_laws.proofs.Gone.{gone_before}
 use Rattle.run_laws.proofs.Parts.{arrived_parts, worked_parts}
 use Rattle.run_laws.proofs.Arrivals.{none_arrive}
 use Rattle.run_laws.proofs.Service.{itself}
@@ -235,11 +237,11 @@ share_most Q l F Λ p b w some most on own all_b =
     times d s o f qb n m wf e1 e2 e3 h = with7 (d *ℚ f) (s *ℚ f) (o *ℚ f) qb n m wf (λ c. omega (arith, c.le, c.lt, c.same))
 
 -- ---- the law
-in_stretch : (server : Server) (end : ℚ) (V : List ServerStep) (quanta : List ℕ) (l : ℕ → ℕ) (i p : ℕ) (β : ℚ → Ext) (t s : ℚ)
+in_period : (server : Server) (end : ℚ) (V : List ServerStep) (quanta : List ℕ) (l : ℕ → ℕ) (i p : ℕ) (β : ℚ → Ext) (t s : ℚ)
     → IsLawfulView server end V → server.discipline ≡ Drr quanta → i < length quanta → 1 ≤ get_or quanta i 0
-    → KeepsService β end V → t ≤ℚ end → IsStretch (of_queue i) V t s → IsShared V (λ q. get_or quanta q 0) l i s t p
+    → KeepsService β end V → t ≤ℚ end → IsBacklogged (of_queue i) V s t → IsShared V (λ q. get_or quanta q 0) l i s t p
     → IsServed (of_queue i) (drr_left β (get_or quanta i 0) (l i) (sum_to (λ q. get_or quanta q 0) (length quanta)) (sum_to l (length quanta))) V t s
-in_stretch server end V quanta l i p β t s lawful e r some service in_run is h =
+in_period server end V quanta l i p β t s lawful e r some service in_run is h =
     let n = length quanta in
     let Q = λ (q : ℕ). get_or quanta q 0 in
     let own : Class = of_queue i in
@@ -269,7 +271,7 @@ in_stretch server end V quanta l i p β t s lawful e r some service in_run is h 
     let bound = share_most (Q i) (l i) F Λ p b gained some (sum_most Q i n r) gained_on h.own all_b in
     record {
       earlier = le_of_lt is.begins;
-      left = is.left;
+      left = gone_before server end V own s t lawful caught is.begins;
       kept_up = rw level (le_ext_trans (Fin (arrived own V s) +ₑ excess (scaled (share (Q i) F) (Fin b)) (Fin (owed (Q i) (l i) F Λ))) (Fin (arrived own V s) +ₑ Fin gained) (Fin (worked own V t))
           (add_le_ext (Fin (arrived own V s)) (Fin (arrived own V s)) (excess (scaled (share (Q i) F) (Fin b)) (Fin (owed (Q i) (l i) F Λ))) (Fin gained) (le_ext_refl (Fin (arrived own V s))) bound)
           (with3 (arrived own V s) (worked own V s) (worked own V t) (λ c. omega (arith, c.le, c.lt, c.same))));
@@ -319,9 +321,9 @@ in_sums server end V quanta l i β lawful e r some sizes service flat t in_run =
           let at_0 : drr_left β (Q i) (l i) (sum_to Q n) (sum_to l n) (int (pos 0)) ≤ₑ Fin (int (pos 0)) = by_start (Q i) (l i) (sum_to Q n) (sum_to l n) some (sum_most Q i n r) (sum_most l i n r) (β (int (pos 0))) flat in
           (t, record { earlier = le_refl t; left = m; kept_up = add_low (arrived own V t) (worked own V t) (drr_left β (Q i) (l i) (sum_to Q n) (sum_to l n) (t -ℚ t)) (itself (drr_left β (Q i) (l i) (sum_to Q n) (sum_to l n)) t at_0) (le_trans m o) })
       | inr m ↦
-          let found = stretch server end V own t lawful m in
+          let found = backlogged_since server end V own t lawful m in
           let given = shared server end V quanta l i found.0 t lawful e r sizes found.1.begins m found.1.busy in
-          (found.0, in_stretch server end V quanta l i given.0 β t found.0 lawful e r some service in_run found.1 given.1)
+          (found.0, in_period server end V quanta l i given.0 β t found.0 lawful e r some service in_run found.1 given.1)
     ]
   where
     nothing_owed : (Q l : ℕ) → whole (0 * Q) ≤ℚ int (pos 0) +ℚ whole l

@@ -25,7 +25,8 @@ use Rattle.run_laws.proofs.Counts.{arrived_le, before_upto, arrived_in_is, worke
 use Rattle.run_laws.proofs.Cuts.{all_works}
 use Rattle.run_laws.proofs.Orders.{left_worked, worked_arrived}
 use Rattle.run_laws.proofs.Gone.{gone_before}
-use Rattle.run_laws.proofs.Stretches.{stretch, IsStretch}
+use Rattle.run_laws.specs.Backlogged.{IsBacklogged}
+use Rattle.run_laws.proofs.Backlogged.{backlogged_since}
 use Rattle.run_laws.proofs.Parts.{arrived_parts, worked_parts, departed_parts}
 use Rattle.run_laws.proofs.Service.{itself}
 use Rattle.residual_laws.specs.PriorityLaws.{priority_left, IsPriorityService}
@@ -59,7 +60,7 @@ member b most lower (Fin h) on f =
 -- what the queue's work has gained by z
 gained : (server : Server) (end : ℚ) (V : List ServerStep) (own first last up_to : Class) (bits : ℕ) (higher : ℚ → Ext) (t s z b : ℚ)
     → AreInTurn server end V own first last up_to bits → KeepsArrivals first higher V
-    → IsStretch up_to V t s → s <ℚ z → z ≤ℚ t → worked all V s +ℚ b ≤ℚ worked all V z → (h : ℚ) → higher (z -ℚ s) ≡ Fin h
+    → IsBacklogged up_to V s t → s <ℚ z → z ≤ℚ t → worked all V s +ℚ b ≤ℚ worked all V z → (h : ℚ) → higher (z -ℚ s) ≡ Fin h
     → arrived own V s +ℚ b ≤ℚ worked own V z +ℚ h +ℚ whole bits
 gained server end V own first last up_to bits higher t s z b turn keeps is l m served h e =
     let lawful = turn.lawful in
@@ -92,9 +93,9 @@ gained server end V own first last up_to bits higher t s z b turn keeps is l m s
         let four : Ai +ℚ Ah +ℚ b ≤ℚ Cz +ℚ l = with6 Ai Ah b Cs Cz l (λ c. omega (arith, c.le, c.lt, c.same)) in
         with8 Ai Ah b Cz l Iz Hz h (λ c. omega (arith, c.le, c.lt, c.same))
 
--- in a stretch of the others the server is busy, so it works by its curve
+-- in a backlogged period of the others the server is busy, so it works by its curve
 at_work : (server : Server) (end : ℚ) (V : List ServerStep) (own first last up_to : Class) (bits : ℕ) (β : ℚ → Ext) (t s z : ℚ)
-    → AreInTurn server end V own first last up_to bits → KeepsService β end V → t ≤ℚ end → IsStretch up_to V t s → s <ℚ z → z ≤ℚ t
+    → AreInTurn server end V own first last up_to bits → KeepsService β end V → t ≤ℚ end → IsBacklogged up_to V s t → s <ℚ z → z ≤ℚ t
     → (Fin (worked all V s) +ₑ β (z -ℚ s)) ≤ₑ Fin (worked all V z)
 at_work server end V own first last up_to bits β t s z turn service in_run is l m = service s z l (le_trans m in_run) all_busy
   where
@@ -126,10 +127,10 @@ first_member V C β higher bits most flat keeps on = by_start (β (int (pos 0)))
         enough : (y : ℚ) → int (pos 0) ≤ℚ y → int (pos 0) ≤ℚ whole bits → b ≤ℚ most +ℚ y +ℚ whole bits
         enough y y_on l_on = with4 b most y (whole bits) (λ c. omega (arith, c.le, c.lt, c.same))
 
--- in a stretch that begins at s, later
+-- in a backlogged period that begins at s, later
 later_member : (server : Server) (end : ℚ) (V : List ServerStep) (own first last up_to : Class) (bits : ℕ) (β higher : ℚ → Ext) (t s y : ℚ)
     → AreInTurn server end V own first last up_to bits → KeepsService β end V → KeepsArrivals first higher V
-    → t ≤ℚ end → IsStretch up_to V t s → arrived own V s ≤ℚ worked own V s → int (pos 0) <ℚ y → y ≤ℚ t -ℚ s
+    → t ≤ℚ end → IsBacklogged up_to V s t → arrived own V s ≤ℚ worked own V s → int (pos 0) <ℚ y → y ≤ℚ t -ℚ s
     → priority_left β higher bits y ≤ₑ Fin (worked own V t -ℚ arrived own V s)
 later_member server end V own first last up_to bits β higher t s y turn service keeps in_run is caught l upto_y =
     let lawful = turn.lawful in
@@ -148,10 +149,10 @@ later_member server end V own first last up_to bits β higher t s y turn service
     enough : (A b Wz Wt h : ℚ) → A +ℚ b ≤ℚ Wz +ℚ h +ℚ whole bits → Wz ≤ℚ Wt → b ≤ℚ Wt -ℚ A +ℚ h +ℚ whole bits
     enough A b Wz Wt h e k = with6 A b Wz Wt h (whole bits) (λ c. omega (arith, c.le, c.lt, c.same))
 
-in_stretch : (server : Server) (end : ℚ) (V : List ServerStep) (own first last up_to : Class) (bits : ℕ) (β higher R : ℚ → Ext) (t s : ℚ)
+in_period : (server : Server) (end : ℚ) (V : List ServerStep) (own first last up_to : Class) (bits : ℕ) (β higher R : ℚ → Ext) (t s : ℚ)
     → AreInTurn server end V own first last up_to bits → KeepsService β end V → IsZeroAtStart β → KeepsArrivals first higher V
-    → IsPriorityService β higher bits R → t ≤ℚ end → IsStretch up_to V t s → IsServed own R V t s
-in_stretch server end V own first last up_to bits β higher R t s turn service flat keeps running in_run is =
+    → IsPriorityService β higher bits R → t ≤ℚ end → IsBacklogged up_to V s t → IsServed own R V t s
+in_period server end V own first last up_to bits β higher R t s turn service flat keeps running in_run is =
     let lawful = turn.lawful in
     let sum_A = arrived_parts up_to own first V s turn.upto_parts in
     let sum_W = worked_parts up_to own first V s turn.upto_parts in
@@ -181,11 +182,12 @@ in_stretch server end V own first last up_to bits β higher R t s turn service f
     part_caught : (A Ai Ah W Wi Wh : ℚ) → A ≡ Ai +ℚ Ah → W ≡ Wi +ℚ Wh → Wh ≤ℚ Ah → A ≤ℚ W → Ai ≤ℚ Wi
     part_caught A Ai Ah W Wi Wh e f h k = with6 A Ai Ah W Wi Wh (λ c. omega (arith, c.le, c.lt, c.same))
 
--- where something of the class is there, it is served since the stretch began in which something of it or of those before it is
+-- where something of the class is there, it is served since the backlogged period of it and those before it
+-- began
 pub turn_served_since : (server : Server) (end : ℚ) (V : List ServerStep) (own first last up_to : Class) (bits : ℕ) (β higher R : ℚ → Ext)
     → AreInTurn server end V own first last up_to bits → KeepsService β end V → IsZeroAtStart β → KeepsArrivals first higher V
     → IsPriorityService β higher bits R → (t : ℚ) → t ≤ℚ end → departed own V t <ℚ arrived own V t
-    → (s : ℚ) × IsStretch up_to V t s × IsServed own R V t s
+    → (s : ℚ) × IsBacklogged up_to V s t × IsServed own R V t s
 turn_served_since server end V own first last up_to bits β higher R turn service flat keeps running t l waits =
     let lawful = turn.lawful in
     let sum_A = arrived_parts up_to own first V t turn.upto_parts in
@@ -194,8 +196,8 @@ turn_served_since server end V own first last up_to bits β higher R turn servic
     let before_A = worked_arrived server end V first t lawful in
     let behind : departed up_to V t <ℚ arrived up_to V t =
     below (arrived up_to V t) (arrived own V t) (arrived first V t) (departed up_to V t) (departed own V t) (departed first V t) (worked first V t) sum_A sum_L before_L before_A waits in
-    let found = stretch server end V up_to t lawful behind in
-    (found.0, found.1, in_stretch server end V own first last up_to bits β higher R t found.0 turn service flat keeps running l found.1)
+    let found = backlogged_since server end V up_to t lawful behind in
+    (found.0, found.1, in_period server end V own first last up_to bits β higher R t found.0 turn service flat keeps running l found.1)
   where
     below : (A Ai Ah L Li Lh Wh : ℚ) → A ≡ Ai +ℚ Ah → L ≡ Li +ℚ Lh → Lh ≤ℚ Wh → Wh ≤ℚ Ah → Li <ℚ Ai → L <ℚ A
     below A Ai Ah L Li Lh Wh e f h k m = with7 A Ai Ah L Li Lh Wh (λ c. omega (arith, c.le, c.lt, c.same))

@@ -7,7 +7,7 @@ use Rattle.run_laws.specs.rational.proofs.Over.{le_q_in, lt_q_in}
 use Rattle.run_laws.specs.rational.proofs.MinMax.{lt_q_not}
 use Rattle.run_laws.specs.rational.proofs.Laws.{le_refl, le_trans, le_of_lt}
 use Rattle.run_laws.specs.rational.proofs.Linear.{with4, with7}
-use Rattle.run_laws.specs.Cards.{Card, all, of_queue, before_queue, upto_queue, after_queue, ServerStep, Works, time_of}
+use Rattle.run_laws.specs.Cards.{Card, Class, all, of_queue, before_queue, after_queue, ServerStep, Works, time_of}
 use Rattle.run_laws.proofs.Always.{AreAlwaysParts}
 use Rattle.run_laws.specs.Servers.{Discipline, Priority, Server, Round, ServerState, head_of, start}
 use Rattle.run_laws.specs.Next.{next, after}
@@ -24,6 +24,10 @@ use Rattle.run_laws.proofs.Waiting.{allowed-append, all_upto}
 use Rattle.run_laws.proofs.Places.{somebody, inside_some, under_bits, only_under, under_small}
 use Rattle.residual_laws.specs.PriorityLaws.{PriorityServes}
 use Rattle.residual_laws.proofs.InTurn.{turn_serves}
+
+-- the packets of the queues up to queue q
+abbrev upto_queue : ℕ → Class
+upto_queue q c = leb c.queue q
 
 -- ---- the first non-empty queue
 first_lowest : (n q : ℕ) (cs : List Card) (c d e : Card) → first_head n q cs ≡ Some c → head_of d.queue cs ≡ Some e → q ≤ d.queue

@@ -96,8 +96,6 @@ rest_serves server end V C β brought R lawful service flat keeps is =
     (rest_in_turn β brought R is)
 
 pub rest_serves_since : RestServesSince
-rest_serves_since server end V C β brought R lawful service flat keeps is t l waits =
-    let since = turn_served_since server end V C (others C) none all 0 β brought R (in_turn server end V C lawful) service flat keeps
-    (rest_in_turn β brought R is) t l waits in
-    let stretch = since.1 in
-    (since.0, record { begins = stretch.begins; empty = stretch.caught_up; waiting = stretch.busy }, since.2)
+rest_serves_since server end V C β brought R lawful service flat keeps is =
+    turn_served_since server end V C (others C) none all 0 β brought R (in_turn server end V C lawful) service flat keeps
+    (rest_in_turn β brought R is)

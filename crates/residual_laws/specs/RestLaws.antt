@@ -1,7 +1,7 @@
--- What a server of any discipline leaves to a class of packets, as one of its queues, when nothing is known of the order
--- in which it works: the service less what all other packets bring. It is counted from a time at which the whole server
--- is empty: where the class alone has nothing there, others may wait, and nothing bounds the work on what they brought.
--- (Le Boudec and Thiran, section 6.2: blind multiplexing.)
+-- What a server of any discipline leaves to a class of packets, as one of its queues, when nothing is known of the
+-- order in which it works: the service less what all other packets bring. It is counted from a time at which the whole
+-- server is empty: where the class alone has nothing there, others may wait, and nothing bounds the work on what they
+-- brought. (Le Boudec and Thiran, section 6.2: blind multiplexing.)
 use Rattle.std.specs.Prelude.{pos, not, List}
 use Rattle.run_laws.specs.rational.specs.Rational.{ℚ, int, ◌≤ℚ◌, ◌<ℚ◌}
 use Rattle.run_laws.specs.rational.specs.Extended.{Ext}
@@ -11,7 +11,8 @@ use Rattle.run_laws.specs.Cards.{Class, all, ServerStep}
 use Rattle.run_laws.specs.Servers.{Server}
 use Rattle.run_laws.specs.Allows.{IsLawfulView}
 use Rattle.run_laws.specs.Premises.{KeepsArrivals, KeepsService, IsZeroAtStart}
-use Rattle.run_laws.specs.Counts.{arrived, worked, departed}
+use Rattle.run_laws.specs.Counts.{arrived, departed}
+use Rattle.run_laws.specs.Backlogged.{IsBacklogged}
 use Rattle.run_laws.specs.Serves.{Serves, IsServed}
 
 -- all packets but those of the class
@@ -33,15 +34,14 @@ RestServes = (server : Server) (end : ℚ) (view : List ServerStep) (C : Class) 
     IsRestService β brought R → Serves C R end view
 
 -- ---- since when
--- something of the class is there all through the open window from s to t, and at s nothing is
-pub record IsBacklogged (C : Class) (view : List ServerStep) (s t : ℚ) : Type 0 where
-  pub begins : s <ℚ t
-  pub empty : arrived C view s ≤ℚ worked C view s
-  pub waiting : (x : ℚ) → s <ℚ x → x <ℚ t → worked C view x <ℚ arrived C view x
-
--- a class that has not left whole by t is served since the server's backlogged period began
-abbrev pub RestServesSince : Type 0
-RestServesSince = (server : Server) (end : ℚ) (view : List ServerStep) (C : Class) (β brought R : ℚ → Ext) →
+-- a class that has not left whole by t is served since a backlogged period began: that of the class which `whose` names
+abbrev pub RestServesSincePeriodOf : (Class → Class) → Type 0
+RestServesSincePeriodOf whose = (server : Server) (end : ℚ) (view : List ServerStep) (C : Class)
+    (β brought R : ℚ → Ext) →
     IsLawfulView server end view → KeepsService β end view → IsZeroAtStart β → KeepsArrivals (others C) brought view →
     IsRestService β brought R → (t : ℚ) → t ≤ℚ end → departed C view t <ℚ arrived C view t →
-    (s : ℚ) × IsBacklogged all view s t × IsServed C R view t s
+    (s : ℚ) × IsBacklogged (whose C) view s t × IsServed C R view t s
+
+-- that of all packets, which is the server's; by the class's own it would be false (`worked_services`)
+abbrev pub RestServesSince : Type 0
+RestServesSince = RestServesSincePeriodOf (λ C. all)

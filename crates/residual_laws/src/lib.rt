@@ -1,6 +1,6 @@
-//! What a queue of a priority server, and of a deficit round robin server, is served, and what a server of any discipline
-//! leaves, as functions of time: definitions and laws. What is said of the calls that make the first two of these services
-//! stands in `residual_calls`.
+//! What a queue of a priority server, and of a deficit round robin server, is served, and what a server of any
+//! discipline leaves, as functions of time: definitions and laws. What is said of the calls that make the first two of
+//! these services stands in `residual_calls`.
 #![tactic(auto)]
 
 mod drr;

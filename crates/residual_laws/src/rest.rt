@@ -2,8 +2,8 @@
 
 ghost use Rattle.residual_laws.specs.RestLaws.{RestServes, RestServesSince};
 
-/// A class of packets, as a queue, is served by what all others leave, whatever the server's discipline: where something
-/// of it is there, since the server's backlogged period began.
+/// A class of packets, as a queue, is served by what all others leave, whatever the server's discipline: where
+/// something of it is there, since the server's backlogged period began.
 pub fn rest_serves()
     ensures served { RestServes }
     ensures since { RestServesSince }

@@ -10,7 +10,7 @@ pub mod States
 pub mod Cuts
 pub mod Orders
 pub mod Gone
-pub mod Stretches
+pub mod Backlogged
 pub mod Service
 pub mod Waiting
 pub mod Delay

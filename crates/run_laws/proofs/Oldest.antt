@@ -7,7 +7,7 @@ use Rattle.fraction128.specs.rational.proofs.Laws.{le_refl}
 use Rattle.fraction128.specs.rational.proofs.Linear.{with3, with4, with5}
 use Rattle.run_laws.specs.Cards.{Card, size, Class, ServerStep, Arrives, Works, Leaves, Visits}
 use Rattle.run_laws.proofs.Always.{IsAlwaysOfQueue, IsAlwaysPart}
-use Rattle.run_laws.specs.Servers.{Server, Under, ServerState, done_at, start, without_head}
+use Rattle.run_laws.specs.Servers.{Server, Under, ServerState, start, without_head}
 use Rattle.run_laws.specs.Next.{next, after}
 use Rattle.run_laws.specs.Allows.{AllAllowed, IsLawfulView}
 use Rattle.run_laws.specs.Counts.{when, total, arrives, leaves, before, upto, arrived, arrived_upto, worked, departed}
@@ -16,7 +16,7 @@ use Rattle.fraction128.specs.rational.proofs.MinMax.{lt_q_not}
 use Rattle.run_laws.proofs.Sums.{when_true, when_false, when_nonneg, when_le, Each, each_map, each_all, each-append, total-append, total_nonneg, total_none, add_nothing}
 use Rattle.run_laws.proofs.Counts.{arrived_le, before_upto, arrives_nonneg}
 use Rattle.run_laws.proofs.Heads.{sum_of}
-use Rattle.run_laws.proofs.States.{IsSound, IsSoundFor, sound_next, leaving, if_true, done_by, done_at_most}
+use Rattle.run_laws.proofs.States.{IsSound, IsSoundFor, sound_next, leaving, if_true, done_by, done_at_most, done_at}
 use Rattle.run_laws.proofs.Cuts.{before_edge, all_after, IsBefore, IsAfter, no_arrives, AtTime}
 use Rattle.run_laws.proofs.Orders.{at_before}
 use Rattle.run_laws.proofs.Waiting.{of_class, bits_of, class-append, class_head, class_other, allowed-append, all_upto}

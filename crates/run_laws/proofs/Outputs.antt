@@ -14,16 +14,16 @@ use Rattle.run_laws.specs.Cards.{size, whole, Class, ServerStep, Arrives, Works,
 use Rattle.run_laws.specs.Servers.{Server, ServerState, start}
 use Rattle.run_laws.specs.Next.{next}
 use Rattle.run_laws.specs.Allows.{IsLawfulView, AllAllowed}
-use Rattle.run_laws.specs.Counts.{leaves, before, upto, within, arrived, arrived_upto, arrived_in, departed, departed_upto, departed_in}
+use Rattle.run_laws.specs.Counts.{leaves, before, upto, within, arrived, arrived_upto, arrived_in, departed, departed_in}
 use Rattle.run_laws.specs.Premises.{KeepsArrivals, KeepsSizes}
 use Rattle.run_laws.specs.Serves.{Serves}
 use Rattle.fraction128.specs.rational.proofs.MinMax.{le_q_not}
 use Rattle.run_laws.proofs.Levels.{finite_below, minus_le}
 use Rattle.run_laws.proofs.Sums.{each_all, total_sum, Each, total_none, nothing}
-use Rattle.run_laws.proofs.Counts.{arrived_le, arrived_nonneg, before_upto, arrived_in_is, window_nonneg, window_term}
+use Rattle.run_laws.proofs.Counts.{arrived_le, arrived_nonneg, before_upto, arrived_in_is, window_nonneg, window_term, departed_upto}
 use Rattle.run_laws.proofs.Cuts.{time_in_order, no_leaves}
 use Rattle.run_laws.proofs.Orders.{left_worked, left_upto_worked, worked_arrived}
-use Rattle.run_laws.proofs.Stretches.{none_at_first}
+use Rattle.run_laws.proofs.Backlogged.{none_at_first}
 use Rattle.run_laws.proofs.Service.{packets_are_served}
 
 left_window_step : (C : Class) (s t : ℚ) → s ≤ℚ t → (x : ServerStep)

@@ -17,14 +17,15 @@ use Rattle.run_laws.specs.Premises.{KeepsService, KeepsSizes, IsZeroAtStart}
 use Rattle.run_laws.specs.Serves.{Serves, ServesPackets}
 use Rattle.run_laws.proofs.Levels.{finite_below, add_lower, add_low}
 use Rattle.run_laws.proofs.Orders.{left_worked, worked_left}
-use Rattle.run_laws.proofs.Stretches.{stretch}
+use Rattle.run_laws.proofs.Backlogged.{backlogged_since}
+use Rattle.run_laws.proofs.Gone.{gone_before}
 
 pub itself : (β : ℚ → Ext) (t : ℚ) → IsZeroAtStart β → β (t -ℚ t) ≤ₑ Fin (int (pos 0))
 itself β t h =
     let e : int (pos 0) ≡ t -ℚ t = with1 t (λ c. omega (arith, c.le, c.lt, c.same)) in
     subst (λ (x : ℚ). β x ≤ₑ Fin (int (pos 0))) e h
 
--- at a time at which nothing is there, since then; else since the stretch began in which something is
+-- at a time at which nothing is there, since then; else since the backlogged period began
 pub server_is_served : (server : Server) (end : ℚ) (V : List ServerStep) (β : ℚ → Ext) → IsLawfulView server end V → KeepsService β end V
     → IsZeroAtStart β → Serves all β end V
 server_is_served server end V β h k b t l = elim (le_or_lt (arrived all V t) (departed all V t)) [
@@ -37,12 +38,12 @@ server_is_served server end V β h k b t l = elim (le_or_lt (arrived all V t) (d
     },
   )
   | inr m ↦
-      let (s, is) = stretch server end V all t h m in
+      let (s, is) = backlogged_since server end V all t h m in
       let c = is.caught_up in (
         s,
         record {
           earlier = le_of_lt is.begins;
-          left = is.left;
+          left = gone_before server end V all s t h c is.begins;
           kept_up = add_lower (arrived all V s) (worked all V s) (worked all V t) (worked all V t) (β (t -ℚ s)) (with2 (arrived all V s) (worked all V s) (λ c. omega (arith, c.le, c.lt, c.same))) (le_refl (worked all V t)) (k s t is.begins l is.busy);
         },
       )

@@ -16,13 +16,13 @@ use Rattle.run_laws.proofs.Always.{IsAlwaysOfQueue, IsAlwaysPart}
 use Rattle.run_laws.specs.Servers.{Server, ServerState, Under, start}
 use Rattle.run_laws.specs.Next.{next, after}
 use Rattle.run_laws.specs.Allows.{AllAllowed, IsLawfulView, MayLeave}
-use Rattle.run_laws.specs.Counts.{when, total, arrives, leaves, before, upto, arrived, arrived_upto, arrived_in, departed, departed_upto, departed_in}
+use Rattle.run_laws.specs.Counts.{when, total, arrives, leaves, before, upto, arrived, arrived_upto, arrived_in, departed, departed_in}
 use Rattle.run_laws.specs.Premises.{EachArrival, KeepsArrivals, NoneTwice}
 use Rattle.run_laws.specs.Serves.{Serves}
 use Rattle.run_laws.specs.Delays.{gone_at, hop_delays, AreAtMost}
 use Rattle.fraction128.specs.rational.proofs.Over.{lt_q_out}
 use Rattle.run_laws.proofs.Sums.{when_true, when_false, when_most, when_rises, total-append}
-use Rattle.run_laws.proofs.Counts.{arrived_rises, arrived_in_is, upto_arrived, window_nonneg}
+use Rattle.run_laws.proofs.Counts.{arrived_rises, arrived_in_is, upto_arrived, window_nonneg, departed_upto}
 use Rattle.run_laws.proofs.Heads.{sum_of}
 use Rattle.run_laws.proofs.States.{IsSound, IsSoundFor, sound_next, sound_after}
 use Rattle.run_laws.proofs.Orders.{at_before}

@@ -7,7 +7,7 @@ use Rattle.fraction128.specs.rational.proofs.Laws.{le_refl, le_trans, le_or_lt, 
 use Rattle.fraction128.specs.rational.proofs.Linear.{with2, with3, with4, with5, with7}
 use Rattle.run_laws.specs.Cards.{Card, size, Class, ServerStep, Arrives, Works, Leaves, Visits, time_of}
 use Rattle.run_laws.proofs.Always.{IsAlwaysOfQueue}
-use Rattle.run_laws.specs.Servers.{Server, Under, ServerState, done, done_at, start, clip, head_of, without_head}
+use Rattle.run_laws.specs.Servers.{Server, Under, ServerState, done, start, clip, head_of, without_head}
 use Rattle.run_laws.specs.Next.{next, after}
 use Rattle.run_laws.specs.Allows.{Allows, AllAllowed, IsLawfulView, IsComplete}
 use Rattle.run_laws.specs.Counts.{total, arrives, leaves, works, upto, worked}
@@ -16,7 +16,7 @@ use Rattle.fraction128.specs.rational.proofs.Over.{le_q_out, le_q_in}
 use Rattle.run_laws.proofs.Clips.{clip_strict, clip_late}
 use Rattle.run_laws.proofs.Sums.{when_true, when_false, Each, each_map, total-append}
 use Rattle.run_laws.proofs.Heads.{same_some, sum_of}
-use Rattle.run_laws.proofs.States.{IsSound, IsSoundFor, IsUnderWay, sound_next, sound_after, leaving, balance_after, work_after, done_by, done_at_most}
+use Rattle.run_laws.proofs.States.{IsSound, IsSoundFor, IsUnderWay, sound_next, sound_after, leaving, balance_after, work_after, done_by, done_at_most, done_at}
 use Rattle.run_laws.proofs.Cuts.{upto_edge, at_time, IsBefore, time_in_order}
 use Rattle.run_laws.proofs.Gone.{complete_leaves, first_gone, after-append}
 use Rattle.run_laws.proofs.Sizes.{size_nonneg, size_pos}

@@ -1,5 +1,5 @@
 -- What one server sees: packets that arrive, work on them, packets that leave, and visits of its queues.
-use Rattle.std.specs.Prelude.{ℕ, Bool, true, ◌==◌, ltb, leb}
+use Rattle.std.specs.Prelude.{ℕ, Bool, true, ◌==◌, ltb}
 use Rattle.fraction128.specs.rational.specs.Rational.{ℚ}
 pub use Rattle.min_plus.specs.Functions.{whole}
 
@@ -37,15 +37,12 @@ Class = Card → Bool
 abbrev pub all : Class
 all c = true
 
--- those of queue q; of the queues before it, up to it, after it
+-- those of queue q; of the queues before it, after it
 abbrev pub of_queue : ℕ → Class
 of_queue q c = c.queue == q
 
 abbrev pub before_queue : ℕ → Class
 before_queue q c = ltb c.queue q
-
-abbrev pub upto_queue : ℕ → Class
-upto_queue q c = leb c.queue q
 
 abbrev pub after_queue : ℕ → Class
 after_queue q c = ltb q c.queue

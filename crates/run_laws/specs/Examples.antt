@@ -1,5 +1,5 @@
 -- Small runs, lawful and not, and what is said of each.
-use Rattle.std.specs.Prelude.{None, ◌≡◌, ℕ, true, false, List, [], ◌∷◌}
+use Rattle.std.specs.Prelude.{Some, None, ◌≡◌, ℕ, true, false, List, [], ◌∷◌}
 use Rattle.fraction128.specs.rational.specs.Rational.{ℚ, ◌+ℚ◌}
 use Rattle.fraction128.specs.rational.specs.Extended.{Ext}
 use Rattle.fraction128.specs.rational.specs.declared.Extended.TheVariants.{Fin}
@@ -22,6 +22,10 @@ use Rattle.run_laws.specs.Bounds.{IsOnlyFlow}
 
 abbrev pub server : Discipline → Server
 server d = record { discipline = d; pace = None }
+
+-- of a pace of so many bits a unit of time
+abbrev pub paced_server : Discipline → ℕ → Server
+paced_server d rate = record { discipline = d; pace = Some (whole rate) }
 
 abbrev pub over : List Hop → Route
 over hops = record { live = true; hops = hops }

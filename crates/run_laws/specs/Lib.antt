@@ -9,6 +9,7 @@ pub mod Counts
 pub mod Premises
 pub mod Classes
 pub mod Serves
+pub mod Backlogged
 pub mod Delays
 pub mod Routes
 pub mod Views

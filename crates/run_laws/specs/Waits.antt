@@ -37,6 +37,7 @@ IsAboveByAtMost α γ most = (t level : ℚ) → zero_q ≤ℚ t → γ t ≡ Fi
 
 -- then the backlog of a class of packets of at most so many bits is no more
 abbrev pub BacklogFromGap : Type 0
-BacklogFromGap = (server : Server) (end : ℚ) (view : List ServerStep) (C : Class) (bits : ℕ) (α β : ℚ → Ext) (most : Ext) →
+BacklogFromGap = (server : Server) (end : ℚ) (view : List ServerStep) (C : Class) (bits : ℕ) (α β : ℚ → Ext)
+    (most : Ext) →
     IsLawfulView server end view → KeepsSizes C bits view → KeepsArrivals C α view → Serves C β end view →
     IsAboveByAtMost α (packetised β (whole bits)) most → (t : ℚ) → t ≤ℚ end → Fin (backlog C view t) ≤ₑ most

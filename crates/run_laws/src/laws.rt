@@ -29,8 +29,8 @@ pub fn backlog_from_service()
     ensures { BacklogFromService }
 {}
 
-/// No packet of a class of one queue stays longer than d, where after each longer wait the curve that serves the class is at
-/// least where its arrival curve was; where the former never falls, the wait d is enough.
+/// No packet of a class of one queue stays longer than d, where after each longer wait the curve that serves the class
+/// is at least where its arrival curve was; where the former never falls, the wait d is enough.
 pub fn delay_from_wait()
     ensures delay { DelayFromWait }
     ensures one_wait { OneWaitIsEnough }
@@ -77,8 +77,8 @@ pub fn closure_is_kept()
     ensures premises { ClosuresKeepPremises }
 {}
 
-/// Who keeps an arrival curve keeps each that is nowhere below it: a class of packets that arrive at a server, and the flows
-/// of a run, whose servers then also keep each service curve that is nowhere above theirs.
+/// Who keeps an arrival curve keeps each that is nowhere below it: a class of packets that arrive at a server, and the
+/// flows of a run, whose servers then also keep each service curve that is nowhere above theirs.
 pub fn who_keeps_keeps_greater()
     ensures arrivals { GreaterIsKept }
     ensures premises { WeakerPremisesAreKept }

@@ -12,7 +12,8 @@ use Rattle.watch_laws.specs.upp_limits.specs.Limits.{Sizes}
 use Rattle.watch_laws.specs.upp_limits.specs.Sized.{IsSlope}
 use Rattle.watch_laws.specs.upp_normal.specs.Operand.{AreLimited}
 use Rattle.watch_laws.specs.run_laws.specs.Cards.{Card, time_of, all, whole, size, ServerStep, Arrives, Works, Leaves, Visits}
-use Rattle.watch_laws.specs.run_laws.specs.Counts.{when, upto, arrived_upto, departed_upto, worked}
+use Rattle.watch_laws.specs.run_laws.specs.Counts.{when, upto, arrived_upto, worked}
+use Rattle.watch_laws.specs.run_laws.proofs.Counts.{departed_upto}
 use Rattle.watch_laws.specs.run_laws.specs.Servers.{Server, ServerState, start}
 use Rattle.watch_laws.specs.run_laws.specs.Next.{next, after}
 use Rattle.watch_laws.specs.run_laws.specs.Allows.{AllAllowed, IsLawfulView}

@@ -14,7 +14,8 @@ use Rattle.run_laws.specs.Lawful.{RunState, IsKnown, run_start}
 use Rattle.run_laws.proofs.Arrivals.{arrivals_map, AllSizes, IsEntered, IsPassing, rest_sizes, entries_more, passing_entry}
 use Rattle.run_laws.proofs.Entries.{entry_last, EachDue, each_due_at, passes_first}
 use Rattle.run_laws.proofs.Totals.{queue_keeps_total}
-use Rattle.net_laws.specs.Multicast.{NextServers, next_run_by, AllAllowedBy, IsLawfulBy, StaysInside}
+use Rattle.net_laws.specs.Multicast.{NextServers, next_run_by, AllAllowedBy, IsLawfulBy}
+use Rattle.net_laws.proofs.Arcs.{StaysInside}
 use Rattle.tree_runs.specs.Trees.{TreeRoutes, flat, next_servers, IsLawfulTree}
 use Rattle.tree_runs.specs.Packets.{KeepsTreeSizes, IsOfTree, PacketsAreOfTrees, TreeQueuesKeepSizes, TreeQueueKeepsTotal}
 use Rattle.net_laws.proofs.Dues.{IsDueBy, due_next_by}

@@ -13,9 +13,9 @@ use Rattle.run_laws.specs.Views.{view}
 use Rattle.run_laws.proofs.Arrivals.{arrivals_map, IsPassing}
 use Rattle.pace_laws.specs.Groups.{of_flows, part_number}
 use Rattle.pace_laws.proofs.Groups.{flows_keep, known_flow, in_flow, came_is, group_cut_by, group_lesser_by, queue_of_parts}
-use Rattle.tree_runs.specs.Trees.{TreeRoutes, tree_of, hops_in, Hangs, IsTree, IsOverTrees, flat, next_servers, IsLawfulTree}
+use Rattle.tree_runs.specs.Trees.{TreeRoutes, tree_of, hops_in, tree_server_before, Hangs, IsTree, IsOverTrees, flat, next_servers, IsLawfulTree}
 use Rattle.tree_runs.specs.Packets.{KeepsTreeSizes}
-use Rattle.tree_runs.specs.Parts.{TreeGroupIsCut, comes_from, is_of_tree_part, tree_part_curve, AreTreePaced, TreePartsAreKept}
+use Rattle.tree_runs.specs.Parts.{TreeGroupIsCut, is_of_tree_part, tree_part_curve, AreTreePaced, TreePartsAreKept}
 use Rattle.net_laws.proofs.Links.{arc_window}
 use Rattle.tree_runs.proofs.Packets.{tree_passing_at}
 use Rattle.tree_runs.proofs.Trees.{hops_are, live_is, from_passes, arc_of, path_known, hung_on}
@@ -44,7 +44,7 @@ record Kept (net : TreeRoutes) (run : SpecRun) (s q : ℕ) (packet longest : ℕ
 tree_in : (net : TreeRoutes) (s q i : ℕ) → IsOverTrees net → is_in (flat net) s q i ≡ true → IsTree net i
 tree_in net s q i trees e = trees i (sym (live_is net i) ∙ (and_parts (route_of (flat net) i).live (is_on s q (route_of (flat net) i).hops) e).0)
 
-from_below : (net : TreeRoutes) (i s : ℕ) (from : Option ℕ) → IsTree net i → comes_from net s i ≡ from
+from_below : (net : TreeRoutes) (i s : ℕ) (from : Option ℕ) → IsTree net i → tree_server_before s (tree_of net i).nodes ≡ from
     → part_number from < suc (length net.servers)
 from_below net i s None tree e = omega arith
 from_below net i s (Some p) tree e =
@@ -56,12 +56,12 @@ part_keeps : (net : TreeRoutes) (run : SpecRun) (s q k : ℕ) (packet longest : 
     → KeepsArrivals (of_flows (is_of_tree_part net s q k)) (tree_part_curve net s q α longest rate k) (view (flat net) run s)
 part_keeps net run s q zero packet longest rate α h l =
     let test = is_of_tree_part net s q zero in
-    let inside = λ (i : ℕ) (e : test i ≡ true). (and_parts (is_in (flat net) s q i) (part_number (comes_from net s i) == zero) e).0 in
+    let inside = λ (i : ℕ) (e : test i ≡ true). (and_parts (is_in (flat net) s q i) (part_number (tree_server_before s (tree_of net i).nodes) == zero) e).0 in
     flows_keep (flat net) test α (view (flat net) run s) (λ i e. in_flow (flat net) s q i (inside i e)) (λ i e. h.keeps i (inside i e))
 part_keeps net run s q (suc p) packet longest rate α h l =
     let test = is_of_tree_part net s q (suc p) in
-    let parts = λ (i : ℕ) (e : test i ≡ true). and_parts (is_in (flat net) s q i) (part_number (comes_from net s i) == suc p) e in
-    let hangs = λ (i : ℕ) (e : test i ≡ true). came_is (comes_from net s i) p (eqb-true (part_number (comes_from net s i)) (suc p) (parts i e).1) in
+    let parts = λ (i : ℕ) (e : test i ≡ true). and_parts (is_in (flat net) s q i) (part_number (tree_server_before s (tree_of net i).nodes) == suc p) e in
+    let hangs = λ (i : ℕ) (e : test i ≡ true). came_is (tree_server_before s (tree_of net i).nodes) p (eqb-true (part_number (tree_server_before s (tree_of net i).nodes)) (suc p) (parts i e).1) in
     let small = h.paced.none_longer p in
     let known : p < length net.servers = omega arith in
     group_lesser_by (flat net) run test p s (longest p) (rate p) α
@@ -80,7 +80,7 @@ part_keeps net run s q (suc p) packet longest rate α h l =
 pub tree_parts_are_kept : TreePartsAreKept
 tree_parts_are_kept net run s q packet longest rate α lawful trees sizes paced keeps =
     let h : Kept net run s q packet longest rate α = record { lawful = lawful; trees = trees; sizes = sizes; paced = paced; keeps = keeps } in
-    queue_of_parts (flat net) run s q packet (comes_from net s) (tree_part_curve net s q α longest rate)
+    queue_of_parts (flat net) run s q packet (λ i. tree_server_before s (tree_of net i).nodes) (tree_part_curve net s q α longest rate)
     (tree_passing_at net run packet s lawful sizes)
-    (λ i e. from_below net i s (comes_from net s i) (tree_in net s q i trees e) refl)
+    (λ i e. from_below net i s (tree_server_before s (tree_of net i).nodes) (tree_in net s q i trees e) refl)
     (λ k l. part_keeps net run s q k packet longest rate α h l)

@@ -7,8 +7,8 @@ use Rattle.run_laws.specs.Routes.{Hop, Route, Routes, route_of, link_at, PassesS
 use Rattle.run_laws.proofs.Sums.{one_if}
 use Rattle.net_laws.specs.Paths.{IsPath}
 use Rattle.net_laws.proofs.Once.{passes_or}
-use Rattle.net_laws.specs.Multicast.{IsArc, IsRoot, StaysInside, IsReachedIn, IsSpanned, IsWalk}
-use Rattle.tree_runs.specs.Trees.{Node, Tree, TreeRoutes, tree_of, hops_in, flat_tree, flat, is_from, hanging_on, next_servers, from_of, Hangs, HangsOn, EachHangs, IsTree, IsOverTrees}
+use Rattle.net_laws.proofs.Arcs.{IsArc, IsRoot, StaysInside, IsReachedIn, IsSpanned, IsWalk}
+use Rattle.tree_runs.specs.Trees.{Node, Tree, TreeRoutes, tree_of, hops_in, flat_tree, flat, is_from, hanging_on, next_servers, tree_server_before, Hangs, HangsOn, EachHangs, IsTree, IsOverTrees}
 use Rattle.tree_runs.specs.Branches.{GoesOn}
 use Rattle.rational.specs.Rational.{int, ◌≤ℚ◌}
 
@@ -39,7 +39,7 @@ absent b c (n ∷ ns) h =
     ]
 
 there : (net : Routes) (b c : ℕ) (ns : List Node) → IsPath net (hops_in ns) → PassesServer b (hops_in ns)
-    → count_of b (hanging_on c ns) ≡ one_if (is_from c (from_of b ns))
+    → count_of b (hanging_on c ns) ≡ one_if (is_from c (tree_server_before b ns))
 there net b c [] path p = absurd p
 there net b c (n ∷ ns) path p = elim (cases_Bool (n.server == b)) [
   | inl e ↦
@@ -60,7 +60,7 @@ there net b c (n ∷ ns) path p = elim (cases_Bool (n.server == b)) [
     later n ns e (inl k) = let f = eq-eqb n.server b k in absurd (cc)
     later n ns e (inr k) = k
 
-pub from_passes : (b : ℕ) (ns : List Node) (a : ℕ) → from_of b ns ≡ Some a → PassesServer b (hops_in ns)
+pub from_passes : (b : ℕ) (ns : List Node) (a : ℕ) → tree_server_before b ns ≡ Some a → PassesServer b (hops_in ns)
 from_passes b [] a e = absurd (cc)
 from_passes b (n ∷ ns) a e = elim (cases_Bool (n.server == b)) [
   | inl f ↦ inl (eqb-true n.server b f)
@@ -68,7 +68,7 @@ from_passes b (n ∷ ns) a e = elim (cases_Bool (n.server == b)) [
 ]
 
 -- the first hangs on none
-first_free : (ns : List Node) (s : ℕ) → EachHangs [] ns → PassesServer s (hops_in ns) → first_server (hops_in ns) ≡ s → from_of s ns ≡ None
+first_free : (ns : List Node) (s : ℕ) → EachHangs [] ns → PassesServer s (hops_in ns) → first_server (hops_in ns) ≡ s → tree_server_before s ns ≡ None
 first_free [] s h p e = absurd p
 first_free (n ∷ ns) s h p e = rw (eq-eqb n.server s e) (free n.from h.0)
   where
@@ -78,7 +78,7 @@ first_free (n ∷ ns) s h p e = rw (eq-eqb n.server s e) (free n.from h.0)
 
 -- and each other one on one before it
 some_from : (done ns : List Node) (x : Node) (s : ℕ) → EachHangs (done ++ x ∷ []) ns → PassesServer s (hops_in ns)
-    → (a : ℕ) × (from_of s ns ≡ Some a)
+    → (a : ℕ) × (tree_server_before s ns ≡ Some a)
 some_from done [] x s h p = absurd p
 some_from done (n ∷ ns) x s h p = elim (cases_Bool (n.server == s)) [
   | inl e ↦ let (a, f) = on n.from h.0 in (a, rw e f)
@@ -99,7 +99,7 @@ some_from done (n ∷ ns) x s h p = elim (cases_Bool (n.server == s)) [
     later n ns e (inr k) = k
 
 pub first_or_hangs : (ns : List Node) (s : ℕ) → EachHangs [] ns → PassesServer s (hops_in ns)
-    → (first_server (hops_in ns) ≡ s) ⊎ ((a : ℕ) × (from_of s ns ≡ Some a))
+    → (first_server (hops_in ns) ≡ s) ⊎ ((a : ℕ) × (tree_server_before s ns ≡ Some a))
 first_or_hangs [] s h p = absurd p
 first_or_hangs (n ∷ ns) s h (inl e) = inl e
 first_or_hangs (n ∷ ns) s h (inr p) = elim (cases_Bool (n.server == s)) [
@@ -169,14 +169,14 @@ passes_last (x ∷ done) n s (inr p) = elim (passes_last done n s p) [
 
 -- where no server is twice, the node of a server is the one that hangs where it does
 from_there : (net : Routes) (done : List Node) (n : Node) (ns : List Node) → IsPath net (hops_in (done ++ n ∷ ns))
-    → from_of n.server (done ++ n ∷ ns) ≡ n.from
+    → tree_server_before n.server (done ++ n ∷ ns) ≡ n.from
 from_there net [] n ns path = rw (eq-eqb n.server n.server refl) refl
 from_there net (x ∷ done) n ns path =
     let other = ne_eqb x.server n.server (λ e. path.2 (subst (λ (k : ℕ). PassesServer k (hops_in (done ++ n ∷ ns))) (sym e) (passes_there done n ns))) in
     rw other (from_there net done n ns path.3)
 
 -- a server on which another hangs is one of the tree
-pub hung_on : (done ns : List Node) (b a : ℕ) → EachHangs done ns → from_of b ns ≡ Some a → PassesServer a (hops_in (done ++ ns))
+pub hung_on : (done ns : List Node) (b a : ℕ) → EachHangs done ns → tree_server_before b ns ≡ Some a → PassesServer a (hops_in (done ++ ns))
 hung_on done [] b a h e = absurd (cc)
 hung_on done (n ∷ ns) b a h e = elim (cases_Bool (n.server == b)) [
   | inl f ↦
@@ -208,7 +208,7 @@ grow net i done (n ∷ ns) tree is hang before s passes =
         )
     here (Some a) e hangs =
         let path = subst (λ (ms : List Node). IsPath (flat net) (hops_in ms)) is tree.servers in
-        let on : from_of n.server (tree_of net i).nodes ≡ Some a = ap (from_of n.server) is ∙ from_there (flat net) done n ns path ∙ e in
+        let on : tree_server_before n.server (tree_of net i).nodes ≡ Some a = ap (tree_server_before n.server) is ∙ from_there (flat net) done n ns path ∙ e in
         let known = path_known (flat net) (hops_in (done ++ n ∷ ns)) a path (passes_before done (n ∷ ns) a hangs) in
         let (m, reached) = before a hangs in
         (suc m, (a, (known, arc_of net i a n.server tree on, reached)))
@@ -227,7 +227,7 @@ hangs_where net i a b tree l =
     let ns = (tree_of net i).nodes in
     elim (passes_or b (hops_in ns)) [
       | inr n ↦ let none = absent b a ns n in absurd (omega arith)
-      | inl p ↦ only_from (from_of b ns) (subst (λ (k : ℕ). 1 ≤ k) (there (flat net) b a ns tree.servers p) l)
+      | inl p ↦ only_from (tree_server_before b ns) (subst (λ (k : ℕ). 1 ≤ k) (there (flat net) b a ns tree.servers p) l)
     ]
   where
     only_from : (from : Option ℕ) → 1 ≤ one_if (is_from a from) → from ≡ Some a
@@ -252,7 +252,7 @@ walk_of_branch net i from (h ∷ g ∷ hs) tree b = (
   walk_of_branch net i (Some h.server) (g ∷ hs) tree b.2,
 )
 
-pub branch_first : (net : TreeRoutes) (i s : ℕ) → IsTree net i → PassesServer s (hops_in (tree_of net i).nodes) → from_of s (tree_of net i).nodes ≡ None
+pub branch_first : (net : TreeRoutes) (i s : ℕ) → IsTree net i → PassesServer s (hops_in (tree_of net i).nodes) → tree_server_before s (tree_of net i).nodes ≡ None
     → first_server (route_of (flat net) i).hops ≡ s
 branch_first net i s tree passes free = elim (first_or_hangs (tree_of net i).nodes s tree.hangs passes) [
   | inl first ↦ ap first_server (hops_are net i) ∙ first

@@ -1,5 +1,5 @@
--- The same by parts: where each server bounds its queues by the sums of parts that these keep, those over a link cut by the
--- pace of the server before, all hold. What an analysis of switched networks has to show is this of each port.
+-- The same by parts: where each server bounds its queues by the sums of parts that these keep, those over a link cut
+-- by the pace of the server before, all hold. What an analysis of switched networks has to show is this of each port.
 use Rattle.std.specs.Prelude.{◌<◌, ℕ, pos, length}
 use Rattle.rational.specs.Rational.{ℚ, int}
 use Rattle.rational.specs.Extended.{Ext, ◌≤ₑ◌}
@@ -22,10 +22,12 @@ QueuesKeepParts net run arrival longest rate s = (q : ℕ) →
     KeepsArrivals (of_queue q) (tree_parts_curve net s q (λ i. arrival i s) (longest s q) rate) (view (flat net) run s)
 
 abbrev pub TreesAreBoundedByParts : Type 0
-TreesAreBoundedByParts = (net : TreeRoutes) (run : SpecRun) (place packet : ℕ → ℕ) (longest : ℕ → ℕ → ℕ → ℕ) (rate : ℕ → ℚ)
-    (arrival : ℕ → ℕ → ℚ → Ext) (delay held : ℕ → ℕ → Ext) →
+TreesAreBoundedByParts = (net : TreeRoutes) (run : SpecRun) (place packet : ℕ → ℕ) (longest : ℕ → ℕ → ℕ → ℕ)
+    (rate : ℕ → ℚ) (arrival : ℕ → ℕ → ℚ → Ext) (delay held : ℕ → ℕ → Ext) →
     IsLawfulTree net run → IsOverTrees net → TreeGoesForward net place → KeepsTreeSizes net packet run →
-    EntersKept (flat net) run arrival → ((s q : ℕ) → s < length net.servers → AreTreePaced net s q packet (longest s q) rate) →
+    EntersKept (flat net) run arrival →
+    ((s q : ℕ) → s < length net.servers → AreTreePaced net s q packet (longest s q) rate) →
     ((s q : ℕ) → Fin (int (pos 0)) ≤ₑ delay s q) → GrowsByStays net arrival (stay_in net delay) →
-    ((s : ℕ) → s < length net.servers → QueuesKeepParts net run arrival longest rate s → QueuesAreBounded net run delay held s) →
+    ((s : ℕ) → s < length net.servers → QueuesKeepParts net run arrival longest rate s →
+    QueuesAreBounded net run delay held s) →
     IsBoundedByQueues net run arrival delay held

@@ -13,7 +13,7 @@ use Rattle.run_laws.specs.Cards.{of_flow}
 use Rattle.run_laws.specs.Premises.{KeepsArrivals}
 use Rattle.run_laws.specs.Views.{view}
 use Rattle.net_laws.specs.Multicast.{delays_to_from}
-use Rattle.tree_runs.specs.Trees.{Node, TreeRoutes, tree_of, hops_in, from_of, IsTree, flat, IsLawfulTree}
+use Rattle.tree_runs.specs.Trees.{Node, TreeRoutes, tree_of, hops_in, tree_server_before, IsTree, flat, IsLawfulTree}
 
 -- when each packet of flow i has left server s and passed its link, less when it entered
 abbrev pub delays_to : TreeRoutes → SpecRun → ℕ → ℕ → List ℚ
@@ -24,7 +24,7 @@ delays_to net run flow s = delays_to_from (flat net) flow s run.end run.steps
 abbrev pub GoesOn : List Node → Option ℕ → List Hop → Type 0
 GoesOn nodes from [] = Unit {0}
 GoesOn nodes from (h ∷ hs) =
-    PassesServer h.server (hops_in nodes) × (from_of h.server nodes ≡ from) × GoesOn nodes (Some h.server) hs
+    PassesServer h.server (hops_in nodes) × (tree_server_before h.server nodes ≡ from) × GoesOn nodes (Some h.server) hs
 
 -- from the first server on
 abbrev pub IsBranch : TreeRoutes → ℕ → List Hop → Type 0
@@ -40,7 +40,9 @@ BranchDelayFromHops = (net : TreeRoutes) (run : SpecRun) (i : ℕ) (hs : List Ho
 
 -- nor than the horizontal deviation of its curve and the branch's service, and the branch's links: bursts are paid once
 abbrev pub BranchDelayFromService : Type 0
-BranchDelayFromService = (net : TreeRoutes) (run : SpecRun) (i : ℕ) (hs : List Hop) (α γ : ℚ → Ext) (delay : Ext) (curves : List (ℚ → Ext)) →
-    IsLawfulTree net run → IsTree net i → IsBranch net i hs → KeepsArrivals (of_flow i) α (view (flat net) run (first_server hs)) →
+BranchDelayFromService = (net : TreeRoutes) (run : SpecRun) (i : ℕ) (hs : List Hop) (α γ : ℚ → Ext) (delay : Ext)
+    (curves : List (ℚ → Ext)) →
+    IsLawfulTree net run → IsTree net i → IsBranch net i hs →
+    KeepsArrivals (of_flow i) α (view (flat net) run (first_server hs)) →
     IsServedAlong (flat net) run i hs curves → IsWithinSplits γ curves → IsRising γ → IsHorizontalDeviation α γ delay →
     AreAtMost (delay +ₑ Fin (links_along (flat net) hs)) (delays_to net run i (last_server hs))

@@ -22,5 +22,6 @@ BurstsGrow net burst rate delay = (i a b : ℕ) → (tree_of net i).live ≡ tru
 
 -- then the buckets grow by the stays
 abbrev pub BucketsGrow : Type 0
-BucketsGrow = (net : TreeRoutes) (burst : ℕ → ℕ → Ext) (rate : ℕ → ℚ) (delay : ℕ → ℕ → Ext) → BurstsGrow net burst rate delay →
+BucketsGrow = (net : TreeRoutes) (burst : ℕ → ℕ → Ext) (rate : ℕ → ℚ) (delay : ℕ → ℕ → Ext) →
+    BurstsGrow net burst rate delay →
     GrowsByStays net (λ i s. bucket_of (burst i s) (rate i)) (stay_in net delay)

@@ -1,5 +1,5 @@
--- Stairs as the arrival curves of flows. A flow that sends one packet each period keeps its stair along a tree: what grows
--- is the jitter, by the stay. (Le Boudec and Thiran, stair functions; the jitter of a periodic flow.)
+-- Stairs as the arrival curves of flows. A flow that sends one packet each period keeps its stair along a tree: what
+-- grows is the jitter, by the stay. (Le Boudec and Thiran, stair functions; the jitter of a periodic flow.)
 use Rattle.std.specs.Prelude.{◌≡◌, ℕ, pos, true}
 use Rattle.rational.specs.Rational.{ℚ, int, ◌≤ℚ◌, ◌<ℚ◌}
 use Rattle.rational.specs.Extended.{Ext, ◌≤ₑ◌, ◌+ₑ◌}
@@ -21,6 +21,7 @@ JittersGrow net jitter delay = (i a b : ℕ) → (tree_of net i).live ≡ true �
 
 -- then the stairs grow by the stays
 abbrev pub StairsGrow : Type 0
-StairsGrow = (net : TreeRoutes) (packet period : ℕ → ℚ) (jitter delay : ℕ → ℕ → Ext) → ((i : ℕ) → int (pos 0) ≤ℚ packet i) →
+StairsGrow = (net : TreeRoutes) (packet period : ℕ → ℚ) (jitter delay : ℕ → ℕ → Ext) →
+    ((i : ℕ) → int (pos 0) ≤ℚ packet i) →
     ((i : ℕ) → int (pos 0) <ℚ period i) → JittersGrow net jitter delay →
     GrowsByStays net (λ i s. stair_of (packet i) (period i) (jitter i s)) (stay_in net delay)

@@ -1,5 +1,5 @@
--- Networks whose flows are trees of servers (multicast): a packet that leaves a server goes to each server that hangs on
--- it.
+-- Networks whose flows are trees of servers (multicast): a packet that leaves a server goes to each server that hangs
+-- on it.
 use Rattle.std.specs.Prelude.{Option, Some, None, ◌≡◌, ℕ, Bool, true, false, ◌==◌, List, [], ◌∷◌, ◌++◌, get_or, map, if◌then◌else◌}
 use Rattle.rational.specs.Rational.{ℚ}
 use Rattle.rational.specs.Extended.{Ext}
@@ -56,13 +56,13 @@ abbrev pub next_servers : TreeRoutes → NextServers
 next_servers net flow s = hanging_on s (tree_of net flow).nodes
 
 -- the server on which server s hangs
-abbrev pub from_of : ℕ → List Node → Option ℕ
-from_of s [] = None
-from_of s (n ∷ ns) = if n.server == s then n.from else from_of s ns
+abbrev pub tree_server_before : ℕ → List Node → Option ℕ
+tree_server_before s [] = None
+tree_server_before s (n ∷ ns) = if n.server == s then n.from else tree_server_before s ns
 
 -- for flow i, server b hangs on server a
 abbrev pub Hangs : TreeRoutes → ℕ → ℕ → ℕ → Type 0
-Hangs net i a b = from_of b (tree_of net i).nodes ≡ Some a
+Hangs net i a b = tree_server_before b (tree_of net i).nodes ≡ Some a
 
 -- ---- trees
 -- the first of a list hangs on none, each other one on one before it

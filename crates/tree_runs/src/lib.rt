@@ -64,14 +64,14 @@ pub fn branch_delay_from_hops()
     ensures { BranchDelayFromHops }
 {}
 
-/// No packet takes longer along a branch than the horizontal deviation of its flow's curve and the branch's service, and
-/// the links.
+/// No packet takes longer along a branch than the horizontal deviation of its flow's curve and the branch's service,
+/// and the links.
 pub fn branch_delay_from_service()
     ensures { BranchDelayFromService }
 {}
 
-/// Each packet that arrives at a server is of a live flow whose tree has the server, in the queue that the tree has there,
-/// and no longer than its flow's longest packet.
+/// Each packet that arrives at a server is of a live flow whose tree has the server, in the queue that the tree has
+/// there, and no longer than its flow's longest packet.
 pub fn packets_are_of_trees()
     ensures { PacketsAreOfTrees }
 {}
@@ -99,9 +99,9 @@ pub fn tree_parts_are_kept()
     ensures { TreePartsAreKept }
 {}
 
-/// Where each server whose flows keep their curves bounds their packets' stays, and these curves grow along the trees by
-/// the stays, all flows keep their curves and stays at every server, and no packet takes longer along a branch than the
-/// sum of its flow's stays and of the links.
+/// Where each server whose flows keep their curves bounds their packets' stays, and these curves grow along the trees
+/// by the stays, all flows keep their curves and stays at every server, and no packet takes longer along a branch than
+/// the sum of its flow's stays and of the links.
 pub fn trees_are_bounded()
     ensures { TreesAreBounded }
 {}
@@ -112,8 +112,8 @@ pub fn trees_are_bounded_by_queues()
     ensures { TreesAreBoundedByQueues }
 {}
 
-/// The same by parts: where each server bounds its queues by the sums of parts that these keep, those over a link cut by
-/// the pace of the server before.
+/// The same by parts: where each server bounds its queues by the sums of parts that these keep, those over a link cut
+/// by the pace of the server before.
 pub fn trees_are_bounded_by_parts()
     ensures { TreesAreBoundedByParts }
 {}
@@ -129,8 +129,8 @@ pub fn paths_are_trees()
     ensures { PathsAreTrees }
 {}
 
-/// A lawful run over a tree with a fork, in which a packet goes on at both of the next servers, and one that is not lawful,
-/// in which it goes on at one alone.
+/// A lawful run over a tree with a fork, in which a packet goes on at both of the next servers, and one that is not
+/// lawful, in which it goes on at one alone.
 pub fn a_fork_is_passed_by_both()
     ensures { OverAFork }
 {}

@@ -9,12 +9,12 @@ use Rattle.rational.proofs.MinMax.{le_q_not}
 use Rattle.net_model.specs.run_laws.specs.Cards.{all, ServerStep, Arrives, Works, Leaves, Visits}
 use Rattle.net_model.specs.run_laws.specs.Servers.{Server}
 use Rattle.net_model.specs.run_laws.specs.Allows.{IsLawfulView}
-use Rattle.net_model.specs.run_laws.specs.Counts.{total, leaves, upto, arrived, worked, departed_upto}
+use Rattle.net_model.specs.run_laws.specs.Counts.{total, leaves, upto, arrived, worked}
 use Rattle.net_model.specs.run_laws.specs.Premises.{IsBusy}
-use Rattle.net_model.specs.run_laws.proofs.Counts.{arrived_rises}
+use Rattle.net_model.specs.run_laws.proofs.Counts.{arrived_rises, departed_upto}
 use Rattle.net_model.specs.run_laws.proofs.Orders.{left_worked, left_upto_worked}
 use Rattle.net_model.specs.run_laws.proofs.Gone.{gone_by}
-use Rattle.net_model.specs.run_laws.proofs.Stretches.{stretch}
+use Rattle.net_model.specs.run_laws.proofs.Backlogged.{backlogged_since}
 use Rattle.watch_laws.specs.Affine.{EachTime, Among}
 use Rattle.watch_laws.specs.Stretches.{IsAround}
 use Rattle.watch_laws.specs.Times.{leave_times}
@@ -150,7 +150,7 @@ around server end V a b h l m busy =
     let (x, past, before) = between a b l in
     let less = busy x past before in
     let few = left_worked server end V all x h in
-    let (u, s) = stretch server end V all x h (le_lt_trans few less) in
+    let (u, s) = backlogged_since server end V all x h (le_lt_trans few less) in
     let (e, t) = stop server end V x h (lt_le_trans before m) (λ t i. lt_le_trans less (arrived_rises all V x t (le_of_lt i))) in (
       u,
       e,

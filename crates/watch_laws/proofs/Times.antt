@@ -13,9 +13,9 @@ use Rattle.net_model.specs.run_laws.specs.Next.{next}
 use Rattle.net_model.specs.run_laws.specs.Allows.{AllAllowed, IsLawfulView}
 use Rattle.net_model.specs.run_laws.specs.Premises.{EachArrival}
 use Rattle.net_model.specs.run_laws.proofs.Sizes.{size_nonneg, whole_lt}
-use Rattle.net_model.specs.run_laws.specs.Counts.{when, total, arrives, before, upto, arrived, worked, departed_upto}
+use Rattle.net_model.specs.run_laws.specs.Counts.{when, total, arrives, before, upto, arrived, worked}
 use Rattle.net_model.specs.run_laws.proofs.Cuts.{all_works}
-use Rattle.net_model.specs.run_laws.proofs.Counts.{arrived_rises, worked_rises}
+use Rattle.net_model.specs.run_laws.proofs.Counts.{arrived_rises, worked_rises, departed_upto}
 use Rattle.net_model.specs.run_laws.proofs.Orders.{left_upto_worked, worked_arrived}
 use Rattle.net_model.specs.run_laws.proofs.Gone.{gone_by}
 use Rattle.net_model.specs.run_laws.proofs.Sums.{when_true, when_false, when_rises}

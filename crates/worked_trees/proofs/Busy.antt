@@ -59,13 +59,13 @@ abbrev pub IsIdle : List ServerStep → ℚ → Type 0
 IsIdle V x = arrived all V x ≤ℚ worked all V x
 
 -- in some window, up to the end, in which the server is busy
-pub record IsStretch (end : ℚ) (V : List ServerStep) (a b : ℚ) : Type 0 where
+pub record IsBusyWindow (end : ℚ) (V : List ServerStep) (a b : ℚ) : Type 0 where
   pub forward : a <ℚ b
   pub in_run : b ≤ℚ end
   pub busy : IsBusy V a b
 
 -- there is none across a time at which it is idle
-never : {end : ℚ} {V : List ServerStep} {a b : ℚ} → IsStretch end V a b → (x : ℚ) → IsIdle V x → a <ℚ x → x <ℚ b → ⊥
+never : {end : ℚ} {V : List ServerStep} {a b : ℚ} → IsBusyWindow end V a b → (x : ℚ) → IsIdle V x → a <ℚ x → x <ℚ b → ⊥
 never {end} {V} h x idle p q =
     let j = h.busy x p q in
     with2 (arrived all V x) (worked all V x) (λ c. omega (arith, c.le, c.lt, c.same))
@@ -75,7 +75,8 @@ pub record IsBusyOnly (from last end : ℚ) (V : List ServerStep) : Type 0 where
   pub before : (x : ℚ) → x ≤ℚ from → IsIdle V x
   pub past : (last ≡ end) ⊎ ((x : ℚ) → last ≤ℚ x → IsIdle V x)
 
-opens : (from last end : ℚ) (V : List ServerStep) (a b : ℚ) → IsBusyOnly from last end V → IsStretch end V a b → from ≤ℚ a
+opens : (from last end : ℚ) (V : List ServerStep) (a b : ℚ) → IsBusyOnly from last end V → IsBusyWindow end V a b
+    → from ≤ℚ a
 opens from last end V a b g h = elim (le_or_lt from a) [
   | inl l ↦ l
   | inr l ↦ elim (le_or_lt b from) [
@@ -87,7 +88,8 @@ opens from last end V a b g h = elim (le_or_lt from a) [
     upto : (x : ℚ) → b ≤ℚ from → x <ℚ b → x ≤ℚ from
     upto x k m = with3 x b from (λ c. omega (arith, c.le, c.lt, c.same))
 
-closes : (from last end : ℚ) (V : List ServerStep) (a b : ℚ) → IsBusyOnly from last end V → IsStretch end V a b → b ≤ℚ last
+closes : (from last end : ℚ) (V : List ServerStep) (a b : ℚ) → IsBusyOnly from last end V → IsBusyWindow end V a b
+    → b ≤ℚ last
 closes from last end V a b g h = elim g.past [
   | inl e ↦ rw e h.in_run
   | inr off ↦ elim (le_or_lt b last) [
@@ -104,7 +106,7 @@ pub keeps_from : (β : ℚ → Ext) (from last end : ℚ) (V : List ServerStep) 
     → ((a b : ℚ) → from ≤ℚ a → a <ℚ b → b ≤ℚ last → (Fin (worked all V a) +ₑ β (b -ℚ a)) ≤ₑ Fin (worked all V b))
     → KeepsService β end V
 keeps_from β from last end V g works a b l in_run busy =
-    let h : IsStretch end V a b = record { forward = l; in_run = in_run; busy = busy } in
+    let h : IsBusyWindow end V a b = record { forward = l; in_run = in_run; busy = busy } in
     works a b (opens from last end V a b g h) l (closes from last end V a b g h)
 
 -- a curve that is at most a rate after a latency in windows as long as that
@@ -162,7 +164,8 @@ keeps_at_rate R T from s last end β V G late h = keeps_latency R T from last en
     before : (a b : ℚ) → from ≤ℚ a → a <ℚ b → b ≤ℚ s → (zero_q ≤ℚ zero_q) × (zero_q +ℚ R *ℚ (b -ℚ a -ℚ T) ≤ℚ zero_q)
     before a b low l k =
         let z = mul_zero R in
-        let m = times {x = b -ℚ a -ℚ T} {y = zero_q} (with6 a b from s T zero_q (λ c. omega (arith, c.le, c.lt, c.same))) in
+        let m =
+        times {x = b -ℚ a -ℚ T} {y = zero_q} (with6 a b from s T zero_q (λ c. omega (arith, c.le, c.lt, c.same))) in
         (le_refl zero_q, with2 (R *ℚ zero_q) (R *ℚ (b -ℚ a -ℚ T)) (λ c. omega (arith, c.le, c.lt, c.same)))
 
     across : (a b : ℚ) → from ≤ℚ a → a <ℚ b → s ≤ℚ b
@@ -178,10 +181,12 @@ keeps_at_rate R T from s last end β V G late h = keeps_latency R T from last en
     past : (a b : ℚ) → a <ℚ b
         → (R *ℚ (a -ℚ s) ≤ℚ R *ℚ (b -ℚ s)) × (R *ℚ (a -ℚ s) +ℚ R *ℚ (b -ℚ a -ℚ T) ≤ℚ R *ℚ (b -ℚ s))
     past a b l =
-        let m = times {x = (a -ℚ s) +ℚ (b -ℚ a -ℚ T)} {y = b -ℚ s} (with4 a b s T (λ c. omega (arith, c.le, c.lt, c.same))) in
+        let m =
+        times {x = (a -ℚ s) +ℚ (b -ℚ a -ℚ T)} {y = b -ℚ s} (with4 a b s T (λ c. omega (arith, c.le, c.lt, c.same))) in
         let e = mul_add R (a -ℚ s) (b -ℚ a -ℚ T) in (
           times (with3 a b s (λ c. omega (arith, c.le, c.lt, c.same))),
-          with4 (R *ℚ (a -ℚ s)) (R *ℚ (b -ℚ a -ℚ T)) (R *ℚ ((a -ℚ s) +ℚ (b -ℚ a -ℚ T))) (R *ℚ (b -ℚ s)) (λ c. omega (arith, c.le, c.lt, c.same)),
+          with4 (R *ℚ (a -ℚ s)) (R *ℚ (b -ℚ a -ℚ T)) (R *ℚ ((a -ℚ s) +ℚ (b -ℚ a -ℚ T))) (R *ℚ (b -ℚ s))
+              (λ c. omega (arith, c.le, c.lt, c.same)),
         )
 
     works : (a b : ℚ) → from ≤ℚ a → a <ℚ b → b ≤ℚ last

@@ -51,15 +51,18 @@ waits_at_most j t j_on j_most t_on =
     elim (le_or_more n 0) [
       | inl l ↦
           let none = nat_le n 0 l in
-          with5 t j (periods j t) (int (pos (suc n))) (max_q (whole 0) (t +ℚ whole 130 -ℚ whole 10)) (λ c. omega (arith, c.le, c.lt, c.same))
+          with5 t j (periods j t) (int (pos (suc n))) (max_q (whole 0) (t +ℚ whole 130 -ℚ whole 10))
+          (λ c. omega (arith, c.le, c.lt, c.same))
       | inr l ↦
           let some = nat_le 1 n l in
-          with5 t j (periods j t) (int (pos (suc n))) (max_q (whole 0) (t +ℚ whole 130 -ℚ whole 10)) (λ c. omega (arith, c.le, c.lt, c.same))
+          with5 t j (periods j t) (int (pos (suc n))) (max_q (whole 0) (t +ℚ whole 130 -ℚ whole 10))
+          (λ c. omega (arith, c.le, c.lt, c.same))
     ]
 
 -- and no more than one packet of it is not worked off as a whole
 pub above_by_one : (j : ℚ) → whole 0 ≤ℚ j → j ≤ℚ whole 130
-    → IsAboveByAtMost (stair j) (packetised (rate_latency_value (whole 100) (whole 10)) (whole 12000)) (Fin (whole 12000))
+    → IsAboveByAtMost (stair j) (packetised (rate_latency_value (whole 100) (whole 10)) (whole 12000))
+    (Fin (whole 12000))
 above_by_one j j_on j_most t level t_on e =
     let n = whole_part ((t +ℚ j) /ℚ whole 1000) in
     let c = counted j t j_on t_on in
@@ -73,8 +76,10 @@ above_by_one j j_on j_most t level t_on e =
     elim (le_or_more n 0) [
       | inl l ↦
           let none = nat_le n 0 l in
-          with7 t j (periods j t) (int (pos (suc n))) M (max_q (whole 0) (whole 100 *ℚ M -ℚ whole 12000)) level (λ c. omega (arith, c.le, c.lt, c.same))
+          with7 t j (periods j t) (int (pos (suc n))) M (max_q (whole 0) (whole 100 *ℚ M -ℚ whole 12000)) level
+          (λ c. omega (arith, c.le, c.lt, c.same))
       | inr l ↦
           let some = nat_le 1 n l in
-          with7 t j (periods j t) (int (pos (suc n))) M (max_q (whole 0) (whole 100 *ℚ M -ℚ whole 12000)) level (λ c. omega (arith, c.le, c.lt, c.same))
+          with7 t j (periods j t) (int (pos (suc n))) M (max_q (whole 0) (whole 100 *ℚ M -ℚ whole 12000)) level
+          (λ c. omega (arith, c.le, c.lt, c.same))
     ]

@@ -59,7 +59,11 @@ on_first a zero h = absurd (cc)
 on_first a (suc zero) h = record { on = let e : 0 ≡ a = cc in sym e; later = omega arith }
 on_first a (suc (suc zero)) h = record { on = let e : 0 ≡ a = cc in sym e; later = omega arith }
 on_first a (suc (suc (suc b))) h =
-    let k : None ≡ Some a = rw (ne_eqb 0 (suc (suc (suc b))) (λ e. omega arith), ne_eqb 1 (suc (suc (suc b))) (λ e. omega arith), ne_eqb 2 (suc (suc (suc b))) (λ e. omega arith)) at h in
+    let k : None ≡ Some a = rw (
+      ne_eqb 0 (suc (suc (suc b))) (λ e. omega arith),
+      ne_eqb 1 (suc (suc (suc b))) (λ e. omega arith),
+      ne_eqb 2 (suc (suc (suc b))) (λ e. omega arith),
+    ) at h in
     absurd (cc)
 
 forward : TreeGoesForward paced_fork (λ s. s)
@@ -68,7 +72,10 @@ forward (suc i) a b live h = absurd (cc)
 
 grows : GrowsByStays paced_fork arrival (stay_in paced_fork delay)
 grows zero a zero live h t on = absurd (cc)
-grows zero a (suc b) live h t on = rw (on_first a (suc b) h).on (stair_rises (whole 12000) (whole 1000) (whole 0) (whole 130) (t +ℚ whole 130) t (le_t 0 12000 refl) (lt_t 0 1000 refl) (with1 t (λ c. omega (arith, c.le, c.lt, c.same))))
+grows zero a (suc b) live h t on =
+    rw (on_first a (suc b) h).on
+    (stair_rises (whole 12000) (whole 1000) (whole 0) (whole 130) (t +ℚ whole 130) t (le_t 0 12000 refl)
+    (lt_t 0 1000 refl) (with1 t (λ c. omega (arith, c.le, c.lt, c.same))))
 grows (suc i) a b live h t on = absurd (cc)
 
 on_time : (s q : ℕ) → Fin (int (pos 0)) ≤ₑ delay s q
@@ -111,8 +118,10 @@ is_fifo (suc zero) l = refl
 is_fifo (suc (suc zero)) l = refl
 is_fifo (suc (suc (suc s))) l = absurd (omega arith)
 
-queue_bounded : (run : SpecRun) (s : ℕ) → s < 3 → IsLawfulTree paced_fork run → KeepsTreePremises paced_fork longest at_entry service run
-    → KeepsArrivals (of_queue 0) (arrival 0 s) (view (flat paced_fork) run s) → IsQueueBounded (flat paced_fork) run s 0 (Fin (whole 130)) (Fin (whole 12000))
+queue_bounded : (run : SpecRun) (s : ℕ) → s < 3 → IsLawfulTree paced_fork run
+    → KeepsTreePremises paced_fork longest at_entry service run
+    → KeepsArrivals (of_queue 0) (arrival 0 s) (view (flat paced_fork) run s)
+    → IsQueueBounded (flat paced_fork) run s 0 (Fin (whole 130)) (Fin (whole 12000))
 queue_bounded run s l lawful keeps arrives =
     let V = view (flat paced_fork) run s in
     let server = server_at (flat paced_fork) s in
@@ -124,33 +133,43 @@ queue_bounded run s l lawful keeps arrives =
     let early = jitter_on 0 s in
     record {
       delays = delay_from_wait server run.end V (of_queue 0) 0 (arrival 0 s) (service s) (whole 130) seen
-          (arrivals_all (λ c. of_queue 0 c ≡ true → c.queue ≡ 0) (λ c e. eqb-true c.queue 0 e) V) arrives serves (le_t 0 130 refl)
-          (one_wait_is_enough (arrival 0 s) (service s) (whole 130) (le_t 0 130 refl) rises (λ t on. waits_at_most (jitter 0 s) t early.0 early.1 on));
+          (arrivals_all (λ c. of_queue 0 c ≡ true → c.queue ≡ 0) (λ c e. eqb-true c.queue 0 e) V)
+          arrives serves (le_t 0 130 refl)
+          (one_wait_is_enough (arrival 0 s) (service s) (whole 130) (le_t 0 130 refl) rises
+          (λ t on. waits_at_most (jitter 0 s) t early.0 early.1 on));
       backlogs = backlog_from_gap server run.end V (of_queue 0) 12000 (arrival 0 s) (service s) (Fin (whole 12000)) seen
-          (tree_queues_keep_sizes paced_fork run longest s (λ q. q == 0) 12000 lawful (sizes_kept paced_fork longest at_entry service run keeps) (λ i live passes e. omega arith)) arrives serves
+          (tree_queues_keep_sizes paced_fork run longest s (λ q. q == 0) 12000 lawful
+          (sizes_kept paced_fork longest at_entry service run keeps) (λ i live passes e. omega arith)) arrives serves
           (above_by_one (jitter 0 s) early.0 early.1);
     }
 
-queues : (run : SpecRun) (s : ℕ) → s < 3 → IsLawfulTree paced_fork run → KeepsTreePremises paced_fork longest at_entry service run
-    → QueuesKeepParts paced_fork run arrival (λ s q p. 12000) (λ p. whole 100) s → QueuesAreBounded paced_fork run delay held s
+queues : (run : SpecRun) (s : ℕ) → s < 3 → IsLawfulTree paced_fork run
+    → KeepsTreePremises paced_fork longest at_entry service run
+    → QueuesKeepParts paced_fork run arrival (λ s q p. 12000) (λ p. whole 100) s
+    → QueuesAreBounded paced_fork run delay held s
 queues run s l lawful keeps parts zero =
     queue_bounded run s l lawful keeps
-    (greater_kept (view (flat paced_fork) run s) (of_queue 0) (tree_parts_curve paced_fork s 0 (λ i. arrival i s) (λ p. 12000) (λ p. whole 100)) (arrival 0 s)
+    (greater_kept (view (flat paced_fork) run s) (of_queue 0)
+    (tree_parts_curve paced_fork s 0 (λ i. arrival i s) (λ p. 12000) (λ p. whole 100)) (arrival 0 s)
     (parts_below s l) (parts 0))
 queues run s l lawful keeps parts (suc q) = record {
   delays = none_above_infinity (hop_delays (of_queue (suc q)) run.end (view (flat paced_fork) run s));
   backlogs = λ t in_run. tt;
 }
 
-first_kept : (i : ℕ) → (tree_of paced_fork i).live ≡ true → IsNowhereAbove (at_entry i) (arrival i (first_server (hops_in (tree_of paced_fork i).nodes)))
+first_kept : (i : ℕ) → (tree_of paced_fork i).live ≡ true
+    → IsNowhereAbove (at_entry i) (arrival i (first_server (hops_in (tree_of paced_fork i).nodes)))
 first_kept zero live t on = le_ext_refl (at_entry 0 t)
 first_kept (suc i) live t on = absurd (cc)
 
 bounded : (run : SpecRun) → IsLawfulTree paced_fork run → KeepsTreePremises paced_fork longest at_entry service run
     → IsBoundedByQueues paced_fork run arrival delay held
 bounded run lawful keeps =
-    trees_are_bounded_by_parts paced_fork run (λ s. s) longest (λ s q p. 12000) (λ p. whole 100) arrival delay held lawful over_trees forward
-    (sizes_kept paced_fork longest at_entry service run keeps) (enters_kept paced_fork longest at_entry service run arrival keeps first_kept) known_paced on_time grows (λ s l parts. queues run s l lawful keeps parts)
+    trees_are_bounded_by_parts paced_fork run (λ s. s) longest (λ s q p. 12000) (λ p. whole 100) arrival delay held
+    lawful over_trees forward
+    (sizes_kept paced_fork longest at_entry service run keeps)
+    (enters_kept paced_fork longest at_entry service run arrival keeps first_kept) known_paced on_time grows
+    (λ s l parts. queues run s l lawful keeps parts)
 
 -- ---- and the run that reaches the sum of the branch keeps the premises
 pub a_branch_reaches_its_sum : BranchReachesItsSum

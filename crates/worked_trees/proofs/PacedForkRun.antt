@@ -38,22 +38,32 @@ took a b e = with2 (whole a) (whole b) (λ c. omega (arith, c.le, c.lt, c.same))
 pub is_lawful : IsLawfulTree paced_fork over_the_fork
 is_lawful = record {
   allowed = (
-    enters 0 0 12000 0 0 265 record { in_turn = refl; is_live = refl; has_path = refl } (omega arith) refl refl record { known_queue = omega arith; some_bits = omega arith },
+    enters 0 0 12000 0 0 265 record { in_turn = refl; is_live = refl; has_path = refl } (omega arith) refl refl
+        record { known_queue = omega arith; some_bits = omega arith },
     (
-      works 0 0 0 0 10 130 12000 265 record { has_entered = omega arith; passes = inl refl } (omega arith) refl refl refl (in_pace 10 130 (took 10 130 (sum_t 10 120))) refl refl refl,
+      works 0 0 0 0 10 130 12000 265 record { has_entered = omega arith; passes = inl refl }
+          (omega arith) refl refl refl
+          (in_pace 10 130 (took 10 130 (sum_t 10 120))) refl refl refl,
       (
-        leaves 0 0 10 130 265 record { has_entered = omega arith; passes = inl refl } (omega arith) refl refl record { is_card = refl; worked_off = sum_t 0 12000; at_end = refl },
+        leaves 0 0 10 130 265 record { has_entered = omega arith; passes = inl refl } (omega arith) refl refl
+            record { is_card = refl; worked_off = sum_t 0 12000; at_end = refl },
         (
           record {
             known = (0, omega arith, refl);
             known_server = omega arith;
-            at_server = (record { in_order = rw (sum_t 130 5) (le_t 0 135 refl); in_run = rw (sum_t 130 5) (le_t 135 265 refl) }, record { known_queue = omega arith; some_bits = omega arith });
+            at_server = (
+              record { in_order = rw (sum_t 130 5) (le_t 0 135 refl); in_run = rw (sum_t 130 5) (le_t 135 265 refl) },
+              record { known_queue = omega arith; some_bits = omega arith },
+            );
           },
           (
             record {
               known = rw (le_q_out _ _ (le_refl (whole 130 +ℚ whole 5))) (0, omega arith, refl);
               known_server = omega arith;
-              at_server = (record { in_order = rw (sum_t 130 5) (le_t 0 135 refl); in_run = rw (sum_t 130 5) (le_t 135 265 refl) }, record { known_queue = omega arith; some_bits = omega arith });
+              at_server = (
+                record { in_order = rw (sum_t 130 5) (le_t 0 135 refl); in_run = rw (sum_t 130 5) (le_t 135 265 refl) },
+                record { known_queue = omega arith; some_bits = omega arith },
+              );
             },
             (
               record {
@@ -73,7 +83,9 @@ is_lawful = record {
                 );
               },
               (
-                leaves 1 0 145 265 265 record { has_entered = omega arith; passes = inr (inl refl) } (omega arith) refl refl record { is_card = refl; worked_off = sum_t 0 12000; at_end = refl },
+                leaves 1 0 145 265 265 record { has_entered = omega arith; passes = inr (inl refl) }
+                    (omega arith) refl refl
+                    record { is_card = refl; worked_off = sum_t 0 12000; at_end = refl },
                 (
                   record {
                     known = record { has_entered = omega arith; passes = inr (inr (inl refl)) };
@@ -92,7 +104,9 @@ is_lawful = record {
                     );
                   },
                   (
-                    leaves 2 0 135 255 265 record { has_entered = omega arith; passes = inr (inr (inl refl)) } (omega arith) refl refl record { is_card = refl; worked_off = sum_t 0 12000; at_end = refl },
+                    leaves 2 0 135 255 265 record { has_entered = omega arith; passes = inr (inr (inl refl)) }
+                        (omega arith) refl refl
+                        record { is_card = refl; worked_off = sum_t 0 12000; at_end = refl },
                     tt,
                   ),
                 ),
@@ -104,7 +118,10 @@ is_lawful = record {
     ),
   );
   none_complete = three_idle _ _ _ refl refl refl;
-  none_overdue = rw (le_q_out _ _ (le_refl (whole 130 +ℚ whole 5)), le_q_out _ _ (le_refl (whole 130 +ℚ whole 5))) (none_due (whole 265));
+  none_overdue = rw (
+    le_q_out _ _ (le_refl (whole 130 +ℚ whole 5)),
+    le_q_out _ _ (le_refl (whole 130 +ℚ whole 5)),
+  ) (none_due (whole 265));
 }
 
 pub to_the_first : delays_to paced_fork over_the_fork 0 1 ≡ whole 265 ∷ []
@@ -121,7 +138,8 @@ stay = ap (λ (x : ℚ). x ∷ []) since
 
 pub held_at_0 : backlog (of_queue 0) (view (flat paced_fork) over_the_fork 0) (whole 0) ≡ whole 12000
 held_at_0 =
-    here (when (true && le_q (whole 0) (whole 0)) (whole 12000)) (when (true && lt_q (whole 130) (whole 0)) (whole 12000))
+    here (when (true && le_q (whole 0) (whole 0)) (whole 12000))
+    (when (true && lt_q (whole 130) (whole 0)) (whole 12000))
     (when_true (true && le_q (whole 0) (whole 0)) (whole 12000) (le_q_out _ _ (le_refl (whole 0))))
     (when_false (true && lt_q (whole 130) (whole 0)) (whole 12000) (lt_q_not _ _ (le_t 0 130 refl)))
   where
@@ -145,7 +163,8 @@ one_span_keeps : (s : ℕ) (came : ℚ) (start : ℕ) → IsOneSpan s came start
     → KeepsService (service s) (whole 265) (view (flat paced_fork) over_the_fork s)
 one_span_keeps s came start h =
     keeps_at_rate (whole 100) (whole 10) came (whole start) (whole (start + 120)) (whole 265) (service s) V
-    (service_at_most (whole 100) (whole 10) (whole (start + 120) -ℚ came) (service s) record { is = λ t on. refl }) (le_t 0 10 refl) record {
+    (service_at_most (whole 100) (whole 10) (whole (start + 120) -ℚ came) (service s) record { is = λ t on. refl })
+    (le_t 0 10 refl) record {
       rate = le_t 0 100 refl;
       soon = h.late;
       only = record {
@@ -155,11 +174,13 @@ one_span_keeps s came start h =
             let a = h.arrivals x in
             let m = when_most (true && lt_q came x) (whole 12000) (le_t 0 12000 refl) in
             let w = h.work x ∙ clip_late (span start) x (whole_lt start (start + 120) (omega arith)) l in
-            with3 (arrived all V x) (worked all V x) (when (true && lt_q came x) (whole 12000)) (λ c. omega (arith, c.le, c.lt, c.same)));
+            with3 (arrived all V x) (worked all V x) (when (true && lt_q came x) (whole 12000))
+            (λ c. omega (arith, c.le, c.lt, c.same)));
       };
       early = λ x l. h.work x ∙ clip_early (span start) x l;
       steady = λ x low high. h.work x
-          ∙ span_at_rate (whole 100) (whole 120) (span start) x (sym (sum_t start 120)) (lt_t 0 120 refl) (whole_times 100 120) low high;
+          ∙ span_at_rate (whole 100) (whole 120) (span start) x (sym (sum_t start 120)) (lt_t 0 120 refl)
+          (whole_times 100 120) low high;
     }
   where
     V : List ServerStep
@@ -169,7 +190,8 @@ one_span_keeps s came start h =
 came_alone : (v : ℚ) → v +ℚ (whole 0 +ℚ (whole 0 +ℚ whole 0)) ≡ v
 came_alone v = with1 v (λ c. omega (arith, c.le, c.lt, c.same))
 
-worked_alone : (start : ℕ) (x : ℚ) → whole 0 +ℚ (when true (clip (span start) x) +ℚ (whole 0 +ℚ whole 0)) ≡ clip (span start) x
+worked_alone : (start : ℕ) (x : ℚ)
+    → whole 0 +ℚ (when true (clip (span start) x) +ℚ (whole 0 +ℚ whole 0)) ≡ clip (span start) x
 worked_alone start x =
     let one = when_true true (clip (span start) x) refl in
     with2 (when true (clip (span start) x)) (clip (span start) x) (λ c. omega (arith, c.le, c.lt, c.same))
@@ -210,4 +232,5 @@ keeps_arrivals i s t l =
     let n = whole_part ((t -ℚ s +ℚ whole 0) /ℚ whole 1000) in
     let one = when_most ((0 == i) && within s t (whole 0)) (whole 12000) (le_t 0 12000 refl) in
     let first = nat_le 1 (suc n) (omega arith) in
-    with2 (when ((0 == i) && within s t (whole 0)) (whole 12000)) (int (pos (suc n))) (λ c. omega (arith, c.le, c.lt, c.same))
+    with2 (when ((0 == i) && within s t (whole 0)) (whole 12000)) (int (pos (suc n)))
+    (λ c. omega (arith, c.le, c.lt, c.same))

@@ -1,6 +1,6 @@
--- A periodic flow over a fork of three servers of a limited pace: each of its queues and branches is bounded by numbers in
--- every run, and one branch reaches its number.
-use Rattle.std.specs.Prelude.{Some, ◌≡◌, ℕ, zero, suc, List, [], ◌∷◌}
+-- A periodic flow over a fork of three servers of a limited pace: each of its queues and branches is bounded by
+-- numbers in every run, and one branch reaches its number.
+use Rattle.std.specs.Prelude.{◌≡◌, ℕ, zero, suc, List, [], ◌∷◌}
 use Rattle.rational.specs.Rational.{ℚ, ◌+ℚ◌}
 use Rattle.rational.specs.Extended.{Ext}
 use Rattle.rational.specs.declared.Extended.TheVariants.{Fin, Inf}
@@ -9,9 +9,9 @@ use Rattle.run_laws.specs.declared.steps.Step.TheVariants.{Enter, Reach, Work, L
 use Rattle.run_laws.specs.Runs.{SpecRun}
 use Rattle.run_laws.specs.Cards.{whole, of_queue}
 use Rattle.run_laws.specs.Delays.{hop_delays, backlog}
-use Rattle.run_laws.specs.Examples.{hop, ends_at}
+use Rattle.run_laws.specs.Examples.{paced_server, hop, ends_at}
 use Rattle.run_laws.specs.Routes.{Hop}
-use Rattle.run_laws.specs.Servers.{Fifo, Server}
+use Rattle.run_laws.specs.Servers.{Fifo}
 use Rattle.run_laws.specs.Views.{view}
 use Rattle.net_laws.specs.Paths.{sum_along}
 use Rattle.tree_runs.specs.Trees.{TreeRoutes, IsOverTrees, flat, IsLawfulTree, KeepsTreePremises}
@@ -21,11 +21,9 @@ use Rattle.tree_runs.specs.Examples.{forked}
 
 -- ---- the network, and what its runs keep
 -- server 0, and servers 1 and 2 over its link, which takes 5; none works faster than 100
-abbrev pub paced : Server
-paced = record { discipline = Fifo; pace = Some (whole 100) }
-
 abbrev pub paced_fork : TreeRoutes
-paced_fork = record forked { servers = paced ∷ paced ∷ paced ∷ [] }
+paced_fork =
+    record forked { servers = paced_server Fifo 100 ∷ paced_server Fifo 100 ∷ paced_server Fifo 100 ∷ [] }
 
 -- the flow has packets of at most 12000 bits, one each 1000; each server works at 100 after a latency of 10
 abbrev pub longest : ℕ → ℕ
@@ -68,11 +66,12 @@ over_the_fork =
     ∷ Work 1 0 (whole 145) (whole 265) (whole 12000) ∷ Leave 1 0 (whole 265)
     ∷ Work 2 0 (whole 135) (whole 255) (whole 12000) ∷ Leave 2 0 (whole 255) ∷ [])
 
--- every run that keeps the premises is within the numbers; and this one, which does, reaches them at two queues and at the
--- end of the branch, so that no lesser ones hold
+-- every run that keeps the premises is within the numbers; and this one, which does, reaches them at two queues and at
+-- the end of the branch, so that no lesser ones hold
 pub record BranchReachesItsSum : Type 0 where
   pub over_trees : IsOverTrees paced_fork
-  pub bounded : (run : SpecRun) → IsLawfulTree paced_fork run → KeepsTreePremises paced_fork longest at_entry service run →
+  pub bounded : (run : SpecRun) → IsLawfulTree paced_fork run →
+      KeepsTreePremises paced_fork longest at_entry service run →
       IsBoundedByQueues paced_fork run arrival delay held
   pub lawful : IsLawfulTree paced_fork over_the_fork
   pub keeps : KeepsTreePremises paced_fork longest at_entry service over_the_fork

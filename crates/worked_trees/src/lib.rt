@@ -5,8 +5,8 @@
 
 ghost use Rattle.worked_trees.specs.PacedFork.{BranchReachesItsSum};
 
-/// A periodic flow over a fork of three servers of a limited pace: every run that keeps its premises is within numbers, and
-/// one reaches those of a branch.
+/// A periodic flow over a fork of three servers of a limited pace: every run that keeps its premises is within
+/// numbers, and one reaches those of a branch.
 pub fn a_branch_reaches_its_sum()
     ensures { BranchReachesItsSum }
 {}
