@@ -4,8 +4,8 @@ use Rattle.std.specs.Prelude.{Option, Some, None, slice_index, ◌==◌}
 use Rattle.std.specs.List.{filter, flat_map, range_with_len}
 use Rattle.std.proofs.lemmas.Bool.{cases_lt, cond-true, cond-false, eq-eqb, ne_eqb}
 use Rattle.std.proofs.lemmas.List.FromFn.{map-range_with_len_more}
-use Rattle.net_cells.specs.net_model.specs.Networks.{Net, NetFlow}
-use Rattle.net_cells.specs.net_model.specs.Accepted.{IsAccepted}
+use Rattle.net_model.specs.Networks.{Net, NetFlow}
+use Rattle.net_model.specs.Accepted.{IsAccepted}
 use Rattle.net_cells.specs.Numbered.{flow_at, path_of, hops, server_of_hop, queue_of_hop}
 use Rattle.net_cells.specs.declared.visit.Visit.{Visit}
 use Rattle.net_cells.specs.Visits.{visit, visits, is_at, visits_in, others, longest_of}

@@ -1,10 +1,10 @@
 -- How operators are counted.
 use Rattle.std.proofs.Common.{◌≡◌, ℕ, ◌+◌, arith}
 use Rattle.std.specs.Prelude.{Ok, Err, Result, IfOk, OnOk}
-use Rattle.net_cells.specs.upp_limits.specs.declared.op_kind.OpFault.{OpFault}
+use Rattle.upp_limits.specs.declared.op_kind.OpFault.{OpFault}
 use Rattle.net_cells.specs.Meanings.{Meaning}
 use Rattle.net_cells.specs.Answers.{Answer}
-use Rattle.cell_table.specs.Values.{answer_of}
+use Rattle.net_cells.specs.cell_table.Values.{answer_of}
 use Rattle.cell_eval.specs.Evaluates.{Counts}
 
 pub ok_answer : {V : Type 0} (P : Type 0) (meaning : V → Meaning) (r : Result V OpFault) → IfOk r (λ _. P) → OnOk (answer_of meaning r) P

@@ -1,29 +1,29 @@
 -- What calls answer once their curve is shared, and what operands of a formula add to that.
 use Rattle.std.proofs.Common.{◌≡◌, ℕ, List, refl, sym, subst}
 use Rattle.std.specs.Prelude.{Some, Result, Ok, Err, IfOk, IfErr}
-use Rattle.fraction128.specs.rational.specs.Rational.{ℚ}
-use Rattle.fraction128.specs.rational.specs.Extended.{Ext}
-use Rattle.net_cells.specs.upp_limits.specs.declared.op_kind.OpKind.{OpKind}
-use Rattle.net_cells.specs.upp_limits.specs.declared.op_kind.OpFault.{OpFault}
-use Rattle.net_cells.specs.upp_limits.specs.declared.op_kind.OpFault.TheVariants.{NoMemory}
-use Rattle.net_cells.specs.upp_curve.specs.Curve.{SpecCurve, value_at}
-use Rattle.net_cells.specs.upp_limits.specs.declared.op_kind.OpKind.TheVariants.{PosMinus, Deconvolve, Vertical}
-use Rattle.min_plus.specs.Functions.{IsFinite}
-use Rattle.net_cells.specs.upp_limits.specs.Outcome.{KeepsLimits}
-use Rattle.curve_running.specs.curve_call.specs.Again.{IsAgain}
-use Rattle.curve_running.specs.curve_call.specs.Calls.{Applies, AppliesTo, Then, goes_on, stops}
-use Rattle.net_cells.specs.residual_calls.specs.PriorityCalls.{MakesPriority}
-use Rattle.net_cells.specs.residual_calls.proofs.PriorityCalls.{above_finite}
-use Rattle.net_cells.specs.residual_calls.specs.DrrCalls.{MakesDrr}
+use Rattle.upp_limits.specs.rational.specs.Rational.{ℚ}
+use Rattle.upp_limits.specs.rational.specs.Extended.{Ext}
+use Rattle.upp_limits.specs.declared.op_kind.OpKind.{OpKind}
+use Rattle.upp_limits.specs.declared.op_kind.OpFault.{OpFault}
+use Rattle.upp_limits.specs.declared.op_kind.OpFault.TheVariants.{NoMemory}
+use Rattle.upp_limits.specs.upp_curve.specs.Curve.{SpecCurve, value_at}
+use Rattle.upp_limits.specs.declared.op_kind.OpKind.TheVariants.{PosMinus, Deconvolve, Vertical}
+use Rattle.upp_limits.specs.min_plus.specs.Functions.{IsFinite}
+use Rattle.upp_limits.specs.Outcome.{KeepsLimits}
+use Rattle.plain_operators.specs.curve_call.specs.Again.{IsAgain}
+use Rattle.plain_operators.specs.curve_call.specs.Calls.{Applies, AppliesTo, Then, goes_on, stops}
+use Rattle.residuals.specs.calls.PriorityCalls.{MakesPriority}
+use Rattle.residuals.proofs.calls.PriorityCalls.{above_finite}
+use Rattle.residuals.specs.calls.DrrCalls.{MakesDrr}
 use Rattle.net_cells.specs.declared.cell.Cell.{Cell}
 use Rattle.net_cells.specs.Meanings.{curve, number, CellTable}
-use Rattle.min_plus.specs.Deviations.{IsVerticalDeviation}
-use Rattle.net_cells.specs.run_laws.specs.Cards.{whole}
+use Rattle.upp_limits.specs.min_plus.specs.Deviations.{IsVerticalDeviation}
+use Rattle.net_model.specs.run_laws.specs.Cards.{whole}
 use Rattle.net_cells.specs.Formulas.{value_of, made, vertical}
 use Rattle.net_cells.specs.CellFormulas.{less}
-use Rattle.cell_table.specs.Gives.{Gives}
+use Rattle.net_cells.specs.cell_table.Gives.{Gives}
 use Rattle.net_cells.specs.Answers.{Answer, Answers, IsOnly, MakesCurve, MakesNumber, Deviates, ThenCurve, ThenNumber}
-use Rattle.cell_table.specs.Values.{answer_of}
+use Rattle.net_cells.specs.cell_table.Values.{answer_of}
 use Rattle.cell_eval.specs.Sharing.{IsShared}
 
 -- ---- calls that may want memory where they have an answer

@@ -1,17 +1,17 @@
 -- The rate of a link is nowhere below 0, and so its bucket is refused only for want of memory.
 use Rattle.std.specs.Prelude.{◌≡◌, ◌⊎◌, ◌↔◌, ℕ, Option, Some, None, Result, Err, slice_get}
 use Rattle.std.proofs.Common.{refl, ap, subst, inl, inr}
-use Rattle.fraction128.specs.rational.specs.Rational.{ℚ, ◌≤ℚ◌, ◌<ℚ◌}
-use Rattle.fraction128.specs.rational.proofs.Laws.{le_refl, le_of_lt, lt_irrefl, le_lt_trans}
-use Rattle.fraction128.specs.rational.proofs.Integers.{nat_nonneg}
-use Rattle.min_plus.specs.Functions.{zero_q}
-use Rattle.net_cells.specs.run_laws.specs.Cards.{whole}
-use Rattle.net_cells.specs.upp_curve.specs.Curve.{SpecCurve}
+use Rattle.upp_limits.specs.rational.specs.Rational.{ℚ, ◌≤ℚ◌, ◌<ℚ◌}
+use Rattle.upp_limits.specs.rational.proofs.Laws.{le_refl, le_of_lt, lt_irrefl, le_lt_trans}
+use Rattle.upp_limits.specs.rational.proofs.Integers.{nat_nonneg}
+use Rattle.upp_limits.specs.min_plus.specs.Functions.{zero_q}
+use Rattle.net_model.specs.run_laws.specs.Cards.{whole}
+use Rattle.upp_limits.specs.upp_curve.specs.Curve.{SpecCurve}
 use Rattle.curve_library.specs.Causes.{OneNegative}
 use Rattle.curve_library.specs.declared.fault.CurveFault.{CurveFault}
 use Rattle.curve_library.specs.declared.fault.CurveFault.TheVariants.{Negative, NoMemory}
-use Rattle.net_cells.specs.net_model.specs.Networks.{Net, NetServer}
-use Rattle.net_cells.specs.net_model.specs.Accepted.{IsServer, IsAccepted}
+use Rattle.net_model.specs.Networks.{Net, NetServer}
+use Rattle.net_model.specs.Accepted.{IsServer, IsAccepted}
 use Rattle.net_cells.specs.Numbered.{rate, rate_of}
 use Rattle.net_cells.proofs.Stored.{server_kept}
 

@@ -1,25 +1,25 @@
 -- At which operator calls on the values of cells are refused.
 use Rattle.std.proofs.Common.{◌≡◌, ℕ, ◌+◌, List, [], ◌∷◌, length, refl, sym, subst, arith}
 use Rattle.std.specs.Prelude.{Some, Result, Ok, Err, IfOk, IfErr, OnOk}
-use Rattle.net_cells.specs.upp_limits.specs.declared.op_kind.OpKind.{OpKind}
-use Rattle.net_cells.specs.upp_limits.specs.declared.op_kind.OpKind.TheVariants.{PosMinus, Vertical}
-use Rattle.net_cells.specs.upp_limits.specs.declared.op_kind.OpFault.{OpFault}
-use Rattle.net_cells.specs.upp_limits.specs.declared.op_kind.OpFault.TheVariants.{NoMemory}
-use Rattle.net_cells.specs.upp_curve.specs.Curve.{SpecCurve}
-use Rattle.min_plus.specs.Deviations.{IsVerticalDeviation}
-use Rattle.net_cells.specs.run_laws.specs.Cards.{whole}
-use Rattle.curve_running.specs.curve_call.specs.Calls.{Applies, AppliesTo, goes_on, stops}
-use Rattle.net_cells.specs.residual_calls.specs.PriorityCalls.{MakesPriority}
-use Rattle.net_cells.specs.residual_calls.specs.DrrCalls.{MakesDrr}
-use Rattle.net_cells.specs.residual_calls.specs.InTurn.{on_the_way, past, PriorityRefused, DrrRefused}
+use Rattle.upp_limits.specs.declared.op_kind.OpKind.{OpKind}
+use Rattle.upp_limits.specs.declared.op_kind.OpKind.TheVariants.{PosMinus, Vertical}
+use Rattle.upp_limits.specs.declared.op_kind.OpFault.{OpFault}
+use Rattle.upp_limits.specs.declared.op_kind.OpFault.TheVariants.{NoMemory}
+use Rattle.upp_limits.specs.upp_curve.specs.Curve.{SpecCurve}
+use Rattle.upp_limits.specs.min_plus.specs.Deviations.{IsVerticalDeviation}
+use Rattle.net_model.specs.run_laws.specs.Cards.{whole}
+use Rattle.plain_operators.specs.curve_call.specs.Calls.{Applies, AppliesTo, goes_on, stops}
+use Rattle.residuals.specs.calls.PriorityCalls.{MakesPriority}
+use Rattle.residuals.specs.calls.DrrCalls.{MakesDrr}
+use Rattle.residuals.specs.calls.InTurn.{on_the_way, past, PriorityRefused, DrrRefused}
 use Rattle.net_cells.specs.declared.cell.Cell.{Cell}
 use Rattle.net_cells.specs.Meanings.{Meaning, curve, number, CellTable}
 use Rattle.net_cells.specs.Formulas.{Formula, operators, value_of, made, vertical}
 use Rattle.net_cells.specs.CellFormulas.{less}
 use Rattle.net_cells.specs.Answers.{Answers, Deviates, SumsOnto, SumsOf}
 use Rattle.net_cells.specs.Refusals.{RefusedAt, SumsOntoRefused, SumsRefused}
-use Rattle.cell_table.specs.Gives.{Gives}
-use Rattle.cell_table.specs.Values.{answer_of}
+use Rattle.net_cells.specs.cell_table.Gives.{Gives}
+use Rattle.net_cells.specs.cell_table.Values.{answer_of}
 use Rattle.cell_eval.specs.Sharing.{IsShared}
 
 -- ---- two operands

@@ -5,12 +5,12 @@ use Rattle.std.specs.List.{range_with_len}
 use Rattle.std.proofs.lemmas.List.{map-append, length-map}
 use Rattle.std.proofs.lemmas.List.Concat.{flat_map-append}
 use Rattle.std.proofs.lemmas.List.Elements.{All-append}
-use Rattle.fraction128.specs.rational.specs.Rational.{ℚ}
-use Rattle.net_cells.specs.upp_limits.specs.declared.op_kind.OpFault.{OpFault}
-use Rattle.net_cells.specs.upp_curve.specs.Curve.{SpecCurve}
-use Rattle.curve_running.specs.curve_call.specs.Calls.{goes_on, stops}
-use Rattle.net_cells.specs.residual_calls.specs.InTurn.{on_the_way, past}
-use Rattle.net_cells.specs.net_model.specs.Networks.{Net}
+use Rattle.upp_limits.specs.rational.specs.Rational.{ℚ}
+use Rattle.upp_limits.specs.declared.op_kind.OpFault.{OpFault}
+use Rattle.upp_limits.specs.upp_curve.specs.Curve.{SpecCurve}
+use Rattle.plain_operators.specs.curve_call.specs.Calls.{goes_on, stops}
+use Rattle.residuals.specs.calls.InTurn.{on_the_way, past}
+use Rattle.net_model.specs.Networks.{Net}
 use Rattle.net_cells.specs.declared.cell.Cell.{Cell}
 use Rattle.net_cells.specs.declared.cell.Kind.TheVariants.{In}
 use Rattle.net_cells.specs.Numbered.{rate}
@@ -29,7 +29,7 @@ use Rattle.net_cells.proofs.Placing.{refusals_placed}
 use Rattle.net_cells.proofs.Works.{terms, part_terms}
 use Rattle.net_cells.proofs.Growing.{range_more}
 use Rattle.net_cells.proofs.PartCounts.{more_items, links_append, links_more, no_hops, some_hops}
-use Rattle.cell_table.specs.Gives.{Gives}
+use Rattle.net_cells.specs.cell_table.Gives.{Gives}
 use Rattle.cell_eval.proofs.Choosing.{map_front}
 use Rattle.cell_eval.specs.declared.curve_sums.Partial.{Partial}
 use Rattle.cell_eval.specs.declared.curve_sums.Partial.TheVariants.{Nothing, One, Made}

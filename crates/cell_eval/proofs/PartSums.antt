@@ -3,21 +3,21 @@ use Rattle.std.proofs.Common.{◌≡◌, ℕ, suc, ◌<◌, ◌≤◌, ◌+◌, 
 use Rattle.std.proofs.Math.Seq.{drop-cons, drop-length}
 use Rattle.std.specs.Prelude.{All, Result, Ok, Err}
 use Rattle.std.proofs.lemmas.List.Elements.{All-get_or}
-use Rattle.net_cells.specs.upp_limits.specs.declared.op_kind.OpKind.TheVariants.{Sum}
-use Rattle.net_cells.specs.upp_limits.specs.declared.op_kind.OpFault.{OpFault}
-use Rattle.net_cells.specs.upp_limits.specs.declared.op_kind.OpFault.TheVariants.{NoMemory}
-use Rattle.net_cells.specs.upp_curve.specs.Curve.{SpecCurve}
-use Rattle.curve_running.specs.curve_call.specs.Again.{IsAgain}
-use Rattle.curve_running.specs.curve_call.specs.Calls.{Applies, goes_on, stops}
+use Rattle.upp_limits.specs.declared.op_kind.OpKind.TheVariants.{Sum}
+use Rattle.upp_limits.specs.declared.op_kind.OpFault.{OpFault}
+use Rattle.upp_limits.specs.declared.op_kind.OpFault.TheVariants.{NoMemory}
+use Rattle.upp_limits.specs.upp_curve.specs.Curve.{SpecCurve}
+use Rattle.plain_operators.specs.curve_call.specs.Again.{IsAgain}
+use Rattle.plain_operators.specs.curve_call.specs.Calls.{Applies, goes_on, stops}
 use Rattle.net_cells.specs.declared.cell.Cell.{Cell}
 use Rattle.net_cells.specs.Numbered.{zero_curve}
 use Rattle.net_cells.specs.Meanings.{Meaning, curve, number, CellTable}
 use Rattle.net_cells.specs.Formulas.{value_of}
 use Rattle.net_cells.specs.Answers.{Answer, MakesCurve, SumsOnto, SumsOf}
 use Rattle.net_cells.specs.Refusals.{SumsOntoRefused, SumsRefused}
-use Rattle.net_cells.specs.residual_calls.specs.InTurn.{on_the_way, past}
-use Rattle.cell_table.specs.Gives.{Gives}
-use Rattle.cell_table.specs.Values.{answer_of}
+use Rattle.residuals.specs.calls.InTurn.{on_the_way, past}
+use Rattle.net_cells.specs.cell_table.Gives.{Gives}
+use Rattle.net_cells.specs.cell_table.Values.{answer_of}
 use Rattle.cell_eval.specs.Evaluates.{Counts}
 use Rattle.cell_eval.specs.Sharing.{IsShared}
 use Rattle.cell_eval.specs.Parts.{curve_in, curve_of, IsHeld}

@@ -2,12 +2,12 @@
 use Rattle.std.proofs.Common.{◌≡◌, ℕ, zero, suc, ◌+◌, ◌-◌, ◌*◌, ◌≤◌, refl, sym, ◌∙◌, subst, arith, inl, inr}
 use Rattle.std.specs.Prelude.{Some, Result, Ok, Err}
 use Rattle.std.proofs.lemmas.Bool.{cases_lt}
-use Rattle.net_cells.specs.upp_limits.specs.declared.op_kind.OpKind.TheVariants.{PosMinus, Convolve}
-use Rattle.net_cells.specs.upp_limits.specs.declared.op_kind.OpFault.{OpFault}
-use Rattle.net_cells.specs.upp_curve.specs.Curve.{SpecCurve}
-use Rattle.net_cells.specs.run_laws.specs.Cards.{whole}
-use Rattle.curve_running.specs.curve_call.specs.Calls.{Applies, AppliesTo, goes_on, stops}
-use Rattle.net_cells.specs.net_model.specs.Networks.{Net}
+use Rattle.upp_limits.specs.declared.op_kind.OpKind.TheVariants.{PosMinus, Convolve}
+use Rattle.upp_limits.specs.declared.op_kind.OpFault.{OpFault}
+use Rattle.upp_limits.specs.upp_curve.specs.Curve.{SpecCurve}
+use Rattle.net_model.specs.run_laws.specs.Cards.{whole}
+use Rattle.plain_operators.specs.curve_call.specs.Calls.{Applies, AppliesTo, goes_on, stops}
+use Rattle.net_model.specs.Networks.{Net}
 use Rattle.net_cells.specs.declared.cell.Cell.{Cell}
 use Rattle.net_cells.specs.declared.cell.Kind.TheVariants.{Residual}
 use Rattle.net_cells.specs.Numbered.{packet}
@@ -17,9 +17,9 @@ use Rattle.net_cells.specs.Formulas.{Formula, operators, value_of, made}
 use Rattle.net_cells.specs.CellFormulas.{less, packets_to, served_to}
 use Rattle.net_cells.specs.Answers.{Answer, Answers, MakesCurve}
 use Rattle.net_cells.specs.Refusals.{RefusedAt}
-use Rattle.net_cells.specs.residual_calls.specs.InTurn.{on_the_way}
-use Rattle.cell_table.specs.Gives.{Gives}
-use Rattle.cell_table.specs.Values.{answer_of}
+use Rattle.residuals.specs.calls.InTurn.{on_the_way}
+use Rattle.net_cells.specs.cell_table.Gives.{Gives}
+use Rattle.net_cells.specs.cell_table.Values.{answer_of}
 
 pub made_answer : (P : Result SpecCurve OpFault → Type 0) (r : Result SpecCurve OpFault) → P r → MakesCurve P (answer_of curve r)
 made_answer P (Ok f) p = p

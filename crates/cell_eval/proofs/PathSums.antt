@@ -5,12 +5,12 @@ use Rattle.std.specs.Prelude.{Some, Result, Ok, Err}
 use Rattle.std.specs.List.{range_with_len}
 use Rattle.std.proofs.lemmas.List.{length-map, length-append, map-append, map_more}
 use Rattle.std.proofs.lemmas.List.FromFn.{length-map-range_with_len, map-range_with_len_more}
-use Rattle.fraction128.specs.rational.specs.Rational.{ℚ}
-use Rattle.fraction128.specs.rational.specs.Extended.{Ext, min_ext}
-use Rattle.fraction128.specs.rational.specs.declared.Extended.TheVariants.{Fin}
-use Rattle.net_cells.specs.upp_limits.specs.declared.op_kind.OpFault.{OpFault}
-use Rattle.net_cells.specs.net_model.specs.Networks.{Net}
-use Rattle.net_cells.specs.net_model.specs.Accepted.{IsAccepted}
+use Rattle.upp_limits.specs.rational.specs.Rational.{ℚ}
+use Rattle.upp_limits.specs.rational.specs.Extended.{Ext, min_ext}
+use Rattle.upp_limits.specs.rational.specs.declared.Extended.TheVariants.{Fin}
+use Rattle.upp_limits.specs.declared.op_kind.OpFault.{OpFault}
+use Rattle.net_model.specs.Networks.{Net}
+use Rattle.net_model.specs.Accepted.{IsAccepted}
 use Rattle.net_cells.specs.declared.cell.Cell.{Cell}
 use Rattle.net_cells.specs.declared.cell.Kind.TheVariants.{HopDelay}
 use Rattle.net_cells.specs.Numbered.{path, hops, server_of_hop, link}
@@ -23,13 +23,13 @@ use Rattle.net_cells.specs.NumberSums.{Sums}
 use Rattle.net_cells.specs.Answers.{Answers, MakesNumber}
 use Rattle.net_cells.proofs.Lists.{map_has, range_has}
 use Rattle.net_cells.proofs.Stored.{few_hops}
-use Rattle.curve_running.specs.curve_call.specs.Calls.{goes_on, stops}
-use Rattle.cell_table.specs.Values.{answer_of}
+use Rattle.plain_operators.specs.curve_call.specs.Calls.{goes_on, stops}
+use Rattle.net_cells.specs.cell_table.Values.{answer_of}
 use Rattle.cell_eval.specs.TableValues.{IsNumberAt}
 use Rattle.cell_eval.specs.declared.number_sums.Added.{Added}
 use Rattle.cell_eval.specs.Tallies.{AreAdded}
 use Rattle.cell_eval.proofs.HaveNumbers.{have_all, have_more, have_none}
-use Rattle.net_cells.specs.run_laws.proofs.Members.{Has}
+use Rattle.net_model.specs.run_laws.proofs.Members.{Has}
 use Rattle.net_cells.proofs.TableValues.{same_number}
 
 -- ---- hop after hop

@@ -1,7 +1,7 @@
 -- A curve that is shared was made.
 use Rattle.std.specs.Prelude.{Result, Ok, Err, IfOk, OnOk}
-use Rattle.net_cells.specs.upp_limits.specs.declared.op_kind.OpFault.{OpFault}
-use Rattle.net_cells.specs.upp_curve.specs.Curve.{SpecCurve}
+use Rattle.upp_limits.specs.declared.op_kind.OpFault.{OpFault}
+use Rattle.upp_limits.specs.upp_curve.specs.Curve.{SpecCurve}
 use Rattle.net_cells.specs.Answers.{Answer}
 use Rattle.cell_eval.specs.Sharing.{IsShared}
 

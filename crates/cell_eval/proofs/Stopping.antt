@@ -1,13 +1,13 @@
 -- Where making the value of a cell ends for want of memory.
 use Rattle.std.proofs.Common.{◌≡◌, ℕ, ◌+◌, ◌-◌, refl, subst, arith, inl, inr}
 use Rattle.std.specs.Prelude.{Result, Ok, Err, IfErr}
-use Rattle.net_cells.specs.upp_limits.specs.declared.op_kind.OpFault.{OpFault}
-use Rattle.net_cells.specs.upp_limits.specs.declared.op_kind.OpFault.TheVariants.{NoMemory}
+use Rattle.upp_limits.specs.declared.op_kind.OpFault.{OpFault}
+use Rattle.upp_limits.specs.declared.op_kind.OpFault.TheVariants.{NoMemory}
 use Rattle.net_cells.specs.Meanings.{Meaning, CellTable}
 use Rattle.net_cells.specs.Formulas.{Formula}
 use Rattle.net_cells.specs.Answers.{Answer}
 use Rattle.net_cells.specs.Refusals.{RefusedAt, Stops}
-use Rattle.cell_table.specs.Values.{answer_of}
+use Rattle.net_cells.specs.cell_table.Values.{answer_of}
 
 -- ---- no operator, and one
 pub none_stops : (at : CellTable) (F : Formula) (n : ℕ) → Stops at F NoMemory (n - n)

@@ -1,15 +1,15 @@
 -- Sums of cells' curves, one cell after the other.
 use Rattle.std.proofs.Common.{◌≡◌, ℕ, ◌+◌, ◌-◌, ◌≤◌, List, [], ◌∷◌, ◌++◌, length, refl, sym, ap, subst, arith, append_assoc, append-nil, length-append, inl, inr}
 use Rattle.std.specs.Prelude.{Some, Result, Ok, Err}
-use Rattle.net_cells.specs.upp_limits.specs.declared.op_kind.OpKind.TheVariants.{Sum}
-use Rattle.net_cells.specs.upp_limits.specs.declared.op_kind.OpFault.{OpFault}
-use Rattle.net_cells.specs.upp_limits.specs.declared.op_kind.OpFault.TheVariants.{NoMemory}
-use Rattle.net_cells.specs.upp_curve.specs.Curve.{SpecCurve}
-use Rattle.curve_running.specs.curve_call.specs.Calls.{Applies, goes_on}
-use Rattle.net_cells.specs.residual_calls.specs.InTurn.{on_the_way}
+use Rattle.upp_limits.specs.declared.op_kind.OpKind.TheVariants.{Sum}
+use Rattle.upp_limits.specs.declared.op_kind.OpFault.{OpFault}
+use Rattle.upp_limits.specs.declared.op_kind.OpFault.TheVariants.{NoMemory}
+use Rattle.upp_limits.specs.upp_curve.specs.Curve.{SpecCurve}
+use Rattle.plain_operators.specs.curve_call.specs.Calls.{Applies, goes_on}
+use Rattle.residuals.specs.calls.InTurn.{on_the_way}
 use Rattle.net_cells.specs.declared.cell.Cell.{Cell}
 use Rattle.net_cells.specs.Meanings.{curve, CellTable}
-use Rattle.curve_running.specs.curve_call.specs.Again.{IsAgain}
+use Rattle.plain_operators.specs.curve_call.specs.Again.{IsAgain}
 use Rattle.net_cells.specs.Numbered.{zero_curve}
 use Rattle.net_cells.specs.Formulas.{Formula, operators, value_of, given, empty_sum, made, made_of, moved, cut, part, no_part, leftover, priority, deficit, horizontal, vertical, smaller, along, delayed}
 use Rattle.net_cells.specs.CellFormulas.{sum_of_cells, sum_from}
@@ -17,7 +17,7 @@ use Rattle.net_cells.specs.Answers.{Answer, Answers, MakesCurve}
 use Rattle.net_cells.specs.Refusals.{RefusedAt, Stops}
 use Rattle.net_cells.proofs.Placing.{refusals_placed}
 use Rattle.net_cells.proofs.Works.{terms}
-use Rattle.cell_table.specs.Gives.{Gives}
+use Rattle.net_cells.specs.cell_table.Gives.{Gives}
 use Rattle.cell_eval.specs.declared.curve_sums.Partial.{Partial}
 use Rattle.cell_eval.specs.declared.curve_sums.Partial.TheVariants.{Nothing, One, Made}
 use Rattle.cell_eval.specs.Sharing.{IsShared}

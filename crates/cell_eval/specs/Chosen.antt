@@ -1,7 +1,7 @@
 -- The hops at a server, flow by flow. Own choice.
 use Rattle.std.specs.Prelude.{ℕ, ◌==◌, ◌&&◌, List, [], ◌∷◌, map, Bool, true, not, nat_lt, Option, Some, None}
 use Rattle.std.specs.List.{filter, flat_map, range_with_len}
-use Rattle.net_cells.specs.net_model.specs.Networks.{Net}
+use Rattle.net_model.specs.Networks.{Net}
 use Rattle.net_cells.specs.Numbered.{hops, queue_of_hop}
 use Rattle.net_cells.specs.declared.visit.Visit.{Visit}
 use Rattle.net_cells.specs.Visits.{visit, is_at}

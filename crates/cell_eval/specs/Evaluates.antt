@@ -1,8 +1,8 @@
 -- What evaluating a cell asks for, what it gives, and how many operators it counts. Own choice.
 use Rattle.std.specs.Prelude.{◌≡◌, ℕ, ◌+◌, ◌-◌, ◌≤◌, IsTrue, OnOk, Err}
-use Rattle.net_cells.specs.upp_limits.specs.declared.op_kind.OpFault.TheVariants.{NoMemory}
-use Rattle.net_cells.specs.net_model.specs.Networks.{Net}
-use Rattle.net_cells.specs.net_model.specs.Accepted.{IsAccepted}
+use Rattle.upp_limits.specs.declared.op_kind.OpFault.TheVariants.{NoMemory}
+use Rattle.net_model.specs.Networks.{Net}
+use Rattle.net_model.specs.Accepted.{IsAccepted}
 use Rattle.net_cells.specs.declared.cell.Cell.{Cell}
 use Rattle.net_cells.specs.Cells.{has_cell}
 use Rattle.net_cells.specs.Meanings.{CellTable}
@@ -11,7 +11,7 @@ use Rattle.net_cells.specs.Answers.{Answer}
 use Rattle.net_cells.specs.Equations.{MeetsBelow}
 use Rattle.net_cells.specs.Work.{work}
 use Rattle.net_cells.specs.Refusals.{Stops}
-use Rattle.cell_table.specs.Gives.{Gives}
+use Rattle.net_cells.specs.cell_table.Gives.{Gives}
 
 -- n operators are counted where there is an answer, and at most so many where it is refused
 pub record Counts (n old new : ℕ) (r : Answer) : Type 0 where

@@ -1,8 +1,8 @@
 -- A curve that is made and then shared, for which there may be no memory. Own choice.
 use Rattle.std.specs.Prelude.{◌≡◌, Result, Ok, Err}
-use Rattle.net_cells.specs.upp_limits.specs.declared.op_kind.OpFault.{OpFault}
-use Rattle.net_cells.specs.upp_limits.specs.declared.op_kind.OpFault.TheVariants.{NoMemory}
-use Rattle.net_cells.specs.upp_curve.specs.Curve.{SpecCurve}
+use Rattle.upp_limits.specs.declared.op_kind.OpFault.{OpFault}
+use Rattle.upp_limits.specs.declared.op_kind.OpFault.TheVariants.{NoMemory}
+use Rattle.upp_limits.specs.upp_curve.specs.Curve.{SpecCurve}
 use Rattle.net_cells.specs.Meanings.{curve}
 use Rattle.net_cells.specs.Answers.{Answer}
 

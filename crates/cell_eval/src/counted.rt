@@ -1,13 +1,13 @@
 //! The evaluator of the program.
 
 use crate::each_kind::eval;
-use cell_table::{Evaluator, Table, Value};
 use net_cells::Cell;
-use net_cells::net_model::Network;
-use net_cells::upp_limits::OpFault;
+use net_cells::cell_table::{Evaluator, Table, Value};
+use net_model::Network;
 use std::alloc::Global;
 use std::sync::ledger::Ledger;
 use steps::Steps;
+use upp_limits::OpFault;
 
 /// Makes values by the definitions, and counts each operator on curves in the caller's counter.
 #[derive(Drop)]

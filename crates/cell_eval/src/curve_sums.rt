@@ -2,15 +2,15 @@
 
 ghost use Rattle.std.specs.Prelude.{◌≡◌, ◌<◌, ℕ, List, [], ◌∷◌, length, map, Some, IfOk};
 ghost use Rattle.std.specs.List.{range_with_len};
-ghost use Rattle.curve_running.specs.curve_call.specs.Again.{IsAgain};
+ghost use Rattle.plain_operators.specs.curve_call.specs.Again.{IsAgain};
 ghost use Rattle.net_cells.specs.declared.cell.Cell.{Cell};
 ghost use Rattle.net_cells.specs.declared.cell.Kind.TheVariants.{In, Total};
 ghost use Rattle.net_cells.specs.Numbered.{zero_curve};
 ghost use Rattle.net_cells.specs.Cells.{cell_of};
 ghost use Rattle.net_cells.specs.Order.{at_visit};
 ghost use Rattle.net_cells.specs.CellFormulas.{sum_of_cells};
-ghost use Rattle.cell_table.specs.Gives.{Gives};
-ghost use Rattle.cell_table.specs.Values.{answer_of, meaning_of};
+ghost use Rattle.net_cells.specs.cell_table.Gives.{Gives};
+ghost use Rattle.net_cells.specs.cell_table.Values.{answer_of, meaning_of};
 ghost use Rattle.cell_eval.specs.Chosen.{chosen, all_chosen, visit_list};
 ghost use Rattle.cell_eval.specs.Partial.{IsPartial, IsReady, IsSummed, Adds};
 ghost use Rattle.cell_eval.specs.TableValues.{IsCurveAt};
@@ -18,18 +18,18 @@ ghost use Rattle.cell_eval.specs.TableValues.{IsCurveAt};
 use crate::reading::curve_at;
 use crate::sharing::{again, shared};
 use crate::{Pick, chosen_at};
-use cell_table::{Table, Value};
 use curve_library::bucket;
-use curve_running::curve_call::intact;
-use curve_running::sum;
-use fraction128::Frac;
-use net_cells::net_model::Network;
-use net_cells::upp_curve::Curve;
-use net_cells::upp_limits::OpFault;
+use net_cells::cell_table::{Table, Value};
 use net_cells::{Cell, Kind};
+use net_model::Network;
+use plain_operators::curve_call::intact;
+use plain_operators::running::sum;
 use std::alloc::Global;
 use std::sync::ledger::Ledger;
 use steps::Steps;
+use upp_limits::OpFault;
+use upp_limits::fraction128::Frac;
+use upp_limits::upp_curve::Curve;
 
 /// The sum of no cell, of one, or of more.
 #[derive(Drop, Default)]

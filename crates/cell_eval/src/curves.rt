@@ -5,9 +5,9 @@ ghost use Rattle.net_cells.specs.declared.cell.Kind.TheVariants.{In, Cross, Tota
 ghost use Rattle.net_cells.specs.declared.cell.Kind.TheVariants.{Theta, Residual, HopDelay, ShiftOut};
 ghost use Rattle.net_cells.specs.declared.cell.Kind.TheVariants.{DeconvOut, Out, PathService};
 ghost use Rattle.std.specs.Prelude.{◌<◌, ℕ, Result};
-ghost use Rattle.net_cells.specs.upp_limits.specs.declared.op_kind.OpFault.{OpFault};
+ghost use Rattle.upp_limits.specs.declared.op_kind.OpFault.{OpFault};
 ghost use Rattle.net_cells.specs.Cells.{cell_of};
-ghost use Rattle.cell_table.specs.Values.{answer_of, meaning_of};
+ghost use Rattle.net_cells.specs.cell_table.Values.{answer_of, meaning_of};
 ghost use Rattle.cell_eval.specs.Evaluates.{MayBeMade, Evaluates};
 
 use crate::places::{cell, place_of};
@@ -16,13 +16,13 @@ use crate::{
     Pick, again, copied, flows_sum, later, left_over, lesser, packet, parts_sum, path_service,
     queue_service, queues_sum, shared, spread,
 };
-use cell_table::{Table, Value};
-use net_cells::net_model::Network;
-use net_cells::upp_limits::OpFault;
+use net_cells::cell_table::{Table, Value};
 use net_cells::{Cell, Kind, live_flow};
+use net_model::Network;
 use std::alloc::Global;
 use std::sync::ledger::Ledger;
 use steps::Steps;
+use upp_limits::OpFault;
 
 /// The curve with which a flow comes to a hop.
 pub fn arriving<T: Table<Value>>(

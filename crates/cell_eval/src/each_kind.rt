@@ -6,27 +6,27 @@ ghost use Rattle.net_cells.specs.declared.cell.Kind.TheVariants.{Theta, Residual
 ghost use Rattle.net_cells.specs.declared.cell.Kind.TheVariants.{HopDelay, ShiftOut, DeconvOut, Out};
 ghost use Rattle.net_cells.specs.declared.cell.Kind.TheVariants.{PathService, Tfa, Sfa, Bound};
 ghost use Rattle.std.specs.Prelude.{◌≡◌, ◌+◌, ◌-◌, ◌≤◌, ◌<◌, IsTrue, OnOk, Result, Err};
-ghost use Rattle.net_cells.specs.upp_limits.specs.declared.op_kind.OpFault.{OpFault};
+ghost use Rattle.upp_limits.specs.declared.op_kind.OpFault.{OpFault};
 ghost use Rattle.net_cells.specs.Cells.{has_cell};
 ghost use Rattle.net_cells.specs.CellFormulas.{formula};
 ghost use Rattle.net_cells.specs.Equations.{MeetsBelow};
 ghost use Rattle.net_cells.specs.Work.{work};
 ghost use Rattle.net_cells.specs.Refusals.{Stops};
-ghost use Rattle.cell_table.specs.Gives.{Gives};
-ghost use Rattle.cell_table.specs.Values.{answer_of, meaning_of};
+ghost use Rattle.net_cells.specs.cell_table.Gives.{Gives};
+ghost use Rattle.net_cells.specs.cell_table.Values.{answer_of, meaning_of};
 ghost use Rattle.cell_eval.specs.Evaluates.{MayBeMade, Evaluates};
 
 use crate::{
     arriving, bound, cross, deconv_out, higher, hop_delay, leaving, path, queue_backlog,
     queue_delay, residual, serving, sfa, shift_out, tfa, theta, total,
 };
-use cell_table::{Table, Value};
-use net_cells::net_model::Network;
-use net_cells::upp_limits::OpFault;
+use net_cells::cell_table::{Table, Value};
 use net_cells::{Cell, Kind};
+use net_model::Network;
 use std::alloc::Global;
 use std::sync::ledger::Ledger;
 use steps::Steps;
+use upp_limits::OpFault;
 
 // The value of a cell by its kind: each call makes the one that its name says.
 fn by_kind<T: Table<Value>, L: Ledger>(

@@ -1,37 +1,37 @@
 //! What operators make of the values of cells.
 
 ghost use Rattle.std.specs.Prelude.{◌≡◌, ◌+◌, ◌-◌, ◌≤◌, IfOk, IfErr};
-ghost use Rattle.net_cells.specs.upp_limits.specs.declared.op_kind.OpKind.TheVariants.{Min, PosMinus, Deconvolve};
-ghost use Rattle.net_cells.specs.upp_curve.specs.Curve.{value_at};
-ghost use Rattle.min_plus.specs.Functions.{IsNonneg, IsFinite};
-ghost use Rattle.net_cells.specs.run_laws.specs.Cards.{whole};
-ghost use Rattle.curve_running.specs.curve_call.specs.Calls.{AppliesTo};
+ghost use Rattle.upp_limits.specs.declared.op_kind.OpKind.TheVariants.{Min, PosMinus, Deconvolve};
+ghost use Rattle.upp_limits.specs.upp_curve.specs.Curve.{value_at};
+ghost use Rattle.upp_limits.specs.min_plus.specs.Functions.{IsNonneg, IsFinite};
+ghost use Rattle.net_model.specs.run_laws.specs.Cards.{whole};
+ghost use Rattle.plain_operators.specs.curve_call.specs.Calls.{AppliesTo};
 ghost use Rattle.net_cells.specs.Meanings.{number};
 ghost use Rattle.net_cells.specs.Formulas.{value_of, made, moved, leftover, horizontal, vertical};
 ghost use Rattle.net_cells.specs.CellFormulas.{less};
 ghost use Rattle.net_cells.specs.Answers.{Answers};
 ghost use Rattle.net_cells.specs.Refusals.{RefusedAt};
-ghost use Rattle.cell_table.specs.Values.{answer_of, meaning_of};
+ghost use Rattle.net_cells.specs.cell_table.Values.{answer_of, meaning_of};
 ghost use Rattle.cell_eval.specs.Shapes.{Rises, Serving};
 ghost use Rattle.cell_eval.specs.TableValues.{HasCurve, HasNumber, IsCurveAt, Deviate};
 
 use crate::reading::{curve_at, number_at};
 use crate::sharing::shared;
-use cell_table::{Table, Value};
 use curve_deconv::deconvolve;
 use curve_deviation::{horizontal, vertical};
-use curve_running::curve_call::intact;
-use curve_running::{min, shift};
-use fifo_residual::fifo_service;
-use fraction128::{Ext, Frac};
 use net_cells::Cell;
-use net_cells::run_laws::whole;
-use net_cells::upp_curve::Curve;
-use net_cells::upp_limits::OpFault;
-use packetiser::packetised;
+use net_cells::cell_table::{Table, Value};
+use net_model::run_laws::whole;
+use plain_operators::curve_call::intact;
+use plain_operators::running::{min, shift};
+use residuals::fifo::fifo_service;
+use residuals::packetiser::packetised;
 use std::alloc::Global;
 use std::sync::ledger::Ledger;
 use steps::Steps;
+use upp_limits::OpFault;
+use upp_limits::fraction128::{Ext, Frac};
+use upp_limits::upp_curve::Curve;
 /// The horizontal deviation of a cell's curve, which rises, and another's, which serves. One step is counted; refused
 /// only where that call is over a limit.
 pub fn delay_between<T: Table<Value>, L: Ledger>(

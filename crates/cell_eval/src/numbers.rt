@@ -5,23 +5,23 @@ ghost use Rattle.net_cells.specs.declared.cell.Kind.TheVariants.{In, Cross, Tota
 ghost use Rattle.net_cells.specs.declared.cell.Kind.TheVariants.{Residual, QueueDelay, QueueBacklog};
 ghost use Rattle.net_cells.specs.declared.cell.Kind.TheVariants.{HopDelay, PathService, Tfa, Sfa, Bound};
 ghost use Rattle.std.specs.Prelude.{◌<◌, ℕ, Result};
-ghost use Rattle.net_cells.specs.upp_limits.specs.declared.op_kind.OpFault.{OpFault};
+ghost use Rattle.upp_limits.specs.declared.op_kind.OpFault.{OpFault};
 ghost use Rattle.net_cells.specs.Cells.{cell_of};
-ghost use Rattle.cell_table.specs.Values.{answer_of, meaning_of};
+ghost use Rattle.net_cells.specs.cell_table.Values.{answer_of, meaning_of};
 ghost use Rattle.cell_eval.specs.Evaluates.{MayBeMade, Evaluates};
 
 use crate::bounds::{delays, with_path};
 use crate::number_sums::{and, no_number, sum_of};
 use crate::places::{cell, numbered, place_of};
 use crate::{Pick, backlog, delay_between, longest_at, number_at};
-use cell_table::{Table, Value};
-use fraction128::lesser_value;
-use net_cells::net_model::Network;
-use net_cells::upp_limits::OpFault;
+use net_cells::cell_table::{Table, Value};
 use net_cells::{Cell, Kind};
+use net_model::Network;
 use std::alloc::Global;
 use std::sync::ledger::Ledger;
 use steps::Steps;
+use upp_limits::OpFault;
+use upp_limits::fraction128::lesser_value;
 
 /// How long the curve of a queue's other flows may lag behind the queue's service.
 pub fn theta<T: Table<Value>, L: Ledger>(

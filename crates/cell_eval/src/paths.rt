@@ -1,7 +1,7 @@
 //! The service along a path: those of its hops, all but the last in whole packets.
 
 ghost use Rattle.std.specs.Prelude.{◌≡◌, ◌+◌, ◌-◌, ◌*◌, ◌<◌, ◌≤◌, ℕ, Ok, IfErr};
-ghost use Rattle.net_cells.specs.upp_limits.specs.declared.op_kind.OpKind.TheVariants.{Convolve};
+ghost use Rattle.upp_limits.specs.declared.op_kind.OpKind.TheVariants.{Convolve};
 ghost use Rattle.net_cells.specs.declared.cell.Kind.TheVariants.{Residual};
 ghost use Rattle.net_cells.specs.Numbered as at;
 ghost use Rattle.net_cells.specs.Cells.{cell_of};
@@ -10,8 +10,8 @@ ghost use Rattle.net_cells.specs.Formulas.{Formula, value_of, made, operators};
 ghost use Rattle.net_cells.specs.CellFormulas.{less, packets_to, served_to};
 ghost use Rattle.net_cells.specs.Answers.{Answers};
 ghost use Rattle.net_cells.specs.Refusals.{RefusedAt, Stops};
-ghost use Rattle.cell_table.specs.Gives.{Gives};
-ghost use Rattle.cell_table.specs.Values.{answer_of, meaning_of};
+ghost use Rattle.net_cells.specs.cell_table.Gives.{Gives};
+ghost use Rattle.net_cells.specs.cell_table.Values.{answer_of, meaning_of};
 ghost use Rattle.cell_eval.specs.Evaluates.{Counts};
 ghost use Rattle.cell_eval.specs.Shapes.{Serving};
 ghost use Rattle.cell_eval.specs.TableValues.{HasCurve};
@@ -20,16 +20,16 @@ use crate::nodes::in_packets;
 use crate::packet;
 use crate::reading::curve_at;
 use crate::sharing::{again, shared};
-use cell_table::{Table, Value};
 use curve_conv::convolve;
-use curve_running::curve_call::intact;
-use net_cells::net_model::Network;
-use net_cells::upp_curve::Curve;
-use net_cells::upp_limits::OpFault;
+use net_cells::cell_table::{Table, Value};
 use net_cells::{Cell, Kind, hops};
+use net_model::Network;
+use plain_operators::curve_call::intact;
 use std::alloc::Global;
 use std::sync::ledger::Ledger;
 use steps::Steps;
+use upp_limits::OpFault;
+use upp_limits::upp_curve::Curve;
 
 macro_rules! residual {
     ($flow:expr, $hop:expr) => {

@@ -2,10 +2,10 @@
 
 ghost use Rattle.std.specs.Prelude.{◌≡◌, ◌-◌, ◌<◌, ◌≤◌, ℕ, length, map, IfErr};
 ghost use Rattle.std.specs.List.{range_with_len};
-ghost use Rattle.net_cells.specs.upp_curve.specs.Curve.{value_at};
-ghost use Rattle.min_plus.specs.Functions.{IsFinite};
-ghost use Rattle.net_cells.specs.run_laws.specs.Servers.{Priority, Drr};
-ghost use Rattle.net_cells.specs.net_model.specs.Accepted.{HasFewQueues};
+ghost use Rattle.upp_limits.specs.upp_curve.specs.Curve.{value_at};
+ghost use Rattle.upp_limits.specs.min_plus.specs.Functions.{IsFinite};
+ghost use Rattle.net_model.specs.run_laws.specs.Servers.{Priority, Drr};
+ghost use Rattle.net_model.specs.Accepted.{HasFewQueues};
 ghost use Rattle.net_cells.specs.declared.cell.Kind.TheVariants.{Higher};
 ghost use Rattle.net_cells.specs.Numbered as at;
 ghost use Rattle.net_cells.specs.Visits as visiting;
@@ -16,8 +16,8 @@ ghost use Rattle.net_cells.specs.CellFormulas as formulas;
 ghost use Rattle.net_cells.specs.Work.{service_work};
 ghost use Rattle.net_cells.specs.Answers.{Answers};
 ghost use Rattle.net_cells.specs.Refusals.{RefusedAt};
-ghost use Rattle.net_cells.specs.residual_calls.specs.InTurn.{DrrRefused};
-ghost use Rattle.cell_table.specs.Values.{answer_of, meaning_of};
+ghost use Rattle.residuals.specs.calls.InTurn.{DrrRefused};
+ghost use Rattle.net_cells.specs.cell_table.Values.{answer_of, meaning_of};
 ghost use Rattle.cell_eval.specs.Evaluates.{Counts};
 ghost use Rattle.cell_eval.specs.TableValues.{IsCurveAt};
 
@@ -25,16 +25,16 @@ use crate::reading::curve_at;
 use crate::sharing::{copied, shared};
 use crate::{Pick, longest_at};
 use arrayvec::ArrayVec;
-use cell_table::{Table, Value};
-use drr_residual::drr_service;
-use net_cells::net_model::{Discipline, Network};
-use net_cells::upp_curve::Curve;
-use net_cells::upp_limits::OpFault;
+use net_cells::cell_table::{Table, Value};
 use net_cells::{Cell, Kind, server};
-use priority_residual::priority_service;
+use net_model::{Discipline, Network};
+use residuals::drr::drr_service;
+use residuals::priority::priority_service;
 use std::alloc::Global;
 use std::sync::ledger::Ledger;
 use steps::Steps;
+use upp_limits::OpFault;
+use upp_limits::upp_curve::Curve;
 
 // By priority.
 fn by_priority<T: Table<Value>, L: Ledger>(

@@ -1,19 +1,19 @@
 //! Curves that are shared.
 
-ghost use Rattle.curve_running.specs.curve_call.specs.Again.{IsAgain};
+ghost use Rattle.plain_operators.specs.curve_call.specs.Again.{IsAgain};
 ghost use Rattle.net_cells.specs.Formulas.{value_of};
-ghost use Rattle.cell_table.specs.Gives.{Gives};
-ghost use Rattle.cell_table.specs.Values.{answer_of, meaning_of};
+ghost use Rattle.net_cells.specs.cell_table.Gives.{Gives};
+ghost use Rattle.net_cells.specs.cell_table.Values.{answer_of, meaning_of};
 ghost use Rattle.cell_eval.specs.Sharing.{IsShared};
 ghost use Rattle.cell_eval.specs.TableValues.{IsCurveAt};
 
 use crate::reading::curve_at;
-use cell_table::{Table, Value};
 use net_cells::Cell;
-use net_cells::upp_curve::Curve;
-use net_cells::upp_limits::OpFault;
+use net_cells::cell_table::{Table, Value};
 use std::alloc::Global;
 use std::rc::Rc;
+use upp_limits::OpFault;
+use upp_limits::upp_curve::Curve;
 
 /// A curve that was made, to be shared from now on; a refusal stays.
 pub fn shared(alloc: Global, made: Result<Curve, OpFault>) -> Result<Value, OpFault>

@@ -1,19 +1,19 @@
 //! The value of a sum, with what it took.
 
 ghost use Rattle.std.specs.Prelude.{◌≡◌, ℕ, ◌-◌, List, [], length, Result, Err, IfOk};
-ghost use Rattle.net_cells.specs.upp_limits.specs.declared.op_kind.OpFault.{OpFault};
+ghost use Rattle.upp_limits.specs.declared.op_kind.OpFault.{OpFault};
 ghost use Rattle.net_cells.specs.declared.cell.Cell.{Cell};
 ghost use Rattle.net_cells.specs.CellFormulas.{sum_of_cells};
 ghost use Rattle.net_cells.specs.Refusals.{Stops};
-ghost use Rattle.cell_table.specs.Gives.{Gives};
-ghost use Rattle.cell_table.specs.Values.{answer_of, meaning_of};
+ghost use Rattle.net_cells.specs.cell_table.Gives.{Gives};
+ghost use Rattle.net_cells.specs.cell_table.Values.{answer_of, meaning_of};
 ghost use Rattle.cell_eval.specs.Partial.{Adds, IsReady};
 ghost use Rattle.cell_eval.specs.Evaluates.{Counts};
 
 use crate::{Partial, finished};
-use cell_table::{Table, Value};
-use net_cells::upp_limits::OpFault;
+use net_cells::cell_table::{Table, Value};
 use std::alloc::Global;
+use upp_limits::OpFault;
 
 /// The value of a sum of cells that was made, which takes one operator less than it has terms; or its refusal.
 pub(crate) fn summed<T: Table<Value>>(

@@ -2,12 +2,12 @@
 use Rattle.std.proofs.Common.{◌≡◌, ℕ, ◌<◌, ◌+◌, List, [], ◌∷◌, ◌++◌, length, take, drop, sum_by, sym, ap, ◌∙◌, subst, inl, inr, true, add-one, drop-cons, append_assoc, append-nil}
 use Rattle.std.specs.Prelude.{◌≢◌, Some, Ok, Err, Contains}
 use Rattle.std.proofs.lemmas.List.{get_or_default, take_more}
-use Rattle.net_cells.specs.upp_limits.specs.declared.op_kind.OpFault.{OpFault}
-use Rattle.net_cells.specs.upp_limits.specs.declared.op_kind.OpFault.TheVariants as operator
-use Rattle.net_cells.specs.net_model.specs.Networks.{Net}
-use Rattle.net_cells.specs.net_model.specs.Accepted.{IsAccepted}
-use Rattle.net_cells.specs.net_model.specs.Orders.{IsOrder}
-use Rattle.net_cells.specs.net_graph.proofs.OneOrders.{one_order}
+use Rattle.upp_limits.specs.declared.op_kind.OpFault.{OpFault}
+use Rattle.upp_limits.specs.declared.op_kind.OpFault.TheVariants as operator
+use Rattle.net_model.specs.Networks.{Net}
+use Rattle.net_model.specs.Accepted.{IsAccepted}
+use Rattle.net_model.specs.Orders.{IsOrder}
+use Rattle.net_model.proofs.net_graph.OneOrders.{one_order}
 use Rattle.net_cells.specs.declared.cell.Cell.{Cell}
 use Rattle.net_cells.specs.Cells.{has_cell}
 use Rattle.net_cells.specs.Order.{evaluation_order}
@@ -21,16 +21,16 @@ use Rattle.net_cells.proofs.Lists.{Has, contains_has, has_contains, has_either, 
 use Rattle.net_cells.proofs.Members.{in_order}
 use Rattle.net_cells.proofs.Precedes.{in_front}
 use Rattle.net_cells.proofs.Tables.{front_meets_below}
-use Rattle.cell_table.specs.declared.fault.AnalysisFault.{AnalysisFault}
-use Rattle.cell_table.specs.Gives.{Gives}
-use Rattle.cell_table.specs.Refusals.{fault_at}
-use Rattle.cell_table.proofs.Fronts.{no_cell, cell_at, at_place, grown}
-use Rattle.cell_table.proofs.GivesAnswers.{gives_over}
-use Rattle.cell_changes.specs.Changes.{Touched, Untouched, TouchedOf, no_more, passed, taken}
-use Rattle.cell_changes.specs.Laws.{AgreeAtUntouched}
-use Rattle.cell_changes.specs.Slots.{HasSlot}
-use Rattle.cell_changes.proofs.HasSlots.{slots_are_own}
-use Rattle.cell_changes.proofs.CarriedOver.{not_both, answered_on, rule_of}
+use Rattle.net_cells.specs.declared.cell_table.fault.AnalysisFault.{AnalysisFault}
+use Rattle.net_cells.specs.cell_table.Gives.{Gives}
+use Rattle.net_cells.specs.cell_table.Refusals.{fault_at}
+use Rattle.net_cells.proofs.cell_table.Fronts.{no_cell, cell_at, at_place, grown}
+use Rattle.net_cells.proofs.cell_table.GivesAnswers.{gives_over}
+use Rattle.cell_store.specs.cell_changes.Changes.{Touched, Untouched, TouchedOf, no_more, passed, taken}
+use Rattle.cell_store.specs.cell_changes.Laws.{AgreeAtUntouched}
+use Rattle.cell_store.specs.cell_changes.Slots.{HasSlot}
+use Rattle.cell_store.proofs.cell_changes.HasSlots.{slots_are_own}
+use Rattle.cell_store.proofs.cell_changes.CarriedOver.{not_both, answered_on, rule_of}
 use Rattle.cell_store.specs.Edits.{AllAnswered, IsFirst, IsFirstTouched, RefusesFor, SameButAt, EndsAtTouched}
 
 -- ---- touched cells

@@ -1,11 +1,11 @@
 -- Why there is no table, where that is why a cell has no value, and where memory is wanting.
 use Rattle.std.proofs.Common.{◌≡◌, sym, refl, ◌∙◌}
-use Rattle.net_cells.specs.upp_limits.specs.declared.op_kind.OpFault.{OpFault}
-use Rattle.net_cells.specs.upp_limits.specs.declared.op_kind.OpFault.TheVariants as operator
+use Rattle.upp_limits.specs.declared.op_kind.OpFault.{OpFault}
+use Rattle.upp_limits.specs.declared.op_kind.OpFault.TheVariants as operator
 use Rattle.net_cells.specs.declared.cell.Cell.{Cell}
-use Rattle.cell_table.specs.declared.fault.AnalysisFault.{AnalysisFault}
-use Rattle.cell_table.specs.declared.fault.AnalysisFault.TheVariants.{NoMemory}
-use Rattle.cell_table.specs.Refusals.{fault_at}
+use Rattle.net_cells.specs.declared.cell_table.fault.AnalysisFault.{AnalysisFault}
+use Rattle.net_cells.specs.declared.cell_table.fault.AnalysisFault.TheVariants.{NoMemory}
+use Rattle.net_cells.specs.cell_table.Refusals.{fault_at}
 
 is_wanting : (c : Cell) (fault : OpFault) → fault_at c fault ≡ NoMemory → fault ≡ operator.NoMemory
 is_wanting c operator.TooMany e = absurd (let bad : ⊥ = cc in bad)

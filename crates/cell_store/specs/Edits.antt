@@ -1,9 +1,9 @@
 -- A table of the network before an edit, and which cells the edit touches. Own choice.
 use Rattle.std.specs.Prelude.{◌≡◌, ℕ, List, None, false, IsTrue, Contains, sum_by}
-use Rattle.net_cells.specs.upp_limits.specs.declared.op_kind.OpFault.{OpFault}
-use Rattle.net_cells.specs.upp_limits.specs.declared.op_kind.OpFault.TheVariants as operator
-use Rattle.net_cells.specs.net_model.specs.Networks.{Net}
-use Rattle.net_cells.specs.net_model.specs.Orders.{IsOrder}
+use Rattle.upp_limits.specs.declared.op_kind.OpFault.{OpFault}
+use Rattle.upp_limits.specs.declared.op_kind.OpFault.TheVariants as operator
+use Rattle.net_model.specs.Networks.{Net}
+use Rattle.net_model.specs.Orders.{IsOrder}
 use Rattle.net_cells.specs.declared.cell.Cell.{Cell}
 use Rattle.net_cells.specs.Cells.{has_cell}
 use Rattle.net_cells.specs.Meanings.{CellTable}
@@ -11,10 +11,10 @@ use Rattle.net_cells.specs.Order.{evaluation_order}
 use Rattle.net_cells.specs.FirstOver.{IsAnswered, FirstOver}
 use Rattle.net_cells.specs.Work.{work}
 use Rattle.net_cells.specs.MemoryEnds.{EndsAtCell}
-use Rattle.cell_table.specs.declared.fault.AnalysisFault.{AnalysisFault}
-use Rattle.cell_table.specs.declared.fault.AnalysisFault.TheVariants.{TooMany, TooWide, NoMemory}
-use Rattle.cell_changes.specs.Changes.{TouchedOf}
-use Rattle.cell_changes.specs.Slots.{HasSlot}
+use Rattle.net_cells.specs.declared.cell_table.fault.AnalysisFault.{AnalysisFault}
+use Rattle.net_cells.specs.declared.cell_table.fault.AnalysisFault.TheVariants.{TooMany, TooWide, NoMemory}
+use Rattle.cell_store.specs.cell_changes.Changes.{TouchedOf}
+use Rattle.cell_store.specs.cell_changes.Slots.{HasSlot}
 
 -- each cell of a network has its value
 abbrev pub AllAnswered : Net → CellTable → Type 0

@@ -6,9 +6,9 @@ ghost use Rattle.net_cells.specs.Work.{work};
 ghost use Rattle.cell_store.specs.Edits.{AllAnswered, IsEditOf, IsFirstTouched, SameButAt, RefusesFor, EndsAtTouched};
 
 use crate::values::Values;
-use cell_table::{AnalysisFault, CellValue, Evaluator, Table, refusal};
 use net_cells::Cell;
-use net_cells::net_model::Network;
+use net_cells::cell_table::{AnalysisFault, CellValue, Evaluator, Table, refusal};
+use net_model::Network;
 use std::alloc::Global;
 use std::rc::Rc;
 

@@ -6,9 +6,9 @@ ghost use Rattle.cell_store.specs.Edits.{IsEditOf, IsFirstTouched, AreGone, IsCl
 
 use crate::anew::made_anew;
 use crate::values::Values;
-use cell_table::{AnalysisFault, CellValue, Evaluator, Table};
 use net_cells::Cell;
-use net_cells::net_model::Network;
+use net_cells::cell_table::{AnalysisFault, CellValue, Evaluator, Table};
+use net_model::Network;
 use std::alloc::{AllocError, Global};
 
 /// Takes away the values of cells that the network has not.

@@ -1,14 +1,14 @@
 -- The first fault of a file is a rule that its tables break, or a curve over a limit.
 use Rattle.std.proofs.Common.{◌≡◌, ◌≢◌, ℕ, List, [], ◌∷◌, Result, Ok, Err, IfOk, inl, inr, refl, sym, ap, ◌∙◌, subst}
-use Rattle.table_text.specs.upp_limits.specs.declared.own_limits.OverLimit.{OverLimit}
-use Rattle.table_text.specs.upp_limits.specs.declared.own_limits.OverLimit.TheVariants.{TooMany, TooWide}
-use Rattle.table_text.specs.net_model.specs.declared.fault.NetFault.{NetFault}
-use Rattle.table_text.specs.net_model.specs.declared.fault.NetKind.{NetKind}
-use Rattle.table_text.specs.net_model.specs.declared.fault.NetKind.TheVariants.{M1, M2, M3, M4, M5, M6, M7, M8, M9, M10, M11, M12}
-use Rattle.table_text.specs.net_model.specs.declared.fault.NetKind.TheVariants.{CurveTooMany, CurveTooWide, NoMemory}
-use Rattle.net_draft.specs.FaultKinds.{IsOfTables}
-use Rattle.net_draft.specs.Faults.{Fault, fault_of}
-use Rattle.net_draft.proofs.KindsOfTables.{faults_are_of_tables}
+use Rattle.upp_limits.specs.declared.own_limits.OverLimit.{OverLimit}
+use Rattle.upp_limits.specs.declared.own_limits.OverLimit.TheVariants.{TooMany, TooWide}
+use Rattle.net_model.specs.declared.fault.NetFault.{NetFault}
+use Rattle.net_model.specs.declared.fault.NetKind.{NetKind}
+use Rattle.net_model.specs.declared.fault.NetKind.TheVariants.{M1, M2, M3, M4, M5, M6, M7, M8, M9, M10, M11, M12}
+use Rattle.net_model.specs.declared.fault.NetKind.TheVariants.{CurveTooMany, CurveTooWide, NoMemory}
+use Rattle.net_text.specs.net_draft.FaultKinds.{IsOfTables}
+use Rattle.net_text.specs.net_draft.Faults.{Fault, fault_of}
+use Rattle.net_text.proofs.net_draft.KindsOfTables.{faults_are_of_tables}
 use Rattle.net_text.specs.Becoming.{limit_fault}
 use Rattle.net_text.specs.Firsts.{PlacedCurve, FirstCurveOver, curves_of}
 use Rattle.net_text.specs.Laws.{EachFileSaysOneThing}

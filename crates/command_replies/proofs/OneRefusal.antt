@@ -1,21 +1,21 @@
 -- Two refusals of one file are the same, but for the choice among cycles; and what a file with a refusal does not give.
 use Rattle.std.proofs.Common.{◌≡◌, ℕ, List, map, inl, inr, sym, ap, ◌∙◌}
-use Rattle.table_text.specs.upp_limits.specs.LimitTest.{fault_of}
-use Rattle.table_text.specs.upp_limits.specs.declared.own_limits.OverLimit.{OverLimit}
-use Rattle.table_text.specs.upp_limits.proofs.OneLimit.{same_limit}
-use Rattle.table_text.specs.net_model.specs.Accepted.{IsAccepted}
-use Rattle.table_text.specs.net_model.specs.Networks.{Net}
-use Rattle.table_text.specs.net_model.specs.Orders.{IsOrder}
-use Rattle.table_text.specs.net_model.specs.Walks.{IsCycle}
-use Rattle.net_draft.specs.Faults.{Fault}
+use Rattle.upp_limits.specs.LimitTest.{fault_of}
+use Rattle.upp_limits.specs.declared.own_limits.OverLimit.{OverLimit}
+use Rattle.upp_limits.proofs.OneLimit.{same_limit}
+use Rattle.net_model.specs.Accepted.{IsAccepted}
+use Rattle.net_model.specs.Networks.{Net}
+use Rattle.net_model.specs.Orders.{IsOrder}
+use Rattle.net_model.specs.Walks.{IsCycle}
+use Rattle.net_text.specs.net_draft.Faults.{Fault}
 use Rattle.net_text.specs.Becoming.{limit_fault}
 use Rattle.net_text.specs.Reading.{IsNetworkOf, FirstFault}
 use Rattle.net_text.specs.FoldLimits.{OverFold}
-use Rattle.net_cells.specs.declared.cell.Cell.{Cell}
-use Rattle.net_cells.specs.Meanings.{CellTable}
-use Rattle.net_cells.specs.FirstOver.{AnswersAll, FirstOver}
-use Rattle.net_cells.specs.Order.{evaluation_order}
-use Rattle.net_cells.proofs.Tables.{one_is_first_over}
+use Rattle.report_text.specs.net_cells.specs.declared.cell.Cell.{Cell}
+use Rattle.report_text.specs.net_cells.specs.Meanings.{CellTable}
+use Rattle.report_text.specs.net_cells.specs.FirstOver.{AnswersAll, FirstOver}
+use Rattle.report_text.specs.net_cells.specs.Order.{evaluation_order}
+use Rattle.report_text.specs.net_cells.proofs.Tables.{one_is_first_over}
 use Rattle.report_text.specs.CellWords.{server_name, cell_words}
 use Rattle.command_replies.specs.Replies.{Reply, AreSame, goes_round, cell_over}
 use Rattle.command_replies.specs.Faults.{fault_reply}

@@ -1,12 +1,12 @@
 -- The reply on the fault of a file, by its kind.
 use Rattle.std.specs.Prelude.{ℕ, List}
-use Rattle.curve_script.specs.declared.fault.LangFault.{LangFault}
-use Rattle.curve_script.specs.declared.fault.LangKind.{LangKind}
-use Rattle.curve_script.specs.declared.fault.LangKind.TheVariants as lang
-use Rattle.table_text.specs.upp_limits.specs.declared.own_limits.OverLimit.TheVariants as limits
-use Rattle.table_text.specs.net_model.specs.declared.fault.NetKind.{NetKind}
-use Rattle.table_text.specs.net_model.specs.declared.fault.NetKind.TheVariants.{CurveTooMany, CurveTooWide}
-use Rattle.net_draft.specs.Faults.{Fault}
+use Rattle.input_texts.specs.declared.curve_script.fault.LangFault.{LangFault}
+use Rattle.input_texts.specs.declared.curve_script.fault.LangKind.{LangKind}
+use Rattle.input_texts.specs.declared.curve_script.fault.LangKind.TheVariants as lang
+use Rattle.upp_limits.specs.declared.own_limits.OverLimit.TheVariants as limits
+use Rattle.net_model.specs.declared.fault.NetKind.{NetKind}
+use Rattle.net_model.specs.declared.fault.NetKind.TheVariants.{CurveTooMany, CurveTooWide}
+use Rattle.net_text.specs.net_draft.Faults.{Fault}
 use Rattle.command_replies.specs.Replies.{Reply, breaks_rule, curve_over, breaks_script_rule, line_over}
 
 -- ---- of a network

@@ -4,3 +4,6 @@ pub mod Faults
 pub mod OnFiles
 pub mod CellWork
 pub mod Guarantee
+pub mod run_findings
+pub mod simulated_findings
+pub use Rattle.net_bounds as net_bounds

@@ -1,22 +1,22 @@
 -- What each command that reads a network answers on the bytes of its file: on its first fault, on a cycle of its
 -- network, and on the first cell over a limit.
 use Rattle.std.specs.Prelude.{◌≡◌, ◌⊎◌, ℕ, List, map, Err}
-use Rattle.table_text.specs.upp_limits.specs.LimitTest.{fault_of}
-use Rattle.table_text.specs.upp_limits.specs.declared.own_limits.OverLimit.{OverLimit}
-use Rattle.table_text.specs.net_model.specs.Networks.{Net}
-use Rattle.table_text.specs.net_model.specs.Accepted.{IsAccepted}
-use Rattle.table_text.specs.net_model.specs.Orders.{IsOrder}
-use Rattle.table_text.specs.net_model.specs.Walks.{IsCycle}
-use Rattle.net_draft.specs.Drafts.{draft_of}
-use Rattle.net_draft.specs.Faults.{Fault}
+use Rattle.upp_limits.specs.LimitTest.{fault_of}
+use Rattle.upp_limits.specs.declared.own_limits.OverLimit.{OverLimit}
+use Rattle.net_model.specs.Networks.{Net}
+use Rattle.net_model.specs.Accepted.{IsAccepted}
+use Rattle.net_model.specs.Orders.{IsOrder}
+use Rattle.net_model.specs.Walks.{IsCycle}
+use Rattle.net_text.specs.net_draft.Drafts.{draft_of}
+use Rattle.net_text.specs.net_draft.Faults.{Fault}
 use Rattle.net_text.specs.Becoming.{limit_fault}
 use Rattle.net_text.specs.Reading.{IsNetworkOf, CurveFault}
 use Rattle.net_text.specs.FoldLimits.{OverFold}
-use Rattle.net_cells.specs.declared.cell.Cell.{Cell}
-use Rattle.net_cells.specs.FirstOver.{FirstOver}
+use Rattle.report_text.specs.net_cells.specs.declared.cell.Cell.{Cell}
+use Rattle.report_text.specs.net_cells.specs.FirstOver.{FirstOver}
 use Rattle.report_text.specs.CellWords.{server_name, cell_words}
-use Rattle.table_text.specs.declared.fault.TableFault.{TableFault}
-use Rattle.table_text.specs.Traces.{IsFirstFault}
+use Rattle.input_texts.specs.declared.table_text.fault.TableFault.{TableFault}
+use Rattle.input_texts.specs.table_text.Traces.{IsFirstFault}
 use Rattle.command_replies.specs.Replies.{Reply, breaks_rule, goes_round, curve_over, cell_over, table_fault_reply}
 
 -- ---- files without a network

@@ -1,13 +1,13 @@
 -- What a call answers: an exit status, and the bytes that are written.
 use Rattle.std.specs.Prelude.{◌≡◌, ◌≢◌, ℕ, ◌++◌, List, codes}
 use Rattle.std.specs.Fmt.{decimal}
-use Rattle.curve_script.specs.declared.fault.LangFault.{LangFault}
-use Rattle.table_text.specs.declared.fault.TableFault.{TableFault}
-use Rattle.table_text.specs.upp_limits.specs.declared.own_limits.OverLimit.{OverLimit}
-use Rattle.table_text.specs.upp_limits.specs.declared.own_limits.OverLimit.TheVariants.{TooMany, TooWide}
-use Rattle.table_text.specs.net_model.specs.Networks.{Net}
-use Rattle.net_draft.specs.Faults.{Fault}
-use Rattle.net_cells.specs.Meanings.{CellTable}
+use Rattle.input_texts.specs.declared.curve_script.fault.LangFault.{LangFault}
+use Rattle.input_texts.specs.declared.table_text.fault.TableFault.{TableFault}
+use Rattle.upp_limits.specs.declared.own_limits.OverLimit.{OverLimit}
+use Rattle.upp_limits.specs.declared.own_limits.OverLimit.TheVariants.{TooMany, TooWide}
+use Rattle.net_model.specs.Networks.{Net}
+use Rattle.net_text.specs.net_draft.Faults.{Fault}
+use Rattle.report_text.specs.net_cells.specs.Meanings.{CellTable}
 use Rattle.report_text.specs.Faults.{fault_text, table_fault_text, script_fault_text}
 use Rattle.report_text.specs.Refusals.{spaced}
 use Rattle.report_text.specs.Report.{report_of}

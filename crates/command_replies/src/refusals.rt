@@ -2,24 +2,24 @@
 
 ghost use Rattle.std.specs.Prelude.{◌≡◌, ◌≢◌, IfOk, map};
 ghost use Rattle.std.specs.String.{string_bytes};
-ghost use Rattle.curve_script.specs.declared.fault.LangKind.TheVariants as lang;
-ghost use Rattle.table_text.specs.declared.fault.TableKind.TheVariants as tables;
-ghost use Rattle.net_draft.specs.Faults.{fault_of};
-ghost use Rattle.table_text.specs.net_model.specs.declared.fault.NetKind.TheVariants as kinds;
+ghost use Rattle.input_texts.specs.declared.curve_script.fault.LangKind.TheVariants as lang;
+ghost use Rattle.input_texts.specs.declared.table_text.fault.TableKind.TheVariants as tables;
+ghost use Rattle.net_text.specs.net_draft.Faults.{fault_of};
+ghost use Rattle.net_model.specs.declared.fault.NetKind.TheVariants as kinds;
 ghost use Rattle.report_text.specs.CellWords.{cell_words, server_name};
 ghost use Rattle.report_text.specs.Refusals.{refusal_line};
-ghost use Rattle.table_text.specs.upp_limits.specs.declared.own_limits.OverLimit.TheVariants as limits;
+ghost use Rattle.upp_limits.specs.declared.own_limits.OverLimit.TheVariants as limits;
 ghost use Rattle.command_replies.specs.Faults.{fault_reply, script_fault_reply};
 ghost use Rattle.command_replies.specs.Replies as replies;
 ghost use Rattle.command_replies.specs.View.{code_of, reply_of};
 
 use crate::answer::{Answer, Status};
-use curve_script::{LangFault, LangKind};
-use net_cells::Cell;
+use input_texts::curve_script::{LangFault, LangKind};
+use input_texts::table_text::{TableFault, TableKind};
+use net_model::{NetFault, NetKind, Network};
+use report_text::net_cells::Cell;
 use report_text::{Refusal, cell_text, refusal_text, server_name};
 use std::alloc::{AllocError, Global};
-use table_text::net_model::{NetFault, NetKind, Network};
-use table_text::{TableFault, TableKind};
 
 // The answer with the line of a refusal.
 fn refused(alloc: Global, status: Status, refusal: &Refusal) -> Result<Answer, AllocError>

@@ -2,25 +2,25 @@
 use Rattle.std.specs.Prelude.{◌≡◌, ℕ, ◌<◌, ◌≤◌, ◌^◌, pos}
 use Rattle.std.proofs.Common.{arith, sym, ap, ◌∙◌, subst, inl, inr}
 use Rattle.std.proofs.lemmas.Bool.{cases_lt}
-use Rattle.upp_normal.specs.rational.specs.Rational.{ℚ, ◌+ℚ◌, ◌*ℚ◌, ◌≤ℚ◌, ◌<ℚ◌, int}
-use Rattle.upp_normal.specs.rational.specs.Ratio.{IsSmall}
-use Rattle.upp_normal.specs.rational.specs.Grid.{Whole}
-use Rattle.upp_normal.specs.rational.specs.declared.Extended.TheVariants.{Fin, Inf}
-use Rattle.upp_normal.specs.rational.proofs.Linear.{with3}
-use Rattle.upp_normal.specs.rational.proofs.Laws.{le_refl, le_of_lt, mul_le_mul_right, one_mul}
-use Rattle.upp_normal.specs.rational.proofs.Integers.{nat_le}
-use Rattle.upp_normal.specs.rational.proofs.Grid.{whole_add, whole_times}
-use Rattle.upp_normal.specs.upp_limits.specs.declared.op_kind.OpKind.{OpKind}
-use Rattle.upp_normal.specs.upp_limits.specs.declared.op_kind.OpKind.TheVariants.{Sum, Min, Max, PosDiff, PosMinus, Scale, Shift, RunSup, RunInf, FifoLeft, Convolve, Deconvolve, Horizontal, Vertical, Itself}
-use Rattle.upp_normal.specs.upp_curve.specs.Curve.{SpecCurve}
-use Rattle.upp_normal.specs.upp_curve.specs.Curves.{IsCurve}
-use Rattle.upp_normal.specs.upp_limits.specs.Periods.{periods_after}
-use Rattle.upp_normal.specs.upp_limits.specs.Windows.{window_at}
-use Rattle.upp_normal.specs.upp_limits.specs.Limits.{Sizes, sizes_of}
-use Rattle.upp_normal.specs.upp_limits.specs.Gauges.{numbers_over, gauge_over, gauge_at}
-use Rattle.upp_normal.specs.upp_limits.proofs.CurveStands.{are_sizes}
-use Rattle.upp_normal.specs.upp_limits.proofs.Stands.{sizes_stand}
-use Rattle.upp_normal.specs.upp_limits.proofs.NarrowSizes.{narrow_gauge}
+use Rattle.upp_limits.specs.rational.specs.Rational.{ℚ, ◌+ℚ◌, ◌*ℚ◌, ◌≤ℚ◌, ◌<ℚ◌, int}
+use Rattle.upp_limits.specs.rational.specs.Ratio.{IsSmall}
+use Rattle.upp_limits.specs.rational.specs.Grid.{Whole}
+use Rattle.upp_limits.specs.rational.specs.declared.Extended.TheVariants.{Fin, Inf}
+use Rattle.upp_limits.specs.rational.proofs.Linear.{with3}
+use Rattle.upp_limits.specs.rational.proofs.Laws.{le_refl, le_of_lt, mul_le_mul_right, one_mul}
+use Rattle.upp_limits.specs.rational.proofs.Integers.{nat_le}
+use Rattle.upp_limits.specs.rational.proofs.Grid.{whole_add, whole_times}
+use Rattle.upp_limits.specs.declared.op_kind.OpKind.{OpKind}
+use Rattle.upp_limits.specs.declared.op_kind.OpKind.TheVariants.{Sum, Min, Max, PosDiff, PosMinus, Scale, Shift, RunSup, RunInf, FifoLeft, Convolve, Deconvolve, Horizontal, Vertical, Itself}
+use Rattle.upp_limits.specs.upp_curve.specs.Curve.{SpecCurve}
+use Rattle.upp_limits.specs.upp_curve.specs.Curves.{IsCurve}
+use Rattle.upp_limits.specs.Periods.{periods_after}
+use Rattle.upp_limits.specs.Windows.{window_at}
+use Rattle.upp_limits.specs.Limits.{Sizes, sizes_of}
+use Rattle.upp_limits.specs.Gauges.{numbers_over, gauge_over, gauge_at}
+use Rattle.upp_limits.proofs.CurveStands.{are_sizes}
+use Rattle.upp_limits.proofs.Stands.{sizes_stand}
+use Rattle.upp_limits.proofs.NarrowSizes.{narrow_gauge}
 use Rattle.curve_call.specs.Times.{PeriodsFit}
 use Rattle.curve_call.specs.CallWindows.{IsForward, SecondIsCurve, start_of, number_of, period_in, StartFits}
 use Rattle.curve_call.proofs.CurveTimes.{periods_fit}

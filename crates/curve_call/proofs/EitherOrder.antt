@@ -1,15 +1,15 @@
 -- The number of periods for either order of the rates.
 use Rattle.std.specs.Prelude.{◌≡◌, ℕ, Option, Some, None, MatchOption}
 use Rattle.std.proofs.Common.{subst}
-use Rattle.upp_normal.specs.rational.specs.Rational.{ℚ}
-use Rattle.upp_normal.specs.rational.specs.Extended.{Ext, ◌<ₑ◌}
-use Rattle.upp_normal.specs.rational.proofs.ExtendedOrder.{lt_ext_trans, lt_ext_irrefl}
-use Rattle.upp_normal.specs.upp_curve.specs.Curve.{SpecCurve, value_at}
-use Rattle.upp_normal.specs.upp_curve.specs.Steady.{rate}
-use Rattle.upp_normal.specs.upp_limits.specs.Periods.{periods_after, both_steady, common_period}
-use Rattle.upp_normal.specs.upp_limits.specs.declared.op_kind.OpKind.TheVariants.{Min, Max, PosDiff}
-use Rattle.upp_normal.specs.upp_limits.specs.Limits.{Sizes}
-use Rattle.upp_normal.specs.upp_limits.specs.Windows.{IsSlowerBelow, IsLeast, Meets}
+use Rattle.upp_limits.specs.rational.specs.Rational.{ℚ}
+use Rattle.upp_limits.specs.rational.specs.Extended.{Ext, ◌<ₑ◌}
+use Rattle.upp_limits.specs.rational.proofs.ExtendedOrder.{lt_ext_trans, lt_ext_irrefl}
+use Rattle.upp_limits.specs.upp_curve.specs.Curve.{SpecCurve, value_at}
+use Rattle.upp_limits.specs.upp_curve.specs.Steady.{rate}
+use Rattle.upp_limits.specs.Periods.{periods_after, both_steady, common_period}
+use Rattle.upp_limits.specs.declared.op_kind.OpKind.TheVariants.{Min, Max, PosDiff}
+use Rattle.upp_limits.specs.Limits.{Sizes}
+use Rattle.upp_limits.specs.Windows.{IsSlowerBelow, IsLeast, Meets}
 use Rattle.curve_call.specs.Compared.{AreCompared}
 use Rattle.curve_call.proofs.Shifts.{same_least, least_zero}
 use Rattle.curve_call.proofs.LeastNumber.{IsBelowAfter}

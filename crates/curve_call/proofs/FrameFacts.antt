@@ -1,16 +1,16 @@
 -- What a frame of a call gives: sizes of its window that hold the operands' numbers, and where its start and its period stand.
 use Rattle.std.specs.Prelude.{◌≡◌, ℕ}
 use Rattle.std.proofs.Common.{sym, subst}
-use Rattle.upp_normal.specs.rational.proofs.Laws.{le_trans}
-use Rattle.upp_normal.specs.upp_limits.specs.declared.op_kind.OpKind.{OpKind}
-use Rattle.upp_normal.specs.upp_curve.specs.Curve.{SpecCurve}
-use Rattle.upp_normal.specs.upp_limits.specs.Windows.{window_at}
-use Rattle.upp_normal.specs.upp_limits.specs.Limits.{Sizes}
-use Rattle.upp_normal.specs.upp_limits.specs.Gauges.{numbers_over, gauge_over}
-use Rattle.upp_normal.specs.upp_limits.specs.Sized.{Stands, grid_of}
+use Rattle.upp_limits.specs.rational.proofs.Laws.{le_trans}
+use Rattle.upp_limits.specs.declared.op_kind.OpKind.{OpKind}
+use Rattle.upp_limits.specs.upp_curve.specs.Curve.{SpecCurve}
+use Rattle.upp_limits.specs.Windows.{window_at}
+use Rattle.upp_limits.specs.Limits.{Sizes}
+use Rattle.upp_limits.specs.Gauges.{numbers_over, gauge_over}
+use Rattle.upp_limits.specs.Sized.{Stands, grid_of}
 use Rattle.upp_normal.specs.Operand.{AreLimited}
-use Rattle.upp_normal.specs.upp_limits.proofs.CurveStands.{are_sizes}
-use Rattle.upp_normal.specs.upp_limits.proofs.Stands.{sizes_stand}
+use Rattle.upp_limits.proofs.CurveStands.{are_sizes}
+use Rattle.upp_limits.proofs.Stands.{sizes_stand}
 use Rattle.curve_call.specs.declared.frame.Frame.{Frame}
 use Rattle.curve_call.specs.CallWindows.{IsForward, start_of}
 use Rattle.curve_call.specs.Frames.{IsFrame, sizes_at}

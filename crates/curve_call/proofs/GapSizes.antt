@@ -1,17 +1,17 @@
 -- The steps to the gap of a stretch fit.
 use Rattle.std.specs.Prelude.{◌≡◌, pos}
 use Rattle.std.proofs.Common.{sym, subst, inl, inr}
-use Rattle.upp_normal.specs.rational.specs.Rational.{ℚ, ◌≤ℚ◌, ◌<ℚ◌, int}
-use Rattle.upp_normal.specs.rational.specs.MinMax.{min_q}
-use Rattle.upp_normal.specs.rational.specs.Grid.{Whole}
-use Rattle.upp_normal.specs.rational.specs.Extended.{Ext}
-use Rattle.upp_normal.specs.rational.specs.declared.Extended.TheVariants.{Fin, Inf}
-use Rattle.upp_normal.specs.rational.proofs.Laws.{le_of_lt, le_of_not_lt}
-use Rattle.upp_normal.specs.rational.proofs.MinMax.{max_q_one, min_q_left, min_q_right}
-use Rattle.upp_normal.specs.affine_segment.specs.Values.{line_value}
+use Rattle.upp_limits.specs.rational.specs.Rational.{ℚ, ◌≤ℚ◌, ◌<ℚ◌, int}
+use Rattle.upp_limits.specs.rational.specs.MinMax.{min_q}
+use Rattle.upp_limits.specs.rational.specs.Grid.{Whole}
+use Rattle.upp_limits.specs.rational.specs.Extended.{Ext}
+use Rattle.upp_limits.specs.rational.specs.declared.Extended.TheVariants.{Fin, Inf}
+use Rattle.upp_limits.specs.rational.proofs.Laws.{le_of_lt, le_of_not_lt}
+use Rattle.upp_limits.specs.rational.proofs.MinMax.{max_q_one, min_q_left, min_q_right}
+use Rattle.upp_limits.specs.upp_curve.specs.affine_segment.Values.{line_value}
 use Rattle.upp_normal.specs.declared.ahead.Stretch.{Stretch}
-use Rattle.upp_normal.specs.affine_segment.specs.Fits.{LineFitsAt}
-use Rattle.upp_normal.specs.upp_limits.specs.Limits.{Sizes}
+use Rattle.upp_limits.specs.upp_curve.specs.affine_segment.Fits.{LineFitsAt}
+use Rattle.upp_limits.specs.Limits.{Sizes}
 use Rattle.upp_normal.specs.Operand.{AreLimited}
 use Rattle.upp_normal.specs.Ahead.{GridValue}
 use Rattle.upp_normal.proofs.AnswerRoom.{operand_line_fits, operand_line_value, values_fit, value_difference_stands}

@@ -1,11 +1,11 @@
 -- The answers of one call, and of a call and then another, are determined.
 use Rattle.std.proofs.Common.{◌≡◌, ◌≢◌, arith, refl, ap, subst}
 use Rattle.std.specs.Prelude.{Result, Ok, Err}
-use Rattle.upp_normal.specs.upp_limits.specs.declared.op_kind.OpKind.{OpKind}
-use Rattle.upp_normal.specs.upp_limits.specs.declared.op_kind.OpFault.{OpFault}
-use Rattle.upp_normal.specs.upp_limits.specs.declared.op_kind.OpFault.TheVariants.{TooMany, TooWide, NoMemory}
-use Rattle.upp_normal.specs.upp_curve.specs.Curve.{SpecCurve}
-use Rattle.upp_normal.specs.upp_limits.specs.Gauges.{IsTooMany, IsTooWide}
+use Rattle.upp_limits.specs.declared.op_kind.OpKind.{OpKind}
+use Rattle.upp_limits.specs.declared.op_kind.OpFault.{OpFault}
+use Rattle.upp_limits.specs.declared.op_kind.OpFault.TheVariants.{TooMany, TooWide, NoMemory}
+use Rattle.upp_limits.specs.upp_curve.specs.Curve.{SpecCurve}
+use Rattle.upp_limits.specs.Gauges.{IsTooMany, IsTooWide}
 use Rattle.curve_call.specs.Calls.{Applies, Then, goes_on, stops}
 use Rattle.curve_call.specs.Determined.{IsDetermined, AppliesIsDetermined}
 use Rattle.curve_call.proofs.SameAnswers.{made_unique}

@@ -1,12 +1,12 @@
 -- Two lines on an open stretch: which is nowhere above the other, before and after they meet.
 use Rattle.std.specs.Prelude.{◌≡◌, Bool, true, false, not, pos, Option, Some, None}
 use Rattle.std.proofs.Common.{arith, sym, ap, ◌∙◌, subst}
-use Rattle.upp_normal.specs.rational.specs.Rational.{ℚ, ◌+ℚ◌, ◌-ℚ◌, ◌*ℚ◌, ◌≤ℚ◌, int}
-use Rattle.upp_normal.specs.rational.proofs.Laws.{le_of_lt, mul_le_mul_right}
-use Rattle.upp_normal.specs.rational.proofs.Lines.{past_crossing, line_moved}
-use Rattle.upp_normal.specs.rational.proofs.Linear.{with2, with3, with4}
-use Rattle.upp_normal.specs.affine_segment.specs.declared.line.Line.{Line}
-use Rattle.upp_normal.specs.affine_segment.specs.Values.{line_at}
+use Rattle.upp_limits.specs.rational.specs.Rational.{ℚ, ◌+ℚ◌, ◌-ℚ◌, ◌*ℚ◌, ◌≤ℚ◌, int}
+use Rattle.upp_limits.specs.rational.proofs.Laws.{le_of_lt, mul_le_mul_right}
+use Rattle.upp_limits.specs.rational.proofs.Lines.{past_crossing, line_moved}
+use Rattle.upp_limits.specs.rational.proofs.Linear.{with2, with3, with4}
+use Rattle.upp_limits.specs.upp_curve.specs.declared.affine_segment.line.Line.{Line}
+use Rattle.upp_limits.specs.upp_curve.specs.affine_segment.Values.{line_at}
 use Rattle.curve_call.specs.Lies.{IsOrdered, MeetsAt, CrossesAt}
 
 -- before two lines meet the shallower is the upper

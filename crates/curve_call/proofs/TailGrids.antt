@@ -3,18 +3,18 @@ use Rattle.std.specs.Prelude.{◌≡◌, ◌*◌, Bool, pos, List}
 use Rattle.std.proofs.Common.{sym, subst}
 use Prim.Native.Nat.{◌∣◌}
 use native.Mathlib.Nat.{mul_comm}
-use Rattle.upp_normal.specs.rational.specs.Rational.{ℚ, ◌+ℚ◌, ◌≤ℚ◌, ◌<ℚ◌, int}
-use Rattle.upp_normal.specs.rational.specs.Grid.{Whole}
-use Rattle.upp_normal.specs.rational.specs.Extended.{Ext}
-use Rattle.upp_normal.specs.affine_segment.specs.declared.line.Piece.{Piece}
-use Rattle.upp_normal.specs.affine_segment.specs.Reading.{read}
-use Rattle.upp_normal.specs.upp_curve.specs.Curve.{repeated}
-use Rattle.upp_normal.specs.affine_segment.specs.Pieces.{Each}
-use Rattle.upp_normal.specs.upp_curve.specs.Normal.{FitsPeriod}
+use Rattle.upp_limits.specs.rational.specs.Rational.{ℚ, ◌+ℚ◌, ◌≤ℚ◌, ◌<ℚ◌, int}
+use Rattle.upp_limits.specs.rational.specs.Grid.{Whole}
+use Rattle.upp_limits.specs.rational.specs.Extended.{Ext}
+use Rattle.upp_limits.specs.upp_curve.specs.declared.affine_segment.line.Piece.{Piece}
+use Rattle.upp_limits.specs.upp_curve.specs.affine_segment.Reading.{read}
+use Rattle.upp_limits.specs.upp_curve.specs.Curve.{repeated}
+use Rattle.upp_limits.specs.upp_curve.specs.affine_segment.Pieces.{Each}
+use Rattle.upp_limits.specs.upp_curve.specs.Normal.{FitsPeriod}
 use Rattle.upp_normal.specs.Normalising.{OnGridsUnlessLine}
-use Rattle.upp_normal.specs.upp_limits.specs.Limits.{Sizes}
-use Rattle.upp_normal.specs.upp_limits.specs.Sized.{grid_of}
-use Rattle.upp_normal.specs.upp_limits.proofs.NarrowSizes.{slope_time_divides}
+use Rattle.upp_limits.specs.Limits.{Sizes}
+use Rattle.upp_limits.specs.Sized.{grid_of}
+use Rattle.upp_limits.proofs.NarrowSizes.{slope_time_divides}
 use Rattle.upp_normal.proofs.Bends.{bends_on}
 use Rattle.curve_call.specs.Operands.{AreOperands, IsMadeOf}
 

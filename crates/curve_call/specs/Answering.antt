@@ -1,15 +1,15 @@
 -- Pieces of an answer in a call's window, where the call's sizes hold them. Own choice.
 use Rattle.std.specs.Prelude.{◌≡◌, ℕ, pos, List}
-use Rattle.upp_normal.specs.rational.specs.Rational.{ℚ, ◌+ℚ◌, ◌≤ℚ◌, ◌<ℚ◌, int}
-use Rattle.upp_normal.specs.rational.specs.Grid.{Whole, Within}
-use Rattle.upp_normal.specs.affine_segment.specs.declared.line.Piece.{Piece}
-use Rattle.upp_normal.specs.affine_segment.specs.Reading.{read}
-use Rattle.upp_normal.specs.upp_curve.specs.Curve.{repeated}
-use Rattle.upp_normal.specs.affine_segment.specs.Pieces.{Each, StartsAtZero}
+use Rattle.upp_limits.specs.rational.specs.Rational.{ℚ, ◌+ℚ◌, ◌≤ℚ◌, ◌<ℚ◌, int}
+use Rattle.upp_limits.specs.rational.specs.Grid.{Whole, Within}
+use Rattle.upp_limits.specs.upp_curve.specs.declared.affine_segment.line.Piece.{Piece}
+use Rattle.upp_limits.specs.upp_curve.specs.affine_segment.Reading.{read}
+use Rattle.upp_limits.specs.upp_curve.specs.Curve.{repeated}
+use Rattle.upp_limits.specs.upp_curve.specs.affine_segment.Pieces.{Each, StartsAtZero}
 use Rattle.upp_normal.specs.Normalising.{OnGridsUnlessLine}
 use Rattle.upp_normal.specs.Room.{PieceHasRoom}
-use Rattle.upp_normal.specs.upp_limits.specs.Limits.{Sizes}
-use Rattle.upp_normal.specs.upp_limits.specs.Sized.{grid_of, times_largest}
+use Rattle.upp_limits.specs.Limits.{Sizes}
+use Rattle.upp_limits.specs.Sized.{grid_of, times_largest}
 use Rattle.upp_normal.specs.Operand.{AreLimited, answer_room}
 
 -- pieces from 0 on below from + period, which is no later than the end of a window; they and what repeats them have

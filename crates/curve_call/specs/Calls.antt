@@ -1,9 +1,9 @@
 -- What one call on curves answers, and two calls of which the second takes the first one's answer. Own choice.
 use Rattle.std.specs.Prelude.{◌≡◌, Result, Ok, Err}
-use Rattle.upp_normal.specs.upp_limits.specs.declared.op_kind.OpKind.{OpKind}
-use Rattle.upp_normal.specs.upp_limits.specs.declared.op_kind.OpFault.{OpFault}
-use Rattle.upp_normal.specs.upp_curve.specs.Curve.{SpecCurve}
-use Rattle.upp_normal.specs.upp_limits.specs.Outcome.{IsWithin, IsCauseOf}
+use Rattle.upp_limits.specs.declared.op_kind.OpKind.{OpKind}
+use Rattle.upp_limits.specs.declared.op_kind.OpFault.{OpFault}
+use Rattle.upp_limits.specs.upp_curve.specs.Curve.{SpecCurve}
+use Rattle.upp_limits.specs.Outcome.{IsWithin, IsCauseOf}
 use Rattle.curve_call.specs.Answers.{IsMadeBy}
 
 -- the call is over neither limit, and h is made by it

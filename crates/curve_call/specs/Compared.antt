@@ -1,12 +1,12 @@
 -- Two curves, compared from a time on: how large their numbers are up to a period later. Own choice.
 use Rattle.std.specs.Prelude.{pos}
-use Rattle.upp_normal.specs.rational.specs.Rational.{ℚ, ◌+ℚ◌, ◌≤ℚ◌, ◌<ℚ◌, int}
-use Rattle.upp_normal.specs.rational.specs.Grid.{Whole}
-use Rattle.upp_normal.specs.upp_curve.specs.Curve.{SpecCurve}
-use Rattle.upp_normal.specs.upp_curve.specs.Curves.{IsCurve}
-use Rattle.upp_normal.specs.upp_curve.specs.Steady.{steady, IsWholePeriods}
-use Rattle.upp_normal.specs.upp_limits.specs.Limits.{Sizes, curve_numbers}
-use Rattle.upp_normal.specs.upp_limits.specs.Sized.{Stands}
+use Rattle.upp_limits.specs.rational.specs.Rational.{ℚ, ◌+ℚ◌, ◌≤ℚ◌, ◌<ℚ◌, int}
+use Rattle.upp_limits.specs.rational.specs.Grid.{Whole}
+use Rattle.upp_limits.specs.upp_curve.specs.Curve.{SpecCurve}
+use Rattle.upp_limits.specs.upp_curve.specs.Curves.{IsCurve}
+use Rattle.upp_limits.specs.upp_curve.specs.Steady.{steady, IsWholePeriods}
+use Rattle.upp_limits.specs.Limits.{Sizes, curve_numbers}
+use Rattle.upp_limits.specs.Sized.{Stands}
 use Rattle.upp_normal.specs.Operand.{AreLimited}
 
 -- a curve that repeats from `from` on with the period d, and whose numbers below from + d have the sizes z

@@ -1,11 +1,11 @@
 -- The first looks at a call: its window with no period, whose gauge no number of periods makes smaller, and the windows
 -- with numbers of periods that the number it needs is between. Own choice.
 use Rattle.std.specs.Prelude.{ℕ, ◌<◌, ◌≤◌, ◌^◌}
-use Rattle.upp_normal.specs.upp_limits.specs.declared.op_kind.OpKind.{OpKind}
-use Rattle.upp_normal.specs.upp_limits.specs.declared.op_kind.OpFault.{OpFault}
-use Rattle.upp_normal.specs.upp_limits.specs.declared.op_kind.OpFault.TheVariants.{TooMany, TooWide, NoMemory}
-use Rattle.upp_normal.specs.upp_curve.specs.Curve.{SpecCurve}
-use Rattle.upp_normal.specs.upp_limits.specs.Gauges.{gauge_at}
+use Rattle.upp_limits.specs.declared.op_kind.OpKind.{OpKind}
+use Rattle.upp_limits.specs.declared.op_kind.OpFault.{OpFault}
+use Rattle.upp_limits.specs.declared.op_kind.OpFault.TheVariants.{TooMany, TooWide, NoMemory}
+use Rattle.upp_limits.specs.upp_curve.specs.Curve.{SpecCurve}
+use Rattle.upp_limits.specs.Gauges.{gauge_at}
 use Rattle.curve_call.specs.declared.windows.CallWindow.{CallWindow}
 use Rattle.curve_call.specs.CallWindows.{IsWindow}
 use Rattle.curve_call.specs.Frames.{IsRefusedAt}

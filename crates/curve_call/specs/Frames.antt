@@ -1,15 +1,15 @@
 -- A call within both limits, and why it is refused by them. Own choice.
 use Rattle.std.specs.Prelude.{◌≡◌, ℕ, ◌<◌, ◌≤◌, ◌^◌}
-use Rattle.upp_normal.specs.rational.specs.Rational.{ℚ}
-use Rattle.upp_normal.specs.upp_limits.specs.declared.op_kind.OpKind.{OpKind}
-use Rattle.upp_normal.specs.upp_limits.specs.declared.op_kind.OpFault.{OpFault}
-use Rattle.upp_normal.specs.upp_limits.specs.declared.op_kind.OpFault.TheVariants.{TooMany, TooWide, NoMemory}
-use Rattle.upp_normal.specs.upp_curve.specs.Curve.{SpecCurve}
-use Rattle.upp_normal.specs.upp_curve.specs.Curves.{IsCurve}
-use Rattle.upp_normal.specs.upp_limits.specs.Windows.{window_at}
-use Rattle.upp_normal.specs.upp_limits.specs.Limits.{Sizes, sizes_of}
-use Rattle.upp_normal.specs.upp_limits.specs.Gauges.{numbers_over, gauge_over, gauge_at, tally_at}
-use Rattle.upp_normal.specs.upp_limits.specs.Sized.{grid_of}
+use Rattle.upp_limits.specs.rational.specs.Rational.{ℚ}
+use Rattle.upp_limits.specs.declared.op_kind.OpKind.{OpKind}
+use Rattle.upp_limits.specs.declared.op_kind.OpFault.{OpFault}
+use Rattle.upp_limits.specs.declared.op_kind.OpFault.TheVariants.{TooMany, TooWide, NoMemory}
+use Rattle.upp_limits.specs.upp_curve.specs.Curve.{SpecCurve}
+use Rattle.upp_limits.specs.upp_curve.specs.Curves.{IsCurve}
+use Rattle.upp_limits.specs.Windows.{window_at}
+use Rattle.upp_limits.specs.Limits.{Sizes, sizes_of}
+use Rattle.upp_limits.specs.Gauges.{numbers_over, gauge_over, gauge_at, tally_at}
+use Rattle.upp_limits.specs.Sized.{grid_of}
 use Rattle.curve_call.specs.declared.frame.Frame.{Frame}
 use Rattle.curve_call.specs.CallWindows.{SecondIsCurve, start_of, period_in}
 

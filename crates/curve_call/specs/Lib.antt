@@ -27,9 +27,3 @@ pub mod Worked
 pub mod Lower
 pub mod Existing
 pub use Rattle.upp_normal as upp_normal
-pub use Rattle.upp_normal.specs.affine_segment as affine_segment
-pub use Rattle.upp_normal.specs.fraction128 as fraction128
-pub use Rattle.upp_normal.specs.min_plus as min_plus
-pub use Rattle.upp_normal.specs.rational as rational
-pub use Rattle.upp_normal.specs.upp_curve as upp_curve
-pub use Rattle.upp_normal.specs.upp_limits as upp_limits

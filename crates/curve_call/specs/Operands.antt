@@ -1,13 +1,13 @@
 -- What is promised of the windows that are made of two operands' windows: of the lower, the upper, and what the first
 -- has above the second. Own choice.
 use Rattle.std.specs.Prelude.{◌≡◌, ◌+◌, ◌*◌, ◌≤◌, Bool, pos, List, length}
-use Rattle.upp_normal.specs.rational.specs.Rational.{ℚ, ◌≤ℚ◌, ◌<ℚ◌, int}
-use Rattle.upp_normal.specs.rational.specs.Extended.{Ext}
-use Rattle.upp_normal.specs.affine_segment.specs.declared.line.Piece.{Piece}
-use Rattle.upp_normal.specs.affine_segment.specs.Reading.{read}
-use Rattle.upp_normal.specs.affine_segment.specs.Pieces.{Each, StartsAtZero}
-use Rattle.upp_normal.specs.upp_limits.specs.Limits.{Sizes}
-use Rattle.upp_normal.specs.upp_limits.specs.Sized.{grid_of}
+use Rattle.upp_limits.specs.rational.specs.Rational.{ℚ, ◌≤ℚ◌, ◌<ℚ◌, int}
+use Rattle.upp_limits.specs.rational.specs.Extended.{Ext}
+use Rattle.upp_limits.specs.upp_curve.specs.declared.affine_segment.line.Piece.{Piece}
+use Rattle.upp_limits.specs.upp_curve.specs.affine_segment.Reading.{read}
+use Rattle.upp_limits.specs.upp_curve.specs.affine_segment.Pieces.{Each, StartsAtZero}
+use Rattle.upp_limits.specs.Limits.{Sizes}
+use Rattle.upp_limits.specs.Sized.{grid_of}
 use Rattle.upp_normal.specs.Operand.{AreLimited, OperandPieces, answer_room}
 use Rattle.upp_normal.specs.Room.{PieceHasRoom}
 use Rattle.upp_normal.specs.Bends.{OnlyBend}

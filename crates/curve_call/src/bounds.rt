@@ -1,13 +1,13 @@
 //! Between which numbers the least number of periods is, from few numbers of each curve.
 
 ghost use Rattle.std.specs.Prelude.{ℕ, ◌≡◌, ◌≤◌, pos, IfSome};
-ghost use Rattle.upp_normal.specs.rational.specs.Rational.{ℚ, int, ◌+ℚ◌, ◌-ℚ◌, ◌<ℚ◌};
-ghost use Rattle.upp_normal.specs.rational.specs.Extended.{◌<ₑ◌};
-ghost use Rattle.upp_normal.specs.upp_curve.specs.Curve.{value_at};
-ghost use Rattle.upp_normal.specs.upp_curve.specs.Steady.{rate, rise_over};
-ghost use Rattle.upp_normal.specs.upp_limits.specs.Periods.{periods_after};
-ghost use Rattle.upp_normal.specs.upp_limits.specs.Limits.{Sizes};
-ghost use Rattle.upp_normal.specs.upp_limits.specs.Windows.{IsBelowFor, IsSlowerBelow};
+ghost use Rattle.upp_limits.specs.rational.specs.Rational.{ℚ, int, ◌+ℚ◌, ◌-ℚ◌, ◌<ℚ◌};
+ghost use Rattle.upp_limits.specs.rational.specs.Extended.{◌<ₑ◌};
+ghost use Rattle.upp_limits.specs.upp_curve.specs.Curve.{value_at};
+ghost use Rattle.upp_limits.specs.upp_curve.specs.Steady.{rate, rise_over};
+ghost use Rattle.upp_limits.specs.Periods.{periods_after};
+ghost use Rattle.upp_limits.specs.Limits.{Sizes};
+ghost use Rattle.upp_limits.specs.Windows.{IsBelowFor, IsSlowerBelow};
 ghost use Rattle.upp_normal.specs.Ahead.{HasWindow, IsTimeIn, AnswerValue};
 ghost use Rattle.curve_call.specs.Levels.{level_curve};
 ghost use Rattle.curve_call.specs.Gaps.{IsLargest};
@@ -18,8 +18,8 @@ ghost use Rattle.curve_call.specs.Bounds.{AreBounds, IsMost, OwnWindow};
 use crate::gaps::{Gap, gap_of, side_gap};
 use crate::least::{is_slower, lead_over, least_times, rise_of};
 use crate::sides::Side;
-use upp_normal::fraction128::{Frac, sum};
-use upp_normal::upp_curve::Curve;
+use upp_limits::fraction128::{Frac, sum};
+use upp_limits::upp_curve::Curve;
 
 /// Two numbers that a third one is between, or equal to.
 #[derive(Debug, Clone, Copy)]

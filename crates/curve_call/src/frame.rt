@@ -3,12 +3,12 @@
 ghost use Rattle.std.specs.Prelude.{ℕ, IfOk, IfErr};
 ghost use Rattle.curve_call.specs.CallWindows.{IsForward};
 ghost use Rattle.curve_call.specs.Frames.{IsFrame, IsRefusedAt, IsWideOver};
-ghost use Rattle.upp_normal.specs.upp_limits.specs.Covered.{AreNarrowGrids};
+ghost use Rattle.upp_limits.specs.Covered.{AreNarrowGrids};
 
 use crate::windows::call_window;
-use upp_normal::fraction128::Frac;
-use upp_normal::upp_curve::Curve;
-use upp_normal::upp_limits::{CallGrids, OpFault, OpKind, is_few, narrow_grids};
+use upp_limits::fraction128::Frac;
+use upp_limits::upp_curve::Curve;
+use upp_limits::{CallGrids, OpFault, OpKind, is_few, narrow_grids};
 
 /// A call within both limits: its window, and the grids of its times and of its values.
 #[derive(Debug, Clone, Copy)]

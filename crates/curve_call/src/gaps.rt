@@ -1,14 +1,14 @@
 //! By how much one curve is above another over a window.
 
 ghost use Rattle.std.specs.Prelude.{◌≡◌, ◌↔◌, IsTrue, pos};
-ghost use Rattle.upp_normal.specs.rational.specs.Rational.{ℚ, int, ◌+ℚ◌, ◌-ℚ◌, ◌≤ℚ◌, ◌<ℚ◌, neg_ℚ};
-ghost use Rattle.upp_normal.specs.rational.specs.Ratio.{SumFits};
-ghost use Rattle.upp_normal.specs.rational.specs.MinMax.{max_q, min_q};
-ghost use Rattle.upp_normal.specs.rational.specs.Extended.{Ext};
-ghost use Rattle.upp_normal.specs.affine_segment.specs.Values.{line_value};
-ghost use Rattle.upp_normal.specs.upp_curve.specs.Curve.{value_at};
-ghost use Rattle.upp_normal.specs.affine_segment.specs.Fits.{LineFitsAt};
-ghost use Rattle.upp_normal.specs.upp_limits.specs.Limits.{Sizes};
+ghost use Rattle.upp_limits.specs.rational.specs.Rational.{ℚ, int, ◌+ℚ◌, ◌-ℚ◌, ◌≤ℚ◌, ◌<ℚ◌, neg_ℚ};
+ghost use Rattle.upp_limits.specs.rational.specs.Ratio.{SumFits};
+ghost use Rattle.upp_limits.specs.rational.specs.MinMax.{max_q, min_q};
+ghost use Rattle.upp_limits.specs.rational.specs.Extended.{Ext};
+ghost use Rattle.upp_limits.specs.upp_curve.specs.affine_segment.Values.{line_value};
+ghost use Rattle.upp_limits.specs.upp_curve.specs.Curve.{value_at};
+ghost use Rattle.upp_limits.specs.upp_curve.specs.affine_segment.Fits.{LineFitsAt};
+ghost use Rattle.upp_limits.specs.Limits.{Sizes};
 ghost use Rattle.upp_normal.specs.Ahead.{GoesOn, HasWindow, IsTimeIn};
 ghost use Rattle.curve_call.specs.Gaps.{InWindow, IsGap};
 ghost use Rattle.curve_call.specs.GapSteps.{
@@ -22,11 +22,11 @@ ghost use Rattle.curve_call.specs.GapSteps.{
 };
 
 use crate::sides::Side;
+use upp_limits::fraction128::{Ext, Frac, difference, greater, is_less};
+use upp_limits::rational::Extended;
+use upp_limits::upp_curve::Curve;
+use upp_limits::upp_curve::affine_segment::line_value;
 use upp_normal::Stretch;
-use upp_normal::affine_segment::line_value;
-use upp_normal::fraction128::{Ext, Frac, difference, greater, is_less};
-use upp_normal::rational::Extended;
-use upp_normal::upp_curve::Curve;
 
 /// By how much one function is above another over some times, where the other is finite.
 #[derive(Debug, Clone, Copy)]

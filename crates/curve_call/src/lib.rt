@@ -44,6 +44,6 @@ pub use stretch::{Both, overlay};
 pub use sum::window_sum;
 pub use times::{begin, common_period, own_period};
 pub use upp_normal;
-pub use upp_normal::{affine_segment, fraction128, rational, steady_time, upp_curve, upp_limits};
+pub use upp_normal::steady_time;
 pub use window_laws::windows_exist;
 pub use windows::{CallWindow, call_window};

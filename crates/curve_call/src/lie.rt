@@ -1,13 +1,13 @@
 //! How two lines lie on an open stretch.
 
 ghost use Rattle.std.specs.Prelude.{◌≡◌, Some, None};
-ghost use Rattle.upp_normal.specs.affine_segment.specs.declared.line.Line.{Line};
+ghost use Rattle.upp_limits.specs.upp_curve.specs.declared.affine_segment.line.Line.{Line};
 ghost use Rattle.curve_call.specs.Lies.{IsLie, MeetsAt, CrossFits};
 
 use crate::stretch::Both;
 use std::cmp::Ordering;
-use upp_normal::affine_segment::{Line, cross};
-use upp_normal::fraction128::Frac;
+use upp_limits::fraction128::Frac;
+use upp_limits::upp_curve::affine_segment::{Line, cross};
 
 /// How two lines lie on an open stretch, up to where they change places, or to its end.
 #[derive(Debug, Clone, Copy)]

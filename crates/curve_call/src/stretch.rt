@@ -1,17 +1,17 @@
 //! Two windows read together.
 
 ghost use Rattle.std.specs.Prelude.{◌≡◌, ◌+◌, ◌<◌, ◌^◌, ◌⊎◌, length, slice_get, IfOk};
-ghost use Rattle.upp_normal.specs.affine_segment.specs.Values.{line_value};
-ghost use Rattle.upp_normal.specs.affine_segment.specs.Pieces.{StartsAtZero};
-ghost use Rattle.upp_normal.specs.affine_segment.specs.Fits.{LineFitsAt};
+ghost use Rattle.upp_limits.specs.upp_curve.specs.affine_segment.Values.{line_value};
+ghost use Rattle.upp_limits.specs.upp_curve.specs.affine_segment.Pieces.{StartsAtZero};
+ghost use Rattle.upp_limits.specs.upp_curve.specs.affine_segment.Fits.{LineFitsAt};
 ghost use Rattle.curve_call.specs.Walk.{NextFits, IsStep};
 ghost use Rattle.curve_call.specs.Stretches.{cut_at, IsOverlay, CutsFit};
 
 use std::alloc::{AllocError, Global};
 use std::cmp::Ordering;
-use upp_normal::affine_segment::{Line, Piece, value};
-use upp_normal::fraction128::{Ext, Frac};
-use upp_normal::rational::Extended;
+use upp_limits::fraction128::{Ext, Frac};
+use upp_limits::rational::Extended;
+use upp_limits::upp_curve::affine_segment::{Line, Piece, value};
 
 /// A stretch on which two windows each go on with one line: their pieces from its start on.
 #[derive(Debug, Clone, Copy)]

@@ -1,34 +1,34 @@
 -- The convolution of two curves in a call within both limits: its pieces have room, and it repeats from the last period of its window on.
 use Rattle.std.specs.Prelude.{◌≡◌, ◌+◌, pos, List}
 use Rattle.std.proofs.Common.{arith, sym, ap, ◌∙◌, subst, inl, inr}
-use Rattle.curve_pointwise.specs.rational.specs.Rational.{ℚ, ◌+ℚ◌, ◌-ℚ◌, ◌*ℚ◌, ◌≤ℚ◌, ◌<ℚ◌, int}
-use Rattle.curve_pointwise.specs.rational.specs.Grid.{Whole}
-use Rattle.curve_pointwise.specs.rational.specs.Extended.{◌<ₑ◌}
-use Rattle.curve_pointwise.specs.rational.proofs.Grid.{within_weaken}
-use Rattle.curve_pointwise.specs.rational.proofs.Linear.{with6}
-use Rattle.curve_pointwise.specs.rational.proofs.Laws.{le_refl, le_trans, le_of_lt, mul_nonneg}
-use Rattle.curve_pointwise.specs.rational.proofs.Integers.{nat_nonneg}
-use Rattle.curve_pointwise.specs.affine_segment.specs.declared.line.Piece.{Piece}
-use Rattle.curve_pointwise.specs.affine_segment.specs.Reading.{read}
-use Rattle.curve_pointwise.specs.upp_curve.specs.Curve.{SpecCurve, repeated, value_at}
-use Rattle.curve_pointwise.specs.min_plus.specs.Convolution.{IsConvolution}
-use Rattle.curve_pointwise.specs.affine_segment.specs.Pieces.{Each}
-use Rattle.curve_pointwise.specs.upp_normal.specs.Normalising.{HasValues}
-use Rattle.curve_pointwise.specs.upp_curve.specs.Unrolled.{unroll}
-use Rattle.curve_pointwise.specs.upp_curve.specs.Steady.{steady, rate, rise_over}
-use Rattle.curve_pointwise.specs.upp_limits.specs.Periods.{periods_after}
-use Rattle.curve_pointwise.specs.upp_limits.specs.Limits.{Sizes}
-use Rattle.curve_pointwise.specs.upp_limits.specs.Sized.{times_largest}
-use Rattle.curve_pointwise.specs.upp_normal.proofs.AnswerRoom.{more_largest}
-use Rattle.curve_pointwise.specs.upp_normal.proofs.Below.{unroll_reads}
-use Rattle.curve_pointwise.specs.affine_segment.proofs.PieceOrder.{each_map}
-use Rattle.curve_pointwise.specs.curve_call.proofs.TailGrids.{TailOf}
-use Rattle.curve_pointwise.specs.curve_call.specs.declared.frame.Frame.{Frame}
-use Rattle.curve_pointwise.specs.curve_call.specs.Answering.{IsAnswerWindow}
-use Rattle.curve_pointwise.specs.curve_call.proofs.CurveRises.{IsRise}
-use Rattle.curve_pointwise.specs.Lattice.{RisesBy}
-use Rattle.curve_pointwise.proofs.LatticeCalls.{operands, from_is, from_late, from_whole, left_rise, right_rise, some_end, more_periods}
-use Rattle.curve_pointwise.specs.curve_call.proofs.TailMoves.{rates_compared}
+use Rattle.upp_limits.specs.rational.specs.Rational.{ℚ, ◌+ℚ◌, ◌-ℚ◌, ◌*ℚ◌, ◌≤ℚ◌, ◌<ℚ◌, int}
+use Rattle.upp_limits.specs.rational.specs.Grid.{Whole}
+use Rattle.upp_limits.specs.rational.specs.Extended.{◌<ₑ◌}
+use Rattle.upp_limits.specs.rational.proofs.Grid.{within_weaken}
+use Rattle.upp_limits.specs.rational.proofs.Linear.{with6}
+use Rattle.upp_limits.specs.rational.proofs.Laws.{le_refl, le_trans, le_of_lt, mul_nonneg}
+use Rattle.upp_limits.specs.rational.proofs.Integers.{nat_nonneg}
+use Rattle.upp_limits.specs.upp_curve.specs.declared.affine_segment.line.Piece.{Piece}
+use Rattle.upp_limits.specs.upp_curve.specs.affine_segment.Reading.{read}
+use Rattle.upp_limits.specs.upp_curve.specs.Curve.{SpecCurve, repeated, value_at}
+use Rattle.upp_limits.specs.min_plus.specs.Convolution.{IsConvolution}
+use Rattle.upp_limits.specs.upp_curve.specs.affine_segment.Pieces.{Each}
+use Rattle.upp_normal.specs.Normalising.{HasValues}
+use Rattle.upp_limits.specs.upp_curve.specs.Unrolled.{unroll}
+use Rattle.upp_limits.specs.upp_curve.specs.Steady.{steady, rate, rise_over}
+use Rattle.upp_limits.specs.Periods.{periods_after}
+use Rattle.upp_limits.specs.Limits.{Sizes}
+use Rattle.upp_limits.specs.Sized.{times_largest}
+use Rattle.upp_normal.proofs.AnswerRoom.{more_largest}
+use Rattle.upp_normal.proofs.Below.{unroll_reads}
+use Rattle.upp_limits.specs.upp_curve.proofs.affine_segment.PieceOrder.{each_map}
+use Rattle.plain_operators.specs.curve_call.proofs.TailGrids.{TailOf}
+use Rattle.plain_operators.specs.curve_call.specs.declared.frame.Frame.{Frame}
+use Rattle.plain_operators.specs.curve_call.specs.Answering.{IsAnswerWindow}
+use Rattle.plain_operators.specs.curve_call.proofs.CurveRises.{IsRise}
+use Rattle.plain_operators.specs.pointwise.Lattice.{RisesBy}
+use Rattle.plain_operators.proofs.pointwise.LatticeCalls.{operands, from_is, from_late, from_whole, left_rise, right_rise, some_end, more_periods}
+use Rattle.plain_operators.specs.curve_call.proofs.TailMoves.{rates_compared}
 use Rattle.element_envelope.specs.ConvolutionWindows.{OperandWindows, IsConvolutionWindow}
 use Rattle.element_envelope.specs.SumWindows.{SumPiece}
 use Rattle.element_envelope.proofs.Windows.{agreeing}
@@ -37,7 +37,7 @@ use Rattle.element_envelope.proofs.ArchBends.{sums_on_grids}
 use Rattle.curve_conv.specs.Late.{IsSlowerLate}
 use Rattle.curve_conv.proofs.Repeating.{ConvolvesFrom, convolution_repeats}
 use Rattle.curve_conv.specs.ConvolveCall.{IsConvolveFrame}
-use Rattle.curve_pointwise.proofs.LatticeAnswers.{RiseHasRoom, back, slower_or_not}
+use Rattle.plain_operators.proofs.pointwise.LatticeAnswers.{RiseHasRoom, back, slower_or_not}
 
 -- ---- the operands
 pub windows : (f g : SpecCurve) (r : Frame) (ls rs : List Piece) (F : IsConvolveFrame f g r) → ls ≡ unroll f r.end → rs ≡ unroll g r.end → OperandWindows r.end ls rs

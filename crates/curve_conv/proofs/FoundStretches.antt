@@ -1,21 +1,21 @@
 -- What elements make, as it goes on from a time, is there: found by proof alone, where no code runs.
 use Rattle.std.specs.Prelude.{◌≡◌, ◌⊎◌, List, [], ◌∷◌, Option, Some, None}
 use Rattle.std.proofs.Common.{sym, refl, subst, inl, inr}
-use Rattle.curve_pointwise.specs.rational.specs.Rational.{ℚ, ◌-ℚ◌, ◌/ℚ◌, ◌<ℚ◌}
-use Rattle.curve_pointwise.specs.rational.specs.Extended.{Ext, ◌<ₑ◌, min_ext}
-use Rattle.curve_pointwise.specs.rational.specs.declared.Extended.TheVariants.{Fin, Inf}
-use Rattle.curve_pointwise.specs.rational.proofs.Laws.{lt_cases, le_or_lt, lt_irrefl, le_lt_trans}
-use Rattle.curve_pointwise.specs.affine_segment.specs.declared.line.Line.{Line}
-use Rattle.curve_pointwise.specs.affine_segment.specs.declared.element.Element.{Element}
-use Rattle.curve_pointwise.specs.affine_segment.specs.declared.element.Element.TheVariants.{Point, Open}
-use Rattle.curve_pointwise.specs.affine_segment.specs.declared.element.Joined.{Joined}
-use Rattle.curve_pointwise.specs.affine_segment.specs.Elements.{IsProper, element_value, part_value, joined_value, IsConvolved}
-use Rattle.curve_pointwise.specs.affine_segment.specs.MadeParts.{AreParts}
-use Rattle.curve_pointwise.specs.affine_segment.specs.Values.{line_at}
-use Rattle.curve_pointwise.specs.affine_segment.proofs.Meeting.{lines_meet}
-use Rattle.curve_pointwise.specs.upp_normal.specs.declared.ahead.Stretch.{Stretch}
-use Rattle.curve_pointwise.specs.upp_limits.specs.Limits.{Sizes}
-use Rattle.curve_pointwise.specs.upp_normal.specs.Ahead.{GoesOn, IsBeforeNext}
+use Rattle.upp_limits.specs.rational.specs.Rational.{ℚ, ◌-ℚ◌, ◌/ℚ◌, ◌<ℚ◌}
+use Rattle.upp_limits.specs.rational.specs.Extended.{Ext, ◌<ₑ◌, min_ext}
+use Rattle.upp_limits.specs.rational.specs.declared.Extended.TheVariants.{Fin, Inf}
+use Rattle.upp_limits.specs.rational.proofs.Laws.{lt_cases, le_or_lt, lt_irrefl, le_lt_trans}
+use Rattle.upp_limits.specs.upp_curve.specs.declared.affine_segment.line.Line.{Line}
+use Rattle.upp_limits.specs.upp_curve.specs.declared.affine_segment.element.Element.{Element}
+use Rattle.upp_limits.specs.upp_curve.specs.declared.affine_segment.element.Element.TheVariants.{Point, Open}
+use Rattle.upp_limits.specs.upp_curve.specs.declared.affine_segment.element.Joined.{Joined}
+use Rattle.upp_limits.specs.upp_curve.specs.affine_segment.Elements.{IsProper, element_value, part_value, joined_value, IsConvolved}
+use Rattle.upp_limits.specs.upp_curve.specs.affine_segment.MadeParts.{AreParts}
+use Rattle.upp_limits.specs.upp_curve.specs.affine_segment.Values.{line_at}
+use Rattle.upp_limits.specs.upp_curve.proofs.affine_segment.Meeting.{lines_meet}
+use Rattle.upp_normal.specs.declared.ahead.Stretch.{Stretch}
+use Rattle.upp_limits.specs.Limits.{Sizes}
+use Rattle.upp_normal.specs.Ahead.{GoesOn, IsBeforeNext}
 use Rattle.element_envelope.specs.PieceElements.{Among}
 use Rattle.element_envelope.specs.ElementRoom.{OperandElement, SumElement, SumPart}
 use Rattle.element_envelope.specs.Envelopes.{ListSplit, list_sum}

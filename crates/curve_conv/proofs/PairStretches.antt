@@ -1,17 +1,17 @@
 -- What two elements make, as it goes on from a time.
 use Rattle.std.specs.Prelude.{Option, Some, None}
 use Rattle.std.proofs.Common.{sym, refl, subst}
-use Rattle.curve_pointwise.specs.rational.specs.Rational.{ℚ}
-use Rattle.curve_pointwise.specs.rational.specs.Extended.{Ext, ◌<ₑ◌}
-use Rattle.curve_pointwise.specs.rational.specs.declared.Extended.TheVariants.{Fin, Inf}
-use Rattle.curve_pointwise.specs.rational.proofs.Bounds.{all_infinite}
-use Rattle.curve_pointwise.specs.affine_segment.specs.declared.element.Element.{Element}
-use Rattle.curve_pointwise.specs.affine_segment.specs.declared.element.Element.TheVariants.{Point, Open}
-use Rattle.curve_pointwise.specs.affine_segment.specs.declared.element.Joined.{Joined}
-use Rattle.curve_pointwise.specs.affine_segment.specs.Elements.{IsProper, PairSplit, pair_sum, joined_value, AreAdjoined, IsConvolved}
-use Rattle.curve_pointwise.specs.upp_normal.specs.declared.ahead.Stretch.{Stretch}
-use Rattle.curve_pointwise.specs.upp_normal.specs.Ahead.{GoesOn}
-use Rattle.curve_pointwise.specs.upp_limits.specs.Limits.{Sizes}
+use Rattle.upp_limits.specs.rational.specs.Rational.{ℚ}
+use Rattle.upp_limits.specs.rational.specs.Extended.{Ext, ◌<ₑ◌}
+use Rattle.upp_limits.specs.rational.specs.declared.Extended.TheVariants.{Fin, Inf}
+use Rattle.upp_limits.specs.rational.proofs.Bounds.{all_infinite}
+use Rattle.upp_limits.specs.upp_curve.specs.declared.affine_segment.element.Element.{Element}
+use Rattle.upp_limits.specs.upp_curve.specs.declared.affine_segment.element.Element.TheVariants.{Point, Open}
+use Rattle.upp_limits.specs.upp_curve.specs.declared.affine_segment.element.Joined.{Joined}
+use Rattle.upp_limits.specs.upp_curve.specs.affine_segment.Elements.{IsProper, PairSplit, pair_sum, joined_value, AreAdjoined, IsConvolved}
+use Rattle.upp_normal.specs.declared.ahead.Stretch.{Stretch}
+use Rattle.upp_normal.specs.Ahead.{GoesOn}
+use Rattle.upp_limits.specs.Limits.{Sizes}
 use Rattle.curve_conv.specs.Stretches.{SumStretch, IsAhead, IsProperPart}
 
 -- parts one after another are proper

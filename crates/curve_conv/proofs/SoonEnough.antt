@@ -2,30 +2,30 @@
 -- where the slower one repeats within a period: a split of which the first side is before that is moved by periods.
 use Rattle.std.specs.Prelude.{◌≡◌, ℕ, ◌+◌, pos, [], ◌∷◌, Option, Some, None, IfSome}
 use Rattle.std.proofs.Common.{arith, sym, ap, ◌∙◌, subst, inl, inr}
-use Rattle.curve_pointwise.specs.rational.specs.Rational.{ℚ, ◌+ℚ◌, ◌-ℚ◌, ◌*ℚ◌, ◌≤ℚ◌, ◌<ℚ◌, int}
-use Rattle.curve_pointwise.specs.rational.specs.Extended.{Ext, ◌≤ₑ◌, ◌+ₑ◌}
-use Rattle.curve_pointwise.specs.rational.specs.declared.Extended.TheVariants.{Fin, Inf}
-use Rattle.curve_pointwise.specs.rational.proofs.Linear.{with_atoms, with2, with3, with5, with6, with7}
-use Rattle.curve_pointwise.specs.rational.proofs.Laws.{le_refl, le_trans, le_of_lt, mul_sub, mul_nonneg}
-use Rattle.curve_pointwise.specs.rational.proofs.Integers.{nat_nonneg}
-use Rattle.curve_pointwise.specs.rational.proofs.Grid.{whole_int}
-use Rattle.curve_pointwise.specs.rational.proofs.ExtendedOrder.{le_ext_trans, add_le_ext, le_ext_refl, same_le_ext}
-use Rattle.curve_pointwise.specs.upp_curve.specs.Curve.{SpecCurve, value_at}
-use Rattle.curve_pointwise.specs.upp_curve.specs.Steady.{Repeats, steady, rise_over}
-use Rattle.curve_pointwise.specs.upp_curve.proofs.Steady.{steady_rule}
-use Rattle.curve_pointwise.specs.upp_normal.proofs.UnrollSteps.{ext_cases}
-use Rattle.curve_pointwise.specs.upp_normal.specs.Ahead.{HasWindow, IsTimeIn}
-use Rattle.curve_pointwise.specs.min_plus.specs.Convolution.{Split}
-use Rattle.curve_pointwise.specs.upp_limits.specs.Limits.{Sizes}
-use Rattle.curve_pointwise.specs.upp_limits.specs.Windows.{IsLateLeast}
-use Rattle.curve_pointwise.specs.curve_call.specs.Levels.{level_curve}
-use Rattle.curve_pointwise.specs.curve_call.proofs.OwnPeriods.{looked_window, looked_zero}
-use Rattle.curve_pointwise.specs.curve_call.proofs.Shifts.{later_value}
+use Rattle.upp_limits.specs.rational.specs.Rational.{ℚ, ◌+ℚ◌, ◌-ℚ◌, ◌*ℚ◌, ◌≤ℚ◌, ◌<ℚ◌, int}
+use Rattle.upp_limits.specs.rational.specs.Extended.{Ext, ◌≤ₑ◌, ◌+ₑ◌}
+use Rattle.upp_limits.specs.rational.specs.declared.Extended.TheVariants.{Fin, Inf}
+use Rattle.upp_limits.specs.rational.proofs.Linear.{with_atoms, with2, with3, with5, with6, with7}
+use Rattle.upp_limits.specs.rational.proofs.Laws.{le_refl, le_trans, le_of_lt, mul_sub, mul_nonneg}
+use Rattle.upp_limits.specs.rational.proofs.Integers.{nat_nonneg}
+use Rattle.upp_limits.specs.rational.proofs.Grid.{whole_int}
+use Rattle.upp_limits.specs.rational.proofs.ExtendedOrder.{le_ext_trans, add_le_ext, le_ext_refl, same_le_ext}
+use Rattle.upp_limits.specs.upp_curve.specs.Curve.{SpecCurve, value_at}
+use Rattle.upp_limits.specs.upp_curve.specs.Steady.{Repeats, steady, rise_over}
+use Rattle.upp_limits.specs.upp_curve.proofs.Steady.{steady_rule}
+use Rattle.upp_normal.proofs.UnrollSteps.{ext_cases}
+use Rattle.upp_normal.specs.Ahead.{HasWindow, IsTimeIn}
+use Rattle.upp_limits.specs.min_plus.specs.Convolution.{Split}
+use Rattle.upp_limits.specs.Limits.{Sizes}
+use Rattle.upp_limits.specs.Windows.{IsLateLeast}
+use Rattle.plain_operators.specs.curve_call.specs.Levels.{level_curve}
+use Rattle.plain_operators.specs.curve_call.proofs.OwnPeriods.{looked_window, looked_zero}
+use Rattle.plain_operators.specs.curve_call.proofs.Shifts.{later_value}
 use Rattle.curve_conv.specs.Late.{IsLateAfter, IsLateCall}
 use Rattle.curve_conv.specs.LateBounds.{IsTop, IsDepth}
 use Rattle.curve_conv.specs.Scans.{sizes_in}
 use Rattle.curve_conv.proofs.BoundsFound.{slow_looked}
-use Rattle.curve_pointwise.proofs.LatticeCalls.{more_periods}
+use Rattle.plain_operators.proofs.pointwise.LatticeCalls.{more_periods}
 use Rattle.curve_conv.proofs.LateNumbers.{late_times}
 
 -- ---- over functions

@@ -5,10 +5,10 @@ use native.Mathlib.Nat.{dvd-mul_left, dvd-mul_right, mul-pos, mul-dvd-mul_left}
 use Rattle.std.proofs.Common.{arith, subst, sym, inl, inr}
 use Rattle.std.proofs.lemmas.Bool.{cases_lt}
 use Rattle.std.proofs.lemmas.Nat.Gcd.{dvd_trans}
-use Rattle.curve_pointwise.specs.rational.specs.Rational.{ℚ}
-use Rattle.curve_pointwise.specs.rational.specs.Grid.{Whole}
-use Rattle.curve_pointwise.specs.rational.proofs.Grid.{whole_weaken}
-use Rattle.curve_pointwise.specs.upp_limits.specs.Limits.{Sizes}
+use Rattle.upp_limits.specs.rational.specs.Rational.{ℚ}
+use Rattle.upp_limits.specs.rational.specs.Grid.{Whole}
+use Rattle.upp_limits.specs.rational.proofs.Grid.{whole_weaken}
+use Rattle.upp_limits.specs.Limits.{Sizes}
 use Rattle.curve_conv.specs.Stretches.{SumPlace}
 
 -- the product of all numbers from 1 to n

@@ -1,12 +1,12 @@
 -- A call of the convolution within both limits. Own choice.
 use Rattle.std.specs.Prelude.{◌≡◌, ℕ, ◌+◌}
-use Rattle.curve_pointwise.specs.rational.specs.Rational.{◌+ℚ◌, ◌-ℚ◌}
-use Rattle.curve_pointwise.specs.upp_curve.specs.Curve.{SpecCurve}
-use Rattle.curve_pointwise.specs.upp_limits.specs.Limits.{Sizes}
-use Rattle.curve_pointwise.specs.upp_limits.specs.Sized.{grid_of}
-use Rattle.curve_pointwise.specs.upp_curve.specs.Steady.{steady}
-use Rattle.curve_pointwise.specs.curve_call.specs.declared.frame.Frame.{Frame}
-use Rattle.curve_pointwise.specs.LatticeCall.{LatticeCall}
+use Rattle.upp_limits.specs.rational.specs.Rational.{◌+ℚ◌, ◌-ℚ◌}
+use Rattle.upp_limits.specs.upp_curve.specs.Curve.{SpecCurve}
+use Rattle.upp_limits.specs.Limits.{Sizes}
+use Rattle.upp_limits.specs.Sized.{grid_of}
+use Rattle.upp_limits.specs.upp_curve.specs.Steady.{steady}
+use Rattle.plain_operators.specs.curve_call.specs.declared.frame.Frame.{Frame}
+use Rattle.plain_operators.specs.pointwise.LatticeCall.{LatticeCall}
 use Rattle.curve_conv.specs.Late.{IsSlowerLate}
 
 -- its window ends k + 2 periods after the sum of the times from when on the curves repeat, and in the last of them

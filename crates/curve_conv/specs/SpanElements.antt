@@ -1,15 +1,15 @@
 -- The elements of a function over some times, and the pieces of a part of a convolution that are made of them. Own
 -- choice.
 use Rattle.std.specs.Prelude.{◌≡◌, pos, List, [], ◌∷◌, Option, Some, None}
-use Rattle.curve_pointwise.specs.rational.specs.Rational.{ℚ, ◌≤ℚ◌, ◌<ℚ◌, int}
-use Rattle.curve_pointwise.specs.rational.specs.Extended.{Ext}
-use Rattle.curve_pointwise.specs.rational.specs.declared.Extended.TheVariants.{Fin}
-use Rattle.curve_pointwise.specs.affine_segment.specs.declared.line.Piece.{Piece}
-use Rattle.curve_pointwise.specs.affine_segment.specs.declared.element.Element.{Element}
-use Rattle.curve_pointwise.specs.affine_segment.specs.Elements.{IsProper, Covers, level}
-use Rattle.curve_pointwise.specs.upp_limits.specs.Limits.{Sizes}
-use Rattle.curve_pointwise.specs.affine_segment.specs.Reading.{read}
-use Rattle.curve_pointwise.specs.upp_normal.specs.Ahead.{IsBeforeNext}
+use Rattle.upp_limits.specs.rational.specs.Rational.{ℚ, ◌≤ℚ◌, ◌<ℚ◌, int}
+use Rattle.upp_limits.specs.rational.specs.Extended.{Ext}
+use Rattle.upp_limits.specs.rational.specs.declared.Extended.TheVariants.{Fin}
+use Rattle.upp_limits.specs.upp_curve.specs.declared.affine_segment.line.Piece.{Piece}
+use Rattle.upp_limits.specs.upp_curve.specs.declared.affine_segment.element.Element.{Element}
+use Rattle.upp_limits.specs.upp_curve.specs.affine_segment.Elements.{IsProper, Covers, level}
+use Rattle.upp_limits.specs.Limits.{Sizes}
+use Rattle.upp_limits.specs.upp_curve.specs.affine_segment.Reading.{read}
+use Rattle.upp_normal.specs.Ahead.{IsBeforeNext}
 use Rattle.element_envelope.specs.PieceElements.{Among, ElementAt}
 use Rattle.element_envelope.specs.ElementRoom.{OperandElement}
 use Rattle.element_envelope.specs.SumWindows.{SumWindow}

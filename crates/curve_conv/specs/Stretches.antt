@@ -1,20 +1,20 @@
 -- How a function that is least of sums goes on from a time: its value, a line, and until when. Own choice.
 use Rattle.std.specs.Prelude.{◌≡◌, ◌≢◌, ◌⊎◌, Option, Some, None}
-use Rattle.curve_pointwise.specs.rational.specs.Rational.{ℚ, ◌+ℚ◌, ◌≤ℚ◌, ◌<ℚ◌}
-use Rattle.curve_pointwise.specs.rational.specs.Grid.{Whole}
-use Rattle.curve_pointwise.specs.rational.specs.Extended.{Ext, ◌+ₑ◌, min_ext}
-use Rattle.curve_pointwise.specs.rational.specs.declared.Extended.TheVariants.{Fin, Inf}
-use Rattle.curve_pointwise.specs.rational.specs.Bounds.{IsInfimum}
-use Rattle.curve_pointwise.specs.affine_segment.specs.declared.line.Line.{Line}
-use Rattle.curve_pointwise.specs.affine_segment.specs.declared.element.Element.{Element}
-use Rattle.curve_pointwise.specs.affine_segment.specs.declared.element.Element.TheVariants.{Point, Open}
-use Rattle.curve_pointwise.specs.affine_segment.specs.Elements.{IsProper, Covers, level, PairSplit, pair_sum}
-use Rattle.curve_pointwise.specs.affine_segment.specs.Values.{line_at, line_value}
-use Rattle.curve_pointwise.specs.upp_normal.specs.declared.ahead.Stretch.{Stretch}
-use Rattle.curve_pointwise.specs.upp_limits.specs.Limits.{Sizes}
-use Rattle.curve_pointwise.specs.upp_normal.specs.Operand.{AreLimited}
-use Rattle.curve_pointwise.specs.upp_normal.specs.Ahead.{GoesOn, IsBeforeNext, AtNext}
-use Rattle.curve_pointwise.specs.upp_normal.proofs.AnswerRoom.{IsCrossing}
+use Rattle.upp_limits.specs.rational.specs.Rational.{ℚ, ◌+ℚ◌, ◌≤ℚ◌, ◌<ℚ◌}
+use Rattle.upp_limits.specs.rational.specs.Grid.{Whole}
+use Rattle.upp_limits.specs.rational.specs.Extended.{Ext, ◌+ₑ◌, min_ext}
+use Rattle.upp_limits.specs.rational.specs.declared.Extended.TheVariants.{Fin, Inf}
+use Rattle.upp_limits.specs.rational.specs.Bounds.{IsInfimum}
+use Rattle.upp_limits.specs.upp_curve.specs.declared.affine_segment.line.Line.{Line}
+use Rattle.upp_limits.specs.upp_curve.specs.declared.affine_segment.element.Element.{Element}
+use Rattle.upp_limits.specs.upp_curve.specs.declared.affine_segment.element.Element.TheVariants.{Point, Open}
+use Rattle.upp_limits.specs.upp_curve.specs.affine_segment.Elements.{IsProper, Covers, level, PairSplit, pair_sum}
+use Rattle.upp_limits.specs.upp_curve.specs.affine_segment.Values.{line_at, line_value}
+use Rattle.upp_normal.specs.declared.ahead.Stretch.{Stretch}
+use Rattle.upp_limits.specs.Limits.{Sizes}
+use Rattle.upp_normal.specs.Operand.{AreLimited}
+use Rattle.upp_normal.specs.Ahead.{GoesOn, IsBeforeNext, AtNext}
+use Rattle.upp_normal.proofs.AnswerRoom.{IsCrossing}
 use Rattle.element_envelope.specs.ElementRoom.{OperandElement}
 use Rattle.element_envelope.specs.SumWindows.{SumStart, SumValueAt, SumLineAt}
 use Rattle.curve_conv.specs.declared.lower.Under.{Under}

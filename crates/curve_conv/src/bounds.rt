@@ -1,8 +1,8 @@
 //! Between which numbers of periods the least one of a convolution is, from few numbers of each curve.
 
 ghost use Rattle.std.specs.Prelude.{◌≡◌, ◌+◌, pos, IfSome};
-ghost use Rattle.curve_pointwise.specs.rational.specs.Rational.{int, ◌-ℚ◌, ◌*ℚ◌, ◌≤ℚ◌, ◌<ℚ◌};
-ghost use Rattle.curve_pointwise.specs.upp_curve.specs.Steady.{steady, rise_over};
+ghost use Rattle.upp_limits.specs.rational.specs.Rational.{int, ◌-ℚ◌, ◌*ℚ◌, ◌≤ℚ◌, ◌<ℚ◌};
+ghost use Rattle.upp_limits.specs.upp_curve.specs.Steady.{steady, rise_over};
 ghost use Rattle.curve_conv.specs.Late.{IsLateAfter, IsLateCall, IsPartsCall};
 ghost use Rattle.curve_conv.specs.LateBounds.{IsLateBounds, IsSlowerBounds};
 
@@ -10,9 +10,9 @@ use crate::extremes::{checked_sum, depth_over, extremes_of, most_gap, rest, top_
 use crate::number::lead;
 use crate::order::is_slower_curve;
 use crate::rows::Scan;
-use curve_pointwise::curve_call::{Bounds, Side, begin, is_slower, rise_over, zero_level};
-use curve_pointwise::fraction128::{Frac, is_less};
-use curve_pointwise::upp_curve::Curve;
+use plain_operators::curve_call::{Bounds, Side, begin, is_slower, rise_over, zero_level};
+use upp_limits::fraction128::{Frac, is_less};
+use upp_limits::upp_curve::Curve;
 
 /// A number n of periods with the gap at most n + 1 times the lead; none where the gap over the lead does not fit.
 pub fn periods_over(gap: Frac, lead: Frac) -> Option<u128>

@@ -1,22 +1,22 @@
 //! What two elements make, as it goes on from a time.
 
 ghost use Rattle.std.specs.Prelude.{◌≡◌, ◌↔◌, IsTrue};
-ghost use Rattle.curve_pointwise.specs.rational.specs.Rational.{ℚ, ◌<ℚ◌};
-ghost use Rattle.curve_pointwise.specs.rational.specs.Extended.{◌<ₑ◌};
-ghost use Rattle.curve_pointwise.specs.affine_segment.specs.Elements.{IsProper, element_value, part_value, joined_value, PairSplit, pair_sum, AreAdjoined};
-ghost use Rattle.curve_pointwise.specs.upp_limits.specs.Limits.{Sizes};
-ghost use Rattle.curve_pointwise.specs.upp_normal.specs.Ahead.{GoesOn};
-ghost use Rattle.curve_pointwise.specs.affine_segment.specs.Fits.{LineFits};
+ghost use Rattle.upp_limits.specs.rational.specs.Rational.{ℚ, ◌<ℚ◌};
+ghost use Rattle.upp_limits.specs.rational.specs.Extended.{◌<ₑ◌};
+ghost use Rattle.upp_limits.specs.upp_curve.specs.affine_segment.Elements.{IsProper, element_value, part_value, joined_value, PairSplit, pair_sum, AreAdjoined};
+ghost use Rattle.upp_limits.specs.Limits.{Sizes};
+ghost use Rattle.upp_normal.specs.Ahead.{GoesOn};
+ghost use Rattle.upp_limits.specs.upp_curve.specs.affine_segment.Fits.{LineFits};
 ghost use Rattle.element_envelope.specs.ElementRoom.{OperandElement, SumElement, SumPart, SumJoined, HaveRoom};
 ghost use Rattle.curve_conv.specs.Stretches.{SumStretch, SumTimeIn, IsAhead, end_time, until_time, point_at, open_at, PartPair, part_pair_sum, IsProperPart, OperandPart};
 
 use crate::lower::lower;
-use curve_pointwise::affine_segment::{Element, Joined, Line, line_at};
-use curve_pointwise::fraction128::{Ext, Frac, is_less};
-use curve_pointwise::rational::Extended;
-use curve_pointwise::upp_normal::Stretch;
 use element_envelope::joined;
 use std::cmp::Ordering;
+use upp_limits::fraction128::{Ext, Frac, is_less};
+use upp_limits::rational::Extended;
+use upp_limits::upp_curve::affine_segment::{Element, Joined, Line, line_at};
+use upp_normal::Stretch;
 
 /// Infinity, up to a time.
 pub(crate) fn nothing(next: Option<Frac>) -> Stretch

@@ -1,19 +1,19 @@
 //! The lower of two functions, as it goes on from a time.
 
 ghost use Rattle.std.specs.Prelude.{◌≡◌, ◌↔◌, ◌≢◌, IsTrue, Some};
-ghost use Rattle.curve_pointwise.specs.rational.specs.Rational.{ℚ, ◌<ℚ◌};
-ghost use Rattle.curve_pointwise.specs.rational.specs.MinMax.{min_q};
-ghost use Rattle.curve_pointwise.specs.rational.specs.Extended.{Ext, min_ext};
-ghost use Rattle.curve_pointwise.specs.affine_segment.specs.Values.{line_at};
-ghost use Rattle.curve_pointwise.specs.upp_limits.specs.Limits.{Sizes};
-ghost use Rattle.curve_pointwise.specs.upp_normal.specs.Ahead.{GoesOn, IsBeforeNext};
-ghost use Rattle.curve_pointwise.specs.curve_call.specs.Lies.{CrossFits};
+ghost use Rattle.upp_limits.specs.rational.specs.Rational.{ℚ, ◌<ℚ◌};
+ghost use Rattle.upp_limits.specs.rational.specs.MinMax.{min_q};
+ghost use Rattle.upp_limits.specs.rational.specs.Extended.{Ext, min_ext};
+ghost use Rattle.upp_limits.specs.upp_curve.specs.affine_segment.Values.{line_at};
+ghost use Rattle.upp_limits.specs.Limits.{Sizes};
+ghost use Rattle.upp_normal.specs.Ahead.{GoesOn, IsBeforeNext};
+ghost use Rattle.plain_operators.specs.curve_call.specs.Lies.{CrossFits};
 ghost use Rattle.curve_conv.specs.Stretches.{SumStretch, SumTimeIn, IsUnder, IsEarliest};
 
-use curve_pointwise::affine_segment::{Line, cross};
-use curve_pointwise::fraction128::{Ext, Frac, is_less, lesser_value};
-use curve_pointwise::rational::Extended;
-use curve_pointwise::upp_normal::Stretch;
+use upp_limits::fraction128::{Ext, Frac, is_less, lesser_value};
+use upp_limits::rational::Extended;
+use upp_limits::upp_curve::affine_segment::{Line, cross};
+use upp_normal::Stretch;
 
 /// The lower of two lines just after a time.
 #[derive(Debug, Clone, Copy)]

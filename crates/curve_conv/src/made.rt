@@ -2,9 +2,9 @@
 //! pairs make.
 
 ghost use Rattle.std.specs.Prelude.{◌≡◌, ◌++◌, pos, None, OnOk, IfOk, IfSome};
-ghost use Rattle.curve_pointwise.specs.rational.specs.Rational.{int, ◌<ℚ◌};
-ghost use Rattle.curve_pointwise.specs.upp_curve.specs.Curve.{value_at};
-ghost use Rattle.curve_pointwise.specs.upp_normal.specs.Ahead.{AtNext, HasWindow};
+ghost use Rattle.upp_limits.specs.rational.specs.Rational.{int, ◌<ℚ◌};
+ghost use Rattle.upp_limits.specs.upp_curve.specs.Curve.{value_at};
+ghost use Rattle.upp_normal.specs.Ahead.{AtNext, HasWindow};
 ghost use Rattle.element_envelope.specs.ElementRoom.{WindowTime};
 ghost use Rattle.element_envelope.specs.SumWindows.{SumStart};
 ghost use Rattle.curve_conv.specs.Parts.{PartSplit, part_sum};
@@ -16,14 +16,14 @@ use crate::elements::until_time;
 use crate::parts::{limit_of, or_else, part};
 use crate::pieces::piece_stretch;
 use crate::rows::{Scan, early, is_time, time_or};
-use curve_pointwise::affine_segment::{Element, Line, Piece};
-use curve_pointwise::fraction128::{Ext, Frac, is_less};
-use curve_pointwise::rational::Extended;
-use curve_pointwise::upp_curve::Curve;
-use curve_pointwise::upp_limits::{OpKind, tally_over};
-use curve_pointwise::upp_normal::{Stretch, stretch_at};
 use element_envelope::envelope;
 use std::alloc::{AllocError, Global};
+use upp_limits::fraction128::{Ext, Frac, is_less};
+use upp_limits::rational::Extended;
+use upp_limits::upp_curve::Curve;
+use upp_limits::upp_curve::affine_segment::{Element, Line, Piece};
+use upp_limits::{OpKind, tally_over};
+use upp_normal::{Stretch, stretch_at};
 
 // Appends the point at x, where the value there is a number, and the line after it up to a time that may be missing.
 fn push_elements(

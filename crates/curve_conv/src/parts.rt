@@ -2,10 +2,10 @@
 //! is taken.
 
 ghost use Rattle.std.specs.Prelude.{◌≡◌, ◌⊎◌, Option, None};
-ghost use Rattle.curve_pointwise.specs.rational.specs.Rational.{ℚ, ◌≤ℚ◌};
-ghost use Rattle.curve_pointwise.specs.rational.specs.Families.{either};
-ghost use Rattle.curve_pointwise.specs.upp_curve.specs.Curve.{value_at};
-ghost use Rattle.curve_pointwise.specs.upp_normal.specs.Ahead.{AtNext};
+ghost use Rattle.upp_limits.specs.rational.specs.Rational.{ℚ, ◌≤ℚ◌};
+ghost use Rattle.upp_limits.specs.rational.specs.Families.{either};
+ghost use Rattle.upp_limits.specs.upp_curve.specs.Curve.{value_at};
+ghost use Rattle.upp_normal.specs.Ahead.{AtNext};
 ghost use Rattle.element_envelope.specs.ElementRoom.{WindowTime};
 ghost use Rattle.element_envelope.specs.SumWindows.{SumStart};
 ghost use Rattle.curve_conv.specs.Parts.{PartSplit, part_sum};
@@ -15,9 +15,9 @@ ghost use Rattle.curve_conv.specs.Stretches.{SumStretch, IsAhead, PartRow, part_
 use crate::elements::{nothing, open_at, point_at};
 use crate::lower::lower;
 use crate::rows::{Scan, early, is_time, row, time_or};
-use curve_pointwise::affine_segment::Element;
-use curve_pointwise::fraction128::{Frac, difference, is_less};
-use curve_pointwise::upp_normal::{Stretch, stretch_at};
+use upp_limits::fraction128::{Frac, difference, is_less};
+use upp_limits::upp_curve::affine_segment::Element;
+use upp_normal::{Stretch, stretch_at};
 
 /// The first of two times that may be missing, where it is there.
 pub(crate) fn or_else(next: Option<Frac>, until: &Option<Frac>) -> Option<Frac>

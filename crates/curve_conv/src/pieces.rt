@@ -1,21 +1,21 @@
 //! How pieces that are made go on from a time.
 
 ghost use Rattle.std.specs.Prelude.{◌≡◌, pos, List, ◌∷◌, None};
-ghost use Rattle.curve_pointwise.specs.rational.specs.Rational.{ℚ, int, ◌≤ℚ◌, le_q};
-ghost use Rattle.curve_pointwise.specs.affine_segment.specs.Values.{line_value};
-ghost use Rattle.curve_pointwise.specs.affine_segment.specs.Reading.{piece_in, piece_value, read, next_in};
-ghost use Rattle.curve_pointwise.specs.affine_segment.specs.Pieces.{StartsAtZero};
-ghost use Rattle.curve_pointwise.specs.affine_segment.specs.Fits.{LineFitsAt};
-ghost use Rattle.curve_pointwise.specs.upp_limits.specs.Limits.{Sizes};
-ghost use Rattle.curve_pointwise.specs.upp_normal.specs.Ahead.{GoesOn};
+ghost use Rattle.upp_limits.specs.rational.specs.Rational.{ℚ, int, ◌≤ℚ◌, le_q};
+ghost use Rattle.upp_limits.specs.upp_curve.specs.affine_segment.Values.{line_value};
+ghost use Rattle.upp_limits.specs.upp_curve.specs.affine_segment.Reading.{piece_in, piece_value, read, next_in};
+ghost use Rattle.upp_limits.specs.upp_curve.specs.affine_segment.Pieces.{StartsAtZero};
+ghost use Rattle.upp_limits.specs.upp_curve.specs.affine_segment.Fits.{LineFitsAt};
+ghost use Rattle.upp_limits.specs.Limits.{Sizes};
+ghost use Rattle.upp_normal.specs.Ahead.{GoesOn};
 ghost use Rattle.element_envelope.specs.SumWindows.{SumWindow};
 ghost use Rattle.curve_conv.specs.Stretches.{SumStretch, SumTimeIn};
 
-use curve_pointwise::affine_segment::{Piece, next_start, piece_at, piece_value};
-use curve_pointwise::fraction128::{Ext, Frac};
-use curve_pointwise::rational::Extended;
-use curve_pointwise::upp_normal::Stretch;
 use std::cmp::Ordering;
+use upp_limits::fraction128::{Ext, Frac};
+use upp_limits::rational::Extended;
+use upp_limits::upp_curve::affine_segment::{Piece, next_start, piece_at, piece_value};
+use upp_normal::Stretch;
 
 /// How pieces that two curves made go on from t, by binary search.
 pub(crate) fn piece_stretch(pieces: &[Piece], t: Frac) -> Stretch

@@ -1,12 +1,12 @@
 //! What an element makes with a curve, as it goes on from a time. No memory is taken.
 
 ghost use Rattle.std.specs.Prelude.{◌≡◌, ◌⊎◌};
-ghost use Rattle.curve_pointwise.specs.rational.specs.Rational.{ℚ, ◌-ℚ◌, ◌≤ℚ◌, neg_ℚ};
-ghost use Rattle.curve_pointwise.specs.rational.specs.Ratio.{SumFits};
-ghost use Rattle.curve_pointwise.specs.rational.specs.Families.{either};
-ghost use Rattle.curve_pointwise.specs.affine_segment.specs.Elements.{IsProper, start_of};
-ghost use Rattle.curve_pointwise.specs.upp_curve.specs.Curve.{value_at};
-ghost use Rattle.curve_pointwise.specs.upp_limits.specs.Limits.{Sizes};
+ghost use Rattle.upp_limits.specs.rational.specs.Rational.{ℚ, ◌-ℚ◌, ◌≤ℚ◌, neg_ℚ};
+ghost use Rattle.upp_limits.specs.rational.specs.Ratio.{SumFits};
+ghost use Rattle.upp_limits.specs.rational.specs.Families.{either};
+ghost use Rattle.upp_limits.specs.upp_curve.specs.affine_segment.Elements.{IsProper, start_of};
+ghost use Rattle.upp_limits.specs.upp_curve.specs.Curve.{value_at};
+ghost use Rattle.upp_limits.specs.Limits.{Sizes};
 ghost use Rattle.element_envelope.specs.ElementRoom.{OperandElement, WindowTime};
 ghost use Rattle.element_envelope.specs.SumWindows.{SumStart};
 ghost use Rattle.curve_conv.specs.Scans.{sizes_in, IsScan, IsEarly, is_time, time_or};
@@ -16,10 +16,10 @@ ghost use Rattle.curve_conv.specs.Stretches.{IsProperPart, OperandPart};
 
 use crate::elements::{nothing, open_at, part_pair, point_at};
 use crate::lower::lower;
-use curve_pointwise::affine_segment::{Element, start_of};
-use curve_pointwise::fraction128::{Frac, difference, is_less};
-use curve_pointwise::upp_curve::Curve;
-use curve_pointwise::upp_normal::{Stretch, stretch_at};
+use upp_limits::fraction128::{Frac, difference, is_less};
+use upp_limits::upp_curve::Curve;
+use upp_limits::upp_curve::affine_segment::{Element, start_of};
+use upp_normal::{Stretch, stretch_at};
 
 /// Two curves whose pairs of pieces are looked at, up to the end of a window.
 #[derive(Clone, Copy)]

@@ -1,24 +1,24 @@
 -- Pieces with minus their values, and mirrored: they stand as a window's, the steps to them fit, and the loop that makes them.
 use Rattle.std.specs.Prelude.{◌≡◌, ℕ, zero, suc, drop, pos, List, [], ◌∷◌, ◌++◌, Option, Some, None, map}
 use Rattle.std.proofs.Common.{arith, sym, ap₂, ◌∙◌, refl, subst}
-use Rattle.min_plus.specs.rational.specs.Rational.{ℚ, ◌≤ℚ◌, ◌<ℚ◌, neg_ℚ, int}
-use Rattle.min_plus.specs.rational.specs.Ratio.{SumFits}
-use Rattle.min_plus.specs.rational.specs.Grid.{Whole}
-use Rattle.min_plus.specs.rational.specs.Extended.{Ext}
-use Rattle.min_plus.specs.rational.specs.declared.Extended.TheVariants.{Fin, Inf}
-use Rattle.min_plus.specs.rational.proofs.Grid.{whole_sub, whole_neg, within_neg}
-use Rattle.min_plus.specs.rational.proofs.Linear.{with2, with3}
-use Rattle.min_plus.specs.rational.proofs.Laws.{le_of_lt}
-use Rattle.curve_running.specs.affine_segment.specs.declared.line.Line.{Line}
-use Rattle.curve_running.specs.affine_segment.specs.declared.line.Piece.{Piece}
-use Rattle.curve_running.specs.affine_segment.specs.Pieces.{Each, StartsAtZero}
-use Rattle.curve_running.specs.affine_segment.specs.Values.{line_value}
-use Rattle.curve_running.specs.affine_segment.proofs.PieceOrder.{each_append, each_map}
-use Rattle.curve_running.specs.upp_limits.specs.Limits.{Sizes}
-use Rattle.curve_running.specs.upp_limits.specs.Sized.{ValueStands}
-use Rattle.curve_running.specs.upp_normal.specs.Ahead.{GridValue}
-use Rattle.curve_running.specs.upp_normal.specs.Operand.{AreLimited, OperandLineAt, OperandPiece, OperandPieces}
-use Rattle.curve_running.specs.upp_normal.proofs.AnswerRoom.{operand_line_fits, stands_operand_value}
+use Rattle.upp_limits.specs.rational.specs.Rational.{ℚ, ◌≤ℚ◌, ◌<ℚ◌, neg_ℚ, int}
+use Rattle.upp_limits.specs.rational.specs.Ratio.{SumFits}
+use Rattle.upp_limits.specs.rational.specs.Grid.{Whole}
+use Rattle.upp_limits.specs.rational.specs.Extended.{Ext}
+use Rattle.upp_limits.specs.rational.specs.declared.Extended.TheVariants.{Fin, Inf}
+use Rattle.upp_limits.specs.rational.proofs.Grid.{whole_sub, whole_neg, within_neg}
+use Rattle.upp_limits.specs.rational.proofs.Linear.{with2, with3}
+use Rattle.upp_limits.specs.rational.proofs.Laws.{le_of_lt}
+use Rattle.upp_limits.specs.upp_curve.specs.declared.affine_segment.line.Line.{Line}
+use Rattle.upp_limits.specs.upp_curve.specs.declared.affine_segment.line.Piece.{Piece}
+use Rattle.upp_limits.specs.upp_curve.specs.affine_segment.Pieces.{Each, StartsAtZero}
+use Rattle.upp_limits.specs.upp_curve.specs.affine_segment.Values.{line_value}
+use Rattle.upp_limits.specs.upp_curve.proofs.affine_segment.PieceOrder.{each_append, each_map}
+use Rattle.upp_limits.specs.Limits.{Sizes}
+use Rattle.upp_limits.specs.Sized.{ValueStands}
+use Rattle.upp_normal.specs.Ahead.{GridValue}
+use Rattle.upp_normal.specs.Operand.{AreLimited, OperandLineAt, OperandPiece, OperandPieces}
+use Rattle.upp_normal.proofs.AnswerRoom.{operand_line_fits, stands_operand_value}
 use Rattle.element_envelope.specs.ConvolutionWindows.{WindowPiece, WindowPieces}
 use Rattle.curve_deconv.specs.Mirrored.{neg_ext, neg_option, neg_piece, mirror_option, mirror_piece}
 use Rattle.curve_deconv.specs.Mirrored.{first_start, first_at, back_pieces, mirror_pieces, IsMirrorable, AreMirrorable}

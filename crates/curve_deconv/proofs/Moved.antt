@@ -2,32 +2,32 @@
 use Rattle.std.specs.Prelude.{◌≡◌, ◌⊎◌, ℕ, ◌*◌, ◌≤◌, pos, List, [], ◌∷◌, map, Option, Some, None, Result, Ok, Err, IfOk, Vec}
 use native.Mathlib.Nat.{dvd-mul_left, dvd-mul_right, dvd_trans, dvd_refl, mul-le-mul_left, mul-le-mul_right}
 use Rattle.std.proofs.Common.{arith, sym, ap, ◌∙◌, refl, subst, inl, inr, Global}
-use Rattle.min_plus.specs.rational.specs.Rational.{ℚ, ◌+ℚ◌, ◌-ℚ◌, ◌*ℚ◌, ◌≤ℚ◌, ◌<ℚ◌, neg_ℚ, int}
-use Rattle.min_plus.specs.rational.specs.Ratio.{SumFits}
-use Rattle.min_plus.specs.rational.specs.Grid.{Whole}
-use Rattle.min_plus.specs.rational.specs.Extended.{Ext, ◌≤ₑ◌, ◌<ₑ◌, ◌-ₑ◌}
-use Rattle.min_plus.specs.rational.specs.declared.Extended.TheVariants.{Fin, Inf}
-use Rattle.min_plus.specs.rational.proofs.Grid.{whole_sub, whole_add, whole_neg, whole_weaken, within_neg, within_nonneg}
-use Rattle.min_plus.specs.rational.proofs.Integers.{nat_nonneg}
-use Rattle.min_plus.specs.rational.proofs.Sizes.{sum_on_grid}
-use Rattle.min_plus.specs.rational.proofs.Linear.{with2, with3, with4}
-use Rattle.min_plus.specs.rational.proofs.Laws.{le_refl, le_trans, le_of_lt, lt_trans, mul_le_mul_right}
-use Rattle.curve_running.specs.affine_segment.specs.declared.line.Line.{Line}
-use Rattle.curve_running.specs.affine_segment.specs.declared.line.Piece.{Piece}
-use Rattle.curve_running.specs.affine_segment.specs.Values.{line_at}
-use Rattle.curve_running.specs.affine_segment.specs.Reading.{read}
-use Rattle.curve_running.specs.affine_segment.specs.Pieces.{Each, StartsAtZero}
-use Rattle.curve_running.specs.upp_normal.specs.Normalising.{cut_at, past}
-use Rattle.curve_running.specs.upp_curve.specs.Curve.{repeated}
-use Rattle.curve_running.specs.upp_limits.specs.Limits.{Sizes}
-use Rattle.curve_running.specs.upp_normal.specs.Operand.{AreLimited, answer_room}
-use Rattle.curve_running.specs.upp_limits.specs.Sized.{grid_of, times_largest}
-use Rattle.curve_running.specs.upp_normal.specs.Room.{TimeHasRoom, ValueHasRoom, LineHasRoom, PieceHasRoom, top}
-use Rattle.curve_running.specs.upp_normal.proofs.AnswerRoom.{IsCrossing, line_in_room, line_value_in, value_in_room, steep_run}
-use Rattle.curve_running.specs.affine_segment.proofs.PieceIn.{read_is}
-use Rattle.curve_running.specs.affine_segment.proofs.PieceOrder.{each_map}
-use Rattle.curve_running.specs.curve_pointwise.specs.Shifting.{left_line, left_piece, moved_left, LeftFits}
-use Rattle.curve_running.specs.curve_pointwise.proofs.LeftWindow.{left_reads, left_starts, each_past, each_moved}
+use Rattle.upp_limits.specs.rational.specs.Rational.{ℚ, ◌+ℚ◌, ◌-ℚ◌, ◌*ℚ◌, ◌≤ℚ◌, ◌<ℚ◌, neg_ℚ, int}
+use Rattle.upp_limits.specs.rational.specs.Ratio.{SumFits}
+use Rattle.upp_limits.specs.rational.specs.Grid.{Whole}
+use Rattle.upp_limits.specs.rational.specs.Extended.{Ext, ◌≤ₑ◌, ◌<ₑ◌, ◌-ₑ◌}
+use Rattle.upp_limits.specs.rational.specs.declared.Extended.TheVariants.{Fin, Inf}
+use Rattle.upp_limits.specs.rational.proofs.Grid.{whole_sub, whole_add, whole_neg, whole_weaken, within_neg, within_nonneg}
+use Rattle.upp_limits.specs.rational.proofs.Integers.{nat_nonneg}
+use Rattle.upp_limits.specs.rational.proofs.Sizes.{sum_on_grid}
+use Rattle.upp_limits.specs.rational.proofs.Linear.{with2, with3, with4}
+use Rattle.upp_limits.specs.rational.proofs.Laws.{le_refl, le_trans, le_of_lt, lt_trans, mul_le_mul_right}
+use Rattle.upp_limits.specs.upp_curve.specs.declared.affine_segment.line.Line.{Line}
+use Rattle.upp_limits.specs.upp_curve.specs.declared.affine_segment.line.Piece.{Piece}
+use Rattle.upp_limits.specs.upp_curve.specs.affine_segment.Values.{line_at}
+use Rattle.upp_limits.specs.upp_curve.specs.affine_segment.Reading.{read}
+use Rattle.upp_limits.specs.upp_curve.specs.affine_segment.Pieces.{Each, StartsAtZero}
+use Rattle.upp_normal.specs.Normalising.{cut_at, past}
+use Rattle.upp_limits.specs.upp_curve.specs.Curve.{repeated}
+use Rattle.upp_limits.specs.Limits.{Sizes}
+use Rattle.upp_normal.specs.Operand.{AreLimited, answer_room}
+use Rattle.upp_limits.specs.Sized.{grid_of, times_largest}
+use Rattle.upp_normal.specs.Room.{TimeHasRoom, ValueHasRoom, LineHasRoom, PieceHasRoom, top}
+use Rattle.upp_normal.proofs.AnswerRoom.{IsCrossing, line_in_room, line_value_in, value_in_room, steep_run}
+use Rattle.upp_limits.specs.upp_curve.proofs.affine_segment.PieceIn.{read_is}
+use Rattle.upp_limits.specs.upp_curve.proofs.affine_segment.PieceOrder.{each_map}
+use Rattle.plain_operators.specs.pointwise.Shifting.{left_line, left_piece, moved_left, LeftFits}
+use Rattle.plain_operators.proofs.pointwise.LeftWindow.{left_reads, left_starts, each_past, each_moved}
 use Rattle.element_envelope.specs.SumWindows.{SumStart, SumValueAt, SumLineAt, SumPiece, SumWindow}
 use Rattle.element_envelope.proofs.ElementSizes.{sum_within}
 use Rattle.element_envelope.proofs.SumSteps.{place_room, line_fits_to, sum_answer, sum_line_in, sum_read}
@@ -36,7 +36,7 @@ use Rattle.curve_deconv.specs.Mirrored.{neg_ext, neg_line, neg_option, neg_piece
 use Rattle.curve_deconv.specs.DeconvolutionWindows.{OperandWindows, IsRaisedWindow, IsDeconvolutionWindow, IsRaised, IsReached, IsFiniteFrom, IsLeastPair, IsNumberedSupremum, EarlyPair, EarlyTime}
 use Rattle.curve_deconv.proofs.Mirrored.{neg_all_read, neg_starts, each_neg}
 use Rattle.curve_deconv.proofs.MovedGrids.{IsTurned, turned_repeated, turned_grids}
-use Rattle.curve_running.specs.curve_pointwise.proofs.ShiftCall.{IsLeftOf}
+use Rattle.plain_operators.proofs.pointwise.ShiftCall.{IsLeftOf}
 
 -- ---- the least of pairs turned over is the supremum
 turn_over : (f g : ℚ → Ext) (reach end t : ℚ) (v : Ext) → IsFiniteFrom g (int (pos 0)) reach → int (pos 0) <ℚ reach → t +ℚ reach <ℚ end → IsFiniteFrom f t end → IsLeastPair f g reach t v

@@ -2,15 +2,15 @@
 -- deconvolution is, but for the sign, a convolution with the second mirrored: Bouillard, Boyer and Le Corronc. The form
 -- is own choice.)
 use Rattle.std.specs.Prelude.{List, [], ◌∷◌, ◌++◌, Option, Some, None}
-use Rattle.min_plus.specs.rational.specs.Rational.{ℚ, ◌-ℚ◌, neg_ℚ}
-use Rattle.min_plus.specs.rational.specs.Ratio.{SumFits}
-use Rattle.min_plus.specs.rational.specs.Extended.{Ext}
-use Rattle.min_plus.specs.rational.specs.declared.Extended.TheVariants.{Fin, Inf}
-use Rattle.curve_running.specs.affine_segment.specs.declared.line.Line.{Line}
-use Rattle.curve_running.specs.affine_segment.specs.declared.line.Piece.{Piece}
-use Rattle.curve_running.specs.affine_segment.specs.Values.{line_at}
-use Rattle.curve_running.specs.affine_segment.specs.Fits.{LineFitsAt}
-use Rattle.curve_running.specs.affine_segment.specs.Pieces.{Each}
+use Rattle.upp_limits.specs.rational.specs.Rational.{ℚ, ◌-ℚ◌, neg_ℚ}
+use Rattle.upp_limits.specs.rational.specs.Ratio.{SumFits}
+use Rattle.upp_limits.specs.rational.specs.Extended.{Ext}
+use Rattle.upp_limits.specs.rational.specs.declared.Extended.TheVariants.{Fin, Inf}
+use Rattle.upp_limits.specs.upp_curve.specs.declared.affine_segment.line.Line.{Line}
+use Rattle.upp_limits.specs.upp_curve.specs.declared.affine_segment.line.Piece.{Piece}
+use Rattle.upp_limits.specs.upp_curve.specs.affine_segment.Values.{line_at}
+use Rattle.upp_limits.specs.upp_curve.specs.affine_segment.Fits.{LineFitsAt}
+use Rattle.upp_limits.specs.upp_curve.specs.affine_segment.Pieces.{Each}
 
 -- ---- minus the values; infinity stays
 abbrev pub neg_ext : Ext → Ext

@@ -6,13 +6,13 @@ ghost use Rattle.curve_deconv.specs.DeconvolutionWindows.{IsDeconvolutionWindow}
 
 use crate::marks::{last_infinite, mark_pieces};
 use crate::mirroring::{mirrored_pieces, negated_pieces};
-use curve_running::affine_segment::{Piece, read};
-use curve_running::curve_call::window_sum;
-use curve_running::curve_pointwise::left_window;
-use curve_running::fraction128::Frac;
-use curve_running::front_before;
 use element_envelope::window_convolution_from;
+use plain_operators::curve_call::window_sum;
+use plain_operators::pointwise::left_window;
+use plain_operators::running::front_before;
 use std::alloc::{AllocError, Global};
+use upp_limits::fraction128::Frac;
+use upp_limits::upp_curve::affine_segment::{Piece, read};
 
 // The least of g at u less f at t + u, over all u from 0 on and up to `reach` at which both are finite, at `reach`
 // after t.

@@ -1,16 +1,16 @@
 -- How a curve goes on from a time of a window, which may end before all its pieces have started. Own choice.
 use Rattle.std.specs.Prelude.{◌≡◌}
-use Rattle.rational.specs.Rational.{ℚ, ◌+ℚ◌, ◌≤ℚ◌, ◌<ℚ◌}
-use Rattle.rational.specs.Grid.{Whole}
-use Rattle.rational.specs.Extended.{Ext}
-use Rattle.curve_call.specs.affine_segment.specs.Values.{line_value}
-use Rattle.curve_call.specs.upp_curve.specs.declared.curve.Tail.{Tail}
-use Rattle.curve_call.specs.upp_curve.specs.declared.curve.Tail.TheVariants.{Periodic, Affine, Infinite}
-use Rattle.curve_call.specs.upp_curve.specs.Curve.{SpecCurve, value_at}
-use Rattle.curve_call.specs.upp_curve.specs.Curves.{IsCurve}
-use Rattle.min_plus.specs.Functions.{IsFinite}
-use Rattle.curve_call.specs.upp_limits.specs.Limits.{Sizes, curve_numbers}
-use Rattle.curve_call.specs.upp_limits.specs.Sized.{Stands}
+use Rattle.upp_limits.specs.rational.specs.Rational.{ℚ, ◌+ℚ◌, ◌≤ℚ◌, ◌<ℚ◌}
+use Rattle.upp_limits.specs.rational.specs.Grid.{Whole}
+use Rattle.upp_limits.specs.rational.specs.Extended.{Ext}
+use Rattle.upp_limits.specs.upp_curve.specs.affine_segment.Values.{line_value}
+use Rattle.upp_limits.specs.upp_curve.specs.declared.curve.Tail.{Tail}
+use Rattle.upp_limits.specs.upp_curve.specs.declared.curve.Tail.TheVariants.{Periodic, Affine, Infinite}
+use Rattle.upp_limits.specs.upp_curve.specs.Curve.{SpecCurve, value_at}
+use Rattle.upp_limits.specs.upp_curve.specs.Curves.{IsCurve}
+use Rattle.upp_limits.specs.min_plus.specs.Functions.{IsFinite}
+use Rattle.upp_limits.specs.Limits.{Sizes, curve_numbers}
+use Rattle.upp_limits.specs.Sized.{Stands}
 use Rattle.curve_call.specs.upp_normal.specs.Operand.{AreLimited, OperandLineAt}
 use Rattle.curve_call.specs.upp_normal.specs.Ahead.{GridValue}
 use Rattle.curve_deviation.specs.declared.parts.Part.{Part}

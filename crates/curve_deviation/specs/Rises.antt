@@ -1,10 +1,10 @@
 -- A function that rises on a stretch by a line. Own choice.
 use Rattle.std.specs.Prelude.{◌≡◌, pos}
-use Rattle.rational.specs.Rational.{ℚ, ◌≤ℚ◌, ◌<ℚ◌, int}
-use Rattle.rational.specs.Extended.{Ext, ◌≤ₑ◌}
-use Rattle.rational.specs.declared.Extended.TheVariants.{Fin}
-use Rattle.curve_call.specs.affine_segment.specs.declared.line.Line.{Line}
-use Rattle.curve_call.specs.affine_segment.specs.Values.{line_at}
+use Rattle.upp_limits.specs.rational.specs.Rational.{ℚ, ◌≤ℚ◌, ◌<ℚ◌, int}
+use Rattle.upp_limits.specs.rational.specs.Extended.{Ext, ◌≤ₑ◌}
+use Rattle.upp_limits.specs.rational.specs.declared.Extended.TheVariants.{Fin}
+use Rattle.upp_limits.specs.upp_curve.specs.declared.affine_segment.line.Line.{Line}
+use Rattle.upp_limits.specs.upp_curve.specs.affine_segment.Values.{line_at}
 use Rattle.curve_deviation.specs.declared.cells.Cell.{Cell}
 
 -- between t and e f has the values of the line; at t it is no higher, at e no lower

@@ -1,14 +1,14 @@
 //! The horizontal deviation of two curves.
 
 ghost use Rattle.std.specs.Prelude.{ℕ, ◌≡◌, ◌+◌, ◌≤◌, ◌^◌, IfOk, IfErr, IfSome, IsSome, IsTrue, MatchOption};
-ghost use Rattle.rational.specs.Rational.{ℚ, ◌<ℚ◌};
-ghost use Rattle.curve_call.specs.upp_curve.specs.Curve.{value_at};
-ghost use Rattle.min_plus.specs.Functions.{IsFinite, IsRising};
-ghost use Rattle.curve_call.specs.upp_curve.specs.Steady.{steady};
-ghost use Rattle.curve_call.specs.upp_limits.specs.Limits.{Sizes};
-ghost use Rattle.curve_call.specs.upp_limits.specs.Gauges.{IsKnownAtOnce, gauge_at};
-ghost use Rattle.min_plus.specs.Deviations.{IsHorizontalDeviation};
-ghost use Rattle.curve_call.specs.upp_limits.specs.Outcome.{KeepsLimits};
+ghost use Rattle.upp_limits.specs.rational.specs.Rational.{ℚ, ◌<ℚ◌};
+ghost use Rattle.upp_limits.specs.upp_curve.specs.Curve.{value_at};
+ghost use Rattle.upp_limits.specs.min_plus.specs.Functions.{IsFinite, IsRising};
+ghost use Rattle.upp_limits.specs.upp_curve.specs.Steady.{steady};
+ghost use Rattle.upp_limits.specs.Limits.{Sizes};
+ghost use Rattle.upp_limits.specs.Gauges.{IsKnownAtOnce, gauge_at};
+ghost use Rattle.upp_limits.specs.min_plus.specs.Deviations.{IsHorizontalDeviation};
+ghost use Rattle.upp_limits.specs.Outcome.{KeepsLimits};
 ghost use Rattle.curve_call.specs.Frames.{IsFrame};
 ghost use Rattle.curve_deviation.specs.Parts.{IsFiniteInSizes};
 ghost use Rattle.curve_deviation.specs.Stages.{AreFinite, IsNarrowWindow, IsWideCall, IsFirst, IsSettledAt, AreFound, ArePlain, IsPlainCall};
@@ -16,14 +16,14 @@ ghost use Rattle.curve_deviation.specs.Stages.{AreFinite, IsNarrowWindow, IsWide
 use crate::known::is_known;
 use crate::search::{Stage, has_left, is_below, least_past, narrow_window, value_in};
 use crate::walks::longest_lag;
-use curve_call::fraction128::{Ext, Frac, difference};
-use curve_call::upp_curve::Curve;
-use curve_call::upp_limits::{OpFault, OpKind, is_level};
 use curve_call::upp_normal::steady_time;
 use curve_call::{CallWindow, Frame, within_both};
-use rational::Extended;
 use std::sync::ledger::Ledger;
 use steps::Steps;
+use upp_limits::fraction128::{Ext, Frac, difference};
+use upp_limits::rational::Extended;
+use upp_limits::upp_curve::Curve;
+use upp_limits::{OpFault, OpKind, is_level};
 
 /// A time and the first curve's value there.
 #[derive(Debug, Clone, Copy)]

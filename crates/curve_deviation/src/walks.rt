@@ -1,14 +1,14 @@
 //! The longest lag of one curve behind another, by one walk over the stretches of both.
 
 ghost use Rattle.std.specs.Prelude.{◌≡◌, pos, Some};
-ghost use Rattle.rational.specs.Rational.{ℚ, int, ◌≤ℚ◌, ◌<ℚ◌};
-ghost use Rattle.rational.specs.MinMax.{max_q};
-ghost use Rattle.rational.specs.Extended.{◌≤ₑ◌};
-ghost use Rattle.curve_call.specs.affine_segment.specs.Values.{line_at};
-ghost use Rattle.curve_call.specs.upp_curve.specs.Curve.{value_at};
-ghost use Rattle.min_plus.specs.Functions.{IsRising};
-ghost use Rattle.curve_call.specs.upp_limits.specs.Limits.{Sizes};
-ghost use Rattle.curve_call.specs.upp_curve.specs.Shapes.{IsLine};
+ghost use Rattle.upp_limits.specs.rational.specs.Rational.{ℚ, int, ◌≤ℚ◌, ◌<ℚ◌};
+ghost use Rattle.upp_limits.specs.rational.specs.MinMax.{max_q};
+ghost use Rattle.upp_limits.specs.rational.specs.Extended.{◌≤ₑ◌};
+ghost use Rattle.upp_limits.specs.upp_curve.specs.affine_segment.Values.{line_at};
+ghost use Rattle.upp_limits.specs.upp_curve.specs.Curve.{value_at};
+ghost use Rattle.upp_limits.specs.min_plus.specs.Functions.{IsRising};
+ghost use Rattle.upp_limits.specs.Limits.{Sizes};
+ghost use Rattle.upp_limits.specs.upp_curve.specs.Shapes.{IsLine};
 ghost use Rattle.curve_call.specs.upp_normal.specs.Ahead.{IsTimeIn};
 ghost use Rattle.curve_deviation.specs.Cells.{RisingCell, CellSizes, IsTimeTo, IsCellLag};
 ghost use Rattle.curve_deviation.specs.Parts.{IsFiniteInSizes};
@@ -17,9 +17,9 @@ ghost use Rattle.curve_deviation.specs.Lags.{IsLongestLag};
 
 use crate::cells::{Cell, cell_lag};
 use crate::parts::{Part, part_at};
-use curve_call::affine_segment::{Line, line_at};
-use curve_call::fraction128::{Frac, greater, is_less, lesser};
-use curve_call::upp_curve::Curve;
+use upp_limits::fraction128::{Frac, greater, is_less, lesser};
+use upp_limits::upp_curve::Curve;
+use upp_limits::upp_curve::affine_segment::{Line, line_at};
 
 /// Where the walk stands: all times of the first curve before `time` have been looked at, and all of the second up to
 /// `reached`.

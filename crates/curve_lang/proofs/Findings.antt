@@ -1,8 +1,8 @@
 -- What is known where something was found.
 use Rattle.std.specs.Prelude.{◌≡◌, ℕ, Result, Ok}
 use Rattle.std.proofs.Common.{inl, inr}
-use Rattle.curve_script.specs.declared.fault.LangKind.{LangKind}
-use Rattle.curve_running.specs.upp_curve.specs.Curve.{SpecCurve}
+use Rattle.input_texts.specs.declared.curve_script.fault.LangKind.{LangKind}
+use Rattle.upp_limits.specs.upp_curve.specs.Curve.{SpecCurve}
 use Rattle.curve_lang.specs.Finding.{Then, goes_on, stops, Gives, Guarded, BucketFinds}
 
 -- both found something

@@ -2,21 +2,21 @@
 use Rattle.std.specs.Prelude.{◌≡◌, ℕ, List, [], ◌∷◌, Option, Some, None, option_map, cond, Bool, true, false, Ok}
 use Rattle.std.specs.Str.{bytes_eq}
 use Rattle.std.proofs.Common.{refl, sym, ap, subst, ◌∙◌, inl, inr}
-use Rattle.min_plus.specs.rational.specs.Rational.{ℚ, ◌+ℚ◌, ◌≤ℚ◌, ◌<ℚ◌}
-use Rattle.min_plus.specs.rational.specs.declared.Extended.TheVariants.{Fin}
-use Rattle.min_plus.specs.rational.proofs.Integers.{nat_nonneg}
-use Rattle.min_plus.specs.rational.proofs.Laws.{le_of_not_lt, lt_of_not_le, not_le_of_lt, antisym, zero_mul, add_zero}
-use Rattle.min_plus.specs.Functions.{zero_q, IsFinite, IsNonnegative}
-use Rattle.curve_running.specs.upp_curve.specs.Curve.{SpecCurve, value_at}
-use Rattle.curve_running.specs.upp_curve.specs.Kinds.{bucket}
-use Rattle.curve_running.specs.upp_curve.proofs.KindsAre.{kinds_have_their_values}
-use Rattle.curve_script.specs.declared.keyword.NumberPair.{NumberPair}
-use Rattle.curve_script.specs.declared.keyword.NumberPair.TheVariants.{Bucket, Latency}
-use Rattle.curve_script.specs.declared.keyword.NumberTriple.{NumberTriple}
-use Rattle.curve_script.specs.declared.keyword.NumberTriple.TheVariants.{Stair, Gate}
-use Rattle.curve_script.specs.declared.keyword.CurveOperator.{CurveOperator}
-use Rattle.curve_script.specs.declared.keyword.CurveOperator.TheVariants.{Close, RunSup, RunInf}
-use Rattle.curve_script.specs.Grammar.{Expression, Named, Nought, OfPair, OfTriple, OnCurve, OnNumber, OnTwo}
+use Rattle.upp_limits.specs.rational.specs.Rational.{ℚ, ◌+ℚ◌, ◌≤ℚ◌, ◌<ℚ◌}
+use Rattle.upp_limits.specs.rational.specs.declared.Extended.TheVariants.{Fin}
+use Rattle.upp_limits.specs.rational.proofs.Integers.{nat_nonneg}
+use Rattle.upp_limits.specs.rational.proofs.Laws.{le_of_not_lt, lt_of_not_le, not_le_of_lt, antisym, zero_mul, add_zero}
+use Rattle.upp_limits.specs.min_plus.specs.Functions.{zero_q, IsFinite, IsNonnegative}
+use Rattle.upp_limits.specs.upp_curve.specs.Curve.{SpecCurve, value_at}
+use Rattle.upp_limits.specs.upp_curve.specs.Kinds.{bucket}
+use Rattle.upp_limits.specs.upp_curve.proofs.KindsAre.{kinds_have_their_values}
+use Rattle.input_texts.specs.declared.curve_script.keyword.NumberPair.{NumberPair}
+use Rattle.input_texts.specs.declared.curve_script.keyword.NumberPair.TheVariants.{Bucket, Latency}
+use Rattle.input_texts.specs.declared.curve_script.keyword.NumberTriple.{NumberTriple}
+use Rattle.input_texts.specs.declared.curve_script.keyword.NumberTriple.TheVariants.{Stair, Gate}
+use Rattle.input_texts.specs.declared.curve_script.keyword.CurveOperator.{CurveOperator}
+use Rattle.input_texts.specs.declared.curve_script.keyword.CurveOperator.TheVariants.{Close, RunSup, RunInf}
+use Rattle.input_texts.specs.curve_script.Grammar.{Expression, Named, Nought, OfPair, OfTriple, OnCurve, OnNumber, OnTwo}
 use Rattle.curve_library.specs.Causes.{OneNegative}
 use Rattle.curve_lang.specs.Meaning.{FromZero, Given, given, Means, pair_value, triple_value, call_with, call_of_two, IsOnCurve}
 use Rattle.curve_lang.specs.Finding.{Once, OneFinds, CurveFinds, PairFinds, TripleFinds, NoStair, NoGate, MayCall, MayCallWith, zero_curve}

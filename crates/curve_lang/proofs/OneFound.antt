@@ -1,40 +1,40 @@
 -- Want of memory apart, one thing is found at most.
 use Rattle.std.specs.Prelude.{◌≡◌, ◌≢◌, ◌⊎◌, ◌↔◌, IsTrue, ℕ, ◌<◌, ◌≤◌, ◌^◌, List, [], ◌∷◌, ◌++◌, Bool, true, false, Option, Some, None, Result, Ok, Err}
 use Rattle.std.proofs.Common.{arith, refl, sym, ap, subst, ◌∙◌, inl, inr, true≢false}
-use Rattle.min_plus.specs.rational.specs.Rational.{ℚ, ◌≤ℚ◌}
-use Rattle.min_plus.specs.rational.specs.Extended.{Ext, ◌≤ₑ◌}
-use Rattle.min_plus.specs.Functions.{zero_q, IsFinite, IsNonnegative}
-use Rattle.min_plus.specs.Deviations.{IsVerticalDeviation}
-use Rattle.min_plus.proofs.Unambiguous.{deviations_are_unique}
-use Rattle.curve_running.specs.upp_curve.specs.Curve.{SpecCurve, value_at, HasSameValues}
-use Rattle.curve_running.specs.upp_curve.specs.Kinds.{bucket, rate_latency, stair, gate}
-use Rattle.curve_running.specs.upp_limits.specs.declared.op_kind.OpKind.{OpKind}
-use Rattle.curve_running.specs.upp_limits.specs.declared.op_kind.OpKind.TheVariants as calls
-use Rattle.curve_running.specs.upp_limits.specs.declared.op_kind.OpFault.{OpFault}
-use Rattle.curve_running.specs.upp_limits.specs.declared.op_kind.OpFault.TheVariants as call_faults
-use Rattle.curve_running.specs.upp_limits.specs.declared.own_limits.OverLimit.TheVariants as limits
-use Rattle.curve_running.specs.upp_limits.specs.Outcome.{IsWithin}
-use Rattle.curve_running.specs.upp_limits.specs.Gauges.{IsTooMany, IsTooWide}
-use Rattle.curve_running.specs.upp_limits.specs.OwnLimits.{IsOver, IsWithinOwn}
-use Rattle.curve_running.specs.curve_call.specs.Answers.{IsMadeBy}
-use Rattle.curve_running.specs.curve_call.proofs.InTurn.{applies_determined}
+use Rattle.upp_limits.specs.rational.specs.Rational.{ℚ, ◌≤ℚ◌}
+use Rattle.upp_limits.specs.rational.specs.Extended.{Ext, ◌≤ₑ◌}
+use Rattle.upp_limits.specs.min_plus.specs.Functions.{zero_q, IsFinite, IsNonnegative}
+use Rattle.upp_limits.specs.min_plus.specs.Deviations.{IsVerticalDeviation}
+use Rattle.upp_limits.specs.min_plus.proofs.Unambiguous.{deviations_are_unique}
+use Rattle.upp_limits.specs.upp_curve.specs.Curve.{SpecCurve, value_at, HasSameValues}
+use Rattle.upp_limits.specs.upp_curve.specs.Kinds.{bucket, rate_latency, stair, gate}
+use Rattle.upp_limits.specs.declared.op_kind.OpKind.{OpKind}
+use Rattle.upp_limits.specs.declared.op_kind.OpKind.TheVariants as calls
+use Rattle.upp_limits.specs.declared.op_kind.OpFault.{OpFault}
+use Rattle.upp_limits.specs.declared.op_kind.OpFault.TheVariants as call_faults
+use Rattle.upp_limits.specs.declared.own_limits.OverLimit.TheVariants as limits
+use Rattle.upp_limits.specs.Outcome.{IsWithin}
+use Rattle.upp_limits.specs.Gauges.{IsTooMany, IsTooWide}
+use Rattle.upp_limits.specs.OwnLimits.{IsOver, IsWithinOwn}
+use Rattle.plain_operators.specs.curve_call.specs.Answers.{IsMadeBy}
+use Rattle.plain_operators.specs.curve_call.proofs.InTurn.{applies_determined}
 use Rattle.subadd_closure.specs.Folds.{CloseAnswer}
 use Rattle.subadd_closure.proofs.OneFold.{close_once}
 use Rattle.curve_library.specs.Causes.{OneNegative}
-use Rattle.curve_script.specs.declared.keyword.NumberPair.{NumberPair}
-use Rattle.curve_script.specs.declared.keyword.NumberPair.TheVariants.{Bucket, Latency}
-use Rattle.curve_script.specs.declared.keyword.NumberTriple.{NumberTriple}
-use Rattle.curve_script.specs.declared.keyword.NumberTriple.TheVariants.{Stair, Gate}
-use Rattle.curve_script.specs.declared.keyword.CurveOperator.{CurveOperator}
-use Rattle.curve_script.specs.declared.keyword.CurveOperator.TheVariants.{Close, RunSup, RunInf}
-use Rattle.curve_script.specs.declared.keyword.NumberOperator.{NumberOperator}
-use Rattle.curve_script.specs.declared.keyword.PairOperator.{PairOperator}
-use Rattle.curve_script.specs.declared.keyword.TwoAsked.{TwoAsked}
-use Rattle.curve_script.specs.declared.keyword.TwoAsked.TheVariants.{Delay, Backlog, Equal, Below}
-use Rattle.curve_script.specs.declared.fault.LangKind.{LangKind}
-use Rattle.curve_script.specs.declared.fault.LangKind.TheVariants.{C7, TooMany, TooWide, NoMemory}
-use Rattle.curve_script.specs.Grammar.{Expression, Named, Nought, OfPair, OfTriple, OnCurve, OnNumber, OnTwo, Statement, Lets, ValueAt, AsksOne, AsksTwo}
-use Rattle.curve_script.specs.Scripts.{Numbered, out_of_memory}
+use Rattle.input_texts.specs.declared.curve_script.keyword.NumberPair.{NumberPair}
+use Rattle.input_texts.specs.declared.curve_script.keyword.NumberPair.TheVariants.{Bucket, Latency}
+use Rattle.input_texts.specs.declared.curve_script.keyword.NumberTriple.{NumberTriple}
+use Rattle.input_texts.specs.declared.curve_script.keyword.NumberTriple.TheVariants.{Stair, Gate}
+use Rattle.input_texts.specs.declared.curve_script.keyword.CurveOperator.{CurveOperator}
+use Rattle.input_texts.specs.declared.curve_script.keyword.CurveOperator.TheVariants.{Close, RunSup, RunInf}
+use Rattle.input_texts.specs.declared.curve_script.keyword.NumberOperator.{NumberOperator}
+use Rattle.input_texts.specs.declared.curve_script.keyword.PairOperator.{PairOperator}
+use Rattle.input_texts.specs.declared.curve_script.keyword.TwoAsked.{TwoAsked}
+use Rattle.input_texts.specs.declared.curve_script.keyword.TwoAsked.TheVariants.{Delay, Backlog, Equal, Below}
+use Rattle.input_texts.specs.declared.curve_script.fault.LangKind.{LangKind}
+use Rattle.input_texts.specs.declared.curve_script.fault.LangKind.TheVariants.{C7, TooMany, TooWide, NoMemory}
+use Rattle.input_texts.specs.curve_script.Grammar.{Expression, Named, Nought, OfPair, OfTriple, OnCurve, OnNumber, OnTwo, Statement, Lets, ValueAt, AsksOne, AsksTwo}
+use Rattle.input_texts.specs.curve_script.Scripts.{Numbered, out_of_memory}
 use Rattle.curve_lang.specs.declared.answer.Word.TheVariants as words
 use Rattle.curve_lang.specs.Answers.{Answered, NumberIs, TruthIs, one_answer}
 use Rattle.curve_lang.specs.Meaning.{FromZero, call_with, call_of_two}

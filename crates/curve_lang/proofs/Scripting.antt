@@ -1,13 +1,13 @@
 -- Statement after statement: what a script finds, from what each statement adds.
 use Rattle.std.specs.Prelude.{◌≡◌, ℕ, ◌≤◌, length, List, [], ◌∷◌, ◌++◌, map, Option, Some, None, Result, Ok, Err, is_some, false}
 use Rattle.std.proofs.Common.{refl, sym, ap, subst, inl, inr, drop, drop_of_length-le}
-use Rattle.min_plus.specs.rational.specs.Rational.{ℚ}
-use Rattle.curve_running.specs.upp_curve.specs.Curve.{SpecCurve}
-use Rattle.curve_script.specs.declared.fault.LangKind.{LangKind}
-use Rattle.curve_script.specs.declared.fault.LangKind.TheVariants.{NoMemory}
-use Rattle.curve_script.specs.Grammar.{Expression, Statement, Lets}
-use Rattle.curve_script.specs.declared.script.ScriptLine.{ScriptLine}
-use Rattle.curve_script.specs.Scripts.{Numbered, line_view}
+use Rattle.upp_limits.specs.rational.specs.Rational.{ℚ}
+use Rattle.upp_limits.specs.upp_curve.specs.Curve.{SpecCurve}
+use Rattle.input_texts.specs.declared.curve_script.fault.LangKind.{LangKind}
+use Rattle.input_texts.specs.declared.curve_script.fault.LangKind.TheVariants.{NoMemory}
+use Rattle.input_texts.specs.curve_script.Grammar.{Expression, Statement, Lets}
+use Rattle.input_texts.specs.declared.curve_script.script.ScriptLine.{ScriptLine}
+use Rattle.input_texts.specs.curve_script.Scripts.{Numbered, line_view}
 use Rattle.curve_lang.specs.Answers.{Answered, ScriptMeans}
 use Rattle.curve_lang.specs.Finding.{Still, Then, goes_on, stops, Gives}
 use Rattle.curve_lang.specs.Found.{Let, curve_named, Finds, Kept, NewName, Added, AddsName, AddsAnswer, StatementFinds, Told, goes_on as line_on, stops as line_stops, fault_at, after_added, ScriptFinds}

@@ -1,12 +1,12 @@
 -- What an operator finds after its part: where the part found nothing, that. (Own choice.)
 use Rattle.std.specs.Prelude.{◌≡◌, ℕ, Result, Ok, Err}
-use Rattle.min_plus.specs.rational.specs.Rational.{ℚ}
-use Rattle.curve_running.specs.upp_curve.specs.Curve.{SpecCurve}
-use Rattle.curve_script.specs.declared.keyword.CurveOperator.{CurveOperator}
-use Rattle.curve_script.specs.declared.keyword.NumberOperator.{NumberOperator}
-use Rattle.curve_script.specs.declared.keyword.PairOperator.{PairOperator}
-use Rattle.curve_script.specs.declared.keyword.TwoAsked.{TwoAsked}
-use Rattle.curve_script.specs.declared.fault.LangKind.{LangKind}
+use Rattle.upp_limits.specs.rational.specs.Rational.{ℚ}
+use Rattle.upp_limits.specs.upp_curve.specs.Curve.{SpecCurve}
+use Rattle.input_texts.specs.declared.curve_script.keyword.CurveOperator.{CurveOperator}
+use Rattle.input_texts.specs.declared.curve_script.keyword.NumberOperator.{NumberOperator}
+use Rattle.input_texts.specs.declared.curve_script.keyword.PairOperator.{PairOperator}
+use Rattle.input_texts.specs.declared.curve_script.keyword.TwoAsked.{TwoAsked}
+use Rattle.input_texts.specs.declared.curve_script.fault.LangKind.{LangKind}
 use Rattle.curve_lang.specs.Answers.{Answered}
 use Rattle.curve_lang.specs.Finding.{Found, Still}
 use Rattle.curve_lang.specs.Found.{OneMade, NumberMade, TwoMade, TwoFinds}

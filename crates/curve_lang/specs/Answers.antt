@@ -1,18 +1,18 @@
 -- What the answers of a script mean. (Own choice.)
 use Rattle.std.specs.Prelude.{◌≡◌, ◌↔◌, IsTrue, Bool, List, [], ◌∷◌, ◌++◌}
-use Rattle.min_plus.specs.rational.specs.Rational.{ℚ, ◌≤ℚ◌}
-use Rattle.min_plus.specs.rational.specs.Extended.{Ext, ◌≤ₑ◌}
-use Rattle.min_plus.specs.Functions.{zero_q}
-use Rattle.min_plus.specs.Deviations.{IsHorizontalDeviation, IsVerticalDeviation}
-use Rattle.curve_running.specs.upp_curve.specs.Curve.{SpecCurve, value_at}
-use Rattle.curve_running.specs.upp_curve.specs.Normal.{IsNormal}
-use Rattle.curve_running.specs.upp_curve.specs.Steady.{rate}
-use Rattle.curve_script.specs.declared.keyword.OneAsked.{OneAsked}
-use Rattle.curve_script.specs.declared.keyword.OneAsked.TheVariants.{Rate, Show}
-use Rattle.curve_script.specs.declared.keyword.TwoAsked.{TwoAsked}
-use Rattle.curve_script.specs.declared.keyword.TwoAsked.TheVariants.{Delay, Backlog, Equal, Below}
-use Rattle.curve_script.specs.Grammar.{Statement, Lets, ValueAt, AsksOne, AsksTwo}
-use Rattle.curve_script.specs.Scripts.{Numbered}
+use Rattle.upp_limits.specs.rational.specs.Rational.{ℚ, ◌≤ℚ◌}
+use Rattle.upp_limits.specs.rational.specs.Extended.{Ext, ◌≤ₑ◌}
+use Rattle.upp_limits.specs.min_plus.specs.Functions.{zero_q}
+use Rattle.upp_limits.specs.min_plus.specs.Deviations.{IsHorizontalDeviation, IsVerticalDeviation}
+use Rattle.upp_limits.specs.upp_curve.specs.Curve.{SpecCurve, value_at}
+use Rattle.upp_limits.specs.upp_curve.specs.Normal.{IsNormal}
+use Rattle.upp_limits.specs.upp_curve.specs.Steady.{rate}
+use Rattle.input_texts.specs.declared.curve_script.keyword.OneAsked.{OneAsked}
+use Rattle.input_texts.specs.declared.curve_script.keyword.OneAsked.TheVariants.{Rate, Show}
+use Rattle.input_texts.specs.declared.curve_script.keyword.TwoAsked.{TwoAsked}
+use Rattle.input_texts.specs.declared.curve_script.keyword.TwoAsked.TheVariants.{Delay, Backlog, Equal, Below}
+use Rattle.input_texts.specs.curve_script.Grammar.{Statement, Lets, ValueAt, AsksOne, AsksTwo}
+use Rattle.input_texts.specs.curve_script.Scripts.{Numbered}
 use Rattle.curve_lang.specs.declared.answer.Word.{Word}
 use Rattle.curve_lang.specs.declared.answer.Word.TheVariants as words
 use Rattle.curve_lang.specs.Meaning.{Values, FromZero, Given, Means}

@@ -3,40 +3,40 @@
 -- call takes any, and what is counted by then tells which operators were made before it: so the limit of an operator that
 -- is counted is never told as want of memory. (Own choice.)
 use Rattle.std.specs.Prelude.{◌≡◌, ◌⊎◌, ℕ, pos, ◌+◌, ◌≤◌, ◌<◌, ◌^◌, Result, Ok, Err}
-use Rattle.min_plus.specs.rational.specs.Rational.{ℚ, int, ◌≤ℚ◌, ◌<ℚ◌}
-use Rattle.min_plus.specs.rational.specs.MinMax.{max_q}
-use Rattle.min_plus.specs.rational.specs.Extended.{Ext}
-use Rattle.min_plus.specs.Functions.{zero_q, IsFinite, IsRising}
-use Rattle.min_plus.specs.Convolution.{IsSubadditiveClosure}
-use Rattle.min_plus.specs.Deviations.{IsVerticalDeviation}
-use Rattle.curve_running.specs.upp_curve.specs.Curve.{SpecCurve, value_at}
-use Rattle.curve_running.specs.upp_curve.specs.Curves.{IsCurve}
-use Rattle.curve_running.specs.upp_curve.specs.Kinds.{bucket, rate_latency, stair, gate}
-use Rattle.curve_running.specs.upp_limits.specs.declared.op_kind.OpKind.{OpKind}
-use Rattle.curve_running.specs.upp_limits.specs.declared.op_kind.OpKind.TheVariants as calls
-use Rattle.curve_running.specs.upp_limits.specs.declared.op_kind.OpFault.TheVariants as call_faults
-use Rattle.curve_running.specs.upp_limits.specs.declared.own_limits.OverLimit.TheVariants as limits
-use Rattle.curve_running.specs.upp_limits.specs.Limits.{own_end, time_alone, joined, curve_numbers, sizes_of, gauge_of}
-use Rattle.curve_running.specs.upp_limits.specs.Gauges.{IsTooMany, IsTooWide}
-use Rattle.curve_running.specs.upp_limits.specs.Outcome.{IsWithin}
-use Rattle.curve_running.specs.upp_limits.specs.OwnLimits.{IsOver, IsWithinOwn}
-use Rattle.curve_running.specs.curve_call.specs.Answers.{IsMadeBy}
+use Rattle.upp_limits.specs.rational.specs.Rational.{ℚ, int, ◌≤ℚ◌, ◌<ℚ◌}
+use Rattle.upp_limits.specs.rational.specs.MinMax.{max_q}
+use Rattle.upp_limits.specs.rational.specs.Extended.{Ext}
+use Rattle.upp_limits.specs.min_plus.specs.Functions.{zero_q, IsFinite, IsRising}
+use Rattle.upp_limits.specs.min_plus.specs.Convolution.{IsSubadditiveClosure}
+use Rattle.upp_limits.specs.min_plus.specs.Deviations.{IsVerticalDeviation}
+use Rattle.upp_limits.specs.upp_curve.specs.Curve.{SpecCurve, value_at}
+use Rattle.upp_limits.specs.upp_curve.specs.Curves.{IsCurve}
+use Rattle.upp_limits.specs.upp_curve.specs.Kinds.{bucket, rate_latency, stair, gate}
+use Rattle.upp_limits.specs.declared.op_kind.OpKind.{OpKind}
+use Rattle.upp_limits.specs.declared.op_kind.OpKind.TheVariants as calls
+use Rattle.upp_limits.specs.declared.op_kind.OpFault.TheVariants as call_faults
+use Rattle.upp_limits.specs.declared.own_limits.OverLimit.TheVariants as limits
+use Rattle.upp_limits.specs.Limits.{own_end, time_alone, joined, curve_numbers, sizes_of, gauge_of}
+use Rattle.upp_limits.specs.Gauges.{IsTooMany, IsTooWide}
+use Rattle.upp_limits.specs.Outcome.{IsWithin}
+use Rattle.upp_limits.specs.OwnLimits.{IsOver, IsWithinOwn}
+use Rattle.plain_operators.specs.curve_call.specs.Answers.{IsMadeBy}
 use Rattle.curve_library.specs.Causes.{OneNegative, NoSlot}
 use Rattle.subadd_closure.specs.Folds.{CloseAnswer}
 use Rattle.subadd_closure.specs.FoldMemory.{CloseWants}
 use Rattle.subadd_closure.specs.FoldWork.{fold_work}
-use Rattle.curve_script.specs.declared.keyword.NumberPair.{NumberPair}
-use Rattle.curve_script.specs.declared.keyword.NumberPair.TheVariants.{Bucket, Latency}
-use Rattle.curve_script.specs.declared.keyword.NumberTriple.{NumberTriple}
-use Rattle.curve_script.specs.declared.keyword.NumberTriple.TheVariants.{Stair, Gate}
-use Rattle.curve_script.specs.declared.keyword.CurveOperator.{CurveOperator}
-use Rattle.curve_script.specs.declared.keyword.CurveOperator.TheVariants.{Close, RunSup, RunInf}
-use Rattle.curve_script.specs.declared.keyword.NumberOperator.{NumberOperator}
-use Rattle.curve_script.specs.declared.keyword.NumberOperator.TheVariants.{PosMinus, Scale, Shift}
-use Rattle.curve_script.specs.declared.keyword.PairOperator.{PairOperator}
-use Rattle.curve_script.specs.declared.keyword.PairOperator.TheVariants.{Sum, Min, Max, Conv, PosDiff, Deconv}
-use Rattle.curve_script.specs.declared.fault.LangKind.{LangKind}
-use Rattle.curve_script.specs.declared.fault.LangKind.TheVariants.{C7, C8, TooMany, TooWide, NoMemory}
+use Rattle.input_texts.specs.declared.curve_script.keyword.NumberPair.{NumberPair}
+use Rattle.input_texts.specs.declared.curve_script.keyword.NumberPair.TheVariants.{Bucket, Latency}
+use Rattle.input_texts.specs.declared.curve_script.keyword.NumberTriple.{NumberTriple}
+use Rattle.input_texts.specs.declared.curve_script.keyword.NumberTriple.TheVariants.{Stair, Gate}
+use Rattle.input_texts.specs.declared.curve_script.keyword.CurveOperator.{CurveOperator}
+use Rattle.input_texts.specs.declared.curve_script.keyword.CurveOperator.TheVariants.{Close, RunSup, RunInf}
+use Rattle.input_texts.specs.declared.curve_script.keyword.NumberOperator.{NumberOperator}
+use Rattle.input_texts.specs.declared.curve_script.keyword.NumberOperator.TheVariants.{PosMinus, Scale, Shift}
+use Rattle.input_texts.specs.declared.curve_script.keyword.PairOperator.{PairOperator}
+use Rattle.input_texts.specs.declared.curve_script.keyword.PairOperator.TheVariants.{Sum, Min, Max, Conv, PosDiff, Deconv}
+use Rattle.input_texts.specs.declared.curve_script.fault.LangKind.{LangKind}
+use Rattle.input_texts.specs.declared.curve_script.fault.LangKind.TheVariants.{C7, C8, TooMany, TooWide, NoMemory}
 use Rattle.curve_lang.specs.Meaning.{FromZero}
 
 -- a curve, or why there is none

@@ -1,8 +1,8 @@
 -- An expression and a statement by their forms: what they are the forms of.
-use Rattle.min_plus.specs.rational.specs.Rational.{ℚ}
-use Rattle.curve_script.specs.Grammar as grammar
-use Rattle.curve_script.specs.Grammar.{Expression, Statement}
-use Rattle.curve_script.specs.Views.{expression_view}
+use Rattle.upp_limits.specs.rational.specs.Rational.{ℚ}
+use Rattle.input_texts.specs.curve_script.Grammar as grammar
+use Rattle.input_texts.specs.curve_script.Grammar.{Expression, Statement}
+use Rattle.input_texts.specs.curve_script.Views.{expression_view}
 use Rattle.curve_lang.specs.declared.form.Form.{Form}
 use Rattle.curve_lang.specs.declared.form.Form.TheVariants.{Named, Nought, OfPair, OfTriple, OnCurve, OnNumber, OnTwo}
 use Rattle.curve_lang.specs.declared.form.Question.{Question}

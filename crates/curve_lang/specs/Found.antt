@@ -3,23 +3,23 @@
 -- choice.)
 use Rattle.std.specs.Prelude.{◌≡◌, ◌↔◌, IsTrue, ℕ, List, [], ◌∷◌, ◌++◌, find, Option, Some, None, option_map, map, Bool, Result, Ok, Err}
 use Rattle.std.specs.Str.{bytes_eq}
-use Rattle.min_plus.specs.rational.specs.Rational.{ℚ, ◌≤ℚ◌}
-use Rattle.min_plus.specs.rational.specs.Extended.{Ext, ◌≤ₑ◌}
-use Rattle.min_plus.specs.Functions.{zero_q, IsFinite, IsNonnegative}
-use Rattle.min_plus.specs.Deviations.{IsHorizontalDeviation, IsVerticalDeviation}
-use Rattle.curve_running.specs.upp_curve.specs.Curve.{SpecCurve, value_at, HasSameValues}
-use Rattle.curve_running.specs.upp_limits.specs.declared.op_kind.OpKind.TheVariants as calls
-use Rattle.curve_script.specs.declared.keyword.CurveOperator.{CurveOperator}
-use Rattle.curve_script.specs.declared.keyword.NumberOperator.{NumberOperator}
-use Rattle.curve_script.specs.declared.keyword.PairOperator.{PairOperator}
-use Rattle.curve_script.specs.declared.keyword.OneAsked.{OneAsked}
-use Rattle.curve_script.specs.declared.keyword.TwoAsked.{TwoAsked}
-use Rattle.curve_script.specs.declared.keyword.TwoAsked.TheVariants.{Delay, Backlog, Equal, Below}
-use Rattle.curve_script.specs.declared.fault.LangKind.{LangKind}
-use Rattle.curve_script.specs.declared.fault.LangKind.TheVariants.{C5, C6, NoMemory}
-use Rattle.curve_script.specs.declared.fault.LangFault.{LangFault}
-use Rattle.curve_script.specs.Grammar.{Expression, Named, Nought, OfPair, OfTriple, OnCurve, OnNumber, OnTwo, Statement, Lets, ValueAt, AsksOne, AsksTwo}
-use Rattle.curve_script.specs.Scripts.{Numbered, out_of_memory}
+use Rattle.upp_limits.specs.rational.specs.Rational.{ℚ, ◌≤ℚ◌}
+use Rattle.upp_limits.specs.rational.specs.Extended.{Ext, ◌≤ₑ◌}
+use Rattle.upp_limits.specs.min_plus.specs.Functions.{zero_q, IsFinite, IsNonnegative}
+use Rattle.upp_limits.specs.min_plus.specs.Deviations.{IsHorizontalDeviation, IsVerticalDeviation}
+use Rattle.upp_limits.specs.upp_curve.specs.Curve.{SpecCurve, value_at, HasSameValues}
+use Rattle.upp_limits.specs.declared.op_kind.OpKind.TheVariants as calls
+use Rattle.input_texts.specs.declared.curve_script.keyword.CurveOperator.{CurveOperator}
+use Rattle.input_texts.specs.declared.curve_script.keyword.NumberOperator.{NumberOperator}
+use Rattle.input_texts.specs.declared.curve_script.keyword.PairOperator.{PairOperator}
+use Rattle.input_texts.specs.declared.curve_script.keyword.OneAsked.{OneAsked}
+use Rattle.input_texts.specs.declared.curve_script.keyword.TwoAsked.{TwoAsked}
+use Rattle.input_texts.specs.declared.curve_script.keyword.TwoAsked.TheVariants.{Delay, Backlog, Equal, Below}
+use Rattle.input_texts.specs.declared.curve_script.fault.LangKind.{LangKind}
+use Rattle.input_texts.specs.declared.curve_script.fault.LangKind.TheVariants.{C5, C6, NoMemory}
+use Rattle.input_texts.specs.declared.curve_script.fault.LangFault.{LangFault}
+use Rattle.input_texts.specs.curve_script.Grammar.{Expression, Named, Nought, OfPair, OfTriple, OnCurve, OnNumber, OnTwo, Statement, Lets, ValueAt, AsksOne, AsksTwo}
+use Rattle.input_texts.specs.curve_script.Scripts.{Numbered, out_of_memory}
 use Rattle.curve_lang.specs.declared.answer.Word.TheVariants as words
 use Rattle.curve_lang.specs.Meaning.{FromZero, Given, call_of_two, call_with}
 use Rattle.curve_lang.specs.Answers.{Answered, NumberIs, TruthIs, one_answer}

@@ -1,9 +1,9 @@
 -- Laws of the calculator. (Own choice.)
 use Rattle.std.specs.Prelude.{◌≡◌, ◌≢◌, ℕ, List, [], Ok, Err}
-use Rattle.min_plus.specs.rational.specs.Rational.{ℚ}
-use Rattle.curve_running.specs.upp_curve.specs.Curve.{SpecCurve, value_at}
-use Rattle.curve_script.specs.Grammar.{Expression}
-use Rattle.curve_script.specs.Scripts.{Numbered, out_of_memory}
+use Rattle.upp_limits.specs.rational.specs.Rational.{ℚ}
+use Rattle.upp_limits.specs.upp_curve.specs.Curve.{SpecCurve, value_at}
+use Rattle.input_texts.specs.curve_script.Grammar.{Expression}
+use Rattle.input_texts.specs.curve_script.Scripts.{Numbered, out_of_memory}
 use Rattle.curve_lang.specs.Meaning.{Means}
 use Rattle.curve_lang.specs.Answers.{Answered, ScriptMeans}
 use Rattle.curve_lang.specs.Found.{Let, with_values, Finds, Told, ScriptTells}

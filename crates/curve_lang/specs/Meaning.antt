@@ -2,27 +2,27 @@
 -- are kept. (Le Boudec and Thiran, chapter 3, for the operators; the language is own choice.)
 use Rattle.std.specs.Prelude.{◌≡◌, ℕ, List, find, Option, Some, option_map}
 use Rattle.std.specs.Str.{bytes_eq}
-use Rattle.min_plus.specs.rational.specs.Rational.{ℚ, ◌≤ℚ◌}
-use Rattle.min_plus.specs.rational.specs.Extended.{Ext}
-use Rattle.min_plus.specs.rational.specs.declared.Extended.TheVariants.{Fin}
-use Rattle.min_plus.specs.Functions.{zero_q}
-use Rattle.min_plus.specs.Formulas.{bucket_value, stair_value, rate_latency_value, gate_value}
-use Rattle.min_plus.specs.Convolution.{IsSubadditiveClosure}
-use Rattle.min_plus.specs.Running.{IsRunningSupremum, IsRunningInfimum}
-use Rattle.curve_running.specs.upp_limits.specs.declared.op_kind.OpKind.{OpKind}
-use Rattle.curve_running.specs.upp_limits.specs.declared.op_kind.OpKind.TheVariants as calls
-use Rattle.curve_running.specs.curve_call.specs.Answers.{IsAnswer}
-use Rattle.curve_script.specs.declared.keyword.NumberPair.{NumberPair}
-use Rattle.curve_script.specs.declared.keyword.NumberPair.TheVariants.{Bucket, Latency}
-use Rattle.curve_script.specs.declared.keyword.NumberTriple.{NumberTriple}
-use Rattle.curve_script.specs.declared.keyword.NumberTriple.TheVariants.{Stair, Gate}
-use Rattle.curve_script.specs.declared.keyword.CurveOperator.{CurveOperator}
-use Rattle.curve_script.specs.declared.keyword.CurveOperator.TheVariants.{Close, RunSup, RunInf}
-use Rattle.curve_script.specs.declared.keyword.NumberOperator.{NumberOperator}
-use Rattle.curve_script.specs.declared.keyword.NumberOperator.TheVariants.{PosMinus, Scale, Shift}
-use Rattle.curve_script.specs.declared.keyword.PairOperator.{PairOperator}
-use Rattle.curve_script.specs.declared.keyword.PairOperator.TheVariants.{Sum, Min, Max, Conv, PosDiff, Deconv}
-use Rattle.curve_script.specs.Grammar.{Expression, Named, Nought, OfPair, OfTriple, OnCurve, OnNumber, OnTwo}
+use Rattle.upp_limits.specs.rational.specs.Rational.{ℚ, ◌≤ℚ◌}
+use Rattle.upp_limits.specs.rational.specs.Extended.{Ext}
+use Rattle.upp_limits.specs.rational.specs.declared.Extended.TheVariants.{Fin}
+use Rattle.upp_limits.specs.min_plus.specs.Functions.{zero_q}
+use Rattle.upp_limits.specs.min_plus.specs.Formulas.{bucket_value, stair_value, rate_latency_value, gate_value}
+use Rattle.upp_limits.specs.min_plus.specs.Convolution.{IsSubadditiveClosure}
+use Rattle.upp_limits.specs.min_plus.specs.Running.{IsRunningSupremum, IsRunningInfimum}
+use Rattle.upp_limits.specs.declared.op_kind.OpKind.{OpKind}
+use Rattle.upp_limits.specs.declared.op_kind.OpKind.TheVariants as calls
+use Rattle.plain_operators.specs.curve_call.specs.Answers.{IsAnswer}
+use Rattle.input_texts.specs.declared.curve_script.keyword.NumberPair.{NumberPair}
+use Rattle.input_texts.specs.declared.curve_script.keyword.NumberPair.TheVariants.{Bucket, Latency}
+use Rattle.input_texts.specs.declared.curve_script.keyword.NumberTriple.{NumberTriple}
+use Rattle.input_texts.specs.declared.curve_script.keyword.NumberTriple.TheVariants.{Stair, Gate}
+use Rattle.input_texts.specs.declared.curve_script.keyword.CurveOperator.{CurveOperator}
+use Rattle.input_texts.specs.declared.curve_script.keyword.CurveOperator.TheVariants.{Close, RunSup, RunInf}
+use Rattle.input_texts.specs.declared.curve_script.keyword.NumberOperator.{NumberOperator}
+use Rattle.input_texts.specs.declared.curve_script.keyword.NumberOperator.TheVariants.{PosMinus, Scale, Shift}
+use Rattle.input_texts.specs.declared.curve_script.keyword.PairOperator.{PairOperator}
+use Rattle.input_texts.specs.declared.curve_script.keyword.PairOperator.TheVariants.{Sum, Min, Max, Conv, PosDiff, Deconv}
+use Rattle.input_texts.specs.curve_script.Grammar.{Expression, Named, Nought, OfPair, OfTriple, OnCurve, OnNumber, OnTwo}
 
 -- values at all times; only those from 0 on are looked at
 abbrev pub Values : Type 0

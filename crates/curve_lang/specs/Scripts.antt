@@ -1,10 +1,10 @@
 -- How the evaluator goes through a script: what a statement adds to the names and to the answers that there are. (Own
 -- choice.)
 use Rattle.std.specs.Prelude.{◌≡◌, ℕ, List, [], ◌∷◌, ◌++◌, Result, Ok, Err}
-use Rattle.min_plus.specs.rational.specs.Rational.{ℚ}
-use Rattle.curve_script.specs.declared.fault.LangKind.{LangKind}
-use Rattle.curve_script.specs.declared.fault.LangKind.TheVariants.{NoMemory}
-use Rattle.curve_script.specs.Grammar.{Expression, Statement, Lets}
+use Rattle.upp_limits.specs.rational.specs.Rational.{ℚ}
+use Rattle.input_texts.specs.declared.curve_script.fault.LangKind.{LangKind}
+use Rattle.input_texts.specs.declared.curve_script.fault.LangKind.TheVariants.{NoMemory}
+use Rattle.input_texts.specs.curve_script.Grammar.{Expression, Statement, Lets}
 use Rattle.curve_lang.specs.Answers.{Answered}
 use Rattle.curve_lang.specs.Found.{Let, Added, AddsName, AddsAnswer, StatementFinds}
 

@@ -1,13 +1,13 @@
 -- What the calculator tells of the answers of the calls that it makes, and their curves once they are kept.
 use Rattle.std.specs.Prelude.{◌≡◌, Result, Ok, Err}
-use Rattle.curve_running.specs.upp_curve.specs.Curve.{SpecCurve}
-use Rattle.curve_running.specs.upp_limits.specs.declared.op_kind.OpFault.{OpFault}
-use Rattle.curve_running.specs.upp_limits.specs.declared.op_kind.OpFault.TheVariants as calls
-use Rattle.curve_running.specs.upp_limits.specs.declared.own_limits.OverLimit.TheVariants as limits
+use Rattle.upp_limits.specs.upp_curve.specs.Curve.{SpecCurve}
+use Rattle.upp_limits.specs.declared.op_kind.OpFault.{OpFault}
+use Rattle.upp_limits.specs.declared.op_kind.OpFault.TheVariants as calls
+use Rattle.upp_limits.specs.declared.own_limits.OverLimit.TheVariants as limits
 use Rattle.curve_library.specs.declared.fault.CurveFault.{CurveFault}
 use Rattle.curve_library.specs.declared.fault.CurveFault.TheVariants as kinds
-use Rattle.curve_script.specs.declared.fault.LangKind.{LangKind}
-use Rattle.curve_script.specs.declared.fault.LangKind.TheVariants.{C7, TooMany, TooWide, NoMemory}
+use Rattle.input_texts.specs.declared.curve_script.fault.LangKind.{LangKind}
+use Rattle.input_texts.specs.declared.curve_script.fault.LangKind.TheVariants.{C7, TooMany, TooWide, NoMemory}
 use Rattle.curve_lang.specs.Finding.{Found, Gives}
 
 abbrev pub told_kind : CurveFault → LangKind

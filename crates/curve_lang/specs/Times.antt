@@ -1,9 +1,9 @@
 -- A time past a curve's own window. (Own choice.)
 use Rattle.std.specs.Prelude.{◌<◌, ◌^◌}
-use Rattle.min_plus.specs.rational.specs.Rational.{ℚ, ◌≤ℚ◌}
-use Rattle.curve_running.specs.upp_curve.specs.Curve.{SpecCurve}
-use Rattle.curve_running.specs.upp_curve.specs.Curves.{IsCurve}
-use Rattle.curve_running.specs.upp_limits.specs.Limits.{own_end}
+use Rattle.upp_limits.specs.rational.specs.Rational.{ℚ, ◌≤ℚ◌}
+use Rattle.upp_limits.specs.upp_curve.specs.Curve.{SpecCurve}
+use Rattle.upp_limits.specs.upp_curve.specs.Curves.{IsCurve}
+use Rattle.upp_limits.specs.Limits.{own_end}
 use Rattle.curve_lang.specs.Finding.{value_gauge}
 
 -- and the gauge of the value there is below the limit

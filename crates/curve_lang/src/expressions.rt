@@ -1,7 +1,7 @@
 //! The curve of an expression.
 
 ghost use Rattle.std.specs.Prelude.{map};
-ghost use Rattle.curve_script.specs.Views.{expression_view};
+ghost use Rattle.input_texts.specs.curve_script.Views.{expression_view};
 ghost use Rattle.curve_lang.specs.Found.{Finds};
 ghost use Rattle.curve_lang.specs.After.{OneAfter, NumberAfter, TwoAfter};
 ghost use Rattle.curve_lang.specs.Views.{let_view, found};
@@ -10,13 +10,13 @@ use crate::form::{Form, form_of};
 use crate::kinds::{pair_found, triple_found, zero_found};
 use crate::naming::{Named, named_curve};
 use crate::operators::{number_made, one_made, two_made};
-use curve_running::upp_curve::Curve;
-use curve_script::{CurveOperator, Expr, LangKind, NumberOperator, PairOperator};
-use plain_text::fraction128::Frac;
+use input_texts::curve_script::{CurveOperator, Expr, LangKind, NumberOperator, PairOperator};
 use std::alloc::Global;
 use std::rc::Rc;
 use std::sync::ledger::Ledger;
 use steps::Steps;
+use upp_limits::fraction128::Frac;
+use upp_limits::upp_curve::Curve;
 
 // An operator on the curve of a part; where the part has none, neither has the whole.
 fn one_after<L: Ledger>(

@@ -1,14 +1,14 @@
 //! An expression by its form, and a statement by its own.
 
 ghost use Rattle.std.specs.Prelude.{◌≡◌};
-ghost use Rattle.curve_script.specs.Views.{expression_view, statement_view};
+ghost use Rattle.input_texts.specs.curve_script.Views.{expression_view, statement_view};
 ghost use Rattle.curve_lang.specs.Forms.{form_view, question_view};
 
-use curve_script::{
+use input_texts::curve_script::{
     CurveOperator, Expr, NumberOperator, NumberPair, NumberTriple, OneAsked, PairOperator, Stat,
     TwoAsked,
 };
-use plain_text::fraction128::Frac;
+use upp_limits::fraction128::Frac;
 
 /// What an expression is made of: numbers, and expressions within it.
 #[derive(Clone, Copy)]

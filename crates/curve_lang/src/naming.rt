@@ -4,10 +4,10 @@ ghost use Rattle.std.specs.Prelude.{◌≡◌, map, IfOk, OnOk, ◌++◌, ◌∷
 ghost use Rattle.curve_lang.specs.Found.{curve_named, NameFinds};
 ghost use Rattle.curve_lang.specs.Views.{let_view, found};
 
-use curve_running::upp_curve::Curve;
-use curve_script::LangKind;
+use input_texts::curve_script::LangKind;
 use std::alloc::{AllocError, Global};
 use std::rc::Rc;
+use upp_limits::upp_curve::Curve;
 
 /// A name that was given, with its curve.
 #[derive(Drop)]

@@ -1,7 +1,7 @@
 //! Answers of questions about curves.
 
 ghost use Rattle.std.specs.Prelude.{◌≡◌, ℕ, Ok};
-ghost use Rattle.curve_script.specs.declared.keyword.TwoAsked.TheVariants as asked;
+ghost use Rattle.input_texts.specs.declared.curve_script.keyword.TwoAsked.TheVariants as asked;
 ghost use Rattle.curve_lang.specs.Answers.{one_answer};
 ghost use Rattle.curve_lang.specs.Finding.{Guarded};
 ghost use Rattle.curve_lang.specs.Found.{TwoFinds, TimeFinds};
@@ -11,14 +11,14 @@ use crate::answer::{Answer, Word};
 use crate::sharing::told_call;
 use crate::values::value_found;
 use curve_deviation::{horizontal, vertical};
-use curve_running::curve_pointwise::min;
-use curve_running::upp_curve::{Curve, equal};
-use curve_script::{LangKind, OneAsked, TwoAsked};
-use plain_text::fraction128::{Frac, is_less};
+use input_texts::curve_script::{LangKind, OneAsked, TwoAsked};
+use plain_operators::pointwise::min;
 use std::alloc::Global;
 use std::rc::Rc;
 use std::sync::ledger::Ledger;
 use steps::Steps;
+use upp_limits::fraction128::{Frac, is_less};
+use upp_limits::upp_curve::{Curve, equal};
 
 /// The answer of a question about the value at a time.
 pub(crate) fn value_told(f: &Curve, t: Frac) -> Result<Answer, LangKind>

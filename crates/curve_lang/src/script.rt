@@ -1,8 +1,8 @@
 //! The answers of a script, statement by statement.
 
 ghost use Rattle.std.specs.Prelude.{◌≡◌, map, [], IfOk};
-ghost use Rattle.curve_script.specs.Views.{expression_view, statement_view};
-ghost use Rattle.curve_script.specs.Scripts.{line_view};
+ghost use Rattle.input_texts.specs.curve_script.Views.{expression_view, statement_view};
+ghost use Rattle.input_texts.specs.curve_script.Scripts.{line_view};
 ghost use Rattle.curve_lang.specs.After.{AskedAfter};
 ghost use Rattle.curve_lang.specs.Answers.{ScriptMeans};
 ghost use Rattle.curve_lang.specs.Found.{ScriptFinds, AsksTime, AsksOf, AsksBoth, fault_at};
@@ -14,13 +14,13 @@ use crate::expressions::curve_of;
 use crate::form::{Question, question_of};
 use crate::naming::{Named, give_name, is_given};
 use crate::questions::{one_told, two_told, value_told};
-use curve_running::upp_curve::Curve;
-use curve_script::{Expr, LangFault, LangKind, OneAsked, Script, Stat, TwoAsked};
-use plain_text::fraction128::Frac;
+use input_texts::curve_script::{Expr, LangFault, LangKind, OneAsked, Script, Stat, TwoAsked};
 use std::alloc::Global;
 use std::rc::Rc;
 use std::sync::ledger::Ledger;
 use steps::Steps;
+use upp_limits::fraction128::Frac;
+use upp_limits::upp_curve::Curve;
 
 // Gives a new name to the curve of an expression.
 fn give<L: Ledger>(

@@ -6,11 +6,11 @@ ghost use Rattle.curve_lang.specs.Sharing.{KindKept, CallKept, told_kind, told_c
 ghost use Rattle.curve_lang.specs.Views.{found};
 
 use curve_library::{CurveFault, OverLimit};
-use curve_running::upp_curve::Curve;
-use curve_running::upp_limits::OpFault;
-use curve_script::LangKind;
+use input_texts::curve_script::LangKind;
 use std::alloc::Global;
 use std::rc::Rc;
+use upp_limits::OpFault;
+use upp_limits::upp_curve::Curve;
 
 /// The curve, to be shared from now on.
 pub(crate) fn shared(alloc: Global, curve: Curve) -> Result<Rc<Curve>, LangKind>

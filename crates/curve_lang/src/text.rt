@@ -2,20 +2,20 @@
 
 ghost use Rattle.std.specs.Prelude.{◌≡◌, ◌++◌, map, OnOk, IfOk, Some};
 ghost use Rattle.std.specs.List.{flat_map};
-ghost use Rattle.curve_running.specs.affine_segment.specs.Pieces.{Each};
+ghost use Rattle.upp_limits.specs.upp_curve.specs.affine_segment.Pieces.{Each};
 ghost use Rattle.curve_lang.specs.Answers.{NumberIs, TruthIs};
-ghost use Rattle.curve_running.specs.affine_segment.specs.Fits.{LineFitsAt};
-ghost use Rattle.plain_text.specs.fraction128.specs.Text.{text_of};
-ghost use Rattle.plain_text.specs.Numbers.{number_text};
+ghost use Rattle.upp_limits.specs.upp_curve.specs.affine_segment.Fits.{LineFitsAt};
+ghost use Rattle.upp_limits.specs.fraction128.specs.Text.{text_of};
+ghost use Rattle.input_texts.specs.plain_text.Numbers.{number_text};
 ghost use Rattle.curve_lang.specs.Texts.{word_text, truth_text, after_text, piece_text, tail_text, ranked_text, step_text, repeated_text, curve_text, answer_text, answers_text};
 ghost use Rattle.curve_lang.specs.Views.{answer_view};
 
 use crate::answer::{Answer, Word};
-use curve_running::affine_segment::{Line, Piece, line_value};
-use curve_running::upp_curve::{Curve, Tail};
-use min_plus::rational::Extended;
-use plain_text::fraction128::{Ext, Frac};
 use std::alloc::{AllocError, Global};
+use upp_limits::fraction128::{Ext, Frac};
+use upp_limits::rational::Extended;
+use upp_limits::upp_curve::affine_segment::{Line, Piece, line_value};
+use upp_limits::upp_curve::{Curve, Tail};
 
 fn word_text(word: Word) -> &'static str
     ensures { result.now ≡ word_text word }

@@ -1,12 +1,12 @@
 -- From what each answer says to which answer comes when.
 use Rattle.std.specs.Prelude.{◌≢◌, ◌≤◌, ◌^◌, Result, Ok, Err, IfOk}
 use Rattle.std.proofs.Common.{arith, sym, ap, refl, subst}
-use Rattle.upp_normal.specs.upp_curve.specs.Curve.{SpecCurve}
-use Rattle.upp_normal.specs.upp_limits.specs.Limits.{own_tally}
-use Rattle.upp_normal.specs.upp_limits.specs.declared.own_limits.OverLimit.{OverLimit}
-use Rattle.upp_normal.specs.upp_limits.specs.declared.own_limits.OverLimit.TheVariants.{TooMany, TooWide}
-use Rattle.upp_normal.specs.upp_limits.specs.OwnLimits.{IsOver, IsWithinOwn}
-use Rattle.upp_normal.specs.upp_limits.proofs.OneLimit.{one_limit}
+use Rattle.upp_limits.specs.upp_curve.specs.Curve.{SpecCurve}
+use Rattle.upp_limits.specs.Limits.{own_tally}
+use Rattle.upp_limits.specs.declared.own_limits.OverLimit.{OverLimit}
+use Rattle.upp_limits.specs.declared.own_limits.OverLimit.TheVariants.{TooMany, TooWide}
+use Rattle.upp_limits.specs.OwnLimits.{IsOver, IsWithinOwn}
+use Rattle.upp_limits.proofs.OneLimit.{one_limit}
 use Rattle.curve_library.specs.declared.fault.CurveFault.{CurveFault}
 use Rattle.curve_library.specs.declared.fault.CurveFault.TheVariants.{Negative, ZeroPeriod, NotRising, NotContinuous, NotZeroAtStart, Op, NoMemory}
 use Rattle.curve_library.specs.Causes.{KeepsOwnLimits, Passes, KeepsCauses, AnswersFirst}

@@ -3,7 +3,7 @@ use Rattle.std.specs.Prelude.{◌≡◌, ℕ, ◌+◌, ◌*◌, ◌/◌, ◌%◌
 use Rattle.std.proofs.Common.{arith, sym, ap, ◌∙◌}
 use native.Mathlib.Nat.{mul-le-mul_left, mul-le-mul_right}
 use Rattle.std.proofs.Math.Nat.{div-add-mod, le-div_iff_mul-le}
-use Rattle.upp_normal.specs.upp_limits.proofs.OwnGauge.{large}
+use Rattle.upp_limits.proofs.OwnGauge.{large}
 
 -- twice a quotient
 twice_is : (k m by h r w s : ℕ) → h * by + r ≡ k * m → w * by + s ≡ 2 * h * by + 2 * r → w * by + s ≡ 2 * k * m

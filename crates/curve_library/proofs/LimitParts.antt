@@ -3,30 +3,30 @@ use Rattle.std.specs.Prelude.{◌≡◌, ℕ, zero, suc, ◌+◌, ◌-◌, ◌<�
 use Rattle.std.specs.List.{AllByRecursion}
 use Rattle.std.proofs.Common.{arith, get_or, sym, ap, ◌∙◌, refl, subst, inl, inr}
 use Rattle.std.proofs.lemmas.List.Sums.{sum_by-cons}
-use Rattle.upp_normal.specs.rational.specs.Rational.{ℚ, ◌+ℚ◌, ◌-ℚ◌, ◌/ℚ◌, ◌≤ℚ◌, ◌<ℚ◌, int}
-use Rattle.upp_normal.specs.rational.proofs.Linear.{with3}
-use Rattle.upp_normal.specs.rational.proofs.Laws.{one_mul, le_or_lt}
-use Rattle.upp_normal.specs.rational.proofs.Quotients.{div_le}
-use Rattle.upp_normal.specs.rational.proofs.Over.{lt_q_out}
-use Rattle.upp_normal.specs.rational.proofs.MinMax.{lt_q_not}
-use Rattle.upp_normal.specs.affine_segment.specs.declared.line.Piece.{Piece}
-use Rattle.upp_normal.specs.affine_segment.specs.Pieces.{Each, StartsAtZero, start_after}
-use Rattle.upp_normal.specs.upp_curve.specs.declared.curve.Tail.TheVariants.{Affine}
-use Rattle.upp_normal.specs.upp_curve.specs.Unrolled.{copies_below}
-use Rattle.upp_normal.specs.upp_limits.specs.ClosedForm.{span_numbers, once_numbers, copies_numbers, closed_span, closed_numbers}
-use Rattle.upp_normal.specs.upp_limits.specs.Limits.{no_numbers, sizes_of, curve_numbers, gauge_of, own_end, own_tally, own_gauge}
-use Rattle.upp_normal.specs.upp_limits.specs.OwnWindow.{EndFits, EndsAt, end_from}
-use Rattle.upp_normal.specs.upp_limits.specs.Periods.{HasPeriod}
-use Rattle.upp_normal.specs.upp_limits.specs.Seen.{Knows, SpanFits}
-use Rattle.upp_normal.specs.upp_limits.specs.Spans.{Span, once, number_below, piece_read, end_of, spans}
-use Rattle.upp_normal.specs.upp_limits.proofs.Copies.{copies_out, plus_zero}
-use Rattle.upp_normal.specs.upp_limits.proofs.CurveStands.{starts_below_own_end}
-use Rattle.upp_normal.specs.upp_limits.proofs.FewCopies.{affine_few, periodic_few, end_is}
-use Rattle.upp_normal.specs.upp_limits.proofs.PieceCounts.{count_is_sum}
-use Rattle.upp_normal.specs.upp_limits.proofs.OwnGauge.{end_place, no_end_large, own_gauge_is, unknown_large}
-use Rattle.upp_normal.specs.upp_limits.proofs.PieceLists.{every_at, next_span}
-use Rattle.upp_normal.specs.upp_limits.proofs.Rounding.{whole_up_most}
-use Rattle.upp_normal.specs.upp_limits.proofs.SameSizes.{equals_curve, same_gauge}
+use Rattle.upp_limits.specs.rational.specs.Rational.{ℚ, ◌+ℚ◌, ◌-ℚ◌, ◌/ℚ◌, ◌≤ℚ◌, ◌<ℚ◌, int}
+use Rattle.upp_limits.specs.rational.proofs.Linear.{with3}
+use Rattle.upp_limits.specs.rational.proofs.Laws.{one_mul, le_or_lt}
+use Rattle.upp_limits.specs.rational.proofs.Quotients.{div_le}
+use Rattle.upp_limits.specs.rational.proofs.Over.{lt_q_out}
+use Rattle.upp_limits.specs.rational.proofs.MinMax.{lt_q_not}
+use Rattle.upp_limits.specs.upp_curve.specs.declared.affine_segment.line.Piece.{Piece}
+use Rattle.upp_limits.specs.upp_curve.specs.affine_segment.Pieces.{Each, StartsAtZero, start_after}
+use Rattle.upp_limits.specs.upp_curve.specs.declared.curve.Tail.TheVariants.{Affine}
+use Rattle.upp_limits.specs.upp_curve.specs.Unrolled.{copies_below}
+use Rattle.upp_limits.specs.ClosedForm.{span_numbers, once_numbers, copies_numbers, closed_span, closed_numbers}
+use Rattle.upp_limits.specs.Limits.{no_numbers, sizes_of, curve_numbers, gauge_of, own_end, own_tally, own_gauge}
+use Rattle.upp_limits.specs.OwnWindow.{EndFits, EndsAt, end_from}
+use Rattle.upp_limits.specs.Periods.{HasPeriod}
+use Rattle.upp_limits.specs.Seen.{Knows, SpanFits}
+use Rattle.upp_limits.specs.Spans.{Span, once, number_below, piece_read, end_of, spans}
+use Rattle.upp_limits.proofs.Copies.{copies_out, plus_zero}
+use Rattle.upp_limits.proofs.CurveStands.{starts_below_own_end}
+use Rattle.upp_limits.proofs.FewCopies.{affine_few, periodic_few, end_is}
+use Rattle.upp_limits.proofs.PieceCounts.{count_is_sum}
+use Rattle.upp_limits.proofs.OwnGauge.{end_place, no_end_large, own_gauge_is, unknown_large}
+use Rattle.upp_limits.proofs.PieceLists.{every_at, next_span}
+use Rattle.upp_limits.proofs.Rounding.{whole_up_most}
+use Rattle.upp_limits.proofs.SameSizes.{equals_curve, same_gauge}
 use Rattle.curve_library.specs.declared.texts.PieceText.{PieceText}
 use Rattle.curve_library.specs.declared.texts.TailText.{TailText}
 use Rattle.curve_library.specs.Listed.{text_piece, text_pieces, text_tail, last_from, last_start, listed_curve, HasLength, TextFits, IsWellFormed}

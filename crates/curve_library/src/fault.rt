@@ -1,6 +1,6 @@
 //! Why a curve could not be built.
 
-use upp_normal::upp_limits::OverLimit;
+use upp_limits::OverLimit;
 
 /// Why a call that builds a curve refuses. The first that applies, in this order, is answered.
 #[derive(Debug, Clone, Copy, PartialEq, Eq)]

@@ -1,13 +1,13 @@
 //! Gates.
 
 ghost use Rattle.std.specs.Prelude.{◌≡◌, ◌≢◌, ◌≤◌, ◌^◌, IfOk, Err, MatchOption};
-ghost use Rattle.upp_normal.specs.rational.specs.Rational.{ℚ, ◌≤ℚ◌, ◌<ℚ◌};
-ghost use Rattle.upp_normal.specs.upp_curve.specs.Curve.{value_at};
-ghost use Rattle.upp_normal.specs.min_plus.specs.Functions.{zero_q};
-ghost use Rattle.upp_normal.specs.upp_curve.specs.Kinds.{gated, gate};
-ghost use Rattle.upp_normal.specs.min_plus.specs.Formulas.{gate_value};
-ghost use Rattle.upp_normal.specs.upp_limits.specs.Limits.{own_gauge};
-ghost use Rattle.upp_normal.specs.upp_limits.specs.declared.own_limits.OverLimit.TheVariants.{TooMany};
+ghost use Rattle.upp_limits.specs.rational.specs.Rational.{ℚ, ◌≤ℚ◌, ◌<ℚ◌};
+ghost use Rattle.upp_limits.specs.upp_curve.specs.Curve.{value_at};
+ghost use Rattle.upp_limits.specs.min_plus.specs.Functions.{zero_q};
+ghost use Rattle.upp_limits.specs.upp_curve.specs.Kinds.{gated, gate};
+ghost use Rattle.upp_limits.specs.min_plus.specs.Formulas.{gate_value};
+ghost use Rattle.upp_limits.specs.Limits.{own_gauge};
+ghost use Rattle.upp_limits.specs.declared.own_limits.OverLimit.TheVariants.{TooMany};
 ghost use Rattle.curve_library.specs.Causes.{OneNegative, NoSlot, KeepsOwnLimits, KeepsCauses, AnswersFirst};
 ghost use Rattle.curve_library.specs.Parts.{AreGateNumbers};
 
@@ -15,9 +15,9 @@ use crate::fault::CurveFault;
 use crate::formed::{flat, of_normal, piece, straight};
 use crate::signs::{is_negative, is_positive};
 use std::alloc::Global;
-use upp_normal::fraction128::{Frac, is_less};
-use upp_normal::upp_curve::{Curve, Tail};
-use upp_normal::upp_limits::OverLimit;
+use upp_limits::OverLimit;
+use upp_limits::fraction128::{Frac, is_less};
+use upp_limits::upp_curve::{Curve, Tail};
 
 /// How long a gate is closed in each cycle, what its rate would make in that time, and what it makes in a slot.
 #[derive(Debug, Clone, Copy)]

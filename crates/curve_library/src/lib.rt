@@ -22,4 +22,4 @@ pub use latencies::rate_latency;
 pub use listing::listed;
 pub use stairs::stair;
 pub use texts::{PieceText, TailText, UseAs};
-pub use upp_normal::upp_limits::OverLimit;
+pub use upp_limits::OverLimit;

@@ -1,9 +1,9 @@
 //! A curve that is listed piece by piece.
 
 ghost use Rattle.std.specs.Prelude.{◌≡◌, ◌↔◌, IsTrue, Err};
-ghost use Rattle.upp_normal.specs.upp_curve.specs.Curve.{SpecCurve, value_at};
-ghost use Rattle.upp_normal.specs.min_plus.specs.Functions.{zero_q, IsRising};
-ghost use Rattle.upp_normal.specs.upp_curve.specs.Normal.{IsRaw};
+ghost use Rattle.upp_limits.specs.upp_curve.specs.Curve.{SpecCurve, value_at};
+ghost use Rattle.upp_limits.specs.min_plus.specs.Functions.{zero_q, IsRising};
+ghost use Rattle.upp_limits.specs.upp_curve.specs.Normal.{IsRaw};
 ghost use Rattle.curve_library.specs.Listed.{listed_curve, IsWellFormed, KeepsMade, KeepsShape, KeepsBoth, KeepsListed, ListsFirst};
 ghost use Rattle.curve_library.specs.declared.texts.UseAs.{UseAs};
 ghost use Rattle.curve_library.specs.declared.texts.UseAs.TheVariants.{Service};
@@ -15,11 +15,11 @@ use crate::texts::{
     PieceText, TailText, UseAs, are_nonneg, has_length, is_nonneg_tail, starts_below, starts_rise,
 };
 use std::alloc::Global;
-use upp_normal::affine_segment::Piece;
-use upp_normal::fraction128::{Ext, Frac};
-use upp_normal::rational::Extended;
-use upp_normal::upp_curve::{Curve, Tail, is_continuous};
-use upp_normal::upp_limits::{OpFault, OverLimit};
+use upp_limits::fraction128::{Ext, Frac};
+use upp_limits::rational::Extended;
+use upp_limits::upp_curve::affine_segment::Piece;
+use upp_limits::upp_curve::{Curve, Tail, is_continuous};
+use upp_limits::{OpFault, OverLimit};
 use upp_normal::{RawCurve, normalise};
 
 // The curve of pieces in any form, where it is under the limits.

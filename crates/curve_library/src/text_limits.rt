@@ -2,26 +2,26 @@
 
 ghost use Rattle.std.specs.Prelude.{◌≡◌, ◌↔◌, ◌+◌, ◌<◌, ◌^◌, List, [], ◌∷◌, drop, length, IfSome, IsSome, IsTrue, MatchOption};
 ghost use Rattle.std.specs.List.{AllByRecursion};
-ghost use Rattle.upp_normal.specs.rational.specs.Rational.{◌<ℚ◌};
-ghost use Rattle.upp_normal.specs.affine_segment.specs.Pieces.{Each, start_after};
-ghost use Rattle.upp_normal.specs.upp_limits.specs.ClosedForm.{closed_spans, span_numbers, tail_numbers};
-ghost use Rattle.upp_normal.specs.upp_limits.specs.Gathered.{Gathers};
-ghost use Rattle.upp_normal.specs.upp_limits.specs.Limits.{Numbers, joined, time_alone, sizes_of, gauge_of, own_end, own_gauge};
-ghost use Rattle.upp_normal.specs.upp_limits.specs.OwnLimits.{IsOver, IsWithinOwn};
-ghost use Rattle.upp_normal.specs.upp_limits.specs.OwnWindow.{EndFits, EndsAt, end_from};
-ghost use Rattle.upp_normal.specs.upp_limits.specs.Seen.{Knows, SpanFits};
-ghost use Rattle.upp_normal.specs.upp_limits.specs.Spans.{Span, end_of, spans};
+ghost use Rattle.upp_limits.specs.rational.specs.Rational.{◌<ℚ◌};
+ghost use Rattle.upp_limits.specs.upp_curve.specs.affine_segment.Pieces.{Each, start_after};
+ghost use Rattle.upp_limits.specs.ClosedForm.{closed_spans, span_numbers, tail_numbers};
+ghost use Rattle.upp_limits.specs.Gathered.{Gathers};
+ghost use Rattle.upp_limits.specs.Limits.{Numbers, joined, time_alone, sizes_of, gauge_of, own_end, own_gauge};
+ghost use Rattle.upp_limits.specs.OwnLimits.{IsOver, IsWithinOwn};
+ghost use Rattle.upp_limits.specs.OwnWindow.{EndFits, EndsAt, end_from};
+ghost use Rattle.upp_limits.specs.Seen.{Knows, SpanFits};
+ghost use Rattle.upp_limits.specs.Spans.{Span, end_of, spans};
 ghost use Rattle.curve_library.specs.declared.texts.PieceText.{PieceText};
 ghost use Rattle.curve_library.specs.Listed.{text_piece, text_pieces, text_tail, listed_curve, HasLength, TextFits, IsWellFormed};
 
 use crate::text_pieces::{last_start_of, piece_of};
 use crate::texts::{PieceText, TailText};
-use upp_normal::affine_segment::Piece;
-use upp_normal::fraction128::Frac;
-use upp_normal::upp_curve::Tail;
-use upp_normal::upp_limits::gathered::Gathered;
-use upp_normal::upp_limits::gauges::{product, reach};
-use upp_normal::upp_limits::{OverLimit, keeps_line, later_unless};
+use upp_limits::fraction128::Frac;
+use upp_limits::gathered::Gathered;
+use upp_limits::gauges::{product, reach};
+use upp_limits::upp_curve::Tail;
+use upp_limits::upp_curve::affine_segment::Piece;
+use upp_limits::{OverLimit, keeps_line, later_unless};
 
 // ---- the window
 // Where the window of a curve ends whose last piece goes on for ever: 1 after the time from when on it is a line.

@@ -1,23 +1,23 @@
 -- A copy of an operand's window as pieces: what is read of it, where its pieces stand, and that its steps fit.
 use Rattle.std.specs.Prelude.{◌≡◌, ◌*◌, pos, List, [], ◌∷◌, ◌++◌, Option, Some, None}
 use Rattle.std.proofs.Common.{arith, sym, ap, ◌∙◌, refl, subst, inl, inr}
-use Rattle.curve_call.specs.rational.specs.Rational.{ℚ, ◌+ℚ◌, ◌-ℚ◌, ◌*ℚ◌, ◌≤ℚ◌, ◌<ℚ◌, int}
-use Rattle.curve_call.specs.rational.specs.Ratio.{SumFits}
-use Rattle.curve_call.specs.rational.specs.Extended.{Ext, ◌+ₑ◌}
-use Rattle.curve_call.specs.rational.specs.declared.Extended.TheVariants.{Fin, Inf}
-use Rattle.curve_call.specs.rational.proofs.Grid.{whole_add, whole_sub}
-use Rattle.curve_call.specs.rational.proofs.Linear.{with2, with3}
-use Rattle.curve_call.specs.rational.proofs.Laws.{le_or_lt, lt_irrefl, lt_le_trans}
-use Rattle.curve_call.specs.affine_segment.specs.declared.line.Line.{Line}
-use Rattle.curve_call.specs.affine_segment.specs.declared.line.Piece.{Piece}
-use Rattle.curve_call.specs.affine_segment.specs.Pieces.{Each, RisesFrom, StartsAtZero}
-use Rattle.curve_call.specs.affine_segment.specs.Reading.{read, nothing_at}
-use Rattle.curve_call.specs.affine_segment.proofs.PieceOrder.{each_append, each_map}
-use Rattle.curve_call.specs.upp_curve.specs.Fitting.{LaterFits}
-use Rattle.curve_call.specs.upp_curve.specs.Unrolled.{line_later, later, each_later, upto}
-use Rattle.curve_call.specs.upp_curve.proofs.Unique.{upto_some}
-use Rattle.curve_call.specs.upp_limits.specs.Limits.{Sizes}
-use Rattle.curve_call.specs.upp_limits.specs.Sized.{grid_of}
+use Rattle.upp_limits.specs.rational.specs.Rational.{ℚ, ◌+ℚ◌, ◌-ℚ◌, ◌*ℚ◌, ◌≤ℚ◌, ◌<ℚ◌, int}
+use Rattle.upp_limits.specs.rational.specs.Ratio.{SumFits}
+use Rattle.upp_limits.specs.rational.specs.Extended.{Ext, ◌+ₑ◌}
+use Rattle.upp_limits.specs.rational.specs.declared.Extended.TheVariants.{Fin, Inf}
+use Rattle.upp_limits.specs.rational.proofs.Grid.{whole_add, whole_sub}
+use Rattle.upp_limits.specs.rational.proofs.Linear.{with2, with3}
+use Rattle.upp_limits.specs.rational.proofs.Laws.{le_or_lt, lt_irrefl, lt_le_trans}
+use Rattle.upp_limits.specs.upp_curve.specs.declared.affine_segment.line.Line.{Line}
+use Rattle.upp_limits.specs.upp_curve.specs.declared.affine_segment.line.Piece.{Piece}
+use Rattle.upp_limits.specs.upp_curve.specs.affine_segment.Pieces.{Each, RisesFrom, StartsAtZero}
+use Rattle.upp_limits.specs.upp_curve.specs.affine_segment.Reading.{read, nothing_at}
+use Rattle.upp_limits.specs.upp_curve.proofs.affine_segment.PieceOrder.{each_append, each_map}
+use Rattle.upp_limits.specs.upp_curve.specs.Fitting.{LaterFits}
+use Rattle.upp_limits.specs.upp_curve.specs.Unrolled.{line_later, later, each_later, upto}
+use Rattle.upp_limits.specs.upp_curve.proofs.Unique.{upto_some}
+use Rattle.upp_limits.specs.Limits.{Sizes}
+use Rattle.upp_limits.specs.Sized.{grid_of}
 use Rattle.curve_call.specs.upp_normal.specs.Ahead.{GridValue, IsGridValue}
 use Rattle.curve_call.specs.upp_normal.specs.Operand.{AreLimited, OperandLineAt, answer_room}
 use Rattle.curve_call.specs.upp_normal.specs.Room.{PieceHasRoom}

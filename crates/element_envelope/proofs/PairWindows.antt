@@ -2,25 +2,25 @@
 use Rattle.std.specs.Prelude.{◌*◌, pos, Bool, true, false, cond, List, [], ◌∷◌, Option, Some, None}
 use native.Mathlib.Nat.{mul-dvd-mul_right}
 use Rattle.std.proofs.Common.{arith, sym, ◌∙◌, refl, subst, inl}
-use Rattle.curve_call.specs.rational.specs.Rational.{ℚ, ◌+ℚ◌, ◌≤ℚ◌, ◌<ℚ◌, int, le_q}
-use Rattle.curve_call.specs.rational.specs.Extended.{Ext}
-use Rattle.curve_call.specs.rational.specs.declared.Extended.TheVariants.{Fin, Inf}
-use Rattle.curve_call.specs.rational.specs.Grid.{Whole}
-use Rattle.curve_call.specs.rational.proofs.Grid.{whole_int, whole_weaken, within_weaken}
-use Rattle.curve_call.specs.rational.proofs.Laws.{le_refl}
-use Rattle.curve_call.specs.rational.proofs.Linear.{with2}
-use Rattle.curve_call.specs.affine_segment.specs.declared.line.Piece.{Piece}
-use Rattle.curve_call.specs.affine_segment.specs.declared.element.Element.{Element}
-use Rattle.curve_call.specs.affine_segment.specs.declared.element.Element.TheVariants.{Point, Open}
-use Rattle.curve_call.specs.affine_segment.specs.declared.element.Joined.{Joined}
-use Rattle.curve_call.specs.affine_segment.specs.Elements.{start_of, joined_value, IsConvolved}
-use Rattle.curve_call.specs.affine_segment.specs.MadeParts.{AreParts}
-use Rattle.curve_call.specs.affine_segment.specs.Pieces.{Each}
-use Rattle.curve_call.specs.affine_segment.specs.Reading.{read, nothing_at}
-use Rattle.curve_call.specs.upp_limits.specs.Limits.{Sizes}
-use Rattle.curve_call.specs.upp_limits.specs.Sized.{times_largest}
+use Rattle.upp_limits.specs.rational.specs.Rational.{ℚ, ◌+ℚ◌, ◌≤ℚ◌, ◌<ℚ◌, int, le_q}
+use Rattle.upp_limits.specs.rational.specs.Extended.{Ext}
+use Rattle.upp_limits.specs.rational.specs.declared.Extended.TheVariants.{Fin, Inf}
+use Rattle.upp_limits.specs.rational.specs.Grid.{Whole}
+use Rattle.upp_limits.specs.rational.proofs.Grid.{whole_int, whole_weaken, within_weaken}
+use Rattle.upp_limits.specs.rational.proofs.Laws.{le_refl}
+use Rattle.upp_limits.specs.rational.proofs.Linear.{with2}
+use Rattle.upp_limits.specs.upp_curve.specs.declared.affine_segment.line.Piece.{Piece}
+use Rattle.upp_limits.specs.upp_curve.specs.declared.affine_segment.element.Element.{Element}
+use Rattle.upp_limits.specs.upp_curve.specs.declared.affine_segment.element.Element.TheVariants.{Point, Open}
+use Rattle.upp_limits.specs.upp_curve.specs.declared.affine_segment.element.Joined.{Joined}
+use Rattle.upp_limits.specs.upp_curve.specs.affine_segment.Elements.{start_of, joined_value, IsConvolved}
+use Rattle.upp_limits.specs.upp_curve.specs.affine_segment.MadeParts.{AreParts}
+use Rattle.upp_limits.specs.upp_curve.specs.affine_segment.Pieces.{Each}
+use Rattle.upp_limits.specs.upp_curve.specs.affine_segment.Reading.{read, nothing_at}
+use Rattle.upp_limits.specs.Limits.{Sizes}
+use Rattle.upp_limits.specs.Sized.{times_largest}
 use Rattle.curve_call.specs.upp_normal.proofs.AnswerRoom.{more_largest}
-use Rattle.curve_call.specs.upp_curve.specs.Unrolled.{upto}
+use Rattle.upp_limits.specs.upp_curve.specs.Unrolled.{upto}
 use Rattle.curve_call.specs.upp_normal.proofs.Below.{plain_upto}
 use Rattle.curve_call.specs.upp_normal.proofs.NormaliseCuts.{zero_upto}
 use Rattle.curve_call.specs.upp_normal.proofs.NormaliseLists.{each_upto}
@@ -33,8 +33,8 @@ use Rattle.element_envelope.specs.EnvelopeWindows.{EnvelopeRoom, IsEnvelopeWindo
 use Rattle.element_envelope.proofs.ElementSizes.{parts_stand}
 use Rattle.element_envelope.proofs.Envelopes.{envelope_rules}
 use Rattle.element_envelope.proofs.Arching.{same_arches, joined_arches}
-use Rattle.curve_call.specs.affine_segment.proofs.PieceOrder.{each_append}
-use Rattle.curve_call.specs.upp_limits.proofs.PieceCounts.{upto_early}
+use Rattle.upp_limits.specs.upp_curve.proofs.affine_segment.PieceOrder.{each_append}
+use Rattle.upp_limits.proofs.PieceCounts.{upto_early}
 
 -- ---- pieces that may start past the end
 pub record LatePiece (z : Sizes) (p : Piece) : Type 0 where

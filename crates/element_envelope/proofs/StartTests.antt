@@ -1,13 +1,13 @@
 -- What a test of a value against a line tells; and pieces that are left out one after another.
 use Rattle.std.specs.Prelude.{◌≡◌, ◌↔◌, ◌⊎◌, Bool, true, false, not, IsTrue, List, [], ◌∷◌, ◌++◌, Option, Some, None}
 use Rattle.std.proofs.Common.{true≢false, refl, sym, ap, ◌∙◌, subst, inl, inr, append_assoc, append-nil}
-use Rattle.curve_call.specs.rational.specs.Rational.{ℚ, ◌≤ℚ◌, ◌<ℚ◌}
-use Rattle.curve_call.specs.rational.specs.Extended.{Ext, ◌≤ₑ◌}
-use Rattle.curve_call.specs.rational.specs.declared.Extended.TheVariants.{Fin}
-use Rattle.curve_call.specs.rational.proofs.Compared.{not_less_out}
-use Rattle.curve_call.specs.affine_segment.specs.declared.line.Line.{Line}
-use Rattle.curve_call.specs.affine_segment.specs.declared.line.Piece.{Piece}
-use Rattle.curve_call.specs.affine_segment.specs.Values.{line_at, line_value}
+use Rattle.upp_limits.specs.rational.specs.Rational.{ℚ, ◌≤ℚ◌, ◌<ℚ◌}
+use Rattle.upp_limits.specs.rational.specs.Extended.{Ext, ◌≤ₑ◌}
+use Rattle.upp_limits.specs.rational.specs.declared.Extended.TheVariants.{Fin}
+use Rattle.upp_limits.specs.rational.proofs.Compared.{not_less_out}
+use Rattle.upp_limits.specs.upp_curve.specs.declared.affine_segment.line.Line.{Line}
+use Rattle.upp_limits.specs.upp_curve.specs.declared.affine_segment.line.Piece.{Piece}
+use Rattle.upp_limits.specs.upp_curve.specs.affine_segment.Values.{line_at, line_value}
 use Rattle.element_envelope.specs.Turnings.{BendsDown, IsThinned}
 
 pub is_false : (b : Bool) → IsTrue (not b) → b ≡ false

@@ -1,15 +1,15 @@
 -- Where the elements of an operand's window stand, and where what two of them make stands. Own choice.
 use Rattle.std.specs.Prelude.{pos, Option, Some, None}
-use Rattle.curve_call.specs.rational.specs.Rational.{ℚ, ◌+ℚ◌, ◌≤ℚ◌, int}
-use Rattle.curve_call.specs.rational.specs.Extended.{Ext}
-use Rattle.curve_call.specs.rational.specs.declared.Extended.TheVariants.{Fin, Inf}
-use Rattle.curve_call.specs.rational.specs.Grid.{Whole, Within}
-use Rattle.curve_call.specs.affine_segment.specs.declared.line.Line.{Line}
-use Rattle.curve_call.specs.affine_segment.specs.declared.element.Element.{Element}
-use Rattle.curve_call.specs.affine_segment.specs.declared.element.Element.TheVariants.{Point, Open}
-use Rattle.curve_call.specs.affine_segment.specs.declared.element.Joined.{Joined}
-use Rattle.curve_call.specs.upp_limits.specs.Limits.{Sizes}
-use Rattle.curve_call.specs.upp_limits.specs.Sized.{IsSlope, grid_of, times_largest}
+use Rattle.upp_limits.specs.rational.specs.Rational.{ℚ, ◌+ℚ◌, ◌≤ℚ◌, int}
+use Rattle.upp_limits.specs.rational.specs.Extended.{Ext}
+use Rattle.upp_limits.specs.rational.specs.declared.Extended.TheVariants.{Fin, Inf}
+use Rattle.upp_limits.specs.rational.specs.Grid.{Whole, Within}
+use Rattle.upp_limits.specs.upp_curve.specs.declared.affine_segment.line.Line.{Line}
+use Rattle.upp_limits.specs.upp_curve.specs.declared.affine_segment.element.Element.{Element}
+use Rattle.upp_limits.specs.upp_curve.specs.declared.affine_segment.element.Element.TheVariants.{Point, Open}
+use Rattle.upp_limits.specs.upp_curve.specs.declared.affine_segment.element.Joined.{Joined}
+use Rattle.upp_limits.specs.Limits.{Sizes}
+use Rattle.upp_limits.specs.Sized.{IsSlope, grid_of, times_largest}
 use Rattle.curve_call.specs.upp_normal.specs.Ahead.{IsGridValue}
 use Rattle.curve_call.specs.upp_normal.specs.Operand.{AreLimited, OperandLine}
 

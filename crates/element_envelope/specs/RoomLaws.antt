@@ -1,12 +1,12 @@
 -- The elements of operands have room, and so has what two of them make. Own choice.
 use Rattle.std.specs.Prelude.{List}
-use Rattle.curve_call.specs.rational.specs.Rational.{ℚ}
-use Rattle.curve_call.specs.rational.specs.Extended.{Ext}
-use Rattle.curve_call.specs.affine_segment.specs.declared.line.Piece.{Piece}
-use Rattle.curve_call.specs.affine_segment.specs.declared.element.Element.{Element}
-use Rattle.curve_call.specs.affine_segment.specs.declared.element.Joined.{Joined}
-use Rattle.curve_call.specs.affine_segment.specs.MadeParts.{AreParts}
-use Rattle.curve_call.specs.upp_limits.specs.Limits.{Sizes}
+use Rattle.upp_limits.specs.rational.specs.Rational.{ℚ}
+use Rattle.upp_limits.specs.rational.specs.Extended.{Ext}
+use Rattle.upp_limits.specs.upp_curve.specs.declared.affine_segment.line.Piece.{Piece}
+use Rattle.upp_limits.specs.upp_curve.specs.declared.affine_segment.element.Element.{Element}
+use Rattle.upp_limits.specs.upp_curve.specs.declared.affine_segment.element.Joined.{Joined}
+use Rattle.upp_limits.specs.upp_curve.specs.affine_segment.MadeParts.{AreParts}
+use Rattle.upp_limits.specs.Limits.{Sizes}
 use Rattle.curve_call.specs.upp_normal.specs.Operand.{AreLimited, OperandPieces}
 use Rattle.element_envelope.specs.PieceElements.{elements_of, Among}
 use Rattle.element_envelope.specs.ElementRoom.{WindowEnd, OperandElement, SumJoined}

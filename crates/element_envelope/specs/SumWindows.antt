@@ -1,15 +1,15 @@
 -- Windows of what elements make: where their pieces start, and where their values and lines stand. Own choice.
 use Rattle.std.specs.Prelude.{ℕ, ◌*◌, ◌⊎◌, pos, List, Option, Some, None}
 use Prim.Native.Nat.{◌∣◌}
-use Rattle.curve_call.specs.rational.specs.Rational.{ℚ, ◌≤ℚ◌, ◌<ℚ◌, int}
-use Rattle.curve_call.specs.rational.specs.Extended.{Ext}
-use Rattle.curve_call.specs.rational.specs.declared.Extended.TheVariants.{Fin, Inf}
-use Rattle.curve_call.specs.rational.specs.Grid.{Whole, Within}
-use Rattle.curve_call.specs.affine_segment.specs.declared.line.Line.{Line}
-use Rattle.curve_call.specs.affine_segment.specs.declared.line.Piece.{Piece}
-use Rattle.curve_call.specs.upp_limits.specs.Limits.{Sizes}
-use Rattle.curve_call.specs.affine_segment.specs.Pieces.{Each, StartsAtZero}
-use Rattle.curve_call.specs.upp_limits.specs.Sized.{times_largest}
+use Rattle.upp_limits.specs.rational.specs.Rational.{ℚ, ◌≤ℚ◌, ◌<ℚ◌, int}
+use Rattle.upp_limits.specs.rational.specs.Extended.{Ext}
+use Rattle.upp_limits.specs.rational.specs.declared.Extended.TheVariants.{Fin, Inf}
+use Rattle.upp_limits.specs.rational.specs.Grid.{Whole, Within}
+use Rattle.upp_limits.specs.upp_curve.specs.declared.affine_segment.line.Line.{Line}
+use Rattle.upp_limits.specs.upp_curve.specs.declared.affine_segment.line.Piece.{Piece}
+use Rattle.upp_limits.specs.Limits.{Sizes}
+use Rattle.upp_limits.specs.upp_curve.specs.affine_segment.Pieces.{Each, StartsAtZero}
+use Rattle.upp_limits.specs.Sized.{times_largest}
 use Rattle.curve_call.specs.upp_normal.proofs.AnswerRoom.{IsCrossing}
 use Rattle.element_envelope.specs.ElementRoom.{SumLine}
 

@@ -1,8 +1,8 @@
 -- The lower of two windows of what elements make. Own choice.
 use Rattle.std.specs.Prelude.{List}
-use Rattle.curve_call.specs.rational.specs.Rational.{ℚ}
-use Rattle.curve_call.specs.affine_segment.specs.declared.line.Piece.{Piece}
-use Rattle.curve_call.specs.upp_limits.specs.Limits.{Sizes}
+use Rattle.upp_limits.specs.rational.specs.Rational.{ℚ}
+use Rattle.upp_limits.specs.upp_curve.specs.declared.affine_segment.line.Piece.{Piece}
+use Rattle.upp_limits.specs.Limits.{Sizes}
 use Rattle.curve_call.specs.upp_normal.specs.Operand.{AreLimited}
 use Rattle.curve_call.specs.Stretches.{CutsFit}
 use Rattle.curve_call.specs.Lower.{LowerFits, IsLowerOf}

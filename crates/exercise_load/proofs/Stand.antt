@@ -10,22 +10,22 @@ use Rattle.std.proofs.lemmas.List.{get_or-map, length-map}
 use Rattle.std.proofs.lemmas.List.Folds.{list_all-append}
 use Rattle.std.proofs.lemmas.List.FromFn.{get_or-range_with_len, length-range_with_len, get_or-map-range_with_len, length-map-range_with_len}
 use Rattle.std.proofs.lemmas.Option.{slice_get-get_or, same_Some}
-use Rattle.rational.proofs.Integers.{nat_nonneg, nat_lt}
-use Rattle.rational.proofs.Laws.{le_refl}
-use Rattle.min_plus.specs.Functions.{zero_q}
-use Rattle.run_laws.specs.Servers.{Fifo, Priority, Drr, queue_count}
-use Rattle.net_graph.specs.net_model.specs.Accepted.{IsAccepted, IsServer, IsFlow, IsHop, IsInQuantum, HasFewQueues, IsLength}
-use Rattle.net_graph.specs.net_model.specs.declared.trace.TracePacket.{TracePacket}
-use Rattle.net_graph.specs.net_model.specs.Names.{IsName, is_name_byte, DifferInName}
-use Rattle.net_graph.specs.net_model.specs.Networks.{NetServer, NetFlow}
-use Rattle.net_graph.specs.net_model.specs.declared.flow.Flow.{Flow}
-use Rattle.net_graph.specs.net_model.specs.declared.server.Server.{Server}
-use Rattle.net_graph.specs.net_model.specs.Views.{net_of, servers_of, flows_of}
-use Rattle.net_graph.specs.net_model.specs.Walks.{IsNext, IsStep, Chain, IsFeedForward}
-use Rattle.net_graph.specs.net_model.proofs.KindsStand.{kinds_may_stand}
-use Rattle.net_graph.specs.net_model.proofs.PlainNets.{each_passes}
-use Rattle.net_graph.specs.net_model.proofs.Short.{all_of}
-use Rattle.stated_runs.specs.FromTraces.{IsLive}
+use Rattle.upp_limits.specs.rational.proofs.Integers.{nat_nonneg, nat_lt}
+use Rattle.upp_limits.specs.rational.proofs.Laws.{le_refl}
+use Rattle.upp_limits.specs.min_plus.specs.Functions.{zero_q}
+use Rattle.net_model.specs.run_laws.specs.Servers.{Fifo, Priority, Drr, queue_count}
+use Rattle.net_model.specs.Accepted.{IsAccepted, IsServer, IsFlow, IsHop, IsInQuantum, HasFewQueues, IsLength}
+use Rattle.net_model.specs.declared.trace.TracePacket.{TracePacket}
+use Rattle.net_model.specs.Names.{IsName, is_name_byte, DifferInName}
+use Rattle.net_model.specs.Networks.{NetServer, NetFlow}
+use Rattle.net_model.specs.declared.flow.Flow.{Flow}
+use Rattle.net_model.specs.declared.server.Server.{Server}
+use Rattle.net_model.specs.Views.{net_of, servers_of, flows_of}
+use Rattle.net_model.specs.Walks.{IsNext, IsStep, Chain, IsFeedForward}
+use Rattle.net_model.proofs.KindsStand.{kinds_may_stand}
+use Rattle.net_model.proofs.PlainNets.{each_passes}
+use Rattle.net_model.proofs.Short.{all_of}
+use Rattle.net_model.specs.stated_runs.FromTraces.{IsLive}
 use Rattle.exercise_load.specs.declared.drawn.DrawnFlow.{DrawnFlow}
 use Rattle.exercise_load.specs.Bounds.{IsDrawn}
 use Rattle.exercise_load.specs.Drawn.{drawn_flow, drawn_flows}

@@ -4,3 +4,4 @@ pub mod Bounds
 pub mod Workloads
 pub mod Loads
 pub mod WorkloadLaws
+pub mod exercise_report

@@ -1,7 +1,7 @@
 -- What a call that makes a workload returns.
 use Rattle.std.specs.Prelude.{◌≡◌, ℕ}
-use Rattle.net_graph.specs.net_model.specs.Networks.{Net}
-use Rattle.net_graph.specs.net_model.specs.Traces.{SpecTrace}
+use Rattle.net_model.specs.Networks.{Net}
+use Rattle.net_model.specs.Traces.{SpecTrace}
 use Rattle.exercise_load.specs.Workloads.{network_of, trace_of}
 
 -- the network and the trace of the workload of a number

@@ -1,14 +1,14 @@
 -- What holds of every workload.
 use Rattle.std.specs.Prelude.{◌≡◌, ◌⊎◌, ℕ, ◌*◌, ◌<◌, All, AllPairs, Contains}
-use Rattle.rational.specs.Rational.{◌<ℚ◌}
-use Rattle.min_plus.specs.Functions.{zero_q}
-use Rattle.upp_curve.specs.Kinds.{rate_latency, stair}
+use Rattle.upp_limits.specs.rational.specs.Rational.{◌<ℚ◌}
+use Rattle.upp_limits.specs.min_plus.specs.Functions.{zero_q}
+use Rattle.upp_limits.specs.upp_curve.specs.Kinds.{rate_latency, stair}
 use Rattle.upp_limits.specs.OwnLimits.{IsWithinOwn}
-use Rattle.net_graph.specs.net_model.specs.Accepted.{IsAccepted}
-use Rattle.net_graph.specs.net_model.specs.declared.trace.TracePacket.{TracePacket}
-use Rattle.net_graph.specs.net_model.specs.Traces.{IsTrace}
-use Rattle.net_graph.specs.net_model.specs.Walks.{IsFeedForward}
-use Rattle.stated_runs.specs.FromTraces.{IsTraceOf}
+use Rattle.net_model.specs.Accepted.{IsAccepted}
+use Rattle.net_model.specs.declared.trace.TracePacket.{TracePacket}
+use Rattle.net_model.specs.Traces.{IsTrace}
+use Rattle.net_model.specs.Walks.{IsFeedForward}
+use Rattle.net_model.specs.stated_runs.FromTraces.{IsTraceOf}
 use Rattle.exercise_load.specs.declared.drawn.DrawnFlow.{DrawnFlow}
 use Rattle.exercise_load.specs.Drawn.{drawn_flow, drawn_flows}
 use Rattle.exercise_load.specs.Workloads.{whole, packet_at, network_of, trace_of}

@@ -3,6 +3,7 @@
 
 mod drawn;
 mod draws;
+pub mod exercise_report;
 mod flows;
 mod laws;
 mod load;

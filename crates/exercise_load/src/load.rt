@@ -1,6 +1,6 @@
 //! Workloads.
 
-use net_graph::net_model::{Network, Trace};
+use net_model::{Network, Trace};
 
 /// A network, and a trace of it.
 #[derive(Drop)]

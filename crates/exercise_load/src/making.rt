@@ -10,7 +10,7 @@ use crate::flows::flows;
 use crate::load::Workload;
 use crate::packets::packets;
 use crate::servers::servers;
-use net_graph::net_model::{Network, Trace};
+use net_model::{Network, Trace};
 use std::alloc::{AllocError, Global};
 
 fn network_of(alloc: Global, seed: u64, drawn: &[DrawnFlow]) -> Result<Network, AllocError>

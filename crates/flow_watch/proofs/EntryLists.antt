@@ -3,10 +3,10 @@ use Rattle.std.specs.Prelude.{◌≡◌, ℕ, zero, suc, ◌+◌, ◌<◌, ◌�
 use Rattle.std.specs.List.{slice_index_or}
 use Rattle.std.proofs.Common.{arith, inl, inr, refl, sym, ap, ◌∙◌, append_assoc, add-one}
 use Rattle.std.proofs.lemmas.Bool.{cases_Bool}
-use Rattle.step_lines.specs.run_laws.specs.declared.steps.Step.{Step}
-use Rattle.step_lines.specs.run_laws.specs.declared.steps.Step.TheVariants.{Enter, Reach, Work, Leave, Visit}
-use Rattle.step_lines.specs.watch_laws.specs.declared.entering.Entering.{Entering}
-use Rattle.step_lines.specs.watch_laws.specs.Entries.{entries, entering, bits_to, bits_between}
+use Rattle.net_model.specs.run_laws.specs.declared.steps.Step.{Step}
+use Rattle.net_model.specs.run_laws.specs.declared.steps.Step.TheVariants.{Enter, Reach, Work, Leave, Visit}
+use Rattle.flow_watch.specs.declared.watch_laws.entering.Entering.{Entering}
+use Rattle.flow_watch.specs.watch_laws.Entries.{entries, entering, bits_to, bits_between}
 use Rattle.flow_watch.specs.Flows.{entering_in}
 
 -- what is left of a list begins with the item of the number

@@ -1,15 +1,15 @@
 -- Packets held to one flat piece of a curve that repeats: in each window that is shorter than its end they bring at most what it has, and
 -- a rise more for each period that the window is longer. Own choice.
 use Rattle.std.specs.Prelude.{◌≡◌, ℕ, pos, ◌<◌, ◌≤◌, List, [], ◌∷◌, Some, unwrap_or}
-use Rattle.rational.specs.Rational.{ℚ, int, ◌+ℚ◌, ◌-ℚ◌, ◌*ℚ◌, ◌≤ℚ◌, ◌<ℚ◌}
-use Rattle.rational.specs.Extended.{◌≤ₑ◌}
-use Rattle.rational.specs.declared.Extended.TheVariants.{Fin}
-use Rattle.step_lines.specs.affine_segment.specs.declared.line.Piece.{Piece}
-use Rattle.step_lines.specs.affine_segment.specs.Reading.{piece_value}
-use Rattle.step_lines.specs.run_laws.specs.Cards.{whole}
-use Rattle.step_lines.specs.watch_laws.specs.declared.entering.Entering.{Entering}
-use Rattle.step_lines.specs.watch_laws.specs.Entries.{bits_between}
-use Rattle.step_lines.specs.watch_laws.specs.Segments.{next_start}
+use Rattle.upp_limits.specs.rational.specs.Rational.{ℚ, int, ◌+ℚ◌, ◌-ℚ◌, ◌*ℚ◌, ◌≤ℚ◌, ◌<ℚ◌}
+use Rattle.upp_limits.specs.rational.specs.Extended.{◌≤ₑ◌}
+use Rattle.upp_limits.specs.rational.specs.declared.Extended.TheVariants.{Fin}
+use Rattle.upp_limits.specs.upp_curve.specs.declared.affine_segment.line.Piece.{Piece}
+use Rattle.upp_limits.specs.upp_curve.specs.affine_segment.Reading.{piece_value}
+use Rattle.net_model.specs.run_laws.specs.Cards.{whole}
+use Rattle.flow_watch.specs.declared.watch_laws.entering.Entering.{Entering}
+use Rattle.flow_watch.specs.watch_laws.Entries.{bits_between}
+use Rattle.flow_watch.specs.watch_laws.Segments.{next_start}
 use Rattle.flow_watch.specs.declared.repeats.Cover.{Cover}
 use Rattle.flow_watch.specs.declared.repeats.Climb.{Climb}
 use Rattle.flow_watch.specs.Flows.{gap, KeepsPiece}

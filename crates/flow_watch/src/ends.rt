@@ -1,10 +1,10 @@
 //! Where the pieces of a curve end.
 
 ghost use Rattle.std.specs.Prelude.{◌≡◌, drop};
-ghost use Rattle.step_lines.specs.watch_laws.specs.Segments.{next_start};
+ghost use Rattle.flow_watch.specs.watch_laws.Segments.{next_start};
 
-use fraction128::Frac;
-use step_lines::affine_segment::Piece;
+use upp_limits::fraction128::Frac;
+use upp_limits::upp_curve::affine_segment::Piece;
 
 /// Where the piece of a number starts, if there is one.
 pub fn next_start(pieces: &[Piece], i: usize) -> Option<Frac>

@@ -1,26 +1,26 @@
 //! What a flow breaks: a packet that is longer than it allows, or too many bits between two of its packets.
 
 ghost use Rattle.std.specs.Prelude.{◌≡◌, ◌↔◌, ℕ, ◌<◌, ◌≤◌, ◌^◌, length, drop, IfOk, IfSome, IsTrue, MatchOption};
-ghost use Rattle.rational.specs.Rational.{◌-ℚ◌, ◌≤ℚ◌};
-ghost use Rattle.rational.specs.Extended.{◌<ₑ◌};
-ghost use Rattle.step_lines.specs.upp_curve.specs.Curve.{value_at};
-ghost use Rattle.step_lines.specs.upp_normal.specs.Unrolling.{IsOperandTo};
-ghost use Rattle.step_lines.specs.run_laws.specs.Cards.{whole};
-ghost use Rattle.step_lines.specs.watch_laws.specs.Entries.{entries};
+ghost use Rattle.upp_limits.specs.rational.specs.Rational.{◌-ℚ◌, ◌≤ℚ◌};
+ghost use Rattle.upp_limits.specs.rational.specs.Extended.{◌<ₑ◌};
+ghost use Rattle.upp_limits.specs.upp_curve.specs.Curve.{value_at};
+ghost use Rattle.upp_normal.specs.Unrolling.{IsOperandTo};
+ghost use Rattle.net_model.specs.run_laws.specs.Cards.{whole};
+ghost use Rattle.flow_watch.specs.watch_laws.Entries.{entries};
 ghost use Rattle.flow_watch.specs.Flows.{entering_in, NoneLonger, IsFirstLonger, FlowReads, FindsFirst, NoneCrowded, IsFirstCrowded, IsUnderLine, IsUnderPiece, KeepsBucket, TimesRiseIn, KeepsPiece, KeepsAt, IsRaised, first_time, last_time};
 
+use crate::curve_values::{is_early, value_within};
 use crate::ends::next_start;
 use crate::repeats::repeated_upto;
 use crate::sliding::before_upto;
 use crate::stairs::kept_upto;
-use curve_values::{is_early, value_within};
-use fraction128::{Frac, Wide, difference, greater, is_less, lesser};
-use rational::Extended;
+use crate::watch_laws::Entering;
+use net_model::run_laws::Step;
 use std::alloc::{AllocError, Global};
-use step_lines::affine_segment::{Line, Piece};
-use step_lines::run_laws::Step;
-use step_lines::upp_curve::Curve;
-use step_lines::watch_laws::Entering;
+use upp_limits::fraction128::{Frac, Wide, difference, greater, is_less, lesser};
+use upp_limits::rational::Extended;
+use upp_limits::upp_curve::Curve;
+use upp_limits::upp_curve::affine_segment::{Line, Piece};
 
 /// The packet that enters on a flow by a step, if one does.
 fn entering_of(step: &Step, flow: u32) -> Option<Entering>

@@ -2,19 +2,19 @@
 //! window that is shorter than its end, and the rise of a period more for each period that the window is longer.
 
 ghost use Rattle.std.specs.Prelude.{ℕ, ◌<◌, pos, length, drop, IfSome};
-ghost use Rattle.rational.specs.Rational.{int, ◌<ℚ◌};
-ghost use Rattle.step_lines.specs.upp_curve.specs.Curve.{value_at};
+ghost use Rattle.upp_limits.specs.rational.specs.Rational.{int, ◌<ℚ◌};
+ghost use Rattle.upp_limits.specs.upp_curve.specs.Curve.{value_at};
 ghost use Rattle.flow_watch.specs.Flows.{FlowReads, NoneCrowded, TimesRiseIn};
 ghost use Rattle.flow_watch.specs.Repeats.{IsCover, IsLineTo, HasAtLeast, KeepsSteps, HoldsPiece, HoldsAt};
 
 use crate::ends::next_start;
 use crate::flows::{bucket_of, fewer, piece_upto};
-use fraction128::{Frac, is_less};
+use crate::step_lines::seen_upto;
+use crate::watch_laws::Entering;
 use std::alloc::Global;
-use step_lines::affine_segment::Piece;
-use step_lines::seen_upto;
-use step_lines::upp_curve::{Curve, Tail};
-use step_lines::watch_laws::Entering;
+use upp_limits::fraction128::{Frac, is_less};
+use upp_limits::upp_curve::affine_segment::Piece;
+use upp_limits::upp_curve::{Curve, Tail};
 
 /// Steps that hold a value, and what they hold more.
 #[derive(Debug, Clone, Copy)]

@@ -3,9 +3,9 @@
 ghost use Rattle.std.specs.Prelude.{◌≡◌, ◌<◌, ◌≤◌, length};
 ghost use Rattle.flow_watch.specs.Flows.{TimesRiseIn, KeepsBefore, IsNarrow};
 
-use fraction128::{Frac, is_less};
-use step_lines::watch_laws::Entering;
-use step_lines::whole_of;
+use crate::step_lines::whole_of;
+use crate::watch_laws::Entering;
+use upp_limits::fraction128::{Frac, is_less};
 
 /// Packets up to one that is looked at: the number of the first of them, and the bits of all.
 #[derive(Debug, Clone, Copy)]

@@ -1,19 +1,19 @@
 //! How many packets keep a stair, by the steps that their bits fill against a line under the stair.
 
 ghost use Rattle.std.specs.Prelude.{◌≡◌, ℕ, ◌<◌, pos, length, drop, IfOk, IfSome, IsTrue};
-ghost use Rattle.rational.specs.Rational.{int, ◌+ℚ◌, ◌*ℚ◌, ◌≤ℚ◌, ◌<ℚ◌};
-ghost use Rattle.step_lines.specs.upp_curve.specs.Curve.{value_at};
+ghost use Rattle.upp_limits.specs.rational.specs.Rational.{int, ◌+ℚ◌, ◌*ℚ◌, ◌≤ℚ◌, ◌<ℚ◌};
+ghost use Rattle.upp_limits.specs.upp_curve.specs.Curve.{value_at};
 ghost use Rattle.flow_watch.specs.Flows.{FlowReads, NoneCrowded};
 ghost use Rattle.flow_watch.specs.Stairs.{IsCount, HasSteps, IsStep, IsStepAt, IsStair, RisesWith};
 
 use crate::ends::next_start;
 use crate::flows::bucket_of;
-use fraction128::{Frac, Wide, is_less, lesser};
+use crate::step_lines::{is_at_most, seen_upto};
+use crate::watch_laws::Entering;
 use std::alloc::Global;
-use step_lines::affine_segment::Piece;
-use step_lines::upp_curve::{Curve, Tail};
-use step_lines::watch_laws::Entering;
-use step_lines::{is_at_most, seen_upto};
+use upp_limits::fraction128::{Frac, Wide, is_less, lesser};
+use upp_limits::upp_curve::affine_segment::Piece;
+use upp_limits::upp_curve::{Curve, Tail};
 
 /// Steps of a height, and a line: how many of them it has, in steps.
 #[derive(Debug, Clone, Copy)]

@@ -5,4 +5,4 @@ pub mod Fits
 pub mod Text
 pub mod Multiple
 pub mod Laws
-pub use Rattle.rational as rational
+pub mod wide_sums

@@ -11,6 +11,7 @@ mod order;
 mod products;
 mod sums;
 mod text;
+pub mod wide_sums;
 
 pub use division::{gcd_of, least_common_multiple};
 pub use fault::{FracFault, FracText, Op, Wide};
@@ -18,5 +19,4 @@ pub use fitting::{
     difference, greater, greater_value, is_less, lesser, lesser_value, product, quotient, sum,
 };
 pub use fraction::{Ext, Frac};
-pub use rational;
 pub use text::read_digits;

@@ -4,8 +4,8 @@ use Rattle.std.proofs.Common.{arith, refl, sym, ap, subst, ◌∙◌}
 use Rattle.std.proofs.lemmas.List.{drop_more, drop_all}
 use Rattle.std.proofs.lemmas.Bool.{le-leb, eq-eqb, ne_eqb}
 use Rattle.std.proofs.lemmas.List.Sums.{sum_by-cons}
-use Rattle.net_model.specs.upp_limits.specs.Limits.{Numbers, joined, value_alone}
-use Rattle.net_model.specs.upp_limits.proofs.JoinedNumbers.{joined_assoc, joined_nothing}
+use Rattle.upp_limits.specs.Limits.{Numbers, joined, value_alone}
+use Rattle.upp_limits.proofs.JoinedNumbers.{joined_assoc, joined_nothing}
 use Rattle.net_model.specs.declared.trace.TracePacket.{TracePacket}
 use Rattle.measure_curve.specs.declared.windows.Entry.{Entry}
 use Rattle.measure_curve.specs.declared.windows.Window.{Window}

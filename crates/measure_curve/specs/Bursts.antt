@@ -1,17 +1,17 @@
 -- The least bucket of a rate above a curve.
 use Rattle.std.specs.Prelude.{Result, Ok, Err}
-use Rattle.rational.specs.Rational.{ℚ, ◌≤ℚ◌}
-use Rattle.rational.specs.Extended.{Ext, ◌≤ₑ◌}
-use Rattle.rational.specs.declared.Extended.TheVariants.{Fin}
-use Rattle.net_model.specs.min_plus.specs.Functions.{zero_q, IsFinite}
-use Rattle.net_model.specs.min_plus.specs.Formulas.{bucket_value}
-use Rattle.net_model.specs.upp_curve.specs.Curve.{SpecCurve}
-use Rattle.net_model.specs.upp_curve.specs.Kinds.{bucket}
-use Rattle.net_model.specs.upp_limits.specs.declared.op_kind.OpKind.TheVariants.{Vertical}
-use Rattle.net_model.specs.upp_limits.specs.declared.op_kind.OpFault.{OpFault}
-use Rattle.net_model.specs.upp_limits.specs.declared.op_kind.OpFault.TheVariants.{TooMany, TooWide, NoMemory}
-use Rattle.net_model.specs.upp_limits.specs.Gauges.{IsTooMany, IsTooWide}
-use Rattle.net_model.specs.upp_limits.specs.Outcome.{IsWithin}
+use Rattle.upp_limits.specs.rational.specs.Rational.{ℚ, ◌≤ℚ◌}
+use Rattle.upp_limits.specs.rational.specs.Extended.{Ext, ◌≤ₑ◌}
+use Rattle.upp_limits.specs.rational.specs.declared.Extended.TheVariants.{Fin}
+use Rattle.upp_limits.specs.min_plus.specs.Functions.{zero_q, IsFinite}
+use Rattle.upp_limits.specs.min_plus.specs.Formulas.{bucket_value}
+use Rattle.upp_limits.specs.upp_curve.specs.Curve.{SpecCurve}
+use Rattle.upp_limits.specs.upp_curve.specs.Kinds.{bucket}
+use Rattle.upp_limits.specs.declared.op_kind.OpKind.TheVariants.{Vertical}
+use Rattle.upp_limits.specs.declared.op_kind.OpFault.{OpFault}
+use Rattle.upp_limits.specs.declared.op_kind.OpFault.TheVariants.{TooMany, TooWide, NoMemory}
+use Rattle.upp_limits.specs.Gauges.{IsTooMany, IsTooWide}
+use Rattle.upp_limits.specs.Outcome.{IsWithin}
 
 -- the curve has a number at each time, and some number is above them all
 pub record IsBounded (f : ℚ → Ext) : Type 0 where

@@ -2,7 +2,7 @@
 
 ghost use Rattle.std.specs.Prelude.{◌≡◌, ◌↔◌, ℕ, ◌<◌, ◌≤◌, ◌^◌, List, IfOk, IsTrue, MatchOption, length, map, sum_by};
 ghost use Rattle.net_model.specs.declared.trace.TracePacket.{TracePacket};
-ghost use Rattle.net_model.specs.upp_limits.specs.Gathered.{Gathers};
+ghost use Rattle.upp_limits.specs.Gathered.{Gathers};
 ghost use Rattle.measure_curve.specs.Limits.{grid_of};
 ghost use Rattle.measure_curve.specs.Grids.{width_of, numbers_of, IsNarrow};
 ghost use Rattle.measure_curve.specs.Scans as scans;
@@ -11,8 +11,8 @@ ghost use Rattle.measure_curve.specs.Windows.{of_flow};
 use crate::ticks::ticks;
 use crate::windows::Entry;
 use net_model::TracePacket;
-use net_model::upp_limits::gathered::Gathered;
 use std::alloc::{AllocError, Global};
+use upp_limits::gathered::Gathered;
 
 /// How many packets the flow has.
 pub(crate) fn count_of(packets: &[TracePacket], flow: u32) -> usize

@@ -6,11 +6,11 @@ ghost use Rattle.measure_curve.specs.Staircases as staircases;
 
 use crate::ticks::time_of;
 use crate::windows::Window;
-use affine_segment::fraction128::Frac;
-use affine_segment::{Line, Piece};
-use net_model::upp_curve::{Curve, Tail};
-use rational::Extended;
 use std::alloc::{AllocError, Global};
+use upp_limits::fraction128::Frac;
+use upp_limits::rational::Extended;
+use upp_limits::upp_curve::affine_segment::{Line, Piece};
+use upp_limits::upp_curve::{Curve, Tail};
 
 /// The bits of a step.
 fn level_of(step: &Window) -> Frac

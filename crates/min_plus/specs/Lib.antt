@@ -8,4 +8,6 @@ pub mod Deviations
 pub mod DeviationSigns
 pub mod Continuity
 pub mod BucketBounds
+pub mod closure_laws
+pub mod best_splits
 pub use Rattle.rational as rational

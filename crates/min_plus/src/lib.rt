@@ -4,6 +4,9 @@
 //! A law is the contract of a function that does nothing: its body is empty, and its `ensures` is proved.
 #![tactic(auto)]
 
+pub mod best_splits;
+pub mod closure_laws;
+
 ghost use Rattle.min_plus.specs.BucketBounds.{BucketDeviations};
 ghost use Rattle.min_plus.specs.DeviationSigns.{HorizontalsAreNonnegative, VerticalsAreNonnegative};
 ghost use Rattle.min_plus.specs.Deviations.{DeviationsAreUnique};

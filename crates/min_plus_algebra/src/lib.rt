@@ -5,23 +5,23 @@
 mod example;
 
 // Numbers, and infinity; the counter of operators.
-pub use curve_pointwise::fraction128::{Ext, Frac, FracFault, FracText, Wide};
-pub use curve_pointwise::rational::Extended;
 pub use steps::Steps;
+pub use upp_limits::fraction128::{Ext, Frac, FracFault, FracText, Wide};
+pub use upp_limits::rational::Extended;
 
 // Curves: of the kinds of a network's file, of listed pieces, and of any pieces in normal form.
 pub use curve_library::{
     CurveFault, PieceText, TailText, UseAs, bucket, gate, listed, rate_latency, stair,
 };
-pub use curve_pointwise::affine_segment::{Line, Piece};
-pub use curve_pointwise::upp_curve::{Curve, Tail, equal, is_continuous};
-pub use curve_pointwise::upp_limits::{OpFault, OpKind, OverLimit};
-pub use curve_pointwise::upp_normal::{RawCurve, normalise};
+pub use upp_limits::upp_curve::affine_segment::{Line, Piece};
+pub use upp_limits::upp_curve::{Curve, Tail, equal, is_continuous};
+pub use upp_limits::{OpFault, OpKind, OverLimit};
+pub use upp_normal::{RawCurve, normalise};
 
 // Operators.
 pub use curve_conv::convolve;
 pub use curve_deconv::deconvolve;
 pub use curve_deviation::{horizontal, vertical};
-pub use curve_pointwise::{max, min, pos_diff, pos_minus, scale, shift, sum};
-pub use curve_running::{fifo_left, run_inf, run_sup};
+pub use plain_operators::pointwise::{max, min, pos_diff, pos_minus, scale, shift, sum};
+pub use plain_operators::running::{fifo_left, run_inf, run_sup};
 pub use subadd_closure::{close, is_subadditive};

@@ -2,19 +2,19 @@
 use Rattle.std.specs.Prelude.{◌≡◌, ℕ, ◌<◌, ◌≤◌, ◌+◌, ◌-◌, ◌==◌, ◌&&◌, true, List, [], ◌∷◌, length, map, Some}
 use Rattle.std.proofs.Common.{arith, sym, ap, ◌∙◌, refl, subst}
 use Rattle.std.proofs.lemmas.Bool.{and_from}
-use Rattle.min_plus.specs.rational.specs.Extended.{Ext, ◌+ₑ◌}
-use Rattle.min_plus.specs.rational.specs.declared.Extended.TheVariants.{Fin}
-use Rattle.min_plus.specs.Deviations.{IsHorizontalDeviation}
-use Rattle.net_cells.specs.run_laws.specs.Runs.{SpecRun}
-use Rattle.net_cells.specs.run_laws.specs.Cards.{of_flow}
-use Rattle.net_cells.specs.run_laws.specs.Premises.{KeepsArrivals}
-use Rattle.net_cells.specs.run_laws.specs.Routes.{Hop, route_of, first_server}
-use Rattle.net_cells.specs.run_laws.specs.Bounds.{IsFlowBounded}
-use Rattle.pace_laws.specs.net_laws.specs.Paths.{IsPath, StaysAtMost, IsServedAlong, sum_along, links_along}
-use Rattle.pace_laws.specs.net_laws.proofs.PathRuns.{delay_from_hops, delay_from_path_service, path_is_served}
-use Rattle.pace_laws.specs.net_laws.proofs.Queues.{of_lesser}
-use Rattle.net_cells.specs.net_model.specs.Networks.{Net}
-use Rattle.net_cells.specs.net_model.specs.Accepted.{IsAccepted}
+use Rattle.upp_limits.specs.rational.specs.Extended.{Ext, ◌+ₑ◌}
+use Rattle.upp_limits.specs.rational.specs.declared.Extended.TheVariants.{Fin}
+use Rattle.upp_limits.specs.min_plus.specs.Deviations.{IsHorizontalDeviation}
+use Rattle.net_model.specs.run_laws.specs.Runs.{SpecRun}
+use Rattle.net_model.specs.run_laws.specs.Cards.{of_flow}
+use Rattle.net_model.specs.run_laws.specs.Premises.{KeepsArrivals}
+use Rattle.net_model.specs.run_laws.specs.Routes.{Hop, route_of, first_server}
+use Rattle.net_model.specs.run_laws.specs.Bounds.{IsFlowBounded}
+use Rattle.net_laws.specs.Paths.{IsPath, StaysAtMost, IsServedAlong, sum_along, links_along}
+use Rattle.net_laws.proofs.PathRuns.{delay_from_hops, delay_from_path_service, path_is_served}
+use Rattle.net_laws.proofs.Queues.{of_lesser}
+use Rattle.net_model.specs.Networks.{Net}
+use Rattle.net_model.specs.Accepted.{IsAccepted}
 use Rattle.net_cells.specs.declared.cell.Kind.TheVariants.{In, PathService, Tfa, Sfa, Bound}
 use Rattle.net_cells.specs.Numbered.{path, hops, server_of_hop, is_live, link}
 use Rattle.net_cells.specs.Cells.{cell_of}

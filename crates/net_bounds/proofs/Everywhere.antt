@@ -2,23 +2,23 @@
 use Rattle.std.specs.Prelude.{◌≡◌, ℕ, zero, suc, ◌<◌, true, Some, List, [], ◌∷◌, length, take}
 use Rattle.std.proofs.Common.{arith, sym, ap, ◌∙◌, subst, inl, inr, get_or}
 use Rattle.std.proofs.lemmas.Bool.{cases_eq, eq-eqb, ne_eqb}
-use Rattle.min_plus.specs.rational.specs.Rational.{ℚ, ◌-ℚ◌}
-use Rattle.min_plus.specs.rational.specs.Extended.{Ext, ◌≤ₑ◌}
-use Rattle.min_plus.specs.rational.specs.declared.Extended.TheVariants.{Fin}
-use Rattle.net_cells.specs.upp_curve.specs.Curve.{value_at}
-use Rattle.net_cells.specs.run_laws.specs.Runs.{SpecRun}
-use Rattle.net_cells.specs.run_laws.specs.Cards.{of_flow}
-use Rattle.net_cells.specs.run_laws.specs.Counts.{departed_in}
-use Rattle.net_cells.specs.run_laws.specs.RunPremises.{entered_in}
-use Rattle.net_cells.specs.run_laws.specs.Routes.{Hop, route_of, first_server, server_after}
-use Rattle.pace_laws.specs.net_laws.specs.Orders as orders
-use Rattle.pace_laws.specs.net_laws.specs.Orders.{KeptAt, PassedOn, EntersKept}
-use Rattle.pace_laws.specs.net_laws.proofs.Orders.{kept_everywhere}
-use Rattle.net_cells.specs.net_model.specs.Networks.{Net}
-use Rattle.net_cells.specs.net_model.specs.Accepted.{IsAccepted}
-use Rattle.net_cells.specs.net_model.specs.Orders.{IsOrder}
-use Rattle.net_cells.specs.net_model.specs.Walks.{IsNext, IsStep}
-use Rattle.net_cells.specs.net_graph.proofs.Forward.{has_each_server, goes_forward}
+use Rattle.upp_limits.specs.rational.specs.Rational.{ℚ, ◌-ℚ◌}
+use Rattle.upp_limits.specs.rational.specs.Extended.{Ext, ◌≤ₑ◌}
+use Rattle.upp_limits.specs.rational.specs.declared.Extended.TheVariants.{Fin}
+use Rattle.upp_limits.specs.upp_curve.specs.Curve.{value_at}
+use Rattle.net_model.specs.run_laws.specs.Runs.{SpecRun}
+use Rattle.net_model.specs.run_laws.specs.Cards.{of_flow}
+use Rattle.net_model.specs.run_laws.specs.Counts.{departed_in}
+use Rattle.net_model.specs.run_laws.specs.RunPremises.{entered_in}
+use Rattle.net_model.specs.run_laws.specs.Routes.{Hop, route_of, first_server, server_after}
+use Rattle.net_laws.specs.Orders as orders
+use Rattle.net_laws.specs.Orders.{KeptAt, PassedOn, EntersKept}
+use Rattle.net_laws.proofs.Orders.{kept_everywhere}
+use Rattle.net_model.specs.Networks.{Net}
+use Rattle.net_model.specs.Accepted.{IsAccepted}
+use Rattle.net_model.specs.Orders.{IsOrder}
+use Rattle.net_model.specs.Walks.{IsNext, IsStep}
+use Rattle.net_model.proofs.net_graph.Forward.{has_each_server, goes_forward}
 use Rattle.net_cells.specs.declared.cell.Kind.TheVariants.{In, Out}
 use Rattle.net_cells.specs.Numbered.{arrival, path, path_of, hops, is_live}
 use Rattle.net_cells.specs.Cells.{cell_of}
@@ -33,7 +33,7 @@ use Rattle.net_bounds.proofs.Cells.{values, curve_holds}
 use Rattle.net_bounds.proofs.HopCells.{in_first, in_next}
 use Rattle.net_bounds.proofs.Arriving.{arrivals, AtServer}
 use Rattle.net_bounds.proofs.Hops.{flow_goes_on}
-use Rattle.net_cells.specs.run_laws.proofs.Members.{Has, contains_has}
+use Rattle.net_model.specs.run_laws.proofs.Members.{Has, contains_has}
 
 -- ---- the order goes forward
 -- what stands among the first n has its place below n

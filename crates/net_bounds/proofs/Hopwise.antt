@@ -2,16 +2,16 @@
 use Rattle.std.specs.Prelude.{◌≡◌, ℕ, suc, ◌<◌, ◌+◌, List, [], ◌∷◌, ◌++◌, length, map}
 use Rattle.std.specs.List.{range_with_len}
 use Rattle.std.proofs.Common.{arith, sym, ap, ◌∙◌, refl, subst, get_or}
-use Rattle.min_plus.specs.rational.specs.Rational.{ℚ}
-use Rattle.min_plus.specs.rational.specs.Extended.{Ext, ◌≤ₑ◌, ◌+ₑ◌}
-use Rattle.min_plus.specs.rational.specs.declared.Extended.TheVariants.{Fin}
-use Rattle.min_plus.specs.rational.proofs.ExtendedOrder.{add_ext_comm, add_ext_assoc}
-use Rattle.min_plus.specs.Functions.{zero_q}
-use Rattle.net_cells.specs.run_laws.specs.Runs.{SpecRun}
-use Rattle.net_cells.specs.run_laws.specs.Cards.{of_flow}
-use Rattle.net_cells.specs.run_laws.specs.Delays.{hop_delays, AreAtMost}
-use Rattle.pace_laws.specs.net_laws.specs.Paths.{StaysAtMost, sum_along}
-use Rattle.net_cells.specs.net_model.specs.Networks.{Net}
+use Rattle.upp_limits.specs.rational.specs.Rational.{ℚ}
+use Rattle.upp_limits.specs.rational.specs.Extended.{Ext, ◌≤ₑ◌, ◌+ₑ◌}
+use Rattle.upp_limits.specs.rational.specs.declared.Extended.TheVariants.{Fin}
+use Rattle.upp_limits.specs.rational.proofs.ExtendedOrder.{add_ext_comm, add_ext_assoc}
+use Rattle.upp_limits.specs.min_plus.specs.Functions.{zero_q}
+use Rattle.net_model.specs.run_laws.specs.Runs.{SpecRun}
+use Rattle.net_model.specs.run_laws.specs.Cards.{of_flow}
+use Rattle.net_model.specs.run_laws.specs.Delays.{hop_delays, AreAtMost}
+use Rattle.net_laws.specs.Paths.{StaysAtMost, sum_along}
+use Rattle.net_model.specs.Networks.{Net}
 use Rattle.net_cells.specs.declared.cell.Kind.TheVariants.{HopDelay}
 use Rattle.net_cells.specs.Numbered.{link}
 use Rattle.net_cells.specs.Cells.{cell_of}

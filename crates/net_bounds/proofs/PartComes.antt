@@ -2,24 +2,24 @@
 use Rattle.std.specs.Prelude.{◌≡◌, ◌<◌, ◌≤◌, ℕ, zero, suc, Bool, true, ◌==◌, ◌&&◌, nat_lt, pos, Some, None, List, [], ◌∷◌, ◌++◌, length, if◌then◌else◌}
 use Rattle.std.proofs.Common.{arith, sym, ap, ◌∙◌, refl, subst, inl, inr, get_or}
 use Rattle.std.proofs.lemmas.Bool.{cases_Bool, cases_eq, eqb-true, eq-eqb, ne_eqb, lt-ltb, ltb-true, and_parts, and_from}
-use Rattle.min_plus.specs.rational.specs.Rational.{ℚ, int, ◌-ℚ◌, ◌≤ℚ◌}
-use Rattle.min_plus.specs.rational.specs.declared.Extended.TheVariants.{Fin}
-use Rattle.min_plus.specs.rational.proofs.Laws.{le_of_lt}
-use Rattle.min_plus.specs.rational.proofs.ExtendedOrder.{min_greatest}
-use Rattle.net_cells.specs.run_laws.specs.Runs.{SpecRun}
-use Rattle.net_cells.specs.run_laws.specs.Cards.{Card, of_queue}
-use Rattle.net_cells.specs.run_laws.specs.Servers.{Fifo, Server}
-use Rattle.net_cells.specs.run_laws.specs.Counts.{arrived_in}
-use Rattle.net_cells.specs.run_laws.specs.Premises.{KeepsArrivals, KeepsSizes}
-use Rattle.net_cells.specs.run_laws.specs.Routes.{Hop, server_at}
-use Rattle.net_cells.specs.run_laws.proofs.Arrivals.{IsPassing, arrivals_map}
-use Rattle.net_cells.specs.run_laws.proofs.Members.{Has}
-use Rattle.pace_laws.specs.net_laws.specs.Laws.{IsLink}
-use Rattle.pace_laws.specs.net_laws.proofs.Paths.{link_of_path}
+use Rattle.upp_limits.specs.rational.specs.Rational.{ℚ, int, ◌-ℚ◌, ◌≤ℚ◌}
+use Rattle.upp_limits.specs.rational.specs.declared.Extended.TheVariants.{Fin}
+use Rattle.upp_limits.specs.rational.proofs.Laws.{le_of_lt}
+use Rattle.upp_limits.specs.rational.proofs.ExtendedOrder.{min_greatest}
+use Rattle.net_model.specs.run_laws.specs.Runs.{SpecRun}
+use Rattle.net_model.specs.run_laws.specs.Cards.{Card, of_queue}
+use Rattle.net_model.specs.run_laws.specs.Servers.{Fifo, Server}
+use Rattle.net_model.specs.run_laws.specs.Counts.{arrived_in}
+use Rattle.net_model.specs.run_laws.specs.Premises.{KeepsArrivals, KeepsSizes}
+use Rattle.net_model.specs.run_laws.specs.Routes.{Hop, server_at}
+use Rattle.net_model.specs.run_laws.proofs.Arrivals.{IsPassing, arrivals_map}
+use Rattle.net_model.specs.run_laws.proofs.Members.{Has}
+use Rattle.net_laws.specs.Laws.{IsLink}
+use Rattle.net_laws.proofs.Paths.{link_of_path}
 use Rattle.pace_laws.specs.Groups.{of_flows, IsPaced}
 use Rattle.pace_laws.proofs.Groups.{group_is_cut}
-use Rattle.net_cells.specs.net_model.specs.Networks.{Net}
-use Rattle.net_cells.specs.net_model.specs.Accepted.{IsAccepted}
+use Rattle.net_model.specs.Networks.{Net}
+use Rattle.net_model.specs.Accepted.{IsAccepted}
 use Rattle.net_cells.specs.Numbered.{packet, path, hops, rate, rate_of, server_of_hop, queue_of_hop}
 use Rattle.net_cells.specs.declared.visit.Visit.{Visit}
 use Rattle.net_cells.specs.Visits.{visit, visits, visits_in, longest_of}

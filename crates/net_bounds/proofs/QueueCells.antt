@@ -3,16 +3,16 @@ use Rattle.std.specs.Prelude.{◌≡◌, ℕ, ◌<◌, List, [], ◌∷◌, leng
 use Rattle.std.specs.List.{range_with_len}
 use Rattle.std.proofs.Common.{sym, ap, ◌∙◌, refl, subst, inl, inr}
 use Rattle.std.proofs.lemmas.Bool.{lt-ltb}
-use Rattle.min_plus.specs.rational.specs.Rational.{ℚ}
-use Rattle.min_plus.specs.rational.specs.Extended.{Ext, ◌+ₑ◌}
-use Rattle.net_cells.specs.upp_curve.specs.Curve.{value_at}
-use Rattle.min_plus.specs.Pointwise.{packetised}
-use Rattle.min_plus.specs.Deviations.{IsHorizontalDeviation, IsVerticalDeviation}
-use Rattle.net_cells.specs.run_laws.specs.Cards.{whole}
-use Rattle.net_cells.specs.run_laws.specs.Servers.{Discipline, Fifo, Priority, Drr}
-use Rattle.net_cells.specs.residual_laws.specs.PriorityLaws.{IsPriorityService}
-use Rattle.net_cells.specs.residual_laws.specs.DrrLaws.{IsDrrService}
-use Rattle.net_cells.specs.net_model.specs.Networks.{Net}
+use Rattle.upp_limits.specs.rational.specs.Rational.{ℚ}
+use Rattle.upp_limits.specs.rational.specs.Extended.{Ext, ◌+ₑ◌}
+use Rattle.upp_limits.specs.upp_curve.specs.Curve.{value_at}
+use Rattle.upp_limits.specs.min_plus.specs.Pointwise.{packetised}
+use Rattle.upp_limits.specs.min_plus.specs.Deviations.{IsHorizontalDeviation, IsVerticalDeviation}
+use Rattle.net_model.specs.run_laws.specs.Cards.{whole}
+use Rattle.net_model.specs.run_laws.specs.Servers.{Discipline, Fifo, Priority, Drr}
+use Rattle.residuals.specs.residual_laws.specs.PriorityLaws.{IsPriorityService}
+use Rattle.residuals.specs.residual_laws.specs.DrrLaws.{IsDrrService}
+use Rattle.net_model.specs.Networks.{Net}
 use Rattle.net_cells.specs.declared.cell.Cell.{Cell}
 use Rattle.net_cells.specs.declared.cell.Kind.TheVariants.{In, Cross, Total, Higher, QueueService, QueueDelay, QueueBacklog}
 use Rattle.net_cells.specs.Numbered.{hops, server_of_hop, queue_of_hop, service, discipline, queues, levels}
@@ -29,7 +29,7 @@ use Rattle.net_bounds.proofs.ListSums.{sum_over}
 use Rattle.net_bounds.proofs.Cells.{values, of_values, curve_from, curve_map, HasValues, sum_reads, AllCurves}
 use Rattle.net_bounds.proofs.FormulaParts.{vertical_same, a_curve, less_reads, number_map, deviation_reads}
 use Rattle.net_bounds.proofs.HopCells.{in_curve}
-use Rattle.net_cells.specs.run_laws.proofs.Members.{Has}
+use Rattle.net_model.specs.run_laws.proofs.Members.{Has}
 use Rattle.net_cells.proofs.TableValues.{has_number}
 
 -- the curve of a flow at a hop, and of a queue

@@ -5,30 +5,30 @@ use Rattle.std.proofs.Common.{arith, sym, ap, ◌∙◌, refl, subst, inl, inr, 
 use Rattle.std.proofs.lemmas.Bool.{cases_lt, eqb-true}
 use Rattle.std.proofs.lemmas.List.{length-map, get_or_past}
 use Rattle.std.proofs.lemmas.List.FromFn.{length-range_with_len, get_or-map-range_with_len}
-use Rattle.min_plus.specs.rational.specs.Rational.{ℚ}
-use Rattle.min_plus.specs.rational.specs.Extended.{Ext}
-use Rattle.min_plus.specs.rational.proofs.ExtendedOrder.{same_le_ext}
-use Rattle.net_cells.specs.upp_curve.specs.Curve.{value_at}
-use Rattle.net_cells.specs.curve_call.specs.Growth.{GrowsFromZero}
-use Rattle.net_cells.specs.curve_call.proofs.GrowingAnswers.{grown}
-use Rattle.net_cells.specs.run_laws.specs.Runs.{SpecRun}
-use Rattle.net_cells.specs.run_laws.specs.Cards.{Card, of_queue}
-use Rattle.net_cells.specs.run_laws.specs.Servers.{Discipline, Fifo, Priority, Drr, Server, queue_count}
-use Rattle.net_cells.specs.run_laws.specs.Allows.{IsLawfulView}
-use Rattle.net_cells.specs.run_laws.specs.Premises.{KeepsService, KeepsSizes, IsZeroAtStart}
-use Rattle.net_cells.specs.run_laws.specs.Serves.{Serves}
-use Rattle.net_cells.specs.run_laws.specs.Routes as routes
-use Rattle.net_cells.specs.run_laws.proofs.Arrivals.{arrivals_map}
-use Rattle.net_cells.specs.run_laws.proofs.Backlog.{backlog_from_service}
-use Rattle.net_cells.specs.run_laws.proofs.Delay.{delay_always}
-use Rattle.net_cells.specs.run_laws.proofs.FifoQueue.{fifo_queue_is_served}
-use Rattle.net_cells.specs.run_laws.proofs.Views.{views_are_lawful}
-use Rattle.net_cells.specs.residual_laws.proofs.PriorityLaw.{priority_serves}
-use Rattle.net_cells.specs.residual_calls.proofs.PriorityGrowth as priority
-use Rattle.net_cells.specs.residual_laws.proofs.DrrLaw.{drr_serves}
-use Rattle.net_cells.specs.residual_calls.proofs.DrrGrowth as drr
-use Rattle.net_cells.specs.net_model.specs.Networks.{Net, NetServer}
-use Rattle.net_cells.specs.net_model.specs.Accepted.{IsAccepted, HasFewQueues}
+use Rattle.upp_limits.specs.rational.specs.Rational.{ℚ}
+use Rattle.upp_limits.specs.rational.specs.Extended.{Ext}
+use Rattle.upp_limits.specs.rational.proofs.ExtendedOrder.{same_le_ext}
+use Rattle.upp_limits.specs.upp_curve.specs.Curve.{value_at}
+use Rattle.residuals.specs.curve_call.specs.Growth.{GrowsFromZero}
+use Rattle.residuals.specs.curve_call.proofs.GrowingAnswers.{grown}
+use Rattle.net_model.specs.run_laws.specs.Runs.{SpecRun}
+use Rattle.net_model.specs.run_laws.specs.Cards.{Card, of_queue}
+use Rattle.net_model.specs.run_laws.specs.Servers.{Discipline, Fifo, Priority, Drr, Server, queue_count}
+use Rattle.net_model.specs.run_laws.specs.Allows.{IsLawfulView}
+use Rattle.net_model.specs.run_laws.specs.Premises.{KeepsService, KeepsSizes, IsZeroAtStart}
+use Rattle.net_model.specs.run_laws.specs.Serves.{Serves}
+use Rattle.net_model.specs.run_laws.specs.Routes as routes
+use Rattle.net_model.specs.run_laws.proofs.Arrivals.{arrivals_map}
+use Rattle.net_model.specs.run_laws.proofs.Backlog.{backlog_from_service}
+use Rattle.net_model.specs.run_laws.proofs.Delay.{delay_always}
+use Rattle.net_model.specs.run_laws.proofs.FifoQueue.{fifo_queue_is_served}
+use Rattle.net_model.specs.run_laws.proofs.Views.{views_are_lawful}
+use Rattle.residuals.specs.residual_laws.proofs.PriorityLaw.{priority_serves}
+use Rattle.residuals.proofs.calls.PriorityGrowth as priority
+use Rattle.residuals.specs.residual_laws.proofs.DrrLaw.{drr_serves}
+use Rattle.residuals.proofs.calls.DrrGrowth as drr
+use Rattle.net_model.specs.Networks.{Net, NetServer}
+use Rattle.net_model.specs.Accepted.{IsAccepted, HasFewQueues}
 use Rattle.net_cells.specs.declared.cell.Kind.TheVariants.{Total, Higher, QueueService, QueueDelay, QueueBacklog}
 use Rattle.net_cells.specs.Numbered.{service, service_of, discipline, discipline_of, queues, levels, levels_of, queue_of_hop}
 use Rattle.net_cells.specs.Visits.{longest, longest_after}

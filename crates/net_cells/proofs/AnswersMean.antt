@@ -1,22 +1,22 @@
 -- A formula that is answered by a value means that value.
 use Rattle.std.proofs.Common.{◌≡◌, ℕ, List, [], ◌∷◌, ◌++◌, ap, subst}
 use Rattle.std.specs.Prelude.{Ok, Err, Result}
-use Rattle.net_graph.specs.rational.specs.Extended.{Ext, min_ext}
-use Rattle.net_graph.specs.upp_limits.specs.declared.op_kind.OpKind.{OpKind}
-use Rattle.net_graph.specs.upp_limits.specs.declared.op_kind.OpKind.TheVariants.{Sum, Min, Shift, FifoLeft, Horizontal, Vertical}
-use Rattle.net_graph.specs.upp_limits.specs.declared.op_kind.OpFault.{OpFault}
-use Rattle.net_graph.specs.upp_curve.specs.Curve.{SpecCurve, value_at}
-use Rattle.net_graph.specs.upp_curve.specs.Curves.{IsCurve}
-use Rattle.net_graph.specs.upp_curve.specs.Kinds.{bucket}
-use Rattle.residual_calls.specs.run_laws.specs.Cards.{whole}
-use Rattle.net_graph.specs.min_plus.specs.Deviations.{IsHorizontalDeviation, IsVerticalDeviation}
-use Rattle.residual_calls.specs.curve_call.specs.Again.{IsAgain}
-use Rattle.residual_calls.specs.curve_call.specs.Answers.{IsMadeBy}
-use Rattle.residual_calls.specs.curve_call.specs.Calls.{Applies, AppliesTo, goes_on, stops}
-use Rattle.residual_calls.specs.PriorityCalls.{MakesPriority}
-use Rattle.residual_calls.proofs.PriorityCalls as priority_calls
-use Rattle.residual_calls.specs.DrrCalls.{MakesDrr}
-use Rattle.residual_calls.proofs.DrrCalls as drr_calls
+use Rattle.upp_limits.specs.rational.specs.Extended.{Ext, min_ext}
+use Rattle.upp_limits.specs.declared.op_kind.OpKind.{OpKind}
+use Rattle.upp_limits.specs.declared.op_kind.OpKind.TheVariants.{Sum, Min, Shift, FifoLeft, Horizontal, Vertical}
+use Rattle.upp_limits.specs.declared.op_kind.OpFault.{OpFault}
+use Rattle.upp_limits.specs.upp_curve.specs.Curve.{SpecCurve, value_at}
+use Rattle.upp_limits.specs.upp_curve.specs.Curves.{IsCurve}
+use Rattle.upp_limits.specs.upp_curve.specs.Kinds.{bucket}
+use Rattle.net_model.specs.run_laws.specs.Cards.{whole}
+use Rattle.upp_limits.specs.min_plus.specs.Deviations.{IsHorizontalDeviation, IsVerticalDeviation}
+use Rattle.residuals.specs.curve_call.specs.Again.{IsAgain}
+use Rattle.residuals.specs.curve_call.specs.Answers.{IsMadeBy}
+use Rattle.residuals.specs.curve_call.specs.Calls.{Applies, AppliesTo, goes_on, stops}
+use Rattle.residuals.specs.calls.PriorityCalls.{MakesPriority}
+use Rattle.residuals.proofs.calls.PriorityCalls as priority_calls
+use Rattle.residuals.specs.calls.DrrCalls.{MakesDrr}
+use Rattle.residuals.proofs.calls.DrrCalls as drr_calls
 use Rattle.net_cells.specs.Numbered.{zero_curve}
 use Rattle.net_cells.specs.Meanings.{Meaning, curve, number, CellTable, IsCurveIn, IsNumberIn}
 use Rattle.net_cells.specs.NumberSums.{Sums, sum_of_numbers}

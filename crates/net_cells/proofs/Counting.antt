@@ -4,7 +4,7 @@ use Rattle.std.specs.Prelude.{not, ◌&&◌, Option, None}
 use Rattle.std.specs.List.{filter, flat_map, range_with_len}
 use Rattle.std.proofs.lemmas.Bool.{cases_lt, cases_eq, eq-eqb, ne_eqb}
 use Rattle.std.proofs.lemmas.List.{get_or_past}
-use Rattle.net_graph.specs.net_model.specs.Networks.{Net, NetFlow}
+use Rattle.net_model.specs.Networks.{Net, NetFlow}
 use Rattle.net_cells.specs.Numbered.{flow_at, path, path_of, queues_of, hops, queue_of_hop}
 use Rattle.net_cells.specs.Visits.{Visit, visit, visits_in, hops_at, hops_in}
 use Rattle.net_cells.proofs.Growing.{flat_more, filter_flat, flat_same, filter_mapped, kept_number, dropped_number}

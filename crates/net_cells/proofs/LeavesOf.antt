@@ -3,9 +3,9 @@ use Rattle.std.proofs.Common.{◌≡◌, ℕ, zero, suc, ◌+◌, List, [], ◌�
 use Rattle.std.specs.List.{range_with_len}
 use Rattle.std.proofs.lemmas.List.{map-append}
 use Rattle.std.proofs.lemmas.List.FromFn.{map-range_with_len_more}
-use Rattle.net_graph.specs.upp_limits.specs.declared.op_kind.OpKind.TheVariants.{Sum}
-use Rattle.residual_calls.specs.run_laws.specs.Servers.{Discipline, Fifo, Priority, Drr}
-use Rattle.net_graph.specs.net_model.specs.Networks.{Net}
+use Rattle.upp_limits.specs.declared.op_kind.OpKind.TheVariants.{Sum}
+use Rattle.net_model.specs.run_laws.specs.Servers.{Discipline, Fifo, Priority, Drr}
+use Rattle.net_model.specs.Networks.{Net}
 use Rattle.net_cells.specs.declared.cell.Cell.{Cell}
 use Rattle.net_cells.specs.declared.cell.Kind.TheVariants.{In, Residual}
 use Rattle.net_cells.specs.Numbered.{is_by_priority}

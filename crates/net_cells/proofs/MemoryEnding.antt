@@ -2,11 +2,11 @@
 use Rattle.std.proofs.Common.{◌≡◌, ℕ, ◌<◌, ◌≤◌, List, ◌∷◌, ◌++◌, refl, sym, ap, ◌∙◌, subst, arith, inl, inr}
 use Rattle.std.specs.Prelude.{◌≢◌, Ok, Err, sum_by}
 use Rattle.std.proofs.lemmas.List.Sums.{sum_by-append, sum_by-cons}
-use Rattle.net_graph.specs.upp_limits.specs.declared.op_kind.OpFault.{OpFault}
-use Rattle.net_graph.specs.upp_limits.specs.declared.op_kind.OpFault.TheVariants.{NoMemory}
-use Rattle.net_graph.specs.net_model.specs.Networks.{Net}
-use Rattle.net_graph.specs.net_model.specs.Accepted.{IsAccepted}
-use Rattle.net_graph.specs.net_model.specs.Orders.{IsOrder}
+use Rattle.upp_limits.specs.declared.op_kind.OpFault.{OpFault}
+use Rattle.upp_limits.specs.declared.op_kind.OpFault.TheVariants.{NoMemory}
+use Rattle.net_model.specs.Networks.{Net}
+use Rattle.net_model.specs.Accepted.{IsAccepted}
+use Rattle.net_model.specs.Orders.{IsOrder}
 use Rattle.net_cells.specs.declared.cell.Cell.{Cell}
 use Rattle.net_cells.specs.Order.{evaluation_order}
 use Rattle.net_cells.specs.Formulas.{Formula, operators}
@@ -21,7 +21,7 @@ use Rattle.net_cells.proofs.OneAnswer.{answers_one}
 use Rattle.net_cells.proofs.Placing.{refusals_placed}
 use Rattle.net_cells.proofs.Tables.{over_by, over_answered, Places, places, same, sooner, later}
 use Rattle.net_cells.proofs.Works.{work_is}
-use Rattle.residual_calls.specs.run_laws.proofs.Members.{Has, has_left, has_right, has_contains}
+use Rattle.net_model.specs.run_laws.proofs.Members.{Has, has_left, has_right, has_contains}
 
 -- ---- at one cell
 ends_most : (at : CellTable) (F : Formula) (n : ℕ) → EndsAt at F n → n ≤ operators F

@@ -2,12 +2,12 @@
 -- take none.
 use Rattle.std.proofs.Common.{◌≡◌, List, refl, sym, subst}
 use Rattle.std.specs.Prelude.{Err}
-use Rattle.net_graph.specs.rational.specs.Rational.{ℚ}
-use Rattle.net_graph.specs.upp_limits.specs.declared.op_kind.OpKind.{OpKind}
-use Rattle.net_graph.specs.upp_limits.specs.declared.op_kind.OpFault.{OpFault}
-use Rattle.net_graph.specs.upp_limits.specs.declared.op_kind.OpFault.TheVariants.{NoMemory}
-use Rattle.residual_calls.specs.curve_call.specs.Calls.{goes_on, stops}
-use Rattle.residual_calls.specs.InTurn.{past}
+use Rattle.upp_limits.specs.rational.specs.Rational.{ℚ}
+use Rattle.upp_limits.specs.declared.op_kind.OpKind.{OpKind}
+use Rattle.upp_limits.specs.declared.op_kind.OpFault.{OpFault}
+use Rattle.upp_limits.specs.declared.op_kind.OpFault.TheVariants.{NoMemory}
+use Rattle.residuals.specs.curve_call.specs.Calls.{goes_on, stops}
+use Rattle.residuals.specs.calls.InTurn.{past}
 use Rattle.net_cells.specs.declared.cell.Cell.{Cell}
 use Rattle.net_cells.specs.Meanings.{curve, number, CellTable}
 use Rattle.net_cells.specs.Formulas.{value_of, made, moved, leftover, horizontal, delayed}

@@ -4,7 +4,7 @@ use Rattle.std.specs.Prelude.{Option, None, is_some}
 use Rattle.std.specs.List.{filter, range_with_len}
 use Rattle.std.proofs.lemmas.Bool.{cases_lt, ltb-true, lt-ltb, eqb-true, eq-eqb}
 use Rattle.std.proofs.lemmas.List.{get_or_past}
-use Rattle.net_graph.specs.net_model.specs.Networks.{Net, NetFlow}
+use Rattle.net_model.specs.Networks.{Net, NetFlow}
 use Rattle.net_cells.specs.declared.cell.Cell.{Cell}
 use Rattle.net_cells.specs.declared.cell.Kind.{Kind}
 use Rattle.net_cells.specs.declared.cell.Kind.TheVariants.{In, Cross, Total, Higher, QueueService, Theta, Residual, QueueDelay, QueueBacklog, HopDelay, ShiftOut, DeconvOut, Out, PathService, Tfa, Sfa, Bound}
@@ -15,7 +15,7 @@ use Rattle.net_cells.specs.Visits.{Visit, visit, all_visits, visits, is_at, goes
 use Rattle.net_cells.specs.Cells.{cell_of, scope_of, is_in_scope, has_cell, server_kinds, path_kinds}
 use Rattle.net_cells.specs.Order.{at_visit, cells_in_scope, kind_cells, server_cells, path_cells}
 use Rattle.net_cells.proofs.Lists.{Apart, map_has, apart_map, has_filter, filter_has, apart_filter, apart_back, Before, before_back, before_range, flat_has, apart_flat, has_range, range_has, apart_range}
-use Rattle.residual_calls.specs.run_laws.proofs.Members.{Has, has_map, has_flat}
+use Rattle.net_model.specs.run_laws.proofs.Members.{Has, has_map, has_flat}
 
 -- ---- flows
 pub flow_inside : (net : Net) (i k : ℕ) → k < hops net i → i < length net.flows

@@ -1,20 +1,20 @@
 -- Where the making of a formula's value is refused has a place among its operators.
 use Rattle.std.proofs.Common.{◌≡◌, ℕ, ◌+◌, ◌-◌, ◌≤◌, List, [], ◌∷◌, ◌++◌, length, refl, arith, length-append}
 use Rattle.std.specs.Prelude.{Some, Result, if◌then◌else◌}
-use Rattle.net_graph.specs.rational.specs.Extended.{Ext, min_ext}
-use Rattle.net_graph.specs.upp_limits.specs.declared.op_kind.OpKind.{OpKind}
-use Rattle.net_graph.specs.upp_limits.specs.declared.op_kind.OpKind.TheVariants.{Sum, Min, Shift, FifoLeft, Horizontal, Vertical}
-use Rattle.net_graph.specs.upp_limits.specs.declared.op_kind.OpFault.{OpFault}
-use Rattle.net_graph.specs.upp_curve.specs.Curve.{SpecCurve}
-use Rattle.net_graph.specs.upp_curve.specs.Kinds.{bucket}
-use Rattle.residual_calls.specs.run_laws.specs.Cards.{whole}
-use Rattle.net_graph.specs.min_plus.specs.Deviations.{IsHorizontalDeviation, IsVerticalDeviation}
-use Rattle.residual_calls.specs.curve_call.specs.Again.{IsAgain, again_determined}
-use Rattle.residual_calls.specs.curve_call.specs.Calls.{Applies, AppliesTo}
-use Rattle.residual_calls.specs.PriorityCalls.{MakesPriority}
-use Rattle.residual_calls.specs.DrrCalls.{MakesDrr}
-use Rattle.residual_calls.specs.InTurn.{AtCall, InTurn, IsPlaced, PriorityRefused, DrrRefused}
-use Rattle.residual_calls.proofs.Placed.{call_placed, applies_placed, then_placed, placed_within, services_placed}
+use Rattle.upp_limits.specs.rational.specs.Extended.{Ext, min_ext}
+use Rattle.upp_limits.specs.declared.op_kind.OpKind.{OpKind}
+use Rattle.upp_limits.specs.declared.op_kind.OpKind.TheVariants.{Sum, Min, Shift, FifoLeft, Horizontal, Vertical}
+use Rattle.upp_limits.specs.declared.op_kind.OpFault.{OpFault}
+use Rattle.upp_limits.specs.upp_curve.specs.Curve.{SpecCurve}
+use Rattle.upp_limits.specs.upp_curve.specs.Kinds.{bucket}
+use Rattle.net_model.specs.run_laws.specs.Cards.{whole}
+use Rattle.upp_limits.specs.min_plus.specs.Deviations.{IsHorizontalDeviation, IsVerticalDeviation}
+use Rattle.residuals.specs.curve_call.specs.Again.{IsAgain, again_determined}
+use Rattle.residuals.specs.curve_call.specs.Calls.{Applies, AppliesTo}
+use Rattle.residuals.specs.calls.PriorityCalls.{MakesPriority}
+use Rattle.residuals.specs.calls.DrrCalls.{MakesDrr}
+use Rattle.residuals.specs.calls.InTurn.{AtCall, InTurn, IsPlaced, PriorityRefused, DrrRefused}
+use Rattle.residuals.proofs.calls.Placed.{call_placed, applies_placed, then_placed, placed_within, services_placed}
 use Rattle.net_cells.specs.Numbered.{zero_curve}
 use Rattle.net_cells.specs.Meanings.{Meaning, curve, number, CellTable}
 use Rattle.net_cells.specs.NumberSums.{Sums}

@@ -2,9 +2,9 @@
 use Rattle.std.specs.Prelude.{◌≡◌, ℕ, Option, Some, None, is_some}
 use Rattle.std.proofs.Common.{refl, ap, ◌∙◌}
 use Rattle.std.proofs.Math.ListN.{get_or-map}
-use Rattle.residual_calls.specs.run_laws.specs.Routes.{Route, route_of}
-use Rattle.net_graph.specs.net_model.specs.Networks.{Net, NetFlow}
-use Rattle.net_graph.specs.net_model.specs.NetRoutes.{route_for, routes_of}
+use Rattle.net_model.specs.run_laws.specs.Routes.{Route, route_of}
+use Rattle.net_model.specs.Networks.{Net, NetFlow}
+use Rattle.net_model.specs.NetRoutes.{route_for, routes_of}
 use Rattle.net_cells.specs.Numbered.{flow_at, is_live}
 
 pub route_is : (net : Net) (i : ℕ) → route_of (routes_of net) i ≡ route_for (flow_at net i)

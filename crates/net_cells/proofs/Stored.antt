@@ -6,11 +6,11 @@ use Rattle.std.specs.List.{filter, flat_map, range_with_len}
 use Rattle.std.proofs.lemmas.Bool.{cases_lt}
 use Rattle.std.proofs.lemmas.List.{length-map, get_or-map, get_or_past, get_or_default}
 use Rattle.std.proofs.lemmas.Option.{slice_get-get_or, slice_get_past, slice_get_within, get_or_from_slice_get}
-use Rattle.net_graph.specs.net_model.specs.declared.flow.Flow.{Flow}
-use Rattle.net_graph.specs.net_model.specs.declared.server.Server.{Server}
-use Rattle.net_graph.specs.net_model.specs.Networks.{Net, NetFlow, NetServer}
-use Rattle.net_graph.specs.net_model.specs.Accepted.{IsAccepted, IsFlow, IsServer}
-use Rattle.net_graph.specs.net_model.specs.Views.{flow_of, flows_of, server_of, servers_of}
+use Rattle.net_model.specs.declared.flow.Flow.{Flow}
+use Rattle.net_model.specs.declared.server.Server.{Server}
+use Rattle.net_model.specs.Networks.{Net, NetFlow, NetServer}
+use Rattle.net_model.specs.Accepted.{IsAccepted, IsFlow, IsServer}
+use Rattle.net_model.specs.Views.{flow_of, flows_of, server_of, servers_of}
 use Rattle.net_cells.specs.Numbered.{flow_at, path_of, path, hops, is_live}
 use Rattle.net_cells.specs.Visits.{Visit, visit, visits, is_at, hops_at}
 use Rattle.net_cells.proofs.Growing.{filter_flat, flat_same, filter_mapped}

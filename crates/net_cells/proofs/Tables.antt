@@ -1,11 +1,11 @@
 -- Tables that are right on a front of the order agree there; so one cell is the first over a limit.
 use Rattle.std.proofs.Common.{◌≡◌, ℕ, List, [], ◌∷◌, ◌++◌, refl, sym, ap, ◌∙◌, subst, inl, inr, append_assoc, append-nil}
 use Rattle.std.specs.Prelude.{Some, Ok, Err}
-use Rattle.net_graph.specs.upp_limits.specs.declared.op_kind.OpFault.{OpFault}
-use Rattle.net_graph.specs.upp_limits.specs.declared.op_kind.OpFault.TheVariants.{NoMemory}
-use Rattle.net_graph.specs.net_model.specs.Networks.{Net}
-use Rattle.net_graph.specs.net_model.specs.Accepted.{IsAccepted}
-use Rattle.net_graph.specs.net_model.specs.Orders.{IsOrder}
+use Rattle.upp_limits.specs.declared.op_kind.OpFault.{OpFault}
+use Rattle.upp_limits.specs.declared.op_kind.OpFault.TheVariants.{NoMemory}
+use Rattle.net_model.specs.Networks.{Net}
+use Rattle.net_model.specs.Accepted.{IsAccepted}
+use Rattle.net_model.specs.Orders.{IsOrder}
 use Rattle.net_cells.specs.declared.cell.Cell.{Cell}
 use Rattle.net_cells.specs.Order.{evaluation_order}
 use Rattle.net_cells.specs.Formulas.{leaves}
@@ -21,7 +21,7 @@ use Rattle.net_cells.proofs.AnswersMean.{answers_mean}
 use Rattle.net_cells.proofs.SameLeaves.{AgreeOn, means_same, answers_same}
 use Rattle.net_cells.proofs.Members.{in_order, order_has}
 use Rattle.net_cells.proofs.Precedes.{leaf_in_front, in_front}
-use Rattle.residual_calls.specs.run_laws.proofs.Members.{Has, has_left, has_right, has_either, contains_has, has_contains}
+use Rattle.net_model.specs.run_laws.proofs.Members.{Has, has_left, has_right, has_either, contains_has, has_contains}
 
 -- ---- on a front of the order
 abbrev MeetOn : Net → CellTable → List Cell → Type 0

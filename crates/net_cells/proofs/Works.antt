@@ -5,9 +5,9 @@ use Rattle.std.proofs.lemmas.Bool.{cases_eq}
 use Rattle.std.specs.List.{range_with_len}
 use Rattle.std.proofs.lemmas.List.{length-map}
 use Rattle.std.proofs.lemmas.List.FromFn.{length-range_with_len}
-use Rattle.net_graph.specs.upp_limits.specs.declared.op_kind.OpKind.TheVariants.{Sum}
-use Rattle.residual_calls.specs.run_laws.specs.Servers.{Discipline, Fifo, Priority, Drr}
-use Rattle.net_graph.specs.net_model.specs.Networks.{Net}
+use Rattle.upp_limits.specs.declared.op_kind.OpKind.TheVariants.{Sum}
+use Rattle.net_model.specs.run_laws.specs.Servers.{Discipline, Fifo, Priority, Drr}
+use Rattle.net_model.specs.Networks.{Net}
 use Rattle.net_cells.specs.declared.cell.Cell.{Cell}
 use Rattle.net_cells.specs.declared.cell.Kind.{Kind}
 use Rattle.net_cells.specs.declared.cell.Kind.TheVariants.{In, Cross, Total, Higher, QueueService, Theta, Residual, QueueDelay, QueueBacklog, HopDelay, ShiftOut, DeconvOut, Out, PathService, Tfa, Sfa, Bound}

@@ -3,11 +3,11 @@
 -- bounds are taken, and the others' horizontal deviation from the service as theta, is our own choice.)
 use Rattle.std.specs.Prelude.{ℕ, zero, suc, ◌-◌, Bool, true, false, ◌==◌, List, [], ◌∷◌, length, map}
 use Rattle.std.specs.List.{range_with_len}
-use Rattle.net_graph.specs.rational.specs.Rational.{ℚ}
-use Rattle.net_graph.specs.upp_limits.specs.declared.op_kind.OpKind.TheVariants.{Sum, Min, PosMinus, Convolve, Deconvolve}
-use Rattle.residual_calls.specs.run_laws.specs.Cards.{whole}
-use Rattle.residual_calls.specs.run_laws.specs.Servers.{Discipline, Fifo, Priority, Drr}
-use Rattle.net_graph.specs.net_model.specs.Networks.{Net}
+use Rattle.upp_limits.specs.rational.specs.Rational.{ℚ}
+use Rattle.upp_limits.specs.declared.op_kind.OpKind.TheVariants.{Sum, Min, PosMinus, Convolve, Deconvolve}
+use Rattle.net_model.specs.run_laws.specs.Cards.{whole}
+use Rattle.net_model.specs.run_laws.specs.Servers.{Discipline, Fifo, Priority, Drr}
+use Rattle.net_model.specs.Networks.{Net}
 use Rattle.net_cells.specs.declared.cell.Cell.{Cell}
 use Rattle.net_cells.specs.declared.cell.Kind.{Kind}
 use Rattle.net_cells.specs.declared.cell.Kind.TheVariants.{In, Cross, Total, Higher, QueueService, Theta, Residual, QueueDelay, QueueBacklog, HopDelay, ShiftOut, DeconvOut, Out, PathService, Tfa, Sfa, Bound}

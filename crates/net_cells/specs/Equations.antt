@@ -1,7 +1,7 @@
 -- When a table meets the equations of a network. (Le Boudec and Thiran; the equations are those of total-flow and
 -- separate-flow analysis.)
 use Rattle.std.specs.Prelude.{◌≡◌, List, Some, IsTrue, Contains}
-use Rattle.net_graph.specs.net_model.specs.Networks.{Net}
+use Rattle.net_model.specs.Networks.{Net}
 use Rattle.net_cells.specs.declared.cell.Cell.{Cell}
 use Rattle.net_cells.specs.Cells.{has_cell}
 use Rattle.net_cells.specs.Formulas.{leaves}

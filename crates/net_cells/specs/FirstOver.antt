@@ -1,9 +1,9 @@
 -- The first cell that is over a limit, stated by a table of the cells before it: past it there need be none. Own
 -- choice.
 use Rattle.std.specs.Prelude.{◌≡◌, ◌≢◌, ℕ, List, ◌∷◌, ◌++◌, Some, Ok, Err, Contains}
-use Rattle.net_graph.specs.upp_limits.specs.declared.op_kind.OpFault.{OpFault}
-use Rattle.net_graph.specs.upp_limits.specs.declared.op_kind.OpFault.TheVariants.{NoMemory}
-use Rattle.net_graph.specs.net_model.specs.Networks.{Net}
+use Rattle.upp_limits.specs.declared.op_kind.OpFault.{OpFault}
+use Rattle.upp_limits.specs.declared.op_kind.OpFault.TheVariants.{NoMemory}
+use Rattle.net_model.specs.Networks.{Net}
 use Rattle.net_cells.specs.declared.cell.Cell.{Cell}
 use Rattle.net_cells.specs.Order.{evaluation_order}
 use Rattle.net_cells.specs.CellFormulas.{formula}

@@ -1,11 +1,11 @@
 -- What holds of the cells of every network whose servers have an order. Own choice.
 use Rattle.std.specs.Prelude.{◌≡◌, ◌≢◌, ℕ, List, ◌∷◌, ◌++◌, Ok, IsTrue, Contains, AllPairs}
-use Rattle.net_graph.specs.upp_limits.specs.declared.op_kind.OpFault.{OpFault}
-use Rattle.net_graph.specs.net_model.specs.Networks.{Net}
-use Rattle.net_graph.specs.net_model.specs.Accepted.{IsAccepted}
-use Rattle.net_graph.specs.net_model.specs.Orders.{IsOrder}
-use Rattle.residual_calls.specs.curve_call.specs.Determined.{IsDetermined}
-use Rattle.residual_calls.specs.InTurn.{IsPlaced}
+use Rattle.upp_limits.specs.declared.op_kind.OpFault.{OpFault}
+use Rattle.net_model.specs.Networks.{Net}
+use Rattle.net_model.specs.Accepted.{IsAccepted}
+use Rattle.net_model.specs.Orders.{IsOrder}
+use Rattle.residuals.specs.curve_call.specs.Determined.{IsDetermined}
+use Rattle.residuals.specs.calls.InTurn.{IsPlaced}
 use Rattle.net_cells.specs.declared.cell.Cell.{Cell}
 use Rattle.net_cells.specs.Cells.{has_cell}
 use Rattle.net_cells.specs.Order.{evaluation_order}

@@ -2,7 +2,7 @@
 -- and in a kind by flow or by queue; then the whole paths, kind by kind and by flow. (Own choice.)
 use Rattle.std.specs.Prelude.{ℕ, List, [], ◌++◌, length, map}
 use Rattle.std.specs.List.{filter, flat_map, range_with_len}
-use Rattle.net_graph.specs.net_model.specs.Networks.{Net}
+use Rattle.net_model.specs.Networks.{Net}
 use Rattle.net_cells.specs.declared.cell.Cell.{Cell}
 use Rattle.net_cells.specs.declared.cell.Kind.{Kind}
 use Rattle.net_cells.specs.declared.cell.Scope.{Scope}

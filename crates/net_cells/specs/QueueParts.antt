@@ -2,7 +2,7 @@
 -- (Grouping of flows by their input link; own choice of the order.)
 use Rattle.std.specs.Prelude.{ℕ, zero, suc, ◌+◌, ◌-◌, List, [], ◌∷◌, length, map, Bool, ◌==◌, ◌&&◌, if◌then◌else◌}
 use Rattle.std.specs.List.{filter, flat_map, range_with_len}
-use Rattle.net_graph.specs.net_model.specs.Networks.{Net}
+use Rattle.net_model.specs.Networks.{Net}
 use Rattle.net_cells.specs.Numbered.{hops, server_of_hop, queue_of_hop}
 use Rattle.net_cells.specs.Visits.{Visit, visit, visits_in}
 

@@ -1,7 +1,7 @@
 -- Which flows pass a server, and in which of its queues. (Own choice.)
 use Rattle.std.specs.Prelude.{ℕ, ◌+◌, List, [], ◌∷◌, length, map, max, Bool, not, ◌==◌, ◌&&◌, nat_lt, slice_index}
 use Rattle.std.specs.List.{filter, flat_map, range_with_len}
-use Rattle.net_graph.specs.net_model.specs.Networks.{Net}
+use Rattle.net_model.specs.Networks.{Net}
 pub use Rattle.net_cells.specs.declared.visit.Visit.{Visit}
 use Rattle.net_cells.specs.Numbered.{hops, packet, server_of_hop, queue_of_hop}
 

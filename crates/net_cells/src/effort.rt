@@ -10,7 +10,7 @@ ghost use Rattle.net_cells.specs.Work as spec;
 use crate::cell::{Cell, Kind};
 use crate::numbered::{hops, live_flow, number_at, queue_of_hop, server, server_of_hop};
 use crate::parts::parts_work;
-use net_graph::net_model::{Discipline, Flow, Network};
+use net_model::{Discipline, Flow, Network};
 
 // ---- hops in a queue
 fn is_in(path: &[u32], lanes: &[u32], hop: u32, server: u32, queue: u32) -> bool

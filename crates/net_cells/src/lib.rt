@@ -4,6 +4,7 @@
 #![tactic(auto)]
 
 mod cell;
+pub mod cell_table;
 mod effort;
 mod laws;
 mod numbered;
@@ -19,13 +20,10 @@ pub use laws::{
     one_is_first_over, operands_are_cells, operands_are_different, operands_come_first,
     order_has_each_cell, refusals_are_placed, tables_agree, work_is_operators,
 };
-pub use net_graph;
-pub use net_graph::{net_model, upp_curve, upp_limits};
 pub use numbered::{
     hops, is_by_priority, levels, live_flow, queue_of_hop, queues, server, server_of_hop,
 };
 pub use operand::{operands, visits_in};
 pub use order::cells;
 pub use parts::part_of;
-pub use residual_calls::{fraction128, run_laws};
 pub use visit::{Visit, visits};

@@ -2,11 +2,11 @@
 
 ghost use Rattle.std.specs.Prelude.{◌≡◌, ◌≤◌, IfSome, slice_get, slice_index};
 ghost use Rattle.std.specs.Option.{option_map};
-ghost use Rattle.net_graph.specs.net_model.specs.Accepted.{IsFlow, IsServer};
-ghost use Rattle.net_graph.specs.net_model.specs.Views as views;
+ghost use Rattle.net_model.specs.Accepted.{IsFlow, IsServer};
+ghost use Rattle.net_model.specs.Views as views;
 ghost use Rattle.net_cells.specs.Numbered as at;
 
-use net_graph::net_model::{Discipline, Flow, Network, Server};
+use net_model::{Discipline, Flow, Network, Server};
 
 /// The live flow of a number.
 pub fn live_flow<'a>(net: &'a Network, flow: u32) -> Option<&'a Flow>

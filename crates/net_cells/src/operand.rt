@@ -2,7 +2,7 @@
 
 ghost use Rattle.std.specs.Prelude.{◌≡◌, [], ◌∷◌, map, not, ◌==◌, IfOk};
 ghost use Rattle.std.specs.List.{filter, range_with_len};
-ghost use Rattle.net_graph.specs.net_model.specs.Networks.{Net};
+ghost use Rattle.net_model.specs.Networks.{Net};
 ghost use Rattle.net_cells.specs.declared.cell.Kind.TheVariants.{In, Cross, Total, QueueService, Theta, Residual, HopDelay, PathService};
 ghost use Rattle.net_cells.specs.Numbered as at;
 ghost use Rattle.net_cells.specs.Visits as visiting;
@@ -16,7 +16,7 @@ use crate::numbered::{hops, is_by_priority, queue_of_hop, server_of_hop};
 use crate::order::{push_numbers, push_visits};
 use crate::parts::by_parts;
 use crate::visit::{Visit, visits};
-use net_graph::net_model::Network;
+use net_model::Network;
 use std::alloc::{AllocError, Global};
 
 // ---- the hops in a queue

@@ -9,7 +9,7 @@ ghost use Rattle.net_cells.specs.Order.{at_visit, kind_cells, server_cells, path
 use crate::cell::{Cell, Kind, Scope};
 use crate::numbered::{hops, levels, queues};
 use crate::visit::{Visit, visits};
-use net_graph::net_model::Network;
+use net_model::Network;
 use std::alloc::{AllocError, Global};
 
 impl Kind {

@@ -11,7 +11,7 @@ ghost use Rattle.net_cells.specs.Work as spec;
 use crate::cell::{Cell, Kind};
 use crate::numbered::{hops, queue_of_hop, server_of_hop};
 use crate::visit::Visit;
-use net_graph::net_model::Network;
+use net_model::Network;
 use std::alloc::{AllocError, Global};
 
 /// The part of its queue in which a hop is: 0 where its path begins there, else one more than the number of the server

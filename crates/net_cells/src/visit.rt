@@ -4,7 +4,7 @@ ghost use Rattle.std.specs.Prelude.{◌≡◌, ◌≤◌, ◌++◌, length, IfOk
 ghost use Rattle.net_cells.specs.Numbered.{stored_path};
 ghost use Rattle.net_cells.specs.Visits.{visits, hops_at};
 
-use net_graph::net_model::{Flow, Network};
+use net_model::{Flow, Network};
 use std::alloc::{AllocError, Global};
 
 /// A hop of a flow: the flow's number, and the place on its path, from 0.

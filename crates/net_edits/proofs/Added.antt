@@ -4,12 +4,12 @@ use Rattle.std.specs.Prelude.{Ok, Err, ℤ, nat_le, nat_lt, ◌&&◌, not}
 use Rattle.std.specs.List.{list_all}
 use Rattle.std.proofs.lemmas.Bool.{and_parts, and_from, not_from_false, leb-true, lt-ltb, le-ltb}
 use Rattle.std.proofs.lemmas.List.Sums.{AllPass-from_list_all}
-use Rattle.min_plus.specs.rational.specs.Rational.{ℚ}
-use Rattle.net_cells.specs.net_model.specs.declared.edit.PathEntry.{PathEntry}
-use Rattle.net_cells.specs.net_model.specs.Networks.{Net}
-use Rattle.net_cells.specs.net_model.specs.Names.{IsName, is_name_byte}
-use Rattle.net_cells.specs.net_model.specs.Accepted.{IsFlow, IsAccepted}
-use Rattle.net_cells.specs.net_model.proofs.KindsStand.{kinds_may_stand}
+use Rattle.upp_limits.specs.rational.specs.Rational.{ℚ}
+use Rattle.net_model.specs.declared.edit.PathEntry.{PathEntry}
+use Rattle.net_model.specs.Networks.{Net}
+use Rattle.net_model.specs.Names.{IsName, is_name_byte}
+use Rattle.net_model.specs.Accepted.{IsFlow, IsAccepted}
+use Rattle.net_model.proofs.KindsStand.{kinds_may_stand}
 use Rattle.net_edits.specs.Refusals.{Or, no_number_left, and_then, only_if}
 use Rattle.net_edits.specs.Lookups.{server_numbers, is_free}
 use Rattle.net_edits.specs.Values.{whole_that, is_length, is_name, entry_queues, may_be_path, fits_along, quanta_fit}

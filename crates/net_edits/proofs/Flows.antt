@@ -7,16 +7,16 @@ use Rattle.std.proofs.lemmas.List.{length-set, length_push}
 use Rattle.std.proofs.lemmas.List.Elements.{All-set, All-push, All-contains}
 use Rattle.std.proofs.lemmas.List.Folds.{list_all-append}
 use Rattle.std.proofs.lemmas.List.Quantifiers.{all_pairs_push}
-use Rattle.net_cells.specs.net_model.specs.Networks.{Net, NetFlow}
-use Rattle.net_cells.specs.net_model.specs.Names.{DifferInName}
-use Rattle.net_cells.specs.net_model.specs.Accepted.{IsFlow, IsAccepted}
+use Rattle.net_model.specs.Networks.{Net, NetFlow}
+use Rattle.net_model.specs.Names.{DifferInName}
+use Rattle.net_model.specs.Accepted.{IsFlow, IsAccepted}
 use Rattle.net_edits.specs.Changed.{put_flow, with_more}
 use Rattle.net_edits.specs.Values.{place_fits, quanta_fit}
 use Rattle.net_edits.proofs.Places.{pairs-set}
 use Rattle.net_edits.proofs.Fitting.{accepted_fits}
 use Rattle.std.proofs.Math.Bool.{and-true}
-use Rattle.net_cells.specs.net_model.proofs.Placed.{MayBe}
-use Rattle.net_cells.specs.net_model.proofs.Short.{all_of}
+use Rattle.net_model.proofs.Placed.{MayBe}
+use Rattle.net_model.proofs.Short.{all_of}
 
 all_may_be : (net : Net) → IsAccepted net → (o : Option NetFlow) → Contains net.flows o → MayBe net.servers o
 all_may_be net a o m f e = a.flows f (subst (λ (p : Option NetFlow). Contains net.flows p) e m)

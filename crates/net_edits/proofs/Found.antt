@@ -3,9 +3,9 @@ use Rattle.std.proofs.Common.{◌≡◌, ◌≢◌, ℕ, suc, ◌<◌, List, [],
 use Rattle.std.specs.Prelude.{Ok, Err, AllPairs, slice_get, is_none, not, string_bytes}
 use Rattle.std.specs.List.{position}
 use Rattle.std.proofs.lemmas.Option.{slice_get_within, get_or_from_slice_get, slice_get-get_or}
-use Rattle.net_cells.specs.net_model.specs.declared.edit.PathEntry.{PathEntry}
-use Rattle.net_cells.specs.net_model.specs.Networks.{Net, NetServer, NetFlow}
-use Rattle.net_cells.specs.net_model.specs.Names.{DifferInName, IsServerNamed, IsFlowNamed, FindsServer, FindsFlow}
+use Rattle.net_model.specs.declared.edit.PathEntry.{PathEntry}
+use Rattle.net_model.specs.Networks.{Net, NetServer, NetFlow}
+use Rattle.net_model.specs.Names.{DifferInName, IsServerNamed, IsFlowNamed, FindsServer, FindsFlow}
 use Rattle.net_edits.specs.declared.fault.EditFault.{EditFault}
 use Rattle.net_edits.specs.Refusals.{Or, unknown_name, and_then}
 use Rattle.net_edits.specs.Lookups.{is_server_named, is_flow_named, number_of, server_number, flow_number, before, server_numbers, is_free}

@@ -3,19 +3,19 @@ use Rattle.std.proofs.Common.{◌≡◌, ℕ, ◌≤◌, length, refl, sym, subs
 use Rattle.std.specs.Prelude.{Option, Result, slice_set}
 use Rattle.std.proofs.lemmas.List.{length-set}
 use Rattle.std.proofs.lemmas.List.Elements.{All-set}
-use Rattle.min_plus.specs.rational.specs.Rational.{ℚ, ◌≤ℚ◌, ◌<ℚ◌}
-use Rattle.min_plus.specs.rational.proofs.Laws.{le_trans, le_of_lt, lt_irrefl, lt_le_trans, not_le_of_lt}
-use Rattle.min_plus.specs.Functions.{zero_q}
-use Rattle.net_cells.specs.upp_curve.specs.Curve.{SpecCurve}
-use Rattle.net_cells.specs.upp_curve.specs.Kinds.{rate_latency, gate}
+use Rattle.upp_limits.specs.rational.specs.Rational.{ℚ, ◌≤ℚ◌, ◌<ℚ◌}
+use Rattle.upp_limits.specs.rational.proofs.Laws.{le_trans, le_of_lt, lt_irrefl, lt_le_trans, not_le_of_lt}
+use Rattle.upp_limits.specs.min_plus.specs.Functions.{zero_q}
+use Rattle.upp_limits.specs.upp_curve.specs.Curve.{SpecCurve}
+use Rattle.upp_limits.specs.upp_curve.specs.Kinds.{rate_latency, gate}
 use Rattle.curve_library.specs.Causes.{OneNegative, NoSlot}
 use Rattle.curve_library.proofs.SignTests.{none_negative}
-use Rattle.net_cells.specs.run_laws.specs.Servers.{Discipline, Fifo, Priority, Drr, queue_count}
-use Rattle.net_cells.specs.net_model.specs.declared.server.ServiceKind.{ServiceKind}
-use Rattle.net_cells.specs.net_model.specs.declared.server.ServiceKind.TheVariants.{Latency, Gate, Listed}
-use Rattle.net_cells.specs.net_model.specs.Networks.{NetServer}
-use Rattle.net_cells.specs.net_model.specs.Accepted.{IsLength, IsOfKind, IsServiceCurve, HasFewQueues, IsServer}
-use Rattle.net_cells.specs.net_model.proofs.KindsStand.{kinds_may_stand}
+use Rattle.net_model.specs.run_laws.specs.Servers.{Discipline, Fifo, Priority, Drr, queue_count}
+use Rattle.net_model.specs.declared.server.ServiceKind.{ServiceKind}
+use Rattle.net_model.specs.declared.server.ServiceKind.TheVariants.{Latency, Gate, Listed}
+use Rattle.net_model.specs.Networks.{NetServer}
+use Rattle.net_model.specs.Accepted.{IsLength, IsOfKind, IsServiceCurve, HasFewQueues, IsServer}
+use Rattle.net_model.proofs.KindsStand.{kinds_may_stand}
 use Rattle.net_cells.specs.declared.cell.Cell.{Cell}
 use Rattle.net_edits.specs.declared.fault.EditFault.{EditFault}
 use Rattle.net_edits.specs.Changed.{service_of_kind, with_rate, with_latency, with_link, set_quantum, with_quantum}

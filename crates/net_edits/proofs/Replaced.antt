@@ -4,10 +4,10 @@ use Rattle.std.specs.Prelude.{slice_set}
 use Rattle.std.specs.Option.{option_map}
 use Rattle.std.proofs.lemmas.Bool.{cases_lt}
 use Rattle.std.proofs.lemmas.List.{map-set, drop_all}
-use Rattle.net_cells.specs.net_model.specs.declared.flow.Flow.{Flow}
-use Rattle.net_cells.specs.net_model.specs.declared.server.Server.{Server}
-use Rattle.net_cells.specs.net_model.specs.Networks.{Net, NetServer, NetFlow}
-use Rattle.net_cells.specs.net_model.specs.Views.{server_of, flow_of, servers_of, flows_of, net_of}
+use Rattle.net_model.specs.declared.flow.Flow.{Flow}
+use Rattle.net_model.specs.declared.server.Server.{Server}
+use Rattle.net_model.specs.Networks.{Net, NetServer, NetFlow}
+use Rattle.net_model.specs.Views.{server_of, flow_of, servers_of, flows_of, net_of}
 use Rattle.net_edits.specs.Changed.{put_server, put_flow}
 use Rattle.net_edits.specs.Values.{are_queues, fits_along}
 

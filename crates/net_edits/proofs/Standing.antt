@@ -5,10 +5,10 @@ use Rattle.std.proofs.lemmas.List.{length-set}
 use Rattle.std.proofs.lemmas.List.Elements.{All-set, All-contains}
 use Rattle.std.proofs.lemmas.Bool.Decides.{eqb_tells}
 use Rattle.std.proofs.lemmas.Option.{same_Some}
-use Rattle.net_cells.specs.run_laws.specs.Servers.{Discipline, queue_count}
-use Rattle.net_cells.specs.net_model.specs.Networks.{Net, NetServer, NetFlow}
-use Rattle.net_cells.specs.net_model.specs.Accepted.{IsServer, IsInQuantum, IsHop, IsFlow, IsAccepted}
-use Rattle.net_cells.specs.net_model.proofs.Short.{all_of}
+use Rattle.net_model.specs.run_laws.specs.Servers.{Discipline, queue_count}
+use Rattle.net_model.specs.Networks.{Net, NetServer, NetFlow}
+use Rattle.net_model.specs.Accepted.{IsServer, IsInQuantum, IsHop, IsFlow, IsAccepted}
+use Rattle.net_model.proofs.Short.{all_of}
 use Rattle.net_cells.specs.Numbered.{discipline_of}
 use Rattle.net_edits.specs.Changed.{put_server}
 use Rattle.net_edits.specs.Values.{is_in_quantum, quanta_fit}

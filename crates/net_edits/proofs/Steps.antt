@@ -1,7 +1,7 @@
 -- Steps of which the first refusal counts, and what is answered after them.
 use Rattle.std.proofs.Common.{◌≡◌, Bool, true, false, ap}
 use Rattle.std.specs.Prelude.{Ok, Err}
-use Rattle.net_cells.specs.net_model.specs.Networks.{Net}
+use Rattle.net_model.specs.Networks.{Net}
 use Rattle.net_edits.specs.declared.fault.EditFault.{EditFault}
 use Rattle.net_edits.specs.declared.fault.EditFault.TheVariants.{UnknownName, NameTaken, BadValue, LimitReached, Cycle, TooMany, TooWide, NothingToUndo, NoMemory}
 use Rattle.net_edits.specs.Refusals.{Or, bad_value, and_then, only_if}

@@ -1,12 +1,12 @@
 -- Servers, flows and networks with one thing changed. Own choice.
 use Rattle.std.specs.Prelude.{ℕ, List, [], ◌∷◌, ◌++◌, Option, Some, None, slice_get, slice_set}
-use Rattle.min_plus.specs.rational.specs.Rational.{ℚ}
-use Rattle.net_cells.specs.upp_curve.specs.Curve.{SpecCurve}
-use Rattle.net_cells.specs.upp_curve.specs.Kinds.{rate_latency, gate}
-use Rattle.net_cells.specs.run_laws.specs.Servers.{Discipline, Fifo, Priority, Drr}
-use Rattle.net_cells.specs.net_model.specs.declared.server.ServiceKind.{ServiceKind}
-use Rattle.net_cells.specs.net_model.specs.declared.server.ServiceKind.TheVariants.{Latency, Gate, Listed}
-use Rattle.net_cells.specs.net_model.specs.Networks.{Net, NetServer, NetFlow}
+use Rattle.upp_limits.specs.rational.specs.Rational.{ℚ}
+use Rattle.upp_limits.specs.upp_curve.specs.Curve.{SpecCurve}
+use Rattle.upp_limits.specs.upp_curve.specs.Kinds.{rate_latency, gate}
+use Rattle.net_model.specs.run_laws.specs.Servers.{Discipline, Fifo, Priority, Drr}
+use Rattle.net_model.specs.declared.server.ServiceKind.{ServiceKind}
+use Rattle.net_model.specs.declared.server.ServiceKind.TheVariants.{Latency, Gate, Listed}
+use Rattle.net_model.specs.Networks.{Net, NetServer, NetFlow}
 
 -- ---- one server of a network
 abbrev pub put_server : Net → ℕ → NetServer → Net

@@ -1,16 +1,16 @@
 -- What an edit makes of a network, or the first reason why it makes none: names first, in the order of the row; then a
 -- name that is taken; then values; then numbers. Own choice.
 use Rattle.std.specs.Prelude.{ℕ, ℤ, pos, List, length, Option, Some, None, Ok, Err, Bool, true, false, not, ◌&&◌, nat_lt, string_bytes, slice_get}
-use Rattle.min_plus.specs.rational.specs.Rational.{ℚ, lt_q, int}
-use Rattle.min_plus.specs.Functions.{zero_q}
-use Rattle.net_cells.specs.upp_curve.specs.Curve.{SpecCurve}
-use Rattle.net_cells.specs.upp_curve.specs.Kinds.{bucket, stair, rate_latency}
-use Rattle.net_cells.specs.net_model.specs.declared.server.ServiceKind.{ServiceKind}
-use Rattle.net_cells.specs.net_model.specs.declared.server.ServiceKind.TheVariants.{Latency, Gate, Listed}
-use Rattle.net_cells.specs.net_model.specs.declared.edit.Edit.{Edit}
-use Rattle.net_cells.specs.net_model.specs.declared.edit.Edit.TheVariants as edit
-use Rattle.net_cells.specs.net_model.specs.declared.edit.PathEntry.{PathEntry}
-use Rattle.net_cells.specs.net_model.specs.Networks.{Net, NetServer, NetFlow}
+use Rattle.upp_limits.specs.rational.specs.Rational.{ℚ, lt_q, int}
+use Rattle.upp_limits.specs.min_plus.specs.Functions.{zero_q}
+use Rattle.upp_limits.specs.upp_curve.specs.Curve.{SpecCurve}
+use Rattle.upp_limits.specs.upp_curve.specs.Kinds.{bucket, stair, rate_latency}
+use Rattle.net_model.specs.declared.server.ServiceKind.{ServiceKind}
+use Rattle.net_model.specs.declared.server.ServiceKind.TheVariants.{Latency, Gate, Listed}
+use Rattle.net_model.specs.declared.edit.Edit.{Edit}
+use Rattle.net_model.specs.declared.edit.Edit.TheVariants as edit
+use Rattle.net_model.specs.declared.edit.PathEntry.{PathEntry}
+use Rattle.net_model.specs.Networks.{Net, NetServer, NetFlow}
 use Rattle.net_cells.specs.declared.cell.Cell.{Cell}
 use Rattle.net_cells.specs.declared.cell.Kind.TheVariants as kind
 use Rattle.net_cells.specs.Cells.{cell_of}

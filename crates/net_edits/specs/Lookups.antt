@@ -2,8 +2,8 @@
 use Rattle.std.specs.Prelude.{ℕ, List, [], ◌∷◌, Option, Some, None, Ok, Err, Bool, false, is_none, nat_eq, string_bytes}
 use Rattle.std.specs.List.{position}
 use Rattle.std.specs.Cmp.Lexicographic.{pointwise}
-use Rattle.net_cells.specs.net_model.specs.declared.edit.PathEntry.{PathEntry}
-use Rattle.net_cells.specs.net_model.specs.Networks.{Net, NetServer, NetFlow}
+use Rattle.net_model.specs.declared.edit.PathEntry.{PathEntry}
+use Rattle.net_model.specs.Networks.{Net, NetServer, NetFlow}
 use Rattle.net_edits.specs.Refusals.{unknown_name, Or, and_then}
 
 abbrev pub same_name : List ℕ → List ℕ → Bool

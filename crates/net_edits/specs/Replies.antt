@@ -1,9 +1,9 @@
 -- What calls that edit may answer. Own choice.
 use Rattle.std.specs.Prelude.{◌≡◌, Option, Some, None, Result, Ok, Err, string_bytes}
-use Rattle.net_cells.specs.upp_limits.specs.declared.own_limits.OverLimit.{OverLimit}
-use Rattle.net_cells.specs.upp_limits.specs.declared.own_limits.OverLimit.TheVariants as limit
-use Rattle.net_cells.specs.upp_limits.specs.OwnLimits.{IsOver, IsWithinOwn}
-use Rattle.net_cells.specs.net_model.specs.Networks.{Net}
+use Rattle.upp_limits.specs.declared.own_limits.OverLimit.{OverLimit}
+use Rattle.upp_limits.specs.declared.own_limits.OverLimit.TheVariants as limit
+use Rattle.upp_limits.specs.OwnLimits.{IsOver, IsWithinOwn}
+use Rattle.net_model.specs.Networks.{Net}
 use Rattle.net_cells.specs.declared.cell.Cell.{Cell}
 use Rattle.net_edits.specs.declared.fault.EditFault.{EditFault}
 use Rattle.net_edits.specs.declared.fault.EditFault.TheVariants.{UnknownName, NameTaken, BadValue, LimitReached, Cycle, TooMany, TooWide, NothingToUndo, NoMemory}

@@ -1,13 +1,13 @@
 -- Which values an edit may have. Own choice; packets and quanta are those of Shreedhar and Varghese.
 use Rattle.std.specs.Prelude.{ℕ, ℤ, pos, ◌^◌, List, [], ◌∷◌, length, map, Option, Some, None, Ok, Err, Bool, true, false, ◌&&◌, nat_le, nat_lt, slice_get, slice_index, if◌then◌else◌}
 use Rattle.std.specs.List.{list_all}
-use Rattle.net_cells.specs.run_laws.specs.Servers.{Discipline, Fifo, Priority, Drr}
-use Rattle.net_cells.specs.net_model.specs.declared.edit.PathEntry.{PathEntry}
-use Rattle.net_cells.specs.net_model.specs.Networks.{Net, NetServer, NetFlow}
-use Rattle.net_cells.specs.net_model.specs.Plain.{all_differ}
+use Rattle.net_model.specs.run_laws.specs.Servers.{Discipline, Fifo, Priority, Drr}
+use Rattle.net_model.specs.declared.edit.PathEntry.{PathEntry}
+use Rattle.net_model.specs.Networks.{Net, NetServer, NetFlow}
+use Rattle.net_model.specs.Plain.{all_differ}
 use Rattle.net_cells.specs.Numbered.{discipline_of, queues}
 use Rattle.net_edits.specs.Refusals.{Or, bad_value}
-pub use Rattle.net_cells.specs.net_model.specs.Names.{is_name}
+pub use Rattle.net_model.specs.Names.{is_name}
 
 -- ---- numbers
 -- a whole number from 0 on that passes a test

@@ -1,7 +1,7 @@
 //! Edits of each kind.
 
 ghost use Rattle.std.specs.Prelude.{◌≡◌, ◌≢◌};
-ghost use Rattle.net_cells.specs.net_model.specs.declared.edit.Edit.TheVariants.{Undo};
+ghost use Rattle.net_model.specs.declared.edit.Edit.TheVariants.{Undo};
 ghost use Rattle.net_edits.specs.Edited.{edited};
 ghost use Rattle.net_edits.specs.Replies.{IsReply, IsOverNone};
 
@@ -9,7 +9,7 @@ use crate::add::add_edited;
 use crate::fault::EditFault;
 use crate::flow_edits::{bucket_edited, drop_edited, packet_edited, route_edited, stair_edited};
 use crate::server_edits::{latency_edited, link_edited, quantum_edited, rate_edited};
-use net_cells::net_model::{Edit, Network};
+use net_model::{Edit, Network};
 use std::alloc::Global;
 
 /// The network that an edit makes of one; the first reason why it makes none; or the limit that a curve is over which

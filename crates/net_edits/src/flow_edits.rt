@@ -1,10 +1,10 @@
 //! Edits of one flow.
 
 ghost use Rattle.std.specs.Prelude.{◌≡◌, pos, Some, IfOk};
-ghost use Rattle.min_plus.specs.rational.specs.Rational.{int, ◌≤ℚ◌, ◌<ℚ◌};
-ghost use Rattle.min_plus.specs.Functions.{zero_q};
-ghost use Rattle.net_cells.specs.upp_curve.specs.Kinds as kinds;
-ghost use Rattle.net_cells.specs.net_model.specs.Views.{flow_of};
+ghost use Rattle.upp_limits.specs.rational.specs.Rational.{int, ◌≤ℚ◌, ◌<ℚ◌};
+ghost use Rattle.upp_limits.specs.min_plus.specs.Functions.{zero_q};
+ghost use Rattle.upp_limits.specs.upp_curve.specs.Kinds as kinds;
+ghost use Rattle.net_model.specs.Views.{flow_of};
 ghost use Rattle.net_edits.specs.Changed as changed;
 ghost use Rattle.net_edits.specs.Edited as spec;
 ghost use Rattle.net_edits.specs.Replies.{Makes, IsReply, IsOverNone};
@@ -17,11 +17,11 @@ use crate::replacing::with_flow;
 use crate::service::within_limits;
 use crate::ways::{entry_queues, may_be_path};
 use curve_library::{CurveFault, bucket, stair};
-use net_cells::fraction128::Frac;
-use net_cells::net_model::{Flow, Network, PathEntry};
-use net_cells::upp_curve::Curve;
 use net_cells::{Cell, Kind};
+use net_model::{Flow, Network, PathEntry};
 use std::alloc::{AllocError, Global};
+use upp_limits::fraction128::Frac;
+use upp_limits::upp_curve::Curve;
 
 /// A bucket of numbers that are not below 0.
 pub(crate) fn bucket_of(alloc: Global, burst: Frac, rate: Frac) -> Result<Curve, AllocError>

@@ -1,8 +1,8 @@
 //! The servers and flows that an edit names.
 
 ghost use Rattle.std.specs.Prelude.{◌≡◌, ◌<◌, length, slice_get, IsSome, IfOk, IfErr};
-ghost use Rattle.net_cells.specs.net_model.specs.Accepted.{IsAccepted, IsServer, IsFlow};
-ghost use Rattle.net_cells.specs.net_model.specs.Views.{server_of, flow_of};
+ghost use Rattle.net_model.specs.Accepted.{IsAccepted, IsServer, IsFlow};
+ghost use Rattle.net_model.specs.Views.{server_of, flow_of};
 ghost use Rattle.net_cells.specs.Numbered.{flow_at};
 ghost use Rattle.net_edits.specs.Lookups as spec;
 ghost use Rattle.net_edits.specs.Refusals.{unknown_name};
@@ -10,7 +10,7 @@ ghost use Rattle.net_edits.specs.Replies.{Tells, Refuses};
 
 use crate::fault::EditFault;
 use net_cells::live_flow;
-use net_cells::net_model::{Flow, Network, PathEntry, Server};
+use net_model::{Flow, Network, PathEntry, Server};
 use std::alloc::Global;
 
 /// The number of the server with a name.

@@ -1,16 +1,16 @@
 //! Tests of the values of an edit.
 
 ghost use Rattle.std.specs.Prelude.{◌≡◌};
-ghost use Rattle.net_cells.specs.net_model.specs.Accepted.{HasFewQueues};
-ghost use Rattle.net_cells.specs.net_model.specs.Views.{discipline_of};
+ghost use Rattle.net_model.specs.Accepted.{HasFewQueues};
+ghost use Rattle.net_model.specs.Views.{discipline_of};
 ghost use Rattle.net_edits.specs.Edited as spec;
 ghost use Rattle.net_edits.specs.Replies.{Tells};
 ghost use Rattle.net_edits.specs.Values as values;
 
 use crate::fault::EditFault;
-use net_cells::fraction128::Frac;
-use net_cells::net_model::Discipline;
+use net_model::Discipline;
 use std::cmp::Ordering;
+use upp_limits::fraction128::Frac;
 
 const MOST_BITS: i64 = 16_777_216;
 

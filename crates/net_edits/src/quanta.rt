@@ -3,11 +3,11 @@
 ghost use Rattle.std.specs.Prelude.{◌≡◌, slice_get};
 ghost use Rattle.std.specs.List.{list_all};
 ghost use Rattle.std.specs.Option.{option_map};
-ghost use Rattle.net_cells.specs.net_model.specs.Views.{discipline_of, flow_of, flows_of, servers_of};
+ghost use Rattle.net_model.specs.Views.{discipline_of, flow_of, flows_of, servers_of};
 ghost use Rattle.net_cells.specs.Numbered as at;
 ghost use Rattle.net_edits.specs.Values as spec;
 
-use net_cells::net_model::{Discipline, Flow, Server};
+use net_model::{Discipline, Flow, Server};
 
 fn is_in_quantum(discipline: &Discipline, queue: u32, bits: u32) -> bool
     ensures { result ≡ spec.is_in_quantum (discipline_of discipline.now) queue bits }

@@ -2,8 +2,8 @@
 
 ghost use Rattle.std.specs.Prelude.{◌≡◌, ◌<◌, length, IfOk, IsTrue};
 ghost use Rattle.std.specs.Option.{option_map};
-ghost use Rattle.net_cells.specs.net_model.specs.Accepted.{IsAccepted};
-ghost use Rattle.net_cells.specs.net_model.specs.Views.{server_of, flow_of};
+ghost use Rattle.net_model.specs.Accepted.{IsAccepted};
+ghost use Rattle.net_model.specs.Views.{server_of, flow_of};
 ghost use Rattle.net_edits.specs.Changed as spec;
 ghost use Rattle.net_edits.specs.Refusals.{only_if};
 ghost use Rattle.net_edits.specs.Replies.{Tells};
@@ -11,7 +11,7 @@ ghost use Rattle.net_edits.specs.Values.{quanta_fit};
 
 use crate::fault::EditFault;
 use crate::quanta::all_fit;
-use net_cells::net_model::{Flow, Network, Server};
+use net_model::{Flow, Network, Server};
 use std::alloc::AllocError;
 
 /// The network with a server at a number.

@@ -1,7 +1,7 @@
 //! Edits of one server.
 
 ghost use Rattle.std.specs.Prelude.{◌≡◌, IfOk};
-ghost use Rattle.net_cells.specs.net_model.specs.Views.{discipline_of, server_of};
+ghost use Rattle.net_model.specs.Views.{discipline_of, server_of};
 ghost use Rattle.net_edits.specs.Changed as changed;
 ghost use Rattle.net_edits.specs.Edited as spec;
 ghost use Rattle.net_edits.specs.Replies.{IsReply, IsOverNone};
@@ -11,9 +11,9 @@ use crate::names::{server_at, server_number};
 use crate::numbers::{is_negative, is_positive, length_of, quantum_of};
 use crate::replacing::{with_fitting_server, with_server};
 use crate::service::{with_latency, with_rate};
-use net_cells::fraction128::Frac;
-use net_cells::net_model::{Discipline, Network, Server, ServiceKind};
+use net_model::{Discipline, Network, Server, ServiceKind};
 use std::alloc::{AllocError, Global};
+use upp_limits::fraction128::Frac;
 
 /// Another rate.
 pub(crate) fn rate_edited(

@@ -3,10 +3,10 @@
 ghost use Rattle.std.specs.Prelude.{◌≡◌, ◌≤◌, length, nat_eq, IfOk};
 ghost use Rattle.std.specs.List.{list_any};
 ghost use Rattle.net_edits.specs.Values as spec;
-ghost use Rattle.net_cells.specs.net_model.specs.Plain as plain;
+ghost use Rattle.net_model.specs.Plain as plain;
 
-use net_cells::net_model::{Network, PathEntry};
 use net_cells::queues;
+use net_model::{Network, PathEntry};
 use std::alloc::{AllocError, Global};
 
 const MOST_HOPS: usize = 16;

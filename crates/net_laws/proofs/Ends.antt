@@ -2,14 +2,14 @@
 use Rattle.std.specs.Prelude.{◌≡◌, ◌<◌, ℕ, pos, ◌==◌, List, [], ◌∷◌, ◌++◌, length, All, ◌≤◌}
 use Rattle.std.proofs.Common.{arith, sym, ap, ◌∙◌, refl, inl, inr, subst}
 use Rattle.std.proofs.lemmas.Bool.{eqb-true, eq-eqb}
-use Rattle.rational.specs.Rational.{ℚ, int, ◌+ℚ◌, ◌-ℚ◌, ◌≤ℚ◌, ◌<ℚ◌}
-use Rattle.rational.specs.Extended.{Ext, ◌≤ₑ◌, ◌+ₑ◌}
-use Rattle.rational.specs.declared.Extended.TheVariants.{Fin, Inf}
-use Rattle.rational.proofs.Laws.{le_refl, le_trans, le_or_lt}
-use Rattle.rational.proofs.ExtendedOrder.{le_ext_trans}
-use Rattle.rational.proofs.Linear.{with2, with3, with4, with6, with7}
-use Rattle.run_laws.specs.min_plus.specs.Functions.{IsRising}
-use Rattle.run_laws.specs.min_plus.specs.Deviations.{IsHorizontalDeviation}
+use Rattle.min_plus.specs.rational.specs.Rational.{ℚ, int, ◌+ℚ◌, ◌-ℚ◌, ◌≤ℚ◌, ◌<ℚ◌}
+use Rattle.min_plus.specs.rational.specs.Extended.{Ext, ◌≤ₑ◌, ◌+ₑ◌}
+use Rattle.min_plus.specs.rational.specs.declared.Extended.TheVariants.{Fin, Inf}
+use Rattle.min_plus.specs.rational.proofs.Laws.{le_refl, le_trans, le_or_lt}
+use Rattle.min_plus.specs.rational.proofs.ExtendedOrder.{le_ext_trans}
+use Rattle.min_plus.specs.rational.proofs.Linear.{with2, with3, with4, with6, with7}
+use Rattle.min_plus.specs.Functions.{IsRising}
+use Rattle.min_plus.specs.Deviations.{IsHorizontalDeviation}
 use Rattle.run_laws.specs.declared.steps.Step.{Step}
 use Rattle.run_laws.specs.declared.steps.Step.TheVariants.{Enter, Reach, Work, Leave, Visit}
 use Rattle.run_laws.specs.Runs.{SpecRun}
@@ -26,7 +26,7 @@ use Rattle.run_laws.specs.Views.{Entry, card_of, view_from, view}
 use Rattle.run_laws.specs.Lawful.{Due, RunState, run_start}
 use Rattle.run_laws.proofs.Counts.{arrived_in_is, upto_arrived, departed_rises, departed_upto}
 use Rattle.run_laws.proofs.Delay.{delay_core, gone_most, kept_most, none_above_infinity}
-use Rattle.run_laws.specs.min_plus.proofs.Deviations.{Within, within_deviation, deviation_nonneg}
+use Rattle.min_plus.proofs.Deviations.{Within, within_deviation, deviation_nonneg}
 use Rattle.run_laws.proofs.Entries.{entry_last, one_more}
 use Rattle.run_laws.proofs.OneHop.{delivered_most}
 use Rattle.run_laws.proofs.Orders.{left_worked, left_upto_worked, worked_arrived}

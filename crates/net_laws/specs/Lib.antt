@@ -6,4 +6,3 @@ pub mod Orders
 pub mod Queues
 pub mod Once
 pub mod Multicast
-pub use Rattle.run_laws as run_laws

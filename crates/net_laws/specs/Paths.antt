@@ -2,11 +2,11 @@
 -- (Le Boudec and Thiran, concatenation of service curves; that whole packets count at all hops but the last is our own
 -- choice.)
 use Rattle.std.specs.Prelude.{◌≡◌, ◌<◌, ℕ, pos, List, [], ◌∷◌, length}
-use Rattle.rational.specs.Rational.{ℚ, int, ◌+ℚ◌, ◌-ℚ◌, ◌≤ℚ◌}
-use Rattle.rational.specs.Extended.{Ext, ◌≤ₑ◌, ◌+ₑ◌}
-use Rattle.rational.specs.declared.Extended.TheVariants.{Fin}
-use Rattle.run_laws.specs.min_plus.specs.Functions.{IsNonnegative}
-use Rattle.run_laws.specs.min_plus.specs.Convolution.{AllNonneg, sum_of}
+use Rattle.min_plus.specs.rational.specs.Rational.{ℚ, int, ◌+ℚ◌, ◌-ℚ◌, ◌≤ℚ◌}
+use Rattle.min_plus.specs.rational.specs.Extended.{Ext, ◌≤ₑ◌, ◌+ₑ◌}
+use Rattle.min_plus.specs.rational.specs.declared.Extended.TheVariants.{Fin}
+use Rattle.min_plus.specs.Functions.{IsNonnegative}
+use Rattle.min_plus.specs.Convolution.{AllNonneg, sum_of}
 use Rattle.run_laws.specs.Runs.{SpecRun}
 use Rattle.run_laws.specs.Cards.{of_flow}
 use Rattle.run_laws.specs.Counts.{arrived, worked, departed}

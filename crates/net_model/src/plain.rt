@@ -13,9 +13,9 @@ use crate::flow::Flow;
 use crate::network::Network;
 use crate::server::{Discipline, Server, ServiceKind};
 use std::alloc::{AllocError, Global};
-use upp_limits::affine_segment::{Line, Piece};
 use upp_limits::fraction128::Frac;
 use upp_limits::rational::Extended;
+use upp_limits::upp_curve::affine_segment::{Line, Piece};
 use upp_limits::upp_curve::{Curve, Tail};
 
 fn letter_of(alloc: Global, number: usize) -> Result<String, AllocError>

@@ -5,32 +5,32 @@ use Rattle.std.proofs.Common.{◌≡◌, ℕ, ◌<◌, Bool, true, false, List, 
 use Rattle.std.proofs.lemmas.List.{length-map, get_or-map}
 use Rattle.std.proofs.lemmas.List.Elements.{All-contains}
 use Rattle.std.proofs.lemmas.Option.{same_Some}
-use Rattle.curve_call.specs.rational.specs.Rational.{ℚ, ◌≤ℚ◌, ◌<ℚ◌}
-use Rattle.curve_call.specs.upp_curve.specs.Curve.{SpecCurve, value_at}
-use Rattle.curve_call.specs.min_plus.specs.Functions.{zero_q}
-use Rattle.curve_call.specs.upp_limits.specs.declared.own_limits.OverLimit.{OverLimit}
-use Rattle.net_draft.specs.run_laws.specs.Servers.{Discipline, queue_count}
-use Rattle.closure_laws.proofs.KeptShapes.{closures_keep}
-use Rattle.net_draft.specs.net_model.specs.declared.server.ServiceKind.{ServiceKind}
-use Rattle.net_draft.specs.net_model.specs.Accepted.{IsVersion, IsLength, HasFewQueues, IsInQuantum, IsOfKind, IsServer, IsArrivalCurve, IsHop, IsFlow, IsAccepted}
-use Rattle.net_draft.specs.net_model.specs.Names.{IsName, DifferInName}
-use Rattle.net_draft.specs.net_model.specs.Networks.{Net, NetServer, NetFlow}
-use Rattle.net_draft.specs.declared.hop.Hop.{Hop}
-use Rattle.net_draft.specs.declared.server_draft.ServerDraft.{ServerDraft}
-use Rattle.net_draft.specs.declared.flow_draft.FlowDraft.{FlowDraft}
-use Rattle.net_draft.specs.declared.draft.Draft.{Draft}
-use Rattle.net_draft.specs.CurveTexts.{text_of}
-use Rattle.net_draft.specs.DraftViews.{draft_text}
-use Rattle.net_draft.specs.Kept.{IsServerDraft, IsFlowDraft, IsDraft}
-use Rattle.net_draft.specs.Laws.{kind_of}
-use Rattle.net_draft.specs.Texts.{CurveText, ServerText, FlowText, IsArrivalOf, IsHopOf, IsWithinQuantum}
-use Rattle.net_draft.specs.Views.{server_text, flow_text}
-use Rattle.net_draft.proofs.MayStand.{made_may_stand}
-use Rattle.net_draft.proofs.Named.{All-unmap}
+use Rattle.rational.specs.Rational.{ℚ, ◌≤ℚ◌, ◌<ℚ◌}
+use Rattle.upp_limits.specs.upp_curve.specs.Curve.{SpecCurve, value_at}
+use Rattle.upp_limits.specs.min_plus.specs.Functions.{zero_q}
+use Rattle.upp_limits.specs.declared.own_limits.OverLimit.{OverLimit}
+use Rattle.net_model.specs.run_laws.specs.Servers.{Discipline, queue_count}
+use Rattle.upp_limits.specs.min_plus.proofs.closure_laws.KeptShapes.{closures_keep}
+use Rattle.net_model.specs.declared.server.ServiceKind.{ServiceKind}
+use Rattle.net_model.specs.Accepted.{IsVersion, IsLength, HasFewQueues, IsInQuantum, IsOfKind, IsServer, IsArrivalCurve, IsHop, IsFlow, IsAccepted}
+use Rattle.net_model.specs.Names.{IsName, DifferInName}
+use Rattle.net_model.specs.Networks.{Net, NetServer, NetFlow}
+use Rattle.net_text.specs.declared.net_draft.hop.Hop.{Hop}
+use Rattle.net_text.specs.declared.net_draft.server_draft.ServerDraft.{ServerDraft}
+use Rattle.net_text.specs.declared.net_draft.flow_draft.FlowDraft.{FlowDraft}
+use Rattle.net_text.specs.declared.net_draft.draft.Draft.{Draft}
+use Rattle.net_text.specs.net_draft.CurveTexts.{text_of}
+use Rattle.net_text.specs.net_draft.DraftViews.{draft_text}
+use Rattle.net_text.specs.net_draft.Kept.{IsServerDraft, IsFlowDraft, IsDraft}
+use Rattle.net_text.specs.net_draft.Laws.{kind_of}
+use Rattle.net_text.specs.net_draft.Texts.{CurveText, ServerText, FlowText, IsArrivalOf, IsHopOf, IsWithinQuantum}
+use Rattle.net_text.specs.net_draft.Views.{server_text, flow_text}
+use Rattle.net_text.proofs.net_draft.MayStand.{made_may_stand}
+use Rattle.net_text.proofs.net_draft.Named.{All-unmap}
 use Rattle.net_text.specs.Becoming.{Becomes}
 use Rattle.net_text.specs.Built.{IsServerOf, IsFlowOf, IsLiveFlowOf, IsBuilt}
 use Rattle.net_text.proofs.Zips.{zip_unmap, zip_length, partner, zip_all, zip_pairs}
-use Rattle.net_draft.specs.net_model.proofs.Placed.{MayBe}
+use Rattle.net_model.proofs.Placed.{MayBe}
 
 -- ---- servers
 is_server : (d : ServerDraft) (s : NetServer) → IsServerDraft d → IsServerOf (server_text d) s → IsServer s

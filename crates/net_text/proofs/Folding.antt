@@ -1,12 +1,12 @@
 -- What the fold answers is what the reader of files asks of a closure.
 use Rattle.std.specs.Prelude.{◌≡◌, Result, Ok, Err}
-use Rattle.curve_call.specs.upp_curve.specs.Curve.{SpecCurve, value_at}
-use Rattle.curve_call.specs.upp_curve.specs.Curves.{IsCurve}
-use Rattle.curve_call.specs.min_plus.specs.Functions.{IsFinite, IsNonnegative}
-use Rattle.curve_call.specs.upp_limits.specs.declared.own_limits.OverLimit.{OverLimit}
-use Rattle.curve_call.specs.upp_limits.specs.declared.own_limits.OverLimit.TheVariants as limits
-use Rattle.curve_call.specs.upp_limits.specs.declared.op_kind.OpFault.{OpFault}
-use Rattle.curve_call.specs.upp_limits.specs.declared.op_kind.OpFault.TheVariants.{TooMany, TooWide, NoMemory}
+use Rattle.upp_limits.specs.upp_curve.specs.Curve.{SpecCurve, value_at}
+use Rattle.upp_limits.specs.upp_curve.specs.Curves.{IsCurve}
+use Rattle.upp_limits.specs.min_plus.specs.Functions.{IsFinite, IsNonnegative}
+use Rattle.upp_limits.specs.declared.own_limits.OverLimit.{OverLimit}
+use Rattle.upp_limits.specs.declared.own_limits.OverLimit.TheVariants as limits
+use Rattle.upp_limits.specs.declared.op_kind.OpFault.{OpFault}
+use Rattle.upp_limits.specs.declared.op_kind.OpFault.TheVariants.{TooMany, TooWide, NoMemory}
 use Rattle.curve_call.specs.Calls.{goes_on, stops}
 use Rattle.subadd_closure.specs.Folds.{CloseAnswer}
 use Rattle.subadd_closure.proofs.FoldStars.{close_answer}

@@ -1,18 +1,18 @@
 -- What a curve of a file becomes: a curve of the network, or the limit that it is over. Own choice.
 use Rattle.std.specs.Prelude.{◌≡◌, ◌⊎◌, ℕ, List, Bool, true, false, Result, Ok, Err}
 use Rattle.std.specs.String.{string_bytes}
-use Rattle.curve_call.specs.upp_curve.specs.Curve.{SpecCurve}
-use Rattle.curve_call.specs.upp_curve.specs.Curves.{IsCurve}
-use Rattle.curve_call.specs.upp_limits.specs.declared.own_limits.OverLimit.{OverLimit}
-use Rattle.curve_call.specs.upp_limits.specs.declared.own_limits.OverLimit.TheVariants.{TooMany, TooWide}
-use Rattle.net_draft.specs.net_model.specs.declared.fault.NetKind.{NetKind}
-use Rattle.net_draft.specs.net_model.specs.declared.fault.NetKind.TheVariants.{CurveTooMany, CurveTooWide, NoMemory}
-use Rattle.net_draft.specs.net_model.specs.declared.fault.NetFault.{NetFault}
-use Rattle.net_draft.specs.declared.fault.DraftFault.{DraftFault}
-use Rattle.net_draft.specs.declared.fault.DraftFault.TheVariants as answers
-use Rattle.net_draft.specs.Faults.{Fault, fault_of}
-use Rattle.net_draft.specs.Made.{IsMade}
-use Rattle.net_draft.specs.Texts.{CurveText}
+use Rattle.upp_limits.specs.upp_curve.specs.Curve.{SpecCurve}
+use Rattle.upp_limits.specs.upp_curve.specs.Curves.{IsCurve}
+use Rattle.upp_limits.specs.declared.own_limits.OverLimit.{OverLimit}
+use Rattle.upp_limits.specs.declared.own_limits.OverLimit.TheVariants.{TooMany, TooWide}
+use Rattle.net_model.specs.declared.fault.NetKind.{NetKind}
+use Rattle.net_model.specs.declared.fault.NetKind.TheVariants.{CurveTooMany, CurveTooWide, NoMemory}
+use Rattle.net_model.specs.declared.fault.NetFault.{NetFault}
+use Rattle.net_text.specs.declared.net_draft.fault.DraftFault.{DraftFault}
+use Rattle.net_text.specs.declared.net_draft.fault.DraftFault.TheVariants as answers
+use Rattle.net_text.specs.net_draft.Faults.{Fault, fault_of}
+use Rattle.net_text.specs.net_draft.Made.{IsMade}
+use Rattle.net_text.specs.net_draft.Texts.{CurveText}
 use Rattle.net_text.specs.Closing.{Closes}
 
 -- the curve of a text

@@ -1,11 +1,11 @@
 -- The network that is built of a draft. Own choice.
 use Rattle.std.specs.Prelude.{◌≡◌, map, Option, Some, Ok}
 use Rattle.std.specs.List.{AllZip}
-use Rattle.curve_call.specs.upp_curve.specs.Curve.{SpecCurve}
-use Rattle.curve_call.specs.upp_limits.specs.declared.own_limits.OverLimit.{OverLimit}
-use Rattle.net_draft.specs.net_model.specs.Networks.{Net, NetServer, NetFlow}
-use Rattle.net_draft.specs.Laws.{kind_of}
-use Rattle.net_draft.specs.Texts.{ServerText, FlowText, DraftText}
+use Rattle.upp_limits.specs.upp_curve.specs.Curve.{SpecCurve}
+use Rattle.upp_limits.specs.declared.own_limits.OverLimit.{OverLimit}
+use Rattle.net_model.specs.Networks.{Net, NetServer, NetFlow}
+use Rattle.net_text.specs.net_draft.Laws.{kind_of}
+use Rattle.net_text.specs.net_draft.Texts.{ServerText, FlowText, DraftText}
 use Rattle.net_text.specs.Becoming.{BecomesItself, Becomes}
 
 -- the server of a text

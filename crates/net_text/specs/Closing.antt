@@ -1,14 +1,14 @@
 -- What the closure of a curve answers, where closures are made by a fold of operators. Own choice.
 use Rattle.std.specs.Prelude.{◌≡◌, Result, Ok, Err}
-use Rattle.curve_call.specs.rational.specs.Rational.{ℚ, ◌≤ℚ◌}
-use Rattle.curve_call.specs.upp_curve.specs.Curve.{SpecCurve, value_at}
-use Rattle.curve_call.specs.upp_curve.specs.Curves.{IsCurve}
-use Rattle.curve_call.specs.min_plus.specs.Functions.{zero_q}
-use Rattle.curve_call.specs.min_plus.specs.Convolution.{IsSubadditiveClosure}
-use Rattle.curve_call.specs.upp_limits.specs.declared.own_limits.OverLimit.{OverLimit}
-use Rattle.curve_call.specs.upp_limits.specs.declared.own_limits.OverLimit.TheVariants as limits
-use Rattle.curve_call.specs.upp_limits.specs.declared.op_kind.OpFault.{OpFault}
-use Rattle.curve_call.specs.upp_limits.specs.declared.op_kind.OpFault.TheVariants.{TooMany, TooWide, NoMemory}
+use Rattle.rational.specs.Rational.{ℚ, ◌≤ℚ◌}
+use Rattle.upp_limits.specs.upp_curve.specs.Curve.{SpecCurve, value_at}
+use Rattle.upp_limits.specs.upp_curve.specs.Curves.{IsCurve}
+use Rattle.upp_limits.specs.min_plus.specs.Functions.{zero_q}
+use Rattle.upp_limits.specs.min_plus.specs.Convolution.{IsSubadditiveClosure}
+use Rattle.upp_limits.specs.declared.own_limits.OverLimit.{OverLimit}
+use Rattle.upp_limits.specs.declared.own_limits.OverLimit.TheVariants as limits
+use Rattle.upp_limits.specs.declared.op_kind.OpFault.{OpFault}
+use Rattle.upp_limits.specs.declared.op_kind.OpFault.TheVariants.{TooMany, TooWide, NoMemory}
 
 -- for folds of which Over says: the first operator of the fold of this curve that is over a limit is over this one
 module _ (Over : SpecCurve → OverLimit → Type 0) where

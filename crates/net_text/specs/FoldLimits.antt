@@ -1,9 +1,9 @@
 -- Which limit the fold that makes the closure of a curve is over. Own choice.
 use Rattle.std.specs.Prelude.{Err}
-use Rattle.curve_call.specs.upp_curve.specs.Curve.{SpecCurve}
-use Rattle.curve_call.specs.upp_limits.specs.declared.own_limits.OverLimit.{OverLimit}
-use Rattle.curve_call.specs.upp_limits.specs.declared.own_limits.OverLimit.TheVariants as limits
-use Rattle.curve_call.specs.upp_limits.specs.declared.op_kind.OpFault.TheVariants as faults
+use Rattle.upp_limits.specs.upp_curve.specs.Curve.{SpecCurve}
+use Rattle.upp_limits.specs.declared.own_limits.OverLimit.{OverLimit}
+use Rattle.upp_limits.specs.declared.own_limits.OverLimit.TheVariants as limits
+use Rattle.upp_limits.specs.declared.op_kind.OpFault.TheVariants as faults
 use Rattle.subadd_closure.specs.Folds.{CloseAnswer}
 
 -- the first operator of the fold that is over a limit is over this one

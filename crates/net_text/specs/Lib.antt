@@ -8,3 +8,4 @@ pub mod Folds
 pub mod FoldLimits
 pub mod Wants
 pub mod FileLaws
+pub mod net_draft

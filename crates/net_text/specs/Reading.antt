@@ -1,15 +1,15 @@
 -- The network of a file, and its first fault. Own choice.
 use Rattle.std.specs.Prelude.{◌≡◌, ◌⊎◌, ℕ, List, Ok, Err}
-use Rattle.curve_call.specs.upp_curve.specs.Curve.{SpecCurve}
-use Rattle.curve_call.specs.upp_limits.specs.declared.own_limits.OverLimit.{OverLimit}
-use Rattle.net_draft.specs.net_model.specs.Networks.{Net}
-use Rattle.net_draft.specs.net_model.specs.declared.fault.NetFault.{NetFault}
-use Rattle.net_draft.specs.net_model.specs.declared.fault.NetKind.TheVariants.{NoMemory}
-use Rattle.net_draft.specs.declared.fault.DraftFault.{DraftFault}
-use Rattle.net_draft.specs.declared.fault.DraftFault.TheVariants as answers
-use Rattle.net_draft.specs.Drafts.{draft_of}
-use Rattle.net_draft.specs.Faults.{Fault, fault_of}
-use Rattle.net_draft.specs.Texts.{DraftText}
+use Rattle.upp_limits.specs.upp_curve.specs.Curve.{SpecCurve}
+use Rattle.upp_limits.specs.declared.own_limits.OverLimit.{OverLimit}
+use Rattle.net_model.specs.Networks.{Net}
+use Rattle.net_model.specs.declared.fault.NetFault.{NetFault}
+use Rattle.net_model.specs.declared.fault.NetKind.TheVariants.{NoMemory}
+use Rattle.net_text.specs.declared.net_draft.fault.DraftFault.{DraftFault}
+use Rattle.net_text.specs.declared.net_draft.fault.DraftFault.TheVariants as answers
+use Rattle.net_text.specs.net_draft.Drafts.{draft_of}
+use Rattle.net_text.specs.net_draft.Faults.{Fault, fault_of}
+use Rattle.net_text.specs.net_draft.Texts.{DraftText}
 use Rattle.net_text.specs.Built.{IsBuilt}
 use Rattle.net_text.specs.Firsts.{FirstCurveOver, curves_of}
 

@@ -2,11 +2,11 @@
 
 ghost use Rattle.std.specs.Prelude.{◌≡◌, ◌≤◌, ◌+◌, Ok, Err, IfOk, IfErr};
 ghost use Rattle.std.specs.String.{string_bytes};
-ghost use Rattle.curve_call.specs.upp_curve.specs.Curve.{value_at};
-ghost use Rattle.curve_call.specs.upp_curve.specs.Curves.{IsCurve};
-ghost use Rattle.curve_call.specs.min_plus.specs.Functions.{IsFinite, IsNonnegative};
-ghost use Rattle.net_draft.specs.CurveTexts.{text_of};
-ghost use Rattle.net_draft.specs.Kept.{IsArrivalDraft};
+ghost use Rattle.upp_limits.specs.upp_curve.specs.Curve.{value_at};
+ghost use Rattle.upp_limits.specs.upp_curve.specs.Curves.{IsCurve};
+ghost use Rattle.upp_limits.specs.min_plus.specs.Functions.{IsFinite, IsNonnegative};
+ghost use Rattle.net_text.specs.net_draft.CurveTexts.{text_of};
+ghost use Rattle.net_text.specs.net_draft.Kept.{IsArrivalDraft};
 ghost use Rattle.net_text.specs.Becoming.{Becomes, FailsAt};
 ghost use Rattle.net_text.specs.Closing.{Closes};
 ghost use Rattle.net_text.specs.Folds.{FoldAtMost, HasTaken};
@@ -17,13 +17,13 @@ ghost use Rattle.subadd_closure.specs.FoldWork.{fold_work};
 
 use crate::closing::closed;
 use crate::limits::limit_fault;
+use crate::net_draft::{DraftFault, FlowDraft};
 use crate::services::copy_of;
-use curve_call::upp_curve::Curve;
-use curve_call::upp_limits::{OpFault, OverLimit};
-use net_draft::{DraftFault, FlowDraft};
 use std::alloc::Global;
 use std::sync::ledger::Ledger;
 use steps::Steps;
+use upp_limits::upp_curve::Curve;
+use upp_limits::{OpFault, OverLimit};
 
 /// The closure of the arrival curve at a place.
 fn closure_of<L: Ledger>(

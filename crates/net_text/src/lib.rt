@@ -6,6 +6,7 @@ mod closing;
 mod flows;
 mod laws;
 mod limits;
+pub mod net_draft;
 mod reading;
 mod servers;
 mod services;

@@ -2,13 +2,13 @@
 
 ghost use Rattle.std.specs.Prelude.{◌≡◌, IfOk};
 ghost use Rattle.std.specs.String.{string_bytes};
-ghost use Rattle.net_draft.specs.Faults.{under, nth};
+ghost use Rattle.net_text.specs.net_draft.Faults.{under, nth};
 ghost use Rattle.net_text.specs.Becoming.{limit_kind, IsLimitFault};
 
-use curve_call::upp_limits::OverLimit;
-use net_draft::net_model::{NetFault, NetKind};
-use net_draft::{DraftFault, nth, under};
+use crate::net_draft::{DraftFault, nth, under};
+use net_model::{NetFault, NetKind};
 use std::alloc::{AllocError, Global};
+use upp_limits::OverLimit;
 
 /// The kind of fault of a curve that is over a limit.
 fn limit_kind(limit: OverLimit) -> NetKind

@@ -1,42 +1,42 @@
 -- What holds of the replies of each command. A new command has a case in each lemma.
 use Rattle.std.proofs.Common.{◌≡◌, ◌≢◌, ℕ, List, [], ◌∷◌, inl, inr, sym, ap, ◌∙◌, arith}
-use Rattle.net_cells.specs.upp_limits.specs.declared.own_limits.OverLimit.TheVariants.{TooMany, TooWide}
-use Rattle.net_cells.specs.net_model.specs.Networks.{Net}
-use Rattle.net_cells.specs.Meanings.{CellTable}
+use Rattle.upp_limits.specs.declared.own_limits.OverLimit.TheVariants.{TooMany, TooWide}
+use Rattle.net_model.specs.Networks.{Net}
+use Rattle.report_text.specs.net_cells.specs.Meanings.{CellTable}
 use Rattle.net_bounds.proofs.Kept.{table_bounds_every_run}
-use Rattle.command_replies.specs.Guarantee.{Guarantees}
-use Rattle.command_replies.specs.Replies.{Reply}
-use Rattle.command_replies.proofs.OneRefusal.{equal}
-use Rattle.json_report.specs.declared.form.Form.{Form}
-use Rattle.analyse_command.specs.AnswerCounts.{CountsOn}
-use Rattle.analyse_command.specs.OnFiles.{IsReportOf, IsReport}
-use Rattle.analyse_command.proofs.ByStatus as analyse
-use Rattle.analyse_command.proofs.OneReply as analysed
-use Rattle.edit_command.specs.EditCounts as edit_counts
-use Rattle.edit_command.proofs.Causes as edit_statuses
-use Rattle.edit_command.proofs.OneReply as edited
-use Rattle.edit_command.proofs.Promised.{reports_are_guaranteed, replies_are_complete}
-use Rattle.simulate_command.specs.RunCounts as run_counts
-use Rattle.run_findings.specs.Statuses.{IsOfReport}
-use Rattle.simulate_command.proofs.Causes as run
-use Rattle.simulate_command.proofs.OneReply as simulated
-use Rattle.simulate_command.proofs.Status.{status_tells}
-use Rattle.simulate_command.proofs.Within.{quiet_runs, guarantee}
-use Rattle.run_findings.specs.CellCounts.{CountsOnCells}
+use Rattle.commands.specs.command_replies.specs.Guarantee.{Guarantees}
+use Rattle.commands.specs.command_replies.specs.Replies.{Reply}
+use Rattle.commands.specs.command_replies.proofs.OneRefusal.{equal}
+use Rattle.report_text.specs.declared.json_report.form.Form.{Form}
+use Rattle.commands.specs.analyse.AnswerCounts.{CountsOn}
+use Rattle.commands.specs.analyse.OnFiles.{IsReportOf, IsReport}
+use Rattle.commands.proofs.analyse.ByStatus as analyse
+use Rattle.commands.proofs.analyse.OneReply as analysed
+use Rattle.commands.specs.edit.EditCounts as edit_counts
+use Rattle.commands.proofs.edit.Causes as edit_statuses
+use Rattle.commands.proofs.edit.OneReply as edited
+use Rattle.commands.proofs.edit.Promised.{reports_are_guaranteed, replies_are_complete}
+use Rattle.commands.specs.simulate.RunCounts as run_counts
+use Rattle.commands.specs.command_replies.specs.run_findings.Statuses.{IsOfReport}
+use Rattle.commands.proofs.simulate.Causes as run
+use Rattle.commands.proofs.simulate.OneReply as simulated
+use Rattle.commands.proofs.simulate.Status.{status_tells}
+use Rattle.commands.proofs.simulate.Within.{quiet_runs, guarantee}
+use Rattle.commands.specs.command_replies.specs.run_findings.CellCounts.{CountsOnCells}
 use Rattle.exercise_load.specs.Workloads.{network_of}
-use Rattle.exercise_command.proofs.Causes as exercise
-use Rattle.exercise_command.proofs.OneReply as exercised
-use Rattle.exercise_command.proofs.Within as summaries
-use Rattle.check_command.specs.CheckCounts as check_counts
-use Rattle.check_command.proofs.Causes as check
-use Rattle.check_command.proofs.OneReply as checked
-use Rattle.check_command.proofs.Verdicts.{verdicts}
-use Rattle.check_command.proofs.Within as admissible
-use Rattle.measure_command.specs.MeasureCounts as measure_counts
-use Rattle.measure_command.proofs.Causes as measure
-use Rattle.measure_command.proofs.OneMeasure as measured
-use Rattle.curve_command.proofs.ByStatus as curve
-use Rattle.curve_command.proofs.OneReply as calculated
+use Rattle.commands.proofs.exercise.Causes as exercise
+use Rattle.commands.proofs.exercise.OneReply as exercised
+use Rattle.commands.proofs.exercise.Within as summaries
+use Rattle.commands.specs.check.CheckCounts as check_counts
+use Rattle.commands.proofs.check.Causes as check
+use Rattle.commands.proofs.check.OneReply as checked
+use Rattle.commands.proofs.check.Verdicts.{verdicts}
+use Rattle.commands.proofs.check.Within as admissible
+use Rattle.commands.specs.measure.MeasureCounts as measure_counts
+use Rattle.commands.proofs.measure.Causes as measure
+use Rattle.commands.proofs.measure.OneMeasure as measured
+use Rattle.commands.proofs.curve.ByStatus as curve
+use Rattle.commands.proofs.curve.OneReply as calculated
 use Rattle.netcalc_cli.specs.Commands.{Command, Analyse, Edit, Simulate, Exercise, Check, Measure, Curve}
 use Rattle.netcalc_cli.specs.Commands.{IsReplyTo, IsMalformed, IsOver}
 use Rattle.netcalc_cli.specs.Commands.{AreSameTo, IsCyclic, TellsBreach, IsDone, IsAnswerable, IsAnswer, CountsTo}

@@ -1,27 +1,27 @@
 -- The bound of the example's flow: no more than its queue's delay, and no less than the delay of its packet.
 use Rattle.std.proofs.Common.{◌≡◌, List, [], ◌∷◌, Some, refl, sym, ap, ◌∙◌, subst, arith}
-use Rattle.fraction128.specs.rational.specs.Rational.{ℚ}
-use Rattle.fraction128.specs.rational.specs.Extended.{Ext, ◌≤ₑ◌, min_ext}
-use Rattle.fraction128.specs.rational.specs.declared.Extended.TheVariants.{Fin, Inf}
-use Rattle.fraction128.specs.rational.proofs.ExtendedOrder.{min_left, le_ext_trans, antisym_ext}
-use Rattle.fraction128.specs.rational.proofs.Linear.{with1}
-use Rattle.net_cells.specs.upp_curve.specs.Curve.{SpecCurve, value_at}
-use Rattle.min_plus.specs.Deviations.{IsHorizontalDeviation}
-use Rattle.min_plus.proofs.Unambiguous.{deviations_are_unique}
-use Rattle.net_cells.specs.run_laws.specs.Cards.{whole}
-use Rattle.net_cells.specs.run_laws.specs.Delays.{AreAtMost}
-use Rattle.net_cells.specs.run_laws.specs.Examples.{one_packet}
-use Rattle.net_cells.specs.declared.cell.Cell.{Cell}
-use Rattle.net_cells.specs.declared.cell.Kind.TheVariants.{In, Total, QueueService, QueueDelay, HopDelay, Tfa, Bound}
-use Rattle.net_cells.specs.Cells.{cell_of}
-use Rattle.net_cells.specs.Equations.{MeetsEquations}
-use Rattle.net_cells.specs.Meanings.{Meaning, curve, number, CellTable, IsNumberIn}
-use Rattle.net_cells.specs.Means.{HaveNumbers, with_links}
-use Rattle.net_cells.specs.NumberSums.{sum_of_numbers}
+use Rattle.upp_limits.specs.rational.specs.Rational.{ℚ}
+use Rattle.upp_limits.specs.rational.specs.Extended.{Ext, ◌≤ₑ◌, min_ext}
+use Rattle.upp_limits.specs.rational.specs.declared.Extended.TheVariants.{Fin, Inf}
+use Rattle.upp_limits.specs.rational.proofs.ExtendedOrder.{min_left, le_ext_trans, antisym_ext}
+use Rattle.upp_limits.specs.rational.proofs.Linear.{with1}
+use Rattle.upp_limits.specs.upp_curve.specs.Curve.{SpecCurve, value_at}
+use Rattle.upp_limits.specs.min_plus.specs.Deviations.{IsHorizontalDeviation}
+use Rattle.upp_limits.specs.min_plus.proofs.Unambiguous.{deviations_are_unique}
+use Rattle.net_model.specs.run_laws.specs.Cards.{whole}
+use Rattle.net_model.specs.run_laws.specs.Delays.{AreAtMost}
+use Rattle.net_model.specs.run_laws.specs.Examples.{one_packet}
+use Rattle.report_text.specs.net_cells.specs.declared.cell.Cell.{Cell}
+use Rattle.report_text.specs.net_cells.specs.declared.cell.Kind.TheVariants.{In, Total, QueueService, QueueDelay, HopDelay, Tfa, Bound}
+use Rattle.report_text.specs.net_cells.specs.Cells.{cell_of}
+use Rattle.report_text.specs.net_cells.specs.Equations.{MeetsEquations}
+use Rattle.report_text.specs.net_cells.specs.Meanings.{Meaning, curve, number, CellTable, IsNumberIn}
+use Rattle.report_text.specs.net_cells.specs.Means.{HaveNumbers, with_links}
+use Rattle.report_text.specs.net_cells.specs.NumberSums.{sum_of_numbers}
 use Rattle.net_bounds.proofs.Kept.{table_bounds_every_run}
 use Rattle.netcalc_cli.specs.Example.{its_server, its_flow, one_flow, OneFlowReachesItsBound}
 use Rattle.netcalc_cli.proofs.ExampleNet.{accepted, ordered, reached, is_run}
-use Rattle.net_cells.proofs.TableValues.{same_number}
+use Rattle.report_text.specs.net_cells.proofs.TableValues.{same_number}
 
 -- ---- curves
 arrival_is : (at : CellTable) → MeetsEquations one_flow at → at (cell_of In 0 0) ≡ Some (curve its_flow.arrival)

@@ -1,28 +1,28 @@
 -- The network of the example is accepted, its one server is its order, and one packet through it is a run of it.
 use Rattle.std.proofs.Common.{◌≡◌, ◌≢◌, ℕ, zero, suc, ◌<◌, [], ◌∷◌, length, get_or, take, true, false, Some, refl, ap}
 use Rattle.std.proofs.Common.{subst, arith}
-use Rattle.fraction128.specs.rational.specs.Rational.{◌-ℚ◌}
-use Rattle.fraction128.specs.rational.specs.Extended.{◌≤ₑ◌}
-use Rattle.fraction128.specs.rational.specs.declared.Extended.TheVariants.{Fin}
-use Rattle.fraction128.specs.rational.proofs.Integers.{nat_lt, nat_nonneg}
-use Rattle.net_cells.specs.upp_curve.specs.Curve.{value_at}
-use Rattle.net_cells.specs.upp_limits.specs.Windows.{IsLeast}
-use Rattle.net_cells.specs.upp_curve.proofs.KindValues.{bucket_is, service_is}
-use Rattle.net_cells.specs.run_laws.specs.Cards.{whole}
-use Rattle.net_cells.specs.run_laws.specs.Examples.{one_packet, ReachesItsBound}
-use Rattle.net_cells.specs.run_laws.specs.Premises.{KeepsService}
-use Rattle.net_cells.specs.run_laws.specs.Routes.{route_of}
-use Rattle.net_cells.specs.run_laws.specs.RunPremises.{EnterSizes, entered_in}
-use Rattle.net_cells.specs.run_laws.specs.Views.{view}
-use Rattle.net_cells.specs.run_laws.proofs.OnePacket.{one_packet_reaches_its_bound}
-use Rattle.net_cells.specs.net_model.specs.Accepted.{IsServer, IsHop, IsFlow, IsAccepted}
-use Rattle.net_cells.specs.net_model.specs.Names.{DifferInName}
-use Rattle.net_cells.specs.net_model.specs.Networks.{NetFlow}
-use Rattle.net_cells.specs.net_model.specs.Orders.{IsReady, IsOrder}
-use Rattle.net_cells.specs.net_model.specs.Walks.{IsNext}
-use Rattle.net_cells.specs.net_model.proofs.KindsStand.{kinds_may_stand}
-use Rattle.net_cells.specs.net_model.proofs.Short.{no_pairs, alone, named_by_two}
-use Rattle.net_cells.specs.Numbered.{packet, arrival, service}
+use Rattle.upp_limits.specs.rational.specs.Rational.{◌-ℚ◌}
+use Rattle.upp_limits.specs.rational.specs.Extended.{◌≤ₑ◌}
+use Rattle.upp_limits.specs.rational.specs.declared.Extended.TheVariants.{Fin}
+use Rattle.upp_limits.specs.rational.proofs.Integers.{nat_lt, nat_nonneg}
+use Rattle.upp_limits.specs.upp_curve.specs.Curve.{value_at}
+use Rattle.upp_limits.specs.Windows.{IsLeast}
+use Rattle.upp_limits.specs.upp_curve.proofs.KindValues.{bucket_is, service_is}
+use Rattle.net_model.specs.run_laws.specs.Cards.{whole}
+use Rattle.net_model.specs.run_laws.specs.Examples.{one_packet, ReachesItsBound}
+use Rattle.net_model.specs.run_laws.specs.Premises.{KeepsService}
+use Rattle.net_model.specs.run_laws.specs.Routes.{route_of}
+use Rattle.net_model.specs.run_laws.specs.RunPremises.{EnterSizes, entered_in}
+use Rattle.net_model.specs.run_laws.specs.Views.{view}
+use Rattle.net_model.specs.run_laws.proofs.OnePacket.{one_packet_reaches_its_bound}
+use Rattle.net_model.specs.Accepted.{IsServer, IsHop, IsFlow, IsAccepted}
+use Rattle.net_model.specs.Names.{DifferInName}
+use Rattle.net_model.specs.Networks.{NetFlow}
+use Rattle.net_model.specs.Orders.{IsReady, IsOrder}
+use Rattle.net_model.specs.Walks.{IsNext}
+use Rattle.net_model.proofs.KindsStand.{kinds_may_stand}
+use Rattle.net_model.proofs.Short.{no_pairs, alone, named_by_two}
+use Rattle.report_text.specs.net_cells.specs.Numbered.{packet, arrival, service}
 use Rattle.net_bounds.specs.NetRuns.{routes_of, IsRunOf}
 use Rattle.netcalc_cli.specs.Example.{its_server, its_flow, one_flow}
 

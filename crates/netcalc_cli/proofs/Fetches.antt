@@ -6,9 +6,9 @@ use Rattle.std.specs.declared.alloc.Global.{Global}
 use Rattle.std.proofs.lemmas.Result.{IfOk-weaker}
 use Rattle.std.proofs.Math.Nat.{min-le_left, min-le_right, le-min}
 use Rattle.outside.specs.Faults.{Rose}
-use Rattle.command_replies.specs.declared.answer.Answer.{Answer}
-use Rattle.command_replies.specs.Replies.{Reply}
-use Rattle.command_replies.specs.View.{reply_of}
+use Rattle.commands.specs.command_replies.specs.declared.answer.Answer.{Answer}
+use Rattle.commands.specs.command_replies.specs.Replies.{Reply}
+use Rattle.commands.specs.command_replies.specs.View.{reply_of}
 use Rattle.netcalc_cli.specs.Files.{Told, most_bytes, MayHold, MayFit, IsTooLong, FirstIs, MayHoldAll, AllFit}
 use Rattle.netcalc_cli.specs.Reply.{EndsAt}
 

@@ -1,20 +1,20 @@
 -- No reply has the status of a write that failed.
 use Rattle.std.proofs.Common.{◌≡◌, ◌≢◌, ℕ, List, [], ◌∷◌, Option, Some, None, inl, inr, sym, ◌∙◌, arith}
-use Rattle.fraction128.specs.rational.specs.Rational.{ℚ}
-use Rattle.net_cells.specs.upp_limits.specs.declared.own_limits.OverLimit.TheVariants.{TooMany, TooWide}
-use Rattle.net_cells.specs.net_model.specs.declared.breach.Breach.{Breach}
-use Rattle.command_replies.specs.Replies.{Reply, cannot_read, too_long}
-use Rattle.json_report.specs.declared.form.Form.{Form}
-use Rattle.command_replies.proofs.Statuses.{status_is as status_of}
-use Rattle.analyse_command.specs.OnFiles as analyse
-use Rattle.edit_command.specs.OnEdits as edits
-use Rattle.run_findings.specs.Findings.{status_by}
-use Rattle.simulate_command.specs.OnTraces as traces
-use Rattle.check_command.proofs.Causes.{causes}
-use Rattle.exercise_command.specs.OnSeeds as seeds
-use Rattle.measure_command.specs.OnMeasures.{IsMeasureReply}
-use Rattle.measure_command.proofs.OneMeasure.{statuses_are_four}
-use Rattle.curve_command.specs.OnScripts as scripts
+use Rattle.upp_limits.specs.rational.specs.Rational.{ℚ}
+use Rattle.upp_limits.specs.declared.own_limits.OverLimit.TheVariants.{TooMany, TooWide}
+use Rattle.net_model.specs.declared.breach.Breach.{Breach}
+use Rattle.commands.specs.command_replies.specs.Replies.{Reply, cannot_read, too_long}
+use Rattle.report_text.specs.declared.json_report.form.Form.{Form}
+use Rattle.commands.specs.command_replies.proofs.Statuses.{status_is as status_of}
+use Rattle.commands.specs.analyse.OnFiles as analyse
+use Rattle.commands.specs.edit.OnEdits as edits
+use Rattle.commands.specs.command_replies.specs.run_findings.Findings.{status_by}
+use Rattle.commands.specs.simulate.OnTraces as traces
+use Rattle.commands.proofs.check.Causes.{causes}
+use Rattle.commands.specs.exercise.OnSeeds as seeds
+use Rattle.commands.specs.measure.OnMeasures.{IsMeasureReply}
+use Rattle.commands.proofs.measure.OneMeasure.{statuses_are_four}
+use Rattle.commands.specs.curve.OnScripts as scripts
 use Rattle.netcalc_cli.specs.Commands.{Command, Analyse, Edit, Simulate, Exercise, Check, Measure, Curve, IsReplyTo, files_of}
 use Rattle.netcalc_cli.specs.Files.{Told}
 use Rattle.netcalc_cli.specs.Reply.{MayReplyTo, FailedAt}

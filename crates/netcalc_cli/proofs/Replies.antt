@@ -1,11 +1,11 @@
 -- What a reply that was given is, by its status.
 use Rattle.std.proofs.Common.{◌≡◌, ◌≢◌, ◌⊎◌, ℕ, List, Option, Some, None, IfSome, Result, Ok, Err, IfOk, inl, inr, refl, sym, ap, ◌∙◌, subst}
 use Rattle.std.proofs.lemmas.Bool.{cases_eq}
-use Rattle.net_cells.specs.upp_limits.specs.declared.own_limits.OverLimit.TheVariants.{TooMany, TooWide}
-use Rattle.net_cells.specs.upp_limits.proofs.SpanNumbers.{if_some_map}
-use Rattle.command_replies.specs.declared.answer.Answer.{Answer}
-use Rattle.command_replies.specs.Replies.{Reply, cannot_read, too_long}
-use Rattle.command_replies.specs.View.{code_of, reply_of, status_of}
+use Rattle.upp_limits.specs.declared.own_limits.OverLimit.TheVariants.{TooMany, TooWide}
+use Rattle.upp_limits.proofs.SpanNumbers.{if_some_map}
+use Rattle.commands.specs.command_replies.specs.declared.answer.Answer.{Answer}
+use Rattle.commands.specs.command_replies.specs.Replies.{Reply, cannot_read, too_long}
+use Rattle.commands.specs.command_replies.specs.View.{code_of, reply_of, status_of}
 use Rattle.netcalc_cli.specs.Commands.{Command, files_of, IsReplyTo, IsMalformed, IsOver, IsCyclic, TellsBreach, IsDone}
 use Rattle.netcalc_cli.specs.Commands.{Analyse, Edit, Simulate, Exercise, Check, Measure, Curve, IsAnswerable, IsAnswer}
 use Rattle.netcalc_cli.specs.Counts.{CountsOnCommand, Counts}

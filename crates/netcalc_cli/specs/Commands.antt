@@ -1,48 +1,48 @@
 -- The commands, and what each answers on its files. A new command has one line in each definition.
 use Rattle.std.specs.Prelude.{◌≡◌, ◌⊎◌, ℕ, List, [], ◌∷◌}
-use Rattle.fraction128.specs.rational.specs.Rational.{ℚ, ◌≤ℚ◌}
-use Rattle.min_plus.specs.Functions.{zero_q}
-use Rattle.net_cells.specs.upp_curve.specs.Curve.{SpecCurve}
-use Rattle.net_cells.specs.upp_limits.specs.declared.own_limits.OverLimit.{OverLimit}
-use Rattle.net_cells.specs.upp_limits.specs.declared.own_limits.OverLimit.TheVariants.{TooMany, TooWide}
-use Rattle.net_cells.specs.net_model.specs.declared.trace.TracePacket.{TracePacket}
-use Rattle.net_cells.specs.net_model.specs.Networks.{Net}
-use Rattle.net_cells.specs.Meanings.{CellTable}
+use Rattle.upp_limits.specs.rational.specs.Rational.{ℚ, ◌≤ℚ◌}
+use Rattle.upp_limits.specs.min_plus.specs.Functions.{zero_q}
+use Rattle.upp_limits.specs.upp_curve.specs.Curve.{SpecCurve}
+use Rattle.upp_limits.specs.declared.own_limits.OverLimit.{OverLimit}
+use Rattle.upp_limits.specs.declared.own_limits.OverLimit.TheVariants.{TooMany, TooWide}
+use Rattle.net_model.specs.declared.trace.TracePacket.{TracePacket}
+use Rattle.net_model.specs.Networks.{Net}
+use Rattle.report_text.specs.net_cells.specs.Meanings.{CellTable}
 use Rattle.net_bounds.specs.NetRuns.{IsRunOf}
-use Rattle.json_report.specs.declared.form.Form.{Form}
-use Rattle.command_replies.specs.Replies.{Reply, AreSame}
-use Rattle.command_replies.specs.Guarantee.{Guarantees}
-use Rattle.command_replies.specs.OnFiles.{IsBroken, IsOverLimit, HasCycle}
-use Rattle.analyse_command.specs.OnFiles.{IsReplyOn, IsReportOf}
-use Rattle.analyse_command.specs.AnswerCounts.{CountsOn}
-use Rattle.analyse_command.specs.AnswerLaws.{IsWithinLimits}
-use Rattle.edit_command.specs.OnEdits.{IsEditReply, IsReported}
-use Rattle.edit_command.specs.EditCauses as edit_causes
-use Rattle.edit_command.specs.EditCounts as edit_counts
-use Rattle.edit_command.specs.EditLaws as edit_laws
-use Rattle.simulate_command.specs.OnTraces as traces
-use Rattle.simulate_command.specs.OnTraces.{IsRunReply, IsRunReport, IsSimulationOver}
-use Rattle.simulate_command.specs.RunCounts as run_counts
-use Rattle.simulate_command.specs.Laws as run_laws
-use Rattle.simulate_command.specs.Laws.{IsQuietReport}
-use Rattle.run_findings.specs.CellCounts.{CountsOnCells}
-use Rattle.run_findings.specs.Statuses.{Keeps}
+use Rattle.report_text.specs.declared.json_report.form.Form.{Form}
+use Rattle.commands.specs.command_replies.specs.Replies.{Reply, AreSame}
+use Rattle.commands.specs.command_replies.specs.Guarantee.{Guarantees}
+use Rattle.commands.specs.command_replies.specs.OnFiles.{IsBroken, IsOverLimit, HasCycle}
+use Rattle.commands.specs.analyse.OnFiles.{IsReplyOn, IsReportOf}
+use Rattle.commands.specs.analyse.AnswerCounts.{CountsOn}
+use Rattle.commands.specs.analyse.AnswerLaws.{IsWithinLimits}
+use Rattle.commands.specs.edit.OnEdits.{IsEditReply, IsReported}
+use Rattle.commands.specs.edit.EditCauses as edit_causes
+use Rattle.commands.specs.edit.EditCounts as edit_counts
+use Rattle.commands.specs.edit.EditLaws as edit_laws
+use Rattle.commands.specs.simulate.OnTraces as traces
+use Rattle.commands.specs.simulate.OnTraces.{IsRunReply, IsRunReport, IsSimulationOver}
+use Rattle.commands.specs.simulate.RunCounts as run_counts
+use Rattle.commands.specs.simulate.Laws as run_laws
+use Rattle.commands.specs.simulate.Laws.{IsQuietReport}
+use Rattle.commands.specs.command_replies.specs.run_findings.CellCounts.{CountsOnCells}
+use Rattle.commands.specs.command_replies.specs.run_findings.Statuses.{Keeps}
 use Rattle.exercise_load.specs.Workloads.{network_of}
-use Rattle.exercise_command.specs.OnSeeds.{IsExerciseReply, IsSummarised, IsWide, IsCellOver}
-use Rattle.exercise_command.specs.ExerciseLaws as exercise_laws
-use Rattle.exercise_command.specs.ExerciseLaws.{IsQuietSummary, SummaryGuarantees}
-use Rattle.check_command.specs.OnRuns as checks
-use Rattle.check_command.specs.OnRuns.{IsCheckReply, IsCheckReport, IsCheckOver}
-use Rattle.check_command.specs.CheckCounts as check_counts
-use Rattle.check_command.specs.CheckLaws as check_laws
-use Rattle.check_command.specs.CheckLaws.{IsAdmissible}
-use Rattle.measure_command.specs.OnMeasures.{IsMeasureReply, IsReportOf as IsMeasureReportOf}
-use Rattle.measure_command.specs.MeasureCauses as measure_causes
-use Rattle.measure_command.specs.MeasureCounts as measure_counts
-use Rattle.measure_command.specs.MeasureLaws as measure_laws
-use Rattle.measure_command.specs.MeasureLaws.{IsLeastOf}
-use Rattle.curve_command.specs.OnScripts.{IsScriptReply, IsRefused, IsLineOver, IsAnswered}
-use Rattle.curve_command.specs.Laws.{IsWithinRules}
+use Rattle.commands.specs.exercise.OnSeeds.{IsExerciseReply, IsSummarised, IsWide, IsCellOver}
+use Rattle.commands.specs.exercise.ExerciseLaws as exercise_laws
+use Rattle.commands.specs.exercise.ExerciseLaws.{IsQuietSummary, SummaryGuarantees}
+use Rattle.commands.specs.check.OnRuns as checks
+use Rattle.commands.specs.check.OnRuns.{IsCheckReply, IsCheckReport, IsCheckOver}
+use Rattle.commands.specs.check.CheckCounts as check_counts
+use Rattle.commands.specs.check.CheckLaws as check_laws
+use Rattle.commands.specs.check.CheckLaws.{IsAdmissible}
+use Rattle.commands.specs.measure.OnMeasures.{IsMeasureReply, IsReportOf as IsMeasureReportOf}
+use Rattle.commands.specs.measure.MeasureCauses as measure_causes
+use Rattle.commands.specs.measure.MeasureCounts as measure_counts
+use Rattle.commands.specs.measure.MeasureLaws as measure_laws
+use Rattle.commands.specs.measure.MeasureLaws.{IsLeastOf}
+use Rattle.commands.specs.curve.OnScripts.{IsScriptReply, IsRefused, IsLineOver, IsAnswered}
+use Rattle.commands.specs.curve.Laws.{IsWithinRules}
 
 -- a command with the names of its files, and with what its other words say: the form of its report, and a rate
 pub data Command : Type 0 where

@@ -1,20 +1,20 @@
 -- A network and a run that meet the premises of the guarantee: one packet through one server. It stays exactly as long
 -- as the bound of each table that meets the equations.
 use Rattle.std.specs.Prelude.{◌≡◌, [], ◌∷◌, codes, Some}
-use Rattle.fraction128.specs.rational.specs.declared.Extended.TheVariants.{Fin}
-use Rattle.net_cells.specs.upp_curve.specs.Kinds.{bucket, rate_latency}
-use Rattle.net_cells.specs.run_laws.specs.Cards.{whole}
-use Rattle.net_cells.specs.run_laws.specs.Examples.{one_packet}
-use Rattle.net_cells.specs.run_laws.specs.FlowDelays.{delays}
-use Rattle.net_cells.specs.run_laws.specs.Servers.{Fifo}
-use Rattle.net_cells.specs.net_model.specs.declared.server.ServiceKind.TheVariants.{Latency}
-use Rattle.net_cells.specs.net_model.specs.Accepted.{IsAccepted}
-use Rattle.net_cells.specs.net_model.specs.Networks.{Net, NetServer, NetFlow}
-use Rattle.net_cells.specs.net_model.specs.Orders.{IsOrder}
-use Rattle.net_cells.specs.declared.cell.Kind.TheVariants.{Bound}
-use Rattle.net_cells.specs.Cells.{cell_of}
-use Rattle.net_cells.specs.Equations.{MeetsEquations}
-use Rattle.net_cells.specs.Meanings.{CellTable, number}
+use Rattle.upp_limits.specs.rational.specs.declared.Extended.TheVariants.{Fin}
+use Rattle.upp_limits.specs.upp_curve.specs.Kinds.{bucket, rate_latency}
+use Rattle.net_model.specs.run_laws.specs.Cards.{whole}
+use Rattle.net_model.specs.run_laws.specs.Examples.{one_packet}
+use Rattle.net_model.specs.run_laws.specs.FlowDelays.{delays}
+use Rattle.net_model.specs.run_laws.specs.Servers.{Fifo}
+use Rattle.net_model.specs.declared.server.ServiceKind.TheVariants.{Latency}
+use Rattle.net_model.specs.Accepted.{IsAccepted}
+use Rattle.net_model.specs.Networks.{Net, NetServer, NetFlow}
+use Rattle.net_model.specs.Orders.{IsOrder}
+use Rattle.report_text.specs.net_cells.specs.declared.cell.Kind.TheVariants.{Bound}
+use Rattle.report_text.specs.net_cells.specs.Cells.{cell_of}
+use Rattle.report_text.specs.net_cells.specs.Equations.{MeetsEquations}
+use Rattle.report_text.specs.net_cells.specs.Meanings.{CellTable, number}
 use Rattle.net_bounds.specs.NetRuns.{routes_of, IsRunOf}
 
 -- 100 bits a unit of time, after a latency of 10

@@ -1,6 +1,6 @@
 -- What holds of the replies on files.
 use Rattle.std.specs.Prelude.{ℕ, List}
-use Rattle.command_replies.specs.Replies.{Reply}
+use Rattle.commands.specs.command_replies.specs.Replies.{Reply}
 use Rattle.netcalc_cli.specs.Commands.{Command, AreSameTo}
 use Rattle.netcalc_cli.specs.Reply.{IsReplyOnFiles}
 

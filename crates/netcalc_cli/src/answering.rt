@@ -1,9 +1,9 @@
 //! The answer of a command. Each has a function of its own, which fetches its files and answers on them.
 
 ghost use Rattle.std.specs.Prelude.{IfOk};
-ghost use Rattle.fraction128.specs.rational.specs.Rational.{◌≤ℚ◌};
-ghost use Rattle.min_plus.specs.Functions.{zero_q};
-ghost use Rattle.command_replies.specs.View.{reply_of, status_of};
+ghost use Rattle.upp_limits.specs.rational.specs.Rational.{◌≤ℚ◌};
+ghost use Rattle.upp_limits.specs.min_plus.specs.Functions.{zero_q};
+ghost use Rattle.commands.specs.command_replies.specs.View.{reply_of, status_of};
 ghost use Rattle.netcalc_cli.specs.Commands as commands;
 ghost use Rattle.netcalc_cli.specs.Counts.{CountsOnCommand};
 ghost use Rattle.netcalc_cli.specs.Reply.{MayReplyTo};
@@ -11,20 +11,20 @@ ghost use Rattle.netcalc_cli.specs.View.{command_view};
 
 use crate::fetching::{fetch_one, fetch_two};
 use crate::words::Command;
-use analyse_command::on_bytes;
-use check_command::on_run;
-use command_replies::Answer;
-use curve_command::on_script;
-use edit_command::on_edits;
-use exercise_command::on_seed;
-use fraction128::Frac;
-use json_report::Form;
-use measure_command::on_measure;
+use commands::analyse::on_bytes;
+use commands::check::on_run;
+use commands::command_replies::Answer;
+use commands::curve::on_script;
+use commands::edit::on_edits;
+use commands::exercise::on_seed;
+use commands::measure::on_measure;
+use commands::simulate::on_trace;
 use outside::{Inputs, NoMemory};
-use simulate_command::on_trace;
+use report_text::json_report::Form;
 use std::alloc::Global;
 use std::sync::ledger::Ledger;
 use steps::Steps;
+use upp_limits::fraction128::Frac;
 
 fn on_network<I: Inputs, L: Ledger>(
     alloc: Global,

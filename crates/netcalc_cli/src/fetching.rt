@@ -1,11 +1,11 @@
 //! The files of a command, fetched in order.
 
 ghost use Rattle.std.specs.Prelude.{◌≡◌, ◌≤◌, [], ◌∷◌, List, ℕ, length, IfOk, IfErr};
-ghost use Rattle.command_replies.specs.View.{reply_of};
+ghost use Rattle.commands.specs.command_replies.specs.View.{reply_of};
 ghost use Rattle.netcalc_cli.specs.Files.{most_bytes, MayHold, MayHoldAll, AllFit, FirstIs};
 ghost use Rattle.netcalc_cli.specs.Reply.{EndsAt};
 
-use command_replies::{Answer, cannot_read, too_long};
+use commands::command_replies::{Answer, cannot_read, too_long};
 use outside::{FetchFault, Inputs, NoMemory};
 use std::alloc::Global;
 

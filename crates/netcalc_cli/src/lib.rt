@@ -8,6 +8,6 @@ mod laws;
 mod top_call;
 mod words;
 
-pub use command_replies::Status;
+pub use commands::command_replies::Status;
 pub use laws::{one_flow_reaches_its_bound, replies_are_determined};
 pub use top_call::run;

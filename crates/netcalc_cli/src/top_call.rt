@@ -1,9 +1,9 @@
 //! The top call.
 
 ghost use Rattle.std.specs.Prelude.{◌≡◌, ◌≢◌, ◌⊎◌, None, IfSome};
-ghost use Rattle.net_cells.specs.upp_limits.specs.declared.own_limits.OverLimit.TheVariants as limits;
-ghost use Rattle.command_replies.specs.Replies.{Reply, usage, cannot_read, too_long};
-ghost use Rattle.command_replies.specs.View.{code_of};
+ghost use Rattle.upp_limits.specs.declared.own_limits.OverLimit.TheVariants as limits;
+ghost use Rattle.commands.specs.command_replies.specs.Replies.{Reply, usage, cannot_read, too_long};
+ghost use Rattle.commands.specs.command_replies.specs.View.{code_of};
 ghost use Rattle.netcalc_cli.specs.Commands.{files_of, IsMalformed, IsOver, IsCyclic, TellsBreach, IsDone};
 ghost use Rattle.netcalc_cli.specs.Counts.{Counts};
 ghost use Rattle.netcalc_cli.specs.Files.{IsTooLong, FirstIs};
@@ -13,7 +13,7 @@ ghost use Rattle.netcalc_cli.specs.Words.{texts, command_of};
 
 use crate::answering::answer_to;
 use crate::words::{parsed, taken};
-use command_replies::Status;
+use commands::command_replies::Status;
 use outside::{Inputs, Sink};
 use std::sync::ledger::Ledger;
 use steps::Steps;

@@ -1,8 +1,8 @@
 //! The cells of small networks, worked out by hand.
 
 use crate::texts::network;
-use net_cells::net_model::{Network, plain_network};
-use net_cells::{Cell, Kind, cells, operands, work};
+use net_model::{Network, plain_network};
+use report_text::net_cells::{Cell, Kind, cells, operands, work};
 use std::alloc::Global;
 use std::process::Abort;
 use std::test::Fail;

@@ -1,10 +1,10 @@
 //! A copy of a network.
 
-use net_cells::net_model::{Discipline, Flow, Network, Server, plain_network};
-use net_cells::upp_curve::equal;
+use net_model::{Discipline, Flow, Network, Server, plain_network};
 use std::cmp::Ordering;
 use std::process::Abort;
 use std::test::Fail;
+use upp_curve::equal;
 
 fn same_server(rt: &impl Abort, left: &Server, right: &Server) {
     assert_eq!(rt; left.name.as_str(), right.name.as_str());

@@ -1,7 +1,7 @@
 //! Orders of small networks, worked out by hand.
 
-use net_cells::net_graph::order;
-use net_cells::net_model::{Network, plain_network};
+use net_model::net_graph::order;
+use net_model::{Network, plain_network};
 use std::alloc::Global;
 use std::process::Abort;
 use std::test::Fail;

@@ -2,7 +2,7 @@
 
 ghost use Rattle.std.specs.Prelude.{◌≡◌, ◌<◌};
 
-use net_cells::net_model::{NetFault, Network};
+use net_model::{NetFault, Network};
 use net_text::read_network;
 use std::alloc::Global;
 use std::marker::Brand;

@@ -1,8 +1,8 @@
 //! The words of each kind of cell: a report tells those alone that are over a limit.
 
-use net_cells::net_model::{Network, plain_network};
-use net_cells::{Cell, Kind};
+use net_model::{Network, plain_network};
 use report_text::cell_text;
+use report_text::net_cells::{Cell, Kind};
 use std::alloc::Global;
 use std::process::Abort;
 use std::test::Fail;

@@ -3,28 +3,28 @@
 use Rattle.std.specs.Prelude.{Option, Some, None, ◌≡◌, ℕ, zero, suc, ◌<◌, ◌≤◌, Bool, true, false, not, ◌&&◌, ◌==◌, List, [], ◌∷◌, ◌++◌, length, get_or, if◌then◌else◌}
 use Rattle.std.proofs.Common.{arith, sym, ap, refl, inl, inr, subst}
 use Rattle.std.proofs.lemmas.Bool.{cases_Bool, cases_eq, eqb-true, eq-eqb, ne_eqb, and_parts, and_from, or_left, or_right, both_ways}
-use Rattle.rational.specs.Rational.{ℚ, ◌+ℚ◌, ◌-ℚ◌, ◌*ℚ◌, ◌≤ℚ◌}
-use Rattle.rational.specs.Extended.{Ext}
-use Rattle.rational.specs.declared.Extended.TheVariants.{Fin}
-use Rattle.rational.proofs.ExtendedOrder.{min_greatest}
-use Rattle.rational.proofs.Linear.{with1, with3, with4, with6}
+use Rattle.min_plus.specs.rational.specs.Rational.{ℚ, ◌+ℚ◌, ◌-ℚ◌, ◌*ℚ◌, ◌≤ℚ◌}
+use Rattle.min_plus.specs.rational.specs.Extended.{Ext}
+use Rattle.min_plus.specs.rational.specs.declared.Extended.TheVariants.{Fin}
+use Rattle.min_plus.specs.rational.proofs.ExtendedOrder.{min_greatest}
+use Rattle.min_plus.specs.rational.proofs.Linear.{with1, with3, with4, with6}
 use Rattle.min_plus.specs.Formulas.{bucket_value}
-use Rattle.net_laws.specs.run_laws.specs.Runs.{SpecRun}
-use Rattle.net_laws.specs.run_laws.specs.Cards.{Card, size, whole, of_flow, of_queue, ServerStep, Arrives, Works, Leaves, Visits}
-use Rattle.net_laws.specs.run_laws.specs.Counts.{when, arrives, leaves, within, arrived_in, departed_in}
-use Rattle.net_laws.specs.run_laws.specs.Allows.{IsLawfulView}
-use Rattle.net_laws.specs.run_laws.specs.Premises.{EachArrival, KeepsArrivals}
-use Rattle.net_laws.specs.run_laws.specs.RunPremises.{EnterSizes}
-use Rattle.net_laws.specs.run_laws.specs.Routes.{Hop, Route, Routes, server_at, route_of, link_at, server_after}
-use Rattle.net_laws.specs.run_laws.specs.Totals.{is_on, is_in}
-use Rattle.net_laws.specs.run_laws.specs.Views.{view}
-use Rattle.net_laws.specs.run_laws.specs.Lawful.{IsLawful, run_start}
-use Rattle.net_laws.specs.run_laws.proofs.Arrivals.{arrivals_map, arrivals_all, same_arrivals, none_arrive, IsPassing, all_pass}
-use Rattle.net_laws.specs.run_laws.proofs.Gone.{left_nonneg}
-use Rattle.net_laws.specs.run_laws.proofs.Heads.{same_some}
-use Rattle.net_laws.specs.run_laws.proofs.Sums.{when_false, each_all, total_sum, nothing}
-use Rattle.net_laws.specs.run_laws.proofs.Totals.{its_flow_is_in}
-use Rattle.net_laws.specs.run_laws.proofs.Views.{views_are_lawful}
+use Rattle.run_laws.specs.Runs.{SpecRun}
+use Rattle.run_laws.specs.Cards.{Card, size, whole, of_flow, of_queue, ServerStep, Arrives, Works, Leaves, Visits}
+use Rattle.run_laws.specs.Counts.{when, arrives, leaves, within, arrived_in, departed_in}
+use Rattle.run_laws.specs.Allows.{IsLawfulView}
+use Rattle.run_laws.specs.Premises.{EachArrival, KeepsArrivals}
+use Rattle.run_laws.specs.RunPremises.{EnterSizes}
+use Rattle.run_laws.specs.Routes.{Hop, Route, Routes, server_at, route_of, link_at, server_after}
+use Rattle.run_laws.specs.Totals.{is_on, is_in}
+use Rattle.run_laws.specs.Views.{view}
+use Rattle.run_laws.specs.Lawful.{IsLawful, run_start}
+use Rattle.run_laws.proofs.Arrivals.{arrivals_map, arrivals_all, same_arrivals, none_arrive, IsPassing, all_pass}
+use Rattle.run_laws.proofs.Gone.{left_nonneg}
+use Rattle.run_laws.proofs.Heads.{same_some}
+use Rattle.run_laws.proofs.Sums.{when_false, each_all, total_sum, nothing}
+use Rattle.run_laws.proofs.Totals.{its_flow_is_in}
+use Rattle.run_laws.proofs.Views.{views_are_lawful}
 use Rattle.net_laws.specs.Laws.{IsLink}
 use Rattle.net_laws.specs.Paths.{IsPath}
 use Rattle.net_laws.specs.Once.{IsOverPaths}

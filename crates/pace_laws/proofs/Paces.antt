@@ -3,22 +3,22 @@
 use Rattle.std.specs.Prelude.{Option, Some, None, ◌≡◌, ℕ, pos, true, ◌&&◌, List, [], ◌∷◌}
 use Rattle.std.proofs.Common.{arith, sym, ◌∙◌, refl, inl, inr, subst}
 use Rattle.std.proofs.lemmas.Bool.{cases_Bool, and_parts, and_right}
-use Rattle.rational.specs.Rational.{ℚ, int, ◌+ℚ◌, ◌-ℚ◌, ◌*ℚ◌, ◌≤ℚ◌, ◌<ℚ◌, le_q}
-use Rattle.rational.proofs.Over.{le_q_in}
-use Rattle.rational.proofs.MinMax.{le_q_not}
-use Rattle.rational.proofs.Laws.{le_refl, le_trans, le_or_lt, mul_nonneg, mul_sub}
-use Rattle.rational.proofs.Linear.{with1, with2, with3, with4, with5, with6}
-use Rattle.net_laws.specs.run_laws.specs.Cards.{Card, size, whole, Class, ServerStep, Arrives, Works, Leaves, Visits}
-use Rattle.net_laws.specs.run_laws.specs.Servers.{Server, Under, ServerState, done_so_far, done, start}
-use Rattle.net_laws.specs.run_laws.specs.Next.{next}
-use Rattle.net_laws.specs.run_laws.specs.Allows.{AllAllowed, IsLawfulView, MayLeave, KeepsPace}
-use Rattle.net_laws.specs.run_laws.specs.Counts.{when, total, leaves, upto, within, departed_in}
-use Rattle.net_laws.specs.run_laws.specs.Premises.{KeepsSizes}
-use Rattle.net_laws.specs.run_laws.proofs.Sizes.{size_most, size_nonneg, whole_nonneg}
-use Rattle.net_laws.specs.run_laws.proofs.Sums.{when_true, when_false, when_most}
-use Rattle.net_laws.specs.run_laws.proofs.Counts.{left_le}
-use Rattle.net_laws.specs.run_laws.proofs.States.{IsSound, IsSoundFor, sound_next, leaving}
-use Rattle.net_laws.specs.run_laws.proofs.Orders.{AllSmall, small_head, small_after}
+use Rattle.min_plus.specs.rational.specs.Rational.{ℚ, int, ◌+ℚ◌, ◌-ℚ◌, ◌*ℚ◌, ◌≤ℚ◌, ◌<ℚ◌, le_q}
+use Rattle.min_plus.specs.rational.proofs.Over.{le_q_in}
+use Rattle.min_plus.specs.rational.proofs.MinMax.{le_q_not}
+use Rattle.min_plus.specs.rational.proofs.Laws.{le_refl, le_trans, le_or_lt, mul_nonneg, mul_sub}
+use Rattle.min_plus.specs.rational.proofs.Linear.{with1, with2, with3, with4, with5, with6}
+use Rattle.run_laws.specs.Cards.{Card, size, whole, Class, ServerStep, Arrives, Works, Leaves, Visits}
+use Rattle.run_laws.specs.Servers.{Server, Under, ServerState, done_so_far, done, start}
+use Rattle.run_laws.specs.Next.{next}
+use Rattle.run_laws.specs.Allows.{AllAllowed, IsLawfulView, MayLeave, KeepsPace}
+use Rattle.run_laws.specs.Counts.{when, total, leaves, upto, within, departed_in}
+use Rattle.run_laws.specs.Premises.{KeepsSizes}
+use Rattle.run_laws.proofs.Sizes.{size_most, size_nonneg, whole_nonneg}
+use Rattle.run_laws.proofs.Sums.{when_true, when_false, when_most}
+use Rattle.run_laws.proofs.Counts.{left_le}
+use Rattle.run_laws.proofs.States.{IsSound, IsSoundFor, sound_next, leaving}
+use Rattle.run_laws.proofs.Orders.{AllSmall, small_head, small_after}
 use Rattle.pace_laws.specs.Paces.{KeepsRate}
 
 -- ---- the pace of a server with a limit

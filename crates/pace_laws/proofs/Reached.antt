@@ -2,14 +2,14 @@
 use Rattle.std.specs.Prelude.{◌≡◌, ◌&&◌, true, ℕ}
 use Rattle.std.proofs.Common.{arith, refl}
 use Rattle.std.proofs.lemmas.Bool.{and_from}
-use Rattle.rational.specs.Rational.{◌+ℚ◌, ◌-ℚ◌, ◌*ℚ◌, ◌≤ℚ◌, le_q}
-use Rattle.rational.proofs.Over.{le_q_out}
-use Rattle.rational.proofs.Laws.{one_mul}
-use Rattle.rational.proofs.Linear.{with1}
-use Rattle.net_laws.specs.run_laws.specs.Cards.{all, whole}
-use Rattle.net_laws.specs.run_laws.specs.Counts.{when, within, departed_in}
-use Rattle.net_laws.specs.run_laws.proofs.Small.{le_t, sum_t, in_time, works_whole}
-use Rattle.net_laws.specs.run_laws.proofs.Sums.{when_true}
+use Rattle.min_plus.specs.rational.specs.Rational.{◌+ℚ◌, ◌-ℚ◌, ◌*ℚ◌, ◌≤ℚ◌, le_q}
+use Rattle.min_plus.specs.rational.proofs.Over.{le_q_out}
+use Rattle.min_plus.specs.rational.proofs.Laws.{one_mul}
+use Rattle.min_plus.specs.rational.proofs.Linear.{with1}
+use Rattle.run_laws.specs.Cards.{all, whole}
+use Rattle.run_laws.specs.Counts.{when, within, departed_in}
+use Rattle.run_laws.proofs.Small.{le_t, sum_t, in_time, works_whole}
+use Rattle.run_laws.proofs.Sums.{when_true}
 use Rattle.pace_laws.specs.Reached.{two_in_a_row, PaceIsReached}
 
 in_pace : (a b : ℕ) → whole 10 ≤ℚ whole b -ℚ whole a → whole 10 ≤ℚ whole 1 *ℚ (whole b -ℚ whole a)

@@ -2,17 +2,17 @@
 -- the sum of its parts: the flows that enter there, and those of each server before. (Grouping of flows by their input
 -- link; that a part is the lesser of a sum and a bucket is our own choice.)
 use Rattle.std.specs.Prelude.{Option, Some, None, ◌≡◌, ℕ, zero, suc, pos, ◌<◌, ◌≤◌, Bool, true, false, ◌&&◌, ◌||◌, ◌==◌, List, [], ◌∷◌, length, if◌then◌else◌}
-use Rattle.rational.specs.Rational.{ℚ, int, ◌≤ℚ◌}
-use Rattle.rational.specs.Extended.{Ext, min_ext}
+use Rattle.min_plus.specs.rational.specs.Rational.{ℚ, int, ◌≤ℚ◌}
+use Rattle.min_plus.specs.rational.specs.Extended.{Ext, min_ext}
 use Rattle.min_plus.specs.Formulas.{bucket_value}
-use Rattle.net_laws.specs.run_laws.specs.Runs.{SpecRun}
-use Rattle.net_laws.specs.run_laws.specs.Cards.{Class, of_flow, of_queue, whole}
-use Rattle.net_laws.specs.run_laws.specs.Premises.{KeepsArrivals, KeepsSizes}
-use Rattle.net_laws.specs.run_laws.specs.RunPremises.{EnterSizes}
-use Rattle.net_laws.specs.run_laws.specs.Routes.{Hop, Routes, server_at, route_of}
-use Rattle.net_laws.specs.run_laws.specs.Totals.{is_in}
-use Rattle.net_laws.specs.run_laws.specs.Views.{view}
-use Rattle.net_laws.specs.run_laws.specs.Lawful.{IsLawful}
+use Rattle.run_laws.specs.Runs.{SpecRun}
+use Rattle.run_laws.specs.Cards.{Class, of_flow, of_queue, whole}
+use Rattle.run_laws.specs.Premises.{KeepsArrivals, KeepsSizes}
+use Rattle.run_laws.specs.RunPremises.{EnterSizes}
+use Rattle.run_laws.specs.Routes.{Hop, Routes, server_at, route_of}
+use Rattle.run_laws.specs.Totals.{is_in}
+use Rattle.run_laws.specs.Views.{view}
+use Rattle.run_laws.specs.Lawful.{IsLawful}
 use Rattle.net_laws.specs.Laws.{IsLink}
 use Rattle.net_laws.specs.Once.{IsOverPaths}
 use Rattle.net_laws.specs.Sums.{sum_of_curves}

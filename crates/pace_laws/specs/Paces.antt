@@ -1,12 +1,12 @@
 -- The pace of a server's work, and what leaves in a closed window by it alone. (Le Boudec and Thiran, shaping by a link
 -- of fixed rate; that it is stated for works of a pace and for packets is our own choice.)
 use Rattle.std.specs.Prelude.{Some, ◌≡◌, ℕ, pos, List, [], ◌∷◌}
-use Rattle.rational.specs.Rational.{ℚ, int, ◌+ℚ◌, ◌-ℚ◌, ◌*ℚ◌, ◌≤ℚ◌}
-use Rattle.net_laws.specs.run_laws.specs.Cards.{Class, whole, ServerStep, Arrives, Works, Leaves, Visits}
-use Rattle.net_laws.specs.run_laws.specs.Servers.{Server}
-use Rattle.net_laws.specs.run_laws.specs.Allows.{IsLawfulView}
-use Rattle.net_laws.specs.run_laws.specs.Counts.{departed_in}
-use Rattle.net_laws.specs.run_laws.specs.Premises.{KeepsSizes}
+use Rattle.min_plus.specs.rational.specs.Rational.{ℚ, int, ◌+ℚ◌, ◌-ℚ◌, ◌*ℚ◌, ◌≤ℚ◌}
+use Rattle.run_laws.specs.Cards.{Class, whole, ServerStep, Arrives, Works, Leaves, Visits}
+use Rattle.run_laws.specs.Servers.{Server}
+use Rattle.run_laws.specs.Allows.{IsLawfulView}
+use Rattle.run_laws.specs.Counts.{departed_in}
+use Rattle.run_laws.specs.Premises.{KeepsSizes}
 
 -- no work has more bits than the rate gives in its time
 abbrev pub KeepsRate : ℚ → List ServerStep → Type 0

@@ -1,12 +1,12 @@
 -- A view in which the bound on what leaves by the pace is reached. (Own choice.)
 use Rattle.std.specs.Prelude.{◌≡◌, ℕ, List, [], ◌∷◌}
-use Rattle.rational.specs.Rational.{◌+ℚ◌, ◌-ℚ◌, ◌*ℚ◌}
-use Rattle.net_laws.specs.run_laws.specs.Cards.{Card, all, whole, ServerStep, Arrives, Works, Leaves}
-use Rattle.net_laws.specs.run_laws.specs.Servers.{Fifo}
-use Rattle.net_laws.specs.run_laws.specs.Allows.{IsLawfulView}
-use Rattle.net_laws.specs.run_laws.specs.Counts.{departed_in}
-use Rattle.net_laws.specs.run_laws.specs.Premises.{KeepsSizes}
-use Rattle.net_laws.specs.run_laws.specs.Examples.{paced_server}
+use Rattle.min_plus.specs.rational.specs.Rational.{◌+ℚ◌, ◌-ℚ◌, ◌*ℚ◌}
+use Rattle.run_laws.specs.Cards.{Card, all, whole, ServerStep, Arrives, Works, Leaves}
+use Rattle.run_laws.specs.Servers.{Fifo}
+use Rattle.run_laws.specs.Allows.{IsLawfulView}
+use Rattle.run_laws.specs.Counts.{departed_in}
+use Rattle.run_laws.specs.Premises.{KeepsSizes}
+use Rattle.run_laws.specs.Examples.{paced_server}
 
 -- packets of 10 bits
 abbrev pub card : ℕ → Card

@@ -5,8 +5,6 @@ mod arrivals;
 mod rows;
 mod services;
 
-pub use arrival_lines;
 pub use arrivals::Arrivals;
 pub use rows::{port_rows, rows_are_held};
 pub use services::own_service;
-pub use tree_network;

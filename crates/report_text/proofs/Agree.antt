@@ -4,7 +4,7 @@ use Rattle.std.specs.Prelude.{codes, ◌==◌, ◌&&◌, is_some, IsTrue, Option
 use Rattle.std.specs.Fmt.{decimal}
 use Rattle.std.specs.List.{flat_map, range_with_len}
 use Rattle.std.proofs.lemmas.Bool.{lt-ltb}
-use Rattle.table_text.specs.net_model.specs.Networks.{Net, NetFlow}
+use Rattle.net_model.specs.Networks.{Net, NetFlow}
 use Rattle.net_cells.specs.declared.cell.Kind.{Kind}
 use Rattle.net_cells.specs.declared.cell.Kind.TheVariants.{QueueDelay, QueueBacklog, Tfa, Sfa, Bound}
 use Rattle.net_cells.specs.Cells.{cell_of, has_cell}

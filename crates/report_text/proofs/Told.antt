@@ -7,17 +7,17 @@ use Rattle.std.proofs.lemmas.Bool.{ltb-true, eqb-true, cases_lt, cond-false, ne_
 use Rattle.std.proofs.lemmas.Fmt.{decimal_is_IsNumeral_wide}
 use Rattle.std.proofs.lemmas.List.{get_or_past}
 use Rattle.std.proofs.lemmas.Option.{slice_get_within, get_or_from_slice_get}
-use Rattle.table_text.specs.run_laws.specs.Servers.{Discipline, Fifo, Priority, Drr, queue_count}
-use Rattle.table_text.specs.net_model.specs.Networks.{Net, NetServer, NetFlow}
-use Rattle.table_text.specs.net_model.specs.Names.{is_name_byte, DifferInName}
-use Rattle.table_text.specs.net_model.specs.Accepted.{IsAccepted, HasFewQueues}
+use Rattle.net_model.specs.run_laws.specs.Servers.{Discipline, Fifo, Priority, Drr, queue_count}
+use Rattle.net_model.specs.Networks.{Net, NetServer, NetFlow}
+use Rattle.net_model.specs.Names.{is_name_byte, DifferInName}
+use Rattle.net_model.specs.Accepted.{IsAccepted, HasFewQueues}
 use Rattle.net_cells.specs.declared.cell.Kind.{Kind}
 use Rattle.net_cells.specs.declared.cell.Kind.TheVariants.{In, Cross, Total, Higher, QueueService, Theta, Residual, QueueDelay, QueueBacklog, HopDelay, ShiftOut, DeconvOut, Out, PathService, Tfa, Sfa, Bound}
 use Rattle.net_cells.specs.declared.cell.Scope.{Scope}
 use Rattle.net_cells.specs.declared.cell.Scope.TheVariants.{EachHop, EachHopButLast, EachQueue, EachPriorityQueue, EachPath}
 use Rattle.net_cells.specs.Numbered.{flow_at, path_of, is_live, hops, queues, levels, levels_of, discipline_of}
 use Rattle.net_cells.specs.Cells.{cell_of, scope_of, is_in_scope}
-use Rattle.table_text.specs.net_model.proofs.FewQueues.{few_of}
+use Rattle.net_model.proofs.FewQueues.{few_of}
 use Rattle.net_cells.proofs.Stored.{flow_kept, few_hops, server_kept}
 use Rattle.report_text.specs.CellWords.{kind_word, name_of_server, name_of_flow, server_name, flow_name, words_at, cell_words}
 use Rattle.report_text.specs.Laws.{WordsTellCells}

@@ -1,16 +1,16 @@
 -- How a fault of a file is written: of a network's, of a table of rows, of a script. Own choice.
 use Rattle.std.specs.Prelude.{ℕ, List, [], ◌++◌, codes}
 use Rattle.std.specs.Fmt.{decimal}
-use Rattle.curve_script.specs.declared.fault.LangFault.{LangFault}
-use Rattle.curve_script.specs.declared.fault.LangKind.{LangKind}
-use Rattle.curve_script.specs.declared.fault.LangKind.TheVariants as scripts
-use Rattle.table_text.specs.net_model.specs.declared.fault.CurveRefusal.{CurveRefusal}
-use Rattle.table_text.specs.net_model.specs.declared.fault.CurveRefusal.TheVariants.{Negative, ZeroPeriod, NotRising, NotContinuous, NotZeroAtStart}
-use Rattle.table_text.specs.net_model.specs.declared.fault.NetKind.{NetKind}
-use Rattle.table_text.specs.net_model.specs.declared.fault.NetKind.TheVariants.{M1, M2, M3, M4, M5, M6, M7, M8, M9, M10, M11, M12, CurveTooMany, CurveTooWide, NoMemory}
-use Rattle.table_text.specs.declared.fault.TableFault.{TableFault}
-use Rattle.table_text.specs.declared.fault.TableKind.{TableKind}
-use Rattle.table_text.specs.declared.fault.TableKind.TheVariants as tables
+use Rattle.input_texts.specs.declared.curve_script.fault.LangFault.{LangFault}
+use Rattle.input_texts.specs.declared.curve_script.fault.LangKind.{LangKind}
+use Rattle.input_texts.specs.declared.curve_script.fault.LangKind.TheVariants as scripts
+use Rattle.net_model.specs.declared.fault.CurveRefusal.{CurveRefusal}
+use Rattle.net_model.specs.declared.fault.CurveRefusal.TheVariants.{Negative, ZeroPeriod, NotRising, NotContinuous, NotZeroAtStart}
+use Rattle.net_model.specs.declared.fault.NetKind.{NetKind}
+use Rattle.net_model.specs.declared.fault.NetKind.TheVariants.{M1, M2, M3, M4, M5, M6, M7, M8, M9, M10, M11, M12, CurveTooMany, CurveTooWide, NoMemory}
+use Rattle.input_texts.specs.declared.table_text.fault.TableFault.{TableFault}
+use Rattle.input_texts.specs.declared.table_text.fault.TableKind.{TableKind}
+use Rattle.input_texts.specs.declared.table_text.fault.TableKind.TheVariants as tables
 
 -- ---- networks
 -- why a curve is refused

@@ -3,9 +3,9 @@ use Rattle.std.specs.Prelude.{◌≡◌, ℕ, List, Some, Bool, true, false, IsT
 use Rattle.rational.specs.Ratio.{IsSmall}
 use Rattle.rational.specs.Extended.{Ext}
 use Rattle.rational.specs.declared.Extended.TheVariants.{Fin, Inf}
-use Rattle.table_text.specs.net_model.specs.Networks.{Net}
-use Rattle.table_text.specs.net_model.specs.Accepted.{IsAccepted}
-use Rattle.table_text.specs.net_model.specs.Orders.{IsOrder}
+use Rattle.net_model.specs.Networks.{Net}
+use Rattle.net_model.specs.Accepted.{IsAccepted}
+use Rattle.net_model.specs.Orders.{IsOrder}
 use Rattle.net_cells.specs.declared.cell.Cell.{Cell}
 use Rattle.net_cells.specs.declared.cell.Kind.{Kind}
 use Rattle.net_cells.specs.declared.cell.Kind.TheVariants.{QueueDelay, QueueBacklog, Tfa, Sfa, Bound}
@@ -13,7 +13,7 @@ use Rattle.net_cells.specs.Cells.{has_cell}
 use Rattle.net_cells.specs.Meanings.{number, CellTable}
 use Rattle.net_cells.specs.Equations.{MeetsEquations}
 use Rattle.report_text.specs.CellWords.{cell_words}
-use Rattle.table_text.specs.plain_text.specs.Numbers.{number_text}
+use Rattle.input_texts.specs.plain_text.Numbers.{number_text}
 use Rattle.report_text.specs.Report.{report_of}
 use Rattle.report_text.specs.RunReport.{Found, run_report_of}
 

@@ -3,10 +3,10 @@ use Rattle.std.specs.Prelude.{ℕ, List, [], ◌++◌, length, Option, Some, Non
 use Rattle.std.specs.Fmt.{decimal}
 use Rattle.std.specs.List.{flat_map, range_with_len}
 use Rattle.rational.specs.Rational.{ℚ}
-use Rattle.table_text.specs.fraction128.specs.Text.{text_of}
-use Rattle.table_text.specs.net_model.specs.declared.breach.Breach.{Breach}
-use Rattle.table_text.specs.net_model.specs.declared.breach.Breach.TheVariants.{Size, Arrival, Service}
-use Rattle.table_text.specs.net_model.specs.Networks.{Net, NetFlow}
+use Rattle.upp_curve.specs.fraction128.specs.Text.{text_of}
+use Rattle.net_model.specs.declared.breach.Breach.{Breach}
+use Rattle.net_model.specs.declared.breach.Breach.TheVariants.{Size, Arrival, Service}
+use Rattle.net_model.specs.Networks.{Net, NetFlow}
 use Rattle.net_cells.specs.declared.cell.Kind.TheVariants.{QueueBacklog, Bound}
 use Rattle.net_cells.specs.Meanings.{CellTable}
 use Rattle.net_cells.specs.Numbered.{flow_at, queues}

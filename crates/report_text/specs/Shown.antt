@@ -1,7 +1,7 @@
 -- How the number of a cell is written. Own choice.
 use Rattle.std.specs.Prelude.{ℕ, List, [], Option, Some, None}
 use Rattle.rational.specs.Extended.{Ext}
-use Rattle.table_text.specs.plain_text.specs.Numbers.{number_text}
+use Rattle.input_texts.specs.plain_text.Numbers.{number_text}
 use Rattle.net_cells.specs.Meanings.{Meaning, curve, number, CellTable}
 use Rattle.net_cells.specs.declared.cell.Kind.{Kind}
 use Rattle.net_cells.specs.Cells.{cell_of}

@@ -7,8 +7,8 @@ ghost use Rattle.report_text.specs.CellWords as words;
 
 use itoa::Buffer;
 use net_cells::{Cell, Kind, Scope, live_flow, server};
+use net_model::Network;
 use std::alloc::{AllocError, Global};
-use table_text::net_model::Network;
 
 /// The name of a server; empty past the last one.
 pub fn server_name<'a>(net: &'a Network, number: u32) -> &'a str

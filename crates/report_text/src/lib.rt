@@ -3,8 +3,10 @@
 #![tactic(auto)]
 
 mod cell_words;
+pub mod json_report;
 mod laws;
 mod lines;
+pub mod measure_report;
 mod refusal;
 mod report;
 mod run_found;
@@ -19,6 +21,7 @@ pub use laws::{
     only_infinity_is_unbounded, reports_agree, run_reports_agree, texts_tell_numbers,
     words_tell_cells,
 };
+pub use net_cells;
 pub use refusal::{Refusal, push_spaced, refusal_text};
 pub use report::{analysis_text, live_count, push_head};
 pub use run_found::RunFound;

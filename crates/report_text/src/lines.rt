@@ -7,7 +7,7 @@ ghost use Rattle.report_text.specs.Report.{queue_line, flow_line};
 
 use crate::shown::ShownValue;
 use crate::text::{push_after, push_decimal, push_number, push_text};
-use cell_table::Table;
+use net_cells::cell_table::Table;
 use net_cells::{Cell, Kind};
 use std::alloc::AllocError;
 

@@ -7,10 +7,10 @@ ghost use Rattle.std.specs.Fmt.{decimal};
 ghost use Rattle.report_text.specs.Refusals.{spaced, reason, refusal_line};
 
 use crate::text::{push_after, push_decimal, push_text};
-use curve_script::{LangFault, LangKind};
+use input_texts::curve_script::{LangFault, LangKind};
+use input_texts::table_text::{TableFault, TableKind};
+use net_model::{CurveRefusal, NetFault, NetKind};
 use std::alloc::{AllocError, Global};
-use table_text::net_model::{CurveRefusal, NetFault, NetKind};
-use table_text::{TableFault, TableKind};
 
 /// Why there is no report.
 #[derive(Debug, Drop)]

@@ -8,10 +8,10 @@ use crate::cell_words::server_name;
 use crate::lines::{push_flow_line, push_queue_line};
 use crate::shown::ShownValue;
 use crate::text::{push_decimal, push_text};
-use cell_table::Table;
+use net_cells::cell_table::Table;
 use net_cells::{live_flow, queues};
+use net_model::Network;
 use std::alloc::{AllocError, Global};
-use table_text::net_model::Network;
 
 /// How many flows are live.
 pub fn live_count(net: &Network) -> usize

@@ -2,12 +2,12 @@
 
 ghost use Rattle.std.specs.Prelude.{◌≡◌, ◌++◌, OnOk};
 ghost use Rattle.std.specs.Fmt.{decimal};
-ghost use Rattle.table_text.specs.plain_text.specs.Numbers.{number_text};
+ghost use Rattle.input_texts.specs.plain_text.Numbers.{number_text};
 
 use itoa::Buffer;
 use rational::Extended;
 use std::alloc::AllocError;
-use table_text::fraction128::Ext;
+use upp_curve::fraction128::Ext;
 
 /// Appends a text.
 pub fn push_text(into: &mut Vec<u8>, text: &str) -> Result<(), AllocError>

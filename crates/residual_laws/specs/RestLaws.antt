@@ -3,10 +3,10 @@
 -- server is empty: where the class alone has nothing there, others may wait, and nothing bounds the work on what they
 -- brought. (Le Boudec and Thiran, section 6.2: blind multiplexing.)
 use Rattle.std.specs.Prelude.{pos, not, List}
-use Rattle.run_laws.specs.rational.specs.Rational.{ℚ, int, ◌≤ℚ◌, ◌<ℚ◌}
-use Rattle.run_laws.specs.rational.specs.Extended.{Ext}
-use Rattle.run_laws.specs.min_plus.specs.Pointwise.{excess}
-use Rattle.run_laws.specs.min_plus.specs.Running.{IsRunningSupremum}
+use Rattle.min_plus.specs.rational.specs.Rational.{ℚ, int, ◌≤ℚ◌, ◌<ℚ◌}
+use Rattle.min_plus.specs.rational.specs.Extended.{Ext}
+use Rattle.min_plus.specs.Pointwise.{excess}
+use Rattle.min_plus.specs.Running.{IsRunningSupremum}
 use Rattle.run_laws.specs.Cards.{Class, all, ServerStep}
 use Rattle.run_laws.specs.Servers.{Server}
 use Rattle.run_laws.specs.Allows.{IsLawfulView}

@@ -10,4 +10,3 @@ mod rest;
 pub use drr::drr_serves;
 pub use priority::priority_serves;
 pub use rest::rest_serves;
-pub use run_laws;

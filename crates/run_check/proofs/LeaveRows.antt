@@ -2,21 +2,21 @@
 use Rattle.std.proofs.Common.{◌≡◌, ℕ, ◌<◌, ◌≤◌, List, length, set, get_or, refl, sym, ap, ◌∙◌, subst, arith, inl, inr, Some, None, true, false}
 use Rattle.std.specs.Prelude.{Option, ◌↔◌, Bool, IsTrue}
 use Rattle.std.proofs.lemmas.List.{get_or-map, length-map}
-use Rattle.queue_sched.specs.rational.specs.Rational.{ℚ, ◌+ℚ◌}
-use Rattle.net_cells.specs.run_laws.specs.declared.steps.Step.{Step}
-use Rattle.net_cells.specs.run_laws.specs.declared.steps.Step.TheVariants.{Leave}
-use Rattle.net_cells.specs.run_laws.specs.Cards.{Card, size}
-use Rattle.net_cells.specs.run_laws.specs.Servers.{Under}
-use Rattle.net_cells.specs.run_laws.specs.Allows.{MayLeave}
-use Rattle.net_cells.specs.run_laws.specs.Routes.{Routes, server_at, route_of, link_at, server_after}
-use Rattle.net_cells.specs.run_laws.specs.Views.{Entry, entry_of, card_of}
-use Rattle.net_cells.specs.run_laws.specs.Lawful.{RunState, state_at}
-use Rattle.broken_laws.specs.declared.law.Law.{Law}
-use Rattle.broken_laws.specs.declared.law.Law.TheVariants.{L1, L2, L3, L4, L5, L6, L7, L8, L9}
-use Rattle.broken_laws.specs.FirstBroken.{number_of, BreaksNone, BreaksFirst}
-use Rattle.broken_laws.specs.Broken.{Breaks}
-use Rattle.broken_laws.specs.Tracked.{place_after, IsTracked}
-use Rattle.broken_laws.proofs.Tracking.{under_here}
+use Rattle.upp_limits.specs.rational.specs.Rational.{ℚ, ◌+ℚ◌}
+use Rattle.net_model.specs.run_laws.specs.declared.steps.Step.{Step}
+use Rattle.net_model.specs.run_laws.specs.declared.steps.Step.TheVariants.{Leave}
+use Rattle.net_model.specs.run_laws.specs.Cards.{Card, size}
+use Rattle.net_model.specs.run_laws.specs.Servers.{Under}
+use Rattle.net_model.specs.run_laws.specs.Allows.{MayLeave}
+use Rattle.net_model.specs.run_laws.specs.Routes.{Routes, server_at, route_of, link_at, server_after}
+use Rattle.net_model.specs.run_laws.specs.Views.{Entry, entry_of, card_of}
+use Rattle.net_model.specs.run_laws.specs.Lawful.{RunState, state_at}
+use Rattle.run_check.specs.declared.broken_laws.law.Law.{Law}
+use Rattle.run_check.specs.declared.broken_laws.law.Law.TheVariants.{L1, L2, L3, L4, L5, L6, L7, L8, L9}
+use Rattle.run_check.specs.broken_laws.FirstBroken.{number_of, BreaksNone, BreaksFirst}
+use Rattle.run_check.specs.broken_laws.Broken.{Breaks}
+use Rattle.run_check.specs.broken_laws.Tracked.{place_after, IsTracked}
+use Rattle.run_check.proofs.broken_laws.Tracking.{under_here}
 use Rattle.run_check.specs.declared.site.Site.{Site}
 use Rattle.run_check.specs.declared.walk.Walk.{Walk}
 use Rattle.run_check.specs.Sites.{IsFineUnder, IsOut, GoesOff, LeaveAnswer}
@@ -42,7 +42,7 @@ bits_at net room grid most before r w p h l =
     ap (λ xs. get_or xs p 0) h.bits ∙ get_or-map (λ (e : Entry). e.bits) r.entered p record { flow = 0; bits = 0 } 0 l
 
 -- ---- whether it may leave
-off_leaves : (net : Routes) (before : List Step) (r : RunState) (tracks : List Rattle.broken_laws.specs.declared.place.Place.Place) (s p : ℕ) (t : ℚ) → IsTracked net before r tracks
+off_leaves : (net : Routes) (before : List Step) (r : RunState) (tracks : List Rattle.run_check.specs.declared.broken_laws.place.Place.Place) (s p : ℕ) (t : ℚ) → IsTracked net before r tracks
     → GoesOff (state_at r s).under p t → MayLeave (state_at r s).under (card_of net r.entered p s) t
 off_leaves net before r tracks s p t h g = go (state_at r s).under refl g
   where

@@ -2,9 +2,9 @@
 use Rattle.std.specs.Prelude.{◌≡◌, ◌≢◌, ℕ, zero, suc, ◌<◌, true, false, List, [], ◌∷◌, length, get_or}
 use Rattle.std.proofs.Common.{arith, refl}
 use Rattle.std.proofs.lemmas.Bool.{eq-eqb, ne_eqb}
-use Rattle.broken_laws.specs.net_model.specs.NetRoutes.{hops_along}
-use Rattle.sim_routes.proofs.Places.{NoneBefore, none_before_tail}
-use Rattle.broken_laws.specs.Tracked.{is_on, is_before}
+use Rattle.net_model.specs.NetRoutes.{hops_along}
+use Rattle.simulator.proofs.sim_routes.Places.{NoneBefore, none_before_tail}
+use Rattle.run_check.specs.broken_laws.Tracked.{is_on, is_before}
 
 pub before_stops : (path queues : List ℕ) (h s i : ℕ) → length queues ≡ length path → i < length path → get_or path i 0 ≡ s → NoneBefore path s i → NoneBefore path h i
     → is_before h s (hops_along path queues) ≡ false

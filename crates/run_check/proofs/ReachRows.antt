@@ -2,25 +2,25 @@
 use Rattle.std.proofs.Common.{◌≡◌, ℕ, zero, suc, ◌<◌, ◌≤◌, List, [], ◌∷◌, ◌++◌, length, set, get_or, refl, sym, ap, ◌∙◌, subst, arith, inl, inr, ◌⊎◌, Some, None, true, false}
 use Rattle.std.specs.Prelude.{◌≢◌, ◌↔◌, slice_get, Bool, IsTrue}
 use Rattle.std.proofs.lemmas.List.{map_push}
-use Rattle.queue_sched.specs.rational.specs.Rational.{ℚ, ◌<ℚ◌}
-use Rattle.net_cells.specs.run_laws.specs.declared.steps.Step.{Step}
-use Rattle.net_cells.specs.run_laws.specs.declared.steps.Step.TheVariants.{Enter, Reach}
-use Rattle.net_cells.specs.run_laws.specs.Cards.{Card}
-use Rattle.net_cells.specs.run_laws.specs.Servers.{queue_count}
-use Rattle.net_cells.specs.run_laws.specs.Routes.{Routes, server_at, route_of, queue_at, first_server}
-use Rattle.net_cells.specs.run_laws.specs.Views.{Entry, card_of}
-use Rattle.net_cells.specs.run_laws.specs.Lawful.{RunState, state_at}
-use Rattle.net_cells.specs.run_laws.proofs.Entries.{entry_last}
-use Rattle.queue_sched.specs.Turns.{IsCard}
-use Rattle.queue_sched.specs.Waiting.{HasPacket}
-use Rattle.broken_laws.specs.stated_runs.proofs.Lists.{In, contains_in, in_contains}
-use Rattle.broken_laws.specs.declared.law.Law.{Law}
-use Rattle.broken_laws.specs.declared.law.Law.TheVariants.{L1, L2, L3, L4, L5, L6, L7, L8, L9}
-use Rattle.broken_laws.specs.declared.place.Place.TheVariants.{At, OnLink}
-use Rattle.broken_laws.specs.FirstBroken.{number_of, BreaksNone}
-use Rattle.broken_laws.specs.Broken.{Breaks}
-use Rattle.broken_laws.specs.Tracked.{place_of}
-use Rattle.broken_laws.proofs.Breaking.{allows}
+use Rattle.upp_limits.specs.rational.specs.Rational.{ℚ, ◌<ℚ◌}
+use Rattle.net_model.specs.run_laws.specs.declared.steps.Step.{Step}
+use Rattle.net_model.specs.run_laws.specs.declared.steps.Step.TheVariants.{Enter, Reach}
+use Rattle.net_model.specs.run_laws.specs.Cards.{Card}
+use Rattle.net_model.specs.run_laws.specs.Servers.{queue_count}
+use Rattle.net_model.specs.run_laws.specs.Routes.{Routes, server_at, route_of, queue_at, first_server}
+use Rattle.net_model.specs.run_laws.specs.Views.{Entry, card_of}
+use Rattle.net_model.specs.run_laws.specs.Lawful.{RunState, state_at}
+use Rattle.net_model.specs.run_laws.proofs.Entries.{entry_last}
+use Rattle.net_model.specs.queue_sched.Turns.{IsCard}
+use Rattle.net_model.specs.queue_sched.Waiting.{HasPacket}
+use Rattle.net_model.proofs.stated_runs.Lists.{In, contains_in, in_contains}
+use Rattle.run_check.specs.declared.broken_laws.law.Law.{Law}
+use Rattle.run_check.specs.declared.broken_laws.law.Law.TheVariants.{L1, L2, L3, L4, L5, L6, L7, L8, L9}
+use Rattle.run_check.specs.declared.broken_laws.place.Place.TheVariants.{At, OnLink}
+use Rattle.run_check.specs.broken_laws.FirstBroken.{number_of, BreaksNone}
+use Rattle.run_check.specs.broken_laws.Broken.{Breaks}
+use Rattle.run_check.specs.broken_laws.Tracked.{place_of}
+use Rattle.run_check.proofs.broken_laws.Breaking.{allows}
 use Rattle.run_check.specs.declared.site.Site.{Site}
 use Rattle.run_check.specs.declared.walk.Walk.{Walk}
 use Rattle.run_check.specs.Sites.{IsFineUnder, IsOut, MayTake}
@@ -29,7 +29,7 @@ use Rattle.run_check.specs.Walks.{Stands, Told}
 use Rattle.run_check.proofs.WalkSteps.{walk_next, below_first, timely, untimely}
 use Rattle.run_check.proofs.LeaveRows.{flow_at, bits_at}
 use Rattle.run_check.proofs.RowSteps.{in_time, out_of_time}
-use Rattle.broken_laws.specs.stated_runs.proofs.Routed.{first_passes}
+use Rattle.net_model.proofs.stated_runs.Routed.{first_passes}
 
 -- a packet that is there has a card there
 pub has_card : (cs : List Card) (p : ℕ) → HasPacket cs p → (c : Card) × In cs c × (c.packet ≡ p)
@@ -236,4 +236,4 @@ pub known_entrance : (net : Routes) (w : Walk) (f p : ℕ) (t : ℚ) (b : ℕ) (
 known_entrance net w f p t b k =
     let path = k.paths f k.recorded.is_live in
     let first = first_passes (route_of net f).hops path.some in
-    (Rattle.broken_laws.specs.stated_runs.proofs.Routed.place_of net (first_server (route_of net f).hops) (route_of net f).hops path.hops_are first.0).known_server
+    (Rattle.net_model.proofs.stated_runs.Routed.place_of net (first_server (route_of net f).hops) (route_of net f).hops path.hops_are first.0).known_server

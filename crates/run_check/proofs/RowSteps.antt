@@ -2,19 +2,19 @@
 use Rattle.std.proofs.Common.{◌≡◌, ℕ, refl, sym, ap, ◌∙◌, subst, arith, inl, inr, ◌⊎◌, Some, None, true, false}
 use Rattle.std.specs.Prelude.{Option, ◌≢◌, ◌↔◌, Bool, IsTrue, pos}
 use Rattle.std.proofs.lemmas.Bool.{cases_eq}
-use Rattle.queue_sched.specs.rational.specs.Rational.{ℚ, int, neg_ℚ, ◌+ℚ◌, ◌-ℚ◌, ◌/ℚ◌, ◌≤ℚ◌, ◌<ℚ◌}
-use Rattle.queue_sched.specs.rational.specs.Ratio.{SumFits}
-use Rattle.queue_sched.specs.rational.proofs.Laws.{le_of_not_lt, lt_of_not_le, lt_irrefl}
-use Rattle.queue_sched.specs.rational.proofs.Linear.{with2, with3, with4, with5}
-use Rattle.queue_sched.specs.rational.proofs.Quotients.{lt_div}
-use Rattle.net_cells.specs.run_laws.specs.Cards.{Card, size, Works}
-use Rattle.net_cells.specs.run_laws.specs.Servers.{Discipline, Under, ServerState, done, done_so_far}
-use Rattle.net_cells.specs.run_laws.specs.Next.{next}
-use Rattle.net_cells.specs.run_laws.specs.Allows.{next_card}
-use Rattle.net_cells.specs.run_laws.proofs.Heads.{same_some}
-use Rattle.broken_laws.specs.stated_runs.specs.TimeGrids.{HasRoom, IsTime}
-use Rattle.broken_laws.specs.stated_runs.proofs.GridTimes.{difference_fits, rest_is_time}
-use Rattle.broken_laws.specs.sim_servers.specs.Queues.{served_by, StandFor, work_goes_on}
+use Rattle.upp_limits.specs.rational.specs.Rational.{ℚ, int, neg_ℚ, ◌+ℚ◌, ◌-ℚ◌, ◌/ℚ◌, ◌≤ℚ◌, ◌<ℚ◌}
+use Rattle.upp_limits.specs.rational.specs.Ratio.{SumFits}
+use Rattle.upp_limits.specs.rational.proofs.Laws.{le_of_not_lt, lt_of_not_le, lt_irrefl}
+use Rattle.upp_limits.specs.rational.proofs.Linear.{with2, with3, with4, with5}
+use Rattle.upp_limits.specs.rational.proofs.Quotients.{lt_div}
+use Rattle.net_model.specs.run_laws.specs.Cards.{Card, size, Works}
+use Rattle.net_model.specs.run_laws.specs.Servers.{Discipline, Under, ServerState, done, done_so_far}
+use Rattle.net_model.specs.run_laws.specs.Next.{next}
+use Rattle.net_model.specs.run_laws.specs.Allows.{next_card}
+use Rattle.net_model.specs.run_laws.proofs.Heads.{same_some}
+use Rattle.net_model.specs.stated_runs.TimeGrids.{HasRoom, IsTime}
+use Rattle.net_model.proofs.stated_runs.GridTimes.{difference_fits, rest_is_time}
+use Rattle.sim_servers.specs.Queues.{served_by, StandFor, work_goes_on}
 use Rattle.run_check.specs.declared.site.Underway.{Underway}
 use Rattle.run_check.specs.declared.site.Piece.{Piece}
 use Rattle.run_check.specs.declared.site.Site.{Site}
@@ -133,7 +133,7 @@ worked d room σ before taken after w fresh rest left h f e k n l latest busy qu
       under = subst (AreUnder (Some new)) (sym under) now;
       queues = subst (λ z. StandFor z (next d σ (Works k.card w.start w.end w.bits))) (sym queues) (k.queues w.start w.end w.bits);
       serves = ap served_by queues ∙ k.serves;
-      has_room = ap Rattle.broken_laws.specs.sim_servers.specs.Queues.room_of queues ∙ k.has_room;
+      has_room = ap Rattle.sim_servers.specs.Queues.room_of queues ∙ k.has_room;
     }
 
 -- ---- numbers

@@ -2,22 +2,22 @@
 use Rattle.std.proofs.Common.{◌≡◌, ℕ, ◌+◌, List, [], ◌∷◌, refl, sym, ap, ◌∙◌, subst, arith, inl, inr, Some, None, true, false}
 use Rattle.std.specs.Prelude.{Option, ◌≢◌, ◌↔◌, Bool, ◌==◌, IsTrue, pos}
 use Rattle.std.proofs.lemmas.Bool.{cases_eq, eq-eqb, ne_eqb}
-use Rattle.queue_sched.specs.rational.specs.Rational.{ℚ, int, ◌≤ℚ◌, ◌<ℚ◌}
-use Rattle.queue_sched.specs.rational.proofs.Laws.{lt_irrefl, lt_le_trans}
-use Rattle.queue_sched.specs.rational.proofs.Compared.{not_less_out}
-use Rattle.net_cells.specs.run_laws.specs.Cards.{Card, Works, Visits}
-use Rattle.net_cells.specs.run_laws.specs.Servers.{Discipline, Fifo, Priority, Drr, Under, ServerState, head_of}
-use Rattle.net_cells.specs.run_laws.specs.Next.{next}
-use Rattle.net_cells.specs.run_laws.specs.Allows.{pick, MayVisit, IsFirst}
-use Rattle.net_cells.specs.run_laws.specs.Rounds.{count_of, presence}
-use Rattle.net_cells.specs.run_laws.proofs.Heads.{pick_is_head}
-use Rattle.queue_sched.specs.Turns.{Starts as Begins, Sends}
-use Rattle.queue_sched.specs.declared.turn.Turn.TheVariants.{Visit}
-use Rattle.broken_laws.specs.stated_runs.proofs.Unique.{no_visit, not_idle, visit_once}
-use Rattle.broken_laws.specs.stated_runs.proofs.Lists.{In, head_in}
-use Rattle.broken_laws.specs.sim_servers.specs.declared.server_queues.ServerQueues.{ServerQueues}
-use Rattle.broken_laws.specs.sim_servers.specs.declared.server_queues.ServerQueues.TheVariants as kinds
-use Rattle.broken_laws.specs.sim_servers.specs.Queues.{served_by, room_of, StandFor}
+use Rattle.upp_limits.specs.rational.specs.Rational.{ℚ, int, ◌≤ℚ◌, ◌<ℚ◌}
+use Rattle.upp_limits.specs.rational.proofs.Laws.{lt_irrefl, lt_le_trans}
+use Rattle.upp_limits.specs.rational.proofs.Compared.{not_less_out}
+use Rattle.net_model.specs.run_laws.specs.Cards.{Card, Works, Visits}
+use Rattle.net_model.specs.run_laws.specs.Servers.{Discipline, Fifo, Priority, Drr, Under, ServerState, head_of}
+use Rattle.net_model.specs.run_laws.specs.Next.{next}
+use Rattle.net_model.specs.run_laws.specs.Allows.{pick, MayVisit, IsFirst}
+use Rattle.net_model.specs.run_laws.specs.Rounds.{count_of, presence}
+use Rattle.net_model.specs.run_laws.proofs.Heads.{pick_is_head}
+use Rattle.net_model.specs.queue_sched.Turns.{Starts as Begins, Sends}
+use Rattle.net_model.specs.declared.queue_sched.turn.Turn.TheVariants.{Visit}
+use Rattle.net_model.proofs.stated_runs.Unique.{no_visit, not_idle, visit_once}
+use Rattle.net_model.proofs.stated_runs.Lists.{In, head_in}
+use Rattle.sim_servers.specs.declared.server_queues.ServerQueues.{ServerQueues}
+use Rattle.sim_servers.specs.declared.server_queues.ServerQueues.TheVariants as kinds
+use Rattle.sim_servers.specs.Queues.{served_by, room_of, StandFor}
 use Rattle.run_check.specs.declared.site.Underway.{Underway}
 use Rattle.run_check.specs.declared.site.Site.{Site}
 use Rattle.run_check.specs.declared.site.Piece.{Piece}

@@ -4,21 +4,21 @@ use Rattle.std.specs.Prelude.{Option, ◌≢◌, pos, slice_get, AllPairs, if◌
 use Rattle.std.proofs.lemmas.Bool.{eq-eqb, ne_eqb}
 use Rattle.std.proofs.lemmas.List.{length-map, length_push}
 use Rattle.std.proofs.lemmas.Option.{slice_get_within, get_or_from_slice_get}
-use Rattle.queue_sched.specs.rational.specs.Rational.{ℚ, int, ◌≤ℚ◌}
-use Rattle.queue_sched.specs.rational.proofs.Laws.{le_refl}
-use Rattle.net_cells.specs.run_laws.specs.Runs.{SpecRun}
-use Rattle.net_cells.specs.run_laws.specs.Servers.{Fifo, Server, start}
-use Rattle.net_cells.specs.run_laws.specs.Routes.{Route, server_at, PassesServer}
-use Rattle.net_cells.specs.run_laws.specs.Lawful.{run_start}
-use Rattle.net_cells.specs.run_laws.proofs.Views.{start_state}
-use Rattle.broken_laws.specs.net_model.specs.Networks.{Net, NetServer, NetFlow}
-use Rattle.broken_laws.specs.net_model.specs.NetRoutes.{routes_of, route_for, pace_for, server_for, hops_along}
-use Rattle.broken_laws.specs.net_model.specs.Accepted.{IsAccepted}
-use Rattle.broken_laws.specs.net_model.specs.Traces.{SpecTrace, IsTrace}
-use Rattle.broken_laws.specs.net_model.specs.declared.trace.TracePacket.{TracePacket}
-use Rattle.broken_laws.specs.stated_runs.proofs.MadeSetups.{traces_make_setups}
-use Rattle.broken_laws.specs.Recorded.{PassOnce, HasPaths, AreRecorded}
-use Rattle.broken_laws.proofs.Tracking.{tracked_start}
+use Rattle.upp_limits.specs.rational.specs.Rational.{ℚ, int, ◌≤ℚ◌}
+use Rattle.upp_limits.specs.rational.proofs.Laws.{le_refl}
+use Rattle.net_model.specs.run_laws.specs.Runs.{SpecRun}
+use Rattle.net_model.specs.run_laws.specs.Servers.{Fifo, Server, start}
+use Rattle.net_model.specs.run_laws.specs.Routes.{Route, server_at, PassesServer}
+use Rattle.net_model.specs.run_laws.specs.Lawful.{run_start}
+use Rattle.net_model.specs.run_laws.proofs.Views.{start_state}
+use Rattle.net_model.specs.Networks.{Net, NetServer, NetFlow}
+use Rattle.net_model.specs.NetRoutes.{routes_of, route_for, pace_for, server_for, hops_along}
+use Rattle.net_model.specs.Accepted.{IsAccepted}
+use Rattle.net_model.specs.Traces.{SpecTrace, IsTrace}
+use Rattle.net_model.specs.declared.trace.TracePacket.{TracePacket}
+use Rattle.net_model.proofs.stated_runs.MadeSetups.{traces_make_setups}
+use Rattle.run_check.specs.broken_laws.Recorded.{PassOnce, HasPaths, AreRecorded}
+use Rattle.run_check.proofs.broken_laws.Tracking.{tracked_start}
 use Rattle.run_check.specs.declared.site.Site.{Site}
 use Rattle.run_check.specs.declared.walk.Walk.{Walk}
 use Rattle.run_check.specs.Sites.{IsSite, IsFineUnder}
@@ -59,7 +59,7 @@ one_packet f = record { packets = record { time = int (pos 0); flow = f; bits = 
 is_trace : (f : ℕ) → IsTrace (one_packet f)
 is_trace f = record { few = omega arith; packets = one; in_order = pairs; stalls = λ k d l. absurd (omega (arith, l)) }
   where
-    one : (k : ℕ) (d : TracePacket) → k < length (one_packet f).packets → Rattle.broken_laws.specs.net_model.specs.Traces.IsTracePacket (get_or (one_packet f).packets k d)
+    one : (k : ℕ) (d : TracePacket) → k < length (one_packet f).packets → Rattle.net_model.specs.Traces.IsTracePacket (get_or (one_packet f).packets k d)
     one zero d l = record { from_zero = le_refl (int (pos 0)); bits = (omega arith, omega arith) }
     one (suc k) d l = absurd (omega (arith, l))
 
@@ -80,7 +80,7 @@ has_paths net ok f live =
     }
   where
     named : (f : ℕ) (g : NetFlow) → slice_get net.flows f ≡ Some (Some g) → (k : ℕ) (d : TracePacket) → k < length (one_packet f).packets
-        → Rattle.broken_laws.specs.stated_runs.specs.FromTraces.IsLive net (get_or (one_packet f).packets k d).flow
+        → Rattle.net_model.specs.stated_runs.FromTraces.IsLive net (get_or (one_packet f).packets k d).flow
     named f g e zero d l = (g, e)
     named f g e (suc k) d l = absurd (omega (arith, l))
 
@@ -146,7 +146,7 @@ follows_start net run w room ok recorded few numbers fresh flows bits places = r
   most = numbers.most;
   walkable = record { paths = has_paths net ok; recorded = recorded; fit = numbers.fit; few = few };
   keeps = record {
-    tracked = subst (Rattle.broken_laws.specs.Tracked.IsTracked (routes_of net) [] (run_start (routes_of net))) (sym places) (tracked_start (routes_of net));
+    tracked = subst (Rattle.run_check.specs.broken_laws.Tracked.IsTracked (routes_of net) [] (run_start (routes_of net))) (sym places) (tracked_start (routes_of net));
     flows = flows;
     bits = bits;
     many = fresh.many ∙ sym (length-map net.servers (server_for net.version));

@@ -4,26 +4,26 @@ use Rattle.std.specs.Prelude.{Option, ◌≢◌, slice_get}
 use Rattle.std.proofs.lemmas.Bool.{cases_eq}
 use Rattle.std.proofs.lemmas.List.{length_push, length-set}
 use Rattle.std.proofs.lemmas.Option.{slice_get_within}
-use Rattle.queue_sched.specs.rational.specs.Rational.{ℚ, ◌<ℚ◌}
-use Rattle.net_cells.specs.run_laws.specs.declared.steps.Step.{Step}
-use Rattle.net_cells.specs.run_laws.specs.declared.steps.Step.TheVariants.{Enter, Reach, Work, Leave, Visit}
-use Rattle.net_cells.specs.run_laws.specs.Cards.{whole}
-use Rattle.net_cells.specs.run_laws.specs.Servers.{ServerState}
-use Rattle.net_cells.specs.run_laws.specs.Next.{next}
-use Rattle.net_cells.specs.run_laws.specs.Routes.{Routes, server_at}
-use Rattle.net_cells.specs.run_laws.specs.Views.{Entry, entry_of, entered_after, server_of, seen}
-use Rattle.net_cells.specs.run_laws.specs.Lawful.{RunState, state_at, next_run}
-use Rattle.net_cells.specs.run_laws.proofs.Entries.{entry_before, entry_last}
-use Rattle.net_cells.specs.run_laws.proofs.Views.{own_state, other_state}
-use Rattle.broken_laws.specs.stated_runs.specs.TimeGrids.{IsTime}
-use Rattle.broken_laws.specs.sim_states.proofs.Kept.{set_same, set_other}
-use Rattle.broken_laws.specs.declared.law.Law.{Law}
-use Rattle.broken_laws.specs.declared.law.Law.TheVariants.{L1, L2, L3, L4, L5, L6, L7, L8, L9}
-use Rattle.broken_laws.specs.FirstBroken.{number_of, BreaksNone}
-use Rattle.broken_laws.specs.Broken.{Breaks}
-use Rattle.broken_laws.specs.Tracked.{next_places}
-use Rattle.broken_laws.proofs.TrackedSteps.{tracked_next}
-use Rattle.broken_laws.proofs.Breaking.{allows}
+use Rattle.upp_limits.specs.rational.specs.Rational.{ℚ, ◌<ℚ◌}
+use Rattle.net_model.specs.run_laws.specs.declared.steps.Step.{Step}
+use Rattle.net_model.specs.run_laws.specs.declared.steps.Step.TheVariants.{Enter, Reach, Work, Leave, Visit}
+use Rattle.net_model.specs.run_laws.specs.Cards.{whole}
+use Rattle.net_model.specs.run_laws.specs.Servers.{ServerState}
+use Rattle.net_model.specs.run_laws.specs.Next.{next}
+use Rattle.net_model.specs.run_laws.specs.Routes.{Routes, server_at}
+use Rattle.net_model.specs.run_laws.specs.Views.{Entry, entry_of, entered_after, server_of, seen}
+use Rattle.net_model.specs.run_laws.specs.Lawful.{RunState, state_at, next_run}
+use Rattle.net_model.specs.run_laws.proofs.Entries.{entry_before, entry_last}
+use Rattle.net_model.specs.run_laws.proofs.Views.{own_state, other_state}
+use Rattle.net_model.specs.stated_runs.TimeGrids.{IsTime}
+use Rattle.sim_servers.proofs.sim_states.Kept.{set_same, set_other}
+use Rattle.run_check.specs.declared.broken_laws.law.Law.{Law}
+use Rattle.run_check.specs.declared.broken_laws.law.Law.TheVariants.{L1, L2, L3, L4, L5, L6, L7, L8, L9}
+use Rattle.run_check.specs.broken_laws.FirstBroken.{number_of, BreaksNone}
+use Rattle.run_check.specs.broken_laws.Broken.{Breaks}
+use Rattle.run_check.specs.broken_laws.Tracked.{next_places}
+use Rattle.run_check.proofs.broken_laws.TrackedSteps.{tracked_next}
+use Rattle.run_check.proofs.broken_laws.Breaking.{allows}
 use Rattle.run_check.specs.declared.site.Site.{Site}
 use Rattle.run_check.specs.declared.walk.Walk.{Walk}
 use Rattle.run_check.specs.Sites.{IsSite, IsFine, IsOut, KeepsSome, VisitAnswer}
@@ -85,7 +85,7 @@ walk_next net x w after k end none old new was is site fine places flows bits =
     let many = h.tracked.many in
     let known = a.known_server in
     record {
-      tracked = subst (Rattle.broken_laws.specs.Tracked.IsTracked net (k.before ++ x ∷ []) (next_run net k.state x)) (sym places)
+      tracked = subst (Rattle.run_check.specs.broken_laws.Tracked.IsTracked net (k.before ++ x ∷ []) (next_run net k.state x)) (sym places)
           (tracked_next net end k.before k.state w.places.items h.tracked k.paths x a);
       flows = flows;
       bits = bits;
@@ -126,7 +126,7 @@ timely σ end t n (inr (inl l)) = n (inr l)
 timely σ end t n (inr (inr l)) = l
 
 visit_none : (net : Routes) (end : ℚ) (before : List Step) (r : RunState) (s q : ℕ) (t : ℚ) → ¬ IsOut (state_at r s) end t
-    → Rattle.net_cells.specs.run_laws.specs.Allows.MayVisit (server_at net s).discipline (state_at r s) q → BreaksNone net end before r (Visit s q t)
+    → Rattle.net_model.specs.run_laws.specs.Allows.MayVisit (server_at net s).discipline (state_at r s) q → BreaksNone net end before r (Visit s q t)
 visit_none net end before r s q t n m L1 k = timely (state_at r s) end t n k
 visit_none net end before r s q t n m L2 k = k
 visit_none net end before r s q t n m L3 k = k

@@ -2,33 +2,33 @@
 use Rattle.std.proofs.Common.{◌≡◌, ℕ, ◌<◌, ◌≤◌, List, length, get_or, refl, sym, ap, ◌∙◌, subst, arith, inl, inr, ◌⊎◌, Some, None, true, false}
 use Rattle.std.specs.Prelude.{Option, pos, slice_get, Bool, ◌||◌, nat_le}
 use Rattle.std.proofs.lemmas.Bool.{cases_eq}
-use Rattle.queue_sched.specs.rational.specs.Rational.{ℚ, int, ◌-ℚ◌, ◌<ℚ◌}
-use Rattle.queue_sched.specs.rational.proofs.Grid.{whole_int}
-use Rattle.queue_sched.specs.rational.proofs.Laws.{le_refl}
-use Rattle.queue_sched.specs.rational.proofs.Linear.{with1, with4}
-use Rattle.net_cells.specs.run_laws.specs.declared.steps.Step.{Step}
-use Rattle.net_cells.specs.run_laws.specs.Cards.{whole, size, Works}
-use Rattle.net_cells.specs.run_laws.specs.Counts.{when}
-use Rattle.net_cells.specs.run_laws.specs.Servers.{ServerState, Under, done}
-use Rattle.net_cells.specs.run_laws.specs.Next.{next}
-use Rattle.net_cells.specs.run_laws.specs.Allows.{next_card}
-use Rattle.net_cells.specs.run_laws.specs.Routes.{Routes, server_at, route_of}
-use Rattle.net_cells.specs.run_laws.specs.Views.{entry_of, card_of, hops_of}
-use Rattle.net_cells.specs.run_laws.specs.Lawful.{RunState, state_at}
-use Rattle.net_cells.specs.run_laws.proofs.Heads.{pick_is_head}
-use Rattle.broken_laws.specs.stated_runs.specs.TimeGrids.{HasRoom, IsTime}
-use Rattle.broken_laws.specs.stated_runs.proofs.Lists.{head_in}
-use Rattle.broken_laws.specs.declared.law.Law.{Law}
-use Rattle.broken_laws.specs.declared.law.Law.TheVariants.{L1, L2, L3, L4, L5, L6, L7, L8, L9}
-use Rattle.broken_laws.specs.declared.place.Place.TheVariants.{At}
-use Rattle.broken_laws.specs.FirstBroken.{number_of, BreaksNone}
-use Rattle.broken_laws.specs.Broken.{Breaks, IsWrongWork, IsNotPicked, IsTooFast}
-use Rattle.broken_laws.specs.Broken as broken
-use Rattle.broken_laws.specs.Tracked.{place_of, has_left, worked_of}
-use Rattle.broken_laws.specs.Worked.{worked_in}
-use Rattle.broken_laws.proofs.Paths.{before_self}
-use Rattle.broken_laws.proofs.Tracking.{under_here, is_under}
-use Rattle.broken_laws.proofs.TrackedSteps.{next_in}
+use Rattle.upp_limits.specs.rational.specs.Rational.{ℚ, int, ◌-ℚ◌, ◌<ℚ◌}
+use Rattle.upp_limits.specs.rational.proofs.Grid.{whole_int}
+use Rattle.upp_limits.specs.rational.proofs.Laws.{le_refl}
+use Rattle.upp_limits.specs.rational.proofs.Linear.{with1, with4}
+use Rattle.net_model.specs.run_laws.specs.declared.steps.Step.{Step}
+use Rattle.net_model.specs.run_laws.specs.Cards.{whole, size, Works}
+use Rattle.net_model.specs.run_laws.specs.Counts.{when}
+use Rattle.net_model.specs.run_laws.specs.Servers.{ServerState, Under, done}
+use Rattle.net_model.specs.run_laws.specs.Next.{next}
+use Rattle.net_model.specs.run_laws.specs.Allows.{next_card}
+use Rattle.net_model.specs.run_laws.specs.Routes.{Routes, server_at, route_of}
+use Rattle.net_model.specs.run_laws.specs.Views.{entry_of, card_of, hops_of}
+use Rattle.net_model.specs.run_laws.specs.Lawful.{RunState, state_at}
+use Rattle.net_model.specs.run_laws.proofs.Heads.{pick_is_head}
+use Rattle.net_model.specs.stated_runs.TimeGrids.{HasRoom, IsTime}
+use Rattle.net_model.proofs.stated_runs.Lists.{head_in}
+use Rattle.run_check.specs.declared.broken_laws.law.Law.{Law}
+use Rattle.run_check.specs.declared.broken_laws.law.Law.TheVariants.{L1, L2, L3, L4, L5, L6, L7, L8, L9}
+use Rattle.run_check.specs.declared.broken_laws.place.Place.TheVariants.{At}
+use Rattle.run_check.specs.broken_laws.FirstBroken.{number_of, BreaksNone}
+use Rattle.run_check.specs.broken_laws.Broken.{Breaks, IsWrongWork, IsNotPicked, IsTooFast}
+use Rattle.run_check.specs.broken_laws.Broken as broken
+use Rattle.run_check.specs.broken_laws.Tracked.{place_of, has_left, worked_of}
+use Rattle.run_check.specs.broken_laws.Worked.{worked_in}
+use Rattle.run_check.proofs.broken_laws.Paths.{before_self}
+use Rattle.run_check.proofs.broken_laws.Tracking.{under_here, is_under}
+use Rattle.run_check.proofs.broken_laws.TrackedSteps.{next_in}
 use Rattle.run_check.specs.declared.site.Site.{Site}
 use Rattle.run_check.specs.declared.site.Piece.{Piece}
 use Rattle.run_check.specs.declared.walk.Walk.{Walk}

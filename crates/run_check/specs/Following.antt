@@ -1,14 +1,14 @@
 -- A recorded run that can be walked, and the walk along it. Own choice.
 use Rattle.std.specs.Prelude.{Option, Some, None, ◌≡◌, ℕ, ◌+◌, ◌≤◌, [], length, take, slice_get}
-use Rattle.queue_sched.specs.rational.specs.Rational.{ℚ}
-use Rattle.net_cells.specs.run_laws.specs.declared.steps.Step.{Step}
-use Rattle.net_cells.specs.run_laws.specs.Runs.{SpecRun}
-use Rattle.net_cells.specs.run_laws.specs.Routes.{Routes}
-use Rattle.net_cells.specs.run_laws.specs.Lawful.{run_start}
-use Rattle.broken_laws.specs.stated_runs.specs.TimeGrids.{HasRoom}
-use Rattle.broken_laws.specs.declared.law.Law.{Law}
-use Rattle.broken_laws.specs.Recorded.{HasPaths, AreRecorded}
-use Rattle.broken_laws.specs.FirstBroken.{NoneBreaks, IsBrokenAtStep, state_before}
+use Rattle.upp_limits.specs.rational.specs.Rational.{ℚ}
+use Rattle.net_model.specs.run_laws.specs.declared.steps.Step.{Step}
+use Rattle.net_model.specs.run_laws.specs.Runs.{SpecRun}
+use Rattle.net_model.specs.run_laws.specs.Routes.{Routes}
+use Rattle.net_model.specs.run_laws.specs.Lawful.{run_start}
+use Rattle.net_model.specs.stated_runs.TimeGrids.{HasRoom}
+use Rattle.run_check.specs.declared.broken_laws.law.Law.{Law}
+use Rattle.run_check.specs.broken_laws.Recorded.{HasPaths, AreRecorded}
+use Rattle.run_check.specs.broken_laws.FirstBroken.{NoneBreaks, IsBrokenAtStep, state_before}
 use Rattle.run_check.specs.declared.walk.Walk.{Walk}
 use Rattle.run_check.specs.Walks.{Keeps, StepFits}
 

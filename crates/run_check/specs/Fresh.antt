@@ -1,7 +1,7 @@
 -- The sites of servers at which nothing has been.
 use Rattle.std.specs.Prelude.{Some, None, ◌≡◌, ℕ, List, length, slice_get}
-use Rattle.net_cells.specs.run_laws.specs.Servers.{start}
-use Rattle.broken_laws.specs.net_model.specs.Networks.{NetServer}
+use Rattle.net_model.specs.run_laws.specs.Servers.{start}
+use Rattle.net_model.specs.Networks.{NetServer}
 use Rattle.run_check.specs.declared.site.Site.{Site}
 use Rattle.run_check.specs.Sites.{IsSite}
 

@@ -4,3 +4,8 @@ pub mod Walks
 pub mod Following
 pub mod Ends
 pub mod Fresh
+pub mod broken_laws
+pub mod run_table
+pub mod check_gauge
+pub mod recorded_sizes
+pub mod check_report

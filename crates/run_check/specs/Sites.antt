@@ -1,17 +1,17 @@
 -- One server of a recorded run, as the walk over its rows keeps it.
 use Rattle.std.specs.Prelude.{Option, Some, None, ◌≡◌, ◌≢◌, ◌⊎◌, ℕ, pos, ◌<◌, Bool, true, false}
-use Rattle.queue_sched.specs.rational.specs.Rational.{ℚ, int, neg_ℚ, ◌-ℚ◌, ◌/ℚ◌, ◌≤ℚ◌, ◌<ℚ◌}
-use Rattle.queue_sched.specs.rational.specs.Ratio.{IsSmall, SumFits}
-use Rattle.net_cells.specs.run_laws.specs.Cards.{Card, size, Works, Leaves, Visits}
-use Rattle.net_cells.specs.run_laws.specs.Servers.{Discipline, queue_count, Under, ServerState, done}
-use Rattle.net_cells.specs.run_laws.specs.Next.{next}
-use Rattle.net_cells.specs.run_laws.specs.Allows.{pick, next_card, MayLeave, MayVisit}
-use Rattle.queue_sched.specs.Waiting.{HasPacket}
-use Rattle.broken_laws.specs.stated_runs.specs.TimeGrids.{HasRoom, IsTime}
-use Rattle.broken_laws.specs.sim_servers.specs.Queues.{served_by, room_of, StandFor}
-use Rattle.broken_laws.specs.declared.law.Law.{Law}
-use Rattle.broken_laws.specs.declared.law.Law.TheVariants.{L1, L2, L3, L4, L5, L6, L7, L8, L9}
-use Rattle.broken_laws.specs.Broken.{IsTooFast}
+use Rattle.upp_limits.specs.rational.specs.Rational.{ℚ, int, neg_ℚ, ◌-ℚ◌, ◌/ℚ◌, ◌≤ℚ◌, ◌<ℚ◌}
+use Rattle.upp_limits.specs.rational.specs.Ratio.{IsSmall, SumFits}
+use Rattle.net_model.specs.run_laws.specs.Cards.{Card, size, Works, Leaves, Visits}
+use Rattle.net_model.specs.run_laws.specs.Servers.{Discipline, queue_count, Under, ServerState, done}
+use Rattle.net_model.specs.run_laws.specs.Next.{next}
+use Rattle.net_model.specs.run_laws.specs.Allows.{pick, next_card, MayLeave, MayVisit}
+use Rattle.net_model.specs.queue_sched.Waiting.{HasPacket}
+use Rattle.net_model.specs.stated_runs.TimeGrids.{HasRoom, IsTime}
+use Rattle.sim_servers.specs.Queues.{served_by, room_of, StandFor}
+use Rattle.run_check.specs.declared.broken_laws.law.Law.{Law}
+use Rattle.run_check.specs.declared.broken_laws.law.Law.TheVariants.{L1, L2, L3, L4, L5, L6, L7, L8, L9}
+use Rattle.run_check.specs.broken_laws.Broken.{IsTooFast}
 use Rattle.run_check.specs.declared.site.Underway.{Underway}
 use Rattle.run_check.specs.declared.site.Piece.{Piece}
 use Rattle.run_check.specs.declared.site.Site.{Site}

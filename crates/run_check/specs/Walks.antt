@@ -2,20 +2,20 @@
 -- next.
 use Rattle.std.specs.Prelude.{Option, Some, None, ◌≡◌, ℕ, pos, ◌<◌, ◌≤◌, List, [], ◌∷◌, ◌++◌, length, map, slice_get}
 use Rattle.std.specs.Prelude.{Bool, ◌||◌, nat_le, get_or, set, if◌then◌else◌}
-use Rattle.queue_sched.specs.rational.specs.Rational.{ℚ, int, ◌+ℚ◌, ◌<ℚ◌}
-use Rattle.queue_sched.specs.rational.specs.Ratio.{SumFits}
-use Rattle.net_cells.specs.run_laws.specs.declared.steps.Step.{Step}
-use Rattle.net_cells.specs.run_laws.specs.declared.steps.Step.TheVariants.{Enter, Reach, Work, Leave, Visit}
-use Rattle.net_cells.specs.run_laws.specs.Cards.{whole}
-use Rattle.net_cells.specs.run_laws.specs.Routes.{Routes, server_at, link_at, route_of, server_after}
-use Rattle.net_cells.specs.run_laws.specs.Views.{entry_of}
-use Rattle.net_cells.specs.run_laws.specs.Lawful.{RunState, state_at, next_run}
-use Rattle.broken_laws.specs.stated_runs.specs.TimeGrids.{HasRoom, IsTime}
-use Rattle.broken_laws.specs.declared.law.Law.{Law}
-use Rattle.broken_laws.specs.declared.place.Place.{Place}
-use Rattle.broken_laws.specs.Recorded.{HasPaths, IsRecordedStep}
-use Rattle.broken_laws.specs.FirstBroken.{BreaksNone, BreaksFirst}
-use Rattle.broken_laws.specs.Tracked.{IsTracked, place_of, place_after, has_left}
+use Rattle.upp_limits.specs.rational.specs.Rational.{ℚ, int, ◌+ℚ◌, ◌<ℚ◌}
+use Rattle.upp_limits.specs.rational.specs.Ratio.{SumFits}
+use Rattle.net_model.specs.run_laws.specs.declared.steps.Step.{Step}
+use Rattle.net_model.specs.run_laws.specs.declared.steps.Step.TheVariants.{Enter, Reach, Work, Leave, Visit}
+use Rattle.net_model.specs.run_laws.specs.Cards.{whole}
+use Rattle.net_model.specs.run_laws.specs.Routes.{Routes, server_at, link_at, route_of, server_after}
+use Rattle.net_model.specs.run_laws.specs.Views.{entry_of}
+use Rattle.net_model.specs.run_laws.specs.Lawful.{RunState, state_at, next_run}
+use Rattle.net_model.specs.stated_runs.TimeGrids.{HasRoom, IsTime}
+use Rattle.run_check.specs.declared.broken_laws.law.Law.{Law}
+use Rattle.run_check.specs.declared.broken_laws.place.Place.{Place}
+use Rattle.run_check.specs.broken_laws.Recorded.{HasPaths, IsRecordedStep}
+use Rattle.run_check.specs.broken_laws.FirstBroken.{BreaksNone, BreaksFirst}
+use Rattle.run_check.specs.broken_laws.Tracked.{IsTracked, place_of, place_after, has_left}
 use Rattle.run_check.specs.declared.site.Piece.{Piece}
 use Rattle.run_check.specs.declared.site.Site.{Site}
 use Rattle.run_check.specs.declared.walk.Walk.{Walk}

@@ -1,25 +1,25 @@
 //! One server of a recorded run, after some of its rows.
 
 ghost use Rattle.std.specs.Prelude.{◌≡◌, ◌↔◌, ◌⊎◌, ℕ, None, IfOk, IsTrue};
-ghost use Rattle.queue_sched.specs.rational.specs.Rational.{ℚ, ◌<ℚ◌};
-ghost use Rattle.net_cells.specs.run_laws.specs.Cards.{Card, Arrives, Leaves};
-ghost use Rattle.net_cells.specs.run_laws.specs.Servers.{Discipline as SpecDiscipline, ServerState, start};
-ghost use Rattle.net_cells.specs.run_laws.specs.Next.{next};
-ghost use Rattle.net_cells.specs.run_laws.specs.Allows.{MayLeave};
-ghost use Rattle.queue_sched.specs.Turns.{IsCard};
-ghost use Rattle.broken_laws.specs.net_model.specs.Accepted.{HasFewQueues};
-ghost use Rattle.broken_laws.specs.net_model.specs.Views.{discipline_of};
+ghost use Rattle.upp_limits.specs.rational.specs.Rational.{ℚ, ◌<ℚ◌};
+ghost use Rattle.net_model.specs.run_laws.specs.Cards.{Card, Arrives, Leaves};
+ghost use Rattle.net_model.specs.run_laws.specs.Servers.{Discipline as SpecDiscipline, ServerState, start};
+ghost use Rattle.net_model.specs.run_laws.specs.Next.{next};
+ghost use Rattle.net_model.specs.run_laws.specs.Allows.{MayLeave};
+ghost use Rattle.net_model.specs.queue_sched.Turns.{IsCard};
+ghost use Rattle.net_model.specs.Accepted.{HasFewQueues};
+ghost use Rattle.net_model.specs.Views.{discipline_of};
 ghost use Rattle.run_check.specs.Sites.{LeaveAnswer, VisitAnswer, WorkAnswer, TakesOn, IsFast, HasPace};
 ghost use Rattle.run_check.specs.Sites.{WorkRoom, IsOnGrid, IsFine, IsFresh, rest_of};
 ghost use Rattle.run_check.specs.Sites.{IsSite, KeepsSome, IsOther, MayLose, MayGo};
 ghost use Rattle.run_check.specs.Sites.{IsWrong, MayTake, Turns, Starts, is_worked_off};
 
-use broken_laws::Law;
-use broken_laws::net_model::Discipline;
-use broken_laws::sim_servers::ServerQueues;
-use queue_sched::fraction128::{Frac, difference, is_less, quotient};
-use queue_sched::{Scheduler, Turn};
+use crate::broken_laws::Law;
+use net_model::Discipline;
+use net_model::queue_sched::{Scheduler, Turn};
+use sim_servers::ServerQueues;
 use std::alloc::{AllocError, Global};
+use upp_limits::fraction128::{Frac, difference, is_less, quotient};
 
 /// The packet under way at a server: the bits of it that are yet to be worked, and when its last work ends.
 #[derive(Debug, Clone, Copy)]

@@ -1,6 +1,6 @@
 -- What one server sees: packets that arrive, work on them, packets that leave, and visits of its queues.
 use Rattle.std.specs.Prelude.{ℕ, Bool, true, ◌==◌, ltb}
-use Rattle.fraction128.specs.rational.specs.Rational.{ℚ}
+use Rattle.min_plus.specs.rational.specs.Rational.{ℚ}
 pub use Rattle.min_plus.specs.Functions.{whole}
 
 -- a packet at a server, with the queue that it joins there

@@ -23,5 +23,3 @@ pub mod Bounds
 pub mod Totals
 pub mod Laws
 pub mod Examples
-pub use Rattle.min_plus as min_plus
-pub use Rattle.fraction128.specs.rational as rational

@@ -16,7 +16,6 @@ pub use examples::{
     one_packet_reaches_its_bound, overtaking_is_refused, the_first_queue_goes_first,
     visits_go_by_the_list, work_past_the_bits_is_refused,
 };
-pub use fraction128;
 pub use laws::{
     backlog_from_gap, backlog_from_service, closure_is_kept, delay_from_service, delay_from_wait,
     fifo_queue_is_served, flow_is_of_one_queue, one_flow_is_bounded, output_from_delay,

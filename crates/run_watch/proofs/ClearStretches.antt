@@ -2,28 +2,28 @@
 use Rattle.std.specs.Prelude.{◌≡◌, ℕ, ◌<◌, List, [], ◌∷◌, length, None}
 use Rattle.std.specs.List.{slice_index_or}
 use Rattle.std.proofs.Common.{arith, refl, sym, subst, inl, inr}
-use Rattle.fraction128.specs.rational.specs.Rational.{ℚ, ◌+ℚ◌, ◌-ℚ◌, ◌≤ℚ◌, ◌<ℚ◌}
-use Rattle.fraction128.specs.rational.specs.Extended.{◌<ₑ◌, ◌+ₑ◌}
-use Rattle.fraction128.specs.rational.specs.declared.Extended.TheVariants.{Fin}
-use Rattle.fraction128.specs.rational.proofs.Laws.{le_trans, le_of_lt, le_or_lt, lt_le_trans, lt_irrefl, antisym}
-use Rattle.fraction128.specs.rational.proofs.Linear.{with3, with4, sub_pos}
-use Rattle.flow_watch.specs.affine_segment.specs.Pieces.{HasStart}
-use Rattle.flow_watch.specs.upp_curve.specs.Curve.{SpecCurve, value_at}
-use Rattle.flow_watch.specs.upp_curve.specs.Unrolled.{unroll}
-use Rattle.flow_watch.specs.run_laws.specs.Cards.{all, ServerStep}
-use Rattle.flow_watch.specs.run_laws.specs.Counts.{worked}
-use Rattle.flow_watch.specs.run_laws.specs.Servers.{Server}
-use Rattle.flow_watch.specs.watch_laws.specs.Affine.{Among}
-use Rattle.flow_watch.specs.watch_laws.specs.Stretches.{IsTurn}
-use Rattle.flow_watch.specs.watch_laws.specs.Breaks.{IsBreak}
-use Rattle.flow_watch.specs.watch_laws.specs.Windows.{IsPair}
-use Rattle.flow_watch.specs.watch_laws.specs.Breaches.{IsIdle}
-use Rattle.flow_watch.specs.watch_laws.specs.declared.point.Segment.{Segment}
-use Rattle.flow_watch.specs.watch_laws.specs.Segments.{segments}
-use Rattle.flow_watch.specs.watch_laws.specs.Shorts.{EachSegment, HasSegment, IsShortBy}
-use Rattle.flow_watch.specs.watch_laws.proofs.CurveSegments.{segments_tell, starts_tell}
-use Rattle.flow_watch.specs.watch_laws.proofs.Premises.{turns_suffice_within, turns_suffice_between}
-use Rattle.flow_watch.specs.watch_laws.proofs.UnrolledStarts.{start_before}
+use Rattle.upp_limits.specs.rational.specs.Rational.{ℚ, ◌+ℚ◌, ◌-ℚ◌, ◌≤ℚ◌, ◌<ℚ◌}
+use Rattle.upp_limits.specs.rational.specs.Extended.{◌<ₑ◌, ◌+ₑ◌}
+use Rattle.upp_limits.specs.rational.specs.declared.Extended.TheVariants.{Fin}
+use Rattle.upp_limits.specs.rational.proofs.Laws.{le_trans, le_of_lt, le_or_lt, lt_le_trans, lt_irrefl, antisym}
+use Rattle.upp_limits.specs.rational.proofs.Linear.{with3, with4, sub_pos}
+use Rattle.upp_limits.specs.upp_curve.specs.affine_segment.Pieces.{HasStart}
+use Rattle.upp_limits.specs.upp_curve.specs.Curve.{SpecCurve, value_at}
+use Rattle.upp_limits.specs.upp_curve.specs.Unrolled.{unroll}
+use Rattle.net_model.specs.run_laws.specs.Cards.{all, ServerStep}
+use Rattle.net_model.specs.run_laws.specs.Counts.{worked}
+use Rattle.net_model.specs.run_laws.specs.Servers.{Server}
+use Rattle.flow_watch.specs.watch_laws.Affine.{Among}
+use Rattle.flow_watch.specs.watch_laws.Stretches.{IsTurn}
+use Rattle.flow_watch.specs.watch_laws.Breaks.{IsBreak}
+use Rattle.flow_watch.specs.watch_laws.Windows.{IsPair}
+use Rattle.flow_watch.specs.watch_laws.Breaches.{IsIdle}
+use Rattle.flow_watch.specs.declared.watch_laws.point.Segment.{Segment}
+use Rattle.flow_watch.specs.watch_laws.Segments.{segments}
+use Rattle.flow_watch.specs.watch_laws.Shorts.{EachSegment, HasSegment, IsShortBy}
+use Rattle.flow_watch.proofs.watch_laws.CurveSegments.{segments_tell, starts_tell}
+use Rattle.flow_watch.proofs.watch_laws.Premises.{turns_suffice_within, turns_suffice_between}
+use Rattle.flow_watch.proofs.watch_laws.UnrolledStarts.{start_before}
 use Rattle.run_watch.specs.declared.watched.Watched.{Watched}
 use Rattle.run_watch.specs.declared.watched.Stretch.{Stretch}
 use Rattle.run_watch.specs.Watching.{stretches, HoldsTimes}

@@ -1,21 +1,21 @@
 -- No window that is short of work ends by the last turn of a stretch before the least end that the look at its turns finds.
 use Rattle.std.specs.Prelude.{◌≡◌, pos, List, [], ◌∷◌, Option, Some}
 use Rattle.std.proofs.Common.{arith, refl, subst, inl, inr}
-use Rattle.fraction128.specs.rational.specs.Rational.{ℚ, int, ◌-ℚ◌, ◌≤ℚ◌, ◌<ℚ◌}
-use Rattle.fraction128.specs.rational.specs.Extended.{◌<ₑ◌, ◌+ₑ◌}
-use Rattle.fraction128.specs.rational.specs.declared.Extended.TheVariants.{Fin}
-use Rattle.fraction128.specs.rational.proofs.Laws.{le_trans, le_or_lt, antisym}
-use Rattle.fraction128.specs.rational.proofs.Linear.{with2}
-use Rattle.flow_watch.specs.affine_segment.specs.declared.line.Piece.{Piece}
-use Rattle.flow_watch.specs.upp_curve.specs.Curve.{SpecCurve, value_at}
-use Rattle.flow_watch.specs.upp_curve.specs.Unrolled.{unroll}
-use Rattle.flow_watch.specs.run_laws.specs.Cards.{all, ServerStep}
-use Rattle.flow_watch.specs.run_laws.specs.Counts.{worked}
-use Rattle.flow_watch.specs.run_laws.specs.Servers.{Server}
-use Rattle.flow_watch.specs.watch_laws.specs.declared.point.Segment.{Segment}
-use Rattle.flow_watch.specs.watch_laws.specs.Laws.{MayServe}
-use Rattle.flow_watch.specs.watch_laws.specs.Segments.{segments}
-use Rattle.flow_watch.specs.watch_laws.proofs.CurveSegments.{segments_tell}
+use Rattle.upp_limits.specs.rational.specs.Rational.{ℚ, int, ◌-ℚ◌, ◌≤ℚ◌, ◌<ℚ◌}
+use Rattle.upp_limits.specs.rational.specs.Extended.{◌<ₑ◌, ◌+ₑ◌}
+use Rattle.upp_limits.specs.rational.specs.declared.Extended.TheVariants.{Fin}
+use Rattle.upp_limits.specs.rational.proofs.Laws.{le_trans, le_or_lt, antisym}
+use Rattle.upp_limits.specs.rational.proofs.Linear.{with2}
+use Rattle.upp_limits.specs.upp_curve.specs.declared.affine_segment.line.Piece.{Piece}
+use Rattle.upp_limits.specs.upp_curve.specs.Curve.{SpecCurve, value_at}
+use Rattle.upp_limits.specs.upp_curve.specs.Unrolled.{unroll}
+use Rattle.net_model.specs.run_laws.specs.Cards.{all, ServerStep}
+use Rattle.net_model.specs.run_laws.specs.Counts.{worked}
+use Rattle.net_model.specs.run_laws.specs.Servers.{Server}
+use Rattle.flow_watch.specs.declared.watch_laws.point.Segment.{Segment}
+use Rattle.flow_watch.specs.watch_laws.Laws.{MayServe}
+use Rattle.flow_watch.specs.watch_laws.Segments.{segments}
+use Rattle.flow_watch.proofs.watch_laws.CurveSegments.{segments_tell}
 use Rattle.run_watch.specs.declared.span.Ramp.{Ramp}
 use Rattle.run_watch.specs.declared.watched.Watched.{Watched}
 use Rattle.run_watch.specs.declared.watched.Stretch.{Stretch}

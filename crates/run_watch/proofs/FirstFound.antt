@@ -3,19 +3,19 @@ use Rattle.std.specs.Prelude.{◌≡◌, ℕ, ◌<◌, ◌≤◌, List, [], ◌�
 use Rattle.std.specs.List.{slice_index_or}
 use Rattle.std.proofs.Common.{arith, refl, sym, subst, ap, ◌∙◌, inl, inr}
 use Rattle.std.proofs.lemmas.Bool.{cases_lt}
-use Rattle.fraction128.specs.rational.specs.Rational.{ℚ, ◌≤ℚ◌}
-use Rattle.fraction128.specs.rational.specs.Extended.{Ext}
-use Rattle.fraction128.specs.rational.proofs.Laws.{lt_cases, lt_irrefl, lt_le_trans}
-use Rattle.flow_watch.specs.upp_curve.specs.Curve.{SpecCurve}
-use Rattle.flow_watch.specs.run_laws.specs.Runs.{SpecRun}
-use Rattle.flow_watch.specs.run_laws.specs.Cards.{whole, ServerStep}
-use Rattle.flow_watch.specs.run_laws.proofs.Sizes.{whole_lt}
-use Rattle.flow_watch.specs.net_model.specs.declared.breach.Breach.{Breach}
-use Rattle.flow_watch.specs.net_model.specs.declared.breach.Breach.TheVariants.{Size, Arrival, Service}
-use Rattle.flow_watch.specs.watch_laws.specs.declared.entering.Entering.{Entering}
-use Rattle.flow_watch.specs.watch_laws.specs.Breaches.{order_key, NoLater, IsIdle}
-use Rattle.flow_watch.specs.watch_laws.specs.Entries.{entries, entering, IsCrowded, EntersFrom}
-use Rattle.flow_watch.specs.watch_laws.proofs.Crowds.{times_rise}
+use Rattle.upp_limits.specs.rational.specs.Rational.{ℚ, ◌≤ℚ◌}
+use Rattle.upp_limits.specs.rational.specs.Extended.{Ext}
+use Rattle.upp_limits.specs.rational.proofs.Laws.{lt_cases, lt_irrefl, lt_le_trans}
+use Rattle.upp_limits.specs.upp_curve.specs.Curve.{SpecCurve}
+use Rattle.net_model.specs.run_laws.specs.Runs.{SpecRun}
+use Rattle.net_model.specs.run_laws.specs.Cards.{whole, ServerStep}
+use Rattle.net_model.specs.run_laws.proofs.Sizes.{whole_lt}
+use Rattle.net_model.specs.declared.breach.Breach.{Breach}
+use Rattle.net_model.specs.declared.breach.Breach.TheVariants.{Size, Arrival, Service}
+use Rattle.flow_watch.specs.declared.watch_laws.entering.Entering.{Entering}
+use Rattle.flow_watch.specs.watch_laws.Breaches.{order_key, NoLater, IsIdle}
+use Rattle.flow_watch.specs.watch_laws.Entries.{entries, entering, IsCrowded, EntersFrom}
+use Rattle.flow_watch.proofs.watch_laws.Crowds.{times_rise}
 use Rattle.flow_watch.specs.Flows.{NoneLonger, IsFirstLonger, NoneCrowded, IsFirstCrowded}
 use Rattle.run_watch.specs.FirstOf.{IsBest, IsLongOn, IsCrowdOn, IsIdleOn, EnterInOrder}
 use Rattle.run_watch.specs.Held.{FindsIdle, IsFirstIdle}

@@ -2,13 +2,13 @@
 use Rattle.std.specs.Prelude.{◌≡◌, ◌||◌, true, Option, Some, None}
 use Rattle.std.proofs.Common.{subst, inl, inr}
 use Rattle.std.proofs.lemmas.Bool.{cases_Bool, or_left, or_right}
-use Rattle.fraction128.specs.rational.specs.Rational.{◌≤ℚ◌, ◌<ℚ◌, lt_q}
-use Rattle.fraction128.specs.rational.proofs.Over.{lt_q_in}
-use Rattle.flow_watch.specs.run_laws.specs.Runs.{SpecRun}
-use Rattle.flow_watch.specs.net_model.specs.declared.breach.Breach.{Breach}
-use Rattle.flow_watch.specs.net_model.specs.declared.breach.Breach.TheVariants.{Size, Arrival, Service}
-use Rattle.flow_watch.specs.watch_laws.specs.Breaches.{order_key, NoLater}
-use Rattle.flow_watch.specs.watch_laws.proofs.Order.{no_later_trans}
+use Rattle.upp_limits.specs.rational.specs.Rational.{◌≤ℚ◌, ◌<ℚ◌, lt_q}
+use Rattle.upp_limits.specs.rational.proofs.Over.{lt_q_in}
+use Rattle.net_model.specs.run_laws.specs.Runs.{SpecRun}
+use Rattle.net_model.specs.declared.breach.Breach.{Breach}
+use Rattle.net_model.specs.declared.breach.Breach.TheVariants.{Size, Arrival, Service}
+use Rattle.flow_watch.specs.watch_laws.Breaches.{order_key, NoLater}
+use Rattle.flow_watch.proofs.watch_laws.Order.{no_later_trans}
 use Rattle.run_watch.specs.declared.found.Found.{Found}
 use Rattle.run_watch.specs.FirstOf.{time_of, IsBest, earlier, GoesBefore, IsBoth, EarlierIsFirst}
 use Rattle.run_watch.proofs.RampLists.{not_less}

@@ -2,21 +2,21 @@
 use Rattle.std.specs.Prelude.{◌≡◌, ◌⊎◌, pos, ◌&&◌, List, [], ◌∷◌, ◌++◌}
 use Rattle.std.proofs.Common.{arith, refl, sym, subst, inl, inr}
 use Rattle.std.proofs.lemmas.Bool.{cases_Bool, and_from, and_parts}
-use Rattle.fraction128.specs.rational.specs.Rational.{ℚ, int, ◌+ℚ◌, ◌-ℚ◌, ◌≤ℚ◌, ◌<ℚ◌, le_q}
-use Rattle.fraction128.specs.rational.proofs.Laws.{le_or_lt, antisym}
-use Rattle.fraction128.specs.rational.proofs.Over.{le_q_out, le_q_in}
-use Rattle.fraction128.specs.rational.proofs.Linear.{with2, with3, with4}
-use Rattle.flow_watch.specs.affine_segment.specs.declared.line.Piece.{Piece}
-use Rattle.flow_watch.specs.upp_curve.specs.Curve.{SpecCurve}
-use Rattle.flow_watch.specs.affine_segment.specs.Pieces.{HasStart, StartsAtZero}
-use Rattle.flow_watch.specs.upp_curve.specs.Normal.{IsNormal}
-use Rattle.flow_watch.specs.upp_curve.specs.Unrolled.{unroll}
-use Rattle.flow_watch.specs.upp_normal.proofs.UnrolledPieces.{unroll_starts}
-use Rattle.flow_watch.specs.run_laws.specs.Cards.{ServerStep}
-use Rattle.flow_watch.specs.watch_laws.specs.Affine.{EachTime, Among}
-use Rattle.flow_watch.specs.watch_laws.specs.Breaks.{IsBreak}
-use Rattle.flow_watch.specs.watch_laws.specs.Stretches.{IsTurn, IsWatchPoint}
-use Rattle.flow_watch.specs.watch_laws.proofs.UnrolledStarts.{start_before}
+use Rattle.upp_limits.specs.rational.specs.Rational.{ℚ, int, ◌+ℚ◌, ◌-ℚ◌, ◌≤ℚ◌, ◌<ℚ◌, le_q}
+use Rattle.upp_limits.specs.rational.proofs.Laws.{le_or_lt, antisym}
+use Rattle.upp_limits.specs.rational.proofs.Over.{le_q_out, le_q_in}
+use Rattle.upp_limits.specs.rational.proofs.Linear.{with2, with3, with4}
+use Rattle.upp_limits.specs.upp_curve.specs.declared.affine_segment.line.Piece.{Piece}
+use Rattle.upp_limits.specs.upp_curve.specs.Curve.{SpecCurve}
+use Rattle.upp_limits.specs.upp_curve.specs.affine_segment.Pieces.{HasStart, StartsAtZero}
+use Rattle.upp_limits.specs.upp_curve.specs.Normal.{IsNormal}
+use Rattle.upp_limits.specs.upp_curve.specs.Unrolled.{unroll}
+use Rattle.curve_call.specs.upp_normal.proofs.UnrolledPieces.{unroll_starts}
+use Rattle.net_model.specs.run_laws.specs.Cards.{ServerStep}
+use Rattle.flow_watch.specs.watch_laws.Affine.{EachTime, Among}
+use Rattle.flow_watch.specs.watch_laws.Breaks.{IsBreak}
+use Rattle.flow_watch.specs.watch_laws.Stretches.{IsTurn, IsWatchPoint}
+use Rattle.flow_watch.proofs.watch_laws.UnrolledStarts.{start_before}
 use Rattle.run_watch.specs.declared.watched.Stretch.{Stretch}
 use Rattle.run_watch.specs.WatchTimes.{inside, around, watched_from}
 use Rattle.run_watch.proofs.FoundTurns.{among_left, among_right, among_parts}

@@ -3,16 +3,16 @@ use Rattle.std.specs.Prelude.{◌≡◌, ◌≢◌, ◌⊎◌, pos, true, List, 
 use Rattle.std.proofs.Common.{refl, sym, subst, ap, ap₂, ◌∙◌, inl, inr, true≢false}
 use Rattle.std.proofs.lemmas.Bool.{cases_Bool}
 use Rattle.std.specs.Ordering.{is_eq}
-use Rattle.fraction128.specs.rational.specs.Rational.{ℚ, int, ◌+ℚ◌}
-use Rattle.fraction128.specs.rational.proofs.Comparison.{cmp_self}
-use Rattle.fraction128.specs.Order.{same_q}
-pub use Rattle.fraction128.specs.Order.{same_out as same_in}
-use Rattle.flow_watch.specs.run_laws.specs.Cards.{ServerStep}
-use Rattle.flow_watch.specs.run_laws.specs.Servers as servers
-use Rattle.flow_watch.specs.watch_laws.specs.Affine.{Among}
-use Rattle.flow_watch.specs.watch_laws.specs.Paces.{pace_before, pace_after}
-use Rattle.flow_watch.specs.watch_laws.specs.Stretches.{IsTurn}
-use Rattle.flow_watch.specs.watch_laws.proofs.Times.{work_same}
+use Rattle.upp_limits.specs.rational.specs.Rational.{ℚ, int, ◌+ℚ◌}
+use Rattle.upp_limits.specs.rational.proofs.Comparison.{cmp_self}
+use Rattle.upp_limits.specs.fraction128.specs.Order.{same_q}
+pub use Rattle.upp_limits.specs.fraction128.specs.Order.{same_out as same_in}
+use Rattle.net_model.specs.run_laws.specs.Cards.{ServerStep}
+use Rattle.net_model.specs.run_laws.specs.Servers as servers
+use Rattle.flow_watch.specs.watch_laws.Affine.{Among}
+use Rattle.flow_watch.specs.watch_laws.Paces.{pace_before, pace_after}
+use Rattle.flow_watch.specs.watch_laws.Stretches.{IsTurn}
+use Rattle.flow_watch.proofs.watch_laws.Times.{work_same}
 use Rattle.run_watch.specs.declared.span.Span.{Span}
 use Rattle.run_watch.specs.declared.span.Ramp.{Ramp}
 use Rattle.run_watch.specs.declared.watched.Watched.{Watched}

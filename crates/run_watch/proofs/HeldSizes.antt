@@ -3,30 +3,30 @@ use Rattle.std.specs.Prelude.{◌≡◌, ℕ, ◌*◌, pos, List, [], ◌∷◌,
 use Rattle.std.proofs.Common.{arith, inl, inr, refl, sym, subst, ap, ◌∙◌}
 use Prim.Native.Nat.{◌∣◌}
 use native.Mathlib.Nat.{dvd-mul_right, dvd_trans}
-use Rattle.fraction128.specs.rational.specs.Rational.{ℚ, int, ◌+ℚ◌, ◌-ℚ◌, ◌*ℚ◌, ◌≤ℚ◌, ◌<ℚ◌, neg_ℚ}
-use Rattle.fraction128.specs.rational.specs.Ratio.{SumFits}
-use Rattle.fraction128.specs.rational.specs.Grid.{Whole, Within}
-use Rattle.fraction128.specs.rational.specs.declared.Extended.TheVariants.{Fin, Inf}
-use Rattle.fraction128.specs.rational.specs.Extended.{Ext}
-use Rattle.fraction128.specs.rational.proofs.Laws.{le_refl, le_or_lt, le_of_lt, lt_le_trans, le_lt_trans, add_assoc, add_zero, mul_le_mul, mul_nonneg, zero_mul, mul_zero, one_mul, le_of_mul, div_mul, not_zero}
-use Rattle.fraction128.specs.rational.proofs.Integers.{nat_nonneg}
-use Rattle.fraction128.specs.rational.proofs.Grid.{whole_int, whole_add, whole_sub, whole_neg, whole_weaken, within_neg, within_nonneg}
-use Rattle.fraction128.specs.rational.proofs.Linear.{with2, with3, with_atoms}
-use Rattle.fraction128.specs.rational.proofs.MinMax.{lt_q_not}
-use Rattle.fraction128.specs.rational.proofs.Over.{lt_q_out}
-use Rattle.flow_watch.specs.affine_segment.specs.declared.line.Line.{Line}
-use Rattle.flow_watch.specs.affine_segment.specs.declared.line.Piece.{Piece}
-use Rattle.flow_watch.specs.upp_limits.specs.Limits.{Sizes}
-use Rattle.flow_watch.specs.affine_segment.specs.Pieces.{Each, HasStart}
-use Rattle.flow_watch.specs.upp_limits.specs.Sized.{IsSlope, ValueStands, grid_of, times_largest}
-use Rattle.flow_watch.specs.upp_normal.specs.Operand.{AreLimited, OperandLineAt, OperandPiece, OperandPieces}
-use Rattle.flow_watch.specs.run_laws.proofs.Sums.{add_nothing}
-use Rattle.flow_watch.specs.watch_laws.specs.Affine.{EachTime}
-use Rattle.flow_watch.specs.watch_laws.specs.declared.point.Segment.{Segment}
-use Rattle.flow_watch.specs.watch_laws.specs.Shorts.{EachSegment}
-use Rattle.flow_watch.specs.watch_laws.specs.Segments.{number_at, slope_of, next_start, segments}
-use Rattle.flow_watch.specs.watch_laws.specs.MarkSizes.{IsTime, IsAmount, IsTimeIfAny}
-use Rattle.flow_watch.specs.watch_laws.proofs.MarkSizes.{time_whole, time_within, sum_fits, marks_fit, keys_fit}
+use Rattle.upp_limits.specs.rational.specs.Rational.{ℚ, int, ◌+ℚ◌, ◌-ℚ◌, ◌*ℚ◌, ◌≤ℚ◌, ◌<ℚ◌, neg_ℚ}
+use Rattle.upp_limits.specs.rational.specs.Ratio.{SumFits}
+use Rattle.upp_limits.specs.rational.specs.Grid.{Whole, Within}
+use Rattle.upp_limits.specs.rational.specs.declared.Extended.TheVariants.{Fin, Inf}
+use Rattle.upp_limits.specs.rational.specs.Extended.{Ext}
+use Rattle.upp_limits.specs.rational.proofs.Laws.{le_refl, le_or_lt, le_of_lt, lt_le_trans, le_lt_trans, add_assoc, add_zero, mul_le_mul, mul_nonneg, zero_mul, mul_zero, one_mul, le_of_mul, div_mul, not_zero}
+use Rattle.upp_limits.specs.rational.proofs.Integers.{nat_nonneg}
+use Rattle.upp_limits.specs.rational.proofs.Grid.{whole_int, whole_add, whole_sub, whole_neg, whole_weaken, within_neg, within_nonneg}
+use Rattle.upp_limits.specs.rational.proofs.Linear.{with2, with3, with_atoms}
+use Rattle.upp_limits.specs.rational.proofs.MinMax.{lt_q_not}
+use Rattle.upp_limits.specs.rational.proofs.Over.{lt_q_out}
+use Rattle.upp_limits.specs.upp_curve.specs.declared.affine_segment.line.Line.{Line}
+use Rattle.upp_limits.specs.upp_curve.specs.declared.affine_segment.line.Piece.{Piece}
+use Rattle.upp_limits.specs.Limits.{Sizes}
+use Rattle.upp_limits.specs.upp_curve.specs.affine_segment.Pieces.{Each, HasStart}
+use Rattle.upp_limits.specs.Sized.{IsSlope, ValueStands, grid_of, times_largest}
+use Rattle.curve_call.specs.upp_normal.specs.Operand.{AreLimited, OperandLineAt, OperandPiece, OperandPieces}
+use Rattle.net_model.specs.run_laws.proofs.Sums.{add_nothing}
+use Rattle.flow_watch.specs.watch_laws.Affine.{EachTime}
+use Rattle.flow_watch.specs.declared.watch_laws.point.Segment.{Segment}
+use Rattle.flow_watch.specs.watch_laws.Shorts.{EachSegment}
+use Rattle.flow_watch.specs.watch_laws.Segments.{number_at, slope_of, next_start, segments}
+use Rattle.flow_watch.specs.watch_laws.MarkSizes.{IsTime, IsAmount, IsTimeIfAny}
+use Rattle.flow_watch.proofs.watch_laws.MarkSizes.{time_whole, time_within, sum_fits, marks_fit, keys_fit}
 use Rattle.run_watch.specs.declared.span.Span.{Span}
 use Rattle.run_watch.specs.declared.span.Ramp.{Ramp}
 use Rattle.run_watch.specs.Ramps.{as_span, amount, pace_in, InOrder, ramps_after, spans_of, part, ReadsRamp, EachRamp}
@@ -34,9 +34,9 @@ use Rattle.run_watch.specs.FirstEnds.{mark_of, rule_of, KeySteps, GapSteps}
 use Rattle.run_watch.specs.WatchTimes.{point_at, AroundFits, TimesFit}
 use Rattle.run_watch.specs.IdleWindows.{TimeFits, SegmentsFit}
 use Rattle.run_watch.specs.Held.{IsHeldRamp, AreHeld}
-use Rattle.flow_watch.specs.watch_laws.specs.Marks.{FitsRule}
+use Rattle.flow_watch.specs.watch_laws.Marks.{FitsRule}
 use Rattle.run_watch.proofs.RampLists.{part_first, clip_past, spans_are, pace_is}
-use Rattle.flow_watch.specs.affine_segment.proofs.PieceOrder.{each_map}
+use Rattle.upp_limits.specs.upp_curve.proofs.affine_segment.PieceOrder.{each_map}
 
 some_largest : (z : Sizes) → int (pos 0) ≤ℚ times_largest 1 z
 some_largest z = mul_nonneg (nat_nonneg 1) (nat_nonneg z.largest)

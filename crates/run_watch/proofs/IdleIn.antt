@@ -2,24 +2,24 @@
 use Rattle.std.specs.Prelude.{◌≡◌, ◌⊎◌, ℕ, zero, suc, ◌+◌, ◌<◌, ◌≤◌, pos, List, [], ◌∷◌, length, take}
 use Rattle.std.specs.List.{slice_index_or}
 use Rattle.std.proofs.Common.{arith, refl, sym, subst, ap, ◌∙◌, inl, inr, add-one}
-use Rattle.fraction128.specs.rational.specs.Rational.{ℚ, int, ◌-ℚ◌, ◌≤ℚ◌, ◌<ℚ◌}
-use Rattle.fraction128.specs.rational.specs.Extended.{Ext, ◌≤ₑ◌, ◌<ₑ◌, ◌+ₑ◌}
-use Rattle.fraction128.specs.rational.specs.declared.Extended.TheVariants.{Fin}
-use Rattle.fraction128.specs.rational.proofs.Laws.{le_refl, le_trans, le_or_lt, le_of_lt, lt_le_trans, le_lt_trans, lt_irrefl, antisym}
-use Rattle.fraction128.specs.rational.proofs.Linear.{with2, with3}
-use Rattle.flow_watch.specs.upp_curve.specs.Curve.{SpecCurve, value_at}
-use Rattle.flow_watch.specs.upp_curve.specs.Unrolled.{unroll}
-use Rattle.min_plus.specs.Functions.{zero_q}
-use Rattle.flow_watch.specs.run_laws.specs.Cards.{all, ServerStep}
-use Rattle.flow_watch.specs.run_laws.specs.Servers.{Server}
-use Rattle.flow_watch.specs.run_laws.specs.Counts.{worked}
-use Rattle.flow_watch.specs.watch_laws.specs.Breaches.{IsIdle}
-use Rattle.flow_watch.specs.watch_laws.specs.Laws.{MayServe}
-use Rattle.flow_watch.specs.watch_laws.specs.Shorts.{EachSegment}
-use Rattle.flow_watch.specs.watch_laws.specs.Segments.{segments}
-use Rattle.flow_watch.specs.watch_laws.specs.Stretches.{IsStretch}
-use Rattle.flow_watch.specs.watch_laws.proofs.CurveSegments.{segments_tell}
-use Rattle.flow_watch.specs.watch_laws.proofs.Idle.{below_number, apart_or_one}
+use Rattle.upp_limits.specs.rational.specs.Rational.{ℚ, int, ◌-ℚ◌, ◌≤ℚ◌, ◌<ℚ◌}
+use Rattle.upp_limits.specs.rational.specs.Extended.{Ext, ◌≤ₑ◌, ◌<ₑ◌, ◌+ₑ◌}
+use Rattle.upp_limits.specs.rational.specs.declared.Extended.TheVariants.{Fin}
+use Rattle.upp_limits.specs.rational.proofs.Laws.{le_refl, le_trans, le_or_lt, le_of_lt, lt_le_trans, le_lt_trans, lt_irrefl, antisym}
+use Rattle.upp_limits.specs.rational.proofs.Linear.{with2, with3}
+use Rattle.upp_limits.specs.upp_curve.specs.Curve.{SpecCurve, value_at}
+use Rattle.upp_limits.specs.upp_curve.specs.Unrolled.{unroll}
+use Rattle.upp_limits.specs.min_plus.specs.Functions.{zero_q}
+use Rattle.net_model.specs.run_laws.specs.Cards.{all, ServerStep}
+use Rattle.net_model.specs.run_laws.specs.Servers.{Server}
+use Rattle.net_model.specs.run_laws.specs.Counts.{worked}
+use Rattle.flow_watch.specs.watch_laws.Breaches.{IsIdle}
+use Rattle.flow_watch.specs.watch_laws.Laws.{MayServe}
+use Rattle.flow_watch.specs.watch_laws.Shorts.{EachSegment}
+use Rattle.flow_watch.specs.watch_laws.Segments.{segments}
+use Rattle.flow_watch.specs.watch_laws.Stretches.{IsStretch}
+use Rattle.flow_watch.proofs.watch_laws.CurveSegments.{segments_tell}
+use Rattle.flow_watch.proofs.watch_laws.Idle.{below_number, apart_or_one}
 use Rattle.run_watch.specs.declared.watched.Watched.{Watched}
 use Rattle.run_watch.specs.declared.watched.Stretch.{Stretch}
 use Rattle.run_watch.specs.Watching.{stretches}

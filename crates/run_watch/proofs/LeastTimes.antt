@@ -3,12 +3,12 @@ use Rattle.std.specs.Prelude.{◌≡◌, ◌⊎◌, ℕ, zero, suc, ◌+◌, ◌
 use Rattle.std.specs.List.{slice_index_or}
 use Rattle.std.proofs.Common.{arith, refl, sym, subst, ap, ◌∙◌, inl, inr, true≢false}
 use Rattle.std.proofs.lemmas.Bool.{cases_Bool}
-use Rattle.fraction128.specs.rational.specs.Rational.{ℚ, lt_q}
-use Rattle.fraction128.specs.rational.proofs.Laws.{le_trans, le_of_lt, le_of_not_lt}
-use Rattle.fraction128.specs.rational.proofs.Over.{lt_q_in, lt_q_out}
-use Rattle.flow_watch.specs.watch_laws.specs.declared.point.Point.{Point}
-use Rattle.flow_watch.specs.watch_laws.specs.declared.point.Segment.{Segment}
-use Rattle.flow_watch.specs.watch_laws.specs.Shorts.{HasPoint, HasSegment}
+use Rattle.upp_limits.specs.rational.specs.Rational.{ℚ, lt_q}
+use Rattle.upp_limits.specs.rational.proofs.Laws.{le_trans, le_of_lt, le_of_not_lt}
+use Rattle.upp_limits.specs.rational.proofs.Over.{lt_q_in, lt_q_out}
+use Rattle.flow_watch.specs.declared.watch_laws.point.Point.{Point}
+use Rattle.flow_watch.specs.declared.watch_laws.point.Segment.{Segment}
+use Rattle.flow_watch.specs.watch_laws.Shorts.{HasPoint, HasSegment}
 use Rattle.run_watch.specs.NearWindows.{earlier_time, IsLeast}
 
 pub least_both : (P Q : ℚ → Type 0) (a b : Option ℚ) → IsLeast P a → IsLeast Q b → IsLeast (λ t. P t ⊎ Q t) (earlier_time a b)

@@ -3,29 +3,29 @@ use Rattle.std.specs.Prelude.{◌≡◌, ◌↔◌, ℕ, ◌<◌, pos, Bool, IsT
 use Rattle.std.specs.List.{slice_index_or}
 use Rattle.std.proofs.Common.{arith, refl, sym, subst, ap, inl, inr, ◌∙◌}
 use Rattle.std.proofs.lemmas.Bool.{cases_Bool, and_parts}
-use Rattle.fraction128.specs.rational.specs.Rational.{ℚ, int, ◌+ℚ◌, ◌-ℚ◌, ◌≤ℚ◌, ◌<ℚ◌, lt_q, le_q}
-use Rattle.fraction128.specs.rational.specs.Grid.{Whole}
-use Rattle.fraction128.specs.rational.proofs.Laws.{le_trans, le_of_lt, lt_le_trans, le_lt_trans, lt_irrefl, le_of_not_lt, mul_le_mul}
-use Rattle.fraction128.specs.rational.proofs.Integers.{nat_nonneg}
-use Rattle.fraction128.specs.rational.proofs.Grid.{whole_add, whole_sub}
-use Rattle.fraction128.specs.rational.proofs.Over.{lt_q_in}
-use Rattle.fraction128.specs.rational.proofs.Linear.{with2, with3}
-use Rattle.flow_watch.specs.affine_segment.specs.declared.line.Piece.{Piece}
-use Rattle.flow_watch.specs.affine_segment.proofs.PieceOrder.{each_map}
-use Rattle.flow_watch.specs.upp_curve.specs.Curve.{SpecCurve}
-use Rattle.flow_watch.specs.upp_curve.specs.Unrolled.{unroll}
-use Rattle.flow_watch.specs.upp_limits.specs.Limits.{Sizes}
-use Rattle.flow_watch.specs.upp_limits.proofs.Operands.{curve_period}
-use Rattle.flow_watch.specs.upp_normal.specs.Operand.{AreLimited, OperandPiece, OperandPieces}
-use Rattle.flow_watch.specs.upp_normal.specs.Unrolling.{IsOperandTo}
-use Rattle.flow_watch.specs.upp_normal.proofs.GaugeRises.{curve_earlier}
-use Rattle.flow_watch.specs.upp_normal.proofs.UnrolledPieces.{operand_pieces}
-use Rattle.flow_watch.specs.watch_laws.specs.Affine.{EachTime}
-use Rattle.flow_watch.specs.watch_laws.specs.declared.point.Point.{Point}
-use Rattle.flow_watch.specs.watch_laws.specs.declared.point.Segment.{Segment}
-use Rattle.flow_watch.specs.watch_laws.specs.MarkSizes.{IsTime}
-use Rattle.flow_watch.specs.watch_laws.specs.Segments.{segments}
-use Rattle.flow_watch.specs.watch_laws.specs.Shorts.{EachPoint, IsShortBy}
+use Rattle.upp_limits.specs.rational.specs.Rational.{ℚ, int, ◌+ℚ◌, ◌-ℚ◌, ◌≤ℚ◌, ◌<ℚ◌, lt_q, le_q}
+use Rattle.upp_limits.specs.rational.specs.Grid.{Whole}
+use Rattle.upp_limits.specs.rational.proofs.Laws.{le_trans, le_of_lt, lt_le_trans, le_lt_trans, lt_irrefl, le_of_not_lt, mul_le_mul}
+use Rattle.upp_limits.specs.rational.proofs.Integers.{nat_nonneg}
+use Rattle.upp_limits.specs.rational.proofs.Grid.{whole_add, whole_sub}
+use Rattle.upp_limits.specs.rational.proofs.Over.{lt_q_in}
+use Rattle.upp_limits.specs.rational.proofs.Linear.{with2, with3}
+use Rattle.upp_limits.specs.upp_curve.specs.declared.affine_segment.line.Piece.{Piece}
+use Rattle.upp_limits.specs.upp_curve.proofs.affine_segment.PieceOrder.{each_map}
+use Rattle.upp_limits.specs.upp_curve.specs.Curve.{SpecCurve}
+use Rattle.upp_limits.specs.upp_curve.specs.Unrolled.{unroll}
+use Rattle.upp_limits.specs.Limits.{Sizes}
+use Rattle.upp_limits.proofs.Operands.{curve_period}
+use Rattle.curve_call.specs.upp_normal.specs.Operand.{AreLimited, OperandPiece, OperandPieces}
+use Rattle.curve_call.specs.upp_normal.specs.Unrolling.{IsOperandTo}
+use Rattle.curve_call.specs.upp_normal.proofs.GaugeRises.{curve_earlier}
+use Rattle.curve_call.specs.upp_normal.proofs.UnrolledPieces.{operand_pieces}
+use Rattle.flow_watch.specs.watch_laws.Affine.{EachTime}
+use Rattle.flow_watch.specs.declared.watch_laws.point.Point.{Point}
+use Rattle.flow_watch.specs.declared.watch_laws.point.Segment.{Segment}
+use Rattle.flow_watch.specs.watch_laws.MarkSizes.{IsTime}
+use Rattle.flow_watch.specs.watch_laws.Segments.{segments}
+use Rattle.flow_watch.specs.watch_laws.Shorts.{EachPoint, IsShortBy}
 use Rattle.run_watch.specs.declared.span.Ramp.{Ramp}
 use Rattle.run_watch.specs.declared.watched.Watched.{Watched}
 use Rattle.run_watch.specs.declared.watched.Stretch.{Stretch}

@@ -1,24 +1,24 @@
 -- A short window that a stretch's own turns show is one between its watch points; so the first is among those up to its end.
 use Rattle.std.specs.Prelude.{◌≡◌, ◌⊎◌, pos, List, [], ◌∷◌, Option, Some, None}
 use Rattle.std.proofs.Common.{arith, refl, sym, subst, inl, inr}
-use Rattle.fraction128.specs.rational.specs.Rational.{ℚ, int, ◌+ℚ◌, ◌-ℚ◌, ◌≤ℚ◌, ◌<ℚ◌}
-use Rattle.fraction128.specs.rational.proofs.Laws.{le_refl, le_trans, le_or_lt, le_lt_trans}
-use Rattle.fraction128.specs.rational.proofs.Linear.{with2}
-use Rattle.flow_watch.specs.affine_segment.specs.declared.line.Piece.{Piece}
-use Rattle.flow_watch.specs.affine_segment.specs.Pieces.{Each, HasStart}
-use Rattle.flow_watch.specs.upp_curve.specs.Curve.{SpecCurve}
-use Rattle.flow_watch.specs.upp_curve.specs.Unrolled.{unroll}
-use Rattle.flow_watch.specs.upp_limits.specs.Limits.{Sizes}
-use Rattle.flow_watch.specs.upp_normal.specs.Operand.{OperandPiece}
-use Rattle.flow_watch.specs.upp_normal.proofs.UnrolledPieces.{unroll_starts}
-use Rattle.flow_watch.specs.watch_laws.specs.Affine.{EachTime, Among}
-use Rattle.flow_watch.specs.watch_laws.specs.declared.point.Point.{Point}
-use Rattle.flow_watch.specs.watch_laws.specs.declared.point.Segment.{Segment}
-use Rattle.flow_watch.specs.watch_laws.specs.Laws.{MayServe}
-use Rattle.flow_watch.specs.watch_laws.specs.Segments.{segments}
-use Rattle.flow_watch.specs.watch_laws.specs.Shorts.{EachSegment, HasSegment}
-use Rattle.flow_watch.specs.watch_laws.proofs.CurveSegments.{segments_tell}
-use Rattle.flow_watch.specs.watch_laws.proofs.UnrolledStarts.{start_before}
+use Rattle.upp_limits.specs.rational.specs.Rational.{ℚ, int, ◌+ℚ◌, ◌-ℚ◌, ◌≤ℚ◌, ◌<ℚ◌}
+use Rattle.upp_limits.specs.rational.proofs.Laws.{le_refl, le_trans, le_or_lt, le_lt_trans}
+use Rattle.upp_limits.specs.rational.proofs.Linear.{with2}
+use Rattle.upp_limits.specs.upp_curve.specs.declared.affine_segment.line.Piece.{Piece}
+use Rattle.upp_limits.specs.upp_curve.specs.affine_segment.Pieces.{Each, HasStart}
+use Rattle.upp_limits.specs.upp_curve.specs.Curve.{SpecCurve}
+use Rattle.upp_limits.specs.upp_curve.specs.Unrolled.{unroll}
+use Rattle.upp_limits.specs.Limits.{Sizes}
+use Rattle.curve_call.specs.upp_normal.specs.Operand.{OperandPiece}
+use Rattle.curve_call.specs.upp_normal.proofs.UnrolledPieces.{unroll_starts}
+use Rattle.flow_watch.specs.watch_laws.Affine.{EachTime, Among}
+use Rattle.flow_watch.specs.declared.watch_laws.point.Point.{Point}
+use Rattle.flow_watch.specs.declared.watch_laws.point.Segment.{Segment}
+use Rattle.flow_watch.specs.watch_laws.Laws.{MayServe}
+use Rattle.flow_watch.specs.watch_laws.Segments.{segments}
+use Rattle.flow_watch.specs.watch_laws.Shorts.{EachSegment, HasSegment}
+use Rattle.flow_watch.proofs.watch_laws.CurveSegments.{segments_tell}
+use Rattle.flow_watch.proofs.watch_laws.UnrolledStarts.{start_before}
 use Rattle.run_watch.specs.declared.span.Ramp.{Ramp}
 use Rattle.run_watch.specs.declared.watched.Watched.{Watched}
 use Rattle.run_watch.specs.declared.watched.Stretch.{Stretch}

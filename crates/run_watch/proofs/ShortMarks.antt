@@ -3,16 +3,16 @@ use Rattle.std.specs.Prelude.{◌≡◌, ◌⊎◌, ℕ, zero, suc, ◌+◌, ◌
 use Rattle.std.specs.List.{slice_index_or}
 use Rattle.std.proofs.Common.{arith, refl, sym, subst, ap, ◌∙◌, inl, inr, add-one}
 use Rattle.std.proofs.lemmas.Bool.{cases_lt}
-use Rattle.fraction128.specs.rational.specs.Rational.{ℚ, ◌+ℚ◌, ◌-ℚ◌, ◌*ℚ◌, ◌≤ℚ◌, ◌<ℚ◌}
-use Rattle.fraction128.specs.rational.specs.Ratio.{SumFits}
-use Rattle.fraction128.specs.rational.proofs.Laws.{mul_sub, le_refl, le_trans, le_lt_trans, lt_le_trans, lt_irrefl}
-use Rattle.fraction128.specs.rational.proofs.Linear.{with_atoms, with3, with4}
-use Rattle.flow_watch.specs.watch_laws.specs.declared.mark.Mark.{Mark}
-use Rattle.flow_watch.specs.watch_laws.specs.declared.mark.Rule.{Rule}
-use Rattle.flow_watch.specs.watch_laws.specs.declared.point.Point.{Point}
-use Rattle.flow_watch.specs.watch_laws.specs.declared.point.Segment.{Segment}
-use Rattle.flow_watch.specs.watch_laws.specs.Marks.{Each, Has, TimesRise, IsPast, IsUnder, IsOver, IsUnderSome, FitsRule, MostFits}
-use Rattle.flow_watch.specs.watch_laws.specs.Shorts.{EachPoint, HasPoint, EachSegment, HasSegment, PointsRise, IsPastEnd, IsShortBy, NoneShortTo, IsShortEnd}
+use Rattle.upp_limits.specs.rational.specs.Rational.{ℚ, ◌+ℚ◌, ◌-ℚ◌, ◌*ℚ◌, ◌≤ℚ◌, ◌<ℚ◌}
+use Rattle.upp_limits.specs.rational.specs.Ratio.{SumFits}
+use Rattle.upp_limits.specs.rational.proofs.Laws.{mul_sub, le_refl, le_trans, le_lt_trans, lt_le_trans, lt_irrefl}
+use Rattle.upp_limits.specs.rational.proofs.Linear.{with_atoms, with3, with4}
+use Rattle.flow_watch.specs.declared.watch_laws.mark.Mark.{Mark}
+use Rattle.flow_watch.specs.declared.watch_laws.mark.Rule.{Rule}
+use Rattle.flow_watch.specs.declared.watch_laws.point.Point.{Point}
+use Rattle.flow_watch.specs.declared.watch_laws.point.Segment.{Segment}
+use Rattle.flow_watch.specs.watch_laws.Marks.{Each, Has, TimesRise, IsPast, IsUnder, IsOver, IsUnderSome, FitsRule, MostFits}
+use Rattle.flow_watch.specs.watch_laws.Shorts.{EachPoint, HasPoint, EachSegment, HasSegment, PointsRise, IsPastEnd, IsShortBy, NoneShortTo, IsShortEnd}
 use Rattle.run_watch.specs.FirstEnds.{mark_of, rule_of, KeySteps, FitsMarks, IsTooLate, HoldsStarts, IsFirstBy, IsFirstEnd}
 
 -- ---- one window

@@ -2,14 +2,14 @@
 use Rattle.std.specs.Prelude.{◌≡◌, ◌⊎◌, ℕ, zero, suc, ◌+◌, ◌<◌, ◌≤◌, List, [], ◌∷◌, length, take, Some, None}
 use Rattle.std.specs.List.{slice_index_or}
 use Rattle.std.proofs.Common.{arith, inl, inr, refl, sym, subst, ◌∙◌, add-one}
-use Rattle.fraction128.specs.rational.specs.Rational.{ℚ, ◌+ℚ◌, ◌≤ℚ◌, ◌<ℚ◌}
-use Rattle.fraction128.specs.rational.proofs.Laws.{le_refl, lt_le_trans, lt_irrefl, le_of_not_lt}
-use Rattle.flow_watch.specs.watch_laws.specs.declared.mark.Mark.{Mark}
-use Rattle.flow_watch.specs.watch_laws.specs.declared.mark.Rule.{Rule}
-use Rattle.flow_watch.specs.watch_laws.specs.declared.point.Point.{Point}
-use Rattle.flow_watch.specs.watch_laws.specs.declared.point.Segment.{Segment}
-use Rattle.flow_watch.specs.watch_laws.specs.Marks.{IsPast, IsUnder}
-use Rattle.flow_watch.specs.watch_laws.specs.Shorts.{EachPoint, HasPoint, PointsRise, IsShortBy}
+use Rattle.upp_limits.specs.rational.specs.Rational.{ℚ, ◌+ℚ◌, ◌≤ℚ◌, ◌<ℚ◌}
+use Rattle.upp_limits.specs.rational.proofs.Laws.{le_refl, lt_le_trans, lt_irrefl, le_of_not_lt}
+use Rattle.flow_watch.specs.declared.watch_laws.mark.Mark.{Mark}
+use Rattle.flow_watch.specs.declared.watch_laws.mark.Rule.{Rule}
+use Rattle.flow_watch.specs.declared.watch_laws.point.Point.{Point}
+use Rattle.flow_watch.specs.declared.watch_laws.point.Segment.{Segment}
+use Rattle.flow_watch.specs.watch_laws.Marks.{IsPast, IsUnder}
+use Rattle.flow_watch.specs.watch_laws.Shorts.{EachPoint, HasPoint, PointsRise, IsShortBy}
 use Rattle.run_watch.specs.FirstEnds.{mark_of, rule_of, HoldsStarts, FitsMarks, FitsSegments}
 use Rattle.run_watch.specs.WatchTimes.{StartsBy}
 use Rattle.run_watch.specs.NearWindows.{IsLeast}

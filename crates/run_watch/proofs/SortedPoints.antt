@@ -5,14 +5,14 @@ use Rattle.std.specs.List.Sorted.{IsSorted, IsPermutation}
 use Rattle.std.specs.Ordering.{is_lt}
 use Rattle.std.proofs.Common.{arith, inl, inr, refl, sym, subst, ap, ◌∙◌, add-one}
 use Rattle.std.proofs.lemmas.List.Sorted.{Contains-permutation, IsPermutation-sym}
-use Rattle.fraction128.specs.rational.specs.Rational.{ℚ, int, ◌≤ℚ◌}
-use Rattle.fraction128.specs.rational.specs.Ratio.{cmp_q}
-use Rattle.fraction128.specs.rational.proofs.Laws.{le_refl, le_trans, le_or_lt, le_of_lt, antisym}
-use Rattle.fraction128.specs.rational.proofs.Linear.{with3}
-use Rattle.flow_watch.specs.watch_laws.specs.Affine.{EachTime, Among}
-use Rattle.flow_watch.specs.watch_laws.specs.declared.point.Point.{Point}
-use Rattle.flow_watch.specs.watch_laws.specs.declared.point.Segment.{Segment}
-use Rattle.flow_watch.specs.watch_laws.specs.Shorts.{EachPoint, HasPoint, EachSegment, HasSegment, PointsRise, IsShortBy, NoneShortTo}
+use Rattle.upp_limits.specs.rational.specs.Rational.{ℚ, int, ◌≤ℚ◌}
+use Rattle.upp_limits.specs.rational.specs.Ratio.{cmp_q}
+use Rattle.upp_limits.specs.rational.proofs.Laws.{le_refl, le_trans, le_or_lt, le_of_lt, antisym}
+use Rattle.upp_limits.specs.rational.proofs.Linear.{with3}
+use Rattle.flow_watch.specs.watch_laws.Affine.{EachTime, Among}
+use Rattle.flow_watch.specs.declared.watch_laws.point.Point.{Point}
+use Rattle.flow_watch.specs.declared.watch_laws.point.Segment.{Segment}
+use Rattle.flow_watch.specs.watch_laws.Shorts.{EachPoint, HasPoint, EachSegment, HasSegment, PointsRise, IsShortBy, NoneShortTo}
 use Rattle.run_watch.specs.declared.span.Ramp.{Ramp}
 use Rattle.run_watch.specs.Ramps.{EachRamp, ReadsRamp}
 use Rattle.run_watch.specs.declared.watched.Stretch.{Stretch}
@@ -21,12 +21,12 @@ use Rattle.run_watch.specs.FirstEnds.{KeySteps, GapSteps, FitsMarks, FitsSegment
 use Rattle.run_watch.specs.WatchTimes.{HaveSameTimes, point_at, IsShortTo, StartsTo}
 use Rattle.run_watch.specs.NearWindows.{IsLeast}
 use Rattle.run_watch.specs.IdleWindows.{IsShortWindow, NoneIsShort, IsFirstShort, NoneEndsBy, TimeFits, SegmentsFit}
-use Rattle.flow_watch.specs.watch_laws.specs.Marks.{FitsRule}
+use Rattle.flow_watch.specs.watch_laws.Marks.{FitsRule}
 use Rattle.run_watch.proofs.ShortMarks.{has_each, point_in}
 use Rattle.run_watch.proofs.ShortWindows.{first_or_later}
 use Rattle.run_watch.proofs.LeastTimes.{points_taken}
-use Rattle.flow_watch.specs.run_laws.proofs.Times.{each_time_map}
-use Rattle.flow_watch.specs.step_lines.proofs.SortedParts.{no_less}
+use Rattle.net_model.specs.run_laws.proofs.Times.{each_time_map}
+use Rattle.flow_watch.proofs.step_lines.SortedParts.{no_less}
 
 -- ---- membership
 among_contains : (t : ℚ) (ts : List ℚ) → Among t ts → Contains ts t

@@ -1,13 +1,13 @@
 -- The spans and times of a lawful view are in order, and in the run.
 use Rattle.std.specs.Prelude.{pos, List, [], ◌∷◌}
-use Rattle.fraction128.specs.rational.specs.Rational.{ℚ, int, ◌≤ℚ◌}
-use Rattle.fraction128.specs.rational.proofs.Laws.{le_refl, le_trans, le_of_lt}
-use Rattle.flow_watch.specs.run_laws.specs.Cards.{ServerStep, Arrives, Works, Leaves, Visits}
-use Rattle.flow_watch.specs.run_laws.specs.Servers.{Server, ServerState, start}
-use Rattle.flow_watch.specs.run_laws.specs.Next.{next}
-use Rattle.flow_watch.specs.run_laws.specs.Allows.{AllAllowed, IsLawfulView}
-use Rattle.flow_watch.specs.watch_laws.specs.Affine.{EachTime}
-use Rattle.flow_watch.specs.watch_laws.specs.Times.{leave_times}
+use Rattle.upp_limits.specs.rational.specs.Rational.{ℚ, int, ◌≤ℚ◌}
+use Rattle.upp_limits.specs.rational.proofs.Laws.{le_refl, le_trans, le_of_lt}
+use Rattle.net_model.specs.run_laws.specs.Cards.{ServerStep, Arrives, Works, Leaves, Visits}
+use Rattle.net_model.specs.run_laws.specs.Servers.{Server, ServerState, start}
+use Rattle.net_model.specs.run_laws.specs.Next.{next}
+use Rattle.net_model.specs.run_laws.specs.Allows.{AllAllowed, IsLawfulView}
+use Rattle.flow_watch.specs.watch_laws.Affine.{EachTime}
+use Rattle.flow_watch.specs.watch_laws.Times.{leave_times}
 use Rattle.run_watch.specs.declared.span.Span.{Span}
 use Rattle.run_watch.specs.Ramps.{InOrder, TakeTime}
 use Rattle.run_watch.specs.Seen.{arrival_spans, work_spans}

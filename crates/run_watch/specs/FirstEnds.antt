@@ -1,14 +1,14 @@
 -- Windows between points as pairs of marks, the points in reach of some ends, and the first end to which a window is short. Own
 -- choice.
 use Rattle.std.specs.Prelude.{◌≡◌, ℕ, ◌<◌, ◌≤◌, List, length, take, slice_get, Some}
-use Rattle.fraction128.specs.rational.specs.Rational.{ℚ, ◌-ℚ◌, ◌*ℚ◌, ◌+ℚ◌, ◌≤ℚ◌, ◌<ℚ◌, neg_ℚ}
-use Rattle.fraction128.specs.rational.specs.Ratio.{IsSmall, SumFits}
-use Rattle.flow_watch.specs.watch_laws.specs.declared.mark.Mark.{Mark}
-use Rattle.flow_watch.specs.watch_laws.specs.declared.mark.Rule.{Rule}
-use Rattle.flow_watch.specs.watch_laws.specs.declared.point.Point.{Point}
-use Rattle.flow_watch.specs.watch_laws.specs.declared.point.Segment.{Segment}
-use Rattle.flow_watch.specs.watch_laws.specs.Marks.{FitsRule}
-use Rattle.flow_watch.specs.watch_laws.specs.Shorts.{EachPoint, HasPoint, EachSegment, PointsRise, IsShortBy, NoneShortTo, IsShortEnd}
+use Rattle.upp_limits.specs.rational.specs.Rational.{ℚ, ◌-ℚ◌, ◌*ℚ◌, ◌+ℚ◌, ◌≤ℚ◌, ◌<ℚ◌, neg_ℚ}
+use Rattle.upp_limits.specs.rational.specs.Ratio.{IsSmall, SumFits}
+use Rattle.flow_watch.specs.declared.watch_laws.mark.Mark.{Mark}
+use Rattle.flow_watch.specs.declared.watch_laws.mark.Rule.{Rule}
+use Rattle.flow_watch.specs.declared.watch_laws.point.Point.{Point}
+use Rattle.flow_watch.specs.declared.watch_laws.point.Segment.{Segment}
+use Rattle.flow_watch.specs.watch_laws.Marks.{FitsRule}
+use Rattle.flow_watch.specs.watch_laws.Shorts.{EachPoint, HasPoint, EachSegment, PointsRise, IsShortBy, NoneShortTo, IsShortEnd}
 
 -- ---- as marks under a rule
 abbrev pub mark_of : ℚ → Point → Mark

@@ -1,20 +1,20 @@
 -- Where the numbers of a server stand, by the sizes of a gauge below 2 ^ 120 whose window ends with the run: then every step
 -- of the search for its first idle window fits. The gauge of a simulation, or of the check of a recorded run, gives it. Own choice.
 use Rattle.std.specs.Prelude.{◌≡◌, ◌⊎◌, pos, List, Option, MatchOption}
-use Rattle.fraction128.specs.rational.specs.Rational.{ℚ, int, ◌≤ℚ◌, ◌<ℚ◌}
-use Rattle.flow_watch.specs.upp_curve.specs.Curve.{SpecCurve}
-use Rattle.flow_watch.specs.upp_curve.specs.Curves.{IsCurve}
-use Rattle.flow_watch.specs.upp_limits.specs.Limits.{Sizes, curve_numbers}
-use Rattle.flow_watch.specs.upp_limits.specs.Sized.{IsSlope, Stands}
-use Rattle.flow_watch.specs.upp_normal.specs.Operand.{AreLimited}
-use Rattle.flow_watch.specs.run_laws.specs.Cards.{all, ServerStep}
-use Rattle.flow_watch.specs.run_laws.specs.Servers.{Server}
-use Rattle.flow_watch.specs.run_laws.specs.Allows.{IsLawfulView}
-use Rattle.flow_watch.specs.run_laws.specs.Counts.{arrived, worked}
-use Rattle.flow_watch.specs.watch_laws.specs.Affine.{EachTime}
-use Rattle.flow_watch.specs.watch_laws.specs.Breaches.{IsIdle}
-use Rattle.flow_watch.specs.watch_laws.specs.MarkSizes.{IsTime, IsAmount}
-use Rattle.flow_watch.specs.watch_laws.specs.Times.{leave_times}
+use Rattle.upp_limits.specs.rational.specs.Rational.{ℚ, int, ◌≤ℚ◌, ◌<ℚ◌}
+use Rattle.upp_limits.specs.upp_curve.specs.Curve.{SpecCurve}
+use Rattle.upp_limits.specs.upp_curve.specs.Curves.{IsCurve}
+use Rattle.upp_limits.specs.Limits.{Sizes, curve_numbers}
+use Rattle.upp_limits.specs.Sized.{IsSlope, Stands}
+use Rattle.curve_call.specs.upp_normal.specs.Operand.{AreLimited}
+use Rattle.net_model.specs.run_laws.specs.Cards.{all, ServerStep}
+use Rattle.net_model.specs.run_laws.specs.Servers.{Server}
+use Rattle.net_model.specs.run_laws.specs.Allows.{IsLawfulView}
+use Rattle.net_model.specs.run_laws.specs.Counts.{arrived, worked}
+use Rattle.flow_watch.specs.watch_laws.Affine.{EachTime}
+use Rattle.flow_watch.specs.watch_laws.Breaches.{IsIdle}
+use Rattle.flow_watch.specs.watch_laws.MarkSizes.{IsTime, IsAmount}
+use Rattle.flow_watch.specs.watch_laws.Times.{leave_times}
 use Rattle.run_watch.specs.declared.span.Ramp.{Ramp}
 use Rattle.run_watch.specs.declared.watched.Watched.{Watched}
 use Rattle.run_watch.specs.Ramps.{AreRamps, EachRamp, TakeTime, ramps_after, spans_of}

@@ -1,14 +1,14 @@
 -- The first window of a stretch that is short of work. Own choice.
 use Rattle.std.specs.Prelude.{◌≡◌, ◌⊎◌, List, Option, MatchOption, pos}
-use Rattle.fraction128.specs.rational.specs.Rational.{ℚ, int, ◌≤ℚ◌, ◌<ℚ◌}
-use Rattle.flow_watch.specs.watch_laws.specs.Affine.{Among}
-use Rattle.flow_watch.specs.watch_laws.specs.declared.point.Segment.{Segment}
-use Rattle.flow_watch.specs.watch_laws.specs.Shorts.{EachSegment}
+use Rattle.upp_limits.specs.rational.specs.Rational.{ℚ, int, ◌≤ℚ◌, ◌<ℚ◌}
+use Rattle.flow_watch.specs.watch_laws.Affine.{Among}
+use Rattle.flow_watch.specs.declared.watch_laws.point.Segment.{Segment}
+use Rattle.flow_watch.specs.watch_laws.Shorts.{EachSegment}
 use Rattle.run_watch.specs.declared.span.Ramp.{Ramp}
 use Rattle.run_watch.specs.Ramps.{EachRamp, ReadsRamp}
 use Rattle.run_watch.specs.FirstEnds.{KeySteps, GapSteps}
 use Rattle.run_watch.specs.WatchTimes.{point_at, IsShortTo}
-use Rattle.flow_watch.specs.watch_laws.specs.Marks.{FitsRule}
+use Rattle.flow_watch.specs.watch_laws.Marks.{FitsRule}
 use Rattle.run_watch.specs.FirstEnds.{mark_of, rule_of}
 
 -- between two of these times less is worked than the segments

@@ -10,3 +10,5 @@ pub mod Searches
 pub mod Held
 pub mod Sights
 pub mod FirstOf
+pub mod first_breaches
+pub mod simulated_sizes

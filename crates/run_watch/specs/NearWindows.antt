@@ -1,11 +1,11 @@
 -- Windows of a stretch of which one end is one of its turns, and the other is too, or is as far away as one of the curve's
 -- segments starts: where none of these is short of work, no window of the stretch is; else the least of their ends. Own choice.
 use Rattle.std.specs.Prelude.{◌≡◌, ◌⊎◌, List, [], ◌∷◌, map, Option, Some, None, MatchOption, if◌then◌else◌}
-use Rattle.fraction128.specs.rational.specs.Rational.{ℚ, ◌+ℚ◌, ◌-ℚ◌, ◌≤ℚ◌, lt_q, neg_ℚ}
-use Rattle.fraction128.specs.rational.specs.Ratio.{SumFits}
-use Rattle.flow_watch.specs.watch_laws.specs.declared.point.Point.{Point}
-use Rattle.flow_watch.specs.watch_laws.specs.declared.point.Segment.{Segment}
-use Rattle.flow_watch.specs.watch_laws.specs.Shorts.{HasPoint, EachSegment, HasSegment, IsShortBy}
+use Rattle.upp_limits.specs.rational.specs.Rational.{ℚ, ◌+ℚ◌, ◌-ℚ◌, ◌≤ℚ◌, lt_q, neg_ℚ}
+use Rattle.upp_limits.specs.rational.specs.Ratio.{SumFits}
+use Rattle.flow_watch.specs.declared.watch_laws.point.Point.{Point}
+use Rattle.flow_watch.specs.declared.watch_laws.point.Segment.{Segment}
+use Rattle.flow_watch.specs.watch_laws.Shorts.{HasPoint, EachSegment, HasSegment, IsShortBy}
 use Rattle.run_watch.specs.declared.span.Ramp.{Ramp}
 use Rattle.run_watch.specs.declared.watched.Stretch.{Stretch}
 use Rattle.run_watch.specs.Ramps.{EachRamp, ReadsRamp}

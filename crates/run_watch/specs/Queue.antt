@@ -1,10 +1,10 @@
 -- Marks that are kept while others are looked at, so that the greatest key of those that are near enough is the first.
 -- (A queue whose keys fall; textbook.)
 use Rattle.std.specs.Prelude.{◌≡◌, ◌⊎◌, ℕ, ◌≤◌, List, [], ◌∷◌, ◌++◌, length, take, Option}
-use Rattle.fraction128.specs.rational.specs.Rational.{ℚ, ◌+ℚ◌, ◌≤ℚ◌, ◌<ℚ◌}
-use Rattle.flow_watch.specs.watch_laws.specs.declared.mark.Mark.{Mark}
-use Rattle.flow_watch.specs.watch_laws.specs.declared.mark.Rule.{Rule}
-use Rattle.flow_watch.specs.watch_laws.specs.Marks.{Each, Has, IsPast, IsOver}
+use Rattle.upp_limits.specs.rational.specs.Rational.{ℚ, ◌+ℚ◌, ◌≤ℚ◌, ◌<ℚ◌}
+use Rattle.flow_watch.specs.declared.watch_laws.mark.Mark.{Mark}
+use Rattle.flow_watch.specs.declared.watch_laws.mark.Rule.{Rule}
+use Rattle.flow_watch.specs.watch_laws.Marks.{Each, Has, IsPast, IsOver}
 
 -- no key is greater than one before it
 abbrev pub Falls : List Mark → Type 0

@@ -1,11 +1,11 @@
 -- The search of one stretch for its first window that is short of work. Own choice.
 use Rattle.std.specs.Prelude.{◌≡◌, ◌⊎◌, ℕ, ◌<◌, List, length, Option, MatchOption}
 use Rattle.std.specs.List.{slice_index_or}
-use Rattle.fraction128.specs.rational.specs.Rational.{ℚ, ◌-ℚ◌, ◌<ℚ◌}
-use Rattle.flow_watch.specs.upp_curve.specs.Curve.{SpecCurve}
-use Rattle.flow_watch.specs.upp_curve.specs.Unrolled.{unroll}
-use Rattle.flow_watch.specs.watch_laws.specs.Affine.{Among}
-use Rattle.flow_watch.specs.watch_laws.specs.Segments.{segments}
+use Rattle.upp_limits.specs.rational.specs.Rational.{ℚ, ◌-ℚ◌, ◌<ℚ◌}
+use Rattle.upp_limits.specs.upp_curve.specs.Curve.{SpecCurve}
+use Rattle.upp_limits.specs.upp_curve.specs.Unrolled.{unroll}
+use Rattle.flow_watch.specs.watch_laws.Affine.{Among}
+use Rattle.flow_watch.specs.watch_laws.Segments.{segments}
 use Rattle.run_watch.specs.declared.watched.Watched.{Watched}
 use Rattle.run_watch.specs.declared.watched.Stretch.{Stretch}
 use Rattle.run_watch.specs.Watching.{stretches, turns, RiseFrom, HoldsTimes}

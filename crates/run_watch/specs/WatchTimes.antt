@@ -1,13 +1,13 @@
 -- The watch points of a stretch, the segments of a curve, and the first start of a short window to a point. Own choice.
 use Rattle.std.specs.Prelude.{◌≡◌, ◌&&◌, List, [], ◌∷◌, ◌++◌, if◌then◌else◌}
-use Rattle.fraction128.specs.rational.specs.Rational.{ℚ, ◌+ℚ◌, ◌-ℚ◌, le_q, neg_ℚ}
-use Rattle.fraction128.specs.rational.specs.Ratio.{SumFits}
-use Rattle.flow_watch.specs.affine_segment.specs.declared.line.Piece.{Piece}
-use Rattle.flow_watch.specs.affine_segment.specs.Pieces.{Each}
-use Rattle.flow_watch.specs.watch_laws.specs.Affine.{EachTime, Among}
-use Rattle.flow_watch.specs.watch_laws.specs.declared.point.Point.{Point}
-use Rattle.flow_watch.specs.watch_laws.specs.declared.point.Segment.{Segment}
-use Rattle.flow_watch.specs.watch_laws.specs.Shorts.{HasPoint, HasSegment, IsShortBy}
+use Rattle.upp_limits.specs.rational.specs.Rational.{ℚ, ◌+ℚ◌, ◌-ℚ◌, le_q, neg_ℚ}
+use Rattle.upp_limits.specs.rational.specs.Ratio.{SumFits}
+use Rattle.upp_limits.specs.upp_curve.specs.declared.affine_segment.line.Piece.{Piece}
+use Rattle.upp_limits.specs.upp_curve.specs.affine_segment.Pieces.{Each}
+use Rattle.flow_watch.specs.watch_laws.Affine.{EachTime, Among}
+use Rattle.flow_watch.specs.declared.watch_laws.point.Point.{Point}
+use Rattle.flow_watch.specs.declared.watch_laws.point.Segment.{Segment}
+use Rattle.flow_watch.specs.watch_laws.Shorts.{HasPoint, HasSegment, IsShortBy}
 use Rattle.run_watch.specs.declared.span.Ramp.{Ramp}
 use Rattle.run_watch.specs.declared.watched.Stretch.{Stretch}
 use Rattle.run_watch.specs.Ramps.{amount, spans_of}

@@ -1,24 +1,24 @@
 //! The first of some breaches.
 
 ghost use Rattle.std.specs.Prelude.{◌≡◌, ◌≤◌, ◌^◌, List, length, IfOk};
-ghost use Rattle.flow_watch.specs.upp_curve.specs.Curve.{value_at};
-ghost use Rattle.flow_watch.specs.run_laws.specs.Cards.{ServerStep};
-ghost use Rattle.flow_watch.specs.run_laws.specs.Runs.{SpecRun};
-ghost use Rattle.flow_watch.specs.run_laws.specs.Servers as servers;
-ghost use Rattle.flow_watch.specs.watch_laws.specs.Entries.{entries};
-ghost use Rattle.flow_watch.specs.watch_laws.specs.Laws.{MayServe};
+ghost use Rattle.upp_limits.specs.upp_curve.specs.Curve.{value_at};
+ghost use Rattle.net_model.specs.run_laws.specs.Cards.{ServerStep};
+ghost use Rattle.net_model.specs.run_laws.specs.Runs.{SpecRun};
+ghost use Rattle.net_model.specs.run_laws.specs.Servers as servers;
+ghost use Rattle.flow_watch.specs.watch_laws.Entries.{entries};
+ghost use Rattle.flow_watch.specs.watch_laws.Laws.{MayServe};
 ghost use Rattle.flow_watch.specs.Flows.{FlowReads};
 ghost use Rattle.run_watch.specs.Held.{IsHeld, IsSightOf};
 ghost use Rattle.run_watch.specs.FirstOf.{earlier, IsBest, IsLongOn, IsCrowdOn, IsIdleOn, EnterInOrder};
 
 use crate::service::first_idle;
 use crate::watched::Watched;
-use flow_watch::net_model::Breach;
-use flow_watch::upp_curve::Curve;
 use flow_watch::watch_laws::Entering;
 use flow_watch::{first_crowded, first_too_long};
-use fraction128::{Frac, is_less};
+use net_model::Breach;
 use std::alloc::{AllocError, Global};
+use upp_limits::fraction128::{Frac, is_less};
+use upp_limits::upp_curve::Curve;
 
 /// A breach, with its time.
 #[derive(Debug, Clone, Copy)]

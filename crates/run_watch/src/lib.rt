@@ -4,6 +4,7 @@
 //! A law is the contract of a function that does nothing: its body is empty, and its `ensures` is proved.
 #![tactic(auto)]
 
+pub mod first_breaches;
 mod found;
 mod idle;
 mod laws;
@@ -13,6 +14,7 @@ mod scan;
 mod seen;
 mod service;
 mod shorts;
+pub mod simulated_sizes;
 mod span;
 mod watched;
 mod windows;

@@ -1,16 +1,16 @@
 //! The first window in which a server works less than its curve.
 
 ghost use Rattle.std.specs.Prelude.{List, IfOk};
-ghost use Rattle.flow_watch.specs.run_laws.specs.Cards.{ServerStep};
-ghost use Rattle.flow_watch.specs.run_laws.specs.Servers as servers;
-ghost use Rattle.flow_watch.specs.watch_laws.specs.Laws.{MayServe};
+ghost use Rattle.net_model.specs.run_laws.specs.Cards.{ServerStep};
+ghost use Rattle.net_model.specs.run_laws.specs.Servers as servers;
+ghost use Rattle.flow_watch.specs.watch_laws.Laws.{MayServe};
 ghost use Rattle.run_watch.specs.Held.{IsSightOf, IsHeld, FindsIdle};
 
 use crate::idle::first_in;
 use crate::watched::{Watched, stops_of, stretches_of, turns_in, turns_of};
-use flow_watch::upp_curve::Curve;
-use fraction128::{Frac, is_less};
 use std::alloc::{AllocError, Global};
+use upp_limits::fraction128::{Frac, is_less};
+use upp_limits::upp_curve::Curve;
 
 /// The first window between two watch points of a stretch in which the server works less than its curve: with the
 /// least end, and of those with the least start.

@@ -1,8 +1,8 @@
 //! The stretches through which a server has work, and its turns.
 
 ghost use Rattle.std.specs.Prelude.{◌≡◌, ◌++◌, ℕ, pos, [], length, IfOk, OnOk};
-ghost use Rattle.fraction128.specs.rational.specs.Rational.{ℚ, int, le_q};
-ghost use Rattle.flow_watch.specs.watch_laws.specs.Affine.{EachTime};
+ghost use Rattle.upp_limits.specs.rational.specs.Rational.{ℚ, int, le_q};
+ghost use Rattle.flow_watch.specs.watch_laws.Affine.{EachTime};
 ghost use Rattle.run_watch.specs.Ramps.{EachRamp, RampsFit, AreRamps, TakeTime, spans_of};
 ghost use Rattle.run_watch.specs.Seen.{works_at, arrivals_at};
 ghost use Rattle.run_watch.specs.Watching.{is_caught_up, ReadsAt, stops, RiseFrom, next_after, stretch_from, stretches_in, change_at, turns, HoldsTimes, Sees};
@@ -10,10 +10,10 @@ ghost use Rattle.run_watch.specs.Watching.{is_caught_up, ReadsAt, stops, RiseFro
 use crate::ramps::{amount_at, pace_after, pace_before, ramps_of};
 use crate::seen::{arrivals_of, leaves_of, works_of};
 use crate::span::Ramp;
-use flow_watch::run_laws::Step;
 use flow_watch::step_lines::{is_at_most, is_under};
-use fraction128::{Frac, is_less};
+use net_model::run_laws::Step;
 use std::alloc::{AllocError, Global};
+use upp_limits::fraction128::{Frac, is_less};
 
 /// What one server sees of a run that ends at `end`.
 #[derive(Drop)]

@@ -1,13 +1,13 @@
 //! The windows of a stretch that are looked at.
 
 ghost use Rattle.std.specs.Prelude.{◌≡◌, ◌↔◌, [], ◌∷◌, ◌++◌, ◌<◌, length, drop, map, IfOk, OnOk, IsTrue};
-ghost use Rattle.fraction128.specs.rational.specs.Rational.{ℚ};
-ghost use Rattle.flow_watch.specs.affine_segment.specs.declared.line.Piece.{Piece};
-ghost use Rattle.flow_watch.specs.affine_segment.specs.Pieces.{Each};
-ghost use Rattle.flow_watch.specs.watch_laws.specs.Affine.{EachTime};
-ghost use Rattle.flow_watch.specs.watch_laws.specs.Segments.{segment_of, segments};
-ghost use Rattle.flow_watch.specs.watch_laws.specs.Shorts.{IsShortBy, PointsRise};
-ghost use Rattle.flow_watch.specs.watch_laws.specs.Marks.{FitsRule};
+ghost use Rattle.upp_limits.specs.rational.specs.Rational.{ℚ};
+ghost use Rattle.upp_limits.specs.upp_curve.specs.declared.affine_segment.line.Piece.{Piece};
+ghost use Rattle.upp_limits.specs.upp_curve.specs.affine_segment.Pieces.{Each};
+ghost use Rattle.flow_watch.specs.watch_laws.Affine.{EachTime};
+ghost use Rattle.flow_watch.specs.watch_laws.Segments.{segment_of, segments};
+ghost use Rattle.flow_watch.specs.watch_laws.Shorts.{IsShortBy, PointsRise};
+ghost use Rattle.flow_watch.specs.watch_laws.Marks.{FitsRule};
 ghost use Rattle.run_watch.specs.Ramps.{AreRamps, EachRamp, ReadsRamp};
 ghost use Rattle.run_watch.specs.FirstEnds.{FitsMarks, FitsSegments};
 ghost use Rattle.run_watch.specs.NearWindows.{IsLeast};
@@ -20,13 +20,13 @@ use crate::scan::is_past;
 use crate::shorts::{in_reach, mark_of, rule_of};
 use crate::span::Ramp;
 use crate::watched::Stretch;
-use flow_watch::affine_segment::Piece;
 use flow_watch::next_start;
 use flow_watch::step_lines::is_at_most;
 use flow_watch::watch_laws::{Point, Segment};
-use fraction128::rational::Extended;
-use fraction128::{Frac, difference, is_less, sum};
 use std::alloc::{AllocError, Global};
+use upp_limits::fraction128::{Frac, difference, is_less, sum};
+use upp_limits::rational::Extended;
+use upp_limits::upp_curve::affine_segment::Piece;
 
 /// One time more, where it is in the stretch.
 fn push_inside(times: &mut Vec<Frac>, s: &Stretch, t: Frac) -> Result<(), AllocError>

@@ -1,30 +1,30 @@
 -- No step that is due is past the horizon.
 use Rattle.std.proofs.Common.{◌≡◌, ℕ, ◌<◌, List, [], ◌∷◌, length, refl, sym, ap, ◌∙◌, subst, arith, Some}
 use Rattle.std.specs.Prelude.{pos}
-use Rattle.net_graph.specs.rational.specs.Rational.{ℚ, int, ◌+ℚ◌, ◌-ℚ◌, ◌*ℚ◌, ◌/ℚ◌, ◌≤ℚ◌, ◌<ℚ◌}
-use Rattle.net_graph.specs.rational.specs.MinMax.{max_q}
-use Rattle.net_graph.specs.rational.proofs.Linear.{with2, with3, with4, with5, with7}
-use Rattle.net_graph.specs.rational.proofs.Laws.{le_refl, le_trans, le_of_lt, mul_le_mul, mul_comm, div_mul, not_zero, le_of_mul}
-use Rattle.net_graph.specs.rational.proofs.Quotients.{zero_div}
-use Rattle.net_graph.specs.rational.proofs.MinMax.{max_q_ge_left, max_q_ge_right}
-use Rattle.net_graph.specs.run_laws.specs.declared.steps.Step.{Step}
-use Rattle.net_graph.specs.run_laws.specs.declared.steps.Step.TheVariants.{Enter, Reach, Work, Leave, Visit}
-use Rattle.net_graph.specs.run_laws.specs.Cards.{Card, whole, size}
-use Rattle.net_graph.specs.run_laws.specs.Servers.{done_so_far, head_of}
-use Rattle.net_graph.specs.run_laws.specs.Routes.{server_at, link_at}
-use Rattle.net_graph.specs.run_laws.specs.Views.{card_of, hops_of}
-use Rattle.net_graph.specs.run_laws.specs.Lawful.{Due, RunState, state_at, next_run, run_start, after_run}
-use Rattle.net_graph.specs.run_laws.proofs.Sizes.{whole_le, whole_nonneg}
-use Rattle.stated_runs.specs.Setups.{Setup, IsSetup, IsFirstOpen, opening_of, rate_of}
-use Rattle.stated_runs.specs.DueSteps.{IsDue, step_time}
-use Rattle.stated_runs.proofs.Lists.{contains_in}
-use Rattle.stated_runs.proofs.Routed.{place_of}
-use Rattle.stated_runs.proofs.Good.{IsGood, good_from_step}
-use Rattle.stated_runs.proofs.GoodWork.{good_work_of}
-use Rattle.stated_runs.proofs.GoodSteps.{good_next}
-use Rattle.stated_runs.proofs.Lawfulness.{good_start}
+use Rattle.upp_limits.specs.rational.specs.Rational.{ℚ, int, ◌+ℚ◌, ◌-ℚ◌, ◌*ℚ◌, ◌/ℚ◌, ◌≤ℚ◌, ◌<ℚ◌}
+use Rattle.upp_limits.specs.rational.specs.MinMax.{max_q}
+use Rattle.upp_limits.specs.rational.proofs.Linear.{with2, with3, with4, with5, with7}
+use Rattle.upp_limits.specs.rational.proofs.Laws.{le_refl, le_trans, le_of_lt, mul_le_mul, mul_comm, div_mul, not_zero, le_of_mul}
+use Rattle.upp_limits.specs.rational.proofs.Quotients.{zero_div}
+use Rattle.upp_limits.specs.rational.proofs.MinMax.{max_q_ge_left, max_q_ge_right}
+use Rattle.net_model.specs.run_laws.specs.declared.steps.Step.{Step}
+use Rattle.net_model.specs.run_laws.specs.declared.steps.Step.TheVariants.{Enter, Reach, Work, Leave, Visit}
+use Rattle.net_model.specs.run_laws.specs.Cards.{Card, whole, size}
+use Rattle.net_model.specs.run_laws.specs.Servers.{done_so_far, head_of}
+use Rattle.net_model.specs.run_laws.specs.Routes.{server_at, link_at}
+use Rattle.net_model.specs.run_laws.specs.Views.{card_of, hops_of}
+use Rattle.net_model.specs.run_laws.specs.Lawful.{Due, RunState, state_at, next_run, run_start, after_run}
+use Rattle.net_model.specs.run_laws.proofs.Sizes.{whole_le, whole_nonneg}
+use Rattle.net_model.specs.stated_runs.Setups.{Setup, IsSetup, IsFirstOpen, opening_of, rate_of}
+use Rattle.net_model.specs.stated_runs.DueSteps.{IsDue, step_time}
+use Rattle.net_model.proofs.stated_runs.Lists.{contains_in}
+use Rattle.net_model.proofs.stated_runs.Routed.{place_of}
+use Rattle.net_model.proofs.stated_runs.Good.{IsGood, good_from_step}
+use Rattle.net_model.proofs.stated_runs.GoodWork.{good_work_of}
+use Rattle.net_model.proofs.stated_runs.GoodSteps.{good_next}
+use Rattle.net_model.proofs.stated_runs.Lawfulness.{good_start}
 use Rattle.sim_bounds.specs.Horizons.{first_time, load, work_span, horizon, sum_below, span, IsForward}
-use Rattle.stated_runs.specs.Simulated.{FollowsSoFar}
+use Rattle.net_model.specs.stated_runs.Simulated.{FollowsSoFar}
 use Rattle.sim_bounds.specs.Times.{IsTimely}
 use Rattle.sim_bounds.proofs.OpenTime.{open_time}
 use Rattle.sim_bounds.proofs.Spans.{come_by, left_by, enters_by, first_nonneg, left_in_time, work_nonneg, span_nonneg, sum_nonneg}

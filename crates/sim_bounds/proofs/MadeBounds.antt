@@ -4,19 +4,19 @@ use Rattle.std.specs.Prelude.{Option, pos, Contains, ◌==◌, slice_get}
 use Rattle.std.specs.List.{AllByRecursion}
 use Rattle.std.proofs.lemmas.Bool.{cases_Bool}
 use Rattle.std.proofs.lemmas.List.{get_or-map, length-map}
-use Rattle.net_graph.specs.rational.specs.Rational.{int, ◌≤ℚ◌}
-use Rattle.net_graph.specs.rational.proofs.Laws.{le_of_lt}
-use Rattle.net_graph.specs.run_laws.specs.Routes.{Route, route_of}
-use Rattle.net_graph.specs.net_model.specs.declared.trace.TracePacket.{TracePacket}
-use Rattle.net_graph.specs.net_model.specs.declared.trace.Stall.{Stall}
-use Rattle.net_graph.specs.net_model.specs.Networks.{Net, NetServer, NetFlow}
-use Rattle.net_graph.specs.net_model.specs.NetRoutes.{hops_along, route_for, routes_of}
-use Rattle.net_graph.specs.net_model.specs.Accepted.{IsAccepted}
-use Rattle.net_graph.specs.net_model.specs.Traces.{SpecTrace, IsTrace, IsStall}
-use Rattle.net_graph.specs.net_model.specs.Walks.{IsFeedForward}
-use Rattle.stated_runs.specs.Setups.{Entering, GateTimes, StallTimes, Opening, opening_of, packet_of}
-use Rattle.stated_runs.specs.FromTraces.{gate_of, stalls_at, openings_from, entering, setup_of, IsTraceOf}
-use Rattle.stated_runs.proofs.Lists.{In, in_contains}
+use Rattle.upp_limits.specs.rational.specs.Rational.{int, ◌≤ℚ◌}
+use Rattle.upp_limits.specs.rational.proofs.Laws.{le_of_lt}
+use Rattle.net_model.specs.run_laws.specs.Routes.{Route, route_of}
+use Rattle.net_model.specs.declared.trace.TracePacket.{TracePacket}
+use Rattle.net_model.specs.declared.trace.Stall.{Stall}
+use Rattle.net_model.specs.Networks.{Net, NetServer, NetFlow}
+use Rattle.net_model.specs.NetRoutes.{hops_along, route_for, routes_of}
+use Rattle.net_model.specs.Accepted.{IsAccepted}
+use Rattle.net_model.specs.Traces.{SpecTrace, IsTrace, IsStall}
+use Rattle.net_model.specs.Walks.{IsFeedForward}
+use Rattle.net_model.specs.stated_runs.Setups.{Entering, GateTimes, StallTimes, Opening, opening_of, packet_of}
+use Rattle.net_model.specs.stated_runs.FromTraces.{gate_of, stalls_at, openings_from, entering, setup_of, IsTraceOf}
+use Rattle.net_model.proofs.stated_runs.Lists.{In, in_contains}
 use Rattle.sim_bounds.specs.Horizons.{IsRising, IsForward}
 use Rattle.sim_bounds.proofs.Members.{all_in, at_in_list}
 use Rattle.sim_bounds.proofs.Places.{place_of_server, places_grow}
@@ -89,7 +89,7 @@ pub made_forward : (net : Net) (trace : SpecTrace) → IsAccepted net → IsTrac
 made_forward net trace ok fine named free = record {
   rising = λ p h.
       let x = packet_in net trace p h in
-      let live = all_in (λ (t : TracePacket). Rattle.stated_runs.specs.FromTraces.IsLive net t.flow) trace.packets named.flows x.0 x.1 in
+      let live = all_in (λ (t : TracePacket). Rattle.net_model.specs.stated_runs.FromTraces.IsLive net t.flow) trace.packets named.flows x.0 x.1 in
       let f = live.0 in
       let r = found_route net.flows x.0.flow f live.1 in
       let there : Contains net.flows (Some f) = in_contains net.flows (Some f) r.1 in

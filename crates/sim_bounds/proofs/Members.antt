@@ -2,8 +2,8 @@
 use Rattle.std.proofs.Common.{◌≡◌, ℕ, zero, suc, ◌<◌, List, [], ◌∷◌, length, map, get_or, refl, subst, arith, inl, inr}
 use Rattle.std.specs.Prelude.{All}
 use Rattle.std.specs.List.{AllByRecursion}
-use Rattle.stated_runs.proofs.Lists.{In, in_contains}
-pub use Rattle.net_graph.specs.run_laws.proofs.Members.{has_right as in_right, has_left as in_left, has_map as in_map, has_flat as in_flat}
+use Rattle.net_model.proofs.stated_runs.Lists.{In, in_contains}
+pub use Rattle.net_model.specs.run_laws.proofs.Members.{has_right as in_right, has_left as in_left, has_map as in_map, has_flat as in_flat}
 
 pub each_in : {X : Type 0} (P : X → Type 0) (xs : List X) → AllByRecursion P xs → (x : X) → In xs x → P x
 each_in P [] a x h = absurd h

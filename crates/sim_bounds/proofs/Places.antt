@@ -6,15 +6,15 @@ use Rattle.std.specs.List.{AllByRecursion, IsDistinct}
 use Rattle.std.proofs.lemmas.Bool.{cases_Bool, cases_eq, eqb-true, eq-eqb, ne_eqb, and_parts}
 use Rattle.std.proofs.lemmas.List.{length_push}
 use Rattle.std.proofs.lemmas.Map.Steps.{length-le_from_distinct_below}
-use Rattle.net_graph.specs.net_model.specs.Networks.{Net, NetFlow}
-use Rattle.net_graph.specs.net_model.specs.Accepted.{IsAccepted}
-use Rattle.net_graph.specs.net_model.specs.Walks.{IsStep, IsNext, Chain, IsClosed, IsFeedForward}
-use Rattle.net_graph.proofs.Chains.{front_of, rest_of, joined}
-use Rattle.net_graph.proofs.Members.{is_member}
-use Rattle.net_graph.proofs.Returns.{first_in_range}
-use Rattle.stated_runs.proofs.Lists.{In, in_contains, contains_in}
+use Rattle.net_model.specs.Networks.{Net, NetFlow}
+use Rattle.net_model.specs.Accepted.{IsAccepted}
+use Rattle.net_model.specs.Walks.{IsStep, IsNext, Chain, IsClosed, IsFeedForward}
+use Rattle.net_model.proofs.net_graph.Chains.{front_of, rest_of, joined}
+use Rattle.net_model.proofs.net_graph.Members.{is_member}
+use Rattle.net_model.proofs.net_graph.Returns.{first_in_range}
+use Rattle.net_model.proofs.stated_runs.Lists.{In, in_contains, contains_in}
 use Rattle.sim_bounds.proofs.Members.{each_in}
-use Rattle.net_graph.specs.run_laws.proofs.Sums.{one_if}
+use Rattle.net_model.specs.run_laws.proofs.Sums.{one_if}
 
 -- ---- tests
 one_true : (p q : Bool) → (p || q) ≡ true → (p ≡ true) ⊎ (q ≡ true)

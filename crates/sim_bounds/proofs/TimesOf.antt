@@ -1,16 +1,16 @@
 -- The laws of times.
 use Rattle.std.proofs.Common.{◌≡◌, ℕ, List, ap, subst}
-use Rattle.net_graph.specs.rational.specs.Rational.{◌-ℚ◌, ◌/ℚ◌}
-use Rattle.net_graph.specs.rational.specs.Grid.{Whole}
-use Rattle.net_graph.specs.rational.proofs.Laws.{le_trans}
-use Rattle.net_graph.specs.run_laws.specs.declared.steps.Step.{Step}
-use Rattle.net_graph.specs.run_laws.specs.Cards.{size}
-use Rattle.net_graph.specs.run_laws.specs.Servers.{done, done_so_far}
-use Rattle.net_graph.specs.run_laws.specs.Lawful.{state_at, run_start, after_run}
-use Rattle.stated_runs.specs.Setups.{Setup, IsSetup, rate_of}
-use Rattle.stated_runs.specs.DueSteps.{IsDue}
+use Rattle.upp_limits.specs.rational.specs.Rational.{◌-ℚ◌, ◌/ℚ◌}
+use Rattle.upp_limits.specs.rational.specs.Grid.{Whole}
+use Rattle.upp_limits.specs.rational.proofs.Laws.{le_trans}
+use Rattle.net_model.specs.run_laws.specs.declared.steps.Step.{Step}
+use Rattle.net_model.specs.run_laws.specs.Cards.{size}
+use Rattle.net_model.specs.run_laws.specs.Servers.{done, done_so_far}
+use Rattle.net_model.specs.run_laws.specs.Lawful.{state_at, run_start, after_run}
+use Rattle.net_model.specs.stated_runs.Setups.{Setup, IsSetup, rate_of}
+use Rattle.net_model.specs.stated_runs.DueSteps.{IsDue}
 use Rattle.sim_bounds.specs.Horizons.{IsForward}
-use Rattle.stated_runs.specs.Simulated.{FollowsSoFar}
+use Rattle.net_model.specs.stated_runs.Simulated.{FollowsSoFar}
 use Rattle.sim_bounds.specs.Times.{IsTimely, IsGrid, IsStepOnGrid, HasTimes}
 use Rattle.sim_bounds.proofs.Levels.{clock_of}
 use Rattle.sim_bounds.proofs.Bounded.{clock_in_time, left_in_time}

@@ -3,26 +3,26 @@ use Rattle.std.proofs.Common.{◌≡◌, ℕ, zero, suc, ◌<◌, ◌≤◌, ◌
 use Rattle.std.specs.Prelude.{Option, pos}
 use Rattle.std.specs.List.{AllByRecursion}
 use Rattle.std.proofs.lemmas.Bool.{cases_eq}
-use Rattle.net_graph.specs.rational.specs.Rational.{ℚ, int, ◌+ℚ◌, ◌-ℚ◌, ◌*ℚ◌, ◌/ℚ◌, ◌≤ℚ◌}
-use Rattle.net_graph.specs.rational.specs.Grid.{Whole}
-use Rattle.net_graph.specs.rational.specs.Ratio.{IsSmall}
-use Rattle.net_graph.specs.rational.proofs.Linear.{with1, with2, with3, with4, with5, with6}
-use Rattle.net_graph.specs.rational.proofs.Laws.{le_refl, le_trans, le_of_lt, lt_le_trans, antisym, mul_le_mul_right, mul_nonneg, one_mul, not_zero}
-use Rattle.net_graph.specs.rational.proofs.Quotients.{div_nonneg}
-use Rattle.net_graph.specs.rational.proofs.Integers.{nat_le, nat_nonneg}
-use Rattle.net_graph.specs.rational.proofs.Grid.{whole_int, whole_add, whole_sub, within_nonneg, max_whole}
-use Rattle.net_graph.specs.rational.proofs.Sizes.{largest_part, small_on_grid, quotient_on_grid}
-use Rattle.net_graph.specs.run_laws.specs.Cards.{whole}
-use Rattle.net_graph.specs.run_laws.specs.Routes.{link_at}
-use Rattle.net_graph.specs.run_laws.proofs.Sizes.{whole_nonneg}
-use Rattle.net_graph.specs.net_model.specs.Networks.{Net}
-use Rattle.net_graph.specs.net_model.specs.Accepted.{IsAccepted}
-use Rattle.net_graph.specs.net_model.specs.Traces.{SpecTrace, IsTrace}
-use Rattle.net_graph.specs.net_model.specs.Walks.{IsFeedForward}
-use Rattle.stated_runs.specs.Setups.{Entering, GateTimes, StallTimes, Opening, Setup, IsSetup, IsGateFor, opening_of, rate_of}
-use Rattle.stated_runs.specs.FromTraces.{setup_of, IsTraceOf}
-use Rattle.stated_runs.specs.TimeGrids.{HasRoom, IsTime, AreStallTimes}
-use Rattle.stated_runs.proofs.MadeSetups.{traces_make_setups}
+use Rattle.upp_limits.specs.rational.specs.Rational.{ℚ, int, ◌+ℚ◌, ◌-ℚ◌, ◌*ℚ◌, ◌/ℚ◌, ◌≤ℚ◌}
+use Rattle.upp_limits.specs.rational.specs.Grid.{Whole}
+use Rattle.upp_limits.specs.rational.specs.Ratio.{IsSmall}
+use Rattle.upp_limits.specs.rational.proofs.Linear.{with1, with2, with3, with4, with5, with6}
+use Rattle.upp_limits.specs.rational.proofs.Laws.{le_refl, le_trans, le_of_lt, lt_le_trans, antisym, mul_le_mul_right, mul_nonneg, one_mul, not_zero}
+use Rattle.upp_limits.specs.rational.proofs.Quotients.{div_nonneg}
+use Rattle.upp_limits.specs.rational.proofs.Integers.{nat_le, nat_nonneg}
+use Rattle.upp_limits.specs.rational.proofs.Grid.{whole_int, whole_add, whole_sub, within_nonneg, max_whole}
+use Rattle.upp_limits.specs.rational.proofs.Sizes.{largest_part, small_on_grid, quotient_on_grid}
+use Rattle.net_model.specs.run_laws.specs.Cards.{whole}
+use Rattle.net_model.specs.run_laws.specs.Routes.{link_at}
+use Rattle.net_model.specs.run_laws.proofs.Sizes.{whole_nonneg}
+use Rattle.net_model.specs.Networks.{Net}
+use Rattle.net_model.specs.Accepted.{IsAccepted}
+use Rattle.net_model.specs.Traces.{SpecTrace, IsTrace}
+use Rattle.net_model.specs.Walks.{IsFeedForward}
+use Rattle.net_model.specs.stated_runs.Setups.{Entering, GateTimes, StallTimes, Opening, Setup, IsSetup, IsGateFor, opening_of, rate_of}
+use Rattle.net_model.specs.stated_runs.FromTraces.{setup_of, IsTraceOf}
+use Rattle.net_model.specs.stated_runs.TimeGrids.{HasRoom, IsTime, AreStallTimes}
+use Rattle.net_model.proofs.stated_runs.MadeSetups.{traces_make_setups}
 use Rattle.sim_bounds.specs.Horizons.{latest_of, first_time, load, gate_ratio, gate_cycle, stalled_for, work_span, span, sum_below, horizon, AreStalls, IsForward}
 use Rattle.sim_bounds.specs.Times.{IsGateWhole, AreStallsWhole, IsGrid}
 use Rattle.sim_bounds.specs.Gauge.{simulation_gauge, grid_of}

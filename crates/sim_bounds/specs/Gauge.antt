@@ -2,18 +2,18 @@
 -- choice.)
 use Rattle.std.specs.Prelude.{Option, Some, None, ℕ, ◌*◌, max, pos, nat_abs, Bool, ◌&&◌, List, [], ◌∷◌, ◌++◌, map, filter, sum_by}
 use Rattle.std.specs.List.{flat_map}
-use Rattle.net_graph.specs.rational.specs.Rational.{ℚ, int, ◌+ℚ◌, ◌*ℚ◌, le_q}
-use Rattle.net_graph.specs.rational.specs.Gauge.{common_den, bound_of, lcm}
-use Rattle.net_graph.specs.min_plus.specs.WholeUp.{whole_up}
-use Rattle.net_graph.specs.upp_curve.specs.Curve.{SpecCurve}
-use Rattle.net_graph.specs.upp_limits.specs.Spans.{Span, spans_below}
-use Rattle.net_graph.specs.upp_limits.specs.Limits.{Numbers, Sizes, no_numbers, joined, curve_numbers, span_values, span_slopes, twice, gauge_of}
-use Rattle.net_graph.specs.net_model.specs.declared.trace.TracePacket.{TracePacket}
-use Rattle.net_graph.specs.net_model.specs.declared.trace.Stall.{Stall}
-use Rattle.net_graph.specs.net_model.specs.Networks.{Net, NetServer, NetFlow}
-use Rattle.net_graph.specs.net_model.specs.Traces.{SpecTrace}
-use Rattle.stated_runs.specs.Setups.{GateTimes}
-use Rattle.stated_runs.specs.FromTraces.{gate_of, setup_of}
+use Rattle.upp_limits.specs.rational.specs.Rational.{ℚ, int, ◌+ℚ◌, ◌*ℚ◌, le_q}
+use Rattle.upp_limits.specs.rational.specs.Gauge.{common_den, bound_of, lcm}
+use Rattle.upp_limits.specs.min_plus.specs.WholeUp.{whole_up}
+use Rattle.upp_limits.specs.upp_curve.specs.Curve.{SpecCurve}
+use Rattle.upp_limits.specs.Spans.{Span, spans_below}
+use Rattle.upp_limits.specs.Limits.{Numbers, Sizes, no_numbers, joined, curve_numbers, span_values, span_slopes, twice, gauge_of}
+use Rattle.net_model.specs.declared.trace.TracePacket.{TracePacket}
+use Rattle.net_model.specs.declared.trace.Stall.{Stall}
+use Rattle.net_model.specs.Networks.{Net, NetServer, NetFlow}
+use Rattle.net_model.specs.Traces.{SpecTrace}
+use Rattle.net_model.specs.stated_runs.Setups.{GateTimes}
+use Rattle.net_model.specs.stated_runs.FromTraces.{gate_of, setup_of}
 use Rattle.sim_bounds.specs.Horizons.{horizon}
 
 -- ---- curves

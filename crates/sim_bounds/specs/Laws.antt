@@ -1,16 +1,16 @@
 -- The laws of the times of stated runs.
 use Rattle.std.specs.Prelude.{ℕ, ◌<◌, ◌^◌, List}
-use Rattle.net_graph.specs.run_laws.specs.declared.steps.Step.{Step}
-use Rattle.net_graph.specs.run_laws.specs.Lawful.{run_start, after_run}
-use Rattle.net_graph.specs.net_model.specs.Networks.{Net}
-use Rattle.net_graph.specs.net_model.specs.Accepted.{IsAccepted}
-use Rattle.net_graph.specs.net_model.specs.Traces.{SpecTrace, IsTrace}
-use Rattle.net_graph.specs.net_model.specs.Walks.{IsFeedForward}
-use Rattle.stated_runs.specs.Setups.{Setup, IsSetup}
-use Rattle.stated_runs.specs.FromTraces.{setup_of, IsTraceOf}
-use Rattle.stated_runs.specs.TimeGrids.{RunFits}
-use Rattle.stated_runs.specs.DueSteps.{IsDue}
-use Rattle.stated_runs.specs.Simulated.{FollowsSoFar}
+use Rattle.net_model.specs.run_laws.specs.declared.steps.Step.{Step}
+use Rattle.net_model.specs.run_laws.specs.Lawful.{run_start, after_run}
+use Rattle.net_model.specs.Networks.{Net}
+use Rattle.net_model.specs.Accepted.{IsAccepted}
+use Rattle.net_model.specs.Traces.{SpecTrace, IsTrace}
+use Rattle.net_model.specs.Walks.{IsFeedForward}
+use Rattle.net_model.specs.stated_runs.Setups.{Setup, IsSetup}
+use Rattle.net_model.specs.stated_runs.FromTraces.{setup_of, IsTraceOf}
+use Rattle.net_model.specs.stated_runs.TimeGrids.{RunFits}
+use Rattle.net_model.specs.stated_runs.DueSteps.{IsDue}
+use Rattle.net_model.specs.stated_runs.Simulated.{FollowsSoFar}
 use Rattle.sim_bounds.specs.Horizons.{horizon, IsForward}
 use Rattle.sim_bounds.specs.Times.{IsTimely, IsGrid, IsStepOnGrid, HasTimes}
 use Rattle.sim_bounds.specs.Gauge.{simulation_gauge, grid_of}

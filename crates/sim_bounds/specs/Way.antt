@@ -1,11 +1,11 @@
 -- The numbers on the way to the horizon. (Own choice.)
 use Rattle.std.specs.Prelude.{Option, Some, None, ◌≡◌, ℕ, pos, ◌<◌, ◌≤◌, List, ◌++◌, length}
-use Rattle.net_graph.specs.rational.specs.Rational.{ℚ, int, ◌+ℚ◌, ◌*ℚ◌, ◌/ℚ◌}
-use Rattle.net_graph.specs.rational.specs.Ratio.{IsSmall}
-use Rattle.net_graph.specs.run_laws.specs.Cards.{whole}
-use Rattle.net_graph.specs.run_laws.specs.Routes.{link_at}
-use Rattle.stated_runs.specs.Setups.{GateTimes, StallTimes, Setup, opening_of, rate_of}
-use Rattle.stated_runs.specs.TimeGrids.{HasRoom, IsTime, AreStallTimes}
+use Rattle.upp_limits.specs.rational.specs.Rational.{ℚ, int, ◌+ℚ◌, ◌*ℚ◌, ◌/ℚ◌}
+use Rattle.upp_limits.specs.rational.specs.Ratio.{IsSmall}
+use Rattle.net_model.specs.run_laws.specs.Cards.{whole}
+use Rattle.net_model.specs.run_laws.specs.Routes.{link_at}
+use Rattle.net_model.specs.stated_runs.Setups.{GateTimes, StallTimes, Setup, opening_of, rate_of}
+use Rattle.net_model.specs.stated_runs.TimeGrids.{HasRoom, IsTime, AreStallTimes}
 use Rattle.sim_bounds.specs.Horizons.{first_time, load, gate_ratio, stalled_for, sum_below}
 
 -- ---- the two parts of a span

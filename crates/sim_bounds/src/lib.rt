@@ -2,8 +2,10 @@
 #![tactic(auto)]
 
 mod laws;
+pub mod sim_gauge;
+pub mod stated_service;
+pub mod window_numbers;
 
 pub use laws::{
     due_steps_are_in_time, due_steps_are_on_grid, horizons_fit, simulations_fit, states_have_times,
 };
-pub use net_graph::net_model;

@@ -9,10 +9,10 @@ use Rattle.rational.proofs.Linear.{with3, with4}
 use Rattle.rational.proofs.Laws.{le_refl, le_trans, le_of_lt, lt_le_trans, lt_irrefl}
 use Rattle.rational.proofs.Quotients.{le_div, div_lt, div_nonneg}
 use Rattle.rational.proofs.Grid.{whole_times}
-use Rattle.stated_runs.specs.run_laws.specs.Cards.{whole}
-use Rattle.stated_runs.specs.Setups.{GateTimes, IsGate, IsGateOpen, IsFirstGateOpen, StaysTo}
-use Rattle.stated_runs.specs.TimeGrids.{HasRoom, IsTime}
-use Rattle.stated_runs.proofs.Opens.{next_whole, closed_after, cycle_of}
+use Rattle.net_model.specs.run_laws.specs.Cards.{whole}
+use Rattle.net_model.specs.stated_runs.Setups.{GateTimes, IsGate, IsGateOpen, IsFirstGateOpen, StaysTo}
+use Rattle.net_model.specs.stated_runs.TimeGrids.{HasRoom, IsTime}
+use Rattle.net_model.proofs.stated_runs.Opens.{next_whole, closed_after, cycle_of}
 use Rattle.sim_servers.specs.Openings.{BeginsAt}
 use Rattle.sim_servers.proofs.GridSteps.{time_fits}
 

@@ -3,7 +3,7 @@ use Rattle.std.specs.Prelude.{Option, Some, None, ◌≡◌, ◌⊎◌, ◌<◌,
 use Rattle.std.proofs.Common.{arith, refl, sym, ◌∙◌, subst, inl, inr}
 use Rattle.rational.specs.Rational.{◌≤ℚ◌, ◌<ℚ◌}
 use Rattle.rational.proofs.Laws.{le_refl, le_trans, le_of_lt, lt_irrefl, antisym}
-use Rattle.stated_runs.specs.DueSteps.{Rank, RankAtMost}
+use Rattle.net_model.specs.stated_runs.DueSteps.{Rank, RankAtMost}
 use Rattle.sim_servers.specs.declared.due.Due.{Due}
 use Rattle.sim_servers.specs.Firsts.{place_of, IsNoLater, IsFirstOf}
 

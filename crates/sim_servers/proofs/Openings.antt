@@ -3,7 +3,7 @@ use Rattle.std.specs.Prelude.{◌≡◌, ◌↔◌, ℕ, List, map}
 use Rattle.std.proofs.Common.{sym, subst}
 use Rattle.rational.specs.Rational.{ℚ, ◌≤ℚ◌}
 use Rattle.rational.proofs.Laws.{le_trans}
-use Rattle.stated_runs.specs.Setups.{Setup, IsGateOpen, IsStalled, IsOpenAt, IsFirstOpen, IsFirstOpenAt, opening_of}
+use Rattle.net_model.specs.stated_runs.Setups.{Setup, IsGateOpen, IsStalled, IsOpenAt, IsFirstOpen, IsFirstOpenAt, opening_of}
 use Rattle.sim_servers.specs.declared.opening.Opening.{Opening}
 use Rattle.sim_servers.specs.Openings.{gate_for, stall_times, opening_for, IsSameOpening, IsInOrder}
 use Rattle.sim_servers.specs.declared.opening.Span.{Span}

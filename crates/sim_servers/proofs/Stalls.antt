@@ -4,8 +4,8 @@ use Rattle.std.proofs.Common.{arith, sym, subst, inl, inr}
 use Rattle.std.proofs.lemmas.Bool.{cases_eq, cases_lt}
 use Rattle.rational.specs.Rational.{ℚ, ◌≤ℚ◌, ◌<ℚ◌}
 use Rattle.rational.proofs.Laws.{le_refl, le_trans, le_of_lt, lt_le_trans, lt_irrefl, le_or_lt}
-use Rattle.stated_runs.specs.Setups.{GateTimes, IsGateOpen, IsStalled, IsOpenAt, IsFirstGateOpen, IsFirstOpenAt, StaysTo}
-use Rattle.stated_runs.specs.TimeGrids.{IsTime, AreStallTimes}
+use Rattle.net_model.specs.stated_runs.Setups.{GateTimes, IsGateOpen, IsStalled, IsOpenAt, IsFirstGateOpen, IsFirstOpenAt, StaysTo}
+use Rattle.net_model.specs.stated_runs.TimeGrids.{IsTime, AreStallTimes}
 use Rattle.sim_servers.specs.declared.opening.Span.{Span}
 use Rattle.sim_servers.specs.Openings.{stall_times}
 

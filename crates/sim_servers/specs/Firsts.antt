@@ -1,7 +1,7 @@
 -- What is due, as the simulator keeps it, and which comes first.
 use Rattle.std.specs.Prelude.{Option, Some, None, ◌≡◌, ◌⊎◌, ℕ}
 use Rattle.rational.specs.Rational.{◌≤ℚ◌}
-use Rattle.stated_runs.specs.DueSteps.{Rank, RankAtMost}
+use Rattle.net_model.specs.stated_runs.DueSteps.{Rank, RankAtMost}
 use Rattle.sim_servers.specs.declared.due.DueKind.{DueKind}
 use Rattle.sim_servers.specs.declared.due.DueKind.TheVariants.{Resume, Leave, Reach, Enter, Start}
 use Rattle.sim_servers.specs.declared.due.Due.{Due}

@@ -3,10 +3,10 @@
 use Rattle.std.specs.Prelude.{Option, ◌≡◌, ℕ, ◌<◌, ◌≤◌, List, length, map, get_or, All, AllPairs}
 use Rattle.std.specs.Option.{option_map}
 use Rattle.rational.specs.Rational.{ℚ, ◌+ℚ◌, ◌*ℚ◌, ◌≤ℚ◌, ◌<ℚ◌}
-use Rattle.stated_runs.specs.run_laws.specs.Cards.{whole}
-use Rattle.stated_runs.specs.Setups as setups
-use Rattle.stated_runs.specs.Setups.{GateTimes, StallTimes, IsGateFor}
-use Rattle.stated_runs.specs.TimeGrids.{HasRoom, IsTime, IsGateTime, AreStallTimes}
+use Rattle.net_model.specs.run_laws.specs.Cards.{whole}
+use Rattle.net_model.specs.stated_runs.Setups as setups
+use Rattle.net_model.specs.stated_runs.Setups.{GateTimes, StallTimes, IsGateFor}
+use Rattle.net_model.specs.stated_runs.TimeGrids.{HasRoom, IsTime, IsGateTime, AreStallTimes}
 use Rattle.sim_servers.specs.declared.opening.Gate.{Gate}
 use Rattle.sim_servers.specs.declared.opening.Span.{Span}
 use Rattle.sim_servers.specs.declared.opening.Opening.{Opening}

@@ -1,13 +1,13 @@
 -- The scheduler of a server, of any discipline.
 use Rattle.std.specs.Prelude.{Some, ◌≡◌, ℕ, length}
 use Rattle.rational.specs.Rational.{ℚ}
-use Rattle.stated_runs.specs.run_laws.specs.Cards.{Works}
-use Rattle.stated_runs.specs.run_laws.specs.Servers as servers
-use Rattle.stated_runs.specs.run_laws.specs.Servers.{Under, ServerState}
-use Rattle.stated_runs.specs.run_laws.specs.Next.{next}
-use Rattle.stated_runs.specs.queue_sched.specs.Waiting.{Waits, WaitsByPriority}
-use Rattle.stated_runs.specs.queue_sched.specs.DrrStates.{WaitsInTurn, drr_goes_on}
-use Rattle.stated_runs.specs.queue_sched.specs.Moves.{fifo_goes_on, priority_goes_on}
+use Rattle.net_model.specs.run_laws.specs.Cards.{Works}
+use Rattle.net_model.specs.run_laws.specs.Servers as servers
+use Rattle.net_model.specs.run_laws.specs.Servers.{Under, ServerState}
+use Rattle.net_model.specs.run_laws.specs.Next.{next}
+use Rattle.net_model.specs.queue_sched.Waiting.{Waits, WaitsByPriority}
+use Rattle.net_model.specs.queue_sched.DrrStates.{WaitsInTurn, drr_goes_on}
+use Rattle.net_model.specs.queue_sched.Moves.{fifo_goes_on, priority_goes_on}
 use Rattle.sim_servers.specs.declared.server_queues.ServerQueues.{ServerQueues}
 use Rattle.sim_servers.specs.declared.server_queues.ServerQueues.TheVariants.{Fifo, Priority, Drr}
 

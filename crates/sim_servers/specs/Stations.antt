@@ -1,12 +1,12 @@
 -- The state of a server in a stated run, as the simulator keeps it.
 use Rattle.std.specs.Prelude.{Option, Some, None, ◌≡◌, ◌≢◌, ◌↔◌, ℕ, pos, ◌<◌, ◌^◌, [], length}
 use Rattle.rational.specs.Rational.{ℚ, int, ◌+ℚ◌, ◌-ℚ◌, ◌*ℚ◌, ◌/ℚ◌, ◌≤ℚ◌, ◌<ℚ◌}
-use Rattle.stated_runs.specs.run_laws.specs.Cards.{size}
-use Rattle.stated_runs.specs.run_laws.specs.Servers.{queue_count, Under, ServerState, done}
-use Rattle.stated_runs.specs.run_laws.specs.Routes.{server_at}
-use Rattle.stated_runs.specs.queue_sched.specs.Waiting.{HasPacket}
-use Rattle.stated_runs.specs.Setups as setups
-use Rattle.stated_runs.specs.Setups.{Setup, IsStalled, IsOpenAt, IsFirstOpen, IsFirstOpenAt, StaysTo, opening_of, rate_of}
+use Rattle.net_model.specs.run_laws.specs.Cards.{size}
+use Rattle.net_model.specs.run_laws.specs.Servers.{queue_count, Under, ServerState, done}
+use Rattle.net_model.specs.run_laws.specs.Routes.{server_at}
+use Rattle.net_model.specs.queue_sched.Waiting.{HasPacket}
+use Rattle.net_model.specs.stated_runs.Setups as setups
+use Rattle.net_model.specs.stated_runs.Setups.{Setup, IsStalled, IsOpenAt, IsFirstOpen, IsFirstOpenAt, StaysTo, opening_of, rate_of}
 use Rattle.sim_servers.specs.declared.due.Due.{Due}
 use Rattle.sim_servers.specs.declared.due.DueKind.TheVariants as kinds
 use Rattle.sim_servers.specs.declared.station.Rest.{Rest}
@@ -17,7 +17,7 @@ use Rattle.sim_servers.specs.declared.station.Station.{Station}
 use Rattle.sim_servers.specs.declared.station.Stretch.{Stretch}
 use Rattle.sim_servers.specs.Openings.{opening_for, IsInOrder, IsOver, HasOpened}
 use Rattle.rational.specs.Ratio.{IsSmall}
-use Rattle.stated_runs.specs.TimeGrids.{HasRoom, IsTime, IsGateTime, AreStallTimes}
+use Rattle.net_model.specs.stated_runs.TimeGrids.{HasRoom, IsTime, IsGateTime, AreStallTimes}
 use Rattle.sim_servers.specs.Queues.{served_by, room_of, StandFor}
 
 -- no packet is there

@@ -1,10 +1,10 @@
 //! What is due, and which of several that are due comes first.
 
 ghost use Rattle.std.specs.Prelude.{◌≡◌, ◌⊎◌, IsTrue, IsFalse};
-ghost use Rattle.stated_runs.specs.DueSteps.{RankAtMost};
+ghost use Rattle.net_model.specs.stated_runs.DueSteps.{RankAtMost};
 ghost use Rattle.sim_servers.specs.Firsts.{kind_number, place_of, IsNoLater, IsFirstOf};
 
-use stated_runs::fraction128::{Frac, is_less};
+use fraction128::{Frac, is_less};
 
 /// What is due. At equal times they come in this order.
 #[derive(Debug, Clone, Copy)]

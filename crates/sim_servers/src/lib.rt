@@ -4,10 +4,12 @@
 mod due;
 mod opening;
 mod server_queues;
+pub mod sim_loop;
+pub mod sim_states;
+pub mod stated_existence;
 mod station;
 
 pub use due::{Due, DueKind, first_of};
 pub use opening::{Gate, Opening, Span};
 pub use server_queues::ServerQueues;
-pub use stated_runs::{fraction128, net_model, queue_sched};
 pub use station::{Next, Rest, Station, Stretch, due_of, rest_of};

@@ -2,10 +2,10 @@
 
 ghost use Rattle.std.specs.Prelude.{◌≡◌, ◌≤◌, Some, length};
 ghost use Rattle.rational.specs.Rational.{◌≤ℚ◌, ◌<ℚ◌};
-ghost use Rattle.stated_runs.specs.Setups.{IsGate, IsGateFor, IsGateOpen, IsOpenAt, IsFirstGateOpen, IsFirstOpenAt, StaysTo};
+ghost use Rattle.net_model.specs.stated_runs.Setups.{IsGate, IsGateFor, IsGateOpen, IsOpenAt, IsFirstGateOpen, IsFirstOpenAt, StaysTo};
 ghost use Rattle.sim_servers.specs.Openings.{gate_times, gate_for, times_of, opening_for, BeginsAt, AreInOrder, AreOver, AreToCome, IsInOrder, IsOver, HasOpened, IsSameOpening, GateRoom, OpeningRoom};
 
-use stated_runs::fraction128::{Frac, is_less, product, quotient, sum};
+use fraction128::{Frac, is_less, product, quotient, sum};
 
 /// A gate is open for a slot at the beginning of each cycle.
 #[derive(Debug, Clone, Copy)]

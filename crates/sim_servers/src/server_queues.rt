@@ -1,13 +1,13 @@
 //! The queues of a server, by its discipline.
 
 ghost use Rattle.std.specs.Prelude.{◌≡◌, IfOk};
-ghost use Rattle.stated_runs.specs.run_laws.specs.Servers.{start};
-ghost use Rattle.stated_runs.specs.net_model.specs.Accepted.{HasFewQueues};
-ghost use Rattle.stated_runs.specs.net_model.specs.Views.{discipline_of};
+ghost use Rattle.net_model.specs.run_laws.specs.Servers.{start};
+ghost use Rattle.net_model.specs.Accepted.{HasFewQueues};
+ghost use Rattle.net_model.specs.Views.{discipline_of};
 ghost use Rattle.sim_servers.specs.Queues.{served_by, room_of, StandFor};
 
-use stated_runs::net_model::Discipline;
-use stated_runs::queue_sched::{DrrSched, FifoSched, PrioritySched, Scheduler, Turn};
+use net_model::Discipline;
+use net_model::queue_sched::{DrrSched, FifoSched, PrioritySched, Scheduler, Turn};
 use std::alloc::{AllocError, Global};
 
 /// The scheduler of a server, of any discipline.

@@ -2,12 +2,12 @@
 
 ghost use Rattle.std.specs.Prelude.{◌≡◌, ℕ, ◌<◌, ◌≤◌, pos, Some};
 ghost use Rattle.rational.specs.Rational.{ℚ, int, ◌≤ℚ◌, ◌<ℚ◌};
-ghost use Rattle.stated_runs.specs.run_laws.specs.Cards.{Card, Arrives, Leaves};
-ghost use Rattle.stated_runs.specs.run_laws.specs.Servers.{Under, ServerState};
-ghost use Rattle.stated_runs.specs.run_laws.specs.Next.{next};
-ghost use Rattle.stated_runs.specs.run_laws.specs.Routes.{server_at};
-ghost use Rattle.stated_runs.specs.queue_sched.specs.Turns.{IsCard};
-ghost use Rattle.stated_runs.specs.Setups.{Setup};
+ghost use Rattle.net_model.specs.run_laws.specs.Cards.{Card, Arrives, Leaves};
+ghost use Rattle.net_model.specs.run_laws.specs.Servers.{Under, ServerState};
+ghost use Rattle.net_model.specs.run_laws.specs.Next.{next};
+ghost use Rattle.net_model.specs.run_laws.specs.Routes.{server_at};
+ghost use Rattle.net_model.specs.queue_sched.Turns.{IsCard};
+ghost use Rattle.net_model.specs.stated_runs.Setups.{Setup};
 ghost use Rattle.sim_servers.specs.Openings.{opening_for, IsInOrder, IsOver, HasOpened, IsSameOpening, OpeningRoom};
 ghost use Rattle.sim_servers.specs.Queues.{room_of};
 ghost use Rattle.sim_servers.specs.Stations.{IsStation, due_for, rest_for, MayTake, MayLose, IsBeforeStart, IsWorkOf, IsAfterWork, IsWithOneMore, IsWithOneLess, IsNextWork, WorkRoom};
@@ -15,8 +15,8 @@ ghost use Rattle.sim_servers.specs.Stations.{IsStation, due_for, rest_for, MayTa
 use crate::due::{Due, DueKind};
 use crate::opening::Opening;
 use crate::server_queues::ServerQueues;
-use stated_runs::fraction128::{Frac, difference, is_less, product, sum};
-use stated_runs::queue_sched::Scheduler;
+use fraction128::{Frac, difference, is_less, product, sum};
+use net_model::queue_sched::Scheduler;
 
 /// What is due at a server after its steps so far.
 #[derive(Debug, Clone, Copy)]

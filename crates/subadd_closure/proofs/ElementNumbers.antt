@@ -3,29 +3,29 @@
 use Rattle.std.specs.Prelude.{◌≡◌, ◌<◌, ◌^◌, pos, List, [], ◌∷◌}
 use Rattle.std.specs.List.{AllByRecursion}
 use Rattle.std.proofs.Common.{arith, sym, subst, inl, inr}
-use Rattle.curve_pointwise.specs.rational.specs.Rational.{ℚ, ◌+ℚ◌, ◌-ℚ◌, ◌≤ℚ◌, ◌<ℚ◌, int}
-use Rattle.curve_pointwise.specs.rational.specs.Grid.{Whole, Within}
-use Rattle.curve_pointwise.specs.rational.specs.Extended.{Ext}
-use Rattle.curve_pointwise.specs.rational.specs.declared.Extended.TheVariants.{Fin, Inf}
-use Rattle.curve_pointwise.specs.rational.proofs.Linear.{with2}
-use Rattle.curve_pointwise.specs.rational.proofs.Laws.{le_refl, le_of_lt, le_trans, not_zero}
-use Rattle.curve_pointwise.specs.rational.proofs.Grid.{whole_add, whole_sub, within_sub}
-use Rattle.curve_pointwise.specs.affine_segment.specs.declared.line.Line.{Line}
-use Rattle.curve_pointwise.specs.affine_segment.specs.declared.line.Piece.{Piece}
-use Rattle.curve_pointwise.specs.affine_segment.specs.declared.element.Element.TheVariants.{Open}
-use Rattle.curve_pointwise.specs.upp_curve.specs.declared.curve.Tail.{Tail}
-use Rattle.curve_pointwise.specs.upp_curve.specs.declared.curve.Tail.TheVariants.{Periodic, Affine, Infinite}
-use Rattle.curve_pointwise.specs.upp_curve.specs.Curve.{SpecCurve}
-use Rattle.curve_pointwise.specs.min_plus.specs.Functions.{zero_q}
-use Rattle.curve_pointwise.specs.affine_segment.specs.Pieces.{Each, StartsAtZero}
-use Rattle.curve_pointwise.specs.upp_curve.specs.Normal.{IsRaw, IsNormal}
-use Rattle.curve_pointwise.specs.upp_curve.specs.Steady.{rank_of}
-use Rattle.curve_pointwise.specs.upp_limits.specs.Spans.{spans}
-use Rattle.curve_pointwise.specs.upp_limits.specs.Limits.{Sizes, own_end, own_sizes, own_gauge}
-use Rattle.curve_pointwise.specs.upp_limits.specs.Sized.{TailStands, SpanStands, grid_of, times_largest}
-use Rattle.curve_pointwise.specs.upp_normal.specs.Operand.{AreLimited}
-use Rattle.curve_pointwise.specs.upp_limits.proofs.CurveStands.{own_are_sizes, own_stands, starts_below_own_end}
-use Rattle.curve_pointwise.specs.upp_normal.proofs.StretchSizes.{time_whole, time_within, times_fit, small_quotient}
+use Rattle.upp_limits.specs.rational.specs.Rational.{ℚ, ◌+ℚ◌, ◌-ℚ◌, ◌≤ℚ◌, ◌<ℚ◌, int}
+use Rattle.upp_limits.specs.rational.specs.Grid.{Whole, Within}
+use Rattle.upp_limits.specs.rational.specs.Extended.{Ext}
+use Rattle.upp_limits.specs.rational.specs.declared.Extended.TheVariants.{Fin, Inf}
+use Rattle.upp_limits.specs.rational.proofs.Linear.{with2}
+use Rattle.upp_limits.specs.rational.proofs.Laws.{le_refl, le_of_lt, le_trans, not_zero}
+use Rattle.upp_limits.specs.rational.proofs.Grid.{whole_add, whole_sub, within_sub}
+use Rattle.upp_limits.specs.upp_curve.specs.declared.affine_segment.line.Line.{Line}
+use Rattle.upp_limits.specs.upp_curve.specs.declared.affine_segment.line.Piece.{Piece}
+use Rattle.upp_limits.specs.upp_curve.specs.declared.affine_segment.element.Element.TheVariants.{Open}
+use Rattle.upp_limits.specs.upp_curve.specs.declared.curve.Tail.{Tail}
+use Rattle.upp_limits.specs.upp_curve.specs.declared.curve.Tail.TheVariants.{Periodic, Affine, Infinite}
+use Rattle.upp_limits.specs.upp_curve.specs.Curve.{SpecCurve}
+use Rattle.upp_limits.specs.min_plus.specs.Functions.{zero_q}
+use Rattle.upp_limits.specs.upp_curve.specs.affine_segment.Pieces.{Each, StartsAtZero}
+use Rattle.upp_limits.specs.upp_curve.specs.Normal.{IsRaw, IsNormal}
+use Rattle.upp_limits.specs.upp_curve.specs.Steady.{rank_of}
+use Rattle.upp_limits.specs.Spans.{spans}
+use Rattle.upp_limits.specs.Limits.{Sizes, own_end, own_sizes, own_gauge}
+use Rattle.upp_limits.specs.Sized.{TailStands, SpanStands, grid_of, times_largest}
+use Rattle.upp_normal.specs.Operand.{AreLimited}
+use Rattle.upp_limits.proofs.CurveStands.{own_are_sizes, own_stands, starts_below_own_end}
+use Rattle.upp_normal.proofs.StretchSizes.{time_whole, time_within, times_fit, small_quotient}
 use Rattle.element_envelope.specs.PieceElements.{next_start, elements_of, Among}
 use Rattle.element_envelope.proofs.Members.{among_cases}
 use Rattle.element_envelope.proofs.Cover.{head, head_cases, cover}
@@ -33,8 +33,8 @@ use Rattle.subadd_closure.specs.CurveParts.{pieces_end}
 use Rattle.subadd_closure.proofs.ElementTimes.{starts_nonneg}
 use Rattle.subadd_closure.proofs.EachParts.{starts_before}
 use Rattle.subadd_closure.specs.SegmentLimits.{IsElementOf, LengthsFit}
-use Rattle.curve_pointwise.specs.upp_limits.proofs.KnownNumbers.{two_ones}
-use Rattle.curve_pointwise.specs.upp_limits.proofs.FewCopies.{end_is}
+use Rattle.upp_limits.proofs.KnownNumbers.{two_ones}
+use Rattle.upp_limits.proofs.FewCopies.{end_is}
 
 -- ---- times
 -- on the grid of times, up to the end of a window

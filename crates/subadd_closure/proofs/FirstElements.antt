@@ -1,29 +1,29 @@
 -- The first elements of a finite curve: the point at 0, and the segment after it.
 use Rattle.std.specs.Prelude.{◌≡◌, ◌≤◌, List, [], ◌∷◌, ◌++◌, length, map, Option, Some, None, Result, Err}
 use Rattle.std.proofs.Common.{arith, sym, refl, ap, ◌∙◌, subst, get_or}
-use Rattle.curve_pointwise.specs.rational.specs.Rational.{ℚ, ◌≤ℚ◌, ◌<ℚ◌}
-use Rattle.curve_pointwise.specs.rational.specs.Extended.{Ext, ◌<ₑ◌}
-use Rattle.curve_pointwise.specs.rational.specs.declared.Extended.TheVariants.{Fin, Inf}
-use Rattle.curve_pointwise.specs.rational.proofs.Laws.{le_refl, le_of_lt, le_lt_trans}
-use Rattle.curve_pointwise.specs.rational.proofs.ExtendedOrder.{lt_ext_trans}
-use Rattle.curve_pointwise.specs.affine_segment.specs.declared.line.Line.{Line}
-use Rattle.curve_pointwise.specs.affine_segment.specs.declared.line.Piece.{Piece}
-use Rattle.curve_pointwise.specs.affine_segment.specs.declared.element.Element.{Element}
-use Rattle.curve_pointwise.specs.affine_segment.specs.declared.element.Element.TheVariants.{Point, Open}
-use Rattle.curve_pointwise.specs.affine_segment.specs.Values.{line_value}
-use Rattle.curve_pointwise.specs.upp_curve.specs.declared.curve.Tail.{Tail}
-use Rattle.curve_pointwise.specs.upp_curve.specs.declared.curve.Tail.TheVariants.{Periodic, Affine, Infinite}
-use Rattle.curve_pointwise.specs.upp_curve.specs.Curve.{SpecCurve, with_tail, value_at}
-use Rattle.curve_pointwise.specs.affine_segment.specs.Reading.{read}
-use Rattle.curve_pointwise.specs.min_plus.specs.Functions.{zero_q, IsFinite}
-use Rattle.curve_pointwise.specs.affine_segment.specs.Pieces.{RisesFrom, StartsAtZero}
-use Rattle.curve_pointwise.specs.upp_curve.specs.Normal.{TailFits, IsRaw}
-use Rattle.curve_pointwise.specs.affine_segment.proofs.PieceIn.{value_past, read_one, read_stop, value_by}
-use Rattle.curve_pointwise.specs.upp_curve.proofs.Repeats.{repeated_first}
+use Rattle.upp_limits.specs.rational.specs.Rational.{ℚ, ◌≤ℚ◌, ◌<ℚ◌}
+use Rattle.upp_limits.specs.rational.specs.Extended.{Ext, ◌<ₑ◌}
+use Rattle.upp_limits.specs.rational.specs.declared.Extended.TheVariants.{Fin, Inf}
+use Rattle.upp_limits.specs.rational.proofs.Laws.{le_refl, le_of_lt, le_lt_trans}
+use Rattle.upp_limits.specs.rational.proofs.ExtendedOrder.{lt_ext_trans}
+use Rattle.upp_limits.specs.upp_curve.specs.declared.affine_segment.line.Line.{Line}
+use Rattle.upp_limits.specs.upp_curve.specs.declared.affine_segment.line.Piece.{Piece}
+use Rattle.upp_limits.specs.upp_curve.specs.declared.affine_segment.element.Element.{Element}
+use Rattle.upp_limits.specs.upp_curve.specs.declared.affine_segment.element.Element.TheVariants.{Point, Open}
+use Rattle.upp_limits.specs.upp_curve.specs.affine_segment.Values.{line_value}
+use Rattle.upp_limits.specs.upp_curve.specs.declared.curve.Tail.{Tail}
+use Rattle.upp_limits.specs.upp_curve.specs.declared.curve.Tail.TheVariants.{Periodic, Affine, Infinite}
+use Rattle.upp_limits.specs.upp_curve.specs.Curve.{SpecCurve, with_tail, value_at}
+use Rattle.upp_limits.specs.upp_curve.specs.affine_segment.Reading.{read}
+use Rattle.upp_limits.specs.min_plus.specs.Functions.{zero_q, IsFinite}
+use Rattle.upp_limits.specs.upp_curve.specs.affine_segment.Pieces.{RisesFrom, StartsAtZero}
+use Rattle.upp_limits.specs.upp_curve.specs.Normal.{TailFits, IsRaw}
+use Rattle.upp_limits.specs.upp_curve.proofs.affine_segment.PieceIn.{value_past, read_one, read_stop, value_by}
+use Rattle.upp_limits.specs.upp_curve.proofs.Repeats.{repeated_first}
 use Rattle.element_envelope.specs.PieceElements.{point_of, segment_of, next_start, elements_of, StartBefore}
-use Rattle.curve_pointwise.specs.upp_limits.specs.declared.op_kind.OpFault.{OpFault}
-use Rattle.curve_pointwise.specs.upp_limits.specs.declared.op_kind.OpFault.TheVariants.{NoMemory}
-use Rattle.curve_pointwise.specs.curve_call.specs.Calls.{stops}
+use Rattle.upp_limits.specs.declared.op_kind.OpFault.{OpFault}
+use Rattle.upp_limits.specs.declared.op_kind.OpFault.TheVariants.{NoMemory}
+use Rattle.plain_operators.specs.curve_call.specs.Calls.{stops}
 use Rattle.subadd_closure.specs.CurveParts.{pieces_end, part_of, parts_of}
 use Rattle.subadd_closure.specs.Folds.{CloseAnswer}
 use Rattle.subadd_closure.proofs.EachParts.{starts_before}

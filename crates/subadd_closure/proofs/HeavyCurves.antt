@@ -1,16 +1,16 @@
 -- A curve that repeats and whose own gauge is 2 ^ 120 or more is too wide for any call.
 use Rattle.std.specs.Prelude.{◌≡◌, ◌≤◌, ◌^◌, pos, List}
 use Rattle.std.proofs.Common.{arith, sym, subst}
-use Rattle.curve_pointwise.specs.rational.specs.Rational.{ℚ, ◌+ℚ◌, ◌≤ℚ◌, ◌<ℚ◌, int}
-use Rattle.curve_pointwise.specs.rational.specs.Grid.{Whole}
-use Rattle.curve_pointwise.specs.rational.proofs.Grid.{whole_add}
-use Rattle.curve_pointwise.specs.affine_segment.specs.declared.line.Piece.{Piece}
-use Rattle.curve_pointwise.specs.upp_curve.specs.declared.curve.Tail.TheVariants.{Periodic}
-use Rattle.curve_pointwise.specs.upp_curve.specs.Curve.{SpecCurve}
-use Rattle.curve_pointwise.specs.upp_limits.specs.Limits.{curve_numbers, own_end, own_sizes, own_gauge}
-use Rattle.curve_pointwise.specs.upp_normal.proofs.GaugeRises.{curve_earlier, least_sizes}
+use Rattle.upp_limits.specs.rational.specs.Rational.{ℚ, ◌+ℚ◌, ◌≤ℚ◌, ◌<ℚ◌, int}
+use Rattle.upp_limits.specs.rational.specs.Grid.{Whole}
+use Rattle.upp_limits.specs.rational.proofs.Grid.{whole_add}
+use Rattle.upp_limits.specs.upp_curve.specs.declared.affine_segment.line.Piece.{Piece}
+use Rattle.upp_limits.specs.upp_curve.specs.declared.curve.Tail.TheVariants.{Periodic}
+use Rattle.upp_limits.specs.upp_curve.specs.Curve.{SpecCurve}
+use Rattle.upp_limits.specs.Limits.{curve_numbers, own_end, own_sizes, own_gauge}
+use Rattle.upp_normal.proofs.GaugeRises.{curve_earlier, least_sizes}
 use Rattle.subadd_closure.specs.Heavy.{IsHeavy}
-use Rattle.curve_pointwise.specs.upp_limits.proofs.FewCopies.{end_is}
+use Rattle.upp_limits.proofs.FewCopies.{end_is}
 
 -- ---- numbers that hold a longer window's numbers hold a shorter one's
 

@@ -2,13 +2,13 @@
 -- of the closure.
 use Rattle.std.specs.Prelude.{◌≡◌, ℕ, Option, Some, None, Result, Ok, Err}
 use Rattle.std.proofs.Common.{sym, refl, ap, ◌∙◌, subst}
-use Rattle.curve_pointwise.specs.rational.specs.Rational.{ℚ}
-use Rattle.curve_pointwise.specs.affine_segment.specs.declared.element.Element.{Element}
-use Rattle.curve_pointwise.specs.upp_limits.specs.declared.op_kind.OpKind.TheVariants.{Min, Convolve}
-use Rattle.curve_pointwise.specs.upp_limits.specs.declared.op_kind.OpFault.{OpFault}
-use Rattle.curve_pointwise.specs.upp_limits.specs.declared.op_kind.OpFault.TheVariants.{NoMemory}
-use Rattle.curve_pointwise.specs.upp_curve.specs.Curve.{SpecCurve}
-use Rattle.curve_pointwise.specs.curve_call.specs.Calls.{Applies, Then, goes_on, stops}
+use Rattle.upp_limits.specs.rational.specs.Rational.{ℚ}
+use Rattle.upp_limits.specs.upp_curve.specs.declared.affine_segment.element.Element.{Element}
+use Rattle.upp_limits.specs.declared.op_kind.OpKind.TheVariants.{Min, Convolve}
+use Rattle.upp_limits.specs.declared.op_kind.OpFault.{OpFault}
+use Rattle.upp_limits.specs.declared.op_kind.OpFault.TheVariants.{NoMemory}
+use Rattle.upp_limits.specs.upp_curve.specs.Curve.{SpecCurve}
+use Rattle.plain_operators.specs.curve_call.specs.Calls.{Applies, Then, goes_on, stops}
 use Rattle.subadd_closure.specs.ElementAnswers.{IsElementClosure}
 use Rattle.subadd_closure.specs.Lattices.{lattice_curve, origin_curve}
 use Rattle.subadd_closure.specs.declared.part.Copies.{Copies}

@@ -1,22 +1,22 @@
 -- A convolution's window with the value at 0 set to another that has room: it is an answer of the same call.
 use Rattle.std.specs.Prelude.{◌≡◌, ℕ, ◌+◌, List, [], ◌∷◌}
 use Rattle.std.proofs.Common.{arith, sym, subst}
-use Rattle.curve_pointwise.specs.rational.specs.Rational.{ℚ, ◌+ℚ◌, ◌-ℚ◌, ◌≤ℚ◌, ◌<ℚ◌}
-use Rattle.curve_pointwise.specs.rational.specs.Grid.{Whole}
-use Rattle.curve_pointwise.specs.rational.specs.Extended.{Ext, ◌≤ₑ◌, ◌+ₑ◌}
-use Rattle.curve_pointwise.specs.rational.proofs.Linear.{with3}
-use Rattle.curve_pointwise.specs.rational.proofs.Laws.{le_refl, le_of_lt}
-use Rattle.curve_pointwise.specs.affine_segment.specs.declared.line.Piece.{Piece}
-use Rattle.curve_pointwise.specs.affine_segment.specs.Reading.{read}
-use Rattle.curve_pointwise.specs.upp_curve.specs.Curve.{SpecCurve}
-use Rattle.curve_pointwise.specs.min_plus.specs.Functions.{zero_q}
-use Rattle.curve_pointwise.specs.upp_limits.specs.Limits.{Sizes}
-use Rattle.curve_pointwise.specs.affine_segment.specs.Pieces.{Each, StartsAtZero}
-use Rattle.curve_pointwise.specs.affine_segment.proofs.PieceOrder.{each_map}
-use Rattle.curve_pointwise.specs.curve_call.proofs.TailGrids.{TailOf}
-use Rattle.curve_pointwise.specs.curve_call.specs.declared.frame.Frame.{Frame}
-use Rattle.curve_pointwise.specs.curve_call.specs.Answering.{IsAnswerWindow}
-use Rattle.curve_pointwise.proofs.LatticeCalls.{from_whole}
+use Rattle.upp_limits.specs.rational.specs.Rational.{ℚ, ◌+ℚ◌, ◌-ℚ◌, ◌≤ℚ◌, ◌<ℚ◌}
+use Rattle.upp_limits.specs.rational.specs.Grid.{Whole}
+use Rattle.upp_limits.specs.rational.specs.Extended.{Ext, ◌≤ₑ◌, ◌+ₑ◌}
+use Rattle.upp_limits.specs.rational.proofs.Linear.{with3}
+use Rattle.upp_limits.specs.rational.proofs.Laws.{le_refl, le_of_lt}
+use Rattle.upp_limits.specs.upp_curve.specs.declared.affine_segment.line.Piece.{Piece}
+use Rattle.upp_limits.specs.upp_curve.specs.affine_segment.Reading.{read}
+use Rattle.upp_limits.specs.upp_curve.specs.Curve.{SpecCurve}
+use Rattle.upp_limits.specs.min_plus.specs.Functions.{zero_q}
+use Rattle.upp_limits.specs.Limits.{Sizes}
+use Rattle.upp_limits.specs.upp_curve.specs.affine_segment.Pieces.{Each, StartsAtZero}
+use Rattle.upp_limits.specs.upp_curve.proofs.affine_segment.PieceOrder.{each_map}
+use Rattle.plain_operators.specs.curve_call.proofs.TailGrids.{TailOf}
+use Rattle.plain_operators.specs.curve_call.specs.declared.frame.Frame.{Frame}
+use Rattle.plain_operators.specs.curve_call.specs.Answering.{IsAnswerWindow}
+use Rattle.plain_operators.proofs.pointwise.LatticeCalls.{from_whole}
 use Rattle.element_envelope.specs.SumWindows.{SumValueAt, SumPiece, SumWindow}
 use Rattle.element_envelope.specs.Arches.{Arches}
 use Rattle.element_envelope.proofs.SumRoom.{pieces_room}
@@ -24,7 +24,7 @@ use Rattle.element_envelope.proofs.ArchBends.{sums_on_grids}
 use Rattle.subadd_closure.specs.Starting.{first_at}
 use Rattle.subadd_closure.proofs.Starts.{read_past}
 use Rattle.subadd_closure.proofs.Windowed.{IsConvolved, stands_of, arches_of, from_some}
-use Rattle.curve_pointwise.proofs.LatticeAnswers.{back}
+use Rattle.plain_operators.proofs.pointwise.LatticeAnswers.{back}
 use Rattle.curve_conv.proofs.ConvolveAnswers.{rise_room}
 
 -- ---- the window

@@ -2,10 +2,10 @@
 -- their curves, the last that is counted is within its limits, and so is the segment of the part that comes next. So no
 -- limit of a counted call, and none of the segment after it, is told as want of memory. Own choice.
 use Rattle.std.specs.Prelude.{◌≡◌, ◌⊎◌, ℕ, ◌+◌, ◌≤◌, List, [], ◌∷◌, ◌++◌, Ok, Err}
-use Rattle.curve_pointwise.specs.upp_limits.specs.declared.op_kind.OpKind.TheVariants.{Convolve}
-use Rattle.curve_pointwise.specs.upp_limits.specs.declared.op_kind.OpFault.TheVariants.{NoMemory}
-use Rattle.curve_pointwise.specs.upp_curve.specs.Curve.{SpecCurve}
-use Rattle.curve_pointwise.specs.curve_call.specs.Calls.{Applies}
+use Rattle.upp_limits.specs.declared.op_kind.OpKind.TheVariants.{Convolve}
+use Rattle.upp_limits.specs.declared.op_kind.OpFault.TheVariants.{NoMemory}
+use Rattle.upp_limits.specs.upp_curve.specs.Curve.{SpecCurve}
+use Rattle.plain_operators.specs.curve_call.specs.Calls.{Applies}
 use Rattle.subadd_closure.specs.declared.part.Part.{Part}
 use Rattle.subadd_closure.specs.CurveParts.{parts_of}
 use Rattle.subadd_closure.specs.Folds.{segment_number, SegmentWithin, PartAnswer, PartsAnswer}

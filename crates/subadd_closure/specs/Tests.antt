@@ -1,10 +1,10 @@
 -- The two calls that tell whether a curve is subadditive. Own choice.
 use Rattle.std.specs.Prelude.{◌≡◌, ℕ, ◌+◌, Bool, Result, Ok}
-use Rattle.curve_pointwise.specs.upp_limits.specs.declared.op_kind.OpKind.TheVariants.{Min, Convolve}
-use Rattle.curve_pointwise.specs.upp_limits.specs.declared.op_kind.OpFault.{OpFault}
-use Rattle.curve_pointwise.specs.upp_curve.specs.Curve.{SpecCurve}
-use Rattle.curve_pointwise.specs.upp_limits.specs.Outcome.{IsWithin, KeepsLimits}
-use Rattle.curve_pointwise.specs.curve_call.specs.Calls.{Applies, Then}
+use Rattle.upp_limits.specs.declared.op_kind.OpKind.TheVariants.{Min, Convolve}
+use Rattle.upp_limits.specs.declared.op_kind.OpFault.{OpFault}
+use Rattle.upp_limits.specs.upp_curve.specs.Curve.{SpecCurve}
+use Rattle.upp_limits.specs.Outcome.{IsWithin, KeepsLimits}
+use Rattle.plain_operators.specs.curve_call.specs.Calls.{Applies, Then}
 
 -- the convolution of f with itself, and then the lesser of f and that: a refusal is the first one's that is over its
 -- limit

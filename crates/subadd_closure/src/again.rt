@@ -1,30 +1,30 @@
 //! The call of a convolution once more: its pieces below the end of its window, and by how much it rises over a period.
 
 ghost use Rattle.std.specs.Prelude.{◌≡◌, IfOk};
-ghost use Rattle.curve_pointwise.specs.rational.specs.Extended.{◌<ₑ◌, ◌≤ₑ◌};
-ghost use Rattle.curve_pointwise.specs.rational.specs.declared.Extended.TheVariants.{Fin};
-ghost use Rattle.curve_pointwise.specs.affine_segment.specs.Reading.{read};
-ghost use Rattle.curve_pointwise.specs.min_plus.specs.Convolution.{IsSubadditive};
-ghost use Rattle.curve_pointwise.specs.min_plus.specs.Functions.{zero_q};
-ghost use Rattle.curve_pointwise.specs.upp_curve.specs.Curve.{value_at};
-ghost use Rattle.curve_pointwise.specs.upp_curve.specs.Curves.{IsCurve};
-ghost use Rattle.curve_pointwise.specs.upp_curve.specs.Steady.{rate, rise_over};
-ghost use Rattle.curve_pointwise.specs.upp_curve.specs.Unrolled.{unroll};
+ghost use Rattle.upp_limits.specs.rational.specs.Extended.{◌<ₑ◌, ◌≤ₑ◌};
+ghost use Rattle.upp_limits.specs.rational.specs.declared.Extended.TheVariants.{Fin};
+ghost use Rattle.upp_limits.specs.upp_curve.specs.affine_segment.Reading.{read};
+ghost use Rattle.upp_limits.specs.min_plus.specs.Convolution.{IsSubadditive};
+ghost use Rattle.upp_limits.specs.min_plus.specs.Functions.{zero_q};
+ghost use Rattle.upp_limits.specs.upp_curve.specs.Curve.{value_at};
+ghost use Rattle.upp_limits.specs.upp_curve.specs.Curves.{IsCurve};
+ghost use Rattle.upp_limits.specs.upp_curve.specs.Steady.{rate, rise_over};
+ghost use Rattle.upp_limits.specs.upp_curve.specs.Unrolled.{unroll};
 ghost use Rattle.element_envelope.specs.ConvolutionWindows.{OperandWindows, IsConvolutionWindow};
 ghost use Rattle.curve_conv.specs.ConvolveCall.{IsConvolveFrame};
-ghost use Rattle.curve_pointwise.specs.Lattice.{RisesBy};
+ghost use Rattle.plain_operators.specs.pointwise.Lattice.{RisesBy};
 ghost use Rattle.subadd_closure.specs.Thinned.{MayThin};
 
 use crate::thinned::thinned;
 use curve_conv::is_slower_curve;
-use curve_pointwise::affine_segment::Piece;
-use curve_pointwise::curve_call::{Frame, rise_over};
-use curve_pointwise::fraction128::Frac;
-use curve_pointwise::rational::Extended;
-use curve_pointwise::upp_curve::Curve;
-use curve_pointwise::upp_normal::unrolled;
 use element_envelope::{cut, envelope, window_convolution};
+use plain_operators::curve_call::{Frame, rise_over};
 use std::alloc::{AllocError, Global};
+use upp_limits::fraction128::Frac;
+use upp_limits::rational::Extended;
+use upp_limits::upp_curve::Curve;
+use upp_limits::upp_curve::affine_segment::Piece;
+use upp_normal::unrolled;
 
 // The pieces of the convolution, of which `left` and `right` are the operands' pieces: with the elements of the second
 // left out that are nowhere below the first, where these are at least half.

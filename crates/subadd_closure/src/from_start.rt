@@ -1,12 +1,12 @@
 //! The convolution of two curves with the value at 0 set.
 
 ghost use Rattle.std.specs.Prelude.{◌≡◌, ◌+◌, IfOk, IsTrue};
-ghost use Rattle.curve_pointwise.specs.rational.specs.Rational.{◌≤ℚ◌};
-ghost use Rattle.curve_pointwise.specs.upp_curve.specs.Curve.{value_at};
-ghost use Rattle.curve_pointwise.specs.min_plus.specs.Functions.{IsNonnegative, zero_q};
-ghost use Rattle.curve_pointwise.specs.upp_limits.specs.declared.op_kind.OpKind.TheVariants.{Convolve};
+ghost use Rattle.upp_limits.specs.rational.specs.Rational.{◌≤ℚ◌};
+ghost use Rattle.upp_limits.specs.upp_curve.specs.Curve.{value_at};
+ghost use Rattle.upp_limits.specs.min_plus.specs.Functions.{IsNonnegative, zero_q};
+ghost use Rattle.upp_limits.specs.declared.op_kind.OpKind.TheVariants.{Convolve};
 ghost use Rattle.curve_conv.specs.ConvolveCall.{IsConvolveFrame};
-ghost use Rattle.curve_pointwise.specs.curve_call.specs.Calls.{Applies, Then};
+ghost use Rattle.plain_operators.specs.curve_call.specs.Calls.{Applies, Then};
 ghost use Rattle.subadd_closure.specs.StartsAt.{ConvolvesFinitely, ConvolvesPastZero, StartsAt};
 ghost use Rattle.subadd_closure.specs.Thinned.{MayThin};
 
@@ -14,14 +14,14 @@ use crate::again::{slower_rise, window_of};
 use crate::parts::{repeats_start, with_first};
 use crate::star_convolution::{convolve_stars, star_frame};
 use crate::starting::with_start;
-use curve_pointwise::curve_call::{Frame, answer, intact};
-use curve_pointwise::fraction128::{Frac, difference};
-use curve_pointwise::rational::Extended;
-use curve_pointwise::upp_curve::Curve;
-use curve_pointwise::upp_limits::OpFault;
+use plain_operators::curve_call::{Frame, answer, intact};
 use std::alloc::{AllocError, Global};
 use std::sync::ledger::Ledger;
 use steps::Steps;
+use upp_limits::OpFault;
+use upp_limits::fraction128::{Frac, difference};
+use upp_limits::rational::Extended;
+use upp_limits::upp_curve::Curve;
 
 // Whether the value at 0 is known to be `start`.
 fn begins_at(c: &Curve, start: Frac) -> bool

@@ -2,19 +2,19 @@
 //! closure's fold: so a closure of too many pieces is never made.
 
 ghost use Rattle.std.specs.Prelude.{◌≡◌, ◌+◌, ◌*◌, ◌<◌, ◌≤◌, ◌^◌, IfOk, IfErr, IsTrue};
-ghost use Rattle.curve_pointwise.specs.rational.specs.Rational.{◌-ℚ◌, ◌/ℚ◌, ◌<ℚ◌};
-ghost use Rattle.curve_pointwise.specs.rational.specs.Whole.{whole_part};
-ghost use Rattle.curve_pointwise.specs.affine_segment.specs.declared.element.Element.TheVariants.{Open};
-ghost use Rattle.curve_pointwise.specs.min_plus.specs.Functions.{zero_q};
+ghost use Rattle.upp_limits.specs.rational.specs.Rational.{◌-ℚ◌, ◌/ℚ◌, ◌<ℚ◌};
+ghost use Rattle.upp_limits.specs.rational.specs.Whole.{whole_part};
+ghost use Rattle.upp_limits.specs.upp_curve.specs.declared.affine_segment.element.Element.TheVariants.{Open};
+ghost use Rattle.upp_limits.specs.min_plus.specs.Functions.{zero_q};
 ghost use Rattle.subadd_closure.specs.Folds.{segment_number, SegmentWithin, SegmentCause};
 ghost use Rattle.subadd_closure.specs.SegmentLimits.{IsElementOf, IsOwnGauge, LengthsFit, IsOverLimit, IsOverlap};
 
-use curve_pointwise::affine_segment::{Element, Line};
-use curve_pointwise::curve_call::first_window;
-use curve_pointwise::fraction128::{Ext, Frac, difference, is_less, quotient};
-use curve_pointwise::rational::Extended;
-use curve_pointwise::upp_curve::Curve;
-use curve_pointwise::upp_limits::{OpFault, OpKind, call_numbers};
+use plain_operators::curve_call::first_window;
+use upp_limits::fraction128::{Ext, Frac, difference, is_less, quotient};
+use upp_limits::rational::Extended;
+use upp_limits::upp_curve::Curve;
+use upp_limits::upp_curve::affine_segment::{Element, Line};
+use upp_limits::{OpFault, OpKind, call_numbers};
 
 /// The gauge of a curve by itself; None where it is 2^120 or more. No memory is taken.
 pub(crate) fn own_gauge(f: &Curve) -> Option<u128>

@@ -1,20 +1,20 @@
 //! The closure of a point.
 
-ghost use Rattle.curve_pointwise.specs.rational.specs.Rational.{◌≤ℚ◌, ◌<ℚ◌};
-ghost use Rattle.curve_pointwise.specs.affine_segment.specs.declared.element.Element.TheVariants.{Point};
-ghost use Rattle.curve_pointwise.specs.min_plus.specs.Functions.{zero_q};
+ghost use Rattle.upp_limits.specs.rational.specs.Rational.{◌≤ℚ◌, ◌<ℚ◌};
+ghost use Rattle.upp_limits.specs.upp_curve.specs.declared.affine_segment.element.Element.TheVariants.{Point};
+ghost use Rattle.upp_limits.specs.min_plus.specs.Functions.{zero_q};
 ghost use Rattle.subadd_closure.specs.ElementCurves.{point_closure, point_at_zero};
 ghost use Rattle.subadd_closure.specs.ElementAnswers.{ClosureAnswer};
 ghost use Rattle.subadd_closure.specs.PieceFits.{IsMade};
 
 use crate::segments::made;
-use curve_pointwise::affine_segment::Piece;
-use curve_pointwise::fraction128::{Frac, is_less};
-use curve_pointwise::rational::Extended;
-use curve_pointwise::upp_curve::{Curve, Tail};
-use curve_pointwise::upp_limits::OpFault;
-use curve_pointwise::upp_normal::RawCurve;
 use std::alloc::Global;
+use upp_limits::OpFault;
+use upp_limits::fraction128::{Frac, is_less};
+use upp_limits::rational::Extended;
+use upp_limits::upp_curve::affine_segment::Piece;
+use upp_limits::upp_curve::{Curve, Tail};
+use upp_normal::RawCurve;
 
 // n v at n x, x after 0.
 fn repeating(alloc: Global, x: Frac, v: Frac) -> Result<Curve, OpFault>

@@ -2,15 +2,15 @@
 //! many periods it needs.
 
 ghost use Rattle.std.specs.Prelude.{◌≡◌, ◌⊎◌, ◌+◌, ◌≤◌, IfOk, IfErr, IfSome, IsTrue, Err};
-ghost use Rattle.curve_pointwise.specs.rational.specs.Rational.{ℚ, ◌-ℚ◌, ◌≤ℚ◌};
-ghost use Rattle.curve_pointwise.specs.upp_curve.specs.Curve.{value_at};
-ghost use Rattle.curve_pointwise.specs.upp_curve.specs.Curves.{IsCurve};
-ghost use Rattle.curve_pointwise.specs.upp_curve.specs.Unrolled.{unroll};
-ghost use Rattle.curve_pointwise.specs.min_plus.specs.Convolution.{IsConvolution};
-ghost use Rattle.curve_pointwise.specs.min_plus.specs.Functions.{zero_q};
-ghost use Rattle.curve_pointwise.specs.upp_limits.specs.Outcome.{IsCauseOf, IsWithin, KeepsLimits};
-ghost use Rattle.curve_pointwise.specs.upp_limits.specs.declared.op_kind.OpKind.TheVariants.{Convolve};
-ghost use Rattle.curve_pointwise.specs.curve_call.specs.FirstWindows.{IsFirstWindow};
+ghost use Rattle.upp_limits.specs.rational.specs.Rational.{ℚ, ◌-ℚ◌, ◌≤ℚ◌};
+ghost use Rattle.upp_limits.specs.upp_curve.specs.Curve.{value_at};
+ghost use Rattle.upp_limits.specs.upp_curve.specs.Curves.{IsCurve};
+ghost use Rattle.upp_limits.specs.upp_curve.specs.Unrolled.{unroll};
+ghost use Rattle.upp_limits.specs.min_plus.specs.Convolution.{IsConvolution};
+ghost use Rattle.upp_limits.specs.min_plus.specs.Functions.{zero_q};
+ghost use Rattle.upp_limits.specs.Outcome.{IsCauseOf, IsWithin, KeepsLimits};
+ghost use Rattle.upp_limits.specs.declared.op_kind.OpKind.TheVariants.{Convolve};
+ghost use Rattle.plain_operators.specs.curve_call.specs.FirstWindows.{IsFirstWindow};
 ghost use Rattle.element_envelope.specs.ConvolutionWindows.{IsConvolutionWindow};
 ghost use Rattle.curve_conv.specs.ConvolveCall.{IsConvolveFrame};
 ghost use Rattle.subadd_closure.specs.Thinned.{MayThin};
@@ -18,16 +18,16 @@ ghost use Rattle.subadd_closure.specs.Thinned.{MayThin};
 use crate::again::{slower_rise, window_of};
 use crate::quick_bounds::quick_bounds;
 use curve_conv::convolve_frame;
-use curve_pointwise::affine_segment::Piece;
-use curve_pointwise::curve_call::{
+use plain_operators::curve_call::{
     CallWindow, Frame, answer, first_window, refuse_between, within,
 };
-use curve_pointwise::fraction128::{Frac, difference};
-use curve_pointwise::upp_curve::Curve;
-use curve_pointwise::upp_limits::{OpFault, OpKind, tally_over};
 use std::alloc::{AllocError, Global};
 use std::sync::ledger::Ledger;
 use steps::Steps;
+use upp_limits::fraction128::{Frac, difference};
+use upp_limits::upp_curve::Curve;
+use upp_limits::upp_curve::affine_segment::Piece;
+use upp_limits::{OpFault, OpKind, tally_over};
 
 // The frame with the upper bound of the number of periods, where the call is within both limits with it, and not much
 // larger than with none; else none, as where there are no bounds. Refused where both bounds tell it.

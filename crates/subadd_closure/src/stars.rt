@@ -2,30 +2,30 @@
 //! point 0 at 0.
 
 ghost use Rattle.std.specs.Prelude.{◌≡◌, ◌+◌, ◌≤◌, ◌^◌, IfOk, Some, None, Err};
-ghost use Rattle.curve_pointwise.specs.rational.specs.Rational.{◌<ℚ◌, ◌≤ℚ◌, ◌/ℚ◌};
-ghost use Rattle.curve_pointwise.specs.rational.specs.Ratio.{IsSmall};
-ghost use Rattle.curve_pointwise.specs.affine_segment.specs.declared.element.Element.TheVariants.{Point, Open};
-ghost use Rattle.curve_pointwise.specs.min_plus.specs.Functions.{zero_q};
-ghost use Rattle.curve_pointwise.specs.min_plus.specs.Convolution.{IsSubadditive};
-ghost use Rattle.curve_pointwise.specs.upp_curve.specs.Curve.{value_at};
-ghost use Rattle.curve_pointwise.specs.upp_limits.specs.declared.op_kind.OpKind.TheVariants.{Convolve};
-ghost use Rattle.curve_pointwise.specs.curve_call.specs.Calls.{Applies};
+ghost use Rattle.upp_limits.specs.rational.specs.Rational.{◌<ℚ◌, ◌≤ℚ◌, ◌/ℚ◌};
+ghost use Rattle.upp_limits.specs.rational.specs.Ratio.{IsSmall};
+ghost use Rattle.upp_limits.specs.upp_curve.specs.declared.affine_segment.element.Element.TheVariants.{Point, Open};
+ghost use Rattle.upp_limits.specs.min_plus.specs.Functions.{zero_q};
+ghost use Rattle.upp_limits.specs.min_plus.specs.Convolution.{IsSubadditive};
+ghost use Rattle.upp_limits.specs.upp_curve.specs.Curve.{value_at};
+ghost use Rattle.upp_limits.specs.declared.op_kind.OpKind.TheVariants.{Convolve};
+ghost use Rattle.plain_operators.specs.curve_call.specs.Calls.{Applies};
 ghost use Rattle.subadd_closure.specs.Lattices.{lattice_curve};
-ghost use Rattle.curve_pointwise.specs.affine_segment.specs.Fits.{LineFitsAt};
+ghost use Rattle.upp_limits.specs.upp_curve.specs.affine_segment.Fits.{LineFitsAt};
 ghost use Rattle.subadd_closure.specs.ElementAnswers.{IsOpenPart};
 ghost use Rattle.subadd_closure.specs.Stars.{Copies, ElementWants, IsPeriodAndRise, Lowers, MakesStar, StarOf, StarWants, turn_work};
 
 use crate::star_convolution::convolve_stars;
 use crate::{lattice, origin, point_closure, segment_closure};
-use curve_pointwise::affine_segment::Line;
-use curve_pointwise::curve_call::intact;
-use curve_pointwise::fraction128::{Ext, Frac};
-use curve_pointwise::min;
-use curve_pointwise::upp_curve::Curve;
-use curve_pointwise::upp_limits::OpFault;
+use plain_operators::curve_call::intact;
+use plain_operators::pointwise::min;
 use std::alloc::Global;
 use std::sync::ledger::Ledger;
 use steps::Steps;
+use upp_limits::OpFault;
+use upp_limits::fraction128::{Ext, Frac};
+use upp_limits::upp_curve::Curve;
+use upp_limits::upp_curve::affine_segment::Line;
 
 // A curve lowered by the point 0 at 0.
 fn lowered<L: Ledger>(alloc: Global, c: &Curve, steps: &mut Steps<L>) -> Result<Curve, OpFault>

@@ -1,23 +1,23 @@
 //! The elements of the second operand of a convolution without those that are nowhere below the first operand.
 
 ghost use Rattle.std.specs.Prelude.{◌≡◌, IfOk, IsTrue};
-ghost use Rattle.curve_pointwise.specs.rational.specs.Rational.{ℚ, ◌≤ℚ◌, ◌<ℚ◌};
-ghost use Rattle.curve_pointwise.specs.rational.specs.Extended.{◌≤ₑ◌, ◌<ₑ◌};
-ghost use Rattle.curve_pointwise.specs.rational.specs.declared.Extended.TheVariants.{Fin};
-ghost use Rattle.curve_pointwise.specs.affine_segment.specs.Values.{line_at};
-ghost use Rattle.curve_pointwise.specs.affine_segment.specs.Reading.{read};
-ghost use Rattle.curve_pointwise.specs.affine_segment.specs.Pieces.{Each, StartsAtZero};
-ghost use Rattle.curve_pointwise.specs.min_plus.specs.Functions.{zero_q};
-ghost use Rattle.curve_pointwise.specs.upp_curve.specs.Curve.{value_at};
-ghost use Rattle.curve_pointwise.specs.upp_curve.specs.Curves.{IsCurve};
-ghost use Rattle.curve_pointwise.specs.upp_curve.specs.Unrolled.{unroll, upto};
+ghost use Rattle.upp_limits.specs.rational.specs.Rational.{ℚ, ◌≤ℚ◌, ◌<ℚ◌};
+ghost use Rattle.upp_limits.specs.rational.specs.Extended.{◌≤ₑ◌, ◌<ₑ◌};
+ghost use Rattle.upp_limits.specs.rational.specs.declared.Extended.TheVariants.{Fin};
+ghost use Rattle.upp_limits.specs.upp_curve.specs.affine_segment.Values.{line_at};
+ghost use Rattle.upp_limits.specs.upp_curve.specs.affine_segment.Reading.{read};
+ghost use Rattle.upp_limits.specs.upp_curve.specs.affine_segment.Pieces.{Each, StartsAtZero};
+ghost use Rattle.upp_limits.specs.min_plus.specs.Functions.{zero_q};
+ghost use Rattle.upp_limits.specs.upp_curve.specs.Curve.{value_at};
+ghost use Rattle.upp_limits.specs.upp_curve.specs.Curves.{IsCurve};
+ghost use Rattle.upp_limits.specs.upp_curve.specs.Unrolled.{unroll, upto};
 ghost use Rattle.subadd_closure.specs.Thinned.{LiesUnder, IsOver, IsThinned};
 
-use curve_pointwise::affine_segment::{Element, Line, Piece, start_of, value};
-use curve_pointwise::fraction128::{Ext, Frac, is_less};
-use curve_pointwise::rational::Extended;
-use curve_pointwise::upp_curve::Curve;
 use std::alloc::{AllocError, Global};
+use upp_limits::fraction128::{Ext, Frac, is_less};
+use upp_limits::rational::Extended;
+use upp_limits::upp_curve::Curve;
+use upp_limits::upp_curve::affine_segment::{Element, Line, Piece, start_of, value};
 
 // Whether a is at most b.
 fn is_at_most(a: Frac, b: Frac) -> bool

@@ -11,16 +11,16 @@ use Rattle.min_plus.specs.rational.proofs.Comparison.{cmp_greater, cmp_not_great
 use Rattle.min_plus.specs.rational.proofs.Over.{le_q_out}
 use Rattle.min_plus.specs.rational.specs.Extended.{Ext, ◌+ₑ◌}
 use Rattle.min_plus.specs.rational.specs.declared.Extended.TheVariants.{Fin, Inf}
-use Rattle.affine_segment.specs.declared.line.Line.{Line}
-use Rattle.affine_segment.specs.declared.line.Piece.{Piece}
+use Rattle.upp_curve.specs.declared.affine_segment.line.Line.{Line}
+use Rattle.upp_curve.specs.declared.affine_segment.line.Piece.{Piece}
 use Rattle.upp_curve.specs.declared.curve.Tail.{Tail}
 use Rattle.upp_curve.specs.declared.curve.Tail.TheVariants.{Periodic}
 use Rattle.upp_curve.specs.Curve.{SpecCurve, value_at, with_tail, repeated, cut}
-use Rattle.affine_segment.specs.Reading.{read}
+use Rattle.upp_curve.specs.affine_segment.Reading.{read}
 use Rattle.upp_curve.specs.Normal.{IsNormal, TailFits}
 use Rattle.upp_curve.specs.Kinds.{bucket}
 use Rattle.upp_curve.specs.Steps.{IsWideAt, IsWideValueAt}
-use Rattle.affine_segment.specs.fraction128.specs.declared.fault.Wide.{Wide}
+use Rattle.fraction128.specs.declared.fault.Wide.{Wide}
 use Rattle.min_plus.specs.rational.proofs.MinMax.{le_q_not}
 use Rattle.upp_curve.proofs.Repeats.{repeated_first}
 

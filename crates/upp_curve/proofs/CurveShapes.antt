@@ -4,15 +4,15 @@ use Rattle.std.proofs.Common.{sym, ap, ◌∙◌, refl, subst}
 use Rattle.min_plus.specs.rational.specs.Rational.{ℚ, ◌+ℚ◌}
 use Rattle.min_plus.specs.rational.specs.Extended.{Ext, ◌+ₑ◌}
 use Rattle.min_plus.specs.rational.specs.declared.Extended.TheVariants.{Fin}
-use Rattle.affine_segment.specs.declared.line.Piece.{Piece}
+use Rattle.upp_curve.specs.declared.affine_segment.line.Piece.{Piece}
 use Rattle.upp_curve.specs.declared.curve.Tail.{Tail}
 use Rattle.upp_curve.specs.declared.curve.Tail.TheVariants.{Periodic, Affine, Infinite}
 use Rattle.upp_curve.specs.declared.shape.End.{End}
-use Rattle.affine_segment.specs.Reading.{read}
+use Rattle.upp_curve.specs.affine_segment.Reading.{read}
 use Rattle.upp_curve.specs.Curve.{SpecCurve, value_at}
 use Rattle.upp_curve.specs.Curves.{IsCurve}
 use Rattle.min_plus.specs.Functions.{IsFinite, IsRising}
-use Rattle.affine_segment.specs.Pieces.{Each}
+use Rattle.upp_curve.specs.affine_segment.Pieces.{Each}
 use Rattle.upp_curve.specs.Readable.{EachFits, TailReadable}
 use Rattle.upp_curve.specs.Shapes.{IsFinitePiece, PiecesRise}
 use Rattle.upp_curve.specs.Steady.{rate, rate_in}

@@ -8,16 +8,16 @@ use Rattle.min_plus.specs.rational.proofs.Linear.{with2}
 use Rattle.min_plus.specs.rational.proofs.Laws.{le_refl, le_of_lt, le_or_lt, le_trans, between}
 use Rattle.min_plus.specs.rational.proofs.MinMax.{le_q_not}
 use Rattle.min_plus.specs.rational.proofs.Over.{le_q_out}
-use Rattle.affine_segment.specs.declared.line.Line.{Line}
-use Rattle.affine_segment.specs.declared.line.Piece.{Piece}
-use Rattle.affine_segment.specs.Values.{line_value}
+use Rattle.upp_curve.specs.declared.affine_segment.line.Line.{Line}
+use Rattle.upp_curve.specs.declared.affine_segment.line.Piece.{Piece}
+use Rattle.upp_curve.specs.affine_segment.Values.{line_value}
 use Rattle.upp_curve.specs.declared.shape.End.{End}
-use Rattle.affine_segment.specs.Reading.{piece_in, piece_value}
+use Rattle.upp_curve.specs.affine_segment.Reading.{piece_in, piece_value}
 use Rattle.min_plus.specs.rational.specs.Whole.{periods}
 use Rattle.upp_curve.specs.Curve.{repeated}
-use Rattle.affine_segment.specs.Pieces.{Each, RisesFrom}
+use Rattle.upp_curve.specs.affine_segment.Pieces.{Each, RisesFrom}
 use Rattle.upp_curve.specs.Shapes.{IsNumber, IsLine, IsFinitePiece}
-use Rattle.affine_segment.proofs.PieceIn.{piece_in_end, piece_in_go, piece_in_stop, value_past}
+use Rattle.upp_curve.proofs.affine_segment.PieceIn.{piece_in_end, piece_in_go, piece_in_stop, value_past}
 use Rattle.upp_curve.proofs.FirstStretch.{read_in, at_start}
 use Rattle.upp_curve.proofs.RisingFrom.{IsBefore, before_later}
 

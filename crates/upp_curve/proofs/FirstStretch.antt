@@ -4,12 +4,12 @@ use Rattle.std.specs.Prelude.{◌≡◌, List, [], ◌∷◌}
 use Rattle.std.proofs.Common.{ap, ◌∙◌}
 use Rattle.min_plus.specs.rational.specs.Rational.{ℚ, ◌<ℚ◌}
 use Rattle.min_plus.specs.rational.specs.Extended.{Ext}
-use Rattle.affine_segment.specs.declared.line.Piece.{Piece}
+use Rattle.upp_curve.specs.declared.affine_segment.line.Piece.{Piece}
 use Rattle.min_plus.specs.rational.specs.MinMax.{min_q}
-use Rattle.affine_segment.specs.Reading.{piece_in, piece_value}
-use Rattle.affine_segment.specs.Values.{line_value}
-use Rattle.affine_segment.specs.Pieces.{RisesFrom}
-use Rattle.affine_segment.proofs.PieceIn.{piece_in_stop, piece_in_end, value_past, value_at_start}
+use Rattle.upp_curve.specs.affine_segment.Reading.{piece_in, piece_value}
+use Rattle.upp_curve.specs.affine_segment.Values.{line_value}
+use Rattle.upp_curve.specs.affine_segment.Pieces.{RisesFrom}
+use Rattle.upp_curve.proofs.affine_segment.PieceIn.{piece_in_stop, piece_in_end, value_past, value_at_start}
 
 abbrev pub end_of : ℚ → List Piece → ℚ
 end_of X [] = X

@@ -12,8 +12,8 @@ use Rattle.min_plus.specs.rational.proofs.Integers.{nat_next}
 use Rattle.min_plus.specs.rational.proofs.MinMax.{le_q_not, max_q_right, max_q_ge_left, max_q_le}
 use Rattle.min_plus.specs.rational.proofs.Over.{le_q_out}
 use Rattle.min_plus.specs.rational.proofs.Whole.{periods_low, periods_high}
-use Rattle.affine_segment.specs.declared.line.Piece.{Piece}
-use Rattle.affine_segment.specs.Reading.{read, piece_in}
+use Rattle.upp_curve.specs.declared.affine_segment.line.Piece.{Piece}
+use Rattle.upp_curve.specs.affine_segment.Reading.{read, piece_in}
 use Rattle.upp_curve.specs.Curve.{value_at, repeated}
 use Rattle.min_plus.specs.Functions.{zero_q}
 use Rattle.min_plus.specs.WholeUp.{whole_up}

@@ -11,17 +11,17 @@ use Rattle.min_plus.specs.rational.proofs.Laws.{antisym, le_refl, le_or_lt, le_o
 use Rattle.min_plus.specs.rational.proofs.Quotients.{div_pos}
 use Rattle.min_plus.specs.rational.proofs.MinMax.{max_q_ge_left, max_q_ge_right}
 use Rattle.min_plus.specs.rational.proofs.Whole.{periods_small, periods_high, periods_next}
-use Rattle.affine_segment.specs.declared.line.Line.{Line}
-use Rattle.affine_segment.specs.declared.line.Piece.{Piece}
-use Rattle.affine_segment.specs.Values.{line_value}
+use Rattle.upp_curve.specs.declared.affine_segment.line.Line.{Line}
+use Rattle.upp_curve.specs.declared.affine_segment.line.Piece.{Piece}
+use Rattle.upp_curve.specs.affine_segment.Values.{line_value}
 use Rattle.upp_curve.specs.declared.shape.End.{End}
-use Rattle.affine_segment.specs.Reading.{piece_value}
+use Rattle.upp_curve.specs.affine_segment.Reading.{piece_value}
 use Rattle.upp_curve.specs.Curve.{repeated}
 use Rattle.min_plus.specs.Functions.{IsRising, zero_q}
-use Rattle.affine_segment.specs.Pieces.{Each, RisesFrom}
+use Rattle.upp_curve.specs.affine_segment.Pieces.{Each, RisesFrom}
 use Rattle.min_plus.specs.Continuity.{IsContinuous}
 use Rattle.upp_curve.specs.JoinedPieces.{PiecesJoin}
-use Rattle.affine_segment.proofs.PieceIn.{piece_in_end, piece_in_go, piece_in_stop, value_past, value_at_start}
+use Rattle.upp_curve.proofs.affine_segment.PieceIn.{piece_in_end, piece_in_go, piece_in_stop, value_past, value_at_start}
 use Rattle.upp_curve.proofs.FirstStretch.{read_in, at_start}
 use Rattle.upp_curve.proofs.Repeats.{repeated_first, repeated_next}
 

@@ -1,13 +1,13 @@
 -- The loop that tests whether pieces join: what is left of a list after some steps.
 use Rattle.std.specs.Prelude.{◌≡◌, ◌↔◌, ℕ, ◌+◌, ◌<◌, ◌≤◌, List, ◌∷◌, length, Option, Some}
 use Rattle.std.proofs.Common.{get_or, drop, sym, refl, subst}
-use Rattle.affine_segment.specs.declared.line.Piece.{Piece}
+use Rattle.upp_curve.specs.declared.affine_segment.line.Piece.{Piece}
 use Rattle.upp_curve.specs.declared.shape.End.{End}
-use Rattle.affine_segment.specs.Fits.{LineFitsAt}
+use Rattle.upp_curve.specs.affine_segment.Fits.{LineFitsAt}
 use Rattle.upp_curve.specs.Readable.{LineFitsTo, EachFits}
 use Rattle.upp_curve.specs.Shapes.{end_time}
 use Rattle.upp_curve.specs.JoinedPieces.{PieceJoins, PiecesJoin}
-use Rattle.affine_segment.proofs.NextPiece.{next_piece, none_left}
+use Rattle.upp_curve.proofs.affine_segment.NextPiece.{next_piece, none_left}
 
 -- ---- each piece against the next one
 pub record JoinLoop (end : Option End) (first : Piece) (rest : List Piece) (last : Piece) (left : List Piece) : Type 0 where

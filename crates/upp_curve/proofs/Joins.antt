@@ -10,21 +10,21 @@ use Rattle.min_plus.specs.rational.proofs.Laws.{le_refl, le_or_lt, le_of_lt, le_
 use Rattle.min_plus.specs.rational.proofs.Integers.{nat_lt}
 use Rattle.min_plus.specs.rational.proofs.MinMax.{below_min_in, below_min_out, max_q_ge_left, max_q_ge_right, max_q_lt}
 use Rattle.min_plus.specs.rational.proofs.ExtendedOrder.{le_ext_refl, le_ext_trans, antisym_ext, add_le_ext}
-use Rattle.affine_segment.specs.declared.line.Line.{Line}
-use Rattle.affine_segment.specs.declared.line.Piece.{Piece}
-use Rattle.affine_segment.specs.Values.{line_value}
+use Rattle.upp_curve.specs.declared.affine_segment.line.Line.{Line}
+use Rattle.upp_curve.specs.declared.affine_segment.line.Piece.{Piece}
+use Rattle.upp_curve.specs.affine_segment.Values.{line_value}
 use Rattle.upp_curve.specs.declared.curve.Tail.{Tail}
 use Rattle.upp_curve.specs.declared.curve.Tail.TheVariants.{Periodic, Affine, Infinite}
 use Rattle.upp_curve.specs.declared.shape.End.{End}
-use Rattle.affine_segment.specs.Reading.{piece_value, read}
+use Rattle.upp_curve.specs.affine_segment.Reading.{piece_value, read}
 use Rattle.upp_curve.specs.Curve.{SpecCurve, value_at, repeated}
 use Rattle.min_plus.specs.Functions.{IsRising, zero_q}
-use Rattle.affine_segment.specs.Pieces.{Each, RisesFrom, StartsAtZero}
+use Rattle.upp_curve.specs.affine_segment.Pieces.{Each, RisesFrom, StartsAtZero}
 use Rattle.upp_curve.specs.Normal.{IsNormal, FitsPeriod}
 use Rattle.upp_curve.specs.Shapes.{LineRises, PieceRises, PiecesRise}
 use Rattle.min_plus.specs.Continuity.{IsContinuous}
 use Rattle.upp_curve.specs.JoinedPieces.{PieceJoins, PiecesJoin}
-use Rattle.affine_segment.proofs.PieceIn.{piece_in_end, piece_in_go, piece_in_stop, value_past}
+use Rattle.upp_curve.proofs.affine_segment.PieceIn.{piece_in_end, piece_in_go, piece_in_stop, value_past}
 use Rattle.upp_curve.proofs.FirstStretch.{read_in, at_start}
 use Rattle.upp_curve.proofs.Repeats.{repeated_first, repeated_next}
 use Rattle.upp_curve.proofs.OneForm.{infinite_value}
@@ -32,7 +32,7 @@ use Rattle.upp_curve.proofs.RisingFrom.{IsBefore, before_later}
 use Rattle.upp_curve.proofs.RisingCurves.{IsEnd, period_end, pieces_by_tail, each_at_most, each_before, each_free}
 use Rattle.upp_curve.proofs.Gentle.{steepest, list_gentle, end_gentle, repeated_gentle, gentle_continuous}
 use Rattle.upp_curve.proofs.CurveShapes.{curve}
-use Rattle.affine_segment.proofs.PieceIn.{read_is}
+use Rattle.upp_curve.proofs.affine_segment.PieceIn.{read_is}
 use Rattle.upp_curve.proofs.Rising.{line_up}
 
 -- ---- from pieces that join

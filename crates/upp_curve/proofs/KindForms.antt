@@ -12,13 +12,13 @@ use Rattle.min_plus.specs.rational.proofs.Laws.{antisym, le_refl, le_or_lt, le_o
 use Rattle.min_plus.specs.rational.proofs.Integers.{int_mul, int_add, int_same, nat_lt, le_or_more}
 use Rattle.min_plus.specs.rational.proofs.MinMax.{le_q_not, below_min_in, below_min_out}
 use Rattle.min_plus.specs.rational.proofs.Over.{le_q_out}
-use Rattle.affine_segment.specs.declared.line.Line.{Line}
-use Rattle.affine_segment.specs.declared.line.Piece.{Piece}
-use Rattle.affine_segment.specs.Values.{line_value}
-use Rattle.affine_segment.specs.Reading.{read}
+use Rattle.upp_curve.specs.declared.affine_segment.line.Line.{Line}
+use Rattle.upp_curve.specs.declared.affine_segment.line.Piece.{Piece}
+use Rattle.upp_curve.specs.affine_segment.Values.{line_value}
+use Rattle.upp_curve.specs.affine_segment.Reading.{read}
 use Rattle.upp_curve.specs.Curve.{value_at}
 use Rattle.min_plus.specs.Functions.{zero_q}
-use Rattle.affine_segment.specs.Pieces.{Each}
+use Rattle.upp_curve.specs.affine_segment.Pieces.{Each}
 use Rattle.upp_curve.specs.Normal.{IsNormal, IsLeastPeriodic}
 use Rattle.upp_curve.specs.Steady.{Repeats}
 use Rattle.upp_curve.specs.Kinds.{flat, after_latency, rate_latency, steps, stair, gated, gate}

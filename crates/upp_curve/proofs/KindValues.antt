@@ -10,7 +10,7 @@ use Rattle.min_plus.specs.rational.specs.declared.Extended.TheVariants.{Fin}
 use Rattle.min_plus.specs.rational.specs.MinMax.{max_q}
 use Rattle.min_plus.specs.Functions.{zero_q}
 use Rattle.upp_curve.specs.Curve.{value_at}
-use Rattle.affine_segment.specs.Reading.{read, piece_in, piece_value}
+use Rattle.upp_curve.specs.affine_segment.Reading.{read, piece_in, piece_value}
 use Rattle.upp_curve.specs.Kinds.{piece, bucket, after_latency, rate_latency}
 use Rattle.min_plus.specs.Formulas.{IsBucket, IsService}
 

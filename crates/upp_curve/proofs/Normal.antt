@@ -6,20 +6,20 @@ use Rattle.min_plus.specs.rational.proofs.Linear.{with2, with3}
 use Rattle.min_plus.specs.rational.proofs.Laws.{antisym, le_trans, lt_le_trans, le_or_lt, le_of_lt, le_refl}
 use Rattle.min_plus.specs.rational.specs.Extended.{Ext, ◌+ₑ◌}
 use Rattle.min_plus.specs.rational.specs.declared.Extended.TheVariants.{Fin}
-use Rattle.affine_segment.specs.declared.line.Piece.{Piece}
+use Rattle.upp_curve.specs.declared.affine_segment.line.Piece.{Piece}
 use Rattle.upp_curve.specs.declared.curve.Tail.TheVariants.{Periodic}
 use Rattle.min_plus.specs.rational.specs.MinMax.{min_q}
 use Rattle.upp_curve.specs.Curve.{SpecCurve, value_at, with_tail, HasSameValues}
-use Rattle.affine_segment.specs.Reading.{read}
+use Rattle.upp_curve.specs.affine_segment.Reading.{read}
 use Rattle.upp_curve.specs.Normal.{IsNormal, NoMerge}
-use Rattle.affine_segment.specs.Pieces.{Each, HasStart, StartsAtZero, RisesFrom}
+use Rattle.upp_curve.specs.affine_segment.Pieces.{Each, HasStart, StartsAtZero, RisesFrom}
 use Rattle.upp_curve.specs.Unrolled.{upto}
 use Rattle.upp_curve.specs.Steady.{Repeats}
 use Rattle.min_plus.specs.rational.proofs.MinMax.{min_q_left, min_q_right, below_min_in}
 use Rattle.upp_curve.proofs.Repeats.{repeated_first, repeated_rule}
 use Rattle.upp_curve.proofs.Unique.{same_lists, upto_none, upto_some, upto_end}
 use Rattle.upp_curve.proofs.Rules.{rule_extends, no_shorter, one_rise}
-use Rattle.affine_segment.proofs.PieceIn.{low_start}
+use Rattle.upp_curve.proofs.affine_segment.PieceIn.{low_start}
 
 -- ---- lists
 pub lists_read : (f : ℚ → Ext) (X : ℚ) (ps qs : List Piece) → StartsAtZero ps → NoMerge ps → StartsAtZero qs → NoMerge qs

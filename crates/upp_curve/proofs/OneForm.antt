@@ -6,15 +6,15 @@ use Rattle.min_plus.specs.rational.proofs.Linear.{with1, with2, with3}
 use Rattle.min_plus.specs.rational.proofs.Laws.{antisym, le_trans, le_lt_trans, le_or_lt, le_of_lt, mul_comm, mul_assoc, mul_nonneg}
 use Rattle.min_plus.specs.rational.specs.Extended.{Ext, ◌+ₑ◌}
 use Rattle.min_plus.specs.rational.specs.declared.Extended.TheVariants.{Fin, Inf}
-use Rattle.affine_segment.specs.declared.line.Line.{Line}
-use Rattle.affine_segment.specs.declared.line.Piece.{Piece}
+use Rattle.upp_curve.specs.declared.affine_segment.line.Line.{Line}
+use Rattle.upp_curve.specs.declared.affine_segment.line.Piece.{Piece}
 use Rattle.upp_curve.specs.declared.curve.Tail.{Tail}
 use Rattle.upp_curve.specs.declared.curve.Tail.TheVariants.{Periodic, Affine, Infinite}
 use Rattle.upp_curve.specs.Curve.{SpecCurve, value_at, cut, HasSameValues}
-use Rattle.affine_segment.specs.Reading.{read}
-use Rattle.affine_segment.specs.Values.{line_value}
+use Rattle.upp_curve.specs.affine_segment.Reading.{read}
+use Rattle.upp_curve.specs.affine_segment.Values.{line_value}
 use Rattle.upp_curve.specs.Normal.{IsNormal, NoMerge}
-use Rattle.affine_segment.specs.Pieces.{Each, HasStart, StartsAtZero}
+use Rattle.upp_curve.specs.affine_segment.Pieces.{Each, HasStart, StartsAtZero}
 use Rattle.upp_curve.specs.Steady.{last_line, Repeats, slope_times}
 use Rattle.upp_curve.proofs.Repeats.{repeats_times}
 use Rattle.min_plus.specs.rational.proofs.Whole.{nat_nonneg}

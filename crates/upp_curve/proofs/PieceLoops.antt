@@ -1,11 +1,11 @@
 -- Loops over pieces: what is left of a list after some steps.
 use Rattle.std.specs.Prelude.{◌≡◌, ◌↔◌, ℕ, zero, suc, ◌+◌, ◌-◌, ◌<◌, ◌≤◌, List, [], ◌∷◌, length, slice_get, Option, Some, None}
 use Rattle.std.proofs.Common.{arith, get_or, drop, sym, ap, refl, subst}
-use Rattle.affine_segment.specs.declared.line.Piece.{Piece}
-use Rattle.affine_segment.proofs.NextPiece.{next_piece, none_left}
+use Rattle.upp_curve.specs.declared.affine_segment.line.Piece.{Piece}
+use Rattle.upp_curve.proofs.affine_segment.NextPiece.{next_piece, none_left}
 use Rattle.upp_curve.specs.declared.shape.End.{End}
-use Rattle.affine_segment.specs.Pieces.{Each}
-use Rattle.affine_segment.specs.Fits.{LineFitsAt}
+use Rattle.upp_curve.specs.affine_segment.Pieces.{Each}
+use Rattle.upp_curve.specs.affine_segment.Fits.{LineFitsAt}
 use Rattle.upp_curve.specs.Readable.{LineFitsTo, EachFits}
 use Rattle.upp_curve.specs.Steady.{last_of, last_line}
 use Rattle.upp_curve.specs.Shapes.{PieceRises, PiecesRise, end_time}

@@ -7,10 +7,10 @@ use Rattle.min_plus.specs.rational.specs.Gcd.{gcd, gcd_steps}
 use Rattle.min_plus.specs.rational.specs.Rational.{ℚ, int, frac, den}
 use Rattle.min_plus.specs.rational.specs.Ratio.{IsSmall, SumFits, PartsFit}
 use Rattle.min_plus.specs.rational.proofs.Laws.{mul_zero}
-use Rattle.affine_segment.specs.fraction128.proofs.Coprime.{gcd_one}
+use Rattle.fraction128.proofs.Coprime.{gcd_one}
 use Rattle.upp_curve.specs.Curves.{IsCurve}
 use Rattle.upp_curve.specs.Kinds.{bucket}
-use Rattle.affine_segment.specs.Fits.{LineFits}
+use Rattle.upp_curve.specs.affine_segment.Fits.{LineFits}
 use Rattle.upp_curve.proofs.ByTail.{bucket_normal}
 
 -- ---- a sum with 0 fits

@@ -2,10 +2,10 @@
 use Rattle.std.specs.Prelude.{◌≡◌, Result, Ok, Err, IfErr, List, [], ◌∷◌}
 use Rattle.std.proofs.Common.{refl, subst}
 use Rattle.min_plus.specs.rational.specs.Rational.{ℚ}
-use Rattle.affine_segment.specs.fraction128.specs.declared.fault.Wide.{Wide}
-use Rattle.affine_segment.specs.declared.line.Piece.{Piece}
-use Rattle.affine_segment.specs.Pieces.{StartsAtZero}
-use Rattle.affine_segment.specs.Reading.{piece_in}
+use Rattle.fraction128.specs.declared.fault.Wide.{Wide}
+use Rattle.upp_curve.specs.declared.affine_segment.line.Piece.{Piece}
+use Rattle.upp_curve.specs.affine_segment.Pieces.{StartsAtZero}
+use Rattle.upp_curve.specs.affine_segment.Reading.{piece_in}
 use Rattle.upp_curve.specs.Steps.{IsWideLine, IsWideRead}
 
 pub err_map : {A E : Type 0} (r : Result A E) (P Q : E → Type 0) → ((w : E) → P w → Q w) → IfErr r P → IfErr r Q

@@ -9,16 +9,16 @@ use Rattle.min_plus.specs.rational.proofs.Linear.{with2, with3}
 use Rattle.min_plus.specs.rational.proofs.Laws.{antisym, le_refl, le_or_lt, le_of_lt, le_trans, mul_le_mul}
 use Rattle.min_plus.specs.rational.proofs.ExtendedOrder.{le_ext_trans, same_le_ext, add_le_ext}
 use Rattle.min_plus.specs.rational.proofs.Whole.{periods_small, periods_high, periods_next}
-use Rattle.affine_segment.specs.declared.line.Line.{Line}
-use Rattle.affine_segment.specs.declared.line.Piece.{Piece}
-use Rattle.affine_segment.specs.Values.{line_value}
+use Rattle.upp_curve.specs.declared.affine_segment.line.Line.{Line}
+use Rattle.upp_curve.specs.declared.affine_segment.line.Piece.{Piece}
+use Rattle.upp_curve.specs.affine_segment.Values.{line_value}
 use Rattle.upp_curve.specs.declared.shape.End.{End}
-use Rattle.affine_segment.specs.Reading.{piece_value}
+use Rattle.upp_curve.specs.affine_segment.Reading.{piece_value}
 use Rattle.upp_curve.specs.Curve.{repeated}
 use Rattle.min_plus.specs.Functions.{IsRising}
-use Rattle.affine_segment.specs.Pieces.{Each, RisesFrom}
+use Rattle.upp_curve.specs.affine_segment.Pieces.{Each, RisesFrom}
 use Rattle.upp_curve.specs.Shapes.{LineRises, PiecesRise}
-use Rattle.affine_segment.proofs.PieceIn.{piece_in_end, piece_in_go, piece_in_stop, value_past, value_at_start}
+use Rattle.upp_curve.proofs.affine_segment.PieceIn.{piece_in_end, piece_in_go, piece_in_stop, value_past, value_at_start}
 use Rattle.upp_curve.proofs.FirstStretch.{read_in, at_start}
 use Rattle.upp_curve.proofs.Repeats.{repeated_first, repeated_next}
 

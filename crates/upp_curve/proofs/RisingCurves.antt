@@ -6,17 +6,17 @@ use Rattle.min_plus.specs.rational.specs.Extended.{Ext, ◌+ₑ◌}
 use Rattle.min_plus.specs.rational.specs.declared.Extended.TheVariants.{Fin}
 use Rattle.min_plus.specs.rational.proofs.Linear.{with1, with2}
 use Rattle.min_plus.specs.rational.proofs.Laws.{le_refl, le_of_lt, le_trans, le_lt_trans}
-use Rattle.affine_segment.specs.declared.line.Piece.{Piece}
+use Rattle.upp_curve.specs.declared.affine_segment.line.Piece.{Piece}
 use Rattle.upp_curve.specs.declared.curve.Tail.{Tail}
 use Rattle.upp_curve.specs.declared.curve.Tail.TheVariants.{Periodic, Affine, Infinite}
 use Rattle.upp_curve.specs.declared.shape.End.{End}
-use Rattle.affine_segment.specs.Reading.{piece_value, piece_in, read}
+use Rattle.upp_curve.specs.affine_segment.Reading.{piece_value, piece_in, read}
 use Rattle.upp_curve.specs.Curve.{value_at, repeated}
 use Rattle.min_plus.specs.Functions.{IsRising, IsFinite}
-use Rattle.affine_segment.specs.Pieces.{Each, HasStart, RisesFrom, StartsAtZero}
+use Rattle.upp_curve.specs.affine_segment.Pieces.{Each, HasStart, RisesFrom, StartsAtZero}
 use Rattle.upp_curve.specs.Normal.{IsNormal, FitsPeriod}
 use Rattle.upp_curve.specs.Shapes.{IsNumber, IsFinitePiece, PiecesRise}
-use Rattle.affine_segment.proofs.PieceIn.{piece_in_end, piece_in_go, piece_in_stop, value_at_start}
+use Rattle.upp_curve.proofs.affine_segment.PieceIn.{piece_in_end, piece_in_go, piece_in_stop, value_at_start}
 use Rattle.upp_curve.proofs.FirstStretch.{read_in}
 use Rattle.upp_curve.proofs.Repeats.{repeated_first, repeated_next}
 use Rattle.upp_curve.proofs.OneForm.{infinite_value, infinite_past}

@@ -10,15 +10,15 @@ use Rattle.min_plus.specs.rational.proofs.Laws.{le_refl, le_of_lt, le_trans, bet
 use Rattle.min_plus.specs.rational.proofs.Whole.{le_of_mul}
 use Rattle.min_plus.specs.rational.proofs.Bounds.{greatest, smallest}
 use Rattle.min_plus.specs.rational.proofs.Stretch.{rising_infimum, rising_supremum}
-use Rattle.affine_segment.specs.declared.line.Line.{Line}
-use Rattle.affine_segment.specs.declared.line.Piece.{Piece}
-use Rattle.affine_segment.specs.Values.{line_at, line_value}
+use Rattle.upp_curve.specs.declared.affine_segment.line.Line.{Line}
+use Rattle.upp_curve.specs.declared.affine_segment.line.Piece.{Piece}
+use Rattle.upp_curve.specs.affine_segment.Values.{line_at, line_value}
 use Rattle.upp_curve.specs.declared.shape.End.{End}
-use Rattle.affine_segment.specs.Reading.{piece_value}
+use Rattle.upp_curve.specs.affine_segment.Reading.{piece_value}
 use Rattle.min_plus.specs.Functions.{zero_q}
-use Rattle.affine_segment.specs.Pieces.{Each, RisesFrom}
+use Rattle.upp_curve.specs.affine_segment.Pieces.{Each, RisesFrom}
 use Rattle.upp_curve.specs.Shapes.{LineRises, PieceRises, PiecesRise}
-use Rattle.affine_segment.proofs.PieceIn.{piece_in_end, piece_in_go, piece_in_stop, value_past}
+use Rattle.upp_curve.proofs.affine_segment.PieceIn.{piece_in_end, piece_in_go, piece_in_stop, value_past}
 use Rattle.upp_curve.proofs.FirstStretch.{read_in, at_start}
 
 -- ---- a line on an open stretch

@@ -11,8 +11,8 @@ use Rattle.min_plus.specs.rational.proofs.Integers.{nat_next, int_add}
 use Rattle.min_plus.specs.rational.proofs.MinMax.{le_q_not}
 use Rattle.min_plus.specs.rational.proofs.Over.{le_q_out}
 use Rattle.min_plus.specs.rational.proofs.Whole.{periods_low, periods_high, periods_unique}
-use Rattle.affine_segment.specs.declared.line.Piece.{Piece}
-use Rattle.affine_segment.specs.Reading.{read, piece_in, piece_value}
+use Rattle.upp_curve.specs.declared.affine_segment.line.Piece.{Piece}
+use Rattle.upp_curve.specs.affine_segment.Reading.{read, piece_in, piece_value}
 use Rattle.upp_curve.specs.Curve.{value_at, repeated}
 use Rattle.min_plus.specs.Functions.{zero_q}
 use Rattle.upp_curve.specs.Kinds.{flat, bucket, steps, stair}

@@ -7,21 +7,21 @@ use Rattle.min_plus.specs.rational.proofs.Over.{le_q_out, le_q_in}
 use Rattle.min_plus.specs.rational.proofs.Laws.{antisym, le_trans, le_lt_trans, le_or_lt, le_of_lt, mul_add, mul_comm, div_mul, mul_cancel}
 use Rattle.min_plus.specs.rational.specs.Extended.{Ext, ◌+ₑ◌}
 use Rattle.min_plus.specs.rational.specs.declared.Extended.TheVariants.{Fin, Inf}
-use Rattle.affine_segment.specs.declared.line.Line.{Line}
-use Rattle.affine_segment.specs.declared.line.Piece.{Piece}
+use Rattle.upp_curve.specs.declared.affine_segment.line.Line.{Line}
+use Rattle.upp_curve.specs.declared.affine_segment.line.Piece.{Piece}
 use Rattle.upp_curve.specs.declared.curve.Tail.{Tail}
 use Rattle.upp_curve.specs.declared.curve.Tail.TheVariants.{Periodic, Affine, Infinite}
 use Rattle.upp_curve.specs.Curve.{SpecCurve, value_at, with_tail, repeated, cut}
-use Rattle.affine_segment.specs.Reading.{read, piece_in, piece_value}
-use Rattle.affine_segment.specs.Values.{line_value}
+use Rattle.upp_curve.specs.affine_segment.Reading.{read, piece_in, piece_value}
+use Rattle.upp_curve.specs.affine_segment.Values.{line_value}
 use Rattle.upp_curve.specs.Normal.{IsRaw, TailFits}
-use Rattle.affine_segment.specs.Pieces.{Each}
+use Rattle.upp_curve.specs.affine_segment.Pieces.{Each}
 use Rattle.upp_curve.specs.Steady.{last_of, last_line, same_ext, later_unless, steady_in, steady, slope_times, rise_in, rise_over, IsWholePeriods, Repeats}
 use Rattle.min_plus.specs.rational.proofs.MinMax.{le_q_not}
 use Rattle.min_plus.specs.rational.proofs.Whole.{not_zero}
-use Rattle.affine_segment.proofs.PieceIn.{piece_in_go, piece_in_end}
+use Rattle.upp_curve.proofs.affine_segment.PieceIn.{piece_in_go, piece_in_end}
 use Rattle.upp_curve.proofs.Repeats.{repeated_rule, repeats_times}
-use Rattle.affine_segment.proofs.ElementValues.{and_parts}
+use Rattle.upp_curve.proofs.affine_segment.ElementValues.{and_parts}
 
 -- ---- the test of two values
 

@@ -4,7 +4,7 @@ use Rattle.std.proofs.Common.{arith}
 use Rattle.min_plus.specs.rational.specs.Rational.{ℚ, ◌≤ℚ◌, int}
 use Rattle.min_plus.specs.rational.proofs.Linear.{with1}
 use Rattle.min_plus.specs.rational.proofs.Laws.{le_refl, le_trans}
-use Rattle.affine_segment.specs.declared.line.Piece.{Piece}
+use Rattle.upp_curve.specs.declared.affine_segment.line.Piece.{Piece}
 use Rattle.upp_curve.specs.declared.curve.Tail.{Tail}
 use Rattle.upp_curve.specs.declared.curve.Tail.TheVariants.{Periodic, Affine, Infinite}
 use Rattle.upp_curve.specs.Curve.{SpecCurve}

@@ -7,18 +7,18 @@ use Rattle.min_plus.specs.rational.proofs.Linear.{with2, with3, with4, with6}
 use Rattle.min_plus.specs.rational.proofs.Over.{lt_q_out}
 use Rattle.min_plus.specs.rational.proofs.Laws.{antisym, le_trans, le_lt_trans, le_or_lt, le_of_lt, le_refl, mul_sub, mul_cancel, between}
 use Rattle.min_plus.specs.rational.specs.Extended.{Ext}
-use Rattle.affine_segment.specs.declared.line.Line.{Line}
-use Rattle.affine_segment.specs.declared.line.Piece.{Piece}
+use Rattle.upp_curve.specs.declared.affine_segment.line.Line.{Line}
+use Rattle.upp_curve.specs.declared.affine_segment.line.Piece.{Piece}
 use Rattle.min_plus.specs.rational.specs.MinMax.{min_q}
-use Rattle.affine_segment.specs.Reading.{piece_value}
-use Rattle.affine_segment.specs.Values.{line_value}
-use Rattle.affine_segment.specs.Pieces.{RisesFrom}
+use Rattle.upp_curve.specs.affine_segment.Reading.{piece_value}
+use Rattle.upp_curve.specs.affine_segment.Values.{line_value}
+use Rattle.upp_curve.specs.affine_segment.Pieces.{RisesFrom}
 use Rattle.upp_curve.specs.Normal.{NoneContinues}
 use Rattle.upp_curve.specs.Unrolled.{upto}
 use Rattle.min_plus.specs.rational.proofs.Whole.{not_zero}
 use Rattle.upp_curve.proofs.FirstStretch.{end_of, end_at_most, start_before, read_in, on_stretch, at_start}
 use Rattle.min_plus.proofs.FiniteValues.{no_inf}
-use Rattle.affine_segment.proofs.PieceIn.{piece_in_go}
+use Rattle.upp_curve.proofs.affine_segment.PieceIn.{piece_in_go}
 use Rattle.min_plus.specs.rational.proofs.ExtendedOrder.{fin_same}
 
 -- ---- two values fix a line

@@ -7,7 +7,7 @@ use Rattle.min_plus.specs.rational.specs.Fractions.{same_parts}
 use Rattle.min_plus.specs.rational.specs.MinMax.{min_q, max_q}
 use Rattle.min_plus.specs.rational.specs.Whole.{whole_part, periods}
 use Rattle.min_plus.specs.rational.specs.declared.Extended.TheVariants.{Fin}
-use Rattle.affine_segment.specs.Reading.{read, piece_in, piece_value}
+use Rattle.upp_curve.specs.affine_segment.Reading.{read, piece_in, piece_value}
 use Rattle.upp_curve.specs.Curve.{value_at, repeated}
 use Rattle.upp_curve.specs.Unrolled.{count, unroll, copies, each_later, upto, from}
 use Rattle.upp_curve.specs.WorkedRows.{whole, StairRows, GateRows, BucketRows, RateLatencyRows, MinimumRows}

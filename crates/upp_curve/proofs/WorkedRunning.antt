@@ -10,7 +10,7 @@ use Rattle.min_plus.specs.rational.proofs.Laws.{le_or_lt, le_refl, between, div_
 use Rattle.min_plus.specs.rational.proofs.MinMax.{le_q_not}
 use Rattle.min_plus.specs.rational.proofs.Bounds.{least_member, largest_member}
 use Rattle.min_plus.specs.rational.proofs.Whole.{not_zero}
-use Rattle.affine_segment.specs.Reading.{read, piece_in}
+use Rattle.upp_curve.specs.affine_segment.Reading.{read, piece_in}
 use Rattle.upp_curve.specs.Curve.{value_at}
 use Rattle.min_plus.specs.Functions.{zero_q, UpTo, From}
 use Rattle.min_plus.specs.Running.{IsRunningSupremum, IsRunningInfimum}

@@ -17,7 +17,7 @@ use Rattle.min_plus.specs.rational.proofs.Integers.{nat_next, nat_lt, nat_lt_out
 use Rattle.min_plus.specs.rational.proofs.Whole.{nat_nonneg, not_zero, lt_of_mul, whole_small, periods_low, periods_high}
 use Rattle.min_plus.specs.Functions.{zero_q, FiniteTime}
 use Rattle.min_plus.specs.Convolution.{IsDeconvolution, Split, IsConvolution}
-use Rattle.affine_segment.specs.Reading.{read, piece_in}
+use Rattle.upp_curve.specs.affine_segment.Reading.{read, piece_in}
 use Rattle.upp_curve.specs.Curve.{value_at, repeated}
 use Rattle.upp_curve.specs.Kinds.{stair, rate_latency}
 use Rattle.upp_curve.specs.WorkedRows.{whole}

@@ -5,10 +5,10 @@ use Rattle.min_plus.specs.rational.specs.Rational.{ℚ, ◌-ℚ◌, ◌*ℚ◌, 
 use Rattle.min_plus.specs.rational.specs.Whole.{periods}
 use Rattle.min_plus.specs.rational.specs.Extended.{Ext, ◌+ₑ◌}
 use Rattle.min_plus.specs.rational.specs.declared.Extended.TheVariants.{Fin, Inf}
-use Rattle.affine_segment.specs.declared.line.Piece.{Piece}
+use Rattle.upp_curve.specs.declared.affine_segment.line.Piece.{Piece}
 use Rattle.upp_curve.specs.declared.curve.Tail.{Tail}
 use Rattle.upp_curve.specs.declared.curve.Tail.TheVariants.{Periodic, Affine, Infinite}
-use Rattle.affine_segment.specs.Reading.{read}
+use Rattle.upp_curve.specs.affine_segment.Reading.{read}
 
 -- what a contract sees of a curve
 pub record SpecCurve : Type 0 where

@@ -13,7 +13,5 @@ pub mod KindLaws
 pub mod WorkedRows
 pub mod WorkedStairs
 pub mod WorkedShifts
-pub use Rattle.affine_segment as affine_segment
-pub use Rattle.min_plus as min_plus
-pub use Rattle.affine_segment.specs.fraction128 as fraction128
-pub use Rattle.min_plus.specs.rational as rational
+pub mod affine_segment
+pub use Rattle.fraction128 as fraction128

@@ -4,13 +4,13 @@ use Rattle.min_plus.specs.rational.specs.Rational.{ℚ, ◌-ℚ◌, ◌*ℚ◌, 
 use Rattle.min_plus.specs.rational.specs.Whole.{periods}
 use Rattle.min_plus.specs.rational.specs.Extended.{Ext}
 use Rattle.min_plus.specs.rational.specs.declared.Extended.TheVariants.{Fin, Inf}
-use Rattle.affine_segment.specs.fraction128.specs.declared.fault.Wide.{Wide}
-use Rattle.affine_segment.specs.declared.line.Line.{Line}
-use Rattle.affine_segment.specs.declared.line.Piece.{Piece}
-use Rattle.affine_segment.specs.Steps.{IsWideSum, IsWideDifference, IsWideProduct, IsWideQuotient, IsWideValue}
+use Rattle.fraction128.specs.declared.fault.Wide.{Wide}
+use Rattle.upp_curve.specs.declared.affine_segment.line.Line.{Line}
+use Rattle.upp_curve.specs.declared.affine_segment.line.Piece.{Piece}
+use Rattle.upp_curve.specs.affine_segment.Steps.{IsWideSum, IsWideDifference, IsWideProduct, IsWideQuotient, IsWideValue}
 use Rattle.upp_curve.specs.declared.curve.Tail.{Tail}
 use Rattle.upp_curve.specs.declared.curve.Tail.TheVariants.{Periodic, Affine, Infinite}
-use Rattle.affine_segment.specs.Reading.{read, piece_in}
+use Rattle.upp_curve.specs.affine_segment.Reading.{read, piece_in}
 use Rattle.upp_curve.specs.Curve.{SpecCurve}
 
 -- w is a step of the line's value at t; where there is no line there is no step

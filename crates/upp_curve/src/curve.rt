@@ -8,11 +8,11 @@ ghost use Rattle.min_plus.specs.Functions.{IsFinite, IsRising};
 ghost use Rattle.upp_curve.specs.Steady.{rate};
 ghost use Rattle.upp_curve.specs.Steps.{IsWideValueAt};
 
+use crate::affine_segment::Piece;
 use crate::reading::{read, read_past};
 use crate::same::{same_pieces, same_tail};
 use crate::shape::{are_finite, last_slope, period_end, rise_to};
-use affine_segment::Piece;
-use affine_segment::fraction128::{Ext, Frac, Wide};
+use fraction128::{Ext, Frac, Wide};
 use min_plus::rational::Extended;
 use std::alloc::{AllocError, Global};
 use std::cmp::Ordering;

@@ -6,8 +6,8 @@ ghost use Rattle.upp_curve.specs.Readable.{SumFitsAt};
 ghost use Rattle.upp_curve.specs.Unrolled.{line_later, later};
 ghost use Rattle.upp_curve.specs.Fitting.{LaterFits, LineLaterFits};
 
-use affine_segment::fraction128::{Ext, Frac, difference, product, sum};
-use affine_segment::{Line, Piece};
+use crate::affine_segment::{Line, Piece};
+use fraction128::{Ext, Frac, difference, product, sum};
 use min_plus::rational::Extended;
 
 /// A value, risen.

@@ -1,19 +1,19 @@
 //! Whether a curve jumps, by what is read of each of its pieces.
 
 ghost use Rattle.std.specs.Prelude.{◌≡◌, ◌↔◌, ◌∷◌, IsTrue};
-ghost use Rattle.affine_segment.specs.Values.{line_value};
+ghost use Rattle.upp_curve.specs.affine_segment.Values.{line_value};
 ghost use Rattle.upp_curve.specs.Curve.{value_at};
 ghost use Rattle.min_plus.specs.Functions.{IsRising};
-ghost use Rattle.affine_segment.specs.Fits.{LineFitsAt};
+ghost use Rattle.upp_curve.specs.affine_segment.Fits.{LineFitsAt};
 ghost use Rattle.upp_curve.specs.Readable.{LineFitsTo, EachFits};
 ghost use Rattle.upp_curve.specs.Shapes.{end_time};
 ghost use Rattle.min_plus.specs.Continuity.{IsContinuous};
 ghost use Rattle.upp_curve.specs.JoinedPieces.{PieceJoins, PiecesJoin};
 
+use crate::affine_segment::{Line, Piece, line_at};
 use crate::curve::{Curve, Tail};
 use crate::shape::{End, period_end};
-use affine_segment::fraction128::{Ext, Frac};
-use affine_segment::{Line, Piece, line_at};
+use fraction128::{Ext, Frac};
 use min_plus::rational::Extended;
 
 // Whether the value of a line at x, infinity where there is none, is this one.

@@ -2,6 +2,7 @@
 //! shape.
 #![tactic(auto)]
 
+pub mod affine_segment;
 mod curve;
 pub mod fitting;
 mod jumps;
@@ -11,10 +12,8 @@ pub mod same;
 mod shape;
 mod worked_laws;
 
-pub use affine_segment;
-pub use affine_segment::fraction128;
 pub use curve::{Curve, Tail, equal};
+pub use fraction128;
 pub use jumps::is_continuous;
 pub use kind_laws::kinds_are_curves;
-pub use min_plus::rational;
 pub use worked_laws::{worked_kinds, worked_operators, worked_shifts, worked_stairs};

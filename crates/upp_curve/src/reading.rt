@@ -4,14 +4,14 @@ ghost use Rattle.std.specs.Prelude.{◌≡◌, pos, List, ◌∷◌, IfOk, IfErr
 ghost use Rattle.min_plus.specs.rational.specs.Rational.{ℚ, int, ◌≤ℚ◌, ◌<ℚ◌, le_q};
 ghost use Rattle.min_plus.specs.rational.specs.Extended.{◌+ₑ◌};
 ghost use Rattle.min_plus.specs.rational.specs.Whole.{periods};
-ghost use Rattle.affine_segment.specs.Values.{line_value};
-ghost use Rattle.affine_segment.specs.Reading.{piece_in, piece_value, read};
+ghost use Rattle.upp_curve.specs.affine_segment.Values.{line_value};
+ghost use Rattle.upp_curve.specs.affine_segment.Reading.{piece_in, piece_value, read};
 ghost use Rattle.upp_curve.specs.Curve.{repeated};
-ghost use Rattle.affine_segment.specs.Pieces.{StartsAtZero};
+ghost use Rattle.upp_curve.specs.affine_segment.Pieces.{StartsAtZero};
 ghost use Rattle.upp_curve.specs.Steps.{IsWideLine, IsWideRead, IsWideRise, IsWidePeriods, IsWidePast};
 
-use affine_segment::fraction128::{Ext, Frac, Wide};
-use affine_segment::{Line, Piece, piece_at, value};
+use crate::affine_segment::{Line, Piece, piece_at, value};
+use fraction128::{Ext, Frac, Wide};
 use min_plus::rational::Extended;
 use std::cmp::Ordering;
 

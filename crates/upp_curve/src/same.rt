@@ -2,9 +2,9 @@
 
 ghost use Rattle.std.specs.Prelude.{◌≡◌, ◌↔◌, IsTrue};
 
+use crate::affine_segment::{Line, Piece};
 use crate::curve::Tail;
-use affine_segment::fraction128::Ext;
-use affine_segment::{Line, Piece};
+use fraction128::Ext;
 use min_plus::rational::Extended;
 
 /// Whether two values are one.

@@ -4,16 +4,16 @@ ghost use Rattle.std.specs.Prelude.{◌≡◌, ◌↔◌, pos, ◌∷◌, IsTrue
 ghost use Rattle.min_plus.specs.rational.specs.Rational.{int, ◌+ℚ◌, ◌≤ℚ◌};
 ghost use Rattle.min_plus.specs.rational.specs.Ratio.{SumFits};
 ghost use Rattle.min_plus.specs.rational.specs.Extended.{◌≤ₑ◌, ◌+ₑ◌};
-ghost use Rattle.affine_segment.specs.Reading.{read};
-ghost use Rattle.affine_segment.specs.Pieces.{Each, HasStart, StartsAtZero};
-ghost use Rattle.affine_segment.specs.Fits.{LineFits, LineFitsAt};
+ghost use Rattle.upp_curve.specs.affine_segment.Reading.{read};
+ghost use Rattle.upp_curve.specs.affine_segment.Pieces.{Each, HasStart, StartsAtZero};
+ghost use Rattle.upp_curve.specs.affine_segment.Fits.{LineFits, LineFitsAt};
 ghost use Rattle.upp_curve.specs.Readable.{LineFitsTo, EachFits, SumFitsAt};
 ghost use Rattle.upp_curve.specs.Steady.{slope_of, last_line};
 ghost use Rattle.upp_curve.specs.Shapes.{IsFinitePiece, EndsBelow, PieceRises, PiecesRise, end_time};
 
+use crate::affine_segment::{Line, Piece, line_at, piece_at};
 use crate::fitting::raised;
-use affine_segment::fraction128::{Ext, Frac, sum};
-use affine_segment::{Line, Piece, line_at, piece_at};
+use fraction128::{Ext, Frac, sum};
 use min_plus::rational::Extended;
 use std::cmp::Ordering;
 

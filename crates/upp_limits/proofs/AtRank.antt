@@ -2,18 +2,18 @@
 use Rattle.std.specs.Prelude.{◌≡◌, ◌↔◌, Bool, true, false, ◌&&◌, IsTrue, Some, None}
 use Rattle.std.proofs.Common.{sym, ap, ◌∙◌, refl, subst}
 use Rattle.std.proofs.lemmas.Bool.{true≢false}
-use Rattle.upp_curve.specs.rational.specs.Rational.{ℚ, ◌≤ℚ◌, ◌<ℚ◌}
-use Rattle.upp_curve.specs.rational.specs.Extended.{Ext}
-use Rattle.upp_curve.specs.rational.specs.declared.Extended.TheVariants.{Fin, Inf}
-use Rattle.upp_curve.specs.rational.proofs.Laws.{le_refl}
-use Rattle.upp_curve.specs.rational.proofs.Over.{le_q_out}
-use Rattle.upp_curve.specs.affine_segment.specs.declared.line.Line.{Line}
-use Rattle.upp_curve.specs.affine_segment.specs.declared.line.Piece.{Piece}
-use Rattle.upp_curve.specs.affine_segment.specs.Values.{line_value}
-use Rattle.upp_curve.specs.affine_segment.specs.Reading.{piece_value}
+use Rattle.min_plus.specs.rational.specs.Rational.{ℚ, ◌≤ℚ◌, ◌<ℚ◌}
+use Rattle.min_plus.specs.rational.specs.Extended.{Ext}
+use Rattle.min_plus.specs.rational.specs.declared.Extended.TheVariants.{Fin, Inf}
+use Rattle.min_plus.specs.rational.proofs.Laws.{le_refl}
+use Rattle.min_plus.specs.rational.proofs.Over.{le_q_out}
+use Rattle.upp_curve.specs.declared.affine_segment.line.Line.{Line}
+use Rattle.upp_curve.specs.declared.affine_segment.line.Piece.{Piece}
+use Rattle.upp_curve.specs.affine_segment.Values.{line_value}
+use Rattle.upp_curve.specs.affine_segment.Reading.{piece_value}
 use Rattle.upp_curve.specs.Steady.{same_ext}
 use Rattle.upp_curve.proofs.Steady.{same_out}
-use Rattle.upp_curve.specs.affine_segment.proofs.PieceIn.{value_by, value_past}
+use Rattle.upp_curve.proofs.affine_segment.PieceIn.{value_by, value_past}
 
 same_self : (x : Ext) → same_ext x x ≡ true
 unfolding same_ext

@@ -1,7 +1,7 @@
 -- The sizes of a call, made without unrolling its operands.
 use Rattle.std.specs.Prelude.{◌≡◌}
 use Rattle.std.proofs.Common.{subst}
-use Rattle.upp_curve.specs.rational.specs.Rational.{ℚ}
+use Rattle.min_plus.specs.rational.specs.Rational.{ℚ}
 use Rattle.upp_curve.specs.Curve.{SpecCurve}
 use Rattle.upp_limits.specs.declared.op_kind.OpKind.{OpKind}
 use Rattle.upp_limits.specs.declared.op_kind.Operands.{Operands}

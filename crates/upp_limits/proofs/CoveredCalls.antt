@@ -1,19 +1,19 @@
 -- A call's numbers by the first copies of its operands' pieces.
 use Rattle.std.specs.Prelude.{◌≡◌, ℕ, ◌+◌, ◌*◌, ◌<◌, ◌≤◌, ◌^◌, ◌-◌, pos, ◌≢◌, None}
 use Rattle.std.proofs.Common.{arith, sym, ◌∙◌, subst}
-use Rattle.upp_curve.specs.rational.specs.Rational.{ℚ, ◌+ℚ◌, ◌-ℚ◌, ◌*ℚ◌, ◌/ℚ◌, ◌<ℚ◌, int}
-use Rattle.upp_curve.specs.rational.specs.Grid.{Within}
-use Rattle.upp_curve.specs.rational.specs.Gauge.{cap, bound_of, size_up}
-use Rattle.upp_curve.specs.rational.specs.declared.Extended.TheVariants.{Inf}
-use Rattle.upp_curve.specs.rational.proofs.Linear.{with4}
-use Rattle.upp_curve.specs.rational.proofs.Grid.{within_weaken, within_mul, within_nonneg}
-use Rattle.upp_curve.specs.rational.proofs.Integers.{int_mul, nat_le, nat_nonneg}
-use Rattle.upp_curve.specs.affine_segment.specs.declared.line.Piece.{Piece}
+use Rattle.min_plus.specs.rational.specs.Rational.{ℚ, ◌+ℚ◌, ◌-ℚ◌, ◌*ℚ◌, ◌/ℚ◌, ◌<ℚ◌, int}
+use Rattle.min_plus.specs.rational.specs.Grid.{Within}
+use Rattle.min_plus.specs.rational.specs.Gauge.{cap, bound_of, size_up}
+use Rattle.min_plus.specs.rational.specs.declared.Extended.TheVariants.{Inf}
+use Rattle.min_plus.specs.rational.proofs.Linear.{with4}
+use Rattle.min_plus.specs.rational.proofs.Grid.{within_weaken, within_mul, within_nonneg}
+use Rattle.min_plus.specs.rational.proofs.Integers.{int_mul, nat_le, nat_nonneg}
+use Rattle.upp_curve.specs.declared.affine_segment.line.Piece.{Piece}
 use Rattle.upp_curve.specs.declared.curve.Tail.{Tail}
 use Rattle.upp_curve.specs.declared.curve.Tail.TheVariants.{Periodic, Affine, Infinite}
 use Rattle.upp_curve.specs.Curve.{SpecCurve}
 use Rattle.upp_curve.specs.Curves.{IsCurve}
-use Rattle.upp_curve.specs.min_plus.specs.WholeUp.{whole_up}
+use Rattle.min_plus.specs.WholeUp.{whole_up}
 use Rattle.upp_limits.specs.declared.op_kind.OpKind.{OpKind}
 use Rattle.upp_limits.specs.declared.op_kind.Operands.{Operands}
 use Rattle.upp_limits.specs.declared.op_kind.Operands.TheVariants.{First, Both, FirstScaled}

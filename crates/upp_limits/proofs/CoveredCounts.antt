@@ -2,17 +2,17 @@
 use Rattle.std.specs.Prelude.{◌≡◌, ℕ, zero, suc, ◌+◌, ◌*◌, ◌<◌, ◌≤◌, ◌^◌, pos, cond, Bool, true, false, None, List, [], ◌∷◌, length, sum_by}
 use Rattle.std.proofs.Common.{arith, inl, inr}
 use Rattle.std.proofs.lemmas.List.Sums.{sum_by-cons}
-use Rattle.upp_curve.specs.rational.specs.Rational.{ℚ, ◌-ℚ◌, ◌*ℚ◌, ◌/ℚ◌, ◌≤ℚ◌, ◌<ℚ◌, int, lt_q}
-use Rattle.upp_curve.specs.rational.specs.Gauge.{cap}
-use Rattle.upp_curve.specs.rational.specs.declared.Extended.TheVariants.{Inf}
-use Rattle.upp_curve.specs.rational.proofs.Laws.{le_or_lt}
-use Rattle.upp_curve.specs.rational.proofs.Linear.{with4}
-use Rattle.upp_curve.specs.affine_segment.specs.declared.line.Piece.{Piece}
+use Rattle.min_plus.specs.rational.specs.Rational.{ℚ, ◌-ℚ◌, ◌*ℚ◌, ◌/ℚ◌, ◌≤ℚ◌, ◌<ℚ◌, int, lt_q}
+use Rattle.min_plus.specs.rational.specs.Gauge.{cap}
+use Rattle.min_plus.specs.rational.specs.declared.Extended.TheVariants.{Inf}
+use Rattle.min_plus.specs.rational.proofs.Laws.{le_or_lt}
+use Rattle.min_plus.specs.rational.proofs.Linear.{with4}
+use Rattle.upp_curve.specs.declared.affine_segment.line.Piece.{Piece}
 use Rattle.upp_curve.specs.declared.curve.Tail.TheVariants.{Periodic}
 use Rattle.upp_curve.specs.Curve.{SpecCurve}
 use Rattle.upp_curve.specs.Curves.{IsCurve}
 use Rattle.upp_curve.specs.Unrolled.{count, copies_below}
-use Rattle.upp_curve.specs.min_plus.specs.WholeUp.{whole_up}
+use Rattle.min_plus.specs.WholeUp.{whole_up}
 use Rattle.upp_limits.specs.Spans.{once, number_below}
 use Rattle.upp_limits.specs.Covered.{MostCopies}
 use Rattle.upp_limits.proofs.Copies.{copies_in, copies_out}

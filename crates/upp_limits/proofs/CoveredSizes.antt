@@ -4,13 +4,13 @@ use Rattle.std.specs.List.{AllByRecursion}
 use Rattle.std.proofs.Common.{arith, sym, ap, subst, append-nil}
 use Rattle.std.proofs.Math.Nat.{le-max_left, le-max_right, max-le}
 use native.Mathlib.Nat.{mul-le-mul_left, mul-le-mul_right}
-use Rattle.upp_curve.specs.rational.specs.Rational.{ℚ, ◌+ℚ◌, ◌*ℚ◌, ◌≤ℚ◌, int}
-use Rattle.upp_curve.specs.rational.specs.Grid.{Whole, Within}
-use Rattle.upp_curve.specs.rational.specs.Gauge.{common_den, bound_of, size_up}
-use Rattle.upp_curve.specs.rational.proofs.Grid.{whole_int}
-use Rattle.upp_curve.specs.rational.proofs.Integers.{int_add, nat_le, nat_le_out}
+use Rattle.min_plus.specs.rational.specs.Rational.{ℚ, ◌+ℚ◌, ◌*ℚ◌, ◌≤ℚ◌, int}
+use Rattle.min_plus.specs.rational.specs.Grid.{Whole, Within}
+use Rattle.min_plus.specs.rational.specs.Gauge.{common_den, bound_of, size_up}
+use Rattle.min_plus.specs.rational.proofs.Grid.{whole_int}
+use Rattle.min_plus.specs.rational.proofs.Integers.{int_add, nat_le, nat_le_out}
 use Rattle.upp_curve.specs.Curve.{SpecCurve}
-use Rattle.upp_curve.specs.min_plus.specs.WholeUp.{whole_up}
+use Rattle.min_plus.specs.WholeUp.{whole_up}
 use Rattle.upp_limits.specs.Periods.{HasPeriod}
 use Rattle.upp_limits.specs.Limits.{Numbers, Sizes, joined, twice, value_alone, curve_numbers, sizes_of, gauge_of}
 use Rattle.upp_limits.specs.Sized.{grid_of}

@@ -3,22 +3,22 @@ use Rattle.std.specs.Prelude.{◌≡◌, ◌<◌, pos, cond, List, [], ◌∷◌
 use Rattle.std.proofs.Common.{arith, sym, subst, inl, inr}
 use Rattle.std.specs.List.{AllByRecursion, flat_map}
 use Rattle.std.proofs.Math.Nat.{le-max_right}
-use Rattle.upp_curve.specs.rational.specs.Rational.{ℚ, ◌+ℚ◌, ◌*ℚ◌, ◌≤ℚ◌, ◌<ℚ◌, int}
-use Rattle.upp_curve.specs.rational.specs.Grid.{Whole}
-use Rattle.upp_curve.specs.rational.proofs.Linear.{with1, with2}
-use Rattle.upp_curve.specs.rational.proofs.Laws.{le_or_lt, le_trans, le_lt_trans}
-use Rattle.upp_curve.specs.rational.proofs.Integers.{nat_le}
-use Rattle.upp_curve.specs.rational.proofs.Over.{lt_q_out}
-use Rattle.upp_curve.specs.rational.proofs.MinMax.{lt_q_not}
-use Rattle.upp_curve.specs.affine_segment.specs.declared.line.Piece.{Piece}
+use Rattle.min_plus.specs.rational.specs.Rational.{ℚ, ◌+ℚ◌, ◌*ℚ◌, ◌≤ℚ◌, ◌<ℚ◌, int}
+use Rattle.min_plus.specs.rational.specs.Grid.{Whole}
+use Rattle.min_plus.specs.rational.proofs.Linear.{with1, with2}
+use Rattle.min_plus.specs.rational.proofs.Laws.{le_or_lt, le_trans, le_lt_trans}
+use Rattle.min_plus.specs.rational.proofs.Integers.{nat_le}
+use Rattle.min_plus.specs.rational.proofs.Over.{lt_q_out}
+use Rattle.min_plus.specs.rational.proofs.MinMax.{lt_q_not}
+use Rattle.upp_curve.specs.declared.affine_segment.line.Piece.{Piece}
 use Rattle.upp_curve.specs.declared.curve.Tail.{Tail}
 use Rattle.upp_curve.specs.declared.curve.Tail.TheVariants.{Periodic, Affine, Infinite}
 use Rattle.upp_curve.specs.Curve.{SpecCurve}
 use Rattle.upp_curve.specs.Steady.{rank_of, steady, steady_in, last_of}
 use Rattle.upp_limits.specs.Periods.{HasPeriod, own_period}
 use Rattle.upp_curve.specs.Unrolled.{copies_below}
-use Rattle.upp_curve.specs.min_plus.specs.WholeUp.{whole_up}
-use Rattle.upp_curve.specs.affine_segment.specs.Pieces.{Each}
+use Rattle.min_plus.specs.WholeUp.{whole_up}
+use Rattle.upp_curve.specs.affine_segment.Pieces.{Each}
 use Rattle.upp_curve.specs.Normal.{IsRaw, TailFits}
 use Rattle.upp_limits.specs.Spans.{Span, spans, copies_of, once_below, span_below, spans_below}
 use Rattle.upp_limits.specs.Limits.{Numbers, Sizes, sizes_of, curve_numbers, span_values, span_slopes, own_end, own_sizes}

@@ -2,19 +2,19 @@
 use Rattle.std.specs.Prelude.{◌≡◌, ℕ, ◌+◌, ◌≤◌, pos, List, [], ◌∷◌, length, sum_by, cond}
 use Rattle.std.proofs.Common.{arith, sym, refl, subst, inl, inr}
 use Rattle.std.proofs.lemmas.List.Sums.{sum_by-cons}
-use Rattle.upp_curve.specs.rational.specs.Rational.{ℚ, ◌+ℚ◌, ◌-ℚ◌, ◌*ℚ◌, ◌/ℚ◌, ◌≤ℚ◌, ◌<ℚ◌, int}
-use Rattle.upp_curve.specs.rational.proofs.Linear.{with3}
-use Rattle.upp_curve.specs.rational.proofs.Laws.{one_mul, le_or_lt}
-use Rattle.upp_curve.specs.rational.proofs.Quotients.{div_le}
-use Rattle.upp_curve.specs.rational.proofs.Over.{lt_q_out}
-use Rattle.upp_curve.specs.rational.proofs.MinMax.{lt_q_not}
-use Rattle.upp_curve.specs.affine_segment.specs.declared.line.Piece.{Piece}
+use Rattle.min_plus.specs.rational.specs.Rational.{ℚ, ◌+ℚ◌, ◌-ℚ◌, ◌*ℚ◌, ◌/ℚ◌, ◌≤ℚ◌, ◌<ℚ◌, int}
+use Rattle.min_plus.specs.rational.proofs.Linear.{with3}
+use Rattle.min_plus.specs.rational.proofs.Laws.{one_mul, le_or_lt}
+use Rattle.min_plus.specs.rational.proofs.Quotients.{div_le}
+use Rattle.min_plus.specs.rational.proofs.Over.{lt_q_out}
+use Rattle.min_plus.specs.rational.proofs.MinMax.{lt_q_not}
+use Rattle.upp_curve.specs.declared.affine_segment.line.Piece.{Piece}
 use Rattle.upp_curve.specs.declared.curve.Tail.TheVariants.{Periodic, Affine}
 use Rattle.upp_curve.specs.Curve.{SpecCurve}
-use Rattle.upp_curve.specs.min_plus.specs.Functions.{zero_q}
+use Rattle.min_plus.specs.Functions.{zero_q}
 use Rattle.upp_curve.specs.Steady.{steady}
 use Rattle.upp_limits.specs.Periods.{own_period}
-use Rattle.upp_curve.specs.affine_segment.specs.Pieces.{StartsAtZero}
+use Rattle.upp_curve.specs.affine_segment.Pieces.{StartsAtZero}
 use Rattle.upp_curve.specs.Unrolled.{copies_below}
 use Rattle.upp_limits.specs.Spans.{once, number_below}
 use Rattle.upp_limits.specs.Limits.{own_end, own_tally}

@@ -1,31 +1,31 @@
 -- A curve of rate 0 that rises ends at one value; and when one curve ends above another.
 use Rattle.std.specs.Prelude.{◌≡◌, ℕ, suc, pos, List, Option, Some, None, ◌↔◌}
 use Rattle.std.proofs.Common.{arith, sym, ap, ◌∙◌, refl, subst}
-use Rattle.upp_curve.specs.rational.specs.Rational.{ℚ, ◌+ℚ◌, ◌*ℚ◌, ◌/ℚ◌, ◌≤ℚ◌, ◌<ℚ◌, int}
-use Rattle.upp_curve.specs.rational.specs.Extended.{Ext, ◌≤ₑ◌, ◌<ₑ◌, ◌+ₑ◌}
-use Rattle.upp_curve.specs.rational.specs.declared.Extended.TheVariants.{Fin, Inf}
-use Rattle.upp_curve.specs.rational.proofs.Linear.{with2, with4}
-use Rattle.upp_curve.specs.rational.proofs.Laws.{le_refl, le_trans, le_of_lt, le_lt_trans, lt_le_trans, mul_comm, mul_zero, div_mul}
-use Rattle.upp_curve.specs.rational.specs.MinMax.{max_q}
-use Rattle.upp_curve.specs.rational.proofs.MinMax.{max_q_ge_left, max_q_ge_right}
-use Rattle.upp_curve.specs.rational.proofs.Whole.{not_zero, periods_high, one_more_times}
-use Rattle.upp_curve.specs.rational.specs.Whole.{periods}
-use Rattle.upp_curve.specs.affine_segment.specs.declared.line.Line.{Line}
-use Rattle.upp_curve.specs.affine_segment.specs.declared.line.Piece.{Piece}
-use Rattle.upp_curve.specs.affine_segment.specs.Values.{line_value}
+use Rattle.min_plus.specs.rational.specs.Rational.{ℚ, ◌+ℚ◌, ◌*ℚ◌, ◌/ℚ◌, ◌≤ℚ◌, ◌<ℚ◌, int}
+use Rattle.min_plus.specs.rational.specs.Extended.{Ext, ◌≤ₑ◌, ◌<ₑ◌, ◌+ₑ◌}
+use Rattle.min_plus.specs.rational.specs.declared.Extended.TheVariants.{Fin, Inf}
+use Rattle.min_plus.specs.rational.proofs.Linear.{with2, with4}
+use Rattle.min_plus.specs.rational.proofs.Laws.{le_refl, le_trans, le_of_lt, le_lt_trans, lt_le_trans, mul_comm, mul_zero, div_mul}
+use Rattle.min_plus.specs.rational.specs.MinMax.{max_q}
+use Rattle.min_plus.specs.rational.proofs.MinMax.{max_q_ge_left, max_q_ge_right}
+use Rattle.min_plus.specs.rational.proofs.Whole.{not_zero, periods_high, one_more_times}
+use Rattle.min_plus.specs.rational.specs.Whole.{periods}
+use Rattle.upp_curve.specs.declared.affine_segment.line.Line.{Line}
+use Rattle.upp_curve.specs.declared.affine_segment.line.Piece.{Piece}
+use Rattle.upp_curve.specs.affine_segment.Values.{line_value}
 use Rattle.upp_curve.specs.declared.curve.Tail.{Tail}
 use Rattle.upp_curve.specs.declared.curve.Tail.TheVariants.{Periodic, Affine, Infinite}
-use Rattle.upp_curve.specs.affine_segment.specs.Reading.{read}
+use Rattle.upp_curve.specs.affine_segment.Reading.{read}
 use Rattle.upp_curve.specs.Curve.{SpecCurve, value_at}
 use Rattle.upp_curve.specs.Steady.{last_line, rate, slope_of, Repeats}
-use Rattle.upp_curve.specs.affine_segment.specs.Pieces.{Each}
+use Rattle.upp_curve.specs.affine_segment.Pieces.{Each}
 use Rattle.upp_curve.specs.Curves.{IsCurve}
-use Rattle.upp_curve.specs.min_plus.specs.Functions.{zero_q, IsRising}
+use Rattle.min_plus.specs.Functions.{zero_q, IsRising}
 use Rattle.upp_limits.specs.Levels.{icept_of, level_of, IsLevelAbove}
 use Rattle.upp_limits.specs.Gauges.{ValueAbove, EndsAbove}
 use Rattle.upp_curve.proofs.Steady.{read_past}
 use Rattle.upp_curve.proofs.Repeats.{repeated_rule, repeats_times}
-use Rattle.upp_curve.specs.rational.proofs.ExtendedOrder.{antisym_ext, fin_same}
+use Rattle.min_plus.specs.rational.proofs.ExtendedOrder.{antisym_ext, fin_same}
 
 -- f is nowhere above x, and is x from some time on
 pub record EndsAt (x : ℚ) (f : ℚ → Ext) : Type 0 where

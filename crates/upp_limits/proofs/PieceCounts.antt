@@ -3,19 +3,19 @@ use Rattle.std.specs.Prelude.{◌≡◌, ℕ, zero, suc, ◌+◌, ◌<◌, pos, 
 use Rattle.std.proofs.Common.{arith, sym, ap, ap₂, ◌∙◌, refl, subst, inl, inr}
 use Rattle.std.proofs.lemmas.Bool.{cases_lt}
 use Rattle.std.proofs.lemmas.List.Sums.{sum_by-cons}
-use Rattle.upp_curve.specs.rational.specs.Rational.{ℚ, ◌+ℚ◌, ◌-ℚ◌, ◌*ℚ◌, ◌≤ℚ◌, ◌<ℚ◌, int, lt_q}
-use Rattle.upp_curve.specs.rational.specs.Whole.{periods}
-use Rattle.upp_curve.specs.rational.proofs.Linear.{with1, with2, with3, with4, with5}
-use Rattle.upp_curve.specs.rational.proofs.Laws.{le_or_lt, le_of_lt, le_trans, le_lt_trans, lt_irrefl}
-use Rattle.upp_curve.specs.rational.proofs.Over.{lt_q_out}
-use Rattle.upp_curve.specs.rational.proofs.MinMax.{lt_q_not}
-use Rattle.upp_curve.specs.rational.proofs.Whole.{one_more_times, periods_high}
-use Rattle.upp_curve.specs.affine_segment.specs.declared.line.Piece.{Piece}
+use Rattle.min_plus.specs.rational.specs.Rational.{ℚ, ◌+ℚ◌, ◌-ℚ◌, ◌*ℚ◌, ◌≤ℚ◌, ◌<ℚ◌, int, lt_q}
+use Rattle.min_plus.specs.rational.specs.Whole.{periods}
+use Rattle.min_plus.specs.rational.proofs.Linear.{with1, with2, with3, with4, with5}
+use Rattle.min_plus.specs.rational.proofs.Laws.{le_or_lt, le_of_lt, le_trans, le_lt_trans, lt_irrefl}
+use Rattle.min_plus.specs.rational.proofs.Over.{lt_q_out}
+use Rattle.min_plus.specs.rational.proofs.MinMax.{lt_q_not}
+use Rattle.min_plus.specs.rational.proofs.Whole.{one_more_times, periods_high}
+use Rattle.upp_curve.specs.declared.affine_segment.line.Piece.{Piece}
 use Rattle.upp_curve.specs.declared.curve.Tail.{Tail}
 use Rattle.upp_curve.specs.declared.curve.Tail.TheVariants.{Periodic, Affine, Infinite}
 use Rattle.upp_curve.specs.Curve.{SpecCurve}
 use Rattle.upp_curve.specs.Unrolled.{later, each_later, copies, upto, from, unroll, copies_below, count}
-use Rattle.upp_curve.specs.affine_segment.specs.Pieces.{Each, RisesFrom, StartsAtZero}
+use Rattle.upp_curve.specs.affine_segment.Pieces.{Each, RisesFrom, StartsAtZero}
 use Rattle.upp_curve.specs.Normal.{IsRaw, TailFits}
 use Rattle.upp_limits.specs.Spans.{once, number_below}
 use Rattle.upp_limits.proofs.Copies.{copies_in, copies_out}

@@ -2,11 +2,11 @@
 use Rattle.std.specs.Prelude.{◌≡◌, ℕ, zero, suc, ◌+◌, ◌<◌, ◌≤◌, pos, List, [], ◌∷◌, length, drop, Option}
 use Rattle.std.proofs.Common.{arith, sym, ap, ap₂, ◌∙◌, refl, subst, get_or, drop-cons, drop_of_length-le}
 use Rattle.std.specs.List.{AllByRecursion}
-use Rattle.upp_curve.specs.rational.specs.Rational.{ℚ, ◌≤ℚ◌, int}
-use Rattle.upp_curve.specs.rational.proofs.Laws.{le_refl, le_of_lt, le_trans}
-use Rattle.upp_curve.specs.affine_segment.specs.declared.line.Piece.{Piece}
+use Rattle.min_plus.specs.rational.specs.Rational.{ℚ, ◌≤ℚ◌, int}
+use Rattle.min_plus.specs.rational.proofs.Laws.{le_refl, le_of_lt, le_trans}
+use Rattle.upp_curve.specs.declared.affine_segment.line.Piece.{Piece}
 use Rattle.upp_curve.specs.declared.curve.Tail.{Tail}
-use Rattle.upp_curve.specs.affine_segment.specs.Pieces.{RisesFrom, StartsAtZero, start_after}
+use Rattle.upp_curve.specs.affine_segment.Pieces.{RisesFrom, StartsAtZero, start_after}
 use Rattle.upp_limits.specs.Spans.{Span, piece_read, end_of, spans}
 use Rattle.upp_limits.specs.Limits.{Numbers, no_numbers, joined}
 use Rattle.upp_limits.specs.ClosedForm.{closed_span, closed_spans}

@@ -3,16 +3,16 @@ use Rattle.std.specs.Prelude.{◌≡◌, ℕ, zero, suc, ◌+◌, ◌-◌, ◌*�
 use Rattle.std.proofs.Common.{arith, sym, ap, ◌∙◌, refl, subst, inl, inr}
 use Rattle.std.proofs.lemmas.Bool.{cases_lt, true≢false}
 use native.Mathlib.Nat.{div-add-mod', mod-lt, mul_comm, le_of_mul-le-mul_right, lt_of_mul-lt-mul_right, zero-lt-suc}
-use Rattle.upp_curve.specs.rational.specs.Ints.{mul_comm_z}
-use Rattle.upp_curve.specs.rational.specs.Rational.{ℚ, den, int, frac, ◌+ℚ◌, ◌-ℚ◌, ◌*ℚ◌, ◌/ℚ◌, ◌≤ℚ◌, ◌<ℚ◌}
-use Rattle.upp_curve.specs.rational.specs.Fractions.{frac_self, abs-mul}
-use Rattle.upp_curve.specs.rational.specs.Gauge.{cap, size_up}
-use Rattle.upp_curve.specs.rational.specs.declared.Extended.TheVariants.{Inf}
-use Rattle.upp_curve.specs.rational.proofs.Laws.{lt_irrefl, le_lt_trans, le_of_lt, le_or_lt, mul_nonneg, mul_le_mul, mul_zero}
-use Rattle.upp_curve.specs.rational.proofs.Integers.{nat_nonneg, mul_whole}
-use Rattle.upp_curve.specs.rational.proofs.Grid.{within_nonneg}
-use Rattle.upp_curve.specs.affine_segment.specs.declared.line.Piece.{Piece}
-use Rattle.upp_curve.specs.min_plus.specs.WholeUp.{whole_up}
+use Rattle.min_plus.specs.rational.specs.Ints.{mul_comm_z}
+use Rattle.min_plus.specs.rational.specs.Rational.{ℚ, den, int, frac, ◌+ℚ◌, ◌-ℚ◌, ◌*ℚ◌, ◌/ℚ◌, ◌≤ℚ◌, ◌<ℚ◌}
+use Rattle.min_plus.specs.rational.specs.Fractions.{frac_self, abs-mul}
+use Rattle.min_plus.specs.rational.specs.Gauge.{cap, size_up}
+use Rattle.min_plus.specs.rational.specs.declared.Extended.TheVariants.{Inf}
+use Rattle.min_plus.specs.rational.proofs.Laws.{lt_irrefl, le_lt_trans, le_of_lt, le_or_lt, mul_nonneg, mul_le_mul, mul_zero}
+use Rattle.min_plus.specs.rational.proofs.Integers.{nat_nonneg, mul_whole}
+use Rattle.min_plus.specs.rational.proofs.Grid.{within_nonneg}
+use Rattle.upp_curve.specs.declared.affine_segment.line.Piece.{Piece}
+use Rattle.min_plus.specs.WholeUp.{whole_up}
 use Rattle.upp_limits.proofs.CommonDen.{size_up_within, size_up_least, within_parts, within_parts_out}
 use Rattle.upp_limits.proofs.Copies.{whole_up_in, whole_up_out, copies_in, copies_out}
 

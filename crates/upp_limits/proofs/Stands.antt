@@ -3,12 +3,12 @@ use Rattle.std.specs.Prelude.{ℕ, ◌≤◌, pos, ◌∷◌, ◌++◌, Option, 
 use Rattle.std.proofs.Common.{arith}
 use Rattle.std.specs.List.{AllByRecursion}
 use Rattle.std.proofs.Math.Nat.{le-max_left}
-use Rattle.upp_curve.specs.rational.specs.Rational.{ℚ, ◌*ℚ◌, int}
-use Rattle.upp_curve.specs.rational.specs.Extended.{Ext}
-use Rattle.upp_curve.specs.rational.specs.declared.Extended.TheVariants.{Fin, Inf}
-use Rattle.upp_curve.specs.rational.specs.Grid.{Whole, Within}
-use Rattle.upp_curve.specs.affine_segment.specs.declared.line.Line.{Line}
-use Rattle.upp_curve.specs.affine_segment.specs.Values.{line_value}
+use Rattle.min_plus.specs.rational.specs.Rational.{ℚ, ◌*ℚ◌, int}
+use Rattle.min_plus.specs.rational.specs.Extended.{Ext}
+use Rattle.min_plus.specs.rational.specs.declared.Extended.TheVariants.{Fin, Inf}
+use Rattle.min_plus.specs.rational.specs.Grid.{Whole, Within}
+use Rattle.upp_curve.specs.declared.affine_segment.line.Line.{Line}
+use Rattle.upp_curve.specs.affine_segment.Values.{line_value}
 use Rattle.upp_limits.specs.Spans.{Span}
 use Rattle.upp_limits.specs.Limits.{Numbers, Sizes, joined, twice, sizes_of, finite, limit_before, span_values, line_slope, span_slopes}
 use Rattle.upp_limits.specs.Sized.{IsValue, IsSlope, Stands, ValueStands, LineStands, SpanStands}

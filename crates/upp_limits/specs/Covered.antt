@@ -1,8 +1,8 @@
 -- A bound of how far the copies of a curve's pieces are from the first ones, so that a gauge is known to be below the
 -- limit by the first copies alone. Own choice.
 use Rattle.std.specs.Prelude.{◌≡◌, ℕ, ◌<◌, ◌≤◌, ◌^◌, pos}
-use Rattle.upp_curve.specs.rational.specs.Rational.{ℚ, ◌+ℚ◌, ◌*ℚ◌, ◌≤ℚ◌, ◌<ℚ◌, int}
-use Rattle.upp_curve.specs.rational.specs.Grid.{Within}
+use Rattle.min_plus.specs.rational.specs.Rational.{ℚ, ◌+ℚ◌, ◌*ℚ◌, ◌≤ℚ◌, ◌<ℚ◌, int}
+use Rattle.min_plus.specs.rational.specs.Grid.{Within}
 use Rattle.upp_curve.specs.declared.curve.Tail.{Tail}
 use Rattle.upp_curve.specs.declared.curve.Tail.TheVariants.{Periodic, Affine, Infinite}
 use Rattle.upp_curve.specs.Curve.{SpecCurve}
@@ -15,7 +15,7 @@ use Rattle.upp_limits.specs.Limits.{Numbers, Sizes, joined, sizes_of, gauge_of}
 use Rattle.upp_limits.specs.Sized.{grid_of}
 use Rattle.upp_limits.specs.ClosedForm.{first_numbers}
 use Rattle.upp_limits.specs.Spans.{number_below}
-use Rattle.upp_curve.specs.affine_segment.specs.declared.line.Piece.{Piece}
+use Rattle.upp_curve.specs.declared.affine_segment.line.Piece.{Piece}
 use Rattle.upp_limits.specs.Gauges.{gauge_over, numbers_over}
 
 -- whatever number of periods after the rank starts before `end`: so many rises are within m

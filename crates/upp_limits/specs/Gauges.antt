@@ -1,10 +1,10 @@
 -- The tally and the gauge of each kind of call, and when a call is refused for them. Own choice.
 use Rattle.std.specs.Prelude.{◌≡◌, ℕ, ◌+◌, ◌*◌, ◌^◌, ◌<◌, ◌≤◌, List, [], ◌∷◌, map, Option, Some, None, ◌⊎◌}
-use Rattle.upp_curve.specs.rational.specs.Rational.{ℚ, ◌*ℚ◌, ◌≤ℚ◌}
-use Rattle.upp_curve.specs.rational.specs.Extended.{Ext, ◌<ₑ◌}
-use Rattle.upp_curve.specs.rational.specs.declared.Extended.TheVariants.{Fin, Inf}
-use Rattle.upp_curve.specs.affine_segment.specs.declared.line.Line.{Line}
-use Rattle.upp_curve.specs.affine_segment.specs.declared.line.Piece.{Piece}
+use Rattle.min_plus.specs.rational.specs.Rational.{ℚ, ◌*ℚ◌, ◌≤ℚ◌}
+use Rattle.min_plus.specs.rational.specs.Extended.{Ext, ◌<ₑ◌}
+use Rattle.min_plus.specs.rational.specs.declared.Extended.TheVariants.{Fin, Inf}
+use Rattle.upp_curve.specs.declared.affine_segment.line.Line.{Line}
+use Rattle.upp_curve.specs.declared.affine_segment.line.Piece.{Piece}
 use Rattle.upp_curve.specs.declared.curve.Tail.{Tail}
 use Rattle.upp_curve.specs.declared.curve.Tail.TheVariants.{Periodic, Affine, Infinite}
 use Rattle.upp_limits.specs.declared.op_kind.OpKind.{OpKind}
@@ -14,12 +14,12 @@ use Rattle.upp_limits.specs.declared.op_kind.OpKind.TheVariants.{Vertical, Itsel
 use Rattle.upp_curve.specs.Curve.{SpecCurve, value_at}
 use Rattle.upp_curve.specs.Steady.{rate}
 use Rattle.upp_curve.specs.Unrolled.{count}
-use Rattle.upp_curve.specs.min_plus.specs.Functions.{zero_q, IsFinite, IsRising}
+use Rattle.min_plus.specs.Functions.{zero_q, IsFinite, IsRising}
 use Rattle.upp_limits.specs.declared.op_kind.Tallied.{Tallied}
 use Rattle.upp_limits.specs.declared.op_kind.Tallied.TheVariants.{FirstAlone, FirstAndOne, SumOfBoth, ProductOfBoth}
 use Rattle.upp_limits.specs.declared.op_kind.Operands.{Operands}
 use Rattle.upp_limits.specs.declared.op_kind.Operands.TheVariants.{First, Both, FirstScaled}
-use Rattle.upp_curve.specs.min_plus.specs.Pointwise.{scaled}
+use Rattle.min_plus.specs.Pointwise.{scaled}
 use Rattle.upp_limits.specs.Limits.{Numbers, no_numbers, joined, curve_numbers, sizes_of, gauge_of}
 use Rattle.upp_limits.specs.Windows.{window_at, IsLeastPeriods}
 

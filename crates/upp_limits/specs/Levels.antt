@@ -1,8 +1,8 @@
 -- The value at which a curve of rate 0 that rises ends. Own choice.
 use Rattle.std.specs.Prelude.{List, Option, Some, None}
-use Rattle.upp_curve.specs.rational.specs.Rational.{ℚ, ◌<ℚ◌}
-use Rattle.upp_curve.specs.affine_segment.specs.declared.line.Line.{Line}
-use Rattle.upp_curve.specs.affine_segment.specs.declared.line.Piece.{Piece}
+use Rattle.min_plus.specs.rational.specs.Rational.{ℚ, ◌<ℚ◌}
+use Rattle.upp_curve.specs.declared.affine_segment.line.Line.{Line}
+use Rattle.upp_curve.specs.declared.affine_segment.line.Piece.{Piece}
 use Rattle.upp_curve.specs.declared.curve.Tail.{Tail}
 use Rattle.upp_curve.specs.declared.curve.Tail.TheVariants.{Periodic, Affine, Infinite}
 use Rattle.upp_curve.specs.Curve.{SpecCurve}

@@ -2,17 +2,17 @@
 -- on the call's way is too wide. All are of curves whose pieces have any size, and of a window's end H. Own choice.
 use Rattle.std.specs.Prelude.{ℕ, ◌*◌, max, pos, List, [], ◌∷◌, ◌++◌, Option, Some, None, map}
 use Rattle.std.specs.List.{flat_map}
-use Rattle.upp_curve.specs.rational.specs.Rational.{ℚ, ◌+ℚ◌, ◌*ℚ◌, int}
-use Rattle.upp_curve.specs.rational.specs.Extended.{Ext}
-use Rattle.upp_curve.specs.rational.specs.declared.Extended.TheVariants.{Fin, Inf}
-use Rattle.upp_curve.specs.rational.specs.Gauge.{common_den, bound_of}
-use Rattle.upp_curve.specs.affine_segment.specs.declared.line.Line.{Line}
+use Rattle.min_plus.specs.rational.specs.Rational.{ℚ, ◌+ℚ◌, ◌*ℚ◌, int}
+use Rattle.min_plus.specs.rational.specs.Extended.{Ext}
+use Rattle.min_plus.specs.rational.specs.declared.Extended.TheVariants.{Fin, Inf}
+use Rattle.min_plus.specs.rational.specs.Gauge.{common_den, bound_of}
+use Rattle.upp_curve.specs.declared.affine_segment.line.Line.{Line}
 use Rattle.upp_curve.specs.declared.curve.Tail.{Tail}
 use Rattle.upp_curve.specs.declared.curve.Tail.TheVariants.{Periodic, Affine, Infinite}
 use Rattle.upp_curve.specs.Curve.{SpecCurve}
-use Rattle.upp_curve.specs.affine_segment.specs.Values.{line_value}
+use Rattle.upp_curve.specs.affine_segment.Values.{line_value}
 use Rattle.upp_curve.specs.Steady.{rank_of, steady}
-use Rattle.upp_curve.specs.min_plus.specs.WholeUp.{whole_up}
+use Rattle.min_plus.specs.WholeUp.{whole_up}
 use Rattle.upp_curve.specs.Unrolled.{count}
 use Rattle.upp_limits.specs.Periods.{own_period}
 use Rattle.upp_limits.specs.Spans.{Span, spans_below}

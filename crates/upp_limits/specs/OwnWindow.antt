@@ -1,13 +1,13 @@
 -- The end of a curve's own window by its last piece and its tail, and which steps to it have to fit. Own choice.
 use Rattle.std.specs.Prelude.{◌≡◌, ◌*◌, pos, Bool}
-use Rattle.upp_curve.specs.rational.specs.Rational.{ℚ, ◌+ℚ◌, ◌≤ℚ◌, int}
-use Rattle.upp_curve.specs.rational.specs.Ratio.{SumFits}
-use Rattle.upp_curve.specs.rational.specs.declared.Extended.TheVariants.{Inf}
-use Rattle.upp_curve.specs.affine_segment.specs.declared.line.Piece.{Piece}
-use Rattle.upp_curve.specs.affine_segment.specs.Values.{line_value}
+use Rattle.min_plus.specs.rational.specs.Rational.{ℚ, ◌+ℚ◌, ◌≤ℚ◌, int}
+use Rattle.min_plus.specs.rational.specs.Ratio.{SumFits}
+use Rattle.min_plus.specs.rational.specs.declared.Extended.TheVariants.{Inf}
+use Rattle.upp_curve.specs.declared.affine_segment.line.Piece.{Piece}
+use Rattle.upp_curve.specs.affine_segment.Values.{line_value}
 use Rattle.upp_curve.specs.declared.curve.Tail.{Tail}
 use Rattle.upp_curve.specs.declared.curve.Tail.TheVariants.{Periodic, Affine, Infinite}
-use Rattle.upp_curve.specs.affine_segment.specs.Reading.{piece_value}
+use Rattle.upp_curve.specs.affine_segment.Reading.{piece_value}
 use Rattle.upp_curve.specs.Steady.{same_ext, later_unless}
 use Rattle.upp_limits.specs.Seen.{RankLineFits}
 use Rattle.upp_limits.specs.Limits.{Sizes, gauge_of}

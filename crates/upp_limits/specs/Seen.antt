@@ -1,16 +1,16 @@
 -- The values of a piece that count, and which steps have to fit so that they are known. Own choice.
 use Rattle.std.specs.Prelude.{ℕ, ◌-◌, ◌≤◌, ◌<◌, ◌^◌, pos, Option, Some, None}
-use Rattle.upp_curve.specs.rational.specs.Rational.{ℚ, ◌*ℚ◌, ◌≤ℚ◌, ◌<ℚ◌, int}
-use Rattle.upp_curve.specs.rational.specs.Ratio.{IsSmall, SumFits}
-use Rattle.upp_curve.specs.rational.specs.Extended.{Ext, ◌+ₑ◌}
-use Rattle.upp_curve.specs.rational.specs.declared.Extended.TheVariants.{Fin, Inf}
-use Rattle.upp_curve.specs.affine_segment.specs.declared.line.Line.{Line}
-use Rattle.upp_curve.specs.affine_segment.specs.declared.line.Piece.{Piece}
-use Rattle.upp_curve.specs.affine_segment.specs.Values.{line_value}
+use Rattle.min_plus.specs.rational.specs.Rational.{ℚ, ◌*ℚ◌, ◌≤ℚ◌, ◌<ℚ◌, int}
+use Rattle.min_plus.specs.rational.specs.Ratio.{IsSmall, SumFits}
+use Rattle.min_plus.specs.rational.specs.Extended.{Ext, ◌+ₑ◌}
+use Rattle.min_plus.specs.rational.specs.declared.Extended.TheVariants.{Fin, Inf}
+use Rattle.upp_curve.specs.declared.affine_segment.line.Line.{Line}
+use Rattle.upp_curve.specs.declared.affine_segment.line.Piece.{Piece}
+use Rattle.upp_curve.specs.affine_segment.Values.{line_value}
 use Rattle.upp_curve.specs.declared.curve.Tail.{Tail}
 use Rattle.upp_curve.specs.declared.curve.Tail.TheVariants.{Periodic, Affine, Infinite}
 use Rattle.upp_limits.specs.declared.seen.Seen.{Seen}
-use Rattle.upp_curve.specs.affine_segment.specs.Fits.{LineFitsAt}
+use Rattle.upp_curve.specs.affine_segment.Fits.{LineFitsAt}
 use Rattle.upp_curve.specs.Unrolled.{copies_below}
 use Rattle.upp_limits.specs.Spans.{Span}
 use Rattle.upp_limits.specs.Limits.{limit_before}

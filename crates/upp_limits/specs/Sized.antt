@@ -2,15 +2,15 @@
 -- grid of dv within the largest; slopes on the grid of ds, twice their size within the steepness. Own choice.
 use Rattle.std.specs.Prelude.{ℕ, ◌*◌, ◌<◌, ◌≤◌, ◌^◌, pos, Option, Some, None}
 use Rattle.std.specs.List.{AllByRecursion}
-use Rattle.upp_curve.specs.rational.specs.Rational.{ℚ, ◌*ℚ◌, ◌≤ℚ◌, int}
-use Rattle.upp_curve.specs.rational.specs.Extended.{Ext}
-use Rattle.upp_curve.specs.rational.specs.declared.Extended.TheVariants.{Fin, Inf}
-use Rattle.upp_curve.specs.rational.specs.Grid.{Whole, Within}
-use Rattle.upp_curve.specs.affine_segment.specs.declared.line.Line.{Line}
+use Rattle.min_plus.specs.rational.specs.Rational.{ℚ, ◌*ℚ◌, ◌≤ℚ◌, int}
+use Rattle.min_plus.specs.rational.specs.Extended.{Ext}
+use Rattle.min_plus.specs.rational.specs.declared.Extended.TheVariants.{Fin, Inf}
+use Rattle.min_plus.specs.rational.specs.Grid.{Whole, Within}
+use Rattle.upp_curve.specs.declared.affine_segment.line.Line.{Line}
 use Rattle.upp_curve.specs.declared.curve.Tail.{Tail}
 use Rattle.upp_curve.specs.declared.curve.Tail.TheVariants.{Periodic, Affine, Infinite}
 use Rattle.upp_curve.specs.Curve.{SpecCurve}
-use Rattle.upp_curve.specs.affine_segment.specs.Values.{line_value}
+use Rattle.upp_curve.specs.affine_segment.Values.{line_value}
 use Rattle.upp_curve.specs.Steady.{rank_of}
 use Rattle.upp_limits.specs.Spans.{Span, spans}
 use Rattle.upp_limits.specs.Limits.{Sizes, Numbers, limit_before, gauge_of}

@@ -1,9 +1,9 @@
 //! How many unrolled pieces of a curve start before a time.
 
 ghost use Rattle.std.specs.Prelude.{ℕ, ◌≡◌, ◌-◌, ◌*◌, ◌≤◌, ◌^◌, min, pos, sum_by, length, IfSome};
-ghost use Rattle.upp_curve.specs.rational.specs.Rational.{ℚ, int, ◌≤ℚ◌, ◌<ℚ◌};
+ghost use Rattle.min_plus.specs.rational.specs.Rational.{ℚ, int, ◌≤ℚ◌, ◌<ℚ◌};
 ghost use Rattle.upp_curve.specs.Curve.{SpecCurve};
-ghost use Rattle.upp_curve.specs.affine_segment.specs.Pieces.{StartsAtZero};
+ghost use Rattle.upp_curve.specs.affine_segment.Pieces.{StartsAtZero};
 ghost use Rattle.upp_curve.specs.Unrolled.{count};
 ghost use Rattle.upp_limits.specs.Periods.{HasPeriod};
 ghost use Rattle.upp_limits.specs.Spans.{once, number_below};

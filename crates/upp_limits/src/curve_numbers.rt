@@ -2,8 +2,8 @@
 
 ghost use Rattle.std.specs.Prelude.{ℕ, ◌≡◌, ◌<◌, ◌+◌, ◌^◌, pos, IfSome, IsSome, length, drop};
 ghost use Rattle.std.specs.List.{AllByRecursion};
-ghost use Rattle.upp_curve.specs.rational.specs.Rational.{ℚ, int, ◌*ℚ◌, ◌≤ℚ◌, ◌<ℚ◌};
-ghost use Rattle.upp_curve.specs.affine_segment.specs.Pieces.{StartsAtZero, start_after};
+ghost use Rattle.min_plus.specs.rational.specs.Rational.{ℚ, int, ◌*ℚ◌, ◌≤ℚ◌, ◌<ℚ◌};
+ghost use Rattle.upp_curve.specs.affine_segment.Pieces.{StartsAtZero, start_after};
 ghost use Rattle.upp_limits.specs.Spans.{Span, end_of, piece_read, spans};
 ghost use Rattle.upp_limits.specs.Limits.{Numbers, joined};
 ghost use Rattle.upp_limits.specs.Gathered.{Gathers};

@@ -1,8 +1,8 @@
 //! The numbers of a call's operands by the first copies of their pieces alone, and how far the others are from them.
 
 ghost use Rattle.std.specs.Prelude.{ℕ, ◌≡◌, ◌+◌, ◌*◌, ◌≤◌, ◌<◌, pos, IfSome};
-ghost use Rattle.upp_curve.specs.rational.specs.Rational.{ℚ, int, ◌≤ℚ◌, ◌<ℚ◌};
-ghost use Rattle.upp_curve.specs.rational.specs.Gauge.{bound_of};
+ghost use Rattle.min_plus.specs.rational.specs.Rational.{ℚ, int, ◌≤ℚ◌, ◌<ℚ◌};
+ghost use Rattle.min_plus.specs.rational.specs.Gauge.{bound_of};
 ghost use Rattle.upp_limits.specs.Limits.{Numbers, joined, time_alone, value_alone, sizes_of};
 ghost use Rattle.upp_limits.specs.Gathered.{Gathers};
 ghost use Rattle.upp_limits.specs.OwnWindow.{AreNumbers};

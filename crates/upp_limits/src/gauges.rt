@@ -1,9 +1,9 @@
 //! The gauge of a call.
 
 ghost use Rattle.std.specs.Prelude.{ℕ, ◌≡◌, ◌<◌, ◌≤◌, ◌*◌, ◌^◌, pos, nat_abs, IfSome, IfNone, MatchOption};
-ghost use Rattle.upp_curve.specs.rational.specs.Rational.{ℚ, int, ◌*ℚ◌, ◌≤ℚ◌};
-ghost use Rattle.upp_curve.specs.rational.specs.Gauge.{Kept};
-ghost use Rattle.upp_curve.specs.min_plus.specs.WholeUp.{whole_up};
+ghost use Rattle.min_plus.specs.rational.specs.Rational.{ℚ, int, ◌*ℚ◌, ◌≤ℚ◌};
+ghost use Rattle.min_plus.specs.rational.specs.Gauge.{Kept};
+ghost use Rattle.min_plus.specs.WholeUp.{whole_up};
 ghost use Rattle.upp_limits.specs.Limits.{Numbers, joined, time_alone, sizes_of, gauge_of};
 ghost use Rattle.upp_limits.specs.Gathered.{Gathers};
 

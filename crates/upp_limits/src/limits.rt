@@ -1,7 +1,7 @@
 //! The tally and the gauge of a call: both are numbers of its operands and its window alone.
 
 ghost use Rattle.std.specs.Prelude.{ℕ, ◌≡◌, ◌-◌, ◌^◌, ◌≤◌, ◌↔◌, min, Option, Some, None, MatchOption, IfSome, IsTrue};
-ghost use Rattle.upp_curve.specs.rational.specs.Rational.{ℚ};
+ghost use Rattle.min_plus.specs.rational.specs.Rational.{ℚ};
 ghost use Rattle.upp_curve.specs.Unrolled.{count};
 ghost use Rattle.upp_limits.specs.Gauges.{IsKnownAtOnce, tallied, tally_of, tally_over, gauge_over};
 

@@ -2,11 +2,11 @@
 
 ghost use Rattle.std.specs.Prelude.{◌≡◌, pos, IfSome, IsSome, map, Some};
 ghost use Rattle.std.specs.List.{AllByRecursion};
-ghost use Rattle.upp_curve.specs.rational.specs.Rational.{ℚ, int, ◌≤ℚ◌, ◌*ℚ◌};
-ghost use Rattle.upp_curve.specs.rational.specs.Ratio.{IsSmall};
-ghost use Rattle.upp_curve.specs.min_plus.specs.Pointwise.{scaled};
+ghost use Rattle.min_plus.specs.rational.specs.Rational.{ℚ, int, ◌≤ℚ◌, ◌*ℚ◌};
+ghost use Rattle.min_plus.specs.rational.specs.Ratio.{IsSmall};
+ghost use Rattle.min_plus.specs.Pointwise.{scaled};
 ghost use Rattle.upp_curve.specs.Curve.{SpecCurve};
-ghost use Rattle.upp_curve.specs.affine_segment.specs.Pieces.{StartsAtZero};
+ghost use Rattle.upp_curve.specs.affine_segment.Pieces.{StartsAtZero};
 ghost use Rattle.upp_limits.specs.Periods.{HasPeriod};
 ghost use Rattle.upp_limits.specs.Spans.{Span, end_of, spans};
 ghost use Rattle.upp_limits.specs.Limits.{Numbers, joined};
@@ -18,10 +18,10 @@ ghost use Rattle.upp_limits.specs.ClosedOperands.{ValueScales, LineScales, Piece
 
 use crate::curve_numbers::{next_start, piece_read, with_below, with_tail};
 use crate::gathered::Gathered;
+use min_plus::rational::Extended;
 use upp_curve::Tail;
 use upp_curve::affine_segment::{Line, Piece};
 use upp_curve::fraction128::{Ext, Frac, is_less};
-use upp_curve::rational::Extended;
 
 /// A value times a factor.
 fn scaled(v: Ext, factor: Frac) -> Option<Ext>

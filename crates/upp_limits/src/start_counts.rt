@@ -1,9 +1,9 @@
 //! How many copies of a piece start before a time.
 
 ghost use Rattle.std.specs.Prelude.{ℕ, ◌≡◌, ◌<◌, pos, IfSome};
-ghost use Rattle.upp_curve.specs.rational.specs.Rational.{ℚ, int, ◌-ℚ◌, ◌/ℚ◌, ◌≤ℚ◌, ◌<ℚ◌};
-ghost use Rattle.upp_curve.specs.rational.specs.Gauge.{cap};
-ghost use Rattle.upp_curve.specs.min_plus.specs.WholeUp.{whole_up};
+ghost use Rattle.min_plus.specs.rational.specs.Rational.{ℚ, int, ◌-ℚ◌, ◌/ℚ◌, ◌≤ℚ◌, ◌<ℚ◌};
+ghost use Rattle.min_plus.specs.rational.specs.Gauge.{cap};
+ghost use Rattle.min_plus.specs.WholeUp.{whole_up};
 
 use crate::starts::is_before;
 use upp_curve::fraction128::{Frac, is_less};

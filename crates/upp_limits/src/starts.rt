@@ -1,7 +1,7 @@
 //! Whether the copies of a start come before a time, exactly, also where no step on the way fits a fraction.
 
 ghost use Rattle.std.specs.Prelude.{ℕ, ◌≡◌, ◌↔◌, ◌<◌, ◌^◌, ◌+◌, ◌*◌, pos, nat_abs, IsTrue};
-ghost use Rattle.upp_curve.specs.rational.specs.Rational.{ℚ, den, int, ◌+ℚ◌, ◌*ℚ◌, ◌≤ℚ◌, ◌<ℚ◌, lt_q};
+ghost use Rattle.min_plus.specs.rational.specs.Rational.{ℚ, den, int, ◌+ℚ◌, ◌*ℚ◌, ◌≤ℚ◌, ◌<ℚ◌, lt_q};
 ghost use Rattle.upp_limits.specs.Long.{long_value};
 
 use crate::long::Long;

@@ -14,15 +14,15 @@ use Rattle.upp_limits.specs.rational.proofs.Integers.{nat_le, nat_le_out, nat_no
 use Rattle.upp_limits.specs.rational.proofs.Quotients.{div_unique}
 use Rattle.std.proofs.lemmas.Int.{ints}
 use Rattle.upp_limits.specs.fraction128.specs.declared.fault.Wide.{Wide}
-use Rattle.upp_limits.specs.affine_segment.specs.Steps.{IsWideCross}
+use Rattle.upp_limits.specs.upp_curve.specs.affine_segment.Steps.{IsWideCross}
 use Rattle.upp_limits.specs.rational.proofs.Laws.{le_refl, le_trans, mul_le_mul, mul_le_mul_right, mul_assoc, mul_comm, mul_one, mul_zero, add_mul, sub_mul, num_some}
 use Rattle.upp_limits.specs.rational.proofs.Linear.{with1, with2, with3, with4}
 use Rattle.upp_limits.specs.rational.specs.Extended.{Ext}
 use Rattle.upp_limits.specs.rational.specs.declared.Extended.TheVariants.{Fin, Inf}
-use Rattle.upp_limits.specs.affine_segment.specs.declared.line.Line.{Line}
-use Rattle.upp_limits.specs.affine_segment.specs.Values.{line_at, line_value}
+use Rattle.upp_limits.specs.upp_curve.specs.declared.affine_segment.line.Line.{Line}
+use Rattle.upp_limits.specs.upp_curve.specs.affine_segment.Values.{line_at, line_value}
 use Rattle.upp_limits.specs.Limits.{Sizes, gauge_of}
-use Rattle.upp_limits.specs.affine_segment.specs.Fits.{LineFitsAt}
+use Rattle.upp_limits.specs.upp_curve.specs.affine_segment.Fits.{LineFitsAt}
 use Rattle.upp_limits.specs.Sized.{grid_of, times_largest, ValueStands}
 use Rattle.upp_normal.specs.Operand.{AreLimited, OperandLine, OperandLineAt, answer_room}
 use Rattle.upp_normal.specs.Room.{top, IsRoom, TimeHasRoom, many, ValueInRoom, ValueHasRoom, LineInRoom, LineHasRoom}

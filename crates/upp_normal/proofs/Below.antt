@@ -7,17 +7,17 @@ use Rattle.upp_limits.specs.rational.proofs.Linear.{with1, with2, with3, with5}
 use Rattle.upp_limits.specs.rational.proofs.Laws.{le_or_lt, le_refl, lt_le_trans, le_lt_trans}
 use Rattle.upp_limits.specs.rational.specs.Extended.{Ext, ◌+ₑ◌}
 use Rattle.upp_limits.specs.rational.specs.declared.Extended.TheVariants.{Fin}
-use Rattle.upp_limits.specs.affine_segment.specs.declared.line.Piece.{Piece}
+use Rattle.upp_limits.specs.upp_curve.specs.declared.affine_segment.line.Piece.{Piece}
 use Rattle.upp_limits.specs.upp_curve.specs.declared.curve.Tail.{Tail}
 use Rattle.upp_limits.specs.upp_curve.specs.declared.curve.Tail.TheVariants.{Periodic, Affine, Infinite}
 use Rattle.upp_limits.specs.upp_curve.specs.Curve.{SpecCurve, value_at, repeated}
 use Rattle.upp_limits.specs.upp_curve.specs.Normal.{IsNormal}
-use Rattle.upp_limits.specs.affine_segment.specs.Pieces.{Each, HasStart, RisesFrom, StartsAtZero}
+use Rattle.upp_limits.specs.upp_curve.specs.affine_segment.Pieces.{Each, HasStart, RisesFrom, StartsAtZero}
 use Rattle.upp_limits.specs.upp_curve.specs.Unrolled.{unroll, unrolled, copies, each_later, upto, from}
-use Rattle.upp_limits.specs.affine_segment.specs.Reading.{piece_in, piece_value, read}
+use Rattle.upp_limits.specs.upp_curve.specs.affine_segment.Reading.{piece_in, piece_value, read}
 use Rattle.upp_limits.specs.upp_curve.proofs.OneForm.{infinite_value}
 use Rattle.upp_limits.specs.rational.proofs.Whole.{periods_low, periods_high, one_more_times}
-use Rattle.upp_limits.specs.affine_segment.proofs.PieceIn.{piece_in_stop}
+use Rattle.upp_limits.specs.upp_curve.proofs.affine_segment.PieceIn.{piece_in_stop}
 use Rattle.upp_limits.specs.upp_curve.proofs.Unique.{upto_none, upto_some, upto_end}
 use Rattle.upp_limits.specs.upp_curve.proofs.Repeats.{repeated_first}
 use Rattle.upp_normal.proofs.UnrolledValues.{copies_read, copies_some, read_before, read_past_list, each_up}

@@ -13,24 +13,24 @@ use Rattle.upp_limits.specs.rational.proofs.Quotients.{div_unique}
 use Rattle.upp_limits.specs.rational.proofs.ExtendedOrder.{add_assoc_ext}
 use Rattle.upp_limits.specs.rational.specs.Extended.{Ext, ◌+ₑ◌}
 use Rattle.upp_limits.specs.rational.specs.declared.Extended.TheVariants.{Fin, Inf}
-use Rattle.upp_limits.specs.affine_segment.specs.declared.line.Line.{Line}
-use Rattle.upp_limits.specs.affine_segment.specs.declared.line.Piece.{Piece}
-use Rattle.upp_limits.specs.affine_segment.specs.Values.{line_value}
-use Rattle.upp_limits.specs.affine_segment.specs.Reading.{read, piece_in, piece_value}
+use Rattle.upp_limits.specs.upp_curve.specs.declared.affine_segment.line.Line.{Line}
+use Rattle.upp_limits.specs.upp_curve.specs.declared.affine_segment.line.Piece.{Piece}
+use Rattle.upp_limits.specs.upp_curve.specs.affine_segment.Values.{line_value}
+use Rattle.upp_limits.specs.upp_curve.specs.affine_segment.Reading.{read, piece_in, piece_value}
 use Rattle.upp_limits.specs.upp_curve.specs.Curve.{repeated}
 use Rattle.upp_limits.specs.upp_curve.specs.Steady.{Repeats}
 use Rattle.upp_limits.specs.upp_curve.specs.Unrolled.{line_later, later, each_later, copies, upto}
-use Rattle.upp_limits.specs.affine_segment.specs.Pieces.{Each, RisesFrom, StartsAtZero}
+use Rattle.upp_limits.specs.upp_curve.specs.affine_segment.Pieces.{Each, RisesFrom, StartsAtZero}
 use Rattle.upp_limits.specs.upp_curve.specs.Normal.{FitsPeriod}
 use Rattle.upp_normal.specs.Normalising.{IsMerged, IsTwoPeriods, IsOneLine, Turned, OnGridsUnlessLine, cut_at, past, first_start, second_copy}
 use Rattle.upp_normal.specs.Bends.{ValueOn, LineOn, NumbersOn, SlopeTurns, BendAfter, OnlyBend}
 use Rattle.upp_limits.specs.upp_curve.proofs.Unique.{upto_some, upto_none, upto_end}
-use Rattle.upp_limits.specs.affine_segment.proofs.PieceIn.{value_past, value_at_start, piece_in_go, piece_in_stop, low_start}
+use Rattle.upp_limits.specs.upp_curve.proofs.affine_segment.PieceIn.{value_past, value_at_start, piece_in_go, piece_in_stop, low_start}
 use Rattle.upp_normal.proofs.UnrolledValues.{copies_some}
 use Rattle.upp_limits.specs.upp_curve.proofs.Repeats.{repeated_rule, repeated_first}
 use Rattle.upp_limits.specs.upp_curve.proofs.Normal.{transfer}
 use Rattle.upp_normal.proofs.NormaliseLoops.{later_none, later_some, past_go, past_stop, past_none}
-use Rattle.upp_limits.specs.affine_segment.proofs.PieceOrder.{rises_down, each_map}
+use Rattle.upp_limits.specs.upp_curve.proofs.affine_segment.PieceOrder.{rises_down, each_map}
 use Rattle.upp_normal.proofs.NormaliseLists.{past_all}
 use Rattle.upp_normal.proofs.NormaliseCuts.{none_past, start_none, start_some, upto_early}
 use Rattle.upp_normal.proofs.NormaliseMerge.{merged_none, merged_skip, merged_keep}

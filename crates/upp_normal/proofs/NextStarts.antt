@@ -10,22 +10,22 @@ use Rattle.upp_limits.specs.rational.proofs.Linear.{with3, with4, with6}
 use Rattle.upp_limits.specs.rational.proofs.MinMax.{lt_q_not}
 use Rattle.upp_limits.specs.rational.proofs.Over.{lt_q_out}
 use Rattle.upp_limits.specs.rational.proofs.Whole.{one_more_times}
-use Rattle.upp_limits.specs.affine_segment.specs.declared.line.Piece.{Piece}
+use Rattle.upp_limits.specs.upp_curve.specs.declared.affine_segment.line.Piece.{Piece}
 use Rattle.upp_limits.specs.upp_curve.specs.declared.curve.Tail.{Tail}
 use Rattle.upp_limits.specs.upp_curve.specs.declared.curve.Tail.TheVariants.{Periodic, Affine, Infinite}
 use Rattle.upp_limits.specs.upp_curve.specs.Curve.{SpecCurve}
-use Rattle.upp_limits.specs.affine_segment.specs.Pieces.{Each, HasStart, RisesFrom, StartsAtZero, start_after}
+use Rattle.upp_limits.specs.upp_curve.specs.affine_segment.Pieces.{Each, HasStart, RisesFrom, StartsAtZero, start_after}
 use Rattle.upp_limits.specs.upp_curve.specs.Normal.{IsNormal}
 use Rattle.upp_normal.specs.PieceLaws.{IsNext, IsNextStart, SpansAreUnrolled}
 use Rattle.upp_limits.specs.Spans.{Span, copies_of, end_of, next_later, once_below, span_below, spans, spans_below}
 use Rattle.upp_limits.specs.upp_curve.specs.Unrolled.{copies_below, later, unroll, unrolled, upto}
 use Rattle.upp_limits.proofs.Copies.{every_copy}
 use Rattle.upp_limits.proofs.Every.{every_flat, every_weaken}
-use Rattle.upp_limits.specs.affine_segment.proofs.PieceOrder.{each_map}
+use Rattle.upp_limits.specs.upp_curve.proofs.affine_segment.PieceOrder.{each_map}
 use Rattle.upp_normal.proofs.NormaliseLists.{each_upto}
 use Rattle.upp_normal.proofs.SamePieces.{each_at, each_contained, each_whole, once_in, periodic_given, same_pieces}
 use Rattle.upp_normal.proofs.UnrolledPieces.{IsGiven, each_with, no_later, periodic_each}
-use Rattle.upp_limits.specs.affine_segment.proofs.PieceIn.{low_start}
+use Rattle.upp_limits.specs.upp_curve.proofs.affine_segment.PieceIn.{low_start}
 use Rattle.upp_normal.proofs.NormaliseRank.{rises_late}
 
 -- ---- where the next of a curve's own pieces starts

@@ -9,13 +9,13 @@ use Rattle.upp_limits.specs.rational.proofs.Whole.{one_more_times, nat_nonneg}
 use Rattle.upp_limits.specs.rational.proofs.ExtendedOrder.{add_assoc_ext}
 use Rattle.upp_limits.specs.rational.specs.Extended.{Ext, ◌+ₑ◌}
 use Rattle.upp_limits.specs.rational.specs.declared.Extended.TheVariants.{Fin}
-use Rattle.upp_limits.specs.affine_segment.specs.declared.line.Piece.{Piece}
-use Rattle.upp_limits.specs.affine_segment.specs.Values.{line_value}
-use Rattle.upp_limits.specs.affine_segment.specs.Reading.{read}
+use Rattle.upp_limits.specs.upp_curve.specs.declared.affine_segment.line.Piece.{Piece}
+use Rattle.upp_limits.specs.upp_curve.specs.affine_segment.Values.{line_value}
+use Rattle.upp_limits.specs.upp_curve.specs.affine_segment.Reading.{read}
 use Rattle.upp_limits.specs.upp_curve.specs.Curve.{repeated}
 use Rattle.upp_limits.specs.upp_curve.specs.Steady.{Repeats, last_of}
 use Rattle.upp_limits.specs.upp_curve.specs.Unrolled.{line_later, later, each_later, copies, upto}
-use Rattle.upp_limits.specs.affine_segment.specs.Pieces.{RisesFrom, Each}
+use Rattle.upp_limits.specs.upp_curve.specs.affine_segment.Pieces.{RisesFrom, Each}
 use Rattle.upp_limits.specs.upp_curve.specs.Normal.{Continues, NoneContinues}
 use Rattle.upp_normal.specs.Normalising.{GoesOn}
 use Rattle.upp_limits.specs.upp_curve.proofs.Repeats.{repeated_first, repeated_rule, repeats_times}
@@ -25,11 +25,11 @@ use Rattle.upp_limits.specs.upp_curve.proofs.Normal.{upto_all}
 use Rattle.upp_normal.proofs.UnrolledValues.{copies_read, copies_some, line_value_later, copies_none}
 use Rattle.upp_normal.proofs.Below.{read_upto}
 use Rattle.upp_normal.proofs.NormaliseLoops.{later_none, later_some}
-use Rattle.upp_limits.specs.affine_segment.proofs.PieceOrder.{each_map, each_append, rises_append}
+use Rattle.upp_limits.specs.upp_curve.proofs.affine_segment.PieceOrder.{each_map, each_append, rises_append}
 use Rattle.upp_normal.proofs.NormaliseLists.{each_moved, rises_upto, rises_moved, last_in, last_is_last, none_upto, none_append, none_moved, line_later_twice}
 use Rattle.upp_normal.proofs.NormalisePeriods.{agree_from}
 use Rattle.upp_normal.proofs.NormaliseBreaks.{lines_apart, reads_last}
-use Rattle.upp_limits.specs.affine_segment.proofs.PieceIn.{read_is}
+use Rattle.upp_limits.specs.upp_curve.proofs.affine_segment.PieceIn.{read_is}
 use Rattle.upp_limits.proofs.PieceCounts.{copies_next, upto_early}
 
 -- ---- moved pieces

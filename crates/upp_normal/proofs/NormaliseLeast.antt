@@ -14,13 +14,13 @@ use Rattle.upp_limits.specs.rational.proofs.Laws.{le_of_lt, mul_comm, mul_assoc,
 use Rattle.upp_limits.specs.rational.proofs.Linear.{with1}
 use Rattle.upp_limits.specs.rational.proofs.Whole.{lt_of_mul}
 use Rattle.upp_limits.specs.rational.specs.Extended.{Ext}
-use Rattle.upp_limits.specs.affine_segment.specs.declared.line.Piece.{Piece}
-use Rattle.upp_limits.specs.affine_segment.specs.Reading.{read}
+use Rattle.upp_limits.specs.upp_curve.specs.declared.affine_segment.line.Piece.{Piece}
+use Rattle.upp_limits.specs.upp_curve.specs.affine_segment.Reading.{read}
 use Rattle.upp_limits.specs.upp_curve.specs.Steady.{Repeats}
 use Rattle.upp_limits.specs.upp_curve.specs.Unrolled.{upto, from}
 use Rattle.upp_normal.specs.declared.cycle.Cycle.{Cycle}
 use Rattle.upp_normal.specs.Normalising.{IsCycle, Turned, GoesOn, IsTurning, cycle_values, turn_count, OnGrids, StaysWhole, IsCut, IsDivided, IsLeast, IsFront, SharesFit}
-use Rattle.upp_limits.specs.affine_segment.specs.Pieces.{Each}
+use Rattle.upp_limits.specs.upp_curve.specs.affine_segment.Pieces.{Each}
 use Rattle.upp_limits.specs.upp_curve.specs.Fitting.{LaterFits}
 use Rattle.upp_limits.specs.upp_curve.proofs.Repeats.{repeats_times, repeated_rule}
 use Rattle.upp_limits.specs.upp_curve.proofs.Rules.{int_mul}

@@ -6,11 +6,11 @@ use Rattle.upp_limits.specs.rational.proofs.Laws.{le_or_lt, le_of_lt, le_refl, l
 use Rattle.upp_limits.specs.rational.proofs.Linear.{with1, with2, with3, with6}
 use Rattle.upp_limits.specs.rational.specs.Extended.{◌+ₑ◌}
 use Rattle.upp_limits.specs.rational.specs.declared.Extended.TheVariants.{Fin}
-use Rattle.upp_limits.specs.affine_segment.specs.declared.line.Line.{Line}
-use Rattle.upp_limits.specs.affine_segment.specs.declared.line.Piece.{Piece}
-use Rattle.upp_limits.specs.affine_segment.specs.Values.{line_value}
+use Rattle.upp_limits.specs.upp_curve.specs.declared.affine_segment.line.Line.{Line}
+use Rattle.upp_limits.specs.upp_curve.specs.declared.affine_segment.line.Piece.{Piece}
+use Rattle.upp_limits.specs.upp_curve.specs.affine_segment.Values.{line_value}
 use Rattle.upp_limits.specs.upp_curve.specs.Unrolled.{line_later, later, each_later, upto}
-use Rattle.upp_limits.specs.affine_segment.specs.Pieces.{RisesFrom, Each}
+use Rattle.upp_limits.specs.upp_curve.specs.affine_segment.Pieces.{RisesFrom, Each}
 use Rattle.upp_limits.specs.upp_curve.specs.Normal.{Continues, NoneContinues}
 use Rattle.upp_limits.specs.upp_curve.specs.Steady.{last_of}
 use Rattle.upp_normal.specs.Normalising.{past}

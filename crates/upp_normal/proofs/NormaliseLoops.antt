@@ -8,7 +8,7 @@ use Rattle.upp_limits.specs.rational.proofs.Over.{le_q_out}
 use Rattle.upp_limits.specs.rational.proofs.Laws.{le_refl, le_of_lt}
 use Rattle.std.specs.Ordering.{MatchOrdering}
 use Rattle.upp_limits.specs.rational.proofs.MinMax.{le_q_not}
-use Rattle.upp_limits.specs.affine_segment.specs.declared.line.Piece.{Piece}
+use Rattle.upp_limits.specs.upp_curve.specs.declared.affine_segment.line.Piece.{Piece}
 use Rattle.upp_limits.specs.upp_curve.specs.Unrolled.{later, each_later, upto}
 use Rattle.upp_normal.specs.Normalising.{past, first_start}
 use Rattle.upp_limits.specs.upp_curve.proofs.Unique.{upto_none, upto_some, upto_end}

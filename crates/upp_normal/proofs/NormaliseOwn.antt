@@ -12,16 +12,16 @@ use Rattle.upp_limits.specs.rational.proofs.Laws.{le_refl, le_trans, le_of_lt, m
 use Rattle.upp_limits.specs.rational.proofs.Linear.{with1, with2, with3}
 use Rattle.upp_limits.specs.rational.specs.Extended.{Ext}
 use Rattle.upp_limits.specs.rational.specs.declared.Extended.TheVariants.{Fin, Inf}
-use Rattle.upp_limits.specs.affine_segment.specs.declared.line.Line.{Line}
-use Rattle.upp_limits.specs.affine_segment.specs.declared.line.Piece.{Piece}
-use Rattle.upp_limits.specs.affine_segment.specs.Values.{line_value}
+use Rattle.upp_limits.specs.upp_curve.specs.declared.affine_segment.line.Line.{Line}
+use Rattle.upp_limits.specs.upp_curve.specs.declared.affine_segment.line.Piece.{Piece}
+use Rattle.upp_limits.specs.upp_curve.specs.affine_segment.Values.{line_value}
 use Rattle.upp_limits.specs.upp_curve.specs.declared.curve.Tail.{Tail}
 use Rattle.upp_limits.specs.upp_curve.specs.declared.curve.Tail.TheVariants.{Periodic, Affine, Infinite}
-use Rattle.upp_limits.specs.affine_segment.specs.Reading.{read}
+use Rattle.upp_limits.specs.upp_curve.specs.affine_segment.Reading.{read}
 use Rattle.upp_limits.specs.upp_curve.specs.Curve.{SpecCurve, repeated, value_at}
 use Rattle.upp_limits.specs.upp_curve.specs.Steady.{steady, rank_of}
 use Rattle.upp_limits.specs.Periods.{own_period}
-use Rattle.upp_limits.specs.affine_segment.specs.Pieces.{Each, StartsAtZero, start_after}
+use Rattle.upp_limits.specs.upp_curve.specs.affine_segment.Pieces.{Each, StartsAtZero, start_after}
 use Rattle.upp_limits.specs.upp_curve.specs.Normal.{IsRaw, TailFits}
 use Rattle.upp_limits.specs.Spans.{Span, spans, piece_read, end_of}
 use Rattle.upp_limits.specs.Limits.{Sizes, curve_numbers, own_end, own_sizes, own_gauge}
@@ -37,7 +37,7 @@ use Rattle.upp_limits.proofs.NarrowSizes.{grids_narrow, IsNarrow, narrow_limit, 
 use Rattle.upp_limits.proofs.PieceLists.{starts_nonneg}
 use Rattle.upp_limits.proofs.OwnGauge.{end_within}
 use Rattle.upp_limits.proofs.CurveStands.{curve_stands, own_are_sizes, own_stands, starts_below_own_end}
-use Rattle.upp_limits.specs.affine_segment.proofs.PieceOrder.{each_map}
+use Rattle.upp_limits.specs.upp_curve.proofs.affine_segment.PieceOrder.{each_map}
 use Rattle.upp_normal.proofs.NormaliseForm.{grids_through}
 use Rattle.upp_normal.proofs.NormaliseGrids.{ValueOn, LineOn, PieceOn, raw_on}
 use Rattle.upp_normal.proofs.AnswerRoom.{far, thrice}

@@ -14,11 +14,11 @@ use Rattle.upp_limits.specs.rational.proofs.Whole.{not_zero}
 use Rattle.upp_limits.specs.rational.proofs.Linear.{with1, with2, with3}
 use Rattle.upp_limits.specs.rational.specs.Extended.{Ext, ◌+ₑ◌}
 use Rattle.upp_limits.specs.rational.specs.declared.Extended.TheVariants.{Fin, Inf}
-use Rattle.upp_limits.specs.affine_segment.specs.declared.line.Line.{Line}
-use Rattle.upp_limits.specs.affine_segment.specs.declared.line.Piece.{Piece}
-use Rattle.upp_limits.specs.affine_segment.specs.Values.{line_value}
+use Rattle.upp_limits.specs.upp_curve.specs.declared.affine_segment.line.Line.{Line}
+use Rattle.upp_limits.specs.upp_curve.specs.declared.affine_segment.line.Piece.{Piece}
+use Rattle.upp_limits.specs.upp_curve.specs.affine_segment.Values.{line_value}
 use Rattle.upp_limits.specs.upp_curve.specs.Unrolled.{line_later, later}
-use Rattle.upp_limits.specs.affine_segment.specs.Fits.{LineFitsAt}
+use Rattle.upp_limits.specs.upp_curve.specs.affine_segment.Fits.{LineFitsAt}
 use Rattle.upp_limits.specs.upp_curve.specs.Readable.{SumFitsAt}
 use Rattle.upp_limits.specs.upp_curve.specs.Fitting.{LineLaterFits, LaterFits}
 use Rattle.upp_normal.specs.Room.{top, Room, IsRoom, TimeHasRoom, many, ValueHasRoom, LineHasRoom, PieceHasRoom, IsMove}

@@ -4,11 +4,11 @@ use Rattle.std.proofs.Common.{arith, sym, ap, ap₂, ◌∙◌, subst, take}
 use Rattle.upp_limits.specs.rational.specs.Rational.{ℚ, ◌+ℚ◌, ◌≤ℚ◌, ◌<ℚ◌, int}
 use Rattle.upp_limits.specs.rational.proofs.Laws.{le_of_lt}
 use Rattle.upp_limits.specs.rational.proofs.Linear.{with2, with3, with4}
-use Rattle.upp_limits.specs.affine_segment.specs.declared.line.Piece.{Piece}
-use Rattle.upp_limits.specs.affine_segment.specs.Reading.{read}
+use Rattle.upp_limits.specs.upp_curve.specs.declared.affine_segment.line.Piece.{Piece}
+use Rattle.upp_limits.specs.upp_curve.specs.affine_segment.Reading.{read}
 use Rattle.upp_limits.specs.upp_curve.specs.Curve.{repeated}
 use Rattle.upp_limits.specs.upp_curve.specs.Unrolled.{later, upto, from}
-use Rattle.upp_limits.specs.affine_segment.specs.Pieces.{Each, HasStart}
+use Rattle.upp_limits.specs.upp_curve.specs.affine_segment.Pieces.{Each, HasStart}
 use Rattle.upp_limits.specs.upp_curve.specs.Normal.{Continues}
 use Rattle.upp_limits.specs.upp_curve.specs.Steady.{last_of}
 use Rattle.upp_normal.specs.Normalising.{past, first_start, IsTwoPeriods, EndsInBreak, IsLine, Turned}
@@ -16,12 +16,12 @@ use Rattle.upp_limits.specs.upp_curve.proofs.Unique.{upto_some}
 use Rattle.upp_normal.proofs.Below.{plain_upto}
 use Rattle.upp_limits.specs.upp_curve.proofs.Normal.{each_at, start_in_upto}
 use Rattle.upp_limits.specs.upp_curve.proofs.Repeats.{repeated_first, repeated_rule}
-use Rattle.upp_limits.specs.affine_segment.proofs.PieceOrder.{heads_same, tails_same}
+use Rattle.upp_limits.specs.upp_curve.proofs.affine_segment.PieceOrder.{heads_same, tails_same}
 use Rattle.upp_normal.proofs.NormaliseCuts.{split_is, take_upto, from_upto, from_is_past, upto_upto, upto_early, first_late, none_past, past_has, start_none, start_some, zero_upto, no_merge_upto, last_append}
 use Rattle.upp_normal.proofs.NormalisePeriods.{agree, repeats_after}
 use Rattle.upp_normal.proofs.NormaliseBreaks.{one_line_reads, Break, break_at, ends_in_break}
 use Rattle.upp_normal.proofs.NormaliseLoops.{past_go}
-use Rattle.upp_limits.specs.affine_segment.proofs.PieceIn.{low_start}
+use Rattle.upp_limits.specs.upp_curve.proofs.affine_segment.PieceIn.{low_start}
 use Rattle.upp_limits.proofs.PieceCounts.{upto_early as upto_before}
 
 -- ---- no break past the rank

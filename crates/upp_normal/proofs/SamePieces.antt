@@ -13,11 +13,11 @@ use Rattle.upp_limits.specs.rational.proofs.Linear.{with5}
 use Rattle.upp_limits.specs.rational.proofs.MinMax.{lt_q_not}
 use Rattle.upp_limits.specs.rational.proofs.Over.{lt_q_out}
 use Rattle.upp_limits.specs.rational.proofs.Whole.{one_more_times, periods_high}
-use Rattle.upp_limits.specs.affine_segment.specs.declared.line.Piece.{Piece}
+use Rattle.upp_limits.specs.upp_curve.specs.declared.affine_segment.line.Piece.{Piece}
 use Rattle.upp_limits.specs.upp_curve.specs.declared.curve.Tail.{Tail}
 use Rattle.upp_limits.specs.upp_curve.specs.declared.curve.Tail.TheVariants.{Periodic, Affine, Infinite}
 use Rattle.upp_limits.specs.upp_curve.specs.Curve.{SpecCurve}
-use Rattle.upp_limits.specs.affine_segment.specs.Pieces.{Each, RisesFrom, start_after}
+use Rattle.upp_limits.specs.upp_curve.specs.affine_segment.Pieces.{Each, RisesFrom, start_after}
 use Rattle.upp_limits.specs.upp_curve.specs.Normal.{IsNormal}
 use Rattle.upp_normal.specs.PieceLaws.{HaveSamePieces, PiecesAreCounted}
 use Rattle.upp_limits.specs.Spans.{Span, copies_of, end_of, number_below, once, once_below, piece_read, span_below, spans, spans_below}
@@ -26,11 +26,11 @@ use Rattle.upp_limits.proofs.Copies.{copies_in, every_copy}
 use Rattle.upp_limits.proofs.Every.{every_flat, every_map, every_map_out, every_weaken}
 use Rattle.upp_normal.proofs.NormaliseCopies.{later_twice}
 use Rattle.upp_normal.proofs.NormaliseCuts.{each_right}
-use Rattle.upp_limits.specs.affine_segment.proofs.PieceOrder.{each_left, each_map}
+use Rattle.upp_limits.specs.upp_curve.proofs.affine_segment.PieceOrder.{each_left, each_map}
 use Rattle.upp_normal.proofs.NormaliseLoops.{later_some}
 use Rattle.upp_limits.proofs.PieceCounts.{count_is_length, count_is_sum, from_none, from_some, copies_next}
 use Rattle.upp_normal.proofs.UnrolledPieces.{IsGiven, all_read, each_with, no_later, periodic_starts, unroll_each}
-use Rattle.upp_limits.specs.affine_segment.proofs.PieceIn.{low_start}
+use Rattle.upp_limits.specs.upp_curve.proofs.affine_segment.PieceIn.{low_start}
 use Rattle.upp_limits.specs.upp_curve.proofs.Unique.{upto_some}
 
 -- ---- their number

@@ -16,19 +16,19 @@ use Rattle.upp_limits.specs.rational.proofs.Over.{lt_q_out}
 use Rattle.upp_limits.specs.rational.proofs.MinMax.{lt_q_not}
 use Rattle.upp_limits.specs.rational.proofs.Grid.{whole_add, whole_sub, whole_times, whole_weaken, whole_both, whole_neg, within_nonneg, within_sub, within_neg, within_add}
 use Rattle.upp_limits.specs.rational.proofs.Sizes.{largest_part, quotient_on_grid}
-use Rattle.upp_limits.specs.affine_segment.specs.declared.line.Line.{Line}
-use Rattle.upp_limits.specs.affine_segment.specs.declared.line.Piece.{Piece}
-use Rattle.upp_limits.specs.affine_segment.specs.Values.{line_at, line_value}
+use Rattle.upp_limits.specs.upp_curve.specs.declared.affine_segment.line.Line.{Line}
+use Rattle.upp_limits.specs.upp_curve.specs.declared.affine_segment.line.Piece.{Piece}
+use Rattle.upp_limits.specs.upp_curve.specs.affine_segment.Values.{line_at, line_value}
 use Rattle.upp_limits.specs.upp_curve.specs.declared.curve.Tail.{Tail}
 use Rattle.upp_limits.specs.upp_curve.specs.declared.curve.Tail.TheVariants.{Periodic, Affine, Infinite}
 use Rattle.upp_limits.specs.upp_curve.specs.Curve.{SpecCurve}
 use Rattle.upp_limits.specs.upp_curve.specs.Curves.{IsCurve}
-use Rattle.upp_limits.specs.affine_segment.specs.Reading.{piece_in}
+use Rattle.upp_limits.specs.upp_curve.specs.affine_segment.Reading.{piece_in}
 use Rattle.upp_limits.specs.upp_curve.specs.Steady.{rank_of}
 use Rattle.upp_limits.specs.Periods.{period_of}
-use Rattle.upp_limits.specs.affine_segment.specs.Pieces.{Each, HasStart, StartsAtZero}
+use Rattle.upp_limits.specs.upp_curve.specs.affine_segment.Pieces.{Each, HasStart, StartsAtZero}
 use Rattle.upp_limits.specs.upp_curve.specs.Normal.{FitsPeriod, TailFits}
-use Rattle.upp_limits.specs.affine_segment.specs.Fits.{LineFitsAt}
+use Rattle.upp_limits.specs.upp_curve.specs.affine_segment.Fits.{LineFitsAt}
 use Rattle.upp_limits.specs.upp_curve.specs.Unrolled.{copies_below, line_later}
 use Rattle.upp_limits.specs.Spans.{Span, copy_of, copies_of, once_below, span_below, spans, spans_below}
 use Rattle.upp_limits.specs.Limits.{Sizes, curve_numbers}

@@ -12,19 +12,19 @@ use Rattle.upp_limits.specs.rational.proofs.Laws.{le_or_lt, le_refl, le_trans, l
 use Rattle.upp_limits.specs.rational.proofs.Over.{le_q_out, lt_q_out}
 use Rattle.upp_limits.specs.rational.proofs.MinMax.{le_q_not, lt_q_not}
 use Rattle.upp_limits.specs.rational.proofs.Grid.{whole_add, whole_times}
-use Rattle.upp_limits.specs.affine_segment.specs.declared.line.Line.{Line}
-use Rattle.upp_limits.specs.affine_segment.specs.declared.line.Piece.{Piece}
-use Rattle.upp_limits.specs.affine_segment.specs.Values.{line_value}
+use Rattle.upp_limits.specs.upp_curve.specs.declared.affine_segment.line.Line.{Line}
+use Rattle.upp_limits.specs.upp_curve.specs.declared.affine_segment.line.Piece.{Piece}
+use Rattle.upp_limits.specs.upp_curve.specs.affine_segment.Values.{line_value}
 use Rattle.upp_normal.specs.declared.ahead.Stretch.{Stretch}
 use Rattle.upp_normal.specs.declared.ahead.Turn.{Turn}
 use Rattle.upp_limits.specs.upp_curve.specs.declared.curve.Tail.{Tail}
 use Rattle.upp_limits.specs.upp_curve.specs.declared.curve.Tail.TheVariants.{Periodic, Affine, Infinite}
 use Rattle.upp_limits.specs.upp_curve.specs.Curve.{SpecCurve, value_at, with_tail, repeated}
 use Rattle.upp_limits.specs.upp_curve.specs.Curves.{IsCurve}
-use Rattle.upp_limits.specs.affine_segment.specs.Reading.{piece_in, piece_value, read, next_in, line_in}
-use Rattle.upp_limits.specs.affine_segment.specs.Pieces.{Each, RisesFrom, StartsAtZero}
+use Rattle.upp_limits.specs.upp_curve.specs.affine_segment.Reading.{piece_in, piece_value, read, next_in, line_in}
+use Rattle.upp_limits.specs.upp_curve.specs.affine_segment.Pieces.{Each, RisesFrom, StartsAtZero}
 use Rattle.upp_limits.specs.upp_curve.specs.Normal.{FitsPeriod, TailFits, TailNormal}
-use Rattle.upp_limits.specs.affine_segment.specs.Fits.{ReadFits}
+use Rattle.upp_limits.specs.upp_curve.specs.affine_segment.Fits.{ReadFits}
 use Rattle.upp_limits.specs.upp_curve.specs.Unrolled.{line_later}
 use Rattle.upp_limits.specs.upp_curve.specs.Steady.{rank_of}
 use Rattle.upp_limits.specs.Periods.{period_of}
@@ -37,7 +37,7 @@ use Rattle.upp_limits.specs.Sized.{SpanStands}
 use Rattle.upp_normal.proofs.UnrolledValues.{line_value_later}
 use Rattle.upp_normal.proofs.AnswerRoom.{operand_line_fits, operand_line_value, stands_operand_value}
 use Rattle.upp_limits.proofs.CurveStands.{each_stands, has_period, unrolled_stand}
-use Rattle.upp_limits.specs.affine_segment.proofs.NextPiece.{next_go, next_stop, next_none}
+use Rattle.upp_limits.specs.upp_curve.proofs.affine_segment.NextPiece.{next_go, next_stop, next_none}
 use Rattle.upp_normal.proofs.StretchPieces.{next_past, next_all, found_late, span_in, line_at_rank, reads_on, cut_plain}
 use Rattle.upp_normal.proofs.StretchTurns.{Turned, turned, same_turn, repeated_at}
 use Rattle.upp_normal.proofs.StretchSizes.{copies_stand, tail_times, some_period, times_fit, times_stand, span_line, CopySteps, copy_steps}

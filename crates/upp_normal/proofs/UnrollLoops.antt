@@ -9,13 +9,13 @@ use Rattle.upp_limits.specs.rational.proofs.Laws.{le_or_lt, le_of_lt, le_trans, 
 use Rattle.upp_limits.specs.rational.proofs.Integers.{nat_nonneg}
 use Rattle.upp_limits.specs.rational.proofs.Linear.{with3, with4, with5}
 use Rattle.upp_limits.specs.rational.proofs.Whole.{one_more_times, periods_high}
-use Rattle.upp_limits.specs.affine_segment.specs.declared.line.Piece.{Piece}
-use Rattle.upp_limits.specs.affine_segment.specs.Pieces.{Each}
+use Rattle.upp_limits.specs.upp_curve.specs.declared.affine_segment.line.Piece.{Piece}
+use Rattle.upp_limits.specs.upp_curve.specs.affine_segment.Pieces.{Each}
 use Rattle.upp_limits.specs.upp_curve.specs.Unrolled.{copies, each_later, later, upto}
 use Rattle.upp_limits.specs.min_plus.specs.WholeUp.{whole_up}
 use Rattle.upp_limits.specs.upp_curve.proofs.Normal.{upto_all}
 use Rattle.upp_normal.proofs.NormaliseCopies.{later_twice, moved-append}
-use Rattle.upp_limits.specs.affine_segment.proofs.PieceOrder.{each_append, each_map}
+use Rattle.upp_limits.specs.upp_curve.proofs.affine_segment.PieceOrder.{each_append, each_map}
 use Rattle.upp_normal.proofs.NormaliseLists.{each_moved}
 use Rattle.upp_normal.proofs.NormaliseLoops.{later_none, later_some}
 use Rattle.upp_limits.proofs.Rounding.{before_count}

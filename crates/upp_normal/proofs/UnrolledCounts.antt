@@ -2,7 +2,7 @@
 use Rattle.std.specs.Prelude.{◌≡◌, List, length}
 use Rattle.std.proofs.Common.{sym, ap, ◌∙◌}
 use Rattle.upp_limits.specs.rational.specs.Rational.{ℚ}
-use Rattle.upp_limits.specs.affine_segment.specs.declared.line.Piece.{Piece}
+use Rattle.upp_limits.specs.upp_curve.specs.declared.affine_segment.line.Piece.{Piece}
 use Rattle.upp_limits.specs.declared.op_kind.OpKind.TheVariants.{Itself}
 use Rattle.upp_limits.specs.upp_curve.specs.Curve.{SpecCurve}
 use Rattle.upp_limits.specs.Gauges.{tally_over}

@@ -10,15 +10,15 @@ use Rattle.upp_limits.specs.rational.proofs.Linear.{with2}
 use Rattle.upp_limits.specs.rational.proofs.MinMax.{lt_q_not}
 use Rattle.upp_limits.specs.rational.proofs.Over.{lt_q_out}
 use Rattle.upp_limits.specs.rational.proofs.Whole.{one_more_times}
-use Rattle.upp_limits.specs.affine_segment.specs.declared.line.Line.{Line}
-use Rattle.upp_limits.specs.affine_segment.specs.declared.line.Piece.{Piece}
-use Rattle.upp_limits.specs.affine_segment.specs.Values.{line_value}
+use Rattle.upp_limits.specs.upp_curve.specs.declared.affine_segment.line.Line.{Line}
+use Rattle.upp_limits.specs.upp_curve.specs.declared.affine_segment.line.Piece.{Piece}
+use Rattle.upp_limits.specs.upp_curve.specs.affine_segment.Values.{line_value}
 use Rattle.upp_limits.specs.upp_curve.specs.declared.curve.Tail.{Tail}
 use Rattle.upp_limits.specs.upp_curve.specs.declared.curve.Tail.TheVariants.{Periodic, Affine, Infinite}
 use Rattle.upp_limits.specs.upp_curve.specs.Curve.{SpecCurve}
 use Rattle.upp_limits.specs.upp_curve.specs.Curves.{IsCurve}
 use Rattle.upp_limits.specs.Limits.{Sizes, curve_numbers}
-use Rattle.upp_limits.specs.affine_segment.specs.Pieces.{Each, HasStart, RisesFrom, StartsAtZero}
+use Rattle.upp_limits.specs.upp_curve.specs.affine_segment.Pieces.{Each, HasStart, RisesFrom, StartsAtZero}
 use Rattle.upp_limits.specs.upp_curve.specs.Normal.{IsNormal}
 use Rattle.upp_normal.specs.Operand.{AreLimited, OperandLineAt, OperandPiece, OperandPieces}
 use Rattle.upp_limits.specs.Sized.{AreSizes, LineStands, SpanStands, Stands, ValueStands}
@@ -32,14 +32,14 @@ use Rattle.upp_limits.proofs.Every.{every_flat_out, every_weaken}
 use Rattle.upp_limits.proofs.NarrowSizes.{line_parts}
 use Rattle.upp_normal.proofs.NormaliseCopies.{later_twice}
 use Rattle.upp_normal.proofs.NormaliseCuts.{zero_upto}
-use Rattle.upp_limits.specs.affine_segment.proofs.PieceOrder.{each_append, each_map, rises_append, rises_left}
+use Rattle.upp_limits.specs.upp_curve.proofs.affine_segment.PieceOrder.{each_append, each_map, rises_append, rises_left}
 use Rattle.upp_normal.proofs.NormaliseLists.{each_upto, rises_moved}
 use Rattle.upp_normal.proofs.NormaliseLoops.{later_none, later_some}
 use Rattle.upp_normal.proofs.NormaliseRank.{from_late}
 use Rattle.upp_limits.proofs.PieceLists.{starts_nonneg}
 use Rattle.upp_limits.specs.upp_curve.proofs.Unique.{upto_none}
 use Rattle.upp_normal.proofs.UnrolledValues.{copies_some, copies_none}
-use Rattle.upp_limits.specs.affine_segment.proofs.PieceIn.{low_start}
+use Rattle.upp_limits.specs.upp_curve.proofs.affine_segment.PieceIn.{low_start}
 use Rattle.upp_limits.proofs.PieceCounts.{each_from, upto_early}
 use Rattle.upp_normal.proofs.NormaliseWhole.{before_read}
 

@@ -2,10 +2,10 @@
 use Rattle.std.specs.Prelude.{◌≡◌, pos, List}
 use Rattle.std.proofs.Common.{ap, ◌∙◌}
 use Rattle.upp_limits.specs.rational.specs.Rational.{ℚ, ◌≤ℚ◌, ◌<ℚ◌, int}
-use Rattle.upp_limits.specs.affine_segment.specs.declared.line.Piece.{Piece}
+use Rattle.upp_limits.specs.upp_curve.specs.declared.affine_segment.line.Piece.{Piece}
 use Rattle.upp_limits.specs.upp_curve.specs.Curve.{SpecCurve, value_at}
 use Rattle.upp_limits.specs.upp_curve.specs.Normal.{IsNormal}
-use Rattle.upp_limits.specs.affine_segment.specs.Reading.{read}
+use Rattle.upp_limits.specs.upp_curve.specs.affine_segment.Reading.{read}
 use Rattle.upp_limits.specs.upp_curve.specs.Unrolled.{unroll}
 use Rattle.upp_normal.proofs.Below.{unroll_reads}
 

@@ -7,15 +7,15 @@ use Rattle.upp_limits.specs.rational.proofs.Over.{le_q_out}
 use Rattle.upp_limits.specs.rational.proofs.Laws.{le_or_lt, le_of_lt, le_trans, mul_sub}
 use Rattle.upp_limits.specs.rational.specs.Extended.{Ext, ◌+ₑ◌}
 use Rattle.upp_limits.specs.rational.specs.declared.Extended.TheVariants.{Fin}
-use Rattle.upp_limits.specs.affine_segment.specs.declared.line.Line.{Line}
-use Rattle.upp_limits.specs.affine_segment.specs.declared.line.Piece.{Piece}
-use Rattle.upp_limits.specs.affine_segment.specs.Reading.{piece_in, piece_value, read}
-use Rattle.upp_limits.specs.affine_segment.specs.Values.{line_value}
+use Rattle.upp_limits.specs.upp_curve.specs.declared.affine_segment.line.Line.{Line}
+use Rattle.upp_limits.specs.upp_curve.specs.declared.affine_segment.line.Piece.{Piece}
+use Rattle.upp_limits.specs.upp_curve.specs.affine_segment.Reading.{piece_in, piece_value, read}
+use Rattle.upp_limits.specs.upp_curve.specs.affine_segment.Values.{line_value}
 use Rattle.upp_limits.specs.upp_curve.specs.Unrolled.{line_later, later, each_later, copies}
 use Rattle.upp_limits.specs.upp_curve.specs.Curve.{repeated}
-use Rattle.upp_limits.specs.affine_segment.specs.Pieces.{Each}
+use Rattle.upp_limits.specs.upp_curve.specs.affine_segment.Pieces.{Each}
 use Rattle.upp_limits.specs.rational.proofs.MinMax.{le_q_not}
-use Rattle.upp_limits.specs.affine_segment.proofs.PieceIn.{piece_in_go, piece_in_stop}
+use Rattle.upp_limits.specs.upp_curve.proofs.affine_segment.PieceIn.{piece_in_go, piece_in_stop}
 use Rattle.upp_limits.specs.upp_curve.proofs.Repeats.{repeated_first, repeated_next}
 use Rattle.upp_limits.specs.rational.proofs.Whole.{one_more_times}
 use Rattle.upp_normal.proofs.NormaliseLoops.{later_none, later_some}

@@ -5,8 +5,8 @@ use Rattle.upp_limits.specs.rational.specs.Rational.{◌<ℚ◌}
 use Rattle.upp_limits.specs.rational.specs.Grid.{Whole}
 use Rattle.upp_limits.specs.rational.specs.Extended.{Ext}
 use Rattle.upp_limits.specs.rational.specs.declared.Extended.TheVariants.{Fin, Inf}
-use Rattle.upp_limits.specs.affine_segment.specs.declared.line.Line.{Line}
-use Rattle.upp_limits.specs.affine_segment.specs.declared.line.Piece.{Piece}
+use Rattle.upp_limits.specs.upp_curve.specs.declared.affine_segment.line.Line.{Line}
+use Rattle.upp_limits.specs.upp_curve.specs.declared.affine_segment.line.Piece.{Piece}
 
 -- ---- numbers on the grids: slopes on 1 / S, values on 1 / D
 abbrev pub ValueOn : ℕ → Ext → Type 0

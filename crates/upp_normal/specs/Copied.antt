@@ -4,7 +4,7 @@ use Rattle.std.specs.Prelude.{◌≡◌, pos, Option, Some, None}
 use Rattle.upp_limits.specs.rational.specs.Rational.{ℚ, ◌-ℚ◌, ◌*ℚ◌, int}
 use Rattle.upp_limits.specs.rational.specs.Ratio.{IsSmall, SumFits}
 use Rattle.upp_limits.specs.rational.specs.Whole.{periods}
-use Rattle.upp_limits.specs.affine_segment.specs.declared.line.Line.{Line}
+use Rattle.upp_limits.specs.upp_curve.specs.declared.affine_segment.line.Line.{Line}
 use Rattle.upp_normal.specs.declared.ahead.Turn.{Turn}
 use Rattle.upp_limits.specs.upp_curve.specs.Fitting.{MoveFits}
 

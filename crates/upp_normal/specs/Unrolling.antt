@@ -2,9 +2,9 @@
 use Rattle.std.specs.Prelude.{ℕ, ◌<◌, ◌^◌, pos, List}
 use Rattle.upp_limits.specs.rational.specs.Rational.{ℚ, ◌+ℚ◌, ◌-ℚ◌, ◌*ℚ◌, ◌<ℚ◌, int, neg_ℚ}
 use Rattle.upp_limits.specs.rational.specs.Ratio.{IsSmall, SumFits}
-use Rattle.upp_limits.specs.affine_segment.specs.declared.line.Piece.{Piece}
+use Rattle.upp_limits.specs.upp_curve.specs.declared.affine_segment.line.Piece.{Piece}
 use Rattle.upp_limits.specs.upp_curve.specs.Curve.{SpecCurve}
-use Rattle.upp_limits.specs.affine_segment.specs.Pieces.{Each}
+use Rattle.upp_limits.specs.upp_curve.specs.affine_segment.Pieces.{Each}
 use Rattle.upp_limits.specs.upp_curve.specs.Unrolled.{from}
 use Rattle.upp_limits.specs.upp_curve.specs.Fitting.{LaterFits}
 use Rattle.upp_limits.specs.Limits.{Sizes, curve_numbers}

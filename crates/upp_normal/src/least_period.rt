@@ -4,13 +4,13 @@ ghost use Rattle.std.specs.Prelude.{◌≡◌, ◌↔◌, ◌<◌, ◌≤◌, �
 ghost use Prim.Native.Nat.{◌∣◌};
 ghost use Rattle.upp_limits.specs.rational.specs.Rational.{int, ◌/ℚ◌};
 ghost use Rattle.upp_limits.specs.rational.specs.Grid.{Whole};
-ghost use Rattle.upp_limits.specs.affine_segment.specs.Pieces.{Each};
+ghost use Rattle.upp_limits.specs.upp_curve.specs.affine_segment.Pieces.{Each};
 ghost use Rattle.upp_limits.specs.upp_curve.specs.Fitting.{LaterFits};
 ghost use Rattle.upp_normal.specs.Normalising.{GoesOn, IsTurning, IsDivided, IsLeast, OnGrids, SharesFit, cycle_values, turn_count};
 
 use crate::cycle::Cycle;
-use upp_limits::affine_segment::Piece;
 use upp_limits::fraction128::Frac;
+use upp_limits::upp_curve::affine_segment::Piece;
 use upp_limits::upp_curve::fitting::later;
 use upp_limits::upp_curve::same::same_piece;
 

@@ -20,5 +20,3 @@ pub use raw_curve::{RawCurve, normalise, normalise_on};
 pub use steadiness::steady_time;
 pub use two_periods::count_before;
 pub use unrolling::{pieces_to, unrolled};
-pub use upp_limits;
-pub use upp_limits::{affine_segment, fraction128, rational, upp_curve};

@@ -1,9 +1,9 @@
 //! The normal form of any curve.
 
 ghost use Rattle.std.specs.Prelude.{◌≡◌, ◌<◌, ◌≤◌, ◌^◌, IfOk, IfErr, Err};
-ghost use Rattle.upp_limits.specs.affine_segment.specs.Reading.{read};
+ghost use Rattle.upp_limits.specs.upp_curve.specs.affine_segment.Reading.{read};
 ghost use Rattle.upp_limits.specs.upp_curve.specs.Curve.{repeated, value_at, HasSameValues};
-ghost use Rattle.upp_limits.specs.affine_segment.specs.Pieces.{StartsAtZero};
+ghost use Rattle.upp_limits.specs.upp_curve.specs.affine_segment.Pieces.{StartsAtZero};
 ghost use Rattle.upp_limits.specs.upp_curve.specs.Normal.{NoMerge, FitsPeriod, IsRaw};
 ghost use Rattle.upp_limits.specs.upp_curve.specs.Readable.{EachFits};
 ghost use Rattle.upp_limits.specs.Limits.{own_gauge, own_tally};
@@ -16,8 +16,8 @@ use crate::lowest_rank::lowest_rank;
 use crate::merging::merged;
 use crate::two_periods::{ended, two_periods};
 use std::alloc::{AllocError, Global};
-use upp_limits::affine_segment::Piece;
 use upp_limits::fraction128::Frac;
+use upp_limits::upp_curve::affine_segment::Piece;
 use upp_limits::upp_curve::{Curve, Tail};
 use upp_limits::{OpFault, own_within};
 

@@ -2,8 +2,8 @@
 use Rattle.std.specs.Prelude.{Contains}
 use Rattle.std.proofs.Common.{◌≡◌, ◌≢◌, ℕ, zero, suc, ◌<◌, ◌≤◌, ◌^◌, List, [], ◌∷◌, length, get_or, take, Some, refl, ap, sym}
 use Rattle.std.proofs.Common.{arith}
-use Rattle.net_model.specs.rational.proofs.Integers.{nat_lt, nat_nonneg}
-use Rattle.net_model.specs.upp_limits.specs.Windows.{IsLeast}
+use Rattle.upp_limits.specs.rational.proofs.Integers.{nat_lt, nat_nonneg}
+use Rattle.upp_limits.specs.Windows.{IsLeast}
 use Rattle.net_model.specs.run_laws.specs.Cards.{whole}
 use Rattle.net_model.specs.run_laws.specs.Servers.{Discipline}
 use Rattle.net_model.specs.Accepted.{IsServer, IsHop, IsFlow, HasFewQueues}

@@ -1,21 +1,21 @@
 -- The values of the gate of the example: open for the last 250 of each 1000, at 100 bits a unit of time.
 use Rattle.std.specs.Prelude.{◌≡◌, ◌⊎◌, ℕ, pos, List}
 use Rattle.std.proofs.Common.{arith, ap, ◌∙◌, refl, inl, inr}
-use Rattle.net_model.specs.rational.specs.Rational.{ℚ, int, ◌+ℚ◌, ◌-ℚ◌, ◌*ℚ◌, ◌≤ℚ◌, ◌<ℚ◌, neg_ℚ}
-use Rattle.net_model.specs.rational.specs.Fractions.{same_parts}
-use Rattle.net_model.specs.rational.specs.Extended.{◌+ₑ◌}
-use Rattle.net_model.specs.rational.specs.declared.Extended.TheVariants.{Fin}
-use Rattle.net_model.specs.rational.proofs.Laws.{mul_comm, le_or_lt}
-use Rattle.net_model.specs.rational.proofs.Whole.{periods_unique, periods_low, periods_high}
-use Rattle.net_model.specs.rational.specs.Whole.{periods}
-use Rattle.net_model.specs.rational.proofs.Linear.{with2, with3, with4}
-use Rattle.net_model.specs.affine_segment.specs.declared.line.Piece.{Piece}
-use Rattle.net_model.specs.affine_segment.specs.Reading.{read}
-use Rattle.net_model.specs.min_plus.specs.Functions.{zero_q}
-use Rattle.net_model.specs.upp_curve.specs.Curve.{value_at, repeated}
-use Rattle.net_model.specs.upp_curve.specs.Kinds.{gate, gated}
-use Rattle.net_model.specs.upp_curve.proofs.GateValues.{gate_pieces, closed_value, open_value}
-use Rattle.net_model.specs.upp_curve.proofs.Worked.{computing}
+use Rattle.upp_limits.specs.rational.specs.Rational.{ℚ, int, ◌+ℚ◌, ◌-ℚ◌, ◌*ℚ◌, ◌≤ℚ◌, ◌<ℚ◌, neg_ℚ}
+use Rattle.upp_limits.specs.rational.specs.Fractions.{same_parts}
+use Rattle.upp_limits.specs.rational.specs.Extended.{◌+ₑ◌}
+use Rattle.upp_limits.specs.rational.specs.declared.Extended.TheVariants.{Fin}
+use Rattle.upp_limits.specs.rational.proofs.Laws.{mul_comm, le_or_lt}
+use Rattle.upp_limits.specs.rational.proofs.Whole.{periods_unique, periods_low, periods_high}
+use Rattle.upp_limits.specs.rational.specs.Whole.{periods}
+use Rattle.upp_limits.specs.rational.proofs.Linear.{with2, with3, with4}
+use Rattle.upp_limits.specs.upp_curve.specs.declared.affine_segment.line.Piece.{Piece}
+use Rattle.upp_limits.specs.upp_curve.specs.affine_segment.Reading.{read}
+use Rattle.upp_limits.specs.min_plus.specs.Functions.{zero_q}
+use Rattle.upp_limits.specs.upp_curve.specs.Curve.{value_at, repeated}
+use Rattle.upp_limits.specs.upp_curve.specs.Kinds.{gate, gated}
+use Rattle.upp_limits.specs.upp_curve.proofs.GateValues.{gate_pieces, closed_value, open_value}
+use Rattle.upp_limits.specs.upp_curve.proofs.Worked.{computing}
 use Rattle.net_model.specs.run_laws.specs.Cards.{whole}
 use Rattle.net_model.specs.run_laws.proofs.Small.{lt_t}
 

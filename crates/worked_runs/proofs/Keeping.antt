@@ -1,17 +1,17 @@
 -- What a run of one or two packets has to keep: arrival curves, and the service of one server.
 use Rattle.std.specs.Prelude.{◌≡◌, ◌<◌, ℕ, ◌+◌, ◌*◌, Bool, true, ◌&&◌, List}
 use Rattle.std.proofs.Common.{arith, sym, ap, ◌∙◌, refl, inl, inr}
-use Rattle.net_model.specs.rational.specs.Rational.{ℚ, ◌+ℚ◌, ◌-ℚ◌, ◌*ℚ◌, ◌≤ℚ◌, ◌<ℚ◌, lt_q}
-use Rattle.net_model.specs.rational.specs.Extended.{Ext, ◌≤ₑ◌}
-use Rattle.net_model.specs.rational.specs.declared.Extended.TheVariants.{Fin}
-use Rattle.net_model.specs.rational.proofs.Integers.{nat_le, nat_lt, nat_nonneg}
-use Rattle.net_model.specs.rational.proofs.Laws.{le_or_lt, le_of_lt, le_refl, le_trans, mul_nonneg, mul_add}
-use Rattle.net_model.specs.rational.proofs.Linear.{with2, with3, with5, with6}
-use Rattle.net_model.specs.min_plus.specs.Functions.{zero_q}
-use Rattle.net_model.specs.min_plus.specs.Formulas.{IsService}
-use Rattle.net_model.specs.upp_curve.specs.Curve.{value_at}
-use Rattle.net_model.specs.upp_curve.specs.Kinds.{bucket}
-use Rattle.net_model.specs.upp_curve.proofs.KindValues.{bucket_is}
+use Rattle.upp_limits.specs.rational.specs.Rational.{ℚ, ◌+ℚ◌, ◌-ℚ◌, ◌*ℚ◌, ◌≤ℚ◌, ◌<ℚ◌, lt_q}
+use Rattle.upp_limits.specs.rational.specs.Extended.{Ext, ◌≤ₑ◌}
+use Rattle.upp_limits.specs.rational.specs.declared.Extended.TheVariants.{Fin}
+use Rattle.upp_limits.specs.rational.proofs.Integers.{nat_le, nat_lt, nat_nonneg}
+use Rattle.upp_limits.specs.rational.proofs.Laws.{le_or_lt, le_of_lt, le_refl, le_trans, mul_nonneg, mul_add}
+use Rattle.upp_limits.specs.rational.proofs.Linear.{with2, with3, with5, with6}
+use Rattle.upp_limits.specs.min_plus.specs.Functions.{zero_q}
+use Rattle.upp_limits.specs.min_plus.specs.Formulas.{IsService}
+use Rattle.upp_limits.specs.upp_curve.specs.Curve.{value_at}
+use Rattle.upp_limits.specs.upp_curve.specs.Kinds.{bucket}
+use Rattle.upp_limits.specs.upp_curve.proofs.KindValues.{bucket_is}
 use Rattle.net_model.specs.run_laws.specs.Cards.{whole, all, ServerStep}
 use Rattle.net_model.specs.run_laws.specs.Counts.{when, arrived, worked}
 use Rattle.net_model.specs.run_laws.specs.Premises.{KeepsService}

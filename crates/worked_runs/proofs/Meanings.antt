@@ -2,13 +2,13 @@
 use Rattle.std.specs.Prelude.{◌≡◌, ℕ, ◌+◌, ◌==◌, ◌&&◌, nat_lt, Bool, IsTrue, List, [], ◌∷◌}
 use Rattle.std.proofs.Common.{zero, suc, arith, sym, ap, subst}
 use Rattle.std.proofs.lemmas.Bool.{ltb-true, eqb-true, and_parts}
-use Rattle.net_model.specs.rational.specs.Rational.{ℚ}
-use Rattle.net_model.specs.rational.specs.Extended.{Ext, min_ext}
-use Rattle.net_model.specs.min_plus.specs.Deviations.{IsHorizontalDeviation, IsVerticalDeviation}
-use Rattle.net_model.specs.upp_limits.specs.declared.op_kind.OpKind.{OpKind}
-use Rattle.net_model.specs.upp_limits.specs.declared.op_kind.OpKind.TheVariants.{Shift, FifoLeft}
-use Rattle.net_model.specs.upp_curve.specs.Curve.{SpecCurve, value_at}
-use Rattle.net_cells.specs.curve_call.specs.Answers.{IsMadeBy}
+use Rattle.upp_limits.specs.rational.specs.Rational.{ℚ}
+use Rattle.upp_limits.specs.rational.specs.Extended.{Ext, min_ext}
+use Rattle.upp_limits.specs.min_plus.specs.Deviations.{IsHorizontalDeviation, IsVerticalDeviation}
+use Rattle.upp_limits.specs.declared.op_kind.OpKind.{OpKind}
+use Rattle.upp_limits.specs.declared.op_kind.OpKind.TheVariants.{Shift, FifoLeft}
+use Rattle.upp_limits.specs.upp_curve.specs.Curve.{SpecCurve, value_at}
+use Rattle.curve_call.specs.Answers.{IsMadeBy}
 use Rattle.net_cells.specs.declared.cell.Cell.{Cell}
 use Rattle.net_cells.specs.Formulas.{Formula, made, made_of, moved, leftover, horizontal, vertical, smaller, along, delayed}
 use Rattle.net_cells.specs.Meanings.{curve, number, CellTable}

@@ -2,13 +2,13 @@
 use Rattle.std.specs.Prelude.{codes}
 use Rattle.std.proofs.Common.{◌≡◌, ◌≢◌, ℕ, zero, suc, ◌<◌, [], ◌∷◌, length, sym, true, false, Some, refl, ap, subst, arith}
 use Rattle.std.proofs.lemmas.Option.{same_Some}
-use Rattle.net_model.specs.rational.specs.Rational.{◌-ℚ◌}
-use Rattle.net_model.specs.rational.specs.Extended.{◌≤ₑ◌}
-use Rattle.net_model.specs.rational.specs.declared.Extended.TheVariants.{Fin}
-use Rattle.net_model.specs.rational.proofs.Integers.{nat_nonneg}
-use Rattle.net_model.specs.upp_curve.specs.Curve.{value_at}
-use Rattle.net_model.specs.upp_curve.specs.Kinds.{bucket, rate_latency}
-use Rattle.net_model.specs.upp_curve.proofs.KindValues.{bucket_is, service_is}
+use Rattle.upp_limits.specs.rational.specs.Rational.{◌-ℚ◌}
+use Rattle.upp_limits.specs.rational.specs.Extended.{◌≤ₑ◌}
+use Rattle.upp_limits.specs.rational.specs.declared.Extended.TheVariants.{Fin}
+use Rattle.upp_limits.specs.rational.proofs.Integers.{nat_nonneg}
+use Rattle.upp_limits.specs.upp_curve.specs.Curve.{value_at}
+use Rattle.upp_limits.specs.upp_curve.specs.Kinds.{bucket, rate_latency}
+use Rattle.upp_limits.specs.upp_curve.proofs.KindValues.{bucket_is, service_is}
 use Rattle.net_model.specs.run_laws.specs.Cards.{whole}
 use Rattle.net_model.specs.run_laws.specs.Examples.{one_packet, ReachesItsBound}
 use Rattle.net_model.specs.run_laws.specs.Premises.{KeepsService}

@@ -2,12 +2,12 @@
 use Rattle.std.specs.Prelude.{◌≡◌, ℕ, zero, suc, ◌+◌, ◌==◌, ◌&&◌, nat_lt, IsTrue, true, false, Option, Some, None, [], ◌∷◌}
 use Rattle.std.proofs.lemmas.Bool.{and_parts}
 use Rattle.std.proofs.Common.{refl}
-use Rattle.net_model.specs.rational.specs.Extended.{Ext, min_ext}
-use Rattle.net_model.specs.rational.specs.declared.Extended.TheVariants.{Fin}
-use Rattle.net_model.specs.rational.proofs.Laws.{le_refl}
-use Rattle.net_model.specs.rational.proofs.ExtendedOrder.{min_ext_of_le}
-use Rattle.net_model.specs.min_plus.specs.Functions.{zero_q}
-use Rattle.net_model.specs.upp_limits.specs.declared.op_kind.OpKind.TheVariants.{PosMinus}
+use Rattle.upp_limits.specs.rational.specs.Extended.{Ext, min_ext}
+use Rattle.upp_limits.specs.rational.specs.declared.Extended.TheVariants.{Fin}
+use Rattle.upp_limits.specs.rational.proofs.Laws.{le_refl}
+use Rattle.upp_limits.specs.rational.proofs.ExtendedOrder.{min_ext_of_le}
+use Rattle.upp_limits.specs.min_plus.specs.Functions.{zero_q}
+use Rattle.upp_limits.specs.declared.op_kind.OpKind.TheVariants.{PosMinus}
 use Rattle.net_model.specs.run_laws.specs.Cards.{whole}
 use Rattle.net_cells.specs.declared.cell.Kind.{Kind}
 use Rattle.net_cells.specs.declared.cell.Kind.TheVariants.{In, Cross, Total, Higher, QueueService, Theta, Residual, QueueDelay, QueueBacklog, HopDelay, ShiftOut, DeconvOut, Out, PathService, Tfa, Sfa, Bound}

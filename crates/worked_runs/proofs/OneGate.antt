@@ -1,7 +1,7 @@
 -- One flow over a gate reaches its bound.
 use Rattle.std.proofs.Common.{◌≢◌, ℕ, zero, suc, ◌<◌, [], ◌∷◌, length, get_or, Some, refl, ap, sym, subst, arith}
 use Rattle.std.proofs.lemmas.Option.{same_Some}
-use Rattle.net_model.specs.rational.proofs.Integers.{nat_lt, nat_le, nat_nonneg}
+use Rattle.upp_limits.specs.rational.proofs.Integers.{nat_lt, nat_le, nat_nonneg}
 use Rattle.net_model.specs.run_laws.specs.Cards.{whole}
 use Rattle.net_model.specs.Accepted.{IsServer, IsHop, IsFlow, IsAccepted}
 use Rattle.net_model.specs.Names.{DifferInName}

@@ -1,18 +1,18 @@
 -- One packet through a gate.
 use Rattle.std.specs.Prelude.{◌≡◌, ◌<◌, ℕ, zero, suc, pos, true, ◌==◌, ◌&&◌, [], ◌∷◌}
 use Rattle.std.proofs.Common.{arith, sym, ap, ◌∙◌, refl, false, inl, inr, subst}
-use Rattle.net_model.specs.rational.specs.Rational.{ℚ, int, ◌-ℚ◌, ◌*ℚ◌, ◌≤ℚ◌, lt_q}
-use Rattle.net_model.specs.rational.specs.MinMax.{max_q}
-use Rattle.net_model.specs.rational.specs.Extended.{Ext, ◌≤ₑ◌}
-use Rattle.net_model.specs.rational.specs.declared.Extended.TheVariants.{Fin}
-use Rattle.net_model.specs.rational.proofs.Integers.{nat_nonneg, nat_le}
-use Rattle.net_model.specs.rational.proofs.Laws.{le_or_lt, le_trans, mul_le_mul, mul_nonneg, mul_one}
-use Rattle.net_model.specs.rational.proofs.MinMax.{max_q_ge_left, max_q_ge_right}
-use Rattle.net_model.specs.rational.proofs.Linear.{with1, with2}
-use Rattle.net_model.specs.min_plus.specs.Functions.{zero_q}
-use Rattle.net_model.specs.upp_curve.specs.Curve.{value_at}
-use Rattle.net_model.specs.upp_curve.specs.Kinds.{gate, stair}
-use Rattle.net_model.specs.upp_curve.proofs.StairValues.{stair_is}
+use Rattle.upp_limits.specs.rational.specs.Rational.{ℚ, int, ◌-ℚ◌, ◌*ℚ◌, ◌≤ℚ◌, lt_q}
+use Rattle.upp_limits.specs.rational.specs.MinMax.{max_q}
+use Rattle.upp_limits.specs.rational.specs.Extended.{Ext, ◌≤ₑ◌}
+use Rattle.upp_limits.specs.rational.specs.declared.Extended.TheVariants.{Fin}
+use Rattle.upp_limits.specs.rational.proofs.Integers.{nat_nonneg, nat_le}
+use Rattle.upp_limits.specs.rational.proofs.Laws.{le_or_lt, le_trans, mul_le_mul, mul_nonneg, mul_one}
+use Rattle.upp_limits.specs.rational.proofs.MinMax.{max_q_ge_left, max_q_ge_right}
+use Rattle.upp_limits.specs.rational.proofs.Linear.{with1, with2}
+use Rattle.upp_limits.specs.min_plus.specs.Functions.{zero_q}
+use Rattle.upp_limits.specs.upp_curve.specs.Curve.{value_at}
+use Rattle.upp_limits.specs.upp_curve.specs.Kinds.{gate, stair}
+use Rattle.upp_limits.specs.upp_curve.proofs.StairValues.{stair_is}
 use Rattle.net_model.specs.run_laws.specs.Cards.{whole, all}
 use Rattle.net_model.specs.run_laws.specs.Servers.{Span, clip}
 use Rattle.net_model.specs.run_laws.specs.Counts.{when, within, arrived, worked}

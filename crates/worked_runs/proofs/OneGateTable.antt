@@ -2,27 +2,27 @@
 use Rattle.std.specs.Prelude.{◌≡◌, ◌⊎◌, ℕ, zero, suc, ◌+◌, ◌==◌, ◌&&◌, nat_lt, IsTrue, true, false, Option, Some, None, [], ◌∷◌}
 use Rattle.std.proofs.Common.{arith, sym, refl, ap, ◌∙◌, subst, inl, inr}
 use Rattle.std.proofs.lemmas.Bool.{and_parts}
-use Rattle.net_model.specs.rational.specs.Rational.{ℚ, ◌+ℚ◌, ◌-ℚ◌, ◌*ℚ◌, ◌/ℚ◌, ◌≤ℚ◌, ◌<ℚ◌, neg_ℚ}
-use Rattle.net_model.specs.rational.specs.MinMax.{max_q}
-use Rattle.net_model.specs.rational.specs.Extended.{Ext, ◌≤ₑ◌, min_ext}
-use Rattle.net_model.specs.rational.specs.declared.Extended.TheVariants.{Fin}
-use Rattle.net_model.specs.rational.proofs.Bounds.{least_member, largest_member}
-use Rattle.net_model.specs.rational.proofs.ExtendedOrder.{min_ext_of_le}
-use Rattle.net_model.specs.rational.proofs.Laws.{antisym, le_refl, le_or_lt, zero_mul}
-use Rattle.net_model.specs.rational.proofs.Linear.{with1, with2}
-use Rattle.net_model.specs.rational.proofs.MinMax.{max_q_right, le_q_not}
-use Rattle.net_model.specs.rational.proofs.Over.{le_q_out, lt_q_in}
-use Rattle.net_model.specs.min_plus.specs.Functions.{zero_q, Time}
-use Rattle.net_model.specs.min_plus.specs.Deviations.{Lag, IsHorizontalDeviation}
-use Rattle.net_model.specs.min_plus.specs.Running.{left_after}
-use Rattle.net_model.specs.upp_limits.specs.declared.op_kind.OpKind.TheVariants.{PosMinus, FifoLeft}
-use Rattle.net_model.specs.upp_curve.specs.Curve.{value_at}
-use Rattle.net_model.specs.upp_curve.specs.Curves.{IsCurve}
-use Rattle.net_model.specs.upp_curve.specs.Readable.{IsReadable, SumFitsAt}
-use Rattle.net_model.specs.upp_curve.proofs.GateValues.{closed_value}
-use Rattle.net_model.specs.upp_curve.proofs.KindForms.{gate_normal}
-use Rattle.net_model.specs.upp_curve.proofs.Worked.{computing}
-use Rattle.net_cells.specs.curve_call.specs.Answers.{IsMadeBy}
+use Rattle.upp_limits.specs.rational.specs.Rational.{ℚ, ◌+ℚ◌, ◌-ℚ◌, ◌*ℚ◌, ◌/ℚ◌, ◌≤ℚ◌, ◌<ℚ◌, neg_ℚ}
+use Rattle.upp_limits.specs.rational.specs.MinMax.{max_q}
+use Rattle.upp_limits.specs.rational.specs.Extended.{Ext, ◌≤ₑ◌, min_ext}
+use Rattle.upp_limits.specs.rational.specs.declared.Extended.TheVariants.{Fin}
+use Rattle.upp_limits.specs.rational.proofs.Bounds.{least_member, largest_member}
+use Rattle.upp_limits.specs.rational.proofs.ExtendedOrder.{min_ext_of_le}
+use Rattle.upp_limits.specs.rational.proofs.Laws.{antisym, le_refl, le_or_lt, zero_mul}
+use Rattle.upp_limits.specs.rational.proofs.Linear.{with1, with2}
+use Rattle.upp_limits.specs.rational.proofs.MinMax.{max_q_right, le_q_not}
+use Rattle.upp_limits.specs.rational.proofs.Over.{le_q_out, lt_q_in}
+use Rattle.upp_limits.specs.min_plus.specs.Functions.{zero_q, Time}
+use Rattle.upp_limits.specs.min_plus.specs.Deviations.{Lag, IsHorizontalDeviation}
+use Rattle.upp_limits.specs.min_plus.specs.Running.{left_after}
+use Rattle.upp_limits.specs.declared.op_kind.OpKind.TheVariants.{PosMinus, FifoLeft}
+use Rattle.upp_limits.specs.upp_curve.specs.Curve.{value_at}
+use Rattle.upp_limits.specs.upp_curve.specs.Curves.{IsCurve}
+use Rattle.upp_limits.specs.upp_curve.specs.Readable.{IsReadable, SumFitsAt}
+use Rattle.upp_limits.specs.upp_curve.proofs.GateValues.{closed_value}
+use Rattle.upp_limits.specs.upp_curve.proofs.KindForms.{gate_normal}
+use Rattle.upp_limits.specs.upp_curve.proofs.Worked.{computing}
+use Rattle.curve_call.specs.Answers.{IsMadeBy}
 use Rattle.net_model.specs.run_laws.specs.Cards.{whole}
 use Rattle.net_model.specs.run_laws.proofs.Small.{le_t, lt_t}
 use Rattle.net_cells.specs.declared.cell.Kind.{Kind}

@@ -1,21 +1,21 @@
 -- The curves that several worked networks have, and sums and products of their numbers, by computing.
 use Rattle.std.specs.Prelude.{◌≡◌, [], ◌∷◌}
 use Rattle.std.proofs.Common.{refl, ap, ◌∙◌}
-use Rattle.net_model.specs.rational.specs.Rational.{◌-ℚ◌, ◌*ℚ◌}
-use Rattle.net_model.specs.rational.specs.declared.Extended.TheVariants.{Fin}
-use Rattle.net_model.specs.rational.specs.Fractions.{same_parts}
-use Rattle.net_model.specs.rational.specs.Extended.{Ext, ◌+ₑ◌}
-use Rattle.net_model.specs.rational.proofs.ExtendedOrder.{add_zero_ext}
-use Rattle.net_model.specs.min_plus.specs.Functions.{zero_q}
-use Rattle.net_model.specs.min_plus.specs.Formulas.{IsBucket}
-use Rattle.net_model.specs.min_plus.specs.Deviations.{IsHorizontalDeviation, IsVerticalDeviation}
-use Rattle.net_model.specs.upp_limits.specs.declared.op_kind.OpKind.TheVariants.{PosMinus, FifoLeft}
-use Rattle.net_model.specs.upp_curve.specs.Curve.{SpecCurve, value_at}
-use Rattle.net_model.specs.upp_curve.specs.Kinds.{bucket, rate_latency}
-use Rattle.net_cells.specs.curve_call.specs.Answers.{IsMadeBy}
+use Rattle.upp_limits.specs.rational.specs.Rational.{◌-ℚ◌, ◌*ℚ◌}
+use Rattle.upp_limits.specs.rational.specs.declared.Extended.TheVariants.{Fin}
+use Rattle.upp_limits.specs.rational.specs.Fractions.{same_parts}
+use Rattle.upp_limits.specs.rational.specs.Extended.{Ext, ◌+ₑ◌}
+use Rattle.upp_limits.specs.rational.proofs.ExtendedOrder.{add_zero_ext}
+use Rattle.upp_limits.specs.min_plus.specs.Functions.{zero_q}
+use Rattle.upp_limits.specs.min_plus.specs.Formulas.{IsBucket}
+use Rattle.upp_limits.specs.min_plus.specs.Deviations.{IsHorizontalDeviation, IsVerticalDeviation}
+use Rattle.upp_limits.specs.declared.op_kind.OpKind.TheVariants.{PosMinus, FifoLeft}
+use Rattle.upp_limits.specs.upp_curve.specs.Curve.{SpecCurve, value_at}
+use Rattle.upp_limits.specs.upp_curve.specs.Kinds.{bucket, rate_latency}
+use Rattle.curve_call.specs.Answers.{IsMadeBy}
 use Rattle.net_model.specs.run_laws.proofs.Small.{le_t, lt_t}
-use Rattle.net_model.specs.upp_curve.proofs.KindValues.{bucket_is}
-use Rattle.net_model.specs.upp_curve.proofs.Worked.{computing}
+use Rattle.upp_limits.specs.upp_curve.proofs.KindValues.{bucket_is}
+use Rattle.upp_limits.specs.upp_curve.proofs.Worked.{computing}
 use Rattle.net_model.specs.run_laws.specs.Cards.{whole}
 use Rattle.net_cells.specs.NumberSums.{sum_of_numbers}
 use Rattle.worked_runs.proofs.Curves.{IsBurst, burst_by, IsLate, late_by}

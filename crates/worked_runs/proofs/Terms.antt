@@ -1,9 +1,9 @@
 -- Sums over what a server sees, of which two terms are not 0: arrivals, and work.
 use Rattle.std.specs.Prelude.{◌≡◌}
 use Rattle.std.proofs.Common.{ap, ◌∙◌}
-use Rattle.net_model.specs.rational.specs.Rational.{ℚ, ◌+ℚ◌}
-use Rattle.net_model.specs.rational.proofs.Laws.{add_zero}
-use Rattle.net_model.specs.min_plus.specs.Functions.{zero_q}
+use Rattle.upp_limits.specs.rational.specs.Rational.{ℚ, ◌+ℚ◌}
+use Rattle.upp_limits.specs.rational.proofs.Laws.{add_zero}
+use Rattle.upp_limits.specs.min_plus.specs.Functions.{zero_q}
 use Rattle.net_model.specs.run_laws.proofs.Sums.{add_nothing}
 
 -- two packets arrive, and each is worked on and leaves

@@ -1,13 +1,13 @@
 -- Two packets at a priority server.
 use Rattle.std.specs.Prelude.{◌≡◌, ◌⊎◌, ◌<◌, ℕ, zero, suc, true, ◌==◌, ◌&&◌, [], ◌∷◌}
 use Rattle.std.proofs.Common.{arith, ap, ap₂, ◌∙◌, refl, false, sym, inl, inr}
-use Rattle.net_model.specs.rational.specs.Rational.{ℚ, ◌+ℚ◌, ◌-ℚ◌, ◌≤ℚ◌, ◌<ℚ◌, lt_q}
-use Rattle.net_model.specs.rational.specs.Extended.{◌≤ₑ◌}
-use Rattle.net_model.specs.rational.specs.declared.Extended.TheVariants.{Fin}
-use Rattle.net_model.specs.rational.proofs.Integers.{nat_nonneg}
-use Rattle.net_model.specs.rational.proofs.Linear.{with1, with2, with3, with4, with6}
-use Rattle.net_model.specs.upp_curve.specs.Curve.{value_at}
-use Rattle.net_model.specs.upp_curve.proofs.KindValues.{service_is}
+use Rattle.upp_limits.specs.rational.specs.Rational.{ℚ, ◌+ℚ◌, ◌-ℚ◌, ◌≤ℚ◌, ◌<ℚ◌, lt_q}
+use Rattle.upp_limits.specs.rational.specs.Extended.{◌≤ₑ◌}
+use Rattle.upp_limits.specs.rational.specs.declared.Extended.TheVariants.{Fin}
+use Rattle.upp_limits.specs.rational.proofs.Integers.{nat_nonneg}
+use Rattle.upp_limits.specs.rational.proofs.Linear.{with1, with2, with3, with4, with6}
+use Rattle.upp_limits.specs.upp_curve.specs.Curve.{value_at}
+use Rattle.upp_limits.specs.upp_curve.proofs.KindValues.{service_is}
 use Rattle.net_model.specs.run_laws.specs.Cards.{whole, all}
 use Rattle.net_model.specs.run_laws.specs.Servers.{Span, clip}
 use Rattle.net_model.specs.run_laws.specs.Counts.{when, within, arrived, worked}
@@ -18,8 +18,8 @@ use Rattle.net_model.specs.run_laws.specs.RunPremises.{EnterSizes, entered_in}
 use Rattle.net_model.specs.run_laws.specs.Views.{view}
 use Rattle.net_model.specs.run_laws.proofs.Small.{le_t, lt_t, sum_t, enters, works, leaves}
 use Rattle.net_model.specs.run_laws.proofs.Clips.{clip_early, clip_late}
-use Rattle.net_model.specs.rational.proofs.Laws.{le_or_lt, le_of_lt, le_trans}
-use Rattle.net_model.specs.rational.specs.Rational.{◌*ℚ◌}
+use Rattle.upp_limits.specs.rational.proofs.Laws.{le_or_lt, le_of_lt, le_trans}
+use Rattle.upp_limits.specs.rational.specs.Rational.{◌*ℚ◌}
 use Rattle.worked_trees.proofs.Busy.{not_yet, in_span, span_at_rate, service_at_most, IsBusyOnly, keeps_latency}
 use Rattle.net_model.specs.run_laws.proofs.Sums.{when_true, when_false}
 use Rattle.net_model.specs.run_laws.proofs.Sizes.{whole_times}

@@ -2,14 +2,14 @@
 use Rattle.std.specs.Prelude.{Contains, codes}
 use Rattle.std.proofs.Common.{◌≡◌, ◌≢◌, ℕ, zero, suc, ◌<◌, [], ◌∷◌, length, get_or, take, true, false, ◌&&◌, ◌==◌, Some, refl, ap, sym, subst, arith, inl, inr}
 use Rattle.std.proofs.lemmas.Option.{same_Some}
-use Rattle.net_model.specs.rational.specs.Rational.{ℚ, ◌-ℚ◌, ◌≤ℚ◌}
-use Rattle.net_model.specs.rational.specs.Extended.{◌≤ₑ◌}
-use Rattle.net_model.specs.rational.specs.declared.Extended.TheVariants.{Fin}
-use Rattle.net_model.specs.rational.proofs.Integers.{nat_nonneg}
-use Rattle.net_model.specs.rational.proofs.Linear.{with1}
-use Rattle.net_model.specs.upp_curve.specs.Curve.{value_at}
-use Rattle.net_model.specs.upp_limits.specs.Windows.{IsLeast}
-use Rattle.net_model.specs.upp_curve.proofs.KindValues.{service_is}
+use Rattle.upp_limits.specs.rational.specs.Rational.{ℚ, ◌-ℚ◌, ◌≤ℚ◌}
+use Rattle.upp_limits.specs.rational.specs.Extended.{◌≤ₑ◌}
+use Rattle.upp_limits.specs.rational.specs.declared.Extended.TheVariants.{Fin}
+use Rattle.upp_limits.specs.rational.proofs.Integers.{nat_nonneg}
+use Rattle.upp_limits.specs.rational.proofs.Linear.{with1}
+use Rattle.upp_limits.specs.upp_curve.specs.Curve.{value_at}
+use Rattle.upp_limits.specs.Windows.{IsLeast}
+use Rattle.upp_limits.specs.upp_curve.proofs.KindValues.{service_is}
 use Rattle.net_model.specs.run_laws.specs.Cards.{whole}
 use Rattle.net_model.specs.run_laws.specs.Counts.{when, within}
 use Rattle.net_model.specs.run_laws.specs.Premises.{KeepsService}

@@ -1,12 +1,12 @@
 -- One packet over two servers with links of 5.
 use Rattle.std.specs.Prelude.{◌≡◌, ◌<◌, ℕ, zero, suc, true, ◌&&◌, [], ◌∷◌}
 use Rattle.std.proofs.Common.{arith, sym, ap, ◌∙◌, refl, inl, inr}
-use Rattle.net_model.specs.rational.specs.Rational.{ℚ, ◌+ℚ◌, ◌-ℚ◌, lt_q}
-use Rattle.net_model.specs.rational.specs.Extended.{Ext}
-use Rattle.net_model.specs.rational.proofs.Laws.{le_refl, le_trans}
-use Rattle.net_model.specs.rational.proofs.Over.{le_q_out}
-use Rattle.net_model.specs.rational.proofs.Linear.{with1, with2, with3}
-use Rattle.net_model.specs.min_plus.specs.Formulas.{IsService}
+use Rattle.upp_limits.specs.rational.specs.Rational.{ℚ, ◌+ℚ◌, ◌-ℚ◌, lt_q}
+use Rattle.upp_limits.specs.rational.specs.Extended.{Ext}
+use Rattle.upp_limits.specs.rational.proofs.Laws.{le_refl, le_trans}
+use Rattle.upp_limits.specs.rational.proofs.Over.{le_q_out}
+use Rattle.upp_limits.specs.rational.proofs.Linear.{with1, with2, with3}
+use Rattle.upp_limits.specs.min_plus.specs.Formulas.{IsService}
 use Rattle.net_model.specs.run_laws.specs.Cards.{whole, all}
 use Rattle.net_model.specs.run_laws.specs.Servers.{Span, clip}
 use Rattle.net_model.specs.run_laws.specs.Counts.{when, arrived, worked}

@@ -2,16 +2,16 @@
 use Rattle.std.specs.Prelude.{◌≡◌, ℕ, zero, suc, ◌+◌, ◌==◌, ◌&&◌, nat_lt, IsTrue, true, false, Option, Some, None, [], ◌∷◌}
 use Rattle.std.proofs.lemmas.Bool.{and_parts}
 use Rattle.std.proofs.Common.{refl, ap}
-use Rattle.net_model.specs.rational.specs.Extended.{Ext, min_ext}
-use Rattle.net_model.specs.rational.specs.declared.Extended.TheVariants.{Fin}
-use Rattle.net_model.specs.rational.specs.Fractions.{same_parts}
-use Rattle.net_model.specs.min_plus.specs.Functions.{zero_q}
-use Rattle.net_model.specs.min_plus.specs.Deviations.{IsHorizontalDeviation, IsVerticalDeviation}
-use Rattle.net_cells.specs.curve_call.specs.Answers.{IsMadeBy}
-use Rattle.net_model.specs.upp_limits.specs.declared.op_kind.OpKind.TheVariants.{Min, PosMinus, Shift, Convolve, Deconvolve}
-use Rattle.net_model.specs.upp_curve.specs.Curve.{SpecCurve, value_at}
-use Rattle.net_model.specs.upp_curve.specs.Kinds.{bucket, rate_latency}
-use Rattle.net_model.specs.upp_curve.proofs.Worked.{computing}
+use Rattle.upp_limits.specs.rational.specs.Extended.{Ext, min_ext}
+use Rattle.upp_limits.specs.rational.specs.declared.Extended.TheVariants.{Fin}
+use Rattle.upp_limits.specs.rational.specs.Fractions.{same_parts}
+use Rattle.upp_limits.specs.min_plus.specs.Functions.{zero_q}
+use Rattle.upp_limits.specs.min_plus.specs.Deviations.{IsHorizontalDeviation, IsVerticalDeviation}
+use Rattle.curve_call.specs.Answers.{IsMadeBy}
+use Rattle.upp_limits.specs.declared.op_kind.OpKind.TheVariants.{Min, PosMinus, Shift, Convolve, Deconvolve}
+use Rattle.upp_limits.specs.upp_curve.specs.Curve.{SpecCurve, value_at}
+use Rattle.upp_limits.specs.upp_curve.specs.Kinds.{bucket, rate_latency}
+use Rattle.upp_limits.specs.upp_curve.proofs.Worked.{computing}
 use Rattle.net_model.specs.run_laws.specs.Cards.{whole}
 use Rattle.net_model.specs.run_laws.proofs.Small.{le_t, lt_t}
 use Rattle.net_cells.specs.declared.cell.Kind.{Kind}

@@ -6,7 +6,7 @@ use Rattle.net_model.specs.run_laws.specs.Runs.{SpecRun}
 use Rattle.net_model.specs.run_laws.specs.Cards.{whole}
 use Rattle.net_model.specs.run_laws.specs.Examples.{ends_at}
 use Rattle.net_model.specs.run_laws.specs.Servers.{Fifo}
-use Rattle.net_model.specs.upp_curve.specs.Kinds.{gate, stair}
+use Rattle.upp_limits.specs.upp_curve.specs.Kinds.{gate, stair}
 use Rattle.net_model.specs.declared.server.ServiceKind.TheVariants.{Gate}
 use Rattle.net_model.specs.Networks.{Net, NetServer, NetFlow}
 use Rattle.worked_runs.specs.Reached.{ReachesItsBound}

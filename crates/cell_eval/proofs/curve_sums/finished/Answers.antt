@@ -1,7 +1,7 @@
 use Rattle.std.proofs.Common.{subst}
-use Rattle.curve_running.specs.curve_call.specs.Again.{IsAgain}
+use Rattle.plain_operators.specs.curve_call.specs.Again.{IsAgain}
 use Rattle.net_cells.specs.Numbered.{zero_curve}
-use Rattle.cell_table.specs.Values.{answer_of, meaning_of}
+use Rattle.net_cells.specs.cell_table.Values.{answer_of, meaning_of}
 use Rattle.cell_eval.specs.Partial.{IsPartial}
 use Rattle.cell_eval.proofs.Handing.{again_out, shared_makes}
 use Rattle.cell_eval.proofs.SumSteps.{none_given, one_given, made_given}

@@ -2,7 +2,7 @@ use Rattle.std.proofs.Common.{rules, ◌+◌, sym, ap, ◌∙◌, subst, arith, 
 use Rattle.std.specs.Prelude.{Ok, Err}
 use Rattle.std.specs.Option.{option_map}
 use Rattle.std.proofs.lemmas.List.{map-append, length-map}
-use Rattle.net_cells.specs.net_model.specs.Views.{flow_of}
+use Rattle.net_model.specs.Views.{flow_of}
 use Rattle.net_cells.specs.declared.cell.Kind.TheVariants.{In}
 use Rattle.net_cells.specs.Order.{at_visit}
 use Rattle.cell_eval.specs.Chosen.{chosen, all_chosen}

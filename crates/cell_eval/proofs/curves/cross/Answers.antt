@@ -6,7 +6,7 @@ use Rattle.net_cells.specs.Numbered.{server_of_hop, queue_of_hop}
 use Rattle.net_cells.specs.declared.visit.Visit.{Visit}
 use Rattle.net_cells.specs.Visits.{others}
 use Rattle.net_cells.specs.Order.{at_visit}
-use Rattle.cell_table.specs.Values.{answer_of, meaning_of}
+use Rattle.net_cells.specs.cell_table.Values.{answer_of, meaning_of}
 use Rattle.cell_eval.specs.declared.found.Pick.TheVariants.{InQueue}
 use Rattle.cell_eval.specs.Chosen.{all_chosen}
 use Rattle.cell_eval.specs.Partial.{Adds}

@@ -1,8 +1,8 @@
 use Rattle.std.proofs.Common.{◌-◌, subst, inr}
 use Rattle.std.specs.Prelude.{IfErr}
-use Rattle.net_cells.specs.upp_limits.specs.declared.op_kind.OpKind.TheVariants.{Deconvolve}
+use Rattle.upp_limits.specs.declared.op_kind.OpKind.TheVariants.{Deconvolve}
 use Rattle.net_cells.specs.Formulas.{value_of, made}
-use Rattle.cell_table.specs.Values.{meaning_of}
+use Rattle.net_cells.specs.cell_table.Values.{meaning_of}
 use Rattle.cell_eval.proofs.Counting.{ok_answer}
 use Rattle.cell_eval.proofs.Arms.{deconv_comes, deconv_served_by}
 use Rattle.net_cells.specs.declared.cell.Kind.TheVariants.{In, Residual, DeconvOut}

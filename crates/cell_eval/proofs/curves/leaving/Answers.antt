@@ -1,7 +1,7 @@
 use Rattle.cell_eval.proofs.Counting.{counts_all}
 use Rattle.cell_eval.proofs.Arms.{out_shifted, out_spread}
 use Rattle.std.proofs.Common.{subst}
-use Rattle.net_cells.specs.upp_limits.specs.declared.op_kind.OpKind.TheVariants.{Min}
+use Rattle.upp_limits.specs.declared.op_kind.OpKind.TheVariants.{Min}
 use Rattle.net_cells.specs.declared.cell.Kind.TheVariants.{ShiftOut, DeconvOut, Out}
 use Rattle.net_cells.specs.Cells.{cell_of}
 use Rattle.net_cells.specs.Formulas.{value_of, made}

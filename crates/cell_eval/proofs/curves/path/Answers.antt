@@ -4,7 +4,7 @@ use Rattle.net_cells.specs.declared.cell.Kind.TheVariants.{PathService}
 use Rattle.net_cells.specs.Cells.{cell_of}
 use Rattle.net_cells.specs.CellFormulas.{formula}
 use Rattle.net_cells.specs.Refusals.{Stops}
-use Rattle.cell_table.specs.Values.{meaning_of}
+use Rattle.net_cells.specs.cell_table.Values.{meaning_of}
 use Rattle.cell_eval.proofs.Stopping.{at_refusal}
 use Rattle.cell_eval.proofs.curves.path.Goals as goal
 

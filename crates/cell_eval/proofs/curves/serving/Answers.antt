@@ -5,7 +5,7 @@ use Rattle.net_cells.specs.Numbered.{discipline}
 use Rattle.net_cells.specs.Cells.{cell_of}
 use Rattle.net_cells.specs.CellFormulas.{formula, queue_service}
 use Rattle.net_cells.specs.Refusals.{RefusedAt}
-use Rattle.cell_table.specs.Values.{answer_of, meaning_of}
+use Rattle.net_cells.specs.cell_table.Values.{answer_of, meaning_of}
 use Rattle.cell_eval.proofs.Arms.{service_given}
 use Rattle.cell_eval.proofs.Stopping.{at_refusal}
 use Rattle.cell_eval.proofs.curves.serving.Goals as goal

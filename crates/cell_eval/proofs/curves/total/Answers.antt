@@ -6,7 +6,7 @@ use Rattle.net_cells.specs.declared.cell.Kind.TheVariants.{In}
 use Rattle.net_cells.specs.declared.visit.Visit.{Visit}
 use Rattle.net_cells.specs.Visits.{visits_in}
 use Rattle.net_cells.specs.Order.{at_visit}
-use Rattle.cell_table.specs.Values.{answer_of, meaning_of}
+use Rattle.net_cells.specs.cell_table.Values.{answer_of, meaning_of}
 use Rattle.cell_eval.specs.Partial.{Adds}
 use Rattle.cell_eval.proofs.Choosing.{queue_visits}
 use Rattle.cell_eval.specs.Evaluates.{Counts}

@@ -1,15 +1,15 @@
 use Rattle.std.proofs.Common.{◌≡◌, ◌+◌, ◌-◌, sym, ap, ◌∙◌, subst, arith}
 use Rattle.std.specs.Prelude.{Some}
-use Rattle.net_cells.specs.upp_limits.specs.declared.op_kind.OpKind.TheVariants.{PosMinus, Vertical}
-use Rattle.min_plus.specs.Deviations.{IsVerticalDeviation}
-use Rattle.net_cells.specs.run_laws.specs.Cards.{whole}
-use Rattle.curve_running.specs.curve_call.specs.Calls.{AppliesTo}
+use Rattle.upp_limits.specs.declared.op_kind.OpKind.TheVariants.{PosMinus, Vertical}
+use Rattle.upp_limits.specs.min_plus.specs.Deviations.{IsVerticalDeviation}
+use Rattle.net_model.specs.run_laws.specs.Cards.{whole}
+use Rattle.plain_operators.specs.curve_call.specs.Calls.{AppliesTo}
 use Rattle.net_cells.specs.Meanings.{curve, number}
-use Rattle.cell_table.specs.Values.{answer_of}
+use Rattle.net_cells.specs.cell_table.Values.{answer_of}
 use Rattle.cell_eval.specs.Shapes.{Serving}
 use Rattle.cell_eval.proofs.Meeting.{curve_holds}
 use Rattle.cell_eval.proofs.Handing.{deviates, backlog_made, backlog_refused}
-use Rattle.net_cells.specs.residual_calls.proofs.Placed.{if_err}
+use Rattle.residuals.proofs.calls.Placed.{if_err}
 use Rattle.net_cells.specs.Answers.{MakesNumber, Deviates}
 use Rattle.net_cells.specs.Formulas.{value_of, vertical}
 use Rattle.net_cells.specs.CellFormulas.{less}

@@ -1,10 +1,10 @@
 use Rattle.std.proofs.Common.{sym, ap, ◌∙◌}
 use Rattle.std.specs.Prelude.{Some}
-use Rattle.net_cells.specs.upp_limits.specs.declared.op_kind.OpKind.TheVariants.{Horizontal}
-use Rattle.min_plus.specs.Deviations.{IsHorizontalDeviation}
+use Rattle.upp_limits.specs.declared.op_kind.OpKind.TheVariants.{Horizontal}
+use Rattle.upp_limits.specs.min_plus.specs.Deviations.{IsHorizontalDeviation}
 use Rattle.net_cells.specs.Meanings.{curve, number}
 use Rattle.net_cells.specs.Answers.{MakesNumber, Deviates}
-use Rattle.cell_table.specs.Values.{answer_of}
+use Rattle.net_cells.specs.cell_table.Values.{answer_of}
 use Rattle.cell_eval.specs.Shapes.{Serving}
 use Rattle.cell_eval.proofs.Meeting.{curve_holds}
 use Rattle.cell_eval.proofs.Handing.{on_cell, deviates}

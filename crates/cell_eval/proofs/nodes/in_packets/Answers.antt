@@ -1,6 +1,6 @@
 use Rattle.std.proofs.Common.{subst}
-use Rattle.net_cells.specs.upp_limits.specs.declared.op_kind.OpKind.TheVariants.{PosMinus}
-use Rattle.curve_running.specs.curve_call.specs.Calls.{AppliesTo}
+use Rattle.upp_limits.specs.declared.op_kind.OpKind.TheVariants.{PosMinus}
+use Rattle.plain_operators.specs.curve_call.specs.Calls.{AppliesTo}
 use Rattle.cell_eval.proofs.Handing.{packets_finite}
 use Rattle.cell_eval.proofs.nodes.in_packets.Goals as goal
 

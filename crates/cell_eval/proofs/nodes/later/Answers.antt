@@ -1,11 +1,11 @@
 use Rattle.std.proofs.Common.{sym, ap, ◌∙◌}
 use Rattle.std.specs.Prelude.{Some}
-use Rattle.net_cells.specs.upp_limits.specs.declared.op_kind.OpKind.TheVariants.{Shift}
-use Rattle.curve_running.specs.curve_call.specs.Calls.{AppliesTo}
-use Rattle.curve_running.specs.curve_call.proofs.Applied.{applied_seen}
+use Rattle.upp_limits.specs.declared.op_kind.OpKind.TheVariants.{Shift}
+use Rattle.plain_operators.specs.curve_call.specs.Calls.{AppliesTo}
+use Rattle.plain_operators.specs.curve_call.proofs.Applied.{applied_seen}
 use Rattle.net_cells.specs.Meanings.{curve}
 use Rattle.net_cells.specs.Answers.{MakesCurve}
-use Rattle.cell_table.specs.Values.{answer_of, meaning_of}
+use Rattle.net_cells.specs.cell_table.Values.{answer_of, meaning_of}
 use Rattle.cell_eval.proofs.Handing.{applies_out, shared_makes, on_cell, on_number_cell}
 use Rattle.cell_eval.proofs.nodes.later.Goals as goal
 

@@ -5,7 +5,7 @@ use Rattle.net_cells.specs.declared.cell.Kind.TheVariants.{Total, QueueService}
 use Rattle.net_cells.specs.Cells.{cell_of}
 use Rattle.net_cells.specs.Formulas.{value_of, horizontal}
 use Rattle.net_cells.specs.Answers.{Answers}
-use Rattle.cell_table.specs.Values.{answer_of, meaning_of}
+use Rattle.net_cells.specs.cell_table.Values.{answer_of, meaning_of}
 use Rattle.net_cells.proofs.OneOperator.{horizontal_never}
 use Rattle.cell_eval.proofs.numbers.queue_delay.Goals as goal
 

@@ -6,14 +6,14 @@ use Rattle.net_cells.specs.Means.{with_links}
 use Rattle.net_cells.specs.CellFormulas.{link_delays}
 use Rattle.cell_eval.proofs.Counting.{counts_all}
 use Rattle.cell_eval.proofs.Arms.{sfa_comes, sfa_served_by}
-use Rattle.curve_running.specs.curve_call.specs.Calls.{stops}
+use Rattle.plain_operators.specs.curve_call.specs.Calls.{stops}
 use Rattle.std.proofs.Common.{refl}
 use Rattle.cell_eval.proofs.PathSums.{delayed_answer}
 use Rattle.std.proofs.Common.{subst}
 use Rattle.net_cells.specs.Formulas.{delayed}
 use Rattle.net_cells.specs.Answers.{Answers}
 use Rattle.net_cells.proofs.OneOperator.{horizontal_refused, delayed_never}
-use Rattle.cell_table.specs.Values.{answer_of, meaning_of}
+use Rattle.net_cells.specs.cell_table.Values.{answer_of, meaning_of}
 use Rattle.cell_eval.proofs.numbers.sfa.Goals as goal
 
 pub delay_between-requires-clause-rises : goal.delay_between-requires-clause-rises

@@ -6,7 +6,7 @@ use Rattle.net_cells.specs.Numbered.{server_of_hop, queue_of_hop}
 use Rattle.net_cells.specs.Cells.{cell_of}
 use Rattle.net_cells.specs.Formulas.{value_of, horizontal}
 use Rattle.net_cells.specs.Answers.{Answers}
-use Rattle.cell_table.specs.Values.{answer_of, meaning_of}
+use Rattle.net_cells.specs.cell_table.Values.{answer_of, meaning_of}
 use Rattle.net_cells.proofs.OneOperator.{horizontal_never}
 use Rattle.cell_eval.proofs.numbers.theta.Goals as goal
 

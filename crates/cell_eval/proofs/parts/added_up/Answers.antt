@@ -1,17 +1,17 @@
 use Rattle.std.proofs.Common.{◌≡◌, ◌∙◌, ◌+◌, ◌-◌, length, map, sym, subst, arith}
 use Rattle.std.proofs.lemmas.Bool.{eqb-true, eqb-false}
 use Rattle.net_cells.specs.Numbered.{zero_curve}
-use Rattle.cell_table.specs.Values.{answer_of, meaning_of}
+use Rattle.net_cells.specs.cell_table.Values.{answer_of, meaning_of}
 use Rattle.cell_eval.specs.Evaluates.{Counts}
 use Rattle.cell_eval.specs.Parts.{curve_of}
 use Rattle.cell_eval.proofs.Counting.{counts_none}
 use Rattle.cell_eval.proofs.Handing.{again_out, shared_makes}
 use Rattle.cell_eval.proofs.PartSums.{no_parts, one_part, shared_sum, shared_counts, held_at}
-use Rattle.curve_running.specs.curve_call.specs.Again.{IsAgain}
+use Rattle.plain_operators.specs.curve_call.specs.Again.{IsAgain}
 use Rattle.net_cells.specs.Meanings.{curve}
 use Rattle.net_cells.specs.Answers.{MakesCurve, SumsOf}
 use Rattle.net_cells.specs.Refusals.{SumsRefused}
-use Rattle.net_cells.specs.residual_calls.proofs.Placed.{if_err}
+use Rattle.residuals.proofs.calls.Placed.{if_err}
 use Rattle.std.proofs.lemmas.List.{length-map}
 use Rattle.cell_eval.proofs.PartSums.{no_parts_refused, one_part_refused}
 use Rattle.cell_eval.proofs.OperatorStopping.{shared_refused, sums_full, counted_ok}

@@ -1,16 +1,16 @@
 use Rattle.std.proofs.Common.{◌≡◌, ℕ, ◌+◌, ◌-◌, refl, subst, arith}
-use Rattle.net_cells.specs.upp_limits.specs.declared.op_kind.OpKind.TheVariants.{Min}
-use Rattle.net_cells.specs.upp_curve.specs.Kinds.{bucket}
-use Rattle.net_cells.specs.run_laws.specs.Cards.{whole}
-use Rattle.curve_running.specs.curve_call.specs.Again.{IsAgain}
-use Rattle.curve_running.specs.curve_call.specs.Calls.{Applies, goes_on, stops}
-use Rattle.curve_running.specs.curve_call.proofs.Applied.{applied_seen}
+use Rattle.upp_limits.specs.declared.op_kind.OpKind.TheVariants.{Min}
+use Rattle.upp_limits.specs.upp_curve.specs.Kinds.{bucket}
+use Rattle.net_model.specs.run_laws.specs.Cards.{whole}
+use Rattle.plain_operators.specs.curve_call.specs.Again.{IsAgain}
+use Rattle.plain_operators.specs.curve_call.specs.Calls.{Applies, goes_on, stops}
+use Rattle.plain_operators.specs.curve_call.proofs.Applied.{applied_seen}
 use Rattle.net_cells.specs.Meanings.{curve}
 use Rattle.cell_eval.proofs.Counting.{counts_all}
 use Rattle.cell_eval.proofs.PathSteps.{made_answer}
 use Rattle.std.specs.Prelude.{Ok}
-use Rattle.net_cells.specs.residual_calls.specs.InTurn.{past, on_the_way}
-use Rattle.net_cells.specs.residual_calls.proofs.Placed.{if_err}
+use Rattle.residuals.specs.calls.InTurn.{past, on_the_way}
+use Rattle.residuals.proofs.calls.Placed.{if_err}
 use Rattle.net_cells.specs.Meanings.{CellTable}
 use Rattle.net_cells.specs.Formulas.{Formula, operators, cut}
 use Rattle.net_cells.specs.Answers.{Answers}

@@ -6,11 +6,11 @@ use Rattle.net_cells.specs.QueueParts.{in_part}
 use Rattle.net_cells.specs.CellFormulas.{sum_of_hops}
 use Rattle.net_cells.specs.Answers.{Answers}
 use Rattle.net_cells.specs.Formulas.{cut}
-use Rattle.cell_table.specs.Values.{answer_of}
+use Rattle.net_cells.specs.cell_table.Values.{answer_of}
 use Rattle.cell_eval.proofs.Choosing.{part_picked}
 use Rattle.cell_eval.specs.Evaluates.{Counts}
-use Rattle.fraction128.specs.rational.specs.Rational.{◌≤ℚ◌}
-use Rattle.min_plus.specs.Functions.{zero_q}
+use Rattle.upp_limits.specs.rational.specs.Rational.{◌≤ℚ◌}
+use Rattle.upp_limits.specs.min_plus.specs.Functions.{zero_q}
 use Rattle.cell_eval.proofs.LinkRates.{rate_low}
 use Rattle.cell_eval.proofs.PartSteps.{cut_is}
 use Rattle.std.specs.Prelude.{IfErr}

@@ -1,5 +1,5 @@
 use Rattle.std.proofs.Common.{◌≡◌, ℕ, ◌+◌, ◌-◌, map, drop}
-use Rattle.net_cells.specs.upp_limits.specs.declared.op_kind.OpFault.{OpFault}
+use Rattle.upp_limits.specs.declared.op_kind.OpFault.{OpFault}
 use Rattle.net_cells.specs.Answers.{Answer, SumsOnto, SumsOf}
 use Rattle.net_cells.specs.Refusals.{SumsOntoRefused, SumsRefused}
 use Rattle.cell_eval.specs.Parts.{curve_of}

@@ -1,7 +1,7 @@
-use Rattle.net_cells.specs.upp_limits.specs.declared.op_kind.OpKind.TheVariants.{Sum}
+use Rattle.upp_limits.specs.declared.op_kind.OpKind.TheVariants.{Sum}
 use Rattle.std.proofs.Common.{subst}
-use Rattle.curve_running.specs.curve_call.specs.Calls.{Applies}
-use Rattle.curve_running.specs.curve_call.proofs.Applied.{applied_seen}
+use Rattle.plain_operators.specs.curve_call.specs.Calls.{Applies}
+use Rattle.plain_operators.specs.curve_call.proofs.Applied.{applied_seen}
 use Rattle.cell_eval.proofs.parts.part_added.Goals as goal
 
 pub returns-clause-sum : goal.returns-clause-sum

@@ -1,14 +1,14 @@
 use Rattle.std.proofs.Common.{◌≡◌, ◌+◌, ◌-◌, sym, ap, ◌∙◌, subst, arith}
 use Rattle.std.specs.Prelude.{Some}
-use Rattle.net_cells.specs.upp_limits.specs.declared.op_kind.OpKind.TheVariants.{Convolve}
-use Rattle.curve_running.specs.curve_call.specs.Calls.{Applies}
-use Rattle.curve_running.specs.curve_call.proofs.Applied.{applied_seen}
+use Rattle.upp_limits.specs.declared.op_kind.OpKind.TheVariants.{Convolve}
+use Rattle.plain_operators.specs.curve_call.specs.Calls.{Applies}
+use Rattle.plain_operators.specs.curve_call.proofs.Applied.{applied_seen}
 use Rattle.net_cells.specs.declared.cell.Kind.TheVariants.{Residual}
 use Rattle.net_cells.specs.Cells.{cell_of}
 use Rattle.net_cells.specs.Meanings.{curve}
 use Rattle.net_cells.specs.Formulas.{value_of}
 use Rattle.net_cells.specs.CellFormulas.{packets_to}
-use Rattle.cell_table.specs.Values.{answer_of, meaning_of}
+use Rattle.net_cells.specs.cell_table.Values.{answer_of, meaning_of}
 use Rattle.cell_eval.specs.Shapes.{Serving}
 use Rattle.cell_eval.proofs.Meeting.{curve_map}
 use Rattle.cell_eval.proofs.Handing.{applies_out, shared_makes}
@@ -16,7 +16,7 @@ use Rattle.cell_eval.proofs.PathSteps.{joined_answer, first_fails}
 use Rattle.net_cells.specs.Answers.{MakesCurve}
 use Rattle.net_cells.specs.Formulas.{operators, made}
 use Rattle.net_cells.specs.Refusals.{RefusedAt}
-use Rattle.net_cells.specs.residual_calls.proofs.Placed.{if_err}
+use Rattle.residuals.proofs.calls.Placed.{if_err}
 use Rattle.cell_eval.proofs.PathSteps.{packets_operators}
 use Rattle.cell_eval.proofs.OperatorStopping.{first_refused, both_refused}
 use Rattle.cell_eval.proofs.paths.past_hop.Goals as goal

@@ -2,18 +2,18 @@ use Rattle.std.proofs.Common.{◌≡◌, ◌+◌, ◌-◌, sym, ◌∙◌, subst
 use Rattle.net_cells.specs.declared.cell.Kind.TheVariants.{Residual}
 use Rattle.net_cells.specs.Numbered.{hops}
 use Rattle.net_cells.specs.Cells.{cell_of}
-use Rattle.cell_table.specs.Values.{answer_of, meaning_of}
+use Rattle.net_cells.specs.cell_table.Values.{answer_of, meaning_of}
 use Rattle.cell_eval.specs.Shapes.{Serving}
 use Rattle.cell_eval.proofs.Meeting.{curve_map}
 use Rattle.cell_eval.proofs.PathSteps.{last_served, only_served}
 use Rattle.std.specs.Prelude.{IfErr}
 use Rattle.net_cells.specs.CellFormulas.{packets_to, served_to}
 use Rattle.net_cells.specs.Refusals.{RefusedAt, Stops}
-use Rattle.net_cells.specs.residual_calls.proofs.Placed.{if_err}
+use Rattle.residuals.proofs.calls.Placed.{if_err}
 use Rattle.cell_eval.proofs.PathSteps.{last_formula}
 use Rattle.net_cells.specs.Formulas.{value_of, made}
-use Rattle.net_cells.specs.upp_limits.specs.declared.op_kind.OpKind.TheVariants.{Convolve}
-use Rattle.cell_table.specs.Gives.{Gives}
+use Rattle.upp_limits.specs.declared.op_kind.OpKind.TheVariants.{Convolve}
+use Rattle.net_cells.specs.cell_table.Gives.{Gives}
 use Rattle.cell_eval.proofs.OperatorStopping.{err_map, again_memory}
 use Rattle.cell_eval.proofs.paths.path_service.Goals as goal
 

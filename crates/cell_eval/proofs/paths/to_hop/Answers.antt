@@ -1,8 +1,8 @@
 use Rattle.std.proofs.Common.{◌≡◌, ◌+◌, ◌-◌, sym, ap, ◌∙◌, subst, arith}
 use Rattle.std.specs.Prelude.{Some, Ok, Err}
-use Rattle.net_cells.specs.upp_limits.specs.declared.op_kind.OpKind.TheVariants.{PosMinus}
-use Rattle.net_cells.specs.run_laws.specs.Cards.{whole}
-use Rattle.curve_running.specs.curve_call.specs.Calls.{AppliesTo}
+use Rattle.upp_limits.specs.declared.op_kind.OpKind.TheVariants.{PosMinus}
+use Rattle.net_model.specs.run_laws.specs.Cards.{whole}
+use Rattle.plain_operators.specs.curve_call.specs.Calls.{AppliesTo}
 use Rattle.net_cells.specs.declared.cell.Kind.TheVariants.{Residual}
 use Rattle.net_cells.specs.Cells.{cell_of}
 use Rattle.net_cells.specs.Meanings.{curve}

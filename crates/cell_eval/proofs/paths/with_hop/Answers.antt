@@ -1,13 +1,13 @@
 use Rattle.std.proofs.Common.{◌≡◌, ◌+◌, ◌-◌, sym, ap, ◌∙◌, subst, arith}
 use Rattle.std.specs.Prelude.{Some, Ok, Err}
-use Rattle.net_cells.specs.upp_limits.specs.declared.op_kind.OpKind.TheVariants.{PosMinus, Convolve}
-use Rattle.net_cells.specs.run_laws.specs.Cards.{whole}
-use Rattle.curve_running.specs.curve_call.specs.Calls.{Applies, AppliesTo}
-use Rattle.curve_running.specs.curve_call.proofs.Applied.{applied_seen}
+use Rattle.upp_limits.specs.declared.op_kind.OpKind.TheVariants.{PosMinus, Convolve}
+use Rattle.net_model.specs.run_laws.specs.Cards.{whole}
+use Rattle.plain_operators.specs.curve_call.specs.Calls.{Applies, AppliesTo}
+use Rattle.plain_operators.specs.curve_call.proofs.Applied.{applied_seen}
 use Rattle.net_cells.specs.Meanings.{curve}
 use Rattle.net_cells.specs.Formulas.{value_of}
 use Rattle.net_cells.specs.CellFormulas.{less}
-use Rattle.cell_table.specs.Values.{answer_of}
+use Rattle.net_cells.specs.cell_table.Values.{answer_of}
 use Rattle.cell_eval.specs.Shapes.{Serving}
 use Rattle.cell_eval.proofs.Counting.{counts_all}
 use Rattle.cell_eval.proofs.Meeting.{curve_holds}
@@ -15,7 +15,7 @@ use Rattle.cell_eval.proofs.PathSteps.{made_answer, less_answer, joined_answer, 
 use Rattle.net_cells.specs.Answers.{Answers}
 use Rattle.net_cells.specs.Formulas.{Formula, operators, made}
 use Rattle.net_cells.specs.Refusals.{RefusedAt}
-use Rattle.net_cells.specs.residual_calls.proofs.Placed.{if_err}
+use Rattle.residuals.proofs.calls.Placed.{if_err}
 use Rattle.cell_eval.proofs.OperatorStopping.{second_refused, both_refused, less_refused, less_made}
 use Rattle.cell_eval.proofs.paths.with_hop.Goals as goal
 

@@ -1,14 +1,14 @@
 use Rattle.std.proofs.Common.{◌≡◌, ◌+◌, ◌-◌, ap, ◌∙◌, subst, arith, length, map}
 use Rattle.std.specs.List.{range_with_len}
 use Rattle.std.proofs.lemmas.List.FromFn.{length-map-range_with_len}
-use Rattle.net_cells.specs.residual_calls.specs.DrrCalls.{MakesDrr}
+use Rattle.residuals.specs.calls.DrrCalls.{MakesDrr}
 use Rattle.net_cells.specs.Visits.{longest}
 use Rattle.net_cells.specs.Answers.{MakesCurve}
-use Rattle.cell_table.specs.Values.{answer_of, meaning_of}
+use Rattle.net_cells.specs.cell_table.Values.{answer_of, meaning_of}
 use Rattle.cell_eval.proofs.Handing.{drr_out, shared_makes}
 use Rattle.cell_eval.proofs.SharedCounts.{shared_ok}
 use Rattle.std.specs.Prelude.{IfErr}
-use Rattle.net_cells.specs.residual_calls.specs.InTurn.{DrrRefused}
+use Rattle.residuals.specs.calls.InTurn.{DrrRefused}
 use Rattle.cell_eval.proofs.OperatorStopping.{drr_full, shared_refused, ok_map}
 use Rattle.cell_eval.proofs.services.by_deficit.Goals as goal
 

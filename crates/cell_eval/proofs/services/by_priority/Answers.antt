@@ -1,20 +1,20 @@
 use Rattle.std.proofs.Common.{◌≡◌, ◌+◌, ◌-◌, sym, ap, ◌∙◌, subst, arith}
 use Rattle.std.specs.Prelude.{Some}
-use Rattle.net_cells.specs.residual_calls.specs.PriorityCalls.{MakesPriority}
+use Rattle.residuals.specs.calls.PriorityCalls.{MakesPriority}
 use Rattle.net_cells.specs.declared.cell.Kind.TheVariants.{Higher}
 use Rattle.net_cells.specs.Cells.{cell_of}
 use Rattle.net_cells.specs.Visits.{longest_of}
 use Rattle.net_cells.specs.Meanings.{curve}
 use Rattle.net_cells.specs.Formulas.{value_of, priority}
 use Rattle.net_cells.specs.Answers.{Answers, MakesCurve}
-use Rattle.cell_table.specs.Values.{answer_of, meaning_of}
+use Rattle.net_cells.specs.cell_table.Values.{answer_of, meaning_of}
 use Rattle.cell_eval.proofs.Handing.{priority_out, shared_makes, on_cell}
 use Rattle.cell_eval.specs.declared.found.Pick.TheVariants.{AfterQueue}
 use Rattle.cell_eval.proofs.Choosing.{picked_are}
 use Rattle.cell_eval.proofs.SharedCounts.{shared_ok}
 use Rattle.std.specs.Prelude.{IfErr}
 use Rattle.net_cells.specs.Refusals.{RefusedAt}
-use Rattle.net_cells.specs.residual_calls.specs.InTurn.{past, PriorityRefused}
+use Rattle.residuals.specs.calls.InTurn.{past, PriorityRefused}
 use Rattle.cell_eval.proofs.OperatorStopping.{priority_full, shared_refused, err_map, ok_map}
 use Rattle.cell_eval.proofs.services.by_priority.Goals as goal
 

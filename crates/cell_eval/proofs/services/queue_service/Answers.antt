@@ -1,7 +1,7 @@
 use Rattle.std.proofs.Common.{◌≡◌, ◌-◌, arith, sym, ap, ◌∙◌, subst, length, map}
 use Rattle.std.specs.List.{range_with_len}
-use Rattle.curve_running.specs.curve_call.specs.Again.{IsAgain}
-use Rattle.net_cells.specs.net_model.specs.Views as views
+use Rattle.plain_operators.specs.curve_call.specs.Again.{IsAgain}
+use Rattle.net_model.specs.Views as views
 use Rattle.net_cells.specs.declared.cell.Kind.TheVariants.{Higher}
 use Rattle.net_cells.specs.Cells.{cell_of}
 use Rattle.net_cells.specs.Numbered.{discipline, service, discipline_of, service_of}
@@ -9,11 +9,11 @@ use Rattle.net_cells.specs.Visits.{longest, longest_after}
 use Rattle.net_cells.specs.Formulas.{value_of, priority, deficit}
 use Rattle.net_cells.specs.CellFormulas as formulas
 use Rattle.net_cells.specs.Answers.{Answers, MakesCurve}
-use Rattle.cell_table.specs.Values.{answer_of, meaning_of}
+use Rattle.net_cells.specs.cell_table.Values.{answer_of, meaning_of}
 use Rattle.cell_eval.proofs.Handing.{again_out, shared_makes}
 use Rattle.std.specs.Prelude.{IfErr}
-use Rattle.net_cells.specs.residual_calls.proofs.Placed.{if_err}
-use Rattle.net_cells.specs.residual_calls.specs.InTurn.{DrrRefused}
+use Rattle.residuals.proofs.calls.Placed.{if_err}
+use Rattle.residuals.specs.calls.InTurn.{DrrRefused}
 use Rattle.net_cells.specs.Refusals.{AtNone, RefusedAt}
 use Rattle.cell_eval.proofs.services.queue_service.Goals as goal
 

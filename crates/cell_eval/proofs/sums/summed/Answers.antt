@@ -1,11 +1,11 @@
 use Rattle.std.proofs.Common.{◌≡◌, ◌-◌, subst, length, [], inr}
 use Rattle.std.specs.Prelude.{Ok, Err}
-use Rattle.cell_table.specs.Values.{answer_of, meaning_of}
+use Rattle.net_cells.specs.cell_table.Values.{answer_of, meaning_of}
 use Rattle.cell_eval.specs.Partial.{Adds}
 use Rattle.cell_eval.proofs.SumSteps.{failed_given}
 use Rattle.cell_eval.proofs.Counting.{counts_all}
 use Rattle.cell_eval.proofs.Arms.{sum_counts}
-use Rattle.net_cells.specs.upp_limits.specs.declared.op_kind.OpFault.TheVariants.{NoMemory}
+use Rattle.upp_limits.specs.declared.op_kind.OpFault.TheVariants.{NoMemory}
 use Rattle.net_cells.specs.CellFormulas.{sum_of_cells}
 use Rattle.net_cells.specs.Refusals.{RefusedAt}
 use Rattle.cell_eval.proofs.SumSteps.{made_stops, failed_at}

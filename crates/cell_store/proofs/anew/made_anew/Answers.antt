@@ -7,8 +7,8 @@ use Rattle.net_cells.specs.Work.{work}
 use Rattle.net_cells.specs.MemoryEnds.{making, keeping}
 use Rattle.net_cells.proofs.Tables.{answered_meets}
 use Rattle.net_cells.proofs.Works.{work_is}
-use Rattle.cell_table.proofs.Fronts.{no_cell, cell_at}
-use Rattle.cell_table.proofs.GivesAnswers.{gives_ok}
+use Rattle.net_cells.proofs.cell_table.Fronts.{no_cell, cell_at}
+use Rattle.net_cells.proofs.cell_table.GivesAnswers.{gives_ok}
 use Rattle.cell_store.specs.Placed.{placed}
 use Rattle.cell_store.specs.Edits.{EndsAtTouched}
 use Rattle.cell_store.proofs.Fronts.{next_at, next_is_cell, next_below, next_has_slot, made_at, all_answered, refused, same_untouched, still_others, ends_at}

@@ -1,4 +1,4 @@
-use Rattle.upp_normal.specs.affine_segment.specs.Steps.{IsWideCross}
+use Rattle.upp_limits.specs.upp_curve.specs.affine_segment.Steps.{IsWideCross}
 use Rattle.curve_call.proofs.Results.{ok_of_none}
 use Rattle.curve_call.proofs.lie.lie_of_lines.Goals as goal
 

@@ -1,6 +1,6 @@
 use Rattle.std.proofs.Common.{◌∙◌, ap, sym, subst}
-use Rattle.upp_normal.specs.rational.specs.Rational.{◌≤ℚ◌}
-use Rattle.upp_normal.specs.rational.proofs.Laws.{le_refl}
+use Rattle.upp_limits.specs.rational.specs.Rational.{◌≤ℚ◌}
+use Rattle.upp_limits.specs.rational.proofs.Laws.{le_refl}
 use Rattle.curve_call.specs.Made.{IsParts}
 use Rattle.curve_call.proofs.OverlayLoop.{overlay_start}
 use Rattle.curve_call.proofs.MadeLoop.{made_start, walk_fits, steps_fit, next_early, next_fewer, made_step, made_end, listed_one, listed_two}

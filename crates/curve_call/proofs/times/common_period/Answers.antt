@@ -1,8 +1,8 @@
 use Rattle.std.proofs.Common.{◌≡◌, ◌∙◌, ap, ap₂, sym, subst, refl}
 use Rattle.std.specs.Prelude.{None, Some, Option, IfSome, IsSome}
-use Rattle.upp_normal.specs.rational.specs.Rational.{ℚ}
-use Rattle.upp_normal.specs.rational.specs.Ratio.{IsSmall}
-use Rattle.upp_normal.specs.upp_limits.specs.Periods.{own_period, common_period, common_of, period_of}
+use Rattle.upp_limits.specs.rational.specs.Rational.{ℚ}
+use Rattle.upp_limits.specs.rational.specs.Ratio.{IsSmall}
+use Rattle.upp_limits.specs.Periods.{own_period, common_period, common_of, period_of}
 use Rattle.curve_call.proofs.times.common_period.Goals as goal
 
 none_first : (o : Option ℚ) → common_of o None ≡ common_of None o

@@ -1,6 +1,6 @@
 use Rattle.std.proofs.Common.{◌∙◌, ap, sym}
 use Rattle.std.specs.Prelude.{None}
-use Rattle.upp_normal.specs.upp_limits.specs.Periods.{own_period, common_of}
+use Rattle.upp_limits.specs.Periods.{own_period, common_of}
 use Rattle.curve_call.proofs.times.own_period.Goals as goal
 
 pub returns-in-Some-clause-value : goal.returns-in-Some-clause-value

@@ -1,6 +1,6 @@
 use Rattle.std.proofs.Common.{sym, subst, true≢false}
-use Rattle.curve_pointwise.specs.rational.proofs.Laws.{le_of_not_lt}
-use Rattle.curve_pointwise.specs.upp_normal.specs.Ahead.{IsTimeIn}
+use Rattle.upp_limits.specs.rational.proofs.Laws.{le_of_not_lt}
+use Rattle.upp_normal.specs.Ahead.{IsTimeIn}
 use Rattle.curve_conv.specs.Scans.{sizes_in}
 use Rattle.curve_conv.proofs.LateNumbers.{late_times}
 use Rattle.curve_conv.proofs.SoonEnough.{soon_windows, soon_number_is}

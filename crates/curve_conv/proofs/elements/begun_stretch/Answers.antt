@@ -1,9 +1,9 @@
 use Rattle.std.specs.Prelude.{Some}
 use Rattle.std.proofs.Common.{refl, sym, subst, true≢false}
-use Rattle.curve_pointwise.specs.rational.specs.declared.Extended.TheVariants.{Fin}
-use Rattle.curve_pointwise.specs.affine_segment.specs.declared.element.Element.TheVariants.{Open}
-use Rattle.curve_pointwise.specs.affine_segment.specs.Elements.{element_value}
-use Rattle.curve_pointwise.specs.upp_normal.specs.Ahead.{GoesOn}
+use Rattle.upp_limits.specs.rational.specs.declared.Extended.TheVariants.{Fin}
+use Rattle.upp_limits.specs.upp_curve.specs.declared.affine_segment.element.Element.TheVariants.{Open}
+use Rattle.upp_limits.specs.upp_curve.specs.affine_segment.Elements.{element_value}
+use Rattle.upp_normal.specs.Ahead.{GoesOn}
 use Rattle.curve_conv.specs.Stretches.{SumStretch}
 use Rattle.curve_conv.proofs.ElementStretches.{open_within, open_after, within_stands}
 use Rattle.curve_conv.proofs.elements.begun_stretch.Goals as goal

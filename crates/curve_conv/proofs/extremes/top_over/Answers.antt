@@ -1,5 +1,5 @@
 use Rattle.std.proofs.Common.{sym, subst}
-use Rattle.curve_pointwise.specs.upp_normal.specs.Ahead.{HasWindow}
+use Rattle.upp_normal.specs.Ahead.{HasWindow}
 use Rattle.curve_conv.proofs.OwnExtremes.{top_bounds_named}
 use Rattle.curve_conv.proofs.extremes.top_over.Goals as goal
 

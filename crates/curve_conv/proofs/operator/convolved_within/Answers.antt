@@ -1,7 +1,7 @@
 use Rattle.std.proofs.Common.{◌∙◌}
 use Rattle.std.specs.Prelude.{◌+◌}
-use Rattle.curve_pointwise.specs.upp_normal.proofs.NormaliseForm.{ok_map}
-use Rattle.curve_pointwise.proofs.LatticeCalls.{left_rise, right_rise, from_fits}
+use Rattle.upp_normal.proofs.NormaliseForm.{ok_map}
+use Rattle.plain_operators.proofs.pointwise.LatticeCalls.{left_rise, right_rise, from_fits}
 use Rattle.curve_conv.proofs.ConvolveAnswers.{windows, convolved_answer, convolved_values}
 use Rattle.curve_conv.proofs.operator.convolved_within.Goals as goal
 

@@ -1,4 +1,4 @@
-use Rattle.curve_pointwise.specs.upp_normal.proofs.NormaliseForm.{ok_map}
+use Rattle.upp_normal.proofs.NormaliseForm.{ok_map}
 use Rattle.curve_conv.proofs.ConvolveCalls.{parts_call, none_wide, frame_by, limits_by}
 use Rattle.curve_conv.proofs.operator.least_frame.Goals as goal
 

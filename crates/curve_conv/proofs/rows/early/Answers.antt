@@ -1,7 +1,7 @@
 use Rattle.std.proofs.Common.{sym, subst, true≢false}
-use Rattle.curve_pointwise.specs.rational.specs.Rational.{◌≤ℚ◌}
-use Rattle.curve_pointwise.specs.rational.proofs.Laws.{le_of_not_lt}
-use Rattle.curve_pointwise.specs.upp_normal.specs.Ahead.{AtNext}
+use Rattle.upp_limits.specs.rational.specs.Rational.{◌≤ℚ◌}
+use Rattle.upp_limits.specs.rational.proofs.Laws.{le_of_not_lt}
+use Rattle.upp_normal.specs.Ahead.{AtNext}
 use Rattle.curve_conv.proofs.rows.early.Goals as goal
 
 pub returns-else-is_less : goal.returns-else-is_less

@@ -1,5 +1,5 @@
-use Rattle.rational.proofs.Compared.{iff_trans}
-use Rattle.curve_call.specs.upp_limits.proofs.LevelCurves.{levels_above}
+use Rattle.upp_limits.specs.rational.proofs.Compared.{iff_trans}
+use Rattle.upp_limits.proofs.LevelCurves.{levels_above}
 use Rattle.curve_deviation.proofs.known.ends_above.Goals as goal
 
 pub returns : goal.returns

@@ -1,7 +1,7 @@
 use Rattle.std.proofs.Common.{refl}
 use Rattle.curve_deviation.proofs.EarlyParts.{early_tail, over_tail}
 use Rattle.curve_deviation.proofs.parts.is_early.Goals as goal
-use Rattle.rational.proofs.Compared.{least_by_test}
+use Rattle.upp_limits.specs.rational.proofs.Compared.{least_by_test}
 
 pub returns-then-is_less-clause-late : goal.returns-then-is_less-clause-late
 returns-then-is_less-clause-late c = λ h.

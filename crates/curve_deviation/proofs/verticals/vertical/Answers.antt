@@ -1,6 +1,6 @@
 use Rattle.std.proofs.Common.{◌∙◌, sym, true≢false}
 use Rattle.std.proofs.lemmas.Result.{err_from_is_err_and}
-use Rattle.curve_call.specs.upp_limits.specs.declared.op_kind.OpKind.TheVariants.{Vertical}
+use Rattle.upp_limits.specs.declared.op_kind.OpKind.TheVariants.{Vertical}
 use Rattle.curve_call.proofs.Limited.{vertical_least, frame_within, refused_cause}
 use Rattle.curve_deviation.proofs.AtOnce.{not_finite_deviation}
 use Rattle.curve_deviation.proofs.VerticalCall.{faster_at_once, not_known, not_memory}

@@ -1,4 +1,4 @@
-use Rattle.curve_call.specs.upp_limits.specs.declared.op_kind.OpKind.TheVariants.{Vertical}
+use Rattle.upp_limits.specs.declared.op_kind.OpKind.TheVariants.{Vertical}
 use Rattle.curve_call.specs.Frames.{sizes_at}
 use Rattle.curve_deviation.proofs.VerticalCall.{frame_compared}
 use Rattle.curve_deviation.proofs.verticals.vertical_in.Goals as goal

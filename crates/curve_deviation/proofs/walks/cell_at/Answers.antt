@@ -1,5 +1,5 @@
 use Rattle.std.proofs.Common.{refl}
-use Rattle.curve_call.specs.upp_curve.specs.Curve.{value_at}
+use Rattle.upp_limits.specs.upp_curve.specs.Curve.{value_at}
 use Rattle.curve_deviation.proofs.RisingParts.{part_line, cell_of, cell_sizes}
 use Rattle.curve_deviation.proofs.walks.cell_at.Goals as goal
 

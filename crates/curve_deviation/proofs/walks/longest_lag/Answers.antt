@@ -1,10 +1,10 @@
 use Rattle.std.proofs.Common.{refl}
-use Rattle.rational.proofs.Laws.{le_lt_trans}
-use Rattle.curve_call.specs.upp_curve.specs.Curve.{value_at}
+use Rattle.upp_limits.specs.rational.proofs.Laws.{le_lt_trans}
+use Rattle.upp_limits.specs.upp_curve.specs.Curve.{value_at}
 use Rattle.curve_deviation.proofs.RisingParts.{time_to, cell_rises}
 use Rattle.curve_deviation.proofs.Walk.{walk_start, walk_end, walk_time, one_pass}
 use Rattle.curve_deviation.proofs.walks.longest_lag.Goals as goal
-use Rattle.rational.proofs.Compared.{least_by_test}
+use Rattle.upp_limits.specs.rational.proofs.Compared.{least_by_test}
 
 pub loop-until-init : goal.loop-until-init
 loop-until-init g c =

@@ -1,6 +1,6 @@
 use Rattle.std.proofs.Common.{rules, refl, sym, ap, subst, ◌∙◌, map}
 use Rattle.std.specs.Prelude.{Err}
-use Rattle.curve_script.specs.Views.{expression_view}
+use Rattle.input_texts.specs.curve_script.Views.{expression_view}
 use Rattle.curve_lang.specs.Finding.{stops, goes_on}
 use Rattle.curve_lang.specs.Found.{Finds}
 use Rattle.curve_lang.specs.After.{TwoAfter}

@@ -1,5 +1,5 @@
-use Rattle.curve_script.specs.Grammar.{depth}
-use Rattle.curve_script.specs.Views.{expression_view}
+use Rattle.input_texts.specs.curve_script.Grammar.{depth}
+use Rattle.input_texts.specs.curve_script.Views.{expression_view}
 use Rattle.curve_lang.proofs.expressions.+curve_of.Given as goal
 
 -- how deep the expression's parentheses nest

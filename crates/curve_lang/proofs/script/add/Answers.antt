@@ -1,6 +1,6 @@
 use Rattle.std.proofs.Common.{sym, ap, subst, ◌∙◌, map}
-use Rattle.curve_script.specs.Views.{expression_view}
-use Rattle.curve_script.specs.Grammar.{ValueAt, AsksOne, AsksTwo}
+use Rattle.input_texts.specs.curve_script.Views.{expression_view}
+use Rattle.input_texts.specs.curve_script.Grammar.{ValueAt, AsksOne, AsksTwo}
 use Rattle.curve_lang.specs.Found.{AsksTime, AsksOf, AsksBoth}
 use Rattle.curve_lang.specs.Scripts.{IsAdded}
 use Rattle.curve_lang.specs.Forms.{question_view}

@@ -1,8 +1,8 @@
 use Rattle.std.proofs.Common.{arith, sym, ap, subst, ◌∙◌, map, drop, length, [], ◌<◌, ◌≤◌, ◌+◌}
 use Rattle.std.proofs.lemmas.List.{drop_more}
 use Rattle.std.specs.Prelude.{Ok, Err, ◌∷◌}
-use Rattle.curve_script.specs.Views.{statement_view}
-use Rattle.curve_script.specs.Scripts.{line_view}
+use Rattle.input_texts.specs.curve_script.Views.{statement_view}
+use Rattle.input_texts.specs.curve_script.Scripts.{line_view}
 use Rattle.curve_lang.specs.Answers.{ScriptMeans}
 use Rattle.curve_lang.specs.Found.{ScriptFinds}
 use Rattle.curve_lang.specs.Scripts.{IsAdded}

@@ -1,5 +1,5 @@
 use Rattle.std.proofs.Common.{ℕ, drop, map, []}
-use Rattle.curve_script.specs.Scripts.{line_view}
+use Rattle.input_texts.specs.curve_script.Scripts.{line_view}
 use Rattle.curve_lang.specs.Found.{Told, ScriptFinds}
 use Rattle.curve_lang.specs.Views.{let_view, answer_view}
 use Rattle.curve_lang.proofs.script.eval_script.Given as goal

@@ -1,6 +1,6 @@
 use Rattle.std.proofs.Common.{sym, subst, ◌∙◌, map}
 use Rattle.std.specs.Prelude.{◌≡◌, Ok, Err, is_some, false}
-use Rattle.curve_script.specs.Views.{expression_view}
+use Rattle.input_texts.specs.curve_script.Views.{expression_view}
 use Rattle.curve_lang.specs.Found.{Finds, curve_named}
 use Rattle.curve_lang.specs.Views.{let_view, found}
 use Rattle.curve_lang.proofs.Scripting.{name_refused, name_lost, name_found}

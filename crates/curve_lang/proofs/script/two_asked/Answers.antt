@@ -1,5 +1,5 @@
 use Rattle.std.proofs.Common.{refl, subst, map}
-use Rattle.curve_script.specs.Views.{expression_view}
+use Rattle.input_texts.specs.curve_script.Views.{expression_view}
 use Rattle.curve_lang.specs.Finding.{goes_on, stops}
 use Rattle.curve_lang.specs.Found.{Finds}
 use Rattle.curve_lang.specs.After.{AskedAfter}

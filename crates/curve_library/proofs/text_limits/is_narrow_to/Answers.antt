@@ -1,12 +1,12 @@
 use Rattle.std.proofs.Common.{◌↔◌, ◌<◌, ◌^◌, subst, sym, true≢false, IsTrue}
-use Rattle.upp_normal.specs.rational.specs.Rational.{◌<ℚ◌}
-use Rattle.upp_normal.specs.affine_segment.specs.Pieces.{Each}
-use Rattle.upp_normal.specs.upp_limits.specs.ClosedForm.{closed_numbers, closed_spans, tail_numbers}
-use Rattle.upp_normal.specs.upp_limits.specs.Gathered.{Gathers}
-use Rattle.upp_normal.specs.upp_limits.specs.Limits.{joined, no_numbers, time_alone}
-use Rattle.upp_normal.specs.upp_limits.specs.Spans.{spans}
-use Rattle.upp_normal.specs.upp_limits.proofs.CurveStands.{starts_below_own_end}
-use Rattle.upp_normal.specs.upp_limits.proofs.JoinedNumbers.{joined_assoc}
+use Rattle.upp_limits.specs.rational.specs.Rational.{◌<ℚ◌}
+use Rattle.upp_limits.specs.upp_curve.specs.affine_segment.Pieces.{Each}
+use Rattle.upp_limits.specs.ClosedForm.{closed_numbers, closed_spans, tail_numbers}
+use Rattle.upp_limits.specs.Gathered.{Gathers}
+use Rattle.upp_limits.specs.Limits.{joined, no_numbers, time_alone}
+use Rattle.upp_limits.specs.Spans.{spans}
+use Rattle.upp_limits.proofs.CurveStands.{starts_below_own_end}
+use Rattle.upp_limits.proofs.JoinedNumbers.{joined_assoc}
 use Rattle.curve_library.specs.Listed.{listed_curve, text_pieces, text_tail}
 use Rattle.curve_library.proofs.LimitParts.{ends_at, gauge_is, not_gathered}
 use Rattle.curve_library.proofs.ListedParts.{raw_of}

@@ -1,8 +1,8 @@
 use Rattle.std.proofs.Common.{◌<◌, ◌^◌, arith, subst, sym}
 use Rattle.std.proofs.lemmas.Bool.{ltb-true, lt-ltb, true≢false}
-use Rattle.upp_normal.specs.upp_limits.specs.Limits.{sizes_of, gauge_of}
-use Rattle.upp_normal.specs.upp_limits.proofs.CurveStands.{are_sizes}
-use Rattle.upp_normal.specs.upp_limits.proofs.GaugeProduct.{gathered_steep, gathered_far, gathered_largest}
+use Rattle.upp_limits.specs.Limits.{sizes_of, gauge_of}
+use Rattle.upp_limits.proofs.CurveStands.{are_sizes}
+use Rattle.upp_limits.proofs.GaugeProduct.{gathered_steep, gathered_far, gathered_largest}
 use Rattle.curve_library.proofs.text_limits.is_small.Goals as goal
 
 pub returns-then-g-eq340282366920938463463374607431768211455 : goal.returns-then-g-eq340282366920938463463374607431768211455

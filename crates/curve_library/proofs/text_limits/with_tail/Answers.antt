@@ -1,8 +1,8 @@
 use Rattle.std.proofs.Common.{subst, sym}
-use Rattle.upp_normal.specs.upp_limits.specs.Limits.{joined, time_alone, value_alone}
-use Rattle.upp_normal.specs.upp_limits.specs.ClosedForm.{tail_numbers}
-use Rattle.upp_normal.specs.upp_limits.specs.Gathered.{Gathers}
-use Rattle.upp_normal.specs.upp_limits.proofs.JoinedNumbers.{joined_three}
+use Rattle.upp_limits.specs.Limits.{joined, time_alone, value_alone}
+use Rattle.upp_limits.specs.ClosedForm.{tail_numbers}
+use Rattle.upp_limits.specs.Gathered.{Gathers}
+use Rattle.upp_limits.proofs.JoinedNumbers.{joined_three}
 use Rattle.curve_library.specs.Listed.{text_tail}
 use Rattle.curve_library.proofs.text_limits.with_tail.Goals as goal
 

@@ -1,10 +1,10 @@
 use Rattle.std.proofs.Common.{◌+◌, ◌≤◌, drop, length, subst, sym}
-use Rattle.upp_normal.specs.upp_limits.specs.ClosedForm.{closed_span}
-use Rattle.upp_normal.specs.upp_limits.specs.Gathered.{Gathers}
-use Rattle.upp_normal.specs.upp_limits.specs.Limits.{joined}
-use Rattle.upp_normal.specs.upp_limits.specs.Seen.{Knows}
-use Rattle.upp_normal.specs.upp_limits.specs.Spans.{Span, spans}
-use Rattle.upp_normal.specs.upp_limits.proofs.PieceLists.{all_done, every_at, one_more, span_at}
+use Rattle.upp_limits.specs.ClosedForm.{closed_span}
+use Rattle.upp_limits.specs.Gathered.{Gathers}
+use Rattle.upp_limits.specs.Limits.{joined}
+use Rattle.upp_limits.specs.Seen.{Knows}
+use Rattle.upp_limits.specs.Spans.{Span, spans}
+use Rattle.upp_limits.proofs.PieceLists.{all_done, every_at, one_more, span_at}
 use Rattle.curve_library.specs.Listed.{text_piece, text_pieces, text_tail, TextFits}
 use Rattle.curve_library.proofs.LimitParts.{as_many, early_at, itself, known_fits, span_there}
 use Rattle.curve_library.proofs.text_limits.with_texts.Goals as goal

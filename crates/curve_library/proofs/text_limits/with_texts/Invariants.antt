@@ -1,8 +1,8 @@
 use Rattle.std.proofs.Common.{◌≡◌, drop}
-use Rattle.upp_normal.specs.upp_limits.specs.ClosedForm.{closed_spans}
-use Rattle.upp_normal.specs.upp_limits.specs.Gathered.{Gathers}
-use Rattle.upp_normal.specs.upp_limits.specs.Limits.{Numbers, joined}
-use Rattle.upp_normal.specs.upp_limits.specs.Spans.{spans}
+use Rattle.upp_limits.specs.ClosedForm.{closed_spans}
+use Rattle.upp_limits.specs.Gathered.{Gathers}
+use Rattle.upp_limits.specs.Limits.{Numbers, joined}
+use Rattle.upp_limits.specs.Spans.{spans}
 use Rattle.curve_library.specs.Listed.{text_pieces, text_tail}
 use Rattle.curve_library.proofs.text_limits.with_texts.Given as goal
 

@@ -1,7 +1,7 @@
 use Rattle.std.proofs.Common.{◌+◌, drop, drop_of_length-le, subst, sym}
-use Rattle.curve_call.specs.rational.proofs.Laws.{le_of_lt, le_refl}
-use Rattle.curve_call.specs.affine_segment.proofs.NextPiece.{next_piece}
-use Rattle.curve_call.specs.affine_segment.specs.Pieces.{Each}
+use Rattle.upp_limits.specs.rational.proofs.Laws.{le_of_lt, le_refl}
+use Rattle.upp_limits.specs.upp_curve.proofs.affine_segment.NextPiece.{next_piece}
+use Rattle.upp_limits.specs.upp_curve.specs.affine_segment.Pieces.{Each}
 use Rattle.curve_call.specs.upp_normal.proofs.AnswerRoom.{operand_line_fits}
 use Rattle.curve_call.specs.upp_normal.proofs.NormaliseRank.{each_index}
 use Rattle.element_envelope.specs.ConvolutionWindows.{WindowPiece}

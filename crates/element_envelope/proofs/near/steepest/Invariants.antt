@@ -1,6 +1,6 @@
 use Rattle.std.proofs.Common.{drop}
-use Rattle.curve_call.specs.rational.specs.Rational.{ℚ, ◌≤ℚ◌}
-use Rattle.curve_call.specs.affine_segment.specs.Pieces.{Each}
+use Rattle.upp_limits.specs.rational.specs.Rational.{ℚ, ◌≤ℚ◌}
+use Rattle.upp_limits.specs.upp_curve.specs.affine_segment.Pieces.{Each}
 use Rattle.element_envelope.specs.NearStarts.{RisesWithin}
 use Rattle.element_envelope.proofs.near.steepest.Given as goal
 

@@ -1,5 +1,5 @@
 use Rattle.std.proofs.Common.{sym, subst}
-use Rattle.curve_call.specs.rational.proofs.Laws.{le_of_lt}
+use Rattle.upp_limits.specs.rational.proofs.Laws.{le_of_lt}
 use Rattle.element_envelope.specs.ConvolutionWindows.{WindowPiece}
 use Rattle.curve_call.specs.upp_normal.proofs.AnswerRoom.{operand_line_fits}
 use Rattle.curve_call.specs.upp_normal.proofs.NormaliseRank.{each_index}

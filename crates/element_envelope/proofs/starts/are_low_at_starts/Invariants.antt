@@ -1,7 +1,7 @@
 use Rattle.std.proofs.Common.{drop}
-use Rattle.curve_call.specs.rational.specs.Rational.{ℚ}
-use Rattle.curve_call.specs.affine_segment.specs.Pieces.{Each}
-use Rattle.curve_call.specs.upp_limits.specs.Limits.{Sizes}
+use Rattle.upp_limits.specs.rational.specs.Rational.{ℚ}
+use Rattle.upp_limits.specs.upp_curve.specs.affine_segment.Pieces.{Each}
+use Rattle.upp_limits.specs.Limits.{Sizes}
 use Rattle.curve_call.specs.upp_normal.specs.Operand.{OperandLineAt}
 use Rattle.element_envelope.specs.ConvolutionWindows.{WindowPiece}
 use Rattle.element_envelope.specs.Copies.{LowAfter, LowAtStarts}

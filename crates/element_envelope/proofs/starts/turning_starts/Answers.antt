@@ -1,8 +1,8 @@
 use Rattle.std.specs.Prelude.{Vec}
 use Rattle.std.proofs.Common.{◌+◌, ◌∙◌, ap, inl, inr, drop, drop_of_length-le, sym, subst, Global}
-use Rattle.curve_call.specs.affine_segment.specs.declared.line.Piece.{Piece}
-use Rattle.curve_call.specs.affine_segment.proofs.NextPiece.{next_piece}
-use Rattle.curve_call.specs.rational.proofs.Laws.{le_of_lt}
+use Rattle.upp_limits.specs.upp_curve.specs.declared.affine_segment.line.Piece.{Piece}
+use Rattle.upp_limits.specs.upp_curve.proofs.affine_segment.NextPiece.{next_piece}
+use Rattle.upp_limits.specs.rational.proofs.Laws.{le_of_lt}
 use Rattle.element_envelope.specs.ConvolutionWindows.{WindowPiece}
 use Rattle.curve_call.specs.upp_normal.proofs.AnswerRoom.{operand_line_fits}
 use Rattle.curve_call.specs.upp_normal.proofs.NormaliseRank.{each_index}

@@ -1,5 +1,5 @@
 use Rattle.std.proofs.Common.{◌≡◌, Some, map, take}
-use Rattle.net_graph.specs.net_model.specs.Views.{flows_of}
+use Rattle.net_model.specs.Views.{flows_of}
 use Rattle.exercise_load.specs.Workloads.{flow_of}
 use Rattle.exercise_load.proofs.flows.flows.Given as goal
 

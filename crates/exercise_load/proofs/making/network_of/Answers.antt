@@ -1,5 +1,5 @@
 use Rattle.std.proofs.Common.{sym, ◌∙◌, subst}
-use Rattle.net_graph.specs.net_model.specs.Accepted.{IsAccepted}
+use Rattle.net_model.specs.Accepted.{IsAccepted}
 use Rattle.exercise_load.specs.Bounds.{AreDrawn}
 use Rattle.exercise_load.proofs.DrawnAre.{all_drawn}
 use Rattle.exercise_load.proofs.Stand.{accepted, made_network}

@@ -1,7 +1,7 @@
 use Rattle.std.proofs.Common.{◌≡◌, ◌+◌, ◌*◌, arith, ℕ, List, ◌∷◌, ◌++◌, [], map, ap, sym, ◌∙◌, append-nil}
 use Rattle.std.specs.List.{filter, flat_map, range_with_len}
 use Rattle.std.proofs.lemmas.List.Concat.{flat_map-append}
-use Rattle.net_graph.specs.net_model.specs.declared.trace.TracePacket.{TracePacket}
+use Rattle.net_model.specs.declared.trace.TracePacket.{TracePacket}
 use Rattle.exercise_load.specs.Workloads.{packet_at, is_sending}
 use Rattle.exercise_load.proofs.Joined.{range_grows}
 use Rattle.exercise_load.proofs.packets.packets.Goals as goal

@@ -2,7 +2,7 @@ use Rattle.std.proofs.Common.{◌∷◌, ◌++◌, [], map, ap, sym, ◌∙◌, 
 use Rattle.std.specs.List.{range_with_len}
 use Rattle.std.proofs.lemmas.List.{map-append}
 use Rattle.std.proofs.lemmas.List.FromFn.{map-range_with_len_more}
-use Rattle.net_graph.specs.net_model.specs.Views.{server_of, servers_of}
+use Rattle.net_model.specs.Views.{server_of, servers_of}
 use Rattle.exercise_load.specs.Workloads.{server}
 use Rattle.exercise_load.proofs.servers.servers.Goals as goal
 

@@ -1,6 +1,6 @@
 use Rattle.std.proofs.Common.{◌≡◌, map}
 use Rattle.std.specs.List.{range_with_len}
-use Rattle.net_graph.specs.net_model.specs.Views.{servers_of}
+use Rattle.net_model.specs.Views.{servers_of}
 use Rattle.exercise_load.specs.Workloads.{server}
 use Rattle.exercise_load.proofs.servers.servers.Given as goal
 

@@ -1,5 +1,5 @@
 use Rattle.std.proofs.Common.{◌≡◌, ◌++◌, drop}
-use Rattle.step_lines.specs.watch_laws.specs.Entries.{entries}
+use Rattle.flow_watch.specs.watch_laws.Entries.{entries}
 use Rattle.flow_watch.proofs.flows.entries_of.Given as goal
 
 abbrev pub invariant-loop-step : goal.invariant-loop-step

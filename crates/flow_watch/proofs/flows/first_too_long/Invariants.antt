@@ -1,5 +1,5 @@
 use Rattle.std.proofs.Common.{ℕ, ◌<◌, ◌≤◌}
-use Rattle.step_lines.specs.watch_laws.specs.Entries.{entering}
+use Rattle.flow_watch.specs.watch_laws.Entries.{entering}
 use Rattle.flow_watch.proofs.flows.first_too_long.Given as goal
 
 abbrev pub invariant-loop-k : goal.invariant-loop-k

@@ -1,6 +1,6 @@
 use Rattle.std.proofs.Common.{◌≡◌, ℕ, suc, ◌+◌, ◌-◌, ◌≤◌, refl, sym, subst, true≢false, arith}
-use Rattle.step_lines.specs.upp_curve.specs.Curve.{value_at}
-use Rattle.step_lines.specs.watch_laws.specs.Entries.{bits_between}
+use Rattle.upp_limits.specs.upp_curve.specs.Curve.{value_at}
+use Rattle.flow_watch.specs.watch_laws.Entries.{bits_between}
 use Rattle.flow_watch.specs.Flows.{FindsFirst}
 use Rattle.flow_watch.proofs.EntryLists.{bits_past}
 use Rattle.flow_watch.proofs.LeastFirst.{reads_at, window_reads, bits_grow, crowded_here, none_past, found_here, found_still}

@@ -1,8 +1,8 @@
 use Rattle.std.proofs.Common.{◌<◌, ◌-◌, ◌∙◌, length, ap, arith}
-use Rattle.rational.specs.Rational.{◌-ℚ◌}
+use Rattle.upp_limits.specs.rational.specs.Rational.{◌-ℚ◌}
 use Rattle.flow_watch.specs.Flows.{last_time}
 use Rattle.flow_watch.proofs.LeastFirst.{read_is}
-use Rattle.step_lines.specs.watch_laws.specs.declared.entering.Entering.{Entering}
+use Rattle.flow_watch.specs.declared.watch_laws.entering.Entering.{Entering}
 use Rattle.flow_watch.proofs.flows.reach_of.Goals as goal
 
 pub returns-in-Ok : goal.returns-in-Ok

@@ -1,7 +1,7 @@
 use Rattle.std.proofs.Common.{subst, sym}
-use Rattle.net_model.specs.upp_limits.specs.Limits.{joined, value_alone}
-use Rattle.net_model.specs.upp_limits.specs.Gathered.{Gathers}
-use Rattle.net_model.specs.upp_limits.specs.declared.gathered.Gathered.{Gathered}
+use Rattle.upp_limits.specs.Limits.{joined, value_alone}
+use Rattle.upp_limits.specs.Gathered.{Gathers}
+use Rattle.upp_limits.specs.declared.gathered.Gathered.{Gathered}
 use Rattle.measure_curve.specs.Grids.{numbers_of}
 use Rattle.measure_curve.specs.Windows.{of_flow}
 use Rattle.measure_curve.proofs.Loops.{more_numbers, same_numbers}

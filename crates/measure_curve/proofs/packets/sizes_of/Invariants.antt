@@ -1,6 +1,6 @@
 use Rattle.std.proofs.Common.{◌≡◌, drop}
-use Rattle.net_model.specs.upp_limits.specs.Limits.{Numbers, joined}
-use Rattle.net_model.specs.upp_limits.specs.Gathered.{Gathers}
+use Rattle.upp_limits.specs.Limits.{Numbers, joined}
+use Rattle.upp_limits.specs.Gathered.{Gathers}
 use Rattle.measure_curve.specs.Grids.{numbers_of}
 use Rattle.measure_curve.specs.Windows.{of_flow}
 use Rattle.measure_curve.proofs.packets.sizes_of.Given as goal

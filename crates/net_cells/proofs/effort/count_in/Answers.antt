@@ -2,8 +2,8 @@ use Rattle.std.proofs.Common.{◌≡◌, ◌≤◌, ℕ, length, ap, sym, ◌∙
 use Rattle.std.specs.List.{flat_map, range_with_len}
 use Rattle.std.specs.Option.{option_map}
 use Rattle.std.proofs.lemmas.List.{length-map}
-use Rattle.net_graph.specs.net_model.specs.Networks.{NetFlow}
-use Rattle.net_graph.specs.net_model.specs.Views.{flow_of}
+use Rattle.net_model.specs.Networks.{NetFlow}
+use Rattle.net_model.specs.Views.{flow_of}
 use Rattle.net_cells.specs.Numbered.{path_of, queues_of}
 use Rattle.net_cells.specs.Visits.{hops_in}
 use Rattle.net_cells.proofs.Counting.{hops_of, in_by_flow, more_of}

@@ -1,6 +1,6 @@
 use Rattle.std.proofs.Common.{◌≡◌, ◌≤◌, ◌*◌, ℕ, length}
 use Rattle.std.specs.List.{flat_map, range_with_len}
-use Rattle.net_graph.specs.net_model.specs.Networks.{Net}
+use Rattle.net_model.specs.Networks.{Net}
 use Rattle.net_cells.proofs.Counting.{hops_of}
 use Rattle.net_cells.proofs.effort.count_in.Given as goal
 

@@ -1,5 +1,5 @@
 use Rattle.std.proofs.Common.{ℕ, List, length, ap, ap₂, ◌∙◌, Option}
-use Rattle.net_graph.specs.net_model.specs.Networks.{NetFlow}
+use Rattle.net_model.specs.Networks.{NetFlow}
 use Rattle.net_cells.specs.Numbered.{path_of, queues_of}
 use Rattle.net_cells.specs.Visits.{hops_in}
 use Rattle.net_cells.proofs.Counting.{own_count}

@@ -1,6 +1,6 @@
 use Rattle.std.proofs.Common.{◌≡◌, get_or, sym, subst, Option, Some}
-use Rattle.net_graph.specs.net_model.specs.declared.flow.Flow.{Flow}
-use Rattle.net_graph.specs.net_model.specs.Views.{flow_of}
+use Rattle.net_model.specs.declared.flow.Flow.{Flow}
+use Rattle.net_model.specs.Views.{flow_of}
 use Rattle.net_cells.proofs.Stored.{flow_stored, flow_kept}
 use Rattle.net_cells.proofs.numbered.live_flow.Goals as goal
 

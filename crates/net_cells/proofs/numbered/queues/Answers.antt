@@ -1,10 +1,10 @@
 use Rattle.std.proofs.Common.{◌≡◌, ap, sym, ◌∙◌, Option, arith}
-use Rattle.residual_calls.specs.run_laws.specs.Servers as spec
-use Rattle.net_graph.specs.net_model.specs.declared.server.Server.{Server}
-use Rattle.net_graph.specs.net_model.specs.Networks.{NetServer}
-use Rattle.net_graph.specs.net_model.specs.Views as views
+use Rattle.net_model.specs.run_laws.specs.Servers as spec
+use Rattle.net_model.specs.declared.server.Server.{Server}
+use Rattle.net_model.specs.Networks.{NetServer}
+use Rattle.net_model.specs.Views as views
 use Rattle.net_cells.specs.Numbered as at
-use Rattle.net_graph.specs.net_model.proofs.FewQueues.{few_of}
+use Rattle.net_model.proofs.FewQueues.{few_of}
 use Rattle.net_cells.proofs.Stored.{server_stored, server_past, server_kept}
 use Rattle.net_cells.proofs.numbered.queues.Goals as goal
 

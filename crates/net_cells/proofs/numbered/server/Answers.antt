@@ -1,5 +1,5 @@
 use Rattle.std.proofs.Common.{sym}
-use Rattle.net_graph.specs.net_model.specs.Views.{server_of}
+use Rattle.net_model.specs.Views.{server_of}
 use Rattle.net_cells.proofs.Stored.{server_stored, server_past, server_kept}
 use Rattle.net_cells.proofs.numbered.server.Goals as goal
 

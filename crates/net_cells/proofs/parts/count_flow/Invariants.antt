@@ -1,6 +1,6 @@
 use Rattle.std.proofs.Common.{◌≡◌, ◌≤◌, ℕ, map, length}
 use Rattle.std.specs.List.{filter, range_with_len}
-use Rattle.net_graph.specs.net_model.specs.Networks.{Net}
+use Rattle.net_model.specs.Networks.{Net}
 use Rattle.net_cells.specs.Visits.{visit}
 use Rattle.net_cells.specs.QueueParts.{is_there}
 use Rattle.net_cells.proofs.parts.count_flow.Given as goal

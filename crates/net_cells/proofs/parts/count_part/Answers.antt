@@ -2,7 +2,7 @@ use Rattle.std.proofs.Common.{◌≡◌, ℕ, length, ap, sym, ◌∙◌, arith}
 use Rattle.std.specs.List.{flat_map, range_with_len}
 use Rattle.std.specs.Option.{option_map}
 use Rattle.std.proofs.lemmas.List.{length-map}
-use Rattle.net_graph.specs.net_model.specs.Views.{flow_of}
+use Rattle.net_model.specs.Views.{flow_of}
 use Rattle.net_cells.specs.QueueParts.{flow_part}
 use Rattle.net_cells.proofs.PartCounts.{more_items, part_by_flow}
 use Rattle.net_cells.proofs.parts.count_part.Goals as goal

@@ -1,6 +1,6 @@
 use Rattle.std.proofs.Common.{◌≡◌, ◌≤◌, ◌*◌, ℕ, length}
 use Rattle.std.specs.List.{flat_map, range_with_len}
-use Rattle.net_graph.specs.net_model.specs.Networks.{Net}
+use Rattle.net_model.specs.Networks.{Net}
 use Rattle.net_cells.specs.QueueParts.{flow_part}
 use Rattle.net_cells.proofs.parts.count_part.Given as goal
 

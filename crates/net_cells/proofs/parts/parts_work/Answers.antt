@@ -1,8 +1,8 @@
 use Rattle.std.proofs.Common.{◌≡◌, ℕ, suc, ◌+◌, ◌-◌, length, ap, ap₂, ◌∙◌, arith}
 use Rattle.std.specs.List.{range_with_len}
 use Rattle.std.proofs.lemmas.List.{length-map}
-use Rattle.net_graph.specs.net_model.specs.Networks.{Net}
-use Rattle.net_graph.specs.net_model.specs.Views.{server_of}
+use Rattle.net_model.specs.Networks.{Net}
+use Rattle.net_model.specs.Views.{server_of}
 use Rattle.net_cells.specs.QueueParts.{in_part, by_parts, links_among}
 use Rattle.net_cells.specs.Work.{parts_work}
 use Rattle.net_cells.proofs.parts.parts_work.Invariants.{Counts}

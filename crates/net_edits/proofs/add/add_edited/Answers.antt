@@ -3,9 +3,9 @@ use Rattle.std.specs.Prelude.{ℤ}
 use Rattle.std.specs.Option.{option_map}
 use Rattle.std.proofs.lemmas.Int.{to_z-of_z}
 use Rattle.std.proofs.lemmas.List.{length-map}
-use Rattle.net_cells.specs.net_model.specs.Accepted.{IsAccepted}
-use Rattle.net_cells.specs.net_model.specs.Networks.{NetServer, NetFlow}
-use Rattle.net_cells.specs.net_model.specs.Views.{flow_of}
+use Rattle.net_model.specs.Accepted.{IsAccepted}
+use Rattle.net_model.specs.Networks.{NetServer, NetFlow}
+use Rattle.net_model.specs.Views.{flow_of}
 use Rattle.net_edits.specs.Lookups.{is_free}
 use Rattle.net_edits.specs.Values.{whole_that, is_length, is_name, fits_along, may_be_path}
 use Rattle.net_edits.specs.Changed.{with_more}

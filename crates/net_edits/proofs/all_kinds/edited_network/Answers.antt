@@ -2,8 +2,8 @@ use Rattle.std.proofs.Common.{ℕ, List, sym, subst, rules, w64}
 use Rattle.std.specs.Prelude.{ℤ}
 use Rattle.std.proofs.lemmas.Int.{to_z-of_z}
 use mir.Val.{SFits, of_z, to_z}
-use Rattle.net_cells.specs.net_model.specs.declared.edit.Edit.{Edit}
-use Rattle.net_cells.specs.net_model.specs.declared.edit.PathEntry.{PathEntry}
+use Rattle.net_model.specs.declared.edit.Edit.{Edit}
+use Rattle.net_model.specs.declared.edit.PathEntry.{PathEntry}
 use Rattle.net_edits.specs.Edited.{edited, rate_edited, latency_edited, link_edited, quantum_edited, bucket_edited, stair_edited, packet_edited, route_edited, drop_edited}
 use Rattle.net_edits.specs.Replies.{IsReply, IsOverNone}
 use Rattle.net_edits.proofs.OverNone.{link_none, quantum_none, bucket_none, packet_none, route_none, drop_none, add_none}

@@ -1,11 +1,11 @@
 use Rattle.std.proofs.Common.{◌≡◌, sym, ap, ◌∙◌, subst, None, false, Option}
 use Rattle.std.specs.Prelude.{not, ◌&&◌}
 use Rattle.std.proofs.lemmas.Bool.{and_from, not_from_false}
-use Rattle.net_cells.specs.upp_curve.specs.Curve.{SpecCurve}
-use Rattle.net_cells.specs.upp_curve.specs.Kinds.{bucket}
-use Rattle.net_cells.specs.net_model.specs.Accepted.{IsAccepted}
-use Rattle.net_cells.specs.net_model.specs.Networks.{NetFlow}
-use Rattle.net_cells.specs.net_model.specs.Views.{flow_of}
+use Rattle.upp_limits.specs.upp_curve.specs.Curve.{SpecCurve}
+use Rattle.upp_limits.specs.upp_curve.specs.Kinds.{bucket}
+use Rattle.net_model.specs.Accepted.{IsAccepted}
+use Rattle.net_model.specs.Networks.{NetFlow}
+use Rattle.net_model.specs.Views.{flow_of}
 use Rattle.net_edits.specs.Changed.{put_flow, with_arrival}
 use Rattle.net_edits.specs.Edited.{is_negative, bucket_edited}
 use Rattle.net_edits.proofs.Signs.{nonneg_of}

@@ -1,9 +1,9 @@
 use Rattle.std.proofs.Common.{w64, ◌≡◌, List, ℕ, Ok, sym, ap, ◌∙◌, subst, None, Option}
 use Rattle.std.specs.Prelude.{ℤ}
 use Rattle.std.proofs.lemmas.Int.{to_z-of_z}
-use Rattle.net_cells.specs.net_model.specs.Accepted.{IsAccepted}
-use Rattle.net_cells.specs.net_model.specs.Networks.{NetServer, NetFlow}
-use Rattle.net_cells.specs.net_model.specs.Views.{flow_of}
+use Rattle.net_model.specs.Accepted.{IsAccepted}
+use Rattle.net_model.specs.Networks.{NetServer, NetFlow}
+use Rattle.net_model.specs.Views.{flow_of}
 use Rattle.net_edits.specs.Values.{whole_that, is_length, fits_along}
 use Rattle.net_edits.specs.Changed.{put_flow, with_packet}
 use Rattle.net_edits.specs.Edited.{packet_edited}

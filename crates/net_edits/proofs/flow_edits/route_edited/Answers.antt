@@ -1,7 +1,7 @@
 use Rattle.std.proofs.Common.{◌≡◌, List, ℕ, sym, ap, ◌∙◌, subst, None, true, Option}
-use Rattle.net_cells.specs.net_model.specs.Accepted.{IsAccepted}
-use Rattle.net_cells.specs.net_model.specs.Networks.{NetServer, NetFlow}
-use Rattle.net_cells.specs.net_model.specs.Views.{flow_of}
+use Rattle.net_model.specs.Accepted.{IsAccepted}
+use Rattle.net_model.specs.Networks.{NetServer, NetFlow}
+use Rattle.net_model.specs.Views.{flow_of}
 use Rattle.net_edits.specs.Values.{fits_along, may_be_path}
 use Rattle.net_edits.specs.Changed.{put_flow, with_path}
 use Rattle.net_edits.specs.Edited.{route_edited}

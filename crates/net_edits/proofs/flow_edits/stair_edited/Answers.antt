@@ -1,11 +1,11 @@
 use Rattle.std.proofs.Common.{◌≡◌, Err, pos, sym, ap, ◌∙◌, subst, Option}
 use Rattle.std.proofs.lemmas.Result.{err_from_is_err_and}
-use Rattle.min_plus.specs.rational.specs.Rational.{int}
-use Rattle.net_cells.specs.upp_curve.specs.Curve.{SpecCurve}
-use Rattle.net_cells.specs.upp_curve.specs.Kinds.{stair}
-use Rattle.net_cells.specs.net_model.specs.Accepted.{IsAccepted}
-use Rattle.net_cells.specs.net_model.specs.Networks.{NetFlow}
-use Rattle.net_cells.specs.net_model.specs.Views.{flow_of}
+use Rattle.upp_limits.specs.rational.specs.Rational.{int}
+use Rattle.upp_limits.specs.upp_curve.specs.Curve.{SpecCurve}
+use Rattle.upp_limits.specs.upp_curve.specs.Kinds.{stair}
+use Rattle.net_model.specs.Accepted.{IsAccepted}
+use Rattle.net_model.specs.Networks.{NetFlow}
+use Rattle.net_model.specs.Views.{flow_of}
 use Rattle.net_edits.specs.declared.fault.EditFault.TheVariants.{NoMemory}
 use Rattle.net_edits.specs.Changed.{put_flow, with_arrival}
 use Rattle.net_edits.specs.Edited.{as_arrival, stair_edited}

@@ -1,5 +1,5 @@
 use Rattle.std.proofs.Common.{sym}
-use Rattle.net_cells.specs.net_model.specs.Views.{flow_of}
+use Rattle.net_model.specs.Views.{flow_of}
 use Rattle.net_edits.proofs.FlowEdits.{place_of}
 use Rattle.net_edits.proofs.names.flow_of_number.Goals as goal
 

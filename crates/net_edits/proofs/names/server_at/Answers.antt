@@ -1,7 +1,7 @@
 use Rattle.std.proofs.Common.{ap, arith}
 use Rattle.std.specs.Prelude.{length}
 use Rattle.std.proofs.lemmas.List.{length-map}
-use Rattle.net_cells.specs.net_model.specs.Views.{server_of}
+use Rattle.net_model.specs.Views.{server_of}
 use Rattle.net_cells.proofs.Stored.{server_stored, server_kept}
 use Rattle.net_edits.proofs.names.server_at.Goals as goal
 

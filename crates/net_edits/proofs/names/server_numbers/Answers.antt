@@ -1,7 +1,7 @@
 use Rattle.std.proofs.Common.{◌≡◌, ◌+◌, List, ℕ, Ok, take, drop, subst, sym, ap, ◌∙◌}
 use Rattle.std.specs.String.{string_bytes}
 use Rattle.std.proofs.lemmas.Result.{err_from_is_err_and}
-use Rattle.net_cells.specs.net_model.specs.declared.edit.PathEntry.{PathEntry}
+use Rattle.net_model.specs.declared.edit.PathEntry.{PathEntry}
 use Rattle.net_edits.specs.Lookups.{server_number, server_numbers}
 use Rattle.net_edits.specs.Replies.{Refuses}
 use Rattle.net_edits.proofs.Places.{split_at, take_one}

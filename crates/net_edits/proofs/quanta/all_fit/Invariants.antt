@@ -1,6 +1,6 @@
 use Rattle.std.proofs.Common.{◌≡◌, drop}
 use Rattle.std.specs.List.{list_all}
-use Rattle.net_cells.specs.net_model.specs.Views.{servers_of, flows_of}
+use Rattle.net_model.specs.Views.{servers_of, flows_of}
 use Rattle.net_edits.specs.Values.{place_fits}
 use Rattle.net_edits.proofs.quanta.all_fit.Given as goal
 

@@ -1,5 +1,5 @@
 use Rattle.std.proofs.Common.{sym, ◌∙◌, arith}
-use Rattle.net_cells.specs.net_model.specs.Views.{servers_of}
+use Rattle.net_model.specs.Views.{servers_of}
 use Rattle.net_edits.proofs.Replaced.{fits_done}
 use Rattle.net_edits.proofs.quanta.fits_along.Goals as goal
 

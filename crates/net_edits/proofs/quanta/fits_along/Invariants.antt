@@ -1,5 +1,5 @@
 use Rattle.std.proofs.Common.{◌≡◌, drop}
-use Rattle.net_cells.specs.net_model.specs.Views.{servers_of}
+use Rattle.net_model.specs.Views.{servers_of}
 use Rattle.net_edits.specs.Values.{fits_along}
 use Rattle.net_edits.proofs.quanta.fits_along.Given as goal
 

@@ -1,9 +1,9 @@
 use Rattle.std.proofs.Common.{List, Option, Ok, refl, sym, ap, ap₂, ◌∙◌, subst}
 use Rattle.std.specs.List.{list_all}
-use Rattle.net_cells.specs.net_model.specs.declared.flow.Flow.{Flow}
-use Rattle.net_cells.specs.net_model.specs.declared.server.Server.{Server}
-use Rattle.net_cells.specs.net_model.specs.Accepted.{IsAccepted}
-use Rattle.net_cells.specs.net_model.specs.Views.{server_of, servers_of, flows_of}
+use Rattle.net_model.specs.declared.flow.Flow.{Flow}
+use Rattle.net_model.specs.declared.server.Server.{Server}
+use Rattle.net_model.specs.Accepted.{IsAccepted}
+use Rattle.net_model.specs.Views.{server_of, servers_of, flows_of}
 use Rattle.net_edits.specs.Changed.{put_server}
 use Rattle.net_edits.specs.Values.{place_fits, quanta_fit}
 use Rattle.net_edits.proofs.Steps.{passed, stopped}

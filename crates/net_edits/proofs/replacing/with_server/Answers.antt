@@ -1,5 +1,5 @@
 use Rattle.std.proofs.Common.{sym, ◌∙◌, subst}
-use Rattle.net_cells.specs.net_model.specs.Accepted.{IsAccepted}
+use Rattle.net_model.specs.Accepted.{IsAccepted}
 use Rattle.net_edits.proofs.Replaced.{server_replaced}
 use Rattle.net_edits.proofs.replacing.with_server.Goals as goal
 

@@ -1,9 +1,9 @@
 use Rattle.std.proofs.Common.{◌≡◌, sym, ap, ◌∙◌, subst, None, false}
 use Rattle.std.specs.Prelude.{not}
 use Rattle.std.proofs.lemmas.Bool.{not_from_false}
-use Rattle.net_cells.specs.net_model.specs.Accepted.{IsAccepted}
-use Rattle.net_cells.specs.net_model.specs.Networks.{NetServer}
-use Rattle.net_cells.specs.net_model.specs.Views.{server_of}
+use Rattle.net_model.specs.Accepted.{IsAccepted}
+use Rattle.net_model.specs.Networks.{NetServer}
+use Rattle.net_model.specs.Views.{server_of}
 use Rattle.net_edits.specs.Changed.{put_server, with_link}
 use Rattle.net_edits.specs.Edited.{is_negative, link_edited}
 use Rattle.net_edits.proofs.Signs.{nonneg_of}

@@ -1,8 +1,8 @@
 use Rattle.std.proofs.Common.{◌≡◌, Err, sym, ap, ◌∙◌, subst, Some, true}
 use Rattle.std.proofs.lemmas.Result.{err_from_is_err_and}
-use Rattle.net_cells.specs.net_model.specs.Accepted.{IsAccepted}
-use Rattle.net_cells.specs.net_model.specs.Networks.{NetServer}
-use Rattle.net_cells.specs.net_model.specs.Views.{server_of}
+use Rattle.net_model.specs.Accepted.{IsAccepted}
+use Rattle.net_model.specs.Networks.{NetServer}
+use Rattle.net_model.specs.Views.{server_of}
 use Rattle.net_edits.specs.declared.fault.EditFault.TheVariants.{NoMemory}
 use Rattle.net_edits.specs.Changed.{put_server, with_rate}
 use Rattle.net_edits.specs.Edited.{is_positive, rate_made, rate_edited}

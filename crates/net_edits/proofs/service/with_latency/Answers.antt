@@ -1,11 +1,11 @@
 use Rattle.std.proofs.Common.{ap, ◌∙◌, subst, Option}
 use Rattle.std.proofs.lemmas.Result.{err_from_is_err_and}
-use Rattle.net_cells.specs.upp_curve.specs.Kinds.{rate_latency}
+use Rattle.upp_limits.specs.upp_curve.specs.Kinds.{rate_latency}
 use Rattle.curve_library.specs.Causes.{OneNegative}
-use Rattle.net_cells.specs.upp_curve.specs.Curve.{SpecCurve}
-use Rattle.net_cells.specs.net_model.specs.Networks.{NetServer}
-use Rattle.net_cells.specs.net_model.specs.declared.server.ServiceKind.TheVariants.{Latency}
-use Rattle.net_cells.specs.net_model.specs.Views.{server_of}
+use Rattle.upp_limits.specs.upp_curve.specs.Curve.{SpecCurve}
+use Rattle.net_model.specs.Networks.{NetServer}
+use Rattle.net_model.specs.declared.server.ServiceKind.TheVariants.{Latency}
+use Rattle.net_model.specs.Views.{server_of}
 use Rattle.net_edits.specs.Edited.{MadeCurve}
 use Rattle.net_edits.specs.Replies.{MakesNone, IsMadeWithin}
 use Rattle.net_edits.proofs.Signs.{own_of}

@@ -1,5 +1,5 @@
 use Rattle.std.proofs.Common.{◌≡◌, drop}
-use Rattle.net_cells.specs.net_model.specs.Plain.{all_differ}
+use Rattle.net_model.specs.Plain.{all_differ}
 use Rattle.net_edits.proofs.ways.all_differ.Given as goal
 
 abbrev pub invariant-loop-place : goal.invariant-loop-place

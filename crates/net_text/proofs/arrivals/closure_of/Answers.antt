@@ -1,6 +1,6 @@
 use Rattle.std.specs.String.{string_bytes}
 use Rattle.std.proofs.Common.{Err, subst}
-use Rattle.curve_call.specs.upp_limits.specs.declared.own_limits.OverLimit.TheVariants as limits
+use Rattle.upp_limits.specs.declared.own_limits.OverLimit.TheVariants as limits
 use Rattle.net_text.specs.Closing.{KeepsClosing}
 use Rattle.net_text.specs.FoldLimits.{OverFold}
 use Rattle.net_text.proofs.ClosedArrivals.{limit_fails, limit_is_told}

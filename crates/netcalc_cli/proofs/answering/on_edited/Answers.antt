@@ -1,6 +1,6 @@
 use Rattle.std.proofs.Common.{[], ◌∷◌, inl, inr, refl}
 use Rattle.std.proofs.lemmas.Result.{IfOk-weaker}
-use Rattle.command_replies.specs.View.{reply_of}
+use Rattle.commands.specs.command_replies.specs.View.{reply_of}
 use Rattle.netcalc_cli.specs.Commands.{Edit}
 use Rattle.netcalc_cli.proofs.Replies.{ends, answers, no_answer_in}
 use Rattle.netcalc_cli.proofs.answering.on_edited.Goals as goal

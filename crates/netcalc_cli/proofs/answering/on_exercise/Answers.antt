@@ -1,6 +1,6 @@
 use Rattle.std.proofs.Common.{[], inr}
 use Rattle.std.proofs.lemmas.Result.{IfOk-weaker}
-use Rattle.command_replies.specs.View.{reply_of}
+use Rattle.commands.specs.command_replies.specs.View.{reply_of}
 use Rattle.netcalc_cli.specs.Commands.{Exercise}
 use Rattle.netcalc_cli.proofs.Replies.{answers}
 use Rattle.netcalc_cli.proofs.answering.on_exercise.Goals as goal

@@ -1,7 +1,7 @@
 use Rattle.std.proofs.Common.{◌≡◌, false, true, refl, sym, ap, ◌∙◌}
 use Rattle.std.specs.Prelude.{is_some}
-use Rattle.command_replies.specs.Replies.{usage}
-use Rattle.command_replies.specs.View.{reply_of}
+use Rattle.commands.specs.command_replies.specs.Replies.{usage}
+use Rattle.commands.specs.command_replies.specs.View.{reply_of}
 use Rattle.netcalc_cli.specs.Reply.{commands}
 use Rattle.netcalc_cli.specs.View.{command_view}
 use Rattle.netcalc_cli.specs.Words.{texts, command_of}

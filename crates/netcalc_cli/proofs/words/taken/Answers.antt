@@ -3,7 +3,7 @@ use Rattle.std.specs.Prelude.{is_some}
 use Rattle.netcalc_cli.specs.Words.{texts, command_of}
 use Rattle.netcalc_cli.proofs.WordLists.{by_parts, none_of_few}
 use Rattle.netcalc_cli.proofs.words.taken.Goals as goal
-use Rattle.curve_script.proofs.LineFacts.{none_of}
+use Rattle.input_texts.proofs.curve_script.LineFacts.{none_of}
 
 pub returns-in_default-clause-not_taken : goal.returns-in_default-clause-not_taken
 returns-in_default-clause-not_taken c = none_of_few c.args.words.now (omega arith)

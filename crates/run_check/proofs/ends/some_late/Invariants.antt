@@ -1,5 +1,5 @@
 use Rattle.std.specs.Prelude.{ℕ, ◌<◌, get_or}
-use Rattle.broken_laws.specs.declared.place.Place.{Place}
+use Rattle.run_check.specs.declared.broken_laws.place.Place.{Place}
 use Rattle.run_check.specs.Ends.{IsLate}
 use Rattle.run_check.proofs.ends.some_late.Given as goal
 

@@ -1,9 +1,9 @@
 use Rattle.std.specs.Prelude.{◌≡◌, length}
 use Rattle.std.proofs.Common.{ap, arith, refl, inr, subst, sym}
-use Rattle.broken_laws.specs.net_model.specs.NetRoutes.{routes_of}
-use Rattle.net_cells.specs.run_laws.specs.Lawful.{run_start, after_run}
-use Rattle.broken_laws.specs.FirstBroken.{IsUnfinished}
-use Rattle.broken_laws.proofs.WholeRuns.{unbroken_is_lawful}
+use Rattle.net_model.specs.NetRoutes.{routes_of}
+use Rattle.net_model.specs.run_laws.specs.Lawful.{run_start, after_run}
+use Rattle.run_check.specs.broken_laws.FirstBroken.{IsUnfinished}
+use Rattle.run_check.proofs.broken_laws.WholeRuns.{unbroken_is_lawful}
 use Rattle.run_check.proofs.Along.{behind}
 use Rattle.run_check.proofs.SiteSteps.{untrue}
 use Rattle.run_check.proofs.first.first_broken.Goals as goal

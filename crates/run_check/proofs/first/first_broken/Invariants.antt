@@ -1,4 +1,4 @@
-use Rattle.broken_laws.specs.net_model.specs.NetRoutes.{routes_of}
+use Rattle.net_model.specs.NetRoutes.{routes_of}
 use Rattle.run_check.specs.Following.{Follows}
 use Rattle.run_check.proofs.first.first_broken.Given as goal
 

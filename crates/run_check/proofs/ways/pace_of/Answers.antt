@@ -1,5 +1,5 @@
 use Rattle.std.proofs.Common.{sym, ◌∙◌}
-use Rattle.broken_laws.specs.net_model.specs.Views.{server_of}
+use Rattle.net_model.specs.Views.{server_of}
 use Rattle.run_check.proofs.Started.{no_pace, past_pace, rate_pace}
 use Rattle.run_check.proofs.ways.pace_of.Goals as goal
 

@@ -1,6 +1,6 @@
 use Rattle.std.specs.Prelude.{◌≡◌, length}
 use Rattle.std.proofs.Common.{arith, sym, subst}
-use Rattle.sim_routes.proofs.Places.{NoneBefore}
+use Rattle.simulator.proofs.sim_routes.Places.{NoneBefore}
 use Rattle.run_check.proofs.PathPlaces.{on_finds, on_none}
 use Rattle.run_check.proofs.ways.passes.Goals as goal
 

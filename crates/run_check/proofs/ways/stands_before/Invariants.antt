@@ -1,4 +1,4 @@
-use Rattle.sim_routes.proofs.Places.{NoneBefore}
+use Rattle.simulator.proofs.sim_routes.Places.{NoneBefore}
 use Rattle.run_check.proofs.ways.stands_before.Given as goal
 
 abbrev pub invariant-loop-at : goal.invariant-loop-at

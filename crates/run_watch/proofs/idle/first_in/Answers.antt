@@ -1,9 +1,9 @@
 use Rattle.std.proofs.Common.{◌≡◌, ◌∙◌, Option, sym, subst, ap, inl}
 use Rattle.std.proofs.lemmas.Result.{IfOk-weaker}
-use Rattle.fraction128.specs.rational.specs.Rational.{ℚ, ◌-ℚ◌}
-use Rattle.flow_watch.specs.upp_curve.specs.Unrolled.{unroll}
-use Rattle.flow_watch.specs.upp_normal.specs.Unrolling.{IsOperandTo}
-use Rattle.flow_watch.specs.watch_laws.specs.Segments.{segments}
+use Rattle.upp_limits.specs.rational.specs.Rational.{ℚ, ◌-ℚ◌}
+use Rattle.upp_limits.specs.upp_curve.specs.Unrolled.{unroll}
+use Rattle.curve_call.specs.upp_normal.specs.Unrolling.{IsOperandTo}
+use Rattle.flow_watch.specs.watch_laws.Segments.{segments}
 use Rattle.run_watch.specs.Ramps.{AreRamps}
 use Rattle.run_watch.specs.WatchTimes.{watched_from}
 use Rattle.run_watch.specs.IdleWindows.{FindsShort}

@@ -1,6 +1,6 @@
 use Rattle.std.proofs.Common.{◌<◌, ◌≤◌, ◌∙◌, length, map, arith, sym, subst, Some}
-use Rattle.fraction128.specs.rational.specs.Rational.{ℚ}
-use Rattle.flow_watch.specs.watch_laws.specs.Segments.{segments}
+use Rattle.upp_limits.specs.rational.specs.Rational.{ℚ}
+use Rattle.flow_watch.specs.watch_laws.Segments.{segments}
 use Rattle.run_watch.specs.WatchTimes.{point_at}
 use Rattle.run_watch.specs.IdleWindows.{IsShortWindow}
 use Rattle.run_watch.specs.NearWindows.{IsLeast, IsNearEndOf, EndsShort}

@@ -1,6 +1,6 @@
 use Rattle.std.proofs.Common.{refl, arith, ◌≡◌, ◌<◌, slice_index_or}
 use Rattle.std.proofs.lemmas.Grind.{common_steps}
-use Rattle.flow_watch.specs.watch_laws.specs.Marks.{MostFits}
+use Rattle.flow_watch.specs.watch_laws.Marks.{MostFits}
 use Rattle.run_watch.proofs.Marks.{passed_more, first_of, rest_fit}
 use Rattle.run_watch.proofs.scan.drop_past.Goals as goal
 

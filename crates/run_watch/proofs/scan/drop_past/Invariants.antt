@@ -1,5 +1,5 @@
 use Rattle.std.proofs.Common.{length}
-use Rattle.flow_watch.specs.watch_laws.specs.Marks.{Each, MostFits}
+use Rattle.flow_watch.specs.watch_laws.Marks.{Each, MostFits}
 use Rattle.run_watch.specs.Queue.{Passed}
 use Rattle.run_watch.proofs.scan.drop_past.Given as goal
 

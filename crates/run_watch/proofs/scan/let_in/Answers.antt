@@ -1,8 +1,8 @@
 use Rattle.std.proofs.Common.{refl, true≢false, sym, subst, arith, ◌<◌, ◌≤◌, ◌+◌, List, length}
 use Rattle.std.proofs.lemmas.Grind.{common_steps}
-use Rattle.fraction128.specs.rational.specs.Rational.{ℚ, ◌+ℚ◌, ◌≤ℚ◌, ◌<ℚ◌}
-use Rattle.fraction128.specs.rational.proofs.Laws.{le_of_not_lt}
-use Rattle.flow_watch.specs.watch_laws.specs.declared.mark.Mark.{Mark}
+use Rattle.upp_limits.specs.rational.specs.Rational.{ℚ, ◌+ℚ◌, ◌≤ℚ◌, ◌<ℚ◌}
+use Rattle.upp_limits.specs.rational.proofs.Laws.{le_of_not_lt}
+use Rattle.flow_watch.specs.declared.watch_laws.mark.Mark.{Mark}
 use Rattle.run_watch.specs.Queue.{Scans}
 use Rattle.run_watch.proofs.Marks.{pushed_at, rest_not_far}
 use Rattle.run_watch.proofs.scan.let_in.Goals as goal

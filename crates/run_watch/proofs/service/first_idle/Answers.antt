@@ -1,6 +1,6 @@
 use Rattle.std.proofs.Common.{◌≡◌, ◌∙◌, List, pos, refl, sym, subst, ap, true≢false}
-use Rattle.fraction128.specs.rational.specs.Rational.{ℚ, int, ◌≤ℚ◌, ◌<ℚ◌}
-use Rattle.fraction128.specs.rational.proofs.Laws.{le_of_not_lt}
+use Rattle.upp_limits.specs.rational.specs.Rational.{ℚ, int, ◌≤ℚ◌, ◌<ℚ◌}
+use Rattle.upp_limits.specs.rational.proofs.Laws.{le_of_not_lt}
 use Rattle.run_watch.specs.Watching.{stretches, stretches_in, turns}
 use Rattle.run_watch.specs.Searches.{FindsIn}
 use Rattle.run_watch.proofs.IdleIn.{none_idle_more, first_here, none_at_all}

@@ -1,7 +1,7 @@
 use Rattle.std.proofs.Common.{List, take}
-use Rattle.flow_watch.specs.run_laws.specs.Cards.{ServerStep}
-use Rattle.flow_watch.specs.run_laws.specs.Servers.{Server}
-use Rattle.flow_watch.specs.watch_laws.specs.Laws.{MayServe}
+use Rattle.net_model.specs.run_laws.specs.Cards.{ServerStep}
+use Rattle.net_model.specs.run_laws.specs.Servers.{Server}
+use Rattle.flow_watch.specs.watch_laws.Laws.{MayServe}
 use Rattle.run_watch.specs.Held.{IsSightOf}
 use Rattle.run_watch.proofs.IdleIn.{NoneIdleIn}
 use Rattle.run_watch.proofs.service.first_idle.Given as goal

@@ -1,5 +1,5 @@
 use Rattle.std.proofs.Common.{◌-◌, ◌≤◌, length, drop}
-use Rattle.flow_watch.specs.watch_laws.specs.Shorts.{EachPoint}
+use Rattle.flow_watch.specs.watch_laws.Shorts.{EachPoint}
 use Rattle.run_watch.specs.FirstEnds.{IsTooLate}
 use Rattle.run_watch.proofs.shorts.far_by.Given as goal
 

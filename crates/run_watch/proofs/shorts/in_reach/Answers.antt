@@ -1,9 +1,9 @@
 use Rattle.std.proofs.Common.{take, refl, sym, subst}
 use Rattle.std.proofs.lemmas.List.{take_rest}
-use Rattle.fraction128.specs.rational.specs.Ratio.{SumFits}
-use Rattle.flow_watch.specs.watch_laws.specs.Marks.{MostFits}
-use Rattle.flow_watch.specs.watch_laws.specs.Shorts.{EachPoint}
-use Rattle.flow_watch.specs.watch_laws.specs.declared.mark.Rule.{Rule}
+use Rattle.upp_limits.specs.rational.specs.Ratio.{SumFits}
+use Rattle.flow_watch.specs.watch_laws.Marks.{MostFits}
+use Rattle.flow_watch.specs.watch_laws.Shorts.{EachPoint}
+use Rattle.flow_watch.specs.declared.watch_laws.mark.Rule.{Rule}
 use Rattle.run_watch.proofs.ShortMarks.{fits_most, fits_least, each_taken, rise_taken, reach_as}
 use Rattle.run_watch.proofs.shorts.in_reach.Goals as goal
 

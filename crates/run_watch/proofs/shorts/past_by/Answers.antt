@@ -1,6 +1,6 @@
 use Rattle.std.proofs.Common.{refl, sym, subst, arith}
-use Rattle.flow_watch.specs.watch_laws.specs.Marks.{IsPast, MostFits}
-use Rattle.flow_watch.specs.watch_laws.specs.declared.point.Point.{Point}
+use Rattle.flow_watch.specs.watch_laws.Marks.{IsPast, MostFits}
+use Rattle.flow_watch.specs.declared.watch_laws.point.Point.{Point}
 use Rattle.run_watch.proofs.ShortMarks.{past_more, each_at, middle_inside}
 use Rattle.run_watch.proofs.shorts.past_by.Goals as goal
 

@@ -1,6 +1,6 @@
 use Rattle.std.proofs.Common.{◌-◌, ◌≤◌, length, take}
-use Rattle.flow_watch.specs.watch_laws.specs.Marks.{IsPast}
-use Rattle.flow_watch.specs.watch_laws.specs.Shorts.{EachPoint}
+use Rattle.flow_watch.specs.watch_laws.Marks.{IsPast}
+use Rattle.flow_watch.specs.watch_laws.Shorts.{EachPoint}
 use Rattle.run_watch.proofs.shorts.past_by.Given as goal
 
 abbrev pub invariant-loop-low : goal.invariant-loop-low

@@ -1,5 +1,5 @@
 use Rattle.std.proofs.Common.{refl, sym, true≢false}
-use Rattle.flow_watch.specs.watch_laws.specs.Shorts.{IsShortBy}
+use Rattle.flow_watch.specs.watch_laws.Shorts.{IsShortBy}
 use Rattle.run_watch.proofs.ShortMarks.{starts_fit}
 use Rattle.run_watch.proofs.ShortWindows.{points_push, first_by, none_by_reach, fits_at}
 use Rattle.run_watch.proofs.windows.first_start_by.Goals as goal

@@ -1,5 +1,5 @@
 use Rattle.std.proofs.Common.{sym, subst}
-use Rattle.stated_runs.specs.Setups.{IsGateFor, IsFirstGateOpen}
+use Rattle.net_model.specs.stated_runs.Setups.{IsGateFor, IsFirstGateOpen}
 use Rattle.sim_servers.specs.Openings.{gate_for, GateRoom}
 use Rattle.sim_servers.proofs.Cycles.{opens_without}
 use Rattle.sim_servers.proofs.opening.gate_opens.Goals as goal

@@ -1,7 +1,7 @@
 use Rattle.std.specs.Prelude.{Some}
 use Rattle.std.proofs.Common.{sym, subst, refl}
 use Rattle.rational.specs.Rational.{◌≤ℚ◌, ◌<ℚ◌}
-use Rattle.stated_runs.specs.Setups.{IsFirstGateOpen}
+use Rattle.net_model.specs.stated_runs.Setups.{IsFirstGateOpen}
 use Rattle.sim_servers.specs.Openings.{gate_times}
 use Rattle.sim_servers.proofs.GridSteps.{sum_fits}
 use Rattle.sim_servers.proofs.Cycles.{begin_is_time, opens_now, opens_next}

@@ -1,7 +1,7 @@
 use Rattle.std.specs.Prelude.{Some}
 use Rattle.std.proofs.Common.{sym, subst, refl}
 use Rattle.rational.specs.Rational.{◌≤ℚ◌, ◌<ℚ◌}
-use Rattle.stated_runs.specs.Setups.{IsGateOpen, StaysTo}
+use Rattle.net_model.specs.stated_runs.Setups.{IsGateOpen, StaysTo}
 use Rattle.sim_servers.specs.Openings.{gate_times}
 use Rattle.sim_servers.proofs.GridSteps.{sum_fits}
 use Rattle.sim_servers.proofs.Cycles.{begin_is_time, stays_always, stays_to_close, stays_to_end}

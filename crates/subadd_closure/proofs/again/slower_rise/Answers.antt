@@ -1,5 +1,5 @@
 use Rattle.std.specs.Prelude.{◌+◌}
-use Rattle.curve_pointwise.proofs.LatticeCalls.{left_rise, right_rise}
+use Rattle.plain_operators.proofs.pointwise.LatticeCalls.{left_rise, right_rise}
 use Rattle.subadd_closure.proofs.again.slower_rise.Goals as goal
 
 pub rise_over-requires : goal.rise_over-requires

@@ -1,7 +1,7 @@
 use Rattle.std.specs.Prelude.{pos}
 use Rattle.std.proofs.Common.{sym, subst}
-use Rattle.curve_pointwise.specs.rational.specs.Rational.{◌≤ℚ◌, int}
-use Rattle.curve_pointwise.specs.rational.proofs.Laws.{le_refl}
+use Rattle.upp_limits.specs.rational.specs.Rational.{◌≤ℚ◌, int}
+use Rattle.upp_limits.specs.rational.proofs.Laws.{le_refl}
 use Rattle.subadd_closure.proofs.from_start.begins_at.Goals as goal
 
 pub value_at-requires : goal.value_at-requires

@@ -1,16 +1,16 @@
 use Rattle.std.specs.Prelude.{◌≡◌, ◌+◌}
 use Rattle.std.proofs.Common.{sym, refl, subst, true≢false}
-use Rattle.curve_pointwise.specs.rational.specs.Rational.{◌+ℚ◌, neg_ℚ}
-use Rattle.curve_pointwise.specs.rational.specs.declared.Extended.TheVariants.{Fin, Inf}
-use Rattle.curve_pointwise.specs.rational.proofs.Laws.{le_of_lt}
-use Rattle.curve_pointwise.specs.affine_segment.specs.Fits.{ReadFits}
-use Rattle.curve_pointwise.specs.upp_curve.specs.Readable.{SumFitsAt}
-use Rattle.curve_pointwise.specs.affine_segment.specs.Reading.{read}
-use Rattle.curve_pointwise.specs.upp_curve.specs.Curve.{repeated}
-use Rattle.curve_pointwise.specs.upp_normal.specs.Normalising.{HasValues}
-use Rattle.curve_pointwise.specs.upp_normal.proofs.NormaliseForm.{ok_map}
-use Rattle.curve_pointwise.specs.curve_call.specs.Answering.{IsAnswerWindow}
-use Rattle.curve_pointwise.proofs.LatticeCalls.{from_fits}
+use Rattle.upp_limits.specs.rational.specs.Rational.{◌+ℚ◌, neg_ℚ}
+use Rattle.upp_limits.specs.rational.specs.declared.Extended.TheVariants.{Fin, Inf}
+use Rattle.upp_limits.specs.rational.proofs.Laws.{le_of_lt}
+use Rattle.upp_limits.specs.upp_curve.specs.affine_segment.Fits.{ReadFits}
+use Rattle.upp_limits.specs.upp_curve.specs.Readable.{SumFitsAt}
+use Rattle.upp_limits.specs.upp_curve.specs.affine_segment.Reading.{read}
+use Rattle.upp_limits.specs.upp_curve.specs.Curve.{repeated}
+use Rattle.upp_normal.specs.Normalising.{HasValues}
+use Rattle.upp_normal.proofs.NormaliseForm.{ok_map}
+use Rattle.plain_operators.specs.curve_call.specs.Answering.{IsAnswerWindow}
+use Rattle.plain_operators.proofs.pointwise.LatticeCalls.{from_fits}
 use Rattle.subadd_closure.proofs.Started.{started_answer}
 use Rattle.subadd_closure.proofs.Windowed.{IsConvolved}
 use Rattle.subadd_closure.proofs.Made.{period_reads, rise_less, start_room, started_convolves, open_keeps, open_convolves}

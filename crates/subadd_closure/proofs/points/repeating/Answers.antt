@@ -1,6 +1,6 @@
 use Rattle.std.proofs.Common.{◌≤◌, ◌^◌, subst, sym}
-use Rattle.curve_pointwise.specs.upp_curve.specs.Normal.{IsRaw}
-use Rattle.curve_pointwise.specs.upp_limits.specs.Limits.{own_tally}
+use Rattle.upp_limits.specs.upp_curve.specs.Normal.{IsRaw}
+use Rattle.upp_limits.specs.Limits.{own_tally}
 use Rattle.subadd_closure.specs.PieceFits.{IsMade}
 use Rattle.subadd_closure.proofs.PointCurves.{point_normal}
 use Rattle.subadd_closure.proofs.PointAnswers.{later_is, later_few}

@@ -1,5 +1,5 @@
 use Rattle.std.proofs.Common.{sym, subst}
-use Rattle.curve_pointwise.specs.upp_normal.specs.Ahead.{IsTimeIn}
+use Rattle.upp_normal.specs.Ahead.{IsTimeIn}
 use Rattle.curve_conv.specs.Scans.{sizes_in}
 use Rattle.curve_conv.proofs.BoundsFound.{begins_early}
 use Rattle.curve_conv.proofs.OwnExtremes.{slow_windows, fast_windows, fast_own_fits}

@@ -1,8 +1,8 @@
 use Rattle.std.proofs.Common.{refl}
 use Rattle.std.specs.Prelude.{◌+◌}
-use Rattle.curve_pointwise.specs.upp_curve.specs.Unrolled.{unroll}
-use Rattle.curve_pointwise.specs.upp_normal.proofs.NormaliseForm.{ok_map}
-use Rattle.curve_pointwise.proofs.LatticeCalls.{from_fits}
+use Rattle.upp_limits.specs.upp_curve.specs.Unrolled.{unroll}
+use Rattle.upp_normal.proofs.NormaliseForm.{ok_map}
+use Rattle.plain_operators.proofs.pointwise.LatticeCalls.{from_fits}
 use Rattle.curve_conv.proofs.ConvolveAnswers.{convolved_answer, convolved_values}
 use Rattle.subadd_closure.proofs.star_convolution.curve_of.Goals as goal
 

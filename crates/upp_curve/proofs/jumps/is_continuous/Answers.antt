@@ -1,7 +1,7 @@
 use Rattle.std.proofs.Common.{sym, subst, ap, ◌∙◌, refl, Some, None, ◌↔◌, IsTrue}
 use Rattle.min_plus.specs.rational.specs.Extended.{◌+ₑ◌}
 use Rattle.min_plus.specs.rational.specs.declared.Extended.TheVariants.{Fin}
-use Rattle.affine_segment.specs.Reading.{read}
+use Rattle.upp_curve.specs.affine_segment.Reading.{read}
 use Rattle.upp_curve.specs.Readable.{EachFits}
 use Rattle.upp_curve.specs.JoinedPieces.{PiecesJoin}
 use Rattle.upp_curve.proofs.RisingCurves.{IsEnd}

@@ -1,5 +1,5 @@
 use Rattle.std.proofs.Common.{◌≡◌, subst, sym, IfOk}
-use Rattle.affine_segment.proofs.PieceIn.{value_later, value_start}
+use Rattle.upp_curve.proofs.affine_segment.PieceIn.{value_later, value_start}
 use Rattle.upp_curve.proofs.reading.piece_value.Goals as goal
 
 pub returns-in-Greater-clause-value : goal.returns-in-Greater-clause-value

@@ -1,6 +1,6 @@
 use Rattle.std.proofs.Common.{◌≡◌, subst, IfOk}
 use Rattle.upp_curve.specs.Steps.{IsWideLine, IsWideRead}
-use Rattle.affine_segment.proofs.PieceIn.{read_found}
+use Rattle.upp_curve.proofs.affine_segment.PieceIn.{read_found}
 use Rattle.upp_curve.proofs.Refusals.{wide_found, err_map}
 use Rattle.upp_curve.proofs.reading.read.Goals as goal
 

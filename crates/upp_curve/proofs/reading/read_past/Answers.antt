@@ -1,5 +1,5 @@
 use Rattle.std.proofs.Common.{◌≡◌, subst, IfOk}
-use Rattle.affine_segment.specs.Reading.{read}
+use Rattle.upp_curve.specs.affine_segment.Reading.{read}
 use Rattle.upp_curve.proofs.ByTail.{early_nonneg, later_value}
 use Rattle.upp_curve.proofs.reading.read_past.Goals as goal
 

@@ -1,5 +1,5 @@
 use Rattle.std.proofs.Common.{subst, sym, ◌+◌, drop}
-use Rattle.upp_curve.specs.rational.specs.Rational.{◌≤ℚ◌, int}
+use Rattle.min_plus.specs.rational.specs.Rational.{◌≤ℚ◌, int}
 use Rattle.std.proofs.Common.{pos}
 use Rattle.upp_limits.specs.Spans.{Span, spans}
 use Rattle.upp_limits.specs.Seen.{Knows}

@@ -1,5 +1,5 @@
 use Rattle.std.proofs.Common.{subst, sym, ◌+◌, drop, pos}
-use Rattle.upp_curve.specs.rational.specs.Rational.{◌≤ℚ◌, int}
+use Rattle.min_plus.specs.rational.specs.Rational.{◌≤ℚ◌, int}
 use Rattle.upp_limits.specs.Spans.{Span, spans}
 use Rattle.upp_limits.specs.Limits.{joined}
 use Rattle.upp_limits.specs.Gathered.{Gathers}

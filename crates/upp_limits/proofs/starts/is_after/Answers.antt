@@ -1,7 +1,7 @@
 use Rattle.std.proofs.Common.{subst, ◌∙◌}
-use Rattle.upp_curve.specs.rational.specs.Rational.{◌<ℚ◌, ◌≤ℚ◌}
+use Rattle.min_plus.specs.rational.specs.Rational.{◌<ℚ◌, ◌≤ℚ◌}
 use Rattle.upp_limits.specs.Long.{long_value}
-use Rattle.upp_curve.specs.rational.proofs.Compared.{not_less_out, iff_some, iff_trans}
+use Rattle.min_plus.specs.rational.proofs.Compared.{not_less_out, iff_some, iff_trans}
 use Rattle.upp_limits.proofs.LongCrosses.{after_is, surely_after, sum_parts, end_parts}
 use Rattle.upp_limits.proofs.starts.is_after.Goals as goal
 

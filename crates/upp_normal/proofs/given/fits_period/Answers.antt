@@ -1,7 +1,7 @@
 use Rattle.std.specs.Prelude.{◌↔◌, IsTrue}
 use Rattle.std.proofs.Common.{pos, subst, sym}
 use Rattle.upp_limits.specs.rational.specs.Rational.{◌+ℚ◌, ◌*ℚ◌, ◌≤ℚ◌, ◌<ℚ◌, int}
-use Rattle.upp_limits.specs.affine_segment.specs.declared.line.Piece.{Piece}
+use Rattle.upp_limits.specs.upp_curve.specs.declared.affine_segment.line.Piece.{Piece}
 use Rattle.upp_limits.specs.rational.proofs.Laws.{le_of_lt}
 use Rattle.upp_limits.specs.rational.proofs.Compared.{not_less_out}
 use Rattle.upp_normal.proofs.GivenCurves.{no_period, period_told}

@@ -1,7 +1,7 @@
 use Rattle.std.proofs.Common.{arith, ◌≡◌, length, ap, sym, subst, pos}
 use Rattle.std.proofs.lemmas.List.{length-append}
 use Rattle.upp_limits.specs.rational.specs.Rational.{int}
-use Rattle.upp_limits.specs.affine_segment.specs.Reading.{read}
+use Rattle.upp_limits.specs.upp_curve.specs.affine_segment.Reading.{read}
 use Rattle.upp_limits.specs.upp_curve.specs.Curve.{repeated}
 use Rattle.upp_limits.specs.upp_curve.specs.Unrolled.{upto, from}
 use Rattle.upp_limits.specs.upp_curve.specs.Kinds.{piece}

@@ -1,8 +1,8 @@
 use Rattle.std.proofs.Common.{ap, sym, subst, refl, ◌∙◌}
 use Rattle.upp_limits.specs.upp_curve.specs.declared.curve.Tail.TheVariants.{Periodic, Affine, Infinite}
-use Rattle.upp_limits.specs.affine_segment.specs.Reading.{read}
+use Rattle.upp_limits.specs.upp_curve.specs.affine_segment.Reading.{read}
 use Rattle.upp_limits.specs.upp_curve.specs.Curve.{repeated, value_at, HasSameValues}
-use Rattle.upp_limits.specs.affine_segment.specs.Pieces.{StartsAtZero}
+use Rattle.upp_limits.specs.upp_curve.specs.affine_segment.Pieces.{StartsAtZero}
 use Rattle.upp_limits.specs.upp_curve.specs.Normal.{TailFits}
 use Rattle.upp_normal.specs.Normalising.{raw_curve, HasValues, TailOnGrids, ended}
 use Rattle.upp_normal.specs.Room.{PiecesHaveRoom, TailHasRoom, TurnHasRoom}

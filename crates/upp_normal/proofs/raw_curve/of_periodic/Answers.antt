@@ -1,6 +1,6 @@
 use Rattle.std.proofs.Common.{arith, ◌∙◌, ◌≡◌, List, ◌∷◌}
-use Rattle.upp_limits.specs.affine_segment.specs.declared.line.Piece.{Piece}
-use Rattle.upp_limits.specs.affine_segment.specs.Reading.{read}
+use Rattle.upp_limits.specs.upp_curve.specs.declared.affine_segment.line.Piece.{Piece}
+use Rattle.upp_limits.specs.upp_curve.specs.affine_segment.Reading.{read}
 use Rattle.upp_limits.specs.upp_curve.specs.Curve.{repeated}
 use Rattle.upp_normal.proofs.NormaliseForm.{merged_list, grids_through, two_periods_list, two_periods_start}
 use Rattle.upp_normal.proofs.NormaliseRoomy.{lines_fit}

@@ -1,6 +1,6 @@
 use Rattle.std.proofs.Common.{subst, sym, ◌∙◌}
 use Rattle.upp_limits.specs.upp_curve.specs.Steady.{Repeats}
-use Rattle.upp_limits.specs.affine_segment.specs.Reading.{read}
+use Rattle.upp_limits.specs.upp_curve.specs.affine_segment.Reading.{read}
 use Rattle.upp_limits.specs.upp_curve.specs.Curve.{repeated}
 use Rattle.upp_normal.specs.Normalising.{IsShape, OnGridsUnlessLine}
 use Rattle.upp_limits.specs.upp_curve.proofs.Repeats.{repeated_rule}

@@ -5,7 +5,7 @@ use Rattle.upp_normal.specs.Unrolling.{TurnFits}
 use Rattle.upp_normal.proofs.NormaliseRank.{from_late}
 use Rattle.upp_normal.proofs.UnrollLoops.{counted_copies, counted_in, counted_out, no_copies_yet, one_turn_more, turn_kept}
 use Rattle.upp_normal.proofs.unrolling.with_copies.Goals as goal
-use Rattle.upp_limits.specs.affine_segment.proofs.PieceIn.{low_start}
+use Rattle.upp_limits.specs.upp_curve.proofs.affine_segment.PieceIn.{low_start}
 use Rattle.upp_limits.proofs.PieceCounts.{each_from, upto_early}
 
 pub loop-n-init : goal.loop-n-init

@@ -1,7 +1,7 @@
 use Rattle.std.specs.Prelude.{Some, ◌≡◌, slice_get}
 use Rattle.std.proofs.Common.{refl, ◌∙◌, subst, arith}
 use Rattle.std.proofs.lemmas.List.{with_items_is}
-use Rattle.broken_laws.specs.net_model.specs.NetRoutes.{routes_of}
+use Rattle.net_model.specs.NetRoutes.{routes_of}
 use Rattle.run_check.specs.Rows.{ChangesAt, Left}
 use Rattle.run_check.proofs.WalkSteps.{keeps_some, changed_lists}
 use Rattle.run_check.proofs.LeaveRows.{flows_long, leave_refused, leave_told, gone_known, unknown}

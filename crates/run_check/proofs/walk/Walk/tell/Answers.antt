@@ -1,7 +1,7 @@
 use Rattle.std.proofs.Common.{ap}
-use Rattle.net_cells.specs.run_laws.specs.declared.steps.Step.TheVariants as steps
-use Rattle.broken_laws.specs.net_model.specs.NetRoutes.{routes_of}
-use Rattle.run_measures.proofs.LevelSteps.{step_at}
+use Rattle.net_model.specs.run_laws.specs.declared.steps.Step.TheVariants as steps
+use Rattle.net_model.specs.NetRoutes.{routes_of}
+use Rattle.simulator.proofs.run_measures.LevelSteps.{step_at}
 use Rattle.run_check.proofs.Along.{stands, goes_by, goes_ok_by}
 use Rattle.run_check.proofs.walk.Walk.tell.Goals as goal
 

@@ -2,8 +2,8 @@ use Rattle.std.proofs.Common.{arith, sym, subst, refl, ap, ◌∙◌}
 use Rattle.rational.specs.Rational.{◌-ℚ◌, ◌<ℚ◌}
 use Rattle.rational.proofs.Linear.{with2}
 use Rattle.rational.proofs.Laws.{le_trans, le_of_lt}
-use Rattle.stated_runs.specs.Setups.{IsOpenAt, StaysTo}
-use Rattle.stated_runs.specs.TimeGrids.{IsTime}
+use Rattle.net_model.specs.stated_runs.Setups.{IsOpenAt, StaysTo}
+use Rattle.net_model.specs.stated_runs.TimeGrids.{IsTime}
 use Rattle.sim_servers.specs.Openings.{opening_for}
 use Rattle.sim_servers.proofs.GridSteps.{sum_fits, difference_fits, rest_is_time}
 use Rattle.sim_servers.proofs.StationSteps.{worked_time, after_work}

@@ -1,6 +1,6 @@
 use Rattle.std.specs.Prelude.{◌↔◌, IsTrue}
 use Rattle.std.proofs.Common.{sym, subst, true≢false}
-use Rattle.affine_segment.specs.Pieces.{Each}
+use Rattle.upp_curve.specs.affine_segment.Pieces.{Each}
 use Rattle.upp_curve.specs.Shapes.{IsFinitePiece}
 use Rattle.upp_curve.proofs.CurveShapes.{goes_on, finite_answer, not_finite}
 use Rattle.upp_curve.proofs.curve.Curve.is_finite.Goals as goal

@@ -2,7 +2,7 @@ use Rattle.std.specs.Prelude.{◌↔◌, IsTrue, Some, None}
 use Rattle.std.proofs.Common.{sym, subst, ap, ◌∙◌}
 use Rattle.min_plus.specs.rational.specs.Extended.{◌+ₑ◌}
 use Rattle.min_plus.specs.rational.specs.declared.Extended.TheVariants.{Fin}
-use Rattle.affine_segment.specs.Reading.{read}
+use Rattle.upp_curve.specs.affine_segment.Reading.{read}
 use Rattle.upp_curve.specs.Readable.{EachFits}
 use Rattle.upp_curve.specs.Shapes.{PiecesRise}
 use Rattle.upp_curve.proofs.RisingCurves.{IsEnd}

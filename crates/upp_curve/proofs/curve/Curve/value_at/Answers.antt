@@ -3,7 +3,7 @@ use Rattle.std.proofs.Common.{◌≡◌, ◌∙◌, ap, subst, IfOk, inl, inr}
 use Rattle.upp_curve.specs.declared.curve.Tail.TheVariants.{Periodic, Affine, Infinite}
 use Rattle.min_plus.specs.rational.specs.Rational.{int}
 use Rattle.min_plus.specs.rational.specs.Whole.{periods}
-use Rattle.affine_segment.specs.Reading.{read}
+use Rattle.upp_curve.specs.affine_segment.Reading.{read}
 use Rattle.upp_curve.specs.Curve.{repeated}
 use Rattle.upp_curve.specs.Steps.{IsWideRead, IsWidePast, IsWideValueAt}
 use Rattle.upp_curve.proofs.ByTail.{value_of, cut_late, cut_early, repeated_early, wide_of, not_later, is_later}

@@ -1,6 +1,0 @@
-use Rattle.std.proofs.Common.{◌∙◌}
-use Rattle.affine_segment.proofs.PieceIn.{le_test}
-use Rattle.affine_segment.proofs.reading.starts_by.Goals as goal
-
-pub returns : goal.returns
-returns c = c.le.ensures ∙ le_test c.args.p.now.x c.args.t

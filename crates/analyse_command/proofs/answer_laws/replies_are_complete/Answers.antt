@@ -1,5 +1,0 @@
-use Rattle.analyse_command.proofs.OneReply.{replies_are_complete}
-use Rattle.analyse_command.proofs.answer_laws.replies_are_complete.Goals as goal
-
-pub returns : goal.returns
-returns c = replies_are_complete

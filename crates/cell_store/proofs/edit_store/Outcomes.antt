@@ -1,0 +1,148 @@
+-- What a store answers to an edit, from what the steps on the way answer.
+use Rattle.std.proofs.Common.{◌≡◌, ◌≢◌, ℕ, ◌+◌, ◌≤◌, List, [], ◌∷◌, ◌++◌, length, sum_by, sym, ap, ◌∙◌, subst, refl, inl, inr}
+use Rattle.std.specs.Prelude.{Ok, Err}
+use Rattle.upp_limits.specs.declared.op_kind.OpFault.{OpFault}
+use Rattle.upp_limits.specs.declared.op_kind.OpFault.TheVariants as operator
+use Rattle.net_model.specs.declared.edit.Edit.{Edit}
+use Rattle.net_model.specs.declared.edit.Edit.TheVariants.{Undo}
+use Rattle.net_model.specs.Networks.{Net}
+use Rattle.net_model.specs.net_graph.Faults.{IsGraphFault}
+use Rattle.net_model.specs.declared.net_graph.placing.GraphFault.{GraphFault}
+use Rattle.net_model.specs.declared.net_graph.placing.GraphFault.TheVariants as graph
+use Rattle.net_cells.specs.declared.cell.Cell.{Cell}
+use Rattle.net_cells.proofs.Lists.{contains_has}
+use Rattle.net_cells.specs.Work.{work}
+use Rattle.net_cells.specs.declared.cell_table.fault.AnalysisFault.{AnalysisFault}
+use Rattle.net_cells.specs.declared.cell_table.fault.AnalysisFault.TheVariants as analysis
+use Rattle.net_edits.specs.declared.fault.EditFault.{EditFault}
+use Rattle.net_edits.specs.declared.fault.EditFault.TheVariants.{UnknownName, NameTaken, BadValue, LimitReached, Cycle, TooMany, TooWide, NothingToUndo, NoMemory}
+use Rattle.net_edits.specs.Edited.{edited}
+use Rattle.net_edits.specs.Replies.{IsReply, IsOverNone}
+use Rattle.net_edits.proofs.OverNone.{within_none}
+use Rattle.cell_store.specs.Edits.{IsFirstTouched, RefusesFor}
+use Rattle.cell_store.proofs.Fronts.{are_touched}
+use Rattle.cell_store.specs.edit_store.Stored.{Stored, AreTouched, IsAdvanced, IsBack}
+use Rattle.cell_store.specs.edit_store.Applied.{Gives, IsTaken, IsTakenBack, IsCellOver, IsRefused, IsEvaluated, IsHidden, IsUnplanned}
+use Rattle.cell_store.specs.edit_store.Faults.{graph_fault, analysis_fault}
+use Rattle.cell_store.proofs.edit_store.Steps.{same_touched, gives_one}
+
+module _ {V : Type 0} where
+  -- ---- taken
+  pub taken : (old new : Stored V) (edit : Edit) (net : Net) (touched : List Cell) (cells : ℕ) → Gives old.present edit net
+      → AreTouched old.present net touched → IsAdvanced old net new → cells ≡ length touched → IsTaken old edit cells new
+  taken old new edit net touched cells gives are advanced count = record {
+    networks = ap (λ (ns : List Net). ns ++ new.present ∷ []) advanced.before;
+    gives = subst (λ (n : Net). Gives old.present edit n) (sym advanced.present) gives;
+    touched = touched;
+    are = subst (λ (n : Net). AreTouched old.present n touched) (sym advanced.present) are;
+    count = count;
+  }
+
+  pub taken_back : (old new : Stored V) → IsBack old new → IsTakenBack old 0 new
+  taken_back old new back = record {
+    networks = ap (λ (ns : List Net). ns ++ old.present ∷ []) back.before;
+    count = refl;
+  }
+
+  -- ---- refused
+  pub cell_over : (old : Stored V) (edit : Edit) (net : Net) (touched : List Cell) (c : Cell) (fault : OpFault)
+      → Gives old.present edit net → AreTouched old.present net touched → IsFirstTouched net touched c fault
+      → IsCellOver old.present edit c fault
+  cell_over old edit net touched c fault gives are first = record {
+    net = net;
+    gives = gives;
+    order = are.order;
+    servers = are.servers;
+    all_touched = touched;
+    are = are;
+    touched = are_touched old.present net _ touched are.are c (contains_has touched c first.among);
+    over = first.first are.order are.servers;
+  }
+
+  pub cell_refused : (old : Stored V) (edit : Edit) (net : Net) (touched : List Cell) (why : AnalysisFault) → edit ≢ Undo
+      → Gives old.present edit net → AreTouched old.present net touched → RefusesFor (IsFirstTouched net touched) why
+      → IsRefused old edit (analysis_fault why)
+  cell_refused old edit net touched (analysis.TooMany c) other gives are first =
+      inr (cell_over old edit net touched c operator.TooMany gives are first)
+  cell_refused old edit net touched (analysis.TooWide c) other gives are first =
+      inr (cell_over old edit net touched c operator.TooWide gives are first)
+  cell_refused old edit net touched analysis.NoMemory other gives are first = other
+
+  pub unplanned_refused : (old : Stored V) (edit : Edit) (why : EditFault) → edit ≢ Undo
+      → IsUnplanned old.present edit why → IsRefused old edit why
+  unplanned_refused old edit (UnknownName name) other r = r
+  unplanned_refused old edit (NameTaken name) other r = r
+  unplanned_refused old edit BadValue other r = r
+  unplanned_refused old edit LimitReached other r = r
+  unplanned_refused old edit (Cycle walk) other r = r
+  unplanned_refused old edit (TooMany cell) other r = inl r
+  unplanned_refused old edit (TooWide cell) other r = inl r
+  unplanned_refused old edit NothingToUndo other r = absurd r
+  unplanned_refused old edit NoMemory other r = other
+
+  -- ---- what is counted
+  pub counts : (old new : Stored V) (net : Net) (touched others : List Cell) (before after : ℕ) → IsAdvanced old net new
+      → AreTouched old.present net touched → AreTouched old.present new.present others
+      → after ≡ before + sum_by (work net) touched → after ≡ before + sum_by (work new.present) others
+  counts old new net touched others before after advanced are them exact =
+      let same : touched ≡ others =
+      same_touched old.present net touched others are
+      (subst (λ (n : Net). AreTouched old.present n others) advanced.present them) in
+      exact ∙ ap (λ (cs : List Cell). before + sum_by (work net) cs) same
+      ∙ ap (λ (n : Net). before + sum_by (work n) others) (sym advanced.present)
+
+  -- ---- looked at
+  pub reply_hidden : (old : Stored V) (edit : Edit) (why : EditFault) → ((c : Cell) → why ≢ TooMany c)
+      → ((c : Cell) → why ≢ TooWide c) → IsReply (edited old.present edit) (Err why) → IsHidden old edit why
+  reply_hidden old edit (UnknownName name) many wide r = r
+  reply_hidden old edit (NameTaken name) many wide r = r
+  reply_hidden old edit BadValue many wide r = r
+  reply_hidden old edit LimitReached many wide r = r
+  reply_hidden old edit (Cycle walk) many wide r = absurd r
+  reply_hidden old edit (TooMany cell) many wide r = absurd (many cell refl)
+  reply_hidden old edit (TooWide cell) many wide r = absurd (wide cell refl)
+  reply_hidden old edit NothingToUndo many wide r = absurd r
+  reply_hidden old edit NoMemory many wide r = tt
+
+-- ---- what is counted at most
+pub bounds : (present : Net) (edit : Edit) (net other : Net) (touched others : List Cell) (before after : ℕ)
+    → Gives present edit net → AreTouched present net touched → Gives present edit other
+    → AreTouched present other others → after ≤ before + sum_by (work net) touched
+    → after ≤ before + sum_by (work other) others
+bounds present edit net other touched others before after gives are gives_other them most =
+    let one : net ≡ other = gives_one present edit net other gives gives_other in
+    let same : touched ≡ others =
+    same_touched present net touched others are (subst (λ (n : Net). AreTouched present n others) (sym one) them) in
+    subst (λ (n : Net). after ≤ before + sum_by (work n) others) one
+    (subst (λ (cs : List Cell). after ≤ before + sum_by (work net) cs) same most)
+
+pub evaluated : (present : Net) (edit : Edit) (net : Net) (touched : List Cell) → Gives present edit net
+    → AreTouched present net touched → IsEvaluated present edit
+evaluated present edit net touched gives are =
+    record { net = net; gives = gives; order = are.order; servers = are.servers }
+
+-- an undo gives no network
+pub undo_gives_none : (present net : Net) → ¬ (Gives present Undo net)
+undo_gives_none present net g = let bad : edited present Undo ≡ Ok g.edited = g.is in cc
+
+-- ---- planned
+pub cycle_unplanned : (present : Net) (edit : Edit) (net : Net) (why : GraphFault) → Gives present edit net
+    → IsGraphFault net why → IsUnplanned present edit (graph_fault why)
+cycle_unplanned present edit net (graph.Cycle walk) gives cycle = record { net = net; gives = gives; cycle = cycle }
+cycle_unplanned present edit net graph.NoMemory gives cycle = tt
+
+pub reply_unplanned : (present : Net) (edit : Edit) (why : EditFault) → IsReply (edited present edit) (Err why)
+    → IsUnplanned present edit why
+reply_unplanned present edit (UnknownName name) r = r
+reply_unplanned present edit (NameTaken name) r = r
+reply_unplanned present edit BadValue r = r
+reply_unplanned present edit LimitReached r = r
+reply_unplanned present edit (Cycle walk) r = absurd r
+reply_unplanned present edit (TooMany cell) r = r
+reply_unplanned present edit (TooWide cell) r = r
+reply_unplanned present edit NothingToUndo r = absurd r
+reply_unplanned present edit NoMemory r = tt
+
+-- ---- want of memory
+pub given_none : (present net : Net) (edit : Edit) → Gives present edit net → IsOverNone (edited present edit)
+given_none present net edit gives = within_none (edited present edit) gives.edited gives.is gives.within

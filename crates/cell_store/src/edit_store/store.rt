@@ -1,0 +1,280 @@
+//! The store.
+
+use crate::edit_store::faults::analysis_fault;
+use crate::edit_store::plan::{Planned, lost_cells, plan};
+use crate::edit_store::replaced::{Replaced, no_network, put_back, replaced_by};
+use crate::version_table::Versions;
+use crate::{Values, edited_values, made_anew};
+use net_cells::cell_table::{AnalysisFault, CellValue, Evaluator, Table};
+use net_cells::{Cell, cells};
+use net_edits::{EditFault, edited_network};
+use net_model::{Done, Edit, Network};
+use std::alloc::Global;
+use std::marker::Model;
+use std::mem::replace;
+
+/// Networks, each edited from the one before, and the values of their cells: the present one can be edited, and given
+/// up for the one before. Of those before the present one it keeps what each edit replaced.
+#[derive(Drop)]
+pub struct Store<V: CellValue + Drop> {
+    alloc: Global,
+    replaced: Vec<Replaced>,
+    present: Network,
+    values: Values<V>,
+}
+
+impl<V: CellValue + Drop> Model for Store<V> {
+    ghost use Rattle.cell_store.specs.edit_store.Stored.{Stored};
+    ghost use Rattle.cell_store.specs.edit_store.Replaced.{networks_before, IsKept};
+
+    ghost Value = { Stored V };
+
+    ghost view = { λ s. record {
+      before = networks_before s.replaced.items s.present;
+      present = s.present;
+      values = s.values.versions;
+    } };
+
+    ghost invariant = { λ s. IsKept V.meaning s.replaced.items s.present s.values.versions };
+}
+
+impl<V: CellValue + Drop> Table<V> for Store<V> {
+    ghost use Rattle.cell_store.specs.Placed.{placed};
+
+    ghost at = { λ s. placed V.meaning s.values.newest };
+
+    fn value(&self, cell: Cell) -> Option<&V> {
+        self.values.value(cell)
+    }
+}
+
+impl<V: CellValue + Drop> Store<V> {
+    ghost use Rattle.std.specs.Prelude.{◌≡◌, ◌≢◌, ◌+◌, ◌-◌, ◌^◌, ◌<◌, ◌≤◌, ℕ, List, [], sum_by, length, IfOk, IfErr};
+    ghost use Rattle.std.specs.Prelude.{OnOk, OnErr, MatchOption};
+    ghost use Rattle.net_model.specs.declared.edit.Edit.TheVariants.{Undo};
+    ghost use Rattle.net_model.specs.Networks.{Net};
+    ghost use Rattle.net_model.specs.Orders.{IsOrder};
+    ghost use Rattle.net_cells.specs.declared.cell.Cell.{Cell};
+    ghost use Rattle.net_cells.specs.Equations.{MeetsEquations};
+    ghost use Rattle.net_cells.specs.Order.{evaluation_order};
+    ghost use Rattle.net_cells.specs.Work.{work};
+    ghost use Rattle.net_cells.specs.MemoryEnds.{MemoryEnds};
+    ghost use Rattle.cell_store.specs.cell_changes.Slots.{slots};
+    ghost use Rattle.cell_store.specs.Edits.{IsFirst, IsFirstTouched, RefusesFor, EditEnds};
+    ghost use Rattle.cell_store.specs.edit_store.Stored.{AreTouched, AreLost, IsStored, IsAdvanced, IsBack};
+    ghost use Rattle.cell_store.specs.edit_store.Replaced.{put_back};
+    ghost use Rattle.cell_store.specs.edit_store.Applied.{Gives, IsApplied, IsTaken, IsRefused, IsEvaluated, IsShown, IsHidden};
+    ghost use Rattle.cell_store.specs.edit_store.Applied.{EndsInEdit};
+    ghost use Rattle.cell_store.specs.edit_store.Faults.{EditWants};
+
+    /// A store of one network, by the order of its servers: each cell's value is made once. Refused for the first cell
+    /// with an operator over a limit, or where there is no memory, and then each operator that is counted is within its
+    /// limits. It counts the work of all cells, and no more than that where it is refused.
+    pub fn new<E: Evaluator<V>>(
+        alloc: Global,
+        net: Network,
+        order: &[u32],
+        eval: &mut E,
+    ) -> Result<Store<V>, AnalysisFault>
+        requires { IsOrder net order.now }
+        ensures first { IfOk result (λ s. s.before ≡ []) }
+        ensures present { IfOk result (λ s. s.present ≡ net) }
+        ensures meets { IfOk result (λ s. MeetsEquations net (⟦<Store<V> as Table<V>>⟧.at s)) }
+        ensures refused { IfErr result (RefusesFor (IsFirst net)) }
+        ensures memory { result ≡ Err AnalysisFault.NoMemory →
+            MemoryEnds net (evaluation_order net order.now) (E.count eval.new - E.count eval.old) }
+        ensures exact { OnOk result
+            (E.count eval.new ≡ E.count eval.old + sum_by (work net) (evaluation_order net order.now)) }
+        ensures rises { E.count eval.old ≤ E.count eval.new }
+        ensures within { E.count eval.new ≤ E.count eval.old + sum_by (work net) (evaluation_order net order.now) }
+        ensures same { E.counter eval.new ≡ E.counter eval.old }
+    {
+        let Ok(mut values) = Values::new(alloc) else {
+            return Err(AnalysisFault::NoMemory);
+        };
+        let Ok(all) = cells(alloc, &net, order) else {
+            return Err(AnalysisFault::NoMemory);
+        };
+        made_anew(alloc, &mut values, &net, &all, eval)?;
+        Ok(Store {
+            alloc,
+            replaced: Vec::new(alloc),
+            present: net,
+            values,
+        })
+    }
+
+    /// The present network. The store, as a table, meets its equations.
+    pub fn network(&self) -> &Network
+        ensures network { result.now ≡ self.now.present }
+        ensures meets { MeetsEquations self.now.present (⟦<Store<V> as Table<V>>⟧.at self.now) }
+    {
+        &self.present
+    }
+
+    /// How many networks were before.
+    pub fn depth(&self) -> u32
+        ensures { result ≡ length self.now.before }
+    {
+        self.values.versions().depth()
+    }
+
+    /// The values of all networks, a version each, in their order: each cell of a network has its value at its place,
+    /// and other cells have none. A version has a place for each cell that any network may have, so `slot` of such a cell
+    /// may be read.
+    pub fn versions(&self) -> &Versions<V>
+        ensures versions { result.now ≡ self.now.values }
+        ensures room { self.now.values.cells ≡ slots }
+        ensures each { IsStored V.meaning self.now.before self.now.present self.now.values }
+    {
+        self.values.versions()
+    }
+
+    // Goes on to a network, by what was replaced, by the cells that it touches and those that are gone; refused for the
+    // first cell with an operator over a limit, or where there is no memory, and then all is as it was. It counts the
+    // work of the touched cells, and no more than that where it is refused.
+    fn advance<E: Evaluator<V>>(
+        &mut self,
+        net: Network,
+        replaced: Replaced,
+        gone: &[Cell],
+        touched: &[Cell],
+        eval: &mut E,
+    ) -> Result<(), AnalysisFault>
+        requires room { length self.old.before < 2 ^ 32 - 1 }
+        requires back { put_back replaced net ≡ self.old.present }
+        requires touched { AreTouched self.old.present net touched.now }
+        requires gone { AreLost self.old.present net gone.now }
+        ensures advanced { OnOk result (IsAdvanced self.old net self.new) }
+        ensures kept { OnErr result (self.new ≡ self.old) }
+        ensures refused { IfErr result (RefusesFor (IsFirstTouched net touched.now)) }
+        ensures memory { result ≡ Err AnalysisFault.NoMemory → EditEnds net touched.now
+            (⟦<Store<V> as Table<V>>⟧.at self.old) (E.count eval.new - E.count eval.old) }
+        ensures exact { OnOk result (E.count eval.new ≡ E.count eval.old + sum_by (work net) touched.now) }
+        ensures rises { E.count eval.old ≤ E.count eval.new }
+        ensures within { E.count eval.new ≤ E.count eval.old + sum_by (work net) touched.now }
+        ensures same { E.counter eval.new ≡ E.counter eval.old }
+    {
+        self.present.keeps();
+        if let Err(_) = self.replaced.reserve(1) {
+            return Err(AnalysisFault::NoMemory);
+        }
+        edited_values(self.alloc, &mut self.values, &net, gone, touched, eval)?;
+        self.present = net;
+        match self.replaced.push(replaced) {
+            Ok(()) => Ok(()),
+            Err(_) => unreachable!(),
+        }
+    }
+
+    // Goes back to the network before; none exactly where there was none. It takes no memory.
+    fn undo(&mut self) -> Option<()>
+        ensures { MatchOption result ((self.old.before ≡ []) × (self.new ≡ self.old)) (λ _. IsBack self.old self.new) }
+    {
+        let replaced = self.replaced.pop()?;
+        let present = replace(&mut self.present, no_network(self.alloc));
+        self.present = put_back(present, replaced);
+        self.values.undo()
+    }
+
+    // An edit that is no undo: how many cells it touches.
+    fn step<E: Evaluator<V>>(&mut self, edit: &Edit, eval: &mut E) -> Result<u32, EditFault>
+        requires room { length self.old.before < 2 ^ 32 - 1 }
+        requires edit { edit.now ≢ Undo }
+        ensures taken { IfOk result (λ cells. IsTaken self.old edit.now cells self.new) }
+        ensures kept { OnErr result (self.new ≡ self.old) }
+        ensures refused { IfErr result (IsRefused self.old edit.now) }
+        ensures memory { IfErr result (EditWants (EndsInEdit self.old.present edit.now
+            (⟦<Store<V> as Table<V>>⟧.at self.old) (E.count eval.new - E.count eval.old))) }
+        ensures exact { OnOk result ((touched : List Cell) → AreTouched self.old.present self.new.present touched
+            → E.count eval.new ≡ E.count eval.old + sum_by (work self.new.present) touched) }
+        ensures rises { E.count eval.old ≤ E.count eval.new }
+        ensures within { (net : Net) (touched : List Cell) → Gives self.old.present edit.now net
+            → AreTouched self.old.present net touched
+            → E.count eval.new ≤ E.count eval.old + sum_by (work net) touched }
+        ensures idle { ¬ (IsEvaluated self.old.present edit.now) → E.count eval.new ≡ E.count eval.old }
+        ensures same { E.counter eval.new ≡ E.counter eval.old }
+    {
+        let Planned { net, touched } = plan(self.alloc, &self.present, edit)?;
+        let gone = lost_cells(self.alloc, &self.present, edit, &net)?;
+        let replaced = replaced_by(&self.present, edit)?;
+        match self.advance(net, replaced, &gone, &touched, eval) {
+            Ok(()) => Ok(touched.len() as u32),
+            Err(fault) => Err(analysis_fault(fault)),
+        }
+    }
+
+    /// Makes an edit: on success the store has the edited network, as a table it meets that network's equations, and
+    /// the answer tells how many cells the edit touched; an undo goes back to the network before, touches none and
+    /// takes no memory. Refused for the first cause of those that `EditFault` lists, and then all is as it was; where
+    /// that is want of memory, each operator that is counted is within its limits, and so is the curve that the edit
+    /// makes. Exactly the work of the touched cells is counted, no more than that where the edit is refused, and nothing
+    /// where there is no edited network to be evaluated.
+    pub fn apply<E: Evaluator<V>>(&mut self, edit: &Edit, eval: &mut E) -> Result<Done, EditFault>
+        requires { edit.now ≢ Undo → length self.old.before < 2 ^ 32 - 1 }
+        ensures applied { IfOk result (λ done. IsApplied self.old edit.now done.cells self.new) }
+        ensures meets { OnOk result (MeetsEquations self.new.present (⟦<Store<V> as Table<V>>⟧.at self.new)) }
+        ensures kept { OnErr result (self.new ≡ self.old) }
+        ensures refused { IfErr result (IsRefused self.old edit.now) }
+        ensures memory { IfErr result (EditWants (EndsInEdit self.old.present edit.now
+            (⟦<Store<V> as Table<V>>⟧.at self.old) (E.count eval.new - E.count eval.old))) }
+        ensures exact { OnOk result (edit.now ≢ Undo → (touched : List Cell)
+            → AreTouched self.old.present self.new.present touched
+            → E.count eval.new ≡ E.count eval.old + sum_by (work self.new.present) touched) }
+        ensures rises { E.count eval.old ≤ E.count eval.new }
+        ensures within { (net : Net) (touched : List Cell) → Gives self.old.present edit.now net
+            → AreTouched self.old.present net touched
+            → E.count eval.new ≤ E.count eval.old + sum_by (work net) touched }
+        ensures idle { ¬ (IsEvaluated self.old.present edit.now) → E.count eval.new ≡ E.count eval.old }
+        ensures same { E.counter eval.new ≡ E.counter eval.old }
+    {
+        match edit {
+            Edit::Undo => {
+                let undone = self.undo();
+                let _present = self.network();
+                match undone {
+                    Some(()) => Ok(Done { cells: 0 }),
+                    None => Err(EditFault::NothingToUndo),
+                }
+            }
+            _ => {
+                let cells = self.step(edit, eval)?;
+                let _present = self.network();
+                Ok(Done { cells })
+            }
+        }
+    }
+
+    // The network before the present one.
+    fn last(&self) -> Result<Network, EditFault>
+        ensures shown { IfOk result (λ net. IsShown self.now Undo net) }
+        ensures hidden { IfErr result (IsHidden self.now Undo) }
+    {
+        match self.replaced.last() {
+            Some(replaced) => {
+                let present = self.present.copy()?;
+                let replaced = replaced.copy()?;
+                Ok(put_back(present, replaced))
+            }
+            None => Err(EditFault::NothingToUndo),
+        }
+    }
+
+    /// The network that an edit makes of the present one, whether or not that has a cycle or a cell over a limit; for
+    /// an undo the network before; and where the curve that the edit makes is over a limit, the present network, which
+    /// has the same names. Refused for the same causes as `apply`, but for a cycle and a cell over a limit.
+    pub fn edited(&self, edit: &Edit) -> Result<Network, EditFault>
+        ensures shown { IfOk result (IsShown self.now edit.now) }
+        ensures hidden { IfErr result (IsHidden self.now edit.now) }
+    {
+        match edit {
+            Edit::Undo => self.last(),
+            _ => match edited_network(self.alloc, &self.present, edit) {
+                Ok(net) => Ok(net),
+                Err(EditFault::TooMany(_)) => Ok(self.present.copy()?),
+                Err(EditFault::TooWide(_)) => Ok(self.present.copy()?),
+                Err(fault) => Err(fault),
+            },
+        }
+    }
+}

@@ -1,9 +1,0 @@
-use Rattle.std.proofs.Common.{◌≡◌, drop}
-use Rattle.window_numbers.specs.net_model.specs.Networks.{NetServer}
-use Rattle.window_numbers.specs.net_model.specs.Views.{servers_of}
-use Rattle.window_numbers.specs.sim_bounds.specs.Horizons.{latest_of}
-use Rattle.check_gauge.proofs.times.longest.Given as goal
-
--- that of the servers from number i on
-abbrev pub invariant-loop-i : goal.invariant-loop-i
-invariant-loop-i l = l.longest ≡ latest_of (λ (s : NetServer). s.link) (servers_of (drop l.i l.servers))

@@ -1,9 +1,0 @@
-use Rattle.std.proofs.Common.{◌≡◌, ◌≤◌, ◌+◌, ◌*◌, ◌^◌, drop}
-use Rattle.check_gauge.specs.Runs.{total_bits}
-use Rattle.check_gauge.proofs.times.total_bits.Given as goal
-
-abbrev pub invariant-loop-step : goal.invariant-loop-step
-invariant-loop-step l = record {
-  sum : l.bits + total_bits (drop l.step-index l.steps) ≡ total_bits l.steps;
-  small : l.bits ≤ l.step-index * 2 ^ 32;
-}

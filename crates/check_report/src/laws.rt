@@ -1,9 +1,0 @@
-//! Laws of the report. Each is the contract of a function that does nothing.
-
-ghost use Rattle.check_report.specs.CheckLaws.{EquationsGiveOneCheckReport};
-
-/// There is one report on what is found in a lawful run of a network that has an order, whatever table meets its
-/// equations.
-pub fn equations_give_one_check_report()
-    ensures { EquationsGiveOneCheckReport }
-{}

@@ -1,8 +1,0 @@
-use Rattle.closure_laws.proofs.StarFolding.{star_of_least, closure_of_set_back}
-use Rattle.closure_laws.proofs.star_folds.Goals as goal
-
-pub returns-clause-least : goal.returns-clause-least
-returns-clause-least c = star_of_least
-
-pub returns-clause-closure : goal.returns-clause-closure
-returns-clause-closure c = closure_of_set_back

@@ -1,0 +1,161 @@
+-- The reply on a network and edits, and its steps.
+use Rattle.std.proofs.Common.{◌≡◌, ◌≢◌, ℕ, ◌+◌, ◌≤◌, List, [], map, refl, sym, ap, subst, arith}
+use Rattle.std.specs.Prelude.{Result, Ok, Err, IfOk}
+use Rattle.upp_limits.specs.LimitTest.{fault_of}
+use Rattle.upp_limits.specs.declared.op_kind.OpFault.{OpFault}
+use Rattle.upp_limits.specs.declared.own_limits.OverLimit.{OverLimit}
+use Rattle.net_model.specs.declared.edit.Edit.{Edit}
+use Rattle.net_model.specs.Accepted.{IsAccepted}
+use Rattle.net_model.specs.Networks.{Net}
+use Rattle.net_model.specs.Orders.{IsOrder}
+use Rattle.net_model.specs.Walks.{IsCycle}
+use Rattle.net_model.proofs.net_graph.OneOrders.{one_order}
+use Rattle.net_model.proofs.net_graph.Returns.{order_or_cycle}
+use Rattle.report_text.specs.net_cells.specs.declared.cell.Cell.{Cell}
+use Rattle.report_text.specs.net_cells.specs.FirstOver.{FirstOver}
+use Rattle.report_text.specs.net_cells.specs.Equations.{MeetsEquations}
+use Rattle.report_text.specs.net_cells.specs.Meanings.{Meaning, CellTable}
+use Rattle.input_texts.specs.table_text.EditRows.{edit_view}
+use Rattle.cell_store.specs.Edits.{IsFirst}
+use Rattle.cell_store.specs.Placed.{placed}
+use Rattle.cell_store.specs.edit_store.Stored.{Stored, IsStored}
+use Rattle.report_text.specs.CellWords.{server_name, cell_words}
+use Rattle.report_text.specs.declared.json_report.form.Form.{Form}
+use Rattle.commands.specs.edit_report.Said.{EditSaid}
+use Rattle.command_replies.specs.declared.answer.Answer.{Answer}
+use Rattle.command_replies.specs.CellWork.{work_of_cells}
+use Rattle.command_replies.specs.OnFiles.{IsNetOf}
+use Rattle.command_replies.specs.Replies.{Reply, goes_round, cell_over}
+use Rattle.command_replies.specs.View.{status_of}
+use Rattle.commands.specs.edit.NetHistories.{NetHistory, begun, history_of}
+use Rattle.commands.specs.edit.Answered.{AreAnswered}
+use Rattle.commands.specs.edit.OnEdits.{edit_report, AreReported, IsReplyOnEdits, Cyclic, CellOver, Reported}
+use Rattle.commands.specs.edit.EditCounts.{WorkOfEdits, CountsOnEdits}
+use Rattle.commands.proofs.edit.OneRow.{analysed}
+
+-- ---- replies
+pub on_over : (form : Form) (net : Net) (edits : List Edit) (order : List ℕ) (cell : Cell) (limit : OverLimit) (reply : Reply)
+    → IsAccepted net → IsOrder net order → FirstOver net order cell (fault_of limit)
+    → reply ≡ cell_over limit (cell_words net cell) → IsReplyOnEdits form net edits reply
+on_over form net edits order cell limit reply accepted ordered first is =
+    λ edits_file edits_bytes asked net_file net_bytes reads.
+    let gives : IsNetOf net_bytes net = record { reads = reads; accepted = accepted } in
+    CellOver (map edit_view edits) asked limit
+    (record { net = net; gives = gives; order = order; ordered = ordered; cell = cell; first = first; is = is })
+
+pub on_cycle : (form : Form) (net : Net) (edits : List Edit) (walk : List ℕ) (reply : Reply) → IsAccepted net → IsCycle net walk
+    → reply ≡ goes_round (map (server_name net) walk) → IsReplyOnEdits form net edits reply
+on_cycle form net edits walk reply accepted cycle is =
+    λ edits_file edits_bytes asked net_file net_bytes reads.
+    let gives : IsNetOf net_bytes net = record { reads = reads; accepted = accepted } in
+    Cyclic (map edit_view edits) asked
+    (record { net = net; gives = gives; walk = walk; cycle = cycle; is = is })
+
+pub on_report : (form : Form) (net : Net) (edits : List Edit) (reply : Reply) → IsAccepted net
+    → ((last : Net) × (at : CellTable) × AreReported form net edits last at reply) → IsReplyOnEdits form net edits reply
+on_report form net edits reply accepted report =
+    λ edits_file edits_bytes asked net_file net_bytes reads.
+    let gives : IsNetOf net_bytes net = record { reads = reads; accepted = accepted } in
+    Reported
+    (report.0, report.1, record { first = net; gives = gives; edits = edits; asked = asked; report = report.2 })
+
+-- a call that ends with a report has what its answer has
+pub at_zero : {E : Type 0} (r : Result Answer E) (P : Type 0) → IfOk r (λ a. P) → status_of r ≡ 0 → P
+at_zero (Ok a) P holds zero = holds
+at_zero (Err e) P holds zero = absurd (cc)
+
+-- ---- steps
+pub none_on_net : (net : Net) (edits : List Edit) (status count : ℕ) → status ≢ 0
+    → CountsOnEdits net edits status count count
+none_on_net net edits status count other = record {
+  rises = omega arith;
+  most = λ order all done o w. omega arith;
+  report = λ zero order all done o w. absurd (other zero);
+  round = λ walk c. refl;
+}
+
+-- first those of all cells, and then those of the edits
+pub record RowsSteps (net : Net) (edits : List Edit) (status mid new : ℕ) : Type 0 where
+  pub rises : mid ≤ new
+  pub most : (all done : ℕ) → WorkOfEdits (begun net) edits all done → new ≤ mid + all
+  pub least : status ≡ 0 → (all done : ℕ) → WorkOfEdits (begun net) edits all done → mid + done ≤ new
+
+pub by_order : (net : Net) (edits : List Edit) (order : List ℕ) (status old mid new : ℕ) → IsAccepted net
+    → IsOrder net order → mid ≡ old + work_of_cells net order → RowsSteps net edits status mid new
+    → CountsOnEdits net edits status old new
+by_order net edits order status old mid new a o cells rows = record {
+  rises = omega (arith, rows.rises, cells);
+  most = λ other all done p w.
+      let same = one_order net order other o p in
+      let most = rows.most all done w in
+      subst (λ (xs : List ℕ). new ≤ old + (work_of_cells net xs + all)) same (omega (arith, most, cells));
+  report = λ zero other all done p w.
+      let same = one_order net order other o p in
+      let least = rows.least zero all done w in
+      subst (λ (xs : List ℕ). old + (work_of_cells net xs + done) ≤ new) same (omega (arith, least, cells));
+  round = λ walk c. absurd (order_or_cycle.no_cycle net order walk a o c);
+}
+
+-- or only some of those of the cells, and no report
+pub by_some_cells : (net : Net) (edits : List Edit) (order : List ℕ) (status old new : ℕ) → IsAccepted net
+    → IsOrder net order → old ≤ new → new ≤ old + work_of_cells net order → status ≢ 0
+    → CountsOnEdits net edits status old new
+by_some_cells net edits order status old new a o rises within other = record {
+  rises = rises;
+  most = λ xs all done p w.
+      let same = one_order net order xs o p in
+      subst (λ (ys : List ℕ). new ≤ old + (work_of_cells net ys + all)) same (omega (arith, within));
+  report = λ zero xs all done p w. absurd (other zero);
+  round = λ walk c. absurd (order_or_cycle.no_cycle net order walk a o c);
+}
+
+-- ---- a network and its copy, which a store takes
+pub first_of_copy : (net copied : Net) (order : List ℕ) (cell : Cell) (fault : OpFault) → copied ≡ net → IsOrder net order
+    → IsFirst copied cell fault → FirstOver net order cell fault
+first_of_copy net copied order cell fault same ordered first =
+    subst (λ (n : Net). IsFirst n cell fault) same first order ordered
+
+-- some steps of the cells of the copy, and no report
+pub by_cells_of_copy : (net copied : Net) (edits : List Edit) (order : List ℕ) (status old new : ℕ) → copied ≡ net
+    → IsAccepted net → IsOrder net order → old ≤ new → new ≤ old + work_of_cells copied order → status ≢ 0
+    → CountsOnEdits net edits status old new
+by_cells_of_copy net copied edits order status old new same a o rises within other =
+    by_some_cells net edits order status old new a o rises
+    (subst (λ (n : Net). new ≤ old + work_of_cells n order) same within) other
+
+-- the status of want of memory
+pub no_memory : (status : ℕ) → status ≡ 5 → status ≢ 0
+no_memory status memory zero = absurd (cc)
+
+-- ---- a report
+-- the networks of a store of one network alone
+pub only_one : {V : Type 0} (s : Stored V) → s.before ≡ [] → history_of s ≡ begun s.present
+only_one s none = ap (λ (ns : List Net). let h : NetHistory = record { before = ns; present = s.present } in h) none
+
+pub reported_is : {V : Type 0} (form : Form) (meaning : V → Meaning) (first last : Stored V) (edits : List Edit)
+    (answers : List EditSaid) (reply : Reply) → first.before ≡ [] → IsAccepted first.present
+    → IsStored meaning first.before first.present first.values
+    → AreAnswered (history_of first) edits answers (history_of last) → IsAccepted last.present
+    → IsStored meaning last.before last.present last.values
+    → MeetsEquations last.present (placed meaning last.values.newest)
+    → reply ≡ edit_report form last.present (placed meaning last.values.newest) answers
+    → (net : Net) × (at : CellTable) × AreReported form first.present edits net at reply
+reported_is {V} form meaning first last edits answers reply none accepted stored answered accepted_last stored_last meets is =
+    let report : AreReported form first.present edits last.present (placed meaning last.values.newest) reply = record {
+      table = placed meaning first.values.newest;
+      analysed = analysed meaning first.present first.values.newest accepted stored.now;
+      answers = answers;
+      last = history_of last;
+      answered = subst (λ (h : NetHistory). AreAnswered h edits answers (history_of last)) (only_one first none) answered;
+      present = refl;
+      shown = analysed meaning last.present last.values.newest accepted_last stored_last.now;
+      meets = meets;
+      is = is;
+    } in
+    (last.present, placed meaning last.values.newest, report)
+
+-- the work of edits of a store of one network alone
+pub work_of_begun : {V : Type 0} (s : Stored V) (edits : List Edit) (all done : ℕ) → s.before ≡ []
+    → WorkOfEdits (begun s.present) edits all done → WorkOfEdits (history_of s) edits all done
+work_of_begun s edits all done none w =
+    subst (λ (h : NetHistory). WorkOfEdits h edits all done) (sym (only_one s none)) w

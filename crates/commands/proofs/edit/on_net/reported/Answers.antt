@@ -1,0 +1,40 @@
+use Rattle.std.proofs.Common.{List, ℕ, map, ap, ◌∙◌, subst}
+use Rattle.net_model.specs.Accepted.{IsAccepted}
+use Rattle.net_model.specs.Networks.{Net}
+use Rattle.cell_store.specs.Placed.{placed}
+use Rattle.report_text.specs.net_cells.specs.cell_table.Values.{meaning_of}
+use Rattle.commands.specs.edit_report.EditReport.{edit_report_in}
+use Rattle.commands.specs.edit_report.Said.{EditSaid, said_view}
+use Rattle.command_replies.specs.Replies.{Reply}
+use Rattle.commands.proofs.edit.OnNetworks.{reported_is, work_of_begun}
+use Rattle.commands.proofs.edit.on_net.reported.Goals as goal
+
+pub returns-clause-reply : goal.returns-clause-reply
+returns-clause-reply g c =
+    let first = c.args.store in
+    let last = c.all_answered.new.store in
+    let answers : List EditSaid = map said_view c.in_ok-answers.answers.items in
+    let at = placed meaning_of last.values.newest in
+    let text = (rw c.deref.ensures.value at c.in_ok-text.ensures)
+    ∙ ap (λ (n : Net). edit_report_in c.args.form n at answers) c.network-net.ensures.network in
+    reported_is c.args.form meaning_of first last c.args.edits.now answers _ c.requires.first
+    (subst IsAccepted c.network-first.ensures.network c.keeps.ensures) c.versions-values.ensures.each
+    c.in_ok-answers.ensures.answered (subst IsAccepted c.network-net.ensures.network c.keeps-2.ensures)
+    c.versions-versions.ensures.each c.network-net.ensures.meets
+    (ap (λ (bytes : List ℕ). let r : Reply = record { status = 0; bytes = bytes } in r) text)
+
+pub returns-clause-least : goal.returns-clause-least
+returns-clause-least g c = λ all done w.
+    c.in_ok-answers.ensures.least all done (work_of_begun c.args.store c.args.edits.now all done c.requires.first w)
+
+pub returns-clause-most : goal.returns-clause-most
+returns-clause-most g c = λ all done w.
+    c.all_answered.ensures.most all done (work_of_begun c.args.store c.args.edits.now all done c.requires.first w)
+
+pub returns-in_err-text-clause-most : goal.returns-in_err-text-clause-most
+returns-in_err-text-clause-most g c = λ all done w.
+    c.all_answered.ensures.most all done (work_of_begun c.args.store c.args.edits.now all done c.requires.first w)
+
+pub returns-in_err-answers-clause-most : goal.returns-in_err-answers-clause-most
+returns-in_err-answers-clause-most g c = λ all done w.
+    c.all_answered.ensures.most all done (work_of_begun c.args.store c.args.edits.now all done c.requires.first w)

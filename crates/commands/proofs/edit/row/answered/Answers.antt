@@ -1,0 +1,22 @@
+use Rattle.std.proofs.Common.{subst}
+use Rattle.std.proofs.lemmas.Result.{IfOk-weaker}
+use Rattle.net_model.specs.Accepted.{IsAccepted}
+use Rattle.report_text.specs.net_cells.specs.cell_table.Values.{meaning_of}
+use Rattle.commands.specs.edit_report.Said.{said_view}
+use Rattle.commands.proofs.edit.OneRow.{row_answered}
+use Rattle.commands.proofs.edit.Works.{at_least}
+use Rattle.commands.proofs.edit.row.answered.Goals as goal
+
+pub returns-clause-answered : goal.returns-clause-answered
+returns-clause-answered g c =
+    let accepted = subst IsAccepted c.network-network.ensures.network c.keeps.ensures in
+    IfOk-weaker c.said_by.result _ _
+    (λ said is. row_answered meaning_of c.args.store.now c.apply-answer.new.self c.args.edit.now c.apply-answer.result
+    (said_view said) accepted c.apply-answer.ensures.applied c.apply-answer.ensures.kept c.versions-versions.ensures.each is)
+    c.said_by.ensures
+
+pub returns-clause-least : goal.returns-clause-least
+returns-clause-least g c = λ count done is taken.
+    at_least c.args.store.now c.apply-answer.new.self c.args.edit.now (g.E.Evaluator.count c.args.eval.now)
+    (g.E.Evaluator.count c.apply-answer.new.eval) count c.apply-answer.result done c.apply-answer.ensures.kept
+    c.apply-answer.ensures.exact c.apply-answer.ensures.rises is taken

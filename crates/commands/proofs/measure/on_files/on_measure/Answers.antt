@@ -1,0 +1,26 @@
+use Rattle.std.proofs.lemmas.Result.{IfOk-weaker}
+use Rattle.command_replies.specs.View.{reply_of, status_of}
+use Rattle.command_replies.proofs.FirstFaults.{on_told}
+use Rattle.commands.proofs.measure.Answering.{on_no_network}
+use Rattle.commands.proofs.measure.Counting.{counts_with, counts_without}
+use Rattle.commands.proofs.measure.on_files.on_measure.Goals as goal
+
+pub returns-in-Ok-clause-reply : goal.returns-in-Ok-clause-reply
+returns-in-Ok-clause-reply g c =
+    IfOk-weaker c.on_rows.result _ _ (λ r on. on c.args.net_file.now c.args.net_bytes.now c.in-Ok.ensures.network) c.on_rows.ensures.reply
+
+pub returns-in-Ok-clause-counts : goal.returns-in-Ok-clause-counts
+returns-in-Ok-clause-counts g c =
+    counts_with c.args.net_bytes.now (status_of c.on_rows.result) c.args.steps.now c.read_network.new.steps c.on_rows.new.steps c.read_network.ensures.rises c.read_network.ensures.most
+    c.on_rows.ensures.from c.on_rows.ensures.most c.on_rows.ensures.report
+
+pub returns-in-Err-clause-reply : goal.returns-in-Err-clause-reply
+returns-in-Err-clause-reply g c =
+    IfOk-weaker c.on_fault.result _ _
+    (λ r none. on_no_network c.args.net_file.now c.args.net_bytes.now c.args.trace_file.now c.args.trace_bytes.now c.args.name.now c.args.rate (reply_of r) none)
+    (on_told c.args.net_file.now c.args.net_bytes.now c.in-Err.fault c.on_fault.result c.in-Err.ensures.fault c.on_fault.ensures.reply c.on_fault.ensures.told)
+
+pub returns-in-Err-clause-counts : goal.returns-in-Err-clause-counts
+returns-in-Err-clause-counts g c =
+    counts_without c.args.net_file.now c.args.net_bytes.now c.on_fault.result c.args.steps.now c.read_network.new.steps c.read_network.ensures.rises c.read_network.ensures.most
+    (on_told c.args.net_file.now c.args.net_bytes.now c.in-Err.fault c.on_fault.result c.in-Err.ensures.fault c.on_fault.ensures.reply c.on_fault.ensures.told)

@@ -1,0 +1,40 @@
+-- What holds of the replies on a file.
+use Rattle.std.specs.Prelude.{◌≡◌, ℕ, List, Some, codes}
+use Rattle.upp_limits.specs.rational.specs.declared.Extended.TheVariants.{Inf}
+use Rattle.upp_limits.specs.declared.op_kind.OpFault.{OpFault}
+use Rattle.net_model.specs.Networks.{Net}
+use Rattle.net_model.specs.Orders.{IsOrder}
+use Rattle.net_model.specs.Walks.{IsFeedForward}
+use Rattle.net_text.specs.Reading.{IsNetworkOf}
+use Rattle.net_text.specs.FoldLimits.{OverFold}
+use Rattle.report_text.specs.net_cells.specs.declared.cell.Cell.{Cell}
+use Rattle.report_text.specs.net_cells.specs.Meanings.{number, CellTable}
+use Rattle.report_text.specs.net_cells.specs.FirstOver.{FirstOver}
+use Rattle.report_text.specs.Shown.{shown}
+use Rattle.report_text.specs.declared.json_report.form.Form.{Form}
+use Rattle.command_replies.specs.Replies.{Reply, AreSame}
+use Rattle.commands.specs.analyse.OnFiles.{IsReplyOn}
+
+-- status and text are determined by the file and the form, but for the choice among cycles
+abbrev pub RepliesAreDetermined : Type 0
+RepliesAreDetermined =
+    (form : Form) (file bytes : List ℕ) (x y : Reply) → IsReplyOn form file bytes x → IsReplyOn form file bytes y
+    → AreSame x y
+
+-- a file that gives a network without a cycle, and by no order of its servers a cell is over a limit
+pub record IsWithinLimits (bytes : List ℕ) : Type 0 where
+  pub net : Net
+  pub reads : IsNetworkOf OverFold bytes net
+  pub feed_forward : IsFeedForward net
+  pub within : (order : List ℕ) (c : Cell) (fault : OpFault) → IsOrder net order → ¬ (FirstOver net order c fault)
+
+-- its one reply is a report
+abbrev pub RepliesAreComplete : Type 0
+RepliesAreComplete =
+    (form : Form) (file bytes : List ℕ) (reply : Reply) → IsWithinLimits bytes → IsReplyOn form file bytes reply
+    → reply.status ≡ 0
+
+-- where `unbounded` is shown for a cell, its number is infinite
+abbrev pub UnboundedIsInfinite : Type 0
+UnboundedIsInfinite =
+    (at : CellTable) (c : Cell) → shown at c.kind c.a c.b ≡ codes "unbounded" → at c ≡ Some (number Inf)

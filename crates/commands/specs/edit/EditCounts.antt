@@ -1,0 +1,88 @@
+-- How many steps a list of edits takes: an operator on curves takes one.
+use Rattle.std.specs.Prelude.{◌≡◌, ◌≢◌, ◌⊎◌, ◌+◌, ◌≤◌, ℕ, List, [], ◌∷◌, map, sum_by}
+use Rattle.net_model.specs.declared.edit.Edit.{Edit}
+use Rattle.net_model.specs.Networks.{Net}
+use Rattle.net_model.specs.Orders.{IsOrder}
+use Rattle.net_model.specs.Walks.{IsCycle}
+use Rattle.net_text.specs.net_draft.Faults.{Fault}
+use Rattle.net_text.specs.Folds.{StepsAtMost}
+use Rattle.net_text.specs.Reading.{IsNetworkOf, FirstFault}
+use Rattle.net_text.specs.FoldLimits.{OverFold}
+use Rattle.subadd_closure.specs.FoldWork.{fold_work}
+use Rattle.report_text.specs.net_cells.specs.declared.cell.Cell.{Cell}
+use Rattle.report_text.specs.net_cells.specs.Work.{work}
+use Rattle.input_texts.specs.table_text.EditRows.{edit_view}
+use Rattle.cell_store.specs.edit_store.Stored.{AreTouched}
+use Rattle.cell_store.specs.edit_store.Applied.{Gives, IsEvaluated}
+use Rattle.commands.specs.edit_report.Said.{EditSaid}
+use Rattle.command_replies.specs.CellWork.{work_of_cells}
+use Rattle.commands.specs.edit.NetHistories.{NetHistory, begun}
+use Rattle.commands.specs.edit.Answered.{IsTaken, IsAnswered}
+use Rattle.commands.specs.edit.OnEdits.{AsksFor}
+
+-- ---- one edit
+-- the operators of the touched cells of the edited network
+pub record IsTouchedWork (present : Net) (edit : Edit) (count : ℕ) : Type 0 where
+  pub net : Net
+  pub gives : Gives present edit net
+  pub touched : List Cell
+  pub are : AreTouched present net touched
+  pub is : count ≡ sum_by (work net) touched
+
+-- those, or none where there is no edited network whose servers have an order
+abbrev pub IsWorkOf : Net → Edit → ℕ → Type 0
+IsWorkOf present edit count = IsTouchedWork present edit count ⊎ (¬ (IsEvaluated present edit) × (count ≡ 0))
+
+-- all of it where the edit is taken, and none else
+abbrev pub IsTakenWork : NetHistory → Edit → NetHistory → (count done : ℕ) → Type 0
+IsTakenWork old edit new count done = (((said : EditSaid) × IsTaken old edit said new) × (done ≡ count)) ⊎ (done ≡ 0)
+
+-- ---- edits in turn
+-- the work of a first edit and that of the others, where Rest tells it: of all edits, and of those that are taken
+pub record FirstWork (old : NetHistory) (edit : Edit) (Rest : NetHistory → ℕ → ℕ → Type 0) (all done : ℕ) : Type 0 where
+  pub said : EditSaid
+  pub next : NetHistory
+  pub answered : IsAnswered old edit said next
+  pub count : ℕ
+  pub is_count : IsWorkOf old.present edit count
+  pub taken : ℕ
+  pub is_taken : IsTakenWork old edit next count taken
+  pub rest_all : ℕ
+  pub rest_done : ℕ
+  pub rest : Rest next rest_all rest_done
+  pub sum_all : all ≡ count + rest_all
+  pub sum_done : done ≡ taken + rest_done
+
+abbrev pub WorkOfEdits : NetHistory → List Edit → (all done : ℕ) → Type 0
+WorkOfEdits old [] all done = (all ≡ 0) × (done ≡ 0)
+WorkOfEdits old (edit ∷ edits) all done = FirstWork old edit (λ next. WorkOfEdits next edits) all done
+
+-- ---- the whole call
+-- by a network and edits: no more than the work of all cells of the network and of what the edits touch, and where
+-- there is a report no less than that of all cells and of what the edits that are taken touch; none by a cycle
+pub record CountsOnEdits (net : Net) (edits : List Edit) (status old new : ℕ) : Type 0 where
+  pub rises : old ≤ new
+  pub most : (order : List ℕ) (all done : ℕ) → IsOrder net order → WorkOfEdits (begun net) edits all done
+      → new ≤ old + (work_of_cells net order + all)
+  pub report : status ≡ 0 → (order : List ℕ) (all done : ℕ) → IsOrder net order
+      → WorkOfEdits (begun net) edits all done → old + (work_of_cells net order + done) ≤ new
+  pub round : (walk : List ℕ) → IsCycle net walk → new ≡ old
+
+-- by a network: none where the list gives no edits
+pub record CountsOnList (net : Net) (edits_bytes : List ℕ) (status old new : ℕ) : Type 0 where
+  pub edits : List Edit
+  pub asked : AsksFor edits_bytes (map edit_view edits)
+  pub counts : CountsOnEdits net edits status old new
+
+abbrev pub CountsOnNet : Net → List ℕ → (status old new : ℕ) → Type 0
+CountsOnNet net edits_bytes status old new =
+    ((status ≢ 0) × (new ≡ old)) ⊎ CountsOnList net edits_bytes status old new
+
+-- by files: first no more than the operators of the folds of the closures, then those by the network, where there is
+-- one
+pub record CountsOn (net_bytes edits_bytes : List ℕ) (status old new : ℕ) : Type 0 where
+  pub between : ℕ
+  pub rises : old ≤ between
+  pub folds : StepsAtMost fold_work net_bytes old between
+  pub refused : (fault : Fault) → FirstFault OverFold net_bytes fault → new ≡ between
+  pub edits : (net : Net) → IsNetworkOf OverFold net_bytes net → CountsOnNet net edits_bytes status between new

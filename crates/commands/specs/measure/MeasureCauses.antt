@@ -1,0 +1,37 @@
+-- Of the replies on a network's file and a trace, those of each status.
+use Rattle.std.specs.Prelude.{◌≡◌, ◌≢◌, ◌⊎◌, ◌≤◌, ℕ, List}
+use Rattle.upp_limits.specs.rational.specs.Rational.{ℚ}
+use Rattle.upp_limits.specs.declared.own_limits.OverLimit.{OverLimit}
+use Rattle.upp_limits.specs.declared.own_limits.OverLimit.TheVariants.{TooMany, TooWide}
+use Rattle.command_replies.specs.Replies.{Reply}
+use Rattle.command_replies.specs.OnFiles.{IsBroken, IsCurveOver, IsBadTrace}
+use Rattle.commands.specs.measure.OnMeasures.{IsUnknownFlow, IsMeasureOver, IsBurstOver, IsMeasureReport}
+use Rattle.commands.specs.measure.OnMeasures.{IsMeasureReply}
+
+-- a rule of network files, or a row of the trace, or a name that no live flow has
+abbrev pub IsMalformed : (net_file net_bytes trace_file trace_bytes name : List ℕ) → Reply → Type 0
+IsMalformed net_file net_bytes trace_file trace_bytes name reply =
+    IsBroken net_file net_bytes reply ⊎ (IsBadTrace net_bytes trace_file trace_bytes reply
+    ⊎ IsUnknownFlow net_bytes trace_bytes name reply)
+
+-- of the curves of the network's file the first that is over a limit is over this one, or else the flow's packets are,
+-- or else the burst is
+abbrev pub IsOverLimit : OverLimit → (net_bytes trace_bytes name : List ℕ) → ℚ → Reply → Type 0
+IsOverLimit limit net_bytes trace_bytes name rate reply =
+    IsCurveOver limit net_bytes reply ⊎ (IsMeasureOver limit net_bytes trace_bytes name reply
+    ⊎ IsBurstOver limit net_bytes trace_bytes name rate reply)
+
+-- each status has its cause, and there is no other
+pub record HasCause (net_file net_bytes trace_file trace_bytes name : List ℕ) (rate : ℚ) (reply : Reply) : Type 0 where
+  pub report : reply.status ≡ 0 → IsMeasureReport net_bytes trace_bytes name rate reply
+  pub malformed : reply.status ≡ 1 → IsMalformed net_file net_bytes trace_file trace_bytes name reply
+  pub wide : reply.status ≡ 6 → IsOverLimit TooWide net_bytes trace_bytes name rate reply
+  pub many : reply.status ≡ 7 → IsOverLimit TooMany net_bytes trace_bytes name rate reply
+  pub no_read : reply.status ≢ 3
+  pub most : reply.status ≤ 7
+
+abbrev pub StatusesHaveCauses : Type 0
+StatusesHaveCauses =
+    (net_file net_bytes trace_file trace_bytes name : List ℕ) (rate : ℚ) (reply : Reply)
+    → IsMeasureReply net_file net_bytes trace_file trace_bytes name rate reply
+    → HasCause net_file net_bytes trace_file trace_bytes name rate reply

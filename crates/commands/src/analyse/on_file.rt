@@ -1,0 +1,32 @@
+//! The answer on a file.
+
+ghost use Rattle.std.specs.Prelude.{IfOk};
+ghost use Rattle.commands.specs.analyse.AnswerCounts.{CountsOn};
+ghost use Rattle.commands.specs.analyse.OnFiles.{IsReplyOn};
+ghost use Rattle.command_replies.specs.View.{reply_of, status_of};
+
+use crate::analyse::on_net::on_network;
+use command_replies::{Answer, on_fault};
+use net_text::read_network;
+use report_text::json_report::Form;
+use std::alloc::{AllocError, Global};
+use std::sync::ledger::Ledger;
+use steps::Steps;
+
+/// The answer on a file with this name and these bytes, in this order: a rule that its tables break, a curve over a
+/// limit, a cycle, a cell over a limit, and else the report in a form. Refused only for want of memory.
+pub fn on_bytes<L: Ledger>(
+    alloc: Global,
+    file: &str,
+    bytes: &[u8],
+    form: Form,
+    steps: &mut Steps<L>,
+) -> Result<Answer, AllocError>
+    ensures reply { IfOk result (λ r. IsReplyOn form file.now bytes.now (reply_of r)) }
+    ensures counts { CountsOn bytes.now (status_of result) steps.old steps.new }
+{
+    match read_network(alloc, bytes, steps) {
+        Ok(network) => on_network(alloc, &network, form, steps),
+        Err(fault) => on_fault(alloc, file, fault),
+    }
+}

@@ -1,0 +1,56 @@
+//! The answer on the file of a script.
+
+ghost use Rattle.std.specs.Prelude.{◌≡◌, ◌≤◌, IfOk, length, map};
+ghost use Rattle.curve_lang.specs.Views.{answer_view};
+ghost use Rattle.input_texts.specs.curve_script.Scripts.{line_view};
+ghost use Rattle.command_replies.specs.View.{reply_of};
+ghost use Rattle.commands.specs.curve.OnScripts.{answered, IsScriptReply, IsReplyOnLines};
+
+use command_replies::{Answer, Status, on_script_fault};
+use curve_lang::{Answer as Told, Script, answer_text, eval_script, parse_script};
+use std::alloc::{AllocError, Global};
+use std::sync::ledger::Ledger;
+use steps::Steps;
+
+// The lines of the answers.
+fn answered(alloc: Global, answers: &[Told]) -> Result<Answer, AllocError>
+    ensures { IfOk result (λ r. reply_of r ≡ answered (map answer_view answers.now)) }
+{
+    let text = answer_text(alloc, answers)?;
+    Ok(Answer {
+        status: Status::Done,
+        text,
+    })
+}
+
+// The answer on the statements of a script. Want of memory apart, it is the one on each file that is this script.
+fn on_lines<L: Ledger>(
+    alloc: Global,
+    file: &str,
+    script: &Script,
+    steps: &mut Steps<L>,
+) -> Result<Answer, AllocError>
+    ensures { IfOk result (λ r. IsReplyOnLines file.now (map line_view script.now.lines.items) (reply_of r)) }
+{
+    match eval_script(alloc, script, steps) {
+        Ok(answers) => answered(alloc, &answers),
+        Err(fault) => on_script_fault(alloc, file, fault),
+    }
+}
+
+/// The answer on a file with this name and these bytes, in this order: the first line that is no statement, the first
+/// statement with a fault or over a limit, and else the answers. Refused only for want of memory.
+pub fn on_script<L: Ledger>(
+    alloc: Global,
+    file: &str,
+    bytes: &[u8],
+    steps: &mut Steps<L>,
+) -> Result<Answer, AllocError>
+    requires { length bytes.now ≤ 1048576 }
+    ensures { IfOk result (λ r. IsScriptReply file.now bytes.now (reply_of r)) }
+{
+    match parse_script(alloc, bytes) {
+        Ok(script) => on_lines(alloc, file, &script, steps),
+        Err(fault) => on_script_fault(alloc, file, fault),
+    }
+}

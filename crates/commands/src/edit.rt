@@ -1,0 +1,13 @@
+//! The answer on a network's file and a list of edits: the report on the edits, or the line of a refusal.
+
+mod laws;
+mod on_files;
+mod on_net;
+mod row;
+mod rows;
+
+pub use laws::{
+    edit_replies_are_complete, edit_replies_are_determined, edit_reports_are_guaranteed,
+    edit_statuses_have_causes,
+};
+pub use on_files::on_edits;

@@ -1,0 +1,40 @@
+//! The edits of a list, one after the other.
+
+ghost use Rattle.std.specs.Prelude.{◌≡◌, ◌+◌, ◌≤◌, ℕ, [], length, map, IfOk};
+ghost use Rattle.commands.specs.edit_report.Said.{said_view};
+ghost use Rattle.commands.specs.edit.NetHistories.{history_of};
+ghost use Rattle.commands.specs.edit.Answered.{AreAnswered};
+ghost use Rattle.commands.specs.edit.EditCounts.{WorkOfEdits};
+
+use crate::edit::row::answered;
+use crate::edit_report::Said;
+use cell_store::edit_store::Store;
+use net_model::Edit;
+use report_text::net_cells::cell_table::{Evaluator, Value};
+use std::alloc::{AllocError, Global};
+
+/// Makes edits in turn, and gives what is said of each. Refused only for want of memory.
+pub(crate) fn all_answered<E: Evaluator<Value>>(
+    alloc: Global,
+    store: &mut Store<Value>,
+    edits: &[Edit],
+    eval: &mut E,
+) -> Result<Vec<Said>, AllocError>
+    requires first { store.old.before ≡ [] }
+    requires few { length edits.now ≤ 1000 }
+    ensures answered { IfOk result (λ answers. AreAnswered (history_of store.old) edits.now
+        (map said_view answers.items) (history_of store.new)) }
+    ensures rises { E.count eval.old ≤ E.count eval.new }
+    ensures most { (all done : ℕ) → WorkOfEdits (history_of store.old) edits.now all done
+        → E.count eval.new ≤ E.count eval.old + all }
+    ensures least { IfOk result (λ _. (all done : ℕ) → WorkOfEdits (history_of store.old) edits.now all done
+        → E.count eval.old + done ≤ E.count eval.new) }
+    ensures same { E.counter eval.new ≡ E.counter eval.old }
+{
+    let mut answers = Vec::new(alloc);
+    for edit in edits {
+        let said = answered(alloc, store, edit, eval)?;
+        answers.push(said)?;
+    }
+    Ok(answers)
+}

@@ -1,0 +1,61 @@
+//! The answer on a workload, once its network is analysed.
+
+ghost use Rattle.std.specs.Prelude.{IfOk};
+ghost use Rattle.net_model.specs.Walks.{IsFeedForward};
+ghost use Rattle.report_text.specs.RunReport.{found_of};
+ghost use Rattle.net_model.specs.stated_runs.FromTraces.{IsTraceOf};
+ghost use Rattle.run_watch.specs.simulated_sizes.Laws.{AreCurves};
+ghost use Rattle.command_replies.specs.View.{reply_of};
+ghost use Rattle.command_replies.specs.simulated_findings.Found.{IsFound, IsReportBy, IsSimulationReplyBy};
+ghost use Rattle.exercise_load.specs.exercise_report.Summary.{summary_of};
+
+use command_replies::run_findings::status_by;
+use command_replies::simulated_findings::find;
+use command_replies::{Answer, sim_too_wide};
+use exercise_load::exercise_report::summary_text;
+use net_model::{Network, Trace};
+use report_text::RunFound;
+use report_text::net_cells::cell_table::{Analysis, Table, Value};
+use simulator::net_simulator::SimFault;
+use std::alloc::{AllocError, Global};
+
+// The summary of what was found, beside the numbers of a table.
+fn reported(
+    alloc: Global,
+    seed: u64,
+    net: &Network,
+    trace: &Trace,
+    table: &Analysis<Value>,
+    found: &RunFound,
+) -> Result<Answer, AllocError>
+    requires { IsFound net.now trace.now (found_of found.now) }
+    ensures { IfOk result (λ r. IsReportBy (summary_of seed) net.now trace.now
+        (⟦<Analysis<Value> as Table<Value>>⟧.at table.now) (reply_of r)) }
+{
+    let _packets = trace.packets();
+    let text = summary_text(alloc, seed, net, table, found)?;
+    let status = status_by(&found.breach);
+    Ok(Answer { status, text })
+}
+
+/// The answer on a network and a trace of it beside the numbers of a table: that the simulation is too wide, or the
+/// summary of the stated run, under the number of a workload.
+pub(crate) fn summarised(
+    alloc: Global,
+    seed: u64,
+    net: &Network,
+    trace: &Trace,
+    table: &Analysis<Value>,
+) -> Result<Answer, AllocError>
+    requires curves { AreCurves net.now }
+    requires named { IsTraceOf net.now trace.now }
+    requires free { IsFeedForward net.now }
+    ensures { IfOk result (λ r. IsSimulationReplyBy (summary_of seed) net.now trace.now
+        (⟦<Analysis<Value> as Table<Value>>⟧.at table.now) (reply_of r)) }
+{
+    match find(alloc, net, trace) {
+        Ok(found) => reported(alloc, seed, net, trace, table, &found),
+        Err(SimFault::TooWide) => sim_too_wide(alloc),
+        Err(SimFault::NoMemory) => Err(AllocError),
+    }
+}

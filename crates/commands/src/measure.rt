@@ -1,0 +1,13 @@
+//! The answer on a network's file and a trace: the least arrival curve of a flow's packets and the least bucket for a
+//! rate, or the line of a refusal.
+
+mod laws;
+mod on_files;
+mod on_trace;
+mod refusals;
+
+pub use laws::{
+    measure_replies_are_complete, measure_replies_are_determined, measure_reports_are_least,
+    measure_statuses_are_four, measure_statuses_have_causes,
+};
+pub use on_files::on_measure;

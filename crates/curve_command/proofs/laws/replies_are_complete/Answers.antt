@@ -1,5 +1,0 @@
-use Rattle.curve_command.proofs.OneReply.{replies_are_complete}
-use Rattle.curve_command.proofs.laws.replies_are_complete.Goals as goal
-
-pub returns : goal.returns
-returns c = replies_are_complete

@@ -1,8 +1,0 @@
--- A convolution has an answer that is not want of memory. Own choice.
-use Rattle.curve_running.specs.upp_curve.specs.Curve.{SpecCurve}
-use Rattle.curve_running.specs.upp_curve.specs.Curves.{IsCurve}
-use Rattle.curve_running.specs.upp_limits.specs.declared.op_kind.OpKind.TheVariants.{Convolve}
-use Rattle.curve_existence.specs.Answered.{HasAnswer}
-
-abbrev pub ConvolutionsExist : Type 0
-ConvolutionsExist = (f g : SpecCurve) → IsCurve f → IsCurve g → HasAnswer Convolve f g

@@ -1,6 +1,0 @@
-use Rattle.std.proofs.Common.{◌≡◌, map, take}
-use Rattle.curve_call.specs.upp_limits.specs.Gauges.{scaled_piece}
-use Rattle.curve_pointwise.proofs.scaling.fitting_pieces.Given as goal
-
-abbrev pub invariant-loop-piece : goal.invariant-loop-piece
-invariant-loop-piece l = l.found.items ≡ map (scaled_piece l.factor) (take l.piece-index l.pieces)

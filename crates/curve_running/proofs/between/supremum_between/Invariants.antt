@@ -1,5 +1,0 @@
-use Rattle.curve_running.proofs.Highest.{BetweenLoop}
-use Rattle.curve_running.proofs.between.supremum_between.Given as goal
-
-abbrev pub invariant-loop-i : goal.invariant-loop-i
-invariant-loop-i l = BetweenLoop l.ps l.end l.i l.from l.to l.level

@@ -1,5 +1,0 @@
-use Rattle.curve_running.proofs.InfimumLoop.{InfimumLoop}
-use Rattle.curve_running.proofs.infimum.infimum_scan.Given as goal
-
-abbrev pub invariant-loop-i : goal.invariant-loop-i
-invariant-loop-i l = InfimumLoop l.ps l.end l.i l.level l.out.items

@@ -1,6 +1,0 @@
-use Rattle.std.proofs.Common.{sym}
-use Rattle.curve_pointwise.specs.upp_curve.proofs.PieceLoops.{last_is}
-use Rattle.curve_running.proofs.lowest.last_line.Goals as goal
-
-pub returns-in-Some : goal.returns-in-Some
-returns-in-Some c = sym (last_is c.args.pieces.now c.in-Some.p.now (sym c.in-Some.ensures.value))

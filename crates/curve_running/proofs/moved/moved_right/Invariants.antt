@@ -1,6 +1,0 @@
-use Rattle.std.proofs.Common.{drop}
-use Rattle.curve_running.proofs.MovedLoop.{MovedLoop}
-use Rattle.curve_running.proofs.moved.moved_right.Given as goal
-
-abbrev pub invariant-loop-p : goal.invariant-loop-p
-invariant-loop-p l = MovedLoop l.theta l.end l.pieces (drop l.p-index l.pieces) l.moved.items

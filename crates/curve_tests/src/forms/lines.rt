@@ -1,0 +1,73 @@
+//! Values worked out by hand.
+
+use crate::shapes::{line, ratio, whole};
+use upp_limits::fraction128::{Ext, Frac, Op, Wide};
+use upp_limits::rational::Extended;
+use upp_limits::upp_curve::affine_segment::{Line, cross, element_min, is_before, value};
+
+const LARGEST: i128 = i128::MAX;
+
+#[test]
+fn values_of_lines(rt: HostRuntime) {
+    assert_eq!(rt; value(&line(3, -2), ratio(1, 2)), Ok(whole(2)));
+    assert_eq!(rt; value(&line(0, LARGEST), whole(1)), Ok(whole(LARGEST)));
+    let product = Wide {
+        op: Op::Mul,
+        a: whole(LARGEST),
+        b: whole(2),
+    };
+    assert_eq!(rt; value(&line(0, LARGEST), whole(2)), Err(product));
+    let sum = Wide {
+        op: Op::Add,
+        a: whole(LARGEST),
+        b: whole(1),
+    };
+    assert_eq!(rt; value(&line(LARGEST, 1), whole(1)), Err(sum));
+}
+
+#[test]
+fn crossings(rt: HostRuntime) {
+    assert_eq!(rt; cross(&line(5, 1), &line(3, 2)), Ok(Some(whole(2))));
+    assert_eq!(rt; cross(&line(3, 2), &line(5, 1)), Ok(Some(whole(2))));
+    assert_eq!(rt; cross(&line(0, 3), &line(1, 1)), Ok(Some(ratio(1, 2))));
+    assert_eq!(rt; cross(&line(-LARGEST, 2), &line(LARGEST, 2)), Ok(None));
+    let difference = Wide {
+        op: Op::Sub,
+        a: whole(LARGEST),
+        b: whole(-LARGEST),
+    };
+    assert_eq!(rt;
+        cross(&line(-LARGEST, 1), &line(LARGEST, 2)),
+        Err(difference)
+    );
+}
+
+// The slopes before and after the change, and where it is.
+fn lower(a: &Line, b: &Line, from: i128, to: Ext) -> Option<(Frac, Option<Frac>, Frac)> {
+    let start = whole(from);
+    if !is_before(start, &to) {
+        return None;
+    }
+    match element_min(a, b, start, to) {
+        Ok(cut) => Some((cut.low.slope, cut.at, cut.after.slope)),
+        Err(_) => None,
+    }
+}
+
+#[test]
+fn lower_lines(rt: HostRuntime) {
+    let (a, b) = (line(5, 1), line(3, 2));
+    let (one, two) = (whole(1), whole(2));
+    let cut = Some((two, Some(two), one));
+    assert_eq!(rt; lower(&a, &b, 0, Extended::Inf), cut);
+    assert_eq!(rt; lower(&b, &a, 0, Extended::Fin(whole(3))), cut);
+    assert_eq!(rt;
+        lower(&a, &b, 0, Extended::Fin(two)),
+        Some((two, None, two))
+    );
+    assert_eq!(rt; lower(&a, &b, 2, Extended::Inf), Some((one, None, one)));
+    assert_eq!(rt;
+        lower(&line(1, 2), &line(0, 2), 0, Extended::Inf),
+        Some((two, None, two))
+    );
+}

@@ -1,9 +1,0 @@
-//! The service of one queue of a deficit round robin server: its share of the server's service.
-#![tactic(auto)]
-
-mod service;
-mod turn;
-
-pub use residual_calls::residual_laws::drr_serves;
-pub use residual_calls::{drr_curve_serves, drr_is_determined, drr_service_grows};
-pub use service::drr_service;

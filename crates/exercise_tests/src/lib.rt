@@ -1,5 +1,0 @@
-//! Tests of workloads.
-#![tactic(auto)]
-
-#[cfg(test)]
-mod workloads;

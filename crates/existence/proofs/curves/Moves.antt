@@ -1,0 +1,78 @@
+-- A multiple and a shift have answers.
+use Rattle.std.specs.Prelude.{List, [], ◌∷◌, map, Ok}
+use Rattle.std.proofs.Common.{refl, ap}
+use Rattle.upp_limits.specs.rational.specs.Rational.{ℚ, ◌-ℚ◌, ◌≤ℚ◌}
+use Rattle.upp_limits.specs.rational.specs.Extended.{Ext}
+use Rattle.upp_limits.specs.rational.specs.declared.Extended.TheVariants.{Fin, Inf}
+use Rattle.upp_limits.specs.upp_curve.specs.declared.affine_segment.line.Piece.{Piece}
+use Rattle.upp_limits.specs.min_plus.specs.Functions.{zero_q}
+use Rattle.upp_limits.specs.upp_curve.specs.declared.curve.Tail.TheVariants.{Infinite}
+use Rattle.upp_limits.specs.upp_curve.specs.Curve.{SpecCurve}
+use Rattle.upp_limits.specs.upp_curve.specs.Curves.{IsCurve}
+use Rattle.upp_limits.specs.upp_curve.specs.Steady.{rise_over}
+use Rattle.upp_limits.specs.upp_curve.specs.Unrolled.{unroll}
+use Rattle.upp_limits.specs.declared.op_kind.OpKind.TheVariants.{Scale, Shift}
+use Rattle.upp_limits.specs.Gauges.{scaled_piece, scaled_tail}
+use Rattle.plain_operators.specs.curve_call.specs.declared.frame.Frame.{Frame}
+use Rattle.plain_operators.specs.curve_call.specs.Answers.{IsMadeBy}
+use Rattle.plain_operators.specs.curve_call.specs.Frames.{IsFrame, sizes_at}
+use Rattle.plain_operators.specs.curve_call.proofs.Limited.{scale_least, shift_least}
+use Rattle.existence.proofs.curves.Forms.{curve_with_room}
+use Rattle.existence.specs.curves.Answered.{HasAnswer}
+use Rattle.existence.proofs.curves.Answered.{at_least, ok_found}
+use Rattle.existence.proofs.curves.Windows.{answer_curve}
+use Rattle.plain_operators.specs.pointwise.Shifting.{moved_left, IsAhead}
+use Rattle.upp_limits.specs.upp_curve.specs.affine_segment.Reading.{nothing_at}
+use Rattle.plain_operators.proofs.pointwise.Nowhere.{IsNowhere, made_curve, made_values as nowhere_values}
+use Rattle.plain_operators.proofs.pointwise.ScaleCall.{IsMade, scale_call, made_raw, made_found, made_values}
+use Rattle.plain_operators.proofs.pointwise.ShiftCall.{shift_call, window_pieces, shift_answer, shift_values}
+
+-- ---- multiples
+scale_made : (q : ℚ) (f : SpecCurve) (r : Frame) → IsFrame (Scale q) f f 0 0 r → (h : SpecCurve) × IsMadeBy (Scale q) f f h
+scale_made q f r F =
+    let z = sizes_at (Scale q) f f 0 0 in
+    let S = scale_call q f r F in
+    let ps = map (scaled_piece q) f.pieces in
+    let tail = scaled_tail q f.tail in
+    let M : IsMade q f ps tail = record { pieces = refl; tail = refl } in
+    let found = made_found q f r z ps tail S M in
+    let (c, curve, same) = curve_with_room record { pieces = ps; tail = tail } r.times r.values (made_raw q f r z ps tail S M) found.grids found.room in
+    (c, record { curve = curve; answers = made_values q f ps tail c M same })
+
+pub scale_answered : (q : ℚ) (f : SpecCurve) → IsCurve f → HasAnswer (Scale q) f f
+scale_answered q f F = at_least (Scale q) f f 0 0 F tt (λ h. h) (scale_least q f f) (scale_made q f)
+
+-- ---- shifts
+abbrev pub left_of : ℚ → List Piece → List Piece
+left_of x [] = []
+left_of x (p ∷ ps) = moved_left x p ps
+
+shift_made : (x : ℚ) (f : SpecCurve) → zero_q ≤ℚ x → (r : Frame) → IsFrame (Shift (Fin x)) f f 0 0 r → (h : SpecCurve) × IsMadeBy (Shift (Fin x)) f f h
+shift_made x f low r F =
+    let z = sizes_at (Shift (Fin x)) f f 0 0 in
+    let S = shift_call x f r low F in
+    let ls = unroll f r.end in
+    let ws = left_of x ls in
+    let from = r.start -ℚ x in
+    let rise = rise_over f r.period in
+    let (c, curve, same) = answer_curve ws from r.period rise r.times r.values (shift_answer x f r z ls ws from rise S (window_pieces x f r z ls S refl) (λ p ps e. ap (left_of x) e) refl refl) in
+    (c, record { curve = curve; answers = shift_values x f r z ls ws from rise c S refl (λ p ps e. ap (left_of x) e) refl refl same })
+
+-- by infinity nothing is looked at
+shift_nowhere : (f : SpecCurve) → HasAnswer (Shift Inf) f f
+shift_nowhere f =
+    let ps = nothing_at zero_q ∷ [] in
+    let c : SpecCurve = record { pieces = ps; tail = Infinite zero_q } in
+    let one : IsNowhere ps [] zero_q zero_q = record { zero = refl; at = refl; none = refl; one = refl } in
+    record {
+      answer = Ok c;
+      applies = record {
+        within = record { narrow = λ w. w.looks tt; few = λ m. m.looks tt };
+        made = record { curve = made_curve ps [] zero_q zero_q one; answers = λ t low. nowhere_values ps [] zero_q zero_q t c one refl };
+      };
+      found = ok_found (Ok c) c refl;
+    }
+
+pub shift_answered : (x : Ext) (f : SpecCurve) → IsAhead x → IsCurve f → HasAnswer (Shift x) f f
+shift_answered Inf f ahead F = shift_nowhere f
+shift_answered (Fin x) f ahead F = at_least (Shift (Fin x)) f f 0 0 F tt (λ h. h) (shift_least (Fin x) f f) (shift_made x f ahead)

@@ -1,0 +1,73 @@
+-- The curves of a network that a file gives are in normal form and readable, and so the file has a report.
+use Rattle.std.specs.Prelude.{◌≡◌, ℕ, length, List, Option, Some, None, Bool, true, false, Ok, All, slice_get}
+use Rattle.std.proofs.Common.{refl, sym, ◌∙◌, subst, inl, inr}
+use Rattle.std.proofs.lemmas.Bool.{cases_lt}
+use Rattle.std.proofs.lemmas.List.Elements.{All-contains}
+use Rattle.std.proofs.lemmas.List.{get_or_default, get_or_past}
+use Rattle.std.proofs.lemmas.Option.{slice_get_within, get_or_from_slice_get}
+use Rattle.upp_limits.specs.upp_curve.specs.Curve.{SpecCurve}
+use Rattle.upp_limits.specs.upp_curve.specs.Curves.{IsCurve}
+use Rattle.net_model.specs.Networks.{Net, NetServer, NetFlow}
+use Rattle.net_text.specs.net_draft.Texts.{FlowText, CurveText, DraftText}
+use Rattle.net_text.specs.Becoming.{Becomes}
+use Rattle.net_text.specs.Built.{IsServerOf, IsLiveFlowOf, IsBuilt}
+use Rattle.net_text.specs.FoldLimits.{OverFold}
+use Rattle.net_text.proofs.Zips.{zip_all}
+use Rattle.report_text.specs.net_cells.specs.Numbered.{service_of, arrival_of, flow_at}
+use Rattle.report_text.specs.net_cells.proofs.Tables.{answers_meet}
+use Rattle.net_bounds.proofs.Kept.{table_bounds_every_run}
+use Rattle.commands.specs.analyse.OnFiles.{report}
+use Rattle.run_watch.specs.simulated_sizes.Laws.{AreCurves}
+use Rattle.existence.proofs.tables.Sound.{zero_is}
+use Rattle.existence.proofs.tables.Tables.{tables_or_limits}
+use Rattle.existence.specs.reports.Laws.{FilesHaveReports}
+
+abbrev LiveCurve : Option NetFlow → Type 0
+LiveCurve o = IsCurve (arrival_of o)
+
+becomes : (closes : Bool) (t : CurveText) (f : SpecCurve) → Becomes OverFold closes t (Ok f) → IsCurve f
+becomes false t f b = b.curve
+becomes true t f b = b.closes.curve
+
+all_tt : {X : Type 0} (xs : List X) → All (λ x. Unit {0}) xs
+all_tt xs = λ k e l. tt
+
+live : (t : FlowText) (o : Option NetFlow) → Unit {0} → IsLiveFlowOf OverFold t o → LiveCurve o
+live t o p r = subst LiveCurve (sym r.live) (becomes t.closes t.arrival r.flow.arrival r.is.arrival)
+
+-- ---- the curves of the network that a draft becomes
+module _ (d : DraftText) (net : Net) (b : IsBuilt OverFold d net) where
+  each_service : All (λ (x : NetServer). IsCurve x.service) net.servers
+  each_service = zip_all IsServerOf (λ t. Unit {0}) (λ (x : NetServer). IsCurve x.service) (λ t n p r. r.service.curve) d.servers net.servers (all_tt d.servers) b.servers
+
+  each_arrival : All LiveCurve net.flows
+  each_arrival = zip_all (IsLiveFlowOf OverFold) (λ t. Unit {0}) LiveCurve live d.flows net.flows (all_tt d.flows) b.flows
+
+  service_is : (s : ℕ) (o : Option NetServer) → slice_get net.servers s ≡ o → IsCurve (service_of o)
+  service_is s None e = zero_is
+  service_is s (Some x) e =
+      All-contains (λ (y : NetServer). IsCurve y.service) net.servers x each_service (s, slice_get_within net.servers s x e, get_or_from_slice_get net.servers s x x e)
+
+  arrival_is : (i : ℕ) (o : Option NetFlow) → flow_at net i ≡ o → IsCurve (arrival_of o)
+  arrival_is i None e = zero_is
+  arrival_is i (Some f) e = elim (cases_lt i (length net.flows)) [
+    | inl l ↦ All-contains LiveCurve net.flows (Some f) each_arrival (i, l, get_or_default net.flows i (Some f) None l ∙ e)
+    | inr l ↦ absurd (let bad : None ≡ Some f = sym (get_or_past net.flows i None l) ∙ e in cc)
+  ]
+
+  are_curves : AreCurves net
+  are_curves = record { services = λ s l. service_is s (slice_get net.servers s) refl; arrivals = λ i h. arrival_is i (flow_at net i) refl }
+
+-- ---- the report
+pub files_have : FilesHaveReports
+files_have form bytes net order g o never =
+    elim (tables_or_limits net order g.accepted (are_curves g.reads.draft net g.reads.built) o) [
+      | inl (at, all) ↦
+          let m = answers_meet net order at g.accepted o all in (
+            at,
+            report form net at,
+            record { gives = g; order = order; ordered = o; answers = all; meets = m; is = refl },
+            λ run r. table_bounds_every_run net order at run g.accepted o m r,
+          )
+      | inr (c, fault, first) ↦ absurd (never c fault first)
+    ]

@@ -1,0 +1,27 @@
+-- A call has an answer that is not want of memory: the curve that is made by it, or the limit that it is over. Own choice.
+use Rattle.std.specs.Prelude.{◌≢◌, ◌⊎◌, ℕ, Result, Err}
+use Rattle.upp_limits.specs.declared.op_kind.OpKind.{OpKind}
+use Rattle.upp_limits.specs.declared.op_kind.OpFault.{OpFault}
+use Rattle.upp_limits.specs.declared.op_kind.OpFault.TheVariants.{NoMemory}
+use Rattle.upp_limits.specs.Windows.{IsLeastPeriods}
+use Rattle.upp_limits.specs.upp_curve.specs.Curve.{SpecCurve}
+use Rattle.plain_operators.specs.curve_call.specs.declared.frame.Frame.{Frame}
+use Rattle.plain_operators.specs.curve_call.specs.Answers.{IsMadeBy}
+use Rattle.plain_operators.specs.curve_call.specs.Calls.{Applies}
+use Rattle.plain_operators.specs.curve_call.specs.Frames.{IsFrame}
+
+pub record HasAnswer (op : OpKind) (f g : SpecCurve) : Type 0 where
+  pub answer : Result SpecCurve OpFault
+  pub applies : Applies op f g answer
+  pub found : answer ≢ Err NoMemory
+
+-- ---- what is asked of a kind of call
+-- no numbers of periods are enough for it, or some are the least
+abbrev pub IsDecided : OpKind → SpecCurve → SpecCurve → Type 0
+IsDecided op f g =
+    ((k m : ℕ) → ¬ (IsLeastPeriods op f g k m)) ⊎ ((k : ℕ) × (m : ℕ) × IsLeastPeriods op f g k m)
+
+-- within both limits there is a curve that is made by it
+abbrev pub IsMadeWithin : OpKind → SpecCurve → SpecCurve → Type 0
+IsMadeWithin op f g =
+    (k m : ℕ) (r : Frame) → IsLeastPeriods op f g k m → IsFrame op f g k m r → (h : SpecCurve) × IsMadeBy op f g h

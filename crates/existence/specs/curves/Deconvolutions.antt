@@ -1,0 +1,10 @@
+-- A deconvolution has an answer that is not want of memory. Own choice.
+use Rattle.upp_limits.specs.upp_curve.specs.Curve.{SpecCurve, value_at}
+use Rattle.upp_limits.specs.upp_curve.specs.Curves.{IsCurve}
+use Rattle.upp_limits.specs.declared.op_kind.OpKind.TheVariants.{Deconvolve}
+use Rattle.upp_limits.specs.min_plus.specs.Functions.{IsFinite}
+use Rattle.existence.specs.curves.Answered.{HasAnswer}
+
+abbrev pub DeconvolutionsExist : Type 0
+DeconvolutionsExist =
+    (f g : SpecCurve) → IsCurve f → IsCurve g → IsFinite (value_at g) → HasAnswer Deconvolve f g

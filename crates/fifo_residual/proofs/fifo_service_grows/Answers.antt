@@ -1,8 +1,0 @@
-use Rattle.fifo_residual.proofs.FifoGrowth.{service_grows, curve_grows}
-use Rattle.fifo_residual.proofs.fifo_service_grows.Goals as goal
-
-pub returns-clause-service : goal.returns-clause-service
-returns-clause-service c = service_grows
-
-pub returns-clause-curve : goal.returns-clause-curve
-returns-clause-curve c = curve_grows

@@ -1,9 +1,0 @@
-use Rattle.curve_running.specs.upp_limits.specs.declared.op_kind.OpKind.TheVariants.{FifoLeft}
-use Rattle.curve_running.specs.curve_call.proofs.Applied.{applied_seen}
-use Rattle.fifo_residual.proofs.service.fifo_service.Goals as goal
-
-pub returns-clause-answer : goal.returns-clause-answer
-returns-clause-answer g c =
-    applied_seen (FifoLeft c.args.theta) c.args.beta.now c.args.cross.now c.fifo_left.result c.intact.result
-    c.intact.ensures.same c.fifo_left.ensures.value
-    c.fifo_left.ensures.limits c.intact.ensures.kept

@@ -1,0 +1,13 @@
+pub mod Affine
+pub mod Windows
+pub mod Paces
+pub mod Breaks
+pub mod Stretches
+pub mod Entries
+pub mod Breaches
+pub mod Laws
+pub mod Marks
+pub mod MarkSizes
+pub mod Shorts
+pub mod Segments
+pub mod Times

@@ -1,0 +1,8 @@
+use upp_limits::fraction128::Frac;
+
+/// A packet that enters, in bits.
+#[derive(Debug, Clone, Copy)]
+pub struct Entering {
+    pub time: Frac,
+    pub bits: u32,
+}

@@ -1,0 +1,17 @@
+use upp_limits::fraction128::Frac;
+
+/// A time, and the work done up to it.
+#[derive(Debug, Clone, Copy)]
+pub struct Point {
+    pub time: Frac,
+    pub work: Frac,
+}
+
+/// A curve from `start` on and before `end`: the value at the start, and the slope.
+#[derive(Debug, Clone, Copy)]
+pub struct Segment {
+    pub start: Frac,
+    pub end: Option<Frac>,
+    pub value: Frac,
+    pub slope: Frac,
+}

@@ -1,0 +1,19 @@
+use Rattle.std.proofs.Common.{ap, ◌∙◌, drop, map, Some}
+use Rattle.input_texts.specs.curve_script.Lexing.{view}
+use Rattle.input_texts.specs.curve_script.Building.{pair_from}
+use Rattle.input_texts.proofs.curve_script.Chains.{chain_none, chain_some}
+use Rattle.input_texts.proofs.curve_script.building.pair_at.Goals as goal
+
+pub returns-in_default : goal.returns-in_default
+unfolding pair_from
+returns-in_default c = chain_none _ _ c.in_default.ensures
+
+pub returns-in_default-number_behind : goal.returns-in_default-number_behind
+unfolding pair_from
+returns-in_default-number_behind c = chain_none _ _ c.in_default-number_behind.ensures ∙ chain_some _ _ _ c.in-Some.ensures
+
+pub returns : goal.returns
+unfolding pair_from
+returns c =
+    ap (λ e. Some (e, drop c.number_behind.new.at (map view c.args.tokens.now))) c.of_pair.ensures
+    ∙ chain_some _ _ _ c.in-Some-number_behind.ensures ∙ chain_some _ _ _ c.in-Some.ensures

@@ -1,0 +1,5 @@
+use Rattle.input_texts.proofs.table_text.OneEditList.{edit_fault_one}
+use Rattle.input_texts.proofs.table_text.laws.edit_faults_are_one.Goals as goal
+
+pub returns : goal.returns
+returns c = edit_fault_one

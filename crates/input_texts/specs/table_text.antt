@@ -1,0 +1,10 @@
+pub mod Rows
+pub mod Fields
+pub mod TraceRows
+pub mod Traces
+pub mod Kept
+pub mod Laws
+pub mod Paths
+pub mod EditRows
+pub mod EditLists
+pub mod EditAnswers

@@ -1,0 +1,155 @@
+//! The words that statements and expressions are spelt with.
+
+ghost use Rattle.std.specs.Prelude.{◌≡◌, find};
+ghost use Rattle.std.specs.Str.{bytes_eq};
+ghost use Rattle.input_texts.specs.curve_script.Keywords.{spelling, keyword_of};
+
+/// A question about one curve.
+#[derive(Debug, Clone, Copy, PartialEq, Eq)]
+pub enum OneAsked {
+    Rate,
+    Show,
+}
+
+/// A question about two curves.
+#[derive(Debug, Clone, Copy, PartialEq, Eq)]
+pub enum TwoAsked {
+    Delay,
+    Backlog,
+    Equal,
+    Below,
+}
+
+/// A curve that two numbers give.
+#[derive(Debug, Clone, Copy, PartialEq, Eq)]
+pub enum NumberPair {
+    Bucket,
+    Latency,
+}
+
+/// A curve that three numbers give.
+#[derive(Debug, Clone, Copy, PartialEq, Eq)]
+pub enum NumberTriple {
+    Stair,
+    Gate,
+}
+
+/// An operator on one curve.
+#[derive(Debug, Clone, Copy, PartialEq, Eq)]
+pub enum CurveOperator {
+    Close,
+    RunSup,
+    RunInf,
+}
+
+/// An operator on a curve and a number.
+#[derive(Debug, Clone, Copy, PartialEq, Eq)]
+pub enum NumberOperator {
+    PosMinus,
+    Scale,
+    Shift,
+}
+
+/// An operator on two curves.
+#[derive(Debug, Clone, Copy, PartialEq, Eq)]
+pub enum PairOperator {
+    Sum,
+    Min,
+    Max,
+    Conv,
+    PosDiff,
+    Deconv,
+}
+
+/// A word that is no name.
+#[derive(Debug, Clone, Copy, PartialEq, Eq)]
+pub enum Keyword {
+    Let,
+    At,
+    Value,
+    AskOne(OneAsked),
+    AskTwo(TwoAsked),
+    Zero,
+    TwoNumbers(NumberPair),
+    ThreeNumbers(NumberTriple),
+    OneCurve(CurveOperator),
+    CurveAndNumber(NumberOperator),
+    TwoCurves(PairOperator),
+}
+
+// Each of them, once.
+const KEYWORDS: [Keyword; 26] = [
+    Keyword::Let,
+    Keyword::At,
+    Keyword::Value,
+    Keyword::AskOne(OneAsked::Rate),
+    Keyword::AskOne(OneAsked::Show),
+    Keyword::AskTwo(TwoAsked::Delay),
+    Keyword::AskTwo(TwoAsked::Backlog),
+    Keyword::AskTwo(TwoAsked::Equal),
+    Keyword::AskTwo(TwoAsked::Below),
+    Keyword::Zero,
+    Keyword::TwoNumbers(NumberPair::Bucket),
+    Keyword::TwoNumbers(NumberPair::Latency),
+    Keyword::ThreeNumbers(NumberTriple::Stair),
+    Keyword::ThreeNumbers(NumberTriple::Gate),
+    Keyword::OneCurve(CurveOperator::Close),
+    Keyword::OneCurve(CurveOperator::RunSup),
+    Keyword::OneCurve(CurveOperator::RunInf),
+    Keyword::CurveAndNumber(NumberOperator::PosMinus),
+    Keyword::CurveAndNumber(NumberOperator::Scale),
+    Keyword::CurveAndNumber(NumberOperator::Shift),
+    Keyword::TwoCurves(PairOperator::Sum),
+    Keyword::TwoCurves(PairOperator::Min),
+    Keyword::TwoCurves(PairOperator::Max),
+    Keyword::TwoCurves(PairOperator::Conv),
+    Keyword::TwoCurves(PairOperator::PosDiff),
+    Keyword::TwoCurves(PairOperator::Deconv),
+];
+
+impl Keyword {
+    #[tactic(auto, unfolding(crate::specs::curve_script::Keywords::spelling))]
+    fn spelling(self) -> &'static str
+        ensures { result.now ≡ spelling self }
+    {
+        match self {
+            Keyword::Let => "let",
+            Keyword::At => "at",
+            Keyword::Value => "value",
+            Keyword::AskOne(OneAsked::Rate) => "rate",
+            Keyword::AskOne(OneAsked::Show) => "show",
+            Keyword::AskTwo(TwoAsked::Delay) => "delay",
+            Keyword::AskTwo(TwoAsked::Backlog) => "backlog",
+            Keyword::AskTwo(TwoAsked::Equal) => "equal",
+            Keyword::AskTwo(TwoAsked::Below) => "below",
+            Keyword::Zero => "zero",
+            Keyword::TwoNumbers(NumberPair::Bucket) => "bucket",
+            Keyword::TwoNumbers(NumberPair::Latency) => "latency",
+            Keyword::ThreeNumbers(NumberTriple::Stair) => "stair",
+            Keyword::ThreeNumbers(NumberTriple::Gate) => "gate",
+            Keyword::OneCurve(CurveOperator::Close) => "close",
+            Keyword::OneCurve(CurveOperator::RunSup) => "runsup",
+            Keyword::OneCurve(CurveOperator::RunInf) => "runinf",
+            Keyword::CurveAndNumber(NumberOperator::PosMinus) => "posminus",
+            Keyword::CurveAndNumber(NumberOperator::Scale) => "scale",
+            Keyword::CurveAndNumber(NumberOperator::Shift) => "shift",
+            Keyword::TwoCurves(PairOperator::Sum) => "sum",
+            Keyword::TwoCurves(PairOperator::Min) => "min",
+            Keyword::TwoCurves(PairOperator::Max) => "max",
+            Keyword::TwoCurves(PairOperator::Conv) => "conv",
+            Keyword::TwoCurves(PairOperator::PosDiff) => "posdiff",
+            Keyword::TwoCurves(PairOperator::Deconv) => "deconv",
+        }
+    }
+}
+
+/// The keyword that a word is.
+#[tactic(auto, unfolding(crate::specs::curve_script::Keywords::keyword_of))]
+pub(crate) fn keyword_of(word: &[u8]) -> Option<Keyword>
+    ensures { result ≡ keyword_of word.now }
+{
+    KEYWORDS
+        .iter()
+        .copied()
+        .find(|k| k.spelling().as_bytes() == word)
+}

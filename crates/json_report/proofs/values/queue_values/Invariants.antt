@@ -1,9 +1,0 @@
-use Rattle.std.proofs.Common.{◌≡◌, map}
-use Rattle.std.specs.List.{flat_map, range_with_len}
-use Rattle.serde_json.specs.View.{view}
-use Rattle.json_report.specs.ReportData.{server_queues}
-use Rattle.json_report.proofs.values.queue_values.Given as goal
-
-abbrev pub invariant-loop-number : goal.invariant-loop-number
-invariant-loop-number g l =
-    map view l.values.items ≡ flat_map (server_queues l.net (g.T.Table.at l.table)) (range_with_len 0 l.number)

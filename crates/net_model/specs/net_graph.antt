@@ -1,0 +1,4 @@
+pub mod OrderLaws
+pub mod Faults
+pub mod Waits
+pub mod Loops

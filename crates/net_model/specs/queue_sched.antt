@@ -1,0 +1,5 @@
+pub mod Turns
+pub mod Waiting
+pub mod Moves
+pub mod InTurn
+pub mod DrrStates

@@ -1,0 +1,6 @@
+pub mod Setups
+pub mod DueSteps
+pub mod Simulated
+pub mod Laws
+pub mod FromTraces
+pub mod TimeGrids

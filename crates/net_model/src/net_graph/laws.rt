@@ -1,0 +1,21 @@
+ghost use Rattle.net_model.specs.net_graph.OrderLaws.{OneOrder, OrderHasEachServer, OrderGoesForward, OrderOrCycle};
+
+/// A network has one order at most.
+pub fn one_order()
+    ensures { OneOrder }
+{}
+
+/// Each server stands in an order exactly once, and nothing else does.
+pub fn order_has_each_server()
+    ensures { OrderHasEachServer }
+{}
+
+/// In an order each server stands after those that some flow passes right before it.
+pub fn order_goes_forward()
+    ensures { OrderGoesForward }
+{}
+
+/// A network with an order has no closed walk: so it has an order or a cycle, and never both.
+pub fn order_or_cycle()
+    ensures { OrderOrCycle }
+{}

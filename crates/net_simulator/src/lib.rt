@@ -1,8 +1,0 @@
-//! The simulator's call: the gauge of a simulation is asked first, and a simulation that may be too wide refused.
-#![tactic(auto)]
-
-mod fault;
-mod simulator;
-
-pub use fault::SimFault;
-pub use simulator::simulate;

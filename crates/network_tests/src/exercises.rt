@@ -1,0 +1,4 @@
+//! Tests of workloads.
+
+#[cfg(test)]
+mod workloads;

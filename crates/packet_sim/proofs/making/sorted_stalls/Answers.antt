@@ -1,8 +1,0 @@
-use Rattle.sim_bounds.specs.stated_runs.specs.FromTraces.{stalls_at}
-use Rattle.packet_sim.proofs.SortedStalls.{are_sorted}
-use Rattle.packet_sim.proofs.making.sorted_stalls.Goals as goal
-
-pub returns : goal.returns
-returns c =
-    are_sorted (stalls_at c.args.server c.args.stalls.now) c.in_ok-spans.spans.items c.put_in_order.new.spans.items c.in_ok-spans.ensures
-    c.put_in_order.ensures.permutation c.put_in_order.ensures.sorted

@@ -1,6 +1,0 @@
-use Rattle.sim_bounds.specs.net_model.specs.NetRoutes.{routes_of}
-use Rattle.run_measures.proofs.Lawful.{lawful_runs_are_numbered}
-use Rattle.packet_sim.proofs.measured.measured_run.Goals as goal
-
-pub worst_delays-requires-clause-numbered : goal.worst_delays-requires-clause-numbered
-worst_delays-requires-clause-numbered c = lawful_runs_are_numbered (routes_of c.args.net.now) c.in_ok-run.run' c.in_ok-run.ensures.lawful

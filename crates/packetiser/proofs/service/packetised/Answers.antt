@@ -1,9 +1,0 @@
-use Rattle.curve_pointwise.specs.upp_limits.specs.declared.op_kind.OpKind.TheVariants.{PosMinus}
-use Rattle.curve_pointwise.specs.curve_call.proofs.Applied.{applied_seen}
-use Rattle.packetiser.proofs.service.packetised.Goals as goal
-
-pub returns-clause-answer : goal.returns-clause-answer
-returns-clause-answer g c =
-    applied_seen (PosMinus c.args.l) c.args.beta.now c.args.beta.now c.pos_minus.result c.intact.result
-    c.intact.ensures.same c.pos_minus.ensures.value
-    c.pos_minus.ensures.limits c.intact.ensures.kept

@@ -1,8 +1,0 @@
-//! What a service is worth to whole packets: the service less one packet.
-#![tactic(auto)]
-
-mod laws;
-mod service;
-
-pub use laws::{packet_curve_serves, packet_service_grows};
-pub use service::packetised;

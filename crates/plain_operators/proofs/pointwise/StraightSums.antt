@@ -1,0 +1,270 @@
+-- Curves of one line each: that they are curves, their numbers, and that a sum of two is within the limits where its numbers are small.
+use Rattle.std.specs.Prelude.{◌≡◌, ℕ, ◌+◌, ◌-◌, ◌*◌, ◌/◌, ◌<◌, ◌≤◌, ◌^◌, nat_abs, pos, Bool, true, false, cond, length, map, List, [], ◌∷◌, ◌++◌, Some, None}
+use Rattle.std.specs.List.{AllByRecursion, flat_map}
+use Rattle.std.proofs.Common.{arith, sym, ap, ap₂, ◌∙◌, refl, subst}
+use Rattle.std.proofs.Math.Nat.{max-le}
+use native.Mathlib.Nat.{div-one, le_of_dvd, mul-le-mul_right}
+use Rattle.upp_limits.specs.rational.specs.Rational.{ℚ, ◌+ℚ◌, ◌*ℚ◌, ◌≤ℚ◌, ◌<ℚ◌, int, den, le_q}
+use Rattle.upp_limits.specs.rational.specs.MinMax.{max_q}
+use Rattle.upp_limits.specs.rational.specs.Grid.{Whole, Within}
+use Rattle.upp_limits.specs.rational.specs.Ratio.{IsSmall}
+use Rattle.upp_limits.specs.rational.specs.Gauge.{common_den, bound_of, size_up, up_over}
+use Rattle.upp_limits.specs.rational.specs.Extended.{◌+ₑ◌}
+use Rattle.upp_limits.specs.rational.specs.declared.Extended.TheVariants.{Fin}
+use Rattle.upp_limits.specs.rational.proofs.Laws.{le_refl, le_trans, le_of_lt, mul_zero, add_zero, mul_le_mul}
+use Rattle.upp_limits.specs.rational.proofs.Linear.{with1}
+use Rattle.upp_limits.specs.rational.proofs.Integers.{int_add, int_mul, nat_le, nat_nonneg}
+use Rattle.upp_limits.specs.rational.proofs.MinMax.{max_q_ge_left, max_q_le}
+use Rattle.upp_limits.specs.rational.proofs.Over.{lt_q_out}
+use Rattle.upp_limits.specs.rational.proofs.Grid.{whole_int, whole_add, whole_den, max_whole, within_add, within_weaken}
+use Rattle.upp_limits.specs.upp_curve.specs.affine_segment.Values.{line_at, line_value}
+use Rattle.upp_limits.specs.upp_curve.specs.affine_segment.Reading.{read, piece_in, piece_value}
+use Rattle.upp_limits.specs.upp_curve.specs.affine_segment.Pieces.{Each}
+use Rattle.upp_limits.specs.upp_curve.specs.Curve.{SpecCurve, value_at}
+use Rattle.upp_limits.specs.upp_curve.specs.Curves.{IsCurve}
+use Rattle.upp_limits.specs.upp_curve.specs.Steady.{steady, same_ext, later_unless}
+use Rattle.upp_limits.specs.upp_curve.specs.Unrolled.{unroll, upto, count}
+use Rattle.upp_limits.specs.upp_curve.proofs.ReadableKinds.{bucket_curve}
+use Rattle.upp_limits.specs.declared.op_kind.OpKind.TheVariants.{Sum}
+use Rattle.upp_limits.specs.Periods.{common_period, both_steady}
+use Rattle.upp_limits.specs.Windows.{window_at}
+use Rattle.upp_limits.specs.Spans.{Span, spans, spans_below}
+use Rattle.upp_limits.specs.Limits.{Numbers, Sizes, no_numbers, joined, curve_numbers, span_values, span_slopes, twice, sizes_of, gauge_of}
+use Rattle.upp_limits.specs.Sized.{Stands}
+use Rattle.upp_limits.specs.Gauges.{numbers_over, gauge_over, tally_over, gauge_at, tally_at}
+use Rattle.upp_limits.specs.Outcome.{IsWithin}
+use Rattle.upp_limits.proofs.Every.{every_weaken}
+use Rattle.upp_limits.proofs.CommonDen.{common_den_pos, common_den_least, bound_least, size_up_within}
+use Rattle.upp_limits.proofs.Rounding.{whole_up_most}
+use Rattle.upp_limits.proofs.CurveStands.{are_sizes}
+use Rattle.upp_limits.proofs.Stands.{sizes_stand}
+use Rattle.upp_limits.proofs.NarrowSizes.{two_times}
+use Rattle.curve_call.specs.upp_normal.specs.Operand.{AreLimited, OperandPiece}
+use Rattle.curve_call.specs.upp_normal.proofs.UnrolledPieces.{operand_pieces}
+use Rattle.curve_call.specs.upp_normal.proofs.AnswerRoom.{stands_operand_value, values_fit, operand_lines_fit}
+use Rattle.curve_call.proofs.Sums.{sum_line_value}
+use Rattle.curve_call.proofs.CallTimes.{first_stands, second_stands}
+use Rattle.curve_call.proofs.Limited.{sum_least, within_at_least}
+use Rattle.plain_operators.specs.declared.pointwise.straight.Straight.{Straight}
+use Rattle.plain_operators.specs.pointwise.Straight.{straight_piece, straight_curve, total, TotalFits, IsSumWithin, IsLittle, AreLittle}
+
+-- ---- it is a curve
+pub straight_is_curve : (s : Straight) → IsSmall s.line.icept → IsCurve (straight_curve s)
+straight_is_curve s h =
+    let b = bucket_curve s.line.icept s.line.slope h in
+    record {
+      normal = record {
+        raw = record { starts = b.normal.raw.starts; tail = record { nonneg = le_refl (int (pos 0)); starts = (le_refl (int (pos 0)), tt) } };
+        rank_is_start = b.normal.rank_is_start;
+        no_merge = tt;
+        tail = b.normal.tail;
+      };
+      readable = b.readable;
+    }
+
+-- ---- the value of a sum
+sum_by : (b : Bool) (s t : Straight) (x : ℚ)
+    → cond b (Fin (s.at +ℚ t.at)) (line_value (Some (total s t).line) x) ≡ cond b (Fin s.at) (line_value (Some s.line) x) +ₑ cond b (Fin t.at) (line_value (Some t.line) x)
+sum_by true s t x = refl
+sum_by false s t x = sum_line_value (Some s.line) (Some t.line) x
+
+pub total_value : (s t : Straight) (x : ℚ) → value_at (straight_curve (total s t)) x ≡ value_at (straight_curve s) x +ₑ value_at (straight_curve t) x
+unfolding value_at read piece_in piece_value
+total_value s t x = sum_by (le_q x (int (pos 0))) s t x
+
+-- ---- its pieces below a time
+abbrev pub one_span : Straight → Span
+one_span s = record { piece = straight_piece s; next = None }
+
+spans_are : (s : Straight) (end : ℚ) → int (pos 0) <ℚ end → spans_below (straight_curve s) end ≡ one_span s ∷ []
+unfolding spans_below spans
+spans_are s end h = ap (λ (b : Bool). cond b (one_span s ∷ []) [] ++ []) (lt_q_out (int (pos 0)) end h)
+
+unrolled_is : (s : Straight) (end : ℚ) → int (pos 0) <ℚ end → unroll (straight_curve s) end ≡ straight_piece s ∷ []
+unfolding unroll upto
+unrolled_is s end h = ap (λ (b : Bool). cond b (straight_piece s ∷ []) []) (lt_q_out (int (pos 0)) end h)
+
+count_is : (s : Straight) (end : ℚ) → int (pos 0) <ℚ end → count (straight_curve s) end ≡ 1
+unfolding count upto
+count_is s end h =
+    let one : length (straight_piece s ∷ []) ≡ 1 = omega arith in
+    ap (λ (b : Bool). length (cond b (straight_piece s ∷ []) [])) (lt_q_out (int (pos 0)) end h) ∙ one
+
+-- ---- its numbers
+abbrev pub straight_numbers : Straight → Numbers
+straight_numbers s = record {
+  times = int (pos 0) ∷ int (pos 0) ∷ [];
+  values = s.at ∷ line_at s.line (int (pos 0)) ∷ [];
+  slopes = s.line.slope ∷ [];
+}
+
+numbers_are : (s : Straight) (end : ℚ) → int (pos 0) <ℚ end → curve_numbers end (straight_curve s) ≡ straight_numbers s
+numbers_are s end h =
+    ap (λ (xs : List Span).
+    let n : Numbers = record { times = int (pos 0) ∷ map (λ (x : Span). x.piece.x) xs; values = flat_map span_values xs; slopes = flat_map span_slopes xs } in n)
+    (spans_are s end h)
+
+-- ---- the window
+record IsEnd (end : ℚ) : Type 0 where
+  pub whole : Whole 1 end
+  pub some : int (pos 0) <ℚ end
+  pub most : end ≤ℚ int (pos 2)
+
+record IsBegin (t : ℚ) : Type 0 where
+  pub whole : Whole 1 t
+  pub nonneg : int (pos 0) ≤ℚ t
+  pub most : t ≤ℚ int (pos 1)
+
+later_begins : (b : Bool) → IsBegin (later_unless b (int (pos 0)))
+later_begins true = record { whole = whole_int 1 (pos 0); nonneg = le_refl (int (pos 0)); most = nat_le 0 1 (omega arith) }
+later_begins false =
+    subst IsBegin (sym (int_add (pos 0) (pos 1))) record { whole = whole_int 1 (pos 1); nonneg = nat_le 0 1 (omega arith); most = le_refl (int (pos 1)) }
+
+begins : (s : Straight) → IsBegin (steady (straight_curve s))
+unfolding steady
+begins s = later_begins (same_ext (read (straight_piece s ∷ []) (int (pos 0))) (line_value (Some s.line) (int (pos 0))))
+
+end_after : (t : ℚ) → IsBegin t → IsEnd (t +ℚ int (pos 1))
+end_after t h =
+    let low = h.nonneg in
+    let most = h.most in
+    record {
+      whole = whole_add 1 t (int (pos 1)) h.whole (whole_int 1 (pos 1));
+      some = with1 t (λ c. omega (arith, c.le, c.lt, c.same));
+      most = with1 t (λ c. omega (arith, c.le, c.lt, c.same));
+    }
+
+later_of : (a b : ℚ) → IsBegin a → IsBegin b → IsBegin (max_q a b)
+later_of a b h k = record {
+  whole = max_whole 1 a b h.whole k.whole;
+  nonneg = le_trans h.nonneg (max_q_ge_left a b);
+  most = max_q_le a b (int (pos 1)) h.most k.most;
+}
+
+ends : (s t : Straight) → IsEnd (window_at Sum (straight_curve s) (straight_curve t) 0 0)
+unfolding window_at common_period
+ends s t = end_after (both_steady (straight_curve s) (straight_curve t)) (later_of (steady (straight_curve s)) (steady (straight_curve t)) (begins s) (begins t))
+
+-- ---- small numbers
+little_size : (x : ℚ) → den x ≡ 1 → nat_abs x.num ≤ 2 ^ 48 → size_up x ≤ 2 ^ 48
+unfolding size_up
+little_size x e h =
+    let over : (nat_abs x.num + (1 - 1)) / 1 ≡ nat_abs x.num + (1 - 1) = div-one (nat_abs x.num + (1 - 1)) in
+    let most : up_over (nat_abs x.num) 1 ≤ 2 ^ 48 = omega (arith, over, h) in
+    subst (λ d. up_over (nat_abs x.num) d ≤ 2 ^ 48) (sym e) most
+
+pub little_in : (x : ℚ) → den x ≡ 1 → nat_abs x.num ≤ 2 ^ 48 → IsLittle x
+little_in x e h = record {
+  whole = subst (λ d. Whole d x) e (whole_den x);
+  within = within_weaken (int (pos (size_up x))) (int (pos (2 ^ 48))) x (nat_le (size_up x) (2 ^ 48) (little_size x e h)) (size_up_within x);
+}
+
+twice_within : (x : ℚ) → Within (int (pos (2 ^ 48))) x → Within (int (pos (2 ^ 49))) (int (pos 2) *ℚ x)
+twice_within x h =
+    let v = int (pos (2 ^ 48)) in
+    subst (λ y. Within (int (pos (2 ^ 49))) y) (two_times x) (subst (λ w. Within w (x +ℚ x)) (int_add (pos (2 ^ 48)) (pos (2 ^ 48))) (within_add v v x x h h))
+
+den_small : (xs : List ℚ) → AllByRecursion (Whole 1) xs → common_den xs ≡ 1
+den_small xs h =
+    let one : 0 < 1 = omega arith in
+    let most : common_den xs ≤ 1 = le_of_dvd one (common_den_least 1 xs h) in
+    let some = common_den_pos xs in
+    omega arith
+
+all_whole : (xs : List ℚ) → AllByRecursion IsLittle xs → AllByRecursion (Whole 1) xs
+all_whole xs h = every_weaken {P = IsLittle} {Q = Whole 1} (λ v k. k.whole) xs h
+
+bound_small : (xs : List ℚ) → AllByRecursion IsLittle xs → bound_of xs ≤ 2 ^ 48
+bound_small xs h = bound_least (2 ^ 48) xs (omega arith) (every_weaken {P = IsLittle} {Q = Within (int (pos (2 ^ 48)))} (λ v k. k.within) xs h)
+
+small_product : (v s dv dt ds : ℕ) → v ≤ 2 ^ 50 → s ≤ 2 ^ 49 → dv ≡ 1 → dt ≡ 1 → ds ≡ 1 → 64 * (v * s * dv * dt * ds * ds) < 2 ^ 120
+small_product v s dv dt ds hv hs a b c =
+    let m : v * s ≤ 2 ^ 50 * s = mul-le-mul_right s hv in
+    rw (a, b, c) (omega (arith, m, hs))
+
+icept_is : (s : Straight) → line_at s.line (int (pos 0)) ≡ s.line.icept
+icept_is s = ap (λ y. s.line.icept +ℚ y) (mul_zero s.line.slope) ∙ add_zero s.line.icept
+
+at_icept : (s : Straight) → AreLittle s → IsLittle (line_at s.line (int (pos 0)))
+at_icept s h = subst IsLittle (sym (icept_is s)) h.icept
+
+reach_small : (n : ℕ) (end : ℚ) → n ≤ 2 ^ 49 → end ≤ℚ int (pos 2) → int (pos n) *ℚ end ≤ℚ int (pos (2 ^ 50))
+reach_small n end h l =
+    le_trans (mul_le_mul (int (pos n)) (nat_nonneg n) l) (subst (λ y. y ≤ℚ int (pos (2 ^ 50))) (sym (int_mul (pos n) (pos 2))) (nat_le (n * 2) (2 ^ 50) (omega arith)))
+
+both_small : (s t : Straight) (end : ℚ) → IsEnd end → AreLittle s → AreLittle t → gauge_of (sizes_of end (joined no_numbers (joined (straight_numbers s) (straight_numbers t)))) < 2 ^ 120
+unfolding gauge_of
+both_small s t end E S T =
+    let zero = whole_int 1 (pos 0) in
+    let n = joined no_numbers (joined (straight_numbers s) (straight_numbers t)) in
+    let values : AllByRecursion IsLittle n.values = (S.at, (at_icept s S, (T.at, (at_icept t T, tt)))) in
+    let times : AllByRecursion (Whole 1) (end ∷ n.times) = (E.whole, (zero, (zero, (zero, (zero, tt))))) in
+    let slopes : AllByRecursion (Whole 1) n.slopes = (S.slope.whole, (T.slope.whole, tt)) in
+    let twices : AllByRecursion (Within (int (pos (2 ^ 49)))) (twice n.slopes) = (twice_within s.line.slope S.slope.within, (twice_within t.line.slope T.slope.within, tt)) in
+    let steep : bound_of (twice n.slopes) ≤ 2 ^ 49 = bound_least (2 ^ 49) (twice n.slopes) (omega arith) twices in
+    let value = bound_small n.values values in
+    let below : bound_of n.values ≤ 2 ^ 50 = omega (arith, value) in
+    let far = whole_up_most (int (pos (bound_of (twice n.slopes))) *ℚ end) (2 ^ 50) (reach_small (bound_of (twice n.slopes)) end steep E.most) in
+    let z = sizes_of end n in
+    small_product z.largest z.steepness z.dv z.dt z.ds (max-le below far) steep (den_small n.values (all_whole n.values values)) (den_small (end ∷ n.times) times) (den_small n.slopes slopes)
+
+little_gauge : (s t : Straight) → AreLittle s → AreLittle t → gauge_at Sum (straight_curve s) (straight_curve t) 0 0 < 2 ^ 120
+unfolding gauge_over
+little_gauge s t S T =
+    let E = ends s t in
+    let end = window_at Sum (straight_curve s) (straight_curve t) 0 0 in
+    subst (λ (n : Numbers). gauge_of (sizes_of end (joined no_numbers n)) < 2 ^ 120) (sym (ap₂ joined (numbers_are s end E.some) (numbers_are t end E.some))) (both_small s t end E S T)
+
+few : (s t : Straight) → tally_at Sum (straight_curve s) (straight_curve t) 0 0 ≤ 2 ^ 20
+unfolding tally_over
+few s t =
+    let E = ends s t in
+    let end = window_at Sum (straight_curve s) (straight_curve t) 0 0 in
+    let a = count_is s end E.some in
+    let b = count_is t end E.some in
+    let all : count (straight_curve s) end + count (straight_curve t) end ≤ 2 ^ 20 = omega (arith, a, b) in
+    all
+
+little_within : (s t : Straight) → AreLittle s → AreLittle t → IsSumWithin (straight_curve s) (straight_curve t)
+little_within s t S T = record { gauge = little_gauge s t S T; tally = few s t }
+
+-- ---- the steps of a sum within the limits fit
+piece_stands : (z : Sizes) (end : ℚ) (s : Straight) → IsCurve (straight_curve s) → AreLimited z end → int (pos 0) <ℚ end → Stands z (curve_numbers end (straight_curve s))
+    → OperandPiece z end (straight_piece s)
+piece_stands z end s C A some h =
+    (subst (λ ps. Each (OperandPiece z end) ps) (unrolled_is s end some) (operand_pieces z end (straight_curve s) C A some h).each).0
+
+pub total_fits : (s t : Straight) → IsCurve (straight_curve s) → IsCurve (straight_curve t) → IsSumWithin (straight_curve s) (straight_curve t) → TotalFits s t
+unfolding gauge_over
+total_fits s t F G W =
+    let f = straight_curve s in
+    let g = straight_curve t in
+    let end = window_at Sum f g 0 0 in
+    let n = numbers_over Sum f g end in
+    let z = sizes_of end n in
+    let E = ends s t in
+    let A : AreLimited z end = record { sizes = are_sizes end n; gauge = W.gauge; some = le_of_lt E.some } in
+    let stand = sizes_stand end n in
+    let P = piece_stands z end s F A E.some (first_stands Sum z end f g stand) in
+    let Q = piece_stands z end t G A E.some (second_stands Sum z end f g stand) in
+    let lines = operand_lines_fit z end s.line t.line A P.line Q.line in
+    record {
+      at = (values_fit z end s.at t.at A (stands_operand_value z (Fin s.at) P.at) (stands_operand_value z (Fin t.at) Q.at)).0;
+      icept = lines.icepts;
+      slope = lines.slopes;
+    }
+
+pub call_within : (f g : SpecCurve) → IsSumWithin f g → IsWithin Sum f g
+call_within f g h = within_at_least Sum f g 0 0 (sum_least f g) h.gauge h.tally
+
+-- ---- of two curves that are such
+pub total_is : (f g c : SpecCurve) (s t : Straight) → f ≡ straight_curve s → g ≡ straight_curve t → c ≡ straight_curve (total s t)
+    → (x : ℚ) → value_at c x ≡ value_at f x +ₑ value_at g x
+total_is f g c s t a b e x = ap (λ k. value_at k x) e ∙ total_value s t x ∙ sym (ap₂ (λ (v w : SpecCurve). value_at v x +ₑ value_at w x) a b)
+
+pub steps_fit : (f g : SpecCurve) (s t : Straight) → f ≡ straight_curve s → g ≡ straight_curve t → IsCurve f → IsCurve g → IsSumWithin f g → TotalFits s t
+steps_fit f g s t a b F G W =
+    total_fits s t (subst IsCurve a F) (subst IsCurve b G) (subst (λ x. IsSumWithin (straight_curve s) x) b (subst (λ x. IsSumWithin x g) a W))
+
+pub small_within : (f g : SpecCurve) (s t : Straight) → f ≡ straight_curve s → g ≡ straight_curve t → AreLittle s → AreLittle t → IsSumWithin f g
+small_within f g s t a b S T = subst (λ x. IsSumWithin x g) (sym a) (subst (λ x. IsSumWithin (straight_curve s) x) (sym b) (little_within s t S T))

@@ -1,0 +1,11 @@
+use Rattle.std.specs.Prelude.{◌≡◌, ◌≤◌, ◌^◌, nat_abs}
+use Rattle.std.proofs.Common.{arith}
+use Rattle.upp_limits.specs.rational.specs.Rational.{den}
+use Rattle.plain_operators.proofs.pointwise.StraightSums.{little_in}
+use Rattle.plain_operators.proofs.pointwise.straight.is_little.Goals as goal
+
+pub returns : goal.returns
+returns c =
+    let one : den c.args.x ≡ 1 = omega arith in
+    let most : nat_abs c.args.x.num ≤ 2 ^ 48 = omega arith in
+    λ k. little_in c.args.x one most

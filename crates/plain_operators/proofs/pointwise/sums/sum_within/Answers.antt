@@ -1,0 +1,38 @@
+use Rattle.std.proofs.Common.{◌∙◌, refl, sym, ap₂, subst}
+use Rattle.upp_limits.specs.rational.specs.Rational.{ℚ, ◌+ℚ◌}
+use Rattle.upp_limits.specs.rational.specs.Ratio.{SumFits}
+use Rattle.upp_limits.specs.upp_curve.specs.Steady.{rise_over}
+use Rattle.upp_limits.specs.upp_curve.specs.Unrolled.{unroll}
+use Rattle.upp_limits.specs.declared.op_kind.OpKind.TheVariants.{Sum}
+use Rattle.curve_call.specs.upp_normal.proofs.NormaliseForm.{ok_map}
+use Rattle.curve_call.specs.Frames.{sizes_at}
+use Rattle.plain_operators.proofs.pointwise.SumCall.{sum_call, rises_fit, sum_answer, sum_values}
+use Rattle.plain_operators.proofs.pointwise.sums.sum_within.Goals as goal
+
+pub rise_over-first-requires : goal.rise_over-first-requires
+rise_over-first-requires c = (sum_call c.args.f.now c.args.g.now c.args.frame.now c.requires).left_rise.fits
+
+pub rise_over-second-requires : goal.rise_over-second-requires
+rise_over-second-requires c = (sum_call c.args.f.now c.args.g.now c.args.frame.now c.requires).right_rise.fits
+
+pub sum-rise-requires : goal.sum-rise-requires
+sum-rise-requires c =
+    let f = c.args.f.now in let g = c.args.g.now in let r = c.args.frame.now in
+    subst (λ (y : ℚ). SumFits c.rise_over-first.result y) (sym c.rise_over-second.ensures)
+    (subst (λ (x : ℚ). SumFits x (rise_over g r.period)) (sym c.rise_over-first.ensures) (rises_fit f g r (sizes_at Sum f g 0 0) (sum_call f g r c.requires)))
+
+pub answer-requires : goal.answer-requires
+answer-requires c =
+    let f = c.args.f.now in let g = c.args.g.now in let r = c.args.frame.now in
+    sum_answer f g r (sizes_at Sum f g 0 0) (unroll f r.end) (unroll g r.end) c.in_ok-pieces.pieces.items c.sum-rise.result (sum_call f g r c.requires)
+    refl refl c.in_ok-pieces.ensures
+    (c.sum-rise.ensures ∙ ap₂ (λ (x y : ℚ). x +ℚ y) c.rise_over-first.ensures c.rise_over-second.ensures)
+
+pub returns : goal.returns
+returns c =
+    let f = c.args.f.now in let g = c.args.g.now in let r = c.args.frame.now in
+    ok_map c.answer.result _ _
+    (λ a h. sum_values f g r (sizes_at Sum f g 0 0) (unroll f r.end) (unroll g r.end) c.in_ok-pieces.pieces.items c.sum-rise.result a (sum_call f g r c.requires)
+    refl refl c.in_ok-pieces.ensures
+    (c.sum-rise.ensures ∙ ap₂ (λ (x y : ℚ). x +ℚ y) c.rise_over-first.ensures c.rise_over-second.ensures) h)
+    c.answer.ensures

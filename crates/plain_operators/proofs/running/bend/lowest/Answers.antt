@@ -1,0 +1,14 @@
+use Rattle.std.proofs.Common.{subst}
+use Rattle.upp_limits.specs.rational.specs.Rational.{◌<ℚ◌}
+use Rattle.upp_limits.specs.rational.proofs.Compared.{is_greater, not_greater}
+use Rattle.plain_operators.proofs.running.Bending.{inf_falling}
+use Rattle.plain_operators.proofs.running.bend.lowest.Goals as goal
+
+pub returns-in_default : goal.returns-in_default
+returns-in_default c =
+    let slope = not_greater c.cmp.result c.cmp.ensures.ranks c.in_default.not-Greater in
+    let r = inf_falling c.args.level c.args.s.now c.zero.result c.lesser.result c.zero.ensures slope c.requires.left c.lesser.ensures in
+    rw (c.straight.ensures, c.level_line.ensures) record { follows = r.follows; made = r.made }
+
+pub lowest_rising-requires-clause-fits : goal.lowest_rising-requires-clause-fits
+lowest_rising-requires-clause-fits c = c.requires.fits (subst (λ z. z <ℚ c.args.s.now.line.slope) c.zero.ensures (is_greater c.cmp.result c.cmp.ensures.ranks c.in-Greater.is))

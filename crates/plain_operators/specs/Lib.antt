@@ -1,0 +1,3 @@
+pub mod pointwise
+pub mod running
+pub use Rattle.curve_call as curve_call

@@ -1,0 +1,4 @@
+pub mod Lattice
+pub mod LatticeCall
+pub mod Shifting
+pub mod Straight

@@ -1,0 +1,49 @@
+-- A curve of one piece: a value at 0, and after it one line for ever; and numbers so small that a sum of two such
+-- curves is within both limits. (Le Boudec and Thiran: a token bucket, whose value at 0 is any one here.) Own choice.
+use Rattle.std.specs.Prelude.{◌<◌, ◌≤◌, ◌^◌, pos, [], ◌∷◌, Some}
+use Rattle.upp_limits.specs.rational.specs.Rational.{ℚ, ◌+ℚ◌, int}
+use Rattle.upp_limits.specs.rational.specs.Grid.{Whole, Within}
+use Rattle.upp_limits.specs.rational.specs.Ratio.{SumFits}
+use Rattle.upp_limits.specs.rational.specs.declared.Extended.TheVariants.{Fin}
+use Rattle.upp_limits.specs.upp_curve.specs.declared.affine_segment.line.Line.{Line}
+use Rattle.upp_limits.specs.upp_curve.specs.declared.affine_segment.line.Piece.{Piece}
+use Rattle.upp_limits.specs.upp_curve.specs.Curve.{SpecCurve}
+use Rattle.upp_limits.specs.upp_curve.specs.declared.curve.Tail.TheVariants.{Affine}
+use Rattle.upp_limits.specs.declared.op_kind.OpKind.TheVariants.{Sum}
+use Rattle.upp_limits.specs.Gauges.{gauge_at, tally_at}
+use Rattle.plain_operators.specs.declared.pointwise.straight.Straight.{Straight}
+
+abbrev pub straight_piece : Straight → Piece
+straight_piece s = record { x = int (pos 0); at = Fin s.at; line = Some s.line }
+
+abbrev pub straight_curve : Straight → SpecCurve
+straight_curve s = record { pieces = straight_piece s ∷ []; tail = Affine (int (pos 0)) }
+
+-- ---- the sum of two
+abbrev pub lines_total : Line → Line → Line
+lines_total l m = record { icept = l.icept +ℚ m.icept; slope = l.slope +ℚ m.slope }
+
+abbrev pub total : Straight → Straight → Straight
+total s t = record { at = s.at +ℚ t.at; line = lines_total s.line t.line }
+
+-- its steps fit
+pub record TotalFits (s t : Straight) : Type 0 where
+  pub at : SumFits s.at t.at
+  pub icept : SumFits s.line.icept t.line.icept
+  pub slope : SumFits s.line.slope t.line.slope
+
+-- the call is within both limits
+pub record IsSumWithin (f g : SpecCurve) : Type 0 where
+  pub gauge : gauge_at Sum f g 0 0 < 2 ^ 120
+  pub tally : tally_at Sum f g 0 0 ≤ 2 ^ 20
+
+-- ---- small numbers
+-- a whole number of at most 2 ^ 48 in size
+pub record IsLittle (x : ℚ) : Type 0 where
+  pub whole : Whole 1 x
+  pub within : Within (int (pos (2 ^ 48))) x
+
+pub record AreLittle (s : Straight) : Type 0 where
+  pub at : IsLittle s.at
+  pub icept : IsLittle s.line.icept
+  pub slope : IsLittle s.line.slope

@@ -1,0 +1,11 @@
+pub mod Scans
+pub mod Bends
+pub mod Made
+pub mod Between
+pub mod Periods
+pub mod Runs
+pub mod Moved
+pub mod Parts
+pub mod Lowest
+pub mod Behind
+pub mod LeftCall

@@ -1,0 +1,17 @@
+//! Operators on curves whose answer at a time is made of the operands' values at one time: sum, minimum, maximum,
+//! positive difference of two, also with a level, multiple and shift.
+
+mod extremes;
+mod lattice;
+mod levels;
+mod scaling;
+mod shifts;
+mod straight;
+mod sums;
+
+pub use extremes::{max, min, pos_diff};
+pub use lattice::Lattice;
+pub use levels::pos_minus;
+pub use scaling::scale;
+pub use shifts::{infinite_curve, left_window, shift};
+pub use sums::sum;

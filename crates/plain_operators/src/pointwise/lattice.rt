@@ -1,0 +1,196 @@
+//! What is made of two curves at each time: the lower, the upper, and what the first has above the second.
+
+ghost use Rattle.std.specs.Prelude.{ℕ, ◌≡◌, ◌+◌, ◌↔◌, pos, true, IsTrue, IfOk, IfErr};
+ghost use Rattle.upp_limits.specs.rational.specs.Rational.{ℚ, int, ◌-ℚ◌, ◌≤ℚ◌, ◌<ℚ◌, neg_ℚ};
+ghost use Rattle.upp_limits.specs.rational.specs.Ratio.{SumFits};
+ghost use Rattle.upp_limits.specs.rational.specs.Extended.{◌<ₑ◌};
+ghost use Rattle.upp_limits.specs.upp_curve.specs.Curve.{value_at};
+ghost use Rattle.upp_limits.specs.upp_curve.specs.Steady.{rate, rise_over};
+ghost use Rattle.upp_limits.specs.upp_curve.specs.Unrolled.{unroll};
+ghost use Rattle.upp_limits.specs.upp_curve.specs.Curves.{IsCurve};
+ghost use Rattle.upp_limits.specs.Outcome.{KeepsLimits, IsCauseOf};
+ghost use Rattle.curve_call.specs.Operands.{HaveSizes, IsMadeOf};
+ghost use Rattle.curve_call.specs.FirstWindows.{IsFirstWindow};
+ghost use Rattle.curve_call.specs.Rises.{CurveRiseFits};
+ghost use Rattle.plain_operators.specs.pointwise.Lattice.{kind_of, made_of, rises_of, FiniteFor, RisesBy, IsTailRise};
+ghost use Rattle.plain_operators.specs.pointwise.LatticeCall.{IsLatticeFrame};
+
+use curve_call::upp_normal::unrolled;
+use curve_call::{
+    CallWindow, Frame, Side, answer, first_window, least_periods, period_bounds, refuse_between,
+    rise_over, window_excess, window_max, window_min, within,
+};
+use std::alloc::{AllocError, Global};
+use std::sync::ledger::Ledger;
+use steps::Steps;
+use upp_limits::fraction128::{Frac, difference};
+use upp_limits::upp_curve::Curve;
+use upp_limits::upp_curve::affine_segment::Piece;
+use upp_limits::{OpFault, OpKind};
+
+/// What is made of two curves.
+#[derive(Debug, Clone, Copy)]
+pub enum Lattice {
+    /// The lower of the two.
+    Lower,
+    /// The upper of the two.
+    Upper,
+    /// What the first has above the second.
+    Excess,
+}
+
+fn kind_of(of: Lattice) -> OpKind
+    ensures { result ≡ kind_of of }
+{
+    match of {
+        Lattice::Lower => OpKind::Min,
+        Lattice::Upper => OpKind::Max,
+        Lattice::Excess => OpKind::PosDiff,
+    }
+}
+
+// Whether f is the slower one.
+fn is_slower(f: &Curve, g: &Curve) -> bool
+    ensures { IsTrue result ↔ (rate f.now <ₑ rate g.now) }
+{
+    curve_call::is_slower(&Side::of(f), &Side::of(g))
+}
+
+// By how much the slower of two curves rises, or the faster.
+fn rise_of_one(second: bool, f: &Curve, g: &Curve, period: Frac) -> Frac
+    requires first { CurveRiseFits f.now period }
+    requires second { CurveRiseFits g.now period }
+    ensures { RisesBy (IsTrue second) (rise_over g.now period) (rise_over f.now period) result }
+{
+    if second {
+        return rise_over(g, period);
+    }
+    rise_over(f, period)
+}
+
+// By how much the first curve rises more than the second, where it is the faster.
+fn rise_apart(faster: bool, f: &Curve, g: &Curve, period: Frac) -> Frac
+    requires first { CurveRiseFits f.now period }
+    requires second { CurveRiseFits g.now period }
+    requires apart { SumFits (rise_over f.now period) (neg_ℚ (rise_over g.now period)) }
+    ensures { RisesBy (IsTrue faster) (rise_over f.now period -ℚ rise_over g.now period) (int (pos 0)) result }
+{
+    if !faster {
+        return Frac::zero();
+    }
+    let first = rise_over(f, period);
+    let second = rise_over(g, period);
+    difference(first, second)
+}
+
+fn tail_rise(of: Lattice, f: &Curve, g: &Curve, period: Frac) -> Frac
+    requires first { CurveRiseFits f.now period }
+    requires second { CurveRiseFits g.now period }
+    requires apart { SumFits (rise_over f.now period) (neg_ℚ (rise_over g.now period)) }
+    ensures { IsTailRise of f.now g.now (rise_over f.now period) (rise_over g.now period) result }
+{
+    match of {
+        Lattice::Lower => rise_of_one(is_slower(g, f), f, g, period),
+        Lattice::Upper => rise_of_one(is_slower(f, g), f, g, period),
+        Lattice::Excess => rise_apart(is_slower(g, f), f, g, period),
+    }
+}
+
+fn window_of(
+    alloc: Global,
+    of: Lattice,
+    f: &[Piece],
+    g: &[Piece],
+    end: Frac,
+) -> Result<Vec<Piece>, AllocError>
+    requires { HaveSizes end f.now g.now }
+    ensures { IfOk result (λ v. IsMadeOf (made_of of) (rises_of of) f.now g.now end v.items) }
+{
+    match of {
+        Lattice::Lower => window_min(alloc, f, g, end),
+        Lattice::Upper => window_max(alloc, f, g, end),
+        Lattice::Excess => window_excess(alloc, f, g, end),
+    }
+}
+
+// The pieces of the answer below the end of its call's window. Those of the operands are let go here, before the normal
+// form takes memory.
+fn pieces_of(
+    alloc: Global,
+    of: Lattice,
+    f: &Curve,
+    g: &Curve,
+    frame: &Frame,
+) -> Result<Vec<Piece>, AllocError>
+    requires { IsLatticeFrame f.now g.now frame.now }
+    ensures { let end = frame.now.end in
+        IfOk result (λ v. IsMadeOf (made_of of) (rises_of of) (unroll f.now end) (unroll g.now end) end v.items) }
+{
+    let left = unrolled(f, frame.end)?;
+    let right = unrolled(g, frame.end)?;
+    window_of(alloc, of, &left, &right, frame.end)
+}
+
+/// What is made of two curves in a call within both limits, where the number of periods is enough.
+pub(crate) fn made_within(
+    alloc: Global,
+    of: Lattice,
+    f: &Curve,
+    g: &Curve,
+    frame: &Frame,
+) -> Result<Curve, AllocError>
+    requires call { IsLatticeFrame f.now g.now frame.now }
+    requires finite { FiniteFor of (value_at f.now) }
+    ensures { IfOk result
+        (λ c. (t : ℚ) → int (pos 0) ≤ℚ t → value_at c t ≡ made_of of (value_at f.now t) (value_at g.now t)) }
+{
+    let pieces = pieces_of(alloc, of, f, g, frame)?;
+    let rise = tail_rise(of, f, g, frame.period);
+    let from = difference(frame.end, frame.period);
+    answer(
+        alloc,
+        pieces,
+        from,
+        frame.period,
+        rise,
+        frame.times,
+        frame.values,
+    )
+}
+
+// Refuses a call where bounds of the number of its periods tell that it is over a limit.
+fn refuse_early(of: Lattice, f: &Curve, g: &Curve, first: &CallWindow) -> Result<(), OpFault>
+    requires curves { IsCurve f.now × IsCurve g.now }
+    requires window { IsFirstWindow (kind_of of) f.now g.now first.now }
+    ensures { IfErr result (IsCauseOf (kind_of of) f.now g.now) }
+{
+    match period_bounds(f, g, first.start, first.period) {
+        None => Ok(()),
+        Some(bounds) => refuse_between(&kind_of(of), f, g, bounds.low, bounds.high),
+    }
+}
+
+/// What is made of two curves.
+pub(crate) fn made_of_curves<L: Ledger>(
+    alloc: Global,
+    of: Lattice,
+    f: &Curve,
+    g: &Curve,
+    steps: &mut Steps<L>,
+) -> Result<Curve, OpFault>
+    requires { FiniteFor of (value_at f.now) }
+    ensures count { steps.new ≡ steps.old + 1 }
+    ensures value { IfOk result
+        (λ c. (t : ℚ) → int (pos 0) ≤ℚ t → value_at c t ≡ made_of of (value_at f.now t) (value_at g.now t)) }
+    ensures limits { KeepsLimits (kind_of of) f.now g.now result }
+{
+    steps.tick();
+    let kind = kind_of(of);
+    let first = first_window(&kind, f, g)?;
+    refuse_early(of, f, g, &first)?;
+    let Some(periods) = least_periods(f, g, first.start, first.period) else {
+        return Err(OpFault::TooWide);
+    };
+    let frame = within(&kind, f, g, periods)?;
+    Ok(made_within(alloc, of, f, g, &frame)?)
+}

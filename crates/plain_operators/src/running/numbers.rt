@@ -1,0 +1,19 @@
+//! A finite value.
+
+ghost use Rattle.std.specs.Prelude.{◌≡◌};
+ghost use Rattle.upp_limits.specs.rational.specs.declared.Extended.TheVariants.{Fin};
+ghost use Rattle.upp_limits.specs.upp_curve.specs.Shapes.{IsNumber};
+
+use upp_limits::fraction128::{Ext, Frac};
+use upp_limits::rational::Extended;
+
+/// A finite value.
+pub(crate) fn number_of(v: Ext) -> Frac
+    requires { IsNumber v }
+    ensures { v ≡ Fin result }
+{
+    match v {
+        Extended::Fin(x) => x,
+        Extended::Inf => Frac::zero(),
+    }
+}

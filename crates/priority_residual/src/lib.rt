@@ -1,8 +1,0 @@
-//! The service of one queue of a priority server: what the queues before it leave, less one packet of those after it.
-#![tactic(auto)]
-
-mod service;
-
-pub use residual_calls::residual_laws::priority_serves;
-pub use residual_calls::{priority_curve_serves, priority_is_determined, priority_service_grows};
-pub use service::priority_service;

@@ -1,0 +1,8 @@
+use Rattle.residuals.proofs.calls.PriorityGrowth.{service_grows, curve_grows}
+use Rattle.residuals.proofs.calls.priority.priority_service_grows.Goals as goal
+
+pub returns-clause-service : goal.returns-clause-service
+returns-clause-service c = service_grows
+
+pub returns-clause-curve : goal.returns-clause-curve
+returns-clause-curve c = curve_grows

@@ -1,0 +1,8 @@
+use Rattle.residuals.proofs.packetiser.PacketGrowth.{service_grows, curve_grows}
+use Rattle.residuals.proofs.packetiser.laws.packet_service_grows.Goals as goal
+
+pub returns-clause-service : goal.returns-clause-service
+returns-clause-service c = service_grows
+
+pub returns-clause-curve : goal.returns-clause-curve
+returns-clause-curve c = curve_grows

@@ -1,0 +1,64 @@
+use Rattle.std.proofs.Common.{◌≡◌, ◌+◌, ◌-◌, refl, subst, arith}
+use Rattle.std.proofs.lemmas.Result.{err_from_is_err_and}
+use Rattle.upp_limits.specs.declared.op_kind.OpKind.TheVariants.{PosDiff, PosMinus}
+use Rattle.plain_operators.specs.curve_call.specs.Calls.{AppliesTo, goes_on, stops}
+use Rattle.plain_operators.specs.curve_call.proofs.Applied.{applied_seen}
+use Rattle.run_laws.specs.Cards.{whole}
+use Rattle.residuals.specs.calls.InTurn.{on_the_way, past, LeftRefused}
+use Rattle.residuals.proofs.calls.PriorityCalls.{difference_finite}
+use Rattle.residuals.proofs.calls.Placed.{if_err}
+use Rattle.residuals.proofs.priority.service.priority_left.Goals as goal
+
+pub returns-in_err-above-clause-answer : goal.returns-in_err-above-clause-answer
+returns-in_err-above-clause-answer g c =
+    let p = err_from_is_err_and c.from_residual.result c.from_residual.ensures.1 in
+    let first = applied_seen PosDiff c.args.beta.now c.args.higher.now c.pos_diff.result c.intact.result
+    c.intact.ensures.same c.pos_diff.ensures.value
+    c.pos_diff.ensures.limits c.intact.ensures.kept in
+    rw (p.1, p.2) (stops c.in_err-above.field-0.0 (rw c.in_err-above.was at first) refl)
+
+pub pos_minus-requires : goal.pos_minus-requires
+pos_minus-requires g c =
+    let first = applied_seen PosDiff c.args.beta.now c.args.higher.now c.pos_diff.result c.intact.result
+    c.intact.ensures.same c.pos_diff.ensures.value
+    c.pos_diff.ensures.limits c.intact.ensures.kept in
+    difference_finite c.args.beta.now c.args.higher.now c.in_ok-above.above c.requires (rw c.in_ok-above.was at
+    first).made
+
+pub returns-clause-answer : goal.returns-clause-answer
+returns-clause-answer g c =
+    let first = applied_seen PosDiff c.args.beta.now c.args.higher.now c.pos_diff.result c.intact.result
+    c.intact.ensures.same c.pos_diff.ensures.value
+    c.pos_diff.ensures.limits c.intact.ensures.kept in
+    let second = applied_seen (PosMinus c.whole.result) c.in_ok-above.above c.in_ok-above.above c.pos_minus.result
+    c.intact-2.result
+    c.intact-2.ensures.same c.pos_minus.ensures.value c.pos_minus.ensures.limits c.intact-2.ensures.kept in
+    goes_on c.in_ok-above.above (rw c.in_ok-above.was at first)
+    (subst (λ l. AppliesTo (PosMinus l) c.in_ok-above.above c.intact-2.result) c.whole.ensures second)
+
+pub returns-in_err-above-clause-refused : goal.returns-in_err-above-clause-refused
+returns-in_err-above-clause-refused g c =
+    let p = err_from_is_err_and c.from_residual.result c.from_residual.ensures.1 in
+    let one = c.pos_diff.ensures.count in
+    let first = applied_seen PosDiff c.args.beta.now c.args.higher.now c.pos_diff.result c.intact.result
+    c.intact.ensures.same c.pos_diff.ensures.value
+    c.pos_diff.ensures.limits c.intact.ensures.kept in
+    rw (p.1, p.2) (on_the_way (omega (arith, one), rw c.in_err-above.was at first))
+
+pub returns-clause-refused : goal.returns-clause-refused
+returns-clause-refused g c =
+    let first = applied_seen PosDiff c.args.beta.now c.args.higher.now c.pos_diff.result c.intact.result
+    c.intact.ensures.same c.pos_diff.ensures.value
+    c.pos_diff.ensures.limits c.intact.ensures.kept in
+    let second = applied_seen (PosMinus c.whole.result) c.in_ok-above.above c.in_ok-above.above c.pos_minus.result
+    c.intact-2.result
+    c.intact-2.ensures.same c.pos_minus.ensures.value c.pos_minus.ensures.limits c.intact-2.ensures.kept in
+    let one = c.pos_diff.ensures.count in
+    let two = c.pos_minus.ensures.count in
+    let both : c.pos_minus.new.steps - c.args.steps.now ≡ 1 + 1 = omega (arith, one, two) in
+    if_err c.intact-2.result (λ e. LeftRefused c.args.beta.now c.args.higher.now c.args.lower e (c.pos_minus.new.steps - c.args.steps.now))
+    (λ fault is. past c.in_ok-above.above 1 (rw c.in_ok-above.was at first) both (
+      refl,
+      subst (λ r. AppliesTo (PosMinus (whole c.args.lower)) c.in_ok-above.above r) is
+          (subst (λ l. AppliesTo (PosMinus l) c.in_ok-above.above c.intact-2.result) c.whole.ensures second),
+    ))

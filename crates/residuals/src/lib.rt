@@ -1,0 +1,11 @@
+//! What a server's curve leaves for a queue, for each discipline, and the packetiser.
+#![tactic(auto)]
+
+pub mod calls;
+pub mod drr;
+pub mod fifo;
+pub mod packetiser;
+pub mod priority;
+
+pub use plain_operators::curve_call;
+pub use residual_laws;

@@ -1,0 +1,35 @@
+//! The curve of whole packets.
+
+ghost use Rattle.std.specs.Prelude.{◌≡◌, ◌+◌, IfOk};
+ghost use Rattle.upp_limits.specs.rational.specs.Rational.{ℚ, ◌≤ℚ◌};
+ghost use Rattle.upp_limits.specs.declared.op_kind.OpKind.TheVariants.{PosMinus};
+ghost use Rattle.upp_limits.specs.upp_curve.specs.Curve.{value_at};
+ghost use Rattle.upp_limits.specs.min_plus.specs.Functions.{zero_q, IsFinite};
+ghost use Rattle.upp_limits.specs.min_plus.specs.Pointwise.{IsPositiveMinus};
+ghost use Rattle.plain_operators.specs.curve_call.specs.Calls.{AppliesTo};
+
+use plain_operators::curve_call::intact;
+use plain_operators::pointwise::pos_minus;
+use std::alloc::Global;
+use std::sync::ledger::Ledger;
+use steps::Steps;
+use upp_limits::OpFault;
+use upp_limits::fraction128::Frac;
+use upp_limits::upp_curve::Curve;
+
+/// The service of whole packets by a server whose curve is `beta`: at each time the greater of 0 and beta less `l`,
+/// the bits of the longest packet (Le Boudec and Thiran, packetisers). beta is finite. One operator, one step; it is
+/// refused with TooWide or TooMany exactly where the operator is over that limit, else only for want of memory.
+pub fn packetised<L: Ledger>(
+    alloc: Global,
+    beta: &Curve,
+    l: Frac,
+    steps: &mut Steps<L>,
+) -> Result<Curve, OpFault>
+    requires { IsFinite (value_at beta.now) }
+    ensures answer { AppliesTo (PosMinus l) beta.now result }
+    ensures value { IfOk result (λ c. (t : ℚ) → zero_q ≤ℚ t → IsPositiveMinus (value_at beta.now) l t (value_at c t)) }
+    ensures count { steps.new ≡ steps.old + 1 }
+{
+    intact(pos_minus(alloc, beta, l, steps))
+}

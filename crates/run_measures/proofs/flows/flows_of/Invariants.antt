@@ -1,6 +1,0 @@
-use Rattle.std.proofs.Common.{◌≡◌, ◌++◌, drop}
-use Rattle.run_measures.specs.Numbered.{flows_in}
-use Rattle.run_measures.proofs.flows.flows_of.Given as goal
-
-abbrev pub invariant-loop-step : goal.invariant-loop-step
-invariant-loop-step l = l.flows.items ++ flows_in (drop l.step-index l.steps) ≡ flows_in l.steps

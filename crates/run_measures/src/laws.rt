@@ -1,8 +1,0 @@
-//! Laws of lawful runs. A law is the contract of a function that does nothing.
-
-ghost use Rattle.run_measures.specs.Laws.{LawfulRunsAreNumbered};
-
-/// The packets of a lawful run are numbered in the order in which they enter.
-pub fn lawful_runs_are_numbered()
-    ensures { LawfulRunsAreNumbered }
-{}

@@ -1,0 +1,38 @@
+use Rattle.std.proofs.Common.{◌≡◌, ◌∙◌, sym, subst, ap}
+use Rattle.upp_limits.specs.upp_curve.specs.Curve.{SpecCurve}
+use Rattle.upp_limits.specs.Limits.{curve_numbers}
+use Rattle.upp_limits.specs.Sized.{Stands}
+use Rattle.net_model.specs.run_laws.specs.Runs.{SpecRun}
+use Rattle.net_model.specs.NetRoutes.{routes_of}
+use Rattle.net_model.specs.Views.{flow_of}
+use Rattle.net_cells.specs.Numbered.{arrival, arrival_of}
+use Rattle.flow_watch.specs.watch_laws.Entries.{entries}
+use Rattle.flow_watch.proofs.watch_laws.Entered.{in_order}
+use Rattle.run_watch.specs.FirstOf.{EnterInOrder}
+use Rattle.run_watch.proofs.first_breaches.CurvesRead.{flow_reads}
+use Rattle.run_watch.proofs.first_breaches.Parts.{arrival_one, live_flow_is}
+use Rattle.run_watch.proofs.first_breaches.arrivals.first_arrival_of.Goals as goal
+
+pub arrival_breach-requires-clause-reads : goal.arrival_breach-requires-clause-reads
+arrival_breach-requires-clause-reads c =
+    let net = c.args.net.now in
+    let run = c.args.run.now in
+    let flow = c.args.number in
+    let R = c.requires.sizes.1 in
+    let f = c.in-Some.flow.now in
+    let steps_are = c.deref.ensures.value ∙ ap (λ (r : SpecRun). r.steps) c.run.view_is in
+    let packets_are : c.deref-in-Some.result.now ≡ entries flow run.steps = c.deref-in-Some.ensures.value ∙ c.in_ok-packets-in-Some.ensures ∙ ap (entries flow) steps_are in
+    let curve : f.arrival ≡ arrival net flow = ap arrival_of c.in-Some.ensures.flow in
+    let stands = R.arrivals flow (live_flow_is net flow (flow_of f) c.in-Some.ensures.flow) in
+    flow_reads c.requires.sizes.0 run.end flow f.arrival run.steps c.deref-in-Some.result.now R.limited c.keeps.ensures
+    (subst (λ (k : SpecCurve). Stands c.requires.sizes.0 (curve_numbers run.end k)) (sym curve) stands) R.steps (in_order (routes_of net) run flow c.requires.lawful) packets_are
+
+pub returns-in_ok-packets-in-Some : goal.returns-in_ok-packets-in-Some
+returns-in_ok-packets-in-Some c =
+    let net = c.args.net.now in
+    let run = c.args.run.now in
+    let flow = c.args.number in
+    let steps_are = c.deref.ensures.value ∙ ap (λ (r : SpecRun). r.steps) c.run.view_is in
+    let packets_are : c.deref-in-Some.result.now ≡ entries flow run.steps = c.deref-in-Some.ensures.value ∙ c.in_ok-packets-in-Some.ensures ∙ ap (entries flow) steps_are in
+    let order = subst EnterInOrder (sym packets_are) (in_order (routes_of net) run flow c.requires.lawful) in
+    arrival_one net run flow (flow_of c.in-Some.flow.now) c.arrival_breach.result c.in-Some.ensures.flow (c.arrival_breach.ensures run packets_are order)

@@ -1,0 +1,2 @@
+pub mod CurveEnds
+pub mod Rated

@@ -1,0 +1,11 @@
+//! Packets on links.
+
+use fraction128::Frac;
+
+/// Where a packet on a link goes, and when it is there.
+#[derive(Debug, Clone, Copy)]
+pub struct Arrival {
+    /// The number of the server that it reaches.
+    pub server: u32,
+    pub time: Frac,
+}

@@ -1,5 +1,0 @@
-use Rattle.sim_states.proofs.Taking as proofs
-use Rattle.sim_states.proofs.laws.arrivals_may_be_taken.Goals as goal
-
-pub returns : goal.returns
-returns c = proofs.may_take_reach

@@ -1,8 +1,0 @@
-use Rattle.std.proofs.Common.{◌≡◌, drop, length}
-use Rattle.simulated_findings.specs.Told.{less_stalled}
-use Rattle.simulated_findings.proofs.told.less_stalled.Given as goal
-
-abbrev pub invariant-loop-stall : goal.invariant-loop-stall
-invariant-loop-stall l =
-    (length l.left.items ≡ length l.fn.told.items)
-    × (less_stalled l.left.items (drop l.stall-index l.stalls) ≡ less_stalled l.fn.told.items l.stalls)

@@ -1,0 +1,2 @@
+pub mod run_measures
+pub mod packet_sim

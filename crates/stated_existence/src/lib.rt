@@ -1,6 +1,0 @@
-//! A law of stated runs: an accepted network and a trace of it have one.
-#![tactic(auto)]
-
-mod laws;
-
-pub use laws::stated_runs_exist;

@@ -1,5 +1,0 @@
-use Rattle.step_lines.proofs.PlacedPairs.{IsPlacing}
-use Rattle.step_lines.proofs.places.places_of.Given as goal
-
-abbrev pub invariant-loop-entering : goal.invariant-loop-entering
-invariant-loop-entering l = IsPlacing l.height l.spare l.rate l.entries l.entering-index l.bits l.places.items

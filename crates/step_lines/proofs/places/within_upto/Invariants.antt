@@ -1,5 +1,0 @@
-use Rattle.step_lines.proofs.PlacedPairs.{AreLaid}
-use Rattle.step_lines.proofs.places.within_upto.Given as goal
-
-abbrev pub invariant-loop-number : goal.invariant-loop-number
-invariant-loop-number l = AreLaid l.slack l.wide l.parts l.nodes l.places l.number l.least

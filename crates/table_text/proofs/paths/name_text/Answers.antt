@@ -1,5 +1,0 @@
-use Rattle.table_text.proofs.PathTexts.{name_is_text}
-use Rattle.table_text.proofs.paths.name_text.Goals as goal
-
-pub unreachable-requires : goal.unreachable-requires
-unreachable-requires c = c.in-Err.ensures.cases.0 (name_is_text c.args.name.now c.requires)

@@ -1,7 +1,0 @@
-use Rattle.std.proofs.Common.{sym}
-use Rattle.csv.specs.Records.{fields_of}
-use Rattle.table_text.proofs.PlainTexts.{plain_is_text}
-use Rattle.table_text.proofs.rows.text_at.Goals as goal
-
-pub unreachable-requires : goal.unreachable-requires
-unreachable-requires c = c.in-Err.ensures.cases.0 (plain_is_text (fields_of c.args.row.now) c.args.place c.in-Some.bytes.now c.requires (sym c.in-Some.ensures.value))
