@@ -270,11 +270,10 @@ class Report(WithFolder):
 
 
 class WhatIf(WithFolder):
-    def rows(self, text, net=STAIR, deadlines="flow,deadline\nvideo,470\ntracks,500\n"):
-        words = ["--deadlines", self.file("d.csv", deadlines)] if deadlines else []
-        return tool(
-            "what_if.py", net, self.file("e.csv", text), *words, "--write", self.folder / "o.toml", "--program", PROGRAM
-        )
+    def rows(self, text, net=STAIR, deadlines="flow,deadline\nvideo,470\ntracks,500\n", words=(), program=PROGRAM):
+        words = [*words, *(["--deadlines", self.file("d.csv", deadlines)] if deadlines else [])]
+        words += ["--write", self.folder / "o.toml", "--program", program]
+        return tool("what_if.py", net, self.file("e.csv", text), *words)
 
     def test_each_row_has_its_line(self):
         run = self.rows(
@@ -317,6 +316,34 @@ class WhatIf(WithFolder):
             ).stdout
             wanted = [line for line in wanted.splitlines() if not line.startswith("edit ")]
             self.assertEqual(networks.analyse(self.folder / "o.toml", PROGRAM).text.splitlines(), wanted)
+
+    def test_the_bounds_after_each_row_stand_beside_those_before(self):
+        """Each column is what `edit` tells of so many rows, rounded up; a row that is refused has that of the row
+        before it."""
+        rows = "latency,sw1-sw2,8\nrate,s9,1\nadd,log,4032,4032,1,radar\npacket,log,8000\nundo\ndrop,log\n"
+        self.rows(rows, words=["--csv", self.folder / "o.csv"])
+        with open(self.folder / "o.csv", newline="") as file:
+            table = {row.pop("flow"): row for row in csv.DictReader(file)}
+        self.assertEqual({name: row.pop("deadline_us") for name, row in table.items()}, {
+            "video": "470.000", "tracks": "500.000", "log": "",
+        })  # fmt: skip
+        self.assertEqual(list(table["log"]), ["before_us", *(f"after_{row}_us" for row in range(1, 7))])
+        for count, column in enumerate(table["log"]):
+            edits = self.file("e.csv", "".join(rows.splitlines(keepends=True)[:count]))
+            run = what_if.subprocess.run([PROGRAM, "edit", STAIR, edits], capture_output=True, text=True, check=True)
+            told = {name: report.shown(bound) for name, bound in what_if.bounds_of(run.stdout).items()}
+            self.assertEqual({name: row[column] for name, row in table.items() if row[column]}, told, column)
+
+    def test_a_long_list_is_edited_once(self):
+        """Each other network is analysed once, and no row makes the rows before it anew."""
+        asked = self.folder / "asked"
+        counting = self.file("counting", f'#!/bin/sh\necho "$1" >>{asked}\nexec {PROGRAM} "$@"\n')
+        counting.chmod(0o755)
+        run = self.rows("rate,radar,90\nundo\n" * 10, program=counting)
+        self.assertEqual(run.stdout.count(": taken; "), 20, run.stderr)
+        words = asked.read_text().split()
+        # The network as it is, once before all and once with the others, that of the first row; and lint's look.
+        self.assertEqual({word: words.count(word) for word in words}, {"analyse": 3, "edit": 1, "measure": 1})
 
     def test_a_longer_packet_leaves_its_curve(self):
         run = self.rows("packet,tracks,8000\n", deadlines=None)
