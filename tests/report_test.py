@@ -434,6 +434,35 @@ class ImportAndSweep(WithFolder):
         for words in (["--longest-gap", "0"], ["--longest-gap", "x"], ["--version", "3"]):
             self.assertEqual(self.made(*words).returncode, 2)
 
+    def test_what_a_switch_holds_each_frame_is_a_part_of_the_link_before(self):
+        ports = "name,rate,latency,link,discipline,delay\nes1,100,,0.1,,\nsw1-p1,100,16,,priority 2,5.25\n"
+        run = self.made(ports=ports)
+        first, second = networks.load(self.file("n.toml", run.stdout))["server"]
+        self.assertEqual((Fraction(first["link"]), second.get("link"), second["service"]["latency"]), (
+            Fraction(535, 100), None, 16,
+        ))  # fmt: skip
+        self.assertIn("# What the switches hold each frame is a part of the links that lead to them.\n", run.stdout)
+        # The bound is greater by the delay alone.
+        bounds = [
+            networks.analyse(self.file("m.toml", self.made(ports=text).stdout), PROGRAM).flows["vl1"]["bound"]
+            for text in (ports, ports.replace("5.25", ""))
+        ]
+        self.assertEqual(bounds[0] - bounds[1], Fraction(525, 100))
+        rounded = networks.load(self.file("g.toml", self.made("--grid", 1, ports=ports).stdout))
+        self.assertEqual(rounded["server"][0]["link"], 7)
+        two = ports + "sw1-p2,100,16,,,5\n"
+        for links, table, told in [
+            (LINKS, ports.replace("0.1,,", "0.1,,1"), "links.csv line 2: port es1 has a delay and is the first"),
+            (LINKS, ports.replace("5.25", "-1"), "ports.csv line 3: delay -1 is below 0"),
+            (LINKS, ports.replace("delay", "delay,delay"), "ports.csv line 1: two columns delay"),
+            (
+                LINKS.replace("1,es1 sw1-p1", "1,es1 sw1-p2"),
+                two,
+                "links.csv line 3: ports sw1-p1 and sw1-p2 have unlike delays, and both stand behind es1",
+            ),
+        ]:
+            self.refused(told, "import_icd.py", self.file("links.csv", links), self.file("ports.csv", table))
+
     def test_a_rate_of_version_2_is_not_rounded_down(self):
         run = self.made("--version", 2, "--grid", 4, ports=PORTS.replace("100", "100.1", 1))
         self.assertEqual((run.returncode, run.stdout), (1, ""))

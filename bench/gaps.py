@@ -1,0 +1,81 @@
+#!/usr/bin/env python3
+"""How long an analysis of virtual links takes, by the longest gap that they are cut to.
+
+    python3 bench/gaps.py [NETCALC] [--seconds S]
+
+The networks are made here from a seed: a switch in the middle with others around it, two end systems at each of these,
+links of 100 Mbit/s, two priorities at the ports of switches. Links have gaps of 2, 4, .. 128 milliseconds and frames of
+84 to 512 bytes, and lead from one outer switch to another, so over four ports. The file is what `netcalc import
+--version 2 --longest-gap G` makes of their tables. A line of the table is one run, with at most S seconds of a processor
+(60)."""
+
+import argparse
+import os
+import pathlib
+import random
+import resource
+import subprocess
+import sys
+import tempfile
+
+TOP = pathlib.Path(__file__).resolve().parent.parent
+SIZES = [(60, 3), (120, 5), (256, 9)]  # links, and switches with the one in the middle
+GAPS = [128, 8, 4, 2]
+
+
+def tables(links, switches):
+    """The tables of links and of ports."""
+    draw = random.Random(links)
+    rows, ports = ["name,bag,largest_frame,jitter,priority,path"], {}
+    for number in range(links):
+        start, end = draw.sample(range(1, switches), 2)
+        first, last = (2 * switch + draw.randrange(2) for switch in (start, end))
+        path = [f"es{first}", f"sw{start}-sw0", f"sw0-sw{end}", f"sw{end}-es{last}"]
+        ports |= dict.fromkeys(path)
+        gap, frame = draw.choice([2, 4, 8, 16, 32, 64, 128]), draw.choice([84, 164, 256, 512])
+        rows.append(f"v{number},{gap},{frame},,{draw.randrange(2)},{' '.join(path)}")
+    made = (f"{port},100,,0.1," if port.startswith("es") else f"{port},100,16,0.1,priority 2" for port in ports)
+    return "\n".join(rows), "\n".join(["name,rate,latency,link,discipline", *made])
+
+
+def analysed(program, network, seconds):
+    """The status of an analysis, its seconds of a processor, its MiB, and what it prints; the status is `late` where it
+    takes longer."""
+    hold = lambda: resource.setrlimit(resource.RLIMIT_CPU, (seconds, seconds))
+    with tempfile.TemporaryFile("w+") as answer:
+        child = subprocess.Popen([program, "analyse", network], stdout=answer, preexec_fn=hold)
+        _, status, used = os.wait4(child.pid, 0)
+        child.returncode = os.waitstatus_to_exitcode(status)
+        answer.seek(0)
+        told = "late" if child.returncode < 0 else child.returncode
+        return told, used.ru_utime + used.ru_stime, used.ru_maxrss / 1024, answer.read()
+
+
+def line_of(program, folder, links, switches, gap, seconds):
+    """A line of the table."""
+    for name, text in zip(("links.csv", "ports.csv"), tables(links, switches)):
+        (folder / name).write_text(text + "\n")
+    words = ["--version", "2", "--longest-gap", str(gap), folder / "links.csv", folder / "ports.csv"]
+    run = subprocess.run([sys.executable, TOP / "tools/import_icd.py", *words], stdout=subprocess.PIPE, check=True)
+    (folder / "n.toml").write_bytes(run.stdout)
+    status, took, memory, told = analysed(program, folder / "n.toml", seconds)
+    without = sum(line.startswith("flow ") and line.endswith(" unbounded") for line in told.splitlines())
+    ports = (folder / "ports.csv").read_text().count("\n") - 1
+    return f"| {links} | {switches} | {ports} | {gap} | {status} | {without} | {took:.2f} | {memory:.0f} |"
+
+
+def main():
+    parser = argparse.ArgumentParser(description=__doc__, formatter_class=argparse.RawDescriptionHelpFormatter)
+    parser.add_argument("program", nargs="?", default=TOP / "bin/x86_64-linux/netcalc")
+    parser.add_argument("--seconds", type=int, default=60)
+    words = parser.parse_args()
+    print("| Links | Switches | Ports | Longest gap, ms | Status | Flows without a bound | Seconds | MiB |")
+    print("|---|---|---|---|---|---|---|---|")
+    with tempfile.TemporaryDirectory() as folder:
+        for links, switches in SIZES:
+            for gap in GAPS:
+                print(line_of(words.program, pathlib.Path(folder), links, switches, gap, words.seconds), flush=True)
+
+
+if __name__ == "__main__":
+    main()
