@@ -5,9 +5,9 @@
 
 The networks are made here from a seed: a switch in the middle with others around it, two end systems at each of these,
 links of 100 Mbit/s, two priorities at the ports of switches. Links have gaps of 2, 4, .. 128 milliseconds and frames of
-84 to 512 bytes, and lead from one outer switch to another, so over four ports. The file is what `netcalc import
---version 2 --longest-gap G` makes of their tables. A line of the table is one run, with at most S seconds of a processor
-(60)."""
+84 to 512 bytes, and lead from one outer switch to another, so over four ports. The files are what `netcalc import`
+makes of their tables: stairs of version 2 with each of some longest gaps, and buckets on a grid of quarters. A line of the
+table is one run, with at most S seconds of a processor (60)."""
 
 import argparse
 import os
@@ -20,7 +20,8 @@ import tempfile
 
 TOP = pathlib.Path(__file__).resolve().parent.parent
 SIZES = [(60, 3), (120, 5), (256, 9)]  # links, and switches with the one in the middle
-GAPS = [128, 8, 4, 2]
+WAYS = [["--version", "2", "--longest-gap", str(gap)] for gap in (128, 8, 4, 2)] + [["--buckets", "--grid", "4"]]
+IMPORT = TOP / "tools/import_icd.py"
 
 
 def tables(links, switches):
@@ -51,17 +52,18 @@ def analysed(program, network, seconds):
         return told, used.ru_utime + used.ru_stime, used.ru_maxrss / 1024, answer.read()
 
 
-def line_of(program, folder, links, switches, gap, seconds):
+def line_of(program, folder, size, how, seconds):
     """A line of the table."""
-    for name, text in zip(("links.csv", "ports.csv"), tables(links, switches)):
+    for name, text in zip(("links.csv", "ports.csv"), tables(*size)):
         (folder / name).write_text(text + "\n")
-    words = ["--version", "2", "--longest-gap", str(gap), folder / "links.csv", folder / "ports.csv"]
-    run = subprocess.run([sys.executable, TOP / "tools/import_icd.py", *words], stdout=subprocess.PIPE, check=True)
-    (folder / "n.toml").write_bytes(run.stdout)
+    words = [*how, folder / "links.csv", folder / "ports.csv"]
+    made = subprocess.run([sys.executable, IMPORT, *words], capture_output=True, check=True)
+    (folder / "n.toml").write_bytes(made.stdout)
     status, took, memory, told = analysed(program, folder / "n.toml", seconds)
     without = sum(line.startswith("flow ") and line.endswith(" unbounded") for line in told.splitlines())
     ports = (folder / "ports.csv").read_text().count("\n") - 1
-    return f"| {links} | {switches} | {ports} | {gap} | {status} | {without} | {took:.2f} | {memory:.0f} |"
+    cells = [*size, ports, " ".join(how), status, without, f"{took:.2f}", f"{memory:.0f}"]
+    return f"| {' | '.join(map(str, cells))} |"
 
 
 def main():
@@ -69,12 +71,12 @@ def main():
     parser.add_argument("program", nargs="?", default=TOP / "bin/x86_64-linux/netcalc")
     parser.add_argument("--seconds", type=int, default=60)
     words = parser.parse_args()
-    print("| Links | Switches | Ports | Longest gap, ms | Status | Flows without a bound | Seconds | MiB |")
+    print("| Links | Switches | Ports | Imported with | Status | Flows without a bound | Seconds | MiB |")
     print("|---|---|---|---|---|---|---|---|")
     with tempfile.TemporaryDirectory() as folder:
-        for links, switches in SIZES:
-            for gap in GAPS:
-                print(line_of(words.program, pathlib.Path(folder), links, switches, gap, words.seconds), flush=True)
+        for size in SIZES:
+            for how in WAYS:
+                print(line_of(words.program, pathlib.Path(folder), size, how, words.seconds), flush=True)
 
 
 if __name__ == "__main__":

@@ -23,8 +23,9 @@ variant beats in both (needs matplotlib).
 It calls the program, and not the launcher before it, which looks at all sources each time. Of the network of
 examples/tutorial/study.template on four processors that other work kept busy too:
 
-- Here, on 29 November 2026 at a load of 28: 1,000 variants in 12.6 s, 79 a second. Each took 4.9 ms of processor time,
-  2.1 of them in this process, so some 400 a second are within reach where nothing else runs (reckoned, not measured).
+- Here, on 29 November 2026: 1,000 variants in 2.5 to 2.9 s at a load of 8 to 9, 344 to 407 a second in four studies; in
+  12.6 s at a load of 28, 79 a second. A variant takes 3.0 ms of a processor in its process (one that does nothing takes
+  0.8) and 1.5 in this one, for its file, the start of the process and the line of the journal.
 - On a scheduler of Dask 2022.12 with two workers on that machine, on 28 November 2026, 10,000 variants by the launcher:
   with one thread each, stopped by Ctrl-C after 1,056; started again with four threads each, 8,944 in 740.1 s, though
   one worker was ended by SIGKILL after 5,004. Table and journal had each variant once, and but for the seconds the
