@@ -169,6 +169,15 @@ class Report(WithFolder):
             self.assertEqual(self.made(deadlines=text).returncode, status, text)
         self.assertEqual(tool("report.py", STAIR, "--program", PROGRAM).returncode, 0)
 
+    def test_flows_without_a_deadline_are_counted(self):
+        for text, told in [
+            ("flow,deadline\n", "0 of 0 deadlines kept; 2 flows, 2 without a deadline\n"),
+            ("flow,deadline\nvideo,600\n", "1 of 1 deadlines kept; 2 flows, 1 without a deadline\n"),
+            ("flow,deadline\nvideo,600\ntracks,500\n", "2 of 2 deadlines kept; 2 flows\n"),
+        ]:
+            self.assertIn(told, self.made(deadlines=text).stdout)
+        self.assertNotIn("without a deadline", tool("report.py", STAIR, "--program", PROGRAM).stdout)
+
     def test_a_missing_bound_fails(self):
         path = self.file("n.toml", SERVER + FLOW.replace("rate = 1 ", "rate = 101 "))
         run = tool("report.py", path, "--program", PROGRAM)
@@ -198,6 +207,8 @@ class Report(WithFolder):
             ("flow,deadline\nvideo,1\nvideo,2\n", "d.csv line 3: video has another deadline in an earlier line"),
             ("flow,limit\nvideo,1\n", "d.csv line 1: no column deadline"),
             ("", "d.csv line 1: no head line"),
+            ("link,deadline\nvideo,1\n", "d.csv line 1: no column flow, and none name\n"),
+            ("flow;deadline\nvideo;1\n", "and none name: write commas in place of the semicolons\n"),
         ]:
             run = self.made(deadlines=text)
             self.assertEqual((run.returncode, run.stdout, run.stderr.count("\n")), (1, "", 1))
@@ -220,6 +231,8 @@ class Report(WithFolder):
             "video 75 %, tracks 25 %",
         ]:
             self.assertIn(words, page.cells)
+        # a bar tells the share of the deadline that is taken, also where it is not seen: 482.46 of 482.46
+        self.assertIn("1.00", [found.get("aria-label") for tag, found in page.tags if tag == "svg"][:2])
         # nothing is fetched from elsewhere
         self.assertEqual(
             [tag for tag, found in page.tags if {"src", "href"} & found.keys() or tag in ("link", "img", "iframe")], []
@@ -395,7 +408,7 @@ class WhatIf(WithFolder):
         self.assertEqual(run.returncode, 1)
         self.assertIn("no factor on all rates keeps all deadlines: with the least, video has", run.stdout)
         self.refused(
-            "no flow vidoe",
+            "no flow vidoe (is it `video`?)",
             "what_if.py",
             STAIR,
             "--greatest-load",

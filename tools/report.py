@@ -19,7 +19,7 @@ writes the report as one page that needs no other file, `--csv` the flows alone,
 NET may also be a report in JSON with `branches` and `ports`, whose bounds are decimals already and which tells its own
 deadlines; it has no paths, so no delay is shared out.
 
-The status is 0 where each flow has a bound and no deadline fails, else 1. A network that the program refuses is refused
+The status is 0 where each flow has a bound and no deadline fails, else 1; flows without a deadline are counted. A network that the program refuses is refused
 in its words and those of `./netcalc explain`."""
 
 import argparse
@@ -92,6 +92,7 @@ class Report:
     findings: list
     flows: list
     ports: list
+    has_deadlines: bool = False  # whether a table of them was given
 
     def failed(self):
         return [flow for flow in self.flows if flow.verdict == "FAIL"]
@@ -103,13 +104,19 @@ class Report:
         kept = sum(flow.verdict == "PASS" for flow in asked)
         words = f"{kept} of {len(asked)} deadlines kept"
         words += f", {len(asked) - kept} not" if kept < len(asked) else ""
-        return words + f"; {len(self.flows)} flows" + (f", {len(missing)} without a bound" if missing else "")
+        words += f"; {len(self.flows)} flows" + (f", {len(missing)} without a bound" if missing else "")
+        free = len(self.flows) - len(asked)
+        return words + (f", {free} without a deadline" if free and self.has_deadlines else "")
 
 
 def deadlines_of(path, names):
     """The deadlines of a table, by the names of flows."""
     head = text_in(path).partition("\n")[0]
-    column = "flow" if "flow" in [cell.strip().strip('"') for cell in head.split(",")] else "name"
+    columns = [cell.strip().strip('"') for cell in head.split(",")]
+    if head.strip() and not {"flow", "name"} & set(columns):
+        hint = ": write commas in place of the semicolons" if ";" in head else ""
+        raise Fault(f"{path} line 1: no column flow, and none name{hint}")
+    column = "flow" if "flow" in columns else "name"
     found = {}
     for line, row in rows(path, [column, "deadline"]):
         try:
@@ -209,7 +216,7 @@ def of_network(path, deadlines, program):
     head = [f"network {path}, SHA-256 {sum_of(path)}", f"bounds by netcalc, SHA-256 {sum_of(program)}"]
     if deadlines:
         head.append(f"deadlines {deadlines}, SHA-256 {sum_of(deadlines)}")
-    return Report(head, findings, flows, ports)
+    return Report(head, findings, flows, ports, bool(deadlines))
 
 
 def known(text, what):

@@ -299,8 +299,9 @@ def greatest(network, deadlines, program, name):
 def tell_load(words, network, deadlines):
     """Tells the greatest load."""
     name = words.greatest_load or None
-    if name and name not in [flow["name"] for flow in network.get("flow", [])]:
-        raise Fault(f"{words.network}: no flow {name}{explain.near(name, list(deadlines))}")
+    names = [flow["name"] for flow in network.get("flow", [])]
+    if name and name not in names:
+        raise Fault(f"{words.network}: no flow {name}{explain.near(name, names)}")
     if not network.get("flow"):
         raise Fault(f"{words.network}: no flow")
     parts, why = greatest(network, deadlines, words.program, name)
