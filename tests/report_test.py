@@ -5,6 +5,7 @@ Needs Python 3.11."""
 import csv
 import json
 import re
+import subprocess
 import sys
 import unittest
 from fractions import Fraction
@@ -282,6 +283,39 @@ class Report(WithFolder):
             self.refused("n.json: ", "report.py", self.file("n.json", text))
 
 
+# Clicks each head of each table twice, and tells in the page's title the columns of numbers that do not rise, then fall.
+CLICKS = """<script>
+const told = [];
+for (const button of document.querySelectorAll("th [role=button]"))
+  for (const sign of [1, -1]) {
+    button.click();
+    const head = button.closest("th"), rows = [...head.closest("table").tBodies[0].rows];
+    const values = rows.map(row => Number(row.cells[head.cellIndex].dataset.v));
+    const falls = (value, place) => place > 0 && sign * (value - values[place - 1]) < 0;
+    if (values.some(falls)) told.push(button.innerText);
+  }
+document.title = "wrong: " + told.join();
+</script>"""
+
+
+@unittest.skipUnless("--browser" in sys.argv, "without --browser")
+class Browser(WithFolder):
+    """The page in Chromium (Debian's), which takes seconds of a processor."""
+
+    def test_a_click_sorts(self):
+        """Each column of numbers, in the table of flows, in that of ports and in those of the flows' parts."""
+        path, tables = self.folder / "n.toml", [TOP / "examples/aircraft" / name for name in ("links.csv", "ports.csv")]
+        path.write_text(tool("import_icd.py", "--version", 2, "--longest-gap", 8, *tables).stdout)
+        made = ["--deadlines", tables[0], "--html", self.folder / "o.html", "--program", PROGRAM]
+        self.assertEqual(tool("report.py", path, *made).returncode, 1)
+        page = (self.folder / "o.html").read_text().replace("</body>", CLICKS + "</body>")
+        words = ["chromium", "--headless", "--no-sandbox", "--dump-dom", self.file("p.html", page).as_uri()]
+        run = subprocess.run(words, capture_output=True, text=True, check=True, timeout=120)
+        self.assertIn("<title>wrong: </title>", run.stdout)
+        self.assertEqual(run.stdout.count("</details>"), 60)
+        self.assertEqual(run.stdout.count('aria-sort="descending"'), 2 + 60)
+
+
 class WhatIf(WithFolder):
     def rows(self, text, net=STAIR, deadlines="flow,deadline\nvideo,470\ntracks,500\n", words=(), program=PROGRAM):
         words = [*words, *(["--deadlines", self.file("d.csv", deadlines)] if deadlines else [])]
@@ -418,6 +452,78 @@ class WhatIf(WithFolder):
             "--program",
             PROGRAM,
         )
+
+
+class Examples(WithFolder):
+    """Each tool on each network of examples/, and on files that are none."""
+
+    def test_reports(self):
+        """Each flow and each queue of the answer has its line, its bound rounded up, and nothing odd; in the page too."""
+        for path in sorted(TOP.glob("examples/**/*.toml")):
+            made = ["--html", self.folder / "o.html", "--csv", self.folder / "o.csv"]
+            run = tool("report.py", path, *made, "--program", PROGRAM)
+            self.assertEqual((run.returncode, run.stderr), (0, ""), path)
+            answer = networks.analyse(path, PROGRAM)
+            with open(self.folder / "o.csv", newline="") as file:
+                rows = {row["flow"]: row for row in csv.DictReader(file)}
+            self.assertEqual(rows.keys(), answer.flows.keys(), path)
+            for name, numbers in answer.flows.items():
+                shown = Fraction(rows[name]["bound_us"])
+                self.assertTrue(0 <= shown - numbers["bound"] < Fraction(1, 1000), (path, name))
+                self.assertEqual(Fraction(rows[name]["exact_bound"]), numbers["bound"])
+            cells = Page((self.folder / "o.html").read_text()).cells
+            queues = [f"{server}:{queue}" for server, queue in answer.queues]
+            self.assertEqual([name for name in [*rows, *queues] if name not in cells], [], path)
+            self.assertNotIn("odd: ", run.stdout)
+
+    def test_shares_of_a_delay_are_whole(self):
+        """A flow's parts are the delays of its hops and its links, and make up its total-flow bound."""
+        for path in sorted(TOP.glob("examples/**/*.toml")):
+            answer = networks.analyse(path, PROGRAM)
+            for flow in report.of_network(path, None, PROGRAM).flows:
+                whole = sum(hop.delay for hop in flow.hops)
+                self.assertEqual(whole, answer.flows[flow.name]["tfa"], (path, flow.name))
+                self.assertEqual(sum(hop.share for hop in flow.hops), 1)
+
+    def test_edits(self):
+        for edits in sorted(TOP.glob("examples/**/*_edits.csv")):
+            net = edits.with_name(edits.name.replace("_edits.csv", ".toml"))
+            run = tool("what_if.py", net, edits, "--write", self.folder / "o.toml", "--program", PROGRAM)
+            self.assertEqual((run.returncode, run.stderr), (0, ""), edits)
+            told = edits.with_name(edits.name.replace(".csv", ".txt")).read_text()
+            self.assertEqual(run.stdout.count(": refused "), told.count(" refused "), edits)
+            wanted = [line for line in told.splitlines() if not line.startswith("edit ")]
+            self.assertEqual(networks.analyse(self.folder / "o.toml", PROGRAM).text.splitlines(), wanted, edits)
+
+    def test_rounding_and_variants(self):
+        """A network on a grid keeps its bounds or has greater ones; a folder of networks is a study."""
+        for path in sorted(TOP.glob("examples/*/*.toml")):
+            run = tool("round.py", path, "--grid", 4)
+            self.assertEqual(run.returncode, 0, path)
+            (self.folder / f"{path.stem}.toml").write_text(run.stdout)
+        run = tool("sweep.py", self.folder, "--table", self.folder / "o.csv", "--program", PROGRAM)
+        self.assertEqual(run.returncode, 0, run.stderr)
+        with open(self.folder / "o.csv", newline="") as file:
+            for row in csv.DictReader(file):
+                (path,) = TOP.glob(f"examples/*/{row['variant']}.toml")
+                if row["status"] == "0":
+                    for name, numbers in networks.analyse(path, PROGRAM).flows.items():
+                        self.assertGreaterEqual(Fraction(row[f"bound {name}"]), numbers["bound"], (path, name))
+
+    def test_files_that_are_none(self):
+        """Each tool names the file and ends with 1, by a line of its own or by what the program says."""
+        folder, words = self.folder / "folder", {"what_if.py": [self.file("e.csv", "undo\n")]}
+        folder.mkdir()
+        for path, told in [
+            (self.folder / "absent.toml", "absent.toml"),
+            (folder, "folder"),
+            (self.file("n.toml", "["), "n.toml"),
+            (self.file("u.toml", b"# \xff\n"), "u.toml"),
+        ]:
+            for name in ("lint.py", "report.py", "what_if.py", "round.py"):
+                run = tool(name, path, *words.get(name, []))
+                self.assertEqual((run.returncode, run.stdout), (1, ""), (name, path))
+                self.assertIn(told, run.stderr.splitlines()[0], (name, path))
 
 
 class ImportAndSweep(WithFolder):
@@ -573,4 +679,4 @@ class Pictures(WithFolder):
 
 
 if __name__ == "__main__":
-    unittest.main(argv=sys.argv)
+    unittest.main(argv=[word for word in sys.argv if word != "--browser"])
