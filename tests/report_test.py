@@ -283,7 +283,8 @@ class Report(WithFolder):
             self.refused("n.json: ", "report.py", self.file("n.json", text))
 
 
-# Clicks each head of each table twice, and tells in the page's title the columns of numbers that do not rise, then fall.
+# Clicks each head of each table twice, and tells in the page's title the columns of numbers that do not rise, then
+# fall.
 CLICKS = """<script>
 const told = [];
 for (const button of document.querySelectorAll("th [role=button]"))
@@ -339,6 +340,12 @@ class WhatIf(WithFolder):
             "video     482.460   474.460      -8.000      470.000  FAIL",
             "tracks    399.740   391.740      -8.000      500.000  PASS",
         ])  # fmt: skip
+
+    def test_a_deadline_that_is_missed_by_little_is_not_shown_as_kept(self):
+        """399.7395 is below the bound of 399.74, and would be shown like it if it were rounded up."""
+        text = "flow,deadline\ntracks,399.7395\n"
+        self.assertIn("tracks    399.740   399.740       0.000      399.739  FAIL\n", self.rows("", deadlines=text).stdout)
+        self.assertIn("tracks has 399.740 of 399.739\n", self.greatest(deadlines=text).stdout)
 
     def test_the_written_file_has_the_same_bounds(self):
         """After edits of each kind that are taken, on files of each kind of server."""
@@ -458,7 +465,7 @@ class Examples(WithFolder):
     """Each tool on each network of examples/, and on files that are none."""
 
     def test_reports(self):
-        """Each flow and each queue of the answer has its line, its bound rounded up, and nothing odd; in the page too."""
+        """Each flow and each queue of the answer has its line, each bound is rounded up; in the page they stand too."""
         for path in sorted(TOP.glob("examples/**/*.toml")):
             made = ["--html", self.folder / "o.html", "--csv", self.folder / "o.csv"]
             run = tool("report.py", path, *made, "--program", PROGRAM)

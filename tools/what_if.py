@@ -8,9 +8,9 @@
         the largest factor on the rates of a flow, or of all flows, that still keeps all deadlines, by halving
 
 NET is in microseconds and bits; EDITS is an edit list as `netcalc edit` reads it, D.csv a table of deadlines as
-report.py reads it. Bounds are shown as decimals, rounded up. `--csv` writes each flow's bound before all rows and after
-each, a column a row. `--write` writes the network after all rows as a file, with the same bounds; a stair that a row
-`packet` leaves as it was, with its former packet, is written as a list.
+report.py reads it. Bounds are shown as decimals, rounded up, deadlines rounded down. `--csv` writes each flow's bound
+before all rows and after each, a column a row. `--write` writes the network after all rows as a file, with the same
+bounds; a stair that a row `packet` leaves as it was, with its former packet, is written as a list.
 
 The bounds between are those of `netcalc analyse` of the network that is made here after each row, the last ones are
 held to what `netcalc edit` tells of the whole list.
@@ -151,7 +151,7 @@ def flows_of(before, after, deadlines):
                 report.shown(old) if name in before else "-",
                 report.shown(new),
                 "-" if greater is None else rounded_up(greater),
-                "" if name not in deadlines else rounded_up(deadlines[name]),
+                "" if name not in deadlines else rounded_down(deadlines[name]),
                 "" if kept is None else ("PASS" if kept else "FAIL"),
             ]
         )
@@ -278,7 +278,7 @@ def broken(network, deadlines, program):
         key=lambda name: (answer.flows[name]["bound"] is None, (answer.flows[name]["bound"] or 0) - deadlines[name]),
     )
     more = f", and {len(late) - 1} more" if len(late) > 1 else ""
-    return f"{worst} has {report.shown(answer.flows[worst]['bound'])} of {rounded_up(deadlines[worst])}{more}"
+    return f"{worst} has {report.shown(answer.flows[worst]['bound'])} of {rounded_down(deadlines[worst])}{more}"
 
 
 def greatest(network, deadlines, program, name):
