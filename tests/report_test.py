@@ -257,6 +257,9 @@ class Report(WithFolder):
                 {"bound": "12.346", "deadline": "12.346", "link": "a", "met": True, "port": "p"},
                 {"bound": "12.346", "deadline": "12.345", "link": "b", "met": False, "port": "p"},
                 {"bound": "none", "link": "c", "port": "p"},
+                # Both rounded up, the bound is as great as the deadline; that it is missed is told.
+                {"bound": "1.000", "deadline": "1.000", "link": "d", "met": False, "port": "p"},
+                {"bound": "1.000", "deadline": "0.9997", "link": "e", "met": True, "port": "p"},
             ],
             "ports": [
                 {"backlog": "17", "delay": "1.500", "load": "0.250", "name": "p", "queue": 0},
@@ -270,6 +273,8 @@ class Report(WithFolder):
             "a to p 12.346 12.346 PASS 0.000 6173/500",
             "b to p 12.346 12.345 FAIL -0.001 6173/500",
             "c to p none FAIL none",
+            "d to p 1.000 1.000 FAIL 0.000 1",
+            "e to p 1.000 0.999 PASS 0.000 1",
             "p:0 0.250 1.500 3",
             "q:1 1.200 none none",
         ]:
@@ -280,6 +285,7 @@ class Report(WithFolder):
             '{"branches": [1], "ports": []}',
             '{"branches": [], "ports": [{}]}',
             '{"branches": [{"link": "a", "port": "p", "bound": "x"}], "ports": []}',
+            '{"branches": [{"link": "a", "port": "p", "bound": "1", "met": 1}], "ports": []}',
         ]:
             self.refused("n.json: ", "report.py", self.file("n.json", text))
 

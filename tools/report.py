@@ -17,7 +17,7 @@ before it), by their curves and the delay bounds on their way so far. The findin
 writes the report as one page that needs no other file, `--csv` the flows alone, for a spreadsheet.
 
 NET may also be a report in JSON with `branches` and `ports`, whose bounds are decimals already and which tells its own
-deadlines; it has no paths, so no delay is shared out.
+deadlines, and whether they are met; it has no paths, so no delay is shared out.
 
 The status is 0 where each flow has a bound and no deadline fails, else 1; flows without a deadline are counted. A network that the program refuses is refused
 in its words and those of `./netcalc explain`."""
@@ -51,15 +51,20 @@ class Flow:
     bound: Fraction | None
     deadline: Fraction | None = None
     hops: list = field(default_factory=list)
+    met: bool | None = None  # what is told of the deadline by who compared it exactly
 
     @property
     def slack(self):
-        return None if None in (self.bound, self.deadline) else self.deadline - self.bound
+        if None in (self.bound, self.deadline):
+            return None
+        return max(self.deadline - self.bound, 0) if self.met else self.deadline - self.bound
 
     @property
     def verdict(self):
         """PASS or FAIL of the deadline; a flow without a bound fails, and one without a deadline has no verdict."""
-        if self.bound is None or self.slack is not None and self.slack < 0:
+        if self.bound is None or self.met is False:
+            return "FAIL"
+        if self.met is None and self.slack is not None and self.slack < 0:
             return "FAIL"
         return "PASS" if self.deadline is not None else ""
 
@@ -224,6 +229,14 @@ def known(text, what):
     return None if text == "none" else loads.time_of(text, what)
 
 
+def met_of(branch):
+    """Whether a branch of a report in JSON meets its deadline, as it says itself: the numbers there are rounded."""
+    met = branch.get("met")
+    if met is not None and not isinstance(met, bool):
+        raise Fault("met is neither true nor false")
+    return met
+
+
 def of_json(path):
     """The report of a report in JSON, with its branches and ports."""
     try:
@@ -233,6 +246,7 @@ def of_json(path):
                 f"{branch['link']} to {branch['port']}",
                 known(branch["bound"], "bound"),
                 loads.time_of(branch["deadline"], "deadline") if "deadline" in branch else None,
+                met=met_of(branch),
             )
             for branch in found["branches"]
         ]
