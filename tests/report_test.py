@@ -597,6 +597,23 @@ class ImportAndSweep(WithFolder):
         ]:
             self.refused(told, "import_icd.py", self.file("links.csv", links), self.file("ports.csv", table))
 
+    def test_a_gate_is_read(self):
+        ports = "name,rate,latency,link,discipline,gate\nes1,100,,0.1,,\nsw1-p1,100,,,priority 2,1000 250.5\n"
+        run = self.made(ports=ports)
+        network = networks.load(self.file("n.toml", run.stdout))
+        self.assertEqual(network["server"][1]["service"], {"kind": "gate", "cycle": 1000, "slot": "501/2"})
+        self.assertNotIn("service", network["server"][0])
+        self.assertEqual(networks.analyse(self.folder / "n.toml", PROGRAM).status, 0)
+        rounded = networks.load(self.file("g.toml", self.made("--grid", 1, ports=ports).stdout))
+        self.assertEqual(rounded["server"][1]["service"]["slot"], 250)
+        for table, told in [
+            (ports.replace("1000 250.5", "1000"), "ports.csv line 3: gate '1000' is no CYCLE SLOT, as 1000 250"),
+            (ports.replace("250.5", "1001"), "ports.csv line 3: the gate's slot of 1001 is longer than its cycle"),
+            (ports.replace("250.5", "0"), "ports.csv line 3: the gate's slot 0 is not above 0"),
+            (ports.replace("100,,,priority", "100,16,,priority"), "ports.csv line 3: a gate and a latency: a network"),
+        ]:
+            self.refused(told, "import_icd.py", self.file("links.csv", LINKS), self.file("ports.csv", table))
+
     def test_a_rate_of_version_2_is_not_rounded_down(self):
         run = self.made("--version", 2, "--grid", 4, ports=PORTS.replace("100", "100.1", 1))
         self.assertEqual((run.returncode, run.stdout), (1, ""))

@@ -23,6 +23,8 @@ PORTS.csv, a line an output port (also those of end systems):
     link           the delay of the cable behind it, in microseconds (0 where it is empty)
     delay          how long the switch holds each frame before it comes to this port, always the same, in microseconds
                    (0 where it is empty); the column may be missing
+    gate           `CYCLE SLOT` in microseconds: the port sends for the slot of each cycle, and has no latency then;
+                   always where it is empty; the column may be missing
     discipline     `fifo` (also where it is empty), `priority N` with N queues, or
                    `drr Q0 Q1 ..` with the quantum of each queue in bytes
 
@@ -144,14 +146,30 @@ def discipline_of(text):
     raise Fault(f"discipline {shortened(text)!r} is none of fifo, priority N, drr Q0 Q1 ..")
 
 
+def service_of(row):
+    """The service of a line of ports; None where it is that of its rate at once."""
+    latency = amount("latency", row["latency"], 0, default=0)
+    gate = row["gate"].split()
+    if not gate:
+        return {"kind": "latency", "latency": written(latency)} if latency else None
+    if len(gate) != 2:
+        raise Fault(f"gate {shortened(row['gate'])!r} is no CYCLE SLOT, as 1000 250")
+    cycle, slot = (amount(what, text, None) for what, text in zip(("the gate's cycle", "the gate's slot"), gate))
+    if slot > cycle:
+        raise Fault(f"the gate's slot of {slot} is longer than its cycle of {cycle}")
+    if latency:
+        raise Fault("a gate and a latency: a network file has one of the two; take the latency off the slot")
+    return {"kind": "gate", "cycle": written(cycle), "slot": written(slot)}
+
+
 def port(row, taken, words):
     """The server of a line of ports."""
     rate = written(amount("rate", row["rate"], None))
     server = {"name": name_of(row["name"], taken), "rate": rate}
     words.delays[server["name"]] = amount("delay", row["delay"], 0, default=0)
-    latency = amount("latency", row["latency"], 0, default=0)
-    if latency:
-        server["service"] = {"kind": "latency", "latency": written(latency)}
+    service = service_of(row)
+    if service:
+        server["service"] = service
     link = amount("link", row["link"], 0, default=0)
     if link:
         server["link"] = written(link)
@@ -263,7 +281,7 @@ def network_of(words):
     servers = read_table(
         words.ports,
         ["name", "rate", "latency", "link", "discipline"],
-        ["delay"],
+        ["delay", "gate"],
         lambda row, taken: port(row, taken, words),
         64,
     )
