@@ -1,9 +1,9 @@
 #!/usr/bin/env python3
 """Runs the analysis on many variants of a network, and gathers their bounds in one table.
 
-    tools/sweep.py TEMPLATE.toml PARAMETERS.csv --table OUT.csv
+    ./netcalc sweep TEMPLATE.toml PARAMETERS.csv --table OUT.csv
         a line of PARAMETERS.csv is a variant: each $NAME or ${NAME} of the template becomes the text of the column NAME
-    tools/sweep.py FOLDER --table OUT.csv
+    ./netcalc sweep FOLDER --table OUT.csv
         each *.toml of the folder is a variant
 
 Each variant is one run of the program, on all processors of this machine, or with `--scheduler ADDRESS` on the workers
