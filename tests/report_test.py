@@ -84,6 +84,18 @@ class Lint(WithFolder):
         run = tool("lint.py", STAIR, "--program", PROGRAM)
         self.assertEqual((run.returncode, run.stdout), (0, ""))
 
+    def test_the_networks_that_pages_show_have_nothing_odd(self):
+        """That of the format, but for a packet of 8 bits that stands beside a curve of 8, and that of the front page."""
+        for page, odd in [("docs/FORMATS.md", ["flow f3: a packet of 8 bits: bytes?"]), ("README.md", [])]:
+            blocks = re.findall(r"(?:^    .*\n|^\n(?=    ))+", (TOP / page).read_text(), re.M)
+            shown = next(block for block in blocks if "    [[flow]]\n" in block)
+            path = self.file("n.toml", "".join(f"{line[4:]}\n" for line in shown.splitlines()))
+            self.assertEqual(len(networks.analyse(path, PROGRAM).flows), shown.count("[[flow]]"), page)
+            found = tool("lint.py", path, "--program", PROGRAM).stdout.splitlines()
+            self.assertEqual(len(found), len(odd), (page, found))
+            for line, words in zip(found, odd):
+                self.assertIn(words, line)
+
     def test_an_unlawful_file_is_refused(self):
         path = self.file("n.toml", SERVER + FLOW.replace('"s1"', '"s2"'))
         run = tool("lint.py", path, "--program", PROGRAM)
