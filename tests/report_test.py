@@ -85,7 +85,7 @@ class Lint(WithFolder):
         self.assertEqual((run.returncode, run.stdout), (0, ""))
 
     def test_the_networks_that_pages_show_have_nothing_odd(self):
-        """That of the format, but for a packet of 8 bits that stands beside a curve of 8, and that of the front page."""
+        """That of the format, but for a packet of 8 bits beside a curve of 8, and that of the front page."""
         for page, odd in [("docs/FORMATS.md", ["flow f3: a packet of 8 bits: bytes?"]), ("README.md", [])]:
             blocks = re.findall(r"(?:^    .*\n|^\n(?=    ))+", (TOP / page).read_text(), re.M)
             shown = next(block for block in blocks if "    [[flow]]\n" in block)
