@@ -213,6 +213,12 @@ def make_of_flow(flow, what, values, numbers):
         flow["packet"] = numbers[0]
 
 
+def copied(network, name):
+    """A network that shares with another one all tables but those of a name, so a long list of edits fits the memory."""
+    own = lambda tables: [copy.deepcopy(table) if table["name"] == name else table for table in tables]
+    return network | {kind: own(network[kind]) for kind in ("server", "flow") if kind in network}
+
+
 def networks_of(network, rows, said):
     """The networks before all rows and after each; one that was not taken leaves the network as it is."""
     past, every = [], [network]
@@ -221,7 +227,7 @@ def networks_of(network, rows, said):
             network = past.pop()
         elif words.startswith("ok"):
             past.append(network)
-            network = copy.deepcopy(network)
+            network = copied(network, row[1])
             make(network, row)
         every.append(network)
     return every
