@@ -214,7 +214,7 @@ def make_of_flow(flow, what, values, numbers):
 
 
 def copied(network, name):
-    """A network that shares with another one all tables but those of a name, so a long list of edits fits the memory."""
+    """A network that shares all tables with another one but those of a name, so that long lists fit the memory."""
     own = lambda tables: [copy.deepcopy(table) if table["name"] == name else table for table in tables]
     return network | {kind: own(network[kind]) for kind in ("server", "flow") if kind in network}
 
