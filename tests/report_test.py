@@ -598,7 +598,7 @@ class ImportAndSweep(WithFolder):
         self.assertEqual(rounded["server"][0]["link"], 7)
         two = ports + "sw1-p2,100,16,,,5\n"
         for links, table, told in [
-            (LINKS, ports.replace("0.1,,", "0.1,,1"), "links.csv line 2: port es1 has a delay and is the first of its path"),
+            (LINKS, ports.replace("0.1,,", "0.1,,1"), "links.csv line 2: port es1 has a delay: it is the first"),
             (LINKS, ports.replace("5.25", "-1"), "ports.csv line 3: delay -1 is below 0"),
             (LINKS, ports.replace("delay", "delay,delay"), "ports.csv line 1: two columns delay"),
             (

@@ -239,7 +239,7 @@ def virtual_link(row, taken, servers, words):
 def note_delays(path, words):
     """Notes what the switch behind each port of a path adds to its link: all ports there hold a frame as long."""
     if words.delays[path[0]]:
-        raise Fault(f"port {path[0]} has a delay and is the first of its path: no link leads there; add it to the bounds")
+        raise Fault(f"port {path[0]} has a delay: it is the first of its path; leave it out, and add it to the bounds")
     for before, after in zip(path, path[1:]):
         noted, delay = words.behind.setdefault(before, (after, words.delays[after]))
         if words.delays[after] != delay:

@@ -19,8 +19,8 @@ writes the report as one page that needs no other file, `--csv` the flows alone,
 NET may also be a report in JSON with `branches` and `ports`, whose bounds are decimals already and which tells its own
 deadlines, and whether they are met; it has no paths, so no delay is shared out.
 
-The status is 0 where each flow has a bound and no deadline fails, else 1; flows without a deadline are counted. A network
-that the program refuses is refused in its words and those of `./netcalc explain`."""
+The status is 0 where each flow has a bound and no deadline fails, else 1; flows without a deadline are counted. A
+network that the program refuses is refused in its words and those of `./netcalc explain`."""
 
 import argparse
 import csv
