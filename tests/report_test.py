@@ -580,6 +580,18 @@ class ImportAndSweep(WithFolder):
         for words in (["--longest-gap", "0"], ["--longest-gap", "x"], ["--version", "3"]):
             self.assertEqual(self.made(*words).returncode, 2)
 
+    def test_gaps_that_are_cut_too_far_are_warned_of(self):
+        """1538 bytes of 4 milliseconds in each 1/8 are 98.432 bits a microsecond, and with the other link more than
+        100; without the cut, and where the port is too slow anyway, there is nothing to warn of."""
+        run = self.made("--longest-gap", "1/8")
+        self.assertEqual((run.returncode, run.stderr.count("\n")), (0, 1), run.stderr)
+        self.assertIn("as cut, the gaps ask for 1.126 of what es1:0 is promised, and too much at 1 queues", run.stderr)
+        answer = networks.analyse(self.file("n.toml", run.stdout), PROGRAM)
+        self.assertEqual(answer.queues["sw1-p1", 1]["delay"], None)
+        slow = PORTS.replace("100,", "1,")
+        for words, ports in [(["--longest-gap", 1], PORTS), ([], PORTS), (["--longest-gap", 3], slow)]:
+            self.assertEqual(self.made(*words, ports=ports).stderr, "", words)
+
     def test_what_a_switch_holds_each_frame_is_a_part_of_the_link_before(self):
         ports = "name,rate,latency,link,discipline,delay\nes1,100,,0.1,,\nsw1-p1,100,16,,priority 2,5.25\n"
         run = self.made(ports=ports)

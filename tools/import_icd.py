@@ -36,7 +36,7 @@ nothing is proved of them; never with `--version 2`, since frames may follow one
 `--version 2` says that no port sends faster than its rate, as a line does: links that come over one line are cut
 together then, and the bounds are lower. `--longest-gap G` cuts each gap above G milliseconds to G. That is safe, since
 a link that sends less often keeps the shorter gap too; it costs little, and the curves of all links repeat together
-after G milliseconds, if the other gaps divide it.
+after G milliseconds, if the other gaps divide it. Where a port would be loaded above 1 by it alone, it warns.
 
 `--buckets` describes each link by the token bucket above its stair (burst of one frame, and of what the jitter adds;
 rate of one frame a gap) in place of the stair itself. The bounds are greater, and over more than two ports the
@@ -59,6 +59,7 @@ import re
 import sys
 from fractions import Fraction
 
+import loads
 import round as rounding
 from networks import NAME, Fault, dump, ended, number, shortened, text_in, written
 
@@ -216,7 +217,7 @@ def virtual_link(row, taken, servers, words):
     if packet > 2**24:
         raise Fault(f"a frame of {row['largest_frame']} bytes and {words.overhead} more is longer than 2^24 bits")
     flow["packet"] = packet
-    gap = amount("bag", row["bag"], None)
+    gap = words.gaps[flow["name"]] = amount("bag", row["bag"], None)
     if words.longest_gap is not None and gap > words.longest_gap:
         gap = words.longest_gap
         words.cut += 1
@@ -316,8 +317,25 @@ def head_of_file(words):
     return "\n".join(lines)
 
 
+def crowded_by_cuts(network, words):
+    """The queues of ports that are asked for more than they are promised only since gaps are cut."""
+    flows = network["flow"]
+    kept = [flow | {"arrival": {"kind": "stair", "period": 1000 * words.gaps[flow["name"]]}} for flow in flows]
+    for server in network["server"]:
+        for queue in range(queues_of(server)):
+            cut, whole = (loads.load_of_queue(server, queue, found) for found in (flows, kept))
+            if cut is not None and whole is not None and cut > 1 >= whole:
+                yield f"{server['name']}:{queue}", cut
+
+
 def warn(network, words):
-    """Warns of what may be refused."""
+    """Warns of what may be refused, or may have no bound."""
+    crowded = dict(crowded_by_cuts(network, words)) if words.cut else {}
+    if crowded:
+        most = max(crowded, key=crowded.get)
+        told = f"as cut, the gaps ask for {loads.rounded_up(crowded[most])} of what {most} is promised"
+        more = f", and too much at {len(crowded) - 1} queues more" if len(crowded) > 1 else ""
+        print(f"import_icd: {told}{more}, so there is no bound: take a greater --longest-gap", file=sys.stderr)
     far = sum(len(flow["path"]) > 2 for flow in network["flow"])
     if words.buckets and far:
         told = f"{far} links pass more than two ports as buckets, whose fractions may get too wide"
@@ -352,7 +370,7 @@ def main():
         parser.error("the overhead is from 0 bytes on, and below 2^21")
     if words.grid is not None and not 1 <= words.grid <= rounding.FINEST:
         parser.error(f"the grid is a whole number from 1 to {rounding.FINEST}")
-    words.cut, words.delays, words.behind = 0, {}, {}
+    words.cut, words.gaps, words.delays, words.behind = 0, {}, {}, {}
     network = network_of(words)
     warn(network, words)
     sys.stdout.write(dump(network, head_of_file(words)))
