@@ -209,7 +209,7 @@ class Launcher(WithFolder):
         self.assertEqual((told.returncode, told.stderr), (0, ""))
         for command in re.findall(r"(\w+) (?:NET|N|FILE)\b", usage.removeprefix("netcalc: usage: netcalc ")):
             self.assertIn(f"  netcalc {command} ", told.stdout)
-        for word in "import lint report explain round sweep plot".split():
+        for word in "import lint report explain round sweep plot what-if".split():
             self.assertIn(f"  netcalc {word} ", told.stdout)
         told = self.run_it("--version")
         self.assertEqual(told.returncode, 0)

@@ -6,6 +6,7 @@ Each network in a folder of examples/ has a trace, an edit list and their answer
 of the page of min_plus_algebra to the test that they are."""
 
 import concurrent.futures
+import importlib.util
 import os
 import pathlib
 import re
@@ -75,9 +76,18 @@ def tell(commands, folder, program):
         moved = re.sub(r"\./netcalc (?=(analyse|edit|simulate|exercise|check|measure|curve) )", f"{program} ", command)
         moved = moved.replace("/tmp/", f"{folder}/")
         run = subprocess.run(moved, shell=True, cwd=TOP, capture_output=True, text=True, timeout=300, check=False)
-        if run.stdout != shown:
+        if run.stdout != shown or lacks_files(moved, folder, shown):
             told.append(f"{place}: {command}\n{run.stdout}{run.stderr}")
     return told
+
+
+def lacks_files(command, folder, shown):
+    """Whether a command that shows nothing leaves one of its files away, or empty; of pictures that is not asked where
+    matplotlib is not installed."""
+    if shown or " plot " in command and not importlib.util.find_spec("matplotlib"):
+        return False
+    files = [pathlib.Path(name) for name in re.findall(rf"{re.escape(folder)}/\S+", command)]
+    return not all(path.exists() and path.stat().st_size for path in files)
 
 
 def main():

@@ -18,15 +18,25 @@ LINKS.csv, a line a virtual link:
 PORTS.csv, a line an output port (also those of end systems):
     name           a name
     rate           in Mbit/s
-    latency        the longest technological latency, in microseconds (0 where it is empty)
+    latency        what the port may lose before it takes up work, once in each stretch of work, in microseconds (0
+                   where it is empty); a delay that a switch gives each frame is no such latency
     link           the delay of the cable behind it, in microseconds (0 where it is empty)
+    delay          how long the switch holds each frame before it comes to this port, always the same, in microseconds
+                   (0 where it is empty); the column may be missing
+    gate           `CYCLE SLOT` in microseconds: the port sends for the slot of each cycle, and has no latency then;
+                   always where it is empty; the column may be missing
     discipline     `fifo` (also where it is empty), `priority N` with N queues, or
                    `drr Q0 Q1 ..` with the quantum of each queue in bytes
+
+A `delay` is added to the links of the ports that come right before on the paths: all ports behind a link have one and
+the same, and a first port has none. A delay that varies from frame to frame is outside of what a network file can say:
+with its greatest value as `delay` and as much more `jitter` the bounds are those that are often written for it, and
+nothing is proved of them; never with `--version 2`, since frames may follow one another closer than on their line then.
 
 `--version 2` says that no port sends faster than its rate, as a line does: links that come over one line are cut
 together then, and the bounds are lower. `--longest-gap G` cuts each gap above G milliseconds to G. That is safe, since
 a link that sends less often keeps the shorter gap too; it costs little, and the curves of all links repeat together
-after G milliseconds, if the other gaps divide it.
+after G milliseconds, if the other gaps divide it. Where a port would be loaded above 1 by it alone, it warns.
 
 `--buckets` describes each link by the token bucket above its stair (burst of one frame, and of what the jitter adds;
 rate of one frame a gap) in place of the stair itself. The bounds are greater, and over more than two ports the
@@ -49,28 +59,30 @@ import re
 import sys
 from fractions import Fraction
 
+import loads
 import round as rounding
 from networks import NAME, Fault, dump, ended, number, shortened, text_in, written
 
 NUMERAL = re.compile(r"-?[0-9]+(\.[0-9]*|/[0-9]+)?")
 
 
-def rows(path, columns):
-    """The lines of a table with their numbers, from 2 on, as dictionaries of stripped texts."""
+def rows(path, columns, others=()):
+    """The lines of a table with their numbers, from 2 on, as dictionaries of stripped texts. Of `others` a column may
+    be missing, and is empty then."""
     reader = csv.reader(io.StringIO(text_in(path), newline=""), skipinitialspace=True, strict=True)
     head = None
     try:
         for cells in reader:
             cells = [cell.strip() for cell in cells]
             if head is None:
-                head = head_of(cells, columns)
+                head = head_of(cells, [*columns, *(column for column in others if column in cells)])
             elif any(cells):
                 if len(cells) > len(head):
                     raise Fault(
                         f"{len(cells)} cells under a head line of {len(head)}: a cell with a comma stands in quotes"
                     )
                 cells += [""] * (len(head) - len(cells))
-                yield reader.line_num, dict(zip(head, cells))
+                yield reader.line_num, dict.fromkeys(others, "") | dict(zip(head, cells))
         if head is None:
             raise Fault("no head line")
     except (csv.Error, Fault) as fault:
@@ -135,13 +147,30 @@ def discipline_of(text):
     raise Fault(f"discipline {shortened(text)!r} is none of fifo, priority N, drr Q0 Q1 ..")
 
 
+def service_of(row):
+    """The service of a line of ports; None where it is that of its rate at once."""
+    latency = amount("latency", row["latency"], 0, default=0)
+    gate = row["gate"].split()
+    if not gate:
+        return {"kind": "latency", "latency": written(latency)} if latency else None
+    if len(gate) != 2:
+        raise Fault(f"gate {shortened(row['gate'])!r} is no CYCLE SLOT, as 1000 250")
+    cycle, slot = (amount(what, text, None) for what, text in zip(("the gate's cycle", "the gate's slot"), gate))
+    if slot > cycle:
+        raise Fault(f"the gate's slot of {slot} is longer than its cycle of {cycle}")
+    if latency:
+        raise Fault("a gate and a latency: a network file has one of the two; take the latency off the slot")
+    return {"kind": "gate", "cycle": written(cycle), "slot": written(slot)}
+
+
 def port(row, taken, words):
     """The server of a line of ports."""
     rate = written(amount("rate", row["rate"], None))
     server = {"name": name_of(row["name"], taken), "rate": rate}
-    latency = amount("latency", row["latency"], 0, default=0)
-    if latency:
-        server["service"] = {"kind": "latency", "latency": written(latency)}
+    words.delays[server["name"]] = amount("delay", row["delay"], 0, default=0)
+    service = service_of(row)
+    if service:
+        server["service"] = service
     link = amount("link", row["link"], 0, default=0)
     if link:
         server["link"] = written(link)
@@ -188,7 +217,7 @@ def virtual_link(row, taken, servers, words):
     if packet > 2**24:
         raise Fault(f"a frame of {row['largest_frame']} bytes and {words.overhead} more is longer than 2^24 bits")
     flow["packet"] = packet
-    gap = amount("bag", row["bag"], None)
+    gap = words.gaps[flow["name"]] = amount("bag", row["bag"], None)
     if words.longest_gap is not None and gap > words.longest_gap:
         gap = words.longest_gap
         words.cut += 1
@@ -204,13 +233,33 @@ def virtual_link(row, taken, servers, words):
     if len(set(path)) < len(path):
         raise Fault("a path passes a port twice")
     flow["path"] = [hop(name, priority, packet, servers) for name in path]
+    note_delays(path, words)
     return flow
 
 
-def read_table(path, columns, make, most):
+def note_delays(path, words):
+    """Notes what the switch behind each port of a path adds to its link: all ports there hold a frame as long."""
+    if words.delays[path[0]]:
+        raise Fault(f"port {path[0]} has a delay: it is the first of its path; leave it out, and add it to the bounds")
+    for before, after in zip(path, path[1:]):
+        noted, delay = words.behind.setdefault(before, (after, words.delays[after]))
+        if words.delays[after] != delay:
+            raise Fault(f"ports {noted} and {after} have unlike delays, and both stand behind {before}")
+
+
+def add_delays(servers, words):
+    """Adds to the links what the switches behind them hold each frame."""
+    for name, (_, delay) in words.behind.items():
+        if delay:
+            servers[name]["link"] = written(number(servers[name].get("link", 0)) + delay)
+            if words.grid:
+                rounding.round_server(servers[name], words.grid)
+
+
+def read_table(path, columns, others, make, most):
     """The tables of a file's lines, by name; each fault with its line."""
     made = {}
-    for line, row in rows(path, columns):
+    for line, row in rows(path, columns, others):
         try:
             if len(made) == most:
                 raise Fault(f"more than {most} lines")
@@ -233,15 +282,18 @@ def network_of(words):
     servers = read_table(
         words.ports,
         ["name", "rate", "latency", "link", "discipline"],
+        ["delay", "gate"],
         lambda row, taken: port(row, taken, words),
         64,
     )
     flows = read_table(
         words.links,
         ["name", "bag", "largest_frame", "jitter", "priority", "path"],
+        [],
         lambda row, taken: virtual_link(row, taken, servers, words),
         256,
     )
+    add_delays(servers, words)
     version = {"version": 2} if words.version == 2 else {}
     return version | {"server": list(servers.values()), "flow": list(flows.values())}
 
@@ -258,13 +310,32 @@ def head_of_file(words):
         lines.append(
             f"{words.cut} gaps above {words.longest_gap} ms are cut to it: who sends less often keeps that too."
         )
+    if any(words.delays.values()):
+        lines.append("What the switches hold each frame is a part of the links that lead to them.")
     if words.version == 2:
         lines.append("No port sends faster than its rate.")
     return "\n".join(lines)
 
 
+def crowded_by_cuts(network, words):
+    """The queues of ports that are asked for more than they are promised only since gaps are cut."""
+    flows = network["flow"]
+    kept = [flow | {"arrival": {"kind": "stair", "period": 1000 * words.gaps[flow["name"]]}} for flow in flows]
+    for server in network["server"]:
+        for queue in range(queues_of(server)):
+            cut, whole = (loads.load_of_queue(server, queue, found) for found in (flows, kept))
+            if cut is not None and whole is not None and cut > 1 >= whole:
+                yield f"{server['name']}:{queue}", cut
+
+
 def warn(network, words):
-    """Warns of what may be refused."""
+    """Warns of what may be refused, or may have no bound."""
+    crowded = dict(crowded_by_cuts(network, words)) if words.cut else {}
+    if crowded:
+        most = max(crowded, key=crowded.get)
+        told = f"as cut, the gaps ask for {loads.rounded_up(crowded[most])} of what {most} is promised"
+        more = f", and too much at {len(crowded) - 1} queues more" if len(crowded) > 1 else ""
+        print(f"import_icd: {told}{more}, so there is no bound: take a greater --longest-gap", file=sys.stderr)
     far = sum(len(flow["path"]) > 2 for flow in network["flow"])
     if words.buckets and far:
         told = f"{far} links pass more than two ports as buckets, whose fractions may get too wide"
@@ -299,7 +370,7 @@ def main():
         parser.error("the overhead is from 0 bytes on, and below 2^21")
     if words.grid is not None and not 1 <= words.grid <= rounding.FINEST:
         parser.error(f"the grid is a whole number from 1 to {rounding.FINEST}")
-    words.cut = 0
+    words.cut, words.gaps, words.delays, words.behind = 0, {}, {}, {}
     network = network_of(words)
     warn(network, words)
     sys.stdout.write(dump(network, head_of_file(words)))

@@ -1,14 +1,14 @@
 #!/usr/bin/env python3
 """Draws what netcalc printed. Needs matplotlib (Debian: python3-matplotlib).
 
-    tools/plot.py bounds ANSWER.txt -o OUT.svg
+    ./netcalc plot bounds ANSWER.txt -o OUT.svg
         bars of an answer of `netcalc analyse` or `edit`: a flow's bounds by total-flow and by separate-flow analysis,
         each queue's delay and backlog; or of `netcalc simulate` or `check`: the worst of the run beside the bound;
         flows or queues alone, where an answer has no others; of more than 200 those with the largest numbers
-    tools/plot.py curves ANSWER.txt -o OUT.svg
+    ./netcalc plot curves ANSWER.txt -o OUT.svg
         two curves, an arrival curve and a service curve, with their horizontal and vertical deviation: of an answer of
         `netcalc curve` that has `show A`, `show B`, `delay A, B` and `backlog A, B`
-    tools/plot.py run RUN.csv --net NET [--ports A,B] [--from T] [--to T] -o OUT.svg
+    ./netcalc plot run RUN.csv --net NET [--ports A,B] [--from T] [--to T] -o OUT.svg
         a time line of a recorded run, as `netcalc check NET RUN.csv` reads it: at each server the works with the
         numbers of their packets, and the bits that each queue holds; of some servers alone, between two times
 

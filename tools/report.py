@@ -17,10 +17,10 @@ before it), by their curves and the delay bounds on their way so far. The findin
 writes the report as one page that needs no other file, `--csv` the flows alone, for a spreadsheet.
 
 NET may also be a report in JSON with `branches` and `ports`, whose bounds are decimals already and which tells its own
-deadlines; it has no paths, so no delay is shared out.
+deadlines, and whether they are met; it has no paths, so no delay is shared out.
 
-The status is 0 where each flow has a bound and no deadline fails, else 1. A network that the program refuses is refused
-in its words and those of `./netcalc explain`."""
+The status is 0 where each flow has a bound and no deadline fails, else 1; flows without a deadline are counted. A
+network that the program refuses is refused in its words and those of `./netcalc explain`."""
 
 import argparse
 import csv
@@ -51,15 +51,20 @@ class Flow:
     bound: Fraction | None
     deadline: Fraction | None = None
     hops: list = field(default_factory=list)
+    met: bool | None = None  # what is told of the deadline by who compared it exactly
 
     @property
     def slack(self):
-        return None if None in (self.bound, self.deadline) else self.deadline - self.bound
+        if None in (self.bound, self.deadline):
+            return None
+        return max(self.deadline - self.bound, 0) if self.met else self.deadline - self.bound
 
     @property
     def verdict(self):
         """PASS or FAIL of the deadline; a flow without a bound fails, and one without a deadline has no verdict."""
-        if self.bound is None or self.slack is not None and self.slack < 0:
+        if self.bound is None or self.met is False:
+            return "FAIL"
+        if self.met is None and self.slack is not None and self.slack < 0:
             return "FAIL"
         return "PASS" if self.deadline is not None else ""
 
@@ -92,6 +97,7 @@ class Report:
     findings: list
     flows: list
     ports: list
+    has_deadlines: bool = False  # whether a table of them was given
 
     def failed(self):
         return [flow for flow in self.flows if flow.verdict == "FAIL"]
@@ -103,13 +109,19 @@ class Report:
         kept = sum(flow.verdict == "PASS" for flow in asked)
         words = f"{kept} of {len(asked)} deadlines kept"
         words += f", {len(asked) - kept} not" if kept < len(asked) else ""
-        return words + f"; {len(self.flows)} flows" + (f", {len(missing)} without a bound" if missing else "")
+        words += f"; {len(self.flows)} flows" + (f", {len(missing)} without a bound" if missing else "")
+        free = len(self.flows) - len(asked)
+        return words + (f", {free} without a deadline" if free and self.has_deadlines else "")
 
 
 def deadlines_of(path, names):
     """The deadlines of a table, by the names of flows."""
     head = text_in(path).partition("\n")[0]
-    column = "flow" if "flow" in [cell.strip().strip('"') for cell in head.split(",")] else "name"
+    columns = [cell.strip().strip('"') for cell in head.split(",")]
+    if head.strip() and not {"flow", "name"} & set(columns):
+        hint = ": write commas in place of the semicolons" if ";" in head else ""
+        raise Fault(f"{path} line 1: no column flow, and none name{hint}")
+    column = "flow" if "flow" in columns else "name"
     found = {}
     for line, row in rows(path, [column, "deadline"]):
         try:
@@ -209,12 +221,20 @@ def of_network(path, deadlines, program):
     head = [f"network {path}, SHA-256 {sum_of(path)}", f"bounds by netcalc, SHA-256 {sum_of(program)}"]
     if deadlines:
         head.append(f"deadlines {deadlines}, SHA-256 {sum_of(deadlines)}")
-    return Report(head, findings, flows, ports)
+    return Report(head, findings, flows, ports, bool(deadlines))
 
 
 def known(text, what):
     """A decimal of a report in JSON, or None for `none`."""
     return None if text == "none" else loads.time_of(text, what)
+
+
+def met_of(branch):
+    """Whether a branch of a report in JSON meets its deadline, as it says itself: the numbers there are rounded."""
+    met = branch.get("met")
+    if met is not None and not isinstance(met, bool):
+        raise Fault("met is neither true nor false")
+    return met
 
 
 def of_json(path):
@@ -226,6 +246,7 @@ def of_json(path):
                 f"{branch['link']} to {branch['port']}",
                 known(branch["bound"], "bound"),
                 loads.time_of(branch["deadline"], "deadline") if "deadline" in branch else None,
+                met=met_of(branch),
             )
             for branch in found["branches"]
         ]

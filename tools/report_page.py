@@ -103,8 +103,9 @@ def table(columns, rows):
     return f"<table>{heads(columns)}<tbody>{''.join(f'<tr>{row}</tr>' for row in rows)}</tbody></table>"
 
 
-def bar(share, colour, width=150, mark=None):
-    """A bar of a share of the width, and an upright line at a mark."""
+def bar(share, colour, width=150, mark=None, told=None):
+    """A bar of a share of the width, and an upright line at a mark; what is told of it to who cannot see it is the
+    share, where nothing else is."""
     filled = max(0, min(1, float(share))) * width
     line = (
         ""
@@ -112,7 +113,7 @@ def bar(share, colour, width=150, mark=None):
         else f'<line x1="{mark * width:.1f}" x2="{mark * width:.1f}" y1="0" y2="14" stroke="#1c2430"/>'
     )
     return (
-        f'<svg width="{width}" height="14" role="img" aria-label="{float(share):.2f}">'
+        f'<svg width="{width}" height="14" role="img" aria-label="{float(share if told is None else told):.2f}">'
         f'<rect width="{width}" height="8" y="3" fill="#eef1f4"/>'
         f'<rect width="{filled:.1f}" height="8" y="3" fill="{colour}"/>{line}</svg>'
     )
@@ -125,7 +126,8 @@ def bound_bar(flow, largest):
     if flow.deadline is None:
         return bar(flow.bound / largest if largest else 0, "#a9b3c1")
     colour = GOOD if flow.verdict == "PASS" else BAD
-    return bar(flow.bound / flow.deadline * 4 / 5, colour, mark=0.8)
+    share = flow.bound / flow.deadline
+    return bar(share * 4 / 5, colour, mark=0.8, told=share)
 
 
 def flow_rows(flows):
@@ -226,8 +228,9 @@ def page(report):
         "Bounds are rounded up, slacks down; the exact bound stands last. The upright line marks the deadline.</p>",
         table(columns, flow_rows(flows)),
         "<h2>Ports</h2>",
-        '<p class="note">The load is what flows ask for in the long run over what they are promised; no packet stays '
-        "longer than the delay, and the queue never holds more bytes.</p>",
+        '<p class="note">The load is what flows ask for in the long run over what they are promised, at a priority '
+        "server with those of the queues before; no packet stays longer than the delay, and the queue never holds more "
+        "bytes.</p>",
         table(ports, port_rows(sorted(report.ports, key=by_delay))),
     ]
     if shares:

@@ -1,7 +1,7 @@
 #!/usr/bin/env python3
 """Puts a network on a grid, so that its numbers stay within the limits of the analysis, and says what that costs.
 
-    tools/round.py NET.toml --grid N > rounded.toml
+    ./netcalc round NET.toml --grid N > rounded.toml
 
 Every number becomes a multiple of 1/N, in the direction that is safe: bursts, arrival rates, jitters, latencies, cycles
 and links up; rates of servers, periods of stairs and slots of gates down. So who keeps the curves of the file keeps

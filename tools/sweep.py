@@ -1,9 +1,9 @@
 #!/usr/bin/env python3
 """Runs the analysis on many variants of a network, and gathers their bounds in one table.
 
-    tools/sweep.py TEMPLATE.toml PARAMETERS.csv --table OUT.csv
+    ./netcalc sweep TEMPLATE.toml PARAMETERS.csv --table OUT.csv
         a line of PARAMETERS.csv is a variant: each $NAME or ${NAME} of the template becomes the text of the column NAME
-    tools/sweep.py FOLDER --table OUT.csv
+    ./netcalc sweep FOLDER --table OUT.csv
         each *.toml of the folder is a variant
 
 Each variant is one run of the program, on all processors of this machine, or with `--scheduler ADDRESS` on the workers
@@ -21,10 +21,12 @@ Bounds are exact fractions.
 variant beats in both (needs matplotlib).
 
 It calls the program, and not the launcher before it, which looks at all sources each time. Of the network of
-examples/tutorial/study.template on four processors that other work kept busy too:
+examples/tutorial/study.template on four processors:
 
-- Here, on 29 November 2026 at a load of 28: 1,000 variants in 12.6 s, 79 a second. Each took 4.9 ms of processor time,
-  2.1 of them in this process, so some 400 a second are within reach where nothing else runs (reckoned, not measured).
+- Here, on 29 November 2026: 1,000 variants in 2.5 to 2.9 s, 344 to 407 a second in four studies, though other work ran
+  beside them. Where it kept all four processors busy, 27 to 39 s, 25 to 37 a second in three studies, for each process
+  waits for a turn; 20 s with `--workers 16`. A variant takes 4.5 ms of a processor: 3.0 in its process (one that does
+  nothing takes 0.8) and 1.5 in this one, for its file, the start of the process and the line of the journal.
 - On a scheduler of Dask 2022.12 with two workers on that machine, on 28 November 2026, 10,000 variants by the launcher:
   with one thread each, stopped by Ctrl-C after 1,056; started again with four threads each, 8,944 in 740.1 s, though
   one worker was ended by SIGKILL after 5,004. Table and journal had each variant once, and but for the seconds the

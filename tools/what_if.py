@@ -1,15 +1,19 @@
 #!/usr/bin/env python3
 """What changes of a network would do to its bounds and deadlines, as tables.
 
-    tools/what_if.py NET EDITS [--deadlines D.csv] [--write OUT.toml]
+    ./netcalc what-if NET EDITS [--deadlines D.csv] [--write OUT.toml] [--csv OUT]
         a line for each row of an edit list: what the program says of it, how many bounds fell and rose, by how much the
         worst of each, and which deadlines turned; then each flow's bound before and after all rows
-    tools/what_if.py NET --greatest-load [FLOW] --deadlines D.csv
+    ./netcalc what-if NET --greatest-load [FLOW] --deadlines D.csv
         the largest factor on the rates of a flow, or of all flows, that still keeps all deadlines, by halving
 
 NET is in microseconds and bits; EDITS is an edit list as `netcalc edit` reads it, D.csv a table of deadlines as
-report.py reads it. Bounds are shown as decimals, rounded up. `--write` writes the network after all rows as a file,
-with the same bounds; a stair that a row `packet` leaves as it was, with its former packet, is written as a list.
+report.py reads it. Bounds are shown as decimals, rounded up, deadlines rounded down. `--csv` writes each flow's bound
+before all rows and after each, a column a row. `--write` writes the network after all rows as a file, with the same
+bounds; a stair that a row `packet` leaves as it was, with its former packet, is written as a list.
+
+The bounds between are those of `netcalc analyse` of the network that is made here after each row, the last ones are
+held to what `netcalc edit` tells of the whole list.
 
 The factor is a multiple of 1/64, at most 64. A stair's period is divided by it and rounded down, so the load is at
 least that large; periods that divide one another go on doing so, or nearly so where one flow alone is faster. A
@@ -21,10 +25,12 @@ The status is 1 where a deadline fails: after all rows, or already with no load.
 """
 
 import argparse
+import concurrent.futures
 import copy
 import csv
 import io
 import math
+import os
 import pathlib
 import subprocess
 import sys
@@ -34,7 +40,7 @@ from fractions import Fraction
 import explain
 import lint
 import report
-from loads import rounded_up
+from loads import rounded_down, rounded_up
 from networks import PROGRAM, Answer, Fault, analyse, dump, ended, load, number, text_in, the_program, written
 
 PARTS = 64  # a factor is a multiple of one in so many
@@ -50,19 +56,29 @@ def rows_of(path):
         raise Fault(f"{path} line {reader.line_num}: {fault}") from None
 
 
-def answers_of(path, edits, rows, program):
-    """What `edit` says after none, one, two and so on of the rows of a list; a Fault where it refuses it."""
-    with tempfile.NamedTemporaryFile("w", suffix=".csv", encoding="utf-8") as file:
-        table = csv.writer(file, lineterminator="\n")
-        for count in range(len(rows) + 1):
-            if count:
-                table.writerow(rows[count - 1])
-            file.flush()
-            words = [the_program(program), "edit", str(path), file.name]
-            run = subprocess.run(words, capture_output=True, text=True, check=False)
-            told = run.stdout.replace(file.name, str(edits))
-            report.hold_answer(["edit", str(path), str(edits)], Answer(run.returncode, told))
-            yield run.stdout
+def said_of(path, edits, rows, program):
+    """What `edit` says of the rows of a list, a line each, and the bounds after them all; a Fault where it refuses the
+    list."""
+    words = ["edit", str(path), str(edits)]
+    run = subprocess.run([the_program(program), *words], capture_output=True, text=True, check=False)
+    report.hold_answer(words, Answer(run.returncode, run.stdout))
+    said = [line.split(" ", 2)[2] for line in run.stdout.splitlines() if line.startswith("edit ")]
+    if len(said) != len(rows):
+        raise Fault(f"{edits}: {len(rows)} rows are read here, and {len(said)} by netcalc")
+    return said, bounds_of(run.stdout)
+
+
+def bounds_after(networks, program):
+    """The bounds of each network by the program, of several at a time and of equal ones once."""
+    texts = [dump(network) for network in networks]
+    with tempfile.TemporaryDirectory() as folder, concurrent.futures.ThreadPoolExecutor(os.cpu_count()) as pool:
+        paths = {text: pathlib.Path(folder, f"{place}.toml") for place, text in enumerate(dict.fromkeys(texts))}
+        for text, path in paths.items():
+            path.write_text(text, encoding="utf-8")
+        answers = dict(zip(paths, pool.map(lambda path: analyse(path, program), paths.values())))
+        for text, answer in answers.items():
+            report.hold_answer(["analyse", str(paths[text])], answer)
+    return [bounds_of(answers[text].text) for text in texts]
 
 
 def bounds_of(text):
@@ -101,15 +117,25 @@ def changes(before, after, deadlines):
             yield f"{name} now {'PASS' if now else 'FAIL'}"
 
 
-def table_of(rows, texts, deadlines):
-    """The lines of all rows."""
-    found = [bounds_of(text) for text in texts]
+def table_of(rows, said, found, deadlines):
+    """The lines of all rows, with the bounds that were found before and after each."""
     for place, row in enumerate(rows):
-        said = texts[place + 1].splitlines()[place].split(" ", 2)[2]
-        told = "; ".join(changes(found[place], found[place + 1], deadlines)) if said.startswith("ok") else ""
-        yield f"{place + 1}  {','.join(row)}: {'taken' if said.startswith('ok') else said}" + (
-            f"; {told}" if told else ""
-        )
+        taken = said[place].startswith("ok")
+        told = changes(found[place], found[place + 1], deadlines) if taken else []
+        yield f"{place + 1}  {','.join(row)}: {'; '.join(['taken' if taken else said[place], *told])}"
+
+
+def write_csv(path, found, deadlines):
+    """The bounds of each flow before all rows and after each, as a table for a spreadsheet; an empty cell where the
+    flow is not there."""
+    names = list(dict.fromkeys(name for bounds in found for name in bounds))
+    with open(path, "w", newline="", encoding="utf-8") as file:
+        table = csv.writer(file)
+        table.writerow(["flow", "deadline_us", "before_us", *(f"after_{row}_us" for row in range(1, len(found)))])
+        for name in names:
+            deadline = rounded_down(deadlines[name]) if name in deadlines else ""
+            cells = (report.shown(bounds[name]) if name in bounds else "" for bounds in found)
+            table.writerow([name, deadline, *cells])
 
 
 def flows_of(before, after, deadlines):
@@ -125,7 +151,7 @@ def flows_of(before, after, deadlines):
                 report.shown(old) if name in before else "-",
                 report.shown(new),
                 "-" if greater is None else rounded_up(greater),
-                "" if name not in deadlines else rounded_up(deadlines[name]),
+                "" if name not in deadlines else rounded_down(deadlines[name]),
                 "" if kept is None else ("PASS" if kept else "FAIL"),
             ]
         )
@@ -187,19 +213,24 @@ def make_of_flow(flow, what, values, numbers):
         flow["packet"] = numbers[0]
 
 
-def edited(network, rows, said):
-    """The network after the rows that were taken."""
-    past = []
-    for row, line in zip(rows, said):
-        if " ok " not in line:
-            continue
-        if row[0] == "undo":
+def copied(network, name):
+    """A network that shares all tables with another one but those of a name, so that long lists fit the memory."""
+    own = lambda tables: [copy.deepcopy(table) if table["name"] == name else table for table in tables]
+    return network | {kind: own(network[kind]) for kind in ("server", "flow") if kind in network}
+
+
+def networks_of(network, rows, said):
+    """The networks before all rows and after each; one that was not taken leaves the network as it is."""
+    past, every = [], [network]
+    for row, words in zip(rows, said):
+        if words.startswith("ok") and row[0] == "undo":
             network = past.pop()
-            continue
-        past.append(network)
-        network = copy.deepcopy(network)
-        make(network, row)
-    return network
+        elif words.startswith("ok"):
+            past.append(network)
+            network = copied(network, row[1])
+            make(network, row)
+        every.append(network)
+    return every
 
 
 def faster(flow, factor, period_of):
@@ -253,7 +284,7 @@ def broken(network, deadlines, program):
         key=lambda name: (answer.flows[name]["bound"] is None, (answer.flows[name]["bound"] or 0) - deadlines[name]),
     )
     more = f", and {len(late) - 1} more" if len(late) > 1 else ""
-    return f"{worst} has {report.shown(answer.flows[worst]['bound'])} of {rounded_up(deadlines[worst])}{more}"
+    return f"{worst} has {report.shown(answer.flows[worst]['bound'])} of {rounded_down(deadlines[worst])}{more}"
 
 
 def greatest(network, deadlines, program, name):
@@ -274,8 +305,9 @@ def greatest(network, deadlines, program, name):
 def tell_load(words, network, deadlines):
     """Tells the greatest load."""
     name = words.greatest_load or None
-    if name and name not in [flow["name"] for flow in network.get("flow", [])]:
-        raise Fault(f"{words.network}: no flow {name}{explain.near(name, list(deadlines))}")
+    names = [flow["name"] for flow in network.get("flow", [])]
+    if name and name not in names:
+        raise Fault(f"{words.network}: no flow {name}{explain.near(name, names)}")
     if not network.get("flow"):
         raise Fault(f"{words.network}: no flow")
     parts, why = greatest(network, deadlines, words.program, name)
@@ -300,19 +332,24 @@ def odd_after(made, program):
 def tell_edits(words, network, deadlines):
     """Tells what the rows do."""
     rows = rows_of(words.edits)
-    texts = list(answers_of(words.network, words.edits, rows, words.program))
-    made = dump(edited(network, rows, texts[-1].splitlines()), f"{words.network} after the edits of {words.edits}.")
+    said, told = said_of(words.network, words.edits, rows, words.program)
+    networks = networks_of(network, rows, said)
+    found = bounds_after(networks, words.program)
+    if found[-1] != told:
+        raise Fault(f"{words.edits}: the network that is made here of all rows has other bounds than `edit` tells")
+    made = dump(networks[-1], f"{words.network} after the edits of {words.edits}.")
     if words.write:
         pathlib.Path(words.write).write_text(made, encoding="utf-8")
-    for line in table_of(rows, texts, deadlines):
+    if words.csv:
+        write_csv(words.csv, found, deadlines)
+    for line in table_of(rows, said, found, deadlines):
         print(line)
     print()
-    before, after = bounds_of(texts[0]), bounds_of(texts[-1])
-    for line in flows_of(before, after, deadlines):
+    for line in flows_of(found[0], found[-1], deadlines):
         print(line)
     for line in odd_after(made, words.program):
         print(f"odd after all rows: {line}")
-    return 1 if any(is_kept(after[name], deadlines.get(name)) is False for name in after) else 0
+    return 1 if any(is_kept(bound, deadlines.get(name)) is False for name, bound in found[-1].items()) else 0
 
 
 def main():
@@ -321,13 +358,16 @@ def main():
     parser.add_argument("edits", nargs="?")
     parser.add_argument("--deadlines", metavar="D.csv", help="a table of flows and deadlines")
     parser.add_argument("--write", metavar="OUT.toml", help="write the network after all rows")
+    parser.add_argument("--csv", metavar="OUT", help="write the bounds before all rows and after each as a table")
     parser.add_argument("--greatest-load", nargs="?", const="", metavar="FLOW", help="the largest factor on rates")
     parser.add_argument("--program", default=str(PROGRAM), help="the program to ask")
     words = parser.parse_args()
     if (words.edits is None) == (words.greatest_load is None):
         parser.error("an edit list, or --greatest-load")
-    if words.greatest_load is not None and not words.deadlines or words.write and not words.edits:
-        parser.error("--greatest-load wants --deadlines, and --write an edit list")
+    if words.greatest_load is not None and not words.deadlines:
+        parser.error("--greatest-load wants --deadlines")
+    if (words.write or words.csv) and not words.edits:
+        parser.error("--write and --csv want an edit list")
     report.hold_answer(["analyse", words.network], analyse(words.network, words.program))
     network = load(words.network)
     names = [flow["name"] for flow in network.get("flow", [])]
