@@ -6,7 +6,7 @@ import pathlib
 import re
 
 PAGE = pathlib.Path("docs/DEFINITIONS.md")
-WIDTH = 140
+WIDTH = 150
 
 
 def modules():
