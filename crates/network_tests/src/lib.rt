@@ -1,8 +1,8 @@
-//! Tests of networks, their files and cells, worked out by hand.
+//! Tests of networks, their files and cells, of lists by index, tables of versions and workloads, worked out by hand.
 #![tactic(auto)]
 
-mod cell_lists;
 #[cfg(test)]
+mod cell_lists;
 pub mod exercises;
 #[cfg(test)]
 mod networks;
