@@ -1,7 +1,5 @@
-//! Tests of the operators on curves, one of each public call, and the curves that they share.
+//! Tests of numbers, lines and elements, curves, their limits and normal form, and the curves that tests share.
 #![tactic(auto)]
 
-pub mod convolutions;
 pub mod forms;
-pub mod operators;
 pub mod shapes;

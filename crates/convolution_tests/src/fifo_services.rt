@@ -1,0 +1,154 @@
+//! Services worked out by hand, by the wait that the horizontal deviation of the two curves is.
+
+ghost use Rattle.std.specs.Prelude.{◌≡◌, ◌<◌, pos, IsTrue};
+ghost use Rattle.upp_limits.specs.rational.specs.Rational.{int};
+ghost use Rattle.upp_limits.specs.rational.specs.Extended.{◌≤ₑ◌};
+ghost use Rattle.upp_limits.specs.rational.specs.declared.Extended.TheVariants.{Fin};
+ghost use Rattle.upp_limits.specs.upp_curve.specs.Curve.{value_at};
+
+use curve_deviation::horizontal;
+use curve_tests::shapes::{bucket, curve, line_piece, ratio, value, whole};
+use residuals::fifo::fifo_service;
+use std::alloc::Global;
+use std::cmp::Ordering;
+use std::marker::Brand;
+use std::sync::ledger::{Blank, Ledger};
+use std::test::Fail;
+use steps::Steps;
+use upp_limits::OpFault;
+use upp_limits::fraction128::{Ext, Frac};
+use upp_limits::rational::Extended;
+use upp_limits::upp_curve::{Curve, Tail, equal};
+
+// A rate after a latency, with minus their product.
+fn late(alloc: Global, rate: i128, latency: i128, icept: i128) -> Result<Curve, OpFault> {
+    let rank = whole(latency);
+    curve(
+        alloc,
+        &[line_piece(0, 0, 0, 0), line_piece(latency, 0, icept, rate)],
+        Tail::Affine { rank },
+    )
+}
+
+// A step of 5 at each whole time from 1 on.
+fn stair(alloc: Global) -> Result<Curve, OpFault> {
+    let tail = Tail::Periodic {
+        rank: Frac::zero(),
+        period: Frac::one(),
+        rise: whole(5),
+    };
+    curve(alloc, &[line_piece(0, 0, 0, 0)], tail)
+}
+
+// Whether that is a number from 0 on.
+fn is_high(v: Ext) -> bool
+    ensures { IsTrue result → Fin (int (pos 0)) ≤ₑ v }
+{
+    match v {
+        Extended::Fin(x) => match x.cmp(&Frac::zero()) {
+            Ordering::Less => false,
+            _ => true,
+        },
+        Extended::Inf => false,
+    }
+}
+
+// Whether the curve is a number from 0 on at the start.
+fn starts_high(c: &Curve) -> bool
+    ensures { IsTrue result → Fin (int (pos 0)) ≤ₑ value_at c.now (int (pos 0)) }
+{
+    match c.value_at(Frac::zero()) {
+        Ok(v) => is_high(v),
+        Err(_) => false,
+    }
+}
+
+// Whether that is infinite.
+fn is_endless(v: Ext) -> bool {
+    match v {
+        Extended::Fin(_) => false,
+        Extended::Inf => true,
+    }
+}
+
+// Whether the wait is infinite.
+fn waits_for_ever<L: Ledger>(blank: Blank, beta: &Curve, cross: &Curve) -> Result<bool, OpFault>
+    requires name { blank.name ≡ L.name }
+    requires parts { blank.parts ≡ L.parts }
+    requires one { 0 < blank.parts }
+{
+    let mut steps = Steps::<L>::new(blank);
+    if !beta.is_finite() {
+        return Err(OpFault::TooMany);
+    }
+    if !beta.is_rising() {
+        return Err(OpFault::TooMany);
+    }
+    if !cross.is_rising() {
+        return Err(OpFault::TooMany);
+    }
+    let theta = horizontal(cross, beta, &mut steps)?;
+    Ok(is_endless(theta))
+}
+
+// What is left after the wait.
+fn service<L: Ledger>(
+    alloc: Global,
+    blank: Blank,
+    beta: &Curve,
+    cross: &Curve,
+) -> Result<Curve, OpFault>
+    requires name { blank.name ≡ L.name }
+    requires parts { blank.parts ≡ L.parts }
+    requires one { 0 < blank.parts }
+{
+    let mut steps = Steps::<L>::new(blank);
+    if !beta.is_finite() {
+        return Err(OpFault::TooMany);
+    }
+    if !beta.is_rising() {
+        return Err(OpFault::TooMany);
+    }
+    if !cross.is_rising() {
+        return Err(OpFault::TooMany);
+    }
+    if !starts_high(beta) {
+        return Err(OpFault::TooMany);
+    }
+    let theta = horizontal(cross, beta, &mut steps)?;
+    fifo_service(alloc, beta, cross, theta, &mut steps)
+}
+
+#[test]
+fn a_flow_has_a_rate_after_its_wait(rt: HostRuntime) -> Result<(), Fail> {
+    let beta = late(rt.alloc(), 100, 10, -1000)?;
+    let cross = bucket(rt.alloc(), 6000, 5)?;
+    let left = service::<Brand>(rt.alloc(), Blank::new(1), &beta, &cross)?;
+    let wanted = late(rt.alloc(), 95, 70, -6650)?;
+    assert!(rt; equal(&left, &wanted));
+    Ok(())
+}
+
+#[test]
+fn a_faster_flow_leaves_nothing(rt: HostRuntime) -> Result<(), Fail> {
+    let beta = late(rt.alloc(), 100, 10, -1000)?;
+    let cross = bucket(rt.alloc(), 1, 101)?;
+    let left = service::<Brand>(rt.alloc(), Blank::new(1), &beta, &cross)?;
+    let wanted = bucket(rt.alloc(), 0, 0)?;
+    let endless = waits_for_ever::<Brand>(Blank::new(1), &beta, &cross)?;
+    assert!(rt; endless, "the wait is infinite");
+    assert!(rt; equal(&left, &wanted));
+    Ok(())
+}
+
+#[test]
+fn a_flow_beside_a_stair(rt: HostRuntime) -> Result<(), Fail> {
+    let beta = stair(rt.alloc())?;
+    let cross = bucket(rt.alloc(), 1, 1)?;
+    let left = service::<Brand>(rt.alloc(), Blank::new(1), &beta, &cross)?;
+    for (n, v) in [(2, 0), (3, 3), (4, 7)] {
+        let found = value(&left, ratio(n, 2));
+        assert!(rt; found == Some(whole(v)), "at {n} halves");
+    }
+    Ok(())
+}

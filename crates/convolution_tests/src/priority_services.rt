@@ -1,0 +1,65 @@
+//! Curves worked out by hand.
+
+ghost use Rattle.std.specs.Prelude.{◌≡◌, ◌<◌};
+
+use curve_tests::shapes::{bucket, curve, fraction_piece, ratio, whole};
+use residuals::priority::priority_service;
+use std::alloc::Global;
+use std::marker::Brand;
+use std::sync::ledger::{Blank, Ledger};
+use std::test::Fail;
+use steps::Steps;
+use upp_limits::OpFault;
+use upp_limits::fraction128::Frac;
+use upp_limits::upp_curve::{Curve, Tail, equal};
+
+// A rate after a latency, with minus their product.
+fn late(alloc: Global, rate: i128, latency: Frac, icept: i128) -> Result<Curve, OpFault> {
+    let zero = Frac::zero();
+    curve(
+        alloc,
+        &[
+            fraction_piece(zero, zero, zero, zero),
+            fraction_piece(latency, zero, whole(icept), whole(rate)),
+        ],
+        Tail::Affine { rank: latency },
+    )
+}
+
+// Rate 100 after 10, less a bucket and a packet.
+fn service<L: Ledger>(
+    alloc: Global,
+    blank: Blank,
+    burst: i128,
+    rate: i128,
+    lower: u32,
+) -> Result<Curve, OpFault>
+    requires name { blank.name ≡ L.name }
+    requires parts { blank.parts ≡ L.parts }
+    requires one { 0 < blank.parts }
+{
+    let mut steps = Steps::<L>::new(blank);
+    let beta = late(alloc, 100, whole(10), -1000)?;
+    let higher = bucket(alloc, burst, rate)?;
+    if beta.is_finite() {
+        priority_service(alloc, &beta, &higher, lower, &mut steps)
+    } else {
+        Err(OpFault::TooMany)
+    }
+}
+
+#[test]
+fn a_packet_delays_the_first_queue(rt: HostRuntime) -> Result<(), Fail> {
+    let found = service::<Brand>(rt.alloc(), Blank::new(1), 0, 0, 12000)?;
+    let wanted = late(rt.alloc(), 100, whole(130), -13000)?;
+    assert!(rt; equal(&found, &wanted));
+    Ok(())
+}
+
+#[test]
+fn a_bucket_goes_before_the_last_queue(rt: HostRuntime) -> Result<(), Fail> {
+    let found = service::<Brand>(rt.alloc(), Blank::new(1), 6000, 5, 0)?;
+    let wanted = late(rt.alloc(), 95, ratio(1400, 19), -7000)?;
+    assert!(rt; equal(&found, &wanted));
+    Ok(())
+}

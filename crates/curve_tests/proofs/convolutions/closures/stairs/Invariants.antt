@@ -1,4 +1,0 @@
-use Rattle.curve_tests.proofs.convolutions.closures.stairs.Given as goal
-
-abbrev pub ghosts-told : goal.ghosts-told
-ghosts-told g a = record { name = a.blank.name; parts = a.blank.parts }

@@ -1,4 +1,0 @@
-use Rattle.curve_tests.proofs.convolutions.deconvolutions.the_first_ends.Given as goal
-
-abbrev pub ghosts-deconvolved : goal.ghosts-deconvolved
-ghosts-deconvolved g a = record { name = a.blank.name; parts = a.blank.parts }

@@ -1,4 +1,0 @@
-use Rattle.curve_tests.proofs.operators.all_operators.operators_of_a_saw_and_a_ramp.Given as goal
-
-abbrev pub ghosts-made : goal.ghosts-made
-ghosts-made g a = record { name = a.blank.name; parts = a.blank.parts }

@@ -1,0 +1,222 @@
+//! Each operator, of curves that it takes: a call that was refused would still be proved.
+//! `sum`, `min`, `max`, `pos_diff`, `scale` and `shift` are tried of a curve that repeats and of one that ends, which
+//! `pos_diff` takes as its second operand. `pos_minus`, `run_sup` and `run_inf` ask for finite curves, and are tried of
+//! the one that repeats alone.
+//!
+//! The saw is 2 + n at 2 n and n + s at 2 n + s, for s between 0 and 2: at 0, 1, .. it is 2, 1, 3, 2, 4, 3.
+//! The ramp is 1 + t up to 3, and infinite after it. In the rows below -1 stands for infinity.
+
+ghost use Rattle.std.specs.Prelude.{◌≡◌, ◌<◌};
+
+use curve_tests::shapes::{curve, whole};
+use plain_operators::running::{
+    max, min, pos_diff, pos_minus, run_inf, run_sup, scale, shift, sum,
+};
+use std::alloc::Global;
+use std::cmp::Ordering;
+use std::marker::Brand;
+use std::sync::ledger::{Blank, Ledger};
+use std::test::Fail;
+use steps::Steps;
+use upp_limits::OpFault;
+use upp_limits::fraction128::{Ext, Frac};
+use upp_limits::rational::Extended;
+use upp_limits::upp_curve::affine_segment::{Line, Piece};
+use upp_limits::upp_curve::{Curve, Tail};
+
+// A piece from x on; no line: infinite after x.
+fn piece(x: i128, at: Ext, line: Option<Line>) -> Piece {
+    Piece {
+        x: whole(x),
+        at,
+        line,
+    }
+}
+
+fn rising(icept: i128) -> Option<Line> {
+    Some(Line {
+        icept: whole(icept),
+        slope: Frac::one(),
+    })
+}
+
+fn every_two(rise: i128) -> Tail {
+    Tail::Periodic {
+        rank: Frac::zero(),
+        period: whole(2),
+        rise: whole(rise),
+    }
+}
+
+fn saw(alloc: Global) -> Result<Curve, OpFault> {
+    let first = piece(0, Extended::Fin(whole(2)), rising(0));
+    curve(alloc, &[first], every_two(1))
+}
+
+fn ramp(alloc: Global) -> Result<Curve, OpFault> {
+    let first = piece(0, Extended::Fin(Frac::one()), rising(1));
+    curve(alloc, &[first], Tail::Infinite { rank: whole(3) })
+}
+
+// The value at a time from 0 on; -1 where it is infinite.
+fn value(c: &Curve, t: Frac) -> Frac {
+    match t.cmp(&Frac::zero()) {
+        Ordering::Less => whole(-2),
+        _ => match c.value_at(t) {
+            Ok(Extended::Fin(v)) => v,
+            Ok(Extended::Inf) => whole(-1),
+            Err(_) => whole(-2),
+        },
+    }
+}
+
+// Whether these are the values at 0, 1, .. 5.
+fn has_values(c: &Curve, row: [i128; 6]) -> bool {
+    value(c, whole(0)) == whole(row[0])
+        && value(c, whole(1)) == whole(row[1])
+        && value(c, whole(2)) == whole(row[2])
+        && value(c, whole(3)) == whole(row[3])
+        && value(c, whole(4)) == whole(row[4])
+        && value(c, whole(5)) == whole(row[5])
+}
+
+// What f has above g, for finite f.
+fn excess<L: Ledger>(
+    alloc: Global,
+    f: &Curve,
+    g: &Curve,
+    steps: &mut Steps<L>,
+) -> Result<Curve, OpFault> {
+    if f.is_finite() {
+        pos_diff(alloc, f, g, steps)
+    } else {
+        Err(OpFault::TooMany)
+    }
+}
+
+// What f has above a level, for finite f.
+fn above<L: Ledger>(
+    alloc: Global,
+    f: &Curve,
+    l: Frac,
+    steps: &mut Steps<L>,
+) -> Result<Curve, OpFault> {
+    if f.is_finite() {
+        pos_minus(alloc, f, l, steps)
+    } else {
+        Err(OpFault::TooMany)
+    }
+}
+
+// The running supremum, or the infimum, of what a curve has above 0.
+fn running<L: Ledger>(
+    alloc: Global,
+    f: &Curve,
+    supremum: bool,
+    steps: &mut Steps<L>,
+) -> Result<Curve, OpFault> {
+    if !f.is_finite() {
+        return Err(OpFault::TooMany);
+    }
+    let g = pos_minus(alloc, f, Frac::zero(), steps)?;
+    if !g.is_finite() {
+        return Err(OpFault::TooMany);
+    }
+    if supremum {
+        run_sup(alloc, &g, steps)
+    } else {
+        run_inf(alloc, &g, steps)
+    }
+}
+
+fn later<L: Ledger>(alloc: Global, f: &Curve, steps: &mut Steps<L>) -> Result<Curve, OpFault> {
+    shift(alloc, f, Extended::Fin(Frac::one()), steps)
+}
+
+#[derive(Debug, Clone, Copy)]
+enum Of {
+    Sum,
+    Min,
+    Max,
+    PosDiff,
+    PosMinus,
+    Scale,
+    ScaleRamp,
+    Shift,
+    ShiftRamp,
+    ShiftForEver,
+    RunSup,
+    RunInf,
+}
+
+fn made<L: Ledger>(alloc: Global, blank: Blank, of: Of) -> Result<Curve, OpFault>
+    requires name { blank.name ≡ L.name }
+    requires parts { blank.parts ≡ L.parts }
+    requires one { 0 < blank.parts }
+{
+    let mut steps = Steps::<L>::new(blank);
+    let f = saw(alloc)?;
+    let g = ramp(alloc)?;
+    match of {
+        Of::Sum => sum(alloc, &f, &g, &mut steps),
+        Of::Min => min(alloc, &f, &g, &mut steps),
+        Of::Max => max(alloc, &f, &g, &mut steps),
+        Of::PosDiff => excess(alloc, &f, &g, &mut steps),
+        Of::PosMinus => above(alloc, &f, whole(2), &mut steps),
+        Of::Scale => scale(alloc, &f, whole(3), &mut steps),
+        Of::ScaleRamp => scale(alloc, &g, whole(3), &mut steps),
+        Of::Shift => later(alloc, &f, &mut steps),
+        Of::ShiftRamp => later(alloc, &g, &mut steps),
+        Of::ShiftForEver => shift(alloc, &f, Extended::Inf, &mut steps),
+        Of::RunSup => running(alloc, &f, true, &mut steps),
+        Of::RunInf => running(alloc, &f, false, &mut steps),
+    }
+}
+
+// The limit just after 2 n counts for the infimum: the saw is n there.
+#[test]
+fn operators_of_a_saw_and_a_ramp(rt: HostRuntime) -> Result<(), Fail> {
+    let rows = [
+        (Of::Sum, [3, 3, 6, 6, -1, -1]),
+        (Of::Min, [1, 1, 3, 2, 4, 3]),
+        (Of::Max, [2, 2, 3, 4, -1, -1]),
+        (Of::PosDiff, [1, 0, 0, 0, 0, 0]),
+        (Of::PosMinus, [0, 0, 1, 0, 2, 1]),
+        (Of::Scale, [6, 3, 9, 6, 12, 9]),
+        (Of::ScaleRamp, [3, 6, 9, 12, -1, -1]),
+        (Of::Shift, [1, 3, 2, 4, 3, 5]),
+        (Of::ShiftRamp, [2, 3, 4, -1, -1, -1]),
+        (Of::ShiftForEver, [-1, -1, -1, -1, -1, -1]),
+        (Of::RunSup, [2, 2, 3, 3, 4, 4]),
+        (Of::RunInf, [0, 1, 1, 2, 2, 3]),
+    ];
+    for (of, row) in rows {
+        let c = made::<Brand>(rt.alloc(), Blank::new(1), of)?;
+        assert!(rt; has_values(&c, row), "{of:?}");
+    }
+    Ok(())
+}
+
+// The lower of n at 2 n and of 5 + 2 n at 2 n + 1, both infinite elsewhere: at 2 n + 1 the slower one is always above.
+fn of_dots<L: Ledger>(alloc: Global, blank: Blank) -> Result<Curve, OpFault>
+    requires name { blank.name ≡ L.name }
+    requires parts { blank.parts ≡ L.parts }
+    requires one { 0 < blank.parts }
+{
+    let mut steps = Steps::<L>::new(blank);
+    let even = piece(0, Extended::Fin(Frac::zero()), None);
+    let f = curve(alloc, &[even], every_two(1))?;
+    let first = piece(0, Extended::Inf, None);
+    let odd = piece(1, Extended::Fin(whole(5)), None);
+    let g = curve(alloc, &[first, odd], every_two(2))?;
+    min(alloc, &f, &g, &mut steps)
+}
+
+#[test]
+fn curves_that_are_never_finite_together(rt: HostRuntime) {
+    let refused = match of_dots::<Brand>(rt.alloc(), Blank::new(1)) {
+        Err(OpFault::TooWide) => true,
+        _ => false,
+    };
+    assert!(rt; refused);
+}
