@@ -21,11 +21,10 @@ use Rattle.existence.specs.curves.Answered.{HasAnswer}
 use Rattle.existence.proofs.curves.Answered.{at_least}
 use Rattle.existence.proofs.curves.Windows.{answer_curve}
 use Rattle.plain_operators.specs.declared.running.bend.Bend.{Bend}
-use Rattle.plain_operators.specs.declared.running.stretch.Stretch.{Stretch}
 use Rattle.plain_operators.specs.running.Bends.{bent_back}
 use Rattle.plain_operators.specs.running.Made.{IsInfimumScan}
 use Rattle.plain_operators.specs.running.Runs.{IsFrontBefore}
-use Rattle.plain_operators.specs.running.Scans.{flat, IsWindow, ScanFits}
+use Rattle.plain_operators.specs.running.Scans.{flat, IsWindow, ScanFits, IsStretch}
 use Rattle.plain_operators.proofs.running.Bending.{IsLow, one_line, two_lines, inf_falling, inf_level, inf_rising, inf_turning}
 use Rattle.existence.proofs.curves.Scans.{stretch, meet}
 use Rattle.plain_operators.proofs.running.InfimumLoop.{InfimumLoop, infimum_start, infimum_step, infimum_end}
@@ -34,14 +33,14 @@ use Rattle.plain_operators.proofs.running.RunFacts.{inf_facts, run_window, run_f
 use Rattle.plain_operators.proofs.running.SupremumLoop.{window_end}
 
 -- ---- the scan
-low : (level : ℚ) (s : Stretch) → s.right ≡ line_at s.line s.from → s.left ≡ line_at s.line s.to → (b : Bend) × IsLow level s b
-low level s right left = elim (le_or_lt s.line.slope (int (pos 0))) [
-  | inl falls ↦ (one_line (flat (min_q level s.left)), inf_falling level s (int (pos 0)) (min_q level s.left) refl falls left refl)
+low : (level : ℚ) (ps : List Piece) (end : ℚ) (i : ℕ) (s : _) → IsStretch ps end i s → (b : Bend) × IsLow level s b
+low level ps end i s S = elim (le_or_lt s.line.slope (int (pos 0))) [
+  | inl falls ↦ (one_line (flat (min_q level s.left)), inf_falling level s (int (pos 0)) (min_q level s.left) refl falls S.left refl)
   | inr rises ↦ elim (le_or_lt level s.right) [
-    | inl l ↦ (one_line (flat level), inf_level level s rises right l)
+    | inl l ↦ (one_line (flat level), inf_level level s rises S.right l)
     | inr over ↦ elim (le_or_lt s.left level) [
-      | inl l ↦ (one_line s.line, inf_rising level s rises left l)
-      | inr under ↦ let (x, m) = meet level s.line rises in (two_lines s.line x level (flat level), inf_turning level s x rises right left over under m)
+      | inl l ↦ (one_line s.line, inf_rising level s rises S.left l)
+      | inr under ↦ let (x, m) = meet level s.line rises in (two_lines s.line x level (flat level), inf_turning level s x rises S.right S.left over under m)
     ]
   ]
 ]
@@ -54,7 +53,7 @@ record IsOneBack (ps : List Piece) (end : ℚ) (i : ℕ) : Type 0 where
 one_back : (ps : List Piece) (end : ℚ) (i : ℕ) (level : ℚ) (out : List Piece) → IsWindow end ps → ScanFits end ps → InfimumLoop ps end (i + 1) level out → i < length ps → IsOneBack ps end i
 one_back ps end i level out W F L h =
     let (s, S) = stretch ps end i W F h in
-    let (b, B) = low level s S.right S.left in
+    let (b, B) = low level ps end i s S in
     let both = min_q s.right s.left in
     let deep = min_q level both in
     let next = min_q s.at deep in

@@ -20,7 +20,6 @@ use Rattle.upp_limits.specs.min_plus.specs.Functions.{zero_q}
 use Rattle.upp_limits.specs.upp_curve.specs.Shapes.{IsLine}
 use Rattle.upp_limits.specs.upp_curve.proofs.Finite.{level_of}
 use Rattle.plain_operators.specs.declared.running.bend.Bend.{Bend}
-use Rattle.plain_operators.specs.declared.running.stretch.Stretch.{Stretch}
 use Rattle.plain_operators.specs.running.Bends.{bent}
 use Rattle.plain_operators.specs.running.Made.{IsMeeting, IsSupremumScan}
 use Rattle.plain_operators.specs.running.Periods.{IsCover}
@@ -36,7 +35,7 @@ pub line_of : (o : Option Line) → IsLine o → (l : Line) × (o ≡ Some l)
 line_of None h = absurd h
 line_of (Some l) h = (l, refl)
 
-pub stretch : (ps : List Piece) (end : ℚ) (i : ℕ) → IsWindow end ps → ScanFits end ps → i < length ps → (s : Stretch) × IsStretch ps end i s
+pub stretch : (ps : List Piece) (end : ℚ) (i : ℕ) → IsWindow end ps → ScanFits end ps → i < length ps → (s : _) × IsStretch ps end i s
 stretch ps end i W F h = elim (slice_get_cases ps i).1 [
   | inr (l, none) ↦ absurd (omega (arith, l, h))
   | inl (p, inside, some, at) ↦
@@ -45,8 +44,7 @@ stretch ps end i W F h = elim (slice_get_cases ps i).1 [
       let (v, value) = level_of p.at finite.at in
       let (l, line) = line_of p.line finite.line in
       let to = start_or end (drop (i + 1) ps) in
-      let s : Stretch = record { from = p.x; at = v; line = l; to = to; right = line_at l p.x; left = line_at l to } in
-      (s, stretch_is ps i p end v to (line_at l p.x) (line_at l to) l W h e value line refl refl refl (right_fits ps i p l end F h e line) (left_fits ps i p l end to F h e line refl))
+      (record { from = p.x; at = v; line = l; to = to; right = line_at l p.x; left = line_at l to }, stretch_is ps i p end v to (line_at l p.x) (line_at l to) l W h e value line refl refl refl (right_fits ps i p l end F h e line) (left_fits ps i p l end to F h e line refl))
 ]
 
 -- ---- the greatest of a level and a line
@@ -57,14 +55,14 @@ meet level l rises =
     let apart = λ (e : l.slope ≡ int (pos 0)). lt_irrefl (int (pos 0)) (subst (λ s. int (pos 0) <ℚ s) e rises) in
     (a /ℚ b, record { rises = rises; is = lines_meet l (flat level) a b (a /ℚ b) apart refl refl refl ∙ sym (level_value (flat level) (a /ℚ b) refl) })
 
-high : (level : ℚ) (s : Stretch) → s.right ≡ line_at s.line s.from → s.left ≡ line_at s.line s.to → (b : Bend) × IsHigh level s b
-high level s right left = elim (le_or_lt s.line.slope (int (pos 0))) [
-  | inl falls ↦ (one_line (flat (max_q level s.right)), sup_falling level s (int (pos 0)) (max_q level s.right) refl falls right refl)
+high : (level : ℚ) (ps : List Piece) (end : ℚ) (i : ℕ) (s : _) → IsStretch ps end i s → (b : Bend) × IsHigh level s b
+high level ps end i s S = elim (le_or_lt s.line.slope (int (pos 0))) [
+  | inl falls ↦ (one_line (flat (max_q level s.right)), sup_falling level s (int (pos 0)) (max_q level s.right) refl falls S.right refl)
   | inr rises ↦ elim (le_or_lt level s.right) [
-    | inl l ↦ (one_line s.line, sup_rising level s rises right l)
+    | inl l ↦ (one_line s.line, sup_rising level s rises S.right l)
     | inr low ↦ elim (le_or_lt s.left level) [
-      | inl l ↦ (one_line (flat level), sup_level level s rises left l)
-      | inr over ↦ let (x, m) = meet level s.line rises in (two_lines (flat level) x level s.line, sup_turning level s x rises right left low over m)
+      | inl l ↦ (one_line (flat level), sup_level level s rises S.left l)
+      | inr over ↦ let (x, m) = meet level s.line rises in (two_lines (flat level) x level s.line, sup_turning level s x rises S.right S.left low over m)
     ]
   ]
 ]
@@ -79,7 +77,7 @@ one_on : (ps : List Piece) (end : ℚ) (i : ℕ) (level : ℚ) (out : List Piece
 one_on ps end i level out W F L h =
     let (s, S) = stretch ps end i W F h in
     let top = max_q level s.at in
-    let (b, B) = high top s S.right S.left in
+    let (b, B) = high top ps end i s S in
     let more = out ++ bent s.from top b.line b.turn in
     let both = max_q s.right s.left in
     record { level = max_q top both; out = more; loop = supremum_step ps end i level out more s top both (max_q top both) b L S refl B.follows B.made refl refl refl }
