@@ -6,7 +6,8 @@ use Rattle.min_plus.specs.rational.specs.Rational.{ℚ, ◌+ℚ◌, ◌-ℚ◌, 
 use Rattle.min_plus.specs.rational.specs.MinMax.{max_q}
 use Rattle.min_plus.specs.rational.specs.Extended.{Ext, ◌≤ₑ◌, ◌+ₑ◌}
 use Rattle.min_plus.specs.rational.specs.declared.Extended.TheVariants.{Fin}
-use Rattle.min_plus.specs.rational.proofs.Laws.{le_refl, le_trans, le_or_lt, le_of_lt, le_lt_trans, lt_trans, lt_irrefl, antisym, mul_comm}
+use Rattle.min_plus.specs.rational.proofs.Laws.{le_refl, le_trans, le_or_lt, le_of_lt, le_lt_trans, lt_trans, lt_irrefl}
+use Rattle.min_plus.specs.rational.proofs.Laws.{antisym, mul_comm}
 use Rattle.min_plus.specs.rational.proofs.Linear.{with1, with2, with3, with4, with5}
 use Rattle.min_plus.specs.rational.proofs.MinMax.{max_q_ge_left, max_q_ge_right, max_q_le, max_q_right}
 use Rattle.min_plus.specs.rational.proofs.Over.{le_q_in, lt_q_out}
@@ -325,24 +326,28 @@ idle : (x : ℚ) → whole 3 ≤ℚ x → x ≤ℚ comes_last → arrived second
 idle x l m =
     second_before x (with1 x (λ c. omega (arith, c.le, c.lt, c.same))) m ∙ sym (nine_worked x l)
 
+idle_at_last : arrived second passed_by comes_last ≡ worked second passed_by comes_last
+idle_at_last = idle comes_last (le_of_lt after_3) (le_refl comes_last)
+
 of_class : IsBacklogged second passed_by comes_last (whole 5)
 of_class = record {
   begins = before_5;
-  caught_up = rw (idle comes_last (le_of_lt after_3) (le_refl comes_last)) (le_refl (worked second passed_by comes_last));
+  caught_up = rw idle_at_last (le_refl (worked second passed_by comes_last));
   busy = λ x l m. rw (nine_worked x (le_of_lt (lt_trans after_3 l)), second_past x l) (lt_t 9 10 refl);
 }
 
 no_other : (s : ℚ) → IsBacklogged second passed_by s (whole 5) → s ≡ comes_last
 no_other s h = elim (le_or_lt s comes_last) [
   | inr l ↦
-      let k : whole 10 ≤ℚ whole 9 = rw (second_past s l, nine_worked s (le_of_lt (lt_trans after_3 l))) at h.caught_up in
+      let late = le_of_lt (lt_trans after_3 l) in
+      let k : whole 10 ≤ℚ whole 9 = rw (second_past s l, nine_worked s late) at h.caught_up in
       absurd (with1 (whole 0) (λ c. omega (arith, c.le, c.lt, c.same)))
   | inl l ↦ elim (le_or_lt comes_last s) [
     | inl m ↦ antisym (l, m)
     | inr m ↦
         let late = h.busy comes_last m before_5 in
         let k : worked second passed_by comes_last <ℚ worked second passed_by comes_last =
-        rw (idle comes_last (le_of_lt after_3) (le_refl comes_last)) at late in
+        rw idle_at_last at late in
         absurd (lt_irrefl (worked second passed_by comes_last) k)
   ]
 ]

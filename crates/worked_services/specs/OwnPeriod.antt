@@ -29,8 +29,8 @@ card packet queue bits = record { packet = packet; flow = queue; queue = queue; 
 abbrev pub comes_last : ℚ
 comes_last = whole 13 /ℚ whole 4
 
--- a packet of the class is worked on from 0 to 3, and another one comes later; the first queue's come at 0 and 3, and go
--- before that one
+-- a packet of the class is worked on from 0 to 3, and another one comes later; the first queue's come at 0 and 3, wait,
+-- and go before that one
 abbrev pub passed_by : List ServerStep
 passed_by =
     Arrives (card 0 1 9) (whole 0) ∷ Works (card 0 1 9) (whole 0) (whole 3) (whole 9) ∷ Arrives (card 1 0 3) (whole 0)
