@@ -20,9 +20,8 @@ PROGRAM = r"""
 #![tactic(auto)]
 ghost use Rattle.std.specs.Prelude.{◌≡◌, ◌<◌};
 
-use affine_segment::{Line, Piece};
 use curve_conv::convolve;
-use curve_call::window_end;
+use curve_call::call_window;
 use fraction128::Frac;
 use rational::Extended;
 use std::alloc::Global;
@@ -31,7 +30,10 @@ use std::marker::Brand;
 use std::sync::ledger::{Blank, Ledger};
 use std::time::Instant;
 use steps::Steps;
-use upp_curve::{Curve, OpFault, OpKind, RawCurve, Tail, normalise, tally_over};
+use upp_curve::affine_segment::{Line, Piece};
+use upp_curve::{Curve, Tail};
+use upp_limits::{OpFault, OpKind, tally_over};
+use upp_normal::{RawCurve, normalise};
 
 fn whole(n: i128) -> Frac {
     match Frac::new(n, 1) {
@@ -76,8 +78,8 @@ fn gate(alloc: Global, rank: i128, open: i128, last: i128, rise: i128) -> Result
 
 // How many pairs of pieces are looked at, where no more periods are needed.
 fn pairs(f: &Curve, g: &Curve) -> u64 {
-    match window_end(&OpKind::Convolve, f, g, 0) {
-        Some(end) => tally_over(&OpKind::Convolve, f, g, end),
+    match call_window(&OpKind::Convolve, f, g, 0, 0) {
+        Some(window) => tally_over(&OpKind::Convolve, f, g, window.end),
         None => 0,
     }
 }
@@ -162,7 +164,7 @@ def measured():
     top = os.path.dirname(os.path.dirname(os.path.abspath(__file__)))
     folder = tempfile.mkdtemp(prefix="convolution_bench_")
     try:
-        uses = ["affine_segment", "curve_conv", "curve_call", "fraction128", "rational", "steps", "upp_curve"]
+        uses = ["curve_conv", "curve_call", "fraction128", "rational", "steps", "upp_curve", "upp_limits", "upp_normal"]
         crates = below(top, uses)
         for name, _ in crates:
             shutil.copytree(os.path.join(top, "crates", name), os.path.join(folder, "crates", name))

@@ -241,7 +241,7 @@ class Counted:
         """The millions of instructions up to each line on an edit, and behind the last, with those for cells."""
         for file in self.program.folder.glob("counts*"):
             file.unlink()
-        counter = ["valgrind", "--tool=callgrind", "--callgrind-out-file=counts", "--dump-after=edit_report::said::said_of"]
+        counter = ["valgrind", "--tool=callgrind", "--callgrind-out-file=counts", "--dump-after=commands::edit_report::said::said_of"]
         _, lines = self.program.run(rows, counter)
         count = sum(line.startswith("edit ") for line in lines)
         names = [f"counts.{number}" for number in range(1, count + 1)] + ["counts"]

@@ -19,22 +19,24 @@ import time
 from fractions import Fraction
 
 BENCH = {
-    "bench_curves": "rational fraction128 affine_segment upp_curve",
-    "bench": "fraction128 upp_curve steps curve_running bench_curves",
+    "bench_curves": "rational fraction128 upp_curve upp_limits upp_normal",
+    "bench": "fraction128 upp_curve upp_limits steps plain_operators bench_curves",
 }
 
 LIBRARY = r"""
 //! Two curves of many pieces.
 #![tactic(auto)]
 
-ghost use Rattle.upp_curve.specs.Normal.{Each};
+ghost use Rattle.upp_curve.specs.affine_segment.Pieces.{Each};
 ghost use Rattle.upp_curve.specs.Shapes.{IsFinitePiece};
 
-use affine_segment::{Line, Piece};
 use fraction128::Frac;
 use rational::Extended;
 use std::alloc::{AllocError, Global};
-use upp_curve::{Curve, OpFault, RawCurve, Tail, normalise};
+use upp_curve::affine_segment::{Line, Piece};
+use upp_curve::{Curve, Tail};
+use upp_limits::OpFault;
+use upp_normal::{RawCurve, normalise};
 
 fn ratio(n: i128, d: i128) -> Frac {
     match Frac::new(n, d) {
@@ -126,14 +128,15 @@ PROGRAM = r"""
 ghost use Rattle.std.specs.Prelude.{◌≡◌, ◌<◌};
 
 use bench_curves::turning;
-use curve_running::{min, sum};
+use plain_operators::pointwise::{min, sum};
 use std::alloc::Global;
 use std::io;
 use std::marker::Brand;
 use std::sync::ledger::{Blank, Ledger};
 use std::time::Instant;
 use steps::Steps;
-use upp_curve::{Curve, OpFault};
+use upp_curve::Curve;
+use upp_limits::OpFault;
 
 // How many pieces the sum has, or the minimum.
 fn made<L: Ledger>(alloc: Global, blank: Blank, least: bool, f: &Curve, g: &Curve) -> Result<u64, OpFault>

@@ -4,8 +4,9 @@
     python3 bench/versions.py NETCALC
 
 NETCALC is the program. First a table of 1,048,576 cells, each of which is set at first: so many times it is marked and one cell is set, each time
-another one, and then it goes back through all versions. A program over the proved crate `version_table` does it; it is written into a new
-folder outside the repository, `rt run` proves, builds and runs it, and the folder is removed. That takes some minutes the first time. Then
+another one, and then it goes back through all versions. A program over the proved tables of `cell_store::version_table` does it; it is
+written into a new folder outside the repository, with what is kept in the out/ folders of the crates below it, `rt run` proves, builds and
+runs it, and the folder is removed. That takes some minutes, or much longer where those crates have not been checked before. Then
 `netcalc edit` on four servers in a row with eight flows: so many rates of the last server, and as many undos.
 
 A line a run: the versions, the cells that were set in them, the memory that the process took (the most that it held; for edits the least
@@ -34,7 +35,7 @@ use std::alloc::{AllocError, Global};
 use std::env;
 use std::process::ExitCode;
 use std::rc::Rc;
-use version_table::Versions;
+use cell_store::version_table::Versions;
 
 // A table of so many cells, each of them set.
 fn filled(alloc: Global, cells: u32) -> Result<Versions<u32>, AllocError>
@@ -131,9 +132,24 @@ def network(servers: int, flows: int) -> str:
     )
 
 
+def below(wanted: str) -> dict[str, list[str]]:
+    """The lines of crates.txt of a crate and of those that it stands on."""
+    rows = (line.partition("#")[0].partition(":") for line in (TOP / "crates.txt").read_text().splitlines())
+    lines = {name.strip(): needs.split() for name, colon, needs in rows if colon}
+    found, left = {}, [wanted]
+    while left:
+        name = left.pop()
+        if name in lines and name not in found:
+            found[name] = lines[name]
+            left += lines[name]
+    return {name: found[name] for name in lines if name in found}
+
+
 def built(folder: Path) -> Path:
-    """The program over version_table. How many versions it makes is told by the number of its words."""
-    shutil.copytree(TOP / "crates" / "version_table", folder / "crates" / "version_table", ignore=shutil.ignore_patterns("out"))
+    """The program over versions of a table. How many it makes is told by the number of its words."""
+    crates = below("cell_store")
+    for name in crates:
+        shutil.copytree(TOP / "crates" / name, folder / "crates" / name)
     crate = folder / "crates" / "bench"
     (crate / "src").mkdir(parents=True)
     counts = "\n".join(f"        {place + 1} => {count}," for place, count in enumerate(RUNS) if count)
@@ -141,7 +157,8 @@ def built(folder: Path) -> Path:
     for function, invariant in INVARIANTS.items():
         (crate / "proofs" / function).mkdir(parents=True)
         (crate / "proofs" / function / "Invariants.antt").write_text(invariant)
-    (folder / "crates.txt").write_text("version_table:\nbench: version_table\n")
+    lines = "".join(f"{name}: {' '.join(needs)}\n" for name, needs in crates.items())
+    (folder / "crates.txt").write_text(f"{lines}bench: cell_store\n")
     (folder / "HANDLES").write_text("Handles allowed: none.\n")
     print("building (the first time takes minutes)", file=sys.stderr)
     run = subprocess.run(["rt", "run"], cwd=crate, capture_output=True, text=True, check=False)

@@ -6,13 +6,14 @@ import pathlib
 import re
 
 PAGE = pathlib.Path("docs/DEFINITIONS.md")
-WIDTH = 140
+WIDTH = 150
 
 
 def modules():
-    """Every module of specs/, but for each crate's Lib, which only lists them."""
+    """Every module of specs/, but for each crate's Lib and each file beside a folder of its name, which only list modules."""
     paths = pathlib.Path("crates").glob("*/specs/**/*.antt")
-    return sorted(str(path.relative_to("crates").with_suffix("")) for path in paths if path.stem != "Lib")
+    defining = (path.with_suffix("") for path in paths if path.stem != "Lib" and not path.with_suffix("").is_dir())
+    return sorted(str(module.relative_to("crates")) for module in defining)
 
 
 def head(module):

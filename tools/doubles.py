@@ -36,7 +36,7 @@ APART = [
     {'over_paths', 'has_paths'},  # paths as the laws of networks walk them, and as a recorded run is walked
 ]
 LOOPS_OWN = ('invariant-', 'decreases-', 'ghosts-')  # what a function says of its own loops and calls
-TEST_LIBRARY = 'test_curves'  # what the tests of the crates above it share
+TEST_LIBRARY = 'curve_tests'  # what the tests of the crates above it share
 
 WORD = re.compile(r"[^\W\d]['\w≢≡≤-]*|\d+|\S", re.U)
 KEYWORDS = set('fn let mut match if else for in while loop return pub crate self Self as ref move true false break '

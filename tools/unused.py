@@ -103,7 +103,7 @@ def drop(path, lines, found):
         path.write_text('\n'.join(lines))
         return
     path.unlink()
-    library = path.parent / 'Lib.antt'
+    library = path.parent / 'Lib.antt' if path.parent.name == 'proofs' else path.parent.with_suffix('.antt')
     library.write_text(re.sub(rf'^(pub )?mod {path.stem}\n', '', library.read_text(), flags=re.M))
 
 

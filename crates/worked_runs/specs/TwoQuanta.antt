@@ -1,5 +1,5 @@
--- Two packets at a deficit round robin server. They stay below their bounds: the law counts for each queue a deficit of
--- one packet, and a deficit of whole bits is below the packet that waits.
+-- Two packets at a deficit round robin server. They stay well below their bounds: the law counts whole rounds of the other
+-- queue, and a deficit of one packet.
 use Rattle.std.specs.Prelude.{[], ◌∷◌, codes, Some}
 use Rattle.net_model.specs.run_laws.specs.declared.steps.Step.TheVariants.{Enter, Work, Leave, Visit}
 use Rattle.net_model.specs.run_laws.specs.Runs.{SpecRun}

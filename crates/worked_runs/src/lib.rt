@@ -34,7 +34,7 @@ pub fn two_priorities_reach_their_bounds()
 {}
 
 /// Two packets at a deficit round robin server take 190; the bounds of the two flows are 370 and 550. The law behind
-/// them counts a deficit of a whole packet, and a deficit is below the packet that waits.
+/// them counts whole rounds of the other queue, and a deficit of a whole packet.
 pub fn two_quanta_stay_below_their_bounds()
     ensures { TwoQuantaStayBelowTheirBounds }
 {}
