@@ -75,7 +75,7 @@ pub record BranchReachesItsSum : Type 0 where
   pub over_trees : IsOverTrees paced_fork
   pub forward : TreeGoesForward paced_fork (λ s. s)
   pub paced : (s q : ℕ) → s < 3 → AreTreePaced paced_fork s q longest (λ p. 12000) (λ p. whole 100)
-  pub from_zero : (s q : ℕ) → Fin (whole 0) ≤ₑ delay s q
+  pub nonneg : (s q : ℕ) → Fin (whole 0) ≤ₑ delay s q
   pub grows : GrowsByStays paced_fork arrival (stay_in paced_fork delay)
   -- the runs
   pub bounded : (run : SpecRun) → IsLawfulTree paced_fork run →
