@@ -175,6 +175,10 @@ bounded run lawful keeps =
 pub a_branch_reaches_its_sum : BranchReachesItsSum
 a_branch_reaches_its_sum = record {
   over_trees = over_trees;
+  forward = forward;
+  paced = known_paced;
+  nonneg = on_time;
+  grows = grows;
   bounded = bounded;
   lawful = is_lawful;
   keeps = record {

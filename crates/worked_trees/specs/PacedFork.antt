@@ -1,8 +1,8 @@
 -- A periodic flow over a fork of three servers of a limited pace: each of its queues and branches is bounded by
 -- numbers in every run, and one branch reaches its number.
-use Rattle.std.specs.Prelude.{◌≡◌, ℕ, zero, suc, List, [], ◌∷◌}
+use Rattle.std.specs.Prelude.{◌≡◌, ◌<◌, ℕ, zero, suc, List, [], ◌∷◌}
 use Rattle.min_plus.specs.rational.specs.Rational.{ℚ, ◌+ℚ◌}
-use Rattle.min_plus.specs.rational.specs.Extended.{Ext}
+use Rattle.min_plus.specs.rational.specs.Extended.{Ext, ◌≤ₑ◌}
 use Rattle.min_plus.specs.rational.specs.declared.Extended.TheVariants.{Fin, Inf}
 use Rattle.min_plus.specs.Formulas.{stair_value, rate_latency_value}
 use Rattle.run_laws.specs.declared.steps.Step.TheVariants.{Enter, Reach, Work, Leave}
@@ -16,7 +16,9 @@ use Rattle.run_laws.specs.Views.{view}
 use Rattle.net_laws.specs.Paths.{sum_along}
 use Rattle.tree_runs.specs.Trees.{TreeRoutes, IsOverTrees, flat, IsLawfulTree, KeepsTreePremises}
 use Rattle.tree_runs.specs.Branches.{delays_to, IsBranch}
-use Rattle.tree_runs.specs.Bounded.{stays_along, stay_in, IsBoundedByQueues}
+use Rattle.tree_runs.specs.Bounded.{GrowsByStays, stays_along, stay_in, IsBoundedByQueues}
+use Rattle.tree_runs.specs.Orders.{TreeGoesForward}
+use Rattle.tree_runs.specs.Parts.{AreTreePaced}
 use Rattle.tree_runs.specs.Examples.{forked}
 
 -- ---- the network, and what its runs keep
@@ -69,7 +71,13 @@ over_the_fork =
 -- every run that keeps the premises is within the numbers; and this one, which does, reaches them at two queues and at
 -- the end of the branch, so that no lesser ones hold
 pub record BranchReachesItsSum : Type 0 where
+  -- what `trees_are_bounded_by_parts` asks of the network and of the numbers
   pub over_trees : IsOverTrees paced_fork
+  pub forward : TreeGoesForward paced_fork (λ s. s)
+  pub paced : (s q : ℕ) → s < 3 → AreTreePaced paced_fork s q longest (λ p. 12000) (λ p. whole 100)
+  pub nonneg : (s q : ℕ) → Fin (whole 0) ≤ₑ delay s q
+  pub grows : GrowsByStays paced_fork arrival (stay_in paced_fork delay)
+  -- the runs
   pub bounded : (run : SpecRun) → IsLawfulTree paced_fork run →
       KeepsTreePremises paced_fork longest at_entry service run →
       IsBoundedByQueues paced_fork run arrival delay held
