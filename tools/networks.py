@@ -4,6 +4,7 @@
 import datetime
 import functools
 import hashlib
+import io
 import os
 import pathlib
 import re
@@ -15,6 +16,7 @@ from fractions import Fraction
 TOP = pathlib.Path(__file__).resolve().parent.parent
 PROGRAM = TOP / "netcalc"
 NAME = re.compile(r"[A-Za-z0-9_-]{1,32}")
+DEEPEST = 160  # keys and arrays in one another, of which the program takes 80 of each
 LARGEST = 2**127 - 1  # no numerator and no denominator of a network file is above
 NUMBER = re.compile(r"-?[0-9]+(/[0-9]+)?")
 KINDS = {list: "an array", str: "a text", int: "an integer", dict: "a table"}
@@ -90,8 +92,10 @@ def load(path):
     return network
 
 
-def hold_values(value, place):
+def hold_values(value, place, depth=0):
     """Refuses a value of a kind that no network file has."""
+    if depth > DEEPEST:
+        raise Fault(f"a value is nested more than {DEEPEST} deep, which no network file has")
     if isinstance(value, float):
         raise Fault(f'{place}: {value} is a float, which is not exact: write "p/q"')
     if isinstance(value, int) and abs(value) > LARGEST:
@@ -100,10 +104,10 @@ def hold_values(value, place):
         raise Fault(f"{place}: no value of a network file is a date or a time")
     if isinstance(value, dict):
         for key, entry in value.items():
-            hold_values(entry, f"{place}.{key}" if place else key)
+            hold_values(entry, f"{place}.{key}" if place else key, depth + 1)
     if isinstance(value, list):
         for number_of_entry, entry in enumerate(value):
-            hold_values(entry, f"{place}[{number_of_entry}]")
+            hold_values(entry, f"{place}[{number_of_entry}]", depth + 1)
 
 
 def member(table, place, key, kind, without=None):
@@ -185,10 +189,10 @@ def the_program(program):
     each call does not look at all sources again; another program is itself."""
     if pathlib.Path(program).resolve() != PROGRAM.resolve():
         return str(program)
-    run = subprocess.run([str(program), "--program"], stdout=subprocess.PIPE, text=True, check=False)
+    run = subprocess.run([str(program), "--program"], stdout=subprocess.PIPE, check=False)
     if run.returncode:
         raise Fault(f"{program} has no program to run")
-    return run.stdout.removesuffix("\n")
+    return os.fsdecode(run.stdout.removesuffix(b"\n"))
 
 
 def analyse(path, program=PROGRAM, seconds=None):
@@ -198,6 +202,20 @@ def analyse(path, program=PROGRAM, seconds=None):
     return Answer(run.returncode, run.stdout)
 
 
+def cell(text):
+    """A text as a cell of a table: with a `'` before it where a spreadsheet would take it for a formula and run it. A
+    number stays as it is."""
+    text = str(text)
+    is_formula = text.lstrip()[:1] in ("=", "+", "-", "@") or text[:1] in ("\t", "\r")
+    return f"'{text}" if is_formula and not NUMBER.fullmatch(text) else text
+
+
+def hold_picture(path):
+    """Refuses a picture of another kind than these two, before it is drawn."""
+    if not str(path).endswith((".svg", ".png")):
+        raise Fault(f"{path}: a picture ends with .svg or .png")
+
+
 def mark_of(program):
     """What stands for a program in a journal: a hash of its file."""
     return hashlib.sha256(pathlib.Path(program).read_bytes()).hexdigest()
@@ -205,6 +223,10 @@ def mark_of(program):
 
 def ended(tool, main):
     """Ends a tool with the status of its `main`, or with 1 and a line on the standard error that says why."""
+    for stream in (sys.stdout, sys.stderr):
+        # Names of files need not be UTF-8: they are written as they are.
+        if isinstance(stream, io.TextIOWrapper):
+            stream.reconfigure(errors="surrogateescape")
     try:
         status = main()
         sys.stdout.flush()
