@@ -122,7 +122,8 @@ class Calls:
         kind = draw.randrange(4)
         if kind == 0:
             run, net = self.file(RUN), self.file("examples/one_flow.toml")
-            return plot, ["run", "r.csv", "--net", "n.toml", *draw.choice([[], ["--from", "1"], ["--ports", "s1"]]), *out], {"r.csv": run, "n.toml": net}
+            words = draw.choice([[], ["--from", "1"], ["--ports", "s1"]])
+            return plot, ["run", "r.csv", "--net", "n.toml", *words, *out], {"r.csv": run, "n.toml": net}
         if kind == 1:
             (self.folder / "c").write_text(SCRIPT)
             return plot, ["curves", "a", *out], {"a": self.answer("curve", str(self.folder / "c"))}

@@ -207,7 +207,7 @@ def cell(text):
     number stays as it is."""
     text = str(text)
     is_formula = text.lstrip()[:1] in ("=", "+", "-", "@") or text[:1] in ("\t", "\r")
-    return f"'{text}" if is_formula and not NUMBER.fullmatch(text) else text
+    return f"'{text}" if is_formula and not re.fullmatch("-?[0-9]+([./][0-9]+)?", text) else text
 
 
 def hold_picture(path):
