@@ -468,6 +468,21 @@ class Sweep(WithVariants):
     def test_no_plot(self):
         self.refused("--plot needs matplotlib", "sweep.py", *self.words, "--plot", "rate", self.folder / "o.svg")
 
+    def test_names_that_are_not_utf_8(self):
+        import os
+
+        folder = self.folder / os.fsdecode(b"\xe9")
+        folder.mkdir()
+        text = TEMPLATE.replace("$rate", "100").replace("$period", "1000")
+        (folder / os.fsdecode(b"\xe9.toml")).write_text(text)
+        program = folder / "netcalc"
+        program.symlink_to(PROGRAM)
+        run = tool("sweep.py", folder, "--table", folder / "o.csv", "--program", program)
+        self.assertEqual(run.returncode, 0, run.stderr)
+        self.assertIn(b"\r\n\xe9,0,", (folder / "o.csv").read_bytes())
+        run = tool("round.py", self.file("n.toml", text), "--compare", "--program", program)
+        self.assertIn("f1 136 136 0\n", run.stdout)
+
     def test_refusals_and_a_folder(self):
         folder = self.folder / "files"
         folder.mkdir()

@@ -334,7 +334,9 @@ def main():
     if words.csv:
         write_csv(words.csv, report)
     if words.html:
-        pathlib.Path(words.html).write_text(report_page.page(report), encoding="utf-8")
+        pathlib.Path(words.html).write_text(
+            report_page.page(report), encoding="utf-8", errors="surrogateescape"
+        )
     for line in text_of(report):
         print(line)
     return 1 if report.failed() else 0

@@ -271,7 +271,7 @@ def write_table(path, variants, answers):
     parameters = list(dict.fromkeys(column for row in variants.values() for column in row))
     flows = list(dict.fromkeys(flow for name in variants for flow in answers[name]["bounds"]))
     head = ["variant", *parameters, "status", "refusal", "seconds", "largest", *(f"bound {flow}" for flow in flows)]
-    with open(path, "w", newline="", encoding="utf-8") as file:
+    with open(path, "w", newline="", encoding="utf-8", errors="surrogateescape") as file:
         table = csv.writer(file)
         table.writerow(map(cell, head))
         for name, row in variants.items():
@@ -351,7 +351,7 @@ def main():
     parser.add_argument("--scheduler", metavar="ADDRESS", help="a Dask scheduler, as tcp://host:8786")
     parser.add_argument("--plot", nargs=2, metavar=("COLUMN", "OUT.svg"))
     words = parser.parse_args()
-    words.program = str(pathlib.Path(the_program(words.program)).resolve())
+    words.program = os.path.abspath(the_program(words.program))
     if not pathlib.Path(words.source).is_dir() and words.parameters is None:
         parser.error("a template needs a file of parameters")
     if not words.seconds > 0 or words.workers < 1:
