@@ -56,6 +56,21 @@ def recorded(count: int, bits: int, period: int) -> str:
     return "".join(rows) + f"end,{count * period}\n"
 
 
+def one_recorded(turns: int) -> str:
+    """One packet that a gate of cycle 10 works off, a bit in each slot."""
+    works = "".join(f"work,s0,0,{10 * turn},{100 * turn + 1}/10,1\n" for turn in range(turns))
+    return f"enter,0,f0,{turns}\n{works}leave,{100 * (turns - 1) + 1}/10,s0,0\nend,{10 * turns}\n"
+
+
+def at_one_gate(turns: int) -> dict[str, str]:
+    return {"n": server("s0", "10", gate(10, "1/10")) + flow("f0", bucket(turns, "1/100"), ["s0"], turns), "r": one_recorded(turns)}
+
+
+def of_stairs(statement: str, period: int) -> dict[str, str]:
+    """A statement of two stairs a and b, whose periods differ by 1."""
+    return {"c": f"let a = stair(1, {period}, 0)\nlet b = stair(2, {period + 1}, 0)\nlet s = sum(a, stair(1, {period + 1}, 0))\n{statement}\n"}
+
+
 def sums(count: int, period: int) -> str:
     """Statements that each keep one more curve of many pieces."""
     lines = [f"let a{number} = sum(stair(1, {period}, 0), stair({number + 1}, {period + 1}, 0))\n" for number in range(count)]
@@ -99,10 +114,18 @@ CASES = [
     ("exercise 8", "the workload 8", {}),
     ("check n r", "3,333 packets that keep a bucket", {"n": ONE_BUCKET, "r": recorded(3_333, 12000, 120)}),
     ("check n r", "3,333 packets that keep a stair", {"n": ONE_STAIR, "r": recorded(3_333, 6000, 60)}),
+    *(("check n r", f"one packet that a gate works off in {turns:,} cycles", at_one_gate(turns)) for turns in (250, 500, 1_000, 2_000)),
     ("measure n t f0 10", "1,024 packets no two pairs of which are as far apart", {
         "n": in_a_row(1, [(bucket(2**24, 10), 2**24)], 100), "t": distant(1_024)}),
     ("curve c", "a sum of stairs of periods 130,000 and 130,001", {"c": sums(1, 130_000)}),
     ("curve c", "8 such sums kept", {"c": sums(8, 130_000)}),
+    *(("curve c", f"stairs of periods 100,000 and 100,001, `{statement}`", of_stairs(statement, 100_000)) for statement in (
+        "rate min(a, b)", "rate posdiff(a, b)", "below a, b", "rate shift(s, 5)", "rate runsup(s)", "delay s, latency(1, 10)",
+        "backlog s, latency(1, 10)", "show s")),
+    *(("curve c", f"stairs of periods {period} and {period + 1}, `{statement}`", of_stairs(statement, period)) for statement, period in (
+        ("rate conv(a, b)", 100), ("rate conv(a, b)", 300), ("rate deconv(a, b)", 300), ("rate deconv(a, b)", 1_000))),
+    *(("curve c", f"`rate close(max(gate(1, 2, 1), latency(1, {time})))`", {"c": f"rate close(max(gate(1, 2, 1), latency(1, {time})))\n"})
+      for time in (250, 500)),
 ]
 
 

@@ -1,13 +1,15 @@
 #!/usr/bin/env python3
-"""Runs the program on files that were changed at random, and prints each answer that is none.
+"""Runs the program on files that were changed at random or drawn as odd ones, and prints each answer that is none.
 
     python3 bench/mutate.py NETCALC [CASES] [SEED] [FOLDER]
 
-NETCALC is the program. CASES (1000) times a case of tests/ or a file of examples/ is drawn, and one to eight changes
+NETCALC is the program. CASES (1000) times, half of them, a file of bench/odd_cases.py is drawn, odd and valid or all but valid, and
+every fourth of these is changed once; of edits that undo each other the last bounds have to be those of the network itself. The other half, a
+case of tests/ or a file of examples/ is drawn, and one to eight changes
 are made to one of its files, or to its words: bytes and bits changed, put in, taken out; a number in place of another
 one, long ones too; keys, words, lines and fields left out, doubled, exchanged or moved; a front of the file alone; a
 part of another file in its place. The program runs on it with a limit of 10 seconds of processor time and 2 GiB of
-memory.
+memory. With the word `odd` behind FOLDER, all cases are odd ones.
 
 What is not wanted is printed with the number of its case, and with FOLDER its files are kept there: an end by a signal, a status that has no cause
 here or outside 0 to 9, anything on standard error, a report or a refusal that is not as docs/FORMATS.md says (bench/answers.py), want of memory at
@@ -25,6 +27,7 @@ import tempfile
 from collections import Counter
 from pathlib import Path
 
+import odd_cases
 from answers import fault
 
 TOP = Path(__file__).resolve().parent.parent
@@ -153,6 +156,15 @@ def spliced(draw: random.Random, text: bytes, other: bytes) -> bytes:
 CHANGES = [changed_number, changed_number, changed_word, changed_lines, changed_fields, changed_bytes, cut]
 
 
+def odd(draw: random.Random) -> Case:
+    """An odd case; every fourth has a change."""
+    words, files = odd_cases.drawn(draw)
+    if draw.random() < 0.25:
+        name = draw.choice(sorted(files))
+        files[name] = draw.choice(CHANGES)(draw, files[name])
+    return Case(words, files)
+
+
 def drawn(draw: random.Random, known: list[Case]) -> Case:
     case = draw.choice(known)
     files = dict(case.files)
@@ -218,24 +230,38 @@ def unwanted(came: Came, case: Case) -> str:
     return said or {4: "a write fault", 5: "out of memory"}.get(came.status, "")
 
 
+def not_undone(program: str, case: Case, came: Came, folder: Path) -> str:
+    """Whether edits that undo each other left other bounds than those of the network itself."""
+    rows = case.files.get("e", b"").decode("latin-1").splitlines()
+    if case.words != ["edit", "n", "e"] or came.status or "undo" not in rows or any(row != "undo" for row in rows[len(rows) // 2 :]):
+        return ""
+    lines = came.out.decode().splitlines(keepends=True)
+    if any(" refused " in line for line in lines) or rows.count("undo") != len(rows) / 2:
+        return ""
+    itself = Came(program, Case(["analyse", "n"], case.files), folder)
+    return "" if itself.out.decode() == "".join(lines[len(rows) :]) else "edits that are undone left other bounds"
+
+
 def main() -> None:
-    if len(sys.argv) not in (2, 3, 4, 5):
+    if len(sys.argv) not in (2, 3, 4, 5, 6):
         sys.exit(__doc__)
     program = str(Path(sys.argv[1]).resolve())
     count = int(sys.argv[2]) if len(sys.argv) > 2 else 1000
     seed = int(sys.argv[3]) if len(sys.argv) > 3 else 1
     kept = Path(sys.argv[4]) if len(sys.argv) > 4 else None
+    share = 1 if sys.argv[5:] == ["odd"] else 0.5
     known = cases()
     statuses: Counter = Counter()
     kinds: Counter = Counter()
     others: Counter = Counter()
     with tempfile.TemporaryDirectory(prefix="mutate_") as name:
         for number in range(count):
-            case = drawn(random.Random(seed * 1_000_003 + number), known)
+            draw = random.Random(seed * 1_000_003 + number)
+            case = odd(draw) if draw.random() < share else drawn(draw, known)
             came = Came(program, case, Path(name))
             statuses[came.status] += 1
             kinds.update(kinds_of(case))
-            said = unwanted(came, case)
+            said = unwanted(came, case) or not_undone(program, case, came, Path(name))
             if said:
                 others[said] += 1
                 print(f"case {number} of seed {seed}: {said}: {' '.join(case.words)}", flush=True)

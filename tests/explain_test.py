@@ -173,6 +173,22 @@ class Explain(WithFolder):
         self.assertEqual(lines[0], "gone.toml: flow[2].path[1]")
         self.assertIn("queue 0 of server s1", lines)
 
+    def test_codes_that_there_are_not_have_no_sentences(self):
+        long = 5000 * "9"
+        for line in [
+            "netcalc: n: M99 flow[0]",
+            "netcalc: n: T9 row 1",
+            f"netcalc: n: T1 row {long}",
+            f"netcalc: n: C1 line {long}",
+            f"netcalc: too many: line {long}",
+            "edit 1 refused too-",
+            f"edit {long} refused limit",
+            f"verdict unlawful row {long} L1",
+            "verdict unlawful row 1 L0",
+        ]:
+            lines = explain.explain(line + "\n", [])
+            self.assertFalse([said for said in lines if "to mend it" in said], line)
+
     def test_odd_texts_have_no_places_and_no_fault(self):
         for text in [
             "[",

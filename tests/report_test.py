@@ -173,6 +173,14 @@ class Report(WithFolder):
             rows = list(csv.DictReader(file))
         self.assertEqual([(row["flow"], row["verdict"]) for row in rows], [("tracks", "FAIL"), ("video", "PASS")])
 
+    def test_no_cell_is_a_formula(self):
+        network = self.file("n.toml", STAIR.read_text().replace('"tracks"', '"-tracks"'))
+        words = ["--deadlines", self.file("d.csv", "flow,deadline\n-tracks,399.739\n"), "--csv", self.folder / "o.csv"]
+        tool("report.py", network, *words, "--program", PROGRAM)
+        with open(self.folder / "o.csv", newline="") as file:
+            rows = list(csv.DictReader(file))
+        self.assertEqual([(row["flow"], row["slack_us"]) for row in rows], [("'-tracks", "-0.001"), ("video", "")])
+
     def test_status_0_where_all_is_kept(self):
         for text, status in [
             ("name,what,deadline\nvideo,x,2413/5\ntracks,,400\n", 0),

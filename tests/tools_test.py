@@ -9,6 +9,7 @@ The sweep over a Dask scheduler, with a worker that is ended half way, is tried 
 import contextlib
 import csv
 import io
+import json
 import pathlib
 import subprocess
 import sys
@@ -296,6 +297,8 @@ class Round(WithFolder):
             (flow + 'arrival = { kind = "queue" }\n', "kind 'queue' is none of bucket, stair, list"),
             ("[[server\n", "no TOML: "),
             ("a = " + 5000 * "[" + 5000 * "]" + "\n", "no TOML: "),
+            (".".join(400 * "a") + " = 1\n", "nested more than 160 deep"),
+            (server + "rate = 1\n" + ".".join(400 * "a") + " = 1\n", "nested more than 160 deep"),
             (b"# \xe9\n", "line 1: byte 0xe9 is not UTF-8"),
             *(
                 (f'{server}rate = 1\nlink = {sign}{digits}\n', "an integer is above 2^127 - 1")
@@ -403,9 +406,24 @@ class Sweep(WithVariants):
         self.assertEqual(tool("sweep.py", template, *rest).returncode, 2)
 
     def test_an_odd_journal_does_not_count(self):
-        self.file("out.csv.journal", '1\n[]\n{"variant": "1"}\n{"variant": "2", "as')
-        self.assertIn("6 variants in", tool("sweep.py", *self.words).stderr)
-        self.assertEqual(len(self.table()), 6)
+        tool("sweep.py", *self.words)
+        journal = self.folder / "out.csv.journal"
+        entry = json.loads(journal.read_text().splitlines()[0])
+        odd = ["1", "[]", '{"variant": "1"}', 5000 * "9", 5000 * "[", '{"a":' * 5000]
+        odd += [json.dumps(entry | {key: value}) for key in entry for value in (None, [], {"f1": 5}, {"f1": "1/0"})]
+        odd += ['{"variant": "2", "as']
+        for text in ("\n".join(odd).encode(), b"\xe9\n\x00\n", "\x85\u2028\n".encode()):
+            self.file("out.csv.journal", text)
+            self.assertIn("6 variants in", tool("sweep.py", *self.words).stderr)
+            self.assertEqual(len(self.table()), 6)
+            self.assertNotIn("variants in", tool("sweep.py", *self.words).stderr)
+
+    def test_no_cell_is_a_formula(self):
+        rows = "rate,period,=note\n100,1000,=1+1\n-1/2,1000,-1/2\n100,1000,-1+1\n100,1000, @a\n100,1000,+a\n"
+        tool("sweep.py", self.words[0], self.file("f.csv", rows), *self.words[2:])
+        table = self.table()
+        self.assertEqual([row["'=note"] for row in table], ["'=1+1", "-1/2", "'-1+1", "'@a", "'+a"])
+        self.assertEqual([row["rate"] for row in table], ["100", "-1/2", "100", "100", "100"])
 
     def test_one_study_a_journal(self):
         import fcntl
@@ -434,7 +452,7 @@ class Sweep(WithVariants):
         self.assertEqual(tool("sweep.py", *self.words, "--plot", "rate", picture).returncode, 0)
         self.assertIn("front", picture.read_text())
         self.refused("has no column speed", "sweep.py", *self.words, "--plot", "speed", picture)
-        self.refused("Format 'xyz' is not supported", "sweep.py", *self.words, "--plot", "rate", self.folder / "o.xyz")
+        self.refused("a picture ends with .svg", "sweep.py", *self.words, "--plot", "rate", self.folder / "o.xyz")
         slow = [self.words[0], self.file("s.csv", "rate,period\n1,1\n"), *self.words[2:]]
         tool("sweep.py", *slow)
         self.refused("no variant has a bound", "sweep.py", *slow, "--plot", "rate", picture)
@@ -449,6 +467,21 @@ class Sweep(WithVariants):
     @unittest.skipIf(has("matplotlib"), "matplotlib is installed")
     def test_no_plot(self):
         self.refused("--plot needs matplotlib", "sweep.py", *self.words, "--plot", "rate", self.folder / "o.svg")
+
+    def test_names_that_are_not_utf_8(self):
+        import os
+
+        folder = self.folder / os.fsdecode(b"\xe9")
+        folder.mkdir()
+        text = TEMPLATE.replace("$rate", "100").replace("$period", "1000")
+        (folder / os.fsdecode(b"\xe9.toml")).write_text(text)
+        program = folder / "netcalc"
+        program.symlink_to(PROGRAM)
+        run = tool("sweep.py", folder, "--table", folder / "o.csv", "--program", program)
+        self.assertEqual(run.returncode, 0, run.stderr)
+        self.assertIn(b"\r\n\xe9,0,", (folder / "o.csv").read_bytes())
+        run = tool("round.py", self.file("n.toml", text), "--compare", "--program", program)
+        self.assertIn("f1 136 136 0\n", run.stdout)
 
     def test_refusals_and_a_folder(self):
         folder = self.folder / "files"
@@ -479,10 +512,28 @@ class Plot(WithFolder):
         (arrival, service), numbers = plot.read_curves(CURVES)
         self.assertEqual(numbers["delay"], "19086/25")
         self.assertEqual([piece[0] for piece in arrival.unrolled(Fraction(2500))], [0, 1000, 2000])
-        self.assertEqual(service.near(Fraction(800)), [5000])
-        self.assertEqual(service.first_at(Fraction(1344), Fraction(3000)), Fraction(19086, 25))
+        served = service.graph(Fraction(3000))
+        self.assertEqual((served.near(Fraction(800)), served.near(Fraction(3001))), ([5000], []))
+        self.assertEqual(served.first_at(Fraction(1344)), Fraction(19086, 25))
+        self.assertEqual((served.first_above(Fraction(25000)), served.first_at(Fraction(10**9))), (1750, None))
         level, start, reached = plot.widest(arrival, service, Fraction(3000))
         self.assertEqual((level, reached - start), (1344, Fraction(19086, 25)))
+        time, low, top = plot.highest(arrival, service, Fraction(3000))
+        self.assertEqual((time, low, top), (0, 0, 1344))
+
+    def test_a_thousand_pieces(self):
+        """What is drawn is found in less than a second of processor time, on a machine that other work keeps busy too."""
+        import time
+
+        pieces = [f"piece {at} at {at * at} after {at * at + 1} slope {2 * at}" for at in range(1000)]
+        lines = [*pieces, "tail affine"]
+        served = [f"piece {at} at {(at - 9) * at} after {(at - 9) * at} slope {2 * at - 8}" for at in range(9, 1000)]
+        lines += ["piece 0 at 0 after 0 slope 0", *served, "tail affine", "delay 10", "backlog 8983"]
+        curves, _ = plot.read_curves("\n".join(lines))
+        begun = time.process_time()
+        plot.widest(*curves, Fraction(999))
+        self.assertEqual(plot.highest(*curves, Fraction(999)), (999, 989010, 998002))
+        self.assertLess(time.process_time() - begun, 1)
 
     def test_a_gate_is_latest_behind_its_closed_time(self):
         lines = [
@@ -506,6 +557,11 @@ class Plot(WithFolder):
             ("bounds", "queue s1 0 delay\n", "line 1: no line of an answer"),
             ("bounds", "queue s1 0 delay " + 500 * "9" + " backlog 1\n", "(500 characters)' is no number"),
             ("bounds", "run packets 1 end 1\nflow f tfa 1 sfa 1 bound 1\n", "line 2: no line of an answer"),
+            ("bounds", "queue s1 0 delay 1 backlog 1/" + 5000 * "0" + "1\n", "(5003 characters)' is no number"),
+            ("bounds", "queue s1 0 delay 1 backlog 1/00\n", "'1/00' is no number"),
+            ("bounds", "queue " + 100_000 * "s" + " 0 delay 1 backlog 1\n", "(100000 characters)' is no name"),
+            ("bounds", "flow " + 33 * "f" + " tfa 1 sfa 1 bound 1\n", "' is no name"),
+            ("bounds", "queue s1 1000 delay 1 backlog 1\n", "'1000' is no number of a queue"),
             ("bounds", b"\xe9", "line 1: byte 0xe9 is not UTF-8"),
             ("curves", "", "an answer with two curves shown"),
             ("curves", "rate 10\n", "an answer with two curves shown"),
@@ -521,6 +577,9 @@ class Plot(WithFolder):
         ]:
             self.refused(told, "plot.py", what, self.file("answer", text), "-o", self.folder / "o.svg")
         self.refused("absent: No such file", "plot.py", "bounds", self.folder / "absent", "-o", self.folder / "o.svg")
+        for path in ("o.xyz", "o.pdf", "o.pgf", "svg"):
+            told = f"{path}: a picture ends with .svg or .png"
+            self.refused(told, "plot.py", "curves", self.file("answer", CURVES), "-o", self.folder / path)
 
     def test_faults_of_rows(self):
         for text, told in [
@@ -532,6 +591,7 @@ class Plot(WithFolder):
             ("enter,0,tracks,1\nleave,1,camera,0\n", "line 2: packet 0 of tracks does not pass camera"),
             ("enter,0,tracks,1\nwork,nowhere,0,0,1,1\n", "line 2: no server nowhere"),
             ("packet,0,video,1\n", "line 1: no row of a recorded run"),
+            ("enter,0,tracks,1\nvisit,0,radar," + 4 * "1" + "\n", "line 2: no row of a recorded run"),
             ('enter,0,"tracks,1\n', "line 1: unexpected end of data"),
         ]:
             self.refused(
@@ -548,6 +608,7 @@ class Plot(WithFolder):
             ("nonsense", "no TOML"),
             ('[[flow]]\nname = "f"\npath = "s"\n', "path is not an array"),
             ('[[flow]]\nname = "f"\npath = ["s:x"]\n', "f has no path entry s:x"),
+            ('[[server]]\nname = "%s"\n' % (100_000 * "s"), "(100000 characters)' is no name"),
         ]:
             run = self.file("run.csv", "enter,0,f,1\n")
             self.refused(told, "plot.py", "run", run, "--net", self.file("n.toml", net), "-o", self.folder / "o.svg")
@@ -593,14 +654,6 @@ class Plot(WithFolder):
             self.assertEqual(queues in picture.read_text(), text.count("\nqueue") + text.startswith("queue") > 0)
         fine = self.file("answer", CURVES.replace("0 1000 1344", "0 1/1000 1344"))
         self.refused("too many to draw", "plot.py", "curves", fine, "-o", self.folder / "o.svg")
-        self.refused(
-            "Format 'xyz' is not supported",
-            "plot.py",
-            "bounds",
-            self.file("answer", report),
-            "-o",
-            self.folder / "o.xyz",
-        )
 
     def test_run(self):
         flows, queues = plot.read_run(

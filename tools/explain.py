@@ -121,7 +121,9 @@ def names_of(places, kind):
 
 
 def rule(code, known, hint=""):
-    """The lines of a rule in words and how to mend it."""
+    """The lines of a rule in words and how to mend it; none of a code that there is not."""
+    if code not in known:
+        return []
     means, mend = known[code]
     return [f"  {code}: {means}", f"  to mend it: {mend}{hint}"] if mend else [f"  {code}: {means}"]
 
@@ -275,7 +277,7 @@ def of_limit(why, what, files, known):
         line, owner = places.line(found[1]), places.owner(found[1])
         where = f"{told} line {line}" if told and line else (told or "the network")
         return [f"{where}: {owner or found[1]}", *rule(f"{why}: curve", known)]
-    if found := re.fullmatch("line ([0-9]+)", what):
+    if found := re.fullmatch("line ([0-9]{1,9})", what):
         name = files.name("script")
         line = int(found[1])
         return [
@@ -291,9 +293,9 @@ def of_limit(why, what, files, known):
 def explanation(line, files, known):
     """The lines that explain a line of netcalc; none where it refuses nothing."""
     told = line.removeprefix("netcalc: ")
-    if found := re.fullmatch(r"edit ([0-9]+) refused (.+)", line):
+    if found := re.fullmatch(r"edit ([0-9]{1,9}) refused (.+)", line):
         return of_edit(found[1], found[2], files, known)
-    if found := re.fullmatch(r"verdict unlawful row ([0-9]+) (L[0-9])", line):
+    if found := re.fullmatch(r"verdict unlawful row ([0-9]{1,9}) (L[0-9])", line):
         return of_row(files.name("rows") or "the recorded run", found[2], int(found[1]), files, known)
     if told == line:
         return []
@@ -306,9 +308,9 @@ def explanation(line, files, known):
         return [found[2], *rule(found[1], known, hint)]
     if found := re.fullmatch(r"(.+): (M[0-9]+)(?: (\S+)(?: (\S+))?)?", told):
         return of_network(*found.groups(), files, known)
-    if found := re.fullmatch(r"(.+): (T[0-9]) row ([0-9]+)", told):
+    if found := re.fullmatch(r"(.+): (T[0-9]) row ([0-9]{1,9})", told):
         return of_row(found[1], found[2], int(found[3]), files, known)
-    if found := re.fullmatch(r"(.+): (C[0-9]) line ([0-9]+)", told):
+    if found := re.fullmatch(r"(.+): (C[0-9]) line ([0-9]{1,9})", told):
         place = int(found[3])
         return [f"{found[1]} line {place}", *shown_line(files.text(found[1]), place), *rule(found[2], known)]
     if found := re.fullmatch(r"(.+): too long", told):

@@ -1,20 +1,25 @@
 """Network files as Python values, their text, and the program's answers: what the tools beside it share. Needs Python
 3.11."""
 
+import atexit
 import datetime
 import functools
 import hashlib
+import io
 import os
 import pathlib
 import re
+import shutil
 import subprocess
 import sys
+import tempfile
 import tomllib
 from fractions import Fraction
 
 TOP = pathlib.Path(__file__).resolve().parent.parent
 PROGRAM = TOP / "netcalc"
 NAME = re.compile(r"[A-Za-z0-9_-]{1,32}")
+DEEPEST = 160  # keys and arrays in one another, of which the program takes 80 of each
 LARGEST = 2**127 - 1  # no numerator and no denominator of a network file is above
 NUMBER = re.compile(r"-?[0-9]+(/[0-9]+)?")
 KINDS = {list: "an array", str: "a text", int: "an integer", dict: "a table"}
@@ -90,8 +95,10 @@ def load(path):
     return network
 
 
-def hold_values(value, place):
+def hold_values(value, place, depth=0):
     """Refuses a value of a kind that no network file has."""
+    if depth > DEEPEST:
+        raise Fault(f"a value is nested more than {DEEPEST} deep, which no network file has")
     if isinstance(value, float):
         raise Fault(f'{place}: {value} is a float, which is not exact: write "p/q"')
     if isinstance(value, int) and abs(value) > LARGEST:
@@ -100,10 +107,10 @@ def hold_values(value, place):
         raise Fault(f"{place}: no value of a network file is a date or a time")
     if isinstance(value, dict):
         for key, entry in value.items():
-            hold_values(entry, f"{place}.{key}" if place else key)
+            hold_values(entry, f"{place}.{key}" if place else key, depth + 1)
     if isinstance(value, list):
         for number_of_entry, entry in enumerate(value):
-            hold_values(entry, f"{place}[{number_of_entry}]")
+            hold_values(entry, f"{place}[{number_of_entry}]", depth + 1)
 
 
 def member(table, place, key, kind, without=None):
@@ -184,11 +191,24 @@ def the_program(program):
     """The program that runs behind a name: of the launcher the one that it would run, built where it has to be, so that
     each call does not look at all sources again; another program is itself."""
     if pathlib.Path(program).resolve() != PROGRAM.resolve():
-        return str(program)
-    run = subprocess.run([str(program), "--program"], stdout=subprocess.PIPE, text=True, check=False)
+        return plain(str(program))
+    run = subprocess.run([str(program), "--program"], stdout=subprocess.PIPE, check=False)
     if run.returncode:
         raise Fault(f"{program} has no program to run")
-    return run.stdout.removesuffix("\n")
+    return plain(os.fsdecode(run.stdout.removesuffix(b"\n")))
+
+
+def plain(program):
+    """The path of a program in UTF-8, as the program asks for: where it has another one, that of a link to it."""
+    try:
+        program.encode()
+        return program
+    except UnicodeEncodeError:
+        folder = tempfile.mkdtemp(prefix="netcalc_")
+        atexit.register(shutil.rmtree, folder, True)
+        link = os.path.join(folder, "netcalc")
+        os.symlink(os.path.abspath(program), link)
+        return link
 
 
 def analyse(path, program=PROGRAM, seconds=None):
@@ -198,6 +218,20 @@ def analyse(path, program=PROGRAM, seconds=None):
     return Answer(run.returncode, run.stdout)
 
 
+def cell(text):
+    """A text as a cell of a table: with a `'` before it where a spreadsheet would take it for a formula and run it. A
+    number stays as it is."""
+    text = str(text)
+    is_formula = text.lstrip()[:1] in ("=", "+", "-", "@") or text[:1] in ("\t", "\r")
+    return f"'{text}" if is_formula and not re.fullmatch("-?[0-9]+([./][0-9]+)?", text) else text
+
+
+def hold_picture(path):
+    """Refuses a picture of another kind than these two, before it is drawn."""
+    if not str(path).endswith((".svg", ".png")):
+        raise Fault(f"{path}: a picture ends with .svg or .png")
+
+
 def mark_of(program):
     """What stands for a program in a journal: a hash of its file."""
     return hashlib.sha256(pathlib.Path(program).read_bytes()).hexdigest()
@@ -205,6 +239,10 @@ def mark_of(program):
 
 def ended(tool, main):
     """Ends a tool with the status of its `main`, or with 1 and a line on the standard error that says why."""
+    for stream in (sys.stdout, sys.stderr):
+        # Names of files need not be UTF-8: they are written as they are.
+        if isinstance(stream, io.TextIOWrapper):
+            stream.reconfigure(errors="surrogateescape")
     try:
         status = main()
         sys.stdout.flush()

@@ -19,13 +19,15 @@ alone says. Drawing rounds lengths to the screen; the numbers at bars are rounde
 than 4,000 pixels in a row or a column."""
 
 import argparse
+import bisect
 import colorsys
 import csv
+import itertools
 import math
 import re
 from fractions import Fraction
 
-from networks import Fault, ended, load, member, shortened, text_in
+from networks import NAME, Fault, ended, hold_picture, load, member, shortened, text_in
 
 BLUE, RED, GREY, GREEN = "#4477aa", "#cc3311", "#bbbbbb", "#228833"
 FLOWS = [BLUE, RED, GREEN, "#aa3377", "#ccbb44", "#66ccee"]  # colours of the first flows
@@ -37,7 +39,7 @@ TALLEST = 38  # inches of a picture's rows, of 100 pixels each
 
 def exact(word):
     """A printed number."""
-    if not re.fullmatch("-?[0-9]{1,60}(/0*[1-9][0-9]{0,59})?", word):
+    if not re.fullmatch("-?[0-9]{1,60}(/(?=[0-9]*[1-9])[0-9]{1,60})?", word):
         raise Fault(f"{shortened(word)!r} is no number")
     return Fraction(word)
 
@@ -45,6 +47,20 @@ def exact(word):
 def number(word):
     """A printed number, or None for `unbounded`."""
     return None if word == "unbounded" else exact(word)
+
+
+def name_in(word):
+    """A name of an answer."""
+    if not NAME.fullmatch(word):
+        raise Fault(f"{shortened(word)!r} is no name")
+    return word
+
+
+def queue_in(server, word):
+    """A queue of an answer by its server and number."""
+    if not re.fullmatch("[0-9]{1,3}", word):
+        raise Fault(f"{shortened(word)!r} is no number of a queue")
+    return f"{name_in(server)}:{word}"
 
 
 def rounded_up(value, digits=6):
@@ -92,10 +108,7 @@ def drawing():
 
 def save(figure, path):
     """Writes a picture, without the time at which it was drawn."""
-    try:
-        figure.savefig(path, metadata={"Date": None} if path.endswith(".svg") else None)
-    except ValueError as fault:
-        raise Fault(f"{path}: {fault}") from None
+    figure.savefig(path, metadata={"Date": None} if path.endswith(".svg") else None)
 
 
 def read_run(text):
@@ -106,9 +119,9 @@ def read_run(text):
     def read(words):
         match words:
             case ["worst", name, seen, "bound", most]:
-                flows.append((name, number(seen), number(most)))
+                flows.append((name_in(name), number(seen), number(most)))
             case ["peak", server, queue, seen, "bound", most]:
-                queues.append((f"{server}:{queue}", number(seen), number(most)))
+                queues.append((queue_in(server, queue), number(seen), number(most)))
             case ["servers" | "run" | "breach" | "verdict", *_]:
                 pass
             case _:
@@ -125,9 +138,9 @@ def read_answer(text):
     def read(words):
         match words:
             case ["flow", name, "tfa", tfa, "sfa", sfa, "bound", _]:
-                flows.append((name, number(tfa), number(sfa)))
+                flows.append((name_in(name), number(tfa), number(sfa)))
             case ["queue", server, queue, "delay", delay, "backlog", backlog]:
-                queues.append((f"{server}:{queue}", number(delay), number(backlog)))
+                queues.append((queue_in(server, queue), number(delay), number(backlog)))
             case ["servers" | "edit", *_]:
                 pass
             case _:
@@ -199,7 +212,7 @@ class Curve:
     """A curve as `show` prints it: pieces, and a tail."""
 
     def __init__(self):
-        self.pieces, self.tail = [], None
+        self.pieces, self.tail, self.graphs = [], None, {}
 
     def unrolled(self, end):
         """Its pieces up to `end`: time, value there, value just after (None where infinite), slope."""
@@ -231,38 +244,50 @@ class Curve:
             values += [after, after + slope * (later - time)]
         return times, values
 
+    def graph(self, end):
+        """Its graph up to `end`, made once."""
+        if end not in self.graphs:
+            self.graphs[end] = Graph(*self.line(end))
+        return self.graphs[end]
+
+
+class Graph:
+    """The graph of a curve up to a time: its corners, and the greatest value up to each."""
+
+    def __init__(self, times, values):
+        self.times, self.values = times, values
+        self.tops = list(itertools.accumulate(values, max))
+
     def near(self, time):
         """Its values at a time, just before and just after it, where it is finite there."""
-        times, values = self.line(time + 1)
-        found = [value for at, value in zip(times, values) if at == time]
-        for place in range(1, len(times)):
-            if times[place - 1] < time < times[place]:
-                share = (time - times[place - 1]) / (times[place] - times[place - 1])
-                found.append(values[place - 1] + share * (values[place] - values[place - 1]))
-        return found
+        first, last = bisect.bisect_left(self.times, time), bisect.bisect_right(self.times, time)
+        if first < last or not 0 < first < len(self.times):
+            return self.values[first:last]
+        share = (time - self.times[first - 1]) / (self.times[first] - self.times[first - 1])
+        return [self.values[first - 1] + share * (self.values[first] - self.values[first - 1])]
 
-    def first_at(self, level, end):
-        """The first time up to `end` at which it is at least `level`, or None."""
-        times, values = self.line(end)
-        for place, (time, value) in enumerate(zip(times, values)):
-            if value >= level:
-                if not place or values[place - 1] == value or times[place - 1] == time:
-                    return time
-                before, low = times[place - 1], values[place - 1]
-                return before + (level - low) * (time - before) / (value - low)
-        return None
+    def first_at(self, level):
+        """The first time at which it is at least `level`, or None."""
+        place = bisect.bisect_left(self.tops, level)
+        if place == len(self.tops):
+            return None
+        if not place or self.values[place - 1] == self.values[place] or self.times[place - 1] == self.times[place]:
+            return self.times[place]
+        return self.passed(place, level)
 
-    def first_above(self, level, end):
-        """The first time up to `end` from which on the curve is above a level: the right end of a stretch at that
-        level."""
-        times, values = self.line(end)
-        for place, (time, value) in enumerate(zip(times, values)):
-            if value > level:
-                if not place or times[place - 1] == time:
-                    return time
-                before, low = times[place - 1], values[place - 1]
-                return before + (max(level, low) - low) * (time - before) / (value - low)
-        return None
+    def first_above(self, level):
+        """The first time from which on the curve is above a level: the right end of a stretch at that level."""
+        place = bisect.bisect_right(self.tops, level)
+        if place == len(self.tops):
+            return None
+        if not place or self.times[place - 1] == self.times[place]:
+            return self.times[place]
+        return self.passed(place, max(level, self.values[place - 1]))
+
+    def passed(self, place, level):
+        """The time at which the line that ends at a corner passes a level."""
+        before, low = self.times[place - 1], self.values[place - 1]
+        return before + (level - low) * (self.times[place] - before) / (self.values[place] - low)
 
 
 def read_curves(text):
@@ -305,16 +330,28 @@ def curve_of(pieces, kind, numbers):
 
 def widest(arrival, service, end):
     """A level of the curves up to `end` at which the service comes latest after the arrivals, with both times."""
-    levels = sorted({value for curve in (arrival, service) for value in curve.line(end)[1]})
+    arrivals, served = arrival.graph(end), service.graph(end)
+    levels = sorted({*arrivals.values, *served.values})
     best = None
     for level in levels:
         # Where a curve stays at the level, the service may be latest for what comes just above it.
         for start, reached in (
-            (arrival.first_at(level, end), service.first_at(level, end)),
-            (arrival.first_above(level, end), service.first_above(level, end)),
+            (arrivals.first_at(level), served.first_at(level)),
+            (arrivals.first_above(level), served.first_above(level)),
         ):
             if start is not None and reached is not None and (best is None or reached - start > best[2] - best[1]):
                 best = (level, start, reached)
+    return best
+
+
+def highest(arrival, service, end):
+    """The time up to `end` at which the arrivals are highest above the service, with both values there; the earliest."""
+    arrivals, served = arrival.graph(end), service.graph(end)
+    best = Fraction(0), Fraction(0), Fraction(0)
+    for time in sorted({*arrivals.times, *served.times}):
+        tops, lows = arrivals.near(time), served.near(time)
+        if tops and lows and max(tops) - min(lows) > best[2] - best[1]:
+            best = time, min(lows), max(tops)
     return best
 
 
@@ -330,8 +367,8 @@ def draw_curves(text, path):
     end = own or Fraction(10)
     figure, axes = plot.subplots(figsize=(8, 5), layout="constrained")
     for curve, name, colour in ((arrival, "arrival curve", BLUE), (service, "service curve", RED)):
-        times, values = curve.line(end)
-        axes.plot([float(time) for time in times], [float(value) for value in values], color=colour, label=name)
+        graph = curve.graph(end)
+        axes.plot([*map(float, graph.times)], [*map(float, graph.values)], color=colour, label=name)
     if delay != "unbounded" and (found := widest(arrival, service, end)):
         level, start, reached = found
         axes.annotate(
@@ -350,26 +387,16 @@ def draw_curves(text, path):
             fontsize=9,
         )
     if backlog != "unbounded":
-        marks = sorted(
-            {
-                time
-                for curve in (arrival, service)
-                for time in curve.line(end)[0]
-                if arrival.near(time) and service.near(time)
-            }
-        )
-        top = {time: max(arrival.near(time)) for time in marks}
-        low = {time: min(service.near(time)) for time in marks}
-        time = max(marks, key=lambda mark: top[mark] - low[mark])
+        time, low, top = highest(arrival, service, end)
         axes.annotate(
             "",
-            (float(time), float(low[time])),
-            (float(time), float(top[time])),
+            (float(time), float(low)),
+            (float(time), float(top)),
             arrowprops={"arrowstyle": "<->", "color": GREY},
         )
         axes.text(
             float(time),
-            float((low[time] + top[time]) / 2),
+            float((low + top) / 2),
             f" backlog {backlog}",
             va="center",
             color="black",
@@ -418,6 +445,8 @@ class Server:
 def read_paths(path):
     """The servers of a network's file in their order, and of each flow its servers with the queues there."""
     net = load(path)
+    for table in [*net.get("server", []), *net.get("flow", [])]:
+        name_in(table["name"])
     names = [server["name"] for server in net.get("server", [])]
     paths = {}
     for flow in net.get("flow", []):
@@ -471,7 +500,7 @@ class Recorded:
             case ["work", server, packet, start, stop, _]:
                 work = self.packet(packet), exact(start), exact(stop)
                 self.servers[known("server", server, self.servers)].works.append(work)
-            case ["visit", time, server, queue]:
+            case ["visit", time, server, queue] if re.fullmatch("[0-9]{1,3}", queue):
                 self.servers[known("server", server, self.servers)].visits.append((exact(time), queue))
             case ["end", time]:
                 self.end = exact(time)
@@ -610,6 +639,7 @@ def main():
         parser.error("`run` alone wants the network's file, by --net")
     if words.what != "run" and (words.ports or words.start or words.stop):
         parser.error("--ports, --from and --to are for `run` alone")
+    hold_picture(words.output)
     text = text_in("/dev/stdin" if words.answer == "-" else words.answer)
     try:
         if words.what == "run":

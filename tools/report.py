@@ -38,7 +38,7 @@ import loads
 import report_page
 from import_icd import rows
 from loads import rounded_down, rounded_up
-from networks import PROGRAM, Fault, analyse, ended, load, number, shortened, text_in, the_program
+from networks import PROGRAM, Fault, analyse, cell, ended, load, number, shortened, text_in, the_program
 
 MOST = 3  # flows that are named at a port
 
@@ -335,7 +335,7 @@ def write_csv(path, report):
     with open(path, "w", newline="", encoding="utf-8") as file:
         table = csv.writer(file)
         table.writerow(["flow", "bound_us", "deadline_us", "verdict", "slack_us", "exact_bound"])
-        table.writerows(flow_cells(flow) for flow in sorted(report.flows, key=by_slack))
+        table.writerows(map(cell, flow_cells(flow)) for flow in sorted(report.flows, key=by_slack))
 
 
 def main():
@@ -355,7 +355,9 @@ def main():
     if words.csv:
         write_csv(words.csv, report)
     if words.html:
-        pathlib.Path(words.html).write_text(report_page.page(report), encoding="utf-8")
+        pathlib.Path(words.html).write_text(
+            report_page.page(report), encoding="utf-8", errors="surrogateescape"
+        )
     for line in text_of(report):
         print(line)
     return 1 if report.failed() else 0

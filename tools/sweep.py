@@ -15,7 +15,7 @@ time now. Two studies do not write one journal: the second is refused.
 
 The table has a line a variant, in their order: its name, the parameters, `status` (a status of the program, `time`, or
 `signal N`), `refusal` (its line), `seconds`, `largest` (the largest bound), and a column `bound FLOW` for each flow.
-Bounds are exact fractions.
+Bounds are exact fractions. A cell that a spreadsheet would run as a formula has a `'` before it.
 
 `--plot COLUMN OUT.svg` draws the largest bound of each variant over a parameter, with the front of those that no other
 variant beats in both (needs matplotlib).
@@ -44,12 +44,17 @@ import io
 import json
 import os
 import pathlib
+import re
 import string
 import sys
 import time
 from fractions import Fraction
 
-from networks import PROGRAM, Fault, ended, mark_of, text_in, the_program
+from networks import PROGRAM, Fault, cell, ended, hold_picture, mark_of, shortened, text_in, the_program
+
+
+DRAWN = re.compile(r"-?[0-9]{1,60}(/(?=[0-9]*[1-9])[0-9]{1,60}|(\.[0-9]{1,60})?(e[+-]?[0-9]{1,2})?)")
+BOUND = re.compile(r"unbounded|[0-9]{1,60}(/(?=[0-9]*[1-9])[0-9]{1,60})?")
 
 
 def answer_of(program, text, seconds):
@@ -130,18 +135,27 @@ def still_holds(entry, mark, seconds):
     return entry["asked"] == mark and (ended_by_itself or entry["status"] == "time" and entry["limit"] >= seconds)
 
 
+def is_answer(entry):
+    """Whether an entry of a journal is of the form in which answers are written there."""
+    kinds = {"variant": str, "asked": str, "limit": (int, float), "status": str, "refusal": str, "seconds": (int, float)}
+    return (
+        isinstance(entry, dict)
+        and all(isinstance(entry.get(key), kind) for key, kind in kinds.items())
+        and isinstance(entry.get("bounds"), dict)
+        and all(isinstance(bound, str) and BOUND.fullmatch(bound) for bound in entry["bounds"].values())
+    )
+
+
 def journal_of(text):
-    """The answers that a journal holds, the latest of each variant; a last line that was cut off does not count."""
+    """The answers that a journal holds, the latest of each variant; a line that is none, as a last one that was cut off,
+    does not count."""
     answers = {}
-    for line in text.splitlines():
+    for line in text.split("\n"):
         try:
             entry = json.loads(line)
-        except json.JSONDecodeError:
+        except (ValueError, RecursionError):
             continue
-        if (
-            isinstance(entry, dict)
-            and {"variant", "asked", "limit", "status", "refusal", "seconds", "bounds"} <= entry.keys()
-        ):
+        if is_answer(entry):
             answers[entry["variant"]] = entry
     return answers
 
@@ -218,7 +232,7 @@ def study(words):
     variants, text_of = variants_of(words.source, words.parameters)
     program = mark_of(words.program)
     marks = {name: hashlib.sha256((program + text_of(name)).encode()).hexdigest() for name in variants}
-    with open(words.table + ".journal", "a+", encoding="utf-8") as file:
+    with open(words.table + ".journal", "a+", encoding="utf-8", errors="replace") as file:
         try:
             fcntl.flock(file, fcntl.LOCK_EX | fcntl.LOCK_NB)
         except BlockingIOError:
@@ -245,7 +259,7 @@ def study(words):
 
 
 def value_of(text):
-    """A bound or a parameter as a number that can be compared; `unbounded` is above all."""
+    """A bound as a number that can be compared; `unbounded` is above all."""
     return float("inf") if text == "unbounded" else Fraction(text)
 
 
@@ -259,21 +273,15 @@ def write_table(path, variants, answers):
     parameters = list(dict.fromkeys(column for row in variants.values() for column in row))
     flows = list(dict.fromkeys(flow for name in variants for flow in answers[name]["bounds"]))
     head = ["variant", *parameters, "status", "refusal", "seconds", "largest", *(f"bound {flow}" for flow in flows)]
-    with open(path, "w", newline="", encoding="utf-8") as file:
+    with open(path, "w", newline="", encoding="utf-8", errors="surrogateescape") as file:
         table = csv.writer(file)
-        table.writerow(head)
+        table.writerow(map(cell, head))
         for name, row in variants.items():
             answer = answers[name]
             bounds = answer["bounds"]
             known = [answer["status"], answer["refusal"], answer["seconds"], largest(bounds)]
-            table.writerow(
-                [
-                    name,
-                    *(row.get(column, "") for column in parameters),
-                    *known,
-                    *(bounds.get(flow, "") for flow in flows),
-                ]
-            )
+            cells = [name, *(row.get(column, "") for column in parameters), *known]
+            table.writerow(map(cell, [*cells, *(bounds.get(flow, "") for flow in flows)]))
 
 
 def front_of(points):
@@ -292,10 +300,9 @@ def points_of(column, variants, answers):
         most = value_of(largest(answers[name]["bounds"]) or "unbounded")
         if most == float("inf"):
             continue
-        try:
-            points.append((float(value_of(row[column])), float(most)))
-        except (ValueError, ArithmeticError):
-            raise Fault(f"variant {name}: {column} is {row[column]!r}, and no number to draw") from None
+        if not DRAWN.fullmatch(row[column]):
+            raise Fault(f"variant {name}: {column} is {shortened(row[column])!r}, and no number to draw")
+        points.append((float(Fraction(row[column])), float(most)))
     if not points:
         raise Fault("no variant has a bound: nothing to draw")
     return points
@@ -317,14 +324,12 @@ def draw(column, path, variants, answers):
     axes.set_ylabel("largest delay bound")
     axes.grid(alpha=0.3)
     axes.legend()
-    try:
-        figure.savefig(path)
-    except ValueError as fault:
-        raise Fault(f"{path}: {fault}") from None
+    figure.savefig(path)
 
 
 def hold_plot(words):
     """Refuses a plot that could not be drawn, before anything runs."""
+    hold_picture(words.plot[1])
     try:
         import matplotlib  # noqa: F401
     except ImportError:
@@ -348,7 +353,7 @@ def main():
     parser.add_argument("--scheduler", metavar="ADDRESS", help="a Dask scheduler, as tcp://host:8786")
     parser.add_argument("--plot", nargs=2, metavar=("COLUMN", "OUT.svg"))
     words = parser.parse_args()
-    words.program = str(pathlib.Path(the_program(words.program)).resolve())
+    words.program = os.path.abspath(the_program(words.program))
     if not pathlib.Path(words.source).is_dir() and words.parameters is None:
         parser.error("a template needs a file of parameters")
     if not words.seconds > 0 or words.workers < 1:

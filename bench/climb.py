@@ -1,0 +1,118 @@
+#!/usr/bin/env python3
+"""Looks for small files that take long, by hill climbing, and prints the slowest that it found.
+
+    python3 bench/climb.py NETCALC [MINUTES] [SEED] [FOLDER] [COMMAND..]
+
+NETCALC is the program. For MINUTES (5) in all, in turn for each of five kinds of files (or for the commands that are named): the network of
+`analyse`, the edit list of `edit`, the trace of `simulate`, the recorded run of `check`, the script of `curve`, a climb begins at an odd file
+of bench/odd_cases.py. Each step changes one or two numbers or lines of its files; a step that takes no less processor time is kept. Each call has 10
+seconds of processor time and 1 GiB. A climb ends after 40 steps that gained nothing, or with a call that was ended by the limit (`late`).
+
+All is drawn by SEED (1), so others find the same files with the same program where the times do not decide otherwise. Of each kind the five slowest
+are printed: seconds, status, bytes and the climb; with FOLDER their files are kept there, a folder a case. It ends with 1 where one was late.
+"""
+
+import random
+import re
+import resource
+import signal
+import sys
+import tempfile
+import time
+from fractions import Fraction
+from pathlib import Path
+
+import mutate
+import odd_cases
+
+MOST = 3000  # bytes of a file, so that what is slow is no large file
+STALE = 40  # steps without a gain that end a climb
+NUMBER = re.compile(rb"(?<![\w/])\d+(?:/\d+)?(?![\w/])")
+
+
+def limits() -> None:
+    resource.setrlimit(resource.RLIMIT_CPU, (mutate.SECONDS, mutate.SECONDS + 1))
+    resource.setrlimit(resource.RLIMIT_AS, (2**30, 2**30))
+
+
+def other_number(draw: random.Random, text: bytes) -> bytes:
+    """A number of the text in place of itself: another one of about its size, near another of the text, or odd."""
+    places = list(NUMBER.finditer(text))
+    if not places:
+        return text
+    place = draw.choice(places)
+    known = draw.choice(places if draw.random() < 0.3 else [place]).group()
+    if int(known.split(b"/")[-1]) == 0 and b"/" in known:
+        return text
+    number = odd_cases.near(draw, Fraction(known.decode())) if draw.random() < 0.4 else odd_cases.odd(draw, Fraction(known.decode()))
+    if b"/" not in place.group() and draw.random() < 0.5:
+        number = Fraction(int(number))
+    return text[: place.start()] + str(number).encode() + text[place.end() :]
+
+
+def step(draw: random.Random, case: mutate.Case) -> mutate.Case:
+    """A case with one or two changes; most are of numbers, since a file that is refused is soon answered."""
+    files = dict(case.files)
+    for _ in range(draw.choice([1, 1, 2])):
+        name = draw.choice(sorted(files))
+        change = other_number if draw.random() < 0.8 else draw.choice([mutate.changed_lines, mutate.changed_word, mutate.changed_number])
+        changed = change(draw, files[name])
+        files[name] = changed if len(changed) <= MOST else files[name]
+    return mutate.Case(case.words, files)
+
+
+class Found:
+    """A case with the seconds of its call and how it ended."""
+
+    def __init__(self, program: str, case: mutate.Case, climb: str, folder: Path):
+        came = mutate.Came(program, case, folder)
+        self.case, self.climb, self.seconds = case, climb, came.seconds
+        self.late = came.status is None or came.status == -signal.SIGXCPU or came.status == -signal.SIGKILL
+        self.status = "late" if self.late else str(came.status)
+
+
+def climb(program: str, kind: str, seed: str, until: float, folder: Path) -> Found:
+    """The slowest case of one climb."""
+    draw = random.Random(seed)
+    words, files = odd_cases.drawn(draw, kind)
+    best = Found(program, mutate.Case(words, files), seed, folder)
+    stale = 0
+    while stale < STALE and not best.late and time.monotonic() < until:
+        tried = Found(program, step(draw, best.case), seed, folder)
+        stale = 0 if tried.seconds > 1.1 * best.seconds else stale + 1
+        best = tried if tried.seconds >= best.seconds else best
+    return best
+
+
+def told(kind: str, slowest: list[Found], climbs: int, kept: Path | None) -> None:
+    print(f"{kind}: {climbs} climbs; the slowest:")
+    for place, found in enumerate(slowest):
+        size = sum(map(len, found.case.files.values()))
+        print(f"    {found.seconds:6.2f} s, status {found.status}, {size} bytes, climb {found.climb}", flush=True)
+        mutate.keep(kept, f"{kind}_{place}", found.case)
+
+
+def main() -> None:
+    if len(sys.argv) < 2:
+        sys.exit(__doc__)
+    program = str(Path(sys.argv[1]).resolve())
+    minutes = float(sys.argv[2]) if len(sys.argv) > 2 else 5
+    seed = int(sys.argv[3]) if len(sys.argv) > 3 else 1
+    kept = Path(sys.argv[4]) if len(sys.argv) > 4 else None
+    kinds = sys.argv[5:] or sorted(odd_cases.KINDS)
+    mutate.limits = limits
+    late = 0
+    with tempfile.TemporaryDirectory(prefix="climb_") as folder:
+        for kind in kinds:
+            found: list[Found] = []
+            until = time.monotonic() + 60 * minutes / len(kinds)
+            while time.monotonic() < until:
+                found.append(climb(program, kind, f"{seed} {kind} {len(found)}", until, Path(folder)))
+            late += sum(it.late for it in found)
+            told(kind, sorted(found, key=lambda it: -it.seconds)[:5], len(found), kept)
+    print(f"{late} climbs ended late")
+    sys.exit(1 if late else 0)
+
+
+if __name__ == "__main__":
+    main()
