@@ -1,0 +1,143 @@
+//! The links that come to a queue, by where they come from.
+
+ghost use Rattle.std.specs.Prelude.{◌≡◌, ◌<◌, ◌+◌, ◌^◌, ◌++◌, ◌∷◌, [], All, length, max, IfOk, OnOk};
+ghost use Rattle.tree_bounds.specs.Groups.{longest_group};
+ghost use Rattle.tree_bounds.specs.Grouping.{both_groups, group_of_spot, grouped, last_with, with_group};
+ghost use Rattle.tree_bounds.specs.Onward.{line_at};
+
+use arrival_lines::Line;
+use std::alloc::{AllocError, Global};
+use tree_order::Spot;
+
+/// The links that come to a queue from one source, together.
+#[derive(Debug, Clone, Copy)]
+pub(crate) struct Group {
+    /// 0 where they begin, else one more than the number of the port before.
+    pub(crate) source: usize,
+    /// In grains.
+    pub(crate) burst: u128,
+    /// In grains a second.
+    pub(crate) rate: u128,
+    /// In bits.
+    pub(crate) longest: u64,
+    /// Whether each has a line.
+    pub(crate) known: bool,
+}
+
+/// The greater one.
+fn greater(a: u64, b: u64) -> u64
+    ensures { result ≡ max a b }
+{
+    if a < b { b } else { a }
+}
+
+/// The group of one spot with this line.
+fn group_of_one(spot: Spot, line: Option<Line>) -> Group
+    ensures one { result ≡ group_of_spot spot line }
+    ensures small { (result.burst < 2 ^ 64) × (result.rate < 2 ^ 64) }
+{
+    match line {
+        None => Group {
+            source: spot.source,
+            burst: 0,
+            rate: 0,
+            longest: spot.frame,
+            known: false,
+        },
+        Some(line) => Group {
+            source: spot.source,
+            burst: line.burst as u128,
+            rate: line.rate as u128,
+            longest: spot.frame,
+            known: true,
+        },
+    }
+}
+
+/// Two groups of one source together.
+fn together(one: Group, other: Group) -> Group
+    requires burst { one.burst + other.burst < 2 ^ 128 }
+    requires rate { one.rate + other.rate < 2 ^ 128 }
+    ensures { result ≡ both_groups one other }
+{
+    Group {
+        source: one.source,
+        burst: one.burst + other.burst,
+        rate: one.rate + other.rate,
+        longest: greater(one.longest, other.longest),
+        known: one.known && other.known,
+    }
+}
+
+/// Adds a group behind the others.
+fn put(groups: &mut Vec<Group>, group: Group) -> Result<(), AllocError>
+    ensures { OnOk result (groups.new.items ≡ groups.old.items ++ group ∷ []) }
+{
+    groups.push(group)?;
+    Ok(())
+}
+
+/// Adds two groups behind the others.
+fn put_two(groups: &mut Vec<Group>, one: Group, other: Group) -> Result<(), AllocError>
+    ensures { OnOk result (groups.new.items ≡ groups.old.items ++ one ∷ other ∷ []) }
+{
+    groups.push(one)?;
+    groups.push(other)?;
+    Ok(())
+}
+
+/// Adds the last group behind the others and one more, or both together where they are of one source.
+fn put_behind(groups: &mut Vec<Group>, last: Group, next: Group) -> Result<(), AllocError>
+    requires burst { last.burst + next.burst < 2 ^ 128 }
+    requires rate { last.rate + next.rate < 2 ^ 128 }
+    ensures { OnOk result (groups.new.items ≡ groups.old.items ++ last_with last next) }
+{
+    if last.source == next.source {
+        return put(groups, together(last, next));
+    }
+    put_two(groups, last, next)
+}
+
+/// Adds a group behind the others, or to the last of them where that is of the same source.
+fn add_group(groups: &mut Vec<Group>, next: Group) -> Result<(), AllocError>
+    requires { All (λ g. (g.burst + next.burst < 2 ^ 128) × (g.rate + next.rate < 2 ^ 128)) groups.old.items }
+    ensures { OnOk result (groups.new.items ≡ with_group groups.old.items next) }
+{
+    match groups.pop() {
+        None => put(groups, next),
+        Some(last) => put_behind(groups, last, next),
+    }
+}
+
+/// The spots of queue q among these, by their sources.
+pub(crate) fn groups_of(
+    alloc: Global,
+    spots: &[Spot],
+    numbers: &[usize],
+    lines: &[Option<Line>],
+    q: usize,
+) -> Result<Vec<Group>, AllocError>
+    requires inside { All (λ n. n < length spots.now) numbers.now }
+    requires lines { length lines.now ≡ length spots.now }
+    ensures { IfOk result (λ v. v.items ≡ grouped spots.now (λ n. line_at lines.now n) q numbers.now) }
+{
+    let mut groups = Vec::new(alloc);
+    for n in numbers {
+        let spot = spots[*n];
+        if spot.queue == q {
+            add_group(&mut groups, group_of_one(spot, lines[*n]))?;
+        }
+    }
+    Ok(groups)
+}
+
+/// The longest frame of some groups, in bits.
+pub(crate) fn longest_in(groups: &[Group]) -> u64
+    ensures { result ≡ longest_group groups.now }
+{
+    let mut longest = 0;
+    for group in groups {
+        longest = greater(longest, group.longest);
+    }
+    longest
+}

@@ -1,0 +1,188 @@
+//! What arrives at the queues of a port.
+
+ghost use Rattle.std.specs.Prelude.{◌≡◌, ◌<◌, ◌≤◌, ◌+◌, ◌^◌, None, true, All, length, map, IfOk, MatchOption};
+ghost use Rattle.std.specs.List.{list_all};
+ghost use Rattle.std.specs.Option.{option_map};
+ghost use Rattle.tree_network.specs.Networks.{IsNetwork, longest_frame};
+ghost use Rattle.tree_order.specs.Plans.{IsPlanOf};
+ghost use Rattle.tree_order.specs.Spots.{spots_of};
+ghost use Rattle.arrival_lines.specs.Steps.{most_burst, most_rate};
+ghost use Rattle.port_bounds.specs.Incoming.{incoming, incoming_of};
+ghost use Rattle.tree_bounds.specs.Groups.{are_bounded, incoming_at, incomings_at, pace_line, part_of, parts_in};
+ghost use Rattle.tree_bounds.specs.Onward.{line_at};
+ghost use Rattle.tree_bounds.specs.Parts.{IsNoPart, IsOfNetwork, IsPartOf};
+
+use crate::groups::{Group, groups_of, longest_in};
+use crate::onward::GRAINS;
+use arrival_lines::{Line, Part};
+use port_bounds::Arrivals;
+use std::alloc::{AllocError, Global};
+use tree_network::Network;
+use tree_order::Plan;
+
+/// No queue's parts may have so many grains at once.
+const MOST_BURST: u128 = 1 << 58;
+
+/// No queue's parts may have so many grains a second.
+const MOST_RATE: u128 = 1 << 61;
+
+/// The line of the pace of the port from which frames of this source come; none where they begin.
+fn pace_of(network: &Network, longest: u64, source: usize) -> Option<Line>
+    requires source { source ≤ length network.now.ports.items }
+    requires longest { longest ≤ longest_frame }
+    ensures { result ≡ pace_line network.now longest source }
+{
+    if source == 0 {
+        return None;
+    }
+    Some(Line {
+        burst: longest * GRAINS,
+        rate: network.ports[source - 1].pace,
+    })
+}
+
+/// The group as a part, where each of its links has a line and its numbers fit 64 bits.
+fn part(network: &Network, group: Group) -> Option<Part>
+    requires { IsOfNetwork network.now group }
+    ensures { MatchOption result (IsNoPart group) (IsPartOf network.now group) }
+{
+    if !group.known {
+        return None;
+    }
+    if group.burst > u64::MAX as u128 {
+        return None;
+    }
+    if group.rate > u64::MAX as u128 {
+        return None;
+    }
+    Some(Part {
+        sum: Line {
+            burst: group.burst as u64,
+            rate: group.rate as u64,
+        },
+        pace: pace_of(network, group.longest, group.source),
+    })
+}
+
+/// The greater burst and the greater rate of a part's lines.
+fn greater_of(part: Part) -> (u64, u64)
+    ensures burst { result.0 ≡ most_burst part }
+    ensures rate { result.1 ≡ most_rate part }
+    ensures small { (result.0 < 2 ^ 64) × (result.1 < 2 ^ 64) }
+{
+    match part.pace {
+        None => (part.sum.burst, part.sum.rate),
+        Some(pace) => (
+            if part.sum.burst < pace.burst {
+                pace.burst
+            } else {
+                part.sum.burst
+            },
+            if part.sum.rate < pace.rate {
+                pace.rate
+            } else {
+                part.sum.rate
+            },
+        ),
+    }
+}
+
+/// Whether the parts' greater bursts and greater rates together are within their limits.
+fn are_within(parts: &[Part]) -> bool
+    ensures { result ≡ are_bounded parts.now }
+{
+    let mut bursts: u128 = 0;
+    let mut rates: u128 = 0;
+    for part in parts {
+        let (burst, rate) = greater_of(*part);
+        bursts += burst as u128;
+        rates += rate as u128;
+    }
+    bursts < MOST_BURST && rates < MOST_RATE
+}
+
+/// All groups as parts, where each is one.
+fn all_parts(
+    alloc: Global,
+    network: &Network,
+    groups: &[Group],
+) -> Result<Option<Vec<Part>>, AllocError>
+    requires { All (IsOfNetwork network.now) groups.now }
+    ensures { IfOk result (λ found. MatchOption found (parts_in network.now groups.now ≡ None)
+        (λ v. (v.items ≡ map (part_of network.now) groups.now) × (list_all (λ g. g.known) groups.now ≡ true))) }
+{
+    let mut parts = Vec::with_capacity(alloc, groups.len())?;
+    for group in groups {
+        match part(network, *group) {
+            None => return Ok(None),
+            Some(part) => parts.push(part)?,
+        }
+    }
+    Ok(Some(parts))
+}
+
+/// The parts of the groups; none where nothing bounds them.
+fn parts_of(
+    alloc: Global,
+    network: &Network,
+    groups: &[Group],
+) -> Result<Option<Vec<Part>>, AllocError>
+    requires { All (IsOfNetwork network.now) groups.now }
+    ensures { IfOk result (λ found. option_map (λ v. v.items) found ≡ parts_in network.now groups.now) }
+{
+    match all_parts(alloc, network, groups)? {
+        None => Ok(None),
+        Some(parts) => {
+            if are_within(&parts) {
+                Ok(Some(parts))
+            } else {
+                Ok(None)
+            }
+        }
+    }
+}
+
+/// What arrives at queue q of a port.
+fn arrivals(
+    alloc: Global,
+    network: &Network,
+    plan: &Plan,
+    lines: &[Option<Line>],
+    port: usize,
+    q: usize,
+) -> Result<Arrivals, AllocError>
+    requires network { IsNetwork network.now }
+    requires plan { IsPlanOf network.now plan.now }
+    requires lines { length lines.now ≡ length plan.now.spots.items }
+    requires port { port < length network.now.ports.items }
+    ensures { IfOk result (λ a. incoming_of a ≡ incoming_at network.now (spots_of network.now) (λ n. line_at lines.now n) port q) }
+{
+    let groups = groups_of(alloc, &plan.spots, &plan.at[port], lines, q)?;
+    let parts = parts_of(alloc, network, &groups)?;
+    Ok(Arrivals {
+        parts,
+        longest: longest_in(&groups),
+    })
+}
+
+/// What arrives at each of so many queues of a port.
+pub(crate) fn arrivals_at(
+    alloc: Global,
+    network: &Network,
+    plan: &Plan,
+    lines: &[Option<Line>],
+    port: usize,
+    count: usize,
+) -> Result<Vec<Arrivals>, AllocError>
+    requires network { IsNetwork network.now }
+    requires plan { IsPlanOf network.now plan.now }
+    requires lines { length lines.now ≡ length plan.now.spots.items }
+    requires port { port < length network.now.ports.items }
+    ensures { IfOk result (λ v. incoming v.items ≡ incomings_at network.now (spots_of network.now) (λ n. line_at lines.now n) port count) }
+{
+    let mut queues = Vec::with_capacity(alloc, count)?;
+    for q in 0..count {
+        queues.push(arrivals(alloc, network, plan, lines, port, q)?)?;
+    }
+    Ok(queues)
+}
