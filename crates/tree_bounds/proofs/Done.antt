@@ -59,9 +59,9 @@ groups_same spots line later s q zero h = refl
 groups_same spots line later s q (suc k) h =
     ap (λ l. l ++ group_list spots line k (spots_in_group spots s q k)) (groups_same spots line later s q k h)
     ∙ ap (λ l. groups_at spots later s q k ++ l) (list_same spots line later k (spots_in_group spots s q k)
-      (those_pass (λ n. line n ≡ later n) (is_in_group spots s q k) (length spots)
-        (λ n lt e. h n lt (of_eq (spot_at spots n).port s
-          (of_both ((spot_at spots n).source == k) ((spot_at spots n).port == s) (of_both (is_between spots k s n) ((spot_at spots n).queue == q) e).0).1))))
+    (those_pass (λ n. line n ≡ later n) (is_in_group spots s q k) (length spots)
+    (λ n lt e. h n lt (of_eq (spot_at spots n).port s
+    (of_both ((spot_at spots n).source == k) ((spot_at spots n).port == s) (of_both (is_between spots k s n) ((spot_at spots n).queue == q) e).0).1))))
 
 pub incomings_same : (net : Network) (spots : List Spot) (line later : ℕ → Option Line) (s q : ℕ)
     → ((n : ℕ) → n < length spots → (spot_at spots n).port ≡ s → line n ≡ later n) → incomings_at net spots line s q ≡ incomings_at net spots later s q
@@ -155,7 +155,7 @@ pub one_done : (net : Network) (order : List ℕ) (k p : ℕ) (rows : List (List
     → AreSpots net (spots_of net) → IsOrderOf (spots_of net) (length net.ports.items) order → k < length net.ports.items → p ≡ get_or order k 0
     → AreRows (port_at net p) (arrivals_of net (λ n. line_at old n) p) found
     → ArePassedOn (spots_of net) (those (is_from (spots_of net) (p + 1)) (length (spots_of net))) found
-      (length (those (is_from (spots_of net) (p + 1)) (length (spots_of net)))) old new
+    (length (those (is_from (spots_of net) (p + 1)) (length (spots_of net)))) old new
     → AreDone net order k rows old → AreDone net order (k + 1) (set rows p found) new
 one_done net order k p rows old new found w o h is found_rows passed d = record {
   ports = length-set rows p found ∙ d.ports;
@@ -184,7 +184,7 @@ one_done net order k p rows old new found w o h is found_rows passed d = record 
     same_at i lt =
         incomings_same net (spots_of net) (λ n. line_at old n) (λ n. line_at new n) (get_or order i 0) (queues_of (port_at net (get_or order i 0)).discipline)
         (λ n ln at. sym (stays (spots_of net) p found old new n
-          (λ from. let later = is_later n i ln (omega (arith, lt, h)) at from in omega (arith, later, lt)) passed))
+        (λ from. let later = is_later n i ln (omega (arith, lt, h)) at from in omega (arith, later, lt)) passed))
 
     -- and so do the rows
     same_rows : (i : ℕ) → i < k → get_or (set rows p found) (get_or order i 0) [] ≡ get_or rows (get_or order i 0) []
@@ -195,13 +195,13 @@ one_done net order k p rows old new found w o h is found_rows passed d = record 
 
     goes_on : (n i : ℕ) → n < length (spots_of net) → i < k + 1 → (spot_at (spots_of net) n).source ≡ suc (get_or order i 0)
         → line_at new n ≡ later_line (line_at new (spot_at (spots_of net) n).from)
-          (row_at (set rows p found) (get_or order i 0) (spot_at (spots_of net) (spot_at (spots_of net) n).from).queue)
+        (row_at (set rows p found) (get_or order i 0) (spot_at (spots_of net) (spot_at (spots_of net) n).from).queue)
     goes_on n i lt li e =
         let c = came net (spots_of net) n (get_or order i 0) w lt e in
         let m = (spot_at (spots_of net) n).from in
         let q = (spot_at (spots_of net) m).queue in
         let before = stays (spots_of net) p found old new m
-            (λ from. let later = is_later m i (omega (arith, lt, c.0)) (omega (arith, li, h)) c.1 from in omega (arith, later, li)) passed in
+        (λ from. let later = is_later m i (omega (arith, lt, c.0)) (omega (arith, li, h)) c.1 from in omega (arith, later, li)) passed in
         elim (cases_eq i k) [
           | inl last ↦
               let here : get_or order i 0 ≡ p = ap (λ j. get_or order j 0) last ∙ sym is in
@@ -221,17 +221,17 @@ one_done net order k p rows old new found w o h is found_rows passed d = record 
     rows_each i li =
         let A : List Incoming → Type 0 = λ xs. AreRows (port_at net (get_or order i 0)) xs (get_or (set rows p found) (get_or order i 0) []) in
         subst A (same_at i li) (
-          elim (cases_eq i k) [
-            | inl last ↦
-                let here : get_or order i 0 ≡ p = ap (λ j. get_or order j 0) last ∙ sym is in
-                let R : List (Option Queue) → Type 0 = λ r. AreRows (port_at net p) (arrivals_of net (λ n. line_at old n) p) r in
-                let S : ℕ → Type 0 = λ s. AreRows (port_at net s) (arrivals_of net (λ n. line_at old n) s) (get_or (set rows p found) s []) in
-                subst S (sym here) (subst R (sym its_rows) found_rows)
-            | inr other ↦
-                let early : i < k = omega (arith, li, other) in
-                let R : List (Option Queue) → Type 0 = λ r. AreRows (port_at net (get_or order i 0)) (arrivals_of net (λ n. line_at old n) (get_or order i 0)) r in
-                subst R (sym (same_rows i early)) (d.rows_each i early)
-          ])
+        elim (cases_eq i k) [
+          | inl last ↦
+              let here : get_or order i 0 ≡ p = ap (λ j. get_or order j 0) last ∙ sym is in
+              let R : List (Option Queue) → Type 0 = λ r. AreRows (port_at net p) (arrivals_of net (λ n. line_at old n) p) r in
+              let S : ℕ → Type 0 = λ s. AreRows (port_at net s) (arrivals_of net (λ n. line_at old n) s) (get_or (set rows p found) s []) in
+              subst S (sym here) (subst R (sym its_rows) found_rows)
+          | inr other ↦
+              let early : i < k = omega (arith, li, other) in
+              let R : List (Option Queue) → Type 0 = λ r. AreRows (port_at net (get_or order i 0)) (arrivals_of net (λ n. line_at old n) (get_or order i 0)) r in
+              subst R (sym (same_rows i early)) (d.rows_each i early)
+        ])
 
 -- ---- all ports
 pub all_done : (net : Network) (order : List ℕ) (rows : List (List (Option Queue))) (lines : List (Option Line)) → AreSpots net (spots_of net)

@@ -105,7 +105,7 @@ add_one spots line k n groups [] b e =
 add_one spots line k n groups (m ∷ numbers) b e =
     let hit = eq_true k (spot_at spots n).source (sym e) in
     let last : last_with (group_of spots line k (m ∷ numbers)) (group_of_spot (spot_at spots n) (line n))
-        ≡ both_groups (group_of spots line k (m ∷ numbers)) (group_of_spot (spot_at spots n) (line n)) ∷ [] = rw hit refl in
+    ≡ both_groups (group_of spots line k (m ∷ numbers)) (group_of_spot (spot_at spots n) (line n)) ∷ [] = rw hit refl in
     with_last groups (group_of spots line k (m ∷ numbers)) (group_of_spot (spot_at spots n) (line n))
     ∙ ap (λ l. groups ++ l) (last ∙ ap (λ g. g ∷ []) (group_push spots line k (m ∷ numbers) n))
 
@@ -118,12 +118,12 @@ block spots line s q k groups b (suc n) = by_place (block spots line s q k group
   where
     by_queue : is_between spots k s n ≡ true → (c : Bool) → ((spot_at spots n).queue == q) ≡ c
         → with_spot spots line q (groups ++ group_list spots line k (those (is_in_group spots s q k) n)) n
-          ≡ groups ++ group_list spots line k (those (is_in_group spots s q k) (suc n))
+        ≡ groups ++ group_list spots line k (those (is_in_group spots s q k) (suc n))
     by_queue here true e =
         let both : is_in_group spots s q k n ≡ true = rw (here, e) refl in
         let from = of_eq (spot_at spots n).source k (of_both ((spot_at spots n).source == k) ((spot_at spots n).port == s) here).0 in
         rw e (add_one spots line k n groups (those (is_in_group spots s q k) n) b from
-          ∙ ap (λ l. groups ++ group_list spots line k l) (sym (those_yes (is_in_group spots s q k) n both)))
+        ∙ ap (λ l. groups ++ group_list spots line k l) (sym (those_yes (is_in_group spots s q k) n both)))
     by_queue here false e =
         let none : is_in_group spots s q k n ≡ false = rw (here, e) refl in
         rw e (ap (λ l. groups ++ group_list spots line k l) (sym (those_no (is_in_group spots s q k) n none)))

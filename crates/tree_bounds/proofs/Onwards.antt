@@ -89,7 +89,7 @@ one_passed spots numbers rows queues k old now line can h is a = record {
         elim (cases_eq (get_or numbers i 0) (get_or numbers k 0)) [
           | inl same ↦
               let P : ℕ → Type 0 = λ m. line_at (set now (get_or numbers k 0) line) m
-                  ≡ later_line (line_at old (spot_at spots m).from) (get_or rows (spot_at spots (spot_at spots m).from).queue None) in
+              ≡ later_line (line_at old (spot_at spots m).from) (get_or rows (spot_at spots (spot_at spots m).from).queue None) in
               subst P (sym same) (get_or-set_same now (get_or numbers k 0) line None inside ∙ is
               ∙ ap (λ l. later_line l (get_or rows (spot_at spots (spot_at spots (get_or numbers k 0)).from).queue None)) (before k h))
           | inr other ↦

@@ -38,7 +38,7 @@ burst_in_sum net (g ∷ groups) zero d h =
     let le = burst_le record { burst = g.burst; rate = g.rate } (pace_line net g.longest g.source) in
     let both = sum_by-cons most_burst (part_of net g) (map (part_of net) groups) in
     omega (arith, le, both)
-burst_in_sum net (g ∷ groups) (suc i) d h = 
+burst_in_sum net (g ∷ groups) (suc i) d h =
     let rest = burst_in_sum net groups i d (omega (arith, h)) in
     let both = sum_by-cons most_burst (part_of net g) (map (part_of net) groups) in
     omega (arith, rest, both)
@@ -49,7 +49,7 @@ rate_in_sum net (g ∷ groups) zero d h =
     let le = rate_le record { burst = g.burst; rate = g.rate } (pace_line net g.longest g.source) in
     let both = sum_by-cons most_rate (part_of net g) (map (part_of net) groups) in
     omega (arith, le, both)
-rate_in_sum net (g ∷ groups) (suc i) d h = 
+rate_in_sum net (g ∷ groups) (suc i) d h =
     let rest = rate_in_sum net groups i d (omega (arith, h)) in
     let both = sum_by-cons most_rate (part_of net g) (map (part_of net) groups) in
     omega (arith, rest, both)

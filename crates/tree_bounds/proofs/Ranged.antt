@@ -47,8 +47,8 @@ of_network net spots line s q (suc k) a h =
     All-append (IsOfNetwork net) (groups_at spots line s q k) (group_list spots line k (spots_in_group spots s q k))
     (of_network net spots line s q k a (omega (arith, h)))
     (list_of_network net spots line k (spots_in_group spots s q k) (omega (arith, h))
-      (longest_le spots longest_frame (spots_in_group spots s q k)
-        (those_pass (λ n. (spot_at spots n).frame ≤ longest_frame) (is_in_group spots s q k) (length spots) (λ n lt e. (a.each n lt).frame))))
+    (longest_le spots longest_frame (spots_in_group spots s q k)
+    (those_pass (λ n. (spot_at spots n).frame ≤ longest_frame) (is_in_group spots s q k) (length spots) (λ n lt e. (a.each n lt).frame))))
 
 pub longest_in_range : (net : Network) (groups : List Group) → All (IsOfNetwork net) groups → longest_group groups ≤ longest_frame
 unfolding longest_group
@@ -110,9 +110,9 @@ all_bounded net spots line s P (suc q) h =
 pub in_range : (net : Network) (spots : List Spot) (line : ℕ → Option Line) (s q : ℕ) → AreSpots net spots → q ≤ 8 → AreInRange (incomings_at net spots line s q)
 in_range net spots line s q a h =
     let bursts = sum_bounded net spots line s (λ queue. sum_of most_burst queue.parts) (2 ^ 58 - 1) q
-        (λ i. let e = (parts_small net (groups_at spots line s i (length net.ports.items + 1))).0 in omega (arith, e)) in
+    (λ i. let e = (parts_small net (groups_at spots line s i (length net.ports.items + 1))).0 in omega (arith, e)) in
     let rates = sum_bounded net spots line s (λ queue. sum_of most_rate queue.parts) (2 ^ 61 - 1) q
-        (λ i. let e = (parts_small net (groups_at spots line s i (length net.ports.items + 1))).1 in omega (arith, e)) in
+    (λ i. let e = (parts_small net (groups_at spots line s i (length net.ports.items + 1))).1 in omega (arith, e)) in
     record {
       few = let e = incomings_length net spots line s q in omega (arith, e, h);
       longest = all_bounded net spots line s (λ queue. queue.longest ≤ longest_frame) q

@@ -37,5 +37,5 @@ pub record AreDone (net : Network) (order : List ℕ) (k : ℕ) (rows : List (Li
       → line_at lines n ≡ first_line_of (slice_get net.links.items (spot_at (spots_of net) n).link)
   pub goes_on : (n i : ℕ) → n < length (spots_of net) → i < k → (spot_at (spots_of net) n).source ≡ suc (get_or order i 0)
       → line_at lines n ≡ later_line (line_at lines (spot_at (spots_of net) n).from)
-        (row_at rows (get_or order i 0) (spot_at (spots_of net) (spot_at (spots_of net) n).from).queue)
+      (row_at rows (get_or order i 0) (spot_at (spots_of net) (spot_at (spots_of net) n).from).queue)
   pub rows_each : (i : ℕ) → i < k → AreRows (port_at net (get_or order i 0)) (arrivals_of net (λ n. line_at lines n) (get_or order i 0)) (get_or rows (get_or order i 0) [])

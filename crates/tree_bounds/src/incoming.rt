@@ -1,6 +1,6 @@
 //! What arrives at the queues of a port.
 
-ghost use Rattle.std.specs.Prelude.{◌≡◌, ◌<◌, ◌≤◌, ◌+◌, ℕ, None, true, All, length, map, IfOk, MatchOption};
+ghost use Rattle.std.specs.Prelude.{◌≡◌, ◌<◌, ◌≤◌, ◌+◌, ◌^◌, None, true, All, length, map, IfOk, MatchOption};
 ghost use Rattle.std.specs.List.{list_all};
 ghost use Rattle.std.specs.Option.{option_map};
 ghost use Rattle.tree_network.specs.Networks.{IsNetwork, longest_frame};
@@ -68,12 +68,21 @@ fn part(network: &Network, group: Group) -> Option<Part>
 fn greater_of(part: Part) -> (u64, u64)
     ensures burst { result.0 ≡ most_burst part }
     ensures rate { result.1 ≡ most_rate part }
+    ensures small { (result.0 < 2 ^ 64) × (result.1 < 2 ^ 64) }
 {
     match part.pace {
         None => (part.sum.burst, part.sum.rate),
         Some(pace) => (
-            if part.sum.burst < pace.burst { pace.burst } else { part.sum.burst },
-            if part.sum.rate < pace.rate { pace.rate } else { part.sum.rate },
+            if part.sum.burst < pace.burst {
+                pace.burst
+            } else {
+                part.sum.burst
+            },
+            if part.sum.rate < pace.rate {
+                pace.rate
+            } else {
+                part.sum.rate
+            },
         ),
     }
 }

@@ -2,10 +2,10 @@
 
 use super::*;
 use arrival_lines::Queue;
-use tree_order::Fault;
-use tree_network::{Discipline, Gate, Link, Network, Node, Port};
 use std::alloc::{AllocError, Global};
 use std::test::Fail;
+use tree_network::{Discipline, Gate, Link, Network, Node, Port};
+use tree_order::Fault;
 
 const RATE: u64 = 1_000_000_000_000;
 
@@ -65,7 +65,10 @@ fn parts_cross_behind_a_fork(rt: HostRuntime) -> Result<(), Fail> {
             assert_eq!(rt; table.rows[3].as_slice(), [row(1_024_000, 1200)].as_slice());
             let a = [Some(1_024_000), Some(2_622_578), Some(2_048_000)];
             assert_eq!(rt; table.bounds[0].as_slice(), a.as_slice());
-            assert_eq!(rt; table.bounds[1].as_slice(), [Some(512_000), Some(2_110_578)].as_slice());
+            assert_eq!(rt;
+                table.bounds[1].as_slice(),
+                [Some(512_000), Some(2_110_578)].as_slice()
+            );
         }
     }
     Ok(())

@@ -24,5 +24,5 @@ returns c =
     let numbers = c.deref-2.ensures.value ∙ sym (list_of plan.sources.items k c.index.result.now c.requires.inside c.index.ensures) ∙ c.requires.sources.each k c.requires.inside in
     let N : List ℕ → Type 0 = λ ns. ArePassedOn c.deref.result.now ns c.args.rows.now (length ns) c.args.lines.now.items c.pass_on.new.lines.items in
     let S : List Spot → Type 0 = λ s. ArePassedOn s (those (is_from spots k) (length spots)) c.args.rows.now (length (those (is_from spots k) (length spots)))
-        c.args.lines.now.items c.pass_on.new.lines.items in
+    c.args.lines.now.items c.pass_on.new.lines.items in
     subst S c.deref.ensures.value (subst N numbers c.pass_on.ensures)

@@ -30,22 +30,22 @@ pub port_rows-requires-clause-range : goal.port_rows-requires-clause-range
 port_rows-requires-clause-range c =
     let net = c.args.network.now in
     let P : Port → Type 0 = λ p. PortIsInRange p in
-    let its = subst P (sym c.index.ensures) (c.requires.network.ports c.args.port c.index.result.now c.requires.port) in
+    let its = subst P (sym c.index-at.ensures) (c.requires.network.ports c.args.port c.index-at.result.now c.requires.port) in
     let R : List Incoming → Type 0 = λ xs. AreInRange xs in
     subst R (sym (ap incoming c.deref.ensures.value ∙ c.in_ok-queues.ensures))
     (ranged.in_range net (spots_of net) (λ n. line_at c.args.lines.now n) c.args.port c.queue_count-count.result (in_range net c.requires.network)
-      (omega (arith, its.queues, c.queue_count-count.ensures)))
+    (omega (arith, its.queues, c.queue_count-count.ensures)))
 
 pub returns : goal.returns
 returns c =
     let net = c.args.network.now in
     let line = λ (n : ℕ). line_at c.args.lines.now n in
-    let port = c.index.ensures ∙ get_or_default net.ports.items c.args.port c.index.result.now no_port c.requires.port in
+    let port = c.index-at.ensures ∙ get_or_default net.ports.items c.args.port c.index-at.result.now no_port c.requires.port in
     let count = c.queue_count-count.ensures ∙ ap (λ (p : Port). queues_of p.discipline) port in
     let are = ap incoming c.deref.ensures.value ∙ c.in_ok-queues.ensures ∙ ap (incomings_at net (spots_of net) line c.args.port) count in
     IfOk-weaker c.port_rows.result _ _
     (λ v rows.
-      let P : Port → Type 0 = λ p. AreRows p (incoming c.deref.result.now) v.items in
-      let Q : List Incoming → Type 0 = λ xs. AreRows (port_at net c.args.port) xs v.items in
-      subst Q are (subst P port rows))
+    let P : Port → Type 0 = λ p. AreRows p (incoming c.deref.result.now) v.items in
+    let Q : List Incoming → Type 0 = λ xs. AreRows (port_at net c.args.port) xs v.items in
+    subst Q are (subst P port rows))
     c.port_rows.ensures

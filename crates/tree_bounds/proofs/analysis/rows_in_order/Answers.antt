@@ -78,11 +78,11 @@ hand_on-requires-clause-can c =
     let is = ap (λ (l : List ℕ). get_or l k 0) same in
     let rows = c.in_ok-found.ensures in
     let queues = ap length c.as_slice-these.ensures.value ∙ rows.count
-        ∙ incomings_length net (spots_of net) (λ n. line_at c.as_slice-known.result.now n) p (queues_of (port_at net p).discipline) in
+    ∙ incomings_length net (spots_of net) (λ n. line_at c.as_slice-known.result.now n) p (queues_of (port_at net p).discipline) in
     let S : List Spot → Type 0 = λ s. CanBePassedOn s (those (is_from s (p + 1)) (length s)) (length c.as_slice-these.result.now) (length c.loop-port.lines.items) in
     subst S (sym c.requires.plan.spots)
     (can_pass net order k p (length c.as_slice-these.result.now) (length c.loop-port.lines.items) (in_range net c.requires.network) o
-      (omega (arith, c.loop-port-test.true, inside, o.count)) is queues d.lines_each)
+    (omega (arith, c.loop-port-test.true, inside, o.count)) is queues d.lines_each)
 
 pub loop-port-preserved : goal.loop-port-preserved
 loop-port-preserved c =
@@ -101,12 +101,12 @@ loop-port-preserved c =
     let rows = subst A c.as_slice-known.ensures.value c.in_ok-found.ensures in
     let T : List Spot → Type 0 = λ s. ArePassedOn s (those (is_from s (p + 1)) (length s)) c.as_slice-these.result.now (length (those (is_from s (p + 1)) (length s))) old new in
     let F : List (Option Queue) → Type 0 = λ r. ArePassedOn (spots_of net) (those (is_from (spots_of net) (p + 1)) (length (spots_of net))) r
-        (length (those (is_from (spots_of net) (p + 1)) (length (spots_of net)))) old new in
+    (length (those (is_from (spots_of net) (p + 1)) (length (spots_of net)))) old new in
     let passed = subst F c.as_slice-these.ensures.value (subst T c.requires.plan.spots c.hand_on.ensures) in
     let D : List (List (Option Queue)) → Type 0 = λ rs. AreDone net order (k + 1) rs new in
     subst D (sym (map-set (λ v. v.items) c.loop-port.rows.items p found))
     (one_done net order k p (items_of c.loop-port.rows.items) old new found.items (in_range net c.requires.network) o (omega (arith, c.loop-port-test.true, inside, o.count)) is rows passed
-      c.loop-port.invariant)
+    c.loop-port.invariant)
 
 pub returns : goal.returns
 returns c =

@@ -32,10 +32,10 @@ loop-link-preserved c =
     let is = slice_get_read net.links.items (length net.links.items) k item refl inside (c.link-item.is ∙ ap (λ (ls : List Link). get_or ls k item) same) in
     let new = c.in_ok-link_bounds.field-0 in
     let one = λ (link : Link) (e : slice_get net.links.items k ≡ Some link).
-        let B : Link → Type 0 = λ l. AreBounds net row l new.items in
-        let f : Some item ≡ Some link = sym is ∙ e in
-        let g : item ≡ link = cc in
-        subst B g c.in_ok-link_bounds.ensures in
+    let B : Link → Type 0 = λ l. AreBounds net row l new.items in
+    let f : Some item ≡ Some link = sym is ∙ e in
+    let g : item ≡ link = cc in
+    subst B g c.in_ok-link_bounds.ensures in
     let P : List (List (Option ℕ)) → Type 0 = λ bs. HaveBounds net row (k + 1) bs in
     subst P (sym (ap items_of c.in_ok-push.ensures.items ∙ map-append (λ v. v.items) c.loop-link.bounds.items (new ∷ [])))
     (link_more net row k (items_of c.loop-link.bounds.items) new.items one c.loop-link.invariant)

@@ -29,12 +29,12 @@ loop-node-preserved c =
     let before = c.bound_before-before.ensures ∙ ap (λ (b : List (Option ℕ)). time_before b node.from) c.deref.ensures.value in
     let port = c.index.ensures ∙ get_or_default net.ports.items node.port c.index.result.now no_port (omega (arith, here, lt)) in
     let is = c.bound_after.ensures.sum
-        ∙ ap (λ (b : Option ℕ). time_after b c.row_of-row.result c.index.result.now.link) before
-        ∙ ap (λ (r : Option Queue). time_after (time_before bounds node.from) r c.index.result.now.link) c.row_of-row.ensures
-        ∙ ap (λ (p : Port). time_after (time_before bounds node.from) (row node.port node.queue) p.link) port
-        ∙ ap (λ (n : Node). time_after (time_before bounds n.from) (row n.port n.queue) (port_at net n.port).link) is_node in
+    ∙ ap (λ (b : Option ℕ). time_after b c.row_of-row.result c.index.result.now.link) before
+    ∙ ap (λ (r : Option Queue). time_after (time_before bounds node.from) r c.index.result.now.link) c.row_of-row.ensures
+    ∙ ap (λ (p : Port). time_after (time_before bounds node.from) (row node.port node.queue) p.link) port
+    ∙ ap (λ (n : Node). time_after (time_before bounds n.from) (row n.port n.queue) (port_at net n.port).link) is_node in
     let F : Option ℕ → Type 0 = λ b. IfSome b (λ x. x ≤ k * 2 ^ 65) in
     let small = c.bound_after.ensures.small (k * 2 ^ 65)
-        (subst F (sym before) (before_few net row link k bounds node.from c.loop-node.invariant (subst H (sym is_node) its.hangs))) in
+    (subst F (sym before) (before_few net row link k bounds node.from c.loop-node.invariant (subst H (sym is_node) its.hangs))) in
     let P : List (Option ℕ) → Type 0 = λ bs. BoundsBelow net row link (k + 1) bs in
     subst P (sym c.in_ok-push.ensures.items) (bound_more net row link k bounds c.bound_after.result hangs is small c.loop-node.invariant)

@@ -24,8 +24,8 @@ groups_of-requires-clause-inside c =
     let plan = c.args.plan.now in
     let count = length-map plan.at.items (λ v. v.items) in
     let numbers = c.deref-2.ensures.value
-        ∙ sym (list_of plan.at.items c.args.port c.index.result.now (omega (arith, count, c.requires.plan.at.count, c.requires.port)) c.index.ensures)
-        ∙ c.requires.plan.at.each c.args.port c.requires.port in
+    ∙ sym (list_of plan.at.items c.args.port c.index.result.now (omega (arith, count, c.requires.plan.at.count, c.requires.port)) c.index.ensures)
+    ∙ c.requires.plan.at.each c.args.port c.requires.port in
     let P : List ℕ → Type 0 = λ xs. All (λ n. n < length c.deref.result.now) xs in
     let same = ap length (c.deref.ensures.value ∙ c.requires.plan.spots) in
     subst P (sym numbers) (port_pass (λ n. n < length c.deref.result.now) spots c.args.port (length net.ports.items + 1) (λ n h e. omega (arith, h, same)))
@@ -42,10 +42,10 @@ parts_of-requires c =
     let all = length net.ports.items + 1 in
     let count = length-map plan.at.items (λ v. v.items) in
     let numbers = c.deref-2.ensures.value
-        ∙ sym (list_of plan.at.items c.args.port c.index.result.now (omega (arith, count, c.requires.plan.at.count, c.requires.port)) c.index.ensures)
-        ∙ c.requires.plan.at.each c.args.port c.requires.port in
+    ∙ sym (list_of plan.at.items c.args.port c.index.result.now (omega (arith, count, c.requires.plan.at.count, c.requires.port)) c.index.ensures)
+    ∙ c.requires.plan.at.each c.args.port c.requires.port in
     let are = c.deref-3.ensures.value ∙ c.in_ok-groups.ensures ∙ ap (λ (s : List Spot). grouped s line c.args.q c.deref-2.result.now) (c.deref.ensures.value ∙ c.requires.plan.spots)
-        ∙ ap (grouped spots line c.args.q) numbers ∙ grouped_at spots line c.args.port c.args.q all in
+    ∙ ap (grouped spots line c.args.q) numbers ∙ grouped_at spots line c.args.port c.args.q all in
     let P : List Group → Type 0 = λ gs. All (IsOfNetwork net) gs in
     subst P (sym are) (of_network net spots line c.args.port c.args.q all (in_range net c.requires.network) (omega arith))
 
@@ -58,10 +58,10 @@ returns c =
     let all = length net.ports.items + 1 in
     let count = length-map plan.at.items (λ v. v.items) in
     let numbers = c.deref-2.ensures.value
-        ∙ sym (list_of plan.at.items c.args.port c.index.result.now (omega (arith, count, c.requires.plan.at.count, c.requires.port)) c.index.ensures)
-        ∙ c.requires.plan.at.each c.args.port c.requires.port in
+    ∙ sym (list_of plan.at.items c.args.port c.index.result.now (omega (arith, count, c.requires.plan.at.count, c.requires.port)) c.index.ensures)
+    ∙ c.requires.plan.at.each c.args.port c.requires.port in
     let are = c.in_ok-groups.ensures ∙ ap (λ (s : List Spot). grouped s line c.args.q c.deref-2.result.now) (c.deref.ensures.value ∙ c.requires.plan.spots)
-        ∙ ap (grouped spots line c.args.q) numbers ∙ grouped_at spots line c.args.port c.args.q all in
+    ∙ ap (grouped spots line c.args.q) numbers ∙ grouped_at spots line c.args.port c.args.q all in
     same_incoming _ _ _ _
     (c.in_ok-parts.ensures ∙ ap (parts_in net) (c.deref-3.ensures.value ∙ are))
     (c.longest_in.ensures ∙ ap longest_group (c.deref-4.ensures.value ∙ are))
