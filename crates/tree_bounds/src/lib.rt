@@ -8,6 +8,3 @@ mod incoming;
 mod onward;
 
 pub use analysis::{Table, bounds_of};
-
-#[cfg(test)]
-mod tests;
