@@ -1,2 +1,0 @@
-pub mod TreesOf
-pub mod Forward
