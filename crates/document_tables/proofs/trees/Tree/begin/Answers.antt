@@ -1,0 +1,23 @@
+use Rattle.std.specs.Prelude.{nat_eq}
+use Rattle.std.proofs.Common.{◌≡◌, ◌++◌, ◌∷◌, [], None, Some, Err, sym, ap, subst, ◌∙◌}
+use Rattle.std.proofs.lemmas.Bool.{ne_eqb}
+use Rattle.indexmap.specs.IndexMap.{get}
+use Rattle.document_rows.specs.declared.fault.Column.TheVariants.{Path}
+use Rattle.document_rows.specs.Reads.{at}
+use Rattle.document_tables.specs.Growing.{Grows}
+use Rattle.document_tables.specs.Trees.{hangs}
+use Rattle.document_tables.proofs.TreeSteps.{begin_same, begin_new, begin_other}
+use Rattle.document_tables.proofs.trees.Tree.begin.Goals as goal
+
+pub returns-then-root-port : goal.returns-then-root-port
+returns-then-root-port c =
+    λ paths k. begin_same paths (get nat_eq c.args.self.now.after) c.args.self.now.root 0 c.args.port k (c.in-Some.is ∙ ap Some c.if-root-port.true)
+
+pub returns-else-root-port : goal.returns-else-root-port
+returns-else-root-port c =
+    λ paths k. subst (λ e. Grows (Err e) (hangs paths 0 None c.args.port) (Some c.args.port) (paths ++ (c.args.port ∷ []) ∷ []) c.args.self.now) (sym c.wrong_path.ensures)
+    (ap (at Path) (begin_other paths (get nat_eq c.args.self.now.after) c.args.self.now.root 0 c.args.port c.in-Some.root k c.in-Some.is (ne_eqb c.in-Some.root c.args.port c.if-root-port.false)))
+
+pub returns-in_ok-insert-in-None : goal.returns-in_ok-insert-in-None
+returns-in_ok-insert-in-None c =
+    λ paths k. begin_new paths (get nat_eq c.args.self.now.after) (get nat_eq c.insert.new.self) c.args.self.now.root 0 c.args.port k c.in-None.is c.in_ok-insert-in-None.ensures.updates.0

@@ -1,0 +1,16 @@
+//! An interface control document of two tables, ports and links: the network that it means, or its first fault.
+#![tactic(auto)]
+
+mod document;
+mod fault;
+mod grid;
+mod links;
+mod names;
+mod paths;
+mod ports;
+mod trees;
+
+pub use document::{Document, read_document};
+pub use fault::{DocumentError, LineError, LineFault, TableFile};
+pub use links::{Branch, LinkKeys, LinkTable, read_links};
+pub use ports::{PortTable, read_ports};

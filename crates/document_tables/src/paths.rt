@@ -1,0 +1,123 @@
+//! The ports of a path.
+
+ghost use Rattle.std.specs.Prelude.{◌≡◌, ◌==◌, false, map, IfOk};
+ghost use Rattle.std.specs.List.{list_any};
+ghost use Rattle.std.specs.String.{string_bytes};
+ghost use Rattle.document_rows.specs.declared.fault.Column.TheVariants as column;
+ghost use Rattle.document_rows.specs.Disciplines.{discipline_view};
+ghost use Rattle.document_rows.specs.Reads.{Tells, at};
+ghost use Rattle.document_tables.specs.Paths as spec;
+ghost use Rattle.document_tables.specs.Growing.{HasOwnPorts};
+ghost use Rattle.document_tables.specs.Ports.{ports_view};
+
+use crate::names::number_of;
+use crate::ports::PortTable;
+use document_rows::{CellFault, Column, RowError, Wrong};
+use std::alloc::Global;
+use table_cells::{is_name, name_text, word_at};
+use tree_network::Discipline;
+
+/// The queue of a link of a priority: the only one, or that of the priority.
+pub(crate) fn queue_at(discipline: &Discipline, priority: usize) -> usize
+    ensures { result ≡ spec.queue_at (discipline_view discipline.now) priority }
+{
+    if discipline.queue_count() == 1 {
+        0
+    } else {
+        priority
+    }
+}
+
+// Whether a frame is longer than the quantum of its queue.
+fn passes_quantum(discipline: &Discipline, queue: usize, frame: u64) -> bool
+    ensures { result ≡ spec.passes_quantum (discipline_view discipline.now) queue frame }
+{
+    match discipline {
+        Discipline::Drr(quanta) => match quanta.get(queue) {
+            Some(quantum) => *quantum < frame,
+            None => false,
+        },
+        _ => false,
+    }
+}
+
+// Looks whether a port takes frames: it is the one at a place of a path, counted from 1.
+fn takes(
+    place: usize,
+    discipline: &Discipline,
+    priority: usize,
+    frame: u64,
+    number: usize,
+) -> Result<usize, Wrong>
+    ensures value { result ≡ spec.takes place (discipline_view discipline.now)
+        (spec.queue_at (discipline_view discipline.now) priority) frame number }
+    ensures same { IfOk result (λ n. n ≡ number) }
+{
+    let queue = queue_at(discipline, priority);
+    if discipline.queue_count() <= queue {
+        return Err(Wrong::NoSuchQueue(place));
+    }
+    if passes_quantum(discipline, queue, frame) {
+        return Err(Wrong::QuantumTooShort(place));
+    }
+    Ok(number)
+}
+
+// The number of the port that a word names.
+fn port_named(table: &PortTable, word: &[u8]) -> Option<usize>
+    ensures { result ≡ spec.port_named (map string_bytes table.now.names.keys) word.now }
+{
+    if !is_name(word) {
+        return None;
+    }
+    number_of(&table.names, name_text(word))
+}
+
+// The number of the port behind those before it in a path.
+fn next_port(
+    table: &PortTable,
+    priority: usize,
+    frame: u64,
+    before: &[usize],
+    word: &[u8],
+) -> Result<usize, Wrong>
+    ensures value { result ≡ spec.next_port (ports_view table.now) priority frame before.now word.now }
+    ensures own { IfOk result (λ n. list_any (λ m. m == n) before.now ≡ false) }
+{
+    let place = before.len() + 1;
+    let Some(number) = port_named(table, word) else {
+        return Err(Wrong::UnknownPort(place));
+    };
+    if before.contains(&number) {
+        return Err(Wrong::PortTwice(place));
+    }
+    match table.ports.get(number) {
+        Some(port) => takes(place, &port.discipline, priority, frame, number),
+        None => Err(Wrong::UnknownPort(place)),
+    }
+}
+
+/// The numbers of the ports of a path, of a link of a priority and a frame.
+pub(crate) fn path_ports(
+    alloc: Global,
+    table: &PortTable,
+    priority: usize,
+    frame: u64,
+    words: &[&[u8]],
+) -> Result<Vec<usize>, RowError>
+    ensures value { Tells (λ path. path.items) result
+        (at column.Path (spec.path_ports (ports_view table.now) priority frame (map (λ word. word.now) words.now))) }
+    ensures own { IfOk result (λ path. HasOwnPorts path.items) }
+{
+    let mut path = Vec::new(alloc);
+    for place in 0..words.len() {
+        match next_port(table, priority, frame, &path, word_at(words, place)) {
+            Ok(number) => path.push(number)?,
+            Err(wrong) => return Err(RowError::Cell(CellFault {
+                column: Column::Path,
+                wrong,
+            })),
+        }
+    }
+    Ok(path)
+}

@@ -1,0 +1,113 @@
+//! The tree over which a link goes.
+
+ghost use Rattle.std.specs.Prelude.{◌≡◌, ◌+◌, ◌<◌, ◌^◌, ◌==◌, ℕ, List, [], ◌∷◌, ◌++◌, length, Some, None, false};
+ghost use Rattle.std.specs.List.{list_any};
+ghost use Rattle.document_rows.specs.declared.fault.Column.TheVariants as column;
+ghost use Rattle.document_rows.specs.declared.fault.RowError.TheVariants as errors;
+ghost use Rattle.document_tables.specs.Trees as spec;
+ghost use Rattle.document_tables.specs.Growing.{Grows, HasOwnPorts};
+
+use document_rows::{CellFault, Column, RowError, Wrong};
+use indexmap::IndexMap;
+use std::alloc::Global;
+
+/// The ports of a link, each with the one after which it comes, and the one at which all paths begin. They stand in an
+/// order in which each comes after the one from which its frames come.
+#[derive(Drop)]
+pub struct Tree {
+    pub(crate) root: Option<usize>,
+    pub(crate) after: IndexMap<usize, Option<usize>>,
+}
+
+fn wrong_path(wrong: Wrong) -> RowError
+    ensures { result ≡ errors.Cell (record { column = column.Path; wrong = wrong }) }
+{
+    RowError::Cell(CellFault {
+        column: Column::Path,
+        wrong,
+    })
+}
+
+// Whether a port comes after this one.
+fn is_after(before: Option<usize>, after: usize) -> bool
+    ensures { result ≡ spec.same before (Some after) }
+{
+    match before {
+        Some(before) => before == after,
+        None => false,
+    }
+}
+
+impl Tree {
+    /// No port.
+    pub fn new(alloc: Global) -> Tree
+        ensures { spec.IsTreeOf [] result }
+    {
+        Tree {
+            root: None,
+            after: IndexMap::new(alloc),
+        }
+    }
+
+    // Puts the first port of a path into the tree.
+    fn begin(&mut self, port: usize) -> Result<(), RowError>
+        ensures { (paths : List (List ℕ)) → spec.IsTreeOf paths self.old
+            → Grows result (spec.hangs paths 0 None port) (Some port) (paths ++ (port ∷ []) ∷ []) self.new }
+    {
+        match self.root {
+            Some(root) => {
+                if root == port {
+                    Ok(())
+                } else {
+                    Err(wrong_path(Wrong::BeginsElsewhere))
+                }
+            }
+            None => {
+                self.after.insert(port, None)?;
+                self.root = Some(port);
+                Ok(())
+            }
+        }
+    }
+
+    // Puts a port behind the one before it in a path, at a place of that from 0.
+    fn step(&mut self, place: usize, after: usize, port: usize) -> Result<(), RowError>
+        requires { place + 1 < 2 ^ 64 }
+        ensures { (paths : List (List ℕ)) (path : List ℕ) → spec.IsTreeOf (paths ++ path ∷ []) self.old
+            → spec.last_of None path ≡ Some after → list_any (λ n. n == port) path ≡ false
+            → Grows result (spec.hangs paths place (Some after) port) (Some port) (paths ++ (path ++ port ∷ []) ∷ []) self.new }
+    {
+        match self.after.get(&port) {
+            Some(before) => {
+                if is_after(*before, after) {
+                    Ok(())
+                } else {
+                    Err(wrong_path(Wrong::AfterAnother(place + 1)))
+                }
+            }
+            None => {
+                self.after.insert(port, Some(after))?;
+                Ok(())
+            }
+        }
+    }
+
+    /// Puts a path into the tree.
+    pub fn grow(&mut self, path: &[usize]) -> Result<(), RowError>
+        requires some { 0 < length path.now }
+        requires own { HasOwnPorts path.now }
+        ensures { (paths : List (List ℕ)) → spec.IsTreeOf paths self.old
+            → Grows result (spec.hangs_from paths 0 None path.now) (spec.last_of None path.now) (paths ++ path.now ∷ []) self.new }
+    {
+        self.begin(path[0])?;
+        for place in 1..path.len() {
+            self.step(place, path[place - 1], path[place])?;
+        }
+        Ok(())
+    }
+
+    /// The place of a port.
+    pub fn place_of(&self, port: usize) -> Option<usize> {
+        self.after.get_index_of(&port)
+    }
+}

@@ -1,0 +1,7 @@
+//! Tests of documents of two tables, worked out by hand.
+#![tactic(auto)]
+
+#[cfg(test)]
+mod faults;
+#[cfg(test)]
+mod networks;
