@@ -2,5 +2,11 @@ pub mod Named
 pub mod Steps
 pub mod TreeFacts
 pub mod TreeSteps
+pub mod StopSteps
 pub mod PathSteps
 pub mod GrowSteps
+pub mod Reading
+pub mod AmountRanges
+pub mod CellRanges
+pub mod RowRanges
+pub mod TableRanges

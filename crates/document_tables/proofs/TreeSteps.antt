@@ -119,3 +119,11 @@ step_other paths path kept root place after port x k fresh at d =
     ⊎_elim (λ a. any_map (comes_after port x None) (comes_otherwise port (Some after) None) paths (λ e h. to_other port x (Some after) None e d h) a)
     (λ b. absurd (clash (list_any (λ n. n == port) path) (on_path port x None path b) fresh)) (any_split (comes_after port x None) paths path (k.held port x at))
     in rw there refl
+
+-- where no path begins no port is kept
+pub unbegun : (paths : List (List ℕ)) (kept : ℕ → Option (Option ℕ)) (root : Option ℕ) (port : ℕ) → AreKept paths kept root → root ≡ None → kept port ≡ None
+unbegun paths kept root port k r = by (kept port) refl
+  where
+    by : (o : Option (Option ℕ)) → kept port ≡ o → kept port ≡ None
+    by None e = e
+    by (Some x) e = let b = any_begun port x paths (k.held port x e) in absurd (some_none b.0 (sym r ∙ k.root_all b.0 b.1))

@@ -1,6 +1,11 @@
 pub mod Tables
 pub mod Ports
+pub mod Stops
 pub mod Trees
 pub mod Growing
 pub mod Paths
 pub mod Links
+pub mod Ranges
+pub mod LinkTrees
+pub mod Grids
+pub mod Documents

@@ -5,6 +5,7 @@ use Rattle.indexmap.specs.IndexMap.{get}
 use Rattle.document_rows.specs.declared.fault.Wrong.TheVariants.{BeginsElsewhere, AfterAnother}
 use Rattle.document_rows.specs.Reads.{CellRead, and_then}
 use Rattle.document_tables.specs.declared.trees.Tree.{Tree}
+use Rattle.document_tables.specs.Stops.{stops_of}
 
 -- the same port, or none at both
 abbrev pub same : Option ℕ → Option ℕ → Bool
@@ -59,5 +60,6 @@ pub record AreKept (paths : List (List ℕ)) (after : ℕ → Option (Option ℕ
   pub root_held : (r : ℕ) → root ≡ Some r → comes paths r None ≡ true
   pub root_all : (r : ℕ) → comes paths r None ≡ true → root ≡ Some r
 
-abbrev pub IsTreeOf : List (List ℕ) → Tree → Type 0
-IsTreeOf paths tree = AreKept paths (get nat_eq tree.after) tree.root
+pub record IsTreeOf (paths : List (List ℕ)) (tree : Tree) : Type 0 where
+  pub kept : AreKept paths (get nat_eq tree.after) tree.root
+  pub stops : tree.after.entries ≡ stops_of paths

@@ -1,66 +1,131 @@
 //! Documents.
 
+ghost use Rattle.std.specs.Prelude.{◌≡◌, ◌≤◌, ◌<◌, All, map, length, IfOk};
+ghost use Rattle.document_tables.specs.Documents as spec;
+ghost use Rattle.document_tables.specs.Grids as grids;
+ghost use Rattle.document_tables.specs.Links.{branch_view, links_view};
+ghost use Rattle.document_tables.specs.LinkTrees.{AreTrees};
+ghost use Rattle.document_tables.specs.Ports.{ports_view};
+ghost use Rattle.document_tables.specs.Ranges.{IsPortText, AreLinkKeys};
+ghost use Rattle.document_tables.specs.Tables.{row_view};
+ghost use Rattle.document_tables.specs.declared.fault.DocumentError.TheVariants as errors;
+
 use crate::fault::{DocumentError, LineError, TableFile};
-use crate::grid::network_of;
-use crate::links::{Branch, read_links};
-use crate::ports::read_ports;
-use csv_rows::{TableRow, read_table};
+use crate::grid::{links_on_grid, ports_on_grid};
+use crate::links::{Branch, LinkTable, read_links};
+use crate::ports::{PortTable, read_ports};
+use csv_rows::TableRow;
 use indexmap::IndexSet;
-use std::alloc::Global;
+use std::alloc::{AllocError, Global};
+use table_cells::Amount;
 use tree_network::Network;
 
-/// What a document means: its network, the names, and its branches in the order of the rows.
+/// The link of a branch, the place of its last port in the nodes of the link, and its deadline in microseconds, where it
+/// has one.
+#[derive(Debug, Clone, Copy)]
+pub struct BranchEnd {
+    pub link: usize,
+    pub node: usize,
+    pub deadline: Option<Amount>,
+}
+
+/// What a document means: its network, the names of the ports and links by their numbers, and its branches in the order of
+/// the rows.
 #[derive(Drop)]
 pub struct Document {
     pub port_names: IndexSet<String>,
     pub link_names: IndexSet<String>,
     pub network: Network,
-    pub branches: Vec<Branch>,
+    pub branches: Vec<BranchEnd>,
 }
 
-fn in_file(file: TableFile, error: LineError) -> DocumentError {
+// The fault of a table.
+fn in_file(file: TableFile, error: LineError) -> DocumentError
+    ensures { result ≡ spec.error_in file error }
+{
     match error {
         LineError::Fault(fault) => DocumentError::Fault(file, fault),
         LineError::NoMemory => DocumentError::NoMemory,
     }
 }
 
-fn rows_of(alloc: Global, text: &[u8]) -> Result<Vec<TableRow>, DocumentError> {
-    match read_table(alloc, text) {
-        Ok(rows) => Ok(rows),
-        Err(_) => Err(DocumentError::NoMemory),
+// Where a branch ends.
+fn branch_end(table: &LinkTable, branch: &Branch) -> BranchEnd
+    requires there { branch.now.link < length table.now.keys.items }
+    requires trees { AreTrees table.now }
+    ensures { spec.end_view result
+        ≡ grids.branch_on_grid (map branch_view table.now.branches.items) (branch_view branch.now) }
+{
+    BranchEnd {
+        link: branch.link,
+        node: table.trees[branch.link].place_of_last(&branch.path),
+        deadline: branch.deadline,
     }
 }
 
-/// The document of two texts, or its first fault: by rows, those of ports before those of links, and in a row by
-/// columns. A frame has `overhead` bytes on the wire beside its own.
+// Where the branches end.
+fn branch_ends(alloc: Global, table: &LinkTable) -> Result<Vec<BranchEnd>, AllocError>
+    requires trees { AreTrees table.now }
+    ensures { IfOk result (λ ends. map spec.end_view ends.items
+        ≡ map (grids.branch_on_grid (map branch_view table.now.branches.items)) (map branch_view table.now.branches.items)) }
+{
+    let mut ends = Vec::new(alloc);
+    for place in 0..table.branches.len() {
+        ends.push(branch_end(table, &table.branches[place]))?;
+    }
+    Ok(ends)
+}
+
+// The document of the two tables that are read.
+fn document_with(
+    alloc: Global,
+    ports: PortTable,
+    overhead: u64,
+    table: LinkTable,
+) -> Result<Document, AllocError>
+    requires overhead { overhead ≤ 1048576 }
+    requires ports { All IsPortText (ports_view ports).ports }
+    requires keys { All AreLinkKeys table.keys.items }
+    requires trees { AreTrees table }
+    ensures { IfOk result (λ d. spec.document_view d ≡ spec.document_with overhead (ports_view ports) (links_view table)) }
+{
+    let links = links_on_grid(alloc, &ports, overhead, &table)?;
+    let branches = branch_ends(alloc, &table)?;
+    let ports_here = ports_on_grid(alloc, ports.ports)?;
+    Ok(Document {
+        port_names: ports.names,
+        link_names: table.names,
+        network: Network {
+            ports: ports_here,
+            links,
+        },
+        branches,
+    })
+}
+
+/// The document of the rows of two tables, or its first fault: by rows, those of ports before those of links, and in a row
+/// by columns. A frame has `overhead` bytes on the wire beside its own, at most 2^20.
+#[tactic(auto, unfolding(crate::specs::Documents::document_of))]
 pub fn read_document(
     alloc: Global,
-    ports_text: &[u8],
-    links_text: &[u8],
+    port_rows: &[TableRow],
+    link_rows: &[TableRow],
     overhead: u64,
-) -> Result<Document, DocumentError> {
-    let rows = rows_of(alloc, ports_text)?;
-    let ports = match read_ports(alloc, &rows) {
+) -> Result<Document, DocumentError>
+    requires { overhead ≤ 1048576 }
+    ensures { spec.TellsDocument result
+        (spec.document_of overhead (map row_view port_rows.now) (map row_view link_rows.now)) }
+{
+    let ports = match read_ports(alloc, port_rows) {
         Ok(ports) => ports,
         Err(error) => return Err(in_file(TableFile::Ports, error)),
     };
-    let rows = rows_of(alloc, links_text)?;
-    let table = match read_links(alloc, &ports, overhead, &rows) {
+    let table = match read_links(alloc, &ports, overhead, link_rows) {
         Ok(table) => table,
         Err(error) => return Err(in_file(TableFile::Links, error)),
     };
-    let port_names = match ports.names.clone() {
-        Ok(names) => names,
-        Err(_) => return Err(DocumentError::NoMemory),
-    };
-    match network_of(alloc, ports, overhead, &table) {
-        Ok(network) => Ok(Document {
-            port_names,
-            link_names: table.names,
-            network,
-            branches: table.branches,
-        }),
+    match document_with(alloc, ports, overhead, table) {
+        Ok(document) => Ok(document),
         Err(_) => Err(DocumentError::NoMemory),
     }
 }

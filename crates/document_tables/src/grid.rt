@@ -1,12 +1,21 @@
 //! Tables on the grid of networks.
 
-use crate::links::LinkTable;
+ghost use Rattle.std.specs.Prelude.{◌≡◌, ◌≤◌, ◌<◌, All, map, length, IfOk};
+ghost use Rattle.document_rows.specs.PortRows.{port_view};
+ghost use Rattle.document_tables.specs.Grids as spec;
+ghost use Rattle.document_tables.specs.Links.{branch_view};
+ghost use Rattle.document_tables.specs.LinkTrees.{AreTrees};
+ghost use Rattle.document_tables.specs.Ports.{ports_view};
+ghost use Rattle.document_tables.specs.Ranges.{IsGate, IsPortText, AreLinkKeys};
+ghost use Rattle.document_tables.specs.Stops.{Stop};
+
+use crate::links::{LinkKeys, LinkTable};
 use crate::paths::queue_at;
 use crate::ports::PortTable;
 use crate::trees::Tree;
 use document_rows::{GateRow, PortRow, frame_on_wire};
 use std::alloc::{AllocError, Global};
-use tree_network::{Gate, Link, Network, Node, Port};
+use tree_network::{Gate, Link, Node, Port};
 
 const PICOSECONDS_IN_A_MICROSECOND: u64 = 1_000_000;
 
@@ -15,7 +24,10 @@ const PICOSECONDS_IN_A_MILLISECOND: u64 = 1_000_000_000;
 const GRAINS_A_SECOND_IN_A_MEGABIT: u64 = 1_024_000_000;
 
 // A gate on the grid: open for no longer, and no more often.
-fn gate_of(gate: GateRow) -> Gate {
+fn gate_of(gate: GateRow) -> Gate
+    requires { IsGate gate }
+    ensures { result ≡ spec.gate_on_grid gate }
+{
     Gate {
         cycle: gate.cycle.rounded_up(PICOSECONDS_IN_A_MICROSECOND),
         slot: gate.slot.rounded_down(PICOSECONDS_IN_A_MICROSECOND),
@@ -23,7 +35,10 @@ fn gate_of(gate: GateRow) -> Gate {
 }
 
 // A port on the grid: what it does rounded down, how long it takes rounded up.
-fn port_of(row: PortRow) -> Port {
+fn port_of(row: PortRow) -> Port
+    requires { IsPortText (port_view row) }
+    ensures { spec.grid_port result ≡ spec.port_on_grid (port_view row) }
+{
     let gate = match row.gate {
         Some(gate) => Some(gate_of(gate)),
         None => None,
@@ -38,11 +53,30 @@ fn port_of(row: PortRow) -> Port {
     }
 }
 
-// The place of the port after which one comes.
-fn place_after(tree: &Tree, after: Option<usize>) -> Option<usize> {
-    match after {
-        Some(port) => tree.place_of(port),
-        None => None,
+/// The ports on the grid.
+pub(crate) fn ports_on_grid(alloc: Global, rows: Vec<PortRow>) -> Result<Vec<Port>, AllocError>
+    requires { All IsPortText (map port_view rows.items) }
+    ensures { IfOk result (λ ports. map spec.grid_port ports.items ≡ map spec.port_on_grid (map port_view rows.items)) }
+{
+    let mut ports = Vec::new(alloc);
+    for row in rows {
+        ports.push(port_of(row))?;
+    }
+    Ok(ports)
+}
+
+// The node of a port of a tree, and of the one after which it comes.
+fn node_of(ports: &PortTable, priority: usize, tree: &Tree, port: usize, after: Option<usize>) -> Node
+    ensures { result ≡ spec.node_of (ports_view ports.now).ports priority tree.now.after.entries (port, after) }
+{
+    let queue = match ports.ports.get(port) {
+        Some(row) => queue_at(&row.discipline, priority),
+        None => 0,
+    };
+    Node {
+        port,
+        queue,
+        from: tree.place_after(after),
     }
 }
 
@@ -52,55 +86,60 @@ fn nodes_of(
     ports: &PortTable,
     priority: usize,
     tree: &Tree,
-) -> Result<Vec<Node>, AllocError> {
+) -> Result<Vec<Node>, AllocError>
+    ensures { IfOk result (λ nodes. nodes.items ≡ spec.nodes_of (ports_view ports.now).ports priority tree.now.after.entries) }
+{
     let mut nodes = Vec::new(alloc);
-    for (port, after) in &tree.after {
-        let queue = match ports.ports.get(*port) {
-            Some(row) => queue_at(&row.discipline, priority),
-            None => 0,
-        };
-        nodes.push(Node {
-            port: *port,
-            queue,
-            from: place_after(tree, *after),
-        })?;
+    for place in 0..tree.len() {
+        let (port, after) = tree.stop(place);
+        nodes.push(node_of(ports, priority, tree, port, after))?;
     }
     Ok(nodes)
 }
 
-// The links on the grid: what may come rounded up.
-fn links_of(
+// A link on the grid: what may come rounded up.
+fn link_of(
+    alloc: Global,
+    ports: &PortTable,
+    overhead: u64,
+    keys: LinkKeys,
+    tree: &Tree,
+) -> Result<Link, AllocError>
+    requires overhead { overhead ≤ 1048576 }
+    requires keys { AreLinkKeys keys }
+    ensures { IfOk result (λ link. spec.grid_link link
+        ≡ spec.link_on_grid (ports_view ports.now).ports overhead keys tree.now.after.entries) }
+{
+    Ok(Link {
+        frame: frame_on_wire(keys.largest_frame, overhead),
+        gap: keys.gap.rounded_down(PICOSECONDS_IN_A_MILLISECOND),
+        jitter: keys.jitter.rounded_up(PICOSECONDS_IN_A_MICROSECOND),
+        nodes: nodes_of(alloc, ports, keys.priority as usize, tree)?,
+    })
+}
+
+/// The links on the grid.
+pub(crate) fn links_on_grid(
     alloc: Global,
     ports: &PortTable,
     overhead: u64,
     table: &LinkTable,
-) -> Result<Vec<Link>, AllocError> {
+) -> Result<Vec<Link>, AllocError>
+    requires overhead { overhead ≤ 1048576 }
+    requires keys { All AreLinkKeys table.now.keys.items }
+    requires trees { AreTrees table.now }
+    ensures { IfOk result (λ links. map spec.grid_link links.items ≡ spec.links_from (ports_view ports.now).ports overhead
+        (map branch_view table.now.branches.items) 0 table.now.keys.items) }
+{
     let mut links = Vec::new(alloc);
-    for (keys, tree) in table.keys.iter().zip(table.trees.iter()) {
-        links.push(Link {
-            frame: frame_on_wire(keys.largest_frame, overhead),
-            gap: keys.gap.rounded_down(PICOSECONDS_IN_A_MILLISECOND),
-            jitter: keys.jitter.rounded_up(PICOSECONDS_IN_A_MICROSECOND),
-            nodes: nodes_of(alloc, ports, keys.priority as usize, tree)?,
-        })?;
+    for number in 0..table.keys.len() {
+        links.push(link_of(
+            alloc,
+            ports,
+            overhead,
+            table.keys[number],
+            &table.trees[number],
+        )?)?;
     }
     Ok(links)
-}
-
-/// The network of two tables.
-pub(crate) fn network_of(
-    alloc: Global,
-    ports: PortTable,
-    overhead: u64,
-    table: &LinkTable,
-) -> Result<Network, AllocError> {
-    let links = links_of(alloc, &ports, overhead, table)?;
-    let mut on_grid = Vec::new(alloc);
-    for row in ports.ports {
-        on_grid.push(port_of(row))?;
-    }
-    Ok(Network {
-        ports: on_grid,
-        links,
-    })
 }

@@ -10,7 +10,7 @@ mod paths;
 mod ports;
 mod trees;
 
-pub use document::{Document, read_document};
+pub use document::{BranchEnd, Document, read_document};
 pub use fault::{DocumentError, LineError, LineFault, TableFile};
 pub use links::{Branch, LinkKeys, LinkTable, read_links};
 pub use ports::{PortTable, read_ports};

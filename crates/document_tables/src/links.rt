@@ -1,11 +1,19 @@
 //! The table of links.
 
-ghost use Rattle.std.specs.Prelude.{◌≡◌, Err};
+ghost use Rattle.std.specs.Prelude.{◌≡◌, ◌+◌, ◌<◌, ◌≤◌, None, Ok, Err, map, position, length, slice_get, OnOk, IfOk};
+ghost use Rattle.std.specs.Option.{ForSome};
+ghost use Rattle.std.specs.Str.{bytes_eq};
+ghost use Rattle.std.specs.String.{string_bytes};
+ghost use Rattle.csv.specs.Records.{fields_of};
 ghost use Rattle.document_rows.specs.LinkRows.{link_view};
 ghost use Rattle.document_rows.specs.declared.fault.Column.TheVariants as column;
 ghost use Rattle.document_rows.specs.declared.fault.RowError.TheVariants as errors;
 ghost use Rattle.document_rows.specs.declared.fault.Wrong.TheVariants as wrongs;
 ghost use Rattle.document_tables.specs.Links as spec;
+ghost use Rattle.document_tables.specs.LinkTrees.{AreTrees, AreAlike, MakesLink};
+ghost use Rattle.document_tables.specs.Ports.{ports_view};
+ghost use Rattle.document_tables.specs.Ranges.{IsLinkText};
+ghost use Rattle.document_tables.specs.Tables.{Makes, TellsTable, after_rows, row_view};
 
 use crate::fault::{LineError, line_error, no_head};
 use crate::names::{add_name, number_of};
@@ -19,7 +27,7 @@ use document_rows::{
     row_name,
 };
 use indexmap::IndexSet;
-use std::alloc::Global;
+use std::alloc::{AllocError, Global};
 use table_cells::Amount;
 
 const MOST_LINKS: usize = 16_384;
@@ -36,16 +44,12 @@ pub struct LinkKeys {
     pub priority: u64,
 }
 
-/// A branch of a link: a row of the table.
+/// A row of the table: the number of its link, those of the ports of its path, and its deadline in microseconds, where it
+/// has one.
 #[derive(Debug, Drop)]
 pub struct Branch {
-    /// The number of the link.
     pub link: usize,
-    /// The numbers of its ports.
     pub path: Vec<usize>,
-    /// The place of its last port in the tree of the link.
-    pub node: usize,
-    /// In microseconds, where it has one.
     pub deadline: Option<Amount>,
 }
 
@@ -107,6 +111,34 @@ fn agrees(first: LinkKeys, row: LinkKeys) -> Result<LinkKeys, CellFault>
     Ok(first)
 }
 
+// Looks whether a row agrees with the first one of its link.
+fn agrees_with(table: &LinkTable, number: usize, row: LinkKeys) -> Result<(), CellFault>
+    requires { number < length table.now.keys.items }
+    ensures { AreAlike result (spec.agrees_with (slice_get table.now.keys.items number) row) }
+{
+    agrees(table.keys[number], row)?;
+    Ok(())
+}
+
+// Puts a link behind the others, with a name that is new.
+fn new_link(
+    alloc: Global,
+    table: &mut LinkTable,
+    name: &str,
+    row: LinkKeys,
+) -> Result<(), AllocError>
+    requires new { position (bytes_eq name.now) (map string_bytes table.old.names.keys) ≡ None }
+    requires kept { AreTrees table.old }
+    ensures value { OnOk result (spec.with_link (spec.links_view table.old) name.now None row ≡ Ok (spec.links_view table.new)) }
+    ensures more { OnOk result (length table.new.keys.items ≡ length table.old.keys.items + 1) }
+    ensures kept { OnOk result (AreTrees table.new) }
+{
+    let _ = add_name(alloc, &mut table.names, name)?;
+    table.keys.push(row)?;
+    table.trees.push(Tree::new(alloc))?;
+    Ok(())
+}
+
 // The number of the link of a row, which comes behind the others where it is new.
 fn add_link(
     alloc: Global,
@@ -114,30 +146,25 @@ fn add_link(
     name: &str,
     number: Option<usize>,
     row: LinkKeys,
-) -> Result<usize, RowError> {
+) -> Result<usize, RowError>
+    requires number { number ≡ position (bytes_eq name.now) (map string_bytes table.old.names.keys) }
+    requires within { ForSome number (λ n. n < length table.old.keys.items) }
+    requires kept { AreTrees table.old }
+    ensures value { MakesLink result (spec.with_link (spec.links_view table.old) name.now number row)
+        (spec.links_view table.new) (spec.number_or_next (spec.links_view table.old) number) }
+    ensures there { IfOk result (λ n. n < length table.new.keys.items) }
+    ensures kept { OnOk result (AreTrees table.new) }
+{
     match number {
-        Some(number) => match table.keys.get(number) {
-            Some(first) => {
-                agrees(*first, row)?;
-                Ok(number)
-            }
-            None => Ok(number),
-        },
-        None => {
-            let number = table.keys.len();
-            let _ = add_name(alloc, &mut table.names, name)?;
-            table.keys.push(row)?;
-            table.trees.push(Tree::new(alloc))?;
+        Some(number) => {
+            agrees_with(table, number, row)?;
             Ok(number)
         }
-    }
-}
-
-// The place of the last port of a path that is in the tree.
-fn place_of_last(tree: &Tree, path: &[usize]) -> usize {
-    match path.last() {
-        Some(port) => tree.place_of(*port).unwrap_or(0),
-        None => 0,
+        None => {
+            let next = table.keys.len();
+            new_link(alloc, table, name, row)?;
+            Ok(next)
+        }
     }
 }
 
@@ -149,18 +176,22 @@ fn add_branch(
     table: &mut LinkTable,
     link: usize,
     row: &LinkRow,
-) -> Result<(), RowError> {
+) -> Result<(), RowError>
+    requires overhead { overhead ≤ 1048576 }
+    requires there { link < length table.old.keys.items }
+    requires kept { AreTrees table.old }
+    requires row { IsLinkText (link_view row.now) }
+    ensures value { Makes result
+        (spec.with_branch (ports_view ports.now) overhead link (spec.links_view table.old) (link_view row.now))
+        (spec.links_view table.new) }
+    ensures kept { OnOk result (AreTrees table.new) }
+{
     let frame = frame_on_wire(row.largest_frame, overhead);
     let path = path_ports(alloc, ports, row.priority as usize, frame, &row.path)?;
-    let Some(tree) = table.trees.get_mut(link) else {
-        return Ok(());
-    };
-    tree.grow(&path)?;
-    let node = place_of_last(tree, &path);
+    table.trees[link].grow(&path)?;
     table.branches.push(Branch {
         link,
         path,
-        node,
         deadline: row.deadline,
     })?;
     Ok(())
@@ -174,7 +205,14 @@ fn add_row(
     head: &LinkHead,
     table: &mut LinkTable,
     row: &ByteRecord,
-) -> Result<(), RowError> {
+) -> Result<(), RowError>
+    requires overhead { overhead ≤ 1048576 }
+    requires kept { AreTrees table.old }
+    ensures value { Makes result
+        (spec.with_row (ports_view ports.now) overhead head.now (spec.links_view table.old) (fields_of row.now))
+        (spec.links_view table.new) }
+    ensures kept { OnOk result (AreTrees table.new) }
+{
     if table.branches.len() >= MOST_BRANCHES {
         return Err(wrong_name(Wrong::TooManyRows));
     }
@@ -188,32 +226,60 @@ fn add_row(
     add_branch(alloc, ports, overhead, table, link, &row)
 }
 
-/// The links of the rows of a table over ports, or its first fault. A frame has `overhead` bytes on the wire beside its
-/// own.
-pub fn read_links(
-    alloc: Global,
-    ports: &PortTable,
-    overhead: u64,
-    rows: &[TableRow],
-) -> Result<LinkTable, LineError> {
-    let [first, rest @ ..] = rows else {
-        return Err(no_head());
-    };
-    let head = match link_head(&first.cells) {
-        Ok(head) => head,
-        Err(fault) => return Err(line_error(first.line, RowError::Cell(fault))),
-    };
-    let mut table = LinkTable {
+// No link.
+fn no_links(alloc: Global) -> LinkTable
+    ensures value { spec.links_view result ≡ spec.no_links }
+    ensures kept { AreTrees result }
+{
+    LinkTable {
         names: IndexSet::new(alloc),
         keys: Vec::new(alloc),
         trees: Vec::new(alloc),
         branches: Vec::new(alloc),
-    };
-    for row in rest {
-        match add_row(alloc, ports, overhead, &head, &mut table, &row.cells) {
+    }
+}
+
+// The links of rows under a head line.
+fn links_under(
+    alloc: Global,
+    ports: &PortTable,
+    overhead: u64,
+    head: &LinkHead,
+    rows: &[TableRow],
+) -> Result<LinkTable, LineError>
+    requires { overhead ≤ 1048576 }
+    ensures value { TellsTable spec.links_view result
+        (after_rows (spec.with_row (ports_view ports.now) overhead head.now) spec.no_links (map row_view rows.now)) }
+    ensures kept { IfOk result AreTrees }
+{
+    let mut table = no_links(alloc);
+    for row in rows {
+        match add_row(alloc, ports, overhead, head, &mut table, &row.cells) {
             Ok(()) => {}
             Err(error) => return Err(line_error(row.line, error)),
         }
     }
     Ok(table)
+}
+
+/// The links of the rows of a table over ports, or its first fault. A frame has `overhead` bytes on the wire beside its
+/// own, at most 2^20.
+#[tactic(auto, unfolding(crate::specs::Tables::table_of))]
+pub fn read_links(
+    alloc: Global,
+    ports: &PortTable,
+    overhead: u64,
+    rows: &[TableRow],
+) -> Result<LinkTable, LineError>
+    requires { overhead ≤ 1048576 }
+    ensures value { TellsTable spec.links_view result (spec.links_of (ports_view ports.now) overhead (map row_view rows.now)) }
+    ensures kept { IfOk result AreTrees }
+{
+    let [first, rest @ ..] = rows else {
+        return Err(no_head());
+    };
+    match link_head(&first.cells) {
+        Ok(head) => links_under(alloc, ports, overhead, &head, rest),
+        Err(fault) => Err(line_error(first.line, RowError::Cell(fault))),
+    }
 }

@@ -1,6 +1,6 @@
 //! The ports of a path.
 
-ghost use Rattle.std.specs.Prelude.{◌≡◌, ◌==◌, false, map, IfOk};
+ghost use Rattle.std.specs.Prelude.{◌≡◌, ◌==◌, false, map, length, IfOk};
 ghost use Rattle.std.specs.List.{list_any};
 ghost use Rattle.std.specs.String.{string_bytes};
 ghost use Rattle.document_rows.specs.declared.fault.Column.TheVariants as column;
@@ -108,6 +108,7 @@ pub(crate) fn path_ports(
     ensures value { Tells (λ path. path.items) result
         (at column.Path (spec.path_ports (ports_view table.now) priority frame (map (λ word. word.now) words.now))) }
     ensures own { IfOk result (λ path. HasOwnPorts path.items) }
+    ensures all { IfOk result (λ path. length path.items ≡ length words.now) }
 {
     let mut path = Vec::new(alloc);
     for place in 0..words.len() {

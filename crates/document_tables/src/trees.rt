@@ -1,11 +1,12 @@
 //! The tree over which a link goes.
 
-ghost use Rattle.std.specs.Prelude.{◌≡◌, ◌+◌, ◌<◌, ◌^◌, ◌==◌, ℕ, List, [], ◌∷◌, ◌++◌, length, Some, None, false};
+ghost use Rattle.std.specs.Prelude.{◌≡◌, ◌+◌, ◌<◌, ◌^◌, ◌==◌, ℕ, List, [], ◌∷◌, ◌++◌, length, slice_get, Some, None, false};
 ghost use Rattle.std.specs.List.{list_any};
 ghost use Rattle.document_rows.specs.declared.fault.Column.TheVariants as column;
 ghost use Rattle.document_rows.specs.declared.fault.RowError.TheVariants as errors;
 ghost use Rattle.document_tables.specs.Trees as spec;
 ghost use Rattle.document_tables.specs.Growing.{Grows, HasOwnPorts};
+ghost use Rattle.document_tables.specs.Grids as grids;
 
 use document_rows::{CellFault, Column, RowError, Wrong};
 use indexmap::IndexMap;
@@ -106,8 +107,41 @@ impl Tree {
         Ok(())
     }
 
-    /// The place of a port.
-    pub fn place_of(&self, port: usize) -> Option<usize> {
-        self.after.get_index_of(&port)
+    /// How many ports it has.
+    pub(crate) fn len(&self) -> usize
+        ensures { result ≡ length self.now.after.entries }
+    {
+        self.after.len()
+    }
+
+    /// The port at a place, and the one after which it comes.
+    pub(crate) fn stop(&self, place: usize) -> (usize, Option<usize>)
+        requires { place < length self.now.after.entries }
+        ensures { slice_get self.now.after.entries place ≡ Some result }
+    {
+        match self.after.get_index(place) {
+            Some((port, after)) => (*port, *after),
+            None => unreachable!(),
+        }
+    }
+
+    /// The place of the port after which one comes.
+    pub(crate) fn place_after(&self, after: Option<usize>) -> Option<usize>
+        ensures { result ≡ grids.place_after self.now.after.entries after }
+    {
+        match after {
+            Some(port) => self.after.get_index_of(&port),
+            None => None,
+        }
+    }
+
+    /// The place of the last port of a path.
+    pub(crate) fn place_of_last(&self, path: &[usize]) -> usize
+        ensures { result ≡ grids.end_of self.now.after.entries path.now }
+    {
+        match self.place_after(path.last().copied()) {
+            Some(place) => place,
+            None => 0,
+        }
     }
 }

@@ -1,0 +1,122 @@
+-- The ranges of what tables say.
+use Rattle.std.proofs.Common.{◌≡◌, ℕ, ◌+◌, ◌<◌, ◌≤◌, ◌==◌, nat_le, Bool, true, false, List, [], ◌∷◌, ◌++◌, length, All, position, Option, Some, None, Result, Ok, Err, refl, subst}
+use Rattle.std.specs.Prelude.{not, slice_get, if◌then◌else◌}
+use Rattle.std.specs.List.{list_any}
+use Rattle.std.specs.Str.{bytes_eq}
+use Rattle.std.proofs.lemmas.List.Elements.{All-nil, All-push}
+use Rattle.table_cells.specs.Amounts.{equals}
+use Rattle.csv_rows.specs.Rows.{Row}
+use Rattle.document_rows.specs.declared.fault.Column.TheVariants as column
+use Rattle.document_rows.specs.declared.fault.Wrong.TheVariants.{TooManyRows, NameTwice}
+use Rattle.document_rows.specs.declared.heads.PortHead.{PortHead}
+use Rattle.document_rows.specs.declared.heads.LinkHead.{LinkHead}
+use Rattle.document_rows.specs.Reads.{RowRead, and_then, at}
+use Rattle.document_rows.specs.Heads.{port_head, link_head, row_name}
+use Rattle.document_rows.specs.PortRows.{PortText, port_row}
+use Rattle.document_rows.specs.LinkRows.{LinkText, link_row, frame_on_wire}
+use Rattle.document_tables.specs.declared.links.LinkKeys.{LinkKeys}
+use Rattle.document_tables.specs.Ranges.{IsPortText, IsLinkText, AreLinkKeys}
+use Rattle.document_tables.specs.Tables.{LineRow, TableRead, at_line, after_rows, table_of}
+use Rattle.document_tables.specs.Ports.{Ports, with_port, no_ports, ports_of, most_ports}
+use Rattle.document_tables.specs.Paths.{path_ports}
+use Rattle.document_tables.specs.Trees.{hangs_from}
+use Rattle.document_tables.specs.Links.{Links, keys_of, with_link, agrees_with, has_room, number_or_next, with_branch, with_row, no_links, links_of, paths_of, most_branches}
+use Rattle.document_tables.proofs.Reading.{both_read, not_refused, same_read}
+use Rattle.document_tables.proofs.RowRanges.{port_says, link_says}
+
+-- ---- rows, one after another
+in_line : {X : Type 0} (line : ℕ) (r : RowRead X) (x : X) → at_line line r ≡ Ok x → r ≡ Ok x
+in_line line (Ok y) x h = cc
+in_line line (Err fault) x h = cc
+
+-- what holds before the first row, and behind each row of which it holds before, holds behind the last one
+pub kept_by_rows : {S : Type 0} (P : S → Type 0) (step : S → Row → RowRead S) → ((s : S) (row : Row) (t : S) → P s → step s row ≡ Ok t → P t)
+    → (rows : List LineRow) (s t : S) → P s → after_rows step s rows ≡ Ok t → P t
+unfolding after_rows
+kept_by_rows P step more [] s t p h = subst P (same_read s t h) p
+kept_by_rows P step more (row ∷ rows) s t p h =
+    let r = both_read (at_line row.line (step s row.cells)) (λ next. after_rows step next rows) t h in
+    kept_by_rows P step more rows r.0 t (more s row.cells r.0 p (in_line row.line (step s row.cells) r.0 r.1)) r.2
+
+pub kept_by_table : {H S : Type 0} (P : S → Type 0) (head : Row → RowRead H) (step : H → S → Row → RowRead S) (none : S) → P none → ((h : H) (s : S) (row : Row) (t : S) → P s → step h s row ≡ Ok t → P t)
+    → (rows : List LineRow) (t : S) → table_of head step none rows ≡ Ok t → P t
+unfolding table_of
+kept_by_table P head step none p more [] t h = cc
+kept_by_table P head step none p more (first ∷ rows) t h =
+    let r = both_read (at_line first.line (head first.cells)) (λ h. after_rows (step h) none rows) t h in kept_by_rows P (step r.0) (more r.0) rows none t p r.2
+
+-- ---- ports
+abbrev AreInRange : Ports → Type 0
+AreInRange ports = All IsPortText ports.ports
+
+module _ (head : PortHead) (before : Ports) (row : Row) where
+  abbrev port_named : List ℕ → RowRead Ports
+  port_named name =
+      if list_any (bytes_eq name) before.names then Err (record { column = column.Name; wrong = NameTwice })
+      else and_then (port_row head row) (λ port. Ok (record { names = before.names ++ name ∷ []; ports = before.ports ++ port ∷ [] }))
+
+  port_more : (after : Ports) → AreInRange before → with_port head before row ≡ Ok after → AreInRange after
+  unfolding with_port
+  port_more after p h =
+      let few = not_refused (nat_le most_ports (length before.ports)) (record { column = column.Name; wrong = TooManyRows }) (and_then (row_name head.width head.name row) port_named) after h in
+      let name = both_read (row_name head.width head.name row) port_named after few.1 in
+      let new = not_refused (list_any (bytes_eq name.0) before.names) (record { column = column.Name; wrong = NameTwice })
+      (and_then (port_row head row) (λ port. Ok (record { names = before.names ++ name.0 ∷ []; ports = before.ports ++ port ∷ [] }))) after name.2
+      in
+      let port = both_read (port_row head row) (λ port. Ok (record { names = before.names ++ name.0 ∷ []; ports = before.ports ++ port ∷ [] })) after new.1 in
+      let made : Ports = record { names = before.names ++ name.0 ∷ []; ports = before.ports ++ port.0 ∷ [] } in
+      subst AreInRange (same_read made after port.2) (All-push IsPortText before.ports port.0 p (port_says head row port.0 port.1))
+
+pub ports_in_range : (rows : List LineRow) (ports : Ports) → ports_of rows ≡ Ok ports → All IsPortText ports.ports
+ports_in_range rows ports h = kept_by_table AreInRange port_head with_port no_ports (All-nil IsPortText) port_more rows ports h
+
+-- ---- links
+abbrev HaveKeys : Links → Type 0
+HaveKeys links = All AreLinkKeys links.keys
+
+keys_in_range : (row : LinkText) → IsLinkText row → AreLinkKeys (keys_of row)
+keys_in_range row r = record { gap = r.gap; some_frame = r.some_frame; frame = r.frame; jitter = r.jitter; priority = r.priority }
+
+link_more : (before after : Links) (name : List ℕ) (number : Option ℕ) (row : LinkText) → HaveKeys before → IsLinkText row → with_link before name number (keys_of row) ≡ Ok after → HaveKeys after
+link_more before after name None row p r h =
+    let made : Links = record { names = before.names ++ name ∷ []; keys = before.keys ++ keys_of row ∷ []; branches = before.branches } in
+    subst HaveKeys (same_read made after h) (All-push AreLinkKeys before.keys (keys_of row) p (keys_in_range row r))
+link_more before after name (Some n) row p r h =
+    let a = both_read (agrees_with (slice_get before.keys n) (keys_of row)) (λ first. Ok before) after h in subst HaveKeys (same_read before after a.2) p
+
+module _ (ports : Ports) (overhead : ℕ) where
+  branch_more : (link : ℕ) (before : Links) (row : LinkText) (after : Links) → HaveKeys before → with_branch ports overhead link before row ≡ Ok after → HaveKeys after
+  unfolding with_branch
+  branch_more link before row after p h =
+      let path = both_read (at column.Path (path_ports ports row.priority (frame_on_wire row.largest_frame overhead) row.path))
+      (λ path. and_then (at column.Path (hangs_from (paths_of link before.branches) 0 None path)) (λ last.
+      Ok (record before { branches = before.branches ++ record { link = link; path = path; deadline = row.deadline } ∷ [] }))) after h
+      in
+      let last = both_read (at column.Path (hangs_from (paths_of link before.branches) 0 None path.0))
+      (λ last. Ok (record before { branches = before.branches ++ record { link = link; path = path.0; deadline = row.deadline } ∷ [] })) after path.2
+      in
+      let made : Links = record before { branches = before.branches ++ record { link = link; path = path.0; deadline = row.deadline } ∷ [] } in
+      subst HaveKeys (same_read made after last.2) p
+
+  module _ (head : LinkHead) (before : Links) (row : Row) where
+    abbrev linked : List ℕ → Option ℕ → LinkText → RowRead Links
+    linked name number text = and_then (with_link before name number (keys_of text)) (λ links. with_branch ports overhead (number_or_next before number) links text)
+
+    abbrev roomed : List ℕ → Option ℕ → RowRead Links
+    roomed name number = and_then (link_row head row) (linked name number)
+
+    abbrev named : List ℕ → RowRead Links
+    named name = and_then (has_room before (position (bytes_eq name) before.names)) (roomed name)
+
+    row_more : (after : Links) → HaveKeys before → with_row ports overhead head before row ≡ Ok after → HaveKeys after
+    unfolding with_row
+    row_more after p h =
+        let few = not_refused (nat_le most_branches (length before.branches)) (record { column = column.Name; wrong = TooManyRows }) (and_then (row_name head.width head.name row) named) after h in
+        let name = both_read (row_name head.width head.name row) named after few.1 in
+        let number = both_read (has_room before (position (bytes_eq name.0) before.names)) (roomed name.0) after name.2 in
+        let text = both_read (link_row head row) (linked name.0 number.0) after number.2 in
+        let links = both_read (with_link before name.0 number.0 (keys_of text.0)) (λ links. with_branch ports overhead (number_or_next before number.0) links text.0) after text.2 in
+        branch_more (number_or_next before number.0) links.0 text.0 after (link_more before links.0 name.0 number.0 text.0 p (link_says head row text.0 text.1) links.1) links.2
+
+  pub links_in_range : (rows : List LineRow) (links : Links) → links_of ports overhead rows ≡ Ok links → All AreLinkKeys links.keys
+  links_in_range rows links h = kept_by_table HaveKeys link_head (with_row ports overhead) no_links (All-nil AreLinkKeys) row_more rows links h

@@ -1,0 +1,27 @@
+-- The tree over which a link goes, by the paths of its rows: the ports that they pass, each with the port before it there.
+use Rattle.std.specs.Prelude.{ℕ, nat_eq, Bool, List, [], ◌∷◌, ◌++◌, map, Option, Some, None, if◌then◌else◌}
+use Rattle.std.specs.List.{list_any}
+
+-- a port of a tree, and the one after which it comes; none where the paths begin
+abbrev pub Stop : Type 0
+Stop = ℕ × Option ℕ
+
+abbrev pub has_stop : List Stop → ℕ → Bool
+has_stop stops port = list_any (nat_eq port) (map (λ s. s.0) stops)
+
+-- a port that is passed right after this one: it comes behind the others where it is new
+abbrev pub with_stop : List Stop → (port : ℕ) → (after : Option ℕ) → List Stop
+with_stop stops port after = if has_stop stops port then stops else stops ++ (port, after) ∷ []
+
+-- what is left of a path, behind a port or behind none
+unfoldable pub with_path : List Stop → (behind : Option ℕ) → List ℕ → List Stop
+with_path stops behind [] = stops
+with_path stops behind (port ∷ path) = with_path (with_stop stops port behind) (Some port) path
+
+unfoldable pub with_paths : List Stop → List (List ℕ) → List Stop
+with_paths stops [] = stops
+with_paths stops (path ∷ paths) = with_paths (with_path stops None path) paths
+
+-- in the order in which the paths first pass them
+abbrev pub stops_of : List (List ℕ) → List Stop
+stops_of paths = with_paths [] paths
