@@ -9,7 +9,7 @@ use Rattle.fraction128.specs.Text.{is_numeral, is_slash}
 use Rattle.table_cells.specs.declared.amount.Amount.{Amount}
 use Rattle.table_cells.specs.Amounts.{IsAmount, few_digits, fraction, over_some, with_decimals, decimal, decimal_at, amount_at, amount_in, is_point, whole}
 use Rattle.table_cells.proofs.Digits.{both, short, few, power, amount_joined}
-use Rattle.document_tables.proofs.Reading.{both_some, one_some, some_if}
+use Rattle.document_tables.proofs.Reading.{both_some, one_some, some_if, some_unless, inner}
 
 few_short : (ds : List ℕ) (n : ℕ) → few_digits ds ≡ Some n → (length ds ≤ 18) × (n < 10 ^ 18) × (n < 10 ^ length ds)
 few_short ds n h =
@@ -22,10 +22,11 @@ few_short ds n h =
     (l, subst (λ m. m < 10 ^ 18) e f, subst (λ m. m < 10 ^ length ds) e s)
 
 over : (p q : ℕ) (a : Amount) → p < 10 ^ 18 → q < 10 ^ 18 → over_some p q ≡ Some a → IsAmount a
-over p zero a hp hq h = cc
-over p (suc q) a hp hq h =
-    let e : record { top = p; bottom = suc q } ≡ a = cc in
-    subst IsAmount e (record { top = hp; some = omega arith; bottom = omega (arith, hq) })
+over p q a hp hq h =
+    let made : Amount = record { top = p; bottom = q } in
+    let e = some_unless (q == 0) made a h in
+    let some : 0 < q = grind (arith, nat_tests, e.0) in
+    subst IsAmount e.1 (record { top = hp; some = some; bottom = omega (arith, hq) })
 
 of_fraction : (top bottom : List ℕ) (a : Amount) → fraction top bottom ≡ Some a → IsAmount a
 of_fraction top bottom a h =
@@ -35,7 +36,7 @@ of_fraction top bottom a h =
 
 of_decimals : (n : ℕ) (front after : List ℕ) (a : Amount) → length front + length after ≤ 18 → few_digits front ≡ Some n → with_decimals n after ≡ Some a → IsAmount a
 of_decimals n front [] a l f h =
-    let e : record { top = n; bottom = 1 } ≡ a = cc in subst IsAmount e (record { top = (few_short front n f).1; some = omega arith; bottom = power 0 (omega arith) })
+    let made : Amount = record { top = n; bottom = 1 } in subst IsAmount (inner made a h) (record { top = (few_short front n f).1; some = omega arith; bottom = power 0 (omega arith) })
 of_decimals n front (d ∷ ds) a l f h =
     let m = one_some (λ part. let tens = 10 ^ length (d ∷ ds) in record { top = n * tens + part; bottom = tens }) (few_digits (d ∷ ds)) a h in
     subst IsAmount m.2 (amount_joined n m.0 (length front) (length (d ∷ ds)) (10 ^ length (d ∷ ds)) refl (few_short front n f).2 (few_short (d ∷ ds) m.0 m.1).2 l)

@@ -132,7 +132,7 @@ discipline (word ∷ words) d h = by (bytes_eq word (codes "priority")) (bytes_e
 -- ---- gates
 gate_between : (cycle slot : Amount) (g : Option GateRow) → IsTime cycle → IsTime slot → gate_with cycle slot ≡ Ok g → IsGateOrNone g
 gate_between cycle slot g c s h =
-    let gate = record { cycle = cycle; slot = slot } in
+    let gate : GateRow = record { cycle = cycle; slot = slot } in
     let some = not_denied (reaches_one slot 1000000) TooSmall (if not (is_within slot cycle) then Err SlotTooLong else Ok (Some gate)) g h in
     let within = not_denied (is_within slot cycle) SlotTooLong (Ok (Some gate)) g some.1 in
     subst IsGateOrNone (same_read (Some gate) g within.1) (record { cycle = c; slot = s; some = some.0; within = within.0 })

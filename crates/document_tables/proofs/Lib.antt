@@ -10,3 +10,4 @@ pub mod AmountRanges
 pub mod CellRanges
 pub mod RowRanges
 pub mod TableRanges
+pub mod LinkSteps

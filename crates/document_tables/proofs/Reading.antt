@@ -11,6 +11,7 @@ module _ {X Y E : Type 0} where
   both_read (Ok x) f y h = (x, refl, h)
   both_read (Err e) f y h = cc
 
+module _ {X Y : Type 0} where
   pub both_some : (f : X → Option Y) (o : Option X) (y : Y) → option_and_then f o ≡ Some y → (x : X) × (o ≡ Some x) × (f x ≡ Some y)
   both_some f None y h = cc
   both_some f (Some x) y h = (x, refl, h)
@@ -37,12 +38,19 @@ module _ {X E : Type 0} where
   allowed true e r x h = (refl, h)
   allowed false e r x h = cc
 
-  pub same_read : (x y : X) → Ok {E = E} x ≡ Ok y → x ≡ y
+  pub same_read : (x y : X) → ◌≡◌ {A = Result X E} (Ok x) (Ok y) → x ≡ y
   same_read x y h = cc
 
 pub some_if : {X : Type 0} (b : Bool) (o : Option X) (x : X) → (if b then o else None) ≡ Some x → (b ≡ true) × (o ≡ Some x)
 some_if true o x h = (refl, h)
 some_if false o x h = cc
+
+pub some_unless : {X : Type 0} (b : Bool) (y x : X) → (if b then None else Some y) ≡ Some x → (b ≡ false) × (y ≡ x)
+some_unless true y x h = cc
+some_unless false y x h = (refl, cc)
+
+pub inner : {X : Type 0} (x y : X) → Some x ≡ Some y → x ≡ y
+inner x y h = cc
 
 -- in the cell of a column
 pub cell_read : {X : Type 0} (column : Column) (r : CellRead X) (x : X) → at column r ≡ Ok x → r ≡ Ok x

@@ -111,6 +111,20 @@ fn agrees(first: LinkKeys, row: LinkKeys) -> Result<LinkKeys, CellFault>
     Ok(first)
 }
 
+// Looks whether a link may come behind the others, where a row has no number of one.
+fn has_room(table: &LinkTable, number: Option<usize>) -> Result<Option<usize>, CellFault>
+    ensures value { result ≡ spec.has_room (spec.links_view table.now) number }
+    ensures same { IfOk result (λ n. n ≡ number) }
+{
+    if number.is_none() && table.names.len() >= MOST_LINKS {
+        return Err(CellFault {
+            column: Column::Name,
+            wrong: Wrong::TooManyLinks,
+        });
+    }
+    Ok(number)
+}
+
 // Looks whether a row agrees with the first one of its link.
 fn agrees_with(table: &LinkTable, number: usize, row: LinkKeys) -> Result<(), CellFault>
     requires { number < length table.now.keys.items }
@@ -217,10 +231,7 @@ fn add_row(
         return Err(wrong_name(Wrong::TooManyRows));
     }
     let name = row_name(head.width, head.name, row)?;
-    let number = number_of(&table.names, name);
-    if number.is_none() && table.names.len() >= MOST_LINKS {
-        return Err(wrong_name(Wrong::TooManyLinks));
-    }
+    let number = has_room(table, number_of(&table.names, name))?;
     let row = link_row(alloc, head, row)?;
     let link = add_link(alloc, table, name, number, keys_of(&row))?;
     add_branch(alloc, ports, overhead, table, link, &row)

@@ -1,0 +1,200 @@
+-- Links, one row after another.
+use Rattle.std.proofs.Common.{◌≡◌, ℕ, zero, suc, ◌+◌, ◌<◌, ◌≤◌, ◌==◌, ◌||◌, Bool, true, false, cond, List, [], ◌∷◌, ◌++◌, map, filter, length, set, get_or, position, Option, Some, None, Result, Ok, Err, refl, sym, ap, ap₂, subst, ◌∙◌, arith, length-append, length-set, ⊎_elim, inl, inr, ◌⊎◌}
+use Rattle.std.specs.Prelude.{slice_get, nat_le, if◌then◌else◌}
+use Rattle.std.specs.List.{list_any, position_from}
+use Rattle.std.specs.Str.{bytes_eq}
+use Rattle.std.proofs.lemmas.Iterator.Adapters.{position_from-zero}
+use Rattle.std.proofs.lemmas.List.{get_or_append_left, get_or-set_same, get_or-set_other, map-append, append-nil}
+use Rattle.std.proofs.lemmas.List.Elements.{filter-append}
+use Rattle.std.proofs.lemmas.Option.{slice_get-get_or, slice_get_within}
+use Rattle.std.proofs.lemmas.Bool.{eq-eqb, ne_eqb}
+use Rattle.std.proofs.lemmas.Bool.Decides.{nat_tests}
+use Rattle.std.proofs.Math.Seq.{get_or-append_seam}
+use Rattle.csv_rows.specs.Rows.{Row}
+use Rattle.document_rows.specs.declared.fault.CellFault.{CellFault}
+use Rattle.document_rows.specs.declared.fault.Column.TheVariants as column
+use Rattle.document_rows.specs.declared.fault.RowError.{RowError}
+use Rattle.document_rows.specs.declared.fault.RowError.TheVariants.{Cell, NoMemory}
+use Rattle.document_rows.specs.declared.fault.Wrong.TheVariants.{TooManyRows}
+use Rattle.document_rows.specs.declared.heads.LinkHead.{LinkHead}
+use Rattle.document_rows.specs.Reads.{CellRead, RowRead, and_then, at, Tells}
+use Rattle.document_rows.specs.Heads.{row_name}
+use Rattle.document_rows.specs.LinkRows.{LinkText, link_row, frame_on_wire}
+use Rattle.document_tables.specs.declared.trees.Tree.{Tree}
+use Rattle.document_tables.specs.Growing.{Grows}
+use Rattle.document_tables.specs.LinkTrees.{MakesLink}
+use Rattle.document_tables.specs.Links.{Links, BranchText, keys_of, with_link, has_room, number_or_next, with_branch, with_row, paths_of, most_branches}
+use Rattle.document_tables.specs.Paths.{path_ports}
+use Rattle.document_tables.specs.Ports.{Ports}
+use Rattle.document_tables.specs.Tables.{Makes}
+use Rattle.document_tables.specs.Trees.{hangs_from}
+
+-- ---- names
+from_none : {X : Type 0} (p : X → Bool) (n : ℕ) (xs : List X) → position_from p n xs ≡ None → list_any p xs ≡ false
+from_none p n [] h = refl
+from_none p n (x ∷ xs) h = at_first p n x xs (p x) refl h (from_none p (n + 1) xs)
+  where
+    at_first : {X : Type 0} (p : X → Bool) (n : ℕ) (x : X) (xs : List X) (b : Bool) → p x ≡ b → cond b (Some n) (position_from p (n + 1) xs) ≡ None → (position_from p (n + 1) xs ≡ None → list_any p xs ≡ false)
+        → p x || list_any p xs ≡ false
+    at_first p n x xs true e h rest = cc
+    at_first p n x xs false e h rest = rw e (rest h)
+
+-- what stands nowhere is none of them
+pub nowhere_any : {X : Type 0} (p : X → Bool) (xs : List X) → position p xs ≡ None → list_any p xs ≡ false
+nowhere_any p xs h = from_none p 0 xs (sym (position_from-zero p xs) ∙ h)
+
+-- ---- trees
+-- one more at the end
+pub each_push : {X : Type 0} (P : ℕ → X → Type 0) (xs : List X) (x : X) → ((k : ℕ) (y : X) → slice_get xs k ≡ Some y → P k y) → P (length xs) x
+    → (k : ℕ) (y : X) → slice_get (xs ++ x ∷ []) k ≡ Some y → P k y
+each_push P xs x old new k y h =
+    let n = length-append xs (x ∷ []) in
+    let w = slice_get_within (xs ++ x ∷ []) k y h in
+    let is : get_or (xs ++ x ∷ []) k y ≡ y = inside (get_or (xs ++ x ∷ []) k y) y (sym (slice_get-get_or (xs ++ x ∷ []) k y w) ∙ h) in
+    ⊎_elim (λ (less : k < length xs). old k y (slice_get-get_or xs k y less ∙ ap Some (sym (get_or_append_left xs (x ∷ []) y k less) ∙ is)))
+    (λ (last : k ≡ length xs).
+    subst (λ j. P j y) (sym last) (subst (P (length xs)) (sym (get_or-append_seam xs x [] y) ∙ (ap (λ j. get_or (xs ++ x ∷ []) j y) (sym last) ∙ is)) new))
+    (place (omega (arith, w, n)))
+  where
+    inside : {X : Type 0} (a b : X) → Some a ≡ Some b → a ≡ b
+    inside a b h = cc
+    place : {k n : ℕ} → k ≤ n → (k < n) ⊎ (k ≡ n)
+    place l = grind arith
+
+-- another one at a place
+pub each_set : {X : Type 0} (P : ℕ → X → Type 0) (xs : List X) (i : ℕ) (x : X) → i < length xs → ((k : ℕ) (y : X) → (k ≡ i → ⊥) → slice_get xs k ≡ Some y → P k y) → P i x
+    → (k : ℕ) (y : X) → slice_get (set xs i x) k ≡ Some y → P k y
+each_set P xs i x below old new k y h =
+    let n = length-set xs i x in
+    let w = slice_get_within (set xs i x) k y h in
+    let is : get_or (set xs i x) k y ≡ y = inside (get_or (set xs i x) k y) y (sym (slice_get-get_or (set xs i x) k y w) ∙ h) in
+    ⊎_elim (λ (same : k ≡ i). subst (λ j. P j y) (sym same) (subst (P i) (sym (get_or-set_same xs i x y below) ∙ (ap (λ j. get_or (set xs i x) j y) (sym same) ∙ is)) new))
+    (λ (other : k ≡ i → ⊥). old k y other (slice_get-get_or xs k y (omega (arith, w, n)) ∙ ap Some (sym (get_or-set_other xs i k x y other) ∙ is)))
+    (whether k i)
+  where
+    inside : {X : Type 0} (a b : X) → Some a ≡ Some b → a ≡ b
+    inside a b h = cc
+    whether : (a b : ℕ) → (a ≡ b) ⊎ (a ≡ b → ⊥)
+    whether a b = grind arith
+
+-- the paths of a link, with a branch more
+pub paths_more : (link : ℕ) (bs : List BranchText) (b : BranchText) → b.link ≡ link → paths_of link (bs ++ b ∷ []) ≡ paths_of link bs ++ b.path ∷ []
+paths_more link bs b e =
+    let p : BranchText → Bool = λ b. b.link == link in
+    let t : (b.link == link) ≡ true = eq-eqb b.link link e in
+    ap (map (λ (b : BranchText). b.path)) (filter-append p bs (b ∷ []) ∙ ap (λ (more : List BranchText). filter p bs ++ more) (one b t))
+    ∙ map-append (λ (b : BranchText). b.path) (filter p bs) (b ∷ [])
+  where
+    one : (b : BranchText) → (b.link == link) ≡ true → filter (λ (b : BranchText). b.link == link) (b ∷ []) ≡ b ∷ []
+    one b t = rw t refl
+
+pub paths_same : (link : ℕ) (bs : List BranchText) (b : BranchText) → (b.link ≡ link → ⊥) → paths_of link (bs ++ b ∷ []) ≡ paths_of link bs
+paths_same link bs b e =
+    let p : BranchText → Bool = λ b. b.link == link in
+    let t : (b.link == link) ≡ false = ne_eqb b.link link e in
+    ap (map (λ (b : BranchText). b.path)) (filter-append p bs (b ∷ []) ∙ ap (λ (more : List BranchText). filter p bs ++ more) (one b t))
+    ∙ map-append (λ (b : BranchText). b.path) (filter p bs) [] ∙ append-nil (paths_of link bs)
+  where
+    one : (b : BranchText) → (b.link == link) ≡ false → filter (λ (b : BranchText). b.link == link) (b ∷ []) ≡ []
+    one b t = rw t refl
+
+-- ---- branches
+module _ (ports : Ports) (overhead link : ℕ) (before : Links) (row : LinkText) where
+  abbrev ports_read : CellRead (List ℕ)
+  ports_read = path_ports ports row.priority (frame_on_wire row.largest_frame overhead) row.path
+
+  abbrev hung : List ℕ → RowRead Links
+  hung path =
+      and_then (at column.Path (hangs_from (paths_of link before.branches) 0 None path)) (λ last.
+      Ok (record before { branches = before.branches ++ record { link = link; path = path; deadline = row.deadline } ∷ [] }))
+
+  wrong_path : (fault : CellFault) → at column.Path ports_read ≡ Err fault → with_branch ports overhead link before row ≡ Err fault
+  unfolding with_branch
+  wrong_path fault h = ap (λ (r : RowRead (List ℕ)). and_then r hung) h
+
+  right_path : (path : List ℕ) → at column.Path ports_read ≡ Ok path → with_branch ports overhead link before row ≡ hung path
+  unfolding with_branch
+  right_path path h = ap (λ (r : RowRead (List ℕ)). and_then r hung) h
+
+  same_read : (frame : ℕ) (words : List (List ℕ)) → frame ≡ frame_on_wire row.largest_frame overhead → words ≡ row.path → path_ports ports row.priority frame words ≡ ports_read
+  same_read frame words f w = ap₂ (path_ports ports row.priority) f w
+
+  pub no_path : {X : Type 0} (view : X → List ℕ) (error : RowError) (made : Links) (frame : ℕ) (words : List (List ℕ)) → frame ≡ frame_on_wire row.largest_frame overhead → words ≡ row.path
+      → Tells view (Err error) (at column.Path (path_ports ports row.priority frame words)) → Makes (Err error) (with_branch ports overhead link before row) made
+  no_path view (Cell fault) made frame words f w t = wrong_path fault (ap (λ (r : CellRead (List ℕ)). at column.Path r) (sym (same_read frame words f w)) ∙ t)
+  no_path view NoMemory made frame words f w t = tt
+
+  module _ (path : List ℕ) (frame : ℕ) (words : List (List ℕ)) (f : frame ≡ frame_on_wire row.largest_frame overhead) (w : words ≡ row.path)
+      (read : at column.Path (path_ports ports row.priority frame words) ≡ Ok path) where
+    path_read : with_branch ports overhead link before row ≡ hung path
+    path_read = right_path path (ap (λ (r : CellRead (List ℕ)). at column.Path r) (sym (same_read frame words f w)) ∙ read)
+
+    pub no_tree : (error : RowError) (last : Option ℕ) (paths : List (List ℕ)) (tree : Tree) (made : Links) → Grows (Err error) (hangs_from (paths_of link before.branches) 0 None path) last paths tree
+        → Makes (Err error) (with_branch ports overhead link before row) made
+    no_tree (Cell fault) last paths tree made g =
+        path_read ∙ ap (λ (r : RowRead (Option ℕ)). and_then r (λ last. Ok (record before { branches = before.branches ++ record { link = link; path = path; deadline = row.deadline } ∷ [] }))) g
+    no_tree NoMemory last paths tree made g = tt
+
+    pub branch_made : (last : Option ℕ) → hangs_from (paths_of link before.branches) 0 None path ≡ Ok last
+        → with_branch ports overhead link before row ≡ Ok (record before { branches = before.branches ++ record { link = link; path = path; deadline = row.deadline } ∷ [] })
+    branch_made last h =
+        path_read
+        ∙ ap (λ (r : CellRead (Option ℕ)). and_then (at column.Path r) (λ last. Ok (record before { branches = before.branches ++ record { link = link; path = path; deadline = row.deadline } ∷ [] }))) h
+
+-- ---- rows
+module _ (ports : Ports) (overhead : ℕ) (head : LinkHead) (before : Links) (row : Row) where
+  abbrev linked : List ℕ → Option ℕ → LinkText → RowRead Links
+  linked name number text = and_then (with_link before name number (keys_of text)) (λ links. with_branch ports overhead (number_or_next before number) links text)
+
+  abbrev roomed : List ℕ → Option ℕ → RowRead Links
+  roomed name number = and_then (link_row head row) (linked name number)
+
+  abbrev named : List ℕ → RowRead Links
+  named name = and_then (has_room before (position (bytes_eq name) before.names)) (roomed name)
+
+  pub too_many : nat_le most_branches (length before.branches) ≡ true → with_row ports overhead head before row ≡ Err (record { column = column.Name; wrong = TooManyRows })
+  unfolding with_row
+  too_many h = rw h refl
+
+  module _ (few : nat_le most_branches (length before.branches) ≡ false) where
+    pub no_name : (fault : CellFault) → row_name head.width head.name row ≡ Err fault → with_row ports overhead head before row ≡ Err fault
+    unfolding with_row
+    no_name fault h = rw few (ap (λ (r : RowRead (List ℕ)). and_then r named) h)
+
+    pub has_name : (name : List ℕ) → row_name head.width head.name row ≡ Ok name → with_row ports overhead head before row ≡ named name
+    unfolding with_row
+    has_name name h = rw few (ap (λ (r : RowRead (List ℕ)). and_then r named) h)
+
+    module _ (name : List ℕ) (is_name : row_name head.width head.name row ≡ Ok name) where
+      pub no_room : (fault : CellFault) → has_room before (position (bytes_eq name) before.names) ≡ Err fault → with_row ports overhead head before row ≡ Err fault
+      no_room fault h = has_name name is_name ∙ ap (λ (r : RowRead (Option ℕ)). and_then r (roomed name)) h
+
+      module _ (number : Option ℕ) (room : has_room before (position (bytes_eq name) before.names) ≡ Ok number) where
+        to_room : with_row ports overhead head before row ≡ roomed name number
+        to_room = has_name name is_name ∙ ap (λ (r : RowRead (Option ℕ)). and_then r (roomed name)) room
+
+        pub no_text : {X : Type 0} (view : X → LinkText) (error : RowError) (made : Links) → Tells view (Err error) (link_row head row) → Makes (Err error) (with_row ports overhead head before row) made
+        no_text view (Cell fault) made t = to_room ∙ ap (λ (r : RowRead LinkText). and_then r (linked name number)) t
+        no_text view NoMemory made t = tt
+
+        module _ (text : LinkText) (says : link_row head row ≡ Ok text) where
+          to_text : with_row ports overhead head before row ≡ linked name number text
+          to_text = to_room ∙ ap (λ (r : RowRead LinkText). and_then r (linked name number)) says
+
+          pub no_link : (error : RowError) (some made : Links) (link : ℕ) → MakesLink (Err error) (with_link before name number (keys_of text)) some link → Makes (Err error) (with_row ports overhead head before row) made
+          no_link (Cell fault) some made link m = to_text ∙ ap (λ (r : RowRead Links). and_then r (λ links. with_branch ports overhead (number_or_next before number) links text)) m
+          no_link NoMemory some made link m = tt
+
+          pub to_branch : (links : Links) (link : ℕ) → MakesLink (Ok link) (with_link before name number (keys_of text)) links (number_or_next before number)
+              → with_row ports overhead head before row ≡ with_branch ports overhead link links text
+          to_branch links link m =
+              to_text
+              ∙ (ap (λ (r : RowRead Links). and_then r (λ links. with_branch ports overhead (number_or_next before number) links text)) m.0
+              ∙ ap (λ (n : ℕ). with_branch ports overhead n links text) (sym m.1))
+
+-- ---- tests
+pub is_full : (most n : ℕ) → most ≤ n → nat_le most n ≡ true
+is_full most n h = grind (arith, nat_tests)
+
+pub is_not_full : (most n : ℕ) → n < most → nat_le most n ≡ false
+is_not_full most n h = grind (arith, nat_tests)

@@ -1,0 +1,94 @@
+use Rattle.std.proofs.Common.{◌≡◌, ◌<◌, ◌≤◌, nat_le, true, false, List, ℕ, Option, Some, None, map, position, length, Ok, Err, sym, ap, subst, ◌∙◌, arith}
+use Rattle.std.specs.Str.{bytes_eq}
+use Rattle.std.specs.String.{string_bytes}
+use Rattle.std.proofs.lemmas.List.{length-map}
+use Rattle.std.proofs.lemmas.Result.{err_from_is_err_and}
+use Rattle.csv.specs.Records.{fields_of}
+use Rattle.document_rows.specs.LinkRows.{LinkText, link_view, link_row}
+use Rattle.document_tables.specs.declared.links.LinkKeys.{LinkKeys}
+use Rattle.document_tables.specs.LinkTrees.{MakesLink}
+use Rattle.document_tables.specs.Links.{branch_view, links_view, with_link, with_row, has_room, number_or_next, most_branches, keys_of, with_branch}
+use Rattle.document_tables.specs.Ports.{ports_view}
+use Rattle.document_tables.specs.Tables.{Makes}
+use Rattle.document_tables.proofs.LinkSteps.{too_many, no_name, no_room, no_text, no_link, to_branch, is_full, is_not_full}
+use Rattle.document_tables.proofs.RowRanges.{link_says}
+use Rattle.document_tables.proofs.links.add_row.Goals as goal
+
+pub returns-then-len-ge-MOST_BRANCHES-clause-value : goal.returns-then-len-ge-MOST_BRANCHES-clause-value
+returns-then-len-ge-MOST_BRANCHES-clause-value c =
+    let ports = ports_view c.args.ports.now in
+    let before = links_view c.args.table.now in
+    let row = fields_of c.args.row.now in
+    let n = length-map c.args.table.now.branches.items branch_view in
+    let full : nat_le most_branches (length before.branches) ≡ true = is_full most_branches (length before.branches) (omega (arith, n, c.len.ensures, c.if-len-ge-MOST_BRANCHES.true)) in
+    subst (λ e. Makes (Err e) (with_row ports c.args.overhead c.args.head.now before row) before) (sym c.wrong_name.ensures) (too_many ports c.args.overhead c.args.head.now before row full)
+
+pub returns-in_err-name-clause-value : goal.returns-in_err-name-clause-value
+returns-in_err-name-clause-value c =
+    let ports = ports_view c.args.ports.now in
+    let before = links_view c.args.table.now in
+    let row = fields_of c.args.row.now in
+    let n = length-map c.args.table.now.branches.items branch_view in
+    let few : nat_le most_branches (length before.branches) ≡ false = is_not_full most_branches (length before.branches) (omega (arith, n, c.len.ensures, c.if-len-ge-MOST_BRANCHES.false)) in
+    let p = err_from_is_err_and c.from_residual.result c.from_residual.ensures.1 in
+    subst (λ r. Makes r (with_row ports c.args.overhead c.args.head.now before row) before) (sym (p.1 ∙ ap Err p.2))
+    (no_name ports c.args.overhead c.args.head.now before row few c.in_err-name.field-0.0 (sym c.in_err-name.ensures))
+
+pub returns-in_err-number-clause-value : goal.returns-in_err-number-clause-value
+returns-in_err-number-clause-value c =
+    let ports = ports_view c.args.ports.now in
+    let before = links_view c.args.table.now in
+    let row = fields_of c.args.row.now in
+    let n = length-map c.args.table.now.branches.items branch_view in
+    let few : nat_le most_branches (length before.branches) ≡ false = is_not_full most_branches (length before.branches) (omega (arith, n, c.len.ensures, c.if-len-ge-MOST_BRANCHES.false)) in
+    let p = err_from_is_err_and c.from_residual-in_err-number.result c.from_residual-in_err-number.ensures.1 in
+    subst (λ r. Makes r (with_row ports c.args.overhead c.args.head.now before row) before) (sym (p.1 ∙ ap Err p.2))
+    (no_room ports c.args.overhead c.args.head.now before row few c.in_ok-name.name.now (sym c.in_ok-name.ensures) c.in_err-number.field-0.0
+    (ap (has_room before) (sym c.number_of.ensures.value) ∙ sym c.in_err-number.ensures.value))
+
+pub returns-in_err-row-clause-value : goal.returns-in_err-row-clause-value
+returns-in_err-row-clause-value c =
+    let ports = ports_view c.args.ports.now in
+    let before = links_view c.args.table.now in
+    let row = fields_of c.args.row.now in
+    let n = length-map c.args.table.now.branches.items branch_view in
+    let few : nat_le most_branches (length before.branches) ≡ false = is_not_full most_branches (length before.branches) (omega (arith, n, c.len.ensures, c.if-len-ge-MOST_BRANCHES.false)) in
+    let p = err_from_is_err_and c.from_residual-in_err-row.result c.from_residual-in_err-row.ensures.1 in
+    subst (λ r. Makes r (with_row ports c.args.overhead c.args.head.now before row) before) (sym (p.1 ∙ ap Err p.2))
+    (no_text ports c.args.overhead c.args.head.now before row few c.in_ok-name.name.now (sym c.in_ok-name.ensures) c.in_ok-number.number
+    (ap (has_room before) (sym c.number_of.ensures.value) ∙ sym c.in_ok-number.ensures.value) link_view c.in_err-row.field-0.0 before c.in_err-row.ensures)
+
+pub returns-in_err-link-clause-value : goal.returns-in_err-link-clause-value
+returns-in_err-link-clause-value c =
+    let ports = ports_view c.args.ports.now in
+    let before = links_view c.args.table.now in
+    let row = fields_of c.args.row.now in
+    let text = link_view c.in_ok-row.row in
+    let n = length-map c.args.table.now.branches.items branch_view in
+    let few : nat_le most_branches (length before.branches) ≡ false = is_not_full most_branches (length before.branches) (omega (arith, n, c.len.ensures, c.if-len-ge-MOST_BRANCHES.false)) in
+    let p = err_from_is_err_and c.from_residual-in_err-link.result c.from_residual-in_err-link.ensures.1 in
+    let made = links_view c.add_link.new.table in
+    let next = number_or_next before c.in_ok-number.number in
+    let m = subst (λ (keys : LinkKeys). MakesLink (Err c.in_err-link.field-0.0) (with_link before c.in_ok-name.name.now c.in_ok-number.number keys) made next) c.keys_of.ensures c.in_err-link.ensures.value in
+    subst (λ r. Makes r (with_row ports c.args.overhead c.args.head.now before row) made) (sym (p.1 ∙ ap Err p.2))
+    (no_link ports c.args.overhead c.args.head.now before row few c.in_ok-name.name.now (sym c.in_ok-name.ensures) c.in_ok-number.number
+    (ap (has_room before) (sym c.number_of.ensures.value) ∙ sym c.in_ok-number.ensures.value) text c.in_ok-row.ensures c.in_err-link.field-0.0 made made next m)
+
+pub add_branch-requires-clause-row : goal.add_branch-requires-clause-row
+add_branch-requires-clause-row c = link_says c.args.head.now (fields_of c.args.row.now) (link_view c.in_ok-row.row) c.in_ok-row.ensures
+
+pub returns-clause-value : goal.returns-clause-value
+returns-clause-value c =
+    let ports = ports_view c.args.ports.now in
+    let before = links_view c.args.table.now in
+    let row = fields_of c.args.row.now in
+    let text = link_view c.in_ok-row.row in
+    let n = length-map c.args.table.now.branches.items branch_view in
+    let few : nat_le most_branches (length before.branches) ≡ false = is_not_full most_branches (length before.branches) (omega (arith, n, c.len.ensures, c.if-len-ge-MOST_BRANCHES.false)) in
+    let made = links_view c.add_link.new.table in
+    let next = number_or_next before c.in_ok-number.number in
+    let m = subst (λ (keys : LinkKeys). MakesLink (Ok c.in_ok-link.link) (with_link before c.in_ok-name.name.now c.in_ok-number.number keys) made next) c.keys_of.ensures c.in_ok-link.ensures.value in
+    let same = to_branch ports c.args.overhead c.args.head.now before row few c.in_ok-name.name.now (sym c.in_ok-name.ensures) c.in_ok-number.number
+    (ap (has_room before) (sym c.number_of.ensures.value) ∙ sym c.in_ok-number.ensures.value) text c.in_ok-row.ensures made c.in_ok-link.link m
+    in
+    subst (λ read. Makes c.add_branch.result read (links_view c.add_branch.new.table)) (sym same) c.add_branch.ensures.value
