@@ -11,3 +11,4 @@ pub mod CellRanges
 pub mod RowRanges
 pub mod TableRanges
 pub mod LinkSteps
+pub mod GridSteps

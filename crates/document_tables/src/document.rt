@@ -91,12 +91,12 @@ fn document_with(
 {
     let links = links_on_grid(alloc, &ports, overhead, &table)?;
     let branches = branch_ends(alloc, &table)?;
-    let ports_here = ports_on_grid(alloc, ports.ports)?;
+    let on_grid = ports_on_grid(alloc, &ports.ports)?;
     Ok(Document {
         port_names: ports.names,
         link_names: table.names,
         network: Network {
-            ports: ports_here,
+            ports: on_grid,
             links,
         },
         branches,

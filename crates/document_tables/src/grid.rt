@@ -1,6 +1,7 @@
 //! Tables on the grid of networks.
 
 ghost use Rattle.std.specs.Prelude.{◌≡◌, ◌≤◌, ◌<◌, All, map, length, IfOk};
+ghost use Rattle.document_rows.specs.Disciplines.{discipline_view};
 ghost use Rattle.document_rows.specs.PortRows.{port_view};
 ghost use Rattle.document_tables.specs.Grids as spec;
 ghost use Rattle.document_tables.specs.Links.{branch_view};
@@ -15,7 +16,7 @@ use crate::ports::PortTable;
 use crate::trees::Tree;
 use document_rows::{GateRow, PortRow, frame_on_wire};
 use std::alloc::{AllocError, Global};
-use tree_network::{Gate, Link, Node, Port};
+use tree_network::{Discipline, Gate, Link, Node, Port};
 
 const PICOSECONDS_IN_A_MICROSECOND: u64 = 1_000_000;
 
@@ -34,33 +35,44 @@ fn gate_of(gate: GateRow) -> Gate
     }
 }
 
+// The same discipline once more.
+fn discipline_of(discipline: &Discipline) -> Result<Discipline, AllocError>
+    ensures { IfOk result (λ d. discipline_view d ≡ discipline_view discipline.now) }
+{
+    match discipline {
+        Discipline::Fifo => Ok(Discipline::Fifo),
+        Discipline::Priority(queues) => Ok(Discipline::Priority(*queues)),
+        Discipline::Drr(quanta) => Ok(Discipline::Drr(quanta.clone()?)),
+    }
+}
+
 // A port on the grid: what it does rounded down, how long it takes rounded up.
-fn port_of(row: PortRow) -> Port
-    requires { IsPortText (port_view row) }
-    ensures { spec.grid_port result ≡ spec.port_on_grid (port_view row) }
+fn port_of(row: &PortRow) -> Result<Port, AllocError>
+    requires { IsPortText (port_view row.now) }
+    ensures { IfOk result (λ port. spec.grid_port port ≡ spec.port_on_grid (port_view row.now)) }
 {
     let gate = match row.gate {
         Some(gate) => Some(gate_of(gate)),
         None => None,
     };
-    Port {
+    Ok(Port {
         rate: row.rate.rounded_down(GRAINS_A_SECOND_IN_A_MEGABIT),
         pace: row.rate.rounded_up(GRAINS_A_SECOND_IN_A_MEGABIT),
         latency: row.latency.rounded_up(PICOSECONDS_IN_A_MICROSECOND),
         link: row.link.rounded_up(PICOSECONDS_IN_A_MICROSECOND),
-        discipline: row.discipline,
+        discipline: discipline_of(&row.discipline)?,
         gate,
-    }
+    })
 }
 
 /// The ports on the grid.
-pub(crate) fn ports_on_grid(alloc: Global, rows: Vec<PortRow>) -> Result<Vec<Port>, AllocError>
-    requires { All IsPortText (map port_view rows.items) }
-    ensures { IfOk result (λ ports. map spec.grid_port ports.items ≡ map spec.port_on_grid (map port_view rows.items)) }
+pub(crate) fn ports_on_grid(alloc: Global, rows: &[PortRow]) -> Result<Vec<Port>, AllocError>
+    requires { All IsPortText (map port_view rows.now) }
+    ensures { IfOk result (λ ports. map spec.grid_port ports.items ≡ map spec.port_on_grid (map port_view rows.now)) }
 {
     let mut ports = Vec::new(alloc);
-    for row in rows {
-        ports.push(port_of(row))?;
+    for place in 0..rows.len() {
+        ports.push(port_of(&rows[place])?)?;
     }
     Ok(ports)
 }
