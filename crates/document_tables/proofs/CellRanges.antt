@@ -1,7 +1,6 @@
 -- The ranges of what cells are read as.
-use Rattle.std.proofs.Common.{◌≡◌, ℕ, zero, suc, ◌+◌, ◌*◌, ◌<◌, ◌≤◌, ◌==◌, ◌&&◌, nat_le, nat_lt, Bool, true, false, List, [], ◌∷◌, ◌++◌, length, All, Option, Some, None, Result, Ok, Err, refl, sym, ap, subst, ◌∙◌, arith, length-append}
+use Rattle.std.proofs.Common.{◌≡◌, ℕ, ◌+◌, ◌*◌, ◌≤◌, ◌==◌, ◌&&◌, nat_le, nat_lt, Bool, true, false, List, [], ◌∷◌, ◌++◌, length, All, Option, Some, None, Ok, Err, refl, ap, subst, arith, length-append}
 use Rattle.std.specs.Prelude.{not, ok_or, slice_index_or, codes, if◌then◌else◌, option_map}
-use Rattle.std.specs.Option.{option_and_then}
 use Rattle.std.specs.Str.{bytes_eq}
 use Rattle.std.proofs.lemmas.Bool.Decides.{nat_tests}
 use Rattle.std.proofs.lemmas.List.Elements.{All-nil, All-push}
@@ -10,12 +9,12 @@ use Rattle.table_cells.specs.Amounts.{IsAmount, amount_in, few_digits, is_at_mos
 use Rattle.table_cells.proofs.Digits.{both}
 use Rattle.document_rows.specs.declared.disciplines.GateRow.{GateRow}
 use Rattle.document_rows.specs.declared.fault.Wrong.TheVariants.{Empty, NoNumber, NoWhole, TooSmall, TooLarge, NoDiscipline, SlotTooLong, PathTooLong}
-use Rattle.document_rows.specs.Reads.{CellRead, and_then}
+use Rattle.document_rows.specs.Reads.{and_then}
 use Rattle.document_rows.specs.Rows.{is_empty}
 use Rattle.document_rows.specs.Cells.{number_in, within, longest_time, time_in, time_or_zero, rate_in, gap_in, in_range, whole_between}
-use Rattle.document_rows.specs.Disciplines.{DisciplineText, Fifo, Priority, Drr, is_between, whole_of, most_queues, queues_in, quantum_in, quanta_from, quanta_of, quanta_in, discipline_of, gate_with, gate_times, gate_of}
+use Rattle.document_rows.specs.Disciplines.{DisciplineText, Fifo, Priority, Drr, is_between, whole_of, most_queues, queues_in, quantum_in, quanta_from, quanta_of, quanta_in, discipline_of, gate_with, gate_of}
 use Rattle.document_rows.specs.LinkRows.{priority_in, path_of}
-use Rattle.document_tables.specs.Ranges.{IsWithin, IsTime, IsGate, IsGateOrNone, IsQuantum, IsDiscipline}
+use Rattle.document_tables.specs.Ranges.{IsWithin, IsTime, IsGateOrNone, IsQuantum, IsDiscipline}
 use Rattle.document_tables.proofs.Reading.{both_read, both_some, one_some, some_read, not_refused, not_denied, allowed, same_read, some_if}
 use Rattle.document_tables.proofs.AmountRanges.{amount_written, zero_amount}
 

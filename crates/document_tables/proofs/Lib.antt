@@ -12,3 +12,8 @@ pub mod RowRanges
 pub mod TableRanges
 pub mod LinkSteps
 pub mod GridSteps
+pub mod StopOrder
+pub mod BranchFacts
+pub mod LinkFacts
+pub mod GridRanges
+pub mod NetworkFacts

@@ -1,6 +1,6 @@
 -- Links, one row after another.
-use Rattle.std.proofs.Common.{◌≡◌, ℕ, zero, suc, ◌+◌, ◌<◌, ◌≤◌, ◌==◌, ◌||◌, Bool, true, false, cond, List, [], ◌∷◌, ◌++◌, map, filter, length, set, get_or, position, Option, Some, None, Result, Ok, Err, refl, sym, ap, ap₂, subst, ◌∙◌, arith, length-append, length-set, ⊎_elim, inl, inr, ◌⊎◌}
-use Rattle.std.specs.Prelude.{slice_get, nat_le, if◌then◌else◌}
+use Rattle.std.proofs.Common.{◌≡◌, ℕ, ◌+◌, ◌<◌, ◌≤◌, ◌==◌, ◌||◌, Bool, true, false, cond, List, [], ◌∷◌, ◌++◌, map, filter, length, set, get_or, position, Option, Some, None, Ok, Err, refl, sym, ap, ap₂, subst, ◌∙◌, arith, length-append, length-set, ⊎_elim, ◌⊎◌}
+use Rattle.std.specs.Prelude.{slice_get, nat_le}
 use Rattle.std.specs.List.{list_any, position_from}
 use Rattle.std.specs.Str.{bytes_eq}
 use Rattle.std.proofs.lemmas.Iterator.Adapters.{position_from-zero}
@@ -100,10 +100,10 @@ paths_same link bs b e =
 
 -- ---- branches
 module _ (ports : Ports) (overhead link : ℕ) (before : Links) (row : LinkText) where
-  abbrev ports_read : CellRead (List ℕ)
+  abbrev pub ports_read : CellRead (List ℕ)
   ports_read = path_ports ports row.priority (frame_on_wire row.largest_frame overhead) row.path
 
-  abbrev hung : List ℕ → RowRead Links
+  abbrev pub hung : List ℕ → RowRead Links
   hung path =
       and_then (at column.Path (hangs_from (paths_of link before.branches) 0 None path)) (λ last.
       Ok (record before { branches = before.branches ++ record { link = link; path = path; deadline = row.deadline } ∷ [] }))
@@ -143,13 +143,13 @@ module _ (ports : Ports) (overhead link : ℕ) (before : Links) (row : LinkText)
 
 -- ---- rows
 module _ (ports : Ports) (overhead : ℕ) (head : LinkHead) (before : Links) (row : Row) where
-  abbrev linked : List ℕ → Option ℕ → LinkText → RowRead Links
+  abbrev pub linked : List ℕ → Option ℕ → LinkText → RowRead Links
   linked name number text = and_then (with_link before name number (keys_of text)) (λ links. with_branch ports overhead (number_or_next before number) links text)
 
-  abbrev roomed : List ℕ → Option ℕ → RowRead Links
+  abbrev pub roomed : List ℕ → Option ℕ → RowRead Links
   roomed name number = and_then (link_row head row) (linked name number)
 
-  abbrev named : List ℕ → RowRead Links
+  abbrev pub named : List ℕ → RowRead Links
   named name = and_then (has_room before (position (bytes_eq name) before.names)) (roomed name)
 
   pub too_many : nat_le most_branches (length before.branches) ≡ true → with_row ports overhead head before row ≡ Err (record { column = column.Name; wrong = TooManyRows })

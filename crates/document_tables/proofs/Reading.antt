@@ -1,5 +1,5 @@
 -- What is known where something was read.
-use Rattle.std.proofs.Common.{◌≡◌, Bool, true, false, cond, Option, Some, None, option_map, Result, Ok, Err, refl}
+use Rattle.std.proofs.Common.{◌≡◌, Bool, true, false, Option, Some, None, option_map, Result, Ok, Err, refl}
 use Rattle.std.specs.Prelude.{ok_or, not, if◌then◌else◌}
 use Rattle.std.specs.Option.{option_and_then}
 use Rattle.document_rows.specs.declared.fault.Column.{Column}

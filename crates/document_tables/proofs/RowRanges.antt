@@ -1,11 +1,10 @@
 -- The ranges of what rows say.
-use Rattle.std.proofs.Common.{◌≡◌, ℕ, ◌≤◌, List, length, Option, Some, None, Result, Ok, Err, refl, subst}
+use Rattle.std.proofs.Common.{◌≡◌, ℕ, List, Ok, subst}
 use Rattle.table_cells.specs.declared.amount.Amount.{Amount}
 use Rattle.table_cells.specs.Words.{words_of}
 use Rattle.document_rows.specs.declared.fault.Column.TheVariants as column
 use Rattle.document_rows.specs.declared.heads.PortHead.{PortHead}
 use Rattle.document_rows.specs.declared.heads.LinkHead.{LinkHead}
-use Rattle.document_rows.specs.declared.disciplines.GateRow.{GateRow}
 use Rattle.document_rows.specs.Reads.{RowRead, and_then, at}
 use Rattle.document_rows.specs.Rows.{Row, cell}
 use Rattle.document_rows.specs.Cells.{rate_in, gap_in, time_or_zero, whole_between}

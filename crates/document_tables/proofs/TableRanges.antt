@@ -1,10 +1,10 @@
 -- The ranges of what tables say.
-use Rattle.std.proofs.Common.{◌≡◌, ℕ, ◌+◌, ◌<◌, ◌≤◌, ◌==◌, nat_le, Bool, true, false, List, [], ◌∷◌, ◌++◌, length, All, position, Option, Some, None, Result, Ok, Err, refl, subst}
-use Rattle.std.specs.Prelude.{not, slice_get, if◌then◌else◌}
+use Rattle.std.proofs.Common.{◌≡◌, ℕ, ◌<◌, ◌≤◌, nat_le, List, [], ◌∷◌, ◌++◌, length, All, position, Option, Some, None, Ok, Err, subst, arith, length-append}
+use Rattle.std.specs.Prelude.{slice_get, if◌then◌else◌}
 use Rattle.std.specs.List.{list_any}
 use Rattle.std.specs.Str.{bytes_eq}
+use Rattle.std.proofs.lemmas.Bool.Decides.{nat_tests}
 use Rattle.std.proofs.lemmas.List.Elements.{All-nil, All-push}
-use Rattle.table_cells.specs.Amounts.{equals}
 use Rattle.csv_rows.specs.Rows.{Row}
 use Rattle.document_rows.specs.declared.fault.Column.TheVariants as column
 use Rattle.document_rows.specs.declared.fault.Wrong.TheVariants.{TooManyRows, NameTwice}
@@ -12,11 +12,10 @@ use Rattle.document_rows.specs.declared.heads.PortHead.{PortHead}
 use Rattle.document_rows.specs.declared.heads.LinkHead.{LinkHead}
 use Rattle.document_rows.specs.Reads.{RowRead, and_then, at}
 use Rattle.document_rows.specs.Heads.{port_head, link_head, row_name}
-use Rattle.document_rows.specs.PortRows.{PortText, port_row}
+use Rattle.document_rows.specs.PortRows.{port_row}
 use Rattle.document_rows.specs.LinkRows.{LinkText, link_row, frame_on_wire}
-use Rattle.document_tables.specs.declared.links.LinkKeys.{LinkKeys}
 use Rattle.document_tables.specs.Ranges.{IsPortText, IsLinkText, AreLinkKeys}
-use Rattle.document_tables.specs.Tables.{LineRow, TableRead, at_line, after_rows, table_of}
+use Rattle.document_tables.specs.Tables.{LineRow, at_line, after_rows, table_of}
 use Rattle.document_tables.specs.Ports.{Ports, with_port, no_ports, ports_of, most_ports}
 use Rattle.document_tables.specs.Paths.{path_ports}
 use Rattle.document_tables.specs.Trees.{hangs_from}
@@ -47,7 +46,7 @@ kept_by_table P head step none p more (first ∷ rows) t h =
 
 -- ---- ports
 abbrev AreInRange : Ports → Type 0
-AreInRange ports = All IsPortText ports.ports
+AreInRange ports = All IsPortText ports.ports × (length ports.ports ≤ most_ports)
 
 module _ (head : PortHead) (before : Ports) (row : Row) where
   abbrev port_named : List ℕ → RowRead Ports
@@ -65,10 +64,12 @@ module _ (head : PortHead) (before : Ports) (row : Row) where
       in
       let port = both_read (port_row head row) (λ port. Ok (record { names = before.names ++ name.0 ∷ []; ports = before.ports ++ port ∷ [] })) after new.1 in
       let made : Ports = record { names = before.names ++ name.0 ∷ []; ports = before.ports ++ port.0 ∷ [] } in
-      subst AreInRange (same_read made after port.2) (All-push IsPortText before.ports port.0 p (port_says head row port.0 port.1))
+      let less : length before.ports < most_ports = grind (arith, nat_tests, few.0) in
+      let longer = length-append before.ports (port.0 ∷ []) in
+      subst AreInRange (same_read made after port.2) (All-push IsPortText before.ports port.0 p.0 (port_says head row port.0 port.1), omega (arith, less, longer))
 
-pub ports_in_range : (rows : List LineRow) (ports : Ports) → ports_of rows ≡ Ok ports → All IsPortText ports.ports
-ports_in_range rows ports h = kept_by_table AreInRange port_head with_port no_ports (All-nil IsPortText) port_more rows ports h
+pub ports_in_range : (rows : List LineRow) (ports : Ports) → ports_of rows ≡ Ok ports → All IsPortText ports.ports × (length ports.ports ≤ most_ports)
+ports_in_range rows ports h = kept_by_table AreInRange port_head with_port no_ports (All-nil IsPortText, omega arith) port_more rows ports h
 
 -- ---- links
 abbrev HaveKeys : Links → Type 0

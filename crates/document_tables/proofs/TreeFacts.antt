@@ -1,12 +1,11 @@
 -- Trees, one port of a path after another.
-use Rattle.std.proofs.Common.{◌≡◌, ℕ, ◌+◌, ◌==◌, ◌&&◌, ◌||◌, Bool, true, false, cond, List, [], ◌∷◌, ◌++◌, Option, Some, None, Ok, Err, refl, sym, ap, subst, ◌∙◌, arith, inl, inr, ⊎_elim, ◌⊎◌}
+use Rattle.std.proofs.Common.{◌≡◌, ℕ, ◌==◌, ◌&&◌, ◌||◌, Bool, true, false, List, [], ◌∷◌, ◌++◌, Option, Some, None, refl, sym, ap, subst, ◌∙◌, arith, inl, inr, ⊎_elim, ◌⊎◌}
 use Rattle.std.specs.Prelude.{not}
 use Rattle.std.specs.List.{list_any}
 use Rattle.std.proofs.lemmas.Bool.{eq-eqb}
 use Rattle.std.proofs.lemmas.Bool.Decides.{nat_tests}
 use Rattle.table_cells.proofs.Digits.{both}
-use Rattle.document_rows.specs.declared.fault.Wrong.TheVariants.{BeginsElsewhere, AfterAnother}
-use Rattle.document_tables.specs.Trees.{same, comes_after, comes_otherwise, begins_elsewhere, last_of, hangs, comes, AreKept}
+use Rattle.document_tables.specs.Trees.{same, comes_after, comes_otherwise, begins_elsewhere, last_of, comes}
 
 -- ---- truths
 pub clash : (b : Bool) → b ≡ true → b ≡ false → ⊥

@@ -1,6 +1,6 @@
 -- What a document of two tables means: its names, its network on the grid and its branches; or its first fault, those of ports
 -- before those of links.
-use Rattle.std.specs.Prelude.{◌≡◌, ℕ, List, map, Option, Result, Ok, Err}
+use Rattle.std.specs.Prelude.{◌≡◌, ℕ, List, map, Result, Ok, Err}
 use Rattle.std.specs.String.{string_bytes}
 use Rattle.document_rows.specs.Reads.{and_then}
 use Rattle.document_tables.specs.declared.document.BranchEnd.{BranchEnd}

@@ -8,7 +8,7 @@ use Rattle.tree_network.specs.declared.network.Link.{Link}
 use Rattle.table_cells.specs.declared.amount.Amount.{Amount}
 use Rattle.table_cells.specs.Amounts.{rounded_down, rounded_up}
 use Rattle.document_rows.specs.declared.disciplines.GateRow.{GateRow}
-use Rattle.document_rows.specs.Disciplines.{DisciplineText, Fifo, discipline_view}
+use Rattle.document_rows.specs.Disciplines.{DisciplineText, discipline_view}
 use Rattle.document_rows.specs.PortRows.{PortText}
 use Rattle.document_rows.specs.LinkRows.{frame_on_wire}
 use Rattle.document_tables.specs.declared.links.LinkKeys.{LinkKeys}

@@ -1,5 +1,5 @@
 -- What the calls that read links keep and answer: for each link the tree of its paths.
-use Rattle.std.specs.Prelude.{◌≡◌, ℕ, ◌≤◌, List, [], length, map, slice_get, Option, Some, Result, Ok, Err}
+use Rattle.std.specs.Prelude.{◌≡◌, ℕ, ◌≤◌, [], length, map, slice_get, Some, Result, Ok, Err}
 use Rattle.document_rows.specs.declared.fault.CellFault.{CellFault}
 use Rattle.document_rows.specs.declared.fault.RowError.{RowError}
 use Rattle.document_rows.specs.declared.fault.RowError.TheVariants.{Cell, NoMemory}
@@ -7,7 +7,7 @@ use Rattle.document_rows.specs.Reads.{RowRead}
 use Rattle.document_tables.specs.declared.links.LinkKeys.{LinkKeys}
 use Rattle.document_tables.specs.declared.links.LinkTable.{LinkTable}
 use Rattle.document_tables.specs.declared.trees.Tree.{Tree}
-use Rattle.document_tables.specs.Links.{Links, links_view, paths_of, branch_view}
+use Rattle.document_tables.specs.Links.{Links, paths_of, branch_view}
 use Rattle.document_tables.specs.Trees.{IsTreeOf}
 
 -- each link has a name, what its rows agree in, and the tree of its paths; a branch is of one of them

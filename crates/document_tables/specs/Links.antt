@@ -1,5 +1,5 @@
 -- The table of links. Own choice.
-use Rattle.std.specs.Prelude.{ℕ, ◌==◌, not, List, [], ◌∷◌, ◌++◌, length, map, filter, nat_le, Option, Some, None, slice_get, Result, Ok, Err, if◌then◌else◌}
+use Rattle.std.specs.Prelude.{ℕ, ◌==◌, not, List, [], ◌∷◌, ◌++◌, length, map, filter, nat_le, Option, Some, None, slice_get, Ok, Err, if◌then◌else◌}
 use Rattle.std.specs.List.{position}
 use Rattle.std.specs.Str.{bytes_eq}
 use Rattle.std.specs.String.{string_bytes}
@@ -9,7 +9,7 @@ use Rattle.table_cells.specs.Amounts.{equals}
 use Rattle.document_rows.specs.declared.fault.Column.TheVariants as column
 use Rattle.document_rows.specs.declared.fault.Wrong.TheVariants.{TooManyRows, TooManyLinks, Differs}
 use Rattle.document_rows.specs.declared.heads.LinkHead.{LinkHead}
-use Rattle.document_rows.specs.Reads.{CellRead, RowRead, and_then, at}
+use Rattle.document_rows.specs.Reads.{RowRead, and_then, at}
 use Rattle.document_rows.specs.Heads.{link_head, row_name}
 use Rattle.document_rows.specs.LinkRows.{LinkText, link_row, frame_on_wire}
 use Rattle.document_tables.specs.declared.links.LinkKeys.{LinkKeys}

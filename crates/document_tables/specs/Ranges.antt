@@ -1,5 +1,5 @@
 -- The ranges of what rows say.
-use Rattle.std.specs.Prelude.{◌≡◌, true, ℕ, ◌<◌, ◌≤◌, All, length, Option, Some, None}
+use Rattle.std.specs.Prelude.{◌≡◌, true, ℕ, ◌≤◌, All, length, Option, Some, None}
 use Rattle.table_cells.specs.declared.amount.Amount.{Amount}
 use Rattle.table_cells.specs.Amounts.{IsAmount, is_at_most, is_within, reaches_one}
 use Rattle.document_rows.specs.declared.disciplines.GateRow.{GateRow}

@@ -5,7 +5,6 @@ use Rattle.csv_rows.specs.declared.rows.TableRow.{TableRow}
 use Rattle.csv_rows.specs.Rows.{Row, cells_of}
 use Rattle.document_rows.specs.declared.fault.Column.TheVariants as column
 use Rattle.document_rows.specs.declared.fault.Wrong.TheVariants.{Missing}
-use Rattle.document_rows.specs.declared.fault.CellFault.{CellFault}
 use Rattle.document_rows.specs.declared.fault.RowError.{RowError}
 use Rattle.document_rows.specs.declared.fault.RowError.TheVariants.{Cell, NoMemory}
 use Rattle.document_rows.specs.Reads.{RowRead, and_then}

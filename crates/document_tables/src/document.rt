@@ -1,6 +1,7 @@
 //! Documents.
 
 ghost use Rattle.std.specs.Prelude.{◌≡◌, ◌≤◌, ◌<◌, All, map, length, IfOk};
+ghost use Rattle.tree_network.specs.Networks.{IsNetwork};
 ghost use Rattle.document_tables.specs.Documents as spec;
 ghost use Rattle.document_tables.specs.Grids as grids;
 ghost use Rattle.document_tables.specs.Links.{branch_view, links_view};
@@ -113,8 +114,9 @@ pub fn read_document(
     overhead: u64,
 ) -> Result<Document, DocumentError>
     requires { overhead ≤ 1048576 }
-    ensures { spec.TellsDocument result
+    ensures value { spec.TellsDocument result
         (spec.document_of overhead (map row_view port_rows.now) (map row_view link_rows.now)) }
+    ensures network { IfOk result (λ d. IsNetwork d.network) }
 {
     let ports = match read_ports(alloc, port_rows) {
         Ok(ports) => ports,

@@ -1,8 +1,9 @@
 //! One document for each fault.
 
+use crate::reading::read_texts;
 use document_faults::fault_line;
 use document_rows::{Column, Wrong};
-use document_tables::{DocumentError, LineFault, TableFile, read_document};
+use document_tables::{DocumentError, LineFault, TableFile};
 use std::alloc::Global;
 use std::test::Fail;
 
@@ -27,7 +28,7 @@ fn is_fault(
     column: Column,
     wrong: Wrong,
 ) -> bool {
-    match read_document(alloc, ports.as_bytes(), links.as_bytes(), 20) {
+    match read_texts(alloc, ports, links) {
         Err(error) => error
             == DocumentError::Fault(
                 file,

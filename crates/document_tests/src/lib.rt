@@ -5,3 +5,5 @@
 mod faults;
 #[cfg(test)]
 mod networks;
+#[cfg(test)]
+mod reading;

@@ -1,6 +1,6 @@
 //! Documents that mean a network.
 
-use document_tables::read_document;
+use crate::reading::read_texts;
 use std::test::Fail;
 use tree_network::{Discipline, Gate, Node};
 
@@ -21,7 +21,7 @@ e1  s1 s2,vl_1,2.0,84,1/2,1,
 
 #[test]
 fn numbers_are_rounded_to_a_side(rt: HostRuntime) -> Result<(), Fail> {
-    let Ok(document) = read_document(rt.alloc(), PORTS.as_bytes(), LINKS.as_bytes(), 20) else {
+    let Ok(document) = read_texts(rt.alloc(), PORTS, LINKS) else {
         return Err(Fail::new("no network"));
     };
     let ports = document.network.ports.as_slice();
@@ -47,7 +47,7 @@ fn numbers_are_rounded_to_a_side(rt: HostRuntime) -> Result<(), Fail> {
 
 #[test]
 fn branches_make_a_tree(rt: HostRuntime) -> Result<(), Fail> {
-    let Ok(document) = read_document(rt.alloc(), PORTS.as_bytes(), LINKS.as_bytes(), 20) else {
+    let Ok(document) = read_texts(rt.alloc(), PORTS, LINKS) else {
         return Err(Fail::new("no network"));
     };
     let links = document.network.links.as_slice();
@@ -79,5 +79,19 @@ fn branches_make_a_tree(rt: HostRuntime) -> Result<(), Fail> {
     assert!(rt;
         document.branches[1].link == 1 && document.branches[1].node == 1
     );
+    Ok(())
+}
+
+#[test]
+fn names_and_deadlines_are_kept(rt: HostRuntime) -> Result<(), Fail> {
+    let Ok(document) = read_texts(rt.alloc(), PORTS, LINKS) else {
+        return Err(Fail::new("no network"));
+    };
+    assert!(rt; document.port_names.get_index_of("s1") == Some(1));
+    assert!(rt; document.link_names.get_index_of("vl_2") == Some(1));
+    assert!(rt;
+        matches!(document.branches[0].deadline, Some(d) if d.top == 1005 && d.bottom == 10)
+    );
+    assert!(rt; document.branches[1].deadline.is_none());
     Ok(())
 }

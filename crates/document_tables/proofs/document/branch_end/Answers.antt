@@ -1,7 +1,7 @@
 use Rattle.std.specs.Prelude.{slice_get}
-use Rattle.std.proofs.Common.{◌≡◌, ◌<◌, List, ℕ, map, length, Some, sym, ap, ap₂, ◌∙◌, arith}
+use Rattle.std.proofs.Common.{◌≡◌, Some, sym, ap, ap₂, ◌∙◌, arith}
 use Rattle.std.proofs.lemmas.Option.{slice_get-get_or}
-use Rattle.document_tables.specs.Grids.{BranchOnGrid, end_of}
+use Rattle.document_tables.specs.Grids.{end_of}
 use Rattle.document_tables.proofs.document.branch_end.Goals as goal
 
 pub returns : goal.returns

@@ -1,13 +1,28 @@
-use Rattle.std.proofs.Common.{map}
+use Rattle.std.proofs.Common.{map, ap}
+use Rattle.document_tables.specs.Documents.{DocumentText}
 use Rattle.document_tables.specs.Links.{links_view}
 use Rattle.document_tables.specs.Ports.{ports_view}
 use Rattle.document_tables.specs.Tables.{row_view}
 use Rattle.document_tables.proofs.TableRanges.{ports_in_range, links_in_range}
+use Rattle.document_tables.proofs.LinkFacts.{links_are}
+use Rattle.document_tables.proofs.NetworkFacts.{network_range}
 use Rattle.document_tables.proofs.document.read_document.Goals as goal
 
 pub document_with-requires-clause-ports : goal.document_with-requires-clause-ports
-document_with-requires-clause-ports c = ports_in_range (map row_view c.args.port_rows.now) (ports_view c.in-Ok.ports) c.in-Ok.ensures
+document_with-requires-clause-ports c = (ports_in_range (map row_view c.args.port_rows.now) (ports_view c.in-Ok.ports) c.in-Ok.ensures).0
 
 pub document_with-requires-clause-keys : goal.document_with-requires-clause-keys
 document_with-requires-clause-keys c =
     links_in_range (ports_view c.in-Ok.ports) c.args.overhead (map row_view c.args.link_rows.now) (links_view c.in-Ok-read_links.table) c.in-Ok-read_links.ensures.value
+
+pub returns-in-Ok-document_with-clause-network : goal.returns-in-Ok-document_with-clause-network
+returns-in-Ok-document_with-clause-network c =
+    let ports = ports_view c.in-Ok.ports in
+    let links = links_view c.in-Ok-read_links.table in
+    let port_rows = map row_view c.args.port_rows.now in
+    let link_rows = map row_view c.args.link_rows.now in
+    let texts = ports_in_range port_rows ports c.in-Ok.ensures in
+    let keys = links_in_range ports c.args.overhead link_rows links c.in-Ok-read_links.ensures.value in
+    let are = links_are ports c.args.overhead link_rows links c.in-Ok-read_links.ensures.value in
+    let same = c.in-Ok-document_with.ensures in
+    network_range ports c.args.overhead c.in-Ok-document_with.document.network (ap (λ (d : DocumentText). d.ports) same) links c.requires texts.1 texts.0 keys are (ap (λ (d : DocumentText). d.links) same)

@@ -1,8 +1,8 @@
 use Rattle.std.specs.declared.alloc.Global.{Global}
-use Rattle.std.proofs.Common.{Bor, Vec, ◌≡◌, ◌+◌, ◌<◌, ◌≤◌, refl, ◌++◌, ◌∷◌, [], List, ℕ, Option, Some, None, map, length, Ok, Err, sym, ap, subst, ◌∙◌, arith, length-append, length-set}
+use Rattle.std.proofs.Common.{Bor, Vec, ◌≡◌, ◌<◌, ◌≤◌, refl, ◌++◌, ◌∷◌, [], List, ℕ, Some, None, map, length, Ok, Err, sym, ap, subst, ◌∙◌, arith, length-set}
 use Rattle.std.specs.Prelude.{slice_get}
 use Rattle.std.proofs.lemmas.Option.{slice_get-get_or}
-use Rattle.std.proofs.lemmas.List.{length-map, map-append}
+use Rattle.std.proofs.lemmas.List.{map-append}
 use Rattle.std.proofs.lemmas.Result.{err_from_is_err_and}
 use Rattle.document_rows.specs.LinkRows.{link_view}
 use Rattle.document_tables.specs.Growing.{Grows}

@@ -1,13 +1,11 @@
-use Rattle.std.proofs.Common.{◌≡◌, ◌<◌, ◌≤◌, nat_le, true, false, List, ℕ, Option, Some, None, map, position, length, Ok, Err, sym, ap, subst, ◌∙◌, arith}
-use Rattle.std.specs.Str.{bytes_eq}
-use Rattle.std.specs.String.{string_bytes}
+use Rattle.std.proofs.Common.{◌≡◌, nat_le, true, false, length, Ok, Err, sym, ap, subst, ◌∙◌, arith}
 use Rattle.std.proofs.lemmas.List.{length-map}
 use Rattle.std.proofs.lemmas.Result.{err_from_is_err_and}
 use Rattle.csv.specs.Records.{fields_of}
-use Rattle.document_rows.specs.LinkRows.{LinkText, link_view, link_row}
+use Rattle.document_rows.specs.LinkRows.{link_view}
 use Rattle.document_tables.specs.declared.links.LinkKeys.{LinkKeys}
 use Rattle.document_tables.specs.LinkTrees.{MakesLink}
-use Rattle.document_tables.specs.Links.{branch_view, links_view, with_link, with_row, has_room, number_or_next, most_branches, keys_of, with_branch}
+use Rattle.document_tables.specs.Links.{branch_view, links_view, with_link, with_row, has_room, number_or_next, most_branches}
 use Rattle.document_tables.specs.Ports.{ports_view}
 use Rattle.document_tables.specs.Tables.{Makes}
 use Rattle.document_tables.proofs.LinkSteps.{too_many, no_name, no_room, no_text, no_link, to_branch, is_full, is_not_full}

@@ -1,6 +1,6 @@
-use Rattle.std.proofs.Common.{◌≡◌, ◌+◌, ◌<◌, length, map, drop, get_or, Err, sym, ap, subst, ◌∙◌, arith}
+use Rattle.std.proofs.Common.{◌≡◌, map, get_or, Err, sym, ap, subst, ◌∙◌, arith}
 use Rattle.std.proofs.lemmas.List.{get_or-map, length-map}
-use Rattle.document_tables.specs.Tables.{TellsTable, after_rows, row_view, LineRow}
+use Rattle.document_tables.specs.Tables.{TellsTable, after_rows, row_view}
 use Rattle.document_tables.specs.Links.{links_view, no_links, with_row}
 use Rattle.document_tables.specs.Ports.{ports_view}
 use Rattle.document_tables.proofs.Steps.{after_more, after_fault, after_all, told}

@@ -1,7 +1,7 @@
 use Rattle.std.specs.Prelude.{not, slice_get}
 use Rattle.std.specs.Str.{bytes_eq}
 use Rattle.std.specs.String.{string_bytes}
-use Rattle.std.proofs.Common.{◌≡◌, ◌++◌, ◌∷◌, [], List, ℕ, true, map, length, Ok, sym, ap, subst, ◌∙◌, arith, length-append}
+use Rattle.std.proofs.Common.{◌∷◌, [], List, ℕ, map, length, Ok, sym, ap, subst, ◌∙◌, arith, length-append}
 use Rattle.std.proofs.lemmas.List.{length-map}
 use Rattle.document_tables.specs.Links.{branch_view, paths_of}
 use Rattle.document_tables.specs.Trees.{IsTreeOf}

@@ -1,5 +1,5 @@
 use Rattle.std.specs.List.{list_any}
-use Rattle.std.proofs.Common.{Bor, List, ℕ, ◌≡◌, ◌==◌, false, ◌+◌, ◌++◌, ◌∷◌, [], map, length, drop, Ok, Err, sym, ap, subst, ◌∙◌, arith, length-append}
+use Rattle.std.proofs.Common.{Bor, List, ℕ, ◌≡◌, ◌==◌, false, ◌+◌, ◌∷◌, [], map, length, drop, Ok, Err, sym, ap, subst, ◌∙◌, arith, length-append}
 use Rattle.std.proofs.lemmas.List.{length-map}
 use Rattle.document_rows.specs.declared.fault.Column.TheVariants as column
 use Rattle.document_rows.specs.Reads.{CellRead, at}
