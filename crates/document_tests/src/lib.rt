@@ -1,4 +1,4 @@
-//! Tests of documents of two tables, worked out by hand.
+//! Tests of documents of two tables, and of reports on bounds, worked out by hand.
 #![tactic(auto)]
 
 #[cfg(test)]
@@ -7,3 +7,5 @@ mod faults;
 mod networks;
 #[cfg(test)]
 mod reading;
+#[cfg(test)]
+mod reports;
