@@ -6,7 +6,7 @@ use Rattle.table_cells.specs.Amounts.{rounded_up}
 
 -- so many thousandths
 unfoldable pub thousandths : ℕ → List ℕ
-thousandths n = decimal (n / 1000) ++ codes "." ++ decimal (n / 100 % 10) ++ decimal (n / 10 % 10) ++ decimal (n % 10)
+thousandths n = decimal (n / 1000) ++ (codes "." ++ (decimal (n / 100 % 10) ++ (decimal (n / 10 % 10) ++ decimal (n % 10))))
 
 -- picoseconds, as microseconds
 abbrev pub microseconds : ℕ → List ℕ
