@@ -11,4 +11,4 @@ unfolding report_json
 returns c =
     let value = c.in_ok-value.ensures in
     let plain = ap has_float value ∙ no_float c.args.report.now in
-    c.in_ok-push_str.ensures ∙ ap (λ (xs : List ℕ). xs ++ codes "\n") (c.in_ok-text.ensures.text plain ∙ ap compact_text value)
+    c.in_ok-push_str.ensures.bytes ∙ ap (λ (xs : List ℕ). xs ++ codes "\n") (c.in_ok-text.ensures.text plain ∙ ap compact_text value)
