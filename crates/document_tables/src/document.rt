@@ -117,6 +117,7 @@ pub fn read_document(
     ensures value { spec.TellsDocument result
         (spec.document_of overhead (map row_view port_rows.now) (map row_view link_rows.now)) }
     ensures network { IfOk result (λ d. IsNetwork d.network) }
+    ensures branches { IfOk result (λ d. All (spec.IsBranchOf d.network) d.branches.items) }
 {
     let ports = match read_ports(alloc, port_rows) {
         Ok(ports) => ports,

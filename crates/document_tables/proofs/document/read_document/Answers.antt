@@ -5,7 +5,7 @@ use Rattle.document_tables.specs.Ports.{ports_view}
 use Rattle.document_tables.specs.Tables.{row_view}
 use Rattle.document_tables.proofs.TableRanges.{ports_in_range, links_in_range}
 use Rattle.document_tables.proofs.LinkFacts.{links_are}
-use Rattle.document_tables.proofs.NetworkFacts.{network_range}
+use Rattle.document_tables.proofs.NetworkFacts.{network_range, branches_range}
 use Rattle.document_tables.proofs.document.read_document.Goals as goal
 
 pub document_with-requires-clause-ports : goal.document_with-requires-clause-ports
@@ -26,3 +26,12 @@ returns-in-Ok-document_with-clause-network c =
     let are = links_are ports c.args.overhead link_rows links c.in-Ok-read_links.ensures.value in
     let same = c.in-Ok-document_with.ensures in
     network_range ports c.args.overhead c.in-Ok-document_with.document.network (ap (λ (d : DocumentText). d.ports) same) links c.requires texts.1 texts.0 keys are (ap (λ (d : DocumentText). d.links) same)
+
+pub returns-in-Ok-document_with-clause-branches : goal.returns-in-Ok-document_with-clause-branches
+returns-in-Ok-document_with-clause-branches c =
+    let ports = ports_view c.in-Ok.ports in
+    let links = links_view c.in-Ok-read_links.table in
+    let document = c.in-Ok-document_with.document in
+    let are = links_are ports c.args.overhead (map row_view c.args.link_rows.now) links c.in-Ok-read_links.ensures.value in
+    let same = c.in-Ok-document_with.ensures in
+    branches_range ports c.args.overhead document.network (ap (λ (d : DocumentText). d.ports) same) links are (ap (λ (d : DocumentText). d.links) same) document.branches.items (ap (λ (d : DocumentText). d.branches) same)
