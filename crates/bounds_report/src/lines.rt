@@ -21,7 +21,9 @@ fn push_queue(alloc: Global, into: &mut String, row: &QueueRow) -> Result<(), Al
     let load = load_text(alloc, row.load)?;
     let delay = time_text(alloc, row.delay)?;
     let backlog = count_text(alloc, row.backlog)?;
-    let line = format!(in alloc; "port {name} {queue} load {load} delay {delay} backlog {backlog}\n")?;
+    let line = format!(in alloc;
+        "port {name} {queue} load {load} delay {delay} backlog {backlog}\n"
+    )?;
     into.push_str(&line)?;
     Ok(())
 }

@@ -78,7 +78,13 @@ pub(crate) fn ports_on_grid(alloc: Global, rows: &[PortRow]) -> Result<Vec<Port>
 }
 
 // The node of a port of a tree, and of the one after which it comes.
-fn node_of(ports: &PortTable, priority: usize, tree: &Tree, port: usize, after: Option<usize>) -> Node
+fn node_of(
+    ports: &PortTable,
+    priority: usize,
+    tree: &Tree,
+    port: usize,
+    after: Option<usize>,
+) -> Node
     ensures { result ≡ spec.node_of (ports_view ports.now).ports priority tree.now.after.entries (port, after) }
 {
     let queue = match ports.ports.get(port) {
