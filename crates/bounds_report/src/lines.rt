@@ -96,8 +96,8 @@ fn head_line(alloc: Global, report: &Report) -> Result<String, AllocError>
     format!(in alloc; "ports {ports} links {links} branches {branches}\n")
 }
 
-/// The report line by line: how much there is, each queue, each branch. Times are microseconds with three digits, rounded
-/// up, loads likewise, backlogs whole bits; `none` where nothing is promised. Refused only for want of memory.
+/// The report line by line: how much there is, each queue, each branch. Times are microseconds with three digits,
+/// rounded up, loads likewise, backlogs whole bits; `none` where nothing is promised. Refused only for want of memory.
 #[tactic(auto, unfolding(crate::specs::Lines::report_lines))]
 pub fn report_lines(alloc: Global, report: &Report) -> Result<String, AllocError>
     requires { All (λ row. HasDeadlineInRange row.deadline) report.now.branches.items }

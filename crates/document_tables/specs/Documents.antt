@@ -1,5 +1,5 @@
--- What a document of two tables means: its names, its network on the grid and its branches; or its first fault, those of ports
--- before those of links.
+-- What a document of two tables means: its names, its network on the grid and its branches; or its first fault, those
+-- of ports before those of links. Own choice.
 use Rattle.std.specs.Prelude.{◌≡◌, ℕ, ◌<◌, List, map, length, slice_get, Some, Result, Ok, Err}
 use Rattle.std.specs.String.{string_bytes}
 use Rattle.tree_network.specs.declared.network.Link.{Link}
@@ -52,6 +52,11 @@ document_with overhead ports links = record {
 pub record IsBranchOf (net : Network) (b : BranchEnd) : Type 0 where
   pub in_links : b.link < length net.links.items
   pub in_nodes : (link : Link) → slice_get net.links.items b.link ≡ Some link → b.node < length link.nodes.items
+
+-- each port and each link has a name
+pub record HasNames (d : Document) : Type 0 where
+  pub ports : length d.port_names.keys ≡ length d.network.ports.items
+  pub links : length d.link_names.keys ≡ length d.network.links.items
 
 -- ---- reads
 -- a fault, and the table that has it
