@@ -1,5 +1,5 @@
 -- The network of a document keeps the limits of networks.
-use Rattle.std.proofs.Common.{◌≡◌, ℕ, zero, suc, ◌+◌, ◌*◌, ◌<◌, ◌≤◌, nat_lt, nat_eq, Bool, true, false, List, [], ◌∷◌, map, length, get_or, position, All, Option, Some, None, refl, sym, ap, subst, ◌∙◌, arith, ⊎_elim}
+use Rattle.std.proofs.Common.{◌≡◌, ℕ, zero, suc, ◌+◌, ◌<◌, ◌≤◌, nat_lt, nat_eq, false, List, [], ◌∷◌, map, length, get_or, All, Option, Some, None, refl, sym, ap, subst, ◌∙◌, arith, ⊎_elim}
 use Rattle.std.specs.Prelude.{slice_get, unwrap_or}
 use Rattle.std.proofs.lemmas.Bool.Decides.{nat_tests}
 use Rattle.std.proofs.lemmas.List.{length-map, get_or-map}
@@ -9,7 +9,6 @@ use Rattle.std.proofs.lemmas.Option.{slice_get-get_or, slice_get_within, get_or_
 use Rattle.tree_network.specs.declared.network.Discipline.{Discipline}
 use Rattle.tree_network.specs.declared.network.Discipline.TheVariants as discipline
 use Rattle.tree_network.specs.declared.network.Node.{Node}
-use Rattle.tree_network.specs.declared.network.Port.{Port}
 use Rattle.tree_network.specs.declared.network.Link.{Link}
 use Rattle.tree_network.specs.declared.network.Network.{Network}
 use Rattle.tree_network.specs.Networks as networks
@@ -31,8 +30,8 @@ use Rattle.document_tables.specs.Grids.{PortOnGrid, LinkOnGrid, BranchOnGrid, br
 use Rattle.document_tables.proofs.Reading.{inner}
 use Rattle.document_tables.proofs.GridSteps.{has_path, split}
 use Rattle.document_tables.proofs.GridRanges.{port_range, gap_range, time_range}
-use Rattle.document_tables.proofs.StopOrder.{IsStopAt, AreInOrder, Follows, are_in_order, some_stop}
-use Rattle.document_tables.proofs.BranchFacts.{Takes, Fits, AreLinksBut, ArePaths}
+use Rattle.document_tables.proofs.StopOrder.{AreInOrder, Follows, are_in_order, some_stop}
+use Rattle.document_tables.proofs.BranchFacts.{Fits, AreLinksBut}
 
 -- ---- lists that are seen alike
 module _ {X Y Z : Type 0} (see : X → Z) (make : Y → Z) (xs : List X) (ys : List Y) (e : map see xs ≡ map make ys) where
