@@ -1,6 +1,6 @@
 #!/usr/bin/env python3
-"""The table of a network of ports and multicast links, plainly, in whole numbers. Of it crates/port_bounds has one port's rows, proved; no
-program of this repository makes a whole table, and nothing in the gate compares this one with the crate.
+"""The table of a network of ports and multicast links, plainly, in whole numbers: what crates/tree_bounds has, proved. Nothing in the gate
+compares this one with the crate.
 
 Times are picoseconds, rates grains of 1/1024 bit a second, bursts grains, frames and quanta bits. What bounds arrivals is rounded up, what a port does is rounded
 down. A network is a dictionary of `ports` and `links`, as random_network below makes it; table(network) tells each queue's delay in
@@ -17,7 +17,8 @@ from fractions import Fraction
 SECOND = 10**12
 GRAINS = 1024
 BURST_LIMIT = 1 << 58
-RATE_LIMIT = 1 << 57
+LINE_RATE_LIMIT = 1 << 64
+QUEUE_RATE_LIMIT = 1 << 61
 DELAY_LIMIT = 1 << 50
 
 
@@ -38,7 +39,7 @@ def link_line(link):
 
 def checked(line):
     """The line, where its burst and rate are below their limits."""
-    return line if line and line[0] < BURST_LIMIT and line[1] < RATE_LIMIT else None
+    return line if line and line[0] < BURST_LIMIT and line[1] < LINE_RATE_LIMIT else None
 
 
 def onward(line, delay):
@@ -176,14 +177,17 @@ def queue_at(network, lines, s, q):
             if line:
                 group[0], group[1] = group[0] + line[0], group[1] + line[1]
             group[2] = max(group[2], link["frame"])
-    total = checked((sum(g[0] for g in groups.values()), sum(g[1] for g in groups.values())))
-    if not known or total is None:
-        return {"parts": None, "longest": longest}
     parts = [
         ((g[0], g[1]), None if source < 0 else (g[2] * GRAINS, network["ports"][source]["pace"]))
         for source, g in sorted(groups.items())
     ]
-    return {"parts": parts, "longest": longest}
+    bounded = known and greatest(parts, 0) < BURST_LIMIT and greatest(parts, 1) < QUEUE_RATE_LIMIT
+    return {"parts": parts if bounded else None, "longest": longest}
+
+
+def greatest(parts, which):
+    """The greater bursts (0) or rates (1) of the parts' lines together."""
+    return sum(max(total[which], pace[which] if pace else 0) for total, pace in parts)
 
 
 def order(network):

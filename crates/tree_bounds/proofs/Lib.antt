@@ -1,0 +1,6 @@
+pub mod Grouped
+pub mod Bounded
+pub mod Onwards
+pub mod PartsMade
+pub mod Ranged
+pub mod Done

@@ -1,0 +1,93 @@
+//! The table of a network.
+
+ghost use Rattle.std.specs.Prelude.{◌≡◌, ◌<◌, length, IfOk, IfErr};
+ghost use Rattle.tree_network.specs.Networks.{IsNetwork, port_at};
+ghost use Rattle.tree_order.specs.Plans.{IsPlanOf, IsFault};
+ghost use Rattle.port_bounds.specs.Rows.{AreRows};
+ghost use Rattle.tree_bounds.specs.Equations.{arrivals_of};
+ghost use Rattle.tree_bounds.specs.Onward.{line_at};
+ghost use Rattle.tree_bounds.specs.Solved.{AreSolved};
+ghost use Rattle.tree_bounds.specs.Tables.{IsTableOf, items_of};
+
+use crate::bounds::all_bounds;
+use crate::incoming::arrivals_at;
+use crate::onward::{first_lines, pass_on};
+use arrival_lines::{Line, Queue};
+use port_bounds::port_rows;
+use std::alloc::{AllocError, Global};
+use tree_network::Network;
+use tree_order::{Fault, Plan, plan_of};
+
+/// What is promised in a network; none where nothing is.
+#[derive(Debug, Drop)]
+pub struct Table {
+    /// Of each queue, by port.
+    pub rows: Vec<Vec<Option<Queue>>>,
+    /// Of each node, by link: how long a frame takes at most from its entry to the end of the link behind the node's port, in
+    /// picoseconds.
+    pub bounds: Vec<Vec<Option<u128>>>,
+}
+
+/// So many empty lists of rows.
+fn empty_rows(alloc: Global, count: usize) -> Result<Vec<Vec<Option<Queue>>>, AllocError>
+    ensures { IfOk result (λ v. length v.items ≡ count) }
+{
+    let mut rows = Vec::with_capacity(alloc, count)?;
+    for _port in 0..count {
+        rows.push(Vec::new(alloc))?;
+    }
+    Ok(rows)
+}
+
+/// What is promised of each queue of a port, where these lines come to its spots.
+fn rows_at(
+    alloc: Global,
+    network: &Network,
+    plan: &Plan,
+    lines: &[Option<Line>],
+    port: usize,
+) -> Result<Vec<Option<Queue>>, AllocError>
+    requires network { IsNetwork network.now }
+    requires plan { IsPlanOf network.now plan.now }
+    requires lines { length lines.now ≡ length plan.now.spots.items }
+    requires port { port < length network.now.ports.items }
+    ensures { IfOk result (λ v. AreRows (port_at network.now port) (arrivals_of network.now (λ n. line_at lines.now n) port) v.items) }
+{
+    let at = &network.ports[port];
+    let count = at.discipline.queue_count();
+    let queues = arrivals_at(alloc, network, &plan.spots, &plan.at[port], lines, count)?;
+    port_rows(alloc, at, &queues)
+}
+
+/// The rows of each port, by the plan.
+fn rows_in_order(
+    alloc: Global,
+    network: &Network,
+    plan: &Plan,
+) -> Result<Vec<Vec<Option<Queue>>>, AllocError>
+    requires network { IsNetwork network.now }
+    requires plan { IsPlanOf network.now plan.now }
+    ensures { IfOk result (λ v. AreSolved network.now (items_of v.items)) }
+{
+    let mut lines = first_lines(alloc, network, &plan.spots)?;
+    let mut rows = empty_rows(alloc, network.ports.len())?;
+    for port in &plan.order {
+        let found = rows_at(alloc, network, plan, &lines, *port)?;
+        pass_on(&plan.spots, &plan.sources[*port + 1], &found, &mut lines);
+        rows[*port] = found;
+    }
+    Ok(rows)
+}
+
+/// The table of a network: each queue's delay and backlog, and each branch's bound, by the equations. A ring of ports where it has one.
+/// In proportion to the nodes of all links, to those at each port times its queues, and to sorting the parts of each queue.
+pub fn bounds_of(alloc: Global, network: &Network) -> Result<Table, Fault>
+    requires { IsNetwork network.now }
+    ensures table { IfOk result (IsTableOf network.now) }
+    ensures fault { IfErr result (IsFault network.now) }
+{
+    let plan = plan_of(alloc, network)?;
+    let rows = rows_in_order(alloc, network, &plan)?;
+    let bounds = all_bounds(alloc, network, &rows)?;
+    Ok(Table { rows, bounds })
+}

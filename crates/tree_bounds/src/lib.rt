@@ -1,0 +1,13 @@
+//! The bounds of a whole network of ports and multicast links: each queue's delay and backlog, and each branch's delay.
+#![tactic(auto)]
+
+mod analysis;
+mod bounds;
+mod groups;
+mod incoming;
+mod onward;
+
+pub use analysis::{Table, bounds_of};
+
+#[cfg(test)]
+mod tests;

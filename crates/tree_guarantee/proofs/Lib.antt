@@ -1,0 +1,2 @@
+pub mod TreesOf
+pub mod Forward

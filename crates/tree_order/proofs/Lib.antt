@@ -1,0 +1,11 @@
+pub mod Distinct
+pub mod SpotLists
+pub mod Those
+pub mod ListSets
+pub mod Counted
+pub mod Ready
+pub mod Released
+pub mod Turned
+pub mod Walked
+pub mod Rings
+pub mod InRange

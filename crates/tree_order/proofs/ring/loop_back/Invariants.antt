@@ -1,0 +1,9 @@
+use Rattle.std.proofs.Common.{◌-◌, length}
+use Rattle.tree_order.proofs.Walked.{Walked}
+use Rattle.tree_order.proofs.ring.loop_back.Given as goal
+
+abbrev pub invariant-loop-place : goal.invariant-loop-place
+invariant-loop-place l = Walked l.spots l.is_done l.seen.items l.port
+
+abbrev pub decreases-loop-place : goal.decreases-loop-place
+decreases-loop-place l = length l.is_done - length l.seen.items

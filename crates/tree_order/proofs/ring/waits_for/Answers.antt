@@ -1,0 +1,24 @@
+use Rattle.std.proofs.Common.{get_or, arith, below_more}
+use Rattle.tree_order.specs.Spots.{spot_at}
+use Rattle.tree_order.specs.Turns.{NoneComesLate}
+use Rattle.tree_order.proofs.ring.waits_for.Goals as goal
+
+pub late_source-requires : goal.late_source-requires
+late_source-requires c = c.requires.from (get_or c.args.numbers.now c.loop-n.n-index 0) (c.requires.inside c.loop-n.n-index 0 c.loop-n-test.true)
+
+pub returns-in-Some : goal.returns-in-Some
+returns-in-Some c = record {
+  place = c.loop-n.n-index;
+  inside = c.loop-n-test.true;
+  from = c.in-Some.ensures.from;
+  free = c.in-Some.ensures.free;
+}
+
+pub loop-n-preserved : goal.loop-n-preserved
+loop-n-preserved c =
+    below_more (λ k. NoneComesLate c.args.is_done.now (spot_at c.args.spots.now (get_or c.args.numbers.now k 0)).source) c.loop-n.n-index c.loop-n.invariant c.in_default.ensures
+
+pub returns : goal.returns
+returns c = λ a l.
+    let lt = l.inside in
+    c.loop-n.invariant l.place (omega (arith, lt, c.loop-n-test.false)) a record { from = l.from; free = l.free }

@@ -1,0 +1,12 @@
+//! An order of a network's ports in which each comes after those from which links come to it, or a ring of ports.
+#![tactic(auto)]
+
+mod fault;
+mod lists;
+mod order;
+mod ring;
+mod spots;
+
+pub use fault::Fault;
+pub use order::{Plan, order_or_ring, plan_of};
+pub use spots::Spot;
