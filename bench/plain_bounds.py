@@ -162,21 +162,32 @@ def queue_count(port):
     ]()
 
 
+def places(network):
+    """The nodes at each port, as a link and the place in its tree, in the order of the links; they are listed once a network."""
+    if "places" not in network:
+        found = network["places"] = [[] for _ in network["ports"]]
+        for i, link in enumerate(network["links"]):
+            for k, (port, _, _) in enumerate(link["nodes"]):
+                found[port].append((i, k))
+    return network["places"]
+
+
 def queue_at(network, lines, s, q):
     """What arrives at a queue: its parts by the port from which they come, and its longest frame."""
     groups, known, longest = {}, True, 0
-    for i, link in enumerate(network["links"]):
-        for k, (port, queue, above) in enumerate(link["nodes"]):
-            if (port, queue) != (s, q):
-                continue
-            source = -1 if above is None else link["nodes"][above][0]
-            line = lines.get((i, k))
-            longest = max(longest, link["frame"])
-            known = known and line is not None
-            group = groups.setdefault(source, [0, 0, 0])
-            if line:
-                group[0], group[1] = group[0] + line[0], group[1] + line[1]
-            group[2] = max(group[2], link["frame"])
+    for i, k in places(network)[s]:
+        link = network["links"][i]
+        _, queue, above = link["nodes"][k]
+        if queue != q:
+            continue
+        source = -1 if above is None else link["nodes"][above][0]
+        line = lines.get((i, k))
+        longest = max(longest, link["frame"])
+        known = known and line is not None
+        group = groups.setdefault(source, [0, 0, 0])
+        if line:
+            group[0], group[1] = group[0] + line[0], group[1] + line[1]
+        group[2] = max(group[2], link["frame"])
     parts = [
         ((g[0], g[1]), None if source < 0 else (g[2] * GRAINS, network["ports"][source]["pace"]))
         for source, g in sorted(groups.items())
@@ -193,26 +204,31 @@ def greatest(parts, which):
 def order(network):
     """The ports, each after those from which links come to it."""
     before = [set() for _ in network["ports"]]
+    behind = [set() for _ in network["ports"]]
     for link in network["links"]:
         for port, _, above in link["nodes"]:
             if above is not None:
                 before[port].add(link["nodes"][above][0])
-    placed = []
-    while len(placed) < len(before):
-        ready = [s for s, ports in enumerate(before) if s not in placed and ports <= set(placed)]
-        if not ready:
-            raise ValueError("a cycle")
-        placed += ready
+                behind[link["nodes"][above][0]].add(port)
+    placed = [s for s, ports in enumerate(before) if not ports]
+    for s in placed:
+        for port in behind[s]:
+            before[port].remove(s)
+            if not before[port]:
+                placed.append(port)
+    if len(placed) < len(before):
+        raise ValueError("a cycle")
     return placed
 
 
 def pass_on(network, lines, rows, s):
-    """The lines of the links that go on from port s."""
-    for i, link in enumerate(network["links"]):
-        for k, (_, _, above) in enumerate(link["nodes"]):
-            if above is not None and link["nodes"][above][0] == s:
-                line, found = lines.get((i, above)), rows[s][link["nodes"][above][1]]
-                lines[i, k] = onward(line, found[0]) if line and found else None
+    """The lines with which links come to port s, where the rows of the ports before are known."""
+    for i, k in places(network)[s]:
+        nodes = network["links"][i]["nodes"]
+        above = nodes[k][2]
+        if above is not None:
+            line, found = lines.get((i, above)), rows[nodes[above][0]][nodes[above][1]]
+            lines[i, k] = onward(line, found[0]) if line and found else None
 
 
 def table(network):
@@ -221,9 +237,9 @@ def table(network):
     rows = [None] * len(network["ports"])
     for s in order(network):
         port = network["ports"][s]
+        pass_on(network, lines, rows, s)
         queues = [queue_at(network, lines, s, q) for q in range(queue_count(port))]
         rows[s] = [row(port, queues, q) for q in range(len(queues))]
-        pass_on(network, lines, rows, s)
     return rows, [bounds(network, rows, link) for link in network["links"]]
 
 
@@ -240,10 +256,10 @@ def bounds(network, rows, link):
 def loads(network, s):
     """The rates of the links of each queue over the port's, in thousandths, rounded up."""
     port, rates = network["ports"][s], {}
-    for link in network["links"]:
-        for at, queue, _ in link["nodes"]:
-            if at == s:
-                rates[queue] = rates.get(queue, 0) + link_rate(link)
+    for i, k in places(network)[s]:
+        link = network["links"][i]
+        queue = link["nodes"][k][1]
+        rates[queue] = rates.get(queue, 0) + link_rate(link)
     whole = own_service(port)[0]
     return [
         0 if rates.get(q, 0) == 0 else (up(rates[q] * 1000, whole) if whole else None) for q in range(queue_count(port))
@@ -295,6 +311,7 @@ def main(words):
         network = random_network(draw)
         rows, bounds_of = table(network)
         every_load = [loads(network, s) for s in range(len(network["ports"]))]
+        del network["places"]
         print(json.dumps({"network": network, "rows": rows, "loads": every_load, "bounds": bounds_of}))
 
 
