@@ -1,5 +1,8 @@
 //! Answers: a status, and the text that is written with it.
 
+ghost use Rattle.std.specs.Prelude.{◌≡◌};
+ghost use Rattle.bounds_command.specs.View.{code_of};
+
 /// How a call ends.
 #[derive(Clone, Copy, Debug, PartialEq, Eq)]
 pub enum Status {
@@ -23,7 +26,9 @@ pub enum Status {
 
 impl Status {
     /// The exit status of the program.
-    pub fn code(self) -> u8 {
+    pub fn code(self) -> u8
+        ensures { result ≡ code_of self }
+    {
         match self {
             Status::Done => 0,
             Status::Malformed => 1,

@@ -1,5 +1,10 @@
 //! The answer on two tables.
 
+ghost use Rattle.std.specs.Prelude.{◌≡◌, ◌≤◌, ℕ, List, map, IfOk};
+ghost use Rattle.csv_rows.specs.Rows.{AreRowsOf, cells_of};
+ghost use Rattle.bounds_command.specs.OnTables.{Tables, IsReplyOn};
+ghost use Rattle.bounds_command.specs.View.{reply_of};
+
 use crate::answer::{Answer, Form};
 use crate::on_document::on_document;
 use crate::refusals::breaks_rule;
@@ -16,7 +21,12 @@ fn on_rows(
     links: &[TableRow],
     overhead: u64,
     form: Form,
-) -> Result<Answer, AllocError> {
+) -> Result<Answer, AllocError>
+    requires { overhead ≤ 1048576 }
+    ensures { (port_bytes link_bytes : List ℕ) → AreRowsOf port_bytes (map cells_of ports.now) → AreRowsOf link_bytes (map cells_of links.now)
+        → let t : Tables = record { ports_file = ports_file.now; ports = port_bytes; links_file = links_file.now; links = link_bytes } in
+        IfOk result (λ r. IsReplyOn t overhead form (reply_of r)) }
+{
     match read_document(alloc, ports, links, overhead) {
         Ok(document) => on_document(alloc, &document, form),
         Err(DocumentError::Fault(TableFile::Ports, fault)) => {
@@ -39,7 +49,11 @@ pub fn on_tables(
     links_bytes: &[u8],
     overhead: u64,
     form: Form,
-) -> Result<Answer, AllocError> {
+) -> Result<Answer, AllocError>
+    requires { overhead ≤ 1048576 }
+    ensures { let t : Tables = record { ports_file = ports_file.now; ports = ports_bytes.now; links_file = links_file.now; links = links_bytes.now } in
+        IfOk result (λ r. IsReplyOn t overhead form (reply_of r)) }
+{
     let ports = read_table(alloc, ports_bytes)?;
     let links = read_table(alloc, links_bytes)?;
     on_rows(

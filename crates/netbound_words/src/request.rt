@@ -1,5 +1,12 @@
 //! What a command line asks for.
 
+ghost use Rattle.std.specs.Prelude.{◌≡◌, ◌≤◌, IfOk, IfSome, option_map, map};
+ghost use Rattle.clap.specs.Words.{rows_of};
+ghost use Rattle.clap.specs.Matches.{found_of};
+ghost use Rattle.clap.specs.declared.error.kind.ErrorKind.TheVariants as kinds;
+ghost use Rattle.netbound_words.specs.Requests as spec;
+ghost use Rattle.netbound_words.specs.View.{request_view, bounds_view, HasOverhead, TellsRequest, IsRefusal};
+
 use crate::command::netbound;
 use clap::ArgMatches;
 use clap::error::ErrorKind;
@@ -46,7 +53,10 @@ pub enum WordFault {
 }
 
 // The overhead that a word writes: a whole number of bytes.
-fn overhead_in(word: Option<&str>) -> Option<u64> {
+fn overhead_in(word: Option<&str>) -> Option<u64>
+    ensures value { result ≡ spec.overhead_in (option_map (λ w. w.now) word) }
+    ensures range { IfSome result (λ bytes. bytes ≤ 1048576) }
+{
     let Some(word) = word else {
         return Some(USUAL_OVERHEAD);
     };
@@ -57,18 +67,37 @@ fn overhead_in(word: Option<&str>) -> Option<u64> {
     Some(bytes)
 }
 
+// Whether a flag was given that has this value.
+fn is_given(value: Option<&str>) -> bool
+    ensures { result ≡ spec.is_given (option_map (λ w. w.now) value) }
+{
+    match value {
+        Some(word) => word == "true",
+        None => false,
+    }
+}
+
 // The bounds for which these matches ask.
-fn bounds_in<'a>(matches: &ArgMatches<'a>) -> Option<Bounds<'a>> {
+fn bounds_in<'a>(matches: &ArgMatches<'a>) -> Option<Bounds<'a>>
+    ensures value { option_map bounds_view result ≡ spec.bounds_in (rows_of (found_of matches.now)) }
+    ensures range { IfSome result (λ b. b.overhead ≤ 1048576) }
+{
+    let ports = matches.get_str("ports")?;
+    let links = matches.get_str("links")?;
+    let overhead = overhead_in(matches.get_str("overhead"))?;
+    let json = is_given(matches.get_str("json"));
     Some(Bounds {
-        ports: matches.get_str("ports")?,
-        links: matches.get_str("links")?,
-        overhead: overhead_in(matches.get_str("overhead"))?,
-        json: matches.get_flag("json"),
+        ports,
+        links,
+        overhead,
+        json,
     })
 }
 
 // What is asked for where `clap` gives no matches.
-fn refused<'a>(kind: ErrorKind) -> Result<Request<'a>, WordFault> {
+fn refused<'a>(kind: ErrorKind) -> Result<Request<'a>, WordFault>
+    ensures { IsRefusal kind result }
+{
     match kind {
         ErrorKind::DisplayHelp => Ok(Request::Help),
         ErrorKind::DisplayVersion => Ok(Request::Version),
@@ -78,7 +107,10 @@ fn refused<'a>(kind: ErrorKind) -> Result<Request<'a>, WordFault> {
 }
 
 /// What the words of a command line ask for, the program's name first.
-pub fn request_of<'a>(alloc: Global, words: &'a [String]) -> Result<Request<'a>, WordFault> {
+pub fn request_of<'a>(alloc: Global, words: &'a [String]) -> Result<Request<'a>, WordFault>
+    ensures request { TellsRequest result (spec.request_of (spec.texts words.entry.now)) }
+    ensures range { IfOk result HasOverhead }
+{
     let Ok(command) = netbound(alloc) else {
         return Err(WordFault::NoMemory);
     };

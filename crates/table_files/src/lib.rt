@@ -2,6 +2,7 @@
 #![tactic(auto)]
 
 mod dir_tables;
+mod noted;
 mod tables;
 
 pub use dir_tables::DirTables;
