@@ -1,5 +1,5 @@
 -- The lines of a report on bounds. Own choice.
-use Rattle.std.specs.Prelude.{ℕ, ◌/◌, List, [], length, ◌++◌, codes, map, Option, Some, None, if◌then◌else◌}
+use Rattle.std.specs.Prelude.{ℕ, List, [], length, ◌++◌, codes, Option, Some, None, if◌then◌else◌}
 use Rattle.std.specs.List.{flat_map}
 use Rattle.std.specs.Fmt.{decimal}
 use Rattle.table_cells.specs.declared.amount.Amount.{Amount}
@@ -14,7 +14,8 @@ met_text bound deadline = if is_met bound deadline then codes "met" else codes "
 
 abbrev pub deadline_text : Option ℕ → Option Amount → List ℕ
 deadline_text bound None = []
-deadline_text bound (Some deadline) = codes " deadline " ++ (thousandths (rounded_up 1000 deadline) ++ (codes " " ++ met_text bound deadline))
+deadline_text bound (Some deadline) =
+    codes " deadline " ++ (thousandths (rounded_up 1000 deadline) ++ (codes " " ++ met_text bound deadline))
 
 -- `port NAME Q load X delay D backlog B`
 unfoldable pub queue_line : QueueRow → List ℕ
@@ -34,7 +35,8 @@ branch_line row =
 -- `ports NP links NL branches NB`
 unfoldable pub head_line : Report → List ℕ
 head_line r =
-    codes "ports " ++ (decimal r.ports ++ (codes " links " ++ (decimal r.links ++ (codes " branches " ++ (decimal (length r.branches.items) ++ codes "\n")))))
+    codes "ports " ++ (decimal r.ports ++ (codes " links " ++ (decimal r.links
+    ++ (codes " branches " ++ (decimal (length r.branches.items) ++ codes "\n")))))
 
 unfoldable pub report_lines : Report → List ℕ
 report_lines r = head_line r ++ flat_map queue_line r.queues.items ++ flat_map branch_line r.branches.items

@@ -1,12 +1,14 @@
--- How numbers of a report are written: microseconds and loads with three digits behind the point, rounded up. Own choice.
-use Rattle.std.specs.Prelude.{ℕ, ◌+◌, ◌*◌, ◌/◌, ◌%◌, ◌^◌, ◌<◌, ◌≤◌, Bool, true, false, nat_le, List, ◌++◌, codes, Option, Some, None}
+-- How numbers of a report are written: microseconds and loads with three digits behind the point, rounded up. Own
+-- choice.
+use Rattle.std.specs.Prelude.{ℕ, ◌+◌, ◌*◌, ◌/◌, ◌%◌, ◌^◌, ◌<◌, Bool, false, nat_le, List, ◌++◌, codes, Option, Some, None}
 use Rattle.std.specs.Fmt.{decimal}
 use Rattle.table_cells.specs.declared.amount.Amount.{Amount}
 use Rattle.table_cells.specs.Amounts.{rounded_up}
 
 -- so many thousandths
 unfoldable pub thousandths : ℕ → List ℕ
-thousandths n = decimal (n / 1000) ++ (codes "." ++ (decimal (n / 100 % 10) ++ (decimal (n / 10 % 10) ++ decimal (n % 10))))
+thousandths n =
+    decimal (n / 1000) ++ (codes "." ++ (decimal (n / 100 % 10) ++ (decimal (n / 10 % 10) ++ decimal (n % 10))))
 
 -- picoseconds, as microseconds
 abbrev pub microseconds : ℕ → List ℕ

@@ -84,8 +84,8 @@ fn report_value(alloc: Global, report: &Report) -> Result<Value, AllocError>
     json!(in alloc; {"branches": branches, "ports": ports})
 }
 
-/// The report as one JSON value without a space, its keys in the order of their bytes, and a newline after it; numbers as
-/// the lines write them. Refused only for want of memory.
+/// The report as one JSON value without a space, its keys in the order of their bytes, and a newline after it; numbers
+/// as the lines write them. Refused only for want of memory.
 #[tactic(auto, unfolding(crate::specs::Data::report_json))]
 pub fn report_json(alloc: Global, report: &Report) -> Result<String, AllocError>
     requires { All (λ row. HasDeadlineInRange row.deadline) report.now.branches.items }

@@ -21,7 +21,9 @@ fn push_queue(alloc: Global, into: &mut String, row: &QueueRow) -> Result<(), Al
     let load = load_text(alloc, row.load)?;
     let delay = time_text(alloc, row.delay)?;
     let backlog = count_text(alloc, row.backlog)?;
-    let line = format!(in alloc; "port {name} {queue} load {load} delay {delay} backlog {backlog}\n")?;
+    let line = format!(in alloc;
+        "port {name} {queue} load {load} delay {delay} backlog {backlog}\n"
+    )?;
     into.push_str(&line)?;
     Ok(())
 }
@@ -94,8 +96,8 @@ fn head_line(alloc: Global, report: &Report) -> Result<String, AllocError>
     format!(in alloc; "ports {ports} links {links} branches {branches}\n")
 }
 
-/// The report line by line: how much there is, each queue, each branch. Times are microseconds with three digits, rounded
-/// up, loads likewise, backlogs whole bits; `none` where nothing is promised. Refused only for want of memory.
+/// The report line by line: how much there is, each queue, each branch. Times are microseconds with three digits,
+/// rounded up, loads likewise, backlogs whole bits; `none` where nothing is promised. Refused only for want of memory.
 #[tactic(auto, unfolding(crate::specs::Lines::report_lines))]
 pub fn report_lines(alloc: Global, report: &Report) -> Result<String, AllocError>
     requires { All (λ row. HasDeadlineInRange row.deadline) report.now.branches.items }

@@ -1,33 +1,20 @@
 -- Branches of links: each path over ports that take the link's frames, all paths of a link from one port.
-use Rattle.std.proofs.Common.{◌≡◌, ℕ, zero, suc, ◌+◌, ◌<◌, ◌≤◌, ◌==◌, ◌||◌, nat_le, nat_eq, Bool, true, false, cond, List, [], ◌∷◌, ◌++◌, map, length, get_or, position, All, Option, Some, None, Result, Ok, Err, refl, sym, ap, subst, ◌∙◌, arith, length-append, ⊎_elim, inl, inr, ◌⊎◌}
+use Rattle.std.proofs.Common.{◌≡◌, ℕ, ◌+◌, ◌<◌, ◌≤◌, ◌==◌, ◌||◌, nat_le, Bool, true, false, List, [], ◌∷◌, ◌++◌, length, All, Option, Some, None, Ok, Err, refl, sym, ap, subst, ◌∙◌, arith, length-append}
 use Rattle.std.specs.Prelude.{not, slice_get, if◌then◌else◌}
 use Rattle.std.specs.List.{list_any}
-use Rattle.std.specs.Str.{bytes_eq}
 use Rattle.std.proofs.lemmas.Bool.Decides.{nat_tests}
-use Rattle.std.proofs.lemmas.List.Elements.{All-nil, All-push, All-cons, All-head, All-tail, All-weaker}
-use Rattle.std.proofs.lemmas.List.Quantifiers.{position-Some}
-use Rattle.std.proofs.lemmas.Option.{slice_get_within}
+use Rattle.std.proofs.lemmas.List.Elements.{All-nil, All-push, All-cons, All-head, All-tail}
 use Rattle.table_cells.specs.Amounts.{equals}
-use Rattle.csv_rows.specs.Rows.{Row}
 use Rattle.document_rows.specs.declared.fault.Column.TheVariants as column
-use Rattle.document_rows.specs.declared.fault.Wrong.TheVariants.{TooManyRows, TooManyLinks, Differs, PortTwice, NoSuchQueue, QuantumTooShort, BeginsElsewhere}
-use Rattle.document_rows.specs.declared.heads.LinkHead.{LinkHead}
-use Rattle.document_rows.specs.Disciplines.{DisciplineText}
-use Rattle.document_rows.specs.Reads.{CellRead, RowRead, and_then, at}
-use Rattle.document_rows.specs.Heads.{link_head, row_name}
+use Rattle.document_rows.specs.declared.fault.Wrong.TheVariants.{Differs, PortTwice, NoSuchQueue, QuantumTooShort, BeginsElsewhere}
 use Rattle.document_rows.specs.PortRows.{PortText}
-use Rattle.document_rows.specs.LinkRows.{LinkText, link_row, frame_on_wire}
+use Rattle.document_rows.specs.LinkRows.{frame_on_wire}
 use Rattle.document_tables.specs.declared.links.LinkKeys.{LinkKeys}
-use Rattle.document_tables.specs.Tables.{LineRow}
-use Rattle.document_tables.specs.Ranges.{IsLinkText}
 use Rattle.document_tables.specs.Ports.{Ports}
-use Rattle.document_tables.specs.Paths.{queues_of, queue_at, passes_quantum, takes, at_port, step_to, port_named, next_port, path_from, path_ports}
+use Rattle.document_tables.specs.Paths.{queues_of, queue_at, passes_quantum, at_port, step_to, port_named, next_port, path_from, path_ports}
 use Rattle.document_tables.specs.Trees.{begins_elsewhere, hangs, hangs_from}
-use Rattle.document_tables.specs.Links.{Links, BranchText, keys_of, agrees, agrees_with, with_link, has_room, number_or_next, with_branch, with_row, no_links, links_of, paths_of, most_branches, most_links}
-use Rattle.document_tables.proofs.Reading.{both_read, not_refused, not_denied, same_read, cell_read}
-use Rattle.document_tables.proofs.RowRanges.{link_says}
-use Rattle.document_tables.proofs.TableRanges.{kept_by_table}
-use Rattle.document_tables.proofs.LinkSteps.{each_push, paths_more, paths_same, linked, roomed, named, hung}
+use Rattle.document_tables.specs.Links.{Links, agrees, paths_of, most_links}
+use Rattle.document_tables.proofs.Reading.{both_read, not_refused, not_denied, same_read}
 use Rattle.document_tables.proofs.StopOrder.{IsPathFrom}
 
 -- ---- ports of paths

@@ -1,11 +1,10 @@
 -- The ranges of ports on the grid.
-use Rattle.std.proofs.Common.{◌≡◌, ℕ, ◌+◌, ◌-◌, ◌*◌, ◌/◌, ◌^◌, ◌<◌, ◌≤◌, nat_le, true, List, length, All, Option, Some, None, option_map, sym, ap, subst, arith}
+use Rattle.std.proofs.Common.{◌≡◌, ℕ, ◌+◌, ◌-◌, ◌*◌, ◌/◌, ◌<◌, ◌≤◌, true, Option, Some, None, option_map, sym, ap, subst, arith}
 use Rattle.std.proofs.lemmas.Bool.Decides.{nat_tests}
 use Rattle.std.proofs.lemmas.List.Elements.{All-weaker}
 use Rattle.std.proofs.Math.Nat.{le-div_iff_mul-le, div-lt_iff_lt-mul, div-mul-le_self, mul-le-mul_right, le_of_mul-le-mul_right}
 use Rattle.tree_network.specs.declared.network.Discipline.{Discipline}
 use Rattle.tree_network.specs.declared.network.Discipline.TheVariants as discipline
-use Rattle.tree_network.specs.declared.network.Gate.{Gate}
 use Rattle.tree_network.specs.declared.network.Port.{Port}
 use Rattle.tree_network.specs.Networks.{longest_time, fastest, longest_frame, queues_of, GateIsInRange, QuantaAreInRange, PortIsInRange}
 use Rattle.table_cells.specs.declared.amount.Amount.{Amount}
@@ -13,7 +12,7 @@ use Rattle.table_cells.specs.Amounts.{is_at_most, is_within, reaches_one, rounde
 use Rattle.document_rows.specs.declared.disciplines.GateRow.{GateRow}
 use Rattle.document_rows.specs.Disciplines.{discipline_view}
 use Rattle.document_rows.specs.PortRows.{PortText}
-use Rattle.document_tables.specs.Ranges.{IsWithin, IsTime, IsGate, IsGateOrNone, IsQuantum, IsDiscipline, IsPortText}
+use Rattle.document_tables.specs.Ranges.{IsWithin, IsTime, IsGateOrNone, IsQuantum, IsDiscipline, IsPortText}
 use Rattle.document_tables.specs.Grids.{microsecond, millisecond, megabit, gate_on_grid, port_on_grid, grid_port, PortOnGrid}
 
 -- ---- numbers

@@ -1,17 +1,16 @@
 -- Links of a table that is read without a fault: each over a tree of ports that take its frames.
-use Rattle.std.proofs.Common.{◌≡◌, ℕ, ◌+◌, ◌<◌, ◌≤◌, nat_le, Bool, true, false, List, [], ◌∷◌, ◌++◌, map, length, get_or, position, All, Option, Some, None, Result, Ok, Err, refl, sym, ap, ap₂, subst, ◌∙◌, arith, length-append, ⊎_elim, inl, inr, ◌⊎◌}
+use Rattle.std.proofs.Common.{◌≡◌, ℕ, ◌+◌, ◌<◌, ◌≤◌, nat_le, List, [], ◌∷◌, ◌++◌, length, get_or, position, All, Option, Some, None, Ok, refl, sym, ap, subst, ◌∙◌, arith, length-append, ⊎_elim, ◌⊎◌}
 use Rattle.std.specs.Prelude.{slice_get}
 use Rattle.std.specs.Str.{bytes_eq}
 use Rattle.std.proofs.lemmas.Bool.Decides.{nat_tests}
-use Rattle.std.proofs.lemmas.List.Elements.{All-weaker}
 use Rattle.std.proofs.lemmas.List.Quantifiers.{position-Some}
-use Rattle.std.proofs.lemmas.Option.{slice_get-get_or, slice_get_within}
+use Rattle.std.proofs.lemmas.Option.{slice_get-get_or}
 use Rattle.std.proofs.Math.Seq.{get_or-append_seam}
 use Rattle.csv_rows.specs.Rows.{Row}
 use Rattle.document_rows.specs.declared.fault.Column.TheVariants as column
 use Rattle.document_rows.specs.declared.fault.Wrong.TheVariants.{TooManyRows, TooManyLinks}
 use Rattle.document_rows.specs.declared.heads.LinkHead.{LinkHead}
-use Rattle.document_rows.specs.Reads.{RowRead, and_then, at}
+use Rattle.document_rows.specs.Reads.{and_then, at}
 use Rattle.document_rows.specs.Heads.{link_head, row_name}
 use Rattle.document_rows.specs.LinkRows.{LinkText, link_row, frame_on_wire}
 use Rattle.document_tables.specs.declared.links.LinkKeys.{LinkKeys}

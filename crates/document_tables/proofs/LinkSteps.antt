@@ -58,6 +58,7 @@ each_push P xs x old new k y h =
   where
     inside : {X : Type 0} (a b : X) → Some a ≡ Some b → a ≡ b
     inside a b h = cc
+
     place : {k n : ℕ} → k ≤ n → (k < n) ⊎ (k ≡ n)
     place l = grind arith
 
@@ -74,6 +75,7 @@ each_set P xs i x below old new k y h =
   where
     inside : {X : Type 0} (a b : X) → Some a ≡ Some b → a ≡ b
     inside a b h = cc
+
     whether : (a b : ℕ) → (a ≡ b) ⊎ (a ≡ b → ⊥)
     whether a b = grind arith
 

@@ -1,14 +1,14 @@
 -- The network of a document keeps the limits of networks.
-use Rattle.std.proofs.Common.{◌≡◌, ℕ, zero, suc, ◌+◌, ◌*◌, ◌<◌, ◌≤◌, nat_lt, nat_eq, Bool, true, false, List, [], ◌∷◌, map, length, get_or, position, All, Option, Some, None, refl, sym, ap, subst, ◌∙◌, arith}
-use Rattle.std.specs.Prelude.{slice_get}
+use Rattle.std.proofs.Common.{◌≡◌, ℕ, zero, suc, ◌+◌, ◌<◌, ◌≤◌, nat_lt, nat_eq, false, List, [], ◌∷◌, map, length, get_or, All, Option, Some, None, refl, sym, ap, subst, ◌∙◌, arith, ⊎_elim}
+use Rattle.std.specs.Prelude.{slice_get, unwrap_or}
 use Rattle.std.proofs.lemmas.Bool.Decides.{nat_tests}
 use Rattle.std.proofs.lemmas.List.{length-map, get_or-map}
 use Rattle.std.proofs.lemmas.List.Elements.{All-from_get_or, All-get_or}
+use Rattle.std.proofs.lemmas.List.Quantifiers.{position-Some}
 use Rattle.std.proofs.lemmas.Option.{slice_get-get_or, slice_get_within, get_or_from_slice_get}
 use Rattle.tree_network.specs.declared.network.Discipline.{Discipline}
 use Rattle.tree_network.specs.declared.network.Discipline.TheVariants as discipline
 use Rattle.tree_network.specs.declared.network.Node.{Node}
-use Rattle.tree_network.specs.declared.network.Port.{Port}
 use Rattle.tree_network.specs.declared.network.Link.{Link}
 use Rattle.tree_network.specs.declared.network.Network.{Network}
 use Rattle.tree_network.specs.Networks as networks
@@ -18,16 +18,20 @@ use Rattle.document_rows.specs.Disciplines.{DisciplineText, Fifo, discipline_vie
 use Rattle.document_rows.specs.PortRows.{PortText}
 use Rattle.document_rows.specs.LinkRows.{frame_on_wire}
 use Rattle.document_tables.specs.declared.links.LinkKeys.{LinkKeys}
+use Rattle.document_tables.specs.declared.document.BranchEnd.{BranchEnd}
+use Rattle.document_tables.specs.Documents.{IsBranchOf, end_view}
+use Rattle.document_tables.specs.Trees.{last_of}
 use Rattle.document_tables.specs.Ranges.{IsPortText, AreLinkKeys}
 use Rattle.document_tables.specs.Ports.{Ports, most_ports}
 use Rattle.document_tables.specs.Links.{Links, BranchText, paths_of}
 use Rattle.document_tables.specs.Paths.{queues_of, queue_at, passes_quantum}
 use Rattle.document_tables.specs.Stops.{Stop, stops_of}
-use Rattle.document_tables.specs.Grids.{PortOnGrid, LinkOnGrid, port_on_grid, grid_port, grid_link, link_on_grid, links_from, node_of, nodes_of, place_of, place_after, queue_of}
+use Rattle.document_tables.specs.Grids.{PortOnGrid, LinkOnGrid, BranchOnGrid, branch_on_grid, end_of, port_on_grid, grid_port, grid_link, link_on_grid, links_from, node_of, nodes_of, place_of, place_after, queue_of}
 use Rattle.document_tables.proofs.Reading.{inner}
+use Rattle.document_tables.proofs.GridSteps.{has_path, split}
 use Rattle.document_tables.proofs.GridRanges.{port_range, gap_range, time_range}
-use Rattle.document_tables.proofs.StopOrder.{IsStopAt, AreInOrder, Follows, are_in_order, some_stop}
-use Rattle.document_tables.proofs.BranchFacts.{Takes, Fits, AreLinksBut, ArePaths}
+use Rattle.document_tables.proofs.StopOrder.{AreInOrder, Follows, are_in_order, some_stop}
+use Rattle.document_tables.proofs.BranchFacts.{Fits, AreLinksBut}
 
 -- ---- lists that are seen alike
 module _ {X Y Z : Type 0} (see : X → Z) (make : Y → Z) (xs : List X) (ys : List Y) (e : map see xs ≡ map make ys) where
@@ -77,6 +81,22 @@ pub links_length : (ports : List PortText) (overhead : ℕ) (branches : List Bra
 unfolding links_from
 links_length ports overhead branches number [] = refl
 links_length ports overhead branches number (key ∷ keys) = ap suc (links_length ports overhead branches (number + 1) keys)
+
+no_branch : BranchText
+no_branch = record { link = 0; path = []; deadline = None }
+
+-- where a path ends in a tree of some ports
+within_some : (o : Option ℕ) (n : ℕ) → 1 ≤ n → ((j : ℕ) → o ≡ Some j → j < n) → unwrap_or o 0 < n
+within_some None n some h = omega (arith, some)
+within_some (Some j) n some h = h j refl
+
+place_within : (stops : List Stop) (o : Option ℕ) → 1 ≤ length stops → unwrap_or (place_after stops o) 0 < length stops
+place_within stops None some = omega (arith, some)
+place_within stops (Some q) some =
+    within_some (place_of stops q) (length stops) some (λ j h.
+    let n = length-map stops (λ (s : Stop). s.0) in
+    let w = position-Some (nat_eq q) (map (λ (s : Stop). s.0) stops) j 0 h in
+    omega (arith, n, w.0))
 
 hangs_before : (stops : List Stop) (i : ℕ) (after : Option ℕ) → Follows stops i after → HangsBefore i (place_after stops after)
 hangs_before stops i None f = f
@@ -186,4 +206,47 @@ module _ (ports : Ports) (overhead : ℕ) (net : Network) (same_ports : map grid
             link_range key (stops_of paths) (are_in_order (Fits ports overhead key) p.0 paths p.1) link (at.2 ∙ ap (λ (j : ℕ). link_on_grid ports.ports overhead key (stops_of (paths_of j links.branches))) zero_more)
             (subst AreLinkKeys (get_or_from_slice_get links.keys i key key at.1) (All-get_or AreLinkKeys links.keys i key below keys)) few
             (some_stop (Fits ports overhead key) p.0 paths (are.some i below (λ e. cc)) p.1);
+      }
+
+  -- ---- branches
+  pub branches_range : (links : Links) → AreLinksBut ports overhead links None → map grid_link net.links.items ≡ links_from ports.ports overhead links.branches 0 links.keys
+      → (ends : List BranchEnd) → map end_view ends ≡ map (branch_on_grid links.branches) links.branches → All (IsBranchOf net) ends
+  branches_range links are same_links ends same_ends =
+      λ k d h.
+      let bs = links.branches in
+      let b = get_or ends k d in
+      let n = same_length end_view (branch_on_grid bs) ends bs same_ends in
+      let text = get_or bs k no_branch in
+      let at = slice_get-get_or bs k no_branch (omega (arith, h, n)) in
+      let e = same_at end_view (branch_on_grid bs) ends bs same_ends k d text at in
+      let link_is : b.link ≡ text.link = ap (λ (x : BranchOnGrid). x.link) e in
+      let node_is : b.node ≡ end_of (stops_of (paths_of text.link bs)) text.path = ap (λ (x : BranchOnGrid). x.node) e in
+      let below : text.link < length links.keys = ⊎_elim (λ (l : text.link < length links.keys). l)
+      (λ (l : length links.keys ≤ text.link). absurd (has_path bs k no_branch (omega (arith, h, n)) (are.others text.link l))) (split text.link (length links.keys))
+      in
+      let m = length-map net.links.items grid_link in
+      let l = ap length same_links in
+      let j = links_length ports.ports overhead bs 0 links.keys in record {
+        in_links = omega (arith, link_is, below, m, l, j);
+        in_nodes = λ link there.
+            let items = net.links.items in
+            let within = slice_get_within items b.link link there in
+            let seen : slice_get (links_from ports.ports overhead bs 0 links.keys) b.link ≡ Some (grid_link link) =
+            ap (λ (ls : List LinkOnGrid). slice_get ls b.link) (sym same_links)
+            ∙ (slice_get-get_or (map grid_link items) b.link (grid_link link) (omega (arith, within, m))
+            ∙ ap Some (get_or-map grid_link items b.link link (grid_link link) within ∙ ap grid_link (get_or_from_slice_get items b.link link link there)))
+            in
+            let found = link_at ports.ports overhead bs 0 links.keys b.link (grid_link link) seen in
+            let number : 0 + b.link ≡ text.link = omega (arith, link_is) in
+            let key = found.0 in
+            let stops = stops_of (paths_of text.link bs) in
+            let p = are.each text.link key (ap (slice_get links.keys) (sym link_is) ∙ found.1) in
+            let some = some_stop (Fits ports overhead key) p.0 (paths_of text.link bs) (are.some text.link below (λ e. cc)) p.1 in
+            let nodes : link.nodes.items ≡ nodes_of ports.ports key.priority stops =
+            ap (λ (x : LinkOnGrid). x.nodes) found.2 ∙ ap (λ (i : ℕ). nodes_of ports.ports key.priority (stops_of (paths_of i bs))) number
+            in
+            let many = ap length nodes in
+            let same = length-map stops (node_of ports.ports key.priority stops) in
+            let ends = place_within stops (last_of None text.path) some in
+            omega (arith, node_is, many, same, ends);
       }

@@ -1,12 +1,12 @@
 -- Stops of paths that begin at one port: each of them once, behind the one after which it comes.
-use Rattle.std.proofs.Common.{◌≡◌, ℕ, zero, suc, ◌+◌, ◌<◌, ◌≤◌, ◌||◌, nat_eq, Bool, true, false, cond, List, [], ◌∷◌, ◌++◌, map, length, get_or, position, Option, Some, None, refl, sym, ap, subst, ◌∙◌, arith, length-append, ⊎_elim, inl, inr, ◌⊎◌, All}
+use Rattle.std.proofs.Common.{◌≡◌, ℕ, suc, ◌+◌, ◌<◌, ◌≤◌, ◌||◌, nat_eq, Bool, true, false, cond, List, [], ◌∷◌, ◌++◌, map, length, position, Option, Some, None, refl, sym, ap, subst, ◌∙◌, arith, ⊎_elim, inl, inr, ◌⊎◌, All}
 use Rattle.std.specs.Prelude.{slice_get, if◌then◌else◌}
 use Rattle.std.specs.List.{list_any, position_from}
 use Rattle.std.proofs.lemmas.Bool.{eq-eqb}
 use Rattle.std.proofs.lemmas.Iterator.Adapters.{position_from-zero}
 use Rattle.std.proofs.lemmas.List.{length-map, map-append}
 use Rattle.std.proofs.lemmas.List.Elements.{All-head, All-tail}
-use Rattle.document_tables.specs.Grids.{place_of, place_after}
+use Rattle.document_tables.specs.Grids.{place_of}
 use Rattle.document_tables.specs.Stops.{Stop, has_stop, with_stop, with_path, with_paths, stops_of}
 use Rattle.document_tables.proofs.LinkSteps.{each_push}
 
@@ -38,9 +38,6 @@ from_any_at p n false xs h rest = let r = rest h in (suc r.0, omega (arith, r.1)
 from_any : {X : Type 0} (p : X → Bool) (n : ℕ) (xs : List X) → list_any p xs ≡ true → (j : ℕ) × (j < length xs) × (position_from p n xs ≡ Some (n + j))
 from_any p n [] h = cc
 from_any p n (x ∷ xs) h = from_any_at p n (p x) xs h (from_any p (n + 1) xs)
-
-ports_in : List Stop → List ℕ
-ports_in stops = map (λ s. s.0) stops
 
 -- ---- places of stops
 keeps_place : (stops : List Stop) (s : Stop) (q j : ℕ) → place_of stops q ≡ Some j → place_of (stops ++ s ∷ []) q ≡ Some j

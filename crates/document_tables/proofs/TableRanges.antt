@@ -1,5 +1,5 @@
 -- The ranges of what tables say.
-use Rattle.std.proofs.Common.{◌≡◌, ℕ, ◌<◌, ◌≤◌, nat_le, List, [], ◌∷◌, ◌++◌, length, All, position, Option, Some, None, Ok, Err, subst, arith, length-append}
+use Rattle.std.proofs.Common.{◌≡◌, ℕ, ◌<◌, ◌≤◌, refl, nat_le, List, [], ◌∷◌, ◌++◌, length, All, position, Option, Some, None, Ok, Err, subst, arith, length-append}
 use Rattle.std.specs.Prelude.{slice_get, if◌then◌else◌}
 use Rattle.std.specs.List.{list_any}
 use Rattle.std.specs.Str.{bytes_eq}
@@ -46,7 +46,7 @@ kept_by_table P head step none p more (first ∷ rows) t h =
 
 -- ---- ports
 abbrev AreInRange : Ports → Type 0
-AreInRange ports = All IsPortText ports.ports × (length ports.ports ≤ most_ports)
+AreInRange ports = All IsPortText ports.ports × (length ports.ports ≤ most_ports) × (length ports.names ≡ length ports.ports)
 
 module _ (head : PortHead) (before : Ports) (row : Row) where
   abbrev port_named : List ℕ → RowRead Ports
@@ -66,10 +66,12 @@ module _ (head : PortHead) (before : Ports) (row : Row) where
       let made : Ports = record { names = before.names ++ name.0 ∷ []; ports = before.ports ++ port.0 ∷ [] } in
       let less : length before.ports < most_ports = grind (arith, nat_tests, few.0) in
       let longer = length-append before.ports (port.0 ∷ []) in
-      subst AreInRange (same_read made after port.2) (All-push IsPortText before.ports port.0 p.0 (port_says head row port.0 port.1), omega (arith, less, longer))
+      let names = length-append before.names (name.0 ∷ []) in
+      subst AreInRange (same_read made after port.2) (All-push IsPortText before.ports port.0 p.0 (port_says head row port.0 port.1), omega (arith, less, longer), omega (arith, names, longer, p.2))
 
-pub ports_in_range : (rows : List LineRow) (ports : Ports) → ports_of rows ≡ Ok ports → All IsPortText ports.ports × (length ports.ports ≤ most_ports)
-ports_in_range rows ports h = kept_by_table AreInRange port_head with_port no_ports (All-nil IsPortText, omega arith) port_more rows ports h
+pub ports_in_range : (rows : List LineRow) (ports : Ports) → ports_of rows ≡ Ok ports
+    → All IsPortText ports.ports × (length ports.ports ≤ most_ports) × (length ports.names ≡ length ports.ports)
+ports_in_range rows ports h = kept_by_table AreInRange port_head with_port no_ports (All-nil IsPortText, omega arith, refl) port_more rows ports h
 
 -- ---- links
 abbrev HaveKeys : Links → Type 0

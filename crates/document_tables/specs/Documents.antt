@@ -1,7 +1,9 @@
--- What a document of two tables means: its names, its network on the grid and its branches; or its first fault, those of ports
--- before those of links.
-use Rattle.std.specs.Prelude.{◌≡◌, ℕ, List, map, Result, Ok, Err}
+-- What a document of two tables means: its names, its network on the grid and its branches; or its first fault, those
+-- of ports before those of links. Own choice.
+use Rattle.std.specs.Prelude.{◌≡◌, ℕ, ◌<◌, List, map, length, slice_get, Some, Result, Ok, Err}
 use Rattle.std.specs.String.{string_bytes}
+use Rattle.tree_network.specs.declared.network.Link.{Link}
+use Rattle.tree_network.specs.declared.network.Network.{Network}
 use Rattle.document_rows.specs.Reads.{and_then}
 use Rattle.document_tables.specs.declared.document.BranchEnd.{BranchEnd}
 use Rattle.document_tables.specs.declared.document.Document.{Document}
@@ -45,6 +47,16 @@ document_with overhead ports links = record {
   links = links_from ports.ports overhead links.branches 0 links.keys;
   branches = map (branch_on_grid links.branches) links.branches;
 }
+
+-- a branch is of one of the links, and ends at one of its nodes
+pub record IsBranchOf (net : Network) (b : BranchEnd) : Type 0 where
+  pub in_links : b.link < length net.links.items
+  pub in_nodes : (link : Link) → slice_get net.links.items b.link ≡ Some link → b.node < length link.nodes.items
+
+-- each port and each link has a name
+pub record HasNames (d : Document) : Type 0 where
+  pub ports : length d.port_names.keys ≡ length d.network.ports.items
+  pub links : length d.link_names.keys ≡ length d.network.links.items
 
 -- ---- reads
 -- a fault, and the table that has it

@@ -1,5 +1,5 @@
--- Tables on the grid of networks: picoseconds, grains a second, bits. What a server does is rounded down, what it takes and what may
--- arrive is rounded up. Own choice.
+-- Tables on the grid of networks: picoseconds, grains a second, bits. What a server does is rounded down, what it takes
+-- and what may arrive is rounded up. Own choice.
 use Rattle.std.specs.Prelude.{ℕ, ◌+◌, nat_eq, List, [], ◌∷◌, map, position, slice_get, unwrap_or, Option, Some, None, option_map}
 use Rattle.tree_network.specs.declared.network.Gate.{Gate}
 use Rattle.tree_network.specs.declared.network.Node.{Node}
@@ -52,7 +52,14 @@ port_on_grid port = record {
 }
 
 abbrev pub grid_port : Port → PortOnGrid
-grid_port p = record { rate = p.rate; pace = p.pace; latency = p.latency; link = p.link; discipline = discipline_view p.discipline; gate = p.gate }
+grid_port p = record {
+  rate = p.rate;
+  pace = p.pace;
+  latency = p.latency;
+  link = p.link;
+  discipline = discipline_view p.discipline;
+  gate = p.gate;
+}
 
 -- ---- trees
 -- the place of a port in a tree
@@ -69,7 +76,11 @@ queue_of None priority = 0
 queue_of (Some port) priority = queue_at port.discipline priority
 
 abbrev pub node_of : List PortText → (priority : ℕ) → List Stop → Stop → Node
-node_of ports priority stops stop = record { port = stop.0; queue = queue_of (slice_get ports stop.0) priority; from = place_after stops stop.1 }
+node_of ports priority stops stop = record {
+  port = stop.0;
+  queue = queue_of (slice_get ports stop.0) priority;
+  from = place_after stops stop.1;
+}
 
 abbrev pub nodes_of : List PortText → (priority : ℕ) → List Stop → List Node
 nodes_of ports priority stops = map (node_of ports priority stops) stops

@@ -14,7 +14,8 @@ use Rattle.document_tables.specs.Trees.{IsTreeOf}
 pub record AreTrees (table : LinkTable) : Type 0 where
   pub names : length table.names.keys ≡ length table.keys.items
   pub trees : length table.trees.items ≡ length table.keys.items
-  pub each : (k : ℕ) (tree : Tree) → slice_get table.trees.items k ≡ Some tree → IsTreeOf (paths_of k (map branch_view table.branches.items)) tree
+  pub each : (k : ℕ) (tree : Tree) → slice_get table.trees.items k ≡ Some tree
+      → IsTreeOf (paths_of k (map branch_view table.branches.items)) tree
   pub others : (k : ℕ) → length table.keys.items ≤ k → paths_of k (map branch_view table.branches.items) ≡ []
 
 -- a row agrees, or differs as it is read

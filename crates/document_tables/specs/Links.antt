@@ -36,7 +36,8 @@ abbrev pub branch_view : Branch → BranchText
 branch_view b = record { link = b.link; path = b.path.items; deadline = b.deadline }
 
 abbrev pub links_view : LinkTable → Links
-links_view t = record { names = map string_bytes t.names.keys; keys = t.keys.items; branches = map branch_view t.branches.items }
+links_view t =
+    record { names = map string_bytes t.names.keys; keys = t.keys.items; branches = map branch_view t.branches.items }
 
 -- ---- the rows of one link
 abbrev pub keys_of : LinkText → LinkKeys

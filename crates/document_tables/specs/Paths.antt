@@ -32,7 +32,8 @@ takes place d queue frame number =
 
 abbrev pub at_port : (place : ℕ) → Option PortText → (priority frame number : ℕ) → CellRead ℕ
 at_port place None priority frame number = Err (UnknownPort place)
-at_port place (Some port) priority frame number = takes place port.discipline (queue_at port.discipline priority) frame number
+at_port place (Some port) priority frame number =
+    takes place port.discipline (queue_at port.discipline priority) frame number
 
 -- the number of the port behind those before it in a path
 abbrev pub step_to : Ports → (priority frame : ℕ) → List ℕ → Option ℕ → CellRead ℕ

@@ -1,4 +1,4 @@
--- The tree over which a link goes, by the paths of its rows: the ports that they pass, each with the port before it there.
+-- The tree over which a link goes, by the paths of its rows: the ports that they pass, each with the port before it.
 use Rattle.std.specs.Prelude.{ℕ, nat_eq, Bool, List, [], ◌∷◌, ◌++◌, map, Option, Some, None, if◌then◌else◌}
 use Rattle.std.specs.List.{list_any}
 

@@ -21,8 +21,8 @@ use std::alloc::{AllocError, Global};
 use table_cells::Amount;
 use tree_network::Network;
 
-/// The link of a branch, the place of its last port in the nodes of the link, and its deadline in microseconds, where it
-/// has one.
+/// The link of a branch, the place of its last port in the nodes of the link, and its deadline in microseconds, where
+/// it has one.
 #[derive(Debug, Clone, Copy)]
 pub struct BranchEnd {
     pub link: usize,
@@ -30,8 +30,8 @@ pub struct BranchEnd {
     pub deadline: Option<Amount>,
 }
 
-/// What a document means: its network, the names of the ports and links by their numbers, and its branches in the order of
-/// the rows.
+/// What a document means: its network, the names of the ports and links by their numbers, and its branches in the order
+/// of the rows.
 #[derive(Drop)]
 pub struct Document {
     pub port_names: IndexSet<String>,
@@ -68,7 +68,8 @@ fn branch_end(table: &LinkTable, branch: &Branch) -> BranchEnd
 fn branch_ends(alloc: Global, table: &LinkTable) -> Result<Vec<BranchEnd>, AllocError>
     requires trees { AreTrees table.now }
     ensures { IfOk result (λ ends. map spec.end_view ends.items
-        ≡ map (grids.branch_on_grid (map branch_view table.now.branches.items)) (map branch_view table.now.branches.items)) }
+        ≡ map (grids.branch_on_grid (map branch_view table.now.branches.items))
+        (map branch_view table.now.branches.items)) }
 {
     let mut ends = Vec::new(alloc);
     for place in 0..table.branches.len() {
@@ -88,7 +89,8 @@ fn document_with(
     requires ports { All IsPortText (ports_view ports).ports }
     requires keys { All AreLinkKeys table.keys.items }
     requires trees { AreTrees table }
-    ensures { IfOk result (λ d. spec.document_view d ≡ spec.document_with overhead (ports_view ports) (links_view table)) }
+    ensures { IfOk result (λ d. spec.document_view d
+        ≡ spec.document_with overhead (ports_view ports) (links_view table)) }
 {
     let links = links_on_grid(alloc, &ports, overhead, &table)?;
     let branches = branch_ends(alloc, &table)?;
@@ -104,8 +106,8 @@ fn document_with(
     })
 }
 
-/// The document of the rows of two tables, or its first fault: by rows, those of ports before those of links, and in a row
-/// by columns. A frame has `overhead` bytes on the wire beside its own, at most 2^20.
+/// The document of the rows of two tables, or its first fault: by rows, those of ports before those of links, and in a
+/// row by columns. A frame has `overhead` bytes on the wire beside its own, at most 2^20.
 #[tactic(auto, unfolding(crate::specs::Documents::document_of))]
 pub fn read_document(
     alloc: Global,
@@ -117,6 +119,8 @@ pub fn read_document(
     ensures value { spec.TellsDocument result
         (spec.document_of overhead (map row_view port_rows.now) (map row_view link_rows.now)) }
     ensures network { IfOk result (λ d. IsNetwork d.network) }
+    ensures branches { IfOk result (λ d. All (spec.IsBranchOf d.network) d.branches.items) }
+    ensures names { IfOk result spec.HasNames }
 {
     let ports = match read_ports(alloc, port_rows) {
         Ok(ports) => ports,

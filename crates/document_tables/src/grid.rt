@@ -78,7 +78,13 @@ pub(crate) fn ports_on_grid(alloc: Global, rows: &[PortRow]) -> Result<Vec<Port>
 }
 
 // The node of a port of a tree, and of the one after which it comes.
-fn node_of(ports: &PortTable, priority: usize, tree: &Tree, port: usize, after: Option<usize>) -> Node
+fn node_of(
+    ports: &PortTable,
+    priority: usize,
+    tree: &Tree,
+    port: usize,
+    after: Option<usize>,
+) -> Node
     ensures { result ≡ spec.node_of (ports_view ports.now).ports priority tree.now.after.entries (port, after) }
 {
     let queue = match ports.ports.get(port) {
@@ -99,7 +105,8 @@ fn nodes_of(
     priority: usize,
     tree: &Tree,
 ) -> Result<Vec<Node>, AllocError>
-    ensures { IfOk result (λ nodes. nodes.items ≡ spec.nodes_of (ports_view ports.now).ports priority tree.now.after.entries) }
+    ensures { IfOk result (λ nodes. nodes.items
+        ≡ spec.nodes_of (ports_view ports.now).ports priority tree.now.after.entries) }
 {
     let mut nodes = Vec::new(alloc);
     for place in 0..tree.len() {
@@ -140,8 +147,9 @@ pub(crate) fn links_on_grid(
     requires overhead { overhead ≤ 1048576 }
     requires keys { All AreLinkKeys table.now.keys.items }
     requires trees { AreTrees table.now }
-    ensures { IfOk result (λ links. map spec.grid_link links.items ≡ spec.links_from (ports_view ports.now).ports overhead
-        (map branch_view table.now.branches.items) 0 table.now.keys.items) }
+    ensures { IfOk result (λ links. map spec.grid_link links.items
+        ≡ spec.links_from (ports_view ports.now).ports overhead (map branch_view table.now.branches.items) 0
+        table.now.keys.items) }
 {
     let mut links = Vec::new(alloc);
     for number in 0..table.keys.len() {

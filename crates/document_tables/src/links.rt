@@ -44,8 +44,8 @@ pub struct LinkKeys {
     pub priority: u64,
 }
 
-/// A row of the table: the number of its link, those of the ports of its path, and its deadline in microseconds, where it
-/// has one.
+/// A row of the table: the number of its link, those of the ports of its path, and its deadline in microseconds, where
+/// it has one.
 #[derive(Debug, Drop)]
 pub struct Branch {
     pub link: usize,
@@ -143,7 +143,8 @@ fn new_link(
 ) -> Result<(), AllocError>
     requires new { position (bytes_eq name.now) (map string_bytes table.old.names.keys) ≡ None }
     requires kept { AreTrees table.old }
-    ensures value { OnOk result (spec.with_link (spec.links_view table.old) name.now None row ≡ Ok (spec.links_view table.new)) }
+    ensures value { OnOk result (spec.with_link (spec.links_view table.old) name.now None row
+        ≡ Ok (spec.links_view table.new)) }
     ensures more { OnOk result (length table.new.keys.items ≡ length table.old.keys.items + 1) }
     ensures kept { OnOk result (AreTrees table.new) }
 {
@@ -283,7 +284,8 @@ pub fn read_links(
     rows: &[TableRow],
 ) -> Result<LinkTable, LineError>
     requires { overhead ≤ 1048576 }
-    ensures value { TellsTable spec.links_view result (spec.links_of (ports_view ports.now) overhead (map row_view rows.now)) }
+    ensures value { TellsTable spec.links_view result
+        (spec.links_of (ports_view ports.now) overhead (map row_view rows.now)) }
     ensures kept { IfOk result AreTrees }
 {
     let [first, rest @ ..] = rows else {

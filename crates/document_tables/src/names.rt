@@ -22,7 +22,8 @@ pub(crate) fn add_name(
     names: &mut IndexSet<String>,
     name: &str,
 ) -> Result<bool, AllocError>
-    ensures new { IfOk result (λ is_new. is_new ≡ not (list_any (bytes_eq name.now) (map string_bytes names.old.keys))) }
+    ensures new { IfOk result (λ is_new. is_new
+        ≡ not (list_any (bytes_eq name.now) (map string_bytes names.old.keys))) }
     ensures grown { IfOk result (λ is_new. is_new ≡ true
         → map string_bytes names.new.keys ≡ map string_bytes names.old.keys ++ name.now ∷ []) }
 {

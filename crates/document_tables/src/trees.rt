@@ -76,7 +76,8 @@ impl Tree {
         requires { place + 1 < 2 ^ 64 }
         ensures { (paths : List (List ℕ)) (path : List ℕ) → spec.IsTreeOf (paths ++ path ∷ []) self.old
             → spec.last_of None path ≡ Some after → list_any (λ n. n == port) path ≡ false
-            → Grows result (spec.hangs paths place (Some after) port) (Some port) (paths ++ (path ++ port ∷ []) ∷ []) self.new }
+            → Grows result (spec.hangs paths place (Some after) port) (Some port)
+            (paths ++ (path ++ port ∷ []) ∷ []) self.new }
     {
         match self.after.get(&port) {
             Some(before) => {
@@ -98,7 +99,8 @@ impl Tree {
         requires some { 0 < length path.now }
         requires own { HasOwnPorts path.now }
         ensures { (paths : List (List ℕ)) → spec.IsTreeOf paths self.old
-            → Grows result (spec.hangs_from paths 0 None path.now) (spec.last_of None path.now) (paths ++ path.now ∷ []) self.new }
+            → Grows result (spec.hangs_from paths 0 None path.now) (spec.last_of None path.now)
+            (paths ++ path.now ∷ []) self.new }
     {
         self.begin(path[0])?;
         for place in 1..path.len() {

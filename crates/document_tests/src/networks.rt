@@ -72,13 +72,8 @@ fn branches_make_a_tree(rt: HostRuntime) -> Result<(), Fail> {
     };
     assert!(rt; links[0].nodes.as_slice() == [first, second, third].as_slice());
     assert!(rt; links[1].gap == 333_333_333);
-    assert!(rt;
-        document.branches[2].link == 0
-            && document.branches[2].node == 2
-    );
-    assert!(rt;
-        document.branches[1].link == 1 && document.branches[1].node == 1
-    );
+    assert!(rt; document.branches[2].link == 0 && document.branches[2].node == 2);
+    assert!(rt; document.branches[1].link == 1 && document.branches[1].node == 1);
     Ok(())
 }
 

@@ -65,7 +65,8 @@ fn a_report_line_by_line(rt: HostRuntime) -> Result<(), Fail> {
 #[test]
 fn a_report_as_json(rt: HostRuntime) -> Result<(), Fail> {
     let report = report(rt.alloc())?;
-    let wanted = "{\"branches\":[{\"bound\":\"2.500\",\"deadline\":\"2.500\",\"link\":\"v\",\"met\":true,\"port\":\"a\"},\
+    let wanted =
+        "{\"branches\":[{\"bound\":\"2.500\",\"deadline\":\"2.500\",\"link\":\"v\",\"met\":true,\"port\":\"a\"},\
                   {\"bound\":\"none\",\"link\":\"w\",\"port\":\"b\"}],\
                   \"ports\":[{\"backlog\":\"1100\",\"delay\":\"1.025\",\"load\":\"0.250\",\"name\":\"a\",\"queue\":0},\
                   {\"backlog\":\"none\",\"delay\":\"none\",\"load\":\"1.001\",\"name\":\"b\",\"queue\":1}]}\n";

@@ -1,11 +1,14 @@
-use Rattle.std.proofs.Common.{map, ap}
+use Rattle.std.specs.String.{string_bytes}
+use Rattle.std.proofs.Common.{map, ap, length, arith}
+use Rattle.std.proofs.lemmas.List.{length-map}
+use Rattle.document_tables.specs.Grids.{grid_port, grid_link, port_on_grid}
 use Rattle.document_tables.specs.Documents.{DocumentText}
 use Rattle.document_tables.specs.Links.{links_view}
 use Rattle.document_tables.specs.Ports.{ports_view}
 use Rattle.document_tables.specs.Tables.{row_view}
 use Rattle.document_tables.proofs.TableRanges.{ports_in_range, links_in_range}
 use Rattle.document_tables.proofs.LinkFacts.{links_are}
-use Rattle.document_tables.proofs.NetworkFacts.{network_range}
+use Rattle.document_tables.proofs.NetworkFacts.{network_range, branches_range, same_length, links_length}
 use Rattle.document_tables.proofs.document.read_document.Goals as goal
 
 pub document_with-requires-clause-ports : goal.document_with-requires-clause-ports
@@ -26,3 +29,30 @@ returns-in-Ok-document_with-clause-network c =
     let are = links_are ports c.args.overhead link_rows links c.in-Ok-read_links.ensures.value in
     let same = c.in-Ok-document_with.ensures in
     network_range ports c.args.overhead c.in-Ok-document_with.document.network (ap (λ (d : DocumentText). d.ports) same) links c.requires texts.1 texts.0 keys are (ap (λ (d : DocumentText). d.links) same)
+
+pub returns-in-Ok-document_with-clause-branches : goal.returns-in-Ok-document_with-clause-branches
+returns-in-Ok-document_with-clause-branches c =
+    let ports = ports_view c.in-Ok.ports in
+    let links = links_view c.in-Ok-read_links.table in
+    let document = c.in-Ok-document_with.document in
+    let are = links_are ports c.args.overhead (map row_view c.args.link_rows.now) links c.in-Ok-read_links.ensures.value in
+    let same = c.in-Ok-document_with.ensures in
+    branches_range ports c.args.overhead document.network (ap (λ (d : DocumentText). d.ports) same) links are (ap (λ (d : DocumentText). d.links) same) document.branches.items (ap (λ (d : DocumentText). d.branches) same)
+
+pub returns-in-Ok-document_with-clause-names : goal.returns-in-Ok-document_with-clause-names
+returns-in-Ok-document_with-clause-names c =
+    let ports = ports_view c.in-Ok.ports in
+    let links = links_view c.in-Ok-read_links.table in
+    let d = c.in-Ok-document_with.document in
+    let texts = ports_in_range (map row_view c.args.port_rows.now) ports c.in-Ok.ensures in
+    let are = links_are ports c.args.overhead (map row_view c.args.link_rows.now) links c.in-Ok-read_links.ensures.value in
+    let same = c.in-Ok-document_with.ensures in
+    let port_names = ap (λ (d : DocumentText). length d.port_names) same in
+    let link_names = ap (λ (d : DocumentText). length d.link_names) same in
+    let on_grid = ap (λ (d : DocumentText). length d.links) same in
+    let a = length-map d.port_names.keys string_bytes in
+    let b = same_length grid_port port_on_grid d.network.ports.items ports.ports (ap (λ (d : DocumentText). d.ports) same) in
+    let e = length-map d.link_names.keys string_bytes in
+    let f = length-map d.network.links.items grid_link in
+    let g = links_length ports.ports c.args.overhead links.branches 0 links.keys in
+    record { ports = omega (arith, a, port_names, b, texts.2); links = omega (arith, e, link_names, on_grid, f, g, are.names) }
