@@ -1,12 +1,13 @@
 -- The bounds of a link, node by node.
 use Rattle.std.proofs.Common.{◌≡◌, ℕ, zero, suc, ◌<◌, ◌≤◌, ◌+◌, ◌*◌, ◌^◌, Option, Some, None, List, [], ◌∷◌, ◌++◌, length, get_or, refl, sym, ◌∙◌, ap, subst, arith, inl, inr, length-append}
-use Rattle.std.specs.Prelude.{IfSome}
+use Rattle.std.specs.Prelude.{IfSome, slice_get}
 use Rattle.std.proofs.lemmas.Bool.{cases_lt}
 use Rattle.std.proofs.lemmas.List.{get_or_append_left, get_or_at}
 use Rattle.arrival_lines.specs.declared.grid.Queue.{Queue}
 use Rattle.tree_network.specs.Networks.{node_at, port_at, HangsBefore}
 use Rattle.tree_network.specs.declared.network.Link.{Link}
 use Rattle.tree_network.specs.declared.network.Network.{Network}
+use Rattle.tree_bounds.specs.Solved.{HaveBounds}
 use Rattle.tree_bounds.specs.Tables.{AreBounds, time_at, time_after, time_before}
 
 -- so far, none of them above so much a node
@@ -75,3 +76,26 @@ bound_more net row link k bounds b hangs is small old = record {
         enough : (o : Option ℕ) → IfSome o (λ x. x ≤ k * 2 ^ 65 + 2 ^ 65) → k ≡ place → IfSome o (λ x. x ≤ (place + 1) * 2 ^ 65)
         enough None e same = tt
         enough (Some x) e same = omega (arith, e, same)
+
+-- ---- of several links
+pub no_link_yet : (net : Network) (row : ℕ → ℕ → Option Queue) → HaveBounds net row 0 []
+no_link_yet net row = record { count = refl; each = λ i link h. absurd (omega (arith, h)) }
+
+pub link_more : (net : Network) (row : ℕ → ℕ → Option Queue) (k : ℕ) (bounds : List (List (Option ℕ))) (new : List (Option ℕ))
+    → ((link : Link) → slice_get net.links.items k ≡ Some link → AreBounds net row link new) → HaveBounds net row k bounds
+    → HaveBounds net row (k + 1) (bounds ++ new ∷ [])
+link_more net row k bounds new is old = record {
+  count = length-append bounds (new ∷ []) ∙ ap (λ n. n + 1) old.count;
+  each = each;
+}
+  where
+    each : (i : ℕ) (link : Link) → i < k + 1 → slice_get net.links.items i ≡ Some link → AreBounds net row link (get_or (bounds ++ new ∷ []) i [])
+    each i link h e =
+        let P : List (Option ℕ) → Type 0 = λ bs. AreBounds net row link bs in
+        elim (cases_lt i k) [
+          | inl l ↦ subst P (sym (get_or_append_left bounds (new ∷ []) [] i (omega (arith, l, old.count)))) (old.each i link l e)
+          | inr l ↦
+              let last : i ≡ k = omega (arith, l, h) in
+              let S : ℕ → Type 0 = λ j. slice_get net.links.items j ≡ Some link in
+              subst P (sym (get_or_at bounds new [] [] i (old.count ∙ sym last))) (is link (subst S last e))
+        ]

@@ -4,6 +4,7 @@ use Rattle.std.specs.Prelude.{All, is_some, slice_get}
 use Rattle.std.specs.List.{sum_by, list_all}
 use Rattle.std.proofs.lemmas.Bool.{cases_eq, cases_lt}
 use Rattle.std.proofs.lemmas.List.{length-set, get_or_default}
+use Rattle.std.proofs.lemmas.List.Sums.{sum_by-cons}
 use Rattle.arrival_lines.specs.declared.grid.Line.{Line}
 use Rattle.arrival_lines.specs.declared.grid.Queue.{Queue}
 use Rattle.tree_network.specs.Networks.{port_at, queues_of}
@@ -30,7 +31,7 @@ sum_same f g [] a = refl
 sum_same f g (x ∷ xs) a =
     let rest = sum_same f g xs (λ k d h. a (suc k) d (omega (arith, h))) in
     let first : f x ≡ g x = a 0 x (omega arith) in
-    ap (λ y. y + sum_by f xs) first ∙ ap (λ y. g x + y) rest
+    sum_by-cons f x xs ∙ ap (λ y. y + sum_by f xs) first ∙ ap (λ y. g x + y) rest ∙ sym (sum_by-cons g x xs)
 
 tests_same : (f g : ℕ → Bool) (xs : List ℕ) → All (λ n. f n ≡ g n) xs → list_all f xs ≡ list_all g xs
 tests_same f g [] a = refl

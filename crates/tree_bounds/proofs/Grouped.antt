@@ -1,5 +1,5 @@
 -- The groups of the spots at a port, taken one after the other, are those of its sources.
-use Rattle.std.proofs.Common.{◌≡◌, ◌≢◌, ℕ, zero, suc, ◌<◌, ◌≤◌, ◌+◌, ◌*◌, ◌^◌, ◌==◌, ◌&&◌, max, Bool, true, false, Option, Some, None, List, [], ◌∷◌, ◌++◌, length, get_or, take, refl, sym, ◌∙◌, ap, subst, arith, inl, inr, add-one, add-zero, append-nil, append_assoc, cond, fold}
+use Rattle.std.proofs.Common.{◌≡◌, ◌≢◌, ℕ, zero, suc, ◌<◌, ◌≤◌, ◌+◌, ◌*◌, ◌^◌, ◌==◌, ◌&&◌, max, Bool, true, false, Option, Some, None, List, [], ◌∷◌, ◌++◌, length, get_or, take, refl, sym, ◌∙◌, ap, subst, arith, inl, inr, add-one, zero-add, append-nil, append_assoc, cond, fold}
 use Rattle.std.specs.Prelude.{All, is_some}
 use Rattle.std.specs.List.{sum_by, list_all}
 use Rattle.std.proofs.lemmas.Bool.Decides.{nat_tests}
@@ -57,8 +57,8 @@ groups_before spots line s q (suc k) =
     (before_more k (groups_at spots line s q k) (groups_before spots line s q k)) (list_before spots line k (spots_in_group spots s q k))
 
 -- ---- one spot more
-make : (k b r l : ℕ) (known : Bool) → Group
-make k b r l known = record { source = k; burst = b; rate = r; longest = l; known = known }
+abbrev fields : (k b r l : ℕ) (known : Bool) → Group
+fields k b r l known = record { source = k; burst = b; rate = r; longest = l; known = known }
 
 longest_push : (spots : List Spot) (numbers : List ℕ) (n : ℕ) → longest_of spots (numbers ++ n ∷ []) ≡ max (longest_of spots numbers) (spot_at spots n).frame
 unfolding longest_of
@@ -71,17 +71,16 @@ and_true false = refl
 
 -- a record by its fields
 same_group : (k b r l : ℕ) (known : Bool) (b2 r2 l2 : ℕ) (known2 : Bool) → b ≡ b2 → r ≡ r2 → l ≡ l2 → known ≡ known2
-    → record { source = k; burst = b; rate = r; longest = l; known = known } ≡ record { source = k; burst = b2; rate = r2; longest = l2; known = known2 }
+    → fields k b r l known ≡ fields k b2 r2 l2 known2
 same_group k b r l known b2 r2 l2 known2 eb er el ek =
-    let S : ℕ → ℕ → ℕ → Bool → Group = λ x y z w. record { source = k; burst = x; rate = y; longest = z; known = w } in
-    ap (λ x. S x r l known) eb ∙ ap (λ y. S b2 y l known) er ∙ ap (λ z. S b2 r2 z known) el ∙ ap (λ w. S b2 r2 l2 w) ek
+    ap (λ x. fields k x r l known) eb ∙ ap (λ y. fields k b2 y l known) er ∙ ap (λ z. fields k b2 r2 z known) el ∙ ap (λ w. fields k b2 r2 l2 w) ek
 
 pub group_push : (spots : List Spot) (line : ℕ → Option Line) (k : ℕ) (numbers : List ℕ) (n : ℕ)
     → both_groups (group_of spots line k numbers) (group_of_spot (spot_at spots n) (line n)) ≡ group_of spots line k (numbers ++ n ∷ [])
 group_push spots line k numbers n =
     same_group k _ _ _ _ _ _ _ _
-    (sym (sum_by-append (λ m. burst_in (line m)) numbers (n ∷ []) ∙ ap (λ x. sum_by (λ m. burst_in (line m)) numbers + x) (add-zero (burst_in (line n)))))
-    (sym (sum_by-append (λ m. rate_in (line m)) numbers (n ∷ []) ∙ ap (λ x. sum_by (λ m. rate_in (line m)) numbers + x) (add-zero (rate_in (line n)))))
+    (sym (sum_by-append (λ m. burst_in (line m)) numbers (n ∷ []) ∙ ap (λ x. sum_by (λ m. burst_in (line m)) numbers + x) (zero-add (burst_in (line n)))))
+    (sym (sum_by-append (λ m. rate_in (line m)) numbers (n ∷ []) ∙ ap (λ x. sum_by (λ m. rate_in (line m)) numbers + x) (zero-add (rate_in (line n)))))
     (sym (longest_push spots numbers n))
     (sym (list_all-append (λ m. is_some (line m)) numbers (n ∷ []) ∙ ap (λ x. list_all (λ m. is_some (line m)) numbers && x) (and_true (is_some (line n)))))
 
@@ -92,8 +91,8 @@ one_longest spots n = omega arith
 pub group_one : (spots : List Spot) (line : ℕ → Option Line) (k n : ℕ) → (spot_at spots n).source ≡ k
     → group_of_spot (spot_at spots n) (line n) ≡ group_of spots line k (n ∷ [])
 group_one spots line k n e =
-    ap (λ x. record { source = x; burst = burst_in (line n); rate = rate_in (line n); longest = (spot_at spots n).frame; known = is_some (line n) }) e
-    ∙ same_group k _ _ _ _ _ _ _ _ (sym (add-zero (burst_in (line n)))) (sym (add-zero (rate_in (line n)))) (one_longest spots n) (sym (and_true (is_some (line n))))
+    ap (λ x. fields x (burst_in (line n)) (rate_in (line n)) (spot_at spots n).frame (is_some (line n))) e
+    ∙ same_group k _ _ _ _ _ _ _ _ (sym (zero-add (burst_in (line n)))) (sym (zero-add (rate_in (line n)))) (one_longest spots n) (sym (and_true (is_some (line n))))
 
 -- ---- the spots of one source
 add_one : (spots : List Spot) (line : ℕ → Option Line) (k n : ℕ) (groups : List Group) (numbers : List ℕ) → AreBefore k groups → (spot_at spots n).source ≡ k
@@ -115,14 +114,8 @@ block : (spots : List Spot) (line : ℕ → Option Line) (s q k : ℕ) (groups :
 block spots line s q k groups b zero =
     ap (λ l. fold (with_spot spots line q) groups l) (those_zero (is_between spots k s))
     ∙ sym (append-nil groups) ∙ ap (λ l. groups ++ group_list spots line k l) (sym (those_zero (is_in_group spots s q k)))
-block spots line s q k groups b (suc n) = by_place (is_between spots k s n) refl
+block spots line s q k groups b (suc n) = by_place (block spots line s q k groups b n) (is_between spots k s n) refl
   where
-    before : fold (with_spot spots line q) groups (those (is_between spots k s) n) ≡ groups ++ group_list spots line k (those (is_in_group spots s q k) n)
-    before = block spots line s q k groups b n
-
-    old : List ℕ
-    old = those (is_in_group spots s q k) n
-
     by_queue : is_between spots k s n ≡ true → (c : Bool) → ((spot_at spots n).queue == q) ≡ c
         → with_spot spots line q (groups ++ group_list spots line k (those (is_in_group spots s q k) n)) n
           ≡ groups ++ group_list spots line k (those (is_in_group spots s q k) (suc n))
@@ -135,13 +128,14 @@ block spots line s q k groups b (suc n) = by_place (is_between spots k s n) refl
         let none : is_in_group spots s q k n ≡ false = rw (here, e) refl in
         rw e (ap (λ l. groups ++ group_list spots line k l) (sym (those_no (is_in_group spots s q k) n none)))
 
-    by_place : (c : Bool) → is_between spots k s n ≡ c
+    by_place : fold (with_spot spots line q) groups (those (is_between spots k s) n) ≡ groups ++ group_list spots line k (those (is_in_group spots s q k) n)
+        → (c : Bool) → is_between spots k s n ≡ c
         → fold (with_spot spots line q) groups (those (is_between spots k s) (suc n)) ≡ groups ++ group_list spots line k (those (is_in_group spots s q k) (suc n))
-    by_place true e =
+    by_place before true e =
         ap (λ l. fold (with_spot spots line q) groups l) (those_yes (is_between spots k s) n e)
         ∙ fold-append (with_spot spots line q) groups (those (is_between spots k s) n) (n ∷ [])
         ∙ ap (λ l. with_spot spots line q l n) before ∙ by_queue e ((spot_at spots n).queue == q) refl
-    by_place false e =
+    by_place before false e =
         let none : is_in_group spots s q k n ≡ false = ap (λ c. c && ((spot_at spots n).queue == q)) e in
         ap (λ l. fold (with_spot spots line q) groups l) (those_no (is_between spots k s) n e) ∙ before
         ∙ ap (λ l. groups ++ group_list spots line k l) (sym (those_no (is_in_group spots s q k) n none))
@@ -178,12 +172,12 @@ most_with j (g ∷ (h ∷ groups)) next b r m = ((omega (arith, m.0.0), omega (a
 pub fits_all : (j : ℕ) (groups : List Group) (next : Group) → j < 2 ^ 63 → next.burst < 2 ^ 64 → next.rate < 2 ^ 64 → AreAtMost j groups
     → All (λ g. (g.burst + next.burst < 2 ^ 128) × (g.rate + next.rate < 2 ^ 128)) groups
 fits_all j [] next few b r m = λ k d h. absurd (omega (arith, h))
-fits_all j (g ∷ groups) next few b r m = λ k d h. at k d h
+fits_all j (g ∷ groups) next few b r m = λ k d h. at (fits_all j groups next few b r m.1) k d h
   where
-    at : (k : ℕ) (d : Group) → k < length (g ∷ groups)
+    at : All (λ g. (g.burst + next.burst < 2 ^ 128) × (g.rate + next.rate < 2 ^ 128)) groups → (k : ℕ) (d : Group) → k < length (g ∷ groups)
         → (((get_or (g ∷ groups) k d).burst + next.burst < 2 ^ 128) × ((get_or (g ∷ groups) k d).rate + next.rate < 2 ^ 128))
-    at zero d h = (omega (arith, few, b, m.0.0), omega (arith, few, r, m.0.1))
-    at (suc k) d h = fits_all j groups next few b r m.1 k d (omega (arith, h))
+    at rest zero d h = (omega (arith, few, b, m.0.0), omega (arith, few, r, m.0.1))
+    at rest (suc k) d h = rest k d (omega (arith, h))
 
 -- so far
 pub record Grouping (spots : List Spot) (line : ℕ → Option Line) (q : ℕ) (numbers : List ℕ) (j : ℕ) (groups : List Group) : Type 0 where
@@ -225,16 +219,18 @@ spot_left_out spots line q numbers j groups h e g =
 pub with_rest : (old rest : List Group) (last next : Group) → old ≡ rest ++ last ∷ [] → with_group old next ≡ rest ++ last_with last next
 with_rest old rest last next e = ap (λ l. with_group l next) e ∙ with_last rest last next
 
-pub with_both : (old rest : List Group) (last next : Group) → old ≡ rest ++ last ∷ [] → last.source ≡ next.source
-    → with_group old next ≡ rest ++ both_groups last next ∷ []
-with_both old rest last next e same =
-    let hit = eq_true last.source next.source same in
-    let is : last_with last next ≡ both_groups last next ∷ [] = rw hit refl in
-    with_rest old rest last next e ∙ ap (λ l. rest ++ l) is
+pub last_same : (last next : Group) → last.source ≡ next.source → both_groups last next ∷ [] ≡ last_with last next
+last_same last next same = let hit = eq_true last.source next.source same in rw hit refl
 
-pub with_other : (old rest : List Group) (last next : Group) → old ≡ rest ++ last ∷ [] → last.source ≢ next.source
-    → with_group old next ≡ (rest ++ last ∷ []) ++ next ∷ []
-with_other old rest last next e other =
-    let miss = eq_false last.source next.source other in
-    let is : last_with last next ≡ last ∷ next ∷ [] = rw miss refl in
-    with_rest old rest last next e ∙ ap (λ l. rest ++ l) is ∙ sym (append_assoc rest (last ∷ []) (next ∷ []))
+pub last_other : (last next : Group) → last.source ≢ next.source → last ∷ next ∷ [] ≡ last_with last next
+last_other last next other = let miss = eq_false last.source next.source other in rw miss refl
+
+-- where none is left behind the last one
+pub nil_of : (groups : List Group) → length groups ≡ 0 → groups ≡ []
+nil_of [] e = refl
+nil_of (g ∷ groups) e = absurd (omega (arith, e))
+
+pub with_nothing : (old rest : List Group) (next : Group) → old ≡ rest ++ [] → length rest ≡ 0 → with_group old next ≡ rest ++ next ∷ []
+with_nothing old rest next e none =
+    let empty = nil_of rest none in
+    ap (λ l. with_group l next) (e ∙ append-nil rest ∙ empty) ∙ with_none next ∙ ap (λ l. l ++ next ∷ []) (sym empty)

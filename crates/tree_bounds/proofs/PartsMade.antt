@@ -4,6 +4,7 @@ use Rattle.std.specs.List.{sum_by, list_all}
 use Rattle.std.proofs.lemmas.Bool.Decides.{nat_tests}
 use Rattle.std.proofs.lemmas.List.{take_more, map-append}
 use Rattle.std.proofs.lemmas.List.Folds.{list_all_more}
+use Rattle.std.proofs.lemmas.List.Sums.{sum_by_more, sum_by-cons}
 use Rattle.arrival_lines.specs.Steps.{most_burst, most_rate, burst_with, rate_with}
 use Rattle.arrival_lines.specs.declared.grid.Line.{Line}
 use Rattle.arrival_lines.specs.declared.grid.Part.{Part}
@@ -34,14 +35,24 @@ rate_le sum (Some pace) = omega arith
 burst_in_sum : (net : Network) (groups : List Group) (i : ℕ) (d : Group) → i < length groups → (get_or groups i d).burst ≤ sum_by most_burst (map (part_of net) groups)
 burst_in_sum net [] i d h = absurd (omega (arith, h))
 burst_in_sum net (g ∷ groups) zero d h =
-    let le = burst_le record { burst = g.burst; rate = g.rate } (pace_line net g.longest g.source) in omega (arith, le)
-burst_in_sum net (g ∷ groups) (suc i) d h = let rest = burst_in_sum net groups i d (omega (arith, h)) in omega (arith, rest)
+    let le = burst_le record { burst = g.burst; rate = g.rate } (pace_line net g.longest g.source) in
+    let both = sum_by-cons most_burst (part_of net g) (map (part_of net) groups) in
+    omega (arith, le, both)
+burst_in_sum net (g ∷ groups) (suc i) d h = 
+    let rest = burst_in_sum net groups i d (omega (arith, h)) in
+    let both = sum_by-cons most_burst (part_of net g) (map (part_of net) groups) in
+    omega (arith, rest, both)
 
 rate_in_sum : (net : Network) (groups : List Group) (i : ℕ) (d : Group) → i < length groups → (get_or groups i d).rate ≤ sum_by most_rate (map (part_of net) groups)
 rate_in_sum net [] i d h = absurd (omega (arith, h))
 rate_in_sum net (g ∷ groups) zero d h =
-    let le = rate_le record { burst = g.burst; rate = g.rate } (pace_line net g.longest g.source) in omega (arith, le)
-rate_in_sum net (g ∷ groups) (suc i) d h = let rest = rate_in_sum net groups i d (omega (arith, h)) in omega (arith, rest)
+    let le = rate_le record { burst = g.burst; rate = g.rate } (pace_line net g.longest g.source) in
+    let both = sum_by-cons most_rate (part_of net g) (map (part_of net) groups) in
+    omega (arith, le, both)
+rate_in_sum net (g ∷ groups) (suc i) d h = 
+    let rest = rate_in_sum net groups i d (omega (arith, h)) in
+    let both = sum_by-cons most_rate (part_of net g) (map (part_of net) groups) in
+    omega (arith, rest, both)
 
 not_below : (a b : ℕ) → b ≤ a → nat_lt a b ≡ false
 not_below a b h = grind (arith, nat_tests)
@@ -103,3 +114,26 @@ both_fields parts longest = record { parts = parts; longest = longest }
 pub same_incoming : (a b : Option (List Part)) (l m : ℕ) → a ≡ b → l ≡ m → both_fields a l ≡ both_fields b m
 same_incoming a b l m e f =
     ap (λ p. both_fields p l) e ∙ ap (λ n. both_fields b n) f
+
+pub longest_zero : (groups : List Group) → 0 ≡ longest_group (take 0 groups)
+unfolding longest_group
+longest_zero groups = refl
+
+-- ---- the parts' numbers together
+pub record Totals (parts : List Part) (i bursts rates : ℕ) : Type 0 where
+  pub burst : bursts ≡ sum_by most_burst (take i parts)
+  pub rate : rates ≡ sum_by most_rate (take i parts)
+  pub few_bursts : bursts ≤ i * 2 ^ 64
+  pub few_rates : rates ≤ i * 2 ^ 64
+
+pub totals_more : (parts : List Part) (i b r bursts rates : ℕ) (d : Part) → i < length parts → b ≡ most_burst (get_or parts i d) → r ≡ most_rate (get_or parts i d)
+    → b < 2 ^ 64 → r < 2 ^ 64 → Totals parts i bursts rates → Totals parts (i + 1) (bursts + b) (rates + r)
+totals_more parts i b r bursts rates d h eb er fb fr t =
+    let burst = sum_by_more most_burst parts i d h in
+    let rate = sum_by_more most_rate parts i d h in
+    record {
+      burst = omega (arith, burst, eb, t.burst);
+      rate = omega (arith, rate, er, t.rate);
+      few_bursts = omega (arith, t.few_bursts, fb);
+      few_rates = omega (arith, t.few_rates, fr);
+    }

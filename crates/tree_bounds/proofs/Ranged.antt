@@ -1,5 +1,5 @@
 -- What arrives at a port's queues is in range.
-use Rattle.std.proofs.Common.{◌≡◌, ℕ, zero, suc, ◌<◌, ◌≤◌, ◌+◌, ◌-◌, ◌*◌, ◌^◌, ◌&&◌, max, Bool, true, false, Option, Some, None, List, [], ◌∷◌, ◌++◌, length, get_or, map, nat_lt, refl, sym, ◌∙◌, ap, subst, arith, add-zero, length-append}
+use Rattle.std.proofs.Common.{◌≡◌, ℕ, zero, suc, ◌<◌, ◌≤◌, ◌+◌, ◌-◌, ◌*◌, ◌^◌, ◌&&◌, max, Bool, true, false, Option, Some, None, List, [], ◌∷◌, ◌++◌, length, get_or, map, nat_lt, refl, sym, ◌∙◌, ap, subst, arith, add-zero, add-one, length-append}
 use Rattle.std.specs.Prelude.{All}
 use Rattle.std.specs.List.{sum_by, list_all}
 use Rattle.std.proofs.lemmas.Bool.Decides.{nat_tests}
@@ -120,3 +120,13 @@ in_range net spots line s q a h =
       bursts = omega (arith, bursts, h);
       rates = omega (arith, rates, h);
     }
+
+-- ---- one queue more
+pub incomings_zero : (net : Network) (spots : List Spot) (line : ℕ → Option Line) (s : ℕ) → incomings_at net spots line s 0 ≡ []
+unfolding incomings_at
+incomings_zero net spots line s = refl
+
+pub incomings_more : (net : Network) (spots : List Spot) (line : ℕ → Option Line) (s q : ℕ)
+    → incomings_at net spots line s (q + 1) ≡ incomings_at net spots line s q ++ incoming_at net spots line s q ∷ []
+unfolding incomings_at
+incomings_more net spots line s q = rw add-one refl

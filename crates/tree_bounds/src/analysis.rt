@@ -1,11 +1,12 @@
 //! The table of a network.
 
-ghost use Rattle.std.specs.Prelude.{◌≡◌, ◌<◌, length, IfOk, IfErr};
+ghost use Rattle.std.specs.Prelude.{◌≡◌, ◌<◌, ◌+◌, length, IfOk, IfErr};
 ghost use Rattle.tree_network.specs.Networks.{IsNetwork, port_at};
+ghost use Rattle.tree_order.specs.Lists.{lists_of, those, is_from, AreBySource};
 ghost use Rattle.tree_order.specs.Plans.{IsPlanOf, IsFault};
 ghost use Rattle.port_bounds.specs.Rows.{AreRows};
 ghost use Rattle.tree_bounds.specs.Equations.{arrivals_of};
-ghost use Rattle.tree_bounds.specs.Onward.{line_at};
+ghost use Rattle.tree_bounds.specs.Onward.{line_at, ArePassedOn, CanBePassedOn};
 ghost use Rattle.tree_bounds.specs.Solved.{AreSolved};
 ghost use Rattle.tree_bounds.specs.Tables.{IsTableOf, items_of};
 
@@ -55,8 +56,20 @@ fn rows_at(
 {
     let at = &network.ports[port];
     let count = at.discipline.queue_count();
-    let queues = arrivals_at(alloc, network, &plan.spots, &plan.at[port], lines, count)?;
+    let queues = arrivals_at(alloc, network, plan, lines, port, count)?;
     port_rows(alloc, at, &queues)
+}
+
+/// Notes the lines with which links come from a port with these rows to the next ones.
+fn hand_on(plan: &Plan, port: usize, rows: &[Option<Queue>], lines: &mut Vec<Option<Line>>)
+    requires inside { port + 1 < length plan.now.sources.items }
+    requires sources { AreBySource plan.now.spots.items (length plan.now.sources.items) (lists_of plan.now.sources.items) }
+    requires can { let spots = plan.now.spots.items in
+        CanBePassedOn spots (those (is_from spots (port + 1)) (length spots)) (length rows.now) (length lines.old.items) }
+    ensures { let spots = plan.now.spots.items in let numbers = those (is_from spots (port + 1)) (length spots) in
+        ArePassedOn spots numbers rows.now (length numbers) lines.old.items lines.new.items }
+{
+    pass_on(&plan.spots, &plan.sources[port + 1], rows, lines);
 }
 
 /// The rows of each port, by the plan.
@@ -72,8 +85,10 @@ fn rows_in_order(
     let mut lines = first_lines(alloc, network, &plan.spots)?;
     let mut rows = empty_rows(alloc, network.ports.len())?;
     for port in &plan.order {
-        let found = rows_at(alloc, network, plan, &lines, *port)?;
-        pass_on(&plan.spots, &plan.sources[*port + 1], &found, &mut lines);
+        let known = lines.as_slice();
+        let found = rows_at(alloc, network, plan, known, *port)?;
+        let these = found.as_slice();
+        hand_on(plan, *port, these, &mut lines);
         rows[*port] = found;
     }
     Ok(rows)

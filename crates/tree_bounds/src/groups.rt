@@ -1,8 +1,8 @@
 //! The links that come to a queue, by where they come from.
 
-ghost use Rattle.std.specs.Prelude.{◌≡◌, ◌<◌, ◌+◌, ◌*◌, ◌^◌, [], ℕ, All, length, max, IfOk, OnOk};
+ghost use Rattle.std.specs.Prelude.{◌≡◌, ◌<◌, ◌+◌, ◌^◌, ◌++◌, ◌∷◌, [], All, length, max, IfOk, OnOk};
 ghost use Rattle.tree_bounds.specs.Groups.{longest_group};
-ghost use Rattle.tree_bounds.specs.Grouping.{both_groups, group_of_spot, grouped, with_group};
+ghost use Rattle.tree_bounds.specs.Grouping.{both_groups, group_of_spot, grouped, last_with, with_group};
 ghost use Rattle.tree_bounds.specs.Onward.{line_at};
 
 use arrival_lines::Line;
@@ -33,7 +33,8 @@ fn greater(a: u64, b: u64) -> u64
 
 /// The group of one spot with this line.
 fn group_of_one(spot: Spot, line: Option<Line>) -> Group
-    ensures { result ≡ group_of_spot spot line }
+    ensures one { result ≡ group_of_spot spot line }
+    ensures small { (result.burst < 2 ^ 64) × (result.rate < 2 ^ 64) }
 {
     match line {
         None => Group {
@@ -68,25 +69,43 @@ fn together(one: Group, other: Group) -> Group
     }
 }
 
+/// Adds a group behind the others.
+fn put(groups: &mut Vec<Group>, group: Group) -> Result<(), AllocError>
+    ensures { OnOk result (groups.new.items ≡ groups.old.items ++ group ∷ []) }
+{
+    groups.push(group)?;
+    Ok(())
+}
+
+/// Adds two groups behind the others.
+fn put_two(groups: &mut Vec<Group>, one: Group, other: Group) -> Result<(), AllocError>
+    ensures { OnOk result (groups.new.items ≡ groups.old.items ++ one ∷ other ∷ []) }
+{
+    groups.push(one)?;
+    groups.push(other)?;
+    Ok(())
+}
+
+/// Adds the last group behind the others and one more, or both together where they are of one source.
+fn put_behind(groups: &mut Vec<Group>, last: Group, next: Group) -> Result<(), AllocError>
+    requires burst { last.burst + next.burst < 2 ^ 128 }
+    requires rate { last.rate + next.rate < 2 ^ 128 }
+    ensures { OnOk result (groups.new.items ≡ groups.old.items ++ last_with last next) }
+{
+    if last.source == next.source {
+        return put(groups, together(last, next));
+    }
+    put_two(groups, last, next)
+}
+
 /// Adds a group behind the others, or to the last of them where that is of the same source.
 fn add_group(groups: &mut Vec<Group>, next: Group) -> Result<(), AllocError>
     requires { All (λ g. (g.burst + next.burst < 2 ^ 128) × (g.rate + next.rate < 2 ^ 128)) groups.old.items }
     ensures { OnOk result (groups.new.items ≡ with_group groups.old.items next) }
 {
     match groups.pop() {
-        None => {
-            groups.push(next)?;
-            Ok(())
-        }
-        Some(last) => {
-            if last.source == next.source {
-                groups.push(together(last, next))?;
-                return Ok(());
-            }
-            groups.push(last)?;
-            groups.push(next)?;
-            Ok(())
-        }
+        None => put(groups, next),
+        Some(last) => put_behind(groups, last, next),
     }
 }
 

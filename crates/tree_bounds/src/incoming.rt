@@ -4,8 +4,8 @@ ghost use Rattle.std.specs.Prelude.{◌≡◌, ◌<◌, ◌≤◌, ◌+◌, ℕ,
 ghost use Rattle.std.specs.List.{list_all};
 ghost use Rattle.std.specs.Option.{option_map};
 ghost use Rattle.tree_network.specs.Networks.{IsNetwork, longest_frame};
-ghost use Rattle.tree_order.specs.Lists.{spots_at_port};
-ghost use Rattle.tree_order.specs.Spots.{AreSpots};
+ghost use Rattle.tree_order.specs.Plans.{IsPlanOf};
+ghost use Rattle.tree_order.specs.Spots.{spots_of};
 ghost use Rattle.arrival_lines.specs.Steps.{most_burst, most_rate};
 ghost use Rattle.port_bounds.specs.Incoming.{incoming, incoming_of};
 ghost use Rattle.tree_bounds.specs.Groups.{are_bounded, incoming_at, incomings_at, pace_line, part_of, parts_in};
@@ -18,7 +18,7 @@ use arrival_lines::{Line, Part};
 use port_bounds::Arrivals;
 use std::alloc::{AllocError, Global};
 use tree_network::Network;
-use tree_order::Spot;
+use tree_order::Plan;
 
 /// No queue's parts may have so many grains at once.
 const MOST_BURST: u128 = 1 << 58;
@@ -133,23 +133,22 @@ fn parts_of(
     }
 }
 
-/// What arrives at queue q, where these spots are those at its port.
+/// What arrives at queue q of a port.
 fn arrivals(
     alloc: Global,
     network: &Network,
-    spots: &[Spot],
-    numbers: &[usize],
+    plan: &Plan,
     lines: &[Option<Line>],
+    port: usize,
     q: usize,
 ) -> Result<Arrivals, AllocError>
-    ghost port: { ℕ }
     requires network { IsNetwork network.now }
-    requires spots { AreSpots network.now spots.now }
-    requires numbers { numbers.now ≡ spots_at_port spots.now port (length network.now.ports.items + 1) }
-    requires lines { length lines.now ≡ length spots.now }
-    ensures { IfOk result (λ a. incoming_of a ≡ incoming_at network.now spots.now (λ n. line_at lines.now n) port q) }
+    requires plan { IsPlanOf network.now plan.now }
+    requires lines { length lines.now ≡ length plan.now.spots.items }
+    requires port { port < length network.now.ports.items }
+    ensures { IfOk result (λ a. incoming_of a ≡ incoming_at network.now (spots_of network.now) (λ n. line_at lines.now n) port q) }
 {
-    let groups = groups_of(alloc, spots, numbers, lines, q)?;
+    let groups = groups_of(alloc, &plan.spots, &plan.at[port], lines, q)?;
     let parts = parts_of(alloc, network, &groups)?;
     Ok(Arrivals {
         parts,
@@ -157,25 +156,24 @@ fn arrivals(
     })
 }
 
-/// What arrives at each of so many queues of a port, where these spots are those at the port.
+/// What arrives at each of so many queues of a port.
 pub(crate) fn arrivals_at(
     alloc: Global,
     network: &Network,
-    spots: &[Spot],
-    numbers: &[usize],
+    plan: &Plan,
     lines: &[Option<Line>],
+    port: usize,
     count: usize,
 ) -> Result<Vec<Arrivals>, AllocError>
-    ghost port: { ℕ }
     requires network { IsNetwork network.now }
-    requires spots { AreSpots network.now spots.now }
-    requires numbers { numbers.now ≡ spots_at_port spots.now port (length network.now.ports.items + 1) }
-    requires lines { length lines.now ≡ length spots.now }
-    ensures { IfOk result (λ v. incoming v.items ≡ incomings_at network.now spots.now (λ n. line_at lines.now n) port count) }
+    requires plan { IsPlanOf network.now plan.now }
+    requires lines { length lines.now ≡ length plan.now.spots.items }
+    requires port { port < length network.now.ports.items }
+    ensures { IfOk result (λ v. incoming v.items ≡ incomings_at network.now (spots_of network.now) (λ n. line_at lines.now n) port count) }
 {
     let mut queues = Vec::with_capacity(alloc, count)?;
     for q in 0..count {
-        queues.push(arrivals(alloc, network, spots, numbers, lines, q)?)?;
+        queues.push(arrivals(alloc, network, plan, lines, port, q)?)?;
     }
     Ok(queues)
 }

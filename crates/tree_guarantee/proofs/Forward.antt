@@ -24,7 +24,8 @@ pub spot_found : (net : Network) (i m : ℕ) (link : Link) (k : ℕ) → slice_g
     → (length (spots_below net i) + k < length (spots_below net m))
       × (get_or (spots_below net m) (length (spots_below net i) + k) no_spot ≡ spot_of i (length (spots_below net i)) link k)
 spot_found net i zero link k e h early few = absurd (omega (arith, early))
-spot_found net i (suc m) link k e h early few = by_place (slice_get net.links.items m) refl
+spot_found net i (suc m) link k e h early few =
+    by_place (λ less. spot_found net i m link k e h less (omega (arith, few))) (slice_get net.links.items m) refl
   where
     xs : List Spot
     xs = spots_below net i
@@ -35,8 +36,8 @@ spot_found net i (suc m) link k e h early few = by_place (slice_get net.links.it
     Found : List Spot → Type 0
     Found ys = (length xs + k < length ys) × (get_or ys (length xs + k) no_spot ≡ spot_of i (length xs) link k)
 
-    more : (other : Link) → slice_get net.links.items m ≡ Some other → Found (spots_below net (m + 1))
-    more other is =
+    more : (i < m → Found (spots_below net m)) → (other : Link) → slice_get net.links.items m ≡ Some other → Found (spots_below net (m + 1))
+    more before other is =
         let ys = spots_below net m in
         let zs = spots_in m (length ys) other (length other.nodes.items) in
         let count = length-append ys zs in
@@ -54,18 +55,18 @@ spot_found net i (suc m) link k e h early few = by_place (slice_get net.links.it
                 ap (λ j. get_or (ys ++ zs) (j + k) no_spot) xy ∙ at
                 ∙ ap (λ j. spot_of j (length ys) other k) (sym same) ∙ ap (λ j. spot_of i j other k) (sym xy) ∙ ap (λ l. spot_of i (length xs) l k) (sym one))
             | inr less ↦
-                let old = spot_found net i m link k e h (omega (arith, early, less)) (omega (arith, few)) in
+                let old = before (omega (arith, early, less)) in
                 (omega (arith, count, old.0), get_or_append_left ys zs no_spot (length xs + k) old.0 ∙ old.1)
           ])
 
-    by_place : (o : Option Link) → slice_get net.links.items m ≡ o → Found (spots_below net (suc m))
-    by_place None is =
+    by_place : (i < m → Found (spots_below net m)) → (o : Option Link) → slice_get net.links.items m ≡ o → Found (spots_below net (suc m))
+    by_place before None is =
         let past = slice_get_cases net.links.items m in
         elim past.1 [
           | inl found ↦ absurd (let f : None ≡ Some found.0 = sym is ∙ found.2 in cc)
           | inr over ↦ absurd (omega (arith, over.0, few))
         ]
-    by_place (Some other) is = let P : ℕ → Type 0 = λ j. Found (spots_below net j) in subst P next (more other is)
+    by_place before (Some other) is = let P : ℕ → Type 0 = λ j. Found (spots_below net j) in subst P next (more before other is)
 
 -- ---- what hangs on what
 record HangsAt (link : Link) (xs : List Node) (a b : ℕ) : Type 0 where
@@ -76,17 +77,17 @@ record HangsAt (link : Link) (xs : List Node) (a b : ℕ) : Type 0 where
 
 hangs_at : (link : Link) (xs : List Node) (a b : ℕ) → from_of b (map (node_of link) xs) ≡ Some a → HangsAt link xs a b
 hangs_at link [] a b e = absurd (let f : None ≡ Some a = e in cc)
-hangs_at link (x ∷ xs) a b e = by_port (x.port == b) refl
+hangs_at link (x ∷ xs) a b e = by_port (hangs_at link xs a b) (x.port == b) refl
   where
-    by_port : (c : Bool) → (x.port == b) ≡ c → HangsAt link (x ∷ xs) a b
-    by_port true is = record {
+    by_port : (from_of b (map (node_of link) xs) ≡ Some a → HangsAt link xs a b) → (c : Bool) → (x.port == b) ≡ c → HangsAt link (x ∷ xs) a b
+    by_port later true is = record {
       place = 0;
       inside = omega arith;
       port = of_eq x.port b is;
       before = sym (ap (λ c. if c then port_before link x.from else from_of b (map (node_of link) xs)) is) ∙ e;
     }
-    by_port false is =
-        let rest = hangs_at link xs a b (sym (ap (λ c. if c then port_before link x.from else from_of b (map (node_of link) xs)) is) ∙ e) in
+    by_port later false is =
+        let rest = later (sym (ap (λ c. if c then port_before link x.from else from_of b (map (node_of link) xs)) is) ∙ e) in
         record { place = suc rest.place; inside = omega (arith, rest.inside); port = rest.port; before = rest.before }
 
 source_before : (link : Link) (from : Option ℕ) (a : ℕ) → port_before link from ≡ Some a → source_in link from ≡ suc a
@@ -127,15 +128,14 @@ place_in (x ∷ xs) s = if x == s then 0 else suc (place_in xs s)
 place_is : (xs : List ℕ) (s i : ℕ) → StandsAt xs s i → StandsAt xs s (place_in xs s)
 unfolding place_in
 place_is [] s i st = absurd (omega (arith, st.inside))
-place_is (x ∷ xs) s i st = by_first (x == s) refl
+place_is (x ∷ xs) s zero st =
+    let hit = eq_true x s st.is in
+    rw hit record { inside = omega arith; is = st.is }
+place_is (x ∷ xs) s (suc k) st = by_first (place_is xs s k record { inside = omega (arith, st.inside); is = st.is }) (x == s) refl
   where
-    rest : (i : ℕ) → StandsAt (x ∷ xs) s i → (x == s) ≡ false → StandsAt xs s (place_in xs s)
-    rest zero at e = absurd (let f : true ≡ false = sym (eq_true x s at.is) ∙ e in cc)
-    rest (suc k) at e = place_is xs s k record { inside = omega (arith, at.inside); is = at.is }
-
-    by_first : (c : Bool) → (x == s) ≡ c → StandsAt (x ∷ xs) s (if x == s then 0 else suc (place_in xs s))
-    by_first true e = rw e record { inside = omega arith; is = of_eq x s e }
-    by_first false e = let r = rest i st e in rw e record { inside = omega (arith, r.inside); is = r.is }
+    by_first : StandsAt xs s (place_in xs s) → (c : Bool) → (x == s) ≡ c → StandsAt (x ∷ xs) s (if x == s then 0 else suc (place_in xs s))
+    by_first r true e = rw e record { inside = omega arith; is = of_eq x s e }
+    by_first r false e = rw e record { inside = omega (arith, r.inside); is = r.is }
 
 pub go_forward : OrdersGoForward
 go_forward net order w o = (place_in order, forward)
