@@ -13,8 +13,8 @@ use Rattle.document_rows.specs.Reads.{and_then}
 use Rattle.document_rows.specs.Rows.{is_empty}
 use Rattle.document_rows.specs.Cells.{number_in, within, longest_time, time_in, time_or_zero, rate_in, gap_in, in_range, whole_between}
 use Rattle.document_rows.specs.Disciplines.{DisciplineText, Fifo, Priority, Drr, is_between, whole_of, most_queues, queues_in, quantum_in, quanta_from, quanta_of, quanta_in, discipline_of, gate_with, gate_of}
-use Rattle.document_rows.specs.LinkRows.{priority_in, path_of}
-use Rattle.document_tables.specs.Ranges.{IsWithin, IsTime, IsGateOrNone, IsQuantum, IsDiscipline}
+use Rattle.document_rows.specs.LinkRows.{priority_in, path_of, deadline_in}
+use Rattle.document_tables.specs.Ranges.{IsWithin, IsTime, IsTimeOrNone, IsGateOrNone, IsQuantum, IsDiscipline}
 use Rattle.document_tables.proofs.Reading.{both_read, both_some, one_some, some_read, not_refused, not_denied, allowed, same_read, some_if}
 use Rattle.document_tables.proofs.AmountRanges.{amount_written, zero_amount}
 
@@ -47,6 +47,13 @@ time_or_none cell a h = by (is_empty cell) h
     by : (b : Bool) → (if b then Ok (whole 0) else time_in cell) ≡ Ok a → IsTime a
     by true e = subst IsTime (same_read (whole 0) a e) (record { amount = zero_amount; most = refl })
     by false e = time cell a e
+
+pub deadline : (cell : List ℕ) (d : Option Amount) → deadline_in cell ≡ Ok d → IsTimeOrNone d
+deadline cell d h = by (is_empty cell) h
+  where
+    by : (b : Bool) → (if b then Ok None else and_then (time_in cell) (λ n. Ok (Some n))) ≡ Ok d → IsTimeOrNone d
+    by true e = subst IsTimeOrNone (same_read None d e) tt
+    by false e = let n = both_read (time_in cell) (λ n. Ok (Some n)) d e in subst IsTimeOrNone (same_read (Some n.0) d n.2) (time cell n.0 n.1)
 
 ranged : (least most n m : ℕ) → in_range least most n ≡ Ok m → (least ≤ m) × (m ≤ most)
 ranged least most n m h =

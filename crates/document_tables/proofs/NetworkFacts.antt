@@ -21,7 +21,7 @@ use Rattle.document_tables.specs.declared.links.LinkKeys.{LinkKeys}
 use Rattle.document_tables.specs.declared.document.BranchEnd.{BranchEnd}
 use Rattle.document_tables.specs.Documents.{IsBranchOf, end_view}
 use Rattle.document_tables.specs.Trees.{last_of}
-use Rattle.document_tables.specs.Ranges.{IsPortText, AreLinkKeys}
+use Rattle.document_tables.specs.Ranges.{IsTimeOrNone, IsPortText, AreLinkKeys}
 use Rattle.document_tables.specs.Ports.{Ports, most_ports}
 use Rattle.document_tables.specs.Links.{Links, BranchText, paths_of}
 use Rattle.document_tables.specs.Paths.{queues_of, queue_at, passes_quantum}
@@ -29,6 +29,7 @@ use Rattle.document_tables.specs.Stops.{Stop, stops_of}
 use Rattle.document_tables.specs.Grids.{PortOnGrid, LinkOnGrid, BranchOnGrid, branch_on_grid, end_of, port_on_grid, grid_port, grid_link, link_on_grid, links_from, node_of, nodes_of, place_of, place_after, queue_of}
 use Rattle.document_tables.proofs.Reading.{inner}
 use Rattle.document_tables.proofs.GridSteps.{has_path, split}
+use Rattle.document_tables.proofs.TableRanges.{HasDeadline}
 use Rattle.document_tables.proofs.GridRanges.{port_range, gap_range, time_range}
 use Rattle.document_tables.proofs.StopOrder.{AreInOrder, Follows, are_in_order, some_stop}
 use Rattle.document_tables.proofs.BranchFacts.{Fits, AreLinksBut}
@@ -210,8 +211,8 @@ module _ (ports : Ports) (overhead : ℕ) (net : Network) (same_ports : map grid
 
   -- ---- branches
   pub branches_range : (links : Links) → AreLinksBut ports overhead links None → map grid_link net.links.items ≡ links_from ports.ports overhead links.branches 0 links.keys
-      → (ends : List BranchEnd) → map end_view ends ≡ map (branch_on_grid links.branches) links.branches → All (IsBranchOf net) ends
-  branches_range links are same_links ends same_ends =
+      → All HasDeadline links.branches → (ends : List BranchEnd) → map end_view ends ≡ map (branch_on_grid links.branches) links.branches → All (IsBranchOf net) ends
+  branches_range links are same_links deadlines ends same_ends =
       λ k d h.
       let bs = links.branches in
       let b = get_or ends k d in
@@ -249,4 +250,5 @@ module _ (ports : Ports) (overhead : ℕ) (net : Network) (same_ports : map grid
             let same = length-map stops (node_of ports.ports key.priority stops) in
             let ends = place_within stops (last_of None text.path) some in
             omega (arith, node_is, many, same, ends);
+        deadline = subst IsTimeOrNone (sym (ap (λ (x : BranchOnGrid). x.deadline) e)) (All-get_or HasDeadline bs k no_branch (omega (arith, h, n)) deadlines);
       }

@@ -88,4 +88,5 @@ module _ (head : LinkHead) (row : Row) where
         priority = cells.priority (cell row head.priority) p.0 (cell_read column.Priority (priority_in (cell row head.priority)) p.0 p.1);
         some_port = path.0;
         path = path.1;
+        deadline = cells.deadline (cell_or_empty row head.deadline) d.0 (cell_read column.Deadline (deadline_in (cell_or_empty row head.deadline)) d.0 d.1);
       })

@@ -14,12 +14,12 @@ use Rattle.document_rows.specs.Reads.{RowRead, and_then, at}
 use Rattle.document_rows.specs.Heads.{port_head, link_head, row_name}
 use Rattle.document_rows.specs.PortRows.{port_row}
 use Rattle.document_rows.specs.LinkRows.{LinkText, link_row, frame_on_wire}
-use Rattle.document_tables.specs.Ranges.{IsPortText, IsLinkText, AreLinkKeys}
+use Rattle.document_tables.specs.Ranges.{IsTimeOrNone, IsPortText, IsLinkText, AreLinkKeys}
 use Rattle.document_tables.specs.Tables.{LineRow, at_line, after_rows, table_of}
 use Rattle.document_tables.specs.Ports.{Ports, with_port, no_ports, ports_of, most_ports}
 use Rattle.document_tables.specs.Paths.{path_ports}
 use Rattle.document_tables.specs.Trees.{hangs_from}
-use Rattle.document_tables.specs.Links.{Links, keys_of, with_link, agrees_with, has_room, number_or_next, with_branch, with_row, no_links, links_of, paths_of, most_branches}
+use Rattle.document_tables.specs.Links.{Links, BranchText, keys_of, with_link, agrees_with, has_room, number_or_next, with_branch, with_row, no_links, links_of, paths_of, most_branches}
 use Rattle.document_tables.proofs.Reading.{both_read, not_refused, same_read}
 use Rattle.document_tables.proofs.RowRanges.{port_says, link_says}
 
@@ -74,8 +74,11 @@ pub ports_in_range : (rows : List LineRow) (ports : Ports) → ports_of rows ≡
 ports_in_range rows ports h = kept_by_table AreInRange port_head with_port no_ports (All-nil IsPortText, omega arith, refl) port_more rows ports h
 
 -- ---- links
+abbrev pub HasDeadline : BranchText → Type 0
+HasDeadline b = IsTimeOrNone b.deadline
+
 abbrev HaveKeys : Links → Type 0
-HaveKeys links = All AreLinkKeys links.keys
+HaveKeys links = All AreLinkKeys links.keys × All HasDeadline links.branches
 
 keys_in_range : (row : LinkText) → IsLinkText row → AreLinkKeys (keys_of row)
 keys_in_range row r = record { gap = r.gap; some_frame = r.some_frame; frame = r.frame; jitter = r.jitter; priority = r.priority }
@@ -83,14 +86,14 @@ keys_in_range row r = record { gap = r.gap; some_frame = r.some_frame; frame = r
 link_more : (before after : Links) (name : List ℕ) (number : Option ℕ) (row : LinkText) → HaveKeys before → IsLinkText row → with_link before name number (keys_of row) ≡ Ok after → HaveKeys after
 link_more before after name None row p r h =
     let made : Links = record { names = before.names ++ name ∷ []; keys = before.keys ++ keys_of row ∷ []; branches = before.branches } in
-    subst HaveKeys (same_read made after h) (All-push AreLinkKeys before.keys (keys_of row) p (keys_in_range row r))
+    subst HaveKeys (same_read made after h) (All-push AreLinkKeys before.keys (keys_of row) p.0 (keys_in_range row r), p.1)
 link_more before after name (Some n) row p r h =
     let a = both_read (agrees_with (slice_get before.keys n) (keys_of row)) (λ first. Ok before) after h in subst HaveKeys (same_read before after a.2) p
 
 module _ (ports : Ports) (overhead : ℕ) where
-  branch_more : (link : ℕ) (before : Links) (row : LinkText) (after : Links) → HaveKeys before → with_branch ports overhead link before row ≡ Ok after → HaveKeys after
+  branch_more : (link : ℕ) (before : Links) (row : LinkText) (after : Links) → HaveKeys before → IsLinkText row → with_branch ports overhead link before row ≡ Ok after → HaveKeys after
   unfolding with_branch
-  branch_more link before row after p h =
+  branch_more link before row after p r h =
       let path = both_read (at column.Path (path_ports ports row.priority (frame_on_wire row.largest_frame overhead) row.path))
       (λ path. and_then (at column.Path (hangs_from (paths_of link before.branches) 0 None path)) (λ last.
       Ok (record before { branches = before.branches ++ record { link = link; path = path; deadline = row.deadline } ∷ [] }))) after h
@@ -98,8 +101,9 @@ module _ (ports : Ports) (overhead : ℕ) where
       let last = both_read (at column.Path (hangs_from (paths_of link before.branches) 0 None path.0))
       (λ last. Ok (record before { branches = before.branches ++ record { link = link; path = path.0; deadline = row.deadline } ∷ [] })) after path.2
       in
-      let made : Links = record before { branches = before.branches ++ record { link = link; path = path.0; deadline = row.deadline } ∷ [] } in
-      subst HaveKeys (same_read made after last.2) p
+      let new : BranchText = record { link = link; path = path.0; deadline = row.deadline } in
+      let made : Links = record before { branches = before.branches ++ new ∷ [] } in
+      subst HaveKeys (same_read made after last.2) (p.0, All-push HasDeadline before.branches new p.1 r.deadline)
 
   module _ (head : LinkHead) (before : Links) (row : Row) where
     abbrev linked : List ℕ → Option ℕ → LinkText → RowRead Links
@@ -119,7 +123,8 @@ module _ (ports : Ports) (overhead : ℕ) where
         let number = both_read (has_room before (position (bytes_eq name.0) before.names)) (roomed name.0) after name.2 in
         let text = both_read (link_row head row) (linked name.0 number.0) after number.2 in
         let links = both_read (with_link before name.0 number.0 (keys_of text.0)) (λ links. with_branch ports overhead (number_or_next before number.0) links text.0) after text.2 in
-        branch_more (number_or_next before number.0) links.0 text.0 after (link_more before links.0 name.0 number.0 text.0 p (link_says head row text.0 text.1) links.1) links.2
+        let says = link_says head row text.0 text.1 in
+        branch_more (number_or_next before number.0) links.0 text.0 after (link_more before links.0 name.0 number.0 text.0 p says links.1) says links.2
 
-  pub links_in_range : (rows : List LineRow) (links : Links) → links_of ports overhead rows ≡ Ok links → All AreLinkKeys links.keys
-  links_in_range rows links h = kept_by_table HaveKeys link_head (with_row ports overhead) no_links (All-nil AreLinkKeys) row_more rows links h
+  pub links_in_range : (rows : List LineRow) (links : Links) → links_of ports overhead rows ≡ Ok links → All AreLinkKeys links.keys × All HasDeadline links.branches
+  links_in_range rows links h = kept_by_table HaveKeys link_head (with_row ports overhead) no_links (All-nil AreLinkKeys, All-nil HasDeadline) row_more rows links h

@@ -14,6 +14,7 @@ use Rattle.document_tables.specs.declared.fault.LineError.TheVariants as lines
 use Rattle.document_tables.specs.declared.fault.LineFault.{LineFault}
 use Rattle.document_tables.specs.declared.fault.TableFile.{TableFile}
 use Rattle.document_tables.specs.declared.fault.TableFile.TheVariants as file
+use Rattle.document_tables.specs.Ranges.{IsTimeOrNone}
 use Rattle.document_tables.specs.Tables.{LineRow, TableRead}
 use Rattle.document_tables.specs.Ports.{Ports, ports_of}
 use Rattle.document_tables.specs.Links.{Links, links_of}
@@ -48,10 +49,11 @@ document_with overhead ports links = record {
   branches = map (branch_on_grid links.branches) links.branches;
 }
 
--- a branch is of one of the links, and ends at one of its nodes
+-- a branch is of one of the links, ends at one of its nodes, and has no deadline above the longest time
 pub record IsBranchOf (net : Network) (b : BranchEnd) : Type 0 where
   pub in_links : b.link < length net.links.items
   pub in_nodes : (link : Link) → slice_get net.links.items b.link ≡ Some link → b.node < length link.nodes.items
+  pub deadline : IsTimeOrNone b.deadline
 
 -- each port and each link has a name
 pub record HasNames (d : Document) : Type 0 where

@@ -20,6 +20,10 @@ pub record IsTime (a : Amount) : Type 0 where
   pub amount : IsAmount a
   pub most : is_at_most a longest_time ≡ true
 
+abbrev pub IsTimeOrNone : Option Amount → Type 0
+IsTimeOrNone None = Unit {0}
+IsTimeOrNone (Some a) = IsTime a
+
 pub record IsGate (gate : GateRow) : Type 0 where
   pub cycle : IsTime gate.cycle
   pub slot : IsTime gate.slot
@@ -53,6 +57,7 @@ pub record IsLinkText (row : LinkText) : Type 0 where
   pub priority : row.priority ≤ 7
   pub some_port : 1 ≤ length row.path
   pub path : length row.path ≤ 64
+  pub deadline : IsTimeOrNone row.deadline
 
 -- what the rows of a link agree in
 pub record AreLinkKeys (keys : LinkKeys) : Type 0 where

@@ -16,7 +16,7 @@ document_with-requires-clause-ports c = (ports_in_range (map row_view c.args.por
 
 pub document_with-requires-clause-keys : goal.document_with-requires-clause-keys
 document_with-requires-clause-keys c =
-    links_in_range (ports_view c.in-Ok.ports) c.args.overhead (map row_view c.args.link_rows.now) (links_view c.in-Ok-read_links.table) c.in-Ok-read_links.ensures.value
+    (links_in_range (ports_view c.in-Ok.ports) c.args.overhead (map row_view c.args.link_rows.now) (links_view c.in-Ok-read_links.table) c.in-Ok-read_links.ensures.value).0
 
 pub returns-in-Ok-document_with-clause-network : goal.returns-in-Ok-document_with-clause-network
 returns-in-Ok-document_with-clause-network c =
@@ -28,7 +28,7 @@ returns-in-Ok-document_with-clause-network c =
     let keys = links_in_range ports c.args.overhead link_rows links c.in-Ok-read_links.ensures.value in
     let are = links_are ports c.args.overhead link_rows links c.in-Ok-read_links.ensures.value in
     let same = c.in-Ok-document_with.ensures in
-    network_range ports c.args.overhead c.in-Ok-document_with.document.network (ap (λ (d : DocumentText). d.ports) same) links c.requires texts.1 texts.0 keys are (ap (λ (d : DocumentText). d.links) same)
+    network_range ports c.args.overhead c.in-Ok-document_with.document.network (ap (λ (d : DocumentText). d.ports) same) links c.requires texts.1 texts.0 keys.0 are (ap (λ (d : DocumentText). d.links) same)
 
 pub returns-in-Ok-document_with-clause-branches : goal.returns-in-Ok-document_with-clause-branches
 returns-in-Ok-document_with-clause-branches c =
@@ -37,7 +37,8 @@ returns-in-Ok-document_with-clause-branches c =
     let document = c.in-Ok-document_with.document in
     let are = links_are ports c.args.overhead (map row_view c.args.link_rows.now) links c.in-Ok-read_links.ensures.value in
     let same = c.in-Ok-document_with.ensures in
-    branches_range ports c.args.overhead document.network (ap (λ (d : DocumentText). d.ports) same) links are (ap (λ (d : DocumentText). d.links) same) document.branches.items (ap (λ (d : DocumentText). d.branches) same)
+    let said = links_in_range ports c.args.overhead (map row_view c.args.link_rows.now) links c.in-Ok-read_links.ensures.value in
+    branches_range ports c.args.overhead document.network (ap (λ (d : DocumentText). d.ports) same) links are (ap (λ (d : DocumentText). d.links) same) said.1 document.branches.items (ap (λ (d : DocumentText). d.branches) same)
 
 pub returns-in-Ok-document_with-clause-names : goal.returns-in-Ok-document_with-clause-names
 returns-in-Ok-document_with-clause-names c =
