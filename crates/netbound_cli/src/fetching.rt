@@ -14,11 +14,7 @@ use table_files::{FetchFault, TableFiles};
 pub(crate) type Ended = Result<Answer, NoMemory>;
 
 /// The bytes of a file, or the answer that it could not be read or is too long.
-fn fetch_one<I: TableFiles>(
-    alloc: Global,
-    file: &str,
-    inputs: &mut I,
-) -> Result<Vec<u8>, Ended>
+fn fetch_one<I: TableFiles>(alloc: Global, file: &str, inputs: &mut I) -> Result<Vec<u8>, Ended>
     ensures held { IfOk result (λ bytes. MayHold (I.content inputs.old file.now) bytes.items) }
     ensures fits { IfOk result (λ bytes. length bytes.items ≤ most_bytes) }
     ensures ended { IfErr result (λ ended. IfOk ended (λ r.
