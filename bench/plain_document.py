@@ -1,8 +1,9 @@
 #!/usr/bin/env python3
-"""What netbound answers, plainly: reads two tables, bounds the network by plain_bounds.py, and prints the same lines with the same status.
+"""What netbound answers, plainly: reads two tables, bounds the network by plain_bounds.py, and prints the same lines
+with the same status.
 
-Nothing here is shared with the program but the rules. Each number is read exactly, and rounded to its safe side: what a port does down,
-what arrives and how long it takes up.
+Nothing here is shared with the program but the rules. Each number is read exactly, and rounded to its safe side: what a
+port does down, what arrives and how long it takes up.
 
     python3 bench/plain_document.py PORTS.csv LINKS.csv [--overhead N] [--json]
 """
@@ -77,7 +78,7 @@ def told(file, line, fault):
 
 # ---- rows
 def records(text):
-    """The rows of a table with the lines on which they begin: quotes stand around a whole cell, and a doubled one in them is one."""
+    """The rows of a table with the lines on which they begin. A doubled quote in quotes is one."""
     row, cell, line, began, place = [], [], 1, None, "start"
     for byte in text:
         if byte in "\r\n" and place != "quoted":

@@ -1,13 +1,14 @@
 #!/usr/bin/env python3
-"""Networks of the shape of a real avionics network, and what netbound and the plain program of the same rules take for them.
+"""Networks of the shape of a real avionics network, and what netbound and the plain program of its rules take for them.
 
     python3 bench/real_size.py PROGRAM [SEED [SIZE ..]]    times and memory, a line a size (1, 4 and 10)
     python3 bench/real_size.py --write FOLDER [SEED [SIZE]]    writes the two tables alone
 
-A size of 1 has 104 end systems at 8 switches with 12 cables between them: 232 ports of 100 Mbit/s, 974 multicast links of 6,795 branches, gaps of
-2 to 128 milliseconds, frames of 84 to 1,538 bytes on the wire. A size of k has k such clusters, each with one of its cables to the next one, and a
-tenth of the branches go over. No path goes up and then down again in the order of the switches, so that there is no cycle. The processor time and the
-largest memory are those of each child; it ends with 1 where the two print unlike lines.
+A size of 1 has 104 end systems at 8 switches with 12 cables between them: 232 ports of 100 Mbit/s, 974 multicast links
+of 6,795 branches, gaps of 2 to 128 milliseconds, frames of 84 to 1,538 bytes on the wire. A size of k has k such
+clusters, each with one of its cables to the next one, and a tenth of the branches go over. No path goes up and then down
+again in the order of the switches, so that there is no cycle. The processor time and the largest memory are those of
+each child; it ends with 1 where the two print unlike lines.
 """
 
 import os
@@ -87,7 +88,8 @@ def links_table(draw, size, systems, ways):
         cluster = number // LINKS
         source = draw.randrange(cluster * SYSTEMS, (cluster + 1) * SYSTEMS)
         gap = draw.choices(list(GAPS), list(GAPS.values()))[0]
-        frame = draw.choice([64, 128, 200, 300, 400, 500, 1000, 1518]) if draw.random() < 0.8 else draw.randint(64, 1518)
+        usual = draw.choice([64, 128, 200, 300, 400, 500, 1000, 1518])
+        frame = usual if draw.random() < 0.8 else draw.randint(64, 1518)
         jitter = draw.choice([0, 0, 500])
         ends = set()
         while len(ends) < count:
@@ -121,13 +123,14 @@ def write(folder, seed, size):
 
 
 def measured(words, folder, name):
-    """The status, the bytes, seconds of processor time and of the clock, and megabytes at most."""
+    """The status and the bytes; seconds of processor time and of the clock, and megabytes at most."""
     with open(Path(folder) / name, "wb") as out:
         began = time.monotonic()
         child = os.posix_spawnp(words[0], words, os.environ, file_actions=[(os.POSIX_SPAWN_DUP2, out.fileno(), 1)])
         _, status, used = os.wait4(child, 0)
     clock = time.monotonic() - began
-    return os.waitstatus_to_exitcode(status), (Path(folder) / name).read_bytes(), used.ru_utime + used.ru_stime, clock, used.ru_maxrss / 1024
+    answer = os.waitstatus_to_exitcode(status), (Path(folder) / name).read_bytes()
+    return answer, used.ru_utime + used.ru_stime, clock, used.ru_maxrss / 1024
 
 
 def compared(program, seed, size):
@@ -137,10 +140,15 @@ def compared(program, seed, size):
         sizes = " and ".join(f"{Path(file).stat().st_size / 1e6:.1f}" for file in files)
         ours = measured([program, *files], folder, "ours")
         plain = measured([sys.executable, str(TWIN), *files], folder, "plain")
-    same = ours[:2] == plain[:2]
-    head = plain[1].split(b"\n")[0].decode()
-    none = plain[1].count(b" none")
-    print(f"{head} ({sizes} MB, {none} none): netbound {ours[2]:.2f} s, {ours[4]:.0f} MB; in Python {plain[2]:.2f} s, {plain[4]:.0f} MB; " + ("the same" if same else "NOT the same"), flush=True)
+    same = ours[0] == plain[0]
+    head = plain[0][1].split(b"\n")[0].decode()
+    none = plain[0][1].count(b" none")
+    print(
+        f"{head} ({sizes} MB, {none} none): netbound {ours[1]:.2f} s ({ours[2]:.2f} s by the clock), {ours[3]:.0f} MB;",
+        f"in Python {plain[1]:.2f} s, {plain[3]:.0f} MB;",
+        "the same" if same else "NOT the same",
+        flush=True,
+    )
     return same
 
 

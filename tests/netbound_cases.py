@@ -3,8 +3,8 @@
 
     python3 tests/netbound_cases.py PROGRAM [WORD ..]
 
-PROGRAM with its first words is tried, as `python3 bench/plain_document.py` for the plain one beside it; that one has no words to refuse, so
-cases of words are left out there, and of a ring only the status is compared.
+PROGRAM with its first words is tried, as `python3 bench/plain_document.py` for the plain one beside it; that one refuses
+no words, so cases of words are left out there, and of a ring only the status is compared.
 """
 
 import subprocess
@@ -143,8 +143,8 @@ def in_folders(program, plain):
 
 def in_rows(program):
     """The same of each row of refused tables."""
-    rows = [(ports, LINKS, "ports.csv " + said) for ports, said in BAD_PORTS] + [(p, l, "links.csv " + said) for p, l, said in BAD_LINKS]
-    for ports, links, said in rows:
+    bad_ports = [(ports, LINKS, "ports.csv " + said) for ports, said in BAD_PORTS]
+    for ports, links, said in bad_ports + [(ports, links, "links.csv " + said) for ports, links, said in BAD_LINKS]:
         with tempfile.TemporaryDirectory() as folder:
             (Path(folder) / "ports.csv").write_text(ports)
             (Path(folder) / "links.csv").write_text(links)

@@ -1,4 +1,5 @@
--- What is answered on the bytes of two tables: the first fault of the document, a ring of its ports, or the report on its bounds.
+-- What is answered on the bytes of two tables: the first fault of the document, a ring of its ports, or the report on
+-- its bounds.
 use Rattle.std.specs.Prelude.{◌≡◌, ◌⊎◌, ℕ, List, map, Ok, Err}
 use Rattle.csv_rows.specs.Rows.{AreRowsOf}
 use Rattle.document_tables.specs.declared.fault.TableFile.{TableFile}
@@ -87,4 +88,5 @@ abbrev pub IsDone : Tables → ℕ → Form → Reply → Type 0
 IsDone t overhead form reply = OfDocument t overhead (λ d net. IsReported d net form reply)
 
 abbrev pub IsReplyOn : Tables → ℕ → Form → Reply → Type 0
-IsReplyOn t overhead form reply = IsFaulty t overhead form reply ⊎ (IsCyclic t overhead form reply ⊎ IsDone t overhead form reply)
+IsReplyOn t overhead form reply =
+    IsFaulty t overhead form reply ⊎ (IsCyclic t overhead form reply ⊎ IsDone t overhead form reply)

@@ -26,7 +26,13 @@ pub record QueueText : Type 0 where
   pub backlog : Option ℕ
 
 abbrev pub queue_view : QueueRow → QueueText
-queue_view row = record { name = row.name.now; queue = row.queue; load = row.load; delay = row.delay; backlog = row.backlog }
+queue_view row = record {
+  name = row.name.now;
+  queue = row.queue;
+  load = row.load;
+  delay = row.delay;
+  backlog = row.backlog;
+}
 
 pub record BranchText : Type 0 where
   pub link : List ℕ
@@ -58,7 +64,8 @@ queues_with name port rates row count = map (λ q. queue_text name port q (rates
 
 abbrev pub queues_at : DocumentText → Network → Table → ℕ → List QueueText
 queues_at d net table s =
-    queues_with (name_at d.port_names s) (port_at net s) (rates_at net s) (row_in table s) (queues_of (port_at net s).discipline)
+    queues_with (name_at d.port_names s) (port_at net s) (rates_at net s) (row_in table s)
+    (queues_of (port_at net s).discipline)
 
 abbrev pub all_queues : DocumentText → Network → Table → List QueueText
 all_queues d net table = flat_map (queues_at d net table) (range_with_len 0 (length net.ports.items))

@@ -37,8 +37,8 @@ EndsAt faults last_fault told old new reply file =
     ⊎ (IsTooLong (told file) × (reply ≡ too_long file))
 
 -- ---- on words and inputs
--- The inputs may bring this reply of a call: they failed at a file, those before which may fit, or it is the reply on what the
--- files hold.
+-- The inputs may bring this reply of a call: they failed at a file, those before which may fit, or it is the reply on
+-- what the files hold.
 abbrev pub MayReplyTo : {I : Type 0} → (I → ℕ) → (I → List ℕ) → Told → Call → I → I → Reply → Type 0
 MayReplyTo faults last_fault told c old new reply =
     FirstIs told (λ file. FailedAt faults last_fault file old new × (reply ≡ cannot_read file)) (files_of c)
@@ -76,10 +76,17 @@ GivesOnTold c told status old new = IfSome (all_told told (files_of c)) (λ file
 abbrev pub IsAnswerable : Tables → ℕ → Type 0
 IsAnswerable t overhead = OfDocument t overhead (λ d net. (order : List ℕ) × IsNetworkOrder net order)
 
+-- so are those of a call that hold these bytes
+abbrev pub IsAnswerableCall : Call → List (List ℕ) → Type 0
+IsAnswerableCall c (ports ∷ links ∷ []) =
+    let t : Tables = record { ports_file = c.ports; ports = ports; links_file = c.links; links = links } in
+    IsAnswerable t c.overhead
+IsAnswerableCall c files = ⊥
+
 -- Where it is told that the files fit and are such a document, the report is written, or the status is 3, 4 or 5.
 abbrev pub AnswersWhatItCan : Call → Told → ℕ → Type 0
 AnswersWhatItCan c told status = IfSome (all_told told (files_of c)) (λ files.
-    AllFit files → OnTables (λ t overhead form reply. IsAnswerable t overhead) c files (record { status = 0; bytes = [] })
+    AllFit files → IsAnswerableCall c files
     → (status ≡ 0) ⊎ ((status ≡ 9) ⊎ ((status ≡ 3) ⊎ ((status ≡ 4) ⊎ (status ≡ 5)))))
 
 -- The sink failed in this call, and a front of the reply's bytes was written.

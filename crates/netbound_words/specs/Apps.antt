@@ -18,5 +18,5 @@ with_version a = record a { top = record a.top { has_version = true } }
 
 abbrev pub netbound : App
 netbound =
-    with_rule (with_rule (with_rule (with_rule (with_version (new_app (codes "netbound"))) (operand_rule (codes "ports")))
-    (operand_rule (codes "links"))) overhead_rule) json_rule
+    with_rule (with_rule (with_rule (with_rule (with_version (new_app (codes "netbound")))
+    (operand_rule (codes "ports"))) (operand_rule (codes "links"))) overhead_rule) json_rule

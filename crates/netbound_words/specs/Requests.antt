@@ -8,8 +8,8 @@ use Rattle.clap.specs.declared.error.kind.ErrorKind.TheVariants as kind
 use Rattle.table_cells.specs.Amounts.{few_digits}
 use Rattle.netbound_words.specs.Apps.{netbound}
 
--- the bounds of the network of two tables, by the names of their files, where a frame has so many bytes on the wire beside its own, as JSON or
--- not; what the program does; or which version it is
+-- the bounds of the network of two tables, by the names of their files, where a frame has so many bytes on the wire
+-- beside its own, as JSON or not; what the program does; or which version it is
 pub data Request : Type 0 where
   Bounds : (ports links : Text) (overhead : ℕ) (json : Bool) → Request
   Help : Request
