@@ -24,6 +24,10 @@ pub record Tables : Type 0 where
   pub links_file : List ℕ
   pub links : List ℕ
 
+abbrev pub tables : (ports_file ports links_file links : List ℕ) → Tables
+tables ports_file ports links_file links =
+    record { ports_file = ports_file; ports = ports; links_file = links_file; links = links }
+
 abbrev pub name_of : Tables → TableFile → List ℕ
 name_of t Ports = t.ports_file
 name_of t Links = t.links_file

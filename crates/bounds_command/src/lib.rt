@@ -1,5 +1,5 @@
-//! The command that bounds delays and backlogs in a network of ports and links: from the bytes of two tables to the report, or to the
-//! line of a refusal.
+//! The command that bounds delays and backlogs in a network of ports and links: from the bytes of two tables to the
+//! report, or to the line of a refusal.
 #![tactic(auto)]
 
 mod answer;

@@ -29,7 +29,8 @@ fn no_rates(alloc: Global, ports: &[Port]) -> Result<Vec<Vec<u128>>, AllocError>
 fn add_link(network: &Network, rates: &mut Vec<Vec<u128>>, link: &Link)
     requires network { IsNetwork network.now }
     requires link { IsLink network.now link.now }
-    requires rates { (done : List Link) × (length done < 16384) × AreRates network.now.ports.items done (items_of rates.old.items) }
+    requires rates { (done : List Link) × (length done < 16384)
+        × AreRates network.now.ports.items done (items_of rates.old.items) }
     ensures { (done : List Link) → AreRates network.now.ports.items done (items_of rates.old.items)
         → AreRates network.now.ports.items (done ++ link.now ∷ []) (items_of rates.new.items) }
 {

@@ -43,7 +43,8 @@ fn status_of(report: &Report) -> Status
 // The answer with a report.
 fn reported(alloc: Global, form: Form, report: &Report) -> Result<Answer, AllocError>
     requires { All (λ row. HasDeadlineInRange row.deadline) report.now.branches.items }
-    ensures { IfOk result (λ r. reply_of r ≡ record { status = status_with report.now; bytes = text_in form report.now }) }
+    ensures { IfOk result (λ r.
+        reply_of r ≡ record { status = status_with report.now; bytes = text_in form report.now }) }
 {
     let text = text_in(alloc, form, report)?;
     Ok(Answer {

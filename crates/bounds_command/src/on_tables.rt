@@ -2,7 +2,7 @@
 
 ghost use Rattle.std.specs.Prelude.{◌≡◌, ◌≤◌, ℕ, List, map, IfOk};
 ghost use Rattle.csv_rows.specs.Rows.{AreRowsOf, cells_of};
-ghost use Rattle.bounds_command.specs.OnTables.{Tables, IsReplyOn};
+ghost use Rattle.bounds_command.specs.OnTables.{tables, IsReplyOn};
 ghost use Rattle.bounds_command.specs.View.{reply_of};
 
 use crate::answer::{Answer, Form};
@@ -23,9 +23,9 @@ fn on_rows(
     form: Form,
 ) -> Result<Answer, AllocError>
     requires { overhead ≤ 1048576 }
-    ensures { (port_bytes link_bytes : List ℕ) → AreRowsOf port_bytes (map cells_of ports.now) → AreRowsOf link_bytes (map cells_of links.now)
-        → let t : Tables = record { ports_file = ports_file.now; ports = port_bytes; links_file = links_file.now; links = link_bytes } in
-        IfOk result (λ r. IsReplyOn t overhead form (reply_of r)) }
+    ensures { (port_bytes link_bytes : List ℕ) → AreRowsOf port_bytes (map cells_of ports.now)
+        → AreRowsOf link_bytes (map cells_of links.now)
+        → IfOk result (λ r. IsReplyOn (tables ports_file.now port_bytes links_file.now link_bytes) overhead form (reply_of r)) }
 {
     match read_document(alloc, ports, links, overhead) {
         Ok(document) => on_document(alloc, &document, form),
@@ -39,8 +39,8 @@ fn on_rows(
     }
 }
 
-/// The answer on two tables with these names and these bytes, in this order: the first fault, a ring of ports, and else the report in a
-/// form. A frame has `overhead` bytes on the wire beside its own, at most 2^20. Refused only for want of memory.
+/// The answer on two tables with these names and these bytes, in this order: the first fault, a ring of ports, and else
+/// the report in a form. A frame has `overhead` bytes on the wire beside its own, at most 2^20. Refused only for want of memory.
 pub fn on_tables(
     alloc: Global,
     ports_file: &str,
@@ -51,8 +51,8 @@ pub fn on_tables(
     form: Form,
 ) -> Result<Answer, AllocError>
     requires { overhead ≤ 1048576 }
-    ensures { let t : Tables = record { ports_file = ports_file.now; ports = ports_bytes.now; links_file = links_file.now; links = links_bytes.now } in
-        IfOk result (λ r. IsReplyOn t overhead form (reply_of r)) }
+    ensures { IfOk result (λ r.
+        IsReplyOn (tables ports_file.now ports_bytes.now links_file.now links_bytes.now) overhead form (reply_of r)) }
 {
     let ports = read_table(alloc, ports_bytes)?;
     let links = read_table(alloc, links_bytes)?;

@@ -82,7 +82,8 @@ pub(crate) fn goes_round(
     names: &IndexSet<String>,
     ports: &[usize],
 ) -> Result<Answer, AllocError>
-    ensures { IfOk result (λ r. reply_of r ≡ replies.goes_round (map (name_at (map string_bytes names.now.keys)) ports.now)) }
+    ensures { IfOk result (λ r. reply_of r
+        ≡ replies.goes_round (map (name_at (map string_bytes names.now.keys)) ports.now)) }
 {
     let mut text = String::from_str(alloc, "netbound: cycle")?;
     push_names(&mut text, names, ports)?;

@@ -1,6 +1,6 @@
 //! The rows of a report.
 
-ghost use Rattle.std.specs.Prelude.{◌≡◌, ◌<◌, ◌^◌, ◌++◌, None, length, map, get_or, slice_get, option_map, All, IfOk, OnOk};
+ghost use Rattle.std.specs.Prelude.{◌≡◌, ◌<◌, ◌^◌, ◌++◌, None, length, map, get_or, option_map, All, IfOk, OnOk};
 ghost use Rattle.tree_network.specs.Networks.{IsNetwork, PortIsInRange};
 ghost use Rattle.document_tables.specs.Documents.{IsBranchOf, document_view, end_view};
 ghost use Rattle.tree_bounds.specs.Tables.{IsTableOf};
@@ -67,7 +67,8 @@ fn push_port<'a>(
     requires count { length rates.now ≡ length found.now }
     requires small { All (λ rate. rate < 2 ^ 100) rates.now }
     ensures { OnOk result (map queue_view into.new.items ≡ map queue_view into.old.items
-        ++ spec.queues_with name.now port.now (λ q. get_or rates.now q 0) (λ q. get_or found.now q None) (length found.now)) }
+        ++ spec.queues_with name.now port.now (λ q. get_or rates.now q 0) (λ q. get_or found.now q None)
+        (length found.now)) }
 {
     for queue in 0..found.len() {
         into.push(queue_row(name, port, queue, rates[queue], found[queue]))?;
@@ -84,7 +85,8 @@ fn queue_rows<'a>(
     requires network { IsNetwork document.now.network }
     requires table { IsTableOf document.now.network table.now }
     ensures { IfOk result
-        (λ rows. map queue_view rows.items ≡ spec.all_queues (document_view document.now) document.now.network table.now) }
+        (λ rows. map queue_view rows.items
+        ≡ spec.all_queues (document_view document.now) document.now.network table.now) }
 {
     let ports = &document.network.ports;
     let rates = rates_of(alloc, &document.network)?;
@@ -143,7 +145,8 @@ fn branch_rows<'a>(
     requires table { IsTableOf document.now.network table.now }
     requires ends { All (IsBranchOf document.now.network) document.now.branches.items }
     ensures { IfOk result (λ rows. map branch_view rows.items
-        ≡ map (spec.branch_text (document_view document.now) document.now.network table.now) (document_view document.now).branches) }
+        ≡ map (spec.branch_text (document_view document.now) document.now.network table.now)
+        (document_view document.now).branches) }
 {
     let mut rows = Vec::with_capacity(alloc, document.branches.len())?;
     for end in &document.branches {

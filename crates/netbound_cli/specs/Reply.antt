@@ -6,7 +6,7 @@ use Rattle.outside.specs.Written.{AppendsFront}
 use Rattle.tree_order.specs.Orders.{IsNetworkOrder}
 use Rattle.bounds_command.specs.declared.answer.Form.{Form}
 use Rattle.bounds_command.specs.Replies.{Reply, cannot_read, too_long}
-use Rattle.bounds_command.specs.OnTables.{Tables, OfDocument, IsReplyOn}
+use Rattle.bounds_command.specs.OnTables.{Tables, tables, OfDocument, IsReplyOn}
 use Rattle.netbound_words.specs.Requests.{Request}
 use Rattle.netbound_cli.specs.Calls.{Call, call_of, text_of, files_of}
 use Rattle.netbound_cli.specs.Files.{Told, IsTooLong, MayHoldAll, FirstIs, FirstLong, AllFit, all_told}
@@ -15,8 +15,7 @@ use Rattle.netbound_cli.specs.Files.{Told, IsTooLong, MayHoldAll, FirstIs, First
 -- K holds of the two tables of a call that hold these bytes, and of a reply
 abbrev pub OnTables : (Tables → ℕ → Form → Reply → Type 0) → Call → List (List ℕ) → Reply → Type 0
 OnTables K c (ports ∷ links ∷ []) reply =
-    let t : Tables = record { ports_file = c.ports; ports = ports; links_file = c.links; links = links } in
-    K t c.overhead c.form reply
+    K (tables c.ports ports c.links links) c.overhead c.form reply
 OnTables K c files reply = ⊥
 
 -- the reply of a call where its files hold these bytes
@@ -79,8 +78,7 @@ IsAnswerable t overhead = OfDocument t overhead (λ d net. (order : List ℕ) ×
 -- so are those of a call that hold these bytes
 abbrev pub IsAnswerableCall : Call → List (List ℕ) → Type 0
 IsAnswerableCall c (ports ∷ links ∷ []) =
-    let t : Tables = record { ports_file = c.ports; ports = ports; links_file = c.links; links = links } in
-    IsAnswerable t c.overhead
+    IsAnswerable (tables c.ports ports c.links links) c.overhead
 IsAnswerableCall c files = ⊥
 
 -- Where it is told that the files fit and are such a document, the report is written, or the status is 3, 4 or 5.

@@ -7,7 +7,8 @@ ghost use Rattle.bounds_command.specs.View.{code_of, reply_of};
 ghost use Rattle.netbound_words.specs.Requests as spec;
 ghost use Rattle.netbound_cli.specs.Calls.{call_of, text_of, files_of, bounds_call};
 ghost use Rattle.netbound_cli.specs.Files.{IsTooLong, FirstIs};
-ghost use Rattle.netbound_cli.specs.Reply.{FailedAt, MayReply, MayReplyTo, Gives, Brings, GivesOnTold, AnswersWhatItCan, FailsToGive};
+ghost use Rattle.netbound_cli.specs.Reply.{FailedAt, MayReply, MayReplyTo, Gives, Brings};
+ghost use Rattle.netbound_cli.specs.Reply.{GivesOnTold, AnswersWhatItCan, FailsToGive};
 
 use crate::fetching::fetch_two;
 use crate::texts::{HELP, USAGE, VERSION};
@@ -38,7 +39,8 @@ fn answer_to<I: TableFiles>(
     inputs: &mut I,
 ) -> Result<Answer, NoMemory>
     requires { asked.overhead ≤ 1048576 }
-    ensures { IfOk result (λ r. MayReplyTo I.faults I.last_fault (I.content inputs.old) (bounds_call asked) inputs.old inputs.new (reply_of r)) }
+    ensures { IfOk result (λ r. MayReplyTo I.faults I.last_fault (I.content inputs.old) (bounds_call asked)
+        inputs.old inputs.new (reply_of r)) }
 {
     let form = if asked.json { Form::Json } else { Form::Lines };
     match fetch_two(alloc, asked.ports, asked.links, inputs) {
@@ -61,7 +63,8 @@ fn answered<I: TableFiles>(
     words: &[String],
     inputs: &mut I,
 ) -> Result<Answer, NoMemory>
-    ensures { IfOk result (λ r. MayReply I.content I.faults I.last_fault (spec.request_of (spec.texts words.now)) inputs.old inputs.new (reply_of r)) }
+    ensures { IfOk result (λ r. MayReply I.content I.faults I.last_fault (spec.request_of (spec.texts words.now))
+        inputs.old inputs.new (reply_of r)) }
 {
     match request_of(alloc, words) {
         Ok(Request::Bounds(asked)) => answer_to(alloc, asked, inputs),
@@ -80,8 +83,8 @@ fn text_answer(alloc: Global, status: Status, text: &str) -> Result<Answer, NoMe
     Ok(Answer { status, text })
 }
 
-/// Does what the words ask for, and gives the status. The program's name is the first word. The order is: the words, both files, the table
-/// of ports, that of links, an order of the ports, the bounds, one `put`.
+/// Does what the words ask for, and gives the status. The program's name is the first word. The order is: the words, both
+/// files, the table of ports, that of links, an order of the ports, the bounds, one `put`.
 pub fn run<I: TableFiles, K: Sink>(
     alloc: Global,
     words: &[String],
@@ -100,8 +103,8 @@ pub fn run<I: TableFiles, K: Sink>(
         FirstIs (I.content inputs.old) (λ file. FailedAt I.faults I.last_fault file inputs.old inputs.new
         × Gives result (K.written out.old) (K.written out.new) (cannot_read file)) (files_of c)) }
 
-    // 1 only where a file, the first that does not fit, has more bytes than a table may have, or the document has a fault,
-    // the first of which the line tells.
+    // 1 only where a file, the first that does not fit, has more bytes than a table may have, or the document has a
+    // fault, the first of which the line tells.
     ensures malformed { result ≡ 1 → IfSome (call_of (spec.request_of (spec.texts words.now))) (λ c.
         FirstIs (I.content inputs.old) (λ file. IsTooLong (I.content inputs.old file)
         × Gives result (K.written out.old) (K.written out.new) (too_long file)) (files_of c)
@@ -111,8 +114,8 @@ pub fn run<I: TableFiles, K: Sink>(
     ensures cycle { result ≡ 8 → IfSome (call_of (spec.request_of (spec.texts words.now))) (λ c.
         Brings IsCyclic (I.content inputs.old) c result (K.written out.old) (K.written out.new)) }
 
-    // 0 and 9 only where the report on the bounds of the document's network is written, by a table that meets the equations: 9 where a
-    // branch misses its deadline, by exact numbers, and 0 where none does.
+    // 0 and 9 only where the report on the bounds of the document's network is written, by a table that meets the
+    // equations: 9 where a branch misses its deadline, by exact numbers, and 0 where none does.
     ensures missed { result ≡ 9 → IfSome (call_of (spec.request_of (spec.texts words.now))) (λ c.
         Brings IsDone (I.content inputs.old) c result (K.written out.old) (K.written out.new)) }
     ensures done { result ≡ 0 → IfSome (call_of (spec.request_of (spec.texts words.now))) (λ c.
