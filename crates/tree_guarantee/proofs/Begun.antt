@@ -20,7 +20,7 @@ use Rattle.run_laws.specs.Routes.{route_of, first_server}
 use Rattle.run_laws.specs.Totals.{is_on}
 use Rattle.pace_laws.specs.Groups.{part_number}
 use Rattle.net_laws.specs.Orders.{EntersKept}
-use Rattle.tree_runs.specs.Trees.{Tree, tree_of, hops_in, flat, from_of, KeepsTreePremises}
+use Rattle.tree_runs.specs.Trees.{Tree, tree_of, hops_in, flat, tree_server_before, KeepsTreePremises}
 use Rattle.tree_runs.specs.Parts.{is_of_tree_part, AreTreePaced}
 use Rattle.tree_runs.proofs.Trees.{live_is, hops_are}
 use Rattle.arrival_lines.specs.Grid.{bits, micros}
@@ -181,7 +181,7 @@ none_longer net s q k i w e = by_port (has_or_lacks v.link s q v.link.nodes.item
     v : IsLiveLink net i
     v =
         let r = route_of (flat (routes_of net)) i in
-        let own = of_both (r.live && is_on s q r.hops) (part_number (from_of s (tree_of (routes_of net) i).nodes) == k) e in
+        let own = of_both (r.live && is_on s q r.hops) (part_number (tree_server_before s (tree_of (routes_of net) i).nodes) == k) e in
         live_link net i w (sym (live_is (routes_of net) i) ∙ (of_both r.live (is_on s q r.hops) own.0).0)
 
     there : HasPort v.link s q v.link.nodes.items → frame_of net i ≤ longest_of (spots_of net) (spots_in_group (spots_of net) s q k)
@@ -202,7 +202,7 @@ none_longer net s q k i w e = by_port (has_or_lacks v.link s q v.link.nodes.item
     by_port (inl h) = there h
     by_port (inr m) =
         let no : false ≡ true =
-        sym (in_part net i s q k v.link v.tree ∙ ap (λ b. b && (part_number (from_of s (map (node_of v.link) v.link.nodes.items)) == k)) m.off) ∙ e in
+        sym (in_part net i s q k v.link v.tree ∙ ap (λ b. b && (part_number (tree_server_before s (map (node_of v.link) v.link.nodes.items)) == k)) m.off) ∙ e in
         absurd (cc)
 
 pub are_paced : (net : Network) (s q : ℕ) → IsNetwork net → AreTreePaced (routes_of net) s q (frame_of net) (longest_at net s q) (rate_at net)

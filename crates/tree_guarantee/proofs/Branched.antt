@@ -13,7 +13,7 @@ use Rattle.run_laws.specs.Delays.{AreAtMost}
 use Rattle.run_laws.specs.Routes.{Hop, Routes, PassesServer, link_at, queue_at, last_server}
 use Rattle.net_laws.specs.Paths.{sum_along}
 use Rattle.tree_runs.specs.Trees as trees
-use Rattle.tree_runs.specs.Trees.{Tree, tree_of, hops_in, flat, from_of}
+use Rattle.tree_runs.specs.Trees.{Tree, tree_of, hops_in, flat, tree_server_before}
 use Rattle.tree_runs.specs.Branches.{delays_to, GoesOn, IsBranch}
 use Rattle.tree_runs.specs.Bounded.{stay_in, stays_along}
 use Rattle.arrival_lines.specs.Grid.{micros, picosecond}
@@ -35,7 +35,7 @@ use Rattle.tree_guarantee.proofs.Kept.{all_bounded, queues_keep}
 
 -- ---- a branch with one port more
 goes_more : (nodes : List trees.Node) (from : Option ℕ) (hs : List Hop) (last next : Hop) → GoesOn nodes from (hs ++ last ∷ [])
-    → PassesServer next.server (hops_in nodes) → from_of next.server nodes ≡ Some last.server → GoesOn nodes from ((hs ++ last ∷ []) ++ next ∷ [])
+    → PassesServer next.server (hops_in nodes) → tree_server_before next.server nodes ≡ Some last.server → GoesOn nodes from ((hs ++ last ∷ []) ++ next ∷ [])
 goes_more nodes from [] last next g p e = (g.0, g.1, (p, e, tt))
 goes_more nodes from (h ∷ hs) last next g p e = (g.0, g.1, goes_more nodes (Some h.server) hs last next g.2 p e)
 
@@ -55,7 +55,7 @@ sum_more net stay i (h ∷ hs) next =
     ∙ sym (add_ext_assoc x (sum_along net hs (stays_along stay i hs)) (stay i next.server +ₑ Fin (link_at net next.server)))
 
 from_first : (link : Link) (s : ℕ) (xs : List Node) (k : ℕ) → k < length xs → (get_or xs k no_node).port ≡ s → ((j : ℕ) → j < k → (get_or xs j no_node).port ≢ s)
-    → from_of s (map (node_of link) xs) ≡ port_before link (get_or xs k no_node).from
+    → tree_server_before s (map (node_of link) xs) ≡ port_before link (get_or xs k no_node).from
 from_first link s [] k h e none = absurd (omega (arith, h))
 from_first link s (x ∷ xs) zero h e none = let hit = eq_true x.port s e in rw hit refl
 from_first link s (x ∷ xs) (suc k) h e none =
@@ -120,7 +120,7 @@ chain net row i v bounds b (suc n) place total less h e =
     l : ℕ
     l = (port_at net s).link
 
-    from_is : from_of s (tree_of_link v.link).nodes ≡ port_before v.link (node_at v.link place).from
+    from_is : tree_server_before s (tree_of_link v.link).nodes ≡ port_before v.link (node_at v.link place).from
     from_is = from_first v.link s v.link.nodes.items place h refl (λ j lt same. v.fits.once j place lt h same)
 
     passes : PassesServer s (hops_in (tree_of_link v.link).nodes)

@@ -4,7 +4,7 @@ use Rattle.std.specs.Prelude.{slice_get}
 use Rattle.std.proofs.lemmas.Bool.{cases_eq, cases_lt}
 use Rattle.std.proofs.lemmas.List.{get_or_append_left, get_or-append-add}
 use Rattle.std.proofs.lemmas.Option.{get_or_from_slice_get, slice_get_cases}
-use Rattle.tree_runs.specs.Trees.{Tree, tree_of, from_of, Hangs}
+use Rattle.tree_runs.specs.Trees.{Tree, tree_of, tree_server_before, Hangs}
 use Rattle.tree_network.specs.Networks.{IsNetwork, node_at, no_node}
 use Rattle.tree_network.specs.declared.network.Link.{Link}
 use Rattle.tree_network.specs.declared.network.Network.{Network}
@@ -76,19 +76,19 @@ pub record HangsAt (link : Link) (xs : List Node) (a b : ℕ) : Type 0 where
   pub port : (get_or xs place no_node).port ≡ b
   pub before : port_before link (get_or xs place no_node).from ≡ Some a
 
-pub hangs_at : (link : Link) (xs : List Node) (a b : ℕ) → from_of b (map (node_of link) xs) ≡ Some a → HangsAt link xs a b
+pub hangs_at : (link : Link) (xs : List Node) (a b : ℕ) → tree_server_before b (map (node_of link) xs) ≡ Some a → HangsAt link xs a b
 hangs_at link [] a b e = absurd (let f : None ≡ Some a = e in cc)
 hangs_at link (x ∷ xs) a b e = by_port (hangs_at link xs a b) (x.port == b) refl
   where
-    by_port : (from_of b (map (node_of link) xs) ≡ Some a → HangsAt link xs a b) → (c : Bool) → (x.port == b) ≡ c → HangsAt link (x ∷ xs) a b
+    by_port : (tree_server_before b (map (node_of link) xs) ≡ Some a → HangsAt link xs a b) → (c : Bool) → (x.port == b) ≡ c → HangsAt link (x ∷ xs) a b
     by_port later true is = record {
       place = 0;
       inside = omega arith;
       port = of_eq x.port b is;
-      before = sym (ap (λ c. if c then port_before link x.from else from_of b (map (node_of link) xs)) is) ∙ e;
+      before = sym (ap (λ c. if c then port_before link x.from else tree_server_before b (map (node_of link) xs)) is) ∙ e;
     }
     by_port later false is =
-        let rest = later (sym (ap (λ c. if c then port_before link x.from else from_of b (map (node_of link) xs)) is) ∙ e) in
+        let rest = later (sym (ap (λ c. if c then port_before link x.from else tree_server_before b (map (node_of link) xs)) is) ∙ e) in
         record { place = suc rest.place; inside = omega (arith, rest.inside); port = rest.port; before = rest.before }
 
 source_before : (link : Link) (from : Option ℕ) (a : ℕ) → port_before link from ≡ Some a → source_in link from ≡ suc a
@@ -111,7 +111,7 @@ goes_where_hangs net i a b w live h =
         ]
     by_link (Some link) e l =
         let is = get_or_from_slice_get net.links.items i link link e in
-        let P : Tree → Type 0 = λ t. from_of b t.nodes ≡ Some a in
+        let P : Tree → Type 0 = λ t. tree_server_before b t.nodes ≡ Some a in
         let hang = hangs_at link link.nodes.items a b (subst P (tree_at net i link l (sym is)) h) in
         let at = spot_found net i (length net.links.items) link hang.place e hang.inside l (omega arith) in
         record {

@@ -7,7 +7,7 @@ use Rattle.std.proofs.lemmas.Option.{get_or_from_slice_get, slice_get_cases}
 use Rattle.run_laws.specs.Routes.{Route}
 use Rattle.run_laws.specs.Totals.{is_on}
 use Rattle.pace_laws.specs.Groups.{part_number}
-use Rattle.tree_runs.specs.Trees.{Tree, tree_of, flat_tree, hops_in, from_of}
+use Rattle.tree_runs.specs.Trees.{Tree, tree_of, flat_tree, hops_in, tree_server_before}
 use Rattle.tree_runs.specs.Parts.{is_of_tree_part}
 use Rattle.tree_runs.proofs.Trees.{route_is}
 use Rattle.tree_network.specs.Networks.{IsNetwork, IsLink, node_at, no_node}
@@ -57,7 +57,7 @@ pub record HasPort (link : Link) (s q : ℕ) (xs : List Node) : Type 0 where
   pub inside : place_of s xs < length xs
   pub port : (get_or xs (place_of s xs) no_node).port ≡ s
   pub queue : is_on s q (hops_in (map (node_of link) xs)) ≡ ((get_or xs (place_of s xs) no_node).queue == q)
-  pub from : from_of s (map (node_of link) xs) ≡ port_before link (get_or xs (place_of s xs) no_node).from
+  pub from : tree_server_before s (map (node_of link) xs) ≡ port_before link (get_or xs (place_of s xs) no_node).from
 
 pub record LacksPort (link : Link) (s q : ℕ) (xs : List Node) : Type 0 where
   pub none : (p : ℕ) → p < length xs → (get_or xs p no_node).port ≢ s
@@ -115,9 +115,9 @@ source_is link (Some from) = omega arith
 -- a link is of a part as its tree has the port
 pub in_part : (net : Network) (i s q k : ℕ) (link : Link) → tree_of (routes_of net) i ≡ tree_of_link link
     → is_of_tree_part (routes_of net) s q k i
-    ≡ (is_on s q (hops_in (map (node_of link) link.nodes.items)) && (part_number (from_of s (map (node_of link) link.nodes.items)) == k))
+    ≡ (is_on s q (hops_in (map (node_of link) link.nodes.items)) && (part_number (tree_server_before s (map (node_of link) link.nodes.items)) == k))
 in_part net i s q k link e =
-    let T : Route → Tree → Bool = λ r t. (r.live && is_on s q r.hops) && (part_number (from_of s t.nodes) == k) in
+    let T : Route → Tree → Bool = λ r t. (r.live && is_on s q r.hops) && (part_number (tree_server_before s t.nodes) == k) in
     ap (λ r. T r (tree_of (routes_of net) i)) (route_is (routes_of net) i ∙ ap flat_tree e) ∙ ap (λ t. T (flat_tree (tree_of_link link)) t) e
 
 -- the test at a spot of the link
@@ -182,7 +182,7 @@ one_link net i s q k link w e l t = ap (those test) long ∙ by_port (has_or_lac
         ∙ both_ways (source_in link (node_at link p).from == k) ((node_at link p).queue == q)
         ∙ ap (λ n. ((node_at link p).queue == q) && (n == k)) (source_is link (node_at link p).from)
         ∙ ap (λ f. ((node_at link p).queue == q) && (part_number f == k)) (sym h.from)
-        ∙ ap (λ b. b && (part_number (from_of s (map (node_of link) xs)) == k)) (sym h.queue)
+        ∙ ap (λ b. b && (part_number (tree_server_before s (map (node_of link) xs)) == k)) (sym h.queue)
         ∙ sym (in_part net i s q k link t)
 
     apart : HasPort link s q xs → (p : ℕ) → p < length xs → p ≢ place_of s xs → (node_at link p).port ≢ s
@@ -204,7 +204,7 @@ one_link net i s q k link w e l t = ap (those test) long ∙ by_port (has_or_lac
     by_port : HasPort link s q xs ⊎ LacksPort link s q xs → Goal part
     by_port (inl h) = by_test h part refl
     by_port (inr m) =
-        let off : part ≡ false = in_part net i s q k link t ∙ ap (λ b. b && (part_number (from_of s (map (node_of link) xs)) == k)) m.off in
+        let off : part ≡ false = in_part net i s q k link t ∙ ap (λ b. b && (part_number (tree_server_before s (map (node_of link) xs)) == k)) m.off in
         subst Goal (sym off) (none_more test a (length xs) (λ p lt. elsewhere p lt (m.none p lt)) ∙ sym (append-nil (those test a)))
 
 -- ---- of all links

@@ -9,7 +9,7 @@ use Rattle.min_plus.specs.rational.proofs.ExtendedOrder.{le_inf}
 use Rattle.min_plus.specs.Functions.{zero_q, whole}
 use Rattle.min_plus.specs.Pointwise.{shifted}
 use Rattle.run_laws.specs.Routes.{queue_at}
-use Rattle.tree_runs.specs.Trees.{Tree, tree_of, hops_in, from_of}
+use Rattle.tree_runs.specs.Trees.{Tree, tree_of, hops_in, tree_server_before}
 use Rattle.tree_runs.specs.Bounded.{GrowsByStays, stay_in}
 use Rattle.arrival_lines.specs.Grid.{micros}
 use Rattle.arrival_lines.specs.declared.grid.Line.{Line}
@@ -111,7 +111,7 @@ grows net row line w goes i a b live hang t on =
     first = length (spots_below net i)
 
     at : HangsAt link link.nodes.items a b
-    at = let P : Tree → Type 0 = λ x. from_of b x.nodes ≡ Some a in hangs_at link link.nodes.items a b (subst P v.tree hang)
+    at = let P : Tree → Type 0 = λ x. tree_server_before b x.nodes ≡ Some a in hangs_at link link.nodes.items a b (subst P v.tree hang)
 
     after : IsAfter link at.place a
     after = is_after link at.place a (node_at link at.place).from refl (v.fits.nodes at.place at.inside).hangs at.before

@@ -16,8 +16,8 @@ use Rattle.run_laws.specs.Routes.{Hop, server_at, queue_at, PassesServer}
 use Rattle.run_laws.specs.Totals.{is_on}
 use Rattle.run_laws.specs.Views.{view}
 use Rattle.pace_laws.specs.Groups.{part_number}
-use Rattle.tree_runs.specs.Trees.{Tree, tree_of, hops_in, flat, from_of}
-use Rattle.tree_runs.specs.Parts.{is_of_tree_part, comes_from}
+use Rattle.tree_runs.specs.Trees.{Tree, tree_of, hops_in, flat, tree_server_before}
+use Rattle.tree_runs.specs.Parts.{is_of_tree_part}
 use Rattle.tree_runs.specs.BoundedByParts.{QueuesKeepParts}
 use Rattle.tree_runs.proofs.Trees.{live_is, hops_are}
 use Rattle.tree_runs.proofs.Views.{tree_views_are_lawful}
@@ -104,7 +104,7 @@ on_is s q (h ∷ hs) p = by_first (λ r. on_is s q hs r) (h.server == s) refl
 
 -- where frames come from is 0 or one more than a port
 few_sources : (net : Network) (i s q : ℕ) (v : IsLiveLink net i) → HasPort v.link s q v.link.nodes.items
-    → part_number (from_of s (map (node_of v.link) v.link.nodes.items)) < length net.ports.items + 1
+    → part_number (tree_server_before s (map (node_of v.link) v.link.nodes.items)) < length net.ports.items + 1
 few_sources net i s q v h = let e = ap part_number h.from in let less = by_from (node_at v.link (place_of s v.link.nodes.items)).from refl in omega (arith, e, less)
   where
     by_from : (from : Option ℕ) → (node_at v.link (place_of s v.link.nodes.items)).from ≡ from → part_number (port_before v.link from) < length net.ports.items + 1
@@ -134,7 +134,7 @@ small_frames net line s q i w live passes in_queue = by_port (has_or_lacks v.lin
     on_link = ap (λ (t : Tree). is_on s q (hops_in t.nodes)) (sym v.tree) ∙ on
 
     k : ℕ
-    k = part_number (comes_from (routes_of net) s i)
+    k = part_number (tree_server_before s (tree_of (routes_of net) i).nodes)
 
     in_part : is_of_tree_part (routes_of net) s q k i ≡ true
     in_part =
@@ -153,7 +153,7 @@ small_frames net line s q i w live passes in_queue = by_port (has_or_lacks v.lin
         let inside = subst P h.port (v.fits.nodes (place_of s v.link.nodes.items) h.inside).queue in
         let early : q < count = omega (arith, inside, queue) in
         let few = few_sources net i s q v h in
-        let same : k ≡ part_number (from_of s (map (node_of v.link) v.link.nodes.items)) = ap (λ (t : Tree). part_number (from_of s t.nodes)) v.tree in
+        let same : k ≡ part_number (tree_server_before s (map (node_of v.link) v.link.nodes.items)) = ap (λ (t : Tree). part_number (tree_server_before s t.nodes)) v.tree in
         let own = none_longer net s q k i w in_part in
         let most = longest_in (spots_of net) line s q k (length net.ports.items + 1) (omega (arith, few, same)) in
         let is = ap (λ (x : Incoming). x.longest) (incoming_found net (spots_of net) line s q count early) in
