@@ -22,7 +22,7 @@ use Rattle.tree_guarantee.proofs.TreesOf.{tree_at, no_tree}
 -- there are the spots of each link, in order
 pub spot_found : (net : Network) (i m : ℕ) (link : Link) (k : ℕ) → slice_get net.links.items i ≡ Some link → k < length link.nodes.items → i < m → m ≤ length net.links.items
     → (length (spots_below net i) + k < length (spots_below net m))
-      × (get_or (spots_below net m) (length (spots_below net i) + k) no_spot ≡ spot_of i (length (spots_below net i)) link k)
+    × (get_or (spots_below net m) (length (spots_below net i) + k) no_spot ≡ spot_of i (length (spots_below net i)) link k)
 spot_found net i zero link k e h early few = absurd (omega (arith, early))
 spot_found net i (suc m) link k e h early few =
     by_place (λ less. spot_found net i m link k e h less (omega (arith, few))) (slice_get net.links.items m) refl
@@ -43,21 +43,22 @@ spot_found net i (suc m) link k e h early few =
         let count = length-append ys zs in
         let few_zs = in_length m (length ys) other (length other.nodes.items) in
         subst Found (sym (below_more net m other is)) (
-          elim (cases_eq i m) [
-            | inl same ↦
-                let P : ℕ → Type 0 = λ j. slice_get net.links.items j ≡ Some link in
-                let here : Some link ≡ Some other = sym (subst P same e) ∙ is in
-                let one : link ≡ other = cc in
-                let xy : length xs ≡ length ys = ap (λ j. length (spots_below net j)) same in
-                let nodes = ap (λ (l : Link). length l.nodes.items) one in
-                let at = get_or-append-add ys zs k no_spot ∙ in_at m (length ys) other (length other.nodes.items) k (omega (arith, h, nodes)) in
-                (omega (arith, count, few_zs, h, nodes, xy),
+        elim (cases_eq i m) [
+          | inl same ↦
+              let P : ℕ → Type 0 = λ j. slice_get net.links.items j ≡ Some link in
+              let here : Some link ≡ Some other = sym (subst P same e) ∙ is in
+              let one : link ≡ other = cc in
+              let xy : length xs ≡ length ys = ap (λ j. length (spots_below net j)) same in
+              let nodes = ap (λ (l : Link). length l.nodes.items) one in
+              let at = get_or-append-add ys zs k no_spot ∙ in_at m (length ys) other (length other.nodes.items) k (omega (arith, h, nodes)) in (
+                omega (arith, count, few_zs, h, nodes, xy),
                 ap (λ j. get_or (ys ++ zs) (j + k) no_spot) xy ∙ at
-                ∙ ap (λ j. spot_of j (length ys) other k) (sym same) ∙ ap (λ j. spot_of i j other k) (sym xy) ∙ ap (λ l. spot_of i (length xs) l k) (sym one))
-            | inr less ↦
-                let old = before (omega (arith, early, less)) in
-                (omega (arith, count, old.0), get_or_append_left ys zs no_spot (length xs + k) old.0 ∙ old.1)
-          ])
+                    ∙ ap (λ j. spot_of j (length ys) other k) (sym same) ∙ ap (λ j. spot_of i j other k) (sym xy) ∙ ap (λ l. spot_of i (length xs) l k) (sym one),
+              )
+          | inr less ↦
+              let old = before (omega (arith, early, less)) in
+              (omega (arith, count, old.0), get_or_append_left ys zs no_spot (length xs + k) old.0 ∙ old.1)
+        ])
 
     by_place : (i < m → Found (spots_below net m)) → (o : Option Link) → slice_get net.links.items m ≡ o → Found (spots_below net (suc m))
     by_place before None is =

@@ -1,2 +1,3 @@
 pub mod TreesOf
 pub mod Forward
+pub mod Gathered

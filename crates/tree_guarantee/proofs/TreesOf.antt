@@ -56,13 +56,15 @@ link_nonneg net s =
 
 path_of : (net : Network) (link : Link) (xs : List Node) → AreApart net xs → IsPath (flat (routes_of net)) (hops_in (map (node_of link) xs))
 path_of net link [] a = tt
-path_of net link (x ∷ xs) a =
-    (inside_of (a.inside 0 (omega arith)), link_nonneg net x.port,
-    λ p. let k = passes_at link xs x.port p in a.once 0 (suc k.0) (omega arith) (omega (arith, k.1)) (sym k.2),
-    path_of net link xs record {
-      inside = λ k h. a.inside (suc k) (omega (arith, h));
-      once = λ i j e h same. a.once (suc i) (suc j) (omega (arith, e)) (omega (arith, h)) same;
-    })
+path_of net link (x ∷ xs) a = (
+  inside_of (a.inside 0 (omega arith)),
+  link_nonneg net x.port,
+  λ p. let k = passes_at link xs x.port p in a.once 0 (suc k.0) (omega arith) (omega (arith, k.1)) (sym k.2),
+  path_of net link xs record {
+    inside = λ k h. a.inside (suc k) (omega (arith, h));
+    once = λ i j e h same. a.once (suc i) (suc j) (omega (arith, e)) (omega (arith, h)) same;
+  },
+)
   where
     inside_of : x.port < length net.ports.items → x.port < length (flat (routes_of net)).servers
     inside_of h = let count = length-map net.ports.items server_of in omega (arith, count, h)
@@ -73,9 +75,10 @@ hangs_of : (link : Link) (done rest : List Node) → link.nodes.items ≡ done +
     → EachHangs (map (node_of link) done) (map (node_of link) rest)
 hangs_of link done [] e h = tt
 hangs_of link done (x ∷ rest) e h =
-    let P : List trees.Node → Type 0 = λ ns. EachHangs ns (map (node_of link) rest) in
-    (first x.from refl,
-    subst P (map-append (node_of link) done (x ∷ [])) (hangs_of link (done ++ x ∷ []) rest (e ∙ sym (append_assoc done (x ∷ []) rest)) h))
+    let P : List trees.Node → Type 0 = λ ns. EachHangs ns (map (node_of link) rest) in (
+      first x.from refl,
+      subst P (map-append (node_of link) done (x ∷ [])) (hangs_of link (done ++ x ∷ []) rest (e ∙ sym (append_assoc done (x ∷ []) rest)) h),
+    )
   where
     long : length link.nodes.items ≡ length done + suc (length rest)
     long = ap length e ∙ length-append done (x ∷ rest)
