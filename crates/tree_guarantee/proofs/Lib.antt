@@ -1,3 +1,4 @@
 pub mod TreesOf
 pub mod Forward
 pub mod Gathered
+pub mod Summed
