@@ -53,17 +53,17 @@ place_of s [] = 0
 place_of s (x ∷ xs) = if x.port == s then 0 else suc (place_of s xs)
 
 -- a tree's list has the port, at the place
-record HasPort (link : Link) (s q : ℕ) (xs : List Node) : Type 0 where
-  inside : place_of s xs < length xs
-  port : (get_or xs (place_of s xs) no_node).port ≡ s
-  queue : is_on s q (hops_in (map (node_of link) xs)) ≡ ((get_or xs (place_of s xs) no_node).queue == q)
-  from : from_of s (map (node_of link) xs) ≡ port_before link (get_or xs (place_of s xs) no_node).from
+pub record HasPort (link : Link) (s q : ℕ) (xs : List Node) : Type 0 where
+  pub inside : place_of s xs < length xs
+  pub port : (get_or xs (place_of s xs) no_node).port ≡ s
+  pub queue : is_on s q (hops_in (map (node_of link) xs)) ≡ ((get_or xs (place_of s xs) no_node).queue == q)
+  pub from : from_of s (map (node_of link) xs) ≡ port_before link (get_or xs (place_of s xs) no_node).from
 
-record LacksPort (link : Link) (s q : ℕ) (xs : List Node) : Type 0 where
-  none : (p : ℕ) → p < length xs → (get_or xs p no_node).port ≢ s
-  off : is_on s q (hops_in (map (node_of link) xs)) ≡ false
+pub record LacksPort (link : Link) (s q : ℕ) (xs : List Node) : Type 0 where
+  pub none : (p : ℕ) → p < length xs → (get_or xs p no_node).port ≢ s
+  pub off : is_on s q (hops_in (map (node_of link) xs)) ≡ false
 
-has_or_lacks : (link : Link) (s q : ℕ) (xs : List Node) → HasPort link s q xs ⊎ LacksPort link s q xs
+pub has_or_lacks : (link : Link) (s q : ℕ) (xs : List Node) → HasPort link s q xs ⊎ LacksPort link s q xs
 has_or_lacks link s q [] = inr record { none = λ p h. absurd (omega (arith, h)); off = refl }
 has_or_lacks link s q (x ∷ xs) = by_first (has_or_lacks link s q xs) (x.port == s) refl
   where
@@ -113,7 +113,7 @@ source_is link None = refl
 source_is link (Some from) = omega arith
 
 -- a link is of a part as its tree has the port
-in_part : (net : Network) (i s q k : ℕ) (link : Link) → tree_of (routes_of net) i ≡ tree_of_link link
+pub in_part : (net : Network) (i s q k : ℕ) (link : Link) → tree_of (routes_of net) i ≡ tree_of_link link
     → is_of_tree_part (routes_of net) s q k i
     ≡ (is_on s q (hops_in (map (node_of link) link.nodes.items)) && (part_number (from_of s (map (node_of link) link.nodes.items)) == k))
 in_part net i s q k link e =

@@ -2,3 +2,4 @@ pub mod TreesOf
 pub mod Forward
 pub mod Gathered
 pub mod Summed
+pub mod Begun
