@@ -70,13 +70,13 @@ spot_found net i (suc m) link k e h early few =
     by_place before (Some other) is = let P : ℕ → Type 0 = λ j. Found (spots_below net j) in subst P next (more before other is)
 
 -- ---- what hangs on what
-record HangsAt (link : Link) (xs : List Node) (a b : ℕ) : Type 0 where
-  place : ℕ
-  inside : place < length xs
-  port : (get_or xs place no_node).port ≡ b
-  before : port_before link (get_or xs place no_node).from ≡ Some a
+pub record HangsAt (link : Link) (xs : List Node) (a b : ℕ) : Type 0 where
+  pub place : ℕ
+  pub inside : place < length xs
+  pub port : (get_or xs place no_node).port ≡ b
+  pub before : port_before link (get_or xs place no_node).from ≡ Some a
 
-hangs_at : (link : Link) (xs : List Node) (a b : ℕ) → from_of b (map (node_of link) xs) ≡ Some a → HangsAt link xs a b
+pub hangs_at : (link : Link) (xs : List Node) (a b : ℕ) → from_of b (map (node_of link) xs) ≡ Some a → HangsAt link xs a b
 hangs_at link [] a b e = absurd (let f : None ≡ Some a = e in cc)
 hangs_at link (x ∷ xs) a b e = by_port (hangs_at link xs a b) (x.port == b) refl
   where

@@ -3,3 +3,4 @@ pub mod Forward
 pub mod Gathered
 pub mod Summed
 pub mod Begun
+pub mod Grown
