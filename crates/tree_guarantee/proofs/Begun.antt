@@ -172,7 +172,7 @@ longest_has spots (x ∷ xs) zero d h = omega arith
 longest_has spots (x ∷ xs) (suc k) d h = let rest = longest_has spots xs k d (omega (arith, h)) in omega (arith, rest)
 
 -- no frame of a part is longer than its longest
-none_longer : (net : Network) (s q k i : ℕ) → IsNetwork net → is_of_tree_part (routes_of net) s q k i ≡ true
+pub none_longer : (net : Network) (s q k i : ℕ) → IsNetwork net → is_of_tree_part (routes_of net) s q k i ≡ true
     → frame_of net i ≤ longest_of (spots_of net) (spots_in_group (spots_of net) s q k)
 none_longer net s q k i w e = by_port (has_or_lacks v.link s q v.link.nodes.items)
   where

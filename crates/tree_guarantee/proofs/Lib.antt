@@ -4,3 +4,4 @@ pub mod Gathered
 pub mod Summed
 pub mod Begun
 pub mod Grown
+pub mod Held
