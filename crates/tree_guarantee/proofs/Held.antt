@@ -173,7 +173,7 @@ small_frames net line s q i w live passes in_queue = by_port (has_or_lacks v.lin
     by_port (inr m) = absurd (let f : false ≡ true = sym m.off ∙ on_link in cc)
 
 -- ---- what the port sees
-seen : (net : Network) (line : ℕ → Option Line) (run : SpecRun) (s : ℕ) → IsNetwork net → IsRunOf net run → s < length net.ports.items
+pub seen : (net : Network) (line : ℕ → Option Line) (run : SpecRun) (s : ℕ) → IsNetwork net → IsRunOf net run → s < length net.ports.items
     → QueuesKeepParts (routes_of net) run (arrival_at net line) (longest_at net) (rate_at net) s
     → IsSeenAt (port_at net s) (arrivals_of net line s) run.end (view (flat (routes_of net)) run s)
 seen net line run s w r inside kept = record {

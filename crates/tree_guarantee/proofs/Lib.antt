@@ -5,3 +5,4 @@ pub mod Summed
 pub mod Begun
 pub mod Grown
 pub mod Held
+pub mod Kept
