@@ -72,7 +72,7 @@ later_above (Some line) (Some queue) t on = by_size (nat_lt (line.burst + more) 
         (later_bounds line later queue.delay more refl refl brought).above t on
 
 -- ---- from port to port
-queue_first : (link : Link) (s : ℕ) (xs : List Node) (k : ℕ) → k < length xs → (get_or xs k no_node).port ≡ s → ((j : ℕ) → j < k → (get_or xs j no_node).port ≢ s)
+pub queue_first : (link : Link) (s : ℕ) (xs : List Node) (k : ℕ) → k < length xs → (get_or xs k no_node).port ≡ s → ((j : ℕ) → j < k → (get_or xs j no_node).port ≢ s)
     → queue_at s (hops_in (map (node_of link) xs)) ≡ (get_or xs k no_node).queue
 queue_first link s [] k h e none = absurd (omega (arith, h))
 queue_first link s (x ∷ xs) zero h e none = let hit = eq_true x.port s e in rw hit refl

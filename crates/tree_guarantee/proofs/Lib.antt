@@ -6,3 +6,4 @@ pub mod Begun
 pub mod Grown
 pub mod Held
 pub mod Kept
+pub mod Branched

@@ -51,12 +51,5 @@ pub record IsGuaranteed (net : Network) (table : Table) (run : SpecRun) : Type 0
       → get_or (bounds_in table i) place None ≡ Some bound
       → AreAtMost (Fin (micros bound)) (delays_to (routes_of net) run i (node_at link place).port)
 
--- each queue of each port keeps the row of its table
-abbrev pub QueuesAreGuaranteed : Type 0
-QueuesAreGuaranteed = (net : Network) (table : Table) (run : SpecRun) (s q : ℕ) (queue : Queue) → IsNetwork net → IsTableOf net table → IsRunOf net run
-    → s < length net.ports.items → row_in table s q ≡ Some queue
-    → IsQueueBounded (flat (routes_of net)) run s q (Fin (micros queue.delay)) (Fin (whole queue.backlog))
-
--- and each branch of each link the bound
 abbrev pub TablesAreGuaranteed : Type 0
 TablesAreGuaranteed = (net : Network) (table : Table) (run : SpecRun) → IsNetwork net → IsTableOf net table → IsRunOf net run → IsGuaranteed net table run
