@@ -1,14 +1,13 @@
 -- Links enter by their first lines, and what comes from a port comes at its pace.
-use Rattle.std.proofs.Common.{◌≡◌, ◌≢◌, ℕ, zero, suc, ◌<◌, ◌≤◌, ◌+◌, ◌*◌, ◌^◌, ◌==◌, ◌&&◌, ◌⊎◌, pos, max, Bool, true, false, Option, Some, None, List, [], ◌∷◌, length, get_or, map, if◌then◌else◌, refl, sym, ◌∙◌, ap, subst, arith, inl, inr}
+use Rattle.std.proofs.Common.{◌≡◌, ◌≢◌, ℕ, zero, suc, ◌<◌, ◌≤◌, ◌+◌, ◌*◌, ◌^◌, ◌==◌, ◌&&◌, ◌⊎◌, Bool, true, false, Option, Some, None, List, [], ◌∷◌, length, get_or, map, if◌then◌else◌, refl, sym, ◌∙◌, ap, subst, arith, inl, inr}
 use Rattle.std.specs.Prelude.{slice_get, nat_lt}
 use Rattle.std.specs.Int.{div_ceil}
-use Rattle.std.specs.List.{Contains}
-use Rattle.std.proofs.lemmas.Bool.{cases_eq, cases_lt}
+use Rattle.std.proofs.lemmas.Bool.{cases_lt}
 use Rattle.std.proofs.lemmas.List.{get_or-map, length-map}
 use Rattle.std.proofs.lemmas.Option.{get_or_from_slice_get, slice_get_cases}
-use Rattle.rational.specs.Rational.{ℚ, int, ◌-ℚ◌, ◌≤ℚ◌}
-use Rattle.rational.specs.Extended.{Ext, ◌≤ₑ◌}
-use Rattle.rational.specs.declared.Extended.TheVariants.{Fin, Inf}
+use Rattle.rational.specs.Rational.{ℚ, ◌-ℚ◌, ◌≤ℚ◌}
+use Rattle.rational.specs.Extended.{◌≤ₑ◌}
+use Rattle.rational.specs.declared.Extended.TheVariants.{Fin}
 use Rattle.rational.proofs.ExtendedOrder.{le_ext_trans}
 use Rattle.rational.proofs.Linear.{with2}
 use Rattle.min_plus.specs.Functions.{zero_q, whole}
@@ -17,14 +16,14 @@ use Rattle.run_laws.specs.Runs.{SpecRun}
 use Rattle.run_laws.specs.RunPremises.{entered_in}
 use Rattle.run_laws.specs.Servers as servers
 use Rattle.run_laws.specs.Servers.{Server}
-use Rattle.run_laws.specs.Routes.{Hop, Route, route_of, server_at, first_server}
+use Rattle.run_laws.specs.Routes.{route_of, first_server}
 use Rattle.run_laws.specs.Totals.{is_on}
 use Rattle.pace_laws.specs.Groups.{part_number}
 use Rattle.net_laws.specs.Orders.{EntersKept}
 use Rattle.tree_runs.specs.Trees.{Tree, tree_of, hops_in, flat, from_of, KeepsTreePremises}
 use Rattle.tree_runs.specs.Parts.{is_of_tree_part, AreTreePaced}
 use Rattle.tree_runs.proofs.Trees.{live_is, hops_are}
-use Rattle.arrival_lines.specs.Grid.{bits, speed, micros}
+use Rattle.arrival_lines.specs.Grid.{bits, micros}
 use Rattle.arrival_lines.specs.declared.grid.Line.{Line}
 use Rattle.arrival_lines.proofs.Units.{up_covers, bits_whole, speed_nonneg}
 use Rattle.arrival_lines.proofs.OnGrid.{stair_on_grid}

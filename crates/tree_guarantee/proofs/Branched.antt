@@ -1,9 +1,9 @@
 -- Each branch of a link keeps its bound.
-use Rattle.std.proofs.Common.{◌≡◌, ◌≢◌, ℕ, zero, suc, ◌<◌, ◌+◌, ◌==◌, pos, true, Option, Some, None, List, [], ◌∷◌, ◌++◌, length, get_or, map, if◌then◌else◌, refl, sym, ◌∙◌, ap, subst, arith, inl, inr}
+use Rattle.std.proofs.Common.{◌≡◌, ◌≢◌, ℕ, zero, suc, ◌<◌, ◌+◌, pos, Option, Some, None, List, [], ◌∷◌, ◌++◌, length, get_or, map, refl, sym, ◌∙◌, ap, subst, arith, inl, inr}
 use Rattle.std.specs.Prelude.{slice_get}
 use Rattle.std.proofs.lemmas.List.{get_or-map}
 use Rattle.std.proofs.lemmas.Option.{get_or_from_slice_get, slice_get_cases}
-use Rattle.rational.specs.Rational.{ℚ, int, ◌+ℚ◌}
+use Rattle.rational.specs.Rational.{int, ◌+ℚ◌}
 use Rattle.rational.specs.Extended.{Ext, ◌+ₑ◌}
 use Rattle.rational.specs.declared.Extended.TheVariants.{Fin}
 use Rattle.rational.proofs.ExtendedOrder.{add_ext_comm, add_ext_assoc, add_zero_ext}
@@ -27,7 +27,7 @@ use Rattle.tree_order.proofs.Those.{eq_true, eq_false}
 use Rattle.tree_bounds.specs.Tables.{row_in, bounds_in, time_after, time_before, AreBounds, IsTableOf}
 use Rattle.tree_bounds.specs.declared.analysis.Table.{Table}
 use Rattle.tree_guarantee.specs.Routes.{routes_of, tree_of_link, node_of, port_before, link_time}
-use Rattle.tree_guarantee.specs.Guarantee.{IsRunOf, IsGuaranteed, TablesAreGuaranteed}
+use Rattle.tree_guarantee.specs.Guarantee.{IsRunOf, TablesAreGuaranteed}
 use Rattle.tree_guarantee.proofs.TreesOf.{tree_at, at_passes}
 use Rattle.tree_guarantee.proofs.Begun.{IsLiveLink}
 use Rattle.tree_guarantee.proofs.Grown.{delay_in, delay_by, queue_first}

@@ -1,21 +1,21 @@
 -- Where the ports have an order in which no link goes back, the trees of runs go forward.
-use Rattle.std.proofs.Common.{◌≡◌, ℕ, zero, suc, ◌<◌, ◌≤◌, ◌+◌, ◌==◌, Bool, true, false, Option, Some, None, List, [], ◌∷◌, ◌++◌, length, get_or, map, if◌then◌else◌, refl, sym, ◌∙◌, ap, subst, arith, inl, inr, add-one, length-append}
+use Rattle.std.proofs.Common.{◌≡◌, ℕ, zero, suc, ◌<◌, ◌≤◌, ◌+◌, ◌==◌, Bool, true, false, Option, Some, None, List, [], ◌∷◌, ◌++◌, length, get_or, map, if◌then◌else◌, refl, sym, ◌∙◌, ap, subst, arith, inl, inr, length-append}
 use Rattle.std.specs.Prelude.{slice_get}
 use Rattle.std.proofs.lemmas.Bool.{cases_eq, cases_lt}
 use Rattle.std.proofs.lemmas.List.{get_or_append_left, get_or-append-add}
 use Rattle.std.proofs.lemmas.Option.{get_or_from_slice_get, slice_get_cases}
 use Rattle.tree_runs.specs.Trees.{Tree, tree_of, from_of, Hangs}
-use Rattle.tree_network.specs.Networks.{IsNetwork, IsLink, node_at, no_node}
+use Rattle.tree_network.specs.Networks.{IsNetwork, node_at, no_node}
 use Rattle.tree_network.specs.declared.network.Link.{Link}
 use Rattle.tree_network.specs.declared.network.Network.{Network}
 use Rattle.tree_network.specs.declared.network.Node.{Node}
 use Rattle.tree_order.specs.declared.spots.Spot.{Spot}
-use Rattle.tree_order.specs.Spots.{no_spot, spot_at, spot_of, spots_in, spots_below, spots_of, spots_of_link, source_in}
-use Rattle.tree_order.specs.Orders.{StandsAt, GoesTo, IsOrderOf, IsNetworkOrder}
-use Rattle.tree_order.proofs.Those.{eq_true, eq_false, of_eq}
+use Rattle.tree_order.specs.Spots.{no_spot, spot_of, spots_in, spots_below, spots_of, source_in}
+use Rattle.tree_order.specs.Orders.{StandsAt, GoesTo}
+use Rattle.tree_order.proofs.Those.{eq_true, of_eq}
 use Rattle.tree_order.proofs.SpotLists.{in_length, in_at, below_more}
 use Rattle.tree_order.proofs.InRange.{in_range}
-use Rattle.tree_guarantee.specs.Routes.{routes_of, tree_of_link, node_of, port_before, OrdersGoForward}
+use Rattle.tree_guarantee.specs.Routes.{routes_of, node_of, port_before, OrdersGoForward}
 use Rattle.tree_guarantee.proofs.TreesOf.{tree_at, no_tree}
 
 -- ---- where a spot stands

@@ -1,13 +1,13 @@
 -- The spots of a group of a queue are those of the links of a part: one for each link, in the links' order.
-use Rattle.std.proofs.Common.{◌≡◌, ◌≢◌, ℕ, zero, suc, ◌<◌, ◌≤◌, ◌+◌, ◌==◌, ◌&&◌, ◌⊎◌, Bool, true, false, cond, Option, Some, None, List, [], ◌∷◌, ◌++◌, length, get_or, map, if◌then◌else◌, refl, sym, ◌∙◌, ap, subst, arith, inl, inr, add-one, length-append, append-nil}
+use Rattle.std.proofs.Common.{◌≡◌, ◌≢◌, ℕ, zero, suc, ◌<◌, ◌≤◌, ◌+◌, ◌==◌, ◌&&◌, ◌⊎◌, Bool, true, false, cond, Option, Some, None, List, [], ◌∷◌, ◌++◌, length, get_or, map, if◌then◌else◌, refl, sym, ◌∙◌, ap, subst, arith, inl, inr, length-append, append-nil}
 use Rattle.std.specs.Prelude.{slice_get}
 use Rattle.std.proofs.lemmas.Bool.{cases_eq, cases_lt}
-use Rattle.std.proofs.lemmas.List.{map-append, get_or_append_left}
+use Rattle.std.proofs.lemmas.List.{map-append}
 use Rattle.std.proofs.lemmas.Option.{get_or_from_slice_get, slice_get_cases}
-use Rattle.run_laws.specs.Routes.{Route, route_of}
-use Rattle.run_laws.specs.Totals.{is_on, is_in}
+use Rattle.run_laws.specs.Routes.{Route}
+use Rattle.run_laws.specs.Totals.{is_on}
 use Rattle.pace_laws.specs.Groups.{part_number}
-use Rattle.tree_runs.specs.Trees.{Tree, tree_of, flat_tree, hops_in, flat, from_of}
+use Rattle.tree_runs.specs.Trees.{Tree, tree_of, flat_tree, hops_in, from_of}
 use Rattle.tree_runs.specs.Parts.{is_of_tree_part}
 use Rattle.tree_runs.proofs.Trees.{route_is}
 use Rattle.tree_network.specs.Networks.{IsNetwork, IsLink, node_at, no_node}
@@ -15,9 +15,9 @@ use Rattle.tree_network.specs.declared.network.Link.{Link}
 use Rattle.tree_network.specs.declared.network.Network.{Network}
 use Rattle.tree_network.specs.declared.network.Node.{Node}
 use Rattle.tree_order.specs.declared.spots.Spot.{Spot}
-use Rattle.tree_order.specs.Spots.{no_spot, spot_at, spot_of, spots_in, spots_below, spots_of, source_in}
+use Rattle.tree_order.specs.Spots.{spots_in, spots_below, spots_of, source_in}
 use Rattle.tree_order.specs.Lists.{those}
-use Rattle.tree_order.proofs.Those.{eq_true, eq_false, of_eq, of_both, those_yes, those_no, those_zero, those_same}
+use Rattle.tree_order.proofs.Those.{eq_true, eq_false, of_eq, those_yes, those_no}
 use Rattle.tree_order.proofs.SpotLists.{in_length, below_more, below_zero}
 use Rattle.tree_bounds.specs.Groups.{is_in_group, spots_in_group}
 use Rattle.tree_guarantee.specs.Routes.{routes_of, tree_of_link, node_of, port_before}

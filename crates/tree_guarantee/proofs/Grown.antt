@@ -1,5 +1,5 @@
 -- The curves of links grow along their trees by the delays of the rows.
-use Rattle.std.proofs.Common.{◌≡◌, ◌≢◌, ℕ, zero, suc, ◌<◌, ◌≤◌, ◌+◌, ◌*◌, ◌^◌, ◌==◌, ◌&&◌, pos, Bool, true, false, Option, Some, None, List, [], ◌∷◌, length, get_or, map, if◌then◌else◌, refl, sym, ◌∙◌, ap, subst, arith}
+use Rattle.std.proofs.Common.{◌≡◌, ◌≢◌, ℕ, zero, suc, ◌<◌, ◌≤◌, ◌+◌, ◌*◌, ◌^◌, ◌&&◌, pos, Bool, true, false, Option, Some, None, List, [], ◌∷◌, length, get_or, map, if◌then◌else◌, refl, sym, ◌∙◌, ap, subst, arith}
 use Rattle.std.specs.Prelude.{nat_lt}
 use Rattle.std.specs.Int.{div_ceil}
 use Rattle.rational.specs.Rational.{ℚ, int, ◌≤ℚ◌}
@@ -9,7 +9,7 @@ use Rattle.rational.proofs.ExtendedOrder.{le_inf}
 use Rattle.min_plus.specs.Functions.{zero_q, whole}
 use Rattle.min_plus.specs.Pointwise.{shifted}
 use Rattle.run_laws.specs.Routes.{queue_at}
-use Rattle.tree_runs.specs.Trees.{Tree, tree_of, hops_in, from_of, Hangs}
+use Rattle.tree_runs.specs.Trees.{Tree, tree_of, hops_in, from_of}
 use Rattle.tree_runs.specs.Bounded.{GrowsByStays, stay_in}
 use Rattle.arrival_lines.specs.Grid.{micros}
 use Rattle.arrival_lines.specs.declared.grid.Line.{Line}
@@ -21,7 +21,7 @@ use Rattle.tree_network.specs.declared.network.Link.{Link}
 use Rattle.tree_network.specs.declared.network.Network.{Network}
 use Rattle.tree_network.specs.declared.network.Node.{Node}
 use Rattle.tree_order.specs.declared.spots.Spot.{Spot}
-use Rattle.tree_order.specs.Spots.{spot_at, spot_of, spots_below, spots_of, source_in, number_before}
+use Rattle.tree_order.specs.Spots.{spot_at, spots_below, spots_of, source_in, number_before}
 use Rattle.tree_order.proofs.Those.{eq_true, eq_false}
 use Rattle.tree_bounds.specs.Lines.{later_line}
 use Rattle.tree_guarantee.specs.Routes.{routes_of, node_of, port_before}

@@ -1,47 +1,38 @@
 -- What a port sees of a lawful run that keeps its premises, and so that each queue keeps its row.
-use Rattle.std.proofs.Common.{◌≡◌, ◌≢◌, ℕ, zero, suc, ◌<◌, ◌≤◌, ◌+◌, ◌==◌, ◌&&◌, ◌⊎◌, pos, max, Bool, true, false, Option, Some, None, List, [], ◌∷◌, ◌++◌, length, get_or, map, if◌then◌else◌, refl, sym, ◌∙◌, ap, subst, arith, inl, inr}
+use Rattle.std.proofs.Common.{◌≡◌, ℕ, zero, suc, ◌<◌, ◌≤◌, ◌+◌, ◌==◌, ◌⊎◌, Bool, true, false, Option, Some, None, List, [], ◌∷◌, ◌++◌, length, map, refl, sym, ◌∙◌, ap, subst, arith, inl, inr}
 use Rattle.std.proofs.lemmas.Bool.{cases_eq, cases_lt}
 use Rattle.std.proofs.lemmas.List.{get_or-map, length-map, get_or_past, get_or_append_left, get_or_at}
-use Rattle.rational.specs.Rational.{ℚ, ◌-ℚ◌}
+use Rattle.rational.specs.Rational.{◌-ℚ◌}
 use Rattle.rational.specs.Extended.{Ext, ◌≤ₑ◌}
-use Rattle.rational.specs.declared.Extended.TheVariants.{Fin, Inf}
+use Rattle.rational.specs.declared.Extended.TheVariants.{Fin}
 use Rattle.run_laws.specs.Runs.{SpecRun}
 use Rattle.run_laws.specs.Cards.{of_queue}
 use Rattle.run_laws.specs.Counts.{arrived_in}
-use Rattle.run_laws.specs.Premises.{KeepsSizes, KeepsArrivals}
+use Rattle.run_laws.specs.Premises.{KeepsArrivals}
 use Rattle.run_laws.specs.Allows.{IsLawfulView}
-use Rattle.run_laws.specs.Bounds.{IsQueueBounded}
-use Rattle.run_laws.specs.Delays.{hop_delays}
 use Rattle.run_laws.specs.Servers as servers
 use Rattle.run_laws.specs.Servers.{Server}
 use Rattle.run_laws.specs.Routes.{Hop, server_at, queue_at, PassesServer}
-use Rattle.run_laws.specs.Totals.{is_on, is_in}
+use Rattle.run_laws.specs.Totals.{is_on}
 use Rattle.run_laws.specs.Views.{view}
-use Rattle.run_laws.proofs.Delay.{none_above_infinity}
 use Rattle.pace_laws.specs.Groups.{part_number}
 use Rattle.tree_runs.specs.Trees.{Tree, tree_of, hops_in, flat, from_of}
-use Rattle.tree_runs.specs.Packets.{KeepsTreeSizes}
 use Rattle.tree_runs.specs.Parts.{is_of_tree_part, comes_from}
-use Rattle.tree_runs.specs.Bounded.{QueuesAreBounded}
 use Rattle.tree_runs.specs.BoundedByParts.{QueuesKeepParts}
-use Rattle.tree_runs.proofs.Trees.{route_is, live_is, hops_are}
+use Rattle.tree_runs.proofs.Trees.{live_is, hops_are}
 use Rattle.tree_runs.proofs.Views.{tree_views_are_lawful}
 use Rattle.tree_runs.proofs.Packets.{tree_queues_keep_sizes}
 use Rattle.arrival_lines.specs.Grid.{parts_value}
 use Rattle.arrival_lines.specs.declared.grid.Line.{Line}
 use Rattle.arrival_lines.specs.declared.grid.Part.{Part}
-use Rattle.arrival_lines.specs.declared.grid.Queue.{Queue}
-use Rattle.tree_network.specs.Networks.{IsNetwork, HangsBefore, node_at, no_node, port_at, no_port, queues_of}
-use Rattle.tree_network.specs.declared.network.Link.{Link}
+use Rattle.tree_network.specs.Networks.{IsNetwork, HangsBefore, node_at, port_at, no_port, queues_of}
 use Rattle.tree_network.specs.declared.network.Network.{Network}
-use Rattle.tree_network.specs.declared.network.Node.{Node}
 use Rattle.tree_order.specs.declared.spots.Spot.{Spot}
 use Rattle.tree_order.specs.Spots.{spots_of}
 use Rattle.tree_order.proofs.Those.{eq_true, of_eq}
 use Rattle.port_bounds.specs.Incoming.{Incoming, queue_in}
 use Rattle.port_bounds.specs.Ports.{server_of}
 use Rattle.port_bounds.specs.Promises.{IsSeenAt}
-use Rattle.port_bounds.proofs.Held.{rows_are_held}
 use Rattle.tree_bounds.specs.Groups.{longest_of, spots_in_group, group_list, groups_at, longest_group, incoming_at, incomings_at}
 use Rattle.tree_bounds.specs.Equations.{arrivals_of}
 use Rattle.tree_bounds.proofs.Ranged.{incomings_length}

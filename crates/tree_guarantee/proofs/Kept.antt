@@ -1,8 +1,7 @@
 -- In every run that a network allows, each queue keeps the row of its table, and each link its curves.
-use Rattle.std.proofs.Common.{◌≡◌, ℕ, ◌<◌, ◌≤◌, pos, Option, Some, None, List, [], length, get_or, map, refl, sym, ◌∙◌, subst, arith, inl, inr}
+use Rattle.std.proofs.Common.{◌≡◌, ℕ, ◌<◌, Option, Some, None, [], length, get_or, refl, sym, ◌∙◌, subst, arith, inl, inr}
 use Rattle.std.proofs.lemmas.Bool.{cases_lt}
 use Rattle.std.proofs.lemmas.List.{length-map, get_or_past}
-use Rattle.rational.specs.Extended.{◌≤ₑ◌}
 use Rattle.rational.specs.declared.Extended.TheVariants.{Fin}
 use Rattle.min_plus.specs.Functions.{whole}
 use Rattle.run_laws.specs.Runs.{SpecRun}

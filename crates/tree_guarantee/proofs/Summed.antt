@@ -1,5 +1,5 @@
 -- What the spots of a queue bring by their lines is the sum of the parts that runs over trees know.
-use Rattle.std.proofs.Common.{◌≡◌, ℕ, zero, suc, ◌+◌, ◌*◌, ◌==◌, ◌&&◌, ◌||◌, ◌⊎◌, pos, Bool, true, false, cond, Option, Some, None, List, [], ◌∷◌, ◌++◌, length, map, max, if◌then◌else◌, refl, sym, ◌∙◌, ap, subst, arith, inl, inr, add-one, append-nil}
+use Rattle.std.proofs.Common.{◌≡◌, ℕ, zero, suc, ◌+◌, ◌*◌, ◌&&◌, ◌||◌, pos, Bool, true, false, cond, Option, Some, None, List, [], ◌∷◌, ◌++◌, length, map, if◌then◌else◌, refl, sym, ◌∙◌, ap, subst, arith, append-nil}
 use Rattle.std.specs.Prelude.{is_some, not}
 use Rattle.std.specs.List.{sum_by, list_all}
 use Rattle.std.proofs.lemmas.List.{length-map, map-append}
@@ -10,9 +10,9 @@ use Rattle.rational.specs.Extended.{Ext, ◌+ₑ◌, min_ext}
 use Rattle.rational.specs.declared.Extended.TheVariants.{Fin, Inf}
 use Rattle.rational.proofs.Laws.{zero_mul, add_mul, add_zero}
 use Rattle.rational.proofs.Linear.{with6}
-use Rattle.min_plus.specs.Functions.{zero_q, whole}
+use Rattle.min_plus.specs.Functions.{whole}
 use Rattle.net_laws.specs.Sums.{sum_of_curves}
-use Rattle.pace_laws.specs.Groups.{some_below, cut_sum}
+use Rattle.pace_laws.specs.Groups.{some_below}
 use Rattle.tree_runs.specs.Trees.{flat, flat_tree}
 use Rattle.tree_runs.specs.Parts.{is_of_tree_part, has_tree_part, tree_part_curve, tree_parts_curve}
 use Rattle.arrival_lines.specs.Grid.{grain, grain_a_second, bits, speed, line_value, part_value, parts_value}
@@ -27,7 +27,7 @@ use Rattle.tree_order.specs.Lists.{those}
 use Rattle.tree_order.proofs.Those.{of_both}
 use Rattle.port_bounds.proofs.Brought.{parts_sum}
 use Rattle.port_bounds.specs.Ports.{server_of}
-use Rattle.tree_bounds.specs.Groups.{burst_in, rate_in, longest_of, group_of, group_list, groups_at, spots_in_group, part_of, parts_in, are_bounded, incoming_at}
+use Rattle.tree_bounds.specs.Groups.{burst_in, rate_in, longest_of, group_of, group_list, groups_at, spots_in_group, part_of, are_bounded, incoming_at}
 use Rattle.tree_guarantee.specs.Routes.{routes_of, tree_of_link}
 use Rattle.tree_guarantee.proofs.Gathered.{number_at, gathered}
 

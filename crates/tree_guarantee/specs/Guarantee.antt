@@ -1,7 +1,7 @@
 -- What a table promises: in every lawful run over the network's trees whose links keep their frames, gaps and jitters and whose ports keep
 -- their service curves, no frame stays longer at a queue than its delay, no queue holds more bits than its backlog, and no frame takes longer
 -- from its entry to the end of the link behind a port of its tree than the bound there.
-use Rattle.std.specs.Prelude.{Option, Some, None, ◌≡◌, ◌<◌, ℕ, List, length, get_or, slice_get}
+use Rattle.std.specs.Prelude.{Option, Some, None, ◌≡◌, ◌<◌, ℕ, length, get_or, slice_get}
 use Rattle.rational.specs.Rational.{ℚ}
 use Rattle.rational.specs.Extended.{Ext}
 use Rattle.rational.specs.declared.Extended.TheVariants.{Fin, Inf}
