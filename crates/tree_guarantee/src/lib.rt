@@ -1,4 +1,5 @@
-//! Networks of ports and multicast links as runs over trees know them, and what their bounds promise of every lawful run.
+//! Networks of ports and multicast links as runs over trees know them, and what their bounds promise of every lawful
+//! run.
 //!
 //! A law is the contract of a function that does nothing: its body is empty, and its `ensures` is proved.
 #![tactic(auto)]
@@ -16,9 +17,10 @@ pub fn orders_go_forward()
     ensures { OrdersGoForward }
 {}
 
-/// In every lawful run over a network whose links keep their frames, gaps and jitters and whose ports keep their service curves, no frame stays
-/// longer at a queue than the delay of its row in a table of the network, no queue holds more bits than the backlog there, and no frame takes longer
-/// from its entry to the end of the link behind a port of its tree than the bound there. Where the table has no number nothing is promised.
+/// What a table of a network promises of every lawful run over it whose links keep their frames, gaps and jitters and
+/// whose ports keep their service curves: no frame stays longer at a queue than its delay, no queue holds more bits than
+/// its backlog, and no frame takes longer from its entry to the end of the link behind a port of its tree than the bound
+/// there. Where the table has no number nothing is promised.
 pub fn tables_are_guaranteed()
     ensures { TablesAreGuaranteed }
 {}
