@@ -1,4 +1,4 @@
-use Rattle.convolution_tests.proofs.fifo_services.a_flow_has_a_rate_after_its_wait.Given as goal
+use Rattle.convolution_tests.proofs.priority_services.what_the_others_leave.Given as goal
 
 abbrev pub ghosts-service : goal.ghosts-service
 ghosts-service g a = record { name = a.blank.name; parts = a.blank.parts }

@@ -1,4 +1,4 @@
-use Rattle.convolution_tests.proofs.fifo_services.a_faster_flow_leaves_nothing.Given as goal
+use Rattle.convolution_tests.proofs.fifo_services.what_another_flow_leaves.Given as goal
 
 abbrev pub ghosts-service : goal.ghosts-service
 ghosts-service g a = record { name = a.blank.name; parts = a.blank.parts }
