@@ -12,7 +12,7 @@ use Rattle.net_model.specs.stated_runs.Setups.{Entering, Setup, packet_of}
 use Rattle.net_model.specs.stated_runs.DueSteps.{RankAtMost, rank_of, step_time}
 use Rattle.net_model.specs.stated_runs.Simulated.{FollowsSoFar}
 use Rattle.net_model.specs.stated_runs.Laws.{state_after}
-use Rattle.net_model.proofs.stated_runs.Lists.{In}
+use Rattle.net_model.specs.run_laws.specs.Members.{Has as In}
 use Rattle.sim_servers.specs.sim_states.Places.{ArePlaced}
 use Rattle.sim_servers.specs.declared.due.Due.{Due}
 use Rattle.sim_servers.specs.declared.due.DueKind.TheVariants as kinds
