@@ -1,8 +1,10 @@
 pub mod Members
 pub mod OneOrders
+pub mod OneCycles
 pub mod Forward
 pub mod Returns
 pub mod Chains
+pub mod Behind
 pub mod Rings
 pub mod ListSets
 pub mod PathSteps

@@ -9,6 +9,9 @@ use Rattle.net_model.specs.Orders.{IsOrder}
 abbrev pub OneOrder : Type 0
 OneOrder = (net : Net) (xs ys : List ℕ) → IsOrder net xs → IsOrder net ys → xs ≡ ys
 
+abbrev pub OneCycle : Type 0
+OneCycle = (net : Net) (xs ys : List ℕ) → IsCycle net xs → IsCycle net ys → xs ≡ ys
+
 -- the numbers below n, each once
 pub record IsArrangement (n : ℕ) (xs : List ℕ) : Type 0 where
   pub in_range : All (λ s. s < n) xs

@@ -1,8 +1,13 @@
-ghost use Rattle.net_model.specs.net_graph.OrderLaws.{OneOrder, OrderHasEachServer, OrderGoesForward, OrderOrCycle};
+ghost use Rattle.net_model.specs.net_graph.OrderLaws.{OneOrder, OneCycle, OrderHasEachServer, OrderGoesForward, OrderOrCycle};
 
 /// A network has one order at most.
 pub fn one_order()
     ensures { OneOrder }
+{}
+
+/// Of a network one cycle at most is told.
+pub fn one_cycle()
+    ensures { OneCycle }
 {}
 
 /// Each server stands in an order exactly once, and nothing else does.
