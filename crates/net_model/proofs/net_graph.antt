@@ -11,4 +11,6 @@ pub mod PathSteps
 pub mod LoopBacks
 pub mod Losses
 pub mod Turns
+pub mod Deciding
+pub mod Existing
 pub mod FlowSteps

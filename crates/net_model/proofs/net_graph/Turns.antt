@@ -36,7 +36,7 @@ free_below placed s f =
       | inr h ↦ let e : true ≡ false = sym (get_or_past placed s true h) ∙ f in absurd cc
     ]
 
-free_unless : (placed : List Bool) (s : ℕ) → s < length placed → ¬ (IsPlaced placed s) → IsFree placed s
+pub free_unless : (placed : List Bool) (s : ℕ) → s < length placed → ¬ (IsPlaced placed s) → IsFree placed s
 free_unless placed s h taken = by_value (get_or placed s true) refl
   where
     by_value : (b : Bool) → get_or placed s true ≡ b → IsFree placed s
@@ -105,6 +105,22 @@ idle_is_least net lists placed order s t f = record {
     busy i ready e =
         not_both placed e.last (t.has_mark e.last (ready.waits_for_none e.last (t.only e.last i (last_member (list_at lists i) e.last e.is)))) e.free
 
+pub one_place_more : (net : Net) (order : List ℕ) (s : ℕ)
+    → ((place : ℕ) → place < length order → IsLeast (IsReady net (take place order)) (get_or order place 0)) → IsLeast (IsReady net order) s
+    → (place : ℕ) → place < length (order ++ s ∷ []) → IsLeast (IsReady net (take place (order ++ s ∷ []))) (get_or (order ++ s ∷ []) place 0)
+one_place_more net order s each least place h =
+    let P : List ℕ → Type 0 = λ xs. IsLeast (IsReady net xs) (get_or (order ++ s ∷ []) place 0) in
+    let count = length-append order (s ∷ []) in
+    elim (cases_lt place (length order)) [
+      | inl l ↦
+          let Q : ℕ → Type 0 = λ q. IsLeast (IsReady net (take place order)) q in
+          subst P (sym (take-append-le place order (s ∷ []) (omega (arith, l)))) (subst Q (sym (get_or_append_left order (s ∷ []) 0 place l)) (each place l))
+      | inr l ↦
+          let last : length order ≡ place = omega (arith, l, h, count) in
+          let Q : ℕ → Type 0 = λ q. IsLeast (IsReady net order) q in
+          subst P (sym (take_at order (s ∷ []) place last)) (subst Q (sym (get_or_at order s [] 0 place last)) least)
+    ]
+
 pub after_turn : (net : Net) (lists : List (List ℕ)) (placed : List Bool) (order : List ℕ) (s : ℕ) → Turned net lists placed order
     → IsFirstIdle placed lists s → Turned net lists (set placed s true) (order ++ s ∷ [])
 after_turn net lists placed order s t f = record {
@@ -114,7 +130,7 @@ after_turn net lists placed order s t f = record {
   waits = λ a b step. elim (t.waits a b step) [ inl m ↦ inl m | inr c ↦ inr (kept_left order (s ∷ []) a c) ];
   marked = marked;
   has_mark = λ q c. elim (pushed order s q c) [ inl m ↦ still q (t.has_mark q m) | inr e ↦ newest q e ];
-  each = each;
+  each = one_place_more net order s t.each (idle_is_least net lists placed order s t f);
 }
   where
     within : s < length placed
@@ -132,20 +148,6 @@ after_turn net lists placed order s t f = record {
 
     still : (q : ℕ) → IsPlaced placed q → IsPlaced (set placed s true) q
     still q p = elim (cases_eq q s) [ inl e ↦ newest q e | inr e ↦ get_or-set_other placed s q true false e ∙ p ]
-
-    each : (place : ℕ) → place < length (order ++ s ∷ []) → IsLeast (IsReady net (take place (order ++ s ∷ []))) (get_or (order ++ s ∷ []) place 0)
-    each place h =
-        let P : List ℕ → Type 0 = λ xs. IsLeast (IsReady net xs) (get_or (order ++ s ∷ []) place 0) in
-        let count = length-append order (s ∷ []) in
-        elim (cases_lt place (length order)) [
-          | inl l ↦
-              let Q : ℕ → Type 0 = λ q. IsLeast (IsReady net (take place order)) q in
-              subst P (sym (take-append-le place order (s ∷ []) (omega (arith, l)))) (subst Q (sym (get_or_append_left order (s ∷ []) 0 place l)) (t.each place l))
-          | inr l ↦
-              let last : length order ≡ place = omega (arith, l, h, count) in
-              let Q : ℕ → Type 0 = λ q. IsLeast (IsReady net order) q in
-              subst P (sym (take_at order (s ∷ []) place last)) (subst Q (sym (get_or_at order s [] 0 place last)) (idle_is_least net lists placed order s t f))
-        ]
 
 pub all_turns : (net : Net) (lists : List (List ℕ)) (placed : List Bool) (order : List ℕ) → Turned net lists placed order
     → length order ≡ length net.servers → IsOrder net order

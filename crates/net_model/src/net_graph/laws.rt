@@ -1,4 +1,4 @@
-ghost use Rattle.net_model.specs.net_graph.OrderLaws.{OneOrder, OneCycle, OrderHasEachServer, OrderGoesForward, OrderOrCycle};
+ghost use Rattle.net_model.specs.net_graph.OrderLaws.{OneOrder, OneCycle, OrderHasEachServer, OrderGoesForward, OneOfBoth, OrderOrCycle};
 
 /// A network has one order at most.
 pub fn one_order()
@@ -20,7 +20,8 @@ pub fn order_goes_forward()
     ensures { OrderGoesForward }
 {}
 
-/// A network with an order has no closed walk: so it has an order or a cycle, and never both.
+/// An accepted network has an order or a cycle, and never both: with an order it has no closed walk.
 pub fn order_or_cycle()
-    ensures { OrderOrCycle }
+    ensures one { OneOfBoth }
+    ensures not_both { OrderOrCycle }
 {}
