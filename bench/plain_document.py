@@ -359,8 +359,9 @@ def microseconds(found):
 
 
 def queue_rows(network, names, rows):
+    nodes = plain_bounds.nodes_by_port(network)
     for s, name in enumerate(names):
-        loads = plain_bounds.loads(network, s)
+        loads = plain_bounds.loads(network, s, nodes[s])
         for q, row in enumerate(rows[s]):
             delay, backlog = row or (None, None)
             yield {

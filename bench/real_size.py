@@ -1,14 +1,17 @@
 #!/usr/bin/env python3
 """Networks of the shape of a real avionics network, and what netbound and the plain program of its rules take for them.
 
-    python3 bench/real_size.py PROGRAM [SEED [SIZE ..]]    times and memory, a line a size (1, 4 and 10)
+    python3 bench/real_size.py NETBOUND [SEED [SIZE ..]]    times and memory, a line a size (1, 4 and 10)
     python3 bench/real_size.py --write FOLDER [SEED [SIZE]]    writes the two tables alone
 
 A size of 1 has 104 end systems at 8 switches with 12 cables between them: 232 ports of 100 Mbit/s, 974 multicast links
-of 6,795 branches, gaps of 2 to 128 milliseconds, frames of 84 to 1,538 bytes on the wire. A size of k has k such
-clusters, each with one of its cables to the next one, and a tenth of the branches go over. No path goes up and then down
-again in the order of the switches, so that there is no cycle. The processor time and the largest memory are those of
-each child; it ends with 1 where the two print unlike lines.
+of 6,795 branches, gaps of 2 to 128 milliseconds, frames of 84 to 1,538 bytes on the wire, and a deadline of 35
+milliseconds for each branch. A size of k has k such clusters, each with one of its cables to the next one, and a tenth
+of the branches go over. No path goes up and then down again in the order of the switches, so that there is no cycle.
+examples/avionics_real has the tables of seed 1 and size 1.
+
+Processor time (the least of three runs of netbound) and largest memory are those of each child; the branches a second are those
+of netbound, and the last lines say how much longer a larger network takes. It ends with 1 where the two print unlike lines.
 """
 
 import os
@@ -20,6 +23,8 @@ from pathlib import Path
 
 TWIN = Path(__file__).resolve().parent / "plain_document.py"
 SYSTEMS, SWITCHES, CABLES, LINKS, BRANCHES = 104, 8, 12, 974, 6795
+DEADLINE = 35_000
+RUNS = 3
 GAPS = {2: 1, 4: 2, 8: 4, 16: 8, 32: 16, 64: 24, 128: 45}
 
 
@@ -82,7 +87,7 @@ def counts_of(draw, links, branches):
 
 
 def links_table(draw, size, systems, ways):
-    yield "name,bag,largest_frame,jitter,priority,path"
+    yield "name,bag,largest_frame,jitter,priority,path,deadline"
     counts = [count for _ in range(size) for count in counts_of(draw, LINKS, BRANCHES)]
     for number, count in enumerate(counts):
         cluster = number // LINKS
@@ -101,7 +106,7 @@ def links_table(draw, size, systems, ways):
             switches = ways[systems[source]][systems[end]]
             hops = [f"s{a}_s{b}" for a, b in zip(switches, switches[1:])]
             path = " ".join([f"e{source}", *hops, f"s{systems[end]}_e{end}"])
-            yield f"v{number},{gap},{frame},{jitter},0,{path}"
+            yield f"v{number},{gap},{frame},{jitter},0,{path},{DEADLINE}"
 
 
 def tables(seed, size):
@@ -134,22 +139,25 @@ def measured(words, folder, name):
 
 
 def compared(program, seed, size):
+    """Prints a line, and tells the seconds and the branches, and whether both print the same."""
     with tempfile.TemporaryDirectory() as folder:
         write(folder, seed, size)
         files = [str(Path(folder) / name) for name in ["ports.csv", "links.csv"]]
         sizes = " and ".join(f"{Path(file).stat().st_size / 1e6:.1f}" for file in files)
-        ours = measured([program, *files], folder, "ours")
+        ours = min((measured([program, *files], folder, "ours") for _ in range(RUNS)), key=lambda run: run[1])
         plain = measured([sys.executable, str(TWIN), *files], folder, "plain")
     same = ours[0] == plain[0]
     head = plain[0][1].split(b"\n")[0].decode()
-    none = plain[0][1].count(b" none")
+    none, missed = (plain[0][1].count(word) for word in (b" none", b" missed"))
+    branches = int(head.split()[-1])
     print(
-        f"{head} ({sizes} MB, {none} none): netbound {ours[1]:.2f} s ({ours[2]:.2f} s by the clock), {ours[3]:.0f} MB;",
+        f"{head} ({sizes} MB, {none} none, {missed} missed):",
+        f"netbound {ours[1]:.3f} s ({ours[2]:.3f} s by the clock), {ours[3]:.0f} MB, {branches / max(ours[1], 0.001):,.0f} branches a second;",
         f"in Python {plain[1]:.2f} s, {plain[3]:.0f} MB;",
         "the same" if same else "NOT the same",
         flush=True,
     )
-    return same
+    return same, ours[1], branches
 
 
 def main(words):
@@ -158,7 +166,11 @@ def main(words):
         write(words[1], seed, size)
         return 0
     seed, *sizes = [int(word) for word in words[1:]] or [1]
-    return 0 if all([compared(words[0], seed, size) for size in sizes or [1, 4, 10]]) else 1
+    found = [compared(words[0], seed, size) for size in sizes or [1, 4, 10]]
+    for _, seconds, branches in found[1:]:
+        _, first, few = found[0]
+        print(f"{branches / few:.1f} times the branches: {seconds / max(first, 0.001):.1f} times the time")
+    return 0 if all(same for same, _, _ in found) else 1
 
 
 if __name__ == "__main__":
