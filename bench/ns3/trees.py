@@ -1,13 +1,14 @@
 #!/usr/bin/env python3
 """Runs random networks of multicast links through netbound and through ns-3, and compares.
 
-    trees.py --kind fifo|priority|drr|mixed --seeds 0-99 --out FOLDER [--nb PROGRAM] [--random 20] [--jobs 2]
+    trees.py --kind fifo|priority|drr|mixed --seeds 0-99 --out FOLDER [--nb PROGRAM] [--random 20] [--jobs 2] [--wrong branches|jitter|frames]
     trees.py --summary FOLDER [FOLDER ..]
 
 For each network a folder OUT/SEED: ports.csv and links.csv, report.json (netbound), sim.txt (all runs with their sends) and result.json. In ns-3
 a port that has several ports behind it sends one packet, and where that comes to the end of the link a copy goes to each. Of each run, no packet's
 way to the end of a branch may take longer than the branch's bound, and no queue's delay and backlog may pass the printed ones. Rates are such
-that a byte takes whole nanoseconds; ports have no latency and no gate, which ns-3's devices have not either.
+that a byte takes whole nanoseconds; ports have no latency and no gate, which ns-3's devices have not either. With --wrong the tables are not those of
+the network: they lack all branches of a link but the first, or all jitters, or have frames a tenth shorter, and bounds should be passed.
 """
 
 import argparse
@@ -108,7 +109,15 @@ def discipline(server):
     return "drr " + " ".join(str(quantum // 8) for quantum in server["quanta"]) if server["discipline"] == "drr" else "fifo"
 
 
-def write(net, folder):
+def written_link(flow, wrong):
+    """The cells of a link and its paths, as they are or on purpose not."""
+    jitter = 0 if wrong == "jitter" else flow["arrival"]["jitter"]
+    frame = flow["packet"] // 8
+    cells = [decimal(flow["arrival"]["period"], 10**6), frame - (frame // 10 if wrong == "frames" else 0), decimal(jitter, NS), flow["priority"]]
+    return cells, list(branches(flow))[: 1 if wrong == "branches" else None]
+
+
+def write(net, folder, wrong=None):
     with open(os.path.join(folder, "ports.csv"), "w", newline="") as file:
         table = csv.writer(file)
         table.writerow(["name", "rate", "latency", "link", "discipline"])
@@ -117,8 +126,8 @@ def write(net, folder):
         table = csv.writer(file)
         table.writerow(["name", "bag", "largest_frame", "jitter", "priority", "path"])
         for flow in net["flows"]:
-            cells = [decimal(flow["arrival"]["period"], 10**6), flow["packet"] // 8, decimal(flow["arrival"]["jitter"], NS), flow["priority"]]
-            for path in branches(flow):
+            cells, paths = written_link(flow, wrong)
+            for path in paths:
                 table.writerow([flow["name"], *cells, " ".join(flow["path"][node][0] for node in path)])
 
 
@@ -156,7 +165,7 @@ def scenarios(net, count):
 
 def one(net, folder, args):
     os.makedirs(folder, exist_ok=True)
-    write(net, folder)
+    write(net, folder, args.wrong)
     queues, ends = bounds(net, folder, args.nb)
     text, tried = run.convert.to_sim_head(net), list(scenarios(net, args.random))
     for _, sends, _ in tried:
@@ -200,7 +209,7 @@ def summary(folders):
                 with open(path) as file:
                     results.append(json.load(file))
         sums = {key: sum(result[key] for result in results) for key in ("runs", "packets", "checks", "none", "forks")}
-        print(f"== {top}: networks {len(results)}, {sums}, above a bound {sum(len(result['above']) for result in results)}")
+        print(f"== {top}: networks {len(results)}, {sums}, above a bound {sum(len(result['above']) for result in results)}, in {sum(bool(result['above']) for result in results)} networks")
         for result in results:
             for above in result["above"][:5]:
                 print(f"  ABOVE {above}")
@@ -219,6 +228,7 @@ def main():
     parser.add_argument("--nb", default="./netbound")
     parser.add_argument("--random", type=int, default=20)
     parser.add_argument("--jobs", type=int, default=2)
+    parser.add_argument("--wrong", choices=["branches", "jitter", "frames"])
     parser.add_argument("--summary", nargs="+")
     args = parser.parse_args()
     if args.summary:
