@@ -10,12 +10,15 @@ milliseconds for each branch. A size of k has k such clusters, each with one of 
 of the branches go over. No path goes up and then down again in the order of the switches, so that there is no cycle.
 examples/avionics_real has the tables of seed 1 and size 1.
 
-Processor time (the least of three runs of netbound) and largest memory are those of each child; the branches a second are those
-of netbound, and the last lines say how much longer a larger network takes. It ends with 1 where the two print unlike lines.
+Processor time (the least of five runs; of the Python one run) and largest memory are those of each child; the branches a second are those
+of netbound, and the last lines say how much longer a larger network takes. Where there is a cargo, the same is timed in plain
+Rust (bench/twin, src/tables.rs). It ends with 1 where they print unlike lines.
 """
 
 import os
 import random
+import shutil
+import subprocess
 import sys
 import tempfile
 import time
@@ -24,7 +27,7 @@ from pathlib import Path
 TWIN = Path(__file__).resolve().parent / "plain_document.py"
 SYSTEMS, SWITCHES, CABLES, LINKS, BRANCHES = 104, 8, 12, 974, 6795
 DEADLINE = 35_000
-RUNS = 3
+RUNS = 5
 GAPS = {2: 1, 4: 2, 8: 4, 16: 8, 32: 16, 64: 24, 128: 45}
 
 
@@ -138,26 +141,43 @@ def measured(words, folder, name):
     return answer, used.ru_utime + used.ru_stime, clock, used.ru_maxrss / 1024
 
 
-def compared(program, seed, size):
-    """Prints a line, and tells the seconds and the branches, and whether both print the same."""
+def plain_rust(folder):
+    """The program in plain Rust, or none where it cannot be built."""
+    if shutil.which("cargo") is None:
+        return None
+    copy = Path(folder) / "twin"
+    shutil.copytree(TWIN.parent / "twin", copy, ignore=shutil.ignore_patterns("target"))
+    subprocess.run(["cargo", "build", "--release", "--offline", "--quiet", "--bin", "tables"], cwd=copy, check=True)
+    return str(copy / "target" / "release" / "tables")
+
+
+def least(words, folder, name):
+    return min((measured(words, folder, name) for _ in range(RUNS)), key=lambda run: run[1])
+
+
+def compared(program, rust, seed, size):
+    """Prints a line, and tells whether all print the same, the seconds, and the branches."""
     with tempfile.TemporaryDirectory() as folder:
         write(folder, seed, size)
         files = [str(Path(folder) / name) for name in ["ports.csv", "links.csv"]]
         sizes = " and ".join(f"{Path(file).stat().st_size / 1e6:.1f}" for file in files)
-        ours = min((measured([program, *files], folder, "ours") for _ in range(RUNS)), key=lambda run: run[1])
+        ours = least([program, *files], folder, "ours")
         plain = measured([sys.executable, str(TWIN), *files], folder, "plain")
-    same = ours[0] == plain[0]
+        twin = least([rust, *files], folder, "rust") if rust else None
+    same = ours[0] == plain[0] and (twin is None or twin[0] == plain[0])
     head = plain[0][1].split(b"\n")[0].decode()
     none, missed = (plain[0][1].count(word) for word in (b" none", b" missed"))
     branches = int(head.split()[-1])
+    took = max(ours[1], 0.001)
     print(
         f"{head} ({sizes} MB, {none} none, {missed} missed):",
-        f"netbound {ours[1]:.3f} s ({ours[2]:.3f} s by the clock), {ours[3]:.0f} MB, {branches / max(ours[1], 0.001):,.0f} branches a second;",
+        f"netbound {ours[1]:.3f} s ({ours[2]:.3f} s by the clock), {ours[3]:.0f} MB, {branches / took:,.0f} branches a second;",
+        f"in plain Rust {twin[1]:.3f} s, so {ours[1] / max(twin[1], 0.001):.1f} times as long;" if twin else "no cargo;",
         f"in Python {plain[1]:.2f} s, {plain[3]:.0f} MB;",
         "the same" if same else "NOT the same",
         flush=True,
     )
-    return same, ours[1], branches
+    return same, took, branches
 
 
 def main(words):
@@ -166,10 +186,12 @@ def main(words):
         write(words[1], seed, size)
         return 0
     seed, *sizes = [int(word) for word in words[1:]] or [1]
-    found = [compared(words[0], seed, size) for size in sizes or [1, 4, 10]]
+    with tempfile.TemporaryDirectory() as folder:
+        rust = plain_rust(folder)
+        found = [compared(words[0], rust, seed, size) for size in sizes or [1, 4, 10]]
     for _, seconds, branches in found[1:]:
         _, first, few = found[0]
-        print(f"{branches / few:.1f} times the branches: {seconds / max(first, 0.001):.1f} times the time")
+        print(f"{branches / few:.1f} times the branches: {seconds / first:.1f} times the time")
     return 0 if all(same for same, _, _ in found) else 1
 
 
