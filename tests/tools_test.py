@@ -194,6 +194,11 @@ class Import(WithFolder):
         told = "1 links of several branches are 2 flows, NAME_1 and so on; ports that branches share count the link once a branch"
         self.assertIn(f"# {told}.\n", run.stdout)
         self.assertEqual(run.stderr, f"import_icd: {told}, and netbound once\n")
+        # Rows of empty cells before the head line are none, as for netbound.
+        again = self.made(f"\n,,\n{table}", f"\n{PORTS}")
+        self.assertEqual((again.returncode, again.stdout), (0, run.stdout))
+        ports, links = self.folder / "ports.csv", self.folder / "links.csv"
+        self.assertEqual(networks.load(self.file("m.toml", tool("import_icd.py", ports, links).stdout))["flow"], flows)
 
     def test_words_out_of_range(self):
         for words in (["--overhead", "-1"], ["--overhead", str(2**21)], ["--grid", "0"], ["--grid", "1/2"]):

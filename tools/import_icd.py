@@ -81,9 +81,11 @@ def rows(path, columns, others=()):
     try:
         for cells in reader:
             cells = [cell.strip() for cell in cells]
+            if not any(cells):
+                continue
             if head is None:
                 head = head_of(cells, [*columns, *(column for column in others if column in cells)])
-            elif any(cells):
+            else:
                 if len(cells) > len(head):
                     raise Fault(
                         f"{len(cells)} cells under a head line of {len(head)}: a cell with a comma stands in quotes"
@@ -318,7 +320,8 @@ def read_table(path, columns, others, make, most):
 
 def is_of_links(path):
     """Whether the head line of a table has the column of paths."""
-    return "path" in [cell.strip().strip('"') for cell in text_in(path).partition("\n")[0].split(",")]
+    head = next((line for line in text_in(path).splitlines() if line.strip(" ,\t")), "")
+    return "path" in [cell.strip().strip('"') for cell in head.split(",")]
 
 
 def network_of(words):
