@@ -1,0 +1,11 @@
+pub mod Places
+pub mod Rates
+pub mod Short
+pub mod Kept
+pub mod Deadlines
+pub mod Alike
+pub mod OneQueue
+pub mod OneTable
+pub mod OneText
+pub mod OneRows
+pub mod OneReply

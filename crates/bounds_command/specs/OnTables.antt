@@ -13,6 +13,7 @@ use Rattle.tree_bounds.specs.Tables.{IsTableOf}
 use Rattle.tree_bounds.specs.declared.analysis.Table.{Table}
 use Rattle.bounds_report.specs.declared.rows.Report.{Report}
 use Rattle.bounds_command.specs.declared.answer.Form.{Form}
+use Rattle.bounds_command.specs.Promises.{Guarantees}
 use Rattle.bounds_command.specs.Replies.{Reply, has_fault, goes_round}
 use Rattle.bounds_command.specs.Reports.{IsNetworkOf, IsReportOf, name_at, status_with}
 use Rattle.bounds_command.specs.View.{text_in}
@@ -66,12 +67,14 @@ pub record HasRing (d : DocumentText) (net : Network) (reply : Reply) : Type 0 w
   pub goes : IsNetworkRing net ring
   pub is : reply ≡ goes_round (map (name_at d.port_names) ring)
 
--- the report of a table that meets the equations, in a form; its status tells whether a deadline is missed
+-- the report of a table that meets the equations, in a form; its status tells whether a deadline is missed, and each
+-- lawful run of the network that keeps the premises keeps what it says
 pub record IsReported (d : DocumentText) (net : Network) (form : Form) (reply : Reply) : Type 0 where
   pub table : Table
   pub bounded : IsTableOf net table
   pub report : Report
   pub tells : IsReportOf d net table report
+  pub guarantees : Guarantees d net report
   pub is : reply ≡ record { status = status_with report; bytes = text_in form report }
 
 abbrev pub IsReplyOnDocument : DocumentText → Network → Form → Reply → Type 0

@@ -1,6 +1,6 @@
 //! The rows of a report.
 
-ghost use Rattle.std.specs.Prelude.{◌≡◌, ◌<◌, ◌^◌, ◌++◌, None, length, map, get_or, option_map, All, IfOk, OnOk};
+ghost use Rattle.std.specs.Prelude.{◌≡◌, ◌<◌, ◌^◌, ◌++◌, None, length, map, get_or, option_map, All, IfSome, IfOk, OnOk};
 ghost use Rattle.tree_network.specs.Networks.{IsNetwork, PortIsInRange};
 ghost use Rattle.document_tables.specs.Documents.{IsBranchOf, document_view, end_view};
 ghost use Rattle.tree_bounds.specs.Tables.{IsTableOf};
@@ -106,22 +106,18 @@ fn queue_rows<'a>(
 
 // A bound that has 64 bits.
 fn short(bound: Option<u128>) -> Option<u64>
-    ensures { result ≡ spec.in_64_bits bound }
+    requires { IfSome bound (λ b. b < 2 ^ 64) }
+    ensures { result ≡ bound }
 {
     match bound {
-        Some(bound) => {
-            if bound <= u64::MAX as u128 {
-                Some(bound as u64)
-            } else {
-                None
-            }
-        }
+        Some(bound) => Some(bound as u64),
         None => None,
     }
 }
 
 // The row of a branch.
 fn branch_row<'a>(document: &'a Document, table: &Table, end: &BranchEnd) -> BranchRow<'a>
+    requires network { IsNetwork document.now.network }
     requires table { IsTableOf document.now.network table.now }
     requires end { IsBranchOf document.now.network end.now }
     ensures { branch_view result
@@ -142,6 +138,7 @@ fn branch_rows<'a>(
     document: &'a Document,
     table: &Table,
 ) -> Result<Vec<BranchRow<'a>>, AllocError>
+    requires network { IsNetwork document.now.network }
     requires table { IsTableOf document.now.network table.now }
     requires ends { All (IsBranchOf document.now.network) document.now.branches.items }
     ensures { IfOk result (λ rows. map branch_view rows.items
