@@ -26,7 +26,6 @@ use Rattle.port_bounds.specs.Ports.{port_service}
 use Rattle.tree_bounds.specs.Lines.{line_within, first_line_of}
 use Rattle.tree_bounds.specs.Groups.{pace_line, part_of, are_bounded, longest_group, incoming_of_groups, incomings_at, groups_at}
 use Rattle.tree_bounds.specs.Equations.{arrivals_of}
-use Rattle.tree_bounds.specs.declared.groups.Group.{Group}
 use Rattle.bounds_command.specs.Loads.{rates_in, rates_at, brought, brought_by, load_at, load_of}
 use Rattle.bounds_command.specs.Reports.{port_in}
 
@@ -211,26 +210,20 @@ module _ (a b : Network) (alike : AreAlike a b) where
       let L : PortOnGrid → Option Line = λ v. Some record { burst = longest * 1024; rate = v.pace } in
       ap L (port_same a b alike p)
 
-  part_same : (g : Group) → part_of a g ≡ part_of b g
-  part_same g =
-      let P : Option Line → Part = λ pace. record { sum = record { burst = g.burst; rate = g.rate }; pace = pace } in
-      ap P (pace_same g.longest g.source)
-
-  incoming_same : (groups : List Group) → incoming_of_groups a groups ≡ incoming_of_groups b groups
-  incoming_same groups =
-      let I : List Part → Incoming = λ parts. record {
-        parts = if list_all (λ g. g.known) groups && are_bounded parts then Some parts else None;
-        longest = longest_group groups;
-      } in
-      ap I (map_same (part_of a) (part_of b) part_same groups)
-
   incomings_alike : (spots : List Spot) (line : ℕ → Option Line) (s q : ℕ) → incomings_at a spots line s q ≡ incomings_at b spots line s q
   unfolding incomings_at
   incomings_alike spots line s zero = refl
   incomings_alike spots line s (suc q) =
-      ap₂ (λ xs x. xs ++ x ∷ []) (incomings_alike spots line s q)
-      (incoming_same (groups_at spots line s q (length a.ports.items + 1))
-      ∙ ap (λ n. incoming_of_groups b (groups_at spots line s q (n + 1))) (ports_count a b alike))
+      let groups = groups_at spots line s q (length a.ports.items + 1) in
+      let I : List Part → Incoming = λ parts. record {
+        parts = if list_all (λ g. g.known) groups && are_bounded parts then Some parts else None;
+        longest = longest_group groups;
+      } in
+      let paced = map_same (part_of a) (part_of b)
+      (λ g. ap (λ (pace : Option Line). record { sum = record { burst = g.burst; rate = g.rate }; pace = pace }) (pace_same g.longest g.source))
+      groups in
+      ap₂ (λ (xs : List Incoming) (x : Incoming). xs ++ x ∷ []) (incomings_alike spots line s q)
+      (ap I paced ∙ ap (λ (n : ℕ). incoming_of_groups b (groups_at spots line s q (n + 1))) (ports_count a b alike))
 
   pub arrivals_same : (line : ℕ → Option Line) (s : ℕ) → arrivals_of a line s ≡ arrivals_of b line s
   arrivals_same line s =

@@ -1,35 +1,20 @@
 -- Deadlines that are read can be printed.
 use Rattle.std.proofs.Common.{◌≡◌, ℕ, ◌<◌, ◌≤◌, ◌+◌, ◌-◌, ◌*◌, ◌/◌, ◌^◌, Bool, true, Option, Some, None, List, length, get_or, map, nat_le, sym, ◌∙◌, ap, subst, arith}
 use Rattle.std.specs.Prelude.{slice_get, option_map, All}
-use Rattle.std.proofs.Math.Nat.{div-le_of_le-mul, mul_assoc}
-use Rattle.std.proofs.lemmas.Bool.Decides.{nat_tests}
 use Rattle.std.proofs.lemmas.Option.{slice_get-map, slice_get-get_or, slice_get_within, get_or_from_slice_get}
 use Rattle.table_cells.specs.declared.amount.Amount.{Amount}
-use Rattle.table_cells.specs.Amounts.{rounded_up}
 use Rattle.document_tables.specs.declared.document.BranchEnd.{BranchEnd}
 use Rattle.document_tables.specs.Documents.{end_view}
 use Rattle.document_tables.specs.Grids.{BranchOnGrid}
-use Rattle.document_tables.specs.Ranges.{IsTime, IsTimeOrNone}
+use Rattle.document_tables.specs.Ranges.{IsTimeOrNone}
 use Rattle.bounds_report.specs.declared.rows.BranchRow.{BranchRow}
-use Rattle.bounds_report.specs.Numbers.{IsDeadline}
 use Rattle.bounds_report.specs.Ranges.{HasDeadlineInRange}
 use Rattle.bounds_command.specs.Reports.{BranchText, branch_view}
 use Rattle.bounds_command.proofs.Places.{in_map}
 
-below_of_test : (a b : ℕ) → nat_le a b ≡ true → a ≤ b
-below_of_test a b e = grind (arith, nat_tests)
-
-time_in_range : (a : Amount) → IsTime a → IsDeadline a
-time_in_range a h =
-    let some = h.amount.some in
-    let most : a.top ≤ 1000000000 * a.bottom = below_of_test a.top (1000000000 * a.bottom) h.most in
-    let up : a.top * 1000 + (a.bottom - 1) ≤ a.bottom * 1000000000001 = omega (arith, most, some) in
-    let few = div-le_of_le-mul a.bottom up in
-    record { some = some; fits = omega (arith, few) }
-
 deadline_in_range : (d : Option Amount) → IsTimeOrNone d → HasDeadlineInRange d
 deadline_in_range None h = tt
-deadline_in_range (Some a) h = time_in_range a h
+deadline_in_range (Some a) h = h.amount
 
 pub deadlines_in_range : (rows : List BranchRow) (ends : List BranchEnd) (text : BranchOnGrid → BranchText)
     → ((b : BranchOnGrid) → (text b).deadline ≡ b.deadline) → map branch_view rows ≡ map text (map end_view ends)

@@ -10,6 +10,8 @@ use Rattle.tree_order.specs.Spots.{spot_at, spots_of}
 use Rattle.tree_order.specs.Orders.{IsRing, IsNetworkRing}
 use Rattle.tree_order.proofs.InRange.{in_range}
 use Rattle.tree_order.proofs.Rings.{order_or_ring_is_one}
+use Rattle.csv_rows.specs.Rows.{LinedRow}
+use Rattle.csv_rows.proofs.OneTable.{one_table}
 use Rattle.document_tables.specs.Tables.{LineRow}
 use Rattle.document_tables.specs.Documents.{DocumentText, FileFault, document_of}
 use Rattle.document_tables.specs.Grids.{BranchOnGrid}
@@ -21,7 +23,7 @@ use Rattle.bounds_command.specs.Loads.{load_of, rates_at}
 use Rattle.bounds_command.specs.Replies.{Reply, AreSame, has_fault}
 use Rattle.bounds_command.specs.Reports.{IsNetworkOf, IsReportOf, QueueText, BranchText, queue_text, queues_at, all_queues, branch_text, last_port, name_at, some_missed, status_with}
 use Rattle.bounds_command.specs.View.{text_in}
-use Rattle.bounds_command.specs.OnTables.{Tables, name_of, AreLinesOf, AreRowsOfBoth, Gives, IsFaulty, HasRing, IsReported, OfDocument, IsCyclic, IsDone, IsReplyOn}
+use Rattle.bounds_command.specs.OnTables.{Tables, name_of, lined, AreLinesOf, AreRowsOfBoth, Gives, IsFaulty, HasRing, IsReported, OfDocument, IsCyclic, IsDone, IsReplyOn}
 use Rattle.bounds_command.specs.Laws.{RepliesAreDetermined, RepliesAreComplete, StatusesHaveCauses, IsAnswerable, IsReportedWith, HasCause}
 use Rattle.bounds_command.proofs.Alike.{AreAlike, map_same, ports_count, links_count, port_same, link_same, queues_same, load_same, last_same, spots_same, rates_same}
 use Rattle.bounds_command.proofs.OneTable as one_table
@@ -31,8 +33,16 @@ use Rattle.bounds_command.proofs.OneText.{TellTheSame, status_same, text_same}
 alike : (d : DocumentText) (a b : Network) → IsNetworkOf d a → IsNetworkOf d b → AreAlike a b
 alike d a b h k = record { ports = h.ports ∙ sym k.ports; links = h.links ∙ sym k.links }
 
+abbrev unlined : LinedRow → LineRow
+unlined row = record { line = row.0; cells = row.1 }
+
+unlined_all : (rows : List LineRow) → map unlined (map lined rows) ≡ rows
+unlined_all [] = refl
+unlined_all (row ∷ rows) = ap (λ rest. row ∷ rest) (unlined_all rows)
+
 lines_one : (bytes : List ℕ) (one other : List LineRow) → AreLinesOf bytes one → AreLinesOf bytes other → one ≡ other
-lines_one bytes one other h k = ?
+lines_one bytes one other h k =
+    sym (unlined_all one) ∙ ap (map unlined) (one_table bytes (map lined one) (map lined other) h k) ∙ unlined_all other
 
 pub read_one : (t : Tables) (overhead : ℕ) (ports links others these : List LineRow) → AreRowsOfBoth t ports links
     → AreRowsOfBoth t others these → document_of overhead ports links ≡ document_of overhead others these

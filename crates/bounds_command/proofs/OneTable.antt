@@ -175,15 +175,17 @@ module _ (a b : Network) (alike : AreAlike a b) (w : IsNetwork a) (ta tb : Table
       let s = (node_at l place).port in
       let q = (node_at l place).queue in
       (ia.bounds i l el).each place k
-      ∙ ap (λ (t : Option ℕ). time_after t (row_in ta s q) (port_at a s).link) (before (node_at l place).from (is.nodes place k).hangs)
+      ∙ ap (λ (t : Option ℕ). time_after t (row_in ta s q) (port_at a s).link) (before
+      (λ q lt e. bound_at i l m el em same is n q (omega (arith, lt, h)) (omega (arith, e, k))) (node_at l place).from (is.nodes place k).hangs)
       ∙ ap (λ (r : Option Queue). time_after (time_before (bounds_in tb i) (node_at l place).from) r (port_at a s).link) (rows_are_one s q)
       ∙ ap (λ (v : PortOnGrid). time_after (time_before (bounds_in tb i) (node_at l place).from) (row_in tb s q) v.link) (port_same a b alike s)
       ∙ ap (λ (x : Node). after x (time_before (bounds_in tb i) x.from)) node
       ∙ sym ((ib.bounds i m em).each place (omega (arith, k, long)))
     where
-      before : (from : Option ℕ) → HangsBefore place from → time_before (bounds_in ta i) from ≡ time_before (bounds_in tb i) from
-      before None e = refl
-      before (Some p) e = bound_at i l m el em same is n p (omega (arith, e, h)) (omega (arith, e, k))
+      before : ((q : ℕ) → q < place → q < length l.nodes.items → get_or (bounds_in ta i) q None ≡ get_or (bounds_in tb i) q None)
+          → (from : Option ℕ) → HangsBefore place from → time_before (bounds_in ta i) from ≡ time_before (bounds_in tb i) from
+      before earlier None e = refl
+      before earlier (Some p) e = earlier p e (omega (arith, e, k))
 
   pub bounds_are_one : (i place : ℕ) → get_or (bounds_in ta i) place None ≡ get_or (bounds_in tb i) place None
   bounds_are_one i place = by_links (slice_get a.links.items i) (slice_get b.links.items i) refl refl (link_same a b alike i)

@@ -2,7 +2,6 @@
 use Rattle.std.proofs.Common.{◌≡◌, ◌||◌, ℕ, Bool, if◌then◌else◌, List, [], ◌∷◌, ◌++◌, length, map, refl, sym, ◌∙◌, ap, ap₂}
 use Rattle.std.specs.List.{flat_map, list_any}
 use Rattle.std.proofs.lemmas.List.{length-map}
-use Rattle.serde_json.specs.Data.{Data}
 use Rattle.bounds_report.specs.Lines.{report_lines, head_line, queue_line, branch_line}
 use Rattle.bounds_report.specs.Data.{report_json, queue_data, branch_data}
 use Rattle.bounds_report.specs.declared.rows.QueueRow.{QueueRow}

@@ -1,13 +1,13 @@
 -- The rates of links at queues, as they are added up.
-use Rattle.std.proofs.Common.{◌≡◌, ◌≢◌, ◌⊎◌, ℕ, ◌<◌, ◌≤◌, ◌+◌, ◌*◌, ◌^◌, ◌==◌, ◌&&◌, Bool, true, false, List, [], ◌∷◌, ◌++◌, length, get_or, set, take, map, replicate, Vec, refl, sym, ◌∙◌, ap, ap₂, subst, arith, inl, inr, length-replicate, get_or-replicate, length-append}
+use Rattle.std.proofs.Common.{◌≡◌, ◌≢◌, ◌⊎◌, ℕ, ◌<◌, ◌≤◌, ◌+◌, ◌*◌, ◌^◌, ◌==◌, ◌&&◌, Bool, true, false, List, [], ◌∷◌, ◌++◌, length, get_or, set, take, map, replicate, Vec, refl, sym, ◌∙◌, ap, ap₂, subst, arith, inl, inr, length-append}
 use Rattle.std.specs.Prelude.{sum_by, All}
 use Rattle.std.specs.Int.{div_ceil}
 use Rattle.std.proofs.Math.Nat.{div-le_self, mul-le-mul_right}
 use Rattle.std.proofs.lemmas.Bool.{cases_lt, cases_eq}
 use Rattle.std.proofs.lemmas.Bool.Decides.{nat_tests}
-use Rattle.std.proofs.lemmas.List.{get_or_append_left, get_or_at, get_or-map, map-set, get_or-set_same, get_or-set_other, length-set, length-map, length-take, take_all, get_or_default}
+use Rattle.std.proofs.lemmas.List.{length-replicate, get_or-replicate, get_or_append_left, get_or_at, get_or-map, map-set, get_or-set_same, get_or-set_other, length-set, length-map, length-take, take_all, get_or_default}
 use Rattle.std.proofs.lemmas.List.Sums.{sum_by_more, sum_by-le, sum_by-take-le}
-use Rattle.tree_network.specs.Networks.{no_port, no_node, longest_frame, IsNetwork, IsLink, queues_of, port_at, node_at}
+use Rattle.tree_network.specs.Networks.{no_port, no_node, longest_frame, IsNetwork, IsLink, IsNodeAt, queues_of, port_at, node_at}
 use Rattle.tree_network.specs.declared.network.Port.{Port}
 use Rattle.tree_network.specs.declared.network.Node.{Node}
 use Rattle.tree_network.specs.declared.network.Link.{Link}
@@ -222,3 +222,45 @@ links_small net links s q w all short =
     nodes_small s q (rate_of (get_or links k d)) (get_or links k d).nodes.items (few_nodes net (get_or links k d) w is)
     (rate_small net (get_or links k d) is)) in
     omega (arith, each, short)
+
+pub rates_fit : (net : Network) (rates : List (List ℕ)) (s k d : ℕ) → IsNetwork net → AreRates net.ports.items net.links.items rates
+    → s < length net.ports.items → k < length (get_or rates s []) → get_or (get_or rates s []) k d < 2 ^ 100
+rates_fit net rates s k d w is h inside =
+    let long = is.queues_all s h in
+    let value = is.each s k h (omega (arith, inside, long)) in
+    let same = get_or_default (get_or rates s []) k d 0 inside in
+    let few = links_small net net.links.items s k w w.links w.few_links in
+    omega (arith, value, same, few)
+
+pub frame_small : (net : Network) (link : Link) → IsLink net link → link.frame ≤ 2 ^ 24
+unfolding longest_frame
+frame_small net link is = is.frame
+
+-- a node more: the sum fits 128 bits
+pub record AddsNode (net : Network) (number rate k : ℕ) (nodes : List Node) (rates : List (List ℕ)) : Type 0 where
+  pub fits : at rates (get_or nodes k no_node).port (get_or nodes k no_node).queue + rate < 2 ^ 128
+  pub next : Adding net number rate (k + 1) nodes
+      (with_more rates (get_or nodes k no_node).port (get_or nodes k no_node).queue rate)
+
+pub adds_node : (net : Network) (number rate k : ℕ) (nodes : List Node) (link : Link) (rates : List (List ℕ)) → IsNetwork net → IsLink net link
+    → nodes ≡ link.nodes.items → rate ≡ rate_of link → k < length nodes → Adding net number rate k nodes rates
+    → AddsNode net number rate k nodes rates
+adds_node net number rate k nodes link rates w is same fast h old =
+    let node = get_or nodes k no_node in
+    let s = node.port in
+    let q = node.queue in
+    let long = ap length same in
+    let inside : k < length link.nodes.items = omega (arith, h, long) in
+    let N : Node → Type 0 = λ n. IsNodeAt net link k n in
+    let known = subst N (sym (ap (λ (ns : List Node). get_or ns k no_node) same)) (is.nodes k inside) in
+    let value = old.each s q known.port known.queue in
+    let slow = rate_small net link is in
+    let few = few_nodes net link w is in
+    let before = sum_by-take-le (λ (x : Link). brought_by s q x) net.links.items number in
+    let all = links_small net net.links.items s q w w.links w.few_links in
+    let here = sum_by-take-le (brought s q rate) nodes k in
+    let these = nodes_small s q rate nodes (omega (arith, few, long)) (omega (arith, fast, slow)) in
+    record {
+      fits = omega (arith, value, before, all, here, these, fast, slow);
+      next = node_more net number rate k nodes rates h known.port known.queue old;
+    }

@@ -1,7 +1,7 @@
 -- Bounds of a table fit 64 bits: a link passes no port twice, and takes less than 2 ^ 51 picoseconds at each.
-use Rattle.std.proofs.Common.{◌≡◌, ℕ, zero, suc, ◌<◌, ◌≤◌, ◌+◌, ◌*◌, ◌^◌, Option, Some, None, List, [], length, get_or, refl, sym, ◌∙◌, ap, subst, arith}
+use Rattle.std.proofs.Common.{◌≡◌, ℕ, zero, suc, ◌<◌, ◌≤◌, ◌+◌, ◌*◌, ◌^◌, Option, Some, None, List, [], length, get_or, refl, sym, ◌∙◌, ap, subst, arith, inl, inr}
 use Rattle.std.specs.Prelude.{IfSome, MatchOption, slice_get, All}
-use Rattle.std.proofs.lemmas.Option.{slice_get_within, get_or_from_slice_get}
+use Rattle.std.proofs.lemmas.Option.{slice_get_within, get_or_from_slice_get, slice_get_cases}
 use Rattle.arrival_lines.specs.Queues.{IsUnbounded, IsLeastQueue}
 use Rattle.arrival_lines.specs.declared.grid.Part.{Part}
 use Rattle.arrival_lines.specs.declared.grid.Queue.{Queue}
@@ -10,6 +10,8 @@ use Rattle.tree_network.specs.Networks.{IsNetwork, IsLink, PortIsInRange, HangsB
 use Rattle.tree_network.specs.declared.network.Port.{Port}
 use Rattle.tree_network.specs.declared.network.Link.{Link}
 use Rattle.tree_network.specs.declared.network.Network.{Network}
+use Rattle.document_tables.specs.declared.document.BranchEnd.{BranchEnd}
+use Rattle.document_tables.specs.Documents.{IsBranchOf}
 use Rattle.port_bounds.specs.Incoming.{Incoming, queue_in}
 use Rattle.port_bounds.specs.Rows.{IsRow, IsRowBy, IsLeastRow}
 use Rattle.tree_bounds.specs.Equations.{arrivals_of}
@@ -60,7 +62,7 @@ times_short net table i link w l is are (suc n) place h k =
     subst P (sym (are.each place k))
     (after_short place (time_before (bounds_in table i) (node_at link place).from)
     (row_in table (node_at link place).port (node_at link place).queue) (port_at net (node_at link place).port).link
-    (before (node_at link place).from node.hangs)
+    (before (λ q lt e. times_short net table i link w l is are n q (omega (arith, lt, h)) (omega (arith, e, k))) (node_at link place).from node.hangs)
     (row_short net table (node_at link place).port (node_at link place).queue is node.port node.queue)
     (link_short net (node_at link place).port w node.port))
   where
@@ -68,11 +70,10 @@ times_short net table i link w l is are (suc n) place h k =
     more q lt None e = tt
     more q lt (Some b) e = omega (arith, e, lt)
 
-    before : (from : Option ℕ) → HangsBefore place from → IfSome (time_before (bounds_in table i) from) (λ b. b ≤ place * 2 ^ 51)
-    before None e = omega arith
-    before (Some q) e =
-        more q e (get_or (bounds_in table i) q None)
-        (times_short net table i link w l is are n q (omega (arith, e, h)) (omega (arith, e, k)))
+    before : ((q : ℕ) → q < place → q < length link.nodes.items → IfSome (get_or (bounds_in table i) q None) (λ b. b ≤ (q + 1) * 2 ^ 51))
+        → (from : Option ℕ) → HangsBefore place from → IfSome (time_before (bounds_in table i) from) (λ b. b ≤ place * 2 ^ 51)
+    before earlier None e = omega arith
+    before earlier (Some q) e = more q e (get_or (bounds_in table i) q None) (earlier q e (omega (arith, e, k)))
 
 pub bound_short : (net : Network) (table : Table) (i place : ℕ) (link : Link) → IsNetwork net → IsTableOf net table
     → slice_get net.links.items i ≡ Some link → place < length link.nodes.items
@@ -88,3 +89,22 @@ bound_short net table i place link w is e h =
     enough : (o : Option ℕ) → IfSome o (λ b. b ≤ (place + 1) * 2 ^ 51) → place < 4096 → IfSome o (λ b. b < 2 ^ 64)
     enough None k few = tt
     enough (Some b) k few = omega (arith, k, few)
+
+-- ---- where branches end
+pub record EndsThere (table : Table) (i place : ℕ) : Type 0 where
+  pub known : place < length (bounds_in table i)
+  pub short : IfSome (get_or (bounds_in table i) place None) (λ b. b < 2 ^ 64)
+
+pub ends_there : (net : Network) (table : Table) (end : BranchEnd) → IsNetwork net → IsTableOf net table → IsBranchOf net end
+    → EndsThere table end.link end.node
+ends_there net table end w is at =
+    elim (slice_get_cases net.links.items end.link).1 [
+      | inl found ↦ by_link found.0 found.2
+      | inr over ↦ absurd (let lt = at.in_links in omega (arith, lt, over.0))
+    ]
+  where
+    by_link : (link : Link) → slice_get net.links.items end.link ≡ Some link → EndsThere table end.link end.node
+    by_link link e =
+        let inside = at.in_nodes link e in
+        let count = (is.bounds end.link link e).count in
+        record { known = omega (arith, inside, count); short = bound_short net table end.link end.node link w is e inside }

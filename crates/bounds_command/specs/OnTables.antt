@@ -1,7 +1,7 @@
 -- What is answered on the bytes of two tables: the first fault of the document, a ring of its ports, or the report on
 -- its bounds.
 use Rattle.std.specs.Prelude.{◌≡◌, ◌⊎◌, ℕ, List, map, Ok, Err}
-use Rattle.csv_rows.specs.Rows.{AreRowsOf}
+use Rattle.csv_rows.specs.Rows.{LinedRow, AreLinedRowsOf}
 use Rattle.document_tables.specs.declared.fault.TableFile.{TableFile}
 use Rattle.document_tables.specs.declared.fault.TableFile.TheVariants.{Ports, Links}
 use Rattle.document_tables.specs.Tables.{LineRow}
@@ -29,14 +29,20 @@ abbrev pub tables : (ports_file ports links_file links : List ℕ) → Tables
 tables ports_file ports links_file links =
     record { ports_file = ports_file; ports = ports; links_file = links_file; links = links }
 
+abbrev pub named : (ports links : List ℕ) → TableFile → List ℕ
+named ports links Ports = ports
+named ports links Links = links
+
 abbrev pub name_of : Tables → TableFile → List ℕ
-name_of t Ports = t.ports_file
-name_of t Links = t.links_file
+name_of t file = named t.ports_file t.links_file file
 
 -- ---- rows
--- the cells are those of the bytes; on which line a row begins no definition says
+-- those of the bytes, each with the line on which it begins
+abbrev pub lined : LineRow → LinedRow
+lined row = (row.line, row.cells)
+
 abbrev pub AreLinesOf : List ℕ → List LineRow → Type 0
-AreLinesOf bytes rows = AreRowsOf bytes (map (λ row. row.cells) rows)
+AreLinesOf bytes rows = AreLinedRowsOf bytes (map lined rows)
 
 -- the rows of both tables
 pub record AreRowsOfBoth (t : Tables) (ports links : List LineRow) : Type 0 where

@@ -69,5 +69,9 @@ pub(crate) fn load_at(port: &Port, rates: u128) -> Option<u128>
     if rates == 0 {
         return Some(0);
     }
-    load(rates, own_service(port).rate)
+    let rate = own_service(port).rate;
+    if rate == 0 {
+        return None;
+    }
+    load(rates, rate)
 }

@@ -3,4 +3,4 @@ use Rattle.bounds_command.proofs.Rates.{Adding}
 use Rattle.bounds_command.proofs.loads.add_link.Given as goal
 
 abbrev pub invariant-loop-node : goal.invariant-loop-node
-invariant-loop-node l = Adding l.network l.number l.rate l.node-index l.link.nodes.items (items_of l.rates)
+invariant-loop-node l = Adding l.network l.number l.rate l.node-index l.node-items (items_of l.rates)
