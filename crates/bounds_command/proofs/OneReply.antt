@@ -171,7 +171,10 @@ replies_are_determined t overhead form x y (inr (inr h)) (inr (inl k)) = absurd 
 replies_are_determined t overhead form x y (inr (inr h)) (inr (inr k)) = reports_same t overhead form x y h k
 
 -- ---- statuses
-by_missed : (b : Bool) → ((if b then 9 else 0) ≡ 0) ⊎ ((if b then 9 else 0) ≡ 9)
+abbrev code : Bool → ℕ
+code b = if b then 9 else 0
+
+by_missed : (b : Bool) → (code b ≡ 0) ⊎ (code b ≡ 9)
 by_missed true = inr refl
 by_missed false = inl refl
 
@@ -192,11 +195,11 @@ replies_are_complete t overhead form reply w (inr (inl h)) =
     absurd (w.no_ring h.net h.holds.ring (subst P same h.gives.network) h.holds.goes)
 replies_are_complete t overhead form reply w (inr (inr h)) = report_status h.document h.net form reply h.holds
 
-missed_if : (b : Bool) (n : ℕ) → (if b then 9 else 0) ≡ n → n ≡ 9 → b ≡ true
+missed_if : (b : Bool) (n : ℕ) → code b ≡ n → n ≡ 9 → b ≡ true
 missed_if true n e f = refl
 missed_if false n e f = absurd (omega (arith, e, f))
 
-met_if : (b : Bool) (n : ℕ) → (if b then 9 else 0) ≡ n → n ≡ 0 → b ≡ false
+met_if : (b : Bool) (n : ℕ) → code b ≡ n → n ≡ 0 → b ≡ false
 met_if false n e f = refl
 met_if true n e f = absurd (omega (arith, e, f))
 
