@@ -1,6 +1,6 @@
 -- From the answers of calls to the reply on two tables.
 use Rattle.std.proofs.Common.{◌≡◌, ◌⊎◌, ℕ, List, [], ◌∷◌, map, Result, Ok, Err, refl, sym, ◌∙◌, ap, ap₂, subst, inl, inr}
-use Rattle.std.specs.Prelude.{IfOk}
+use Rattle.std.specs.Prelude.{IfOk, All}
 use Rattle.csv_rows.specs.declared.rows.TableRow.{TableRow}
 use Rattle.csv_rows.specs.Rows.{AreLinedRowsOf, LinedRow, lined_of}
 use Rattle.document_tables.specs.declared.fault.LineFault.{LineFault}
@@ -12,6 +12,8 @@ use Rattle.tree_network.specs.declared.network.Network.{Network}
 use Rattle.tree_bounds.specs.Tables.{IsTableOf}
 use Rattle.tree_bounds.specs.declared.analysis.Table.{Table}
 use Rattle.tree_guarantee.proofs.Caused.{none_has_a_cause}
+use Rattle.bounds_report.specs.Ranges.{HasDeadlineInRange}
+use Rattle.bounds_report.specs.declared.rows.BranchRow.{BranchRow}
 use Rattle.bounds_report.specs.declared.rows.Report.{Report}
 use Rattle.bounds_command.specs.declared.answer.Answer.{Answer}
 use Rattle.bounds_command.specs.declared.answer.Form.{Form}
@@ -24,16 +26,17 @@ use Rattle.bounds_command.proofs.Kept.{reports_are_kept}
 -- ---- on a document
 pub reported : {E : Type 0} (d : DocumentText) (net : Network) (form : Form) (table : Table) (report : Report) (answer : Result Answer E)
     → IsNetwork net → IsTableOf net table → IsReportOf d net table report
+    → All (λ (row : BranchRow). HasDeadlineInRange row.deadline) report.branches.items
     → IfOk answer (λ r. reply_of r ≡ record { status = status_with report; bytes = text_in form report })
     → IfOk answer (λ r. IsReplyOnDocument d net form (reply_of r))
-reported d net form table report (Err e) w bounded tells h = tt
-reported d net form table report (Ok r) w bounded tells h =
+reported d net form table report (Err e) w bounded tells timed h = tt
+reported d net form table report (Ok r) w bounded tells timed h =
     inr record {
       table = table;
       bounded = bounded;
       report = report;
       tells = tells;
-      guarantees = reports_are_kept d net table report w bounded tells;
+      guarantees = reports_are_kept d net table report w bounded tells timed;
       causes = λ s q inside queue none. none_has_a_cause net table s q bounded inside queue none;
       is = h;
     }
