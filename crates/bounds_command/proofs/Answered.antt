@@ -24,7 +24,8 @@ use Rattle.bounds_command.specs.OnTables.{Tables, named, lined, AreRowsOfBoth, G
 use Rattle.bounds_command.proofs.Kept.{reports_are_kept}
 
 -- ---- on a document
-pub reported : {E : Type 0} (d : DocumentText) (net : Network) (form : Form) (table : Table) (report : Report) (answer : Result Answer E)
+pub reported : {E : Type 0} (d : DocumentText) (net : Network) (form : Form) (table : Table) (report : Report)
+    (answer : Result Answer E)
     → IsNetwork net → IsTableOf net table → IsReportOf d net table report
     → All (λ (row : BranchRow). HasDeadlineInRange row.deadline) report.branches.items
     → IfOk answer (λ r. reply_of r ≡ record { status = status_with report; bytes = text_in form report })
@@ -53,8 +54,10 @@ rows_of_both t ports links h k =
     let L : List LinedRow → Type 0 = λ rows. AreLinedRowsOf t.links rows in
     record { ports_rows = subst P (sym (lined_all ports)) h; links_rows = subst L (sym (lined_all links)) k }
 
-pub on_document : {E : Type 0} (t : Tables) (overhead : ℕ) (form : Form) (ports links : List LineRow) (d : DocumentText) (net : Network)
-    (answer : Result Answer E) → AreRowsOfBoth t ports links → document_of overhead ports links ≡ Ok d → IsNetworkOf d net
+pub on_document : {E : Type 0} (t : Tables) (overhead : ℕ) (form : Form) (ports links : List LineRow)
+    (d : DocumentText) (net : Network)
+    (answer : Result Answer E) → AreRowsOfBoth t ports links → document_of overhead ports links ≡ Ok d
+    → IsNetworkOf d net
     → IsNetwork net → IfOk answer (λ r. IsReplyOnDocument d net form (reply_of r))
     → IfOk answer (λ r. IsReplyOn t overhead form (reply_of r))
 on_document t overhead form ports links d net (Err e) rows reads is w h = tt
@@ -67,9 +70,11 @@ on_document t overhead form ports links d net (Ok r) rows reads is w h =
     ]
 
 -- the call that tells the fault got what the read answered
-pub on_fault : {E : Type 0} (t : Tables) (overhead : ℕ) (form : Form) (ports links : List LineRow) (file got_file : TableFile)
+pub on_fault : {E : Type 0} (t : Tables) (overhead : ℕ) (form : Form) (ports links : List LineRow)
+    (file got_file : TableFile)
     (fault got_fault : LineFault) (answer : Result Answer E) → AreRowsOfBoth t ports links
-    → document_of overhead ports links ≡ Err (record { file = file; fault = fault }) → got_file ≡ file → got_fault ≡ fault
+    → document_of overhead ports links ≡ Err (record { file = file; fault = fault }) → got_file ≡ file
+    → got_fault ≡ fault
     → IfOk answer (λ r. reply_of r ≡ has_fault (named t.ports_file t.links_file got_file) got_fault)
     → IfOk answer (λ r. IsReplyOn t overhead form (reply_of r))
 on_fault t overhead form ports links file got_file fault got_fault (Err e) rows reads ef ex h = tt

@@ -18,7 +18,8 @@ deadline_in_range (Some a) h = h.amount
 
 pub deadlines_in_range : (rows : List BranchRow) (ends : List BranchEnd) (text : BranchOnGrid → BranchText)
     → ((b : BranchOnGrid) → (text b).deadline ≡ b.deadline) → map branch_view rows ≡ map text (map end_view ends)
-    → All (λ (e : BranchEnd). IsTimeOrNone e.deadline) ends → All (λ (row : BranchRow). HasDeadlineInRange row.deadline) rows
+    → All (λ (e : BranchEnd). IsTimeOrNone e.deadline) ends
+    → All (λ (row : BranchRow). HasDeadlineInRange row.deadline) rows
 deadlines_in_range rows ends text keeps same all = λ k d h.
     let row = get_or rows k d in
     let viewed : slice_get (map branch_view rows) k ≡ Some (branch_view row) =

@@ -1,4 +1,5 @@
--- What a report says is kept in each lawful run that keeps the premises: it is what the table says, with times rounded up.
+-- What a report says is kept in each lawful run that keeps the premises: it is what the table says, with times rounded
+-- up.
 use Rattle.std.proofs.Common.{◌≡◌, ◌⊎◌, ℕ, zero, suc, pred, pos, ◌*ℤ◌, true, nat_le, ◌<◌, ◌≤◌, ◌+◌, ◌*◌, ◌/◌, Option, Some, None, List, [], ◌∷◌, ◌++◌, length, get_or, map, refl, sym, ◌∙◌, ap, subst, arith, inl, inr}
 use Rattle.std.specs.Prelude.{slice_get, option_map, All}
 use Rattle.std.specs.List.{flat_map, range_with_len}
@@ -56,7 +57,8 @@ printed_covers : (n : ℕ) → micros n ≤ℚ printed n
 printed_covers n = micros_le n ((n + 999) / 1000 * 1000) (omega arith)
 
 -- ---- queues
-queue_bounded : (net : Network) (table : Table) (run : SpecRun) (s q : ℕ) (row : Option Queue) → IsGuaranteed net table run
+queue_bounded : (net : Network) (table : Table) (run : SpecRun) (s q : ℕ) (row : Option Queue)
+    → IsGuaranteed net table run
     → s < length net.ports.items → row_in table s q ≡ row
     → IsQueueBounded (flat (routes_of net)) run s q (or_infinite printed (option_map (λ found. found.delay) row))
     (or_infinite whole (option_map (λ found. found.backlog) row))
@@ -89,7 +91,8 @@ queue_kept d net table run row s q g h e =
           (queue_bounded net table run s q (row_in table s q) g h refl);
     }
 
-queues_kept : (d : DocumentText) (net : Network) (table : Table) (report : Report) (run : SpecRun) (k : ℕ) (row : QueueRow)
+queues_kept : (d : DocumentText) (net : Network) (table : Table) (report : Report) (run : SpecRun) (k : ℕ)
+    (row : QueueRow)
     → IsGuaranteed net table run → IsReportOf d net table report → slice_get report.queues.items k ≡ Some row
     → QueueIsKept d net run row
 queues_kept d net table report run k row g is e =
@@ -104,13 +107,15 @@ queues_kept d net table report run k row g is e =
     queue_kept d net table run row s one.of g (in_range (length net.ports.items) at.at s at.there) one.is
 
 -- ---- branches
-has_bound : (net : Network) (table : Table) (run : SpecRun) (i place bound : ℕ) (found : Option Link) → IsGuaranteed net table run
+has_bound : (net : Network) (table : Table) (run : SpecRun) (i place bound : ℕ) (found : Option Link)
+    → IsGuaranteed net table run
     → IsTableOf net table → slice_get net.links.items i ≡ found → get_or (bounds_in table i) place None ≡ Some bound
     → AreAtMost (Fin (micros bound)) (delays_to (routes_of net) run i (port_in found place))
 has_bound net table run i place bound None g is e f =
     let out = past net.links.items i e in
     let long = length-map table.bounds.items (λ v. v.items) in
-    let none : bounds_in table i ≡ [] = get_or_past (items_of table.bounds.items) i [] (omega (arith, out, long, is.links)) in
+    let none : bounds_in table i ≡ [] = get_or_past (items_of table.bounds.items) i []
+    (omega (arith, out, long, is.links)) in
     let no : None ≡ Some bound = sym (ap (λ (xs : List (Option ℕ)). get_or xs place None) none) ∙ f in
     absurd (cc)
 has_bound net table run i place bound (Some link) g is e f =
@@ -124,12 +129,15 @@ has_bound net table run i place bound (Some link) g is e f =
           absurd (cc)
     ]
 
-branch_bounded : (net : Network) (table : Table) (run : SpecRun) (b : BranchOnGrid) (bound : Option ℕ) → IsGuaranteed net table run
+branch_bounded : (net : Network) (table : Table) (run : SpecRun) (b : BranchOnGrid) (bound : Option ℕ)
+    → IsGuaranteed net table run
     → IsTableOf net table → get_or (bounds_in table b.link) b.node None ≡ bound
     → AreAtMost (or_infinite printed bound) (delays_to (routes_of net) run b.link (last_port net b))
-branch_bounded net table run b None g is e = none_above_infinity (delays_to (routes_of net) run b.link (last_port net b))
+branch_bounded net table run b None g is e =
+    none_above_infinity (delays_to (routes_of net) run b.link (last_port net b))
 branch_bounded net table run b (Some bound) g is e =
-    at_most_more (Fin (micros bound)) (Fin (printed bound)) (delays_to (routes_of net) run b.link (last_port net b)) (printed_covers bound)
+    at_most_more (Fin (micros bound)) (Fin (printed bound)) (delays_to (routes_of net) run b.link (last_port net b))
+    (printed_covers bound)
     (has_bound net table run b.link b.node bound (slice_get net.links.items b.link) g is refl e)
 
 -- what is told as met
@@ -143,12 +151,15 @@ met_covers bound top n h =
 below_of_test : (a b : ℕ) → nat_le a b ≡ true → a ≤ b
 below_of_test a b e = grind (arith, nat_tests)
 
-amount_covers : (bound top bottom : ℕ) → 0 < bottom → bound * bottom ≤ top * 1000000 → micros bound ≤ℚ frac (pos top) (pred bottom)
+amount_covers : (bound top bottom : ℕ) → 0 < bottom → bound * bottom ≤ top * 1000000
+    → micros bound ≤ℚ frac (pos top) (pred bottom)
 amount_covers bound top zero some h = absurd (omega (arith, some))
 amount_covers bound top (suc n) some h = met_covers bound top n h
 
-deadline_kept : (net : Network) (table : Table) (run : SpecRun) (b : BranchOnGrid) (bound : Option ℕ) (deadline : Amount) → IsGuaranteed net table run
-    → IsTableOf net table → get_or (bounds_in table b.link) b.node None ≡ bound → IsAmount deadline → is_met bound deadline ≡ true
+deadline_kept : (net : Network) (table : Table) (run : SpecRun) (b : BranchOnGrid) (bound : Option ℕ)
+    (deadline : Amount) → IsGuaranteed net table run
+    → IsTableOf net table → get_or (bounds_in table b.link) b.node None ≡ bound → IsAmount deadline
+    → is_met bound deadline ≡ true
     → AreAtMost (Fin (written deadline)) (delays_to (routes_of net) run b.link (last_port net b))
 deadline_kept net table run b None deadline g is e a met = absurd (cc)
 deadline_kept net table run b (Some bound) deadline g is e a met =
@@ -157,9 +168,11 @@ deadline_kept net table run b (Some bound) deadline g is e a met =
     (below_of_test (bound * deadline.bottom) (deadline.top * 1000000) met))
     (has_bound net table run b.link b.node bound (slice_get net.links.items b.link) g is refl e)
 
-branches_kept : (d : DocumentText) (net : Network) (table : Table) (report : Report) (run : SpecRun) (k : ℕ) (b : BranchOnGrid)
+branches_kept : (d : DocumentText) (net : Network) (table : Table) (report : Report) (run : SpecRun) (k : ℕ)
+    (b : BranchOnGrid)
     (row : BranchRow) → IsGuaranteed net table run → IsTableOf net table → IsReportOf d net table report
-    → All (λ (r : BranchRow). HasDeadlineInRange r.deadline) report.branches.items → slice_get d.branches k ≡ Some b → slice_get report.branches.items k ≡ Some row → BranchIsKept d net run b row
+    → All (λ (r : BranchRow). HasDeadlineInRange r.deadline) report.branches.items → slice_get d.branches k ≡ Some b
+    → slice_get report.branches.items k ≡ Some row → BranchIsKept d net run b row
 branches_kept d net table report run k b row g bounded is timed e f =
     let viewed : slice_get (map branch_view report.branches.items) k ≡ Some (branch_view row) =
     slice_get-map branch_view report.branches.items k ∙ ap (option_map branch_view) f in
@@ -177,11 +190,14 @@ branches_kept d net table report run k b row g bounded is timed e f =
           let R : BranchRow → Type 0 = λ r. HasDeadlineInRange r.deadline in
           let inside = slice_get_within report.branches.items k row f in
           let ranged = subst R (get_or_from_slice_get report.branches.items k row row f) (timed k row inside) in
-          deadline_kept net table run b row.bound deadline g bounded (ap (λ (x : BranchText). x.bound) same) (subst D has ranged) met;
+          deadline_kept net table run b row.bound deadline g bounded (ap (λ (x : BranchText). x.bound) same)
+          (subst D has ranged) met;
     }
 
-pub reports_are_kept : (d : DocumentText) (net : Network) (table : Table) (report : Report) → IsNetwork net → IsTableOf net table
-    → IsReportOf d net table report → All (λ (r : BranchRow). HasDeadlineInRange r.deadline) report.branches.items → Guarantees d net report
+pub reports_are_kept : (d : DocumentText) (net : Network) (table : Table) (report : Report) → IsNetwork net
+    → IsTableOf net table
+    → IsReportOf d net table report → All (λ (r : BranchRow). HasDeadlineInRange r.deadline) report.branches.items
+    → Guarantees d net report
 reports_are_kept d net table report w bounded is timed = λ run h.
     let g = tables_keep net table run w bounded h in
     record {

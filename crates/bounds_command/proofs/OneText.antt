@@ -101,7 +101,8 @@ head_same one other s =
     let ports = s.ports in
     let links = s.links in
     let count : length one.branches.items ≡ length other.branches.items =
-    sym (length-map one.branches.items branch_view) ∙ ap length s.branches ∙ length-map other.branches.items branch_view in
+    sym (length-map one.branches.items branch_view) ∙ ap length s.branches
+    ∙ length-map other.branches.items branch_view in
     rw (ports, links, count)
 
 pub text_same : (form : Form) (one other : Report) → TellTheSame one other → text_in form one ≡ text_in form other
@@ -109,9 +110,11 @@ unfolding report_lines report_json
 text_same Lines one other s =
     let head = head_same one other s in
     let queues = lines_same queue_view queue_line queue_line_same one.queues.items other.queues.items s.queues in
-    let branches = lines_same branch_view branch_line branch_line_same one.branches.items other.branches.items s.branches in
+    let branches = lines_same branch_view branch_line branch_line_same one.branches.items other.branches.items
+    s.branches in
     rw (head, queues, branches)
 text_same Json one other s =
     let queues = values_same queue_view queue_data queue_data_same one.queues.items other.queues.items s.queues in
-    let branches = values_same branch_view branch_data branch_data_same one.branches.items other.branches.items s.branches in
+    let branches = values_same branch_view branch_data branch_data_same one.branches.items other.branches.items
+    s.branches in
     rw (queues, branches)

@@ -82,8 +82,9 @@ pub record IsReported (d : DocumentText) (net : Network) (form : Form) (reply : 
   pub report : Report
   pub tells : IsReportOf d net table report
   pub guarantees : Guarantees d net report
-  -- a queue has no number only where nothing bounds what comes there, or its load is above the rate, or it waits too long
-  pub causes : (s q : ℕ) → s < length net.ports.items → q < queues_of (port_at net s).discipline → row_in table s q ≡ None
+  -- a queue has no number only where nothing bounds what comes there, its load is above the rate, or it waits too long
+  pub causes : (s q : ℕ) → s < length net.ports.items → q < queues_of (port_at net s).discipline
+      → row_in table s q ≡ None
       → IsCausedIn net table s q
   pub is : reply ≡ record { status = status_with report; bytes = text_in form report }
 

@@ -1,8 +1,8 @@
 -- What a report promises: in every lawful run over the network of its document whose links keep their frames, gaps and
--- jitters and whose ports keep their service curves, no frame stays longer at a queue than the delay that is printed for
--- it, no queue holds more bits than the backlog, and no frame of a branch takes longer from its entry to the end of the
--- link behind the branch's last port than the bound, nor than its deadline where that is told as met. Where `none` is
--- printed nothing is promised.
+-- jitters and whose ports keep their service curves, no frame stays longer at a queue than the delay that is printed
+-- for it, no queue holds more bits than the backlog, and no frame of a branch takes longer from its entry to the end of
+-- the link behind the branch's last port than the bound, nor than its deadline where that is told as met. Where `none`
+-- is printed nothing is promised.
 use Rattle.std.specs.Prelude.{◌≡◌, ◌+◌, ◌*◌, ◌/◌, ◌<◌, ℕ, pred, pos, true, length, slice_get, Option, Some, None}
 use Rattle.min_plus.specs.rational.specs.Rational.{ℚ, frac}
 use Rattle.min_plus.specs.rational.specs.Extended.{Ext}

@@ -49,7 +49,8 @@ fn on_rows(
     requires { overhead ≤ 1048576 }
     ensures { (port_bytes link_bytes : List ℕ) → AreLinedRowsOf port_bytes (map lined_of ports.now)
         → AreLinedRowsOf link_bytes (map lined_of links.now)
-        → IfOk result (λ r. IsReplyOn (tables ports_file.now port_bytes links_file.now link_bytes) overhead form (reply_of r)) }
+        → IfOk result (λ r.
+        IsReplyOn (tables ports_file.now port_bytes links_file.now link_bytes) overhead form (reply_of r)) }
 {
     match read_document(alloc, ports, links, overhead) {
         Ok(document) => on_document(alloc, &document, form),
@@ -61,7 +62,8 @@ fn on_rows(
 }
 
 /// The answer on two tables with these names and these bytes, in this order: the first fault, a ring of ports, and else
-/// the report in a form. A frame has `overhead` bytes on the wire beside its own, at most 2^20. Refused only for want of memory.
+/// the report in a form, with what it promises of every lawful run. A frame has `overhead` bytes on the wire beside its
+/// own, at most 2^20. Refused only for want of memory.
 pub fn on_tables(
     alloc: Global,
     ports_file: &str,

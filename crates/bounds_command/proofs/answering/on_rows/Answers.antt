@@ -17,6 +17,7 @@ pub returns-in-Err-Fault : goal.returns-in-Err-Fault
 returns-in-Err-Fault c = λ port_bytes link_bytes h k.
     let t = tables c.args.ports_file.now port_bytes c.args.links_file.now link_bytes in
     let arm = c.in-Err-Fault in
-    on_fault t c.args.overhead c.args.form (map row_view c.args.ports.now) (map row_view c.args.links.now) arm.file _ arm.fault _
+    on_fault t c.args.overhead c.args.form (map row_view c.args.ports.now) (map row_view c.args.links.now) arm.file _
+    arm.fault _
     c.has_fault.result (rows_of_both t c.args.ports.now c.args.links.now h k) (rw arm.field-0-is at arm.ensures.value)
     arm.file-is arm.fault-is c.has_fault.ensures

@@ -15,7 +15,8 @@ reported-requires c =
 
 pub returns-in_ok-report-in-Ok : goal.returns-in_ok-report-in-Ok
 returns-in_ok-report-in-Ok c =
-    reported (document_view c.args.document.now) c.args.document.now.network c.args.form c.in-Ok.table c.in_ok-report-in-Ok.report
+    reported (document_view c.args.document.now) c.args.document.now.network c.args.form c.in-Ok.table
+    c.in_ok-report-in-Ok.report
     c.reported.result c.requires.network c.in-Ok.ensures.table c.in_ok-report-in-Ok.ensures
     (deadlines_in_range c.in_ok-report-in-Ok.report.branches.items c.args.document.now.branches.items
     (branch_text (document_view c.args.document.now) c.args.document.now.network c.in-Ok.table) (λ b. refl)

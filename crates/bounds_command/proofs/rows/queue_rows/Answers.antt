@@ -32,8 +32,10 @@ loop-number-preserved c =
     let count = c.len-number-end.ensures in
     let inside : s < length net.ports.items = omega (arith, c.loop-number-test.true, count) in
     let port = c.index.ensures ∙ get_or_default net.ports.items s c.index.result.now no_port inside in
-    let rows = port_rows d net c.args.table.now (items_of rates) s c.name_of-name.result.now c.index.result.now c.rates_at.result.now
-    c.found_at.result.now c.requires.table c.in_ok-rates.ensures inside c.name_of-name.ensures port is c.found_at.ensures in
+    let rows = port_rows d net c.args.table.now (items_of rates) s c.name_of-name.result.now c.index.result.now
+    c.rates_at.result.now
+    c.found_at.result.now c.requires.table c.in_ok-rates.ensures inside c.name_of-name.ensures port is
+    c.found_at.ensures in
     c.in_ok-push_port.ensures
     ∙ ap₂ (λ (xs : List QueueText) (ys : List QueueText). xs ++ ys) c.loop-number.invariant rows
     ∙ ports_more (queues_at d net c.args.table.now) s
