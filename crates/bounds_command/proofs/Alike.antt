@@ -1,6 +1,6 @@
 -- Two networks of one document: the same numbers, however the code keeps their lists.
-use Rattle.std.proofs.Common.{◌≡◌, ◌⊎◌, ℕ, zero, suc, ◌<◌, ◌≤◌, ◌+◌, ◌*◌, ◌^◌, ◌&&◌, if◌then◌else◌, Option, Some, None, List, [], ◌∷◌, ◌++◌, length, get_or, map, sum, refl, sym, ◌∙◌, ap, ap₂, subst, arith, inl, inr}
-use Rattle.std.specs.Prelude.{slice_get, option_map, All, sum_by}
+use Rattle.std.proofs.Common.{◌≡◌, ℕ, zero, suc, ◌+◌, ◌*◌, ◌^◌, ◌&&◌, if◌then◌else◌, Option, Some, None, List, [], ◌∷◌, ◌++◌, length, get_or, map, sum, refl, sym, ◌∙◌, ap, ap₂, subst, inl, inr}
+use Rattle.std.specs.Prelude.{slice_get, option_map, sum_by}
 use Rattle.std.specs.List.{list_all}
 use Rattle.std.specs.Int.{div_ceil}
 use Rattle.std.proofs.lemmas.List.{length-map}
@@ -21,12 +21,12 @@ use Rattle.tree_order.specs.Spots.{spot_of, source_in, number_before, spots_in, 
 use Rattle.document_rows.specs.Disciplines.{DisciplineText, Fifo, Priority, Drr, discipline_view}
 use Rattle.document_tables.specs.Grids.{PortOnGrid, LinkOnGrid, grid_port, grid_link}
 use Rattle.port_bounds.specs.Incoming.{Incoming, queue_in, longest_frames_of}
-use Rattle.port_bounds.specs.Services.{IsServiceAt, IsServiceOf, IsLeft, round_robin_share}
+use Rattle.port_bounds.specs.Services.{IsServiceAt, IsServiceOf, round_robin_share}
 use Rattle.port_bounds.specs.Ports.{port_service}
 use Rattle.tree_bounds.specs.Lines.{line_within, first_line_of}
 use Rattle.tree_bounds.specs.Groups.{pace_line, part_of, are_bounded, longest_group, incoming_of_groups, incomings_at, groups_at}
 use Rattle.tree_bounds.specs.Equations.{arrivals_of}
-use Rattle.bounds_command.specs.Loads.{rates_in, rates_at, brought, brought_by, load_at, load_of}
+use Rattle.bounds_command.specs.Loads.{rates_at, brought, load_at, load_of}
 use Rattle.bounds_command.specs.Reports.{port_in}
 
 -- ---- lists

@@ -1,5 +1,5 @@
 -- From the answers of calls to the reply on two tables.
-use Rattle.std.proofs.Common.{◌≡◌, ◌⊎◌, ℕ, List, [], ◌∷◌, map, Result, Ok, Err, refl, sym, ◌∙◌, ap, ap₂, subst, inl, inr}
+use Rattle.std.proofs.Common.{◌≡◌, ℕ, List, [], ◌∷◌, map, Result, Ok, Err, refl, sym, ◌∙◌, ap, ap₂, subst, inl, inr}
 use Rattle.std.specs.Prelude.{IfOk, All}
 use Rattle.csv_rows.specs.declared.rows.TableRow.{TableRow}
 use Rattle.csv_rows.specs.Rows.{AreLinedRowsOf, LinedRow, lined_of}
@@ -17,10 +17,10 @@ use Rattle.bounds_report.specs.declared.rows.BranchRow.{BranchRow}
 use Rattle.bounds_report.specs.declared.rows.Report.{Report}
 use Rattle.bounds_command.specs.declared.answer.Answer.{Answer}
 use Rattle.bounds_command.specs.declared.answer.Form.{Form}
-use Rattle.bounds_command.specs.Replies.{Reply, has_fault}
+use Rattle.bounds_command.specs.Replies.{has_fault}
 use Rattle.bounds_command.specs.Reports.{IsNetworkOf, IsReportOf, status_with}
 use Rattle.bounds_command.specs.View.{reply_of, text_in}
-use Rattle.bounds_command.specs.OnTables.{Tables, named, lined, AreRowsOfBoth, Gives, IsFaulty, IsReplyOnDocument, IsReplyOn}
+use Rattle.bounds_command.specs.OnTables.{Tables, named, lined, AreRowsOfBoth, Gives, IsReplyOnDocument, IsReplyOn}
 use Rattle.bounds_command.proofs.Kept.{reports_are_kept}
 
 -- ---- on a document

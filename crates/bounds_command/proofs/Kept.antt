@@ -1,17 +1,16 @@
 -- What a report says is kept in each lawful run that keeps the premises: it is what the table says, with times rounded
 -- up.
-use Rattle.std.proofs.Common.{◌≡◌, ◌⊎◌, ℕ, zero, suc, pred, pos, ◌*ℤ◌, true, nat_le, ◌<◌, ◌≤◌, ◌+◌, ◌*◌, ◌/◌, Option, Some, None, List, [], ◌∷◌, ◌++◌, length, get_or, map, refl, sym, ◌∙◌, ap, subst, arith, inl, inr}
+use Rattle.std.proofs.Common.{◌≡◌, ℕ, zero, suc, pred, pos, ◌*ℤ◌, true, nat_le, ◌<◌, ◌≤◌, ◌+◌, ◌*◌, ◌/◌, Option, Some, None, List, [], ◌∷◌, length, get_or, map, refl, sym, ◌∙◌, ap, subst, arith, inl, inr}
 use Rattle.std.specs.Prelude.{slice_get, option_map, All}
-use Rattle.std.specs.List.{flat_map, range_with_len}
+use Rattle.std.specs.List.{range_with_len}
 use Rattle.std.proofs.lemmas.Bool.{cases_lt}
 use Rattle.std.proofs.lemmas.Bool.Decides.{nat_tests}
 use Rattle.std.proofs.lemmas.Int.{ints}
 use Rattle.std.proofs.lemmas.List.{get_or_past, length-map}
-use Rattle.std.proofs.lemmas.List.FromFn.{length-range_with_len, get_or-range_with_len}
 use Rattle.std.proofs.lemmas.Option.{slice_get-map, slice_get_within, get_or_from_slice_get}
 use Rattle.min_plus.specs.rational.specs.Rational.{ℚ, frac, ◌≤ℚ◌}
 use Rattle.min_plus.specs.rational.specs.Extended.{Ext, ◌≤ₑ◌}
-use Rattle.min_plus.specs.rational.specs.declared.Extended.TheVariants.{Fin, Inf}
+use Rattle.min_plus.specs.rational.specs.declared.Extended.TheVariants.{Fin}
 use Rattle.min_plus.specs.rational.proofs.ExtendedOrder.{le_ext_trans}
 use Rattle.min_plus.specs.rational.proofs.Integers.{mul_whole}
 use Rattle.min_plus.specs.rational.proofs.Over.{le_frac}
@@ -28,7 +27,7 @@ use Rattle.table_cells.specs.declared.amount.Amount.{Amount}
 use Rattle.table_cells.specs.Amounts.{IsAmount}
 use Rattle.arrival_lines.specs.declared.grid.Queue.{Queue}
 use Rattle.arrival_lines.proofs.Units.{micros_le}
-use Rattle.tree_network.specs.Networks.{IsNetwork, node_at, port_at, queues_of}
+use Rattle.tree_network.specs.Networks.{IsNetwork, port_at, queues_of}
 use Rattle.tree_network.specs.declared.network.Link.{Link}
 use Rattle.tree_network.specs.declared.network.Network.{Network}
 use Rattle.document_tables.specs.Documents.{DocumentText}
@@ -36,7 +35,7 @@ use Rattle.document_tables.specs.Grids.{BranchOnGrid}
 use Rattle.tree_bounds.specs.Tables.{IsTableOf, row_in, bounds_in, items_of}
 use Rattle.tree_bounds.specs.declared.analysis.Table.{Table}
 use Rattle.tree_guarantee.specs.Routes.{routes_of}
-use Rattle.tree_guarantee.specs.Guarantee.{IsRunOf, IsGuaranteed}
+use Rattle.tree_guarantee.specs.Guarantee.{IsGuaranteed}
 use Rattle.tree_guarantee.proofs.Branched.{tables_keep}
 use Rattle.bounds_report.specs.Numbers.{is_met}
 use Rattle.bounds_report.specs.Ranges.{HasDeadlineInRange}
@@ -44,7 +43,7 @@ use Rattle.bounds_report.specs.declared.rows.QueueRow.{QueueRow}
 use Rattle.bounds_report.specs.declared.rows.BranchRow.{BranchRow}
 use Rattle.bounds_report.specs.declared.rows.Report.{Report}
 use Rattle.bounds_command.specs.Loads.{rates_at}
-use Rattle.bounds_command.specs.Promises.{printed, written, or_infinite, QueueIsKept, BranchIsKept, IsKept, Guarantees}
+use Rattle.bounds_command.specs.Promises.{printed, written, or_infinite, QueueIsKept, BranchIsKept, Guarantees}
 use Rattle.bounds_command.specs.Reports.{IsReportOf, QueueText, BranchText, queue_view, branch_view, queue_text, branch_text, queues_at, all_queues, name_at, last_port, port_in}
 use Rattle.bounds_command.proofs.Places.{in_flat, in_map, in_range, past}
 

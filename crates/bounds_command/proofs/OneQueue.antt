@@ -1,6 +1,6 @@
 -- What is promised of a queue is one, whichever list of its services it is the least over.
-use Rattle.std.proofs.Common.{◌≡◌, ℕ, zero, suc, ◌<◌, ◌≤◌, ◌*◌, ◌^◌, Option, Some, None, List, length, get_or, refl, sym, ◌∙◌, ap, ap₂, subst, arith}
-use Rattle.std.specs.Prelude.{MatchOption, Contains, All}
+use Rattle.std.proofs.Common.{◌≡◌, ℕ, zero, suc, ◌<◌, ◌≤◌, ◌*◌, Option, Some, None, List, length, get_or, refl, sym, ◌∙◌, ap₂, subst, arith}
+use Rattle.std.specs.Prelude.{MatchOption}
 use Rattle.std.proofs.lemmas.List.{get_or_default}
 use Rattle.arrival_lines.specs.Delays.{IsDelayAt}
 use Rattle.arrival_lines.specs.Backlogs.{IsBacklogAt}
@@ -11,7 +11,7 @@ use Rattle.arrival_lines.specs.declared.grid.Service.{Service}
 use Rattle.tree_network.specs.declared.network.Port.{Port}
 use Rattle.document_tables.specs.Grids.{grid_port}
 use Rattle.port_bounds.specs.Incoming.{Incoming, queue_in}
-use Rattle.port_bounds.specs.Rows.{IsRow, IsRowBy, IsLeastRow}
+use Rattle.port_bounds.specs.Rows.{IsRow, IsRowBy}
 use Rattle.port_bounds.specs.Services.{IsServiceOf, AreAll}
 use Rattle.bounds_command.proofs.Alike.{services_same}
 

@@ -1,12 +1,12 @@
 -- One reply on two tables, and its causes.
-use Rattle.std.proofs.Common.{◌≡◌, ◌≢◌, ◌⊎◌, ℕ, ◌<◌, Bool, true, false, if◌then◌else◌, Option, Ok, Err, List, [], ◌∷◌, ◌++◌, length, map, refl, sym, ◌∙◌, ap, ap₂, subst, arith, inl, inr}
+use Rattle.std.proofs.Common.{◌≡◌, ◌⊎◌, ℕ, Bool, true, false, if◌then◌else◌, Option, Ok, Err, List, [], ◌∷◌, ◌++◌, length, map, refl, sym, ◌∙◌, ap, ap₂, subst, arith, inl, inr}
 use Rattle.std.specs.Prelude.{slice_get, option_map}
 use Rattle.std.specs.List.{flat_map, range_with_len}
 use Rattle.arrival_lines.specs.declared.grid.Queue.{Queue}
 use Rattle.tree_network.specs.Networks.{IsNetwork, port_at, queues_of}
 use Rattle.tree_network.specs.declared.network.Network.{Network}
 use Rattle.tree_order.specs.declared.spots.Spot.{Spot}
-use Rattle.tree_order.specs.Spots.{spot_at, spots_of}
+use Rattle.tree_order.specs.Spots.{spots_of}
 use Rattle.tree_order.specs.Orders.{IsRing, IsNetworkRing}
 use Rattle.tree_order.proofs.InRange.{in_range}
 use Rattle.tree_order.proofs.Rings.{order_or_ring_is_one}
@@ -15,16 +15,15 @@ use Rattle.csv_rows.proofs.OneTable.{one_table}
 use Rattle.document_tables.specs.Tables.{LineRow}
 use Rattle.document_tables.specs.Documents.{DocumentText, FileFault, document_of}
 use Rattle.document_tables.specs.Grids.{BranchOnGrid}
-use Rattle.tree_bounds.specs.Tables.{IsTableOf, row_in, bounds_in}
+use Rattle.tree_bounds.specs.Tables.{IsTableOf, row_in}
 use Rattle.tree_bounds.specs.declared.analysis.Table.{Table}
 use Rattle.bounds_report.specs.declared.rows.Report.{Report}
 use Rattle.bounds_command.specs.declared.answer.Form.{Form}
 use Rattle.bounds_command.specs.Loads.{load_of, rates_at}
 use Rattle.bounds_command.specs.Replies.{Reply, AreSame, has_fault}
-use Rattle.bounds_command.specs.Reports.{IsNetworkOf, IsReportOf, QueueText, BranchText, queue_text, queues_at, all_queues, branch_text, last_port, name_at, some_missed, status_with}
-use Rattle.bounds_command.specs.View.{text_in}
-use Rattle.bounds_command.specs.OnTables.{Tables, name_of, lined, AreLinesOf, AreRowsOfBoth, Gives, IsFaulty, HasRing, IsReported, OfDocument, IsCyclic, IsDone, IsReplyOn}
-use Rattle.bounds_command.specs.Laws.{RepliesAreDetermined, RepliesAreComplete, StatusesHaveCauses, IsAnswerable, IsReportedWith, HasCause}
+use Rattle.bounds_command.specs.Reports.{IsNetworkOf, IsReportOf, QueueText, BranchText, queue_text, queues_at, all_queues, branch_text, name_at, some_missed, status_with}
+use Rattle.bounds_command.specs.OnTables.{Tables, name_of, lined, AreLinesOf, AreRowsOfBoth, Gives, IsFaulty, HasRing, IsReported, IsCyclic, IsDone}
+use Rattle.bounds_command.specs.Laws.{RepliesAreDetermined, RepliesAreComplete, StatusesHaveCauses}
 use Rattle.bounds_command.proofs.Alike.{AreAlike, map_same, ports_count, links_count, port_same, link_same, queues_same, load_same, last_same, spots_same, rates_same}
 use Rattle.bounds_command.proofs.OneTable as one_table
 use Rattle.bounds_command.proofs.OneText.{TellTheSame, status_same, text_same}

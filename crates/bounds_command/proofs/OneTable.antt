@@ -1,5 +1,5 @@
 -- Two networks of one document have one table: port by port in an order, and then along each link.
-use Rattle.std.proofs.Common.{◌≡◌, ◌⊎◌, ℕ, zero, suc, ◌<◌, ◌≤◌, ◌+◌, Option, Some, None, List, [], ◌∷◌, length, get_or, map, refl, sym, ◌∙◌, ap, ap₂, subst, arith, inl, inr}
+use Rattle.std.proofs.Common.{◌≡◌, ◌⊎◌, ℕ, zero, suc, ◌<◌, ◌≤◌, ◌+◌, Option, Some, None, List, [], length, get_or, refl, sym, ◌∙◌, ap, ap₂, subst, arith, inl, inr}
 use Rattle.std.specs.Prelude.{slice_get, option_map}
 use Rattle.std.proofs.lemmas.Bool.{cases_lt, cases_eq}
 use Rattle.std.proofs.lemmas.List.{get_or_past, length-map}
@@ -8,22 +8,21 @@ use Rattle.arrival_lines.specs.declared.grid.Line.{Line}
 use Rattle.arrival_lines.specs.declared.grid.Queue.{Queue}
 use Rattle.tree_network.specs.Networks.{IsNetwork, IsLink, HangsBefore, queues_of, port_at, node_at, no_node}
 use Rattle.tree_network.specs.declared.network.Node.{Node}
-use Rattle.tree_network.specs.declared.network.Port.{Port}
 use Rattle.tree_network.specs.declared.network.Link.{Link}
 use Rattle.tree_network.specs.declared.network.Network.{Network}
 use Rattle.tree_order.specs.declared.spots.Spot.{Spot}
 use Rattle.tree_order.specs.Spots.{spot_at, spots_of, AreSpots, ComesFrom}
-use Rattle.tree_order.specs.Orders.{IsOrderOf, GoesTo}
+use Rattle.tree_order.specs.Orders.{GoesTo}
 use Rattle.tree_order.proofs.InRange.{in_range}
-use Rattle.document_tables.specs.Grids.{PortOnGrid, LinkOnGrid, grid_port, grid_link}
+use Rattle.document_tables.specs.Grids.{PortOnGrid, LinkOnGrid, grid_link}
 use Rattle.port_bounds.specs.Incoming.{Incoming}
 use Rattle.port_bounds.specs.Rows.{IsRow}
 use Rattle.tree_bounds.specs.Lines.{first_line_of, later_line}
-use Rattle.tree_bounds.specs.Equations.{MeetsEquations, arrivals_of}
-use Rattle.tree_bounds.specs.Tables.{IsTableOf, AreBounds, items_of, row_in, bounds_in, time_at, time_after, time_before}
+use Rattle.tree_bounds.specs.Equations.{arrivals_of}
+use Rattle.tree_bounds.specs.Tables.{IsTableOf, items_of, row_in, bounds_in, time_after, time_before}
 use Rattle.tree_bounds.specs.declared.analysis.Table.{Table}
 use Rattle.tree_bounds.proofs.Done.{incomings_same}
-use Rattle.bounds_command.proofs.Alike.{AreAlike, ports_count, links_count, port_same, link_same, queues_same, first_same, spots_same, arrivals_same}
+use Rattle.bounds_command.proofs.Alike.{AreAlike, ports_count, port_same, link_same, queues_same, first_same, spots_same, arrivals_same}
 use Rattle.bounds_command.proofs.OneQueue.{row_is_one}
 use Rattle.bounds_command.proofs.Places.{past}
 

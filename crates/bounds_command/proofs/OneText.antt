@@ -1,6 +1,6 @@
 -- Reports that tell the same have one text and one status.
 use Rattle.std.proofs.Common.{◌≡◌, ◌||◌, ℕ, Bool, if◌then◌else◌, List, [], ◌∷◌, ◌++◌, length, map, refl, sym, ◌∙◌, ap, ap₂}
-use Rattle.std.specs.List.{flat_map, list_any}
+use Rattle.std.specs.List.{flat_map}
 use Rattle.std.proofs.lemmas.List.{length-map}
 use Rattle.bounds_report.specs.Lines.{report_lines, head_line, queue_line, branch_line}
 use Rattle.bounds_report.specs.Data.{report_json, queue_data, branch_data}

@@ -1,10 +1,10 @@
 -- The rows of queues, port by port.
-use Rattle.std.proofs.Common.{◌≡◌, ℕ, zero, suc, ◌<◌, ◌+◌, Option, Some, None, List, [], ◌∷◌, ◌++◌, length, get_or, map, refl, sym, ◌∙◌, ap, ap₂, arith}
+use Rattle.std.proofs.Common.{◌≡◌, ℕ, zero, suc, ◌<◌, ◌+◌, Option, None, List, [], ◌∷◌, ◌++◌, length, get_or, map, refl, sym, ◌∙◌, ap, ap₂, arith}
 use Rattle.std.specs.List.{flat_map, range_with_len}
-use Rattle.std.proofs.lemmas.List.{flat_map_more, get_or_past}
+use Rattle.std.proofs.lemmas.List.{flat_map_more}
 use Rattle.std.proofs.lemmas.List.FromFn.{map-range_with_len_more}
 use Rattle.arrival_lines.specs.declared.grid.Queue.{Queue}
-use Rattle.tree_network.specs.Networks.{IsNetwork, port_at, queues_of}
+use Rattle.tree_network.specs.Networks.{port_at, queues_of}
 use Rattle.tree_network.specs.declared.network.Port.{Port}
 use Rattle.tree_network.specs.declared.network.Network.{Network}
 use Rattle.document_tables.specs.Documents.{DocumentText}

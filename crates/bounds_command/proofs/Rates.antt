@@ -1,13 +1,13 @@
 -- The rates of links at queues, as they are added up.
-use Rattle.std.proofs.Common.{◌≡◌, ◌≢◌, ◌⊎◌, ℕ, ◌<◌, ◌≤◌, ◌+◌, ◌*◌, ◌^◌, ◌==◌, ◌&&◌, Bool, true, false, List, [], ◌∷◌, ◌++◌, length, get_or, set, take, map, replicate, Vec, refl, sym, ◌∙◌, ap, ap₂, subst, arith, inl, inr, length-append}
+use Rattle.std.proofs.Common.{◌≡◌, ◌≢◌, ◌⊎◌, ℕ, ◌<◌, ◌≤◌, ◌+◌, ◌*◌, ◌^◌, Bool, true, false, List, [], ◌∷◌, ◌++◌, length, get_or, set, take, map, replicate, Vec, refl, sym, ◌∙◌, ap, ap₂, subst, arith, inl, inr, length-append}
 use Rattle.std.specs.Prelude.{sum_by, All}
 use Rattle.std.specs.Int.{div_ceil}
 use Rattle.std.proofs.Math.Nat.{div-le_self, mul-le-mul_right}
 use Rattle.std.proofs.lemmas.Bool.{cases_lt, cases_eq}
 use Rattle.std.proofs.lemmas.Bool.Decides.{nat_tests}
-use Rattle.std.proofs.lemmas.List.{length-replicate, get_or-replicate, get_or_append_left, get_or_at, get_or-map, map-set, get_or-set_same, get_or-set_other, length-set, length-map, length-take, take_all, get_or_default}
+use Rattle.std.proofs.lemmas.List.{length-replicate, get_or-replicate, get_or_append_left, get_or_at, get_or-map, map-set, get_or-set_same, get_or-set_other, length-set, length-map, take_all, get_or_default}
 use Rattle.std.proofs.lemmas.List.Sums.{sum_by_more, sum_by-le, sum_by-take-le}
-use Rattle.tree_network.specs.Networks.{no_port, no_node, longest_frame, IsNetwork, IsLink, IsNodeAt, queues_of, port_at, node_at}
+use Rattle.tree_network.specs.Networks.{no_node, longest_frame, IsNetwork, IsLink, IsNodeAt}
 use Rattle.tree_network.specs.declared.network.Port.{Port}
 use Rattle.tree_network.specs.declared.network.Node.{Node}
 use Rattle.tree_network.specs.declared.network.Link.{Link}

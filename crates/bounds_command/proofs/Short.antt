@@ -1,21 +1,21 @@
 -- Bounds of a table fit 64 bits: a link passes no port twice, and takes less than 2 ^ 51 picoseconds at each.
-use Rattle.std.proofs.Common.{◌≡◌, ℕ, zero, suc, ◌<◌, ◌≤◌, ◌+◌, ◌*◌, ◌^◌, Option, Some, None, List, [], length, get_or, refl, sym, ◌∙◌, ap, subst, arith, inl, inr}
-use Rattle.std.specs.Prelude.{IfSome, MatchOption, slice_get, All}
+use Rattle.std.proofs.Common.{◌≡◌, ℕ, zero, suc, ◌<◌, ◌≤◌, ◌+◌, ◌*◌, ◌^◌, Option, Some, None, List, length, get_or, sym, subst, arith, inl, inr}
+use Rattle.std.specs.Prelude.{IfSome, MatchOption, slice_get}
 use Rattle.std.proofs.lemmas.Option.{slice_get_within, get_or_from_slice_get, slice_get_cases}
 use Rattle.arrival_lines.specs.Queues.{IsUnbounded, IsLeastQueue}
 use Rattle.arrival_lines.specs.declared.grid.Part.{Part}
 use Rattle.arrival_lines.specs.declared.grid.Queue.{Queue}
 use Rattle.arrival_lines.specs.declared.grid.Service.{Service}
-use Rattle.tree_network.specs.Networks.{IsNetwork, IsLink, PortIsInRange, HangsBefore, longest_time, queues_of, port_at, no_port, node_at}
+use Rattle.tree_network.specs.Networks.{IsNetwork, IsLink, HangsBefore, longest_time, queues_of, port_at, no_port, node_at}
 use Rattle.tree_network.specs.declared.network.Port.{Port}
 use Rattle.tree_network.specs.declared.network.Link.{Link}
 use Rattle.tree_network.specs.declared.network.Network.{Network}
 use Rattle.document_tables.specs.declared.document.BranchEnd.{BranchEnd}
 use Rattle.document_tables.specs.Documents.{IsBranchOf}
 use Rattle.port_bounds.specs.Incoming.{Incoming, queue_in}
-use Rattle.port_bounds.specs.Rows.{IsRow, IsRowBy, IsLeastRow}
+use Rattle.port_bounds.specs.Rows.{IsRowBy}
 use Rattle.tree_bounds.specs.Equations.{arrivals_of}
-use Rattle.tree_bounds.specs.Tables.{IsTableOf, AreBounds, row_in, bounds_in, time_at, time_after, time_before}
+use Rattle.tree_bounds.specs.Tables.{IsTableOf, AreBounds, row_in, bounds_in, time_after, time_before}
 use Rattle.tree_bounds.specs.declared.analysis.Table.{Table}
 use Rattle.bounds_command.proofs.Rates.{few_nodes}
 

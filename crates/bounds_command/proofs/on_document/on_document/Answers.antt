@@ -1,5 +1,4 @@
-use Rattle.std.proofs.Common.{◌≡◌, ◌<◌, ℕ, length, refl, inr}
-use Rattle.document_tables.specs.declared.document.BranchEnd.{BranchEnd}
+use Rattle.std.proofs.Common.{refl}
 use Rattle.document_tables.specs.Documents.{document_view}
 use Rattle.bounds_command.specs.Reports.{branch_text}
 use Rattle.bounds_command.proofs.Answered.{reported}

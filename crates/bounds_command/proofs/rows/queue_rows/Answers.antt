@@ -1,10 +1,9 @@
-use Rattle.std.proofs.Common.{◌≡◌, ◌<◌, ◌^◌, ◌++◌, [], ℕ, Vec, Global, List, None, length, get_or, map, sym, ◌∙◌, ap, ap₂, subst, arith}
-use Rattle.std.specs.List.{flat_map, range_with_len}
+use Rattle.std.proofs.Common.{◌<◌, ◌^◌, ◌++◌, [], ℕ, Vec, Global, List, length, get_or, sym, ◌∙◌, ap, ap₂, subst, arith}
 use Rattle.std.proofs.lemmas.List.{get_or_default}
 use Rattle.tree_network.specs.Networks.{no_port}
 use Rattle.document_tables.specs.Documents.{document_view}
 use Rattle.tree_bounds.specs.Tables.{items_of}
-use Rattle.bounds_command.specs.Reports.{QueueText, queue_view, queues_at}
+use Rattle.bounds_command.specs.Reports.{QueueText, queues_at}
 use Rattle.bounds_command.proofs.QueueRows.{port_rows, ports_more}
 use Rattle.bounds_command.proofs.Rates.{rates_fit}
 use Rattle.bounds_command.proofs.rows.queue_rows.Goals as goal
