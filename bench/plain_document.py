@@ -350,6 +350,16 @@ def thousandths(found):
     return f"{found // 1000}.{found % 1000:03}"
 
 
+def exact(deadline):
+    """Three digits behind the point, or as many more as it takes, up to 18; else a fraction in lowest terms."""
+    for digits in range(3, 19):
+        tens = 10**digits
+        if deadline * tens % 1 == 0:
+            whole = int(deadline * tens)
+            return f"{whole // tens}.{whole % tens:0{digits}}"
+    return f"{deadline.numerator}/{deadline.denominator}"
+
+
 def or_none(found, text):
     return "none" if found is None else text(found)
 
@@ -379,7 +389,7 @@ def branch_rows(links, branches, bounds):
         bound = bounds[numbers[name]][places[name][port]]
         row = {"link": name, "port": port, "bound": or_none(bound, microseconds)}
         if deadline is not None:
-            row["deadline"] = thousandths(up_to(deadline, 1000))
+            row["deadline"] = exact(deadline)
             row["met"] = bound is not None and bound <= deadline * PICOSECONDS
         yield row
 
