@@ -1,0 +1,12 @@
+pub mod Places
+pub mod Rates
+pub mod QueueRows
+pub mod Short
+pub mod Kept
+pub mod Deadlines
+pub mod Answered
+pub mod Alike
+pub mod OneQueue
+pub mod OneTable
+pub mod OneText
+pub mod OneReply

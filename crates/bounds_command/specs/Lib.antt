@@ -2,4 +2,6 @@ pub mod Replies
 pub mod View
 pub mod Loads
 pub mod Reports
+pub mod Promises
 pub mod OnTables
+pub mod Laws

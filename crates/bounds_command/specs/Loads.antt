@@ -1,5 +1,5 @@
 -- The load of a queue: the rates of the links that pass it, together, over the rate of its port.
-use Rattle.std.specs.Prelude.{◌≡◌, ◌<◌, ◌*◌, ◌^◌, ◌==◌, ◌&&◌, ℕ, Bool, List, [], length, get_or, sum_by, Option, Some, None, if◌then◌else◌}
+use Rattle.std.specs.Prelude.{◌≡◌, ◌<◌, ◌+◌, ◌*◌, ◌==◌, ◌&&◌, ℕ, Bool, List, [], length, set, get_or, sum_by, Option, Some, None, if◌then◌else◌}
 use Rattle.std.specs.Int.{div_ceil}
 use Rattle.tree_network.specs.Networks.{queues_of, no_port}
 use Rattle.tree_network.specs.declared.network.Node.{Node}
@@ -7,10 +7,7 @@ use Rattle.tree_network.specs.declared.network.Link.{Link}
 use Rattle.tree_network.specs.declared.network.Port.{Port}
 use Rattle.tree_network.specs.declared.network.Network.{Network}
 use Rattle.port_bounds.specs.Ports.{port_service}
-
--- the rate of a link, in grains a second, rounded up
-abbrev pub rate_of : Link → ℕ
-rate_of link = div_ceil (link.frame * 1024 * 10 ^ 12) link.gap
+use Rattle.tree_bounds.specs.Lines.{rate_of}
 
 -- the node is at queue q of port s
 abbrev pub is_at : (s q : ℕ) → Node → Bool
@@ -20,7 +17,7 @@ is_at s q node = (node.port == s) && (node.queue == q)
 abbrev pub brought : (s q rate : ℕ) → Node → ℕ
 brought s q rate node = if is_at s q node then rate else 0
 
--- what a link brings there
+-- what a link brings there: its rate, in grains a second, rounded up
 abbrev pub brought_by : (s q : ℕ) → Link → ℕ
 brought_by s q link = sum_by (brought s q (rate_of link)) link.nodes.items
 
@@ -34,6 +31,10 @@ rates_at net = rates_in net.links.items
 -- one number for each queue of each of these ports: the rates of these links there
 abbrev pub at : List (List ℕ) → (s q : ℕ) → ℕ
 at rates s q = get_or (get_or rates s []) q 0
+
+-- so much more at queue q of port s
+abbrev pub with_more : List (List ℕ) → (s q rate : ℕ) → List (List ℕ)
+with_more rates s q rate = set rates s (set (get_or rates s []) q (at rates s q + rate))
 
 abbrev pub queues_in : List Port → ℕ → ℕ
 queues_in ports s = queues_of (get_or ports s no_port).discipline

@@ -1,7 +1,7 @@
 -- What is answered on the bytes of two tables: the first fault of the document, a ring of its ports, or the report on
 -- its bounds.
 use Rattle.std.specs.Prelude.{◌≡◌, ◌⊎◌, ℕ, List, map, Ok, Err}
-use Rattle.csv_rows.specs.Rows.{AreRowsOf}
+use Rattle.csv_rows.specs.Rows.{LinedRow, AreLinedRowsOf}
 use Rattle.document_tables.specs.declared.fault.TableFile.{TableFile}
 use Rattle.document_tables.specs.declared.fault.TableFile.TheVariants.{Ports, Links}
 use Rattle.document_tables.specs.Tables.{LineRow}
@@ -13,6 +13,7 @@ use Rattle.tree_bounds.specs.Tables.{IsTableOf}
 use Rattle.tree_bounds.specs.declared.analysis.Table.{Table}
 use Rattle.bounds_report.specs.declared.rows.Report.{Report}
 use Rattle.bounds_command.specs.declared.answer.Form.{Form}
+use Rattle.bounds_command.specs.Promises.{Guarantees}
 use Rattle.bounds_command.specs.Replies.{Reply, has_fault, goes_round}
 use Rattle.bounds_command.specs.Reports.{IsNetworkOf, IsReportOf, name_at, status_with}
 use Rattle.bounds_command.specs.View.{text_in}
@@ -28,14 +29,20 @@ abbrev pub tables : (ports_file ports links_file links : List ℕ) → Tables
 tables ports_file ports links_file links =
     record { ports_file = ports_file; ports = ports; links_file = links_file; links = links }
 
+abbrev pub named : (ports links : List ℕ) → TableFile → List ℕ
+named ports links Ports = ports
+named ports links Links = links
+
 abbrev pub name_of : Tables → TableFile → List ℕ
-name_of t Ports = t.ports_file
-name_of t Links = t.links_file
+name_of t file = named t.ports_file t.links_file file
 
 -- ---- rows
--- the cells are those of the bytes; on which line a row begins no definition says
+-- those of the bytes, each with the line on which it begins
+abbrev pub lined : LineRow → LinedRow
+lined row = (row.line, row.cells)
+
 abbrev pub AreLinesOf : List ℕ → List LineRow → Type 0
-AreLinesOf bytes rows = AreRowsOf bytes (map (λ row. row.cells) rows)
+AreLinesOf bytes rows = AreLinedRowsOf bytes (map lined rows)
 
 -- the rows of both tables
 pub record AreRowsOfBoth (t : Tables) (ports links : List LineRow) : Type 0 where
@@ -66,12 +73,14 @@ pub record HasRing (d : DocumentText) (net : Network) (reply : Reply) : Type 0 w
   pub goes : IsNetworkRing net ring
   pub is : reply ≡ goes_round (map (name_at d.port_names) ring)
 
--- the report of a table that meets the equations, in a form; its status tells whether a deadline is missed
+-- the report of a table that meets the equations, in a form; its status tells whether a deadline is missed, and each
+-- lawful run of the network that keeps the premises keeps what it says
 pub record IsReported (d : DocumentText) (net : Network) (form : Form) (reply : Reply) : Type 0 where
   pub table : Table
   pub bounded : IsTableOf net table
   pub report : Report
   pub tells : IsReportOf d net table report
+  pub guarantees : Guarantees d net report
   pub is : reply ≡ record { status = status_with report; bytes = text_in form report }
 
 abbrev pub IsReplyOnDocument : DocumentText → Network → Form → Reply → Type 0

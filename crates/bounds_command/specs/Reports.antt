@@ -1,5 +1,5 @@
 -- What a report tells of a document and a table of its network's bounds.
-use Rattle.std.specs.Prelude.{◌≡◌, ◌^◌, ℕ, nat_lt, Bool, false, not, List, [], length, map, slice_get, get_or, unwrap_or, Option, Some, None, option_map, if◌then◌else◌}
+use Rattle.std.specs.Prelude.{◌≡◌, ℕ, Bool, false, not, List, [], length, map, slice_get, get_or, unwrap_or, Option, Some, None, option_map, if◌then◌else◌}
 use Rattle.std.specs.List.{flat_map, list_any, range_with_len}
 use Rattle.arrival_lines.specs.declared.grid.Queue.{Queue}
 use Rattle.table_cells.specs.declared.amount.Amount.{Amount}
@@ -70,21 +70,19 @@ queues_at d net table s =
 abbrev pub all_queues : DocumentText → Network → Table → List QueueText
 all_queues d net table = flat_map (queues_at d net table) (range_with_len 0 (length net.ports.items))
 
--- a bound of 2 ^ 64 picoseconds or more is none: with at most 64 ports on a path none is half as long
-abbrev pub in_64_bits : Option ℕ → Option ℕ
-in_64_bits None = None
-in_64_bits (Some bound) = if nat_lt bound (2 ^ 64) then Some bound else None
-
 -- of a branch: the names of its link and of its last port, and what the table says of the end behind that
 abbrev pub port_in : Option Link → ℕ → ℕ
 port_in None place = 0
 port_in (Some link) place = (node_at link place).port
 
+abbrev pub last_port : Network → BranchOnGrid → ℕ
+last_port net b = port_in (slice_get net.links.items b.link) b.node
+
 abbrev pub branch_text : DocumentText → Network → Table → BranchOnGrid → BranchText
 branch_text d net table b = record {
   link = name_at d.link_names b.link;
-  port = name_at d.port_names (port_in (slice_get net.links.items b.link) b.node);
-  bound = in_64_bits (get_or (bounds_in table b.link) b.node None);
+  port = name_at d.port_names (last_port net b);
+  bound = get_or (bounds_in table b.link) b.node None;
   deadline = b.deadline;
 }
 

@@ -3,12 +3,15 @@
 #![tactic(auto)]
 
 mod answer;
+mod answering;
+mod laws;
 mod loads;
 mod on_document;
-mod on_tables;
+
 mod refusals;
 mod rows;
 
 pub use answer::{Answer, Form, Status};
-pub use on_tables::on_tables;
+pub use laws::{replies_are_complete, replies_are_determined, statuses_have_causes};
+pub use answering::on_tables;
 pub use refusals::{cannot_read, too_long};

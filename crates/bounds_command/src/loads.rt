@@ -1,15 +1,14 @@
 //! The loads of queues.
 
-ghost use Rattle.std.specs.Prelude.{◌≡◌, ◌<◌, ◌≤◌, ◌^◌, [], ◌∷◌, ◌++◌, List, length, IfOk};
-ghost use Rattle.tree_network.specs.declared.network.Link.{Link};
-ghost use Rattle.tree_network.specs.Networks.{IsLink, IsNetwork, PortIsInRange};
+ghost use Rattle.std.specs.Prelude.{◌≡◌, ◌<◌, ◌+◌, ◌^◌, [], length, take, get_or, IfOk};
+ghost use Rattle.tree_network.specs.Networks.{IsNetwork, PortIsInRange};
 ghost use Rattle.tree_bounds.specs.Tables.{items_of};
-ghost use Rattle.bounds_command.specs.Loads.{AreRates, load_of};
+ghost use Rattle.bounds_command.specs.Loads.{AreRates, at, with_more, load_of};
 
 use arrival_lines::{link_rate, load};
 use port_bounds::own_service;
 use std::alloc::{AllocError, Global};
-use tree_network::{Link, Network, Port};
+use tree_network::{Network, Port};
 
 /// The grains of a bit.
 const GRAINS: u64 = 1024;
@@ -25,18 +24,27 @@ fn no_rates(alloc: Global, ports: &[Port]) -> Result<Vec<Vec<u128>>, AllocError>
     Ok(rates)
 }
 
-// Adds the rate of a link at each queue that it passes.
-fn add_link(network: &Network, rates: &mut Vec<Vec<u128>>, link: &Link)
-    requires network { IsNetwork network.now }
-    requires link { IsLink network.now link.now }
-    requires rates { (done : List Link) × (length done < 16384)
-        × AreRates network.now.ports.items done (items_of rates.old.items) }
-    ensures { (done : List Link) → AreRates network.now.ports.items done (items_of rates.old.items)
-        → AreRates network.now.ports.items (done ++ link.now ∷ []) (items_of rates.new.items) }
+// Adds a rate at a queue of a port.
+fn add_at(rates: &mut [Vec<u128>], port: usize, queue: usize, rate: u128)
+    requires port { port < length rates.old }
+    requires queue { queue < length (get_or (items_of rates.old) port []) }
+    requires fits { at (items_of rates.old) port queue + rate < 2 ^ 128 }
+    ensures { items_of rates.new ≡ with_more (items_of rates.old) port queue rate }
 {
+    rates[port][queue] += rate;
+}
+
+// Adds the rate of the link of this number at each queue that it passes.
+fn add_link(network: &Network, rates: &mut [Vec<u128>], number: usize)
+    requires network { IsNetwork network.now }
+    requires inside { number < length network.now.links.items }
+    requires rates { AreRates network.now.ports.items (take number network.now.links.items) (items_of rates.old) }
+    ensures { AreRates network.now.ports.items (take (number + 1) network.now.links.items) (items_of rates.new) }
+{
+    let link = &network.links[number];
     let rate = link_rate(link.frame * GRAINS, link.gap);
     for node in &link.nodes {
-        rates[node.port][node.queue] += rate;
+        add_at(rates, node.port, node.queue, rate);
     }
 }
 
@@ -46,8 +54,8 @@ pub(crate) fn rates_of(alloc: Global, network: &Network) -> Result<Vec<Vec<u128>
     ensures { IfOk result (λ rates. AreRates network.now.ports.items network.now.links.items (items_of rates.items)) }
 {
     let mut rates = no_rates(alloc, &network.ports)?;
-    for link in &network.links {
-        add_link(network, &mut rates, link);
+    for number in 0..network.links.len() {
+        add_link(network, &mut rates, number);
     }
     Ok(rates)
 }
@@ -61,5 +69,9 @@ pub(crate) fn load_at(port: &Port, rates: u128) -> Option<u128>
     if rates == 0 {
         return Some(0);
     }
-    load(rates, own_service(port).rate)
+    let rate = own_service(port).rate;
+    if rate == 0 {
+        return None;
+    }
+    load(rates, rate)
 }

@@ -1,9 +1,9 @@
 //! The rows of a report.
 
-ghost use Rattle.std.specs.Prelude.{◌≡◌, ◌<◌, ◌^◌, ◌++◌, None, length, map, get_or, option_map, All, IfOk, OnOk};
+ghost use Rattle.std.specs.Prelude.{◌≡◌, ◌<◌, ◌^◌, ◌++◌, [], None, length, map, get_or, option_map, All, IfSome, IfOk, OnOk};
 ghost use Rattle.tree_network.specs.Networks.{IsNetwork, PortIsInRange};
 ghost use Rattle.document_tables.specs.Documents.{IsBranchOf, document_view, end_view};
-ghost use Rattle.tree_bounds.specs.Tables.{IsTableOf};
+ghost use Rattle.tree_bounds.specs.Tables.{IsTableOf, items_of, bounds_in};
 ghost use Rattle.bounds_command.specs.Reports as spec;
 ghost use Rattle.bounds_command.specs.Reports.{queue_view, branch_view};
 
@@ -14,7 +14,7 @@ use bounds_report::{BranchRow, QueueRow, Report, is_met};
 use document_tables::{BranchEnd, Document};
 use std::alloc::{AllocError, Global};
 use tree_bounds::Table;
-use tree_network::Port;
+use tree_network::{Network, Port};
 
 fn delay_in(found: Option<Queue>) -> Option<u64>
     ensures { result ≡ option_map (λ q. q.delay) found }
@@ -76,6 +76,22 @@ fn push_port<'a>(
     Ok(())
 }
 
+// What is promised of the queues of a port.
+fn found_at(table: &Table, port: usize) -> &[Option<Queue>]
+    requires { port < length table.now.rows.items }
+    ensures { result.now ≡ get_or (items_of table.now.rows.items) port [] }
+{
+    &table.rows[port]
+}
+
+// The rates of the links at the queues of a port.
+fn rates_at(rates: &[Vec<u128>], port: usize) -> &[u128]
+    requires { port < length rates.now }
+    ensures { result.now ≡ get_or (items_of rates.now) port [] }
+{
+    &rates[port]
+}
+
 // The rows of all queues.
 fn queue_rows<'a>(
     alloc: Global,
@@ -97,8 +113,8 @@ fn queue_rows<'a>(
             &mut rows,
             name,
             &ports[number],
-            &rates[number],
-            &table.rows[number],
+            rates_at(&rates, number),
+            found_at(table, number),
         )?;
     }
     Ok(rows)
@@ -106,32 +122,46 @@ fn queue_rows<'a>(
 
 // A bound that has 64 bits.
 fn short(bound: Option<u128>) -> Option<u64>
-    ensures { result ≡ spec.in_64_bits bound }
+    requires { IfSome bound (λ b. b < 2 ^ 64) }
+    ensures { result ≡ bound }
 {
     match bound {
-        Some(bound) => {
-            if bound <= u64::MAX as u128 {
-                Some(bound as u64)
-            } else {
-                None
-            }
-        }
+        Some(bound) => Some(bound as u64),
         None => None,
     }
 }
 
+// The last port of a branch.
+fn last_port(network: &Network, end: &BranchEnd) -> usize
+    requires { IsBranchOf network.now end.now }
+    ensures { result ≡ spec.last_port network.now (end_view end.now) }
+{
+    network.links[end.link].nodes[end.node].port
+}
+
+// The bound of a node of a link.
+fn bound_at(table: &Table, link: usize, node: usize) -> Option<u64>
+    requires link { link < length table.now.bounds.items }
+    requires node { node < length (bounds_in table.now link) }
+    requires small { IfSome (get_or (bounds_in table.now link) node None) (λ b. b < 2 ^ 64) }
+    ensures { result ≡ get_or (bounds_in table.now link) node None }
+{
+    short(table.bounds[link][node])
+}
+
 // The row of a branch.
 fn branch_row<'a>(document: &'a Document, table: &Table, end: &BranchEnd) -> BranchRow<'a>
+    requires network { IsNetwork document.now.network }
     requires table { IsTableOf document.now.network table.now }
     requires end { IsBranchOf document.now.network end.now }
     ensures { branch_view result
         ≡ spec.branch_text (document_view document.now) document.now.network table.now (end_view end.now) }
 {
-    let port = document.network.links[end.link].nodes[end.node].port;
+    let port = last_port(&document.network, end);
     BranchRow {
         link: name_of(&document.link_names, end.link),
         port: name_of(&document.port_names, port),
-        bound: short(table.bounds[end.link][end.node]),
+        bound: bound_at(table, end.link, end.node),
         deadline: end.deadline,
     }
 }
@@ -142,6 +172,7 @@ fn branch_rows<'a>(
     document: &'a Document,
     table: &Table,
 ) -> Result<Vec<BranchRow<'a>>, AllocError>
+    requires network { IsNetwork document.now.network }
     requires table { IsTableOf document.now.network table.now }
     requires ends { All (IsBranchOf document.now.network) document.now.branches.items }
     ensures { IfOk result (λ rows. map branch_view rows.items

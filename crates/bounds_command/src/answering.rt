@@ -1,8 +1,8 @@
 //! The answer on two tables.
 
 ghost use Rattle.std.specs.Prelude.{◌≡◌, ◌≤◌, ℕ, List, map, IfOk};
-ghost use Rattle.csv_rows.specs.Rows.{AreRowsOf, cells_of};
-ghost use Rattle.bounds_command.specs.OnTables.{tables, IsReplyOn};
+ghost use Rattle.csv_rows.specs.Rows.{AreLinedRowsOf, lined_of};
+ghost use Rattle.bounds_command.specs.OnTables.{tables, named, IsReplyOn};
 ghost use Rattle.bounds_command.specs.View.{reply_of};
 
 use crate::answer::{Answer, Form};
@@ -11,6 +11,16 @@ use crate::refusals::breaks_rule;
 use csv_rows::{TableRow, read_table};
 use document_tables::{DocumentError, TableFile, read_document};
 use std::alloc::{AllocError, Global};
+
+// The name of a file.
+fn file_named<'a>(file: TableFile, ports: &'a str, links: &'a str) -> &'a str
+    ensures { result.now ≡ named ports.now links.now file }
+{
+    match file {
+        TableFile::Ports => ports,
+        TableFile::Links => links,
+    }
+}
 
 // The answer on the rows of two tables with these names.
 fn on_rows(
@@ -23,17 +33,14 @@ fn on_rows(
     form: Form,
 ) -> Result<Answer, AllocError>
     requires { overhead ≤ 1048576 }
-    ensures { (port_bytes link_bytes : List ℕ) → AreRowsOf port_bytes (map cells_of ports.now)
-        → AreRowsOf link_bytes (map cells_of links.now)
+    ensures { (port_bytes link_bytes : List ℕ) → AreLinedRowsOf port_bytes (map lined_of ports.now)
+        → AreLinedRowsOf link_bytes (map lined_of links.now)
         → IfOk result (λ r. IsReplyOn (tables ports_file.now port_bytes links_file.now link_bytes) overhead form (reply_of r)) }
 {
     match read_document(alloc, ports, links, overhead) {
         Ok(document) => on_document(alloc, &document, form),
-        Err(DocumentError::Fault(TableFile::Ports, fault)) => {
-            breaks_rule(alloc, ports_file, &fault)
-        }
-        Err(DocumentError::Fault(TableFile::Links, fault)) => {
-            breaks_rule(alloc, links_file, &fault)
+        Err(DocumentError::Fault(file, fault)) => {
+            breaks_rule(alloc, file_named(file, ports_file, links_file), &fault)
         }
         Err(DocumentError::NoMemory) => Err(AllocError),
     }

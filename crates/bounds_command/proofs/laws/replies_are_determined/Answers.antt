@@ -1,0 +1,5 @@
+use Rattle.bounds_command.proofs.OneReply.{replies_are_determined}
+use Rattle.bounds_command.proofs.laws.replies_are_determined.Goals as goal
+
+pub returns : goal.returns
+returns c = replies_are_determined
