@@ -3,13 +3,13 @@ use Rattle.std.proofs.Common.{◌≡◌, ◌≢◌, ◌⊎◌, ℕ, Bool, true, 
 use Rattle.std.proofs.Common.{inr, refl, sym, ap, ◌∙◌, subst, arith}
 use Rattle.std.proofs.lemmas.Bool.{cases_eq}
 use Rattle.bounds_command.specs.declared.answer.Form.{Form}
-use Rattle.bounds_command.specs.Laws.{HasCause, IsReport}
+use Rattle.bounds_command.specs.Laws.{IsReport}
 use Rattle.bounds_command.specs.OnTables.{IsCyclic, IsFaulty, IsReplyOn, Tables, tables}
 use Rattle.bounds_command.specs.Replies.{AreSame, Reply, cannot_read, too_long}
 use Rattle.bounds_command.proofs.OneReply as law
 use Rattle.netbound_words.specs.Requests.{Bounds, Help, Request, Version}
-use Rattle.netbound_cli.specs.Calls.{Call, call_of, files_of, form_of, help, text_of, usage, version}
-use Rattle.netbound_cli.specs.Files.{AllFit, FirstIs, FirstLong, IsTooLong, MayHoldAll, Told, all_told}
+use Rattle.netbound_cli.specs.Calls.{Call, call_of, files_of, form_of, text_of}
+use Rattle.netbound_cli.specs.Files.{AllFit, FirstIs, IsTooLong, MayHoldAll, Told, all_told}
 use Rattle.netbound_cli.specs.Laws.{RepliesAreDetermined}
 use Rattle.netbound_cli.specs.Reply.{AnswersWhatItCan, Brings, EndsAt, FailedAt, Gives, GivesOnTold, IsAnswerableCall}
 use Rattle.netbound_cli.specs.Reply.{IsReplyOnFiles, MayReply, MayReplyTo, OnTables}

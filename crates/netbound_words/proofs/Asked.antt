@@ -1,11 +1,8 @@
 -- What is asked for, by what a parse of the words gives.
-use Rattle.std.proofs.Common.{◌≡◌, ◌⊎◌, ℕ, Bool, true, List, [], ◌∷◌, Option, Some, None, Result, Ok, Err, inl, inr}
+use Rattle.std.proofs.Common.{◌≡◌, ◌⊎◌, true, List, [], ◌∷◌, Result, inl, inr}
 use Rattle.std.proofs.Common.{refl, sym, ap, ap₂, subst, ◌∙◌}
-use Rattle.std.specs.Prelude.{codes}
-use Rattle.clap.specs.Simple.{App, built, matches_of}
-use Rattle.clap.specs.Words.{HasKind, IsAmong, Kinds, Row, Text, fault_of, first_of, is_simple, is_simple_and_free}
-use Rattle.clap.specs.Values.{kind_of}
-use Rattle.clap.specs.declared.error.Error.{Error}
+use Rattle.clap.specs.Simple.{App, matches_of}
+use Rattle.clap.specs.Words.{IsAmong, Kinds, Row, Text, fault_of, is_simple, is_simple_and_free}
 use Rattle.clap.specs.declared.error.kind.ErrorKind.{ErrorKind}
 use Rattle.clap.specs.declared.error.kind.ErrorKind.TheVariants as kind
 use Rattle.netbound_words.specs.Apps.{netbound}
@@ -29,28 +26,6 @@ by_matches app words rows same none matches =
     let kinds : fault_of netbound words ≡ [] = ap (λ (a : App). fault_of a words) (sym same) ∙ none in
     let is : matches_of netbound words ≡ rows = ap (λ (a : App). matches_of a words) (sym same) ∙ sym matches in
     ap₂ (λ (ks : Kinds) (rs : List Row). requests.asked_by ks rs) kinds is
-
-pub no_ports : (rows : List Row) → first_of (codes "ports") rows ≡ None
-    → ◌≡◌ {A = Option requests.Request} None (requests.bounds_in rows)
-no_ports rows none = rw none refl
-
-pub no_links : (rows : List Row) (ports : Text) → first_of (codes "ports") rows ≡ Some ports
-    → first_of (codes "links") rows ≡ None
-    → ◌≡◌ {A = Option requests.Request} None (requests.bounds_in rows)
-no_links rows ports a none = rw (a, none) refl
-
-pub no_overhead : (rows : List Row) (ports links : Text) → first_of (codes "ports") rows ≡ Some ports
-    → first_of (codes "links") rows ≡ Some links → requests.overhead_in (first_of (codes "overhead") rows) ≡ None
-    → ◌≡◌ {A = Option requests.Request} None (requests.bounds_in rows)
-no_overhead rows ports links a b none = rw (a, b, none) refl
-
-pub all_given : (rows : List Row) (ports links : Text) (overhead : ℕ) (json : Bool)
-    → first_of (codes "ports") rows ≡ Some ports
-    → first_of (codes "links") rows ≡ Some links
-    → requests.overhead_in (first_of (codes "overhead") rows) ≡ Some overhead
-    → json ≡ requests.asks_json rows
-    → ◌≡◌ {A = Option requests.Request} (Some (requests.Bounds ports links overhead json)) (requests.bounds_in rows)
-all_given rows ports links overhead json a b o j = rw (a, b, o, j) refl
 
 -- ---- refused words
 by_kind : (k : ErrorKind) (rows : List Row) (r : Result Request WordFault) → IsRefusal k r

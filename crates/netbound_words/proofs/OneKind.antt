@@ -5,17 +5,17 @@ use Rattle.std.specs.Prelude.{◌+◌, ◌==◌, ◌&&◌, encode_utf8, is_some,
 use Rattle.std.specs.Option.{option_map_or}
 use Rattle.std.specs.List.{list_any}
 use Rattle.std.specs.Str.{bytes_eq}
-use Rattle.clap.specs.Walk.{Held, Step, next, trailing, subcommand, value, idle, option, positional, Names, Row, Rule}
+use Rattle.clap.specs.Walk.{Held, Step, next, trailing, subcommand, value, idle, option, positional, Row, Rule}
 use Rattle.clap.specs.Walk.{Text, Waiting, Walk, action_of}
-use Rattle.clap.specs.Walk.{answers_to, arg_by_id, arg_by_index, arg_by_long, arg_by_short, attached_value, count_of}
-use Rattle.clap.specs.Walk.{finished, has_row, is_empty}
+use Rattle.clap.specs.Walk.{arg_by_id, arg_by_index, arg_by_long, arg_by_short, attached_value, count_of}
+use Rattle.clap.specs.Walk.{finished}
 use Rattle.clap.specs.Walk.{is_pending, most_values, nothing_held, reacted, settled, subcommand_met, takes_several}
-use Rattle.clap.specs.Walk.{takes_values, values_or_missing, walk, walk_from, walked, with_default, word_met}
+use Rattle.clap.specs.Walk.{values_or_missing, walk, walk_from, walked, with_default, word_met}
 use Rattle.clap.specs.Lexer.{long_of}
 use Rattle.clap.specs.Matches.{count_text}
 use Rattle.clap.specs.Facts.{explicit_source, parser_of_value, unwrap_or_range}
 use Rattle.clap.specs.Takes.{is_given}
-use Rattle.clap.specs.Simple.{App, Shape, argument_words, built, entered, label_of, names_of}
+use Rattle.clap.specs.Simple.{App, Shape, argument_words, built, label_of, names_of}
 use Rattle.clap.specs.Kinds.{IsAmong, Kinds, check_kinds, or_else, range_kinds, request_kinds, value_kinds}
 use Rattle.clap.specs.Kinds.{values_kinds}
 use Rattle.clap.specs.Faults

@@ -1,7 +1,7 @@
-use Rattle.std.proofs.Common.{◌≡◌, Some, inl, sym, ap, ◌∙◌}
+use Rattle.std.proofs.Common.{◌≡◌, Some, sym, ap}
 use Rattle.std.proofs.lemmas.Result.{IfOk-weaker}
 use Rattle.bounds_command.specs.View.{reply_of}
-use Rattle.netbound_words.specs.Requests.{Help, Request, request_of, texts}
+use Rattle.netbound_words.specs.Requests.{Help, request_of, texts}
 use Rattle.netbound_cli.proofs.Outcomes.{may_reply_text}
 use Rattle.netbound_cli.proofs.top_call.answered.Goals as goal
 

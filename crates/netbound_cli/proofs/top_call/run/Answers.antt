@@ -1,4 +1,4 @@
-use Rattle.std.proofs.Common.{◌≡◌, refl, sym, ap, ◌∙◌}
+use Rattle.std.proofs.Common.{refl, sym, ◌∙◌}
 use Rattle.bounds_command.specs.View.{reply_of}
 use Rattle.netbound_words.specs.Requests.{request_of, texts}
 use Rattle.netbound_cli.proofs.Outcomes.{never, no_outcome, outcome}
