@@ -1,12 +1,12 @@
 -- What the program answers on words and files, and what it means that the answer is given.
-use Rattle.std.specs.Prelude.{◌≡◌, ◌⊎◌, ℕ, List, [], ◌∷◌, Option, Some, None, IfSome}
+use Rattle.std.specs.Prelude.{◌≡◌, ◌⊎◌, ℕ, List, [], ◌∷◌, Option, Some, IfSome}
 use Rattle.std.specs.Io.KnownBytes.{Appends}
 use Rattle.outside.specs.Faults.{Rose}
 use Rattle.outside.specs.Written.{AppendsFront}
-use Rattle.tree_order.specs.Orders.{IsNetworkOrder}
 use Rattle.bounds_command.specs.declared.answer.Form.{Form}
 use Rattle.bounds_command.specs.Replies.{Reply, cannot_read, too_long}
-use Rattle.bounds_command.specs.OnTables.{Tables, tables, OfDocument, IsReplyOn}
+use Rattle.bounds_command.specs.OnTables.{Tables, tables, IsReplyOn}
+use Rattle.bounds_command.specs.Laws.{IsAnswerable}
 use Rattle.netbound_words.specs.Requests.{Request}
 use Rattle.netbound_cli.specs.Calls.{Call, call_of, text_of, files_of}
 use Rattle.netbound_cli.specs.Files.{Told, IsTooLong, MayHoldAll, FirstIs, FirstLong, AllFit, all_told}
@@ -71,11 +71,7 @@ GivesOnTold c told status old new = IfSome (all_told told (files_of c)) (λ file
     ((reply : Reply) × IsReplyOnFiles c files reply × Gives status old new reply)
     ⊎ ((status ≡ 3) ⊎ ((status ≡ 4) ⊎ (status ≡ 5))))
 
--- The tables are a document whose ports have an order in which no link goes back.
-abbrev pub IsAnswerable : Tables → ℕ → Type 0
-IsAnswerable t overhead = OfDocument t overhead (λ d net. (order : List ℕ) × IsNetworkOrder net order)
-
--- so are those of a call that hold these bytes
+-- The tables of a call that hold these bytes are a document without a fault, whose links go round nowhere.
 abbrev pub IsAnswerableCall : Call → List (List ℕ) → Type 0
 IsAnswerableCall c (ports ∷ links ∷ []) =
     IsAnswerable (tables c.ports ports c.links links) c.overhead

@@ -6,15 +6,17 @@ ghost use Rattle.netbound_cli.specs.Files.{most_bytes, MayHold, MayHoldAll, AllF
 ghost use Rattle.netbound_cli.specs.Reply.{EndsAt};
 
 use bounds_command::{Answer, cannot_read, too_long};
-use outside::NoMemory;
+use outside::{FetchFault, Inputs, NoMemory};
 use std::alloc::Global;
-use table_files::{FetchFault, TableFiles};
+
+// The most bytes that a table may have.
+const MOST_BYTES: usize = 16_777_216;
 
 /// The answer that stands in place of files.
 pub(crate) type Ended = Result<Answer, NoMemory>;
 
 /// The bytes of a file, or the answer that it could not be read or is too long.
-fn fetch_one<I: TableFiles>(alloc: Global, file: &str, inputs: &mut I) -> Result<Vec<u8>, Ended>
+fn fetch_one<I: Inputs>(alloc: Global, file: &str, inputs: &mut I) -> Result<Vec<u8>, Ended>
     ensures held { IfOk result (λ bytes. MayHold (I.content inputs.old file.now) bytes.items) }
     ensures fits { IfOk result (λ bytes. length bytes.items ≤ most_bytes) }
     ensures ended { IfErr result (λ ended. IfOk ended (λ r.
@@ -23,7 +25,7 @@ fn fetch_one<I: TableFiles>(alloc: Global, file: &str, inputs: &mut I) -> Result
     ensures same { (other : List ℕ) → I.content inputs.new other ≡ I.content inputs.old other }
 {
     let mut bytes = Vec::new(alloc);
-    match inputs.fetch(file, &mut bytes) {
+    match inputs.fetch(file, MOST_BYTES, &mut bytes) {
         Ok(()) => Ok(bytes),
         Err(FetchFault::TooLong) => Err(too_long(alloc, file)),
         Err(FetchFault::Failed) => Err(cannot_read(alloc, file)),
@@ -32,7 +34,7 @@ fn fetch_one<I: TableFiles>(alloc: Global, file: &str, inputs: &mut I) -> Result
 }
 
 // The bytes of a file that is fetched after another one, with these.
-fn fetch_after<I: TableFiles>(
+fn fetch_after<I: Inputs>(
     alloc: Global,
     before: Vec<u8>,
     file: &str,
@@ -51,7 +53,7 @@ fn fetch_after<I: TableFiles>(
 }
 
 /// The bytes of two files, or the answer that the first of them which was not fetched could not be read or is too long.
-pub(crate) fn fetch_two<I: TableFiles>(
+pub(crate) fn fetch_two<I: Inputs>(
     alloc: Global,
     first: &str,
     second: &str,

@@ -2,8 +2,10 @@
 #![tactic(auto)]
 
 mod fetching;
+mod laws;
 mod texts;
 mod top_call;
 
 pub use bounds_command::Status;
+pub use laws::replies_are_determined;
 pub use top_call::run;

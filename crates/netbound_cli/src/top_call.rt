@@ -1,10 +1,12 @@
 //! The top call.
 
-ghost use Rattle.std.specs.Prelude.{◌≡◌, ◌≢◌, ◌≤◌, ◌⊎◌, None, Some, IfSome, IfOk};
-ghost use Rattle.bounds_command.specs.OnTables.{IsFaulty, IsCyclic, IsDone};
+ghost use Rattle.std.specs.Prelude.{◌≡◌, ◌≢◌, ◌≤◌, ◌⊎◌, true, false, None, Some, IfSome, IfOk};
+ghost use Rattle.bounds_command.specs.Laws.{IsReport};
+ghost use Rattle.bounds_command.specs.OnTables.{IsFaulty, IsCyclic};
 ghost use Rattle.bounds_command.specs.Replies.{Reply, cannot_read, too_long};
 ghost use Rattle.bounds_command.specs.View.{code_of, reply_of};
 ghost use Rattle.netbound_words.specs.Requests as spec;
+ghost use Rattle.netbound_cli.specs.Calls as calls;
 ghost use Rattle.netbound_cli.specs.Calls.{call_of, text_of, files_of, bounds_call};
 ghost use Rattle.netbound_cli.specs.Files.{IsTooLong, FirstIs};
 ghost use Rattle.netbound_cli.specs.Reply.{FailedAt, MayReply, MayReplyTo, Gives, Brings};
@@ -14,9 +16,8 @@ use crate::fetching::fetch_two;
 use crate::texts::{HELP, USAGE, VERSION};
 use bounds_command::{Answer, Form, Status, on_tables};
 use netbound_words::{Bounds, Request, WordFault, request_of};
-use outside::{NoMemory, Sink};
+use outside::{Inputs, NoMemory, Sink};
 use std::alloc::Global;
-use table_files::TableFiles;
 
 /// Gives an answer: puts its text, and returns its status, or that the sink failed.
 fn give<K: Sink>(out: &mut K, status: Status, text: &str) -> u8
@@ -32,17 +33,20 @@ fn give<K: Sink>(out: &mut K, status: Status, text: &str) -> u8
     }
 }
 
+// The form of a report.
+fn form_of(json: bool) -> Form
+    ensures { result ≡ calls.form_of json }
+{
+    if json { Form::Json } else { Form::Lines }
+}
+
 // The answer on the tables of these names.
-fn answer_to<I: TableFiles>(
-    alloc: Global,
-    asked: Bounds,
-    inputs: &mut I,
-) -> Result<Answer, NoMemory>
+fn answer_to<I: Inputs>(alloc: Global, asked: Bounds, inputs: &mut I) -> Result<Answer, NoMemory>
     requires { asked.overhead ≤ 1048576 }
-    ensures { IfOk result (λ r. MayReplyTo I.faults I.last_fault (I.content inputs.old) (bounds_call asked)
+    ensures { IfOk result (λ r. MayReplyTo I.faults I.last_fault (I.content inputs.old) (bounds_call asked.entry)
         inputs.old inputs.new (reply_of r)) }
 {
-    let form = if asked.json { Form::Json } else { Form::Lines };
+    let form = form_of(asked.json);
     match fetch_two(alloc, asked.ports, asked.links, inputs) {
         Ok((ports, links)) => on_tables(
             alloc,
@@ -58,11 +62,7 @@ fn answer_to<I: TableFiles>(
 }
 
 // The answer to words.
-fn answered<I: TableFiles>(
-    alloc: Global,
-    words: &[String],
-    inputs: &mut I,
-) -> Result<Answer, NoMemory>
+fn answered<I: Inputs>(alloc: Global, words: &[String], inputs: &mut I) -> Result<Answer, NoMemory>
     ensures { IfOk result (λ r. MayReply I.content I.faults I.last_fault (spec.request_of (spec.texts words.now))
         inputs.old inputs.new (reply_of r)) }
 {
@@ -83,16 +83,11 @@ fn text_answer(alloc: Global, status: Status, text: &str) -> Result<Answer, NoMe
     Ok(Answer { status, text })
 }
 
-/// Does what the words ask for, and gives the status. The program's name is the first word. The order is: the words, both
-/// files, the table of ports, that of links, an order of the ports, the bounds, one `put`.
-pub fn run<I: TableFiles, K: Sink>(
-    alloc: Global,
-    words: &[String],
-    inputs: &mut I,
-    out: &mut K,
-) -> u8
+/// Does what the words ask for, and gives the status. The program's name is the first word. The order is: the words,
+/// both files, the table of ports, that of links, an order of the ports, the bounds, one `put`.
+pub fn run<I: Inputs, K: Sink>(alloc: Global, words: &[String], inputs: &mut I, out: &mut K) -> u8
     // 2 exactly where the words are not taken; or 4 or 5.
-    ensures usage { result ≡ 2 → request_of (texts words.now) ≡ None }
+    ensures usage { result ≡ 2 → spec.request_of (spec.texts words.now) ≡ None }
 
     // Where words ask for no bounds: the text that they ask for, or that they are not taken; or 4 or 5.
     ensures text { IfSome (text_of (spec.request_of (spec.texts words.now))) (λ reply.
@@ -114,12 +109,13 @@ pub fn run<I: TableFiles, K: Sink>(
     ensures cycle { result ≡ 8 → IfSome (call_of (spec.request_of (spec.texts words.now))) (λ c.
         Brings IsCyclic (I.content inputs.old) c result (K.written out.old) (K.written out.new)) }
 
-    // 0 and 9 only where the report on the bounds of the document's network is written, by a table that meets the
-    // equations: 9 where a branch misses its deadline, by exact numbers, and 0 where none does.
+    // 0 of a call on tables, and 9, only where the report on the bounds of the document's network is written, by a
+    // table that meets the equations; what it says every lawful run of the network keeps that keeps the premises. 9
+    // where a branch misses its deadline, by exact numbers, and 0 where none does.
     ensures missed { result ≡ 9 → IfSome (call_of (spec.request_of (spec.texts words.now))) (λ c.
-        Brings IsDone (I.content inputs.old) c result (K.written out.old) (K.written out.new)) }
+        Brings (IsReport true) (I.content inputs.old) c result (K.written out.old) (K.written out.new)) }
     ensures done { result ≡ 0 → IfSome (call_of (spec.request_of (spec.texts words.now))) (λ c.
-        Brings IsDone (I.content inputs.old) c result (K.written out.old) (K.written out.new)) }
+        Brings (IsReport false) (I.content inputs.old) c result (K.written out.old) (K.written out.new)) }
 
     // 4 only where the sink failed in this call; a front of a reply's bytes is written.
     ensures write_fault { result ≡ 4 → (reply : Reply)

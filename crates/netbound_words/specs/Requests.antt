@@ -1,5 +1,6 @@
 -- What a command line asks for: what `clap` reads of the words, or which of its refusals it makes of them. Own choice.
-use Rattle.std.specs.Prelude.{ℕ, Bool, false, nat_le, List, [], ◌∷◌, map, codes, Option, Some, None, option_and_then, String, string_bytes, if◌then◌else◌}
+use Rattle.std.specs.Prelude.{ℕ, Bool, false, nat_le, List, [], ◌∷◌, map, codes, Option, Some, None, option_and_then}
+use Rattle.std.specs.Prelude.{String, string_bytes, if◌then◌else◌}
 use Rattle.std.specs.Str.{bytes_eq}
 use Rattle.std.specs.declared.alloc.Global.{Global}
 use Rattle.clap.specs.Simple.{matches_of}

@@ -1,7 +1,7 @@
 //! What a command line asks for.
 
 ghost use Rattle.std.specs.Prelude.{◌≡◌, ◌≤◌, IfOk, IfSome, option_map, map};
-ghost use Rattle.clap.specs.Words.{rows_of};
+ghost use Rattle.clap.specs.Words.{first_of, rows_of};
 ghost use Rattle.clap.specs.Matches.{found_of};
 ghost use Rattle.clap.specs.declared.error.kind.ErrorKind.TheVariants as kinds;
 ghost use Rattle.netbound_words.specs.Requests as spec;
@@ -54,7 +54,7 @@ pub enum WordFault {
 
 // The overhead that a word writes: a whole number of bytes.
 fn overhead_in(word: Option<&str>) -> Option<u64>
-    ensures value { result ≡ spec.overhead_in (option_map (λ w. w.now) word) }
+    ensures value { result ≡ spec.overhead_in (option_map (λ w. w.now) word.entry) }
     ensures range { IfSome result (λ bytes. bytes ≤ 1048576) }
 {
     let Some(word) = word else {
@@ -69,7 +69,7 @@ fn overhead_in(word: Option<&str>) -> Option<u64>
 
 // Whether a flag was given that has this value.
 fn is_given(value: Option<&str>) -> bool
-    ensures { result ≡ spec.is_given (option_map (λ w. w.now) value) }
+    ensures { result ≡ spec.is_given (option_map (λ w. w.now) value.entry) }
 {
     match value {
         Some(word) => word == "true",
@@ -77,15 +77,28 @@ fn is_given(value: Option<&str>) -> bool
     }
 }
 
+// The value of an argument.
+fn value_of<'a>(matches: &ArgMatches<'a>, id: &str) -> Option<&'a str>
+    ensures { option_map (λ w. w.now) result ≡ first_of id.now (rows_of (found_of matches.now)) }
+{
+    matches.get_str(id)
+}
+
 // The bounds for which these matches ask.
 fn bounds_in<'a>(matches: &ArgMatches<'a>) -> Option<Bounds<'a>>
     ensures value { option_map bounds_view result ≡ spec.bounds_in (rows_of (found_of matches.now)) }
     ensures range { IfSome result (λ b. b.overhead ≤ 1048576) }
 {
-    let ports = matches.get_str("ports")?;
-    let links = matches.get_str("links")?;
-    let overhead = overhead_in(matches.get_str("overhead"))?;
-    let json = is_given(matches.get_str("json"));
+    let Some(ports) = value_of(matches, "ports") else {
+        return None;
+    };
+    let Some(links) = value_of(matches, "links") else {
+        return None;
+    };
+    let Some(overhead) = overhead_in(value_of(matches, "overhead")) else {
+        return None;
+    };
+    let json = is_given(value_of(matches, "json"));
     Some(Bounds {
         ports,
         links,

@@ -1,0 +1,424 @@
+-- What a reply that was given is, by its status.
+use Rattle.std.proofs.Common.{◌≡◌, ◌≢◌, ◌⊎◌, ℕ, Bool, true, false, List, [], ◌∷◌, Option, Some, None, IfSome, inl}
+use Rattle.std.proofs.Common.{inr, refl, sym, ap, ◌∙◌, subst, arith}
+use Rattle.std.proofs.lemmas.Bool.{cases_eq}
+use Rattle.bounds_command.specs.declared.answer.Form.{Form}
+use Rattle.bounds_command.specs.Laws.{IsReport}
+use Rattle.bounds_command.specs.OnTables.{IsCyclic, IsFaulty, IsReplyOn, Tables, tables}
+use Rattle.bounds_command.specs.Replies.{AreSame, Reply, cannot_read, too_long}
+use Rattle.bounds_command.proofs.OneReply as law
+use Rattle.netbound_words.specs.Requests.{Bounds, Help, Request, Version}
+use Rattle.netbound_cli.specs.Calls.{Call, call_of, files_of, form_of, text_of}
+use Rattle.netbound_cli.specs.Files.{AllFit, FirstIs, IsTooLong, MayHoldAll, Told, all_told}
+use Rattle.netbound_cli.specs.Laws.{RepliesAreDetermined}
+use Rattle.netbound_cli.specs.Reply.{AnswersWhatItCan, Brings, EndsAt, FailedAt, Gives, GivesOnTold, IsAnswerableCall}
+use Rattle.netbound_cli.specs.Reply.{IsReplyOnFiles, MayReply, MayReplyTo, OnTables}
+use Rattle.netbound_cli.proofs.FileLemmas.{any_told, ended, first_map, first_shows, long_first, long_one, long_shows}
+use Rattle.netbound_cli.proofs.FileLemmas.{not_long, on_told, same_told}
+
+-- ---- what the inputs may bring
+-- fetching ended at a file
+pub ends : {I : Type 0} (faults : I → ℕ) (last_fault : I → List ℕ) (told : Told) (c : Call) (old new : I)
+    (reply : Reply)
+    → FirstIs told (EndsAt faults last_fault told old new reply) (files_of c)
+    → MayReplyTo faults last_fault told c old new reply
+ends faults last_fault told c old new reply h =
+    elim (ended told (λ file. FailedAt faults last_fault file old new × (reply ≡ cannot_read file))
+    (λ file. reply ≡ too_long file) (files_of c) h) [
+      | inl failed ↦ inl failed
+      | inr long ↦ inr (long.0, long.1, inl long.2)
+    ]
+
+-- or the files were fetched
+pub answers : {I : Type 0} (faults : I → ℕ) (last_fault : I → List ℕ) (told : Told) (c : Call) (old new : I)
+    (reply : Reply)
+    (files : List (List ℕ)) → MayHoldAll told (files_of c) files → AllFit files → OnTables IsReplyOn c files reply
+    → MayReplyTo faults last_fault told c old new reply
+answers faults last_fault told c old new reply files held fit is = inr (files, held, inr (fit, is))
+
+-- ---- on two tables, by status
+record IsByStatus (c : Call) (files : List (List ℕ)) (reply : Reply) : Type 0 where
+  known : (reply.status ≡ 0) ⊎ ((reply.status ≡ 1) ⊎ ((reply.status ≡ 8) ⊎ (reply.status ≡ 9)))
+  malformed : reply.status ≡ 1 → OnTables IsFaulty c files reply
+  cycle : reply.status ≡ 8 → OnTables IsCyclic c files reply
+  met : reply.status ≡ 0 → OnTables (IsReport false) c files reply
+  missed : reply.status ≡ 9 → OnTables (IsReport true) c files reply
+
+by_status : (c : Call) (files : List (List ℕ)) (reply : Reply) → OnTables IsReplyOn c files reply
+    → IsByStatus c files reply
+by_status c (ports ∷ links ∷ []) reply h =
+    let cause = law.statuses_have_causes (tables c.ports ports c.links links) c.overhead c.form reply h in
+    record { known = cause.known; malformed = cause.malformed; cycle = cause.cyclic; met = cause.met; missed =
+        cause.missed }
+by_status c [] reply h = absurd h
+by_status c (ports ∷ []) reply h = absurd h
+by_status c (ports ∷ links ∷ other ∷ files) reply h = absurd h
+
+-- the bytes of files that are not too long, and what the reply on them is
+record IsOnFiles (told : Told) (c : Call) (reply : Reply) : Type 0 where
+  files : List (List ℕ)
+  held : MayHoldAll told (files_of c) files
+  fit : AllFit files
+  is : IsByStatus c files reply
+
+-- what the inputs may bring, by status
+record MayBe {I : Type 0} (faults : I → ℕ) (last_fault : I → List ℕ) (told : Told) (c : Call) (old new : I)
+    (reply : Reply)
+    : Type 0 where
+  three : reply.status ≡ 3
+      → FirstIs told (λ file. FailedAt faults last_fault file old new × (reply ≡ cannot_read file)) (files_of c)
+  one : reply.status ≡ 1
+      → FirstIs told (λ file. IsTooLong (told file) × (reply ≡ too_long file)) (files_of c) ⊎ IsOnFiles told c reply
+  rest : reply.status ≢ 1 → reply.status ≢ 3 → IsOnFiles told c reply
+  no_two : reply.status ≢ 2
+  no_four : reply.status ≢ 4
+  no_five : reply.status ≢ 5
+
+abbrev IsKnown : ℕ → Type 0
+IsKnown status = (status ≡ 0) ⊎ ((status ≡ 1) ⊎ ((status ≡ 8) ⊎ (status ≡ 9)))
+
+not_known : (status n : ℕ) → IsKnown status → n ≢ 0 → n ≢ 1 → n ≢ 8 → n ≢ 9 → status ≢ n
+not_known status n (inl e) a b c d is = a (sym is ∙ e)
+not_known status n (inr (inl e)) a b c d is = b (sym is ∙ e)
+not_known status n (inr (inr (inl e))) a b c d is = c (sym is ∙ e)
+not_known status n (inr (inr (inr e))) a b c d is = d (sym is ∙ e)
+
+other : (status n m : ℕ) → status ≡ n → n ≢ m → status ≢ m
+other status n m is apart e = apart (sym is ∙ e)
+
+by_files : {I : Type 0} (faults : I → ℕ) (last_fault : I → List ℕ) (told : Told) (c : Call) (old new : I)
+    (reply : Reply)
+    (files : List (List ℕ)) → MayHoldAll told (files_of c) files → IsReplyOnFiles c files reply
+    → MayBe faults last_fault told c old new reply
+by_files faults last_fault told c old new reply files held (inl long) =
+    let is : reply.status ≡ 1 = long_shows (λ file. reply ≡ too_long file) (reply.status ≡ 1) (files_of c) files
+    (λ file same. ap (λ (r : Reply). r.status) same) long in
+    record {
+      three = λ e. absurd (other reply.status 1 3 is (omega arith) e);
+      one = λ e. inl (long_first told (λ file. reply ≡ too_long file) (files_of c) files held long);
+      rest = λ not_one not_three. absurd (not_one is);
+      no_two = other reply.status 1 2 is (omega arith);
+      no_four = other reply.status 1 4 is (omega arith);
+      no_five = other reply.status 1 5 is (omega arith);
+    }
+by_files faults last_fault told c old new reply files held (inr fits) =
+    let by = by_status c files reply fits.1 in
+    let on : IsOnFiles told c reply = record { files = files; held = held; fit = fits.0; is = by } in
+    record {
+      three = λ e. absurd (not_known reply.status 3 by.known (omega arith) (omega arith) (omega arith) (omega arith)
+          e);
+      one = λ e. inr on;
+      rest = λ not_one not_three. on;
+      no_two = not_known reply.status 2 by.known (omega arith) (omega arith) (omega arith) (omega arith);
+      no_four = not_known reply.status 4 by.known (omega arith) (omega arith) (omega arith) (omega arith);
+      no_five = not_known reply.status 5 by.known (omega arith) (omega arith) (omega arith) (omega arith);
+    }
+
+may_be : {I : Type 0} (faults : I → ℕ) (last_fault : I → List ℕ) (told : Told) (c : Call) (old new : I)
+    (reply : Reply)
+    → MayReplyTo faults last_fault told c old new reply → MayBe faults last_fault told c old new reply
+may_be faults last_fault told c old new reply (inl failed) =
+    let is : reply.status ≡ 3 = first_shows told
+    (λ file. FailedAt faults last_fault file old new × (reply ≡ cannot_read file)) (reply.status ≡ 3) (files_of c)
+    (λ file h. ap (λ (r : Reply). r.status) h.1) failed in
+    record {
+      three = λ e. failed;
+      one = λ e. absurd (other reply.status 3 1 is (omega arith) e);
+      rest = λ not_one not_three. absurd (not_three is);
+      no_two = other reply.status 3 2 is (omega arith);
+      no_four = other reply.status 3 4 is (omega arith);
+      no_five = other reply.status 3 5 is (omega arith);
+    }
+may_be faults last_fault told c old new reply (inr found) =
+    by_files faults last_fault told c old new reply found.0 found.1 found.2
+
+-- ---- given
+-- a reply of one kind that is given
+brings : (K : Tables → ℕ → Form → Reply → Type 0) (told : Told) (c : Call) (reply : Reply) (status : ℕ)
+    (old new : Option (List ℕ)) (on : IsOnFiles told c reply) → OnTables K c on.files reply
+    → Gives status old new reply
+    → Brings K told c status old new
+brings K told c reply status old new on is given =
+    record { files = on.files; held = on.held; fit = on.fit; reply = reply; is = is; given = given }
+
+-- the line that tells a file
+gives_line : (told : Told) (P : List ℕ → Type 0) (line : List ℕ → Reply) (names : List (List ℕ)) (reply : Reply)
+    (status : ℕ) (old new : Option (List ℕ)) → Gives status old new reply
+    → FirstIs told (λ file. P file × (reply ≡ line file)) names
+    → FirstIs told (λ file. P file × Gives status old new (line file)) names
+gives_line told P line names reply status old new given h =
+    first_map told (λ file. P file × (reply ≡ line file)) (λ file. P file × Gives status old new (line file)) names
+    (λ file k. (k.0, subst (Gives status old new) k.1 given)) h
+
+malformed : (told : Told) (c : Call) (reply : Reply) (status : ℕ) (old new : Option (List ℕ))
+    → Gives status old new reply → reply.status ≡ 1
+    → FirstIs told (λ file. IsTooLong (told file) × (reply ≡ too_long file)) (files_of c) ⊎ IsOnFiles told c reply
+    → FirstIs told (λ file. IsTooLong (told file) × Gives status old new (too_long file)) (files_of c)
+    ⊎ Brings IsFaulty told c status old new
+malformed told c reply status old new given one (inl long) =
+    inl (gives_line told (λ file. IsTooLong (told file)) too_long (files_of c) reply status old new given long)
+malformed told c reply status old new given one (inr on) =
+    inr (brings IsFaulty told c reply status old new on (on.is.malformed one) given)
+
+-- ---- what the files are told to hold
+told_on : {I : Type 0} (faults : I → ℕ) (last_fault : I → List ℕ) (told : Told) (c : Call) (before after : I)
+    (reply : Reply)
+    (status : ℕ) (old new : Option (List ℕ)) → MayReplyTo faults last_fault told c before after reply
+    → Gives status old new reply → GivesOnTold c told status old new
+told_on faults last_fault told c before after reply status old new (inl failed) given =
+    let three : reply.status ≡ 3 = first_shows told
+    (λ file. FailedAt faults last_fault file before after × (reply ≡ cannot_read file)) (reply.status ≡ 3)
+    (files_of c)
+    (λ file h. ap (λ (r : Reply). r.status) h.1) failed in
+    any_told (all_told told (files_of c)) _ (λ files. inr (inl (given.0 ∙ three)))
+told_on faults last_fault told c before after reply status old new (inr found) given =
+    on_told (all_told told (files_of c)) found.0 _ (same_told told (files_of c) found.0 found.1)
+        (inl (reply, found.2, given))
+
+told_given : {I : Type 0} (faults : I → ℕ) (last_fault : I → List ℕ) (told : Told) (c : Call) (before after : I)
+    (reply : Reply)
+    (status : ℕ) (old new : Option (List ℕ)) → MayReplyTo faults last_fault told c before after reply
+    → (status ≢ 4 → Gives status old new reply) → GivesOnTold c told status old new
+told_given faults last_fault told c before after reply status old new may given =
+    elim (cases_eq status 4) [
+      | inl four ↦ any_told (all_told told (files_of c)) _ (λ files. inr (inr (inl four)))
+      | inr unlike ↦ told_on faults last_fault told c before after reply status old new may (given unlike)
+    ]
+
+-- ---- on files that can be answered
+complete_on : (c : Call) (files : List (List ℕ)) (reply : Reply) → IsAnswerableCall c files
+    → OnTables IsReplyOn c files reply
+    → (reply.status ≡ 0) ⊎ (reply.status ≡ 9)
+complete_on c (ports ∷ links ∷ []) reply can on =
+    law.replies_are_complete (tables c.ports ports c.links links) c.overhead c.form reply can on
+complete_on c [] reply can on = absurd on
+complete_on c (ports ∷ []) reply can on = absurd on
+complete_on c (ports ∷ links ∷ more ∷ files) reply can on = absurd on
+
+answers_on : (c : Call) (files : List (List ℕ)) (reply : Reply) → AllFit files → IsAnswerableCall c files
+    → IsReplyOnFiles c files reply → (reply.status ≡ 0) ⊎ (reply.status ≡ 9)
+answers_on c files reply fit can (inl long) = absurd
+    (not_long (λ file. reply ≡ too_long file) (files_of c) files long fit)
+answers_on c files reply fit can (inr on) = complete_on c files reply can on.1
+
+abbrev IsAnswerOr : ℕ → Type 0
+IsAnswerOr status = (status ≡ 0) ⊎ ((status ≡ 9) ⊎ ((status ≡ 3) ⊎ ((status ≡ 4) ⊎ (status ≡ 5))))
+
+answer_or : (status code : ℕ) → status ≡ code → (code ≡ 0) ⊎ (code ≡ 9) → IsAnswerOr status
+answer_or status code same (inl zero_is) = inl (same ∙ zero_is)
+answer_or status code same (inr nine) = inr (inl (same ∙ nine))
+
+answers_or : (c : Call) (files : List (List ℕ)) (status : ℕ) (old new : Option (List ℕ)) → AllFit files
+    → IsAnswerableCall c files
+    → ((reply : Reply) × IsReplyOnFiles c files reply × Gives status old new reply)
+    ⊎ ((status ≡ 3) ⊎ ((status ≡ 4) ⊎ (status ≡ 5)))
+    → IsAnswerOr status
+answers_or c files status old new fit can (inl r) = answer_or status r.0.status r.2.0
+    (answers_on c files r.0 fit can r.1)
+answers_or c files status old new fit can (inr failed) = inr (inr failed)
+
+some_map : {A : Type 0} (o : Option A) (P Q : A → Type 0) → ((x : A) → P x → Q x) → IfSome o P → IfSome o Q
+some_map None P Q step h = tt
+some_map (Some x) P Q step h = step x h
+
+answers_what_it_can : (c : Call) (told : Told) (status : ℕ) (old new : Option (List ℕ))
+    → GivesOnTold c told status old new
+    → AnswersWhatItCan c told status
+answers_what_it_can c told status old new h =
+    some_map (all_told told (files_of c)) _ _ (λ files given fit can. answers_or c files status old new fit can given)
+        h
+
+-- ---- all that the answer to words says
+pub record Outcome {I : Type 0} (content : I → Told) (faults : I → ℕ) (last_fault : I → List ℕ)
+    (asked : Option Request)
+    (before after : I) (status : ℕ) (old new : Option (List ℕ)) : Type 0 where
+  pub usage : status ≡ 2 → asked ≡ None
+  pub text : IfSome (text_of asked) (λ reply. Gives status old new reply ⊎ ((status ≡ 4) ⊎ (status ≡ 5)))
+  pub read_fault : status ≡ 3 → IfSome (call_of asked) (λ c. FirstIs (content before)
+      (λ file. FailedAt faults last_fault file before after × Gives status old new (cannot_read file)) (files_of c))
+  pub malformed : status ≡ 1 → IfSome (call_of asked) (λ c.
+      FirstIs (content before) (λ file. IsTooLong (content before file) × Gives status old new (too_long file))
+          (files_of c)
+      ⊎ Brings IsFaulty (content before) c status old new)
+  pub cycle : status ≡ 8 → IfSome (call_of asked) (λ c. Brings IsCyclic (content before) c status old new)
+  pub missed : status ≡ 9 → IfSome (call_of asked) (λ c. Brings (IsReport true) (content before) c status old new)
+  pub done : status ≡ 0 → IfSome (call_of asked) (λ c. Brings (IsReport false) (content before) c status old new)
+  pub told : IfSome (call_of asked) (λ c. GivesOnTold c (content before) status old new)
+  pub complete : IfSome (call_of asked) (λ c. AnswersWhatItCan c (content before) status)
+
+abbrev status_in : Option Reply → Option ℕ
+status_in None = None
+status_in (Some reply) = Some reply.status
+
+given_or : (status : ℕ) (old new : Option (List ℕ)) (reply : Reply) → (status ≢ 4 → Gives status old new reply)
+    → Gives status old new reply ⊎ ((status ≡ 4) ⊎ (status ≡ 5))
+given_or status old new reply given =
+    elim (cases_eq status 4) [ inl four ↦ inr (inl four) | inr unlike ↦ inl (given unlike) ]
+
+abbrev the_call : (ports links : List ℕ) (overhead : ℕ) (json : Bool) → Call
+the_call ports links overhead json = record { ports = ports; links = links; overhead = overhead; form = form_of json }
+
+same_call : (c d : Call) → ◌≡◌ {A = Option Call} (Some c) (Some d) → d ≡ c
+same_call c d same = cc (sym same)
+
+not_four : (status n : ℕ) → status ≡ n → n ≢ 4 → status ≢ 4
+not_four status n is apart = other status n 4 is apart
+
+on_call : {I : Type 0} (content : I → Told) (faults : I → ℕ) (last_fault : I → List ℕ) (ports links : List ℕ)
+    (overhead : ℕ)
+    (json : Bool) (before after : I) (reply : Reply) (status : ℕ) (old new : Option (List ℕ))
+    → MayReplyTo faults last_fault (content before) (the_call ports links overhead json) before after reply
+    → (status ≢ 4 → Gives status old new reply)
+    → Outcome content faults last_fault (Some (Bounds ports links overhead json)) before after status old new
+on_call content faults last_fault ports links overhead json before after reply status old new may given =
+    let told = content before in
+    let c = the_call ports links overhead json in
+    let h = may_be faults last_fault told c before after reply may in
+    let apart = λ (n : ℕ) (is : status ≡ n) (no : n ≢ 4). given (not_four status n is no) in
+    record {
+      usage = λ e. let g = apart 2 e (omega arith) in absurd (h.no_two (sym g.0 ∙ e));
+      text = tt;
+      read_fault = λ e. let g = apart 3 e (omega arith) in
+          gives_line told (λ file. FailedAt faults last_fault file before after) cannot_read (files_of c) reply status
+              old new g
+          (h.three (sym g.0 ∙ e));
+      malformed = λ e. let g = apart 1 e (omega arith) in
+          malformed told c reply status old new g (sym g.0 ∙ e) (h.one (sym g.0 ∙ e));
+      cycle = λ e. let g = apart 8 e (omega arith) in
+          let is = sym g.0 ∙ e in
+          let on = h.rest (other reply.status 8 1 is (omega arith)) (other reply.status 8 3 is (omega arith)) in
+          brings IsCyclic told c reply status old new on (on.is.cycle is) g;
+      missed = λ e. let g = apart 9 e (omega arith) in
+          let is = sym g.0 ∙ e in
+          let on = h.rest (other reply.status 9 1 is (omega arith)) (other reply.status 9 3 is (omega arith)) in
+          brings (IsReport true) told c reply status old new on (on.is.missed is) g;
+      done = λ e. let g = apart 0 e (omega arith) in
+          let is = sym g.0 ∙ e in
+          let on = h.rest (other reply.status 0 1 is (omega arith)) (other reply.status 0 3 is (omega arith)) in
+          brings (IsReport false) told c reply status old new on (on.is.met is) g;
+      told = told_given faults last_fault told c before after reply status old new may given;
+      complete = answers_what_it_can c told status old new
+          (told_given faults last_fault told c before after reply status old new may given);
+    }
+
+on_text : {I : Type 0} (content : I → Told) (faults : I → ℕ) (last_fault : I → List ℕ) (asked : Option Request)
+    (before after : I) (reply : Reply) (status : ℕ) (old new : Option (List ℕ))
+    → text_of asked ≡ Some reply → call_of asked ≡ None → (reply.status ≡ 2 → asked ≡ None)
+    → (status ≢ 4 → Gives status old new reply)
+    → Outcome content faults last_fault asked before after status old new
+on_text content faults last_fault asked before after reply status old new same none two given =
+    let nothing : (P : Call → Type 0) → IfSome (call_of asked) P = λ P. rw none tt in
+    record {
+      usage = λ e. two (sym (given (not_four status 2 e (omega arith))).0 ∙ e);
+      text = rw same (given_or status old new reply given);
+      read_fault = λ e. nothing _;
+      malformed = λ e. nothing _;
+      cycle = λ e. nothing _;
+      missed = λ e. nothing _;
+      done = λ e. nothing _;
+      told = nothing _;
+      complete = nothing _;
+    }
+
+pub outcome : {I : Type 0} (content : I → Told) (faults : I → ℕ) (last_fault : I → List ℕ) (asked : Option Request)
+    (before after : I) (reply : Reply) (status : ℕ) (old new : Option (List ℕ))
+    → MayReply content faults last_fault asked before after reply → (status ≢ 4 → Gives status old new reply)
+    → Outcome content faults last_fault asked before after status old new
+outcome content faults last_fault None before after reply status old new (inl same) given =
+    on_text content faults last_fault None before after reply status old new same refl (λ e. refl) given
+outcome content faults last_fault (Some Help) before after reply status old new (inl same) given =
+    on_text content faults last_fault (Some Help) before after reply status old new same refl (λ e. absurd (
+    let zero_is : Some 0 ≡ Some reply.status = ap (λ (o : Option Reply). status_in o) same in
+    cc
+    )) given
+outcome content faults last_fault (Some Version) before after reply status old new (inl same) given =
+    on_text content faults last_fault (Some Version) before after reply status old new same refl (λ e. absurd (
+    let zero_is : Some 0 ≡ Some reply.status = ap (λ (o : Option Reply). status_in o) same in
+    cc
+    )) given
+outcome content faults last_fault (Some (Bounds ports links overhead json)) before after reply status old new
+    (inl same) given =
+    absurd (cc)
+outcome content faults last_fault None before after reply status old new (inr found) given = absurd (cc)
+outcome content faults last_fault (Some Help) before after reply status old new (inr found) given = absurd (cc)
+outcome content faults last_fault (Some Version) before after reply status old new (inr found) given = absurd (cc)
+outcome content faults last_fault (Some (Bounds ports links overhead json)) before after reply status old new
+    (inr found) given =
+    let is : found.0 ≡ the_call ports links overhead json = same_call (the_call ports links overhead json) found.0
+        found.1 in
+    on_call content faults last_fault ports links overhead json before after reply status old new
+    (subst (λ (c : Call). MayReplyTo faults last_fault (content before) c before after reply) is found.2) given
+
+-- a reply that no table changes
+pub may_reply_text : {I : Type 0} (content : I → Told) (faults : I → ℕ) (last_fault : I → List ℕ)
+    (asked : Option Request)
+    (request : Request) (before after : I) (reply : Reply) → asked ≡ Some request
+    → text_of (Some request) ≡ Some reply
+    → MayReply content faults last_fault asked before after reply
+may_reply_text content faults last_fault asked request before after reply same text = inl (ap text_of same ∙ text)
+
+-- ---- where memory is refused
+pub no_outcome : {I : Type 0} (content : I → Told) (faults : I → ℕ) (last_fault : I → List ℕ) (asked : Option Request)
+    (before after : I) (status : ℕ) (old new : Option (List ℕ)) → status ≡ 5
+    → Outcome content faults last_fault asked before after status old new
+no_outcome content faults last_fault asked before after status old new five =
+    record {
+      usage = λ e. absurd (other status 5 2 five (omega arith) e);
+      text = any_told (text_of asked) _ (λ reply. inr (inr five));
+      read_fault = λ e. absurd (other status 5 3 five (omega arith) e);
+      malformed = λ e. absurd (other status 5 1 five (omega arith) e);
+      cycle = λ e. absurd (other status 5 8 five (omega arith) e);
+      missed = λ e. absurd (other status 5 9 five (omega arith) e);
+      done = λ e. absurd (other status 5 0 five (omega arith) e);
+      told = any_told (call_of asked) _ (λ c. any_told (all_told (content before) (files_of c)) _
+          (λ files. inr (inr (inr five))));
+      complete = any_told (call_of asked) _ (λ c. any_told (all_told (content before) (files_of c)) _
+          (λ files fit can. inr (inr (inr (inr five)))));
+    }
+
+-- ---- no reply has the status of a write that failed, or of want of memory
+text_status : (asked : Option Request) (reply : Reply) → text_of asked ≡ Some reply
+    → (reply.status ≡ 0) ⊎ (reply.status ≡ 2)
+text_status None reply same =
+    let two : Some 2 ≡ Some reply.status = ap (λ (o : Option Reply). status_in o) same in inr (sym cc)
+text_status (Some Help) reply same =
+    let zero_is : Some 0 ≡ Some reply.status = ap (λ (o : Option Reply). status_in o) same in inl (sym cc)
+text_status (Some Version) reply same =
+    let zero_is : Some 0 ≡ Some reply.status = ap (λ (o : Option Reply). status_in o) same in inl (sym cc)
+text_status (Some (Bounds ports links overhead json)) reply same = absurd (cc)
+
+not_text : (status n : ℕ) → (status ≡ 0) ⊎ (status ≡ 2) → n ≢ 0 → n ≢ 2 → status ≢ n
+not_text status n (inl e) a b is = a (sym is ∙ e)
+not_text status n (inr e) a b is = b (sym is ∙ e)
+
+pub never : {I : Type 0} (content : I → Told) (faults : I → ℕ) (last_fault : I → List ℕ)
+    (asked : Option Request) (before after : I) (reply : Reply)
+    → MayReply content faults last_fault asked before after reply
+    → (reply.status ≢ 4) × (reply.status ≢ 5)
+never content faults last_fault asked before after reply (inl same) =
+    let is = text_status asked reply same in
+    (not_text reply.status 4 is (omega arith) (omega arith), not_text reply.status 5 is (omega arith) (omega arith))
+never content faults last_fault asked before after reply (inr found) =
+    let h = may_be faults last_fault (content before) found.0 before after reply found.2 in
+    (h.no_four, h.no_five)
+
+-- ---- there is one reply
+one_on : (c : Call) (files : List (List ℕ)) (x y : Reply) → OnTables IsReplyOn c files x
+    → OnTables IsReplyOn c files y → AreSame x y
+one_on c (ports ∷ links ∷ []) x y h k =
+    law.replies_are_determined (tables c.ports ports c.links links) c.overhead c.form x y h k
+one_on c [] x y h k = absurd h
+one_on c (ports ∷ []) x y h k = absurd h
+one_on c (ports ∷ links ∷ more ∷ files) x y h k = absurd h
+
+alike : (x y : Reply) → x ≡ y → AreSame x y
+alike x y same = record { status = ap (λ (r : Reply). r.status) same; bytes = λ apart. ap (λ (r : Reply). r.bytes)
+    same }
+
+pub replies_are_determined : RepliesAreDetermined
+replies_are_determined c files x y (inl h) (inl k) = alike x y (long_one x y too_long (files_of c) files h k)
+replies_are_determined c files x y (inl h) (inr k) = absurd
+    (not_long (λ file. x ≡ too_long file) (files_of c) files h k.0)
+replies_are_determined c files x y (inr h) (inl k) = absurd
+    (not_long (λ file. y ≡ too_long file) (files_of c) files k h.0)
+replies_are_determined c files x y (inr h) (inr k) = one_on c files x y h.1 k.1

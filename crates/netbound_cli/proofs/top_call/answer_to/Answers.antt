@@ -1,0 +1,24 @@
+use Rattle.std.proofs.Common.{◌∷◌, []}
+use Rattle.std.proofs.lemmas.Result.{IfOk-weaker}
+use Rattle.bounds_command.specs.View.{reply_of}
+use Rattle.netbound_cli.specs.Calls.{bounds_call}
+use Rattle.netbound_cli.proofs.Outcomes.{answers, ends}
+use Rattle.netbound_cli.proofs.top_call.answer_to.Goals as goal
+
+pub returns-in-Ok : goal.returns-in-Ok
+returns-in-Ok g c =
+    IfOk-weaker c.on_tables.result _ _
+    (λ r on. answers g.I.Inputs.faults g.I.Inputs.last_fault (g.I.Inputs.content c.args.inputs.now)
+    (bounds_call c.args.asked)
+    c.args.inputs.now c.fetch_two.new.inputs (reply_of r) (c.in-Ok.ports.items ∷ c.in-Ok.links.items ∷ [])
+    c.in-Ok.ensures.held c.in-Ok.ensures.fit
+    (rw (c.deref.ensures.value, c.deref-in-Ok.ensures.value, c.form_of-form.ensures) at on))
+    c.on_tables.ensures
+
+pub returns-in-Err : goal.returns-in-Err
+returns-in-Err g c =
+    IfOk-weaker c.in-Err.ended _ _
+    (λ r at. ends g.I.Inputs.faults g.I.Inputs.last_fault (g.I.Inputs.content c.args.inputs.now)
+    (bounds_call c.args.asked)
+    c.args.inputs.now c.fetch_two.new.inputs (reply_of r) at)
+    c.in-Err.ensures.ended
