@@ -1,6 +1,6 @@
 -- Two networks of one document: the same numbers, however the code keeps their lists.
-use Rattle.std.proofs.Common.{◌≡◌, ◌⊎◌, ℕ, zero, suc, ◌<◌, ◌≤◌, ◌+◌, ◌*◌, ◌^◌, ◌&&◌, if◌then◌else◌, Option, Some, None, List, [], ◌∷◌, ◌++◌, length, get_or, map, sum, refl, sym, ◌∙◌, ap, ap₂, subst, arith, inl, inr}
-use Rattle.std.specs.Prelude.{slice_get, option_map, All, sum_by}
+use Rattle.std.proofs.Common.{◌≡◌, ℕ, zero, suc, ◌+◌, ◌*◌, ◌^◌, ◌&&◌, if◌then◌else◌, Option, Some, None, List, [], ◌∷◌, ◌++◌, length, get_or, map, sum, refl, sym, ◌∙◌, ap, ap₂, subst, inl, inr}
+use Rattle.std.specs.Prelude.{slice_get, option_map, sum_by}
 use Rattle.std.specs.List.{list_all}
 use Rattle.std.specs.Int.{div_ceil}
 use Rattle.std.proofs.lemmas.List.{length-map}
@@ -21,12 +21,12 @@ use Rattle.tree_order.specs.Spots.{spot_of, source_in, number_before, spots_in, 
 use Rattle.document_rows.specs.Disciplines.{DisciplineText, Fifo, Priority, Drr, discipline_view}
 use Rattle.document_tables.specs.Grids.{PortOnGrid, LinkOnGrid, grid_port, grid_link}
 use Rattle.port_bounds.specs.Incoming.{Incoming, queue_in, longest_frames_of}
-use Rattle.port_bounds.specs.Services.{IsServiceAt, IsServiceOf, IsLeft, round_robin_share}
+use Rattle.port_bounds.specs.Services.{IsServiceAt, IsServiceOf, round_robin_share}
 use Rattle.port_bounds.specs.Ports.{port_service}
 use Rattle.tree_bounds.specs.Lines.{line_within, first_line_of}
 use Rattle.tree_bounds.specs.Groups.{pace_line, part_of, are_bounded, longest_group, incoming_of_groups, incomings_at, groups_at}
 use Rattle.tree_bounds.specs.Equations.{arrivals_of}
-use Rattle.bounds_command.specs.Loads.{rates_in, rates_at, brought, brought_by, load_at, load_of}
+use Rattle.bounds_command.specs.Loads.{rates_at, brought, load_at, load_of}
 use Rattle.bounds_command.specs.Reports.{port_in}
 
 -- ---- lists
@@ -55,10 +55,12 @@ module _ (a b : Network) (alike : AreAlike a b) where
 
   pub port_same : (s : ℕ) → grid_port (port_at a s) ≡ grid_port (port_at b s)
   port_same s =
-      sym (at_map grid_port a.ports.items s no_port) ∙ ap (λ (ps : List PortOnGrid). get_or ps s (grid_port no_port)) alike.ports
+      sym (at_map grid_port a.ports.items s no_port)
+      ∙ ap (λ (ps : List PortOnGrid). get_or ps s (grid_port no_port)) alike.ports
       ∙ at_map grid_port b.ports.items s no_port
 
-  pub link_same : (i : ℕ) → option_map grid_link (slice_get a.links.items i) ≡ option_map grid_link (slice_get b.links.items i)
+  pub link_same : (i : ℕ) → option_map grid_link (slice_get a.links.items i) ≡ option_map grid_link
+      (slice_get b.links.items i)
   link_same i =
       sym (slice_get-map grid_link a.links.items i) ∙ ap (λ (ls : List LinkOnGrid). slice_get ls i) alike.links
       ∙ slice_get-map grid_link b.links.items i
@@ -80,12 +82,21 @@ queues_same p r e =
 
 abbrev service_by : PortOnGrid → Service
 service_by v =
-    port_service record { rate = v.rate; pace = v.pace; latency = v.latency; link = v.link; discipline = discipline.Fifo; gate = v.gate }
+    port_service record {
+      rate = v.rate;
+      pace = v.pace;
+      latency = v.latency;
+      link = v.link;
+      discipline =
+          discipline.Fifo;
+      gate = v.gate;
+    }
 
 pub service_same : (p r : Port) → grid_port p ≡ grid_port r → port_service p ≡ port_service r
 service_same p r e = ap service_by e
 
-at_same : (d e : Discipline) → discipline_view d ≡ discipline_view e → (own : Service) (queues : List Incoming) (q : ℕ) (service : Service)
+at_same : (d e : Discipline) → discipline_view d ≡ discipline_view e
+    → (own : Service) (queues : List Incoming) (q : ℕ) (service : Service)
     → IsServiceAt d own queues q service → IsServiceAt e own queues q service
 at_same discipline.Fifo discipline.Fifo same own queues q service h = h
 at_same discipline.Fifo (discipline.Priority n) same own queues q service h = absurd (cc)
@@ -99,7 +110,8 @@ at_same (discipline.Drr xs) (discipline.Drr ys) same own queues q service h =
     let quanta : xs.items ≡ ys.items = cc in
     elim h [
       | inl share ↦
-          inl (share ∙ ap (λ (qs : List ℕ). round_robin_share own (get_or qs q 0) (sum qs) (queue_in queues q).longest (longest_frames_of queues)) quanta)
+          inl (share ∙ ap (λ (qs : List ℕ). round_robin_share own (get_or qs q 0) (sum qs) (queue_in queues q).longest
+          (longest_frames_of queues)) quanta)
       | inr left ↦ inr left
     ]
 
@@ -143,7 +155,8 @@ spot_is i first place link =
       from = number_before first place (node_at link place).from;
     }) (source_is link (node_at link place).from)
 
-spots_in_same : (i first : ℕ) (l m : Link) → grid_link l ≡ grid_link m → (n : ℕ) → spots_in i first l n ≡ spots_in i first m n
+spots_in_same : (i first : ℕ) (l m : Link) → grid_link l ≡ grid_link m → (n : ℕ)
+    → spots_in i first l n ≡ spots_in i first m n
 unfolding spots_in
 spots_in_same i first l m e zero = refl
 spots_in_same i first l m e (suc place) =
@@ -165,13 +178,15 @@ line_by v =
     line_within (v.frame * 1024 + div_ceil (div_ceil (v.frame * 1024 * 10 ^ 12) v.gap * v.jitter) (10 ^ 12))
     (div_ceil (v.frame * 1024 * 10 ^ 12) v.gap)
 
-pub first_same : (o p : Option Link) → option_map grid_link o ≡ option_map grid_link p → first_line_of o ≡ first_line_of p
+pub first_same : (o p : Option Link) → option_map grid_link o ≡ option_map grid_link p
+    → first_line_of o ≡ first_line_of p
 first_same None None e = refl
 first_same None (Some m) e = absurd (cc)
 first_same (Some l) None e = absurd (cc)
 first_same (Some l) (Some m) e = let same : grid_link l ≡ grid_link m = cc in ap line_by same
 
-pub last_same : (o p : Option Link) (place : ℕ) → option_map grid_link o ≡ option_map grid_link p → port_in o place ≡ port_in p place
+pub last_same : (o p : Option Link) (place : ℕ) → option_map grid_link o ≡ option_map grid_link p
+    → port_in o place ≡ port_in p place
 last_same None None place e = refl
 last_same None (Some m) place e = absurd (cc)
 last_same (Some l) None place e = absurd (cc)
@@ -194,7 +209,8 @@ module _ (a b : Network) (alike : AreAlike a b) where
   below_same (suc i) =
       ap (λ (xs : List Spot). xs ++ spots_of_link i (length xs) (slice_get a.links.items i)) (below_same i)
       ∙ ap (λ (ys : List Spot). spots_below b i ++ ys)
-      (spots_of_same i (length (spots_below b i)) (slice_get a.links.items i) (slice_get b.links.items i) (link_same a b alike i))
+      (spots_of_same i (length (spots_below b i)) (slice_get a.links.items i) (slice_get b.links.items i)
+      (link_same a b alike i))
 
   pub spots_same : spots_of a ≡ spots_of b
   spots_same = below_same (length a.links.items) ∙ ap (spots_below b) (links_count a b alike)
@@ -210,7 +226,8 @@ module _ (a b : Network) (alike : AreAlike a b) where
       let L : PortOnGrid → Option Line = λ v. Some record { burst = longest * 1024; rate = v.pace } in
       ap L (port_same a b alike p)
 
-  incomings_alike : (spots : List Spot) (line : ℕ → Option Line) (s q : ℕ) → incomings_at a spots line s q ≡ incomings_at b spots line s q
+  incomings_alike : (spots : List Spot) (line : ℕ → Option Line) (s q : ℕ)
+      → incomings_at a spots line s q ≡ incomings_at b spots line s q
   unfolding incomings_at
   incomings_alike spots line s zero = refl
   incomings_alike spots line s (suc q) =
@@ -220,7 +237,8 @@ module _ (a b : Network) (alike : AreAlike a b) where
         longest = longest_group groups;
       } in
       let paced = map_same (part_of a) (part_of b)
-      (λ g. ap (λ (pace : Option Line). record { sum = record { burst = g.burst; rate = g.rate }; pace = pace }) (pace_same g.longest g.source))
+      (λ g. ap (λ (pace : Option Line). record { sum = record { burst = g.burst; rate = g.rate }; pace = pace })
+      (pace_same g.longest g.source))
       groups in
       ap₂ (λ (xs : List Incoming) (x : Incoming). xs ++ x ∷ []) (incomings_alike spots line s q)
       (ap I paced ∙ ap (λ (n : ℕ). incoming_of_groups b (groups_at spots line s q (n + 1))) (ports_count a b alike))

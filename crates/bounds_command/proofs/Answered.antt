@@ -1,6 +1,6 @@
 -- From the answers of calls to the reply on two tables.
-use Rattle.std.proofs.Common.{◌≡◌, ◌⊎◌, ℕ, List, [], ◌∷◌, map, Result, Ok, Err, refl, sym, ap, subst, inl, inr}
-use Rattle.std.specs.Prelude.{IfOk}
+use Rattle.std.proofs.Common.{◌≡◌, ℕ, List, [], ◌∷◌, map, Result, Ok, Err, refl, sym, ◌∙◌, ap, ap₂, subst, inl, inr}
+use Rattle.std.specs.Prelude.{IfOk, All}
 use Rattle.csv_rows.specs.declared.rows.TableRow.{TableRow}
 use Rattle.csv_rows.specs.Rows.{AreLinedRowsOf, LinedRow, lined_of}
 use Rattle.document_tables.specs.declared.fault.LineFault.{LineFault}
@@ -11,28 +11,34 @@ use Rattle.tree_network.specs.Networks.{IsNetwork}
 use Rattle.tree_network.specs.declared.network.Network.{Network}
 use Rattle.tree_bounds.specs.Tables.{IsTableOf}
 use Rattle.tree_bounds.specs.declared.analysis.Table.{Table}
+use Rattle.tree_guarantee.proofs.Caused.{none_has_a_cause}
+use Rattle.bounds_report.specs.Ranges.{HasDeadlineInRange}
+use Rattle.bounds_report.specs.declared.rows.BranchRow.{BranchRow}
 use Rattle.bounds_report.specs.declared.rows.Report.{Report}
 use Rattle.bounds_command.specs.declared.answer.Answer.{Answer}
 use Rattle.bounds_command.specs.declared.answer.Form.{Form}
-use Rattle.bounds_command.specs.Replies.{Reply, has_fault}
+use Rattle.bounds_command.specs.Replies.{has_fault}
 use Rattle.bounds_command.specs.Reports.{IsNetworkOf, IsReportOf, status_with}
 use Rattle.bounds_command.specs.View.{reply_of, text_in}
-use Rattle.bounds_command.specs.OnTables.{Tables, name_of, lined, AreRowsOfBoth, Gives, IsFaulty, IsReplyOnDocument, IsReplyOn}
+use Rattle.bounds_command.specs.OnTables.{Tables, named, lined, AreRowsOfBoth, Gives, IsReplyOnDocument, IsReplyOn}
 use Rattle.bounds_command.proofs.Kept.{reports_are_kept}
 
 -- ---- on a document
-pub reported : {E : Type 0} (d : DocumentText) (net : Network) (form : Form) (table : Table) (report : Report) (answer : Result Answer E)
+pub reported : {E : Type 0} (d : DocumentText) (net : Network) (form : Form) (table : Table) (report : Report)
+    (answer : Result Answer E)
     → IsNetwork net → IsTableOf net table → IsReportOf d net table report
+    → All (λ (row : BranchRow). HasDeadlineInRange row.deadline) report.branches.items
     → IfOk answer (λ r. reply_of r ≡ record { status = status_with report; bytes = text_in form report })
     → IfOk answer (λ r. IsReplyOnDocument d net form (reply_of r))
-reported d net form table report (Err e) w bounded tells h = tt
-reported d net form table report (Ok r) w bounded tells h =
+reported d net form table report (Err e) w bounded tells timed h = tt
+reported d net form table report (Ok r) w bounded tells timed h =
     inr record {
       table = table;
       bounded = bounded;
       report = report;
       tells = tells;
-      guarantees = reports_are_kept d net table report w bounded tells;
+      guarantees = reports_are_kept d net table report w bounded tells timed;
+      causes = λ s q inside queue none. none_has_a_cause net table s q bounded inside queue none;
       is = h;
     }
 
@@ -48,8 +54,10 @@ rows_of_both t ports links h k =
     let L : List LinedRow → Type 0 = λ rows. AreLinedRowsOf t.links rows in
     record { ports_rows = subst P (sym (lined_all ports)) h; links_rows = subst L (sym (lined_all links)) k }
 
-pub on_document : {E : Type 0} (t : Tables) (overhead : ℕ) (form : Form) (ports links : List LineRow) (d : DocumentText) (net : Network)
-    (answer : Result Answer E) → AreRowsOfBoth t ports links → document_of overhead ports links ≡ Ok d → IsNetworkOf d net
+pub on_document : {E : Type 0} (t : Tables) (overhead : ℕ) (form : Form) (ports links : List LineRow)
+    (d : DocumentText) (net : Network)
+    (answer : Result Answer E) → AreRowsOfBoth t ports links → document_of overhead ports links ≡ Ok d
+    → IsNetworkOf d net
     → IsNetwork net → IfOk answer (λ r. IsReplyOnDocument d net form (reply_of r))
     → IfOk answer (λ r. IsReplyOn t overhead form (reply_of r))
 on_document t overhead form ports links d net (Err e) rows reads is w h = tt
@@ -61,11 +69,16 @@ on_document t overhead form ports links d net (Ok r) rows reads is w h =
       | inr report ↦ inr (inr record { document = d; net = net; gives = gives; holds = report })
     ]
 
-pub on_fault : {E : Type 0} (t : Tables) (overhead : ℕ) (form : Form) (ports links : List LineRow) (file : TableFile) (fault : LineFault)
-    (answer : Result Answer E) → AreRowsOfBoth t ports links
-    → document_of overhead ports links ≡ Err (record { file = file; fault = fault })
-    → IfOk answer (λ r. reply_of r ≡ has_fault (name_of t file) fault) → IfOk answer (λ r. IsReplyOn t overhead form (reply_of r))
-on_fault t overhead form ports links file fault (Err e) rows reads h = tt
-on_fault t overhead form ports links file fault (Ok r) rows reads h =
+-- the call that tells the fault got what the read answered
+pub on_fault : {E : Type 0} (t : Tables) (overhead : ℕ) (form : Form) (ports links : List LineRow)
+    (file got_file : TableFile)
+    (fault got_fault : LineFault) (answer : Result Answer E) → AreRowsOfBoth t ports links
+    → document_of overhead ports links ≡ Err (record { file = file; fault = fault }) → got_file ≡ file
+    → got_fault ≡ fault
+    → IfOk answer (λ r. reply_of r ≡ has_fault (named t.ports_file t.links_file got_file) got_fault)
+    → IfOk answer (λ r. IsReplyOn t overhead form (reply_of r))
+on_fault t overhead form ports links file got_file fault got_fault (Err e) rows reads ef ex h = tt
+on_fault t overhead form ports links file got_file fault got_fault (Ok r) rows reads ef ex h =
     let both : FileFault = record { file = file; fault = fault } in
-    inl record { port_rows = ports; link_rows = links; rows = rows; fault = both; first = reads; is = h }
+    let is = h ∙ ap₂ (λ (f : TableFile) (x : LineFault). has_fault (named t.ports_file t.links_file f) x) ef ex in
+    inl record { port_rows = ports; link_rows = links; rows = rows; fault = both; first = reads; is = is }

@@ -1,5 +1,5 @@
 -- Deadlines that are read can be printed.
-use Rattle.std.proofs.Common.{◌≡◌, ℕ, ◌<◌, ◌≤◌, ◌+◌, ◌-◌, ◌*◌, ◌/◌, ◌^◌, Bool, true, Option, Some, None, List, length, get_or, map, nat_le, sym, ◌∙◌, ap, subst, arith}
+use Rattle.std.proofs.Common.{◌≡◌, ◌-◌, Option, Some, None, List, get_or, map, sym, ◌∙◌, ap, subst}
 use Rattle.std.specs.Prelude.{slice_get, option_map, All}
 use Rattle.std.proofs.lemmas.Option.{slice_get-map, slice_get-get_or, slice_get_within, get_or_from_slice_get}
 use Rattle.table_cells.specs.declared.amount.Amount.{Amount}
@@ -18,7 +18,8 @@ deadline_in_range (Some a) h = h.amount
 
 pub deadlines_in_range : (rows : List BranchRow) (ends : List BranchEnd) (text : BranchOnGrid → BranchText)
     → ((b : BranchOnGrid) → (text b).deadline ≡ b.deadline) → map branch_view rows ≡ map text (map end_view ends)
-    → All (λ (e : BranchEnd). IsTimeOrNone e.deadline) ends → All (λ (row : BranchRow). HasDeadlineInRange row.deadline) rows
+    → All (λ (e : BranchEnd). IsTimeOrNone e.deadline) ends
+    → All (λ (row : BranchRow). HasDeadlineInRange row.deadline) rows
 deadlines_in_range rows ends text keeps same all = λ k d h.
     let row = get_or rows k d in
     let viewed : slice_get (map branch_view rows) k ≡ Some (branch_view row) =

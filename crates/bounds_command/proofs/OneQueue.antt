@@ -1,6 +1,6 @@
 -- What is promised of a queue is one, whichever list of its services it is the least over.
-use Rattle.std.proofs.Common.{◌≡◌, ℕ, zero, suc, ◌<◌, ◌≤◌, ◌*◌, ◌^◌, Option, Some, None, List, length, get_or, refl, sym, ◌∙◌, ap, ap₂, subst, arith}
-use Rattle.std.specs.Prelude.{MatchOption, Contains, All}
+use Rattle.std.proofs.Common.{◌≡◌, ℕ, zero, suc, ◌<◌, ◌≤◌, ◌*◌, Option, Some, None, List, length, get_or, refl, sym, ◌∙◌, ap₂, subst, arith}
+use Rattle.std.specs.Prelude.{MatchOption}
 use Rattle.std.proofs.lemmas.List.{get_or_default}
 use Rattle.arrival_lines.specs.Delays.{IsDelayAt}
 use Rattle.arrival_lines.specs.Backlogs.{IsBacklogAt}
@@ -11,7 +11,7 @@ use Rattle.arrival_lines.specs.declared.grid.Service.{Service}
 use Rattle.tree_network.specs.declared.network.Port.{Port}
 use Rattle.document_tables.specs.Grids.{grid_port}
 use Rattle.port_bounds.specs.Incoming.{Incoming, queue_in}
-use Rattle.port_bounds.specs.Rows.{IsRow, IsRowBy, IsLeastRow}
+use Rattle.port_bounds.specs.Rows.{IsRow, IsRowBy}
 use Rattle.port_bounds.specs.Services.{IsServiceOf, AreAll}
 use Rattle.bounds_command.proofs.Alike.{services_same}
 
@@ -60,7 +60,8 @@ module _ (parts : List Part) (xs ys : List Service) (among : AreAmong xs ys) whe
       let short = one.short in
       omega (arith, long, short)
 
-least_is_one : (parts : List Part) (xs ys : List Service) (longest : ℕ) (one other : Option Queue) → AreAmong xs ys → AreAmong ys xs
+least_is_one : (parts : List Part) (xs ys : List Service) (longest : ℕ) (one other : Option Queue) → AreAmong xs ys
+    → AreAmong ys xs
     → MatchOption one (IsUnbounded parts xs) (λ queue. IsLeastQueue parts xs longest queue)
     → MatchOption other (IsUnbounded parts ys) (λ queue. IsLeastQueue parts ys longest queue) → one ≡ other
 least_is_one parts xs ys longest None None there back h k = refl
@@ -76,21 +77,26 @@ least_is_one parts xs ys longest (Some q) (Some r) there back h k =
     let Q : ℕ → ℕ → Option Queue = λ x y. Some record { delay = x; backlog = y } in
     ap₂ Q delays backlogs
 
-among : (P R : Service → Type 0) (xs ys : List Service) → ((s : Service) → P s → R s) → AreAll P xs → AreAll R ys → AreAmong xs ys
+among : (P R : Service → Type 0) (xs ys : List Service) → ((s : Service) → P s → R s) → AreAll P xs → AreAll R ys
+    → AreAmong xs ys
 among P R xs ys same one two = record {
   each = λ k h.
       let c = two.every (get_or xs k any) (same (get_or xs k any) (one.each k any h)) in
       (c.0, record { inside = c.1; is = λ e. get_or_default ys c.0 e (get_or xs k any) c.1 ∙ c.2 });
 }
 
-by_parts : (p r : Port) → grid_port p ≡ grid_port r → (queues : List Incoming) (q longest : ℕ) (parts : Option (List Part))
-    (one other : Option Queue) → IsRowBy p queues q longest parts one → IsRowBy r queues q longest parts other → one ≡ other
+by_parts : (p r : Port) → grid_port p ≡ grid_port r
+    → (queues : List Incoming) (q longest : ℕ) (parts : Option (List Part))
+    (one other : Option Queue) → IsRowBy p queues q longest parts one → IsRowBy r queues q longest parts other
+    → one ≡ other
 by_parts p r e queues q zero parts one other h k = h ∙ sym k
 by_parts p r e queues q (suc longest) None one other h k = h ∙ sym k
 by_parts p r e queues q (suc longest) (Some parts) one other h k =
     least_is_one parts h.services k.services (1024 * (queue_in queues q).longest) one other
-    (among (IsServiceOf p queues q) (IsServiceOf r queues q) h.services k.services (services_same p r e queues q) h.all k.all)
-    (among (IsServiceOf r queues q) (IsServiceOf p queues q) k.services h.services (services_same r p (sym e) queues q) k.all h.all)
+    (among (IsServiceOf p queues q) (IsServiceOf r queues q) h.services k.services (services_same p r e queues q)
+    h.all k.all)
+    (among (IsServiceOf r queues q) (IsServiceOf p queues q) k.services h.services
+    (services_same r p (sym e) queues q) k.all h.all)
     h.least k.least
 
 pub row_is_one : (p r : Port) → grid_port p ≡ grid_port r → (queues : List Incoming) (q : ℕ) (one other : Option Queue)

@@ -1,5 +1,5 @@
 -- Two networks of one document have one table: port by port in an order, and then along each link.
-use Rattle.std.proofs.Common.{◌≡◌, ◌⊎◌, ℕ, zero, suc, ◌<◌, ◌≤◌, ◌+◌, Option, Some, None, List, [], ◌∷◌, length, get_or, map, refl, sym, ◌∙◌, ap, ap₂, subst, arith, inl, inr}
+use Rattle.std.proofs.Common.{◌≡◌, ◌⊎◌, ℕ, zero, suc, ◌<◌, ◌≤◌, ◌+◌, Option, Some, None, List, [], length, get_or, refl, sym, ◌∙◌, ap, ap₂, subst, arith, inl, inr}
 use Rattle.std.specs.Prelude.{slice_get, option_map}
 use Rattle.std.proofs.lemmas.Bool.{cases_lt, cases_eq}
 use Rattle.std.proofs.lemmas.List.{get_or_past, length-map}
@@ -8,22 +8,21 @@ use Rattle.arrival_lines.specs.declared.grid.Line.{Line}
 use Rattle.arrival_lines.specs.declared.grid.Queue.{Queue}
 use Rattle.tree_network.specs.Networks.{IsNetwork, IsLink, HangsBefore, queues_of, port_at, node_at, no_node}
 use Rattle.tree_network.specs.declared.network.Node.{Node}
-use Rattle.tree_network.specs.declared.network.Port.{Port}
 use Rattle.tree_network.specs.declared.network.Link.{Link}
 use Rattle.tree_network.specs.declared.network.Network.{Network}
 use Rattle.tree_order.specs.declared.spots.Spot.{Spot}
 use Rattle.tree_order.specs.Spots.{spot_at, spots_of, AreSpots, ComesFrom}
-use Rattle.tree_order.specs.Orders.{IsOrderOf, GoesTo}
+use Rattle.tree_order.specs.Orders.{GoesTo}
 use Rattle.tree_order.proofs.InRange.{in_range}
-use Rattle.document_tables.specs.Grids.{PortOnGrid, LinkOnGrid, grid_port, grid_link}
+use Rattle.document_tables.specs.Grids.{PortOnGrid, LinkOnGrid, grid_link}
 use Rattle.port_bounds.specs.Incoming.{Incoming}
 use Rattle.port_bounds.specs.Rows.{IsRow}
 use Rattle.tree_bounds.specs.Lines.{first_line_of, later_line}
-use Rattle.tree_bounds.specs.Equations.{MeetsEquations, arrivals_of}
-use Rattle.tree_bounds.specs.Tables.{IsTableOf, AreBounds, items_of, row_in, bounds_in, time_at, time_after, time_before}
+use Rattle.tree_bounds.specs.Equations.{arrivals_of}
+use Rattle.tree_bounds.specs.Tables.{IsTableOf, items_of, row_in, bounds_in, time_after, time_before}
 use Rattle.tree_bounds.specs.declared.analysis.Table.{Table}
 use Rattle.tree_bounds.proofs.Done.{incomings_same}
-use Rattle.bounds_command.proofs.Alike.{AreAlike, ports_count, links_count, port_same, link_same, queues_same, first_same, spots_same, arrivals_same}
+use Rattle.bounds_command.proofs.Alike.{AreAlike, ports_count, port_same, link_same, queues_same, first_same, spots_same, arrivals_same}
 use Rattle.bounds_command.proofs.OneQueue.{row_is_one}
 use Rattle.bounds_command.proofs.Places.{past}
 
@@ -32,7 +31,8 @@ record IsSameAt (a : Network) (ta tb : Table) (la lb : ℕ → Option Line) (s :
   lines : (n : ℕ) → n < length (spots_of a) → (spot_at (spots_of a) n).port ≡ s → la n ≡ lb n
   rows : (q : ℕ) → q < queues_of (port_at a s).discipline → row_in ta s q ≡ row_in tb s q
 
-module _ (a b : Network) (alike : AreAlike a b) (w : IsNetwork a) (ta tb : Table) (ia : IsTableOf a ta) (ib : IsTableOf b tb) where
+module _ (a b : Network) (alike : AreAlike a b) (w : IsNetwork a) (ta tb : Table) (ia : IsTableOf a ta)
+    (ib : IsTableOf b tb) where
   abbrev Same : ℕ → Type 0
   Same s = IsSameAt a ta tb ia.line ib.line s
 
@@ -56,19 +56,22 @@ module _ (a b : Network) (alike : AreAlike a b) (w : IsNetwork a) (ta tb : Table
       let c = subst P e (ranged.each n h).comes in
       (c.0, c.1)
 
-  goes_on : (n p : ℕ) → n < length (spots_of a) → (spot_at (spots_of a) n).source ≡ suc p → Same p → ia.line n ≡ ib.line n
+  goes_on : (n p : ℕ) → n < length (spots_of a) → (spot_at (spots_of a) n).source ≡ suc p → Same p
+      → ia.line n ≡ ib.line n
   goes_on n p h e before =
       let m = (spot_at (spots_of a) n).from in
       let q = (spot_at (spots_of a) m).queue in
       let c = came n p h e in
       let early : m < length (spots_of a) = omega (arith, c.0, h) in
       let B : List Spot → Type 0 = λ spots. (n p : ℕ) → n < length spots → (spot_at spots n).source ≡ suc p
-      → ib.line n ≡ later_line (ib.line (spot_at spots n).from) (row_in tb p (spot_at spots (spot_at spots n).from).queue) in
+      → ib.line n ≡ later_line (ib.line (spot_at spots n).from)
+      (row_in tb p (spot_at spots (spot_at spots n).from).queue) in
       let other = subst B (sym (spots_same a b alike)) ib.equations.goes_on in
       let Q : ℕ → Type 0 = λ s. q < queues_of (port_at a s).discipline in
       let known = subst Q c.1 (ranged.each m early).queue in
       ia.equations.goes_on n p h e
-      ∙ ap₂ (λ (line : Option Line) (row : Option Queue). later_line line row) (before.lines m early c.1) (before.rows q known)
+      ∙ ap₂ (λ (line : Option Line) (row : Option Queue). later_line line row) (before.lines m early c.1)
+      (before.rows q known)
       ∙ sym (other n p h e)
 
   is_before : (n p i : ℕ) → n < length (spots_of a) → i < length a.ports.items → (spot_at (spots_of a) n).source ≡ suc p
@@ -85,10 +88,12 @@ module _ (a b : Network) (alike : AreAlike a b) (w : IsNetwork a) (ta tb : Table
       } in
       subst Same st.1.is (before st.0 (ia.goes_forward.forward st.0 i inside hi goes))
 
-  one_more : (i : ℕ) → i < length a.ports.items → ((j : ℕ) → j < i → Same (get_or ia.order j 0)) → Same (get_or ia.order i 0)
+  one_more : (i : ℕ) → i < length a.ports.items → ((j : ℕ) → j < i → Same (get_or ia.order j 0))
+      → Same (get_or ia.order i 0)
   one_more i hi before = record { lines = lines; rows = rows }
     where
-      lines : (n : ℕ) → n < length (spots_of a) → (spot_at (spots_of a) n).port ≡ get_or ia.order i 0 → ia.line n ≡ ib.line n
+      lines : (n : ℕ) → n < length (spots_of a) → (spot_at (spots_of a) n).port ≡ get_or ia.order i 0
+          → ia.line n ≡ ib.line n
       lines n h at = by_source (spot_at (spots_of a) n).source refl
         where
           by_source : (k : ℕ) → (spot_at (spots_of a) n).source ≡ k → ia.line n ≡ ib.line n
@@ -99,10 +104,12 @@ module _ (a b : Network) (alike : AreAlike a b) (w : IsNetwork a) (ta tb : Table
           → row_in ta (get_or ia.order i 0) q ≡ row_in tb (get_or ia.order i 0) q
       rows q hq =
           let small = ia.goes_forward.small i hi in
-          let known : get_or ia.order i 0 < length b.ports.items = let e = ports_count a b alike in omega (arith, small, e) in
+          let known : get_or ia.order i 0 < length b.ports.items = let e = ports_count a b alike in
+          omega (arith, small, e) in
           let view = port_same a b alike (get_or ia.order i 0) in
           let queue : q < queues_of (port_at b (get_or ia.order i 0)).discipline =
-          let e = queues_same (port_at a (get_or ia.order i 0)) (port_at b (get_or ia.order i 0)) view in omega (arith, hq, e) in
+          let e = queues_same (port_at a (get_or ia.order i 0)) (port_at b (get_or ia.order i 0)) view in
+          omega (arith, hq, e) in
           let same : arrivals_of a ia.line (get_or ia.order i 0) ≡ arrivals_of b ib.line (get_or ia.order i 0) =
           incomings_same a (spots_of a) ia.line ib.line (get_or ia.order i 0)
           (queues_of (port_at a (get_or ia.order i 0)).discipline) lines
@@ -110,7 +117,8 @@ module _ (a b : Network) (alike : AreAlike a b) (w : IsNetwork a) (ta tb : Table
           let R : List Incoming → Type 0 =
           λ xs. IsRow (port_at a (get_or ia.order i 0)) xs q (row_in ta (get_or ia.order i 0) q) in
           row_is_one (port_at a (get_or ia.order i 0)) (port_at b (get_or ia.order i 0)) view
-          (arrivals_of b ib.line (get_or ia.order i 0)) q (row_in ta (get_or ia.order i 0) q) (row_in tb (get_or ia.order i 0) q)
+          (arrivals_of b ib.line (get_or ia.order i 0)) q (row_in ta (get_or ia.order i 0) q)
+          (row_in tb (get_or ia.order i 0) q)
           (subst R same (ia.equations.rows (get_or ia.order i 0) q small hq))
           (ib.equations.rows (get_or ia.order i 0) q known queue)
 
@@ -124,14 +132,16 @@ module _ (a b : Network) (alike : AreAlike a b) (w : IsNetwork a) (ta tb : Table
         | inr other ↦ in_turn k (omega (arith, h)) i (omega (arith, lt, other))
       ]
 
-  rows_in_range : (s q : ℕ) → s < length a.ports.items → q < queues_of (port_at a s).discipline → row_in ta s q ≡ row_in tb s q
+  rows_in_range : (s q : ℕ) → s < length a.ports.items → q < queues_of (port_at a s).discipline
+      → row_in ta s q ≡ row_in tb s q
   rows_in_range s q h hq =
       let st = ia.goes_forward.every s h in
       let inside : st.0 < length a.ports.items = let k = st.1.inside in omega (arith, k, ia.goes_forward.count) in
       (subst Same st.1.is (in_turn (length a.ports.items) (omega arith) st.0 inside)).rows q hq
 
   -- beyond the last there is none in both
-  no_port_there : (net : Network) (t : Table) (s q : ℕ) → IsTableOf net t → length net.ports.items ≤ s → row_in t s q ≡ None
+  no_port_there : (net : Network) (t : Table) (s q : ℕ) → IsTableOf net t → length net.ports.items ≤ s
+      → row_in t s q ≡ None
   no_port_there net t s q is h =
       let long = length-map t.rows.items (λ v. v.items) in
       ap (λ (row : List (Option Queue)). get_or row q None)
@@ -152,7 +162,8 @@ module _ (a b : Network) (alike : AreAlike a b) (w : IsNetwork a) (ta tb : Table
             no_port_there a ta s q ia h ∙ sym (no_port_there b tb s q ib (omega (arith, h, e)))
       ]
     where
-      inside : s < length a.ports.items → (q < queues_of (port_at a s).discipline) ⊎ (queues_of (port_at a s).discipline ≤ q)
+      inside : s < length a.ports.items → (q < queues_of (port_at a s).discipline) ⊎
+          (queues_of (port_at a s).discipline ≤ q)
           → row_in ta s q ≡ row_in tb s q
       inside h (inl hq) = rows_in_range s q h hq
       inside h (inr hq) =
@@ -162,7 +173,8 @@ module _ (a b : Network) (alike : AreAlike a b) (w : IsNetwork a) (ta tb : Table
           ∙ sym (no_queue_there b tb s q ib (omega (arith, h, e)) (omega (arith, hq, f)))
 
   -- ---- bounds
-  bound_at : (i : ℕ) (l m : Link) → slice_get a.links.items i ≡ Some l → slice_get b.links.items i ≡ Some m → grid_link l ≡ grid_link m
+  bound_at : (i : ℕ) (l m : Link) → slice_get a.links.items i ≡ Some l → slice_get b.links.items i ≡ Some m
+      → grid_link l ≡ grid_link m
       → IsLink a l → (n place : ℕ) → place < n → place < length l.nodes.items
       → get_or (bounds_in ta i) place None ≡ get_or (bounds_in tb i) place None
   bound_at i l m el em same is zero place h k = absurd (omega (arith, h))
@@ -176,32 +188,42 @@ module _ (a b : Network) (alike : AreAlike a b) (w : IsNetwork a) (ta tb : Table
       let q = (node_at l place).queue in
       (ia.bounds i l el).each place k
       ∙ ap (λ (t : Option ℕ). time_after t (row_in ta s q) (port_at a s).link) (before
-      (λ q lt e. bound_at i l m el em same is n q (omega (arith, lt, h)) (omega (arith, e, k))) (node_at l place).from (is.nodes place k).hangs)
-      ∙ ap (λ (r : Option Queue). time_after (time_before (bounds_in tb i) (node_at l place).from) r (port_at a s).link) (rows_are_one s q)
-      ∙ ap (λ (v : PortOnGrid). time_after (time_before (bounds_in tb i) (node_at l place).from) (row_in tb s q) v.link) (port_same a b alike s)
+      (λ q lt e. bound_at i l m el em same is n q (omega (arith, lt, h)) (omega (arith, e, k))) (node_at l place).from
+      (is.nodes place k).hangs)
+      ∙ ap (λ (r : Option Queue). time_after (time_before (bounds_in tb i) (node_at l place).from) r
+      (port_at a s).link) (rows_are_one s q)
+      ∙ ap (λ (v : PortOnGrid). time_after (time_before (bounds_in tb i) (node_at l place).from) (row_in tb s q)
+      v.link) (port_same a b alike s)
       ∙ ap (λ (x : Node). after x (time_before (bounds_in tb i) x.from)) node
       ∙ sym ((ib.bounds i m em).each place (omega (arith, k, long)))
     where
-      before : ((q : ℕ) → q < place → q < length l.nodes.items → get_or (bounds_in ta i) q None ≡ get_or (bounds_in tb i) q None)
-          → (from : Option ℕ) → HangsBefore place from → time_before (bounds_in ta i) from ≡ time_before (bounds_in tb i) from
+      before : ((q : ℕ) → q < place → q < length l.nodes.items
+          → get_or (bounds_in ta i) q None ≡ get_or (bounds_in tb i) q None)
+          → (from : Option ℕ) → HangsBefore place from
+          → time_before (bounds_in ta i) from ≡ time_before (bounds_in tb i) from
       before earlier None e = refl
       before earlier (Some p) e = earlier p e (omega (arith, e, k))
 
   pub bounds_are_one : (i place : ℕ) → get_or (bounds_in ta i) place None ≡ get_or (bounds_in tb i) place None
-  bounds_are_one i place = by_links (slice_get a.links.items i) (slice_get b.links.items i) refl refl (link_same a b alike i)
+  bounds_are_one i place =
+      by_links (slice_get a.links.items i) (slice_get b.links.items i) refl refl (link_same a b alike i)
     where
-      none : (net : Network) (t : Table) → IsTableOf net t → slice_get net.links.items i ≡ None → get_or (bounds_in t i) place None ≡ None
+      none : (net : Network) (t : Table) → IsTableOf net t → slice_get net.links.items i ≡ None
+          → get_or (bounds_in t i) place None ≡ None
       none net t is e =
           let long = length-map t.bounds.items (λ v. v.items) in
           let out = past net.links.items i e in
-          ap (λ (xs : List (Option ℕ)). get_or xs place None) (get_or_past (items_of t.bounds.items) i [] (omega (arith, long, out, is.links)))
+          ap (λ (xs : List (Option ℕ)). get_or xs place None)
+          (get_or_past (items_of t.bounds.items) i [] (omega (arith, long, out, is.links)))
 
-      by_place : (l m : Link) → slice_get a.links.items i ≡ Some l → slice_get b.links.items i ≡ Some m → grid_link l ≡ grid_link m
+      by_place : (l m : Link) → slice_get a.links.items i ≡ Some l → slice_get b.links.items i ≡ Some m
+          → grid_link l ≡ grid_link m
           → (place < length l.nodes.items) ⊎ (length l.nodes.items ≤ place)
           → get_or (bounds_in ta i) place None ≡ get_or (bounds_in tb i) place None
       by_place l m el em same (inl h) =
           let L : Link → Type 0 = λ x. IsLink a x in
-          let is = subst L (get_or_from_slice_get a.links.items i l l el) (w.links i l (slice_get_within a.links.items i l el)) in
+          let is = subst L (get_or_from_slice_get a.links.items i l l el)
+          (w.links i l (slice_get_within a.links.items i l el)) in
           bound_at i l m el em same is (place + 1) place (omega arith) h
       by_place l m el em same (inr h) =
           let long : length l.nodes.items ≡ length m.nodes.items = ap (λ (v : LinkOnGrid). length v.nodes) same in
@@ -215,10 +237,12 @@ module _ (a b : Network) (alike : AreAlike a b) (w : IsNetwork a) (ta tb : Table
           → get_or (bounds_in ta i) place None ≡ get_or (bounds_in tb i) place None
       by_links None None eo ep same = none a ta ia eo ∙ sym (none b tb ib ep)
       by_links None (Some m) eo ep same =
-          let e : None ≡ Some (grid_link m) = ap (option_map grid_link) (sym eo) ∙ same ∙ ap (option_map grid_link) ep in
+          let e : None ≡ Some (grid_link m) = ap (option_map grid_link) (sym eo) ∙ same
+          ∙ ap (option_map grid_link) ep in
           absurd (cc)
       by_links (Some l) None eo ep same =
-          let e : Some (grid_link l) ≡ None = ap (option_map grid_link) (sym eo) ∙ same ∙ ap (option_map grid_link) ep in
+          let e : Some (grid_link l) ≡ None = ap (option_map grid_link) (sym eo) ∙ same
+          ∙ ap (option_map grid_link) ep in
           absurd (cc)
       by_links (Some l) (Some m) eo ep same =
           let e : Some (grid_link l) ≡ Some (grid_link m) =

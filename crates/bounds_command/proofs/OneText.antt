@@ -1,6 +1,6 @@
 -- Reports that tell the same have one text and one status.
 use Rattle.std.proofs.Common.{◌≡◌, ◌||◌, ℕ, Bool, if◌then◌else◌, List, [], ◌∷◌, ◌++◌, length, map, refl, sym, ◌∙◌, ap, ap₂}
-use Rattle.std.specs.List.{flat_map, list_any}
+use Rattle.std.specs.List.{flat_map}
 use Rattle.std.proofs.lemmas.List.{length-map}
 use Rattle.bounds_report.specs.Lines.{report_lines, head_line, queue_line, branch_line}
 use Rattle.bounds_report.specs.Data.{report_json, queue_data, branch_data}
@@ -101,7 +101,8 @@ head_same one other s =
     let ports = s.ports in
     let links = s.links in
     let count : length one.branches.items ≡ length other.branches.items =
-    sym (length-map one.branches.items branch_view) ∙ ap length s.branches ∙ length-map other.branches.items branch_view in
+    sym (length-map one.branches.items branch_view) ∙ ap length s.branches
+    ∙ length-map other.branches.items branch_view in
     rw (ports, links, count)
 
 pub text_same : (form : Form) (one other : Report) → TellTheSame one other → text_in form one ≡ text_in form other
@@ -109,9 +110,11 @@ unfolding report_lines report_json
 text_same Lines one other s =
     let head = head_same one other s in
     let queues = lines_same queue_view queue_line queue_line_same one.queues.items other.queues.items s.queues in
-    let branches = lines_same branch_view branch_line branch_line_same one.branches.items other.branches.items s.branches in
+    let branches = lines_same branch_view branch_line branch_line_same one.branches.items other.branches.items
+    s.branches in
     rw (head, queues, branches)
 text_same Json one other s =
     let queues = values_same queue_view queue_data queue_data_same one.queues.items other.queues.items s.queues in
-    let branches = values_same branch_view branch_data branch_data_same one.branches.items other.branches.items s.branches in
+    let branches = values_same branch_view branch_data branch_data_same one.branches.items other.branches.items
+    s.branches in
     rw (queues, branches)

@@ -1,5 +1,5 @@
 -- Where members stand in lists.
-use Rattle.std.proofs.Common.{◌≡◌, ◌⊎◌, ℕ, zero, suc, ◌<◌, ◌≤◌, ◌+◌, Some, None, List, [], ◌∷◌, ◌++◌, length, get_or, map, refl, arith, inl, inr}
+use Rattle.std.proofs.Common.{◌≡◌, ◌⊎◌, ℕ, zero, suc, ◌<◌, ◌≤◌, ◌+◌, Some, None, List, [], ◌∷◌, ◌++◌, length, map, refl, arith, inl, inr}
 use Rattle.std.specs.Prelude.{slice_get}
 use Rattle.std.specs.List.{flat_map, range_with_len}
 use Rattle.std.proofs.lemmas.List.FromFn.{length-range_with_len, get_or-range_with_len}
@@ -24,7 +24,8 @@ pub record InFlat {X A : Type 0} (f : X → List A) (xs : List X) (y : A) : Type
   pub place : ℕ
   pub is : slice_get (f of) place ≡ Some y
 
-pub in_flat : {X A : Type 0} (f : X → List A) (xs : List X) (k : ℕ) (y : A) → slice_get (flat_map f xs) k ≡ Some y → InFlat f xs y
+pub in_flat : {X A : Type 0} (f : X → List A) (xs : List X) (k : ℕ) (y : A) → slice_get (flat_map f xs) k ≡ Some y
+    → InFlat f xs y
 in_flat f [] k y e = absurd (cc)
 in_flat f (x ∷ xs) k y e =
     elim (in_append (f x) (flat_map f xs) k y e) [

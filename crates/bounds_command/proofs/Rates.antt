@@ -1,13 +1,13 @@
 -- The rates of links at queues, as they are added up.
-use Rattle.std.proofs.Common.{◌≡◌, ◌≢◌, ◌⊎◌, ℕ, ◌<◌, ◌≤◌, ◌+◌, ◌*◌, ◌^◌, ◌==◌, ◌&&◌, Bool, true, false, List, [], ◌∷◌, ◌++◌, length, get_or, set, take, map, replicate, Vec, refl, sym, ◌∙◌, ap, ap₂, subst, arith, inl, inr, length-append}
+use Rattle.std.proofs.Common.{◌≡◌, ◌≢◌, ◌⊎◌, ℕ, ◌<◌, ◌≤◌, ◌+◌, ◌*◌, ◌^◌, Bool, true, false, List, [], ◌∷◌, ◌++◌, length, get_or, set, take, map, replicate, Vec, refl, sym, ◌∙◌, ap, ap₂, subst, arith, inl, inr, length-append}
 use Rattle.std.specs.Prelude.{sum_by, All}
 use Rattle.std.specs.Int.{div_ceil}
 use Rattle.std.proofs.Math.Nat.{div-le_self, mul-le-mul_right}
 use Rattle.std.proofs.lemmas.Bool.{cases_lt, cases_eq}
 use Rattle.std.proofs.lemmas.Bool.Decides.{nat_tests}
-use Rattle.std.proofs.lemmas.List.{length-replicate, get_or-replicate, get_or_append_left, get_or_at, get_or-map, map-set, get_or-set_same, get_or-set_other, length-set, length-map, length-take, take_all, get_or_default}
+use Rattle.std.proofs.lemmas.List.{length-replicate, get_or-replicate, get_or_append_left, get_or_at, get_or-map, map-set, get_or-set_same, get_or-set_other, length-set, length-map, take_all, get_or_default}
 use Rattle.std.proofs.lemmas.List.Sums.{sum_by_more, sum_by-le, sum_by-take-le}
-use Rattle.tree_network.specs.Networks.{no_port, no_node, longest_frame, IsNetwork, IsLink, IsNodeAt, queues_of, port_at, node_at}
+use Rattle.tree_network.specs.Networks.{no_node, longest_frame, IsNetwork, IsLink, IsNodeAt}
 use Rattle.tree_network.specs.declared.network.Port.{Port}
 use Rattle.tree_network.specs.declared.network.Node.{Node}
 use Rattle.tree_network.specs.declared.network.Link.{Link}
@@ -36,13 +36,15 @@ port_more ports k rates old = record {
     at_place : (s : ℕ) → s < k + 1 → (s < k) ⊎ (k ≤ s)
         → get_or (rates ++ replicate (queues_in ports k) 0 ∷ []) s [] ≡ replicate (queues_in ports s) 0
     at_place s h (inl l) =
-        get_or_append_left rates (replicate (queues_in ports k) 0 ∷ []) [] s (omega (arith, l, old.count)) ∙ old.each s l
+        get_or_append_left rates (replicate (queues_in ports k) 0 ∷ []) [] s (omega (arith, l, old.count))
+        ∙ old.each s l
     at_place s h (inr l) =
         let last : s ≡ k = omega (arith, l, h) in
         get_or_at rates (replicate (queues_in ports k) 0) [] [] s (old.count ∙ sym last)
         ∙ ap (λ n. replicate (queues_in ports n) 0) (sym last)
 
-pub no_rates : (ports : List Port) (rates : List (List ℕ)) → NoRates ports (length ports) rates → AreRates ports [] rates
+pub no_rates : (ports : List Port) (rates : List (List ℕ)) → NoRates ports (length ports) rates
+    → AreRates ports [] rates
 no_rates ports rates all = record {
   ports_all = all.count;
   queues_all = λ s h. ap length (all.each s h) ∙ length-replicate (queues_in ports s) 0;
@@ -81,7 +83,8 @@ at_more rates node rate i k h l = by_port (cases_eq i node.port)
     by_queue : i ≡ node.port → (k ≡ node.queue) ⊎ (k ≢ node.queue)
         → at (with_more rates node.port node.queue rate) i k ≡ at rates i k + brought i k rate node
     by_queue e (inl f) =
-        let new : at (with_more rates node.port node.queue rate) node.port node.queue ≡ at rates node.port node.queue + rate =
+        let new : at (with_more rates node.port node.queue rate) node.port node.queue ≡ at rates node.port node.queue
+        + rate =
         ap (λ row. get_or row node.queue 0) (own rates node.port node.queue rate h)
         ∙ get_or-set_same (get_or rates node.port []) node.queue (at rates node.port node.queue + rate) 0 l in
         let same : brought i k rate node ≡ rate = grind (arith, nat_tests) in
@@ -106,12 +109,14 @@ at_more rates node rate i k h l = by_port (cases_eq i node.port)
 
 -- as the code keeps lists
 pub more_is : {Z : Type 0} (vs : List (Vec ℕ Z)) (s q : ℕ) (v w : Vec ℕ Z) (n : ℕ) → s < length vs → v ≡ get_or vs s v
-    → n ≡ get_or v.items q 0 → (rate : ℕ) → w.items ≡ set v.items q (n + rate) → items_of (set vs s w) ≡ with_more (items_of vs) s q rate
+    → n ≡ get_or v.items q 0 → (rate : ℕ) → w.items ≡ set v.items q (n + rate)
+    → items_of (set vs s w) ≡ with_more (items_of vs) s q rate
 more_is {Z = Z} vs s q v w n l is old rate made =
     let row : get_or (items_of vs) s [] ≡ v.items =
     get_or-map (λ (x : Vec ℕ Z). x.items) vs s v [] l ∙ ap (λ (x : Vec ℕ Z). x.items) (sym is) in
     map-set (λ (x : Vec ℕ Z). x.items) vs s w
-    ∙ ap (set (items_of vs) s) (made ∙ ap (λ m. set v.items q (m + rate)) old ∙ ap (λ xs. set xs q (get_or xs q 0 + rate)) (sym row))
+    ∙ ap (set (items_of vs) s) (made ∙ ap (λ m. set v.items q (m + rate)) old
+    ∙ ap (λ xs. set xs q (get_or xs q 0 + rate)) (sym row))
 
 -- ---- a link more
 -- the rates of the first so many links, and that of the next one at the first so many of its nodes
@@ -133,7 +138,8 @@ pub node_more : (net : Network) (number rate k : ℕ) (nodes : List Node) (rates
     → (get_or nodes k no_node).port < length net.ports.items
     → (get_or nodes k no_node).queue < queues_in net.ports.items (get_or nodes k no_node).port
     → Adding net number rate k nodes rates
-    → Adding net number rate (k + 1) nodes (with_more rates (get_or nodes k no_node).port (get_or nodes k no_node).queue rate)
+    → Adding net number rate (k + 1) nodes (with_more rates (get_or nodes k no_node).port
+    (get_or nodes k no_node).queue rate)
 node_more net number rate k nodes rates inside port queue old =
     let node = get_or nodes k no_node in
     let s = node.port in
@@ -151,9 +157,11 @@ node_more net number rate k nodes rates inside port queue old =
           omega (arith, new, was, sum);
     }
 
-pub link_more : (net : Network) (number rate k : ℕ) (link : Link) (rates : List (List ℕ)) → number < length net.links.items
+pub link_more : (net : Network) (number rate k : ℕ) (link : Link) (rates : List (List ℕ))
+    → number < length net.links.items
     → link ≡ get_or net.links.items number link → rate ≡ rate_of link → k ≡ length link.nodes.items
-    → Adding net number rate k link.nodes.items rates → AreRates net.ports.items (take (number + 1) net.links.items) rates
+    → Adding net number rate k link.nodes.items rates
+    → AreRates net.ports.items (take (number + 1) net.links.items) rates
 link_more net number rate k link rates inside is fast all done = record {
   ports_all = done.ports_all;
   queues_all = done.queues_all;
@@ -214,7 +222,8 @@ nodes_small s q rate nodes short slow =
     let a = mul-le-mul_right rate short in
     omega (arith, each, a, slow)
 
-pub links_small : (net : Network) (links : List Link) (s q : ℕ) → IsNetwork net → All (IsLink net) links → length links ≤ 16384
+pub links_small : (net : Network) (links : List Link) (s q : ℕ) → IsNetwork net → All (IsLink net) links
+    → length links ≤ 16384
     → rates_in links s q ≤ 16384 * (4096 * fastest_link)
 links_small net links s q w all short =
     let each = sum_by-le (λ x. brought_by s q x) (4096 * fastest_link) links
@@ -223,7 +232,8 @@ links_small net links s q w all short =
     (rate_small net (get_or links k d) is)) in
     omega (arith, each, short)
 
-pub rates_fit : (net : Network) (rates : List (List ℕ)) (s k d : ℕ) → IsNetwork net → AreRates net.ports.items net.links.items rates
+pub rates_fit : (net : Network) (rates : List (List ℕ)) (s k d : ℕ) → IsNetwork net
+    → AreRates net.ports.items net.links.items rates
     → s < length net.ports.items → k < length (get_or rates s []) → get_or (get_or rates s []) k d < 2 ^ 100
 rates_fit net rates s k d w is h inside =
     let long = is.queues_all s h in
@@ -242,7 +252,8 @@ pub record AddsNode (net : Network) (number rate k : ℕ) (nodes : List Node) (r
   pub next : Adding net number rate (k + 1) nodes
       (with_more rates (get_or nodes k no_node).port (get_or nodes k no_node).queue rate)
 
-pub adds_node : (net : Network) (number rate k : ℕ) (nodes : List Node) (link : Link) (rates : List (List ℕ)) → IsNetwork net → IsLink net link
+pub adds_node : (net : Network) (number rate k : ℕ) (nodes : List Node) (link : Link) (rates : List (List ℕ))
+    → IsNetwork net → IsLink net link
     → nodes ≡ link.nodes.items → rate ≡ rate_of link → k < length nodes → Adding net number rate k nodes rates
     → AddsNode net number rate k nodes rates
 adds_node net number rate k nodes link rates w is same fast h old =

@@ -30,14 +30,16 @@ pub record IsAnswerable (t : Tables) (overhead : ℕ) : Type 0 where
 -- their reply is a report
 abbrev pub RepliesAreComplete : Type 0
 RepliesAreComplete =
-    (t : Tables) (overhead : ℕ) (form : Form) (reply : Reply) → IsAnswerable t overhead → IsReplyOn t overhead form reply
+    (t : Tables) (overhead : ℕ) (form : Form) (reply : Reply) → IsAnswerable t overhead
+    → IsReplyOn t overhead form reply
     → (reply.status ≡ 0) ⊎ (reply.status ≡ 9)
 
 -- ---- statuses
 -- a report by which some branch misses its deadline, or by which none does
-pub record IsReportedWith (missed : Bool) (d : DocumentText) (net : Network) (form : Form) (reply : Reply) : Type 0 where
-  pub reported : IsReported d net form reply
-  pub misses : some_missed reported.report.branches.items ≡ missed
+pub record IsReportedWith (missed : Bool) (d : DocumentText) (net : Network) (form : Form) (reply : Reply) : Type 0
+  where
+    pub reported : IsReported d net form reply
+    pub misses : some_missed reported.report.branches.items ≡ missed
 
 abbrev pub IsReport : Bool → Tables → ℕ → Form → Reply → Type 0
 IsReport missed t overhead form reply = OfDocument t overhead (λ d net. IsReportedWith missed d net form reply)

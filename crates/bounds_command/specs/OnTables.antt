@@ -1,16 +1,17 @@
 -- What is answered on the bytes of two tables: the first fault of the document, a ring of its ports, or the report on
 -- its bounds.
-use Rattle.std.specs.Prelude.{◌≡◌, ◌⊎◌, ℕ, List, map, Ok, Err}
+use Rattle.std.specs.Prelude.{◌≡◌, ◌⊎◌, ◌<◌, ℕ, List, map, length, None, Ok, Err}
 use Rattle.csv_rows.specs.Rows.{LinedRow, AreLinedRowsOf}
 use Rattle.document_tables.specs.declared.fault.TableFile.{TableFile}
 use Rattle.document_tables.specs.declared.fault.TableFile.TheVariants.{Ports, Links}
 use Rattle.document_tables.specs.Tables.{LineRow}
 use Rattle.document_tables.specs.Documents.{DocumentText, FileFault, document_of}
-use Rattle.tree_network.specs.Networks.{IsNetwork}
+use Rattle.tree_network.specs.Networks.{IsNetwork, port_at, queues_of}
 use Rattle.tree_network.specs.declared.network.Network.{Network}
 use Rattle.tree_order.specs.Orders.{IsNetworkRing}
-use Rattle.tree_bounds.specs.Tables.{IsTableOf}
+use Rattle.tree_bounds.specs.Tables.{IsTableOf, row_in}
 use Rattle.tree_bounds.specs.declared.analysis.Table.{Table}
+use Rattle.tree_guarantee.specs.Causes.{IsCausedIn}
 use Rattle.bounds_report.specs.declared.rows.Report.{Report}
 use Rattle.bounds_command.specs.declared.answer.Form.{Form}
 use Rattle.bounds_command.specs.Promises.{Guarantees}
@@ -81,6 +82,10 @@ pub record IsReported (d : DocumentText) (net : Network) (form : Form) (reply : 
   pub report : Report
   pub tells : IsReportOf d net table report
   pub guarantees : Guarantees d net report
+  -- a queue has no number only where nothing bounds what comes there, its load is above the rate, or it waits too long
+  pub causes : (s q : ℕ) → s < length net.ports.items → q < queues_of (port_at net s).discipline
+      → row_in table s q ≡ None
+      → IsCausedIn net table s q
   pub is : reply ≡ record { status = status_with report; bytes = text_in form report }
 
 abbrev pub IsReplyOnDocument : DocumentText → Network → Form → Reply → Type 0

@@ -2,6 +2,7 @@
 
 ghost use Rattle.std.specs.Prelude.{◌≡◌, ◌≤◌, ℕ, List, map, IfOk};
 ghost use Rattle.csv_rows.specs.Rows.{AreLinedRowsOf, lined_of};
+ghost use Rattle.bounds_command.specs.Replies as replies;
 ghost use Rattle.bounds_command.specs.OnTables.{tables, named, IsReplyOn};
 ghost use Rattle.bounds_command.specs.View.{reply_of};
 
@@ -9,7 +10,7 @@ use crate::answer::{Answer, Form};
 use crate::on_document::on_document;
 use crate::refusals::breaks_rule;
 use csv_rows::{TableRow, read_table};
-use document_tables::{DocumentError, TableFile, read_document};
+use document_tables::{DocumentError, LineFault, TableFile, read_document};
 use std::alloc::{AllocError, Global};
 
 // The name of a file.
@@ -20,6 +21,19 @@ fn file_named<'a>(file: TableFile, ports: &'a str, links: &'a str) -> &'a str
         TableFile::Ports => ports,
         TableFile::Links => links,
     }
+}
+
+// The answer on two tables with these names, of which this one has this first fault.
+fn has_fault(
+    alloc: Global,
+    ports_file: &str,
+    links_file: &str,
+    file: TableFile,
+    fault: LineFault,
+) -> Result<Answer, AllocError>
+    ensures { IfOk result (λ r. reply_of r ≡ replies.has_fault (named ports_file.now links_file.now file) fault) }
+{
+    breaks_rule(alloc, file_named(file, ports_file, links_file), &fault)
 }
 
 // The answer on the rows of two tables with these names.
@@ -35,19 +49,21 @@ fn on_rows(
     requires { overhead ≤ 1048576 }
     ensures { (port_bytes link_bytes : List ℕ) → AreLinedRowsOf port_bytes (map lined_of ports.now)
         → AreLinedRowsOf link_bytes (map lined_of links.now)
-        → IfOk result (λ r. IsReplyOn (tables ports_file.now port_bytes links_file.now link_bytes) overhead form (reply_of r)) }
+        → IfOk result (λ r.
+        IsReplyOn (tables ports_file.now port_bytes links_file.now link_bytes) overhead form (reply_of r)) }
 {
     match read_document(alloc, ports, links, overhead) {
         Ok(document) => on_document(alloc, &document, form),
         Err(DocumentError::Fault(file, fault)) => {
-            breaks_rule(alloc, file_named(file, ports_file, links_file), &fault)
+            has_fault(alloc, ports_file, links_file, file, fault)
         }
         Err(DocumentError::NoMemory) => Err(AllocError),
     }
 }
 
 /// The answer on two tables with these names and these bytes, in this order: the first fault, a ring of ports, and else
-/// the report in a form. A frame has `overhead` bytes on the wire beside its own, at most 2^20. Refused only for want of memory.
+/// the report in a form, with what it promises of every lawful run. A frame has `overhead` bytes on the wire beside its
+/// own, at most 2^20. Refused only for want of memory.
 pub fn on_tables(
     alloc: Global,
     ports_file: &str,

@@ -7,11 +7,10 @@ mod answering;
 mod laws;
 mod loads;
 mod on_document;
-
 mod refusals;
 mod rows;
 
 pub use answer::{Answer, Form, Status};
-pub use laws::{replies_are_complete, replies_are_determined, statuses_have_causes};
 pub use answering::on_tables;
+pub use laws::{replies_are_complete, replies_are_determined, statuses_have_causes};
 pub use refusals::{cannot_read, too_long};

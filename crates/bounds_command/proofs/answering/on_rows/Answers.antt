@@ -1,10 +1,7 @@
-use Rattle.std.proofs.Common.{◌≡◌, ℕ, List, map, refl, subst}
-use Rattle.std.specs.Prelude.{IfOk}
+use Rattle.std.proofs.Common.{map, refl}
 use Rattle.document_tables.specs.Tables.{row_view}
 use Rattle.document_tables.specs.Documents.{document_view}
 use Rattle.bounds_command.specs.OnTables.{tables}
-use Rattle.bounds_command.specs.Replies.{has_fault}
-use Rattle.bounds_command.specs.View.{reply_of}
 use Rattle.bounds_command.proofs.Answered.{rows_of_both, on_document, on_fault}
 use Rattle.bounds_command.proofs.answering.on_rows.Goals as goal
 
@@ -19,9 +16,8 @@ returns-in-Ok c = λ port_bytes link_bytes h k.
 pub returns-in-Err-Fault : goal.returns-in-Err-Fault
 returns-in-Err-Fault c = λ port_bytes link_bytes h k.
     let t = tables c.args.ports_file.now port_bytes c.args.links_file.now link_bytes in
-    let file = c.in-Err-Fault.file in
-    let fault = c.in-Err-Fault.fault in
-    let B : List ℕ → Type 0 = λ name. IfOk c.breaks_rule.result (λ r. reply_of r ≡ has_fault name fault) in
-    on_fault t c.args.overhead c.args.form (map row_view c.args.ports.now) (map row_view c.args.links.now) file fault
-    c.breaks_rule.result (rows_of_both t c.args.ports.now c.args.links.now h k)
-    (rw c.in-Err-Fault.field-0-is at c.in-Err-Fault.ensures.value) (subst B c.file_named.ensures c.breaks_rule.ensures)
+    let arm = c.in-Err-Fault in
+    on_fault t c.args.overhead c.args.form (map row_view c.args.ports.now) (map row_view c.args.links.now) arm.file _
+    arm.fault _
+    c.has_fault.result (rows_of_both t c.args.ports.now c.args.links.now h k) (rw arm.field-0-is at arm.ensures.value)
+    arm.file-is arm.fault-is c.has_fault.ensures

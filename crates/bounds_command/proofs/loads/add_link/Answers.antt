@@ -1,8 +1,8 @@
-use Rattle.std.proofs.Common.{◌≡◌, ◌<◌, ◌+◌, ℕ, List, length, get_or, sym, ◌∙◌, ap, subst, arith}
-use Rattle.tree_network.specs.Networks.{IsLink, no_node}
+use Rattle.std.proofs.Common.{◌+◌, ℕ, List, sym, subst, arith}
+use Rattle.tree_network.specs.Networks.{IsLink}
 use Rattle.tree_network.specs.declared.network.Link.{Link}
 use Rattle.tree_bounds.specs.Tables.{items_of}
-use Rattle.bounds_command.proofs.Rates.{Adding, AddsNode, adds_node, frame_small}
+use Rattle.bounds_command.proofs.Rates.{Adding, adds_node, frame_small}
 use Rattle.bounds_command.proofs.loads.add_link.Goals as goal
 
 pub overflow_mul-link : goal.overflow_mul-link

@@ -1,5 +1,4 @@
-use Rattle.std.proofs.Common.{◌≡◌, ◌<◌, ℕ, length, refl, inr}
-use Rattle.document_tables.specs.declared.document.BranchEnd.{BranchEnd}
+use Rattle.std.proofs.Common.{refl}
 use Rattle.document_tables.specs.Documents.{document_view}
 use Rattle.bounds_command.specs.Reports.{branch_text}
 use Rattle.bounds_command.proofs.Answered.{reported}
@@ -15,5 +14,9 @@ reported-requires c =
 
 pub returns-in_ok-report-in-Ok : goal.returns-in_ok-report-in-Ok
 returns-in_ok-report-in-Ok c =
-    reported (document_view c.args.document.now) c.args.document.now.network c.args.form c.in-Ok.table c.in_ok-report-in-Ok.report
-    c.reported.result c.requires.network c.in-Ok.ensures.table c.in_ok-report-in-Ok.ensures c.reported.ensures
+    reported (document_view c.args.document.now) c.args.document.now.network c.args.form c.in-Ok.table
+    c.in_ok-report-in-Ok.report
+    c.reported.result c.requires.network c.in-Ok.ensures.table c.in_ok-report-in-Ok.ensures
+    (deadlines_in_range c.in_ok-report-in-Ok.report.branches.items c.args.document.now.branches.items
+    (branch_text (document_view c.args.document.now) c.args.document.now.network c.in-Ok.table) (λ b. refl)
+    c.in_ok-report-in-Ok.ensures.branches (λ k e h. (c.requires.ends k e h).deadline)) c.reported.ensures

@@ -7,4 +7,5 @@ pub returns : goal.returns
 returns c =
     let R : List ℕ → Reply = λ bytes. record { status = 1; bytes = bytes } in
     ap R (c.in_ok-text.ensures.ok
-    ∙ ap (λ (rest : List ℕ). codes "netbound: " ++ rest) (sym (append_assoc c.args.file.now (codes ": too long") (codes "\n"))))
+    ∙ ap (λ (rest : List ℕ). codes "netbound: " ++ rest)
+    (sym (append_assoc c.args.file.now (codes ": too long") (codes "\n"))))

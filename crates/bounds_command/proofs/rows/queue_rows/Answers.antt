@@ -1,10 +1,9 @@
-use Rattle.std.proofs.Common.{◌≡◌, ◌<◌, ◌^◌, ◌++◌, [], ℕ, Vec, Global, List, None, length, get_or, map, sym, ◌∙◌, ap, ap₂, subst, arith}
-use Rattle.std.specs.List.{flat_map, range_with_len}
+use Rattle.std.proofs.Common.{◌<◌, ◌^◌, ◌++◌, [], ℕ, Vec, Global, List, length, get_or, sym, ◌∙◌, ap, ap₂, subst, arith}
 use Rattle.std.proofs.lemmas.List.{get_or_default}
 use Rattle.tree_network.specs.Networks.{no_port}
 use Rattle.document_tables.specs.Documents.{document_view}
 use Rattle.tree_bounds.specs.Tables.{items_of}
-use Rattle.bounds_command.specs.Reports.{QueueText, queue_view, queues_at}
+use Rattle.bounds_command.specs.Reports.{QueueText, queues_at}
 use Rattle.bounds_command.proofs.QueueRows.{port_rows, ports_more}
 use Rattle.bounds_command.proofs.Rates.{rates_fit}
 use Rattle.bounds_command.proofs.rows.queue_rows.Goals as goal
@@ -32,8 +31,10 @@ loop-number-preserved c =
     let count = c.len-number-end.ensures in
     let inside : s < length net.ports.items = omega (arith, c.loop-number-test.true, count) in
     let port = c.index.ensures ∙ get_or_default net.ports.items s c.index.result.now no_port inside in
-    let rows = port_rows d net c.args.table.now (items_of rates) s c.name_of-name.result.now c.index.result.now c.rates_at.result.now
-    c.found_at.result.now c.requires.table c.in_ok-rates.ensures inside c.name_of-name.ensures port is c.found_at.ensures in
+    let rows = port_rows d net c.args.table.now (items_of rates) s c.name_of-name.result.now c.index.result.now
+    c.rates_at.result.now
+    c.found_at.result.now c.requires.table c.in_ok-rates.ensures inside c.name_of-name.ensures port is
+    c.found_at.ensures in
     c.in_ok-push_port.ensures
     ∙ ap₂ (λ (xs : List QueueText) (ys : List QueueText). xs ++ ys) c.loop-number.invariant rows
     ∙ ports_more (queues_at d net c.args.table.now) s
