@@ -48,8 +48,13 @@ by_status : (c : Call) (files : List (List ℕ)) (reply : Reply) → OnTables Is
     → IsByStatus c files reply
 by_status c (ports ∷ links ∷ []) reply h =
     let cause = law.statuses_have_causes (tables c.ports ports c.links links) c.overhead c.form reply h in
-    record { known = cause.known; malformed = cause.malformed; cycle = cause.cyclic; met = cause.met; missed =
-        cause.missed }
+    record {
+      known = cause.known;
+      malformed = cause.malformed;
+      cycle = cause.cyclic;
+      met = cause.met;
+      missed = cause.missed;
+    }
 by_status c [] reply h = absurd h
 by_status c (ports ∷ []) reply h = absurd h
 by_status c (ports ∷ links ∷ other ∷ files) reply h = absurd h
@@ -173,7 +178,7 @@ told_on faults last_fault told c before after reply status old new (inl failed) 
     any_told (all_told told (files_of c)) _ (λ files. inr (inl (given.0 ∙ three)))
 told_on faults last_fault told c before after reply status old new (inr found) given =
     on_told (all_told told (files_of c)) found.0 _ (same_told told (files_of c) found.0 found.1)
-        (inl (reply, found.2, given))
+    (inl (reply, found.2, given))
 
 told_given : {I : Type 0} (faults : I → ℕ) (last_fault : I → List ℕ) (told : Told) (c : Call) (before after : I)
     (reply : Reply)
@@ -226,7 +231,7 @@ answers_what_it_can : (c : Call) (told : Told) (status : ℕ) (old new : Option 
     → AnswersWhatItCan c told status
 answers_what_it_can c told status old new h =
     some_map (all_told told (files_of c)) _ _ (λ files given fit can. answers_or c files status old new fit can given)
-        h
+    h
 
 -- ---- all that the answer to words says
 pub record Outcome {I : Type 0} (content : I → Told) (faults : I → ℕ) (last_fault : I → List ℕ)
@@ -238,7 +243,7 @@ pub record Outcome {I : Type 0} (content : I → Told) (faults : I → ℕ) (las
       (λ file. FailedAt faults last_fault file before after × Gives status old new (cannot_read file)) (files_of c))
   pub malformed : status ≡ 1 → IfSome (call_of asked) (λ c.
       FirstIs (content before) (λ file. IsTooLong (content before file) × Gives status old new (too_long file))
-          (files_of c)
+      (files_of c)
       ⊎ Brings IsFaulty (content before) c status old new)
   pub cycle : status ≡ 8 → IfSome (call_of asked) (λ c. Brings IsCyclic (content before) c status old new)
   pub missed : status ≡ 9 → IfSome (call_of asked) (λ c. Brings (IsReport true) (content before) c status old new)
@@ -280,7 +285,7 @@ on_call content faults last_fault ports links overhead json before after reply s
       text = tt;
       read_fault = λ e. let g = apart 3 e (omega arith) in
           gives_line told (λ file. FailedAt faults last_fault file before after) cannot_read (files_of c) reply status
-              old new g
+          old new g
           (h.three (sym g.0 ∙ e));
       malformed = λ e. let g = apart 1 e (omega arith) in
           malformed told c reply status old new g (sym g.0 ∙ e) (h.one (sym g.0 ∙ e));
@@ -345,7 +350,7 @@ outcome content faults last_fault (Some Version) before after reply status old n
 outcome content faults last_fault (Some (Bounds ports links overhead json)) before after reply status old new
     (inr found) given =
     let is : found.0 ≡ the_call ports links overhead json = same_call (the_call ports links overhead json) found.0
-        found.1 in
+    found.1 in
     on_call content faults last_fault ports links overhead json before after reply status old new
     (subst (λ (c : Call). MayReplyTo faults last_fault (content before) c before after reply) is found.2) given
 
@@ -412,8 +417,11 @@ one_on c (ports ∷ []) x y h k = absurd h
 one_on c (ports ∷ links ∷ more ∷ files) x y h k = absurd h
 
 alike : (x y : Reply) → x ≡ y → AreSame x y
-alike x y same = record { status = ap (λ (r : Reply). r.status) same; bytes = λ apart. ap (λ (r : Reply). r.bytes)
-    same }
+alike x y same = record {
+  status = ap (λ (r : Reply). r.status) same;
+  bytes = λ apart. ap (λ (r : Reply). r.bytes)
+      same;
+}
 
 pub replies_are_determined : RepliesAreDetermined
 replies_are_determined c files x y (inl h) (inl k) = alike x y (long_one x y too_long (files_of c) files h k)

@@ -57,6 +57,6 @@ by_refusal app words k r same (inl memory) is =
 by_refusal app words k r same (inr among) is =
     let here : IsAmong k (fault_of netbound words) = subst (λ (a : App). IsAmong k (fault_of a words)) same among in
     let only : fault_of netbound words ≡ k ∷ [] = is_only (fault_of netbound words) k
-        (at_words netbound words refl refl) here in
+    (at_words netbound words refl refl) here in
     subst (λ (ks : Kinds). TellsRequest r (requests.asked_by ks (matches_of netbound words))) (sym only)
-        (by_kind k (matches_of netbound words) r is)
+    (by_kind k (matches_of netbound words) r is)

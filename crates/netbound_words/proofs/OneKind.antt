@@ -132,7 +132,7 @@ short_one : (c : List Rule) (again : Bool) (a : Option Rule) (rest : Text) (h : 
 short_one c again None rest h later one = single _
 short_one c again (Some a) rest h later one =
     if_one _ _ _ (option_one c again a (attached_value rest) h)
-        (or_one _ _ (react_one c again a [] h) (one (reacted c a [] h)))
+    (or_one _ _ (react_one c again a [] h) (one (reacted c a [] h)))
 
 step_one : (c : List Rule) (again : Bool) (x : Option ℕ) (flags : Text) (skip : ℕ) (h : Held)
     (later : Text → ℕ → Held → Kinds)
@@ -158,7 +158,7 @@ flag_word_one c again None word h = may_one _ _ [] (λ flags. flags_one c again 
 other_one : (s : Shape) (word : Text) (h : Held) → IsOne (Faults.other_fault s None word h)
 other_one s word h =
     if_one (bytes_eq word (45 ∷ 45 ∷ [])) [] (Faults.flag_word_fault s.rules s.args_override_self (long_of word) word
-        h) nothing
+    h) nothing
     (flag_word_one s.rules s.args_override_self (long_of word) word h)
 
 -- no word names a subcommand where there is none
@@ -176,7 +176,7 @@ word_one s is_trailing waiting word h =
 positional_one : (c : List Rule) (again : Bool) (a : Rule) (h : Held) → IsOne (Faults.positional_fault c again a h)
 positional_one c again a h =
     if_one (is_pending a h.pending && takes_several a) [] (Faults.settle_fault c again h) nothing
-        (settle_one c again h)
+    (settle_one c again h)
 
 turn_step_one : (s : Shape) (position : ℕ) (h : Held) (step : Step) → s.is_leaf ≡ true
     → IsOne (Faults.step_fault s position h step)
@@ -185,7 +185,7 @@ turn_step_one s position h (trailing n) leaf = nothing
 turn_step_one s position h (subcommand name) leaf = nothing
 turn_step_one s position h value leaf =
     may_one (λ a. Faults.positional_fault s.rules s.args_override_self a h) (arg_by_index s.rules position)
-        (Faults.stray_fault s)
+    (Faults.stray_fault s)
     (λ a. positional_one s.rules s.args_override_self a h) (rw leaf (single kind.UnknownArgument))
 
 turn_one : (s : Shape) (w : Walk) (word : Text) → s.is_leaf ≡ true → IsOne (Faults.turn_fault s [] w word)
@@ -203,7 +203,7 @@ walk_one s w [] leaf = nothing
 walk_one s w (word ∷ rest) leaf =
     let more = walked s.rules [] w word in
     or_one (Faults.turn_fault s [] w word) (Faults.walk_fault s [] more rest) (turn_one s w word leaf)
-        (walk_one s more rest leaf)
+    (walk_one s more rest leaf)
 
 -- ---- after the walk
 default_one : (rows : List Row) (a : Rule) → IsOne (Faults.default_fault rows a)

@@ -8,7 +8,7 @@ use Rattle.netbound_cli.proofs.top_call.answered.Goals as goal
 pub returns-in-Ok-Help : goal.returns-in-Ok-Help
 returns-in-Ok-Help g c =
     let asked : request_of (texts c.args.words.now) ≡ Some Help = rw c.in-Ok-Help.field-0-is at
-        c.in-Ok-Help.ensures.request in
+    c.in-Ok-Help.ensures.request in
     IfOk-weaker c.text_answer.result _ _
     (λ r is. may_reply_text g.I.Inputs.content g.I.Inputs.faults g.I.Inputs.last_fault
     (request_of (texts c.args.words.now)) Help

@@ -26,9 +26,12 @@ returns-in-Ok g c =
       cycle = all.cycle;
       missed = all.missed;
       done = all.done;
-      write_fault = λ four. let failed = c.give.ensures.failed four in
-          (reply_of c.in-Ok.answer, c.in-Ok.ensures, record
-          { rose = failed.rose; front = rw c.as_str.ensures.value at failed.front });
+      write_fault = λ four. let failed = c.give.ensures.failed four in (
+        reply_of c.in-Ok.answer,
+        c.in-Ok.ensures,
+        record
+            { rose = failed.rose; front = rw c.as_str.ensures.value at failed.front },
+      );
       no_memory = λ five. absurd (no.1 (sym (given (λ four. absurd (cc))).0 ∙ five));
       told = all.told;
       complete = all.complete;
@@ -39,7 +42,7 @@ returns-in-Ok g c =
 pub returns-in-Err : goal.returns-in-Err
 returns-in-Err g c =
     let all = no_outcome g.I.Inputs.content g.I.Inputs.faults g.I.Inputs.last_fault
-        (request_of (texts c.args.words.now))
+    (request_of (texts c.args.words.now))
     c.args.inputs.now c.answered.new.inputs c.code.result (g.K.Sink.written c.args.out.now)
     (g.K.Sink.written c.args.out.now) c.code.ensures in
     let five = c.code.ensures in

@@ -12,7 +12,7 @@ returns-in-Some-clause-request c =
     let none = told.kinds (ap is_simple_and_free app ∙ is_simple_and_free_app) in
     let rows = (told.matches (ap is_simple app ∙ is_simple_app)).0 in
     by_matches (app_of c.in-Ok.command) (texts c.args.words.now)
-        (rows_of (found_of c.in-Ok-try_get_matches_from.matches)) app none rows
+    (rows_of (found_of c.in-Ok-try_get_matches_from.matches)) app none rows
     ∙ sym c.in-Some.ensures.value
 
 pub returns-clause-request : goal.returns-clause-request
@@ -20,4 +20,4 @@ returns-clause-request c =
     let app = c.in-Ok.ensures in
     let kinds = c.in-Err.ensures.kinds (ap is_simple_and_free app ∙ is_simple_and_free_app) in
     by_refusal (app_of c.in-Ok.command) (texts c.args.words.now) c.kind.result c.refused.result app
-        (rw (← c.kind.ensures) at kinds) c.refused.ensures
+    (rw (← c.kind.ensures) at kinds) c.refused.ensures
