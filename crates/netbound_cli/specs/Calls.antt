@@ -44,7 +44,7 @@ help = record {
   bytes =
       codes "netbound PORTS.csv LINKS.csv [--overhead N] [--json]\n"
       ++ codes "\n"
-      ++ codes "Upper bounds on the delays and backlogs of a switched network, proved for every lawful run of it.\n"
+      ++ codes "Upper bounds on the delays and backlogs of a switched network, proved for every run that keeps its tables.\n"
       ++ codes "\n"
       ++ codes "  PORTS.csv     columns name, rate (Mbit/s), latency, link (microseconds), discipline "
       ++ codes "(fifo, priority N\n"

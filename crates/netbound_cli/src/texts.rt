@@ -11,7 +11,7 @@ pub(crate) const VERSION: &str = "netbound 1.0.0\n";
 pub(crate) const HELP: &str = "\
 netbound PORTS.csv LINKS.csv [--overhead N] [--json]
 
-Upper bounds on the delays and backlogs of a switched network, proved for every lawful run of it.
+Upper bounds on the delays and backlogs of a switched network, proved for every run that keeps its tables.
 
   PORTS.csv     columns name, rate (Mbit/s), latency, link (microseconds), discipline (fifo, priority N
                 or drr Q0 Q1 .. in bytes); gate (CYCLE SLOT in microseconds) where there are gates
