@@ -61,6 +61,8 @@ class Case:
 def cases() -> list[Case]:
     found = []
     for words in sorted(TOP.glob("tests/*/*/words")):
+        if words.parent.parent.name == "netbound":
+            continue  # bench/mutate_tables.py has those
         told = words.read_text().split()
         files = {name: (words.parent / name).read_bytes() for name in told if (words.parent / name).is_file()}
         if files or told[:1] == ["exercise"]:

@@ -162,21 +162,30 @@ def queue_count(port):
     ]()
 
 
-def queue_at(network, lines, s, q):
-    """What arrives at a queue: its parts by the port from which they come, and its longest frame."""
-    groups, known, longest = {}, True, 0
+def nodes_by_port(network):
+    """The nodes at each port: the link's number, the node's, the queue, and the number of the node before or None."""
+    found = [[] for _ in network["ports"]]
     for i, link in enumerate(network["links"]):
         for k, (port, queue, above) in enumerate(link["nodes"]):
-            if (port, queue) != (s, q):
-                continue
-            source = -1 if above is None else link["nodes"][above][0]
-            line = lines.get((i, k))
-            longest = max(longest, link["frame"])
-            known = known and line is not None
-            group = groups.setdefault(source, [0, 0, 0])
-            if line:
-                group[0], group[1] = group[0] + line[0], group[1] + line[1]
-            group[2] = max(group[2], link["frame"])
+            found[port].append((i, k, queue, above))
+    return found
+
+
+def queue_at(network, lines, nodes, q):
+    """What arrives at a queue of the port of these nodes: its parts by the port from which they come, and its longest frame."""
+    groups, known, longest = {}, True, 0
+    for i, k, queue, above in nodes:
+        if queue != q:
+            continue
+        link = network["links"][i]
+        source = -1 if above is None else link["nodes"][above][0]
+        line = lines.get((i, k))
+        longest = max(longest, link["frame"])
+        known = known and line is not None
+        group = groups.setdefault(source, [0, 0, 0])
+        if line:
+            group[0], group[1] = group[0] + line[0], group[1] + line[1]
+        group[2] = max(group[2], link["frame"])
     parts = [
         ((g[0], g[1]), None if source < 0 else (g[2] * GRAINS, network["ports"][source]["pace"]))
         for source, g in sorted(groups.items())
@@ -197,33 +206,36 @@ def order(network):
         for port, _, above in link["nodes"]:
             if above is not None:
                 before[port].add(link["nodes"][above][0])
-    placed = []
+    placed, done, left_over = [], set(), range(len(before))
     while len(placed) < len(before):
-        ready = [s for s, ports in enumerate(before) if s not in placed and ports <= set(placed)]
+        ready = [s for s in left_over if before[s] <= done]
         if not ready:
             raise ValueError("a cycle")
         placed += ready
+        done.update(ready)
+        left_over = [s for s in left_over if s not in done]
     return placed
 
 
-def pass_on(network, lines, rows, s):
-    """The lines of the links that go on from port s."""
-    for i, link in enumerate(network["links"]):
-        for k, (_, _, above) in enumerate(link["nodes"]):
-            if above is not None and link["nodes"][above][0] == s:
-                line, found = lines.get((i, above)), rows[s][link["nodes"][above][1]]
-                lines[i, k] = onward(line, found[0]) if line and found else None
+def arrived(network, lines, rows, nodes):
+    """Makes the lines of the links at a port, of what the ports before it have."""
+    for i, k, _, above in nodes:
+        if above is not None:
+            port, queue, _ = network["links"][i]["nodes"][above]
+            line, found = lines.get((i, above)), rows[port][queue]
+            lines[i, k] = onward(line, found[0]) if line and found else None
 
 
 def table(network):
     """The rows of the queues by port, and the bounds of the nodes by link."""
     lines = {(i, 0): link_line(link) for i, link in enumerate(network["links"])}
     rows = [None] * len(network["ports"])
+    nodes = nodes_by_port(network)
     for s in order(network):
         port = network["ports"][s]
-        queues = [queue_at(network, lines, s, q) for q in range(queue_count(port))]
+        arrived(network, lines, rows, nodes[s])
+        queues = [queue_at(network, lines, nodes[s], q) for q in range(queue_count(port))]
         rows[s] = [row(port, queues, q) for q in range(len(queues))]
-        pass_on(network, lines, rows, s)
     return rows, [bounds(network, rows, link) for link in network["links"]]
 
 
@@ -237,13 +249,11 @@ def bounds(network, rows, link):
     return found
 
 
-def loads(network, s):
-    """The rates of the links of each queue over the port's, in thousandths, rounded up."""
+def loads(network, s, nodes):
+    """The rates of the links of each queue at port s, whose nodes these are, over the port's, in thousandths, rounded up."""
     port, rates = network["ports"][s], {}
-    for link in network["links"]:
-        for at, queue, _ in link["nodes"]:
-            if at == s:
-                rates[queue] = rates.get(queue, 0) + link_rate(link)
+    for i, _, queue, _ in nodes:
+        rates[queue] = rates.get(queue, 0) + link_rate(network["links"][i])
     whole = own_service(port)[0]
     return [
         0 if rates.get(q, 0) == 0 else (up(rates[q] * 1000, whole) if whole else None) for q in range(queue_count(port))
@@ -294,7 +304,7 @@ def main(words):
     for _ in range(count):
         network = random_network(draw)
         rows, bounds_of = table(network)
-        every_load = [loads(network, s) for s in range(len(network["ports"]))]
+        every_load = [loads(network, s, nodes) for s, nodes in enumerate(nodes_by_port(network))]
         print(json.dumps({"network": network, "rows": rows, "loads": every_load, "bounds": bounds_of}))
 
 

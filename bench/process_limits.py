@@ -1,10 +1,10 @@
 #!/usr/bin/env python3
-"""What the program does where its process is short of something.
+"""What a program does where its process is short of something.
 
-    python3 bench/process_limits.py NETCALC [LIMITS] [WORD]
+    python3 bench/process_limits.py PROGRAM [LIMITS] [WORD]
 
-NETCALC is the program. It is tried on calls of all seven commands, with reports, reports as JSON and refusals, small ones and such as need some
-memory; with WORD on those alone whose name has it. A line for each call:
+PROGRAM is netcalc, or netbound where its file is called so. netcalc is tried on calls of all seven commands, netbound on tables, small ones and one
+of real size; with reports, reports as JSON and refusals, small ones and such as need some memory; with WORD on those alone whose name has it. A line for each call:
 
 - **Output**: to a closed one, a full device, a pipe whose reader has gone, with the signal of a broken pipe ignored and as a shell leaves it. Wanted:
   status 4 and no signal. With a limit on the size of files the system sends SIGXFSZ by itself, which is wanted.
@@ -23,6 +23,7 @@ import sys
 import tempfile
 from pathlib import Path
 
+import real_size
 from heaviest import ONE_BUCKET, ONE_GATE, ONE_STAIR, constants, distant, rates, recorded, stairs, sums
 
 TOP = Path(__file__).resolve().parent.parent
@@ -111,6 +112,28 @@ def large_calls() -> dict[str, tuple[list[str], dict[str, bytes]]]:
     }
 
 
+def table_calls() -> dict[str, tuple[list[str], dict[str, bytes]]]:
+    """Those of netbound."""
+    calls = {}
+    for name in ("a_fork_behind_two_ports", "json_with_deadlines", "a_ring_of_three_ports", "two_priorities", "two_quanta"):
+        folder = TOP / "tests/netbound" / name
+        words = (folder / "words").read_text().split()
+        calls[name.replace("_", " ")] = (words, {file: (folder / file).read_bytes() for file in words if file.endswith(".csv")})
+    ports, links = (table.encode() for table in real_size.tables(1, 1))
+    words = ["ports.csv", "links.csv"]
+    some = b"".join(links.splitlines(keepends=True)[:2000])
+    return calls | {
+        "help": (["--help"], {}),
+        "two files of other columns": (words, {"ports.csv": links, "links.csv": ports}),
+        "a fault in the last line": (words, {"ports.csv": ports, "links.csv": some + b"v,1\n"}),
+        "2,000 branches": (words, {"ports.csv": ports, "links.csv": some}),
+        "6,795 branches": (words, {"ports.csv": ports, "links.csv": links}),
+        "6,795 branches in JSON": ([*words, "--json"], {"ports.csv": ports, "links.csv": links}),
+        "a table that is too long": (words, {"ports.csv": b"\n" * (2**24 + 1), "links.csv": links}),
+        "a call without words": ([], {}),
+    }
+
+
 def run(program: str, words: list[str], folder: Path, kind: int | None = None, size: int = 0) -> tuple[int, bytes]:
     def limit() -> None:
         if kind is not None:
@@ -177,7 +200,8 @@ def main() -> None:
     loads = least(lambda size: run(program, [], TOP, resource.RLIMIT_AS, size)[0] == 2, 64 * MIB, PAGE)
     print(f"the program is loaded with {loads // KIB:,} KiB")
     tried = wrong = limits = deepest = 0
-    for what, (words, files) in (small_calls() | large_calls()).items():
+    is_netbound = Path(program).name.startswith("netbound")
+    for what, (words, files) in (table_calls() if is_netbound else small_calls() | large_calls()).items():
         if word not in what:
             continue
         with tempfile.TemporaryDirectory(prefix="process_limits_") as name:

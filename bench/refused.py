@@ -1,9 +1,9 @@
 #!/usr/bin/env python3
 """Refuses each allocation, each opening, each read and each write of some calls in turn, and looks at what the program does.
 
-    python3 bench/refused.py NETCALC [CASE..]
+    python3 bench/refused.py PROGRAM [CASE..]
 
-NETCALC is the program. A small library, which gcc makes in a folder that is removed, stands before the C library and lets the call of a number
+PROGRAM is netcalc, or netbound where its file is called so. A small library, which gcc makes in a folder that is removed, stands before the C library and lets the call of a number
 fail: malloc and realloc as where memory is refused, open and read with an error of the device, write with a full device. Memory is refused once, and
 in a run of its own from that call on. A CASE is a folder below tests/, as runs/avionics; without one the cases are those below.
 
@@ -27,6 +27,11 @@ CASES = """
     measures/four_packets measures/an_unknown_flow exercises/flows_of_one_server
     curves/eight_lines curves/a_textbook_delay curves/parentheses_64_deep curves/a_sum_with_too_many_pieces
     json/one_flow json/a_dropped_flow_and_back bounds/two_flows_that_share_a_link edits/a_rate_touches_the_sum_behind_its_link
+""".split()
+TABLES = """
+    netbound/one_fifo_port netbound/a_fork_behind_two_ports netbound/two_priorities netbound/two_quanta netbound/a_gate_with_a_latency
+    netbound/json_with_deadlines netbound/a_load_above_1_and_what_comes_after netbound/a_ring_of_three_ports netbound/no_table_of_links
+    netbound/an_unknown_flag netbound/help netbound/an_overhead_behind_an_equals_sign
 """.split()
 KINDS = ("memory", "open", "read", "write")
 LIBRARY = r"""
@@ -135,23 +140,24 @@ class Tried:
         return answer, [int(count) for count in self.counts.read_text().split()]
 
 
-def is_wanted(kind: str, answer: tuple[int, bytes], came: tuple[int, bytes], files: list[str]) -> bool:
+def is_wanted(kind: str, answer: tuple[int, bytes], came: tuple[int, bytes], lines: list[bytes]) -> bool:
     if kind == "memory":
         return came in ((5, b""), answer)
     if kind == "write":
         return came[0] == 4 and answer[1].startswith(came[1]) or came == answer
-    return came[0] == 3 and came[1] in [f"netcalc: cannot read {file}\n".encode() for file in files] or came == answer
+    return came[0] == 3 and came[1] in lines or came == answer
 
 
 def others_of(tried: Tried, case: str, kind: str, count: int, answer: tuple[int, bytes]) -> int:
     """How many ends are not as wanted where the calls of a kind are refused in turn."""
     folder = TOP / "tests" / case
-    files = (folder / "words").read_text().split()[1:]
+    name = "netbound" if case.startswith("netbound/") else "netcalc"
+    lines = [f"{name}: cannot read {word}\n".encode() for word in (folder / "words").read_text().split()]
     others = 0
     for number in range(1, count + 1):
         for is_from in (False, True) if kind == "memory" else (False,):
             came = tried.run(folder, kind, number, is_from)
-            if not is_wanted(kind, answer, came, files):
+            if not is_wanted(kind, answer, came, lines):
                 others += 1
                 print(f"{case}: {kind} {number}{' and all after it' if is_from else ''} refused: status {came[0]}, {came[1][:100]!r}", flush=True)
     return others
@@ -161,7 +167,7 @@ def main() -> None:
     if len(sys.argv) < 2:
         sys.exit(__doc__)
     program = str(Path(sys.argv[1]).resolve())
-    cases = sys.argv[2:] or CASES
+    cases = sys.argv[2:] or (TABLES if Path(program).name.startswith("netbound") else CASES)
     wrong = 0
     sums = dict.fromkeys(KINDS, 0)
     with tempfile.TemporaryDirectory(prefix="refused_") as name:

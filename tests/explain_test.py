@@ -246,10 +246,11 @@ class Launcher(WithFolder):
         home = {**os.environ, "HOME": str(self.folder)}
         subprocess.run(["sh", "-ec", "\n".join(lines)], cwd=TOP, env=home, check=True)
         links = [path for path in self.folder.rglob("*") if path.is_symlink()]
-        self.assertEqual({path.name for path in links}, {"netcalc", "netcalc.1"})
-        self.assertEqual((len(lines), len(links), all(path.exists() for path in links)), (4, 3, True))
-        told = subprocess.run([self.folder / ".local/bin/netcalc", "--version"], stdout=subprocess.PIPE, check=False)
-        self.assertEqual(told.returncode, 0)
+        self.assertEqual({path.name for path in links}, {"netcalc", "netcalc.1", "netbound", "netbound.1"})
+        self.assertEqual((len(lines), len(links), all(path.exists() for path in links)), (5, 6, True))
+        for name in ("netcalc", "netbound"):
+            told = subprocess.run([self.folder / ".local/bin" / name, "--version"], stdout=subprocess.PIPE, check=False)
+            self.assertEqual((told.returncode, told.stdout[: len(name)]), (0, name.encode()))
 
     def test_a_terminal(self):
         """Its standard error alone decides; the bytes and the status of the program stay as they are."""

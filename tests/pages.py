@@ -1,7 +1,8 @@
 #!/usr/bin/env python3
 """Runs each command that docs/TUTORIAL.md and the pages of examples/ show: an indented line that begins with `$ `,
 whose answer stands below it, up to the next command or the end of the block; files in /tmp are in a folder of their own
-here. Then it runs each network, edit list, trace, recorded run and script of examples/ that has its answer beside it.
+here. Then it runs each network, edit list, trace, recorded run and script of examples/ that has its answer beside it, and
+the tables that have one of netbound, bounds.txt.
 Each network in a folder of examples/ has a trace, an edit list and their answers. Last it holds the lines at the head
 of the page of min_plus_algebra to the test that they are."""
 
@@ -50,6 +51,9 @@ def wanted():
     yield from beside("check", "*_recorded.csv", "_recorded.csv", network, "{}_recorded.txt".format)
     yield from beside("edit", "*_edits.csv", "_edits.csv", network, "{}_edits.txt".format)
     yield from beside("curve", "*.curve", ".curve", None, "{}.txt".format)
+    for answer in sorted(TOP.glob("examples/*/bounds.txt")):
+        tables = " ".join(str(answer.with_name(name).relative_to(TOP)) for name in ("ports.csv", "links.csv"))
+        yield [("examples", f"./netbound {tables}", answer.read_text())]
 
 
 def lacking():
@@ -68,12 +72,13 @@ def is_a_test(crate):
     return block is not None and block.group() in (crate / "src/example.rt").read_text()
 
 
-def tell(commands, folder, program):
+def tell(commands, folder, netcalc, netbound):
     """Runs commands one after the other, with their files of /tmp in a folder; a line for each that printed something
-    else. The program's own words run it without the launcher, which looks at all sources each time."""
+    else. The programs' own words run them without the launcher, which looks at all sources each time."""
     told = []
     for place, command, shown in commands:
-        moved = re.sub(r"\./netcalc (?=(analyse|edit|simulate|exercise|check|measure|curve) )", f"{program} ", command)
+        moved = re.sub(r"\./netcalc (?=(analyse|edit|simulate|exercise|check|measure|curve) )", f"{netcalc} ", command)
+        moved = moved.replace("./netbound ", f"{netbound} ")
         moved = moved.replace("/tmp/", f"{folder}/")
         run = subprocess.run(moved, shell=True, cwd=TOP, capture_output=True, text=True, timeout=300, check=False)
         if run.stdout != shown or lacks_files(moved, folder, shown):
@@ -90,15 +95,20 @@ def lacks_files(command, folder, shown):
     return not all(path.exists() and path.stat().st_size for path in files)
 
 
+def program_of(name):
+    """The program that the launcher runs by a name, as a word of a shell."""
+    launcher = subprocess.run([TOP / name, "--program"], stdout=subprocess.PIPE, text=True, check=True)
+    return shlex.quote(launcher.stdout.removesuffix("\n"))
+
+
 def main():
     told = list(lacking())
     if not is_a_test(TOP / "crates/min_plus_algebra"):
         told.append("crates/min_plus_algebra/README.md: its first lines are not those of src/example.rt")
     lists = list(wanted())
-    launcher = subprocess.run([TOP / "netcalc", "--program"], stdout=subprocess.PIPE, text=True, check=True)
-    program = shlex.quote(launcher.stdout.removesuffix("\n"))
+    programs = [program_of(name) for name in ("netcalc", "netbound")]
     with tempfile.TemporaryDirectory() as folder, concurrent.futures.ThreadPoolExecutor(os.cpu_count()) as pool:
-        for faults in pool.map(lambda commands: tell(commands, folder, program), lists):
+        for faults in pool.map(lambda commands: tell(commands, folder, *programs), lists):
             told += faults
     print("\n".join(told), end="\n" if told else "", file=sys.stderr)
     print(f"pages: {sum(map(len, lists))} commands, {len(told)} faults")

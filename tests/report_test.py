@@ -570,6 +570,19 @@ class ImportAndSweep(WithFolder):
         self.assertEqual(tool("import_icd.py", ports, links).stdout, tool("import_icd.py", links, ports).stdout)
         self.refused("links.csv line 1: no column rate", "import_icd.py", links, links)
 
+    def test_deadlines_of_branches_are_those_of_their_flows(self):
+        links = self.file(
+            "branches.csv",
+            "name,bag,largest_frame,jitter,priority,path,deadline\n"
+            "v,1,200,,,es1 sw1-p1,500\nw,1,200,,,es1,\nv,1,200,,,es1,1\n",
+        )
+        path = self.file("n.toml", tool("import_icd.py", links, self.file("ports.csv", PORTS)).stdout)
+        run = tool("report.py", path, "--deadlines", links, "--program", PROGRAM)
+        self.assertEqual(run.returncode, 1)
+        self.assertIn("1 of 2 deadlines kept, 1 not; 3 flows, 1 without a deadline", run.stdout)
+        self.assertRegex(run.stdout, r"(?m)^ *v_1 .* PASS ")
+        self.assertRegex(run.stdout, r"(?m)^ *v_2 .* FAIL ")
+
     def test_gaps_are_cut_and_the_head_says_so(self):
         run = self.made("--longest-gap", "3", "--version", "2")
         network = networks.load(self.file("n.toml", run.stdout))

@@ -128,7 +128,7 @@ class Import(WithFolder):
     def test_faults_have_their_line(self):
         for links, ports, told in [
             (LINKS.replace("sw1-p1\nvl2", "sw9\nvl2"), PORTS, "links.csv line 2: no port sw9"),
-            (LINKS.replace("vl2,4", "vl1,4"), PORTS, "links.csv line 3: vl1 stands twice"),
+            (LINKS.replace("vl2,4", "vl1,4"), PORTS, "links.csv line 3: bag is another one than in the first line of vl1"),
             (LINKS.replace("vl2,4", "vl2,0"), PORTS, "links.csv line 3: bag 0 is not above 0"),
             (LINKS.replace("1518,,1", "1518,,2"), PORTS, "links.csv line 3: port sw1-p1 has no queue 2"),
             (LINKS.replace("1518", "x"), PORTS, "links.csv line 3: largest_frame 'x' is no whole number"),
@@ -163,7 +163,9 @@ class Import(WithFolder):
             (b"vl1,1,\0,,,es1", "line 2: "),
             (b"vl1,1,200,,,es1,sw1-p1", "line 2: 7 cells under a head line of 6"),
             (b'vl1,1,200,,,"es1', "line 2: unexpected end of data"),
-            (b"vl1,1,200,,,es1\n\nvl1,1,200,,,es1", "line 4: vl1 stands twice"),
+            (b"vl1,1,200,,,es1\n\nvl1,1,200,1,,es1", "line 4: jitter is another one than in the first line of vl1"),
+            (b"vl1_2,1,200,,,es1\nvl1,1,200,,,es1\nvl1,1,200,,,es1", "line 4: vl1_2, as this branch of vl1 would be called"),
+            (32 * b"v" + b",1,200,,,es1\n" + 32 * b"v" + b",1,200,,,es1", "line 2: " + 32 * "v" + "_1, as this branch"),
         ]:
             self.refused(
                 told,
@@ -177,6 +179,26 @@ class Import(WithFolder):
         ]:
             self.refused(told, "import_icd.py", self.file("links.csv", table), self.file("ports.csv", PORTS))
         self.refused("absent.csv: No such file", "import_icd.py", "absent.csv", self.file("ports.csv", PORTS))
+
+    def test_branches_are_flows(self):
+        """Rows of one name are the branches of one link, which agree by value in all but path and deadline."""
+        head, first, second = (LINKS.splitlines()[0], *LINKS.splitlines()[1:])
+        table = "\n".join([f"{head},deadline", f"{first},400", f"{second},", "vl1,2.0,200,80/2,0,es1,", ""])
+        run = self.made(table, PORTS)
+        path = self.file("n.toml", run.stdout)
+        flows = networks.load(path)["flow"]
+        self.assertEqual(
+            [(flow["name"], flow["path"]) for flow in flows],
+            [("vl1_1", ["es1", "sw1-p1:0"]), ("vl2", ["es1", "sw1-p1:1"]), ("vl1_2", ["es1"])],
+        )
+        told = "1 links of several branches are 2 flows, NAME_1 and so on; ports that branches share count the link once a branch"
+        self.assertIn(f"# {told}.\n", run.stdout)
+        self.assertEqual(run.stderr, f"import_icd: {told}, and netbound once\n")
+        # Rows of empty cells before the head line are none, as for netbound.
+        again = self.made(f"\n,,\n{table}", f"\n{PORTS}")
+        self.assertEqual((again.returncode, again.stdout), (0, run.stdout))
+        ports, links = self.folder / "ports.csv", self.folder / "links.csv"
+        self.assertEqual(networks.load(self.file("m.toml", tool("import_icd.py", ports, links).stdout))["flow"], flows)
 
     def test_words_out_of_range(self):
         for words in (["--overhead", "-1"], ["--overhead", str(2**21)], ["--grid", "0"], ["--grid", "1/2"]):

@@ -7,7 +7,7 @@ Both are CSV with a head line; the tables stand in any order, and the columns to
 that of links, and other columns are left alone. Numbers are decimal or fractions ("1.5", "3/2"), and stay exact. The
 file is in microseconds and bits, so a rate in Mbit/s is the number of its bits in a microsecond.
 
-LINKS.csv, a line a virtual link:
+LINKS.csv, a line a virtual link, or a line a branch of one:
     name           a name of 1 to 32 letters, digits, _ and -
     bag            the bandwidth allocation gap in milliseconds: at most one frame in each
     largest_frame  the bytes of the longest frame, header and check sequence included
@@ -27,6 +27,11 @@ PORTS.csv, a line an output port (also those of end systems):
                    always where it is empty; the column may be missing
     discipline     `fifo` (also where it is empty), `priority N` with N queues, or
                    `drr Q0 Q1 ..` with the quantum of each queue in bytes
+
+These are the tables of netbound too. Lines of one name are the branches of a multicast link, and agree in all but path
+and deadline. A network file has no branches, so each becomes a flow of its own, NAME_1, NAME_2 .. in the order of the
+lines: ports that branches share then count the link once a branch, and the bounds there are greater than need be, of
+which it notes. netbound counts the link once.
 
 A `delay` is added to the links of the ports that come right before on the paths: all ports behind a link have one and
 the same, and a first port has none. A delay that varies from frame to frame is outside of what a network file can say:
@@ -53,10 +58,12 @@ a packet) is looked at here too, since a line of a table is easier to mend than 
 """
 
 import argparse
+import contextlib
 import csv
 import io
 import re
 import sys
+from collections import Counter
 from fractions import Fraction
 
 import loads
@@ -74,9 +81,11 @@ def rows(path, columns, others=()):
     try:
         for cells in reader:
             cells = [cell.strip() for cell in cells]
+            if not any(cells):
+                continue
             if head is None:
                 head = head_of(cells, [*columns, *(column for column in others if column in cells)])
-            elif any(cells):
+            else:
                 if len(cells) > len(head):
                     raise Fault(
                         f"{len(cells)} cells under a head line of {len(head)}: a cell with a comma stands in quotes"
@@ -210,9 +219,48 @@ def arrival_of(packet, period, jitter, buckets):
     return {"kind": "stair", "period": written(period), "jitter": written(jitter)}
 
 
+def counts_of(path, column, others=()):
+    """How many lines of a table have each name, up to the first with a fault, which is told when it is read again."""
+    counts = Counter()
+    with contextlib.suppress(Fault):
+        counts.update(row[column] for _, row in rows(path, [column, *others]))
+    return counts
+
+
+def branch_name(name, counts, before):
+    """The flow of the next line of a name, where a table has so many lines of each, and so many were before; it is
+    NAME_K for the K-th of several."""
+    before[name] += 1
+    return name if counts[name] < 2 else f"{name}_{before[name]}"
+
+
+def flow_name(row, taken, words):
+    """The name of the flow of a line of links; lines of one name agree."""
+    name = name_of(row["name"], ())
+    flow = branch_name(name, words.counts, words.before)
+    if flow == name:
+        return name_of(name, taken)
+    if len(flow) > 32:
+        raise Fault(f"{flow}, as this branch of {name} would be called, is longer than 32 characters")
+    if flow in taken or flow in words.counts:
+        raise Fault(f"{flow}, as this branch of {name} would be called, stands in the table too: give it another name")
+    cells = {column: branch_value(column, row[column]) for column in ["bag", "largest_frame", "jitter", "priority"]}
+    for column, value in words.links_read.setdefault(name, cells).items():
+        if value != cells[column]:
+            raise Fault(f"{column} is another one than in the first line of {name}")
+    return flow
+
+
+def branch_value(column, text):
+    """A number of a branch, that is compared with the one of the first branch."""
+    if column in ("jitter", "priority"):
+        text = text or "0"
+    return amount(column, text, None if column == "bag" else 0)
+
+
 def virtual_link(row, taken, servers, words):
     """The flow of a line of links."""
-    flow = {"name": name_of(row["name"], taken)}
+    flow = {"name": flow_name(row, taken, words)}
     packet = 8 * (whole("largest_frame", row["largest_frame"], 1, 2**21 - 1) + words.overhead)
     if packet > 2**24:
         raise Fault(f"a frame of {row['largest_frame']} bytes and {words.overhead} more is longer than 2^24 bits")
@@ -262,7 +310,7 @@ def read_table(path, columns, others, make, most):
     for line, row in rows(path, columns, others):
         try:
             if len(made) == most:
-                raise Fault(f"more than {most} lines")
+                raise Fault(f"more than {most} lines: netbound reads the same tables, and longer ones")
             table = make(row, made)
         except Fault as fault:
             raise Fault(f"{path} line {line}: {fault}") from None
@@ -272,7 +320,8 @@ def read_table(path, columns, others, make, most):
 
 def is_of_links(path):
     """Whether the head line of a table has the column of paths."""
-    return "path" in [cell.strip().strip('"') for cell in text_in(path).partition("\n")[0].split(",")]
+    head = next((line for line in text_in(path).splitlines() if line.strip(" ,\t")), "")
+    return "path" in [cell.strip().strip('"') for cell in head.split(",")]
 
 
 def network_of(words):
@@ -286,6 +335,7 @@ def network_of(words):
         lambda row, taken: port(row, taken, words),
         64,
     )
+    words.counts = counts_of(words.links, "name")
     flows = read_table(
         words.links,
         ["name", "bag", "largest_frame", "jitter", "priority", "path"],
@@ -296,6 +346,13 @@ def network_of(words):
     add_delays(servers, words)
     version = {"version": 2} if words.version == 2 else {}
     return version | {"server": list(servers.values()), "flow": list(flows.values())}
+
+
+def branches_told(words):
+    """What is told of links with branches."""
+    flows = sum(words.counts[name] for name in words.links_read)
+    told = f"{len(words.links_read)} links of several branches are {flows} flows, NAME_1 and so on"
+    return f"{told}; ports that branches share count the link once a branch"
 
 
 def head_of_file(words):
@@ -310,6 +367,8 @@ def head_of_file(words):
         lines.append(
             f"{words.cut} gaps above {words.longest_gap} ms are cut to it: who sends less often keeps that too."
         )
+    if words.links_read:
+        lines.append(branches_told(words) + ".")
     if any(words.delays.values()):
         lines.append("What the switches hold each frame is a part of the links that lead to them.")
     if words.version == 2:
@@ -329,7 +388,9 @@ def crowded_by_cuts(network, words):
 
 
 def warn(network, words):
-    """Warns of what may be refused, or may have no bound."""
+    """Warns of what may be refused, may have no bound, or a greater one than need be."""
+    if words.links_read:
+        print(f"import_icd: {branches_told(words)}, and netbound once", file=sys.stderr)
     crowded = dict(crowded_by_cuts(network, words)) if words.cut else {}
     if crowded:
         most = max(crowded, key=crowded.get)
@@ -371,6 +432,7 @@ def main():
     if words.grid is not None and not 1 <= words.grid <= rounding.FINEST:
         parser.error(f"the grid is a whole number from 1 to {rounding.FINEST}")
     words.cut, words.gaps, words.delays, words.behind = 0, {}, {}, {}
+    words.before, words.links_read = Counter(), {}
     network = network_of(words)
     warn(network, words)
     sys.stdout.write(dump(network, head_of_file(words)))

@@ -6,7 +6,7 @@ delay comes from.
 
 NET is a network's file in microseconds and bits. D.csv has a head line with a column `flow` (or `name`) and one
 `deadline` in microseconds, decimal or a fraction; other columns are left alone, and lines without a deadline are
-skipped, so a table of links with a column of deadlines will do.
+skipped, so a table of links with a column of deadlines will do: the branches of a link are its flows NAME_1, NAME_2 ...
 
 The program's exact bounds are shown as decimals of three digits, **rounded up**, beside the fractions; a slack is
 rounded down; PASS and FAIL compare exactly. A buffer is the backlog bound in bytes, rounded up. A load is what the
@@ -29,6 +29,7 @@ import json
 import math
 import pathlib
 import sys
+from collections import Counter
 from dataclasses import dataclass, field
 from fractions import Fraction
 
@@ -36,7 +37,7 @@ import explain
 import lint
 import loads
 import report_page
-from import_icd import rows
+from import_icd import branch_name, counts_of, rows
 from loads import rounded_down, rounded_up
 from networks import PROGRAM, Fault, analyse, cell, ended, load, number, shortened, text_in, the_program
 
@@ -122,11 +123,13 @@ def deadlines_of(path, names):
         hint = ": write commas in place of the semicolons" if ";" in head else ""
         raise Fault(f"{path} line 1: no column flow, and none name{hint}")
     column = "flow" if "flow" in columns else "name"
-    found = {}
+    found, before = {}, Counter()
+    counts = counts_of(path, column) if "path" in columns else Counter()
     for line, row in rows(path, [column, "deadline"]):
         try:
+            name = branch_name(row[column], counts, before)
             if row["deadline"]:
-                add_deadline(found, row[column], row["deadline"], names)
+                add_deadline(found, name, row["deadline"], names)
         except Fault as fault:
             raise Fault(f"{path} line {line}: {fault}") from None
     return found

@@ -1,0 +1,106 @@
+#!/usr/bin/env python3
+"""Tables at the limits of netbound, and what it takes for them.
+
+    python3 bench/heaviest_tables.py NETBOUND [WORD]
+
+Each pair of tables is at one of the limits (ports, queues, links, branches, ports of a path, bytes), or written to be slow: a port to which frames come from
+thousands of others, with many queues, where each step of what the other queues bring is a service, and each service is held to each step of the queue's own.
+With WORD only those whose name has it. A line each: the status, seconds of processor time (at most 120), megabytes, and the first line that it prints.
+It asserts nothing.
+"""
+
+import resource
+import sys
+import tempfile
+from pathlib import Path
+
+import real_size
+
+SECONDS = 120
+PORTS = "name,rate,latency,link,discipline"
+LINKS = "name,bag,largest_frame,jitter,priority,path"
+QUANTA = "drr " + " ".join(["2000"] * 8)
+
+
+def tables(ports, links):
+    return "\n".join([PORTS, *ports]) + "\n", "\n".join([LINKS, *links]) + "\n"
+
+
+def base36(number):
+    """A short name."""
+    digits = ""
+    while True:
+        digits = "0123456789abcdefghijklmnopqrstuvwxyz"[number % 36] + digits
+        number //= 36
+        if not number:
+            return digits
+
+
+def star(sources, queues, discipline):
+    """So many ports, each of which sends a link into each queue of the last one; no two have one rate, and all of them together less than that one."""
+    ports = [f"{base36(n)},{200 + n / 1000},0,0,{discipline}" for n in range(sources)] + [f"last,1000000,0,0,{discipline}"]
+    links = [f"{base36(n)}_{q},{1 + n % 97},{64 + n % 1400},{n % 11},{q},{base36(n)} last" for n in range(sources) for q in range(queues)]
+    return tables(ports, links)
+
+
+def chain():
+    """16,384 links along the same 64 ports."""
+    ports = [f"{base36(n)},1000000,0,0," for n in range(64)]
+    path = " ".join(base36(n) for n in range(64))
+    return tables(ports, [f"{base36(n)},100,64,0,,{path}" for n in range(16_384)])
+
+
+def wide_tree():
+    """Links of 32 branches over 62 ports each, that part at the last one."""
+    ports = [f"{base36(n)},1000000,0,0," for n in range(1000)]
+    way = " ".join(base36(n) for n in range(61))
+    return tables(ports, [f"{base36(n)},100,64,0,,{way} {base36(100 + (n + 7 * b) % 900)}" for n in range(2_400) for b in range(32)])
+
+
+def short_branches():
+    """131,072 branches of 16,384 links, each of one port and in parts of one row."""
+    ports = [f"{base36(n)},1000,0,0," for n in range(4_096)]
+    return tables(ports, [f"{base36(n % 16_384)},100,64,0,,{base36(n % 4_096)}" for n in range(131_072)])
+
+
+def many_queues():
+    ports = [f"{base36(n)},100,0,0,{QUANTA}" for n in range(4_096)]
+    return tables(ports, [f"{base36(n)},100,64,0,{n % 8},{base36(n % 4_096)} {base36(4_095)}" for n in range(16_384) if n % 4_096 != 4_095])
+
+
+TABLES = {
+    "16,384 links over 64 ports": chain,
+    "2,400 links of 32 branches over 62 ports": wide_tree,
+    "131,072 branches of one port": short_branches,
+    "4,096 ports of 8 queues": many_queues,
+    "1,000 ports into one, first in first out": lambda: star(1_000, 1, "fifo"),
+    "4,095 ports into one, first in first out": lambda: star(4_095, 1, "fifo"),
+    "1,000 ports into one of two priorities": lambda: star(1_000, 2, "priority 2"),
+    "4,095 ports into one of two priorities": lambda: star(4_095, 2, "priority 2"),
+    "500 ports into one of 8 quanta": lambda: star(500, 8, QUANTA),
+    "1,000 ports into one of 8 quanta": lambda: star(1_000, 8, QUANTA),
+    "2,047 ports into one of 8 quanta": lambda: star(2_047, 8, QUANTA),
+}
+
+
+def main(words):
+    if len(words) not in (1, 2):
+        sys.exit(__doc__)
+    resource.setrlimit(resource.RLIMIT_CPU, (SECONDS, SECONDS))
+    for name, make in TABLES.items():
+        if len(words) == 2 and words[1] not in name:
+            continue
+        with tempfile.TemporaryDirectory() as folder:
+            files = []
+            for file, text in zip(["ports.csv", "links.csv"], make()):
+                (Path(folder) / file).write_text(text)
+                files.append(str(Path(folder) / file))
+            (status, out), seconds, _, memory = real_size.measured([words[0], *files], folder, "out")
+            size = sum(Path(file).stat().st_size for file in files) / 1e6
+        line = out.split(b"\n")[0].decode()[:80]
+        print(f"{name} ({size:.1f} MB): status {status}, {seconds:.2f} s, {memory:.0f} MB, {out.count(b' none')} none: {line}", flush=True)
+    return 0
+
+
+if __name__ == "__main__":
+    sys.exit(main(sys.argv[1:]))

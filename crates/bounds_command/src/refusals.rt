@@ -1,0 +1,95 @@
+//! Answers of one line.
+
+ghost use Rattle.std.specs.Prelude.{◌≡◌, ◌++◌, map, IfOk, OnOk};
+ghost use Rattle.std.specs.List.{flat_map};
+ghost use Rattle.std.specs.String.{string_bytes};
+ghost use Rattle.bounds_command.specs.Replies as replies;
+ghost use Rattle.bounds_command.specs.Reports.{name_at};
+ghost use Rattle.bounds_command.specs.View.{reply_of};
+
+use crate::answer::{Answer, Status};
+use document_faults::fault_line;
+use document_tables::LineFault;
+use indexmap::IndexSet;
+use std::alloc::{AllocError, Global};
+
+/// The answer where a file could not be read.
+pub fn cannot_read(alloc: Global, file: &str) -> Result<Answer, AllocError>
+    ensures { IfOk result (λ r. reply_of r ≡ replies.cannot_read file.now) }
+{
+    let text = format!(in alloc; "netbound: cannot read {file}\n")?;
+    Ok(Answer {
+        status: Status::ReadFault,
+        text,
+    })
+}
+
+/// The answer where a file has more bytes than a table may have.
+pub fn too_long(alloc: Global, file: &str) -> Result<Answer, AllocError>
+    ensures { IfOk result (λ r. reply_of r ≡ replies.too_long file.now) }
+{
+    let text = format!(in alloc; "netbound: {file}: too long\n")?;
+    Ok(Answer {
+        status: Status::Malformed,
+        text,
+    })
+}
+
+/// The answer on a table with this first fault.
+pub(crate) fn breaks_rule(
+    alloc: Global,
+    file: &str,
+    fault: &LineFault,
+) -> Result<Answer, AllocError>
+    ensures { IfOk result (λ r. reply_of r ≡ replies.has_fault file.now fault.now) }
+{
+    let text = fault_line(alloc, file, fault)?;
+    Ok(Answer {
+        status: Status::Malformed,
+        text,
+    })
+}
+
+/// The name of this number; empty past the last one.
+pub(crate) fn name_of(names: &IndexSet<String>, number: usize) -> &str
+    ensures { result.now ≡ name_at (map string_bytes names.now.keys) number }
+{
+    match names.get_index(number) {
+        Some(name) => name.as_str(),
+        None => "",
+    }
+}
+
+// The names of the ports, each behind a space.
+fn push_names(
+    text: &mut String,
+    names: &IndexSet<String>,
+    ports: &[usize],
+) -> Result<(), AllocError>
+    ensures { OnOk result (string_bytes text.new ≡ string_bytes text.old
+        ++ flat_map replies.after_space (map (name_at (map string_bytes names.now.keys)) ports.now)) }
+{
+    for port in ports {
+        text.push_str(" ")?;
+        text.push_str(name_of(names, *port))?;
+    }
+    Ok(())
+}
+
+/// The answer where links go round over these ports.
+pub(crate) fn goes_round(
+    alloc: Global,
+    names: &IndexSet<String>,
+    ports: &[usize],
+) -> Result<Answer, AllocError>
+    ensures { IfOk result (λ r. reply_of r
+        ≡ replies.goes_round (map (name_at (map string_bytes names.now.keys)) ports.now)) }
+{
+    let mut text = String::from_str(alloc, "netbound: cycle")?;
+    push_names(&mut text, names, ports)?;
+    text.push_str("\n")?;
+    Ok(Answer {
+        status: Status::Cycle,
+        text,
+    })
+}

@@ -1,0 +1,94 @@
+-- What the program answers on words and files, and what it means that the answer is given.
+use Rattle.std.specs.Prelude.{◌≡◌, ◌⊎◌, ℕ, List, [], ◌∷◌, Option, Some, None, IfSome}
+use Rattle.std.specs.Io.KnownBytes.{Appends}
+use Rattle.outside.specs.Faults.{Rose}
+use Rattle.outside.specs.Written.{AppendsFront}
+use Rattle.tree_order.specs.Orders.{IsNetworkOrder}
+use Rattle.bounds_command.specs.declared.answer.Form.{Form}
+use Rattle.bounds_command.specs.Replies.{Reply, cannot_read, too_long}
+use Rattle.bounds_command.specs.OnTables.{Tables, tables, OfDocument, IsReplyOn}
+use Rattle.netbound_words.specs.Requests.{Request}
+use Rattle.netbound_cli.specs.Calls.{Call, call_of, text_of, files_of}
+use Rattle.netbound_cli.specs.Files.{Told, IsTooLong, MayHoldAll, FirstIs, FirstLong, AllFit, all_told}
+
+-- ---- on files
+-- K holds of the two tables of a call that hold these bytes, and of a reply
+abbrev pub OnTables : (Tables → ℕ → Form → Reply → Type 0) → Call → List (List ℕ) → Reply → Type 0
+OnTables K c (ports ∷ links ∷ []) reply =
+    K (tables c.ports ports c.links links) c.overhead c.form reply
+OnTables K c files reply = ⊥
+
+-- the reply of a call where its files hold these bytes
+abbrev pub IsReplyOnFiles : Call → List (List ℕ) → Reply → Type 0
+IsReplyOnFiles c files reply =
+    FirstLong (λ file. reply ≡ too_long file) (files_of c) files ⊎ (AllFit files × OnTables IsReplyOn c files reply)
+
+-- The inputs failed in this call, and last at this file.
+pub record FailedAt {I : Type 0} (faults : I → ℕ) (last_fault : I → List ℕ) (file : List ℕ) (old new : I)
+    : Type 0 where
+  pub rose : Rose (faults old) (faults new)
+  pub name : last_fault new ≡ file
+
+-- The inputs end a call at this file: they failed at it, or it is too long.
+abbrev pub EndsAt : {I : Type 0} → (I → ℕ) → (I → List ℕ) → Told → I → I → Reply → List ℕ → Type 0
+EndsAt faults last_fault told old new reply file =
+    (FailedAt faults last_fault file old new × (reply ≡ cannot_read file))
+    ⊎ (IsTooLong (told file) × (reply ≡ too_long file))
+
+-- ---- on words and inputs
+-- The inputs may bring this reply of a call: they failed at a file, those before which may fit, or it is the reply on
+-- what the files hold.
+abbrev pub MayReplyTo : {I : Type 0} → (I → ℕ) → (I → List ℕ) → Told → Call → I → I → Reply → Type 0
+MayReplyTo faults last_fault told c old new reply =
+    FirstIs told (λ file. FailedAt faults last_fault file old new × (reply ≡ cannot_read file)) (files_of c)
+    ⊎ ((files : List (List ℕ)) × MayHoldAll told (files_of c) files × IsReplyOnFiles c files reply)
+
+-- Words and inputs may bring this reply.
+abbrev pub MayReply : {I : Type 0} → (I → List ℕ → Option (List ℕ)) → (I → ℕ) → (I → List ℕ) → Option Request
+    → I → I → Reply → Type 0
+MayReply content faults last_fault asked old new reply =
+    (text_of asked ≡ Some reply)
+    ⊎ ((c : Call) × (call_of asked ≡ Some c) × MayReplyTo faults last_fault (content old) c old new reply)
+
+-- ---- given
+-- The status is the reply's, and its bytes were written.
+abbrev pub Gives : ℕ → Option (List ℕ) → Option (List ℕ) → Reply → Type 0
+Gives status old new reply = (status ≡ reply.status) × Appends old new reply.bytes
+
+-- The files of a call hold bytes that are not too many, and a reply of this kind on them was given.
+pub record Brings (K : Tables → ℕ → Form → Reply → Type 0) (told : Told) (c : Call) (status : ℕ)
+    (old new : Option (List ℕ)) : Type 0 where
+  pub files : List (List ℕ)
+  pub held : MayHoldAll told (files_of c) files
+  pub fit : AllFit files
+  pub reply : Reply
+  pub is : OnTables K c files reply
+  pub given : Gives status old new reply
+
+-- Where it is told what the files hold, the reply on that was given, or the status is 3, 4 or 5.
+abbrev pub GivesOnTold : Call → Told → ℕ → Option (List ℕ) → Option (List ℕ) → Type 0
+GivesOnTold c told status old new = IfSome (all_told told (files_of c)) (λ files.
+    ((reply : Reply) × IsReplyOnFiles c files reply × Gives status old new reply)
+    ⊎ ((status ≡ 3) ⊎ ((status ≡ 4) ⊎ (status ≡ 5))))
+
+-- The tables are a document whose ports have an order in which no link goes back.
+abbrev pub IsAnswerable : Tables → ℕ → Type 0
+IsAnswerable t overhead = OfDocument t overhead (λ d net. (order : List ℕ) × IsNetworkOrder net order)
+
+-- so are those of a call that hold these bytes
+abbrev pub IsAnswerableCall : Call → List (List ℕ) → Type 0
+IsAnswerableCall c (ports ∷ links ∷ []) =
+    IsAnswerable (tables c.ports ports c.links links) c.overhead
+IsAnswerableCall c files = ⊥
+
+-- Where it is told that the files fit and are such a document, the report is written, or the status is 3, 4 or 5.
+abbrev pub AnswersWhatItCan : Call → Told → ℕ → Type 0
+AnswersWhatItCan c told status = IfSome (all_told told (files_of c)) (λ files.
+    AllFit files → IsAnswerableCall c files
+    → (status ≡ 0) ⊎ ((status ≡ 9) ⊎ ((status ≡ 3) ⊎ ((status ≡ 4) ⊎ (status ≡ 5)))))
+
+-- The sink failed in this call, and a front of the reply's bytes was written.
+pub record FailsToGive {K : Type 0} (faults : K → ℕ) (written : K → Option (List ℕ)) (old new : K) (reply : Reply)
+    : Type 0 where
+  pub rose : Rose (faults old) (faults new)
+  pub front : AppendsFront (written old) (written new) reply.bytes

@@ -1,0 +1,149 @@
+//! The top call.
+
+ghost use Rattle.std.specs.Prelude.{◌≡◌, ◌≢◌, ◌≤◌, ◌⊎◌, None, Some, IfSome, IfOk};
+ghost use Rattle.bounds_command.specs.OnTables.{IsFaulty, IsCyclic, IsDone};
+ghost use Rattle.bounds_command.specs.Replies.{Reply, cannot_read, too_long};
+ghost use Rattle.bounds_command.specs.View.{code_of, reply_of};
+ghost use Rattle.netbound_words.specs.Requests as spec;
+ghost use Rattle.netbound_cli.specs.Calls.{call_of, text_of, files_of, bounds_call};
+ghost use Rattle.netbound_cli.specs.Files.{IsTooLong, FirstIs};
+ghost use Rattle.netbound_cli.specs.Reply.{FailedAt, MayReply, MayReplyTo, Gives, Brings};
+ghost use Rattle.netbound_cli.specs.Reply.{GivesOnTold, AnswersWhatItCan, FailsToGive};
+
+use crate::fetching::fetch_two;
+use crate::texts::{HELP, USAGE, VERSION};
+use bounds_command::{Answer, Form, Status, on_tables};
+use netbound_words::{Bounds, Request, WordFault, request_of};
+use outside::{NoMemory, Sink};
+use std::alloc::Global;
+use table_files::TableFiles;
+
+/// Gives an answer: puts its text, and returns its status, or that the sink failed.
+fn give<K: Sink>(out: &mut K, status: Status, text: &str) -> u8
+    requires { code_of status ≢ 4 }
+    ensures given { let reply : Reply = record { status = code_of status; bytes = text.now } in
+        result ≢ 4 → Gives result (K.written out.old) (K.written out.new) reply }
+    ensures failed { let reply : Reply = record { status = code_of status; bytes = text.now } in
+        result ≡ 4 → FailsToGive K.faults K.written out.old out.new reply }
+{
+    match out.put(text.as_bytes()) {
+        Ok(()) => status.code(),
+        Err(_) => Status::WriteFault.code(),
+    }
+}
+
+// The answer on the tables of these names.
+fn answer_to<I: TableFiles>(
+    alloc: Global,
+    asked: Bounds,
+    inputs: &mut I,
+) -> Result<Answer, NoMemory>
+    requires { asked.overhead ≤ 1048576 }
+    ensures { IfOk result (λ r. MayReplyTo I.faults I.last_fault (I.content inputs.old) (bounds_call asked)
+        inputs.old inputs.new (reply_of r)) }
+{
+    let form = if asked.json { Form::Json } else { Form::Lines };
+    match fetch_two(alloc, asked.ports, asked.links, inputs) {
+        Ok((ports, links)) => on_tables(
+            alloc,
+            asked.ports,
+            &ports,
+            asked.links,
+            &links,
+            asked.overhead,
+            form,
+        ),
+        Err(ended) => ended,
+    }
+}
+
+// The answer to words.
+fn answered<I: TableFiles>(
+    alloc: Global,
+    words: &[String],
+    inputs: &mut I,
+) -> Result<Answer, NoMemory>
+    ensures { IfOk result (λ r. MayReply I.content I.faults I.last_fault (spec.request_of (spec.texts words.now))
+        inputs.old inputs.new (reply_of r)) }
+{
+    match request_of(alloc, words) {
+        Ok(Request::Bounds(asked)) => answer_to(alloc, asked, inputs),
+        Ok(Request::Help) => text_answer(alloc, Status::Done, HELP),
+        Ok(Request::Version) => text_answer(alloc, Status::Done, VERSION),
+        Err(WordFault::NotTaken) => text_answer(alloc, Status::Usage, USAGE),
+        Err(WordFault::NoMemory) => Err(NoMemory),
+    }
+}
+
+// An answer of this text.
+fn text_answer(alloc: Global, status: Status, text: &str) -> Result<Answer, NoMemory>
+    ensures { IfOk result (λ r. reply_of r ≡ record { status = code_of status; bytes = text.now }) }
+{
+    let text = String::from_str(alloc, text)?;
+    Ok(Answer { status, text })
+}
+
+/// Does what the words ask for, and gives the status. The program's name is the first word. The order is: the words, both
+/// files, the table of ports, that of links, an order of the ports, the bounds, one `put`.
+pub fn run<I: TableFiles, K: Sink>(
+    alloc: Global,
+    words: &[String],
+    inputs: &mut I,
+    out: &mut K,
+) -> u8
+    // 2 exactly where the words are not taken; or 4 or 5.
+    ensures usage { result ≡ 2 → request_of (texts words.now) ≡ None }
+
+    // Where words ask for no bounds: the text that they ask for, or that they are not taken; or 4 or 5.
+    ensures text { IfSome (text_of (spec.request_of (spec.texts words.now))) (λ reply.
+        Gives result (K.written out.old) (K.written out.new) reply ⊎ ((result ≡ 4) ⊎ (result ≡ 5))) }
+
+    // 3 only where the inputs failed in this call, and last at the file that the line names; that before it may fit.
+    ensures read_fault { result ≡ 3 → IfSome (call_of (spec.request_of (spec.texts words.now))) (λ c.
+        FirstIs (I.content inputs.old) (λ file. FailedAt I.faults I.last_fault file inputs.old inputs.new
+        × Gives result (K.written out.old) (K.written out.new) (cannot_read file)) (files_of c)) }
+
+    // 1 only where a file, the first that does not fit, has more bytes than a table may have, or the document has a
+    // fault, the first of which the line tells.
+    ensures malformed { result ≡ 1 → IfSome (call_of (spec.request_of (spec.texts words.now))) (λ c.
+        FirstIs (I.content inputs.old) (λ file. IsTooLong (I.content inputs.old file)
+        × Gives result (K.written out.old) (K.written out.new) (too_long file)) (files_of c)
+        ⊎ Brings IsFaulty (I.content inputs.old) c result (K.written out.old) (K.written out.new)) }
+
+    // 8 only where the links of the document go round, over the ports that the line tells.
+    ensures cycle { result ≡ 8 → IfSome (call_of (spec.request_of (spec.texts words.now))) (λ c.
+        Brings IsCyclic (I.content inputs.old) c result (K.written out.old) (K.written out.new)) }
+
+    // 0 and 9 only where the report on the bounds of the document's network is written, by a table that meets the
+    // equations: 9 where a branch misses its deadline, by exact numbers, and 0 where none does.
+    ensures missed { result ≡ 9 → IfSome (call_of (spec.request_of (spec.texts words.now))) (λ c.
+        Brings IsDone (I.content inputs.old) c result (K.written out.old) (K.written out.new)) }
+    ensures done { result ≡ 0 → IfSome (call_of (spec.request_of (spec.texts words.now))) (λ c.
+        Brings IsDone (I.content inputs.old) c result (K.written out.old) (K.written out.new)) }
+
+    // 4 only where the sink failed in this call; a front of a reply's bytes is written.
+    ensures write_fault { result ≡ 4 → (reply : Reply)
+        × MayReply I.content I.faults I.last_fault (spec.request_of (spec.texts words.now)) inputs.old inputs.new reply
+        × FailsToGive K.faults K.written out.old out.new reply }
+
+    // 5: nothing is written.
+    ensures no_memory { result ≡ 5 → K.written out.new ≡ K.written out.old }
+
+    // Where it is told what the files hold, 3, 4 and 5 are the only other answers than the one on that.
+    ensures told { IfSome (call_of (spec.request_of (spec.texts words.now))) (λ c.
+        GivesOnTold c (I.content inputs.old) result (K.written out.old) (K.written out.new)) }
+
+    // So 0 or 9 is the only other one where the files are a document whose links do not go round.
+    ensures complete { IfSome (call_of (spec.request_of (spec.texts words.now))) (λ c.
+        AnswersWhatItCan c (I.content inputs.old) result) }
+
+    // Every answer but 4 and 5 is the status of a reply that words and inputs may bring, whose bytes are written.
+    ensures answers { result ≢ 4 → result ≢ 5 → (reply : Reply)
+        × MayReply I.content I.faults I.last_fault (spec.request_of (spec.texts words.now)) inputs.old inputs.new reply
+        × Gives result (K.written out.old) (K.written out.new) reply }
+{
+    match answered(alloc, words, inputs) {
+        Ok(answer) => give(out, answer.status, answer.text.as_str()),
+        Err(_) => Status::NoMemory.code(),
+    }
+}

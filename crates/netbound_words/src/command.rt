@@ -1,0 +1,45 @@
+//! The command line of netbound.
+
+ghost use Rattle.std.specs.Prelude.{◌≡◌, false, IfOk};
+ghost use Rattle.clap.specs.Words.{app_of, rule_of};
+ghost use Rattle.netbound_words.specs.Apps.{operand_rule, overhead_rule, json_rule, netbound};
+
+use clap::{Arg, ArgAction, Command};
+use std::alloc::{AllocError, Global};
+
+fn operand<'a>(alloc: Global, id: &'a str) -> Arg<'a>
+    ensures rule { rule_of result ≡ operand_rule id.now }
+    ensures local { result.global ≡ false }
+{
+    Arg::new(alloc, id).required(true)
+}
+
+fn overhead<'a>(alloc: Global) -> Arg<'a>
+    ensures rule { rule_of result ≡ overhead_rule }
+    ensures local { result.global ≡ false }
+{
+    Arg::new(alloc, "overhead")
+        .long("overhead")
+        .action(ArgAction::Set)
+}
+
+fn json<'a>(alloc: Global) -> Arg<'a>
+    ensures rule { rule_of result ≡ json_rule }
+    ensures local { result.global ≡ false }
+{
+    Arg::new(alloc, "json")
+        .long("json")
+        .action(ArgAction::SetTrue)
+}
+
+/// The whole command line.
+pub(crate) fn netbound<'a>(alloc: Global) -> Result<Command<'a>, AllocError>
+    ensures { IfOk result (λ c. app_of c ≡ netbound) }
+{
+    Command::new(alloc, "netbound")
+        .version("1.0.0")
+        .arg(operand(alloc, "ports"))?
+        .arg(operand(alloc, "links"))?
+        .arg(overhead(alloc))?
+        .arg(json(alloc))
+}

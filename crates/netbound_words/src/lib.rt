@@ -1,0 +1,7 @@
+//! The words of netbound's command line, as `clap` parses them.
+#![tactic(auto)]
+
+mod command;
+mod request;
+
+pub use request::{Bounds, Request, WordFault, request_of};

@@ -1,0 +1,124 @@
+//! What a command line asks for.
+
+ghost use Rattle.std.specs.Prelude.{◌≡◌, ◌≤◌, IfOk, IfSome, option_map, map};
+ghost use Rattle.clap.specs.Words.{rows_of};
+ghost use Rattle.clap.specs.Matches.{found_of};
+ghost use Rattle.clap.specs.declared.error.kind.ErrorKind.TheVariants as kinds;
+ghost use Rattle.netbound_words.specs.Requests as spec;
+ghost use Rattle.netbound_words.specs.View.{request_view, bounds_view, HasOverhead, TellsRequest, IsRefusal};
+
+use crate::command::netbound;
+use clap::ArgMatches;
+use clap::error::ErrorKind;
+use std::alloc::Global;
+use table_cells::whole_in;
+
+/// The bytes that a frame has on the wire beside its own, where no words tell.
+const USUAL_OVERHEAD: u64 = 20;
+
+/// The most bytes that words may tell.
+const MOST_OVERHEAD: u64 = 1_048_576;
+
+/// The bounds of the network of two tables.
+#[derive(Clone, Copy, Debug)]
+pub struct Bounds<'a> {
+    /// The name of the file with the table of ports.
+    pub ports: &'a str,
+    /// The name of the file with the table of links.
+    pub links: &'a str,
+    /// The bytes that a frame has on the wire beside its own, at most 2^20.
+    pub overhead: u64,
+    /// Whether the report is to be JSON.
+    pub json: bool,
+}
+
+/// What is asked for.
+#[derive(Clone, Copy, Debug)]
+pub enum Request<'a> {
+    /// The bounds of the network of two tables.
+    Bounds(Bounds<'a>),
+    /// What the program does.
+    Help,
+    /// Which version the program is.
+    Version,
+}
+
+/// Why words ask for nothing.
+#[derive(Clone, Copy, Debug, PartialEq, Eq)]
+pub enum WordFault {
+    /// They are not taken.
+    NotTaken,
+    /// An allocation was refused.
+    NoMemory,
+}
+
+// The overhead that a word writes: a whole number of bytes.
+fn overhead_in(word: Option<&str>) -> Option<u64>
+    ensures value { result ≡ spec.overhead_in (option_map (λ w. w.now) word) }
+    ensures range { IfSome result (λ bytes. bytes ≤ 1048576) }
+{
+    let Some(word) = word else {
+        return Some(USUAL_OVERHEAD);
+    };
+    let bytes = whole_in(word.as_bytes())?;
+    if bytes > MOST_OVERHEAD {
+        return None;
+    }
+    Some(bytes)
+}
+
+// Whether a flag was given that has this value.
+fn is_given(value: Option<&str>) -> bool
+    ensures { result ≡ spec.is_given (option_map (λ w. w.now) value) }
+{
+    match value {
+        Some(word) => word == "true",
+        None => false,
+    }
+}
+
+// The bounds for which these matches ask.
+fn bounds_in<'a>(matches: &ArgMatches<'a>) -> Option<Bounds<'a>>
+    ensures value { option_map bounds_view result ≡ spec.bounds_in (rows_of (found_of matches.now)) }
+    ensures range { IfSome result (λ b. b.overhead ≤ 1048576) }
+{
+    let ports = matches.get_str("ports")?;
+    let links = matches.get_str("links")?;
+    let overhead = overhead_in(matches.get_str("overhead"))?;
+    let json = is_given(matches.get_str("json"));
+    Some(Bounds {
+        ports,
+        links,
+        overhead,
+        json,
+    })
+}
+
+// What is asked for where `clap` gives no matches.
+fn refused<'a>(kind: ErrorKind) -> Result<Request<'a>, WordFault>
+    ensures { IsRefusal kind result }
+{
+    match kind {
+        ErrorKind::DisplayHelp => Ok(Request::Help),
+        ErrorKind::DisplayVersion => Ok(Request::Version),
+        ErrorKind::OutOfMemory => Err(WordFault::NoMemory),
+        _ => Err(WordFault::NotTaken),
+    }
+}
+
+/// What the words of a command line ask for, the program's name first.
+pub fn request_of<'a>(alloc: Global, words: &'a [String]) -> Result<Request<'a>, WordFault>
+    ensures request { TellsRequest result (spec.request_of (spec.texts words.entry.now)) }
+    ensures range { IfOk result HasOverhead }
+{
+    let Ok(command) = netbound(alloc) else {
+        return Err(WordFault::NoMemory);
+    };
+    match command.try_get_matches_from(words) {
+        Ok(matches) => match bounds_in(&matches) {
+            Some(bounds) => Ok(Request::Bounds(bounds)),
+            None => Err(WordFault::NotTaken),
+        },
+        Err(error) => refused(error.kind()),
+    }
+}

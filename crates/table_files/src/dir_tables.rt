@@ -1,0 +1,120 @@
+//! Real files. Nothing is told of what they hold.
+ghost use Rattle.std.specs.Prelude.{◌≡◌, ◌≤◌, ◌<◌, ◌++◌, [], List, ℕ, None, length, IfSome, OnOk, OnErr, IsErrOf};
+ghost use Rattle.outside.specs.Faults.{Rose, FetchFaults, failed_at};
+
+use crate::noted::Noted;
+use crate::tables::{FetchFault, MOST_BYTES, TableFiles};
+use std::fs;
+use std::io::Read;
+use std::marker::Model;
+use std::rt::Files;
+
+/// The files of the machine, by their paths.
+#[derive(Drop)]
+pub struct DirTables<R> {
+    rt: R,
+    faults: u64,
+    last: Noted,
+}
+
+impl<R> Model for DirTables<R> {
+    ghost Value = { FetchFaults };
+
+    ghost view = { λ s. record { count = s.faults; name = s.last.name } };
+}
+
+impl<R: Files + Clone + Drop> DirTables<R> {
+    /// The files that this runtime reaches.
+    pub fn new(rt: R) -> DirTables<R>
+        ensures { result ≡ record { count = 0; name = [] } }
+    {
+        DirTables {
+            rt,
+            faults: 0,
+            last: Noted::new(),
+        }
+    }
+
+    /// Counts a fault at this name.
+    fn refuse(&mut self, name: &str)
+        ensures state { self.new ≡ failed_at self.old name.now }
+        ensures count { self.old.count ≤ self.new.count }
+    {
+        self.faults = self.faults.saturating_add(1);
+        self.last.note(name.as_bytes());
+    }
+
+    /// Opens a file and reads it.
+    fn read(&self, name: &str, into: &mut Vec<u8>) -> Result<(), FetchFault>
+        requires { into.old.items ≡ [] }
+        ensures { OnOk result (length into.new.items ≤ MOST_BYTES) }
+    {
+        match fs::open(&self.rt, name) {
+            Ok(mut file) => read_rest(&mut file, into),
+            Err(_) => Err(FetchFault::Failed),
+        }
+    }
+}
+
+/// Reads up to the end, which is a read that gives no byte, or to one byte more than a table may have.
+fn read_rest<F: Read>(file: &mut F, into: &mut Vec<u8>) -> Result<(), FetchFault>
+    requires { into.old.items ≡ [] }
+    ensures fits { OnOk result (length into.new.items ≤ MOST_BYTES) }
+    ensures whole { OnOk result (IfSome (F.remaining file.old) (λ bytes. into.new.items ≡ bytes)) }
+    ensures too_long { IsErrOf result FetchFault.TooLong
+        → IfSome (F.remaining file.old) (λ bytes. MOST_BYTES < length bytes) }
+{
+    let mut piece = [0u8; 4096];
+    for _ in 0..MOST_BYTES + 1 {
+        match file.read(&mut piece) {
+            Ok(0) => return Ok(()),
+            Ok(count) => add_piece(&piece[..count], into)?,
+            Err(_) => return Err(FetchFault::Failed),
+        }
+    }
+    Err(FetchFault::TooLong)
+}
+
+/// Appends a piece of a file, if it still has no more bytes than it may.
+fn add_piece(piece: &[u8], into: &mut Vec<u8>) -> Result<(), FetchFault>
+    ensures ok { OnOk result (into.new.items ≡ into.old.items ++ piece.now) }
+    ensures fits { OnOk result (length into.new.items ≤ MOST_BYTES) }
+    ensures too_long { IsErrOf result FetchFault.TooLong → MOST_BYTES < length (into.old.items ++ piece.now) }
+    ensures failed { IsErrOf result FetchFault.Failed → ⊥ }
+{
+    if into.extend_from_slice(piece).is_err() {
+        return Err(FetchFault::NoMemory);
+    }
+    if into.len() > MOST_BYTES {
+        return Err(FetchFault::TooLong);
+    }
+    Ok(())
+}
+
+impl<R: Files + Clone + Drop> TableFiles for DirTables<R> {
+    ghost content = { λ _ _. None };
+
+    ghost faults = { λ s. s.count };
+
+    ghost last_fault = { λ s. s.name };
+
+    fn fetch(&mut self, name: &str, into: &mut Vec<u8>) -> Result<(), FetchFault>
+        ensures fits { OnOk result (length into.new.items ≤ MOST_BYTES) }
+        ensures failed { IsErrOf result FetchFault.Failed → Rose self.old.count self.new.count }
+        ensures failed_name { IsErrOf result FetchFault.Failed → self.new.name ≡ name.now }
+        ensures count { self.old.count ≤ self.new.count }
+        ensures err { OnErr result (into.new.items ≡ []) }
+        ensures state { IsErrOf result FetchFault.Failed → self.new ≡ failed_at self.old name.now }
+        ensures stays { ¬ IsErrOf result FetchFault.Failed → self.new ≡ self.old }
+    {
+        into.clear();
+        let answer = self.read(name, into);
+        if let Err(fault) = answer {
+            into.clear();
+            if matches!(fault, FetchFault::Failed) {
+                self.refuse(name);
+            }
+        }
+        answer
+    }
+}

@@ -1,0 +1,44 @@
+//! Tables by the names of their files.
+ghost use Rattle.std.specs.Prelude.{◌≡◌, ◌≤◌, ◌<◌, [], List, ℕ, Option, length, IfSome, OnOk, OnErr, IsErrOf};
+ghost use Rattle.outside.specs.Faults.{Rose};
+
+/// The most bytes that a table may have.
+pub const MOST_BYTES: usize = 16_777_216;
+
+/// Why a table was not fetched.
+#[derive(Clone, Copy, Debug, PartialEq, Eq)]
+pub enum FetchFault {
+    /// The file is missing, or could not be read.
+    Failed,
+    /// The file has more than `MOST_BYTES` bytes.
+    TooLong,
+    /// An allocation was refused.
+    NoMemory,
+}
+
+/// A place that holds tables by the names of their files.
+pub trait TableFiles {
+    /// What a name holds, where that is told.
+    ghost content: { Self → List ℕ → Option (List ℕ) };
+
+    /// How many fetches have failed. It never falls.
+    ghost faults: { Self → ℕ };
+
+    /// The name that was asked for when a fetch last failed. Only proofs see it.
+    ghost last_fault: { Self → List ℕ };
+
+    /// Puts what the name holds into `into`, in place of what is there. After a refusal `into` is empty.
+    fn fetch(&mut self, name: &str, into: &mut Vec<u8>) -> Result<(), FetchFault>
+        ensures bytes { OnOk result (IfSome (content self.old name.now) (λ bytes. into.new.items ≡ bytes)) }
+        ensures fits { OnOk result (length into.new.items ≤ MOST_BYTES) }
+
+        // With `bytes` and `fits`: a file is too long exactly where it has more bytes than it may.
+        ensures too_long { IsErrOf result FetchFault.TooLong
+            → IfSome (content self.old name.now) (λ bytes. MOST_BYTES < length bytes) }
+
+        ensures failed { IsErrOf result FetchFault.Failed → Rose (faults self.old) (faults self.new) }
+        ensures failed_name { IsErrOf result FetchFault.Failed → last_fault self.new ≡ name.now }
+        ensures count { faults self.old ≤ faults self.new }
+        ensures same { (other : List ℕ) → content self.new other ≡ content self.old other }
+        ensures err { OnErr result (into.new.items ≡ []) };
+}
