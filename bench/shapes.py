@@ -44,6 +44,7 @@ class Row:
     queues: int = 1
     service: str = LATENCY
     periods: tuple[int, ...] = ()  # none: token buckets
+    rates: tuple[int, ...] = (1, 2, 3)  # of the buckets, in turn
     jitter: int = 0
     version: int = 1
 
@@ -61,7 +62,7 @@ class Row:
 
     def arrival(self, number: int) -> str:
         if not self.periods:
-            return f'{{ kind = "bucket", burst = {1000 * (1 + number % 12)}, rate = {1 + number % 3} }}'
+            return f'{{ kind = "bucket", burst = {1000 * (1 + number % 12)}, rate = {self.rates[number % len(self.rates)]} }}'
         period = self.periods[number % len(self.periods)]
         return f'{{ kind = "stair", period = {period}, jitter = {self.jitter * (number % 4)} }}'
 
@@ -78,7 +79,7 @@ class Row:
 
 
 def stairs(servers: int, **other) -> Row:
-    return Row(servers, 3 * servers // 2, 4, periods=other.pop("periods", DOUBLED), **other)
+    return Row(servers, 3 * servers // 2, other.pop("hops", 4), periods=other.pop("periods", DOUBLED), **other)
 
 
 def rows() -> dict[str, Row]:
@@ -92,16 +93,27 @@ def rows() -> dict[str, Row]:
     for servers in (16, 64):
         found[f"version 2, {servers} servers"] = stairs(servers, version=2)
         for flows in (64, 256):
-            found[f"buckets, {flows} flows of 16 hops, {servers} servers"] = Row(servers, flows, 16)
+            found[f"bursts, {flows} flows of 16 hops, {servers} servers"] = Row(servers, flows, 16, rates=(0,))
     found["version 2, gates, 16 servers"] = stairs(16, version=2, service=GATE)
-    found["version 2, buckets, 64 flows of 16 hops, 16 servers"] = Row(16, 64, 16, version=2)
+    for flows in (64, 256):
+        found[f"version 2, buckets, {flows} flows of 16 hops, 16 servers"] = Row(16, flows, 16, version=2)
+    found["buckets, 64 flows of 16 hops, 16 servers"] = Row(16, 64, 16)
     found["periods 8000, 12000, 20000, 16 servers"] = stairs(16, periods=MIXED)
     found["periods 8000, 12000, 20000, round robin, 16 servers"] = stairs(16, periods=MIXED, discipline="drr", queues=4)
     found["jitter, 16 servers"] = stairs(16, jitter=3000)
     found["listed services of two slopes, 16 servers"] = stairs(16, service=RAMP)
     for discipline, name in (("priority", "priority"), ("drr", "round robin")):
-        found[f"buckets, {name}, 8 queues, 64 flows of 8 hops, 16 servers"] = Row(16, 64, 8, discipline=discipline, queues=8)
+        row = Row(16, 64, 8, discipline=discipline, queues=8, rates=(0,))
+        found[f"bursts, {name}, 8 queues, 64 flows of 8 hops, 16 servers"] = row
     return found
+
+
+def late() -> dict[str, Row]:
+    """Networks that take long; they are measured only where their name is asked for."""
+    return {
+        "late: 96 stairs of 16 hops, 64 servers": stairs(64, hops=16),
+        "late: 256 stairs of 6 hops, 64 gates": Row(64, 256, 6, periods=DOUBLED, service=GATE),
+    }
 
 
 def mixed(servers: int) -> str:
@@ -144,7 +156,7 @@ def examples() -> list[Shape]:
 
 
 def all_shapes() -> list[Shape]:
-    found = [Shape(name, "analyse n", {"n": row.text()}) for name, row in rows().items()]
+    found = [Shape(name, "analyse n", {"n": row.text()}) for name, row in (rows() | late()).items()]
     found += [Shape(f"all disciplines, {servers} servers", "analyse n", {"n": mixed(servers)}) for servers in (4, 16, 64)]
     found += [Shape(f"a closure, segment of 1/{parts}", "analyse n", {"n": network_files.closed(parts)}) for parts in (20, 40, 80)]
     most = network_files.MOST_BYTES

@@ -4,7 +4,8 @@
     python3 bench/speed.py NETCALC [WORD]
 
 NETCALC is the program. The other one, bench/twin, is built with cargo into a new folder outside the repository; where there is no cargo only the
-program is measured. Both work on the same files, those of bench/shapes.py; with WORD those alone whose name has it. Instructions are counted by
+program is measured. Both work on the same files, those of bench/shapes.py; with WORD those alone whose name has it (and with
+`late` the ones that take long). Instructions are counted by
 valgrind (callgrind), so a busy machine changes nothing, and each is run once; where there is no valgrind, processor time stands in their place, in
 milliseconds, the least of five runs, and the first line says so.
 
@@ -13,7 +14,8 @@ program refuses), thousands a cell, and the operators that take most of the prog
 others, as the number of a convolution's periods is within convolutions, so the shares may come to more than 100 in 100. Then both work out single
 operators on two stairs that turn n and n + 1 times up to where both turn: instructions for each piece that is looked at.
 
-The last lines tell the mean of the ratios, the largest, and how many are above 2. It ends with 1 where the two answer unlike each other, and
+First the other one answers the cases of tests/ that it covers: those of `analyse`, `simulate` and `check` that have a report, but for runs that
+break a service curve, of which it says no more than that. The last lines tell the mean of the ratios, the largest, and how many are above 2. It ends with 1 where the two answer unlike each other, and
 asserts nothing about time.
 """
 
@@ -30,6 +32,9 @@ import callgrind
 from shapes import Shape, all_shapes
 
 FOLDER = Path(__file__).resolve().parent
+TESTS = FOLDER.parent / "tests"
+COMMANDS = ("analyse", "simulate", "check")
+IS_LEFT_OUT = 3  # the twin's status where a service is broken
 HAS_VALGRIND = shutil.which("valgrind") is not None
 UNIT = "million instructions" if HAS_VALGRIND else "ms"
 TIMES = 5
@@ -79,6 +84,30 @@ def twin(folder: Path) -> str | None:
     shutil.copytree(FOLDER / "twin", copy, ignore=shutil.ignore_patterns("target"))
     subprocess.run(["cargo", "build", "--release", "--offline", "--quiet"], cwd=copy, check=True)
     return str(copy / "target" / "release" / "twin")
+
+
+def text_in(path: Path) -> str:
+    return path.read_text() if path.exists() else ""
+
+
+def answers_cases(other: str) -> bool:
+    """Whether the other program answers the cases of tests/ as they want."""
+    alike, left_out, unlike = 0, 0, []
+    for told in sorted(TESTS.glob("*/*/words")):
+        words, status = told.read_text().split(), int(text_in(told.parent / "status") or 0)
+        if not words or words[0] not in COMMANDS or "--json" in words or status not in (0, 9):
+            continue
+        run = subprocess.run([other, *words], cwd=told.parent, capture_output=True, text=True, check=False)
+        if run.returncode == IS_LEFT_OUT:
+            left_out += 1
+        elif (run.returncode, run.stdout) == (status, text_in(told.parent / "stdout")):
+            alike += 1
+        else:
+            unlike.append(told.parent.name)
+    print(f"Plain Rust answers {alike} cases of tests/ as they want, and leaves out {left_out}.")
+    for name in unlike:
+        print(f"{name}: plain Rust answers otherwise")
+    return not unlike
 
 
 def timed(words: list[str]) -> Measured:
@@ -140,7 +169,7 @@ def measure_shapes(program: str, other: str | None, folder: Path, word: str) -> 
     print("|---|---|---|---|---|---|---|")
     ratios, unlike = [], []
     for shape in all_shapes():
-        if word not in shape.name:
+        if word not in shape.name or not word and shape.name.startswith("late"):
             continue
         paths = {key: folder / key for key in shape.files}
         for key, path in paths.items():
@@ -195,7 +224,8 @@ def main() -> None:
         print("no valgrind: milliseconds of processor time in place of instructions")
     with tempfile.TemporaryDirectory() as folder:
         other = twin(Path(folder))
-        is_alike = measure_shapes(program, other, Path(folder), word)
+        is_alike = other is None or answers_cases(other)
+        is_alike &= measure_shapes(program, other, Path(folder), word)
         if not word:
             measure_operators(program, other, Path(folder))
     sys.exit(0 if is_alike else 1)

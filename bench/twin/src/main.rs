@@ -1,14 +1,23 @@
-//! `analyse` in plain Rust, unproved: the same report, for times to be held against. It has no limits, and names no faults.
+//! `analyse`, `simulate` and `check` in plain Rust, unproved: the same reports, for times to be held against. It has no limits, and names
+//! no faults; where a run breaks a service curve it says that alone, with status 3.
 //!
 //!     twin analyse FILE
+//!     twin simulate FILE TRACE
+//!     twin check FILE RUN
 //!     twin operator NAME N TIMES
 
+mod check;
 mod conv;
 mod curve;
 mod frac;
 mod net;
 mod ops;
+mod promises;
+mod queues;
+mod runs;
+mod simulate;
 mod toml;
+mod trace;
 
 use conv::*;
 use curve::*;
@@ -37,6 +46,29 @@ fn sum_of<'a>(mut it: impl Iterator<Item = &'a Rc<Curve>>, zero: &Rc<Curve>) -> 
         acc = sum(&acc, c);
     }
     Rc::new(acc)
+}
+
+/// The sum of the parts of a queue: the flows that enter there, and those that come from each server, which its rate cuts.
+fn parts_sum(net: &Net, members: &[(u32, u32)], ins: &[&Rc<Curve>], zero: &Rc<Curve>) -> Rc<Curve> {
+    let from: Vec<Option<u32>> =
+        members.iter().map(|&(i, k)| k.checked_sub(1).map(|k| net.flows[i as usize].path[k as usize].0)).collect();
+    let mut sources = from.clone();
+    sources.sort_unstable();
+    sources.dedup();
+    let mut parts = Vec::with_capacity(sources.len());
+    for source in sources {
+        let of_part = || (0..ins.len()).filter(|&j| from[j] == source);
+        let whole = sum_of(of_part().map(|j| ins[j]), zero);
+        parts.push(match source {
+            None => whole,
+            Some(server) => {
+                let longest = of_part().map(|j| net.flows[members[j].0 as usize].packet).max().unwrap_or(0);
+                let line = affine(Fraction::int(longest as i128), net.servers[server as usize].rate);
+                Rc::new(min(&whole, &line))
+            }
+        });
+    }
+    sum_of(parts.iter(), zero)
 }
 
 fn total(values: &[Fraction]) -> Fraction {
@@ -76,7 +108,10 @@ fn analyse(net: &Net, order: &[u32]) -> (Vec<Vec<Row>>, Vec<[Fraction; 3]>) {
             crosses.push(
                 (0..n).map(|j| sum_of(ins.iter().enumerate().filter(|e| e.0 != j).map(|e| *e.1), &zero)).collect(),
             );
-            totals.push(sum_of(ins.iter().copied(), &zero));
+            totals.push(match net.version {
+                1 => sum_of(ins.iter().copied(), &zero),
+                _ => parts_sum(net, m, &ins, &zero),
+            });
         }
         // services of queues
         let mut services: Vec<Rc<Curve>> = Vec::with_capacity(sv.nq);
@@ -165,6 +200,36 @@ fn operate(name: &str, n: i128, times: u32) -> usize {
     pieces
 }
 
+fn report(net: &Net, (rows, flows): &(Vec<Vec<Row>>, Vec<[Fraction; 3]>)) -> String {
+    use std::fmt::Write;
+    let mut out = String::new();
+    let _ = writeln!(out, "servers {} flows {}", net.servers.len(), net.flows.len());
+    for (s, r) in net.servers.iter().zip(rows) {
+        for (q, r) in r.iter().enumerate() {
+            let _ = write!(out, "queue {} {} delay ", s.name, q);
+            r.delay.show(&mut out);
+            out.push_str(" backlog ");
+            r.backlog.show(&mut out);
+            out.push('\n');
+        }
+    }
+    for (f, v) in net.flows.iter().zip(flows) {
+        let _ = write!(out, "flow {} tfa ", f.name);
+        v[0].show(&mut out);
+        out.push_str(" sfa ");
+        v[1].show(&mut out);
+        out.push_str(" bound ");
+        v[2].show(&mut out);
+        out.push('\n');
+    }
+    out
+}
+
+fn read_text(path: &str) -> String {
+    let bytes = std::fs::read(path).unwrap();
+    String::from_utf8(bytes).unwrap_or_else(|_| std::process::exit(1))
+}
+
 fn main() {
     let words: Vec<String> = std::env::args().collect();
     if let [_, mode, name, n, times] = &words[..] {
@@ -173,9 +238,8 @@ fn main() {
             return;
         }
     }
-    let bytes = std::fs::read(&words[2]).unwrap();
-    let Ok(text) = std::str::from_utf8(&bytes) else { std::process::exit(1) };
-    let Some(tree) = toml::parse(text) else {
+    let text = read_text(&words[2]);
+    let Some(tree) = toml::parse(&text) else {
         println!("twin: M1");
         std::process::exit(1)
     };
@@ -187,29 +251,13 @@ fn main() {
         println!("twin: cycle");
         std::process::exit(8)
     };
-    let (rows, flows) = analyse(&net, &order);
-    let mut out = String::new();
-    use std::fmt::Write;
-    let _ = writeln!(out, "servers {} flows {}", net.servers.len(), net.flows.len());
-    for (s, r) in net.servers.iter().zip(&rows) {
-        for (q, r) in r.iter().enumerate() {
-            let _ = write!(out, "queue {} {} delay ", s.name, q);
-            r.delay.show(&mut out);
-            out.push_str(" backlog ");
-            r.backlog.show(&mut out);
-            out.push('\n');
-        }
-    }
-    for (f, v) in net.flows.iter().zip(&flows) {
-        let _ = write!(out, "flow {} tfa ", f.name);
-        v[0].show(&mut out);
-        out.push_str(" sfa ");
-        v[1].show(&mut out);
-        out.push_str(" bound ");
-        v[2].show(&mut out);
-        out.push('\n');
-    }
+    let bounds = || analyse(&net, &order);
+    let (out, status) = match &*words[1] {
+        "simulate" => runs::simulated(&net, &read_text(&words[3]), bounds),
+        "check" => runs::checked(&net, &read_text(&words[3]), bounds),
+        _ => (report(&net, &bounds()), 0),
+    };
     use std::io::Write as W;
     let _ = std::io::stdout().write_all(out.as_bytes());
-    std::process::exit(0)
+    std::process::exit(status)
 }
