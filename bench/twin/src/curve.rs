@@ -85,7 +85,7 @@ fn merged(ps: &mut Vec<Piece>) {
     ps.truncate(n);
 }
 
-fn simple(mut ps: Vec<Piece>) -> Curve {
+pub fn simple(mut ps: Vec<Piece>) -> Curve {
     merged(&mut ps);
     let l = ps[ps.len() - 1];
     Curve { rank: l.x, tail: if l.r.inf() { Tail::Inf } else { Tail::Aff }, ps }

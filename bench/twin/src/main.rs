@@ -1,7 +1,10 @@
 //! `analyse`, `simulate` and `check` in plain Rust, unproved: the same reports, for times to be held against. It has no limits, and names
 //! no faults; where a run breaks a service curve it says that alone, with status 3.
+//! `shared` is `analyse`, but makes the sum of the other flows of a hop of the sums of those before it and of those after it, where the
+//! equations, and so `analyse`, add the others up one by one.
 //!
 //!     twin analyse FILE
+//!     twin shared FILE
 //!     twin simulate FILE TRACE
 //!     twin check FILE RUN
 //!     twin operator NAME N TIMES
@@ -48,6 +51,32 @@ fn sum_of<'a>(mut it: impl Iterator<Item = &'a Rc<Curve>>, zero: &Rc<Curve>) -> 
     Rc::new(acc)
 }
 
+/// Of each flow the sum of the others, one after the other.
+fn own_crosses(ins: &[&Rc<Curve>], zero: &Rc<Curve>) -> Vec<Rc<Curve>> {
+    (0..ins.len()).map(|j| sum_of(ins.iter().enumerate().filter(|e| e.0 != j).map(|e| *e.1), zero)).collect()
+}
+
+/// The same of the sums of those before and of those after it.
+fn shared_crosses(ins: &[&Rc<Curve>], zero: &Rc<Curve>) -> Vec<Rc<Curve>> {
+    let both = |a: Option<Rc<Curve>>, b: &Rc<Curve>| a.map_or(b.clone(), |a| Rc::new(sum(&a, b)));
+    let mut before: Vec<Option<Rc<Curve>>> = vec![None];
+    for (j, curve) in ins.iter().enumerate() {
+        before.push(Some(both(before[j].clone(), curve)));
+    }
+    let mut after: Option<Rc<Curve>> = None;
+    let mut found = Vec::with_capacity(ins.len());
+    for j in (0..ins.len()).rev() {
+        found.push(match (&before[j], &after) {
+            (a, Some(b)) => both(a.clone(), b),
+            (Some(a), None) => a.clone(),
+            (None, None) => zero.clone(),
+        });
+        after = Some(both(after, ins[j]));
+    }
+    found.reverse();
+    found
+}
+
 /// The sum of the parts of a queue: the flows that enter there, and those that come from each server, which its rate cuts.
 fn parts_sum(net: &Net, members: &[(u32, u32)], ins: &[&Rc<Curve>], zero: &Rc<Curve>) -> Rc<Curve> {
     let from: Vec<Option<u32>> =
@@ -83,7 +112,7 @@ fn total(values: &[Fraction]) -> Fraction {
 }
 
 /// The delays and backlogs of each queue, and of each flow the sum of its delays, the bound by its path's service, and the lesser.
-fn analyse(net: &Net, order: &[u32]) -> (Vec<Vec<Row>>, Vec<[Fraction; 3]>) {
+fn analyse(net: &Net, order: &[u32], is_shared: bool) -> (Vec<Vec<Row>>, Vec<[Fraction; 3]>) {
     let zero = Rc::new(affine(ZERO, ZERO));
     let mut at: Vec<Vec<Vec<(u32, u32)>>> = net.servers.iter().map(|s| vec![Vec::new(); s.nq]).collect();
     for (i, f) in net.flows.iter().enumerate() {
@@ -103,11 +132,8 @@ fn analyse(net: &Net, order: &[u32]) -> (Vec<Vec<Row>>, Vec<[Fraction; 3]>) {
         let mut crosses: Vec<Vec<Rc<Curve>>> = Vec::with_capacity(sv.nq);
         let mut totals: Vec<Rc<Curve>> = Vec::with_capacity(sv.nq);
         for m in queues {
-            let n = m.len();
             let ins: Vec<&Rc<Curve>> = m.iter().map(|&(i, _)| &next[i as usize]).collect();
-            crosses.push(
-                (0..n).map(|j| sum_of(ins.iter().enumerate().filter(|e| e.0 != j).map(|e| *e.1), &zero)).collect(),
-            );
+            crosses.push(if is_shared { shared_crosses(&ins, &zero) } else { own_crosses(&ins, &zero) });
             totals.push(match net.version {
                 1 => sum_of(ins.iter().copied(), &zero),
                 _ => parts_sum(net, m, &ins, &zero),
@@ -251,7 +277,7 @@ fn main() {
         println!("twin: cycle");
         std::process::exit(8)
     };
-    let bounds = || analyse(&net, &order);
+    let bounds = || analyse(&net, &order, words[1] == "shared");
     let (out, status) = match &*words[1] {
         "simulate" => runs::simulated(&net, &read_text(&words[3]), bounds),
         "check" => runs::checked(&net, &read_text(&words[3]), bounds),

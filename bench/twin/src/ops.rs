@@ -55,6 +55,9 @@ fn add_lists(f: &[Piece], g: &[Piece], hi: Fraction) -> Vec<Piece> {
 }
 
 pub fn sum(f: &Curve, g: &Curve) -> Curve {
+    if f.tail == Tail::Aff && g.tail == Tail::Aff {
+        return simple(add_lists(&f.ps, &g.ps, f.rank.max(g.rank).add(ONE)));
+    }
     let d = common(f, g);
     let m = f.t().max(g.t());
     let h = m.add(d);
