@@ -8,6 +8,7 @@ from dataclasses import dataclass
 from pathlib import Path
 
 import analysis
+import hostile
 import network_files
 import simulation
 
@@ -159,6 +160,7 @@ def all_shapes() -> list[Shape]:
     found = [Shape(name, "analyse n", {"n": row.text()}) for name, row in (rows() | late()).items()]
     found += [Shape(f"all disciplines, {servers} servers", "analyse n", {"n": mixed(servers)}) for servers in (4, 16, 64)]
     found += [Shape(f"a closure, segment of 1/{parts}", "analyse n", {"n": network_files.closed(parts)}) for parts in (20, 40, 80)]
+    found += [Shape(f"a closure, {steps} steps at drawn times", "analyse n", {"n": hostile.closed_walk(steps)}) for steps in (12, 20)]
     most = network_files.MOST_BYTES
     for name, told in (("in a ring", "1 MiB in a ring, read alone"), ("alike names", "1 MiB, names alike, 256 flows of 16 hops")):
         found.append(Shape(told, "analyse n", {"n": network_files.FILES[name](most)}, name == "in a ring"))

@@ -405,6 +405,8 @@ pub fn close(f: &Curve) -> Curve {
         let c = min(&c, &origin);
         so_far = Some(match so_far.take() {
             None => c,
+            // both are 0 at 0 and subadditive: where c is nowhere below s, their convolution is s
+            Some(s) if min(&s, &c) == s => s,
             Some(s) => convolve(&s, &c),
         });
     };
