@@ -1,7 +1,8 @@
 """Reads what callgrind writes: how many instructions go to functions of some names, with all that they call.
 
 `entered(path, labels)` gives the instructions of the whole run, and of each label those of its functions: the cost of each call from a function that
-is none of them to one that is. So what calls itself, by whatever way within the label, is counted once.
+is none of them to one that is. So what calls itself within the label is counted once, and what the label calls again by way of others is counted
+with each of these calls.
 """
 
 from pathlib import Path

@@ -56,7 +56,7 @@ LABELS = {
     "gauges": ("upp_limits::call_sizes::", "upp_limits::curve_numbers::", "upp_limits::own_limits::"),
     "who is at a queue": ("cell_eval::found::", "cell_eval::counted::"),
     "TOML": ("toml::de", "toml_parser::"),
-    "the network's tables": ("net_draft::", "net_text::reading", "net_text::net_draft"),
+    "the network's tables": ("net_text::reading",),
     "the network's order": ("net_model::net_graph",),
     "rows": ("input_texts::", "csv::", "commands::input_texts"),
     "the run": ("sim_servers::", "sim_loop::", "simulation::"),
