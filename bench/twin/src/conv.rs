@@ -100,6 +100,20 @@ fn row(
     Some(out)
 }
 
+/// The values of g at its starts, or the lesser of these and its limits from the right, from the left.
+fn values(g: &[Piece], limits: &(Vec<Fraction>, Vec<Fraction>), right: bool, left: bool) -> Vec<Fraction> {
+    (0..g.len())
+        .map(|j| {
+            let here = if right { g[j].at.min(limits.1[j]) } else { g[j].at };
+            if left {
+                here.min(limits.0[j])
+            } else {
+                here
+            }
+        })
+        .collect()
+}
+
 /// The rows of the starts of f at which it turns up, with g.
 fn rows_of(
     f: &[Piece],
@@ -115,7 +129,7 @@ fn rows_of(
     let n = f.len();
     let mut by_right: Option<Vec<Fraction>> = None;
     let mut by_left: Option<Vec<Fraction>> = None;
-    let mut plain: Option<Vec<Fraction>> = None;
+    let mut at_starts: [Option<Vec<Fraction>>; 4] = [None, None, None, None];
     for i in 0..=n {
         let x = if i < n { f[i].x } else { fe };
         if x.add(g[0].x) >= hi {
@@ -138,27 +152,8 @@ fn rows_of(
             };
             if a <= b {
                 // values of g at its starts: also its limits where f goes on without a jump
-                let vals = plain.get_or_insert_with(|| g.iter().map(|p| p.at).collect());
-                let mut own: Vec<Fraction>;
-                let mut vals: &[Fraction] = vals;
-                if l == at && (0..g.len()).any(|j| gl.1[j] < g[j].at)
-                    || r == at && (0..g.len()).any(|j| gl.0[j] < g[j].at)
-                {
-                    own = vals.to_vec();
-                    for j in 0..g.len() {
-                        if l == at {
-                            own[j] = own[j].min(gl.1[j]);
-                        }
-                        if r == at {
-                            own[j] = own[j].min(gl.0[j]);
-                        }
-                    }
-                    vals = &own;
-                    if let Some(q) = row(g, vals, x, at, ge, lo, hi) {
-                        rows.push((x, q));
-                    }
-                    continue;
-                }
+                let which = (l == at) as usize + 2 * (r == at) as usize;
+                let vals = at_starts[which].get_or_insert_with(|| values(g, gl, l == at, r == at));
                 if let Some(q) = row(g, vals, x, at, ge, lo, hi) {
                     rows.push((x, q));
                 }
@@ -227,7 +222,14 @@ pub fn convolve(f: &Curve, g: &Curve) -> Curve {
     let rise = a.min(b);
     let rise = if rise.inf() { ZERO } else { rise };
     let (slow, fast, ts, tq, rs, rq) = if rf < rg { (f, g, tf, tg, rf, rg) } else { (g, f, tg, tf, rg, rf) };
-    if rf == rg || ts.zero() {
+    // A split whose part of the faster curve is later than a period past where that repeats is no better than one a period earlier.
+    let enough = tq.add(d);
+    if ts.zero() {
+        let h = e.add(d);
+        let ps = joined(&slow.between(ZERO, h), h, &fast.between(ZERO, enough), enough, ZERO, h);
+        return from_list(ps, e, d, rise);
+    }
+    if rf == rg {
         let h = e.add(d);
         let ps = joined(&f.between(ZERO, h), h, &g.between(ZERO, h), h, ZERO, h);
         return from_list(ps, e, d, rise);
@@ -235,7 +237,7 @@ pub fn convolve(f: &Curve, g: &Curve) -> Curve {
     let top = e.add(d);
     let per = slow.between(ts, top);
     let tr = slow.between(ZERO, ts);
-    let x = joined(&per, top, &fast.between(ZERO, top.sub(ts)), top.sub(ts), ZERO, top);
+    let x = joined(&per, top, &fast.between(ZERO, enough), enough, ZERO, top);
     let y = joined(&tr, ts, &fast.between(tq, top), top, ZERO, top);
     let empty = tr.iter().all(|p| p.at.inf() && p.r.inf());
     let k = if empty {
@@ -332,8 +334,8 @@ fn point_closure(a: Fraction, v: Fraction) -> Curve {
 }
 
 fn chosen(a: Fraction, b: Fraction, k: Fraction, t: Fraction) -> Option<Fraction> {
-    let low = (t.div(b).floor() + 1).max(1);
-    let high = t.div(a).ceil() - 1;
+    let low = (t.floor_div(b) + 1).max(1);
+    let high = t.ceil_div(a) - 1;
     if low > high {
         None
     } else {
@@ -366,7 +368,7 @@ fn segment_closure(a: Fraction, b: Option<Fraction>, k: Fraction, r: Fraction) -
             Tail::Per(b, k.add(rb)),
         );
     }
-    let n0 = a.div(b.sub(a)).floor() + 1;
+    let n0 = a.floor_div(b.sub(a)) + 1;
     let mut pts = vec![ZERO];
     for n in 1..n0 + 3 {
         pts.push(Fraction::int(n).mul(a));
@@ -403,6 +405,8 @@ pub fn close(f: &Curve) -> Curve {
         let c = min(&c, &origin);
         so_far = Some(match so_far.take() {
             None => c,
+            // both are 0 at 0 and subadditive: where c is nowhere below s, their convolution is s
+            Some(s) if min(&s, &c) == s => s,
             Some(s) => convolve(&s, &c),
         });
     };

@@ -85,13 +85,13 @@ fn merged(ps: &mut Vec<Piece>) {
     ps.truncate(n);
 }
 
-fn simple(mut ps: Vec<Piece>) -> Curve {
+pub fn simple(mut ps: Vec<Piece>) -> Curve {
     merged(&mut ps);
     let l = ps[ps.len() - 1];
     Curve { rank: l.x, tail: if l.r.inf() { Tail::Inf } else { Tail::Aff }, ps }
 }
 
-fn from(ps: &[Piece], x: Fraction) -> usize {
+pub fn from(ps: &[Piece], x: Fraction) -> usize {
     ps.partition_point(|p| p.x < x)
 }
 
@@ -387,7 +387,7 @@ impl Curve {
         let mut up = ZERO;
         if let Tail::Per(d, c) = self.tail {
             if t >= self.rank.add(d) {
-                let n = Fraction::int(t.sub(self.rank).div(d).floor());
+                let n = Fraction::int(t.sub(self.rank).floor_div(d));
                 t = t.sub(n.mul(d));
                 up = n.mul(c);
             }
@@ -418,7 +418,7 @@ impl Curve {
                     n = 1;
                 } else {
                     if lo.sub(rank) >= d {
-                        n = lo.sub(rank).div(d).floor();
+                        n = lo.sub(rank).floor_div(d);
                     }
                     out = Vec::with_capacity(count * 2 + 4);
                 }

@@ -185,9 +185,34 @@ impl Fraction {
         }
         self.n.div_euclid(self.d)
     }
-    #[inline]
-    pub fn ceil(self) -> i128 {
-        -self.neg().floor()
+    /// The whole part of the quotient, of which nothing is reduced; the divisor is above 0.
+    pub fn floor_div(self, o: Fraction) -> i128 {
+        if self.d == o.d {
+            return Fraction { n: self.n, d: o.n }.floor();
+        }
+        match (self.n.checked_mul(o.d), self.d.checked_mul(o.n)) {
+            (Some(n), Some(d)) => Fraction { n, d }.floor(),
+            _ => self.div(o).floor(),
+        }
+    }
+    pub fn ceil_div(self, o: Fraction) -> i128 {
+        -self.neg().floor_div(o)
+    }
+    /// The product with t, beside k.
+    #[inline(always)]
+    pub fn mul_cmp(self, t: Fraction, k: Fraction) -> Ordering {
+        if self.d == 1 && t.d == 1 && k.d == 1 {
+            return prod(self.n, t.n).cmp(&k.n);
+        }
+        self.mul_cmp_slow(t, k)
+    }
+    #[inline(never)]
+    fn mul_cmp_slow(self, t: Fraction, k: Fraction) -> Ordering {
+        let product = |a: i128, b: i128, c: i128| a.checked_mul(b).and_then(|ab| ab.checked_mul(c));
+        match (product(self.n, t.n, k.d), product(k.n, self.d, t.d)) {
+            (Some(a), Some(b)) => a.cmp(&b),
+            _ => self.mul(t).cmp(&k),
+        }
     }
     pub fn lcm(a: Fraction, b: Fraction) -> Fraction {
         let g = gcd(a.n as u128, b.n as u128) as i128;

@@ -1,14 +1,26 @@
-//! `analyse` in plain Rust, unproved: the same report, for times to be held against. It has no limits, and names no faults.
+//! `analyse`, `simulate` and `check` in plain Rust, unproved: the same reports, for times to be held against. It has no limits, and names
+//! no faults; where a run breaks a service curve it says that alone, with status 3.
+//! `shared` is `analyse`, but makes the sum of the other flows of a hop of the sums of those before it and of those after it, where the
+//! equations, and so `analyse`, add the others up one by one.
 //!
 //!     twin analyse FILE
+//!     twin shared FILE
+//!     twin simulate FILE TRACE
+//!     twin check FILE RUN
 //!     twin operator NAME N TIMES
 
+mod check;
 mod conv;
 mod curve;
 mod frac;
 mod net;
 mod ops;
+mod promises;
+mod queues;
+mod runs;
+mod simulate;
 mod toml;
+mod trace;
 
 use conv::*;
 use curve::*;
@@ -39,6 +51,55 @@ fn sum_of<'a>(mut it: impl Iterator<Item = &'a Rc<Curve>>, zero: &Rc<Curve>) -> 
     Rc::new(acc)
 }
 
+/// Of each flow the sum of the others, one after the other.
+fn own_crosses(ins: &[&Rc<Curve>], zero: &Rc<Curve>) -> Vec<Rc<Curve>> {
+    (0..ins.len()).map(|j| sum_of(ins.iter().enumerate().filter(|e| e.0 != j).map(|e| *e.1), zero)).collect()
+}
+
+/// The same of the sums of those before and of those after it.
+fn shared_crosses(ins: &[&Rc<Curve>], zero: &Rc<Curve>) -> Vec<Rc<Curve>> {
+    let both = |a: Option<Rc<Curve>>, b: &Rc<Curve>| a.map_or(b.clone(), |a| Rc::new(sum(&a, b)));
+    let mut before: Vec<Option<Rc<Curve>>> = vec![None];
+    for (j, curve) in ins.iter().enumerate() {
+        before.push(Some(both(before[j].clone(), curve)));
+    }
+    let mut after: Option<Rc<Curve>> = None;
+    let mut found = Vec::with_capacity(ins.len());
+    for j in (0..ins.len()).rev() {
+        found.push(match (&before[j], &after) {
+            (a, Some(b)) => both(a.clone(), b),
+            (Some(a), None) => a.clone(),
+            (None, None) => zero.clone(),
+        });
+        after = Some(both(after, ins[j]));
+    }
+    found.reverse();
+    found
+}
+
+/// The sum of the parts of a queue: the flows that enter there, and those that come from each server, which its rate cuts.
+fn parts_sum(net: &Net, members: &[(u32, u32)], ins: &[&Rc<Curve>], zero: &Rc<Curve>) -> Rc<Curve> {
+    let from: Vec<Option<u32>> =
+        members.iter().map(|&(i, k)| k.checked_sub(1).map(|k| net.flows[i as usize].path[k as usize].0)).collect();
+    let mut sources = from.clone();
+    sources.sort_unstable();
+    sources.dedup();
+    let mut parts = Vec::with_capacity(sources.len());
+    for source in sources {
+        let of_part = || (0..ins.len()).filter(|&j| from[j] == source);
+        let whole = sum_of(of_part().map(|j| ins[j]), zero);
+        parts.push(match source {
+            None => whole,
+            Some(server) => {
+                let longest = of_part().map(|j| net.flows[members[j].0 as usize].packet).max().unwrap_or(0);
+                let line = affine(Fraction::int(longest as i128), net.servers[server as usize].rate);
+                Rc::new(min(&whole, &line))
+            }
+        });
+    }
+    sum_of(parts.iter(), zero)
+}
+
 fn total(values: &[Fraction]) -> Fraction {
     let mut s = ZERO;
     for v in values {
@@ -51,7 +112,7 @@ fn total(values: &[Fraction]) -> Fraction {
 }
 
 /// The delays and backlogs of each queue, and of each flow the sum of its delays, the bound by its path's service, and the lesser.
-fn analyse(net: &Net, order: &[u32]) -> (Vec<Vec<Row>>, Vec<[Fraction; 3]>) {
+fn analyse(net: &Net, order: &[u32], is_shared: bool) -> (Vec<Vec<Row>>, Vec<[Fraction; 3]>) {
     let zero = Rc::new(affine(ZERO, ZERO));
     let mut at: Vec<Vec<Vec<(u32, u32)>>> = net.servers.iter().map(|s| vec![Vec::new(); s.nq]).collect();
     for (i, f) in net.flows.iter().enumerate() {
@@ -71,12 +132,12 @@ fn analyse(net: &Net, order: &[u32]) -> (Vec<Vec<Row>>, Vec<[Fraction; 3]>) {
         let mut crosses: Vec<Vec<Rc<Curve>>> = Vec::with_capacity(sv.nq);
         let mut totals: Vec<Rc<Curve>> = Vec::with_capacity(sv.nq);
         for m in queues {
-            let n = m.len();
             let ins: Vec<&Rc<Curve>> = m.iter().map(|&(i, _)| &next[i as usize]).collect();
-            crosses.push(
-                (0..n).map(|j| sum_of(ins.iter().enumerate().filter(|e| e.0 != j).map(|e| *e.1), &zero)).collect(),
-            );
-            totals.push(sum_of(ins.iter().copied(), &zero));
+            crosses.push(if is_shared { shared_crosses(&ins, &zero) } else { own_crosses(&ins, &zero) });
+            totals.push(match net.version {
+                1 => sum_of(ins.iter().copied(), &zero),
+                _ => parts_sum(net, m, &ins, &zero),
+            });
         }
         // services of queues
         let mut services: Vec<Rc<Curve>> = Vec::with_capacity(sv.nq);
@@ -165,6 +226,36 @@ fn operate(name: &str, n: i128, times: u32) -> usize {
     pieces
 }
 
+fn report(net: &Net, (rows, flows): &(Vec<Vec<Row>>, Vec<[Fraction; 3]>)) -> String {
+    use std::fmt::Write;
+    let mut out = String::new();
+    let _ = writeln!(out, "servers {} flows {}", net.servers.len(), net.flows.len());
+    for (s, r) in net.servers.iter().zip(rows) {
+        for (q, r) in r.iter().enumerate() {
+            let _ = write!(out, "queue {} {} delay ", s.name, q);
+            r.delay.show(&mut out);
+            out.push_str(" backlog ");
+            r.backlog.show(&mut out);
+            out.push('\n');
+        }
+    }
+    for (f, v) in net.flows.iter().zip(flows) {
+        let _ = write!(out, "flow {} tfa ", f.name);
+        v[0].show(&mut out);
+        out.push_str(" sfa ");
+        v[1].show(&mut out);
+        out.push_str(" bound ");
+        v[2].show(&mut out);
+        out.push('\n');
+    }
+    out
+}
+
+fn read_text(path: &str) -> String {
+    let bytes = std::fs::read(path).unwrap();
+    String::from_utf8(bytes).unwrap_or_else(|_| std::process::exit(1))
+}
+
 fn main() {
     let words: Vec<String> = std::env::args().collect();
     if let [_, mode, name, n, times] = &words[..] {
@@ -173,9 +264,8 @@ fn main() {
             return;
         }
     }
-    let bytes = std::fs::read(&words[2]).unwrap();
-    let Ok(text) = std::str::from_utf8(&bytes) else { std::process::exit(1) };
-    let Some(tree) = toml::parse(text) else {
+    let text = read_text(&words[2]);
+    let Some(tree) = toml::parse(&text) else {
         println!("twin: M1");
         std::process::exit(1)
     };
@@ -187,29 +277,13 @@ fn main() {
         println!("twin: cycle");
         std::process::exit(8)
     };
-    let (rows, flows) = analyse(&net, &order);
-    let mut out = String::new();
-    use std::fmt::Write;
-    let _ = writeln!(out, "servers {} flows {}", net.servers.len(), net.flows.len());
-    for (s, r) in net.servers.iter().zip(&rows) {
-        for (q, r) in r.iter().enumerate() {
-            let _ = write!(out, "queue {} {} delay ", s.name, q);
-            r.delay.show(&mut out);
-            out.push_str(" backlog ");
-            r.backlog.show(&mut out);
-            out.push('\n');
-        }
-    }
-    for (f, v) in net.flows.iter().zip(&flows) {
-        let _ = write!(out, "flow {} tfa ", f.name);
-        v[0].show(&mut out);
-        out.push_str(" sfa ");
-        v[1].show(&mut out);
-        out.push_str(" bound ");
-        v[2].show(&mut out);
-        out.push('\n');
-    }
+    let bounds = || analyse(&net, &order, words[1] == "shared");
+    let (out, status) = match &*words[1] {
+        "simulate" => runs::simulated(&net, &read_text(&words[3]), bounds),
+        "check" => runs::checked(&net, &read_text(&words[3]), bounds),
+        _ => (report(&net, &bounds()), 0),
+    };
     use std::io::Write as W;
     let _ = std::io::stdout().write_all(out.as_bytes());
-    std::process::exit(0)
+    std::process::exit(status)
 }

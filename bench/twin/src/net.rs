@@ -11,8 +11,17 @@ pub enum Disc {
     Prio,
     Drr(Vec<u32>),
 }
+/// Open for a slot at the start of each cycle.
+#[derive(Clone, Copy)]
+pub struct Gate {
+    pub cycle: Fraction,
+    pub slot: Fraction,
+}
 pub struct Server {
     pub name: String,
+    pub rate: Fraction,
+    pub gate: Option<Gate>,
+    pub is_listed: bool,
     pub service: Rc<Curve>,
     pub link: Fraction,
     pub disc: Disc,
@@ -25,11 +34,12 @@ pub struct Flow {
     pub path: Vec<(u32, u32)>,
 }
 pub struct Net {
+    pub version: u32,
     pub servers: Vec<Server>,
     pub flows: Vec<Flow>,
 }
 
-fn frac(s: &str) -> Option<Fraction> {
+pub fn frac(s: &str) -> Option<Fraction> {
     let (neg, s) = match s.strip_prefix('-') {
         Some(r) => (true, r),
         None => (false, s),
@@ -202,6 +212,7 @@ fn server(t: &Table) -> Option<Server> {
     if rate.n <= 0 {
         return None;
     }
+    let (mut opening, mut is_listed) = (None, false);
     let service = match t.get("service") {
         None => rate_latency(rate, ZERO),
         Some(Value::Tab(s)) => match text(s, "kind")? {
@@ -211,7 +222,9 @@ fn server(t: &Table) -> Option<Server> {
             }
             "gate" => {
                 known(s, &["kind", "cycle", "slot"])?;
-                gate(rate, need(s, "cycle")?, need(s, "slot")?)
+                let (cycle, slot) = (need(s, "cycle")?, need(s, "slot")?);
+                opening = Some(Gate { cycle, slot });
+                gate(rate, cycle, slot)
             }
             "list" => {
                 known(s, &["kind", "piece", "tail"])?;
@@ -219,6 +232,7 @@ fn server(t: &Table) -> Option<Server> {
                 if !continuous(&c) {
                     return None;
                 }
+                is_listed = true;
                 c
             }
             _ => return None,
@@ -252,11 +266,16 @@ fn server(t: &Table) -> Option<Server> {
         },
         _ => return None,
     };
-    Some(Server { name, service: Rc::new(service), link, disc, nq })
+    Some(Server { name, rate, gate: opening, is_listed, service: Rc::new(service), link, disc, nq })
 }
 
 pub fn read(root: &Table) -> Option<Net> {
     known(root, &["version", "server", "flow"])?;
+    let version = match root.get("version") {
+        None | Some(Value::Int(1)) => 1,
+        Some(Value::Int(2)) => 2,
+        _ => return None,
+    };
     let mut servers = Vec::new();
     let mut names: HashMap<&str, u32> = HashMap::new();
     if let Some(Value::Arr(a)) = root.get("server") {
@@ -321,7 +340,7 @@ pub fn read(root: &Table) -> Option<Net> {
             flows.push(Flow { name: name.to_string(), packet, arrival: Rc::new(arrival), path });
         }
     }
-    Some(Net { servers, flows })
+    Some(Net { version, servers, flows })
 }
 
 /// The order of the servers, or None where there is a cycle.

@@ -55,6 +55,9 @@ fn add_lists(f: &[Piece], g: &[Piece], hi: Fraction) -> Vec<Piece> {
 }
 
 pub fn sum(f: &Curve, g: &Curve) -> Curve {
+    if f.tail == Tail::Aff && g.tail == Tail::Aff {
+        return simple(add_lists(&f.ps, &g.ps, f.rank.max(g.rank).add(ONE)));
+    }
     let d = common(f, g);
     let m = f.t().max(g.t());
     let h = m.add(d);
@@ -77,17 +80,16 @@ pub fn low(f: &[Piece], g: &[Piece], hi: Fraction) -> Vec<Piece> {
         } else {
             let dk = q.k.sub(p.k);
             let dr = p.r.sub(q.r);
-            // f - g = dr t - dk
-            let z = dk.div(dr);
             let up = dr.n > 0;
-            if z <= x {
-                let l = if up { q } else { p };
-                emit(&mut out, x, at, l.k, l.r);
-            } else if z >= y {
-                let l = if up { p } else { q };
-                emit(&mut out, x, at, l.k, l.r);
+            // a is the lower one before they cross
+            let (a, b) = if up { (p, q) } else { (q, p) };
+            let is_past = |t| if up { dr.mul_cmp(t, dk) } else { dr.mul_cmp(t, dk).reverse() };
+            if is_past(x).is_ge() {
+                emit(&mut out, x, at, b.k, b.r);
+            } else if is_past(y).is_le() {
+                emit(&mut out, x, at, a.k, a.r);
             } else {
-                let (a, b) = if up { (p, q) } else { (q, p) };
+                let z = dk.div(dr);
                 emit(&mut out, x, at, a.k, a.r);
                 out.push(Piece::new(z, b.line(z), b.k, b.r));
             }
@@ -111,26 +113,18 @@ fn over_into(out: &mut Vec<Piece>, f: &[Piece], g: &[Piece], hi: Fraction) {
             emit(out, x, at, k, ZERO);
             return;
         }
-        let z = k.neg().div(r);
         let up = r.n > 0;
-        if z <= x {
-            if up {
-                emit(out, x, at, k, r)
-            } else {
-                emit(out, x, at, ZERO, ZERO)
-            }
-        } else if z >= y {
-            if up {
-                emit(out, x, at, ZERO, ZERO)
-            } else {
-                emit(out, x, at, k, r)
-            }
+        let (first, last) = (r.mul_cmp(x, k.neg()), r.mul_cmp(y, k.neg()));
+        if first.is_ge() && last.is_ge() {
+            emit(out, x, at, k, r)
+        } else if first.is_le() && last.is_le() {
+            emit(out, x, at, ZERO, ZERO)
         } else if up {
             emit(out, x, at, ZERO, ZERO);
-            emit(out, z, ZERO, k, r);
+            emit(out, k.neg().div(r), ZERO, k, r);
         } else {
             emit(out, x, at, k, r);
-            emit(out, z, ZERO, ZERO, ZERO);
+            emit(out, k.neg().div(r), ZERO, ZERO, ZERO);
         }
     });
 }
@@ -188,7 +182,7 @@ fn lead(g: Gap, delta: Fraction) -> i128 {
             if delta.inf() || v.n <= 0 {
                 0
             } else {
-                v.div(delta).ceil().max(0)
+                v.ceil_div(delta).max(0)
             }
         }
     }
@@ -277,7 +271,7 @@ pub fn run_sup(f: &Curve) -> Curve {
     let k = if c.zero() || t.zero() {
         0
     } else {
-        sup_of(&f.between(ZERO, t), t).sub(sup_of(&f.between(t, t.add(d)), t.add(d))).div(c).ceil().max(0)
+        sup_of(&f.between(ZERO, t), t).sub(sup_of(&f.between(t, t.add(d)), t.add(d))).ceil_div(c).max(0)
     };
     let h = t.add(Fraction::int(k + 2).mul(d));
     let ps = f.between(ZERO, h);
@@ -459,59 +453,84 @@ pub fn horizontal(f: &Curve, g: &Curve) -> Fraction {
     }
     let d = common(f, g);
     let c = f.rise_over(d);
-    let j = if c.n > 0 { (gt.sub(ft).div(c).floor() + 1).max(0) } else { 0 };
-    let t1 = t.add(Fraction::int(j + 1).mul(d));
-    let v = f.value(t1);
-    let cg = g.rise_over(d);
-    // m: the least whole number with g(t1 + m d) at least v
-    let mut m = 0i128;
-    let g1 = g.value(t1);
-    if g1 < v {
-        if t1 >= g.t() {
-            m = v.sub(g1).div(cg).ceil();
-        } else {
-            let test = |n: i128| g.value(t1.add(Fraction::int(n).mul(d))) >= v;
-            let mut hi = 1;
-            while !test(hi) {
-                hi *= 2;
-            }
-            let mut lo = hi / 2;
-            while hi - lo > 1 {
-                let mid = (lo + hi) / 2;
-                if test(mid) {
-                    hi = mid
-                } else {
-                    lo = mid
-                }
-            }
-            m = hi;
-        }
-    }
-    let hi = t1.add(Fraction::int(m + 1).mul(d));
-    gap(&f.between(ZERO, t1), t1, &g.between(ZERO, hi), hi)
+    let j = if c.n > 0 { (gt.sub(ft).floor_div(c) + 1).max(0) } else { 0 };
+    gap(f, t.add(Fraction::int(j + 1).mul(d)), g)
 }
 
-/// A walk up a rising list.
-struct Walk<'a> {
-    g: &'a [Piece],
-    hi: Fraction,
+/// The pieces of a curve one after the other, those of later periods made as they come.
+struct Cursor<'a> {
+    curve: &'a Curve,
+    base: usize,
     i: usize,
+    later: Fraction,
+    higher: Fraction,
+    piece: Piece,
+}
+
+impl<'a> Cursor<'a> {
+    fn new(curve: &'a Curve) -> Cursor<'a> {
+        let base = match curve.tail {
+            Tail::Per(..) => from(&curve.ps, curve.rank),
+            _ => curve.ps.len(),
+        };
+        Cursor { curve, base, i: 0, later: ZERO, higher: ZERO, piece: curve.ps[0] }
+    }
+    fn end(&self) -> Fraction {
+        match (self.curve.ps.get(self.i + 1), self.curve.tail) {
+            (Some(next), _) => next.x.add(self.later),
+            (None, Tail::Per(d, _)) => self.curve.rank.add(d).add(self.later),
+            _ => INF,
+        }
+    }
+    fn step(&mut self) {
+        self.i += 1;
+        if self.i == self.curve.ps.len() {
+            self.i = self.base;
+            self.skip(1);
+        }
+        self.moved();
+    }
+    fn skip(&mut self, periods: i128) {
+        if let Tail::Per(d, c) = self.curve.tail {
+            self.later = self.later.add(Fraction::int(periods).mul(d));
+            self.higher = self.higher.add(Fraction::int(periods).mul(c));
+        }
+    }
+    fn moved(&mut self) {
+        let p = &self.curve.ps[self.i];
+        self.piece = if self.later.zero() { *p } else { p.moved(self.later, self.higher) };
+    }
+}
+
+/// A walk up a rising curve.
+struct Walk<'a> {
+    on: Cursor<'a>,
+    rise: Fraction,
     state: u8,
     val: Fraction,
 }
 
 impl<'a> Walk<'a> {
-    fn new(g: &'a [Piece], hi: Fraction) -> Walk<'a> {
-        Walk { g, hi, i: 0, state: 0, val: g[0].at }
+    fn new(g: &'a Curve) -> Walk<'a> {
+        let rise = match g.tail {
+            Tail::Per(_, c) => c,
+            _ => ZERO,
+        };
+        Walk { on: Cursor::new(g), rise, state: 0, val: g.ps[0].at }
     }
-    fn step(&mut self) {
+    /// A step towards v; whole periods that stay below it are passed over.
+    fn step(&mut self, v: Fraction) {
         if self.state == 2 {
-            self.i += 1;
+            self.on.step();
             self.state = 0;
+            if self.on.i == self.on.base && self.rise.n > 0 && self.on.piece.at.add(self.rise) < v {
+                self.on.skip(v.sub(self.on.piece.at).ceil_div(self.rise) - 1);
+                self.on.moved();
+            }
         } else {
             self.state += 1;
         }
-        let p = &self.g[self.i];
+        let p = &self.on.piece;
         self.val = match self.state {
             0 => p.at,
             1 => p.line(p.x),
@@ -519,7 +538,12 @@ impl<'a> Walk<'a> {
                 if p.r.zero() {
                     p.k
                 } else {
-                    p.line(if self.i + 1 < self.g.len() { self.g[self.i + 1].x } else { self.hi })
+                    let end = self.on.end();
+                    if end.inf() {
+                        INF
+                    } else {
+                        p.line(end)
+                    }
                 }
             }
         };
@@ -527,19 +551,19 @@ impl<'a> Walk<'a> {
     /// The least time with a value at least v.
     fn reach(&mut self, v: Fraction) -> Fraction {
         while self.val < v {
-            self.step();
+            self.step(v);
         }
         self.time(v)
     }
     /// The least time with a value above v.
     fn pass(&mut self, v: Fraction) -> Fraction {
         while self.val <= v {
-            self.step();
+            self.step(v);
         }
         self.time(v)
     }
     fn time(&self, v: Fraction) -> Fraction {
-        let p = &self.g[self.i];
+        let p = &self.on.piece;
         if self.state == 2 {
             v.sub(p.k).div(p.r)
         } else {
@@ -548,33 +572,40 @@ impl<'a> Walk<'a> {
     }
 }
 
-fn gap(fs: &[Piece], t1: Fraction, g: &[Piece], hi: Fraction) -> Fraction {
-    let mut at = Walk::new(g, hi);
-    let mut past = Walk::new(g, hi);
+fn gap(f: &Curve, t1: Fraction, g: &Curve) -> Fraction {
+    let mut at = Walk::new(g);
+    let mut past = Walk::new(g);
     let mut best = ZERO;
-    for (i, p) in fs.iter().enumerate() {
+    let mut on = Cursor::new(f);
+    while on.piece.x < t1 {
+        let (p, y) = (on.piece, on.end().min(t1));
+        if y < t1 {
+            on.step();
+        }
         best = best.max(at.reach(p.at).sub(p.x));
         if p.r.zero() {
             if p.k != p.at {
                 best = best.max(at.reach(p.k).sub(p.x));
             }
-            continue;
-        }
-        let y = if i + 1 < fs.len() { fs[i + 1].x } else { t1 };
-        let a = p.line(p.x);
-        let b = p.line(y);
-        best = best.max(past.pass(a).sub(p.x));
-        at.reach(a);
-        // the values of g between
-        loop {
-            let w = past.val;
-            if w >= b {
-                break;
+        } else {
+            let a = p.line(p.x);
+            let b = p.line(y);
+            best = best.max(past.pass(a).sub(p.x));
+            at.reach(a);
+            // the values of g between
+            loop {
+                let w = past.val;
+                if w >= b {
+                    break;
+                }
+                let t = w.sub(p.k).div(p.r);
+                best = best.max(at.reach(w).sub(t)).max(past.pass(w).sub(t));
             }
-            let t = w.sub(p.k).div(p.r);
-            best = best.max(at.reach(w).sub(t)).max(past.pass(w).sub(t));
+            best = best.max(at.reach(b).sub(y));
         }
-        best = best.max(at.reach(b).sub(y));
+        if y == t1 {
+            break;
+        }
     }
     best
 }
