@@ -12,7 +12,7 @@ import pathlib
 import sys
 
 TOP = pathlib.Path(__file__).resolve().parent.parent
-SECONDS_A_BYTE, SECONDS_A_FILE = 1.5e-8, 2.3e-5  # measured on the machine of 28 November 2026
+SECONDS_A_BYTE, SECONDS_A_FILE = 4.0e-9, 6.1e-6  # measured in a whole gate of 29 November 2026: 66 s in all of 71 crates
 SUMS = 2  # of each library, one before its proof and one after
 
 
