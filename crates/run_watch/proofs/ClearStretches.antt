@@ -1,6 +1,5 @@
 -- A stretch whose own turns, and times as far from one as a piece starts, show no short window has no idle one.
-use Rattle.std.specs.Prelude.{◌≡◌, ℕ, ◌<◌, List, [], ◌∷◌, length, None}
-use Rattle.std.specs.List.{slice_index_or}
+use Rattle.std.specs.Prelude.{◌≡◌, List, [], ◌∷◌, None}
 use Rattle.std.proofs.Common.{arith, refl, sym, subst, inl, inr}
 use Rattle.upp_limits.specs.rational.specs.Rational.{ℚ, ◌+ℚ◌, ◌-ℚ◌, ◌≤ℚ◌, ◌<ℚ◌}
 use Rattle.upp_limits.specs.rational.specs.Extended.{◌<ₑ◌, ◌+ₑ◌}
@@ -22,15 +21,15 @@ use Rattle.flow_watch.specs.declared.watch_laws.point.Segment.{Segment}
 use Rattle.flow_watch.specs.watch_laws.Segments.{segments}
 use Rattle.flow_watch.specs.watch_laws.Shorts.{EachSegment, HasSegment, IsShortBy}
 use Rattle.flow_watch.proofs.watch_laws.CurveSegments.{segments_tell, starts_tell}
-use Rattle.flow_watch.proofs.watch_laws.Premises.{turns_suffice_within, turns_suffice_between}
+use Rattle.flow_watch.proofs.watch_laws.Premises.{turns_suffice_between}
 use Rattle.flow_watch.proofs.watch_laws.UnrolledStarts.{start_before}
 use Rattle.run_watch.specs.declared.watched.Watched.{Watched}
 use Rattle.run_watch.specs.declared.watched.Stretch.{Stretch}
-use Rattle.run_watch.specs.Watching.{stretches, HoldsTimes}
+use Rattle.run_watch.specs.Watching.{HoldsTimes}
 use Rattle.run_watch.specs.declared.span.Ramp.{Ramp}
 use Rattle.run_watch.specs.WatchTimes.{point_at}
 use Rattle.run_watch.specs.NearWindows.{EndsShort}
-use Rattle.run_watch.specs.Searches.{IsClearStretch, IsCut, FindsIn}
+use Rattle.run_watch.specs.Searches.{IsClearStretch, IsCut, IsLookedAt, FindsIn}
 use Rattle.run_watch.proofs.FoundTimes.{AreTurns}
 use Rattle.run_watch.proofs.IdleIn.{IsSearched, IsPlaced, within, less_seen, placed, none_here}
 use Rattle.run_watch.proofs.SortedPoints.{has_point_at}
@@ -103,10 +102,10 @@ at_first : (p q u e : ℚ) → u ≤ℚ p → q ≤ℚ e → e -ℚ u ≤ℚ q -
 at_first p q u e h k l = antisym (with4 p q u e (λ c. omega (arith, c.le, c.lt, c.same)), h)
 
 -- a window that is short between two times of the law is one that the look finds
-pair_shows : (server : Server) (V : List ServerStep) (w : Watched) (c : SpecCurve) (ps own : List ℚ) (s : Stretch) (p q : ℚ) → IsSearched server V w c ps → HoldsTimes s ps own → IsPlaced V w s → s.start ≤ℚ p → p <ℚ q → q ≤ℚ s.end
+pair_shows : (server : Server) (V : List ServerStep) (w : Watched) (c : SpecCurve) (ps own : List ℚ) (s : Stretch) (e p q : ℚ) → IsSearched server V w c ps → HoldsTimes s ps own → IsPlaced V w s e → s.start ≤ℚ p → p <ℚ q → q ≤ℚ s.end
     → IsPair (IsTurn w.end V) (IsBreak c) p q → Fin (worked all V q) <ₑ (Fin (worked all V p) +ₑ value_at c (q -ℚ p)) → EndsShort (segments (unroll c (s.end -ℚ s.start))) w.works.items s own q
-pair_shows server V w c ps own s p q S H P low forward high pair less =
-    let I = within server V w c ps s S P.is P.low in
+pair_shows server V w c ps own s e p q S H P low forward high pair less =
+    let I = within V w s e P in
     let works = w.works.items in
     let far = s.end -ℚ s.start in
     let some = sub_pos s.start s.end I.forward in
@@ -143,34 +142,36 @@ pair_shows server V w c ps own s p q S H P low forward high pair less =
       ]
     ]
 
-pub none_clear : (server : Server) (V : List ServerStep) (w : Watched) (c : SpecCurve) (ps own : List ℚ) (ss : List Stretch) (k : ℕ) (s : Stretch) → IsSearched server V w c ps → HoldsTimes s ps own → ss ≡ stretches w → k < length ss
-    → s ≡ slice_index_or ss k s → IsClearStretch w c s own → (a b : ℚ) → IsIdle w.end V c a b → s.start ≤ℚ a → b ≤ℚ s.end → ⊥
-none_clear server V w c ps own ss k s S H same l e clear a b idle from upto =
-    let P = placed server V w ss k s S.seen same l e in
-    let (p, q, around_it, forward, pair, less) = turns_suffice_within server w.end V c s.start s.end a b S.seen.lawful S.serves record { stretch = P.is; first = from; last = upto } idle.forward idle.less in
-    clear q (pair_shows server V w c ps own s p q S H P around_it.first forward around_it.last pair less)
+pub none_clear : (server : Server) (V : List ServerStep) (w : Watched) (c : SpecCurve) (ps own : List ℚ) (s : Stretch) (e : ℚ) → IsSearched server V w c ps → HoldsTimes s ps own → IsPlaced V w s e
+    → IsClearStretch w c s own → (a b : ℚ) → IsIdle w.end V c a b → s.start ≤ℚ a → b ≤ℚ s.end → ⊥
+none_clear server V w c ps own s e S H P clear a b idle from upto =
+    let I = within V w s e P in
+    let (p, q, first, forward, last, pair, less) = turns_suffice_between server w.end V c s.start s.end a b S.seen.lawful S.serves I.first I.last from idle.forward upto idle.less in
+    clear q (pair_shows server V w c ps own s e p q S H P first forward last pair less)
 
 -- where the look finds none that ends before `least`, no window at all that is too short of work ends by a turn before it
-pub none_by_cut : (server : Server) (V : List ServerStep) (w : Watched) (c : SpecCurve) (ps own : List ℚ) (s : Stretch) (least cut a b : ℚ) → IsSearched server V w c ps → HoldsTimes s ps own → IsPlaced V w s
+pub none_by_cut : (server : Server) (V : List ServerStep) (w : Watched) (c : SpecCurve) (ps own : List ℚ) (s : Stretch) (e least cut a b : ℚ) → IsSearched server V w c ps → HoldsTimes s ps own → IsPlaced V w s e
     → ((t : ℚ) → EndsShort (segments (unroll c (s.end -ℚ s.start))) w.works.items s own t → least ≤ℚ t) → IsCut own s.start least cut → s.start ≤ℚ a → a <ℚ b
     → Fin (worked all V b) <ₑ (Fin (worked all V a) +ₑ value_at c (b -ℚ a)) → cut <ℚ b
-none_by_cut server V w c ps own s least cut a b S H P none is from forward less = elim (le_or_lt b cut) [
+none_by_cut server V w c ps own s e least cut a b S H P none is from forward less = elim (le_or_lt b cut) [
   | inr m ↦ m
   | inl m ↦ absurd (elim is [
-    | inl e ↦ lt_irrefl a (lt_le_trans forward (le_trans (subst (λ x. b ≤ℚ x) e m) from))
+    | inl at ↦ lt_irrefl a (lt_le_trans forward (le_trans (subst (λ x. b ≤ℚ x) at m) from))
     | inr d ↦
-        let I = within server V w c ps s S P.is P.low in
+        let I = within V w s e P in
         let turn = S.turns_are.are cut (H.are cut d.0) in
         let (p, q, first, after, last, pair, short) = turns_suffice_between server w.end V c s.start cut a b S.seen.lawful S.serves I.first turn from forward m less in
         let high = le_trans last (H.upto cut d.0) in
-        lt_irrefl cut (lt_le_trans d.1 (le_trans (none q (pair_shows server V w c ps own s p q S H P first after high pair short)) last))
+        lt_irrefl cut (lt_le_trans d.1 (le_trans (none q (pair_shows server V w c ps own s e p q S H P first after high pair short)) last))
   ])
 ]
 
 -- what the search of a stretch finds: where it finds nothing, the stretch has no idle window
-pub none_found : (server : Server) (V : List ServerStep) (w : Watched) (c : SpecCurve) (ps own : List ℚ) (ss : List Stretch) (k : ℕ) (s : Stretch) → IsSearched server V w c ps → HoldsTimes s ps own → ss ≡ stretches w → k < length ss
-    → s ≡ slice_index_or ss k s → FindsIn w c s own ps None → (a b : ℚ) → IsIdle w.end V c a b → s.start ≤ℚ a → b ≤ℚ s.end → ⊥
-none_found server V w c ps own ss k s S H same l e none = elim none [
-  | inl clear ↦ none_clear server V w c ps own ss k s S H same l e clear
-  | inr seen ↦ none_here server V w c ps ss k s S same l e seen
-]
+pub none_found : (server : Server) (V : List ServerStep) (w : Watched) (c : SpecCurve) (ps own : List ℚ) (s : Stretch) → IsSearched server V w c ps → IsLookedAt w s own ps
+    → FindsIn w c s own ps None → (a b : ℚ) → IsIdle w.end V c a b → s.start ≤ℚ a → b ≤ℚ s.end → ⊥
+none_found server V w c ps own s S L none =
+    let P = placed server V w s own ps S.seen S.turns_are L in
+    elim none [
+      | inl clear ↦ none_clear server V w c ps own s L.whole.end S L.holds P clear
+      | inr seen ↦ none_here server V w c ps s L.whole.end S P seen
+    ]

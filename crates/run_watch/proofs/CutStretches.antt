@@ -19,7 +19,6 @@ use Rattle.flow_watch.proofs.watch_laws.CurveSegments.{segments_tell}
 use Rattle.run_watch.specs.declared.span.Ramp.{Ramp}
 use Rattle.run_watch.specs.declared.watched.Watched.{Watched}
 use Rattle.run_watch.specs.declared.watched.Stretch.{Stretch}
-use Rattle.run_watch.specs.Watching.{stretches}
 use Rattle.run_watch.specs.WatchTimes.{watched_from, point_at, IsShortTo}
 use Rattle.run_watch.specs.IdleWindows.{IsShortWindow, NoneEndsBy}
 use Rattle.run_watch.specs.NearWindows.{EndsShort}
@@ -42,7 +41,7 @@ cut_before server V w c s own all_turns least cut a b h L S M none is from upto 
     let T = stretch_stands w c s own all_turns h L in
     let H = length_stands h.sizes w.end s h.limited T in
     let R = searched server V w c all_turns h S M (end_some h.sizes w.end s T) L.turns_are in
-    let P = placed server V w (stretches w) L.number s S refl L.in_range L.is in
+    let P = placed server V w s own all_turns S R.turns_are L in
     let starts = (near_segments w c s own all_turns (unroll c far) h L refl).starts in
     let order = ordered (segments (unroll c far)) (point_at works a) (point_at works b) starts k.short in
     let long = no_longer a b s.start s.end from upto in
@@ -54,7 +53,7 @@ cut_before server V w c s own all_turns least cut a b h L S M none is from upto 
           let same : a ≡ b = antisym (order, l) in
           absurd (not_at_once c (worked all V b) (b -ℚ a) M (nothing a b same) (subst (λ t. Fin (worked all V b) <ₑ (Fin (worked all V t) +ₑ value_at c (b -ℚ a))) same less))
     ] in
-    none_by_cut server V w c all_turns own s least cut a b R L.holds P none is from forward less
+    none_by_cut server V w c all_turns own s L.whole.end least cut a b R L.holds P none is from forward less
   where
     nothing : (a b : ℚ) → a ≡ b → b -ℚ a ≡ int (pos 0)
     nothing a b e = with2 a b (λ w. omega (arith, w.le, w.lt, w.same))

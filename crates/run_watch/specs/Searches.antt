@@ -1,11 +1,12 @@
 -- The search of one stretch for its first window that is short of work. Own choice.
 use Rattle.std.specs.Prelude.{◌≡◌, ◌⊎◌, ℕ, ◌<◌, List, length, Option, MatchOption}
 use Rattle.std.specs.List.{slice_index_or}
-use Rattle.upp_limits.specs.rational.specs.Rational.{ℚ, ◌-ℚ◌, ◌<ℚ◌}
+use Rattle.upp_limits.specs.rational.specs.Rational.{ℚ, ◌-ℚ◌, ◌≤ℚ◌, ◌<ℚ◌}
 use Rattle.upp_limits.specs.upp_curve.specs.Curve.{SpecCurve}
 use Rattle.upp_limits.specs.upp_curve.specs.Unrolled.{unroll}
 use Rattle.flow_watch.specs.watch_laws.Affine.{Among}
 use Rattle.flow_watch.specs.watch_laws.Segments.{segments}
+use Rattle.flow_watch.specs.watch_laws.Shorts.{IsPastEnd}
 use Rattle.run_watch.specs.declared.watched.Watched.{Watched}
 use Rattle.run_watch.specs.declared.watched.Stretch.{Stretch}
 use Rattle.run_watch.specs.Watching.{stretches, turns, RiseFrom, HoldsTimes}
@@ -13,11 +14,23 @@ use Rattle.run_watch.specs.WatchTimes.{watched_from}
 use Rattle.run_watch.specs.IdleWindows.{NoneIsShort, IsFirstShort}
 use Rattle.run_watch.specs.NearWindows.{EndsShort}
 
--- a stretch of what a server sees; `all` are the server's turns, `own` those in the stretch, in order
+-- a stretch as far as its first turn at `until` or later; all of it, where there is no such time or turn
+pub record IsPart (until : Option ℚ) (turns : List ℚ) (s part : Stretch) : Type 0 where
+  pub start : part.start ≡ s.start
+  pub inside : part.end ≤ℚ s.end
+  pub end : (part.end ≡ s.end) ⊎ (Among part.end turns × IsPastEnd until part.end)
+
+-- a stretch of what a server sees, or as much of it as ends with a turn; `all` are the server's turns, `own` those in it,
+-- in order
 pub record IsLookedAt (w : Watched) (s : Stretch) (own all : List ℚ) : Type 0 where
+  pub whole : Stretch
   pub number : ℕ
   pub in_range : number < length (stretches w)
-  pub is : s ≡ slice_index_or (stretches w) number s
+  pub is : whole ≡ slice_index_or (stretches w) number whole
+  pub start : s.start ≡ whole.start
+  pub forward : s.start <ℚ s.end
+  pub inside : s.end ≤ℚ whole.end
+  pub turn : (s.end ≡ whole.end) ⊎ Among s.end all
   pub turns_are : all ≡ turns w (stretches w)
   pub holds : HoldsTimes s all own
   pub rise : (from : ℚ) × RiseFrom from own

@@ -20,7 +20,7 @@ mod watched;
 mod windows;
 
 pub use flow_watch::entries_of;
-pub use found::{Found, arrival_breach, earlier, service_breach, size_breach};
+pub use found::{Found, arrival_breach, earlier, service_breach, size_breach, time_if_any};
 pub use laws::{earlier_is_first, sights_are_views};
 pub use service::first_idle;
 pub use span::{Ramp, Span};
