@@ -3,6 +3,8 @@ pub mod Digits
 pub mod TextLemmas
 pub mod Counted
 pub mod Agree
+pub mod Cuts
+pub mod TellNumbers
 pub mod RunAgree
 pub mod Numbers
 pub mod Told

@@ -17,7 +17,7 @@ of_sort : (R : Ext → Type 0) (v : Meaning) → IsNumberIn R v → IsNumber v
 of_sort R (curve f) h = absurd h
 of_sort R (number x) h = (x, refl)
 
-no_kind : {X : Type 0} → false ≡ true → X
+pub no_kind : {X : Type 0} → false ≡ true → X
 no_kind e = absurd cc
 
 meant : (net : Net) (at : CellTable) (kind : Kind) (a b : ℕ) (v : Meaning) → IsTrue (is_printed kind)

@@ -111,7 +111,7 @@ pub record IsServerOf (net : Net) (s : ℕ) : Type 0 where
   pub server : NetServer
   pub is : slice_get net.servers s ≡ Some server
 
-with_queue : (net : Net) (s : ℕ) (o : Option NetServer) (q : ℕ) → slice_get net.servers s ≡ o
+pub with_queue : (net : Net) (s : ℕ) (o : Option NetServer) (q : ℕ) → slice_get net.servers s ≡ o
     → q < queue_count (discipline_of o) → IsServerOf net s
 with_queue net s None q e h = absurd (omega (arith, h))
 with_queue net s (Some x) q e h = record { server = x; is = e }

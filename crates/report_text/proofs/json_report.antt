@@ -1,3 +1,4 @@
 pub mod Floats
 pub mod OneForm
+pub mod TellValues
 pub mod AsciiTexts

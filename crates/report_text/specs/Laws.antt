@@ -62,6 +62,13 @@ EquationsGiveOneReport =
     (net : Net) (order : List ℕ) (at other : CellTable) → IsAccepted net → IsOrder net order → MeetsEquations net at
     → MeetsEquations net other → report_of net at ≡ report_of net other
 
+-- and two tables with one report agree wherever it prints a number that a fraction of the code can be
+abbrev pub ReportsTellNumbers : Type 0
+ReportsTellNumbers =
+    (net : Net) (at other : CellTable) → report_of net at ≡ report_of net other
+    → (c : Cell) → IsTrue (has_cell net c) → IsTrue (is_printed c.kind) → (x : Ext) → IsPrintable x → at c ≡ Some (number x)
+    → other c ≡ Some (number x)
+
 -- and one on what is found in a run of it
 abbrev pub EquationsGiveOneRunReport : Type 0
 EquationsGiveOneRunReport =

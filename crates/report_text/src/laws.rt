@@ -2,7 +2,7 @@
 
 ghost use Rattle.report_text.specs.Laws.{TextsTellNumbers, OnlyInfinityIsUnbounded, ReportsAgree};
 ghost use Rattle.report_text.specs.Laws.{RunReportsAgree, EquationsGiveOneReport, EquationsGiveOneRunReport};
-ghost use Rattle.report_text.specs.Laws.{EquationsGiveNumbers, WordsTellCells};
+ghost use Rattle.report_text.specs.Laws.{EquationsGiveNumbers, ReportsTellNumbers, WordsTellCells};
 
 /// The text of a number whose parts have at most 127 bits is that of no other number: what is printed as `130` is 130.
 pub fn texts_tell_numbers()
@@ -27,6 +27,11 @@ pub fn run_reports_agree()
 /// There is one report on an accepted network that has an order, whatever table meets its equations.
 pub fn equations_give_one_report()
     ensures { EquationsGiveOneReport }
+{}
+
+/// Two tables with one report agree wherever it prints a number whose parts have at most 127 bits.
+pub fn reports_tell_numbers()
+    ensures { ReportsTellNumbers }
 {}
 
 /// There is one report on what is found in a run of it.

@@ -18,8 +18,8 @@ mod text;
 pub use cell_words::{cell_text, server_name};
 pub use laws::{
     equations_give_numbers, equations_give_one_report, equations_give_one_run_report,
-    only_infinity_is_unbounded, reports_agree, run_reports_agree, texts_tell_numbers,
-    words_tell_cells,
+    only_infinity_is_unbounded, reports_agree, reports_tell_numbers, run_reports_agree,
+    texts_tell_numbers, words_tell_cells,
 };
 pub use net_cells;
 pub use refusal::{Refusal, push_spaced, refusal_text};
