@@ -66,8 +66,8 @@ EquationsGiveOneReport =
 abbrev pub ReportsTellNumbers : Type 0
 ReportsTellNumbers =
     (net : Net) (at other : CellTable) → report_of net at ≡ report_of net other
-    → (c : Cell) → IsTrue (has_cell net c) → IsTrue (is_printed c.kind) → (x : Ext) → IsPrintable x → at c ≡ Some (number x)
-    → other c ≡ Some (number x)
+    → (c : Cell) → IsTrue (has_cell net c) → IsTrue (is_printed c.kind) → (x : Ext) → IsPrintable x
+    → at c ≡ Some (number x) → other c ≡ Some (number x)
 
 -- and one on what is found in a run of it
 abbrev pub EquationsGiveOneRunReport : Type 0

@@ -22,5 +22,5 @@ EquationsGiveOneReportInEachForm =
 abbrev pub ReportsTellNumbersInEachForm : Type 0
 ReportsTellNumbersInEachForm =
     (form : Form) (net : Net) (at other : CellTable) → report_in form net at ≡ report_in form net other
-    → (c : Cell) → IsTrue (has_cell net c) → IsTrue (is_printed c.kind) → (x : Ext) → IsPrintable x → at c ≡ Some (number x)
-    → other c ≡ Some (number x)
+    → (c : Cell) → IsTrue (has_cell net c) → IsTrue (is_printed c.kind) → (x : Ext) → IsPrintable x
+    → at c ≡ Some (number x) → other c ≡ Some (number x)
