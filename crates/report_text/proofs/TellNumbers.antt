@@ -1,6 +1,6 @@
 -- A report tells the numbers of its table: two tables with one report agree wherever a number is printed.
-use Rattle.std.proofs.Common.{◌≡◌, ℕ, zero, suc, ◌<◌, ◌/◌, ◌%◌, List, [], ◌∷◌, ◌++◌, length, length-append, cond, refl, sym, ap, ◌∙◌, subst, inl, inr, arith, Bool, true, false, append_assoc}
-use Rattle.std.specs.Prelude.{codes, ◌==◌, ◌&&◌, is_some, IsTrue, Option, Some, None, slice_get, ℤ, pos, negsuc}
+use Rattle.std.proofs.Common.{◌≡◌, ℕ, zero, suc, ◌<◌, ◌/◌, ◌%◌, List, [], ◌∷◌, ◌++◌, length, length-append, cond, refl, sym, ap, ◌∙◌, subst, arith, Bool, true, false, append_assoc}
+use Rattle.std.specs.Prelude.{codes, ◌==◌, is_some, IsTrue, Option, Some, None, slice_get, ℤ, pos, negsuc}
 use Rattle.std.specs.Fmt.{decimal, digits, digits_onto, digit_glyph}
 use Rattle.upp_curve.specs.fraction128.specs.Text.{text_over}
 use Rattle.std.specs.List.{flat_map, range_with_len}

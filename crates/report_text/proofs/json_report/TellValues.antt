@@ -1,8 +1,8 @@
 -- A report in each form tells the numbers of its table.
-use Rattle.std.proofs.Common.{◌≡◌, ℕ, ◌<◌, ◌≤◌, List, [], ◌∷◌, ◌++◌, length, map, cond, refl, sym, ap, ap₂, ◌∙◌, arith, Bool, true, false, append_assoc}
+use Rattle.std.proofs.Common.{◌≡◌, ℕ, ◌<◌, ◌≤◌, List, [], ◌∷◌, ◌++◌, length, map, refl, sym, ap, ap₂, ◌∙◌, arith, Bool, true, false, append_assoc}
 use Rattle.std.specs.Prelude.{codes, ◌==◌, ◌&&◌, Option, Some, None}
 use Rattle.std.specs.List.{flat_map, range_with_len}
-use Rattle.std.proofs.lemmas.Bool.{cond-false, ne_eqb, le-ltb}
+use Rattle.std.proofs.lemmas.Bool.{ne_eqb, le-ltb}
 use Rattle.std.proofs.lemmas.List.Concat.{flat_map-append}
 use Rattle.std.proofs.lemmas.List.Folds.{flat_map-map}
 use Rattle.rational.specs.declared.Extended.TheVariants.{Fin, Inf}
@@ -23,7 +23,7 @@ use Rattle.report_text.specs.json_report.Forms.{line_of}
 use Rattle.report_text.specs.json_report.JsonLaws.{ReportsTellNumbersInEachForm}
 use Rattle.report_text.specs.json_report.ReportData.{text_member, queue_data, flow_data, server_queues, live_data, flow_at_data, flows_data, queues_data, report_members, report_data}
 use Rattle.report_text.proofs.Digits.{AreFrom, text_bytes}
-use Rattle.report_text.proofs.Cuts.{Cuts, cut_same, cut_join, cut_before, cut_as, cut_range, told_by}
+use Rattle.report_text.proofs.Cuts.{Cuts, cut_same, cut_join, cut_before, cut_as, cut_range}
 use Rattle.report_text.proofs.TellNumbers.{SameQueue, SameFlow, ToldFlow, SameLines, shown_lacks, tells_numbers, reports_tell_numbers}
 
 -- ---- strings
