@@ -1,8 +1,8 @@
 -- Port by port in the order: the rows of the ports that are done meet the equations, by the lines as they are.
-use Rattle.std.proofs.Common.{◌≡◌, ◌≢◌, ℕ, zero, suc, ◌<◌, ◌≤◌, ◌+◌, ◌==◌, ◌&&◌, Bool, true, false, Option, Some, None, List, [], ◌∷◌, ◌++◌, length, get_or, set, refl, sym, ◌∙◌, ap, subst, arith, inl, inr, get_or-set_same, get_or-set_other}
-use Rattle.std.specs.Prelude.{All, is_some, slice_get}
+use Rattle.std.proofs.Common.{◌≡◌, ◌≢◌, ℕ, zero, suc, ◌<◌, ◌+◌, ◌==◌, ◌&&◌, Bool, Option, None, List, [], ◌∷◌, ◌++◌, length, get_or, set, refl, sym, ◌∙◌, ap, subst, arith, inl, inr, get_or-set_same, get_or-set_other}
+use Rattle.std.specs.Prelude.{All, is_some}
 use Rattle.std.specs.List.{sum_by, list_all}
-use Rattle.std.proofs.lemmas.Bool.{cases_eq, cases_lt}
+use Rattle.std.proofs.lemmas.Bool.{cases_eq}
 use Rattle.std.proofs.lemmas.List.{length-set, get_or_default}
 use Rattle.std.proofs.lemmas.List.Sums.{sum_by-cons}
 use Rattle.arrival_lines.specs.declared.grid.Line.{Line}
@@ -12,15 +12,15 @@ use Rattle.tree_network.specs.declared.network.Network.{Network}
 use Rattle.tree_order.specs.declared.spots.Spot.{Spot}
 use Rattle.tree_order.specs.Spots.{spot_at, spots_of, AreSpots, ComesFrom}
 use Rattle.tree_order.specs.Lists.{those, is_from, is_between}
-use Rattle.tree_order.specs.Orders.{IsOrderOf, GoesTo, StandsAt}
+use Rattle.tree_order.specs.Orders.{IsOrderOf, GoesTo}
 use Rattle.tree_order.proofs.Those.{those_pass, those_has, eq_true, of_eq, of_both}
 use Rattle.port_bounds.specs.Rows.{AreRows}
 use Rattle.port_bounds.specs.Incoming.{Incoming}
-use Rattle.tree_bounds.specs.Lines.{first_line_of, later_line}
+use Rattle.tree_bounds.specs.Lines.{later_line}
 use Rattle.tree_bounds.specs.Groups.{burst_in, rate_in, group_of, is_in_group, spots_in_group, group_list, groups_at, incoming_of_groups, incomings_at}
 use Rattle.tree_bounds.specs.Onward.{line_at, BeginLines, CanBePassedOn, ArePassedOn}
-use Rattle.tree_bounds.specs.Equations.{MeetsEquations, arrivals_of}
-use Rattle.tree_bounds.specs.Solved.{AreDone, AreSolved, HasRows}
+use Rattle.tree_bounds.specs.Equations.{arrivals_of}
+use Rattle.tree_bounds.specs.Solved.{AreDone, AreSolved}
 use Rattle.tree_bounds.specs.Tables.{row_at}
 use Rattle.tree_bounds.specs.declared.groups.Group.{Group}
 use Rattle.tree_bounds.proofs.Ranged.{incomings_length}

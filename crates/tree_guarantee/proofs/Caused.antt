@@ -1,22 +1,21 @@
 -- A queue of a table has no promise only by its causes.
-use Rattle.std.specs.Prelude.{Option, Some, None, ◌≡◌, ◌⊎◌, ℕ, zero, suc, ◌+◌, ◌-◌, ◌*◌, ◌<◌, ◌≤◌, ◌^◌, List, [], length, get_or}
-use Rattle.std.specs.List.{sum_by, Contains}
-use Rattle.std.proofs.Common.{arith, sym, ap, ◌∙◌, refl, subst, inl, inr}
+use Rattle.std.specs.Prelude.{Option, Some, None, ◌≡◌, ℕ, zero, suc, ◌+◌, ◌-◌, ◌*◌, ◌<◌, ◌≤◌, List}
+use Rattle.std.specs.List.{sum_by}
+use Rattle.std.proofs.Common.{arith, sym, refl, subst, inl, inr}
 use Rattle.std.proofs.lemmas.Bool.{cases_lt}
-use Rattle.arrival_lines.specs.Delays.{IsDelayAt, IsNever}
-use Rattle.arrival_lines.specs.Queues.{IsUnbounded}
+use Rattle.arrival_lines.specs.Delays.{IsDelayAt}
 use Rattle.arrival_lines.specs.declared.grid.Part.{Part}
 use Rattle.arrival_lines.specs.declared.grid.Service.{Service}
-use Rattle.port_bounds.specs.Incoming.{Incoming, queue_in, joined_parts, longest_frame_of, before, behind}
-use Rattle.port_bounds.specs.Ports.{port_service, rate_behind}
+use Rattle.port_bounds.specs.Incoming.{Incoming, queue_in, joined_parts, longest_frame_of, behind}
+use Rattle.port_bounds.specs.Ports.{port_service}
 use Rattle.port_bounds.specs.Rows.{IsLeastRow, IsRow, IsRowBy}
-use Rattle.port_bounds.specs.Services.{AreAll, IsLeft, IsLeftBy, IsServiceAt, IsServiceOf}
+use Rattle.port_bounds.specs.Services.{IsLeft, IsLeftBy, IsServiceAt}
 use Rattle.tree_network.specs.Networks.{port_at}
 use Rattle.tree_bounds.specs.Equations.{arrivals_of}
 use Rattle.tree_network.specs.declared.network.Discipline.{Discipline}
 use Rattle.tree_network.specs.declared.network.Discipline.TheVariants.{Fifo, Priority, Drr}
 use Rattle.tree_network.specs.declared.network.Port.{Port}
-use Rattle.tree_guarantee.specs.Causes.{IsCause, IsLong, IsOverloaded, NoneHasACause, first_served, rates_of}
+use Rattle.tree_guarantee.specs.Causes.{IsCause, IsLong, NoneHasACause, first_served, rates_of}
 use Rattle.tree_guarantee.proofs.LastSteps.{last_step, not_endless}
 
 -- ---- a service that is as fast as the parts

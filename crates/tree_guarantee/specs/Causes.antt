@@ -1,5 +1,5 @@
--- Why a queue has no promise: nothing bounds what comes there, or what is served before it; or its load is above the rate; or each delay is
--- of 2 ^ 50 picoseconds or more.
+-- Why a queue has no promise: nothing bounds what comes there, or what is served before it; or its load is above the
+-- rate; or each delay is of 2 ^ 50 picoseconds or more.
 use Rattle.std.specs.Prelude.{Option, Some, None, ◌≡◌, ◌⊎◌, ◌+◌, ◌<◌, ◌≤◌, ◌^◌, ◌++◌, ℕ, List, [], length}
 use Rattle.arrival_lines.specs.Delays.{IsDelayAt, IsNever}
 use Rattle.arrival_lines.specs.declared.grid.Line.{Line}
@@ -38,12 +38,14 @@ pub record IsLong (port : Port) (queues : List Incoming) (q : ℕ) (parts : List
   pub service : Service
   pub is : IsServiceOf port queues q service
   pub serves : ¬ IsNever parts service
-  pub each : (other : Service) (delay : ℕ) → IsServiceOf port queues q other → IsDelayAt parts other delay → 2 ^ 50 ≤ delay
+  pub each : (other : Service) (delay : ℕ) → IsServiceOf port queues q other → IsDelayAt parts other delay
+      → 2 ^ 50 ≤ delay
 
 abbrev pub IsCause : Port → List Incoming → ℕ → Type 0
 IsCause port queues q =
     ((queue_in queues q).parts ≡ None) ⊎ ((joined_parts (first_served port.discipline q queues) ≡ None)
-    ⊎ (IsOverloaded (rate_behind port.gate port.rate) (joined_parts (first_served port.discipline q queues)) (queue_in queues q).parts
+    ⊎ (IsOverloaded (rate_behind port.gate port.rate) (joined_parts (first_served port.discipline q queues))
+    (queue_in queues q).parts
     ⊎ ((parts : List Part) × IsLong port queues q parts)))
 
 -- of each queue that has no promise in a table
@@ -53,5 +55,5 @@ pub record IsCausedIn (net : Network) (table : Table) (s q : ℕ) : Type 0 where
   pub cause : IsCause (port_at net s) (arrivals_of net line s) q
 
 abbrev pub NoneHasACause : Type 0
-NoneHasACause = (net : Network) (table : Table) (s q : ℕ) → IsTableOf net table → s < length net.ports.items → q < queues_of (port_at net s).discipline
-    → row_in table s q ≡ None → IsCausedIn net table s q
+NoneHasACause = (net : Network) (table : Table) (s q : ℕ) → IsTableOf net table → s < length net.ports.items
+    → q < queues_of (port_at net s).discipline → row_in table s q ≡ None → IsCausedIn net table s q

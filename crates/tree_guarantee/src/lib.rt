@@ -26,8 +26,8 @@ pub fn tables_are_guaranteed()
     ensures { TablesAreGuaranteed }
 {}
 
-/// Where a table has no number for a queue: nothing bounds what comes there or what may be served before it, or these together are faster than
-/// the port, or no service has a delay below 2^50 picoseconds.
+/// Where a table has no number for a queue: nothing bounds what comes there or what may be served before it, or these
+/// together are faster than the port, or no service has a delay below 2^50 picoseconds.
 pub fn none_has_a_cause()
     ensures { NoneHasACause }
 {}

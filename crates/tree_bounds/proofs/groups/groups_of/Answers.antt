@@ -1,4 +1,4 @@
-use Rattle.std.proofs.Common.{◌≡◌, ◌<◌, ◌≤◌, ◌+◌, ◌^◌, ℕ, List, get_or, subst, sym, ◌∙◌, ap, arith, length}
+use Rattle.std.proofs.Common.{◌<◌, ◌+◌, ◌^◌, ℕ, List, subst, sym, ◌∙◌, ap, arith}
 use Rattle.std.proofs.lemmas.List.{take_all}
 use Rattle.tree_bounds.specs.Grouping.{with_group, grouped}
 use Rattle.tree_bounds.specs.Onward.{line_at}

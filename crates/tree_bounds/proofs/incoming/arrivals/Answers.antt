@@ -1,13 +1,12 @@
-use Rattle.std.proofs.Common.{◌≡◌, ◌<◌, ◌≤◌, ◌+◌, ℕ, List, length, sym, ◌∙◌, ap, subst, arith}
+use Rattle.std.proofs.Common.{◌<◌, ◌+◌, ℕ, List, length, sym, ◌∙◌, ap, subst, arith}
 use Rattle.std.specs.Prelude.{All}
 use Rattle.std.proofs.lemmas.List.{length-map}
 use Rattle.tree_order.specs.declared.spots.Spot.{Spot}
 use Rattle.tree_order.specs.Spots.{spots_of}
-use Rattle.tree_order.specs.Lists.{spots_at_port}
 use Rattle.tree_order.proofs.InRange.{in_range}
 use Rattle.tree_order.proofs.ListSets.{list_of}
 use Rattle.tree_order.proofs.Those.{port_pass}
-use Rattle.tree_bounds.specs.Groups.{groups_at, parts_in, longest_group}
+use Rattle.tree_bounds.specs.Groups.{parts_in, longest_group}
 use Rattle.tree_bounds.specs.Grouping.{grouped}
 use Rattle.tree_bounds.specs.Onward.{line_at}
 use Rattle.tree_bounds.specs.Parts.{IsOfNetwork}

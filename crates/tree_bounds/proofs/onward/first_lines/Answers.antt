@@ -1,4 +1,4 @@
-use Rattle.std.proofs.Common.{◌≡◌, ◌<◌, ◌+◌, ℕ, Option, List, [], ◌∷◌, ◌++◌, subst, sym, refl, arith}
+use Rattle.std.proofs.Common.{◌+◌, Option, List, subst, sym, refl, arith}
 use Rattle.arrival_lines.specs.declared.grid.Line.{Line}
 use Rattle.tree_bounds.specs.Onward.{BeginLines}
 use Rattle.tree_bounds.proofs.Onwards.{begin_more}

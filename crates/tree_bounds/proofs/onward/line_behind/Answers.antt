@@ -1,4 +1,4 @@
-use Rattle.std.proofs.Common.{◌≡◌, ◌≤◌, ◌+◌, ◌*◌, ◌^◌, ◌∙◌, ap, arith, inr}
+use Rattle.std.proofs.Common.{◌+◌, ◌*◌, ◌^◌, ◌∙◌, ap, inr}
 use Rattle.std.specs.Int.{div_ceil}
 use Rattle.tree_bounds.specs.Lines.{line_within}
 use Rattle.tree_bounds.proofs.Onwards.{none_within}
