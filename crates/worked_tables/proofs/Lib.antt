@@ -1,0 +1,2 @@
+pub mod ForkNetwork
+pub mod ForkRun

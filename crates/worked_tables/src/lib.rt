@@ -1,0 +1,9 @@
+//! Small networks of ports and links whose tables are worked out by hand, and a run that reaches the bound of its
+//! table.
+//!
+//! A law is the contract of a function that does nothing: its body is empty, and its `ensures` is proved.
+#![tactic(auto)]
+
+mod forked;
+
+pub use forked::{a_run_reaches_its_bound, fork};
