@@ -5,5 +5,7 @@
 #![tactic(auto)]
 
 mod forked;
+#[cfg(test)]
+mod rows;
 
 pub use forked::{a_run_reaches_its_bound, fork};
