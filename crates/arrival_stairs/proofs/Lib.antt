@@ -1,0 +1,4 @@
+pub mod Starts
+pub mod Risen
+pub mod Frozen
+pub mod Walked

@@ -1,0 +1,4 @@
+pub mod Stairs
+pub mod Jumps
+pub mod Ahead
+pub mod Raised

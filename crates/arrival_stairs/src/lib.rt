@@ -1,0 +1,11 @@
+//! Links as stairs of frames with a gap and a jitter, and by how much those that come to a queue are above a rate at most. Whole numbers on the
+//! grid of lines: picoseconds, grains and grains a second.
+#![tactic(auto)]
+
+mod jumps;
+mod stairs;
+mod walk;
+
+pub use jumps::{Jump, jumps_until};
+pub use stairs::{Bundle, Stair};
+pub use walk::ahead_until;
