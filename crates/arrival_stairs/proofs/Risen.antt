@@ -5,12 +5,12 @@ use Rattle.std.specs.List.{sum_by}
 use Rattle.std.proofs.lemmas.Bool.{cases_lt}
 use Rattle.std.proofs.lemmas.Bool.Decides.{nat_tests}
 use Rattle.std.proofs.lemmas.List.{take_all, get_or_default}
-use Rattle.std.proofs.lemmas.List.Sorted.{All-permutation, sum_by-IsPermutation}
+use Rattle.std.proofs.lemmas.List.Sorted.{All-permutation, sum_by-IsPermutation, length_permutation}
 use Rattle.std.proofs.lemmas.List.Elements.{All-append, All-cons, All-nil, All-head, All-tail, All-take}
 use Rattle.std.proofs.lemmas.List.Sums.{sum_by_push, sum_by_more, sum_by-cons}
 use Rattle.std.proofs.Math.Nat.{le-div_iff_mul-le, mul-le-mul_right, mul-le-mul_left, lt-mul-div-succ, div-mul-le_self}
 use Rattle.arrival_stairs.specs.Stairs.{stair_level, bundle_level, AreBundles, IsStair}
-use Rattle.arrival_stairs.specs.Jumps.{rise_of, risen, IsJump, AreJumps, AddsJumps}
+use Rattle.arrival_stairs.specs.Jumps.{rise_of, risen, IsJump, AreJumps, AddsJumps, bundle_jump_count}
 use Rattle.arrival_stairs.specs.declared.jumps.Jump.{Jump}
 use Rattle.arrival_stairs.specs.declared.stairs.Bundle.{Bundle}
 use Rattle.arrival_stairs.specs.declared.stairs.Stair.{Stair}
@@ -215,12 +215,14 @@ all_stairs stairs k i end a b done adds = record {
 -- ---- all bundles
 pub record AreJumpsOfFirst (bundles : List Bundle) (i end : ℕ) (jumps : List Jump) : Type 0 where
   pub each : All (IsJump (length bundles) end) jumps
+  pub count : length jumps ≡ sum_by (bundle_jump_count end) (take i bundles)
   pub rises : (p n : ℕ) (d : Bundle) → p < i → n ≤ end → bundle_level n (get_or bundles p d) ≡ bundle_level 0 (get_or bundles p d) + risen jumps p n
   pub none : (p n : ℕ) → i ≤ p → n ≤ end → risen jumps p n ≡ 0
 
 pub no_jumps : (bundles : List Bundle) (end : ℕ) (jumps : List Jump) → jumps ≡ [] → AreJumpsOfFirst bundles 0 end jumps
 no_jumps bundles end jumps e = record {
   each = subst (λ (js : List Jump). All (IsJump (length bundles) end) js) (sym e) (All-nil (IsJump (length bundles) end));
+  count = ap length e;
   rises = λ p n d h. absurd (omega (arith, h));
   none = λ p n h l. ap (λ js. risen js p n) e;
 }
@@ -247,8 +249,10 @@ bundle_rises b n all = each_rises b.stairs.items all
         omega (arith, a, b, e, f)
 
 pub one_more_bundle : (bundles : List Bundle) (i end : ℕ) (d : Bundle) (old new : List Jump) → i < length bundles → AreBundles bundles
+    → length new ≡ length old + bundle_jump_count end (get_or bundles i d)
     → AddsJumps (λ n. bundle_level n (get_or bundles i d)) i end old new → AreJumpsOfFirst bundles i end old → AreJumpsOfFirst bundles (i + 1) end new
-one_more_bundle bundles i end d old new inside are adds so_far = record {
+one_more_bundle bundles i end d old new inside are counts adds so_far = record {
+  count = let e = sum_by_more (bundle_jump_count end) bundles i d inside in let f = so_far.count in omega (arith, e, f, counts);
   each = adds.each (length bundles) inside so_far.each;
   rises = λ p n e h l.
       let x = adds.rises p n l in
@@ -277,6 +281,7 @@ one_more_bundle bundles i end d old new inside are adds so_far = record {
 pub all_bundles : (bundles : List Bundle) (i end : ℕ) (jumps : List Jump) → length bundles ≤ i → AreJumpsOfFirst bundles i end jumps → AreJumps bundles end jumps
 all_bundles bundles i end jumps done are = record {
   each = are.each;
+  count = are.count ∙ ap (sum_by (bundle_jump_count end)) (take_all i bundles done);
   rises = λ p n d h l. are.rises p n d (omega (arith, h, done)) l;
 }
 
@@ -284,6 +289,7 @@ all_bundles bundles i end jumps done are = record {
 pub in_order : (bundles : List Bundle) (end : ℕ) (jumps sorted : List Jump) → IsPermutation jumps sorted → AreJumps bundles end jumps → AreJumps bundles end sorted
 in_order bundles end jumps sorted moved are = record {
   each = All-permutation (IsJump (length bundles) end) jumps sorted moved are.each;
+  count = length_permutation jumps sorted moved ∙ are.count;
   rises = λ p n d h l. let e = sum_by-IsPermutation (rise_of p n) jumps sorted moved in let f = are.rises p n d h l in omega (arith, e, f);
 }
 

@@ -1,10 +1,11 @@
 -- The jumps of stairs after 0, up to a time. Own choice.
-use Rattle.std.specs.Prelude.{◌≡◌, ℕ, ◌+◌, ◌-◌, ◌^◌, ◌<◌, ◌≤◌, ◌==◌, ◌&&◌, nat_lt, Bool, List, All, length, get_or, if◌then◌else◌}
+use Rattle.std.specs.Prelude.{◌≡◌, ℕ, ◌+◌, ◌-◌, ◌/◌, ◌^◌, ◌<◌, ◌≤◌, ◌==◌, ◌&&◌, nat_lt, Bool, List, All, length, get_or, if◌then◌else◌}
 use Rattle.std.specs.List.{sum_by}
 use Rattle.std.specs.List.Sorted.{IsNonDecreasingBy}
 use Rattle.arrival_stairs.specs.Stairs.{bundle_level}
 use Rattle.arrival_stairs.specs.declared.jumps.Jump.{Jump}
 use Rattle.arrival_stairs.specs.declared.stairs.Bundle.{Bundle}
+use Rattle.arrival_stairs.specs.declared.stairs.Stair.{Stair}
 
 -- one of bundle p, by n picoseconds
 abbrev pub is_past : (p n : ℕ) → Jump → Bool
@@ -22,9 +23,20 @@ pub record IsJump (count end : ℕ) (j : Jump) : Type 0 where
   pub time : j.time ≤ end
   pub frame : j.frame < 2 ^ 35
 
+-- ---- how many
+abbrev pub stair_jump_count : ℕ → Stair → ℕ
+stair_jump_count end s = (end + s.jitter) / s.gap - s.jitter / s.gap
+
+abbrev pub bundle_jump_count : ℕ → Bundle → ℕ
+bundle_jump_count end b = sum_by (stair_jump_count end) b.stairs.items
+
+abbrev pub jump_count : ℕ → List Bundle → ℕ
+jump_count end bundles = sum_by (bundle_jump_count end) bundles
+
 -- all of the bundles' jumps up to a time
 pub record AreJumps (bundles : List Bundle) (end : ℕ) (jumps : List Jump) : Type 0 where
   pub each : All (IsJump (length bundles) end) jumps
+  pub count : length jumps ≡ jump_count end bundles
   pub rises : (p n : ℕ) (d : Bundle) → p < length bundles → n ≤ end → bundle_level n (get_or bundles p d) ≡ bundle_level 0 (get_or bundles p d) + risen jumps p n
 
 abbrev pub AreInTime : List Jump → Type 0

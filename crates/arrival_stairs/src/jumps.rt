@@ -1,7 +1,7 @@
 //! The jumps of stairs, in order.
 
-ghost use Rattle.std.specs.Prelude.{◌≡◌, ◌^◌, ◌<◌, ◌≤◌, All, IfOk, OnOk};
-ghost use Rattle.arrival_stairs.specs.Jumps.{AddsJumps, AreInTime, AreJumps};
+ghost use Rattle.std.specs.Prelude.{◌≡◌, ◌+◌, ◌^◌, ◌<◌, ◌≤◌, All, IfOk, OnOk, length};
+ghost use Rattle.arrival_stairs.specs.Jumps.{AddsJumps, AreInTime, AreJumps, stair_jump_count, bundle_jump_count};
 ghost use Rattle.arrival_stairs.specs.Stairs.{AreBundles, IsStair, stair_level, bundle_level};
 
 use crate::stairs::{Bundle, Stair};
@@ -27,7 +27,8 @@ fn stair_jumps(
 ) -> Result<(), AllocError>
     requires stair { IsStair stair }
     requires end { end < 2 ^ 62 }
-    ensures { OnOk result (AddsJumps (λ n. stair_level n stair) bundle end jumps.old.items jumps.new.items) }
+    ensures adds { OnOk result (AddsJumps (λ n. stair_level n stair) bundle end jumps.old.items jumps.new.items) }
+    ensures count { OnOk result (length jumps.new.items ≡ length jumps.old.items + stair_jump_count end stair) }
 {
     let first = stair.jitter / stair.gap + 1;
     let last = (end + stair.jitter) / stair.gap;
@@ -50,7 +51,8 @@ fn bundle_jumps(
 ) -> Result<(), AllocError>
     requires stairs { All IsStair bundle.now.stairs.items }
     requires end { end < 2 ^ 62 }
-    ensures { OnOk result (AddsJumps (λ n. bundle_level n bundle.now) number end jumps.old.items jumps.new.items) }
+    ensures adds { OnOk result (AddsJumps (λ n. bundle_level n bundle.now) number end jumps.old.items jumps.new.items) }
+    ensures count { OnOk result (length jumps.new.items ≡ length jumps.old.items + bundle_jump_count end bundle.now) }
 {
     for stair in &bundle.stairs {
         stair_jumps(*stair, number, end, jumps)?;

@@ -2,10 +2,12 @@
 //! grid of lines: picoseconds, grains and grains a second.
 #![tactic(auto)]
 
+mod excess;
 mod jumps;
 mod stairs;
 mod walk;
 
+pub use excess::{bundles_below_lines, excess_by};
 pub use jumps::{Jump, jumps_until};
 pub use stairs::{Bundle, Stair};
 pub use walk::ahead_until;

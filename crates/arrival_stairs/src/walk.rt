@@ -13,7 +13,7 @@ use line_heights::greatest_between;
 use std::alloc::{AllocError, Global};
 
 /// The greater one.
-fn greater(a: u128, b: u128) -> u128
+pub(crate) fn greater(a: u128, b: u128) -> u128
     ensures { result ≡ max a b }
 {
     if a < b { b } else { a }
