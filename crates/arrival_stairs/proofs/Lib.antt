@@ -4,3 +4,6 @@ pub mod Frozen
 pub mod Walked
 pub mod UnderLines
 pub mod Tails
+pub mod Meets
+pub mod Exact
+pub mod NoJumps

@@ -236,7 +236,7 @@ other_rise i p a h = elim (cases_lt i p) [
 pub own_rise : (i p a : ℕ) → i ≡ p → (if i == p then a else 0) ≡ a
 own_rise i p a h = grind (arith, nat_tests)
 
-bundle_rises : (b : Bundle) (n : ℕ) → All IsStair b.stairs.items → bundle_level 0 b ≤ bundle_level n b
+pub bundle_rises : (b : Bundle) (n : ℕ) → All IsStair b.stairs.items → bundle_level 0 b ≤ bundle_level n b
 bundle_rises b n all = each_rises b.stairs.items all
   where
     each_rises : (xs : List Stair) → All IsStair xs → sum_by (stair_level 0) xs ≤ sum_by (stair_level n) xs

@@ -10,7 +10,6 @@ use Rattle.min_plus.specs.rational.proofs.Linear.{with_atoms}
 use Rattle.min_plus.specs.Functions.{zero_q}
 use Rattle.arrival_lines.specs.Grid.{bits, speed, micros, line_value, parts_value}
 use Rattle.arrival_lines.specs.Steps.{AreSteps}
-use Rattle.arrival_lines.specs.Excess.{IsExcess}
 use Rattle.arrival_lines.specs.declared.grid.Line.{Line}
 use Rattle.arrival_lines.proofs.Units.{bits_add, bits_le, speed_add, speed_nonneg, brings, up_covers}
 use Rattle.line_heights.specs.Greatest.{IsBelow}
@@ -18,7 +17,7 @@ use Rattle.line_heights.proofs.Split.{below_more}
 use Rattle.arrival_stairs.specs.Stairs.{bundles_at, AreBundles}
 use Rattle.arrival_stairs.specs.Ahead.{IsAheadUpTo}
 use Rattle.arrival_stairs.specs.BelowLines.{line_parts}
-use Rattle.arrival_stairs.specs.StairExcess.{IsBound, IsUnder, IsTail, IsTailOfFirst, line_ahead}
+use Rattle.arrival_stairs.specs.StairExcess.{AreLinesBelow, IsBound, IsUnder, IsTail, IsTailOfFirst, line_ahead}
 use Rattle.arrival_stairs.specs.declared.stairs.Bundle.{Bundle}
 use Rattle.arrival_stairs.proofs.UnderLines.{bundles_below_lines}
 
@@ -85,7 +84,7 @@ none_slower lines rate most end = record { least = omega arith; over = λ v t la
 
 -- ---- the walk, and the lines from there on
 pub bound_by : (bundles : List Bundle) (steps : List Line) (rate most end walked later x : ℕ) → AreBundles bundles → AreSteps (line_parts bundles) steps
-    → IsExcess (line_parts bundles) rate most → IsAheadUpTo bundles rate end walked → IsTail steps rate most end later → x ≡ min (max walked later) most → IsBound bundles rate x
+    → AreLinesBelow bundles rate most → IsAheadUpTo bundles rate end walked → IsTail steps rate most end later → x ≡ min (max walked later) most → IsBound bundles rate x
 bound_by bundles steps rate most end walked later x are steps_are excess ahead tail is = record {
   over = λ t on.
       let under = bundles_below_lines bundles t are on in
@@ -101,5 +100,5 @@ bound_by bundles steps rate most end walked later x are steps_are excess ahead t
       ];
 }
 
-pub bound_by_lines : (bundles : List Bundle) (rate most : ℕ) → AreBundles bundles → IsExcess (line_parts bundles) rate most → IsBound bundles rate most
+pub bound_by_lines : (bundles : List Bundle) (rate most : ℕ) → AreBundles bundles → AreLinesBelow bundles rate most → IsBound bundles rate most
 bound_by_lines bundles rate most are excess = record { over = λ t on. le_trans (bundles_below_lines bundles t are on) (excess.over t on) }

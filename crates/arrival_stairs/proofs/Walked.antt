@@ -171,7 +171,7 @@ can_raise bundles k levels p frame are few inside small still =
 
 -- ---- the bundles between two jumps
 -- where there is one there is a first
-some_bundle : (bundles : List Bundle) (p : ℕ) → p < length bundles → Bundle
+pub some_bundle : (bundles : List Bundle) (p : ℕ) → p < length bundles → Bundle
 some_bundle [] p h = absurd (omega (arith, h))
 some_bundle (b ∷ bs) p h = b
 

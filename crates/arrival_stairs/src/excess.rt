@@ -2,20 +2,19 @@
 
 ghost use Rattle.std.specs.Prelude.{◌≡◌, ◌-◌, ◌*◌, ◌^◌, ◌<◌, ◌≤◌, max, min, IfOk};
 ghost use Rattle.std.specs.Int.{div_ceil};
-ghost use Rattle.arrival_lines.specs.Excess.{IsExcess};
 ghost use Rattle.arrival_lines.specs.Steps.{AreSteps};
 ghost use Rattle.arrival_stairs.specs.BelowLines.{BundlesBelowLines, line_parts};
+ghost use Rattle.arrival_stairs.specs.Jumps.{jump_count};
 ghost use Rattle.arrival_stairs.specs.Stairs.{AreBundles};
-ghost use Rattle.arrival_stairs.specs.StairExcess.{IsBound, IsTail, line_ahead};
+ghost use Rattle.arrival_stairs.specs.StairExcess.{AreLinesBelow, IsExcessBy, IsStairExcess, IsTail, line_ahead};
 
+use crate::counts::{are_few, shortened};
+use crate::horizon::horizon;
 use crate::jumps::jumps_until;
 use crate::stairs::Bundle;
 use crate::walk::{ahead_until, greater};
 use arrival_lines::Line;
 use std::alloc::{AllocError, Global};
-
-/// At most so many jumps of a queue are walked over.
-const MOST_JUMPS: usize = 4_096;
 
 /// The picoseconds of a second.
 const SECOND: u128 = 1_000_000_000_000;
@@ -48,7 +47,7 @@ fn tail(lines: &[Line], rate: u64, most: u64, end: u64) -> u64
 
 /// By how many grains the bundles are above the rate at most, where these are the steps of their lines and so many grains these are
 /// above it: up to a time by the bundles' jumps, and from there on by the lines.
-pub fn excess_by(
+fn excess_by(
     alloc: Global,
     bundles: &[Bundle],
     steps: &[Line],
@@ -57,23 +56,92 @@ pub fn excess_by(
     end: u64,
 ) -> Result<u64, AllocError>
     requires bundles { AreBundles bundles.now }
-    requires steps { AreSteps (line_parts bundles.now) steps.now }
-    requires most { IsExcess (line_parts bundles.now) rate most }
+    requires few { jump_count end bundles.now ≤ 4096 }
     requires rate { rate < 2 ^ 62 }
     requires end { end < 2 ^ 62 }
-    ensures bound { IfOk result (IsBound bundles.now rate) }
-    ensures least { IfOk result (λ x. x ≤ most) }
+    ensures { IfOk result (IsExcessBy bundles.now steps.now rate most end) }
 {
     let jumps = jumps_until(alloc, bundles, end)?;
-    if jumps.len() > MOST_JUMPS {
-        return Ok(most);
-    }
     let walked = ahead_until(alloc, bundles, &jumps, rate, end)?;
     let later = tail(steps, rate, most, end);
     Ok(greater(walked, later as u128).min(most as u128) as u64)
+}
+
+/// By how many grains the bundles are above the rate at most, rounded up, where these are the steps of their lines and the lines are no more than
+/// so many grains above it. Where more than 4,096 jumps come before the lines meet the rate the lines stand in behind the first 4,096; where they meet
+/// it in no 2^62 picoseconds, from the first on.
+pub fn stair_excess(
+    alloc: Global,
+    bundles: &[Bundle],
+    steps: &[Line],
+    rate: u64,
+    most: u64,
+) -> Result<u64, AllocError>
+    requires bundles { AreBundles bundles.now }
+    requires steps { AreSteps (line_parts bundles.now) steps.now }
+    requires most { AreLinesBelow bundles.now rate most }
+    requires rate { rate < 2 ^ 62 }
+    ensures is { IfOk result (IsStairExcess bundles.now steps.now rate) }
+    ensures least { IfOk result (λ x. x ≤ most) }
+{
+    match horizon(alloc, bundles, steps, rate)? {
+        None => Ok(most),
+        Some(end) => {
+            if are_few(bundles, end) {
+                let exact = excess_by(alloc, bundles, steps, rate, most, end)?;
+                return Ok(exact);
+            }
+            let sooner = shortened(bundles, end);
+            let cut = excess_by(alloc, bundles, steps, rate, most, sooner)?;
+            Ok(cut)
+        }
+    }
 }
 
 /// Bundles are nowhere above their lines: a law.
 pub fn bundles_below_lines()
     ensures { BundlesBelowLines }
 {}
+
+#[cfg(test)]
+mod tests {
+    use super::*;
+    use crate::stairs::Stair;
+    use arrival_lines::{Part, steps};
+    use std::test::Fail;
+
+    #[test]
+    fn stairs_come_to_less_than_their_lines(rt: HostRuntime) -> Result<(), Fail> {
+        // two links of 100 grains each 10 seconds, the one up to 5 early, at 30 grains a second: 200 at 0, 300 at 5, 400 at 10; their lines
+        // bring 250 and 20 a second
+        let second: u64 = 1_000_000_000_000;
+        let bundles = vec![in rt.alloc();
+            Bundle {
+                stairs: vec![in rt.alloc();
+                    Stair {
+                        frame: 100,
+                        gap: 10 * second,
+                        jitter: 0
+                    },
+                    Stair {
+                        frame: 100,
+                        gap: 10 * second,
+                        jitter: 5 * second
+                    },
+                ]?,
+                pace: None,
+            },
+        ]?;
+        let parts = [Part {
+            sum: Line {
+                burst: 250,
+                rate: 20,
+            },
+            pace: None,
+        }];
+        let lines = steps(rt.alloc(), &parts)?;
+        assert_eq!(rt; stair_excess(rt.alloc(), &bundles, &lines, 30, 250)?, 200);
+        assert_eq!(rt; stair_excess(rt.alloc(), &bundles, &lines, 20, 250)?, 250);
+        Ok(())
+    }
+}

@@ -2,12 +2,14 @@
 //! grid of lines: picoseconds, grains and grains a second.
 #![tactic(auto)]
 
+mod counts;
 mod excess;
+mod horizon;
 mod jumps;
 mod stairs;
 mod walk;
 
-pub use excess::{bundles_below_lines, excess_by};
+pub use excess::{bundles_below_lines, stair_excess};
 pub use jumps::{Jump, jumps_until};
 pub use stairs::{Bundle, Stair};
 pub use walk::ahead_until;

@@ -25,7 +25,7 @@ fn bend(low: Line, high: Line) -> Option<Moment>
 }
 
 /// When the part goes over from the one of its lines to the other, if it does.
-pub(crate) fn bend_of(part: Part) -> Option<Moment>
+pub fn bend_of(part: Part) -> Option<Moment>
     requires { AreSmall (part ∷ []) }
     ensures { MatchOption result (IsUnbent part) (IsBend part) }
 {

@@ -6,5 +6,6 @@ mod bends;
 mod greatest;
 mod heights;
 
+pub use bends::bend_of;
 pub use greatest::greatest_between;
 pub use heights::{Moment, ahead};
