@@ -1,7 +1,6 @@
 -- Where the walk goes up to the horizon the excess is that of the walk, and exact.
-use Rattle.std.specs.Prelude.{◌≡◌, ◌⊎◌, ℕ, ◌+◌, ◌-◌, ◌*◌, ◌^◌, ◌<◌, ◌≤◌, max, min, List, All, length, get_or, map, [], ◌∷◌}
-use Rattle.std.proofs.Common.{arith, sym, ap, ◌∙◌, refl, subst, inl, inr}
-use Rattle.std.specs.Int.{div_ceil}
+use Rattle.std.specs.Prelude.{◌≡◌, ℕ, ◌+◌, ◌-◌, ◌*◌, ◌^◌, ◌<◌, ◌≤◌, List, length, get_or, [], ◌∷◌}
+use Rattle.std.proofs.Common.{arith, sym, ◌∙◌, refl, subst, inl, inr}
 use Rattle.std.proofs.lemmas.Bool.{cases_lt}
 use Rattle.std.proofs.lemmas.List.{get_or-map, length-map}
 use Rattle.std.proofs.Math.Nat.{mul-le-mul_left}
@@ -12,17 +11,16 @@ use Rattle.min_plus.specs.Functions.{zero_q}
 use Rattle.arrival_lines.specs.Grid.{grain, bits, speed, micros, parts_value}
 use Rattle.arrival_lines.specs.Steps.{AreSteps}
 use Rattle.arrival_lines.specs.declared.grid.Line.{Line}
-use Rattle.arrival_lines.specs.declared.grid.Part.{Part}
 use Rattle.arrival_lines.proofs.Units.{bits_add, bits_le, micros_le, micros_nonneg, one_grain, up_covers}
-use Rattle.line_heights.specs.Greatest.{IsBelow, IsNear, IsGreatestBetween}
-use Rattle.arrival_stairs.specs.Stairs.{bundles_at, bundle_level, bundle_part, levels_at, AreBundles, IsStair}
+use Rattle.line_heights.specs.Greatest.{IsNear, IsGreatestBetween}
+use Rattle.arrival_stairs.specs.Stairs.{bundles_at, bundle_level, bundle_part, levels_at, AreBundles}
 use Rattle.arrival_stairs.specs.Ahead.{IsAheadUpTo}
 use Rattle.arrival_stairs.specs.Jumps.{jump_count}
 use Rattle.arrival_stairs.specs.BelowLines.{line_parts}
-use Rattle.arrival_stairs.specs.StairExcess.{AreLinesBelow, IsBound, IsTail, IsTailOfFirst, IsExcessBy, IsHorizon, IsBeforeLines, IsCut, IsStairExcess, line_ahead, down_at}
+use Rattle.arrival_stairs.specs.StairExcess.{AreLinesBelow, IsExcessBy, IsHorizon, IsBeforeLines, IsStairExcess, line_ahead, down_at}
 use Rattle.arrival_stairs.specs.declared.stairs.Bundle.{Bundle}
 use Rattle.arrival_stairs.proofs.Risen.{bundle_rises}
-use Rattle.arrival_stairs.proofs.Frozen.{IsWithin, picosecond_of, bundles_are, all_higher}
+use Rattle.arrival_stairs.proofs.Frozen.{picosecond_of, bundles_are, all_higher}
 use Rattle.arrival_stairs.proofs.Walked.{some_bundle}
 use Rattle.arrival_stairs.proofs.Tails.{no_line, bound_by, bound_by_lines}
 use Rattle.arrival_stairs.proofs.Meets.{ceil_most}

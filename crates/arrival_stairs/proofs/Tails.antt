@@ -1,14 +1,13 @@
 -- From a time on a line that grows no faster than a rate is no further above it than then.
 use Rattle.std.specs.Prelude.{◌≡◌, ℕ, ◌+◌, ◌-◌, ◌*◌, ◌^◌, ◌<◌, ◌≤◌, max, min, List, [], ◌∷◌, length, get_or}
-use Rattle.std.proofs.Common.{arith, sym, ap, ap₂, ◌∙◌, refl, subst, inl, inr}
+use Rattle.std.proofs.Common.{arith, ap, ◌∙◌, refl, subst, inl, inr}
 use Rattle.std.specs.Int.{div_ceil}
 use Rattle.std.proofs.lemmas.Bool.{cases_lt}
 use Rattle.std.proofs.lemmas.List.{get_or_default}
-use Rattle.min_plus.specs.rational.specs.Rational.{ℚ, ◌+ℚ◌, ◌-ℚ◌, ◌*ℚ◌, ◌≤ℚ◌, ◌<ℚ◌}
+use Rattle.min_plus.specs.rational.specs.Rational.{ℚ, ◌+ℚ◌, ◌*ℚ◌, ◌≤ℚ◌}
 use Rattle.min_plus.specs.rational.proofs.Laws.{add_mul, mul_le_mul, le_trans, le_or_lt, le_of_lt}
 use Rattle.min_plus.specs.rational.proofs.Linear.{with_atoms}
-use Rattle.min_plus.specs.Functions.{zero_q}
-use Rattle.arrival_lines.specs.Grid.{bits, speed, micros, line_value, parts_value}
+use Rattle.arrival_lines.specs.Grid.{bits, speed, micros, line_value}
 use Rattle.arrival_lines.specs.Steps.{AreSteps}
 use Rattle.arrival_lines.specs.declared.grid.Line.{Line}
 use Rattle.arrival_lines.proofs.Units.{bits_add, bits_le, speed_add, speed_nonneg, brings, up_covers}
@@ -17,7 +16,7 @@ use Rattle.line_heights.proofs.Split.{below_more}
 use Rattle.arrival_stairs.specs.Stairs.{bundles_at, AreBundles}
 use Rattle.arrival_stairs.specs.Ahead.{IsAheadUpTo}
 use Rattle.arrival_stairs.specs.BelowLines.{line_parts}
-use Rattle.arrival_stairs.specs.StairExcess.{AreLinesBelow, IsBound, IsUnder, IsTail, IsTailOfFirst, line_ahead}
+use Rattle.arrival_stairs.specs.StairExcess.{AreLinesBelow, IsBound, IsTail, IsTailOfFirst, line_ahead}
 use Rattle.arrival_stairs.specs.declared.stairs.Bundle.{Bundle}
 use Rattle.arrival_stairs.proofs.UnderLines.{bundles_below_lines}
 

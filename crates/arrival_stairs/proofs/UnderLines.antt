@@ -1,12 +1,12 @@
 -- Bundles are nowhere above their lines.
-use Rattle.std.specs.Prelude.{◌≡◌, ℕ, ◌+◌, ◌*◌, ◌^◌, ◌<◌, ◌≤◌, List, [], ◌∷◌, All, Option, Some, None}
-use Rattle.std.proofs.Common.{arith, sym, ap, ap₂, ◌∙◌, refl, subst}
+use Rattle.std.specs.Prelude.{◌≡◌, ◌+◌, ◌*◌, ◌^◌, ◌≤◌, List, [], ◌∷◌, All, Option, Some, None}
+use Rattle.std.proofs.Common.{arith, sym, ap, ◌∙◌, refl, subst}
 use Rattle.std.specs.List.{sum_by}
 use Rattle.std.specs.Int.{div_ceil}
 use Rattle.std.proofs.lemmas.List.Elements.{All-head, All-tail}
 use Rattle.std.proofs.lemmas.List.Sums.{sum_by-cons}
 use Rattle.min_plus.specs.rational.specs.Rational.{ℚ, ◌+ℚ◌, ◌*ℚ◌, ◌≤ℚ◌}
-use Rattle.min_plus.specs.rational.proofs.Laws.{add_zero, zero_mul, add_mul, add_le_add, le_refl, mul_nonneg}
+use Rattle.min_plus.specs.rational.proofs.Laws.{add_mul, add_le_add, le_refl, mul_nonneg}
 use Rattle.min_plus.specs.rational.proofs.MinMax.{min_q_mono}
 use Rattle.min_plus.specs.rational.proofs.Linear.{with2, with_atoms}
 use Rattle.min_plus.specs.Functions.{zero_q}
@@ -14,8 +14,8 @@ use Rattle.arrival_lines.specs.Grid.{bits, speed, line_value, part_value, parts_
 use Rattle.arrival_lines.specs.declared.grid.Line.{Line}
 use Rattle.arrival_lines.proofs.OnGrid.{stair_on_grid}
 use Rattle.arrival_lines.proofs.Units.{bits_add, bits_nonneg, speed_add, speed_nonneg, up_covers}
-use Rattle.arrival_stairs.specs.Stairs.{stair_at, stairs_at, capped, bundle_at, bundles_at, AreBundles, IsStair}
-use Rattle.arrival_stairs.specs.BelowLines.{stair_rate, stair_burst, line_part, line_parts, BundlesBelowLines}
+use Rattle.arrival_stairs.specs.Stairs.{stair_at, stairs_at, capped, bundles_at, IsStair}
+use Rattle.arrival_stairs.specs.BelowLines.{stair_rate, stair_burst, line_parts, BundlesBelowLines}
 use Rattle.arrival_stairs.specs.declared.stairs.Bundle.{Bundle}
 use Rattle.arrival_stairs.specs.declared.stairs.Stair.{Stair}
 

@@ -1,11 +1,11 @@
--- The lines above stairs: of a stair, and of each bundle the sum of its stairs' lines. (Le Boudec and Thiran, chapter 1: the token bucket above a stair.)
+-- The lines above stairs: of a stair, and of each bundle the sum of its stairs' lines. (Le Boudec and Thiran, chapter
+-- 1: the token bucket above a stair.)
 use Rattle.std.specs.Prelude.{ℕ, ◌+◌, ◌*◌, ◌^◌, List, map}
 use Rattle.std.specs.List.{sum_by}
 use Rattle.std.specs.Int.{div_ceil}
 use Rattle.min_plus.specs.rational.specs.Rational.{ℚ, ◌≤ℚ◌}
 use Rattle.min_plus.specs.Functions.{zero_q}
 use Rattle.arrival_lines.specs.Grid.{parts_value}
-use Rattle.arrival_lines.specs.declared.grid.Line.{Line}
 use Rattle.arrival_lines.specs.declared.grid.Part.{Part}
 use Rattle.arrival_stairs.specs.Stairs.{bundles_at, AreBundles}
 use Rattle.arrival_stairs.specs.declared.stairs.Bundle.{Bundle}

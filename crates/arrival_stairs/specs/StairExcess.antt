@@ -1,4 +1,5 @@
--- How far bundles are above a rate for ever. (Le Boudec and Thiran, chapter 1: the largest distance of an arrival curve from a line.)
+-- How far bundles are above a rate for ever. (Le Boudec and Thiran, chapter 1: the largest distance of an arrival curve
+-- from a line.)
 use Rattle.std.specs.Prelude.{◌⊎◌, ℕ, ◌-◌, ◌*◌, ◌^◌, ◌<◌, ◌≤◌, ◌≡◌, max, min, List, length, get_or}
 use Rattle.std.specs.Int.{div_ceil}
 use Rattle.min_plus.specs.rational.specs.Rational.{ℚ, ◌≤ℚ◌}
@@ -31,7 +32,8 @@ pub record IsUnder (lines : List Line) (rate most : ℕ) (v t : ℚ) : Type 0 wh
 abbrev pub line_ahead : Line → (rate end : ℕ) → ℕ
 line_ahead line rate end = div_ceil (line.burst * 10 ^ 12 - (rate - line.rate) * end) (10 ^ 12)
 
--- is from then on at most so many grains above it; and that is no more than by each of the first i lines that grows no faster
+-- is from then on at most so many grains above it; and that is no more than by each of the first i lines that grows no
+-- faster
 pub record IsTailOfFirst (lines : List Line) (rate most end i x : ℕ) : Type 0 where
   pub least : x ≤ most
   pub over : (v t : ℚ) → micros end ≤ℚ t → IsUnder lines rate most v t → v ≤ℚ line_at (bits x) (speed rate) t
@@ -62,7 +64,8 @@ pub record IsDown (steps : List Line) (rate known end : ℕ) : Type 0 where
 pub record IsLate (steps : List Line) (rate known : ℕ) : Type 0 where
   pub each : (k : ℕ) (d : Line) → k < length steps → (get_or steps k d).rate < rate → 2 ^ 62 ≤ down_at (get_or steps k d) rate known
 
--- a time before which the lines do not meet the rate, and from which on one of them is no further above it than the bundles are before
+-- a time before which the lines do not meet the rate, and from which on one of them is no further above it than the
+-- bundles are before
 pub record IsHorizon (bundles : List Bundle) (steps : List Line) (rate end : ℕ) : Type 0 where
   pub short : end < 2 ^ 62
   pub before : IsBeforeLines steps rate end
@@ -81,8 +84,8 @@ pub record IsCut (bundles : List Bundle) (steps : List Line) (rate : ℕ) : Type
   pub before : IsBeforeLines steps rate end
   pub many : 4096 < jump_count end bundles
 
--- exactly, rounded up to grains; unless more than 4,096 jumps come before the lines meet the rate, or the lines meet it in no 2 ^ 62
--- picoseconds
+-- exactly, rounded up to grains; unless more than 4,096 jumps come before the lines meet the rate, or the lines meet it
+-- in no 2 ^ 62 picoseconds
 pub record IsStairExcess (bundles : List Bundle) (steps : List Line) (rate x : ℕ) : Type 0 where
   pub bound : IsBound bundles rate x
   pub near : (0 < x → (end : ℕ) × IsNear (bundles_at bundles) rate x zero_q (micros end)) ⊎ (IsCut bundles steps rate ⊎ IsBeforeLines steps rate (2 ^ 62))

@@ -1,5 +1,5 @@
--- Links as stairs, and bundles of links that come to a queue from one port: their stairs together, at most the pace of that port.
--- (Le Boudec and Thiran, stair functions; grouping of flows by their input link.)
+-- Links as stairs, and bundles of links that come to a queue from one port: their stairs together, at most the pace of
+-- that port. (Le Boudec and Thiran, stair functions; grouping of flows by their input link.)
 use Rattle.std.specs.Prelude.{ℕ, suc, ◌+◌, ◌*◌, ◌/◌, ◌^◌, ◌<◌, List, [], ◌∷◌, All, map, Option, Some, None}
 use Rattle.std.specs.List.{sum_by}
 use Rattle.min_plus.specs.rational.specs.Rational.{ℚ, ◌+ℚ◌, ◌*ℚ◌, ◌/ℚ◌}

@@ -19,7 +19,8 @@ use std::alloc::{AllocError, Global};
 /// The picoseconds of a second.
 const SECOND: u128 = 1_000_000_000_000;
 
-/// By how many grains a line that grows no faster than the rate is above it from a time on, rounded up; 0 where it is not.
+/// By how many grains a line that grows no faster than the rate is above it from a time on, rounded up; 0 where it is
+/// not.
 fn ahead_from(line: Line, rate: u64, end: u64) -> u64
     requires { line.rate ≤ rate }
     ensures { result ≡ line_ahead line rate end }
@@ -32,7 +33,8 @@ fn ahead_from(line: Line, rate: u64, end: u64) -> u64
     (brought - served).div_ceil(SECOND) as u64
 }
 
-/// By how many grains what is at most each of the lines, and so many grains above the rate, is above the rate from a time on.
+/// By how many grains what is at most each of the lines, and so many grains above the rate, is above the rate from a
+/// time on.
 fn tail(lines: &[Line], rate: u64, most: u64, end: u64) -> u64
     ensures { IsTail lines.now rate most end result }
 {
@@ -45,8 +47,8 @@ fn tail(lines: &[Line], rate: u64, most: u64, end: u64) -> u64
     least
 }
 
-/// By how many grains the bundles are above the rate at most, where these are the steps of their lines and so many grains these are
-/// above it: up to a time by the bundles' jumps, and from there on by the lines.
+/// By how many grains the bundles are above the rate at most, where these are the steps of their lines and so many
+/// grains these are above it: up to a time by the bundles' jumps, and from there on by the lines.
 fn excess_by(
     alloc: Global,
     bundles: &[Bundle],
@@ -67,9 +69,9 @@ fn excess_by(
     Ok(greater(walked, later as u128).min(most as u128) as u64)
 }
 
-/// By how many grains the bundles are above the rate at most, rounded up, where these are the steps of their lines and the lines are no more than
-/// so many grains above it. Where more than 4,096 jumps come before the lines meet the rate the lines stand in behind the first 4,096; where they meet
-/// it in no 2^62 picoseconds, from the first on.
+/// By how many grains the bundles are above the rate at most, rounded up, where these are the steps of their lines and
+/// the lines are no more than so many grains above it. Where more than 4,096 jumps come before the lines meet the rate
+/// the lines stand in behind the first 4,096; where they meet it in no 2^62 picoseconds, from the first on.
 pub fn stair_excess(
     alloc: Global,
     bundles: &[Bundle],

@@ -27,7 +27,8 @@ fn meets(line: Line, rate: u64, known: u128) -> u128
     ((line.burst as u128 - known) * SECOND).div_ceil((rate - line.rate) as u128)
 }
 
-/// When the first of the steps that grow slower than the rate is no more than so many grains above it; none where that is late.
+/// When the first of the steps that grow slower than the rate is no more than so many grains above it; none where that
+/// is late.
 fn down_by(steps: &[Line], rate: u64, known: u128) -> Option<u64>
     ensures { MatchOption result (IsLate steps.now rate known) (IsDown steps.now rate known) }
 {
@@ -56,8 +57,8 @@ fn last_bend(parts: &[Part]) -> u128
     last
 }
 
-/// A time from which on the steps of the bundles' lines are no further above the rate than the bundles are before; none where that is
-/// late.
+/// A time from which on the steps of the bundles' lines are no further above the rate than the bundles are before; none
+/// where that is late.
 pub(crate) fn horizon(
     alloc: Global,
     bundles: &[Bundle],

@@ -1,5 +1,5 @@
-//! Links as stairs of frames with a gap and a jitter, and by how much those that come to a queue are above a rate at most. Whole numbers on the
-//! grid of lines: picoseconds, grains and grains a second.
+//! Links as stairs of frames with a gap and a jitter, and by how much those that come to a queue are above a rate at
+//! most. Whole numbers on the grid of lines: picoseconds, grains and grains a second.
 #![tactic(auto)]
 
 mod counts;

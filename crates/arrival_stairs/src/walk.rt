@@ -35,7 +35,8 @@ fn raise(levels: &mut Vec<Part>, jump: Jump)
     };
 }
 
-/// By how many grains the bundles are above the rate at most from 0 to a time in picoseconds, where these are their jumps up to it.
+/// By how many grains the bundles are above the rate at most from 0 to a time in picoseconds, where these are their
+/// jumps up to it.
 pub fn ahead_until(
     alloc: Global,
     bundles: &[Bundle],

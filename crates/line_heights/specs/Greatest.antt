@@ -1,5 +1,5 @@
--- How far parts are above a rate at most between two times, rounded up to grains. (Le Boudec and Thiran, chapter 1: the largest distance of an
--- arrival curve from a line.)
+-- How far parts are above a rate at most between two times, rounded up to grains. (Le Boudec and Thiran, chapter 1: the
+-- largest distance of an arrival curve from a line.)
 use Rattle.std.specs.Prelude.{◌≡◌, ◌⊎◌, ℕ, ◌<◌, List}
 use Rattle.min_plus.specs.rational.specs.Rational.{ℚ, ◌+ℚ◌, ◌≤ℚ◌, ◌<ℚ◌}
 use Rattle.min_plus.specs.rational.specs.Line.{line_at}

@@ -32,7 +32,8 @@ fn ahead_at(parts: &[Part], rate: u64, time: u64) -> u128
     ahead(parts, rate, at)
 }
 
-/// How far the parts are above the rate where one of them goes over to its other line, if that is between two times in picoseconds.
+/// How far the parts are above the rate where one of them goes over to its other line, if that is between two times in
+/// picoseconds.
 fn ahead_at_bend(parts: &[Part], rate: u64, part: Part, begin: u64, end: u64) -> u128
     requires parts { AreSmall parts.now }
     requires part { AreSmall (part ∷ []) }
@@ -52,8 +53,8 @@ fn ahead_at_bend(parts: &[Part], rate: u64, part: Part, begin: u64, end: u64) ->
     }
 }
 
-/// By how many grains the parts are above the rate at most between two times in picoseconds, rounded up; 0 where they are nowhere above
-/// it. They are looked at there and where one of them goes over to its other line between.
+/// By how many grains the parts are above the rate at most between two times in picoseconds, rounded up; 0 where they
+/// are nowhere above it. They are looked at there and where one of them goes over to its other line between.
 pub fn greatest_between(parts: &[Part], rate: u64, begin: u64, end: u64) -> u128
     requires parts { AreSmall parts.now }
     requires rate { rate < 2 ^ 62 }
@@ -75,7 +76,8 @@ mod tests {
 
     #[test]
     fn parts_are_furthest_ahead_where_one_of_them_bends(rt: HostRuntime) {
-        // 100 grains at most, at first 10 and 30 a second; 50 at most, at first 20 and 10 a second: they bend after 3 seconds
+        // 100 grains at most, at first 10 and 30 a second; 50 at most, at first 20 and 10 a second: they bend after 3
+        // seconds
         let parts = [
             Part {
                 sum: Line {

@@ -1,5 +1,5 @@
-//! How far the sum of parts is above a rate: at a time, and at most between two times. Whole numbers on the grid of lines: picoseconds, grains
-//! and grains a second.
+//! How far the sum of parts is above a rate: at a time, and at most between two times. Whole numbers on the grid of
+//! lines: picoseconds, grains and grains a second.
 #![tactic(auto)]
 
 mod bends;

@@ -1,4 +1,4 @@
-use Rattle.std.proofs.Common.{◌≡◌, ◌≤◌, ◌+◌, take}
+use Rattle.std.proofs.Common.{◌≡◌, ◌≤◌, take}
 use Rattle.std.specs.List.{sum_by}
 use Rattle.arrival_stairs.specs.Jumps.{bundle_jump_count}
 use Rattle.arrival_stairs.proofs.counts.are_few.Given as goal

@@ -1,4 +1,4 @@
-use Rattle.std.proofs.Common.{◌≡◌, ◌≤◌}
+use Rattle.std.proofs.Common.{◌≤◌}
 use Rattle.arrival_stairs.specs.Jumps.{jump_count}
 use Rattle.arrival_stairs.proofs.counts.shortened.Given as goal
 

@@ -1,4 +1,4 @@
-use Rattle.std.proofs.Common.{arith, ap, ◌∙◌, min, ◌≤◌}
+use Rattle.std.proofs.Common.{ap, ◌∙◌, min}
 use Rattle.arrival_stairs.proofs.excess.excess_by.Goals as goal
 
 pub returns : goal.returns

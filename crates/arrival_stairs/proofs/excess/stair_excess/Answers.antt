@@ -1,4 +1,4 @@
-use Rattle.std.proofs.Common.{arith, subst, ◌^◌, ◌≤◌, ℕ, Option}
+use Rattle.std.proofs.Common.{subst, ◌^◌, ℕ, Option}
 use Rattle.std.specs.Option.{MatchOption}
 use Rattle.std.proofs.lemmas.Bool.{iff_false}
 use Rattle.arrival_stairs.specs.Jumps.{jump_count}

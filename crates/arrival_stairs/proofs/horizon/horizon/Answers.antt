@@ -1,7 +1,7 @@
-use Rattle.std.proofs.Common.{arith, sym, subst, ap, ◌∙◌, ℕ, List, min, max}
+use Rattle.std.proofs.Common.{arith, subst, ap, ◌∙◌, List, min}
 use Rattle.arrival_lines.specs.declared.grid.Part.{Part}
 use Rattle.line_heights.specs.Greatest.{IsGreatestBetween}
-use Rattle.arrival_stairs.proofs.Meets.{never, horizon_first, horizon_next}
+use Rattle.arrival_stairs.proofs.Meets.{horizon_first, horizon_next}
 use Rattle.arrival_stairs.proofs.horizon.horizon.Goals as goal
 
 pub returns-in-None-down_by : goal.returns-in-None-down_by
