@@ -1,5 +1,5 @@
 -- Bundles do not jump up to 0.
-use Rattle.std.specs.Prelude.{◌≡◌, ◌+◌, ◌-◌, ◌/◌, List, [], ◌∷◌}
+use Rattle.std.specs.Prelude.{◌≡◌, ◌+◌, ◌/◌, List, [], ◌∷◌}
 use Rattle.std.proofs.Common.{arith, ap, refl}
 use Rattle.std.specs.List.{sum_by}
 use Rattle.std.proofs.lemmas.List.Sums.{sum_by-cons}
