@@ -18,7 +18,7 @@ SECOND = 10**12
 GRAINS = 1024
 BURST_LIMIT = 1 << 58
 LINE_RATE_LIMIT = 1 << 64
-QUEUE_RATE_LIMIT = 1 << 61
+QUEUE_RATE_LIMIT = 1 << 50  # no port is as fast
 DELAY_LIMIT = 1 << 50
 
 
@@ -181,13 +181,13 @@ def queue_at(network, lines, s, q):
         ((g[0], g[1]), None if source < 0 else (g[2] * GRAINS, network["ports"][source]["pace"]))
         for source, g in sorted(groups.items())
     ]
-    bounded = known and greatest(parts, 0) < BURST_LIMIT and greatest(parts, 1) < QUEUE_RATE_LIMIT
+    bounded = known and together(parts, 0) < BURST_LIMIT and together(parts, 1) < QUEUE_RATE_LIMIT
     return {"parts": parts if bounded else None, "longest": longest}
 
 
-def greatest(parts, which):
-    """The greater bursts (0) or rates (1) of the parts' lines together."""
-    return sum(max(total[which], pace[which] if pace else 0) for total, pace in parts)
+def together(parts, which):
+    """The bursts (0) or the rates (1) of the parts' links together."""
+    return sum(total[which] for total, _ in parts)
 
 
 def order(network):

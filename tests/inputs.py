@@ -34,6 +34,14 @@ def flow(name: str, path: list[str]) -> str:
     return f'[[flow]]\nname = "{name}"\npacket = 1\narrival = {{ kind = "bucket", burst = 0, rate = 0 }}\npath = [{hops}]\n'
 
 
+def server(name: str) -> str:
+    return f'[[server]]\nname = "{name}"\nrate = 100\nservice = {{ kind = "latency", latency = 10 }}\n'
+
+
+# The flow of ONE_FLOW over a second server that is like the first.
+TWO_SERVERS = ONE_FLOW.replace("[[flow]]", server("s2") + "[[flow]]").replace('path = ["s1"]', 'path = ["s1", "s2"]')
+
+
 def hops(count: int) -> list[str]:
     return [f"s{number}" for number in range(count)]
 
@@ -61,6 +69,15 @@ INPUTS = {
         ["check", "n", "r"], {"n": ONE_FLOW, "r": "#" * (2**20 + 1)}, 1, "netcalc: r: too long\n"),
     "edits that are missing": (["edit", "n", "e"], {"n": ONE_FLOW}, 3, "netcalc: cannot read e\n"),
     "edits that are missing, and no network": (["edit", "n", "e"], {"n": "x"}, 3, "netcalc: cannot read e\n"),
+    "500 rates that are set and taken back": (
+        ["edit", "n", "e"], {"n": TWO_SERVERS, "e": "".join(f"rate,s1,{number}\n" for number in range(101, 601)) + "undo\n" * 500}, 0,
+        "".join(f"edit {number} ok cells {18 if number <= 500 else 0}\n" for number in range(1, 1001)) + "servers 2 flows 1\n"
+        "queue s1 0 delay 130 backlog 13300\nqueue s2 0 delay 143 backlog 14600\nflow f1 tfa 273 sfa 260 bound 260\n"),
+    "1,024 packets that are measured": (
+        ["measure", "n", "t", "f1", "1"], {"n": ONE_FLOW, "t": "packet,0,f1,1\n" * 1_024}, 0,
+        "flow f1 packets 1024\nstep 0 1024\nburst 1024 rate 1\n"),
+    "1,025 packets that are to be measured": (
+        ["measure", "n", "t", "f1", "1"], {"n": ONE_FLOW, "t": "packet,0,f1,1\n" * 1_025}, 7, "netcalc: too many: measure\n"),
     "a folder in place of a file": (["analyse", "."], {}, 3, "netcalc: cannot read .\n"),
 }
 

@@ -1,12 +1,12 @@
 #!/usr/bin/env python3
-"""Adds to docs/DEFINITIONS.md the line of each module of specs/ that lacks one, from the comment at the head of the module, and takes out the
-lines of modules that are gone. Run it at the top of the repository; then read what it added."""
+"""Writes the lists of docs/DEFINITIONS.md anew, below its first two sections: a line for each module of specs/, by the parts of crates.txt, from the
+comment at the head of the module: its first sentence, and each later one that names a source. Run it at the top of the repository."""
 
 import pathlib
 import re
 
 PAGE = pathlib.Path("docs/DEFINITIONS.md")
-WIDTH = 150
+SOURCE = re.compile("Le Boudec|Bouillard|Shreedhar|textbook")
 
 
 def modules():
@@ -26,47 +26,34 @@ def head(module):
     return re.sub(r" \(?Own choice\.\)?", "", " ".join(words)).strip()
 
 
-def wrapped(text):
-    """The text as lines of the page."""
-    lines, line = [], ""
-    for word in text.split(" "):
-        if len(line) + len(word) + 1 > WIDTH:
-            lines.append(line)
-            line = "  " + word
-        else:
-            line = f"{line} {word}" if line else word
-    return [*lines, line]
+def line_of(module):
+    """The line of a module."""
+    first, *others = re.split(r"(?<=\.)\s+(?=[A-Z(`])", head(module))
+    return f"- `{module}`: {' '.join([first, *filter(SOURCE.search, others)])}"
 
 
-def after(lines, crate):
-    """The place after the last line of a crate, or None where it has none."""
-    own = [place for place, line in enumerate(lines) if line.startswith(f"- `{crate}/specs/")]
-    if not own:
-        return None
-    place = own[-1] + 1
-    while place < len(lines) and lines[place].startswith("  "):
-        place += 1
-    return place
+def parts():
+    """The parts of crates.txt: the comment above each, as a heading, and its crates."""
+    found = []
+    for line in pathlib.Path("crates.txt").read_text().splitlines():
+        if line.startswith("#"):
+            title = line[1:].strip()
+            found.append((title[:1].upper() + title[1:], []))
+        elif line.strip():
+            found[-1][1].append(line.split(":")[0].split()[0])
+    return found
 
 
 def main():
-    text = PAGE.read_text()
-    named = set(re.findall(r"^- `([a-z0-9_]+/specs/[A-Za-z0-9_/]+)`:", text, re.M))
     there = modules()
-    for module in sorted(named - set(there)):
-        text = re.sub(rf"^- `{re.escape(module)}`:.*\n(?:  .*\n)*", "", text, flags=re.M)
-        print(f"gone: {module}")
-    crates = re.findall(r"^([a-z][a-z0-9_]*):", pathlib.Path("crates.txt").read_text(), re.M)
-    lines = text.split("\n")
-    for module in (it for it in there if it not in named):
-        crate = module.split("/")[0]
-        new = wrapped(f"- `{module}`: {head(module)}")
-        later = [place for place, line in enumerate(lines) if line.startswith(f"- `{crate}/specs/") and line > new[0]]
-        before = (after(lines, it) for it in [crate, *reversed(crates[: crates.index(crate)])])
-        place = later[0] if later else next(it for it in before if it is not None)
-        lines[place:place] = new
-        print(f"added: {module}")
-    PAGE.write_text("\n".join(lines))
+    page = PAGE.read_text()
+    lists = []
+    for title, crates in parts():
+        lines = [line_of(module) for crate in crates for module in there if module.split("/")[0] == crate]
+        if lines:
+            lists.append("\n".join([f"## {title}", "", *lines, ""]))
+    kept = page.split("\n## ")[:2]
+    PAGE.write_text("\n## ".join(kept).rstrip("\n") + "\n\n" + "\n".join(lists))
 
 
 if __name__ == "__main__":

@@ -76,58 +76,6 @@ below_kink s r t m q on slow some h = elim (le_or_lt (r *ℚ t) m) [
     high : (sr rs sm rq so ro all : ℚ) → so ≤ℚ ro → so ≡ sr -ℚ sm → sr ≡ rs → all ≡ rs -ℚ ro → sm ≤ℚ rq → all ≤ℚ rq
     high sr rs sm rq so ro all a e1 e e2 k = with7 sr rs sm rq so ro all (λ c. omega (arith, c.le, c.lt, c.same))
 
--- ---- one step more
-pub height_fast : (steps : List Line) (i x : ℕ) (service : Service) (longest b : ℕ) (d : Line) → service.rate < (get_or steps i d).rate
-    → IsLeastHeight steps i x service longest b → IsLeastHeight steps (i + 1) x service longest b
-height_fast steps i x service longest b d fast least = record {
-  plain = least.plain;
-  each = λ k e slow. elim (cases_lt k i) [
-    | inl l ↦ least.each k e record { inside = l; slow = slow.slow }
-    | inr l ↦
-        let h = slow.inside in
-        let at : k ≡ i = omega (arith, h, l) in
-        let s = subst (λ (n : ℕ). (get_or steps n d).rate ≤ service.rate) at (slow.slow d) in
-        absurd (omega (arith, s, fast))
-  ];
-  one = elim least.one [
-    | inl e ↦ inl e
-    | inr w ↦ inr (w.0, record { inside = let h = w.1.inside in omega (arith, h); slow = w.1.slow }, w.2)
-  ];
-}
-
-pub height_slow : (steps : List Line) (i x : ℕ) (service : Service) (longest b new : ℕ) (d : Line) → i < length steps → (get_or steps i d).rate ≤ service.rate
-    → new ≡ min b (height_of (get_or steps i d) (service.debt + longest) service.rate)
-    → IsLeastHeight steps i x service longest b → IsLeastHeight steps (i + 1) x service longest new
-height_slow steps i x service longest b new d inside slow e least = record {
-  plain = let h = least.plain in omega (arith, h, e);
-  each = λ k f other. elim (cases_lt k i) [
-    | inl l ↦ let h = least.each k f record { inside = l; slow = other.slow } in omega (arith, h, e)
-    | inr l ↦
-        let h = other.inside in
-        let at : i ≡ k = omega (arith, h, l) in
-        subst (λ (n : ℕ). new ≤ height_of (get_or steps n f) (service.debt + longest) service.rate) at
-        (subst (λ (l : Line). new ≤ height_of l (service.debt + longest) service.rate) (same f) (omega (arith, e)))
-  ];
-  one = elim (cases_lt (height_of (get_or steps i d) (service.debt + longest) service.rate) b) [
-    | inl l ↦
-        let at : new ≡ height_of (get_or steps i d) (service.debt + longest) service.rate = omega (arith, l, e) in
-        inr (
-          i,
-          record { inside = omega arith; slow = λ f. subst (λ (l : Line). l.rate ≤ service.rate) (same f) slow },
-          λ f. at ∙ ap (λ (l : Line). height_of l (service.debt + longest) service.rate) (same f),
-        )
-    | inr l ↦
-        let at : new ≡ b = omega (arith, l, e) in
-        elim least.one [
-          | inl f ↦ inl (at ∙ f)
-          | inr w ↦ inr (w.0, record { inside = let h = w.1.inside in omega (arith, h); slow = w.1.slow }, λ f. at ∙ w.2 f)
-        ]
-  ];
-}
-  where
-    same : (f : Line) → get_or steps i d ≡ get_or steps i f
-    same f = get_or_default steps i d f inside
-
 -- ---- the least height is above, and less than a bit above
 module _ (parts : List Part) (lines : List Line) (x : ℕ) (service : Service) (longest b : ℕ) (some : 0 < service.rate) (are : AreSteps parts lines)
     (over : IsExcess parts service.rate x) (least : IsLeastHeight lines (length lines) x service longest b) where

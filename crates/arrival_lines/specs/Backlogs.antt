@@ -1,6 +1,6 @@
 -- The backlog of what parts bring at a service, with one packet not yet passed on. (Le Boudec and Thiran, chapter 1: the vertical
 -- deviation.)
-use Rattle.std.specs.Prelude.{◌≡◌, ◌⊎◌, ℕ, ◌+◌, ◌*◌, ◌<◌, ◌≤◌, List, get_or}
+use Rattle.std.specs.Prelude.{◌≡◌, ◌⊎◌, ℕ, ◌+◌, ◌-◌, ◌*◌, ◌<◌, ◌≤◌, List, length, get_or}
 use Rattle.std.specs.Int.{div_ceil}
 use Rattle.min_plus.specs.rational.specs.Rational.{ℚ, ◌+ℚ◌, ◌-ℚ◌, ◌*ℚ◌, ◌≤ℚ◌, ◌<ℚ◌}
 use Rattle.min_plus.specs.rational.specs.MinMax.{max_q}
@@ -39,6 +39,15 @@ pub record HoldsAtMost (parts : List Part) (service : Service) (longest b : ℕ)
 -- what a step comes to in the time in which so many grains are served at the rate, in bits, rounded up
 abbrev pub height_of : Line → ℕ → ℕ → ℕ
 height_of step waiting rate = div_ceil (step.burst + div_ceil (step.rate * waiting) rate) 1024
+
+-- a later step is lower than another when so many grains are served at the rate
+abbrev pub Falls : Line → Line → (waiting rate : ℕ) → Type 0
+Falls step later waiting rate = (later.burst - step.burst) * rate < (step.rate - later.rate) * waiting
+
+-- no step from one on has a lesser height
+pub record IsLowest (steps : List Line) (slow waiting rate m : ℕ) : Type 0 where
+  pub least : (k : ℕ) (d : Line) → slow ≤ k → k < length steps
+      → height_of (get_or steps m d) waiting rate ≤ height_of (get_or steps k d) waiting rate
 
 -- one of the first i steps that is no faster than the service
 pub record IsSlow (steps : List Line) (service : Service) (i k : ℕ) : Type 0 where

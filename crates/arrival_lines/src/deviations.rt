@@ -1,12 +1,12 @@
 //! The excess of arrivals over a rate, and the delay and the backlog at a service that come of it.
 
-ghost use Rattle.std.specs.Prelude.{◌≡◌, ℕ, ◌+◌, ◌-◌, ◌*◌, ◌^◌, ◌<◌, ◌≤◌, List, length, get_or, MatchOption};
+ghost use Rattle.std.specs.Prelude.{◌≡◌, ℕ, ◌+◌, ◌-◌, ◌*◌, ◌^◌, ◌<◌, ◌≤◌, ◌↔◌, IsTrue, List, length, get_or, MatchOption};
 ghost use Rattle.std.specs.Int.{div_ceil};
 ghost use Rattle.arrival_lines.specs.declared.grid.Line.{Line};
 ghost use Rattle.arrival_lines.specs.declared.grid.Part.{Part};
 ghost use Rattle.arrival_lines.specs.Steps.{AreSteps, AreSlowing};
 ghost use Rattle.arrival_lines.specs.Excess.{IsExcess, IsEndless};
-ghost use Rattle.arrival_lines.specs.Backlogs.{IsLeastHeight, height_of};
+ghost use Rattle.arrival_lines.specs.Backlogs.{Falls, IsLeastHeight, IsLowest, height_of};
 
 use crate::grid::{Line, SECOND, Service, times};
 
@@ -68,19 +68,52 @@ fn height(step: Line, waiting: u64, rate: u64) -> u128
     (step.burst as u128 + times(step.rate, waiting).div_ceil(rate as u128)).div_ceil(1024)
 }
 
+/// Whether the later step is the lower one when so many grains are served at the rate.
+fn falls(step: Line, later: Line, waiting: u64, rate: u64) -> bool
+    ensures { IsTrue result ↔ Falls step later waiting rate }
+{
+    let rise = later.burst.saturating_sub(step.burst);
+    let fall = step.rate.saturating_sub(later.rate);
+    times(rise, rate) < times(fall, waiting)
+}
+
+/// The lowest of the steps from the first slow one on, when so many grains are served at the rate. Found by halving: where the steps no
+/// longer fall they rise.
+fn lowest(steps: &[Line], slow: usize, waiting: u64, rate: u64) -> usize
+    requires some { 0 < rate }
+    requires inside { slow < length steps.now }
+    ensures inside { (slow ≤ result) × (result < length steps.now) }
+    ensures least { (parts : List Part) → AreSteps parts steps.now → IsLowest steps.now slow waiting rate result }
+{
+    let mut low = slow;
+    let mut high = steps.len() - 1;
+    while low < high {
+        let middle = low + (high - low) / 2;
+        if falls(steps[middle], steps[middle + 1], waiting, rate) {
+            low = middle + 1;
+        } else {
+            high = middle;
+        }
+    }
+    low
+}
+
 /// The most bits in the queue, of packets of at most so many grains: the excess, the debt and one packet, or what a step that is no
 /// faster than the service comes to by the time at which they are worked off, where that is less.
 pub(crate) fn backlog(steps: &[Line], excess: u64, service: Service, longest: u64) -> u64
+    requires slowing { AreSlowing steps.now }
     requires some { 0 < service.rate }
     requires room { service.debt + longest < 2 ^ 64 }
-    ensures { IsLeastHeight steps.now (length steps.now) excess service longest result }
+    ensures { (parts : List Part) → AreSteps parts steps.now
+        → IsLeastHeight steps.now (length steps.now) excess service longest result }
 {
     let waiting = service.debt + longest;
-    let mut least = (excess as u128 + waiting as u128).div_ceil(1024);
-    for step in steps {
-        if step.rate <= service.rate {
-            least = least.min(height(*step, waiting, service.rate));
-        }
+    let plain = (excess as u128 + waiting as u128).div_ceil(1024);
+    let slow = count_faster(steps, service.rate);
+    if slow == steps.len() {
+        return plain as u64;
     }
-    least as u64
+    let at = lowest(steps, slow, waiting, service.rate);
+    let step = steps[at];
+    plain.min(height(step, waiting, service.rate)) as u64
 }

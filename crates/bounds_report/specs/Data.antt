@@ -2,14 +2,13 @@
 use Rattle.std.specs.Prelude.{ℕ, List, ◌++◌, codes, map, Option, Some, None}
 use Rattle.std.specs.Fmt.{decimal}
 use Rattle.table_cells.specs.declared.amount.Amount.{Amount}
-use Rattle.table_cells.specs.Amounts.{rounded_up}
 use Rattle.serde_json.specs.Data.{Data, Members, string, number, unsigned, boolean, array, object, no_members, member}
 use Rattle.serde_json.specs.View.{items_of}
 use Rattle.serde_json.specs.Written.{compact_text}
 use Rattle.bounds_report.specs.declared.rows.QueueRow.{QueueRow}
 use Rattle.bounds_report.specs.declared.rows.BranchRow.{BranchRow}
 use Rattle.bounds_report.specs.declared.rows.Report.{Report}
-use Rattle.bounds_report.specs.Numbers.{thousandths, microseconds, or_none, is_met}
+use Rattle.bounds_report.specs.Numbers.{exact, thousandths, microseconds, or_none, is_met}
 
 -- a text's member before others
 abbrev pub text_member : List ℕ → List ℕ → Members → Members
@@ -32,7 +31,7 @@ branch_members link port bound None =
     (text_member (codes "port") port no_members))
 branch_members link port bound (Some deadline) =
     text_member (codes "bound") (or_none microseconds bound)
-    (text_member (codes "deadline") (thousandths (rounded_up 1000 deadline))
+    (text_member (codes "deadline") (exact deadline)
     (text_member (codes "link") link
     (member (codes "met") (boolean (is_met bound deadline))
     (text_member (codes "port") port no_members))))

@@ -3,11 +3,10 @@ use Rattle.std.specs.Prelude.{ℕ, List, [], length, ◌++◌, codes, Option, So
 use Rattle.std.specs.List.{flat_map}
 use Rattle.std.specs.Fmt.{decimal}
 use Rattle.table_cells.specs.declared.amount.Amount.{Amount}
-use Rattle.table_cells.specs.Amounts.{rounded_up}
 use Rattle.bounds_report.specs.declared.rows.QueueRow.{QueueRow}
 use Rattle.bounds_report.specs.declared.rows.BranchRow.{BranchRow}
 use Rattle.bounds_report.specs.declared.rows.Report.{Report}
-use Rattle.bounds_report.specs.Numbers.{thousandths, microseconds, or_none, is_met}
+use Rattle.bounds_report.specs.Numbers.{exact, thousandths, microseconds, or_none, is_met}
 
 abbrev pub met_text : Option ℕ → Amount → List ℕ
 met_text bound deadline = if is_met bound deadline then codes "met" else codes "missed"
@@ -15,7 +14,7 @@ met_text bound deadline = if is_met bound deadline then codes "met" else codes "
 abbrev pub deadline_text : Option ℕ → Option Amount → List ℕ
 deadline_text bound None = []
 deadline_text bound (Some deadline) =
-    codes " deadline " ++ (thousandths (rounded_up 1000 deadline) ++ (codes " " ++ met_text bound deadline))
+    codes " deadline " ++ (exact deadline ++ (codes " " ++ met_text bound deadline))
 
 -- `port NAME Q load X delay D backlog B`
 unfoldable pub queue_line : QueueRow → List ℕ

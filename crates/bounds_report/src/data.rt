@@ -7,7 +7,7 @@ ghost use Rattle.std.specs.String.{string_bytes};
 ghost use Rattle.bounds_report.specs.Data as spec;
 ghost use Rattle.bounds_report.specs.Ranges.{HasDeadlineInRange};
 
-use crate::numbers::{count_text, is_met, load_text, thousandths, time_text};
+use crate::numbers::{count_text, exact_text, is_met, load_text, time_text};
 use crate::rows::{BranchRow, QueueRow, Report};
 use serde_json::{Value, json};
 use std::alloc::{AllocError, Global};
@@ -37,7 +37,7 @@ fn branch_value(alloc: Global, row: &BranchRow) -> Result<Value, AllocError>
     match row.deadline {
         None => json!(in alloc; {"bound": bound, "link": link, "port": port}),
         Some(deadline) => {
-            let time = thousandths(alloc, deadline.rounded_up(1000) as u128)?;
+            let time = exact_text(alloc, deadline)?;
             let met = is_met(row.bound, deadline);
             json!(in alloc; {"bound": bound, "deadline": time, "link": link, "met": met, "port": port})
         }

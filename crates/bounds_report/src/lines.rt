@@ -6,7 +6,7 @@ ghost use Rattle.std.specs.String.{string_bytes};
 ghost use Rattle.bounds_report.specs.Lines as spec;
 ghost use Rattle.bounds_report.specs.Ranges.{HasDeadlineInRange};
 
-use crate::numbers::{count_text, is_met, load_text, thousandths, time_text};
+use crate::numbers::{count_text, exact_text, is_met, load_text, time_text};
 use crate::rows::{BranchRow, QueueRow, Report};
 use std::alloc::{AllocError, Global};
 use table_cells::Amount;
@@ -45,7 +45,7 @@ fn deadline_text(
     } else {
         "missed"
     };
-    let time = thousandths(alloc, deadline.rounded_up(1000) as u128)?;
+    let time = exact_text(alloc, deadline)?;
     format!(in alloc; " deadline {time} {met}")
 }
 

@@ -26,11 +26,11 @@ use Rattle.net_cells.specs.cell_table.Gives.{Gives}
 use Rattle.net_cells.specs.cell_table.Refusals.{fault_at}
 use Rattle.net_cells.proofs.cell_table.Fronts.{no_cell, cell_at, at_place, grown}
 use Rattle.net_cells.proofs.cell_table.GivesAnswers.{gives_over}
-use Rattle.cell_store.specs.cell_changes.Changes.{Touched, Untouched, TouchedOf, no_more, passed, taken}
-use Rattle.cell_store.specs.cell_changes.Laws.{AgreeAtUntouched}
-use Rattle.cell_store.specs.cell_changes.Slots.{HasSlot}
-use Rattle.cell_store.proofs.cell_changes.HasSlots.{slots_are_own}
-use Rattle.cell_store.proofs.cell_changes.CarriedOver.{not_both, answered_on, rule_of}
+use Rattle.cell_rules.specs.cell_changes.Changes.{Touched, Untouched, TouchedOf, no_more, passed, taken}
+use Rattle.cell_rules.specs.cell_changes.Laws.{AgreeAtUntouched}
+use Rattle.cell_rules.specs.cell_changes.Slots.{HasSlot}
+use Rattle.cell_rules.proofs.cell_changes.HasSlots.{slots_are_own}
+use Rattle.cell_rules.proofs.cell_changes.CarriedOver.{not_both, answered_on, rule_of}
 use Rattle.cell_store.specs.Edits.{AllAnswered, IsFirst, IsFirstTouched, RefusesFor, SameButAt, EndsAtTouched}
 
 -- ---- touched cells

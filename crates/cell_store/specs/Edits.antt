@@ -13,8 +13,8 @@ use Rattle.net_cells.specs.Work.{work}
 use Rattle.net_cells.specs.MemoryEnds.{EndsAtCell}
 use Rattle.net_cells.specs.declared.cell_table.fault.AnalysisFault.{AnalysisFault}
 use Rattle.net_cells.specs.declared.cell_table.fault.AnalysisFault.TheVariants.{TooMany, TooWide, NoMemory}
-use Rattle.cell_store.specs.cell_changes.Changes.{TouchedOf}
-use Rattle.cell_store.specs.cell_changes.Slots.{HasSlot}
+use Rattle.cell_rules.specs.cell_changes.Changes.{TouchedOf}
+use Rattle.cell_rules.specs.cell_changes.Slots.{HasSlot}
 
 -- each cell of a network has its value
 abbrev pub AllAnswered : Net → CellTable → Type 0

@@ -2,8 +2,8 @@
 
 ghost use Rattle.std.specs.Prelude.{◌≡◌};
 
-use crate::cell_changes::{SLOTS, is_placed, slot};
 use crate::version_table::Versions;
+use cell_rules::cell_changes::{SLOTS, is_placed, slot};
 use net_cells::Cell;
 use net_cells::cell_table::{CellValue, Table};
 use std::alloc::{AllocError, Global};
@@ -34,7 +34,7 @@ impl<V: CellValue + Drop> Values<V> {
     ghost use Rattle.std.specs.Prelude.{◌≡◌, ◌≢◌, Some, None, IfOk, OnOk, OnErr, [], MatchOption, ◌<◌, ◌-◌, ◌^◌};
     ghost use Rattle.std.specs.Prelude.{length};
     ghost use Rattle.net_cells.specs.declared.cell.Cell.{Cell};
-    ghost use Rattle.cell_store.specs.cell_changes.Slots.{HasSlot, slots};
+    ghost use Rattle.cell_rules.specs.cell_changes.Slots.{HasSlot, slots};
     ghost use Rattle.cell_store.specs.version_table.Histories.{IsMarked, IsUndone};
 
     /// One version that has nothing.

@@ -6,9 +6,9 @@ use Rattle.net_model.specs.declared.fault.NetFault.{NetFault}
 use Rattle.net_model.specs.declared.fault.NetKind.{NetKind}
 use Rattle.net_model.specs.declared.fault.NetKind.TheVariants.{M1, M2, M3, M4, M5, M6, M7, M8, M9, M10, M11, M12}
 use Rattle.net_model.specs.declared.fault.NetKind.TheVariants.{CurveTooMany, CurveTooWide, NoMemory}
-use Rattle.net_text.specs.net_draft.FaultKinds.{IsOfTables}
-use Rattle.net_text.specs.net_draft.Faults.{Fault, fault_of}
-use Rattle.net_text.proofs.net_draft.KindsOfTables.{faults_are_of_tables}
+use Rattle.net_draft.specs.FaultKinds.{IsOfTables}
+use Rattle.net_draft.specs.Faults.{Fault, fault_of}
+use Rattle.net_draft.proofs.KindsOfTables.{faults_are_of_tables}
 use Rattle.net_text.specs.Becoming.{limit_fault}
 use Rattle.net_text.specs.Firsts.{PlacedCurve, FirstCurveOver, curves_of}
 use Rattle.net_text.specs.Laws.{EachFileSaysOneThing}

@@ -6,7 +6,7 @@ use Rattle.input_texts.specs.declared.curve_script.fault.LangKind.TheVariants as
 use Rattle.upp_limits.specs.declared.own_limits.OverLimit.TheVariants as limits
 use Rattle.net_model.specs.declared.fault.NetKind.{NetKind}
 use Rattle.net_model.specs.declared.fault.NetKind.TheVariants.{CurveTooMany, CurveTooWide}
-use Rattle.net_text.specs.net_draft.Faults.{Fault}
+use Rattle.net_draft.specs.Faults.{Fault}
 use Rattle.command_replies.specs.Replies.{Reply, breaks_rule, curve_over, breaks_script_rule, line_over}
 
 -- ---- of a network

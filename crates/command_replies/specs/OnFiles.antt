@@ -7,8 +7,8 @@ use Rattle.net_model.specs.Networks.{Net}
 use Rattle.net_model.specs.Accepted.{IsAccepted}
 use Rattle.net_model.specs.Orders.{IsOrder}
 use Rattle.net_model.specs.Walks.{IsCycle}
-use Rattle.net_text.specs.net_draft.Drafts.{draft_of}
-use Rattle.net_text.specs.net_draft.Faults.{Fault}
+use Rattle.net_draft.specs.Drafts.{draft_of}
+use Rattle.net_draft.specs.Faults.{Fault}
 use Rattle.net_text.specs.Becoming.{limit_fault}
 use Rattle.net_text.specs.Reading.{IsNetworkOf, CurveFault}
 use Rattle.net_text.specs.FoldLimits.{OverFold}

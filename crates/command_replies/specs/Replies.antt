@@ -6,7 +6,7 @@ use Rattle.input_texts.specs.declared.table_text.fault.TableFault.{TableFault}
 use Rattle.upp_limits.specs.declared.own_limits.OverLimit.{OverLimit}
 use Rattle.upp_limits.specs.declared.own_limits.OverLimit.TheVariants.{TooMany, TooWide}
 use Rattle.net_model.specs.Networks.{Net}
-use Rattle.net_text.specs.net_draft.Faults.{Fault}
+use Rattle.net_draft.specs.Faults.{Fault}
 use Rattle.report_text.specs.net_cells.specs.Meanings.{CellTable}
 use Rattle.report_text.specs.Faults.{fault_text, table_fault_text, script_fault_text}
 use Rattle.report_text.specs.Refusals.{spaced}

@@ -4,7 +4,7 @@ ghost use Rattle.std.specs.Prelude.{◌≡◌, ◌≢◌, IfOk, map};
 ghost use Rattle.std.specs.String.{string_bytes};
 ghost use Rattle.input_texts.specs.declared.curve_script.fault.LangKind.TheVariants as lang;
 ghost use Rattle.input_texts.specs.declared.table_text.fault.TableKind.TheVariants as tables;
-ghost use Rattle.net_text.specs.net_draft.Faults.{fault_of};
+ghost use Rattle.net_draft.specs.Faults.{fault_of};
 ghost use Rattle.net_model.specs.declared.fault.NetKind.TheVariants as kinds;
 ghost use Rattle.report_text.specs.CellWords.{cell_words, server_name};
 ghost use Rattle.report_text.specs.Refusals.{refusal_line};

@@ -49,21 +49,16 @@ fn told<L: Ledger>(alloc: Global, blank: Blank, f: &Curve) -> Result<bool, OpFau
     is_subadditive(alloc, f, &mut steps)
 }
 
+// A bucket and a stair are; a latency is not, nor a stair that waits a whole period for its first step.
 #[test]
-fn a_bucket_is_and_a_latency_is_not(rt: HostRuntime) -> Result<(), Fail> {
+fn which_curves_are_subadditive(rt: HostRuntime) -> Result<(), Fail> {
     let f = bucket(rt.alloc(), 3, 2)?;
     let g = late(rt.alloc())?;
     assert!(rt; told::<Brand>(rt.alloc(), Blank::new(1), &f)?);
     assert!(rt; !told::<Brand>(rt.alloc(), Blank::new(1), &g)?);
-    Ok(())
-}
-
-// A stair is; one that waits a whole period for its first step is not.
-#[test]
-fn stairs(rt: HostRuntime) -> Result<(), Fail> {
-    let f = steps_up(rt.alloc(), 1, 1, whole(2), 1)?;
-    let g = steps_up(rt.alloc(), 0, 0, whole(2), 1)?;
-    assert!(rt; told::<Brand>(rt.alloc(), Blank::new(1), &f)?);
-    assert!(rt; !told::<Brand>(rt.alloc(), Blank::new(1), &g)?);
+    let stair = steps_up(rt.alloc(), 1, 1, whole(2), 1)?;
+    let late_stair = steps_up(rt.alloc(), 0, 0, whole(2), 1)?;
+    assert!(rt; told::<Brand>(rt.alloc(), Blank::new(1), &stair)?);
+    assert!(rt; !told::<Brand>(rt.alloc(), Blank::new(1), &late_stair)?);
     Ok(())
 }

@@ -32,9 +32,9 @@ fn convolved<L: Ledger>(alloc: Global, blank: Blank, f: &Curve, g: &Curve) -> Re
     convolve(alloc, f, g, &mut steps)
 }
 
-// n at 2 n, and 2 n at 3 n.
+// n at 2 n, and 2 n at 3 n; and of one point each one point.
 #[test]
-fn dots(rt: HostRuntime) -> Result<(), Fail> {
+fn curves_of_points(rt: HostRuntime) -> Result<(), Fail> {
     let f = repeating(rt.alloc(), 0, None, 2, 1)?;
     let g = repeating(rt.alloc(), 0, None, 3, 2)?;
     let c = convolved::<Brand>(rt.alloc(), Blank::new(1), &f, &g)?;
@@ -48,16 +48,10 @@ fn dots(rt: HostRuntime) -> Result<(), Fail> {
     };
     assert!(rt; value(&c, late).is_none());
     assert!(rt; repeats(&c) == Some((whole(2), whole(2), whole(1))));
-    Ok(())
-}
-
-// One point each gives one point.
-#[test]
-fn points(rt: HostRuntime) -> Result<(), Fail> {
-    let f = point(rt.alloc(), 1, 2)?;
-    let g = point(rt.alloc(), 3, 4)?;
+    let one = point(rt.alloc(), 1, 2)?;
+    let other = point(rt.alloc(), 3, 4)?;
     let sum = point(rt.alloc(), 4, 6)?;
-    let c = convolved::<Brand>(rt.alloc(), Blank::new(1), &f, &g)?;
-    assert!(rt; equal(&c, &sum));
+    let both = convolved::<Brand>(rt.alloc(), Blank::new(1), &one, &other)?;
+    assert!(rt; equal(&both, &sum));
     Ok(())
 }

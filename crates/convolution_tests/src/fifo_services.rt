@@ -119,35 +119,25 @@ fn service<L: Ledger>(
     fifo_service(alloc, beta, cross, theta, &mut steps)
 }
 
+// Beside a slower flow a rate after the wait, beside a faster one nothing; and beside a slower one where service comes in steps.
 #[test]
-fn a_flow_has_a_rate_after_its_wait(rt: HostRuntime) -> Result<(), Fail> {
+fn what_another_flow_leaves(rt: HostRuntime) -> Result<(), Fail> {
     let beta = late(rt.alloc(), 100, 10, -1000)?;
     let cross = bucket(rt.alloc(), 6000, 5)?;
     let left = service::<Brand>(rt.alloc(), Blank::new(1), &beta, &cross)?;
     let wanted = late(rt.alloc(), 95, 70, -6650)?;
     assert!(rt; equal(&left, &wanted));
-    Ok(())
-}
-
-#[test]
-fn a_faster_flow_leaves_nothing(rt: HostRuntime) -> Result<(), Fail> {
-    let beta = late(rt.alloc(), 100, 10, -1000)?;
-    let cross = bucket(rt.alloc(), 1, 101)?;
-    let left = service::<Brand>(rt.alloc(), Blank::new(1), &beta, &cross)?;
-    let wanted = bucket(rt.alloc(), 0, 0)?;
-    let endless = waits_for_ever::<Brand>(Blank::new(1), &beta, &cross)?;
+    let faster = bucket(rt.alloc(), 1, 101)?;
+    let nothing = service::<Brand>(rt.alloc(), Blank::new(1), &beta, &faster)?;
+    let zero = bucket(rt.alloc(), 0, 0)?;
+    let endless = waits_for_ever::<Brand>(Blank::new(1), &beta, &faster)?;
     assert!(rt; endless, "the wait is infinite");
-    assert!(rt; equal(&left, &wanted));
-    Ok(())
-}
-
-#[test]
-fn a_flow_beside_a_stair(rt: HostRuntime) -> Result<(), Fail> {
-    let beta = stair(rt.alloc())?;
-    let cross = bucket(rt.alloc(), 1, 1)?;
-    let left = service::<Brand>(rt.alloc(), Blank::new(1), &beta, &cross)?;
+    assert!(rt; equal(&nothing, &zero));
+    let steps = stair(rt.alloc())?;
+    let slower = bucket(rt.alloc(), 1, 1)?;
+    let between = service::<Brand>(rt.alloc(), Blank::new(1), &steps, &slower)?;
     for (n, v) in [(2, 0), (3, 3), (4, 7)] {
-        let found = value(&left, ratio(n, 2));
+        let found = value(&between, ratio(n, 2));
         assert!(rt; found == Some(whole(v)), "at {n} halves");
     }
     Ok(())

@@ -19,8 +19,9 @@ fn point(alloc: Global, x: Frac, v: Frac) -> Result<Curve, OpFault> {
     point_closure(alloc, x, v)
 }
 
+// A point repeats; one at 0 stays.
 #[test]
-fn a_point_repeats(rt: HostRuntime) -> Result<(), Fail> {
+fn closures_of_points(rt: HostRuntime) -> Result<(), Fail> {
     let c = point(rt.alloc(), whole(2), whole(3))?;
     for (t, v) in [(2, 3), (4, 6), (10, 15)] {
         assert!(rt; value(&c, whole(t)) == Some(whole(v)), "at {t}");
@@ -28,13 +29,8 @@ fn a_point_repeats(rt: HostRuntime) -> Result<(), Fail> {
     for t in [0, 1, 3, 5] {
         assert!(rt; value(&c, whole(t)).is_none(), "at {t}");
     }
-    Ok(())
-}
-
-#[test]
-fn a_point_at_zero_stays(rt: HostRuntime) -> Result<(), Fail> {
-    let c = point(rt.alloc(), whole(0), whole(3))?;
-    assert!(rt; value(&c, whole(0)) == Some(whole(3)));
-    assert!(rt; value(&c, whole(1)).is_none());
+    let first = point(rt.alloc(), whole(0), whole(3))?;
+    assert!(rt; value(&first, whole(0)) == Some(whole(3)));
+    assert!(rt; value(&first, whole(1)).is_none());
     Ok(())
 }

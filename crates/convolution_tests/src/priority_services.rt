@@ -48,18 +48,14 @@ fn service<L: Ledger>(
     }
 }
 
+// A packet delays the first queue; a bucket goes before the last one.
 #[test]
-fn a_packet_delays_the_first_queue(rt: HostRuntime) -> Result<(), Fail> {
+fn what_the_others_leave(rt: HostRuntime) -> Result<(), Fail> {
     let found = service::<Brand>(rt.alloc(), Blank::new(1), 0, 0, 12000)?;
     let wanted = late(rt.alloc(), 100, whole(130), -13000)?;
     assert!(rt; equal(&found, &wanted));
-    Ok(())
-}
-
-#[test]
-fn a_bucket_goes_before_the_last_queue(rt: HostRuntime) -> Result<(), Fail> {
-    let found = service::<Brand>(rt.alloc(), Blank::new(1), 6000, 5, 0)?;
-    let wanted = late(rt.alloc(), 95, ratio(1400, 19), -7000)?;
-    assert!(rt; equal(&found, &wanted));
+    let last = service::<Brand>(rt.alloc(), Blank::new(1), 6000, 5, 0)?;
+    let slower = late(rt.alloc(), 95, ratio(1400, 19), -7000)?;
+    assert!(rt; equal(&last, &slower));
     Ok(())
 }

@@ -29,9 +29,10 @@ fn endless(alloc: Global) -> Result<Curve, OpFault> {
     segment_closure(alloc, Frac::one(), Extended::Inf, &line, 0)
 }
 
-// Where n values lie between 2 n and 3 n, the fewest of them; from 6 on there are such n for each time but 6.
+// Where n values lie between 2 n and 3 n, the fewest of them; from 6 on there are such n for each time but 6. Values
+// below 0 at 0 are as many as can be: each n below t.
 #[test]
-fn values_on_a_stretch_are_as_few_as_can_be(rt: HostRuntime) -> Result<(), Fail> {
+fn closures_of_segments(rt: HostRuntime) -> Result<(), Fail> {
     let c = constant(rt.alloc())?;
     for (t, v) in [(5, 2), (10, 4), (14, 6), (17, 6), (18, 8), (200, 68)] {
         assert!(rt; value(&c, ratio(t, 2)) == Some(ratio(v, 2)), "at {t}");
@@ -39,18 +40,12 @@ fn values_on_a_stretch_are_as_few_as_can_be(rt: HostRuntime) -> Result<(), Fail>
     for t in [0, 2, 4, 6, 7, 8, 12] {
         assert!(rt; value(&c, ratio(t, 2)).is_none(), "at {t}");
     }
-    Ok(())
-}
-
-// Values below 0 at 0 are as many as can be: each n below t.
-#[test]
-fn values_of_a_low_line_are_as_many_as_can_be(rt: HostRuntime) -> Result<(), Fail> {
-    let c = endless(rt.alloc())?;
+    let low = endless(rt.alloc())?;
     for (t, v) in [(3, 1), (4, 2), (5, 1), (6, 2), (101, 1)] {
-        assert!(rt; value(&c, ratio(t, 2)) == Some(ratio(v, 2)), "at {t}");
+        assert!(rt; value(&low, ratio(t, 2)) == Some(ratio(v, 2)), "at {t}");
     }
     for t in [0, 1, 2] {
-        assert!(rt; value(&c, ratio(t, 2)).is_none(), "at {t}");
+        assert!(rt; value(&low, ratio(t, 2)).is_none(), "at {t}");
     }
     Ok(())
 }

@@ -1,9 +1,8 @@
 -- Cells of rows, and rows of which some cell is not empty.
-use Rattle.std.proofs.Common.{◌≡◌, ℕ, zero, suc, ◌+◌, ◌<◌, Bool, true, false, List, [], ◌∷◌, ◌++◌, length, map, drop, get_or, refl, sym, ap, ◌∙◌, arith, append_assoc, append-nil}
-use Rattle.std.specs.List.{list_all}
+use Rattle.std.proofs.Common.{◌≡◌, ℕ, zero, suc, ◌+◌, ◌<◌, true, false, List, [], ◌∷◌, ◌++◌, length, drop, get_or, refl, sym, ap, ◌∙◌, append_assoc, append-nil}
 use Rattle.std.proofs.lemmas.List.{drop_more}
-use Rattle.csv.specs.Records.{field_at, trimmed}
-use Rattle.csv_rows.specs.Rows.{Row, cell, is_empty, is_blank, used_of, used}
+use Rattle.csv.specs.Records.{field_at}
+use Rattle.csv_rows.specs.Rows.{Row, LinedRow, cell, is_empty, is_blank, used_of, used}
 
 cell_is : (row : Row) (k : ℕ) → get_or row k [] ≡ cell row k
 unfolding field_at
@@ -20,7 +19,7 @@ blank_more row k h e = ap is_blank (drop_cell row k h) ∙ rw e refl
 pub not_blank : (row : Row) (k : ℕ) → k < length row → is_empty (cell row k) ≡ false → is_blank (drop k row) ≡ false
 not_blank row k h e = ap is_blank (drop_cell row k h) ∙ rw e refl
 
-pub used_push : (rows : List Row) (row : Row) → used (rows ++ row ∷ []) ≡ used rows ++ used_of (map trimmed row)
+pub used_push : (rows : List LinedRow) (row : LinedRow) → used (rows ++ row ∷ []) ≡ used rows ++ used_of row
 unfolding used
-used_push [] row = append-nil (used_of (map trimmed row))
-used_push (r ∷ rows) row = ap (λ (rs : List Row). used_of (map trimmed r) ++ rs) (used_push rows row) ∙ sym (append_assoc (used_of (map trimmed r)) (used rows) (used_of (map trimmed row)))
+used_push [] row = append-nil (used_of row)
+used_push (r ∷ rows) row = ap (λ (rs : List LinedRow). used_of r ++ rs) (used_push rows row) ∙ sym (append_assoc (used_of r) (used rows) (used_of row))

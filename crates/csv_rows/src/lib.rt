@@ -4,5 +4,4 @@
 mod lines;
 mod rows;
 
-pub use lines::{Lines, lines_of};
 pub use rows::{TableRow, cell, read_table};

@@ -1,7 +1,7 @@
 //! The rows of a table.
 
 ghost use Rattle.std.specs.Prelude.{◌≡◌, ◌++◌, map, IfOk, OnOk};
-ghost use Rattle.csv.specs.Records.{fields_of, trimmed};
+ghost use Rattle.csv.specs.Records.{fields_of};
 ghost use Rattle.csv_rows.specs.Rows as spec;
 
 use crate::lines::lines_of;
@@ -39,8 +39,8 @@ fn is_blank(row: &ByteRecord) -> bool
 
 // Puts a row behind others, unless all its cells are empty.
 fn push_row(rows: &mut Vec<TableRow>, line: usize, mut cells: ByteRecord) -> Result<(), AllocError>
-    ensures { OnOk result (map spec.cells_of rows.new.items
-        ≡ map spec.cells_of rows.old.items ++ spec.used_of (map trimmed (fields_of cells))) }
+    ensures { OnOk result (map spec.lined_of rows.new.items
+        ≡ map spec.lined_of rows.old.items ++ spec.used_of (line, fields_of cells)) }
 {
     cells.trim()?;
     if !is_blank(&cells) {
@@ -49,9 +49,9 @@ fn push_row(rows: &mut Vec<TableRow>, line: usize, mut cells: ByteRecord) -> Res
     Ok(())
 }
 
-/// The rows of a text of which some cell is not empty.
+/// The rows of a text of which some cell is not empty, each with the line on which it begins.
 pub fn read_table(alloc: Global, text: &[u8]) -> Result<Vec<TableRow>, AllocError>
-    ensures { IfOk result (λ rows. spec.AreRowsOf text.now (map spec.cells_of rows.items)) }
+    ensures { IfOk result (λ rows. spec.AreLinedRowsOf text.now (map spec.lined_of rows.items)) }
 {
     let reader = ReaderBuilder::new()
         .has_headers(false)

@@ -17,15 +17,7 @@ use Rattle.upp_limits.specs.Sized.{grid_of}
 use Rattle.upp_limits.proofs.NarrowSizes.{slope_time_divides}
 use Rattle.upp_normal.proofs.Bends.{bends_on}
 use Rattle.curve_call.specs.Operands.{AreOperands, IsMadeOf}
-
--- a tail from `from` on whose first period ends with the window
-pub record TailOf (z : Sizes) (end from period rise : ℚ) : Type 0 where
-  pub nonneg : int (pos 0) ≤ℚ from
-  pub some : int (pos 0) <ℚ period
-  pub ends : from +ℚ period ≡ end
-  pub time : Whole z.dt from
-  pub whole : Whole z.dt period
-  pub value : Whole (grid_of z) rise
+pub use Rattle.curve_call.specs.Tails.{TailOf}
 
 pub grids_nest : (z : Sizes) → z.dt * z.ds ∣ grid_of z
 grids_nest z = subst (λ n. n ∣ grid_of z) (mul_comm z.ds z.dt) (slope_time_divides z)

@@ -2,6 +2,7 @@ pub mod Times
 pub mod CallWindows
 pub mod FirstWindows
 pub mod Frames
+pub mod Tails
 pub mod Rises
 pub mod Answering
 pub mod Again

@@ -20,6 +20,7 @@ pub mod FoundNumbers
 pub mod FoundGaps
 pub mod LateEnough
 pub mod BoundsFound
+pub mod RisesFound
 pub mod SoonEnough
 pub mod OwnExtremes
 pub mod ConvolveCalls

@@ -1,6 +1,6 @@
 -- From when on a convolution is the part in which the slower curve repeats. (Bouillard, Boyer and Le Corronc: the
 -- convolution of two curves repeats with the smaller of their rates.)
-use Rattle.std.specs.Prelude.{◌≡◌, ℕ, ◌≤◌, pos}
+use Rattle.std.specs.Prelude.{◌≡◌, ℕ, pos}
 use Rattle.upp_limits.specs.rational.specs.Rational.{ℚ, ◌+ℚ◌, ◌≤ℚ◌, ◌<ℚ◌, int}
 use Rattle.upp_limits.specs.rational.specs.Grid.{Whole}
 use Rattle.upp_limits.specs.rational.specs.Extended.{Ext, ◌<ₑ◌}

@@ -6,3 +6,4 @@ pub mod Scans
 pub mod PartGaps
 pub mod SpanElements
 pub mod ConvolveCall
+pub mod Rises

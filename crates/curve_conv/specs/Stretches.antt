@@ -14,7 +14,7 @@ use Rattle.upp_normal.specs.declared.ahead.Stretch.{Stretch}
 use Rattle.upp_limits.specs.Limits.{Sizes}
 use Rattle.upp_normal.specs.Operand.{AreLimited}
 use Rattle.upp_normal.specs.Ahead.{GoesOn, IsBeforeNext, AtNext}
-use Rattle.upp_normal.proofs.AnswerRoom.{IsCrossing}
+use Rattle.upp_normal.specs.Crossings.{IsCrossing}
 use Rattle.element_envelope.specs.ElementRoom.{OperandElement}
 use Rattle.element_envelope.specs.SumWindows.{SumStart, SumValueAt, SumLineAt}
 use Rattle.curve_conv.specs.declared.lower.Under.{Under}

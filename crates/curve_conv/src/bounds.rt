@@ -6,9 +6,10 @@ ghost use Rattle.upp_limits.specs.upp_curve.specs.Steady.{steady, rise_over};
 ghost use Rattle.curve_conv.specs.Late.{IsLateAfter, IsLateCall, IsPartsCall};
 ghost use Rattle.curve_conv.specs.LateBounds.{IsLateBounds, IsSlowerBounds};
 
-use crate::extremes::{checked_sum, depth_over, extremes_of, most_gap, rest, top_over};
+use crate::extremes::{extremes_of, most_gap, rest};
 use crate::number::lead;
 use crate::order::is_slower_curve;
+use crate::rises::rise_before;
 use crate::rows::Scan;
 use plain_operators::curve_call::{Bounds, Side, begin, is_slower, rise_over, zero_level};
 use upp_limits::fraction128::{Frac, is_less};
@@ -28,24 +29,25 @@ pub fn periods_over(gap: Frac, lead: Frac) -> Option<u128>
     }
 }
 
-// A number of periods that is enough where the slower curve repeats within a period: by the most that it is a period after
-// the times before `first`, from which on it repeats, and the least that it is before. None where it repeats later.
+// A number of periods that is enough, by the most that the slower curve is a period later above itself before `first`,
+// from which on it repeats: 0 where the faster one rises as much in a period. None where it rises less, and the slower
+// one repeats later than a period; or where the slower one has very many pieces there.
 fn soon_number(s: &Scan, first: Frac, lead: Frac, from: Frac, period: Frac) -> Option<u128>
     requires call { IsLateCall s.now.first.now s.now.second.now from period s.now.end }
     requires first { first ≡ steady s.now.first.now }
-    requires before { int (pos 0) <ℚ first }
     requires lead { lead ≡ rise_over s.now.second.now period -ℚ rise_over s.now.first.now period }
     requires some { int (pos 0) <ℚ lead }
     ensures { IfSome result (IsLateAfter s.now.first.now s.now.second.now from period) }
 {
+    let rise = rise_over(s.first, period);
+    let most = rise_before(s.first, first, period, rise)?;
+    if !is_less(rise_over(s.second, period), most) {
+        return Some(0);
+    }
     if is_less(period, first) {
         return None;
     }
-    let end = checked_sum(first, period)?;
-    let top = top_over(s.first, period, end)?;
-    let depth = depth_over(s.first, Frac::zero(), end)?;
-    let gap = checked_sum(top, depth)?;
-    let gained = rest(gap, rise_over(s.first, period))?;
+    let gained = rest(most, rise)?;
     periods_over(gained, lead)
 }
 
@@ -69,7 +71,6 @@ fn far_number(s: &Scan, first: Frac, lead: Frac, from: Frac, period: Frac) -> Op
 fn enough_number(s: &Scan, first: Frac, lead: Frac, from: Frac, period: Frac) -> Option<u128>
     requires call { IsLateCall s.now.first.now s.now.second.now from period s.now.end }
     requires first { first ≡ steady s.now.first.now }
-    requires before { int (pos 0) <ℚ first }
     requires lead { lead ≡ rise_over s.now.second.now period -ℚ rise_over s.now.first.now period }
     requires some { int (pos 0) <ℚ lead }
     ensures { IfSome result (IsLateAfter s.now.first.now s.now.second.now from period) }
@@ -99,9 +100,10 @@ fn bounds_of(s: &Scan, from: Frac, period: Frac) -> Option<Bounds>
 }
 
 /// Bounds of what `late_periods` looks for; 0 and 0 for curves of one rate, and for a slower one that repeats from 0 on.
-/// As many periods as the upper one are enough too. It is found from the slower curve alone, where that repeats within a
-/// period: from what it is before, and a period later. Else it is found from one period of each curve and what the slower
-/// one is before; then there may be none where the slower one falls in the long run or is infinite in its period, or the
+/// As many periods as the upper one are enough too. It is found from how much more the slower curve is a period later
+/// than before it repeats, where the faster one rises as much in a period, or the slower one repeats within a period;
+/// not where it has very many pieces there. Else it is found from one period of each curve and what the slower one is
+/// before; then there may be none where the slower one falls in the long run or is infinite in its period, or the
 /// faster one is infinite where its period begins. No memory is taken, and nothing is unrolled.
 pub fn late_bounds(f: &Curve, g: &Curve, from: Frac, period: Frac, end: Frac) -> Option<Bounds>
     requires { IsPartsCall f.now g.now from period end }

@@ -14,6 +14,7 @@ mod operator;
 mod order;
 mod parts;
 mod pieces;
+mod rises;
 mod rows;
 
 pub use bounds::{late_bounds, periods_over};

@@ -17,7 +17,7 @@ use Rattle.upp_normal.specs.Room.{PieceHasRoom}
 use Rattle.upp_limits.specs.Sized.{ValueStands, grid_of}
 use Rattle.element_envelope.specs.SumWindows.{SumWindow}
 use Rattle.element_envelope.specs.Arches.{Arches}
-use Rattle.plain_operators.specs.curve_call.proofs.TailGrids.{TailOf}
+use Rattle.plain_operators.specs.curve_call.specs.Tails.{TailOf}
 
 -- ---- pairs of times
 -- a time u from 0 on and up to `reach` at which g is finite, and f at t + u

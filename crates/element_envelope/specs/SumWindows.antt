@@ -10,7 +10,7 @@ use Rattle.upp_limits.specs.upp_curve.specs.declared.affine_segment.line.Piece.{
 use Rattle.upp_limits.specs.Limits.{Sizes}
 use Rattle.upp_limits.specs.upp_curve.specs.affine_segment.Pieces.{Each, StartsAtZero}
 use Rattle.upp_limits.specs.Sized.{times_largest}
-use Rattle.curve_call.specs.upp_normal.proofs.AnswerRoom.{IsCrossing}
+use Rattle.curve_call.specs.upp_normal.specs.Crossings.{IsCrossing}
 use Rattle.element_envelope.specs.ElementRoom.{SumLine}
 
 -- a time of the window, on the grid of times or where two lines cross

@@ -1,12 +1,16 @@
 pub mod Members
 pub mod OneOrders
+pub mod OneCycles
 pub mod Forward
 pub mod Returns
 pub mod Chains
+pub mod Behind
 pub mod Rings
 pub mod ListSets
 pub mod PathSteps
 pub mod LoopBacks
 pub mod Losses
 pub mod Turns
+pub mod Deciding
+pub mod Existing
 pub mod FlowSteps

@@ -9,7 +9,5 @@ pub mod Plain
 pub mod Traces
 pub mod NetRoutes
 pub mod net_graph
-pub mod index_links
-pub mod queue_sched
 pub mod stated_runs
 pub use Rattle.run_laws as run_laws

@@ -1,4 +1,5 @@
 pub mod Setups
+pub mod CardsAt
 pub mod DueSteps
 pub mod Simulated
 pub mod Laws

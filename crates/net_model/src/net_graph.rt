@@ -7,5 +7,5 @@ mod laws;
 mod placing;
 mod waits;
 
-pub use laws::{one_order, order_goes_forward, order_has_each_server, order_or_cycle};
+pub use laws::{one_cycle, one_order, order_goes_forward, order_has_each_server, order_or_cycle};
 pub use placing::{GraphFault, order};

@@ -15,18 +15,18 @@ use Rattle.net_model.specs.declared.server.ServiceKind.{ServiceKind}
 use Rattle.net_model.specs.Accepted.{IsVersion, IsLength, HasFewQueues, IsInQuantum, IsOfKind, IsServer, IsArrivalCurve, IsHop, IsFlow, IsAccepted}
 use Rattle.net_model.specs.Names.{IsName, DifferInName}
 use Rattle.net_model.specs.Networks.{Net, NetServer, NetFlow}
-use Rattle.net_text.specs.declared.net_draft.hop.Hop.{Hop}
-use Rattle.net_text.specs.declared.net_draft.server_draft.ServerDraft.{ServerDraft}
-use Rattle.net_text.specs.declared.net_draft.flow_draft.FlowDraft.{FlowDraft}
-use Rattle.net_text.specs.declared.net_draft.draft.Draft.{Draft}
-use Rattle.net_text.specs.net_draft.CurveTexts.{text_of}
-use Rattle.net_text.specs.net_draft.DraftViews.{draft_text}
-use Rattle.net_text.specs.net_draft.Kept.{IsServerDraft, IsFlowDraft, IsDraft}
-use Rattle.net_text.specs.net_draft.Laws.{kind_of}
-use Rattle.net_text.specs.net_draft.Texts.{CurveText, ServerText, FlowText, IsArrivalOf, IsHopOf, IsWithinQuantum}
-use Rattle.net_text.specs.net_draft.Views.{server_text, flow_text}
-use Rattle.net_text.proofs.net_draft.MayStand.{made_may_stand}
-use Rattle.net_text.proofs.net_draft.Named.{All-unmap}
+use Rattle.net_draft.specs.declared.hop.Hop.{Hop}
+use Rattle.net_draft.specs.declared.server_draft.ServerDraft.{ServerDraft}
+use Rattle.net_draft.specs.declared.flow_draft.FlowDraft.{FlowDraft}
+use Rattle.net_draft.specs.declared.draft.Draft.{Draft}
+use Rattle.net_draft.specs.CurveTexts.{text_of}
+use Rattle.net_draft.specs.DraftViews.{draft_text}
+use Rattle.net_draft.specs.Kept.{IsServerDraft, IsFlowDraft, IsDraft}
+use Rattle.net_draft.specs.Laws.{kind_of}
+use Rattle.net_draft.specs.Texts.{CurveText, ServerText, FlowText, IsArrivalOf, IsHopOf, IsWithinQuantum}
+use Rattle.net_draft.specs.Views.{server_text, flow_text}
+use Rattle.net_draft.proofs.MayStand.{made_may_stand}
+use Rattle.net_draft.proofs.Named.{All-unmap}
 use Rattle.net_text.specs.Becoming.{Becomes}
 use Rattle.net_text.specs.Built.{IsServerOf, IsFlowOf, IsLiveFlowOf, IsBuilt}
 use Rattle.net_text.proofs.Zips.{zip_unmap, zip_length, partner, zip_all, zip_pairs}

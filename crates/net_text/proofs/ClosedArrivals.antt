@@ -6,15 +6,15 @@ use Rattle.upp_limits.specs.upp_curve.specs.Curve.{SpecCurve}
 use Rattle.upp_limits.specs.declared.own_limits.OverLimit.{OverLimit}
 use Rattle.net_model.specs.Accepted.{IsArrivalCurve}
 use Rattle.net_model.specs.declared.fault.NetFault.{NetFault}
-use Rattle.net_text.specs.declared.net_draft.curve_draft.CurveDraft.{CurveDraft}
-use Rattle.net_text.specs.declared.net_draft.fault.DraftFault.{DraftFault}
-use Rattle.net_text.specs.declared.net_draft.fault.DraftFault.TheVariants as answers
-use Rattle.net_text.specs.net_draft.Faults.{fault_of}
-use Rattle.net_text.specs.net_draft.CurveTexts.{text_of}
-use Rattle.net_text.specs.net_draft.Kept.{IsArrivalDraft}
-use Rattle.net_text.specs.net_draft.Made.{IsMade}
-use Rattle.net_text.specs.net_draft.Texts.{CurveText}
-use Rattle.net_text.proofs.net_draft.MayStand.{made_may_stand}
+use Rattle.net_draft.specs.declared.curve_draft.CurveDraft.{CurveDraft}
+use Rattle.net_draft.specs.declared.fault.DraftFault.{DraftFault}
+use Rattle.net_draft.specs.declared.fault.DraftFault.TheVariants as answers
+use Rattle.net_draft.specs.Faults.{fault_of}
+use Rattle.net_draft.specs.CurveTexts.{text_of}
+use Rattle.net_draft.specs.Kept.{IsArrivalDraft}
+use Rattle.net_draft.specs.Made.{IsMade}
+use Rattle.net_draft.specs.Texts.{CurveText}
+use Rattle.net_draft.proofs.MayStand.{made_may_stand}
 use Rattle.net_text.specs.Becoming.{IsCurveOf, Becomes, FailsAt, IsLimitFault, limit_kind, limit_fault}
 use Rattle.net_text.specs.Closing.{Closes}
 

@@ -4,11 +4,11 @@ use Rattle.std.proofs.Common.{◌≡◌, ℕ, List, Ok, inr}
 use Rattle.upp_limits.specs.upp_curve.specs.Curve.{SpecCurve}
 use Rattle.upp_limits.specs.declared.own_limits.OverLimit.{OverLimit}
 use Rattle.net_model.specs.Networks.{NetServer}
-use Rattle.net_text.specs.declared.net_draft.fault.DraftFault.{DraftFault}
-use Rattle.net_text.specs.declared.net_draft.fault.DraftFault.TheVariants as answers
-use Rattle.net_text.specs.net_draft.Drafts.{draft_of}
-use Rattle.net_text.specs.net_draft.Faults.{fault_of}
-use Rattle.net_text.specs.net_draft.Texts.{DraftText}
+use Rattle.net_draft.specs.declared.fault.DraftFault.{DraftFault}
+use Rattle.net_draft.specs.declared.fault.DraftFault.TheVariants as answers
+use Rattle.net_draft.specs.Drafts.{draft_of}
+use Rattle.net_draft.specs.Faults.{fault_of}
+use Rattle.net_draft.specs.Texts.{DraftText}
 use Rattle.net_text.specs.Built.{IsServerOf}
 use Rattle.net_text.specs.Firsts.{services_from, arrivals_from, FailsFirst}
 use Rattle.net_text.specs.Reading.{FailsFile}

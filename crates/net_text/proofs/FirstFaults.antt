@@ -4,9 +4,9 @@ use Rattle.std.proofs.Common.{sym, ap, ◌∙◌, subst, inl, inr}
 use Rattle.upp_limits.specs.declared.own_limits.OverLimit.{OverLimit}
 use Rattle.upp_limits.specs.declared.own_limits.OverLimit.TheVariants.{TooMany, TooWide}
 use Rattle.net_model.specs.declared.fault.NetKind.TheVariants.{NoMemory}
-use Rattle.net_text.specs.net_draft.FaultKinds.{IsOfTables}
-use Rattle.net_text.specs.net_draft.Faults.{Fault}
-use Rattle.net_text.proofs.net_draft.KindsOfTables.{faults_are_of_tables}
+use Rattle.net_draft.specs.FaultKinds.{IsOfTables}
+use Rattle.net_draft.specs.Faults.{Fault}
+use Rattle.net_draft.proofs.KindsOfTables.{faults_are_of_tables}
 use Rattle.net_text.specs.Becoming.{limit_kind}
 use Rattle.net_text.specs.Firsts.{PlacedCurve, FirstCurveOver, curves_of}
 use Rattle.net_text.specs.FileLaws.{NoFaultIsWantOfMemory}

@@ -5,14 +5,14 @@ use Rattle.std.proofs.lemmas.List.{drop_more}
 use Rattle.upp_limits.specs.upp_curve.specs.Curve.{SpecCurve}
 use Rattle.upp_limits.specs.declared.own_limits.OverLimit.{OverLimit}
 use Rattle.net_model.specs.Networks.{NetServer}
-use Rattle.net_text.specs.declared.net_draft.fault.DraftFault.{DraftFault}
-use Rattle.net_text.specs.declared.net_draft.fault.DraftFault.TheVariants as answers
-use Rattle.net_text.specs.declared.net_draft.server_draft.ServerDraft.{ServerDraft}
-use Rattle.net_text.specs.declared.net_draft.flow_draft.FlowDraft.{FlowDraft}
-use Rattle.net_text.specs.net_draft.CurveTexts.{text_of}
-use Rattle.net_text.specs.net_draft.Faults.{Fault, fault_of}
-use Rattle.net_text.specs.net_draft.Texts.{ServerText}
-use Rattle.net_text.specs.net_draft.Views.{server_text, flow_text}
+use Rattle.net_draft.specs.declared.fault.DraftFault.{DraftFault}
+use Rattle.net_draft.specs.declared.fault.DraftFault.TheVariants as answers
+use Rattle.net_draft.specs.declared.server_draft.ServerDraft.{ServerDraft}
+use Rattle.net_draft.specs.declared.flow_draft.FlowDraft.{FlowDraft}
+use Rattle.net_draft.specs.CurveTexts.{text_of}
+use Rattle.net_draft.specs.Faults.{Fault, fault_of}
+use Rattle.net_draft.specs.Texts.{ServerText}
+use Rattle.net_draft.specs.Views.{server_text, flow_text}
 use Rattle.net_text.specs.Becoming.{Becomes, FailsAt}
 use Rattle.net_text.specs.Built.{IsServerOf}
 use Rattle.net_text.specs.Firsts.{PlacedCurve, service_place, arrival_place, services_from, arrivals_from, Fits, FirstCurveOver, FailsFirst}

@@ -1,12 +1,12 @@
 -- Steps of the closures of some flows, as a loop counts them.
 use Rattle.std.proofs.Common.{◌≡◌, ℕ, ◌+◌, ◌≤◌, ◌<◌, Bool, true, false, List, [], ◌∷◌, ◌++◌, length, map, get_or, take, Ok, refl, sym, ap, ◌∙◌, subst, arith, inl, inr, true≢false}
 use Rattle.upp_limits.specs.upp_curve.specs.Curve.{SpecCurve}
-use Rattle.net_text.specs.declared.net_draft.flow_draft.FlowDraft.{FlowDraft}
-use Rattle.net_text.specs.net_draft.CurveTexts.{text_of}
-use Rattle.net_text.specs.net_draft.Drafts.{draft_of}
-use Rattle.net_text.specs.net_draft.Texts.{CurveText, FlowText, DraftText}
-use Rattle.net_text.specs.net_draft.Views.{flow_text}
-use Rattle.net_text.proofs.net_draft.OverNone.{made_or_over}
+use Rattle.net_draft.specs.declared.flow_draft.FlowDraft.{FlowDraft}
+use Rattle.net_draft.specs.CurveTexts.{text_of}
+use Rattle.net_draft.specs.Drafts.{draft_of}
+use Rattle.net_draft.specs.Texts.{CurveText, FlowText, DraftText}
+use Rattle.net_draft.specs.Views.{flow_text}
+use Rattle.net_draft.proofs.OverNone.{made_or_over}
 use Rattle.net_text.specs.Becoming.{IsCurveOf}
 use Rattle.net_text.specs.Folds.{FoldOf, HasTaken, FoldsOf, IsSumOf, StepsAtMost}
 use Rattle.net_text.proofs.OneThing.{one_made, same_draft, draft_or_fault}

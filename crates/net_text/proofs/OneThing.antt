@@ -8,10 +8,10 @@ use Rattle.upp_limits.specs.declared.own_limits.OverLimit.{OverLimit}
 use Rattle.upp_limits.specs.upp_curve.proofs.OneForm.{normal_unique}
 use Rattle.upp_limits.proofs.OneLimit.{one_limit}
 use Rattle.net_model.specs.Networks.{Net, NetServer, NetFlow}
-use Rattle.net_text.specs.net_draft.Faults.{Fault, Read}
-use Rattle.net_text.specs.net_draft.Made.{IsMade}
-use Rattle.net_text.proofs.net_draft.OverNone.{made_or_over}
-use Rattle.net_text.specs.net_draft.Texts.{CurveText, Bucket, Stair, RateLatency, Gate, Listed, ServerText, FlowText, DraftText}
+use Rattle.net_draft.specs.Faults.{Fault, Read}
+use Rattle.net_draft.specs.Made.{IsMade}
+use Rattle.net_draft.proofs.OverNone.{made_or_over}
+use Rattle.net_draft.specs.Texts.{CurveText, Bucket, Stair, RateLatency, Gate, Listed, ServerText, FlowText, DraftText}
 use Rattle.net_text.specs.Becoming.{IsCurveOf, Becomes, limit_fault}
 use Rattle.net_text.specs.Built.{IsServerOf, IsFlowOf, IsLiveFlowOf, IsBuilt}
 use Rattle.net_text.specs.Closing.{IsClosureOf, HasOneLimit}

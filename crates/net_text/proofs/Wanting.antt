@@ -6,13 +6,13 @@ use Rattle.upp_limits.specs.upp_curve.specs.Curve.{SpecCurve}
 use Rattle.net_model.specs.Networks.{NetFlow}
 use Rattle.net_model.specs.declared.fault.NetFault.{NetFault}
 use Rattle.net_model.specs.declared.fault.NetKind.TheVariants.{NoMemory}
-use Rattle.net_text.specs.declared.net_draft.fault.DraftFault.{DraftFault}
-use Rattle.net_text.specs.declared.net_draft.fault.DraftFault.TheVariants as answers
-use Rattle.net_text.specs.declared.net_draft.flow_draft.FlowDraft.{FlowDraft}
-use Rattle.net_text.specs.net_draft.CurveTexts.{text_of}
-use Rattle.net_text.specs.net_draft.Faults.{fault_of}
-use Rattle.net_text.specs.net_draft.Texts.{CurveText, FlowText}
-use Rattle.net_text.specs.net_draft.Views.{flow_text}
+use Rattle.net_draft.specs.declared.fault.DraftFault.{DraftFault}
+use Rattle.net_draft.specs.declared.fault.DraftFault.TheVariants as answers
+use Rattle.net_draft.specs.declared.flow_draft.FlowDraft.{FlowDraft}
+use Rattle.net_draft.specs.CurveTexts.{text_of}
+use Rattle.net_draft.specs.Faults.{fault_of}
+use Rattle.net_draft.specs.Texts.{CurveText, FlowText}
+use Rattle.net_draft.specs.Views.{flow_text}
 use Rattle.subadd_closure.specs.FoldMemory.{CloseWants}
 use Rattle.subadd_closure.specs.FoldWork.{fold_work}
 use Rattle.net_text.specs.Becoming.{IsCurveOf, IsTold}

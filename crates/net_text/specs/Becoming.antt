@@ -8,11 +8,11 @@ use Rattle.upp_limits.specs.declared.own_limits.OverLimit.TheVariants.{TooMany, 
 use Rattle.net_model.specs.declared.fault.NetKind.{NetKind}
 use Rattle.net_model.specs.declared.fault.NetKind.TheVariants.{CurveTooMany, CurveTooWide, NoMemory}
 use Rattle.net_model.specs.declared.fault.NetFault.{NetFault}
-use Rattle.net_text.specs.declared.net_draft.fault.DraftFault.{DraftFault}
-use Rattle.net_text.specs.declared.net_draft.fault.DraftFault.TheVariants as answers
-use Rattle.net_text.specs.net_draft.Faults.{Fault, fault_of}
-use Rattle.net_text.specs.net_draft.Made.{IsMade}
-use Rattle.net_text.specs.net_draft.Texts.{CurveText}
+use Rattle.net_draft.specs.declared.fault.DraftFault.{DraftFault}
+use Rattle.net_draft.specs.declared.fault.DraftFault.TheVariants as answers
+use Rattle.net_draft.specs.Faults.{Fault, fault_of}
+use Rattle.net_draft.specs.Made.{IsMade}
+use Rattle.net_draft.specs.Texts.{CurveText}
 use Rattle.net_text.specs.Closing.{Closes}
 
 -- the curve of a text

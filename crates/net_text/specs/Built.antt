@@ -4,8 +4,8 @@ use Rattle.std.specs.List.{AllZip}
 use Rattle.upp_limits.specs.upp_curve.specs.Curve.{SpecCurve}
 use Rattle.upp_limits.specs.declared.own_limits.OverLimit.{OverLimit}
 use Rattle.net_model.specs.Networks.{Net, NetServer, NetFlow}
-use Rattle.net_text.specs.net_draft.Laws.{kind_of}
-use Rattle.net_text.specs.net_draft.Texts.{ServerText, FlowText, DraftText}
+use Rattle.net_draft.specs.Laws.{kind_of}
+use Rattle.net_draft.specs.Texts.{ServerText, FlowText, DraftText}
 use Rattle.net_text.specs.Becoming.{BecomesItself, Becomes}
 
 -- the server of a text

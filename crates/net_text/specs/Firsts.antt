@@ -3,10 +3,10 @@
 use Rattle.std.specs.Prelude.{◌⊎◌, ◌+◌, ℕ, List, [], ◌∷◌, ◌++◌, Bool, false, codes, Ok}
 use Rattle.upp_limits.specs.upp_curve.specs.Curve.{SpecCurve}
 use Rattle.upp_limits.specs.declared.own_limits.OverLimit.{OverLimit}
-use Rattle.net_text.specs.declared.net_draft.fault.DraftFault.{DraftFault}
-use Rattle.net_text.specs.declared.net_draft.fault.DraftFault.TheVariants as answers
-use Rattle.net_text.specs.net_draft.Faults.{Fault, fault_of, under, nth}
-use Rattle.net_text.specs.net_draft.Texts.{CurveText, ServerText, FlowText, DraftText}
+use Rattle.net_draft.specs.declared.fault.DraftFault.{DraftFault}
+use Rattle.net_draft.specs.declared.fault.DraftFault.TheVariants as answers
+use Rattle.net_draft.specs.Faults.{Fault, fault_of, under, nth}
+use Rattle.net_draft.specs.Texts.{CurveText, ServerText, FlowText, DraftText}
 use Rattle.net_text.specs.Becoming.{Becomes, IsOverAt, FailsAt}
 
 -- the text of a curve, its place, and whether its closure is asked for

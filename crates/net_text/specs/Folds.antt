@@ -2,10 +2,10 @@
 use Rattle.std.specs.Prelude.{◌≡◌, ◌⊎◌, ◌+◌, ◌≤◌, ℕ, List, [], ◌∷◌, Bool, true, false, Ok, Err}
 use Rattle.upp_limits.specs.upp_curve.specs.Curve.{SpecCurve}
 use Rattle.upp_limits.specs.declared.own_limits.OverLimit.{OverLimit}
-use Rattle.net_text.specs.net_draft.Drafts.{draft_of}
-use Rattle.net_text.specs.net_draft.Faults.{Fault}
-use Rattle.net_text.specs.net_draft.Made.{IsMade}
-use Rattle.net_text.specs.net_draft.Texts.{CurveText, FlowText, DraftText}
+use Rattle.net_draft.specs.Drafts.{draft_of}
+use Rattle.net_draft.specs.Faults.{Fault}
+use Rattle.net_draft.specs.Made.{IsMade}
+use Rattle.net_draft.specs.Texts.{CurveText, FlowText, DraftText}
 use Rattle.net_text.specs.Becoming.{IsCurveOf}
 
 -- a curve that is over a limit has no fold

@@ -8,4 +8,3 @@ pub mod Folds
 pub mod FoldLimits
 pub mod Wants
 pub mod FileLaws
-pub mod net_draft

@@ -5,11 +5,11 @@ use Rattle.upp_limits.specs.declared.own_limits.OverLimit.{OverLimit}
 use Rattle.net_model.specs.Networks.{Net}
 use Rattle.net_model.specs.declared.fault.NetFault.{NetFault}
 use Rattle.net_model.specs.declared.fault.NetKind.TheVariants.{NoMemory}
-use Rattle.net_text.specs.declared.net_draft.fault.DraftFault.{DraftFault}
-use Rattle.net_text.specs.declared.net_draft.fault.DraftFault.TheVariants as answers
-use Rattle.net_text.specs.net_draft.Drafts.{draft_of}
-use Rattle.net_text.specs.net_draft.Faults.{Fault, fault_of}
-use Rattle.net_text.specs.net_draft.Texts.{DraftText}
+use Rattle.net_draft.specs.declared.fault.DraftFault.{DraftFault}
+use Rattle.net_draft.specs.declared.fault.DraftFault.TheVariants as answers
+use Rattle.net_draft.specs.Drafts.{draft_of}
+use Rattle.net_draft.specs.Faults.{Fault, fault_of}
+use Rattle.net_draft.specs.Texts.{DraftText}
 use Rattle.net_text.specs.Built.{IsBuilt}
 use Rattle.net_text.specs.Firsts.{FirstCurveOver, curves_of}
 

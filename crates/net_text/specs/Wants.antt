@@ -4,9 +4,9 @@ use Rattle.std.specs.Prelude.{◌≡◌, ◌⊎◌, ℕ, ◌+◌, List, [], ◌�
 use Rattle.std.specs.List.{AllZip}
 use Rattle.upp_limits.specs.upp_curve.specs.Curve.{SpecCurve}
 use Rattle.net_model.specs.Networks.{NetServer, NetFlow}
-use Rattle.net_text.specs.net_draft.Drafts.{draft_of}
-use Rattle.net_text.specs.net_draft.Made.{IsOverNone}
-use Rattle.net_text.specs.net_draft.Texts.{CurveText, FlowText, DraftText}
+use Rattle.net_draft.specs.Drafts.{draft_of}
+use Rattle.net_draft.specs.Made.{IsOverNone}
+use Rattle.net_draft.specs.Texts.{CurveText, FlowText, DraftText}
 use Rattle.subadd_closure.specs.FoldMemory.{CloseWants}
 use Rattle.subadd_closure.specs.FoldWork.{fold_work}
 use Rattle.net_text.specs.Becoming.{IsCurveOf}

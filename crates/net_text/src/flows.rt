@@ -3,9 +3,9 @@
 ghost use Rattle.std.specs.Prelude.{◌≡◌, ◌≤◌, ◌+◌, ℕ, map, All, Err, IfOk, IfErr};
 ghost use Rattle.std.specs.List.{AllZip};
 ghost use Rattle.net_model.specs.Views.{flow_of, flows_of};
-ghost use Rattle.net_text.specs.net_draft.CurveTexts.{text_of};
-ghost use Rattle.net_text.specs.net_draft.Kept.{IsArrivalDraft};
-ghost use Rattle.net_text.specs.net_draft.Views.{flow_text};
+ghost use Rattle.net_draft.specs.CurveTexts.{text_of};
+ghost use Rattle.net_draft.specs.Kept.{IsArrivalDraft};
+ghost use Rattle.net_draft.specs.Views.{flow_text};
 ghost use Rattle.net_text.specs.Built.{IsFlowOf, IsLiveFlowOf};
 ghost use Rattle.net_text.specs.Folds.{FoldAtMost, HasTaken, FoldsOf};
 ghost use Rattle.net_text.specs.Firsts.{arrivals_from, FailsArrival, FailsFirst};
@@ -15,7 +15,7 @@ ghost use Rattle.subadd_closure.specs.FoldWork.{fold_work};
 
 use crate::arrivals::arrival_of;
 use crate::limits::place_of;
-use crate::net_draft::{DraftFault, FlowDraft, Hop};
+use net_draft::{DraftFault, FlowDraft, Hop};
 use net_model::Flow;
 use std::alloc::{AllocError, Global};
 use std::sync::ledger::Ledger;

@@ -6,7 +6,6 @@ mod closing;
 mod flows;
 mod laws;
 mod limits;
-pub mod net_draft;
 mod reading;
 mod servers;
 mod services;

@@ -2,10 +2,10 @@
 
 ghost use Rattle.std.specs.Prelude.{◌≡◌, IfOk};
 ghost use Rattle.std.specs.String.{string_bytes};
-ghost use Rattle.net_text.specs.net_draft.Faults.{under, nth};
+ghost use Rattle.net_draft.specs.Faults.{under, nth};
 ghost use Rattle.net_text.specs.Becoming.{limit_kind, IsLimitFault};
 
-use crate::net_draft::{DraftFault, nth, under};
+use net_draft::{DraftFault, nth, under};
 use net_model::{NetFault, NetKind};
 use std::alloc::{AllocError, Global};
 use upp_limits::OverLimit;

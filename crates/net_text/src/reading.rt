@@ -9,8 +9,8 @@ ghost use Rattle.net_text.specs.Wants.{FileWants};
 ghost use Rattle.subadd_closure.specs.FoldWork.{fold_work};
 
 use crate::flows::flows_of;
-use crate::net_draft::{DraftFault, read_draft};
 use crate::servers::servers_of;
+use net_draft::{DraftFault, read_draft};
 use net_model::{NetFault, NetKind, Network};
 use std::alloc::Global;
 use std::sync::ledger::Ledger;

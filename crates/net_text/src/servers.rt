@@ -3,17 +3,17 @@
 ghost use Rattle.std.specs.Prelude.{map, All, IfOk, IfErr};
 ghost use Rattle.std.specs.List.{AllZip};
 ghost use Rattle.net_model.specs.Views.{server_of, servers_of};
-ghost use Rattle.net_text.specs.net_draft.CurveTexts.{text_of};
-ghost use Rattle.net_text.specs.net_draft.Kept.{IsServerDraft};
-ghost use Rattle.net_text.specs.net_draft.Views.{server_text};
+ghost use Rattle.net_draft.specs.CurveTexts.{text_of};
+ghost use Rattle.net_draft.specs.Kept.{IsServerDraft};
+ghost use Rattle.net_draft.specs.Views.{server_text};
 ghost use Rattle.net_text.specs.Becoming.{BecomesItself, FailsAt};
 ghost use Rattle.net_text.specs.Built.{IsServerOf};
 ghost use Rattle.net_text.specs.Firsts.{service_place, services_from, FailsFirst};
 ghost use Rattle.net_text.specs.FoldLimits.{OverFold};
 
 use crate::limits::place_of;
-use crate::net_draft::{DraftFault, ServerDraft};
 use crate::services::{kind_of, service_of};
+use net_draft::{DraftFault, ServerDraft};
 use net_model::Server;
 use std::alloc::Global;
 

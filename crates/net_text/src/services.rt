@@ -2,15 +2,15 @@
 
 ghost use Rattle.std.specs.Prelude.{◌≡◌, Err, IfOk, IfErr};
 ghost use Rattle.std.specs.String.{string_bytes};
-ghost use Rattle.net_text.specs.net_draft.CurveTexts.{text_of};
-ghost use Rattle.net_text.specs.net_draft.Kept.{IsMadeDraft};
-ghost use Rattle.net_text.specs.net_draft.Laws.{kind_of};
-ghost use Rattle.net_text.specs.net_draft.Made.{IsOverNone};
+ghost use Rattle.net_draft.specs.CurveTexts.{text_of};
+ghost use Rattle.net_draft.specs.Kept.{IsMadeDraft};
+ghost use Rattle.net_draft.specs.Laws.{kind_of};
+ghost use Rattle.net_draft.specs.Made.{IsOverNone};
 ghost use Rattle.upp_limits.specs.upp_curve.specs.Curves.{IsCurve};
 ghost use Rattle.net_text.specs.Becoming.{IsCurveOf, BecomesItself, FailsAt};
 
 use crate::limits::limit_fault;
-use crate::net_draft::{CurveDraft, CurveText, DraftFault};
+use net_draft::{CurveDraft, CurveText, DraftFault};
 use net_model::ServiceKind;
 use std::alloc::AllocError;
 use upp_limits::upp_curve::Curve;

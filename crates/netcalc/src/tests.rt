@@ -1,8 +1,7 @@
-//! What whole commands answer beside the cases: where inputs and sinks fail, at the longest files, at the ends of ranges, and
-//! over a file of the machine.
+//! What whole commands answer beside the cases: where inputs and sinks fail, at the longest files, and over a file of the machine.
 
 use super::*;
-use crate::asking::{check, words_in};
+use crate::asking::words_in;
 use outside::{MemInputs, MemSink};
 use std::alloc::Global;
 use std::fs;
@@ -120,61 +119,6 @@ fn words_files_and_sinks_are_refused(rt: HostRuntime) -> Result<(), Fail> {
         let (got, written) = ask(alloc, line, file, input_fails, sink_fails)?;
         assert_eq!(rt; written.as_slice(), text.as_bytes(), "{line}");
         assert_eq!(rt; got, status, "{line}");
-    }
-    Ok(())
-}
-
-#[test]
-fn five_hundred_rates_are_set_and_taken_back(rt: HostRuntime) -> Result<(), Fail> {
-    let alloc = rt.alloc();
-    let server = "rate = 100\nservice = { kind = \"latency\", latency = 10 }\n";
-    let arrival = "arrival = { kind = \"bucket\", burst = 12000, rate = 10 }\n";
-    let net = format!(in alloc;
-        "[[server]]\nname = \"s1\"\n{server}[[server]]\nname = \"s2\"\n{server}\
-        [[flow]]\nname = \"f1\"\npacket = 12000\n{arrival}path = [\"s1\", \"s2\"]\n"
-    )?;
-    let mut rows = String::new(alloc);
-    let mut want = String::new(alloc);
-    for number in 1u32..1001 {
-        let cells = if number <= 500 { 18 } else { 0 };
-        let line = format!(in alloc; "edit {number} ok cells {cells}\n")?;
-        want.push_str(line.as_str())?;
-        let rate = format!(in alloc; "rate,s1,{}\n", number.saturating_add(100))?;
-        rows.push_str(if number <= 500 {
-            rate.as_str()
-        } else {
-            "undo\n"
-        })?;
-    }
-    want.push_str("servers 2 flows 1\nqueue s1 0 delay 130 backlog 13300\n")?;
-    want.push_str("queue s2 0 delay 143 backlog 14600\nflow f1 tfa 273 sfa 260 bound 260\n")?;
-    let files = [("n.toml", net.as_str()), ("e.csv", rows.as_str())];
-    check(
-        &rt,
-        alloc,
-        "netcalc edit n.toml e.csv",
-        &files,
-        0,
-        want.as_str(),
-    )
-}
-
-#[test]
-fn a_measured_flow_has_at_most_1024_packets(rt: HostRuntime) -> Result<(), Fail> {
-    let alloc = rt.alloc();
-    let net = network(alloc, "100", "10", "12000", "burst = 12000, rate = 10")?;
-    let line = "netcalc measure n.toml t.csv f1 1";
-    let at_most = "flow f1 packets 1024\nstep 0 1024\nburst 1024 rate 1\n";
-    for (packets, status, wanted) in [
-        (1024, 0, at_most),
-        (1025, 7, "netcalc: too many: measure\n"),
-    ] {
-        let mut rows = String::new(alloc);
-        for _ in 0..packets {
-            rows.push_str("packet,0,f1,1\n")?;
-        }
-        let files = [("n.toml", net.as_str()), ("t.csv", rows.as_str())];
-        check(&rt, alloc, line, &files, status, wanted)?;
     }
     Ok(())
 }

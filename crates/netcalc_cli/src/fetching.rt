@@ -9,6 +9,9 @@ use commands::command_replies::{Answer, cannot_read, too_long};
 use outside::{FetchFault, Inputs, NoMemory};
 use std::alloc::Global;
 
+// The most bytes that a file may have.
+const MOST_BYTES: usize = 1_048_576;
+
 /// The answer that stands in place of files.
 pub(crate) type Ended = Result<Answer, NoMemory>;
 
@@ -26,7 +29,7 @@ pub(crate) fn fetch_one<I: Inputs>(
     ensures same { (other : List ℕ) → I.content inputs.new other ≡ I.content inputs.old other }
 {
     let mut bytes = Vec::new(alloc);
-    match inputs.fetch(file, &mut bytes) {
+    match inputs.fetch(file, MOST_BYTES, &mut bytes) {
         Ok(()) => Ok(bytes),
         Err(FetchFault::TooLong) => Err(too_long(alloc, file)),
         Err(FetchFault::Failed) => Err(cannot_read(alloc, file)),

@@ -53,19 +53,18 @@ fn one_flow_over_two_servers_has_25_cells(rt: HostRuntime) -> Result<(), Fail> {
     Ok(())
 }
 
-// The second flow's place is empty.
-#[test]
-fn sums_go_by_flow(rt: HostRuntime) -> Result<(), Fail> {
-    let net = plain_network(rt.alloc(), 2, &[&[0], &[], &[1, 0], &[0]])?;
+// Sums go by flow; the second flow's place is empty.
+fn expect_sums(rt: &impl Abort, alloc: Global) -> Result<(), Fail> {
+    let net = plain_network(alloc, 2, &[&[0], &[], &[1, 0], &[0]])?;
     let wanted = [
         cell(Kind::In, 0, 0),
         cell(Kind::In, 2, 1),
         cell(Kind::In, 3, 0),
     ];
-    expect_operands(&rt, rt.alloc(), &net, cell(Kind::Total, 0, 0), &wanted);
+    expect_operands(rt, alloc, &net, cell(Kind::Total, 0, 0), &wanted);
     let others = [cell(Kind::In, 0, 0), cell(Kind::In, 3, 0)];
-    expect_operands(&rt, rt.alloc(), &net, cell(Kind::Cross, 2, 1), &others);
-    expect_operands(&rt, rt.alloc(), &net, cell(Kind::Cross, 2, 0), &[]);
+    expect_operands(rt, alloc, &net, cell(Kind::Cross, 2, 1), &others);
+    expect_operands(rt, alloc, &net, cell(Kind::Cross, 2, 0), &[]);
     assert_eq!(rt; work(cell(Kind::Total, 0, 0), &net), 2);
     assert_eq!(rt; work(cell(Kind::Cross, 2, 1), &net), 1);
     assert_eq!(rt; work(cell(Kind::Cross, 2, 0), &net), 0);
@@ -107,41 +106,47 @@ path = ['a', 'c']
 ";
 
 // First the flow that enters, then those that come from `a`, then the one from `b`: three sums, and two parts are cut.
-#[test]
-fn parts_go_by_the_server_before(rt: HostRuntime) -> Result<(), Fail> {
-    let net = network(rt.alloc(), SHARED_LINKS)?;
+fn expect_parts(rt: &impl Abort, alloc: Global) -> Result<(), Fail> {
+    let net = network(alloc, SHARED_LINKS)?;
     let parts = [
         cell(Kind::In, 1, 0),
         cell(Kind::In, 0, 1),
         cell(Kind::In, 3, 1),
         cell(Kind::In, 2, 1),
     ];
-    expect_operands(&rt, rt.alloc(), &net, cell(Kind::Total, 2, 0), &parts);
+    expect_operands(rt, alloc, &net, cell(Kind::Total, 2, 0), &parts);
     assert_eq!(rt; work(cell(Kind::Total, 2, 0), &net), 5);
     let others = [
         cell(Kind::In, 1, 0),
         cell(Kind::In, 2, 1),
         cell(Kind::In, 3, 1),
     ];
-    expect_operands(&rt, rt.alloc(), &net, cell(Kind::Cross, 0, 1), &others);
+    expect_operands(rt, alloc, &net, cell(Kind::Cross, 0, 1), &others);
     assert_eq!(rt; work(cell(Kind::Cross, 0, 1), &net), 2);
     Ok(())
 }
 
-#[test]
-fn a_path_of_three_hops_takes_four_operators(rt: HostRuntime) -> Result<(), Fail> {
-    let net = plain_network(rt.alloc(), 3, &[&[2, 0, 1]])?;
+// A path of three hops takes four operators.
+fn expect_path(rt: &impl Abort, alloc: Global) -> Result<(), Fail> {
+    let net = plain_network(alloc, 3, &[&[2, 0, 1]])?;
     let path = cell(Kind::PathService, 0, 0);
     let wanted = [
         cell(Kind::Residual, 0, 0),
         cell(Kind::Residual, 0, 1),
         cell(Kind::Residual, 0, 2),
     ];
-    expect_operands(&rt, rt.alloc(), &net, path, &wanted);
+    expect_operands(rt, alloc, &net, path, &wanted);
     assert_eq!(rt; work(path, &net), 4);
     let before = [cell(Kind::Out, 0, 1)];
-    expect_operands(&rt, rt.alloc(), &net, cell(Kind::In, 0, 2), &before);
+    expect_operands(rt, alloc, &net, cell(Kind::In, 0, 2), &before);
     let hop = [cell(Kind::Cross, 0, 1), cell(Kind::QueueService, 0, 0)];
-    expect_operands(&rt, rt.alloc(), &net, cell(Kind::Theta, 0, 1), &hop);
+    expect_operands(rt, alloc, &net, cell(Kind::Theta, 0, 1), &hop);
     Ok(())
+}
+
+#[test]
+fn what_cells_are_made_of(rt: HostRuntime) -> Result<(), Fail> {
+    expect_sums(&rt, rt.alloc())?;
+    expect_parts(&rt, rt.alloc())?;
+    expect_path(&rt, rt.alloc())
 }

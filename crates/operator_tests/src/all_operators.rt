@@ -173,7 +173,23 @@ fn made<L: Ledger>(alloc: Global, blank: Blank, of: Of) -> Result<Curve, OpFault
     }
 }
 
-// The limit just after 2 n counts for the infimum: the saw is n there.
+// The lower of n at 2 n and of 5 + 2 n at 2 n + 1, both infinite elsewhere: at 2 n + 1 the slower one is always above.
+fn of_dots<L: Ledger>(alloc: Global, blank: Blank) -> Result<Curve, OpFault>
+    requires name { blank.name ≡ L.name }
+    requires parts { blank.parts ≡ L.parts }
+    requires one { 0 < blank.parts }
+{
+    let mut steps = Steps::<L>::new(blank);
+    let even = piece(0, Extended::Fin(Frac::zero()), None);
+    let f = curve(alloc, &[even], every_two(1))?;
+    let first = piece(0, Extended::Inf, None);
+    let odd = piece(1, Extended::Fin(whole(5)), None);
+    let g = curve(alloc, &[first, odd], every_two(2))?;
+    min(alloc, &f, &g, &mut steps)
+}
+
+// The limit just after 2 n counts for the infimum: the saw is n there. Of curves that are never finite together, the lower
+// one is refused.
 #[test]
 fn operators_of_a_saw_and_a_ramp(rt: HostRuntime) -> Result<(), Fail> {
     let rows = [
@@ -194,29 +210,7 @@ fn operators_of_a_saw_and_a_ramp(rt: HostRuntime) -> Result<(), Fail> {
         let c = made::<Brand>(rt.alloc(), Blank::new(1), of)?;
         assert!(rt; has_values(&c, row), "{of:?}");
     }
+    let never_together = of_dots::<Brand>(rt.alloc(), Blank::new(1));
+    assert!(rt; matches!(&never_together, Err(OpFault::TooWide)));
     Ok(())
-}
-
-// The lower of n at 2 n and of 5 + 2 n at 2 n + 1, both infinite elsewhere: at 2 n + 1 the slower one is always above.
-fn of_dots<L: Ledger>(alloc: Global, blank: Blank) -> Result<Curve, OpFault>
-    requires name { blank.name ≡ L.name }
-    requires parts { blank.parts ≡ L.parts }
-    requires one { 0 < blank.parts }
-{
-    let mut steps = Steps::<L>::new(blank);
-    let even = piece(0, Extended::Fin(Frac::zero()), None);
-    let f = curve(alloc, &[even], every_two(1))?;
-    let first = piece(0, Extended::Inf, None);
-    let odd = piece(1, Extended::Fin(whole(5)), None);
-    let g = curve(alloc, &[first, odd], every_two(2))?;
-    min(alloc, &f, &g, &mut steps)
-}
-
-#[test]
-fn curves_that_are_never_finite_together(rt: HostRuntime) {
-    let refused = match of_dots::<Brand>(rt.alloc(), Blank::new(1)) {
-        Err(OpFault::TooWide) => true,
-        _ => false,
-    };
-    assert!(rt; refused);
 }

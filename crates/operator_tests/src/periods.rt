@@ -8,6 +8,7 @@ ghost use Rattle.upp_limits.specs.upp_curve.specs.Steady.{steady, IsWholePeriods
 use curve_tests::shapes::ratio;
 use plain_operators::curve_call::least_periods;
 use std::alloc::{AllocError, Global};
+use std::process::Abort;
 use std::test::Fail;
 use upp_limits::fraction128::{Frac, is_less};
 use upp_limits::rational::Extended;
@@ -105,8 +106,22 @@ fn least_of(f: &Curve, g: &Curve, from: i128, period: Frac) -> Option<Option<u12
     Some(least_periods(f, g, start, period))
 }
 
+// Of curves that are infinite between.
+fn expect_of_dots(rt: &impl Abort, alloc: Global) -> Result<(), Fail> {
+    let slow = dots(alloc, 0, 0, 1)?.ok_or("no curve")?;
+    let between = dots(alloc, 1, 5, 2)?.ok_or("no curve")?;
+    let above = dots(alloc, 0, -5, 2)?.ok_or("no curve")?;
+    let two = ratio(2, 1);
+    assert_eq!(rt; least_of(&slow, &between, 0, two), Some(None));
+    assert_eq!(rt; least_of(&slow, &above, 0, two), Some(Some(5)));
+    assert_eq!(rt; least_of(&slow, &above, 2, two), Some(Some(4)));
+    assert_eq!(rt; least_of(&above, &slow, 6, two), Some(Some(2)));
+    Ok(())
+}
+
 #[test]
-fn straight_lines(rt: HostRuntime) -> Result<(), Fail> {
+fn numbers_of_periods(rt: HostRuntime) -> Result<(), Fail> {
+    expect_of_dots(&rt, rt.alloc())?;
     // burst and rate of the one and of the other, over which denominator the rates are, and the number of periods of
     // length 1
     for (burst, rate, other_burst, other_rate, over, periods) in [
@@ -133,18 +148,5 @@ fn straight_lines(rt: HostRuntime) -> Result<(), Fail> {
             "{burst} {rate}"
         );
     }
-    Ok(())
-}
-
-#[test]
-fn curves_that_are_infinite_between(rt: HostRuntime) -> Result<(), Fail> {
-    let slow = dots(rt.alloc(), 0, 0, 1)?.ok_or("no curve")?;
-    let between = dots(rt.alloc(), 1, 5, 2)?.ok_or("no curve")?;
-    let above = dots(rt.alloc(), 0, -5, 2)?.ok_or("no curve")?;
-    let two = ratio(2, 1);
-    assert_eq!(rt; least_of(&slow, &between, 0, two), Some(None));
-    assert_eq!(rt; least_of(&slow, &above, 0, two), Some(Some(5)));
-    assert_eq!(rt; least_of(&slow, &above, 2, two), Some(Some(4)));
-    assert_eq!(rt; least_of(&above, &slow, 6, two), Some(Some(2)));
     Ok(())
 }

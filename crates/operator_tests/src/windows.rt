@@ -70,6 +70,13 @@ fn parts(p: &Piece) -> Option<(Frac, Frac, Frac, Frac)> {
     }
 }
 
+// Both, which start at once.
+fn both(alloc: Global) -> Result<Vec<plain_operators::curve_call::Both>, AllocError> {
+    let level = level(alloc)?;
+    let ramp = ramp(alloc)?;
+    overlay(alloc, &level, &ramp)
+}
+
 #[test]
 fn made_windows(rt: HostRuntime) -> Result<(), Fail> {
     let (zero, one) = (Frac::zero(), Frac::one());
@@ -104,18 +111,7 @@ fn made_windows(rt: HostRuntime) -> Result<(), Fail> {
         assert_eq!(rt; pieces.get(1).and_then(parts), second, "{of:?}");
         assert_eq!(rt; pieces.get(2).is_none(), true, "{of:?}");
     }
-    Ok(())
-}
-
-#[test]
-fn both_of_one_start(rt: HostRuntime) -> Result<(), Fail> {
     let stretches = both(rt.alloc())?;
     assert_eq!(rt; stretches.len(), 1);
     Ok(())
-}
-
-fn both(alloc: Global) -> Result<Vec<plain_operators::curve_call::Both>, AllocError> {
-    let level = level(alloc)?;
-    let ramp = ramp(alloc)?;
-    overlay(alloc, &level, &ramp)
 }

@@ -2,7 +2,7 @@
 ghost use Rattle.std.specs.Prelude.{◌≡◌, ◌≤◌, ◌<◌, ◌++◌, [], List, ℕ, None, length, IfSome, OnOk, OnErr, IsErrOf};
 ghost use Rattle.outside.specs.Faults.{Rose, FetchFaults, failed_at};
 
-use crate::inputs::{FetchFault, Inputs, MOST_BYTES};
+use crate::inputs::{FetchFault, Inputs};
 use crate::noted::Noted;
 use std::fs;
 use std::io::Read;
@@ -45,30 +45,30 @@ impl<R: Files + Clone + Drop> DirInputs<R> {
     }
 
     /// Opens a file and reads it.
-    fn read(&self, name: &str, into: &mut Vec<u8>) -> Result<(), FetchFault>
+    fn read(&self, name: &str, most: usize, into: &mut Vec<u8>) -> Result<(), FetchFault>
         requires { into.old.items ≡ [] }
-        ensures { OnOk result (length into.new.items ≤ MOST_BYTES) }
+        ensures { OnOk result (length into.new.items ≤ most) }
     {
         match fs::open(&self.rt, name) {
-            Ok(mut file) => read_rest(&mut file, into),
+            Ok(mut file) => read_rest(&mut file, most, into),
             Err(_) => Err(FetchFault::Failed),
         }
     }
 }
 
 /// Reads up to the end, which is a read that gives no byte, or to one byte more than a file may have.
-fn read_rest<F: Read>(file: &mut F, into: &mut Vec<u8>) -> Result<(), FetchFault>
+fn read_rest<F: Read>(file: &mut F, most: usize, into: &mut Vec<u8>) -> Result<(), FetchFault>
     requires { into.old.items ≡ [] }
-    ensures fits { OnOk result (length into.new.items ≤ MOST_BYTES) }
+    ensures fits { OnOk result (length into.new.items ≤ most) }
     ensures whole { OnOk result (IfSome (F.remaining file.old) (λ bytes. into.new.items ≡ bytes)) }
     ensures too_long { IsErrOf result FetchFault.TooLong
-        → IfSome (F.remaining file.old) (λ bytes. MOST_BYTES < length bytes) }
+        → IfSome (F.remaining file.old) (λ bytes. most < length bytes) }
 {
     let mut piece = [0u8; 4096];
-    for _ in 0..MOST_BYTES + 1 {
+    for _ in 0..most.saturating_add(1) {
         match file.read(&mut piece) {
             Ok(0) => return Ok(()),
-            Ok(count) => add_piece(&piece[..count], into)?,
+            Ok(count) => add_piece(&piece[..count], most, into)?,
             Err(_) => return Err(FetchFault::Failed),
         }
     }
@@ -76,16 +76,16 @@ fn read_rest<F: Read>(file: &mut F, into: &mut Vec<u8>) -> Result<(), FetchFault
 }
 
 /// Appends a piece of a file, if it still has no more bytes than it may.
-fn add_piece(piece: &[u8], into: &mut Vec<u8>) -> Result<(), FetchFault>
+fn add_piece(piece: &[u8], most: usize, into: &mut Vec<u8>) -> Result<(), FetchFault>
     ensures ok { OnOk result (into.new.items ≡ into.old.items ++ piece.now) }
-    ensures fits { OnOk result (length into.new.items ≤ MOST_BYTES) }
-    ensures too_long { IsErrOf result FetchFault.TooLong → MOST_BYTES < length (into.old.items ++ piece.now) }
+    ensures fits { OnOk result (length into.new.items ≤ most) }
+    ensures too_long { IsErrOf result FetchFault.TooLong → most < length (into.old.items ++ piece.now) }
     ensures failed { IsErrOf result FetchFault.Failed → ⊥ }
 {
     if into.extend_from_slice(piece).is_err() {
         return Err(FetchFault::NoMemory);
     }
-    if into.len() > MOST_BYTES {
+    if into.len() > most {
         return Err(FetchFault::TooLong);
     }
     Ok(())
@@ -98,8 +98,8 @@ impl<R: Files + Clone + Drop> Inputs for DirInputs<R> {
 
     ghost last_fault = { λ s. s.name };
 
-    fn fetch(&mut self, name: &str, into: &mut Vec<u8>) -> Result<(), FetchFault>
-        ensures fits { OnOk result (length into.new.items ≤ MOST_BYTES) }
+    fn fetch(&mut self, name: &str, most: usize, into: &mut Vec<u8>) -> Result<(), FetchFault>
+        ensures fits { OnOk result (length into.new.items ≤ most) }
         ensures failed { IsErrOf result FetchFault.Failed → Rose self.old.count self.new.count }
         ensures failed_name { IsErrOf result FetchFault.Failed → self.new.name ≡ name.now }
         ensures count { self.old.count ≤ self.new.count }
@@ -108,7 +108,7 @@ impl<R: Files + Clone + Drop> Inputs for DirInputs<R> {
         ensures stays { ¬ IsErrOf result FetchFault.Failed → self.new ≡ self.old }
     {
         into.clear();
-        let answer = self.read(name, into);
+        let answer = self.read(name, most, into);
         if let Err(fault) = answer {
             into.clear();
             if matches!(fault, FetchFault::Failed) {

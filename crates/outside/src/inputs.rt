@@ -2,15 +2,12 @@
 ghost use Rattle.std.specs.Prelude.{◌≡◌, ◌≤◌, ◌<◌, [], List, ℕ, Option, length, IfSome, OnOk, OnErr, IsErrOf};
 ghost use Rattle.outside.specs.Faults.{Rose};
 
-/// The most bytes that a file may have.
-pub const MOST_BYTES: usize = 1_048_576;
-
 /// Why a file was not fetched.
 #[derive(Clone, Copy, Debug, PartialEq, Eq)]
 pub enum FetchFault {
     /// The file is missing, or could not be read.
     Failed,
-    /// The file has more than `MOST_BYTES` bytes.
+    /// The file has more bytes than were asked for at most.
     TooLong,
     /// An allocation was refused.
     NoMemory,
@@ -27,14 +24,15 @@ pub trait Inputs {
     /// The name that was asked for when a fetch last failed. Only proofs see it.
     ghost last_fault: { Self → List ℕ };
 
-    /// Puts what the name holds into `into`, in place of what is there. After a refusal `into` is empty.
-    fn fetch(&mut self, name: &str, into: &mut Vec<u8>) -> Result<(), FetchFault>
+    /// Puts what the name holds, at most so many bytes, into `into`, in place of what is there. After a refusal `into` is
+    /// empty.
+    fn fetch(&mut self, name: &str, most: usize, into: &mut Vec<u8>) -> Result<(), FetchFault>
         ensures bytes { OnOk result (IfSome (content self.old name.now) (λ bytes. into.new.items ≡ bytes)) }
-        ensures fits { OnOk result (length into.new.items ≤ MOST_BYTES) }
+        ensures fits { OnOk result (length into.new.items ≤ most) }
 
         // With `bytes` and `fits`: a file is too long exactly where it has more bytes than it may.
         ensures too_long { IsErrOf result FetchFault.TooLong
-            → IfSome (content self.old name.now) (λ bytes. MOST_BYTES < length bytes) }
+            → IfSome (content self.old name.now) (λ bytes. most < length bytes) }
 
         ensures failed { IsErrOf result FetchFault.Failed → Rose (faults self.old) (faults self.new) }
         ensures failed_name { IsErrOf result FetchFault.Failed → last_fault self.new ≡ name.now }

@@ -15,7 +15,7 @@ mod std_sink;
 mod tests;
 
 pub use dir_inputs::DirInputs;
-pub use inputs::{FetchFault, Inputs, MOST_BYTES};
+pub use inputs::{FetchFault, Inputs};
 pub use mem_inputs::MemInputs;
 pub use mem_sink::{MemSink, SINK_BYTES};
 pub use sink::{PutFault, Sink};

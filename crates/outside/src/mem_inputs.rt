@@ -4,7 +4,7 @@ ghost use Rattle.outside.specs.Faults.{Rose, fails_at, counted_up};
 ghost use Rattle.outside.specs.MemoryFiles.{MemoryFiles, held, files_of, fetch_fails, called, failed, after_fetch};
 
 use crate::failing::fails_at;
-use crate::inputs::{FetchFault, Inputs, MOST_BYTES};
+use crate::inputs::{FetchFault, Inputs};
 use crate::noted::Noted;
 use std::marker::Model;
 
@@ -86,15 +86,15 @@ impl MemInputs {
 }
 
 /// Copies the bytes of a file, if they are not too many.
-fn copy_file(bytes: &[u8], into: &mut Vec<u8>) -> Result<(), FetchFault>
+fn copy_file(bytes: &[u8], most: usize, into: &mut Vec<u8>) -> Result<(), FetchFault>
     requires { into.old.items ≡ [] }
     ensures ok { OnOk result (into.new.items ≡ bytes.now) }
-    ensures fits { OnOk result (length bytes.now ≤ MOST_BYTES) }
-    ensures too_long { IsErrOf result FetchFault.TooLong ↔ (MOST_BYTES < length bytes.now) }
+    ensures fits { OnOk result (length bytes.now ≤ most) }
+    ensures too_long { IsErrOf result FetchFault.TooLong ↔ (most < length bytes.now) }
     ensures failed { IsErrOf result FetchFault.Failed → ⊥ }
     ensures err { OnErr result (into.new.items ≡ []) }
 {
-    if bytes.len() > MOST_BYTES {
+    if bytes.len() > most {
         return Err(FetchFault::TooLong);
     }
     match into.extend_from_slice(bytes) {
@@ -110,11 +110,11 @@ impl Inputs for MemInputs {
 
     ghost last_fault = { λ s. s.last_fault };
 
-    fn fetch(&mut self, name: &str, into: &mut Vec<u8>) -> Result<(), FetchFault>
+    fn fetch(&mut self, name: &str, most: usize, into: &mut Vec<u8>) -> Result<(), FetchFault>
         ensures bytes { OnOk result (IfSome (held self.old.files name.now) (λ bytes. into.new.items ≡ bytes)) }
-        ensures fits { OnOk result (length into.new.items ≤ MOST_BYTES) }
+        ensures fits { OnOk result (length into.new.items ≤ most) }
         ensures too_long { IsErrOf result FetchFault.TooLong
-            → IfSome (held self.old.files name.now) (λ bytes. MOST_BYTES < length bytes) }
+            → IfSome (held self.old.files name.now) (λ bytes. most < length bytes) }
         ensures failed { IsErrOf result FetchFault.Failed → Rose self.old.faults self.new.faults }
         ensures failed_name { IsErrOf result FetchFault.Failed → self.new.last_fault ≡ name.now }
         ensures count { self.old.faults ≤ self.new.faults }
@@ -127,7 +127,7 @@ impl Inputs for MemInputs {
         // Where it does not fail, a file with too many bytes is too long, and no other.
         ensures long { fetch_fails self.old name.now ≡ false
             → IfSome (held self.old.files name.now)
-            (λ bytes. IsErrOf result FetchFault.TooLong ↔ (MOST_BYTES < length bytes)) }
+            (λ bytes. IsErrOf result FetchFault.TooLong ↔ (most < length bytes)) }
 
         ensures state { self.new ≡ after_fetch self.old name.now }
     {
@@ -137,7 +137,7 @@ impl Inputs for MemInputs {
             return Err(FetchFault::Failed);
         }
         match self.file(name) {
-            Some(bytes) => copy_file(bytes, into),
+            Some(bytes) => copy_file(bytes, most, into),
             None => {
                 self.refuse(name);
                 Err(FetchFault::Failed)

@@ -5,6 +5,9 @@ use std::test::Fail;
 use std::time::{SystemTime, UNIX_EPOCH};
 use std::{fmt, fs, io};
 
+/// The most bytes that these tests ask for.
+const MOST_BYTES: usize = 1_048_576;
+
 /// Files of these names, and one more byte than a file may have under `long`.
 fn files(alloc: Global, named: &[(&str, &[u8])]) -> Result<Vec<(String, Vec<u8>)>, Fail> {
     let mut all = Vec::new(alloc);
@@ -39,7 +42,7 @@ fn files_in_memory_answer_and_fail_as_told(rt: HostRuntime) -> Result<(), Fail> 
         ("empty", Ok(()), b"".as_slice(), 0),
         ("a", Ok(()), b"first".as_slice(), 5),
     ] {
-        assert_eq!(rt; inputs.fetch(name, &mut into), answer, "{name}");
+        assert_eq!(rt; inputs.fetch(name, MOST_BYTES, &mut into), answer, "{name}");
         assert_eq!(rt; into.len(), count, "{name}");
         assert!(rt; into.starts_with(first), "{name}");
     }
@@ -84,7 +87,7 @@ fn real_files_are_read_whole_or_refused(rt: HostRuntime) -> Result<(), Fail> {
         let bytes = vec![in alloc; 120u8; count]?;
         fs::write(&rt, path.as_str(), bytes.as_slice())?;
         assert_eq!(rt;
-            inputs.fetch(path.as_str(), &mut into),
+            inputs.fetch(path.as_str(), MOST_BYTES, &mut into),
             answer,
             "{count} bytes"
         );
@@ -94,7 +97,7 @@ fn real_files_are_read_whole_or_refused(rt: HostRuntime) -> Result<(), Fail> {
     for name in [path.as_str(), "/tmp", ""] {
         into.push(120)?;
         assert_eq!(rt;
-            inputs.fetch(name, &mut into),
+            inputs.fetch(name, MOST_BYTES, &mut into),
             Err(FetchFault::Failed),
             "{name}"
         );

@@ -11,8 +11,8 @@ use Rattle.net_model.specs.run_laws.specs.Routes.{Routes, server_at, route_of, q
 use Rattle.net_model.specs.run_laws.specs.Views.{Entry, card_of}
 use Rattle.net_model.specs.run_laws.specs.Lawful.{RunState, state_at}
 use Rattle.net_model.specs.run_laws.proofs.Entries.{entry_last}
-use Rattle.net_model.specs.queue_sched.Turns.{IsCard}
-use Rattle.net_model.specs.queue_sched.Waiting.{HasPacket}
+use Rattle.queue_sched.specs.Turns.{IsCard}
+use Rattle.queue_sched.specs.Waiting.{HasPacket}
 use Rattle.net_model.proofs.stated_runs.Lists.{In, contains_in, in_contains}
 use Rattle.run_check.specs.declared.broken_laws.law.Law.{Law}
 use Rattle.run_check.specs.declared.broken_laws.law.Law.TheVariants.{L1, L2, L3, L4, L5, L6, L7, L8, L9}

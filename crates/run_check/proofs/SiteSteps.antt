@@ -11,8 +11,8 @@ use Rattle.net_model.specs.run_laws.specs.Next.{next}
 use Rattle.net_model.specs.run_laws.specs.Allows.{pick, MayVisit, IsFirst}
 use Rattle.net_model.specs.run_laws.specs.Rounds.{count_of, presence}
 use Rattle.net_model.specs.run_laws.proofs.Heads.{pick_is_head}
-use Rattle.net_model.specs.queue_sched.Turns.{Starts as Begins, Sends}
-use Rattle.net_model.specs.declared.queue_sched.turn.Turn.TheVariants.{Visit}
+use Rattle.queue_sched.specs.Turns.{Starts as Begins, Sends}
+use Rattle.queue_sched.specs.declared.turn.Turn.TheVariants.{Visit}
 use Rattle.net_model.proofs.stated_runs.Unique.{no_visit, not_idle, visit_once}
 use Rattle.net_model.proofs.stated_runs.Lists.{In, head_in}
 use Rattle.sim_servers.specs.declared.server_queues.ServerQueues.{ServerQueues}

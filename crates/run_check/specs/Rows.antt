@@ -4,7 +4,7 @@ use Rattle.upp_limits.specs.rational.specs.Rational.{ℚ}
 use Rattle.net_model.specs.run_laws.specs.Cards.{Card, Arrives}
 use Rattle.net_model.specs.run_laws.specs.Servers.{Discipline, ServerState}
 use Rattle.net_model.specs.run_laws.specs.Next.{next}
-use Rattle.net_model.specs.queue_sched.Turns.{IsCard}
+use Rattle.queue_sched.specs.Turns.{IsCard}
 use Rattle.run_check.specs.declared.broken_laws.law.Law.{Law}
 use Rattle.run_check.specs.declared.site.Piece.{Piece}
 use Rattle.run_check.specs.declared.site.Site.{Site}

@@ -6,7 +6,7 @@ use Rattle.net_model.specs.run_laws.specs.Cards.{Card, size, Works, Leaves, Visi
 use Rattle.net_model.specs.run_laws.specs.Servers.{Discipline, queue_count, Under, ServerState, done}
 use Rattle.net_model.specs.run_laws.specs.Next.{next}
 use Rattle.net_model.specs.run_laws.specs.Allows.{pick, next_card, MayLeave, MayVisit}
-use Rattle.net_model.specs.queue_sched.Waiting.{HasPacket}
+use Rattle.queue_sched.specs.Waiting.{HasPacket}
 use Rattle.net_model.specs.stated_runs.TimeGrids.{HasRoom, IsTime}
 use Rattle.sim_servers.specs.Queues.{served_by, room_of, StandFor}
 use Rattle.run_check.specs.declared.broken_laws.law.Law.{Law}

@@ -6,7 +6,7 @@ ghost use Rattle.net_model.specs.run_laws.specs.Cards.{Card, Arrives, Leaves};
 ghost use Rattle.net_model.specs.run_laws.specs.Servers.{Discipline as SpecDiscipline, ServerState, start};
 ghost use Rattle.net_model.specs.run_laws.specs.Next.{next};
 ghost use Rattle.net_model.specs.run_laws.specs.Allows.{MayLeave};
-ghost use Rattle.net_model.specs.queue_sched.Turns.{IsCard};
+ghost use Rattle.queue_sched.specs.Turns.{IsCard};
 ghost use Rattle.net_model.specs.Accepted.{HasFewQueues};
 ghost use Rattle.net_model.specs.Views.{discipline_of};
 ghost use Rattle.run_check.specs.Sites.{LeaveAnswer, VisitAnswer, WorkAnswer, TakesOn, IsFast, HasPace};
@@ -16,7 +16,7 @@ ghost use Rattle.run_check.specs.Sites.{IsWrong, MayTake, Turns, Starts, is_work
 
 use crate::broken_laws::Law;
 use net_model::Discipline;
-use net_model::queue_sched::{Scheduler, Turn};
+use queue_sched::{Scheduler, Turn};
 use sim_servers::ServerQueues;
 use std::alloc::{AllocError, Global};
 use upp_limits::fraction128::{Frac, difference, is_less, quotient};

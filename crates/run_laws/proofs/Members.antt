@@ -2,11 +2,7 @@
 use Rattle.std.proofs.Common.{◌≡◌, ℕ, ◌<◌, zero, suc, List, [], ◌∷◌, ◌++◌, length, get_or, map, sym, ap, subst, arith, inl, inr, ◌⊎◌}
 use Rattle.std.specs.Prelude.{Contains}
 use Rattle.std.specs.List.{flat_map}
-
--- x is one of them
-abbrev pub Has : {X : Type 0} → List X → X → Type 0
-Has [] x = ⊥
-Has (y ∷ ys) x = (y ≡ x) ⊎ Has ys x
+pub use Rattle.run_laws.specs.Members.{Has}
 
 -- ---- by places
 pub at_has : {X : Type 0} (xs : List X) (k : ℕ) (d x : X) → k < length xs → get_or xs k d ≡ x → Has xs x

@@ -1,7 +1,9 @@
+pub mod Members
 pub mod Times
 pub mod Runs
 pub mod Cards
 pub mod Servers
+pub mod Sound
 pub mod Next
 pub mod Allows
 pub mod Rounds

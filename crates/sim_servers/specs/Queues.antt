@@ -5,9 +5,9 @@ use Rattle.net_model.specs.run_laws.specs.Cards.{Works}
 use Rattle.net_model.specs.run_laws.specs.Servers as servers
 use Rattle.net_model.specs.run_laws.specs.Servers.{Under, ServerState}
 use Rattle.net_model.specs.run_laws.specs.Next.{next}
-use Rattle.net_model.specs.queue_sched.Waiting.{Waits, WaitsByPriority}
-use Rattle.net_model.specs.queue_sched.DrrStates.{WaitsInTurn, drr_goes_on}
-use Rattle.net_model.specs.queue_sched.Moves.{fifo_goes_on, priority_goes_on}
+use Rattle.queue_sched.specs.Waiting.{Waits, WaitsByPriority}
+use Rattle.queue_sched.specs.DrrStates.{WaitsInTurn, drr_goes_on}
+use Rattle.queue_sched.specs.Moves.{fifo_goes_on, priority_goes_on}
 use Rattle.sim_servers.specs.declared.server_queues.ServerQueues.{ServerQueues}
 use Rattle.sim_servers.specs.declared.server_queues.ServerQueues.TheVariants.{Fifo, Priority, Drr}
 

@@ -4,7 +4,7 @@ use Rattle.rational.specs.Rational.{ℚ, int, ◌+ℚ◌, ◌-ℚ◌, ◌*ℚ◌
 use Rattle.net_model.specs.run_laws.specs.Cards.{size}
 use Rattle.net_model.specs.run_laws.specs.Servers.{queue_count, Under, ServerState, done}
 use Rattle.net_model.specs.run_laws.specs.Routes.{server_at}
-use Rattle.net_model.specs.queue_sched.Waiting.{HasPacket}
+use Rattle.queue_sched.specs.Waiting.{HasPacket}
 use Rattle.net_model.specs.stated_runs.Setups as setups
 use Rattle.net_model.specs.stated_runs.Setups.{Setup, IsStalled, IsOpenAt, IsFirstOpen, IsFirstOpenAt, StaysTo, opening_of, rate_of}
 use Rattle.sim_servers.specs.declared.due.Due.{Due}

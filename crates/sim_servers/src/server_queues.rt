@@ -7,7 +7,7 @@ ghost use Rattle.net_model.specs.Views.{discipline_of};
 ghost use Rattle.sim_servers.specs.Queues.{served_by, room_of, StandFor};
 
 use net_model::Discipline;
-use net_model::queue_sched::{DrrSched, FifoSched, PrioritySched, Scheduler, Turn};
+use queue_sched::{DrrSched, FifoSched, PrioritySched, Scheduler, Turn};
 use std::alloc::{AllocError, Global};
 
 /// The scheduler of a server, of any discipline.

@@ -6,7 +6,7 @@ ghost use Rattle.net_model.specs.run_laws.specs.Cards.{Card, Arrives, Leaves};
 ghost use Rattle.net_model.specs.run_laws.specs.Servers.{Under, ServerState};
 ghost use Rattle.net_model.specs.run_laws.specs.Next.{next};
 ghost use Rattle.net_model.specs.run_laws.specs.Routes.{server_at};
-ghost use Rattle.net_model.specs.queue_sched.Turns.{IsCard};
+ghost use Rattle.queue_sched.specs.Turns.{IsCard};
 ghost use Rattle.net_model.specs.stated_runs.Setups.{Setup};
 ghost use Rattle.sim_servers.specs.Openings.{opening_for, IsInOrder, IsOver, HasOpened, IsSameOpening, OpeningRoom};
 ghost use Rattle.sim_servers.specs.Queues.{room_of};
@@ -16,7 +16,7 @@ use crate::due::{Due, DueKind};
 use crate::opening::Opening;
 use crate::server_queues::ServerQueues;
 use fraction128::{Frac, difference, is_less, product, sum};
-use net_model::queue_sched::Scheduler;
+use queue_sched::Scheduler;
 
 /// What is due at a server after its steps so far.
 #[derive(Debug, Clone, Copy)]

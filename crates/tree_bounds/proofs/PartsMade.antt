@@ -5,11 +5,10 @@ use Rattle.std.proofs.lemmas.Bool.Decides.{nat_tests}
 use Rattle.std.proofs.lemmas.List.{take_more, map-append}
 use Rattle.std.proofs.lemmas.List.Folds.{list_all_more}
 use Rattle.std.proofs.lemmas.List.Sums.{sum_by_more, sum_by-cons}
-use Rattle.arrival_lines.specs.Steps.{most_burst, most_rate, burst_with, rate_with}
 use Rattle.arrival_lines.specs.declared.grid.Line.{Line}
 use Rattle.arrival_lines.specs.declared.grid.Part.{Part}
 use Rattle.tree_network.specs.declared.network.Network.{Network}
-use Rattle.tree_bounds.specs.Groups.{part_of, parts_in, are_bounded, pace_line, longest_group}
+use Rattle.tree_bounds.specs.Groups.{part_of, parts_in, are_bounded, sum_burst, sum_rate, longest_group}
 use Rattle.port_bounds.specs.Incoming.{Incoming}
 use Rattle.tree_bounds.specs.Parts.{IsNoPart}
 use Rattle.tree_bounds.specs.declared.groups.Group.{Group}
@@ -24,34 +23,24 @@ unknown_of (g ∷ groups) (suc i) d h e = ap (λ b. g.known && b) (unknown_of gr
     never true = refl
     never false = refl
 
-burst_le : (sum : Line) (pace : Option Line) → sum.burst ≤ burst_with sum pace
-burst_le sum None = omega arith
-burst_le sum (Some pace) = omega arith
-
-rate_le : (sum : Line) (pace : Option Line) → sum.rate ≤ rate_with sum pace
-rate_le sum None = omega arith
-rate_le sum (Some pace) = omega arith
-
-burst_in_sum : (net : Network) (groups : List Group) (i : ℕ) (d : Group) → i < length groups → (get_or groups i d).burst ≤ sum_by most_burst (map (part_of net) groups)
+burst_in_sum : (net : Network) (groups : List Group) (i : ℕ) (d : Group) → i < length groups → (get_or groups i d).burst ≤ sum_by sum_burst (map (part_of net) groups)
 burst_in_sum net [] i d h = absurd (omega (arith, h))
 burst_in_sum net (g ∷ groups) zero d h =
-    let le = burst_le record { burst = g.burst; rate = g.rate } (pace_line net g.longest g.source) in
-    let both = sum_by-cons most_burst (part_of net g) (map (part_of net) groups) in
-    omega (arith, le, both)
+    let both = sum_by-cons sum_burst (part_of net g) (map (part_of net) groups) in
+    omega (arith, both)
 burst_in_sum net (g ∷ groups) (suc i) d h =
     let rest = burst_in_sum net groups i d (omega (arith, h)) in
-    let both = sum_by-cons most_burst (part_of net g) (map (part_of net) groups) in
+    let both = sum_by-cons sum_burst (part_of net g) (map (part_of net) groups) in
     omega (arith, rest, both)
 
-rate_in_sum : (net : Network) (groups : List Group) (i : ℕ) (d : Group) → i < length groups → (get_or groups i d).rate ≤ sum_by most_rate (map (part_of net) groups)
+rate_in_sum : (net : Network) (groups : List Group) (i : ℕ) (d : Group) → i < length groups → (get_or groups i d).rate ≤ sum_by sum_rate (map (part_of net) groups)
 rate_in_sum net [] i d h = absurd (omega (arith, h))
 rate_in_sum net (g ∷ groups) zero d h =
-    let le = rate_le record { burst = g.burst; rate = g.rate } (pace_line net g.longest g.source) in
-    let both = sum_by-cons most_rate (part_of net g) (map (part_of net) groups) in
-    omega (arith, le, both)
+    let both = sum_by-cons sum_rate (part_of net g) (map (part_of net) groups) in
+    omega (arith, both)
 rate_in_sum net (g ∷ groups) (suc i) d h =
     let rest = rate_in_sum net groups i d (omega (arith, h)) in
-    let both = sum_by-cons most_rate (part_of net g) (map (part_of net) groups) in
+    let both = sum_by-cons sum_rate (part_of net g) (map (part_of net) groups) in
     omega (arith, rest, both)
 
 not_below : (a b : ℕ) → b ≤ a → nat_lt a b ≡ false
@@ -69,14 +58,14 @@ no_parts net groups i d h (inl e) =
     none_by net groups (ap (λ b. b && are_bounded (map (part_of net) groups)) (unknown_of groups i d h e))
 no_parts net groups i d h (inr (inl e)) =
     let much = burst_in_sum net groups i d h in
-    let off = not_below (sum_by most_burst (map (part_of net) groups)) (2 ^ 58) (omega (arith, much, e)) in
-    none_by net groups (ap (λ b. list_all (λ g. g.known) groups && (b && nat_lt (sum_by most_rate (map (part_of net) groups)) (2 ^ 61))) off
+    let off = not_below (sum_by sum_burst (map (part_of net) groups)) (2 ^ 58) (omega (arith, much, e)) in
+    none_by net groups (ap (λ b. list_all (λ g. g.known) groups && (b && nat_lt (sum_by sum_rate (map (part_of net) groups)) (2 ^ 50))) off
     ∙ never_and (list_all (λ g. g.known) groups))
 no_parts net groups i d h (inr (inr e)) =
     let much = rate_in_sum net groups i d h in
-    let off = not_below (sum_by most_rate (map (part_of net) groups)) (2 ^ 61) (omega (arith, much, e)) in
-    none_by net groups (ap (λ b. list_all (λ g. g.known) groups && (nat_lt (sum_by most_burst (map (part_of net) groups)) (2 ^ 58) && b)) off
-    ∙ ap (λ b. list_all (λ g. g.known) groups && b) (never_and (nat_lt (sum_by most_burst (map (part_of net) groups)) (2 ^ 58)))
+    let off = not_below (sum_by sum_rate (map (part_of net) groups)) (2 ^ 50) (omega (arith, much, e)) in
+    none_by net groups (ap (λ b. list_all (λ g. g.known) groups && (nat_lt (sum_by sum_burst (map (part_of net) groups)) (2 ^ 58) && b)) off
+    ∙ ap (λ b. list_all (λ g. g.known) groups && b) (never_and (nat_lt (sum_by sum_burst (map (part_of net) groups)) (2 ^ 58)))
     ∙ never_and (list_all (λ g. g.known) groups))
 
 -- ---- all of them
@@ -121,19 +110,7 @@ longest_zero groups = refl
 
 -- ---- the parts' numbers together
 pub record Totals (parts : List Part) (i bursts rates : ℕ) : Type 0 where
-  pub burst : bursts ≡ sum_by most_burst (take i parts)
-  pub rate : rates ≡ sum_by most_rate (take i parts)
+  pub burst : bursts ≡ sum_by sum_burst (take i parts)
+  pub rate : rates ≡ sum_by sum_rate (take i parts)
   pub few_bursts : bursts ≤ i * 2 ^ 64
   pub few_rates : rates ≤ i * 2 ^ 64
-
-pub totals_more : (parts : List Part) (i b r bursts rates : ℕ) (d : Part) → i < length parts → b ≡ most_burst (get_or parts i d) → r ≡ most_rate (get_or parts i d)
-    → b < 2 ^ 64 → r < 2 ^ 64 → Totals parts i bursts rates → Totals parts (i + 1) (bursts + b) (rates + r)
-totals_more parts i b r bursts rates d h eb er fb fr t =
-    let burst = sum_by_more most_burst parts i d h in
-    let rate = sum_by_more most_rate parts i d h in
-    record {
-      burst = omega (arith, burst, eb, t.burst);
-      rate = omega (arith, rate, er, t.rate);
-      few_bursts = omega (arith, t.few_bursts, fb);
-      few_rates = omega (arith, t.few_rates, fr);
-    }

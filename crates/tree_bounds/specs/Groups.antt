@@ -2,7 +2,6 @@
 -- (Grouping of flows by their input link.)
 use Rattle.std.specs.Prelude.{Option, Some, None, ◌+◌, ◌*◌, ◌^◌, ◌==◌, ◌&&◌, ℕ, zero, suc, max, Bool, true, List, [], ◌∷◌, ◌++◌, length, map, is_some, nat_lt, if◌then◌else◌}
 use Rattle.std.specs.List.{sum_by, list_all}
-use Rattle.arrival_lines.specs.Steps.{most_burst, most_rate}
 use Rattle.arrival_lines.specs.declared.grid.Line.{Line}
 use Rattle.arrival_lines.specs.declared.grid.Part.{Part}
 use Rattle.tree_network.specs.Networks.{port_at}
@@ -62,10 +61,18 @@ pace_line net longest (suc p) = Some record { burst = longest * 1024; rate = (po
 abbrev pub part_of : Network → Group → Part
 part_of net g = record { sum = record { burst = g.burst; rate = g.rate }; pace = pace_line net g.longest g.source }
 
--- each link has a line; the parts' greater bursts together are below 2 ^ 58 grains, and their greater rates below 2 ^ 61 grains a second
-abbrev pub are_bounded : List Part → Bool
-are_bounded parts = nat_lt (sum_by most_burst parts) (2 ^ 58) && nat_lt (sum_by most_rate parts) (2 ^ 61)
+-- of the links together
+abbrev pub sum_burst : Part → ℕ
+sum_burst part = part.sum.burst
 
+abbrev pub sum_rate : Part → ℕ
+sum_rate part = part.sum.rate
+
+-- the links' bursts together are below 2 ^ 58 grains, and their rates below 2 ^ 50 grains a second: no port is as fast
+abbrev pub are_bounded : List Part → Bool
+are_bounded parts = nat_lt (sum_by sum_burst parts) (2 ^ 58) && nat_lt (sum_by sum_rate parts) (2 ^ 50)
+
+-- none where a link has no line
 abbrev pub parts_in : Network → List Group → Option (List Part)
 parts_in net groups = if list_all (λ g. g.known) groups && are_bounded (map (part_of net) groups) then Some (map (part_of net) groups) else None
 

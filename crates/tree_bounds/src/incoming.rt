@@ -6,7 +6,6 @@ ghost use Rattle.std.specs.Option.{option_map};
 ghost use Rattle.tree_network.specs.Networks.{IsNetwork, longest_frame};
 ghost use Rattle.tree_order.specs.Plans.{IsPlanOf};
 ghost use Rattle.tree_order.specs.Spots.{spots_of};
-ghost use Rattle.arrival_lines.specs.Steps.{most_burst, most_rate};
 ghost use Rattle.port_bounds.specs.Incoming.{incoming, incoming_of};
 ghost use Rattle.tree_bounds.specs.Groups.{are_bounded, incoming_at, incomings_at, pace_line, part_of, parts_in};
 ghost use Rattle.tree_bounds.specs.Onward.{line_at};
@@ -20,11 +19,11 @@ use std::alloc::{AllocError, Global};
 use tree_network::Network;
 use tree_order::Plan;
 
-/// No queue's parts may have so many grains at once.
+/// Where the links of a queue bring so many grains at once, nothing is promised of it.
 const MOST_BURST: u128 = 1 << 58;
 
-/// No queue's parts may have so many grains a second.
-const MOST_RATE: u128 = 1 << 61;
+/// No port sends so many grains a second: a queue of such a load is never served.
+const MOST_RATE: u128 = 1 << 50;
 
 /// The line of the pace of the port from which frames of this source come; none where they begin.
 fn pace_of(network: &Network, longest: u64, source: usize) -> Option<Line>
@@ -64,39 +63,15 @@ fn part(network: &Network, group: Group) -> Option<Part>
     })
 }
 
-/// The greater burst and the greater rate of a part's lines.
-fn greater_of(part: Part) -> (u64, u64)
-    ensures burst { result.0 ≡ most_burst part }
-    ensures rate { result.1 ≡ most_rate part }
-    ensures small { (result.0 < 2 ^ 64) × (result.1 < 2 ^ 64) }
-{
-    match part.pace {
-        None => (part.sum.burst, part.sum.rate),
-        Some(pace) => (
-            if part.sum.burst < pace.burst {
-                pace.burst
-            } else {
-                part.sum.burst
-            },
-            if part.sum.rate < pace.rate {
-                pace.rate
-            } else {
-                part.sum.rate
-            },
-        ),
-    }
-}
-
-/// Whether the parts' greater bursts and greater rates together are within their limits.
+/// Whether the bursts and the rates of the parts' links together are within their limits.
 fn are_within(parts: &[Part]) -> bool
     ensures { result ≡ are_bounded parts.now }
 {
     let mut bursts: u128 = 0;
     let mut rates: u128 = 0;
     for part in parts {
-        let (burst, rate) = greater_of(*part);
-        bursts += burst as u128;
-        rates += rate as u128;
+        bursts += part.sum.burst as u128;
+        rates += part.sum.rate as u128;
     }
     bursts < MOST_BURST && rates < MOST_RATE
 }

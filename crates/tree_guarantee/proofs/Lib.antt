@@ -7,3 +7,5 @@ pub mod Grown
 pub mod Held
 pub mod Kept
 pub mod Branched
+pub mod LastSteps
+pub mod Caused

@@ -4,6 +4,7 @@
 //! A law is the contract of a function that does nothing: its body is empty, and its `ensures` is proved.
 #![tactic(auto)]
 
+ghost use Rattle.tree_guarantee.specs.Causes.{NoneHasACause};
 ghost use Rattle.tree_guarantee.specs.Guarantee.{TablesAreGuaranteed};
 ghost use Rattle.tree_guarantee.specs.Routes.{NetworksAreTrees, OrdersGoForward};
 
@@ -23,4 +24,10 @@ pub fn orders_go_forward()
 /// there. Where the table has no number nothing is promised.
 pub fn tables_are_guaranteed()
     ensures { TablesAreGuaranteed }
+{}
+
+/// Where a table has no number for a queue: nothing bounds what comes there or what may be served before it, or these together are faster than
+/// the port, or no service has a delay below 2^50 picoseconds.
+pub fn none_has_a_cause()
+    ensures { NoneHasACause }
 {}

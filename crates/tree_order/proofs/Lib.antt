@@ -7,5 +7,6 @@ pub mod Ready
 pub mod Released
 pub mod Turned
 pub mod Walked
+pub mod Noted
 pub mod Rings
 pub mod InRange

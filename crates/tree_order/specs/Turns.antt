@@ -66,6 +66,10 @@ abbrev pub FindsPlace : List ℕ → ℕ → Option ℕ → Type 0
 FindsPlace ports port None = (i : ℕ) → i < length ports → get_or ports i 0 ≡ port → ⊥
 FindsPlace ports port (Some place) = StandsAt ports port place
 
+-- by port, where each of a list stands in it
+pub record AreNoted (ports places : List ℕ) : Type 0 where
+  pub each : (i : ℕ) → i < length ports → get_or places (get_or ports i 0) 0 ≡ i
+
 -- a link goes to each of these ports from the next, and to the last from the first
 pub record IsLoop (spots : List Spot) (ports : List ℕ) : Type 0 where
   pub some : 0 < length ports

@@ -111,8 +111,7 @@ pub struct Plan {
     pub order: Vec<usize>,
 }
 
-/// The plan of a network, or a ring of its ports. In proportion to the nodes of all links, and to the ports; where there is a ring, to the square of
-/// its ports and those before it.
+/// The plan of a network, or a ring of its ports. In proportion to the nodes of all links, and to the ports.
 pub fn plan_of(alloc: Global, network: &Network) -> Result<Plan, Fault>
     requires { IsNetwork network.now }
     ensures plan { IfOk result (IsPlanOf network.now) }

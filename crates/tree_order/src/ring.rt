@@ -1,19 +1,36 @@
 //! A ring among ports each of which waits for one of them.
 
-ghost use Rattle.std.specs.Prelude.{◌≡◌, ◌<◌, ◌+◌, ◌≤◌, ◌++◌, ◌∷◌, [], ℕ, All, length, get_or, reverse, IfOk, MatchOption};
+ghost use Rattle.std.specs.Prelude.{◌≡◌, ◌<◌, ◌+◌, ◌≤◌, ◌++◌, ◌∷◌, [], ℕ, All, length, get_or, set, reverse, IfOk, MatchOption};
 ghost use Rattle.tree_order.specs.Lists.{lists_of, AreByPort};
 ghost use Rattle.tree_order.specs.Orders.{IsRing};
 ghost use Rattle.tree_order.specs.Spots.{spot_at};
-ghost use Rattle.tree_order.specs.Turns.{ComesLate, NoneComesLate, IsFree, IsLateFrom, IsLoop, AreStuck, FindsPlace};
+ghost use Rattle.tree_order.specs.Turns.{ComesLate, NoneComesLate, IsFree, IsLateFrom, IsLoop, AreStuck, FindsPlace, AreNoted};
 
 use crate::spots::Spot;
 use std::alloc::{AllocError, Global};
 
-/// The place of a port in a list.
-fn place_in(ports: &[usize], port: usize) -> Option<usize>
+/// The place of a port in a list, of which the places are noted by port.
+fn place_in(ports: &[usize], places: &[usize], port: usize) -> Option<usize>
+    requires inside { port < length places.now }
+    requires noted { AreNoted ports.now places.now }
     ensures { FindsPlace ports.now port result }
 {
-    ports.iter().position(|p| *p == port)
+    let place = places[port];
+    if place >= ports.len() {
+        return None;
+    }
+    if ports[place] != port {
+        return None;
+    }
+    Some(place)
+}
+
+/// Notes the place of a port.
+fn note(places: &mut Vec<usize>, port: usize, place: usize)
+    requires { port < length places.old.items }
+    ensures { places.new.items ≡ set places.old.items port place }
+{
+    places[port] = place;
 }
 
 /// The port from which frames come to a spot of this source, where there is one that is not done.
@@ -58,12 +75,14 @@ fn loop_back(
     requires start { IsFree is_done.now start }
     ensures { IfOk result (λ v. IsLoop spots.now v.items) }
 {
+    let mut places = vec![in alloc; 0; is_done.len()]?;
     let mut seen = Vec::new(alloc);
     let mut port = start;
     loop {
-        if let Some(place) = place_in(&seen, port) {
+        if let Some(place) = place_in(&seen, &places, port) {
             return Vec::from_slice(alloc, &seen[place..]);
         }
+        note(&mut places, port, seen.len());
         seen.push(port)?;
         match waits_for(spots, &at[port], is_done) {
             None => unreachable!(),

@@ -24,6 +24,7 @@ use Rattle.upp_limits.specs.upp_curve.specs.affine_segment.Values.{line_at, line
 use Rattle.upp_limits.specs.Limits.{Sizes, gauge_of}
 use Rattle.upp_limits.specs.upp_curve.specs.affine_segment.Fits.{LineFitsAt}
 use Rattle.upp_limits.specs.Sized.{grid_of, times_largest, ValueStands}
+pub use Rattle.upp_normal.specs.Crossings.{IsCrossing}
 use Rattle.upp_normal.specs.Operand.{AreLimited, OperandLine, OperandLineAt, answer_room}
 use Rattle.upp_normal.specs.Room.{top, IsRoom, TimeHasRoom, many, ValueInRoom, ValueHasRoom, LineInRoom, LineHasRoom}
 use Rattle.upp_limits.proofs.OwnGauge.{end_within}
@@ -322,13 +323,6 @@ difference_of_lines z l m L M = record {
 }
 
 -- ---- where two lines meet
--- a time on the grid of the q steps that the slopes are apart
-pub record IsCrossing (z : Sizes) (t : ℚ) : Type 0 where
-  pub apart : ℕ
-  pub some : 1 ≤ apart
-  pub few : apart ≤ z.steepness * z.ds
-  pub whole : Whole (z.dv * z.dt * apart) t
-
 whole_times_out : (n q : ℕ) (x : ℚ) → Whole q (x *ℚ int (pos n)) → Whole (n * q) x
 whole_times_out n q x w = record { steps = w.steps; is = ap (λ y. x *ℚ y) (sym (int_mul (pos n) (pos q))) ∙ sym (mul_assoc x (int (pos n)) (int (pos q))) ∙ w.is }
 

@@ -1,6 +1,7 @@
 pub mod Normalising
 pub mod Room
 pub mod Operand
+pub mod Crossings
 pub mod Unrolling
 pub mod Ahead
 pub mod Copied

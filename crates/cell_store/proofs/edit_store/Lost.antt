@@ -7,12 +7,12 @@ use Rattle.net_model.specs.Accepted.{IsAccepted}
 use Rattle.net_cells.specs.declared.cell.Cell.{Cell}
 use Rattle.net_cells.specs.Cells.{has_cell}
 use Rattle.net_cells.proofs.Lists.{Has, contains_has, has_contains, has_filter, filter_has}
-use Rattle.cell_store.proofs.cell_changes.HasSlots.{slots_are_own}
-use Rattle.cell_store.specs.declared.cell_rules.site.Site.{Site}
-use Rattle.cell_store.specs.declared.cell_rules.site.Site.TheVariants.{Anywhere, Server, Flow}
-use Rattle.cell_store.specs.cell_rules.Finding.{AreCellsOf, HaveSameCellsBut, gone_of}
-use Rattle.cell_store.specs.cell_rules.Sites.{IsSameBut}
-use Rattle.cell_store.proofs.cell_rules.OfNumber.{same_but_server, same_but_flow}
+use Rattle.cell_rules.proofs.cell_changes.HasSlots.{slots_are_own}
+use Rattle.cell_rules.specs.declared.site.Site.{Site}
+use Rattle.cell_rules.specs.declared.site.Site.TheVariants.{Anywhere, Server, Flow}
+use Rattle.cell_rules.specs.Finding.{AreCellsOf, HaveSameCellsBut, gone_of}
+use Rattle.cell_rules.specs.Sites.{IsSameBut}
+use Rattle.cell_rules.proofs.OfNumber.{same_but_server, same_but_flow}
 use Rattle.cell_store.specs.edit_store.Stored.{AreLost}
 use Rattle.cell_store.specs.edit_store.Replaced.{IsMadeAt}
 

@@ -17,10 +17,10 @@ use Rattle.net_edits.specs.Edited.{MadeCurve, Edited, edited, fitting, is_positi
 use Rattle.net_edits.specs.Values.{whole_that, is_length, is_quantum_of, is_name, entry_queues, may_be_path}
 use Rattle.net_edits.specs.Lookups.{server_numbers, is_free}
 use Rattle.net_edits.proofs.Places.{get-set_other}
-use Rattle.cell_store.specs.declared.cell_rules.site.Site.{Site}
-use Rattle.cell_store.specs.declared.cell_rules.site.Site.TheVariants.{Anywhere, Server, Flow}
-use Rattle.cell_store.specs.cell_rules.Sites.{IsSameButServer, IsSameButFlow, IsSameBut}
-use Rattle.cell_store.proofs.cell_rules.Unchanged.{others_keep_their_rule}
+use Rattle.cell_rules.specs.declared.site.Site.{Site}
+use Rattle.cell_rules.specs.declared.site.Site.TheVariants.{Anywhere, Server, Flow}
+use Rattle.cell_rules.specs.Sites.{IsSameButServer, IsSameButFlow, IsSameBut}
+use Rattle.cell_rules.proofs.Unchanged.{others_keep_their_rule}
 use Rattle.cell_store.specs.edit_store.Replaced.{IsServerChanged, IsFlowChanged, IsMadeAt}
 use Rattle.cell_store.specs.edit_store.Sites.{at_server, at_flow, site_of, EditsAreMadeAtOneSite, EditsHaveOneSite, EditsKeepOtherRules}
 

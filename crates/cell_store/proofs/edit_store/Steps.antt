@@ -14,8 +14,8 @@ use Rattle.net_cells.specs.Equations.{MeetsEquations}
 use Rattle.net_cells.proofs.Lists.{contains_has}
 use Rattle.net_cells.proofs.Tables.{answered_meets}
 use Rattle.cell_store.specs.version_table.Histories.{History}
-use Rattle.cell_store.specs.cell_changes.Changes.{TouchedOf}
-use Rattle.cell_store.proofs.cell_changes.CarriedOver.{touched_has, one_touched_list}
+use Rattle.cell_rules.specs.cell_changes.Changes.{TouchedOf}
+use Rattle.cell_rules.proofs.cell_changes.CarriedOver.{touched_has, one_touched_list}
 use Rattle.cell_store.specs.Placed.{placed}
 use Rattle.cell_store.specs.Edits.{IsEditedTable}
 use Rattle.cell_store.proofs.Fronts.{are_touched}

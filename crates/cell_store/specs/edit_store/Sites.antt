@@ -7,10 +7,10 @@ use Rattle.net_cells.specs.declared.cell.Cell.{Cell}
 use Rattle.net_cells.specs.Cells.{has_cell}
 use Rattle.net_edits.specs.Refusals.{Or}
 use Rattle.net_edits.specs.Lookups.{server_number, flow_number}
-use Rattle.cell_store.specs.cell_changes.Changes.{HasSameRule}
-use Rattle.cell_store.specs.declared.cell_rules.site.Site.{Site}
-use Rattle.cell_store.specs.declared.cell_rules.site.Site.TheVariants.{Anywhere, Server, Flow}
-use Rattle.cell_store.specs.cell_rules.Sites.{IsSameBut, is_candidate}
+use Rattle.cell_rules.specs.cell_changes.Changes.{HasSameRule}
+use Rattle.cell_rules.specs.declared.site.Site.{Site}
+use Rattle.cell_rules.specs.declared.site.Site.TheVariants.{Anywhere, Server, Flow}
+use Rattle.cell_rules.specs.Sites.{IsSameBut, is_candidate}
 use Rattle.cell_store.specs.edit_store.Applied.{Gives}
 use Rattle.cell_store.specs.edit_store.Replaced.{IsMadeAt}
 

@@ -8,8 +8,8 @@ use Rattle.net_cells.specs.Cells.{has_cell}
 use Rattle.net_cells.specs.Meanings.{Meaning}
 use Rattle.net_cells.specs.Order.{evaluation_order}
 use Rattle.cell_store.specs.version_table.Histories.{History}
-use Rattle.cell_store.specs.cell_changes.Slots.{HasSlot}
-use Rattle.cell_store.specs.cell_changes.Changes.{TouchedOf}
+use Rattle.cell_rules.specs.cell_changes.Slots.{HasSlot}
+use Rattle.cell_rules.specs.cell_changes.Changes.{TouchedOf}
 use Rattle.cell_store.specs.Placed.{placed}
 use Rattle.cell_store.specs.Edits.{AllAnswered}
 

@@ -5,13 +5,13 @@ ghost use Rattle.net_model.specs.declared.edit.Edit.TheVariants.{Undo};
 ghost use Rattle.net_model.specs.Orders.{IsOrder};
 ghost use Rattle.net_edits.specs.Edited.{edited};
 ghost use Rattle.net_edits.specs.Replies.{IsOverNone};
-ghost use Rattle.cell_store.specs.cell_rules.Finding.{HaveSameCellsBut};
+ghost use Rattle.cell_rules.specs.Finding.{HaveSameCellsBut};
 ghost use Rattle.cell_store.specs.edit_store.Stored.{AreTouched, AreLost};
 ghost use Rattle.cell_store.specs.edit_store.Applied.{Gives, IsPlanned, IsUnplanned};
 
-use crate::cell_rules::{Site, cells_of, gone_cells, touched_cells};
 use crate::edit_store::faults::graph_fault;
 use crate::edit_store::site::{edits_are_made_at_one_site, edits_have_one_site, site_of};
+use cell_rules::{Site, cells_of, gone_cells, touched_cells};
 use net_cells::Cell;
 use net_edits::{EditFault, edited_network};
 use net_model::net_graph::order;

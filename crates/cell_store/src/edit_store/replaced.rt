@@ -6,13 +6,13 @@ ghost use Rattle.net_model.specs.Accepted.{IsAccepted};
 ghost use Rattle.net_model.specs.Networks.{Net};
 ghost use Rattle.net_model.specs.Views.{server_of, flow_of};
 ghost use Rattle.net_edits.specs.Changed.{put_server, put_flow};
-ghost use Rattle.cell_store.specs.declared.cell_rules.site.Site.TheVariants as site;
+ghost use Rattle.cell_rules.specs.declared.site.Site.TheVariants as site;
 ghost use Rattle.cell_store.specs.edit_store.Applied.{Gives};
 ghost use Rattle.cell_store.specs.edit_store.Replaced as spec;
 ghost use Rattle.cell_store.specs.edit_store.Replaced.{IsReplacedAt, without_last};
 
-use crate::cell_rules::Site;
 use crate::edit_store::site::{edits_are_made_at_one_site, site_of};
+use cell_rules::Site;
 use net_cells::server;
 use net_model::{Edit, Flow, Network, Server};
 use std::alloc::{AllocError, Global};

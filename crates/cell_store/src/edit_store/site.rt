@@ -5,7 +5,7 @@ ghost use Rattle.net_edits.specs.Lookups.{server_number, flow_number};
 ghost use Rattle.cell_store.specs.edit_store.Sites as spec;
 ghost use Rattle.cell_store.specs.edit_store.Sites.{EditsAreMadeAtOneSite, EditsHaveOneSite, EditsKeepOtherRules};
 
-use crate::cell_rules::Site;
+use cell_rules::Site;
 use net_model::{Edit, Network};
 
 fn server_site(net: &Network, name: &str) -> Site

@@ -59,7 +59,7 @@ impl<V: CellValue + Drop> Store<V> {
     ghost use Rattle.net_cells.specs.Order.{evaluation_order};
     ghost use Rattle.net_cells.specs.Work.{work};
     ghost use Rattle.net_cells.specs.MemoryEnds.{MemoryEnds};
-    ghost use Rattle.cell_store.specs.cell_changes.Slots.{slots};
+    ghost use Rattle.cell_rules.specs.cell_changes.Slots.{slots};
     ghost use Rattle.cell_store.specs.Edits.{IsFirst, IsFirstTouched, RefusesFor, EditEnds};
     ghost use Rattle.cell_store.specs.edit_store.Stored.{AreTouched, AreLost, IsStored, IsAdvanced, IsBack};
     ghost use Rattle.cell_store.specs.edit_store.Replaced.{put_back};

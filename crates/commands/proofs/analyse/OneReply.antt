@@ -5,7 +5,7 @@ use Rattle.net_model.specs.Accepted.{IsAccepted}
 use Rattle.net_model.specs.Networks.{Net}
 use Rattle.net_model.specs.Orders.{IsOrder}
 use Rattle.net_model.proofs.net_graph.OneOrders.{one_order}
-use Rattle.net_model.proofs.net_graph.Returns.{order_or_cycle}
+use Rattle.net_model.proofs.net_graph.Returns.{cycle_is_closed, order_or_cycle}
 use Rattle.report_text.specs.declared.json_report.form.Form.{Form}
 use Rattle.report_text.proofs.json_report.OneForm.{one_report_in}
 use Rattle.command_replies.specs.Replies.{Reply, AreSame}
@@ -59,9 +59,7 @@ on_order form bytes reply w order o (inr h) = ap (λ (r : Reply). r.status) h.is
 
 on_net : (form : Form) (bytes : List ℕ) (reply : Reply) (w : IsWithinLimits bytes) → OnCycle w.net reply ⊎ OnOrder form w.net reply
     → reply.status ≡ 0
-on_net form bytes reply w (inl h) =
-    let c = h.cycle in
-    absurd (w.feed_forward h.walk (record { start = c.start; between = c.between; is = c.is; steps = c.steps }))
+on_net form bytes reply w (inl h) = absurd (w.feed_forward h.walk (cycle_is_closed w.net h.walk h.cycle))
 on_net form bytes reply w (inr h) = on_order form bytes reply w h.order h.ordered h.on
 
 on_file : (form : Form) (file bytes : List ℕ) (reply : Reply) (w : IsWithinLimits bytes)

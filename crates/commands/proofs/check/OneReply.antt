@@ -9,7 +9,7 @@ use Rattle.net_model.specs.Networks.{Net}
 use Rattle.net_model.specs.NetRoutes.{routes_of}
 use Rattle.net_model.specs.Orders.{IsOrder}
 use Rattle.net_model.proofs.net_graph.OneOrders.{one_order}
-use Rattle.net_model.proofs.net_graph.Returns.{order_or_cycle}
+use Rattle.net_model.proofs.net_graph.Returns.{cycle_is_closed, order_or_cycle}
 use Rattle.report_text.specs.net_cells.specs.Equations.{MeetsEquations}
 use Rattle.report_text.specs.net_cells.specs.Meanings.{CellTable}
 use Rattle.run_check.specs.declared.broken_laws.law.Law.{Law}
@@ -133,9 +133,7 @@ on_order net_bytes run_bytes reply w order o (inr h) = on_check w.net w.run h.at
 
 on_run : (net_bytes run_bytes : List ℕ) (reply : Reply) (w : IsWithinLimits net_bytes run_bytes)
     → OnCycle w.net reply ⊎ OnOrder w.net w.run reply → IsOfReport reply.status
-on_run net_bytes run_bytes reply w (inl h) =
-    let c = h.cycle in
-    absurd (w.feed_forward h.walk record { start = c.start; between = c.between; is = c.is; steps = c.steps })
+on_run net_bytes run_bytes reply w (inl h) = absurd (w.feed_forward h.walk (cycle_is_closed w.net h.walk h.cycle))
 on_run net_bytes run_bytes reply w (inr h) = on_order net_bytes run_bytes reply w h.order h.ordered h.on
 
 on_net : (net_bytes run_file run_bytes : List ℕ) (reply : Reply) (w : IsWithinLimits net_bytes run_bytes)

@@ -8,7 +8,7 @@ use Rattle.net_model.specs.declared.fault.NetKind.{NetKind}
 use Rattle.net_model.specs.declared.fault.NetKind.TheVariants as kinds
 use Rattle.net_model.specs.Accepted.{IsAccepted}
 use Rattle.net_model.specs.Networks.{Net}
-use Rattle.net_text.specs.net_draft.Faults.{Fault, fault_of}
+use Rattle.net_draft.specs.Faults.{Fault, fault_of}
 use Rattle.net_text.specs.Folds.{StepsAtMost}
 use Rattle.net_text.specs.Reading.{IsNetworkOf}
 use Rattle.net_text.specs.FoldLimits.{OverFold}

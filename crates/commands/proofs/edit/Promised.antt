@@ -4,6 +4,7 @@ use Rattle.upp_limits.specs.LimitTest.{fault_of}
 use Rattle.net_model.specs.Networks.{Net}
 use Rattle.net_model.specs.Orders.{IsOrder}
 use Rattle.net_model.specs.Walks.{IsCycle}
+use Rattle.net_model.proofs.net_graph.Returns.{cycle_is_closed}
 use Rattle.command_replies.specs.net_bounds.proofs.Kept.{table_bounds_every_run}
 use Rattle.report_text.specs.net_cells.specs.FirstOver.{FirstOver}
 use Rattle.input_texts.proofs.table_text.OneEditList.{no_edit_list}
@@ -27,7 +28,7 @@ replies_are_complete form net_file net_bytes edits_file edits_bytes reply w (Bad
 replies_are_complete form net_file net_bytes edits_file edits_bytes reply w (Cyclic edits asked h) =
     let one = (says net_bytes).one_network h.net w.net h.gives.reads w.reads in
     let c : IsCycle w.net h.walk = subst (λ (n : Net). IsCycle n h.walk) one h.cycle in
-    absurd (w.feed_forward h.walk (record { start = c.start; between = c.between; is = c.is; steps = c.steps }))
+    absurd (w.feed_forward h.walk (cycle_is_closed w.net h.walk c))
 replies_are_complete form net_file net_bytes edits_file edits_bytes reply w (CellOver edits asked limit h) =
     let one = (says net_bytes).one_network h.net w.net h.gives.reads w.reads in
     let ordered : IsOrder w.net h.order = subst (λ (n : Net). IsOrder n h.order) one h.ordered in

@@ -4,6 +4,7 @@ use Rattle.upp_limits.specs.declared.own_limits.OverLimit.{OverLimit}
 use Rattle.net_model.specs.Networks.{Net}
 use Rattle.net_model.specs.Traces.{SpecTrace}
 use Rattle.net_model.specs.Walks.{IsCycle, IsFeedForward}
+use Rattle.net_model.proofs.net_graph.Returns.{cycle_is_closed}
 use Rattle.net_model.specs.stated_runs.FromTraces.{IsTraceOf}
 use Rattle.report_text.specs.net_cells.specs.Meanings.{CellTable}
 use Rattle.command_replies.specs.Replies.{Reply}
@@ -44,6 +45,5 @@ is_free seed net trace w = subst IsFeedForward (sym w.net) (workloads_stand seed
 -- no flows of a workload go round
 pub never_round : (seed : ℕ) (net : Net) (walk : List ℕ) → net ≡ network_of seed → ¬ (IsCycle net walk)
 never_round seed net walk e c =
-    let d = subst (λ n. IsCycle n walk) e c in
-    (workloads_stand seed).feed_forward walk
-    record { start = d.start; between = d.between; is = d.is; steps = d.steps }
+    let d : IsCycle (network_of seed) walk = subst (λ n. IsCycle n walk) e c in
+    (workloads_stand seed).feed_forward walk (cycle_is_closed (network_of seed) walk d)

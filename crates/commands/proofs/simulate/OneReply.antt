@@ -7,7 +7,7 @@ use Rattle.net_model.specs.Networks.{Net}
 use Rattle.net_model.specs.Orders.{IsOrder}
 use Rattle.net_model.specs.Traces.{SpecTrace, IsTrace}
 use Rattle.net_model.proofs.net_graph.OneOrders.{one_order}
-use Rattle.net_model.proofs.net_graph.Returns.{order_or_cycle}
+use Rattle.net_model.proofs.net_graph.Returns.{cycle_is_closed, order_or_cycle}
 use Rattle.net_model.specs.stated_runs.FromTraces as stated
 use Rattle.input_texts.specs.declared.table_text.fault.TableFault.{TableFault}
 use Rattle.input_texts.specs.table_text.Rows.{rows_of}
@@ -100,8 +100,7 @@ on_order net_bytes trace_bytes reply w order o (inr h) =
 on_trace : (net_bytes trace_bytes : List ℕ) (reply : Reply) (w : IsWithinLimits net_bytes trace_bytes)
     → OnCycle w.net reply ⊎ OnOrder w.net w.trace reply → IsOfReport reply.status
 on_trace net_bytes trace_bytes reply w (inl h) =
-    let c = h.cycle in
-    absurd (w.feed_forward h.walk record { start = c.start; between = c.between; is = c.is; steps = c.steps })
+    absurd (w.feed_forward h.walk (cycle_is_closed w.net h.walk h.cycle))
 on_trace net_bytes trace_bytes reply w (inr h) = on_order net_bytes trace_bytes reply w h.order h.ordered h.on
 
 on_net : (net_bytes trace_file trace_bytes : List ℕ) (reply : Reply) (w : IsWithinLimits net_bytes trace_bytes)

@@ -16,7 +16,7 @@ use Rattle.net_edits.specs.declared.fault.EditFault.{EditFault}
 use Rattle.net_edits.specs.declared.fault.EditFault.TheVariants.{UnknownName, NameTaken, BadValue, LimitReached, Cycle, TooMany, TooWide, NothingToUndo, NoMemory}
 use Rattle.net_edits.specs.Edited.{Edited, edited}
 use Rattle.net_edits.specs.Replies.{Refuses, IsEditOver}
-use Rattle.cell_store.specs.cell_changes.Changes.{Touched}
+use Rattle.cell_rules.specs.cell_changes.Changes.{Touched}
 use Rattle.cell_store.specs.edit_store.Applied.{Gives}
 use Rattle.commands.specs.edit.NetHistories.{NetHistory}
 

@@ -4,7 +4,7 @@ use Rattle.net_model.specs.declared.edit.Edit.{Edit}
 use Rattle.net_model.specs.Networks.{Net}
 use Rattle.net_model.specs.Orders.{IsOrder}
 use Rattle.net_model.specs.Walks.{IsCycle}
-use Rattle.net_text.specs.net_draft.Faults.{Fault}
+use Rattle.net_draft.specs.Faults.{Fault}
 use Rattle.net_text.specs.Folds.{StepsAtMost}
 use Rattle.net_text.specs.Reading.{IsNetworkOf, FirstFault}
 use Rattle.net_text.specs.FoldLimits.{OverFold}

@@ -1,7 +1,7 @@
 -- How many steps an answer on a network and a trace takes: an operator on curves takes one, and a simulation none.
 use Rattle.std.specs.Prelude.{◌≡◌, ◌≤◌, ℕ, List}
 use Rattle.net_model.specs.Networks.{Net}
-use Rattle.net_text.specs.net_draft.Faults.{Fault}
+use Rattle.net_draft.specs.Faults.{Fault}
 use Rattle.net_text.specs.Folds.{StepsAtMost}
 use Rattle.net_text.specs.Reading.{IsNetworkOf, FirstFault}
 use Rattle.net_text.specs.FoldLimits.{OverFold}

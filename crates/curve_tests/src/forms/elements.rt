@@ -4,6 +4,7 @@ ghost use Rattle.std.specs.Prelude.{◌↔◌, IsTrue};
 ghost use Rattle.upp_limits.specs.upp_curve.specs.affine_segment.Elements.{IsProper};
 
 use crate::shapes::{seen_point, whole};
+use std::process::Abort;
 use upp_limits::fraction128::{Frac, Op, Wide};
 use upp_limits::rational::Extended;
 use upp_limits::upp_curve::affine_segment::{Element, Joined, Line, element_conv, is_before};
@@ -90,16 +91,12 @@ fn second_open(j: &Joined) -> Option<(Frac, Option<Frac>, Frac, Frac)> {
     }
 }
 
-#[test]
-fn points_add(rt: HostRuntime) {
-    let j = parts(&point(1, 2), &point(3, 4));
-    assert_eq!(rt; seen_point(&j.first), Some((whole(4), whole(6))));
-    assert!(rt; j.join.is_none());
-    assert!(rt; j.second.is_none());
-}
-
-#[test]
-fn a_point_moves_a_segment(rt: HostRuntime) {
+// Points add, and a point moves a segment, on either side.
+fn expect_points(rt: &impl Abort) {
+    let sum = parts(&point(1, 2), &point(3, 4));
+    assert_eq!(rt; seen_point(&sum.first), Some((whole(4), whole(6))));
+    assert!(rt; sum.join.is_none());
+    assert!(rt; sum.second.is_none());
     let moved = Some((whole(1), Some(whole(6)), whole(3), whole(2)));
     let s = open(0, Some(5), 3, 2);
     let p = point(1, 2);
@@ -111,9 +108,9 @@ fn a_point_moves_a_segment(rt: HostRuntime) {
     assert_eq!(rt; seen_open(&k.first), moved);
 }
 
-// 5 just after both starts; the falling one gives up 3 until its end at 4, and the other then rises by 6 until 6.
-#[test]
-fn the_smaller_slope_comes_first(rt: HostRuntime) {
+// The smaller slope comes first: 5 just after both starts; the falling one gives up 3 until its end at 4, and the other
+// then rises by 6 until 6.
+fn expect_slopes(rt: &impl Abort) {
     let rising = open(0, Some(2), 1, 3);
     let falling = open(1, Some(4), 5, -1);
     let j = parts(&rising, &falling);
@@ -127,8 +124,8 @@ fn the_smaller_slope_comes_first(rt: HostRuntime) {
     assert_eq!(rt; second_open(&k), after);
 }
 
-#[test]
-fn one_slope_or_no_end_makes_one_part(rt: HostRuntime) {
+// One slope, or a segment without an end, makes one part.
+fn expect_one_part(rt: &impl Abort) {
     let endless = Some((whole(1), None, whole(3), whole(1)));
     let j = parts(&open(0, Some(2), 1, 1), &open(1, None, 2, 1));
     assert_eq!(rt; seen_open(&j.first), endless);
@@ -139,7 +136,10 @@ fn one_slope_or_no_end_makes_one_part(rt: HostRuntime) {
 }
 
 #[test]
-fn names_the_step_that_is_too_wide(rt: HostRuntime) {
+fn what_two_elements_make(rt: HostRuntime) {
+    expect_points(&rt);
+    expect_slopes(&rt);
+    expect_one_part(&rt);
     let sum = Wide {
         op: Op::Add,
         a: whole(LARGEST),

@@ -69,8 +69,30 @@ pub(crate) fn stair(rt: &impl Abort, alloc: Global) -> Result<Curve, OpFault> {
     }
 }
 
+// Infinite curves are one.
+fn expect_one_infinite(rt: &impl Abort, alloc: Global) -> Result<(), Fail> {
+    let rank = Frac::zero();
+    let late = Tail::Infinite { rank };
+    let steep = Line {
+        icept: Frac::zero(),
+        slope: share(1 << 61),
+    };
+    let zero = Extended::Fin(Frac::zero());
+    let with_line = normal(rt, start(alloc, zero, Some(steep))?, late)?;
+    let without = normal(rt, start(alloc, zero, None)?, late)?;
+    assert!(rt; equal(&with_line, &without));
+    let nowhere = normal(rt, start(alloc, Extended::Inf, None)?, late)?;
+    assert!(rt; !equal(&nowhere, &without));
+    for tail in [Tail::Affine { rank }, periodic((0, 1, 7))] {
+        let same = normal(rt, start(alloc, Extended::Inf, None)?, tail)?;
+        assert!(rt; equal(&nowhere, &same), "{tail:?}");
+    }
+    Ok(())
+}
+
 #[test]
-fn periods_and_ranks_are_the_least(rt: HostRuntime) -> Result<(), Fail> {
+fn normal_forms(rt: HostRuntime) -> Result<(), Fail> {
+    expect_one_infinite(&rt, rt.alloc())?;
     for (rows, given, kept) in [
         ([(0, 1), (2, 2)].as_slice(), (0, 4, 2), (0, 2, 1)),
         ([(0, 1), (1, 2), (2, 3)].as_slice(), (0, 3, 3), (0, 1, 1)),
@@ -86,28 +108,6 @@ fn periods_and_ranks_are_the_least(rt: HostRuntime) -> Result<(), Fail> {
         assert_eq!(rt; parts, Some(wanted), "of {given:?}");
         let ranks = if kept.0 == 0 { 1 } else { 2 };
         assert_eq!(rt; c.piece_count(), ranks, "of {given:?}");
-    }
-    Ok(())
-}
-
-#[test]
-fn infinite_curves_are_one(rt: HostRuntime) -> Result<(), Fail> {
-    let alloc = rt.alloc();
-    let rank = Frac::zero();
-    let late = Tail::Infinite { rank };
-    let steep = Line {
-        icept: Frac::zero(),
-        slope: share(1 << 61),
-    };
-    let zero = Extended::Fin(Frac::zero());
-    let with_line = normal(&rt, start(alloc, zero, Some(steep))?, late)?;
-    let without = normal(&rt, start(alloc, zero, None)?, late)?;
-    assert!(rt; equal(&with_line, &without));
-    let nowhere = normal(&rt, start(alloc, Extended::Inf, None)?, late)?;
-    assert!(rt; !equal(&nowhere, &without));
-    for tail in [Tail::Affine { rank }, periodic((0, 1, 7))] {
-        let same = normal(&rt, start(alloc, Extended::Inf, None)?, tail)?;
-        assert!(rt; equal(&nowhere, &same), "{tail:?}");
     }
     Ok(())
 }

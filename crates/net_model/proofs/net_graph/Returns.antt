@@ -3,11 +3,12 @@ use Rattle.std.proofs.Common.{◌≡◌, ℕ, suc, zero, ◌<◌, List, [], ◌�
 use Rattle.std.proofs.lemmas.Option.{slice_get_within}
 use Rattle.net_model.specs.Networks.{Net}
 use Rattle.net_model.specs.Accepted.{IsAccepted}
-use Rattle.net_model.specs.Walks.{IsNext, Chain, IsFeedForward}
+use Rattle.net_model.specs.Walks.{IsNext, IsFirstBefore, Chain, IsClosed, IsCycle, IsFeedForward}
 use Rattle.net_model.specs.Orders.{IsOrder}
 use Rattle.net_model.specs.net_graph.OrderLaws.{OrderOrCycle}
 use Rattle.net_model.proofs.net_graph.Members.{place_of, of_front}
 use Rattle.net_model.proofs.net_graph.Forward.{goes_forward, has_each_server}
+use Rattle.net_model.proofs.net_graph.Chains.{weaker}
 
 -- paths go over servers of the network
 pub first_in_range : (net : Net) (a b : ℕ) → IsAccepted net → IsNext net a b → a < length net.servers
@@ -15,6 +16,12 @@ first_in_range net a b kept n =
     let hop = (kept.flows n.flow n.live).hops n.step.hop (omega (arith, n.step.on_path)) in
     let P : ℕ → Type 0 = λ s. s < length net.servers in
     subst P n.step.from (slice_get_within net.servers (get_or n.flow.path n.step.hop 0) hop.server hop.is)
+
+pub next_in_range : (net : Net) (a b : ℕ) → IsAccepted net → IsNext net a b → b < length net.servers
+next_in_range net a b kept n =
+    let hop = (kept.flows n.flow n.live).hops (suc n.step.hop) n.step.on_path in
+    let P : ℕ → Type 0 = λ s. s < length net.servers in
+    subst P n.step.to (slice_get_within net.servers (get_or n.flow.path (suc n.step.hop) 0) hop.server hop.is)
 
 -- where a walk begins, and where it goes first
 first_step : (R : ℕ → ℕ → Type 0) (x : ℕ) (ys : List ℕ) (z : ℕ) → Chain R (x ∷ (ys ++ z ∷ [])) → (y : ℕ) × R x y
@@ -46,9 +53,17 @@ feed_forward net xs kept o walk w =
     let s = place_of xs w.start ((has_each_server net xs o).each w.start (first_in_range net w.start first.0 kept first.1)) in
     no_place net xs o w.start w.between steps (suc s.place) s.place (omega arith) s.within s.is
 
+pub cycle_is_closed : (net : Net) (walk : List ℕ) → IsCycle net walk → IsClosed (IsNext net) walk
+cycle_is_closed net walk r = record {
+  start = r.ring.start;
+  between = r.ring.between;
+  is = r.ring.is;
+  steps = weaker (IsFirstBefore net) (IsNext net) (λ a b h. h.meets.0) walk r.ring.steps;
+}
+
 pub order_or_cycle : OrderOrCycle
 order_or_cycle = record {
   feed_forward = feed_forward;
   no_cycle = λ net xs walk kept o r.
-      feed_forward net xs kept o walk (record { start = r.start; between = r.between; is = r.is; steps = r.steps });
+      feed_forward net xs kept o walk (cycle_is_closed net walk r);
 }

@@ -8,7 +8,8 @@ use Rattle.run_laws.specs.Cards.{Card, size, Arrives, Works, Leaves, Visits}
 use Rattle.run_laws.specs.Servers.{Discipline, Under, Span, ServerState, done, done_so_far}
 use Rattle.run_laws.specs.Next.{next}
 use Rattle.run_laws.specs.Routes.{Routes, PassesServer}
-use Rattle.run_laws.specs.Views.{Entry, entry_of, hops_of, card_of}
+use Rattle.run_laws.specs.Views.{Entry, entry_of}
+pub use Rattle.net_model.specs.stated_runs.CardsAt.{IsCardAt}
 use Rattle.net_model.proofs.stated_runs.Lists.{In, in_either, in_rest}
 
 -- the later list knows the packets of the earlier
@@ -17,12 +18,6 @@ IsExtendedBy before after = (p : ℕ) → p < length before → (p < length afte
 
 pub extends_same : (entered : List Entry) → IsExtendedBy entered entered
 extends_same entered p h = (h, refl)
-
--- a card of server s is that of a packet which has entered and whose path has the server
-pub record IsCardAt (net : Routes) (entered : List Entry) (s : ℕ) (c : Card) : Type 0 where
-  pub is : c ≡ card_of net entered c.packet s
-  pub entered_one : c.packet < length entered
-  pub passes : PassesServer s (hops_of net entered c.packet)
 
 pub card_extends : (net : Routes) (before after : List Entry) (s : ℕ) (c : Card) → IsExtendedBy before after → IsCardAt net before s c → IsCardAt net after s c
 card_extends net before after s c x h =

@@ -6,7 +6,8 @@ use Rattle.upp_limits.specs.rational.specs.Rational.{le_q}
 use Rattle.run_laws.specs.Cards.{Card}
 use Rattle.run_laws.specs.Servers.{head_of, without_head}
 use Rattle.run_laws.specs.Lawful.{Due, same_due, without}
-pub use Rattle.run_laws.proofs.Members.{Has as In, has_left as in_left, at_has as at_in, contains_has as contains_in, has_contains as in_contains}
+pub use Rattle.run_laws.specs.Members.{Has as In}
+pub use Rattle.run_laws.proofs.Members.{has_left as in_left, at_has as at_in, contains_has as contains_in, has_contains as in_contains}
 
 pub in_either : {X : Type 0} (xs : List X) (y x : X) → In (xs ++ y ∷ []) x → In xs x ⊎ (y ≡ x)
 in_either [] y x (inl e) = inr e

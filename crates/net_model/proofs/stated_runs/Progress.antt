@@ -96,7 +96,7 @@ turn_next S ok r T g x due k a = λ s h. elim (cases_eq s (server_of S.net x)) [
 start_turn : (d : Discipline) → KeepsRound d (start d)
 start_turn Fifo = tt
 start_turn (Priority n) = tt
-start_turn (Drr quanta) = (Rattle.net_model.proofs.queue_sched.Fresh.drr_turn quanta)
+start_turn (Drr quanta) = (Rattle.queue_sched.proofs.Fresh.drr_turn quanta)
 
 pub turn_start : (S : Setup) → AllKeepTurns S (run_start S.net)
 turn_start S = λ s h.

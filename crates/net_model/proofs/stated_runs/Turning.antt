@@ -10,8 +10,8 @@ use Rattle.run_laws.specs.Allows.{pick, or_else, first_head, visited_head, next_
 use Rattle.run_laws.proofs.Heads.{same_some, head_push, pick_is_head}
 use Rattle.run_laws.specs.Rounds.{VisitIsFirst, count_of, presence}
 use Rattle.run_laws.proofs.Rounds.{HasLeft, first_counts, head_without}
-use Rattle.net_model.specs.queue_sched.InTurn.{IsInTurn, quantum_of, longest, turn_goes_on}
-use Rattle.net_model.proofs.queue_sched.InTurnSteps.{turn_arrives, turn_starts, turn_left, turn_visits}
+use Rattle.queue_sched.specs.InTurn.{IsInTurn, quantum_of, longest, turn_goes_on}
+use Rattle.queue_sched.proofs.InTurnSteps.{turn_arrives, turn_starts, turn_left, turn_visits}
 
 abbrev pub KeepsRound : Discipline → ServerState → Type 0
 KeepsRound Fifo σ = Unit {0}

@@ -4,7 +4,7 @@ use Rattle.net_model.specs.Walks.{IsCycle}
 use Rattle.net_model.specs.declared.net_graph.placing.GraphFault.{GraphFault}
 use Rattle.net_model.specs.declared.net_graph.placing.GraphFault.TheVariants.{Cycle, NoMemory}
 
--- a cycle of the network, or an allocation that was refused
+-- the cycle of the network, or an allocation that was refused
 abbrev pub IsGraphFault : Net → GraphFault → Type 0
 IsGraphFault net (Cycle walk) = IsCycle net walk.items
 IsGraphFault net NoMemory = Unit {0}

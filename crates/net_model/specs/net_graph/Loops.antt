@@ -1,35 +1,51 @@
--- Walks along lists of servers to wait for, backwards until they meet themselves. (Own choice.)
-use Rattle.std.specs.Prelude.{◌≡◌, ℕ, ◌<◌, ◌≤◌, ◌+◌, ◌-◌, List, [], ◌∷◌, ◌++◌, length, take, drop, reverse, All, Contains, Bool, true, Option, Some, None, slice_get, slice_index, nat_eq}
+-- Walks backwards, from each server to the least that it waits for, until they meet themselves. (Own choice.)
+use Rattle.std.specs.Prelude.{◌≡◌, ℕ, ◌<◌, ◌≤◌, ◌+◌, List, [], ◌∷◌, ◌++◌, length, take, drop, reverse, All, Contains, Bool, true, Option, Some, None, MatchOption, slice_index, slice_index_or, nat_eq}
 use Rattle.std.specs.List.{IsDistinct}
-use Rattle.net_model.specs.Walks.{Chain}
-use Rattle.net_model.specs.net_graph.Waits.{list_at}
+use Rattle.upp_limits.specs.Windows.{IsLeast}
+use Rattle.net_model.specs.Walks.{Chain, IsBehind}
+use Rattle.net_model.specs.net_graph.Waits.{list_at, IsFree}
 
--- a is on the list of b
-abbrev pub IsAwaited : List (List ℕ) → ℕ → ℕ → Type 0
-IsAwaited lists a b = Contains (list_at lists b) a
+-- a is on the list of b and has no place
+pub record IsAwaited (placed : List Bool) (lists : List (List ℕ)) (b a : ℕ) : Type 0 where
+  pub listed : Contains (list_at lists b) a
+  pub free : IsFree placed a
 
--- b waits for a
-abbrev pub WaitsFor : List (List ℕ) → ℕ → ℕ → Type 0
-WaitsFor lists b a = IsAwaited lists a b
+-- the least of these
+abbrev pub IsFirstAwaited : List Bool → List (List ℕ) → ℕ → ℕ → Type 0
+IsFirstAwaited placed lists a b = IsLeast (IsAwaited placed lists b) a
 
--- a server has a list, and its last is within
-pub record LastIsInside (inside : ℕ → Bool) (lists : List (List ℕ)) (server : ℕ) : Type 0 where
-  pub listed : server < length lists
-  pub last : ℕ
-  pub is : slice_get (list_at lists server) (length (list_at lists server) - 1) ≡ Some last
-  pub within : inside last ≡ true
+-- of each server, or none where there is none
+abbrev pub AreFirsts : List Bool → List (List ℕ) → List (Option ℕ) → Type 0
+AreFirsts placed lists firsts = (b : ℕ) → b < length firsts
+    → MatchOption (slice_index_or firsts b None) ((a : ℕ) → ¬ (IsAwaited placed lists b a)) (λ a. IsFirstAwaited placed lists a b)
+
+-- a is the first that b waits for
+abbrev pub IsFirst : List (Option ℕ) → ℕ → ℕ → Type 0
+IsFirst firsts a b = slice_index_or firsts b None ≡ Some a
+
+-- b waits for a first
+abbrev pub WaitsFor : List (Option ℕ) → ℕ → ℕ → Type 0
+WaitsFor firsts b a = IsFirst firsts a b
+
+-- a server has a first that it waits for, which is within
+pub record FirstIsInside (inside : ℕ → Bool) (firsts : List (Option ℕ)) (server : ℕ) : Type 0 where
+  pub listed : server < length firsts
+  pub first : ℕ
+  pub is : IsFirst firsts first server
+  pub within : inside first ≡ true
 
 -- servers among which each waits for another one, and start is one of them
-pub record IsTrap (lists : List (List ℕ)) (start : ℕ) : Type 0 where
+pub record IsTrap (firsts : List (Option ℕ)) (start : ℕ) : Type 0 where
   pub inside : ℕ → Bool
   pub begins : inside start ≡ true
-  pub waits : (server : ℕ) → inside server ≡ true → LastIsInside inside lists server
+  pub waits : (server : ℕ) → inside server ≡ true → FirstIsInside inside firsts server
 
--- each waits for the next, and the last for the first; none is there twice
-pub record IsLoopBack (lists : List (List ℕ)) (servers : List ℕ) : Type 0 where
+-- each waits for the next, and the last for the first; none is there twice; and one comes to each from start
+pub record IsLoopBack (firsts : List (Option ℕ)) (start : ℕ) (servers : List ℕ) : Type 0 where
   pub some : 0 < length servers
-  pub waits : Chain (WaitsFor lists) (servers ++ slice_index servers 0 ∷ [])
+  pub waits : Chain (WaitsFor firsts) (servers ++ slice_index servers 0 ∷ [])
   pub once : IsDistinct nat_eq servers
+  pub comes : (server : ℕ) → Contains servers server → (steps : ℕ) × IsBehind (IsFirst firsts) steps server start
 
 -- the place of a server in a list, or none
 abbrev pub FindsPlace : List ℕ → ℕ → Option ℕ → Type 0

@@ -1,9 +1,11 @@
 //! A cycle among servers that all wait.
 
-ghost use Rattle.std.specs.Prelude.{◌≡◌, ℕ, ◌<◌, ◌≤◌, ◌-◌, length, IfOk, MatchOption, slice_get};
-ghost use Rattle.net_model.specs.Walks.{IsRing};
+ghost use Rattle.std.specs.Prelude.{◌≡◌, ℕ, ◌<◌, ◌≤◌, length, IfOk, MatchOption};
+ghost use Rattle.upp_limits.specs.Windows.{IsLeast};
+ghost use Rattle.net_model.specs.Walks.{IsRingBefore};
 ghost use Rattle.net_model.specs.net_graph.Waits.{lists_of, AreBusy, IsFree, IsPlaced};
-ghost use Rattle.net_model.specs.net_graph.Loops.{FindsPlace, IsAwaited, IsFromLeast, IsLeastPlace, IsLoopBack, IsTrap};
+ghost use Rattle.net_model.specs.net_graph.Loops.{AreFirsts, FindsPlace, IsAwaited, IsFirst, IsFirstAwaited};
+ghost use Rattle.net_model.specs.net_graph.Loops.{IsFromLeast, IsLeastPlace, IsLoopBack, IsTrap};
 
 use std::alloc::{AllocError, Global};
 
@@ -13,17 +15,43 @@ fn place_in(servers: &[u32], server: u32) -> Option<usize>
     servers.iter().position(|s| *s == server)
 }
 
-fn last_of(list: &[u32]) -> u32
-    requires { 0 < length list.now }
-    ensures { slice_get list.now (length list.now - 1) ≡ Some result }
+// The least server that is not placed and for which this one waits.
+fn first_awaited(before: &[Vec<u32>], is_placed: &[bool], waiting: usize) -> Option<u32>
+    requires within { waiting < length before.now }
+    requires few { length is_placed.now ≤ 64 }
+    ensures { MatchOption result
+        ((a : ℕ) → ¬ (IsAwaited is_placed.now (lists_of before.now) waiting a))
+        (λ a. IsFirstAwaited is_placed.now (lists_of before.now) a waiting) }
 {
-    list[list.len() - 1]
+    for server in 0..is_placed.len() {
+        if !is_placed[server] && before[waiting].contains(&(server as u32)) {
+            return Some(server as u32);
+        }
+    }
+    None
 }
 
-// From a server to one that it waits for, until one comes again: the servers from that one on.
-fn loop_back(alloc: Global, before: &[Vec<u32>], start: u32) -> Result<Vec<u32>, AllocError>
-    requires { IsTrap (lists_of before.now) start }
-    ensures { IfOk result (λ v. IsLoopBack (lists_of before.now) v.items) }
+// For each server the least one that is not placed and for which it waits.
+fn firsts_awaited(
+    alloc: Global,
+    before: &[Vec<u32>],
+    is_placed: &[bool],
+) -> Result<Vec<Option<u32>>, AllocError>
+    requires few { length is_placed.now ≤ 64 }
+    ensures { IfOk result (λ v. (length v.items ≡ length before.now)
+        × AreFirsts is_placed.now (lists_of before.now) v.items) }
+{
+    let mut firsts = Vec::with_capacity(alloc, before.len())?;
+    for server in 0..before.len() {
+        firsts.push(first_awaited(before, is_placed, server))?;
+    }
+    Ok(firsts)
+}
+
+// From a server to the first that it waits for, until one comes again: the servers from that one on.
+fn loop_back(alloc: Global, firsts: &[Option<u32>], start: u32) -> Result<Vec<u32>, AllocError>
+    requires { IsTrap firsts.now start }
+    ensures { IfOk result (λ v. IsLoopBack firsts.now start v.items) }
 {
     let mut seen = Vec::new(alloc);
     let mut at = start;
@@ -32,7 +60,10 @@ fn loop_back(alloc: Global, before: &[Vec<u32>], start: u32) -> Result<Vec<u32>,
             return Vec::from_slice(alloc, &seen[place..]);
         }
         seen.push(at)?;
-        at = last_of(&before[at as usize]);
+        match firsts[at as usize] {
+            Some(first) => at = first,
+            None => unreachable!(),
+        }
     }
 }
 
@@ -62,22 +93,25 @@ fn from_least(alloc: Global, servers: &[u32]) -> Result<Vec<u32>, AllocError>
     Ok(walk)
 }
 
-// A cycle among servers each of which waits for another one of them.
-fn cycle_from(alloc: Global, before: &[Vec<u32>], start: u32) -> Result<Vec<u32>, AllocError>
-    requires { IsTrap (lists_of before.now) start }
-    ensures { IfOk result (λ v. IsRing (IsAwaited (lists_of before.now)) v.items) }
+// The cycle to which one comes from a server, each time to the first that is waited for.
+fn cycle_from(alloc: Global, firsts: &[Option<u32>], start: u32) -> Result<Vec<u32>, AllocError>
+    requires { IsTrap firsts.now start }
+    ensures { IfOk result (λ v. IsRingBefore (λ s. s ≡ start) (IsFirst firsts.now) v.items) }
 {
-    let servers = loop_back(alloc, before, start)?;
+    let servers = loop_back(alloc, firsts, start)?;
     from_least(alloc, &servers)
 }
 
 fn first_free(is_placed: &[bool]) -> Option<usize>
-    ensures { MatchOption result ((s : ℕ) → ¬ (IsFree is_placed.now s)) (λ s. IsFree is_placed.now s) }
+    ensures { MatchOption result
+        ((s : ℕ) → ¬ (IsFree is_placed.now s))
+        (λ s. IsLeast (IsFree is_placed.now) s) }
 {
     is_placed.iter().position(|placed| !*placed)
 }
 
-// A cycle among servers that are not placed, where each of them waits for one of them.
+// The cycle among servers that are not placed, where each of them waits for one of them: from the least of them, back
+// each time to the least that is waited for.
 pub(crate) fn cycle_of(
     alloc: Global,
     before: &[Vec<u32>],
@@ -87,10 +121,12 @@ pub(crate) fn cycle_of(
     requires few { length is_placed.now ≤ 64 }
     requires busy { AreBusy is_placed.now (lists_of before.now) (length is_placed.now) }
     requires some { ¬ ((s : ℕ) → s < length is_placed.now → IsPlaced is_placed.now s) }
-    ensures { IfOk result (λ v. IsRing (IsAwaited (lists_of before.now)) v.items) }
+    ensures { IfOk result (λ v.
+        IsRingBefore (IsFree is_placed.now) (IsFirstAwaited is_placed.now (lists_of before.now)) v.items) }
 {
+    let firsts = firsts_awaited(alloc, before, is_placed)?;
     match first_free(is_placed) {
-        Some(start) => cycle_from(alloc, before, start as u32),
+        Some(start) => cycle_from(alloc, &firsts, start as u32),
         None => unreachable!(),
     }
 }

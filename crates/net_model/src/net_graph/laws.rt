@@ -1,8 +1,13 @@
-ghost use Rattle.net_model.specs.net_graph.OrderLaws.{OneOrder, OrderHasEachServer, OrderGoesForward, OrderOrCycle};
+ghost use Rattle.net_model.specs.net_graph.OrderLaws.{OneOrder, OneCycle, OrderHasEachServer, OrderGoesForward, OneOfBoth, OrderOrCycle};
 
 /// A network has one order at most.
 pub fn one_order()
     ensures { OneOrder }
+{}
+
+/// Of a network one cycle at most is told.
+pub fn one_cycle()
+    ensures { OneCycle }
 {}
 
 /// Each server stands in an order exactly once, and nothing else does.
@@ -15,7 +20,8 @@ pub fn order_goes_forward()
     ensures { OrderGoesForward }
 {}
 
-/// A network with an order has no closed walk: so it has an order or a cycle, and never both.
+/// An accepted network has an order or a cycle, and never both: with an order it has no closed walk.
 pub fn order_or_cycle()
-    ensures { OrderOrCycle }
+    ensures one { OneOfBoth }
+    ensures not_both { OrderOrCycle }
 {}

@@ -13,7 +13,8 @@ use std::alloc::{AllocError, AllocFailed, Global};
 #[derive(Debug, Drop)]
 pub enum GraphFault {
     /// Servers that come back to the first of them, which is the least; each is right after the one before it on the
-    /// path of some live flow, and no other is repeated.
+    /// path of some live flow, and no other is repeated. Of several such rings it is the one to which one comes from
+    /// the least server that can have no place, each time back to the least such server right before.
     Cycle(Vec<u32>),
     /// An allocation was refused.
     NoMemory,
@@ -42,8 +43,8 @@ impl<T: Drop> From<AllocFailed<T>> for GraphFault {
 }
 
 /// The servers of a network, each after those that some live flow passes right before it: at each turn the least one
-/// whose predecessors are all placed. There is one such order, unless the network has a cycle, which is then the
-/// answer. Linear in the hops of all flows, and at each turn one look at each server.
+/// whose predecessors are all placed. There is one such order, unless the network has a cycle: then the one that is
+/// told is the answer. Linear in the hops of all flows, and at each turn one look at each server.
 pub fn order(alloc: Global, net: &Network) -> Result<Vec<u32>, GraphFault>
     ensures order { IfOk result (λ v. IsOrder net.now v.items) }
     ensures fault { IfErr result (IsGraphFault net.now) }

@@ -3,8 +3,9 @@
 use exercise_load::workload;
 use std::test::Fail;
 
+// Its flows pass one server each, and the first one starts at server 2.
 #[test]
-fn the_flows_of_7_pass_one_server_each(rt: HostRuntime) -> Result<(), Fail> {
+fn the_workload_of_7(rt: HostRuntime) -> Result<(), Fail> {
     let load = workload(rt.alloc(), 7)?;
     assert_eq!(rt; load.net.servers().len(), 16);
     assert_eq!(rt; load.net.flows().len(), 24);
@@ -14,12 +15,6 @@ fn the_flows_of_7_pass_one_server_each(rt: HostRuntime) -> Result<(), Fail> {
             None => assert!(rt; false),
         }
     }
-    Ok(())
-}
-
-#[test]
-fn the_first_flow_of_7_starts_at_server_2(rt: HostRuntime) -> Result<(), Fail> {
-    let load = workload(rt.alloc(), 7)?;
     let first = load.net.flow_named("f0").ok_or("no flow f0")?;
     match load.net.flows().get(first as usize) {
         Some(Some(flow)) => assert_eq!(rt; flow.path.as_slice(), [2].as_slice()),

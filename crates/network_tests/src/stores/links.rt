@@ -1,9 +1,9 @@
 //! Lists worked out by hand.
 
 ghost use Rattle.std.specs.Prelude.{◌≡◌, ◌<◌, length};
-ghost use Rattle.net_model.specs.index_links.Chains.{IsFree};
+ghost use Rattle.queue_sched.specs.index_links.Chains.{IsFree};
 
-use net_model::index_links::Links;
+use queue_sched::index_links::Links;
 use std::test::Fail;
 
 /// Puts a node at the end of a list, where no list has it, and tells whether it was so.

@@ -10,9 +10,9 @@ use Rattle.net_model.specs.run_laws.specs.Servers.{Under, done}
 use Rattle.net_model.specs.run_laws.specs.Routes.{Hop, Routes, route_of, link_at, PassesServer, first_server, server_after}
 use Rattle.net_model.specs.run_laws.specs.Views.{Entry, entry_of, hops_of, card_of}
 use Rattle.net_model.specs.run_laws.specs.Lawful.{Due, RunState, state_at}
-use Rattle.net_model.specs.run_laws.proofs.Members.{Has}
-use Rattle.net_model.specs.run_laws.proofs.States.{IsSound}
-use Rattle.net_model.proofs.stated_runs.GoodServers.{IsCardAt}
+use Rattle.net_model.specs.run_laws.specs.Members.{Has}
+use Rattle.net_model.specs.run_laws.specs.Sound.{IsSound}
+use Rattle.net_model.specs.stated_runs.CardsAt.{IsCardAt}
 use Rattle.sim_servers.specs.sim_states.Places.{ArePlaced}
 use Rattle.run_check.specs.declared.broken_laws.place.Place.{Place}
 use Rattle.run_check.specs.declared.broken_laws.place.Place.TheVariants.{At, OnLink, Gone}

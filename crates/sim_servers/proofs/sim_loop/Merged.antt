@@ -2,7 +2,7 @@
 use Rattle.std.specs.Prelude.{Option, Some, None, ◌≡◌, ◌⊎◌, ℕ, zero, suc, ◌+◌, ◌<◌, List, [], ◌∷◌, length, get_or, slice_get}
 use Rattle.std.proofs.Common.{arith, refl, sym, ap, ◌∙◌, subst, inl, inr}
 use Rattle.std.proofs.lemmas.Bool.{cases_lt}
-use Rattle.net_model.specs.index_links.Chains.{Chains, list_at, first_of}
+use Rattle.queue_sched.specs.index_links.Chains.{Chains, list_at, first_of}
 use Rattle.net_model.specs.stated_runs.Setups.{Setup}
 use Rattle.sim_servers.specs.declared.due.Due.{Due}
 use Rattle.sim_servers.specs.declared.station.Station.{Station}
@@ -11,7 +11,7 @@ use Rattle.sim_servers.specs.Stations.{due_for}
 use Rattle.sim_servers.proofs.Firsts.{no_later_refl, no_later_trans}
 use Rattle.sim_servers.specs.declared.sim_states.arrival.Arrival.{Arrival}
 use Rattle.sim_servers.specs.sim_states.Running.{enter_first, reach_first, station_due, IsCandidate, IsFirstCandidate}
-pub use Rattle.net_model.proofs.index_links.Popped.{first_has}
+pub use Rattle.queue_sched.proofs.index_links.Popped.{first_has}
 
 -- with no server there is the packet that enters
 pub first_entry : (S : Setup) (stations : List Station) (links : Chains) (arrivals : List Arrival) (n : ℕ) (o : Option Due)

@@ -13,7 +13,7 @@ use Rattle.net_model.specs.run_laws.specs.Rounds.{presence}
 use Rattle.net_model.specs.run_laws.specs.Routes.{server_at}
 use Rattle.net_model.specs.run_laws.specs.Lawful.{RunState, state_at}
 use Rattle.net_model.specs.run_laws.proofs.Rounds.{first_counts}
-use Rattle.net_model.specs.index_links.Chains.{Chains}
+use Rattle.queue_sched.specs.index_links.Chains.{Chains}
 use Rattle.net_model.specs.stated_runs.Setups.{Setup, IsSetup}
 use Rattle.net_model.specs.stated_runs.DueSteps.{IsVisited, IsDue, rank_of, step_time, RankAtMost}
 use Rattle.net_model.specs.stated_runs.Simulated.{IsNext}

@@ -7,9 +7,9 @@ use Rattle.std.proofs.Math.ListN.{length-set}
 use Rattle.rational.specs.Rational.{ℚ, int, ◌<ℚ◌}
 use Rattle.net_model.specs.run_laws.specs.Lawful as lawful
 use Rattle.net_model.specs.run_laws.specs.Lawful.{RunState, without, state_at}
-use Rattle.net_model.specs.index_links.Chains as chains
-use Rattle.net_model.specs.index_links.Chains.{Chains, list_at, Has, unlinked, with_list}
-use Rattle.net_model.proofs.index_links.Members.{has_left, has_right, has_either, has_without, without_has}
+use Rattle.queue_sched.specs.index_links.Chains as chains
+use Rattle.queue_sched.specs.index_links.Chains.{Chains, list_at, Has, unlinked, with_list}
+use Rattle.queue_sched.proofs.index_links.Members.{has_left, has_right, has_either, has_without, without_has}
 use Rattle.net_model.specs.stated_runs.Setups.{Setup}
 use Rattle.net_model.proofs.stated_runs.Lists.{In, in_left, in_either, in_without, in_without_other}
 use Rattle.sim_servers.specs.declared.station.Station.{Station}

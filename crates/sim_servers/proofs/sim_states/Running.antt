@@ -11,7 +11,7 @@ use Rattle.net_model.specs.run_laws.specs.Next.{next}
 use Rattle.net_model.specs.run_laws.specs.Routes.{server_at, link_at}
 use Rattle.net_model.specs.run_laws.specs.Views.{Entry, entry_of, server_of, seen}
 use Rattle.net_model.specs.run_laws.specs.Lawful.{RunState, state_at, next_run, run_start}
-use Rattle.net_model.specs.index_links.Chains.{Chains}
+use Rattle.queue_sched.specs.index_links.Chains.{Chains}
 use Rattle.net_model.specs.stated_runs.Setups.{Setup, packet_of}
 use Rattle.net_model.specs.stated_runs.Simulated.{IsNext, FollowsSoFar}
 use Rattle.net_model.specs.stated_runs.Laws.{state_after}

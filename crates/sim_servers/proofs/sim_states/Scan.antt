@@ -13,7 +13,7 @@ use Rattle.net_model.specs.run_laws.specs.Routes.{server_at}
 use Rattle.net_model.specs.run_laws.proofs.Heads.{pick_is_head}
 use Rattle.net_model.specs.run_laws.specs.Lawful as lawful
 use Rattle.net_model.specs.run_laws.specs.Lawful.{RunState, state_at}
-use Rattle.net_model.specs.index_links.Chains.{Chains, list_at, Has, first_of}
+use Rattle.queue_sched.specs.index_links.Chains.{Chains, list_at, Has, first_of}
 use Rattle.net_model.specs.stated_runs.Setups.{Entering, Setup, packet_of, IsFirstOpen}
 use Rattle.net_model.specs.stated_runs.DueSteps.{IsLeaving, IsResumed, IsStarted, IsVisited, IsDue, Rank, RankAtMost, rank_of, step_time, work_kind}
 use Rattle.net_model.specs.stated_runs.Laws.{state_after}

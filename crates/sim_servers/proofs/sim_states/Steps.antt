@@ -10,7 +10,7 @@ use Rattle.net_model.specs.run_laws.specs.Routes.{server_at, link_at, server_aft
 use Rattle.net_model.specs.run_laws.specs.Views.{hops_of, card_of, server_of}
 use Rattle.net_model.specs.run_laws.specs.Lawful as lawful
 use Rattle.net_model.specs.run_laws.specs.Lawful.{RunState, sent, state_at, next_run}
-use Rattle.net_model.specs.index_links.Chains.{Chains, list_at, Has, unlinked, with_list}
+use Rattle.queue_sched.specs.index_links.Chains.{Chains, list_at, Has, unlinked, with_list}
 use Rattle.net_model.specs.stated_runs.Setups.{Setup, packet_of, IsSetup}
 use Rattle.net_model.specs.stated_runs.DueSteps.{IsEntering, IsLeaving}
 use Rattle.net_model.specs.stated_runs.Simulated.{IsNext}

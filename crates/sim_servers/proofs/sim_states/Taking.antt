@@ -12,8 +12,8 @@ use Rattle.net_model.specs.run_laws.specs.Routes.{server_at, route_of, queue_at,
 use Rattle.net_model.specs.run_laws.specs.Views.{hops_of}
 use Rattle.net_model.specs.run_laws.specs.Lawful as lawful
 use Rattle.net_model.specs.run_laws.specs.Lawful.{state_at}
-use Rattle.net_model.specs.queue_sched.Waiting.{HasPacket}
-use Rattle.net_model.specs.index_links.Chains.{Chains}
+use Rattle.queue_sched.specs.Waiting.{HasPacket}
+use Rattle.queue_sched.specs.index_links.Chains.{Chains}
 use Rattle.net_model.specs.stated_runs.Setups.{Setup, IsSetup}
 use Rattle.net_model.specs.stated_runs.DueSteps.{IsEntering}
 use Rattle.net_model.specs.stated_runs.Simulated.{IsNext}

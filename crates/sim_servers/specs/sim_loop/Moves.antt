@@ -5,8 +5,8 @@ use Rattle.net_model.specs.run_laws.specs.Cards.{Card, Arrives, Leaves}
 use Rattle.net_model.specs.run_laws.specs.Servers.{Under, ServerState}
 use Rattle.net_model.specs.run_laws.specs.Next.{next}
 use Rattle.net_model.specs.run_laws.specs.Routes.{server_at}
-use Rattle.net_model.specs.queue_sched.Turns.{IsCard, Starts}
-use Rattle.net_model.specs.declared.queue_sched.turn.Turn.{Turn}
+use Rattle.queue_sched.specs.Turns.{IsCard, Starts}
+use Rattle.queue_sched.specs.declared.turn.Turn.{Turn}
 use Rattle.net_model.specs.stated_runs.Setups.{Setup}
 use Rattle.sim_servers.specs.declared.station.Station.{Station}
 use Rattle.sim_servers.specs.declared.station.Stretch.{Stretch}

@@ -7,7 +7,7 @@ use Rattle.net_model.specs.run_laws.specs.Next.{next}
 use Rattle.net_model.specs.run_laws.specs.Routes.{server_at, link_at, server_after, route_of, queue_at, first_server}
 use Rattle.net_model.specs.run_laws.specs.Views.{hops_of, server_of, seen}
 use Rattle.net_model.specs.run_laws.specs.Lawful.{state_at}
-use Rattle.net_model.specs.index_links.Chains.{Chains, list_at, unlinked, with_list}
+use Rattle.queue_sched.specs.index_links.Chains.{Chains, list_at, unlinked, with_list}
 use Rattle.net_model.specs.stated_runs.Setups.{Setup, IsSetup}
 use Rattle.net_model.specs.stated_runs.DueSteps.{IsDue, rank_of, step_time}
 use Rattle.net_model.specs.stated_runs.Simulated.{IsNext}

@@ -7,12 +7,12 @@ use Rattle.net_model.specs.run_laws.specs.Routes.{link_at}
 use Rattle.net_model.specs.run_laws.specs.Views.{entry_of}
 use Rattle.net_model.specs.run_laws.specs.Lawful as lawful
 use Rattle.net_model.specs.run_laws.specs.Lawful.{RunState, state_at, run_start}
-use Rattle.net_model.specs.index_links.Chains.{Chains, list_at, Has, first_of}
+use Rattle.queue_sched.specs.index_links.Chains.{Chains, list_at, Has, first_of}
 use Rattle.net_model.specs.stated_runs.Setups.{Entering, Setup, packet_of}
 use Rattle.net_model.specs.stated_runs.DueSteps.{RankAtMost, rank_of, step_time}
 use Rattle.net_model.specs.stated_runs.Simulated.{FollowsSoFar}
 use Rattle.net_model.specs.stated_runs.Laws.{state_after}
-use Rattle.net_model.proofs.stated_runs.Lists.{In}
+use Rattle.net_model.specs.run_laws.specs.Members.{Has as In}
 use Rattle.sim_servers.specs.sim_states.Places.{ArePlaced}
 use Rattle.sim_servers.specs.declared.due.Due.{Due}
 use Rattle.sim_servers.specs.declared.due.DueKind.TheVariants as kinds

@@ -1,7 +1,7 @@
 //! What is due, and what of it comes first.
 
 ghost use Rattle.std.specs.Prelude.{◌≡◌, ◌<◌, ◌≤◌, ◌^◌, length, map, slice_get};
-ghost use Rattle.net_model.specs.index_links.Chains.{list_at, first_of as head_of_list};
+ghost use Rattle.queue_sched.specs.index_links.Chains.{list_at, first_of as head_of_list};
 ghost use Rattle.net_model.specs.stated_runs.Setups.{Setup};
 ghost use Rattle.net_model.specs.stated_runs.FromTraces.{entering};
 ghost use Rattle.sim_servers.specs.sim_states.Running.{enter_first, reach_first, IsFirstCandidate};
@@ -9,7 +9,7 @@ ghost use Rattle.sim_servers.specs.sim_states.Running.{enter_first, reach_first,
 use crate::sim_states::Arrival;
 use crate::{Due, DueKind, Station, due_of, first_of};
 use net_model::TracePacket;
-use net_model::index_links::Links;
+use queue_sched::index_links::Links;
 
 /// The next packet of the trace.
 fn next_enter(packets: &[TracePacket], entered: u32) -> Option<Due>

@@ -3,14 +3,14 @@
 ghost use Rattle.std.specs.Prelude.{◌≡◌, ◌<◌, Some, length, slice_get};
 ghost use Rattle.sim_servers.specs.declared.station.Station.{Station as SpecStation};
 ghost use Rattle.sim_servers.specs.Openings.{opening_for, OpeningRoom};
-ghost use Rattle.net_model.specs.queue_sched.Turns.{IsIdle};
+ghost use Rattle.queue_sched.specs.Turns.{IsIdle};
 ghost use Rattle.sim_servers.specs.Queues.{StandFor};
 ghost use Rattle.sim_servers.specs.Stations.{MayTake, MayLose};
 ghost use Rattle.sim_servers.specs.sim_loop.Moves.{HasTaken, HasLost, HasTurned, HasWorked, MayWorkOn};
 
 use crate::{Station, Stretch};
 use fraction128::Frac;
-use net_model::queue_sched::{Scheduler, Turn};
+use queue_sched::{Scheduler, Turn};
 
 /// A packet arrives at a server.
 pub fn arrive_at(

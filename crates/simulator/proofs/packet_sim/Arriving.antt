@@ -11,8 +11,8 @@ use Rattle.net_model.specs.run_laws.specs.Routes.{Hop, server_at, route_of, queu
 use Rattle.net_model.specs.run_laws.specs.Views.{Entry, card_of, hops_of, server_of, seen}
 use Rattle.net_model.specs.run_laws.specs.Lawful as lawful
 use Rattle.net_model.specs.run_laws.specs.Lawful.{state_at}
-use Rattle.net_model.specs.queue_sched.Turns.{IsCard}
-use Rattle.net_model.specs.index_links.Chains.{Chains, IsLinked, unlinked}
+use Rattle.queue_sched.specs.Turns.{IsCard}
+use Rattle.queue_sched.specs.index_links.Chains.{Chains, IsLinked, unlinked}
 use Rattle.net_model.specs.declared.trace.TracePacket.{TracePacket}
 use Rattle.net_model.specs.stated_runs.Setups.{Entering, Setup, packet_of}
 use Rattle.net_model.specs.stated_runs.DueSteps.{step_time}

@@ -7,7 +7,7 @@ use Rattle.rational.specs.Rational.{ℚ}
 use Rattle.net_model.specs.run_laws.specs.declared.steps.Step.{Step}
 use Rattle.net_model.specs.run_laws.specs.Routes.{route_of}
 use Rattle.net_model.specs.run_laws.specs.Views.{Entry, entry_of, hops_of}
-use Rattle.net_model.specs.index_links.Chains.{Chains}
+use Rattle.queue_sched.specs.index_links.Chains.{Chains}
 use Rattle.net_model.specs.declared.trace.TracePacket.{TracePacket}
 use Rattle.net_model.specs.stated_runs.Setups.{Entering, Setup, packet_of}
 use Rattle.net_model.specs.stated_runs.DueSteps.{Rank, IsDue, step_time}

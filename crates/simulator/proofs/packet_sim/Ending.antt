@@ -3,7 +3,7 @@ use Rattle.std.specs.Prelude.{Some, None, ℕ, List, length}
 use Rattle.std.proofs.Common.{subst}
 use Rattle.net_model.specs.run_laws.specs.declared.steps.Step.{Step}
 use Rattle.net_model.specs.run_laws.specs.Lawful.{run_start}
-use Rattle.net_model.specs.index_links.Chains.{Chains}
+use Rattle.queue_sched.specs.index_links.Chains.{Chains}
 use Rattle.net_model.specs.stated_runs.Setups.{Setup}
 use Rattle.net_model.specs.stated_runs.Simulated.{Follows}
 use Rattle.sim_servers.specs.declared.due.Due.{Due}

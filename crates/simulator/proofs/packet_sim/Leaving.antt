@@ -10,7 +10,7 @@ use Rattle.net_model.specs.run_laws.specs.Next.{next}
 use Rattle.net_model.specs.run_laws.specs.Routes.{Hop, server_at, link_at, route_of, server_after}
 use Rattle.net_model.specs.run_laws.specs.Views.{card_of}
 use Rattle.net_model.specs.run_laws.specs.Lawful.{state_at}
-use Rattle.net_model.specs.index_links.Chains.{Chains, IsFree, list_at, with_list}
+use Rattle.queue_sched.specs.index_links.Chains.{Chains, IsFree, list_at, with_list}
 use Rattle.net_model.specs.declared.trace.TracePacket.{TracePacket}
 use Rattle.net_model.specs.stated_runs.Setups.{Setup, packet_of}
 use Rattle.net_model.specs.stated_runs.FromTraces.{entering}

@@ -9,7 +9,7 @@ use Rattle.rational.specs.Rational.{ℚ, int, ◌<ℚ◌}
 use Rattle.net_model.specs.run_laws.specs.Servers.{Fifo, Server, start}
 use Rattle.net_model.specs.run_laws.specs.Routes.{server_at}
 use Rattle.net_model.specs.run_laws.specs.Lawful.{state_at, run_start}
-use Rattle.net_model.specs.index_links.Chains.{Chains, list_at, Has}
+use Rattle.queue_sched.specs.index_links.Chains.{Chains, list_at, Has}
 use Rattle.net_model.specs.declared.trace.Stall.{Stall}
 use Rattle.net_model.specs.Networks.{Net, NetServer}
 use Rattle.net_model.specs.Accepted.{IsAccepted}

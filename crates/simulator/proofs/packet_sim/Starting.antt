@@ -16,10 +16,10 @@ use Rattle.net_model.specs.run_laws.specs.Routes.{Hop, PassesServer, server_at, 
 use Rattle.net_model.specs.run_laws.specs.Views.{card_of, entry_of}
 use Rattle.net_model.specs.run_laws.specs.Lawful.{state_at}
 use Rattle.net_model.specs.run_laws.proofs.Heads.{pick_is_head}
-use Rattle.net_model.specs.queue_sched.Turns.{IsIdle, Starts, Sends}
-use Rattle.net_model.specs.declared.queue_sched.turn.Turn.{Turn}
-use Rattle.net_model.specs.declared.queue_sched.turn.Turn.TheVariants as turns
-use Rattle.net_model.specs.index_links.Chains.{Chains}
+use Rattle.queue_sched.specs.Turns.{IsIdle, Starts, Sends}
+use Rattle.queue_sched.specs.declared.turn.Turn.{Turn}
+use Rattle.queue_sched.specs.declared.turn.Turn.TheVariants as turns
+use Rattle.queue_sched.specs.index_links.Chains.{Chains}
 use Rattle.net_model.specs.declared.trace.TracePacket.{TracePacket}
 use Rattle.net_model.specs.stated_runs.Setups.{Entering, Setup, packet_of, rate_of}
 use Rattle.net_model.specs.stated_runs.DueSteps.{work_kind}

@@ -12,7 +12,7 @@ use Rattle.net_model.specs.run_laws.specs.Next.{next}
 use Rattle.net_model.specs.run_laws.specs.Routes.{server_at}
 use Rattle.net_model.specs.run_laws.specs.Views.{card_of}
 use Rattle.net_model.specs.run_laws.specs.Lawful.{state_at}
-use Rattle.net_model.specs.index_links.Chains.{Chains}
+use Rattle.queue_sched.specs.index_links.Chains.{Chains}
 use Rattle.net_model.specs.stated_runs.Setups.{Setup, IsSetup, IsFirstOpen, IsStretch, rate_of}
 use Rattle.net_model.specs.stated_runs.DueSteps.{IsDue, work_kind}
 use Rattle.net_model.specs.stated_runs.Simulated.{IsNext}

@@ -2,8 +2,8 @@
 use Rattle.std.specs.Prelude.{Option, Some, ◌≡◌, ℕ, ◌<◌, ◌^◌, List, length, slice_get}
 use Rattle.rational.specs.Rational.{ℚ}
 use Rattle.net_model.specs.run_laws.specs.declared.steps.Step.{Step}
-use Rattle.net_model.specs.index_links.Chains.{Chains}
-use Rattle.net_model.specs.declared.queue_sched.turn.Turn.{Turn}
+use Rattle.queue_sched.specs.index_links.Chains.{Chains}
+use Rattle.queue_sched.specs.declared.turn.Turn.{Turn}
 use Rattle.net_model.specs.stated_runs.Setups.{Setup, IsSetup}
 use Rattle.net_model.specs.stated_runs.TimeGrids.{AreStallTimes, RunFits}
 use Rattle.sim_servers.specs.declared.due.Due.{Due}

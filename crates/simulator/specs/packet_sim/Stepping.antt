@@ -1,6 +1,6 @@
 -- What a step of the simulator asks for, and what it gives.
 use Rattle.std.specs.Prelude.{Option, ◌≡◌, ◌+◌, length}
-use Rattle.net_model.specs.declared.queue_sched.turn.Turn.{Turn}
+use Rattle.queue_sched.specs.declared.turn.Turn.{Turn}
 use Rattle.net_model.specs.Networks.{Net}
 use Rattle.net_model.specs.Traces.{SpecTrace}
 use Rattle.net_model.specs.run_laws.specs.Lawful.{run_start}

@@ -15,8 +15,8 @@ ghost use Rattle.simulator.specs.packet_sim.Stepping.{Simulates};
 
 use crate::packet_sim::simulation::Simulation;
 use fraction128::Frac;
-use net_model::index_links::Links;
 use net_model::{Network, Server, ServiceKind, Stall, Trace};
+use queue_sched::index_links::Links;
 use sim_servers::sim_states::Arrival;
 use sim_servers::{Gate, Next, Opening, ServerQueues, Span, Station};
 use std::alloc::{AllocError, Global};

@@ -1,15 +1,15 @@
 //! Steps in which a server works, or turns to a queue.
 
 ghost use Rattle.std.specs.Prelude.{◌≡◌, OnOk, Some};
-ghost use Rattle.net_model.specs.declared.queue_sched.turn.Turn.TheVariants as turns;
+ghost use Rattle.queue_sched.specs.declared.turn.Turn.TheVariants as turns;
 ghost use Rattle.simulator.specs.packet_sim.Stepping.{ComesNext, TakesTurn, HasStepped};
 
 use crate::packet_sim::reads::{packet_at, rate_at, rest_at};
 use crate::packet_sim::simulation::Simulation;
 use fraction128::{Frac, quotient};
-use net_model::queue_sched::Turn;
 use net_model::run_laws::Step;
 use net_model::{Network, Trace};
+use queue_sched::Turn;
 use sim_servers::sim_loop::{turn_at, work_at};
 use sim_servers::{Due, DueKind};
 use std::alloc::AllocError;

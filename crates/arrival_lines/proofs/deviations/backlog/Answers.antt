@@ -1,18 +1,14 @@
-use Rattle.std.proofs.Common.{◌+◌, min, ap, ◌∙◌, sym, subst}
-use Rattle.arrival_lines.specs.Backlogs.{IsLeastHeight}
-use Rattle.arrival_lines.proofs.Heights.{height_fast, height_slow}
+use Rattle.std.proofs.Common.{◌+◌, ◌∙◌, min, ap}
+use Rattle.std.specs.Int.{div_ceil}
+use Rattle.arrival_lines.specs.declared.grid.Line.{Line}
+use Rattle.arrival_lines.proofs.Lowest.{least_is}
 use Rattle.arrival_lines.proofs.deviations.backlog.Goals as goal
-use Rattle.arrival_lines.proofs.deviations.backlog.Goals.{then-step-service, else-step-service}
 
-pub loop-step-preserved : goal.loop-step-preserved
-loop-step-preserved c =
-    let steps = c.args.steps.now in
-    let i = c.loop-step.step-index in
-    elim c.if-step-service.branch [
-      | then-step-service w ↦
-          let e = w.least-is ∙ w.min-least.ensures ∙ ap (min c.loop-step.least) w.height.ensures in
-          height_slow steps i c.args.excess c.args.service c.args.longest c.loop-step.least c.if-step-service.least record { burst = 0; rate = 0 } c.loop-step-test.true w.if-step-service.true e c.loop-step.invariant
-      | else-step-service w ↦
-          subst (λ b. IsLeastHeight steps (i + 1) c.args.excess c.args.service c.args.longest b) (sym w.least-is)
-          (height_fast steps i c.args.excess c.args.service c.args.longest c.loop-step.least record { burst = 0; rate = 0 } w.if-step-service.false c.loop-step.invariant)
-    ]
+pub returns : goal.returns
+returns c = λ parts are.
+    let service = c.args.service in
+    let slow = c.count_faster-slow.ensures in
+    let none : Line = record { burst = 0; rate = 0 } in
+    let is = c.min.ensures ∙ ap (λ n. min n c.height.result) c.div_ceil-plain.ensures ∙ ap (λ n. min (div_ceil (c.args.excess + (service.debt + c.args.longest)) 1024) n) c.height.ensures in
+    least_is c.args.steps.now c.args.excess service c.args.longest c.count_faster-slow.result c.lowest-at.result c.min.result none c.lowest-at.ensures.inside.0
+    c.lowest-at.ensures.inside.1 slow.faster slow.slower (c.lowest-at.ensures.least parts are) is

@@ -11,5 +11,5 @@ pub returns : goal.returns
 returns c = λ parts are.
     let over = c.in_ok-excess.ensures parts are in (
       record { some = omega arith; over = c.in_ok-excess.excess; excess = over; is = c.delay.ensures },
-      backlog_is parts c.args.steps.now c.in_ok-excess.excess c.args.service c.args.longest c.backlog.result (omega arith) are over c.backlog.ensures,
+      backlog_is parts c.args.steps.now c.in_ok-excess.excess c.args.service c.args.longest c.backlog.result (omega arith) are over (c.backlog.ensures parts are),
     )

@@ -1,4 +1,4 @@
-use Rattle.std.proofs.Common.{◌≡◌, sym, ap, ◌∙◌, arith}
+use Rattle.std.proofs.Common.{sym, ap, ◌∙◌, arith}
 use Rattle.csv.specs.Records.{fields_of}
 use Rattle.csv_rows.specs.Rows.{is_empty}
 use Rattle.csv_rows.proofs.Cells.{blank_more, not_blank}

@@ -11,9 +11,6 @@ returns-then-not-is_less c =
     let s = c.args.s.now in
     bounds_none s.first.now s.second.now c.args.from c.args.period c.begin-first.result c.zero-zero.result c.zero-zero.ensures c.begin-first.ensures (λ h. true≢false (sym (c.if-not-is_less.ensures.less.1 h)))
 
-pub enough_number-requires-clause-before : goal.enough_number-requires-clause-before
-enough_number-requires-clause-before c = subst (λ y. y <ℚ c.begin-first.result) c.zero-zero.ensures (c.if-not-is_less.ensures.less.0 refl)
-
 pub enough_number-requires-clause-some : goal.enough_number-requires-clause-some
 enough_number-requires-clause-some c = subst (λ y. y <ℚ c.lead-lead.result) c.zero-zero.ensures (c.if-not-is_less-2.ensures.less.0 refl)
 

@@ -1,7 +1,7 @@
 use Rattle.std.specs.String.{string_bytes}
 use Rattle.std.proofs.Common.{◌≡◌, ◌+◌, ◌≤◌, arith}
 use Rattle.std.proofs.lemmas.Result.{IfOk-weaker}
-use Rattle.net_text.specs.net_draft.CurveTexts.{text_of}
+use Rattle.net_draft.specs.CurveTexts.{text_of}
 use Rattle.net_text.specs.Becoming.{IsCurveOf}
 use Rattle.net_text.specs.Folds.{HasTaken}
 use Rattle.net_text.proofs.FoldSteps.{fold_is, closed_taken, open_taken}

@@ -3,9 +3,9 @@ use Rattle.std.proofs.Common.{◌≡◌, ◌+◌, [], ◌∷◌, ◌++◌, map, 
 use Rattle.std.proofs.lemmas.List.{map_push}
 use Rattle.std.proofs.lemmas.Result.{err_from_is_err_and}
 use Rattle.net_model.specs.Views.{flow_of}
-use Rattle.net_text.specs.declared.net_draft.flow_draft.FlowDraft.{FlowDraft}
-use Rattle.net_text.specs.net_draft.Kept.{IsArrivalDraft}
-use Rattle.net_text.specs.net_draft.Views.{flow_text}
+use Rattle.net_draft.specs.declared.flow_draft.FlowDraft.{FlowDraft}
+use Rattle.net_draft.specs.Kept.{IsArrivalDraft}
+use Rattle.net_draft.specs.Views.{flow_text}
 use Rattle.net_text.specs.Built.{IsLiveFlowOf}
 use Rattle.net_text.specs.Firsts.{arrivals_from}
 use Rattle.net_text.proofs.Firsts.{goes_on, stops, arrival_entry, arrivals_more, texts_more}

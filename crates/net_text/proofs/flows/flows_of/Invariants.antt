@@ -1,7 +1,7 @@
 use Rattle.std.specs.List.{AllZip}
 use Rattle.std.proofs.Common.{◌≤◌, map, take, drop}
 use Rattle.net_model.specs.Views.{flows_of}
-use Rattle.net_text.specs.net_draft.Views.{flow_text}
+use Rattle.net_draft.specs.Views.{flow_text}
 use Rattle.net_text.specs.Built.{IsLiveFlowOf}
 use Rattle.net_text.specs.Firsts.{arrivals_from}
 use Rattle.net_text.proofs.Firsts.{Leads}

@@ -2,8 +2,8 @@ use Rattle.std.specs.List.{AllZip}
 use Rattle.std.proofs.Common.{ℕ, ◌+◌, ◌≤◌, map, refl, subst}
 use Rattle.std.proofs.lemmas.Result.{err_from_is_err_and}
 use Rattle.net_model.specs.Views.{servers_of, flows_of, net_of}
-use Rattle.net_text.specs.net_draft.DraftViews.{draft_text}
-use Rattle.net_text.specs.net_draft.Views.{server_text, flow_text}
+use Rattle.net_draft.specs.DraftViews.{draft_text}
+use Rattle.net_draft.specs.Views.{server_text, flow_text}
 use Rattle.net_text.specs.Built.{IsServerOf, IsLiveFlowOf, IsBuilt}
 use Rattle.net_text.specs.Firsts.{services_from, arrivals_from, FailsFirst}
 use Rattle.net_text.proofs.Accepted.{accepted}

@@ -2,8 +2,8 @@ use Rattle.std.proofs.Common.{◌≡◌, ◌+◌, [], ◌∷◌, ◌++◌, map, 
 use Rattle.std.proofs.lemmas.List.{map_push}
 use Rattle.std.proofs.lemmas.Result.{err_from_is_err_and}
 use Rattle.net_model.specs.Views.{server_of}
-use Rattle.net_text.specs.net_draft.Kept.{IsServerDraft}
-use Rattle.net_text.specs.net_draft.Views.{server_text}
+use Rattle.net_draft.specs.Kept.{IsServerDraft}
+use Rattle.net_draft.specs.Views.{server_text}
 use Rattle.net_text.specs.Built.{IsServerOf}
 use Rattle.net_text.specs.Firsts.{services_from}
 use Rattle.net_text.proofs.Firsts.{goes_on, stops, service_entry, services_more}

@@ -1,7 +1,7 @@
 use Rattle.std.specs.List.{AllZip}
 use Rattle.std.proofs.Common.{map, take, drop}
 use Rattle.net_model.specs.Views.{servers_of}
-use Rattle.net_text.specs.net_draft.Views.{server_text}
+use Rattle.net_draft.specs.Views.{server_text}
 use Rattle.net_text.specs.Built.{IsServerOf}
 use Rattle.net_text.specs.Firsts.{services_from}
 use Rattle.net_text.proofs.Firsts.{Leads}

@@ -4,7 +4,7 @@ use Rattle.outside.proofs.dir_inputs.read_rest.Given as goal
 
 abbrev pub invariant-loop : goal.invariant-loop
 invariant-loop g l = record {
-  fits : length l.into.items ≤ 1048576;
+  fits : length l.into.items ≤ l.most;
   came : l.counter ≤ length l.into.items;
   consumed : Consumes (g.F.Read.remaining l.initial.file) (g.F.Read.remaining l.file) l.into.items;
 }

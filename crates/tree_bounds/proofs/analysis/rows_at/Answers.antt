@@ -4,7 +4,6 @@ use Rattle.std.proofs.lemmas.Result.{IfOk-weaker}
 use Rattle.tree_network.specs.Networks.{PortIsInRange, port_at, no_port, queues_of}
 use Rattle.tree_network.specs.declared.network.Port.{Port}
 use Rattle.tree_order.specs.Spots.{spots_of}
-use Rattle.tree_order.proofs.InRange.{in_range}
 use Rattle.port_bounds.specs.Incoming.{Incoming, incoming, incoming_of}
 use Rattle.port_bounds.specs.Ranges.{AreInRange}
 use Rattle.port_bounds.specs.Rows.{AreRows}
@@ -33,7 +32,7 @@ port_rows-requires-clause-range c =
     let its = subst P (sym c.index-at.ensures) (c.requires.network.ports c.args.port c.index-at.result.now c.requires.port) in
     let R : List Incoming → Type 0 = λ xs. AreInRange xs in
     subst R (sym (ap incoming c.deref.ensures.value ∙ c.in_ok-queues.ensures))
-    (ranged.in_range net (spots_of net) (λ n. line_at c.args.lines.now n) c.args.port c.queue_count-count.result (in_range net c.requires.network)
+    (ranged.in_range net (λ n. line_at c.args.lines.now n) c.args.port c.queue_count-count.result c.requires.network
     (omega (arith, its.queues, c.queue_count-count.ensures)))
 
 pub returns : goal.returns

@@ -1,5 +1,5 @@
 use Rattle.std.proofs.Common.{◌∙◌, ap}
-use Rattle.cell_store.specs.cell_rules.Finding.{gone_of}
+use Rattle.cell_rules.specs.Finding.{gone_of}
 use Rattle.cell_store.proofs.edit_store.Lost.{lost}
 use Rattle.cell_store.proofs.edit_store.plan.lost_of.Goals as goal
 

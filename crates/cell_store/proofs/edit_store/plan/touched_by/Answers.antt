@@ -1,6 +1,6 @@
 use Rattle.std.proofs.Common.{sym, subst}
-use Rattle.cell_store.specs.declared.cell_rules.site.Site.{Site}
-use Rattle.cell_store.specs.cell_rules.Sites.{IsSameBut}
+use Rattle.cell_rules.specs.declared.site.Site.{Site}
+use Rattle.cell_rules.specs.Sites.{IsSameBut}
 use Rattle.cell_store.proofs.edit_store.plan.touched_by.Goals as goal
 
 pub touched_cells-requires-clause-same : goal.touched_cells-requires-clause-same

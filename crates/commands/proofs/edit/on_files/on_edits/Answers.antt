@@ -1,5 +1,5 @@
 use Rattle.std.proofs.lemmas.Result.{IfOk-weaker}
-use Rattle.net_text.specs.net_draft.Faults.{fault_of}
+use Rattle.net_draft.specs.Faults.{fault_of}
 use Rattle.command_replies.specs.Faults.{fault_reply}
 use Rattle.command_replies.specs.View.{reply_of, status_of}
 use Rattle.command_replies.proofs.FirstFaults.{on_told}

@@ -3,9 +3,9 @@ use Rattle.std.proofs.lemmas.List.{length-map, length-append}
 use Rattle.std.specs.declared.vec.Vec.{Vec}
 use Rattle.std.proofs.Common.{Global}
 use Rattle.net_model.specs.Views.{server_of}
-use Rattle.net_model.specs.Walks.{IsRing}
-use Rattle.net_model.specs.net_graph.Loops.{IsAwaited}
-use Rattle.net_model.specs.net_graph.Waits.{lists_of, AllLosePlaced, IsPlaced, IsFirstIdle}
+use Rattle.net_model.specs.Walks.{IsRingBefore}
+use Rattle.net_model.specs.net_graph.Loops.{IsFirstAwaited}
+use Rattle.net_model.specs.net_graph.Waits.{lists_of, AllLosePlaced, AreBusy, IsFree, IsPlaced, IsFirstIdle}
 use Rattle.net_model.proofs.net_graph.Returns.{first_in_range}
 use Rattle.net_model.proofs.net_graph.Turns.{Turned, no_turn_yet, after_losses, after_turn, all_turns, some_is_free, cycle_of_ring}
 use Rattle.net_model.proofs.net_graph.placing.order.Goals as goal
@@ -50,10 +50,14 @@ returns-in-None-clause-fault c =
     let P : List Bool → Type 0 = λ ps. AllLosePlaced ps old new in
     let lost = subst P c.deref.ensures.value c.first_idle.ensures.lost in
     let turned = after_losses c.args.net.now old new c.loop-turn.is_placed.items c.loop-turn.placed.items lost t in
+    let placed = c.loop-turn.is_placed.items in
     let walk = c.in_ok-cycle_of-in-None.field-0.items in
-    let R : List (Vec ℕ Global) → Type 0 = λ vs. IsRing (IsAwaited (lists_of vs)) walk in
-    let ring = subst R c.deref-in-None.ensures.value c.in_ok-cycle_of-in-None.ensures in
-    cycle_of_ring c.args.net.now new c.loop-turn.is_placed.items c.loop-turn.placed.items walk turned ring
+    let Q : List Bool → Type 0 = λ ps. AreBusy ps new (length ps) in
+    let busy = subst Q c.deref.ensures.value c.in-None.ensures.busy in
+    let R : List (Vec ℕ Global) → List Bool → Type 0 = λ vs ps. IsRingBefore (IsFree ps) (IsFirstAwaited ps (lists_of vs)) walk in
+    let S : List (Vec ℕ Global) → Type 0 = λ vs. R vs placed in
+    let ring = subst S c.deref-in-None.ensures.value (subst (R c.deref-in-None.result.now) c.deref-in-None-2.ensures.value c.in_ok-cycle_of-in-None.ensures) in
+    cycle_of_ring c.args.net.now new placed c.loop-turn.placed.items walk c.servers-count.ensures.kept turned busy ring
 
 pub returns-clause-order : goal.returns-clause-order
 returns-clause-order c =

@@ -1,5 +1,5 @@
 use Rattle.std.proofs.Common.{subst}
-use Rattle.net_model.specs.queue_sched.Turns.{Starts as Begins}
+use Rattle.queue_sched.specs.Turns.{Starts as Begins}
 use Rattle.sim_servers.specs.Queues.{served_by, StandFor}
 use Rattle.run_check.proofs.SiteSteps.{idle_of, none_picked}
 use Rattle.run_check.proofs.site.Site.starts.Goals as goal

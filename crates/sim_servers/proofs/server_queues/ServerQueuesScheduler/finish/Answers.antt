@@ -1,5 +1,5 @@
 use Rattle.std.proofs.Common.{sym, subst}
-use Rattle.net_model.specs.queue_sched.Turns.{IsBusy, Finishes}
+use Rattle.queue_sched.specs.Turns.{IsBusy, Finishes}
 use Rattle.sim_servers.specs.declared.server_queues.ServerQueues.TheVariants.{Drr}
 use Rattle.sim_servers.specs.Queues.{served_by, StandFor}
 use Rattle.sim_servers.proofs.server_queues.ServerQueuesScheduler.finish.Goals as goal

@@ -1,6 +1,6 @@
 use Rattle.std.specs.Prelude.{Some, ◌≡◌, length, slice_get}
 use Rattle.std.proofs.Common.{arith, sym, ap, ◌∙◌, subst}
-use Rattle.net_model.specs.index_links.Chains.{list_at, first_of}
+use Rattle.queue_sched.specs.index_links.Chains.{list_at, first_of}
 use Rattle.sim_servers.specs.Firsts.{IsFirstOf}
 use Rattle.sim_servers.specs.sim_states.Running.{enter_first, reach_first, IsFirstCandidate}
 use Rattle.sim_servers.proofs.sim_loop.Merged.{first_entry, merged, found_at}

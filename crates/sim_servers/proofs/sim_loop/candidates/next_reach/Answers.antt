@@ -3,7 +3,7 @@ use Rattle.std.proofs.Common.{arith, sym, ap, ◌∙◌}
 use Rattle.std.proofs.lemmas.List.{get_or_default}
 use Rattle.rational.specs.Rational.{int}
 use Rattle.std.specs.Prelude.{pos}
-use Rattle.net_model.specs.index_links.Chains.{list_at}
+use Rattle.queue_sched.specs.index_links.Chains.{list_at}
 use Rattle.sim_servers.specs.declared.due.Due.{Due}
 use Rattle.sim_servers.specs.declared.due.DueKind.TheVariants.{Reach}
 use Rattle.sim_servers.specs.declared.sim_states.arrival.Arrival.{Arrival}

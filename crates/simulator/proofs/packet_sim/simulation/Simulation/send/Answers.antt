@@ -4,7 +4,7 @@ use Rattle.std.proofs.lemmas.List.{length-map, with_items_is}
 use Rattle.rational.specs.Rational.{◌/ℚ◌}
 use Rattle.rational.specs.Ratio.{IsSmall}
 use Rattle.net_model.specs.run_laws.specs.declared.steps.Step.TheVariants as steps
-use Rattle.net_model.specs.declared.queue_sched.turn.Turn.TheVariants as turns
+use Rattle.queue_sched.specs.declared.turn.Turn.TheVariants as turns
 use Rattle.net_model.specs.stated_runs.FromTraces.{entering, setup_of}
 use Rattle.sim_servers.specs.declared.station.Station.{Station}
 use Rattle.sim_servers.specs.sim_loop.Moves.{HasWorked}

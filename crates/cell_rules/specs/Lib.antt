@@ -1,0 +1,5 @@
+pub mod Rules
+pub mod Sites
+pub mod Finding
+pub mod Marks
+pub mod cell_changes

@@ -1,0 +1,62 @@
+//! The cells of a network by a number.
+
+ghost use Rattle.std.specs.Prelude.{◌≡◌, ◌++◌, IfOk, OnOk};
+ghost use Rattle.cell_rules.specs.Finding.{AreCellsOf, kind_cells_of};
+
+use crate::rule::has_cell;
+use net_cells::{Cell, Kind};
+use net_model::Network;
+use std::alloc::{AllocError, Global};
+
+/// How many hops a path has at most; a server has fewer queues.
+const MOST_HOPS: u32 = 16;
+
+// Those of a kind, after others.
+fn push_kind(
+    cells: &mut Vec<Cell>,
+    net: &Network,
+    kind: Kind,
+    number: u32,
+) -> Result<(), AllocError>
+    ensures { OnOk result (cells.new.items ≡ cells.old.items ++ kind_cells_of net.now number kind) }
+{
+    for b in 0..MOST_HOPS {
+        let cell = Cell { kind, a: number, b };
+        if has_cell(net, cell) {
+            cells.push(cell)?;
+        }
+    }
+    Ok(())
+}
+
+/// The cells of a network by a number: those of the flow and those of the server that have it. Refused only for want of
+/// memory.
+pub fn cells_of(alloc: Global, net: &Network, number: u32) -> Result<Vec<Cell>, AllocError>
+    ensures { IfOk result (λ v. AreCellsOf net.now number v.items) }
+{
+    net.keeps();
+    let kinds = [
+        Kind::In,
+        Kind::Cross,
+        Kind::Total,
+        Kind::Higher,
+        Kind::QueueService,
+        Kind::Theta,
+        Kind::Residual,
+        Kind::QueueDelay,
+        Kind::QueueBacklog,
+        Kind::HopDelay,
+        Kind::ShiftOut,
+        Kind::DeconvOut,
+        Kind::Out,
+        Kind::PathService,
+        Kind::Tfa,
+        Kind::Sfa,
+        Kind::Bound,
+    ];
+    let mut cells = Vec::new(alloc);
+    for kind in &kinds {
+        push_kind(&mut cells, net, *kind, number)?;
+    }
+    Ok(cells)
+}

@@ -1,5 +1,0 @@
-use Rattle.cell_store.proofs.cell_changes.CarriedOver.{none_is_both as proof}
-use Rattle.cell_store.proofs.cell_changes.laws.none_is_both.Goals as goal
-
-pub returns : goal.returns
-returns c = proof

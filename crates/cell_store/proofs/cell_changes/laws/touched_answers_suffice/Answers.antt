@@ -1,5 +1,0 @@
-use Rattle.cell_store.proofs.cell_changes.CarriedOver.{touched_answers_suffice as proof}
-use Rattle.cell_store.proofs.cell_changes.laws.touched_answers_suffice.Goals as goal
-
-pub returns : goal.returns
-returns c = proof

@@ -1,9 +1,0 @@
-use Rattle.std.proofs.Common.{sym, subst}
-use Rattle.cell_store.specs.declared.cell_rules.site.Site.{Site}
-use Rattle.cell_store.specs.cell_rules.Marks.{MarksCandidates}
-use Rattle.cell_store.proofs.cell_rules.marks.first_marks.Goals as goal
-
-pub returns-in_ok-marks-in-Server : goal.returns-in_ok-marks-in-Server
-returns-in_ok-marks-in-Server c =
-    subst (λ (site : Site). MarksCandidates site c.args.old.now c.args.net.now c.in_ok-marks-in-Server.marks.items)
-    (sym c.in-Server.is) (c.in_ok-marks-in-Server.ensures c.args.old.now)

@@ -1,9 +1,0 @@
-use Rattle.std.proofs.Common.{take}
-use Rattle.cell_store.specs.cell_rules.Marks.{KeepsMarks, MarksEach}
-use Rattle.cell_store.proofs.cell_rules.marks.mark_each.Given as goal
-
-abbrev pub invariant-loop-server : goal.invariant-loop-server
-invariant-loop-server l = record {
-  kept : KeepsMarks l.fn.marks.items l.marks.items;
-  each : MarksEach (take l.server-index l.servers) l.marks.items;
-}

@@ -1,8 +1,0 @@
-use Rattle.cell_store.specs.cell_rules.Marks.{KeepsMarks, MarksNext}
-use Rattle.cell_store.proofs.cell_rules.marks.mark_next.Given as goal
-
-abbrev pub invariant-loop-flow : goal.invariant-loop-flow
-invariant-loop-flow l = record {
-  kept : KeepsMarks l.fn.marks.items l.marks.items;
-  next : MarksNext l.net l.server l.marks.items l.flow;
-}

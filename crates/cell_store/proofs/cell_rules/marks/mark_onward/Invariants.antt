@@ -1,9 +1,0 @@
-use Rattle.std.proofs.Common.{take}
-use Rattle.cell_store.specs.cell_rules.Marks.{KeepsMarks, MarksOnward}
-use Rattle.cell_store.proofs.cell_rules.marks.mark_onward.Given as goal
-
-abbrev pub invariant-loop-cell : goal.invariant-loop-cell
-invariant-loop-cell l = record {
-  kept : KeepsMarks l.fn.marks.items l.marks.items;
-  onward : MarksOnward l.net (take l.cell-index l.cells) l.flags l.marks.items;
-}

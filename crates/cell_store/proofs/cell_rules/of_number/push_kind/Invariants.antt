@@ -1,8 +1,0 @@
-use Rattle.std.proofs.Common.{◌≡◌, ◌++◌, map}
-use Rattle.std.specs.List.{filter, range_with_len}
-use Rattle.net_cells.specs.Cells.{cell_of, has_cell}
-use Rattle.cell_store.proofs.cell_rules.of_number.push_kind.Given as goal
-
-abbrev pub invariant-loop-b : goal.invariant-loop-b
-invariant-loop-b l =
-    l.cells.items ≡ l.initial.cells.items ++ filter (has_cell l.net) (map (cell_of l.kind l.number) (range_with_len 0 l.b))

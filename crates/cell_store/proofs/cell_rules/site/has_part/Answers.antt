@@ -1,6 +1,0 @@
-use Rattle.cell_store.proofs.cell_rules.Unchanged.{told_part}
-use Rattle.cell_store.proofs.cell_rules.site.has_part.Goals as goal
-
-pub returns : goal.returns
-returns c =
-    told_part c.args.net.now c.args.place.0 c.args.place.1 c.args.part c.is_unused.result c.is_unused.ensures

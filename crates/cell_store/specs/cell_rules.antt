@@ -1,4 +1,0 @@
-pub mod Rules
-pub mod Sites
-pub mod Finding
-pub mod Marks

@@ -1,7 +1,0 @@
-use Rattle.convolution_tests.proofs.fifo_services.a_faster_flow_leaves_nothing.Given as goal
-
-abbrev pub ghosts-service : goal.ghosts-service
-ghosts-service g a = record { name = a.blank.name; parts = a.blank.parts }
-
-abbrev pub ghosts-waits_for_ever : goal.ghosts-waits_for_ever
-ghosts-waits_for_ever g a = record { name = a.blank.name; parts = a.blank.parts }

@@ -1,0 +1,131 @@
+//! By how much a curve is at most above itself a period earlier, before it repeats. No memory is taken.
+
+ghost use Rattle.std.specs.Prelude.{◌≡◌, IfSome};
+ghost use Rattle.upp_limits.specs.rational.specs.Rational.{◌+ℚ◌, ◌≤ℚ◌, ◌<ℚ◌};
+ghost use Rattle.upp_limits.specs.rational.specs.Extended.{◌≤ₑ◌, ◌+ₑ◌};
+ghost use Rattle.upp_limits.specs.rational.specs.declared.Extended.TheVariants.{Fin};
+ghost use Rattle.upp_limits.specs.upp_curve.specs.Curve.{value_at};
+ghost use Rattle.upp_limits.specs.upp_curve.specs.affine_segment.Values.{line_value};
+ghost use Rattle.curve_conv.specs.Rises.{RisesAtMost, HasLater, IsLookedUntil, IsNextTime};
+
+use crate::extremes::{checked_sum, rest};
+use plain_operators::curve_call::earlier;
+use upp_limits::fraction128::{Ext, Frac, greater, is_less};
+use upp_limits::rational::Extended;
+use upp_limits::upp_curve::Curve;
+use upp_limits::upp_curve::affine_segment::{Line, value};
+use upp_normal::stretch_at;
+
+/// So many steps are looked at; of a curve that has more, nothing is told.
+const MOST_STEPS: u32 = 262144;
+
+/// How far a curve was looked at.
+#[derive(Debug, Clone, Copy)]
+pub(crate) struct Looked {
+    /// The time before which it was.
+    pub(crate) until: Frac,
+    /// It is nowhere before more than so much above itself a period earlier.
+    pub(crate) most: Frac,
+}
+
+// The larger of a number and what x is above y; none where that does not fit.
+fn number_above(x: Frac, y: Frac, most: Frac) -> Option<Frac>
+    ensures { IfSome result (λ r. (most ≤ℚ r) × (x ≤ℚ y +ℚ r)) }
+{
+    let gap = rest(x, y)?;
+    Some(greater(most, gap))
+}
+
+// The same of two values; none where b is infinite and a is not.
+fn above(b: Ext, a: Ext, most: Frac) -> Option<Frac>
+    ensures { IfSome result (λ r. (most ≤ℚ r) × (b ≤ₑ a +ₑ Fin r)) }
+{
+    match a {
+        Extended::Inf => Some(most),
+        Extended::Fin(y) => match b {
+            Extended::Inf => None,
+            Extended::Fin(x) => number_above(x, y, most),
+        },
+    }
+}
+
+// The value of a line that may be missing, where its steps fit.
+fn line_there(line: &Option<Line>, t: Frac) -> Option<Ext>
+    ensures { IfSome result (λ v. v ≡ line_value line.now t) }
+{
+    match line {
+        None => Some(Extended::Inf),
+        Some(l) => match value(l, t) {
+            Ok(v) => Some(Extended::Fin(v)),
+            Err(_) => None,
+        },
+    }
+}
+
+// As `above` of two lines, the one a period later.
+fn line_above(
+    there: &Option<Line>,
+    here: &Option<Line>,
+    period: Frac,
+    t: Frac,
+    most: Frac,
+) -> Option<Frac>
+    ensures { IfSome result (λ r. (most ≤ℚ r)
+        × (line_value there.now (t +ℚ period) ≤ₑ line_value here.now t +ₑ Fin r)) }
+{
+    let later = checked_sum(t, period)?;
+    let b = line_there(there, later)?;
+    let a = line_there(here, t)?;
+    above(b, a, most)
+}
+
+// Until when neither a curve from a time on nor the same a period later goes on otherwise, up to `first`.
+fn next_time(here: &Option<Frac>, there: &Option<Frac>, period: Frac, first: Frac) -> Option<Frac>
+    ensures { IfSome result (IsNextTime here.now there.now period first) }
+{
+    let soon = earlier(first, here);
+    match there {
+        None => Some(soon),
+        Some(e) => {
+            let back = rest(*e, period)?;
+            Some(earlier(soon, &Some(back)))
+        }
+    }
+}
+
+// One step on.
+fn step(c: &Curve, looked: Looked, first: Frac, period: Frac) -> Option<Looked>
+    requires later { HasLater c.now first period }
+    requires looked { IsLookedUntil c.now first period looked }
+    requires before { looked.until <ℚ first }
+    ensures { IfSome result (IsLookedUntil c.now first period) }
+{
+    let later = checked_sum(looked.until, period)?;
+    let here = stretch_at(c, looked.until);
+    let there = stretch_at(c, later);
+    let until = next_time(&here.next, &there.next, period, first)?;
+    let start = above(there.at, here.at, looked.most)?;
+    let after = line_above(&there.line, &here.line, period, looked.until, start)?;
+    let most = line_above(&there.line, &here.line, period, until, after)?;
+    Some(Looked { until, most })
+}
+
+/// A number that a curve is nowhere before `first` more than above itself a period earlier: the least that is `least`
+/// or more. None where a period later it is infinite and it is not, where there are very many pieces on the way, or
+/// where a number on the way does not fit.
+pub(crate) fn rise_before(c: &Curve, first: Frac, period: Frac, least: Frac) -> Option<Frac>
+    requires { HasLater c.now first period }
+    ensures { IfSome result (RisesAtMost (value_at c.now) period first) }
+{
+    let mut looked = Looked {
+        until: Frac::zero(),
+        most: least,
+    };
+    for _step in 0..MOST_STEPS {
+        if !is_less(looked.until, first) {
+            return Some(looked.most);
+        }
+        looked = step(c, looked, first, period)?;
+    }
+    None
+}

@@ -1,5 +1,0 @@
-pub mod Turns
-pub mod Waiting
-pub mod Moves
-pub mod InTurn
-pub mod DrrStates

@@ -1,5 +1,0 @@
-use Rattle.net_text.proofs.net_draft.HopParts.{before_colon}
-use Rattle.net_text.proofs.net_draft.hops.written_hop.Goals as goal
-
-pub range-requires-clause-end_boundary : goal.range-requires-clause-end_boundary
-range-requires-clause-end_boundary c = before_colon c.args.text.now c.as_bytes-bytes.result.now c.in-Some.at c.as_bytes-bytes.ensures.value c.in-Some.ensures

@@ -1,8 +1,0 @@
-use Rattle.std.proofs.Common.{◌≡◌, drop}
-use Rattle.std.specs.List.{list_any}
-use Rattle.std.specs.Str.{bytes_eq}
-use Rattle.net_text.specs.net_draft.Keys.{texts_of}
-use Rattle.net_text.proofs.net_draft.keys.is_known.Given as goal
-
-abbrev pub invariant-loop-word : goal.invariant-loop-word
-invariant-loop-word l = list_any (bytes_eq l.key) (texts_of (drop l.word-index l.known)) ≡ list_any (bytes_eq l.key) (texts_of l.known)

@@ -1,7 +1,0 @@
-use Rattle.std.proofs.Common.{◌≡◌, drop}
-use Rattle.std.specs.List.{list_any}
-use Rattle.net_text.specs.net_draft.Drafts.{is_hop_to}
-use Rattle.net_text.proofs.net_draft.quanta.has_hop.Given as goal
-
-abbrev pub invariant-loop-hop : goal.invariant-loop-hop
-invariant-loop-hop l = list_any (is_hop_to l.server l.queue) (drop l.hop-index l.hops) ≡ list_any (is_hop_to l.server l.queue) l.hops
