@@ -119,6 +119,16 @@ BAD_LINKS = [
         for cells, column in [("2,106,1,1", "bag"), ("1,106,1,1", "largest_frame"), ("1,105,1,1", "jitter"), ("1,105,,1", "priority")]
         for WHAT in ["another one than in the first row of the link: write the same in each row of the link"]
     ],
+    (A, link(",1,105,,,a"), f"line 2 column name: empty: {NAME}"),
+    (A, link("v,1,105,1000000000.1,,a"), f"line 2 column jitter: above the most: {TIME}"),
+    (A, link("v,1,105,,x,a"), "line 2 column priority: no whole number: write a whole number from 0 to 7"),
+    (A, link("v,1,105,,,a,1000000000.1"), f"line 2 column deadline: above the most: {TIME}"),
+    (A, LINKS + "".join(f"v{number},1,105,,,a\n" for number in range(16385)), "line 16386 column name: one link too many: write at most 16384 links"),
+    (
+        A,
+        LINKS + "v,1,105,,,a\n" * 131073,
+        "line 131074 column name: one row too many: write at most 4096 ports and 131072 branches",
+    ),
     # A cell in quotes may hold ends of lines; lines count from 1.
     (A, 'name,bag,largest_frame,jitter,priority,path,"a\nnote"\n\nv,1,105,,,"a\n b",\n', "line 4 column path: port 2 has no row in the table of ports: write a name of the table of ports"),
 ]
@@ -135,7 +145,7 @@ def in_folders(program, plain):
         words = (folder / "words").read_text().split()
         status = int((folder / "status").read_text()) if (folder / "status").exists() else 0
         wanted = status, (folder / "stdout").read_bytes()
-        if plain and (status == 2 or not words[0].startswith(("ports", "--o", "--j"))):
+        if plain and (status == 2 or "--" in words or not words[0].startswith(("ports", "--o", "--j"))):
             continue
         got = run(program, folder, words)
         yield folder.name, (wanted[0] if plain and status == 8 else wanted), (got[0] if plain and status == 8 else got)
