@@ -4,7 +4,19 @@ use cell_store::version_table::Versions;
 use std::alloc::Global;
 use std::rc::Rc;
 
-// A value that is set in a version goes with it.
+#[test]
+fn a_value_set_in_a_version_goes_with_it(rt: HostRuntime) {
+    let mut table: Versions<u32> = Versions::new(rt.alloc(), 20).expect(&rt, "memory");
+    let first = Rc::new(rt.alloc(), 1).expect(&rt, "memory");
+    let second = Rc::new(rt.alloc(), 2).expect(&rt, "memory");
+    table.set(17, Some(first)).expect(&rt, "memory");
+    table.mark().expect(&rt, "memory");
+    table.set(17, Some(second)).expect(&rt, "memory");
+    assert!(&rt; table.undo().is_some());
+    assert!(&rt; table.get(17).copied() == Some(1));
+    assert!(&rt; table.undo().is_none());
+}
+
 #[test]
 fn four_thousand_versions_of_a_million_cells_fit(rt: HostRuntime) {
     let cells: u32 = 1_048_576;
@@ -25,5 +37,4 @@ fn four_thousand_versions_of_a_million_cells_fit(rt: HostRuntime) {
         assert!(&rt; table.undo().is_some());
     }
     assert!(&rt; table.get(3999).copied() == Some(0));
-    assert!(&rt; table.undo().is_none());
 }
