@@ -95,31 +95,33 @@ module _ (port : Port) (queues : List StairsIn) (q : ℕ) (queue : Queue) (bundl
   no_service : Service
   no_service = record { rate = 0; debt = 0 }
 
-  module _ (least : IsLeastOfBoth bundles services (1024 * (stairs_at queues q).longest) (Some queue)) where
-    kept : IsKept bundles services (1024 * (stairs_at queues q).longest) queue
-    kept = least_of_both_is_kept bundles services (1024 * (stairs_at queues q).longest) queue (bounded.stairs q bundles known) least
+  kept : IsLeastOfBoth bundles services (1024 * (stairs_at queues q).longest) (Some queue) → IsKept bundles services (1024 * (stairs_at queues q).longest) queue
+  kept least = least_of_both_is_kept bundles services (1024 * (stairs_at queues q).longest) queue (bounded.stairs q bundles known) least
 
-    delay_held : AreAtMost (Fin (micros queue.delay)) (hop_delays (of_queue q) end V)
-    delay_held =
-        let place = kept.delay.place in
-        let s = get_or services place no_service in
-        let serves = service_serves port (line_incomings queues) q end V s range lines_seen lines_count lines_inside (all.each place no_service kept.delay.inside) in
-        let within = kept.delay.is no_service in
-        delay_from_wait (server_of port) end V (of_queue q) q (λ t. Fin (bundles_at bundles t)) (value_of s) (micros queue.delay) seen.lawful its_own
-        (seen.arrivals q bundles known) serves (micros_nonneg queue.delay)
-        (λ t wait on later. within.reached (λ u. Fin (bundles_at bundles u)) (value_of s) record { brought = λ u h. le_refl (bundles_at bundles u) } (itself s) t wait on (le_of_lt later))
+  delay_held : IsLeastOfBoth bundles services (1024 * (stairs_at queues q).longest) (Some queue) → AreAtMost (Fin (micros queue.delay)) (hop_delays (of_queue q) end V)
+  delay_held least =
+      let is = (kept least).delay in
+      let place = is.place in
+      let s = get_or services place no_service in
+      let serves = service_serves port (line_incomings queues) q end V s range lines_seen lines_count lines_inside (all.each place no_service is.inside) in
+      let within = is.is no_service in
+      delay_from_wait (server_of port) end V (of_queue q) q (λ t. Fin (bundles_at bundles t)) (value_of s) (micros queue.delay) seen.lawful its_own
+      (seen.arrivals q bundles known) serves (micros_nonneg queue.delay)
+      (λ t wait on later. within.reached (λ u. Fin (bundles_at bundles u)) (value_of s) record { brought = λ u h. le_refl (bundles_at bundles u) } (itself s) t wait on (le_of_lt later))
 
-    backlog_held : (t : ℚ) → t ≤ℚ end → Fin (backlog (of_queue q) V t) ≤ₑ Fin (whole queue.backlog)
-    backlog_held =
-        let place = kept.backlog.place in
-        let s = get_or services place no_service in
-        let l = (stairs_at queues q).longest in
-        let serves = service_serves port (line_incomings queues) q end V s range lines_seen lines_count lines_inside (all.each place no_service kept.backlog.inside) in
-        let holds = kept.backlog.is no_service in
-        backlog_from_gap (server_of port) end V (of_queue q) l (λ t. Fin (bundles_at bundles t)) (value_of s) (Fin (whole queue.backlog)) seen.lawful (seen.sizes q)
-        (seen.arrivals q bundles known) serves
-        (λ t level on is. holds.within (λ u. Fin (bundles_at bundles u)) (value_of s) record { brought = λ u h. le_refl (bundles_at bundles u) } (itself s) t level on
-        (ap (λ (x : ℚ). packetised (value_of s) x t) (bits_whole l) ∙ is))
+  backlog_held : IsLeastOfBoth bundles services (1024 * (stairs_at queues q).longest) (Some queue) → (t : ℚ) → t ≤ℚ end
+      → Fin (backlog (of_queue q) V t) ≤ₑ Fin (whole queue.backlog)
+  backlog_held least =
+      let is = (kept least).backlog in
+      let place = is.place in
+      let s = get_or services place no_service in
+      let l = (stairs_at queues q).longest in
+      let serves = service_serves port (line_incomings queues) q end V s range lines_seen lines_count lines_inside (all.each place no_service is.inside) in
+      let holds = is.is no_service in
+      backlog_from_gap (server_of port) end V (of_queue q) l (λ t. Fin (bundles_at bundles t)) (value_of s) (Fin (whole queue.backlog)) seen.lawful (seen.sizes q)
+      (seen.arrivals q bundles known) serves
+      (λ t level on at. holds.within (λ u. Fin (bundles_at bundles u)) (value_of s) record { brought = λ u h. le_refl (bundles_at bundles u) } (itself s) t level on
+      (ap (λ (x : ℚ). packetised (value_of s) x t) (bits_whole l) ∙ at))
 
 -- ---- all
 is_some : Option Queue → Type 0

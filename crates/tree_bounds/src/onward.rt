@@ -37,7 +37,7 @@ fn short(stair: Stair) -> Option<Stair>
 
 /// The stair of a link where it begins; none where it passes its limit.
 fn stair_of(link: &Link) -> Option<Stair>
-    requires frame { link.now.frame ≤ longest_frame }
+    requires { link.now.frame ≤ longest_frame }
     ensures { result ≡ first_stair link.now }
 {
     short(Stair {

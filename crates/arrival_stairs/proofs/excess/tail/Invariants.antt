@@ -1,4 +1,4 @@
-use Rattle.arrival_stairs.specs.StairExcess.{IsTailOfFirst}
+use Rattle.arrival_stairs.specs.Horizon.{IsTailOfFirst}
 use Rattle.arrival_stairs.proofs.excess.tail.Given as goal
 
 abbrev pub invariant-loop-line : goal.invariant-loop-line

@@ -4,4 +4,4 @@ use Rattle.tree_bounds.proofs.onward.stair_of.Goals as goal
 
 pub overflow_mul-link : goal.overflow_mul-link
 unfolding longest_frame
-overflow_mul-link c = omega (arith, c.requires.frame)
+overflow_mul-link c = omega (arith, c.requires)
