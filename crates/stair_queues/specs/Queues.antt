@@ -42,9 +42,9 @@ abbrev pub IsAtMost : (d b : ℕ) → Option Queue → Type 0
 IsAtMost d b None = Unit {0}
 IsAtMost d b (Some queue) = (d ≤ queue.delay) × (b ≤ queue.backlog)
 
-pub record AreNoLess (bundles : List Bundle) (services : List Service) (longest i : ℕ) (lines : Option Queue)
+pub record AreNoLess (bundles : List Bundle) (services : List Service) (longest i : ℕ) (by_lines : Option Queue)
     (d b : ℕ) : Type 0 where
-  pub lines : IsAtMost d b lines
+  pub lines : IsAtMost d b by_lines
   pub stairs : (k : ℕ) (e : Service) (other low : ℕ) → k < i → IsStay bundles (get_or services k e) longest other low
       → (d ≤ other) × (b ≤ low)
 
@@ -61,8 +61,8 @@ IsNone None = Unit {0}
 IsNone (Some queue) = ⊥
 
 -- the lines have no queue, and by the stairs each delay is of 2 ^ 50 picoseconds or more
-pub record AreLong (bundles : List Bundle) (services : List Service) (longest : ℕ) (lines : Option Queue) : Type 0 where
-  pub lines : IsNone lines
+pub record AreLong (bundles : List Bundle) (services : List Service) (longest : ℕ) (by_lines : Option Queue) : Type 0 where
+  pub lines : IsNone by_lines
   pub stairs : (k : ℕ) (e : Service) (d b : ℕ) → k < length services → IsStay bundles (get_or services k e) longest d b
       → 2 ^ 50 ≤ d
 
@@ -86,9 +86,9 @@ LeastOfBothIsKept = (bundles : List Bundle) (services : List Service) (longest :
     → IsLeastOfBoth bundles services longest (Some queue) → IsKept bundles services longest queue
 
 -- ---- of the lines and the first i services
-pub record IsNothing (bundles : List Bundle) (services : List Service) (longest i : ℕ) (lines : Option Queue)
+pub record IsNothing (bundles : List Bundle) (services : List Service) (longest i : ℕ) (by_lines : Option Queue)
     : Type 0 where
-  pub lines : IsNone lines
+  pub lines : IsNone by_lines
   pub none : (k : ℕ) (e : Service) → k < i → HasNoStay bundles (get_or services k e) longest
 
 pub record IsSoFar (bundles : List Bundle) (services : List Service) (longest i : ℕ) (lines : Option Queue)

@@ -192,44 +192,44 @@ module _ (net : Network) (w : IsNetwork net) (stair : ℕ → Option Stair)
       Now b = option_map (λ parts. ws) (if b then Some (map (part_of net) gs) else None) ≡ Some (bunches bundles)
 
       same : (b : Bool) → Now b → b ≡ true → ws ≡ bunches bundles
-      same true h f = cc
-      same false h f = absurd (cc)
+      same true h f = let g : Some ws ≡ Some (bunches bundles) = h in cc
+      same false h f = absurd (let g : None ≡ Some (bunches bundles) = h in cc)
 
       never : Now false → ⊥
-      never h = absurd (cc)
+      never h = absurd (let g : None ≡ Some (bunches bundles) = h in cc)
+
+      found : list_all (λ g. g.known) gs ≡ true → are_bounded (map (part_of net) gs) ≡ true → AreBundles bundles
+      found known bounded =
+          let test : (list_all (λ g. g.known) gs && are_bounded (map (part_of net) gs)) ≡ true = rw (known, bounded) refl in
+          let is = same (list_all (λ g. g.known) gs && are_bounded (map (part_of net) gs)) e test in
+          let stairs = subst (λ (us : List Bunch). All AreStairsOf us) is (stairs_all gs) in
+          let paced = subst (λ (us : List Bunch). All IsPaced us) is
+          (paced_all gs (of_network net (spots_of net) (λ n. line_of (stair n)) s q (length net.ports.items + 1) (spots_in_range net w) (omega arith))) in
+          let parts = ap (map part_by) (sym is) ∙ lines_known net (spots_of net) stair s q known in
+          let both = of_both (nat_lt (sum_by sum_burst (map (part_of net) gs)) (2 ^ 58)) (nat_lt (sum_by sum_rate (map (part_of net) gs)) (2 ^ 50)) bounded in
+          let burst = ranged.below_of_test (sum_by sum_burst (map (part_of net) gs)) (2 ^ 58) both.0 in
+          let sum = ap (sum_by sum_burst) parts in
+          let few = groups_length (spots_of net) (λ n. line_of (stair n)) s q (length net.ports.items + 1) in
+          let count = length-map gs (bunch_of_group net (spots_of net) stair s q) in
+          let long = ap length is in
+          let levels = levels_are bundles in
+          let a = bursts_low (bunches bundles) stairs paced in
+          let b = rates_low (bunches bundles) paced in
+          let c = ap (sum_by most_burst) levels in
+          let d = ap (sum_by most_rate) levels in
+          let ports = w.few_ports in
+          let n = length (bunches bundles) in
+          let most : n ≤ 4097 = omega (arith, few, count, long, ports) in
+          let m = mul-le-mul_right (2 ^ 24 * 1024) most in
+          let f = mul-le-mul_right (1024 * 10 ^ 12) most in
+          record {
+            stairs = stairs_seen bundles stairs;
+            bursts = omega (arith, a, c, sum, burst, m);
+            rates = omega (arith, b, d, f);
+          }
 
       by_test : (k b : Bool) → list_all (λ g. g.known) gs ≡ k → are_bounded (map (part_of net) gs) ≡ b → AreBundles bundles
       by_test true true ek eb = found ek eb
-        where
-          found : list_all (λ g. g.known) gs ≡ true → are_bounded (map (part_of net) gs) ≡ true → AreBundles bundles
-          found known bounded =
-              let test : (list_all (λ g. g.known) gs && are_bounded (map (part_of net) gs)) ≡ true = rw (known, bounded) refl in
-              let is = same (list_all (λ g. g.known) gs && are_bounded (map (part_of net) gs)) e test in
-              let stairs = subst (λ (us : List Bunch). All AreStairsOf us) is (stairs_all gs) in
-              let paced = subst (λ (us : List Bunch). All IsPaced us) is
-              (paced_all gs (of_network net (spots_of net) (λ n. line_of (stair n)) s q (length net.ports.items + 1) (spots_in_range net w) (omega arith))) in
-              let parts = ap (map part_by) (sym is) ∙ lines_known net (spots_of net) stair s q known in
-              let both = of_both (nat_lt (sum_by sum_burst (map (part_of net) gs)) (2 ^ 58)) (nat_lt (sum_by sum_rate (map (part_of net) gs)) (2 ^ 50)) bounded in
-              let burst = ranged.below_of_test (sum_by sum_burst (map (part_of net) gs)) (2 ^ 58) both.0 in
-              let sum = ap (sum_by sum_burst) parts in
-              let few = groups_length (spots_of net) (λ n. line_of (stair n)) s q (length net.ports.items + 1) in
-              let count = length-map gs (bunch_of_group net (spots_of net) stair s q) in
-              let long = ap length is in
-              let levels = levels_are bundles in
-              let a = bursts_low (bunches bundles) stairs paced in
-              let b = rates_low (bunches bundles) paced in
-              let c = ap (sum_by most_burst) levels in
-              let d = ap (sum_by most_rate) levels in
-              let ports = w.few_ports in
-              let n = length (bunches bundles) in
-              let most : n ≤ 4097 = omega (arith, few, count, long, ports) in
-              let m = mul-le-mul_right (2 ^ 24 * 1024) most in
-              let f = mul-le-mul_right (1024 * 10 ^ 12) most in
-              record {
-                stairs = stairs_seen bundles stairs;
-                bursts = omega (arith, a, c, sum, burst, m);
-                rates = omega (arith, b, d, f);
-              }
       by_test true false ek eb =
           let off : (list_all (λ g. g.known) gs && are_bounded (map (part_of net) gs)) ≡ false = rw (ek, eb) refl in absurd (never (subst Now off e))
       by_test false b ek eb =

@@ -54,10 +54,10 @@ abbrev pub arriving_of : StairsIn → Arriving
 arriving_of s = record { bunches = option_map bunches s.bundles; longest = s.longest }
 
 -- a row by the stairs that arrive so
-pub record IsRowOf (port : Port) (arriving : List Arriving) (q : ℕ) (row : Option Queue) : Type 0 where
+pub record IsRowOf (port : Port) (arriving : List Arriving) (q : ℕ) (found : Option Queue) : Type 0 where
   pub queues : List StairsIn
   pub are : map arriving_of queues ≡ arriving
-  pub row : IsStairRow port queues q row
+  pub row : IsStairRow port queues q found
 
 pub record AreRowsOf (port : Port) (arriving : List Arriving) (rows : List (Option Queue)) : Type 0 where
   pub count : length rows ≡ length arriving
