@@ -1,5 +1,5 @@
 -- What arrives as stairs: its lines are the parts of the same groups.
-use Rattle.std.proofs.Common.{◌≡◌, ℕ, zero, suc, ◌<◌, ◌≤◌, ◌+◌, ◌*◌, ◌^◌, ◌&&◌, Bool, true, false, Option, Some, None, List, [], ◌∷◌, ◌++◌, length, get_or, map, nat_lt, if◌then◌else◌, refl, sym, ◌∙◌, ap, ap₂, subst, arith, append-nil, length-append}
+use Rattle.std.proofs.Common.{◌≡◌, ℕ, zero, suc, ◌<◌, ◌≤◌, ◌+◌, ◌*◌, ◌^◌, ◌&&◌, Bool, true, false, Option, Some, None, List, [], ◌∷◌, ◌++◌, length, get_or, map, nat_lt, if◌then◌else◌, refl, sym, ◌∙◌, ap, ap₂, subst, arith, append-nil, length-append, zero-add}
 use Rattle.std.specs.Prelude.{All, is_some}
 use Rattle.std.specs.List.{sum_by, list_all}
 use Rattle.std.specs.Option.{option_map}
@@ -23,9 +23,6 @@ use Rattle.tree_bounds.specs.Groups.{burst_in, rate_in, longest_of, group_of, sp
 use Rattle.tree_bounds.specs.Lines.{line_of}
 use Rattle.tree_bounds.specs.declared.groups.Group.{Group}
 
-abbrev pub lines_by : (ℕ → Option Stair) → ℕ → Option Line
-lines_by stair n = line_of (stair n)
-
 -- ---- the lines of a spot's stair
 pub among_more : (stair : ℕ → Option Stair) (xs ys : List ℕ) → stairs_among stair (xs ++ ys) ≡ stairs_among stair xs ++ stairs_among stair ys
 unfolding stairs_among
@@ -41,16 +38,22 @@ pub record HasLine (o : Option Stair) : Type 0 where
   pub burst : sum_by stair_burst (stair_list o) ≡ burst_in (line_of o)
   pub rate : sum_by stair_rate (stair_list o) ≡ rate_in (line_of o)
 
+line_known : (s : Stair) → is_some (line_of (Some s)) ≡ true → line_of (Some s) ≡ Some record { burst = stair_burst s; rate = stair_rate s }
+line_known s e = by_test (nat_lt (stair_burst s) (2 ^ 58) && nat_lt (stair_rate s) (2 ^ 64)) e
+  where
+    by_test : (b : Bool) → is_some (if b then Some record { burst = stair_burst s; rate = stair_rate s } else None) ≡ true
+        → (if b then Some record { burst = stair_burst s; rate = stair_rate s } else None) ≡ Some record { burst = stair_burst s; rate = stair_rate s }
+    by_test true f = refl
+    by_test false f = absurd (let g : false ≡ true = f in cc)
+
 pub line_has : (o : Option Stair) → is_some (line_of o) ≡ true → HasLine o
 line_has None e = absurd (let f : false ≡ true = e in cc)
-line_has (Some s) e = by_test (nat_lt (stair_burst s) (2 ^ 58) && nat_lt (stair_rate s) (2 ^ 64)) refl
-  where
-    by_test : (b : Bool) → (nat_lt (stair_burst s) (2 ^ 58) && nat_lt (stair_rate s) (2 ^ 64)) ≡ b → HasLine (Some s)
-    by_test true f = rw f record { burst = omega arith; rate = omega arith }
-    by_test false f =
-        let A : Bool → Type 0 = λ b. is_some (if b then Some record { burst = stair_burst s; rate = stair_rate s } else None) ≡ true in
-        let g : false ≡ true = subst A f e in
-        absurd (cc)
+line_has (Some s) e =
+    let is = line_known s e in
+    record {
+      burst = zero-add (stair_burst s) ∙ sym (ap burst_in is);
+      rate = zero-add (stair_rate s) ∙ sym (ap rate_in is);
+    }
 
 pub burst_among : (stair : ℕ → Option Stair) (numbers : List ℕ) → list_all (λ n. is_some (line_of (stair n))) numbers ≡ true
     → sum_by stair_burst (stairs_among stair numbers) ≡ sum_by (λ n. burst_in (line_of (stair n))) numbers

@@ -1,9 +1,10 @@
 -- What arrives at a port as the code lists it.
-use Rattle.std.proofs.Common.{◌≡◌, ℕ, zero, suc, ◌<◌, ◌+◌, ◌==◌, ◌&&◌, Bool, true, false, Option, Some, None, List, [], ◌∷◌, ◌++◌, filter, length, get_or, map, take, refl, sym, ◌∙◌, ap, ap₂, subst, arith, append-nil}
+use Rattle.std.proofs.Common.{◌≡◌, ℕ, zero, suc, ◌<◌, ◌+◌, ◌==◌, ◌&&◌, Bool, true, false, Option, Some, None, List, [], ◌∷◌, ◌++◌, cond, filter, length, get_or, map, take, refl, sym, ◌∙◌, ap, ap₂, subst, arith, append-nil}
 use Rattle.std.specs.Option.{option_map}
 use Rattle.std.specs.declared.vec.Vec.{Vec}
 use Rattle.std.specs.declared.alloc.Global.{Global}
 use Rattle.std.proofs.lemmas.List.{take_more, map-append}
+use Rattle.std.proofs.lemmas.List.Elements.{filter_more}
 use Rattle.arrival_lines.specs.declared.grid.Line.{Line}
 use Rattle.arrival_lines.specs.declared.grid.Part.{Part}
 use Rattle.arrival_stairs.specs.Views.{Bunch, bunches}
@@ -17,7 +18,7 @@ use Rattle.tree_network.specs.declared.network.Network.{Network}
 use Rattle.tree_order.specs.declared.spots.Spot.{Spot}
 use Rattle.tree_order.specs.Spots.{spot_at, spots_of}
 use Rattle.tree_order.specs.Lists.{those, is_from}
-use Rattle.tree_order.proofs.Those.{those_filter, those_same, eq_true}
+use Rattle.tree_order.proofs.Those.{those_filter, those_same, eq_true, of_eq}
 use Rattle.tree_bounds.specs.Bunches.{Arriving, stair_list, stairs_among, bunch_of_group, arriving_of, arriving_of_groups, arriving_at, arriving_below}
 use Rattle.tree_bounds.specs.Coming.{IsComing, is_in_queue}
 use Rattle.tree_bounds.specs.Groups.{is_in_group, spots_in_group, groups_at, parts_in, longest_group, pace_line, incoming_of_groups, incoming_at, incomings_at}
@@ -30,27 +31,19 @@ pub none_among : (stair : ℕ → Option Stair) (test : ℕ → Bool) (numbers :
 unfolding stairs_among
 none_among stair test numbers = refl
 
-filter_push : (test : ℕ → Bool) (xs : List ℕ) (n : ℕ) → filter test (xs ++ n ∷ []) ≡ filter test xs ++ filter test (n ∷ [])
-filter_push test [] n = refl
-filter_push test (x ∷ xs) n = by_test (test x) refl
-  where
-    by_test : (b : Bool) → test x ≡ b → filter test ((x ∷ xs) ++ n ∷ []) ≡ filter test (x ∷ xs) ++ filter test (n ∷ [])
-    by_test true e = rw e (ap (λ (l : List ℕ). x ∷ l) (filter_push test xs n))
-    by_test false e = rw e (filter_push test xs n)
-
 among_next : (stair : ℕ → Option Stair) (test : ℕ → Bool) (numbers : List ℕ) (i d : ℕ) → i < length numbers
-    → stairs_among stair (filter test (take (i + 1) numbers)) ≡ stairs_among stair (filter test (take i numbers)) ++ stairs_among stair (filter test (get_or numbers i d ∷ []))
+    → stairs_among stair (filter test (take (i + 1) numbers))
+    ≡ stairs_among stair (filter test (take i numbers)) ++ stairs_among stair (cond (test (get_or numbers i d)) (get_or numbers i d ∷ []) [])
 among_next stair test numbers i d h =
-    ap (λ (l : List ℕ). stairs_among stair (filter test l)) (take_more numbers i d h)
-    ∙ ap (stairs_among stair) (filter_push test (take i numbers) (get_or numbers i d))
-    ∙ among_more stair (filter test (take i numbers)) (filter test (get_or numbers i d ∷ []))
+    ap (stairs_among stair) (filter_more test numbers i d h)
+    ∙ among_more stair (filter test (take i numbers)) (cond (test (get_or numbers i d)) (get_or numbers i d ∷ []) [])
 
 pub one_among : (stair : ℕ → Option Stair) (test : ℕ → Bool) (numbers : List ℕ) (i d : ℕ) (old new : List Stair) → i < length numbers → test (get_or numbers i d) ≡ true
     → old ≡ stairs_among stair (filter test (take i numbers)) → new ≡ old ++ stair_list (stair (get_or numbers i d))
     → new ≡ stairs_among stair (filter test (take (i + 1) numbers))
 unfolding stairs_among
 one_among stair test numbers i d old new h yes is more =
-    let last : stairs_among stair (filter test (get_or numbers i d ∷ [])) ≡ stair_list (stair (get_or numbers i d)) ++ [] = rw yes refl in
+    let last : stairs_among stair (cond (test (get_or numbers i d)) (get_or numbers i d ∷ []) []) ≡ stair_list (stair (get_or numbers i d)) ++ [] = rw yes refl in
     more ∙ ap (λ (l : List Stair). l ++ stair_list (stair (get_or numbers i d))) is
     ∙ ap (λ (l : List Stair). stairs_among stair (filter test (take i numbers)) ++ l) (sym (append-nil (stair_list (stair (get_or numbers i d)))) ∙ sym last)
     ∙ sym (among_next stair test numbers i d h)
@@ -59,10 +52,21 @@ pub other_among : (stair : ℕ → Option Stair) (test : ℕ → Bool) (numbers 
     → old ≡ stairs_among stair (filter test (take i numbers)) → old ≡ stairs_among stair (filter test (take (i + 1) numbers))
 unfolding stairs_among
 other_among stair test numbers i d old h no is =
-    let last : stairs_among stair (filter test (get_or numbers i d ∷ [])) ≡ [] = rw no refl in
+    let last : stairs_among stair (cond (test (get_or numbers i d)) (get_or numbers i d ∷ []) []) ≡ [] = rw no refl in
     is ∙ sym (append-nil (stairs_among stair (filter test (take i numbers))))
     ∙ ap (λ (l : List Stair). stairs_among stair (filter test (take i numbers)) ++ l) (sym last)
     ∙ sym (among_next stair test numbers i d h)
+
+pub here : (spots : List Spot) (s q n : ℕ) → (spot_at spots n).port ≡ s → (spot_at spots n).queue ≡ q → is_in_queue spots s q n ≡ true
+here spots s q n e f = let a = eq_true (spot_at spots n).port s e in let b = eq_true (spot_at spots n).queue q f in rw (a, b) refl
+
+pub elsewhere : (spots : List Spot) (s q n : ℕ) → (((spot_at spots n).port ≡ s) × ((spot_at spots n).queue ≡ q) → ⊥) → is_in_queue spots s q n ≡ false
+elsewhere spots s q n none = by_test ((spot_at spots n).port == s) ((spot_at spots n).queue == q) refl refl
+  where
+    by_test : (a b : Bool) → ((spot_at spots n).port == s) ≡ a → ((spot_at spots n).queue == q) ≡ b → is_in_queue spots s q n ≡ false
+    by_test true true e f = absurd (none (of_eq (spot_at spots n).port s e, of_eq (spot_at spots n).queue q f))
+    by_test true false e f = rw (e, f) refl
+    by_test false b e f = rw e refl
 
 -- those of a source and of a queue are those of the group
 pub of_group : (spots : List Spot) (s q k : ℕ) → filter (is_in_queue spots s q) (those (is_from spots k) (length spots)) ≡ spots_in_group spots s q k

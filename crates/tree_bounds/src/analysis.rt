@@ -10,7 +10,7 @@ ghost use Rattle.tree_bounds.specs.Onward.{stair_in, ArePassedOn, CanBePassedOn}
 ghost use Rattle.tree_bounds.specs.Solved.{AreAllStairs, AreSolved};
 ghost use Rattle.tree_bounds.specs.Tables.{IsTableOf, items_of};
 
-use crate::arriving::coming;
+use crate::arriving::all_arrivals;
 use crate::bounds::all_bounds;
 use crate::onward::{first_stairs, pass_on};
 use arrival_lines::Queue;
@@ -58,7 +58,7 @@ fn rows_at(
 {
     let at = &network.ports[port];
     let count = at.discipline.queue_count();
-    let queues = coming(alloc, network, plan, stairs, port, count)?;
+    let queues = all_arrivals(alloc, network, plan, stairs, port, count)?;
     stair_rows(alloc, at, &queues.stairs, &queues.lines)
 }
 

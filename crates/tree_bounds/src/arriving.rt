@@ -1,6 +1,6 @@
 //! What arrives at the queues of a port: as stairs, and by their lines.
 
-ghost use Rattle.std.specs.Prelude.{◌≡◌, ◌<◌, ◌++◌, All, filter, length, map, IfOk, OnOk};
+ghost use Rattle.std.specs.Prelude.{◌≡◌, ◌<◌, ◌++◌, ◌↔◌, All, IsTrue, filter, length, map, IfOk, OnOk};
 ghost use Rattle.tree_network.specs.Networks.{IsNetwork};
 ghost use Rattle.tree_order.specs.Plans.{IsPlanOf};
 ghost use Rattle.tree_order.specs.Spots.{spots_of};
@@ -42,6 +42,13 @@ fn keep(stairs: &mut Vec<Stair>, stair: Option<Stair>) -> Result<(), AllocError>
     Ok(())
 }
 
+/// Whether the spot is of queue q at a port.
+fn is_here(spot: Spot, port: usize, q: usize) -> bool
+    ensures { IsTrue result ↔ ((spot.port ≡ port) × (spot.queue ≡ q)) }
+{
+    spot.port == port && spot.queue == q
+}
+
 /// The stairs of the spots of queue q at a port among these.
 fn stairs_at(
     alloc: Global,
@@ -58,7 +65,7 @@ fn stairs_at(
     let mut found = Vec::new(alloc);
     for n in numbers {
         let spot = spots[*n];
-        if spot.port == port && spot.queue == q {
+        if is_here(spot, port, q) {
             keep(&mut found, stairs[*n])?;
         }
     }
@@ -143,7 +150,7 @@ fn stair_arrivals(
 }
 
 /// What arrives at each of so many queues of a port.
-pub(crate) fn coming(
+pub(crate) fn all_arrivals(
     alloc: Global,
     network: &Network,
     plan: &Plan,
