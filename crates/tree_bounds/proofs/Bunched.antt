@@ -22,27 +22,34 @@ use Rattle.tree_bounds.specs.Bunches.{Arriving, stair_list, stairs_among, bunch_
 use Rattle.tree_bounds.specs.Groups.{burst_in, rate_in, longest_of, group_of, spots_in_group, group_list, groups_at, part_of, parts_in, are_bounded, pace_line, longest_group, incoming_of_groups, incoming_at, incomings_at}
 use Rattle.tree_bounds.specs.Lines.{line_of}
 use Rattle.tree_bounds.specs.declared.groups.Group.{Group}
+use Rattle.tree_bounds.proofs.PartsMade.{both_fields}
 
 -- ---- the lines of a spot's stair
 pub among_more : (stair : ℕ → Option Stair) (xs ys : List ℕ) → stairs_among stair (xs ++ ys) ≡ stairs_among stair xs ++ stairs_among stair ys
 unfolding stairs_among
 among_more stair [] ys = refl
-among_more stair (x ∷ xs) ys = by_stair (stair x)
+among_more stair (x ∷ xs) ys = by_stair (among_more stair xs ys) (stair x)
   where
-    by_stair : (o : Option Stair) → stair_list o ++ stairs_among stair (xs ++ ys) ≡ (stair_list o ++ stairs_among stair xs) ++ stairs_among stair ys
-    by_stair None = among_more stair xs ys
-    by_stair (Some s) = ap (λ (ss : List Stair). s ∷ ss) (among_more stair xs ys)
+    by_stair : stairs_among stair (xs ++ ys) ≡ stairs_among stair xs ++ stairs_among stair ys → (o : Option Stair)
+        → stair_list o ++ stairs_among stair (xs ++ ys) ≡ (stair_list o ++ stairs_among stair xs) ++ stairs_among stair ys
+    by_stair rest None = rest
+    by_stair rest (Some s) = ap (λ (ss : List Stair). s ∷ ss) rest
 
 -- where it is known it has the stair's numbers
 pub record HasLine (o : Option Stair) : Type 0 where
   pub burst : sum_by stair_burst (stair_list o) ≡ burst_in (line_of o)
   pub rate : sum_by stair_rate (stair_list o) ≡ rate_in (line_of o)
 
-line_known : (s : Stair) → is_some (line_of (Some s)) ≡ true → line_of (Some s) ≡ Some record { burst = stair_burst s; rate = stair_rate s }
+abbrev own_line : Stair → Line
+own_line s = record { burst = stair_burst s; rate = stair_rate s }
+
+abbrev line_if : Stair → Bool → Option Line
+line_if s b = if b then Some (own_line s) else None
+
+line_known : (s : Stair) → is_some (line_of (Some s)) ≡ true → line_of (Some s) ≡ Some (own_line s)
 line_known s e = by_test (nat_lt (stair_burst s) (2 ^ 58) && nat_lt (stair_rate s) (2 ^ 64)) e
   where
-    by_test : (b : Bool) → is_some (if b then Some record { burst = stair_burst s; rate = stair_rate s } else None) ≡ true
-        → (if b then Some record { burst = stair_burst s; rate = stair_rate s } else None) ≡ Some record { burst = stair_burst s; rate = stair_rate s }
+    by_test : (b : Bool) → is_some (line_if s b) ≡ true → line_if s b ≡ Some (own_line s)
     by_test true f = refl
     by_test false f = absurd (let g : false ≡ true = f in cc)
 
@@ -169,8 +176,8 @@ module _ (net : Network) (spots : List Spot) (stair : ℕ → Option Stair) (s :
       ws = map (bunch_of_group net spots stair s q) gs
 
       Same : Bool → Type 0
-      Same b = record { parts = option_map (map part_by) (option_map (λ parts. ws) (if b then Some (map (part_of net) gs) else None)); longest = longest_group gs }
-          ≡ record { parts = if b then Some (map (part_of net) gs) else None; longest = longest_group gs }
+      Same b = both_fields (option_map (map part_by) (option_map (λ (parts : List Part). ws) (if b then Some (map (part_of net) gs) else None))) (longest_group gs)
+          ≡ both_fields (if b then Some (map (part_of net) gs) else None) (longest_group gs)
 
       by_test : (k b : Bool) → list_all (λ g. g.known) gs ≡ k → are_bounded (map (part_of net) gs) ≡ b → Same (list_all (λ g. g.known) gs && are_bounded (map (part_of net) gs))
       by_test true true e f =

@@ -42,8 +42,8 @@ pub one_among : (stair : ℕ → Option Stair) (test : ℕ → Bool) (numbers : 
     → old ≡ stairs_among stair (filter test (take i numbers)) → new ≡ old ++ stair_list (stair (get_or numbers i d))
     → new ≡ stairs_among stair (filter test (take (i + 1) numbers))
 unfolding stairs_among
-one_among stair test numbers i d old new h yes is more =
-    let last : stairs_among stair (cond (test (get_or numbers i d)) (get_or numbers i d ∷ []) []) ≡ stair_list (stair (get_or numbers i d)) ++ [] = rw yes refl in
+one_among stair test numbers i d old new h hit is more =
+    let last : stairs_among stair (cond (test (get_or numbers i d)) (get_or numbers i d ∷ []) []) ≡ stair_list (stair (get_or numbers i d)) ++ [] = rw hit refl in
     more ∙ ap (λ (l : List Stair). l ++ stair_list (stair (get_or numbers i d))) is
     ∙ ap (λ (l : List Stair). stairs_among stair (filter test (take i numbers)) ++ l) (sym (append-nil (stair_list (stair (get_or numbers i d)))) ∙ sym last)
     ∙ sym (among_next stair test numbers i d h)
@@ -51,8 +51,8 @@ one_among stair test numbers i d old new h yes is more =
 pub other_among : (stair : ℕ → Option Stair) (test : ℕ → Bool) (numbers : List ℕ) (i d : ℕ) (old : List Stair) → i < length numbers → test (get_or numbers i d) ≡ false
     → old ≡ stairs_among stair (filter test (take i numbers)) → old ≡ stairs_among stair (filter test (take (i + 1) numbers))
 unfolding stairs_among
-other_among stair test numbers i d old h no is =
-    let last : stairs_among stair (cond (test (get_or numbers i d)) (get_or numbers i d ∷ []) []) ≡ [] = rw no refl in
+other_among stair test numbers i d old h miss is =
+    let last : stairs_among stair (cond (test (get_or numbers i d)) (get_or numbers i d ∷ []) []) ≡ [] = rw miss refl in
     is ∙ sym (append-nil (stairs_among stair (filter test (take i numbers))))
     ∙ ap (λ (l : List Stair). stairs_among stair (filter test (take i numbers)) ++ l) (sym last)
     ∙ sym (among_next stair test numbers i d h)

@@ -231,9 +231,10 @@ one_done net order k p rows old new found w o h is found_rows passed d = record 
     -- what comes to the ports that are done, and to this one, stays
     same_at : (i : ℕ) → i < k + 1 → comes_to net (λ n. stair_in old n) (get_or order i 0) ≡ comes_to net (λ n. stair_in new n) (get_or order i 0)
     same_at i lt =
-        arriving_same net (spots_of net) (λ n. stair_in old n) (λ n. stair_in new n) (get_or order i 0) (queues_of (port_at net (get_or order i 0)).discipline)
+        arriving_same net (spots_of net) (λ n. stair_in old n) (λ n. stair_in new n) (get_or order i 0)
         (λ n ln at. sym (stays (spots_of net) p found old new n
         (λ from. let later = is_later n i ln (omega (arith, lt, h)) at from in omega (arith, later, lt)) passed))
+        (queues_of (port_at net (get_or order i 0)).discipline)
 
     -- and so do the rows
     same_rows : (i : ℕ) → i < k → get_or (set rows p found) (get_or order i 0) [] ≡ get_or rows (get_or order i 0) []

@@ -162,10 +162,10 @@ groups_length spots line s q (suc k) =
 
 module _ (net : Network) (w : IsNetwork net) (stair : ℕ → Option Stair)
     (are : (n : ℕ) (t : Stair) → n < length (spots_of net) → stair n ≡ Some t → IsStair t) (s q : ℕ) where
-  gs : List Group
+  abbrev gs : List Group
   gs = groups_at (spots_of net) (λ n. line_of (stair n)) s q (length net.ports.items + 1)
 
-  ws : List Bunch
+  abbrev ws : List Bunch
   ws = map (bunch_of_group net (spots_of net) stair s q) gs
 
   stairs_all : (groups : List Group) → All AreStairsOf (map (bunch_of_group net (spots_of net) stair s q) groups)

@@ -39,7 +39,7 @@ groups_of-requires-clause-inside c =
     let spots = spots_of net in
     let plan = c.args.plan.now in
     let count = length-map plan.at.items (λ v. v.items) in
-    let numbers = c.deref-2.ensures.value
+    let numbers = c.deref-in-loop-q.ensures.value
     ∙ sym (list_of plan.at.items c.args.port c.index.result.now (omega (arith, count, c.requires.plan.at.count, c.requires.port)) c.index.ensures)
     ∙ c.requires.plan.at.each c.args.port c.requires.port in
     let P : List ℕ → Type 0 = λ xs. All (λ n. n < length c.deref.result.now) xs in
@@ -58,10 +58,10 @@ arrivals-requires c =
     let q = c.loop-q.q in
     let all = length net.ports.items + 1 in
     let count = length-map plan.at.items (λ v. v.items) in
-    let numbers = c.deref-2.ensures.value
+    let numbers = c.deref-in-loop-q.ensures.value
     ∙ sym (list_of plan.at.items c.args.port c.index.result.now (omega (arith, count, c.requires.plan.at.count, c.requires.port)) c.index.ensures)
     ∙ c.requires.plan.at.each c.args.port c.requires.port in
-    let are = c.deref-3.ensures.value ∙ c.in_ok-groups.ensures ∙ ap (λ (s : List Spot). grouped s line q c.deref-2.result.now) (c.deref.ensures.value ∙ c.requires.plan.spots)
+    let are = c.deref-in-loop-q-2.ensures.value ∙ c.in_ok-groups.ensures ∙ ap (λ (s : List Spot). grouped s line q c.deref-in-loop-q.result.now) (c.deref.ensures.value ∙ c.requires.plan.spots)
     ∙ ap (grouped spots line q) numbers ∙ grouped_at spots line c.args.port q all in
     let P : List Group → Type 0 = λ gs. All (IsOfNetwork net) gs in
     subst P (sym are) (of_network net spots line c.args.port q all (in_range net c.requires.network) (omega arith))
@@ -75,17 +75,17 @@ stair_arrivals-requires-clause-groups c =
     let q = c.loop-q.q in
     let all = length net.ports.items + 1 in
     let count = length-map plan.at.items (λ v. v.items) in
-    let numbers = c.deref-2.ensures.value
+    let numbers = c.deref-in-loop-q.ensures.value
     ∙ sym (list_of plan.at.items c.args.port c.index.result.now (omega (arith, count, c.requires.plan.at.count, c.requires.port)) c.index.ensures)
     ∙ c.requires.plan.at.each c.args.port c.requires.port in
-    let are = c.deref-4.ensures.value ∙ c.in_ok-groups.ensures ∙ ap (λ (s : List Spot). grouped s line q c.deref-2.result.now) (c.deref.ensures.value ∙ c.requires.plan.spots)
+    let are = c.deref-in-loop-q-3.ensures.value ∙ c.in_ok-groups.ensures ∙ ap (λ (s : List Spot). grouped s line q c.deref-in-loop-q.result.now) (c.deref.ensures.value ∙ c.requires.plan.spots)
     ∙ ap (grouped spots line q) numbers ∙ grouped_at spots line c.args.port q all in
     let P : List Group → Type 0 = λ gs. All (IsOfNetwork net) gs in
     subst P (sym are) (of_network net spots line c.args.port q all (in_range net c.requires.network) (omega arith))
 
 pub stair_arrivals-requires-clause-lines : goal.stair_arrivals-requires-clause-lines
 stair_arrivals-requires-clause-lines c =
-    c.in_ok-by_lines.ensures ∙ ap (incoming_of_groups c.args.network.now) (c.deref-3.ensures.value ∙ sym c.deref-4.ensures.value)
+    c.in_ok-by_lines.ensures ∙ ap (incoming_of_groups c.args.network.now) (c.deref-in-loop-q-2.ensures.value ∙ sym c.deref-in-loop-q-3.ensures.value)
 
 pub loop-q-preserved : goal.loop-q-preserved
 loop-q-preserved c =
@@ -97,12 +97,12 @@ loop-q-preserved c =
     let q = c.loop-q.q in
     let all = length net.ports.items + 1 in
     let count = length-map plan.at.items (λ v. v.items) in
-    let numbers = c.deref-2.ensures.value
+    let numbers = c.deref-in-loop-q.ensures.value
     ∙ sym (list_of plan.at.items c.args.port c.index.result.now (omega (arith, count, c.requires.plan.at.count, c.requires.port)) c.index.ensures)
     ∙ c.requires.plan.at.each c.args.port c.requires.port in
-    let are = c.in_ok-groups.ensures ∙ ap (λ (s : List Spot). grouped s line q c.deref-2.result.now) (c.deref.ensures.value ∙ c.requires.plan.spots)
+    let are = c.in_ok-groups.ensures ∙ ap (λ (s : List Spot). grouped s line q c.deref-in-loop-q.result.now) (c.deref.ensures.value ∙ c.requires.plan.spots)
     ∙ ap (grouped spots line q) numbers ∙ grouped_at spots line c.args.port q all in
     one_coming net stair c.args.port q c.loop-q.lines.items _ c.loop-q.all_stairs.items _ c.in_ok-by_lines.by_lines c.in_ok-by_stairs.by_stairs
     c.in_ok-push-2.ensures.items c.in_ok-push.ensures.items
-    (c.in_ok-by_lines.ensures ∙ ap (incoming_of_groups net) (c.deref-3.ensures.value ∙ are))
-    (c.in_ok-by_stairs.ensures ∙ ap (arriving_of_groups net spots stair c.args.port q) (c.deref-4.ensures.value ∙ are)) c.loop-q.invariant
+    (c.in_ok-by_lines.ensures ∙ ap (incoming_of_groups net) (c.deref-in-loop-q-2.ensures.value ∙ are))
+    (c.in_ok-by_stairs.ensures ∙ ap (arriving_of_groups net spots stair c.args.port q) (c.deref-in-loop-q-3.ensures.value ∙ are)) c.loop-q.invariant

@@ -23,14 +23,14 @@ loop-n-preserved c =
     let test = is_in_queue spots c.args.port c.args.q in
     elim c.if-is_here.branch [
       | then-is_here+in_ok-keep w ↦
-          let yes = w.is_here.ensures.0 w.if-is_here.true in
+          let yes = c.is_here.ensures.0 w.if-is_here.true in
           let inside : n < length stairs = let h = c.requires.inside j 0 c.loop-n-test.true in omega (arith, h, c.requires.stairs) in
           let one = ap stair_list (get_or_default stairs n _ None inside) in
           rw w.found-is (one_among stair test numbers j 0 c.loop-n.found.items _ c.loop-n-test.true (here spots c.args.port c.args.q n yes.0 yes.1) c.loop-n.invariant
           (w.in_ok-keep.ensures ∙ ap (λ (l : List Stair). c.loop-n.found.items ++ l) one))
       | else-is_here w ↦
           rw w.found-is (other_among stair test numbers j 0 c.loop-n.found.items c.loop-n-test.true
-          (elsewhere spots c.args.port c.args.q n (iff_false w.is_here.ensures w.if-is_here.false)) c.loop-n.invariant)
+          (elsewhere spots c.args.port c.args.q n (iff_false c.is_here.ensures w.if-is_here.false)) c.loop-n.invariant)
     ]
 
 pub returns : goal.returns
