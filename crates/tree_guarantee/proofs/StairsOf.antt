@@ -27,18 +27,18 @@ module _ (net : Network) (w : IsNetwork net) (row : ℕ → ℕ → Option Queue
 
   below : (m n : ℕ) (s : Stair) → n < m → n < length (spots_of net) → stair n ≡ Some s → IsStair s
   below zero n s early inside e = absurd (omega (arith, early))
-  below (suc m) n s early inside e = by_source (spot_at (spots_of net) n).source refl
+  below (suc m) n s early inside e = by_source (λ k t lt within f. below m k t lt within f) (spot_at (spots_of net) n).source refl
     where
-      by_source : (k : ℕ) → (spot_at (spots_of net) n).source ≡ k → IsStair s
-      by_source zero from =
+      by_source : ((k : ℕ) (t : Stair) → k < m → k < length (spots_of net) → stair k ≡ Some t → IsStair t) → (k : ℕ) → (spot_at (spots_of net) n).source ≡ k → IsStair s
+      by_source rest zero from =
           let i = (spot_at (spots_of net) n).link in
           first_is_one (slice_get net.links.items i) i s (ranged.each n inside).link refl (sym (meets.begins n inside from) ∙ e)
-      by_source (suc a) from =
+      by_source rest (suc a) from =
           let before = (spot_at (spots_of net) n).from in
           let P : ℕ → Type 0 = λ k. ComesFrom (spots_of net) (spot_at (spots_of net) n) n k in
           let c = subst P from (ranged.each n inside).comes in
           later_range (stair before) (row a (spot_at (spots_of net) before).queue) s
-          (λ t f. below m before t (let l = c.0 in omega (arith, l, early)) (let l = c.0 in omega (arith, l, inside)) f)
+          (λ t f. rest before t (let l = c.0 in omega (arith, l, early)) (let l = c.0 in omega (arith, l, inside)) f)
           (sym (meets.goes_on n a inside from) ∙ e)
 
   pub all_stairs : (n : ℕ) (s : Stair) → n < length (spots_of net) → stair n ≡ Some s → IsStair s

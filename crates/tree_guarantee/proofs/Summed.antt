@@ -32,7 +32,6 @@ use Rattle.port_bounds.specs.Ports.{server_of}
 use Rattle.tree_bounds.specs.Bunches.{stair_list, stairs_among, bunch_of_group, arriving_at}
 use Rattle.tree_bounds.specs.Groups.{longest_of, group_of, group_list, groups_at, spots_in_group, part_of, are_bounded}
 use Rattle.tree_bounds.specs.Lines.{line_of}
-use Rattle.tree_bounds.specs.declared.groups.Group.{Group}
 use Rattle.tree_bounds.proofs.Bunched.{among_more}
 use Rattle.tree_guarantee.specs.Routes.{routes_of, tree_of_link}
 use Rattle.tree_guarantee.proofs.Gathered.{number_at, gathered}
@@ -202,24 +201,21 @@ parts_bring net stair s q (suc k) t w all = by_spots (λ h. parts_bring net stai
     line : ℕ → Option Line
     line n = line_of (stair n)
 
-    bunch : Group → Bunch
-    bunch = bunch_of_group net (spots_of net) stair s q
-
     Before : Type 0
     Before = list_all (λ g. g.known) (groups_at spots line s q k) ≡ true
-        → curves_to net stair s q k t ≡ Fin (values_by (map bunch (groups_at spots line s q k)) t)
+        → curves_to net stair s q k t ≡ Fin (values_by (map (bunch_of_group net spots stair s q) (groups_at spots line s q k)) t)
 
     part : ℚ → Ext
     part t = tree_part_curve (routes_of net) s q (λ i. arrival_at net stair i s) (longest_at net s q) (rate_at net) k t
 
     Goal : Bool → List ℕ → Type 0
     Goal b l = (if b then curves_to net stair s q k t +ₑ part t else curves_to net stair s q k t)
-        ≡ Fin (values_by (map bunch (groups_at spots line s q k ++ group_list spots line k l)) t)
+        ≡ Fin (values_by (map (bunch_of_group net spots stair s q) (groups_at spots line s q k ++ group_list spots line k l)) t)
 
     none : Before → list_all (λ g. g.known) (groups_at spots line s q k ++ []) ≡ true → Goal false []
     none before h =
         let plain = append-nil (groups_at spots line s q k) in
-        before (sym (ap (list_all (λ g. g.known)) plain) ∙ h) ∙ ap (λ l. Fin (values_by (map bunch l) t)) (sym plain)
+        before (sym (ap (list_all (λ g. g.known)) plain) ∙ h) ∙ ap (λ l. Fin (values_by (map (bunch_of_group net spots stair s q) l) t)) (sym plain)
 
     some : Before → (m : ℕ) (ms : List ℕ) → spots_in_group spots s q k ≡ m ∷ ms
         → list_all (λ g. g.known) (groups_at spots line s q k ++ group_of spots line k (m ∷ ms) ∷ []) ≡ true → Goal true (m ∷ ms)
@@ -229,11 +225,11 @@ parts_bring net stair s q (suc k) t w all = by_spots (λ h. parts_bring net stai
         let both = of_both (list_all (λ g. g.known) gs) (list_all (λ g. g.known) last) (sym (list_all-append (λ g. g.known) gs last) ∙ h) in
         let own = of_both (group_of spots line k (m ∷ ms)).known true both.1 in
         let known = ap (λ l. (group_of spots line k l).known) e ∙ own.0 in
-        let x = values_by (map bunch gs) t in
+        let x = values_by (map (bunch_of_group net spots stair s q) gs) t in
         ap (λ z. z +ₑ part t) (before both.0) ∙ ap (λ z. Fin x +ₑ z) (part_brings net stair s q k t w known)
-        ∙ ap Fin (sym (values_push (map bunch gs) (bunch_at net stair s q k) t))
-        ∙ ap (λ l. Fin (values_by (map bunch gs ++ bunch (group_of spots line k l) ∷ []) t)) e
-        ∙ ap (λ (ws : List Bunch). Fin (values_by ws t)) (sym (map-append bunch gs last))
+        ∙ ap Fin (sym (values_push (map (bunch_of_group net spots stair s q) gs) (bunch_at net stair s q k) t))
+        ∙ ap (λ l. Fin (values_by (map (bunch_of_group net spots stair s q) gs ++ bunch_of_group net spots stair s q (group_of spots line k l) ∷ []) t)) e
+        ∙ ap (λ (ws : List Bunch). Fin (values_by ws t)) (sym (map-append (bunch_of_group net spots stair s q) gs last))
 
     by_spots : Before → (l : List ℕ) → spots_in_group spots s q k ≡ l → Goal (has_tree_part (routes_of net) s q k) (spots_in_group spots s q k)
     by_spots before [] e =
