@@ -119,8 +119,7 @@ last_below f limit zero h = (0, omega arith, h, λ m later within. absurd (omega
 last_below f limit (suc n) h = elim (cases_lt limit (f (suc n))) [
   | inr few ↦ (suc n, omega arith, few, λ m later within. absurd (omega (arith, later, within)))
   | inl many ↦
-      let before = last_below f limit n h in
-      (
+      let before = last_below f limit n h in (
         before.0,
         let l = before.1 in omega (arith, l),
         before.2,
@@ -134,8 +133,7 @@ last_below f limit (suc n) h = elim (cases_lt limit (f (suc n))) [
 pub last_there : (bundles : List Bundle) → (last : ℕ) × IsLastWalked bundles last
 last_there bundles =
     let none = none_at_0 bundles in
-    let found = last_below (λ n. jump_count n bundles) 4096 (2 ^ 62 - 1) (omega (arith, none)) in
-    (
+    let found = last_below (λ n. jump_count n bundles) 4096 (2 ^ 62 - 1) (omega (arith, none)) in (
       found.0,
       record {
         short = let l = found.1 in omega (arith, l);

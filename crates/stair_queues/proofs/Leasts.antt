@@ -21,8 +21,7 @@ use Rattle.stair_queues.specs.declared.stays.Stay.{Stay}
 pub stay_is_one : (one other : List Bundle) (s : Service) (longest d b e c : ℕ) → bunches one ≡ bunches other → IsStay one s longest d b → IsStay other s longest e c
     → (d ≡ e) × (b ≡ c)
 stay_is_one one other s longest d b e c same x y =
-    let over = excess_is_one one other s.rate x.over y.over same x.excess y.excess in
-    (
+    let over = excess_is_one one other s.rate x.over y.over same x.excess y.excess in (
       x.delay ∙ ap (λ n. div_ceil ((n + s.debt) * 10 ^ 12) s.rate) over ∙ sym y.delay,
       x.backlog ∙ ap (λ n. div_ceil (n + (s.debt + longest)) 1024) over ∙ sym y.backlog,
     )

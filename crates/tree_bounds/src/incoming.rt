@@ -114,7 +114,11 @@ fn parts_of(
 }
 
 /// What arrives at a queue by lines, whose links come in these groups.
-pub(crate) fn arrivals(alloc: Global, network: &Network, groups: &[Group]) -> Result<Arrivals, AllocError>
+pub(crate) fn arrivals(
+    alloc: Global,
+    network: &Network,
+    groups: &[Group],
+) -> Result<Arrivals, AllocError>
     requires { All (IsOfNetwork network.now) groups.now }
     ensures { IfOk result (λ a. incoming_of a ≡ incoming_of_groups network.now groups.now) }
 {
