@@ -1,11 +1,11 @@
 //! A sink that writes a front of what is put, and fails where there is more.
 
-ghost use Rattle.std.specs.Prelude.{◌≡◌, ◌≤◌, ⊤, None, OnOk, OnErr};
+ghost use Rattle.std.specs.Prelude.{◌≡◌, ◌≤◌, ◌++◌, [], ◌∷◌, ⊤, None, OnOk, OnErr};
 ghost use Rattle.std.specs.Io.KnownBytes.{Appends};
 ghost use Rattle.outside.specs.Faults.{Rose};
 ghost use Rattle.outside.specs.Written.{AppendsFront};
 
-use outside::{NoMemory, PutFault, Sink};
+use outside::{NoMemory, Noted, PutFault, Sink};
 use std::alloc::Global;
 
 /// Has room for so many bytes of each put. What it holds no contract tells.
@@ -15,6 +15,7 @@ pub struct NarrowSink {
     room: usize,
     puts: u32,
     faults: u64,
+    noted: Noted,
 }
 
 impl NarrowSink {
@@ -25,6 +26,7 @@ impl NarrowSink {
             room,
             puts: 0,
             faults: 0,
+            noted: Noted::new(),
         }
     }
 
@@ -41,6 +43,7 @@ impl NarrowSink {
     // Takes the front for which there is room, and says whether that is all.
     fn takes_all(&mut self, bytes: &[u8]) -> Result<bool, NoMemory>
         ensures faults { self.new.faults ≡ self.old.faults }
+        ensures noted { self.new.noted ≡ self.old.noted }
     {
         let count = bytes.len().min(self.room);
         self.bytes.extend_from_slice(&bytes[..count])?;
@@ -53,7 +56,10 @@ impl Sink for NarrowSink {
 
     ghost faults = { λ s. s.faults };
 
+    ghost puts = { λ s. s.noted.all };
+
     fn put(&mut self, bytes: &[u8]) -> Result<(), PutFault> {
+        self.noted.note(bytes);
         self.puts = self.puts.saturating_add(1);
         match self.takes_all(bytes) {
             Ok(true) => Ok(()),

@@ -1,3 +1,1 @@
-pub mod FileLemmas
-pub mod Fetches
 pub mod Outcomes

@@ -1,6 +1,6 @@
 -- What a reply that was given is, by its status.
 use Rattle.std.proofs.Common.{◌≡◌, ◌≢◌, ◌⊎◌, ℕ, Bool, true, false, List, [], ◌∷◌, Option, Some, None, IfSome, inl}
-use Rattle.std.proofs.Common.{inr, refl, sym, ap, ◌∙◌, subst, arith}
+use Rattle.std.proofs.Common.{inr, refl, sym, ap, ◌∙◌, subst, arith, append-nil}
 use Rattle.std.proofs.lemmas.Bool.{cases_eq}
 use Rattle.bounds_command.specs.declared.answer.Form.{Form}
 use Rattle.bounds_command.specs.Laws.{IsReport}
@@ -8,13 +8,15 @@ use Rattle.bounds_command.specs.OnTables.{IsCyclic, IsFaulty, IsReplyOn, Tables,
 use Rattle.bounds_command.specs.Replies.{AreSame, Reply, cannot_read, too_long}
 use Rattle.bounds_command.proofs.OneReply as law
 use Rattle.netbound_words.specs.Requests.{Bounds, Help, Request, Version}
-use Rattle.netbound_cli.specs.Calls.{Call, call_of, files_of, form_of, text_of}
+use Rattle.outside.specs.Fetching.{AsksForAll, AsksInOrder}
+use Rattle.netbound_cli.specs.Calls.{Call, call_of, files_of, form_of, names_of, text_of}
 use Rattle.netbound_cli.specs.Files.{AllFit, FirstIs, IsTooLong, MayHoldAll, Told, all_told}
 use Rattle.netbound_cli.specs.Laws.{RepliesAreDetermined}
 use Rattle.netbound_cli.specs.Reply.{AnswersWhatItCan, Brings, EndsAt, FailedAt, Gives, GivesOnTold, IsAnswerableCall}
-use Rattle.netbound_cli.specs.Reply.{IsReplyOnFiles, MayReply, MayReplyTo, OnTables}
-use Rattle.netbound_cli.proofs.FileLemmas.{any_told, ended, first_map, first_shows, long_first, long_one, long_shows}
-use Rattle.netbound_cli.proofs.FileLemmas.{not_long, on_told, same_told}
+use Rattle.netbound_cli.specs.Reply.{IsOnBoth, IsReplyOnFiles, MayReply, MayReplyTo, OnTables}
+use Rattle.netbound_cli.specs.Files.{most_bytes}
+use Rattle.outside.proofs.FileLemmas.{any_told, ended, first_map, first_shows, long_first, long_one, long_shows}
+use Rattle.outside.proofs.FileLemmas.{not_long, on_told, same_told}
 
 -- ---- what the inputs may bring
 -- fetching ended at a file
@@ -23,7 +25,7 @@ pub ends : {I : Type 0} (faults : I → ℕ) (last_fault : I → List ℕ) (told
     → FirstIs told (EndsAt faults last_fault told old new reply) (files_of c)
     → MayReplyTo faults last_fault told c old new reply
 ends faults last_fault told c old new reply h =
-    elim (ended told (λ file. FailedAt faults last_fault file old new × (reply ≡ cannot_read file))
+    elim (ended most_bytes told (λ file. FailedAt faults last_fault file old new × (reply ≡ cannot_read file))
     (λ file. reply ≡ too_long file) (files_of c) h) [
       | inl failed ↦ inl failed
       | inr long ↦ inr (long.0, long.1, inl long.2)
@@ -96,11 +98,11 @@ by_files : {I : Type 0} (faults : I → ℕ) (last_fault : I → List ℕ) (told
     (files : List (List ℕ)) → MayHoldAll told (files_of c) files → IsReplyOnFiles c files reply
     → MayBe faults last_fault told c old new reply
 by_files faults last_fault told c old new reply files held (inl long) =
-    let is : reply.status ≡ 1 = long_shows (λ file. reply ≡ too_long file) (reply.status ≡ 1) (files_of c) files
+    let is : reply.status ≡ 1 = long_shows most_bytes (λ file. reply ≡ too_long file) (reply.status ≡ 1) (files_of c) files
     (λ file same. ap (λ (r : Reply). r.status) same) long in
     record {
       three = λ e. absurd (other reply.status 1 3 is (omega arith) e);
-      one = λ e. inl (long_first told (λ file. reply ≡ too_long file) (files_of c) files held long);
+      one = λ e. inl (long_first most_bytes told (λ file. reply ≡ too_long file) (files_of c) files held long);
       rest = λ not_one not_three. absurd (not_one is);
       no_two = other reply.status 1 2 is (omega arith);
       no_four = other reply.status 1 4 is (omega arith);
@@ -123,7 +125,7 @@ may_be : {I : Type 0} (faults : I → ℕ) (last_fault : I → List ℕ) (told :
     (reply : Reply)
     → MayReplyTo faults last_fault told c old new reply → MayBe faults last_fault told c old new reply
 may_be faults last_fault told c old new reply (inl failed) =
-    let is : reply.status ≡ 3 = first_shows told
+    let is : reply.status ≡ 3 = first_shows most_bytes told
     (λ file. FailedAt faults last_fault file old new × (reply ≡ cannot_read file)) (reply.status ≡ 3) (files_of c)
     (λ file h. ap (λ (r : Reply). r.status) h.1) failed in
     record {
@@ -136,6 +138,42 @@ may_be faults last_fault told c old new reply (inl failed) =
     }
 may_be faults last_fault told c old new reply (inr found) =
     by_files faults last_fault told c old new reply found.0 found.1 found.2
+
+-- one on what both files hold does not tell a file that was not had
+pub not_at_file : {I : Type 0} (faults : I → ℕ) (last_fault : I → List ℕ) (told : Told) (names : List (List ℕ))
+    (old new : I) (reply : Reply) → FirstIs told (EndsAt faults last_fault told old new reply) names
+    → IsOnBoth reply.status → ⊥
+not_at_file faults last_fault told names old new reply h both =
+    first_shows most_bytes told (EndsAt faults last_fault told old new reply) ⊥ names
+    (λ file at. elim at [
+      | inl failed ↦ apart 3 (ap (λ (r : Reply). r.status) failed.1) (omega arith) (omega arith) (omega arith) both
+      | inr long ↦ apart 1 (ap (λ (r : Reply). r.status) long.1) (omega arith) (omega arith) (omega arith) both
+    ]) h
+  where
+    apart : (n : ℕ) → reply.status ≡ n → n ≢ 0 → n ≢ 8 → n ≢ 9 → IsOnBoth reply.status → ⊥
+    apart n is a b c (inl e) = a (sym is ∙ e)
+    apart n is a b c (inr (inl e)) = b (sym is ∙ e)
+    apart n is a b c (inr (inr e)) = c (sym is ∙ e)
+
+-- ---- asked for
+pub asks_none : {I : Type 0} (asked : I → List (List ℕ)) (names : List (List ℕ)) (inputs : I)
+    → AsksInOrder asked names inputs inputs
+asks_none asked names inputs = record { count = 0; few = omega arith; are = sym (append-nil (asked inputs)) }
+
+pub text_asks : {I : Type 0} (asked : I → List (List ℕ)) (request : Option Request) (inputs : I)
+    → call_of request ≡ None → AsksForAll asked (names_of request) inputs inputs
+text_asks asked request inputs none = rw none (sym (append-nil (asked inputs)))
+
+pub not_failed : (status : ℕ) → IsOnBoth status → (status ≢ 4) × (status ≢ 5)
+not_failed status both = (
+  at 4 (omega arith) (omega arith) (omega arith) both,
+  at 5 (omega arith) (omega arith) (omega arith) both,
+)
+  where
+    at : (n : ℕ) → 0 ≢ n → 8 ≢ n → 9 ≢ n → IsOnBoth status → status ≢ n
+    at n a b c (inl e) = other status 0 n e a
+    at n a b c (inr (inl e)) = other status 8 n e b
+    at n a b c (inr (inr e)) = other status 9 n e c
 
 -- ---- given
 -- a reply of one kind that is given
@@ -152,7 +190,7 @@ gives_line : (told : Told) (P : List ℕ → Type 0) (line : List ℕ → Reply)
     → FirstIs told (λ file. P file × (reply ≡ line file)) names
     → FirstIs told (λ file. P file × Gives status old new (line file)) names
 gives_line told P line names reply status old new given h =
-    first_map told (λ file. P file × (reply ≡ line file)) (λ file. P file × Gives status old new (line file)) names
+    first_map most_bytes told (λ file. P file × (reply ≡ line file)) (λ file. P file × Gives status old new (line file)) names
     (λ file k. (k.0, subst (Gives status old new) k.1 given)) h
 
 malformed : (told : Told) (c : Call) (reply : Reply) (status : ℕ) (old new : Option (List ℕ))
@@ -171,7 +209,7 @@ told_on : {I : Type 0} (faults : I → ℕ) (last_fault : I → List ℕ) (told 
     (status : ℕ) (old new : Option (List ℕ)) → MayReplyTo faults last_fault told c before after reply
     → Gives status old new reply → GivesOnTold c told status old new
 told_on faults last_fault told c before after reply status old new (inl failed) given =
-    let three : reply.status ≡ 3 = first_shows told
+    let three : reply.status ≡ 3 = first_shows most_bytes told
     (λ file. FailedAt faults last_fault file before after × (reply ≡ cannot_read file)) (reply.status ≡ 3)
     (files_of c)
     (λ file h. ap (λ (r : Reply). r.status) h.1) failed in
@@ -203,7 +241,7 @@ complete_on c (ports ∷ links ∷ more ∷ files) reply can on = absurd on
 answers_on : (c : Call) (files : List (List ℕ)) (reply : Reply) → AllFit files → IsAnswerableCall c files
     → IsReplyOnFiles c files reply → (reply.status ≡ 0) ⊎ (reply.status ≡ 9)
 answers_on c files reply fit can (inl long) = absurd
-    (not_long (λ file. reply ≡ too_long file) (files_of c) files long fit)
+    (not_long most_bytes (λ file. reply ≡ too_long file) (files_of c) files long fit)
 answers_on c files reply fit can (inr on) = complete_on c files reply can on.1
 
 abbrev IsAnswerOr : ℕ → Type 0
@@ -424,9 +462,9 @@ alike x y same = record {
 }
 
 pub replies_are_determined : RepliesAreDetermined
-replies_are_determined c files x y (inl h) (inl k) = alike x y (long_one x y too_long (files_of c) files h k)
+replies_are_determined c files x y (inl h) (inl k) = alike x y (long_one most_bytes x y too_long (files_of c) files h k)
 replies_are_determined c files x y (inl h) (inr k) = absurd
-    (not_long (λ file. x ≡ too_long file) (files_of c) files h k.0)
+    (not_long most_bytes (λ file. x ≡ too_long file) (files_of c) files h k.0)
 replies_are_determined c files x y (inr h) (inl k) = absurd
-    (not_long (λ file. y ≡ too_long file) (files_of c) files k h.0)
+    (not_long most_bytes (λ file. y ≡ too_long file) (files_of c) files k h.0)
 replies_are_determined c files x y (inr h) (inr k) = one_on c files x y h.1 k.1

@@ -31,6 +31,14 @@ bounds_call b = record { ports = b.ports.now; links = b.links.now; overhead = b.
 abbrev pub files_of : Call → List (List ℕ)
 files_of c = c.ports ∷ c.links ∷ []
 
+-- those of a request: a text asks for none
+abbrev pub named_by : Option Call → List (List ℕ)
+named_by None = []
+named_by (Some c) = files_of c
+
+abbrev pub names_of : Option Request → List (List ℕ)
+names_of request = named_by (call_of request)
+
 -- ---- texts
 abbrev pub usage : Reply
 usage = refusal 2 (codes "usage: netbound PORTS.csv LINKS.csv [--overhead N] [--json]")

@@ -2,6 +2,8 @@
 use Rattle.std.specs.Prelude.{◌≡◌, ◌⊎◌, ℕ, List, [], ◌∷◌, Option, Some, IfSome}
 use Rattle.std.specs.Io.KnownBytes.{Appends}
 use Rattle.outside.specs.Faults.{Rose}
+use Rattle.outside.specs.Fetching as fetching
+pub use Rattle.outside.specs.Fetching.{FailedAt}
 use Rattle.outside.specs.Written.{AppendsFront}
 use Rattle.bounds_command.specs.declared.answer.Form.{Form}
 use Rattle.bounds_command.specs.Replies.{Reply, cannot_read, too_long}
@@ -9,7 +11,7 @@ use Rattle.bounds_command.specs.OnTables.{Tables, tables, IsReplyOn}
 use Rattle.bounds_command.specs.Laws.{IsAnswerable}
 use Rattle.netbound_words.specs.Requests.{Request}
 use Rattle.netbound_cli.specs.Calls.{Call, call_of, text_of, files_of}
-use Rattle.netbound_cli.specs.Files.{Told, IsTooLong, MayHoldAll, FirstIs, FirstLong, AllFit, all_told}
+use Rattle.netbound_cli.specs.Files.{Told, most_bytes, MayHoldAll, FirstIs, FirstLong, AllFit, all_told}
 
 -- ---- on files
 -- K holds of the two tables of a call that hold these bytes, and of a reply
@@ -23,17 +25,10 @@ abbrev pub IsReplyOnFiles : Call → List (List ℕ) → Reply → Type 0
 IsReplyOnFiles c files reply =
     FirstLong (λ file. reply ≡ too_long file) (files_of c) files ⊎ (AllFit files × OnTables IsReplyOn c files reply)
 
--- The inputs failed in this call, and last at this file.
-pub record FailedAt {I : Type 0} (faults : I → ℕ) (last_fault : I → List ℕ) (file : List ℕ) (old new : I)
-    : Type 0 where
-  pub rose : Rose (faults old) (faults new)
-  pub name : last_fault new ≡ file
-
 -- The inputs end a call at this file: they failed at it, or it is too long.
 abbrev pub EndsAt : {I : Type 0} → (I → ℕ) → (I → List ℕ) → Told → I → I → Reply → List ℕ → Type 0
 EndsAt faults last_fault told old new reply file =
-    (FailedAt faults last_fault file old new × (reply ≡ cannot_read file))
-    ⊎ (IsTooLong (told file) × (reply ≡ too_long file))
+    fetching.EndsAt most_bytes cannot_read too_long faults last_fault told old new reply file
 
 -- ---- on words and inputs
 -- The inputs may bring this reply of a call: they failed at a file, those before which may fit, or it is the reply on
@@ -49,6 +44,10 @@ abbrev pub MayReply : {I : Type 0} → (I → List ℕ → Option (List ℕ)) �
 MayReply content faults last_fault asked old new reply =
     (text_of asked ≡ Some reply)
     ⊎ ((c : Call) × (call_of asked ≡ Some c) × MayReplyTo faults last_fault (content old) c old new reply)
+
+-- The status is that of an answer on what both files hold.
+abbrev pub IsOnBoth : ℕ → Type 0
+IsOnBoth status = (status ≡ 0) ⊎ ((status ≡ 8) ⊎ (status ≡ 9))
 
 -- ---- given
 -- The status is the reply's, and its bytes were written.

@@ -1,6 +1,7 @@
 //! The tables of a call, fetched in order.
 
-ghost use Rattle.std.specs.Prelude.{◌≡◌, ◌≤◌, [], ◌∷◌, List, ℕ, length, IfOk, IfErr};
+ghost use Rattle.std.specs.Prelude.{◌≡◌, ◌≤◌, [], ◌∷◌, List, ℕ, length, IfOk, IfErr, OnOk};
+ghost use Rattle.outside.specs.Fetching.{AsksForAll, AsksInOrder};
 ghost use Rattle.bounds_command.specs.View.{reply_of};
 ghost use Rattle.netbound_cli.specs.Files.{most_bytes, MayHold, MayHoldAll, AllFit, FirstIs};
 ghost use Rattle.netbound_cli.specs.Reply.{EndsAt};
@@ -21,6 +22,7 @@ fn fetch_one<I: Inputs>(alloc: Global, file: &str, inputs: &mut I) -> Result<Vec
     ensures fits { IfOk result (λ bytes. length bytes.items ≤ most_bytes) }
     ensures ended { IfErr result (λ ended. IfOk ended (λ r.
         EndsAt I.faults I.last_fault (I.content inputs.old) inputs.old inputs.new (reply_of r) file.now)) }
+    ensures asked { AsksForAll I.asked (file.now ∷ []) inputs.old inputs.new }
     ensures count { I.faults inputs.old ≤ I.faults inputs.new }
     ensures same { (other : List ℕ) → I.content inputs.new other ≡ I.content inputs.old other }
 {
@@ -45,6 +47,7 @@ fn fetch_after<I: Inputs>(
     ensures fits { IfOk result (λ files. length files.1.items ≤ most_bytes) }
     ensures ended { IfErr result (λ ended. IfOk ended (λ r.
         EndsAt I.faults I.last_fault (I.content inputs.old) inputs.old inputs.new (reply_of r) file.now)) }
+    ensures asked { AsksForAll I.asked (file.now ∷ []) inputs.old inputs.new }
 {
     match fetch_one(alloc, file, inputs) {
         Ok(bytes) => Ok((before, bytes)),
@@ -65,6 +68,8 @@ pub(crate) fn fetch_two<I: Inputs>(
     ensures ended { IfErr result (λ ended. IfOk ended (λ r. FirstIs (I.content inputs.old)
         (EndsAt I.faults I.last_fault (I.content inputs.old) inputs.old inputs.new (reply_of r))
         (first.now ∷ second.now ∷ []))) }
+    ensures asked { AsksInOrder I.asked (first.now ∷ second.now ∷ []) inputs.old inputs.new }
+    ensures all { OnOk result (AsksForAll I.asked (first.now ∷ second.now ∷ []) inputs.old inputs.new) }
 {
     match fetch_one(alloc, first, inputs) {
         Ok(bytes) => fetch_after(alloc, bytes, second, inputs),

@@ -1,16 +1,17 @@
 //! The top call.
 
-ghost use Rattle.std.specs.Prelude.{◌≡◌, ◌≢◌, ◌≤◌, ◌⊎◌, true, false, None, Some, IfSome, IfOk};
+ghost use Rattle.std.specs.Prelude.{◌≡◌, ◌≢◌, ◌≤◌, ◌⊎◌, ◌++◌, ◌∷◌, [], ℕ, List, true, false, None, Some, IfSome, IfOk};
+ghost use Rattle.outside.specs.Fetching.{AsksForAll, AsksInOrder};
 ghost use Rattle.bounds_command.specs.Laws.{IsReport};
 ghost use Rattle.bounds_command.specs.OnTables.{IsFaulty, IsCyclic};
 ghost use Rattle.bounds_command.specs.Replies.{Reply, cannot_read, too_long};
 ghost use Rattle.bounds_command.specs.View.{code_of, reply_of};
 ghost use Rattle.netbound_words.specs.Requests as spec;
 ghost use Rattle.netbound_cli.specs.Calls as calls;
-ghost use Rattle.netbound_cli.specs.Calls.{call_of, text_of, files_of, bounds_call};
+ghost use Rattle.netbound_cli.specs.Calls.{call_of, text_of, files_of, names_of, bounds_call};
 ghost use Rattle.netbound_cli.specs.Files.{IsTooLong, FirstIs};
 ghost use Rattle.netbound_cli.specs.Reply.{FailedAt, MayReply, MayReplyTo, Gives, Brings};
-ghost use Rattle.netbound_cli.specs.Reply.{GivesOnTold, AnswersWhatItCan, FailsToGive};
+ghost use Rattle.netbound_cli.specs.Reply.{GivesOnTold, AnswersWhatItCan, FailsToGive, IsOnBoth};
 
 use crate::fetching::fetch_two;
 use crate::texts::{HELP, USAGE, VERSION};
@@ -26,6 +27,7 @@ fn give<K: Sink>(out: &mut K, status: Status, text: &str) -> u8
         result ≢ 4 → Gives result (K.written out.old) (K.written out.new) reply }
     ensures failed { let reply : Reply = record { status = code_of status; bytes = text.now } in
         result ≡ 4 → FailsToGive K.faults K.written out.old out.new reply }
+    ensures put { K.puts out.new ≡ K.puts out.old ++ text.now ∷ [] }
 {
     match out.put(text.as_bytes()) {
         Ok(()) => status.code(),
@@ -43,8 +45,11 @@ fn form_of(json: bool) -> Form
 // The answer on the tables of these names.
 fn answer_to<I: Inputs>(alloc: Global, asked: Bounds, inputs: &mut I) -> Result<Answer, NoMemory>
     requires { asked.overhead ≤ 1048576 }
-    ensures { IfOk result (λ r. MayReplyTo I.faults I.last_fault (I.content inputs.old) (bounds_call asked.entry)
+    ensures reply { IfOk result (λ r. MayReplyTo I.faults I.last_fault (I.content inputs.old) (bounds_call asked.entry)
         inputs.old inputs.new (reply_of r)) }
+    ensures asked { AsksInOrder I.asked (files_of (bounds_call asked.entry)) inputs.old inputs.new }
+    ensures all { IfOk result (λ r. IsOnBoth (code_of r.status) →
+        AsksForAll I.asked (files_of (bounds_call asked.entry)) inputs.old inputs.new) }
 {
     let form = form_of(asked.json);
     match fetch_two(alloc, asked.ports, asked.links, inputs) {
@@ -63,8 +68,11 @@ fn answer_to<I: Inputs>(alloc: Global, asked: Bounds, inputs: &mut I) -> Result<
 
 // The answer to words.
 fn answered<I: Inputs>(alloc: Global, words: &[String], inputs: &mut I) -> Result<Answer, NoMemory>
-    ensures { IfOk result (λ r. MayReply I.content I.faults I.last_fault (spec.request_of (spec.texts words.now))
+    ensures reply { IfOk result (λ r. MayReply I.content I.faults I.last_fault (spec.request_of (spec.texts words.now))
         inputs.old inputs.new (reply_of r)) }
+    ensures asked { AsksInOrder I.asked (names_of (spec.request_of (spec.texts words.now))) inputs.old inputs.new }
+    ensures all { IfOk result (λ r. IsOnBoth (code_of r.status) →
+        AsksForAll I.asked (names_of (spec.request_of (spec.texts words.now))) inputs.old inputs.new) }
 {
     match request_of(alloc, words) {
         Ok(Request::Bounds(asked)) => answer_to(alloc, asked, inputs),
@@ -137,6 +145,16 @@ pub fn run<I: Inputs, K: Sink>(alloc: Global, words: &[String], inputs: &mut I, 
     ensures answers { result ≢ 4 → result ≢ 5 → (reply : Reply)
         × MayReply I.content I.faults I.last_fault (spec.request_of (spec.texts words.now)) inputs.old inputs.new reply
         × Gives result (K.written out.old) (K.written out.new) reply }
+
+    // The files that the words name are asked for in their order, each once and no other, up to one that is not had:
+    // for a text none, and all for an answer on what they hold.
+    ensures asked { AsksInOrder I.asked (names_of (spec.request_of (spec.texts words.now))) inputs.old inputs.new }
+    ensures asked_all { IsOnBoth result →
+        AsksForAll I.asked (names_of (spec.request_of (spec.texts words.now))) inputs.old inputs.new }
+
+    // There is one put, but at 5 none.
+    ensures one_put { result ≢ 5 → (bytes : List ℕ) × (K.puts out.new ≡ K.puts out.old ++ bytes ∷ []) }
+    ensures no_put { result ≡ 5 → K.puts out.new ≡ K.puts out.old }
 {
     match answered(alloc, words, inputs) {
         Ok(answer) => give(out, answer.status, answer.text.as_str()),

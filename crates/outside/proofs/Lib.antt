@@ -1,1 +1,3 @@
 pub mod KnownBytesLemmas
+pub mod FileLemmas
+pub mod Fetches

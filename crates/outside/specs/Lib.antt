@@ -2,3 +2,5 @@ pub mod Faults
 pub mod Written
 pub mod MemoryFiles
 pub mod MemoryBytes
+pub mod Files
+pub mod Fetching

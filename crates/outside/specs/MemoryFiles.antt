@@ -1,17 +1,19 @@
 -- Files in memory, and what has been asked of them.
-use Rattle.std.specs.Prelude.{ℕ, ◌||◌, Bool, List, [], ◌∷◌, map, Option, Some, None, is_none, String, Vec, string_bytes, if◌then◌else◌}
+use Rattle.std.specs.Prelude.{ℕ, ◌||◌, ◌++◌, Bool, List, [], ◌∷◌, map, Option, Some, None, is_none, String, Vec, string_bytes, if◌then◌else◌}
 use Rattle.std.specs.declared.alloc.Global.{Global}
 use Rattle.std.specs.Str.{bytes_eq}
 use Rattle.outside.specs.Faults.{counted_up, fails_at}
 
 -- Each file is a name and what it holds. `fail` has the numbers of the calls that fail, and `calls` is how many were
--- made. `faults` is how many failed, and `last_fault` the name that was asked for at the last of these.
+-- made. `faults` is how many failed, and `last_fault` the name that was asked for at the last of these. `asked` has the
+-- names of all calls.
 pub record MemoryFiles : Type 0 where
   pub files : List (List ℕ × List ℕ)
   pub fail : List ℕ
   pub calls : ℕ
   pub faults : ℕ
   pub last_fault : List ℕ
+  pub asked : List (List ℕ)
 
 -- the files of a list of pairs, by their contents
 abbrev pub files_of : List (String Global × Vec ℕ Global) → List (List ℕ × List ℕ)
@@ -26,9 +28,9 @@ held (file ∷ files) name = if bytes_eq file.0 name then Some file.1 else held 
 abbrev pub fetch_fails : MemoryFiles → List ℕ → Bool
 fetch_fails memory name = fails_at memory.fail memory.calls || is_none (held memory.files name)
 
--- one call more was made
-abbrev pub called : MemoryFiles → MemoryFiles
-called memory = record memory { calls = counted_up memory.calls }
+-- one call more was made, for this name
+abbrev pub called : MemoryFiles → List ℕ → MemoryFiles
+called memory name = record memory { calls = counted_up memory.calls; asked = memory.asked ++ name ∷ [] }
 
 -- one call more has failed, at this name
 abbrev pub failed : MemoryFiles → List ℕ → MemoryFiles
@@ -36,4 +38,5 @@ failed memory name = record memory { faults = counted_up memory.faults; last_fau
 
 -- after a call for this name
 abbrev pub after_fetch : MemoryFiles → List ℕ → MemoryFiles
-after_fetch memory name = if fetch_fails memory name then failed (called memory) name else called memory
+after_fetch memory name =
+    if fetch_fails memory name then failed (called memory name) name else called memory name

@@ -1,6 +1,6 @@
 //! Real files. Nothing is told of what they hold.
-ghost use Rattle.std.specs.Prelude.{◌≡◌, ◌≤◌, ◌<◌, ◌++◌, [], List, ℕ, None, length, IfSome, OnOk, OnErr, IsErrOf};
-ghost use Rattle.outside.specs.Faults.{Rose, FetchFaults, failed_at};
+ghost use Rattle.std.specs.Prelude.{◌≡◌, ◌≤◌, ◌<◌, ◌++◌, [], ◌∷◌, List, ℕ, None, length, IfSome, OnOk, OnErr, IsErrOf};
+ghost use Rattle.outside.specs.Faults.{Rose, FetchFaults, asked_for, failed_at};
 
 use crate::inputs::{FetchFault, Inputs};
 use crate::noted::Noted;
@@ -14,24 +14,26 @@ use std::rt::Files;
 pub struct DirInputs<R> {
     rt: R,
     faults: u64,
-    last: Noted,
+    failed: Noted,
+    asked: Noted,
 }
 
 impl<R> Model for DirInputs<R> {
     ghost Value = { FetchFaults };
 
-    ghost view = { λ s. record { count = s.faults; name = s.last.name } };
+    ghost view = { λ s. record { count = s.faults; name = s.failed.last; asked = s.asked.all } };
 }
 
 impl<R: Files + Clone + Drop> DirInputs<R> {
     /// The files that this runtime reaches.
     pub fn new(rt: R) -> DirInputs<R>
-        ensures { result ≡ record { count = 0; name = [] } }
+        ensures { result ≡ record { count = 0; name = []; asked = [] } }
     {
         DirInputs {
             rt,
             faults: 0,
-            last: Noted::new(),
+            failed: Noted::new(),
+            asked: Noted::new(),
         }
     }
 
@@ -41,7 +43,7 @@ impl<R: Files + Clone + Drop> DirInputs<R> {
         ensures count { self.old.count ≤ self.new.count }
     {
         self.faults = self.faults.saturating_add(1);
-        self.last.note(name.as_bytes());
+        self.failed.note(name.as_bytes());
     }
 
     /// Opens a file and reads it.
@@ -98,16 +100,20 @@ impl<R: Files + Clone + Drop> Inputs for DirInputs<R> {
 
     ghost last_fault = { λ s. s.name };
 
+    ghost asked = { λ s. s.asked };
+
     fn fetch(&mut self, name: &str, most: usize, into: &mut Vec<u8>) -> Result<(), FetchFault>
         ensures fits { OnOk result (length into.new.items ≤ most) }
         ensures failed { IsErrOf result FetchFault.Failed → Rose self.old.count self.new.count }
         ensures failed_name { IsErrOf result FetchFault.Failed → self.new.name ≡ name.now }
         ensures count { self.old.count ≤ self.new.count }
+        ensures asked { self.new.asked ≡ self.old.asked ++ name.now ∷ [] }
         ensures err { OnErr result (into.new.items ≡ []) }
-        ensures state { IsErrOf result FetchFault.Failed → self.new ≡ failed_at self.old name.now }
-        ensures stays { ¬ IsErrOf result FetchFault.Failed → self.new ≡ self.old }
+        ensures state { IsErrOf result FetchFault.Failed → self.new ≡ failed_at (asked_for self.old name.now) name.now }
+        ensures stays { ¬ IsErrOf result FetchFault.Failed → self.new ≡ asked_for self.old name.now }
     {
         into.clear();
+        self.asked.note(name.as_bytes());
         let answer = self.read(name, most, into);
         if let Err(fault) = answer {
             into.clear();

@@ -1,5 +1,5 @@
 //! Files by name.
-ghost use Rattle.std.specs.Prelude.{◌≡◌, ◌≤◌, ◌<◌, [], List, ℕ, Option, length, IfSome, OnOk, OnErr, IsErrOf};
+ghost use Rattle.std.specs.Prelude.{◌≡◌, ◌≤◌, ◌<◌, ◌++◌, [], ◌∷◌, List, ℕ, Option, length, IfSome, OnOk, OnErr, IsErrOf};
 ghost use Rattle.outside.specs.Faults.{Rose};
 
 /// Why a file was not fetched.
@@ -24,6 +24,9 @@ pub trait Inputs {
     /// The name that was asked for when a fetch last failed. Only proofs see it.
     ghost last_fault: { Self → List ℕ };
 
+    /// The names that were asked for, in order. Only proofs see it.
+    ghost asked: { Self → List (List ℕ) };
+
     /// Puts what the name holds, at most so many bytes, into `into`, in place of what is there. After a refusal `into` is
     /// empty.
     fn fetch(&mut self, name: &str, most: usize, into: &mut Vec<u8>) -> Result<(), FetchFault>
@@ -37,6 +40,7 @@ pub trait Inputs {
         ensures failed { IsErrOf result FetchFault.Failed → Rose (faults self.old) (faults self.new) }
         ensures failed_name { IsErrOf result FetchFault.Failed → last_fault self.new ≡ name.now }
         ensures count { faults self.old ≤ faults self.new }
+        ensures asked { asked self.new ≡ asked self.old ++ name.now ∷ [] }
         ensures same { (other : List ℕ) → content self.new other ≡ content self.old other }
         ensures err { OnErr result (into.new.items ≡ []) };
 }

@@ -18,6 +18,7 @@ pub use dir_inputs::DirInputs;
 pub use inputs::{FetchFault, Inputs};
 pub use mem_inputs::MemInputs;
 pub use mem_sink::{MemSink, SINK_BYTES};
+pub use noted::Noted;
 pub use sink::{PutFault, Sink};
 pub use std_sink::StdSink;
 

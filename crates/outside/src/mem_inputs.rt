@@ -1,5 +1,5 @@
 //! Files in memory, which fail at the calls that they are told.
-ghost use Rattle.std.specs.Prelude.{◌≡◌, ◌≤◌, ◌<◌, ◌==◌, ◌↔◌, ◌||◌, false, IsTrue, is_none, [], List, ℕ, Option, None, Some, option_map, length, IfSome, OnOk, OnErr, IsErrOf};
+ghost use Rattle.std.specs.Prelude.{◌≡◌, ◌≤◌, ◌<◌, ◌==◌, ◌↔◌, ◌||◌, ◌++◌, ◌∷◌, false, IsTrue, is_none, [], List, ℕ, Option, None, Some, option_map, length, IfSome, OnOk, OnErr, IsErrOf};
 ghost use Rattle.outside.specs.Faults.{Rose, fails_at, counted_up};
 ghost use Rattle.outside.specs.MemoryFiles.{MemoryFiles, held, files_of, fetch_fails, called, failed, after_fetch};
 
@@ -15,7 +15,8 @@ pub struct MemInputs {
     fail: Vec<u32>,
     calls: u64,
     faults: u64,
-    last: Noted,
+    failed: Noted,
+    asked: Noted,
 }
 
 impl Model for MemInputs {
@@ -26,7 +27,8 @@ impl Model for MemInputs {
       fail = s.fail.items;
       calls = s.calls;
       faults = s.faults;
-      last_fault = s.last.name;
+      last_fault = s.failed.last;
+      asked = s.asked.all;
     } };
 }
 
@@ -47,22 +49,24 @@ impl MemInputs {
     /// calls of `fetch` that fail, from 0.
     pub fn new(files: Vec<(String, Vec<u8>)>, fail: Vec<u32>) -> MemInputs
         ensures { result
-            ≡ record { files = files_of files.items; fail = fail.items; calls = 0; faults = 0; last_fault = [] } }
+            ≡ record { files = files_of files.items; fail = fail.items; calls = 0; faults = 0; last_fault = []; asked = [] } }
     {
         MemInputs {
             files,
             fail,
             calls: 0,
             faults: 0,
-            last: Noted::new(),
+            failed: Noted::new(),
+            asked: Noted::new(),
         }
     }
 
-    /// Counts a call, and says whether it is one that fails.
-    fn next_call_fails(&mut self) -> bool
+    /// Counts a call for this name, and says whether it is one that fails.
+    fn next_call_fails(&mut self, name: &str) -> bool
         ensures answer { result ≡ fails_at self.old.fail self.old.calls }
-        ensures state { self.new ≡ called self.old }
+        ensures state { self.new ≡ called self.old name.now }
     {
+        self.asked.note(name.as_bytes());
         let call = self.calls;
         self.calls = call.saturating_add(1);
         fails_at(&self.fail, call)
@@ -74,7 +78,7 @@ impl MemInputs {
         ensures count { self.old.faults ≤ self.new.faults }
     {
         self.faults = self.faults.saturating_add(1);
-        self.last.note(name.as_bytes());
+        self.failed.note(name.as_bytes());
     }
 
     /// What the first file of this name holds.
@@ -110,6 +114,8 @@ impl Inputs for MemInputs {
 
     ghost last_fault = { λ s. s.last_fault };
 
+    ghost asked = { λ s. s.asked };
+
     fn fetch(&mut self, name: &str, most: usize, into: &mut Vec<u8>) -> Result<(), FetchFault>
         ensures bytes { OnOk result (IfSome (held self.old.files name.now) (λ bytes. into.new.items ≡ bytes)) }
         ensures fits { OnOk result (length into.new.items ≤ most) }
@@ -118,6 +124,7 @@ impl Inputs for MemInputs {
         ensures failed { IsErrOf result FetchFault.Failed → Rose self.old.faults self.new.faults }
         ensures failed_name { IsErrOf result FetchFault.Failed → self.new.last_fault ≡ name.now }
         ensures count { self.old.faults ≤ self.new.faults }
+        ensures asked { self.new.asked ≡ self.old.asked ++ name.now ∷ [] }
         ensures same { (other : List ℕ) → held self.new.files other ≡ held self.old.files other }
         ensures err { OnErr result (into.new.items ≡ []) }
 
@@ -132,7 +139,7 @@ impl Inputs for MemInputs {
         ensures state { self.new ≡ after_fetch self.old name.now }
     {
         into.clear();
-        if self.next_call_fails() {
+        if self.next_call_fails(name) {
             self.refuse(name);
             return Err(FetchFault::Failed);
         }

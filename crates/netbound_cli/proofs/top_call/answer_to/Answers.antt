@@ -1,12 +1,12 @@
 use Rattle.std.proofs.Common.{◌∷◌, []}
 use Rattle.std.proofs.lemmas.Result.{IfOk-weaker}
 use Rattle.bounds_command.specs.View.{reply_of}
-use Rattle.netbound_cli.specs.Calls.{bounds_call}
-use Rattle.netbound_cli.proofs.Outcomes.{answers, ends}
+use Rattle.netbound_cli.specs.Calls.{bounds_call, files_of}
+use Rattle.netbound_cli.proofs.Outcomes.{answers, ends, not_at_file}
 use Rattle.netbound_cli.proofs.top_call.answer_to.Goals as goal
 
-pub returns-in-Ok : goal.returns-in-Ok
-returns-in-Ok g c =
+pub returns-in-Ok-clause-reply : goal.returns-in-Ok-clause-reply
+returns-in-Ok-clause-reply g c =
     IfOk-weaker c.on_tables.result _ _
     (λ r on. answers g.I.Inputs.faults g.I.Inputs.last_fault (g.I.Inputs.content c.args.inputs.now)
     (bounds_call c.args.asked)
@@ -15,10 +15,21 @@ returns-in-Ok g c =
     (rw (c.deref.ensures.value, c.deref-in-Ok.ensures.value, c.form_of-form.ensures) at on))
     c.on_tables.ensures
 
-pub returns-in-Err : goal.returns-in-Err
-returns-in-Err g c =
+pub returns-in-Err-clause-reply : goal.returns-in-Err-clause-reply
+returns-in-Err-clause-reply g c =
     IfOk-weaker c.in-Err.ended _ _
     (λ r at. ends g.I.Inputs.faults g.I.Inputs.last_fault (g.I.Inputs.content c.args.inputs.now)
     (bounds_call c.args.asked)
     c.args.inputs.now c.fetch_two.new.inputs (reply_of r) at)
+    c.in-Err.ensures.ended
+
+pub returns-in-Ok-clause-all : goal.returns-in-Ok-clause-all
+returns-in-Ok-clause-all g c =
+    IfOk-weaker c.on_tables.result _ _ (λ r on both. c.in-Ok.ensures.all) c.on_tables.ensures
+
+pub returns-in-Err-clause-all : goal.returns-in-Err-clause-all
+returns-in-Err-clause-all g c =
+    IfOk-weaker c.in-Err.ended _ _
+    (λ r at both. absurd (not_at_file g.I.Inputs.faults g.I.Inputs.last_fault (g.I.Inputs.content c.args.inputs.now)
+    (files_of (bounds_call c.args.asked)) c.args.inputs.now c.fetch_two.new.inputs (reply_of r) at both))
     c.in-Err.ensures.ended

@@ -1,0 +1,82 @@
+-- Files that are fetched one after another.
+use Rattle.std.proofs.Common.{◌≡◌, ◌+◌, ◌-◌, ◌^◌, ◌≤◌, ◌++◌, ℕ, List, [], ◌∷◌, length, Result, Ok, Err}
+use Rattle.std.proofs.Common.{IfOk, IfErr, OnOk, inl, inr, sym, ◌∙◌, ap, arith, subst, append_assoc}
+use Rattle.std.specs.Prelude.{Vec, min}
+use Rattle.std.specs.declared.alloc.Global.{Global}
+use Rattle.std.proofs.lemmas.Result.{IfOk-weaker}
+use Rattle.std.proofs.Math.Nat.{min-le_left, min-le_right, le-min}
+use Rattle.outside.specs.Faults.{Rose}
+use Rattle.outside.specs.Files.{Told, MayHold, MayFit, IsTooLong, FirstIs, MayHoldAll, AllFit}
+use Rattle.outside.specs.Fetching.{EndsAt}
+
+-- one name after another
+pub asked_both : (old between new : List (List ℕ)) (first second : List ℕ) → between ≡ old ++ first ∷ []
+    → new ≡ between ++ second ∷ [] → new ≡ old ++ first ∷ second ∷ []
+asked_both old between new first second one two =
+    two ∙ ap (λ (names : List (List ℕ)). names ++ second ∷ []) one ∙ append_assoc old (first ∷ []) (second ∷ [])
+
+-- what rose later has risen
+rose_later : (before between after : ℕ) → before ≤ between → Rose between after → Rose before after
+rose_later before between after up rose =
+    let one : min (before + 1) (2 ^ 64 - 1) ≤ before + 1 = min-le_left (before + 1) (2 ^ 64 - 1) in
+    let next : min (before + 1) (2 ^ 64 - 1) ≤ between + 1 = omega arith in
+    let all : min (before + 1) (2 ^ 64 - 1) ≤ min (between + 1) (2 ^ 64 - 1) =
+    le-min next (min-le_right (before + 1) (2 ^ 64 - 1)) in
+    omega (arith, rose)
+
+-- what ends a later fetch ends the call
+pub ends_later : {I R : Type 0} (most : ℕ) (cannot_read too_long : List ℕ → R) (faults : I → ℕ)
+    (last_fault : I → List ℕ) (told later : Told) (old between new : I) (reply : R) (file : List ℕ)
+    → faults old ≤ faults between → later file ≡ told file
+    → EndsAt most cannot_read too_long faults last_fault later between new reply file
+    → EndsAt most cannot_read too_long faults last_fault told old new reply file
+ends_later most cannot_read too_long faults last_fault told later old between new reply file up same (inl failed) =
+    let rose = rose_later (faults old) (faults between) (faults new) up failed.0.rose in
+    inl (record { rose = rose; name = failed.0.name }, failed.1)
+ends_later most cannot_read too_long faults last_fault told later old between new reply file up same (inr long) =
+    inr (subst (IsTooLong most) same long.0, long.1)
+
+-- ---- two files
+pub on_ok : {T E P : Type 0} (r : Result T E) → P → OnOk r P
+on_ok (Ok x) p = p
+on_ok (Err e) p = tt
+
+abbrev Files : Type 0
+Files = Vec ℕ Global × Vec ℕ Global
+
+pub two_held : {E : Type 0} (told later : Told) (first second : List ℕ) (bytes : Vec ℕ Global) (r : Result Files E)
+    → MayHold (told first) bytes.items → later second ≡ told second → IfOk r (λ files. files.0 ≡ bytes)
+    → IfOk r (λ files. MayHold (later second) files.1.items)
+    → IfOk r (λ files. MayHoldAll told (first ∷ second ∷ []) (files.0.items ∷ files.1.items ∷ []))
+two_held told later first second bytes (Ok files) held same before after =
+    let one = subst (λ (v : Vec ℕ Global). MayHold (told first) v.items) (sym before) held in
+    (one, (subst (λ some. MayHold some files.1.items) same after, tt))
+two_held told later first second bytes (Err e) held same before after = tt
+
+pub two_fit : {E : Type 0} (most : ℕ) (bytes : Vec ℕ Global) (r : Result Files E) → length bytes.items ≤ most
+    → IfOk r (λ files. files.0 ≡ bytes) → IfOk r (λ files. length files.1.items ≤ most)
+    → IfOk r (λ files. AllFit most (files.0.items ∷ files.1.items ∷ []))
+two_fit most bytes (Ok files) fits before after =
+    (subst (λ (v : Vec ℕ Global). length v.items ≤ most) (sym before) fits, (after, tt))
+two_fit most bytes (Err e) fits before after = tt
+
+-- the second ended the call
+pub second_ends : {I A R E : Type 0} (most : ℕ) (cannot_read too_long : List ℕ → R) (reply_of : A → R) (faults : I → ℕ)
+    (last_fault : I → List ℕ) (told later : Told) (old between new : I) (first second : List ℕ)
+    (r : Result Files (Result A E)) → MayFit most (told first) → faults old ≤ faults between
+    → later second ≡ told second
+    → IfErr r (λ ended. IfOk ended (λ a.
+    EndsAt most cannot_read too_long faults last_fault later between new (reply_of a) second))
+    → IfErr r (λ ended. IfOk ended (λ a. FirstIs most told
+    (EndsAt most cannot_read too_long faults last_fault told old new (reply_of a)) (first ∷ second ∷ [])))
+second_ends most cannot_read too_long reply_of faults last_fault told later old between new first second (Ok files) fit up
+    same ended = tt
+second_ends most cannot_read too_long reply_of faults last_fault told later old between new first second (Err e) fit up
+    same ended =
+    IfOk-weaker e _ _
+    (λ a at. inr (
+      fit,
+      inl (ends_later most cannot_read too_long faults last_fault told later old between new (reply_of a)
+          second up same at),
+    ))
+    ended
