@@ -183,6 +183,11 @@ CASES = {
     "stairs with a jitter of 10^9": ("analyse", stairs_pair("1", "3", 10**9), 7),
     "script: below stair(1, 1, 0), stair(1, 1048577, 0)": ("curve", "below stair(1, 1, 0), stair(1, 1048577, 0)\n", 7),
     "script: a gate's lesser with a gate": ("curve", "show min(gate(1, 1000, 250), gate(1, 1000001/1000, 250))\n", 7),
+    "script: a bend and a gate of nearly its rate": (
+        "curve",
+        "let a = conv(sum(gate(1000, 1000, 1), min(bucket(0, 8), bucket(500, 0))), gate(8396996609/8388608, 1001, 1))\n",
+        7,
+    ),
     "script: a closure of a closure": ("curve", "show close(conv(stair(1, 7, 0), stair(1, 11, 3)))\n", 0),
 }
 
