@@ -183,6 +183,8 @@ CASES = {
     "stairs with a jitter of 10^9": ("analyse", stairs_pair("1", "3", 10**9), 7),
     "script: below stair(1, 1, 0), stair(1, 1048577, 0)": ("curve", "below stair(1, 1, 0), stair(1, 1048577, 0)\n", 7),
     "script: a gate's lesser with a gate": ("curve", "show min(gate(1, 1000, 250), gate(1, 1000001/1000, 250))\n", 7),
+    "script: a stair's lesser with a gate of another period": (
+        "curve", "rate min(shift(stair(11690711, 680291/596, 0), 17179869185/17179869184), gate(1/1024, 3/7, 3/28))\n", 7),
     "script: a closure of a closure": ("curve", "show close(conv(stair(1, 7, 0), stair(1, 11, 3)))\n", 0),
 }
 
