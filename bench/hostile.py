@@ -188,6 +188,8 @@ CASES = {
         "let a = conv(sum(gate(1000, 1000, 1), min(bucket(0, 8), bucket(500, 0))), gate(8396996609/8388608, 1001, 1))\n",
         7,
     ),
+    "script: a stair's lesser with a gate of another period": (
+        "curve", "rate min(shift(stair(11690711, 680291/596, 0), 17179869185/17179869184), gate(1/1024, 3/7, 3/28))\n", 7),
     "script: a closure of a closure": ("curve", "show close(conv(stair(1, 7, 0), stair(1, 11, 3)))\n", 0),
 }
 
