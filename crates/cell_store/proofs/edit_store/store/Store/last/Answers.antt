@@ -1,4 +1,4 @@
-use Rattle.std.proofs.Common.{◌≡◌, ◌-◌, ◌++◌, ◌∷◌, [], List, length, take, Some, sym, ap, ◌∙◌, subst, refl}
+use Rattle.std.proofs.Common.{◌≡◌, ◌-◌, ◌++◌, ◌∷◌, [], List, length, take, sym, ap, ◌∙◌, subst, refl}
 use Rattle.std.specs.Prelude.{slice_get}
 use Rattle.net_model.specs.Accepted.{IsAccepted}
 use Rattle.cell_store.specs.declared.edit_store.replaced.Replaced.{Replaced}
