@@ -6,8 +6,7 @@
 CASES (1000) times two tables are drawn: of tests/netbound, of the refused ones of tests/netbound_cases.py, or odd ones made at
 random, with numbers at the edges of what is taken, each discipline, gates, trees and rings. Half of them are then
 changed one to eight times, as bench/mutate.py changes a file, or in a cell. netbound runs on them with a limit of 10 seconds of processor
-time and 2 GiB of memory. Wanted: no signal, nothing on standard error, and the status and the bytes of bench/plain_document.py; of a
-ring the status, and ports that stand in the table, each of the path of a link right behind the one before.
+time and 2 GiB of memory. Wanted: no signal, nothing on standard error, and the status and the bytes of bench/plain_document.py.
 
 What is not wanted is printed with the number of its case, and kept in FOLDER where one is named. The last line says how many cases there were and
 how many of each status. It ends with 1 where something was not as wanted.
@@ -133,18 +132,6 @@ def wanted(case: Case) -> tuple[int, bytes]:
     return status, "".join(line + "\n" for line in lines).encode()
 
 
-def is_ring(case: Case, text: bytes) -> bool:
-    """Whether a line tells a closed walk of ports, each right behind the one before on the path of a link."""
-    ports = plain_document.read_ports(FILES[0], case.files[FILES[0]])
-    overhead = int(case.words[case.words.index("--overhead") + 1]) if "--overhead" in case.words else 20
-    links, _ = plain_document.read_links(FILES[1], case.files[FILES[1]], ports, overhead)
-    steps = {(before, port) for link in links.values() for port, (before, _) in link["after"].items()}
-    said = text.decode().split()
-    walk = said[2:]
-    closed = len(walk) > 1 and walk[0] == walk[-1] and len(set(walk)) == len(walk) - 1
-    return said[:2] == ["netbound:", "cycle"] and closed and set(zip(walk, walk[1:])) <= steps
-
-
 def unwanted(came: Came, case: Case) -> str:
     """Why what came is not wanted; nothing where it is."""
     if came.status is None or came.status < 0:
@@ -154,8 +141,6 @@ def unwanted(came: Came, case: Case) -> str:
     status, text = wanted(case)
     if came.status != status:
         return f"status {came.status}, wanted {status}"
-    if status == 8:
-        return "" if is_ring(case, came.out) else "no ring of the network"
     return "" if came.out == text else f"wrote {came.out[:200]!r}, wanted {text[:200]!r}"
 
 

@@ -199,22 +199,41 @@ def together(parts, which):
     return sum(total[which] for total, _ in parts)
 
 
-def order(network):
-    """The ports, each after those from which links come to it."""
+class Ring(Exception):
+    """The ports of the ring that is told, from one of them on to it again."""
+
+
+def ports_before(network):
+    """Of each port those from which links come to it."""
     before = [set() for _ in network["ports"]]
     for link in network["links"]:
         for port, _, above in link["nodes"]:
             if above is not None:
                 before[port].add(link["nodes"][above][0])
+    return before
+
+
+def order(network):
+    """The ports, each after those from which links come to it."""
+    before = ports_before(network)
     placed, done, left_over = [], set(), range(len(before))
     while len(placed) < len(before):
         ready = [s for s in left_over if before[s] <= done]
         if not ready:
-            raise ValueError("a cycle")
+            raise Ring(ring_among(left_over, before))
         placed += ready
         done.update(ready)
         left_over = [s for s in left_over if s not in done]
     return placed
+
+
+def ring_among(left_over, before):
+    """From the least port back, each time to the least before it, until one comes again; then the other way round."""
+    walk, port = [], min(left_over)
+    while port not in walk:
+        walk.append(port)
+        port = min(before[port] & set(left_over))
+    return [port] + walk[: walk.index(port) - 1 if walk.index(port) else None : -1]
 
 
 def arrived(network, lines, rows, nodes):

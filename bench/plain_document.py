@@ -418,8 +418,9 @@ def answer(files, contents, overhead, as_json):
     }
     try:
         rows, bounds = plain_bounds.table(network)
-    except ValueError:
-        raise Fault("cycle", 8) from None
+    except plain_bounds.Ring as found:
+        walk = [list(ports)[port] for port in found.args[0]]
+        raise Fault("cycle " + " ".join(walk), 8) from None
     queues = list(queue_rows(network, list(ports), rows))
     ends = list(branch_rows(links, branches, bounds))
     status = 9 if any(row.get("met") is False for row in ends) else 0

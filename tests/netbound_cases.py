@@ -4,7 +4,7 @@
     python3 tests/netbound_cases.py PROGRAM [WORD ..]
 
 PROGRAM with its first words is tried, as `python3 bench/plain_document.py` for the plain one beside it; that one refuses
-no words, so cases of words are left out there, and of a ring only the status is compared.
+no words, so cases of words are left out there.
 """
 
 import subprocess
@@ -148,7 +148,7 @@ def in_folders(program, plain):
         if plain and (status == 2 or "--" in words or not words[0].startswith(("ports", "--o", "--j"))):
             continue
         got = run(program, folder, words)
-        yield folder.name, (wanted[0] if plain and status == 8 else wanted), (got[0] if plain and status == 8 else got)
+        yield folder.name, wanted, got
 
 
 def in_rows(program):

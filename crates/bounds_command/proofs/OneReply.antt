@@ -9,7 +9,8 @@ use Rattle.tree_order.specs.declared.spots.Spot.{Spot}
 use Rattle.tree_order.specs.Spots.{spots_of}
 use Rattle.tree_order.specs.Orders.{IsRing, IsNetworkRing}
 use Rattle.tree_order.proofs.InRange.{in_range}
-use Rattle.tree_order.proofs.Rings.{order_or_ring_is_one}
+use Rattle.tree_order.specs.Rings.{IsToldRing}
+use Rattle.tree_order.proofs.Rings.{one_ring, order_or_ring_is_one, told_rings_are_rings}
 use Rattle.csv_rows.specs.Rows.{LinedRow}
 use Rattle.csv_rows.proofs.OneTable.{one_table}
 use Rattle.document_tables.specs.Tables.{LineRow}
@@ -20,7 +21,7 @@ use Rattle.tree_bounds.specs.declared.analysis.Table.{Table}
 use Rattle.bounds_report.specs.declared.rows.Report.{Report}
 use Rattle.bounds_command.specs.declared.answer.Form.{Form}
 use Rattle.bounds_command.specs.Loads.{load_of, rates_at}
-use Rattle.bounds_command.specs.Replies.{Reply, AreSame, has_fault}
+use Rattle.bounds_command.specs.Replies.{Reply, goes_round, has_fault}
 use Rattle.bounds_command.specs.Reports.{IsNetworkOf, IsReportOf, QueueText, BranchText, queue_text, queues_at, all_queues, branch_text, name_at, some_missed, status_with}
 use Rattle.bounds_command.specs.OnTables.{Tables, name_of, lined, AreLinesOf, AreRowsOfBoth, Gives, IsFaulty, HasRing, IsReported, IsCyclic, IsDone}
 use Rattle.bounds_command.specs.Laws.{RepliesAreDetermined, RepliesAreComplete, StatusesHaveCauses}
@@ -127,25 +128,28 @@ no_ring a b ring table like w r is =
     (λ n h. ((in_range b w).each n h).port) (subst R (spots_same a b like) r)
 
 -- ---- one reply
-same_reply : (x y : Reply) → x ≡ y → AreSame x y
-same_reply x y e = record { status = ap (λ (r : Reply). r.status) e; bytes = λ n. ap (λ (r : Reply). r.bytes) e }
-
 faulty_same : (t : Tables) (overhead : ℕ) (form : Form) (x y : Reply) → IsFaulty t overhead form x
-    → IsFaulty t overhead form y → AreSame x y
+    → IsFaulty t overhead form y → x ≡ y
 faulty_same t overhead form x y h k =
     let both : Err h.fault ≡ Err k.fault =
     sym h.first ∙ read_one t overhead h.port_rows h.link_rows k.port_rows k.link_rows h.rows k.rows ∙ k.first in
     let same : h.fault ≡ k.fault = cc in
-    same_reply x y (h.is ∙ ap (λ (f : FileFault). has_fault (name_of t f.file) f.fault) same ∙ sym k.is)
+    h.is ∙ ap (λ (f : FileFault). has_fault (name_of t f.file) f.fault) same ∙ sym k.is
 
-rings_same : (d e : DocumentText) (a b : Network) (x y : Reply) → HasRing d a x → HasRing e b y → AreSame x y
-rings_same d e a b x y h k =
-    let one : x.status ≡ 8 = ap (λ (r : Reply). r.status) h.is in
-    let two : y.status ≡ 8 = ap (λ (r : Reply). r.status) k.is in
-    record { status = one ∙ sym two; bytes = λ n. absurd (n one) }
+rings_same : (t : Tables) (overhead : ℕ) (form : Form) (x y : Reply) → IsCyclic t overhead form x
+    → IsCyclic t overhead form y → x ≡ y
+rings_same t overhead form x y h k =
+    let same = same_document t overhead h.document k.document h.net k.net h.gives k.gives in
+    let P : DocumentText → Type 0 = λ d. IsNetworkOf d k.net in
+    let like = alike h.document h.net k.net h.gives.network (subst P (sym same) k.gives.network) in
+    let R : List Spot → Type 0 = λ spots. IsToldRing spots h.holds.ring in
+    let ring = one_ring (spots_of k.net) h.holds.ring k.holds.ring (subst R (spots_same h.net k.net like) h.holds.told)
+    k.holds.told in
+    let line : DocumentText → List ℕ → Reply = λ d walk. goes_round (map (name_at d.port_names) walk) in
+    h.holds.is ∙ ap₂ line same ring ∙ sym k.holds.is
 
 reports_same : (t : Tables) (overhead : ℕ) (form : Form) (x y : Reply) → IsDone t overhead form x
-    → IsDone t overhead form y → AreSame x y
+    → IsDone t overhead form y → x ≡ y
 reports_same t overhead form x y h k =
     let same = same_document t overhead h.document k.document h.net k.net h.gives k.gives in
     let P : DocumentText → Type 0 = λ d. IsNetworkOf d k.net in
@@ -155,9 +159,9 @@ reports_same t overhead form x y h k =
     k.holds.bounded
     h.holds.report k.holds.report h.holds.tells (subst Q (sym same) k.holds.tells) in
     let R : ℕ → List ℕ → Reply = λ status bytes. record { status = status; bytes = bytes } in
-    same_reply x y (h.holds.is ∙ ap₂ R (status_same h.holds.report k.holds.report tell)
+    h.holds.is ∙ ap₂ R (status_same h.holds.report k.holds.report tell)
     (text_same form h.holds.report k.holds.report tell)
-    ∙ sym k.holds.is)
+    ∙ sym k.holds.is
 
 ring_and_report : (t : Tables) (overhead : ℕ) (form : Form) (x y : Reply) → IsCyclic t overhead form x
     → IsDone t overhead form y → ⊥
@@ -165,7 +169,8 @@ ring_and_report t overhead form x y h k =
     let same = same_document t overhead h.document k.document h.net k.net h.gives k.gives in
     let P : DocumentText → Type 0 = λ d. IsNetworkOf d k.net in
     let like = alike h.document h.net k.net h.gives.network (subst P (sym same) k.gives.network) in
-    no_ring h.net k.net h.holds.ring k.holds.table like k.gives.in_range h.holds.goes k.holds.bounded
+    no_ring h.net k.net h.holds.ring k.holds.table like k.gives.in_range
+    (told_rings_are_rings (spots_of h.net) h.holds.ring h.holds.told) k.holds.bounded
 
 pub replies_are_determined : RepliesAreDetermined
 replies_are_determined t overhead form x y (inl h) (inl k) = faulty_same t overhead form x y h k
@@ -177,8 +182,7 @@ replies_are_determined t overhead form x y (inr (inl h)) (inl k) =
     absurd (no_fault t overhead h.gives.port_rows h.gives.link_rows h.document form y h.gives.rows h.gives.reads k)
 replies_are_determined t overhead form x y (inr (inr h)) (inl k) =
     absurd (no_fault t overhead h.gives.port_rows h.gives.link_rows h.document form y h.gives.rows h.gives.reads k)
-replies_are_determined t overhead form x y (inr (inl h)) (inr (inl k)) = rings_same h.document k.document h.net k.net
-    x y h.holds k.holds
+replies_are_determined t overhead form x y (inr (inl h)) (inr (inl k)) = rings_same t overhead form x y h k
 replies_are_determined t overhead form x y (inr (inl h)) (inr (inr k)) = absurd
     (ring_and_report t overhead form x y h k)
 replies_are_determined t overhead form x y (inr (inr h)) (inr (inl k)) = absurd
@@ -208,7 +212,8 @@ replies_are_complete t overhead form reply w (inr (inl h)) =
     w.rows ∙ w.reads in
     let same : h.document ≡ w.document = cc in
     let P : DocumentText → Type 0 = λ d. IsNetworkOf d h.net in
-    absurd (w.no_ring h.net h.holds.ring (subst P same h.gives.network) h.holds.goes)
+    absurd (w.no_ring h.net h.holds.ring (subst P same h.gives.network)
+    (told_rings_are_rings (spots_of h.net) h.holds.ring h.holds.told))
 replies_are_complete t overhead form reply w (inr (inr h)) = report_status h.document h.net form reply h.holds
 
 missed_if : (b : Bool) (n : ℕ) → code b ≡ n → n ≡ 9 → b ≡ true

@@ -5,17 +5,16 @@ use Rattle.document_tables.specs.Documents.{DocumentText, document_of}
 use Rattle.tree_network.specs.declared.network.Network.{Network}
 use Rattle.tree_order.specs.Orders.{IsNetworkRing}
 use Rattle.bounds_command.specs.declared.answer.Form.{Form}
-use Rattle.bounds_command.specs.Replies.{Reply, AreSame}
+use Rattle.bounds_command.specs.Replies.{Reply}
 use Rattle.bounds_command.specs.Reports.{IsNetworkOf, some_missed}
 use Rattle.bounds_command.specs.OnTables.{Tables, AreRowsOfBoth, OfDocument, IsReported, IsFaulty, IsCyclic, IsReplyOn}
 
 -- ---- one reply
--- status and text are determined by the names and the bytes of the files, the overhead and the form, but for the choice
--- among rings
+-- status and text are determined by the names and the bytes of the files, the overhead and the form
 abbrev pub RepliesAreDetermined : Type 0
 RepliesAreDetermined =
     (t : Tables) (overhead : ℕ) (form : Form) (x y : Reply) → IsReplyOn t overhead form x → IsReplyOn t overhead form y
-    → AreSame x y
+    → x ≡ y
 
 -- ---- tables that are answered
 -- a document without a fault, whose links go round nowhere

@@ -8,7 +8,7 @@ use Rattle.document_tables.specs.Tables.{LineRow}
 use Rattle.document_tables.specs.Documents.{DocumentText, FileFault, document_of}
 use Rattle.tree_network.specs.Networks.{IsNetwork, port_at, queues_of}
 use Rattle.tree_network.specs.declared.network.Network.{Network}
-use Rattle.tree_order.specs.Orders.{IsNetworkRing}
+use Rattle.tree_order.specs.Rings.{IsNetworkToldRing}
 use Rattle.tree_bounds.specs.Tables.{IsTableOf, row_in}
 use Rattle.tree_bounds.specs.declared.analysis.Table.{Table}
 use Rattle.tree_guarantee.specs.Causes.{IsCausedIn}
@@ -68,10 +68,10 @@ pub record IsFaulty (t : Tables) (overhead : ℕ) (form : Form) (reply : Reply) 
   pub is : reply ≡ has_fault (name_of t fault.file) fault.fault
 
 -- ---- on the network of a document
--- links go round; of the rings one is told
+-- links go round; of the rings one is told, which the network determines
 pub record HasRing (d : DocumentText) (net : Network) (reply : Reply) : Type 0 where
   pub ring : List ℕ
-  pub goes : IsNetworkRing net ring
+  pub told : IsNetworkToldRing net ring
   pub is : reply ≡ goes_round (map (name_at d.port_names) ring)
 
 -- the report of a table that meets the equations, in a form; its status tells whether a deadline is missed, and each

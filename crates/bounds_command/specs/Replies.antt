@@ -1,5 +1,5 @@
 -- What a call answers: an exit status, and the bytes that are written. Own choice.
-use Rattle.std.specs.Prelude.{◌≡◌, ◌≢◌, ℕ, ◌++◌, List, codes}
+use Rattle.std.specs.Prelude.{ℕ, ◌++◌, List, codes}
 use Rattle.std.specs.List.{flat_map}
 use Rattle.document_tables.specs.declared.fault.LineFault.{LineFault}
 use Rattle.document_faults.specs.Words.{fault_line}
@@ -7,11 +7,6 @@ use Rattle.document_faults.specs.Words.{fault_line}
 pub record Reply : Type 0 where
   pub status : ℕ
   pub bytes : List ℕ
-
--- one status, and one text unless it tells a ring, of which a network may have several
-pub record AreSame (x y : Reply) : Type 0 where
-  pub status : x.status ≡ y.status
-  pub bytes : x.status ≢ 8 → x.bytes ≡ y.bytes
 
 -- ---- refusals, of one line each
 abbrev pub refusal : ℕ → List ℕ → Reply

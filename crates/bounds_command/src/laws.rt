@@ -2,7 +2,7 @@
 
 ghost use Rattle.bounds_command.specs.Laws.{RepliesAreComplete, RepliesAreDetermined, StatusesHaveCauses};
 
-/// Two replies on the same files have one status, and one text but for the choice among rings.
+/// Two replies on the same files, with one overhead and in one form, are one.
 pub fn replies_are_determined()
     ensures { RepliesAreDetermined }
 {}

@@ -5,7 +5,7 @@ use Rattle.std.proofs.lemmas.Bool.{cases_eq}
 use Rattle.bounds_command.specs.declared.answer.Form.{Form}
 use Rattle.bounds_command.specs.Laws.{IsReport}
 use Rattle.bounds_command.specs.OnTables.{IsCyclic, IsFaulty, IsReplyOn, Tables, tables}
-use Rattle.bounds_command.specs.Replies.{AreSame, Reply, cannot_read, too_long}
+use Rattle.bounds_command.specs.Replies.{Reply, cannot_read, too_long}
 use Rattle.bounds_command.proofs.OneReply as law
 use Rattle.netbound_words.specs.Requests.{Bounds, Help, Request, Version}
 use Rattle.outside.specs.Fetching.{AsksForAll, AsksInOrder}
@@ -447,22 +447,15 @@ never content faults last_fault asked before after reply (inr found) =
 
 -- ---- there is one reply
 one_on : (c : Call) (files : List (List ℕ)) (x y : Reply) → OnTables IsReplyOn c files x
-    → OnTables IsReplyOn c files y → AreSame x y
+    → OnTables IsReplyOn c files y → x ≡ y
 one_on c (ports ∷ links ∷ []) x y h k =
     law.replies_are_determined (tables c.ports ports c.links links) c.overhead c.form x y h k
 one_on c [] x y h k = absurd h
 one_on c (ports ∷ []) x y h k = absurd h
 one_on c (ports ∷ links ∷ more ∷ files) x y h k = absurd h
 
-alike : (x y : Reply) → x ≡ y → AreSame x y
-alike x y same = record {
-  status = ap (λ (r : Reply). r.status) same;
-  bytes = λ apart. ap (λ (r : Reply). r.bytes)
-      same;
-}
-
 pub replies_are_determined : RepliesAreDetermined
-replies_are_determined c files x y (inl h) (inl k) = alike x y (long_one most_bytes x y too_long (files_of c) files h k)
+replies_are_determined c files x y (inl h) (inl k) = long_one most_bytes x y too_long (files_of c) files h k
 replies_are_determined c files x y (inl h) (inr k) = absurd
     (not_long most_bytes (λ file. x ≡ too_long file) (files_of c) files h k.0)
 replies_are_determined c files x y (inr h) (inl k) = absurd

@@ -2,7 +2,7 @@
 
 ghost use Rattle.netbound_cli.specs.Laws.{RepliesAreDetermined};
 
-/// Status and text are determined by a call and by what its files hold, but for the choice among rings.
+/// Status and text are determined by a call and by what its files hold.
 pub fn replies_are_determined()
     ensures { RepliesAreDetermined }
 {}

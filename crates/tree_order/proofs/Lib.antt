@@ -6,6 +6,8 @@ pub mod Counted
 pub mod Ready
 pub mod Released
 pub mod Turned
+pub mod Endless
+pub mod Lates
 pub mod Walked
 pub mod Noted
 pub mod Rings

@@ -1,5 +1,5 @@
 -- The places of a list's ports, noted by port: one port more.
-use Rattle.std.proofs.Common.{◌≡◌, ◌≢◌, ℕ, ◌<◌, List, [], ◌∷◌, ◌++◌, length, get_or, set, sym, ◌∙◌, ap, subst, arith, inl, inr, get_or-set_same, get_or-set_other}
+use Rattle.std.proofs.Common.{◌≡◌, ℕ, ◌<◌, List, [], ◌∷◌, ◌++◌, length, get_or, set, sym, ◌∙◌, ap, subst, arith, get_or-set_same, get_or-set_other}
 use Rattle.tree_order.specs.Turns.{AreNoted}
 use Rattle.tree_order.proofs.Distinct.{Pushed, IsNew, pushed, earlier, newest}
 

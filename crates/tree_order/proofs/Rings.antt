@@ -1,12 +1,20 @@
--- A loop turned round is a ring; and a network with an order has none.
-use Rattle.std.proofs.Common.{◌≡◌, ℕ, zero, suc, ◌<◌, ◌≤◌, ◌+◌, ◌-◌, List, [], ◌∷◌, ◌++◌, length, get_or, refl, sym, ◌∙◌, ap, subst, arith, length-append}
+-- The ring that is told is one, and a ring; and a network with an order has none.
+use Rattle.std.proofs.Common.{◌≡◌, ℕ, zero, suc, ◌<◌, ◌≤◌, ◌+◌, ◌-◌, List, [], ◌∷◌, ◌++◌, length, get_or, refl, sym, ◌∙◌, ap, ap₂, subst, arith, drop, inl, inr, length-append, length-drop}
 use Rattle.std.specs.Prelude.{reverse}
-use Rattle.std.proofs.lemmas.List.{get_or-reverse, length-reverse, get_or_append_left, get_or_at}
+use Rattle.std.proofs.lemmas.Bool.{cases_eq, cases_lt}
+use Rattle.std.proofs.lemmas.Grind.{same_number_lists}
+use Rattle.std.proofs.lemmas.List.{get_or-reverse, get_or-drop, length-reverse, get_or_append_left, get_or_at}
 use Rattle.tree_order.specs.declared.spots.Spot.{Spot}
 use Rattle.tree_order.specs.Orders.{StandsAt, GoesTo, IsRing, OrderOrRing}
-use Rattle.tree_order.specs.Turns.{IsLoop}
+use Rattle.tree_order.specs.Rings.{IsFirstBefore, IsWalkBack, OneRing, ToldRingsAreRings, turned_round}
 
-pub ring_of_loop : (spots : List Spot) (ports : List ℕ) → IsLoop spots ports → IsRing spots (reverse (ports ++ get_or ports 0 0 ∷ []))
+-- a link goes to each of these ports from the next, and to the last from the first
+record IsLoop (spots : List Spot) (ports : List ℕ) : Type 0 where
+  some : 0 < length ports
+  steps : (i : ℕ) → i + 1 < length ports → GoesTo spots (get_or ports (i + 1) 0) (get_or ports i 0)
+  last : GoesTo spots (get_or ports 0 0) (get_or ports (length ports - 1) 0)
+
+ring_of_loop : (spots : List Spot) (ports : List ℕ) → IsLoop spots ports → IsRing spots (turned_round ports)
 ring_of_loop spots ports l = record {
   some = omega (arith, long, l.some);
   back = back;
@@ -62,6 +70,109 @@ ring_of_loop spots ports l = record {
             let S : ℕ → Type 0 = λ m. GoesTo spots (get_or ports m 0) (get_or ports (length ports - (suc i + 1)) 0) in
             let next : length ports - (suc i + 1) + 1 ≡ length ports - suc i = omega (arith, h) in
             subst R (sym (inner (length ports - suc i) (omega (arith, h)))) (subst S next (l.steps (length ports - (suc i + 1)) (omega (arith, h))))
+
+-- ---- the ring that is told
+loop_of_walk : (spots : List Spot) (start : ℕ) (walk : List ℕ) (place : ℕ) → IsWalkBack spots start walk place → IsLoop spots (drop place walk)
+loop_of_walk spots start walk place w = record {
+  some = omega (arith, long, w.inside);
+  steps = steps;
+  last = last;
+}
+  where
+    long : length (drop place walk) ≡ length walk - place
+    long = length-drop place walk
+
+    at : (i : ℕ) → get_or (drop place walk) i 0 ≡ get_or walk (place + i) 0
+    at i = get_or-drop place walk i 0
+
+    steps : (i : ℕ) → i + 1 < length (drop place walk) → GoesTo spots (get_or (drop place walk) (i + 1) 0) (get_or (drop place walk) i 0)
+    steps i h =
+        let P : ℕ → Type 0 = λ m. GoesTo spots m (get_or (drop place walk) i 0) in
+        let Q : ℕ → Type 0 = λ m. GoesTo spots (get_or walk (place + i + 1) 0) m in
+        let next : place + i + 1 ≡ place + (i + 1) = omega arith in
+        subst P (ap (λ k. get_or walk k 0) next ∙ sym (at (i + 1))) (subst Q (sym (at i)) (w.steps (place + i) (omega (arith, h, long))).goes)
+
+    last : GoesTo spots (get_or (drop place walk) 0 0) (get_or (drop place walk) (length (drop place walk) - 1) 0)
+    last =
+        let P : ℕ → Type 0 = λ m. GoesTo spots m (get_or (drop place walk) (length (drop place walk) - 1) 0) in
+        let Q : ℕ → Type 0 = λ m. GoesTo spots (get_or walk place 0) m in
+        let zero_at : place ≡ place + 0 = omega arith in
+        let end : length walk - 1 ≡ place + (length (drop place walk) - 1) = omega (arith, long, w.inside) in
+        subst P (ap (λ k. get_or walk k 0) zero_at ∙ sym (at 0))
+        (subst Q (ap (λ k. get_or walk k 0) end ∙ sym (at (length (drop place walk) - 1))) w.back.goes)
+
+pub told_rings_are_rings : ToldRingsAreRings
+told_rings_are_rings spots ring r =
+    let P : List ℕ → Type 0 = λ xs. IsRing spots xs in
+    subst P (sym r.is) (ring_of_loop spots (drop r.place r.walk) (loop_of_walk spots r.start r.walk r.place r.goes))
+
+-- there is one port of a kind that is the least
+first_one : (spots : List Spot) (a b c : ℕ) → IsFirstBefore spots a c → IsFirstBefore spots b c → a ≡ b
+first_one spots a b c h k =
+    let one = h.least b k.goes k.endless in
+    let two = k.least a h.goes h.endless in
+    omega (arith, one, two)
+
+walks_agree : (spots : List Spot) (start : ℕ) (v w : List ℕ) (p q : ℕ) → IsWalkBack spots start v p → IsWalkBack spots start w q
+    → (i : ℕ) → i < length v → i < length w → get_or v i 0 ≡ get_or w i 0
+walks_agree spots start v w p q h k zero small few = h.begins ∙ sym k.begins
+walks_agree spots start v w p q h k (suc i) small few =
+    let P : ℕ → Type 0 = λ m. IsFirstBefore spots (get_or w (i + 1) 0) m in
+    let before = walks_agree spots start v w p q h k i (omega (arith, small)) (omega (arith, few)) in
+    let one = h.steps i (omega (arith, small)) in
+    let two = subst P (sym before) (k.steps i (omega (arith, few))) in
+    let next : suc i ≡ i + 1 = omega arith in
+    ap (λ m. get_or v m 0) next ∙ first_one spots (get_or v (i + 1) 0) (get_or w (i + 1) 0) (get_or v i 0) one two
+    ∙ ap (λ m. get_or w m 0) (sym next)
+
+-- a walk that comes back ends there
+none_longer : (spots : List Spot) (start : ℕ) (v w : List ℕ) (p q : ℕ) → IsWalkBack spots start v p → IsWalkBack spots start w q
+    → length v < length w → ⊥
+none_longer spots start v w p q h k lt =
+    let some : 0 < length v = omega (arith, h.inside) in
+    let end : length v - 1 + 1 ≡ length v = omega (arith, some) in
+    let same = walks_agree spots start v w p q h k (length v - 1) (omega (arith, some)) (omega (arith, some, lt)) in
+    let P : ℕ → Type 0 = λ m. IsFirstBefore spots (get_or w (length v - 1 + 1) 0) m in
+    let next = subst P (sym same) (k.steps (length v - 1) (omega (arith, end, lt))) in
+    let back = first_one spots (get_or v p 0) (get_or w (length v - 1 + 1) 0) (get_or v (length v - 1) 0) h.back next in
+    let at = walks_agree spots start v w p q h k p h.inside (omega (arith, h.inside, lt)) in
+    k.once p (length v) h.inside lt (sym at ∙ back ∙ ap (λ m. get_or w m 0) end)
+
+walks_one : (spots : List Spot) (start : ℕ) (v w : List ℕ) (p q : ℕ) → IsWalkBack spots start v p → IsWalkBack spots start w q → v ≡ w
+walks_one spots start v w p q h k =
+    elim (cases_lt (length v) (length w)) [
+      | inl lt ↦ absurd (none_longer spots start v w p q h k lt)
+      | inr more ↦
+          elim (cases_eq (length v) (length w)) [
+            | inl same ↦
+                same_number_lists v w same (λ i lt. walks_agree spots start v w p q h k i lt (omega (arith, lt, same)))
+            | inr other ↦ absurd (none_longer spots start w v q p k h (omega (arith, more, other)))
+          ]
+    ]
+
+places_one : (spots : List Spot) (start : ℕ) (walk : List ℕ) (p q : ℕ) → IsWalkBack spots start walk p → IsWalkBack spots start walk q → p ≡ q
+places_one spots start walk p q h k =
+    let same = first_one spots (get_or walk p 0) (get_or walk q 0) (get_or walk (length walk - 1) 0) h.back k.back in
+    elim (cases_eq p q) [
+      | inl e ↦ e
+      | inr other ↦
+          elim (cases_lt p q) [
+            | inl lt ↦ absurd (h.once p q lt k.inside same)
+            | inr more ↦ absurd (h.once q p (omega (arith, more, other)) h.inside (sym same))
+          ]
+    ]
+
+pub one_ring : OneRing
+one_ring spots one other r o =
+    let up = r.least o.start o.endless in
+    let down = o.least r.start r.endless in
+    let start : o.start ≡ r.start = omega (arith, up, down) in
+    let S : ℕ → Type 0 = λ s. IsWalkBack spots s o.walk o.place in
+    let goes = subst S start o.goes in
+    let walk = walks_one spots r.start r.walk o.walk r.place o.place r.goes goes in
+    let W : List ℕ → Type 0 = λ w. IsWalkBack spots r.start w o.place in
+    let place = places_one spots r.start r.walk r.place o.place r.goes (subst W (sym walk) goes) in
+    r.is ∙ ap₂ (λ p w. turned_round (drop p w)) place walk ∙ sym o.is
 
 -- ---- along a ring the places grow
 pub order_or_ring_is_one : OrderOrRing

@@ -7,7 +7,8 @@ use Rattle.tree_order.specs.declared.order.Plan.{Plan}
 use Rattle.tree_order.specs.declared.spots.Spot.{Spot}
 use Rattle.tree_order.specs.Spots.{spots_of}
 use Rattle.tree_order.specs.Lists.{lists_of, AreBySource, AreByPort}
-use Rattle.tree_order.specs.Orders.{IsOrderOf, IsRing}
+use Rattle.tree_order.specs.Orders.{IsOrderOf}
+use Rattle.tree_order.specs.Rings.{IsToldRing}
 
 pub record IsPlanOf (net : Network) (plan : Plan) : Type 0 where
   pub spots : plan.spots.items ≡ spots_of net
@@ -15,9 +16,9 @@ pub record IsPlanOf (net : Network) (plan : Plan) : Type 0 where
   pub at : AreByPort (spots_of net) (length net.ports.items) (length net.ports.items + 1) (lists_of plan.at.items)
   pub order : IsOrderOf (spots_of net) (length net.ports.items) plan.order.items
 
--- a ring of ports; want of memory is free
+-- the ring of ports; want of memory is free
 abbrev pub IsRingFault : List Spot → Fault → Type 0
-IsRingFault spots (Cycle ports) = IsRing spots ports.items
+IsRingFault spots (Cycle ports) = IsToldRing spots ports.items
 IsRingFault spots NoMemory = Unit {0}
 
 abbrev pub IsFault : Network → Fault → Type 0

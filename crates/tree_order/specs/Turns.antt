@@ -1,9 +1,10 @@
 -- Turn by turn to an order: how many spots of each port still wait for the port before, and which ports wait for none. Own choice.
-use Rattle.std.specs.Prelude.{Option, Some, None, ◌≡◌, ◌<◌, ◌≤◌, ◌+◌, ◌-◌, ◌==◌, ◌&&◌, ℕ, zero, suc, Bool, true, false, not, List, length, get_or, count_by}
+use Rattle.std.specs.Prelude.{Option, Some, None, ◌≡◌, ◌<◌, ◌≤◌, ◌==◌, ◌&&◌, ℕ, zero, suc, Bool, true, false, not, List, length, get_or, drop, count_by}
 use Rattle.tree_order.specs.declared.spots.Spot.{Spot}
 use Rattle.tree_order.specs.Spots.{spot_at}
 use Rattle.tree_order.specs.Lists.{those}
 use Rattle.tree_order.specs.Orders.{StandsAt, GoesTo}
+use Rattle.tree_order.specs.Rings.{IsEndless, IsWalkBack}
 
 -- frames come from a port that is not done
 abbrev pub is_late : List Bool → ℕ → Bool
@@ -46,6 +47,14 @@ pub record IsStuck (spots : List Spot) (done : List Bool) (s : ℕ) : Type 0 whe
 abbrev pub AreStuck : List Spot → List Bool → Type 0
 AreStuck spots done = (s : ℕ) → IsFree done s → IsStuck spots done s
 
+-- none is done at which walks of any number of links end
+abbrev pub AreEndless : List Spot → List Bool → Type 0
+AreEndless spots done = (s : ℕ) → IsEndless spots s → IsFree done s
+
+pub record IsFirstFree (done : List Bool) (s : ℕ) : Type 0 where
+  pub free : IsFree done s
+  pub least : (t : ℕ) → IsFree done t → s ≤ t
+
 -- frames of a source come from port a, which is not done
 pub record ComesLate (done : List Bool) (source a : ℕ) : Type 0 where
   pub from : source ≡ suc a
@@ -61,6 +70,17 @@ pub record IsLateFrom (spots : List Spot) (done : List Bool) (numbers : List ℕ
   pub from : (spot_at spots (get_or numbers place 0)).source ≡ suc a
   pub free : IsFree done a
 
+-- and from no lesser one
+pub record IsFirstLateFrom (spots : List Spot) (done : List Bool) (numbers : List ℕ) (a : ℕ) : Type 0 where
+  pub late : IsLateFrom spots done numbers a
+  pub least : (b : ℕ) → IsLateFrom spots done numbers b → a ≤ b
+
+-- the spots of the list stand in the order of their sources
+abbrev pub RiseBySource : List Spot → List ℕ → Type 0
+RiseBySource spots numbers =
+    (i j : ℕ) → i < j → j < length numbers
+    → (spot_at spots (get_or numbers i 0)).source ≤ (spot_at spots (get_or numbers j 0)).source
+
 -- the place of a number in a list, or none
 abbrev pub FindsPlace : List ℕ → ℕ → Option ℕ → Type 0
 FindsPlace ports port None = (i : ℕ) → i < length ports → get_or ports i 0 ≡ port → ⊥
@@ -70,8 +90,10 @@ FindsPlace ports port (Some place) = StandsAt ports port place
 pub record AreNoted (ports places : List ℕ) : Type 0 where
   pub each : (i : ℕ) → i < length ports → get_or places (get_or ports i 0) 0 ≡ i
 
--- a link goes to each of these ports from the next, and to the last from the first
-pub record IsLoop (spots : List Spot) (ports : List ℕ) : Type 0 where
+-- the ports of a walk back from the one that comes again on
+pub record IsLoopFrom (spots : List Spot) (start : ℕ) (ports : List ℕ) : Type 0 where
   pub some : 0 < length ports
-  pub steps : (i : ℕ) → i + 1 < length ports → GoesTo spots (get_or ports (i + 1) 0) (get_or ports i 0)
-  pub last : GoesTo spots (get_or ports 0 0) (get_or ports (length ports - 1) 0)
+  pub walk : List ℕ
+  pub place : ℕ
+  pub goes : IsWalkBack spots start walk place
+  pub is : ports ≡ drop place walk

@@ -5,7 +5,8 @@ use std::alloc::{AllocError, AllocFailed};
 /// Why a network has no order.
 #[derive(Debug, Drop)]
 pub enum Fault {
-    /// Ports that come back to the first of them: from each to the next some link goes.
+    /// Ports that come back to the first of them: from each to the next some link goes. Which ring this is the network
+    /// determines.
     Cycle(Vec<usize>),
     /// An allocation was refused.
     NoMemory,

@@ -1,4 +1,4 @@
-//! An order of a network's ports in which each comes after those from which links come to it, or a ring of ports.
+//! An order of a network's ports in which each comes after those from which links come to it, or the ring of ports that is told.
 #![tactic(auto)]
 
 mod fault;
@@ -8,5 +8,5 @@ mod ring;
 mod spots;
 
 pub use fault::Fault;
-pub use order::{Plan, order_or_ring, plan_of};
+pub use order::{Plan, one_ring_is_told, order_or_ring, plan_of};
 pub use spots::Spot;

@@ -5,6 +5,7 @@ ghost use Rattle.tree_network.specs.Networks.{IsNetwork};
 ghost use Rattle.tree_order.specs.Lists.{lists_of, AreBySource, AreByPort};
 ghost use Rattle.tree_order.specs.Orders.{IsOrderOf, OrderOrRing};
 ghost use Rattle.tree_order.specs.Plans.{IsPlanOf, IsFault, IsRingFault};
+ghost use Rattle.tree_order.specs.Rings.{OneRing, ToldRingsAreRings};
 ghost use Rattle.tree_order.specs.Spots.{spot_at};
 ghost use Rattle.tree_order.specs.Turns.{AreReady, Begins, count_at, count_waiting};
 
@@ -69,7 +70,7 @@ fn release(
     Ok(())
 }
 
-/// An order in which each port comes after those from which links come to it; a ring where there is none.
+/// An order in which each port comes after those from which links come to it; the ring where there is none.
 fn order_of(
     alloc: Global,
     spots: &[Spot],
@@ -111,7 +112,7 @@ pub struct Plan {
     pub order: Vec<usize>,
 }
 
-/// The plan of a network, or a ring of its ports. In proportion to the nodes of all links, and to the ports.
+/// The plan of a network, or the ring of its ports. In proportion to the nodes of all links, and to the ports.
 pub fn plan_of(alloc: Global, network: &Network) -> Result<Plan, Fault>
     requires { IsNetwork network.now }
     ensures plan { IfOk result (IsPlanOf network.now) }
@@ -133,4 +134,10 @@ pub fn plan_of(alloc: Global, network: &Network) -> Result<Plan, Fault>
 /// A network has never both an order and a ring.
 pub fn order_or_ring()
     ensures { OrderOrRing }
+{}
+
+/// Of a network one ring at most is told, and it is one.
+pub fn one_ring_is_told()
+    ensures one { OneRing }
+    ensures ring { ToldRingsAreRings }
 {}

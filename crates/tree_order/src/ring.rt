@@ -1,10 +1,11 @@
-//! A ring among ports each of which waits for one of them.
+//! The ring among ports each of which waits for one of them.
 
 ghost use Rattle.std.specs.Prelude.{◌≡◌, ◌<◌, ◌+◌, ◌≤◌, ◌++◌, ◌∷◌, [], ℕ, All, length, get_or, set, reverse, IfOk, MatchOption};
 ghost use Rattle.tree_order.specs.Lists.{lists_of, AreByPort};
-ghost use Rattle.tree_order.specs.Orders.{IsRing};
+ghost use Rattle.tree_order.specs.Rings.{IsToldRing, turned_round};
 ghost use Rattle.tree_order.specs.Spots.{spot_at};
-ghost use Rattle.tree_order.specs.Turns.{ComesLate, NoneComesLate, IsFree, IsLateFrom, IsLoop, AreStuck, FindsPlace, AreNoted};
+ghost use Rattle.tree_order.specs.Turns.{ComesLate, NoneComesLate, IsFree, IsFirstFree, IsLateFrom, IsFirstLateFrom, IsLoopFrom};
+ghost use Rattle.tree_order.specs.Turns.{AreStuck, AreEndless, FindsPlace, AreNoted, RiseBySource};
 
 use crate::spots::Spot;
 use std::alloc::{AllocError, Global};
@@ -47,11 +48,13 @@ fn late_source(source: usize, is_done: &[bool]) -> Option<usize>
     Some(source - 1)
 }
 
-/// A port that is not done and from which frames come to these spots.
+/// The least port that is not done and from which frames come to these spots, which stand in the order of their sources.
 fn waits_for(spots: &[Spot], numbers: &[usize], is_done: &[bool]) -> Option<usize>
     requires inside { All (λ n. n < length spots.now) numbers.now }
     requires from { (n : ℕ) → n < length spots.now → (spot_at spots.now n).source ≤ length is_done.now }
-    ensures { MatchOption result ((a : ℕ) → ¬ (IsLateFrom spots.now is_done.now numbers.now a)) (λ a. IsLateFrom spots.now is_done.now numbers.now a) }
+    requires rise { RiseBySource spots.now numbers.now }
+    ensures { MatchOption result ((a : ℕ) → ¬ (IsLateFrom spots.now is_done.now numbers.now a))
+        (λ a. IsFirstLateFrom spots.now is_done.now numbers.now a) }
 {
     for n in numbers {
         if let Some(port) = late_source(spots[*n].source, is_done) {
@@ -61,7 +64,7 @@ fn waits_for(spots: &[Spot], numbers: &[usize], is_done: &[bool]) -> Option<usiz
     None
 }
 
-/// From a port to one that it waits for, until one comes again: the ports from that one on.
+/// From a port to the least that it waits for, until one comes again: the ports from that one on.
 fn loop_back(
     alloc: Global,
     spots: &[Spot],
@@ -72,8 +75,9 @@ fn loop_back(
     requires at { AreByPort spots.now (length is_done.now) (length is_done.now + 1) (lists_of at.now) }
     requires from { (n : ℕ) → n < length spots.now → (spot_at spots.now n).source ≤ length is_done.now }
     requires stuck { AreStuck spots.now is_done.now }
+    requires endless { AreEndless spots.now is_done.now }
     requires start { IsFree is_done.now start }
-    ensures { IfOk result (λ v. IsLoop spots.now v.items) }
+    ensures { IfOk result (λ v. IsLoopFrom spots.now start v.items) }
 {
     let mut places = vec![in alloc; 0; is_done.len()]?;
     let mut seen = Vec::new(alloc);
@@ -94,7 +98,7 @@ fn loop_back(
 /// The other way round, and back to the last of them.
 fn turned(alloc: Global, ports: &[usize]) -> Result<Vec<usize>, AllocError>
     requires { 0 < length ports.now }
-    ensures { IfOk result (λ v. v.items ≡ reverse (ports.now ++ get_or ports.now 0 0 ∷ [])) }
+    ensures { IfOk result (λ v. v.items ≡ turned_round ports.now) }
 {
     let mut ring = Vec::with_capacity(alloc, ports.len() + 1)?;
     ring.extend_from_slice(ports)?;
@@ -105,12 +109,12 @@ fn turned(alloc: Global, ports: &[usize]) -> Result<Vec<usize>, AllocError>
 
 /// The first port that is not done.
 fn first_free(is_done: &[bool]) -> Option<usize>
-    ensures { MatchOption result ((s : ℕ) → ¬ (IsFree is_done.now s)) (λ s. IsFree is_done.now s) }
+    ensures { MatchOption result ((s : ℕ) → ¬ (IsFree is_done.now s)) (λ s. IsFirstFree is_done.now s) }
 {
     is_done.iter().position(|done| !*done)
 }
 
-/// A ring among the ports that are not done, each of which waits for one of them.
+/// The ring among the ports that are not done, each of which waits for one of them.
 pub(crate) fn ring_of(
     alloc: Global,
     spots: &[Spot],
@@ -120,8 +124,9 @@ pub(crate) fn ring_of(
     requires at { AreByPort spots.now (length is_done.now) (length is_done.now + 1) (lists_of at.now) }
     requires from { (n : ℕ) → n < length spots.now → (spot_at spots.now n).source ≤ length is_done.now }
     requires stuck { AreStuck spots.now is_done.now }
+    requires endless { AreEndless spots.now is_done.now }
     requires some { ¬ ((s : ℕ) → ¬ (IsFree is_done.now s)) }
-    ensures { IfOk result (λ v. IsRing spots.now v.items) }
+    ensures { IfOk result (λ v. IsToldRing spots.now v.items) }
 {
     match first_free(is_done) {
         None => unreachable!(),

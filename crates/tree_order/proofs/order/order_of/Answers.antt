@@ -2,10 +2,11 @@ use Rattle.std.proofs.Common.{◌≡◌, ◌<◌, ◌≤◌, ◌+◌, ℕ, List,
 use Rattle.std.specs.Prelude.{All}
 use Rattle.std.proofs.lemmas.List.{get_or_default, length-map}
 use Rattle.tree_order.specs.Lists.{lists_of, is_from, AreByPort}
-use Rattle.tree_order.specs.Turns.{IsFree, AreReady, AreStuck, count_at}
+use Rattle.tree_order.specs.Turns.{IsFree, AreReady, AreStuck, AreEndless, count_at}
 use Rattle.tree_order.proofs.ListSets.{list_of}
 use Rattle.tree_order.proofs.Those.{those_pass}
 use Rattle.tree_order.proofs.Turned.{Turned, no_turn_yet, stuck, some_free, fresh, split, after_turn, all_turns}
+use Rattle.tree_order.proofs.Endless.{endless_free}
 use Rattle.tree_order.proofs.order.order_of.Goals as goal
 
 pub loop-turn-init : goal.loop-turn-init
@@ -36,6 +37,12 @@ ring_of-requires-clause-stuck c =
     let all : length c.loop-turn.ready.items ≤ c.loop-turn.turn = omega (arith, c.len.ensures, c.if-turn-len.true) in
     subst P (sym c.deref-then-turn-len.ensures.value)
     (stuck c.args.spots.now c.args.ports c.loop-turn.is_done.items c.loop-turn.waiting.items c.loop-turn.ready.items c.loop-turn.turn c.loop-turn.invariant all c.requires.from)
+
+pub ring_of-requires-clause-endless : goal.ring_of-requires-clause-endless
+ring_of-requires-clause-endless c =
+    let P : List Bool → Type 0 = λ done. AreEndless c.args.spots.now done in
+    subst P (sym c.deref-then-turn-len.ensures.value)
+    (endless_free c.args.spots.now c.args.ports c.loop-turn.is_done.items c.loop-turn.waiting.items c.loop-turn.ready.items c.loop-turn.turn c.loop-turn.invariant c.requires.ports)
 
 pub ring_of-requires-clause-some : goal.ring_of-requires-clause-some
 ring_of-requires-clause-some c = λ none.

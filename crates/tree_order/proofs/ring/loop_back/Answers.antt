@@ -2,13 +2,14 @@ use Rattle.std.proofs.Common.{◌≡◌, ◌<◌, ◌+◌, set, ℕ, List, [], �
 use Rattle.std.specs.Prelude.{All}
 use Rattle.std.proofs.lemmas.List.{length-map, length-replicate, length-set, take_rest}
 use Rattle.std.proofs.lemmas.Result.{IfOk-weaker}
-use Rattle.tree_order.specs.Turns.{IsLateFrom, IsLoop, FindsPlace}
+use Rattle.tree_order.specs.Turns.{IsLateFrom, IsFirstLateFrom, IsLoopFrom, FindsPlace, RiseBySource}
 use Rattle.tree_order.specs.Orders.{StandsAt}
 use Rattle.tree_order.proofs.ListSets.{list_of}
 use Rattle.tree_order.proofs.Those.{port_pass}
 use Rattle.tree_order.specs.Turns.{AreNoted}
 use Rattle.tree_order.proofs.Noted.{none_noted, one_noted}
-use Rattle.tree_order.proofs.Walked.{Walked, no_port_yet, below_free, leaves_room, goes_on, comes_back, goes_from, not_stuck}
+use Rattle.tree_order.proofs.Walked.{Walked, no_port_yet, below_free, leaves_room, goes_on, comes_back, is_first, not_stuck}
+use Rattle.tree_order.proofs.Lates.{port_rises}
 use Rattle.tree_order.proofs.ring.loop_back.Goals as goal
 
 pub loop-place-init : goal.loop-place-init
@@ -16,7 +17,7 @@ loop-place-init c =
     let zeros = c.in_ok-places.ensures.items_if_clones_equal (λ y e. e) in
     record {
       walked =
-          let P : List ℕ → Type 0 = λ xs. Walked c.args.spots.now c.args.is_done.now xs c.args.start in
+          let P : List ℕ → Type 0 = λ xs. Walked c.args.spots.now c.args.is_done.now c.args.start xs c.args.start in
           subst P (sym c.new-seen.ensures.items) (no_port_yet c.args.spots.now c.args.is_done.now c.args.start c.requires.start);
       noted =
           let P : List ℕ → Type 0 = λ xs. AreNoted xs c.in_ok-places.places.items in
@@ -30,8 +31,8 @@ returns-in-Some c =
     let place = c.in-Some.place in
     let F : List ℕ → Type 0 = λ xs. StandsAt xs c.loop-place.port place in
     let stands = subst F c.deref.ensures.value c.in-Some.ensures in
-    let loop = comes_back c.args.spots.now c.args.is_done.now seen c.loop-place.port place c.loop-place.invariant.walked stands in
-    let P : List ℕ → Type 0 = λ xs. IsLoop c.args.spots.now xs in
+    let loop = comes_back c.args.spots.now c.args.is_done.now c.args.start seen c.loop-place.port place c.loop-place.invariant.walked stands in
+    let P : List ℕ → Type 0 = λ xs. IsLoopFrom c.args.spots.now c.args.start xs in
     IfOk-weaker c.from_slice.result _ _
     (λ v same. subst P (sym (same ∙ take_rest c.deref-in-Some.result.now place ∙ ap (λ xs. drop place xs) c.deref-in-Some.ensures.value)) loop)
     c.from_slice.ensures.items
@@ -53,6 +54,17 @@ waits_for-requires-clause-inside c =
     let P : List ℕ → Type 0 = λ xs. All (λ n. n < length spots) xs in
     subst P (sym list) (port_pass (λ n. n < length spots) spots port (length c.args.is_done.now + 1) (λ n h e. h))
 
+pub waits_for-requires-clause-rise : goal.waits_for-requires-clause-rise
+waits_for-requires-clause-rise c =
+    let spots = c.args.spots.now in
+    let port = c.loop-place.port in
+    let lt = below_free c.args.is_done.now port c.loop-place.invariant.walked.here in
+    let count = length-map c.args.at.now (λ v. v.items) in
+    let list = c.deref-in-loop-place-2.ensures.value ∙ sym (list_of c.args.at.now port c.index-at-port.result (omega (arith, lt, count, c.requires.at.count)) c.index-at-port.is)
+    ∙ c.requires.at.each port lt in
+    let P : List ℕ → Type 0 = λ xs. RiseBySource spots xs in
+    subst P (sym list) (port_rises spots port (length c.args.is_done.now + 1))
+
 pub unreachable-requires : goal.unreachable-requires
 unreachable-requires c =
     let spots = c.args.spots.now in
@@ -69,7 +81,7 @@ pub loop-place-smaller : goal.loop-place-smaller
 loop-place-smaller c =
     let P : List ℕ → Type 0 = λ xs. FindsPlace xs c.loop-place.port None in
     let new = subst P c.deref.ensures.value c.in_default.ensures in
-    let room = leaves_room c.args.spots.now c.args.is_done.now c.loop-place.seen.items c.loop-place.port c.loop-place.invariant.walked new in
+    let room = leaves_room c.args.spots.now c.args.is_done.now c.args.start c.loop-place.seen.items c.loop-place.port c.loop-place.invariant.walked new in
     let more = ap length c.in_ok-push.ensures.items ∙ length-append c.loop-place.seen.items (c.loop-place.port ∷ []) in
     omega (arith, room, more)
 
@@ -85,19 +97,20 @@ loop-place-preserved c =
     let count = length-map c.args.at.now (λ v. v.items) in
     let list = c.deref-in-loop-place-2.ensures.value ∙ sym (list_of c.args.at.now port c.index-at-port.result (omega (arith, lt, count, c.requires.at.count)) c.index-at-port.is)
     ∙ c.requires.at.each port lt in
-    let L : List ℕ → Type 0 = λ xs. IsLateFrom spots done xs before in
+    let L : List ℕ → Type 0 = λ xs. IsFirstLateFrom spots done xs before in
     let late = subst L list c.in-Some-waits_for.ensures in
+    let first = is_first spots done port (length done) before c.requires.from c.requires.stuck c.requires.endless late in
     let seen = c.loop-place.seen.items in
     let count = c.loop-place.invariant.count in
     let inside : port < length c.loop-place.places.items = omega (arith, lt, count) in
-    let W : List ℕ → Type 0 = λ xs. Walked spots done xs before in
+    let W : List ℕ → Type 0 = λ xs. Walked spots done c.args.start xs before in
     let N : List ℕ → Type 0 = λ xs. AreNoted xs c.note.new.places.items in
     let full : c.len.result ≡ length seen = omega (arith, c.loop-place.seen.ok, c.len.ensures) in
     let at = c.note.ensures ∙ ap (λ k. set c.loop-place.places.items port k) full in
     record {
       walked =
           subst W (sym c.in_ok-push.ensures.items)
-          (goes_on spots done seen port before c.loop-place.invariant.walked new (goes_from spots done port (length done + 1) before late) late.free);
+          (goes_on spots done c.args.start seen port before c.loop-place.invariant.walked new first late.late.free);
       noted = subst N (sym c.in_ok-push.ensures.items) (one_noted seen c.loop-place.places.items c.note.new.places.items port c.loop-place.invariant.noted new inside at);
       count = ap length c.note.ensures ∙ length-set c.loop-place.places.items port c.len.result ∙ count;
     }

@@ -5,7 +5,7 @@ use Rattle.tree_order.proofs.ring.loop_back.Given as goal
 
 abbrev pub invariant-loop-place : goal.invariant-loop-place
 invariant-loop-place l = record {
-  walked : Walked l.spots l.is_done l.seen.items l.port;
+  walked : Walked l.spots l.is_done l.start l.seen.items l.port;
   noted : AreNoted l.seen.items l.places.items;
   count : length l.places.items ≡ length l.is_done;
 }

@@ -1,15 +1,23 @@
-use Rattle.std.proofs.Common.{ℕ, List, subst, sym}
+use Rattle.std.proofs.Common.{List, ℕ, subst, sym, ◌∙◌, ap}
 use Rattle.std.proofs.lemmas.Result.{IfOk-weaker}
-use Rattle.tree_order.specs.Orders.{IsRing}
-use Rattle.tree_order.specs.Turns.{IsLoop}
-use Rattle.tree_order.proofs.Rings.{ring_of_loop}
+use Rattle.tree_order.specs.Rings.{turned_round}
+use Rattle.tree_order.specs.Turns.{IsLoopFrom}
+use Rattle.tree_order.proofs.Endless.{free_endless}
 use Rattle.tree_order.proofs.ring.ring_of.Goals as goal
 
 pub returns : goal.returns
 returns c =
     let spots = c.args.spots.now in
-    let ports = c.deref.result.now in
-    let L : List ℕ → Type 0 = λ xs. IsLoop spots xs in
+    let start = c.in-Some.start in
+    let first = c.in-Some.ensures in
+    let L : List ℕ → Type 0 = λ xs. IsLoopFrom spots start xs in
     let loop = subst L (sym c.deref.ensures.value) c.in_ok-ports-in-Some.ensures in
-    let P : List ℕ → Type 0 = λ xs. IsRing spots xs in
-    IfOk-weaker c.turned.result _ _ (λ v same. subst P (sym same) (ring_of_loop spots ports loop)) c.turned.ensures
+    IfOk-weaker c.turned.result _ _ (λ v same. record {
+      start = start;
+      endless = free_endless spots c.args.is_done.now c.requires.stuck start first.free;
+      least = λ s unending. first.least s (c.requires.endless s unending);
+      walk = loop.walk;
+      place = loop.place;
+      goes = loop.goes;
+      is = same ∙ ap turned_round loop.is;
+    }) c.turned.ensures

@@ -1,18 +1,16 @@
 use Rattle.std.proofs.Common.{get_or, arith, below_more}
 use Rattle.tree_order.specs.Spots.{spot_at}
 use Rattle.tree_order.specs.Turns.{NoneComesLate}
+use Rattle.tree_order.proofs.Lates.{first_late}
 use Rattle.tree_order.proofs.ring.waits_for.Goals as goal
 
 pub late_source-requires : goal.late_source-requires
 late_source-requires c = c.requires.from (get_or c.args.numbers.now c.loop-n.n-index 0) (c.requires.inside c.loop-n.n-index 0 c.loop-n-test.true)
 
 pub returns-in-Some : goal.returns-in-Some
-returns-in-Some c = record {
-  place = c.loop-n.n-index;
-  inside = c.loop-n-test.true;
-  from = c.in-Some.ensures.from;
-  free = c.in-Some.ensures.free;
-}
+returns-in-Some c =
+    first_late c.args.spots.now c.args.is_done.now c.args.numbers.now c.loop-n.n-index c.in-Some.port c.loop-n-test.true c.requires.rise
+    c.loop-n.invariant c.in-Some.ensures
 
 pub loop-n-preserved : goal.loop-n-preserved
 loop-n-preserved c =
