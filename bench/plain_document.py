@@ -1,5 +1,5 @@
 #!/usr/bin/env python3
-"""What netbound answers, plainly: reads two tables, bounds the network by plain_bounds.py, and prints the same lines
+"""What netbound answers, plainly: reads two tables, bounds the network by plain_stairs.py, and prints the same lines
 with the same status.
 
 Nothing here is shared with the program but the rules. Each number is read exactly, and rounded to its safe side: what a
@@ -14,6 +14,7 @@ import sys
 from fractions import Fraction
 
 import plain_bounds
+import plain_stairs
 from plain_bounds import GRAINS, own_service, queue_count, up
 
 MOST_BYTES = 1 << 24
@@ -404,6 +405,14 @@ def report_lines(counts, queues, branches):
         yield "branch {link} {port} bound {bound}".format(**row) + deadline
 
 
+def network_of(ports, links, overhead):
+    numbers = {name: number for number, name in enumerate(ports)}
+    return {
+        "ports": list(ports.values()),
+        "links": [link_on_grid(link, numbers, overhead) for link in links.values()],
+    }
+
+
 def answer(files, contents, overhead, as_json):
     """The lines and the status."""
     for file, content in zip(files, contents):
@@ -411,13 +420,9 @@ def answer(files, contents, overhead, as_json):
             raise Fault(f"{file}: too long")
     ports = read_ports(files[0], contents[0])
     links, branches = read_links(files[1], contents[1], ports, overhead)
-    numbers = {name: number for number, name in enumerate(ports)}
-    network = {
-        "ports": list(ports.values()),
-        "links": [link_on_grid(link, numbers, overhead) for link in links.values()],
-    }
+    network = network_of(ports, links, overhead)
     try:
-        rows, bounds = plain_bounds.table(network)
+        rows, bounds = plain_stairs.table(network)
     except plain_bounds.Ring as found:
         walk = [list(ports)[port] for port in found.args[0]]
         raise Fault("cycle " + " ".join(walk), 8) from None

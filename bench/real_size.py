@@ -5,8 +5,8 @@
     python3 bench/real_size.py --write FOLDER [SEED [SIZE]]    writes the two tables alone
 
 A size of 1 has 104 end systems at 8 switches with 12 cables between them: 232 ports of 100 Mbit/s, 974 multicast links
-of 6,795 branches, gaps of 2 to 128 milliseconds, frames of 84 to 1,538 bytes on the wire, and a deadline of 35
-milliseconds for each branch. A size of k has k such clusters, each with one of its cables to the next one, and a tenth
+of 6,795 branches, gaps of 2 to 128 milliseconds, frames of 84 to 1,538 bytes on the wire, and a deadline of
+28.5 milliseconds for each branch. A size of k has k such clusters, each with one of its cables to the next one, and a tenth
 of the branches go over. No path goes up and then down again in the order of the switches, so that there is no cycle.
 examples/avionics_real has the tables of seed 1 and size 1.
 
@@ -26,7 +26,7 @@ from pathlib import Path
 
 TWIN = Path(__file__).resolve().parent / "plain_document.py"
 SYSTEMS, SWITCHES, CABLES, LINKS, BRANCHES = 104, 8, 12, 974, 6795
-DEADLINE = 35_000
+DEADLINE = 28_500
 RUNS = 5
 GAPS = {2: 1, 4: 2, 8: 4, 16: 8, 32: 16, 64: 24, 128: 45}
 

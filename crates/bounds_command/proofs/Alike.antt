@@ -9,6 +9,8 @@ use Rattle.std.proofs.lemmas.Option.{slice_get-map}
 use Rattle.arrival_lines.specs.declared.grid.Line.{Line}
 use Rattle.arrival_lines.specs.declared.grid.Part.{Part}
 use Rattle.arrival_lines.specs.declared.grid.Service.{Service}
+use Rattle.arrival_stairs.specs.Views.{Bunch}
+use Rattle.arrival_stairs.specs.declared.stairs.Stair.{Stair}
 use Rattle.tree_network.specs.Networks.{queues_of, port_at, no_port, node_at, no_node}
 use Rattle.tree_network.specs.declared.network.Discipline.{Discipline}
 use Rattle.tree_network.specs.declared.network.Discipline.TheVariants as discipline
@@ -23,9 +25,11 @@ use Rattle.document_tables.specs.Grids.{PortOnGrid, LinkOnGrid, grid_port, grid_
 use Rattle.port_bounds.specs.Incoming.{Incoming, queue_in, longest_frames_of}
 use Rattle.port_bounds.specs.Services.{IsServiceAt, IsServiceOf, round_robin_share}
 use Rattle.port_bounds.specs.Ports.{port_service}
-use Rattle.tree_bounds.specs.Lines.{line_within, first_line_of}
-use Rattle.tree_bounds.specs.Groups.{pace_line, part_of, are_bounded, longest_group, incoming_of_groups, incomings_at, groups_at}
-use Rattle.tree_bounds.specs.Equations.{arrivals_of}
+use Rattle.tree_bounds.specs.Bunches.{Arriving, stairs_among, bunch_of_group, arriving_of_groups, arriving_below}
+use Rattle.tree_bounds.specs.Lines.{line_of}
+use Rattle.tree_bounds.specs.Stairs.{stair_within, first_stair_of}
+use Rattle.tree_bounds.specs.Groups.{pace_line, part_of, are_bounded, longest_group, spots_in_group, groups_at}
+use Rattle.tree_bounds.specs.Equations.{comes_to}
 use Rattle.bounds_command.specs.Loads.{rates_at, brought, load_at, load_of}
 use Rattle.bounds_command.specs.Reports.{port_in}
 
@@ -173,17 +177,15 @@ spots_of_same i first (Some l) (Some m) e =
     spots_in_same i first l m same (length l.nodes.items)
     ∙ ap (λ (v : LinkOnGrid). spots_in i first m (length v.nodes)) same
 
-abbrev line_by : LinkOnGrid → Option Line
-line_by v =
-    line_within (v.frame * 1024 + div_ceil (div_ceil (v.frame * 1024 * 10 ^ 12) v.gap * v.jitter) (10 ^ 12))
-    (div_ceil (v.frame * 1024 * 10 ^ 12) v.gap)
+abbrev stair_by : LinkOnGrid → Option Stair
+stair_by v = stair_within (v.frame * 1024) v.gap v.jitter
 
 pub first_same : (o p : Option Link) → option_map grid_link o ≡ option_map grid_link p
-    → first_line_of o ≡ first_line_of p
+    → first_stair_of o ≡ first_stair_of p
 first_same None None e = refl
 first_same None (Some m) e = absurd (cc)
 first_same (Some l) None e = absurd (cc)
-first_same (Some l) (Some m) e = let same : grid_link l ≡ grid_link m = cc in ap line_by same
+first_same (Some l) (Some m) e = let same : grid_link l ≡ grid_link m = cc in ap stair_by same
 
 pub last_same : (o p : Option Link) (place : ℕ) → option_map grid_link o ≡ option_map grid_link p
     → port_in o place ≡ port_in p place
@@ -226,25 +228,31 @@ module _ (a b : Network) (alike : AreAlike a b) where
       let L : PortOnGrid → Option Line = λ v. Some record { burst = longest * 1024; rate = v.pace } in
       ap L (port_same a b alike p)
 
-  incomings_alike : (spots : List Spot) (line : ℕ → Option Line) (s q : ℕ)
-      → incomings_at a spots line s q ≡ incomings_at b spots line s q
-  unfolding incomings_at
-  incomings_alike spots line s zero = refl
-  incomings_alike spots line s (suc q) =
-      let groups = groups_at spots line s q (length a.ports.items + 1) in
-      let I : List Part → Incoming = λ parts. record {
-        parts = if list_all (λ g. g.known) groups && are_bounded parts then Some parts else None;
+  arriving_alike : (spots : List Spot) (stair : ℕ → Option Stair) (s q : ℕ)
+      → arriving_below a spots stair s q ≡ arriving_below b spots stair s q
+  unfolding arriving_below
+  arriving_alike spots stair s zero = refl
+  arriving_alike spots stair s (suc q) =
+      let groups = groups_at spots (λ n. line_of (stair n)) s q (length a.ports.items + 1) in
+      let A : List Part → List Bunch → Arriving = λ parts ws. record {
+        bunches = option_map (λ ps. ws) (if list_all (λ g. g.known) groups && are_bounded parts then Some parts else None);
         longest = longest_group groups;
       } in
       let paced = map_same (part_of a) (part_of b)
       (λ g. ap (λ (pace : Option Line). record { sum = record { burst = g.burst; rate = g.rate }; pace = pace })
       (pace_same g.longest g.source))
       groups in
-      ap₂ (λ (xs : List Incoming) (x : Incoming). xs ++ x ∷ []) (incomings_alike spots line s q)
-      (ap I paced ∙ ap (λ (n : ℕ). incoming_of_groups b (groups_at spots line s q (n + 1))) (ports_count a b alike))
+      let bunched = map_same (bunch_of_group a spots stair s q) (bunch_of_group b spots stair s q)
+      (λ g. ap (λ (pace : Option Line). record { stairs = stairs_among stair (spots_in_group spots s q g.source); pace = pace })
+      (pace_same g.longest g.source))
+      groups in
+      ap₂ (λ (xs : List Arriving) (x : Arriving). xs ++ x ∷ []) (arriving_alike spots stair s q)
+      (ap₂ A paced bunched
+      ∙ ap (λ (n : ℕ). arriving_of_groups b spots stair s q (groups_at spots (λ m. line_of (stair m)) s q (n + 1)))
+      (ports_count a b alike))
 
-  pub arrivals_same : (line : ℕ → Option Line) (s : ℕ) → arrivals_of a line s ≡ arrivals_of b line s
-  arrivals_same line s =
-      incomings_alike (spots_of a) line s (queues_of (port_at a s).discipline)
-      ∙ ap (λ (xs : List Spot). incomings_at b xs line s (queues_of (port_at a s).discipline)) spots_same
-      ∙ ap (λ n. incomings_at b (spots_of b) line s n) (queues_same (port_at a s) (port_at b s) (port_same a b alike s))
+  pub arriving_same : (stair : ℕ → Option Stair) (s : ℕ) → comes_to a stair s ≡ comes_to b stair s
+  arriving_same stair s =
+      arriving_alike (spots_of a) stair s (queues_of (port_at a s).discipline)
+      ∙ ap (λ (xs : List Spot). arriving_below b xs stair s (queues_of (port_at a s).discipline)) spots_same
+      ∙ ap (λ n. arriving_below b (spots_of b) stair s n) (queues_same (port_at a s) (port_at b s) (port_same a b alike s))

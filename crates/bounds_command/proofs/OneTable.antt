@@ -4,8 +4,8 @@ use Rattle.std.specs.Prelude.{slice_get, option_map}
 use Rattle.std.proofs.lemmas.Bool.{cases_lt, cases_eq}
 use Rattle.std.proofs.lemmas.List.{get_or_past, length-map}
 use Rattle.std.proofs.lemmas.Option.{slice_get_within, get_or_from_slice_get}
-use Rattle.arrival_lines.specs.declared.grid.Line.{Line}
 use Rattle.arrival_lines.specs.declared.grid.Queue.{Queue}
+use Rattle.arrival_stairs.specs.declared.stairs.Stair.{Stair}
 use Rattle.tree_network.specs.Networks.{IsNetwork, IsLink, HangsBefore, queues_of, port_at, node_at, no_node}
 use Rattle.tree_network.specs.declared.network.Node.{Node}
 use Rattle.tree_network.specs.declared.network.Link.{Link}
@@ -15,35 +15,35 @@ use Rattle.tree_order.specs.Spots.{spot_at, spots_of, AreSpots, ComesFrom}
 use Rattle.tree_order.specs.Orders.{GoesTo}
 use Rattle.tree_order.proofs.InRange.{in_range}
 use Rattle.document_tables.specs.Grids.{PortOnGrid, LinkOnGrid, grid_link}
-use Rattle.port_bounds.specs.Incoming.{Incoming}
-use Rattle.port_bounds.specs.Rows.{IsRow}
-use Rattle.tree_bounds.specs.Lines.{first_line_of, later_line}
-use Rattle.tree_bounds.specs.Equations.{arrivals_of}
+use Rattle.tree_bounds.specs.Bunches.{Arriving, IsRowOf}
+use Rattle.tree_bounds.specs.Stairs.{first_stair_of, later_stair}
+use Rattle.tree_bounds.specs.Equations.{comes_to}
 use Rattle.tree_bounds.specs.Tables.{IsTableOf, items_of, row_in, bounds_in, time_after, time_before}
 use Rattle.tree_bounds.specs.declared.analysis.Table.{Table}
-use Rattle.tree_bounds.proofs.Done.{incomings_same}
-use Rattle.bounds_command.proofs.Alike.{AreAlike, ports_count, port_same, link_same, queues_same, first_same, spots_same, arrivals_same}
+use Rattle.tree_bounds.proofs.Done.{arriving_same}
+use Rattle.bounds_command.proofs.Alike.{AreAlike, ports_count, port_same, link_same, queues_same, first_same, spots_same}
+use Rattle.bounds_command.proofs.Alike.{arriving_same as alike_arriving}
 use Rattle.bounds_command.proofs.OneQueue.{row_is_one}
 use Rattle.bounds_command.proofs.Places.{past}
 
 -- what comes to the spots of port s, and its rows
-record IsSameAt (a : Network) (ta tb : Table) (la lb : ℕ → Option Line) (s : ℕ) : Type 0 where
-  lines : (n : ℕ) → n < length (spots_of a) → (spot_at (spots_of a) n).port ≡ s → la n ≡ lb n
+record IsSameAt (a : Network) (ta tb : Table) (la lb : ℕ → Option Stair) (s : ℕ) : Type 0 where
+  stairs : (n : ℕ) → n < length (spots_of a) → (spot_at (spots_of a) n).port ≡ s → la n ≡ lb n
   rows : (q : ℕ) → q < queues_of (port_at a s).discipline → row_in ta s q ≡ row_in tb s q
 
 module _ (a b : Network) (alike : AreAlike a b) (w : IsNetwork a) (ta tb : Table) (ia : IsTableOf a ta)
     (ib : IsTableOf b tb) where
   abbrev Same : ℕ → Type 0
-  Same s = IsSameAt a ta tb ia.line ib.line s
+  Same s = IsSameAt a ta tb ia.stair ib.stair s
 
   ranged : AreSpots a (spots_of a)
   ranged = in_range a w
 
-  begins : (n : ℕ) → n < length (spots_of a) → (spot_at (spots_of a) n).source ≡ 0 → ia.line n ≡ ib.line n
+  begins : (n : ℕ) → n < length (spots_of a) → (spot_at (spots_of a) n).source ≡ 0 → ia.stair n ≡ ib.stair n
   begins n h e =
       let link = (spot_at (spots_of a) n).link in
       let B : List Spot → Type 0 = λ spots. (n : ℕ) → n < length spots → (spot_at spots n).source ≡ 0
-      → ib.line n ≡ first_line_of (slice_get b.links.items (spot_at spots n).link) in
+      → ib.stair n ≡ first_stair_of (slice_get b.links.items (spot_at spots n).link) in
       let other = subst B (sym (spots_same a b alike)) ib.equations.begins in
       ia.equations.begins n h e
       ∙ first_same (slice_get a.links.items link) (slice_get b.links.items link) (link_same a b alike link)
@@ -57,20 +57,20 @@ module _ (a b : Network) (alike : AreAlike a b) (w : IsNetwork a) (ta tb : Table
       (c.0, c.1)
 
   goes_on : (n p : ℕ) → n < length (spots_of a) → (spot_at (spots_of a) n).source ≡ suc p → Same p
-      → ia.line n ≡ ib.line n
+      → ia.stair n ≡ ib.stair n
   goes_on n p h e before =
       let m = (spot_at (spots_of a) n).from in
       let q = (spot_at (spots_of a) m).queue in
       let c = came n p h e in
       let early : m < length (spots_of a) = omega (arith, c.0, h) in
       let B : List Spot → Type 0 = λ spots. (n p : ℕ) → n < length spots → (spot_at spots n).source ≡ suc p
-      → ib.line n ≡ later_line (ib.line (spot_at spots n).from)
+      → ib.stair n ≡ later_stair (ib.stair (spot_at spots n).from)
       (row_in tb p (spot_at spots (spot_at spots n).from).queue) in
       let other = subst B (sym (spots_same a b alike)) ib.equations.goes_on in
       let Q : ℕ → Type 0 = λ s. q < queues_of (port_at a s).discipline in
       let known = subst Q c.1 (ranged.each m early).queue in
       ia.equations.goes_on n p h e
-      ∙ ap₂ (λ (line : Option Line) (row : Option Queue). later_line line row) (before.lines m early c.1)
+      ∙ ap₂ (λ (stair : Option Stair) (row : Option Queue). later_stair stair row) (before.stairs m early c.1)
       (before.rows q known)
       ∙ sym (other n p h e)
 
@@ -90,13 +90,13 @@ module _ (a b : Network) (alike : AreAlike a b) (w : IsNetwork a) (ta tb : Table
 
   one_more : (i : ℕ) → i < length a.ports.items → ((j : ℕ) → j < i → Same (get_or ia.order j 0))
       → Same (get_or ia.order i 0)
-  one_more i hi before = record { lines = lines; rows = rows }
+  one_more i hi before = record { stairs = stairs; rows = rows }
     where
-      lines : (n : ℕ) → n < length (spots_of a) → (spot_at (spots_of a) n).port ≡ get_or ia.order i 0
-          → ia.line n ≡ ib.line n
-      lines n h at = by_source (spot_at (spots_of a) n).source refl
+      stairs : (n : ℕ) → n < length (spots_of a) → (spot_at (spots_of a) n).port ≡ get_or ia.order i 0
+          → ia.stair n ≡ ib.stair n
+      stairs n h at = by_source (spot_at (spots_of a) n).source refl
         where
-          by_source : (k : ℕ) → (spot_at (spots_of a) n).source ≡ k → ia.line n ≡ ib.line n
+          by_source : (k : ℕ) → (spot_at (spots_of a) n).source ≡ k → ia.stair n ≡ ib.stair n
           by_source zero e = begins n h e
           by_source (suc p) e = goes_on n p h e (is_before n p i h hi e at before)
 
@@ -110,14 +110,14 @@ module _ (a b : Network) (alike : AreAlike a b) (w : IsNetwork a) (ta tb : Table
           let queue : q < queues_of (port_at b (get_or ia.order i 0)).discipline =
           let e = queues_same (port_at a (get_or ia.order i 0)) (port_at b (get_or ia.order i 0)) view in
           omega (arith, hq, e) in
-          let same : arrivals_of a ia.line (get_or ia.order i 0) ≡ arrivals_of b ib.line (get_or ia.order i 0) =
-          incomings_same a (spots_of a) ia.line ib.line (get_or ia.order i 0)
-          (queues_of (port_at a (get_or ia.order i 0)).discipline) lines
-          ∙ arrivals_same a b alike ib.line (get_or ia.order i 0) in
-          let R : List Incoming → Type 0 =
-          λ xs. IsRow (port_at a (get_or ia.order i 0)) xs q (row_in ta (get_or ia.order i 0) q) in
+          let same : comes_to a ia.stair (get_or ia.order i 0) ≡ comes_to b ib.stair (get_or ia.order i 0) =
+          arriving_same a (spots_of a) ia.stair ib.stair (get_or ia.order i 0) stairs
+          (queues_of (port_at a (get_or ia.order i 0)).discipline)
+          ∙ alike_arriving a b alike ib.stair (get_or ia.order i 0) in
+          let R : List Arriving → Type 0 =
+          λ xs. IsRowOf (port_at a (get_or ia.order i 0)) xs q (row_in ta (get_or ia.order i 0) q) in
           row_is_one (port_at a (get_or ia.order i 0)) (port_at b (get_or ia.order i 0)) view
-          (arrivals_of b ib.line (get_or ia.order i 0)) q (row_in ta (get_or ia.order i 0) q)
+          (comes_to b ib.stair (get_or ia.order i 0)) q (row_in ta (get_or ia.order i 0) q)
           (row_in tb (get_or ia.order i 0) q)
           (subst R same (ia.equations.rows (get_or ia.order i 0) q small hq))
           (ib.equations.rows (get_or ia.order i 0) q known queue)

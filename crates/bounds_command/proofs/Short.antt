@@ -2,8 +2,6 @@
 use Rattle.std.proofs.Common.{◌≡◌, ℕ, zero, suc, ◌<◌, ◌≤◌, ◌+◌, ◌*◌, ◌^◌, Option, Some, None, List, length, get_or, sym, subst, arith, inl, inr}
 use Rattle.std.specs.Prelude.{IfSome, MatchOption, slice_get}
 use Rattle.std.proofs.lemmas.Option.{slice_get_within, get_or_from_slice_get, slice_get_cases}
-use Rattle.arrival_lines.specs.Queues.{IsUnbounded, IsLeastQueue}
-use Rattle.arrival_lines.specs.declared.grid.Part.{Part}
 use Rattle.arrival_lines.specs.declared.grid.Queue.{Queue}
 use Rattle.arrival_lines.specs.declared.grid.Service.{Service}
 use Rattle.tree_network.specs.Networks.{IsNetwork, IsLink, HangsBefore, longest_time, queues_of, port_at, no_port, node_at}
@@ -12,9 +10,10 @@ use Rattle.tree_network.specs.declared.network.Link.{Link}
 use Rattle.tree_network.specs.declared.network.Network.{Network}
 use Rattle.document_tables.specs.declared.document.BranchEnd.{BranchEnd}
 use Rattle.document_tables.specs.Documents.{IsBranchOf}
-use Rattle.port_bounds.specs.Incoming.{Incoming, queue_in}
-use Rattle.port_bounds.specs.Rows.{IsRowBy}
-use Rattle.tree_bounds.specs.Equations.{arrivals_of}
+use Rattle.arrival_stairs.specs.declared.stairs.Bundle.{Bundle}
+use Rattle.stair_queues.specs.Queues.{AreLong, IsStairQueue}
+use Rattle.stair_ports.specs.Incoming.{StairsIn, stairs_at}
+use Rattle.stair_ports.specs.Rows.{IsStairRowBy}
 use Rattle.tree_bounds.specs.Tables.{IsTableOf, AreBounds, row_in, bounds_in, time_after, time_before}
 use Rattle.tree_bounds.specs.declared.analysis.Table.{Table}
 use Rattle.bounds_command.proofs.Rates.{few_nodes}
@@ -23,23 +22,23 @@ use Rattle.bounds_command.proofs.Rates.{few_nodes}
 abbrev IsShort : Option Queue → Type 0
 IsShort row = IfSome row (λ queue. queue.delay < 2 ^ 50)
 
-least_short : (parts : List Part) (services : List Service) (grains : ℕ) (row : Option Queue)
-    → MatchOption row (IsUnbounded parts services) (λ queue. IsLeastQueue parts services grains queue) → IsShort row
-least_short parts services grains None h = tt
-least_short parts services grains (Some queue) h = h.short
+least_short : (bundles : List Bundle) (services : List Service) (grains : ℕ) (lines row : Option Queue)
+    → MatchOption row (AreLong bundles services grains lines) (λ queue. IsStairQueue bundles services grains lines queue) → IsShort row
+least_short bundles services grains lines None h = tt
+least_short bundles services grains lines (Some queue) h = h.short
 
-row_by : (port : Port) (queues : List Incoming) (q longest : ℕ) (parts : Option (List Part)) (row : Option Queue)
-    → IsRowBy port queues q longest parts row → IsShort row
-row_by port queues q zero parts row h = subst IsShort (sym h) (omega arith)
+row_by : (port : Port) (queues : List StairsIn) (q longest : ℕ) (bundles : Option (List Bundle)) (row : Option Queue)
+    → IsStairRowBy port queues q longest bundles row → IsShort row
+row_by port queues q zero bundles row h = subst IsShort (sym h) (omega arith)
 row_by port queues q (suc longest) None row h = subst IsShort (sym h) tt
-row_by port queues q (suc longest) (Some parts) row h =
-    least_short parts h.services (1024 * (queue_in queues q).longest) row h.least
+row_by port queues q (suc longest) (Some bundles) row h =
+    least_short bundles h.services (1024 * (stairs_at queues q).longest) h.least.lines row h.least.least
 
 row_short : (net : Network) (table : Table) (s q : ℕ) → IsTableOf net table → s < length net.ports.items
     → q < queues_of (port_at net s).discipline → IsShort (row_in table s q)
 row_short net table s q is h k =
-    row_by (port_at net s) (arrivals_of net is.line s) q (queue_in (arrivals_of net is.line s) q).longest
-    (queue_in (arrivals_of net is.line s) q).parts (row_in table s q) (is.equations.rows s q h k)
+    let at = is.equations.rows s q h k in
+    row_by (port_at net s) at.queues q (stairs_at at.queues q).longest (stairs_at at.queues q).bundles (row_in table s q) at.row
 
 -- ---- times
 after_short : (place : ℕ) (before : Option ℕ) (row : Option Queue) (link : ℕ) → IfSome before (λ b. b ≤ place * 2 ^ 51)

@@ -7,4 +7,4 @@ mod services;
 
 pub use arrivals::Arrivals;
 pub use rows::{port_rows, rows_are_held};
-pub use services::own_service;
+pub use services::{own_service, services_of};

@@ -105,7 +105,7 @@ fn share_of(own: Service, quantum: u64, quanta: u64, longest: u64, frames: u64) 
 }
 
 /// The services that queue q gets.
-pub(crate) fn services_of(
+pub fn services_of(
     alloc: Global,
     port: &Port,
     queues: &[Arrivals],

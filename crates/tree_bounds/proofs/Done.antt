@@ -1,29 +1,34 @@
 -- Port by port in the order: the rows of the ports that are done meet the equations, by the lines as they are.
-use Rattle.std.proofs.Common.{◌≡◌, ◌≢◌, ℕ, zero, suc, ◌<◌, ◌≤◌, ◌+◌, ◌==◌, ◌&&◌, Bool, true, false, Option, Some, None, List, [], ◌∷◌, ◌++◌, length, get_or, set, refl, sym, ◌∙◌, ap, subst, arith, inl, inr, get_or-set_same, get_or-set_other}
+use Rattle.std.proofs.Common.{◌≡◌, ◌≢◌, ℕ, zero, suc, ◌<◌, ◌≤◌, ◌+◌, ◌==◌, ◌&&◌, Bool, true, false, Option, Some, None, List, [], ◌∷◌, ◌++◌, length, get_or, map, set, refl, sym, ◌∙◌, ap, ap₂, subst, arith, inl, inr, get_or-set_same, get_or-set_other}
 use Rattle.std.specs.Prelude.{All, is_some, slice_get}
 use Rattle.std.specs.List.{sum_by, list_all}
+use Rattle.std.specs.Option.{option_map}
 use Rattle.std.proofs.lemmas.Bool.{cases_eq, cases_lt}
-use Rattle.std.proofs.lemmas.List.{length-set, get_or_default}
+use Rattle.std.proofs.lemmas.List.{length-set, get_or_default, get_or_past}
 use Rattle.std.proofs.lemmas.List.Sums.{sum_by-cons}
 use Rattle.arrival_lines.specs.declared.grid.Line.{Line}
 use Rattle.arrival_lines.specs.declared.grid.Queue.{Queue}
+use Rattle.arrival_stairs.specs.Stairs.{IsStair}
+use Rattle.arrival_stairs.specs.Views.{Bunch}
+use Rattle.arrival_stairs.specs.declared.stairs.Stair.{Stair}
 use Rattle.tree_network.specs.Networks.{port_at, queues_of}
 use Rattle.tree_network.specs.declared.network.Network.{Network}
 use Rattle.tree_order.specs.declared.spots.Spot.{Spot}
-use Rattle.tree_order.specs.Spots.{spot_at, spots_of, AreSpots, ComesFrom}
+use Rattle.tree_order.specs.Spots.{no_spot, spot_at, spots_of, AreSpots, ComesFrom}
 use Rattle.tree_order.specs.Lists.{those, is_from, is_between}
 use Rattle.tree_order.specs.Orders.{IsOrderOf, GoesTo, StandsAt}
 use Rattle.tree_order.proofs.Those.{those_pass, those_has, eq_true, of_eq, of_both}
-use Rattle.port_bounds.specs.Rows.{AreRows}
-use Rattle.port_bounds.specs.Incoming.{Incoming}
-use Rattle.tree_bounds.specs.Lines.{first_line_of, later_line}
-use Rattle.tree_bounds.specs.Groups.{burst_in, rate_in, group_of, is_in_group, spots_in_group, group_list, groups_at, incoming_of_groups, incomings_at}
-use Rattle.tree_bounds.specs.Onward.{line_at, BeginLines, CanBePassedOn, ArePassedOn}
-use Rattle.tree_bounds.specs.Equations.{MeetsEquations, arrivals_of}
-use Rattle.tree_bounds.specs.Solved.{AreDone, AreSolved, HasRows}
+use Rattle.tree_bounds.specs.Bunches.{Arriving, AreRowsOf, stair_list, stairs_among, bunch_of_group, arriving_of_groups, arriving_at, arriving_below}
+use Rattle.tree_bounds.specs.Groups.{burst_in, rate_in, group_of, is_in_group, spots_in_group, group_list, groups_at, pace_line, parts_in, longest_group}
+use Rattle.tree_bounds.specs.Lines.{line_of}
+use Rattle.tree_bounds.specs.Onward.{stair_in, BeginStairs, CanBePassedOn, ArePassedOn}
+use Rattle.tree_bounds.specs.Equations.{MeetsEquations, comes_to}
+use Rattle.tree_bounds.specs.Solved.{AreAllStairs, AreDone, AreSolved, HasRows}
+use Rattle.tree_bounds.specs.Stairs.{first_stair_of, later_stair}
 use Rattle.tree_bounds.specs.Tables.{row_at}
 use Rattle.tree_bounds.specs.declared.groups.Group.{Group}
-use Rattle.tree_bounds.proofs.Ranged.{incomings_length}
+use Rattle.tree_bounds.proofs.Bunched.{arriving_length}
+use Rattle.tree_bounds.proofs.Onwards.{later_range}
 
 -- ---- what arrives hangs on the lines that come to the port alone
 sum_same : (f g : ℕ → ℕ) (xs : List ℕ) → All (λ n. f n ≡ g n) xs → sum_by f xs ≡ sum_by g xs
@@ -63,30 +68,57 @@ groups_same spots line later s q (suc k) h =
     (λ n lt e. h n lt (of_eq (spot_at spots n).port s
     (of_both ((spot_at spots n).source == k) ((spot_at spots n).port == s) (of_both (is_between spots k s n) ((spot_at spots n).queue == q) e).0).1))))
 
-pub incomings_same : (net : Network) (spots : List Spot) (line later : ℕ → Option Line) (s q : ℕ)
-    → ((n : ℕ) → n < length spots → (spot_at spots n).port ≡ s → line n ≡ later n) → incomings_at net spots line s q ≡ incomings_at net spots later s q
-unfolding incomings_at
-incomings_same net spots line later s zero h = refl
-incomings_same net spots line later s (suc q) h =
-    ap (λ l. l ++ incoming_of_groups net (groups_at spots line s q (length net.ports.items + 1)) ∷ []) (incomings_same net spots line later s q h)
-    ∙ ap (λ g. incomings_at net spots later s q ++ incoming_of_groups net g ∷ []) (groups_same spots line later s q (length net.ports.items + 1) h)
+among_same : (stair later : ℕ → Option Stair) (numbers : List ℕ) → All (λ n. stair n ≡ later n) numbers → stairs_among stair numbers ≡ stairs_among later numbers
+unfolding stairs_among
+among_same stair later [] a = refl
+among_same stair later (n ∷ numbers) a =
+    let first : stair n ≡ later n = a 0 n (omega arith) in
+    let rest = among_same stair later numbers (λ k d h. a (suc k) d (omega (arith, h))) in
+    ap (λ o. stair_list o ++ stairs_among stair numbers) first ∙ ap (λ (ss : List Stair). stair_list (later n) ++ ss) rest
 
--- ---- lines that a port passes on
+module _ (net : Network) (spots : List Spot) (stair later : ℕ → Option Stair) (s : ℕ)
+    (h : (n : ℕ) → n < length spots → (spot_at spots n).port ≡ s → stair n ≡ later n) where
+  bunch_same : (q : ℕ) (g : Group) → bunch_of_group net spots stair s q g ≡ bunch_of_group net spots later s q g
+  bunch_same q g =
+      ap (λ (ss : List Stair). record { stairs = ss; pace = pace_line net g.longest g.source })
+      (among_same stair later (spots_in_group spots s q g.source)
+      (those_pass (λ n. stair n ≡ later n) (is_in_group spots s q g.source) (length spots)
+      (λ n lt e. h n lt (of_eq (spot_at spots n).port s
+      (of_both ((spot_at spots n).source == g.source) ((spot_at spots n).port == s) (of_both (is_between spots g.source s n) ((spot_at spots n).queue == q) e).0).1))))
+
+  bunches_same : (q : ℕ) (groups : List Group) → map (bunch_of_group net spots stair s q) groups ≡ map (bunch_of_group net spots later s q) groups
+  bunches_same q [] = refl
+  bunches_same q (g ∷ groups) = ap₂ (λ (w : Bunch) (ws : List Bunch). w ∷ ws) (bunch_same q g) (bunches_same q groups)
+
+  queue_same : (q : ℕ) → arriving_at net spots stair s q ≡ arriving_at net spots later s q
+  queue_same q =
+      let k = length net.ports.items + 1 in
+      let gs = groups_at spots (λ n. line_of (stair n)) s q k in
+      let A : List Bunch → Arriving = λ ws. record { bunches = option_map (λ parts. ws) (parts_in net gs); longest = longest_group gs } in
+      ap A (bunches_same q gs)
+      ∙ ap (arriving_of_groups net spots later s q) (groups_same spots (λ n. line_of (stair n)) (λ n. line_of (later n)) s q k (λ n lt at. ap line_of (h n lt at)))
+
+  pub arriving_same : (q : ℕ) → arriving_below net spots stair s q ≡ arriving_below net spots later s q
+  unfolding arriving_below
+  arriving_same zero = refl
+  arriving_same (suc q) = ap₂ (λ (xs : List Arriving) (x : Arriving). xs ++ x ∷ []) (arriving_same q) (queue_same q)
+
+-- ---- stairs that a port passes on
 -- those of spots to which frames come from elsewhere stay
-pub stays : (spots : List Spot) (p : ℕ) (found : List (Option Queue)) (old new : List (Option Line)) (n : ℕ) → (spot_at spots n).source ≢ p + 1
+pub stays : (spots : List Spot) (p : ℕ) (found : List (Option Queue)) (old new : List (Option Stair)) (n : ℕ) → (spot_at spots n).source ≢ p + 1
     → ArePassedOn spots (those (is_from spots (p + 1)) (length spots)) found (length (those (is_from spots (p + 1)) (length spots))) old new
-    → line_at new n ≡ line_at old n
+    → stair_in new n ≡ stair_in old n
 stays spots p found old new n other a =
     a.others n (λ i h same. other (ap (λ m. (spot_at spots m).source) (sym same)
     ∙ those_pass (λ m. (spot_at spots m).source ≡ p + 1) (is_from spots (p + 1)) (length spots) (λ m lt e. of_eq (spot_at spots m).source (p + 1) e) i 0 h))
 
-pub goes : (spots : List Spot) (p : ℕ) (found : List (Option Queue)) (old new : List (Option Line)) (n : ℕ) → n < length spots → (spot_at spots n).source ≡ p + 1
+pub goes : (spots : List Spot) (p : ℕ) (found : List (Option Queue)) (old new : List (Option Stair)) (n : ℕ) → n < length spots → (spot_at spots n).source ≡ p + 1
     → ArePassedOn spots (those (is_from spots (p + 1)) (length spots)) found (length (those (is_from spots (p + 1)) (length spots))) old new
-    → line_at new n ≡ later_line (line_at old (spot_at spots n).from) (get_or found (spot_at spots (spot_at spots n).from).queue None)
+    → stair_in new n ≡ later_stair (stair_in old (spot_at spots n).from) (get_or found (spot_at spots (spot_at spots n).from).queue None)
 goes spots p found old new n h e a =
     let c = those_has (is_from spots (p + 1)) (length spots) n h (eq_true (spot_at spots n).source (p + 1) e) in
     let at = get_or_default (those (is_from spots (p + 1)) (length spots)) c.0 0 n c.1 ∙ c.2 in
-    let P : ℕ → Type 0 = λ m. line_at new m ≡ later_line (line_at old (spot_at spots m).from) (get_or found (spot_at spots (spot_at spots m).from).queue None) in
+    let P : ℕ → Type 0 = λ m. stair_in new m ≡ later_stair (stair_in old (spot_at spots m).from) (get_or found (spot_at spots (spot_at spots m).from).queue None) in
     subst P at (a.passed c.0 c.1)
 
 -- where the frames of a spot come from
@@ -98,12 +130,12 @@ came net spots n a w h e =
     (c.0, c.1)
 
 -- ---- one port more
-pub can_pass : (net : Network) (order : List ℕ) (k p queues lines : ℕ) → AreSpots net (spots_of net) → IsOrderOf (spots_of net) (length net.ports.items) order
-    → k < length net.ports.items → p ≡ get_or order k 0 → queues ≡ queues_of (port_at net p).discipline → lines ≡ length (spots_of net)
-    → CanBePassedOn (spots_of net) (those (is_from (spots_of net) (p + 1)) (length (spots_of net))) queues lines
-can_pass net order k p queues lines w o h is eq el = record {
+pub can_pass : (net : Network) (order : List ℕ) (k p queues stairs : ℕ) → AreSpots net (spots_of net) → IsOrderOf (spots_of net) (length net.ports.items) order
+    → k < length net.ports.items → p ≡ get_or order k 0 → queues ≡ queues_of (port_at net p).discipline → stairs ≡ length (spots_of net)
+    → CanBePassedOn (spots_of net) (those (is_from (spots_of net) (p + 1)) (length (spots_of net))) queues stairs
+can_pass net order k p queues stairs w o h is eq el = record {
   inside = λ i lt. let e = (all i 0 lt).0 in omega (arith, e, el);
-  lines_each = el;
+  stairs_each = el;
   before = λ i lt. let e = all i 0 lt in let c = from i lt in omega (arith, e.0, c.0, el);
   queue = λ i lt.
       let c = from i lt in
@@ -141,25 +173,27 @@ can_pass net order k p queues lines w o h is eq el = record {
         let next : p + 1 ≡ suc p = omega arith in
         came net (spots_of net) (get_or (those (is_from (spots_of net) (p + 1)) (length (spots_of net))) i 0) p w e.0 (e.1 ∙ next)
 
-pub none_done : (net : Network) (order : List ℕ) (rows : List (List (Option Queue))) (lines : List (Option Line)) → length rows ≡ length net.ports.items
-    → BeginLines net (spots_of net) (length (spots_of net)) lines → AreDone net order 0 rows lines
-none_done net order rows lines count b = record {
+pub none_done : (net : Network) (order : List ℕ) (rows : List (List (Option Queue))) (stairs : List (Option Stair)) → length rows ≡ length net.ports.items
+    → BeginStairs net (spots_of net) (length (spots_of net)) stairs → AreAllStairs stairs → AreDone net order 0 rows stairs
+none_done net order rows stairs count b range = record {
   ports = count;
-  lines_each = b.count;
+  stairs_each = b.count;
+  in_range = range;
   begins = b.begins;
   goes_on = λ n i h lt. absurd (omega (arith, lt));
   rows_each = λ i lt. absurd (omega (arith, lt));
 }
 
-pub one_done : (net : Network) (order : List ℕ) (k p : ℕ) (rows : List (List (Option Queue))) (old new : List (Option Line)) (found : List (Option Queue))
+pub one_done : (net : Network) (order : List ℕ) (k p : ℕ) (rows : List (List (Option Queue))) (old new : List (Option Stair)) (found : List (Option Queue))
     → AreSpots net (spots_of net) → IsOrderOf (spots_of net) (length net.ports.items) order → k < length net.ports.items → p ≡ get_or order k 0
-    → AreRows (port_at net p) (arrivals_of net (λ n. line_at old n) p) found
+    → AreRowsOf (port_at net p) (comes_to net (λ n. stair_in old n) p) found
     → ArePassedOn (spots_of net) (those (is_from (spots_of net) (p + 1)) (length (spots_of net))) found
     (length (those (is_from (spots_of net) (p + 1)) (length (spots_of net)))) old new
     → AreDone net order k rows old → AreDone net order (k + 1) (set rows p found) new
 one_done net order k p rows old new found w o h is found_rows passed d = record {
   ports = length-set rows p found ∙ d.ports;
-  lines_each = passed.count ∙ d.lines_each;
+  stairs_each = passed.count ∙ d.stairs_each;
+  in_range = record { each = each };
   begins = λ n lt e. stays (spots_of net) p found old new n (λ f. omega (arith, e, f)) passed ∙ d.begins n lt e;
   goes_on = goes_on;
   rows_each = rows_each;
@@ -167,6 +201,21 @@ one_done net order k p rows old new found w o h is found_rows passed d = record 
   where
     inside : p < length rows
     inside = let lt = o.small k h in omega (arith, lt, is, d.ports)
+
+    -- what is passed on is in range where it was
+    each : (n : ℕ) (stair : Stair) → stair_in new n ≡ Some stair → IsStair stair
+    each n stair e = elim (cases_eq (spot_at (spots_of net) n).source (p + 1)) [
+      | inl from ↦ elim (cases_lt n (length (spots_of net))) [
+        | inl lt ↦
+            let m = (spot_at (spots_of net) n).from in
+            later_range (stair_in old m) (get_or found (spot_at (spots_of net) m).queue None) stair (λ t f. d.in_range.each m t f)
+            (sym (goes (spots_of net) p found old new n lt from passed) ∙ e)
+        | inr past ↦
+            let none = ap (λ (x : Spot). x.source) (get_or_past (spots_of net) n no_spot past) in
+            absurd (omega (arith, none, from))
+      ]
+      | inr other ↦ d.in_range.each n stair (sym (stays (spots_of net) p found old new n other passed) ∙ e)
+    ]
 
     -- the port stands at its place alone
     its_place : (i : ℕ) → i < k → get_or order i 0 ≢ p
@@ -180,11 +229,12 @@ one_done net order k p rows old new found w o h is found_rows passed d = record 
         o.forward k i h hi record { spot = n; inside = lt; from = from ∙ next; to = at }
 
     -- what comes to the ports that are done, and to this one, stays
-    same_at : (i : ℕ) → i < k + 1 → arrivals_of net (λ n. line_at old n) (get_or order i 0) ≡ arrivals_of net (λ n. line_at new n) (get_or order i 0)
+    same_at : (i : ℕ) → i < k + 1 → comes_to net (λ n. stair_in old n) (get_or order i 0) ≡ comes_to net (λ n. stair_in new n) (get_or order i 0)
     same_at i lt =
-        incomings_same net (spots_of net) (λ n. line_at old n) (λ n. line_at new n) (get_or order i 0) (queues_of (port_at net (get_or order i 0)).discipline)
+        arriving_same net (spots_of net) (λ n. stair_in old n) (λ n. stair_in new n) (get_or order i 0)
         (λ n ln at. sym (stays (spots_of net) p found old new n
         (λ from. let later = is_later n i ln (omega (arith, lt, h)) at from in omega (arith, later, lt)) passed))
+        (queues_of (port_at net (get_or order i 0)).discipline)
 
     -- and so do the rows
     same_rows : (i : ℕ) → i < k → get_or (set rows p found) (get_or order i 0) [] ≡ get_or rows (get_or order i 0) []
@@ -194,7 +244,7 @@ one_done net order k p rows old new found w o h is found_rows passed d = record 
     its_rows = get_or-set_same rows p found [] inside
 
     goes_on : (n i : ℕ) → n < length (spots_of net) → i < k + 1 → (spot_at (spots_of net) n).source ≡ suc (get_or order i 0)
-        → line_at new n ≡ later_line (line_at new (spot_at (spots_of net) n).from)
+        → stair_in new n ≡ later_stair (stair_in new (spot_at (spots_of net) n).from)
         (row_at (set rows p found) (get_or order i 0) (spot_at (spots_of net) (spot_at (spots_of net) n).from).queue)
     goes_on n i lt li e =
         let c = came net (spots_of net) n (get_or order i 0) w lt e in
@@ -207,56 +257,56 @@ one_done net order k p rows old new found w o h is found_rows passed d = record 
               let here : get_or order i 0 ≡ p = ap (λ j. get_or order j 0) last ∙ sym is in
               let from : (spot_at (spots_of net) n).source ≡ p + 1 = omega (arith, e, here) in
               goes (spots_of net) p found old new n lt from passed
-              ∙ ap (λ l. later_line l (get_or found q None)) (sym before)
-              ∙ ap (λ r. later_line (line_at new m) (get_or r q None)) (sym (ap (λ s. get_or (set rows p found) s []) here ∙ its_rows))
+              ∙ ap (λ l. later_stair l (get_or found q None)) (sym before)
+              ∙ ap (λ r. later_stair (stair_in new m) (get_or r q None)) (sym (ap (λ s. get_or (set rows p found) s []) here ∙ its_rows))
           | inr other ↦
               let early : i < k = omega (arith, li, other) in
               stays (spots_of net) p found old new n (λ from. its_place i early (omega (arith, e, from))) passed
               ∙ d.goes_on n i lt early e
-              ∙ ap (λ l. later_line l (row_at rows (get_or order i 0) q)) (sym before)
-              ∙ ap (λ r. later_line (line_at new m) (get_or r q None)) (sym (same_rows i early))
+              ∙ ap (λ l. later_stair l (row_at rows (get_or order i 0) q)) (sym before)
+              ∙ ap (λ r. later_stair (stair_in new m) (get_or r q None)) (sym (same_rows i early))
         ]
 
-    rows_each : (i : ℕ) → i < k + 1 → AreRows (port_at net (get_or order i 0)) (arrivals_of net (λ n. line_at new n) (get_or order i 0)) (get_or (set rows p found) (get_or order i 0) [])
+    rows_each : (i : ℕ) → i < k + 1 → AreRowsOf (port_at net (get_or order i 0)) (comes_to net (λ n. stair_in new n) (get_or order i 0)) (get_or (set rows p found) (get_or order i 0) [])
     rows_each i li =
-        let A : List Incoming → Type 0 = λ xs. AreRows (port_at net (get_or order i 0)) xs (get_or (set rows p found) (get_or order i 0) []) in
+        let A : List Arriving → Type 0 = λ xs. AreRowsOf (port_at net (get_or order i 0)) xs (get_or (set rows p found) (get_or order i 0) []) in
         subst A (same_at i li) (
         elim (cases_eq i k) [
           | inl last ↦
               let here : get_or order i 0 ≡ p = ap (λ j. get_or order j 0) last ∙ sym is in
-              let R : List (Option Queue) → Type 0 = λ r. AreRows (port_at net p) (arrivals_of net (λ n. line_at old n) p) r in
-              let S : ℕ → Type 0 = λ s. AreRows (port_at net s) (arrivals_of net (λ n. line_at old n) s) (get_or (set rows p found) s []) in
+              let R : List (Option Queue) → Type 0 = λ r. AreRowsOf (port_at net p) (comes_to net (λ n. stair_in old n) p) r in
+              let S : ℕ → Type 0 = λ s. AreRowsOf (port_at net s) (comes_to net (λ n. stair_in old n) s) (get_or (set rows p found) s []) in
               subst S (sym here) (subst R (sym its_rows) found_rows)
           | inr other ↦
               let early : i < k = omega (arith, li, other) in
-              let R : List (Option Queue) → Type 0 = λ r. AreRows (port_at net (get_or order i 0)) (arrivals_of net (λ n. line_at old n) (get_or order i 0)) r in
+              let R : List (Option Queue) → Type 0 = λ r. AreRowsOf (port_at net (get_or order i 0)) (comes_to net (λ n. stair_in old n) (get_or order i 0)) r in
               subst R (sym (same_rows i early)) (d.rows_each i early)
         ])
 
 -- ---- all ports
-pub all_done : (net : Network) (order : List ℕ) (rows : List (List (Option Queue))) (lines : List (Option Line)) → AreSpots net (spots_of net)
-    → IsOrderOf (spots_of net) (length net.ports.items) order → AreDone net order (length net.ports.items) rows lines → AreSolved net rows
-all_done net order rows lines w o d = record {
-  line = λ n. line_at lines n;
+pub all_done : (net : Network) (order : List ℕ) (rows : List (List (Option Queue))) (stairs : List (Option Stair)) → AreSpots net (spots_of net)
+    → IsOrderOf (spots_of net) (length net.ports.items) order → AreDone net order (length net.ports.items) rows stairs → AreSolved net rows
+all_done net order rows stairs w o d = record {
+  stair = λ n. stair_in stairs n;
   equations = record {
     begins = d.begins;
     goes_on = λ n a lt e.
         let small = (w.each n lt).source in
         let st = o.every a (omega (arith, small, e)) in
         let inside : st.0 < length net.ports.items = let i = st.1.inside in omega (arith, i, o.count) in
-        let P : ℕ → Type 0 = λ s. line_at lines n ≡ later_line (line_at lines (spot_at (spots_of net) n).from) (row_at rows s (spot_at (spots_of net) (spot_at (spots_of net) n).from).queue) in
+        let P : ℕ → Type 0 = λ s. stair_in stairs n ≡ later_stair (stair_in stairs (spot_at (spots_of net) n).from) (row_at rows s (spot_at (spots_of net) (spot_at (spots_of net) n).from).queue) in
         subst P st.1.is (d.goes_on n st.0 lt inside (e ∙ ap (λ s. suc s) (sym st.1.is)));
-    rows = λ s q hs hq. (at s hs).each q (let count = incomings_length net (spots_of net) (λ n. line_at lines n) s (queues_of (port_at net s).discipline) in omega (arith, count, hq));
+    rows = λ s q hs hq. (at s hs).each q (let count = arriving_length net (spots_of net) (λ n. stair_in stairs n) s (queues_of (port_at net s).discipline) in omega (arith, count, hq));
   };
   each = record {
     ports = d.ports;
-    queues = λ s hs. (at s hs).count ∙ incomings_length net (spots_of net) (λ n. line_at lines n) s (queues_of (port_at net s).discipline);
+    queues = λ s hs. (at s hs).count ∙ arriving_length net (spots_of net) (λ n. stair_in stairs n) s (queues_of (port_at net s).discipline);
   };
 }
   where
-    at : (s : ℕ) → s < length net.ports.items → AreRows (port_at net s) (arrivals_of net (λ n. line_at lines n) s) (get_or rows s [])
+    at : (s : ℕ) → s < length net.ports.items → AreRowsOf (port_at net s) (comes_to net (λ n. stair_in stairs n) s) (get_or rows s [])
     at s hs =
         let st = o.every s hs in
         let inside : st.0 < length net.ports.items = let i = st.1.inside in omega (arith, i, o.count) in
-        let P : ℕ → Type 0 = λ m. AreRows (port_at net m) (arrivals_of net (λ n. line_at lines n) m) (get_or rows m []) in
+        let P : ℕ → Type 0 = λ m. AreRowsOf (port_at net m) (comes_to net (λ n. stair_in stairs n) m) (get_or rows m []) in
         subst P st.1.is (d.rows_each st.0 inside)

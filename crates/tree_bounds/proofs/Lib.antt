@@ -1,7 +1,11 @@
 pub mod Grouped
 pub mod Bounded
 pub mod Onwards
+pub mod LineLimits
 pub mod PartsMade
 pub mod Fewer
 pub mod Ranged
+pub mod Bunched
+pub mod InLimits
+pub mod Coming
 pub mod Done

@@ -61,7 +61,7 @@ longest_in_range net (g ∷ groups) a =
     omega (arith, first, rest)
 
 -- ---- bursts and rates
-below_of_test : (a b : ℕ) → nat_lt a b ≡ true → a < b
+pub below_of_test : (a b : ℕ) → nat_lt a b ≡ true → a < b
 below_of_test a b e = grind (arith, nat_tests)
 
 pub sums_small : (net : Network) (groups : List Group) → (sum_of sum_burst (parts_in net groups) < 2 ^ 58) × (sum_of sum_rate (parts_in net groups) < 2 ^ 50)
@@ -81,11 +81,11 @@ sums_small net groups =
     by_tests false a b ek ea eb = rw ek (omega arith, omega arith)
 
 -- ---- and paces
-abbrev pace_burst : Option Line → ℕ
+abbrev pub pace_burst : Option Line → ℕ
 pace_burst None = 0
 pace_burst (Some pace) = pace.burst
 
-abbrev pace_rate : Option Line → ℕ
+abbrev pub pace_rate : Option Line → ℕ
 pace_rate None = 0
 pace_rate (Some pace) = pace.rate
 
@@ -97,7 +97,7 @@ rate_le : (sum : Line) (pace : Option Line) → rate_with sum pace ≤ sum.rate 
 rate_le sum None = omega arith
 rate_le sum (Some pace) = omega arith
 
-pace_small : (net : Network) → IsNetwork net → (longest source : ℕ) → longest ≤ longest_frame → source ≤ length net.ports.items
+pub pace_small : (net : Network) → IsNetwork net → (longest source : ℕ) → longest ≤ longest_frame → source ≤ length net.ports.items
     → (pace_burst (pace_line net longest source) ≤ longest_frame * 1024) × (pace_rate (pace_line net longest source) ≤ fastest)
 pace_small net w longest zero h lt = (omega arith, omega arith)
 pace_small net w longest (suc p) h lt = (omega (arith, h), (w.ports p no_port lt).pace)

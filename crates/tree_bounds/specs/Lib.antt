@@ -1,7 +1,10 @@
+pub mod Stairs
 pub mod Lines
 pub mod Groups
 pub mod Grouping
 pub mod Parts
+pub mod Bunches
+pub mod Coming
 pub mod Onward
 pub mod Solved
 pub mod Equations

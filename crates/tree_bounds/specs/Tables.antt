@@ -1,7 +1,7 @@
 -- A table as the call answers it: rows by port and queue, bounds by link and node.
 use Rattle.std.specs.Prelude.{Option, Some, None, ◌≡◌, ◌+◌, ◌<◌, ℕ, List, [], length, map, get_or, slice_get}
 use Rattle.std.specs.declared.vec.Vec.{Vec}
-use Rattle.arrival_lines.specs.declared.grid.Line.{Line}
+use Rattle.arrival_stairs.specs.declared.stairs.Stair.{Stair}
 use Rattle.arrival_lines.specs.declared.grid.Queue.{Queue}
 use Rattle.tree_network.specs.Networks.{port_at, queues_of, node_at}
 use Rattle.tree_network.specs.declared.network.Link.{Link}
@@ -50,8 +50,8 @@ pub record IsTableOf (net : Network) (table : Table) : Type 0 where
   -- an order in which no link goes back
   pub order : List ℕ
   pub goes_forward : IsNetworkOrder net order
-  pub line : ℕ → Option Line
-  pub equations : MeetsEquations net (row_in table) line
+  pub stair : ℕ → Option Stair
+  pub equations : MeetsEquations net (row_in table) stair
   pub ports : length table.rows.items ≡ length net.ports.items
   pub queues : (s : ℕ) → s < length net.ports.items → length (get_or (items_of table.rows.items) s []) ≡ queues_of (port_at net s).discipline
   pub links : length table.bounds.items ≡ length net.links.items

@@ -4,17 +4,18 @@ ghost use Rattle.std.specs.Prelude.{◌≡◌, ◌<◌, ◌+◌, length, IfOk, I
 ghost use Rattle.tree_network.specs.Networks.{IsNetwork, port_at};
 ghost use Rattle.tree_order.specs.Lists.{lists_of, those, is_from, AreBySource};
 ghost use Rattle.tree_order.specs.Plans.{IsPlanOf, IsFault};
-ghost use Rattle.port_bounds.specs.Rows.{AreRows};
-ghost use Rattle.tree_bounds.specs.Equations.{arrivals_of};
-ghost use Rattle.tree_bounds.specs.Onward.{line_at, ArePassedOn, CanBePassedOn};
-ghost use Rattle.tree_bounds.specs.Solved.{AreSolved};
+ghost use Rattle.tree_bounds.specs.Bunches.{AreRowsOf};
+ghost use Rattle.tree_bounds.specs.Equations.{comes_to};
+ghost use Rattle.tree_bounds.specs.Onward.{stair_in, ArePassedOn, CanBePassedOn};
+ghost use Rattle.tree_bounds.specs.Solved.{AreAllStairs, AreSolved};
 ghost use Rattle.tree_bounds.specs.Tables.{IsTableOf, items_of};
 
+use crate::arriving::all_arrivals;
 use crate::bounds::all_bounds;
-use crate::incoming::arrivals_at;
-use crate::onward::{first_lines, pass_on};
-use arrival_lines::{Line, Queue};
-use port_bounds::port_rows;
+use crate::onward::{first_stairs, pass_on};
+use arrival_lines::Queue;
+use arrival_stairs::Stair;
+use stair_ports::stair_rows;
 use std::alloc::{AllocError, Global};
 use tree_network::Network;
 use tree_order::{Fault, Plan, plan_of};
@@ -40,36 +41,37 @@ fn empty_rows(alloc: Global, count: usize) -> Result<Vec<Vec<Option<Queue>>>, Al
     Ok(rows)
 }
 
-/// What is promised of each queue of a port, where these lines come to its spots.
+/// What is promised of each queue of a port, where these stairs come to its spots.
 fn rows_at(
     alloc: Global,
     network: &Network,
     plan: &Plan,
-    lines: &[Option<Line>],
+    stairs: &[Option<Stair>],
     port: usize,
 ) -> Result<Vec<Option<Queue>>, AllocError>
     requires network { IsNetwork network.now }
     requires plan { IsPlanOf network.now plan.now }
-    requires lines { length lines.now ≡ length plan.now.spots.items }
+    requires stairs { length stairs.now ≡ length plan.now.spots.items }
+    requires range { AreAllStairs stairs.now }
     requires port { port < length network.now.ports.items }
-    ensures { IfOk result (λ v. AreRows (port_at network.now port) (arrivals_of network.now (λ n. line_at lines.now n) port) v.items) }
+    ensures { IfOk result (λ v. AreRowsOf (port_at network.now port) (comes_to network.now (λ n. stair_in stairs.now n) port) v.items) }
 {
     let at = &network.ports[port];
     let count = at.discipline.queue_count();
-    let queues = arrivals_at(alloc, network, plan, lines, port, count)?;
-    port_rows(alloc, at, &queues)
+    let queues = all_arrivals(alloc, network, plan, stairs, port, count)?;
+    stair_rows(alloc, at, &queues.stairs, &queues.lines)
 }
 
-/// Notes the lines with which links come from a port with these rows to the next ones.
-fn hand_on(plan: &Plan, port: usize, rows: &[Option<Queue>], lines: &mut Vec<Option<Line>>)
+/// Notes the stairs with which links come from a port with these rows to the next ones.
+fn hand_on(plan: &Plan, port: usize, rows: &[Option<Queue>], stairs: &mut Vec<Option<Stair>>)
     requires inside { port + 1 < length plan.now.sources.items }
     requires sources { AreBySource plan.now.spots.items (length plan.now.sources.items) (lists_of plan.now.sources.items) }
     requires can { let spots = plan.now.spots.items in
-        CanBePassedOn spots (those (is_from spots (port + 1)) (length spots)) (length rows.now) (length lines.old.items) }
+        CanBePassedOn spots (those (is_from spots (port + 1)) (length spots)) (length rows.now) (length stairs.old.items) }
     ensures { let spots = plan.now.spots.items in let numbers = those (is_from spots (port + 1)) (length spots) in
-        ArePassedOn spots numbers rows.now (length numbers) lines.old.items lines.new.items }
+        ArePassedOn spots numbers rows.now (length numbers) stairs.old.items stairs.new.items }
 {
-    pass_on(&plan.spots, &plan.sources[port + 1], rows, lines);
+    pass_on(&plan.spots, &plan.sources[port + 1], rows, stairs);
 }
 
 /// The rows of each port, by the plan.
@@ -82,20 +84,21 @@ fn rows_in_order(
     requires plan { IsPlanOf network.now plan.now }
     ensures { IfOk result (λ v. AreSolved network.now (items_of v.items)) }
 {
-    let mut lines = first_lines(alloc, network, &plan.spots)?;
+    let mut stairs = first_stairs(alloc, network, &plan.spots)?;
     let mut rows = empty_rows(alloc, network.ports.len())?;
     for port in &plan.order {
-        let known = lines.as_slice();
+        let known = stairs.as_slice();
         let found = rows_at(alloc, network, plan, known, *port)?;
         let these = found.as_slice();
-        hand_on(plan, *port, these, &mut lines);
+        hand_on(plan, *port, these, &mut stairs);
         rows[*port] = found;
     }
     Ok(rows)
 }
 
 /// The table of a network: each queue's delay and backlog, and each branch's bound, by the equations. A ring of ports where it has one.
-/// In proportion to the nodes of all links, to those at each port times its queues, and to sorting the parts of each queue.
+/// In proportion to the nodes of all links, to those at each port times its queues, to those behind each port times the queues to which it
+/// sends, to sorting the parts of each queue, and to its jumps, 4,096 at most, times its parts.
 pub fn bounds_of(alloc: Global, network: &Network) -> Result<Table, Fault>
     requires { IsNetwork network.now }
     ensures table { IfOk result (IsTableOf network.now) }

@@ -3,9 +3,13 @@
 ghost use Rattle.std.specs.Prelude.{◌≡◌, ◌<◌, ◌+◌, ◌^◌, ◌++◌, ◌∷◌, [], All, length, max, IfOk, OnOk};
 ghost use Rattle.tree_bounds.specs.Groups.{longest_group};
 ghost use Rattle.tree_bounds.specs.Grouping.{both_groups, group_of_spot, grouped, last_with, with_group};
-ghost use Rattle.tree_bounds.specs.Onward.{line_at};
+ghost use Rattle.tree_bounds.specs.Lines.{line_of};
+ghost use Rattle.tree_bounds.specs.Onward.{stair_in};
+ghost use Rattle.tree_bounds.specs.Solved.{AreAllStairs};
 
+use crate::onward::line_by;
 use arrival_lines::Line;
+use arrival_stairs::Stair;
 use std::alloc::{AllocError, Global};
 use tree_order::Spot;
 
@@ -114,18 +118,20 @@ pub(crate) fn groups_of(
     alloc: Global,
     spots: &[Spot],
     numbers: &[usize],
-    lines: &[Option<Line>],
+    stairs: &[Option<Stair>],
     q: usize,
 ) -> Result<Vec<Group>, AllocError>
     requires inside { All (λ n. n < length spots.now) numbers.now }
-    requires lines { length lines.now ≡ length spots.now }
-    ensures { IfOk result (λ v. v.items ≡ grouped spots.now (λ n. line_at lines.now n) q numbers.now) }
+    requires stairs { length stairs.now ≡ length spots.now }
+    requires range { AreAllStairs stairs.now }
+    ensures { IfOk result (λ v. v.items ≡ grouped spots.now (λ n. line_of (stair_in stairs.now n)) q numbers.now) }
 {
     let mut groups = Vec::new(alloc);
     for n in numbers {
         let spot = spots[*n];
         if spot.queue == q {
-            add_group(&mut groups, group_of_one(spot, lines[*n]))?;
+            let line = line_by(stairs, *n);
+            add_group(&mut groups, group_of_one(spot, line))?;
         }
     }
     Ok(groups)

@@ -1,23 +1,19 @@
-//! What arrives at the queues of a port.
+//! What arrives at a queue by lines: its parts.
 
 ghost use Rattle.std.specs.Prelude.{◌≡◌, ◌<◌, ◌≤◌, ◌+◌, ◌^◌, None, true, All, length, map, IfOk, MatchOption};
 ghost use Rattle.std.specs.List.{list_all};
 ghost use Rattle.std.specs.Option.{option_map};
 ghost use Rattle.tree_network.specs.Networks.{IsNetwork, longest_frame};
-ghost use Rattle.tree_order.specs.Plans.{IsPlanOf};
-ghost use Rattle.tree_order.specs.Spots.{spots_of};
-ghost use Rattle.port_bounds.specs.Incoming.{incoming, incoming_of};
-ghost use Rattle.tree_bounds.specs.Groups.{are_bounded, incoming_at, incomings_at, pace_line, part_of, parts_in};
-ghost use Rattle.tree_bounds.specs.Onward.{line_at};
+ghost use Rattle.port_bounds.specs.Incoming.{incoming_of};
+ghost use Rattle.tree_bounds.specs.Groups.{are_bounded, incoming_of_groups, pace_line, part_of, parts_in};
 ghost use Rattle.tree_bounds.specs.Parts.{IsNoPart, IsOfNetwork, IsPartOf};
 
-use crate::groups::{Group, groups_of, longest_in};
+use crate::groups::{Group, longest_in};
 use crate::onward::GRAINS;
 use arrival_lines::{Line, Part};
 use port_bounds::Arrivals;
 use std::alloc::{AllocError, Global};
 use tree_network::Network;
-use tree_order::Plan;
 
 /// Where the links of a queue bring so many grains at once, nothing is promised of it.
 const MOST_BURST: u128 = 1 << 58;
@@ -26,7 +22,7 @@ const MOST_BURST: u128 = 1 << 58;
 const MOST_RATE: u128 = 1 << 50;
 
 /// The line of the pace of the port from which frames of this source come; none where they begin.
-fn pace_of(network: &Network, longest: u64, source: usize) -> Option<Line>
+pub(crate) fn pace_of(network: &Network, longest: u64, source: usize) -> Option<Line>
     requires source { source ≤ length network.now.ports.items }
     requires longest { longest ≤ longest_frame }
     ensures { result ≡ pace_line network.now longest source }
@@ -117,47 +113,18 @@ fn parts_of(
     }
 }
 
-/// What arrives at queue q of a port.
-fn arrivals(
+/// What arrives at a queue by lines, whose links come in these groups.
+pub(crate) fn arrivals(
     alloc: Global,
     network: &Network,
-    plan: &Plan,
-    lines: &[Option<Line>],
-    port: usize,
-    q: usize,
+    groups: &[Group],
 ) -> Result<Arrivals, AllocError>
-    requires network { IsNetwork network.now }
-    requires plan { IsPlanOf network.now plan.now }
-    requires lines { length lines.now ≡ length plan.now.spots.items }
-    requires port { port < length network.now.ports.items }
-    ensures { IfOk result (λ a. incoming_of a ≡ incoming_at network.now (spots_of network.now) (λ n. line_at lines.now n) port q) }
+    requires { All (IsOfNetwork network.now) groups.now }
+    ensures { IfOk result (λ a. incoming_of a ≡ incoming_of_groups network.now groups.now) }
 {
-    let groups = groups_of(alloc, &plan.spots, &plan.at[port], lines, q)?;
-    let parts = parts_of(alloc, network, &groups)?;
+    let parts = parts_of(alloc, network, groups)?;
     Ok(Arrivals {
         parts,
-        longest: longest_in(&groups),
+        longest: longest_in(groups),
     })
-}
-
-/// What arrives at each of so many queues of a port.
-pub(crate) fn arrivals_at(
-    alloc: Global,
-    network: &Network,
-    plan: &Plan,
-    lines: &[Option<Line>],
-    port: usize,
-    count: usize,
-) -> Result<Vec<Arrivals>, AllocError>
-    requires network { IsNetwork network.now }
-    requires plan { IsPlanOf network.now plan.now }
-    requires lines { length lines.now ≡ length plan.now.spots.items }
-    requires port { port < length network.now.ports.items }
-    ensures { IfOk result (λ v. incoming v.items ≡ incomings_at network.now (spots_of network.now) (λ n. line_at lines.now n) port count) }
-{
-    let mut queues = Vec::with_capacity(alloc, count)?;
-    for q in 0..count {
-        queues.push(arrivals(alloc, network, plan, lines, port, q)?)?;
-    }
-    Ok(queues)
 }

@@ -2,6 +2,7 @@
 #![tactic(auto)]
 
 mod analysis;
+mod arriving;
 mod bounds;
 mod groups;
 mod incoming;

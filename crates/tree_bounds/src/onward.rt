@@ -1,13 +1,16 @@
-//! The lines of links: where they begin, and behind a queue.
+//! The stairs of links: where they begin, and behind a queue.
 
-ghost use Rattle.std.specs.Prelude.{◌≡◌, ◌≤◌, ◌<◌, ◌+◌, ◌*◌, ◌^◌, length, slice_get, IfOk};
-ghost use Rattle.std.specs.Int.{div_ceil};
+ghost use Rattle.std.specs.Prelude.{◌≡◌, ◌≤◌, ◌<◌, ◌+◌, Some, length, slice_get, IfOk, IfSome};
+ghost use Rattle.arrival_stairs.specs.Stairs.{IsStair};
 ghost use Rattle.tree_network.specs.Networks.{IsNetwork, longest_frame};
 ghost use Rattle.tree_order.specs.Spots.{AreSpots};
-ghost use Rattle.tree_bounds.specs.Lines.{first_line, first_line_of, later_line, line_within};
-ghost use Rattle.tree_bounds.specs.Onward.{BeginLines, ArePassedOn, CanBePassedOn};
+ghost use Rattle.tree_bounds.specs.Stairs.{first_stair, first_stair_of, later_stair, stair_within};
+ghost use Rattle.tree_bounds.specs.Lines.{line_of, line_within};
+ghost use Rattle.tree_bounds.specs.Onward.{BeginStairs, ArePassedOn, CanBePassedOn, stair_in};
+ghost use Rattle.tree_bounds.specs.Solved.{AreAllStairs};
 
-use arrival_lines::{Line, Queue, link_line, onward};
+use arrival_lines::{Line, Queue, link_line};
+use arrival_stairs::Stair;
 use std::alloc::{AllocError, Global};
 use tree_network::{Link, Network};
 use tree_order::Spot;
@@ -15,11 +18,64 @@ use tree_order::Spot;
 /// The grains of a bit.
 pub(crate) const GRAINS: u64 = 1024;
 
-/// No link may have so many grains at once.
+/// No line may have so many grains at once.
 const MOST_BURST: u64 = 1 << 58;
 
+/// No stair may be early by so many picoseconds.
+const MOST_JITTER: u64 = 1 << 62;
+
+/// The stair, where its jitter is within its limit.
+fn short(stair: Stair) -> Option<Stair>
+    ensures { result ≡ stair_within stair.frame stair.gap stair.jitter }
+{
+    if stair.jitter < MOST_JITTER {
+        Some(stair)
+    } else {
+        None
+    }
+}
+
+/// The stair of a link where it begins; none where it passes its limit.
+fn stair_of(link: &Link) -> Option<Stair>
+    requires { link.now.frame ≤ longest_frame }
+    ensures { result ≡ first_stair link.now }
+{
+    short(Stair {
+        frame: link.frame * GRAINS,
+        gap: link.gap,
+        jitter: link.jitter,
+    })
+}
+
+/// The stair with which a link goes on behind a delay; none where it passes its limit.
+fn stair_behind(stair: Stair, delay: u64) -> Option<Stair>
+    ensures { result ≡ stair_within stair.frame stair.gap (stair.jitter + delay) }
+{
+    match stair.jitter.checked_add(delay) {
+        None => None,
+        Some(jitter) => short(Stair {
+            frame: stair.frame,
+            gap: stair.gap,
+            jitter,
+        }),
+    }
+}
+
+/// The stair with which a link goes on, where it has one and its queue a delay.
+fn stair_after(stair: Option<Stair>, row: Option<Queue>) -> Option<Stair>
+    ensures { result ≡ later_stair stair row }
+{
+    match stair {
+        None => None,
+        Some(stair) => match row {
+            None => None,
+            Some(queue) => stair_behind(stair, queue.delay),
+        },
+    }
+}
+
 /// The line, where its burst is within its limit.
-fn short(line: Line) -> Option<Line>
+fn low(line: Line) -> Option<Line>
     ensures { result ≡ line_within line.burst line.rate }
 {
     if line.burst < MOST_BURST {
@@ -29,83 +85,73 @@ fn short(line: Line) -> Option<Line>
     }
 }
 
-/// The line of a link where it begins; none where it passes its limits.
-fn line_of(link: &Link) -> Option<Line>
-    requires some { 1 ≤ link.now.gap }
-    requires frame { link.now.frame ≤ longest_frame }
-    ensures { result ≡ first_line link.now }
+/// The line of a stair; none where it passes its limits.
+fn line_above(stair: Stair) -> Option<Line>
+    requires { 0 < stair.gap }
+    ensures { result ≡ line_of (Some stair) }
 {
-    match link_line(link.frame * GRAINS, link.gap, link.jitter) {
+    match link_line(stair.frame, stair.gap, stair.jitter) {
         None => None,
-        Some(line) => short(line),
+        Some(line) => low(line),
     }
 }
 
-/// The line with which a link goes on behind a delay; none where it passes its limits.
-fn line_behind(line: Line, delay: u64) -> Option<Line>
-    ensures { result ≡ line_within (line.burst + div_ceil (line.rate * delay) (10 ^ 12)) line.rate }
+/// The line of a stair, where there is one within its limits.
+pub(crate) fn line_by(stairs: &[Option<Stair>], n: usize) -> Option<Line>
+    requires stairs { AreAllStairs stairs.now }
+    requires inside { n < length stairs.now }
+    ensures { result ≡ line_of (stair_in stairs.now n) }
 {
-    match onward(line, delay) {
+    match stairs[n] {
         None => None,
-        Some(later) => short(later),
+        Some(stair) => line_above(stair),
     }
 }
 
-/// The line with which a link goes on, where it has one and its queue a delay.
-fn line_after(line: Option<Line>, row: Option<Queue>) -> Option<Line>
-    ensures { result ≡ later_line line row }
-{
-    match line {
-        None => None,
-        Some(line) => match row {
-            None => None,
-            Some(queue) => line_behind(line, queue.delay),
-        },
-    }
-}
-
-/// The line of the spot's link, where it begins there.
-fn first_line_at(network: &Network, spot: Spot) -> Option<Line>
+/// The stair of the spot's link, where it begins there.
+fn first_stair_at(network: &Network, spot: Spot) -> Option<Stair>
     requires network { IsNetwork network.now }
     requires link { spot.link < length network.now.links.items }
-    ensures { spot.source ≡ 0 → result ≡ first_line_of (slice_get network.now.links.items spot.link) }
+    ensures own { spot.source ≡ 0 → result ≡ first_stair_of (slice_get network.now.links.items spot.link) }
+    ensures range { IfSome result (λ stair. IsStair stair) }
 {
     if spot.source == 0 {
-        line_of(&network.links[spot.link])
+        stair_of(&network.links[spot.link])
     } else {
         None
     }
 }
 
-/// A line for each spot: that of its link where it begins, and none for the others.
-pub(crate) fn first_lines(
+/// A stair for each spot: that of its link where it begins, and none for the others.
+pub(crate) fn first_stairs(
     alloc: Global,
     network: &Network,
     spots: &[Spot],
-) -> Result<Vec<Option<Line>>, AllocError>
+) -> Result<Vec<Option<Stair>>, AllocError>
     requires network { IsNetwork network.now }
     requires spots { AreSpots network.now spots.now }
-    ensures { IfOk result (λ v. BeginLines network.now spots.now (length spots.now) v.items) }
+    ensures begin { IfOk result (λ v. BeginStairs network.now spots.now (length spots.now) v.items) }
+    ensures range { IfOk result (λ v. AreAllStairs v.items) }
 {
-    let mut lines = Vec::with_capacity(alloc, spots.len())?;
+    let mut stairs = Vec::with_capacity(alloc, spots.len())?;
     for spot in spots {
-        lines.push(first_line_at(network, *spot))?;
+        stairs.push(first_stair_at(network, *spot))?;
     }
-    Ok(lines)
+    Ok(stairs)
 }
 
-/// Notes the lines with which links come from a port with these rows to these spots.
+/// Notes the stairs with which links come from a port with these rows to these spots.
 pub(crate) fn pass_on(
     spots: &[Spot],
     numbers: &[usize],
     rows: &[Option<Queue>],
-    lines: &mut Vec<Option<Line>>,
+    stairs: &mut Vec<Option<Stair>>,
 )
-    requires { CanBePassedOn spots.now numbers.now (length rows.now) (length lines.old.items) }
-    ensures { ArePassedOn spots.now numbers.now rows.now (length numbers.now) lines.old.items lines.new.items }
+    requires { CanBePassedOn spots.now numbers.now (length rows.now) (length stairs.old.items) }
+    ensures { ArePassedOn spots.now numbers.now rows.now (length numbers.now) stairs.old.items stairs.new.items }
 {
     for n in numbers {
         let from = spots[*n].from;
-        lines[*n] = line_after(lines[from], rows[spots[from].queue]);
+        stairs[*n] = stair_after(stairs[from], rows[spots[from].queue]);
     }
 }

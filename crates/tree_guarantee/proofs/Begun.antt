@@ -1,7 +1,6 @@
--- Links enter by their first lines, and what comes from a port comes at its pace.
+-- Links enter by their first stairs, and what comes from a port comes at its pace.
 use Rattle.std.proofs.Common.{◌≡◌, ◌≢◌, ℕ, zero, suc, ◌<◌, ◌≤◌, ◌+◌, ◌*◌, ◌^◌, ◌==◌, ◌&&◌, ◌⊎◌, Bool, true, false, Option, Some, None, List, [], ◌∷◌, length, get_or, map, if◌then◌else◌, refl, sym, ◌∙◌, ap, subst, arith, inl, inr}
 use Rattle.std.specs.Prelude.{slice_get, nat_lt}
-use Rattle.std.specs.Int.{div_ceil}
 use Rattle.std.proofs.lemmas.Bool.{cases_lt}
 use Rattle.std.proofs.lemmas.List.{get_or-map, length-map}
 use Rattle.std.proofs.lemmas.Option.{get_or_from_slice_get, slice_get_cases}
@@ -9,8 +8,8 @@ use Rattle.min_plus.specs.rational.specs.Rational.{ℚ, ◌-ℚ◌, ◌≤ℚ◌
 use Rattle.min_plus.specs.rational.specs.Extended.{◌≤ₑ◌}
 use Rattle.min_plus.specs.rational.specs.declared.Extended.TheVariants.{Fin}
 use Rattle.min_plus.specs.rational.proofs.ExtendedOrder.{le_ext_trans}
-use Rattle.min_plus.specs.rational.proofs.Linear.{with2}
-use Rattle.min_plus.specs.Functions.{zero_q, whole}
+use Rattle.min_plus.specs.rational.proofs.Laws.{le_refl}
+use Rattle.min_plus.specs.Functions.{whole}
 use Rattle.min_plus.specs.Formulas.{stair_value}
 use Rattle.run_laws.specs.Runs.{SpecRun}
 use Rattle.run_laws.specs.RunPremises.{entered_in}
@@ -24,9 +23,9 @@ use Rattle.tree_runs.specs.Trees.{Tree, tree_of, hops_in, flat, tree_server_befo
 use Rattle.tree_runs.specs.Parts.{is_of_tree_part, AreTreePaced}
 use Rattle.tree_runs.proofs.Trees.{live_is, hops_are}
 use Rattle.arrival_lines.specs.Grid.{bits, micros}
-use Rattle.arrival_lines.specs.declared.grid.Line.{Line}
-use Rattle.arrival_lines.proofs.Units.{up_covers, bits_whole, speed_nonneg}
-use Rattle.arrival_lines.proofs.OnGrid.{stair_on_grid}
+use Rattle.arrival_lines.proofs.Units.{bits_whole, speed_nonneg}
+use Rattle.arrival_stairs.specs.Stairs.{stair_at}
+use Rattle.arrival_stairs.specs.declared.stairs.Stair.{Stair}
 use Rattle.tree_network.specs.Networks.{IsNetwork, IsLink, HangsBefore, node_at, no_node, port_at, no_port}
 use Rattle.tree_network.specs.declared.network.Link.{Link}
 use Rattle.tree_network.specs.declared.network.Network.{Network}
@@ -36,7 +35,7 @@ use Rattle.tree_order.specs.Spots.{spot_at, spot_of, spots_below, spots_of, sour
 use Rattle.tree_order.specs.Lists.{those}
 use Rattle.tree_order.proofs.Those.{eq_true, eq_false, of_both, those_has}
 use Rattle.port_bounds.specs.Ports.{server_of, service_curve}
-use Rattle.tree_bounds.specs.Lines.{first_line, first_line_of, rate_of}
+use Rattle.tree_bounds.specs.Stairs.{first_stair, first_stair_of}
 use Rattle.tree_bounds.specs.Groups.{longest_of, spots_in_group}
 use Rattle.tree_guarantee.specs.Routes.{routes_of, tree_of_link, node_of}
 use Rattle.tree_guarantee.specs.Guarantee.{frame_of, frame_in, stair_of, stair_in}
@@ -96,42 +95,31 @@ none_before : (from : Option ℕ) → HangsBefore 0 from → from ≡ None
 none_before None h = refl
 none_before (Some f) h = absurd (omega (arith, h))
 
-above_line : (net : Network) (link : Link) (t : ℚ) → IsLink net link → zero_q ≤ℚ t
-    → stair_value (whole link.frame) (micros link.gap) (micros link.jitter) t ≤ₑ curve_of (first_line link) t
-above_line net link t fits on = by_size (nat_lt (link.frame * 1024 + more) (2 ^ 58) && nat_lt (rate_of link) (2 ^ 64))
+-- a stair of frames in grains is that in bits
+above_stair : (link : Link) (t : ℚ) → stair_value (whole link.frame) (micros link.gap) (micros link.jitter) t ≤ₑ curve_of (first_stair link) t
+above_stair link t = by_size (nat_lt link.jitter (2 ^ 62))
   where
-    more : ℕ
-    more = div_ceil (rate_of link * link.jitter) (10 ^ 12)
-
     whole_is : bits (link.frame * 1024) ≡ whole link.frame
     whole_is = let e : link.frame * 1024 ≡ 1024 * link.frame = omega arith in ap bits e ∙ bits_whole link.frame
 
-    fast : link.frame * 1024 * 10 ^ 12 ≤ rate_of link * link.gap
-    fast =
-        let h = up_covers (link.frame * 1024 * 10 ^ 12) link.gap (rate_of link) (omega (arith, fits.some_gap)) refl in
-        let c : link.gap * rate_of link ≡ rate_of link * link.gap = grind arith in
-        omega (arith, h, c)
-
-    early : rate_of link * link.jitter ≤ more * 10 ^ 12
-    early = let h = up_covers (rate_of link * link.jitter) (10 ^ 12) more (omega arith) refl in omega (arith, h)
-
     by_size : (b : Bool) → stair_value (whole link.frame) (micros link.gap) (micros link.jitter) t
-        ≤ₑ curve_of (if b then Some record { burst = link.frame * 1024 + more; rate = rate_of link } else None) t
+        ≤ₑ curve_of (if b then Some record { frame = link.frame * 1024; gap = link.gap; jitter = link.jitter } else None) t
     by_size false = tt
     by_size true =
-        let P : ℚ → Type 0 = λ f. stair_value f (micros link.gap) (micros link.jitter) t ≤ₑ curve_of (Some record { burst = link.frame * 1024 + more; rate = rate_of link }) t in
-        subst P whole_is ((stair_on_grid (link.frame * 1024) link.gap link.jitter (rate_of link) more (omega (arith, fits.some_gap)) fast early).above t on)
+        let it : Stair = record { frame = link.frame * 1024; gap = link.gap; jitter = link.jitter } in
+        let P : ℚ → Type 0 = λ f. stair_value f (micros link.gap) (micros link.jitter) t ≤ₑ Fin (stair_at it t) in
+        subst P whole_is (le_refl (stair_at it t))
 
-abbrev pub Begins : Network → (ℕ → Option Line) → Type 0
-Begins net line = (n : ℕ) → n < length (spots_of net) → (spot_at (spots_of net) n).source ≡ 0
-    → line n ≡ first_line_of (slice_get net.links.items (spot_at (spots_of net) n).link)
+abbrev pub Begins : Network → (ℕ → Option Stair) → Type 0
+Begins net stair = (n : ℕ) → n < length (spots_of net) → (spot_at (spots_of net) n).source ≡ 0
+    → stair n ≡ first_stair_of (slice_get net.links.items (spot_at (spots_of net) n).link)
 
--- the line of a link at its first port
-begun : (net : Network) (line : ℕ → Option Line) (i : ℕ) (v : IsLiveLink net i) → Begins net line
-    → line (number_at net (first_server (route_of (flat (routes_of net)) i).hops) i) ≡ first_line v.link
-begun net line i v begins =
-    ap line number ∙ begins (a + 0) at.0 (ap (λ (x : Spot). x.source) at.1 ∙ ap (source_in v.link) from)
-    ∙ ap (λ (x : Spot). first_line_of (slice_get net.links.items x.link)) at.1 ∙ ap first_line_of v.found
+-- the stair of a link at its first port
+begun : (net : Network) (stair : ℕ → Option Stair) (i : ℕ) (v : IsLiveLink net i) → Begins net stair
+    → stair (number_at net (first_server (route_of (flat (routes_of net)) i).hops) i) ≡ first_stair v.link
+begun net stair i v begins =
+    ap stair number ∙ begins (a + 0) at.0 (ap (λ (x : Spot). x.source) at.1 ∙ ap (source_in v.link) from)
+    ∙ ap (λ (x : Spot). first_stair_of (slice_get net.links.items x.link)) at.1 ∙ ap first_stair_of v.found
   where
     a : ℕ
     a = length (spots_below net i)
@@ -151,17 +139,16 @@ begun net line i v begins =
     at : (a + 0 < length (spots_of net)) × (spot_at (spots_of net) (a + 0) ≡ spot_of i a v.link 0)
     at = spot_found net i (length net.links.items) v.link 0 v.found some v.few (omega arith)
 
-pub enters_kept : (net : Network) (run : SpecRun) (line : ℕ → Option Line) → IsNetwork net → Begins net line
+pub enters_kept : (net : Network) (run : SpecRun) (stair : ℕ → Option Stair) → IsNetwork net → Begins net stair
     → KeepsTreePremises (routes_of net) (frame_of net) (stair_of net) (λ s. service_curve (port_at net s)) run
-    → EntersKept (flat (routes_of net)) run (arrival_at net line)
-enters_kept net run line w begins kept i live s t le =
+    → EntersKept (flat (routes_of net)) run (arrival_at net stair)
+enters_kept net run stair w begins kept i live s t le =
     let v = live_link net i w (sym (live_is (routes_of net) i) ∙ live) in
-    let on : zero_q ≤ℚ (t -ℚ s) = with2 s t (λ c. omega (arith, c.le, c.lt, c.same, le)) in
-    let P : Option Line → Type 0 = λ o. Fin (entered_in i s t run.steps) ≤ₑ curve_of o (t -ℚ s) in
+    let P : Option Stair → Type 0 = λ o. Fin (entered_in i s t run.steps) ≤ₑ curve_of o (t -ℚ s) in
     let Q : Option Link → Type 0 = λ o. Fin (entered_in i s t run.steps) ≤ₑ stair_in o (t -ℚ s) in
-    subst P (sym (begun net line i v begins))
-    (le_ext_trans (Fin (entered_in i s t run.steps)) (stair_in (Some v.link) (t -ℚ s)) (curve_of (first_line v.link) (t -ℚ s))
-    (subst Q v.found (kept.arrivals i live s t le)) (above_line net v.link (t -ℚ s) v.fits on))
+    subst P (sym (begun net stair i v begins))
+    (le_ext_trans (Fin (entered_in i s t run.steps)) (stair_in (Some v.link) (t -ℚ s)) (curve_of (first_stair v.link) (t -ℚ s))
+    (subst Q v.found (kept.arrivals i live s t le)) (above_stair v.link (t -ℚ s)))
 
 -- ---- the pace
 longest_has : (spots : List Spot) (xs : List ℕ) (k d : ℕ) → k < length xs → (spot_at spots (get_or xs k d)).frame ≤ longest_of spots xs

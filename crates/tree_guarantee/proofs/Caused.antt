@@ -1,18 +1,28 @@
 -- A queue of a table has no promise only by its causes.
-use Rattle.std.specs.Prelude.{Option, Some, None, ◌≡◌, ◌⊎◌, ℕ, zero, suc, ◌+◌, ◌-◌, ◌*◌, ◌<◌, ◌≤◌, ◌^◌, List, [], length, get_or}
+use Rattle.std.specs.Prelude.{Option, Some, None, MatchOption, ◌≡◌, ◌⊎◌, ℕ, zero, suc, ◌+◌, ◌-◌, ◌*◌, ◌<◌, ◌≤◌, ◌^◌, List, [], length, get_or}
 use Rattle.std.specs.List.{sum_by, Contains}
+use Rattle.std.specs.Option.{option_map}
 use Rattle.std.proofs.Common.{arith, sym, ap, ◌∙◌, refl, subst, inl, inr}
 use Rattle.std.proofs.lemmas.Bool.{cases_lt}
 use Rattle.arrival_lines.specs.Delays.{IsDelayAt, IsNever}
-use Rattle.arrival_lines.specs.Queues.{IsUnbounded}
+use Rattle.arrival_lines.specs.Queues.{IsUnbounded, IsLeastQueue}
 use Rattle.arrival_lines.specs.declared.grid.Part.{Part}
+use Rattle.arrival_lines.specs.declared.grid.Queue.{Queue}
 use Rattle.arrival_lines.specs.declared.grid.Service.{Service}
+use Rattle.arrival_stairs.specs.BelowLines.{line_parts}
+use Rattle.arrival_stairs.specs.declared.stairs.Bundle.{Bundle}
+use Rattle.stair_queues.specs.Queues.{IsLeastOfBoth, IsNone}
+use Rattle.stair_ports.specs.Incoming.{StairsIn, stairs_at, line_incomings}
+use Rattle.stair_ports.specs.Rows.{IsStairRow, IsStairRowBy}
+use Rattle.stair_ports.proofs.Held.{at_line}
 use Rattle.port_bounds.specs.Incoming.{Incoming, queue_in, joined_parts, longest_frame_of, before, behind}
 use Rattle.port_bounds.specs.Ports.{port_service, rate_behind}
 use Rattle.port_bounds.specs.Rows.{IsLeastRow, IsRow, IsRowBy}
 use Rattle.port_bounds.specs.Services.{AreAll, IsLeft, IsLeftBy, IsServiceAt, IsServiceOf}
-use Rattle.tree_network.specs.Networks.{port_at}
+use Rattle.tree_network.specs.Networks.{port_at, queues_of}
+use Rattle.tree_order.specs.Spots.{spots_of}
 use Rattle.tree_bounds.specs.Equations.{arrivals_of}
+use Rattle.tree_bounds.proofs.Bunched.{lines_of_coming}
 use Rattle.tree_network.specs.declared.network.Discipline.{Discipline}
 use Rattle.tree_network.specs.declared.network.Discipline.TheVariants.{Fifo, Priority, Drr}
 use Rattle.tree_network.specs.declared.network.Port.{Port}
@@ -107,11 +117,39 @@ module _ (port : Port) (queues : List Incoming) (q : ℕ) where
       by_row (suc longest) None e none = inl e
       by_row (suc longest) (Some parts) e least = cause_known parts e least
 
+-- ---- by stairs
+-- where the stairs have none the lines have none
+by_lines : (bundles : List Bundle) (services : List Service) (longest : ℕ) → IsLeastOfBoth bundles services longest None → IsUnbounded (line_parts bundles) services
+by_lines bundles services longest least = of_lines least.lines least.by_lines least.least.lines
+  where
+    of_lines : (o : Option Queue) → MatchOption o (IsUnbounded (line_parts bundles) services) (λ queue. IsLeastQueue (line_parts bundles) services longest queue) → IsNone o
+        → IsUnbounded (line_parts bundles) services
+    of_lines None far none = far
+    of_lines (Some queue) least none = absurd none
+
+lines_row : (port : Port) (queues : List StairsIn) (q : ℕ) → IsStairRow port queues q None → IsRow port (line_incomings queues) q None
+lines_row port queues q row =
+    subst (λ (w : Incoming). IsRowBy port (line_incomings queues) q w.longest w.parts None) (sym (at_line queues q))
+    (by_row (stairs_at queues q).longest (stairs_at queues q).bundles refl row)
+  where
+    by_row : (longest : ℕ) (bundles : Option (List Bundle)) → (stairs_at queues q).longest ≡ longest → IsStairRowBy port queues q longest bundles None
+        → IsRowBy port (line_incomings queues) q longest (option_map line_parts bundles) None
+    by_row zero bundles e none = absurd (let f : None ≡ Some record { delay = 0; backlog = 0 } = none in cc)
+    by_row (suc longest) None e none = refl
+    by_row (suc longest) (Some bundles) e row = record {
+      services = row.services;
+      all = row.all;
+      least = by_lines bundles row.services (1024 * (stairs_at queues q).longest) row.least;
+    }
+
 pub none_has_a_cause : NoneHasACause
 none_has_a_cause net table s q is inside queue none = record {
-  line = is.line;
+  stair = is.stair;
   equations = is.equations;
   cause =
-      let row = is.equations.rows s q inside queue in
-      cause_of (port_at net s) (arrivals_of net is.line s) q (subst (λ r. IsRow (port_at net s) (arrivals_of net is.line s) q r) none row);
+      let port = port_at net s in
+      let at = is.equations.rows s q inside queue in
+      let row = subst (λ r. IsStairRow port at.queues q r) none at.row in
+      let lines = lines_of_coming net (spots_of net) is.stair s (queues_of port.discipline) at.queues at.are in
+      cause_of port (arrivals_of net is.stair s) q (subst (λ (xs : List Incoming). IsRow port xs q None) lines (lines_row port at.queues q row));
 }

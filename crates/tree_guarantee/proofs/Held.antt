@@ -1,5 +1,6 @@
 -- What a port sees of a lawful run that keeps its premises, and so that each queue keeps its row.
 use Rattle.std.proofs.Common.{◌≡◌, ℕ, zero, suc, ◌<◌, ◌≤◌, ◌+◌, ◌==◌, ◌⊎◌, Bool, true, false, Option, Some, None, List, [], ◌∷◌, ◌++◌, length, map, refl, sym, ◌∙◌, ap, subst, arith, inl, inr}
+use Rattle.std.specs.Option.{option_map}
 use Rattle.std.proofs.lemmas.Bool.{cases_eq, cases_lt}
 use Rattle.std.proofs.lemmas.List.{get_or-map, length-map, get_or_past, get_or_append_left, get_or_at}
 use Rattle.min_plus.specs.rational.specs.Rational.{◌-ℚ◌}
@@ -8,7 +9,7 @@ use Rattle.min_plus.specs.rational.specs.declared.Extended.TheVariants.{Fin}
 use Rattle.run_laws.specs.Runs.{SpecRun}
 use Rattle.run_laws.specs.Cards.{of_queue}
 use Rattle.run_laws.specs.Counts.{arrived_in}
-use Rattle.run_laws.specs.Premises.{KeepsArrivals}
+use Rattle.run_laws.specs.Premises.{KeepsArrivals, KeepsSizes}
 use Rattle.run_laws.specs.Allows.{IsLawfulView}
 use Rattle.run_laws.specs.Servers as servers
 use Rattle.run_laws.specs.Servers.{Server}
@@ -22,9 +23,12 @@ use Rattle.tree_runs.specs.BoundedByParts.{QueuesKeepParts}
 use Rattle.tree_runs.proofs.Trees.{live_is, hops_are}
 use Rattle.tree_runs.proofs.Views.{tree_views_are_lawful}
 use Rattle.tree_runs.proofs.Packets.{tree_queues_keep_sizes}
-use Rattle.arrival_lines.specs.Grid.{parts_value}
 use Rattle.arrival_lines.specs.declared.grid.Line.{Line}
-use Rattle.arrival_lines.specs.declared.grid.Part.{Part}
+use Rattle.arrival_stairs.specs.Stairs.{bundles_at}
+use Rattle.arrival_stairs.specs.Views.{bunches}
+use Rattle.arrival_stairs.specs.declared.stairs.Bundle.{Bundle}
+use Rattle.arrival_stairs.specs.declared.stairs.Stair.{Stair}
+use Rattle.arrival_stairs.proofs.OneExcess.{value_is}
 use Rattle.tree_network.specs.Networks.{IsNetwork, HangsBefore, node_at, port_at, no_port, queues_of}
 use Rattle.tree_network.specs.declared.network.Network.{Network}
 use Rattle.tree_order.specs.declared.spots.Spot.{Spot}
@@ -32,9 +36,15 @@ use Rattle.tree_order.specs.Spots.{spots_of}
 use Rattle.tree_order.proofs.Those.{eq_true, of_eq}
 use Rattle.port_bounds.specs.Incoming.{Incoming, queue_in}
 use Rattle.port_bounds.specs.Ports.{server_of}
-use Rattle.port_bounds.specs.Promises.{IsSeenAt}
+use Rattle.stair_ports.specs.Incoming.{StairsIn, stairs_at}
+use Rattle.stair_ports.specs.Promises.{AreStairsSeenAt}
+use Rattle.stair_ports.proofs.Held.{at_line}
+use Rattle.tree_bounds.specs.Bunches.{Arriving, arriving_of}
 use Rattle.tree_bounds.specs.Groups.{longest_of, spots_in_group, group_list, groups_at, longest_group, incoming_at, incomings_at}
-use Rattle.tree_bounds.specs.Equations.{arrivals_of}
+use Rattle.tree_bounds.specs.Equations.{arrivals_of, comes_to}
+use Rattle.tree_bounds.specs.Lines.{line_of}
+use Rattle.tree_bounds.proofs.Bunched.{arriving_length, lines_of_coming}
+use Rattle.tree_bounds.proofs.InLimits.{queue_arriving}
 use Rattle.tree_bounds.proofs.Ranged.{incomings_length}
 use Rattle.tree_guarantee.specs.Routes.{routes_of, node_of, port_before}
 use Rattle.tree_guarantee.specs.Guarantee.{frame_of, IsRunOf}
@@ -57,12 +67,6 @@ incoming_found net spots line s q (suc n) h =
           get_or_append_left (incomings_at net spots line s n) (incoming_at net spots line s n ∷ []) record { parts = None; longest = 0 } q (omega (arith, count, h, other))
           ∙ incoming_found net spots line s q n (omega (arith, h, other))
     ]
-
-incoming_past : (net : Network) (spots : List Spot) (line : ℕ → Option Line) (s q n : ℕ) → n ≤ q
-    → queue_in (incomings_at net spots line s n) q ≡ record { parts = None; longest = 0 }
-incoming_past net spots line s q n h =
-    let count = incomings_length net spots line s n in
-    get_or_past (incomings_at net spots line s n) q record { parts = None; longest = 0 } (omega (arith, count, h))
 
 -- ---- the longest frame of a queue
 longest_both : (xs ys : List _) → (longest_group xs ≤ longest_group (xs ++ ys)) × (longest_group ys ≤ longest_group (xs ++ ys))
@@ -116,16 +120,16 @@ few_sources net i s q v h = let e = ap part_number h.from in let less = by_from 
         let port = (v.fits.nodes f (omega (arith, early, inside))).port in
         omega (arith, port)
 
-small_frames : (net : Network) (line : ℕ → Option Line) (s q i : ℕ) → IsNetwork net → (tree_of (routes_of net) i).live ≡ true
+small_frames : (net : Network) (stair : ℕ → Option Stair) (s q i : ℕ) → IsNetwork net → (tree_of (routes_of net) i).live ≡ true
     → PassesServer s (hops_in (tree_of (routes_of net) i).nodes) → (queue_at s (hops_in (tree_of (routes_of net) i).nodes) == q) ≡ true
-    → frame_of net i ≤ (queue_in (arrivals_of net line s) q).longest
-small_frames net line s q i w live passes in_queue = by_port (has_or_lacks v.link s q v.link.nodes.items)
+    → frame_of net i ≤ (queue_in (arrivals_of net stair s) q).longest
+small_frames net stair s q i w live passes in_queue = by_port (has_or_lacks v.link s q v.link.nodes.items)
   where
     v : IsLiveLink net i
     v = live_link net i w live
 
     Fits : Type 0
-    Fits = frame_of net i ≤ (queue_in (arrivals_of net line s) q).longest
+    Fits = frame_of net i ≤ (queue_in (arrivals_of net stair s) q).longest
 
     on : is_on s q (hops_in (tree_of (routes_of net) i).nodes) ≡ true
     on = on_is s q (hops_in (tree_of (routes_of net) i).nodes) passes ∙ in_queue
@@ -155,8 +159,8 @@ small_frames net line s q i w live passes in_queue = by_port (has_or_lacks v.lin
         let few = few_sources net i s q v h in
         let same : k ≡ part_number (tree_server_before s (map (node_of v.link) v.link.nodes.items)) = ap (λ (t : Tree). part_number (tree_server_before s t.nodes)) v.tree in
         let own = none_longer net s q k i w in_part in
-        let most = longest_in (spots_of net) line s q k (length net.ports.items + 1) (omega (arith, few, same)) in
-        let is = ap (λ (x : Incoming). x.longest) (incoming_found net (spots_of net) line s q count early) in
+        let most = longest_in (spots_of net) (λ n. line_of (stair n)) s q k (length net.ports.items + 1) (omega (arith, few, same)) in
+        let is = ap (λ (x : Incoming). x.longest) (incoming_found net (spots_of net) (λ n. line_of (stair n)) s q count early) in
         omega (arith, own, most, is)
 
     by_port : HasPort v.link s q v.link.nodes.items ⊎ LacksPort v.link s q v.link.nodes.items → Fits
@@ -164,15 +168,16 @@ small_frames net line s q i w live passes in_queue = by_port (has_or_lacks v.lin
     by_port (inr m) = absurd (let f : false ≡ true = sym m.off ∙ on_link in cc)
 
 -- ---- what the port sees
-pub seen : (net : Network) (line : ℕ → Option Line) (run : SpecRun) (s : ℕ) → IsNetwork net → IsRunOf net run → s < length net.ports.items
-    → QueuesKeepParts (routes_of net) run (arrival_at net line) (longest_at net) (rate_at net) s
-    → IsSeenAt (port_at net s) (arrivals_of net line s) run.end (view (flat (routes_of net)) run s)
-seen net line run s w r inside kept = record {
+pub seen : (net : Network) (stair : ℕ → Option Stair) (run : SpecRun) (s : ℕ) (queues : List StairsIn) → IsNetwork net → IsRunOf net run → s < length net.ports.items
+    → map arriving_of queues ≡ comes_to net stair s → QueuesKeepParts (routes_of net) run (arrival_at net stair) (longest_at net) (rate_at net) s
+    → AreStairsSeenAt (port_at net s) queues run.end (view (flat (routes_of net)) run s)
+seen net stair run s queues w r inside are kept = record {
   lawful = subst (λ (x : Server). IsLawfulView x run.end (view (flat (routes_of net)) run s)) server (tree_views_are_lawful (routes_of net) run s r.lawful known);
   service = r.premises.service s known;
-  sizes = λ q. tree_queues_keep_sizes (routes_of net) run (frame_of net) s (λ c. c == q) (queue_in (arrivals_of net line s) q).longest r.lawful
-      (λ i live. r.premises.sizes i (live_is (routes_of net) i ∙ live)) (λ i live passes e. small_frames net line s q i w live passes e);
-  arrivals = λ q parts e. arrive q parts e (cases_lt q (queues_of (port_at net s).discipline));
+  sizes = λ q. subst (λ (n : ℕ). KeepsSizes (of_queue q) n (view (flat (routes_of net)) run s)) (longest q)
+      (tree_queues_keep_sizes (routes_of net) run (frame_of net) s (λ c. c == q) (queue_in (arrivals_of net stair s) q).longest r.lawful
+      (λ i live. r.premises.sizes i (live_is (routes_of net) i ∙ live)) (λ i live passes e. small_frames net stair s q i w live passes e));
+  arrivals = λ q bundles e. arrive q bundles e (cases_lt q (queues_of (port_at net s).discipline));
 }
   where
     known : s < length (flat (routes_of net)).servers
@@ -181,12 +186,23 @@ seen net line run s w r inside kept = record {
     server : server_at (flat (routes_of net)) s ≡ server_of (port_at net s)
     server = get_or-map server_of net.ports.items s no_port record { discipline = servers.Fifo; pace = None } inside
 
-    arrive : (q : ℕ) (parts : List Part) → (queue_in (arrivals_of net line s) q).parts ≡ Some parts
+    longest : (q : ℕ) → (queue_in (arrivals_of net stair s) q).longest ≡ (stairs_at queues q).longest
+    longest q =
+        ap (λ (xs : List Incoming). (queue_in xs q).longest) (sym (lines_of_coming net (spots_of net) stair s (queues_of (port_at net s).discipline) queues are))
+        ∙ ap (λ (x : Incoming). x.longest) (at_line queues q)
+
+    arrive : (q : ℕ) (bundles : List Bundle) → (stairs_at queues q).bundles ≡ Some bundles
         → (q < queues_of (port_at net s).discipline) ⊎ (queues_of (port_at net s).discipline ≤ q)
-        → KeepsArrivals (of_queue q) (λ t. Fin (parts_value parts t)) (view (flat (routes_of net)) run s)
-    arrive q parts e (inl few) =
-        let is = sym (ap (λ (x : Incoming). x.parts) (incoming_found net (spots_of net) line s q (queues_of (port_at net s).discipline) few)) ∙ e in
-        λ a b le. subst (λ (x : Ext). Fin (arrived_in (of_queue q) (view (flat (routes_of net)) run s) a b) ≤ₑ x) (queue_brings net line s q parts (b -ℚ a) w is) (kept q a b le)
-    arrive q parts e (inr past) =
-        let f : None ≡ Some parts = sym (ap (λ (x : Incoming). x.parts) (incoming_past net (spots_of net) line s q (queues_of (port_at net s).discipline) past)) ∙ e in
+        → KeepsArrivals (of_queue q) (λ t. Fin (bundles_at bundles t)) (view (flat (routes_of net)) run s)
+    arrive q bundles e (inl few) =
+        let is = sym (ap (λ (x : Arriving). x.bunches) (queue_arriving net (spots_of net) stair s (queues_of (port_at net s).discipline) q queues are few))
+        ∙ ap (option_map bunches) e in
+        λ a b le.
+        subst (λ (x : Ext). Fin (arrived_in (of_queue q) (view (flat (routes_of net)) run s) a b) ≤ₑ x)
+        (queue_brings net stair s q (bunches bundles) (b -ℚ a) w is ∙ ap Fin (sym (value_is bundles (b -ℚ a)))) (kept q a b le)
+    arrive q bundles e (inr past) =
+        let long = length-map queues arriving_of in
+        let same = ap length are in
+        let all = arriving_length net (spots_of net) stair s (queues_of (port_at net s).discipline) in
+        let f : None ≡ Some bundles = sym (ap (λ (x : StairsIn). x.bundles) (get_or_past queues q record { bundles = None; longest = 0 } (omega (arith, long, same, all, past)))) ∙ e in
         absurd (cc)

@@ -1,5 +1,5 @@
 -- In every run that a network allows, each queue keeps the row of its table, and each link its curves.
-use Rattle.std.proofs.Common.{◌≡◌, ℕ, ◌<◌, Option, Some, None, [], length, get_or, refl, sym, ◌∙◌, subst, arith, inl, inr}
+use Rattle.std.proofs.Common.{◌≡◌, ℕ, ◌<◌, Option, Some, None, [], length, get_or, refl, sym, ◌∙◌, ap, subst, arith, inl, inr}
 use Rattle.std.proofs.lemmas.Bool.{cases_lt}
 use Rattle.std.proofs.lemmas.List.{length-map, get_or_past}
 use Rattle.min_plus.specs.rational.specs.declared.Extended.TheVariants.{Fin}
@@ -21,12 +21,14 @@ use Rattle.tree_network.specs.Networks.{IsNetwork, port_at, no_port, queues_of}
 use Rattle.tree_network.specs.declared.network.Network.{Network}
 use Rattle.tree_order.specs.Spots.{spots_of}
 use Rattle.port_bounds.specs.Ports.{server_of}
-use Rattle.port_bounds.specs.Rows.{IsRow}
-use Rattle.port_bounds.proofs.Held.{rows_are_held}
-use Rattle.tree_bounds.specs.Equations.{arrivals_of}
+use Rattle.stair_ports.specs.Rows.{IsStairRow}
+use Rattle.stair_ports.proofs.Held.{stair_rows_are_held}
+use Rattle.tree_bounds.specs.Bunches.{arriving_of}
 use Rattle.tree_bounds.specs.Tables.{row_in, items_of, IsTableOf}
 use Rattle.tree_bounds.specs.declared.analysis.Table.{Table}
-use Rattle.tree_bounds.proofs.Ranged.{incomings_length}
+use Rattle.tree_bounds.proofs.Bunched.{arriving_length}
+use Rattle.tree_bounds.proofs.InLimits.{stairs_in_range}
+use Rattle.tree_guarantee.proofs.StairsOf.{all_stairs}
 use Rattle.tree_guarantee.specs.Routes.{routes_of}
 use Rattle.tree_guarantee.specs.Guarantee.{frame_of, IsRunOf}
 use Rattle.tree_guarantee.proofs.TreesOf.{are_trees}
@@ -37,7 +39,7 @@ use Rattle.tree_guarantee.proofs.Grown.{delay_in, held_in, delay_by, held_by, de
 use Rattle.tree_guarantee.proofs.Held.{seen}
 
 pub queues_held : (net : Network) (table : Table) (run : SpecRun) (s : ℕ) → IsNetwork net → (is : IsTableOf net table) → IsRunOf net run
-    → s < length (routes_of net).servers → QueuesKeepParts (routes_of net) run (arrival_at net is.line) (longest_at net) (rate_at net) s
+    → s < length (routes_of net).servers → QueuesKeepParts (routes_of net) run (arrival_at net is.stair) (longest_at net) (rate_at net) s
     → QueuesAreBounded (routes_of net) run (delay_by (row_in table)) (held_by (row_in table)) s
 queues_held net table run s w is r known kept q = by_row (row_in table s q) refl
   where
@@ -49,10 +51,17 @@ queues_held net table run s w is r known kept q = by_row (row_in table s q) refl
 
     promised : (queue : Queue) → row_in table s q ≡ Some queue → q < queues_of (port_at net s).discipline → Bounded (Some queue)
     promised queue e few =
-        let count = incomings_length net (spots_of net) is.line s (queues_of (port_at net s).discipline) in
-        let P : Option Queue → Type 0 = λ o. IsRow (port_at net s) (arrivals_of net is.line s) q o in
-        let held = rows_are_held (port_at net s) (arrivals_of net is.line s) q queue run.end (view (flat (routes_of net)) run s)
-        (w.ports s no_port inside) count (omega (arith, count, few)) (subst P e (is.equations.rows s q inside few)) (seen net is.line run s w r inside kept) in
+        let at = is.equations.rows s q inside few in
+        let port = port_at net s in
+        let all = queues_of port.discipline in
+        let its = w.ports s no_port inside in
+        let long = length-map at.queues arriving_of in
+        let same = ap length at.are in
+        let count = arriving_length net (spots_of net) is.stair s all in
+        let P : Option Queue → Type 0 = λ o. IsStairRow port at.queues q o in
+        let held = stair_rows_are_held port at.queues q queue run.end (view (flat (routes_of net)) run s) its
+        (stairs_in_range net is.stair s all at.queues w its.queues (λ n t lt f. all_stairs net w (row_in table) is.stair is.equations n t lt f) at.are)
+        (sym long ∙ same ∙ count) (omega (arith, long, same, count, few)) (subst P e at.row) (seen net is.stair run s at.queues w r inside at.are kept) in
         record { delays = held.delays; backlogs = held.backlogs }
 
     by_row : (o : Option Queue) → row_in table s q ≡ o → Bounded (row_in table s q)
@@ -70,13 +79,13 @@ queues_held net table run s w is r known kept q = by_row (row_in table s q) refl
         ]
 
 pub all_bounded : (net : Network) (table : Table) (run : SpecRun) → IsNetwork net → (is : IsTableOf net table) → IsRunOf net run
-    → IsBoundedByQueues (routes_of net) run (arrival_at net is.line) (delay_by (row_in table)) (held_by (row_in table))
+    → IsBoundedByQueues (routes_of net) run (arrival_at net is.stair) (delay_by (row_in table)) (held_by (row_in table))
 all_bounded net table run w is r =
     let forward = go_forward net is.order w is.goes_forward in
-    trees_are_bounded_by_parts (routes_of net) run forward.0 (frame_of net) (longest_at net) (rate_at net) (arrival_at net is.line) (delay_by (row_in table)) (held_by (row_in table))
+    trees_are_bounded_by_parts (routes_of net) run forward.0 (frame_of net) (longest_at net) (rate_at net) (arrival_at net is.stair) (delay_by (row_in table)) (held_by (row_in table))
     r.lawful (are_trees net w) forward.1 (λ i live. r.premises.sizes i (live_is (routes_of net) i ∙ live))
-    (enters_kept net run is.line w is.equations.begins r.premises) (λ s q known. are_paced net s q w) (delays_some (row_in table))
-    (grows net (row_in table) is.line w is.equations.goes_on) (λ s known kept. queues_held net table run s w is r known kept)
+    (enters_kept net run is.stair w is.equations.begins r.premises) (λ s q known. are_paced net s q w) (delays_some (row_in table))
+    (grows net (row_in table) is.stair w is.equations.goes_on) (λ s known kept. queues_held net table run s w is r known kept)
 
 -- what a table promises of queues
 pub queues_keep : (net : Network) (table : Table) (run : SpecRun) (s q : ℕ) (queue : Queue) → IsNetwork net → IsTableOf net table → IsRunOf net run

@@ -5,6 +5,7 @@ pub mod Summed
 pub mod Begun
 pub mod Grown
 pub mod Held
+pub mod StairsOf
 pub mod Kept
 pub mod Branched
 pub mod LastSteps

@@ -2,9 +2,9 @@
 -- of 2 ^ 50 picoseconds or more.
 use Rattle.std.specs.Prelude.{Option, Some, None, ◌≡◌, ◌⊎◌, ◌+◌, ◌<◌, ◌≤◌, ◌^◌, ◌++◌, ℕ, List, [], length}
 use Rattle.arrival_lines.specs.Delays.{IsDelayAt, IsNever}
-use Rattle.arrival_lines.specs.declared.grid.Line.{Line}
 use Rattle.arrival_lines.specs.declared.grid.Part.{Part}
 use Rattle.arrival_lines.specs.declared.grid.Service.{Service}
+use Rattle.arrival_stairs.specs.declared.stairs.Stair.{Stair}
 use Rattle.port_bounds.specs.Incoming.{Incoming, queue_in, joined_parts, before, behind}
 use Rattle.port_bounds.specs.Ports.{rate_behind}
 use Rattle.port_bounds.specs.Ranges.{sum_of}
@@ -48,9 +48,9 @@ IsCause port queues q =
 
 -- of each queue that has no promise in a table
 pub record IsCausedIn (net : Network) (table : Table) (s q : ℕ) : Type 0 where
-  pub line : ℕ → Option Line
-  pub equations : MeetsEquations net (row_in table) line
-  pub cause : IsCause (port_at net s) (arrivals_of net line s) q
+  pub stair : ℕ → Option Stair
+  pub equations : MeetsEquations net (row_in table) stair
+  pub cause : IsCause (port_at net s) (arrivals_of net stair s) q
 
 abbrev pub NoneHasACause : Type 0
 NoneHasACause = (net : Network) (table : Table) (s q : ℕ) → IsTableOf net table → s < length net.ports.items → q < queues_of (port_at net s).discipline

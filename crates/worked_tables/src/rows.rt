@@ -118,9 +118,9 @@ mod tests {
 
     #[test]
     fn two_parts_that_cross(rt: HostRuntime) {
-        // at a (20,000 + 1,000) / 100 microseconds, at b (10,000 + 1,000) / 100; so c gets 24,200 + 20 t and
-        // 15,500 + 50 t, each at most 10,000 + 100 t: they meet at 177.5 and 110. At c 25,500 + 150 t and 39,700 + 70 t
-        // are 34,375 bits over 100 t where they meet
+        // at a (20,000 + 1,000) / 100 microseconds, at b (10,000 + 1,000) / 100; so c gets 20,000 bits until 790 from
+        // a, up to 210 early, and 10,000 until 90 and 20,000 until 290 from b, each at most 10,000 + 100 t: they turn at
+        // 100 both, where 40,000 bits are 30,000 over 100 t. (The lines 24,200 + 20 t and 15,500 + 50 t are 34,375 over)
         let table = table_of(
             rt.alloc(),
             "name,rate,latency,link,discipline\na,100,10,0,fifo\nb,100,10,0,fifo\nc,100,10,2.5,fifo\n",
@@ -128,9 +128,9 @@ mod tests {
         );
         assert_eq!(rt; row_of(&table, 0, 0), queue(210_000_000, 22_200));
         assert_eq!(rt; row_of(&table, 1, 0), queue(110_000_000, 15_500));
-        assert_eq!(rt; row_of(&table, 2, 0), queue(353_750_000, 45_375));
-        assert_eq!(rt; bound_of(&table, 0, 1), Some(566_250_000));
-        assert_eq!(rt; bound_of(&table, 2, 1), Some(466_250_000));
+        assert_eq!(rt; row_of(&table, 2, 0), queue(310_000_000, 41_000));
+        assert_eq!(rt; bound_of(&table, 0, 1), Some(522_500_000));
+        assert_eq!(rt; bound_of(&table, 2, 1), Some(422_500_000));
     }
 
     #[test]

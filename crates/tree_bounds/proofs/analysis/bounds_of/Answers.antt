@@ -19,7 +19,7 @@ returns-clause-table c =
     record {
       order = c.in_ok-plan.plan.order.items;
       goes_forward = c.in_ok-plan.ensures.plan.order;
-      line = s.line;
+      stair = s.stair;
       equations = s.equations;
       ports = sym rows ∙ s.each.ports;
       queues = s.each.queues;

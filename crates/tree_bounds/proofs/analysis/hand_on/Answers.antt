@@ -12,8 +12,8 @@ pass_on-requires c =
     let spots = plan.spots.items in
     let k = c.args.port + 1 in
     let numbers = c.deref-2.ensures.value ∙ sym (list_of plan.sources.items k c.index.result.now c.requires.inside c.index.ensures) ∙ c.requires.sources.each k c.requires.inside in
-    let S : List Spot → Type 0 = λ s. CanBePassedOn s (those (is_from spots k) (length spots)) (length c.args.rows.now) (length c.args.lines.now.items) in
-    let N : List ℕ → Type 0 = λ ns. CanBePassedOn c.deref.result.now ns (length c.args.rows.now) (length c.args.lines.now.items) in
+    let S : List Spot → Type 0 = λ s. CanBePassedOn s (those (is_from spots k) (length spots)) (length c.args.rows.now) (length c.args.stairs.now.items) in
+    let N : List ℕ → Type 0 = λ ns. CanBePassedOn c.deref.result.now ns (length c.args.rows.now) (length c.args.stairs.now.items) in
     subst N (sym numbers) (subst S (sym c.deref.ensures.value) c.requires.can)
 
 pub returns : goal.returns
@@ -22,7 +22,7 @@ returns c =
     let spots = plan.spots.items in
     let k = c.args.port + 1 in
     let numbers = c.deref-2.ensures.value ∙ sym (list_of plan.sources.items k c.index.result.now c.requires.inside c.index.ensures) ∙ c.requires.sources.each k c.requires.inside in
-    let N : List ℕ → Type 0 = λ ns. ArePassedOn c.deref.result.now ns c.args.rows.now (length ns) c.args.lines.now.items c.pass_on.new.lines.items in
+    let N : List ℕ → Type 0 = λ ns. ArePassedOn c.deref.result.now ns c.args.rows.now (length ns) c.args.stairs.now.items c.pass_on.new.stairs.items in
     let S : List Spot → Type 0 = λ s. ArePassedOn s (those (is_from spots k) (length spots)) c.args.rows.now (length (those (is_from spots k) (length spots)))
-    c.args.lines.now.items c.pass_on.new.lines.items in
+    c.args.stairs.now.items c.pass_on.new.stairs.items in
     subst S c.deref.ensures.value (subst N numbers c.pass_on.ensures)

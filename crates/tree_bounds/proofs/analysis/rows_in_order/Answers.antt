@@ -1,23 +1,23 @@
 use Rattle.std.proofs.Common.{◌≡◌, ◌<◌, ◌≤◌, ◌+◌, ℕ, Option, List, length, get_or, set, sym, ◌∙◌, ap, subst, arith}
 use Rattle.std.proofs.lemmas.List.{length-map, map-set}
-use Rattle.arrival_lines.specs.declared.grid.Line.{Line}
+use Rattle.arrival_stairs.specs.declared.stairs.Stair.{Stair}
 use Rattle.arrival_lines.specs.declared.grid.Queue.{Queue}
 use Rattle.tree_order.specs.declared.spots.Spot.{Spot}
 use Rattle.tree_order.specs.Spots.{AreSpots, spots_of}
 use Rattle.tree_order.specs.Lists.{those, is_from, lists_of, AreBySource}
 use Rattle.tree_network.specs.Networks.{port_at, queues_of}
-use Rattle.port_bounds.specs.Rows.{AreRows}
-use Rattle.tree_bounds.specs.Equations.{arrivals_of}
+use Rattle.tree_bounds.specs.Bunches.{AreRowsOf}
+use Rattle.tree_bounds.specs.Equations.{comes_to}
 use Rattle.tree_order.proofs.InRange.{in_range}
-use Rattle.tree_bounds.specs.Onward.{BeginLines, CanBePassedOn, ArePassedOn, line_at}
-use Rattle.tree_bounds.specs.Solved.{AreDone}
+use Rattle.tree_bounds.specs.Onward.{BeginStairs, CanBePassedOn, ArePassedOn, stair_in}
+use Rattle.tree_bounds.specs.Solved.{AreAllStairs, AreDone}
 use Rattle.tree_bounds.specs.Tables.{items_of}
 use Rattle.tree_bounds.proofs.Done.{none_done, one_done, all_done, can_pass}
-use Rattle.tree_bounds.proofs.Ranged.{incomings_length}
+use Rattle.tree_bounds.proofs.Bunched.{arriving_length}
 use Rattle.tree_bounds.proofs.analysis.rows_in_order.Goals as goal
 
-pub first_lines-requires-clause-spots : goal.first_lines-requires-clause-spots
-first_lines-requires-clause-spots c =
+pub first_stairs-requires-clause-spots : goal.first_stairs-requires-clause-spots
+first_stairs-requires-clause-spots c =
     let P : List Spot → Type 0 = λ xs. AreSpots c.args.network.now xs in
     subst P (sym (c.deref.ensures.value ∙ c.requires.plan.spots)) (in_range c.args.network.now c.requires.network)
 
@@ -25,16 +25,20 @@ pub loop-port-init : goal.loop-port-init
 loop-port-init c =
     let net = c.args.network.now in
     let count = length-map c.in_ok-rows.rows.items (λ v. v.items) in
-    let P : List Spot → Type 0 = λ xs. BeginLines net xs (length xs) c.in_ok-lines.lines.items in
-    none_done net c.args.plan.now.order.items (items_of c.in_ok-rows.rows.items) c.in_ok-lines.lines.items
-    (omega (arith, count, c.in_ok-rows.ensures, c.len.ensures)) (subst P (c.deref.ensures.value ∙ c.requires.plan.spots) c.in_ok-lines.ensures)
+    let P : List Spot → Type 0 = λ xs. BeginStairs net xs (length xs) c.in_ok-stairs.stairs.items in
+    none_done net c.args.plan.now.order.items (items_of c.in_ok-rows.rows.items) c.in_ok-stairs.stairs.items
+    (omega (arith, count, c.in_ok-rows.ensures, c.len.ensures)) (subst P (c.deref.ensures.value ∙ c.requires.plan.spots) c.in_ok-stairs.ensures.begin) c.in_ok-stairs.ensures.range
 
-pub rows_at-requires-clause-lines : goal.rows_at-requires-clause-lines
-rows_at-requires-clause-lines c =
+pub rows_at-requires-clause-stairs : goal.rows_at-requires-clause-stairs
+rows_at-requires-clause-stairs c =
     let d = c.loop-port.invariant in
     let known = ap length c.as_slice-known.ensures.value in
     let spots = ap length c.requires.plan.spots in
-    omega (arith, known, spots, d.lines_each)
+    omega (arith, known, spots, d.stairs_each)
+
+pub rows_at-requires-clause-range : goal.rows_at-requires-clause-range
+rows_at-requires-clause-range c =
+    subst (λ (ls : List (Option Stair)). AreAllStairs ls) (sym c.as_slice-known.ensures.value) c.loop-port.invariant.in_range
 
 pub rows_at-requires-clause-port : goal.rows_at-requires-clause-port
 rows_at-requires-clause-port c =
@@ -78,11 +82,11 @@ hand_on-requires-clause-can c =
     let is = ap (λ (l : List ℕ). get_or l k 0) same in
     let rows = c.in_ok-found.ensures in
     let queues = ap length c.as_slice-these.ensures.value ∙ rows.count
-    ∙ incomings_length net (spots_of net) (λ n. line_at c.as_slice-known.result.now n) p (queues_of (port_at net p).discipline) in
-    let S : List Spot → Type 0 = λ s. CanBePassedOn s (those (is_from s (p + 1)) (length s)) (length c.as_slice-these.result.now) (length c.loop-port.lines.items) in
+    ∙ arriving_length net (spots_of net) (λ n. stair_in c.as_slice-known.result.now n) p (queues_of (port_at net p).discipline) in
+    let S : List Spot → Type 0 = λ s. CanBePassedOn s (those (is_from s (p + 1)) (length s)) (length c.as_slice-these.result.now) (length c.loop-port.stairs.items) in
     subst S (sym c.requires.plan.spots)
-    (can_pass net order k p (length c.as_slice-these.result.now) (length c.loop-port.lines.items) (in_range net c.requires.network) o
-    (omega (arith, c.loop-port-test.true, inside, o.count)) is queues d.lines_each)
+    (can_pass net order k p (length c.as_slice-these.result.now) (length c.loop-port.stairs.items) (in_range net c.requires.network) o
+    (omega (arith, c.loop-port-test.true, inside, o.count)) is queues d.stairs_each)
 
 pub loop-port-preserved : goal.loop-port-preserved
 loop-port-preserved c =
@@ -95,9 +99,9 @@ loop-port-preserved c =
     let p = get_or c.deref-port-items.result.now k 0 in
     let is = ap (λ (l : List ℕ). get_or l k 0) same in
     let found = c.in_ok-found.found in
-    let old = c.loop-port.lines.items in
-    let new = c.hand_on.new.lines.items in
-    let A : List (Option Line) → Type 0 = λ ls. AreRows (port_at net p) (arrivals_of net (λ n. line_at ls n) p) found.items in
+    let old = c.loop-port.stairs.items in
+    let new = c.hand_on.new.stairs.items in
+    let A : List (Option Stair) → Type 0 = λ ls. AreRowsOf (port_at net p) (comes_to net (λ n. stair_in ls n) p) found.items in
     let rows = subst A c.as_slice-known.ensures.value c.in_ok-found.ensures in
     let T : List Spot → Type 0 = λ s. ArePassedOn s (those (is_from s (p + 1)) (length s)) c.as_slice-these.result.now (length (those (is_from s (p + 1)) (length s))) old new in
     let F : List (Option Queue) → Type 0 = λ r. ArePassedOn (spots_of net) (those (is_from (spots_of net) (p + 1)) (length (spots_of net))) r
@@ -114,5 +118,5 @@ returns c =
     let order = c.args.plan.now.order.items in
     let o = c.requires.plan.order in
     let all : c.loop-port.port-index ≡ length net.ports.items = omega (arith, c.loop-port.auto.port-index-end, c.loop-port-test.false, o.count) in
-    let P : ℕ → Type 0 = λ k. AreDone net order k (items_of c.loop-port.rows.items) c.loop-port.lines.items in
-    all_done net order (items_of c.loop-port.rows.items) c.loop-port.lines.items (in_range net c.requires.network) o (subst P all c.loop-port.invariant)
+    let P : ℕ → Type 0 = λ k. AreDone net order k (items_of c.loop-port.rows.items) c.loop-port.stairs.items in
+    all_done net order (items_of c.loop-port.rows.items) c.loop-port.stairs.items (in_range net c.requires.network) o (subst P all c.loop-port.invariant)

@@ -1,0 +1,12 @@
+pub mod Starts
+pub mod Risen
+pub mod Frozen
+pub mod Walked
+pub mod UnderLines
+pub mod Tails
+pub mod Meets
+pub mod Exact
+pub mod NoJumps
+pub mod MoreJumps
+pub mod Ceilings
+pub mod OneExcess

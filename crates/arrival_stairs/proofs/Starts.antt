@@ -1,0 +1,53 @@
+-- What bundles bring at 0.
+use Rattle.std.specs.Prelude.{◌≡◌, ℕ, ◌+◌, ◌^◌, ◌<◌, ◌≤◌, List, [], ◌∷◌, ◌++◌, length, get_or, take, map, Option, Some, None}
+use Rattle.std.proofs.Common.{arith, sym, ap, ◌∙◌}
+use Rattle.std.specs.List.{sum_by}
+use Rattle.std.proofs.lemmas.List.{get_or-map, length-map, map_more}
+use Rattle.std.proofs.lemmas.List.Sums.{sum_by_more, sum_by_more_le, get_or-le-sum_by}
+use Rattle.arrival_lines.specs.Steps.{burst_with, most_burst}
+use Rattle.arrival_lines.specs.declared.grid.Line.{Line}
+use Rattle.arrival_lines.specs.declared.grid.Part.{Part}
+use Rattle.arrival_stairs.specs.Stairs.{stair_level, bundle_level, bundle_part, levels_at, AreBundles}
+use Rattle.arrival_stairs.specs.declared.stairs.Bundle.{Bundle}
+use Rattle.arrival_stairs.specs.declared.stairs.Stair.{Stair}
+
+abbrev pub no_stair : Stair
+no_stair = record { frame = 0; gap = 0; jitter = 0 }
+
+abbrev pub no_part : Part
+no_part = record { sum = record { burst = 0; rate = 0 }; pace = None }
+
+-- ---- of one bundle
+pub start_more : (stairs : List Stair) (i level : ℕ) → i < length stairs → level ≡ sum_by (stair_level 0) (take i stairs)
+    → level + stair_level 0 (get_or stairs i no_stair) ≡ sum_by (stair_level 0) (take (i + 1) stairs)
+start_more stairs i level inside e = let more = sum_by_more (stair_level 0) stairs i no_stair inside in omega (arith, more, e)
+
+pub start_fits : (stairs : List Stair) (i level : ℕ) → i < length stairs → sum_by (stair_level 0) stairs < 2 ^ 62 → level ≡ sum_by (stair_level 0) (take i stairs)
+    → level + stair_level 0 (get_or stairs i no_stair) < 2 ^ 62
+start_fits stairs i level inside small e = let more = sum_by_more_le (stair_level 0) stairs i no_stair inside in omega (arith, more, e, small)
+
+pub one_start_fits : (stairs : List Stair) (i : ℕ) → i < length stairs → sum_by (stair_level 0) stairs < 2 ^ 62 → stair_level 0 (get_or stairs i no_stair) < 2 ^ 62
+one_start_fits stairs i inside small = let one = get_or-le-sum_by (stair_level 0) stairs i no_stair inside in omega (arith, one, small)
+
+-- ---- of all
+pub burst_within : (level : ℕ) (pace : Option Line) → level ≤ burst_with record { burst = level; rate = 0 } pace
+burst_within level None = omega arith
+burst_within level (Some p) = omega arith
+
+pub level_small : (bundles : List Bundle) (i : ℕ) (d : Bundle) → i < length bundles → AreBundles bundles → bundle_level 0 (get_or bundles i d) < 2 ^ 61
+level_small bundles i d inside are =
+    let b = get_or bundles i d in
+    let e : get_or (levels_at bundles 0) i no_part ≡ bundle_part 0 b = get_or-map (bundle_part 0) bundles i d no_part inside in
+    let l = length-map bundles (bundle_part 0) in
+    let one = get_or-le-sum_by most_burst (levels_at bundles 0) i no_part (omega (arith, l, inside)) in
+    let f = ap most_burst e in
+    let w = burst_within (bundle_level 0 b) b.pace in
+    let s = are.bursts in
+    omega (arith, one, f, w, s)
+
+pub levels_more : (bundles : List Bundle) (i : ℕ) (d : Bundle) (levels more : List Part) (level : ℕ) → i < length bundles → level ≡ bundle_level 0 (get_or bundles i d)
+    → more ≡ levels ++ record { sum = record { burst = level; rate = 0 }; pace = (get_or bundles i d).pace } ∷ [] → levels ≡ map (bundle_part 0) (take i bundles)
+    → more ≡ map (bundle_part 0) (take (i + 1) bundles)
+levels_more bundles i d levels more level inside is e so_far =
+    let part : ℕ → Part = λ n. record { sum = record { burst = n; rate = 0 }; pace = (get_or bundles i d).pace } in
+    e ∙ ap (λ n. levels ++ part n ∷ []) is ∙ ap (λ (ps : List Part). ps ++ bundle_part 0 (get_or bundles i d) ∷ []) so_far ∙ sym (map_more (bundle_part 0) bundles i d inside)

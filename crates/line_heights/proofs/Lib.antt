@@ -1,0 +1,4 @@
+pub mod Small
+pub mod Scaled
+pub mod Bent
+pub mod Split

@@ -1,0 +1,3 @@
+pub mod Incoming
+pub mod Rows
+pub mod Promises
