@@ -1,5 +1,3 @@
-pub mod FileLemmas
-pub mod Fetches
 pub mod ByCommand
 pub mod NoWrite
 pub mod Replies

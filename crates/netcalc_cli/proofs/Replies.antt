@@ -1,21 +1,27 @@
 -- What a reply that was given is, by its status.
-use Rattle.std.proofs.Common.{◌≡◌, ◌≢◌, ◌⊎◌, ℕ, List, Option, Some, None, IfSome, Result, Ok, Err, IfOk, inl, inr, refl, sym, ap, ◌∙◌, subst}
+use Rattle.std.proofs.Common.{◌≡◌, ◌≢◌, ◌⊎◌, ℕ, List, Option, Some, None, IfSome, Result, Ok, Err, IfOk, inl, inr, refl, sym, ap, ◌∙◌, subst, arith, append-nil}
 use Rattle.std.proofs.lemmas.Bool.{cases_eq}
 use Rattle.upp_limits.specs.declared.own_limits.OverLimit.TheVariants.{TooMany, TooWide}
 use Rattle.upp_limits.proofs.SpanNumbers.{if_some_map}
+use Rattle.outside.specs.Fetching.{AsksInOrder}
 use Rattle.commands.specs.command_replies.specs.declared.answer.Answer.{Answer}
 use Rattle.commands.specs.command_replies.specs.Replies.{Reply, cannot_read, too_long}
 use Rattle.commands.specs.command_replies.specs.View.{code_of, reply_of, status_of}
 use Rattle.netcalc_cli.specs.Commands.{Command, files_of, IsReplyTo, IsMalformed, IsOver, IsCyclic, TellsBreach, IsDone}
 use Rattle.netcalc_cli.specs.Commands.{Analyse, Edit, Simulate, Exercise, Check, Measure, Curve, IsAnswerable, IsAnswer}
 use Rattle.netcalc_cli.specs.Counts.{CountsOnCommand, Counts}
-use Rattle.netcalc_cli.specs.Files.{Told, IsTooLong, FirstIs, MayHoldAll, AllFit, all_told}
+use Rattle.netcalc_cli.specs.Files.{most_bytes, Told, IsTooLong, FirstIs, MayHoldAll, AllFit, all_told}
 use Rattle.netcalc_cli.specs.Laws.{RepliesAreDetermined}
 use Rattle.netcalc_cli.specs.Reply.{IsReplyOnFiles, FailedAt, EndsAt, MayReplyTo, Gives, Brings, GivesOnTold, AnswersWhatItCan}
 use Rattle.netcalc_cli.proofs.ByCommand.{IsByStatus, by_command, equal_by_command, one_by_command, complete_by_command}
 use Rattle.netcalc_cli.proofs.ByCommand.{IsGiven, answer_given, counts_by_command}
-use Rattle.netcalc_cli.proofs.FileLemmas.{first_map, first_shows, long_shows, long_first, not_long, long_one, ended, any_told}
-use Rattle.netcalc_cli.proofs.FileLemmas.{same_told, on_told, any_told}
+use Rattle.outside.proofs.FileLemmas.{first_map, first_shows, long_shows, long_first, not_long, long_one, ended, any_told}
+use Rattle.outside.proofs.FileLemmas.{same_told, on_told, any_told}
+
+-- no name is asked for
+pub asks_none : {I : Type 0} (asked : I → List (List ℕ)) (names : List (List ℕ)) (inputs : I)
+    → AsksInOrder asked names inputs inputs
+asks_none asked names inputs = record { count = 0; few = omega arith; are = sym (append-nil (asked inputs)) }
 
 -- ---- what the inputs may bring
 -- fetching ended at a file
@@ -23,7 +29,7 @@ pub ends : {I : Type 0} (faults : I → ℕ) (last_fault : I → List ℕ) (told
     (reply : Reply) → FirstIs told (EndsAt faults last_fault told old new reply) (files_of command)
     → MayReplyTo faults last_fault told command old new reply
 ends faults last_fault told command old new reply h =
-    elim (ended told (λ file. FailedAt faults last_fault file old new × (reply ≡ cannot_read file))
+    elim (ended most_bytes told (λ file. FailedAt faults last_fault file old new × (reply ≡ cannot_read file))
     (λ file. reply ≡ too_long file) (files_of command) h) [
       | inl failed ↦ inl failed
       | inr long ↦ inr (long.0, long.1, inl long.2)
@@ -54,7 +60,7 @@ none_in : {I E : Type 0} (faults : I → ℕ) (last_fault : I → List ℕ) (tol
     (files : List (List ℕ)) (r : Result Answer E)
     → IfOk r (λ a. FirstIs told (EndsAt faults last_fault told old new (reply_of a)) files) → IsNoAnswer (status_of r)
 none_in faults last_fault told old new files (Ok a) h =
-    first_shows told (EndsAt faults last_fault told old new (reply_of a)) (IsNoAnswer (code_of a.status)) files
+    first_shows most_bytes told (EndsAt faults last_fault told old new (reply_of a)) (IsNoAnswer (code_of a.status)) files
     (λ file at. none_of faults last_fault told old new file a at) h
 none_in faults last_fault told old new files (Err e) h =
     record { zero = λ e. absurd (cc); nine = λ e. absurd (cc) }
@@ -138,11 +144,11 @@ by_files : {I : Type 0} (faults : I → ℕ) (last_fault : I → List ℕ) (told
     (reply : Reply) (files : List (List ℕ)) → MayHoldAll told (files_of command) files
     → IsReplyOnFiles command files reply → MayBe faults last_fault told command old new reply
 by_files faults last_fault told command old new reply files held (inl long) =
-    let is : reply.status ≡ 1 = long_shows (λ file. reply ≡ too_long file) (reply.status ≡ 1) (files_of command) files
+    let is : reply.status ≡ 1 = long_shows most_bytes (λ file. reply ≡ too_long file) (reply.status ≡ 1) (files_of command) files
     (λ file same. ap (λ (r : Reply). r.status) same) long in
     record {
       three = λ e. absurd (cc);
-      one = λ e. inl (long_first told (λ file. reply ≡ too_long file) (files_of command) files held long);
+      one = λ e. inl (long_first most_bytes told (λ file. reply ≡ too_long file) (files_of command) files held long);
       rest = λ other three. absurd (other is);
     }
 by_files faults last_fault told command old new reply files held (inr fits) =
@@ -154,7 +160,7 @@ may_be : {I : Type 0} (faults : I → ℕ) (last_fault : I → List ℕ) (told :
     (reply : Reply) → MayReplyTo faults last_fault told command old new reply
     → MayBe faults last_fault told command old new reply
 may_be faults last_fault told command old new reply (inl failed) =
-    let is : reply.status ≡ 3 = first_shows told
+    let is : reply.status ≡ 3 = first_shows most_bytes told
     (λ file. FailedAt faults last_fault file old new × (reply ≡ cannot_read file)) (reply.status ≡ 3) (files_of command)
     (λ file h. ap (λ (r : Reply). r.status) h.1) failed in
     record { three = λ e. failed; one = λ e. absurd (cc); rest = λ other three. absurd (three is) }
@@ -191,7 +197,7 @@ gives_line : (told : Told) (P : List ℕ → Type 0) (line : List ℕ → Reply)
     → FirstIs told (λ file. P file × (reply ≡ line file)) names
     → FirstIs told (λ file. P file × Gives status old new (line file)) names
 gives_line told P line names reply status old new given h =
-    first_map told (λ file. P file × (reply ≡ line file)) (λ file. P file × Gives status old new (line file)) names
+    first_map most_bytes told (λ file. P file × (reply ≡ line file)) (λ file. P file × Gives status old new (line file)) names
     (λ file k. (k.0, subst (Gives status old new) k.1 given)) h
 
 malformed : (told : Told) (command : Command) (reply : Reply) (status : ℕ) (old new : Option (List ℕ))
@@ -234,7 +240,7 @@ told_on : {I : Type 0} (faults : I → ℕ) (last_fault : I → List ℕ) (told 
     → MayReplyTo faults last_fault told command before after reply → Gives status old new reply
     → GivesOnTold command told status old new
 told_on faults last_fault told command before after reply status old new (inl failed) given =
-    let three : reply.status ≡ 3 = first_shows told
+    let three : reply.status ≡ 3 = first_shows most_bytes told
     (λ file. FailedAt faults last_fault file before after × (reply ≡ cannot_read file)) (reply.status ≡ 3)
     (files_of command)
     (λ file h. ap (λ (r : Reply). r.status) h.1) failed in
@@ -257,7 +263,7 @@ told_given faults last_fault told command before after reply status old new may 
 answers_on : (command : Command) (files : List (List ℕ)) (reply : Reply) → AllFit files → IsAnswerable command files
     → IsReplyOnFiles command files reply → IsAnswer command reply.status
 answers_on command files reply fit can (inl long) =
-    absurd (not_long (λ file. reply ≡ too_long file) (files_of command) files long fit)
+    absurd (not_long most_bytes (λ file. reply ≡ too_long file) (files_of command) files long fit)
 answers_on command files reply fit can (inr on) = complete_by_command command files reply can on.1
 
 answers_or : (command : Command) (files : List (List ℕ)) (status : ℕ) (old new : Option (List ℕ)) → AllFit files
@@ -288,9 +294,9 @@ counts_at told command status other old new same (inr h) =
 -- ---- there is one reply
 pub replies_are_determined : RepliesAreDetermined
 replies_are_determined command files x y (inl h) (inl k) =
-    equal_by_command command x y (long_one x y too_long (files_of command) files h k)
+    equal_by_command command x y (long_one most_bytes x y too_long (files_of command) files h k)
 replies_are_determined command files x y (inl h) (inr k) =
-    absurd (not_long (λ file. x ≡ too_long file) (files_of command) files h k.0)
+    absurd (not_long most_bytes (λ file. x ≡ too_long file) (files_of command) files h k.0)
 replies_are_determined command files x y (inr h) (inl k) =
-    absurd (not_long (λ file. y ≡ too_long file) (files_of command) files k h.0)
+    absurd (not_long most_bytes (λ file. y ≡ too_long file) (files_of command) files k h.0)
 replies_are_determined command files x y (inr h) (inr k) = one_by_command command files x y h.1 k.1

@@ -2,10 +2,12 @@
 use Rattle.std.specs.Prelude.{◌≡◌, ◌⊎◌, ◌++◌, ℕ, List, codes, Option, Some, None, IfSome}
 use Rattle.std.specs.Io.KnownBytes.{Appends}
 use Rattle.outside.specs.Faults.{Rose}
+use Rattle.outside.specs.Fetching as fetching
+pub use Rattle.outside.specs.Fetching.{FailedAt}
 use Rattle.outside.specs.Written.{AppendsFront}
 use Rattle.commands.specs.command_replies.specs.Replies.{Reply, usage, cannot_read, too_long}
 use Rattle.netcalc_cli.specs.Commands.{Command, files_of, IsReplyTo, IsAnswerable, IsAnswer}
-use Rattle.netcalc_cli.specs.Files.{Told, IsTooLong, MayHoldAll, FirstIs, FirstLong, AllFit, all_told}
+use Rattle.netcalc_cli.specs.Files.{Told, most_bytes, MayHoldAll, FirstIs, FirstLong, AllFit, all_told}
 
 -- the commands that the usage line tells
 abbrev pub commands : List ℕ
@@ -19,17 +21,10 @@ abbrev pub IsReplyOnFiles : Command → List (List ℕ) → Reply → Type 0
 IsReplyOnFiles command files reply =
     FirstLong (λ file. reply ≡ too_long file) (files_of command) files ⊎ (AllFit files × IsReplyTo command files reply)
 
--- The inputs failed in this call, and last at this file.
-pub record FailedAt {I : Type 0} (faults : I → ℕ) (last_fault : I → List ℕ) (file : List ℕ) (old new : I)
-    : Type 0 where
-  pub rose : Rose (faults old) (faults new)
-  pub name : last_fault new ≡ file
-
 -- The inputs end a call at this file: they failed at it, or it is too long.
 abbrev pub EndsAt : {I : Type 0} → (I → ℕ) → (I → List ℕ) → Told → I → I → Reply → List ℕ → Type 0
 EndsAt faults last_fault told old new reply file =
-    (FailedAt faults last_fault file old new × (reply ≡ cannot_read file))
-    ⊎ (IsTooLong (told file) × (reply ≡ too_long file))
+    fetching.EndsAt most_bytes cannot_read too_long faults last_fault told old new reply file
 
 -- ---- on words and inputs
 -- The inputs may bring this reply of a command: they failed at a file, those before which may fit, or it is the reply

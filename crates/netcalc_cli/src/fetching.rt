@@ -1,6 +1,7 @@
 //! The files of a command, fetched in order.
 
 ghost use Rattle.std.specs.Prelude.{◌≡◌, ◌≤◌, [], ◌∷◌, List, ℕ, length, IfOk, IfErr};
+ghost use Rattle.outside.specs.Fetching.{AsksForAll, AsksInOrder};
 ghost use Rattle.commands.specs.command_replies.specs.View.{reply_of};
 ghost use Rattle.netcalc_cli.specs.Files.{most_bytes, MayHold, MayHoldAll, AllFit, FirstIs};
 ghost use Rattle.netcalc_cli.specs.Reply.{EndsAt};
@@ -25,6 +26,7 @@ pub(crate) fn fetch_one<I: Inputs>(
     ensures fits { IfOk result (λ bytes. length bytes.items ≤ most_bytes) }
     ensures ended { IfErr result (λ ended. IfOk ended (λ r.
         EndsAt I.faults I.last_fault (I.content inputs.old) inputs.old inputs.new (reply_of r) file.now)) }
+    ensures asked { AsksForAll I.asked (file.now ∷ []) inputs.old inputs.new }
     ensures count { I.faults inputs.old ≤ I.faults inputs.new }
     ensures same { (other : List ℕ) → I.content inputs.new other ≡ I.content inputs.old other }
 {
@@ -49,6 +51,7 @@ fn fetch_after<I: Inputs>(
     ensures fits { IfOk result (λ files. length files.1.items ≤ most_bytes) }
     ensures ended { IfErr result (λ ended. IfOk ended (λ r.
         EndsAt I.faults I.last_fault (I.content inputs.old) inputs.old inputs.new (reply_of r) file.now)) }
+    ensures asked { AsksForAll I.asked (file.now ∷ []) inputs.old inputs.new }
 {
     match fetch_one(alloc, file, inputs) {
         Ok(bytes) => Ok((before, bytes)),
@@ -69,6 +72,7 @@ pub(crate) fn fetch_two<I: Inputs>(
     ensures ended { IfErr result (λ ended. IfOk ended (λ r. FirstIs (I.content inputs.old)
         (EndsAt I.faults I.last_fault (I.content inputs.old) inputs.old inputs.new (reply_of r))
         (first.now ∷ second.now ∷ []))) }
+    ensures asked { AsksInOrder I.asked (first.now ∷ second.now ∷ []) inputs.old inputs.new }
 {
     match fetch_one(alloc, first, inputs) {
         Ok(bytes) => fetch_after(alloc, bytes, second, inputs),

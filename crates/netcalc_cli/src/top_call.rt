@@ -1,10 +1,11 @@
 //! The top call.
 
-ghost use Rattle.std.specs.Prelude.{◌≡◌, ◌≢◌, ◌⊎◌, None, IfSome};
+ghost use Rattle.std.specs.Prelude.{◌≡◌, ◌≢◌, ◌⊎◌, ◌++◌, ◌∷◌, [], ℕ, List, None, IfSome};
+ghost use Rattle.outside.specs.Fetching.{AsksInOrder};
 ghost use Rattle.upp_limits.specs.declared.own_limits.OverLimit.TheVariants as limits;
 ghost use Rattle.commands.specs.command_replies.specs.Replies.{Reply, usage, cannot_read, too_long};
 ghost use Rattle.commands.specs.command_replies.specs.View.{code_of};
-ghost use Rattle.netcalc_cli.specs.Commands.{files_of, IsMalformed, IsOver, IsCyclic, TellsBreach, IsDone};
+ghost use Rattle.netcalc_cli.specs.Commands.{files_of, names_of, IsMalformed, IsOver, IsCyclic, TellsBreach, IsDone};
 ghost use Rattle.netcalc_cli.specs.Counts.{Counts};
 ghost use Rattle.netcalc_cli.specs.Files.{IsTooLong, FirstIs};
 ghost use Rattle.netcalc_cli.specs.Reply.{commands, MayReply, FailedAt};
@@ -29,6 +30,7 @@ fn give<K: Sink>(out: &mut K, status: Status, text: &[u8]) -> u8
         result ≢ 4 → Gives result (K.written out.old) (K.written out.new) reply }
     ensures failed { let reply : Reply = record { status = code_of status; bytes = text.now } in
         result ≡ 4 → FailsToGive K.faults K.written out.old out.new reply }
+    ensures put { K.puts out.new ≡ K.puts out.old ++ text.now ∷ [] }
 {
     match out.put(text) {
         Ok(()) => status.code(),
@@ -133,6 +135,14 @@ pub fn run<I: Inputs, K: Sink, L: Ledger>(
     ensures answers { result ≢ 4 → result ≢ 5 → (reply : Reply)
         × MayReply I.content I.faults I.last_fault (command_of (texts words.now)) inputs.old inputs.new reply
         × Gives result (K.written out.old) (K.written out.new) reply }
+
+    // The files that the words name are asked for in their order, each once and no other, up to one that is not had:
+    // for words that are not taken, and for `exercise`, none.
+    ensures asked { AsksInOrder I.asked (names_of (command_of (texts words.now))) inputs.old inputs.new }
+
+    // There is one put, but at 5 none.
+    ensures one_put { result ≢ 5 → (bytes : List ℕ) × (K.puts out.new ≡ K.puts out.old ++ bytes ∷ []) }
+    ensures no_put { result ≡ 5 → K.puts out.new ≡ K.puts out.old }
 
     // Of `analyse` and `simulate` no more steps than the operators of the folds of the file's closures, and after
     // these the work of all cells; where the report is written, exactly that work. Of `edit` beside these no more

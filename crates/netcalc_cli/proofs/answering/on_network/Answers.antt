@@ -1,4 +1,4 @@
-use Rattle.std.proofs.Common.{[], ◌∷◌, inl, inr, refl}
+use Rattle.std.proofs.Common.{[], ◌∷◌, inl, inr, refl, arith}
 use Rattle.std.proofs.lemmas.Result.{IfOk-weaker}
 use Rattle.commands.specs.command_replies.specs.View.{reply_of}
 use Rattle.netcalc_cli.specs.Commands.{Analyse}
@@ -34,3 +34,9 @@ returns-in-Err-clause-counts g c =
     let other = no_answer_at g.I.Inputs.faults g.I.Inputs.last_fault (g.I.Inputs.content c.args.inputs.now)
     (Analyse c.args.form c.args.net.now) c.args.inputs.now c.fetch_one.new.inputs c.args.net.now c.in-Err.ended c.in-Err.ensures.ended in
     inl (other, refl)
+
+pub returns-in-Ok-clause-asked : goal.returns-in-Ok-clause-asked
+returns-in-Ok-clause-asked g c = record { count = 1; few = omega arith; are = c.fetch_one.ensures.asked }
+
+pub returns-in-Err-clause-asked : goal.returns-in-Err-clause-asked
+returns-in-Err-clause-asked g c = record { count = 1; few = omega arith; are = c.fetch_one.ensures.asked }

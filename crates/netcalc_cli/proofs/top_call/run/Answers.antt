@@ -2,11 +2,12 @@ use Rattle.std.proofs.Common.{◌≡◌, false, true, refl, sym, ap, ◌∙◌}
 use Rattle.std.specs.Prelude.{is_some}
 use Rattle.commands.specs.command_replies.specs.Replies.{usage}
 use Rattle.commands.specs.command_replies.specs.View.{reply_of}
+use Rattle.netcalc_cli.specs.Commands.{names_of}
 use Rattle.netcalc_cli.specs.Reply.{commands}
 use Rattle.netcalc_cli.specs.View.{command_view}
 use Rattle.netcalc_cli.specs.Words.{texts, command_of}
 use Rattle.netcalc_cli.proofs.NoWrite.{none_is_a_write_fault}
-use Rattle.netcalc_cli.proofs.Replies.{brought, told_given, answers_what_it_can, counts_at}
+use Rattle.netcalc_cli.proofs.Replies.{asks_none, brought, told_given, answers_what_it_can, counts_at}
 use Rattle.netcalc_cli.proofs.Replies.{nothing_counted, nothing_told, nothing_answered}
 use Rattle.netcalc_cli.proofs.top_call.run.Goals as goal
 
@@ -157,3 +158,18 @@ pub returns-in-Err-clause-complete : goal.returns-in-Err-clause-complete
 returns-in-Err-clause-complete g c =
     nothing_answered (command_of (texts c.args.words.now)) (g.I.Inputs.content c.args.inputs.now) c.code-in-Err.result
     c.code-in-Err.ensures
+
+-- the files that are asked for
+pub returns-in_default-clause-asked : goal.returns-in_default-clause-asked
+returns-in_default-clause-asked g c =
+    asks_none g.I.Inputs.asked (names_of (command_of (texts c.args.words.now))) c.args.inputs.now
+
+pub returns-in_default-parsed-clause-asked : goal.returns-in_default-parsed-clause-asked
+returns-in_default-parsed-clause-asked g c =
+    asks_none g.I.Inputs.asked (names_of (command_of (texts c.args.words.now))) c.args.inputs.now
+
+pub returns-in-Ok-answer_to-clause-asked : goal.returns-in-Ok-answer_to-clause-asked
+returns-in-Ok-answer_to-clause-asked g c = rw (← c.in-Ok.ensures.command) c.answer_to.ensures.asked
+
+pub returns-in-Err-clause-asked : goal.returns-in-Err-clause-asked
+returns-in-Err-clause-asked g c = rw (← c.in-Ok.ensures.command) c.answer_to.ensures.asked
