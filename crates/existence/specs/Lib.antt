@@ -1,3 +1,3 @@
 pub mod curves
 pub mod tables
-pub mod reports
+pub mod closures

@@ -1,5 +1,0 @@
-//! That the clause of status 0 of an analysis is never empty.
-
-mod laws;
-
-pub use laws::{files_have_reports, has_table};
