@@ -1,2 +1,1 @@
 pub mod reports
-pub mod edits

@@ -1,5 +1,4 @@
-//! That replies exist, and what the clauses on steps speak of: laws, which the program does not use.
+//! That replies exist: laws, which the program does not use.
 #![tactic(auto)]
 
-pub mod edits;
 pub mod reports;

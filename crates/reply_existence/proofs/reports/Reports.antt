@@ -1,5 +1,5 @@
 -- The curves of a network that a file gives are in normal form and readable, and so the file has a report.
-use Rattle.std.specs.Prelude.{◌≡◌, ℕ, length, map, List, Option, Some, None, Bool, true, false, Ok, All, slice_get}
+use Rattle.std.specs.Prelude.{◌≡◌, ℕ, length, map, List, [], ◌∷◌, Option, Some, None, Bool, true, false, Ok, All, slice_get}
 use Rattle.std.proofs.Common.{refl, sym, ◌∙◌, subst, inl, inr}
 use Rattle.std.proofs.lemmas.Bool.{cases_lt}
 use Rattle.std.proofs.lemmas.List.Elements.{All-contains}
@@ -11,9 +11,9 @@ use Rattle.net_model.specs.Networks.{Net, NetServer, NetFlow}
 use Rattle.net_draft.specs.Drafts.{draft_of}
 use Rattle.net_draft.specs.Faults.{Fault}
 use Rattle.net_draft.specs.Texts.{FlowText, CurveText, DraftText}
-use Rattle.net_text.specs.Becoming.{Becomes}
+use Rattle.net_text.specs.Becoming.{Becomes, limit_fault}
 use Rattle.net_text.specs.Built.{IsServerOf, IsLiveFlowOf, IsBuilt}
-use Rattle.net_text.specs.Firsts.{FirstCurveOver, curves_of}
+use Rattle.net_text.specs.Firsts.{PlacedCurve, FirstCurveOver, curves_of}
 use Rattle.net_text.specs.FoldLimits.{OverFold}
 use Rattle.net_text.proofs.Zips.{zip_all}
 use Rattle.report_text.specs.net_cells.specs.Numbered.{service_of, arrival_of, flow_at}
@@ -27,10 +27,10 @@ use Rattle.report_text.specs.CellWords.{server_name, cell_words}
 use Rattle.report_text.specs.declared.json_report.form.Form.{Form}
 use Rattle.upp_limits.specs.declared.op_kind.OpFault.{OpFault}
 use Rattle.upp_limits.specs.declared.op_kind.OpFault.TheVariants.{TooMany, TooWide, NoMemory}
+use Rattle.upp_limits.specs.declared.own_limits.OverLimit.{OverLimit}
 use Rattle.upp_limits.specs.declared.own_limits.OverLimit.TheVariants as limits
 use Rattle.commands.specs.command_replies.specs.Replies.{Reply, breaks_rule, goes_round, curve_over, cell_over}
 use Rattle.commands.specs.command_replies.specs.OnFiles.{IsNetOf}
-use Rattle.commands.specs.command_replies.proofs.FirstFaults.{of_curves}
 use Rattle.commands.specs.analyse.OnFiles.{report, IsReplyOn, Broken, CurveOver, Cyclic, CellOver, Reported}
 use Rattle.run_watch.specs.simulated_sizes.Laws.{AreCurves}
 use Rattle.existence.proofs.tables.Sound.{zero_is}
@@ -119,14 +119,21 @@ networks_have_replies net form file bytes g = elim (order_or_round net g.accepte
 ]
 
 -- ---- by a draft
+-- the first of some curves over a limit is over one, at a place
+limit_of : (es : List PlacedCurve) (f : Fault) → FirstCurveOver OverFold es f
+    → (limit : OverLimit) × (place : List ℕ) × (f ≡ limit_fault limit place)
+limit_of [] f h = absurd h
+limit_of (e ∷ es) f (inl here) = (here.limit, e.place, here.is)
+limit_of (e ∷ es) f (inr later) = limit_of es f later.1
+
 on_fault : (form : Form) (file bytes : List ℕ) (d : DraftText) (f : Fault) → draft_of bytes ≡ Ok d → FirstCurveOver OverFold (curves_of d) f
     → (reply : Reply) × IsReplyOn form file bytes reply
 on_fault form file bytes d f is first =
-    let which = of_curves (curves_of d) f first in (
-      curve_over which.limit which.place,
-      CurveOver which.limit record {
-        place = which.place;
-        first = record { draft = d; is_draft = is; first = subst (FirstCurveOver OverFold (curves_of d)) which.is first };
+    let (limit, place, named) = limit_of (curves_of d) f first in (
+      curve_over limit place,
+      CurveOver limit record {
+        place = place;
+        first = record { draft = d; is_draft = is; first = subst (FirstCurveOver OverFold (curves_of d)) named first };
         is = refl;
       },
     )
