@@ -1,7 +1,7 @@
-use Rattle.std.proofs.Common.{ℕ, ◌<◌}
-use Rattle.std.specs.Prelude.{get_or}
+use Rattle.std.proofs.Common.{ℕ, ◌<◌, get_or}
+use Rattle.net_draft.specs.declared.flow_draft.FlowDraft.{FlowDraft}
 use Rattle.file_existence.specs.Drafts.{HasArrival}
 use Rattle.file_existence.proofs.keeps_arrivals.Given as goal
 
 abbrev pub invariant-loop-number : goal.invariant-loop-number
-invariant-loop-number l = (k : ℕ) (d : _) → k < l.number → HasArrival (get_or l.flows k d)
+invariant-loop-number l = (k : ℕ) → k < l.number → (d : FlowDraft) → HasArrival (get_or l.flows k d)

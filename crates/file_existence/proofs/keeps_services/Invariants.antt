@@ -1,7 +1,7 @@
-use Rattle.std.proofs.Common.{ℕ, ◌<◌}
-use Rattle.std.specs.Prelude.{get_or}
+use Rattle.std.proofs.Common.{ℕ, ◌<◌, get_or}
+use Rattle.net_draft.specs.declared.server_draft.ServerDraft.{ServerDraft}
 use Rattle.file_existence.specs.Drafts.{HasService}
 use Rattle.file_existence.proofs.keeps_services.Given as goal
 
 abbrev pub invariant-loop-number : goal.invariant-loop-number
-invariant-loop-number l = (k : ℕ) (d : _) → k < l.number → HasService (get_or l.servers k d)
+invariant-loop-number l = (k : ℕ) → k < l.number → (d : ServerDraft) → HasService (get_or l.servers k d)
