@@ -1,6 +1,6 @@
 -- Two replies of a command on the same files are one: by the law that they are alike but for the choice among cycles, and
 -- since what is told of a cycle is one thing.
-use Rattle.std.proofs.Common.{◌≡◌, ◌≢◌, ◌⊎◌, ℕ, List, [], ◌∷◌, Option, Some, IfSome, inl, inr, sym, ap, ap₂, ◌∙◌, subst}
+use Rattle.std.proofs.Common.{◌≡◌, ◌⊎◌, arith, ℕ, List, [], ◌∷◌, Option, Some, IfSome, inl, inr, sym, ap, ap₂, ◌∙◌, subst}
 use Rattle.std.specs.Io.KnownBytes.{Appends}
 use Rattle.std.proofs.lemmas.Bool.{cases_eq}
 use Rattle.report_text.specs.declared.json_report.form.Form.{Form}
@@ -59,7 +59,7 @@ long_status x (name ∷ names) (bytes ∷ files) (inr h) = long_status x names f
 cyclic : (command : Command) (files : List (List ℕ)) (x : Reply) → IsReplyOnFiles command files x → x.status ≡ 8
     → IsCyclic command files x
 cyclic command files x (inl long) eight =
-    let bad : 1 ≡ 8 = sym (long_status x (files_of command) files long) ∙ eight in absurd (cc)
+    let one = long_status x (files_of command) files long in absurd (omega (arith, one, eight))
 cyclic command files x (inr (fit, on)) eight = (by_command command files x on).cycle eight
 
 -- ---- replies

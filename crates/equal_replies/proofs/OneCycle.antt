@@ -1,5 +1,5 @@
 -- What is told of a cycle is one thing, since of several cycles a definition fixes one.
-use Rattle.std.proofs.Common.{◌≡◌, ◌⊎◌, ℕ, List, [], ◌∷◌, ◌++◌, map, inl, inr, refl, sym, ap, ap₂, ◌∙◌, subst}
+use Rattle.std.proofs.Common.{◌≡◌, ◌⊎◌, ℕ, List, [], ◌∷◌, ◌++◌, map, inl, inr, refl, sym, ap₂, ◌∙◌, subst}
 use Rattle.std.specs.Prelude.{codes}
 use Rattle.net_model.specs.Networks.{Net}
 use Rattle.net_model.specs.Walks.{IsCycle}
@@ -12,20 +12,23 @@ use Rattle.commands.specs.command_replies.proofs.FirstFaults.{says}
 use Rattle.commands.specs.edit_report.Said.{EditSaid, Refused}
 use Rattle.commands.specs.edit.EditLaws.{TellCycles, AreSaidAlike}
 
+-- what is made of two equal things is equal
+made_of : {A B C : Type 0} (f : A → B → C) (a b : A) (c d : B) (x y : C) → x ≡ f a c → y ≡ f b d → a ≡ b → c ≡ d → x ≡ y
+made_of f a b c d x y p q e g = p ∙ ap₂ f e g ∙ sym q
+
 -- the reply on a file whose network has a cycle
 pub one_round : (bytes : List ℕ) (x y : Reply) → HasCycle bytes x → HasCycle bytes y → x ≡ y
 one_round bytes x y h k =
     let net : k.net ≡ h.net = (says bytes).one_network k.net h.net k.gives.reads h.gives.reads in
     let moved : IsCycle h.net k.walk = subst (λ (n : Net). IsCycle n k.walk) net k.cycle in
-    let walk : h.walk ≡ k.walk = walks.one_cycle h.net h.walk k.walk h.cycle moved in
-    h.is ∙ ap (λ (w : List ℕ). goes_round (map (server_name h.net) w)) walk
-    ∙ ap (λ (n : Net). goes_round (map (server_name n) k.walk)) (sym net) ∙ sym k.is
+    made_of (λ (n : Net) (walk : List ℕ). goes_round (map (server_name n) walk)) h.net k.net h.walk k.walk x y h.is k.is (sym net)
+    (walks.one_cycle h.net h.walk k.walk h.cycle moved)
 
 -- what is said of an edit whose network has one
 one_said : (x y : EditSaid) → TellCycles x y → x ≡ y
 one_said x y t =
-    let walk : t.one.walk ≡ t.other.walk = walks.one_cycle t.net t.one.walk t.other.walk t.one.cycle t.other.cycle in
-    t.one.is ∙ ap (λ (w : List ℕ). Refused (codes "cycle" ++ spaced (map (server_name t.net) w))) walk ∙ sym t.other.is
+    made_of (λ (n : Net) (walk : List ℕ). Refused (codes "cycle" ++ spaced (map (server_name n) walk))) t.net t.net t.one.walk t.other.walk x y
+    t.one.is t.other.is refl (walks.one_cycle t.net t.one.walk t.other.walk t.one.cycle t.other.cycle)
 
 either_said : (x y : EditSaid) → (x ≡ y) ⊎ TellCycles x y → x ≡ y
 either_said x y (inl same) = same
