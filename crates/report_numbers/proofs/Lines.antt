@@ -181,23 +181,15 @@ live_told : (at other : CellTable) (i : ℕ) (o : Option NetFlow) → is_some o 
 live_told at other i None live t = absurd (cc)
 live_told at other i (Some f) live t = t
 
--- a server with a queue is one of the network
-queue_inside : (net : Net) (s q : ℕ) → q < queues net s → s < length net.servers
-queue_inside net s q h =
-    elim (cases_lt s (length net.servers)) [
-      | inl l ↦ l
-      | inr past ↦
-          let no : queues net s ≡ 0 = ap (λ (o : Option NetServer). queue_count (discipline_of o)) (slice_get_past net.servers s past) in
-          absurd (omega (arith, no, h))
-    ]
-
-no_kind : {X : Type 0} → false ≡ true → X
-no_kind e = absurd cc
-
 at_queue : (net : Net) (at other : CellTable) → SameLines net at other → (s q : ℕ) → IsTrue (has_cell net (cell_of QueueDelay s q)) → SameQueue at other s q
 at_queue net at other same s q has =
     let h = ltb-true q (queues net s) has in
-    same.queue s (queue_inside net s q h) q h
+    elim (cases_lt s (length net.servers)) [
+      | inl inside ↦ same.queue s inside q h
+      | inr past ↦
+          let none : queues net s ≡ 0 = ap (λ (o : Option NetServer). queue_count (discipline_of o)) (slice_get_past net.servers s past) in
+          absurd (omega (arith, none, h))
+    ]
 
 at_flow : (net : Net) (at other : CellTable) → SameLines net at other → (i : ℕ) → is_live net i ≡ true → SameFlow at other i
 at_flow net at other same i live = live_told at other i (flow_at net i) live (same.flow i (live_inside net i live))
@@ -218,18 +210,18 @@ same_at net at other same Bound a b has p =
     let h = and_parts (is_live net a) (b == 0) has in
     let P : ℕ → Type 0 = λ k. SameShown at other Bound a k in
     subst P (sym (eqb-true b 0 h.1)) (at_flow net at other same a h.0).1.1
-same_at net at other same In a b has p = no_kind p
-same_at net at other same Cross a b has p = no_kind p
-same_at net at other same Total a b has p = no_kind p
-same_at net at other same Higher a b has p = no_kind p
-same_at net at other same QueueService a b has p = no_kind p
-same_at net at other same Theta a b has p = no_kind p
-same_at net at other same Residual a b has p = no_kind p
-same_at net at other same HopDelay a b has p = no_kind p
-same_at net at other same ShiftOut a b has p = no_kind p
-same_at net at other same DeconvOut a b has p = no_kind p
-same_at net at other same Out a b has p = no_kind p
-same_at net at other same PathService a b has p = no_kind p
+same_at net at other same In a b has p = absurd (cc)
+same_at net at other same Cross a b has p = absurd (cc)
+same_at net at other same Total a b has p = absurd (cc)
+same_at net at other same Higher a b has p = absurd (cc)
+same_at net at other same QueueService a b has p = absurd (cc)
+same_at net at other same Theta a b has p = absurd (cc)
+same_at net at other same Residual a b has p = absurd (cc)
+same_at net at other same HopDelay a b has p = absurd (cc)
+same_at net at other same ShiftOut a b has p = absurd (cc)
+same_at net at other same DeconvOut a b has p = absurd (cc)
+same_at net at other same Out a b has p = absurd (cc)
+same_at net at other same PathService a b has p = absurd (cc)
 
 pub tells_numbers : (net : Net) (at other : CellTable) → SameLines net at other
     → (c : Cell) (x : Ext) → IsShown net c → IsPrintable x → at c ≡ Some (number x) → other c ≡ Some (number x)

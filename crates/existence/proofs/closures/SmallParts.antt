@@ -36,10 +36,10 @@ slopes_or_not l [] = inl tt
 slopes_or_not l (p ∷ ps) = elim (slope_or_not p.x l) [
   | inr n ↦ inr (λ h. n h.0)
   | inl before ↦ elim (slope_or_not p.x p.line) [
-    | inr n ↦ inr (λ h. n h.1.0)
+    | inr n ↦ inr (λ h. n h.1)
     | inl here ↦ elim (slopes_or_not p.line ps) [
-      | inr n ↦ inr (λ h. n h.1.1)
-      | inl rest ↦ inl (before, (here, rest))
+      | inr n ↦ inr (λ h. n h.2)
+      | inl rest ↦ inl (before, here, rest)
     ]
   ]
 ]

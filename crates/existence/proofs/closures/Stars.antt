@@ -162,7 +162,7 @@ module _ (f : SpecCurve) (F : IsCurve f) (fin : IsFinite (value_at f)) (low : Is
 
   pub star_found : (e : Element) → IsElementOf f e → HasAnswerOf (PartAnswer f (part_of f.tail e))
   star_found e among = elim (within_or_not f (segment_number e)) [
-    | inr no ↦ record { answer = Err no.fault; is = stops no.fault no.cause refl; found = no.found }
+    | inr over ↦ record { answer = Err over.fault; is = stops over.fault over.cause refl; found = over.found }
     | inl within ↦
         let c = element_found e among in
         let t = turned (copies_of f.tail e) c.curve (has_lattice f e F fin) c.closes.normal c.sort in
