@@ -8,3 +8,4 @@ pub mod Told
 pub mod PathTexts
 pub mod EditSteps
 pub mod OneEditList
+pub mod EachText

@@ -1,5 +1,5 @@
--- What holds of all texts and networks: a text is one trace at most, or has one first fault.
-use Rattle.std.specs.Prelude.{◌≡◌, ◌≢◌, ℕ, List}
+-- What holds of all texts and networks: a text is one trace, or has one first fault.
+use Rattle.std.specs.Prelude.{◌≡◌, ◌≢◌, ◌⊎◌, ℕ, List}
 use Rattle.net_model.specs.Networks.{Net}
 use Rattle.net_model.specs.Accepted.{IsAccepted}
 use Rattle.net_model.specs.Traces.{SpecTrace}
@@ -28,6 +28,13 @@ FaultsAreOne =
     (net : Net) (text : List ℕ) (kind other : TableKind) (number place : ℕ) → IsAccepted net
     → IsFirstFault net text kind number → IsFirstFault net text other place → (kind ≡ other) × (number ≡ place)
 
+-- a text is a trace, or has a first fault
+abbrev pub TracesAreRead : Type 0
+TracesAreRead =
+    (net : Net) (text : List ℕ)
+    → ((trace : SpecTrace) × IsTraceOf net (rows_of text) trace)
+    ⊎ ((kind : TableKind) × (number : ℕ) × IsFirstFault net text kind number)
+
 -- want of memory is no fault
 abbrev pub FaultsAreOfRows : Type 0
 FaultsAreOfRows =
@@ -47,6 +54,12 @@ abbrev pub EditFaultsAreOne : Type 0
 EditFaultsAreOne =
     (text : List ℕ) (kind other : TableKind) (number place : ℕ) → IsFirstEditFault text kind number
     → IsFirstEditFault text other place → (kind ≡ other) × (number ≡ place)
+
+abbrev pub EditsAreRead : Type 0
+EditsAreRead =
+    (text : List ℕ)
+    → ((edits : List EditText) × AreEditsOf (rows_of text) edits)
+    ⊎ ((kind : TableKind) × (number : ℕ) × IsFirstEditFault text kind number)
 
 abbrev pub EditFaultsAreOfRows : Type 0
 EditFaultsAreOfRows =

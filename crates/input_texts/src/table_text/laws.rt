@@ -1,7 +1,9 @@
 //! What holds of all texts. Each law is the contract of a function that does nothing.
 
-ghost use Rattle.input_texts.specs.table_text.Laws.{TracesAreOne, FaultsExcludeTraces, FaultsAreOne, FaultsAreOfRows};
-ghost use Rattle.input_texts.specs.table_text.Laws.{EditsAreOne, FaultsExcludeEdits, EditFaultsAreOne, EditFaultsAreOfRows};
+ghost use Rattle.input_texts.specs.table_text.Laws.{TracesAreOne, TracesAreRead, FaultsExcludeTraces};
+ghost use Rattle.input_texts.specs.table_text.Laws.{FaultsAreOne, FaultsAreOfRows};
+ghost use Rattle.input_texts.specs.table_text.Laws.{EditsAreOne, EditsAreRead, FaultsExcludeEdits, EditFaultsAreOne};
+ghost use Rattle.input_texts.specs.table_text.Laws.{EditFaultsAreOfRows};
 
 /// Rows give one trace of an accepted network at most.
 pub fn traces_are_one()
@@ -11,6 +13,11 @@ pub fn traces_are_one()
 /// A text with a fault has no trace: so `read_trace` refuses exactly those that have none, unless memory runs out.
 pub fn faults_exclude_traces()
     ensures { FaultsExcludeTraces }
+{}
+
+/// A text is a trace of a network, or has a first fault.
+pub fn traces_are_read()
+    ensures { TracesAreRead }
 {}
 
 /// A text has one first fault at most, of one kind and in one row.
@@ -32,6 +39,11 @@ pub fn edits_are_one()
 /// out.
 pub fn faults_exclude_edits()
     ensures { FaultsExcludeEdits }
+{}
+
+/// A text is a list of edits, or has a first fault.
+pub fn edits_are_read()
+    ensures { EditsAreRead }
 {}
 
 /// A text has one first fault as a list of edits at most, of one kind and in one row.
