@@ -17,7 +17,7 @@ pub use keyword::{
     CurveOperator, Keyword, NumberOperator, NumberPair, NumberTriple, OneAsked, PairOperator,
     TwoAsked,
 };
-pub use laws::{faults_exclude_scripts, scripts_are_one};
+pub use laws::{faults_exclude_scripts, scripts_are_one, scripts_are_read};
 pub use parsing::parse_script;
 pub use script::{Expr, Script, ScriptLine, Stat};
 pub use token::Sign;

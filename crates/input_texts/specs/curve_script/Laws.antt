@@ -1,5 +1,5 @@
 -- Laws of scripts. (Own choice.)
-use Rattle.std.specs.Prelude.{◌≡◌, ℕ, List}
+use Rattle.std.specs.Prelude.{◌≡◌, ◌⊎◌, ℕ, List}
 use Rattle.min_plus.specs.rational.specs.Rational.{ℚ}
 use Rattle.input_texts.specs.declared.curve_script.fault.LangKind.{LangKind}
 use Rattle.input_texts.specs.curve_script.Tokens.{Token, Says}
@@ -18,6 +18,12 @@ LineSpellsOne = (line : List ℕ) (s t : Statement ℚ) → Spells line s → Sp
 -- a text is one script at most
 abbrev pub TextIsOne : Type 0
 TextIsOne = (text : List ℕ) (a b : List Numbered) → IsScript text a → IsScript text b → a ≡ b
+
+-- it is one, or has a first fault
+abbrev pub ScriptsAreRead : Type 0
+ScriptsAreRead =
+    (text : List ℕ)
+    → ((out : List Numbered) × IsScript text out) ⊎ ((kind : LangKind) × (at : ℕ) × IsFirstFault text kind at)
 
 -- and no script where it has a fault
 abbrev pub FaultExcludesScript : Type 0
