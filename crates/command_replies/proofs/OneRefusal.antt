@@ -1,4 +1,4 @@
--- Two refusals of one file are the same, but for the choice among cycles; and what a file with a refusal does not give.
+-- Two refusals of one file are the same; and what a file with a refusal does not give.
 use Rattle.std.proofs.Common.{◌≡◌, ℕ, List, map, inl, inr, sym, ap, ◌∙◌}
 use Rattle.upp_limits.specs.LimitTest.{fault_of}
 use Rattle.upp_limits.specs.declared.own_limits.OverLimit.{OverLimit}
@@ -7,6 +7,7 @@ use Rattle.net_model.specs.Accepted.{IsAccepted}
 use Rattle.net_model.specs.Networks.{Net}
 use Rattle.net_model.specs.Orders.{IsOrder}
 use Rattle.net_model.specs.Walks.{IsCycle}
+use Rattle.net_model.proofs.net_graph.OneCycles as walks
 use Rattle.net_draft.specs.Faults.{Fault}
 use Rattle.net_text.specs.Becoming.{limit_fault}
 use Rattle.net_text.specs.Reading.{IsNetworkOf, FirstFault}
@@ -17,16 +18,10 @@ use Rattle.report_text.specs.net_cells.specs.FirstOver.{AnswersAll, FirstOver}
 use Rattle.report_text.specs.net_cells.specs.Order.{evaluation_order}
 use Rattle.report_text.specs.net_cells.proofs.Tables.{one_is_first_over}
 use Rattle.report_text.specs.CellWords.{server_name, cell_words}
-use Rattle.command_replies.specs.Replies.{Reply, AreSame, goes_round, cell_over}
+use Rattle.command_replies.specs.Replies.{Reply, goes_round, cell_over}
 use Rattle.command_replies.specs.Faults.{fault_reply}
 use Rattle.command_replies.specs.OnFiles.{IsNoNetwork}
 use Rattle.command_replies.proofs.FirstFaults.{says, on_broken, on_limit}
-
-pub equal : (x y : Reply) → x ≡ y → AreSame x y
-equal x y same = record {
-  status = ap (λ (r : Reply). r.status) same;
-  bytes = λ other. ap (λ (r : Reply). r.bytes) same;
-}
 
 -- ---- a file that gives no network
 pub record OnFault (file bytes : List ℕ) (reply : Reply) : Type 0 where
@@ -55,11 +50,9 @@ pub record OnCycle (net : Net) (reply : Reply) : Type 0 where
   pub cycle : IsCycle net walk
   pub is : reply ≡ goes_round (map (server_name net) walk)
 
-pub one_cycle : (net : Net) (x y : Reply) → OnCycle net x → OnCycle net y → AreSame x y
+pub one_cycle : (net : Net) (x y : Reply) → OnCycle net x → OnCycle net y → x ≡ y
 one_cycle net x y h k =
-    let here : x.status ≡ 8 = ap (λ (r : Reply). r.status) h.is in
-    let there : y.status ≡ 8 = ap (λ (r : Reply). r.status) k.is in
-    record { status = here ∙ sym there; bytes = λ other. absurd (other here) }
+    h.is ∙ ap (λ (walk : List ℕ). goes_round (map (server_name net) walk)) (walks.one_cycle net h.walk k.walk h.cycle k.cycle) ∙ sym k.is
 
 -- ---- a cell over a limit
 pub record IsOver (net : Net) (order : List ℕ) (reply : Reply) : Type 0 where

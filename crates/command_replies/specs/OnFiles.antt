@@ -50,7 +50,7 @@ pub record IsBadTrace (net_bytes trace_file trace_bytes : List ℕ) (reply : Rep
   pub first : IsFirstFault net trace_bytes fault.kind fault.row
   pub is : reply ≡ table_fault_reply trace_file fault
 
--- its flows go round; of its cycles one is told
+-- its flows go round, over the cycle that is told
 pub record HasCycle (bytes : List ℕ) (reply : Reply) : Type 0 where
   pub net : Net
   pub gives : IsNetOf bytes net

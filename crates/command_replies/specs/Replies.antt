@@ -1,5 +1,5 @@
 -- What a call answers: an exit status, and the bytes that are written.
-use Rattle.std.specs.Prelude.{◌≡◌, ◌≢◌, ℕ, ◌++◌, List, codes}
+use Rattle.std.specs.Prelude.{ℕ, ◌++◌, List, codes}
 use Rattle.std.specs.Fmt.{decimal}
 use Rattle.input_texts.specs.declared.curve_script.fault.LangFault.{LangFault}
 use Rattle.input_texts.specs.declared.table_text.fault.TableFault.{TableFault}
@@ -15,11 +15,6 @@ use Rattle.report_text.specs.Report.{report_of}
 pub record Reply : Type 0 where
   pub status : ℕ
   pub bytes : List ℕ
-
--- one status, and one text unless it tells a cycle, of which a network may have several
-pub record AreSame (x y : Reply) : Type 0 where
-  pub status : x.status ≡ y.status
-  pub bytes : x.status ≢ 8 → x.bytes ≡ y.bytes
 
 -- ---- a report
 abbrev pub report : Net → CellTable → Reply

@@ -6,7 +6,6 @@ use Rattle.report_text.specs.net_cells.specs.Meanings.{CellTable}
 use Rattle.net_bounds.proofs.Kept.{table_bounds_every_run}
 use Rattle.commands.specs.command_replies.specs.Guarantee.{Guarantees}
 use Rattle.commands.specs.command_replies.specs.Replies.{Reply}
-use Rattle.commands.specs.command_replies.proofs.OneRefusal.{equal}
 use Rattle.report_text.specs.declared.json_report.form.Form.{Form}
 use Rattle.commands.specs.analyse.AnswerCounts.{CountsOn}
 use Rattle.commands.specs.analyse.OnFiles.{IsReportOf, IsReport}
@@ -39,7 +38,7 @@ use Rattle.commands.proofs.curve.ByStatus as curve
 use Rattle.commands.proofs.curve.OneReply as calculated
 use Rattle.netcalc_cli.specs.Commands.{Command, Analyse, Edit, Simulate, Exercise, Check, Measure, Curve}
 use Rattle.netcalc_cli.specs.Commands.{IsReplyTo, IsMalformed, IsOver}
-use Rattle.netcalc_cli.specs.Commands.{AreSameTo, IsCyclic, TellsBreach, IsDone, IsAnswerable, IsAnswer, CountsTo}
+use Rattle.netcalc_cli.specs.Commands.{IsCyclic, TellsBreach, IsDone, IsAnswerable, IsAnswer, CountsTo}
 
 -- ---- by status
 pub record IsByStatus (command : Command) (files : List (List ℕ)) (reply : Reply) : Type 0 where
@@ -156,30 +155,20 @@ by_command (Curve script) (bytes ∷ []) reply h =
 by_command command files reply h = absurd h
 
 -- ---- one reply
-pub equal_by_command : (command : Command) (x y : Reply) → x ≡ y → AreSameTo command x y
-equal_by_command (Analyse form net) x y e = equal x y e
-equal_by_command (Edit form net edits) x y e =
-    record { status = ap (λ (r : Reply). r.status) e; text = inl (ap (λ (r : Reply). r.bytes) e) }
-equal_by_command (Simulate net trace) x y e = equal x y e
-equal_by_command (Exercise seed) x y e = equal x y e
-equal_by_command (Check net run) x y e = equal x y e
-equal_by_command (Measure net trace name rate) x y e = equal x y e
-equal_by_command (Curve script) x y e = equal x y e
-
 pub one_by_command : (command : Command) (files : List (List ℕ)) (x y : Reply) → IsReplyTo command files x
-    → IsReplyTo command files y → AreSameTo command x y
+    → IsReplyTo command files y → x ≡ y
 one_by_command (Analyse form net) (bytes ∷ []) x y h k = analysed.replies_are_determined form net bytes x y h k
 one_by_command (Edit form net edits) (bytes ∷ rows ∷ []) x y h k =
     edited.replies_are_determined form net bytes edits rows x y h k
 one_by_command (Simulate net trace) (bytes ∷ rows ∷ []) x y h k =
     simulated.replies_are_determined net bytes trace rows x y h k
-one_by_command (Exercise seed) [] x y h k = equal x y (exercised.replies_are_determined seed x y h k)
+one_by_command (Exercise seed) [] x y h k = exercised.replies_are_determined seed x y h k
 one_by_command (Check net run) (bytes ∷ rows ∷ []) x y h k =
     checked.replies_are_determined net bytes run rows x y h k
 one_by_command (Measure net trace name rate) (bytes ∷ rows ∷ []) x y h k =
-    equal x y (measured.replies_are_determined net bytes trace rows name rate x y h k)
+    measured.replies_are_determined net bytes trace rows name rate x y h k
 one_by_command (Curve script) (bytes ∷ []) x y h k =
-    equal x y (calculated.replies_are_determined script bytes x y h k)
+    calculated.replies_are_determined script bytes x y h k
 one_by_command command files x y h k = absurd h
 
 -- ---- on files that can be answered

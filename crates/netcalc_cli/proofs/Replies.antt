@@ -12,7 +12,7 @@ use Rattle.netcalc_cli.specs.Counts.{CountsOnCommand, Counts}
 use Rattle.netcalc_cli.specs.Files.{Told, IsTooLong, FirstIs, MayHoldAll, AllFit, all_told}
 use Rattle.netcalc_cli.specs.Laws.{RepliesAreDetermined}
 use Rattle.netcalc_cli.specs.Reply.{IsReplyOnFiles, FailedAt, EndsAt, MayReplyTo, Gives, Brings, GivesOnTold, AnswersWhatItCan}
-use Rattle.netcalc_cli.proofs.ByCommand.{IsByStatus, by_command, equal_by_command, one_by_command, complete_by_command}
+use Rattle.netcalc_cli.proofs.ByCommand.{IsByStatus, by_command, one_by_command, complete_by_command}
 use Rattle.netcalc_cli.proofs.ByCommand.{IsGiven, answer_given, counts_by_command}
 use Rattle.netcalc_cli.proofs.FileLemmas.{first_map, first_shows, long_shows, long_first, not_long, long_one, ended, any_told}
 use Rattle.netcalc_cli.proofs.FileLemmas.{same_told, on_told, any_told}
@@ -288,7 +288,7 @@ counts_at told command status other old new same (inr h) =
 -- ---- there is one reply
 pub replies_are_determined : RepliesAreDetermined
 replies_are_determined command files x y (inl h) (inl k) =
-    equal_by_command command x y (long_one x y too_long (files_of command) files h k)
+    long_one x y too_long (files_of command) files h k
 replies_are_determined command files x y (inl h) (inr k) =
     absurd (not_long (λ file. x ≡ too_long file) (files_of command) files h k.0)
 replies_are_determined command files x y (inr h) (inl k) =

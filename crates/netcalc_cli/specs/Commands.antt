@@ -10,7 +10,7 @@ use Rattle.net_model.specs.Networks.{Net}
 use Rattle.report_text.specs.net_cells.specs.Meanings.{CellTable}
 use Rattle.net_bounds.specs.NetRuns.{IsRunOf}
 use Rattle.report_text.specs.declared.json_report.form.Form.{Form}
-use Rattle.commands.specs.command_replies.specs.Replies.{Reply, AreSame}
+use Rattle.commands.specs.command_replies.specs.Replies.{Reply}
 use Rattle.commands.specs.command_replies.specs.Guarantee.{Guarantees}
 use Rattle.commands.specs.command_replies.specs.OnFiles.{IsBroken, IsOverLimit, HasCycle}
 use Rattle.commands.specs.analyse.OnFiles.{IsReplyOn, IsReportOf}
@@ -79,16 +79,6 @@ IsReplyTo (Check net run) (bytes ∷ rows ∷ []) reply = IsCheckReply net bytes
 IsReplyTo (Measure net trace name rate) (bytes ∷ rows ∷ []) reply = IsMeasureReply net bytes trace rows name rate reply
 IsReplyTo (Curve script) (bytes ∷ []) reply = IsScriptReply script bytes reply
 IsReplyTo command files reply = ⊥
-
--- two such replies on the same files: one status, and one text but for the choice among cycles
-abbrev pub AreSameTo : Command → Reply → Reply → Type 0
-AreSameTo (Analyse form net) x y = AreSame x y
-AreSameTo (Edit form net edits) x y = edit_laws.AreAlike form x y
-AreSameTo (Simulate net trace) x y = AreSame x y
-AreSameTo (Exercise seed) x y = AreSame x y
-AreSameTo (Check net run) x y = AreSame x y
-AreSameTo (Measure net trace name rate) x y = AreSame x y
-AreSameTo (Curve script) x y = AreSame x y
 
 -- ---- of these replies those with one status each
 -- 1: the first rule that a file breaks, or a name of no live flow

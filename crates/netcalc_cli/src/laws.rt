@@ -3,7 +3,7 @@
 ghost use Rattle.netcalc_cli.specs.Example.{OneFlowReachesItsBound};
 ghost use Rattle.netcalc_cli.specs.Laws.{RepliesAreDetermined};
 
-/// Status and bytes are determined by a command and by what its files hold, but for the choice among cycles.
+/// Status and bytes are determined by a command and by what its files hold.
 pub fn replies_are_determined()
     ensures { RepliesAreDetermined }
 {}

@@ -1,4 +1,4 @@
--- Two replies on one file are the same, but for the choice among cycles.
+-- Two replies on one file are the same.
 use Rattle.std.proofs.Common.{◌≡◌, ℕ, List, ◌⊎◌, inl, inr, sym, ap, ◌∙◌, subst}
 use Rattle.upp_limits.specs.LimitTest.{fault_of}
 use Rattle.net_model.specs.Accepted.{IsAccepted}
@@ -8,9 +8,9 @@ use Rattle.net_model.proofs.net_graph.OneOrders.{one_order}
 use Rattle.net_model.proofs.net_graph.Returns.{cycle_is_closed, order_or_cycle}
 use Rattle.report_text.specs.declared.json_report.form.Form.{Form}
 use Rattle.report_text.proofs.json_report.OneForm.{one_report_in}
-use Rattle.command_replies.specs.Replies.{Reply, AreSame}
+use Rattle.command_replies.specs.Replies.{Reply}
 use Rattle.command_replies.proofs.FirstFaults.{says}
-use Rattle.command_replies.proofs.OneRefusal.{OnFault, OnCycle, IsOver, equal, one_fault, no_network, one_cycle}
+use Rattle.command_replies.proofs.OneRefusal.{OnFault, OnCycle, IsOver, one_fault, no_network, one_cycle}
 use Rattle.command_replies.proofs.OneRefusal.{one_over, no_answers}
 use Rattle.commands.specs.analyse.AnswerLaws.{RepliesAreDetermined, IsWithinLimits, RepliesAreComplete}
 use Rattle.commands.proofs.analyse.Sorted.{IsShown, OnOrder, OnNet, sorted}
@@ -27,20 +27,20 @@ by_order form net order x y a o (inr h) (inr k) =
 
 -- ---- by a network
 by_net : (form : Form) (net : Net) (x y : Reply) → IsAccepted net → OnCycle net x ⊎ OnOrder form net x → OnCycle net y ⊎ OnOrder form net y
-    → AreSame x y
+    → x ≡ y
 by_net form net x y a (inl h) (inl k) = one_cycle net x y h k
 by_net form net x y a (inl h) (inr k) = absurd (order_or_cycle.no_cycle net k.order h.walk a k.ordered h.cycle)
 by_net form net x y a (inr h) (inl k) = absurd (order_or_cycle.no_cycle net h.order k.walk a h.ordered k.cycle)
 by_net form net x y a (inr h) (inr k) =
     let same = one_order net k.order h.order k.ordered h.ordered in
     let on = subst (λ order. IsOver net order y ⊎ IsShown form net order y) same k.on in
-    equal x y (by_order form net h.order x y a h.ordered h.on on)
+    by_order form net h.order x y a h.ordered h.on on
 
 -- ---- by a file
 by_file : (form : Form) (file bytes : List ℕ) (x y : Reply) → OnFault file bytes x ⊎ OnNet form bytes x
     → OnFault file bytes y ⊎ OnNet form bytes y
-    → AreSame x y
-by_file form file bytes x y (inl h) (inl k) = equal x y (one_fault file bytes x y h k)
+    → x ≡ y
+by_file form file bytes x y (inl h) (inl k) = one_fault file bytes x y h k
 by_file form file bytes x y (inl h) (inr k) = absurd (no_network file bytes x k.net h k.gives.reads)
 by_file form file bytes x y (inr h) (inl k) = absurd (no_network file bytes y h.net k h.gives.reads)
 by_file form file bytes x y (inr h) (inr k) =

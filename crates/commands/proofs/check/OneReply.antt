@@ -1,4 +1,4 @@
--- Two replies on the same files are the same, but for the choice among cycles; within the limits they are reports.
+-- Two replies on the same files are the same; within the limits they are reports.
 use Rattle.std.proofs.Common.{◌≡◌, ℕ, ◌<◌, ◌^◌, List, inl, inr, sym, ap, ◌∙◌, subst}
 use Rattle.std.specs.Prelude.{◌⊎◌}
 use native.Mathlib.Nat.{not-le_of_lt}
@@ -19,9 +19,9 @@ use Rattle.run_check.specs.check_gauge.Gauge.{check_gauge}
 use Rattle.run_watch.specs.simulated_sizes.Laws.{AreCurves}
 use Rattle.run_check.specs.declared.run_table.fault.RunFault.{RunFault}
 use Rattle.run_check.proofs.run_table.OneRun.{readings_are_one}
-use Rattle.command_replies.specs.Replies.{Reply, AreSame}
+use Rattle.command_replies.specs.Replies.{Reply}
 use Rattle.command_replies.proofs.FirstFaults.{says}
-use Rattle.command_replies.proofs.OneRefusal.{equal, OnFault, OnCycle, IsOver}
+use Rattle.command_replies.proofs.OneRefusal.{OnFault, OnCycle, IsOver}
 use Rattle.command_replies.proofs.OneRefusal.{one_fault, no_network, one_cycle, one_over, no_answers}
 use Rattle.command_replies.specs.run_findings.Statuses.{IsOfReport}
 use Rattle.command_replies.proofs.run_findings.Reports.{same_telling}
@@ -70,14 +70,14 @@ by_order net run order x y a o (inr h) (inr k) =
 
 -- ---- by a run
 by_run : (net : Net) (run : SpecRun) (x y : Reply) → IsAccepted net → OnCycle net x ⊎ OnOrder net run x
-    → OnCycle net y ⊎ OnOrder net run y → AreSame x y
+    → OnCycle net y ⊎ OnOrder net run y → x ≡ y
 by_run net run x y a (inl h) (inl k) = one_cycle net x y h k
 by_run net run x y a (inl h) (inr k) = absurd (order_or_cycle.no_cycle net k.order h.walk a k.ordered h.cycle)
 by_run net run x y a (inr h) (inl k) = absurd (order_or_cycle.no_cycle net h.order k.walk a h.ordered k.cycle)
 by_run net run x y a (inr h) (inr k) =
     let same = one_order net k.order h.order k.ordered h.ordered in
     let on = subst (λ order. IsOver net order y ⊎ IsShown net run order y) same k.on in
-    equal x y (by_order net run h.order x y a h.ordered h.on on)
+    by_order net run h.order x y a h.ordered h.on on
 
 -- ---- by a network
 same_fault : (f g : RunFault) → f.kind ≡ g.kind → f.row ≡ g.row → f ≡ g
@@ -86,11 +86,11 @@ same_fault f g kind row =
 
 by_net : (net : Net) (run_file run_bytes : List ℕ) (x y : Reply) → IsAccepted net
     → OnBadRun net run_file run_bytes x ⊎ OnRun net run_bytes x
-    → OnBadRun net run_file run_bytes y ⊎ OnRun net run_bytes y → AreSame x y
+    → OnBadRun net run_file run_bytes y ⊎ OnRun net run_bytes y → x ≡ y
 by_net net run_file run_bytes x y a (inl h) (inl k) =
     let one =
     (readings_are_one net run_bytes a).fault h.fault.kind k.fault.kind h.fault.row k.fault.row h.first k.first in
-    equal x y (h.is ∙ ap (run_fault_reply run_file) (same_fault h.fault k.fault one.0 one.1) ∙ sym k.is)
+    h.is ∙ ap (run_fault_reply run_file) (same_fault h.fault k.fault one.0 one.1) ∙ sym k.is
 by_net net run_file run_bytes x y a (inl h) (inr k) =
     absurd ((readings_are_one net run_bytes a).not_both k.run h.fault.kind h.fault.row k.reads h.first)
 by_net net run_file run_bytes x y a (inr h) (inl k) =
@@ -103,9 +103,9 @@ by_net net run_file run_bytes x y a (inr h) (inr k) =
 -- ---- by two files
 by_files : (net_file net_bytes run_file run_bytes : List ℕ) (x y : Reply)
     → OnFault net_file net_bytes x ⊎ OnNet net_bytes run_file run_bytes x
-    → OnFault net_file net_bytes y ⊎ OnNet net_bytes run_file run_bytes y → AreSame x y
+    → OnFault net_file net_bytes y ⊎ OnNet net_bytes run_file run_bytes y → x ≡ y
 by_files net_file net_bytes run_file run_bytes x y (inl h) (inl k) =
-    equal x y (one_fault net_file net_bytes x y h k)
+    one_fault net_file net_bytes x y h k
 by_files net_file net_bytes run_file run_bytes x y (inl h) (inr k) =
     absurd (no_network net_file net_bytes x k.net h k.gives.reads)
 by_files net_file net_bytes run_file run_bytes x y (inr h) (inl k) =

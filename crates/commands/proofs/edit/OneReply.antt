@@ -1,5 +1,5 @@
--- Two replies on the same files are the same, but for the choice among cycles.
-use Rattle.std.proofs.Common.{◌≡◌, ◌⊎◌, ℕ, List, [], ◌∷◌, map, inl, inr, sym, ap, ◌∙◌, subst}
+-- Two replies on the same files are the same.
+use Rattle.std.proofs.Common.{◌≡◌, ◌⊎◌, ℕ, List, [], ◌∷◌, map, inl, inr, refl, sym, ap, ap₂, ◌∙◌, subst}
 use Rattle.net_model.specs.declared.edit.Edit.{Edit}
 use Rattle.net_model.specs.Accepted.{IsAccepted}
 use Rattle.net_model.specs.Networks.{Net}
@@ -22,11 +22,11 @@ use Rattle.commands.proofs.edit_report.OneForm.{one_edit_report}
 use Rattle.command_replies.specs.OnFiles.{IsNetOf}
 use Rattle.command_replies.specs.Replies.{Reply, table_fault_reply}
 use Rattle.command_replies.proofs.FirstFaults.{says}
-use Rattle.command_replies.proofs.OneRefusal.{OnFault, OnCycle, IsOver, on_fault, one_fault, no_network, one_over, no_answers}
+use Rattle.command_replies.proofs.OneRefusal.{OnFault, OnCycle, IsOver, on_fault, one_fault, no_network, one_cycle, one_over, no_answers}
 use Rattle.commands.specs.edit.NetHistories.{NetHistory, begun}
 use Rattle.commands.specs.edit.Answered.{AreAnswered}
 use Rattle.commands.specs.edit.OnEdits.{AsksFor, AreReported, IsEditReply, Broken, CurveOver, BadList, Cyclic, CellOver, Reported}
-use Rattle.commands.specs.edit.EditLaws.{AreSaidAlike, AreSameReports, AreAlike, RepliesAreDetermined}
+use Rattle.commands.specs.edit.EditLaws.{RepliesAreDetermined}
 use Rattle.commands.proofs.edit.NextOne.{next_is_one}
 use Rattle.commands.proofs.edit.SameEdits.{answered_alike}
 use Rattle.commands.proofs.edit.OneSaid.{said_is_one}
@@ -34,11 +34,11 @@ use Rattle.commands.proofs.edit.OneSaid.{said_is_one}
 -- ---- edits in turn
 record AreSameRows (said others : List EditSaid) (x y : NetHistory) : Type 0 where
   last : x ≡ y
-  same : AreSaidAlike said others
+  same : said ≡ others
 
 rows_same : (old : NetHistory) (es fs : List Edit) (ws vs : List EditSaid) (x y : NetHistory)
     → map edit_view es ≡ map edit_view fs → AreAnswered old es ws x → AreAnswered old fs vs y → AreSameRows ws vs x y
-rows_same old [] [] [] [] x y e h k = record { last = h ∙ sym k; same = tt }
+rows_same old [] [] [] [] x y e h k = record { last = h ∙ sym k; same = refl }
 rows_same old [] [] [] (v ∷ vs) x y e h k = absurd k
 rows_same old [] [] (w ∷ ws) vs x y e h k = absurd h
 rows_same old [] (f ∷ fs) ws vs x y e h k = absurd (cc)
@@ -52,7 +52,8 @@ rows_same old (d ∷ ds) (f ∷ fs) (w ∷ ws) (v ∷ vs) x y e h k =
     let next : h.next ≡ k.next = next_is_one old d w v h.next k.next h.first other in
     let moved = subst (λ (n : NetHistory). AreAnswered n fs vs y) (sym next) k.rest in
     let rest = rows_same h.next ds fs ws vs x y tail h.rest moved in
-    record { last = rest.last; same = (said_is_one old d w v h.next k.next h.first other, rest.same) }
+    let one = said_is_one old d w v h.next k.next h.first other in
+    record { last = rest.last; same = ap₂ (λ (s : EditSaid) (ss : List EditSaid). s ∷ ss) one rest.same }
 
 -- ---- the replies, sorted by what the files give
 module _ (form : Form) where
@@ -112,9 +113,6 @@ module _ (form : Form) where
       inr (record { net = h.first; gives = h.gives; on = inr good })
 
   -- ---- two of them
-  equal : (x y : Reply) → x ≡ y → AreAlike form x y
-  equal x y same = record { status = ap (λ (r : Reply). r.status) same; text = inl (ap (λ (r : Reply). r.bytes) same) }
-
   one_bad : (edits_file edits_bytes : List ℕ) (x y : Reply) → IsBad edits_file edits_bytes x → IsBad edits_file edits_bytes y
       → x ≡ y
   one_bad edits_file edits_bytes x y h k =
@@ -122,14 +120,8 @@ module _ (form : Form) where
       h.is ∙ ap (λ kind. table_fault_reply edits_file record { kind = kind; row = h.fault.row }) both.0
       ∙ ap (λ row. table_fault_reply edits_file record { kind = k.fault.kind; row = row }) both.1 ∙ sym k.is
 
-  two_cycles : (net : Net) (x y : Reply) → OnCycle net x → OnCycle net y → AreAlike form x y
-  two_cycles net x y h k =
-      let here : x.status ≡ 8 = ap (λ (r : Reply). r.status) h.is in
-      let there : y.status ≡ 8 = ap (λ (r : Reply). r.status) k.is in
-      record { status = here ∙ sym there; text = inr (inl here) }
-
   two_reports : (net : Net) (edits_bytes : List ℕ) (x y : Reply) → IsShown net edits_bytes x → IsShown net edits_bytes y
-      → AreAlike form x y
+      → x ≡ y
   two_reports net edits_bytes x y h k =
       let asked = edits_one (rows_of edits_bytes) (map edit_view h.edits) (map edit_view k.edits) h.asked.are k.asked.are in
       let rows = rows_same (begun net) h.edits k.edits h.report.answers k.report.answers h.report.last k.report.last asked
@@ -139,19 +131,10 @@ module _ (form : Form) where
       let meets = subst (λ (n : Net). MeetsEquations n k.at) last k.report.meets in
       let shown = one_edit_report form h.last h.report.shown.order h.at k.at h.report.shown.accepted
       h.report.shown.ordered h.report.meets meets in
-      let here : x.status ≡ 0 = ap (λ (r : Reply). r.status) h.report.is in
-      let there : y.status ≡ 0 = ap (λ (r : Reply). r.status) k.report.is in
-      let same : AreSameReports form x y = record {
-        said = h.report.answers;
-        others = k.report.answers;
-        same = rows.same;
-        net = h.last;
-        at = h.at;
-        is = ap (λ (r : Reply). r.bytes) h.report.is;
-        is_other = ap (λ (r : Reply). r.bytes) k.report.is
-            ∙ ap (λ (n : Net). edit_report_in form n k.at k.report.answers) last ∙ sym (shown k.report.answers);
-      } in
-      record { status = here ∙ sym there; text = inr (inr same) }
+      let texts = ap (λ (said : List EditSaid). edit_report_in form h.last h.at said) rows.same
+      ∙ shown k.report.answers ∙ ap (λ (n : Net). edit_report_in form n k.at k.report.answers) (sym last) in
+      let with_text : List ℕ → Reply = λ bytes. record { status = 0; bytes = bytes } in
+      h.report.is ∙ ap with_text texts ∙ sym k.report.is
 
   over_or_shown : (net : Net) (order : List ℕ) (edits_bytes : List ℕ) (x y : Reply) → IsAccepted net → IsOrder net order
       → IsOver net order x → IsShown net edits_bytes y → ⊥
@@ -162,15 +145,15 @@ module _ (form : Form) where
       (subst (λ (xs : List ℕ). AnswersAll net k.report.table (evaluation_order net xs)) same analysed.answers)
 
   by_order : (net : Net) (order : List ℕ) (edits_bytes : List ℕ) (x y : Reply) → IsAccepted net → IsOrder net order
-      → IsOver net order x ⊎ IsShown net edits_bytes x → IsOver net order y ⊎ IsShown net edits_bytes y → AreAlike form x y
-  by_order net order edits_bytes x y a o (inl h) (inl k) = equal x y (one_over net order x y a o h k)
+      → IsOver net order x ⊎ IsShown net edits_bytes x → IsOver net order y ⊎ IsShown net edits_bytes y → x ≡ y
+  by_order net order edits_bytes x y a o (inl h) (inl k) = one_over net order x y a o h k
   by_order net order edits_bytes x y a o (inl h) (inr k) = absurd (over_or_shown net order edits_bytes x y a o h k)
   by_order net order edits_bytes x y a o (inr h) (inl k) = absurd (over_or_shown net order edits_bytes y x a o k h)
   by_order net order edits_bytes x y a o (inr h) (inr k) = two_reports net edits_bytes x y h k
 
   by_good : (net : Net) (edits_bytes : List ℕ) (x y : Reply) → IsAccepted net
-      → OnCycle net x ⊎ OnOrder net edits_bytes x → OnCycle net y ⊎ OnOrder net edits_bytes y → AreAlike form x y
-  by_good net edits_bytes x y a (inl h) (inl k) = two_cycles net x y h k
+      → OnCycle net x ⊎ OnOrder net edits_bytes x → OnCycle net y ⊎ OnOrder net edits_bytes y → x ≡ y
+  by_good net edits_bytes x y a (inl h) (inl k) = one_cycle net x y h k
   by_good net edits_bytes x y a (inl h) (inr k) = absurd (order_or_cycle.no_cycle net k.order h.walk a k.ordered h.cycle)
   by_good net edits_bytes x y a (inr h) (inl k) = absurd (order_or_cycle.no_cycle net h.order k.walk a h.ordered k.cycle)
   by_good net edits_bytes x y a (inr h) (inr k) =
@@ -180,8 +163,8 @@ module _ (form : Form) where
 
   by_net : (net : Net) (edits_file edits_bytes : List ℕ) (x y : Reply) → IsAccepted net
       → IsBad edits_file edits_bytes x ⊎ OnGood net edits_bytes x → IsBad edits_file edits_bytes y ⊎ OnGood net edits_bytes y
-      → AreAlike form x y
-  by_net net edits_file edits_bytes x y a (inl h) (inl k) = equal x y (one_bad edits_file edits_bytes x y h k)
+      → x ≡ y
+  by_net net edits_file edits_bytes x y a (inl h) (inl k) = one_bad edits_file edits_bytes x y h k
   by_net net edits_file edits_bytes x y a (inl h) (inr k) =
       absurd (no_edit_list edits_bytes h.fault.kind h.fault.row k.edits h.first k.asked.are)
   by_net net edits_file edits_bytes x y a (inr h) (inl k) =
@@ -190,8 +173,8 @@ module _ (form : Form) where
 
   by_files : (net_file net_bytes edits_file edits_bytes : List ℕ) (x y : Reply)
       → OnFault net_file net_bytes x ⊎ OnNet net_bytes edits_file edits_bytes x
-      → OnFault net_file net_bytes y ⊎ OnNet net_bytes edits_file edits_bytes y → AreAlike form x y
-  by_files net_file net_bytes edits_file edits_bytes x y (inl h) (inl k) = equal x y (one_fault net_file net_bytes x y h k)
+      → OnFault net_file net_bytes y ⊎ OnNet net_bytes edits_file edits_bytes y → x ≡ y
+  by_files net_file net_bytes edits_file edits_bytes x y (inl h) (inl k) = one_fault net_file net_bytes x y h k
   by_files net_file net_bytes edits_file edits_bytes x y (inl h) (inr k) =
       absurd (no_network net_file net_bytes x k.net h k.gives.reads)
   by_files net_file net_bytes edits_file edits_bytes x y (inr h) (inl k) =

@@ -1,5 +1,5 @@
--- What is said of an edit is one thing, but for the choice among cycles.
-use Rattle.std.proofs.Common.{◌≡◌, ◌⊎◌, ℕ, ◌++◌, List, length, Option, Some, None, inl, inr, sym, ap, ◌∙◌, subst}
+-- What is said of an edit is one thing.
+use Rattle.std.proofs.Common.{◌≡◌, ◌⊎◌, ℕ, ◌++◌, List, length, map, Option, Some, None, inl, inr, sym, ap, ◌∙◌, subst}
 use Rattle.std.specs.Prelude.{Ok, Err, codes, string_bytes}
 use Rattle.upp_limits.specs.LimitTest.{fault_of}
 use Rattle.upp_limits.specs.declared.own_limits.OverLimit.{OverLimit}
@@ -8,6 +8,8 @@ use Rattle.upp_limits.proofs.OneLimit.{same_limit, one_limit}
 use Rattle.net_model.specs.declared.edit.Edit.{Edit}
 use Rattle.net_model.specs.Networks.{Net}
 use Rattle.net_model.specs.Orders.{IsOrder}
+use Rattle.net_model.specs.Walks.{IsCycle}
+use Rattle.net_model.proofs.net_graph.OneCycles.{one_cycle}
 use Rattle.net_model.proofs.net_graph.OneOrders.{one_order}
 use Rattle.net_model.proofs.net_graph.Returns.{order_or_cycle}
 use Rattle.report_text.specs.net_cells.specs.declared.cell.Cell.{Cell}
@@ -22,11 +24,11 @@ use Rattle.cell_store.specs.edit_store.Stored.{AreTouched}
 use Rattle.cell_store.proofs.edit_store.Steps.{gives_one, same_touched}
 use Rattle.commands.specs.edit_report.Said.{EditSaid, said_of}
 use Rattle.commands.specs.edit_report.Said as edit_said
-use Rattle.report_text.specs.CellWords.{cell_words}
+use Rattle.report_text.specs.Refusals.{spaced}
+use Rattle.report_text.specs.CellWords.{cell_words, server_name}
 use Rattle.commands.specs.edit.NetHistories.{NetHistory}
 use Rattle.commands.specs.edit.Causes.{GoesRound, HasCellOver, IsOverBy, IsCause}
 use Rattle.commands.specs.edit.Answered.{IsTaken, IsAnswered, Taken, Undone, Refused}
-use Rattle.commands.specs.edit.EditLaws.{TellsCycle, TellCycles}
 use Rattle.commands.proofs.edit.Exclusive.{gives_not_over, gives_not_refused, over_not_refused, undo_gives_none}
 use Rattle.commands.proofs.edit.NextOne.{no_cause, no_undo_cause, undo_says}
 
@@ -42,6 +44,9 @@ abbrev said_over : OverLimit → List ℕ → EditSaid
 said_over limit.TooMany cell = edit_said.Refused (codes "too-many " ++ cell)
 said_over limit.TooWide cell = edit_said.Refused (codes "too-wide " ++ cell)
 
+abbrev said_round : Net → List ℕ → EditSaid
+said_round net walk = edit_said.Refused (codes "cycle" ++ spaced (map (server_name net) walk))
+
 -- refused by a rule, for a cycle, for the curve that the edit makes, or for a cell
 record ByRule (present : Net) (edit : Edit) (said : EditSaid) : Type 0 where
   why : Refusal
@@ -52,7 +57,7 @@ record ByCycle (present : Net) (edit : Edit) (said : EditSaid) : Type 0 where
   net : Net
   walk : List ℕ
   round : GoesRound present edit walk net
-  tells : TellsCycle net said
+  says : said ≡ said_round net walk
 
 record ByCurve (present : Net) (edit : Edit) (said : EditSaid) : Type 0 where
   cell : Cell
@@ -94,12 +99,7 @@ sort old edit (NameTaken name) net said c says =
 sort old edit BadValue net said c says = rule (record { why = bad_value; is = c; says = says })
 sort old edit LimitReached net said c says = rule (record { why = no_number_left; is = c; says = says })
 sort old edit (Cycle walk) net said c says =
-    cycle (record {
-      net = net;
-      walk = walk.items;
-      round = c;
-      tells = record { accepted = c.accepted; walk = walk.items; cycle = c.cycle; is = says };
-    })
+    cycle (record { net = net; walk = walk.items; round = c; says = says })
 sort old edit (TooMany at) net said c says = over_sort old.present edit said at limit.TooMany net c says
 sort old edit (TooWide at) net said c says = over_sort old.present edit said at limit.TooWide net c says
 sort old edit NothingToUndo net said c says =
@@ -107,9 +107,6 @@ sort old edit NothingToUndo net said c says =
 sort old edit NoMemory net said c says = absurd c
 
 -- ---- two of them
-abbrev pub AreOne : EditSaid → EditSaid → Type 0
-AreOne x y = (x ≡ y) ⊎ TellCycles x y
-
 one_made : (made : Option MadeCurve) (c d : Cell) (l m : OverLimit) → IsMadeOver made c l → IsMadeOver made d m
     → (c ≡ d) × (l ≡ m)
 one_made None c d l m h k = absurd h
@@ -142,35 +139,39 @@ both_cells present edit x y h k =
     ∙ ap (λ (l : OverLimit). said_over l (cell_words h.net k.cell)) which
     ∙ ap (λ (n : Net). said_over k.which (cell_words n k.cell)) (sym net) ∙ sym k.says
 
+both_cycles : (present : Net) (edit : Edit) (x y : EditSaid) → ByCycle present edit x → ByCycle present edit y → x ≡ y
+both_cycles present edit x y h k =
+    let net : k.net ≡ h.net = gives_one present edit k.net h.net k.round.gives h.round.gives in
+    let moved : IsCycle h.net k.walk = subst (λ (n : Net). IsCycle n k.walk) net k.round.cycle in
+    let walk : h.walk ≡ k.walk = one_cycle h.net h.walk k.walk h.round.cycle moved in
+    h.says ∙ ap (λ (w : List ℕ). said_round h.net w) walk ∙ ap (λ (n : Net). said_round n k.walk) (sym net) ∙ sym k.says
+
 round_or_over : (present : Net) (edit : Edit) (x y : EditSaid) → ByCycle present edit x → ByCell present edit y → ⊥
 round_or_over present edit x y h k =
     let net : k.net ≡ h.net = gives_one present edit k.net h.net k.over.gives h.round.gives in
     let ordered : IsOrder h.net k.over.order = subst (λ (n : Net). IsOrder n k.over.order) net k.over.ordered in
     order_or_cycle.no_cycle h.net k.over.order h.walk h.round.accepted ordered h.round.cycle
 
-one_sort : (present : Net) (edit : Edit) (x y : EditSaid) → BySort present edit x → BySort present edit y → AreOne x y
+one_sort : (present : Net) (edit : Edit) (x y : EditSaid) → BySort present edit x → BySort present edit y → x ≡ y
 one_sort present edit x y (rule h) (rule k) =
     let both : Err h.why ≡ Err k.why = sym h.is ∙ k.is in
     let same : h.why ≡ k.why = cc in
-    inl (h.says ∙ ap said_by_rule same ∙ sym k.says)
+    h.says ∙ ap said_by_rule same ∙ sym k.says
 one_sort present edit x y (rule h) (cycle k) = absurd (gives_not_refused (edited present edit) k.net h.why k.round.gives h.is)
 one_sort present edit x y (rule h) (curve k) = absurd (over_not_refused (edited present edit) k.cell k.which h.why k.over h.is)
 one_sort present edit x y (rule h) (cell k) = absurd (gives_not_refused (edited present edit) k.net h.why k.over.gives h.is)
 one_sort present edit x y (cycle h) (rule k) = absurd (gives_not_refused (edited present edit) h.net k.why h.round.gives k.is)
-one_sort present edit x y (cycle h) (cycle k) =
-    let net : k.net ≡ h.net = gives_one present edit k.net h.net k.round.gives h.round.gives in
-    let other : TellsCycle h.net y = subst (λ (n : Net). TellsCycle n y) net k.tells in
-    inr (record { net = h.net; one = h.tells; other = other })
+one_sort present edit x y (cycle h) (cycle k) = both_cycles present edit x y h k
 one_sort present edit x y (cycle h) (curve k) = absurd (gives_not_over (edited present edit) h.net k.cell k.which h.round.gives k.over)
 one_sort present edit x y (cycle h) (cell k) = absurd (round_or_over present edit x y h k)
 one_sort present edit x y (curve h) (rule k) = absurd (over_not_refused (edited present edit) h.cell h.which k.why h.over k.is)
 one_sort present edit x y (curve h) (cycle k) = absurd (gives_not_over (edited present edit) k.net h.cell h.which k.round.gives h.over)
-one_sort present edit x y (curve h) (curve k) = inl (both_curves present edit x y h k)
+one_sort present edit x y (curve h) (curve k) = both_curves present edit x y h k
 one_sort present edit x y (curve h) (cell k) = absurd (gives_not_over (edited present edit) k.net h.cell h.which k.over.gives h.over)
 one_sort present edit x y (cell h) (rule k) = absurd (gives_not_refused (edited present edit) h.net k.why h.over.gives k.is)
 one_sort present edit x y (cell h) (cycle k) = absurd (round_or_over present edit y x k h)
 one_sort present edit x y (cell h) (curve k) = absurd (gives_not_over (edited present edit) h.net k.cell k.which h.over.gives k.over)
-one_sort present edit x y (cell h) (cell k) = inl (both_cells present edit x y h k)
+one_sort present edit x y (cell h) (cell k) = both_cells present edit x y h k
 
 -- ---- all answers
 both_taken : (old : NetHistory) (edit : Edit) (x y : EditSaid) (one other : NetHistory) → IsTaken old edit x one
@@ -183,13 +184,13 @@ both_taken old edit x y one other h k =
     h.says ∙ ap (λ (cells : List Cell). edit_said.Made (length cells)) touched ∙ sym k.says
 
 pub said_is_one : (old : NetHistory) (edit : Edit) (x y : EditSaid) (one other : NetHistory) → IsAnswered old edit x one
-    → IsAnswered old edit y other → AreOne x y
-said_is_one old edit x y one other (Taken h) (Taken k) = inl (both_taken old edit x y one other h k)
+    → IsAnswered old edit y other → x ≡ y
+said_is_one old edit x y one other (Taken h) (Taken k) = both_taken old edit x y one other h k
 said_is_one old edit x y one other (Taken h) (Undone k) = absurd (undo_gives_none old.present one.present edit k.undo h.gives)
 said_is_one old edit x y one other (Taken h) (Refused k) =
     absurd (no_cause old edit k.fault one.present k.named_by h.table h.gives h.analysed k.cause)
 said_is_one old edit x y one other (Undone h) (Taken k) = absurd (undo_gives_none old.present other.present edit h.undo k.gives)
-said_is_one old edit x y one other (Undone h) (Undone k) = inl (h.says ∙ sym k.says)
+said_is_one old edit x y one other (Undone h) (Undone k) = h.says ∙ sym k.says
 said_is_one old edit x y one other (Undone h) (Refused k) =
     absurd (no_undo_cause old one edit k.fault k.named_by h.undo h.back k.cause)
 said_is_one old edit x y one other (Refused h) (Taken k) =

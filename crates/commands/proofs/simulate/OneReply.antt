@@ -1,4 +1,4 @@
--- Two replies on the same files are the same, but for the choice among cycles; within the limits they are reports.
+-- Two replies on the same files are the same; within the limits they are reports.
 use Rattle.std.proofs.Common.{◌≡◌, ℕ, List, inl, inr, sym, ap, ◌∙◌, subst}
 use Rattle.std.specs.Prelude.{◌⊎◌}
 use Rattle.upp_limits.specs.LimitTest.{fault_of}
@@ -12,9 +12,9 @@ use Rattle.net_model.specs.stated_runs.FromTraces as stated
 use Rattle.input_texts.specs.declared.table_text.fault.TableFault.{TableFault}
 use Rattle.input_texts.specs.table_text.Rows.{rows_of}
 use Rattle.input_texts.proofs.table_text.OneTrace.{trace_one, no_trace, fault_one}
-use Rattle.command_replies.specs.Replies.{Reply, AreSame, table_fault_reply}
+use Rattle.command_replies.specs.Replies.{Reply, table_fault_reply}
 use Rattle.command_replies.proofs.FirstFaults.{says}
-use Rattle.command_replies.proofs.OneRefusal.{equal, OnFault, OnCycle, IsOver}
+use Rattle.command_replies.proofs.OneRefusal.{OnFault, OnCycle, IsOver}
 use Rattle.command_replies.proofs.OneRefusal.{one_fault, no_network, one_cycle, one_over, no_answers}
 use Rattle.report_text.proofs.RunAgree.{one_run_report}
 use Rattle.report_text.specs.RunReport.{run_report_of}
@@ -37,7 +37,7 @@ by_order net trace order x y a keeps names o (inr h) (inr k) =
 
 -- ---- by a trace
 by_trace : (net : Net) (trace : SpecTrace) (x y : Reply) → IsAccepted net → IsTrace trace → stated.IsTraceOf net trace
-    → OnCycle net x ⊎ OnOrder net trace x → OnCycle net y ⊎ OnOrder net trace y → AreSame x y
+    → OnCycle net x ⊎ OnOrder net trace x → OnCycle net y ⊎ OnOrder net trace y → x ≡ y
 by_trace net trace x y a keeps names (inl h) (inl k) = one_cycle net x y h k
 by_trace net trace x y a keeps names (inl h) (inr k) =
     absurd (order_or_cycle.no_cycle net k.order h.walk a k.ordered h.cycle)
@@ -46,7 +46,7 @@ by_trace net trace x y a keeps names (inr h) (inl k) =
 by_trace net trace x y a keeps names (inr h) (inr k) =
     let same = one_order net k.order h.order k.ordered h.ordered in
     let on = subst (λ order. IsOver net order y ⊎ IsShown net trace order y) same k.on in
-    equal x y (by_order net trace h.order x y a keeps names h.ordered h.on on)
+    by_order net trace h.order x y a keeps names h.ordered h.on on
 
 -- ---- by a network
 same_fault : (f g : TableFault) → f.kind ≡ g.kind → f.row ≡ g.row → f ≡ g
@@ -55,11 +55,11 @@ same_fault f g kind row =
 
 by_net : (net : Net) (trace_file trace_bytes : List ℕ) (x y : Reply) → IsAccepted net
     → OnBadTrace net trace_file trace_bytes x ⊎ OnTrace net trace_bytes x
-    → OnBadTrace net trace_file trace_bytes y ⊎ OnTrace net trace_bytes y → AreSame x y
+    → OnBadTrace net trace_file trace_bytes y ⊎ OnTrace net trace_bytes y → x ≡ y
 by_net net trace_file trace_bytes x y a (inl h) (inl k) =
     let one =
     fault_one net trace_bytes h.fault.kind k.fault.kind h.fault.row k.fault.row a h.first k.first in
-    equal x y (h.is ∙ ap (table_fault_reply trace_file) (same_fault h.fault k.fault one.0 one.1) ∙ sym k.is)
+    h.is ∙ ap (table_fault_reply trace_file) (same_fault h.fault k.fault one.0 one.1) ∙ sym k.is
 by_net net trace_file trace_bytes x y a (inl h) (inr k) =
     absurd (no_trace net trace_bytes h.fault.kind h.fault.row k.trace a h.first k.read.reads)
 by_net net trace_file trace_bytes x y a (inr h) (inl k) =
@@ -73,9 +73,9 @@ by_net net trace_file trace_bytes x y a (inr h) (inr k) =
 -- ---- by two files
 by_files : (net_file net_bytes trace_file trace_bytes : List ℕ) (x y : Reply)
     → OnFault net_file net_bytes x ⊎ OnNet net_bytes trace_file trace_bytes x
-    → OnFault net_file net_bytes y ⊎ OnNet net_bytes trace_file trace_bytes y → AreSame x y
+    → OnFault net_file net_bytes y ⊎ OnNet net_bytes trace_file trace_bytes y → x ≡ y
 by_files net_file net_bytes trace_file trace_bytes x y (inl h) (inl k) =
-    equal x y (one_fault net_file net_bytes x y h k)
+    one_fault net_file net_bytes x y h k
 by_files net_file net_bytes trace_file trace_bytes x y (inl h) (inr k) =
     absurd (no_network net_file net_bytes x k.net h k.gives.reads)
 by_files net_file net_bytes trace_file trace_bytes x y (inr h) (inl k) =

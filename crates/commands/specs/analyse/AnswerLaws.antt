@@ -12,14 +12,14 @@ use Rattle.report_text.specs.net_cells.specs.Meanings.{number, CellTable}
 use Rattle.report_text.specs.net_cells.specs.FirstOver.{FirstOver}
 use Rattle.report_text.specs.Shown.{shown}
 use Rattle.report_text.specs.declared.json_report.form.Form.{Form}
-use Rattle.command_replies.specs.Replies.{Reply, AreSame}
+use Rattle.command_replies.specs.Replies.{Reply}
 use Rattle.commands.specs.analyse.OnFiles.{IsReplyOn}
 
--- status and text are determined by the file and the form, but for the choice among cycles
+-- status and text are determined by the file and the form
 abbrev pub RepliesAreDetermined : Type 0
 RepliesAreDetermined =
     (form : Form) (file bytes : List ℕ) (x y : Reply) → IsReplyOn form file bytes x → IsReplyOn form file bytes y
-    → AreSame x y
+    → x ≡ y
 
 -- a file that gives a network without a cycle, and by no order of its servers a cell is over a limit
 pub record IsWithinLimits (bytes : List ℕ) : Type 0 where

@@ -19,7 +19,7 @@ use Rattle.input_texts.specs.table_text.Rows.{rows_of}
 use Rattle.run_check.specs.run_table.Runs.{IsRunOf}
 use Rattle.report_text.specs.RunReport.{Found}
 use Rattle.command_replies.specs.Guarantee.{Guarantees}
-use Rattle.command_replies.specs.Replies.{Reply, AreSame}
+use Rattle.command_replies.specs.Replies.{Reply}
 use Rattle.command_replies.specs.run_findings.Findings.{AreFindings, found_report}
 use Rattle.command_replies.specs.run_findings.RunBounds.{AreWithinBounds}
 use Rattle.command_replies.specs.run_findings.Statuses.{IsOfReport}
@@ -79,12 +79,12 @@ StatusesHaveCauses =
     (net_file net_bytes run_file run_bytes : List ℕ) (reply : Reply)
     → IsCheckReply net_file net_bytes run_file run_bytes reply → HasCause net_file net_bytes run_file run_bytes reply
 
--- status and text are determined by the files, but for the choice among cycles
+-- status and text are determined by the files
 abbrev pub RepliesAreDetermined : Type 0
 RepliesAreDetermined =
     (net_file net_bytes run_file run_bytes : List ℕ) (x y : Reply)
     → IsCheckReply net_file net_bytes run_file run_bytes x → IsCheckReply net_file net_bytes run_file run_bytes y
-    → AreSame x y
+    → x ≡ y
 
 -- files that give a network without a cycle and a run of it; by no order of its servers a cell is over a limit, nor is
 -- the run over its gauge

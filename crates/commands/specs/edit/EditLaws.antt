@@ -1,21 +1,16 @@
 -- What holds of the replies on a network's file and a list of edits.
-use Rattle.std.specs.Prelude.{◌≡◌, ◌⊎◌, ◌++◌, ℕ, List, [], ◌∷◌, map, codes}
+use Rattle.std.specs.Prelude.{◌≡◌, ℕ, List}
 use Rattle.upp_limits.specs.declared.op_kind.OpFault.{OpFault}
 use Rattle.net_model.specs.Networks.{Net}
 use Rattle.net_model.specs.Orders.{IsOrder}
-use Rattle.net_model.specs.Accepted.{IsAccepted}
-use Rattle.net_model.specs.Walks.{IsCycle, IsFeedForward}
+use Rattle.net_model.specs.Walks.{IsFeedForward}
 use Rattle.net_text.specs.Reading.{IsNetworkOf}
 use Rattle.net_text.specs.FoldLimits.{OverFold}
 use Rattle.report_text.specs.net_cells.specs.declared.cell.Cell.{Cell}
 use Rattle.report_text.specs.net_cells.specs.FirstOver.{FirstOver}
 use Rattle.report_text.specs.net_cells.specs.Meanings.{CellTable}
 use Rattle.input_texts.specs.table_text.EditRows.{EditText}
-use Rattle.report_text.specs.Refusals.{spaced}
-use Rattle.report_text.specs.CellWords.{server_name}
 use Rattle.report_text.specs.declared.json_report.form.Form.{Form}
-use Rattle.commands.specs.edit_report.EditReport.{edit_report_in}
-use Rattle.commands.specs.edit_report.Said.{EditSaid, Refused}
 use Rattle.command_replies.specs.Guarantee.{Guarantees}
 use Rattle.command_replies.specs.Replies.{Reply}
 use Rattle.commands.specs.edit.OnEdits.{AsksFor, IsReported, IsEditReply}
@@ -46,44 +41,9 @@ RepliesAreComplete =
     → reply.status ≡ 0
 
 -- ---- one reply
--- what is said tells of a cycle of this network, by some walk
-pub record TellsCycle (net : Net) (said : EditSaid) : Type 0 where
-  pub accepted : IsAccepted net
-  pub walk : List ℕ
-  pub cycle : IsCycle net walk
-  pub is : said ≡ Refused (codes "cycle" ++ spaced (map (server_name net) walk))
-
--- both tell of a cycle, of one network
-pub record TellCycles (x y : EditSaid) : Type 0 where
-  pub net : Net
-  pub one : TellsCycle net x
-  pub other : TellsCycle net y
-
--- the same is said of each edit, but for the choice among the cycles of a network
-abbrev pub AreSaidAlike : List EditSaid → List EditSaid → Type 0
-AreSaidAlike [] [] = Unit {0}
-AreSaidAlike [] (y ∷ ys) = ⊥
-AreSaidAlike (x ∷ xs) [] = ⊥
-AreSaidAlike (x ∷ xs) (y ∷ ys) = ((x ≡ y) ⊎ TellCycles x y) × AreSaidAlike xs ys
-
--- two reports: what is said of each edit, and one table of one network
-pub record AreSameReports (form : Form) (x y : Reply) : Type 0 where
-  pub said : List EditSaid
-  pub others : List EditSaid
-  pub same : AreSaidAlike said others
-  pub net : Net
-  pub at : CellTable
-  pub is : x.bytes ≡ edit_report_in form net at said
-  pub is_other : y.bytes ≡ edit_report_in form net at others
-
--- one status; and one text, or each tells a cycle of the network, or of edited ones in the reports
-pub record AreAlike (form : Form) (x y : Reply) : Type 0 where
-  pub status : x.status ≡ y.status
-  pub text : (x.bytes ≡ y.bytes) ⊎ ((x.status ≡ 8) ⊎ AreSameReports form x y)
-
--- status and text are determined by the files and the form, but for the choice among cycles
+-- status and text are determined by the files and the form
 abbrev pub RepliesAreDetermined : Type 0
 RepliesAreDetermined =
     (form : Form) (net_file net_bytes edits_file edits_bytes : List ℕ) (x y : Reply)
     → IsEditReply form net_file net_bytes edits_file edits_bytes x
-    → IsEditReply form net_file net_bytes edits_file edits_bytes y → AreAlike form x y
+    → IsEditReply form net_file net_bytes edits_file edits_bytes y → x ≡ y

@@ -20,7 +20,7 @@ use Rattle.run_watch.specs.first_breaches.Firsts.{IsNetBreach}
 use Rattle.input_texts.specs.table_text.Rows.{rows_of}
 use Rattle.input_texts.specs.table_text.Traces.{IsTraceOf}
 use Rattle.command_replies.specs.Guarantee.{Guarantees}
-use Rattle.command_replies.specs.Replies.{Reply, AreSame}
+use Rattle.command_replies.specs.Replies.{Reply}
 use Rattle.command_replies.specs.run_findings.RunBounds.{AreWithinBounds}
 use Rattle.command_replies.specs.run_findings.Statuses.{IsOfReport, StatusTells}
 use Rattle.commands.specs.simulate.OnTraces.{IsMalformed, IsOverLimit, HasCycleBehind, IsSimulationOver}
@@ -75,12 +75,12 @@ StatusesHaveCauses =
     → IsRunReply net_file net_bytes trace_file trace_bytes reply
     → HasCause net_file net_bytes trace_file trace_bytes reply
 
--- status and text are determined by the files, but for the choice among cycles
+-- status and text are determined by the files
 abbrev pub RepliesAreDetermined : Type 0
 RepliesAreDetermined =
     (net_file net_bytes trace_file trace_bytes : List ℕ) (x y : Reply)
     → IsRunReply net_file net_bytes trace_file trace_bytes x → IsRunReply net_file net_bytes trace_file trace_bytes y
-    → AreSame x y
+    → x ≡ y
 
 -- files that give a network without a cycle and a trace of it; by no order of its servers a cell is over a limit, nor
 -- is the simulation over its gauge

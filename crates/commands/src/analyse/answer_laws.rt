@@ -2,7 +2,7 @@
 
 ghost use Rattle.commands.specs.analyse.AnswerLaws.{RepliesAreComplete, RepliesAreDetermined, UnboundedIsInfinite};
 
-/// Two replies on one file have one status, and one text unless it tells a cycle.
+/// Two replies on one file are one.
 pub fn answers_are_determined()
     ensures { RepliesAreDetermined }
 {}

@@ -15,7 +15,7 @@ pub fn edit_replies_are_complete()
     ensures { RepliesAreComplete }
 {}
 
-/// Two replies on the same files have one status, and one text but for the choice among cycles.
+/// Two replies on the same files are one.
 pub fn edit_replies_are_determined()
     ensures { RepliesAreDetermined }
 {}
