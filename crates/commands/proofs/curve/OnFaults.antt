@@ -1,5 +1,5 @@
 -- The reply on a fault of a script, by its kind, and on its answers.
-use Rattle.std.proofs.Common.{◌≡◌, ◌≢◌, ◌⊎◌, ℕ, List, [], Result, Ok, Err, IfOk, inl, inr, refl, sym, subst}
+use Rattle.std.proofs.Common.{◌≡◌, ◌≢◌, ◌⊎◌, ℕ, List, [], Result, Ok, Err, IfOk, inl, inr, refl, sym, ap, ◌∙◌, subst, arith}
 use Rattle.input_texts.specs.declared.curve_script.fault.LangFault.{LangFault}
 use Rattle.input_texts.specs.declared.curve_script.fault.LangKind.{LangKind}
 use Rattle.input_texts.specs.declared.curve_script.fault.LangKind.TheVariants.{TooMany, TooWide, NoMemory}
@@ -9,8 +9,8 @@ use Rattle.curve_lang.specs.Answers.{Answered, ScriptMeans}
 use Rattle.curve_lang.specs.Found.{ScriptTells}
 use Rattle.command_replies.specs.declared.answer.Answer.{Answer}
 use Rattle.command_replies.specs.Faults.{script_reply_of_kind, script_fault_reply}
-use Rattle.command_replies.specs.Replies.{breaks_script_rule}
-use Rattle.command_replies.specs.View.{reply_of}
+use Rattle.command_replies.specs.Replies.{Reply, breaks_script_rule}
+use Rattle.command_replies.specs.View.{reply_of, status_of}
 use Rattle.commands.specs.curve.OnScripts.{IsByRule, answered, IsScriptReply, Misread, Faulty, LineOver, Answers}
 use Rattle.commands.specs.curve.OnScripts.{IsReplyOnLines}
 use Rattle.commands.proofs.curve.Lines.{first_by_rule}
@@ -50,6 +50,17 @@ on_found file lines fault (Ok a) first is told =
     λ bytes script. subst (IsScriptReply file bytes) (sym is)
     (found file bytes lines script fault.kind fault.line told first)
 on_found file lines fault (Err e) first is told = tt
+
+-- a fault has another status than answers
+no_report : (file : List ℕ) (fault : LangFault) (kind : LangKind) → (script_reply_of_kind file fault kind).status ≢ 0
+no_report file fault TooMany e = omega (arith, e)
+no_report file fault TooWide e = omega (arith, e)
+no_report file fault kind e = omega (arith, e)
+
+pub fault_is_no_report : {E : Type 0} (file : List ℕ) (fault : LangFault) (r : Result Answer E)
+    → IfOk r (λ a. reply_of a ≡ script_fault_reply file fault) → status_of r ≢ 0
+fault_is_no_report file fault (Ok a) is zero = no_report file fault fault.kind (sym (ap (λ (x : Reply). x.status) is) ∙ zero)
+fault_is_no_report file fault (Err e) is zero = omega (arith, zero)
 
 pub on_answers : {E : Type 0} (file : List ℕ) (lines : List Numbered) (answers : List Answered) (r : Result Answer E)
     → ScriptTells lines (Ok answers) → ScriptMeans [] lines answers
