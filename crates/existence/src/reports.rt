@@ -2,4 +2,4 @@
 
 mod laws;
 
-pub use laws::{files_have_reports, has_table};
+pub use laws::{files_have_reports, has_table, networks_have_replies};

@@ -2,3 +2,4 @@ pub mod RowFacts
 pub mod RunSteps
 pub mod Recorded
 pub mod OneRun
+pub mod EachRun

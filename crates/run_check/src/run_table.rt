@@ -6,5 +6,5 @@ mod run_rows;
 mod runs;
 
 pub use fault::{RunFault, RunKind};
-pub use laws::{readings_are_one, runs_read_are_recorded};
+pub use laws::{readings_are_one, runs_are_read, runs_read_are_recorded};
 pub use runs::read_run;

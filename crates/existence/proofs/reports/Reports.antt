@@ -1,5 +1,5 @@
 -- The curves of a network that a file gives are in normal form and readable, and so the file has a report.
-use Rattle.std.specs.Prelude.{◌≡◌, ℕ, length, List, Option, Some, None, Bool, true, false, Ok, All, slice_get}
+use Rattle.std.specs.Prelude.{◌≡◌, ℕ, length, map, List, Option, Some, None, Bool, true, false, Ok, All, slice_get}
 use Rattle.std.proofs.Common.{refl, sym, ◌∙◌, subst, inl, inr}
 use Rattle.std.proofs.lemmas.Bool.{cases_lt}
 use Rattle.std.proofs.lemmas.List.Elements.{All-contains}
@@ -16,11 +16,22 @@ use Rattle.net_text.proofs.Zips.{zip_all}
 use Rattle.report_text.specs.net_cells.specs.Numbered.{service_of, arrival_of, flow_at}
 use Rattle.report_text.specs.net_cells.proofs.Tables.{answers_meet}
 use Rattle.net_bounds.proofs.Kept.{table_bounds_every_run}
-use Rattle.commands.specs.analyse.OnFiles.{report}
+use Rattle.net_model.specs.Orders.{IsOrder}
+use Rattle.net_model.proofs.net_graph.Existing.{order_or_round}
+use Rattle.report_text.specs.net_cells.specs.declared.cell.Cell.{Cell}
+use Rattle.report_text.specs.net_cells.specs.FirstOver.{FirstOver}
+use Rattle.report_text.specs.CellWords.{server_name, cell_words}
+use Rattle.report_text.specs.declared.json_report.form.Form.{Form}
+use Rattle.upp_limits.specs.declared.op_kind.OpFault.{OpFault}
+use Rattle.upp_limits.specs.declared.op_kind.OpFault.TheVariants.{TooMany, TooWide, NoMemory}
+use Rattle.upp_limits.specs.declared.own_limits.OverLimit.TheVariants as limits
+use Rattle.commands.specs.command_replies.specs.Replies.{Reply, goes_round, cell_over}
+use Rattle.commands.specs.command_replies.specs.OnFiles.{IsNetOf}
+use Rattle.commands.specs.analyse.OnFiles.{report, IsReplyOn, Cyclic, CellOver, Reported}
 use Rattle.run_watch.specs.simulated_sizes.Laws.{AreCurves}
 use Rattle.existence.proofs.tables.Sound.{zero_is}
 use Rattle.existence.proofs.tables.Tables.{tables_or_limits}
-use Rattle.existence.specs.reports.Laws.{FilesHaveReports}
+use Rattle.existence.specs.reports.Laws.{FilesHaveReports, NetworksHaveReplies}
 
 abbrev LiveCurve : Option NetFlow → Type 0
 LiveCurve o = IsCurve (arrival_of o)
@@ -71,3 +82,33 @@ files_have form bytes net order g o never =
           )
       | inr (c, fault, first) ↦ absurd (never c fault first)
     ]
+
+-- ---- a reply
+-- on the first cell over a limit
+over_limit : (form : Form) (file bytes : List ℕ) (net : Net) (order : List ℕ) → IsNetOf bytes net → IsOrder net order → (c : Cell) (fault : OpFault)
+    → FirstOver net order c fault → (reply : Reply) × IsReplyOn form file bytes reply
+over_limit form file bytes net order g o c TooWide first = (
+  cell_over limits.TooWide (cell_words net c),
+  CellOver limits.TooWide record { net = net; gives = g; order = order; ordered = o; cell = c; first = first; is = refl },
+)
+over_limit form file bytes net order g o c TooMany first = (
+  cell_over limits.TooMany (cell_words net c),
+  CellOver limits.TooMany record { net = net; gives = g; order = order; ordered = o; cell = c; first = first; is = refl },
+)
+over_limit form file bytes net order g o c NoMemory first = absurd (first.limit refl)
+
+in_order : (form : Form) (file bytes : List ℕ) (net : Net) (order : List ℕ) → IsNetOf bytes net → IsOrder net order
+    → (reply : Reply) × IsReplyOn form file bytes reply
+in_order form file bytes net order g o =
+    elim (tables_or_limits net order g.accepted (are_curves g.reads.draft net g.reads.built) o) [
+      | inl (at, all) ↦
+          let m = answers_meet net order at g.accepted o all in
+          (report form net at, Reported (net, at, record { gives = g; order = order; ordered = o; answers = all; meets = m; is = refl }))
+      | inr (c, fault, first) ↦ over_limit form file bytes net order g o c fault first
+    ]
+
+pub networks_have_replies : NetworksHaveReplies
+networks_have_replies form file bytes net g = elim (order_or_round net g.accepted) [
+  | inl o ↦ in_order form file bytes net o.0 g o.1
+  | inr c ↦ (goes_round (map (server_name net) c.0), Cyclic record { net = net; gives = g; walk = c.0; cycle = c.1; is = refl })
+]

@@ -5,7 +5,7 @@ ghost use Rattle.report_text.specs.net_cells.specs.Meanings.{CellTable};
 ghost use Rattle.report_text.specs.net_cells.specs.Equations.{MeetsEquations};
 ghost use Rattle.existence.specs.tables.Tables.{TableOrLimit};
 ghost use Rattle.existence.specs.tables.Networks.{NoneIsOver};
-ghost use Rattle.existence.specs.reports.Laws.{FilesHaveReports};
+ghost use Rattle.existence.specs.reports.Laws.{FilesHaveReports, NetworksHaveReplies};
 
 use commands::command_replies::run_findings::keeps_curves;
 use net_model::Network;
@@ -26,4 +26,10 @@ pub fn has_table(net: &Network, order: &[u32])
 /// status 0 says: with the numbers of a table that meets the equations and that every run keeps.
 pub fn files_have_reports()
     ensures { FilesHaveReports }
+{}
+
+/// Bytes that give a network have a reply of `analyse` that is no want of memory: the report, the network's cycle, or
+/// the first cell over a limit.
+pub fn networks_have_replies()
+    ensures { NetworksHaveReplies }
 {}

@@ -90,7 +90,7 @@ same_name a b = by_test (bytes_eq a b) refl
     by_test true e = inl ((bytes_eq-Decides a b).0 e)
     by_test false e = inr (λ same. let bad : true ≡ false = sym ((bytes_eq-Decides a b).1 same) ∙ e in cc)
 
-server_or_none : (servers : List NetServer) (name : List ℕ) → ((k : ℕ) × IsServerNamed servers name k) ⊎ ((k : ℕ) → ¬ (IsServerNamed servers name k))
+pub server_or_none : (servers : List NetServer) (name : List ℕ) → ((k : ℕ) × IsServerNamed servers name k) ⊎ ((k : ℕ) → ¬ (IsServerNamed servers name k))
 server_or_none servers name = elim (least_below (λ k. IsServerNamed servers name k) tested (length servers)) [
   | inl f ↦ inl (f.0, f.2.meets)
   | inr none ↦ inr (λ k s. none k (slice_get_within servers k s.server s.is) s)
@@ -106,7 +106,7 @@ server_or_none servers name = elim (least_below (λ k. IsServerNamed servers nam
     tested : IsTested (λ k. IsServerNamed servers name k)
     tested k = by_server k (slice_get servers k) refl
 
-flow_or_none : (flows : List (Option NetFlow)) (name : List ℕ) → ((k : ℕ) × IsFlowNamed flows name k) ⊎ ((k : ℕ) → ¬ (IsFlowNamed flows name k))
+pub flow_or_none : (flows : List (Option NetFlow)) (name : List ℕ) → ((k : ℕ) × IsFlowNamed flows name k) ⊎ ((k : ℕ) → ¬ (IsFlowNamed flows name k))
 flow_or_none flows name = elim (least_below (λ k. IsFlowNamed flows name k) tested (length flows)) [
   | inl f ↦ inl (f.0, f.2.meets)
   | inr none ↦ inr (λ k s. none k (slice_get_within flows k (Some s.flow) s.is) s)

@@ -1,5 +1,5 @@
--- A text is one run of a network at most, or has one first fault.
-use Rattle.std.specs.Prelude.{◌≡◌, ℕ, List}
+-- A text is one run of a network, or has one first fault.
+use Rattle.std.specs.Prelude.{◌≡◌, ◌⊎◌, ℕ, List}
 use Rattle.net_model.specs.run_laws.specs.Runs.{SpecRun}
 use Rattle.net_model.specs.Accepted.{IsAccepted}
 use Rattle.net_model.specs.Networks.{Net}
@@ -23,6 +23,11 @@ pub record IsOneReading (net : Net) (text : List ℕ) : Type 0 where
   pub run : HasOneRun net text
   pub fault : HasOneFault net text
   pub not_both : HasNotBoth net text
+
+abbrev pub RunsAreRead : Type 0
+RunsAreRead =
+    (net : Net) (text : List ℕ)
+    → ((run : SpecRun) × IsRunOf net (rows_of text) run) ⊎ ((kind : RunKind) × (number : ℕ) × IsFirstFault net text kind number)
 
 abbrev pub ReadingsAreOne : Type 0
 ReadingsAreOne = (net : Net) (text : List ℕ) → IsAccepted net → IsOneReading net text
