@@ -1,5 +1,5 @@
 -- What holds of the replies of each command. A new command has a case in each lemma.
-use Rattle.std.proofs.Common.{◌≡◌, ◌≢◌, ℕ, List, [], ◌∷◌, inl, inr, sym, ap, ◌∙◌, arith}
+use Rattle.std.proofs.Common.{◌≡◌, ◌≢◌, ℕ, List, [], ◌∷◌, inl, inr, sym, ◌∙◌, arith}
 use Rattle.upp_limits.specs.declared.own_limits.OverLimit.TheVariants.{TooMany, TooWide}
 use Rattle.net_model.specs.Networks.{Net}
 use Rattle.report_text.specs.net_cells.specs.Meanings.{CellTable}

@@ -139,8 +139,8 @@ pub fn run<I: Inputs, K: Sink, L: Ledger>(
     // than the work of the touched cells of each edit; where the report is written, no less than that of the edits
     // that are taken. Of `check` as of `simulate`. Of `exercise` no more than the work of all cells, and where the
     // summary is written exactly that.
-    // Of `measure` one step after the folds. Of `curve` those that are counted as its statements find something: one for
-    // each operator that is looked at, and of a closure those of its fold.
+    // Of `measure` one step after the folds. Of `curve` those that are counted as its statements find something: one
+    // for each operator that is looked at, and of a closure those of its fold.
     ensures counts { Counts I.content (command_of (texts words.now)) inputs.old result steps.old steps.new }
 {
     let Some(alloc) = taken(words) else {

@@ -53,14 +53,14 @@ on_found file lines fault (Err e) first is told = tt
 
 -- a fault has another status than answers
 no_report : (file : List ℕ) (fault : LangFault) (kind : LangKind) → (script_reply_of_kind file fault kind).status ≢ 0
-no_report file fault TooMany e = omega (arith, e)
-no_report file fault TooWide e = omega (arith, e)
-no_report file fault kind e = omega (arith, e)
+no_report file fault TooMany e = let h : 7 ≡ 0 = e in omega (arith, h)
+no_report file fault TooWide e = let h : 6 ≡ 0 = e in omega (arith, h)
+no_report file fault kind e = let h : 1 ≡ 0 = e in omega (arith, h)
 
 pub fault_is_no_report : {E : Type 0} (file : List ℕ) (fault : LangFault) (r : Result Answer E)
     → IfOk r (λ a. reply_of a ≡ script_fault_reply file fault) → status_of r ≢ 0
 fault_is_no_report file fault (Ok a) is zero = no_report file fault fault.kind (sym (ap (λ (x : Reply). x.status) is) ∙ zero)
-fault_is_no_report file fault (Err e) is zero = omega (arith, zero)
+fault_is_no_report file fault (Err e) is zero = let h : 5 ≡ 0 = zero in omega (arith, h)
 
 pub on_answers : {E : Type 0} (file : List ℕ) (lines : List Numbered) (answers : List Answered) (r : Result Answer E)
     → ScriptTells lines (Ok answers) → ScriptMeans [] lines answers

@@ -19,4 +19,5 @@ FilesHaveReports =
 -- the report, the network's cycle, or the first cell over a limit; so no want of memory stands in for a reply
 abbrev pub NetworksHaveReplies : Type 0
 NetworksHaveReplies =
-    (form : Form) (file bytes : List ℕ) (net : Net) → IsNetOf bytes net → (reply : Reply) × IsReplyOn form file bytes reply
+    (form : Form) (file bytes : List ℕ) (net : Net) → IsNetOf bytes net
+    → (reply : Reply) × IsReplyOn form file bytes reply

@@ -1,13 +1,12 @@
 -- A text is a list of edits or has a first fault; so it is a trace of a network, or has one.
-use Rattle.std.proofs.Common.{◌≡◌, ℕ, zero, suc, ◌<◌, ◌≤◌, List, [], ◌∷◌, ◌++◌, length, get_or, map, Ok, Err, Some, None, true, false, Bool, refl, sym, ap, ap₂, subst, arith, inl, inr, ◌⊎◌, ◌∙◌, append-nil, append_assoc}
+use Rattle.std.proofs.Common.{◌≡◌, ℕ, zero, suc, ◌<◌, List, [], ◌∷◌, ◌++◌, length, get_or, Ok, Err, Some, None, true, false, Bool, refl, sym, ap, ap₂, subst, arith, inl, inr, ◌⊎◌, ◌∙◌, append-nil, append_assoc}
 use Rattle.std.specs.Prelude.{Option, All, slice_get}
-use Rattle.std.specs.List.{Any}
 use Rattle.std.specs.Str.{bytes_eq}
 use Rattle.std.proofs.lemmas.Bool.{cases_lt}
 use Rattle.std.proofs.lemmas.List.{length_push, map_push}
 use Rattle.std.proofs.lemmas.Option.{slice_get_within}
 use Rattle.std.proofs.lemmas.Slice.Eq.{bytes_eq-Decides}
-use Rattle.min_plus.specs.rational.specs.Rational.{ℚ, ◌≤ℚ◌, ◌<ℚ◌}
+use Rattle.min_plus.specs.rational.specs.Rational.{ℚ, ◌≤ℚ◌}
 use Rattle.min_plus.specs.rational.proofs.Laws.{le_or_lt}
 use Rattle.net_model.specs.declared.trace.TracePacket.{TracePacket}
 use Rattle.net_model.specs.declared.trace.Stall.{Stall}

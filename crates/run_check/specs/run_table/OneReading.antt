@@ -27,7 +27,8 @@ pub record IsOneReading (net : Net) (text : List ℕ) : Type 0 where
 abbrev pub RunsAreRead : Type 0
 RunsAreRead =
     (net : Net) (text : List ℕ)
-    → ((run : SpecRun) × IsRunOf net (rows_of text) run) ⊎ ((kind : RunKind) × (number : ℕ) × IsFirstFault net text kind number)
+    → ((run : SpecRun) × IsRunOf net (rows_of text) run)
+    ⊎ ((kind : RunKind) × (number : ℕ) × IsFirstFault net text kind number)
 
 abbrev pub ReadingsAreOne : Type 0
 ReadingsAreOne = (net : Net) (text : List ℕ) → IsAccepted net → IsOneReading net text
