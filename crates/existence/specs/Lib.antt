@@ -1,3 +1,2 @@
 pub mod curves
 pub mod tables
-pub mod reports

@@ -3,5 +3,4 @@
 #![tactic(auto)]
 
 pub mod curves;
-pub mod reports;
 pub mod tables;

@@ -1,5 +1,5 @@
 use Rattle.existence.proofs.tables.Tables.{tables_or_limits, have_tables}
-use Rattle.existence.proofs.reports.laws.has_table.Goals as goal
+use Rattle.reply_existence.proofs.reports.laws.has_table.Goals as goal
 
 pub returns : goal.returns
 returns c = record {

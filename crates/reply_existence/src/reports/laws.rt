@@ -5,7 +5,7 @@ ghost use Rattle.report_text.specs.net_cells.specs.Meanings.{CellTable};
 ghost use Rattle.report_text.specs.net_cells.specs.Equations.{MeetsEquations};
 ghost use Rattle.existence.specs.tables.Tables.{TableOrLimit};
 ghost use Rattle.existence.specs.tables.Networks.{NoneIsOver};
-ghost use Rattle.existence.specs.reports.Laws.{FilesHaveReports, NetworksHaveReplies};
+ghost use Rattle.reply_existence.specs.reports.Laws.{FilesHaveReports, NetworksHaveReplies};
 
 use commands::command_replies::run_findings::keeps_curves;
 use net_model::Network;

@@ -31,7 +31,7 @@ use Rattle.commands.specs.analyse.OnFiles.{report, IsReplyOn, Cyclic, CellOver, 
 use Rattle.run_watch.specs.simulated_sizes.Laws.{AreCurves}
 use Rattle.existence.proofs.tables.Sound.{zero_is}
 use Rattle.existence.proofs.tables.Tables.{tables_or_limits}
-use Rattle.existence.specs.reports.Laws.{FilesHaveReports, NetworksHaveReplies}
+use Rattle.reply_existence.specs.reports.Laws.{FilesHaveReports, NetworksHaveReplies}
 
 abbrev LiveCurve : Option NetFlow → Type 0
 LiveCurve o = IsCurve (arrival_of o)
