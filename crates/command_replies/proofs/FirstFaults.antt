@@ -28,12 +28,12 @@ says = each_file_says_one_thing OverFold fold_has_one_limit
 
 -- ---- the reply on a fault
 -- a curve over a limit at a place
-record IsLimit (f : Fault) : Type 0 where
-  limit : OverLimit
-  place : List ℕ
-  is : f ≡ limit_fault limit place
+pub record IsLimit (f : Fault) : Type 0 where
+  pub limit : OverLimit
+  pub place : List ℕ
+  pub is : f ≡ limit_fault limit place
 
-of_curves : (es : List PlacedCurve) (f : Fault) → FirstCurveOver OverFold es f → IsLimit f
+pub of_curves : (es : List PlacedCurve) (f : Fault) → FirstCurveOver OverFold es f → IsLimit f
 of_curves [] f h = absurd h
 of_curves (e ∷ es) f (inl here) = record { limit = here.limit; place = e.place; is = here.is }
 of_curves (e ∷ es) f (inr later) = of_curves es f later.1

@@ -8,9 +8,12 @@ use Rattle.std.proofs.lemmas.Option.{slice_get_within, get_or_from_slice_get}
 use Rattle.upp_limits.specs.upp_curve.specs.Curve.{SpecCurve}
 use Rattle.upp_limits.specs.upp_curve.specs.Curves.{IsCurve}
 use Rattle.net_model.specs.Networks.{Net, NetServer, NetFlow}
+use Rattle.net_draft.specs.Drafts.{draft_of}
+use Rattle.net_draft.specs.Faults.{Fault}
 use Rattle.net_draft.specs.Texts.{FlowText, CurveText, DraftText}
 use Rattle.net_text.specs.Becoming.{Becomes}
 use Rattle.net_text.specs.Built.{IsServerOf, IsLiveFlowOf, IsBuilt}
+use Rattle.net_text.specs.Firsts.{FirstCurveOver, curves_of}
 use Rattle.net_text.specs.FoldLimits.{OverFold}
 use Rattle.net_text.proofs.Zips.{zip_all}
 use Rattle.report_text.specs.net_cells.specs.Numbered.{service_of, arrival_of, flow_at}
@@ -25,13 +28,15 @@ use Rattle.report_text.specs.declared.json_report.form.Form.{Form}
 use Rattle.upp_limits.specs.declared.op_kind.OpFault.{OpFault}
 use Rattle.upp_limits.specs.declared.op_kind.OpFault.TheVariants.{TooMany, TooWide, NoMemory}
 use Rattle.upp_limits.specs.declared.own_limits.OverLimit.TheVariants as limits
-use Rattle.commands.specs.command_replies.specs.Replies.{Reply, goes_round, cell_over}
+use Rattle.commands.specs.command_replies.specs.Replies.{Reply, breaks_rule, goes_round, curve_over, cell_over}
 use Rattle.commands.specs.command_replies.specs.OnFiles.{IsNetOf}
-use Rattle.commands.specs.analyse.OnFiles.{report, IsReplyOn, Cyclic, CellOver, Reported}
+use Rattle.commands.specs.command_replies.proofs.FirstFaults.{of_curves}
+use Rattle.commands.specs.analyse.OnFiles.{report, IsReplyOn, Broken, CurveOver, Cyclic, CellOver, Reported}
 use Rattle.run_watch.specs.simulated_sizes.Laws.{AreCurves}
 use Rattle.existence.proofs.tables.Sound.{zero_is}
 use Rattle.existence.proofs.tables.Tables.{tables_or_limits}
-use Rattle.reply_existence.specs.reports.Laws.{FilesHaveReports, NetworksHaveReplies}
+use Rattle.file_existence.specs.Drafts.{HasNetworkOrFault}
+use Rattle.reply_existence.specs.reports.Laws.{FilesHaveReports, HaveReplies, NetworksHaveReplies, BrokenFilesHaveReplies}
 
 abbrev LiveCurve : Option NetFlow → Type 0
 LiveCurve o = IsCurve (arrival_of o)
@@ -108,7 +113,32 @@ in_order form file bytes net order g o =
     ]
 
 pub networks_have_replies : NetworksHaveReplies
-networks_have_replies form file bytes net g = elim (order_or_round net g.accepted) [
+networks_have_replies net form file bytes g = elim (order_or_round net g.accepted) [
   | inl o ↦ in_order form file bytes net o.0 g o.1
   | inr c ↦ (goes_round (map (server_name net) c.0), Cyclic record { net = net; gives = g; walk = c.0; cycle = c.1; is = refl })
 ]
+
+-- ---- by a draft
+on_fault : (form : Form) (file bytes : List ℕ) (d : DraftText) (f : Fault) → draft_of bytes ≡ Ok d → FirstCurveOver OverFold (curves_of d) f
+    → (reply : Reply) × IsReplyOn form file bytes reply
+on_fault form file bytes d f is first =
+    let which = of_curves (curves_of d) f first in (
+      curve_over which.limit which.place,
+      CurveOver which.limit record {
+        place = which.place;
+        first = record { draft = d; is_draft = is; first = subst (FirstCurveOver OverFold (curves_of d)) which.is first };
+        is = refl;
+      },
+    )
+
+pub drafts_have : (d : DraftText) → HasNetworkOrFault d → HaveReplies (λ bytes. draft_of bytes ≡ Ok d)
+drafts_have d h form file bytes is = elim h [
+  | inl n ↦ networks_have_replies n.net form file bytes record {
+    reads = record { draft = d; is_draft = is; built = n.built };
+    accepted = n.accepted;
+  }
+  | inr over ↦ on_fault form file bytes d over.0 is over.1
+]
+
+pub broken_have : BrokenFilesHaveReplies
+broken_have fault form file bytes is = (breaks_rule file fault, Broken record { fault = fault; first = is; is = refl })

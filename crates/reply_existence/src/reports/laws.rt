@@ -1,13 +1,20 @@
 //! The laws. Each is the contract of a function that does nothing.
 
+ghost use Rattle.std.specs.Prelude.{◌≡◌, Ok};
 ghost use Rattle.net_model.specs.Orders.{IsOrder};
+ghost use Rattle.net_draft.specs.DraftViews.{draft_text};
+ghost use Rattle.net_draft.specs.Drafts.{draft_of};
+ghost use Rattle.net_draft.specs.Kept.{IsDraft};
+ghost use Rattle.file_existence.specs.Drafts.{ClosuresAreAnswered};
 ghost use Rattle.report_text.specs.net_cells.specs.Meanings.{CellTable};
 ghost use Rattle.report_text.specs.net_cells.specs.Equations.{MeetsEquations};
 ghost use Rattle.existence.specs.tables.Tables.{TableOrLimit};
 ghost use Rattle.existence.specs.tables.Networks.{NoneIsOver};
-ghost use Rattle.reply_existence.specs.reports.Laws.{FilesHaveReports, NetworksHaveReplies};
+ghost use Rattle.reply_existence.specs.reports.Laws.{FilesHaveReports, NetworksHaveReplies, HaveReplies, BrokenFilesHaveReplies};
 
 use commands::command_replies::run_findings::keeps_curves;
+use file_existence::drafts_have_networks;
+use net_draft::Draft;
 use net_model::Network;
 
 /// A network whose servers have an order has a table whose cells are all answered, or a cell that is the first over a
@@ -32,4 +39,19 @@ pub fn files_have_reports()
 /// the first cell over a limit.
 pub fn networks_have_replies()
     ensures { NetworksHaveReplies }
+{}
+
+/// So have bytes of which this is the draft, whether its curves are over a limit or not: where closures are asked for, if
+/// each of them has an answer.
+pub fn drafts_have_replies(draft: &Draft)
+    requires { IsDraft draft.now }
+    ensures { ClosuresAreAnswered (draft_text draft.now).flows
+        → HaveReplies (λ bytes. draft_of bytes ≡ Ok (draft_text draft.now)) }
+{
+    drafts_have_networks(draft);
+}
+
+/// So have bytes that have no draft.
+pub fn broken_files_have_replies()
+    ensures { BrokenFilesHaveReplies }
 {}
