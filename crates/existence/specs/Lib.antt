@@ -1,2 +1,3 @@
 pub mod curves
 pub mod tables
+pub mod closures

@@ -2,5 +2,6 @@
 //! a table, and each file a reply. These are laws; the program does not use them.
 #![tactic(auto)]
 
+pub mod closures;
 pub mod curves;
 pub mod tables;

@@ -37,7 +37,7 @@ service_of : (text : CurveText) (made : Result SpecCurve OverLimit) → IsMade t
 service_of text (Ok c) m k = (Ok c, record { curve = k; made = m })
 service_of text (Err limit) m k = (Err limit, m)
 
-server_with : ServerDraft → SpecCurve → NetServer
+abbrev server_with : ServerDraft → SpecCurve → NetServer
 server_with s c = record {
   name = (server_text s).name;
   rate = s.rate;
@@ -47,13 +47,12 @@ server_with s c = record {
   discipline = (server_text s).discipline;
 }
 
-HasServers : ℕ → List ServerDraft → Type 0
+abbrev HasServers : ℕ → List ServerDraft → Type 0
 HasServers number ss =
     ((ns : List NetServer) × AllZip IsServerOf (map server_text ss) ns) ⊎ HasFault (services_from number (map server_text ss))
 
 next_server : (number : ℕ) (s : ServerDraft) (ss : List ServerDraft) (r : Result SpecCurve OverLimit)
     → BecomesItself (text_of s.service.text) r → HasServers (number + 1) ss → HasServers number (s ∷ ss)
-unfolding HasServers server_with
 next_server number s ss (Err limit) b rest =
     inr (limit_fault limit (service_place number), inl record { limit = limit; over = b; is = refl })
 next_server number s ss (Ok c) b (inl rest) = inl (
@@ -63,7 +62,6 @@ next_server number s ss (Ok c) b (inl rest) = inl (
 next_server number s ss (Ok c) b (inr rest) = inr (rest.0, inr (record { curve = c; is = b }, rest.1))
 
 servers_of : (number : ℕ) (ss : List ServerDraft) → All IsServerDraft ss → All HasService ss → HasServers number ss
-unfolding HasServers
 servers_of number [] drafts curves = inl ([], tt)
 servers_of number (s ∷ ss) drafts curves =
     let (r, b) = service_of (text_of s.service.text) s.service.made (All-head IsServerDraft s ss drafts).service.made
@@ -83,7 +81,7 @@ arrival_of true text (Err limit) m k a = (Err limit, inl m)
 arrival_of true text (Ok c) m k a =
     let (r, h) = a c record { curve = k; made = m } in closed text c k m r h
 
-flow_with : FlowDraft → SpecCurve → NetFlow
+abbrev flow_with : FlowDraft → SpecCurve → NetFlow
 flow_with f c = record {
   name = (flow_text f).name;
   path = map (λ h. h.server) f.path.items;
@@ -92,14 +90,13 @@ flow_with f c = record {
   arrival = c;
 }
 
-HasFlows : ℕ → List FlowDraft → Type 0
+abbrev HasFlows : ℕ → List FlowDraft → Type 0
 HasFlows number fs =
     ((ns : List (Option NetFlow)) × AllZip (IsLiveFlowOf OverFold) (map flow_text fs) ns)
     ⊎ HasFault (arrivals_from number (map flow_text fs))
 
 next_flow : (number : ℕ) (f : FlowDraft) (fs : List FlowDraft) (r : Result SpecCurve OverLimit)
     → Becomes OverFold f.closes (text_of f.arrival.text) r → HasFlows (number + 1) fs → HasFlows number (f ∷ fs)
-unfolding HasFlows flow_with
 next_flow number f fs (Err limit) b rest =
     inr (limit_fault limit (arrival_place number), inl record { limit = limit; over = b; is = refl })
 next_flow number f fs (Ok c) b (inl rest) = inl (
@@ -117,7 +114,6 @@ next_flow number f fs (Ok c) b (inr rest) = inr (rest.0, inr (record { curve = c
 
 flows_of : (number : ℕ) (fs : List FlowDraft) → All (λ f. IsMadeDraft f.arrival) fs → All HasArrival fs
     → ClosuresAreAnswered (map flow_text fs) → HasFlows number fs
-unfolding HasFlows
 flows_of number [] drafts curves answered = inl ([], tt)
 flows_of number (f ∷ fs) drafts curves answered =
     let Made : FlowDraft → Type 0 = λ f. IsMadeDraft f.arrival in
@@ -129,7 +125,6 @@ flows_of number (f ∷ fs) drafts curves answered =
 -- ---- drafts
 pub has_network : (d : Draft) → IsDraft d → All HasService d.servers.items → All HasArrival d.flows.items
     → ClosuresAreAnswered (draft_text d).flows → HasNetworkOrFault (draft_text d)
-unfolding HasServers HasFlows
 has_network d is services arrivals answered = elim (servers_of 0 d.servers.items is.servers services) [
   | inr fault ↦ inr (
     fault.0,
