@@ -1,11 +1,15 @@
 -- A network can be built of a draft, or one of its curves is the first over a limit.
-use Rattle.std.specs.Prelude.{◌⊎◌, All, Option, Some}
+use Rattle.std.specs.Prelude.{◌≢◌, ◌⊎◌, All, Option, Some}
 use Rattle.std.specs.List.{AllZip}
 use Rattle.std.proofs.Common.{ℕ, ◌+◌, List, [], ◌∷◌, ◌++◌, map, Bool, true, false, Result, Ok, Err, IfOk, inl, inr, refl}
 use Rattle.std.proofs.lemmas.List.Elements.{All-head, All-tail}
-use Rattle.upp_limits.specs.upp_curve.specs.Curve.{SpecCurve}
+use Rattle.upp_limits.specs.upp_curve.specs.Curve.{SpecCurve, value_at}
 use Rattle.upp_limits.specs.upp_curve.specs.Curves.{IsCurve}
+use Rattle.upp_limits.specs.min_plus.specs.Functions.{IsFinite, IsNonnegative}
 use Rattle.upp_limits.specs.declared.own_limits.OverLimit.{OverLimit}
+use Rattle.upp_limits.specs.declared.own_limits.OverLimit.TheVariants as limits
+use Rattle.upp_limits.specs.declared.op_kind.OpFault.{OpFault}
+use Rattle.upp_limits.specs.declared.op_kind.OpFault.TheVariants as faults
 use Rattle.net_model.specs.Networks.{Net, NetServer, NetFlow}
 use Rattle.net_draft.specs.declared.draft.Draft.{Draft}
 use Rattle.net_draft.specs.declared.flow_draft.FlowDraft.{FlowDraft}
@@ -13,19 +17,23 @@ use Rattle.net_draft.specs.declared.server_draft.ServerDraft.{ServerDraft}
 use Rattle.net_draft.specs.CurveTexts.{text_of}
 use Rattle.net_draft.specs.DraftViews.{draft_text}
 use Rattle.net_draft.specs.Faults.{Fault}
-use Rattle.net_draft.specs.Kept.{IsMadeDraft, IsServerDraft, IsFlowDraft, IsDraft}
+use Rattle.net_draft.specs.Kept.{IsServerDraft, IsArrivalDraft, IsDraft}
 use Rattle.net_draft.specs.Laws.{kind_of}
 use Rattle.net_draft.specs.Made.{IsMade}
-use Rattle.net_draft.specs.Texts.{CurveText, ServerText}
+use Rattle.net_draft.specs.Texts.{CurveText, IsArrivalOf}
 use Rattle.net_draft.specs.Views.{server_text, flow_text}
+use Rattle.net_draft.proofs.MayStand.{made_may_stand}
+use Rattle.subadd_closure.specs.Folds.{CloseAnswer}
 use Rattle.net_text.specs.Becoming.{Becomes, BecomesItself, limit_fault}
 use Rattle.net_text.specs.Built.{IsServerOf, IsFlowOf, IsLiveFlowOf, IsBuilt}
 use Rattle.net_text.specs.Closing.{Closes}
 use Rattle.net_text.specs.Firsts.{PlacedCurve, service_place, arrival_place, services_from, arrivals_from, FirstCurveOver, curves_of}
 use Rattle.net_text.specs.FoldLimits.{OverFold}
 use Rattle.net_text.proofs.Accepted.{accepted}
+use Rattle.net_text.proofs.Folding.{keeps_closing}
 use Rattle.net_text.proofs.Firsts.{after_services, among_services}
-use Rattle.file_existence.specs.Drafts.{HasService, HasArrival, IsClosureAnswered, ClosuresAreAnswered, HasNetworkOrFault}
+use Rattle.existence.proofs.closures.Folds.{closures_exist}
+use Rattle.file_existence.specs.Drafts.{HasService, HasArrival, HasNetworkOrFault}
 
 -- the first of some curves over a limit
 abbrev HasFault : List PlacedCurve → Type 0
@@ -69,17 +77,27 @@ servers_of number (s ∷ ss) drafts curves =
     next_server number s ss r b (servers_of (number + 1) ss (All-tail IsServerDraft s ss drafts) (All-tail HasService s ss curves))
 
 -- ---- arrivals
+closes : (c : SpecCurve) → IsCurve c → IsFinite (value_at c) → IsNonnegative (value_at c) → (r : Result SpecCurve OpFault)
+    → CloseAnswer c r → r ≢ Err faults.NoMemory → (o : Result SpecCurve OverLimit) × Closes OverFold c o
+closes c C fin low (Ok h) a found = (Ok h, keeps_closing c (Ok h) C fin low a)
+closes c C fin low (Err faults.TooMany) a found = (Err limits.TooMany, a)
+closes c C fin low (Err faults.TooWide) a found = (Err limits.TooWide, a)
+closes c C fin low (Err faults.NoMemory) a found = absurd (found refl)
+
 closed : (text : CurveText) (c : SpecCurve) (k : IsCurve c) (m : IsMade text (Ok c)) (r : Result SpecCurve OverLimit)
     → Closes OverFold c r → (r : Result SpecCurve OverLimit) × Becomes OverFold true text r
 closed text c k m (Ok d) h = (Ok d, record { made = c; is = record { curve = k; made = m }; closes = h })
 closed text c k m (Err limit) h = (Err limit, inr record { made = c; is = record { curve = k; made = m }; closes = h })
 
-arrival_of : (closes : Bool) (text : CurveText) (made : Result SpecCurve OverLimit) → IsMade text made → IfOk made IsCurve
-    → IsClosureAnswered closes text → (r : Result SpecCurve OverLimit) × Becomes OverFold closes text r
-arrival_of false text made m k a = service_of text made m k
-arrival_of true text (Err limit) m k a = (Err limit, inl m)
-arrival_of true text (Ok c) m k a =
-    let (r, h) = a c record { curve = k; made = m } in closed text c k m r h
+arrival_of : (packet : ℕ) (asked : Bool) (text : CurveText) (made : Result SpecCurve OverLimit) → IsArrivalOf packet text
+    → IsMade text made → IfOk made IsCurve → (r : Result SpecCurve OverLimit) × Becomes OverFold asked text r
+arrival_of packet false text made own m k = service_of text made m k
+arrival_of packet true text (Err limit) own m k = (Err limit, inl m)
+arrival_of packet true text (Ok c) own m k =
+    let stands = made_may_stand.arrival packet text c own m in
+    let a = closures_exist c k stands.finite stands.nonnegative in
+    let (r, h) = closes c k stands.finite stands.nonnegative a.answer a.is a.found in
+    closed text c k m r h
 
 abbrev flow_with : FlowDraft → SpecCurve → NetFlow
 flow_with f c = record {
@@ -112,25 +130,25 @@ next_flow number f fs (Ok c) b (inl rest) = inl (
 )
 next_flow number f fs (Ok c) b (inr rest) = inr (rest.0, inr (record { curve = c; is = b }, rest.1))
 
-flows_of : (number : ℕ) (fs : List FlowDraft) → All (λ f. IsMadeDraft f.arrival) fs → All HasArrival fs
-    → ClosuresAreAnswered (map flow_text fs) → HasFlows number fs
-flows_of number [] drafts curves answered = inl ([], tt)
-flows_of number (f ∷ fs) drafts curves answered =
-    let Made : FlowDraft → Type 0 = λ f. IsMadeDraft f.arrival in
-    let (r, b) = arrival_of f.closes (text_of f.arrival.text) f.arrival.made (All-head Made f fs drafts)
-    (All-head HasArrival f fs curves) answered.0 in
-    next_flow number f fs r b
-    (flows_of (number + 1) fs (All-tail Made f fs drafts) (All-tail HasArrival f fs curves) answered.1)
+abbrev IsMadeFlow : FlowDraft → Type 0
+IsMadeFlow f = IsArrivalDraft f.packet f.arrival
+
+flows_of : (number : ℕ) (fs : List FlowDraft) → All IsMadeFlow fs → All HasArrival fs → HasFlows number fs
+flows_of number [] drafts curves = inl ([], tt)
+flows_of number (f ∷ fs) drafts curves =
+    let made = All-head IsMadeFlow f fs drafts in
+    let (r, b) = arrival_of f.packet f.closes (text_of f.arrival.text) f.arrival.made made.own made.made (All-head HasArrival f fs curves) in
+    next_flow number f fs r b (flows_of (number + 1) fs (All-tail IsMadeFlow f fs drafts) (All-tail HasArrival f fs curves))
 
 -- ---- drafts
 pub has_network : (d : Draft) → IsDraft d → All HasService d.servers.items → All HasArrival d.flows.items
-    → ClosuresAreAnswered (draft_text d).flows → HasNetworkOrFault (draft_text d)
-has_network d is services arrivals answered = elim (servers_of 0 d.servers.items is.servers services) [
+    → HasNetworkOrFault (draft_text d)
+has_network d is services arrivals = elim (servers_of 0 d.servers.items is.servers services) [
   | inr fault ↦ inr (
     fault.0,
     among_services OverFold (services_from 0 (map server_text d.servers.items)) (arrivals_from 0 (map flow_text d.flows.items)) fault.0 fault.1,
   )
-  | inl servers ↦ elim (flows_of 0 d.flows.items (λ k e l. (is.flows k e l).arrival.made) arrivals answered) [
+  | inl servers ↦ elim (flows_of 0 d.flows.items (λ k e l. (is.flows k e l).arrival) arrivals) [
     | inr fault ↦ inr (
       fault.0,
       after_services OverFold 0 (map server_text d.servers.items) servers.0 (arrivals_from 0 (map flow_text d.flows.items)) fault.0 servers.1 fault.1,

@@ -1,17 +1,13 @@
 -- What is made of the curves of a draft, and of the draft. Own choice.
-use Rattle.std.specs.Prelude.{◌⊎◌, List, [], ◌∷◌, Bool, true, false, Result, IfOk}
-use Rattle.upp_limits.specs.upp_curve.specs.Curve.{SpecCurve}
+use Rattle.std.specs.Prelude.{◌⊎◌, IfOk}
 use Rattle.upp_limits.specs.upp_curve.specs.Curves.{IsCurve}
-use Rattle.upp_limits.specs.declared.own_limits.OverLimit.{OverLimit}
 use Rattle.net_model.specs.Accepted.{IsAccepted}
 use Rattle.net_model.specs.Networks.{Net}
 use Rattle.net_draft.specs.declared.flow_draft.FlowDraft.{FlowDraft}
 use Rattle.net_draft.specs.declared.server_draft.ServerDraft.{ServerDraft}
 use Rattle.net_draft.specs.Faults.{Fault}
-use Rattle.net_draft.specs.Texts.{CurveText, FlowText, DraftText}
-use Rattle.net_text.specs.Becoming.{IsCurveOf}
+use Rattle.net_draft.specs.Texts.{DraftText}
 use Rattle.net_text.specs.Built.{IsBuilt}
-use Rattle.net_text.specs.Closing.{Closes}
 use Rattle.net_text.specs.Firsts.{FirstCurveOver, curves_of}
 use Rattle.net_text.specs.FoldLimits.{OverFold}
 
@@ -22,17 +18,6 @@ HasService s = IfOk s.service.made IsCurve
 
 abbrev pub HasArrival : FlowDraft → Type 0
 HasArrival f = IfOk f.arrival.made IsCurve
-
--- ---- closures
--- where its closure is asked for, the curve of a text has one, or the fold of its closure is over a limit
-abbrev pub IsClosureAnswered : Bool → CurveText → Type 0
-IsClosureAnswered false text = Unit {0}
-IsClosureAnswered true text =
-    (c : SpecCurve) → IsCurveOf text c → (r : Result SpecCurve OverLimit) × Closes OverFold c r
-
-abbrev pub ClosuresAreAnswered : List FlowText → Type 0
-ClosuresAreAnswered [] = Unit {0}
-ClosuresAreAnswered (f ∷ fs) = IsClosureAnswered f.closes f.arrival × ClosuresAreAnswered fs
 
 -- ---- drafts
 -- an accepted network is built of the draft

@@ -7,7 +7,7 @@ ghost use Rattle.net_draft.specs.DraftViews.{draft_text};
 ghost use Rattle.net_draft.specs.Kept.{IsDraft};
 ghost use Rattle.net_text.specs.Folds.{FoldsOf};
 ghost use Rattle.subadd_closure.specs.FoldWork.{fold_work};
-ghost use Rattle.file_existence.specs.Drafts.{HasService, HasArrival, ClosuresAreAnswered, HasNetworkOrFault};
+ghost use Rattle.file_existence.specs.Drafts.{HasService, HasArrival, HasNetworkOrFault};
 
 use net_draft::{Draft, FlowDraft, ServerDraft};
 
@@ -54,11 +54,11 @@ pub fn folds_exist(draft: &Draft)
     keeps_arrivals(&draft.flows);
 }
 
-/// A network can be built of each draft, which is accepted, or one of its curves is the first over a limit; where
-/// closures are asked for, if each of them has an answer.
+/// A network can be built of each draft, which is accepted, or one of its curves, or the fold of a closure, is the first
+/// over a limit.
 pub fn drafts_have_networks(draft: &Draft)
     requires { IsDraft draft.now }
-    ensures { ClosuresAreAnswered (draft_text draft.now).flows → HasNetworkOrFault (draft_text draft.now) }
+    ensures { HasNetworkOrFault (draft_text draft.now) }
 {
     keeps_services(&draft.servers);
     keeps_arrivals(&draft.flows);

@@ -115,7 +115,7 @@ module _ (f : SpecCurve) (F : IsCurve f) (fin : IsFinite (value_at f)) (low : Is
   whole (p ∷ []) all two each = absurd (omega (arith, two))
   whole (p ∷ q ∷ rest) all two each = first p q rest each.0.answer all each.0.is each.0.found each.1.0 each.1.1
 
-  pub fold_found : IsFound
+  pub fold_found : HasAnswerOf (CloseAnswer f)
   fold_found =
       let es = elements_of f.pieces (pieces_end f.tail) in
       let two = two_elements f es refl F.normal.raw fin in

@@ -129,7 +129,7 @@ module _ (f g : SpecCurve) (F : IsCurve f) (G : IsCurve g) (within : IsWithin Co
   frame_number w from None W e h = absurd (within.narrow (none_wide f g w from (F, G) W e h))
   frame_number w from (Some k) W e h = frame_with w from k W e h
 
-  pub convolve_frame : HasFrame
+  pub convolve_frame : (r : Frame) × IsConvolveFrame f g r
   convolve_frame = elim (cases_lt (gauge_at Convolve f g 0 0) (2 ^ 120)) [
     | inr wide ↦ absurd (within.narrow (wide_first f g TooWide (F, G) wide))
     | inl small ↦

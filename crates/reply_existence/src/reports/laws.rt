@@ -5,7 +5,6 @@ ghost use Rattle.net_model.specs.Orders.{IsOrder};
 ghost use Rattle.net_draft.specs.DraftViews.{draft_text};
 ghost use Rattle.net_draft.specs.Drafts.{draft_of};
 ghost use Rattle.net_draft.specs.Kept.{IsDraft};
-ghost use Rattle.file_existence.specs.Drafts.{ClosuresAreAnswered};
 ghost use Rattle.report_text.specs.net_cells.specs.Meanings.{CellTable};
 ghost use Rattle.report_text.specs.net_cells.specs.Equations.{MeetsEquations};
 ghost use Rattle.existence.specs.tables.Tables.{TableOrLimit};
@@ -41,12 +40,10 @@ pub fn networks_have_replies()
     ensures { NetworksHaveReplies }
 {}
 
-/// So have bytes of which this is the draft, whether its curves are over a limit or not: where closures are asked for, if
-/// each of them has an answer.
+/// So have bytes of which this is the draft, whether its curves are over a limit or not.
 pub fn drafts_have_replies(draft: &Draft)
     requires { IsDraft draft.now }
-    ensures { ClosuresAreAnswered (draft_text draft.now).flows
-        → HaveReplies (λ bytes. draft_of bytes ≡ Ok (draft_text draft.now)) }
+    ensures { HaveReplies (λ bytes. draft_of bytes ≡ Ok (draft_text draft.now)) }
 {
     drafts_have_networks(draft);
 }

@@ -3,4 +3,4 @@ use Rattle.reply_existence.proofs.reports.Reports.{drafts_have}
 use Rattle.reply_existence.proofs.reports.laws.drafts_have_replies.Goals as goal
 
 pub returns : goal.returns
-returns c = λ answered. drafts_have (draft_text c.args.draft.now) (c.drafts_have_networks.ensures answered)
+returns c = drafts_have (draft_text c.args.draft.now) c.drafts_have_networks.ensures
