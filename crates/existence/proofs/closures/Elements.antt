@@ -38,15 +38,14 @@ pub record IsFoundClosure (e : Element) : Type 0 where
 -- ---- one that repeats
 turning : (e : Element) (ps : List Piece) (R d x : ℚ)
     → (let c : SpecCurve = record { pieces = ps; tail = Periodic R d x } in IsElementClosure e c) → IsFoundClosure e
-turning e ps R d x h = elim (cases_lt (own_gauge c) (2 ^ 120)) [
-  | inl small ↦
-      let (k, curve, same) = own_curve c h.normal.raw small in
-      record { curve = k; closes = made_answer e c (Ok k) h.normal h.closes (made_ok c k same curve); sort = inl curve }
-  | inr large ↦ record { curve = c; closes = h; sort = inr (own_heavy ps R d x h.normal.raw.tail.some large) }
-]
-  where
-    c : SpecCurve
-    c = record { pieces = ps; tail = Periodic R d x }
+turning e ps R d x h =
+    let c : SpecCurve = record { pieces = ps; tail = Periodic R d x } in
+    elim (cases_lt (own_gauge c) (2 ^ 120)) [
+      | inl small ↦
+          let (k, curve, same) = own_curve c h.normal.raw small in
+          record { curve = k; closes = made_answer e c (Ok k) h.normal h.closes (made_ok c k same curve); sort = inl curve }
+      | inr large ↦ record { curve = c; closes = h; sort = inr (own_heavy ps R d x h.normal.raw.tail.some large) }
+    ]
 
 -- ---- points
 pub point_found : (f : SpecCurve) (x v : ℚ) → IsCurve f → IsFinite (value_at f) → IsNonnegative (value_at f)
