@@ -1,5 +1,5 @@
-//! That curves, tables and reports exist: each call of an operator has an answer that is not want of memory, each accepted network
-//! a table, and each file a reply. These are laws; the program does not use them.
+//! That curves, closures and tables exist: each call of an operator has an answer that is not want of memory, each accepted
+//! network a table. These are laws; the program does not use them.
 #![tactic(auto)]
 
 pub mod closures;
