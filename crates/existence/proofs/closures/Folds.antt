@@ -20,7 +20,6 @@ use Rattle.subadd_closure.specs.CurveParts.{pieces_end, part_of, parts_of}
 use Rattle.subadd_closure.specs.declared.part.Part.{Part}
 use Rattle.subadd_closure.specs.Folds.{PartAnswer, PartsAnswer, CloseAnswer}
 use Rattle.subadd_closure.specs.PartLaws.{EachPart}
-
 use Rattle.subadd_closure.proofs.FirstElements.{two_elements}
 use Rattle.subadd_closure.proofs.FoldShapes.{sofar_nonneg, star_nonneg, finite_past}
 use Rattle.subadd_closure.proofs.FoldSteps.{first_part, first_stops, next_part, next_stops, last_part, early_refusal, last_refusal}

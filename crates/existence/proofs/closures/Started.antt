@@ -50,8 +50,7 @@ module _ (f g : SpecCurve) (start : ℚ) (F : IsCurve f) (G : IsCurve g) (low : 
   started_late r ps from rise C other =
       let W = started_answer f g r ps from rise Inf C tt in
       let (c, K, same) = answer_curve (first_at Inf ps) from r.period rise r.times r.values W in
-      let keeps = open_keeps f g r ps from rise C start c fin other K.normal same in
-      (
+      let keeps = open_keeps f g r ps from rise C start c fin other K.normal same in (
         started_at (Fin start) c,
         started_curve (Fin start) c K keeps,
         open_convolves f g r ps from rise C start c (started_at (Fin start) c) same (started_values (Fin start) c K.normal keeps),
