@@ -60,8 +60,26 @@ fn frame_between(
     }
 }
 
-/// The frame of the call, as `convolve_frame` of `curve_conv`, which is asked where few numbers do not tell it.
-pub(crate) fn star_frame(alloc: Global, f: &Curve, g: &Curve) -> Result<Frame, OpFault>
+// The frame with no period, where the call is within both limits with it and few numbers tell that none is enough: as
+// mostly, so that the pieces are gone over once alone for the limits.
+fn frame_at_once(f: &Curve, g: &Curve) -> Option<Frame>
+    ensures { IfSome result (λ r. IsConvolveFrame f.now g.now r × IsWithin Convolve f.now g.now) }
+{
+    let Ok(frame) = within(&OpKind::Convolve, f, g, 0) else {
+        return None;
+    };
+    let late = difference(frame.end, frame.period);
+    let Some(bounds) = quick_bounds(f, g, late, frame.period, frame.end) else {
+        return None;
+    };
+    if bounds.high > 0 {
+        return None;
+    }
+    Some(frame)
+}
+
+// The frame where no period may not be enough.
+fn searched_frame(alloc: Global, f: &Curve, g: &Curve) -> Result<Frame, OpFault>
     ensures frame { IfOk result (IsConvolveFrame f.now g.now) }
     ensures limits { KeepsLimits Convolve f.now g.now result }
 {
@@ -70,6 +88,17 @@ pub(crate) fn star_frame(alloc: Global, f: &Curve, g: &Curve) -> Result<Frame, O
     match frame_between(f, g, &first, from)? {
         Some(frame) => Ok(frame),
         None => convolve_frame(alloc, f, g),
+    }
+}
+
+/// The frame of the call, as `convolve_frame` of `curve_conv`, which is asked where few numbers do not tell it.
+pub(crate) fn star_frame(alloc: Global, f: &Curve, g: &Curve) -> Result<Frame, OpFault>
+    ensures frame { IfOk result (IsConvolveFrame f.now g.now) }
+    ensures limits { KeepsLimits Convolve f.now g.now result }
+{
+    match frame_at_once(f, g) {
+        Some(frame) => Ok(frame),
+        None => searched_frame(alloc, f, g),
     }
 }
 
