@@ -4,6 +4,8 @@ use Rattle.std.specs.List.{range_with_len}
 use Rattle.upp_limits.specs.declared.op_kind.OpFault.{OpFault}
 use Rattle.upp_limits.specs.upp_curve.specs.Curve.{SpecCurve}
 use Rattle.net_model.specs.Networks.{Net}
+use Rattle.net_cells.specs.declared.cell.Kind.TheVariants.{In}
+use Rattle.net_cells.specs.Cells.{cell_of}
 use Rattle.net_cells.specs.Numbered.{zero_curve}
 use Rattle.net_cells.specs.QueueParts.{in_part, part_numbers, by_parts, link_part, links_among}
 use Rattle.net_cells.specs.Meanings.{Meaning, curve, number, CellTable}
@@ -13,6 +15,8 @@ use Rattle.net_cells.specs.Work.{parts_work}
 use Rattle.net_cells.specs.Refusals.{RefusedFrom, RefusedAt}
 use Rattle.cell_eval.specs.declared.curve_sums.Partial.{Partial}
 use Rattle.cell_eval.specs.declared.curve_sums.Partial.TheVariants.{Nothing, One, Made}
+use Rattle.cell_eval.specs.declared.found.Pick.TheVariants.{InPart}
+use Rattle.cell_eval.specs.Chosen.{chosen, visit_list}
 use Rattle.cell_eval.specs.TableValues.{IsCurveAt}
 
 -- ---- the curve of a sum that is not of no cell
@@ -56,6 +60,12 @@ abbrev pub part_work : Net → (s q k : ℕ) → ℕ
 part_work net s q k = length (in_part net s q k) - 1 + link_part k (in_part net s q k)
 
 -- ---- all parts
+-- each flow that comes to the queue has its curve there
+abbrev pub ComeWithCurves : CellTable → Net → (s q : ℕ) → Type 0
+ComeWithCurves at net s q =
+    (part i k : ℕ) → part ≤ length net.servers → chosen net s (InPart q part) None i ≡ visit_list i (Some k)
+    → IsCurveAt at (cell_of In i k)
+
 -- a part is kept where it has a hop
 abbrev pub kept : Partial → List Partial
 kept Nothing = []

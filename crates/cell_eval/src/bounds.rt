@@ -10,6 +10,7 @@ ghost use Rattle.upp_limits.specs.rational.specs.Extended.{Ext};
 ghost use Rattle.cell_eval.specs.TableValues.{IsNumberAt};
 ghost use Rattle.cell_eval.specs.Tallies.{AreAdded};
 
+use crate::Given;
 use crate::number_sums::{Added, and, no_number};
 use crate::{link, number_at};
 use net_cells::cell_table::{Table, Value};
@@ -18,20 +19,24 @@ use net_model::Network;
 use upp_limits::rational::Extended;
 
 /// The delays of a flow's hops, added up.
-pub(crate) fn delays<T: Table<Value>>(table: &T, net: &Network, flow: u32) -> Added
-    requires { (k : ℕ) → k < at.hops net.now flow → IsNumberAt (T.at table.now) (cell_of HopDelay flow k) }
+pub(crate) fn delays<T: Table<Value>>(
+    given: &Given<T>,
+    flow: u32,
+) -> Added
+    requires { (k : ℕ) → k < at.hops given.now.net.now flow → IsNumberAt (T.at given.now.table.now)
+        (cell_of HopDelay flow k) }
     ensures { (xs : List Ext)
-        → HaveNumbers (T.at table.now) (hop_delay_cells net.now flow) xs → AreAdded xs result }
+        → HaveNumbers (T.at given.now.table.now) (hop_delay_cells given.now.net.now flow) xs → AreAdded xs result }
 {
     let mut all = no_number();
-    let count = hops(net, flow);
+    let count = hops(given.net, flow);
     for hop in 0..count {
         let cell = Cell {
             kind: Kind::HopDelay,
             a: flow,
             b: hop,
         };
-        all = and(all, number_at(table, cell));
+        all = and(all, number_at(given.table, cell));
     }
     all
 }

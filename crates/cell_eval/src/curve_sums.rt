@@ -15,13 +15,13 @@ ghost use Rattle.cell_eval.specs.Chosen.{chosen, all_chosen, visit_list};
 ghost use Rattle.cell_eval.specs.Partial.{IsPartial, IsReady, IsSummed, Adds};
 ghost use Rattle.cell_eval.specs.TableValues.{IsCurveAt};
 
+use crate::Given;
 use crate::reading::curve_at;
 use crate::sharing::{again, shared};
 use crate::{Pick, chosen_at};
 use curve_library::bucket;
 use net_cells::cell_table::{Table, Value};
 use net_cells::{Cell, Kind};
-use net_model::Network;
 use plain_operators::curve_call::intact;
 use plain_operators::running::sum;
 use std::alloc::Global;
@@ -52,18 +52,17 @@ pub(crate) fn nothing(alloc: Global) -> Result<Curve, OpFault>
 
 // The sum of a curve and a cell's.
 fn with_cell<T: Table<Value>, L: Ledger>(
-    alloc: Global,
+    given: &Given<T>,
     so_far: &Curve,
-    table: &T,
     cell: Cell,
     steps: &mut Steps<L>,
 ) -> Result<Partial, OpFault>
-    requires { IsCurveAt (T.at table.now) cell }
-    ensures sum { (cells : List Cell) → IsSummed (T.at table.now) cells so_far.now →
-        Adds (T.at table.now) cells (cell ∷ []) steps.old steps.new result }
-    ensures ready { IfOk result (IsReady (T.at table.now)) }
+    requires { IsCurveAt (T.at given.now.table.now) cell }
+    ensures sum { (cells : List Cell) → IsSummed (T.at given.now.table.now) cells so_far.now →
+        Adds (T.at given.now.table.now) cells (cell ∷ []) steps.old steps.new result }
+    ensures ready { IfOk result (IsReady (T.at given.now.table.now)) }
 {
-    match intact(sum(alloc, so_far, curve_at(table, cell), steps)) {
+    match intact(sum(given.alloc, so_far, curve_at(given.table, cell), steps)) {
         Ok(made) => Ok(Partial::Made(made)),
         Err(fault) => Err(fault),
     }
@@ -71,65 +70,66 @@ fn with_cell<T: Table<Value>, L: Ledger>(
 
 /// A sum and a cell more.
 pub fn added<T: Table<Value>, L: Ledger>(
-    alloc: Global,
+    given: &Given<T>,
     so_far: Partial,
-    table: &T,
     cell: Cell,
     steps: &mut Steps<L>,
 ) -> Result<Partial, OpFault>
-    requires cell { IsCurveAt (T.at table.now) cell }
-    requires ready { IsReady (T.at table.now) so_far }
-    ensures sum { (cells : List Cell) → IsPartial (T.at table.now) cells so_far →
-        Adds (T.at table.now) cells (cell ∷ []) steps.old steps.new result }
-    ensures ready { IfOk result (IsReady (T.at table.now)) }
+    requires cell { IsCurveAt (T.at given.now.table.now) cell }
+    requires ready { IsReady (T.at given.now.table.now) so_far }
+    ensures sum { (cells : List Cell) → IsPartial (T.at given.now.table.now) cells so_far →
+        Adds (T.at given.now.table.now) cells (cell ∷ []) steps.old steps.new result }
+    ensures ready { IfOk result (IsReady (T.at given.now.table.now)) }
 {
     match so_far {
         Partial::Nothing => Ok(Partial::One(cell)),
-        Partial::One(first) => with_cell(alloc, curve_at(table, first), table, cell, steps),
-        Partial::Made(made) => with_cell(alloc, &made, table, cell, steps),
+        Partial::One(first) => with_cell(given, curve_at(given.table, first), cell, steps),
+        Partial::Made(made) => with_cell(given, &made, cell, steps),
     }
 }
 
 /// The value of a sum of cells: of none the curve that is 0, of one that cell's own curve, shared.
-pub fn finished<T: Table<Value>>(alloc: Global, table: &T, whole: Partial) -> Result<Value, OpFault>
-    requires ready { IsReady (T.at table.now) whole }
-    ensures { (cells : List Cell) → IsPartial (T.at table.now) cells whole →
-        Gives (T.at table.now) (sum_of_cells cells) (answer_of meaning_of result) }
+pub fn finished<T: Table<Value>>(
+    given: &Given<T>,
+    whole: Partial,
+) -> Result<Value, OpFault>
+    requires ready { IsReady (T.at given.now.table.now) whole }
+    ensures { (cells : List Cell) → IsPartial (T.at given.now.table.now) cells whole →
+        Gives (T.at given.now.table.now) (sum_of_cells cells) (answer_of meaning_of result) }
 {
     match whole {
-        Partial::Nothing => shared(alloc, nothing(alloc)),
-        Partial::One(cell) => again(table, cell),
-        Partial::Made(made) => shared(alloc, Ok(made)),
+        Partial::Nothing => shared(given.alloc, nothing(given.alloc)),
+        Partial::One(cell) => again(given.table, cell),
+        Partial::Made(made) => shared(given.alloc, Ok(made)),
     }
 }
 
 // A sum and the flow's curve at its hop that is meant, if there is one.
 fn with_flow<T: Table<Value>, L: Ledger>(
-    alloc: Global,
+    given: &Given<T>,
     so_far: Partial,
-    table: &T,
-    net: &Network,
     server: u32,
     pick: Pick,
     except: Option<u32>,
     flow: u32,
     steps: &mut Steps<L>,
 ) -> Result<Partial, OpFault>
-    requires curves { (k : ℕ) → chosen net.now server pick except flow ≡ visit_list flow (Some k) →
-        IsCurveAt (T.at table.now) (cell_of In flow k) }
-    requires ready { IsReady (T.at table.now) so_far }
-    ensures sum { (cells : List Cell) → IsPartial (T.at table.now) cells so_far → Adds (T.at table.now) cells
-        (map (at_visit In) (chosen net.now server pick except flow)) steps.old steps.new result }
-    ensures ready { IfOk result (IsReady (T.at table.now)) }
+    requires curves { (k : ℕ) → chosen given.now.net.now server pick except flow ≡ visit_list flow (Some k) →
+        IsCurveAt (T.at given.now.table.now) (cell_of In flow k) }
+    requires ready { IsReady (T.at given.now.table.now) so_far }
+    ensures sum { (cells : List Cell) → IsPartial (T.at given.now.table.now) cells so_far → Adds
+        (T.at given.now.table.now) cells
+        (map (at_visit In) (chosen given.now.net.now server pick except flow)) steps.old steps.new result }
+    ensures ready { IfOk result (IsReady (T.at given.now.table.now)) }
 {
-    match chosen_at(net, flow, server, pick, except) {
+    match chosen_at(given.net, flow, server, pick, except) {
         Some(hop) => {
             let cell = Cell {
                 kind: Kind::In,
                 a: flow,
                 b: hop,
             };
-            added(alloc, so_far, table, cell, steps)
+            added(given, so_far, cell, steps)
         }
         None => Ok(so_far),
     }
@@ -137,24 +137,22 @@ fn with_flow<T: Table<Value>, L: Ledger>(
 
 /// The sum of the curves with which flows come to the hops at a server that are meant, one flow left out.
 pub fn flows_sum<T: Table<Value>, L: Ledger>(
-    alloc: Global,
-    table: &T,
-    net: &Network,
+    given: &Given<T>,
     server: u32,
     pick: Pick,
     except: Option<u32>,
     steps: &mut Steps<L>,
 ) -> Result<Partial, OpFault>
-    requires { (i k : ℕ) → chosen net.now server pick except i ≡ visit_list i (Some k) →
-        IsCurveAt (T.at table.now) (cell_of In i k) }
-    ensures sum { Adds (T.at table.now) [] (map (at_visit In)
-        (all_chosen net.now server pick except (length net.now.flows))) steps.old steps.new result }
-    ensures ready { IfOk result (IsReady (T.at table.now)) }
+    requires { (i k : ℕ) → chosen given.now.net.now server pick except i ≡ visit_list i (Some k) →
+        IsCurveAt (T.at given.now.table.now) (cell_of In i k) }
+    ensures sum { Adds (T.at given.now.table.now) [] (map (at_visit In)
+        (all_chosen given.now.net.now server pick except (length given.now.net.now.flows))) steps.old steps.new result }
+    ensures ready { IfOk result (IsReady (T.at given.now.table.now)) }
 {
-    let count = net.flows().len() as u32;
+    let count = given.net.flows().len() as u32;
     let mut so_far = Partial::Nothing;
     for flow in 0..count {
-        match with_flow(alloc, so_far, table, net, server, pick, except, flow, steps) {
+        match with_flow(given, so_far, server, pick, except, flow, steps) {
             Ok(more) => so_far = more,
             Err(fault) => return Err(fault),
         }
@@ -164,16 +162,15 @@ pub fn flows_sum<T: Table<Value>, L: Ledger>(
 
 /// The sum of the curves of the first queues of a server.
 pub fn queues_sum<T: Table<Value>, L: Ledger>(
-    alloc: Global,
-    table: &T,
+    given: &Given<T>,
     server: u32,
     queues: u32,
     steps: &mut Steps<L>,
 ) -> Result<Partial, OpFault>
-    requires { (q : ℕ) → q < queues → IsCurveAt (T.at table.now) (cell_of Total server q) }
-    ensures sum { Adds (T.at table.now) []
+    requires { (q : ℕ) → q < queues → IsCurveAt (T.at given.now.table.now) (cell_of Total server q) }
+    ensures sum { Adds (T.at given.now.table.now) []
         (map (cell_of Total server) (range_with_len 0 queues)) steps.old steps.new result }
-    ensures ready { IfOk result (IsReady (T.at table.now)) }
+    ensures ready { IfOk result (IsReady (T.at given.now.table.now)) }
 {
     let mut so_far = Partial::Nothing;
     for queue in 0..queues {
@@ -182,7 +179,7 @@ pub fn queues_sum<T: Table<Value>, L: Ledger>(
             a: server,
             b: queue,
         };
-        match added(alloc, so_far, table, cell, steps) {
+        match added(given, so_far, cell, steps) {
             Ok(more) => so_far = more,
             Err(fault) => return Err(fault),
         }

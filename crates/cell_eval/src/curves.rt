@@ -10,6 +10,7 @@ ghost use Rattle.net_cells.specs.Cells.{cell_of};
 ghost use Rattle.net_cells.specs.cell_table.Values.{answer_of, meaning_of};
 ghost use Rattle.cell_eval.specs.Evaluates.{MayBeMade, Evaluates};
 
+use crate::Given;
 use crate::places::{cell, place_of};
 use crate::sums::summed;
 use crate::{
@@ -18,201 +19,167 @@ use crate::{
 };
 use net_cells::cell_table::{Table, Value};
 use net_cells::{Cell, Kind, live_flow};
-use net_model::Network;
-use std::alloc::Global;
 use std::sync::ledger::Ledger;
 use steps::Steps;
 use upp_limits::OpFault;
 
 /// The curve with which a flow comes to a hop.
 pub fn arriving<T: Table<Value>>(
-    alloc: Global,
-    table: &T,
-    net: &Network,
+    given: &Given<T>,
     flow: u32,
     hop: u32,
 ) -> Result<Value, OpFault>
-    requires { MayBeMade net.now (T.at table.now) (cell_of In flow hop) }
-    ensures { (n : ℕ) → Evaluates net.now (T.at table.now) (cell_of In flow hop) n n (answer_of meaning_of result) }
+    requires { MayBeMade given.now.net.now (T.at given.now.table.now) (cell_of In flow hop) }
+    ensures { (n : ℕ) → Evaluates given.now.net.now (T.at given.now.table.now) (cell_of In flow hop) n n
+        (answer_of meaning_of result) }
 {
     if hop == 0 {
-        match live_flow(net, flow) {
-            Some(found) => shared(alloc, copied(&found.arrival)),
+        match live_flow(given.net, flow) {
+            Some(found) => shared(given.alloc, copied(&found.arrival)),
             None => unreachable!(),
         }
     } else {
-        again(table, cell!(Out, flow, hop - 1))
+        again(given.table, cell!(Out, flow, hop - 1))
     }
 }
 
 /// The sum of the curves of the other flows in the queue of a hop.
 pub fn cross<T: Table<Value>, L: Ledger>(
-    alloc: Global,
-    table: &T,
-    net: &Network,
+    given: &Given<T>,
     flow: u32,
     hop: u32,
     steps: &mut Steps<L>,
 ) -> Result<Value, OpFault>
-    requires { MayBeMade net.now (T.at table.now) (cell_of Cross flow hop) }
-    ensures { Evaluates net.now (T.at table.now) (cell_of Cross flow hop) steps.old steps.new
+    requires { MayBeMade given.now.net.now (T.at given.now.table.now) (cell_of Cross flow hop) }
+    ensures { Evaluates given.now.net.now (T.at given.now.table.now) (cell_of Cross flow hop) steps.old steps.new
         (answer_of meaning_of result) }
 {
-    let place = place_of(net, flow, hop);
+    let place = place_of(given.net, flow, hop);
     let others = Pick::InQueue(place.1);
-    let made = flows_sum(alloc, table, net, place.0, others, Some(flow), steps);
-    summed(alloc, table, made)
+    let made = flows_sum(given, place.0, others, Some(flow), steps);
+    summed(given, made)
 }
 
 /// The sum of the curves of all flows in a queue; in version 2 that of its parts.
 pub fn total<T: Table<Value>, L: Ledger>(
-    alloc: Global,
-    table: &T,
-    net: &Network,
+    given: &Given<T>,
     server: u32,
     queue: u32,
     steps: &mut Steps<L>,
 ) -> Result<Value, OpFault>
-    requires { MayBeMade net.now (T.at table.now) (cell_of Total server queue) }
-    ensures { Evaluates net.now (T.at table.now) (cell_of Total server queue) steps.old steps.new
+    requires { MayBeMade given.now.net.now (T.at given.now.table.now) (cell_of Total server queue) }
+    ensures { Evaluates given.now.net.now (T.at given.now.table.now) (cell_of Total server queue) steps.old steps.new
         (answer_of meaning_of result) }
 {
-    if net.version() == 2 {
-        return parts_sum(alloc, table, net, (server, queue), steps);
+    if given.net.version() == 2 {
+        return parts_sum(given, (server, queue), steps);
     }
     let all = Pick::InQueue(queue);
-    let made = flows_sum(alloc, table, net, server, all, None, steps);
-    summed(alloc, table, made)
+    let made = flows_sum(given, server, all, None, steps);
+    summed(given, made)
 }
 
 /// The sum of the curves of all queues before one.
 pub fn higher<T: Table<Value>, L: Ledger>(
-    alloc: Global,
-    table: &T,
-    net: &Network,
+    given: &Given<T>,
     server: u32,
     queue: u32,
     steps: &mut Steps<L>,
 ) -> Result<Value, OpFault>
-    requires { MayBeMade net.now (T.at table.now) (cell_of Higher server queue) }
-    ensures { Evaluates net.now (T.at table.now) (cell_of Higher server queue) steps.old steps.new
+    requires { MayBeMade given.now.net.now (T.at given.now.table.now) (cell_of Higher server queue) }
+    ensures { Evaluates given.now.net.now (T.at given.now.table.now) (cell_of Higher server queue) steps.old steps.new
         (answer_of meaning_of result) }
 {
-    let made = queues_sum(alloc, table, server, queue, steps);
-    summed(alloc, table, made)
+    let made = queues_sum(given, server, queue, steps);
+    summed(given, made)
 }
 
 /// What a queue is served.
 pub fn serving<T: Table<Value>, L: Ledger>(
-    alloc: Global,
-    table: &T,
-    net: &Network,
+    given: &Given<T>,
     server: u32,
     queue: u32,
     steps: &mut Steps<L>,
 ) -> Result<Value, OpFault>
-    requires { MayBeMade net.now (T.at table.now) (cell_of QueueService server queue) }
-    ensures { Evaluates net.now (T.at table.now) (cell_of QueueService server queue) steps.old steps.new
+    requires { MayBeMade given.now.net.now (T.at given.now.table.now) (cell_of QueueService server queue) }
+    ensures { Evaluates given.now.net.now (T.at given.now.table.now) (cell_of QueueService server queue) steps.old
+        steps.new
         (answer_of meaning_of result) }
 {
-    queue_service(alloc, table, net, (server, queue), steps)
+    queue_service(given, (server, queue), steps)
 }
 
 /// What a flow is served along its path.
 pub fn path<T: Table<Value>, L: Ledger>(
-    alloc: Global,
-    table: &T,
-    net: &Network,
+    given: &Given<T>,
     flow: u32,
     steps: &mut Steps<L>,
 ) -> Result<Value, OpFault>
-    requires { MayBeMade net.now (T.at table.now) (cell_of PathService flow 0) }
-    ensures { Evaluates net.now (T.at table.now) (cell_of PathService flow 0) steps.old steps.new
+    requires { MayBeMade given.now.net.now (T.at given.now.table.now) (cell_of PathService flow 0) }
+    ensures { Evaluates given.now.net.now (T.at given.now.table.now) (cell_of PathService flow 0) steps.old steps.new
         (answer_of meaning_of result) }
 {
-    path_service(alloc, table, net, flow, steps)
+    path_service(given, flow, steps)
 }
 
 /// What is left of a queue's service for one of its flows.
 pub fn residual<T: Table<Value>, L: Ledger>(
-    alloc: Global,
-    table: &T,
-    net: &Network,
+    given: &Given<T>,
     flow: u32,
     hop: u32,
     steps: &mut Steps<L>,
 ) -> Result<Value, OpFault>
-    requires { MayBeMade net.now (T.at table.now) (cell_of Residual flow hop) }
-    ensures { Evaluates net.now (T.at table.now) (cell_of Residual flow hop) steps.old steps.new
+    requires { MayBeMade given.now.net.now (T.at given.now.table.now) (cell_of Residual flow hop) }
+    ensures { Evaluates given.now.net.now (T.at given.now.table.now) (cell_of Residual flow hop) steps.old steps.new
         (answer_of meaning_of result) }
 {
-    let place = place_of(net, flow, hop);
+    let place = place_of(given.net, flow, hop);
     let service = cell!(QueueService, place.0, place.1);
     let others = cell!(Cross, flow, hop);
-    left_over(
-        alloc,
-        table,
-        service,
-        others,
-        cell!(Theta, flow, hop),
-        steps,
-    )
+    left_over(given, service, others, cell!(Theta, flow, hop), steps)
 }
 
 /// The curve with which a flow leaves a hop, by the delay there.
 pub fn shift_out<T: Table<Value>, L: Ledger>(
-    alloc: Global,
-    table: &T,
-    net: &Network,
+    given: &Given<T>,
     flow: u32,
     hop: u32,
     steps: &mut Steps<L>,
 ) -> Result<Value, OpFault>
-    requires { MayBeMade net.now (T.at table.now) (cell_of ShiftOut flow hop) }
-    ensures { Evaluates net.now (T.at table.now) (cell_of ShiftOut flow hop) steps.old steps.new
+    requires { MayBeMade given.now.net.now (T.at given.now.table.now) (cell_of ShiftOut flow hop) }
+    ensures { Evaluates given.now.net.now (T.at given.now.table.now) (cell_of ShiftOut flow hop) steps.old steps.new
         (answer_of meaning_of result) }
 {
     let by = cell!(HopDelay, flow, hop);
-    later(alloc, table, cell!(In, flow, hop), by, steps)
+    later(given, cell!(In, flow, hop), by, steps)
 }
 
 /// The curve with which a flow leaves a hop, by what it is served there.
 pub fn deconv_out<T: Table<Value>, L: Ledger>(
-    alloc: Global,
-    table: &T,
-    net: &Network,
+    given: &Given<T>,
     flow: u32,
     hop: u32,
     steps: &mut Steps<L>,
 ) -> Result<Value, OpFault>
-    requires { MayBeMade net.now (T.at table.now) (cell_of DeconvOut flow hop) }
-    ensures { Evaluates net.now (T.at table.now) (cell_of DeconvOut flow hop) steps.old steps.new
+    requires { MayBeMade given.now.net.now (T.at given.now.table.now) (cell_of DeconvOut flow hop) }
+    ensures { Evaluates given.now.net.now (T.at given.now.table.now) (cell_of DeconvOut flow hop) steps.old steps.new
         (answer_of meaning_of result) }
 {
     let service = cell!(Residual, flow, hop);
-    spread(
-        alloc,
-        table,
-        cell!(In, flow, hop),
-        service,
-        packet(net, flow),
-        steps,
-    )
+    spread(given, cell!(In, flow, hop), service, packet(given.net, flow), steps)
 }
 
 /// The curve with which a flow leaves a hop.
 pub fn leaving<T: Table<Value>, L: Ledger>(
-    alloc: Global,
-    table: &T,
-    net: &Network,
+    given: &Given<T>,
     flow: u32,
     hop: u32,
     steps: &mut Steps<L>,
 ) -> Result<Value, OpFault>
-    requires { MayBeMade net.now (T.at table.now) (cell_of Out flow hop) }
-    ensures { Evaluates net.now (T.at table.now) (cell_of Out flow hop) steps.old steps.new
+    requires { MayBeMade given.now.net.now (T.at given.now.table.now) (cell_of Out flow hop) }
+    ensures { Evaluates given.now.net.now (T.at given.now.table.now) (cell_of Out flow hop) steps.old steps.new
         (answer_of meaning_of result) }
 {
     let second = cell!(DeconvOut, flow, hop);
-    lesser(alloc, table, cell!(ShiftOut, flow, hop), second, steps)
+    lesser(given, cell!(ShiftOut, flow, hop), second, steps)
 }

@@ -16,6 +16,7 @@ ghost use Rattle.net_cells.specs.cell_table.Gives.{Gives};
 ghost use Rattle.net_cells.specs.cell_table.Values.{answer_of, meaning_of};
 ghost use Rattle.cell_eval.specs.Evaluates.{MayBeMade, Evaluates};
 
+use crate::Given;
 use crate::{
     arriving, bound, cross, deconv_out, higher, hop_delay, leaving, path, queue_backlog,
     queue_delay, residual, serving, sfa, shift_out, tfa, theta, total,
@@ -30,33 +31,32 @@ use upp_limits::OpFault;
 
 // The value of a cell by its kind: each call makes the one that its name says.
 fn by_kind<T: Table<Value>, L: Ledger>(
-    alloc: Global,
+    given: &Given<T>,
     cell: Cell,
-    net: &Network,
-    table: &T,
     steps: &mut Steps<L>,
 ) -> Result<Value, OpFault>
-    requires { MayBeMade net.now (T.at table.now) cell }
-    ensures { Evaluates net.now (T.at table.now) cell steps.old steps.new (answer_of meaning_of result) }
+    requires { MayBeMade given.now.net.now (T.at given.now.table.now) cell }
+    ensures { Evaluates given.now.net.now (T.at given.now.table.now) cell steps.old steps.new
+        (answer_of meaning_of result) }
 {
     match cell.kind {
-        Kind::In => arriving(alloc, table, net, cell.a, cell.b),
-        Kind::Cross => cross(alloc, table, net, cell.a, cell.b, steps),
-        Kind::Total => total(alloc, table, net, cell.a, cell.b, steps),
-        Kind::Higher => higher(alloc, table, net, cell.a, cell.b, steps),
-        Kind::QueueService => serving(alloc, table, net, cell.a, cell.b, steps),
-        Kind::Theta => theta(table, net, cell.a, cell.b, steps),
-        Kind::Residual => residual(alloc, table, net, cell.a, cell.b, steps),
-        Kind::QueueDelay => queue_delay(table, net, cell.a, cell.b, steps),
-        Kind::QueueBacklog => queue_backlog(alloc, table, net, cell.a, cell.b, steps),
-        Kind::HopDelay => hop_delay(table, net, cell.a, cell.b, steps),
-        Kind::ShiftOut => shift_out(alloc, table, net, cell.a, cell.b, steps),
-        Kind::DeconvOut => deconv_out(alloc, table, net, cell.a, cell.b, steps),
-        Kind::Out => leaving(alloc, table, net, cell.a, cell.b, steps),
-        Kind::PathService => path(alloc, table, net, cell.a, steps),
-        Kind::Tfa => tfa(table, net, cell.a),
-        Kind::Sfa => sfa(table, net, cell.a, steps),
-        Kind::Bound => bound(table, net, cell.a),
+        Kind::In => arriving(given, cell.a, cell.b),
+        Kind::Cross => cross(given, cell.a, cell.b, steps),
+        Kind::Total => total(given, cell.a, cell.b, steps),
+        Kind::Higher => higher(given, cell.a, cell.b, steps),
+        Kind::QueueService => serving(given, cell.a, cell.b, steps),
+        Kind::Theta => theta(given, cell.a, cell.b, steps),
+        Kind::Residual => residual(given, cell.a, cell.b, steps),
+        Kind::QueueDelay => queue_delay(given, cell.a, cell.b, steps),
+        Kind::QueueBacklog => queue_backlog(given, cell.a, cell.b, steps),
+        Kind::HopDelay => hop_delay(given, cell.a, cell.b, steps),
+        Kind::ShiftOut => shift_out(given, cell.a, cell.b, steps),
+        Kind::DeconvOut => deconv_out(given, cell.a, cell.b, steps),
+        Kind::Out => leaving(given, cell.a, cell.b, steps),
+        Kind::PathService => path(given, cell.a, steps),
+        Kind::Tfa => tfa(given, cell.a),
+        Kind::Sfa => sfa(given, cell.a, steps),
+        Kind::Bound => bound(given, cell.a),
     }
 }
 
@@ -81,5 +81,6 @@ pub fn eval<T: Table<Value>, L: Ledger>(
         Stops (T.at table.now) (formula net.now cell) OpFault.NoMemory (steps.new - steps.old) }
 {
     net.keeps();
-    by_kind(alloc, cell, net, table, steps)
+    let given = Given { alloc, net, table };
+    by_kind(&given, cell, steps)
 }

@@ -7,6 +7,7 @@ mod curve_sums;
 mod curves;
 mod each_kind;
 mod found;
+mod given;
 mod nodes;
 mod number_sums;
 mod numbers;
@@ -25,6 +26,7 @@ pub use curves::{
 };
 pub use each_kind::eval;
 pub use found::{Pick, chosen_at, link, longest_at, packet, rate};
+pub use given::Given;
 pub use net_cells::cell_table::{Analysis, AnalysisFault, CellValue, Evaluator, Table, Value};
 pub use net_cells::{Cell, Kind, cells, operands, work};
 pub use nodes::{backlog, delay_between, later, left_over, lesser, spread};

@@ -14,6 +14,7 @@ ghost use Rattle.cell_eval.specs.Evaluates.{Counts};
 ghost use Rattle.cell_eval.specs.Shapes.{Rises, Serving};
 ghost use Rattle.cell_eval.specs.TableValues.{HasCurve, HasNumber, IsCurveAt, Deviate};
 
+use crate::Given;
 use crate::reading::{curve_at, number_at};
 use crate::sharing::shared;
 use curve_deconv::deconvolve;
@@ -25,7 +26,6 @@ use plain_operators::curve_call::intact;
 use plain_operators::running::{min, shift};
 use residuals::fifo::fifo_service;
 use residuals::packetiser::packetised;
-use std::alloc::Global;
 use std::sync::ledger::Ledger;
 use steps::Steps;
 use upp_limits::OpFault;
@@ -35,126 +35,124 @@ use upp_limits::upp_curve::Curve;
 /// The horizontal deviation of a cell's curve, which rises, and another's, which serves. One step is counted; refused
 /// only where that call is over a limit.
 pub fn delay_between<T: Table<Value>, L: Ledger>(
-    table: &T,
+    given: &Given<T>,
     from: Cell,
     by: Cell,
     steps: &mut Steps<L>,
 ) -> Result<Ext, OpFault>
-    requires rises { HasCurve (T.at table.now) from Rises }
-    requires serves { HasCurve (T.at table.now) by Serving }
-    ensures answer { Answers (T.at table.now) (horizontal (value_of from) (value_of by)) (answer_of number result) }
+    requires rises { HasCurve (T.at given.now.table.now) from Rises }
+    requires serves { HasCurve (T.at given.now.table.now) by Serving }
+    ensures answer { Answers (T.at given.now.table.now) (horizontal (value_of from) (value_of by))
+        (answer_of number result) }
     ensures count { steps.new ≡ steps.old + 1 }
 {
-    horizontal(curve_at(table, from), curve_at(table, by), steps)
+    horizontal(curve_at(given.table, from), curve_at(given.table, by), steps)
 }
 
 /// What a queue's service leaves to a flow of it.
 pub fn left_over<T: Table<Value>, L: Ledger>(
-    alloc: Global,
-    table: &T,
+    given: &Given<T>,
     service: Cell,
     cross: Cell,
     theta: Cell,
     steps: &mut Steps<L>,
 ) -> Result<Value, OpFault>
-    requires serves { HasCurve (T.at table.now) service Serving }
-    requires cross { IsCurveAt (T.at table.now) cross }
-    requires theta { Deviate (T.at table.now) cross service theta }
-    ensures answer { Answers (T.at table.now) (leftover (value_of service) (value_of cross) (value_of theta))
+    requires serves { HasCurve (T.at given.now.table.now) service Serving }
+    requires cross { IsCurveAt (T.at given.now.table.now) cross }
+    requires theta { Deviate (T.at given.now.table.now) cross service theta }
+    ensures answer { Answers (T.at given.now.table.now) (leftover (value_of service) (value_of cross) (value_of theta))
         (answer_of meaning_of result) }
     ensures count { steps.new ≡ steps.old + 1 }
 {
-    let by = number_at(table, theta);
+    let by = number_at(given.table, theta);
     let made = fifo_service(
-        alloc,
-        curve_at(table, service),
-        curve_at(table, cross),
+        given.alloc,
+        curve_at(given.table, service),
+        curve_at(given.table, cross),
         by,
         steps,
     );
-    shared(alloc, made)
+    shared(given.alloc, made)
 }
 
 /// A cell's curve later by another's number.
 pub fn later<T: Table<Value>, L: Ledger>(
-    alloc: Global,
-    table: &T,
+    given: &Given<T>,
     from: Cell,
     by: Cell,
     steps: &mut Steps<L>,
 ) -> Result<Value, OpFault>
-    requires curve { IsCurveAt (T.at table.now) from }
-    requires ahead { HasNumber (T.at table.now) by IsNonneg }
-    ensures answer { Answers (T.at table.now) (moved (value_of from) (value_of by)) (answer_of meaning_of result) }
+    requires curve { IsCurveAt (T.at given.now.table.now) from }
+    requires ahead { HasNumber (T.at given.now.table.now) by IsNonneg }
+    ensures answer { Answers (T.at given.now.table.now) (moved (value_of from) (value_of by))
+        (answer_of meaning_of result) }
     ensures count { steps.new ≡ steps.old + 1 }
 {
-    let by = number_at(table, by);
-    let made = intact(shift(alloc, curve_at(table, from), by, steps));
-    shared(alloc, made)
+    let by = number_at(given.table, by);
+    let made = intact(shift(given.alloc, curve_at(given.table, from), by, steps));
+    shared(given.alloc, made)
 }
 
 /// The lesser of the curves of two cells.
 pub fn lesser<T: Table<Value>, L: Ledger>(
-    alloc: Global,
-    table: &T,
+    given: &Given<T>,
     first: Cell,
     second: Cell,
     steps: &mut Steps<L>,
 ) -> Result<Value, OpFault>
-    requires first { IsCurveAt (T.at table.now) first }
-    requires second { IsCurveAt (T.at table.now) second }
-    ensures answer { Answers (T.at table.now) (made Min (value_of first) (value_of second))
+    requires first { IsCurveAt (T.at given.now.table.now) first }
+    requires second { IsCurveAt (T.at given.now.table.now) second }
+    ensures answer { Answers (T.at given.now.table.now) (made Min (value_of first) (value_of second))
         (answer_of meaning_of result) }
     ensures count { steps.new ≡ steps.old + 1 }
 {
     let made = intact(min(
-        alloc,
-        curve_at(table, first),
-        curve_at(table, second),
+        given.alloc,
+        curve_at(given.table, first),
+        curve_at(given.table, second),
         steps,
     ));
-    shared(alloc, made)
+    shared(given.alloc, made)
 }
 
 /// A cell's service less one packet.
 pub fn in_packets<T: Table<Value>, L: Ledger>(
-    alloc: Global,
-    table: &T,
+    given: &Given<T>,
     service: Cell,
     bits: u32,
     steps: &mut Steps<L>,
 ) -> Result<Curve, OpFault>
-    requires { HasCurve (T.at table.now) service Serving }
-    ensures answer { Answers (T.at table.now) (less (value_of service) bits) (answer_of curve result) }
-    ensures refused { IfErr result (λ fault. RefusedAt (T.at table.now) (less (value_of service) bits) fault 1) }
+    requires { HasCurve (T.at given.now.table.now) service Serving }
+    ensures answer { Answers (T.at given.now.table.now) (less (value_of service) bits) (answer_of curve result) }
+    ensures refused { IfErr result (λ fault. RefusedAt (T.at given.now.table.now) (less (value_of service) bits) fault
+        1) }
     ensures finite { IfOk result (λ c. IsFinite (value_at c)) }
     ensures count { steps.new ≡ steps.old + 1 }
 {
-    packetised(alloc, curve_at(table, service), whole(bits), steps)
+    packetised(given.alloc, curve_at(given.table, service), whole(bits), steps)
 }
 
 /// With what curve one goes on that comes with a cell's curve and is served in whole packets by another's.
 pub fn spread<T: Table<Value>, L: Ledger>(
-    alloc: Global,
-    table: &T,
+    given: &Given<T>,
     from: Cell,
     service: Cell,
     bits: u32,
     steps: &mut Steps<L>,
 ) -> Result<Value, OpFault>
-    requires curve { IsCurveAt (T.at table.now) from }
-    requires serves { HasCurve (T.at table.now) service Serving }
-    ensures answer { Answers (T.at table.now) (made Deconvolve (value_of from) (less (value_of service) bits))
+    requires curve { IsCurveAt (T.at given.now.table.now) from }
+    requires serves { HasCurve (T.at given.now.table.now) service Serving }
+    ensures answer { Answers (T.at given.now.table.now) (made Deconvolve (value_of from) (less (value_of service) bits))
         (answer_of meaning_of result) }
-    ensures refused { IfErr result (λ fault. RefusedAt (T.at table.now)
+    ensures refused { IfErr result (λ fault. RefusedAt (T.at given.now.table.now)
         (made Deconvolve (value_of from) (less (value_of service) bits)) fault (steps.new - steps.old)) }
     ensures counts { Counts 2 steps.old steps.new (answer_of meaning_of result) }
 {
-    let from = curve_at(table, from);
-    match in_packets(alloc, table, service, bits, steps) {
+    let from = curve_at(given.table, from);
+    match in_packets(given, service, bits, steps) {
         Ok(packets) => {
-            let made = intact(deconvolve(alloc, from, &packets, steps));
-            shared(alloc, made)
+            let made = intact(deconvolve(given.alloc, from, &packets, steps));
+            shared(given.alloc, made)
         }
         Err(fault) => Err(fault),
     }
@@ -162,23 +160,22 @@ pub fn spread<T: Table<Value>, L: Ledger>(
 
 /// How many bits are above a cell's service in whole packets.
 pub fn backlog<T: Table<Value>, L: Ledger>(
-    alloc: Global,
-    table: &T,
+    given: &Given<T>,
     from: Cell,
     service: Cell,
     bits: u32,
     steps: &mut Steps<L>,
 ) -> Result<Ext, OpFault>
-    requires curve { IsCurveAt (T.at table.now) from }
-    requires serves { HasCurve (T.at table.now) service Serving }
-    ensures answer { Answers (T.at table.now) (vertical (value_of from) (less (value_of service) bits))
+    requires curve { IsCurveAt (T.at given.now.table.now) from }
+    requires serves { HasCurve (T.at given.now.table.now) service Serving }
+    ensures answer { Answers (T.at given.now.table.now) (vertical (value_of from) (less (value_of service) bits))
         (answer_of number result) }
-    ensures refused { IfErr result (λ fault. RefusedAt (T.at table.now)
+    ensures refused { IfErr result (λ fault. RefusedAt (T.at given.now.table.now)
         (vertical (value_of from) (less (value_of service) bits)) fault (steps.new - steps.old)) }
     ensures counts { Counts 2 steps.old steps.new (answer_of number result) }
 {
-    let from = curve_at(table, from);
-    match in_packets(alloc, table, service, bits, steps) {
+    let from = curve_at(given.table, from);
+    match in_packets(given, service, bits, steps) {
         Ok(packets) => vertical(from, &packets, steps),
         Err(fault) => Err(fault),
     }

@@ -27,9 +27,10 @@ ghost use Rattle.cell_eval.specs.declared.found.Pick.TheVariants.{InPart};
 ghost use Rattle.cell_eval.specs.Evaluates.{Counts};
 ghost use Rattle.cell_eval.specs.Partial.{IsReady, Adds};
 ghost use Rattle.cell_eval.specs.Parts.{curve_of, IsHeld, MakesPart, part_answer, part_work};
-ghost use Rattle.cell_eval.specs.Parts.{kept, AreMade, AreRefused};
+ghost use Rattle.cell_eval.specs.Parts.{ComeWithCurves, kept, AreMade, AreRefused};
 ghost use Rattle.cell_eval.specs.TableValues.{IsCurveAt};
 
+use crate::Given;
 use crate::curve_sums::{Partial, flows_sum, nothing};
 use crate::reading::curve_at;
 use crate::sharing::{again, copied, shared};
@@ -139,59 +140,60 @@ fn cut_sum<L: Ledger>(
 
 // The same, where the part has a hop.
 fn cut_part<T: Table<Value>, L: Ledger>(
-    alloc: Global,
+    given: &Given<T>,
     flows: Partial,
-    table: &T,
-    net: &Network,
     place: (u32, u32),
     part: u64,
     steps: &mut Steps<L>,
 ) -> Result<Partial, OpFault>
     requires link { 1 ≤ part }
     requires few { part ≤ 64 }
-    requires ready { IsReady (T.at table.now) flows }
-    ensures part { (old : ℕ) → Adds (T.at table.now) [] (map (at_visit In) (in_part net.now place.0 place.1 part))
-        old steps.old (Ok flows) → MakesPart (T.at table.now) net.now place.0 place.1 part result }
-    ensures refused { IfErr result (λ fault. (old : ℕ) → Adds (T.at table.now) []
-        (map (at_visit In) (in_part net.now place.0 place.1 part)) old steps.old (Ok flows) →
-        RefusedAt (T.at table.now) (part_sum net.now part (in_part net.now place.0 place.1 part)) fault
+    requires ready { IsReady (T.at given.now.table.now) flows }
+    ensures part { (old : ℕ) → Adds (T.at given.now.table.now) []
+        (map (at_visit In) (in_part given.now.net.now place.0 place.1 part))
+        old steps.old (Ok flows) → MakesPart (T.at given.now.table.now) given.now.net.now place.0 place.1 part result }
+    ensures refused { IfErr result (λ fault. (old : ℕ) → Adds (T.at given.now.table.now) []
+        (map (at_visit In) (in_part given.now.net.now place.0 place.1 part)) old steps.old (Ok flows) →
+        RefusedAt (T.at given.now.table.now) (part_sum given.now.net.now part
+        (in_part given.now.net.now place.0 place.1 part)) fault
         (steps.new - old)) }
-    ensures counts { (old : ℕ) → Adds (T.at table.now) [] (map (at_visit In) (in_part net.now place.0 place.1 part))
-        old steps.old (Ok flows) → Counts (part_work net.now place.0 place.1 part) old steps.new
-        (part_answer (T.at table.now) result) }
+    ensures counts { (old : ℕ) → Adds (T.at given.now.table.now) []
+        (map (at_visit In) (in_part given.now.net.now place.0 place.1 part))
+        old steps.old (Ok flows) → Counts (part_work given.now.net.now place.0 place.1 part) old steps.new
+        (part_answer (T.at given.now.table.now) result) }
 {
     match flows {
         Partial::Nothing => Ok(Partial::Nothing),
-        Partial::One(cell) => cut_sum(alloc, curve_at(table, cell), net, place, part, steps),
-        Partial::Made(made) => cut_sum(alloc, &made, net, place, part, steps),
+        Partial::One(cell) => cut_sum(given.alloc, curve_at(given.table, cell), given.net, place, part, steps),
+        Partial::Made(made) => cut_sum(given.alloc, &made, given.net, place, part, steps),
     }
 }
 
 // The sum of a part.
 fn part_made<T: Table<Value>, L: Ledger>(
-    alloc: Global,
-    table: &T,
-    net: &Network,
+    given: &Given<T>,
     place: (u32, u32),
     part: u64,
     steps: &mut Steps<L>,
 ) -> Result<Partial, OpFault>
     requires few { part ≤ 64 }
-    requires curves { (i k : ℕ) → chosen net.now place.0 (InPart place.1 part) None i ≡ visit_list i (Some k) →
-        IsCurveAt (T.at table.now) (cell_of In i k) }
-    ensures part { MakesPart (T.at table.now) net.now place.0 place.1 part result }
-    ensures refused { IfErr result (λ fault. RefusedAt (T.at table.now)
-        (part_sum net.now part (in_part net.now place.0 place.1 part)) fault (steps.new - steps.old)) }
-    ensures counts { Counts (part_work net.now place.0 place.1 part) steps.old steps.new
-        (part_answer (T.at table.now) result) }
+    requires curves { (i k : ℕ) → chosen given.now.net.now place.0 (InPart place.1 part) None i ≡ visit_list i
+        (Some k) →
+        IsCurveAt (T.at given.now.table.now) (cell_of In i k) }
+    ensures part { MakesPart (T.at given.now.table.now) given.now.net.now place.0 place.1 part result }
+    ensures refused { IfErr result (λ fault. RefusedAt (T.at given.now.table.now)
+        (part_sum given.now.net.now part (in_part given.now.net.now place.0 place.1 part)) fault
+        (steps.new - steps.old)) }
+    ensures counts { Counts (part_work given.now.net.now place.0 place.1 part) steps.old steps.new
+        (part_answer (T.at given.now.table.now) result) }
 {
     let pick = Pick::InPart(place.1, part);
-    match flows_sum(alloc, table, net, place.0, pick, None, steps) {
+    match flows_sum(given, place.0, pick, None, steps) {
         Ok(flows) => {
             if part == 0 {
                 Ok(flows)
             } else {
-                cut_part(alloc, flows, table, net, place, part, steps)
+                cut_part(given, flows, place, part, steps)
             }
         }
         Err(fault) => Err(fault),
@@ -213,24 +215,21 @@ fn keep(parts: &mut Parts, part: Partial)
 
 // The parts of a queue that have a hop, in their order.
 fn parts_made<T: Table<Value>, L: Ledger>(
-    alloc: Global,
-    table: &T,
-    net: &Network,
+    given: &Given<T>,
     place: (u32, u32),
     steps: &mut Steps<L>,
 ) -> Result<Parts, OpFault>
-    requires { (part i k : ℕ) → part ≤ length net.now.servers →
-        chosen net.now place.0 (InPart place.1 part) None i ≡ visit_list i (Some k) →
-        IsCurveAt (T.at table.now) (cell_of In i k) }
-    ensures made { IfOk result (λ parts. AreMade (T.at table.now) net.now place.0 place.1
-        (suc (length net.now.servers)) parts.items steps.old steps.new) }
-    ensures refused { IfErr result (λ fault. AreRefused (T.at table.now) net.now place.0 place.1 fault
+    requires { ComeWithCurves (T.at given.now.table.now) given.now.net.now place.0 place.1 }
+    ensures made { IfOk result (λ parts. AreMade (T.at given.now.table.now) given.now.net.now place.0 place.1
+        (suc (length given.now.net.now.servers)) parts.items steps.old steps.new) }
+    ensures refused { IfErr result (λ fault. AreRefused (T.at given.now.table.now) given.now.net.now place.0 place.1
+        fault
         steps.old steps.new) }
 {
-    let count = net.servers().len() as u64 + 1;
+    let count = given.net.servers().len() as u64 + 1;
     let mut parts = Parts::new();
     for part in 0..count {
-        match part_made(alloc, table, net, place, part, steps) {
+        match part_made(given, place, part, steps) {
             Ok(made) => keep(&mut parts, made),
             Err(fault) => return Err(fault),
         }
@@ -240,40 +239,38 @@ fn parts_made<T: Table<Value>, L: Ledger>(
 
 // A sum and a part more.
 fn part_added<T: Table<Value>, L: Ledger>(
-    alloc: Global,
+    given: &Given<T>,
     so_far: &Curve,
-    table: &T,
     part: &Partial,
     steps: &mut Steps<L>,
 ) -> Result<Curve, OpFault>
-    requires { IsHeld (T.at table.now) part.now }
-    ensures sum { Applies Sum so_far.now (curve_of (T.at table.now) part.now) result }
+    requires { IsHeld (T.at given.now.table.now) part.now }
+    ensures sum { Applies Sum so_far.now (curve_of (T.at given.now.table.now) part.now) result }
     ensures count { steps.new ≡ steps.old + 1 }
 {
-    intact(sum(alloc, so_far, curve_of(table, part), steps))
+    intact(sum(given.alloc, so_far, curve_of(given.table, part), steps))
 }
 
 // Two parts or more, added up.
 fn many_added<T: Table<Value>, L: Ledger>(
-    alloc: Global,
-    table: &T,
+    given: &Given<T>,
     parts: &[Partial],
     steps: &mut Steps<L>,
 ) -> Result<Curve, OpFault>
     requires many { 2 ≤ length parts.now }
-    requires held { All (IsHeld (T.at table.now)) parts.now }
-    ensures sum { SumsOf (map (curve_of (T.at table.now)) parts.now) (answer_of curve result) }
-    ensures refused { IfErr result (λ fault.
-        SumsRefused (map (curve_of (T.at table.now)) parts.now) fault (steps.new - steps.old)) }
+    requires held { All (IsHeld (T.at given.now.table.now)) parts.now }
+    ensures sum { SumsOf (map (curve_of (T.at given.now.table.now)) parts.now) (answer_of curve result) }
+    ensures refused { IfErr result (λ fault. SumsRefused (map (curve_of (T.at given.now.table.now)) parts.now) fault
+        (steps.new - steps.old)) }
     ensures counts { Counts (length parts.now - 1) steps.old steps.new (answer_of curve result) }
 {
-    let first = curve_of(table, &parts[0]);
-    let mut so_far = match part_added(alloc, first, table, &parts[1], steps) {
+    let first = curve_of(given.table, &parts[0]);
+    let mut so_far = match part_added(given, first, &parts[1], steps) {
         Ok(made) => made,
         Err(fault) => return Err(fault),
     };
     for k in 2..parts.len() {
-        match part_added(alloc, &so_far, table, &parts[k], steps) {
+        match part_added(given, &so_far, &parts[k], steps) {
             Ok(more) => so_far = more,
             Err(fault) => return Err(fault),
         }
@@ -282,61 +279,61 @@ fn many_added<T: Table<Value>, L: Ledger>(
 }
 
 // One part alone: a cell's own curve is shared.
-fn only<T: Table<Value>>(alloc: Global, table: &T, part: &Partial) -> Result<Value, OpFault>
-    requires { IsHeld (T.at table.now) part.now }
-    ensures { MakesCurve (IsAgain (curve_of (T.at table.now) part.now)) (answer_of meaning_of result) }
+fn only<T: Table<Value>>(
+    given: &Given<T>,
+    part: &Partial,
+) -> Result<Value, OpFault>
+    requires { IsHeld (T.at given.now.table.now) part.now }
+    ensures { MakesCurve (IsAgain (curve_of (T.at given.now.table.now) part.now)) (answer_of meaning_of result) }
 {
     match part {
         Partial::Nothing => unreachable!(),
-        Partial::One(cell) => again(table, *cell),
-        Partial::Made(made) => shared(alloc, copied(made)),
+        Partial::One(cell) => again(given.table, *cell),
+        Partial::Made(made) => shared(given.alloc, copied(made)),
     }
 }
 
 // Parts, added up.
 fn added_up<T: Table<Value>, L: Ledger>(
-    alloc: Global,
-    table: &T,
+    given: &Given<T>,
     parts: &[Partial],
     steps: &mut Steps<L>,
 ) -> Result<Value, OpFault>
-    requires { All (IsHeld (T.at table.now)) parts.now }
-    ensures sum { SumsOf (map (curve_of (T.at table.now)) parts.now) (answer_of meaning_of result) }
-    ensures refused { IfErr result (λ fault.
-        SumsRefused (map (curve_of (T.at table.now)) parts.now) fault (steps.new - steps.old)) }
+    requires { All (IsHeld (T.at given.now.table.now)) parts.now }
+    ensures sum { SumsOf (map (curve_of (T.at given.now.table.now)) parts.now) (answer_of meaning_of result) }
+    ensures refused { IfErr result (λ fault. SumsRefused (map (curve_of (T.at given.now.table.now)) parts.now) fault
+        (steps.new - steps.old)) }
     ensures counts { Counts (length parts.now - 1) steps.old steps.new (answer_of meaning_of result) }
 {
     if parts.is_empty() {
-        return shared(alloc, nothing(alloc));
+        return shared(given.alloc, nothing(given.alloc));
     }
     if parts.len() == 1 {
-        return only(alloc, table, &parts[0]);
+        return only(given, &parts[0]);
     }
-    let made = many_added(alloc, table, parts, steps);
-    shared(alloc, made)
+    let made = many_added(given, parts, steps);
+    shared(given.alloc, made)
 }
 
 /// The sum of a queue's parts: of the flows that enter there, and of those that come from each server before, cut by the
 /// longest packet and the rate with which they come. The parts are made in the order of these servers, and then they are
 /// added up.
 pub fn parts_sum<T: Table<Value>, L: Ledger>(
-    alloc: Global,
-    table: &T,
-    net: &Network,
+    given: &Given<T>,
     place: (u32, u32),
     steps: &mut Steps<L>,
 ) -> Result<Value, OpFault>
-    requires { (part i k : ℕ) → part ≤ length net.now.servers →
-        chosen net.now place.0 (InPart place.1 part) None i ≡ visit_list i (Some k) →
-        IsCurveAt (T.at table.now) (cell_of In i k) }
-    ensures answer { Gives (T.at table.now) (parts_sum net.now place.0 place.1 (part_numbers net.now))
+    requires { ComeWithCurves (T.at given.now.table.now) given.now.net.now place.0 place.1 }
+    ensures answer { Gives (T.at given.now.table.now) (parts_sum given.now.net.now place.0 place.1
+        (part_numbers given.now.net.now))
         (answer_of meaning_of result) }
-    ensures refused { IfErr result (λ fault. RefusedAt (T.at table.now)
-        (parts_sum net.now place.0 place.1 (part_numbers net.now)) fault (steps.new - steps.old)) }
-    ensures counts { Counts (parts_work net.now place.0 place.1) steps.old steps.new (answer_of meaning_of result) }
+    ensures refused { IfErr result (λ fault. RefusedAt (T.at given.now.table.now)
+        (parts_sum given.now.net.now place.0 place.1 (part_numbers given.now.net.now)) fault (steps.new - steps.old)) }
+    ensures counts { Counts (parts_work given.now.net.now place.0 place.1) steps.old steps.new
+        (answer_of meaning_of result) }
 {
-    match parts_made(alloc, table, net, place, steps) {
-        Ok(parts) => added_up(alloc, table, &parts, steps),
+    match parts_made(given, place, steps) {
+        Ok(parts) => added_up(given, &parts, steps),
         Err(fault) => Err(fault),
     }
 }

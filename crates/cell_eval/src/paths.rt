@@ -16,6 +16,7 @@ ghost use Rattle.cell_eval.specs.Evaluates.{Counts};
 ghost use Rattle.cell_eval.specs.Shapes.{Serving};
 ghost use Rattle.cell_eval.specs.TableValues.{HasCurve};
 
+use crate::Given;
 use crate::nodes::in_packets;
 use crate::packet;
 use crate::reading::curve_at;
@@ -23,9 +24,7 @@ use crate::sharing::{again, shared};
 use curve_conv::convolve;
 use net_cells::cell_table::{Table, Value};
 use net_cells::{Cell, Kind, hops};
-use net_model::Network;
 use plain_operators::curve_call::intact;
-use std::alloc::Global;
 use std::sync::ledger::Ledger;
 use steps::Steps;
 use upp_limits::OpFault;
@@ -43,50 +42,50 @@ macro_rules! residual {
 
 // A service and a cell's in whole packets after it.
 fn with_hop<T: Table<Value>, L: Ledger>(
-    alloc: Global,
+    given: &Given<T>,
     so_far: &Curve,
-    table: &T,
     cell: Cell,
     bits: u32,
     steps: &mut Steps<L>,
 ) -> Result<Curve, OpFault>
-    requires { HasCurve (T.at table.now) cell Serving }
-    ensures answer { (F : Formula) → Answers (T.at table.now) F (Ok (curve so_far.now)) →
-        Answers (T.at table.now) (made Convolve F (less (value_of cell) bits)) (answer_of curve result) }
-    ensures refused { IfErr result (λ fault. (F : Formula) → Answers (T.at table.now) F (Ok (curve so_far.now)) →
-        RefusedAt (T.at table.now) (made Convolve F (less (value_of cell) bits)) fault
+    requires { HasCurve (T.at given.now.table.now) cell Serving }
+    ensures answer { (F : Formula) → Answers (T.at given.now.table.now) F (Ok (curve so_far.now)) →
+        Answers (T.at given.now.table.now) (made Convolve F (less (value_of cell) bits)) (answer_of curve result) }
+    ensures refused { IfErr result (λ fault. (F : Formula) → Answers (T.at given.now.table.now) F
+        (Ok (curve so_far.now)) →
+        RefusedAt (T.at given.now.table.now) (made Convolve F (less (value_of cell) bits)) fault
         (operators F + (steps.new - steps.old))) }
     ensures counts { Counts 2 steps.old steps.new (answer_of curve result) }
 {
-    match in_packets(alloc, table, cell, bits, steps) {
-        Ok(next) => intact(convolve(alloc, so_far, &next, steps)),
+    match in_packets(given, cell, bits, steps) {
+        Ok(next) => intact(convolve(given.alloc, so_far, &next, steps)),
         Err(fault) => Err(fault),
     }
 }
 
 // The services of the hops up to one, each in whole packets.
 fn to_hop<T: Table<Value>, L: Ledger>(
-    alloc: Global,
-    table: &T,
-    net: &Network,
+    given: &Given<T>,
     flow: u32,
     last: u32,
     steps: &mut Steps<L>,
 ) -> Result<Curve, OpFault>
-    requires { (j : ℕ) → j ≤ last → HasCurve (T.at table.now) (cell_of Residual flow j) Serving }
-    ensures answer { Answers (T.at table.now) (packets_to net.now flow last) (answer_of curve result) }
-    ensures refused { IfErr result (λ fault. RefusedAt (T.at table.now) (packets_to net.now flow last) fault
+    requires { (j : ℕ) → j ≤ last → HasCurve (T.at given.now.table.now) (cell_of Residual flow j) Serving }
+    ensures answer { Answers (T.at given.now.table.now) (packets_to given.now.net.now flow last)
+        (answer_of curve result) }
+    ensures refused { IfErr result (λ fault. RefusedAt (T.at given.now.table.now)
+        (packets_to given.now.net.now flow last) fault
         (steps.new - steps.old)) }
     ensures counts { Counts (2 * last + 1) steps.old steps.new (answer_of curve result) }
 {
-    let bits = packet(net, flow);
-    let mut so_far = match in_packets(alloc, table, residual!(flow, 0), bits, steps) {
+    let bits = packet(given.net, flow);
+    let mut so_far = match in_packets(given, residual!(flow, 0), bits, steps) {
         Ok(made) => made,
         Err(fault) => return Err(fault),
     };
     for hop in 0..last {
         let next = residual!(flow, hop + 1);
-        match with_hop(alloc, &so_far, table, next, bits, steps) {
+        match with_hop(given, &so_far, next, bits, steps) {
             Ok(more) => so_far = more,
             Err(fault) => return Err(fault),
         }
@@ -96,26 +95,25 @@ fn to_hop<T: Table<Value>, L: Ledger>(
 
 // The same and the hop after them, which is not in whole packets.
 fn past_hop<T: Table<Value>, L: Ledger>(
-    alloc: Global,
-    table: &T,
-    net: &Network,
+    given: &Given<T>,
     flow: u32,
     last: u32,
     steps: &mut Steps<L>,
 ) -> Result<Value, OpFault>
     requires last { last < 16 }
-    requires serves { (j : ℕ) → j ≤ last + 1 → HasCurve (T.at table.now) (cell_of Residual flow j) Serving }
-    ensures answer { Answers (T.at table.now) (made Convolve (packets_to net.now flow last)
+    requires serves { (j : ℕ) → j ≤ last + 1 → HasCurve (T.at given.now.table.now) (cell_of Residual flow j) Serving }
+    ensures answer { Answers (T.at given.now.table.now) (made Convolve (packets_to given.now.net.now flow last)
         (value_of (cell_of Residual flow (last + 1)))) (answer_of meaning_of result) }
-    ensures refused { IfErr result (λ fault. RefusedAt (T.at table.now) (made Convolve (packets_to net.now flow last)
-        (value_of (cell_of Residual flow (last + 1)))) fault (steps.new - steps.old)) }
+    ensures refused { IfErr result (λ fault. RefusedAt (T.at given.now.table.now)
+        (made Convolve (packets_to given.now.net.now flow last) (value_of (cell_of Residual flow (last + 1)))) fault
+        (steps.new - steps.old)) }
     ensures counts { Counts (2 * last + 2) steps.old steps.new (answer_of meaning_of result) }
 {
-    match to_hop(alloc, table, net, flow, last, steps) {
+    match to_hop(given, flow, last, steps) {
         Ok(packets) => {
-            let end = curve_at(table, residual!(flow, last + 1));
-            let made = intact(convolve(alloc, &packets, end, steps));
-            shared(alloc, made)
+            let end = curve_at(given.table, residual!(flow, last + 1));
+            let made = intact(convolve(given.alloc, &packets, end, steps));
+            shared(given.alloc, made)
         }
         Err(fault) => Err(fault),
     }
@@ -123,24 +121,26 @@ fn past_hop<T: Table<Value>, L: Ledger>(
 
 /// The service along a path.
 pub fn path_service<T: Table<Value>, L: Ledger>(
-    alloc: Global,
-    table: &T,
-    net: &Network,
+    given: &Given<T>,
     flow: u32,
     steps: &mut Steps<L>,
 ) -> Result<Value, OpFault>
-    requires some { 0 < at.hops net.now flow }
-    requires serves { (j : ℕ) → j < at.hops net.now flow → HasCurve (T.at table.now) (cell_of Residual flow j) Serving }
-    ensures answer { Gives (T.at table.now) (served_to net.now flow (at.hops net.now flow - 1))
+    requires some { 0 < at.hops given.now.net.now flow }
+    requires serves { (j : ℕ) → j < at.hops given.now.net.now flow → HasCurve (T.at given.now.table.now)
+        (cell_of Residual flow j) Serving }
+    ensures answer { Gives (T.at given.now.table.now) (served_to given.now.net.now flow
+        (at.hops given.now.net.now flow - 1))
         (answer_of meaning_of result) }
-    ensures refused { IfErr result (λ fault. Stops (T.at table.now) (served_to net.now flow (at.hops net.now flow - 1))
+    ensures refused { IfErr result (λ fault. Stops (T.at given.now.table.now)
+        (served_to given.now.net.now flow (at.hops given.now.net.now flow - 1))
         fault (steps.new - steps.old)) }
-    ensures counts { Counts (2 * (at.hops net.now flow - 1)) steps.old steps.new (answer_of meaning_of result) }
+    ensures counts { Counts (2 * (at.hops given.now.net.now flow - 1)) steps.old steps.new
+        (answer_of meaning_of result) }
 {
-    let count = hops(net, flow);
+    let count = hops(given.net, flow);
     if count == 1 {
-        again(table, residual!(flow, 0))
+        again(given.table, residual!(flow, 0))
     } else {
-        past_hop(alloc, table, net, flow, count - 2, steps)
+        past_hop(given, flow, count - 2, steps)
     }
 }

@@ -21,6 +21,7 @@ ghost use Rattle.net_cells.specs.cell_table.Values.{answer_of, meaning_of};
 ghost use Rattle.cell_eval.specs.Evaluates.{Counts};
 ghost use Rattle.cell_eval.specs.TableValues.{IsCurveAt};
 
+use crate::Given;
 use crate::reading::curve_at;
 use crate::sharing::{copied, shared};
 use crate::{Pick, longest_at};
@@ -38,20 +39,19 @@ use upp_limits::upp_curve::Curve;
 
 // By priority.
 fn by_priority<T: Table<Value>, L: Ledger>(
-    alloc: Global,
-    table: &T,
-    net: &Network,
+    given: &Given<T>,
     service: &Curve,
     place: (u32, u32),
     steps: &mut Steps<L>,
 ) -> Result<Value, OpFault>
     requires finite { IsFinite (value_at service.now) }
-    requires above { IsCurveAt (T.at table.now) (cell_of Higher place.0 place.1) }
-    ensures answer { Answers (T.at table.now) (priority service.now (value_of (cell_of Higher place.0 place.1))
-        (visiting.longest_after net.now place.0 place.1)) (answer_of meaning_of result) }
-    ensures refused { IfErr result (λ fault. RefusedAt (T.at table.now)
+    requires above { IsCurveAt (T.at given.now.table.now) (cell_of Higher place.0 place.1) }
+    ensures answer { Answers (T.at given.now.table.now) (priority service.now
+        (value_of (cell_of Higher place.0 place.1))
+        (visiting.longest_after given.now.net.now place.0 place.1)) (answer_of meaning_of result) }
+    ensures refused { IfErr result (λ fault. RefusedAt (T.at given.now.table.now)
         (priority service.now (value_of (cell_of Higher place.0 place.1))
-        (visiting.longest_after net.now place.0 place.1)) fault (steps.new - steps.old)) }
+        (visiting.longest_after given.now.net.now place.0 place.1)) fault (steps.new - steps.old)) }
     ensures counts { Counts 3 steps.old steps.new (answer_of meaning_of result) }
 {
     let above = Cell {
@@ -59,9 +59,9 @@ fn by_priority<T: Table<Value>, L: Ledger>(
         a: place.0,
         b: place.1,
     };
-    let lower = longest_at(net, place.0, Pick::AfterQueue(place.1));
-    let made = priority_service(alloc, service, curve_at(table, above), lower, steps);
-    shared(alloc, made)
+    let lower = longest_at(given.net, place.0, Pick::AfterQueue(place.1));
+    let made = priority_service(given.alloc, service, curve_at(given.table, above), lower, steps);
+    shared(given.alloc, made)
 }
 
 // The longest packet of each of the first queues.
@@ -103,30 +103,30 @@ fn by_deficit<L: Ledger>(
 
 /// The curve that serves a queue.
 pub fn queue_service<T: Table<Value>, L: Ledger>(
-    alloc: Global,
-    table: &T,
-    net: &Network,
+    given: &Given<T>,
     place: (u32, u32),
     steps: &mut Steps<L>,
 ) -> Result<Value, OpFault>
-    requires queue { place.1 < at.queues net.now place.0 }
-    requires above { (n : ℕ) → at.discipline net.now place.0 ≡ Priority n →
-        IsCurveAt (T.at table.now) (cell_of Higher place.0 place.1) }
-    ensures answer { Answers (T.at table.now)
-        (formulas.queue_service net.now place.0 place.1 (at.discipline net.now place.0)) (answer_of meaning_of result) }
-    ensures refused { IfErr result (λ fault. RefusedAt (T.at table.now)
-        (formulas.queue_service net.now place.0 place.1 (at.discipline net.now place.0)) fault (steps.new - steps.old)) }
-    ensures counts { Counts (service_work (at.discipline net.now place.0)) steps.old steps.new
+    requires queue { place.1 < at.queues given.now.net.now place.0 }
+    requires above { (n : ℕ) → at.discipline given.now.net.now place.0 ≡ Priority n →
+        IsCurveAt (T.at given.now.table.now) (cell_of Higher place.0 place.1) }
+    ensures answer { Answers (T.at given.now.table.now)
+        (formulas.queue_service given.now.net.now place.0 place.1 (at.discipline given.now.net.now place.0))
+        (answer_of meaning_of result) }
+    ensures refused { IfErr result (λ fault. RefusedAt (T.at given.now.table.now)
+        (formulas.queue_service given.now.net.now place.0 place.1 (at.discipline given.now.net.now place.0)) fault
+        (steps.new - steps.old)) }
+    ensures counts { Counts (service_work (at.discipline given.now.net.now place.0)) steps.old steps.new
         (answer_of meaning_of result) }
 {
-    match server(net, place.0) {
+    match server(given.net, place.0) {
         Some(found) => match &found.discipline {
-            Discipline::Fifo => shared(alloc, copied(&found.service)),
+            Discipline::Fifo => shared(given.alloc, copied(&found.service)),
             Discipline::Priority { .. } => {
-                by_priority(alloc, table, net, &found.service, place, steps)
+                by_priority(given, &found.service, place, steps)
             }
             Discipline::Drr { quanta } => {
-                by_deficit(alloc, net, &found.service, quanta, place, steps)
+                by_deficit(given.alloc, given.net, &found.service, quanta, place, steps)
             }
         },
         None => unreachable!(),

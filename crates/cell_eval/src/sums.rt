@@ -10,28 +10,27 @@ ghost use Rattle.net_cells.specs.cell_table.Values.{answer_of, meaning_of};
 ghost use Rattle.cell_eval.specs.Partial.{Adds, IsReady};
 ghost use Rattle.cell_eval.specs.Evaluates.{Counts};
 
+use crate::Given;
 use crate::{Partial, finished};
 use net_cells::cell_table::{Table, Value};
-use std::alloc::Global;
 use upp_limits::OpFault;
 
 /// The value of a sum of cells that was made, which takes one operator less than it has terms; or its refusal.
 pub(crate) fn summed<T: Table<Value>>(
-    alloc: Global,
-    table: &T,
+    given: &Given<T>,
     made: Result<Partial, OpFault>,
 ) -> Result<Value, OpFault>
-    requires { IfOk made (IsReady (T.at table.now)) }
-    ensures answer { (cells : List Cell) (old new : ℕ) → Adds (T.at table.now) [] cells old new made →
-        Gives (T.at table.now) (sum_of_cells cells) (answer_of meaning_of result) }
-    ensures counts { (cells : List Cell) (old new : ℕ) → Adds (T.at table.now) [] cells old new made →
+    requires { IfOk made (IsReady (T.at given.now.table.now)) }
+    ensures answer { (cells : List Cell) (old new : ℕ) → Adds (T.at given.now.table.now) [] cells old new made →
+        Gives (T.at given.now.table.now) (sum_of_cells cells) (answer_of meaning_of result) }
+    ensures counts { (cells : List Cell) (old new : ℕ) → Adds (T.at given.now.table.now) [] cells old new made →
         Counts (length cells - 1) old new (answer_of meaning_of result) }
-    ensures memory { (cells : List Cell) (old new : ℕ) → Adds (T.at table.now) [] cells old new made →
+    ensures memory { (cells : List Cell) (old new : ℕ) → Adds (T.at given.now.table.now) [] cells old new made →
         answer_of meaning_of result ≡ Err OpFault.NoMemory →
-        Stops (T.at table.now) (sum_of_cells cells) OpFault.NoMemory (new - old) }
+        Stops (T.at given.now.table.now) (sum_of_cells cells) OpFault.NoMemory (new - old) }
 {
     match made {
-        Ok(whole) => finished(alloc, table, whole),
+        Ok(whole) => finished(given, whole),
         Err(fault) => Err(fault),
     }
 }

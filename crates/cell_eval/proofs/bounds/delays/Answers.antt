@@ -6,7 +6,7 @@ use Rattle.cell_eval.proofs.bounds.delays.Goals as goal
 
 pub loop-hop-init : goal.loop-hop-init
 loop-hop-init g c =
-    none_added (g.T.Table.at c.args.table.now) c.args.flow c.no_number-all.result c.no_number-all.ensures
+    none_added (g.T.Table.at c.args.given.now.table.now) c.args.flow c.no_number-all.result c.no_number-all.ensures
 
 pub number_at-requires : goal.number_at-requires
 number_at-requires g c =
@@ -15,7 +15,7 @@ number_at-requires g c =
 
 pub loop-hop-preserved : goal.loop-hop-preserved
 loop-hop-preserved g c =
-    delay_added (g.T.Table.at c.args.table.now) c.args.flow c.loop-hop.hop c.loop-hop.all c.and-all.result
+    delay_added (g.T.Table.at c.args.given.now.table.now) c.args.flow c.loop-hop.hop c.loop-hop.all c.and-all.result
     c.number_at.result c.number_at.ensures c.loop-hop.invariant c.and-all.ensures
 
 pub returns : goal.returns
@@ -23,6 +23,6 @@ returns g c = λ xs are.
     let stops = c.loop-hop-test.false in
     let end = c.loop-hop.auto.hop-end in
     let count = c.hops-count.ensures.hops in
-    let all : hops c.args.net.now c.args.flow ≡ c.loop-hop.hop = omega (arith, stops, end, count) in
+    let all : hops c.args.given.now.net.now c.args.flow ≡ c.loop-hop.hop = omega (arith, stops, end, count) in
     c.loop-hop.invariant xs
-    (subst (λ n. HaveNumbers (g.T.Table.at c.args.table.now) (delays_to c.args.flow n) xs) all are)
+    (subst (λ n. HaveNumbers (g.T.Table.at c.args.given.now.table.now) (delays_to c.args.flow n) xs) all are)

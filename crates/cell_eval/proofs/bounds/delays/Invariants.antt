@@ -7,4 +7,4 @@ use Rattle.cell_eval.proofs.bounds.delays.Given as goal
 
 abbrev pub invariant-loop-hop : goal.invariant-loop-hop
 invariant-loop-hop g l =
-    (xs : List Ext) → HaveNumbers (g.T.Table.at l.table) (delays_to l.flow l.hop) xs → AreAdded xs l.all
+    (xs : List Ext) → HaveNumbers (g.T.Table.at l.given.table.now) (delays_to l.flow l.hop) xs → AreAdded xs l.all

@@ -7,17 +7,17 @@ use Rattle.cell_eval.proofs.curve_sums.added.Goals as goal
 
 pub returns-in-Nothing-clause-sum : goal.returns-in-Nothing-clause-sum
 returns-in-Nothing-clause-sum g c = λ cells h.
-    let at = g.T.Table.at c.args.table.now in
+    let at = g.T.Table.at c.args.given.now.table.now in
     adds_first at cells c.args.cell c.args.steps.now (subst (IsPartial at cells) c.in-Nothing.is h)
 
 pub returns-in-One-clause-sum : goal.returns-in-One-clause-sum
 returns-in-One-clause-sum g c = λ cells h.
-    let at = g.T.Table.at c.args.table.now in
+    let at = g.T.Table.at c.args.given.now.table.now in
     c.with_cell.ensures.sum cells
     (one_summed at cells c.in-One.first c.deref.result.now (subst (IsPartial at cells) c.in-One.is h)
     (c.curve_at.ensures ∙ ap (λ f. Some (curve f)) (sym c.deref.ensures)))
 
 pub returns-in-Made-clause-sum : goal.returns-in-Made-clause-sum
 returns-in-Made-clause-sum g c = λ cells h.
-    let at = g.T.Table.at c.args.table.now in
+    let at = g.T.Table.at c.args.given.now.table.now in
     c.with_cell-in-Made.ensures.sum cells (made_summed at cells c.in-Made.made (subst (IsPartial at cells) c.in-Made.is h))

@@ -16,8 +16,8 @@ with_flow-requires-clause-curves g c = c.requires c.loop-flow.flow
 
 pub loop-flow-preserved : goal.loop-flow-preserved
 loop-flow-preserved g c =
-    let at = g.T.Table.at c.args.table.now in
-    let net = c.args.net.now in
+    let at = g.T.Table.at c.args.given.now.table.now in
+    let net = c.args.given.now.net.now in
     let n = c.loop-flow.flow in
     let all = all_chosen net c.args.server c.args.pick c.args.except in
     let next = chosen net c.args.server c.args.pick c.args.except n in
@@ -33,8 +33,8 @@ loop-flow-preserved g c =
 
 pub returns-in-Err-clause-sum : goal.returns-in-Err-clause-sum
 returns-in-Err-clause-sum g c =
-    let at = g.T.Table.at c.args.table.now in
-    let net = c.args.net.now in
+    let at = g.T.Table.at c.args.given.now.table.now in
+    let net = c.args.given.now.net.now in
     let n = c.loop-flow.flow in
     let f = chosen net c.args.server c.args.pick c.args.except in
     let all = all_chosen net c.args.server c.args.pick c.args.except in

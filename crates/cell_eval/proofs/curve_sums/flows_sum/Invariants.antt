@@ -8,6 +8,6 @@ use Rattle.cell_eval.proofs.curve_sums.flows_sum.Given as goal
 
 abbrev pub invariant-loop-flow : goal.invariant-loop-flow
 invariant-loop-flow g l = record {
-  sum : Adds (g.T.Table.at l.table) [] (map (at_visit In) (all_chosen l.net l.server l.pick l.except l.flow)) l.fn.steps l.steps (Ok l.so_far);
-  ready : IsReady (g.T.Table.at l.table) l.so_far;
+  sum : Adds (g.T.Table.at l.given.table.now) [] (map (at_visit In) (all_chosen l.given.net.now l.server l.pick l.except l.flow)) l.fn.steps l.steps (Ok l.so_far);
+  ready : IsReady (g.T.Table.at l.given.table.now) l.so_far;
 }

@@ -15,11 +15,11 @@ use Rattle.cell_eval.proofs.curve_sums.queues_sum.Goals as goal
 
 -- the sum with the queue's total, as if made at once
 one_more : (g : Over) (c : After-added g) (r : Result Partial OpFault) → c.added.result ≡ r
-    → Adds (g.T.Table.at c.args.table.now) []
+    → Adds (g.T.Table.at c.args.given.now.table.now) []
     (map (cell_of Total c.args.server) (range_with_len 0 c.loop-queue.queue) ++ cell_of Total c.args.server c.loop-queue.queue ∷ [])
     c.args.steps.now c.added.new.steps r
 one_more g c r is =
-    let at = g.T.Table.at c.args.table.now in
+    let at = g.T.Table.at c.args.given.now.table.now in
     let next = cell_of Total c.args.server c.loop-queue.queue ∷ [] in
     let all = map (cell_of Total c.args.server) (range_with_len 0 c.loop-queue.queue) in
     let sum = c.loop-queue.invariant.sum in
@@ -32,14 +32,14 @@ loop-queue-preserved g c =
     let both = one_more g (goal.at.loop-queue-preserved g c).After-added (Ok c.in-Ok.more) c.in-Ok.is in
     record {
       sum =
-          subst (λ zs. Adds (g.T.Table.at c.args.table.now) [] zs c.args.steps.now c.added.new.steps (Ok c.in-Ok.more))
+          subst (λ zs. Adds (g.T.Table.at c.args.given.now.table.now) [] zs c.args.steps.now c.added.new.steps (Ok c.in-Ok.more))
           (sym (map-range_with_len_more (cell_of Total c.args.server) 0 n n (omega arith))) both;
       ready = search rules;
     }
 
 pub returns-in-Err-clause-sum : goal.returns-in-Err-clause-sum
 returns-in-Err-clause-sum g c =
-    let at = g.T.Table.at c.args.table.now in
+    let at = g.T.Table.at c.args.given.now.table.now in
     let f = cell_of Total c.args.server in
     let n = c.loop-queue.queue in
     let both = one_more g (goal.at.returns-in-Err-clause-sum g c).After-added (Err c.in-Err.fault) c.in-Err.is in

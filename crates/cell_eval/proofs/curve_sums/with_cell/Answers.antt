@@ -9,7 +9,7 @@ use Rattle.cell_eval.proofs.curve_sums.with_cell.Goals as goal
 
 pub returns-in-Ok-clause-sum : goal.returns-in-Ok-clause-sum
 returns-in-Ok-clause-sum g c = λ cells h.
-    let at = g.T.Table.at c.args.table.now in
+    let at = g.T.Table.at c.args.given.now.table.now in
     let f = c.args.so_far.now in
     let k = c.deref.result.now in
     let call = applied_seen Sum f k c.sum.result c.intact.result c.intact.ensures.same c.sum.ensures.value c.sum.ensures.limits c.intact.ensures.kept in
@@ -18,7 +18,7 @@ returns-in-Ok-clause-sum g c = λ cells h.
 
 pub returns-in-Err-clause-sum : goal.returns-in-Err-clause-sum
 returns-in-Err-clause-sum g c = λ cells h.
-    let at = g.T.Table.at c.args.table.now in
+    let at = g.T.Table.at c.args.given.now.table.now in
     let f = c.args.so_far.now in
     let k = c.deref.result.now in
     let call = applied_seen Sum f k c.sum.result c.intact.result c.intact.ensures.same c.sum.ensures.value c.sum.ensures.limits c.intact.ensures.kept in

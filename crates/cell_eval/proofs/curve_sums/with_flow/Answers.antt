@@ -13,13 +13,13 @@ added-requires-clause-cell g c =
 
 pub returns-in-Some-clause-sum : goal.returns-in-Some-clause-sum
 returns-in-Some-clause-sum g c = λ cells h.
-    let at = g.T.Table.at c.args.table.now in
+    let at = g.T.Table.at c.args.given.now.table.now in
     let is = c.chosen_at.ensures ∙ ap (visit_list c.args.flow) c.in-Some.is in
     subst (λ vs. Adds at cells (map (at_visit In) vs) c.args.steps.now c.added.new.steps c.added.result) (sym is) (c.added.ensures.sum cells h)
 
 pub returns-in-None-clause-sum : goal.returns-in-None-clause-sum
 returns-in-None-clause-sum g c = λ cells h.
-    let at = g.T.Table.at c.args.table.now in
+    let at = g.T.Table.at c.args.given.now.table.now in
     let is = c.chosen_at.ensures ∙ ap (visit_list c.args.flow) c.in-None.is in
     subst (λ vs. Adds at cells (map (at_visit In) vs) c.args.steps.now c.args.steps.now (Ok c.args.so_far)) (sym is)
     (adds_none at cells c.args.so_far c.args.steps.now h)

@@ -11,8 +11,8 @@ use Rattle.cell_eval.proofs.curves.arriving.Goals as goal
 
 pub again-requires : goal.again-requires
 again-requires g c =
-    let at = g.T.Table.at c.args.table.now in
-    let net = c.args.net.now in
+    let at = g.T.Table.at c.args.given.now.table.now in
+    let net = c.args.given.now.net.now in
     let i = c.args.flow in
     let past = c.if-hop-eq0.false in
     let next : c.args.hop ≡ suc (c.args.hop - 1) = omega (arith, past) in
@@ -20,8 +20,8 @@ again-requires g c =
 
 pub returns-else-hop-eq0 : goal.returns-else-hop-eq0
 returns-else-hop-eq0 g c = λ n.
-    let at = g.T.Table.at c.args.table.now in
-    let net = c.args.net.now in
+    let at = g.T.Table.at c.args.given.now.table.now in
+    let net = c.args.given.now.net.now in
     let i = c.args.flow in
     let r = answer_of meaning_of c.again.result in
     let past = c.if-hop-eq0.false in

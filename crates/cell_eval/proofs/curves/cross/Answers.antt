@@ -18,12 +18,12 @@ use Rattle.cell_eval.proofs.curves.cross.Goals as goal
 pub flows_sum-made-requires : goal.flows_sum-made-requires
 flows_sum-made-requires g c =
     rw (c.place_of-place.ensures.server, c.place_of-place.ensures.queue)
-    (cross_ready c.args.net.now (g.T.Table.at c.args.table.now) c.args.flow c.args.hop c.requires)
+    (cross_ready c.args.given.now.net.now (g.T.Table.at c.args.given.now.table.now) c.args.flow c.args.hop c.requires)
 
 pub returns : goal.returns
 returns g c =
-    let at = g.T.Table.at c.args.table.now in
-    let net = c.args.net.now in
+    let at = g.T.Table.at c.args.given.now.table.now in
+    let net = c.args.given.now.net.now in
     let i = c.args.flow in
     let old = c.args.steps.now in
     let new = c.flows_sum-made.new.steps in

@@ -13,10 +13,10 @@ use Rattle.cell_eval.proofs.Stopping.{at_refusal}
 use Rattle.cell_eval.proofs.curves.deconv_out.Goals as goal
 
 pub spread-requires-clause-curve : goal.spread-requires-clause-curve
-spread-requires-clause-curve g c = deconv_comes c.args.net.now (g.T.Table.at c.args.table.now) c.args.flow c.args.hop c.requires
+spread-requires-clause-curve g c = deconv_comes c.args.given.now.net.now (g.T.Table.at c.args.given.now.table.now) c.args.flow c.args.hop c.requires
 
 pub spread-requires-clause-serves : goal.spread-requires-clause-serves
-spread-requires-clause-serves g c = deconv_served_by c.args.net.now (g.T.Table.at c.args.table.now) c.args.flow c.args.hop c.requires
+spread-requires-clause-serves g c = deconv_served_by c.args.given.now.net.now (g.T.Table.at c.args.given.now.table.now) c.args.flow c.args.hop c.requires
 
 pub returns : goal.returns
 returns g c = record {
@@ -26,12 +26,12 @@ returns g c = record {
     least = c.spread.ensures.least;
     most = c.spread.ensures.most;
   };
-  memory = λ is. let at = g.T.Table.at c.args.table.now in
+  memory = λ is. let at = g.T.Table.at c.args.given.now.table.now in
       let counted = c.spread.new.steps - c.args.steps.now in
       let from = value_of (cell_of In c.args.flow c.args.hop) in
       let service = value_of (cell_of Residual c.args.flow c.args.hop) in
       inr (at_refusal meaning_of c.spread.result
-      (λ e. RefusedAt at (formula c.args.net.now (cell_of DeconvOut c.args.flow c.args.hop)) e counted)
+      (λ e. RefusedAt at (formula c.args.given.now.net.now (cell_of DeconvOut c.args.flow c.args.hop)) e counted)
       (subst (λ b. IfErr c.spread.result (λ e. RefusedAt at (made Deconvolve from (less service b)) e counted)) c.packet.ensures
       c.spread.ensures.refused) is);
 }

@@ -9,7 +9,7 @@ use Rattle.cell_eval.proofs.Arms.{higher_ready}
 use Rattle.cell_eval.proofs.curves.higher.Goals as goal
 
 pub queues_sum-made-requires : goal.queues_sum-made-requires
-queues_sum-made-requires g c = higher_ready c.args.net.now (g.T.Table.at c.args.table.now) c.args.server c.args.queue c.requires
+queues_sum-made-requires g c = higher_ready c.args.given.now.net.now (g.T.Table.at c.args.given.now.table.now) c.args.server c.args.queue c.requires
 
 pub returns : goal.returns
 returns g c =

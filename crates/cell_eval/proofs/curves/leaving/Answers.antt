@@ -12,18 +12,18 @@ use Rattle.cell_eval.proofs.Stopping.{one_stops}
 use Rattle.cell_eval.proofs.curves.leaving.Goals as goal
 
 pub lesser-requires-clause-first : goal.lesser-requires-clause-first
-lesser-requires-clause-first g c = out_shifted c.args.net.now (g.T.Table.at c.args.table.now) c.args.flow c.args.hop c.requires
+lesser-requires-clause-first g c = out_shifted c.args.given.now.net.now (g.T.Table.at c.args.given.now.table.now) c.args.flow c.args.hop c.requires
 
 pub lesser-requires-clause-second : goal.lesser-requires-clause-second
-lesser-requires-clause-second g c = out_spread c.args.net.now (g.T.Table.at c.args.table.now) c.args.flow c.args.hop c.requires
+lesser-requires-clause-second g c = out_spread c.args.given.now.net.now (g.T.Table.at c.args.given.now.table.now) c.args.flow c.args.hop c.requires
 
 pub returns : goal.returns
 returns g c = record {
   answer = c.lesser.ensures.answer;
   counts = counts_all 1 c.args.steps.now _ _ c.lesser.ensures.count;
-  memory = λ is. let at = g.T.Table.at c.args.table.now in
+  memory = λ is. let at = g.T.Table.at c.args.given.now.table.now in
       let first = cell_of ShiftOut c.args.flow c.args.hop in
       let second = cell_of DeconvOut c.args.flow c.args.hop in
-      one_stops at (formula c.args.net.now (cell_of Out c.args.flow c.args.hop)) c.args.steps.now c.lesser.new.steps c.lesser.ensures.count
+      one_stops at (formula c.args.given.now.net.now (cell_of Out c.args.flow c.args.hop)) c.args.steps.now c.lesser.new.steps c.lesser.ensures.count
       (made_stops at Min first second (subst (λ r. Answers at (made Min (value_of first) (value_of second)) r) is c.lesser.ensures.answer));
 }

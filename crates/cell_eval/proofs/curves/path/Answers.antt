@@ -9,16 +9,16 @@ use Rattle.cell_eval.proofs.Stopping.{at_refusal}
 use Rattle.cell_eval.proofs.curves.path.Goals as goal
 
 pub path_service-requires-clause-some : goal.path_service-requires-clause-some
-path_service-requires-clause-some g c = path_some c.args.net.now (g.T.Table.at c.args.table.now) c.args.flow c.requires
+path_service-requires-clause-some g c = path_some c.args.given.now.net.now (g.T.Table.at c.args.given.now.table.now) c.args.flow c.requires
 
 pub path_service-requires-clause-serves : goal.path_service-requires-clause-serves
-path_service-requires-clause-serves g c = path_serves c.args.net.now (g.T.Table.at c.args.table.now) c.args.flow c.requires
+path_service-requires-clause-serves g c = path_serves c.args.given.now.net.now (g.T.Table.at c.args.given.now.table.now) c.args.flow c.requires
 
 pub returns : goal.returns
 returns g c = record {
   answer = c.path_service.ensures.answer;
   counts = c.path_service.ensures.counts;
   memory = λ is. at_refusal meaning_of c.path_service.result
-      (λ e. Stops (g.T.Table.at c.args.table.now) (formula c.args.net.now (cell_of PathService c.args.flow 0)) e
+      (λ e. Stops (g.T.Table.at c.args.given.now.table.now) (formula c.args.given.now.net.now (cell_of PathService c.args.flow 0)) e
       (c.path_service.new.steps - c.args.steps.now)) c.path_service.ensures.refused is;
 }

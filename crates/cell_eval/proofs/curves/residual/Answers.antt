@@ -14,22 +14,22 @@ use Rattle.cell_eval.proofs.curves.residual.Goals as goal
 pub left_over-requires-clause-serves : goal.left_over-requires-clause-serves
 left_over-requires-clause-serves g c =
     rw (c.place_of-place.ensures.server, c.place_of-place.ensures.queue)
-    (residual_service c.args.net.now (g.T.Table.at c.args.table.now) c.args.flow c.args.hop c.requires)
+    (residual_service c.args.given.now.net.now (g.T.Table.at c.args.given.now.table.now) c.args.flow c.args.hop c.requires)
 
 pub left_over-requires-clause-cross : goal.left_over-requires-clause-cross
-left_over-requires-clause-cross g c = residual_cross c.args.net.now (g.T.Table.at c.args.table.now) c.args.flow c.args.hop c.requires
+left_over-requires-clause-cross g c = residual_cross c.args.given.now.net.now (g.T.Table.at c.args.given.now.table.now) c.args.flow c.args.hop c.requires
 
 pub left_over-requires-clause-theta : goal.left_over-requires-clause-theta
 left_over-requires-clause-theta g c =
     rw (c.place_of-place.ensures.server, c.place_of-place.ensures.queue)
-    (residual_theta c.args.net.now (g.T.Table.at c.args.table.now) c.args.flow c.args.hop c.requires)
+    (residual_theta c.args.given.now.net.now (g.T.Table.at c.args.given.now.table.now) c.args.flow c.args.hop c.requires)
 
 pub returns : goal.returns
 returns g c = record {
   answer = rw (c.place_of-place.ensures.server, c.place_of-place.ensures.queue) at c.left_over.ensures.answer;
   counts = counts_all 1 c.args.steps.now _ _ c.left_over.ensures.count;
-  memory = λ is. let at = g.T.Table.at c.args.table.now in
-      let net = c.args.net.now in
+  memory = λ is. let at = g.T.Table.at c.args.given.now.table.now in
+      let net = c.args.given.now.net.now in
       let i = c.args.flow in
       let k = c.args.hop in
       let service = cell_of QueueService (server_of_hop net i k) (queue_of_hop net i k) in

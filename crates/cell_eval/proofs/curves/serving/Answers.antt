@@ -12,14 +12,14 @@ use Rattle.cell_eval.proofs.curves.serving.Goals as goal
 
 pub queue_service-requires-clause-above : goal.queue_service-requires-clause-above
 queue_service-requires-clause-above g c = λ n is.
-    service_above c.args.net.now (g.T.Table.at c.args.table.now) c.args.server c.args.queue n c.requires is
+    service_above c.args.given.now.net.now (g.T.Table.at c.args.given.now.table.now) c.args.server c.args.queue n c.requires is
 
 pub returns : goal.returns
 returns g c = record {
-  answer = service_given (g.T.Table.at c.args.table.now) c.args.net.now c.args.server c.args.queue (discipline c.args.net.now c.args.server)
+  answer = service_given (g.T.Table.at c.args.given.now.table.now) c.args.given.now.net.now c.args.server c.args.queue (discipline c.args.given.now.net.now c.args.server)
       (answer_of meaning_of c.queue_service.result) c.queue_service.ensures.answer;
   counts = c.queue_service.ensures.counts;
   memory = λ is. inr (at_refusal meaning_of c.queue_service.result
-      (λ e. RefusedAt (g.T.Table.at c.args.table.now) (formula c.args.net.now (cell_of QueueService c.args.server c.args.queue)) e
+      (λ e. RefusedAt (g.T.Table.at c.args.given.now.table.now) (formula c.args.given.now.net.now (cell_of QueueService c.args.server c.args.queue)) e
       (c.queue_service.new.steps - c.args.steps.now)) c.queue_service.ensures.refused is);
 }

@@ -19,30 +19,30 @@ use Rattle.cell_eval.proofs.curves.total.Goals as goal
 
 pub parts_sum-requires : goal.parts_sum-requires
 parts_sum-requires g c =
-    let net = c.args.net.now in
+    let net = c.args.given.now.net.now in
     let second : (net.version == 2) ≡ true = eq-eqb net.version 2 (sym c.version.ensures.version ∙ c.if-version-eq2.true) in
-    parts_ready net (g.T.Table.at c.args.table.now) c.args.server c.args.queue second c.requires
+    parts_ready net (g.T.Table.at c.args.given.now.table.now) c.args.server c.args.queue second c.requires
 
 pub returns-then-version-eq2 : goal.returns-then-version-eq2
 returns-then-version-eq2 g c =
-    let net = c.args.net.now in
+    let net = c.args.given.now.net.now in
     let second : (net.version == 2) ≡ true = eq-eqb net.version 2 (sym c.version.ensures.version ∙ c.if-version-eq2.true) in
-    total_evaluates net (g.T.Table.at c.args.table.now) c.args.server c.args.queue true c.args.steps.now _ _ second
+    total_evaluates net (g.T.Table.at c.args.given.now.table.now) c.args.server c.args.queue true c.args.steps.now _ _ second
     c.parts_sum.ensures.answer c.parts_sum.ensures.counts
     (λ is. inr (at_refusal meaning_of c.parts_sum.result
-    (λ e. RefusedAt (g.T.Table.at c.args.table.now) (parts_sum net c.args.server c.args.queue (part_numbers net)) e
+    (λ e. RefusedAt (g.T.Table.at c.args.given.now.table.now) (parts_sum net c.args.server c.args.queue (part_numbers net)) e
     (c.parts_sum.new.steps - c.args.steps.now)) c.parts_sum.ensures.refused is))
 
 pub flows_sum-made-requires : goal.flows_sum-made-requires
 flows_sum-made-requires g c =
-    let net = c.args.net.now in
+    let net = c.args.given.now.net.now in
     let first : (net.version == 2) ≡ false = ne_eqb net.version 2 (λ e. c.if-version-eq2.false (c.version.ensures.version ∙ e)) in
-    total_ready net (g.T.Table.at c.args.table.now) c.args.server c.args.queue first c.requires
+    total_ready net (g.T.Table.at c.args.given.now.table.now) c.args.server c.args.queue first c.requires
 
 pub returns : goal.returns
 returns g c =
-    let at = g.T.Table.at c.args.table.now in
-    let net = c.args.net.now in
+    let at = g.T.Table.at c.args.given.now.table.now in
+    let net = c.args.given.now.net.now in
     let old = c.args.steps.now in
     let new = c.flows_sum-made.new.steps in
     let there = visits_in net c.args.server c.args.queue in

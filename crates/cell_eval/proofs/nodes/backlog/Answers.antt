@@ -17,7 +17,7 @@ use Rattle.cell_eval.proofs.nodes.backlog.Goals.{After-deref, After-vertical}
 use Rattle.cell_eval.proofs.nodes.backlog.Goals as goal
 
 -- ---- where the service in packets is made
-comes : (g : Over) (c : After-deref g) → g.T.Table.at c.args.table.now c.args.from ≡ Some (curve c.deref.result.now)
+comes : (g : Over) (c : After-deref g) → g.T.Table.at c.args.given.now.table.now c.args.from ≡ Some (curve c.deref.result.now)
 comes g c = c.curve_at-from.ensures ∙ ap (λ f. Some (curve f)) (sym c.deref.ensures)
 
 call : (g : Over) (c : After-vertical g)
@@ -29,7 +29,7 @@ call g c =
 pub returns-in-Ok-clause-answer : goal.returns-in-Ok-clause-answer
 returns-in-Ok-clause-answer g c =
     let here = goal.at.returns-in-Ok-clause-answer g c in
-    backlog_made (g.T.Table.at c.args.table.now) c.args.from (less (value_of c.args.service) c.args.bits) c.deref.result.now
+    backlog_made (g.T.Table.at c.args.given.now.table.now) c.args.from (less (value_of c.args.service) c.args.bits) c.deref.result.now
     (comes g here.After-deref) c.in-Ok.packets (answer_of number c.vertical.result) c.in-Ok.ensures.answer (call g here.After-vertical)
 
 pub returns-in-Ok-clause-refused : goal.returns-in-Ok-clause-refused
@@ -41,9 +41,9 @@ returns-in-Ok-clause-refused g c =
     let one = c.in-Ok.ensures.count in
     let two = c.vertical.ensures.count in
     let count : 0 + 1 + 1 ≡ c.vertical.new.steps - c.args.steps.now = omega (arith, one, two) in
-    if_err c.vertical.result (λ e. RefusedAt (g.T.Table.at c.args.table.now) F e (c.vertical.new.steps - c.args.steps.now))
-    (λ e refused. subst (λ n. RefusedAt (g.T.Table.at c.args.table.now) F e n) count
-    (backlog_second (g.T.Table.at c.args.table.now) c.args.from (less (value_of c.args.service) c.args.bits) f k e (comes g here.After-deref)
+    if_err c.vertical.result (λ e. RefusedAt (g.T.Table.at c.args.given.now.table.now) F e (c.vertical.new.steps - c.args.steps.now))
+    (λ e refused. subst (λ n. RefusedAt (g.T.Table.at c.args.given.now.table.now) F e n) count
+    (backlog_second (g.T.Table.at c.args.given.now.table.now) c.args.from (less (value_of c.args.service) c.args.bits) f k e (comes g here.After-deref)
     c.in-Ok.ensures.answer
     (subst (λ r. MakesNumber (Deviates Vertical IsVerticalDeviation f k) (answer_of number r)) refused (call g here.After-vertical))))
 
@@ -56,12 +56,12 @@ returns-in-Ok-clause-counts g c =
 -- ---- where it is refused
 pub returns-in-Err-clause-answer : goal.returns-in-Err-clause-answer
 returns-in-Err-clause-answer g c =
-    backlog_refused (g.T.Table.at c.args.table.now) c.args.from (less (value_of c.args.service) c.args.bits) c.curve_at-from.result.now.value
+    backlog_refused (g.T.Table.at c.args.given.now.table.now) c.args.from (less (value_of c.args.service) c.args.bits) c.curve_at-from.result.now.value
     c.curve_at-from.ensures c.in-Err.fault c.in-Err.ensures.answer
 
 pub returns-in-Err-clause-refused : goal.returns-in-Err-clause-refused
 returns-in-Err-clause-refused g c =
-    let at = g.T.Table.at c.args.table.now in
+    let at = g.T.Table.at c.args.given.now.table.now in
     let packets = less (value_of c.args.service) c.args.bits in
     let one = c.in-Err.ensures.count in
     let count : 1 ≡ c.in_packets.new.steps - c.args.steps.now = omega (arith, one) in

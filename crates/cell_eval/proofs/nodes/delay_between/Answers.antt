@@ -12,12 +12,12 @@ use Rattle.cell_eval.proofs.nodes.delay_between.Goals as goal
 
 pub horizontal-requires-clause-finite : goal.horizontal-requires-clause-finite
 horizontal-requires-clause-finite g c =
-    (curve_holds (g.T.Table.at c.args.table.now) c.args.by Serving c.deref-2.result.now c.requires.serves
+    (curve_holds (g.T.Table.at c.args.given.now.table.now) c.args.by Serving c.deref-2.result.now c.requires.serves
     (c.curve_at-2.ensures ∙ ap (λ f. Some (curve f)) (sym c.deref-2.ensures))).finite
 
 pub returns-clause-answer : goal.returns-clause-answer
 returns-clause-answer g c =
-    let at = g.T.Table.at c.args.table.now in
+    let at = g.T.Table.at c.args.given.now.table.now in
     let f = c.deref.result.now in
     let h = c.deref-2.result.now in
     on_cell at c.args.from f _ (answer_of number c.horizontal.result) (c.curve_at.ensures ∙ ap (λ f. Some (curve f)) (sym c.deref.ensures))

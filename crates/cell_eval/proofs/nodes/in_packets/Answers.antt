@@ -20,12 +20,12 @@ use Rattle.cell_eval.proofs.nodes.in_packets.Goals.{After-deref, After-packetise
 use Rattle.cell_eval.proofs.nodes.in_packets.Goals as goal
 
 -- the service that the table has
-has : (g : Over) (c : After-deref g) → g.T.Table.at c.args.table.now c.args.service ≡ Some (curve c.deref.result.now)
+has : (g : Over) (c : After-deref g) → g.T.Table.at c.args.given.now.table.now c.args.service ≡ Some (curve c.deref.result.now)
 has g c = c.curve_at.ensures ∙ ap (λ f. Some (curve f)) (sym c.deref.ensures)
 
 finite : (g : Over) (c : After-deref g) → IsFinite (value_at c.deref.result.now)
 finite g c =
-    (curve_holds (g.T.Table.at c.args.table.now) c.args.service Serving c.deref.result.now c.requires (has g c)).finite
+    (curve_holds (g.T.Table.at c.args.given.now.table.now) c.args.service Serving c.deref.result.now c.requires (has g c)).finite
 
 less_packet : (g : Over) (c : After-packetised g) → AppliesTo (PosMinus (whole c.args.bits)) c.deref.result.now c.packetised.result
 less_packet g c =
@@ -36,12 +36,12 @@ packetised-requires g c = finite g (goal.at.packetised-requires g c).After-deref
 
 pub returns-clause-answer : goal.returns-clause-answer
 returns-clause-answer g c =
-    less_answer (g.T.Table.at c.args.table.now) c.args.service c.deref.result.now c.args.bits c.packetised.result
+    less_answer (g.T.Table.at c.args.given.now.table.now) c.args.service c.deref.result.now c.args.bits c.packetised.result
     (has g (goal.at.returns-clause-answer g c).After-deref) (less_packet g (goal.at.returns-clause-answer g c).After-packetised)
 
 pub returns-clause-refused : goal.returns-clause-refused
 returns-clause-refused g c =
-    let at = g.T.Table.at c.args.table.now in
+    let at = g.T.Table.at c.args.given.now.table.now in
     if_err c.packetised.result (λ e. RefusedAt at (less (value_of c.args.service) c.args.bits) e 1)
     (λ e refused. less_refused at c.args.service c.deref.result.now c.args.bits (has g (goal.at.returns-clause-refused g c).After-deref) e
     (subst (AppliesTo (PosMinus (whole c.args.bits)) c.deref.result.now) refused

@@ -12,12 +12,12 @@ use Rattle.cell_eval.proofs.nodes.left_over.Goals as goal
 
 pub fifo_service-made-requires-clause-finite : goal.fifo_service-made-requires-clause-finite
 fifo_service-made-requires-clause-finite g c =
-    (curve_holds (g.T.Table.at c.args.table.now) c.args.service Serving c.deref.result.now c.requires.serves
+    (curve_holds (g.T.Table.at c.args.given.now.table.now) c.args.service Serving c.deref.result.now c.requires.serves
     (c.curve_at.ensures ∙ ap (λ f. Some (curve f)) (sym c.deref.ensures))).finite
 
 pub returns-clause-answer : goal.returns-clause-answer
 returns-clause-answer g c =
-    let at = g.T.Table.at c.args.table.now in
+    let at = g.T.Table.at c.args.given.now.table.now in
     let f = c.deref.result.now in
     let h = c.deref-2.result.now in
     let x = c.number_at-by.result in

@@ -11,7 +11,7 @@ use Rattle.cell_eval.proofs.nodes.lesser.Goals as goal
 
 pub returns-clause-answer : goal.returns-clause-answer
 returns-clause-answer g c =
-    let at = g.T.Table.at c.args.table.now in
+    let at = g.T.Table.at c.args.given.now.table.now in
     let f = c.deref.result.now in
     let h = c.deref-2.result.now in
     let r = answer_of meaning_of c.shared.result in

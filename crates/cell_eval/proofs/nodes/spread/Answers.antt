@@ -29,14 +29,14 @@ call g c =
 
 pub returns-in-Ok-clause-answer : goal.returns-in-Ok-clause-answer
 returns-in-Ok-clause-answer g c =
-    joined_answer (g.T.Table.at c.args.table.now) (value_of c.args.from) (less (value_of c.args.service) c.args.bits) Deconvolve
+    joined_answer (g.T.Table.at c.args.given.now.table.now) (value_of c.args.from) (less (value_of c.args.service) c.args.bits) Deconvolve
     c.deref.result.now c.in-Ok.packets (answer_of meaning_of c.shared.result)
     (c.curve_at-from.ensures ∙ ap (λ f. Some (curve f)) (sym c.deref.ensures)) c.in-Ok.ensures.answer
     (call g (goal.at.returns-in-Ok-clause-answer g c).After-shared)
 
 pub returns-in-Ok-clause-refused : goal.returns-in-Ok-clause-refused
 returns-in-Ok-clause-refused g c =
-    let at = g.T.Table.at c.args.table.now in
+    let at = g.T.Table.at c.args.given.now.table.now in
     let f = c.deref.result.now in
     let k = c.in-Ok.packets in
     let packets = less (value_of c.args.service) c.args.bits in
@@ -60,7 +60,7 @@ returns-in-Ok-clause-counts g c =
 -- ---- where it is refused
 pub returns-in-Err-clause-answer : goal.returns-in-Err-clause-answer
 returns-in-Err-clause-answer g c =
-    second_fails (g.T.Table.at c.args.table.now) (value_of c.args.from) (less (value_of c.args.service) c.args.bits) Deconvolve
+    second_fails (g.T.Table.at c.args.given.now.table.now) (value_of c.args.from) (less (value_of c.args.service) c.args.bits) Deconvolve
     c.curve_at-from.result.now.value c.in-Err.fault c.curve_at-from.ensures c.in-Err.ensures.answer
 
 pub returns-in-Err-clause-refused : goal.returns-in-Err-clause-refused
@@ -68,8 +68,8 @@ returns-in-Err-clause-refused g c =
     let packets = less (value_of c.args.service) c.args.bits in
     let first = c.in-Err.ensures.count in
     let count : 0 + 1 ≡ c.in_packets.new.steps - c.args.steps.now = omega (arith, first) in
-    subst (λ n. RefusedAt (g.T.Table.at c.args.table.now) (made Deconvolve (value_of c.args.from) packets) c.in-Err.fault n) count
-    (second_refused (g.T.Table.at c.args.table.now) (value_of c.args.from) packets Deconvolve c.curve_at-from.result.now.value c.in-Err.fault 1
+    subst (λ n. RefusedAt (g.T.Table.at c.args.given.now.table.now) (made Deconvolve (value_of c.args.from) packets) c.in-Err.fault n) count
+    (second_refused (g.T.Table.at c.args.given.now.table.now) (value_of c.args.from) packets Deconvolve c.curve_at-from.result.now.value c.in-Err.fault 1
     c.curve_at-from.ensures c.in-Err.ensures.refused)
 
 pub returns-in-Err-clause-counts : goal.returns-in-Err-clause-counts

@@ -11,20 +11,20 @@ use Rattle.cell_eval.proofs.numbers.hop_delay.Goals as goal
 
 pub delay_between-requires-clause-rises : goal.delay_between-requires-clause-rises
 delay_between-requires-clause-rises g c =
-    hop_comes c.args.net.now (g.T.Table.at c.args.table.now) c.args.flow c.args.hop c.requires
+    hop_comes c.args.given.now.net.now (g.T.Table.at c.args.given.now.table.now) c.args.flow c.args.hop c.requires
 
 pub delay_between-requires-clause-serves : goal.delay_between-requires-clause-serves
 delay_between-requires-clause-serves g c =
-    hop_served_by c.args.net.now (g.T.Table.at c.args.table.now) c.args.flow c.args.hop c.requires
+    hop_served_by c.args.given.now.net.now (g.T.Table.at c.args.given.now.table.now) c.args.flow c.args.hop c.requires
 
 pub number_at-queue-requires : goal.number_at-queue-requires
 number_at-queue-requires g c =
     rw (c.place_of-place.ensures.server, c.place_of-place.ensures.queue)
-    (hop_queue c.args.net.now (g.T.Table.at c.args.table.now) c.args.flow c.args.hop c.requires)
+    (hop_queue c.args.given.now.net.now (g.T.Table.at c.args.given.now.table.now) c.args.flow c.args.hop c.requires)
 
 pub returns-in-Ok : goal.returns-in-Ok
 returns-in-Ok g c =
-    let net = c.args.net.now in
+    let net = c.args.given.now.net.now in
     let i = c.args.flow in
     let k = c.args.hop in
     let queue = cell_of QueueDelay (server_of_hop net i k) (queue_of_hop net i k) in
@@ -33,7 +33,7 @@ returns-in-Ok g c =
     record {
       answer =
           rw c.lesser_value.ensures
-          (smaller_answer (g.T.Table.at c.args.table.now) queue own c.number_at-queue.result c.in-Ok.own is
+          (smaller_answer (g.T.Table.at c.args.given.now.table.now) queue own c.number_at-queue.result c.in-Ok.own is
           c.in-Ok.ensures.answer);
       counts = counts_all 1 c.args.steps.now _ _ c.in-Ok.ensures.count;
       memory = λ is. ok_stops _ _ is;
@@ -41,10 +41,10 @@ returns-in-Ok g c =
 
 pub returns-in-Err : goal.returns-in-Err
 returns-in-Err g c =
-    let net = c.args.net.now in
+    let net = c.args.given.now.net.now in
     let i = c.args.flow in
     let k = c.args.hop in
-    let at = g.T.Table.at c.args.table.now in
+    let at = g.T.Table.at c.args.given.now.table.now in
     record {
       answer =
           smaller_refused at (cell_of QueueDelay (server_of_hop net i k) (queue_of_hop net i k))

@@ -15,14 +15,14 @@ use Rattle.cell_eval.proofs.Stopping.{at_refusal}
 use Rattle.cell_eval.proofs.numbers.queue_backlog.Goals as goal
 
 pub backlog-requires-clause-curve : goal.backlog-requires-clause-curve
-backlog-requires-clause-curve g c = backlog_comes c.args.net.now (g.T.Table.at c.args.table.now) c.args.server c.args.queue c.requires
+backlog-requires-clause-curve g c = backlog_comes c.args.given.now.net.now (g.T.Table.at c.args.given.now.table.now) c.args.server c.args.queue c.requires
 
 pub backlog-requires-clause-serves : goal.backlog-requires-clause-serves
-backlog-requires-clause-serves g c = backlog_served_by c.args.net.now (g.T.Table.at c.args.table.now) c.args.server c.args.queue c.requires
+backlog-requires-clause-serves g c = backlog_served_by c.args.given.now.net.now (g.T.Table.at c.args.given.now.table.now) c.args.server c.args.queue c.requires
 
 pub returns : goal.returns
 returns g c =
-    let bits = c.longest_at-bits.ensures ∙ ap (longest_of c.args.net.now) (sym (picked_are c.args.net.now c.args.server (InQueue c.args.queue))) in
+    let bits = c.longest_at-bits.ensures ∙ ap (longest_of c.args.given.now.net.now) (sym (picked_are c.args.given.now.net.now c.args.server (InQueue c.args.queue))) in
     record {
       answer = rw c.numbered.ensures (rw bits at c.backlog.ensures.answer);
       counts = record {
@@ -30,12 +30,12 @@ returns g c =
         least = c.backlog.ensures.least;
         most = c.backlog.ensures.most;
       };
-      memory = λ is. let at = g.T.Table.at c.args.table.now in
+      memory = λ is. let at = g.T.Table.at c.args.given.now.table.now in
           let counted = c.backlog.new.steps - c.args.steps.now in
           let from = value_of (cell_of Total c.args.server c.args.queue) in
           let service = value_of (cell_of QueueService c.args.server c.args.queue) in
           inr (at_refusal number c.backlog.result
-          (λ e. RefusedAt at (formula c.args.net.now (cell_of QueueBacklog c.args.server c.args.queue)) e counted)
+          (λ e. RefusedAt at (formula c.args.given.now.net.now (cell_of QueueBacklog c.args.server c.args.queue)) e counted)
           (subst (λ b. IfErr c.backlog.result (λ e. RefusedAt at (vertical from (less service b)) e counted)) bits
           c.backlog.ensures.refused) (sym c.numbered.ensures ∙ is));
     }

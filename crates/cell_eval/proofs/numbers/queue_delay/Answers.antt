@@ -10,16 +10,16 @@ use Rattle.net_cells.proofs.OneOperator.{horizontal_never}
 use Rattle.cell_eval.proofs.numbers.queue_delay.Goals as goal
 
 pub delay_between-requires-clause-rises : goal.delay_between-requires-clause-rises
-delay_between-requires-clause-rises g c = delay_comes c.args.net.now (g.T.Table.at c.args.table.now) c.args.server c.args.queue c.requires
+delay_between-requires-clause-rises g c = delay_comes c.args.given.now.net.now (g.T.Table.at c.args.given.now.table.now) c.args.server c.args.queue c.requires
 
 pub delay_between-requires-clause-serves : goal.delay_between-requires-clause-serves
-delay_between-requires-clause-serves g c = delay_served_by c.args.net.now (g.T.Table.at c.args.table.now) c.args.server c.args.queue c.requires
+delay_between-requires-clause-serves g c = delay_served_by c.args.given.now.net.now (g.T.Table.at c.args.given.now.table.now) c.args.server c.args.queue c.requires
 
 pub returns : goal.returns
 returns g c = record {
   answer = rw c.numbered.ensures c.delay_between.ensures.answer;
   counts = counts_all 1 c.args.steps.now _ _ c.delay_between.ensures.count;
-  memory = λ is. let at = g.T.Table.at c.args.table.now in
+  memory = λ is. let at = g.T.Table.at c.args.given.now.table.now in
       let from = cell_of Total c.args.server c.args.queue in
       let by = cell_of QueueService c.args.server c.args.queue in
       let answer : Answers at (horizontal (value_of from) (value_of by)) (answer_of meaning_of c.numbered.result) =

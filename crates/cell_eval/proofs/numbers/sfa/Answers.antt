@@ -18,17 +18,17 @@ use Rattle.cell_eval.proofs.numbers.sfa.Goals as goal
 
 pub delay_between-requires-clause-rises : goal.delay_between-requires-clause-rises
 delay_between-requires-clause-rises g c =
-    sfa_comes c.args.net.now (g.T.Table.at c.args.table.now) c.args.flow c.requires
+    sfa_comes c.args.given.now.net.now (g.T.Table.at c.args.given.now.table.now) c.args.flow c.requires
 
 pub delay_between-requires-clause-serves : goal.delay_between-requires-clause-serves
 delay_between-requires-clause-serves g c =
-    sfa_served_by c.args.net.now (g.T.Table.at c.args.table.now) c.args.flow c.requires
+    sfa_served_by c.args.given.now.net.now (g.T.Table.at c.args.given.now.table.now) c.args.flow c.requires
 
 pub returns-in-Ok : goal.returns-in-Ok
 returns-in-Ok g c =
-    let net = c.args.net.now in
+    let net = c.args.given.now.net.now in
     let i = c.args.flow in
-    let at = g.T.Table.at c.args.table.now in
+    let at = g.T.Table.at c.args.given.now.table.now in
     let x = c.in-Ok.delay in
     let from = cell_of In i 0 in
     let by = cell_of PathService i 0 in
@@ -51,6 +51,6 @@ pub returns-in-Err : goal.returns-in-Err
 returns-in-Err g c = record {
   answer = stops c.in-Err.fault c.in-Err.ensures.answer refl;
   counts = counts_all 1 c.args.steps.now _ _ c.in-Err.ensures.count;
-  memory = λ is. horizontal_refused (g.T.Table.at c.args.table.now) (cell_of In c.args.flow 0) (cell_of PathService c.args.flow 0) c.in-Err.fault _
+  memory = λ is. horizontal_refused (g.T.Table.at c.args.given.now.table.now) (cell_of In c.args.flow 0) (cell_of PathService c.args.flow 0) c.in-Err.fault _
       c.in-Err.ensures.answer is;
 }

@@ -10,13 +10,13 @@ use Rattle.cell_eval.proofs.Stopping.{none_stops}
 use Rattle.cell_eval.proofs.numbers.tfa.Goals as goal
 
 pub delays-requires : goal.delays-requires
-delays-requires g c = tfa_delays c.args.net.now (g.T.Table.at c.args.table.now) c.args.flow c.requires
+delays-requires g c = tfa_delays c.args.given.now.net.now (g.T.Table.at c.args.given.now.table.now) c.args.flow c.requires
 
 pub returns : goal.returns
 returns g c = λ n.
-    let net = c.args.net.now in
+    let net = c.args.given.now.net.now in
     let i = c.args.flow in
-    let at = g.T.Table.at c.args.table.now in
+    let at = g.T.Table.at c.args.given.now.table.now in
     record {
       answer =
           rw c.numbered.ensures

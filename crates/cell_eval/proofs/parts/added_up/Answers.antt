@@ -20,7 +20,7 @@ use Rattle.cell_eval.proofs.parts.added_up.Goals as goal
 pub returns-then-is_empty-clause-sum : goal.returns-then-is_empty-clause-sum
 returns-then-is_empty-clause-sum g c =
     let r = answer_of meaning_of c.shared.result in
-    no_parts (g.T.Table.at c.args.table.now) c.args.parts.now r (eqb-true (length c.args.parts.now) 0 (sym c.is_empty.ensures ∙ c.if-is_empty.true))
+    no_parts (g.T.Table.at c.args.given.now.table.now) c.args.parts.now r (eqb-true (length c.args.parts.now) 0 (sym c.is_empty.ensures ∙ c.if-is_empty.true))
     (shared_makes (IsAgain zero_curve) c.nothing.result r (again_out zero_curve) c.nothing.ensures c.shared.ensures)
 
 pub returns-then-is_empty-clause-counts : goal.returns-then-is_empty-clause-counts
@@ -31,11 +31,11 @@ returns-then-is_empty-clause-counts g c =
 
 pub only-requires : goal.only-requires
 only-requires g c =
-    held_at (g.T.Table.at c.args.table.now) c.args.parts.now 0 c.index-parts-0.result c.requires (omega (arith, c.if-parts-eq1.true)) c.index-parts-0.is
+    held_at (g.T.Table.at c.args.given.now.table.now) c.args.parts.now 0 c.index-parts-0.result c.requires (omega (arith, c.if-parts-eq1.true)) c.index-parts-0.is
 
 pub returns-then-parts-eq1-clause-sum : goal.returns-then-parts-eq1-clause-sum
 returns-then-parts-eq1-clause-sum g c =
-    one_part (g.T.Table.at c.args.table.now) c.args.parts.now c.index-parts-0.result (answer_of meaning_of c.only.result) c.if-parts-eq1.true
+    one_part (g.T.Table.at c.args.given.now.table.now) c.args.parts.now c.index-parts-0.result (answer_of meaning_of c.only.result) c.if-parts-eq1.true
     c.index-parts-0.is c.only.ensures
 
 pub returns-then-parts-eq1-clause-counts : goal.returns-then-parts-eq1-clause-counts
@@ -51,7 +51,7 @@ many_added-made-requires-clause-many g c =
 
 pub returns-clause-sum : goal.returns-clause-sum
 returns-clause-sum g c =
-    let at = g.T.Table.at c.args.table.now in
+    let at = g.T.Table.at c.args.given.now.table.now in
     shared_sum (map (curve_of at) c.args.parts.now) c.many_added-made.result (answer_of meaning_of c.shared-2.result) c.many_added-made.ensures.sum
     c.shared-2.ensures
 
@@ -62,7 +62,7 @@ returns-clause-counts g c =
 
 pub returns-then-is_empty-clause-refused : goal.returns-then-is_empty-clause-refused
 returns-then-is_empty-clause-refused g c =
-    let at = g.T.Table.at c.args.table.now in
+    let at = g.T.Table.at c.args.given.now.table.now in
     let none = eqb-true (length c.args.parts.now) 0 (sym c.is_empty.ensures ∙ c.if-is_empty.true) in
     let counted = c.args.steps.now - c.args.steps.now in
     let nothing = shared_makes (IsAgain zero_curve) c.nothing.result (answer_of meaning_of c.shared.result) (again_out zero_curve) c.nothing.ensures
@@ -73,7 +73,7 @@ returns-then-is_empty-clause-refused g c =
 
 pub returns-then-parts-eq1-clause-refused : goal.returns-then-parts-eq1-clause-refused
 returns-then-parts-eq1-clause-refused g c =
-    let at = g.T.Table.at c.args.table.now in
+    let at = g.T.Table.at c.args.given.now.table.now in
     let counted = c.args.steps.now - c.args.steps.now in
     if_err c.only.result (λ e. SumsRefused (map (curve_of at) c.args.parts.now) e counted)
     (λ e refused. one_part_refused at c.args.parts.now e counted c.if-parts-eq1.true (omega arith)
@@ -81,7 +81,7 @@ returns-then-parts-eq1-clause-refused g c =
 
 pub returns-clause-refused : goal.returns-clause-refused
 returns-clause-refused g c =
-    let at = g.T.Table.at c.args.table.now in
+    let at = g.T.Table.at c.args.given.now.table.now in
     let fs = map (curve_of at) c.args.parts.now in
     let made = c.many_added-made.result in
     let counted = c.many_added-made.new.steps - c.args.steps.now in

@@ -7,9 +7,9 @@ use Rattle.cell_eval.proofs.parts.many_added.Given as goal
 
 abbrev pub invariant-loop-k : goal.invariant-loop-k
 invariant-loop-k g l = record {
-  sums : (r : Answer) → SumsOnto l.so_far (map (curve_of (g.T.Table.at l.table)) (drop l.k l.parts)) r
-      → SumsOf (map (curve_of (g.T.Table.at l.table)) l.parts) r;
-  refusals : (fault : OpFault) (n : ℕ) → SumsOntoRefused l.so_far (map (curve_of (g.T.Table.at l.table)) (drop l.k l.parts)) fault n
-      → SumsRefused (map (curve_of (g.T.Table.at l.table)) l.parts) fault (l.k - 1 + n);
+  sums : (r : Answer) → SumsOnto l.so_far (map (curve_of (g.T.Table.at l.given.table.now)) (drop l.k l.parts)) r
+      → SumsOf (map (curve_of (g.T.Table.at l.given.table.now)) l.parts) r;
+  refusals : (fault : OpFault) (n : ℕ) → SumsOntoRefused l.so_far (map (curve_of (g.T.Table.at l.given.table.now)) (drop l.k l.parts)) fault n
+      → SumsRefused (map (curve_of (g.T.Table.at l.given.table.now)) l.parts) fault (l.k - 1 + n);
   count : l.steps + 1 ≡ l.fn.steps + l.k;
 }

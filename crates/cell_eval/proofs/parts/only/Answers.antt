@@ -9,13 +9,13 @@ use Rattle.cell_eval.proofs.parts.only.Goals as goal
 
 pub returns-in-One : goal.returns-in-One
 returns-in-One g c =
-    let at = g.T.Table.at c.args.table.now in
+    let at = g.T.Table.at c.args.given.now.table.now in
     let r = answer_of meaning_of c.again.result in
     subst (λ p. MakesCurve (IsAgain (curve_of at p)) r) (sym c.in-One.is) (again_makes at c.in-One.cell r c.again.ensures)
 
 pub returns-in-Made : goal.returns-in-Made
 returns-in-Made g c =
-    let at = g.T.Table.at c.args.table.now in
+    let at = g.T.Table.at c.args.given.now.table.now in
     let r = answer_of meaning_of c.shared.result in
     subst (λ p. MakesCurve (IsAgain (curve_of at p)) r) (sym c.in-Made.is)
     (shared_makes (IsAgain c.in-Made.made) c.copied.result r (again_out c.in-Made.made) c.copied.ensures c.shared.ensures)

@@ -14,25 +14,25 @@ use Rattle.cell_eval.proofs.OperatorStopping.{err_map}
 use Rattle.cell_eval.proofs.parts.parts_sum.Goals as goal
 
 pub added_up-requires : goal.added_up-requires
-added_up-requires g c = subst (All (IsHeld (g.T.Table.at c.args.table.now))) (sym c.deref.ensures.0) c.in-Ok.ensures.made.held
+added_up-requires g c = subst (All (IsHeld (g.T.Table.at c.args.given.now.table.now))) (sym c.deref.ensures.0) c.in-Ok.ensures.made.held
 
 pub returns-in-Ok-clause-answer : goal.returns-in-Ok-clause-answer
 returns-in-Ok-clause-answer g c =
-    let at = g.T.Table.at c.args.table.now in
+    let at = g.T.Table.at c.args.given.now.table.now in
     let r = answer_of meaning_of c.added_up.result in
-    made_gives at c.args.net.now c.args.place.0 c.args.place.1 c.in-Ok.parts.items c.args.steps.now c.parts_made.new.steps r c.in-Ok.ensures.made
+    made_gives at c.args.given.now.net.now c.args.place.0 c.args.place.1 c.in-Ok.parts.items c.args.steps.now c.parts_made.new.steps r c.in-Ok.ensures.made
     (subst (λ ps. SumsOf (map (curve_of at) ps) r) c.deref.ensures.0 c.added_up.ensures.sum)
 
 pub returns-in-Ok-clause-counts : goal.returns-in-Ok-clause-counts
 returns-in-Ok-clause-counts g c =
-    let at = g.T.Table.at c.args.table.now in
+    let at = g.T.Table.at c.args.given.now.table.now in
     let r = answer_of meaning_of c.added_up.result in
-    made_counts at c.args.net.now c.args.place.0 c.args.place.1 c.in-Ok.parts.items c.args.steps.now c.parts_made.new.steps c.added_up.new.steps r
+    made_counts at c.args.given.now.net.now c.args.place.0 c.args.place.1 c.in-Ok.parts.items c.args.steps.now c.parts_made.new.steps c.added_up.new.steps r
     c.in-Ok.ensures.made (subst (λ ps. Counts (length ps - 1) c.parts_made.new.steps c.added_up.new.steps r) c.deref.ensures.0 c.added_up.ensures.counts)
 
 pub returns-in-Err-clause-answer : goal.returns-in-Err-clause-answer
 returns-in-Err-clause-answer g c =
-    refused_gives (g.T.Table.at c.args.table.now) c.args.net.now c.args.place.0 c.args.place.1 c.in-Err.fault c.args.steps.now c.parts_made.new.steps
+    refused_gives (g.T.Table.at c.args.given.now.table.now) c.args.given.now.net.now c.args.place.0 c.args.place.1 c.in-Err.fault c.args.steps.now c.parts_made.new.steps
     c.in-Err.ensures.refused
 
 pub returns-in-Err-clause-counts : goal.returns-in-Err-clause-counts
@@ -41,8 +41,8 @@ returns-in-Err-clause-counts g c =
 
 pub returns-in-Ok-clause-refused : goal.returns-in-Ok-clause-refused
 returns-in-Ok-clause-refused g c =
-    let at = g.T.Table.at c.args.table.now in
-    let net = c.args.net.now in
+    let at = g.T.Table.at c.args.given.now.table.now in
+    let net = c.args.given.now.net.now in
     let s = c.args.place.0 in
     let q = c.args.place.1 in
     let mid = c.parts_made.new.steps in

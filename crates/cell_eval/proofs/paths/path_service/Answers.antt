@@ -19,12 +19,12 @@ use Rattle.cell_eval.proofs.paths.path_service.Goals as goal
 
 pub again-requires : goal.again-requires
 again-requires g c =
-    curve_map (g.T.Table.at c.args.table.now) (cell_of Residual c.args.flow 0) Serving (λ f. Unit {0})
+    curve_map (g.T.Table.at c.args.given.now.table.now) (cell_of Residual c.args.flow 0) Serving (λ f. Unit {0})
     (c.requires.serves 0 c.requires.some) (λ f q. tt)
 
 pub returns-then-count-eq1-clause-answer : goal.returns-then-count-eq1-clause-answer
 returns-then-count-eq1-clause-answer g c =
-    only_served (g.T.Table.at c.args.table.now) c.args.net.now c.args.flow (hops c.args.net.now c.args.flow) (answer_of meaning_of c.again.result)
+    only_served (g.T.Table.at c.args.given.now.table.now) c.args.given.now.net.now c.args.flow (hops c.args.given.now.net.now c.args.flow) (answer_of meaning_of c.again.result)
     (sym c.hops-count.ensures.hops ∙ c.if-count-eq1.true) c.again.ensures
 
 pub returns-else-count-eq1-clause-answer : goal.returns-else-count-eq1-clause-answer
@@ -32,22 +32,22 @@ returns-else-count-eq1-clause-answer g c =
     let n = c.hops-count.ensures.hops in
     let some = c.requires.some in
     let other = c.if-count-eq1.false in
-    last_served (g.T.Table.at c.args.table.now) c.args.net.now c.args.flow (c.hops-count.result - 2) (hops c.args.net.now c.args.flow)
+    last_served (g.T.Table.at c.args.given.now.table.now) c.args.given.now.net.now c.args.flow (c.hops-count.result - 2) (hops c.args.given.now.net.now c.args.flow)
     (answer_of meaning_of c.past_hop.result) (omega (arith, n, some, other)) c.past_hop.ensures.answer
 
 pub returns-then-count-eq1-clause-refused : goal.returns-then-count-eq1-clause-refused
 returns-then-count-eq1-clause-refused g c =
-    let at = g.T.Table.at c.args.table.now in
+    let at = g.T.Table.at c.args.given.now.table.now in
     let only = cell_of Residual c.args.flow 0 in
     let none : c.args.steps.now - c.args.steps.now ≡ 0 = omega arith in
     if_err c.again.result
-    (λ e. Stops at (served_to c.args.net.now c.args.flow (hops c.args.net.now c.args.flow - 1)) e (c.args.steps.now - c.args.steps.now))
+    (λ e. Stops at (served_to c.args.given.now.net.now c.args.flow (hops c.args.given.now.net.now c.args.flow - 1)) e (c.args.steps.now - c.args.steps.now))
     (λ e refused. inl (none, again_memory at only e (subst (λ r. Gives at (value_of only) (answer_of meaning_of r)) refused c.again.ensures)))
 
 pub returns-else-count-eq1-clause-refused : goal.returns-else-count-eq1-clause-refused
 returns-else-count-eq1-clause-refused g c =
-    let at = g.T.Table.at c.args.table.now in
-    let net = c.args.net.now in
+    let at = g.T.Table.at c.args.given.now.table.now in
+    let net = c.args.given.now.net.now in
     let i = c.args.flow in
     let n = c.hops-count.ensures.hops in
     let some = c.requires.some in

@@ -13,9 +13,9 @@ in_packets-requires g c = c.requires 0 (omega arith)
 
 pub returns-in-Err-clause-answer : goal.returns-in-Err-clause-answer
 returns-in-Err-clause-answer g c =
-    let at = g.T.Table.at c.args.table.now in
-    packets_fail at c.args.net.now c.args.flow 0 c.args.last c.in-Err.fault (omega arith)
-    (first_formula (λ F. Answers at F (Err c.in-Err.fault)) c.args.net.now c.args.flow c.packet-bits.result c.packet-bits.ensures
+    let at = g.T.Table.at c.args.given.now.table.now in
+    packets_fail at c.args.given.now.net.now c.args.flow 0 c.args.last c.in-Err.fault (omega arith)
+    (first_formula (λ F. Answers at F (Err c.in-Err.fault)) c.args.given.now.net.now c.args.flow c.packet-bits.result c.packet-bits.ensures
     c.in-Err.ensures.answer)
 
 pub loop-hop-init : goal.loop-hop-init
@@ -23,7 +23,7 @@ loop-hop-init g c =
     let k = c.in-Ok.ensures.count in
     record {
       answers =
-          first_formula (λ F. Answers (g.T.Table.at c.args.table.now) F (Ok (curve c.in-Ok.made))) c.args.net.now c.args.flow c.packet-bits.result
+          first_formula (λ F. Answers (g.T.Table.at c.args.given.now.table.now) F (Ok (curve c.in-Ok.made))) c.args.given.now.net.now c.args.flow c.packet-bits.result
           c.packet-bits.ensures c.in-Ok.ensures.answer;
       count = omega (arith, k);
     }
@@ -33,31 +33,31 @@ with_hop-requires g c = c.requires (c.loop-hop.hop + 1) (let t = c.loop-hop-test
 
 pub loop-hop-preserved : goal.loop-hop-preserved
 loop-hop-preserved g c =
-    let at = g.T.Table.at c.args.table.now in
+    let at = g.T.Table.at c.args.given.now.table.now in
     let inv = c.loop-hop.invariant in
-    let F = packets_to c.args.net.now c.args.flow c.loop-hop.hop in
+    let F = packets_to c.args.given.now.net.now c.args.flow c.loop-hop.hop in
     let more = c.in-Ok-with_hop.ensures.answer F inv.answers in
     let n = inv.count in
     let exact = c.in-Ok-with_hop.ensures.counts.exact in
     record {
-      answers = next_packets at c.args.net.now c.args.flow c.loop-hop.hop c.packet-bits.result (Ok (curve c.in-Ok-with_hop.more)) c.packet-bits.ensures more;
+      answers = next_packets at c.args.given.now.net.now c.args.flow c.loop-hop.hop c.packet-bits.result (Ok (curve c.in-Ok-with_hop.more)) c.packet-bits.ensures more;
       count = omega (arith, n, exact);
     }
 
 pub returns-in-Err-with_hop-clause-answer : goal.returns-in-Err-with_hop-clause-answer
 returns-in-Err-with_hop-clause-answer g c =
-    let at = g.T.Table.at c.args.table.now in
+    let at = g.T.Table.at c.args.given.now.table.now in
     let inv = c.loop-hop.invariant in
-    let F = packets_to c.args.net.now c.args.flow c.loop-hop.hop in
+    let F = packets_to c.args.given.now.net.now c.args.flow c.loop-hop.hop in
     let fail = c.in-Err-with_hop.ensures.answer F inv.answers in
-    packets_fail at c.args.net.now c.args.flow (c.loop-hop.hop + 1) c.args.last c.in-Err-with_hop.fault
+    packets_fail at c.args.given.now.net.now c.args.flow (c.loop-hop.hop + 1) c.args.last c.in-Err-with_hop.fault
     (let t = c.loop-hop-test.true in omega (arith, t))
-    (next_packets at c.args.net.now c.args.flow c.loop-hop.hop c.packet-bits.result (Err c.in-Err-with_hop.fault) c.packet-bits.ensures fail)
+    (next_packets at c.args.given.now.net.now c.args.flow c.loop-hop.hop c.packet-bits.result (Err c.in-Err-with_hop.fault) c.packet-bits.ensures fail)
 
 pub returns-in-Err-clause-refused : goal.returns-in-Err-clause-refused
 returns-in-Err-clause-refused g c =
-    let at = g.T.Table.at c.args.table.now in
-    let net = c.args.net.now in
+    let at = g.T.Table.at c.args.given.now.table.now in
+    let net = c.args.given.now.net.now in
     let i = c.args.flow in
     let first = c.in-Err.ensures.count in
     let count : 1 ≡ c.in_packets.new.steps - c.args.steps.now = omega (arith, first) in
@@ -67,8 +67,8 @@ returns-in-Err-clause-refused g c =
 
 pub returns-in-Err-with_hop-clause-refused : goal.returns-in-Err-with_hop-clause-refused
 returns-in-Err-with_hop-clause-refused g c =
-    let at = g.T.Table.at c.args.table.now in
-    let net = c.args.net.now in
+    let at = g.T.Table.at c.args.given.now.table.now in
+    let net = c.args.given.now.net.now in
     let i = c.args.flow in
     let fault = c.in-Err-with_hop.fault in
     let inv = c.loop-hop.invariant in

@@ -7,6 +7,6 @@ use Rattle.cell_eval.proofs.paths.to_hop.Given as goal
 
 abbrev pub invariant-loop-hop : goal.invariant-loop-hop
 invariant-loop-hop g l = record {
-  answers : Answers (g.T.Table.at l.table) (packets_to l.net l.flow l.hop) (Ok (curve l.so_far));
+  answers : Answers (g.T.Table.at l.given.table.now) (packets_to l.given.net.now l.flow l.hop) (Ok (curve l.so_far));
   count : l.steps ≡ l.fn.steps + (2 * l.hop + 1);
 }

@@ -27,7 +27,7 @@ pub returns-in-Ok-clause-answer : goal.returns-in-Ok-clause-answer
 returns-in-Ok-clause-answer g c = λ F p.
     let f = c.args.so_far.now in
     let n = c.in-Ok.next in
-    joined_answer (g.T.Table.at c.args.table.now) F (less (value_of c.args.cell) c.args.bits) Convolve f n (answer_of curve c.intact.result) p
+    joined_answer (g.T.Table.at c.args.given.now.table.now) F (less (value_of c.args.cell) c.args.bits) Convolve f n (answer_of curve c.intact.result) p
     c.in-Ok.ensures.answer (made_answer (Applies Convolve f n) c.intact.result (call g (goal.at.returns-in-Ok-clause-answer g c).After-intact))
 
 pub returns-in-Ok-clause-counts : goal.returns-in-Ok-clause-counts
@@ -38,7 +38,7 @@ returns-in-Ok-clause-counts g c =
 
 pub returns-in-Ok-clause-refused : goal.returns-in-Ok-clause-refused
 returns-in-Ok-clause-refused g c =
-    let at = g.T.Table.at c.args.table.now in
+    let at = g.T.Table.at c.args.given.now.table.now in
     let f = c.args.so_far.now in
     let k = c.in-Ok.next in
     let packets = less (value_of c.args.cell) c.args.bits in
@@ -54,7 +54,7 @@ returns-in-Ok-clause-refused g c =
 -- ---- where it is refused
 pub returns-in-Err-clause-answer : goal.returns-in-Err-clause-answer
 returns-in-Err-clause-answer g c = λ F p.
-    second_fails (g.T.Table.at c.args.table.now) F (less (value_of c.args.cell) c.args.bits) Convolve c.args.so_far.now c.in-Err.fault p
+    second_fails (g.T.Table.at c.args.given.now.table.now) F (less (value_of c.args.cell) c.args.bits) Convolve c.args.so_far.now c.in-Err.fault p
     c.in-Err.ensures.answer
 
 pub returns-in-Err-clause-counts : goal.returns-in-Err-clause-counts
@@ -64,7 +64,7 @@ returns-in-Err-clause-counts g c =
 
 pub returns-in-Err-clause-refused : goal.returns-in-Err-clause-refused
 returns-in-Err-clause-refused g c = λ F p.
-    let at = g.T.Table.at c.args.table.now in
+    let at = g.T.Table.at c.args.given.now.table.now in
     let packets = less (value_of c.args.cell) c.args.bits in
     let first = c.in-Err.ensures.count in
     let count : 1 ≡ c.in_packets.new.steps - c.args.steps.now = omega (arith, first) in

@@ -21,13 +21,13 @@ use Rattle.cell_eval.proofs.services.by_priority.Goals.{After-longest_at-lower, 
 use Rattle.cell_eval.proofs.services.by_priority.Goals as goal
 
 -- the longest packet of the queues after this one
-below : (g : Over) (c : After-longest_at-lower g) → c.longest_at-lower.result ≡ longest_after c.args.net.now c.args.place.0 c.args.place.1
+below : (g : Over) (c : After-longest_at-lower g) → c.longest_at-lower.result ≡ longest_after c.args.given.now.net.now c.args.place.0 c.args.place.1
 below g c =
-    c.longest_at-lower.ensures ∙ ap (longest_of c.args.net.now) (sym (picked_are c.args.net.now c.args.place.0 (AfterQueue c.args.place.1)))
+    c.longest_at-lower.ensures ∙ ap (longest_of c.args.given.now.net.now) (sym (picked_are c.args.given.now.net.now c.args.place.0 (AfterQueue c.args.place.1)))
 
 -- the curve of those before it
 above : (g : Over) (c : After-deref g)
-    → g.T.Table.at c.args.table.now (cell_of Higher c.args.place.0 c.args.place.1) ≡ Some (curve c.deref.result.now)
+    → g.T.Table.at c.args.given.now.table.now (cell_of Higher c.args.place.0 c.args.place.1) ≡ Some (curve c.deref.result.now)
 above g c = c.curve_at.ensures ∙ ap (λ f. Some (curve f)) (sym c.deref.ensures)
 
 pub returns-clause-answer : goal.returns-clause-answer
@@ -36,9 +36,9 @@ returns-clause-answer g c =
     let cell = cell_of Higher c.args.place.0 c.args.place.1 in
     let made = MakesPriority β c.deref.result.now c.longest_at-lower.result in
     let r = answer_of meaning_of c.shared.result in
-    subst (λ n. Answers (g.T.Table.at c.args.table.now) (priority β (value_of cell) n) r)
+    subst (λ n. Answers (g.T.Table.at c.args.given.now.table.now) (priority β (value_of cell) n) r)
     (below g (goal.at.returns-clause-answer g c).After-longest_at-lower)
-    (on_cell (g.T.Table.at c.args.table.now) cell c.deref.result.now (λ k. MakesCurve (MakesPriority β k c.longest_at-lower.result)) r
+    (on_cell (g.T.Table.at c.args.given.now.table.now) cell c.deref.result.now (λ k. MakesCurve (MakesPriority β k c.longest_at-lower.result)) r
     (above g (goal.at.returns-clause-answer g c).After-deref)
     (shared_makes made c.priority_service-made.result r (priority_out β c.deref.result.now c.longest_at-lower.result)
     c.priority_service-made.ensures.answer c.shared.ensures))
@@ -55,7 +55,7 @@ returns-clause-counts g c =
 
 pub returns-clause-refused : goal.returns-clause-refused
 returns-clause-refused g c =
-    let at = g.T.Table.at c.args.table.now in
+    let at = g.T.Table.at c.args.given.now.table.now in
     let β = c.args.service.now in
     let before = value_of (cell_of Higher c.args.place.0 c.args.place.1) in
     let f = c.deref.result.now in

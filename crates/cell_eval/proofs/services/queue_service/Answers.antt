@@ -22,10 +22,10 @@ use Rattle.cell_eval.proofs.services.queue_service.Goals as goal
 
 -- ---- the server that is found
 kind : (g : Over) (c : In-Some g) (d : Discipline) → views.discipline_of c.in-Some.found.now.discipline ≡ d
-    → d ≡ discipline c.args.net.now c.args.place.0
+    → d ≡ discipline c.args.given.now.net.now c.args.place.0
 kind g c d is = sym is ∙ ap discipline_of c.in-Some.ensures.server
 
-own : (g : Over) (c : In-Some g) → c.in-Some.found.now.service ≡ service c.args.net.now c.args.place.0
+own : (g : Over) (c : In-Some g) → c.in-Some.found.now.service ≡ service c.args.given.now.net.now c.args.place.0
 own g c = ap service_of c.in-Some.ensures.server
 
 pub by_priority-requires-clause-above : goal.by_priority-requires-clause-above
@@ -44,7 +44,7 @@ returns-in-Fifo-clause-answer g c =
     let here = (goal.at.returns-in-Fifo-clause-answer g c).In-Some in
     let made = whole g (goal.at.returns-in-Fifo-clause-answer g c).After-shared in
     let r = answer_of meaning_of c.shared.result in
-    subst (λ x. Answers (g.T.Table.at c.args.table.now) (queue_service c.args.net.now c.args.place.0 c.args.place.1 x) r)
+    subst (λ x. Answers (g.T.Table.at c.args.given.now.table.now) (queue_service c.args.given.now.net.now c.args.place.0 c.args.place.1 x) r)
     (kind g here _ (ap views.discipline_of c.in-Fifo.is)) (subst (λ h. MakesCurve (IsAgain h) r) (own g here) made)
 
 pub returns-in-Fifo-clause-refused : goal.returns-in-Fifo-clause-refused
@@ -54,7 +54,7 @@ returns-in-Fifo-clause-refused g c =
     let counted = c.args.steps.now - c.args.steps.now in
     let none : counted ≡ 0 = omega arith in
     subst (λ x. IfErr c.shared.result
-    (λ fault. RefusedAt (g.T.Table.at c.args.table.now) (queue_service c.args.net.now c.args.place.0 c.args.place.1 x) fault counted))
+    (λ fault. RefusedAt (g.T.Table.at c.args.given.now.table.now) (queue_service c.args.given.now.net.now c.args.place.0 c.args.place.1 x) fault counted))
     (kind g here _ (ap views.discipline_of c.in-Fifo.is))
     (if_err c.shared.result (λ fault. AtNone fault counted) (λ fault refused. (
       none,
@@ -65,8 +65,8 @@ returns-in-Fifo-clause-refused g c =
 pub returns-in-Priority-clause-answer : goal.returns-in-Priority-clause-answer
 returns-in-Priority-clause-answer g c =
     let here = (goal.at.returns-in-Priority-clause-answer g c).In-Some in
-    let at = g.T.Table.at c.args.table.now in
-    let net = c.args.net.now in
+    let at = g.T.Table.at c.args.given.now.table.now in
+    let net = c.args.given.now.net.now in
     let s = c.args.place.0 in
     let q = c.args.place.1 in
     let r = answer_of meaning_of c.by_priority.result in
@@ -77,11 +77,11 @@ pub returns-in-Priority-clause-refused : goal.returns-in-Priority-clause-refused
 returns-in-Priority-clause-refused g c =
     let here = (goal.at.returns-in-Priority-clause-refused g c).In-Some in
     let above = value_of (cell_of Higher c.args.place.0 c.args.place.1) in
-    let lower = longest_after c.args.net.now c.args.place.0 c.args.place.1 in
-    let at = g.T.Table.at c.args.table.now in
+    let lower = longest_after c.args.given.now.net.now c.args.place.0 c.args.place.1 in
+    let at = g.T.Table.at c.args.given.now.table.now in
     let counted = c.by_priority.new.steps - c.args.steps.now in
     subst (λ x. IfErr c.by_priority.result
-    (λ fault. RefusedAt at (queue_service c.args.net.now c.args.place.0 c.args.place.1 x) fault counted))
+    (λ fault. RefusedAt at (queue_service c.args.given.now.net.now c.args.place.0 c.args.place.1 x) fault counted))
     (kind g here _ (ap views.discipline_of c.in-Priority.is))
     (subst (λ h. IfErr c.by_priority.result (λ fault. RefusedAt at (priority h above lower) fault counted)) (own g here)
     c.by_priority.ensures.refused)
@@ -91,10 +91,10 @@ pub returns-in-Drr-clause-answer : goal.returns-in-Drr-clause-answer
 returns-in-Drr-clause-answer g c =
     let here = (goal.at.returns-in-Drr-clause-answer g c).In-Some in
     let q = c.args.place.1 in
-    let at = g.T.Table.at c.args.table.now in
+    let at = g.T.Table.at c.args.given.now.table.now in
     let r = answer_of meaning_of c.by_deficit.result in
-    let sizes = λ (n : ℕ). map (longest c.args.net.now c.args.place.0) (range_with_len 0 n) in
-    subst (λ x. Answers at (queue_service c.args.net.now c.args.place.0 q x) r) (kind g here _ (ap views.discipline_of c.in-Drr.is))
+    let sizes = λ (n : ℕ). map (longest c.args.given.now.net.now c.args.place.0) (range_with_len 0 n) in
+    subst (λ x. Answers at (queue_service c.args.given.now.net.now c.args.place.0 q x) r) (kind g here _ (ap views.discipline_of c.in-Drr.is))
     (subst (λ h. Answers at (deficit h c.in-Drr.quanta.items (sizes (length c.in-Drr.quanta.items)) q) r) (own g here)
     (subst (λ zs. Answers at (deficit c.in-Some.found.now.service zs (sizes (length zs)) q) r) c.deref.ensures.value
     (c.by_deficit.ensures.answer at)))
@@ -105,8 +105,8 @@ returns-in-Drr-clause-refused g c =
     let q = c.args.place.1 in
     let counted = c.by_deficit.new.steps - c.args.steps.now in
     let refused = IfErr c.by_deficit.result in
-    let sizes = λ (n : ℕ). map (longest c.args.net.now c.args.place.0) (range_with_len 0 n) in
-    subst (λ x. refused (λ fault. RefusedAt (g.T.Table.at c.args.table.now) (queue_service c.args.net.now c.args.place.0 q x) fault counted))
+    let sizes = λ (n : ℕ). map (longest c.args.given.now.net.now c.args.place.0) (range_with_len 0 n) in
+    subst (λ x. refused (λ fault. RefusedAt (g.T.Table.at c.args.given.now.table.now) (queue_service c.args.given.now.net.now c.args.place.0 q x) fault counted))
     (kind g here _ (ap views.discipline_of c.in-Drr.is))
     (subst (λ h. refused (λ fault. DrrRefused h c.in-Drr.quanta.items (sizes (length c.in-Drr.quanta.items)) q fault counted)) (own g here)
     (subst (λ zs. refused (λ fault. DrrRefused c.in-Some.found.now.service zs (sizes (length zs)) q fault counted))
