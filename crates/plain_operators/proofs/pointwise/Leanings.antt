@@ -1,7 +1,7 @@
 -- Lines of a curve's own rate that it lies under, or over: step by step over a period of its own, and so ever after; and how
 -- many periods are enough by them.
-use Rattle.std.specs.Prelude.{◌≡◌, ℕ, pos, [], ◌∷◌, Option, Some, None, IfSome}
-use Rattle.std.proofs.Common.{arith, sym, ap, ap₂, ◌∙◌, refl, subst, inl, inr}
+use Rattle.std.specs.Prelude.{◌≡◌, ℕ, pos, [], ◌∷◌, Option, Some, None}
+use Rattle.std.proofs.Common.{arith, sym, ap, ap₂, ◌∙◌, subst, inl, inr}
 use Rattle.std.proofs.lemmas.Bool.{cases_lt}
 use Rattle.upp_limits.specs.rational.specs.Rational.{ℚ, ◌+ℚ◌, ◌-ℚ◌, ◌*ℚ◌, ◌/ℚ◌, ◌≤ℚ◌, ◌<ℚ◌, int}
 use Rattle.upp_limits.specs.rational.specs.Grid.{Whole}
@@ -10,7 +10,7 @@ use Rattle.upp_limits.specs.rational.specs.Whole.{periods}
 use Rattle.upp_limits.specs.rational.specs.Line.{line_at as line_of}
 use Rattle.upp_limits.specs.rational.specs.MinMax.{max_q, min_q}
 use Rattle.upp_limits.specs.rational.specs.Extended.{Ext, ◌≤ₑ◌, ◌<ₑ◌, ◌+ₑ◌}
-use Rattle.upp_limits.specs.rational.specs.declared.Extended.TheVariants.{Fin, Inf}
+use Rattle.upp_limits.specs.rational.specs.declared.Extended.TheVariants.{Fin}
 use Rattle.upp_limits.specs.rational.proofs.Linear.{with_atoms, with2, with3, with4, with5}
 use Rattle.upp_limits.specs.rational.proofs.Laws.{le_refl, le_trans, le_of_lt, lt_cases, mul_add, sub_mul, mul_nonneg, mul_le_mul, zero_mul}
 use Rattle.upp_limits.specs.rational.proofs.Integers.{nat_nonneg}
@@ -21,7 +21,7 @@ use Rattle.upp_limits.specs.rational.proofs.Stretch.{line_supremum}
 use Rattle.upp_limits.specs.rational.proofs.ExtendedOrder.{le_ext_trans, add_le_ext, le_ext_refl}
 use Rattle.upp_limits.proofs.CommonDen.{size_up_within}
 use Rattle.upp_limits.specs.upp_curve.specs.declared.affine_segment.line.Line.{Line}
-use Rattle.upp_limits.specs.upp_curve.specs.affine_segment.Values.{line_at, line_value}
+use Rattle.upp_limits.specs.upp_curve.specs.affine_segment.Values.{line_value}
 use Rattle.upp_limits.specs.upp_curve.specs.Curve.{SpecCurve, value_at}
 use Rattle.upp_limits.specs.upp_curve.specs.Steady.{Repeats, rate, rise_over}
 use Rattle.upp_limits.specs.Limits.{Sizes}
@@ -36,14 +36,12 @@ use Rattle.curve_call.specs.Gaps.{InWindow, IsGap}
 use Rattle.curve_call.specs.GapSteps.{earlier_of, IsUntil}
 use Rattle.curve_call.specs.Compared.{AreCompared, IsLookedAt}
 use Rattle.curve_call.specs.Bounds.{AreBounds, own_or}
-use Rattle.curve_call.specs.declared.bounds.Bounds.{Bounds}
 use Rattle.curve_call.proofs.GapParts.{before_next}
 use Rattle.curve_call.proofs.GapWalk.{earlier_past, earlier_high}
 use Rattle.curve_call.proofs.Shifts.{later_value}
 use Rattle.curve_call.proofs.MostAbove.{own_repeats, rates_order, times_rate}
 use Rattle.curve_call.proofs.OwnPeriods.{own_period_is, own_looked, looked_window, first_looked, second_looked}
 use Rattle.curve_call.proofs.RateRises.{rate_rise}
-use Rattle.curve_call.proofs.EitherOrder.{IsEnough}
 use Rattle.curve_call.proofs.GapThere.{gap_there}
 use Rattle.curve_call.proofs.LeastNumber.{IsBelowAfter, compared_window, largest_finite, lead_is, least_none, least_endless, least_gap}
 use Rattle.curve_call.proofs.BoundedNumber.{least_found}
