@@ -43,6 +43,17 @@ def star(sources, queues, discipline):
     return tables(ports, links)
 
 
+def nearly_full(sources):
+    """So many ports of links that are served first, each of a pace little above its load, and so many of the other links of one port, which are hardly slower
+    than each of the services that are left: so each of these is held to 4,096 jumps."""
+    paces = [(0.4505 + 0.009 * (n % 97) / 97) * 1000 / sources for n in range(sources)]
+    ports = [f"a{n},{pace:.6f},0,0,priority 2" for n, pace in enumerate(paces)] + [f"b{n},100,0,0,priority 2" for n in range(sources)]
+    gaps = [0.512 * sources / (load * 1000) for load in (0.45, 0.539)]
+    first = [f"u{n},{gaps[0]:.6f},44,{n * 37 % 5000},0,a{n} last" for n in range(sources)]
+    rest = [f"v{n},{gaps[1]:.6f},44,{n * 53 % 7000},1,b{n} last" for n in range(sources)]
+    return tables([*ports, "last,1000,0,0,priority 2"], first + rest)
+
+
 def chain():
     """16,384 links along the same 64 ports."""
     ports = [f"{base36(n)},1000000,0,0," for n in range(64)]
@@ -80,6 +91,8 @@ TABLES = {
     "500 ports into one of 8 quanta": lambda: star(500, 8, QUANTA),
     "1,000 ports into one of 8 quanta": lambda: star(1_000, 8, QUANTA),
     "2,047 ports into one of 8 quanta": lambda: star(2_047, 8, QUANTA),
+    "300 and 300 ports into one that is nearly full": lambda: nearly_full(300),
+    "600 and 600 ports into one that is nearly full": lambda: nearly_full(600),
 }
 
 

@@ -10,7 +10,9 @@ const SECOND: u128 = 1_000_000_000_000;
 const GRAINS: u128 = 1024;
 const BURST_LIMIT: u128 = 1 << 58;
 const LINE_RATE_LIMIT: u128 = 1 << 64;
-const QUEUE_RATE_LIMIT: u128 = 1 << 61;
+const QUEUE_RATE_LIMIT: u128 = 1 << 50;
+const LATE: u128 = 1 << 62;
+const JUMP_LIMIT: u128 = 4096;
 const DELAY_LIMIT: u128 = 1 << 50;
 const NONE: u32 = u32::MAX;
 
@@ -102,13 +104,14 @@ struct Node {
     port: u32,
     queue: u8,
     above: u32,
-    line: Option<Line>,
+    jitter: Option<u128>,
     bound: Option<u128>,
 }
 
 struct Link<'a> {
     name: &'a str,
     frame: u128,
+    gap: u128,
     rate: u128,
     nodes: Vec<Node>,
 }
@@ -159,8 +162,9 @@ fn read_links<'a>(text: &'a str, ports: &[Port], overhead: u128) -> (Vec<Link<'a
         let at = |column| cell(&row, &head, column);
         let number = *known.entry(at("name")).or_insert_with(|| {
             let frame = (at("largest_frame").parse::<u128>().unwrap() + overhead) * 8;
-            let rate = up(frame * GRAINS * SECOND, Amount::parse(at("bag")).down(1_000_000_000));
-            links.push(Link { name: at("name"), frame, rate, nodes: Vec::new() });
+            let gap = Amount::parse(at("bag")).down(1_000_000_000);
+            let rate = up(frame * GRAINS * SECOND, gap);
+            links.push(Link { name: at("name"), frame, gap, rate, nodes: Vec::new() });
             links.len() as u32 - 1
         });
         let link = &mut links[number as usize];
@@ -172,8 +176,8 @@ fn read_links<'a>(text: &'a str, ports: &[Port], overhead: u128) -> (Vec<Link<'a
             let found = link.nodes.iter().position(|node| node.port == port);
             above = found.unwrap_or_else(|| {
                 let queue = if ports[port as usize].queues() == 1 { 0 } else { priority };
-                let line = if above == NONE { checked((link.frame * GRAINS + up(link.rate * jitter, SECOND), link.rate)) } else { None };
-                link.nodes.push(Node { port, queue, above, line, bound: None });
+                let jitter = if above == NONE { Some(jitter) } else { None };
+                link.nodes.push(Node { port, queue, above, jitter, bound: None });
                 link.nodes.len() - 1
             }) as u32;
         }
@@ -184,9 +188,16 @@ fn read_links<'a>(text: &'a str, ports: &[Port], overhead: u128) -> (Vec<Link<'a
 }
 
 // ---- one port
+struct Stair {
+    frame: u128,
+    gap: u128,
+    jitter: u128,
+}
+
 struct Part {
     total: Line,
     pace: Option<Line>,
+    stairs: Vec<Stair>,
 }
 
 struct Queue {
@@ -267,11 +278,99 @@ fn services(port: &Port, own: Line, queues: &[Queue], q: usize) -> Vec<Line> {
     found
 }
 
-fn promise(lines: &[Line], (rate, debt): Line, longest: u128) -> Option<(u128, u128)> {
-    let above = excess(lines, rate)?;
+// ---- stairs
+/// What a part brings until its next jump, at most its pace.
+type Level = (u128, Option<Line>);
+
+/// By how much the levels are above the rate at a time over / under in seconds, rounded up.
+fn ahead(levels: &[Level], rate: u128, over: u128, under: u128) -> u128 {
+    let height: u128 = levels
+        .iter()
+        .map(|&(level, pace)| pace.map_or(level * under, |pace| (level * under).min(pace.0 * under + pace.1 * over)))
+        .sum();
+    up(height.saturating_sub(rate * over), under)
+}
+
+/// The greatest excess from the one time to the other: there, and where a part turns from its pace to its level.
+fn greatest_between(levels: &[Level], rate: u128, begin: u128, end: u128) -> u128 {
+    let mut most = ahead(levels, rate, begin, SECOND).max(ahead(levels, rate, end, SECOND));
+    for &(level, pace) in levels {
+        if let Some(pace) = pace.filter(|pace| pace.0 < level && pace.1 > 0) {
+            let turn = (level - pace.0) * SECOND;
+            if begin * pace.1 < turn && turn < end * pace.1 {
+                most = most.max(ahead(levels, rate, level - pace.0, pace.1));
+            }
+        }
+    }
+    most
+}
+
+fn jumps_until(parts: &[Part], end: u128) -> u128 {
+    parts.iter().flat_map(|part| &part.stairs).map(|stair| (end + stair.jitter) / stair.gap - stair.jitter / stair.gap).sum()
+}
+
+fn walk(parts: &[Part], mut levels: Vec<Level>, rate: u128, end: u128) -> u128 {
+    let mut jumps = Vec::new();
+    for (place, part) in parts.iter().enumerate() {
+        for stair in &part.stairs {
+            let numbers = stair.jitter / stair.gap + 1..=(end + stair.jitter) / stair.gap;
+            jumps.extend(numbers.map(|number| (number * stair.gap - stair.jitter, place, stair.frame)));
+        }
+    }
+    jumps.sort_unstable_by_key(|jump| jump.0);
+    let (mut most, mut begin) = (0, 0);
+    for (time, place, frame) in jumps {
+        if time > begin {
+            most = most.max(greatest_between(&levels, rate, begin, time));
+            begin = time;
+        }
+        levels[place].0 += frame;
+    }
+    most.max(greatest_between(&levels, rate, begin, end))
+}
+
+/// A time from which on the lines are no further ahead than the levels are before.
+fn horizon(levels: &[Level], lines: &[Line], rate: u128) -> Option<u128> {
+    let down = |known: u128| {
+        let slower = lines.iter().filter(|line| line.1 < rate);
+        slower.map(|line| up(line.0.saturating_sub(known) * SECOND, rate - line.1)).min().filter(|&time| time < LATE)
+    };
+    let latest = down(ahead(levels, rate, 0, SECOND))?;
+    let turns = levels.iter().filter_map(|&(level, pace)| pace.filter(|pace| pace.0 < level && pace.1 > 0).map(|pace| (level, pace)));
+    let bend = turns.map(|(level, pace)| up((level - pace.0) * SECOND, pace.1)).max().unwrap_or(0).min(latest);
+    Some(down(greatest_between(levels, rate, 0, bend)).map_or(latest, |end| end.max(bend).min(latest)))
+}
+
+/// The last time before the limit with no more jumps before it than are walked over.
+fn last_walked(parts: &[Part]) -> u128 {
+    let (mut low, mut high) = (0, LATE - 1);
+    while low < high {
+        let middle = (low + high).div_ceil(2);
+        if jumps_until(parts, middle) <= JUMP_LIMIT {
+            low = middle;
+        } else {
+            high = middle - 1;
+        }
+    }
+    low
+}
+
+fn stair_excess(parts: &[Part], lines: &[Line], rate: u128) -> u128 {
+    let start = |stair: &Stair| stair.frame * (stair.jitter / stair.gap + 1);
+    let levels: Vec<Level> = parts.iter().map(|part| (part.stairs.iter().map(start).sum(), part.pace)).collect();
+    let end = horizon(&levels, lines, rate).filter(|&end| jumps_until(parts, end) <= JUMP_LIMIT);
+    let end = end.unwrap_or_else(|| last_walked(parts));
+    let slow = lines.iter().filter(|line| line.1 <= rate);
+    let later = slow.map(|line| up((line.0 * SECOND).saturating_sub((rate - line.1) * end), SECOND)).min().unwrap_or(0);
+    walk(parts, levels, rate, end).max(later)
+}
+
+fn promise(parts: &[Part], lines: &[Line], (rate, debt): Line, longest: u128) -> Option<(u128, u128)> {
+    let by_lines = excess(lines, rate)?;
     if rate == 0 {
         return None;
     }
+    let above = by_lines.min(stair_excess(parts, lines, rate));
     let waiting = debt + longest * GRAINS;
     let mut backlog = up(above + waiting, GRAINS);
     for line in lines.iter().filter(|line| line.1 <= rate) {
@@ -284,10 +383,11 @@ fn row(port: &Port, own: Line, queues: &[Queue], q: usize) -> Option<(u128, u128
     if queues[q].longest == 0 {
         return Some((0, 0));
     }
-    let lines = steps(&queues[q].parts.as_ref()?.iter().collect::<Vec<_>>());
+    let parts = queues[q].parts.as_ref()?;
+    let lines = steps(&parts.iter().collect::<Vec<_>>());
     let mut least: Option<(u128, u128)> = None;
     for service in services(port, own, queues, q) {
-        if let Some((delay, backlog)) = promise(&lines, service, queues[q].longest) {
+        if let Some((delay, backlog)) = promise(parts, &lines, service, queues[q].longest) {
             let (first, second) = least.unwrap_or((delay, backlog));
             least = Some((first.min(delay), second.min(backlog)));
         }
@@ -328,7 +428,7 @@ fn order(ports: usize, links: &[Link]) -> Vec<u32> {
 fn arrivals(ports: &[Port], links: &[Link], nodes: &[(u32, u32)], port: usize, group: &mut [u32]) -> Vec<Queue> {
     (0..ports[port].queues())
         .map(|q| {
-            let (mut parts, mut longest, mut rates, mut known) = (Vec::<(usize, Line, u128)>::new(), 0, 0, true);
+            let (mut parts, mut longest, mut rates, mut known) = (Vec::<(usize, Line, u128, Vec<Stair>)>::new(), 0, 0, true);
             for &(i, k) in nodes {
                 let link = &links[i as usize];
                 let node = &link.nodes[k as usize];
@@ -338,29 +438,31 @@ fn arrivals(ports: &[Port], links: &[Link], nodes: &[(u32, u32)], port: usize, g
                 let source = if node.above == NONE { ports.len() } else { link.nodes[node.above as usize].port as usize };
                 if group[source] == NONE {
                     group[source] = parts.len() as u32;
-                    parts.push((source, (0, 0), 0));
+                    parts.push((source, (0, 0), 0, Vec::new()));
                 }
                 let part = &mut parts[group[source] as usize];
-                if let Some(line) = node.line {
+                let line = node.jitter.and_then(|jitter| checked((link.frame * GRAINS + up(link.rate * jitter, SECOND), link.rate)));
+                if let (Some(line), Some(jitter)) = (line, node.jitter) {
                     part.1 = (part.1 .0 + line.0, part.1 .1 + line.1);
+                    part.3.push(Stair { frame: link.frame * GRAINS, gap: link.gap, jitter });
                 }
-                known &= node.line.is_some();
+                known &= line.is_some();
                 part.2 = part.2.max(link.frame);
                 longest = longest.max(link.frame);
                 rates += link.rate;
             }
-            let (mut bursts, mut paces) = (0, 0);
+            let (mut bursts, mut sums) = (0, 0);
             let parts: Vec<Part> = parts
                 .into_iter()
-                .map(|(source, total, frame)| {
+                .map(|(source, total, frame, stairs)| {
                     group[source] = NONE;
                     let pace = (source < ports.len()).then(|| (frame * GRAINS, ports[source].pace));
-                    bursts += total.0.max(pace.map_or(0, |line| line.0));
-                    paces += total.1.max(pace.map_or(0, |line| line.1));
-                    Part { total, pace }
+                    bursts += total.0;
+                    sums += total.1;
+                    Part { total, pace, stairs }
                 })
                 .collect();
-            let is_bounded = known && bursts < BURST_LIMIT && paces < QUEUE_RATE_LIMIT;
+            let is_bounded = known && bursts < BURST_LIMIT && sums < QUEUE_RATE_LIMIT;
             Queue { parts: is_bounded.then_some(parts), longest, rates }
         })
         .collect()
@@ -385,8 +487,8 @@ fn table(ports: &[Port], links: &mut [Link]) -> Vec<Vec<Row>> {
             if above != NONE {
                 let before = &link.nodes[above as usize];
                 let delay = rows[before.port as usize][before.queue as usize].0;
-                let line = before.line.zip(delay).and_then(|(line, (delay, _))| checked((line.0 + up(line.1 * delay, SECOND), line.1)));
-                link.nodes[k as usize].line = line;
+                let jitter = before.jitter.zip(delay).map(|(jitter, (delay, _))| jitter + delay);
+                link.nodes[k as usize].jitter = jitter.filter(|&jitter| jitter < LATE);
             }
         }
         let queues = arrivals(ports, links, &nodes[port], port, &mut group);
