@@ -183,7 +183,58 @@ CASES = {
     "stairs with a jitter of 10^9": ("analyse", stairs_pair("1", "3", 10**9), 7),
     "script: below stair(1, 1, 0), stair(1, 1048577, 0)": ("curve", "below stair(1, 1, 0), stair(1, 1048577, 0)\n", 7),
     "script: a gate's lesser with a gate": ("curve", "show min(gate(1, 1000, 250), gate(1, 1000001/1000, 250))\n", 7),
+    "script: a bend and a gate of nearly its rate": (
+        "curve",
+        "let a = conv(sum(gate(1000, 1000, 1), min(bucket(0, 8), bucket(500, 0))), gate(8396996609/8388608, 1001, 1))\n",
+        7,
+    ),
+    "script: a stair's lesser with a gate of another period": (
+        "curve", "rate min(shift(stair(11690711, 680291/596, 0), 17179869185/17179869184), gate(1/1024, 3/7, 3/28))\n", 7),
     "script: a closure of a closure": ("curve", "show close(conv(stair(1, 7, 0), stair(1, 11, 3)))\n", 0),
+}
+
+
+def one_gate(rate, cycle, slot, packet: int, arrival: str) -> str:
+    return server("s0", rate, gate(cycle, slot)) + flow("f0", arrival, ["s0"], packet)
+
+
+def packets(count: int, gap: int, bits: int) -> str:
+    return "".join(f"packet,{gap * number},f0,{bits}\n" for number in range(count))
+
+
+def odd_packets(count: int) -> str:
+    """Packets of 1 bit, 5,000 and 2^20, drawn once for all."""
+    drawn, time, rows = random.Random(1), 0, []
+    for _ in range(count):
+        time += drawn.randint(0, 3)
+        rows.append(f"packet,{time},f0,{drawn.choice([1, 2**20, 5000])}\n")
+    return "".join(rows)
+
+
+def worked_off(cycles: int) -> str:
+    """One packet that a gate of cycle 10 works off, a bit in each slot of 1/10."""
+    works = "".join(f"work,s0,0,{10 * turn},{100 * turn + 1}/10,1\n" for turn in range(cycles))
+    return f"enter,0,f0,{cycles}\n{works}leave,{100 * (cycles - 1) + 1}/10,s0,0\nend,{10 * cycles}\n"
+
+
+LARGE = 2**24
+STALL = "stall,s0,2000,2300\n"
+
+RUNS = {
+    # name: (words, files, wanted status)
+    "a gate, packets of 1 and 2^24 bits, one stall": ("simulate n t", {
+        "n": one_gate(96, 96, 32, LARGE, bucket(10**9, 1)), "t": f"packet,0,f0,1\npacket,1,f0,{LARGE}\n{STALL}"}, 9),
+    "a gate of 1 ms, a packet each ms for 10 s, a stall of 2 ms": ("simulate n t", {
+        "n": one_gate(1000, 1000, 250, 12000, bucket(12000, 12)), "t": packets(9_999, 1000, 12000) + "stall,s0,5000000,5002000\n"}, 9),
+    "a gate of 1 ms that each packet keeps busy, a stall of 2 ms": ("simulate n t", {
+        "n": one_gate(1000, 1000, 250, 1_200_000, bucket(12_000_000, 250)),
+        "t": packets(9_999, 1000, 249_000) + "stall,s0,5000000,5002000\n"}, 9),
+    "a gate, 40 odd packets, the first two crowded, a stall": ("simulate n t", {
+        "n": one_gate(96, 96, 32, LARGE, bucket(10, 1)), "t": odd_packets(40) + STALL}, 9),
+    "a gate, 84 odd packets, the first two crowded, a stall": ("simulate n t", {
+        "n": one_gate(96, 96, 32, LARGE, bucket(10, 1)), "t": odd_packets(84) + STALL}, 9),
+    "a lawful run, a bit a cycle for 4,000 cycles of a gate": ("check n r", {
+        "n": one_gate(10, 10, "1/10", 4000, bucket(4000, "1/100")), "r": worked_off(4000)}, 0),
 }
 
 
@@ -201,9 +252,9 @@ def run_files(program: str, words: list[str], files: dict[str, str], folder: Pat
     return ended, usage.ru_utime + usage.ru_stime, usage.ru_maxrss / 1024, said[0] if said else ""
 
 
-def run(program: str, word: str, text: str, seconds: int) -> tuple[str, float, float, str]:
+def run(program: str, words: list[str], files: dict[str, str], seconds: int) -> tuple[str, float, float, str]:
     with tempfile.TemporaryDirectory(prefix="hostile_") as folder:
-        return run_files(program, [word, "file"], {"file": text}, Path(folder), seconds)
+        return run_files(program, words, files, Path(folder), seconds)
 
 
 def limits(seconds: int) -> None:
@@ -219,11 +270,14 @@ def main() -> None:
     word = sys.argv[3] if len(sys.argv) > 3 else ""
     print(f"{'case':<64}{'bytes':>7}{'wanted':>8}{'came':>6}{'seconds':>9}{'MiB':>8}  line")
     tried = others = late = slow = 0
-    for name, (command, text, wanted) in CASES.items():
+    cases = [(name, [command, "file"], {"file": text}, wanted) for name, (command, text, wanted) in CASES.items()]
+    cases += [(name, words.split(), files, wanted) for name, (words, files, wanted) in RUNS.items()]
+    for name, words, files, wanted in cases:
         if word not in name:
             continue
-        came, time, memory, line = run(program, command, text, seconds)
-        print(f"{name:<64}{len(text):>7}{'?' if wanted is None else wanted:>8}{came:>6}{time:>9.2f}{memory:>8.0f}  {line}", flush=True)
+        came, time, memory, line = run(program, words, files, seconds)
+        size = sum(map(len, files.values()))
+        print(f"{name:<64}{size:>7}{'?' if wanted is None else wanted:>8}{came:>6}{time:>9.2f}{memory:>8.0f}  {line}", flush=True)
         tried += 1
         others += wanted is not None and came not in (str(wanted), "late")
         late += came == "late"

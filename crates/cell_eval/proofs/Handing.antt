@@ -7,7 +7,7 @@ use Rattle.upp_limits.specs.declared.op_kind.OpKind.{OpKind}
 use Rattle.upp_limits.specs.declared.op_kind.OpFault.{OpFault}
 use Rattle.upp_limits.specs.declared.op_kind.OpFault.TheVariants.{NoMemory}
 use Rattle.upp_limits.specs.upp_curve.specs.Curve.{SpecCurve, value_at}
-use Rattle.upp_limits.specs.declared.op_kind.OpKind.TheVariants.{PosMinus, Deconvolve, Vertical}
+use Rattle.upp_limits.specs.declared.op_kind.OpKind.TheVariants.{PosMinus, Vertical}
 use Rattle.upp_limits.specs.min_plus.specs.Functions.{IsFinite}
 use Rattle.upp_limits.specs.Outcome.{KeepsLimits}
 use Rattle.plain_operators.specs.curve_call.specs.Again.{IsAgain}
@@ -18,9 +18,7 @@ use Rattle.residuals.specs.calls.DrrCalls.{MakesDrr}
 use Rattle.net_cells.specs.declared.cell.Cell.{Cell}
 use Rattle.net_cells.specs.Meanings.{curve, number, CellTable}
 use Rattle.upp_limits.specs.min_plus.specs.Deviations.{IsVerticalDeviation}
-use Rattle.net_model.specs.run_laws.specs.Cards.{whole}
-use Rattle.net_cells.specs.Formulas.{value_of, made, vertical}
-use Rattle.net_cells.specs.CellFormulas.{less}
+use Rattle.net_cells.specs.Formulas.{Formula, value_of, vertical}
 use Rattle.net_cells.specs.cell_table.Gives.{Gives}
 use Rattle.net_cells.specs.Answers.{Answer, Answers, IsOnly, MakesCurve, MakesNumber, Deviates, ThenCurve, ThenNumber}
 use Rattle.net_cells.specs.cell_table.Values.{answer_of}
@@ -77,26 +75,14 @@ pub packets_finite : (f : SpecCurve) (l : ℚ) (r : Result SpecCurve OpFault) �
 packets_finite f l (Ok c) finite a = above_finite l f c finite a.made
 packets_finite f l (Err e) finite a = tt
 
-module _ (at : CellTable) (from service : Cell) (f s : SpecCurve) (bits : ℕ) where
-  pub spread_made : (k : SpecCurve) (r : Answer) → at from ≡ Some (curve f) → at service ≡ Some (curve s)
-      → AppliesTo (PosMinus (whole bits)) s (Ok k) → MakesCurve (Applies Deconvolve f k) r
-      → Answers at (made Deconvolve (value_of from) (less (value_of service) bits)) r
-  spread_made k r is by packets a = goes_on (curve f) is (goes_on (curve k) (goes_on (curve s) by packets) a)
+-- a deviation of a cell's curve from another formula's
+module _ (at : CellTable) (from : Cell) (G : Formula) (f : SpecCurve) (is : at from ≡ Some (curve f)) where
+  pub backlog_made : (k : SpecCurve) (r : Answer) → Answers at G (Ok (curve k)) → MakesNumber (Deviates Vertical IsVerticalDeviation f k) r
+      → Answers at (vertical (value_of from) G) r
+  backlog_made k r q a = goes_on (curve f) is (goes_on (curve k) q a)
 
-  pub spread_refused : (fault : OpFault) → at from ≡ Some (curve f) → at service ≡ Some (curve s)
-      → AppliesTo (PosMinus (whole bits)) s (Err fault)
-      → Answers at (made Deconvolve (value_of from) (less (value_of service) bits)) (Err fault)
-  spread_refused fault is by packets = goes_on (curve f) is (stops fault (goes_on (curve s) by packets) refl)
-
-  pub backlog_made : (k : SpecCurve) (r : Answer) → at from ≡ Some (curve f) → at service ≡ Some (curve s)
-      → AppliesTo (PosMinus (whole bits)) s (Ok k) → MakesNumber (Deviates Vertical IsVerticalDeviation f k) r
-      → Answers at (vertical (value_of from) (less (value_of service) bits)) r
-  backlog_made k r is by packets a = goes_on (curve f) is (goes_on (curve k) (goes_on (curve s) by packets) a)
-
-  pub backlog_refused : (fault : OpFault) → at from ≡ Some (curve f) → at service ≡ Some (curve s)
-      → AppliesTo (PosMinus (whole bits)) s (Err fault)
-      → Answers at (vertical (value_of from) (less (value_of service) bits)) (Err fault)
-  backlog_refused fault is by packets = goes_on (curve f) is (stops fault (goes_on (curve s) by packets) refl)
+  pub backlog_refused : (fault : OpFault) → Answers at G (Err fault) → Answers at (vertical (value_of from) G) (Err fault)
+  backlog_refused fault q = goes_on (curve f) is (stops fault q refl)
 
 -- ---- a curve once more
 pub again_given : (at : CellTable) (c : Cell) (f : SpecCurve) (r : Answer) → at c ≡ Some (curve f) → MakesCurve (IsAgain f) r

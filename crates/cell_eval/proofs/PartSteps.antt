@@ -1,6 +1,6 @@
 -- The parts of a queue, made one after the other.
 use Rattle.std.proofs.Common.{◌≡◌, ℕ, zero, suc, ◌<◌, ◌≤◌, ◌+◌, ◌-◌, List, [], ◌∷◌, ◌++◌, length, map, refl, sym, ap, ◌∙◌, subst, arith, append_assoc, append-nil, length-append, map-id}
-use Rattle.std.specs.Prelude.{All, Some, Ok, Err, OnOk}
+use Rattle.std.specs.Prelude.{All, Some, Result, Ok, Err, IfErr, OnOk}
 use Rattle.std.specs.List.{range_with_len}
 use Rattle.std.proofs.lemmas.List.{map-append, length-map}
 use Rattle.std.proofs.lemmas.List.Concat.{flat_map-append}
@@ -34,9 +34,10 @@ use Rattle.cell_eval.proofs.Choosing.{map_front}
 use Rattle.cell_eval.specs.declared.curve_sums.Partial.{Partial}
 use Rattle.cell_eval.specs.declared.curve_sums.Partial.TheVariants.{Nothing, One, Made}
 use Rattle.cell_eval.specs.Evaluates.{Counts}
-use Rattle.cell_eval.specs.Partial.{IsPartial, IsReady, FailsAt, Adds}
+use Rattle.cell_eval.specs.Partial.{IsPartial, IsReady, IsSummed, FailsAt, Adds}
 use Rattle.cell_eval.specs.Parts.{curve_in, curve_of, IsHeld, IsPartOf, MakesPart, part_work, kept, AreMade, AreRefused}
 use Rattle.cell_eval.specs.TableValues.{IsCurveAt}
+use Rattle.cell_eval.proofs.OperatorStopping.{err_map}
 use Rattle.cell_eval.proofs.SumSteps.{failed_answer}
 
 -- ---- one part
@@ -109,6 +110,24 @@ summed_operators net s q k old mid at p a =
     let count = a.1 in
     let e = terms (map (at_visit In) (in_part net s q k)) in
     omega (arith, count, e)
+
+-- a sum that is made and then cut: where the cut is refused, the sum's own operators are counted too
+pub cut_refused : (net : Net) (s q k : ℕ) (at : CellTable) (p : Partial) (f : SpecCurve) (mid new : ℕ) (r : Result Partial OpFault) → mid ≤ new
+    → ((old : ℕ) → Adds at [] (map (at_visit In) (in_part net s q k)) old mid (Ok p) → IsSummed at (map (at_visit In) (in_part net s q k)) f)
+    → IfErr r (λ e. (now : CellTable) → Answers now (sum_of_hops (in_part net s q k)) (Ok (curve f))
+    → RefusedAt now (part_sum net k (in_part net s q k)) e (operators (sum_of_hops (in_part net s q k)) + (new - mid)))
+    → IfErr r (λ e. (old : ℕ) → Adds at [] (map (at_visit In) (in_part net s q k)) old mid (Ok p)
+    → RefusedAt at (part_sum net k (in_part net s q k)) e (new - old))
+cut_refused net s q k at p f mid new r least summed refused =
+    let hops = in_part net s q k in
+    err_map r
+    (λ e. (now : CellTable) → Answers now (sum_of_hops hops) (Ok (curve f))
+    → RefusedAt now (part_sum net k hops) e (operators (sum_of_hops hops) + (new - mid)))
+    (λ e. (old : ℕ) → Adds at [] (map (at_visit In) hops) old mid (Ok p) → RefusedAt at (part_sum net k hops) e (new - old))
+    (λ e cut old a.
+    let own = summed_operators net s q k old mid at p a in
+    let count : operators (sum_of_hops hops) + (new - mid) ≡ new - old = omega (arith, own, least) in
+    subst (λ n. RefusedAt at (part_sum net k hops) e n) count (cut at (summed old a).answers)) refused
 
 part_operators : (net : Net) (k : ℕ) (vs : List Visit) → 1 ≤ length vs → operators (part_sum net k vs) ≡ length vs - 1 + link_part k vs
 part_operators net k [] some = absurd (omega (arith, some))

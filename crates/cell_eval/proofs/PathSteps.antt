@@ -2,6 +2,7 @@
 use Rattle.std.proofs.Common.{◌≡◌, ℕ, zero, suc, ◌+◌, ◌-◌, ◌*◌, ◌≤◌, refl, sym, ◌∙◌, subst, arith, inl, inr}
 use Rattle.std.specs.Prelude.{Some, Result, Ok, Err}
 use Rattle.std.proofs.lemmas.Bool.{cases_lt}
+use Rattle.upp_limits.specs.declared.op_kind.OpKind.{OpKind}
 use Rattle.upp_limits.specs.declared.op_kind.OpKind.TheVariants.{PosMinus, Convolve}
 use Rattle.upp_limits.specs.declared.op_kind.OpFault.{OpFault}
 use Rattle.upp_limits.specs.upp_curve.specs.Curve.{SpecCurve}
@@ -30,13 +31,13 @@ pub less_answer : (at : CellTable) (c : Cell) (f : SpecCurve) (bits : ℕ) (r : 
     → AppliesTo (PosMinus (whole bits)) f r → Answers at (less (value_of c) bits) (answer_of curve r)
 less_answer at c f bits r is a = goes_on (curve f) is (made_answer (AppliesTo (PosMinus (whole bits)) f) r a)
 
-pub joined_answer : (at : CellTable) (F G : Formula) (f g : SpecCurve) (r : Answer) → Answers at F (Ok (curve f)) → Answers at G (Ok (curve g))
-    → MakesCurve (Applies Convolve f g) r → Answers at (made Convolve F G) r
-joined_answer at F G f g r p q a = goes_on (curve f) p (goes_on (curve g) q a)
+pub joined_answer : (at : CellTable) (F G : Formula) (op : OpKind) (f g : SpecCurve) (r : Answer) → Answers at F (Ok (curve f))
+    → Answers at G (Ok (curve g)) → MakesCurve (Applies op f g) r → Answers at (made op F G) r
+joined_answer at F G op f g r p q a = goes_on (curve f) p (goes_on (curve g) q a)
 
-pub second_fails : (at : CellTable) (F G : Formula) (f : SpecCurve) (fault : OpFault) → Answers at F (Ok (curve f)) → Answers at G (Err fault)
-    → Answers at (made Convolve F G) (Err fault)
-second_fails at F G f fault p q = goes_on (curve f) p (stops fault q refl)
+pub second_fails : (at : CellTable) (F G : Formula) (op : OpKind) (f : SpecCurve) (fault : OpFault) → Answers at F (Ok (curve f))
+    → Answers at G (Err fault) → Answers at (made op F G) (Err fault)
+second_fails at F G op f fault p q = goes_on (curve f) p (stops fault q refl)
 
 pub first_fails : (at : CellTable) (F G : Formula) (fault : OpFault) → Answers at F (Err fault) → Answers at (made Convolve F G) (Err fault)
 first_fails at F G fault p = stops fault p refl
@@ -86,12 +87,6 @@ last_formula P net i n h e p =
     let step : P (served_to net i (suc n)) =
     subst (λ m. P (made Convolve (packets_to net i n) (value_of (cell_of Residual i m)))) one p in
     subst (λ m. P (served_to net i m)) (sym (e ∙ one)) step
-
-pub first_packets : (at : CellTable) (net : Net) (i bits : ℕ) (f : SpecCurve) (r : Result SpecCurve OpFault)
-    → at (cell_of Residual i 0) ≡ Some (curve f) → bits ≡ packet net i → AppliesTo (PosMinus (whole bits)) f r
-    → Answers at (packets_to net i 0) (answer_of curve r)
-first_packets at net i bits f r is e a =
-    subst (λ b. Answers at (less (value_of (cell_of Residual i 0)) b) (answer_of curve r)) e (less_answer at (cell_of Residual i 0) f bits r is a)
 
 pub next_packets : (at : CellTable) (net : Net) (i n bits : ℕ) (r : Answer) → bits ≡ packet net i
     → Answers at (made Convolve (packets_to net i n) (less (value_of (cell_of Residual i (n + 1))) bits)) r

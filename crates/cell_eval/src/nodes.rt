@@ -1,17 +1,16 @@
 //! What operators make of the values of cells.
 
 ghost use Rattle.std.specs.Prelude.{◌≡◌, ◌+◌, ◌-◌, ◌≤◌, IfOk, IfErr};
-ghost use Rattle.upp_limits.specs.declared.op_kind.OpKind.TheVariants.{Min, PosMinus, Deconvolve};
+ghost use Rattle.upp_limits.specs.declared.op_kind.OpKind.TheVariants.{Min, Deconvolve};
 ghost use Rattle.upp_limits.specs.upp_curve.specs.Curve.{value_at};
 ghost use Rattle.upp_limits.specs.min_plus.specs.Functions.{IsNonneg, IsFinite};
-ghost use Rattle.net_model.specs.run_laws.specs.Cards.{whole};
-ghost use Rattle.plain_operators.specs.curve_call.specs.Calls.{AppliesTo};
-ghost use Rattle.net_cells.specs.Meanings.{number};
+ghost use Rattle.net_cells.specs.Meanings.{curve, number};
 ghost use Rattle.net_cells.specs.Formulas.{value_of, made, moved, leftover, horizontal, vertical};
 ghost use Rattle.net_cells.specs.CellFormulas.{less};
 ghost use Rattle.net_cells.specs.Answers.{Answers};
 ghost use Rattle.net_cells.specs.Refusals.{RefusedAt};
 ghost use Rattle.net_cells.specs.cell_table.Values.{answer_of, meaning_of};
+ghost use Rattle.cell_eval.specs.Evaluates.{Counts};
 ghost use Rattle.cell_eval.specs.Shapes.{Rises, Serving};
 ghost use Rattle.cell_eval.specs.TableValues.{HasCurve, HasNumber, IsCurveAt, Deviate};
 
@@ -32,6 +31,7 @@ use steps::Steps;
 use upp_limits::OpFault;
 use upp_limits::fraction128::{Ext, Frac};
 use upp_limits::upp_curve::Curve;
+
 /// The horizontal deviation of a cell's curve, which rises, and another's, which serves. One step is counted; refused
 /// only where that call is over a limit.
 pub fn delay_between<T: Table<Value>, L: Ledger>(
@@ -116,19 +116,21 @@ pub fn lesser<T: Table<Value>, L: Ledger>(
     shared(alloc, made)
 }
 
-/// A service less one packet.
-pub fn in_packets<L: Ledger>(
+/// A cell's service less one packet.
+pub fn in_packets<T: Table<Value>, L: Ledger>(
     alloc: Global,
-    service: &Curve,
+    table: &T,
+    service: Cell,
     bits: u32,
     steps: &mut Steps<L>,
 ) -> Result<Curve, OpFault>
-    requires { IsFinite (value_at service.now) }
-    ensures answer { AppliesTo (PosMinus (whole bits)) service.now result }
+    requires { HasCurve (T.at table.now) service Serving }
+    ensures answer { Answers (T.at table.now) (less (value_of service) bits) (answer_of curve result) }
+    ensures refused { IfErr result (λ fault. RefusedAt (T.at table.now) (less (value_of service) bits) fault 1) }
     ensures finite { IfOk result (λ c. IsFinite (value_at c)) }
     ensures count { steps.new ≡ steps.old + 1 }
 {
-    packetised(alloc, service, whole(bits), steps)
+    packetised(alloc, curve_at(table, service), whole(bits), steps)
 }
 
 /// With what curve one goes on that comes with a cell's curve and is served in whole packets by another's.
@@ -146,12 +148,10 @@ pub fn spread<T: Table<Value>, L: Ledger>(
         (answer_of meaning_of result) }
     ensures refused { IfErr result (λ fault. RefusedAt (T.at table.now)
         (made Deconvolve (value_of from) (less (value_of service) bits)) fault (steps.new - steps.old)) }
-    ensures all { IfOk result (λ _. steps.new ≡ steps.old + 2) }
-    ensures least { steps.old ≤ steps.new }
-    ensures most { steps.new ≤ steps.old + 2 }
+    ensures counts { Counts 2 steps.old steps.new (answer_of meaning_of result) }
 {
     let from = curve_at(table, from);
-    match in_packets(alloc, curve_at(table, service), bits, steps) {
+    match in_packets(alloc, table, service, bits, steps) {
         Ok(packets) => {
             let made = intact(deconvolve(alloc, from, &packets, steps));
             shared(alloc, made)
@@ -175,12 +175,10 @@ pub fn backlog<T: Table<Value>, L: Ledger>(
         (answer_of number result) }
     ensures refused { IfErr result (λ fault. RefusedAt (T.at table.now)
         (vertical (value_of from) (less (value_of service) bits)) fault (steps.new - steps.old)) }
-    ensures all { IfOk result (λ _. steps.new ≡ steps.old + 2) }
-    ensures least { steps.old ≤ steps.new }
-    ensures most { steps.new ≤ steps.old + 2 }
+    ensures counts { Counts 2 steps.old steps.new (answer_of number result) }
 {
     let from = curve_at(table, from);
-    match in_packets(alloc, curve_at(table, service), bits, steps) {
+    match in_packets(alloc, table, service, bits, steps) {
         Ok(packets) => vertical(from, &packets, steps),
         Err(fault) => Err(fault),
     }

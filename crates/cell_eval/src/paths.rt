@@ -58,7 +58,7 @@ fn with_hop<T: Table<Value>, L: Ledger>(
         (operators F + (steps.new - steps.old))) }
     ensures counts { Counts 2 steps.old steps.new (answer_of curve result) }
 {
-    match in_packets(alloc, curve_at(table, cell), bits, steps) {
+    match in_packets(alloc, table, cell, bits, steps) {
         Ok(next) => intact(convolve(alloc, so_far, &next, steps)),
         Err(fault) => Err(fault),
     }
@@ -80,8 +80,7 @@ fn to_hop<T: Table<Value>, L: Ledger>(
     ensures counts { Counts (2 * last + 1) steps.old steps.new (answer_of curve result) }
 {
     let bits = packet(net, flow);
-    let first = residual!(flow, 0);
-    let mut so_far = match in_packets(alloc, curve_at(table, first), bits, steps) {
+    let mut so_far = match in_packets(alloc, table, residual!(flow, 0), bits, steps) {
         Ok(made) => made,
         Err(fault) => return Err(fault),
     };

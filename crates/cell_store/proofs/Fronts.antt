@@ -31,7 +31,7 @@ use Rattle.cell_rules.specs.cell_changes.Laws.{AgreeAtUntouched}
 use Rattle.cell_rules.specs.cell_changes.Slots.{HasSlot}
 use Rattle.cell_rules.proofs.cell_changes.HasSlots.{slots_are_own}
 use Rattle.cell_rules.proofs.cell_changes.CarriedOver.{not_both, answered_on, rule_of}
-use Rattle.cell_store.specs.Edits.{AllAnswered, IsFirst, IsFirstTouched, RefusesFor, SameButAt, EndsAtTouched}
+use Rattle.cell_store.specs.Edits.{AllAnswered, IsEditOf, IsFirst, IsFirstTouched, RefusesFor, SameButAt, EndsAtTouched}
 
 -- ---- touched cells
 -- every one of the touched cells is touched
@@ -114,13 +114,20 @@ module _ (old net : Net) (order : List ℕ) (before at : CellTable) (all : AllAn
   to_end front _ _ e split (taken d cells ts t p) h = absurd (let bad : ⊥ = cc in bad)
 
 -- ---- at a place of the touched cells
-pub next_at : (old net : Net) (order : List ℕ) (before at : CellTable) (touched : List Cell) (i : ℕ) → AllAnswered old before
+next_at : (old net : Net) (order : List ℕ) (before at : CellTable) (touched : List Cell) (i : ℕ) → AllAnswered old before
     → AgreeAtUntouched old net before at → i < length touched → Reached old net order at touched i
     → Next old net order at touched i
 next_at old net order before at touched i all same h r =
     let cons : drop i touched ≡ cell_at touched i ∷ drop (i + 1) touched =
     drop-cons touched i no_cell h ∙ ap (λ (n : ℕ). cell_at touched i ∷ drop n touched) (sym (add-one i)) in
     to_next old net order before at all same touched i r.front r.back (drop i touched) cons r.split r.are r.answers r.inside
+
+-- so of an edit, where the other cells still are as they were
+pub next_of : {net : Net} {touched : List Cell} {i : ℕ} {before at : CellTable} (edit : IsEditOf net touched before) → i < length touched
+    → SameButAt touched before at → Reached edit.old net edit.order at touched i → Next edit.old net edit.order at touched i
+next_of {net} {touched} {i} {before} {at} edit h same reached =
+    next_at edit.old net edit.order before at touched i edit.answered
+    (same_untouched edit.old net (evaluation_order net edit.order) touched before at edit.are same) h reached
 
 -- the next cell made
 pub made_at : (old net : Net) (order : List ℕ) (at more : CellTable) (touched : List Cell) (i : ℕ) (v : Meaning)
@@ -188,7 +195,7 @@ refused old net order at touched i fault fault_is e h o n gives =
     (why old net order at touched i fault (i, h, get_or_default touched i (cell_at touched i) no_cell h) o n gives)
 
 -- ---- what the next cell needs
-module _ (old net : Net) (order : List ℕ) (at : CellTable) (touched : List Cell) (i : ℕ) (a : IsAccepted net) (o : IsOrder net order)
+module _ {old net : Net} {order : List ℕ} {at : CellTable} {touched : List Cell} {i : ℕ} (a : IsAccepted net) (o : IsOrder net order)
     (n : Next old net order at touched i) where
   pub next_is_cell : has_cell net (cell_at touched i) ≡ true
   next_is_cell = in_front net order n.front (cell_at touched i) n.back n.split

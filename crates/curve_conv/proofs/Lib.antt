@@ -22,6 +22,7 @@ pub mod LateEnough
 pub mod BoundsFound
 pub mod RisesFound
 pub mod SoonEnough
+pub mod OwnMoves
 pub mod OwnExtremes
 pub mod ConvolveCalls
 pub mod ConvolveAnswers

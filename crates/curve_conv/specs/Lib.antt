@@ -7,3 +7,4 @@ pub mod PartGaps
 pub mod SpanElements
 pub mod ConvolveCall
 pub mod Rises
+pub mod Moves

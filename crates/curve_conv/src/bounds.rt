@@ -7,6 +7,7 @@ ghost use Rattle.curve_conv.specs.Late.{IsLateAfter, IsLateCall, IsPartsCall};
 ghost use Rattle.curve_conv.specs.LateBounds.{IsLateBounds, IsSlowerBounds};
 
 use crate::extremes::{extremes_of, most_gap, rest};
+use crate::moved::own_periods_suffice;
 use crate::number::lead;
 use crate::order::is_slower_curve;
 use crate::rises::rise_before;
@@ -14,6 +15,9 @@ use crate::rows::Scan;
 use plain_operators::curve_call::{Bounds, Side, begin, is_slower, rise_over, zero_level};
 use upp_limits::fraction128::{Frac, is_less};
 use upp_limits::upp_curve::Curve;
+
+/// So many pieces of the slower curve are looked at over a common period; of one that has more, nothing is told.
+const MOST_PIECES: u32 = 262144;
 
 /// A number n of periods with the gap at most n + 1 times the lead; none where the gap over the lead does not fit.
 pub fn periods_over(gap: Frac, lead: Frac) -> Option<u128>
@@ -40,7 +44,7 @@ fn soon_number(s: &Scan, first: Frac, lead: Frac, from: Frac, period: Frac) -> O
     ensures { IfSome result (IsLateAfter s.now.first.now s.now.second.now from period) }
 {
     let rise = rise_over(s.first, period);
-    let most = rise_before(s.first, first, period, rise)?;
+    let most = rise_before(s.first, first, period, rise, MOST_PIECES)?;
     if !is_less(rise_over(s.second, period), most) {
         return Some(0);
     }
@@ -67,7 +71,16 @@ fn far_number(s: &Scan, first: Frac, lead: Frac, from: Frac, period: Frac) -> Op
     periods_over(gap, lead)
 }
 
-// A number of periods that is enough: the first of both that is found.
+// Whether a number is there, and is 0.
+fn is_zero(number: &Option<u128>) -> bool {
+    match number {
+        Some(n) => *n == 0,
+        None => false,
+    }
+}
+
+// A number of periods that is enough: 0 where a move by a common period tells it, or one by some periods of the faster
+// curve's own; else the first of both that is found.
 fn enough_number(s: &Scan, first: Frac, lead: Frac, from: Frac, period: Frac) -> Option<u128>
     requires call { IsLateCall s.now.first.now s.now.second.now from period s.now.end }
     requires first { first ≡ steady s.now.first.now }
@@ -75,7 +88,14 @@ fn enough_number(s: &Scan, first: Frac, lead: Frac, from: Frac, period: Frac) ->
     requires some { int (pos 0) <ℚ lead }
     ensures { IfSome result (IsLateAfter s.now.first.now s.now.second.now from period) }
 {
-    match soon_number(s, first, lead, from, period) {
+    let soon = soon_number(s, first, lead, from, period);
+    if is_zero(&soon) {
+        return soon;
+    }
+    if own_periods_suffice(s, first, from, period) {
+        return Some(0);
+    }
+    match soon {
         Some(number) => Some(number),
         None => far_number(s, first, lead, from, period),
     }
@@ -101,10 +121,10 @@ fn bounds_of(s: &Scan, from: Frac, period: Frac) -> Option<Bounds>
 
 /// Bounds of what `late_periods` looks for; 0 and 0 for curves of one rate, and for a slower one that repeats from 0 on.
 /// As many periods as the upper one are enough too. It is found from how much more the slower curve is a period later
-/// than before it repeats, where the faster one rises as much in a period, or the slower one repeats within a period;
-/// not where it has very many pieces there. Else it is found from one period of each curve and what the slower one is
-/// before; then there may be none where the slower one falls in the long run or is infinite in its period, or the
-/// faster one is infinite where its period begins. No memory is taken, and nothing is unrolled.
+/// than before it repeats, where the faster one rises as much in a period, or in some of its own, or the slower one
+/// repeats within a period; not where it has very many pieces there. Else it is found from one period of each curve and
+/// what the slower one is before; then there may be none where the slower one falls in the long run or is infinite in
+/// its period, or the faster one is infinite where its period begins. No memory is taken, and nothing is unrolled.
 pub fn late_bounds(f: &Curve, g: &Curve, from: Frac, period: Frac, end: Frac) -> Option<Bounds>
     requires { IsPartsCall f.now g.now from period end }
     ensures { IfSome result (IsSlowerBounds f.now g.now from period) }

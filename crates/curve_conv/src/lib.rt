@@ -9,6 +9,7 @@ mod extremes;
 mod gaps;
 mod lower;
 mod made;
+mod moved;
 mod number;
 mod operator;
 mod order;

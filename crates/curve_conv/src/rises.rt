@@ -16,9 +16,6 @@ use upp_limits::upp_curve::Curve;
 use upp_limits::upp_curve::affine_segment::{Line, value};
 use upp_normal::stretch_at;
 
-/// So many steps are looked at; of a curve that has more, nothing is told.
-const MOST_STEPS: u32 = 262144;
-
 /// How far a curve was looked at.
 #[derive(Debug, Clone, Copy)]
 pub(crate) struct Looked {
@@ -111,9 +108,15 @@ fn step(c: &Curve, looked: Looked, first: Frac, period: Frac) -> Option<Looked>
 }
 
 /// A number that a curve is nowhere before `first` more than above itself a period earlier: the least that is `least`
-/// or more. None where a period later it is infinite and it is not, where there are very many pieces on the way, or
-/// where a number on the way does not fit.
-pub(crate) fn rise_before(c: &Curve, first: Frac, period: Frac, least: Frac) -> Option<Frac>
+/// or more. None where a period later it is infinite and it is not, where there are more than `pieces` pieces on the
+/// way, or where a number on the way does not fit.
+pub(crate) fn rise_before(
+    c: &Curve,
+    first: Frac,
+    period: Frac,
+    least: Frac,
+    pieces: u32,
+) -> Option<Frac>
     requires { HasLater c.now first period }
     ensures { IfSome result (RisesAtMost (value_at c.now) period first) }
 {
@@ -121,7 +124,7 @@ pub(crate) fn rise_before(c: &Curve, first: Frac, period: Frac, least: Frac) -> 
         until: Frac::zero(),
         most: least,
     };
-    for _step in 0..MOST_STEPS {
+    for _piece in 0..pieces {
         if !is_less(looked.until, first) {
             return Some(looked.most);
         }

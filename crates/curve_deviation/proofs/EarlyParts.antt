@@ -6,8 +6,8 @@ use Rattle.upp_limits.specs.rational.specs.Rational.{ℚ, ◌+ℚ◌, ◌≤ℚ�
 use Rattle.upp_limits.specs.rational.specs.MinMax.{min_q}
 use Rattle.upp_limits.specs.rational.specs.Grid.{Whole}
 use Rattle.upp_limits.specs.rational.specs.Extended.{Ext}
-use Rattle.upp_limits.specs.rational.proofs.Laws.{le_trans, le_of_lt, le_or_lt, lt_le_trans, le_lt_trans}
-use Rattle.upp_limits.specs.rational.proofs.MinMax.{min_q_right, min_q_le_right, le_q_not}
+use Rattle.upp_limits.specs.rational.proofs.Laws.{le_refl, le_trans, le_of_lt, le_or_lt, lt_irrefl, lt_le_trans, le_lt_trans}
+use Rattle.upp_limits.specs.rational.proofs.MinMax.{min_q_right, min_q_le_left, min_q_le_right, le_q_not}
 use Rattle.upp_limits.specs.rational.proofs.Over.{le_q_out}
 use Rattle.upp_limits.specs.upp_curve.specs.declared.affine_segment.line.Piece.{Piece}
 use Rattle.upp_limits.specs.upp_curve.specs.affine_segment.Values.{line_value}
@@ -24,6 +24,9 @@ use Rattle.upp_limits.specs.upp_curve.specs.affine_segment.Fits.{ReadFits, LineF
 use Rattle.upp_limits.specs.upp_curve.specs.Readable.{TailReadable}
 use Rattle.upp_limits.specs.rational.specs.Ratio.{SumFits}
 use Rattle.upp_limits.specs.Limits.{Sizes}
+use Rattle.upp_limits.specs.rational.proofs.Grid.{whole_add}
+use Rattle.upp_limits.specs.upp_curve.specs.Steady.{rank_of}
+use Rattle.upp_limits.specs.Periods.{period_of}
 use Rattle.upp_limits.specs.Spans.{spans, piece_read}
 use Rattle.upp_limits.specs.Sized.{SpanStands}
 use Rattle.curve_call.specs.upp_normal.specs.Operand.{AreLimited, OperandLineAt}
@@ -37,7 +40,7 @@ use Rattle.curve_call.specs.upp_normal.proofs.StretchSizes.{span_line, times_sta
 use Rattle.curve_call.specs.upp_normal.proofs.StretchValues.{with_pieces}
 use Rattle.curve_call.specs.upp_normal.proofs.AnswerRoom.{operand_line_fits, operand_line_value, stands_operand_value}
 use Rattle.curve_deviation.specs.declared.parts.Part.{Part}
-use Rattle.curve_deviation.specs.Parts.{IsFiniteInSizes, GoesTo, PartStands, IsEarlyBy}
+use Rattle.curve_deviation.specs.Parts.{IsFiniteInSizes, GoesTo, PartStands, IsEarlyBy, IsKeptUntil}
 use Rattle.upp_limits.specs.upp_curve.proofs.affine_segment.Lower.{left_low}
 use Rattle.curve_call.specs.upp_normal.proofs.NormaliseRoomy.{found_early}
 use Rattle.curve_call.proofs.GapWalk.{earlier_high, earlier_past}
@@ -99,7 +102,6 @@ pub record EarlyHere (z : Sizes) (end : ℚ) (c : SpecCurve) (t : ℚ) : Type 0 
   pub fits : ReadFits c.pieces t
   pub line : OperandLineAt z (line_in c.pieces t)
   pub at : GridValue z (read c.pieces t)
-  pub next : Whole z.dt (earlier_of end (next_in c.pieces t None))
 
 early_of : (z : Sizes) (end t : ℚ) (p : Piece) (ps : List Piece) (next : Option ℚ) → AreLimited z end → IsTimeIn z end t → StartsAtZero (p ∷ ps)
     → SpanStands z record { piece = piece_in p ps t; next = next } → ReadFits (p ∷ ps) t × OperandLineAt z (line_in (p ∷ ps) t) × GridValue z (read (p ∷ ps) t)
@@ -134,28 +136,51 @@ early_here z end c t S time =
       fits = subst (λ qs. ReadFits qs t) (sym f) found.0;
       line = subst (λ qs. OperandLineAt z (line_in qs t)) (sym f) found.1;
       at = subst (λ qs. GridValue z (read qs t)) (sym f) found.2;
-      next = until_whole (Whole z.dt) end (next_in c.pieces t None) S.limited.sizes.window
-          (next_all (λ x. x <ℚ end → Whole z.dt x) c.pieces t None (each_start z end c.tail c.pieces (all_stand z end c S)) tt);
     })
+
+-- the next start, up to a time on the grid
+next_whole : (z : Sizes) (end kept t : ℚ) (c : SpecCurve) → IsFiniteInSizes z end c → kept ≤ℚ end → Whole z.dt kept → Whole z.dt (earlier_of kept (next_in c.pieces t None))
+next_whole z end kept t c S high whole =
+    until_whole (Whole z.dt) kept (next_in c.pieces t None) whole (sooner (next_in c.pieces t None) (next_all (λ x. x <ℚ end → Whole z.dt x) c.pieces t None (each_start z end c.tail c.pieces (all_stand z end c S)) tt))
+  where
+    sooner : (next : Option ℚ) → AtNext (λ x. x <ℚ end → Whole z.dt x) next → AtNext (λ x. x <ℚ kept → Whole z.dt x) next
+    sooner None h = tt
+    sooner (Some e) h = λ l. h (lt_le_trans l high)
+
+pub kept_goes : (c : SpecCurve) (t kept end : ℚ) (p : Part) → IsCurve c → IsFinite (value_at c) → IsKeptUntil c end kept → int (pos 0) ≤ℚ t → t <ℚ kept → p.at ≡ read c.pieces t → p.line ≡ line_in c.pieces t
+    → p.until ≡ earlier_of kept (next_in c.pieces t None) → GoesTo (value_at c) t end p
+kept_goes c t kept end p curve finite K some before at line until =
+    let next = next_in c.pieces t None in
+    record {
+      at = at ∙ sym (value_early c kept t curve finite K.early before);
+      line = λ u l k.
+          let m : u <ℚ earlier_of kept next = subst (λ x. u <ℚ x) until k in
+          value_early c kept u curve finite K.early (lt_le_trans m (earlier_high kept next)) ∙ reads_on c.pieces t u None curve.normal.raw.starts some l (until_next u kept next m) ∙ sym (ap (λ m. line_value m u) line);
+      past = subst (λ x. t <ℚ x) (sym until) (earlier_past t kept next before (next_past c.pieces t None tt));
+      high = le_trans (subst (λ x. x ≤ℚ kept) (sym until) (earlier_high kept next)) K.high;
+    }
+
+stands_upto : (z : Sizes) (kept end : ℚ) (c : SpecCurve) (t : ℚ) (p : Part) → IsFiniteInSizes z end c → kept ≤ℚ end → Whole z.dt kept → IsTimeIn z end t → p.at ≡ read c.pieces t → p.line ≡ line_in c.pieces t
+    → p.until ≡ earlier_of kept (next_in c.pieces t None) → PartStands z p
+stands_upto z kept end c t p S high whole time at line until =
+    let here = early_here z end c t S time in
+    record { at = subst (GridValue z) (sym at) here.at; line = subst (OperandLineAt z) (sym line) here.line; until = subst (Whole z.dt) (sym until) (next_whole z end kept t c S high whole) }
+
+pub kept_stands : (z : Sizes) (kept end : ℚ) (c : SpecCurve) (t : ℚ) (p : Part) → IsFiniteInSizes z end c → IsKeptUntil c end kept → IsTimeIn z end t → p.at ≡ read c.pieces t → p.line ≡ line_in c.pieces t
+    → p.until ≡ earlier_of kept (next_in c.pieces t None) → PartStands z p
+kept_stands z kept end c t p S K time at line until = stands_upto z kept end c t p S K.high (K.grid z S) time at line until
+
+-- where all that is kept is
+pub kept_all : (c : SpecCurve) (end : ℚ) → IsEarlyBy end c.tail → IsKeptUntil c end end
+kept_all c end early = record { early = early; high = le_refl end; over = λ l. absurd (lt_irrefl end l); grid = λ z S. S.limited.sizes.window }
 
 pub early_goes : (c : SpecCurve) (t end : ℚ) (p : Part) → IsCurve c → IsFinite (value_at c) → IsEarlyBy end c.tail → int (pos 0) ≤ℚ t → t <ℚ end → p.at ≡ read c.pieces t → p.line ≡ line_in c.pieces t
     → p.until ≡ earlier_of end (next_in c.pieces t None) → GoesTo (value_at c) t end p
-early_goes c t end p curve finite early some before at line until =
-    let next = next_in c.pieces t None in
-    record {
-      at = at ∙ sym (value_early c end t curve finite early before);
-      line = λ u l k.
-          let m : u <ℚ earlier_of end next = subst (λ x. u <ℚ x) until k in
-          value_early c end u curve finite early (lt_le_trans m (earlier_high end next)) ∙ reads_on c.pieces t u None curve.normal.raw.starts some l (until_next u end next m) ∙ sym (ap (λ m. line_value m u) line);
-      past = subst (λ x. t <ℚ x) (sym until) (earlier_past t end next before (next_past c.pieces t None tt));
-      high = subst (λ x. x ≤ℚ end) (sym until) (earlier_high end next);
-    }
+early_goes c t end p curve finite early some before at line until = kept_goes c t end end p curve finite (kept_all c end early) some before at line until
 
 pub early_stands : (z : Sizes) (end : ℚ) (c : SpecCurve) (t : ℚ) (p : Part) → IsFiniteInSizes z end c → IsTimeIn z end t → p.at ≡ read c.pieces t → p.line ≡ line_in c.pieces t
     → p.until ≡ earlier_of end (next_in c.pieces t None) → PartStands z p
-early_stands z end c t p S time at line until =
-    let here = early_here z end c t S time in
-    record { at = subst (GridValue z) (sym at) here.at; line = subst (OperandLineAt z) (sym line) here.line; until = subst (Whole z.dt) (sym until) here.next }
+early_stands z end c t p S time at line until = stands_upto z end end c t p S (le_refl end) S.limited.sizes.window time at line until
 
 -- ---- past the first period
 pub seen_window : (z : Sizes) (end : ℚ) (c : SpecCurve) → IsFiniteInSizes z end c → IsOverBy end c.tail → HasWindow z end c
@@ -198,6 +223,32 @@ pub over_tail : (c : SpecCurve) (tail : Tail) (rank period rise end first : ℚ)
 over_tail c tail rank period rise end first e f g h =
     let found : IsOverBy end (Periodic rank period rise) = le_of_lt (subst (λ x. x <ℚ end) g h) in
     subst (IsOverBy end) (sym f ∙ e) found
+
+-- ---- up to when the pieces that are kept are the curve
+first_whole : (z : Sizes) (end : ℚ) (c : SpecCurve) (tail : Tail) (rank period rise : ℚ) → tail ≡ c.tail → tail ≡ Periodic rank period rise → IsFiniteInSizes z end c → IsOverBy end c.tail → Whole z.dt (rank +ℚ period)
+first_whole z end c tail rank period rise e f S over =
+    let T = times_stand z end c S.curve (seen_window z end c S over) in
+    let is : c.tail ≡ Periodic rank period rise = sym e ∙ f in
+    let start : Whole z.dt (rank_of (Periodic rank period rise)) = subst (λ t. Whole z.dt (rank_of t)) is T.rank in
+    let long : AtNext (Whole z.dt) (period_of (Periodic rank period rise)) = subst (λ t. AtNext (Whole z.dt) (period_of t)) is T.period in
+    whole_add z.dt rank period start long
+
+pub kept_first : (c : SpecCurve) (tail : Tail) (rank period rise end first kept : ℚ) → tail ≡ c.tail → tail ≡ Periodic rank period rise → first ≡ rank +ℚ period → kept ≡ min_q end first → IsKeptUntil c end kept
+kept_first c tail rank period rise end first kept e f g h = record {
+  early = early_tail c tail rank period rise kept first e f g (subst (λ x. x ≤ℚ first) (sym h) (min_q_le_right end first));
+  high = subst (λ x. x ≤ℚ end) (sym h) (min_q_le_left end first);
+  over = λ l. elim (le_or_lt end first) [
+    | inl m ↦ absurd (lt_irrefl end (subst (λ x. x <ℚ end) (h ∙ sym (left_low end first m)) l))
+    | inr m ↦ over_tail c tail rank period rise end first e f g m
+  ];
+  grid = λ z S. elim (le_or_lt end first) [
+    | inl m ↦ subst (Whole z.dt) (left_low end first m ∙ sym h) S.limited.sizes.window
+    | inr m ↦ subst (Whole z.dt) (sym g ∙ earlier_right end first m ∙ sym h) (first_whole z end c tail rank period rise e f S (over_tail c tail rank period rise end first e f g m))
+  ];
+}
+
+pub kept_whole : (c : SpecCurve) (tail other : Tail) (end : ℚ) → tail ≡ c.tail → tail ≡ other → IsEarlyBy end other → IsKeptUntil c end end
+kept_whole c tail other end e f early = kept_all c end (subst (IsEarlyBy end) (sym f ∙ e) early)
 
 -- ---- the piece as it is found
 pub value_by : (p : Piece) (t : ℚ) → t ≤ℚ p.x → p.at ≡ piece_value p t

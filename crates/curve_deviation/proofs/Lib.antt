@@ -3,6 +3,7 @@ pub mod CellSizes
 pub mod EarlyParts
 pub mod RisingParts
 pub mod Walk
+pub mod Sights
 pub mod WholeGap
 pub mod Infinite
 pub mod AtOnce

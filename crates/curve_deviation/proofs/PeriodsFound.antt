@@ -1,5 +1,5 @@
 -- The numbers of periods that are found: they are the least ones, or the call is too wide.
-use Rattle.std.specs.Prelude.{◌≡◌, ◌≢◌, ℕ, suc, ◌<◌, ◌≤◌, ◌^◌, pos, List, [], ◌∷◌, Option, Some, None}
+use Rattle.std.specs.Prelude.{◌≡◌, ◌≢◌, ℕ, suc, ◌-◌, ◌<◌, ◌≤◌, ◌^◌, pos, List, [], ◌∷◌, Option, Some, None}
 use Rattle.std.proofs.Common.{arith, sym, ap, ◌∙◌, refl, subst, inl, inr}
 use Rattle.std.proofs.lemmas.Bool.{cases_lt}
 use Rattle.upp_limits.specs.rational.specs.Rational.{ℚ, ◌+ℚ◌, ◌-ℚ◌, ◌*ℚ◌, ◌≤ℚ◌, ◌<ℚ◌, int}
@@ -45,7 +45,9 @@ use Rattle.curve_deviation.specs.Parts.{IsFiniteInSizes}
 use Rattle.curve_deviation.proofs.EarlyParts.{endless, early_here}
 use Rattle.curve_deviation.specs.declared.horizontals.Periods.{Periods}
 use Rattle.curve_deviation.specs.declared.horizontals.Turn.{Turn}
-use Rattle.curve_deviation.specs.Stages.{AreFinite, HasLeft, HasReached, settled, IsPast, IsWideCall, IsFirst, IsSettledAt, IsNarrowWindow, AreFound, ArePlain, IsPlainCall}
+use Rattle.curve_deviation.specs.Stages.{AreFinite, HasLeft, HasReached, settled, IsPast, IsWideCall, IsFirst, IsSettledAt, IsNarrowWindow, AreFound, Meets as StageMeets}
+use Rattle.curve_deviation.specs.declared.search.Stage.{Stage}
+use Rattle.curve_deviation.proofs.Searching.{unmet_before}
 use Rattle.curve_deviation.proofs.KnownLags.{first_repeats}
 use Rattle.curve_deviation.proofs.WindowTimes.{times_at, periods_low}
 use Rattle.upp_limits.specs.upp_curve.proofs.RisingCurves.{GoesOn}
@@ -250,26 +252,29 @@ found_within f g p r F G A h = frame_within Horizontal f g p.first p.second r (f
 pub not_memory : (f g : SpecCurve) (k m : ℕ) (e : OpFault) → IsRefusedAt Horizontal f g k m e → ¬ (e ≡ NoMemory)
 not_memory f g k m e h same = subst (IsRefusedAt Horizontal f g k m) same h
 
--- ---- without periods
-pub plain_found : (f g : SpecCurve) (t : Turn) → IsFirst f g 0 → IsSettledAt f g 0 t → HasReached 0 t.level f g 0 → ArePlain f g record { first = 0; second = 0; until = t.time }
-plain_found f g t first at reached =
-    let level : value_at f (settled f g 0) ≡ Fin t.level = sym (ap (value_at f) at.time) ∙ at.level in
+-- ---- as guessed
+-- a call that is not too wide with some periods is not with fewer
+pub narrow_with : (f g : SpecCurve) (k m i j : ℕ) → IsCurve f → IsCurve g → k ≤ i → m ≤ j → gauge_at Horizontal f g i j < 2 ^ 120 → gauge_at Horizontal f g k m < 2 ^ 120
+narrow_with f g k m i j F G h l small = let rises = gauge_grows Horizontal f g k m i j F G tt h l in omega (arith, rises, small)
+
+-- not met one before, so never before
+pub unmet_all : (stage : Stage) (f g : SpecCurve) (k i : ℕ) → IsCurve f → IsCurve g → AreFinite f g → ¬ (StageMeets stage f g (k - 1)) → i < k → ¬ (StageMeets stage f g i)
+unmet_all stage f g k i F G both unmet h = unmet_before stage f g (k - 1) F G both unmet i (omega (arith, h))
+
+pub first_none : (f g : SpecCurve) (k : ℕ) → IsCurve f → IsCurve g → AreFinite f g → rate f ≡ Fin (int (pos 0)) → k ≡ 0 → IsFirst f g k
+first_none f g k F G both e none = subst (IsFirst f g) (sym none) (first_level f g F G both e)
+
+pub first_guessed : (f g : SpecCurve) (level : ℚ) (j : ℕ) → IsCurve f → IsCurve g → AreFinite f g → rate f ≢ Fin (int (pos 0)) → value_at g (steady g) ≡ Fin level
+    → ((i : ℕ) → i < j → ¬ (HasLeft level f g i)) → HasLeft level f g j → IsFirst f g j
+first_guessed f g level j F G both not e below left = first_left f g level j F G both not e below (inl left)
+
+pub guessed_found : (f g : SpecCurve) (first second : ℕ) (t : Turn) → IsFirst f g first → IsSettledAt f g first t → ((i : ℕ) → i < second → ¬ (HasReached first t.level f g i)) → HasReached first t.level f g second
+    → AreFound f g record { first = first; second = second; until = t.time }
+guessed_found f g first second t F at below reached =
+    let level : value_at f (settled f g first) ≡ Fin t.level = sym (ap (value_at f) at.time) ∙ at.level in
     record {
-      found = record {
-        first = first;
-        below = λ i h. absurd (omega (arith, h));
-        past = inl (subst (λ x. x ≤ₑ value_at g (periods_after (settled f g 0) 0 (common_period f g))) (sym level) reached);
-        until = at.time;
-      };
-      first = refl;
-      second = refl;
+      first = F;
+      below = λ i h met. below i h (subst (λ x. x ≤ₑ value_at g (periods_after (settled f g first) i (common_period f g))) level met);
+      past = inl (subst (λ x. x ≤ₑ value_at g (periods_after (settled f g first) second (common_period f g))) (sym level) reached);
+      until = at.time;
     }
-
-pub plain_window : (f g : SpecCurve) (r : Frame) → IsFrame Horizontal f g 0 0 r → IsNarrowWindow f g 0 0 record { start = r.start; period = r.period; end = r.end }
-plain_window f g r h = record { window = record { start = h.start; period = h.period; end = h.end }; gauge = h.gauge }
-
-pub plain_frame : (f g : SpecCurve) (p : Periods) (r : Frame) → ArePlain f g p → IsFrame Horizontal f g 0 0 r → IsPlainCall f g record { periods = p; frame = r }
-plain_frame f g p r A h = record {
-  found = A.found;
-  frame = subst (λ n. IsFrame Horizontal f g n p.second r) (sym A.first) (subst (λ n. IsFrame Horizontal f g 0 n r) (sym A.second) h);
-}

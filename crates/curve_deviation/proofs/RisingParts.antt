@@ -25,7 +25,8 @@ use Rattle.curve_deviation.specs.declared.cells.Cell.{Cell}
 use Rattle.curve_deviation.specs.declared.parts.Part.{Part}
 use Rattle.curve_deviation.specs.Cells.{RisingCell, CellSizes, IsTimeTo}
 use Rattle.curve_deviation.specs.Parts.{IsFiniteInSizes, GoesTo, PartStands}
-use Rattle.curve_deviation.specs.Rises.{RisesOn, IsCellOf}
+use Rattle.curve_deviation.specs.declared.walks.Rise.{Rise}
+use Rattle.curve_deviation.specs.Rises.{RisesOn, IsCellOf, IsRiseFrom}
 
 -- ---- a finite part has a line
 pub part_line : (f : ℚ → Ext) (t end : ℚ) (p : Part) → int (pos 0) ≤ℚ t → IsFinite f → GoesTo f t end p → IsLine p.line
@@ -126,3 +127,22 @@ cell_sizes z f g t x until end p q c S T X U before goes on P Q first second s r
 
 pub cell_rises : (f g : ℚ → Ext) (t x until end : ℚ) (c : Cell) → IsCellOf f g t x until end c → RisingCell c
 cell_rises f g t x until end c C = record { first = C.first.slope; second = C.second.slope; start = C.first.some; from = C.second.some }
+
+-- ---- a stretch, with the values at its ends
+pub rise_of : (f : ℚ → Ext) (t until end : ℚ) (p : Part) (r : Rise) → int (pos 0) ≤ℚ t → t <ℚ until → IsRising f → GoesTo f t end p → p.line ≡ Some r.line → r.until ≡ min_q until p.until
+    → r.low ≡ line_at r.line t → r.high ≡ line_at r.line r.until → IsRiseFrom f t until r
+rise_of f t until end p r low before up goes line e a b =
+    let past : t <ℚ r.until = subst (λ y. t <ℚ y) (sym e) (below_min_in until p.until t before goes.past) in
+    let early : r.until ≤ℚ p.until = subst (λ y. y ≤ℚ p.until) (sym e) (min_q_le_right until p.until) in
+    record { rises = part_rises f r.line t r.until end p low past early up goes line; early = subst (λ y. y ≤ℚ until) (sym e) (min_q_le_left until p.until); low = a; high = b }
+
+pub rise_sizes : (z : Sizes) (c : SpecCurve) (t until end last : ℚ) (p : Part) (l : Line) → IsTimeIn z end t → IsTimeTo z end until → t <ℚ until → GoesTo (value_at c) t end p → PartStands z p → p.line ≡ Some l
+    → last ≡ min_q until p.until → OperandLine z l × IsTimeTo z end last
+rise_sizes z c t until end last p l T U before goes P line e = (
+  operand z l p.line line P.line,
+  subst (IsTimeTo z end) (sym e) record {
+    whole = elim (min_q_one until p.until) [ inl i ↦ subst (Whole z.dt) (sym i) U.whole | inr i ↦ subst (Whole z.dt) (sym i) P.until ];
+    nonneg = le_trans T.nonneg (le_of_lt (below_min_in until p.until t before goes.past));
+    high = le_trans (min_q_le_left until p.until) U.high;
+  },
+)

@@ -1,12 +1,13 @@
 -- Two rising lines, each over a stretch of time: how long the second lies behind the first. (The horizontal deviation
 -- of Le Boudec and Thiran, of two lines over part of the times.)
-use Rattle.std.specs.Prelude.{pos, ◌⊎◌}
+use Rattle.std.specs.Prelude.{◌≡◌, pos, ◌⊎◌}
 use Rattle.upp_limits.specs.rational.specs.Rational.{ℚ, ◌-ℚ◌, ◌≤ℚ◌, ◌<ℚ◌, int}
 use Rattle.upp_limits.specs.rational.specs.Grid.{Whole}
 use Rattle.upp_limits.specs.upp_curve.specs.affine_segment.Values.{line_at}
 use Rattle.upp_limits.specs.Limits.{Sizes}
 use Rattle.curve_call.specs.upp_normal.specs.Operand.{AreLimited, OperandLine}
 use Rattle.curve_deviation.specs.declared.cells.Cell.{Cell}
+use Rattle.curve_deviation.specs.declared.cells.Levels.{Levels}
 
 -- no line falls, and no stretch is empty
 pub record RisingCell (c : Cell) : Type 0 where
@@ -14,6 +15,13 @@ pub record RisingCell (c : Cell) : Type 0 where
   pub second : int (pos 0) ≤ℚ c.second.slope
   pub start : c.start <ℚ c.end
   pub from : c.from <ℚ c.until
+
+-- the values of both lines where their stretches start and end
+pub record AreLevels (c : Cell) (l : Levels) : Type 0 where
+  pub start : l.start ≡ line_at c.first c.start
+  pub end : l.end ≡ line_at c.first c.end
+  pub from : l.from ≡ line_at c.second c.from
+  pub until : l.until ≡ line_at c.second c.until
 
 -- the second line at u is still below the first at s
 pub record IsBehind (c : Cell) (s u : ℚ) : Type 0 where

@@ -12,7 +12,7 @@ use Rattle.upp_limits.specs.min_plus.specs.Functions.{IsFinite}
 use Rattle.upp_limits.specs.Limits.{Sizes, curve_numbers}
 use Rattle.upp_limits.specs.Sized.{Stands}
 use Rattle.curve_call.specs.upp_normal.specs.Operand.{AreLimited, OperandLineAt}
-use Rattle.curve_call.specs.upp_normal.specs.Ahead.{GridValue}
+use Rattle.curve_call.specs.upp_normal.specs.Ahead.{GridValue, IsOverBy}
 use Rattle.curve_deviation.specs.declared.parts.Part.{Part}
 
 -- a finite curve whose numbers up to `end` have the sizes z
@@ -39,3 +39,10 @@ abbrev pub IsEarlyBy : ℚ → Tail → Type 0
 IsEarlyBy end (Periodic rank period rise) = end ≤ℚ rank +ℚ period
 IsEarlyBy end (Affine rank) = Unit {0}
 IsEarlyBy end (Infinite rank) = Unit {0}
+
+-- up to `kept`, which is `end` or a time before it at which the first period is over
+pub record IsKeptUntil (c : SpecCurve) (end kept : ℚ) : Type 0 where
+  pub early : IsEarlyBy kept c.tail
+  pub high : kept ≤ℚ end
+  pub over : kept <ℚ end → IsOverBy end c.tail
+  pub grid : (z : Sizes) → IsFiniteInSizes z end c → Whole z.dt kept

@@ -12,7 +12,7 @@ use Rattle.upp_limits.specs.Windows.{IsLeastPeriods, Reaches, Meets as KindMeets
 use Rattle.upp_limits.specs.Gauges.{gauge_at}
 use Rattle.curve_deviation.specs.declared.horizontals.Periods.{Periods}
 use Rattle.curve_deviation.specs.declared.horizontals.Turn.{Turn}
-use Rattle.curve_deviation.specs.declared.horizontals.PlainCall.{PlainCall}
+use Rattle.curve_deviation.specs.declared.horizontals.FoundCall.{FoundCall}
 use Rattle.curve_call.specs.Frames.{IsFrame}
 use Rattle.curve_call.specs.declared.windows.CallWindow.{CallWindow}
 use Rattle.curve_call.specs.CallWindows.{IsWindow}
@@ -81,12 +81,7 @@ pub record IsSettledAt (f g : SpecCurve) (first : ℕ) (t : Turn) : Type 0 where
   pub time : t.time ≡ settled f g first
   pub level : value_at f t.time ≡ Fin t.level
 
--- no number of periods is needed
-pub record ArePlain (f g : SpecCurve) (p : Periods) : Type 0 where
-  pub found : AreFound f g p
-  pub first : p.first ≡ 0
-  pub second : p.second ≡ 0
-
-pub record IsPlainCall (f g : SpecCurve) (c : PlainCall) : Type 0 where
+-- a call that is within the gauge with both numbers, and its window
+pub record IsFoundCall (f g : SpecCurve) (c : FoundCall) : Type 0 where
   pub found : AreFound f g c.periods
   pub frame : IsFrame Horizontal f g c.periods.first c.periods.second c.frame

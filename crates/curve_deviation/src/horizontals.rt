@@ -1,6 +1,6 @@
 //! The horizontal deviation of two curves.
 
-ghost use Rattle.std.specs.Prelude.{ℕ, ◌≡◌, ◌+◌, ◌≤◌, ◌^◌, IfOk, IfErr, IfSome, IsSome, IsTrue, MatchOption};
+ghost use Rattle.std.specs.Prelude.{ℕ, ◌≡◌, ◌+◌, ◌<◌, ◌≤◌, ◌^◌, IfOk, IfErr, IfSome, IsSome, IsTrue, MatchOption};
 ghost use Rattle.upp_limits.specs.rational.specs.Rational.{ℚ, ◌<ℚ◌};
 ghost use Rattle.upp_limits.specs.upp_curve.specs.Curve.{value_at};
 ghost use Rattle.upp_limits.specs.min_plus.specs.Functions.{IsFinite, IsRising};
@@ -11,10 +11,11 @@ ghost use Rattle.upp_limits.specs.min_plus.specs.Deviations.{IsHorizontalDeviati
 ghost use Rattle.upp_limits.specs.Outcome.{KeepsLimits};
 ghost use Rattle.curve_call.specs.Frames.{IsFrame};
 ghost use Rattle.curve_deviation.specs.Parts.{IsFiniteInSizes};
-ghost use Rattle.curve_deviation.specs.Stages.{AreFinite, IsNarrowWindow, IsWideCall, IsFirst, IsSettledAt, AreFound, ArePlain, IsPlainCall};
+ghost use Rattle.curve_deviation.specs.Stages.{AreFinite, IsNarrowWindow, IsWideCall, IsFirst, IsSettledAt, AreFound, HasLeft, HasReached, IsFoundCall};
 
+use crate::guesses::{Guess, likely_numbers};
 use crate::known::is_known;
-use crate::search::{Stage, has_left, is_below, least_past, narrow_window, value_in};
+use crate::search::{Stage, has_left, is_below, known_window, least_past, narrow_window, value_in};
 use crate::walks::longest_lag;
 use curve_call::upp_normal::steady_time;
 use curve_call::{CallWindow, Frame, within_both};
@@ -40,9 +41,9 @@ struct Periods {
     until: Frac,
 }
 
-/// A call within both limits that needs no period.
+/// A call within both limits, with its numbers of periods.
 #[derive(Debug, Clone, Copy)]
-struct PlainCall {
+struct FoundCall {
     periods: Periods,
     frame: Frame,
 }
@@ -153,64 +154,100 @@ fn deviation_in(f: &Curve, g: &Curve, periods: &Periods, frame: &Frame) -> Ext
     Extended::Fin(longest_lag(f, g, periods.until, frame.end))
 }
 
-/// Whether f is constant from when it begins to repeat, or above the level at which g begins to, by a window of no
-/// period that is below the limit.
-fn has_turned(f: &Curve, g: &Curve, window: &CallWindow) -> bool
+/// Whether f has left the level after `first` periods and not after fewer, in a call that is not too wide.
+fn leaves_at(f: &Curve, g: &Curve, level: Frac, numbers: &Guess) -> bool
     requires both { AreFinite f.now g.now }
-    requires window { IsNarrowWindow f.now g.now 0 0 window.now }
-    ensures { IsTrue result → IsFirst f.now g.now 0 }
+    requires narrow { gauge_at OpKind.Horizontal f.now g.now numbers.now.first numbers.now.second < 2 ^ 120 }
+    ensures below { IsTrue result → (i : ℕ) → i < numbers.now.first → ¬ (HasLeft level f.now g.now i) }
+    ensures left { IsTrue result → HasLeft level f.now g.now numbers.now.first }
+{
+    f.keeps();
+    g.keeps();
+    let first = numbers.first;
+    let window = known_window(f, g, first, 0);
+    if !has_left(f, g, level, &window) {
+        return false;
+    }
+    if first == 0 {
+        return true;
+    }
+    let before = known_window(f, g, first - 1, 0);
+    if has_left(f, g, level, &before) {
+        false
+    } else {
+        true
+    }
+}
+
+/// Whether the first number is right.
+fn is_first(f: &Curve, g: &Curve, numbers: &Guess) -> bool
+    requires both { AreFinite f.now g.now }
+    requires narrow { gauge_at OpKind.Horizontal f.now g.now numbers.now.first numbers.now.second < 2 ^ 120 }
+    ensures { IsTrue result → IsFirst f.now g.now numbers.now.first }
 {
     f.keeps();
     g.keeps();
     if is_level(f) {
-        return true;
+        return numbers.first == 0;
     }
     match late_level(g) {
         None => false,
-        Some(level) => has_left(f, g, level, window),
+        Some(level) => leaves_at(f, g, level, numbers),
     }
 }
 
-/// Both numbers of periods where they are 0, by a window of no period that is below the limit; None where one is not.
-fn none_needed(f: &Curve, g: &Curve, window: &CallWindow) -> Option<Periods>
+/// Whether g has reached the level after `second` periods more, and not after fewer.
+fn reaches_at(f: &Curve, g: &Curve, level: Frac, numbers: &Guess) -> bool
     requires both { AreFinite f.now g.now }
-    requires window { IsNarrowWindow f.now g.now 0 0 window.now }
-    ensures { IfSome result (ArePlain f.now g.now) }
+    requires narrow { gauge_at OpKind.Horizontal f.now g.now numbers.now.first numbers.now.second < 2 ^ 120 }
+    ensures below { IsTrue result → (i : ℕ) → i < numbers.now.second
+        → ¬ (HasReached numbers.now.first level f.now g.now i) }
+    ensures reached { IsTrue result → HasReached numbers.now.first level f.now g.now numbers.now.second }
 {
-    if !has_turned(f, g, window) {
-        return None;
+    f.keeps();
+    g.keeps();
+    let second = numbers.second;
+    let window = known_window(f, g, numbers.first, second);
+    if is_below(f, g, level, &window) {
+        return false;
     }
-    let turn = turn_in(f, g, window);
-    if is_below(f, g, turn.level, window) {
-        return None;
+    if second == 0 {
+        return true;
     }
-    Some(Periods {
-        first: 0,
-        second: 0,
-        until: turn.time,
-    })
+    let before = known_window(f, g, numbers.first, second - 1);
+    if is_below(f, g, level, &before) {
+        true
+    } else {
+        false
+    }
 }
 
-/// A call that needs no period and is within both limits, by one look at its sizes; None where it needs some, or is
-/// over a limit already without.
-fn plain_call(f: &Curve, g: &Curve) -> Option<PlainCall>
+/// A call within both limits whose numbers of periods are as guessed; None where they are not, or the call is over a
+/// limit with them.
+fn guessed_call(f: &Curve, g: &Curve) -> Option<FoundCall>
     requires { AreFinite f.now g.now }
-    ensures { IfSome result (IsPlainCall f.now g.now) }
+    ensures { IfSome result (IsFoundCall f.now g.now) }
 {
-    match within_both(&OpKind::Horizontal, f, g, 0, 0) {
-        Err(_) => None,
-        Ok(frame) => {
-            let window = CallWindow {
-                start: frame.start,
-                period: frame.period,
-                end: frame.end,
-            };
-            match none_needed(f, g, &window) {
-                None => None,
-                Some(periods) => Some(PlainCall { periods, frame }),
-            }
-        }
+    f.keeps();
+    g.keeps();
+    let numbers = likely_numbers(f, g)?;
+    let Ok(frame) = within_both(&OpKind::Horizontal, f, g, numbers.first, numbers.second) else {
+        return None;
+    };
+    if !is_first(f, g, &numbers) {
+        return None;
     }
+    let settled = known_window(f, g, numbers.first, 0);
+    let turn = turn_in(f, g, &settled);
+    if !reaches_at(f, g, turn.level, &numbers) {
+        return None;
+    }
+    let periods = Periods {
+        first: numbers.first,
+        second: numbers.second,
+        until: turn.time,
+    };
+    Some(FoundCall { periods, frame })
 }
 
 /// The horizontal deviation whose numbers of periods have to be looked for.
@@ -230,7 +267,8 @@ fn searched(f: &Curve, g: &Curve) -> Result<Ext, OpFault>
     Ok(deviation_in(f, g, &periods, &frame))
 }
 
-/// The horizontal deviation that has to be looked for: most calls need no period, and are answered by one look.
+/// The horizontal deviation that has to be looked for: of most calls the numbers of periods are guessed right, and one
+/// look at the sizes is enough.
 fn looked_for(f: &Curve, g: &Curve) -> Result<Ext, OpFault>
     requires both { AreFinite f.now g.now }
     requires known { ¬ (IsKnownAtOnce OpKind.Horizontal f.now g.now) }
@@ -240,7 +278,7 @@ fn looked_for(f: &Curve, g: &Curve) -> Result<Ext, OpFault>
 {
     f.keeps();
     g.keeps();
-    match plain_call(f, g) {
+    match guessed_call(f, g) {
         None => searched(f, g),
         Some(call) => Ok(deviation_in(f, g, &call.periods, &call.frame)),
     }

@@ -3,6 +3,7 @@
 #![tactic(auto)]
 
 mod cells;
+mod guesses;
 mod horizontals;
 mod known;
 mod parts;

@@ -1,6 +1,6 @@
 //! How a curve goes on from a time, up to the end of a window that may end before all its pieces have started.
 
-ghost use Rattle.std.specs.Prelude.{◌≡◌, ◌↔◌, IsTrue, pos, List, ◌∷◌, Some, None};
+ghost use Rattle.std.specs.Prelude.{◌≡◌, pos, List, ◌∷◌, Some, None};
 ghost use Rattle.upp_limits.specs.rational.specs.Rational.{ℚ, int, ◌+ℚ◌, ◌≤ℚ◌, ◌<ℚ◌, le_q};
 ghost use Rattle.upp_limits.specs.rational.specs.MinMax.{min_q};
 ghost use Rattle.upp_limits.specs.rational.specs.Ratio.{SumFits};
@@ -12,12 +12,12 @@ ghost use Rattle.upp_limits.specs.upp_curve.specs.Curves.{IsCurve};
 ghost use Rattle.upp_limits.specs.upp_curve.specs.affine_segment.Fits.{LineFitsAt, ReadFits};
 ghost use Rattle.upp_limits.specs.Limits.{Sizes};
 ghost use Rattle.curve_call.specs.upp_normal.specs.Ahead.{IsOverBy, IsTimeIn};
-ghost use Rattle.curve_deviation.specs.Parts.{IsFiniteInSizes, GoesTo, PartStands, IsEarlyBy};
+ghost use Rattle.curve_deviation.specs.Parts.{IsFiniteInSizes, GoesTo, PartStands, IsKeptUntil};
 ghost use Rattle.curve_call.specs.GapSteps.{earlier_of};
 
 use curve_call::earlier;
 use curve_call::upp_normal::stretch_at;
-use upp_limits::fraction128::{Ext, Frac, is_less, sum};
+use upp_limits::fraction128::{Ext, Frac, is_less, lesser, sum};
 use upp_limits::upp_curve::affine_segment::{Line, Piece, next_start, piece_at, piece_value};
 use upp_limits::upp_curve::{Curve, Tail};
 
@@ -50,32 +50,27 @@ fn plain_part(pieces: &[Piece], t: Frac, end: Frac) -> Part
     }
 }
 
-/// Whether the pieces that are kept go on as the curve up to `end`; else the first period is over by then.
-fn is_early(c: &Curve, end: Frac) -> bool
-    ensures early { IsTrue result → IsEarlyBy end c.now.tail }
-    ensures late { ¬ (IsTrue result) → IsOverBy end c.now.tail }
+/// Up to when the pieces that are kept are the curve: where the first period is over, or the window's end.
+fn kept_until(c: &Curve, end: Frac) -> Frac
+    ensures until { IsKeptUntil c.now end result }
     ensures kept { IsCurve c.now }
 {
     match *c.tail() {
-        Tail::Periodic { rank, period, .. } => {
-            if is_less(sum(rank, period), end) {
-                false
-            } else {
-                true
-            }
-        }
-        _ => true,
+        Tail::Periodic { rank, period, .. } => lesser(end, sum(rank, period)),
+        Tail::Affine { .. } => end,
+        Tail::Infinite { .. } => end,
     }
 }
 
-/// How a curve goes on from a time of a window, by what is kept of it.
-fn early_part(c: &Curve, t: Frac, end: Frac) -> Part
+/// How a curve goes on from a time of a window, by what is kept of it, up to `kept`.
+fn early_part(c: &Curve, t: Frac, kept: Frac, end: Frac) -> Part
     requires seen { (z : Sizes) × IsFiniteInSizes z end c.now × IsTimeIn z end t }
-    requires early { IsEarlyBy end c.now.tail }
+    requires until { IsKeptUntil c.now end kept }
+    requires before { t <ℚ kept }
     ensures goes { GoesTo (value_at c.now) t end result }
     ensures stands { (z : Sizes) → IsFiniteInSizes z end c.now → IsTimeIn z end t → PartStands z result }
 {
-    plain_part(c.pieces(), t, end)
+    plain_part(c.pieces(), t, kept)
 }
 
 /// How a curve goes on from a time of a window past its first period.
@@ -101,8 +96,9 @@ pub(crate) fn part_at(c: &Curve, t: Frac, end: Frac) -> Part
     ensures goes { GoesTo (value_at c.now) t end result }
     ensures stands { (z : Sizes) → IsFiniteInSizes z end c.now → IsTimeIn z end t → PartStands z result }
 {
-    if is_early(c, end) {
-        early_part(c, t, end)
+    let kept = kept_until(c, end);
+    if is_less(t, kept) {
+        early_part(c, t, kept, end)
     } else {
         late_part(c, t, end)
     }

@@ -44,6 +44,24 @@ pub(crate) fn narrow_window(f: &Curve, g: &Curve, k: u128, m: u128) -> Option<Ca
     }
 }
 
+/// The window with k and m periods, of which the gauge is known to be below 2^120.
+pub(crate) fn known_window(f: &Curve, g: &Curve, k: u128, m: u128) -> CallWindow
+    requires { gauge_at OpKind.Horizontal f.now g.now k m < 2 ^ 120 }
+    ensures window { IsNarrowWindow f.now g.now k m result }
+    ensures kept { IsCurve f.now × IsCurve g.now }
+{
+    f.keeps();
+    g.keeps();
+    match call_window(&OpKind::Horizontal, f, g, k, m) {
+        Some(window) => window,
+        None => CallWindow {
+            start: Frac::zero(),
+            period: Frac::zero(),
+            end: Frac::zero(),
+        },
+    }
+}
+
 /// The value of a finite curve at a time of a window.
 pub(crate) fn value_in(c: &Curve, t: Frac, end: Frac) -> Frac
     requires { (z : Sizes) × IsFiniteInSizes z end c.now × IsTimeIn z end t }

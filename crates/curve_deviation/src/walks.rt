@@ -10,12 +10,13 @@ ghost use Rattle.upp_limits.specs.min_plus.specs.Functions.{IsRising};
 ghost use Rattle.upp_limits.specs.Limits.{Sizes};
 ghost use Rattle.upp_limits.specs.upp_curve.specs.Shapes.{IsLine};
 ghost use Rattle.curve_call.specs.upp_normal.specs.Ahead.{IsTimeIn};
-ghost use Rattle.curve_deviation.specs.Cells.{RisingCell, CellSizes, IsTimeTo, IsCellLag};
+ghost use Rattle.curve_deviation.specs.Cells.{RisingCell, CellSizes, AreLevels, IsTimeTo, IsCellLag};
 ghost use Rattle.curve_deviation.specs.Parts.{IsFiniteInSizes};
-ghost use Rattle.curve_deviation.specs.Rises.{IsCellOf};
+ghost use Rattle.curve_deviation.specs.Rises.{IsRiseFrom, RiseSizes};
 ghost use Rattle.curve_deviation.specs.Lags.{IsLongestLag};
+ghost use Rattle.curve_deviation.specs.Sights.{cell_in, levels_in, HasPassed, Sees};
 
-use crate::cells::{Cell, cell_lag};
+use crate::cells::{Cell, Levels, cell_lag};
 use crate::parts::{Part, part_at};
 use upp_limits::fraction128::{Frac, greater, is_less, lesser};
 use upp_limits::upp_curve::Curve;
@@ -28,6 +29,26 @@ struct Walk {
     time: Frac,
     reached: Frac,
     lag: Frac,
+}
+
+/// A stretch of a curve that rises, on one line.
+#[derive(Debug, Clone, Copy)]
+pub struct Rise {
+    /// The line.
+    pub line: Line,
+    /// Where the stretch ends.
+    pub until: Frac,
+    /// The line's value where the stretch starts.
+    pub low: Frac,
+    /// The line's value where it ends.
+    pub high: Frac,
+}
+
+/// The stretches that are looked at: of the first curve from `time` on, and of the second from `reached` on.
+#[derive(Debug, Clone, Copy)]
+struct Sight {
+    above: Rise,
+    below: Rise,
 }
 
 /// The line of a part of a finite curve.
@@ -44,32 +65,56 @@ fn line_of(part: &Part) -> Line
     }
 }
 
-/// How f goes on from `time`, up to `until`, and g from `reached`.
-fn cell_at(f: &Curve, g: &Curve, time: Frac, reached: Frac, until: Frac, end: Frac) -> Cell
-    ghost sizes: { Sizes }
-    requires first { IsFiniteInSizes sizes end f.now × IsTimeIn sizes end time }
-    requires second { IsFiniteInSizes sizes end g.now × IsTimeIn sizes end reached }
-    requires rising { IsRising (value_at f.now) × IsRising (value_at g.now) }
-    requires until { IsTimeTo sizes end until }
-    requires before { time <ℚ until }
-    ensures cell { IsCellOf (value_at f.now) (value_at g.now) time reached until end result }
-    ensures sizes { CellSizes sizes end result }
+/// How a curve that rises goes on from a time t of a window, up to `until`.
+fn rise_at(c: &Curve, t: Frac, until: Frac, end: Frac) -> Rise
+    requires seen { (z : Sizes) × IsFiniteInSizes z end c.now × IsTimeIn z end t × IsTimeTo z end until }
+    requires rising { IsRising (value_at c.now) }
+    requires before { t <ℚ until }
+    ensures rise { IsRiseFrom (value_at c.now) t until result }
+    ensures sizes { (z : Sizes) → IsFiniteInSizes z end c.now → IsTimeIn z end t → IsTimeTo z end until
+        → RiseSizes z end result }
 {
-    let above = part_at(f, time, end);
-    let below = part_at(g, reached, end);
+    let part = part_at(c, t, end);
+    let line = line_of(&part);
+    let last = lesser(until, part.until);
+    Rise {
+        line,
+        until: last,
+        low: line_at(&line, t),
+        high: line_at(&line, last),
+    }
+}
+
+/// The two lines that are looked at, each over its stretch.
+fn cell_of(walk: &Walk, sight: &Sight) -> Cell
+    ensures { result ≡ cell_in walk.now sight.now }
+{
     Cell {
-        first: line_of(&above),
-        start: time,
-        end: lesser(until, above.until),
-        second: line_of(&below),
-        from: reached,
-        until: below.until,
+        first: sight.above.line,
+        start: walk.time,
+        end: sight.above.until,
+        second: sight.below.line,
+        from: walk.reached,
+        until: sight.below.until,
+    }
+}
+
+/// Their values where they start and end.
+fn levels_of(sight: &Sight) -> Levels
+    ensures { result ≡ levels_in sight.now }
+{
+    Levels {
+        start: sight.above.low,
+        end: sight.above.high,
+        from: sight.below.low,
+        until: sight.below.high,
     }
 }
 
 /// One step: past the second's stretch where it ends below the first's, else past the first's.
-fn step(cell: &Cell, lag: Frac) -> Walk
+fn step(cell: &Cell, levels: &Levels, lag: Frac) -> Walk
     requires sizes { (z : Sizes) × (last : ℚ) × CellSizes z last cell.now }
+    requires levels { AreLevels cell.now levels.now }
     requires rising { RisingCell cell.now }
     ensures lag { (q : ℚ) × IsCellLag cell.now q × (result.lag ≡ max_q lag q) }
     ensures second { line_at cell.now.second cell.now.until <ℚ line_at cell.now.first cell.now.end
@@ -77,11 +122,8 @@ fn step(cell: &Cell, lag: Frac) -> Walk
     ensures first { line_at cell.now.first cell.now.end ≤ℚ line_at cell.now.second cell.now.until
         → (result.time ≡ cell.now.end) × (result.reached ≡ cell.now.from) }
 {
-    let lag = greater(lag, cell_lag(cell));
-    if is_less(
-        line_at(&cell.second, cell.until),
-        line_at(&cell.first, cell.end),
-    ) {
+    let lag = greater(lag, cell_lag(cell, levels));
+    if is_less(levels.until, levels.end) {
         Walk {
             time: cell.start,
             reached: cell.until,
@@ -96,6 +138,41 @@ fn step(cell: &Cell, lag: Frac) -> Walk
     }
 }
 
+/// What is seen after a step that led from `walk` to `next`: the stretch that it passed is looked up anew, unless it was
+/// the first's last one.
+fn sight_after(
+    f: &Curve,
+    g: &Curve,
+    sight: &Sight,
+    walk: &Walk,
+    next: &Walk,
+    until: Frac,
+    end: Frac,
+) -> Sight
+    ghost sizes: { Sizes }
+    requires curves { IsFiniteInSizes sizes end f.now × IsFiniteInSizes sizes end g.now }
+    requires rising { IsRising (value_at f.now) × IsRising (value_at g.now) }
+    requires until { IsTimeIn sizes end until }
+    requires seen { Sees sizes (value_at f.now) (value_at g.now) walk.now until end sight.now }
+    requires passed { HasPassed walk.now sight.now next.now }
+    requires times { IsTimeTo sizes until next.now.time × IsTimeIn sizes end next.now.reached }
+    ensures { Sees sizes (value_at f.now) (value_at g.now) next.now until end result }
+{
+    if is_less(walk.reached, next.reached) {
+        return Sight {
+            above: sight.above,
+            below: rise_at(g, next.reached, end, end),
+        };
+    }
+    if is_less(next.time, until) {
+        return Sight {
+            above: rise_at(f, next.time, until, end),
+            below: sight.below,
+        };
+    }
+    *sight
+}
+
 /// The longest lag of g behind what f is before `until`, where both are finite and rise, and g reaches f's value at
 /// `until` before the window's end. Each step passes a stretch of one of the two below the window's end; nothing is
 /// unrolled, and no memory is taken. The window's sizes are those of a gauge below 2^120 over both curves' numbers.
@@ -108,14 +185,24 @@ pub(crate) fn longest_lag(f: &Curve, g: &Curve, until: Frac, end: Frac) -> Frac
     requires reached { (w : ℚ) × (int (pos 0) ≤ℚ w) × (w <ℚ end) × (value_at f.now until ≤ₑ value_at g.now w) }
     ensures { IsLongestLag (λ s. s <ℚ until) (value_at f.now) (value_at g.now) result }
 {
+    let start = Frac::zero();
+    if !is_less(start, until) {
+        return start;
+    }
     let mut walk = Walk {
-        time: Frac::zero(),
-        reached: Frac::zero(),
-        lag: Frac::zero(),
+        time: start,
+        reached: start,
+        lag: start,
     };
+    let above = rise_at(f, start, until, end);
+    let below = rise_at(g, start, end, end);
+    let mut sight = Sight { above, below };
     while is_less(walk.time, until) {
-        let cell = cell_at(f, g, walk.time, walk.reached, until, end);
-        walk = step(&cell, walk.lag);
+        let cell = cell_of(&walk, &sight);
+        let levels = levels_of(&sight);
+        let next = step(&cell, &levels, walk.lag);
+        sight = sight_after(f, g, &sight, &walk, &next, until, end);
+        walk = next;
     }
     walk.lag
 }

@@ -12,3 +12,4 @@ pub mod MarkSizes
 pub mod CurveSegments
 pub mod Times
 pub mod UnrolledStarts
+pub mod Reaches

@@ -11,3 +11,4 @@ pub mod MarkSizes
 pub mod Shorts
 pub mod Segments
 pub mod Times
+pub mod Reaches

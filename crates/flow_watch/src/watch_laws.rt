@@ -11,8 +11,8 @@ mod point;
 pub use entering::Entering;
 pub use laws::{
     breaches_tell, breaks_are_starts, first_is_one, keys_fit, marks_fit, pairs_suffice,
-    segments_tell, stretches_are_apart, stretches_begin, turns_are_times, turns_suffice,
-    turns_suffice_within, watch_points_suffice,
+    reach_suffices, segments_tell, stretches_are_apart, stretches_begin, turns_are_times,
+    turns_suffice, turns_suffice_within, watch_points_suffice,
 };
 pub use mark::{Mark, Rule};
 pub use point::{Point, Segment};

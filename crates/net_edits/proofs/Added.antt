@@ -32,30 +32,41 @@ name_of name e =
       bytes = AllPass-from_list_all is_name_byte name second.1;
     }
 
-module _ (net : Net) (name : List ℕ) (bits : ℤ) (b : ℕ) (burst rate : ℚ) (entries : List PathEntry) (path lanes : List ℕ)
-    (a : IsAccepted net) (servers : server_numbers net entries ≡ Ok path) (free : is_free net name ≡ true)
-    (named : is_name name ≡ true) (up : is_negative burst ≡ false) (on : is_negative rate ≡ false)
-    (size : whole_that is_length bits ≡ Ok b) (queues : lanes ≡ entry_queues entries) (way : may_be_path net path lanes ≡ true)
-    (fits : fits_along net.servers b path lanes ≡ true) where
+-- what the tests of a flow have told that come before the numbers of flows are looked at
+pub record MayBeAdded (net : Net) (name : List ℕ) (bits : ℤ) (b : ℕ) (burst rate : ℚ) (entries : List PathEntry)
+    (path lanes : List ℕ) : Type 0 where
+  pub accepted : IsAccepted net
+  pub servers : server_numbers net entries ≡ Ok path
+  pub free : is_free net name ≡ true
+  pub named : is_name name ≡ true
+  pub burst_up : is_negative burst ≡ false
+  pub rate_up : is_negative rate ≡ false
+  pub size : whole_that is_length bits ≡ Ok b
+  pub queues : lanes ≡ entry_queues entries
+  pub way : may_be_path net path lanes ≡ true
+  pub fits : fits_along net.servers b path lanes ≡ true
+
+module _ {net : Net} {name : List ℕ} {bits : ℤ} {b : ℕ} {burst rate : ℚ} {entries : List PathEntry} {path lanes : List ℕ}
+    (may : MayBeAdded net name bits b burst rate entries path lanes) where
   is_flow : IsFlow net.servers (new_flow name b burst rate path lanes)
   is_flow =
-      let w = way_of net path lanes way in
-      let pair = lanes_long net entries path lanes servers queues in
+      let w = way_of net path lanes may.way in
+      let pair = lanes_long net entries path lanes may.servers may.queues in
       record {
-        name = name_of name named;
-        packet = bits_length bits b size;
+        name = name_of name may.named;
+        packet = bits_length bits b may.size;
         some = w.some;
         few = w.few;
         paired = pair;
-        hops = hops_of net path lanes b w pair fits;
+        hops = hops_of net path lanes b w pair may.fits;
         once = w.once;
-        arrival = kinds_may_stand.bucket burst rate (nonneg_of burst up) (nonneg_of rate on);
+        arrival = kinds_may_stand.bucket burst rate (nonneg_of burst may.burst_up) (nonneg_of rate may.rate_up);
       }
 
   pub add_stands : length net.flows < 256 → IsAccepted (with_more (new_flow name b burst rate path lanes) net)
   add_stands room =
-      more_stands net (new_flow name b burst rate path lanes) a room is_flow
-      (free_differs net (new_flow name b burst rate path lanes) free)
+      more_stands net (new_flow name b burst rate path lanes) may.accepted room is_flow
+      (free_differs net (new_flow name b burst rate path lanes) may.free)
 
   -- up to the numbers
   added : add_edited net name bits burst rate entries
@@ -68,34 +79,34 @@ module _ (net : Net) (name : List ℕ) (bits : ℤ) (b : ℕ) (burst rate : ℚ)
       and_then (whole_that is_length bits) (λ m.
       only_if (may_be_path net ss (entry_queues entries)) (
       and_then (fitting (with_more (new_flow name m burst rate ss (entry_queues entries)) net) None)
-      (only_if_left (nat_lt (length net.flows) 256)))))))) servers
+      (only_if_left (nat_lt (length net.flows) 256)))))))) may.servers
       ∙ ap (λ (t : Bool). only_if_free t name (
       only_if (is_name name && (not (is_negative burst) && not (is_negative rate))) (
       and_then (whole_that is_length bits) (λ m.
       only_if (may_be_path net path (entry_queues entries)) (
       and_then (fitting (with_more (new_flow name m burst rate path (entry_queues entries)) net) None)
-      (only_if_left (nat_lt (length net.flows) 256))))))) free
+      (only_if_left (nat_lt (length net.flows) 256))))))) may.free
       ∙ passed (is_name name && (not (is_negative burst) && not (is_negative rate)))
       (and_then (whole_that is_length bits) (λ m.
       only_if (may_be_path net path (entry_queues entries)) (
       and_then (fitting (with_more (new_flow name m burst rate path (entry_queues entries)) net) None)
       (only_if_left (nat_lt (length net.flows) 256)))))
-      (and_from (is_name name) (not (is_negative burst) && not (is_negative rate)) named
-      (and_from (not (is_negative burst)) (not (is_negative rate)) (not_from_false (is_negative burst) up)
-      (not_from_false (is_negative rate) on)))
+      (and_from (is_name name) (not (is_negative burst) && not (is_negative rate)) may.named
+      (and_from (not (is_negative burst)) (not (is_negative rate)) (not_from_false (is_negative burst) may.burst_up)
+      (not_from_false (is_negative rate) may.rate_up)))
       ∙ ap (λ (r : Or ℕ). and_then r (λ m.
       only_if (may_be_path net path (entry_queues entries)) (
       and_then (fitting (with_more (new_flow name m burst rate path (entry_queues entries)) net) None)
-      (only_if_left (nat_lt (length net.flows) 256))))) size
+      (only_if_left (nat_lt (length net.flows) 256))))) may.size
       ∙ ap (λ (qs : List ℕ). only_if (may_be_path net path qs) (
       and_then (fitting (with_more (new_flow name b burst rate path qs) net) None)
-      (only_if_left (nat_lt (length net.flows) 256)))) (sym queues)
+      (only_if_left (nat_lt (length net.flows) 256)))) (sym may.queues)
       ∙ passed (may_be_path net path lanes) (and_then (fitting (with_more (new_flow name b burst rate path lanes) net) None)
-      (only_if_left (nat_lt (length net.flows) 256))) way
+      (only_if_left (nat_lt (length net.flows) 256))) may.way
       ∙ ap (λ (r : Or Edited). and_then r (only_if_left (nat_lt (length net.flows) 256)))
       (passed (quanta_fit (with_more (new_flow name b burst rate path lanes) net))
       (Ok (record { net = with_more (new_flow name b burst rate path lanes) net; made = None }))
-      (more_fits net (new_flow name b burst rate path lanes) a ∙ fits))
+      (more_fits net (new_flow name b burst rate path lanes) may.accepted ∙ may.fits))
 
   pub add_edit : length net.flows < 256
       → add_edited net name bits burst rate entries

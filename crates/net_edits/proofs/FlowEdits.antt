@@ -22,7 +22,7 @@ use Rattle.net_edits.specs.Changed.{put_flow, flow_changed, at_flow, with_arriva
 use Rattle.net_edits.specs.Edited.{MadeCurve, fitting, as_arrival, is_positive, is_negative, stair_of, stair_edited, packet_edited, route_edited, drop_edited}
 use Rattle.net_edits.proofs.Found.{numbers_long}
 use Rattle.net_edits.proofs.Signs.{positive_of, nonneg_of}
-use Rattle.net_edits.proofs.Steps.{then_ok, passed, stopped}
+use Rattle.net_edits.proofs.Steps.{then_ok, passed}
 use Rattle.net_edits.proofs.Fitting.{in_quantum, fits_at, accepted_fits}
 use Rattle.net_edits.proofs.Flows.{flow_stands, changed_fits}
 use Rattle.net_edits.proofs.Pathways.{IsWay, hops_of}
@@ -133,12 +133,13 @@ module _ (net : Net) (i : ℕ) (old : NetFlow) (a : IsAccepted net) (at : slice_
       (one_only (λ f. f.name ≡ old.name) (record old { path = path; queues = lanes }) refl)
       (one_only (λ f. IsFlow net.servers f) (record old { path = path; queues = lanes }) (path_flow path lanes way pair fits))
 
-  -- where the changed flow's packets are not in its queues' quanta
-  pub no_fit : (place : Option NetFlow) (made : Option MadeCurve) → place_fits net.servers place ≡ false
-      → fitting (put_flow net i place) made ≡ Err bad_value
-  no_fit place made e =
-      stopped (quanta_fit (put_flow net i place)) (Ok (record { net = put_flow net i place; made = made }))
-      (changed_fits net i old place a at ∙ e)
+  -- a changed flow that may stand where its packets are within its queues' quanta
+  pub fitting_stands : (place given : Option NetFlow) → given ≡ place
+      → (place_fits net.servers place ≡ true → IsAccepted (put_flow net i place)) → quanta_fit (put_flow net i given) ≡ true
+      → IsAccepted (put_flow net i given)
+  fitting_stands place given same stands fits =
+      subst (λ (p : Option NetFlow). IsAccepted (put_flow net i p)) (sym same)
+      (stands (sym (changed_fits net i old place a at) ∙ ap (λ (p : Option NetFlow). quanta_fit (put_flow net i p)) (sym same) ∙ fits))
 
 pub stands_fit : (after : Net) (made : Option MadeCurve) → IsAccepted after
     → fitting after made ≡ Ok (record { net = after; made = made })

@@ -1,5 +1,5 @@
 -- Networks with one server changed still may stand.
-use Rattle.std.proofs.Common.{◌≡◌, ◌≢◌, ℕ, ◌<◌, List, Option, Some, true, sym, ap, ◌∙◌, subst, inl, inr, arith}
+use Rattle.std.proofs.Common.{◌≡◌, ◌≢◌, ℕ, ◌<◌, List, length, Option, Some, true, sym, ap, ◌∙◌, subst, inl, inr, arith}
 use Rattle.std.specs.Prelude.{Contains, slice_get, slice_set, slice_index}
 use Rattle.std.proofs.lemmas.List.{length-set}
 use Rattle.std.proofs.lemmas.List.Elements.{All-set, All-contains}
@@ -85,20 +85,26 @@ module _ (servers : List NetServer) (s : ℕ) (old new : NetServer) (at : slice_
       ]
 
 -- ---- networks
+-- a flow whose hops may stand on other servers
+rehopped : (servers others : List NetServer) (f : NetFlow) → IsFlow servers f
+    → ((k : ℕ) → k < length f.path → IsHop others (slice_index f.path k) (slice_index f.queues k) f.packet) → IsFlow others f
+rehopped servers others f is hops = record {
+  name = is.name;
+  packet = is.packet;
+  some = is.some;
+  few = is.few;
+  paired = is.paired;
+  hops = hops;
+  once = is.once;
+  arrival = is.arrival;
+}
+
 pub same_discipline : (net : Net) (s : ℕ) (old new : NetServer) → IsAccepted net → slice_get net.servers s ≡ Some old
     → IsServer new → new.name ≡ old.name → new.discipline ≡ old.discipline → IsAccepted (put_server net s new)
 same_discipline net s old new a at is name same =
-    server_stands net s old new a at is name (λ f h has. record {
-      name = h.name;
-      packet = h.packet;
-      some = h.some;
-      few = h.few;
-      paired = h.paired;
-      hops = λ k within.
-          same_hop net.servers s old new at (slice_index f.path k) (slice_index f.queues k) f.packet same (h.hops k within);
-      once = h.once;
-      arrival = h.arrival;
-    })
+    server_stands net s old new a at is name (λ f h has.
+    rehopped net.servers (slice_set net.servers s new) f h (λ k within.
+    same_hop net.servers s old new at (slice_index f.path k) (slice_index f.queues k) f.packet same (h.hops k within)))
 
 pub quanta_stand : (net : Net) (s : ℕ) (old new : NetServer) → IsAccepted net → slice_get net.servers s ≡ Some old
     → IsServer new → new.name ≡ old.name → queue_count new.discipline ≡ queue_count old.discipline
@@ -106,15 +112,6 @@ pub quanta_stand : (net : Net) (s : ℕ) (old new : NetServer) → IsAccepted ne
 quanta_stand net s old new a at is name many fits =
     server_stands net s old new a at is name (λ f h has.
     let along = flow_of_fitting (slice_set net.servers s new) net.flows f fits has in
-    record {
-      name = h.name;
-      packet = h.packet;
-      some = h.some;
-      few = h.few;
-      paired = h.paired;
-      hops = λ k within.
-          fitting_hop net.servers s old new at (slice_index f.path k) (slice_index f.queues k) f.packet many
-          (fits_at (slice_set net.servers s new) f.packet f.path f.queues k along within h.paired) (h.hops k within);
-      once = h.once;
-      arrival = h.arrival;
-    })
+    rehopped net.servers (slice_set net.servers s new) f h (λ k within.
+    fitting_hop net.servers s old new at (slice_index f.path k) (slice_index f.queues k) f.packet many
+    (fits_at (slice_set net.servers s new) f.packet f.path f.queues k along within h.paired) (h.hops k within)))

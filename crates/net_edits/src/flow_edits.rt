@@ -12,8 +12,7 @@ ghost use Rattle.net_edits.specs.Replies.{Makes, IsReply, IsOverNone};
 use crate::fault::EditFault;
 use crate::names::{flow_number, flow_of_number, server_numbers};
 use crate::numbers::{is_negative, is_positive, length_of};
-use crate::quanta::fits_along;
-use crate::replacing::with_flow;
+use crate::replacing::{with_fitting_flow, with_flow};
 use crate::service::within_limits;
 use crate::ways::{entry_queues, may_be_path};
 use curve_library::{CurveFault, bucket, stair};
@@ -131,12 +130,8 @@ pub(crate) fn packet_edited(
 {
     let number = flow_number(alloc, net, name)?;
     let bits = length_of(bits)?;
-    let old = flow_of_number(net, number);
-    if !fits_along(net.servers(), bits, &old.path, &old.queues) {
-        return Err(EditFault::BadValue);
-    }
-    let flow = with_packet(old, bits)?;
-    Ok(with_flow(net, number, Some(flow))?)
+    let flow = with_packet(flow_of_number(net, number), bits)?;
+    with_fitting_flow(net, number, flow)
 }
 
 fn with_path(flow: &Flow, path: Vec<u32>, lanes: Vec<u32>) -> Result<Flow, AllocError>
@@ -160,15 +155,11 @@ pub(crate) fn route_edited(
     let number = flow_number(alloc, net, name)?;
     let path = server_numbers(alloc, net, entries)?;
     let lanes = entry_queues(alloc, entries)?;
-    let old = flow_of_number(net, number);
     if !may_be_path(net, &path, &lanes) {
         return Err(EditFault::BadValue);
     }
-    if !fits_along(net.servers(), old.packet, &path, &lanes) {
-        return Err(EditFault::BadValue);
-    }
-    let flow = with_path(old, path, lanes)?;
-    Ok(with_flow(net, number, Some(flow))?)
+    let flow = with_path(flow_of_number(net, number), path, lanes)?;
+    with_fitting_flow(net, number, flow)
 }
 
 /// One flow less.

@@ -1,4 +1,5 @@
 pub mod LatticeCalls
+pub mod Leanings
 pub mod LatticeLimits
 pub mod LatticeAnswers
 pub mod LatticeLevels

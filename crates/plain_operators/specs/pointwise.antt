@@ -2,3 +2,4 @@ pub mod Lattice
 pub mod LatticeCall
 pub mod Shifting
 pub mod Straight
+pub mod Leaning

@@ -3,6 +3,7 @@
 
 mod extremes;
 mod lattice;
+mod leaning;
 mod levels;
 mod scaling;
 mod shifts;

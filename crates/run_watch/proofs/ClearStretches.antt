@@ -1,6 +1,5 @@
 -- A stretch whose own turns, and times as far from one as a piece starts, show no short window has no idle one.
-use Rattle.std.specs.Prelude.{◌≡◌, ℕ, ◌<◌, List, [], ◌∷◌, length, None}
-use Rattle.std.specs.List.{slice_index_or}
+use Rattle.std.specs.Prelude.{◌≡◌, false, List, [], ◌∷◌, Option, None, IfSome}
 use Rattle.std.proofs.Common.{arith, refl, sym, subst, inl, inr}
 use Rattle.upp_limits.specs.rational.specs.Rational.{ℚ, ◌+ℚ◌, ◌-ℚ◌, ◌≤ℚ◌, ◌<ℚ◌}
 use Rattle.upp_limits.specs.rational.specs.Extended.{◌<ₑ◌, ◌+ₑ◌}
@@ -20,19 +19,21 @@ use Rattle.flow_watch.specs.watch_laws.Windows.{IsPair}
 use Rattle.flow_watch.specs.watch_laws.Breaches.{IsIdle}
 use Rattle.flow_watch.specs.declared.watch_laws.point.Segment.{Segment}
 use Rattle.flow_watch.specs.watch_laws.Segments.{segments}
+use Rattle.flow_watch.specs.watch_laws.Reaches.{HasReach}
 use Rattle.flow_watch.specs.watch_laws.Shorts.{EachSegment, HasSegment, IsShortBy}
 use Rattle.flow_watch.proofs.watch_laws.CurveSegments.{segments_tell, starts_tell}
-use Rattle.flow_watch.proofs.watch_laws.Premises.{turns_suffice_within, turns_suffice_between}
 use Rattle.flow_watch.proofs.watch_laws.UnrolledStarts.{start_before}
 use Rattle.run_watch.specs.declared.watched.Watched.{Watched}
 use Rattle.run_watch.specs.declared.watched.Stretch.{Stretch}
-use Rattle.run_watch.specs.Watching.{stretches, HoldsTimes}
+use Rattle.run_watch.specs.Watching.{HoldsTimes}
 use Rattle.run_watch.specs.declared.span.Ramp.{Ramp}
 use Rattle.run_watch.specs.WatchTimes.{point_at}
 use Rattle.run_watch.specs.NearWindows.{EndsShort}
-use Rattle.run_watch.specs.Searches.{IsClearStretch, IsCut, FindsIn}
+use Rattle.run_watch.specs.Reaches.{is_beyond}
+use Rattle.run_watch.specs.Searches.{segments_near, IsClearStretch, IsCut, IsLookedAt, FindsIn}
 use Rattle.run_watch.proofs.FoundTimes.{AreTurns}
 use Rattle.run_watch.proofs.IdleIn.{IsSearched, IsPlaced, within, less_seen, placed, none_here}
+use Rattle.run_watch.proofs.Reaches.{kept_segment, between_near}
 use Rattle.run_watch.proofs.SortedPoints.{has_point_at}
 
 -- a turn of the stretch is one of its own
@@ -103,10 +104,10 @@ at_first : (p q u e : ℚ) → u ≤ℚ p → q ≤ℚ e → e -ℚ u ≤ℚ q -
 at_first p q u e h k l = antisym (with4 p q u e (λ c. omega (arith, c.le, c.lt, c.same)), h)
 
 -- a window that is short between two times of the law is one that the look finds
-pair_shows : (server : Server) (V : List ServerStep) (w : Watched) (c : SpecCurve) (ps own : List ℚ) (s : Stretch) (p q : ℚ) → IsSearched server V w c ps → HoldsTimes s ps own → IsPlaced V w s → s.start ≤ℚ p → p <ℚ q → q ≤ℚ s.end
-    → IsPair (IsTurn w.end V) (IsBreak c) p q → Fin (worked all V q) <ₑ (Fin (worked all V p) +ₑ value_at c (q -ℚ p)) → EndsShort (segments (unroll c (s.end -ℚ s.start))) w.works.items s own q
-pair_shows server V w c ps own s p q S H P low forward high pair less =
-    let I = within server V w c ps s S P.is P.low in
+pair_shows : (server : Server) (V : List ServerStep) (w : Watched) (c : SpecCurve) (ps own : List ℚ) (s : Stretch) (e : ℚ) (reach : Option ℚ) (p q : ℚ) → IsSearched server V w c ps → HoldsTimes s ps own → IsPlaced V w s e → s.start ≤ℚ p → p <ℚ q → q ≤ℚ s.end
+    → IsPair (IsTurn w.end V) (IsBreak c) p q → is_beyond reach (q -ℚ p) ≡ false → Fin (worked all V q) <ₑ (Fin (worked all V p) +ₑ value_at c (q -ℚ p)) → EndsShort (segments_near c s reach) w.works.items s own q
+pair_shows server V w c ps own s e reach p q S H P low forward high pair near less =
+    let I = within V w s e P in
     let works = w.works.items in
     let far = s.end -ℚ s.start in
     let some = sub_pos s.start s.end I.forward in
@@ -116,14 +117,9 @@ pair_shows server V w c ps own s p q S H P low forward high pair less =
     let at = λ (t : ℚ) (turn : IsTurn w.end V t) (x : s.start ≤ℚ t) (y : t ≤ℚ s.end). own_turn w.end V s ps own t S.turns_are H turn x y in
     let at_p = λ (turn : IsTurn w.end V p). at p turn low (le_trans (le_of_lt forward) high) in
     let at_q = λ (turn : IsTurn w.end V q). at q turn (le_trans low (le_of_lt forward)) high in
-    let both : Among p own → Among q own → EndsShort (segments (unroll c far)) works s own q = λ (x : Among p own) (y : Among q own). inl (
-      p,
-      record {
-        from = x;
-        to = y;
-        short = (segments_tell c far (point_at works p) (point_at works q) S.serves some (le_of_lt forward) most).1 seen;
-      },
-    ) in
+    let (g0, listed, told) = (segments_tell c far (point_at works p) (point_at works q) S.serves some (le_of_lt forward) most).1 seen in
+    let kept : HasSegment g0 (segments_near c s reach) = kept_segment reach (segments (unroll c far)) g0 (q -ℚ p) listed told.from near in
+    let both : Among p own → Among q own → EndsShort (segments_near c s reach) works s own q = λ (x : Among p own) (y : Among q own). inl (p, record { from = x; to = y; short = (g0, kept, told) }) in
     let begun = λ (g : ℚ) (start : HasStart (q -ℚ p) (unroll c g)) (m : q -ℚ p <ℚ far). starts_tell c far (point_at works p) (point_at works q) S.serves some (le_of_lt forward) most (start_before c far g (q -ℚ p) n start m) seen in
     elim pair [
       | inl two ↦ both (at_p two.0) (at_q two.1)
@@ -131,46 +127,49 @@ pair_shows server V w c ps own s p q S H P low forward high pair less =
         | inl one ↦
             let (g, start) = one.1 in
             elim (le_or_lt far (q -ℚ p)) [
-              | inr m ↦ let (r, has, is, short) = begun g start m in shown_after (segments (unroll c far)) works s own p q r (at_p one.0) has is high short
+              | inr m ↦ let (r, has, is, short) = begun g start m in shown_after (segments_near c s reach) works s own p q r (at_p one.0) (kept_segment reach (segments (unroll c far)) r (q -ℚ p) has short.from near) is high short
               | inl m ↦ both (at_p one.0) (at_q (subst (IsTurn w.end V) (sym (at_last p q s.start s.end low high m)) I.last))
             ]
         | inr one ↦
             let (g, start) = one.1 in
             elim (le_or_lt far (q -ℚ p)) [
-              | inr m ↦ let (r, has, is, short) = begun g start m in shown_before (segments (unroll c far)) works s own p q r (at_q one.0) has is low short
+              | inr m ↦ let (r, has, is, short) = begun g start m in shown_before (segments_near c s reach) works s own p q r (at_q one.0) (kept_segment reach (segments (unroll c far)) r (q -ℚ p) has short.from near) is low short
               | inl m ↦ both (at_p (subst (IsTurn w.end V) (sym (at_first p q s.start s.end low high m)) I.first)) (at_q one.0)
             ]
       ]
     ]
 
-pub none_clear : (server : Server) (V : List ServerStep) (w : Watched) (c : SpecCurve) (ps own : List ℚ) (ss : List Stretch) (k : ℕ) (s : Stretch) → IsSearched server V w c ps → HoldsTimes s ps own → ss ≡ stretches w → k < length ss
-    → s ≡ slice_index_or ss k s → IsClearStretch w c s own → (a b : ℚ) → IsIdle w.end V c a b → s.start ≤ℚ a → b ≤ℚ s.end → ⊥
-none_clear server V w c ps own ss k s S H same l e clear a b idle from upto =
-    let P = placed server V w ss k s S.seen same l e in
-    let (p, q, around_it, forward, pair, less) = turns_suffice_within server w.end V c s.start s.end a b S.seen.lawful S.serves record { stretch = P.is; first = from; last = upto } idle.forward idle.less in
-    clear q (pair_shows server V w c ps own s p q S H P around_it.first forward around_it.last pair less)
+pub none_clear : (server : Server) (V : List ServerStep) (w : Watched) (c : SpecCurve) (ps own : List ℚ) (s : Stretch) (e : ℚ) → IsSearched server V w c ps → HoldsTimes s ps own → IsPlaced V w s e
+    → IsClearStretch w c s own → (a b : ℚ) → IsIdle w.end V c a b → s.start ≤ℚ a → b ≤ℚ s.end → ⊥
+none_clear server V w c ps own s e S H P clear a b idle from upto =
+    let I = within V w s e P in
+    let (reach, R, none) = clear in
+    let (p, q, first, forward, last, pair, near, less) = between_near server w.end V c reach s.start s.end a b S.seen.lawful S.serves R I.first I.last from idle.forward upto idle.less in
+    none q (pair_shows server V w c ps own s e reach p q S H P first forward last pair near less)
 
 -- where the look finds none that ends before `least`, no window at all that is too short of work ends by a turn before it
-pub none_by_cut : (server : Server) (V : List ServerStep) (w : Watched) (c : SpecCurve) (ps own : List ℚ) (s : Stretch) (least cut a b : ℚ) → IsSearched server V w c ps → HoldsTimes s ps own → IsPlaced V w s
-    → ((t : ℚ) → EndsShort (segments (unroll c (s.end -ℚ s.start))) w.works.items s own t → least ≤ℚ t) → IsCut own s.start least cut → s.start ≤ℚ a → a <ℚ b
+pub none_by_cut : (server : Server) (V : List ServerStep) (w : Watched) (c : SpecCurve) (ps own : List ℚ) (s : Stretch) (e : ℚ) (reach : Option ℚ) (least cut a b : ℚ) → IsSearched server V w c ps → HoldsTimes s ps own → IsPlaced V w s e
+    → IfSome reach (HasReach c) → ((t : ℚ) → EndsShort (segments_near c s reach) w.works.items s own t → least ≤ℚ t) → IsCut own s.start least cut → s.start ≤ℚ a → a <ℚ b
     → Fin (worked all V b) <ₑ (Fin (worked all V a) +ₑ value_at c (b -ℚ a)) → cut <ℚ b
-none_by_cut server V w c ps own s least cut a b S H P none is from forward less = elim (le_or_lt b cut) [
+none_by_cut server V w c ps own s e reach least cut a b S H P R none is from forward less = elim (le_or_lt b cut) [
   | inr m ↦ m
   | inl m ↦ absurd (elim is [
-    | inl e ↦ lt_irrefl a (lt_le_trans forward (le_trans (subst (λ x. b ≤ℚ x) e m) from))
+    | inl at ↦ lt_irrefl a (lt_le_trans forward (le_trans (subst (λ x. b ≤ℚ x) at m) from))
     | inr d ↦
-        let I = within server V w c ps s S P.is P.low in
+        let I = within V w s e P in
         let turn = S.turns_are.are cut (H.are cut d.0) in
-        let (p, q, first, after, last, pair, short) = turns_suffice_between server w.end V c s.start cut a b S.seen.lawful S.serves I.first turn from forward m less in
+        let (p, q, first, after, last, pair, near, short) = between_near server w.end V c reach s.start cut a b S.seen.lawful S.serves R I.first turn from forward m less in
         let high = le_trans last (H.upto cut d.0) in
-        lt_irrefl cut (lt_le_trans d.1 (le_trans (none q (pair_shows server V w c ps own s p q S H P first after high pair short)) last))
+        lt_irrefl cut (lt_le_trans d.1 (le_trans (none q (pair_shows server V w c ps own s e reach p q S H P first after high pair near short)) last))
   ])
 ]
 
 -- what the search of a stretch finds: where it finds nothing, the stretch has no idle window
-pub none_found : (server : Server) (V : List ServerStep) (w : Watched) (c : SpecCurve) (ps own : List ℚ) (ss : List Stretch) (k : ℕ) (s : Stretch) → IsSearched server V w c ps → HoldsTimes s ps own → ss ≡ stretches w → k < length ss
-    → s ≡ slice_index_or ss k s → FindsIn w c s own ps None → (a b : ℚ) → IsIdle w.end V c a b → s.start ≤ℚ a → b ≤ℚ s.end → ⊥
-none_found server V w c ps own ss k s S H same l e none = elim none [
-  | inl clear ↦ none_clear server V w c ps own ss k s S H same l e clear
-  | inr seen ↦ none_here server V w c ps ss k s S same l e seen
-]
+pub none_found : (server : Server) (V : List ServerStep) (w : Watched) (c : SpecCurve) (ps own : List ℚ) (s : Stretch) → IsSearched server V w c ps → IsLookedAt w s own ps
+    → FindsIn w c s own ps None → (a b : ℚ) → IsIdle w.end V c a b → s.start ≤ℚ a → b ≤ℚ s.end → ⊥
+none_found server V w c ps own s S L none =
+    let P = placed server V w s own ps S.seen S.turns_are L in
+    elim none [
+      | inl clear ↦ none_clear server V w c ps own s L.whole.end S L.holds P clear
+      | inr seen ↦ none_here server V w c ps s L.whole.end S P seen
+    ]

@@ -13,11 +13,11 @@ use Rattle.net_model.specs.run_laws.proofs.Sizes.{whole_lt}
 use Rattle.net_model.specs.declared.breach.Breach.{Breach}
 use Rattle.net_model.specs.declared.breach.Breach.TheVariants.{Size, Arrival, Service}
 use Rattle.flow_watch.specs.declared.watch_laws.entering.Entering.{Entering}
-use Rattle.flow_watch.specs.watch_laws.Breaches.{order_key, NoLater, IsIdle}
+use Rattle.flow_watch.specs.watch_laws.Breaches.{order_key, NoLater}
 use Rattle.flow_watch.specs.watch_laws.Entries.{entries, entering, IsCrowded, EntersFrom}
 use Rattle.flow_watch.proofs.watch_laws.Crowds.{times_rise}
 use Rattle.flow_watch.specs.Flows.{NoneLonger, IsFirstLonger, NoneCrowded, IsFirstCrowded}
-use Rattle.run_watch.specs.FirstOf.{IsBest, IsLongOn, IsCrowdOn, IsIdleOn, EnterInOrder}
+use Rattle.run_watch.specs.FirstOf.{IsBest, IsBestBefore, IsLongOn, IsCrowdOn, IsIdleOn, EnterInOrder}
 use Rattle.run_watch.specs.Held.{FindsIdle, IsFirstIdle}
 use Rattle.flow_watch.proofs.LeastFirst.{read_is}
 
@@ -102,10 +102,10 @@ arrival_some run flow α es first last x e order l at h =
         (same_or_more last j (whole first ∷ []) (whole i ∷ []) no_later (λ same. same_or_more first i [] [] (least same) (λ _. tt)))))
 
 -- ---- service
-pub service_none : (run : SpecRun) (end : ℚ) (V : List ServerStep) (server : ℕ) (c : SpecCurve) → ((a b : ℚ) → ¬ IsIdle end V c a b) → IsBest (IsIdleOn end V server c) run None
-service_none run end V server c h (Size f p) is = is
-service_none run end V server c h (Arrival f i j) is = is
-service_none run end V server c h (Service s a b) is = h a b is.1
+pub service_none : (run : SpecRun) (until : Option ℚ) (end : ℚ) (V : List ServerStep) (server : ℕ) (c : SpecCurve) → FindsIdle until end V c None → IsBestBefore until (IsIdleOn end V server c) run None
+service_none run until end V server c h (Size f p) is = absurd is
+service_none run until end V server c h (Arrival f i j) is = absurd is
+service_none run until end V server c h (Service s a b) is = h a b is.1
 
 pub service_some : (run : SpecRun) (end : ℚ) (V : List ServerStep) (server : ℕ) (c : SpecCurve) (a b : ℚ) → IsFirstIdle end V c a b → IsBest (IsIdleOn end V server c) run (Some record { time = b; breach = Service server a b })
 service_some run end V server c a b h = record { is = (refl, h.is); time = refl; least = λ y is. go y is }
@@ -120,9 +120,9 @@ service_some run end V server c a b h = record { is = (refl, h.is); time = refl;
           | inr m ↦ inr (m.0, inr (refl, inr (refl, timed a x [] [] m.1 (λ _. tt))))
         ])
 
-pub service_none_of : (run : SpecRun) (end : ℚ) (V : List ServerStep) (server : ℕ) (c : SpecCurve) (o : Option (ℚ × ℚ)) → o ≡ None → FindsIdle end V c o → IsBest (IsIdleOn end V server c) run None
-service_none_of run end V server c o e h = service_none run end V server c (subst (λ (p : Option (ℚ × ℚ)). FindsIdle end V c p) e h)
+pub service_none_of : (run : SpecRun) (until : Option ℚ) (end : ℚ) (V : List ServerStep) (server : ℕ) (c : SpecCurve) (o : Option (ℚ × ℚ)) → o ≡ None → FindsIdle until end V c o → IsBestBefore until (IsIdleOn end V server c) run None
+service_none_of run until end V server c o e h = service_none run until end V server c (subst (λ (p : Option (ℚ × ℚ)). FindsIdle until end V c p) e h)
 
-pub service_some_of : (run : SpecRun) (end : ℚ) (V : List ServerStep) (server : ℕ) (c : SpecCurve) (o : Option (ℚ × ℚ)) (a b : ℚ) → o ≡ Some (a, b) → FindsIdle end V c o
-    → IsBest (IsIdleOn end V server c) run (Some record { time = b; breach = Service server a b })
-service_some_of run end V server c o a b e h = service_some run end V server c a b (subst (λ (p : Option (ℚ × ℚ)). FindsIdle end V c p) e h)
+pub service_some_of : (run : SpecRun) (until : Option ℚ) (end : ℚ) (V : List ServerStep) (server : ℕ) (c : SpecCurve) (o : Option (ℚ × ℚ)) (a b : ℚ) → o ≡ Some (a, b) → FindsIdle until end V c o
+    → IsBestBefore until (IsIdleOn end V server c) run (Some record { time = b; breach = Service server a b })
+service_some_of run until end V server c o a b e h = service_some run end V server c a b (subst (λ (p : Option (ℚ × ℚ)). FindsIdle until end V c p) e h)

@@ -10,7 +10,7 @@ use Rattle.net_model.specs.declared.breach.Breach.TheVariants.{Size, Arrival, Se
 use Rattle.flow_watch.specs.watch_laws.Breaches.{order_key, NoLater}
 use Rattle.flow_watch.proofs.watch_laws.Order.{no_later_trans}
 use Rattle.run_watch.specs.declared.found.Found.{Found}
-use Rattle.run_watch.specs.FirstOf.{time_of, IsBest, earlier, GoesBefore, IsBoth, EarlierIsFirst}
+use Rattle.run_watch.specs.FirstOf.{time_of, IsBest, IsBestBefore, time_if_any, earlier, GoesBefore, IsBoth, EarlierIsFirst}
 use Rattle.run_watch.proofs.RampLists.{not_less}
 
 sooner_key : (run : SpecRun) (x y : Breach) → time_of run x <ℚ time_of run y → NoLater (order_key run x) (order_key run y)
@@ -58,6 +58,17 @@ first_of_both run P Q R (Some f) (Some g) h k B G = elim (cases_Bool (lt_q g.tim
         ];
       }
 ]
+
+-- of the other set only those before the first of the one are asked for
+pub first_of_both_before : (run : SpecRun) (P Q R : Breach → Type 0) (o p : Option Found) → IsBest P run o → IsBestBefore (time_if_any o) Q run p → IsBoth P Q R → GoesBefore run P Q → IsBest R run (earlier o p)
+first_of_both_before run P Q R None None h k B G = first_of_both run P Q R None None h k B G
+first_of_both_before run P Q R None (Some g) h k B G = first_of_both run P Q R None (Some g) h k B G
+first_of_both_before run P Q R (Some f) None h k B G = record {
+  is = B.first f.breach h.is;
+  time = h.time;
+  least = λ y r. elim (B.of_one y r) [ inl a ↦ h.least y a | inr a ↦ G f.breach y h.is a (subst (λ x. x ≤ℚ time_of run y) h.time (k y a)) ];
+}
+first_of_both_before run P Q R (Some f) (Some g) h k B G = first_of_both run P Q R (Some f) (Some g) h k B G
 
 pub earlier_is_first : EarlierIsFirst
 earlier_is_first run p q f g h k before =

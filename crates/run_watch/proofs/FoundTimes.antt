@@ -23,7 +23,7 @@ use Rattle.run_watch.proofs.FoundTurns.{among_left, among_right, among_parts}
 use Rattle.run_watch.proofs.SortedPoints.{each_time_among}
 
 -- ---- one time
-inside_in : (s : Stretch) (t : ℚ) → s.start ≤ℚ t → t ≤ℚ s.end → Among t (inside s t)
+pub inside_in : (s : Stretch) (t : ℚ) → s.start ≤ℚ t → t ≤ℚ s.end → Among t (inside s t)
 inside_in s t h k = rw (and_from (le_q s.start t) (le_q t s.end) (le_q_out s.start t h) (le_q_out t s.end k)) (inl refl)
 
 pub record IsIn (s : Stretch) (u t : ℚ) : Type 0 where
@@ -31,7 +31,7 @@ pub record IsIn (s : Stretch) (u t : ℚ) : Type 0 where
   pub from : s.start ≤ℚ u
   pub upto : u ≤ℚ s.end
 
-in_inside : (s : Stretch) (u t : ℚ) → Among u (inside s t) → IsIn s u t
+pub in_inside : (s : Stretch) (u t : ℚ) → Among u (inside s t) → IsIn s u t
 in_inside s u t h = elim (cases_Bool (le_q s.start t && le_q t s.end)) [
   | inl e ↦
       let is = one (rw e at h) in

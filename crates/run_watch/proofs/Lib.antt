@@ -12,11 +12,13 @@ pub mod ShortWindows
 pub mod SortedPoints
 pub mod OrderedTimes
 pub mod FoundTimes
+pub mod ClassTimes
 pub mod HeldSizes
 pub mod IdleIn
 pub mod HeldTimes
 pub mod SightLaws
 pub mod FirstIdle
+pub mod Reaches
 pub mod OwnTurns
 pub mod NearWindows
 pub mod ClearStretches

@@ -1,11 +1,11 @@
 -- The look at a stretch's own turns: step by step, and the sizes of its numbers.
-use Rattle.std.specs.Prelude.{◌≡◌, ◌↔◌, ℕ, ◌<◌, pos, Bool, IsTrue, List, [], ◌∷◌, length, map, Option, Some, None}
+use Rattle.std.specs.Prelude.{◌≡◌, ◌↔◌, ℕ, ◌<◌, pos, Bool, IsTrue, List, [], ◌∷◌, length, map, Option, Some, None, IfSome}
 use Rattle.std.specs.List.{slice_index_or}
 use Rattle.std.proofs.Common.{arith, refl, sym, subst, ap, inl, inr, ◌∙◌}
 use Rattle.std.proofs.lemmas.Bool.{cases_Bool, and_parts}
 use Rattle.upp_limits.specs.rational.specs.Rational.{ℚ, int, ◌+ℚ◌, ◌-ℚ◌, ◌≤ℚ◌, ◌<ℚ◌, lt_q, le_q}
 use Rattle.upp_limits.specs.rational.specs.Grid.{Whole}
-use Rattle.upp_limits.specs.rational.proofs.Laws.{le_trans, le_of_lt, lt_le_trans, le_lt_trans, lt_irrefl, le_of_not_lt, mul_le_mul}
+use Rattle.upp_limits.specs.rational.proofs.Laws.{le_refl, le_trans, le_of_lt, lt_le_trans, le_lt_trans, lt_irrefl, le_of_not_lt, mul_le_mul}
 use Rattle.upp_limits.specs.rational.proofs.Integers.{nat_nonneg}
 use Rattle.upp_limits.specs.rational.proofs.Grid.{whole_add, whole_sub}
 use Rattle.upp_limits.specs.rational.proofs.Over.{lt_q_in}
@@ -20,12 +20,13 @@ use Rattle.curve_call.specs.upp_normal.specs.Operand.{AreLimited, OperandPiece, 
 use Rattle.curve_call.specs.upp_normal.specs.Unrolling.{IsOperandTo}
 use Rattle.curve_call.specs.upp_normal.proofs.GaugeRises.{curve_earlier}
 use Rattle.curve_call.specs.upp_normal.proofs.UnrolledPieces.{operand_pieces}
-use Rattle.flow_watch.specs.watch_laws.Affine.{EachTime}
+use Rattle.flow_watch.specs.watch_laws.Affine.{EachTime, Among}
 use Rattle.flow_watch.specs.declared.watch_laws.point.Point.{Point}
 use Rattle.flow_watch.specs.declared.watch_laws.point.Segment.{Segment}
 use Rattle.flow_watch.specs.watch_laws.MarkSizes.{IsTime}
+use Rattle.flow_watch.specs.watch_laws.Reaches.{HasReach}
 use Rattle.flow_watch.specs.watch_laws.Segments.{segments}
-use Rattle.flow_watch.specs.watch_laws.Shorts.{EachPoint, IsShortBy}
+use Rattle.flow_watch.specs.watch_laws.Shorts.{EachPoint, IsShortBy, IsPastEnd}
 use Rattle.run_watch.specs.declared.span.Ramp.{Ramp}
 use Rattle.run_watch.specs.declared.watched.Watched.{Watched}
 use Rattle.run_watch.specs.declared.watched.Stretch.{Stretch}
@@ -36,12 +37,15 @@ use Rattle.run_watch.specs.FirstEnds.{FitsMarks, FitsSegments}
 use Rattle.run_watch.specs.IdleWindows.{FindsShort, TimeFits, SegmentsFit}
 use Rattle.run_watch.specs.NearWindows.{FitsAt, FitsNear, FitsNearBy, IsShortAfter, IsShortBefore, IsNearEndOf, EndsShort, IsLeast}
 use Rattle.run_watch.specs.Held.{AreHeld, IsHeld}
-use Rattle.run_watch.specs.Searches.{IsLookedAt, IsClearStretch, FindsIn}
+use Rattle.run_watch.specs.Reaches.{within_reach}
+use Rattle.run_watch.specs.Searches.{segments_near, IsPart, IsLookedAt, IsClearStretch, FindsIn}
 use Rattle.run_watch.proofs.FoundStretches.{HasStretch, ramp_in}
 use Rattle.run_watch.proofs.FirstIdle.{stretch_times}
 use Rattle.run_watch.proofs.HeldSizes.{IsHeldSegment, segments_held, segment_map, gap_steps, segment_keys, ramps_read, segments_fit, time_fits, times_sum_fit, times_differ, length_time}
 use Rattle.run_watch.proofs.HeldTimes.{turns_time}
-use Rattle.run_watch.proofs.IdleIn.{has_at}
+use Rattle.run_watch.proofs.IdleIn.{has_at, late_after}
+use Rattle.run_watch.proofs.Reaches.{fit_within, time_within, near_within}
+use Rattle.net_model.specs.run_laws.proofs.Times.{each_time_map}
 use Rattle.run_watch.proofs.SortedPoints.{each_point_at, each_time_from, each_time_among, fits_of}
 
 -- ---- points
@@ -98,8 +102,13 @@ pub record StretchStands (z : Sizes) (end : ℚ) (s : Stretch) : Type 0 where
 
 pub stretch_stands : (w : Watched) (c : SpecCurve) (s : Stretch) (own all : List ℚ) (h : IsHeld w c) → IsLookedAt w s own all → StretchStands h.sizes w.end s
 stretch_stands w c s own all h L =
-    let ends = stretch_times w c (stretches w) L.number s h refl L.in_range L.is in
-    record { start = ends.0; last = ends.1; forward = forward_in w s (has_at (stretches w) L.number s L.in_range L.is) }
+    let z = h.sizes in
+    let ends = stretch_times w c (stretches w) L.number L.whole h refl L.in_range L.is in
+    record {
+      start = subst (IsTime z w.end) (sym L.start) ends.0;
+      last = elim L.turn [ inl e ↦ subst (IsTime z w.end) (sym e) ends.1 | inr m ↦ each_time_among (IsTime z w.end) all s.end (turns_time w c all h L.turns_are) m ];
+      forward = L.forward;
+    }
 
 pub record HasLength (z : Sizes) (end far : ℚ) : Type 0 where
   pub limited : AreLimited z far
@@ -199,12 +208,55 @@ near_turns w c s own all qs works h L e f =
     (λ g G. near_fits h.sizes w.end t g w.works.items s h.limited h.works S (each_time_among (IsTime h.sizes w.end) own t (own_times w c s own all h L) m) G)
     (segments (unroll c far)) (segments_held h.sizes w.end (unroll c far) O.each)))))
 
-pub looked_at : (w : Watched) (ss : List Stretch) (k : ℕ) (s : Stretch) (own all : List ℚ) → ss ≡ stretches w → k < length ss → s ≡ slice_index_or ss k s → all ≡ turns w (stretches w) → HoldsTimes s all own
-    → (from : ℚ) × RiseFrom from own → IsLookedAt w s own all
-looked_at w ss k s own all same l e f holds rise = record {
+-- and by the segments within reach alone
+pub early_segments : (w : Watched) (c : SpecCurve) (s : Stretch) (own all : List ℚ) (reach : Option ℚ) (gs : List Segment) → IsHeld w c → IsLookedAt w s own all → gs ≡ segments_near c s reach → SegmentsFit gs
+early_segments w c s own all reach gs h L e =
+    subst SegmentsFit (sym e) (fit_within reach (segments (unroll c (s.end -ℚ s.start))) (near_segments w c s own all (unroll c (s.end -ℚ s.start)) h L refl))
+
+pub early_times : (w : Watched) (c : SpecCurve) (s : Stretch) (own all : List ℚ) (reach : Option ℚ) (gs : List Segment) (works : List Ramp) → IsHeld w c → IsLookedAt w s own all → gs ≡ segments_near c s reach → works ≡ w.works.items
+    → EachTime (TimeFits gs works) own
+early_times w c s own all reach gs works h L e f =
+    let ss = segments (unroll c (s.end -ℚ s.start)) in
+    subst (λ (xs : List Segment). EachTime (TimeFits xs works) own) (sym e)
+    (each_time_map (TimeFits ss works) (TimeFits (within_reach reach ss) works) (λ t k. time_within reach ss works t k) own (near_times w c s own all (unroll c (s.end -ℚ s.start)) works h L refl f))
+
+pub early_turns : (w : Watched) (c : SpecCurve) (s : Stretch) (own all : List ℚ) (reach : Option ℚ) (gs : List Segment) (works : List Ramp) → IsHeld w c → IsLookedAt w s own all → gs ≡ segments_near c s reach → works ≡ w.works.items
+    → EachPoint (FitsNearBy gs works s) (map (point_at works) own)
+early_turns w c s own all reach gs works h L e f =
+    let ss = segments (unroll c (s.end -ℚ s.start)) in
+    subst (λ (xs : List Segment). EachPoint (FitsNearBy xs works s) (map (point_at works) own)) (sym e)
+    (near_within reach ss works s (map (point_at works) own) (near_turns w c s own all (unroll c (s.end -ℚ s.start)) works h L refl f))
+
+pub all_part : (until : Option ℚ) (sorted : List ℚ) (s : Stretch) → IsPart until sorted s s
+all_part until sorted s = record { start = refl; inside = le_refl s.end; end = inl refl }
+
+-- the part up to the first of the turns that are in the rest
+pub part_to : (sorted late : List ℚ) (s part : Stretch) (start t : ℚ) → HoldsTimes record { start = start; end = s.end } sorted late → 0 < length late → t ≡ slice_index_or late 0 t → part ≡ record { start = s.start; end = t }
+    → IsPart (Some start) sorted s part
+part_to sorted [] s part start t H l e f = absurd (omega arith)
+part_to sorted (x ∷ late) s part start t H l e f =
+    let m : Among t (x ∷ late) = inl e in
+    subst (IsPart (Some start) sorted s) (sym f) record { start = refl; inside = H.upto t m; end = inr (H.are t m, H.from t m) }
+
+-- a part that does not end late is all of it
+pub all_of_it : (until : Option ℚ) (sorted : List ℚ) (s part : Stretch) → IsPart until sorted s part → ¬ IsPastEnd until part.end → part.end ≡ s.end
+all_of_it until sorted s part P early = elim P.end [ inl e ↦ e | inr h ↦ absurd (early h.1) ]
+
+-- a part of a stretch that begins before it is late
+pub looked_at : (w : Watched) (until : Option ℚ) (ss : List Stretch) (k : ℕ) (s part : Stretch) (sorted own all : List ℚ) → ss ≡ stretches w → k < length ss → s ≡ slice_index_or ss k s → all ≡ turns w (stretches w)
+    → ¬ IsPastEnd until s.start → IsPart until sorted s part → ((t : ℚ) → Among t sorted → Among t all) → HoldsTimes part all own → (from : ℚ) × RiseFrom from own → IsLookedAt w part own all
+looked_at w until ss k s part sorted own all same l e f early P among holds rise = record {
+  whole = s;
   number = k;
   in_range = subst (λ (xs : List Stretch). k < length xs) same l;
   is = subst (λ (xs : List Stretch). s ≡ slice_index_or xs k s) same e;
+  start = P.start;
+  forward = elim P.end [
+    | inl is ↦ subst (λ x. x <ℚ part.end) (sym P.start) (subst (λ x. s.start <ℚ x) (sym is) (forward_in w s (subst (HasStretch s.start s.end) same (has_at ss k s l e))))
+    | inr is ↦ subst (λ x. x <ℚ part.end) (sym P.start) (late_after until s.start part.end early is.1)
+  ];
+  inside = P.inside;
+  turn = elim P.end [ inl is ↦ inl is | inr is ↦ inr (among part.end is.0) ];
   turns_are = f;
   holds = holds;
   rise = rise;
@@ -250,10 +302,13 @@ before_is works s p g u v b e f n h =
 pub not_before : (works : List Ramp) (s : Stretch) (p : Point) (g : Segment) (u : ℚ) → u ≡ p.time -ℚ g.start → u <ℚ s.start → ¬ IsShortBefore works s p g
 not_before works s p g u e l k = lt_irrefl s.start (le_lt_trans (subst (λ x. s.start ≤ℚ x) (sym e) k.inside) l)
 
-pub clear_as : (w : Watched) (c : SpecCurve) (s : Stretch) (own : List ℚ) (works : List Ramp) (qs : List Piece) → works ≡ w.works.items → qs ≡ unroll c (s.end -ℚ s.start) → ((t : ℚ) → ¬ EndsShort (segments qs) works s own t)
-    → IsClearStretch w c s own
-clear_as w c s own works qs e f h =
-    subst (λ (rs : List Ramp). (t : ℚ) → ¬ EndsShort (segments (unroll c (s.end -ℚ s.start))) rs s own t) e (subst (λ (xs : List Piece). (t : ℚ) → ¬ EndsShort (segments xs) works s own t) f h)
+pub clear_as : (w : Watched) (c : SpecCurve) (s : Stretch) (own : List ℚ) (works : List Ramp) (reach : Option ℚ) (gs : List Segment) → works ≡ w.works.items → gs ≡ segments_near c s reach → IfSome reach (HasReach c)
+    → ((t : ℚ) → ¬ EndsShort gs works s own t) → IsClearStretch w c s own
+clear_as w c s own works reach gs e f R h = (
+  reach,
+  R,
+  subst (λ (rs : List Ramp). (t : ℚ) → ¬ EndsShort (segments_near c s reach) rs s own t) e (subst (λ (xs : List Segment). (t : ℚ) → ¬ EndsShort xs works s own t) f h),
+)
 
 -- what is found between the watch points
 pub found_watched : (w : Watched) (c : SpecCurve) (s : Stretch) (own all : List ℚ) (works : List Ramp) (qs : List Piece) (gs : List Segment) (o : Option (ℚ × ℚ)) → works ≡ w.works.items → qs ≡ unroll c w.end → gs ≡ segments qs

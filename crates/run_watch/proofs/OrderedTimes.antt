@@ -12,7 +12,9 @@ use Rattle.upp_limits.specs.upp_curve.specs.declared.affine_segment.line.Piece.{
 use Rattle.flow_watch.specs.watch_laws.Affine.{Among}
 use Rattle.run_watch.specs.declared.watched.Stretch.{Stretch}
 use Rattle.run_watch.specs.Watching.{RiseFrom}
-use Rattle.run_watch.specs.WatchTimes.{around, watched_from, HaveSameTimes}
+use Rattle.run_watch.specs.declared.classes.Side.{Side}
+use Rattle.run_watch.specs.Classes.{moves_of, all_moves}
+use Rattle.run_watch.specs.WatchTimes.{HaveSameTimes}
 use Rattle.run_watch.proofs.FoundTurns.{among_left, among_right, among_parts}
 use Rattle.run_watch.proofs.SortedPoints.{among_sorted, sorted_among, sorted_rise}
 
@@ -23,7 +25,7 @@ same_times xs = record { into = λ t h. h; back = λ t h. h }
 pub same_then : (xs ys zs : List ℚ) → HaveSameTimes xs ys → HaveSameTimes ys zs → HaveSameTimes xs zs
 same_then xs ys zs h k = record { into = λ t a. k.into t (h.into t a); back = λ t a. h.back t (k.back t a) }
 
-same_before : (xs ys zs : List ℚ) → HaveSameTimes xs ys → HaveSameTimes (xs ++ zs) (ys ++ zs)
+pub same_before : (xs ys zs : List ℚ) → HaveSameTimes xs ys → HaveSameTimes (xs ++ zs) (ys ++ zs)
 same_before xs ys zs h = record {
   into = λ t a. elim (among_parts t xs zs a) [ inl l ↦ among_left t ys zs (h.into t l) | inr r ↦ among_right t ys zs r ];
   back = λ t a. elim (among_parts t ys zs a) [ inl l ↦ among_left t xs zs (h.back t l) | inr r ↦ among_right t xs zs r ];
@@ -71,9 +73,12 @@ pub record AreInOrder (xs ts : List ℚ) : Type 0 where
   pub same : HaveSameTimes xs ts
   pub rise : (from : ℚ) × RiseFrom from ts
 
+pub same_permuted : (xs ys : List ℚ) → IsPermutation xs ys → HaveSameTimes xs ys
+same_permuted xs ys p = record { into = λ t h. among_sorted xs ys t p h; back = λ t h. sorted_among xs ys t p h }
+
 pub in_order : (xs ys zs : List ℚ) → IsPermutation xs ys → IsSorted cmp_q ys → zs ≡ dedup same_q ys → AreInOrder xs zs
 in_order xs ys zs p s e =
-    let sorted : HaveSameTimes xs ys = record { into = λ t h. among_sorted xs ys t p h; back = λ t h. sorted_among xs ys t p h } in
+    let sorted = same_permuted xs ys p in
     let (from, rise) = sorted_rise ys s in
     record {
       same = subst (HaveSameTimes xs) (sym e) (same_then xs ys (dedup same_q ys) sorted (same_kept ys));
@@ -81,22 +86,23 @@ in_order xs ys zs p s e =
     }
 
 -- ---- one turn more
-next_turn : (s : Stretch) (qs : List Piece) (ps : List ℚ) (k : ℕ) (p : ℚ) → k < length ps → p ≡ slice_index_or ps k p → watched_from s qs (drop k ps) ≡ around s p qs ++ watched_from s qs (drop (k + 1) ps)
-next_turn s qs ps k p l e = rw add-one (go ps k l e)
+next_turn : (side : Side) (s : Stretch) (qs : List Piece) (ps : List ℚ) (k : ℕ) (p : ℚ) → k < length ps → p ≡ slice_index_or ps k p
+    → all_moves side s qs (drop k ps) ≡ moves_of side s p qs ++ all_moves side s qs (drop (k + 1) ps)
+next_turn side s qs ps k p l e = rw add-one (go ps k l e)
   where
-    go : (ps : List ℚ) (k : ℕ) → k < length ps → p ≡ slice_index_or ps k p → watched_from s qs (drop k ps) ≡ around s p qs ++ watched_from s qs (drop (suc k) ps)
+    go : (ps : List ℚ) (k : ℕ) → k < length ps → p ≡ slice_index_or ps k p → all_moves side s qs (drop k ps) ≡ moves_of side s p qs ++ all_moves side s qs (drop (suc k) ps)
     go [] k l e = absurd (omega arith)
-    go (q ∷ ps) zero l e = ap (λ x. around s x qs ++ watched_from s qs ps) (sym e)
+    go (q ∷ ps) zero l e = ap (λ x. moves_of side s x qs ++ all_moves side s qs ps) (sym e)
     go (q ∷ ps) (suc k) l e = go ps k (omega arith) e
 
-pub turn_more : (s : Stretch) (qs : List Piece) (ps had more now : List ℚ) (k : ℕ) (p : ℚ) → k < length ps → p ≡ slice_index_or ps k p → more ≡ had ++ around s p qs → HaveSameTimes more now
-    → HaveSameTimes (watched_from s qs ps) (had ++ watched_from s qs (drop k ps)) → HaveSameTimes (watched_from s qs ps) (now ++ watched_from s qs (drop (k + 1) ps))
-turn_more s qs ps had more now k p l e grown kept h =
-    let rest = watched_from s qs (drop (k + 1) ps) in
-    let joined : had ++ watched_from s qs (drop k ps) ≡ more ++ rest =
-    ap (λ (ys : List ℚ). had ++ ys) (next_turn s qs ps k p l e) ∙ sym (append_assoc had (around s p qs) rest) ∙ ap (λ (ys : List ℚ). ys ++ rest) (sym grown) in
-    same_then (watched_from s qs ps) (more ++ rest) (now ++ rest) (subst (HaveSameTimes (watched_from s qs ps)) joined h) (same_before more now rest kept)
+pub turn_more : (side : Side) (s : Stretch) (qs : List Piece) (ps whole had more now : List ℚ) (k : ℕ) (p : ℚ) → k < length ps → p ≡ slice_index_or ps k p → more ≡ had ++ moves_of side s p qs → HaveSameTimes more now
+    → HaveSameTimes whole (had ++ all_moves side s qs (drop k ps)) → HaveSameTimes whole (now ++ all_moves side s qs (drop (k + 1) ps))
+turn_more side s qs ps whole had more now k p l e grown kept h =
+    let rest = all_moves side s qs (drop (k + 1) ps) in
+    let joined : had ++ all_moves side s qs (drop k ps) ≡ more ++ rest =
+    ap (λ (ys : List ℚ). had ++ ys) (next_turn side s qs ps k p l e) ∙ sym (append_assoc had (moves_of side s p qs) rest) ∙ ap (λ (ys : List ℚ). ys ++ rest) (sym grown) in
+    same_then whole (more ++ rest) (now ++ rest) (subst (HaveSameTimes whole) joined h) (same_before more now rest kept)
 
 -- after the last turn
-pub no_turns : (s : Stretch) (qs : List Piece) (ps had : List ℚ) (k : ℕ) → length ps ≤ k → HaveSameTimes (watched_from s qs ps) (had ++ watched_from s qs (drop k ps)) → HaveSameTimes (watched_from s qs ps) had
-no_turns s qs ps had k l h = subst (HaveSameTimes (watched_from s qs ps)) (ap (λ (xs : List ℚ). had ++ watched_from s qs xs) (drop_all k ps l) ∙ append-nil had) h
+pub no_turns : (side : Side) (s : Stretch) (qs : List Piece) (ps whole had : List ℚ) (k : ℕ) → length ps ≤ k → HaveSameTimes whole (had ++ all_moves side s qs (drop k ps)) → HaveSameTimes whole had
+no_turns side s qs ps whole had k l h = subst (HaveSameTimes whole) (ap (λ (xs : List ℚ). had ++ all_moves side s qs xs) (drop_all k ps l) ∙ append-nil had) h

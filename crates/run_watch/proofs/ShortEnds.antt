@@ -1,7 +1,7 @@
 -- A short window that a stretch's own turns show is one between its watch points; so the first is among those up to its end.
-use Rattle.std.specs.Prelude.{◌≡◌, ◌⊎◌, pos, List, [], ◌∷◌, Option, Some, None}
+use Rattle.std.specs.Prelude.{◌≡◌, ◌⊎◌, pos, List, [], ◌∷◌, Option, Some, None, IfSome}
 use Rattle.std.proofs.Common.{arith, refl, sym, subst, inl, inr}
-use Rattle.upp_limits.specs.rational.specs.Rational.{ℚ, int, ◌+ℚ◌, ◌-ℚ◌, ◌≤ℚ◌, ◌<ℚ◌}
+use Rattle.upp_limits.specs.rational.specs.Rational.{ℚ, int, ◌+ℚ◌, ◌-ℚ◌, ◌*ℚ◌, ◌≤ℚ◌, ◌<ℚ◌}
 use Rattle.upp_limits.specs.rational.proofs.Laws.{le_refl, le_trans, le_or_lt, le_lt_trans}
 use Rattle.upp_limits.specs.rational.proofs.Linear.{with2}
 use Rattle.upp_limits.specs.upp_curve.specs.declared.affine_segment.line.Piece.{Piece}
@@ -18,7 +18,7 @@ use Rattle.flow_watch.specs.watch_laws.Laws.{MayServe}
 use Rattle.flow_watch.specs.watch_laws.Segments.{segments}
 use Rattle.flow_watch.specs.watch_laws.Shorts.{EachSegment, HasSegment}
 use Rattle.flow_watch.proofs.watch_laws.CurveSegments.{segments_tell}
-use Rattle.flow_watch.proofs.watch_laws.UnrolledStarts.{start_before}
+use Rattle.flow_watch.proofs.watch_laws.UnrolledStarts.{start_before, starts_again}
 use Rattle.run_watch.specs.declared.span.Ramp.{Ramp}
 use Rattle.run_watch.specs.declared.watched.Watched.{Watched}
 use Rattle.run_watch.specs.declared.watched.Stretch.{Stretch}
@@ -26,13 +26,16 @@ use Rattle.run_watch.specs.Watching.{HoldsTimes}
 use Rattle.run_watch.specs.WatchTimes.{around, watched_from, point_at, IsShortTo}
 use Rattle.run_watch.specs.IdleWindows.{IsShortWindow, FindsShort, TimeFits}
 use Rattle.run_watch.specs.NearWindows.{IsNearEnd, EndsShort, IsLeast}
+use Rattle.run_watch.specs.Classes.{IsCycle, Recurs}
 use Rattle.run_watch.specs.Held.{IsHeld}
+use Rattle.run_watch.specs.Reaches.{within_reach}
 use Rattle.run_watch.specs.Searches.{IsLookedAt, FindsIn}
 use Rattle.run_watch.proofs.ClearStretches.{each_segment_has, no_longer}
 use Rattle.run_watch.proofs.FoundTimes.{around_after, around_before, watched_in, in_watched, zero_start}
 use Rattle.run_watch.proofs.HeldSizes.{time_fits}
 use Rattle.run_watch.proofs.HeldTimes.{gaps_fit, watched_time}
 use Rattle.run_watch.proofs.NearWindows.{stretch_stands, length_stands, end_some, near_pieces, near_segments, found_watched}
+use Rattle.run_watch.proofs.Reaches.{shown_by_all}
 use Rattle.run_watch.proofs.SortedPoints.{each_time_from, ordered, point_is}
 
 -- ---- watch points
@@ -242,14 +245,17 @@ ends_watched w c s own all works t R starts h = elim h [
 ]
 
 -- ---- as the code has them
-abbrev pub Looks : List Piece → List Ramp → Stretch → List ℚ → Option ℚ → Type 0
-Looks ns rs s own o = IsLeast (EndsShort (segments ns) rs s own) o
+abbrev pub Looks : List Segment → List Ramp → Stretch → List ℚ → Option ℚ → Type 0
+Looks gs rs s own o = IsLeast (EndsShort gs rs s own) o
 
-pub looks_clear : (ns : List Piece) (rs : List Ramp) (s : Stretch) (own : List ℚ) (o : Option ℚ) → o ≡ None → Looks ns rs s own o → (t : ℚ) → ¬ EndsShort (segments ns) rs s own t
-looks_clear ns rs s own o e h = subst (Looks ns rs s own) e h
+pub looks_clear : (gs : List Segment) (rs : List Ramp) (s : Stretch) (own : List ℚ) (o : Option ℚ) → o ≡ None → Looks gs rs s own o → (t : ℚ) → ¬ EndsShort gs rs s own t
+looks_clear gs rs s own o e h = subst (Looks gs rs s own) e h
 
-pub looks_short : (ns : List Piece) (rs : List Ramp) (s : Stretch) (own : List ℚ) (o : Option ℚ) (t : ℚ) → o ≡ Some t → Looks ns rs s own o → EndsShort (segments ns) rs s own t
-looks_short ns rs s own o t e h = (subst (Looks ns rs s own) e h).0
+-- what the look by the segments within reach finds, all of them show
+pub looks_short : (reach : Option ℚ) (ns : List Piece) (gs : List Segment) (rs : List Ramp) (s : Stretch) (own : List ℚ) (o : Option ℚ) (t : ℚ) → gs ≡ within_reach reach (segments ns) → o ≡ Some t → Looks gs rs s own o
+    → EndsShort (segments ns) rs s own t
+looks_short reach ns gs rs s own o t e f h =
+    shown_by_all reach (segments ns) rs s own t (subst (λ (xs : List Segment). EndsShort xs rs s own t) e (subst (Looks gs rs s own) f h).0)
 
 pub near_watched_times : (w : Watched) (c : SpecCurve) (s : Stretch) (own all : List ℚ) (ns qs : List Piece) (t : ℚ) → IsHeld w c → IsLookedAt w s own all → t ≤ℚ s.end → ns ≡ unroll c (s.end -ℚ s.start) → qs ≡ unroll c w.end
     → EachTime (TimeFits (segments ns) w.works.items) (watched_from record { start = s.start; end = t } qs all)
@@ -263,6 +269,21 @@ near_watched_times w c s own all ns qs t h L inside n f =
     (each_time_from (TimeFits (segments (unroll c far)) works) (watched_from record { start = s.start; end = t } (unroll c w.end) all)
     (λ u k. time_fits h.sizes w.end u (unroll c far) works h.limited O h.works
     (watched_time w c all record { start = s.start; end = t } h (end_some h.sizes w.end s S) L.turns_are S.start.low (le_trans inside S.last.high) u k))))
+
+-- the curve's pieces up to the run's end recur, where it repeats from 0 on
+pub recurs : (w : Watched) (c : SpecCurve) (s : Stretch) (own all : List ℚ) (qs : List Piece) (t : ℚ) (cycle : Option ℚ) → IsHeld w c → IsLookedAt w s own all → t ≤ℚ s.end → qs ≡ unroll c w.end → IfSome cycle (IsCycle c)
+    → IfSome cycle (Recurs w.end record { start = s.start; end = t } qs)
+recurs w c s own all qs t None h L inside e k = k
+recurs w c s own all qs t (Some d) h L inside e k =
+    let S = stretch_stands w c s own all h L in
+    record {
+      some = k.some;
+      on = λ x n start l.
+          subst (λ (xs : List Piece). HasStart (x +ℚ int (pos n) *ℚ d) xs) (sym e)
+          (starts_again c k.rank d k.rise w.end x n h.is.normal k.tail k.early (subst (λ (xs : List Piece). HasStart x xs) e start) l);
+      low = S.start.low;
+      high = le_trans inside S.last.high;
+    }
 
 -- what is found among the watch points up to the end of such a window, by the pieces up to the stretch's length
 pub found_in_cut : (w : Watched) (c : SpecCurve) (s : Stretch) (own all : List ℚ) (works rs : List Ramp) (ns qs : List Piece) (gs : List Segment) (t : ℚ) (o : Option (ℚ × ℚ)) → IsHeld w c → IsLookedAt w s own all → MayServe c

@@ -9,6 +9,7 @@ use Rattle.upp_limits.specs.upp_curve.specs.Curve.{SpecCurve}
 use Rattle.net_model.specs.run_laws.specs.Cards.{ServerStep}
 use Rattle.flow_watch.specs.declared.watch_laws.entering.Entering.{Entering}
 use Rattle.flow_watch.specs.watch_laws.Breaches.{order_key, NoLater, IsIdle}
+use Rattle.flow_watch.specs.watch_laws.Shorts.{IsPastEnd}
 use Rattle.flow_watch.specs.watch_laws.Entries.{entries, entering, IsCrowded, EntersFrom}
 use Rattle.run_watch.specs.declared.found.Found.{Found}
 
@@ -27,6 +28,16 @@ pub record IsFirstOf (P : Breach → Type 0) (run : SpecRun) (f : Found) : Type 
 abbrev pub IsBest : (Breach → Type 0) → SpecRun → Option Found → Type 0
 IsBest P run None = (y : Breach) → ¬ P y
 IsBest P run (Some f) = IsFirstOf P run f
+
+-- none, where none of them is before `until`; or the first of them
+abbrev pub IsBestBefore : Option ℚ → (Breach → Type 0) → SpecRun → Option Found → Type 0
+IsBestBefore until P run None = (y : Breach) → P y → IsPastEnd until (time_of run y)
+IsBestBefore until P run (Some f) = IsFirstOf P run f
+
+-- its time
+abbrev pub time_if_any : Option Found → Option ℚ
+time_if_any None = None
+time_if_any (Some f) = Some f.time
 
 -- the earlier of two; the first where their times are one
 abbrev pub earlier : Option Found → Option Found → Option Found

@@ -14,6 +14,7 @@ use Rattle.net_model.specs.run_laws.specs.Counts.{arrived, worked}
 use Rattle.flow_watch.specs.watch_laws.Affine.{EachTime}
 use Rattle.flow_watch.specs.watch_laws.Breaches.{IsIdle}
 use Rattle.flow_watch.specs.watch_laws.MarkSizes.{IsTime, IsAmount}
+use Rattle.flow_watch.specs.watch_laws.Shorts.{IsPastEnd}
 use Rattle.flow_watch.specs.watch_laws.Times.{leave_times}
 use Rattle.run_watch.specs.declared.span.Ramp.{Ramp}
 use Rattle.run_watch.specs.declared.watched.Watched.{Watched}
@@ -57,10 +58,12 @@ pub record IsHeld (w : Watched) (c : SpecCurve) : Type 0 where
   pub rise : RiseFrom (int (pos 0)) w.leaves.items
 
 -- ---- the first idle window
--- none at all; or the one with the least end, and of those the least start
+-- the one with the least end, and of those the least start
 pub record IsFirstIdle (end : ℚ) (V : List ServerStep) (c : SpecCurve) (a b : ℚ) : Type 0 where
   pub is : IsIdle end V c a b
   pub least : (x y : ℚ) → IsIdle end V c x y → (b <ℚ y) ⊎ ((b ≡ y) × (a ≤ℚ x))
 
-abbrev pub FindsIdle : ℚ → List ServerStep → SpecCurve → Option (ℚ × ℚ) → Type 0
-FindsIdle end V c found = MatchOption found ((a b : ℚ) → ¬ IsIdle end V c a b) (λ p. IsFirstIdle end V c p.0 p.1)
+-- none, where none ends before `until` (none at all, where there is no such time); or the first
+abbrev pub FindsIdle : Option ℚ → ℚ → List ServerStep → SpecCurve → Option (ℚ × ℚ) → Type 0
+FindsIdle until end V c found = MatchOption found ((a b : ℚ) → IsIdle end V c a b → IsPastEnd until b)
+    (λ p. IsFirstIdle end V c p.0 p.1)

@@ -4,8 +4,10 @@ pub mod Ramps
 pub mod Seen
 pub mod Watching
 pub mod WatchTimes
+pub mod Classes
 pub mod IdleWindows
 pub mod NearWindows
+pub mod Reaches
 pub mod Searches
 pub mod Held
 pub mod Sights

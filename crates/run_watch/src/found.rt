@@ -9,7 +9,7 @@ ghost use Rattle.flow_watch.specs.watch_laws.Entries.{entries};
 ghost use Rattle.flow_watch.specs.watch_laws.Laws.{MayServe};
 ghost use Rattle.flow_watch.specs.Flows.{FlowReads};
 ghost use Rattle.run_watch.specs.Held.{IsHeld, IsSightOf};
-ghost use Rattle.run_watch.specs.FirstOf.{earlier, IsBest, IsLongOn, IsCrowdOn, IsIdleOn, EnterInOrder};
+ghost use Rattle.run_watch.specs.FirstOf.{earlier, time_if_any, IsBest, IsBestBefore, IsLongOn, IsCrowdOn, IsIdleOn, EnterInOrder};
 
 use crate::service::first_idle;
 use crate::watched::Watched;
@@ -43,6 +43,16 @@ pub fn earlier(best: Option<Found>, next: Option<Found>) -> Option<Found>
                 }
             }
         },
+    }
+}
+
+/// The time of a breach, if there is one.
+pub fn time_if_any(found: &Option<Found>) -> Option<Frac>
+    ensures { result ≡ time_if_any found.now }
+{
+    match found {
+        None => None,
+        Some(f) => Some(f.time),
     }
 }
 
@@ -95,19 +105,20 @@ pub fn arrival_breach(
     }
 }
 
-/// The first window in which a server works less than its curve.
+/// The first window in which a server works less than its curve; none, where none ends before `until`.
 pub fn service_breach(
     alloc: Global,
     w: &Watched,
     server: u32,
     curve: &Curve,
+    until: &Option<Frac>,
 ) -> Result<Option<Found>, AllocError>
     requires { IsHeld w.now curve.now }
     ensures { (run : SpecRun) (s : servers.Server) (V : List ServerStep) → IsSightOf s w.now.end V w.now
         → MayServe curve.now
-        → IfOk result (IsBest (IsIdleOn w.now.end V server curve.now) run) }
+        → IfOk result (IsBestBefore until.now (IsIdleOn w.now.end V server curve.now) run) }
 {
-    match first_idle(alloc, w, curve)? {
+    match first_idle(alloc, w, curve, until)? {
         None => Ok(None),
         Some(window) => Ok(Some(Found {
             time: window.1,

@@ -3,7 +3,6 @@
 ghost use Rattle.std.specs.Prelude.{◌≡◌, ◌↔◌, IfOk, IsTrue, map};
 ghost use Rattle.upp_limits.specs.rational.specs.Rational.{ℚ};
 ghost use Rattle.flow_watch.specs.watch_laws.Affine.{EachTime};
-ghost use Rattle.flow_watch.specs.watch_laws.Segments.{segments};
 ghost use Rattle.flow_watch.specs.watch_laws.Shorts.{EachPoint};
 ghost use Rattle.run_watch.specs.Ramps.{AreRamps};
 ghost use Rattle.run_watch.specs.Watching.{RiseFrom};
@@ -15,11 +14,10 @@ use crate::ramps::amount_at;
 use crate::shorts::first_end;
 use crate::span::Ramp;
 use crate::watched::Stretch;
-use crate::windows::{is_short_by, points_of, segments_of};
+use crate::windows::{is_short_by, points_of};
 use flow_watch::watch_laws::{Point, Segment};
 use std::alloc::{AllocError, Global};
 use upp_limits::fraction128::{Frac, difference, is_less, sum};
-use upp_limits::upp_curve::affine_segment::Piece;
 
 /// Whether the window from p on that is as long as the segment's start is in the stretch, and short by the segment.
 fn is_short_after(works: &[Ramp], s: &Stretch, p: &Point, g: &Segment) -> bool
@@ -116,26 +114,25 @@ fn near_end_of(works: &[Ramp], s: &Stretch, points: &[Point], segments: &[Segmen
 }
 
 /// The least end of a window of the stretch that is short of work between two of its turns `own`, or between one of them
-/// and a time that is as far away as one of the pieces starts; none where no such window is short. One pass over the
-/// turns for each piece, and two windows for each turn and piece.
+/// and a time that is as far away as one of the segments starts; none where no such window is short. One pass over the
+/// turns for each segment, and two windows for each turn and segment.
 pub(crate) fn short_end(
     alloc: Global,
     works: &[Ramp],
     s: &Stretch,
     own: &[Frac],
-    pieces: &[Piece],
+    segments: &[Segment],
 ) -> Result<Option<Frac>, AllocError>
     requires ramps { AreRamps works.now }
     requires rise { (from : ℚ) × RiseFrom from own.now }
-    requires segments { SegmentsFit (segments pieces.now) }
-    requires times { EachTime (TimeFits (segments pieces.now) works.now) own.now }
-    requires near { EachPoint (FitsNearBy (segments pieces.now) works.now s.now) (map (point_at works.now) own.now) }
-    ensures { IfOk result (IsLeast (EndsShort (segments pieces.now) works.now s.now own.now)) }
+    requires segments { SegmentsFit segments.now }
+    requires times { EachTime (TimeFits segments.now works.now) own.now }
+    requires near { EachPoint (FitsNearBy segments.now works.now s.now) (map (point_at works.now) own.now) }
+    ensures { IfOk result (IsLeast (EndsShort segments.now works.now s.now own.now)) }
 {
-    let segments = segments_of(alloc, pieces)?;
     let points = points_of(alloc, works, own)?;
-    let place = first_end(alloc, &points, &points, &segments)?;
-    let near = near_end_of(works, s, &points, &segments);
+    let place = first_end(alloc, &points, &points, segments)?;
+    let near = near_end_of(works, s, &points, segments);
     if place >= points.len() {
         return Ok(near);
     }

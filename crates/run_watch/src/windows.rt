@@ -1,6 +1,6 @@
 //! The windows of a stretch that are looked at.
 
-ghost use Rattle.std.specs.Prelude.{◌≡◌, ◌↔◌, [], ◌∷◌, ◌++◌, ◌<◌, length, drop, map, IfOk, OnOk, IsTrue};
+ghost use Rattle.std.specs.Prelude.{◌≡◌, ◌↔◌, [], ◌∷◌, ◌++◌, ◌<◌, length, drop, map, IfOk, IfSome, OnOk, IsTrue};
 ghost use Rattle.upp_limits.specs.rational.specs.Rational.{ℚ};
 ghost use Rattle.upp_limits.specs.upp_curve.specs.declared.affine_segment.line.Piece.{Piece};
 ghost use Rattle.upp_limits.specs.upp_curve.specs.affine_segment.Pieces.{Each};
@@ -12,8 +12,10 @@ ghost use Rattle.run_watch.specs.Ramps.{AreRamps, EachRamp, ReadsRamp};
 ghost use Rattle.run_watch.specs.FirstEnds.{FitsMarks, FitsSegments};
 ghost use Rattle.run_watch.specs.NearWindows.{IsLeast};
 ghost use Rattle.run_watch.specs.Watching.{RiseFrom};
-ghost use Rattle.run_watch.specs.WatchTimes.{inside, around, watched_from, HaveSameTimes, AroundFits, TimesFit, point_at, StartsBy, StartsTo};
+ghost use Rattle.run_watch.specs.Classes.{moves_of, all_moves, Recurs};
+ghost use Rattle.run_watch.specs.WatchTimes.{inside, watched_from, HaveSameTimes, AroundFits, TimesFit, point_at, StartsBy, StartsTo};
 
+use crate::classes::{Side, leads_of, moved};
 use crate::near::earlier_time;
 use crate::ramps::amount_at;
 use crate::scan::is_past;
@@ -38,19 +40,19 @@ fn push_inside(times: &mut Vec<Frac>, s: &Stretch, t: Frac) -> Result<(), AllocE
     Ok(())
 }
 
-/// The starts of the pieces after p and before it more, as far as they are in the stretch.
-fn push_around(
+/// The starts of the pieces after p, or before it, more, as far as they are in the stretch.
+fn push_moves(
     times: &mut Vec<Frac>,
+    side: Side,
     s: &Stretch,
     p: Frac,
     pieces: &[Piece],
 ) -> Result<(), AllocError>
     requires { Each (λ q. AroundFits p q.x) pieces.now }
-    ensures { OnOk result (times.new.items ≡ times.old.items ++ around s.now p pieces.now) }
+    ensures { OnOk result (times.new.items ≡ times.old.items ++ moves_of side s.now p pieces.now) }
 {
     for q in pieces {
-        push_inside(times, s, sum(p, q.x))?;
-        push_inside(times, s, difference(p, q.x))?;
+        push_inside(times, s, moved(side, p, q.x))?;
     }
     Ok(())
 }
@@ -77,24 +79,48 @@ fn put_in_order_again(times: &mut Vec<Frac>, kept: usize) -> Result<usize, Alloc
     Ok(times.len())
 }
 
+/// Those of all of some times. Of equal ones there are never more than of others, since they are put in order whenever
+/// they have doubled.
+fn push_all_moves(
+    times: &mut Vec<Frac>,
+    side: Side,
+    s: &Stretch,
+    turns: &[Frac],
+    pieces: &[Piece],
+) -> Result<(), AllocError>
+    requires { TimesFit pieces.now turns.now }
+    ensures { OnOk result
+        (HaveSameTimes (times.old.items ++ all_moves side s.now pieces.now turns.now) times.new.items) }
+{
+    let mut kept = times.len();
+    for p in turns {
+        push_moves(times, side, s, *p, pieces)?;
+        kept = put_in_order_again(times, kept)?;
+    }
+    Ok(())
+}
+
 /// The watch points of a stretch, in order and each once: the turns, and each moved by the start of a piece of the curve.
-/// Of equal ones there are never more than of others, since they are put in order whenever they have doubled.
+/// `cycle` is the period of a curve that repeats from 0 on: of turns that are whole periods apart only the first is moved
+/// on, and the last back.
 pub(crate) fn watch_times(
     alloc: Global,
     s: &Stretch,
     turns: &[Frac],
     pieces: &[Piece],
+    cycle: &Option<Frac>,
+    end: Frac,
 ) -> Result<Vec<Frac>, AllocError>
-    requires { TimesFit pieces.now turns.now }
+    requires fits { TimesFit pieces.now turns.now }
+    requires recurs { IfSome cycle.now (Recurs end s.now pieces.now) }
     ensures same { IfOk result (λ v. HaveSameTimes (watched_from s.now pieces.now turns.now) v.items) }
     ensures rise { IfOk result (λ v. (from : ℚ) × RiseFrom from v.items) }
 {
+    let first = leads_of(alloc, turns, Side::Later, end, cycle)?;
+    let last = leads_of(alloc, turns, Side::Earlier, end, cycle)?;
     let mut times = Vec::new(alloc);
-    let mut kept = 0;
-    for p in turns {
-        push_around(&mut times, s, *p, pieces)?;
-        kept = put_in_order_again(&mut times, kept)?;
-    }
+    push_all_moves(&mut times, Side::Later, s, &first, pieces)?;
+    push_all_moves(&mut times, Side::Earlier, s, &last, pieces)?;
     put_in_order(&mut times)?;
     Ok(times)
 }

@@ -1,5 +1,5 @@
 -- The cells before one, where they are answered by a table: those that a table has nothing at, and one that is refused.
-use Rattle.std.proofs.Common.{◌≡◌, List, [], ◌∷◌, ◌++◌, refl, sym, ◌∙◌, subst, inl}
+use Rattle.std.proofs.Common.{◌≡◌, ℕ, ◌<◌, ◌+◌, List, [], ◌∷◌, ◌++◌, length, take, drop, sum_by, refl, sym, ◌∙◌, subst, inl}
 use Rattle.std.specs.Prelude.{◌≢◌, None, Err, Contains}
 use Rattle.upp_limits.specs.declared.op_kind.OpFault.{OpFault}
 use Rattle.upp_limits.specs.declared.op_kind.OpFault.TheVariants as operator
@@ -8,6 +8,9 @@ use Rattle.net_cells.specs.declared.cell.Cell.{Cell}
 use Rattle.net_cells.specs.CellFormulas.{formula}
 use Rattle.net_cells.specs.Meanings.{CellTable}
 use Rattle.net_cells.specs.FirstOver.{AnswersAll}
+use Rattle.net_cells.specs.Work.{work}
+use Rattle.net_cells.specs.MemoryEnds.{EndsAt, MemoryEnds, at_cell}
+use Rattle.net_cells.proofs.cell_table.Fronts.{cell_at, at_place}
 use Rattle.net_cells.proofs.Lists.{has_left, has_right, contains_has, has_contains}
 use Rattle.net_cells.specs.declared.cell_table.fault.AnalysisFault.{AnalysisFault}
 use Rattle.net_cells.specs.cell_table.Gives.{Gives}
@@ -63,3 +66,19 @@ wants_at P c operator.NoMemory h = h refl
 pub wants_memory : (P : Type 0) (c : Cell) (fault : OpFault) (why : AnalysisFault) → why ≡ fault_at c fault
     → (fault ≡ operator.NoMemory → P) → WantsMemory P why
 wants_memory P c fault why e h = subst (λ (w : AnalysisFault). WantsMemory P w) (sym e) (wants_at P c fault h)
+
+-- ---- want of memory at one of the cells, where so many operators are counted for it
+pub ends_here : (net : Net) (cells : List Cell) (at : CellTable) (i counted n : ℕ) → i < length cells → AnswersAll net at (take i cells)
+    → EndsAt at (formula net (cell_at cells i)) counted → n ≡ sum_by (work net) (take i cells) + counted → MemoryEnds net cells n
+ends_here net cells at i counted n h answered ends count =
+    at_cell (record {
+      before = take i cells;
+      cell = cell_at cells i;
+      after = drop (i + 1) cells;
+      is = at_place cells i h;
+      table = at;
+      answered = answered;
+      counted = counted;
+      ends = ends;
+      count = count;
+    })

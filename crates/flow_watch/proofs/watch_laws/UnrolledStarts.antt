@@ -1,10 +1,10 @@
 -- A break of a curve before a time is the start of one of the pieces that are unrolled up to that time.
 use Rattle.std.specs.Prelude.{◌≡◌, ◌⊎◌, ℕ, zero, suc, ◌<◌, pos, List, [], ◌∷◌, ◌++◌}
-use Rattle.std.proofs.Common.{arith, subst, ap, inl, inr}
+use Rattle.std.proofs.Common.{arith, sym, subst, ap, ◌∙◌, inl, inr}
 use Rattle.std.proofs.lemmas.Bool.{cases_lt}
 use Rattle.upp_limits.specs.rational.specs.Rational.{ℚ, int, ◌+ℚ◌, ◌-ℚ◌, ◌*ℚ◌, ◌≤ℚ◌, ◌<ℚ◌}
 use Rattle.upp_limits.specs.rational.specs.Whole.{periods}
-use Rattle.upp_limits.specs.rational.proofs.Laws.{le_refl, le_trans, le_of_lt, zero_mul, mul_le_mul_right}
+use Rattle.upp_limits.specs.rational.proofs.Laws.{le_refl, le_trans, le_of_lt, zero_mul, mul_comm, mul_one, mul_le_mul_right}
 use Rattle.upp_limits.specs.rational.proofs.Integers.{nat_le}
 use Rattle.upp_limits.specs.rational.proofs.Whole.{one_more_times, periods_high}
 use Rattle.upp_limits.specs.rational.proofs.Linear.{with_atoms, with2, with3}
@@ -12,11 +12,13 @@ use Rattle.upp_limits.specs.upp_curve.specs.declared.affine_segment.line.Piece.{
 use Rattle.upp_limits.specs.upp_curve.specs.declared.curve.Tail.{Tail}
 use Rattle.upp_limits.specs.upp_curve.specs.declared.curve.Tail.TheVariants.{Periodic, Affine, Infinite}
 use Rattle.upp_limits.specs.upp_curve.specs.Curve.{SpecCurve}
-use Rattle.upp_limits.specs.upp_curve.specs.affine_segment.Pieces.{HasStart, RisesFrom}
+use Rattle.upp_limits.specs.upp_curve.specs.affine_segment.Pieces.{HasStart, StartsAtZero, RisesFrom}
 use Rattle.upp_limits.specs.upp_curve.specs.Normal.{IsNormal}
 use Rattle.upp_limits.specs.upp_curve.specs.Unrolled.{each_later, copies, upto, from, unrolled, unroll}
+use Rattle.flow_watch.specs.watch_laws.Breaks.{IsBreak}
 use Rattle.upp_normal.proofs.Below.{cut_at_start}
 use Rattle.upp_limits.specs.upp_curve.proofs.Normal.{start_in_upto, start_from_upto}
+use Rattle.upp_limits.specs.upp_curve.proofs.Unique.{upto_none}
 use Rattle.upp_normal.proofs.UnrolledPieces.{periodic_starts}
 use Rattle.upp_limits.specs.upp_curve.proofs.affine_segment.PieceIn.{low_start}
 
@@ -141,3 +143,98 @@ start_by_tail ps (Infinite rank) end far x n h l =
 pub start_before : (c : SpecCurve) (end far x : ℚ) → IsNormal c → HasStart x (unroll c far) → x <ℚ end → HasStart x (unroll c end)
 unfolding unroll
 start_before c end far x n h l = start_by_tail c.pieces c.tail end far x n h l
+
+-- ---- a period later
+-- a start from the rank on, so many periods later
+copy_later : (ps : List Piece) (rank d c y : ℚ) (k : ℕ) → IsNormal record { pieces = ps; tail = Periodic rank d c } → HasStart y (from rank ps)
+    → HasStart (y +ℚ int (pos k) *ℚ d) (unrolled ps (Periodic rank d c) (y +ℚ int (pos k) *ℚ d +ℚ int (pos 1)))
+copy_later ps rank d c y k n h =
+    let low = int (pos 0) -ℚ int (pos 1) in
+    let turn = from rank ps in
+    let by = int (pos k) *ℚ d in
+    let x = y +ℚ by in
+    let end = x +ℚ int (pos 1) in
+    let m = periods rank d end in
+    let cut = cut_at_start low rank ps (low_start ps n.raw.starts) n.rank_is_start in
+    let after : cut.first.x ≤ℚ y = later_start low y cut.first cut.rest cut.rises (subst (HasStart y) cut.from_is h) in
+    let same : y ≡ x -ℚ by = with2 y by (λ w. omega (arith, w.le, w.lt, w.same)) in
+    let after_rank : rank ≤ℚ x -ℚ by = subst (λ t. rank ≤ℚ t) same (subst (λ t. t ≤ℚ y) cut.at after) in
+    let early : x <ℚ end = with2 y by (λ w. omega (arith, w.le, w.lt, w.same)) in
+    start_in_upto low x end (upto rank ps ++ copies (suc m) d c turn)
+    (low_start (upto rank ps ++ copies (suc m) d c turn) (periodic_starts ps rank d c m n.raw.starts n.rank_is_start n.raw.tail.some n.raw.tail.starts))
+    (start_right x (upto rank ps) (copies (suc m) d c turn) (copy_in (suc m) d c x turn k (few_times rank d x end k n.raw.tail.some after_rank early) (subst (λ t. HasStart t turn) same h)))
+    early
+
+-- the rank itself, a period later
+rank_later_by : (ps : List Piece) (rank d c : ℚ) → IsNormal record { pieces = ps; tail = Periodic rank d c }
+    → HasStart (rank +ℚ int (pos 1) *ℚ d) (unrolled ps (Periodic rank d c) (rank +ℚ int (pos 1) *ℚ d +ℚ int (pos 1)))
+rank_later_by ps rank d c n =
+    let cut = cut_at_start (int (pos 0) -ℚ int (pos 1)) rank ps (low_start ps n.raw.starts) n.rank_is_start in
+    copy_later ps rank d c rank 1 n (subst (HasStart rank) (sym cut.from_is) (inl cut.at))
+
+pub rank_later : (c : SpecCurve) (rank d rise : ℚ) → IsNormal c → c.tail ≡ Periodic rank d rise → IsBreak c (rank +ℚ d)
+unfolding unroll
+rank_later c rank d rise n e =
+    let once : int (pos 1) *ℚ d ≡ d = mul_comm (int (pos 1)) d ∙ mul_one d in
+    let far = rank +ℚ int (pos 1) *ℚ d +ℚ int (pos 1) in
+    let normal = subst (λ (t : Tail). IsNormal record { pieces = c.pieces; tail = t }) e n in
+    let start : HasStart (rank +ℚ int (pos 1) *ℚ d) (unrolled c.pieces c.tail far) =
+    subst (λ (t : Tail). HasStart (rank +ℚ int (pos 1) *ℚ d) (unrolled c.pieces t far)) (sym e) (rank_later_by c.pieces rank d rise normal) in
+    (far, subst (λ y. HasStart y (unrolled c.pieces c.tail far)) (ap (λ y. rank +ℚ y) once) start)
+
+-- ---- a curve that repeats from 0 on
+no_rest : (rank : ℚ) (ps : List Piece) → StartsAtZero ps → rank ≤ℚ int (pos 0) → upto rank ps ≡ []
+no_rest rank [] h l = absurd h
+no_rest rank (p ∷ ps) h l = upto_none rank p ps (subst (λ y. rank ≤ℚ y) (sym h.0) l)
+
+-- a period after a start another piece starts
+again_by : (ps : List Piece) (rank d c end x : ℚ) → IsNormal record { pieces = ps; tail = Periodic rank d c } → rank ≤ℚ int (pos 0)
+    → HasStart x (unrolled ps (Periodic rank d c) end) → (far : ℚ) × HasStart (x +ℚ d) (unrolled ps (Periodic rank d c) far)
+again_by ps rank d c end x n early h =
+    let turn = from rank ps in
+    let m = suc (periods rank d end) in
+    let seen = start_from_upto x end (upto rank ps ++ copies m d c turn) h in
+    elim (start_parts x (upto rank ps) (copies m d c turn) seen) [
+      | inl k ↦ absurd (subst (HasStart x) (no_rest rank ps n.raw.starts early) k)
+      | inr k ↦
+          let r = in_copy m d c x turn k in
+          let y = x -ℚ int (pos r.times) *ℚ d in
+          let by = int (pos (suc r.times)) *ℚ d in
+          (y +ℚ by +ℚ int (pos 1), subst (λ t. HasStart t (unrolled ps (Periodic rank d c) (y +ℚ by +ℚ int (pos 1)))) (once r.times x d) (copy_later ps rank d c y (suc r.times) n r.start))
+    ]
+  where
+    once : (k : ℕ) (x d : ℚ) → (x -ℚ int (pos k) *ℚ d) +ℚ int (pos (suc k)) *ℚ d ≡ x +ℚ d
+    once k x d =
+        let e = one_more_times k d in
+        let m = int (pos k) *ℚ d in
+        let l = int (pos (suc k)) *ℚ d in
+        with_atoms (x ∷ d ∷ m ∷ l ∷ []) (λ w. omega (arith, w.le, w.lt, w.same))
+
+break_again : (c : SpecCurve) (rank d rise x : ℚ) → IsNormal c → c.tail ≡ Periodic rank d rise → rank ≤ℚ int (pos 0) → IsBreak c x → IsBreak c (x +ℚ d)
+unfolding unroll
+break_again c rank d rise x n e early b =
+    let (end, start) = b in
+    let (far, later) = again_by c.pieces rank d rise end x (subst (λ (t : Tail). IsNormal record { pieces = c.pieces; tail = t }) e n) early (subst (λ (t : Tail). HasStart x (unrolled c.pieces t end)) e start) in
+    (far, subst (λ (t : Tail). HasStart (x +ℚ d) (unrolled c.pieces t far)) (sym e) later)
+
+breaks_again : (c : SpecCurve) (rank d rise x : ℚ) (k : ℕ) → IsNormal c → c.tail ≡ Periodic rank d rise → rank ≤ℚ int (pos 0) → IsBreak c x → IsBreak c (x +ℚ int (pos k) *ℚ d)
+breaks_again c rank d rise x zero n e early b = subst (IsBreak c) (nothing x d) b
+  where
+    nothing : (x d : ℚ) → x ≡ x +ℚ int (pos 0) *ℚ d
+    nothing x d = let e = zero_mul d in let m = int (pos 0) *ℚ d in with2 x m (λ k. omega (arith, k.le, k.lt, k.same))
+breaks_again c rank d rise x (suc k) n e early b =
+    subst (IsBreak c) (one_more k x d) (break_again c rank d rise (x +ℚ int (pos k) *ℚ d) n e early (breaks_again c rank d rise x k n e early b))
+  where
+    one_more : (k : ℕ) (x d : ℚ) → x +ℚ int (pos k) *ℚ d +ℚ d ≡ x +ℚ int (pos (suc k)) *ℚ d
+    one_more k x d =
+        let e = one_more_times k d in
+        let m = int (pos k) *ℚ d in
+        let l = int (pos (suc k)) *ℚ d in
+        with_atoms (x ∷ d ∷ m ∷ l ∷ []) (λ w. omega (arith, w.le, w.lt, w.same))
+
+-- whole periods after a start and before the end another piece starts
+pub starts_again : (c : SpecCurve) (rank d rise end x : ℚ) (k : ℕ) → IsNormal c → c.tail ≡ Periodic rank d rise → rank ≤ℚ int (pos 0) → HasStart x (unroll c end) → x +ℚ int (pos k) *ℚ d <ℚ end
+    → HasStart (x +ℚ int (pos k) *ℚ d) (unroll c end)
+starts_again c rank d rise end x k n e early h l =
+    let (far, start) = breaks_again c rank d rise x k n e early (end, h) in
+    start_before c end far (x +ℚ int (pos k) *ℚ d) n start l

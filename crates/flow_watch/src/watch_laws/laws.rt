@@ -1,5 +1,6 @@
 ghost use Rattle.flow_watch.specs.watch_laws.Times.{TurnsAreTimes, StretchesBegin};
 ghost use Rattle.flow_watch.specs.watch_laws.Laws.{PairsSuffice, WatchPointsSuffice, TurnsSuffice, TurnsSufficeWithin, TurnsSufficeBetween, StretchesAreApart, BreaksAreStarts, BreachesTell, FirstIsOne};
+ghost use Rattle.flow_watch.specs.watch_laws.Reaches.{ReachSuffices};
 ghost use Rattle.flow_watch.specs.watch_laws.Segments.{SegmentsTell};
 ghost use Rattle.flow_watch.specs.watch_laws.MarkSizes.{MarksFit, KeysFit};
 
@@ -29,6 +30,11 @@ pub fn turns_suffice_within()
 /// A window between two turns that is too short of work has one between the same turns between such times.
 pub fn turns_suffice_between()
     ensures { TurnsSufficeBetween }
+{}
+
+/// Of a curve that repeats it has one that is no longer than the curve's rank and a period.
+pub fn reach_suffices()
+    ensures { ReachSuffices }
 {}
 
 /// Every turn is the time of a step, or the run's end.

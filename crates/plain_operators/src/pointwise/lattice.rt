@@ -15,9 +15,10 @@ ghost use Rattle.curve_call.specs.Rises.{CurveRiseFits};
 ghost use Rattle.plain_operators.specs.pointwise.Lattice.{kind_of, made_of, rises_of, FiniteFor, RisesBy, IsTailRise};
 ghost use Rattle.plain_operators.specs.pointwise.LatticeCall.{IsLatticeFrame};
 
+use crate::pointwise::leaning::{bounds_by_lines, is_slower};
 use curve_call::upp_normal::unrolled;
 use curve_call::{
-    CallWindow, Frame, Side, answer, first_window, least_periods, period_bounds, refuse_between,
+    CallWindow, Frame, answer, first_window, least_periods, period_bounds, refuse_between,
     rise_over, window_excess, window_max, window_min, within,
 };
 use std::alloc::{AllocError, Global};
@@ -26,7 +27,7 @@ use steps::Steps;
 use upp_limits::fraction128::{Frac, difference};
 use upp_limits::upp_curve::Curve;
 use upp_limits::upp_curve::affine_segment::Piece;
-use upp_limits::{OpFault, OpKind};
+use upp_limits::{OpFault, OpKind, is_few};
 
 /// What is made of two curves.
 #[derive(Debug, Clone, Copy)]
@@ -47,13 +48,6 @@ fn kind_of(of: Lattice) -> OpKind
         Lattice::Upper => OpKind::Max,
         Lattice::Excess => OpKind::PosDiff,
     }
-}
-
-// Whether f is the slower one.
-fn is_slower(f: &Curve, g: &Curve) -> bool
-    ensures { IsTrue result ↔ (rate f.now <ₑ rate g.now) }
-{
-    curve_call::is_slower(&Side::of(f), &Side::of(g))
 }
 
 // By how much the slower of two curves rises, or the faster.
@@ -170,6 +164,22 @@ fn refuse_early(of: Lattice, f: &Curve, g: &Curve, first: &CallWindow) -> Result
     }
 }
 
+// As `refuse_early`, by lines that each curve lies under or over; not where the pairs of pieces are few with no period.
+fn refuse_by_lines(of: Lattice, f: &Curve, g: &Curve, first: &CallWindow) -> Result<(), OpFault>
+    requires curves { IsCurve f.now × IsCurve g.now }
+    requires window { IsFirstWindow (kind_of of) f.now g.now first.now }
+    ensures { IfErr result (IsCauseOf (kind_of of) f.now g.now) }
+{
+    let kind = kind_of(of);
+    if is_few(&kind, f, g, first.end) {
+        return Ok(());
+    }
+    match bounds_by_lines(f, g, first.start, first.period) {
+        None => Ok(()),
+        Some(bounds) => refuse_between(&kind, f, g, bounds.low, bounds.high),
+    }
+}
+
 /// What is made of two curves.
 pub(crate) fn made_of_curves<L: Ledger>(
     alloc: Global,
@@ -188,6 +198,7 @@ pub(crate) fn made_of_curves<L: Ledger>(
     let kind = kind_of(of);
     let first = first_window(&kind, f, g)?;
     refuse_early(of, f, g, &first)?;
+    refuse_by_lines(of, f, g, &first)?;
     let Some(periods) = least_periods(f, g, first.start, first.period) else {
         return Err(OpFault::TooWide);
     };

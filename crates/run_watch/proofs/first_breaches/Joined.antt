@@ -1,5 +1,5 @@
 -- The first of the breaches of more flows or servers, and of more kinds, from the first of each.
-use Rattle.std.specs.Prelude.{◌≡◌, ℕ, suc, ◌<◌, List, [], ◌∷◌, length, Option, Some, None}
+use Rattle.std.specs.Prelude.{◌≡◌, ◌⊎◌, ℕ, suc, ◌<◌, ◌≤◌, List, [], ◌∷◌, length, Option, Some, None}
 use Rattle.std.proofs.Common.{arith, refl, sym, subst, ap, ◌∙◌, inl, inr}
 use Rattle.std.proofs.lemmas.Bool.{cases_lt}
 use Rattle.std.proofs.lemmas.List.{length-map}
@@ -15,8 +15,8 @@ use Rattle.net_model.specs.NetRoutes.{server_for}
 use Rattle.net_cells.proofs.Places.{live_inside}
 use Rattle.flow_watch.specs.watch_laws.Breaches.{order_key, NoLater}
 use Rattle.run_watch.specs.declared.found.Found.{Found}
-use Rattle.run_watch.specs.FirstOf.{time_of, IsBest, earlier, GoesBefore, IsBoth}
-use Rattle.run_watch.proofs.FirstOfTwo.{first_of_both}
+use Rattle.run_watch.specs.FirstOf.{time_of, IsBest, IsBestBefore, time_if_any, earlier, GoesBefore, IsBoth}
+use Rattle.run_watch.proofs.FirstOfTwo.{first_of_both, first_of_both_before}
 use Rattle.run_watch.specs.first_breaches.Firsts.{IsNetBreach, kind_of, subject_of, IsOne, IsBelow, IsOfKinds}
 use Rattle.run_watch.proofs.first_breaches.Routed.{live_is}
 
@@ -56,6 +56,10 @@ subject_before run x y e l t = by_key run x y t (inr (ap whole e, inl (whole_lt 
 pub best_same : (P Q : Breach → Type 0) (run : SpecRun) (o : Option Found) → ((y : Breach) → P y → Q y) → ((y : Breach) → Q y → P y) → IsBest P run o → IsBest Q run o
 best_same P Q run None f g h = λ y q. h y (g y q)
 best_same P Q run (Some x) f g h = record { is = f x.breach h.is; time = h.time; least = λ y q. h.least y (g y q) }
+
+pub best_before_same : (until : Option ℚ) (P Q : Breach → Type 0) (run : SpecRun) (o : Option Found) → ((y : Breach) → P y → Q y) → ((y : Breach) → Q y → P y) → IsBestBefore until P run o → IsBestBefore until Q run o
+best_before_same until P Q run None f g h = λ y q. h y (g y q)
+best_before_same until P Q run (Some x) f g h = record { is = f x.breach h.is; time = h.time; least = λ y q. h.least y (g y q) }
 
 -- ---- one flow or server more
 pub none_below : (net : Net) (run : SpecRun) (kind : ℕ) → IsBest (IsBelow net run kind 0) run None
@@ -120,14 +124,63 @@ pub arrivals_next : (net : Net) (run : SpecRun) (best next : Option Found) → I
     → IsBest (IsOfKinds net run 2) run (earlier best next)
 arrivals_next net run best next h k = kind_more net run 1 (length net.flows) best next (λ y e b. subject_inside net run y (omega arith) b) h k
 
-pub services_next : (net : Net) (run : SpecRun) (best next : Option Found) → IsBest (IsOfKinds net run 2) run best → IsBest (IsBelow net run 2 (length net.servers)) run next
-    → IsBest (IsOfKinds net run 3) run (earlier best next)
-services_next net run best next h k = kind_more net run 2 (length net.servers) best next (λ y e b. server_inside net run y e b) h k
+pub best_known : (net : Net) (run : SpecRun) (size arrival two : Option Found) → two ≡ earlier size arrival → IsBest (IsBelow net run 0 (length net.flows)) run size → IsBest (IsBelow net run 1 (length net.flows)) run arrival
+    → IsBest (IsOfKinds net run 2) run two
+best_known net run size arrival two e h k = subst (λ (o : Option Found). IsBest (IsOfKinds net run 2) run o) (sym e) (arrivals_next net run size arrival (sizes_first net run size h) k)
 
--- the earlier of the three
-pub best_of_all : (net : Net) (run : SpecRun) (size arrival service two found : Option Found) → two ≡ earlier size arrival → found ≡ earlier two service
-    → IsBest (IsBelow net run 0 (length net.flows)) run size → IsBest (IsBelow net run 1 (length net.flows)) run arrival → IsBest (IsBelow net run 2 (length net.servers)) run service
-    → IsBest (IsOfKinds net run 3) run found
-best_of_all net run size arrival service two found e f h k l =
-    let both = subst (λ (o : Option Found). IsBest (IsOfKinds net run 2) run o) (sym e) (arrivals_next net run size arrival (sizes_first net run size h) k) in
-    subst (λ (o : Option Found). IsBest (IsOfKinds net run 3) run o) (sym f) (services_next net run two service both l)
+-- ---- the kinds before, and the servers below a number
+abbrev pub IsUpto : Net → SpecRun → ℕ → Breach → Type 0
+IsUpto net run n x = IsOfKinds net run 2 x ⊎ IsBelow net run 2 n x
+
+pub upto_none : (net : Net) (run : SpecRun) (o : Option Found) → IsBest (IsOfKinds net run 2) run o → IsBest (IsUpto net run 0) run o
+upto_none net run o h = best_same (IsOfKinds net run 2) (IsUpto net run 0) run o (λ y p. inl p) back h
+  where
+    back : (y : Breach) → IsUpto net run 0 y → IsOfKinds net run 2 y
+    back y h = elim h [ inl p ↦ p | inr p ↦ let l = p.below in absurd (omega arith) ]
+
+pub upto_all : (net : Net) (run : SpecRun) (n : ℕ) (o : Option Found) → length net.servers ≤ n → IsBest (IsUpto net run n) run o → IsBest (IsOfKinds net run 3) run o
+upto_all net run n o long h = best_same (IsUpto net run n) (IsOfKinds net run 3) run o into back h
+  where
+    into : (y : Breach) → IsUpto net run n y → IsOfKinds net run 3 y
+    into y h = elim h [
+      | inl p ↦ let l = p.kind_is in record { kind_is = omega arith; breaks = p.breaks }
+      | inr p ↦ let l = p.kind_is in record { kind_is = omega arith; breaks = p.breaks }
+    ]
+
+    back : (y : Breach) → IsOfKinds net run 3 y → IsUpto net run n y
+    back y p = elim (cases_lt (kind_of y) 2) [
+      | inl l ↦ inl record { kind_is = l; breaks = p.breaks }
+      | inr l ↦
+          let k = p.kind_is in
+          let e : kind_of y ≡ 2 = omega arith in
+          let m = server_inside net run y e p.breaks in
+          inr record { kind_is = e; below = omega (arith, m, long); breaks = p.breaks }
+    ]
+
+pub upto_more : (net : Net) (run : SpecRun) (n m : ℕ) (best next : Option Found) → m ≡ suc n → IsBest (IsUpto net run n) run best → IsBestBefore (time_if_any best) (IsOne net run 2 n) run next
+    → IsBest (IsUpto net run m) run (earlier best next)
+upto_more net run n m best next e h k =
+    subst (λ (i : ℕ). IsBest (IsUpto net run i) run (earlier best next)) (sym e)
+    (first_of_both_before run (IsUpto net run n) (IsOne net run 2 n) (IsUpto net run (suc n)) best next h k both before)
+  where
+    both : IsBoth (IsUpto net run n) (IsOne net run 2 n) (IsUpto net run (suc n))
+    both = record {
+      of_one = λ y r. elim r [
+        | inl p ↦ inl (inl p)
+        | inr p ↦ elim (cases_lt (subject_of y) n) [
+          | inl l ↦ inl (inr record { kind_is = p.kind_is; below = l; breaks = p.breaks })
+          | inr l ↦ let b = p.below in inr record { kind_is = p.kind_is; at = omega arith; breaks = p.breaks }
+        ]
+      ];
+      first = λ y r. elim r [
+        | inl p ↦ inl p
+        | inr p ↦ inr record { kind_is = p.kind_is; below = let b = p.below in omega arith; breaks = p.breaks }
+      ];
+      other = λ y p. inr record { kind_is = p.kind_is; below = let b = p.at in omega arith; breaks = p.breaks };
+    }
+
+    before : GoesBefore run (IsUpto net run n) (IsOne net run 2 n)
+    before x y r q t = elim r [
+      | inl p ↦ let a = p.kind_is in let b = q.kind_is in kind_before run x y (omega arith) t
+      | inr p ↦ let a = p.below in let b = q.at in subject_before run x y (p.kind_is ∙ sym q.kind_is) (omega arith) t
+    ]

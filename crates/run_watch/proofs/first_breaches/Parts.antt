@@ -26,10 +26,10 @@ use Rattle.flow_watch.specs.watch_laws.Breaches.{IsIdle, IsTooSlow}
 use Rattle.flow_watch.specs.watch_laws.Laws.{MayArrive, MayServe, HaveCurves}
 use Rattle.flow_watch.proofs.watch_laws.Premises.{breaches_tell, watch_points_suffice}
 use Rattle.run_watch.specs.declared.found.Found.{Found}
-use Rattle.run_watch.specs.FirstOf.{IsBest, IsLongOn, IsCrowdOn, IsIdleOn}
+use Rattle.run_watch.specs.FirstOf.{IsBest, IsBestBefore, IsLongOn, IsCrowdOn, IsIdleOn}
 use Rattle.run_watch.specs.first_breaches.Firsts.{TellsFirst, kind_of, IsOne, IsOfKinds, HaveServices}
 use Rattle.run_watch.specs.first_breaches.Kept.{KeepsCurve}
-use Rattle.run_watch.proofs.first_breaches.Joined.{best_same}
+use Rattle.run_watch.proofs.first_breaches.Joined.{best_same, best_before_same}
 use Rattle.run_watch.proofs.first_breaches.Routed.{live_is}
 
 -- ---- no flow
@@ -109,9 +109,9 @@ arrival_one net run flow f o e h = best_same (IsCrowdOn run flow (value_at f.arr
     back (Service s a b) k = let a = k.kind_is in absurd (omega arith)
 
 -- ---- services
-pub service_one : (net : Net) (run : SpecRun) (s : ℕ) (c : SpecCurve) (end : ℚ) (o : Option Found) → s < length net.servers → c ≡ service net s → end ≡ run.end
-    → IsBest (IsIdleOn end (view (routes_of net) run s) s c) run o → IsBest (IsOne net run 2 s) run o
-service_one net run s c end o l e at h = best_same (IsIdleOn end (view (routes_of net) run s) s c) (IsOne net run 2 s) run o into back h
+pub service_one : (net : Net) (run : SpecRun) (s : ℕ) (c : SpecCurve) (end : ℚ) (until : Option ℚ) (o : Option Found) → s < length net.servers → c ≡ service net s → end ≡ run.end
+    → IsBestBefore until (IsIdleOn end (view (routes_of net) run s) s c) run o → IsBestBefore until (IsOne net run 2 s) run o
+service_one net run s c end until o l e at h = best_before_same until (IsIdleOn end (view (routes_of net) run s) s c) (IsOne net run 2 s) run o into back h
   where
     into : (y : Breach) → IsIdleOn end (view (routes_of net) run s) s c y → IsOne net run 2 s y
     into (Size g p) k = absurd k

@@ -18,7 +18,8 @@ use std::alloc::{AllocError, Global};
 /// What a lawful run of a network breaks first: none exactly where it keeps its packet sizes, its arrival curves and
 /// its service curves. Its numbers are those of a gauge below 2^120 (`HaveSizes`). `kept` tells servers by a true at
 /// their numbers that are known to keep their service curves in this run: no window of theirs is looked at. Where nothing
-/// is known, as of a recorded run, it is empty or all false.
+/// is known, as of a recorded run, it is empty or all false. Nor is a window of a server looked for that ends later than
+/// a breach that is known.
 pub fn first_breach(
     alloc: Global,
     net: &Network,
@@ -33,8 +34,8 @@ pub fn first_breach(
     net.keeps();
     let size = first_size(alloc, net, run)?;
     let arrival = first_arrival(alloc, net, run)?;
-    let service = first_service(alloc, net, run, kept)?;
-    let found = earlier(earlier(size, arrival), service);
+    let known = earlier(size, arrival);
+    let found = first_service(alloc, net, run, kept, known)?;
     match found {
         None => Ok(None),
         Some(f) => Ok(Some(f.breach)),

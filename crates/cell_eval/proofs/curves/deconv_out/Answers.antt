@@ -3,7 +3,6 @@ use Rattle.std.specs.Prelude.{IfErr}
 use Rattle.upp_limits.specs.declared.op_kind.OpKind.TheVariants.{Deconvolve}
 use Rattle.net_cells.specs.Formulas.{value_of, made}
 use Rattle.net_cells.specs.cell_table.Values.{meaning_of}
-use Rattle.cell_eval.proofs.Counting.{ok_answer}
 use Rattle.cell_eval.proofs.Arms.{deconv_comes, deconv_served_by}
 use Rattle.net_cells.specs.declared.cell.Kind.TheVariants.{In, Residual, DeconvOut}
 use Rattle.net_cells.specs.Cells.{cell_of}
@@ -21,11 +20,7 @@ spread-requires-clause-serves g c = deconv_served_by c.args.net.now (g.T.Table.a
 pub returns : goal.returns
 returns g c = record {
   answer = rw c.packet.ensures at c.spread.ensures.answer;
-  counts = record {
-    exact = ok_answer _ meaning_of c.spread.result c.spread.ensures.all;
-    least = c.spread.ensures.least;
-    most = c.spread.ensures.most;
-  };
+  counts = c.spread.ensures.counts;
   memory = λ is. let at = g.T.Table.at c.args.table.now in
       let counted = c.spread.new.steps - c.args.steps.now in
       let from = value_of (cell_of In c.args.flow c.args.hop) in

@@ -2,7 +2,6 @@ use Rattle.std.proofs.Common.{◌-◌, sym, ap, ◌∙◌, subst, inr}
 use Rattle.std.specs.Prelude.{IfErr}
 use Rattle.net_cells.specs.Formulas.{value_of, vertical}
 use Rattle.net_cells.specs.Meanings.{number}
-use Rattle.cell_eval.proofs.Counting.{ok_answer}
 use Rattle.cell_eval.proofs.Arms.{backlog_comes, backlog_served_by}
 use Rattle.net_cells.specs.Visits.{longest_of}
 use Rattle.cell_eval.specs.declared.found.Pick.TheVariants.{InQueue}
@@ -25,11 +24,7 @@ returns g c =
     let bits = c.longest_at-bits.ensures ∙ ap (longest_of c.args.net.now) (sym (picked_are c.args.net.now c.args.server (InQueue c.args.queue))) in
     record {
       answer = rw c.numbered.ensures (rw bits at c.backlog.ensures.answer);
-      counts = record {
-        exact = rw c.numbered.ensures (ok_answer _ number c.backlog.result c.backlog.ensures.all);
-        least = c.backlog.ensures.least;
-        most = c.backlog.ensures.most;
-      };
+      counts = rw c.numbered.ensures c.backlog.ensures.counts;
       memory = λ is. let at = g.T.Table.at c.args.table.now in
           let counted = c.backlog.new.steps - c.args.steps.now in
           let from = value_of (cell_of Total c.args.server c.args.queue) in

@@ -34,7 +34,7 @@ returns-in-Ok-clause-answer g c =
     let r = answer_of meaning_of c.shared.result in
     let call = applied_seen Convolve f k c.convolve.result c.intact-made.result c.intact-made.ensures.same c.convolve.ensures.value c.convolve.ensures.limits
     c.intact-made.ensures.kept in
-    joined_answer at (packets_to c.args.net.now c.args.flow c.args.last) (value_of (cell_of Residual c.args.flow (c.args.last + 1))) f k r
+    joined_answer at (packets_to c.args.net.now c.args.flow c.args.last) (value_of (cell_of Residual c.args.flow (c.args.last + 1))) Convolve f k r
     c.in-Ok.ensures.answer (c.curve_at-end.ensures ∙ ap (λ f. Some (curve f)) (sym c.deref.ensures))
     (shared_makes (Applies Convolve f k) c.intact-made.result r (applies_out Convolve f k) call c.shared.ensures)
 

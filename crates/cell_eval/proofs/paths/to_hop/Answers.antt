@@ -1,43 +1,30 @@
-use Rattle.std.proofs.Common.{◌≡◌, ◌+◌, ◌-◌, sym, ap, ◌∙◌, subst, arith}
-use Rattle.std.specs.Prelude.{Some, Ok, Err}
-use Rattle.upp_limits.specs.declared.op_kind.OpKind.TheVariants.{PosMinus}
-use Rattle.net_model.specs.run_laws.specs.Cards.{whole}
-use Rattle.plain_operators.specs.curve_call.specs.Calls.{AppliesTo}
-use Rattle.net_cells.specs.declared.cell.Kind.TheVariants.{Residual}
-use Rattle.net_cells.specs.Cells.{cell_of}
+use Rattle.std.proofs.Common.{◌≡◌, ◌+◌, ◌-◌, subst, arith}
+use Rattle.std.specs.Prelude.{Ok, Err}
 use Rattle.net_cells.specs.Meanings.{curve}
-use Rattle.net_cells.specs.CellFormulas.{packets_to}
-use Rattle.cell_eval.specs.Shapes.{Serving}
-use Rattle.cell_eval.proofs.Meeting.{curve_holds, curve_map}
-use Rattle.cell_eval.proofs.PathSteps.{packets_fail, first_packets, next_packets}
 use Rattle.net_cells.specs.Formulas.{operators}
+use Rattle.net_cells.specs.CellFormulas.{packets_to}
+use Rattle.net_cells.specs.Answers.{Answers}
 use Rattle.net_cells.specs.Refusals.{RefusedAt}
-use Rattle.cell_eval.proofs.PathSteps.{packets_refused, packets_operators, first_formula, next_formula}
-use Rattle.cell_eval.proofs.OperatorStopping.{less_refused}
+use Rattle.cell_eval.proofs.PathSteps.{packets_fail, next_packets, packets_refused, packets_operators, first_formula, next_formula}
 use Rattle.cell_eval.proofs.paths.to_hop.Goals as goal
 
-pub curve_at-requires : goal.curve_at-requires
-curve_at-requires g c =
-    curve_map (g.T.Table.at c.args.table.now) (cell_of Residual c.args.flow 0) Serving (λ f. Unit {0}) (c.requires 0 (omega arith)) (λ f q. tt)
-
 pub in_packets-requires : goal.in_packets-requires
-in_packets-requires g c =
-    (curve_holds (g.T.Table.at c.args.table.now) (cell_of Residual c.args.flow 0) Serving c.deref.result.now (c.requires 0 (omega arith)) (c.curve_at.ensures ∙ ap (λ f. Some (curve f)) (sym c.deref.ensures))).finite
+in_packets-requires g c = c.requires 0 (omega arith)
 
 pub returns-in-Err-clause-answer : goal.returns-in-Err-clause-answer
 returns-in-Err-clause-answer g c =
     let at = g.T.Table.at c.args.table.now in
-    let one = subst (AppliesTo (PosMinus (whole c.packet-bits.result)) c.deref.result.now) c.in-Err.is c.in_packets.ensures.answer in
     packets_fail at c.args.net.now c.args.flow 0 c.args.last c.in-Err.fault (omega arith)
-    (first_packets at c.args.net.now c.args.flow c.packet-bits.result c.deref.result.now (Err c.in-Err.fault) (c.curve_at.ensures ∙ ap (λ f. Some (curve f)) (sym c.deref.ensures)) c.packet-bits.ensures one)
+    (first_formula (λ F. Answers at F (Err c.in-Err.fault)) c.args.net.now c.args.flow c.packet-bits.result c.packet-bits.ensures
+    c.in-Err.ensures.answer)
 
 pub loop-hop-init : goal.loop-hop-init
 loop-hop-init g c =
-    let at = g.T.Table.at c.args.table.now in
-    let one = subst (AppliesTo (PosMinus (whole c.packet-bits.result)) c.deref.result.now) c.in-Ok.is c.in_packets.ensures.answer in
-    let k = c.in_packets.ensures.count in
+    let k = c.in-Ok.ensures.count in
     record {
-      answers = first_packets at c.args.net.now c.args.flow c.packet-bits.result c.deref.result.now (Ok c.in-Ok.made) (c.curve_at.ensures ∙ ap (λ f. Some (curve f)) (sym c.deref.ensures)) c.packet-bits.ensures one;
+      answers =
+          first_formula (λ F. Answers (g.T.Table.at c.args.table.now) F (Ok (curve c.in-Ok.made))) c.args.net.now c.args.flow c.packet-bits.result
+          c.packet-bits.ensures c.in-Ok.ensures.answer;
       count = omega (arith, k);
     }
 
@@ -72,15 +59,11 @@ returns-in-Err-clause-refused g c =
     let at = g.T.Table.at c.args.table.now in
     let net = c.args.net.now in
     let i = c.args.flow in
-    let bits = c.packet-bits.result in
-    let is = c.curve_at.ensures ∙ ap (λ f. Some (curve f)) (sym c.deref.ensures) in
-    let one = subst (AppliesTo (PosMinus (whole bits)) c.deref.result.now) c.in-Err.is c.in_packets.ensures.answer in
-    let first = c.in_packets.ensures.count in
+    let first = c.in-Err.ensures.count in
     let count : 1 ≡ c.in_packets.new.steps - c.args.steps.now = omega (arith, first) in
     subst (λ n. RefusedAt at (packets_to net i c.args.last) c.in-Err.fault n) count
     (packets_refused at net i 0 c.args.last c.in-Err.fault 1 (omega arith)
-    (first_formula (λ F. RefusedAt at F c.in-Err.fault 1) net i bits c.packet-bits.ensures
-    (less_refused at (cell_of Residual i 0) c.deref.result.now bits is c.in-Err.fault one)))
+    (first_formula (λ F. RefusedAt at F c.in-Err.fault 1) net i c.packet-bits.result c.packet-bits.ensures c.in-Err.ensures.refused))
 
 pub returns-in-Err-with_hop-clause-refused : goal.returns-in-Err-with_hop-clause-refused
 returns-in-Err-with_hop-clause-refused g c =

@@ -3,12 +3,12 @@ use Rattle.upp_limits.specs.rational.proofs.Laws.{le_of_not_lt}
 use Rattle.curve_conv.proofs.RisesFound.{none_looked, all_looked}
 use Rattle.curve_conv.proofs.rises.rise_before.Goals as goal
 
-pub loop-step-init : goal.loop-step-init
-loop-step-init c = none_looked c.args.c.now c.args.first c.args.period c.args.least c.zero.result c.zero.ensures
+pub loop-piece-init : goal.loop-piece-init
+loop-piece-init c = none_looked c.args.c.now c.args.first c.args.period c.args.least c.zero.result c.zero.ensures
 
 pub returns-then-not-is_less : goal.returns-then-not-is_less
 returns-then-not-is_less c =
-    all_looked c.args.c.now c.args.first c.args.period c.loop-step.looked c.loop-step.invariant (le_of_not_lt (λ h. true≢false (sym (c.if-not-is_less.ensures.less.1 h))))
+    all_looked c.args.c.now c.args.first c.args.period c.loop-piece.looked c.loop-piece.invariant (le_of_not_lt (λ h. true≢false (sym (c.if-not-is_less.ensures.less.1 h))))
 
 pub step-requires-clause-before : goal.step-requires-clause-before
 step-requires-clause-before c = c.if-not-is_less.ensures.less.0 refl

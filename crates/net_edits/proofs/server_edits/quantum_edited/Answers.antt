@@ -14,6 +14,7 @@ use Rattle.net_edits.proofs.Steps.{refused_reply, same_refused, then_refused}
 use Rattle.net_edits.proofs.FlowEdits.{bits_length}
 use Rattle.net_edits.proofs.ServerEdits.{quantum_stands, quantum_found, quantum_edit, fitting_reply}
 use Rattle.net_edits.proofs.server_edits.quantum_edited.Goals as goal
+use Rattle.net_edits.proofs.server_edits.quantum_edited.Goals.{In_ok-bits}
 
 pub returns-in_err-queue : goal.returns-in_err-queue
 returns-in_err-queue c =
@@ -35,6 +36,16 @@ returns-in_err-queue c =
     (subst (λ (z : ℤ). Refuses (whole_that (is_quantum_of old.discipline) z) e) (to_z-of_z w64 c.args.queue c.ranges.queue)
     c.in_err-queue.ensures))))
 
+-- ---- the two numbers
+size : (c : In_ok-bits) → whole_that is_length c.args.bits ≡ Ok c.in_ok-bits.bits
+size c =
+    subst (λ (z : ℤ). whole_that is_length z ≡ Ok c.in_ok-bits.bits) (to_z-of_z w64 c.args.bits c.ranges.bits) c.in_ok-bits.ensures
+
+numbered : (c : In_ok-bits) → whole_that (is_quantum_of (server_of c.server_at-old.result.now).discipline) c.args.queue ≡ Ok c.in_ok-queue.queue
+numbered c =
+    subst (λ (z : ℤ). whole_that (is_quantum_of (server_of c.server_at-old.result.now).discipline) z ≡ Ok c.in_ok-queue.queue)
+    (to_z-of_z w64 c.args.queue c.ranges.queue) c.in_ok-queue.ensures
+
 pub with_fitting_server-requires-clause-accepted : goal.with_fitting_server-requires-clause-accepted
 with_fitting_server-requires-clause-accepted c =
     let net = c.args.net.now in
@@ -43,33 +54,21 @@ with_fitting_server-requires-clause-accepted c =
     let old = server_of found.result.now in
     let q = c.in_ok-queue.queue in
     let b = c.in_ok-bits.bits in
-    let size : whole_that is_length c.args.bits ≡ Ok b =
-    subst (λ (z : ℤ). whole_that is_length z ≡ Ok b) (to_z-of_z w64 c.args.bits c.ranges.bits) c.in_ok-bits.ensures in
-    let numbered : whole_that (is_quantum_of old.discipline) c.args.queue ≡ Ok q =
-    subst (λ (z : ℤ). whole_that (is_quantum_of old.discipline) z ≡ Ok q) (to_z-of_z w64 c.args.queue c.ranges.queue) c.in_ok-queue.ensures in
     λ fits.
     let here : quanta_fit (put_server net s (with_quantum q b old)) ≡ true =
     ap (λ (m : NetServer). quanta_fit (put_server net s m)) (sym c.in_ok-server.ensures) ∙ fits in
     subst (λ (m : NetServer). IsAccepted (put_server net s m)) (sym c.in_ok-server.ensures)
     (quantum_stands net s old found.ensures.accepted found.ensures.server found.ensures.kept q b
-    (bits_length c.args.bits b size) here)
+    (bits_length c.args.bits b (size (goal.at.with_fitting_server-requires-clause-accepted c).In_ok-bits)) here)
 
 pub returns : goal.returns
 returns c =
+    let here = (goal.at.returns c).In_ok-bits in
     let net = c.args.net.now in
-    let name = c.args.name.now in
     let s = c.in_ok-number.number in
     let found = c.server_at-old in
-    let old = server_of found.result.now in
-    let q = c.in_ok-queue.queue in
-    let b = c.in_ok-bits.bits in
-    let size : whole_that is_length c.args.bits ≡ Ok b =
-    subst (λ (z : ℤ). whole_that is_length z ≡ Ok b) (to_z-of_z w64 c.args.bits c.ranges.bits) c.in_ok-bits.ensures in
-    let numbered : whole_that (is_quantum_of old.discipline) c.args.queue ≡ Ok q =
-    subst (λ (z : ℤ). whole_that (is_quantum_of old.discipline) z ≡ Ok q) (to_z-of_z w64 c.args.queue c.ranges.queue) c.in_ok-queue.ensures in
-    fitting_reply (put_server net s (server_of c.in_ok-server.server)) (quantum_edited net name c.args.queue c.args.bits)
-    c.with_fitting_server.result
-    (quantum_edit net name s c.args.queue c.args.bits q b old c.in_ok-number.ensures.number found.ensures.server numbered
-    size
+    fitting_reply (put_server net s (server_of c.in_ok-server.server)) _ c.with_fitting_server.result
+    (quantum_edit net c.args.name.now s c.args.queue c.args.bits c.in_ok-queue.queue c.in_ok-bits.bits (server_of found.result.now)
+    c.in_ok-number.ensures.number found.ensures.server (numbered here) (size here)
     ∙ ap (λ (m : NetServer). fitting (put_server net s m) None) (sym c.in_ok-server.ensures))
     c.with_fitting_server.ensures

@@ -1,6 +1,5 @@
-use Rattle.std.proofs.Common.{◌<◌, ◌≤◌, ◌∙◌, length, map, arith, sym, subst, Some}
+use Rattle.std.proofs.Common.{◌<◌, ◌≤◌, ◌∙◌, length, map, arith, refl, sym, subst, Some}
 use Rattle.upp_limits.specs.rational.specs.Rational.{ℚ}
-use Rattle.flow_watch.specs.watch_laws.Segments.{segments}
 use Rattle.run_watch.specs.WatchTimes.{point_at}
 use Rattle.run_watch.specs.IdleWindows.{IsShortWindow}
 use Rattle.run_watch.specs.NearWindows.{IsLeast, IsNearEndOf, EndsShort}
@@ -17,31 +16,31 @@ first_end-requires-clause-ends c = rise_of c.args.works.now c.args.own.now c.der
 
 pub first_end-requires-clause-fits : goal.first_end-requires-clause-fits
 first_end-requires-clause-fits c =
-    points_fit (segments c.args.pieces.now) c.deref-3.result.now c.args.works.now c.args.own.now c.deref.result.now (c.deref-3.ensures.value ∙ c.in_ok-segments.ensures) (c.deref.ensures.value ∙ c.in_ok-points.ensures) c.requires.segments c.requires.times
+    points_fit c.args.segments.now c.args.segments.now c.args.works.now c.args.own.now c.deref.result.now refl (c.deref.ensures.value ∙ c.in_ok-points.ensures) c.requires.segments c.requires.times
 
 pub first_end-requires-clause-keys : goal.first_end-requires-clause-keys
 first_end-requires-clause-keys c =
-    points_fit (segments c.args.pieces.now) c.deref-3.result.now c.args.works.now c.args.own.now c.deref-2.result.now (c.deref-3.ensures.value ∙ c.in_ok-segments.ensures) (c.deref-2.ensures.value ∙ c.in_ok-points.ensures) c.requires.segments c.requires.times
+    points_fit c.args.segments.now c.args.segments.now c.args.works.now c.args.own.now c.deref-2.result.now refl (c.deref-2.ensures.value ∙ c.in_ok-points.ensures) c.requires.segments c.requires.times
 
 pub returns-then-place-len : goal.returns-then-place-len
 returns-then-place-len c =
-    let ss = segments c.args.pieces.now in
+    let ss = c.args.segments.now in
     let ws = c.args.works.now in
     let own = c.args.own.now in
     let late : length c.in_ok-points.points.items ≤ c.in_ok-place.place = omega arith in
-    let near = near_as ss c.deref-5.result.now ws c.args.s.now own c.deref-4.result.now c.near_end_of-near.result (c.deref-5.ensures.value ∙ c.in_ok-segments.ensures) (c.deref-4.ensures.value ∙ c.in_ok-points.ensures) c.near_end_of-near.ensures in
+    let near = near_as ss c.args.segments.now ws c.args.s.now own c.deref-3.result.now c.near_end_of-near.result refl (c.deref-3.ensures.value ∙ c.in_ok-points.ensures) c.near_end_of-near.ensures in
     least_other (λ t. (a : ℚ) × IsShortWindow ss ws own a t) (IsNearEndOf ss ws c.args.s.now (map (point_at ws) own)) c.near_end_of-near.result
-    (no_end ss c.deref-3.result.now ws own c.in_ok-points.points.items c.in_ok-place.place (c.deref-3.ensures.value ∙ c.in_ok-segments.ensures) c.in_ok-points.ensures
-    (first_end_of c.deref-3.result.now c.deref.result.now c.in_ok-points.points.items c.deref-2.result.now c.in_ok-points.points.items c.in_ok-place.place c.deref.ensures.value c.deref-2.ensures.value c.in_ok-place.ensures) late) near
+    (no_end ss c.args.segments.now ws own c.in_ok-points.points.items c.in_ok-place.place refl c.in_ok-points.ensures
+    (first_end_of c.args.segments.now c.deref.result.now c.in_ok-points.points.items c.deref-2.result.now c.in_ok-points.points.items c.in_ok-place.place c.deref.ensures.value c.deref-2.ensures.value c.in_ok-place.ensures) late) near
 
 pub returns : goal.returns
 returns c =
-    let ss = segments c.args.pieces.now in
+    let ss = c.args.segments.now in
     let ws = c.args.works.now in
     let own = c.args.own.now in
     let inside : c.in_ok-place.place < length c.in_ok-points.points.items = omega arith in
-    let near = near_as ss c.deref-5.result.now ws c.args.s.now own c.deref-4.result.now c.near_end_of-near.result (c.deref-5.ensures.value ∙ c.in_ok-segments.ensures) (c.deref-4.ensures.value ∙ c.in_ok-points.ensures) c.near_end_of-near.ensures in
+    let near = near_as ss c.args.segments.now ws c.args.s.now own c.deref-3.result.now c.near_end_of-near.result refl (c.deref-3.ensures.value ∙ c.in_ok-points.ensures) c.near_end_of-near.ensures in
     subst (IsLeast (EndsShort ss ws c.args.s.now own)) (sym c.earlier_time.ensures)
     (least_both (λ t. (a : ℚ) × IsShortWindow ss ws own a t) (IsNearEndOf ss ws c.args.s.now (map (point_at ws) own)) (Some c.index.result.now.time) c.near_end_of-near.result
-    (least_end ss c.deref-3.result.now ws own c.in_ok-points.points.items c.in_ok-place.place c.index.result.now (c.deref-3.ensures.value ∙ c.in_ok-segments.ensures) c.requires.rise c.in_ok-points.ensures
-    (first_end_of c.deref-3.result.now c.deref.result.now c.in_ok-points.points.items c.deref-2.result.now c.in_ok-points.points.items c.in_ok-place.place c.deref.ensures.value c.deref-2.ensures.value c.in_ok-place.ensures) inside c.index.ensures) near)
+    (least_end ss c.args.segments.now ws own c.in_ok-points.points.items c.in_ok-place.place c.index.result.now refl c.requires.rise c.in_ok-points.ensures
+    (first_end_of c.args.segments.now c.deref.result.now c.in_ok-points.points.items c.deref-2.result.now c.in_ok-points.points.items c.in_ok-place.place c.deref.ensures.value c.deref-2.ensures.value c.in_ok-place.ensures) inside c.index.ensures) near)

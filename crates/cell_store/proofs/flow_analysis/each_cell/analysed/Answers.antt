@@ -12,9 +12,9 @@ use Rattle.net_cells.proofs.Tables.{answers_meet, front_meets_below}
 use Rattle.net_cells.specs.cell_table.Values.{held}
 use Rattle.cell_store.specs.flow_analysis.Analyses.{HasNothingElse}
 use Rattle.net_cells.proofs.cell_table.Fronts.{no_cell, cell_at, at_place, grown}
-use Rattle.cell_store.proofs.flow_analysis.Fronts.{still_nothing, refused, wants_memory}
+use Rattle.cell_store.proofs.flow_analysis.Fronts.{still_nothing, refused, wants_memory, ends_here}
 use Rattle.net_cells.specs.CellFormulas.{formula}
-use Rattle.net_cells.specs.MemoryEnds.{MemoryEnds, making, keeping, at_cell}
+use Rattle.net_cells.specs.MemoryEnds.{MemoryEnds, making, keeping}
 use Rattle.net_cells.proofs.Works.{work_is}
 use Rattle.net_cells.proofs.cell_table.GivesAnswers.{gives_ok}
 use Rattle.cell_store.proofs.flow_analysis.each_cell.analysed.Goals as goal
@@ -102,17 +102,8 @@ returns-in-Err-clause-memory g c =
     let rises = c.in-Err.ensures.rises in
     wants_memory (MemoryEnds net cells (new - g.E.Evaluator.count c.args.eval.now)) (cell_at cells i) c.in-Err.fault c.refusal.result
     c.refusal.ensures
-    (λ lack. at_cell (record {
-      before = take i cells;
-      cell = cell_at cells i;
-      after = drop (i + 1) cells;
-      is = at_place cells i (omega arith);
-      table = at;
-      answered = c.loop-cell.invariant.answers;
-      counted = new - mid;
-      ends = making (c.in-Err.ensures.memory (ap Err lack));
-      count = omega (arith, cost, rises);
-    }))
+    (λ lack. ends_here net cells at i (new - mid) (new - g.E.Evaluator.count c.args.eval.now) (omega arith) c.loop-cell.invariant.answers
+    (making (c.in-Err.ensures.memory (ap Err lack))) (omega (arith, cost, rises)))
 
 pub returns-in-Err-put-clause-memory : goal.returns-in-Err-put-clause-memory
 returns-in-Err-put-clause-memory g c =
@@ -122,16 +113,8 @@ returns-in-Err-put-clause-memory g c =
     let at : CellTable = held order.ghosts.cmp g.V.CellValue.meaning c.loop-cell.table.values in
     let cost = c.loop-cell.invariant.cost in
     let exact = c.in-Ok.ensures.exact in
-    at_cell (record {
-      before = take i cells;
-      cell = cell_at cells i;
-      after = drop (i + 1) cells;
-      is = at_place cells i (omega arith);
-      table = at;
-      answered = c.loop-cell.invariant.answers;
-      counted = work net (cell_at cells i);
-      ends = keeping (g.V.CellValue.meaning c.in-Ok.value)
-          (gives_ok at (formula net (cell_at cells i)) (g.V.CellValue.meaning c.in-Ok.value) c.in-Ok.ensures.answer)
-          (work_is net (cell_at cells i));
-      count = omega (arith, cost, exact);
-    })
+    ends_here net cells at i (work net (cell_at cells i)) (g.E.Evaluator.count c.eval.new.self - g.E.Evaluator.count c.args.eval.now)
+    (omega arith) c.loop-cell.invariant.answers
+    (keeping (g.V.CellValue.meaning c.in-Ok.value)
+    (gives_ok at (formula net (cell_at cells i)) (g.V.CellValue.meaning c.in-Ok.value) c.in-Ok.ensures.answer)
+    (work_is net (cell_at cells i))) (omega (arith, cost, exact))

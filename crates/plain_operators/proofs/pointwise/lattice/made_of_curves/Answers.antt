@@ -18,6 +18,17 @@ returns-in_err-refuse_early-clause-limits g c =
     let p = err_from_is_err_and c.from_residual-in_err-refuse_early.result c.from_residual-in_err-refuse_early.ensures.1 in
     rw (p.1, p.2) c.in_err-refuse_early.ensures
 
+pub refuse_by_lines-requires-clause-curves : goal.refuse_by_lines-requires-clause-curves
+refuse_by_lines-requires-clause-curves g c = second_by c.args.of c.kind_of-kind.result c.args.f.now c.args.g.now c.kind_of-kind.ensures c.first_window.ensures.kept
+
+pub refuse_by_lines-requires-clause-window : goal.refuse_by_lines-requires-clause-window
+refuse_by_lines-requires-clause-window g c = first_by c.args.of c.kind_of-kind.result c.args.f.now c.args.g.now c.in_ok-first.first c.kind_of-kind.ensures c.in_ok-first.ensures.window
+
+pub returns-in_err-refuse_by_lines-clause-limits : goal.returns-in_err-refuse_by_lines-clause-limits
+returns-in_err-refuse_by_lines-clause-limits g c =
+    let p = err_from_is_err_and c.from_residual-in_err-refuse_by_lines.result c.from_residual-in_err-refuse_by_lines.ensures.1 in
+    rw (p.1, p.2) c.in_err-refuse_by_lines.ensures
+
 pub least_periods-requires : goal.least_periods-requires
 least_periods-requires g c =
     compared_by c.args.of c.kind_of-kind.result c.args.f.now c.args.g.now c.in_ok-first.first c.kind_of-kind.ensures c.first_window.ensures.kept c.in_ok-first.ensures.window

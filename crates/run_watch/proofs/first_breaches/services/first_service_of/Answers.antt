@@ -14,7 +14,7 @@ use Rattle.run_watch.specs.declared.found.Found.{Found}
 use Rattle.run_watch.specs.Ramps.{RampsFit}
 use Rattle.run_watch.specs.Seen.{arrivals_at, works_at}
 use Rattle.run_watch.specs.Held.{IsHeld}
-use Rattle.run_watch.specs.FirstOf.{IsBest, IsIdleOn}
+use Rattle.run_watch.specs.FirstOf.{IsBestBefore, IsIdleOn}
 use Rattle.run_watch.specs.first_breaches.Firsts.{IsOne, HasService}
 use Rattle.run_watch.proofs.first_breaches.Views.{watchable, sees_as}
 use Rattle.curve_call.proofs.Applied.{if_ok}
@@ -66,8 +66,9 @@ returns-in_ok-seen-in-Some-clause-best c =
     let sees = sees_as w c.args.firsts.now s c.deref.result.now run.steps c.run.inside.end run.end steps_are end_is c.in_ok-seen-in-Some.ensures in
     let same : curve ≡ service net s = ap service_of c.in-Some.ensures.server in
     let serves = may_serve (server_of c.in-Some.found.now) c.in-Some.ensures.kept c.keeps.ensures in
-    IfOk-weaker c.service_breach.result (IsBest (IsIdleOn w.end V s curve) run) (IsBest (IsOne net run 2 s) run)
-    (λ (o : Option Found) (h : IsBest (IsIdleOn w.end V s curve) run o). service_one net run s curve w.end o c.requires.in_range same sees.end h)
+    let until = c.args.until.now in
+    IfOk-weaker c.service_breach.result (IsBestBefore until (IsIdleOn w.end V s curve) run) (IsBestBefore until (IsOne net run 2 s) run)
+    (λ (o : Option Found) (h : IsBestBefore until (IsIdleOn w.end V s curve) run o). service_one net run s curve w.end until o c.requires.in_range same sees.end h)
     (c.service_breach.ensures run (server_at (routes_of net) s) V (W.seen w sees) serves)
 
 pub returns-in_ok-seen-in-Some-clause-curve : goal.returns-in_ok-seen-in-Some-clause-curve
@@ -81,7 +82,7 @@ returns-then-is_told-clause-best c =
     let s = c.args.number in
     let same : c.in-Some.found.now.service ≡ service net s = ap service_of c.in-Some.ensures.server in
     let serves = subst MayServe same (may_serve (server_of c.in-Some.found.now) c.in-Some.ensures.kept c.keeps.ensures) in
-    none_of_kept net c.args.run.now s c.requires.lawful serves (c.requires.kept s c.requires.in_range (c.if-is_told.ensures.0 refl))
+    λ y h. absurd (none_of_kept net c.args.run.now s c.requires.lawful serves (c.requires.kept s c.requires.in_range (c.if-is_told.ensures.0 refl)) y h)
 
 pub returns-then-is_told-clause-curve : goal.returns-then-is_told-clause-curve
 returns-then-is_told-clause-curve c =

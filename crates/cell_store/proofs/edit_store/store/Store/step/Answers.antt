@@ -1,50 +1,46 @@
-use Rattle.std.proofs.Common.{rules, arith, sym, subst}
+use Rattle.std.proofs.Common.{rules, arith, sym, subst, ◌+◌, ◌≤◌, List, sum_by}
 use Rattle.std.proofs.lemmas.Grind.{common_steps}
+use Rattle.net_model.specs.Networks.{Net}
+use Rattle.net_cells.specs.declared.cell.Cell.{Cell}
+use Rattle.net_cells.specs.Work.{work}
 use Rattle.net_edits.specs.declared.fault.EditFault.{EditFault}
 use Rattle.cell_store.specs.edit_store.Stored.{AreTouched}
 use Rattle.cell_store.specs.edit_store.Applied.{Gives, IsRefused}
 use Rattle.cell_store.proofs.edit_store.Outcomes.{counts, bounds, cell_refused}
+use Rattle.cell_store.proofs.edit_store.store.Store.step.Given.{Over}
+use Rattle.cell_store.proofs.edit_store.store.Store.step.Goals.{After-advance}
 use Rattle.cell_store.proofs.edit_store.store.Store.step.Goals as goal
+
+-- ---- what was planned
+are : (g : Over) (c : After-advance g) → AreTouched c.args.self.now.present c.in_ok-net.field-0.net c.deref-2.result.now
+are g c = first_of (search rules, grind (arith, common_steps))
+
+gives : (g : Over) (c : After-advance g) → Gives c.args.self.now.present c.args.edit.now c.in_ok-net.field-0.net
+gives g c = first_of (search rules, grind (arith, common_steps))
+
+-- no more is counted than the work of the cells that the edit touches
+within : (g : Over) (c : After-advance g) (other : Net) (others : List Cell) → Gives c.args.self.now.present c.args.edit.now other
+    → AreTouched c.args.self.now.present other others
+    → g.E.Evaluator.count c.advance.new.eval ≤ g.E.Evaluator.count c.args.eval.now + sum_by (work other) others
+within g c other others its them =
+    bounds c.args.self.now.present c.args.edit.now c.in_ok-net.field-0.net other c.deref-2.result.now others
+    (g.E.Evaluator.count c.args.eval.now) (g.E.Evaluator.count c.advance.new.eval) (gives g c) (are g c) its them c.advance.ensures.within
 
 pub returns-in-Ok-clause-exact : goal.returns-in-Ok-clause-exact
 returns-in-Ok-clause-exact g c = λ others them.
-    let old = c.args.self.now in
-    let edit = c.args.edit.now in
-    let net = c.in_ok-net.field-0.net in
-    let touched = c.deref-2.result.now in
-    let are : AreTouched old.present net touched = first_of (search rules, grind (arith, common_steps)) in
-    counts old c.advance.new.self net touched others (g.E.Evaluator.count c.args.eval.now)
-    (g.E.Evaluator.count c.advance.new.eval) c.in-Ok.ensures.advanced are them c.in-Ok.ensures.exact
+    counts c.args.self.now c.advance.new.self c.in_ok-net.field-0.net c.deref-2.result.now others (g.E.Evaluator.count c.args.eval.now)
+    (g.E.Evaluator.count c.advance.new.eval) c.in-Ok.ensures.advanced (are g (goal.at.returns-in-Ok-clause-exact g c).After-advance) them
+    c.in-Ok.ensures.exact
 
 pub returns-in-Ok-clause-within : goal.returns-in-Ok-clause-within
-returns-in-Ok-clause-within g c = λ other others its them.
-    let old = c.args.self.now in
-    let edit = c.args.edit.now in
-    let net = c.in_ok-net.field-0.net in
-    let touched = c.deref-2.result.now in
-    let are : AreTouched old.present net touched = first_of (search rules, grind (arith, common_steps)) in
-    let gives : Gives old.present edit net = first_of (search rules, grind (arith, common_steps)) in
-    bounds old.present edit net other touched others (g.E.Evaluator.count c.args.eval.now)
-    (g.E.Evaluator.count c.advance.new.eval) gives are its them c.advance.ensures.within
+returns-in-Ok-clause-within g c = within g (goal.at.returns-in-Ok-clause-within g c).After-advance
 
 pub returns-clause-refused : goal.returns-clause-refused
 returns-clause-refused g c =
-    let old = c.args.self.now in
-    let edit = c.args.edit.now in
-    let net = c.in_ok-net.field-0.net in
-    let touched = c.deref-2.result.now in
-    let are : AreTouched old.present net touched = first_of (search rules, grind (arith, common_steps)) in
-    let gives : Gives old.present edit net = first_of (search rules, grind (arith, common_steps)) in
-    subst (λ (f : EditFault). IsRefused old edit f) (sym c.analysis_fault.ensures)
-    (cell_refused old edit net touched c.in-Err.fault c.requires.edit gives are c.in-Err.ensures.refused)
+    let here = (goal.at.returns-clause-refused g c).After-advance in
+    subst (λ (f : EditFault). IsRefused c.args.self.now c.args.edit.now f) (sym c.analysis_fault.ensures)
+    (cell_refused c.args.self.now c.args.edit.now c.in_ok-net.field-0.net c.deref-2.result.now c.in-Err.fault c.requires.edit (gives g here)
+    (are g here) c.in-Err.ensures.refused)
 
 pub returns-clause-within : goal.returns-clause-within
-returns-clause-within g c = λ other others its them.
-    let old = c.args.self.now in
-    let edit = c.args.edit.now in
-    let net = c.in_ok-net.field-0.net in
-    let touched = c.deref-2.result.now in
-    let are : AreTouched old.present net touched = first_of (search rules, grind (arith, common_steps)) in
-    let gives : Gives old.present edit net = first_of (search rules, grind (arith, common_steps)) in
-    bounds old.present edit net other touched others (g.E.Evaluator.count c.args.eval.now)
-    (g.E.Evaluator.count c.advance.new.eval) gives are its them c.advance.ensures.within
+returns-clause-within g c = within g (goal.at.returns-clause-within g c).After-advance

@@ -1,0 +1,15 @@
+use Rattle.std.proofs.Common.{sym, true≢false}
+use Rattle.upp_limits.specs.rational.proofs.Laws.{le_of_not_lt}
+use Rattle.curve_conv.proofs.OwnMoves.{move_window, move_enough}
+use Rattle.curve_conv.proofs.moved.is_no_more.Goals as goal
+
+pub rise_before-requires : goal.rise_before-requires
+rise_before-requires c =
+    let s = c.args.s.now in
+    move_window s.first.now s.second.now c.args.from c.args.period s.end c.args.first c.in-Some.m c.requires.call c.requires.first c.in-Some.ensures
+
+pub returns : goal.returns
+returns c = λ h.
+    let s = c.args.s.now in
+    move_enough s.first.now s.second.now c.args.from c.args.period s.end c.args.first c.in-Some-rise_before.most c.in-Some.m c.requires.call c.requires.first c.in-Some.ensures c.in-Some-rise_before.ensures
+    (le_of_not_lt (λ h. true≢false (sym (c.if-is_less.ensures.less.1 h))))

@@ -1,0 +1,7 @@
+use Rattle.std.proofs.Common.{sym, subst, true≢false}
+use Rattle.upp_limits.specs.rational.specs.Rational.{ℚ, ◌≤ℚ◌}
+use Rattle.upp_limits.specs.rational.proofs.Compared.{least_by_test}
+use Rattle.curve_deviation.proofs.guesses.value_if.Goals as goal
+
+pub value_at-requires : goal.value_at-requires
+value_at-requires c = subst (λ (z : ℚ). z ≤ℚ c.args.t) c.zero.ensures (least_by_test c.args.t c.zero.result c.if-is_less.ensures.less)

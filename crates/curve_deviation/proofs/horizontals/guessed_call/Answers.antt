@@ -1,0 +1,24 @@
+use Rattle.std.proofs.Common.{arith}
+use Rattle.curve_deviation.proofs.PeriodsFound.{narrow_with, guessed_found}
+use Rattle.curve_deviation.proofs.horizontals.guessed_call.Goals as goal
+
+pub is_first-requires-clause-narrow : goal.is_first-requires-clause-narrow
+is_first-requires-clause-narrow c = c.in-Ok.ensures.frame.gauge
+
+pub known_window-settled-requires : goal.known_window-settled-requires
+known_window-settled-requires c =
+    let n = c.in_ok-numbers.numbers in
+    narrow_with c.args.f.now c.args.g.now n.first 0 n.first n.second c.keeps.ensures c.keeps-2.ensures (omega arith) (omega arith) c.in-Ok.ensures.frame.gauge
+
+pub turn_in-turn-requires-clause-window : goal.turn_in-turn-requires-clause-window
+turn_in-turn-requires-clause-window c = (c.in_ok-numbers.numbers.first, c.known_window-settled.ensures.window)
+
+pub reaches_at-requires-clause-narrow : goal.reaches_at-requires-clause-narrow
+reaches_at-requires-clause-narrow c = c.in-Ok.ensures.frame.gauge
+
+pub returns : goal.returns
+returns c =
+    let n = c.in_ok-numbers.numbers in
+    let found = guessed_found c.args.f.now c.args.g.now n.first n.second c.turn_in-turn.result (c.is_first.ensures c.if-not-is_first.false) (c.turn_in-turn.ensures n.first c.known_window-settled.ensures.window)
+    (c.reaches_at.ensures.below c.if-not-reaches_at.false) (c.reaches_at.ensures.reached c.if-not-reaches_at.false) in
+    record { found = found; frame = c.in-Ok.ensures.frame }

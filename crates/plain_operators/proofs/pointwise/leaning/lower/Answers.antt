@@ -1,0 +1,9 @@
+use Rattle.std.proofs.Common.{sym, subst}
+use Rattle.upp_limits.specs.rational.specs.Rational.{◌+ℚ◌, ◌*ℚ◌}
+use Rattle.upp_limits.specs.rational.specs.Extended.{◌≤ₑ◌}
+use Rattle.upp_limits.specs.rational.specs.declared.Extended.TheVariants.{Fin}
+use Rattle.upp_limits.specs.rational.proofs.Laws.{le_refl}
+use Rattle.plain_operators.proofs.pointwise.leaning.lower.Goals as goal
+
+pub returns-in-Inf : goal.returns-in-Inf
+returns-in-Inf c = (le_refl c.args.icept, subst (λ v. Fin (c.args.icept +ℚ c.args.rate *ℚ c.args.t) ≤ₑ v) (sym c.in-Inf.is) tt)

@@ -1,0 +1,298 @@
+//! Lines of a curve's own rate that it lies under, or over, and how many periods are enough by them. No memory is taken.
+
+ghost use Rattle.std.specs.Prelude.{◌≡◌, ◌↔◌, pos, IfSome, IsTrue};
+ghost use Rattle.upp_limits.specs.rational.specs.Rational.{int, ◌+ℚ◌, ◌-ℚ◌, ◌*ℚ◌, ◌≤ℚ◌, ◌<ℚ◌};
+ghost use Rattle.upp_limits.specs.rational.specs.Extended.{◌≤ₑ◌, ◌<ₑ◌};
+ghost use Rattle.upp_limits.specs.rational.specs.declared.Extended.TheVariants.{Fin};
+ghost use Rattle.upp_limits.specs.upp_curve.specs.Curve.{value_at};
+ghost use Rattle.upp_limits.specs.upp_curve.specs.Steady.{rate};
+ghost use Rattle.upp_limits.specs.upp_curve.specs.affine_segment.Values.{line_value};
+ghost use Rattle.upp_limits.specs.Limits.{Sizes};
+ghost use Rattle.upp_limits.specs.Periods.{periods_after};
+ghost use Rattle.upp_limits.specs.Windows.{IsBelowFor, IsSlowerBelow};
+ghost use Rattle.curve_call.specs.Bounds.{AreBounds};
+ghost use Rattle.curve_call.specs.Compared.{AreCompared};
+ghost use Rattle.plain_operators.specs.pointwise.Leaning.{IsUnder, IsOver, IsSpan, IsUnderUntil, IsOverUntil};
+
+use curve_call::upp_normal::stretch_at;
+use curve_call::{Bounds, Side, earlier, period_or};
+use upp_limits::fraction128::{Ext, Frac, greater, is_less, lesser};
+use upp_limits::rational::Extended;
+use upp_limits::upp_curve::Curve;
+use upp_limits::upp_curve::affine_segment::{Line, value};
+
+/// So many steps are looked at; of a curve that has more, nothing is told.
+const MOST_STEPS: u32 = 262144;
+
+/// How far a curve was looked at.
+#[derive(Debug, Clone, Copy)]
+pub(crate) struct Reached {
+    /// The time before which it was.
+    pub(crate) until: Frac,
+    /// The value at time 0 of a line of its rate that it is on one side of up to then.
+    pub(crate) icept: Frac,
+}
+
+// a + b, where it fits.
+fn checked_sum(a: Frac, b: Frac) -> Option<Frac>
+    ensures { IfSome result (λ s. s ≡ a +ℚ b) }
+{
+    Frac::add(a, b).ok()
+}
+
+// a - b, where it fits.
+fn rest(a: Frac, b: Frac) -> Option<Frac>
+    ensures { IfSome result (λ s. s ≡ a -ℚ b) }
+{
+    Frac::sub(a, b).ok()
+}
+
+// a times b, where it fits.
+fn checked_product(a: Frac, b: Frac) -> Option<Frac>
+    ensures { IfSome result (λ p. p ≡ a *ℚ b) }
+{
+    Frac::mul(a, b).ok()
+}
+
+// The value at time 0 of the line of a rate through v at t, where it fits.
+fn icept_of(v: Frac, t: Frac, rate: Frac) -> Option<Frac>
+    ensures { IfSome result (λ k. v ≡ k +ℚ rate *ℚ t) }
+{
+    let risen = checked_product(rate, t)?;
+    let icept = rest(v, risen)?;
+    Some(icept)
+}
+
+// The larger of an intercept and that of the line through v at t, where it fits.
+fn number_higher(v: Frac, t: Frac, rate: Frac, icept: Frac) -> Option<Frac>
+    ensures { IfSome result (λ k. (icept ≤ℚ k) × (v ≤ℚ k +ℚ rate *ℚ t)) }
+{
+    let through = icept_of(v, t, rate)?;
+    Some(greater(icept, through))
+}
+
+// The lesser of the two.
+fn number_lower(v: Frac, t: Frac, rate: Frac, icept: Frac) -> Option<Frac>
+    ensures { IfSome result (λ k. (k ≤ℚ icept) × (k +ℚ rate *ℚ t ≤ℚ v)) }
+{
+    let through = icept_of(v, t, rate)?;
+    Some(lesser(icept, through))
+}
+
+// As `number_higher`; none where v is infinite.
+fn higher(v: Ext, t: Frac, rate: Frac, icept: Frac) -> Option<Frac>
+    ensures { IfSome result (λ k. (icept ≤ℚ k) × (v ≤ₑ Fin (k +ℚ rate *ℚ t))) }
+{
+    match v {
+        Extended::Inf => None,
+        Extended::Fin(x) => number_higher(x, t, rate, icept),
+    }
+}
+
+// As `number_lower`.
+fn lower(v: Ext, t: Frac, rate: Frac, icept: Frac) -> Option<Frac>
+    ensures { IfSome result (λ k. (k ≤ℚ icept) × (Fin (k +ℚ rate *ℚ t) ≤ₑ v)) }
+{
+    match v {
+        Extended::Inf => Some(icept),
+        Extended::Fin(x) => number_lower(x, t, rate, icept),
+    }
+}
+
+// The value of a line that may be missing, where its steps fit.
+fn line_there(line: &Option<Line>, t: Frac) -> Option<Ext>
+    ensures { IfSome result (λ v. v ≡ line_value line.now t) }
+{
+    match line {
+        None => Some(Extended::Inf),
+        Some(l) => match value(l, t) {
+            Ok(v) => Some(Extended::Fin(v)),
+            Err(_) => None,
+        },
+    }
+}
+
+// As `higher` of a line.
+fn line_higher(line: &Option<Line>, t: Frac, rate: Frac, icept: Frac) -> Option<Frac>
+    ensures { IfSome result (λ k. (icept ≤ℚ k) × (line_value line.now t ≤ₑ Fin (k +ℚ rate *ℚ t))) }
+{
+    let v = line_there(line, t)?;
+    let found = higher(v, t, rate, icept)?;
+    Some(found)
+}
+
+// As `lower` of a line.
+fn line_lower(line: &Option<Line>, t: Frac, rate: Frac, icept: Frac) -> Option<Frac>
+    ensures { IfSome result (λ k. (k ≤ℚ icept) × (Fin (k +ℚ rate *ℚ t) ≤ₑ line_value line.now t)) }
+{
+    let v = line_there(line, t)?;
+    let found = lower(v, t, rate, icept)?;
+    Some(found)
+}
+
+// One step on under a line.
+fn higher_step(c: &Curve, reached: Reached, rate: Frac, from: Frac, end: Frac) -> Option<Reached>
+    requires span { IsSpan c.now from end }
+    requires reached { IsUnderUntil c.now from end rate reached }
+    requires before { reached.until <ℚ end }
+    ensures { IfSome result (IsUnderUntil c.now from end rate) }
+{
+    let here = stretch_at(c, reached.until);
+    let until = earlier(end, &here.next);
+    let first = higher(here.at, reached.until, rate, reached.icept)?;
+    let second = line_higher(&here.line, reached.until, rate, first)?;
+    let icept = line_higher(&here.line, until, rate, second)?;
+    Some(Reached { until, icept })
+}
+
+// One step on over a line.
+fn lower_step(c: &Curve, reached: Reached, rate: Frac, from: Frac, end: Frac) -> Option<Reached>
+    requires span { IsSpan c.now from end }
+    requires reached { IsOverUntil c.now from end rate reached }
+    requires before { reached.until <ℚ end }
+    ensures { IfSome result (IsOverUntil c.now from end rate) }
+{
+    let here = stretch_at(c, reached.until);
+    let until = earlier(end, &here.next);
+    let first = lower(here.at, reached.until, rate, reached.icept)?;
+    let second = line_lower(&here.line, reached.until, rate, first)?;
+    let icept = line_lower(&here.line, until, rate, second)?;
+    Some(Reached { until, icept })
+}
+
+// The value at time 0 of the line of a rate through the curve at a time, where that is a number.
+fn start_icept(c: &Curve, from: Frac, end: Frac, rate: Frac) -> Option<Frac>
+    requires { IsSpan c.now from end }
+{
+    match stretch_at(c, from).at {
+        Extended::Inf => None,
+        Extended::Fin(v) => icept_of(v, from, rate),
+    }
+}
+
+// The value at time 0 of the least line of a rate that a curve lies under from `from` up to `end`.
+fn under(c: &Curve, rate: Frac, from: Frac, end: Frac) -> Option<Frac>
+    requires { IsSpan c.now from end }
+    ensures { IfSome result (IsUnder (value_at c.now) from end rate) }
+{
+    let icept = start_icept(c, from, end, rate)?;
+    let mut reached = Reached { until: from, icept };
+    for _step in 0..MOST_STEPS {
+        if !is_less(reached.until, end) {
+            return Some(reached.icept);
+        }
+        reached = higher_step(c, reached, rate, from, end)?;
+    }
+    None
+}
+
+// The value at time 0 of the greatest line of a rate that a curve lies over from `from` up to `end`.
+fn over(c: &Curve, rate: Frac, from: Frac, end: Frac) -> Option<Frac>
+    requires { IsSpan c.now from end }
+    ensures { IfSome result (IsOver (value_at c.now) from end rate) }
+{
+    let icept = start_icept(c, from, end, rate)?;
+    let mut reached = Reached { until: from, icept };
+    for _step in 0..MOST_STEPS {
+        if !is_less(reached.until, end) {
+            return Some(reached.icept);
+        }
+        reached = lower_step(c, reached, rate, from, end)?;
+    }
+    None
+}
+
+// A number k with gap at most k times the lead, where it fits: the least. None where the lead is not above 0.
+fn times_over(gap: Frac, lead: Frac) -> Option<u128>
+    ensures { IfSome result (λ k. gap ≤ℚ int (pos k) *ℚ lead) }
+{
+    let zero = Frac::zero();
+    if !is_less(zero, lead) {
+        return None;
+    }
+    if !is_less(zero, gap) {
+        return Some(0);
+    }
+    match Frac::div(gap, lead) {
+        Ok(number) => Some(number.size_up()),
+        Err(_) => None,
+    }
+}
+
+// The long-run rate of a curve.
+fn own_rate(c: &Curve) -> Ext
+    ensures { result ≡ rate c.now }
+{
+    c.rate().unwrap()
+}
+
+// The long-run rate of a curve, where it is a number.
+fn rate_of(c: &Curve) -> Option<Frac>
+    ensures { IfSome result (λ r. rate c.now ≡ Fin r) }
+{
+    match own_rate(c) {
+        Extended::Inf => None,
+        Extended::Fin(r) => Some(r),
+    }
+}
+
+/// Whether f is the slower one.
+pub(crate) fn is_slower(f: &Curve, g: &Curve) -> bool
+    ensures { IsTrue result ↔ (rate f.now <ₑ rate g.now) }
+{
+    curve_call::is_slower(&Side::of(f), &Side::of(g))
+}
+
+// A number of periods that is enough by the lines: the slower curve lies under one of its rate, the faster over one of its
+// own.
+fn number_by_lines(slow: &Curve, fast: &Curve, from: Frac, period: Frac) -> Option<u128>
+    requires slower { rate slow.now <ₑ rate fast.now }
+    requires window { (z : Sizes) × AreCompared z from period slow.now fast.now }
+    ensures { IfSome result
+        (λ k. IsBelowFor (value_at slow.now) (value_at fast.now) (periods_after from k period) period) }
+{
+    let r = rate_of(slow)?;
+    let s = rate_of(fast)?;
+    let slow_own = period_or(slow, period);
+    let fast_own = period_or(fast, period);
+    let slow_end = checked_sum(from, slow_own)?;
+    let fast_end = checked_sum(from, fast_own)?;
+    let top = under(slow, r, from, slow_end)?;
+    let bottom = over(fast, s, from, fast_end)?;
+    let faster = rest(s, r)?;
+    let gained = checked_product(faster, from)?;
+    let lead = checked_product(faster, period)?;
+    let both = rest(top, bottom)?;
+    let gap = rest(both, gained)?;
+    let number = times_over(gap, lead)?;
+    Some(number)
+}
+
+// The bounds by that number.
+fn high_by_lines(slow: &Curve, fast: &Curve, from: Frac, period: Frac) -> Option<Bounds>
+    requires slower { rate slow.now <ₑ rate fast.now }
+    requires window { (z : Sizes) × AreCompared z from period slow.now fast.now }
+    ensures { IfSome result
+        (AreBounds (λ k. IsBelowFor (value_at slow.now) (value_at fast.now) (periods_after from k period) period)) }
+{
+    let high = number_by_lines(slow, fast, from, period)?;
+    Some(Bounds { low: 0, high })
+}
+
+/// Bounds of what `least_periods` looks for, from one period of each curve by itself: 0, and a number by the lines of its own
+/// rate that each lies under or over. None where the slower curve is infinite in its period, or the faster at `from`,
+/// where there are very many pieces in a period, or where a number on the way does not fit.
+pub(crate) fn bounds_by_lines(f: &Curve, g: &Curve, from: Frac, period: Frac) -> Option<Bounds>
+    requires { (z : Sizes) × AreCompared z from period f.now g.now }
+    ensures { IfSome result
+        (AreBounds (λ k. IsSlowerBelow (value_at f.now) (value_at g.now) (rate f.now) (rate g.now)
+        (periods_after from k period) period)) }
+{
+    if is_slower(f, g) {
+        return high_by_lines(f, g, from, period);
+    }
+    if is_slower(g, f) {
+        return high_by_lines(g, f, from, period);
+    }
+    Some(Bounds { low: 0, high: 0 })
+}
