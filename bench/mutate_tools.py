@@ -58,8 +58,8 @@ path = ["s1"]
 SCRIPT = "let a = bucket(100, 1)\nlet b = gate(10, 7, 3)\nshow a\nshow b\ndelay a, b\nbacklog a, b\n"
 ODD = [
     b"9" * 5000, b"1/" + b"0" * 5000 + b"1", b"0." + b"9" * 5000, b"a" * 100_000, b"[" * 400 + b"]" * 400, b".".join([b"a"] * 400) + b" = 1\n",
-    b'{"a":' * 400, b"=1+1", b"@SUM(A1)", b'"', b"\x00", b"\x85", b"\xe2\x80\xa8", b"\x1b[31m", b"-" * 40, b"1e999999999", b"unbounded", b"$x",
-    b"${", b"1/0", b"-1", b"nan", b"\xed\xa0\x80", b" " * 5000, b"\n" * 5000, b"," * 5000,
+    b'{"a":' * 400, b"=1+1", b"@SUM(A1)", b"-A1", b"\\ud800", b'"', b"\x00", b"\x85", b"\xe2\x80\xa8", b"\x1b[31m", b"-" * 40, b"1e999999999",
+    b"unbounded", b"$x", b"${", b"1/0", b"-1", b"nan", b"\xed\xa0\x80", b" " * 5000, b"\n" * 5000, b"," * 5000,
 ]  # fmt: skip
 
 
@@ -106,7 +106,8 @@ class Calls:
     def of_what_if(self, draw: random.Random) -> tuple:
         files = {"n.toml": self.file("examples/two_flows.toml"), "e.csv": self.file("examples/two_flows_edits.csv")}
         files["d.csv"] = self.deadlines(files["n.toml"])
-        words = draw.choice([["e.csv", "--write", "o.toml"], ["e.csv", "--deadlines", "d.csv"], ["--greatest-load", "--deadlines", "d.csv"]])
+        edits = ["e.csv", "--csv", "o.csv"]
+        words = draw.choice([[*edits, "--write", "o.toml"], [*edits, "--deadlines", "d.csv"], ["--greatest-load", "--deadlines", "d.csv"]])
         return what_if, ["n.toml", *words, "--program", self.program], files
 
     def of_sweep(self, draw: random.Random) -> tuple:
@@ -179,7 +180,7 @@ def in_child(tool, words: list[str], folder: Path) -> None:
             os.dup2(os.open(f"said_{name}", os.O_WRONLY | os.O_CREAT | os.O_TRUNC), number)
         os.dup2(os.open("stdin" if os.path.exists("stdin") else os.devnull, os.O_RDONLY), 0)
         for name, number, mode in (("stdin", 0, "r"), ("stdout", 1, "w"), ("stderr", 2, "w")):
-            setattr(sys, name, os.fdopen(number, mode, encoding="utf-8"))
+            setattr(sys, name, os.fdopen(number, mode, encoding="ascii"))  # as where the locale knows no more
         sys.argv = [tool.__name__ + ".py", *words]
         networks.ended(tool.__name__, tool.main)
     except SystemExit as end:
@@ -241,7 +242,7 @@ def main() -> None:
     count = int(sys.argv[2]) if len(sys.argv) > 2 else 500
     seed = int(sys.argv[3]) if len(sys.argv) > 3 else 1
     calls = Calls(str(Path(sys.argv[1]).resolve()))
-    with contextlib.suppress(ImportError):
+    with contextlib.suppress(networks.Fault):
         plot.drawing()  # so that not every call has to load it
     others = 0
     with tempfile.TemporaryDirectory(prefix="mutate_tools_") as name:

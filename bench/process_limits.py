@@ -37,6 +37,12 @@ def deep_keys() -> bytes:
     return (".".join(["a"] * 80) + " = 1\n").encode()
 
 
+def deepest() -> bytes:
+    """A head 80 deep, and below it a key 80 deep of tables 80 deep in one another, each by a key 80 deep: 6,560 tables."""
+    key = ".".join(["a"] * 80)
+    return f"[{key}]\n{key} = {('{' + key + ' = ') * 80}1{'}' * 80}\n".encode()
+
+
 def long_file() -> bytes:
     """A file of 1 MiB: one server, and flows as many as there may be, between comments."""
     head = '[[server]]\nname = "s1"\nrate = 1000000\n'
@@ -92,6 +98,16 @@ def small_calls() -> dict[str, tuple[list[str], dict[str, bytes]]]:
         "curve, the textbook": (["curve", "c"], {"c": (examples / "textbook.curve").read_bytes()}),
         "curve, a fault": (["curve", "c"], {"c": b"let a = 1/0\n"}),
         "a call without words": ([], {}),
+    }
+
+
+def deep_calls() -> dict[str, tuple[list[str], dict[str, bytes]]]:
+    """Such as need much of the stack, of which that alone is looked for: it is address space too, so under a limit of that it ends by a signal."""
+    nest = f"show {'close(' * 64}zero{')' * 64}\n".encode()
+    return {
+        "analyse, keys 80 deep in tables 80 deep": (["analyse", "n"], {"n": deepest()}),
+        "check, keys 80 deep in tables 80 deep": (["check", "n", "n"], {"n": deepest()}),
+        "curve, an expression 64 deep": (["curve", "c"], {"c": nest}),
     }
 
 
@@ -201,7 +217,8 @@ def main() -> None:
     print(f"the program is loaded with {loads // KIB:,} KiB")
     tried = wrong = limits = deepest = 0
     is_netbound = Path(program).name.startswith("netbound")
-    for what, (words, files) in (table_calls() if is_netbound else small_calls() | large_calls()).items():
+    deep = {} if is_netbound else deep_calls()
+    for what, (words, files) in (table_calls() if is_netbound else small_calls() | deep | large_calls()).items():
         if word not in what:
             continue
         with tempfile.TemporaryDirectory(prefix="process_limits_") as name:
@@ -209,10 +226,10 @@ def main() -> None:
             for file, text in files.items():
                 (folder / file).write_bytes(text)
             others = outputs(program, words, folder)
-            said, counts = memory(program, words, folder, loads, count)
+            said, counts = ("", {"another": 0}) if what in deep else memory(program, words, folder, loads, count)
             wanted = run(program, words, folder)
             stack = least(lambda size: run(program, words, folder, resource.RLIMIT_STACK, size) == wanted, 8 * MIB, PAGE)
-        print("; ".join([f"{what}: status {wanted[0]}", said, f"stack {stack // KIB} KiB", *others]), flush=True)
+        print("; ".join(filter(None, [f"{what}: status {wanted[0]}", said, f"stack {stack // KIB} KiB", *others])), flush=True)
         tried += 1
         wrong += len(others) + counts["another"]
         limits += sum(counts.values())

@@ -6,6 +6,7 @@ import os
 import pathlib
 import pty
 import re
+import shutil
 import subprocess
 import sys
 import unittest
@@ -269,6 +270,17 @@ class Launcher(WithFolder):
             self.assertEqual(plain.returncode, status)
             self.assertIn(told, seen)
             self.assertEqual(seen == ".", status == 0)
+
+    def test_a_terminal_without_cat_has_the_answer(self):
+        self.file("good.toml", SERVER + FLOW)
+        for name in ("find", "getconf", "mktemp", "rm", "sha256sum", "sort", "uname"):
+            (self.folder / name).symlink_to(shutil.which(name))
+        there, here = pty.openpty()
+        words = [TOP / "netcalc", "analyse", "good.toml"]
+        few = os.environ | {"PATH": str(self.folder)}
+        run = subprocess.run(words, cwd=self.folder, stdout=subprocess.PIPE, stderr=here, env=few, check=False)
+        os.close(here), os.close(there)
+        self.assertEqual((run.returncode, run.stdout[:19]), (0, b"servers 1 flows 1\nq"))
 
     def test_a_full_device_is_a_write_fault_on_a_terminal_too(self):
         if not pathlib.Path("/dev/full").exists():

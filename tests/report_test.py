@@ -416,6 +416,11 @@ class WhatIf(WithFolder):
             told = {name: report.shown(bound) for name, bound in what_if.bounds_of(run.stdout).items()}
             self.assertEqual({name: row[column] for name, row in table.items() if row[column]}, told, column)
 
+    def test_no_name_is_a_formula(self):
+        net = self.file("n.toml", SERVER + FLOW.replace('name = "f1"', 'name = "-A1"'))
+        self.rows("rate,s1,50\n", net, None, ["--csv", self.folder / "o.csv"])
+        self.assertIn("\n'-A1,,", (self.folder / "o.csv").read_text())
+
     def test_a_long_list_is_edited_once(self):
         """Each other network is analysed once, and no row makes the rows before it anew."""
         asked = self.folder / "asked"

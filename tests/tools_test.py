@@ -342,6 +342,18 @@ class Round(WithFolder):
         for grid in ("0", "x", str(10**30)):
             self.assertEqual(tool("round.py", TOP / "examples/one_flow.toml", "--grid", grid).returncode, 2)
 
+    def test_another_locale_changes_nothing(self):
+        """What is written is UTF-8, as files are, where the locale knows ASCII alone."""
+        import os
+
+        text = '"é" = 1\n' + TEMPLATE.replace("$rate", "100").replace("$period", "1000")
+        words = [sys.executable, TOP / "tools/round.py", self.file("é.toml", text)]
+        ascii_only = os.environ | {"LC_ALL": "C", "PYTHONUTF8": "0", "PYTHONCOERCECLOCALE": "0"}
+        for more, told in ([], '"é" = 1'), (["--compare", "--program", PROGRAM], "M3 é"):
+            run = subprocess.run([*words, *more], capture_output=True, env=ascii_only, check=False)
+            self.assertIn(told, (run.stdout + run.stderr).decode())
+            self.assertNotIn(b"Traceback", run.stderr)
+
     def test_odd_texts_come_back(self):
         network = {"server": [{"name": 'a"\\\n\t\x7fé', "rate": 1, "odd key": [True, {"x": "y"}]}], "flow": []}
         self.assertEqual(
@@ -434,7 +446,8 @@ class Sweep(WithVariants):
         odd = ["1", "[]", '{"variant": "1"}', 5000 * "9", 5000 * "[", '{"a":' * 5000]
         odd += [json.dumps(entry | {key: value}) for key in entry for value in (None, [], {"f1": 5}, {"f1": "1/0"})]
         odd += ['{"variant": "2", "as']
-        for text in ("\n".join(odd).encode(), b"\xe9\n\x00\n", "\x85\u2028\n".encode()):
+        half = [json.dumps(entry | other).encode() for other in ({"refusal": "\ud800"}, {"bounds": {"\ud800": "1"}})]
+        for text in ("\n".join(odd).encode(), b"\xe9\n\x00\n", "\x85\u2028\n".encode(), b"\n".join(half), half[0]):
             self.file("out.csv.journal", text)
             self.assertIn("6 variants in", tool("sweep.py", *self.words).stderr)
             self.assertEqual(len(self.table()), 6)

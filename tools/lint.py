@@ -18,7 +18,7 @@ from fractions import Fraction
 
 import explain
 import loads
-from networks import PROGRAM, Fault, ended, load, number, text_in, the_program
+from networks import PROGRAM, TEXT, Fault, ended, load, number, text_in, the_program
 from places import Places
 
 NOBODY = "no flow"  # no name of a flow has a space
@@ -30,7 +30,7 @@ def hold_lawful(path, program):
     """Refuses a file that the program refuses for its rules, with the words of it. Asked for a flow that cannot be
     there, the program reads the file and analyses nothing."""
     words = ["measure", str(path), "/dev/null", NOBODY, "1"]
-    run = subprocess.run([the_program(program), *words], capture_output=True, text=True, check=False)
+    run = subprocess.run([the_program(program), *words], capture_output=True, **TEXT, check=False)
     if run.stdout != f"netcalc: unknown flow {NOBODY}\n":
         told = run.stdout.strip() or f"netcalc ended with status {run.returncode}"
         raise Fault("\n".join([told, *explain.explain(run.stdout, words)]))

@@ -22,6 +22,7 @@ NAME = re.compile(r"[A-Za-z0-9_-]{1,32}")
 DEEPEST = 160  # keys and arrays in one another, of which the program takes 80 of each
 LARGEST = 2**127 - 1  # no numerator and no denominator of a network file is above
 NUMBER = re.compile(r"-?[0-9]+(/[0-9]+)?")
+TEXT = {"encoding": "utf-8", "errors": "surrogateescape"}  # of what is read and written, whatever the locale is
 KINDS = {list: "an array", str: "a text", int: "an integer", dict: "a table"}
 
 
@@ -214,7 +215,7 @@ def plain(program):
 def analyse(path, program=PROGRAM, seconds=None):
     """The answer of `netcalc analyse PATH`; subprocess.TimeoutExpired where it takes longer than `seconds`."""
     words = [the_program(program), "analyse", str(path)]
-    run = subprocess.run(words, capture_output=True, text=True, timeout=seconds, check=False)
+    run = subprocess.run(words, capture_output=True, **TEXT, timeout=seconds, check=False)
     return Answer(run.returncode, run.stdout)
 
 
@@ -222,7 +223,8 @@ def cell(text):
     """A text as a cell of a table: with a `'` before it where a spreadsheet would take it for a formula and run it. A
     number stays as it is."""
     text = str(text)
-    is_formula = text.lstrip()[:1] in ("=", "+", "-", "@") or text[:1] in ("\t", "\r")
+    # Some spreadsheets take the wide signs for the narrow ones.
+    is_formula = text.lstrip()[:1] in tuple("=+-@＝＋－＠") or text[:1] in ("\t", "\r")
     return f"'{text}" if is_formula and not re.fullmatch("-?[0-9]+([./][0-9]+)?", text) else text
 
 
@@ -242,7 +244,7 @@ def ended(tool, main):
     for stream in (sys.stdout, sys.stderr):
         # Names of files need not be UTF-8: they are written as they are.
         if isinstance(stream, io.TextIOWrapper):
-            stream.reconfigure(errors="surrogateescape")
+            stream.reconfigure(**TEXT)
     try:
         status = main()
         sys.stdout.flush()

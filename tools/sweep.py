@@ -50,7 +50,7 @@ import sys
 import time
 from fractions import Fraction
 
-from networks import PROGRAM, Fault, cell, ended, hold_picture, mark_of, shortened, text_in, the_program
+from networks import PROGRAM, TEXT, Fault, cell, ended, hold_picture, mark_of, shortened, text_in, the_program
 
 
 DRAWN = re.compile(r"-?[0-9]{1,60}(/(?=[0-9]*[1-9])[0-9]{1,60}|(\.[0-9]{1,60})?(e[+-]?[0-9]{1,2})?)")
@@ -67,6 +67,7 @@ def answer_of(program, text, seconds):
     import tempfile
     import time
 
+    text_of = {"encoding": "utf-8", "errors": "surrogateescape"}
     folder = tempfile.mkdtemp()
     path = os.path.join(folder, "n.toml")
     start = time.monotonic()
@@ -74,7 +75,7 @@ def answer_of(program, text, seconds):
         with open(path, "w", encoding="utf-8") as file:
             file.write(text)
         run = subprocess.run(
-            [program, "analyse", "n.toml"], cwd=folder, capture_output=True, text=True, timeout=seconds, check=False
+            [program, "analyse", "n.toml"], cwd=folder, capture_output=True, **text_of, timeout=seconds, check=False
         )
         status = str(run.returncode) if run.returncode >= 0 else f"signal {-run.returncode}"
         lines = [line.split() for line in run.stdout.splitlines()]
@@ -153,6 +154,7 @@ def journal_of(text):
     for line in text.split("\n"):
         try:
             entry = json.loads(line)
+            json.dumps(entry, ensure_ascii=False).encode(**TEXT)  # else it could be written into no table
         except (ValueError, RecursionError):
             continue
         if is_answer(entry):
@@ -273,7 +275,7 @@ def write_table(path, variants, answers):
     parameters = list(dict.fromkeys(column for row in variants.values() for column in row))
     flows = list(dict.fromkeys(flow for name in variants for flow in answers[name]["bounds"]))
     head = ["variant", *parameters, "status", "refusal", "seconds", "largest", *(f"bound {flow}" for flow in flows)]
-    with open(path, "w", newline="", encoding="utf-8", errors="surrogateescape") as file:
+    with open(path, "w", newline="", **TEXT) as file:
         table = csv.writer(file)
         table.writerow(map(cell, head))
         for name, row in variants.items():

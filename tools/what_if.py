@@ -41,7 +41,7 @@ import explain
 import lint
 import report
 from loads import rounded_down, rounded_up
-from networks import PROGRAM, Answer, Fault, analyse, dump, ended, load, number, text_in, the_program, written
+from networks import PROGRAM, TEXT, Answer, Fault, analyse, cell, dump, ended, load, number, text_in, the_program, written
 
 PARTS = 64  # a factor is a multiple of one in so many
 GREATEST = 64  # the largest factor that is tried
@@ -60,7 +60,7 @@ def said_of(path, edits, rows, program):
     """What `edit` says of the rows of a list, a line each, and the bounds after them all; a Fault where it refuses the
     list."""
     words = ["edit", str(path), str(edits)]
-    run = subprocess.run([the_program(program), *words], capture_output=True, text=True, check=False)
+    run = subprocess.run([the_program(program), *words], capture_output=True, **TEXT, check=False)
     report.hold_answer(words, Answer(run.returncode, run.stdout))
     said = [line.split(" ", 2)[2] for line in run.stdout.splitlines() if line.startswith("edit ")]
     if len(said) != len(rows):
@@ -135,7 +135,7 @@ def write_csv(path, found, deadlines):
         for name in names:
             deadline = rounded_down(deadlines[name]) if name in deadlines else ""
             cells = (report.shown(bounds[name]) if name in bounds else "" for bounds in found)
-            table.writerow([name, deadline, *cells])
+            table.writerow(map(cell, [name, deadline, *cells]))
 
 
 def flows_of(before, after, deadlines):
