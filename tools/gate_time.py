@@ -1,12 +1,12 @@
 #!/usr/bin/env python3
 """What the gate's processor time goes to: libraries and programs, proved tests, must-fail edits, and rt's own sums.
 
-    tools/gate_time.py COMMAND..     runs the command (`bash .ci/run`, `rt ci`) and ends with its status
-    tools/gate_time.py --of PID      looks at a run that has begun, until it ends
+    tools/gate_time.py [--all] COMMAND..     runs the command (`bash .ci/run`, `rt ci`) and ends with its status
+    tools/gate_time.py [--all] --of PID      looks at a run that has begun, until it ends
 
 Looks at the processes below it every half second, and adds up the time of each as it was last seen: what a process takes after
 the last look is lost, so the sum is some hundredths too low. Writes to standard error: wall time, processor minutes of each kind,
-and the crates that took most."""
+and the crates that took most, by `--all` each crate."""
 import collections
 import os
 import pathlib
@@ -80,28 +80,30 @@ def watch(root, is_over):
     return sums
 
 
-def tell(sums, wall):
+def tell(sums, wall, shown):
     by_kind = collections.Counter()
     for (kind, _), seconds in sums.items():
         by_kind[kind] += seconds
     parts = ', '.join(f'{kind} {by_kind[kind] / 60:.1f}' for kind in ('libraries', 'tests', 'edits', 'sums', 'other'))
     lines = [f'gate: {wall / 60:.1f} minutes; processor minutes {sum(by_kind.values()) / 60:.1f}: {parts}']
     for kind in ('libraries', 'tests', 'edits'):
-        most = sorted(((seconds, crate) for (one, crate), seconds in sums.items() if one == kind), reverse=True)[:12]
+        most = sorted(((seconds, crate) for (one, crate), seconds in sums.items() if one == kind), reverse=True)[:shown]
         lines.append(f'{kind}: ' + ', '.join(f'{crate} {seconds:.0f} s' for seconds, crate in most))
     print('\n'.join(lines), file=sys.stderr)
 
 
 def main(words):
-    begun = time.time()
+    begun, shown = time.time(), 12
+    if words[:1] == ['--all']:
+        words, shown = words[1:], None
     if words[:1] == ['--of'] and len(words) == 2:
-        tell(watch(int(words[1]), lambda: not os.path.exists(f'/proc/{words[1]}')), time.time() - begun)
+        tell(watch(int(words[1]), lambda: not os.path.exists(f'/proc/{words[1]}')), time.time() - begun, shown)
         return 0
     if not words or words[0].startswith('-'):
         print(__doc__, file=sys.stderr)
         return 2
     run = subprocess.Popen(words)
-    tell(watch(run.pid, lambda: run.poll() is not None), time.time() - begun)
+    tell(watch(run.pid, lambda: run.poll() is not None), time.time() - begun, shown)
     return run.returncode
 
 
