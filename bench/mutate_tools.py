@@ -45,6 +45,7 @@ SECONDS, CLOCK, MEMORY = 20, 60, 3 * 2**30
 FAULT = 70  # the status of a call that raised what its tool does not tell
 RUN = "examples/one_flow_recorded.csv"
 NETWORKS = [str(path.relative_to(TOP)) for path in sorted([*TOP.glob("examples/**/*.toml"), *TOP.glob("tests/bounds/*/*.toml")])]
+REPORTS = [f"tests/netbound/{name}/stdout" for name in ("json", "json_twice", "json_with_deadlines")]
 TEMPLATE = """[[server]]
 name = "s1"
 rate = "$rate"
@@ -99,6 +100,8 @@ class Calls:
         return rounding, ["n.toml", *words], {"n.toml": self.network(draw)}
 
     def of_report(self, draw: random.Random) -> tuple:
+        if draw.random() < 0.3:
+            return report, ["r.json", "--csv", "o.csv", "--html", "o.html"], {"r.json": self.file(draw.choice(REPORTS))}
         network = self.network(draw)
         files = {"n.toml": network, "d.csv": self.deadlines(network)}
         return report, ["n.toml", "--deadlines", "d.csv", "--csv", "o.csv", "--html", "o.html", "--program", self.program], files

@@ -306,6 +306,8 @@ class Report(WithFolder):
             '{"branches": [], "ports": [{}]}',
             '{"branches": [{"link": "a", "port": "p", "bound": "x"}], "ports": []}',
             '{"branches": [{"link": "a", "port": "p", "bound": "1", "met": 1}], "ports": []}',
+            '{"branches": [{"link": "\\ud800", "port": "p", "bound": "1"}], "ports": []}',
+            5000 * '{"a":',
         ]:
             self.refused("n.json: ", "report.py", self.file("n.json", text))
 

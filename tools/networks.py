@@ -6,6 +6,7 @@ import datetime
 import functools
 import hashlib
 import io
+import json
 import os
 import pathlib
 import re
@@ -72,6 +73,16 @@ def text_in(path):
     except UnicodeDecodeError as fault:
         line = data[: fault.start].count(b"\n") + 1
         raise Fault(f"{path} line {line}: byte {data[fault.start]:#04x} is not UTF-8: save the file as UTF-8") from None
+
+
+def value_of_json(text):
+    """The value of a text in JSON; a ValueError where it is none, or has half a sign, which no text of a file has."""
+    try:
+        value = json.loads(text)
+        json.dumps(value, ensure_ascii=False).encode(**TEXT)
+    except RecursionError:
+        raise ValueError("it is nested too deep") from None
+    return value
 
 
 def load(path):

@@ -25,7 +25,6 @@ network that the program refuses is refused in its words and those of `./netcalc
 import argparse
 import csv
 import hashlib
-import json
 import math
 import pathlib
 import sys
@@ -36,6 +35,7 @@ from fractions import Fraction
 import explain
 import lint
 import loads
+import networks
 import report_page
 from import_icd import branch_name, counts_of, rows
 from loads import rounded_down, rounded_up
@@ -243,7 +243,7 @@ def met_of(branch):
 def of_json(path):
     """The report of a report in JSON, with its branches and ports."""
     try:
-        found = json.loads(text_in(path))
+        found = networks.value_of_json(text_in(path))
         flows = [
             Flow(
                 f"{branch['link']} to {branch['port']}",

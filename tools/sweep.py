@@ -50,7 +50,7 @@ import sys
 import time
 from fractions import Fraction
 
-from networks import PROGRAM, TEXT, Fault, cell, ended, hold_picture, mark_of, shortened, text_in, the_program
+from networks import PROGRAM, TEXT, Fault, cell, ended, hold_picture, mark_of, shortened, text_in, the_program, value_of_json
 
 
 DRAWN = re.compile(r"-?[0-9]{1,60}(/(?=[0-9]*[1-9])[0-9]{1,60}|(\.[0-9]{1,60})?(e[+-]?[0-9]{1,2})?)")
@@ -153,9 +153,8 @@ def journal_of(text):
     answers = {}
     for line in text.split("\n"):
         try:
-            entry = json.loads(line)
-            json.dumps(entry, ensure_ascii=False).encode(**TEXT)  # else it could be written into no table
-        except (ValueError, RecursionError):
+            entry = value_of_json(line)
+        except ValueError:
             continue
         if is_answer(entry):
             answers[entry["variant"]] = entry
