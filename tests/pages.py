@@ -77,9 +77,10 @@ def tell(commands, folder, netcalc, netbound):
     else. The programs' own words run them without the launcher, which looks at all sources each time."""
     told = []
     for place, command, shown in commands:
-        moved = re.sub(r"\./netcalc (?=(analyse|edit|simulate|exercise|check|measure|curve) )", f"{netcalc} ", command)
+        # The folder of /tmp first: the programs may stand below /tmp.
+        moved = command.replace("/tmp/", f"{folder}/")
+        moved = re.sub(r"\./netcalc (?=(analyse|edit|simulate|exercise|check|measure|curve) )", f"{netcalc} ", moved)
         moved = moved.replace("./netbound ", f"{netbound} ")
-        moved = moved.replace("/tmp/", f"{folder}/")
         run = subprocess.run(moved, shell=True, cwd=TOP, capture_output=True, text=True, timeout=300, check=False)
         if run.stdout != shown or lacks_files(moved, folder, shown):
             told.append(f"{place}: {command}\n{run.stdout}{run.stderr}")
