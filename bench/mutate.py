@@ -1,7 +1,7 @@
 #!/usr/bin/env python3
 """Runs the program on files that were changed at random or drawn as odd ones, and prints each answer that is none.
 
-    python3 bench/mutate.py NETCALC [CASES] [SEED] [FOLDER]
+    python3 bench/mutate.py NETCALC [CASES] [SEED] [FOLDER] [odd [TWIN]]
 
 NETCALC is the program. CASES (1000) times, half of them, a file of bench/odd_cases.py is drawn, odd and valid or all but valid, and
 every fourth of these is changed once; of edits that undo each other the last bounds have to be those of the network itself. The other half, a
@@ -9,7 +9,9 @@ case of tests/ or a file of examples/ is drawn, and one to eight changes
 are made to one of its files, or to its words: bytes and bits changed, put in, taken out; a number in place of another
 one, long ones too; keys, words, lines and fields left out, doubled, exchanged or moved; a front of the file alone; a
 part of another file in its place. The program runs on it with a limit of 10 seconds of processor time and 2 GiB of
-memory. With the word `odd` behind FOLDER, all cases are odd ones.
+memory. With the word `odd` behind FOLDER, all cases are odd ones. With TWIN, the program that cargo builds of bench/twin, what `analyse`,
+`simulate` and `check` answer with status 0 or 9 is held to its answer too, byte for byte; what it does not answer with such a status
+itself (it has no limits, but numbers of 128 bits) is counted as left out.
 
 What is not wanted is printed with the number of its case, and with FOLDER its files are kept there: an end by a signal, a status that has no cause
 here or outside 0 to 9, anything on standard error, a report or a refusal that is not as docs/FORMATS.md says (bench/answers.py), want of memory at
@@ -244,18 +246,30 @@ def not_undone(program: str, case: Case, came: Came, folder: Path) -> str:
     return "" if itself.out.decode() == "".join(lines[len(rows) :]) else "edits that are undone left other bounds"
 
 
+def beside(twin: str, case: Case, came: Came, folder: Path) -> str:
+    """Whether the twin answers so too; nothing where it is not asked."""
+    if came.status not in (0, 9) or case.words[0] not in ("analyse", "simulate", "check") or "--json" in case.words:
+        return ""
+    there = Came(twin, case, folder)
+    if there.status not in (0, 9):
+        return "left out"
+    return "alike" if (there.status, there.out) == (came.status, came.out) else "another answer than the twin's"
+
+
 def main() -> None:
-    if len(sys.argv) not in (2, 3, 4, 5, 6):
+    if len(sys.argv) < 2 or sys.argv[5:6] not in ([], ["odd"]) or len(sys.argv) > 7:
         sys.exit(__doc__)
     program = str(Path(sys.argv[1]).resolve())
     count = int(sys.argv[2]) if len(sys.argv) > 2 else 1000
     seed = int(sys.argv[3]) if len(sys.argv) > 3 else 1
     kept = Path(sys.argv[4]) if len(sys.argv) > 4 else None
-    share = 1 if sys.argv[5:] == ["odd"] else 0.5
+    share = 1 if sys.argv[5:] else 0.5
+    twin = str(Path(sys.argv[6]).resolve()) if len(sys.argv) > 6 else ""
     known = cases()
     statuses: Counter = Counter()
     kinds: Counter = Counter()
     others: Counter = Counter()
+    twins: Counter = Counter()
     with tempfile.TemporaryDirectory(prefix="mutate_") as name:
         for number in range(count):
             draw = random.Random(seed * 1_000_003 + number)
@@ -264,11 +278,17 @@ def main() -> None:
             statuses[came.status] += 1
             kinds.update(kinds_of(case))
             said = unwanted(came, case) or not_undone(program, case, came, Path(name))
+            if twin and not said:
+                said = beside(twin, case, came, Path(name))
+                twins[said] += said != ""
+                said = "" if said in ("alike", "left out") else said
             if said:
                 others[said] += 1
                 print(f"case {number} of seed {seed}: {said}: {' '.join(case.words)}", flush=True)
                 keep(kept, f"{seed}_{number}", case)
     print("; ".join(f"{kinds[kind]} of {kind}" for kind in sorted(kinds)))
+    if twin:
+        print(f"beside the twin: {twins['alike']} alike, {twins['left out']} left out, {sum(twins.values()) - twins['alike'] - twins['left out']} other")
     told = ", ".join(f"{statuses[status]} with status {status}" for status in sorted(statuses, key=str))
     print(f"{count} cases of seed {seed}: {told}; {sum(others.values())} not wanted {dict(others)}")
     sys.exit(1 if others else 0)

@@ -100,11 +100,11 @@ class Calls:
         return rounding, ["n.toml", *words], {"n.toml": self.network(draw)}
 
     def of_report(self, draw: random.Random) -> tuple:
+        out = ["--csv", "o.csv", "--html", "o.html", "--program", self.program]
         if draw.random() < 0.3:
-            return report, ["r.json", "--csv", "o.csv", "--html", "o.html"], {"r.json": self.file(draw.choice(REPORTS))}
+            return report, ["r.json", *out], {"r.json": self.file(draw.choice(REPORTS))}
         network = self.network(draw)
-        files = {"n.toml": network, "d.csv": self.deadlines(network)}
-        return report, ["n.toml", "--deadlines", "d.csv", "--csv", "o.csv", "--html", "o.html", "--program", self.program], files
+        return report, ["n.toml", "--deadlines", "d.csv", *out], {"n.toml": network, "d.csv": self.deadlines(network)}
 
     def of_what_if(self, draw: random.Random) -> tuple:
         files = {"n.toml": self.file("examples/two_flows.toml"), "e.csv": self.file("examples/two_flows_edits.csv")}

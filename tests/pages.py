@@ -77,6 +77,7 @@ def tell(commands, folder, netcalc, netbound):
     else. The programs' own words run them without the launcher, which looks at all sources each time."""
     told = []
     for place, command, shown in commands:
+        # The folder of /tmp first: the programs may stand below /tmp.
         moved = command.replace("/tmp/", f"{folder}/")
         moved = re.sub(r"\./netcalc (?=(analyse|edit|simulate|exercise|check|measure|curve) )", f"{netcalc} ", moved)
         moved = moved.replace("./netbound ", f"{netbound} ")
