@@ -1,19 +1,97 @@
 -- Files that are fetched one after another.
 use Rattle.std.proofs.Common.{◌≡◌, ◌+◌, ◌-◌, ◌^◌, ◌≤◌, ◌++◌, ℕ, List, [], ◌∷◌, length, Result, Ok, Err}
-use Rattle.std.proofs.Common.{IfOk, IfErr, OnOk, inl, inr, sym, ◌∙◌, ap, arith, subst, append_assoc}
+use Rattle.std.proofs.Common.{IfOk, IfErr, OnOk, OnErr, inl, inr, sym, ◌∙◌, ap, arith, subst, append_assoc, append-nil, take_all}
 use Rattle.std.specs.Prelude.{Vec, min}
 use Rattle.std.specs.declared.alloc.Global.{Global}
 use Rattle.std.proofs.lemmas.Result.{IfOk-weaker}
 use Rattle.std.proofs.Math.Nat.{min-le_left, min-le_right, le-min}
 use Rattle.outside.specs.Faults.{Rose}
 use Rattle.outside.specs.Files.{Told, MayHold, MayFit, IsTooLong, FirstIs, MayHoldAll, AllFit}
-use Rattle.outside.specs.Fetching.{EndsAt}
+use Rattle.outside.specs.Fetching.{EndsAt, FetchesAll, FetchesUpTo}
 
--- one name after another
+-- ---- one name after another
 pub asked_both : (old between new : List (List ℕ)) (first second : List ℕ) → between ≡ old ++ first ∷ []
     → new ≡ between ++ second ∷ [] → new ≡ old ++ first ∷ second ∷ []
 asked_both old between new first second one two =
     two ∙ ap (λ (names : List (List ℕ)). names ++ second ∷ []) one ∙ append_assoc old (first ∷ []) (second ∷ [])
+
+-- none is asked for
+pub fetches_none : {I : Type 0} (asked had : I → List (List ℕ)) (inputs : I) → FetchesAll asked had [] inputs inputs
+fetches_none asked had inputs =
+    record { asked_for = sym (append-nil (asked inputs)); had_all = sym (append-nil (had inputs)) }
+
+pub asks_none : {I : Type 0} (asked had : I → List (List ℕ)) (names : List (List ℕ)) (inputs : I)
+    → FetchesUpTo asked had names inputs inputs
+asks_none asked had names inputs = record {
+  tried = 0;
+  taken = 0;
+  few = omega arith;
+  in_turn = (omega arith, omega arith);
+  asked_for = sym (append-nil (asked inputs));
+  had_first = sym (append-nil (had inputs));
+}
+
+-- where all were had
+pub up_to_end : {I : Type 0} (asked had : I → List (List ℕ)) (names : List (List ℕ)) (old new : I)
+    → FetchesAll asked had names old new → FetchesUpTo asked had names old new
+up_to_end asked had names old new h = record {
+  tried = length names;
+  taken = length names;
+  few = omega arith;
+  in_turn = (omega arith, omega arith);
+  asked_for = rw (take_all (length names) names (omega arith)) h.asked_for;
+  had_first = rw (take_all (length names) names (omega arith)) h.had_all;
+}
+
+-- the first one was not had
+pub stops_at_first : {I : Type 0} (asked had : I → List (List ℕ)) (first : List ℕ) (rest : List (List ℕ)) (old new : I)
+    → asked new ≡ asked old ++ first ∷ [] → had new ≡ had old → FetchesUpTo asked had (first ∷ rest) old new
+stops_at_first asked had first rest old new is not = record {
+  tried = 1;
+  taken = 0;
+  few = omega arith;
+  in_turn = (omega arith, omega arith);
+  asked_for = is;
+  had_first = not ∙ sym (append-nil (had old));
+}
+
+-- the second one was had behind the first one, or not
+pub fetches_both : {I : Type 0} (asked had : I → List (List ℕ)) (first second : List ℕ) (old between new : I)
+    → FetchesAll asked had (first ∷ []) old between → FetchesAll asked had (second ∷ []) between new
+    → FetchesAll asked had (first ∷ second ∷ []) old new
+fetches_both asked had first second old between new one two = record {
+  asked_for = asked_both (asked old) (asked between) (asked new) first second one.asked_for two.asked_for;
+  had_all = asked_both (had old) (had between) (had new) first second one.had_all two.had_all;
+}
+
+pub stops_at_second : {I : Type 0} (asked had : I → List (List ℕ)) (first second : List ℕ) (old between new : I)
+    → FetchesAll asked had (first ∷ []) old between → asked new ≡ asked between ++ second ∷ [] → had new ≡ had between
+    → FetchesUpTo asked had (first ∷ second ∷ []) old new
+stops_at_second asked had first second old between new one is not = record {
+  tried = 2;
+  taken = 1;
+  few = omega arith;
+  in_turn = (omega arith, omega arith);
+  asked_for = asked_both (asked old) (asked between) (asked new) first second one.asked_for is;
+  had_first = not ∙ one.had_all;
+}
+
+-- by what the second call answers
+pub up_to_second : {I T E : Type 0} (asked had : I → List (List ℕ)) (first second : List ℕ) (old between new : I)
+    (r : Result T E) → FetchesAll asked had (first ∷ []) old between → asked new ≡ asked between ++ second ∷ []
+    → OnOk r (FetchesAll asked had (second ∷ []) between new) → OnErr r (had new ≡ had between)
+    → FetchesUpTo asked had (first ∷ second ∷ []) old new
+up_to_second asked had first second old between new (Ok x) one is all not =
+    up_to_end asked had (first ∷ second ∷ []) old new (fetches_both asked had first second old between new one all)
+up_to_second asked had first second old between new (Err e) one is all not =
+    stops_at_second asked had first second old between new one is not
+
+pub both_on_ok : {I T E : Type 0} (asked had : I → List (List ℕ)) (first second : List ℕ) (old between new : I)
+    (r : Result T E) → FetchesAll asked had (first ∷ []) old between
+    → OnOk r (FetchesAll asked had (second ∷ []) between new) → OnOk r (FetchesAll asked had (first ∷ second ∷ []) old new)
+both_on_ok asked had first second old between new (Ok x) one all =
+    fetches_both asked had first second old between new one all
+both_on_ok asked had first second old between new (Err e) one all = tt
 
 -- what rose later has risen
 rose_later : (before between after : ℕ) → before ≤ between → Rose between after → Rose before after

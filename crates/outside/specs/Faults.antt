@@ -15,15 +15,20 @@ abbrev pub fails_at : List ℕ → ℕ → Bool
 fails_at fail call = list_any (λ number. number == call) fail
 
 -- What is known of a source of files that tells nothing of them: how many fetches failed, the name at the last of these,
--- and the names of all.
+-- the names of all, and of those that gave the bytes.
 pub record FetchFaults : Type 0 where
   pub count : ℕ
   pub name : List ℕ
   pub asked : List (List ℕ)
+  pub had : List (List ℕ)
 
 -- one fetch more was made, for this name
 abbrev pub asked_for : FetchFaults → List ℕ → FetchFaults
 asked_for faults name = record faults { asked = faults.asked ++ name ∷ [] }
+
+-- it gave the bytes
+abbrev pub had_by : FetchFaults → List ℕ → FetchFaults
+had_by faults name = record faults { had = faults.had ++ name ∷ [] }
 
 -- one more has failed, at this name
 abbrev pub failed_at : FetchFaults → List ℕ → FetchFaults

@@ -1,5 +1,5 @@
 -- Files that are asked for one after another, up to one that is not had.
-use Rattle.std.specs.Prelude.{◌≡◌, ◌≤◌, ◌⊎◌, ◌++◌, ℕ, List, length, take}
+use Rattle.std.specs.Prelude.{◌≡◌, ◌≤◌, ◌+◌, ◌⊎◌, ◌++◌, ℕ, List, length, take}
 use Rattle.outside.specs.Faults.{Rose}
 use Rattle.outside.specs.Files.{Told, IsTooLong}
 
@@ -13,6 +13,22 @@ pub record AsksInOrder {I : Type 0} (asked : I → List (List ℕ)) (names : Lis
   pub count : ℕ
   pub few : count ≤ length names
   pub are : AsksForAll asked (take count names) old new
+
+-- ---- asked for and had
+-- These files were asked for and had, in their order, and no other was asked for.
+pub record FetchesAll {I : Type 0} (asked had : I → List (List ℕ)) (names : List (List ℕ)) (old new : I) : Type 0 where
+  pub asked_for : asked new ≡ asked old ++ names
+  pub had_all : had new ≡ had old ++ names
+
+-- A front of them was asked for, in their order, and no other; all of these were had, or all but the last. So nothing
+-- is asked for behind a file that is not had.
+pub record FetchesUpTo {I : Type 0} (asked had : I → List (List ℕ)) (names : List (List ℕ)) (old new : I) : Type 0 where
+  pub tried : ℕ
+  pub taken : ℕ
+  pub few : tried ≤ length names
+  pub in_turn : (taken ≤ tried) × (tried ≤ taken + 1)
+  pub asked_for : asked new ≡ asked old ++ take tried names
+  pub had_first : had new ≡ had old ++ take taken names
 
 -- ---- not had
 -- The inputs failed in this call, and last at this file.

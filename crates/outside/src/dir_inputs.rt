@@ -1,6 +1,6 @@
 //! Real files. Nothing is told of what they hold.
 ghost use Rattle.std.specs.Prelude.{◌≡◌, ◌≤◌, ◌<◌, ◌++◌, [], ◌∷◌, List, ℕ, None, length, IfSome, OnOk, OnErr, IsErrOf};
-ghost use Rattle.outside.specs.Faults.{Rose, FetchFaults, asked_for, failed_at};
+ghost use Rattle.outside.specs.Faults.{Rose, FetchFaults, asked_for, had_by, failed_at};
 
 use crate::inputs::{FetchFault, Inputs};
 use crate::noted::Noted;
@@ -16,24 +16,26 @@ pub struct DirInputs<R> {
     faults: u64,
     failed: Noted,
     asked: Noted,
+    had: Noted,
 }
 
 impl<R> Model for DirInputs<R> {
     ghost Value = { FetchFaults };
 
-    ghost view = { λ s. record { count = s.faults; name = s.failed.last; asked = s.asked.all } };
+    ghost view = { λ s. record { count = s.faults; name = s.failed.last; asked = s.asked.all; had = s.had.all } };
 }
 
 impl<R: Files + Clone + Drop> DirInputs<R> {
     /// The files that this runtime reaches.
     pub fn new(rt: R) -> DirInputs<R>
-        ensures { result ≡ record { count = 0; name = []; asked = [] } }
+        ensures { result ≡ record { count = 0; name = []; asked = []; had = [] } }
     {
         DirInputs {
             rt,
             faults: 0,
             failed: Noted::new(),
             asked: Noted::new(),
+            had: Noted::new(),
         }
     }
 
@@ -102,23 +104,31 @@ impl<R: Files + Clone + Drop> Inputs for DirInputs<R> {
 
     ghost asked = { λ s. s.asked };
 
+    ghost had = { λ s. s.had };
+
     fn fetch(&mut self, name: &str, most: usize, into: &mut Vec<u8>) -> Result<(), FetchFault>
         ensures fits { OnOk result (length into.new.items ≤ most) }
         ensures failed { IsErrOf result FetchFault.Failed → Rose self.old.count self.new.count }
         ensures failed_name { IsErrOf result FetchFault.Failed → self.new.name ≡ name.now }
         ensures count { self.old.count ≤ self.new.count }
         ensures asked { self.new.asked ≡ self.old.asked ++ name.now ∷ [] }
+        ensures had { OnOk result (self.new.had ≡ self.old.had ++ name.now ∷ []) }
+        ensures not_had { OnErr result (self.new.had ≡ self.old.had) }
         ensures err { OnErr result (into.new.items ≡ []) }
         ensures state { IsErrOf result FetchFault.Failed → self.new ≡ failed_at (asked_for self.old name.now) name.now }
-        ensures stays { ¬ IsErrOf result FetchFault.Failed → self.new ≡ asked_for self.old name.now }
+        ensures ok { OnOk result (self.new ≡ had_by (asked_for self.old name.now) name.now) }
+        ensures stays { OnErr result (¬ IsErrOf result FetchFault.Failed → self.new ≡ asked_for self.old name.now) }
     {
         into.clear();
         self.asked.note(name.as_bytes());
         let answer = self.read(name, most, into);
-        if let Err(fault) = answer {
-            into.clear();
-            if matches!(fault, FetchFault::Failed) {
-                self.refuse(name);
+        match answer {
+            Ok(()) => self.had.note(name.as_bytes()),
+            Err(fault) => {
+                into.clear();
+                if matches!(fault, FetchFault::Failed) {
+                    self.refuse(name);
+                }
             }
         }
         answer

@@ -27,6 +27,9 @@ pub trait Inputs {
     /// The names that were asked for, in order. Only proofs see it.
     ghost asked: { Self → List (List ℕ) };
 
+    /// Those of them whose bytes were had, in order. Only proofs see it.
+    ghost had: { Self → List (List ℕ) };
+
     /// Puts what the name holds, at most so many bytes, into `into`, in place of what is there. After a refusal `into` is
     /// empty.
     fn fetch(&mut self, name: &str, most: usize, into: &mut Vec<u8>) -> Result<(), FetchFault>
@@ -41,6 +44,8 @@ pub trait Inputs {
         ensures failed_name { IsErrOf result FetchFault.Failed → last_fault self.new ≡ name.now }
         ensures count { faults self.old ≤ faults self.new }
         ensures asked { asked self.new ≡ asked self.old ++ name.now ∷ [] }
+        ensures had { OnOk result (had self.new ≡ had self.old ++ name.now ∷ []) }
+        ensures not_had { OnErr result (had self.new ≡ had self.old) }
         ensures same { (other : List ℕ) → content self.new other ≡ content self.old other }
         ensures err { OnErr result (into.new.items ≡ []) };
 }

@@ -1,7 +1,7 @@
 //! Files in memory, which fail at the calls that they are told.
 ghost use Rattle.std.specs.Prelude.{◌≡◌, ◌≤◌, ◌<◌, ◌==◌, ◌↔◌, ◌||◌, ◌++◌, ◌∷◌, false, IsTrue, is_none, [], List, ℕ, Option, None, Some, option_map, length, IfSome, OnOk, OnErr, IsErrOf};
 ghost use Rattle.outside.specs.Faults.{Rose, fails_at, counted_up};
-ghost use Rattle.outside.specs.MemoryFiles.{MemoryFiles, held, files_of, fetch_fails, called, failed, after_fetch};
+ghost use Rattle.outside.specs.MemoryFiles.{MemoryFiles, held, files_of, fetch_fails, called, had_too, failed, after_fetch};
 
 use crate::failing::fails_at;
 use crate::inputs::{FetchFault, Inputs};
@@ -17,6 +17,7 @@ pub struct MemInputs {
     faults: u64,
     failed: Noted,
     asked: Noted,
+    had: Noted,
 }
 
 impl Model for MemInputs {
@@ -29,6 +30,7 @@ impl Model for MemInputs {
       faults = s.faults;
       last_fault = s.failed.last;
       asked = s.asked.all;
+      had = s.had.all;
     } };
 }
 
@@ -49,7 +51,7 @@ impl MemInputs {
     /// calls of `fetch` that fail, from 0.
     pub fn new(files: Vec<(String, Vec<u8>)>, fail: Vec<u32>) -> MemInputs
         ensures { result
-            ≡ record { files = files_of files.items; fail = fail.items; calls = 0; faults = 0; last_fault = []; asked = [] } }
+            ≡ record { files = files_of files.items; fail = fail.items; calls = 0; faults = 0; last_fault = []; asked = []; had = [] } }
     {
         MemInputs {
             files,
@@ -58,6 +60,7 @@ impl MemInputs {
             faults: 0,
             failed: Noted::new(),
             asked: Noted::new(),
+            had: Noted::new(),
         }
     }
 
@@ -116,6 +119,8 @@ impl Inputs for MemInputs {
 
     ghost asked = { λ s. s.asked };
 
+    ghost had = { λ s. s.had };
+
     fn fetch(&mut self, name: &str, most: usize, into: &mut Vec<u8>) -> Result<(), FetchFault>
         ensures bytes { OnOk result (IfSome (held self.old.files name.now) (λ bytes. into.new.items ≡ bytes)) }
         ensures fits { OnOk result (length into.new.items ≤ most) }
@@ -125,6 +130,8 @@ impl Inputs for MemInputs {
         ensures failed_name { IsErrOf result FetchFault.Failed → self.new.last_fault ≡ name.now }
         ensures count { self.old.faults ≤ self.new.faults }
         ensures asked { self.new.asked ≡ self.old.asked ++ name.now ∷ [] }
+        ensures had { OnOk result (self.new.had ≡ self.old.had ++ name.now ∷ []) }
+        ensures not_had { OnErr result (self.new.had ≡ self.old.had) }
         ensures same { (other : List ℕ) → held self.new.files other ≡ held self.old.files other }
         ensures err { OnErr result (into.new.items ≡ []) }
 
@@ -136,7 +143,8 @@ impl Inputs for MemInputs {
             → IfSome (held self.old.files name.now)
             (λ bytes. IsErrOf result FetchFault.TooLong ↔ (most < length bytes)) }
 
-        ensures state { self.new ≡ after_fetch self.old name.now }
+        ensures state { OnErr result (self.new ≡ after_fetch self.old name.now) }
+        ensures ok { OnOk result (self.new ≡ had_too (after_fetch self.old name.now) name.now) }
     {
         into.clear();
         if self.next_call_fails(name) {
@@ -144,7 +152,11 @@ impl Inputs for MemInputs {
             return Err(FetchFault::Failed);
         }
         match self.file(name) {
-            Some(bytes) => copy_file(bytes, most, into),
+            Some(bytes) => {
+                copy_file(bytes, most, into)?;
+                self.had.note(name.as_bytes());
+                Ok(())
+            }
             None => {
                 self.refuse(name);
                 Err(FetchFault::Failed)
