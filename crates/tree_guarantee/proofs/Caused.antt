@@ -1,5 +1,5 @@
 -- A queue of a table has no promise only by its causes.
-use Rattle.std.specs.Prelude.{Option, Some, None, MatchOption, ◌≡◌, ◌⊎◌, ℕ, zero, suc, ◌+◌, ◌-◌, ◌*◌, ◌<◌, ◌≤◌, ◌^◌, List, [], ◌∷◌, All, length, get_or}
+use Rattle.std.specs.Prelude.{Option, Some, None, MatchOption, ◌≡◌, ◌⊎◌, ℕ, zero, suc, ◌+◌, ◌-◌, ◌*◌, ◌<◌, ◌≤◌, ◌^◌, List, [], ◌∷◌, All, length, get_or, map}
 use Rattle.std.specs.List.{sum_by, Contains}
 use Rattle.std.specs.Option.{option_map}
 use Rattle.std.proofs.Common.{arith, sym, ap, ◌∙◌, refl, subst, inl, inr}
@@ -11,6 +11,7 @@ use Rattle.arrival_lines.specs.declared.grid.Queue.{Queue}
 use Rattle.arrival_lines.specs.declared.grid.Service.{Service}
 use Rattle.arrival_stairs.specs.BelowLines.{line_parts}
 use Rattle.arrival_stairs.specs.declared.stairs.Bundle.{Bundle}
+use Rattle.arrival_stairs.specs.declared.stairs.Stair.{Stair}
 use Rattle.stair_queues.specs.Queues.{IsLeastOfBoth, IsNone}
 use Rattle.stair_queues.specs.Stays.{IsStay}
 use Rattle.stair_ports.specs.Incoming.{StairsIn, stairs_at, line_incomings}
@@ -21,10 +22,13 @@ use Rattle.port_bounds.specs.Ports.{port_service, rate_behind}
 use Rattle.port_bounds.specs.Services.{IsLeft, IsLeftBy, IsServiceAt, IsServiceOf}
 use Rattle.tree_network.specs.Networks.{port_at, queues_of}
 use Rattle.tree_order.specs.Spots.{spots_of}
-use Rattle.tree_bounds.specs.Equations.{arrivals_of}
+use Rattle.tree_bounds.specs.Bunches.{arriving_of}
+use Rattle.tree_bounds.specs.Equations.{MeetsEquations, arrivals_of, comes_to}
+use Rattle.tree_bounds.specs.Tables.{row_in}
 use Rattle.tree_bounds.proofs.Bunched.{lines_of_coming}
 use Rattle.tree_network.specs.declared.network.Discipline.{Discipline}
 use Rattle.tree_network.specs.declared.network.Discipline.TheVariants.{Fifo, Priority, Drr}
+use Rattle.tree_network.specs.declared.network.Network.{Network}
 use Rattle.tree_network.specs.declared.network.Port.{Port}
 use Rattle.tree_guarantee.specs.Causes.{IsCause, IsLong, IsOverloaded, IsSlow, NoneHasACause, first_served, rates_of}
 use Rattle.tree_guarantee.specs.Causes.IsCause.{unbounded, unbounded_before, overloaded, long}
@@ -182,16 +186,26 @@ module _ (port : Port) (stairs : List StairsIn) (q : ℕ) where
       by_row (suc longest) None e none = unbounded (ap (λ (w : Incoming). w.parts) (at_line stairs q) ∙ ap (option_map line_parts) e)
       by_row (suc longest) (Some bundles) e least = cause_known bundles e least
 
-pub none_has_a_cause : NoneHasACause
-none_has_a_cause net table s q is inside queue none =
+-- ---- of a queue of a table
+pub record CausedBy (net : Network) (stair : ℕ → Option Stair) (s q : ℕ) : Type 0 where
+  pub stairs : List StairsIn
+  pub are : map arriving_of stairs ≡ comes_to net stair s
+  pub cause : IsCause (port_at net s) (arrivals_of net stair s) stairs q
+
+pub caused : (net : Network) (row : ℕ → ℕ → Option Queue) (stair : ℕ → Option Stair) (s q : ℕ) → MeetsEquations net row stair → s < length net.ports.items
+    → q < queues_of (port_at net s).discipline → row s q ≡ None → CausedBy net stair s q
+caused net row stair s q equations inside queue none =
     let port = port_at net s in
-    let at = is.equations.rows s q inside queue in
-    let row = subst (λ r. IsStairRow port at.queues q r) none at.row in
-    let lines = lines_of_coming net (spots_of net) is.stair s (queues_of port.discipline) at.queues at.are in
+    let at = equations.rows s q inside queue in
+    let is = subst (λ r. IsStairRow port at.queues q r) none at.row in
+    let lines = lines_of_coming net (spots_of net) stair s (queues_of port.discipline) at.queues at.are in
     record {
-      stair = is.stair;
-      equations = is.equations;
       stairs = at.queues;
       are = at.are;
-      cause = subst (λ (xs : List Incoming). IsCause port xs at.queues q) lines (cause_of port at.queues q row);
+      cause = subst (λ (xs : List Incoming). IsCause port xs at.queues q) lines (cause_of port at.queues q is);
     }
+
+pub none_has_a_cause : NoneHasACause
+none_has_a_cause net table s q is inside queue none =
+    let by = caused net (row_in table) is.stair s q is.equations inside queue none in
+    record { stair = is.stair; equations = is.equations; stairs = by.stairs; are = by.are; cause = by.cause }

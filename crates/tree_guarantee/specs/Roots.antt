@@ -55,11 +55,11 @@ pub data PassesLimit (net : Network) (row : ℕ → ℕ → Option Queue) (stair
 
 -- ---- of queue q of port s: here, or at the queue of port a from which a link comes to it or to one that may be served before it
 pub data HasRoot (net : Network) (row : ℕ → ℕ → Option Queue) (stair : ℕ → Option Stair) : (s q : ℕ) → Type 0 where
-  overloaded : (s q : ℕ) → IsOverloaded (port_at net s) (arrivals_of net stair s) q → HasRoot net row stair s q
-  long : (s q : ℕ) (stairs : List StairsIn) → map arriving_of stairs ≡ comes_to net stair s
+  by_load : (s q : ℕ) → IsOverloaded (port_at net s) (arrivals_of net stair s) q → HasRoot net row stair s q
+  by_delay : (s q : ℕ) (stairs : List StairsIn) → map arriving_of stairs ≡ comes_to net stair s
       → IsLong (port_at net s) (arrivals_of net stair s) stairs q → HasRoot net row stair s q
-  limit : (s q p : ℕ) → CountsAt (port_at net s).discipline p q → PassesLimit net row stair s p → HasRoot net row stair s q
-  before : (s q p n a : ℕ) → CountsAt (port_at net s).discipline p q → IsAt net s p n → (spot_at (spots_of net) n).source ≡ suc a
+  by_limit : (s q p : ℕ) → CountsAt (port_at net s).discipline p q → PassesLimit net row stair s p → HasRoot net row stair s q
+  by_earlier : (s q p n a : ℕ) → CountsAt (port_at net s).discipline p q → IsAt net s p n → (spot_at (spots_of net) n).source ≡ suc a
       → row a (queue_before net n) ≡ None → HasRoot net row stair a (queue_before net n) → HasRoot net row stair s q
 
 -- of each queue that has no promise in a table
