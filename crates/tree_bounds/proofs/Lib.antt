@@ -9,3 +9,4 @@ pub mod Bunched
 pub mod InLimits
 pub mod Coming
 pub mod Done
+pub mod Unknown

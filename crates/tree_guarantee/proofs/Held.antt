@@ -53,7 +53,7 @@ use Rattle.tree_guarantee.proofs.Summed.{arrival_at, longest_at, rate_at, queue_
 use Rattle.tree_guarantee.proofs.Begun.{IsLiveLink, live_link, none_longer}
 
 -- ---- the arrivals of a queue
-incoming_found : (net : Network) (spots : List Spot) (line : ℕ → Option Line) (s q n : ℕ) → q < n
+pub incoming_found : (net : Network) (spots : List Spot) (line : ℕ → Option Line) (s q n : ℕ) → q < n
     → queue_in (incomings_at net spots line s n) q ≡ incoming_at net spots line s q
 unfolding incomings_at
 incoming_found net spots line s q zero h = absurd (omega (arith, h))
@@ -79,7 +79,7 @@ unfolding longest_group longest_of
 longest_own spots line k [] = omega arith
 longest_own spots line k (x ∷ xs) = omega arith
 
-longest_in : (spots : List Spot) (line : ℕ → Option Line) (s q k n : ℕ) → k < n
+pub longest_in : (spots : List Spot) (line : ℕ → Option Line) (s q k n : ℕ) → k < n
     → longest_of spots (spots_in_group spots s q k) ≤ longest_group (groups_at spots line s q n)
 unfolding groups_at
 longest_in spots line s q k zero h = absurd (omega (arith, h))

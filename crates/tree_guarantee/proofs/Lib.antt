@@ -10,3 +10,4 @@ pub mod Kept
 pub mod Branched
 pub mod LastSteps
 pub mod Caused
+pub mod Rooted

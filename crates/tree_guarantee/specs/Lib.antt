@@ -1,3 +1,4 @@
 pub mod Routes
 pub mod Guarantee
 pub mod Causes
+pub mod Roots

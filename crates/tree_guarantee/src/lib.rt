@@ -6,6 +6,7 @@
 
 ghost use Rattle.tree_guarantee.specs.Causes.{NoneHasACause};
 ghost use Rattle.tree_guarantee.specs.Guarantee.{TablesAreGuaranteed};
+ghost use Rattle.tree_guarantee.specs.Roots.{NoneHasARoot};
 ghost use Rattle.tree_guarantee.specs.Routes.{NetworksAreTrees, OrdersGoForward};
 
 /// The links of a network in range are trees of its ports.
@@ -26,8 +27,15 @@ pub fn tables_are_guaranteed()
     ensures { TablesAreGuaranteed }
 {}
 
-/// Where a table has no number for a queue: nothing bounds what comes there or what may be served before it, or these together are faster than
-/// the port, or no service has a delay below 2^50 picoseconds.
+/// Where a table has no number for a queue: nothing bounds what comes there or what may be served before it, or each
+/// service is slower than its links and these are with those that may be served before too fast for the port, or no service
+/// has a delay below 2^50 picoseconds.
 pub fn none_has_a_cause()
     ensures { NoneHasACause }
+{}
+
+/// Where a table has no number for a queue there is a root of it: at that port, or at one before it on the trees of links,
+/// a queue's load is above its rate, or a number passes its limit.
+pub fn none_has_a_root()
+    ensures { NoneHasARoot }
 {}
