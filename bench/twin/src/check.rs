@@ -54,7 +54,7 @@ impl<'a> Checked<'a> {
     }
     fn on_time(&mut self, server: u32, at: Fraction, to: Fraction) -> Law {
         let site = &mut self.sites[server as usize];
-        holds(site.last <= at && to <= self.end, 1)?;
+        holds(site.last <= at && at <= self.end && to <= self.end, 1)?;
         site.last = at;
         Ok(())
     }
