@@ -141,6 +141,48 @@ def industrial(which: int) -> str:
     return before + re.sub("jitter = [0-9]+", "jitter = 1743149743", after, count=1)
 
 
+EIGHT = 'discipline = "priority"\nqueues = 8\n'
+
+
+def three_stairs() -> str:
+    """Stairs whose periods have 3,996,000 in common, over a bucket of the last queue."""
+    return (
+        "version = 2\n"
+        + server("s0", "100", latency(16), EIGHT)
+        + flow("f0", stair(96, 200), ["s0:3"], 1600)
+        + flow("f1", stair(1000, "1000/3"), ["s0:2"], 1600)
+        + flow("f2", bucket(12, "3/500"), ["s0:3"], 12)
+        + flow("f3", stair(3996), ["s0:1"], 1600)
+        + flow("f4", bucket(12, "3/500"), ["s0:7"], 12)
+    )
+
+
+def stairs_above_a_closure() -> str:
+    steps = [(0, 0, 1600, 0), (1998, 1600, 3200, 0)]
+    return (
+        "version = 2\n"
+        + server("s0", "100", latency("1998/125"), EIGHT + 'link = "1/2"\n')
+        + flow("f0", stair(1000), ["s0:1"])
+        + flow("f1", listed(steps, (99900, 1998, 1600), True), ["s0:2"], 1600)
+        + flow("f2", stair(2000, "2000/3"), ["s0:7"])
+        + flow("f3", stair(4000, "4000/3"), ["s0:5"], 12)
+    )
+
+
+def gate_before_a_late_list() -> str:
+    """A gate of cycle 1001/100, and behind it a list that repeats after 1000 of its periods."""
+    late = listed([(0, 0, 0, 0), (500, 0, 0, 999)], (10**6, 1000, 999000))
+    quanta = [LARGE, LARGE, LARGE - 1, LARGE - 1, 16384, 1600, 16384, 1600]
+    return (
+        server("s0", "1000", gate("1001/100", "1001/400"), EIGHT)
+        + server("s1", "999", late, EIGHT)
+        + server("s2", "1000", latency(16), f'discipline = "drr"\nquanta = {quanta}\n')
+        + flow("f0", stair(2000), ["s0:3", "s1:5"], 1538)
+        + flow("f1", listed([(0, 0, 1538, 0)], (4000, 4000, 1538)), ["s1:1", "s2:2"], 1538)
+    )
+
+
+LARGE = 2**24
 CASES = {
     # name: (word, text, wanted status)
     "priority gate, stair 1000001/1000": ("analyse", gate_beside_stair("1000001/1000"), 7),
@@ -179,6 +221,9 @@ CASES = {
     "stairs 1 and 1048577": ("analyse", stairs_pair("1", "1048577"), 7),
     "examples/industrial, the first jitter of its stairs 1743149743": ("analyse", industrial(0), 7),
     "examples/industrial, the last jitter of its stairs 1743149743": ("analyse", industrial(-1), 7),
+    "stairs of 96, 1000 and 3996 above a bucket of a priority server": ("analyse", three_stairs(), 0),
+    "stairs of a priority server, and a closure with a tail at 99900": ("analyse", stairs_above_a_closure(), 7),
+    "a gate, and behind it a list with a tail at 10^6": ("analyse", gate_before_a_late_list(), 7),
     "stairs with a jitter of 2^100": ("analyse", stairs_pair("1", "3", 2**100), 7),
     "stairs with a jitter of 10^9": ("analyse", stairs_pair("1", "3", 10**9), 7),
     "script: below stair(1, 1, 0), stair(1, 1048577, 0)": ("curve", "below stair(1, 1, 0), stair(1, 1048577, 0)\n", 7),
@@ -217,7 +262,6 @@ def worked_off(cycles: int) -> str:
     return f"enter,0,f0,{cycles}\n{works}leave,{100 * (cycles - 1) + 1}/10,s0,0\nend,{10 * cycles}\n"
 
 
-LARGE = 2**24
 STALL = "stall,s0,2000,2300\n"
 
 RUNS = {
