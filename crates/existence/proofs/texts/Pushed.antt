@@ -11,6 +11,10 @@ use Rattle.input_texts.specs.table_text.Rows.{Row}
 use Rattle.input_texts.specs.table_text.TraceRows.{trace_row, Gives}
 use Rattle.input_texts.specs.table_text.Traces.{packets_in, stalls_in, Give}
 use Rattle.input_texts.specs.table_text.Kept.{Follows}
+use Rattle.run_check.specs.declared.run_table.run_rows.RunEntry.TheVariants.{Does}
+use Rattle.run_check.specs.run_table.RunRows.{run_row, Gives as GivesStep}
+use Rattle.run_check.specs.run_table.Runs.{packets_after, Give as GiveRun}
+use Rattle.run_check.proofs.run_table.RunSteps.{packets_behind}
 
 pub packets_more : (es : List Entry) (e : Entry) → packets_in (es ++ e ∷ []) ≡ packets_in es ++ packets_in (e ∷ [])
 packets_more [] e = refl
@@ -34,3 +38,9 @@ pub ordered_more : (ps : List TracePacket) (e : Entry) → AllPairs (λ p q. p.t
 ordered_more ps (Packet p) h f = all_pairs_push (λ p q. p.time ≤ℚ q.time) ps p h f
 ordered_more ps (Stop s) h f = subst (AllPairs (λ p q. p.time ≤ℚ q.time)) (sym (append-nil ps)) h
 
+pub steps_more : (net : Net) (n : ℕ) (rows : List Row) (xs : List Step) (row : Row) (x : Step) → GiveRun net n rows xs
+    → GivesStep net (packets_behind n xs) (run_row row) (Does x) → GiveRun net n (rows ++ row ∷ []) (xs ++ x ∷ [])
+steps_more net n [] [] row x h g = (g, tt)
+steps_more net n [] (y ∷ ys) row x h g = absurd h
+steps_more net n (r ∷ rows) [] row x h g = absurd h
+steps_more net n (r ∷ rows) (y ∷ ys) row x h g = (h.0, steps_more net (packets_after n y) rows ys row x h.1 g)
