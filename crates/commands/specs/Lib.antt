@@ -1,3 +1,4 @@
+pub mod Tabled
 pub mod edit_report
 pub mod analyse
 pub mod simulate

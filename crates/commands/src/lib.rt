@@ -9,5 +9,6 @@ pub mod edit_report;
 pub mod exercise;
 pub mod measure;
 pub mod simulate;
+mod tabled;
 
 pub use command_replies;

@@ -1,15 +1,11 @@
 -- The steps of an answer.
-use Rattle.std.proofs.Common.{◌≡◌, ◌≢◌, ◌+◌, ◌≤◌, ℕ, List, refl, subst, arith}
-use Rattle.net_model.specs.Accepted.{IsAccepted}
+use Rattle.std.proofs.Common.{◌≢◌, ◌≤◌, ℕ, List, inl, refl, subst, arith}
 use Rattle.net_model.specs.Networks.{Net}
-use Rattle.net_model.specs.Orders.{IsOrder}
-use Rattle.net_model.proofs.net_graph.OneOrders.{one_order}
-use Rattle.net_model.proofs.net_graph.Returns.{order_or_cycle}
 use Rattle.net_text.specs.Folds.{StepsAtMost}
 use Rattle.net_text.specs.Reading.{IsNetworkOf}
 use Rattle.net_text.specs.FoldLimits.{OverFold}
 use Rattle.subadd_closure.specs.FoldWork.{fold_work}
-use Rattle.command_replies.specs.CellWork.{work_of_cells}
+use Rattle.command_replies.specs.run_findings.CellCounts.{CountsOnCells}
 use Rattle.command_replies.proofs.FirstFaults.{says}
 use Rattle.commands.specs.analyse.AnswerCounts.{CountsOnNet, CountsOn}
 
@@ -22,16 +18,10 @@ none_on_net net status count other = record {
   round = λ walk c. refl;
 }
 
--- those of the cells of a network with an order
-pub by_order : (net : Net) (order : List ℕ) (status old new : ℕ) → IsAccepted net → IsOrder net order → old ≤ new
-    → new ≤ old + work_of_cells net order → (status ≡ 0 → new ≡ old + work_of_cells net order)
-    → CountsOnNet net status old new
-by_order net order status old new a o rises most exact = record {
-  rises = rises;
-  most = λ other p. subst (λ xs. new ≤ old + work_of_cells net xs) (one_order net order other o p) most;
-  report = λ zero other p. subst (λ xs. new ≡ old + work_of_cells net xs) (one_order net order other o p) (exact zero);
-  round = λ walk c. absurd (order_or_cycle.no_cycle net order walk a o c);
-}
+-- those of its cells
+pub of_cells : (net : Net) (status old new : ℕ) → CountsOnCells net status old new → CountsOnNet net status old new
+of_cells net status old new h =
+    record { rises = h.rises; most = h.most; report = λ zero. h.report (inl zero); round = h.round }
 
 -- those of a file that gives a network
 pub of_network : (bytes : List ℕ) (net : Net) (status old between new : ℕ) → IsNetworkOf OverFold bytes net

@@ -1,14 +1,9 @@
 -- Each status of a reply has its cause.
-use Rattle.std.proofs.Common.{◌≡◌, ℕ, List, inl, inr, ap}
+use Rattle.std.proofs.Common.{ℕ, List, inl, inr}
 use Rattle.net_model.specs.run_laws.specs.Runs.{SpecRun}
 use Rattle.net_model.specs.Networks.{Net}
-use Rattle.net_model.specs.Orders.{IsOrder}
 use Rattle.report_text.specs.net_cells.specs.Meanings.{CellTable}
-use Rattle.run_watch.specs.simulated_sizes.Laws.{AreCurves}
-use Rattle.input_texts.specs.table_text.Rows.{rows_of}
 use Rattle.run_check.specs.check_report.CheckReport.{lawful_report_of}
-use Rattle.run_check.specs.run_table.Runs.{IsRunOf}
-use Rattle.command_replies.specs.OnFiles.{IsNetOf, IsTableOf}
 use Rattle.command_replies.specs.Replies.{Reply}
 use Rattle.command_replies.specs.Stages.{stops, goes_on}
 use Rattle.command_replies.specs.run_findings.Statuses.{IsOfReport}

@@ -1,5 +1,5 @@
 -- Each status of a reply has its cause.
-use Rattle.std.proofs.Common.{◌≡◌, ℕ, length, inl, inr}
+use Rattle.std.proofs.Common.{ℕ, length, inl, inr}
 use Rattle.report_text.specs.net_cells.specs.Meanings.{CellTable}
 use Rattle.command_replies.specs.Replies.{Reply}
 use Rattle.command_replies.specs.Stages.{stops, goes_on}

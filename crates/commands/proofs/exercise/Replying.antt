@@ -1,5 +1,5 @@
 -- The reply on a workload, from its parts.
-use Rattle.std.proofs.Common.{◌≡◌, ℕ, List, sym, subst}
+use Rattle.std.proofs.Common.{◌≡◌, ℕ, List, inl, inr, sym, subst}
 use Rattle.net_model.specs.Networks.{Net}
 use Rattle.net_model.specs.Orders.{IsOrder}
 use Rattle.net_model.specs.Traces.{SpecTrace}
@@ -13,6 +13,8 @@ use Rattle.exercise_load.specs.Loads.{AreOfWorkload}
 use Rattle.exercise_load.specs.Workloads.{network_of}
 use Rattle.exercise_load.specs.exercise_report.Summary.{summary_of}
 use Rattle.exercise_load.proofs.Stand.{workloads_stand}
+use Rattle.command_replies.specs.Stages.{stops}
+use Rattle.commands.specs.Tabled.{IsStopped}
 use Rattle.commands.specs.exercise.OnSeeds.{IsExerciseReply, IsReplyBeside, IsReplyInOrder}
 
 -- a workload's network is that of its number
@@ -39,7 +41,9 @@ pub is_free : (seed : ℕ) (net : Net) (trace : SpecTrace) → AreOfWorkload see
 is_free seed net trace w = subst IsFeedForward (sym w.net) (workloads_stand seed).feed_forward
 
 -- no flows of a workload go round
-pub never_round : (seed : ℕ) (net : Net) (walk : List ℕ) → net ≡ network_of seed → ¬ (IsCycle net walk)
-never_round seed net walk e c =
-    let d : IsCycle (network_of seed) walk = subst (λ n. IsCycle n walk) e c in
-    (workloads_stand seed).feed_forward walk (cycle_is_closed (network_of seed) walk d)
+pub stopped : (seed : ℕ) (net : Net) (reply : Reply) → net ≡ network_of seed → IsStopped net reply
+    → IsExerciseReply seed reply
+stopped seed net reply e (inl h) =
+    let round : IsCycle (network_of seed) h.walk = subst (λ n. IsCycle n h.walk) e h.cycle in
+    absurd ((workloads_stand seed).feed_forward h.walk (cycle_is_closed (network_of seed) h.walk round))
+stopped seed net reply e (inr (order, o, h)) = in_order seed net order reply e o (stops h)

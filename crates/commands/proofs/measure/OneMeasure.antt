@@ -18,7 +18,6 @@ use Rattle.net_model.specs.Networks.{Net}
 use Rattle.net_model.specs.Traces.{SpecTrace}
 use Rattle.input_texts.specs.table_text.Traces.{IsTraceOf}
 use Rattle.input_texts.proofs.table_text.OneTrace.{flow_one}
-use Rattle.measure_curve.specs.Bursts.{IsLeastBurst}
 use Rattle.input_texts.specs.table_text.Rows.{rows_of}
 use Rattle.input_texts.proofs.table_text.OneTrace.{trace_one, no_trace}
 use Rattle.measure_curve.specs.Windows.{of_flow}

@@ -1,5 +1,5 @@
 -- Each status of a reply has its cause.
-use Rattle.std.proofs.Common.{◌≡◌, ℕ, List, length, inl, inr}
+use Rattle.std.proofs.Common.{ℕ, List, length, inl, inr}
 use Rattle.net_model.specs.Networks.{Net}
 use Rattle.net_model.specs.Traces.{SpecTrace}
 use Rattle.report_text.specs.RunReport.{run_report_of}

@@ -1,5 +1,5 @@
 -- A report without a breach shows no number above the bound beside it, and the bounds of each report hold.
-use Rattle.std.proofs.Common.{◌≡◌, ℕ, List, length, inl}
+use Rattle.std.proofs.Common.{◌≡◌, ℕ, List, length}
 use Rattle.command_replies.specs.net_bounds.specs.NetRuns.{IsRunOf}
 use Rattle.command_replies.specs.net_bounds.proofs.Kept.{table_bounds_every_run}
 use Rattle.command_replies.specs.Replies.{Reply}

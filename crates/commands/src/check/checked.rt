@@ -2,6 +2,7 @@
 
 ghost use Rattle.std.specs.Prelude.{◌≡◌, ◌<◌, ◌^◌, IfOk, length};
 ghost use Rattle.net_model.specs.run_laws.specs.Lawful.{IsLawful};
+ghost use Rattle.net_model.specs.Accepted.{IsAccepted};
 ghost use Rattle.net_model.specs.NetRoutes.{routes_of};
 ghost use Rattle.run_check.specs.broken_laws.FirstBroken.{IsFirstBroken};
 ghost use Rattle.run_check.specs.check_gauge.Gauge.{check_gauge};
@@ -66,6 +67,7 @@ fn reported_lawful(
     run: &Run,
     table: &Analysis<Value>,
 ) -> Result<Answer, AllocError>
+    requires accepted { IsAccepted net.now }
     requires curves { AreCurves net.now }
     requires recorded { IsRecordedRun net.now run.now }
     requires narrow { check_gauge net.now run.now < 2 ^ 120 }
@@ -73,7 +75,6 @@ fn reported_lawful(
     ensures { IfOk result
         (λ r. IsLawfulOn net.now run.now (⟦<Analysis<Value> as Table<Value>>⟧.at table.now) (reply_of r)) }
 {
-    net.keeps();
     let packets = packets_in(&run.steps);
     let found = findings(alloc, net, run, packets)?;
     let text = lawful_text(alloc, net, table, &found)?;
@@ -88,13 +89,13 @@ fn reported(
     run: &Run,
     table: &Analysis<Value>,
 ) -> Result<Answer, AllocError>
+    requires accepted { IsAccepted net.now }
     requires curves { AreCurves net.now }
     requires recorded { IsRecordedRun net.now run.now }
     requires narrow { check_gauge net.now run.now < 2 ^ 120 }
     ensures { IfOk result
         (λ r. IsReportOn net.now run.now (⟦<Analysis<Value> as Table<Value>>⟧.at table.now) (reply_of r)) }
 {
-    net.keeps();
     match first_broken(alloc, net, run)? {
         Some(broken) => reported_broken(alloc, net, run, broken),
         None => reported_lawful(alloc, net, run, table),
@@ -109,6 +110,7 @@ pub(crate) fn checked(
     run: &Run,
     table: &Analysis<Value>,
 ) -> Result<Answer, AllocError>
+    requires accepted { IsAccepted net.now }
     requires curves { AreCurves net.now }
     requires recorded { IsRecordedRun net.now run.now }
     ensures { IfOk result

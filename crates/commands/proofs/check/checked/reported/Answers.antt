@@ -9,7 +9,7 @@ first_broken-requires-clause-few c = few_steps c.args.net.now c.args.run.now c.r
 
 pub first_broken-requires-clause-numbers : goal.first_broken-requires-clause-numbers
 first_broken-requires-clause-numbers c =
-    recorded_numbers c.args.net.now c.args.run.now c.keeps.ensures
+    recorded_numbers c.args.net.now c.args.run.now c.requires.accepted
     (from_zero c.args.net.now c.args.run.now c.requires.recorded) c.requires.narrow
 
 pub returns-in-Some : goal.returns-in-Some

@@ -1,10 +1,25 @@
 use Rattle.std.proofs.lemmas.Result.{IfOk-weaker}
-use Rattle.command_replies.specs.Stages.{stops}
+use Rattle.command_replies.specs.Stages.{goes_on}
+use Rattle.command_replies.specs.View.{reply_of, status_of}
+use Rattle.commands.proofs.Stopped.{stopped, none_told, at_status}
 use Rattle.commands.proofs.check.on_net.on_network.Goals as goal
 
-pub returns-in-Err-Cycle-clause-reply : goal.returns-in-Err-Cycle-clause-reply
-returns-in-Err-Cycle-clause-reply g c =
-    let cycle = rw c.in-Err-Cycle.field-0-is at c.in-Err-Cycle.ensures.fault in
-    IfOk-weaker c.goes_round.result _ _
-    (λ r is. stops record { walk = _; cycle = cycle; is = is })
-    (rw c.deref-in-Err-Cycle.ensures.value at c.goes_round.ensures)
+pub returns-in-Ok-clause-reply : goal.returns-in-Ok-clause-reply
+returns-in-Ok-clause-reply g c =
+    let t = c.in-Ok.ensures.table in
+    IfOk-weaker c.checked.result _ _
+    (λ r told. goes_on t.order t.ordered (goes_on _ t.table (c.keeps_curves.ensures, told)))
+    c.checked.ensures
+
+pub returns-in-Ok-clause-counts : goal.returns-in-Ok-clause-counts
+returns-in-Ok-clause-counts g c =
+    at_status c.args.net.now (status_of c.checked.result) _ _ c.table_of.ensures.cells (λ is. c.in-Ok.ensures.exact)
+
+pub returns-in-Err-clause-reply : goal.returns-in-Err-clause-reply
+returns-in-Err-clause-reply g c =
+    IfOk-weaker c.in-Err.told _ _ (λ r h. stopped c.args.net.now _ (reply_of r) h) c.in-Err.ensures.stopped
+
+pub returns-in-Err-clause-counts : goal.returns-in-Err-clause-counts
+returns-in-Err-clause-counts g c =
+    at_status c.args.net.now (status_of c.in-Err.told) _ _ c.table_of.ensures.cells
+    (λ is. absurd (none_told c.args.net.now c.in-Err.told c.in-Err.ensures.stopped is))

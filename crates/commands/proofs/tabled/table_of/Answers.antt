@@ -1,0 +1,10 @@
+use Rattle.std.proofs.Common.{inl}
+use Rattle.std.proofs.lemmas.Result.{IfOk-weaker}
+use Rattle.commands.proofs.tabled.table_of.Goals as goal
+
+pub returns-in-Err-Cycle-clause-stopped : goal.returns-in-Err-Cycle-clause-stopped
+returns-in-Err-Cycle-clause-stopped g c =
+    let cycle = rw c.in-Err-Cycle.field-0-is at c.in-Err-Cycle.ensures.fault in
+    IfOk-weaker c.goes_round.result _ _
+    (λ r is. inl record { walk = _; cycle = cycle; is = is })
+    (rw c.deref-in-Err-Cycle.ensures.value at c.goes_round.ensures)
