@@ -50,3 +50,4 @@ pub mod MeetNumbers
 pub mod HeavyCalls
 pub mod LatticeCurves
 pub mod ElementSums
+mod FirstFrames

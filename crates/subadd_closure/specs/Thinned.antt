@@ -17,9 +17,9 @@ use Rattle.upp_limits.specs.upp_curve.specs.Curve.{SpecCurve, value_at}
 use Rattle.element_envelope.specs.PieceElements.{Among}
 
 -- ---- what is left out
--- the piece, from its start on, is nowhere above the line
-abbrev pub LiesUnder : Line → Piece → Type 0
-LiesUnder line p = (t : ℚ) → zero_q ≤ℚ t → p.x ≤ℚ t → piece_value p t ≤ₑ Fin (line_at line t)
+-- the piece, from its start on, is nowhere above the line between two times
+abbrev pub LiesUnder : Line → ℚ → ℚ → Piece → Type 0
+LiesUnder line from to p = (t : ℚ) → zero_q ≤ℚ t → from <ℚ t → t <ℚ to → p.x ≤ℚ t → piece_value p t ≤ₑ Fin (line_at line t)
 
 -- a point is past 0, and a segment starts at 0 or later
 abbrev pub StartsLate : Element → Type 0

@@ -12,14 +12,16 @@ ghost use Rattle.upp_limits.specs.Outcome.{IsCauseOf, IsWithin, KeepsLimits};
 ghost use Rattle.upp_limits.specs.declared.op_kind.OpKind.TheVariants.{Convolve};
 ghost use Rattle.plain_operators.specs.curve_call.specs.FirstWindows.{IsFirstWindow};
 ghost use Rattle.element_envelope.specs.ConvolutionWindows.{IsConvolutionWindow};
+ghost use Rattle.plain_operators.specs.curve_call.specs.Frames.{IsFrame};
 ghost use Rattle.curve_conv.specs.ConvolveCall.{IsConvolveFrame};
+ghost use Rattle.curve_conv.specs.LateBounds.{IsSlowerBounds};
 ghost use Rattle.subadd_closure.specs.Thinned.{MayThin};
 
 use crate::again::{slower_rise, window_of};
 use crate::quick_bounds::quick_bounds;
 use curve_conv::convolve_frame;
 use plain_operators::curve_call::{
-    CallWindow, Frame, answer, first_window, refuse_between, within,
+    Bounds, CallWindow, Frame, answer, first_window, refuse_between, within,
 };
 use std::alloc::{AllocError, Global};
 use std::sync::ledger::Ledger;
@@ -60,8 +62,44 @@ fn frame_between(
     }
 }
 
-/// The frame of the call, as `convolve_frame` of `curve_conv`, which is asked where few numbers do not tell it.
-pub(crate) fn star_frame(alloc: Global, f: &Curve, g: &Curve) -> Result<Frame, OpFault>
+// The frame with the upper bound of the number of periods in a call within both limits with no period, as `frame_between`
+// finds it.
+fn later_frame(f: &Curve, g: &Curve, first: &Frame, from: Frac, bounds: &Bounds) -> Option<Frame>
+    requires first { IsFrame Convolve f.now g.now 0 0 first.now }
+    requires from { from ≡ first.now.end -ℚ first.now.period }
+    requires bounds { IsSlowerBounds f.now g.now from first.now.period bounds.now }
+    ensures { IfSome result (λ r. IsConvolveFrame f.now g.now r × IsWithin Convolve f.now g.now) }
+{
+    let kind = OpKind::Convolve;
+    let Ok(frame) = within(&kind, f, g, bounds.high) else {
+        return None;
+    };
+    if tally_over(&kind, f, g, frame.end) / 4 > tally_over(&kind, f, g, first.end) {
+        return None;
+    }
+    Some(frame)
+}
+
+// The frame of a call within both limits with no period, where few numbers tell how many are enough: mostly none, so that
+// the pieces are gone over once alone for the limits.
+fn frame_at_once(f: &Curve, g: &Curve) -> Option<Frame>
+    ensures { IfSome result (λ r. IsConvolveFrame f.now g.now r × IsWithin Convolve f.now g.now) }
+{
+    let Ok(frame) = within(&OpKind::Convolve, f, g, 0) else {
+        return None;
+    };
+    let from = difference(frame.end, frame.period);
+    let Some(bounds) = quick_bounds(f, g, from, frame.period, frame.end) else {
+        return None;
+    };
+    if bounds.high > 0 {
+        return later_frame(f, g, &frame, from, &bounds);
+    }
+    Some(frame)
+}
+
+// The frame where that does not tell.
+fn searched_frame(alloc: Global, f: &Curve, g: &Curve) -> Result<Frame, OpFault>
     ensures frame { IfOk result (IsConvolveFrame f.now g.now) }
     ensures limits { KeepsLimits Convolve f.now g.now result }
 {
@@ -70,6 +108,17 @@ pub(crate) fn star_frame(alloc: Global, f: &Curve, g: &Curve) -> Result<Frame, O
     match frame_between(f, g, &first, from)? {
         Some(frame) => Ok(frame),
         None => convolve_frame(alloc, f, g),
+    }
+}
+
+/// The frame of the call, as `convolve_frame` of `curve_conv`, which is asked where few numbers do not tell it.
+pub(crate) fn star_frame(alloc: Global, f: &Curve, g: &Curve) -> Result<Frame, OpFault>
+    ensures frame { IfOk result (IsConvolveFrame f.now g.now) }
+    ensures limits { KeepsLimits Convolve f.now g.now result }
+{
+    match frame_at_once(f, g) {
+        Some(frame) => Ok(frame),
+        None => searched_frame(alloc, f, g),
     }
 }
 

@@ -1,6 +1,6 @@
 //! The elements of the second operand of a convolution without those that are nowhere below the first operand.
 
-ghost use Rattle.std.specs.Prelude.{◌≡◌, IfOk, IsTrue};
+ghost use Rattle.std.specs.Prelude.{◌≡◌, IfOk, IsTrue, Some};
 ghost use Rattle.upp_limits.specs.rational.specs.Rational.{ℚ, ◌≤ℚ◌, ◌<ℚ◌};
 ghost use Rattle.upp_limits.specs.rational.specs.Extended.{◌≤ₑ◌, ◌<ₑ◌};
 ghost use Rattle.upp_limits.specs.rational.specs.declared.Extended.TheVariants.{Fin};
@@ -49,28 +49,61 @@ fn starts_under(p: &Piece, line: &Line) -> bool
     }
 }
 
-// Whether a piece is known to be nowhere above a line.
-fn lies_under(p: &Piece, line: &Line) -> bool
-    ensures { IsTrue result → LiesUnder line.now p.now }
+// Whether a line is not above another at a time, where the steps to both values fit.
+fn is_low_at(a: &Line, b: &Line, t: Frac) -> bool
+    ensures { IsTrue result → line_at a.now t ≤ℚ line_at b.now t }
 {
-    let Some(own) = p.line else {
+    let Ok(low) = value(a, t) else {
         return false;
     };
-    if is_low(&own, line) {
+    match value(b, t) {
+        Ok(top) => is_at_most(low, top),
+        Err(_) => false,
+    }
+}
+
+// Whether the line of a piece is known to be under a line between two times, by where both begin and end there. At the
+// first of the times itself nothing is asked.
+fn ends_under(p: &Piece, own: &Line, from: Frac, to: Frac, line: &Line) -> bool
+    requires { p.now.line ≡ Some own.now }
+    ensures { IsTrue result → LiesUnder line.now from to p.now }
+{
+    if !is_low_at(own, line, to) {
+        return false;
+    }
+    if !is_less(from, p.x) {
+        return is_low_at(own, line, from);
+    }
+    if is_low_at(own, line, p.x) {
         return starts_under(p, line);
     }
     false
 }
 
-// Whether the first pieces, those that start before `to`, are known to be nowhere above a line.
-fn all_under(pieces: &[Piece], to: Frac, line: &Line) -> bool
-    ensures { IsTrue result → Each (LiesUnder line.now) (upto to pieces.now) }
+// Whether a piece is known to be nowhere above a line between two times.
+fn lies_under(p: &Piece, from: Frac, to: Frac, line: &Line) -> bool
+    ensures { IsTrue result → LiesUnder line.now from to p.now }
+{
+    let Some(own) = p.line else {
+        return false;
+    };
+    if is_low(&own, line) {
+        if starts_under(p, line) {
+            return true;
+        }
+    }
+    ends_under(p, &own, from, to, line)
+}
+
+// Whether the first pieces, those that start before `to`, are known to be nowhere above a line between two times.
+fn all_under(pieces: &[Piece], from: Frac, to: Frac, line: &Line) -> bool
+    ensures { IsTrue result → Each (LiesUnder line.now from to) (upto to pieces.now) }
 {
     for p in pieces {
         if !is_less(p.x, to) {
             return true;
         }
-        if !lies_under(p, line) {
+        if !lies_under(p, from, to, line) {
             return false;
         }
     }
@@ -90,7 +123,7 @@ fn end_within(to: Ext, end: Frac) -> Frac
 // Whether some pieces are known to be nowhere above a line from one time up to another, by those from the k-th on.
 fn segment_over(pieces: &[Piece], k: usize, from: Frac, to: Frac, line: &Line) -> bool
     requires starts { StartsAtZero pieces.now }
-    ensures { IsTrue result → (t : ℚ) → zero_q ≤ℚ t → from ≤ℚ t → t <ℚ to
+    ensures { IsTrue result → (t : ℚ) → zero_q ≤ℚ t → from <ℚ t → t <ℚ to
         → read pieces.now t ≤ₑ Fin (line_at line.now t) }
 {
     if k >= pieces.len() {
@@ -99,7 +132,7 @@ fn segment_over(pieces: &[Piece], k: usize, from: Frac, to: Frac, line: &Line) -
     if is_less(from, pieces[k].x) {
         return false;
     }
-    all_under(&pieces[k..], to, line)
+    all_under(&pieces[k..], from, to, line)
 }
 
 // Whether a value is a number that is at most another.

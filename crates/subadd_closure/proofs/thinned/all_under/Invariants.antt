@@ -6,4 +6,4 @@ use Rattle.subadd_closure.proofs.thinned.all_under.Given as goal
 
 abbrev pub invariant-loop-p : goal.invariant-loop-p
 invariant-loop-p l =
-    Each (LiesUnder l.line) (upto l.to (drop l.p-index l.pieces)) → Each (LiesUnder l.line) (upto l.to l.pieces)
+    Each (LiesUnder l.line l.from l.to) (upto l.to (drop l.p-index l.pieces)) → Each (LiesUnder l.line l.from l.to) (upto l.to l.pieces)

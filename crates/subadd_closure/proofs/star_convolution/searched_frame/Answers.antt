@@ -1,6 +1,6 @@
 use Rattle.std.proofs.lemmas.Result.{err_from_is_err_and}
 use Rattle.curve_conv.proofs.ConvolveCalls.{wide_first, first_fits}
-use Rattle.subadd_closure.proofs.star_convolution.star_frame.Goals as goal
+use Rattle.subadd_closure.proofs.star_convolution.searched_frame.Goals as goal
 
 pub returns-in_err-first-clause-limits : goal.returns-in_err-first-clause-limits
 returns-in_err-first-clause-limits c =

@@ -1,0 +1,25 @@
+-- The frame of a convolution, from the one with no period.
+use Rattle.std.specs.Prelude.{◌≡◌}
+use Rattle.upp_limits.specs.rational.specs.Rational.{ℚ, ◌-ℚ◌}
+use Rattle.upp_limits.specs.declared.op_kind.OpKind.TheVariants.{Convolve}
+use Rattle.upp_limits.specs.upp_curve.specs.Curve.{SpecCurve}
+use Rattle.upp_limits.specs.upp_curve.specs.Curves.{IsCurve}
+use Rattle.upp_limits.specs.Outcome.{IsWithin}
+use Rattle.plain_operators.specs.curve_call.specs.declared.frame.Frame.{Frame}
+use Rattle.plain_operators.specs.curve_call.specs.declared.bounds.Bounds.{Bounds}
+use Rattle.plain_operators.specs.curve_call.specs.declared.windows.CallWindow.{CallWindow}
+use Rattle.plain_operators.specs.curve_call.specs.Frames.{IsFrame}
+use Rattle.plain_operators.specs.curve_call.specs.FirstWindows.{IsFirstWindow}
+use Rattle.curve_conv.specs.LateBounds.{IsSlowerBounds}
+use Rattle.curve_conv.specs.ConvolveCall.{IsConvolveFrame}
+use Rattle.curve_conv.proofs.ConvolveCalls.{high_frame, high_within}
+
+pub later_frame : (f g : SpecCurve) (first r : Frame) (from : ℚ) (b : Bounds) → IsFrame Convolve f g 0 0 first
+    → from ≡ first.end -ℚ first.period → IsSlowerBounds f g from first.period b → IsFrame Convolve f g b.high 0 r
+    → IsConvolveFrame f g r × IsWithin Convolve f g
+later_frame f g first r from b h e B H =
+    let w : CallWindow = record { start = first.start; period = first.period; end = first.end } in
+    let K : IsCurve f × IsCurve g = (h.first, h.second) in
+    let W : IsFirstWindow Convolve f g w =
+    record { window = record { start = h.start; period = h.period; end = h.end }; gauge = h.gauge } in
+    (high_frame f g w from b r K W e B H, high_within f g w from b r K W e B H)
