@@ -3,13 +3,13 @@ use Rattle.std.specs.Prelude.{◌≡◌, ◌↔◌, ℕ, ◌<◌, pos, Bool, IsT
 use Rattle.std.specs.List.{slice_index_or}
 use Rattle.std.proofs.Common.{arith, refl, sym, subst, ap, inl, inr, ◌∙◌}
 use Rattle.std.proofs.lemmas.Bool.{cases_Bool, and_parts}
-use Rattle.upp_limits.specs.rational.specs.Rational.{ℚ, int, ◌+ℚ◌, ◌-ℚ◌, ◌≤ℚ◌, ◌<ℚ◌, lt_q, le_q}
+use Rattle.upp_limits.specs.rational.specs.Rational.{ℚ, int, ◌+ℚ◌, ◌-ℚ◌, ◌*ℚ◌, ◌≤ℚ◌, ◌<ℚ◌, lt_q, le_q}
 use Rattle.upp_limits.specs.rational.specs.Grid.{Whole}
-use Rattle.upp_limits.specs.rational.proofs.Laws.{le_refl, le_trans, le_of_lt, lt_le_trans, le_lt_trans, lt_irrefl, le_of_not_lt, mul_le_mul}
+use Rattle.upp_limits.specs.rational.proofs.Laws.{le_refl, le_trans, le_of_lt, lt_le_trans, le_lt_trans, lt_irrefl, le_of_not_lt, mul_le_mul, mul_zero}
 use Rattle.upp_limits.specs.rational.proofs.Integers.{nat_nonneg}
 use Rattle.upp_limits.specs.rational.proofs.Grid.{whole_add, whole_sub}
 use Rattle.upp_limits.specs.rational.proofs.Over.{lt_q_in}
-use Rattle.upp_limits.specs.rational.proofs.Linear.{with2, with3}
+use Rattle.upp_limits.specs.rational.proofs.Linear.{with1, with2, with3}
 use Rattle.upp_limits.specs.upp_curve.specs.declared.affine_segment.line.Piece.{Piece}
 use Rattle.upp_limits.specs.upp_curve.proofs.affine_segment.PieceOrder.{each_map}
 use Rattle.upp_limits.specs.upp_curve.specs.Curve.{SpecCurve}
@@ -26,7 +26,7 @@ use Rattle.flow_watch.specs.declared.watch_laws.point.Segment.{Segment}
 use Rattle.flow_watch.specs.watch_laws.MarkSizes.{IsTime}
 use Rattle.flow_watch.specs.watch_laws.Reaches.{HasReach}
 use Rattle.flow_watch.specs.watch_laws.Segments.{segments}
-use Rattle.flow_watch.specs.watch_laws.Shorts.{EachPoint, IsShortBy, IsPastEnd}
+use Rattle.flow_watch.specs.watch_laws.Shorts.{EachPoint, IsShortBy, IsPastEnd, segment_value}
 use Rattle.run_watch.specs.declared.span.Ramp.{Ramp}
 use Rattle.run_watch.specs.declared.watched.Watched.{Watched}
 use Rattle.run_watch.specs.declared.watched.Stretch.{Stretch}
@@ -35,7 +35,7 @@ use Rattle.run_watch.specs.Watching.{stops, next_after, stretches, turns, RiseFr
 use Rattle.run_watch.specs.WatchTimes.{point_at, watched_from}
 use Rattle.run_watch.specs.FirstEnds.{FitsMarks, FitsSegments}
 use Rattle.run_watch.specs.IdleWindows.{FindsShort, TimeFits, SegmentsFit}
-use Rattle.run_watch.specs.NearWindows.{FitsAt, FitsNear, FitsNearBy, IsShortAfter, IsShortBefore, IsNearEndOf, EndsShort, IsLeast}
+use Rattle.run_watch.specs.NearWindows.{AsksNothing, FitsAt, FitsNear, FitsNearBy, IsNearEnd, IsShortAfter, IsShortBefore, IsNearEndOf, EndsShort, IsLeast}
 use Rattle.run_watch.specs.Held.{AreHeld, IsHeld}
 use Rattle.run_watch.specs.Reaches.{within_reach}
 use Rattle.run_watch.specs.Searches.{segments_near, IsPart, IsLookedAt, IsClearStretch, FindsIn}
@@ -320,3 +320,37 @@ found_watched w c s own all works qs gs o e f g h =
     go : (o : Option (ℚ × ℚ)) → FindsShort (segments (unroll c w.end)) w.works.items (watched_from s (unroll c w.end) all) o → FindsIn w c s own all o
     go None k = inr k
     go (Some p) k = k
+
+-- ---- windows without length
+at_once : (a v k d : ℚ) → d ≡ int (pos 0) → v ≤ℚ int (pos 0) → a <ℚ a +ℚ (v +ℚ k *ℚ d) → ⊥
+at_once a v k d none low h =
+    let flat : a <ℚ a +ℚ (v +ℚ int (pos 0)) = subst (λ x. a <ℚ a +ℚ (v +ℚ x)) (ap (λ x. k *ℚ x) none ∙ mul_zero k) h in
+    with2 a v (λ c. omega (arith, c.le, c.lt, c.same))
+
+-- from a time to itself, none is short by a segment that asks nothing
+none_at_once : (works : List Ramp) (t u : ℚ) (g : Segment) → AsksNothing g → t ≡ u
+    → ¬ IsShortBy g (point_at works t) (point_at works u)
+none_at_once works t u g ask same short =
+    let less = subst (λ x. amount (spans_of works) u <ℚ amount (spans_of works) x +ℚ segment_value g (u -ℚ t)) same short.less in
+    let from = ask.start in
+    let none : (u -ℚ t) -ℚ g.start ≡ int (pos 0) =
+    subst (λ x. (u -ℚ x) -ℚ g.start ≡ int (pos 0)) (sym same) (subst (λ x. (u -ℚ u) -ℚ x ≡ int (pos 0)) (sym from)
+    (with1 u (λ c. omega (arith, c.le, c.lt, c.same)))) in
+    at_once (amount (spans_of works) u) g.value g.slope ((u -ℚ t) -ℚ g.start) none ask.value less
+
+pub no_near_end : (works : List Ramp) (s : Stretch) (p : Point) (g : Segment) → AsksNothing g
+    → p ≡ point_at works p.time → (t : ℚ) → ¬ IsNearEnd works s p g t
+no_near_end works s p g ask at t near = elim near [
+  | inl before ↦
+      none_at_once works (p.time -ℚ g.start) p.time g ask
+      (subst (λ x. p.time -ℚ x ≡ p.time) (sym ask.start) (with1 p.time (λ c. omega (arith, c.le, c.lt, c.same))))
+      (subst (λ q. IsShortBy g (point_at works (p.time -ℚ g.start)) q) at before.0.short)
+  | inr after ↦
+      none_at_once works p.time (p.time +ℚ g.start) g ask
+      (subst (λ x. p.time ≡ p.time +ℚ x) (sym ask.start) (with1 p.time (λ c. omega (arith, c.le, c.lt, c.same))))
+      (subst (λ q. IsShortBy g q (point_at works (p.time +ℚ g.start))) at after.0.short)
+]
+
+pub points_at : (works : List Ramp) (ts : List ℚ) → EachPoint (λ p. p ≡ point_at works p.time) (map (point_at works) ts)
+points_at works [] = tt
+points_at works (t ∷ ts) = (refl, points_at works ts)

@@ -1,7 +1,6 @@
 -- The turns that are in one stretch, as a part of all of them in order.
 use Rattle.std.specs.Prelude.{◌≡◌, ℕ, zero, suc, ◌<◌, ◌≤◌, true, false, List, [], ◌∷◌, length, take, drop, get_or}
 use Rattle.std.proofs.Common.{arith, sym, subst, inl, inr, true≢false, ◌∙◌}
-use Rattle.std.specs.List.Sorted.{IsPermutation}
 use Rattle.upp_limits.specs.rational.specs.Rational.{ℚ, ◌≤ℚ◌, ◌<ℚ◌, le_q}
 use Rattle.net_model.specs.run_laws.specs.Counts.{before}
 use Rattle.upp_limits.specs.rational.proofs.Laws.{le_lt_trans, lt_le_trans, lt_irrefl, le_of_not_lt}
@@ -9,7 +8,7 @@ use Rattle.upp_limits.specs.rational.proofs.Over.{lt_q_in, lt_q_out, le_q_in, le
 use Rattle.flow_watch.specs.watch_laws.Affine.{Among}
 use Rattle.run_watch.specs.declared.watched.Stretch.{Stretch}
 use Rattle.run_watch.specs.Watching.{RiseFrom, HoldsTimes}
-use Rattle.run_watch.proofs.SortedPoints.{among_sorted, sorted_among}
+use Rattle.run_watch.specs.WatchTimes.{HaveSameTimes}
 use Rattle.run_watch.proofs.WatchedLists.{times_rise}
 
 -- ---- a part of times in order
@@ -95,10 +94,15 @@ holds s ts rest own from count l e f early begun kept late = record {
   upto = λ t m. each_kept (λ x. x ≤ℚ s.end) count rest t (λ i d a b. le_q_in (get_or rest i d) s.end (kept i d (omega arith) a)) (subst (Among t) f m);
 }
 
-pub holds_sorted : (s : Stretch) (ps ts own : List ℚ) → IsPermutation ps ts → HoldsTimes s ts own → HoldsTimes s ps own
-holds_sorted s ps ts own p h = record {
-  inside = λ t m a b. h.inside t (among_sorted ps ts t p m) a b;
-  are = λ t m. sorted_among ps ts t p (h.are t m);
-  from = h.from;
-  upto = h.upto;
+pub holds_same : (s : Stretch) (ps ts own : List ℚ) → HaveSameTimes ps ts → HoldsTimes s ts own → HoldsTimes s ps own
+holds_same s ps ts own h k = record {
+  inside = λ t m a b. k.inside t (h.into t m) a b;
+  are = λ t m. h.back t (k.are t m);
+  from = k.from;
+  upto = k.upto;
 }
+
+-- as the code reads them
+pub same_read : (turns all told sorted read : List ℚ) → told ≡ turns → all ≡ turns → read ≡ sorted → HaveSameTimes told sorted → HaveSameTimes all read
+same_read turns all told sorted read e f g h =
+    subst (λ z. HaveSameTimes z read) (e ∙ sym f) (subst (λ z. HaveSameTimes told z) (sym g) h)

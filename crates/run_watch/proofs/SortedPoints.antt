@@ -258,12 +258,6 @@ no_end ss gs works ts ps k g e f l t w =
     (subst (λ (xs : List Segment). IsShortWindow xs works ts a t) (sym g) is)
 
 -- ---- as the code finds them
-pub sorted_from : (xs items now ts : List ℚ) → items ≡ xs → IsPermutation items now → IsSorted cmp_q now → ts ≡ now → IsPermutation xs ts × IsSorted cmp_q ts
-sorted_from xs items now ts e p s f = (
-  subst (λ (us : List ℚ). IsPermutation us ts) e (subst (λ (us : List ℚ). IsPermutation items us) (sym f) p),
-  subst (IsSorted cmp_q) (sym f) s,
-)
-
 pub first_end_of : (ss : List Segment) (ps qs es fs : List Point) (k : ℕ) → ps ≡ qs → es ≡ fs → IsFirstEnd ss ss ps es k → IsFirstEnd ss ss qs fs k
 first_end_of ss ps qs es fs k e f h = subst (λ (rs : List Point). IsFirstEnd ss ss qs rs k) f (subst (λ (rs : List Point). IsFirstEnd ss ss rs es k) e h)
 

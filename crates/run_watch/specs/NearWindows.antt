@@ -1,7 +1,7 @@
 -- Windows of a stretch of which one end is one of its turns, and the other is too, or is as far away as one of the curve's
 -- segments starts: where none of these is short of work, no window of the stretch is; else the least of their ends. Own choice.
-use Rattle.std.specs.Prelude.{◌≡◌, ◌⊎◌, List, [], ◌∷◌, map, Option, Some, None, MatchOption, if◌then◌else◌}
-use Rattle.upp_limits.specs.rational.specs.Rational.{ℚ, ◌+ℚ◌, ◌-ℚ◌, ◌≤ℚ◌, lt_q, neg_ℚ}
+use Rattle.std.specs.Prelude.{◌≡◌, ◌⊎◌, pos, List, [], ◌∷◌, map, Option, Some, None, MatchOption, if◌then◌else◌}
+use Rattle.upp_limits.specs.rational.specs.Rational.{ℚ, int, ◌+ℚ◌, ◌-ℚ◌, ◌≤ℚ◌, lt_q, neg_ℚ}
 use Rattle.upp_limits.specs.rational.specs.Ratio.{SumFits}
 use Rattle.flow_watch.specs.declared.watch_laws.point.Point.{Point}
 use Rattle.flow_watch.specs.declared.watch_laws.point.Segment.{Segment}
@@ -14,6 +14,11 @@ use Rattle.run_watch.specs.WatchTimes.{point_at}
 use Rattle.run_watch.specs.IdleWindows.{IsShortWindow}
 
 -- ---- a turn and a segment
+-- the segment starts at 0, with no more than 0 there: no window without length is short by it
+pub record AsksNothing (g : Segment) : Type 0 where
+  pub start : g.start ≡ int (pos 0)
+  pub value : g.value ≤ℚ int (pos 0)
+
 -- the window from p on that is as long as the segment's start is in the stretch, and short by the segment
 pub record IsShortAfter (works : List Ramp) (s : Stretch) (p : Point) (g : Segment) : Type 0 where
   pub inside : p.time +ℚ g.start ≤ℚ s.end

@@ -8,13 +8,14 @@ ghost use Rattle.run_watch.specs.Ramps.{AreRamps};
 ghost use Rattle.run_watch.specs.Watching.{RiseFrom};
 ghost use Rattle.run_watch.specs.WatchTimes.{point_at};
 ghost use Rattle.run_watch.specs.IdleWindows.{TimeFits, SegmentsFit};
-ghost use Rattle.run_watch.specs.NearWindows.{earlier_time, IsLeast, IsShortAfter, IsShortBefore, IsEndAfter, IsEndBefore, IsNearEndBy, IsNearEndOf, EndsShort, FitsNear, FitsNearBy};
+ghost use Rattle.run_watch.specs.NearWindows.{earlier_time, AsksNothing, IsLeast, IsShortAfter, IsShortBefore, IsEndAfter, IsEndBefore, IsNearEnd, IsNearEndBy, IsNearEndOf, EndsShort, FitsNear, FitsNearBy};
 
 use crate::ramps::amount_at;
 use crate::shorts::first_end;
 use crate::span::Ramp;
 use crate::watched::Stretch;
 use crate::windows::{is_short_by, points_of};
+use flow_watch::step_lines::is_at_most;
 use flow_watch::watch_laws::{Point, Segment};
 use std::alloc::{AllocError, Global};
 use upp_limits::fraction128::{Frac, difference, is_less, sum};
@@ -86,16 +87,39 @@ fn end_after(works: &[Ramp], s: &Stretch, p: &Point, g: &Segment) -> Option<Frac
     None
 }
 
+/// Whether a segment starts at 0, with no more than 0 there: no window without length is short by it.
+fn asks_nothing(g: &Segment) -> bool
+    ensures { IsTrue result → AsksNothing g.now }
+{
+    if g.start == Frac::zero() {
+        return is_at_most(g.value, Frac::zero());
+    }
+    false
+}
+
+/// The least end of such a window that is short by the segment, with p as one end.
+fn near_end(works: &[Ramp], s: &Stretch, p: &Point, g: &Segment) -> Option<Frac>
+    requires ramps { AreRamps works.now }
+    requires fits { FitsNear works.now s.now g.now p.now }
+    requires at { p.now ≡ point_at works.now p.now.time }
+    ensures { IsLeast (IsNearEnd works.now s.now p.now g.now) result }
+{
+    if asks_nothing(g) {
+        return None;
+    }
+    earlier_time(end_before(works, s, p, g), end_after(works, s, p, g))
+}
+
 /// The least end of such a window that is short by one of the segments, with p as one end.
 fn near_end_by(works: &[Ramp], s: &Stretch, p: &Point, segments: &[Segment]) -> Option<Frac>
     requires ramps { AreRamps works.now }
     requires fits { FitsNearBy segments.now works.now s.now p.now }
+    requires at { p.now ≡ point_at works.now p.now.time }
     ensures { IsLeast (IsNearEndBy segments.now works.now s.now p.now) result }
 {
     let mut least = None;
     for g in segments {
-        let near = earlier_time(end_before(works, s, p, g), end_after(works, s, p, g));
-        least = earlier_time(least, near);
+        least = earlier_time(least, near_end(works, s, p, g));
     }
     least
 }
@@ -104,6 +128,7 @@ fn near_end_by(works: &[Ramp], s: &Stretch, p: &Point, segments: &[Segment]) -> 
 fn near_end_of(works: &[Ramp], s: &Stretch, points: &[Point], segments: &[Segment]) -> Option<Frac>
     requires ramps { AreRamps works.now }
     requires fits { EachPoint (FitsNearBy segments.now works.now s.now) points.now }
+    requires at { EachPoint (λ p. p ≡ point_at works.now p.time) points.now }
     ensures { IsLeast (IsNearEndOf segments.now works.now s.now points.now) result }
 {
     let mut least = None;

@@ -7,11 +7,13 @@ ghost use Rattle.net_model.specs.run_laws.specs.Servers as servers;
 ghost use Rattle.flow_watch.specs.watch_laws.Laws.{MayServe};
 ghost use Rattle.flow_watch.specs.watch_laws.Shorts.{IsPastEnd};
 ghost use Rattle.run_watch.specs.Watching.{RiseFrom};
+ghost use Rattle.run_watch.specs.WatchTimes.{HaveSameTimes};
 ghost use Rattle.run_watch.specs.Held.{IsSightOf, IsHeld, FindsIdle};
 ghost use Rattle.run_watch.specs.Searches.{IsPart};
 
 use crate::idle::first_in;
 use crate::watched::{Stretch, Watched, stops_of, stretches_of, turns_in, turns_of};
+use crate::windows::put_in_order;
 use std::alloc::{AllocError, Global};
 use upp_limits::fraction128::{Frac, is_less};
 use upp_limits::upp_curve::Curve;
@@ -53,6 +55,16 @@ fn part_of(sorted: &[Frac], s: &Stretch, until: &Option<Frac>) -> Stretch
     }
 }
 
+/// The turns in order, each once.
+fn in_order(alloc: Global, turns: &[Frac]) -> Result<Vec<Frac>, AllocError>
+    ensures same { IfOk result (λ v. HaveSameTimes turns.now v.items) }
+    ensures rise { IfOk result (λ v. (from : ℚ) × RiseFrom from v.items) }
+{
+    let mut sorted = Vec::from_slice(alloc, turns)?;
+    put_in_order(&mut sorted)?;
+    Ok(sorted)
+}
+
 /// The first window between two watch points of a stretch in which the server works less than its curve: with the
 /// least end, and of those with the least start. None, where none ends before `until`: then no stretch is looked at
 /// further than to its first turn at that time or later.
@@ -72,8 +84,7 @@ pub fn first_idle(
     let stops = stops_of(alloc, w)?;
     let stretches = stretches_of(alloc, w, &stops)?;
     let turns = turns_of(alloc, w, &stretches)?;
-    let mut sorted = Vec::from_slice(alloc, &turns)?;
-    sorted.sort()?;
+    let sorted = in_order(alloc, &turns)?;
     for s in &stretches {
         if is_late(until, s.start) {
             return Ok(None);

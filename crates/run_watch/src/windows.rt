@@ -58,7 +58,7 @@ fn push_moves(
 }
 
 /// Puts some times in order, each once.
-fn put_in_order(times: &mut Vec<Frac>) -> Result<(), AllocError>
+pub(crate) fn put_in_order(times: &mut Vec<Frac>) -> Result<(), AllocError>
     ensures same { OnOk result (HaveSameTimes times.old.items times.new.items) }
     ensures rise { OnOk result ((from : ℚ) × RiseFrom from times.new.items) }
 {

@@ -1,10 +1,11 @@
-use Rattle.std.proofs.Common.{◌<◌, ◌≤◌, ◌∙◌, length, map, arith, refl, sym, subst, Some}
+use Rattle.std.proofs.Common.{◌≡◌, ◌<◌, ◌≤◌, ◌∙◌, length, map, arith, refl, sym, subst, Some}
 use Rattle.upp_limits.specs.rational.specs.Rational.{ℚ}
+use Rattle.flow_watch.specs.watch_laws.Shorts.{EachPoint}
 use Rattle.run_watch.specs.WatchTimes.{point_at}
 use Rattle.run_watch.specs.IdleWindows.{IsShortWindow}
 use Rattle.run_watch.specs.NearWindows.{IsLeast, IsNearEndOf, EndsShort}
 use Rattle.run_watch.proofs.LeastTimes.{least_both, least_other}
-use Rattle.run_watch.proofs.NearWindows.{points_fit, near_as}
+use Rattle.run_watch.proofs.NearWindows.{points_fit, points_at, near_as}
 use Rattle.run_watch.proofs.SortedPoints.{rise_of, least_end, no_end, first_end_of}
 use Rattle.run_watch.proofs.near.short_end.Goals as goal
 
@@ -21,6 +22,11 @@ first_end-requires-clause-fits c =
 pub first_end-requires-clause-keys : goal.first_end-requires-clause-keys
 first_end-requires-clause-keys c =
     points_fit c.args.segments.now c.args.segments.now c.args.works.now c.args.own.now c.deref-2.result.now refl (c.deref-2.ensures.value ∙ c.in_ok-points.ensures) c.requires.segments c.requires.times
+
+pub near_end_of-near-requires-clause-at : goal.near_end_of-near-requires-clause-at
+near_end_of-near-requires-clause-at c =
+    subst (EachPoint (λ p. p ≡ point_at c.args.works.now p.time)) (sym (c.deref-3.ensures.value ∙ c.in_ok-points.ensures))
+    (points_at c.args.works.now c.args.own.now)
 
 pub returns-then-place-len : goal.returns-then-place-len
 returns-then-place-len c =

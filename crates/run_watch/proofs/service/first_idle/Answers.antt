@@ -1,11 +1,10 @@
 use Rattle.std.proofs.Common.{◌≡◌, ◌∙◌, List, pos, refl, sym, subst, ap, true≢false}
 use Rattle.upp_limits.specs.rational.specs.Rational.{ℚ, int, ◌≤ℚ◌, ◌<ℚ◌}
 use Rattle.upp_limits.specs.rational.proofs.Laws.{le_of_not_lt}
-use Rattle.run_watch.specs.Watching.{stretches, stretches_in, turns}
+use Rattle.run_watch.specs.Watching.{RiseFrom, stretches, stretches_in, turns}
 use Rattle.run_watch.specs.Searches.{FindsIn, IsLookedAt}
 use Rattle.run_watch.proofs.IdleIn.{none_idle_more, first_here, late_from, late_rest, none_at_all}
-use Rattle.run_watch.proofs.SortedPoints.{sorted_from, sorted_rise, sorted_among}
-use Rattle.run_watch.proofs.OwnTurns.{holds_sorted}
+use Rattle.run_watch.proofs.OwnTurns.{holds_same, same_read}
 use Rattle.run_watch.proofs.NearWindows.{looked_at, all_of_it}
 use Rattle.run_watch.proofs.ClearStretches.{none_found}
 use Rattle.run_watch.proofs.HeldTimes.{leaves_read, arrivals_read, stops_in_order, searched, no_time}
@@ -26,25 +25,21 @@ pub stretches_of-requires-clause-rise : goal.stretches_of-requires-clause-rise
 stretches_of-requires-clause-rise c = (int (pos 0), stops_in_order c.args.w.now c.args.curve.now c.deref.result.now c.requires (c.deref.ensures.value ∙ c.in_ok-stops.ensures))
 
 pub part_of-part-requires : goal.part_of-part-requires
-part_of-part-requires c =
-    let sorts = sorted_from c.in_ok-turns.turns.items c.in_ok-sorted.sorted.items c.sort.new.self.items c.deref-in-loop-s.result.now (c.in_ok-sorted.ensures.items ∙ c.deref-3.ensures.value) c.sort.ensures.permutation c.in_ok-sort.ensures.sorted c.deref-in-loop-s.ensures.value in
-    sorted_rise c.deref-in-loop-s.result.now sorts.1
+part_of-part-requires c = subst (λ (ts : List ℚ). (from : ℚ) × RiseFrom from ts) (sym c.deref-in-loop-s.ensures.value) c.in_ok-sorted.ensures.rise
 
 pub turns_in-own-requires : goal.turns_in-own-requires
-turns_in-own-requires c =
-    let sorts = sorted_from c.in_ok-turns.turns.items c.in_ok-sorted.sorted.items c.sort.new.self.items c.deref-in-loop-s-2.result.now (c.in_ok-sorted.ensures.items ∙ c.deref-3.ensures.value) c.sort.ensures.permutation c.in_ok-sort.ensures.sorted c.deref-in-loop-s-2.ensures.value in
-    sorted_rise c.deref-in-loop-s-2.result.now sorts.1
+turns_in-own-requires c = subst (λ (ts : List ℚ). (from : ℚ) × RiseFrom from ts) (sym c.deref-in-loop-s-2.ensures.value) c.in_ok-sorted.ensures.rise
 
 pub first_in-requires-clause-stretch : goal.first_in-requires-clause-stretch
 first_in-requires-clause-stretch c =
     let ps = c.deref-in-loop-s-3.result.now in
     let ss_is : c.deref-s-items.result.now ≡ stretches c.args.w.now = c.deref-s-items.ensures.value ∙ c.in_ok-stretches.ensures ∙ ap (λ (ts : List ℚ). stretches_in c.args.w.now ts c.args.w.now.arrivals.items) (c.deref.ensures.value ∙ c.in_ok-stops.ensures) in
     let ts_is : ps ≡ turns c.args.w.now (stretches c.args.w.now) = c.deref-in-loop-s-3.ensures.value ∙ c.in_ok-turns.ensures ∙ ap (turns c.args.w.now) (c.deref-2.ensures.value ∙ c.in_ok-stretches.ensures ∙ ap (λ (ts : List ℚ). stretches_in c.args.w.now ts c.args.w.now.arrivals.items) (c.deref.ensures.value ∙ c.in_ok-stops.ensures)) in
-    let laid = sorted_from ps c.in_ok-sorted.sorted.items c.sort.new.self.items c.deref-in-loop-s.result.now (c.in_ok-sorted.ensures.items ∙ c.deref-3.ensures.value ∙ sym c.deref-in-loop-s-3.ensures.value) c.sort.ensures.permutation c.in_ok-sort.ensures.sorted c.deref-in-loop-s.ensures.value in
-    let sorts = sorted_from ps c.in_ok-sorted.sorted.items c.sort.new.self.items c.deref-in-loop-s-2.result.now (c.in_ok-sorted.ensures.items ∙ c.deref-3.ensures.value ∙ sym c.deref-in-loop-s-3.ensures.value) c.sort.ensures.permutation c.in_ok-sort.ensures.sorted c.deref-in-loop-s-2.ensures.value in
-    let own = holds_sorted c.part_of-part.result ps c.deref-in-loop-s-2.result.now c.turns_in-own.result.now sorts.0 c.turns_in-own.ensures.holds in
+    let laid = same_read c.in_ok-turns.turns.items ps c.deref-3.result.now c.in_ok-sorted.sorted.items c.deref-in-loop-s.result.now c.deref-3.ensures.value c.deref-in-loop-s-3.ensures.value c.deref-in-loop-s.ensures.value c.in_ok-sorted.ensures.same in
+    let sorts = same_read c.in_ok-turns.turns.items ps c.deref-3.result.now c.in_ok-sorted.sorted.items c.deref-in-loop-s-2.result.now c.deref-3.ensures.value c.deref-in-loop-s-3.ensures.value c.deref-in-loop-s-2.ensures.value c.in_ok-sorted.ensures.same in
+    let own = holds_same c.part_of-part.result ps c.deref-in-loop-s-2.result.now c.turns_in-own.result.now sorts c.turns_in-own.ensures.holds in
     let looks : IsLookedAt c.args.w.now c.part_of-part.result c.turns_in-own.result.now ps = looked_at c.args.w.now c.args.until.now c.deref-s-items.result.now c.loop-s.s-index c.s-item.result c.part_of-part.result c.deref-in-loop-s.result.now c.turns_in-own.result.now ps ss_is c.loop-s-test.true c.s-item.is ts_is
-    (λ h. true≢false (sym (c.if-is_late.ensures.1 h))) c.part_of-part.ensures (λ t m. sorted_among ps c.deref-in-loop-s.result.now t laid.0 m) own c.turns_in-own.ensures.rise in
+    (λ h. true≢false (sym (c.if-is_late.ensures.1 h))) c.part_of-part.ensures (λ t m. laid.back t m) own c.turns_in-own.ensures.rise in
     looks
 
 pub returns-then-is_late : goal.returns-then-is_late
@@ -58,11 +53,11 @@ returns-in-Some c = λ server V S M.
     let some : int (pos 0) <ℚ c.args.w.now.end = subst (λ z. z <ℚ c.args.w.now.end) c.zero.ensures (c.if-not-is_less.ensures.less.0 refl) in
     let ss_is : c.deref-s-items.result.now ≡ stretches c.args.w.now = c.deref-s-items.ensures.value ∙ c.in_ok-stretches.ensures ∙ ap (λ (ts : List ℚ). stretches_in c.args.w.now ts c.args.w.now.arrivals.items) (c.deref.ensures.value ∙ c.in_ok-stops.ensures) in
     let ts_is : ps ≡ turns c.args.w.now (stretches c.args.w.now) = c.deref-in-loop-s-3.ensures.value ∙ c.in_ok-turns.ensures ∙ ap (turns c.args.w.now) (c.deref-2.ensures.value ∙ c.in_ok-stretches.ensures ∙ ap (λ (ts : List ℚ). stretches_in c.args.w.now ts c.args.w.now.arrivals.items) (c.deref.ensures.value ∙ c.in_ok-stops.ensures)) in
-    let laid = sorted_from ps c.in_ok-sorted.sorted.items c.sort.new.self.items c.deref-in-loop-s.result.now (c.in_ok-sorted.ensures.items ∙ c.deref-3.ensures.value ∙ sym c.deref-in-loop-s-3.ensures.value) c.sort.ensures.permutation c.in_ok-sort.ensures.sorted c.deref-in-loop-s.ensures.value in
-    let sorts = sorted_from ps c.in_ok-sorted.sorted.items c.sort.new.self.items c.deref-in-loop-s-2.result.now (c.in_ok-sorted.ensures.items ∙ c.deref-3.ensures.value ∙ sym c.deref-in-loop-s-3.ensures.value) c.sort.ensures.permutation c.in_ok-sort.ensures.sorted c.deref-in-loop-s-2.ensures.value in
-    let own = holds_sorted c.part_of-part.result ps c.deref-in-loop-s-2.result.now c.turns_in-own.result.now sorts.0 c.turns_in-own.ensures.holds in
+    let laid = same_read c.in_ok-turns.turns.items ps c.deref-3.result.now c.in_ok-sorted.sorted.items c.deref-in-loop-s.result.now c.deref-3.ensures.value c.deref-in-loop-s-3.ensures.value c.deref-in-loop-s.ensures.value c.in_ok-sorted.ensures.same in
+    let sorts = same_read c.in_ok-turns.turns.items ps c.deref-3.result.now c.in_ok-sorted.sorted.items c.deref-in-loop-s-2.result.now c.deref-3.ensures.value c.deref-in-loop-s-3.ensures.value c.deref-in-loop-s-2.ensures.value c.in_ok-sorted.ensures.same in
+    let own = holds_same c.part_of-part.result ps c.deref-in-loop-s-2.result.now c.turns_in-own.result.now sorts c.turns_in-own.ensures.holds in
     let looks : IsLookedAt c.args.w.now c.part_of-part.result c.turns_in-own.result.now ps = looked_at c.args.w.now c.args.until.now c.deref-s-items.result.now c.loop-s.s-index c.s-item.result c.part_of-part.result c.deref-in-loop-s.result.now c.turns_in-own.result.now ps ss_is c.loop-s-test.true c.s-item.is ts_is
-    (λ h. true≢false (sym (c.if-is_late.ensures.1 h))) c.part_of-part.ensures (λ t m. sorted_among ps c.deref-in-loop-s.result.now t laid.0 m) own c.turns_in-own.ensures.rise in
+    (λ h. true≢false (sym (c.if-is_late.ensures.1 h))) c.part_of-part.ensures (λ t m. laid.back t m) own c.turns_in-own.ensures.rise in
     first_here server V c.args.w.now c.args.curve.now ps c.turns_in-own.result.now c.deref-s-items.result.now c.loop-s.s-index c.s-item.result c.part_of-part.result c.in-Some.found.0 c.in-Some.found.1
     (searched server V c.args.w.now c.args.curve.now ps c.requires S M some ts_is) ss_is c.loop-s-test.true c.s-item.is c.part_of-part.ensures.start (c.loop-s.invariant server V S M) looks
     (subst (FindsIn c.args.w.now c.args.curve.now c.part_of-part.result c.turns_in-own.result.now ps) c.in-Some.is (c.in_ok-found.ensures server V S M))
@@ -73,11 +68,11 @@ returns-then-is_late-2 c = λ server V S M.
     let some : int (pos 0) <ℚ c.args.w.now.end = subst (λ z. z <ℚ c.args.w.now.end) c.zero.ensures (c.if-not-is_less.ensures.less.0 refl) in
     let ss_is : c.deref-s-items.result.now ≡ stretches c.args.w.now = c.deref-s-items.ensures.value ∙ c.in_ok-stretches.ensures ∙ ap (λ (ts : List ℚ). stretches_in c.args.w.now ts c.args.w.now.arrivals.items) (c.deref.ensures.value ∙ c.in_ok-stops.ensures) in
     let ts_is : ps ≡ turns c.args.w.now (stretches c.args.w.now) = c.deref-in-loop-s-3.ensures.value ∙ c.in_ok-turns.ensures ∙ ap (turns c.args.w.now) (c.deref-2.ensures.value ∙ c.in_ok-stretches.ensures ∙ ap (λ (ts : List ℚ). stretches_in c.args.w.now ts c.args.w.now.arrivals.items) (c.deref.ensures.value ∙ c.in_ok-stops.ensures)) in
-    let laid = sorted_from ps c.in_ok-sorted.sorted.items c.sort.new.self.items c.deref-in-loop-s.result.now (c.in_ok-sorted.ensures.items ∙ c.deref-3.ensures.value ∙ sym c.deref-in-loop-s-3.ensures.value) c.sort.ensures.permutation c.in_ok-sort.ensures.sorted c.deref-in-loop-s.ensures.value in
-    let sorts = sorted_from ps c.in_ok-sorted.sorted.items c.sort.new.self.items c.deref-in-loop-s-2.result.now (c.in_ok-sorted.ensures.items ∙ c.deref-3.ensures.value ∙ sym c.deref-in-loop-s-3.ensures.value) c.sort.ensures.permutation c.in_ok-sort.ensures.sorted c.deref-in-loop-s-2.ensures.value in
-    let own = holds_sorted c.part_of-part.result ps c.deref-in-loop-s-2.result.now c.turns_in-own.result.now sorts.0 c.turns_in-own.ensures.holds in
+    let laid = same_read c.in_ok-turns.turns.items ps c.deref-3.result.now c.in_ok-sorted.sorted.items c.deref-in-loop-s.result.now c.deref-3.ensures.value c.deref-in-loop-s-3.ensures.value c.deref-in-loop-s.ensures.value c.in_ok-sorted.ensures.same in
+    let sorts = same_read c.in_ok-turns.turns.items ps c.deref-3.result.now c.in_ok-sorted.sorted.items c.deref-in-loop-s-2.result.now c.deref-3.ensures.value c.deref-in-loop-s-3.ensures.value c.deref-in-loop-s-2.ensures.value c.in_ok-sorted.ensures.same in
+    let own = holds_same c.part_of-part.result ps c.deref-in-loop-s-2.result.now c.turns_in-own.result.now sorts c.turns_in-own.ensures.holds in
     let looks : IsLookedAt c.args.w.now c.part_of-part.result c.turns_in-own.result.now ps = looked_at c.args.w.now c.args.until.now c.deref-s-items.result.now c.loop-s.s-index c.s-item.result c.part_of-part.result c.deref-in-loop-s.result.now c.turns_in-own.result.now ps ss_is c.loop-s-test.true c.s-item.is ts_is
-    (λ h. true≢false (sym (c.if-is_late.ensures.1 h))) c.part_of-part.ensures (λ t m. sorted_among ps c.deref-in-loop-s.result.now t laid.0 m) own c.turns_in-own.ensures.rise in
+    (λ h. true≢false (sym (c.if-is_late.ensures.1 h))) c.part_of-part.ensures (λ t m. laid.back t m) own c.turns_in-own.ensures.rise in
     let R = searched server V c.args.w.now c.args.curve.now ps c.requires S M some ts_is in
     let none = none_found server V c.args.w.now c.args.curve.now ps c.turns_in-own.result.now c.part_of-part.result R looks
     (subst (FindsIn c.args.w.now c.args.curve.now c.part_of-part.result c.turns_in-own.result.now ps) c.in_default.is (c.in_ok-found.ensures server V S M)) in
@@ -90,11 +85,11 @@ loop-s-preserved c = λ server V S M.
     let some : int (pos 0) <ℚ c.args.w.now.end = subst (λ z. z <ℚ c.args.w.now.end) c.zero.ensures (c.if-not-is_less.ensures.less.0 refl) in
     let ss_is : c.deref-s-items.result.now ≡ stretches c.args.w.now = c.deref-s-items.ensures.value ∙ c.in_ok-stretches.ensures ∙ ap (λ (ts : List ℚ). stretches_in c.args.w.now ts c.args.w.now.arrivals.items) (c.deref.ensures.value ∙ c.in_ok-stops.ensures) in
     let ts_is : ps ≡ turns c.args.w.now (stretches c.args.w.now) = c.deref-in-loop-s-3.ensures.value ∙ c.in_ok-turns.ensures ∙ ap (turns c.args.w.now) (c.deref-2.ensures.value ∙ c.in_ok-stretches.ensures ∙ ap (λ (ts : List ℚ). stretches_in c.args.w.now ts c.args.w.now.arrivals.items) (c.deref.ensures.value ∙ c.in_ok-stops.ensures)) in
-    let laid = sorted_from ps c.in_ok-sorted.sorted.items c.sort.new.self.items c.deref-in-loop-s.result.now (c.in_ok-sorted.ensures.items ∙ c.deref-3.ensures.value ∙ sym c.deref-in-loop-s-3.ensures.value) c.sort.ensures.permutation c.in_ok-sort.ensures.sorted c.deref-in-loop-s.ensures.value in
-    let sorts = sorted_from ps c.in_ok-sorted.sorted.items c.sort.new.self.items c.deref-in-loop-s-2.result.now (c.in_ok-sorted.ensures.items ∙ c.deref-3.ensures.value ∙ sym c.deref-in-loop-s-3.ensures.value) c.sort.ensures.permutation c.in_ok-sort.ensures.sorted c.deref-in-loop-s-2.ensures.value in
-    let own = holds_sorted c.part_of-part.result ps c.deref-in-loop-s-2.result.now c.turns_in-own.result.now sorts.0 c.turns_in-own.ensures.holds in
+    let laid = same_read c.in_ok-turns.turns.items ps c.deref-3.result.now c.in_ok-sorted.sorted.items c.deref-in-loop-s.result.now c.deref-3.ensures.value c.deref-in-loop-s-3.ensures.value c.deref-in-loop-s.ensures.value c.in_ok-sorted.ensures.same in
+    let sorts = same_read c.in_ok-turns.turns.items ps c.deref-3.result.now c.in_ok-sorted.sorted.items c.deref-in-loop-s-2.result.now c.deref-3.ensures.value c.deref-in-loop-s-3.ensures.value c.deref-in-loop-s-2.ensures.value c.in_ok-sorted.ensures.same in
+    let own = holds_same c.part_of-part.result ps c.deref-in-loop-s-2.result.now c.turns_in-own.result.now sorts c.turns_in-own.ensures.holds in
     let looks : IsLookedAt c.args.w.now c.part_of-part.result c.turns_in-own.result.now ps = looked_at c.args.w.now c.args.until.now c.deref-s-items.result.now c.loop-s.s-index c.s-item.result c.part_of-part.result c.deref-in-loop-s.result.now c.turns_in-own.result.now ps ss_is c.loop-s-test.true c.s-item.is ts_is
-    (λ h. true≢false (sym (c.if-is_late.ensures.1 h))) c.part_of-part.ensures (λ t m. sorted_among ps c.deref-in-loop-s.result.now t laid.0 m) own c.turns_in-own.ensures.rise in
+    (λ h. true≢false (sym (c.if-is_late.ensures.1 h))) c.part_of-part.ensures (λ t m. laid.back t m) own c.turns_in-own.ensures.rise in
     let R = searched server V c.args.w.now c.args.curve.now ps c.requires S M some ts_is in
     let none = none_found server V c.args.w.now c.args.curve.now ps c.turns_in-own.result.now c.part_of-part.result R looks
     (subst (FindsIn c.args.w.now c.args.curve.now c.part_of-part.result c.turns_in-own.result.now ps) c.in_default.is (c.in_ok-found.ensures server V S M)) in
