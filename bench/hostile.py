@@ -90,13 +90,27 @@ def shared_fifo(period: str) -> str:
     return server("s1", "100", gate(1000, 250)) + flow("f0", stair(period), ["s1"]) + flow("f1", bucket(1, "1/100"), ["s1"])
 
 
-def two_gates(first: tuple, second: tuple, rates: tuple) -> str:
+def two_gates(first: tuple, second: tuple, rates: tuple, burst: int = 1) -> str:
     """A path over two gates: their convolution."""
     return (
         server("s1", rates[0], gate(*first))
         + server("s2", rates[1], gate(*second))
-        + flow("f0", bucket(1, "1/1000"), ["s1", "s2"])
+        + flow("f0", bucket(burst, "1/1000"), ["s1", "s2"], burst)
     )
+
+
+def gate_above_bucket() -> str:
+    """A gate whose queue 0 has a listed curve of a tail of nearly its cycle, above a bucket."""
+    return (
+        server("s1", "819201/8192", gate(1000, 250), PRIORITY)
+        + flow("f0", listed([(0, 0, 1)], (0, "1000000001/1000000", 1)), ["s1:0"])
+        + flow("f1", bucket(1, "1/100"), ["s1:1"])
+    )
+
+
+def waiting_gate(latency_time: int) -> str:
+    """Its closure is the zero curve, since it is 0 at first."""
+    return f"show close(max(gate(1, 2, 1), latency(1, {latency_time})))\n"
 
 
 def closed_steps(n: int) -> str:
@@ -236,6 +250,22 @@ CASES = {
     "script: a stair's lesser with a gate of another period": (
         "curve", "rate min(shift(stair(11690711, 680291/596, 0), 17179869185/17179869184), gate(1/1024, 3/7, 3/28))\n", 7),
     "script: a closure of a closure": ("curve", "show close(conv(stair(1, 7, 0), stair(1, 11, 3)))\n", 0),
+    "script: a stair less a number, and a gate of nearly its rate": (
+        "curve", "rate conv(posminus(stair(1, 8388609/8388608, 0), 501), gate(6, 2001, 2001/4))\n", 7),
+    "script: a bucket and a sum of two long stairs": ("curve", "rate conv(bucket(1, 1), sum(stair(1, 150000, 0), stair(1, 150001, 0)))\n", 0),
+    "script: the closure of a gate that waits, wide rates": (
+        "curve",
+        "let a = close(sum(bucket(1/3, 0), sum(latency(12, 1024), min(shift(latency(12, 726), 676572/731), "
+        "conv(gate(1/1024, 3/7, 3/28), bucket(0, 967628/19))))))\n",
+        0,
+    ),
+    "script: the closure of a gate that waits, 250": ("curve", waiting_gate(250), 0),
+    "script: the closure of a gate that waits, 1000": ("curve", waiting_gate(1000), 0),
+    "script: the closure of a gate that waits, 2000": ("curve", waiting_gate(2000), 0),
+    "gates of cycles 10000001/10000 and 1000": ("analyse", two_gates(("10000001/10000", 250), (1000, 250), ("100", "101"), 10), 7),
+    "gates of cycles 1000000000039/1000000000 and 999": (
+        "analyse", two_gates(("1000000000039/1000000000", 250), (999, 250), ("100", "101"), 10), 7),
+    "priority gate, a list of tail 1000000001/1000000 above a bucket": ("analyse", gate_above_bucket(), None),
 }
 
 
