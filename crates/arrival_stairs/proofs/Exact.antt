@@ -1,5 +1,5 @@
 -- Where the walk goes up to the horizon the excess is that of the walk, and exact.
-use Rattle.std.specs.Prelude.{◌≡◌, ℕ, zero, suc, ◌+◌, ◌-◌, ◌*◌, ◌^◌, ◌<◌, ◌≤◌, max, List, length, get_or, [], ◌∷◌}
+use Rattle.std.specs.Prelude.{◌≡◌, ℕ, zero, suc, ◌+◌, ◌-◌, ◌*◌, ◌^◌, ◌<◌, ◌≤◌, max, min, List, length, get_or, [], ◌∷◌}
 use Rattle.std.proofs.Common.{arith, ap, sym, ◌∙◌, refl, subst, inl, inr}
 use Rattle.std.proofs.lemmas.Bool.{cases_lt}
 use Rattle.std.proofs.lemmas.List.{get_or-map, length-map}
@@ -12,13 +12,13 @@ use Rattle.arrival_lines.specs.Grid.{grain, bits, speed, micros, line_value, par
 use Rattle.arrival_lines.specs.Steps.{AreSteps}
 use Rattle.arrival_lines.specs.declared.grid.Line.{Line}
 use Rattle.arrival_lines.proofs.Units.{bits_add, bits_le, micros_le, micros_nonneg, one_grain, speed_le, up_covers}
-use Rattle.line_heights.specs.Greatest.{IsBelow, IsGreatestBetween}
-use Rattle.line_heights.proofs.Split.{below_more}
+use Rattle.arrival_stairs.specs.Greatest.{IsBelow, IsGreatestBetween}
+use Rattle.arrival_stairs.proofs.Split.{below_more}
 use Rattle.arrival_stairs.specs.Stairs.{bundles_at, bundle_level, bundle_part, levels_at, AreBundles}
 use Rattle.arrival_stairs.specs.Ahead.{IsAheadUpTo}
 use Rattle.arrival_stairs.specs.Jumps.{jump_count}
 use Rattle.arrival_stairs.specs.BelowLines.{line_parts}
-use Rattle.arrival_stairs.specs.Horizon.{IsExcessBy, IsHorizon, IsSlowBurst, IsTailOfFirst, down_at}
+use Rattle.arrival_stairs.specs.Horizon.{IsHorizon, IsSlowBurst, IsTailOfFirst, down_at}
 use Rattle.arrival_stairs.specs.StairExcess.{IsLastWalked, IsStairExcess, line_ahead}
 use Rattle.arrival_stairs.specs.declared.stairs.Bundle.{Bundle}
 use Rattle.arrival_stairs.proofs.Risen.{bundle_rises}
@@ -28,6 +28,14 @@ use Rattle.arrival_stairs.proofs.Tails.{no_line, line_tail, tail_is, tail_there}
 use Rattle.arrival_stairs.proofs.Ceilings.{ceil_most}
 use Rattle.arrival_stairs.proofs.NoJumps.{none_at_0}
 use Rattle.arrival_stairs.proofs.UnderLines.{bundles_below_lines}
+
+-- the greater one of the walk up to a time and of the lines from there on, at most so many grains
+pub record IsExcessBy (bundles : List Bundle) (steps : List Line) (rate most end x : ℕ) : Type 0 where
+  pub walked : ℕ
+  pub ahead : IsAheadUpTo bundles rate end walked
+  pub later : ℕ
+  pub tail : IsTailOfFirst steps rate most end (length steps) later
+  pub is : x ≡ min (max walked later) most
 
 -- grains less than a grain apart
 pub within_grain : (a b : ℕ) (u : ℚ) → bits a +ℚ u <ℚ (bits b +ℚ u) +ℚ grain → a ≤ b

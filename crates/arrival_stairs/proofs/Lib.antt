@@ -1,3 +1,9 @@
+pub mod Small
+pub mod Scaled
+pub mod Bent
+pub mod Split
+pub mod Most
+pub mod Added
 pub mod Starts
 pub mod Risen
 pub mod Frozen
@@ -10,3 +16,6 @@ pub mod NoJumps
 pub mod MoreJumps
 pub mod Ceilings
 pub mod OneExcess
+pub mod Past
+pub mod Lined
+pub mod Leasts

@@ -1,11 +1,10 @@
 -- When lines that grow slower than a rate meet it.
-use Rattle.std.specs.Prelude.{◌≡◌, ◌⊎◌, ℕ, ◌+◌, ◌-◌, ◌*◌, ◌^◌, ◌<◌, ◌≤◌, max, min, List, length, get_or}
+use Rattle.std.specs.Prelude.{◌≡◌, ◌⊎◌, ℕ, ◌+◌, ◌^◌, ◌<◌, ◌≤◌, max, min, List, length, get_or}
 use Rattle.std.proofs.Common.{arith, ap, ◌∙◌, refl, subst, inl, inr}
-use Rattle.std.specs.Int.{div_ceil}
 use Rattle.std.proofs.lemmas.Bool.{cases_lt}
 use Rattle.std.proofs.lemmas.List.{get_or_default}
 use Rattle.arrival_lines.specs.declared.grid.Line.{Line}
-use Rattle.line_heights.specs.Greatest.{IsGreatestBetween}
+use Rattle.arrival_stairs.specs.Greatest.{IsGreatestBetween}
 use Rattle.arrival_stairs.specs.Stairs.{levels_at}
 use Rattle.arrival_stairs.specs.Horizon.{IsDown, IsHorizon, down_at}
 use Rattle.arrival_stairs.specs.declared.stairs.Bundle.{Bundle}

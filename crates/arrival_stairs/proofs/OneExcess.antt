@@ -1,23 +1,20 @@
 -- Of the same stairs and paces there is one excess over a rate.
-use Rattle.std.specs.Prelude.{◌≡◌, ℕ, ◌+◌, ◌<◌, ◌≤◌, max, List, [], ◌∷◌, map}
+use Rattle.std.specs.Prelude.{◌≡◌, ℕ, ◌+◌, ◌≤◌, List, [], ◌∷◌, map}
 use Rattle.std.proofs.Common.{arith, sym, ap, ◌∙◌, refl, subst, inl, inr}
 use Rattle.std.specs.List.{sum_by}
 use Rattle.std.proofs.lemmas.Bool.{cases_lt}
 use Rattle.std.proofs.lemmas.List.Sums.{sum_by-cons}
 use Rattle.min_plus.specs.rational.specs.Rational.{ℚ, ◌+ℚ◌, ◌*ℚ◌, ◌≤ℚ◌, ◌<ℚ◌}
-use Rattle.min_plus.specs.rational.proofs.Laws.{le_trans}
 use Rattle.min_plus.specs.Functions.{zero_q}
 use Rattle.arrival_lines.specs.Grid.{grain, bits, speed}
-use Rattle.arrival_lines.specs.declared.grid.Line.{Line}
 use Rattle.arrival_lines.specs.declared.grid.Part.{Part}
 use Rattle.arrival_stairs.specs.Ahead.{IsAheadUpTo}
 use Rattle.arrival_stairs.specs.BelowLines.{stair_rate, stair_burst, line_part, line_parts}
 use Rattle.arrival_stairs.specs.Jumps.{stair_jump_count, bundle_jump_count, jump_count}
 use Rattle.arrival_stairs.specs.Stairs.{stairs_at, capped, bundle_at, bundles_at}
-use Rattle.arrival_stairs.specs.StairExcess.{ExcessIsOne, IsLastWalked, IsStairExcess, IsTail, line_ahead}
+use Rattle.arrival_stairs.specs.StairExcess.{ExcessIsOne, IsLastWalked, IsStairExcess, IsTail}
 use Rattle.arrival_stairs.specs.Views.{Bunch, bunch_of, bunches}
 use Rattle.arrival_stairs.specs.declared.stairs.Bundle.{Bundle}
-use Rattle.arrival_stairs.specs.declared.stairs.Stair.{Stair}
 use Rattle.arrival_stairs.proofs.Exact.{within_grain, near_below}
 
 -- ---- what bundles are seen by

@@ -1,5 +1,5 @@
 -- From a time on a line that grows no faster than a rate is no further above it than then.
-use Rattle.std.specs.Prelude.{◌≡◌, ℕ, zero, suc, ◌+◌, ◌-◌, ◌*◌, ◌^◌, ◌<◌, ◌≤◌, max, min, List, [], ◌∷◌, length, get_or}
+use Rattle.std.specs.Prelude.{◌≡◌, ℕ, zero, suc, ◌+◌, ◌-◌, ◌*◌, ◌^◌, ◌<◌, ◌≤◌, min, List, [], ◌∷◌, length, get_or}
 use Rattle.std.proofs.Common.{arith, ap, sym, ◌∙◌, refl, subst, inl, inr}
 use Rattle.std.specs.Int.{div_ceil}
 use Rattle.std.proofs.lemmas.Bool.{cases_lt}
@@ -12,12 +12,10 @@ use Rattle.arrival_lines.specs.Steps.{AreSteps}
 use Rattle.arrival_lines.specs.declared.grid.Line.{Line}
 use Rattle.arrival_lines.specs.declared.grid.Part.{Part}
 use Rattle.arrival_lines.proofs.Units.{bits_add, bits_le, speed_add, speed_nonneg, brings, up_covers}
-use Rattle.line_heights.specs.Greatest.{IsBelow}
-use Rattle.line_heights.proofs.Split.{below_more}
+use Rattle.arrival_stairs.proofs.Split.{below_more}
 use Rattle.arrival_stairs.specs.Horizon.{IsOneAhead, IsSlowBurst, IsTailOfFirst}
 use Rattle.arrival_stairs.specs.Stairs.{bundles_at}
 use Rattle.arrival_stairs.specs.StairExcess.{ExcessIsABound, IsTail, line_ahead}
-use Rattle.arrival_stairs.specs.declared.stairs.Bundle.{Bundle}
 use Rattle.arrival_stairs.proofs.Ceilings.{ceil_most}
 use Rattle.arrival_stairs.proofs.UnderLines.{bundles_below_lines}
 

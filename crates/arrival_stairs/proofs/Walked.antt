@@ -16,9 +16,9 @@ use Rattle.arrival_lines.specs.Steps.{burst_with, rate_with, most_burst, most_ra
 use Rattle.arrival_lines.specs.declared.grid.Line.{Line}
 use Rattle.arrival_lines.specs.declared.grid.Part.{Part}
 use Rattle.arrival_lines.proofs.Units.{micros_le, micros_nonneg}
-use Rattle.line_heights.specs.Heights.{AreSmall}
-use Rattle.line_heights.specs.Greatest.{IsBelow, IsNear, IsGreatestBetween}
-use Rattle.line_heights.proofs.Split.{below_more, nearer}
+use Rattle.arrival_stairs.specs.Heights.{AreSmall}
+use Rattle.arrival_stairs.specs.Greatest.{IsBelow, IsNear, IsGreatestBetween}
+use Rattle.arrival_stairs.proofs.Split.{below_more, nearer}
 use Rattle.arrival_stairs.specs.Stairs.{bundles_at, bundle_level, level_part, bundle_part, levels_at, AreBundles}
 use Rattle.arrival_stairs.specs.Jumps.{rise_of, risen, AreJumps, AreInTime}
 use Rattle.arrival_stairs.specs.Ahead.{IsAheadUpTo}
@@ -307,38 +307,55 @@ from_here jumps k order inside i d h =
     let g = ap (λ j. j.time) e in
     omega (arith, a, f, g)
 
-pub one_more_jump : (bundles : List Bundle) (jumps : List Jump) (rate end k begin most x : ℕ) (levels more : List Part) → AreBundles bundles → AreJumps bundles end jumps → AreInTime jumps
-    → k < length jumps → let j = jump_at jumps k in IsGreatestBetween levels rate begin j.time x → more ≡ set levels j.bundle (raised (part_in levels j.bundle) j.frame)
-    → IsWalked bundles jumps rate end k begin most levels → IsWalked bundles jumps rate end (k + 1) j.time (max most x) more
-one_more_jump bundles jumps rate end k begin most x levels more are all order inside greatest e so_far =
-    let j = jump_at jumps k in
-    let is = all.each k no_jump inside in
-    let c = so_far.are.count in
-    let next = from_here jumps k order inside in
-    record {
-      are = next_levels bundles jumps k levels more inside is.bundle e so_far.are;
-      small = next_small bundles k levels more j.bundle j.frame (let b = is.bundle in omega (arith, b, c)) is.frame e so_far.small;
-      past = All-more (λ i. i.time ≤ j.time) jumps k no_jump inside
-          (All-weaker (λ i. i.time ≤ begin) (λ i. i.time ≤ j.time) (λ i h. let b = begin_before in omega (arith, b, h)) (take k jumps) so_far.past) (omega arith);
-      coming = λ i d h.
-          let l = length-drop (k + 1) jumps in
-          let f = ap (λ j. j.time) (get_or-drop (k + 1) jumps i d) in
-          let a = order k (k + 1 + i) d (omega arith) (omega (arith, h, l)) in
-          let g = ap (λ j. j.time) (get_or_default jumps k d no_jump inside) in
-          omega (arith, f, a, g);
-      within = is.time;
-      over = over_next bundles jumps rate end k begin most j.time x levels are all so_far is.time next greatest;
-      near = near_next bundles jumps rate end k begin most j.time x levels are all so_far is.time next greatest;
-    }
-  where
-    begin_before : begin ≤ (jump_at jumps k).time
-    begin_before =
-        let l = length-drop k jumps in
-        let a = so_far.coming 0 no_jump (omega (arith, l, inside)) in
-        let e = ap (λ j. j.time) (get_or-drop k jumps 0 no_jump) in
-        let n : k + 0 ≡ k = omega arith in
-        let f = ap (λ (i : ℕ). (get_or jumps i no_jump).time) n in
-        omega (arith, a, e, f)
+module _ (bundles : List Bundle) (jumps : List Jump) (rate end k begin most : ℕ) (levels more : List Part) (all : AreJumps bundles end jumps) (order : AreInTime jumps)
+    (inside : k < length jumps) (e : more ≡ set levels (jump_at jumps k).bundle (raised (part_in levels (jump_at jumps k).bundle) (jump_at jumps k).frame))
+    (so_far : IsWalked bundles jumps rate end k begin most levels) where
+  begin_before : begin ≤ (jump_at jumps k).time
+  begin_before =
+      let l = length-drop k jumps in
+      let a = so_far.coming 0 no_jump (omega (arith, l, inside)) in
+      let f = ap (λ j. j.time) (get_or-drop k jumps 0 no_jump) in
+      let n : k + 0 ≡ k = omega arith in
+      let g = ap (λ (i : ℕ). (get_or jumps i no_jump).time) n in
+      omega (arith, a, f, g)
+
+  -- by how much the bundles are ahead before it
+  next_walked : (next : ℕ) → ((t : ℚ) → zero_q ≤ℚ t → t <ℚ micros (jump_at jumps k).time → IsBelow (bundles_at bundles) rate next t)
+      → (0 < next → IsNear (bundles_at bundles) rate next zero_q (micros end)) → IsWalked bundles jumps rate end (k + 1) (jump_at jumps k).time next more
+  next_walked next over near =
+      let j = jump_at jumps k in
+      let is = all.each k no_jump inside in
+      let c = so_far.are.count in
+      record {
+        are = next_levels bundles jumps k levels more inside is.bundle e so_far.are;
+        small = next_small bundles k levels more j.bundle j.frame (let b = is.bundle in omega (arith, b, c)) is.frame e so_far.small;
+        past = All-more (λ i. i.time ≤ j.time) jumps k no_jump inside
+            (All-weaker (λ i. i.time ≤ begin) (λ i. i.time ≤ j.time) (λ i h. let b = begin_before in omega (arith, b, h)) (take k jumps) so_far.past) (omega arith);
+        coming = λ i d h.
+            let l = length-drop (k + 1) jumps in
+            let f = ap (λ j. j.time) (get_or-drop (k + 1) jumps i d) in
+            let a = order k (k + 1 + i) d (omega arith) (omega (arith, h, l)) in
+            let g = ap (λ j. j.time) (get_or_default jumps k d no_jump inside) in
+            omega (arith, f, a, g);
+        within = is.time;
+        over = over;
+        near = near;
+      }
+
+  pub one_more_jump : (x : ℕ) → AreBundles bundles → IsGreatestBetween levels rate begin (jump_at jumps k).time x
+      → IsWalked bundles jumps rate end (k + 1) (jump_at jumps k).time (max most x) more
+  one_more_jump x are greatest =
+      let j = jump_at jumps k in
+      let is = all.each k no_jump inside in
+      let next = from_here jumps k order inside in
+      next_walked (max most x) (over_next bundles jumps rate end k begin most j.time x levels are all so_far is.time next greatest)
+      (near_next bundles jumps rate end k begin most j.time x levels are all so_far is.time next greatest)
+
+  -- at the same time
+  pub same_jump : (jump_at jumps k).time ≤ begin → IsWalked bundles jumps rate end (k + 1) (jump_at jumps k).time most more
+  same_jump late =
+      let same : begin ≡ (jump_at jumps k).time = let b = begin_before in omega (arith, b, late) in
+      next_walked most (λ t on h. so_far.over t on (subst (λ (n : ℕ). t <ℚ micros n) (sym same) h)) so_far.near
 
 pub begins_before : (bundles : List Bundle) (jumps : List Jump) (rate end k begin most : ℕ) (levels : List Part) → k < length jumps
     → IsWalked bundles jumps rate end k begin most levels → begin ≤ (jump_at jumps k).time

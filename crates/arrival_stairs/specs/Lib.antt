@@ -1,3 +1,6 @@
+pub mod Heights
+pub mod Bends
+pub mod Greatest
 pub mod Stairs
 pub mod Views
 pub mod Jumps
@@ -6,3 +9,6 @@ pub mod Raised
 pub mod BelowLines
 pub mod StairExcess
 pub mod Horizon
+pub mod Promises
+pub mod Stays
+pub mod Queues

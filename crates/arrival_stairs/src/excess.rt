@@ -1,21 +1,17 @@
 //! How far bundles are above a rate at most: the walk up to a time, and lines from there on.
 
-ghost use Rattle.std.specs.Prelude.{◌≡◌, ◌-◌, ◌*◌, ◌^◌, ◌<◌, ◌≤◌, max, min, length, IfOk};
-ghost use Rattle.std.specs.Int.{div_ceil};
+ghost use Rattle.std.specs.Prelude.{◌≡◌, ◌^◌, ◌<◌, ◌≤◌, List, length};
 ghost use Rattle.arrival_lines.specs.Steps.{AreSteps};
 ghost use Rattle.arrival_stairs.specs.BelowLines.{BundlesBelowLines, line_parts};
-ghost use Rattle.arrival_stairs.specs.Horizon.{IsExcessBy, IsSlowBurst, IsTailOfFirst};
-ghost use Rattle.arrival_stairs.specs.Jumps.{jump_count};
+ghost use Rattle.arrival_stairs.specs.Heights.{AreMoments};
+ghost use Rattle.arrival_stairs.specs.Horizon.{IsEnd, IsSlowBurst, IsTailOfFirst, IsWalk};
 ghost use Rattle.arrival_stairs.specs.Stairs.{AreBundles};
 ghost use Rattle.arrival_stairs.specs.StairExcess.{ExcessIsABound, ExcessIsOne, IsStairExcess, line_ahead};
+ghost use Rattle.arrival_stairs.specs.declared.stairs.Bundle.{Bundle};
 
-use crate::counts::{are_few, last_walked};
-use crate::horizon::horizon;
-use crate::jumps::jumps_until;
-use crate::stairs::Bundle;
-use crate::walk::{ahead_until, greater};
+use crate::heights::{greater, greatest_ahead};
+use crate::walks::Walk;
 use arrival_lines::Line;
-use std::alloc::{AllocError, Global};
 
 /// The picoseconds of a second.
 const SECOND: u128 = 1_000_000_000_000;
@@ -48,77 +44,18 @@ fn tail(lines: &[Line], rate: u64, most: u64, end: u64) -> u64
     least
 }
 
-/// By how many grains the bundles are above the rate at most, where these are the steps of their lines: up to a time by
-/// the bundles' jumps, and from there on by the lines; at most so many.
-fn excess_by(
-    alloc: Global,
-    bundles: &[Bundle],
-    steps: &[Line],
-    rate: u64,
-    most: u64,
-    end: u64,
-) -> Result<u64, AllocError>
-    requires bundles { AreBundles bundles.now }
-    requires few { jump_count end bundles.now ≤ 4096 }
+/// By how many grains the bundles of the walk are above the rate at most, rounded up, where these are the steps of their
+/// lines, and so many grains the burst of one of them that is no faster: up to the walk's end by the walk, and from there on
+/// by the lines.
+pub(crate) fn stair_excess(walk: &Walk, steps: &[Line], rate: u64, most: u64) -> u64
+    requires moments { AreMoments walk.now.heights.items }
     requires rate { rate < 2 ^ 62 }
-    requires end { end < 2 ^ 62 }
-    ensures { IfOk result (IsExcessBy bundles.now steps.now rate most end) }
+    ensures { (bundles : List Bundle) → AreBundles bundles → AreSteps (line_parts bundles) steps.now → IsSlowBurst steps.now rate most
+        → IsWalk bundles walk.now → IsEnd bundles steps.now rate walk.now.end → IsStairExcess bundles rate result }
 {
-    let jumps = jumps_until(alloc, bundles, end)?;
-    let walked = ahead_until(alloc, bundles, &jumps, rate, end)?;
-    let later = tail(steps, rate, most, end);
-    Ok(greater(walked, later as u128).min(most as u128) as u64)
-}
-
-/// The same, up to the last time with no more jumps than the limit before it.
-fn excess_cut(
-    alloc: Global,
-    bundles: &[Bundle],
-    steps: &[Line],
-    rate: u64,
-    most: u64,
-) -> Result<u64, AllocError>
-    requires bundles { AreBundles bundles.now }
-    requires steps { AreSteps (line_parts bundles.now) steps.now }
-    requires most { IsSlowBurst steps.now rate most }
-    requires rate { rate < 2 ^ 62 }
-    ensures { IfOk result (IsStairExcess bundles.now rate) }
-{
-    let last = last_walked(bundles);
-    let cut = excess_by(alloc, bundles, steps, rate, most, last)?;
-    Ok(cut)
-}
-
-/// By how many grains the bundles are above the rate at most, rounded up, where these are the steps of their lines, and
-/// so many grains the burst of one of them that is no faster. Where more than 4,096 jumps come before the lines meet the
-/// rate, the lines stand in behind the first 4,096.
-pub fn stair_excess(
-    alloc: Global,
-    bundles: &[Bundle],
-    steps: &[Line],
-    rate: u64,
-    most: u64,
-) -> Result<u64, AllocError>
-    requires bundles { AreBundles bundles.now }
-    requires steps { AreSteps (line_parts bundles.now) steps.now }
-    requires most { IsSlowBurst steps.now rate most }
-    requires rate { rate < 2 ^ 62 }
-    ensures { IfOk result (IsStairExcess bundles.now rate) }
-{
-    match horizon(alloc, bundles, steps, rate)? {
-        None => {
-            let late = excess_cut(alloc, bundles, steps, rate, most)?;
-            Ok(late)
-        }
-        Some(end) => {
-            if are_few(bundles, end) {
-                let exact = excess_by(alloc, bundles, steps, rate, most, end)?;
-                return Ok(exact);
-            }
-            let cut = excess_cut(alloc, bundles, steps, rate, most)?;
-            Ok(cut)
-        }
-    }
+    let walked = greatest_ahead(&walk.heights, rate);
+    let later = tail(steps, rate, most, walk.end);
+    greater(walked, later as u128).min(most as u128) as u64
 }
 
 /// Bundles are nowhere above their lines: a law.

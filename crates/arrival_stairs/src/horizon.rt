@@ -1,13 +1,18 @@
 //! Until when the jumps of bundles count: from then on their lines are no further above the rate than they are before.
 
-ghost use Rattle.std.specs.Prelude.{◌≡◌, ◌^◌, ◌<◌, ◌≤◌, IfOk, IfSome};
-ghost use Rattle.arrival_stairs.specs.Horizon.{IsDown, IsHorizon, down_at};
+ghost use Rattle.std.specs.Prelude.{◌≡◌, ◌^◌, ◌<◌, ◌≤◌, All, List, IfOk, IfSome, length};
+ghost use Rattle.arrival_lines.specs.Steps.{AreSlowing};
+ghost use Rattle.arrival_stairs.specs.Heights.{AreMoments};
+ghost use Rattle.arrival_stairs.specs.Horizon.{ArePast, IsDown, IsHorizon, IsOnset, IsPast, down_at};
 ghost use Rattle.arrival_stairs.specs.Stairs.{AreBundles};
-ghost use Rattle.line_heights.specs.Heights.{AreSmall};
+ghost use Rattle.arrival_stairs.specs.Heights.{AreSmall};
 
+use crate::bends::bend_of;
+use crate::greatest::heights_between;
+use crate::heights::{Height, greatest_ahead};
+use crate::slow::slow_burst;
 use crate::stairs::{Bundle, levels_of};
-use arrival_lines::{Line, Part};
-use line_heights::{bend_of, greatest_between};
+use arrival_lines::{Line, Part, Service};
 use std::alloc::{AllocError, Global};
 
 /// The picoseconds of a second.
@@ -57,29 +62,84 @@ fn last_bend(parts: &[Part]) -> u128
     last
 }
 
-/// A time from which on the steps of the bundles' lines are no further above the rate than the bundles are before; none
-/// where that is late.
-pub(crate) fn horizon(
-    alloc: Global,
-    bundles: &[Bundle],
-    steps: &[Line],
-    rate: u64,
-) -> Result<Option<u64>, AllocError>
-    requires bundles { AreBundles bundles.now }
-    requires rate { rate < 2 ^ 62 }
-    ensures { IfOk result (λ found. IfSome found (IsHorizon bundles.now steps.now rate)) }
+/// What the bundles' levels at 0 come to: at 0, and up to the time at which the last of them is reached.
+#[derive(Debug, Drop)]
+pub(crate) struct Onset {
+    /// In picoseconds.
+    pub(crate) until: u64,
+    pub(crate) first: Vec<Height>,
+    pub(crate) heights: Vec<Height>,
+}
+
+pub(crate) fn onset_of(alloc: Global, bundles: &[Bundle]) -> Result<Onset, AllocError>
+    requires { AreBundles bundles.now }
+    ensures { IfOk result (IsOnset bundles.now) }
 {
     let levels = levels_of(alloc, bundles)?;
-    let first = greatest_between(&levels, rate, 0, 0);
+    let until = last_bend(&levels).min(LATE - 1) as u64;
+    let mut first = Vec::new(alloc);
+    heights_between(&levels, 0, 0, &mut first)?;
+    let mut heights = Vec::new(alloc);
+    heights_between(&levels, 0, until, &mut heights)?;
+    Ok(Onset {
+        until,
+        first,
+        heights,
+    })
+}
+
+/// A time from which on the steps of the bundles' lines are no further above the rate than the bundles are before; none
+/// where that is late.
+fn horizon(onset: &Onset, steps: &[Line], rate: u64) -> Option<u64>
+    requires first { AreMoments onset.now.first.items }
+    requires heights { AreMoments onset.now.heights.items }
+    requires rate { rate < 2 ^ 62 }
+    ensures { (bundles : List Bundle) → IsOnset bundles onset.now → IfSome result (IsHorizon bundles steps.now rate) }
+{
+    let first = greatest_ahead(&onset.first, rate);
     match down_by(steps, rate, first) {
-        None => Ok(None),
+        None => None,
         Some(latest) => {
-            let bend = last_bend(&levels).min(latest as u128) as u64;
-            let known = greatest_between(&levels, rate, 0, bend);
+            if onset.until > latest {
+                return Some(latest);
+            }
+            let known = greatest_ahead(&onset.heights, rate);
             match down_by(steps, rate, known) {
-                None => Ok(Some(latest)),
-                Some(end) => Ok(Some(end.max(bend).min(latest))),
+                None => Some(latest),
+                Some(end) => Some(end.max(onset.until).min(latest)),
             }
         }
     }
+}
+
+/// The same at a service, and 0 where each step is faster.
+fn horizon_at(onset: &Onset, steps: &[Line], rate: u64) -> Option<u64>
+    requires first { AreMoments onset.now.first.items }
+    requires heights { AreMoments onset.now.heights.items }
+    requires steps { AreSlowing steps.now }
+    requires rate { rate < 2 ^ 62 }
+    ensures { (bundles : List Bundle) → IsOnset bundles onset.now → IfSome result (IsPast bundles steps.now rate) }
+{
+    match slow_burst(steps, rate) {
+        None => Some(0),
+        Some(_) => horizon(onset, steps, rate),
+    }
+}
+
+/// The same for each of some services.
+pub(crate) fn last_horizon(onset: &Onset, steps: &[Line], services: &[Service]) -> Option<u64>
+    requires first { AreMoments onset.now.first.items }
+    requires heights { AreMoments onset.now.heights.items }
+    requires steps { AreSlowing steps.now }
+    requires rates { All (λ s. s.rate < 2 ^ 62) services.now }
+    ensures { (bundles : List Bundle) → IsOnset bundles onset.now → IfSome result (ArePast bundles steps.now services.now (length services.now)) }
+{
+    let mut last: u64 = 0;
+    for service in services {
+        match horizon_at(onset, steps, service.rate) {
+            None => return None,
+            Some(end) => last = last.max(end),
+        }
+    }
+    Some(last)
 }

@@ -9,13 +9,13 @@ use std::alloc::{AllocError, Global};
 
 /// A jump of a stair.
 #[derive(Debug, Clone, Copy)]
-pub struct Jump {
+pub(crate) struct Jump {
     /// In picoseconds.
-    pub time: u64,
+    pub(crate) time: u64,
     /// The number of the stair's bundle.
-    pub bundle: usize,
+    pub(crate) bundle: usize,
     /// The stair's frame, in grains.
-    pub frame: u64,
+    pub(crate) frame: u64,
 }
 
 /// Adds the jumps of a stair after 0, up to a time.
@@ -74,7 +74,11 @@ fn all_jumps(alloc: Global, bundles: &[Bundle], end: u64) -> Result<Vec<Jump>, A
 }
 
 /// The jumps of all bundles after 0, up to a time in picoseconds, in order.
-pub fn jumps_until(alloc: Global, bundles: &[Bundle], end: u64) -> Result<Vec<Jump>, AllocError>
+pub(crate) fn jumps_until(
+    alloc: Global,
+    bundles: &[Bundle],
+    end: u64,
+) -> Result<Vec<Jump>, AllocError>
     requires bundles { AreBundles bundles.now }
     requires end { end < 2 ^ 62 }
     ensures all { IfOk result (λ v. AreJumps bundles.now end v.items) }

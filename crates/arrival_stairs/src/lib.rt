@@ -1,15 +1,22 @@
-//! Links as stairs of frames with a gap and a jitter, and by how much those that come to a queue are above a rate at
-//! most. Whole numbers on the grid of lines: picoseconds, grains and grains a second.
+//! Links as stairs of frames with a gap and a jitter, and the delay and the backlog of a queue to which they come, by these
+//! stairs and by their lines where these are less. Whole numbers on the grid of lines: picoseconds, grains and grains a
+//! second.
 #![tactic(auto)]
 
+mod bends;
 mod counts;
 mod excess;
+mod greatest;
+mod heights;
 mod horizon;
 mod jumps;
+mod queues;
+mod slow;
 mod stairs;
+mod stays;
 mod walk;
+mod walks;
 
-pub use excess::{bundles_below_lines, excess_is_a_bound, excess_is_one, stair_excess};
-pub use jumps::{Jump, jumps_until};
+pub use excess::{bundles_below_lines, excess_is_a_bound, excess_is_one};
+pub use queues::{least_of_both_is_kept, stair_queue};
 pub use stairs::{Bundle, Stair};
-pub use walk::ahead_until;

@@ -1,23 +1,19 @@
 //! The walk over the jumps: between two of them each bundle stays at a level.
 
-ghost use Rattle.std.specs.Prelude.{◌≡◌, ◌+◌, ◌^◌, ◌<◌, ◌≤◌, max, length, get_or, slice_set, IfOk};
+ghost use Rattle.std.specs.Prelude.{◌≡◌, ℕ, ◌+◌, ◌^◌, ◌<◌, ◌≤◌, length, get_or, slice_set, IfOk, OnOk};
 ghost use Rattle.arrival_stairs.specs.Ahead.{IsAheadUpTo};
+ghost use Rattle.arrival_stairs.specs.Greatest.{AddsHeights};
+ghost use Rattle.arrival_stairs.specs.Heights.{AreMoments, AreSmall, most_ahead};
 ghost use Rattle.arrival_stairs.specs.Jumps.{AreInTime, AreJumps};
 ghost use Rattle.arrival_stairs.specs.Raised.{raised, part_in};
 ghost use Rattle.arrival_stairs.specs.Stairs.{AreBundles};
 
+use crate::greatest::heights_between;
+use crate::heights::Height;
 use crate::jumps::Jump;
 use crate::stairs::{Bundle, levels_of};
 use arrival_lines::{Line, Part};
-use line_heights::greatest_between;
 use std::alloc::{AllocError, Global};
-
-/// The greater one.
-pub(crate) fn greater(a: u128, b: u128) -> u128
-    ensures { result ≡ max a b }
-{
-    if a < b { b } else { a }
-}
 
 /// Raises the level of the jump's bundle by its frame.
 fn raise(levels: &mut Vec<Part>, jump: Jump)
@@ -35,37 +31,57 @@ fn raise(levels: &mut Vec<Part>, jump: Jump)
     };
 }
 
-/// By how many grains the bundles are above the rate at most from 0 to a time in picoseconds, where these are their
-/// jumps up to it.
-pub fn ahead_until(
+/// Adds what the parts come to between two times; nothing where the two are one.
+fn heights_before(
+    parts: &[Part],
+    begin: u64,
+    to: u64,
+    heights: &mut Vec<Height>,
+) -> Result<(), AllocError>
+    requires parts { AreSmall parts.now }
+    requires order { begin ≤ to }
+    requires to { to < 2 ^ 62 }
+    ensures some { OnOk result (begin < to → AddsHeights parts.now begin to heights.old.items heights.new.items) }
+    ensures none { OnOk result (to ≤ begin → heights.new.items ≡ heights.old.items) }
+{
+    if begin < to {
+        heights_between(parts, begin, to, heights)?;
+    }
+    Ok(())
+}
+
+/// What the bundles come to where they may be furthest above a rate from 0 to a time in picoseconds, where these are
+/// their jumps up to it. The rate is not asked for: so one walk serves all services of a queue.
+pub(crate) fn heights_until(
     alloc: Global,
     bundles: &[Bundle],
     jumps: &[Jump],
-    rate: u64,
     end: u64,
-) -> Result<u128, AllocError>
+) -> Result<Vec<Height>, AllocError>
     requires bundles { AreBundles bundles.now }
     requires jumps { AreJumps bundles.now end jumps.now }
     requires order { AreInTime jumps.now }
     requires few { length jumps.now ≤ 2 ^ 20 }
-    requires rate { rate < 2 ^ 62 }
     requires end { end < 2 ^ 62 }
-    ensures { IfOk result (IsAheadUpTo bundles.now rate end) }
+    ensures moments { IfOk result (λ v. AreMoments v.items) }
+    ensures greatest { IfOk result (λ v. (rate : ℕ) → IsAheadUpTo bundles.now rate end (most_ahead rate v.items)) }
 {
     let mut levels = levels_of(alloc, bundles)?;
-    let mut most: u128 = 0;
+    let mut heights = Vec::new(alloc);
     let mut begin: u64 = 0;
     for jump in jumps {
-        most = greater(most, greatest_between(&levels, rate, begin, jump.time));
+        heights_before(&levels, begin, jump.time, &mut heights)?;
         raise(&mut levels, *jump);
         begin = jump.time;
     }
-    Ok(greater(most, greatest_between(&levels, rate, begin, end)))
+    heights_between(&levels, begin, end, &mut heights)?;
+    Ok(heights)
 }
 
 #[cfg(test)]
 mod tests {
     use super::*;
+    use crate::heights::greatest_ahead;
     use crate::jumps::jumps_until;
     use crate::stairs::Stair;
     use std::test::Fail;
@@ -103,15 +119,10 @@ mod tests {
         ]?;
         let jumps = jumps_until(rt.alloc(), &bundles, 5 * second)?;
         assert_eq!(rt; jumps.len(), 2);
+        let heights = heights_until(rt.alloc(), &bundles, &jumps, 5 * second)?;
         // at 0: 16; at 1: 28 - 3; at 3: 32 - 9; at 5: 42 - 15
-        assert_eq!(rt;
-            ahead_until(rt.alloc(), &bundles, &jumps, 3, 5 * second)?,
-            27
-        );
-        assert_eq!(rt;
-            ahead_until(rt.alloc(), &bundles, &jumps, 5, 5 * second)?,
-            23
-        );
+        assert_eq!(rt; greatest_ahead(&heights, 3), 27);
+        assert_eq!(rt; greatest_ahead(&heights, 5), 23);
         Ok(())
     }
 }

@@ -18,8 +18,8 @@ use Rattle.tree_network.specs.declared.network.Port.{Port}
 use Rattle.tree_network.specs.declared.network.Node.{Node}
 use Rattle.tree_network.specs.declared.network.Link.{Link}
 use Rattle.tree_network.specs.declared.network.Network.{Network}
-use Rattle.tree_order.specs.declared.spots.Spot.{Spot}
-use Rattle.tree_order.specs.Spots.{spot_of, source_in, number_before, spots_in, spots_of_link, spots_below, spots_of}
+use Rattle.tree_network.specs.declared.spots.Spot.{Spot}
+use Rattle.tree_network.specs.Spots.{spot_of, source_in, number_before, spots_in, spots_of_link, spots_below, spots_of}
 use Rattle.document_rows.specs.Disciplines.{DisciplineText, Fifo, Priority, Drr, discipline_view}
 use Rattle.document_tables.specs.Grids.{PortOnGrid, LinkOnGrid, grid_port, grid_link}
 use Rattle.port_bounds.specs.Incoming.{Incoming, queue_in, longest_frames_of}

@@ -16,10 +16,10 @@ use Rattle.arrival_stairs.specs.declared.stairs.Bundle.{Bundle}
 use Rattle.arrival_stairs.proofs.OneExcess.{same_parts, excess_moved}
 use Rattle.port_bounds.specs.Incoming.{Incoming}
 use Rattle.port_bounds.specs.Services.{IsServiceOf, AreAll}
-use Rattle.stair_queues.specs.Stays.{IsStay}
-use Rattle.stair_queues.specs.Queues.{IsSomeDelay, IsSomeBacklog, IsAtMost, IsStairQueue, IsNone, AreLong, IsLeastOfBoth}
-use Rattle.stair_ports.specs.Incoming.{StairsIn, line_incomings, stairs_at}
-use Rattle.stair_ports.specs.Rows.{IsLeastStairRow, IsStairRowBy}
+use Rattle.arrival_stairs.specs.Stays.{IsStay}
+use Rattle.arrival_stairs.specs.Queues.{IsSomeDelay, IsSomeBacklog, IsAtMost, IsStairQueue, IsNone, AreLong, IsLeastOfBoth}
+use Rattle.port_bounds.specs.StairsIncoming.{StairsIn, line_incomings, stairs_at}
+use Rattle.port_bounds.specs.StairRows.{IsLeastStairRow, IsStairRowBy}
 use Rattle.tree_bounds.specs.Bunches.{Arriving, IsRowOf, arriving_of}
 use Rattle.tree_bounds.proofs.Bunched.{line_arriving, lines_are}
 use Rattle.bounds_command.proofs.Alike.{services_same}

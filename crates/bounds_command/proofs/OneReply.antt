@@ -5,12 +5,12 @@ use Rattle.std.specs.List.{flat_map, range_with_len}
 use Rattle.arrival_lines.specs.declared.grid.Queue.{Queue}
 use Rattle.tree_network.specs.Networks.{IsNetwork, port_at, queues_of}
 use Rattle.tree_network.specs.declared.network.Network.{Network}
-use Rattle.tree_order.specs.declared.spots.Spot.{Spot}
-use Rattle.tree_order.specs.Spots.{spots_of}
-use Rattle.tree_order.specs.Orders.{IsRing, IsNetworkRing}
-use Rattle.tree_order.proofs.InRange.{in_range}
-use Rattle.tree_order.specs.Rings.{IsToldRing}
-use Rattle.tree_order.proofs.Rings.{one_ring, order_or_ring_is_one, told_rings_are_rings}
+use Rattle.tree_network.specs.declared.spots.Spot.{Spot}
+use Rattle.tree_network.specs.Spots.{spots_of}
+use Rattle.tree_network.specs.Orders.{IsRing, IsNetworkRing}
+use Rattle.tree_network.proofs.InRange.{in_range}
+use Rattle.tree_network.specs.Rings.{IsToldRing}
+use Rattle.tree_network.proofs.Rings.{one_ring, order_or_ring_is_one, told_rings_are_rings}
 use Rattle.csv_rows.specs.Rows.{LinedRow}
 use Rattle.csv_rows.proofs.OneTable.{one_table}
 use Rattle.document_tables.specs.Tables.{LineRow}

@@ -10,10 +10,10 @@ use Rattle.tree_network.specs.Networks.{IsNetwork, IsLink, HangsBefore, queues_o
 use Rattle.tree_network.specs.declared.network.Node.{Node}
 use Rattle.tree_network.specs.declared.network.Link.{Link}
 use Rattle.tree_network.specs.declared.network.Network.{Network}
-use Rattle.tree_order.specs.declared.spots.Spot.{Spot}
-use Rattle.tree_order.specs.Spots.{spot_at, spots_of, AreSpots, ComesFrom}
-use Rattle.tree_order.specs.Orders.{GoesTo}
-use Rattle.tree_order.proofs.InRange.{in_range}
+use Rattle.tree_network.specs.declared.spots.Spot.{Spot}
+use Rattle.tree_network.specs.Spots.{spot_at, spots_of, AreSpots, ComesFrom}
+use Rattle.tree_network.specs.Orders.{GoesTo}
+use Rattle.tree_network.proofs.InRange.{in_range}
 use Rattle.document_tables.specs.Grids.{PortOnGrid, LinkOnGrid, grid_link}
 use Rattle.tree_bounds.specs.Bunches.{Arriving, IsRowOf}
 use Rattle.tree_bounds.specs.Stairs.{first_stair_of, later_stair}

@@ -12,7 +12,7 @@ use Rattle.tree_network.specs.declared.network.Port.{Port}
 use Rattle.tree_network.specs.declared.network.Node.{Node}
 use Rattle.tree_network.specs.declared.network.Link.{Link}
 use Rattle.tree_network.specs.declared.network.Network.{Network}
-use Rattle.tree_order.proofs.Distinct.{Apart, few}
+use Rattle.tree_network.proofs.Distinct.{Apart, few}
 use Rattle.tree_bounds.specs.Lines.{rate_of}
 use Rattle.tree_bounds.specs.Tables.{items_of}
 use Rattle.bounds_command.specs.Loads.{AreRates, queues_in, at, with_more, rates_in, brought, brought_by, is_at}

@@ -11,9 +11,9 @@ use Rattle.tree_network.specs.declared.network.Network.{Network}
 use Rattle.document_tables.specs.declared.document.BranchEnd.{BranchEnd}
 use Rattle.document_tables.specs.Documents.{IsBranchOf}
 use Rattle.arrival_stairs.specs.declared.stairs.Bundle.{Bundle}
-use Rattle.stair_queues.specs.Queues.{AreLong, IsStairQueue}
-use Rattle.stair_ports.specs.Incoming.{StairsIn, stairs_at}
-use Rattle.stair_ports.specs.Rows.{IsStairRowBy}
+use Rattle.arrival_stairs.specs.Queues.{AreLong, IsStairQueue}
+use Rattle.port_bounds.specs.StairsIncoming.{StairsIn, stairs_at}
+use Rattle.port_bounds.specs.StairRows.{IsStairRowBy}
 use Rattle.tree_bounds.specs.Tables.{IsTableOf, AreBounds, row_in, bounds_in, time_after, time_before}
 use Rattle.tree_bounds.specs.declared.analysis.Table.{Table}
 use Rattle.bounds_command.proofs.Rates.{few_nodes}

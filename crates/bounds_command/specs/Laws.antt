@@ -3,7 +3,7 @@ use Rattle.std.specs.Prelude.{◌≡◌, ◌⊎◌, ℕ, Bool, true, false, List
 use Rattle.document_tables.specs.Tables.{LineRow}
 use Rattle.document_tables.specs.Documents.{DocumentText, document_of}
 use Rattle.tree_network.specs.declared.network.Network.{Network}
-use Rattle.tree_order.specs.Orders.{IsNetworkRing}
+use Rattle.tree_network.specs.Orders.{IsNetworkRing}
 use Rattle.bounds_command.specs.declared.answer.Form.{Form}
 use Rattle.bounds_command.specs.Replies.{Reply}
 use Rattle.bounds_command.specs.Reports.{IsNetworkOf, some_missed}

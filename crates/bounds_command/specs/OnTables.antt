@@ -8,7 +8,7 @@ use Rattle.document_tables.specs.Tables.{LineRow}
 use Rattle.document_tables.specs.Documents.{DocumentText, FileFault, document_of}
 use Rattle.tree_network.specs.Networks.{IsNetwork, port_at, queues_of}
 use Rattle.tree_network.specs.declared.network.Network.{Network}
-use Rattle.tree_order.specs.Rings.{IsNetworkToldRing}
+use Rattle.tree_network.specs.Rings.{IsNetworkToldRing}
 use Rattle.tree_bounds.specs.Tables.{IsTableOf, row_in}
 use Rattle.tree_bounds.specs.declared.analysis.Table.{Table}
 use Rattle.tree_guarantee.specs.Causes.{IsCausedIn}

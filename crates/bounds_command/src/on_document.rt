@@ -16,7 +16,7 @@ use bounds_report::{Report, report_json, report_lines};
 use document_tables::Document;
 use std::alloc::{AllocError, Global};
 use tree_bounds::bounds_of;
-use tree_order::Fault;
+use tree_network::Fault;
 
 // The text of a report in a form.
 fn text_in(alloc: Global, form: Form, report: &Report) -> Result<String, AllocError>

@@ -6,3 +6,5 @@ pub mod Rowed
 pub mod Brought
 pub mod Served
 pub mod Held
+pub mod StairsHeld
+pub mod StairsRowed

@@ -4,3 +4,6 @@ pub mod Ranges
 pub mod Services
 pub mod Rows
 pub mod Promises
+pub mod StairsIncoming
+pub mod StairRows
+pub mod StairPromises

@@ -14,10 +14,10 @@ use Rattle.arrival_stairs.specs.declared.stairs.Bundle.{Bundle}
 use Rattle.arrival_stairs.specs.declared.stairs.Stair.{Stair}
 use Rattle.arrival_stairs.proofs.OneExcess.{part_by, parts_are}
 use Rattle.port_bounds.specs.Incoming.{Incoming}
-use Rattle.stair_ports.specs.Incoming.{StairsIn, line_incoming, line_incomings}
+use Rattle.port_bounds.specs.StairsIncoming.{StairsIn, line_incoming, line_incomings}
 use Rattle.tree_network.specs.declared.network.Network.{Network}
-use Rattle.tree_order.specs.declared.spots.Spot.{Spot}
-use Rattle.tree_order.proofs.Those.{of_both}
+use Rattle.tree_network.specs.declared.spots.Spot.{Spot}
+use Rattle.tree_network.proofs.Those.{of_both}
 use Rattle.tree_bounds.specs.Bunches.{Arriving, stair_list, stairs_among, bunch_of_group, arriving_of_groups, arriving_at, arriving_below, arriving_of}
 use Rattle.tree_bounds.specs.Groups.{burst_in, rate_in, longest_of, group_of, spots_in_group, group_list, groups_at, part_of, parts_in, are_bounded, pace_line, longest_group, incoming_of_groups, incoming_at, incomings_at}
 use Rattle.tree_bounds.specs.Lines.{line_of}

@@ -12,13 +12,13 @@ use Rattle.arrival_stairs.specs.declared.stairs.Bundle.{Bundle}
 use Rattle.arrival_stairs.specs.declared.stairs.Stair.{Stair}
 use Rattle.port_bounds.specs.Incoming.{Incoming, incoming, incoming_of}
 use Rattle.port_bounds.specs.declared.arrivals.Arrivals.{Arrivals}
-use Rattle.stair_ports.specs.Incoming.{stairs_of, stairs_in}
-use Rattle.stair_ports.specs.declared.arrivals.StairArrivals.{StairArrivals}
+use Rattle.port_bounds.specs.StairsIncoming.{stairs_of, stairs_in}
+use Rattle.port_bounds.specs.declared.stair_arrivals.StairArrivals.{StairArrivals}
 use Rattle.tree_network.specs.declared.network.Network.{Network}
-use Rattle.tree_order.specs.declared.spots.Spot.{Spot}
-use Rattle.tree_order.specs.Spots.{spot_at, spots_of}
-use Rattle.tree_order.specs.Lists.{those, is_from}
-use Rattle.tree_order.proofs.Those.{those_filter, those_same, eq_true, of_eq}
+use Rattle.tree_network.specs.declared.spots.Spot.{Spot}
+use Rattle.tree_network.specs.Spots.{spot_at, spots_of}
+use Rattle.tree_network.specs.Lists.{those, is_from}
+use Rattle.tree_network.proofs.Those.{those_filter, those_same, eq_true, of_eq}
 use Rattle.tree_bounds.specs.Bunches.{Arriving, stair_list, stairs_among, bunch_of_group, arriving_of, arriving_of_groups, arriving_at, arriving_below}
 use Rattle.tree_bounds.specs.Coming.{IsComing, is_in_queue}
 use Rattle.tree_bounds.specs.Groups.{is_in_group, spots_in_group, groups_at, parts_in, longest_group, pace_line, incoming_of_groups, incoming_at, incomings_at}

@@ -13,11 +13,11 @@ use Rattle.arrival_stairs.specs.Views.{Bunch}
 use Rattle.arrival_stairs.specs.declared.stairs.Stair.{Stair}
 use Rattle.tree_network.specs.Networks.{port_at, queues_of}
 use Rattle.tree_network.specs.declared.network.Network.{Network}
-use Rattle.tree_order.specs.declared.spots.Spot.{Spot}
-use Rattle.tree_order.specs.Spots.{no_spot, spot_at, spots_of, AreSpots, ComesFrom}
-use Rattle.tree_order.specs.Lists.{those, is_from, is_between}
-use Rattle.tree_order.specs.Orders.{IsOrderOf, GoesTo, StandsAt}
-use Rattle.tree_order.proofs.Those.{those_pass, those_has, eq_true, of_eq, of_both}
+use Rattle.tree_network.specs.declared.spots.Spot.{Spot}
+use Rattle.tree_network.specs.Spots.{no_spot, spot_at, spots_of, AreSpots, ComesFrom}
+use Rattle.tree_network.specs.Lists.{those, is_from, is_between}
+use Rattle.tree_network.specs.Orders.{IsOrderOf, GoesTo, StandsAt}
+use Rattle.tree_network.proofs.Those.{those_pass, those_has, eq_true, of_eq, of_both}
 use Rattle.tree_bounds.specs.Bunches.{Arriving, AreRowsOf, stair_list, stairs_among, bunch_of_group, arriving_of_groups, arriving_at, arriving_below}
 use Rattle.tree_bounds.specs.Groups.{burst_in, rate_in, group_of, is_in_group, spots_in_group, group_list, groups_at, pace_line, parts_in, longest_group}
 use Rattle.tree_bounds.specs.Lines.{line_of}

@@ -9,11 +9,11 @@ use Rattle.arrival_lines.specs.declared.grid.Line.{Line}
 use Rattle.tree_network.specs.Networks.{node_at, IsLink, IsNetwork}
 use Rattle.tree_network.specs.declared.network.Link.{Link}
 use Rattle.tree_network.specs.declared.network.Network.{Network}
-use Rattle.tree_order.specs.declared.spots.Spot.{Spot}
-use Rattle.tree_order.specs.Spots.{no_spot, spot_at, spot_of, spots_in, spots_below, spots_of}
-use Rattle.tree_order.specs.Lists.{those}
-use Rattle.tree_order.proofs.Those.{those_zero, those_same, length_more, length_split, one_if, some_if_any}
-use Rattle.tree_order.proofs.SpotLists.{in_zero, in_more, below_zero, below_more}
+use Rattle.tree_network.specs.declared.spots.Spot.{Spot}
+use Rattle.tree_network.specs.Spots.{no_spot, spot_at, spot_of, spots_in, spots_below, spots_of}
+use Rattle.tree_network.specs.Lists.{those}
+use Rattle.tree_network.proofs.Those.{those_zero, those_same, length_more, length_split, one_if, some_if_any}
+use Rattle.tree_network.proofs.SpotLists.{in_zero, in_more, below_zero, below_more}
 use Rattle.tree_bounds.specs.Groups.{group_list, groups_at, is_in_group, spots_in_group}
 use Rattle.tree_bounds.specs.declared.groups.Group.{Group}
 

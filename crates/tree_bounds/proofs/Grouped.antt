@@ -7,10 +7,10 @@ use Rattle.std.proofs.lemmas.List.{take_more}
 use Rattle.std.proofs.lemmas.List.Sums.{sum_by-append, fold-append}
 use Rattle.std.proofs.lemmas.List.Folds.{list_all-append}
 use Rattle.arrival_lines.specs.declared.grid.Line.{Line}
-use Rattle.tree_order.specs.declared.spots.Spot.{Spot}
-use Rattle.tree_order.specs.Spots.{spot_at}
-use Rattle.tree_order.specs.Lists.{those, is_between, spots_at_port}
-use Rattle.tree_order.proofs.Those.{those_yes, those_no, those_zero, eq_true, eq_false, of_eq, of_both}
+use Rattle.tree_network.specs.declared.spots.Spot.{Spot}
+use Rattle.tree_network.specs.Spots.{spot_at}
+use Rattle.tree_network.specs.Lists.{those, is_between, spots_at_port}
+use Rattle.tree_network.proofs.Those.{those_yes, those_no, those_zero, eq_true, eq_false, of_eq, of_both}
 use Rattle.tree_bounds.specs.Groups.{burst_in, rate_in, longest_of, group_of, is_in_group, spots_in_group, group_list, groups_at}
 use Rattle.tree_bounds.specs.Grouping.{group_of_spot, both_groups, last_with, with_group, with_spot, grouped}
 use Rattle.tree_bounds.specs.declared.groups.Group.{Group}

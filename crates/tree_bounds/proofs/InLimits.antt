@@ -20,16 +20,16 @@ use Rattle.arrival_stairs.specs.Views.{Bunch, bunch_of, bunches}
 use Rattle.arrival_stairs.specs.declared.stairs.Bundle.{Bundle}
 use Rattle.arrival_stairs.specs.declared.stairs.Stair.{Stair}
 use Rattle.arrival_stairs.proofs.OneExcess.{part_by}
-use Rattle.stair_ports.specs.Incoming.{StairsIn, AreStairsInRange, stairs_at}
+use Rattle.port_bounds.specs.StairsIncoming.{StairsIn, AreStairsInRange, stairs_at}
 use Rattle.tree_network.specs.Networks.{IsNetwork, longest_frame, fastest, port_at}
 use Rattle.tree_network.specs.declared.network.Network.{Network}
-use Rattle.tree_order.specs.declared.spots.Spot.{Spot}
-use Rattle.tree_order.specs.Spots.{spots_of, AreSpots}
-use Rattle.tree_order.proofs.InRange.{in_range as spots_in_range}
-use Rattle.tree_order.proofs.Those.{of_both, those_pass}
+use Rattle.tree_network.specs.declared.spots.Spot.{Spot}
+use Rattle.tree_network.specs.Spots.{spots_of, AreSpots}
+use Rattle.tree_network.proofs.InRange.{in_range as spots_in_range}
+use Rattle.tree_network.proofs.Those.{of_both, those_pass}
 use Rattle.port_bounds.specs.Incoming.{Incoming}
 use Rattle.port_bounds.specs.Ranges.{AreInRange}
-use Rattle.stair_ports.specs.Rows.{AreStairRows}
+use Rattle.port_bounds.specs.StairRows.{AreStairRows}
 use Rattle.tree_bounds.specs.Bunches.{Arriving, AreRowsOf, stair_list, stairs_among, bunch_of_group, arriving_at, arriving_below, arriving_of}
 use Rattle.tree_bounds.specs.Equations.{comes_to}
 use Rattle.tree_bounds.specs.Groups.{is_in_group, spots_in_group, group_list, groups_at, part_of, parts_in, are_bounded, sum_burst, sum_rate, pace_line}

@@ -10,8 +10,8 @@ use Rattle.arrival_stairs.specs.Stairs.{IsStair}
 use Rattle.tree_network.specs.Networks.{longest_frame}
 use Rattle.tree_network.specs.declared.network.Link.{Link}
 use Rattle.tree_network.specs.declared.network.Network.{Network}
-use Rattle.tree_order.specs.declared.spots.Spot.{Spot}
-use Rattle.tree_order.specs.Spots.{spot_at}
+use Rattle.tree_network.specs.declared.spots.Spot.{Spot}
+use Rattle.tree_network.specs.Spots.{spot_at}
 use Rattle.tree_bounds.specs.Solved.{AreAllStairs}
 use Rattle.tree_bounds.specs.Stairs.{stair_within, first_stair, first_stair_of, later_stair}
 use Rattle.tree_bounds.specs.Onward.{stair_in, BeginStairs, CanBePassedOn, ArePassedOn}

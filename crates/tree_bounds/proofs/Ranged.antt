@@ -10,10 +10,10 @@ use Rattle.arrival_lines.specs.declared.grid.Line.{Line}
 use Rattle.arrival_lines.specs.declared.grid.Part.{Part}
 use Rattle.tree_network.specs.Networks.{longest_frame, fastest, no_port, IsNetwork}
 use Rattle.tree_network.specs.declared.network.Network.{Network}
-use Rattle.tree_order.specs.declared.spots.Spot.{Spot}
-use Rattle.tree_order.specs.Spots.{spot_at, spots_of, AreSpots}
-use Rattle.tree_order.proofs.InRange.{in_range as spots_in_range}
-use Rattle.tree_order.proofs.Those.{those_pass}
+use Rattle.tree_network.specs.declared.spots.Spot.{Spot}
+use Rattle.tree_network.specs.Spots.{spot_at, spots_of, AreSpots}
+use Rattle.tree_network.proofs.InRange.{in_range as spots_in_range}
+use Rattle.tree_network.proofs.Those.{those_pass}
 use Rattle.port_bounds.specs.Incoming.{Incoming}
 use Rattle.port_bounds.specs.Ranges.{AreInRange, sum_of}
 use Rattle.tree_bounds.specs.Groups.{longest_of, group_of, is_in_group, spots_in_group, group_list, groups_at, are_bounded, sum_burst, sum_rate, pace_line, part_of, parts_in, longest_group, incoming_at, incomings_at}

@@ -1,5 +1,5 @@
 -- A queue of whose links one has no line has no parts, and where it has none, one has no line or the sums pass their limits.
-use Rattle.std.proofs.Common.{◌≡◌, ◌⊎◌, ℕ, zero, suc, ◌<◌, ◌≤◌, ◌+◌, ◌^◌, ◌==◌, ◌&&◌, Bool, true, false, Option, Some, None, List, [], ◌∷◌, ◌++◌, length, get_or, map, nat_lt, refl, sym, ◌∙◌, ap, ap₂, subst, arith, inl, inr}
+use Rattle.std.proofs.Common.{◌≡◌, ◌⊎◌, ℕ, zero, suc, ◌<◌, ◌≤◌, ◌+◌, ◌^◌, ◌==◌, ◌&&◌, Bool, true, false, Option, Some, None, List, [], ◌∷◌, length, get_or, map, nat_lt, refl, sym, ◌∙◌, ap, ap₂, subst, arith, inl, inr}
 use Rattle.std.specs.Prelude.{All, is_some}
 use Rattle.std.specs.List.{Contains, list_all, sum_by}
 use Rattle.std.proofs.lemmas.Bool.{cases_eq, cases_lt}
@@ -7,9 +7,9 @@ use Rattle.std.proofs.lemmas.Bool.Decides.{nat_tests}
 use Rattle.std.proofs.lemmas.List.Folds.{list_all-append}
 use Rattle.arrival_lines.specs.declared.grid.Line.{Line}
 use Rattle.tree_network.specs.declared.network.Network.{Network}
-use Rattle.tree_order.specs.declared.spots.Spot.{Spot}
-use Rattle.tree_order.specs.Spots.{spot_at}
-use Rattle.tree_order.proofs.Those.{eq_true, of_both, of_eq, those_has, those_pass}
+use Rattle.tree_network.specs.declared.spots.Spot.{Spot}
+use Rattle.tree_network.specs.Spots.{spot_at}
+use Rattle.tree_network.proofs.Those.{eq_true, of_both, of_eq, those_has, those_pass}
 use Rattle.tree_bounds.specs.Groups.{is_in_group, spots_in_group, longest_of, group_list, groups_at, part_of, parts_in, sum_burst, sum_rate}
 use Rattle.tree_bounds.specs.declared.groups.Group.{Group}
 use Rattle.tree_bounds.proofs.PartsMade.{parts_made}

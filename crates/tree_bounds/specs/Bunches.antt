@@ -7,9 +7,9 @@ use Rattle.arrival_stairs.specs.Views.{Bunch, bunches}
 use Rattle.arrival_stairs.specs.declared.stairs.Stair.{Stair}
 use Rattle.tree_network.specs.declared.network.Network.{Network}
 use Rattle.tree_network.specs.declared.network.Port.{Port}
-use Rattle.tree_order.specs.declared.spots.Spot.{Spot}
-use Rattle.stair_ports.specs.Incoming.{StairsIn}
-use Rattle.stair_ports.specs.Rows.{IsStairRow}
+use Rattle.tree_network.specs.declared.spots.Spot.{Spot}
+use Rattle.port_bounds.specs.StairsIncoming.{StairsIn}
+use Rattle.port_bounds.specs.StairRows.{IsStairRow}
 use Rattle.tree_bounds.specs.Groups.{spots_in_group, pace_line, groups_at, parts_in, longest_group}
 use Rattle.tree_bounds.specs.Lines.{line_of}
 use Rattle.tree_bounds.specs.declared.groups.Group.{Group}

@@ -3,11 +3,11 @@ use Rattle.std.specs.Prelude.{Option, ◌≡◌, ◌==◌, ◌&&◌, ℕ, Bool, 
 use Rattle.arrival_stairs.specs.declared.stairs.Stair.{Stair}
 use Rattle.port_bounds.specs.Incoming.{incoming}
 use Rattle.port_bounds.specs.declared.arrivals.Arrivals.{Arrivals}
-use Rattle.stair_ports.specs.Incoming.{stairs_in}
-use Rattle.stair_ports.specs.declared.arrivals.StairArrivals.{StairArrivals}
+use Rattle.port_bounds.specs.StairsIncoming.{stairs_in}
+use Rattle.port_bounds.specs.declared.stair_arrivals.StairArrivals.{StairArrivals}
 use Rattle.tree_network.specs.declared.network.Network.{Network}
-use Rattle.tree_order.specs.declared.spots.Spot.{Spot}
-use Rattle.tree_order.specs.Spots.{spot_at, spots_of}
+use Rattle.tree_network.specs.declared.spots.Spot.{Spot}
+use Rattle.tree_network.specs.Spots.{spot_at, spots_of}
 use Rattle.tree_bounds.specs.Bunches.{arriving_below, arriving_of}
 use Rattle.tree_bounds.specs.Groups.{incomings_at}
 use Rattle.tree_bounds.specs.Lines.{line_of}

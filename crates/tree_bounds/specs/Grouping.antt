@@ -1,8 +1,8 @@
 -- Spots grouped one after the other, those of one source that follow each other together. Own choice.
 use Rattle.std.specs.Prelude.{Option, Some, None, ◌≡◌, ◌+◌, ◌*◌, ◌<◌, ◌^◌, ◌==◌, ◌&&◌, ℕ, max, Bool, List, [], ◌∷◌, fold, is_some, if◌then◌else◌}
 use Rattle.arrival_lines.specs.declared.grid.Line.{Line}
-use Rattle.tree_order.specs.declared.spots.Spot.{Spot}
-use Rattle.tree_order.specs.Spots.{spot_at}
+use Rattle.tree_network.specs.declared.spots.Spot.{Spot}
+use Rattle.tree_network.specs.Spots.{spot_at}
 use Rattle.tree_bounds.specs.Groups.{burst_in, rate_in}
 use Rattle.tree_bounds.specs.declared.groups.Group.{Group}
 

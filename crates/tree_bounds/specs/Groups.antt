@@ -6,9 +6,9 @@ use Rattle.arrival_lines.specs.declared.grid.Line.{Line}
 use Rattle.arrival_lines.specs.declared.grid.Part.{Part}
 use Rattle.tree_network.specs.Networks.{port_at}
 use Rattle.tree_network.specs.declared.network.Network.{Network}
-use Rattle.tree_order.specs.declared.spots.Spot.{Spot}
-use Rattle.tree_order.specs.Spots.{spot_at}
-use Rattle.tree_order.specs.Lists.{those, is_between}
+use Rattle.tree_network.specs.declared.spots.Spot.{Spot}
+use Rattle.tree_network.specs.Spots.{spot_at}
+use Rattle.tree_network.specs.Lists.{those, is_between}
 use Rattle.port_bounds.specs.Incoming.{Incoming}
 use Rattle.tree_bounds.specs.declared.groups.Group.{Group}
 

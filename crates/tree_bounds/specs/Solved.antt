@@ -6,8 +6,8 @@ use Rattle.arrival_lines.specs.declared.grid.Queue.{Queue}
 use Rattle.tree_network.specs.Networks.{port_at, queues_of}
 use Rattle.tree_network.specs.declared.network.Link.{Link}
 use Rattle.tree_network.specs.declared.network.Network.{Network}
-use Rattle.tree_order.specs.declared.spots.Spot.{Spot}
-use Rattle.tree_order.specs.Spots.{spot_at, spots_of}
+use Rattle.tree_network.specs.declared.spots.Spot.{Spot}
+use Rattle.tree_network.specs.Spots.{spot_at, spots_of}
 use Rattle.tree_bounds.specs.Stairs.{first_stair_of, later_stair}
 use Rattle.tree_bounds.specs.Onward.{stair_in}
 use Rattle.tree_bounds.specs.Bunches.{AreRowsOf}

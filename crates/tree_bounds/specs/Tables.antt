@@ -6,7 +6,7 @@ use Rattle.arrival_lines.specs.declared.grid.Queue.{Queue}
 use Rattle.tree_network.specs.Networks.{port_at, queues_of, node_at}
 use Rattle.tree_network.specs.declared.network.Link.{Link}
 use Rattle.tree_network.specs.declared.network.Network.{Network}
-use Rattle.tree_order.specs.Orders.{IsNetworkOrder}
+use Rattle.tree_network.specs.Orders.{IsNetworkOrder}
 use Rattle.tree_bounds.specs.Equations.{MeetsEquations}
 use Rattle.tree_bounds.specs.declared.analysis.Table.{Table}
 

@@ -2,8 +2,8 @@
 
 ghost use Rattle.std.specs.Prelude.{◌≡◌, ◌<◌, ◌+◌, length, IfOk, IfErr};
 ghost use Rattle.tree_network.specs.Networks.{IsNetwork, port_at};
-ghost use Rattle.tree_order.specs.Lists.{lists_of, those, is_from, AreBySource};
-ghost use Rattle.tree_order.specs.Plans.{IsPlanOf, IsFault};
+ghost use Rattle.tree_network.specs.Lists.{lists_of, those, is_from, AreBySource};
+ghost use Rattle.tree_network.specs.Plans.{IsPlanOf, IsFault};
 ghost use Rattle.tree_bounds.specs.Bunches.{AreRowsOf};
 ghost use Rattle.tree_bounds.specs.Equations.{comes_to};
 ghost use Rattle.tree_bounds.specs.Onward.{stair_in, ArePassedOn, CanBePassedOn};
@@ -15,10 +15,9 @@ use crate::bounds::all_bounds;
 use crate::onward::{first_stairs, pass_on};
 use arrival_lines::Queue;
 use arrival_stairs::Stair;
-use stair_ports::stair_rows;
+use port_bounds::stair_rows;
 use std::alloc::{AllocError, Global};
-use tree_network::Network;
-use tree_order::{Fault, Plan, plan_of};
+use tree_network::{Fault, Network, Plan, plan_of};
 
 /// What is promised in a network; none where nothing is.
 #[derive(Debug, Drop)]

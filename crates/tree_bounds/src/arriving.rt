@@ -2,11 +2,11 @@
 
 ghost use Rattle.std.specs.Prelude.{◌≡◌, ◌<◌, ◌++◌, ◌↔◌, All, IsTrue, filter, length, map, IfOk, OnOk};
 ghost use Rattle.tree_network.specs.Networks.{IsNetwork};
-ghost use Rattle.tree_order.specs.Plans.{IsPlanOf};
-ghost use Rattle.tree_order.specs.Spots.{spots_of};
+ghost use Rattle.tree_network.specs.Plans.{IsPlanOf};
+ghost use Rattle.tree_network.specs.Spots.{spots_of};
 ghost use Rattle.arrival_stairs.specs.Views.{bunch_of, bunches};
 ghost use Rattle.port_bounds.specs.Incoming.{incoming_of};
-ghost use Rattle.stair_ports.specs.Incoming.{stairs_of};
+ghost use Rattle.port_bounds.specs.StairsIncoming.{stairs_of};
 ghost use Rattle.tree_bounds.specs.Bunches.{arriving_of, arriving_of_groups, bunch_of_group, stair_list, stairs_among};
 ghost use Rattle.tree_bounds.specs.Coming.{IsComing, is_in_queue};
 ghost use Rattle.tree_bounds.specs.Groups.{incoming_of_groups};
@@ -17,11 +17,9 @@ ghost use Rattle.tree_bounds.specs.Solved.{AreAllStairs};
 use crate::groups::{Group, groups_of};
 use crate::incoming::{arrivals, pace_of};
 use arrival_stairs::{Bundle, Stair};
-use port_bounds::Arrivals;
-use stair_ports::StairArrivals;
+use port_bounds::{Arrivals, StairArrivals};
 use std::alloc::{AllocError, Global};
-use tree_network::Network;
-use tree_order::{Plan, Spot};
+use tree_network::{Network, Plan, Spot};
 
 /// What arrives at some queues of a port.
 #[derive(Debug, Drop)]

@@ -11,7 +11,7 @@ use crate::onward::line_by;
 use arrival_lines::Line;
 use arrival_stairs::Stair;
 use std::alloc::{AllocError, Global};
-use tree_order::Spot;
+use tree_network::Spot;
 
 /// The links that come to a queue from one source, together.
 #[derive(Debug, Clone, Copy)]

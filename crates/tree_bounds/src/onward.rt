@@ -3,7 +3,7 @@
 ghost use Rattle.std.specs.Prelude.{◌≡◌, ◌≤◌, ◌<◌, ◌+◌, Some, length, slice_get, IfOk, IfSome};
 ghost use Rattle.arrival_stairs.specs.Stairs.{IsStair};
 ghost use Rattle.tree_network.specs.Networks.{IsNetwork, longest_frame};
-ghost use Rattle.tree_order.specs.Spots.{AreSpots};
+ghost use Rattle.tree_network.specs.Spots.{AreSpots};
 ghost use Rattle.tree_bounds.specs.Stairs.{first_stair, first_stair_of, later_stair, stair_within};
 ghost use Rattle.tree_bounds.specs.Lines.{line_of, line_within};
 ghost use Rattle.tree_bounds.specs.Onward.{BeginStairs, ArePassedOn, CanBePassedOn, stair_in};
@@ -12,8 +12,7 @@ ghost use Rattle.tree_bounds.specs.Solved.{AreAllStairs};
 use arrival_lines::{Line, Queue, link_line};
 use arrival_stairs::Stair;
 use std::alloc::{AllocError, Global};
-use tree_network::{Link, Network};
-use tree_order::Spot;
+use tree_network::{Link, Network, Spot};
 
 /// The grains of a bit.
 pub(crate) const GRAINS: u64 = 1024;

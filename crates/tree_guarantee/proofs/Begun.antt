@@ -30,10 +30,10 @@ use Rattle.tree_network.specs.Networks.{IsNetwork, IsLink, HangsBefore, node_at,
 use Rattle.tree_network.specs.declared.network.Link.{Link}
 use Rattle.tree_network.specs.declared.network.Network.{Network}
 use Rattle.tree_network.specs.declared.network.Node.{Node}
-use Rattle.tree_order.specs.declared.spots.Spot.{Spot}
-use Rattle.tree_order.specs.Spots.{spot_at, spot_of, spots_below, spots_of, source_in}
-use Rattle.tree_order.specs.Lists.{those}
-use Rattle.tree_order.proofs.Those.{eq_true, eq_false, of_both, those_has}
+use Rattle.tree_network.specs.declared.spots.Spot.{Spot}
+use Rattle.tree_network.specs.Spots.{spot_at, spot_of, spots_below, spots_of, source_in}
+use Rattle.tree_network.specs.Lists.{those}
+use Rattle.tree_network.proofs.Those.{eq_true, eq_false, of_both, those_has}
 use Rattle.port_bounds.specs.Ports.{server_of, service_curve}
 use Rattle.tree_bounds.specs.Stairs.{first_stair, first_stair_of}
 use Rattle.tree_bounds.specs.Groups.{longest_of, spots_in_group}

@@ -23,7 +23,7 @@ use Rattle.tree_network.specs.Networks.{IsNetwork, IsLink, HangsBefore, node_at,
 use Rattle.tree_network.specs.declared.network.Link.{Link}
 use Rattle.tree_network.specs.declared.network.Network.{Network}
 use Rattle.tree_network.specs.declared.network.Node.{Node}
-use Rattle.tree_order.proofs.Those.{eq_true, eq_false}
+use Rattle.tree_network.proofs.Those.{eq_true, eq_false}
 use Rattle.tree_bounds.specs.Tables.{row_in, bounds_in, time_after, time_before, AreBounds, IsTableOf}
 use Rattle.tree_bounds.specs.declared.analysis.Table.{Table}
 use Rattle.tree_guarantee.specs.Routes.{routes_of, tree_of_link, node_of, port_before, link_time}

@@ -1,10 +1,10 @@
 -- A queue of a table has no promise only by its causes.
-use Rattle.std.specs.Prelude.{Option, Some, None, MatchOption, ◌≡◌, ◌⊎◌, ℕ, zero, suc, ◌+◌, ◌-◌, ◌*◌, ◌<◌, ◌≤◌, ◌^◌, List, [], ◌∷◌, All, length, get_or, map}
-use Rattle.std.specs.List.{sum_by, Contains}
+use Rattle.std.specs.Prelude.{Option, Some, None, MatchOption, ◌≡◌, ◌⊎◌, ℕ, zero, suc, ◌+◌, ◌-◌, ◌*◌, ◌<◌, ◌≤◌, List, [], ◌∷◌, All, length, map}
+use Rattle.std.specs.List.{sum_by}
 use Rattle.std.specs.Option.{option_map}
 use Rattle.std.proofs.Common.{arith, sym, ap, ◌∙◌, refl, subst, inl, inr}
 use Rattle.std.proofs.lemmas.Bool.{cases_lt}
-use Rattle.arrival_lines.specs.Delays.{IsDelayAt, IsNever}
+use Rattle.arrival_lines.specs.Delays.{IsDelayAt}
 use Rattle.arrival_lines.specs.Queues.{IsUnbounded, IsLeastQueue}
 use Rattle.arrival_lines.specs.declared.grid.Part.{Part}
 use Rattle.arrival_lines.specs.declared.grid.Queue.{Queue}
@@ -12,16 +12,16 @@ use Rattle.arrival_lines.specs.declared.grid.Service.{Service}
 use Rattle.arrival_stairs.specs.BelowLines.{line_parts}
 use Rattle.arrival_stairs.specs.declared.stairs.Bundle.{Bundle}
 use Rattle.arrival_stairs.specs.declared.stairs.Stair.{Stair}
-use Rattle.stair_queues.specs.Queues.{IsLeastOfBoth, IsNone}
-use Rattle.stair_queues.specs.Stays.{IsStay}
-use Rattle.stair_ports.specs.Incoming.{StairsIn, stairs_at, line_incomings}
-use Rattle.stair_ports.specs.Rows.{IsStairRow, IsStairRowBy, IsLeastStairRow}
-use Rattle.stair_ports.proofs.Held.{at_line}
-use Rattle.port_bounds.specs.Incoming.{Incoming, queue_in, joined_parts, longest_frame_of, before, behind}
-use Rattle.port_bounds.specs.Ports.{port_service, rate_behind}
+use Rattle.arrival_stairs.specs.Queues.{IsNone}
+use Rattle.arrival_stairs.specs.Stays.{IsStay}
+use Rattle.port_bounds.specs.StairsIncoming.{StairsIn, stairs_at, line_incomings}
+use Rattle.port_bounds.specs.StairRows.{IsStairRow, IsStairRowBy, IsLeastStairRow}
+use Rattle.port_bounds.proofs.StairsHeld.{at_line}
+use Rattle.port_bounds.specs.Incoming.{Incoming, queue_in, joined_parts, longest_frame_of, behind}
+use Rattle.port_bounds.specs.Ports.{port_service}
 use Rattle.port_bounds.specs.Services.{IsLeft, IsLeftBy, IsServiceAt, IsServiceOf}
 use Rattle.tree_network.specs.Networks.{port_at, queues_of}
-use Rattle.tree_order.specs.Spots.{spots_of}
+use Rattle.tree_network.specs.Spots.{spots_of}
 use Rattle.tree_bounds.specs.Bunches.{arriving_of}
 use Rattle.tree_bounds.specs.Equations.{MeetsEquations, arrivals_of, comes_to}
 use Rattle.tree_bounds.specs.Tables.{row_in}

@@ -9,12 +9,12 @@ use Rattle.tree_network.specs.Networks.{IsNetwork, node_at, no_node}
 use Rattle.tree_network.specs.declared.network.Link.{Link}
 use Rattle.tree_network.specs.declared.network.Network.{Network}
 use Rattle.tree_network.specs.declared.network.Node.{Node}
-use Rattle.tree_order.specs.declared.spots.Spot.{Spot}
-use Rattle.tree_order.specs.Spots.{no_spot, spot_of, spots_in, spots_below, spots_of, source_in}
-use Rattle.tree_order.specs.Orders.{StandsAt, GoesTo}
-use Rattle.tree_order.proofs.Those.{eq_true, of_eq}
-use Rattle.tree_order.proofs.SpotLists.{in_length, in_at, below_more}
-use Rattle.tree_order.proofs.InRange.{in_range}
+use Rattle.tree_network.specs.declared.spots.Spot.{Spot}
+use Rattle.tree_network.specs.Spots.{no_spot, spot_of, spots_in, spots_below, spots_of, source_in}
+use Rattle.tree_network.specs.Orders.{StandsAt, GoesTo}
+use Rattle.tree_network.proofs.Those.{eq_true, of_eq}
+use Rattle.tree_network.proofs.SpotLists.{in_length, in_at, below_more}
+use Rattle.tree_network.proofs.InRange.{in_range}
 use Rattle.tree_guarantee.specs.Routes.{routes_of, node_of, port_before, OrdersGoForward}
 use Rattle.tree_guarantee.proofs.TreesOf.{tree_at, no_tree}
 

@@ -14,11 +14,11 @@ use Rattle.tree_network.specs.Networks.{IsNetwork, IsLink, node_at, no_node}
 use Rattle.tree_network.specs.declared.network.Link.{Link}
 use Rattle.tree_network.specs.declared.network.Network.{Network}
 use Rattle.tree_network.specs.declared.network.Node.{Node}
-use Rattle.tree_order.specs.declared.spots.Spot.{Spot}
-use Rattle.tree_order.specs.Spots.{spots_in, spots_below, spots_of, source_in}
-use Rattle.tree_order.specs.Lists.{those}
-use Rattle.tree_order.proofs.Those.{eq_true, eq_false, of_eq, those_yes, those_no}
-use Rattle.tree_order.proofs.SpotLists.{in_length, below_more, below_zero}
+use Rattle.tree_network.specs.declared.spots.Spot.{Spot}
+use Rattle.tree_network.specs.Spots.{spots_in, spots_below, spots_of, source_in}
+use Rattle.tree_network.specs.Lists.{those}
+use Rattle.tree_network.proofs.Those.{eq_true, eq_false, of_eq, those_yes, those_no}
+use Rattle.tree_network.proofs.SpotLists.{in_length, below_more, below_zero}
 use Rattle.tree_bounds.specs.Groups.{is_in_group, spots_in_group}
 use Rattle.tree_guarantee.specs.Routes.{routes_of, tree_of_link, node_of, port_before}
 use Rattle.tree_guarantee.proofs.TreesOf.{tree_at}

@@ -22,9 +22,9 @@ use Rattle.tree_network.specs.Networks.{IsNetwork, HangsBefore, node_at, no_node
 use Rattle.tree_network.specs.declared.network.Link.{Link}
 use Rattle.tree_network.specs.declared.network.Network.{Network}
 use Rattle.tree_network.specs.declared.network.Node.{Node}
-use Rattle.tree_order.specs.declared.spots.Spot.{Spot}
-use Rattle.tree_order.specs.Spots.{spot_at, spots_below, spots_of, source_in, number_before}
-use Rattle.tree_order.proofs.Those.{eq_true, eq_false}
+use Rattle.tree_network.specs.declared.spots.Spot.{Spot}
+use Rattle.tree_network.specs.Spots.{spot_at, spots_below, spots_of, source_in, number_before}
+use Rattle.tree_network.proofs.Those.{eq_true, eq_false}
 use Rattle.tree_bounds.specs.Stairs.{later_stair}
 use Rattle.tree_guarantee.specs.Routes.{routes_of, node_of, port_before}
 use Rattle.tree_guarantee.proofs.Forward.{spot_found, HangsAt, hangs_at}

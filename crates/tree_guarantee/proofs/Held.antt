@@ -31,14 +31,14 @@ use Rattle.arrival_stairs.specs.declared.stairs.Stair.{Stair}
 use Rattle.arrival_stairs.proofs.OneExcess.{value_is}
 use Rattle.tree_network.specs.Networks.{IsNetwork, HangsBefore, node_at, port_at, no_port, queues_of}
 use Rattle.tree_network.specs.declared.network.Network.{Network}
-use Rattle.tree_order.specs.declared.spots.Spot.{Spot}
-use Rattle.tree_order.specs.Spots.{spots_of}
-use Rattle.tree_order.proofs.Those.{eq_true, of_eq}
+use Rattle.tree_network.specs.declared.spots.Spot.{Spot}
+use Rattle.tree_network.specs.Spots.{spots_of}
+use Rattle.tree_network.proofs.Those.{eq_true, of_eq}
 use Rattle.port_bounds.specs.Incoming.{Incoming, queue_in}
 use Rattle.port_bounds.specs.Ports.{server_of}
-use Rattle.stair_ports.specs.Incoming.{StairsIn, stairs_at}
-use Rattle.stair_ports.specs.Promises.{AreStairsSeenAt}
-use Rattle.stair_ports.proofs.Held.{at_line}
+use Rattle.port_bounds.specs.StairsIncoming.{StairsIn, stairs_at}
+use Rattle.port_bounds.specs.StairPromises.{AreStairsSeenAt}
+use Rattle.port_bounds.proofs.StairsHeld.{at_line}
 use Rattle.tree_bounds.specs.Bunches.{Arriving, arriving_of}
 use Rattle.tree_bounds.specs.Groups.{longest_of, spots_in_group, group_list, groups_at, longest_group, incoming_at, incomings_at}
 use Rattle.tree_bounds.specs.Equations.{arrivals_of, comes_to}

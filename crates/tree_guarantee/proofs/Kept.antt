@@ -19,10 +19,10 @@ use Rattle.arrival_lines.specs.Grid.{micros}
 use Rattle.arrival_lines.specs.declared.grid.Queue.{Queue}
 use Rattle.tree_network.specs.Networks.{IsNetwork, port_at, no_port, queues_of}
 use Rattle.tree_network.specs.declared.network.Network.{Network}
-use Rattle.tree_order.specs.Spots.{spots_of}
+use Rattle.tree_network.specs.Spots.{spots_of}
 use Rattle.port_bounds.specs.Ports.{server_of}
-use Rattle.stair_ports.specs.Rows.{IsStairRow}
-use Rattle.stair_ports.proofs.Held.{stair_rows_are_held}
+use Rattle.port_bounds.specs.StairRows.{IsStairRow}
+use Rattle.port_bounds.proofs.StairsHeld.{stair_rows_are_held}
 use Rattle.tree_bounds.specs.Bunches.{arriving_of}
 use Rattle.tree_bounds.specs.Tables.{row_in, items_of, IsTableOf}
 use Rattle.tree_bounds.specs.declared.analysis.Table.{Table}

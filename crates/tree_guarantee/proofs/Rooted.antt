@@ -1,37 +1,35 @@
 -- Where a queue has no promise there is a root of it: by induction along an order of the ports in which no link goes back.
-use Rattle.std.proofs.Common.{◌≡◌, ◌⊎◌, ℕ, zero, suc, ◌<◌, ◌≤◌, ◌+◌, ◌-◌, ◌*◌, ◌^◌, ◌==◌, ◌&&◌, Bool, true, false, Option, Some, None, List, [], ◌∷◌, ◌++◌, length, get_or, map, take, drop, if◌then◌else◌, nat_lt, refl, sym, ◌∙◌, ap, ap₂, subst, arith, inl, inr, length-append}
-use Rattle.std.specs.Prelude.{slice_get, All, is_some}
-use Rattle.std.specs.List.{Contains, list_all, sum_by}
+use Rattle.std.proofs.Common.{◌≡◌, ◌⊎◌, ℕ, zero, suc, ◌<◌, ◌≤◌, ◌+◌, ◌-◌, ◌*◌, ◌^◌, true, false, Option, Some, None, List, [], ◌∷◌, ◌++◌, length, get_or, map, refl, sym, ◌∙◌, ap, ap₂, subst, arith, inl, inr, length-append}
+use Rattle.std.specs.Prelude.{slice_get, is_some}
+use Rattle.std.specs.List.{Contains}
 use Rattle.std.specs.Option.{option_map}
-use Rattle.std.proofs.lemmas.Bool.{cases_eq, cases_lt}
-use Rattle.std.proofs.lemmas.Bool.Decides.{nat_tests}
+use Rattle.std.proofs.lemmas.Bool.{cases_lt}
 use Rattle.std.proofs.lemmas.List.{get_or-take, get_or-drop, length-take-le, length-drop, get_or_append_left, get_or-append-add}
-use Rattle.std.proofs.lemmas.List.Folds.{list_all-append}
 use Rattle.std.proofs.lemmas.Option.{get_or_from_slice_get, slice_get_cases}
 use Rattle.arrival_lines.specs.declared.grid.Line.{Line}
 use Rattle.arrival_lines.specs.declared.grid.Part.{Part}
 use Rattle.arrival_lines.specs.declared.grid.Queue.{Queue}
 use Rattle.arrival_stairs.specs.BelowLines.{stair_burst, stair_rate}
-use Rattle.arrival_stairs.specs.Views.{Bunch, bunches}
+use Rattle.arrival_stairs.specs.Views.{bunches}
 use Rattle.arrival_stairs.specs.declared.stairs.Bundle.{Bundle}
 use Rattle.arrival_stairs.specs.declared.stairs.Stair.{Stair}
 use Rattle.port_bounds.specs.Incoming.{Incoming, queue_in, both, joined_parts, before, behind}
 use Rattle.port_bounds.proofs.Queues.{parts_cons, parts_none}
-use Rattle.stair_ports.specs.Incoming.{StairsIn, stairs_at}
-use Rattle.stair_ports.specs.Rows.{IsStairRowBy}
+use Rattle.port_bounds.specs.StairsIncoming.{stairs_at}
+use Rattle.port_bounds.specs.StairRows.{IsStairRowBy}
 use Rattle.tree_network.specs.Networks.{IsNetwork, IsLink, port_at, queues_of, longest_time}
 use Rattle.tree_network.specs.declared.network.Discipline.{Discipline}
 use Rattle.tree_network.specs.declared.network.Discipline.TheVariants.{Fifo, Priority, Drr}
 use Rattle.tree_network.specs.declared.network.Link.{Link}
 use Rattle.tree_network.specs.declared.network.Network.{Network}
-use Rattle.tree_order.specs.declared.spots.Spot.{Spot}
-use Rattle.tree_order.specs.Orders.{GoesTo, IsNetworkOrder, StandsAt}
-use Rattle.tree_order.specs.Spots.{spot_at, spots_of, AreSpots, ComesFrom, IsSpot}
-use Rattle.tree_order.proofs.InRange.{in_range}
+use Rattle.tree_network.specs.declared.spots.Spot.{Spot}
+use Rattle.tree_network.specs.Orders.{GoesTo, IsNetworkOrder, StandsAt}
+use Rattle.tree_network.specs.Spots.{spot_at, spots_of, AreSpots, ComesFrom, IsSpot}
+use Rattle.tree_network.proofs.InRange.{in_range}
 use Rattle.tree_bounds.specs.Bunches.{Arriving, IsRowOf, arriving_at, arriving_of, bunch_of_group}
 use Rattle.tree_bounds.specs.Equations.{MeetsEquations, arrivals_of, comes_to}
-use Rattle.tree_bounds.specs.Groups.{is_in_group, spots_in_group, longest_of, longest_group, group_list, groups_at, part_of, parts_in, are_bounded, sum_burst, sum_rate, incoming_at}
-use Rattle.tree_bounds.specs.Lines.{line_of, line_within}
+use Rattle.tree_bounds.specs.Groups.{spots_in_group, groups_at, parts_in}
+use Rattle.tree_bounds.specs.Lines.{line_of}
 use Rattle.tree_bounds.specs.Stairs.{first_stair_of, later_stair, stair_within}
 use Rattle.tree_bounds.specs.Tables.{row_in}
 use Rattle.tree_bounds.proofs.InLimits.{queue_arriving}
@@ -41,7 +39,7 @@ use Rattle.tree_bounds.proofs.Ranged.{incomings_length}
 use Rattle.tree_bounds.proofs.Unknown.{frame_has, in_group, none_unknown, why_none}
 use Rattle.tree_guarantee.specs.Causes.{IsCause, first_served}
 use Rattle.tree_guarantee.specs.Causes.IsCause.{unbounded, unbounded_before, overloaded, long}
-use Rattle.tree_guarantee.specs.Roots.{CountsAt, HasRoot, IsAt, NoneHasARoot, PassesLimit, queue_before, sums_at}
+use Rattle.tree_guarantee.specs.Roots.{CountsAt, HasRoot, IsAt, NoneHasARoot, PassesLimit, queue_before}
 use Rattle.tree_guarantee.specs.Roots.HasRoot.{by_load, by_delay, by_limit, by_earlier}
 use Rattle.tree_guarantee.specs.Roots.PassesLimit.{jitter, line, together}
 use Rattle.tree_guarantee.proofs.Caused.{CausedBy, caused}

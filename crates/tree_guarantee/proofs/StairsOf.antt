@@ -8,8 +8,8 @@ use Rattle.arrival_stairs.specs.declared.stairs.Stair.{Stair}
 use Rattle.tree_network.specs.Networks.{IsNetwork, IsLink}
 use Rattle.tree_network.specs.declared.network.Link.{Link}
 use Rattle.tree_network.specs.declared.network.Network.{Network}
-use Rattle.tree_order.specs.Spots.{spot_at, spots_of, AreSpots, ComesFrom}
-use Rattle.tree_order.proofs.InRange.{in_range}
+use Rattle.tree_network.specs.Spots.{spot_at, spots_of, AreSpots, ComesFrom}
+use Rattle.tree_network.proofs.InRange.{in_range}
 use Rattle.tree_bounds.specs.Equations.{MeetsEquations}
 use Rattle.tree_bounds.specs.Stairs.{first_stair, first_stair_of}
 use Rattle.tree_bounds.proofs.Onwards.{first_range, if_range, later_range}

@@ -24,10 +24,10 @@ use Rattle.arrival_stairs.specs.declared.stairs.Stair.{Stair}
 use Rattle.arrival_stairs.proofs.OneExcess.{value_by, values_by}
 use Rattle.tree_network.specs.Networks.{IsNetwork, port_at}
 use Rattle.tree_network.specs.declared.network.Network.{Network}
-use Rattle.tree_order.specs.declared.spots.Spot.{Spot}
-use Rattle.tree_order.specs.Spots.{spots_of}
-use Rattle.tree_order.specs.Lists.{those}
-use Rattle.tree_order.proofs.Those.{of_both}
+use Rattle.tree_network.specs.declared.spots.Spot.{Spot}
+use Rattle.tree_network.specs.Spots.{spots_of}
+use Rattle.tree_network.specs.Lists.{those}
+use Rattle.tree_network.proofs.Those.{of_both}
 use Rattle.port_bounds.specs.Ports.{server_of}
 use Rattle.tree_bounds.specs.Bunches.{stair_list, stairs_among, bunch_of_group, arriving_at}
 use Rattle.tree_bounds.specs.Groups.{longest_of, group_of, group_list, groups_at, spots_in_group, part_of, are_bounded}

@@ -6,12 +6,12 @@ use Rattle.arrival_lines.specs.declared.grid.Part.{Part}
 use Rattle.arrival_lines.specs.declared.grid.Service.{Service}
 use Rattle.arrival_stairs.specs.declared.stairs.Bundle.{Bundle}
 use Rattle.arrival_stairs.specs.declared.stairs.Stair.{Stair}
-use Rattle.stair_queues.specs.Stays.{IsStay}
+use Rattle.arrival_stairs.specs.Stays.{IsStay}
 use Rattle.port_bounds.specs.Incoming.{Incoming, queue_in, joined_parts, before, behind}
 use Rattle.port_bounds.specs.Ports.{rate_behind}
 use Rattle.port_bounds.specs.Ranges.{sum_of}
 use Rattle.port_bounds.specs.Services.{IsServiceOf}
-use Rattle.stair_ports.specs.Incoming.{StairsIn, stairs_at}
+use Rattle.port_bounds.specs.StairsIncoming.{StairsIn, stairs_at}
 use Rattle.tree_network.specs.Networks.{port_at, queues_of}
 use Rattle.tree_network.specs.declared.network.Discipline.{Discipline}
 use Rattle.tree_network.specs.declared.network.Discipline.TheVariants.{Fifo, Priority, Drr}

@@ -6,12 +6,12 @@ use Rattle.arrival_lines.specs.declared.grid.Part.{Part}
 use Rattle.arrival_lines.specs.declared.grid.Queue.{Queue}
 use Rattle.arrival_stairs.specs.BelowLines.{stair_burst, stair_rate}
 use Rattle.arrival_stairs.specs.declared.stairs.Stair.{Stair}
-use Rattle.stair_ports.specs.Incoming.{StairsIn}
+use Rattle.port_bounds.specs.StairsIncoming.{StairsIn}
 use Rattle.tree_network.specs.Networks.{IsNetwork, port_at, queues_of}
 use Rattle.tree_network.specs.declared.network.Discipline.{Discipline}
 use Rattle.tree_network.specs.declared.network.Discipline.TheVariants.{Fifo, Priority, Drr}
 use Rattle.tree_network.specs.declared.network.Network.{Network}
-use Rattle.tree_order.specs.Spots.{spot_at, spots_of}
+use Rattle.tree_network.specs.Spots.{spot_at, spots_of}
 use Rattle.tree_bounds.specs.Bunches.{arriving_of}
 use Rattle.tree_bounds.specs.Equations.{MeetsEquations, arrivals_of, comes_to}
 use Rattle.tree_bounds.specs.Groups.{groups_at, part_of, sum_burst, sum_rate}

@@ -4,7 +4,7 @@ use Rattle.min_plus.specs.rational.specs.Rational.{ℚ}
 use Rattle.tree_runs.specs.Trees as trees
 use Rattle.tree_runs.specs.Trees.{Tree, TreeRoutes, IsOverTrees}
 use Rattle.tree_runs.specs.Orders.{TreeGoesForward}
-use Rattle.tree_order.specs.Orders.{IsNetworkOrder}
+use Rattle.tree_network.specs.Orders.{IsNetworkOrder}
 use Rattle.arrival_lines.specs.Grid.{micros}
 use Rattle.tree_network.specs.Networks.{IsNetwork, node_at}
 use Rattle.tree_network.specs.declared.network.Node.{Node}

@@ -1,0 +1,14 @@
+pub mod Distinct
+pub mod SpotLists
+pub mod Those
+pub mod ListSets
+pub mod Counted
+pub mod Ready
+pub mod Released
+pub mod Turned
+pub mod Endless
+pub mod Lates
+pub mod Walked
+pub mod Noted
+pub mod Rings
+pub mod InRange

@@ -1,4 +1,4 @@
-use Rattle.std.proofs.Common.{◌≡◌, ◌<◌, ◌≤◌, ◌^◌, ℕ, arith}
+use Rattle.std.proofs.Common.{arith}
 use Rattle.std.proofs.lemmas.Bool.{iff_false}
 use Rattle.arrival_stairs.proofs.NoJumps.{none_at_0}
 use Rattle.arrival_stairs.proofs.MoreJumps.{many_from}

@@ -1,11 +1,18 @@
-use Rattle.std.proofs.Common.{subst, ℕ, Option}
-use Rattle.std.specs.Option.{IfSome}
-use Rattle.arrival_stairs.specs.Horizon.{IsHorizon}
-use Rattle.arrival_stairs.proofs.Exact.{exact}
+use Rattle.std.proofs.Common.{ap, ◌∙◌, sym, subst, min, ℕ}
+use Rattle.arrival_stairs.specs.Ahead.{IsAheadUpTo}
+use Rattle.arrival_stairs.specs.Heights.{most_ahead}
+use Rattle.arrival_stairs.proofs.Past.{excess_of}
 use Rattle.arrival_stairs.proofs.excess.stair_excess.Goals as goal
 
-pub returns-then-are_few : goal.returns-then-are_few
-returns-then-are_few c =
-    let there = subst (λ (o : Option ℕ). IfSome o (IsHorizon c.args.bundles.now c.args.steps.now c.args.rate)) c.in-Some.is c.in_ok-horizon.ensures in
-    exact c.args.bundles.now c.args.steps.now c.args.rate c.args.most c.in-Some.end c.in_ok-exact-in-Some.exact c.requires.bundles c.requires.steps c.requires.most there
-    (c.are_few.ensures.0 c.if-are_few.true) c.in_ok-exact-in-Some.ensures
+pub returns : goal.returns
+returns c = λ bundles are steps_are slow is end.
+    excess_of bundles c.args.steps.now c.args.rate c.args.most c.args.walk.now c.tail-later.result c.min.result are steps_are slow is end c.tail-later.ensures
+    record {
+      walked = c.greatest_ahead-walked.result;
+      ahead =
+          let e = c.greatest_ahead-walked.ensures ∙ ap (most_ahead c.args.rate) c.deref.ensures.value in
+          subst (λ (n : ℕ). IsAheadUpTo bundles c.args.rate c.args.walk.now.end n) (sym e) (is.greatest c.args.rate);
+      later = c.tail-later.result;
+      tail = c.tail-later.ensures;
+      is = c.min.ensures ∙ ap (λ n. min n c.args.most) c.greater.ensures;
+    }

@@ -1,8 +1,8 @@
 use Rattle.std.proofs.Common.{◌≡◌, ◌<◌, ◌+◌, ℕ, Option, List, length, sym, ◌∙◌, ap, subst, arith}
 use Rattle.std.proofs.lemmas.List.{length-map}
-use Rattle.tree_order.specs.declared.spots.Spot.{Spot}
-use Rattle.tree_order.specs.Lists.{those, is_from}
-use Rattle.tree_order.proofs.ListSets.{list_of}
+use Rattle.tree_network.specs.declared.spots.Spot.{Spot}
+use Rattle.tree_network.specs.Lists.{those, is_from}
+use Rattle.tree_network.proofs.ListSets.{list_of}
 use Rattle.tree_bounds.specs.Onward.{CanBePassedOn, ArePassedOn}
 use Rattle.tree_bounds.proofs.analysis.hand_on.Goals as goal
 

@@ -3,11 +3,11 @@ use Rattle.std.proofs.lemmas.List.{length-map, get_or_default}
 use Rattle.std.proofs.lemmas.Result.{IfOk-weaker}
 use Rattle.tree_network.specs.Networks.{PortIsInRange, port_at, no_port, queues_of}
 use Rattle.tree_network.specs.declared.network.Port.{Port}
-use Rattle.tree_order.specs.Spots.{spots_of}
+use Rattle.tree_network.specs.Spots.{spots_of}
 use Rattle.port_bounds.specs.Incoming.{incoming, incoming_of}
-use Rattle.stair_ports.specs.Incoming.{AreStairsInRange, line_incomings, stairs_in, stairs_of}
-use Rattle.stair_ports.specs.Rows.{AreStairRows}
-use Rattle.stair_ports.specs.declared.arrivals.StairArrivals.{StairArrivals}
+use Rattle.port_bounds.specs.StairsIncoming.{AreStairsInRange, line_incomings, stairs_in, stairs_of}
+use Rattle.port_bounds.specs.StairRows.{AreStairRows}
+use Rattle.port_bounds.specs.declared.stair_arrivals.StairArrivals.{StairArrivals}
 use Rattle.tree_bounds.specs.Bunches.{arriving_below, arriving_of}
 use Rattle.tree_bounds.specs.Lines.{line_of}
 use Rattle.tree_bounds.specs.Onward.{stair_in}

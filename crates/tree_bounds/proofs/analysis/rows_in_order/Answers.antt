@@ -2,13 +2,13 @@ use Rattle.std.proofs.Common.{◌≡◌, ◌<◌, ◌≤◌, ◌+◌, ℕ, Optio
 use Rattle.std.proofs.lemmas.List.{length-map, map-set}
 use Rattle.arrival_stairs.specs.declared.stairs.Stair.{Stair}
 use Rattle.arrival_lines.specs.declared.grid.Queue.{Queue}
-use Rattle.tree_order.specs.declared.spots.Spot.{Spot}
-use Rattle.tree_order.specs.Spots.{AreSpots, spots_of}
-use Rattle.tree_order.specs.Lists.{those, is_from, lists_of, AreBySource}
+use Rattle.tree_network.specs.declared.spots.Spot.{Spot}
+use Rattle.tree_network.specs.Spots.{AreSpots, spots_of}
+use Rattle.tree_network.specs.Lists.{those, is_from, lists_of, AreBySource}
 use Rattle.tree_network.specs.Networks.{port_at, queues_of}
 use Rattle.tree_bounds.specs.Bunches.{AreRowsOf}
 use Rattle.tree_bounds.specs.Equations.{comes_to}
-use Rattle.tree_order.proofs.InRange.{in_range}
+use Rattle.tree_network.proofs.InRange.{in_range}
 use Rattle.tree_bounds.specs.Onward.{BeginStairs, CanBePassedOn, ArePassedOn, stair_in}
 use Rattle.tree_bounds.specs.Solved.{AreAllStairs, AreDone}
 use Rattle.tree_bounds.specs.Tables.{items_of}

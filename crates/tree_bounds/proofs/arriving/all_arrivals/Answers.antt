@@ -3,15 +3,15 @@ use Rattle.std.specs.Prelude.{All}
 use Rattle.std.proofs.lemmas.List.{length-map}
 use Rattle.arrival_stairs.specs.declared.stairs.Stair.{Stair}
 use Rattle.port_bounds.specs.declared.arrivals.Arrivals.{Arrivals}
-use Rattle.stair_ports.specs.declared.arrivals.StairArrivals.{StairArrivals}
-use Rattle.tree_order.specs.declared.spots.Spot.{Spot}
-use Rattle.tree_order.specs.Spots.{spots_of}
-use Rattle.tree_order.specs.Lists.{spots_at_port}
-use Rattle.tree_order.proofs.InRange.{in_range}
-use Rattle.tree_order.proofs.ListSets.{list_of}
-use Rattle.tree_order.proofs.Those.{port_pass}
+use Rattle.port_bounds.specs.declared.stair_arrivals.StairArrivals.{StairArrivals}
+use Rattle.tree_network.specs.declared.spots.Spot.{Spot}
+use Rattle.tree_network.specs.Spots.{spots_of}
+use Rattle.tree_network.specs.Lists.{spots_at_port}
+use Rattle.tree_network.proofs.InRange.{in_range}
+use Rattle.tree_network.proofs.ListSets.{list_of}
+use Rattle.tree_network.proofs.Those.{port_pass}
 use Rattle.port_bounds.specs.Incoming.{incoming_of}
-use Rattle.stair_ports.specs.Incoming.{stairs_of}
+use Rattle.port_bounds.specs.StairsIncoming.{stairs_of}
 use Rattle.tree_bounds.specs.Bunches.{arriving_of, arriving_of_groups}
 use Rattle.tree_bounds.specs.Coming.{IsComing}
 use Rattle.tree_bounds.specs.Groups.{groups_at, incoming_of_groups}

@@ -1,11 +1,11 @@
 use Rattle.std.proofs.Common.{◌≡◌, ◌<◌, ◌≤◌, ◌+◌, ℕ, List, filter, length, sym, ◌∙◌, ap, subst, arith}
 use Rattle.std.specs.Prelude.{All}
 use Rattle.std.proofs.lemmas.List.{length-map}
-use Rattle.tree_order.specs.declared.spots.Spot.{Spot}
-use Rattle.tree_order.specs.Lists.{those, is_from}
-use Rattle.tree_order.specs.Spots.{spots_of}
-use Rattle.tree_order.proofs.ListSets.{list_of}
-use Rattle.tree_order.proofs.Those.{those_pass}
+use Rattle.tree_network.specs.declared.spots.Spot.{Spot}
+use Rattle.tree_network.specs.Lists.{those, is_from}
+use Rattle.tree_network.specs.Spots.{spots_of}
+use Rattle.tree_network.proofs.ListSets.{list_of}
+use Rattle.tree_network.proofs.Those.{those_pass}
 use Rattle.tree_bounds.specs.Bunches.{stairs_among}
 use Rattle.tree_bounds.specs.Coming.{is_in_queue}
 use Rattle.tree_bounds.specs.Onward.{stair_in}

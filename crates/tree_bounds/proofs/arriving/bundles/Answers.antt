@@ -1,7 +1,7 @@
 use Rattle.std.proofs.Common.{◌≡◌, ◌+◌, ◌++◌, ◌∷◌, [], ℕ, List, map, take, length, get_or, sym, ◌∙◌, ap, refl}
 use Rattle.std.proofs.lemmas.List.{take_all, map-append}
 use Rattle.arrival_stairs.specs.Views.{Bunch, bunch_of, bunches}
-use Rattle.tree_order.specs.Spots.{spots_of}
+use Rattle.tree_network.specs.Spots.{spots_of}
 use Rattle.tree_bounds.specs.Bunches.{bunch_of_group}
 use Rattle.tree_bounds.specs.Onward.{stair_in}
 use Rattle.tree_bounds.proofs.Coming.{bunches_more}

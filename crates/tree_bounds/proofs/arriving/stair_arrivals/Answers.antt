@@ -1,6 +1,6 @@
 use Rattle.std.proofs.Common.{ℕ}
 use Rattle.arrival_stairs.specs.Views.{bunches}
-use Rattle.tree_order.specs.Spots.{spots_of}
+use Rattle.tree_network.specs.Spots.{spots_of}
 use Rattle.tree_bounds.specs.Onward.{stair_in}
 use Rattle.tree_bounds.proofs.Coming.{none_arrives, some_arrive}
 use Rattle.tree_bounds.proofs.arriving.stair_arrivals.Goals as goal

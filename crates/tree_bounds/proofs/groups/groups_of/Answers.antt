@@ -1,6 +1,6 @@
 use Rattle.std.proofs.Common.{◌≡◌, ◌<◌, ◌≤◌, ◌+◌, ◌^◌, ℕ, List, get_or, subst, sym, ◌∙◌, ap, arith, length}
 use Rattle.std.proofs.lemmas.List.{take_all}
-use Rattle.tree_order.specs.Spots.{spot_at}
+use Rattle.tree_network.specs.Spots.{spot_at}
 use Rattle.tree_bounds.specs.Grouping.{group_of_spot, with_group, grouped}
 use Rattle.tree_bounds.specs.Lines.{line_of}
 use Rattle.tree_bounds.specs.Onward.{stair_in}

@@ -1,4 +1,0 @@
-pub mod Small
-pub mod Scaled
-pub mod Bent
-pub mod Split

@@ -1,3 +1,0 @@
-pub mod Promises
-pub mod Stays
-pub mod Queues

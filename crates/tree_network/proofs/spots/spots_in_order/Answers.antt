@@ -1,0 +1,29 @@
+use Rattle.std.proofs.Common.{◌<◌, length, arith, sym, ◌∙◌, ap, subst, refl, List, ◌++◌}
+use Rattle.tree_network.specs.declared.spots.Spot.{Spot}
+use Rattle.std.proofs.lemmas.Option.{slice_get_read}
+use Rattle.tree_network.specs.Networks.{IsLink}
+use Rattle.tree_network.specs.declared.network.Link.{Link}
+use Rattle.tree_network.specs.Spots.{spots_in}
+use Rattle.tree_network.proofs.SpotLists.{below_zero, below_more}
+use Rattle.tree_network.proofs.spots.spots_in_order.Goals as goal
+
+pub loop-number-init : goal.loop-number-init
+loop-number-init c = c.new-spots.ensures.items ∙ sym (below_zero c.args.network.now)
+
+pub add_link-requires : goal.add_link-requires
+add_link-requires c =
+    let inside : c.loop-number.number < length c.args.network.now.links.items = omega (arith, c.loop-number-test.true, c.len-number-end.ensures) in
+    let P : Link → Type 0 = λ l. IsLink c.args.network.now l in
+    let l = subst P (sym c.index.ensures) (c.requires.links c.loop-number.number c.index.result.now inside) in
+    record {
+      hangs = λ place h. (l.nodes place h).hangs;
+      ports = λ place h. let lt = (l.nodes place h).port in omega (arith, lt, c.requires.few_ports);
+    }
+
+pub loop-number-preserved : goal.loop-number-preserved
+loop-number-preserved c =
+    let net = c.args.network.now in
+    let inside : c.loop-number.number < length net.links.items = omega (arith, c.loop-number-test.true, c.len-number-end.ensures) in
+    let is = slice_get_read net.links.items (length net.links.items) c.loop-number.number c.index.result.now refl inside c.index.ensures in
+    let S = λ (xs : List Spot). xs ++ spots_in c.loop-number.number (length xs) c.index.result.now (length c.index.result.now.nodes.items) in
+    c.in_ok-add_link.ensures ∙ ap S c.loop-number.invariant ∙ sym (below_more net c.loop-number.number c.index.result.now is)

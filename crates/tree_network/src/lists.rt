@@ -1,0 +1,80 @@
+//! Lists of spots by their numbers: by where frames come from, and by port.
+
+ghost use Rattle.std.specs.Prelude.{◌≡◌, [], ◌<◌, ◌≤◌, ◌+◌, ◌++◌, ◌∷◌, ◌==◌, ℕ, All, filter, length, replicate, set, IfOk, OnOk};
+ghost use Rattle.tree_network.specs.Lists.{lists_of, list_at, AreBySource, AreByPort};
+ghost use Rattle.tree_network.specs.Spots.{spot_at};
+
+use crate::spots::Spot;
+use std::alloc::{AllocError, Global};
+
+/// So many empty lists.
+fn empty_lists(alloc: Global, count: usize) -> Result<Vec<Vec<usize>>, AllocError>
+    ensures { IfOk result (λ v. lists_of v.items ≡ replicate count []) }
+{
+    let mut lists = Vec::with_capacity(alloc, count)?;
+    for _list in 0..count {
+        lists.push(Vec::new(alloc))?;
+    }
+    Ok(lists)
+}
+
+/// Adds a number to list k.
+fn add_to(lists: &mut Vec<Vec<usize>>, k: usize, number: usize) -> Result<(), AllocError>
+    requires { k < length lists.old.items }
+    ensures { let old = lists_of lists.old.items in OnOk result (lists_of lists.new.items ≡ set old k (list_at old k ++ number ∷ [])) }
+{
+    lists[k].push(number)?;
+    Ok(())
+}
+
+/// The numbers of the spots of each source.
+pub(crate) fn by_source(
+    alloc: Global,
+    spots: &[Spot],
+    sources: usize,
+) -> Result<Vec<Vec<usize>>, AllocError>
+    requires { (n : ℕ) → n < length spots.now → (spot_at spots.now n).source < sources }
+    ensures { IfOk result (λ v. AreBySource spots.now sources (lists_of v.items)) }
+{
+    let mut lists = empty_lists(alloc, sources)?;
+    for n in 0..spots.len() {
+        add_to(&mut lists, spots[n].source, n)?;
+    }
+    Ok(lists)
+}
+
+/// Adds the numbers, each to the list of its port.
+fn add_spots(
+    lists: &mut Vec<Vec<usize>>,
+    spots: &[Spot],
+    numbers: &[usize],
+) -> Result<(), AllocError>
+    requires inside { All (λ n. n < length spots.now) numbers.now }
+    requires ports { (n : ℕ) → n < length spots.now → (spot_at spots.now n).port < length lists.old.items }
+    ensures count { OnOk result (length lists.new.items ≡ length lists.old.items) }
+    ensures added { OnOk result ((s : ℕ) → s < length lists.old.items → list_at (lists_of lists.new.items) s
+        ≡ list_at (lists_of lists.old.items) s ++ filter (λ n. (spot_at spots.now n).port == s) numbers.now) }
+{
+    for n in numbers {
+        add_to(lists, spots[*n].port, *n)?;
+    }
+    Ok(())
+}
+
+/// The numbers of the spots at each port, in the order of their sources.
+pub(crate) fn by_port(
+    alloc: Global,
+    spots: &[Spot],
+    ports: usize,
+    sources: &[Vec<usize>],
+) -> Result<Vec<Vec<usize>>, AllocError>
+    requires sources { AreBySource spots.now (length sources.now) (lists_of sources.now) }
+    requires ports { (n : ℕ) → n < length spots.now → (spot_at spots.now n).port < ports }
+    ensures { IfOk result (λ v. AreByPort spots.now ports (length sources.now) (lists_of v.items)) }
+{
+    let mut lists = empty_lists(alloc, ports)?;
+    for numbers in sources {
+        add_spots(&mut lists, spots, numbers)?;
+    }
+    Ok(lists)
+}

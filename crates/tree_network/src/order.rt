@@ -1,0 +1,143 @@
+//! An order of the ports.
+
+ghost use Rattle.std.specs.Prelude.{◌≡◌, ◌<◌, ◌≤◌, ◌+◌, ℕ, All, length, IfErr, IfOk, OnOk, false, get_or, replicate};
+ghost use Rattle.tree_network.specs.Networks.{IsNetwork};
+ghost use Rattle.tree_network.specs.Lists.{lists_of, AreBySource, AreByPort};
+ghost use Rattle.tree_network.specs.Orders.{IsOrderOf, OrderOrRing};
+ghost use Rattle.tree_network.specs.Plans.{IsPlanOf, IsFault, IsRingFault};
+ghost use Rattle.tree_network.specs.Rings.{OneRing, ToldRingsAreRings};
+ghost use Rattle.tree_network.specs.Spots.{spot_at};
+ghost use Rattle.tree_network.specs.Turns.{AreReady, Begins, count_at, count_waiting};
+
+use crate::fault::Fault;
+use crate::lists::{by_port, by_source};
+use crate::network::Network;
+use crate::ring::ring_of;
+use crate::spots::{Spot, spots_in_order};
+use std::alloc::{AllocError, Global};
+
+/// How many spots of each port wait for the port before.
+fn waiting_at(alloc: Global, spots: &[Spot], ports: usize) -> Result<Vec<usize>, AllocError>
+    requires { (n : ℕ) → n < length spots.now → (spot_at spots.now n).port < ports }
+    ensures { IfOk result (λ v. (length v.items ≡ ports) × ((s : ℕ) → s < ports → get_or v.items s 0 ≡ count_waiting spots.now (replicate ports false) s)) }
+{
+    let mut waiting = vec![in alloc; 0; ports]?;
+    for spot in spots {
+        if spot.source > 0 {
+            waiting[spot.port] += 1;
+        }
+    }
+    Ok(waiting)
+}
+
+/// The ports that wait for none.
+fn idle_ports(alloc: Global, waiting: &[usize]) -> Result<Vec<usize>, AllocError>
+    ensures { IfOk result (λ v. AreReady waiting.now v.items) }
+{
+    let mut ready = Vec::new(alloc);
+    for port in 0..waiting.len() {
+        if waiting[port] == 0 {
+            ready.push(port)?;
+        }
+    }
+    Ok(ready)
+}
+
+/// Takes the spots off what waits, and adds each port that then waits for none.
+fn release(
+    spots: &[Spot],
+    numbers: &[usize],
+    waiting: &mut Vec<usize>,
+    ready: &mut Vec<usize>,
+) -> Result<(), AllocError>
+    requires inside { All (λ n. n < length spots.now) numbers.now }
+    requires ports { (n : ℕ) → n < length spots.now → (spot_at spots.now n).port < length waiting.old.items }
+    requires waits { (s : ℕ) → s < length waiting.old.items → count_at spots.now s numbers.now ≤ get_or waiting.old.items s 0 }
+    requires ready { AreReady waiting.old.items ready.old.items }
+    ensures count { OnOk result (length waiting.new.items ≡ length waiting.old.items) }
+    ensures less { OnOk result ((s : ℕ) → s < length waiting.old.items → get_or waiting.new.items s 0 + count_at spots.now s numbers.now ≡ get_or waiting.old.items s 0) }
+    ensures ready { OnOk result (AreReady waiting.new.items ready.new.items) }
+    ensures more { OnOk result (Begins ready.old.items ready.new.items) }
+{
+    for n in numbers {
+        let port = spots[*n].port;
+        let left = waiting[port] - 1;
+        waiting[port] = left;
+        if left == 0 {
+            ready.push(port)?;
+        }
+    }
+    Ok(())
+}
+
+/// An order in which each port comes after those from which links come to it; the ring where there is none.
+fn order_of(
+    alloc: Global,
+    spots: &[Spot],
+    ports: usize,
+    sources: &[Vec<usize>],
+    at: &[Vec<usize>],
+) -> Result<Vec<usize>, Fault>
+    requires sources { AreBySource spots.now (ports + 1) (lists_of sources.now) }
+    requires at { AreByPort spots.now ports (ports + 1) (lists_of at.now) }
+    requires ports { (n : ℕ) → n < length spots.now → (spot_at spots.now n).port < ports }
+    requires from { (n : ℕ) → n < length spots.now → (spot_at spots.now n).source ≤ ports }
+    ensures order { IfOk result (λ v. IsOrderOf spots.now ports v.items) }
+    ensures fault { IfErr result (IsRingFault spots.now) }
+{
+    let mut waiting = waiting_at(alloc, spots, ports)?;
+    let mut ready = idle_ports(alloc, &waiting)?;
+    let mut is_done = vec![in alloc; false; ports]?;
+    for turn in 0..ports {
+        if turn >= ready.len() {
+            return Err(Fault::Cycle(ring_of(alloc, spots, at, &is_done)?));
+        }
+        let port = ready[turn];
+        is_done[port] = true;
+        release(spots, &sources[port + 1], &mut waiting, &mut ready)?;
+    }
+    Ok(ready)
+}
+
+/// The spots of a network, by where their frames come from and by port, and an order of the ports.
+#[derive(Debug, Drop)]
+pub struct Plan {
+    /// In the order of the links, and of each link's nodes.
+    pub spots: Vec<Spot>,
+    /// The numbers of the spots by their source: first those where frames begin, then those to which frames come from each port.
+    pub sources: Vec<Vec<usize>>,
+    /// The numbers of the spots at each port, in the order of their sources.
+    pub at: Vec<Vec<usize>>,
+    /// Each port once, after those from which links come to it.
+    pub order: Vec<usize>,
+}
+
+/// The plan of a network, or the ring of its ports. In proportion to the nodes of all links, and to the ports.
+pub fn plan_of(alloc: Global, network: &Network) -> Result<Plan, Fault>
+    requires { IsNetwork network.now }
+    ensures plan { IfOk result (IsPlanOf network.now) }
+    ensures fault { IfErr result (IsFault network.now) }
+{
+    let ports = network.ports.len();
+    let spots = spots_in_order(alloc, network)?;
+    let sources = by_source(alloc, &spots, ports + 1)?;
+    let at = by_port(alloc, &spots, ports, &sources)?;
+    let order = order_of(alloc, &spots, ports, &sources, &at)?;
+    Ok(Plan {
+        spots,
+        sources,
+        at,
+        order,
+    })
+}
+
+/// A network has never both an order and a ring.
+pub fn order_or_ring()
+    ensures { OrderOrRing }
+{}
+
+/// Of a network one ring at most is told, and it is one.
+pub fn one_ring_is_told()
+    ensures one { OneRing }
+    ensures ring { ToldRingsAreRings }
+{}

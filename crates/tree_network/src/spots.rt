@@ -1,0 +1,87 @@
+//! The spots of a network: the nodes of its links' trees, with numbers.
+
+ghost use Rattle.std.specs.Prelude.{◌≡◌, ◌<◌, ◌+◌, ◌^◌, ◌++◌, ℕ, length, IfOk, OnOk};
+ghost use Rattle.std.specs.Option.{ForSome};
+ghost use Rattle.tree_network.specs.Networks.{HangsBefore, IsNetwork, node_at};
+ghost use Rattle.tree_network.specs.Spots.{HangsTogether, SpotsAreInRange, number_before, source_in, spots_in, spots_of};
+
+use crate::network::{Link, Network};
+use std::alloc::{AllocError, Global};
+
+/// A node of a link's tree.
+#[derive(Debug, Clone, Copy, PartialEq, Eq)]
+pub struct Spot {
+    /// The number of the link.
+    pub link: usize,
+    /// The longest frame of the link, in bits.
+    pub frame: u64,
+    /// The number of the port.
+    pub port: usize,
+    /// The queue of the link's frames there.
+    pub queue: usize,
+    /// Where its frames come from: 0 where they begin, else one more than the number of the port before.
+    pub source: usize,
+    /// The number of the spot before; its own where its frames begin.
+    pub from: usize,
+}
+
+/// Where the frames of a link's node come from: 0 where they begin, else one more than the number of the port before.
+fn source_of(link: &Link, from: Option<usize>) -> usize
+    requires inside { ForSome from (λ place. place < length link.now.nodes.items) }
+    requires small { (k : ℕ) → k < length link.now.nodes.items → (node_at link.now k).port < 4096 }
+    ensures { result ≡ source_in link.now from }
+{
+    match from {
+        None => 0,
+        Some(place) => link.nodes[place].port + 1,
+    }
+}
+
+/// The number of the spot from which frames come to the node at this place, where that of the link's first node is given.
+fn spot_before(first: usize, place: usize, from: Option<usize>) -> usize
+    requires fits { first + place < 2 ^ 64 }
+    requires hangs { HangsBefore place from }
+    ensures { result ≡ number_before first place from }
+{
+    match from {
+        None => first + place,
+        Some(from) => first + from,
+    }
+}
+
+/// Adds the spots of a link of this number.
+fn add_link(spots: &mut Vec<Spot>, link: &Link, number: usize) -> Result<(), AllocError>
+    requires { HangsTogether link.now }
+    ensures { OnOk result (spots.new.items ≡ spots.old.items ++ spots_in number (length spots.old.items) link.now (length link.now.nodes.items)) }
+{
+    for place in 0..link.nodes.len() {
+        let node = link.nodes[place];
+        let first = spots.len() - place;
+        spots.push(Spot {
+            link: number,
+            frame: link.frame,
+            port: node.port,
+            queue: node.queue,
+            source: source_of(link, node.from),
+            from: spot_before(first, place, node.from),
+        })?;
+    }
+    Ok(())
+}
+
+/// The spots of the network.
+pub(crate) fn spots_in_order(alloc: Global, network: &Network) -> Result<Vec<Spot>, AllocError>
+    requires { IsNetwork network.now }
+    ensures { IfOk result (λ v. v.items ≡ spots_of network.now) }
+{
+    let mut spots = Vec::new(alloc);
+    for number in 0..network.links.len() {
+        add_link(&mut spots, &network.links[number], number)?;
+    }
+    Ok(spots)
+}
+
+/// The spots of a network in range are in range.
+pub fn spots_are_in_range()
+    ensures { SpotsAreInRange }
+{}

@@ -1,5 +1,0 @@
-use Rattle.tree_order.specs.Lists.{lists_of, AreByPort}
-use Rattle.tree_order.proofs.lists.by_port.Given as goal
-
-abbrev pub invariant-loop-numbers : goal.invariant-loop-numbers
-invariant-loop-numbers l = AreByPort l.spots l.ports l.numbers-index (lists_of l.lists.items)

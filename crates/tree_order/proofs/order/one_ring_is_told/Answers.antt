@@ -1,5 +1,0 @@
-use Rattle.tree_order.proofs.Rings.{one_ring, told_rings_are_rings}
-use Rattle.tree_order.proofs.order.one_ring_is_told.Goals as goal
-
-pub returns : goal.returns
-returns c = record { one = one_ring; ring = told_rings_are_rings }

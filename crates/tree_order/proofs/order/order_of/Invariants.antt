@@ -1,5 +1,0 @@
-use Rattle.tree_order.proofs.Turned.{Turned}
-use Rattle.tree_order.proofs.order.order_of.Given as goal
-
-abbrev pub invariant-loop-turn : goal.invariant-loop-turn
-invariant-loop-turn l = Turned l.fn.spots l.ports l.is_done.items l.waiting.items l.ready.items l.turn

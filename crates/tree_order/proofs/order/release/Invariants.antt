@@ -1,5 +1,0 @@
-use Rattle.tree_order.proofs.Released.{Released}
-use Rattle.tree_order.proofs.order.release.Given as goal
-
-abbrev pub invariant-loop-n : goal.invariant-loop-n
-invariant-loop-n l = Released l.spots l.numbers l.n-index l.initial.waiting.items l.waiting.items l.initial.ready.items l.ready.items

@@ -1,5 +1,0 @@
-use Rattle.tree_order.proofs.Counted.{Waiting}
-use Rattle.tree_order.proofs.order.waiting_at.Given as goal
-
-abbrev pub invariant-loop-spot : goal.invariant-loop-spot
-invariant-loop-spot l = Waiting l.spots l.ports l.spot-index l.waiting.items

@@ -1,6 +1,0 @@
-use Rattle.std.proofs.Common.{◌≡◌}
-use Rattle.tree_order.specs.Spots.{spots_below}
-use Rattle.tree_order.proofs.spots.spots_in_order.Given as goal
-
-abbrev pub invariant-loop-number : goal.invariant-loop-number
-invariant-loop-number l = l.spots.items ≡ spots_below l.network l.number

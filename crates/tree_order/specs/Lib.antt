@@ -1,6 +1,0 @@
-pub mod Spots
-pub mod Lists
-pub mod Orders
-pub mod Rings
-pub mod Turns
-pub mod Plans
