@@ -3,7 +3,7 @@
 -- for it, no queue holds more bits than the backlog, and no frame of a branch takes longer from its entry to the end of
 -- the link behind the branch's last port than the bound, nor than its deadline where that is told as met. Where `none`
 -- is printed nothing is promised.
-use Rattle.std.specs.Prelude.{◌≡◌, ◌+◌, ◌*◌, ◌/◌, ◌<◌, ℕ, pred, pos, true, length, slice_get, Option, Some, None}
+use Rattle.std.specs.Prelude.{◌≡◌, ◌+◌, ◌*◌, ◌/◌, ◌<◌, ℕ, pred, pos, true, List, length, slice_get, Option, Some, None}
 use Rattle.min_plus.specs.rational.specs.Rational.{ℚ, frac}
 use Rattle.min_plus.specs.rational.specs.Extended.{Ext}
 use Rattle.min_plus.specs.rational.specs.declared.Extended.TheVariants.{Fin, Inf}
@@ -16,6 +16,8 @@ use Rattle.tree_runs.specs.Branches.{delays_to}
 use Rattle.arrival_lines.specs.Grid.{micros}
 use Rattle.table_cells.specs.declared.amount.Amount.{Amount}
 use Rattle.tree_network.specs.declared.network.Network.{Network}
+use Rattle.document_rows.specs.PortRows.{PortText}
+use Rattle.document_tables.specs.declared.links.LinkKeys.{LinkKeys}
 use Rattle.document_tables.specs.Documents.{DocumentText}
 use Rattle.document_tables.specs.Grids.{BranchOnGrid}
 use Rattle.bounds_report.specs.Numbers.{is_met}
@@ -24,6 +26,7 @@ use Rattle.bounds_report.specs.declared.rows.BranchRow.{BranchRow}
 use Rattle.bounds_report.specs.declared.rows.Report.{Report}
 use Rattle.tree_guarantee.specs.Routes.{routes_of}
 use Rattle.tree_guarantee.specs.Guarantee.{IsRunOf}
+use Rattle.rounded_runs.specs.Written.{IsRounded, IsWrittenRun}
 use Rattle.bounds_command.specs.Reports.{name_at, last_port}
 
 -- a time as it is printed: picoseconds in microseconds, rounded up to thousandths
@@ -64,3 +67,9 @@ pub record IsKept (d : DocumentText) (net : Network) (report : Report) (run : Sp
 -- each such run keeps the report
 abbrev pub Guarantees : DocumentText → Network → Report → Type 0
 Guarantees d net report = (run : SpecRun) → IsRunOf net run → IsKept d net report run
+
+-- and each one that keeps the numbers that are written, exact, where the network has these on its grid
+abbrev pub WrittenGuarantees : DocumentText → Network → Report → Type 0
+WrittenGuarantees d net report =
+    (overhead : ℕ) (texts : List PortText) (keys : List LinkKeys) (run : SpecRun) → IsRounded overhead texts keys net
+    → IsWrittenRun overhead texts keys net run → IsKept d net report run
