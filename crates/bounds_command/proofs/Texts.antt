@@ -1,10 +1,8 @@
 -- What the rows of a document write, and its network, which has that on its grid.
-use Rattle.std.proofs.Common.{◌≡◌, ℕ, ◌<◌, ◌%◌, ◌==◌, true, List, Option, Some, Result, Ok, Err, All, length, get_or, map, sym, ◌∙◌, ap, subst, arith}
+use Rattle.std.proofs.Common.{◌≡◌, ℕ, List, Some, Ok, Err, All, map, sym, ◌∙◌, ap, subst}
 use Rattle.std.specs.Prelude.{slice_get, option_map}
-use Rattle.std.proofs.lemmas.Bool.Decides.{nat_tests}
 use Rattle.std.proofs.lemmas.List.Elements.{All-get_or}
-use Rattle.std.proofs.lemmas.Option.{slice_get-map, slice_get-get_or, slice_get_within, get_or_from_slice_get}
-use Rattle.tree_network.specs.Networks.{no_port, port_at}
+use Rattle.std.proofs.lemmas.Option.{slice_get-map, slice_get_within, get_or_from_slice_get}
 use Rattle.tree_network.specs.declared.network.Link.{Link}
 use Rattle.tree_network.specs.declared.network.Network.{Network}
 use Rattle.document_rows.specs.Reads.{and_then}
@@ -17,16 +15,12 @@ use Rattle.document_tables.specs.Links.{Links, links_of}
 use Rattle.document_tables.specs.Ports.{Ports, ports_of}
 use Rattle.document_tables.specs.Ranges.{IsPortText, AreLinkKeys}
 use Rattle.document_tables.specs.Tables.{LineRow, TableRead}
-use Rattle.document_tables.proofs.NetworkFacts.{link_at, same_at, same_length}
+use Rattle.document_tables.proofs.NetworkFacts.{link_at}
 use Rattle.document_tables.proofs.Reading.{both_read, same_read}
 use Rattle.document_tables.proofs.TableRanges.{ports_in_range, links_in_range}
-use Rattle.rounded_runs.specs.Written.{IsRounded, IsRoundedLink, IsRoundedPort, keys_at, no_keys, no_text}
-use Rattle.rounded_runs.proofs.Runs.{link_times_are_exact}
+use Rattle.rounded_runs.specs.Written.{IsRounded, IsRoundedLink, keys_at, no_keys}
 use Rattle.bounds_command.specs.OnTables.{AreWritten}
 use Rattle.bounds_command.specs.Reports.{IsNetworkOf}
-
-whole : {a b : ℕ} → (a % b == 0) ≡ true → a % b ≡ 0
-whole h = grind (arith, nat_tests, h)
 
 read_in : {X : Type 0} (file : TableFile) (r : TableRead X) (x : X) → in_file file r ≡ Ok x → r ≡ Ok x
 read_in file (Ok y) x h = cc
@@ -36,17 +30,6 @@ module _ (overhead : ℕ) (ports : Ports) (links : Links) (net : Network)
     (same_ports : map grid_port net.ports.items ≡ map port_on_grid ports.ports)
     (same_links : map grid_link net.links.items ≡ links_from ports.ports overhead links.branches 0 links.keys)
     (texts : All IsPortText ports.ports) (keys : All AreLinkKeys links.keys) where
-  few : (s : ℕ) → s < length net.ports.items → s < length ports.ports
-  few s h = let n = same_length grid_port port_on_grid net.ports.items ports.ports same_ports in omega (arith, h, n)
-
-  port_rounded : (s : ℕ) → s < length net.ports.items → IsRoundedPort net ports.ports s
-  port_rounded s h = record {
-    is =
-        same_at grid_port port_on_grid net.ports.items ports.ports same_ports s no_port (get_or ports.ports s no_text)
-        (slice_get-get_or ports.ports s no_text (few s h));
-    range = All-get_or IsPortText ports.ports s no_text (few s h) texts;
-  }
-
   link_rounded : (i : ℕ) (link : Link) → slice_get net.links.items i ≡ Some link
       → IsRoundedLink overhead (keys_at links.keys i) link
   link_rounded i link h =
@@ -67,7 +50,7 @@ module _ (overhead : ℕ) (ports : Ports) (links : Links) (net : Network)
       subst (λ (k : LinkKeys). IsRoundedLink overhead k link) (sym (get_or_from_slice_get links.keys i no_keys key at.1)) made
 
   rounded : IsRounded overhead ports.ports links.keys net
-  rounded = record { ports = port_rounded; links = link_rounded }
+  rounded = record { ports = same_ports; ranges = texts; links = link_rounded }
 
 pub written_of : (overhead : ℕ) (port_rows link_rows : List LineRow) (d : DocumentText) (net : Network)
     → document_of overhead port_rows link_rows ≡ Ok d → IsNetworkOf d net → AreWritten overhead port_rows link_rows net
@@ -83,13 +66,10 @@ written_of overhead port_rows link_rows d net h is =
     let keys = (links_in_range p.0 overhead link_rows l.0 links_are).0 in
     let same_ports = is.ports ∙ sym (ap (λ (e : DocumentText). e.ports) made) in
     let same_links = is.links ∙ sym (ap (λ (e : DocumentText). e.links) made) in
-    let all = rounded overhead p.0 l.0 net same_ports same_links texts keys in
     record {
       ports = p.0;
       links = l.0;
       ports_are = ports_are;
       links_are = links_are;
-      rounded = all;
-      exact_links = λ s inside.
-          link_times_are_exact overhead p.0.ports l.0.keys net s all inside (whole (all.ports s inside).range.whole_link);
+      rounded = rounded overhead p.0 l.0 net same_ports same_links texts keys;
     }

@@ -7,8 +7,7 @@ use Rattle.document_tables.specs.declared.fault.TableFile.TheVariants.{Ports, Li
 use Rattle.document_tables.specs.Tables.{LineRow}
 use Rattle.document_tables.specs.Links as link_table
 use Rattle.document_tables.specs.Ports as port_table
-use Rattle.tree_guarantee.specs.Routes.{link_time}
-use Rattle.rounded_runs.specs.Written.{IsRounded, exact, text_at}
+use Rattle.rounded_runs.specs.Written.{IsRounded}
 use Rattle.document_tables.specs.Documents.{DocumentText, FileFault, document_of}
 use Rattle.tree_network.specs.Networks.{IsNetwork, port_at, queues_of}
 use Rattle.tree_network.specs.declared.network.Network.{Network}
@@ -55,16 +54,13 @@ pub record AreRowsOfBoth (t : Tables) (ports links : List LineRow) : Type 0 wher
   pub links_rows : AreLinesOf t.links links
 
 -- ---- a document, or its first fault
--- What the rows write, exact, and that a network has it on its grid; a link between ports takes just the time that is
--- written.
+-- What the rows write, exact, and that a network has it on its grid.
 pub record AreWritten (overhead : ℕ) (port_rows link_rows : List LineRow) (net : Network) : Type 0 where
   pub ports : port_table.Ports
   pub links : link_table.Links
   pub ports_are : port_table.ports_of port_rows ≡ Ok ports
   pub links_are : link_table.links_of ports overhead link_rows ≡ Ok links
   pub rounded : IsRounded overhead ports.ports links.keys net
-  pub exact_links : (s : ℕ) → s < length net.ports.items
-      → link_time (port_at net s) ≡ exact (text_at ports.ports s).link
 
 pub record Gives (t : Tables) (overhead : ℕ) (d : DocumentText) (net : Network) : Type 0 where
   pub port_rows : List LineRow
@@ -98,7 +94,7 @@ pub record IsReported (d : DocumentText) (net : Network) (form : Form) (reply : 
   pub report : Report
   pub tells : IsReportOf d net table report
   pub guarantees : Guarantees d net report
-  -- so each one that keeps what the rows write, exact
+  -- so does each lawful run of the network that the rows write, exact
   pub written : WrittenGuarantees d net report
   -- a queue has no number only where nothing bounds what comes there, its load is above the rate, or it waits too long
   pub causes : (s q : ℕ) → s < length net.ports.items → q < queues_of (port_at net s).discipline

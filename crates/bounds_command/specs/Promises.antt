@@ -68,7 +68,7 @@ pub record IsKept (d : DocumentText) (net : Network) (report : Report) (run : Sp
 abbrev pub Guarantees : DocumentText → Network → Report → Type 0
 Guarantees d net report = (run : SpecRun) → IsRunOf net run → IsKept d net report run
 
--- and each one that keeps the numbers that are written, exact, where the network has these on its grid
+-- and each lawful run of the network that is written, exact, keeps it, where this one has its numbers on the grid
 abbrev pub WrittenGuarantees : DocumentText → Network → Report → Type 0
 WrittenGuarantees d net report =
     (overhead : ℕ) (texts : List PortText) (keys : List LinkKeys) (run : SpecRun) → IsRounded overhead texts keys net

@@ -1,8 +1,10 @@
--- Runs that keep what is written keep what is on the grid.
-use Rattle.std.specs.Prelude.{◌≡◌, ℕ, zero, suc, ◌+◌, ◌*◌, ◌/◌, ◌%◌, ◌<◌, ◌≤◌, true, nat_le, List, Option, Some, None, length, slice_get, map, option_map}
-use Rattle.std.proofs.Common.{arith, refl, sym, ◌∙◌, ap, subst}
+-- Runs of the network that is written are runs of the one on the grid.
+use Rattle.std.specs.Prelude.{◌≡◌, ℕ, zero, suc, ◌+◌, ◌*◌, ◌/◌, ◌%◌, ◌<◌, ◌≤◌, true, nat_le, List, Option, Some, None, length, get_or, slice_get, map, option_map}
+use Rattle.std.proofs.Common.{arith, refl, sym, ap, subst}
 use Rattle.std.proofs.lemmas.Bool.Decides.{nat_tests}
 use Rattle.std.proofs.lemmas.List.{length-map}
+use Rattle.std.proofs.lemmas.List.Elements.{All-get_or}
+use Rattle.std.proofs.lemmas.Option.{slice_get-get_or}
 use Rattle.std.proofs.lemmas.Nat.{div-add-mod', mod_below}
 use Rattle.std.proofs.Math.Nat.{mul-le-mul_left}
 use Rattle.min_plus.specs.rational.specs.Rational.{ℚ, ◌*ℚ◌, ◌≤ℚ◌}
@@ -12,14 +14,15 @@ use Rattle.min_plus.specs.rational.proofs.Integers.{nat_nonneg}
 use Rattle.min_plus.specs.Formulas.{stair_value}
 use Rattle.run_laws.proofs.Weaker.{weaker_premises_kept}
 use Rattle.run_laws.specs.Cards.{whole}
-use Rattle.run_laws.specs.Routes.{route_of}
+use Rattle.run_laws.specs.Runs.{SpecRun}
 use Rattle.run_laws.specs.Weaker.{IsNowhereAbove}
 use Rattle.arrival_lines.specs.Grid.{speed, micros}
 use Rattle.arrival_lines.proofs.Units.{micros_some, speed_nonneg, micros_nonneg}
-use Rattle.tree_runs.specs.Trees.{flat}
+use Rattle.net_laws.specs.Multicast.{IsLawfulBy}
+use Rattle.tree_runs.specs.Trees.{flat, flat_tree, next_servers, IsLawfulTree, KeepsTreePremises}
 use Rattle.table_cells.specs.declared.amount.Amount.{Amount}
 use Rattle.table_cells.specs.Amounts.{rounded_down, rounded_up}
-use Rattle.tree_network.specs.Networks.{port_at}
+use Rattle.tree_network.specs.Networks.{no_port, port_at}
 use Rattle.tree_network.specs.declared.network.Gate.{Gate}
 use Rattle.tree_network.specs.declared.network.Port.{Port}
 use Rattle.tree_network.specs.declared.network.Link.{Link}
@@ -28,14 +31,17 @@ use Rattle.port_bounds.specs.Ports.{server_of, curve_behind, service_curve}
 use Rattle.document_rows.specs.declared.disciplines.GateRow.{GateRow}
 use Rattle.document_rows.specs.PortRows.{PortText}
 use Rattle.document_tables.specs.declared.links.LinkKeys.{LinkKeys}
-use Rattle.document_tables.specs.Grids.{PortOnGrid, gate_on_grid}
-use Rattle.document_tables.specs.Ranges.{IsGateOrNone}
+use Rattle.document_tables.specs.Grids.{PortOnGrid, gate_on_grid, grid_port, port_on_grid}
+use Rattle.document_tables.specs.Ranges.{IsGateOrNone, IsPortText}
+use Rattle.document_tables.proofs.NetworkFacts.{same_at, same_length}
 use Rattle.tree_guarantee.specs.Guarantee.{frame_of, stair_in, stair_of}
-use Rattle.tree_guarantee.specs.Routes.{routes_of}
-use Rattle.rounded_runs.specs.Laws.{WrittenRunsAreRuns, PacesReachRates, LinkTimesAreExact}
-use Rattle.rounded_runs.specs.Written.{exact, curve_written, service_written, stair_written, text_at, keys_at, IsRoundedLink, IsRoundedPort}
+use Rattle.tree_guarantee.specs.Routes.{routes_of, tree_of_link}
+use Rattle.rounded_runs.specs.Laws.{WrittenRunsAreRuns}
+use Rattle.rounded_runs.specs.Written.{exact, curve_written, service_written, stair_written, no_text, text_at, keys_at, IsRoundedLink, IsRounded, server_written, time_written, routes_written}
 use Rattle.rounded_runs.proofs.Curves.{stair_above, latency_below, gate_below}
-use Rattle.rounded_runs.proofs.Units.{micros_up, micros_down, micros_whole, gap_down, speed_up, speed_down, exact_on, exact_some, exact_le}
+use Rattle.rounded_runs.proofs.Faster.{faster_is_lawful}
+use Rattle.rounded_runs.proofs.Ports.{ports_as_fast, links_as_long}
+use Rattle.rounded_runs.proofs.Units.{micros_up, micros_down, gap_down, speed_down, exact_on, exact_some, exact_le}
 
 -- ---- links
 reached : {a b : ℕ} → nat_le a b ≡ true → a ≤ b
@@ -99,45 +105,70 @@ service_below port text (Some g) (Some row) e range slower later t start =
     (exact_some row.cycle some) (micros_up row.cycle cycle) (micros_nonneg (rounded_down 1000000 row.slot)) (micros_down row.slot slot)
     (exact_le row.slot row.cycle slot cycle inside) later start)
 
-port_below : (net : Network) (texts : List PortText) (s : ℕ) → IsRoundedPort net texts s
-    → IsNowhereAbove (service_curve (port_at net s)) (service_written (text_at texts s))
-port_below net texts s r =
-    let port = port_at net s in
-    let text = text_at texts s in
+port_below : (port : Port) (text : PortText) → grid_port port ≡ port_on_grid text → IsPortText text
+    → IsNowhereAbove (service_curve port) (service_written text)
+port_below port text is range =
     let rate : speed port.rate ≤ℚ exact text.rate =
-    rw (ap (λ (p : PortOnGrid). p.rate) r.is) (speed_down text.rate r.range.rate.amount.some) in
+    rw (ap (λ (p : PortOnGrid). p.rate) is) (speed_down text.rate range.rate.amount.some) in
     let latency : exact text.latency ≤ℚ micros port.latency =
-    rw (ap (λ (p : PortOnGrid). p.latency) r.is) (micros_up text.latency r.range.latency.amount.some) in
-    service_below port text port.gate text.gate (ap (λ (p : PortOnGrid). p.gate) r.is) r.range.gate rate latency
+    rw (ap (λ (p : PortOnGrid). p.latency) is) (micros_up text.latency range.latency.amount.some) in
+    service_below port text port.gate text.gate (ap (λ (p : PortOnGrid). p.gate) is) range.gate rate latency
 
 -- ---- runs
+module _ (overhead : ℕ) (texts : List PortText) (keys : List LinkKeys) (net : Network) (r : IsRounded overhead texts keys net) where
+  all_ports : (s : ℕ) → s < length net.ports.items → s < length texts
+  all_ports s h = let n = same_length grid_port port_on_grid net.ports.items texts r.ports in omega (arith, h, n)
+
+  port_is : (s : ℕ) → s < length net.ports.items → grid_port (port_at net s) ≡ port_on_grid (text_at texts s)
+  port_is s h =
+      same_at grid_port port_on_grid net.ports.items texts r.ports s no_port (get_or texts s no_text)
+      (slice_get-get_or texts s no_text (all_ports s h))
+
+  above : (flow : ℕ) → IsNowhereAbove (stair_written overhead (keys_at keys flow)) (stair_of net flow)
+  above flow t start = by (slice_get net.links.items flow) refl
+    where
+      by : (o : Option Link) → slice_get net.links.items flow ≡ o → stair_written overhead (keys_at keys flow) t ≤ₑ stair_in o t
+      by None e = le_inf (stair_written overhead (keys_at keys flow) t)
+      by (Some link) e = link_above overhead (keys_at keys flow) link (r.links flow link e) t start
+
+  below : (s : ℕ) → s < length net.ports.items → IsNowhereAbove (service_curve (port_at net s)) (service_written (text_at texts s))
+  below s h =
+      port_below (port_at net s) (text_at texts s) (port_is s h)
+      (All-get_or IsPortText texts s no_text (all_ports s h) r.ranges)
+
+  -- over ports that are as fast and links that are as long it is the same run
+  lawful_on_grid : (run : SpecRun) → IsLawfulTree (routes_written texts net) run → IsLawfulTree (routes_of net) run
+  lawful_on_grid run h =
+      subst (λ (links : List ℚ). IsLawfulBy (record {
+        servers = map server_of net.ports.items;
+        links = links;
+        flows = map flat_tree (map tree_of_link net.links.items);
+      }) (next_servers (routes_of net)) run) (links_as_long net.ports.items texts r.ports r.ranges)
+      (faster_is_lawful (map flat_tree (map tree_of_link net.links.items)) (map time_written texts) (map server_written texts)
+      (map server_of net.ports.items) (next_servers (routes_of net)) (ports_as_fast net.ports.items texts r.ports r.ranges) run h)
+
+  premises_on_grid : (run : SpecRun)
+      → KeepsTreePremises (routes_written texts net) (frame_of net) (λ i. stair_written overhead (keys_at keys i))
+      (λ s. service_written (text_at texts s)) run
+      → KeepsTreePremises (routes_of net) (frame_of net) (λ i. stair_written overhead (keys_at keys i))
+      (λ s. service_written (text_at texts s)) run
+  premises_on_grid run h = record {
+    sizes = h.sizes;
+    arrivals = h.arrivals;
+    service = λ s small.
+        let n = length-map net.ports.items server_of in
+        let m = length-map texts server_written in
+        let few = all_ports s (omega (arith, small, n)) in
+        h.service s (omega (arith, few, m));
+  }
+
 pub written_runs_are_runs : WrittenRunsAreRuns
 written_runs_are_runs overhead texts keys net run r w = record {
-  lawful = w.lawful;
+  lawful = lawful_on_grid overhead texts keys net r run w.lawful;
   premises =
       weaker_premises_kept (flat (routes_of net)) run (frame_of net) (λ i. stair_written overhead (keys_at keys i)) (stair_of net)
-      (λ s. service_written (text_at texts s)) (λ s. service_curve (port_at net s)) above below w.premises;
+      (λ s. service_written (text_at texts s)) (λ s. service_curve (port_at net s))
+      (λ flow live. above overhead texts keys net r flow)
+      (λ s small. let n = length-map net.ports.items server_of in below overhead texts keys net r s (omega (arith, small, n)))
+      (premises_on_grid overhead texts keys net r run w.premises);
 }
-  where
-    above : (flow : ℕ) → (route_of (flat (routes_of net)) flow).live ≡ true
-        → IsNowhereAbove (stair_written overhead (keys_at keys flow)) (stair_of net flow)
-    above i live t start = by (slice_get net.links.items i) refl
-      where
-        by : (o : Option Link) → slice_get net.links.items i ≡ o → stair_written overhead (keys_at keys i) t ≤ₑ stair_in o t
-        by None e = le_inf (stair_written overhead (keys_at keys i) t)
-        by (Some link) e = link_above overhead (keys_at keys i) link (r.links i link e) t start
-
-    below : (server : ℕ) → server < length (flat (routes_of net)).servers
-        → IsNowhereAbove (service_curve (port_at net server)) (service_written (text_at texts server))
-    below s small = let n = length-map net.ports.items server_of in port_below net texts s (r.ports s (omega (arith, small, n)))
-
--- ---- what is not weakened
-pub paces_reach_rates : PacesReachRates
-paces_reach_rates overhead texts keys net s r small =
-    let p = r.ports s small in
-    rw (ap (λ (o : PortOnGrid). o.pace) p.is) (speed_up (text_at texts s).rate p.range.rate.amount.some)
-
-pub link_times_are_exact : LinkTimesAreExact
-link_times_are_exact overhead texts keys net s r small all =
-    let p = r.ports s small in
-    ap micros (ap (λ (o : PortOnGrid). o.link) p.is) ∙ micros_whole (text_at texts s).link p.range.link.amount.some all

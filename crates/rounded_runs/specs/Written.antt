@@ -1,5 +1,5 @@
--- Runs that keep the numbers that the rows of tables write, exact, over a network that has them rounded to its grid.
-use Rattle.std.specs.Prelude.{Option, Some, None, ◌≡◌, ◌<◌, ℕ, pos, pred, List, length, get_or, slice_get}
+-- Runs of the network that the rows of tables write, exact, and networks that have its numbers rounded to their grid.
+use Rattle.std.specs.Prelude.{Option, Some, None, ◌≡◌, ℕ, pos, pred, List, All, map, get_or, slice_get}
 use Rattle.min_plus.specs.rational.specs.Rational.{ℚ, frac, ◌*ℚ◌}
 use Rattle.min_plus.specs.rational.specs.Extended.{Ext}
 use Rattle.min_plus.specs.rational.specs.declared.Extended.TheVariants.{Fin}
@@ -7,20 +7,21 @@ use Rattle.min_plus.specs.Formulas.{stair_value, rate_latency_value, gate_value}
 use Rattle.min_plus.specs.Pointwise.{excess}
 use Rattle.run_laws.specs.Cards.{whole}
 use Rattle.run_laws.specs.Runs.{SpecRun}
-use Rattle.tree_runs.specs.Trees.{IsLawfulTree, KeepsTreePremises}
+use Rattle.run_laws.specs.Servers as servers
+use Rattle.tree_runs.specs.Trees.{TreeRoutes, IsLawfulTree, KeepsTreePremises}
 use Rattle.table_cells.specs.declared.amount.Amount.{Amount}
-use Rattle.tree_network.specs.Networks.{port_at}
 use Rattle.tree_network.specs.declared.network.Link.{Link}
 use Rattle.tree_network.specs.declared.network.Network.{Network}
 use Rattle.document_rows.specs.declared.disciplines.GateRow.{GateRow}
 use Rattle.document_rows.specs.Disciplines as disciplines
+use Rattle.document_rows.specs.Disciplines.{DisciplineText}
 use Rattle.document_rows.specs.PortRows.{PortText}
 use Rattle.document_rows.specs.LinkRows.{frame_on_wire}
 use Rattle.document_tables.specs.declared.links.LinkKeys.{LinkKeys}
 use Rattle.document_tables.specs.Grids.{grid_port, port_on_grid, microsecond, millisecond}
 use Rattle.document_tables.specs.Ranges.{IsPortText, AreLinkKeys}
 use Rattle.table_cells.specs.Amounts as amounts
-use Rattle.tree_guarantee.specs.Routes.{routes_of}
+use Rattle.tree_guarantee.specs.Routes.{tree_of_link}
 use Rattle.tree_guarantee.specs.Guarantee.{frame_of}
 
 -- ---- what rows write, exact
@@ -63,10 +64,6 @@ abbrev pub keys_at : List LinkKeys → ℕ → LinkKeys
 keys_at keys i = get_or keys i no_keys
 
 -- ---- a network that has these numbers on its grid
-pub record IsRoundedPort (net : Network) (texts : List PortText) (s : ℕ) : Type 0 where
-  pub is : grid_port (port_at net s) ≡ port_on_grid (text_at texts s)
-  pub range : IsPortText (text_at texts s)
-
 pub record IsRoundedLink (overhead : ℕ) (keys : LinkKeys) (link : Link) : Type 0 where
   pub frame : link.frame ≡ frame_on_wire keys.largest_frame overhead
   pub gap : link.gap ≡ amounts.rounded_down millisecond keys.gap
@@ -74,16 +71,37 @@ pub record IsRoundedLink (overhead : ℕ) (keys : LinkKeys) (link : Link) : Type
   pub range : AreLinkKeys keys
 
 pub record IsRounded (overhead : ℕ) (texts : List PortText) (keys : List LinkKeys) (net : Network) : Type 0 where
-  pub ports : (s : ℕ) → s < length net.ports.items → IsRoundedPort net texts s
+  pub ports : map grid_port net.ports.items ≡ map port_on_grid texts
+  pub ranges : All IsPortText texts
   pub links : (i : ℕ) (link : Link) → slice_get net.links.items i ≡ Some link
       → IsRoundedLink overhead (keys_at keys i) link
 
+-- ---- the network that is written
+abbrev pub discipline_written : DisciplineText → servers.Discipline
+discipline_written disciplines.Fifo = servers.Fifo
+discipline_written (disciplines.Priority queues) = servers.Priority queues
+discipline_written (disciplines.Drr quanta) = servers.Drr quanta
+
+-- a port, whose works are no faster than the rate that is written
+abbrev pub server_written : PortText → servers.Server
+server_written port = record { discipline = discipline_written port.discipline; pace = Some (exact port.rate) }
+
+abbrev pub time_written : PortText → ℚ
+time_written port = exact port.link
+
+-- ports with the rates, and links between them with the times that are written, under the trees of a network
+abbrev pub routes_written : List PortText → Network → TreeRoutes
+routes_written texts net = record {
+  servers = map server_written texts;
+  links = map time_written texts;
+  flows = map tree_of_link net.links.items;
+}
+
 -- ---- runs
--- A lawful run whose links keep the frames, gaps and jitters that are written, and whose ports keep the service curves
--- of what is written. Works are no faster than the rate that is written, rounded up by less than a grain a second, and
--- links between ports take just the time that is written.
+-- A lawful run of the network that is written, whose links keep the frames, gaps and jitters that are written, and whose
+-- ports keep the service curves of what is written. Nothing of it is rounded.
 pub record IsWrittenRun (overhead : ℕ) (texts : List PortText) (keys : List LinkKeys) (net : Network) (run : SpecRun)
     : Type 0 where
-  pub lawful : IsLawfulTree (routes_of net) run
-  pub premises : KeepsTreePremises (routes_of net) (frame_of net) (λ i. stair_written overhead (keys_at keys i))
+  pub lawful : IsLawfulTree (routes_written texts net) run
+  pub premises : KeepsTreePremises (routes_written texts net) (frame_of net) (λ i. stair_written overhead (keys_at keys i))
       (λ s. service_written (text_at texts s)) run
