@@ -12,9 +12,9 @@ returns-in-Ok-Help-clause-reply g c =
     let asked : request_of (texts c.args.words.now) ≡ Some Help = rw c.in-Ok-Help.field-0-is at
     c.in-Ok-Help.ensures.request in
     IfOk-weaker c.text_answer.result _ _
-    (λ r is. may_reply_text g.I.Inputs.content g.I.Inputs.faults g.I.Inputs.last_fault
+    (λ r is. may_reply_text g.I.Inputs.content g.I.Inputs.faults g.I.Inputs.last_fault g.I.Inputs.asked
     (request_of (texts c.args.words.now)) Help
-    c.args.inputs.now c.args.inputs.now (reply_of r) asked (ap Some (sym is)))
+    c.args.inputs.now (reply_of r) asked (ap Some (sym is)))
     c.text_answer.ensures
 
 -- ---- asked for
