@@ -25,20 +25,26 @@ pub ends : {I : Type 0} (faults : I → ℕ) (last_fault : I → List ℕ) (told
     → FirstIs told (λ file. EndsAt faults last_fault told old new reply file × AsksUpTo asks (files_of c) file) (files_of c)
     → MayReplyTo faults last_fault told asks c old new reply
 ends faults last_fault told asks c old new reply h =
-    elim (ended most_bytes told (Failed asks) (λ file. (reply ≡ too_long file) × AsksUpTo asks (files_of c) file) (files_of c)
-    (first_map most_bytes told _ _ (files_of c) parted h)) [
+    elim (ended most_bytes told Failed Long (files_of c)
+    (first_map most_bytes told Stops (λ file. Failed file ⊎ (IsTooLong (told file) × Long file)) (files_of c) parted h)) [
       | inl failed ↦ inl failed
       | inr long ↦ inr (long.0, long.1, inl long.2)
     ]
   where
-    abbrev Failed : (List (List ℕ) → Type 0) → List ℕ → Type 0
-    Failed asks file =
-        FailedAt faults last_fault file old new × (reply ≡ cannot_read file) × AsksUpTo asks (files_of c) file
+    abbrev Stops : List ℕ → Type 0
+    Stops file = EndsAt faults last_fault told old new reply file × AsksUpTo asks (files_of c) file
 
-    parted : (file : List ℕ) → EndsAt faults last_fault told old new reply file × AsksUpTo asks (files_of c) file
-        → Failed asks file ⊎ (IsTooLong (told file) × ((reply ≡ too_long file) × AsksUpTo asks (files_of c) file))
-    parted file (inl failed, up) = inl (failed.0, failed.1, up)
-    parted file (inr long, up) = inr (long.0, (long.1, up))
+    abbrev Failed : List ℕ → Type 0
+    Failed file = FailedAt faults last_fault file old new × (reply ≡ cannot_read file) × AsksUpTo asks (files_of c) file
+
+    abbrev Long : List ℕ → Type 0
+    Long file = (reply ≡ too_long file) × AsksUpTo asks (files_of c) file
+
+    parted : (file : List ℕ) → Stops file → Failed file ⊎ (IsTooLong (told file) × Long file)
+    parted file h = elim h.0 [
+      | inl failed ↦ inl (failed.0, failed.1, h.1)
+      | inr long ↦ inr (long.0, (long.1, h.1))
+    ]
 
 -- or the files were fetched
 pub answers : {I : Type 0} (faults : I → ℕ) (last_fault : I → List ℕ) (told : Told) (asks : List (List ℕ) → Type 0)
@@ -57,7 +63,9 @@ long_map P Q (name ∷ names) (bytes ∷ files) step (inr h) = inr (h.0, long_ma
 
 plain : (asks : List (List ℕ) → Type 0) (c : Call) (files : List (List ℕ)) (reply : Reply)
     → IsReplyAsking asks c files reply → IsReplyOnFiles c files reply
-plain asks c files reply (inl long) = inl (long_map _ (λ file. reply ≡ too_long file) (files_of c) files (λ file h. h.0) long)
+plain asks c files reply (inl long) =
+    inl (long_map (λ file. (reply ≡ too_long file) × AsksUpTo asks (files_of c) file) (λ file. reply ≡ too_long file)
+    (files_of c) files (λ file h. h.0) long)
 plain asks c files reply (inr on) = inr (on.0, on.1)
 
 -- ---- on two tables, by status
@@ -355,7 +363,10 @@ on_call content faults last_fault names ports links overhead json before after r
       usage = λ e. let g = apart 2 e (omega arith) in absurd (h.no_two (sym g.0 ∙ e));
       text = tt;
       read_fault = λ e. let g = apart 3 e (omega arith) in
-          first_map most_bytes told _ _ (files_of c)
+          first_map most_bytes told
+          (λ file. FailedAt faults last_fault file before after × (reply ≡ cannot_read file) × AsksUpTo asks (files_of c) file)
+          (λ file. FailedAt faults last_fault file before after × Gives status old new (cannot_read file)
+          × AsksUpTo asks (files_of c) file) (files_of c)
           (λ file k. (k.0, subst (Gives status old new) k.1 g, k.2)) (h.three (sym g.0 ∙ e));
       malformed = λ e. let g = apart 1 e (omega arith) in
           malformed told asks c reply status old new g (sym g.0 ∙ e) (h.one (sym g.0 ∙ e));
@@ -428,9 +439,8 @@ outcome content faults last_fault names (Some (Bounds ports links overhead json)
 
 -- a reply that no table changes
 pub may_reply_text : {I : Type 0} (content : I → Told) (faults : I → ℕ) (last_fault : I → List ℕ)
-    (names : I → List (List ℕ)) (asked : Option Request)
-    (request : Request) (inputs : I) (reply : Reply) → asked ≡ Some request
-    → text_of (Some request) ≡ Some reply
+    (names : I → List (List ℕ)) (asked request : Option Request) (inputs : I) (reply : Reply) → asked ≡ request
+    → text_of request ≡ Some reply
     → MayReply content faults last_fault names asked inputs inputs reply
 may_reply_text content faults last_fault names asked request inputs reply same text =
     inl (ap text_of same ∙ text, sym (append-nil (names inputs)))

@@ -3,13 +3,13 @@ use Rattle.std.specs.Prelude.{Some, None, ◌≡◌, ℕ, zero, suc, ◌<◌, Li
 use Rattle.std.proofs.Common.{refl, ap, ◌∙◌, subst, arith}
 use Rattle.min_plus.specs.rational.specs.Rational.{ℚ, ◌<ℚ◌}
 use Rattle.run_laws.specs.Allows.{Allows, MayArrive, MayWork, MayVisit, KeepsPace, next_card, IsComplete}
-use Rattle.run_laws.specs.Cards.{Card, ServerStep, Arrives, Works, Leaves, Visits}
-use Rattle.run_laws.specs.Lawful.{RunState, AllowsInRun, MayEnter, IsThere, IsKnown, Due, run_start, state_at}
+use Rattle.run_laws.specs.Cards.{ServerStep, Arrives, Works, Leaves, Visits}
+use Rattle.run_laws.specs.Lawful.{RunState, AllowsInRun, run_start, state_at}
 use Rattle.run_laws.specs.Next.{next}
 use Rattle.run_laws.specs.Routes.{Route, Routes, server_at}
 use Rattle.run_laws.specs.Runs.{SpecRun}
 use Rattle.run_laws.specs.Servers.{Discipline, Server, ServerState, Fifo, start}
-use Rattle.run_laws.specs.Views.{Entry, server_of, seen, entered_after}
+use Rattle.run_laws.specs.Views.{server_of, seen, entered_after}
 use Rattle.run_laws.specs.declared.steps.Step.{Step}
 use Rattle.run_laws.specs.declared.steps.Step.TheVariants.{Enter, Reach, Work, Leave, Visit}
 use Rattle.net_laws.specs.Multicast.{NextServers, next_due_by, next_run_by, after_run_by, AllAllowedBy, IsLawfulBy}
@@ -94,32 +94,36 @@ module _ (flows : List Route) (links : List ℚ) (slower faster : List Server) (
   known_there : (s : ℕ) → s < length slower → s < length faster
   known_there s h = let n = as_many slower faster fast in omega (arith, h, n)
 
+  allowed_at : (end : ℚ) (r : RunState) (s : ℕ) (y : ServerStep) → Allows (server_at slow s) end (state_at r s) y
+      → Allows (server_at quick s) end (state_at r s) y
+  allowed_at end r s y h =
+      allows_more (server_at slow s) (server_at quick s) end (state_at r s) y (each_fast slower faster fast s) h
+
   allows : (end : ℚ) (r : RunState) (x : Step) → AllowsInRun slow end r x → AllowsInRun quick end r x
   allows end r (Enter f p t b) h = record {
     known = record { in_turn = h.known.in_turn; is_live = h.known.is_live; has_path = h.known.has_path };
     known_server = known_there _ h.known_server;
-    at_server = allows_more _ _ end _ (seen slow r.entered (Enter f p t b))
-        (each_fast slower faster fast (server_of slow (Enter f p t b))) h.at_server;
+    at_server = allowed_at end r (server_of slow (Enter f p t b)) (seen slow r.entered (Enter f p t b)) h.at_server;
   }
   allows end r (Reach s p t) h = record {
     known = h.known;
     known_server = known_there s h.known_server;
-    at_server = allows_more _ _ end (state_at r s) (seen slow r.entered (Reach s p t)) (each_fast slower faster fast s) h.at_server;
+    at_server = allowed_at end r s (seen slow r.entered (Reach s p t)) h.at_server;
   }
   allows end r (Work s p a b w) h = record {
     known = record { has_entered = h.known.has_entered; passes = h.known.passes };
     known_server = known_there s h.known_server;
-    at_server = allows_more _ _ end (state_at r s) (seen slow r.entered (Work s p a b w)) (each_fast slower faster fast s) h.at_server;
+    at_server = allowed_at end r s (seen slow r.entered (Work s p a b w)) h.at_server;
   }
   allows end r (Leave s p t) h = record {
     known = record { has_entered = h.known.has_entered; passes = h.known.passes };
     known_server = known_there s h.known_server;
-    at_server = allows_more _ _ end (state_at r s) (seen slow r.entered (Leave s p t)) (each_fast slower faster fast s) h.at_server;
+    at_server = allowed_at end r s (seen slow r.entered (Leave s p t)) h.at_server;
   }
   allows end r (Visit s q t) h = record {
     known = tt;
     known_server = known_there s h.known_server;
-    at_server = allows_more _ _ end (state_at r s) (seen slow r.entered (Visit s q t)) (each_fast slower faster fast s) h.at_server;
+    at_server = allowed_at end r s (seen slow r.entered (Visit s q t)) h.at_server;
   }
 
   all_allowed : (end : ℚ) (r : RunState) (xs : List Step) → AllAllowedBy slow to end r xs → AllAllowedBy quick to end r xs

@@ -1,6 +1,6 @@
 -- Ports that are written, and those that have them on the grid: as fast or faster, with links as long.
 use Rattle.std.specs.Prelude.{◌≡◌, ℕ, ◌%◌, ◌==◌, true, List, [], ◌∷◌, All, map}
-use Rattle.std.proofs.Common.{refl, sym, ap, ◌∙◌, arith}
+use Rattle.std.proofs.Common.{refl, sym, ap, subst, ◌∙◌, arith}
 use Rattle.std.proofs.lemmas.Bool.Decides.{nat_tests}
 use Rattle.std.proofs.lemmas.List.Elements.{All-head, All-tail}
 use Rattle.min_plus.specs.rational.specs.Rational.{ℚ, ◌-ℚ◌, ◌≤ℚ◌, ◌<ℚ◌}
@@ -8,13 +8,14 @@ use Rattle.min_plus.specs.rational.proofs.Laws.{le_of_lt, le_trans, mul_le_mul_r
 use Rattle.min_plus.specs.rational.proofs.Linear.{with2}
 use Rattle.min_plus.specs.Functions.{zero_q}
 use Rattle.arrival_lines.specs.Grid.{speed, micros}
+use Rattle.table_cells.specs.Amounts.{rounded_up}
 use Rattle.tree_network.specs.declared.network.Discipline.{Discipline}
 use Rattle.tree_network.specs.declared.network.Discipline.TheVariants.{Fifo, Priority, Drr}
 use Rattle.tree_network.specs.declared.network.Port.{Port}
 use Rattle.port_bounds.specs.Ports.{server_of, discipline_of}
 use Rattle.document_rows.specs.Disciplines.{discipline_view}
 use Rattle.document_rows.specs.PortRows.{PortText}
-use Rattle.document_tables.specs.Grids.{PortOnGrid, grid_port, port_on_grid}
+use Rattle.document_tables.specs.Grids.{PortOnGrid, grid_port, megabit, port_on_grid}
 use Rattle.document_tables.specs.Ranges.{IsPortText}
 use Rattle.tree_guarantee.specs.Routes.{link_time}
 use Rattle.rounded_runs.specs.Written.{exact, discipline_written, server_written, time_written}
@@ -36,7 +37,9 @@ server_as_fast port text is range = record {
 }
   where
     faster : exact text.rate ≤ℚ speed port.pace
-    faster = rw (ap (λ (p : PortOnGrid). p.pace) is) (speed_up text.rate range.rate.amount.some)
+    faster =
+        let pace : rounded_up megabit text.rate ≡ port.pace = sym (ap (λ (p : PortOnGrid). p.pace) is) in
+        subst (λ (n : ℕ). exact text.rate ≤ℚ speed n) pace (speed_up text.rate range.rate.amount.some)
 
     forward : (from to : ℚ) → from <ℚ to → zero_q ≤ℚ to -ℚ from
     forward from to up = with2 from to (λ c. omega (arith, c.le, c.lt, c.same))

@@ -31,7 +31,7 @@ use Rattle.port_bounds.specs.Ports.{server_of, curve_behind, service_curve}
 use Rattle.document_rows.specs.declared.disciplines.GateRow.{GateRow}
 use Rattle.document_rows.specs.PortRows.{PortText}
 use Rattle.document_tables.specs.declared.links.LinkKeys.{LinkKeys}
-use Rattle.document_tables.specs.Grids.{PortOnGrid, gate_on_grid, grid_port, port_on_grid}
+use Rattle.document_tables.specs.Grids.{PortOnGrid, gate_on_grid, grid_port, megabit, microsecond, port_on_grid}
 use Rattle.document_tables.specs.Ranges.{IsGateOrNone, IsPortText}
 use Rattle.document_tables.proofs.NetworkFacts.{same_at, same_length}
 use Rattle.tree_guarantee.specs.Guarantee.{frame_of, stair_in, stair_of}
@@ -108,10 +108,11 @@ service_below port text (Some g) (Some row) e range slower later t start =
 port_below : (port : Port) (text : PortText) → grid_port port ≡ port_on_grid text → IsPortText text
     → IsNowhereAbove (service_curve port) (service_written text)
 port_below port text is range =
-    let rate : speed port.rate ≤ℚ exact text.rate =
-    rw (ap (λ (p : PortOnGrid). p.rate) is) (speed_down text.rate range.rate.amount.some) in
-    let latency : exact text.latency ≤ℚ micros port.latency =
-    rw (ap (λ (p : PortOnGrid). p.latency) is) (micros_up text.latency range.latency.amount.some) in
+    let same_rate : rounded_down megabit text.rate ≡ port.rate = sym (ap (λ (p : PortOnGrid). p.rate) is) in
+    let rate = subst (λ (n : ℕ). speed n ≤ℚ exact text.rate) same_rate (speed_down text.rate range.rate.amount.some) in
+    let same_latency : rounded_up microsecond text.latency ≡ port.latency = sym (ap (λ (p : PortOnGrid). p.latency) is) in
+    let latency = subst (λ (n : ℕ). exact text.latency ≤ℚ micros n) same_latency
+    (micros_up text.latency range.latency.amount.some) in
     service_below port text port.gate text.gate (ap (λ (p : PortOnGrid). p.gate) is) range.gate rate latency
 
 -- ---- runs
