@@ -44,13 +44,14 @@ server_as_fast port text is range = record {
     forward : (from to : ℚ) → from <ℚ to → zero_q ≤ℚ to -ℚ from
     forward from to up = with2 from to (λ c. omega (arith, c.le, c.lt, c.same))
 
-whole : {a b : ℕ} → (a % b == 0) ≡ true → a % b ≡ 0
-whole h = grind (arith, nat_tests, h)
+no_rest : (a b : ℕ) → (a % b == 0) ≡ true → a % b ≡ 0
+no_rest a b h = grind (arith, nat_tests, h)
 
 link_as_long : (port : Port) (text : PortText) → grid_port port ≡ port_on_grid text → IsPortText text
     → time_written text ≡ link_time port
 link_as_long port text is range =
-    sym (ap micros (ap (λ (p : PortOnGrid). p.link) is) ∙ micros_whole text.link range.link.amount.some (whole range.whole_link))
+    sym (ap micros (ap (λ (p : PortOnGrid). p.link) is) ∙ micros_whole text.link range.link.amount.some
+    (no_rest (text.link.top * 1000000) text.link.bottom range.whole_link))
 
 -- ---- all of them
 same_head : {X : Type 0} (x y : X) (xs ys : List X) → x ∷ xs ≡ y ∷ ys → x ≡ y
