@@ -25,25 +25,19 @@ pub ends : {I : Type 0} (faults : I → ℕ) (last_fault : I → List ℕ) (told
     → FirstIs told (λ file. EndsAt faults last_fault told old new reply file × AsksUpTo asks (files_of c) file) (files_of c)
     → MayReplyTo faults last_fault told asks c old new reply
 ends faults last_fault told asks c old new reply h =
-    elim (ended most_bytes told Failed Long (files_of c)
-    (first_map most_bytes told Stops (λ file. Failed file ⊎ (IsTooLong (told file) × Long file)) (files_of c) parted h)) [
-      | inl failed ↦ inl failed
-      | inr long ↦ inr (long.0, long.1, inl long.2)
-    ]
-  where
-    abbrev Stops : List ℕ → Type 0
-    Stops file = EndsAt faults last_fault told old new reply file × AsksUpTo asks (files_of c) file
-
-    abbrev Failed : List ℕ → Type 0
-    Failed file = FailedAt faults last_fault file old new × (reply ≡ cannot_read file) × AsksUpTo asks (files_of c) file
-
-    abbrev Long : List ℕ → Type 0
-    Long file = (reply ≡ too_long file) × AsksUpTo asks (files_of c) file
-
-    parted : (file : List ℕ) → Stops file → Failed file ⊎ (IsTooLong (told file) × Long file)
-    parted file h = elim h.0 [
+    elim (ended most_bytes told
+    (λ file. FailedAt faults last_fault file old new × (reply ≡ cannot_read file) × AsksUpTo asks (files_of c) file)
+    (λ file. (reply ≡ too_long file) × AsksUpTo asks (files_of c) file) (files_of c)
+    (first_map most_bytes told
+    (λ file. EndsAt faults last_fault told old new reply file × AsksUpTo asks (files_of c) file)
+    (λ file. (FailedAt faults last_fault file old new × (reply ≡ cannot_read file) × AsksUpTo asks (files_of c) file)
+    ⊎ (IsTooLong (told file) × ((reply ≡ too_long file) × AsksUpTo asks (files_of c) file))) (files_of c)
+    (λ file h. elim h.0 [
       | inl failed ↦ inl (failed.0, failed.1, h.1)
       | inr long ↦ inr (long.0, (long.1, h.1))
+    ]) h)) [
+      | inl failed ↦ inl failed
+      | inr long ↦ inr (long.0, long.1, inl long.2)
     ]
 
 -- or the files were fetched
