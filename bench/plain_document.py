@@ -43,7 +43,8 @@ OWN_MENDS = {
     "one row too many": "write at most 4096 ports and 131072 branches",
     "one link too many": "write at most 16384 links",
     "an earlier row has this name": "give each port a name of its own",
-    "no number": "write a number as 12, 1.5 or 3/2, of at most 18 digits on each side",
+    "no number": "write a number as 12, 1.5 or 3/2, of at most 18 digits in all, or on each side of the slash",
+    "no whole number of picoseconds": "write microseconds with at most 6 digits behind the point",
     "another one than in the first row of the link": "write the same in each row of the link",
     "has no row in the table of ports": "write a name of the table of ports",
     "stands in the path before": "pass each port once",
@@ -157,6 +158,13 @@ def time_or_zero(cell, column):
     return time(cell, column) if cell else Fraction(0)
 
 
+def link_time(cell):
+    found = time_or_zero(cell, "link")
+    if (found * PICOSECONDS).denominator != 1:
+        raise wrong("link", "no whole number of picoseconds")
+    return found
+
+
 def whole(cell, least, most, column):
     if not cell:
         raise wrong(column, "empty")
@@ -259,7 +267,7 @@ def read_ports(file, content):
             "rate": rate // 1,
             "pace": up_to(rate, 1),
             "latency": up_to(time_or_zero(cell("latency"), "latency"), PICOSECONDS),
-            "link": up_to(time_or_zero(cell("link"), "link"), PICOSECONDS),
+            "link": up_to(link_time(cell("link")), PICOSECONDS),
             "discipline": discipline(cell("discipline")),
             "gate": gate(cell("gate")),
         }

@@ -19,8 +19,9 @@ A = PORTS + "a,100,,,\n"
 P2 = PORTS + "a,100,,,priority 2\nb,100,,,drr 125 250\nc,100,,,\n"
 MANY = "\n".join(f"a{n},1,,," for n in range(4097)) + "\n"
 PATH = " ".join(f"a{n}" for n in range(65))
-NUMBER = "write a number as 12, 1.5 or 3/2, of at most 18 digits on each side"
+NUMBER = "write a number as 12, 1.5 or 3/2, of at most 18 digits in all, or on each side of the slash"
 TIME = "write microseconds, from 0 to 1000000000"
+PICOSECONDS = "write microseconds with at most 6 digits behind the point"
 NAME = "write 1 to 32 letters, digits, _ or -"
 RATE = "write Mbit/s, from 0.000001 to 1000000"
 BAG = "write milliseconds, from 0.000000001 to 1000000"
@@ -60,6 +61,9 @@ BAD_PORTS = [
     (port("a,1000000.1,,,"), f"line 2 column rate: above the most: {RATE}"),
     (port("a,1,1000000000.1,,"), f"line 2 column latency: above the most: {TIME}"),
     (port("a,1,,-1,"), f"line 2 column link: no number: {NUMBER}"),
+    (port("a,1,,0.0000001,"), f"line 2 column link: no whole number of picoseconds: {PICOSECONDS}"),
+    (port("a,1,,1/3,"), f"line 2 column link: no whole number of picoseconds: {PICOSECONDS}"),
+    (port("a,1,,1000000000.1,"), f"line 2 column link: above the most: {TIME}"),
     (port("a,1,,,FIFO"), f"line 2 column discipline: no discipline: {KIND}"),
     (port("a,1,,,fifo 1"), f"line 2 column discipline: no discipline: {KIND}"),
     (port("a,1,,,priority"), f"line 2 column discipline: no discipline: {KIND}"),

@@ -21,7 +21,9 @@ use Rattle.bounds_command.specs.Replies.{has_fault}
 use Rattle.bounds_command.specs.Reports.{IsNetworkOf, IsReportOf, status_with}
 use Rattle.bounds_command.specs.View.{reply_of, text_in}
 use Rattle.bounds_command.specs.OnTables.{Tables, named, lined, AreRowsOfBoth, Gives, IsReplyOnDocument, IsReplyOn}
+use Rattle.rounded_runs.proofs.Runs.{written_runs_are_runs}
 use Rattle.bounds_command.proofs.Kept.{reports_are_kept}
+use Rattle.bounds_command.proofs.Texts.{written_of}
 
 -- ---- on a document
 pub reported : {E : Type 0} (d : DocumentText) (net : Network) (form : Form) (table : Table) (report : Report)
@@ -38,6 +40,8 @@ reported d net form table report (Ok r) w bounded tells timed h =
       report = report;
       tells = tells;
       guarantees = reports_are_kept d net table report w bounded tells timed;
+      written = λ overhead texts keys run rounded keeps. reports_are_kept d net table report w bounded tells timed run
+          (written_runs_are_runs overhead texts keys net run rounded keeps);
       causes = λ s q inside queue none. none_has_a_cause net table s q bounded inside queue none;
       is = h;
     }
@@ -63,7 +67,7 @@ pub on_document : {E : Type 0} (t : Tables) (overhead : ℕ) (form : Form) (port
 on_document t overhead form ports links d net (Err e) rows reads is w h = tt
 on_document t overhead form ports links d net (Ok r) rows reads is w h =
     let gives : Gives t overhead d net =
-    record { port_rows = ports; link_rows = links; rows = rows; reads = reads; network = is; in_range = w } in
+    record { port_rows = ports; link_rows = links; rows = rows; reads = reads; network = is; in_range = w; written = written_of overhead ports links d net reads is } in
     elim h [
       | inl ring ↦ inr (inl record { document = d; net = net; gives = gives; holds = ring })
       | inr report ↦ inr (inr record { document = d; net = net; gives = gives; holds = report })

@@ -43,7 +43,8 @@ use Rattle.bounds_report.specs.declared.rows.QueueRow.{QueueRow}
 use Rattle.bounds_report.specs.declared.rows.BranchRow.{BranchRow}
 use Rattle.bounds_report.specs.declared.rows.Report.{Report}
 use Rattle.bounds_command.specs.Loads.{rates_at}
-use Rattle.bounds_command.specs.Promises.{printed, written, or_infinite, QueueIsKept, BranchIsKept, Guarantees}
+use Rattle.rounded_runs.specs.Written.{exact}
+use Rattle.bounds_command.specs.Promises.{printed, or_infinite, QueueIsKept, BranchIsKept, Guarantees}
 use Rattle.bounds_command.specs.Reports.{IsReportOf, QueueText, BranchText, queue_view, branch_view, queue_text, branch_text, queues_at, all_queues, name_at, last_port, port_in}
 use Rattle.bounds_command.proofs.Places.{in_flat, in_map, in_range, past}
 
@@ -159,10 +160,10 @@ deadline_kept : (net : Network) (table : Table) (run : SpecRun) (b : BranchOnGri
     (deadline : Amount) → IsGuaranteed net table run
     → IsTableOf net table → get_or (bounds_in table b.link) b.node None ≡ bound → IsAmount deadline
     → is_met bound deadline ≡ true
-    → AreAtMost (Fin (written deadline)) (delays_to (routes_of net) run b.link (last_port net b))
+    → AreAtMost (Fin (exact deadline)) (delays_to (routes_of net) run b.link (last_port net b))
 deadline_kept net table run b None deadline g is e a met = absurd (cc)
 deadline_kept net table run b (Some bound) deadline g is e a met =
-    at_most_more (Fin (micros bound)) (Fin (written deadline)) (delays_to (routes_of net) run b.link (last_port net b))
+    at_most_more (Fin (micros bound)) (Fin (exact deadline)) (delays_to (routes_of net) run b.link (last_port net b))
     (amount_covers bound deadline.top deadline.bottom a.some
     (below_of_test (bound * deadline.bottom) (deadline.top * 1000000) met))
     (has_bound net table run b.link b.node bound (slice_get net.links.items b.link) g is refl e)

@@ -4,6 +4,7 @@ pub mod QueueRows
 pub mod Short
 pub mod Kept
 pub mod Deadlines
+pub mod Texts
 pub mod Answered
 pub mod Alike
 pub mod OneQueue

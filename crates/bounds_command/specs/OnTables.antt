@@ -5,6 +5,9 @@ use Rattle.csv_rows.specs.Rows.{LinedRow, AreLinedRowsOf}
 use Rattle.document_tables.specs.declared.fault.TableFile.{TableFile}
 use Rattle.document_tables.specs.declared.fault.TableFile.TheVariants.{Ports, Links}
 use Rattle.document_tables.specs.Tables.{LineRow}
+use Rattle.document_tables.specs.Links as link_table
+use Rattle.document_tables.specs.Ports as port_table
+use Rattle.rounded_runs.specs.Written.{IsRounded}
 use Rattle.document_tables.specs.Documents.{DocumentText, FileFault, document_of}
 use Rattle.tree_network.specs.Networks.{IsNetwork, port_at, queues_of}
 use Rattle.tree_network.specs.declared.network.Network.{Network}
@@ -14,7 +17,7 @@ use Rattle.tree_bounds.specs.declared.analysis.Table.{Table}
 use Rattle.tree_guarantee.specs.Causes.{IsCausedIn}
 use Rattle.bounds_report.specs.declared.rows.Report.{Report}
 use Rattle.bounds_command.specs.declared.answer.Form.{Form}
-use Rattle.bounds_command.specs.Promises.{Guarantees}
+use Rattle.bounds_command.specs.Promises.{Guarantees, WrittenGuarantees}
 use Rattle.bounds_command.specs.Replies.{Reply, has_fault, goes_round}
 use Rattle.bounds_command.specs.Reports.{IsNetworkOf, IsReportOf, name_at, status_with}
 use Rattle.bounds_command.specs.View.{text_in}
@@ -51,6 +54,14 @@ pub record AreRowsOfBoth (t : Tables) (ports links : List LineRow) : Type 0 wher
   pub links_rows : AreLinesOf t.links links
 
 -- ---- a document, or its first fault
+-- What the rows write, exact, and that a network has it on its grid.
+pub record AreWritten (overhead : ℕ) (port_rows link_rows : List LineRow) (net : Network) : Type 0 where
+  pub ports : port_table.Ports
+  pub links : link_table.Links
+  pub ports_are : port_table.ports_of port_rows ≡ Ok ports
+  pub links_are : link_table.links_of ports overhead link_rows ≡ Ok links
+  pub rounded : IsRounded overhead ports.ports links.keys net
+
 pub record Gives (t : Tables) (overhead : ℕ) (d : DocumentText) (net : Network) : Type 0 where
   pub port_rows : List LineRow
   pub link_rows : List LineRow
@@ -58,6 +69,7 @@ pub record Gives (t : Tables) (overhead : ℕ) (d : DocumentText) (net : Network
   pub reads : document_of overhead port_rows link_rows ≡ Ok d
   pub network : IsNetworkOf d net
   pub in_range : IsNetwork net
+  pub written : AreWritten overhead port_rows link_rows net
 
 pub record IsFaulty (t : Tables) (overhead : ℕ) (form : Form) (reply : Reply) : Type 0 where
   pub port_rows : List LineRow
@@ -82,6 +94,8 @@ pub record IsReported (d : DocumentText) (net : Network) (form : Form) (reply : 
   pub report : Report
   pub tells : IsReportOf d net table report
   pub guarantees : Guarantees d net report
+  -- so does each lawful run of the network that the rows write, exact
+  pub written : WrittenGuarantees d net report
   -- a queue has no number only where nothing bounds what comes there, its load is above the rate, or it waits too long
   pub causes : (s q : ℕ) → s < length net.ports.items → q < queues_of (port_at net s).discipline
       → row_in table s q ≡ None

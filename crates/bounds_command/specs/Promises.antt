@@ -3,8 +3,8 @@
 -- for it, no queue holds more bits than the backlog, and no frame of a branch takes longer from its entry to the end of
 -- the link behind the branch's last port than the bound, nor than its deadline where that is told as met. Where `none`
 -- is printed nothing is promised.
-use Rattle.std.specs.Prelude.{◌≡◌, ◌+◌, ◌*◌, ◌/◌, ◌<◌, ℕ, pred, pos, true, length, slice_get, Option, Some, None}
-use Rattle.min_plus.specs.rational.specs.Rational.{ℚ, frac}
+use Rattle.std.specs.Prelude.{◌≡◌, ◌+◌, ◌*◌, ◌/◌, ◌<◌, ℕ, true, List, length, slice_get, Option, Some, None}
+use Rattle.min_plus.specs.rational.specs.Rational.{ℚ}
 use Rattle.min_plus.specs.rational.specs.Extended.{Ext}
 use Rattle.min_plus.specs.rational.specs.declared.Extended.TheVariants.{Fin, Inf}
 use Rattle.run_laws.specs.Runs.{SpecRun}
@@ -16,6 +16,8 @@ use Rattle.tree_runs.specs.Branches.{delays_to}
 use Rattle.arrival_lines.specs.Grid.{micros}
 use Rattle.table_cells.specs.declared.amount.Amount.{Amount}
 use Rattle.tree_network.specs.declared.network.Network.{Network}
+use Rattle.document_rows.specs.PortRows.{PortText}
+use Rattle.document_tables.specs.declared.links.LinkKeys.{LinkKeys}
 use Rattle.document_tables.specs.Documents.{DocumentText}
 use Rattle.document_tables.specs.Grids.{BranchOnGrid}
 use Rattle.bounds_report.specs.Numbers.{is_met}
@@ -24,15 +26,12 @@ use Rattle.bounds_report.specs.declared.rows.BranchRow.{BranchRow}
 use Rattle.bounds_report.specs.declared.rows.Report.{Report}
 use Rattle.tree_guarantee.specs.Routes.{routes_of}
 use Rattle.tree_guarantee.specs.Guarantee.{IsRunOf}
+use Rattle.rounded_runs.specs.Written.{IsRounded, IsWrittenRun, exact}
 use Rattle.bounds_command.specs.Reports.{name_at, last_port}
 
 -- a time as it is printed: picoseconds in microseconds, rounded up to thousandths
 abbrev pub printed : ℕ → ℚ
 printed time = micros ((time + 999) / 1000 * 1000)
-
--- a time that a cell writes, in microseconds
-abbrev pub written : Amount → ℚ
-written a = frac (pos a.top) (pred a.bottom)
 
 -- where there is no number, nothing is said
 abbrev pub or_infinite : (ℕ → ℚ) → Option ℕ → Ext
@@ -54,7 +53,7 @@ pub record BranchIsKept (d : DocumentText) (net : Network) (run : SpecRun) (b : 
   pub port : row.port.now ≡ name_at d.port_names (last_port net b)
   pub bounded : AreAtMost (or_infinite printed row.bound) (delays_to (routes_of net) run b.link (last_port net b))
   pub met : (deadline : Amount) → row.deadline ≡ Some deadline → is_met row.bound deadline ≡ true
-      → AreAtMost (Fin (written deadline)) (delays_to (routes_of net) run b.link (last_port net b))
+      → AreAtMost (Fin (exact deadline)) (delays_to (routes_of net) run b.link (last_port net b))
 
 pub record IsKept (d : DocumentText) (net : Network) (report : Report) (run : SpecRun) : Type 0 where
   pub queues : (k : ℕ) (row : QueueRow) → slice_get report.queues.items k ≡ Some row → QueueIsKept d net run row
@@ -64,3 +63,9 @@ pub record IsKept (d : DocumentText) (net : Network) (report : Report) (run : Sp
 -- each such run keeps the report
 abbrev pub Guarantees : DocumentText → Network → Report → Type 0
 Guarantees d net report = (run : SpecRun) → IsRunOf net run → IsKept d net report run
+
+-- and each lawful run of the network that is written, exact, keeps it, where this one has its numbers on the grid
+abbrev pub WrittenGuarantees : DocumentText → Network → Report → Type 0
+WrittenGuarantees d net report =
+    (overhead : ℕ) (texts : List PortText) (keys : List LinkKeys) (run : SpecRun) → IsRounded overhead texts keys net
+    → IsWrittenRun overhead texts keys net run → IsKept d net report run

@@ -36,6 +36,7 @@ pub(crate) fn what_of(wrong: Wrong) -> &'static str
         Wrong::NoWhole => "no whole number",
         Wrong::TooSmall => "below the least",
         Wrong::TooLarge => "above the most",
+        Wrong::OffGrid => "no whole number of picoseconds",
         Wrong::NoDiscipline => "no discipline",
         Wrong::NoGate => "no gate",
         Wrong::SlotTooLong => "the slot is longer than the cycle",
@@ -82,7 +83,10 @@ pub(crate) fn mend_of(column: Column, wrong: Wrong) -> &'static str
         Wrong::TooManyRows => "write at most 4096 ports and 131072 branches",
         Wrong::TooManyLinks => "write at most 16384 links",
         Wrong::NameTwice => "give each port a name of its own",
-        Wrong::NoNumber => "write a number as 12, 1.5 or 3/2, of at most 18 digits on each side",
+        Wrong::NoNumber => {
+            "write a number as 12, 1.5 or 3/2, of at most 18 digits in all, or on each side of the slash"
+        }
+        Wrong::OffGrid => "write microseconds with at most 6 digits behind the point",
         Wrong::Differs => "write the same in each row of the link",
         Wrong::UnknownPort(_) => "write a name of the table of ports",
         Wrong::PortTwice(_) => "pass each port once",

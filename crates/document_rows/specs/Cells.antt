@@ -1,9 +1,9 @@
 -- What cells are read as. Own choice.
 use Rattle.std.specs.Prelude.{ℕ, List, Option, Some, None, Result, Ok, Err, not, nat_lt, ok_or, if◌then◌else◌}
 use Rattle.table_cells.specs.declared.amount.Amount.{Amount}
-use Rattle.table_cells.specs.Amounts.{amount_in, few_digits, is_at_most, reaches_one, whole}
+use Rattle.table_cells.specs.Amounts.{amount_in, few_digits, is_at_most, is_whole, reaches_one, whole}
 use Rattle.table_cells.specs.Names as names
-use Rattle.document_rows.specs.declared.fault.Wrong.TheVariants.{Empty, NoName, NoNumber, NoWhole, TooSmall, TooLarge}
+use Rattle.document_rows.specs.declared.fault.Wrong.TheVariants.{Empty, NoName, NoNumber, NoWhole, TooSmall, TooLarge, OffGrid}
 use Rattle.document_rows.specs.Reads.{CellRead, and_then}
 use Rattle.document_rows.specs.Rows.{is_empty}
 
@@ -29,6 +29,13 @@ time_in cell = and_then (number_in cell) (λ n. if not (is_at_most n longest_tim
 
 abbrev pub time_or_zero : List ℕ → CellRead Amount
 time_or_zero cell = if is_empty cell then Ok (whole 0) else time_in cell
+
+-- the time on a link: the same, in whole picoseconds
+abbrev pub on_grid : Amount → CellRead Amount
+on_grid n = if not (is_whole 1000000 n) then Err OffGrid else Ok n
+
+abbrev pub link_time : List ℕ → CellRead Amount
+link_time cell = and_then (time_or_zero cell) on_grid
 
 -- a rate in Mbit/s: a bit a second at least, and at most 10^6
 abbrev pub rate_in : List ℕ → CellRead Amount

@@ -9,6 +9,8 @@ use table_cells::{Amount, whole_in};
 
 const LONGEST_TIME: u64 = 1_000_000_000;
 
+const PICOSECONDS_IN_A_MICROSECOND: u64 = 1_000_000;
+
 // An exact number.
 fn number_in(cell: &[u8]) -> Result<Amount, Wrong>
     ensures value { result ≡ spec.number_in cell.now }
@@ -38,7 +40,8 @@ fn within(times: u64, most: u64, number: Amount) -> Result<Amount, Wrong>
 
 /// A time in microseconds, of at most 1,000 seconds.
 pub(crate) fn time_in(cell: &[u8]) -> Result<Amount, Wrong>
-    ensures { result ≡ spec.time_in cell.now }
+    ensures value { result ≡ spec.time_in cell.now }
+    ensures range { IfOk result IsAmount }
 {
     let time = number_in(cell)?;
     if !time.is_at_most(LONGEST_TIME) {
@@ -49,12 +52,24 @@ pub(crate) fn time_in(cell: &[u8]) -> Result<Amount, Wrong>
 
 /// The same, or 0 where the cell is empty.
 pub(crate) fn time_or_zero(cell: &[u8]) -> Result<Amount, Wrong>
-    ensures { result ≡ spec.time_or_zero cell.now }
+    ensures value { result ≡ spec.time_or_zero cell.now }
+    ensures range { IfOk result IsAmount }
 {
     if cell.is_empty() {
         return Ok(Amount::whole(0));
     }
     time_in(cell)
+}
+
+/// The time on a link: the same, in whole picoseconds.
+pub(crate) fn link_time(cell: &[u8]) -> Result<Amount, Wrong>
+    ensures { result ≡ spec.link_time cell.now }
+{
+    let time = time_or_zero(cell)?;
+    if !time.is_whole(PICOSECONDS_IN_A_MICROSECOND) {
+        return Err(Wrong::OffGrid);
+    }
+    Ok(time)
 }
 
 /// A rate in Mbit/s: a bit a second at least, and at most 10^6.

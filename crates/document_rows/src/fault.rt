@@ -50,6 +50,8 @@ pub enum Wrong {
     TooSmall,
     /// The number is above the largest.
     TooLarge,
+    /// The number is not on the grid: it is no whole number of picoseconds.
+    OffGrid,
     /// It is no discipline.
     NoDiscipline,
     /// It is no gate.

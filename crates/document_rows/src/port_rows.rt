@@ -5,7 +5,7 @@ ghost use Rattle.csv.specs.Records.{fields_of};
 ghost use Rattle.document_rows.specs.PortRows as spec;
 ghost use Rattle.document_rows.specs.Reads.{Tells};
 
-use crate::cells::{rate_in, time_or_zero};
+use crate::cells::{link_time, rate_in, time_or_zero};
 use crate::disciplines::{GateRow, discipline_of, gate_of};
 use crate::fault::{Column, RowError, at};
 use crate::heads::{PortHead, cell};
@@ -41,7 +41,7 @@ pub fn port_row(alloc: Global, head: &PortHead, row: &ByteRecord) -> Result<Port
 {
     let rate = at(Column::Rate, rate_in(cell(row, head.rate)))?;
     let latency = at(Column::Latency, time_or_zero(cell(row, head.latency)))?;
-    let link = at(Column::Link, time_or_zero(cell(row, head.link)))?;
+    let link = at(Column::Link, link_time(cell(row, head.link)))?;
     let words = words_in(alloc, cell(row, head.discipline))?;
     let discipline = discipline_of(alloc, &words)?;
     let words = words_in(alloc, cell_or_empty(row, head.gate))?;

@@ -5,13 +5,13 @@ use Rattle.std.specs.Str.{bytes_eq}
 use Rattle.std.proofs.lemmas.Bool.Decides.{nat_tests}
 use Rattle.std.proofs.lemmas.List.Elements.{All-nil, All-push}
 use Rattle.table_cells.specs.declared.amount.Amount.{Amount}
-use Rattle.table_cells.specs.Amounts.{IsAmount, amount_in, few_digits, is_at_most, is_within, reaches_one, whole}
+use Rattle.table_cells.specs.Amounts.{IsAmount, amount_in, few_digits, is_at_most, is_whole, is_within, reaches_one, whole}
 use Rattle.table_cells.proofs.Digits.{both}
 use Rattle.document_rows.specs.declared.disciplines.GateRow.{GateRow}
-use Rattle.document_rows.specs.declared.fault.Wrong.TheVariants.{Empty, NoNumber, NoWhole, TooSmall, TooLarge, NoDiscipline, SlotTooLong, PathTooLong}
+use Rattle.document_rows.specs.declared.fault.Wrong.TheVariants.{Empty, NoNumber, NoWhole, TooSmall, TooLarge, OffGrid, NoDiscipline, SlotTooLong, PathTooLong}
 use Rattle.document_rows.specs.Reads.{and_then}
 use Rattle.document_rows.specs.Rows.{is_empty}
-use Rattle.document_rows.specs.Cells.{number_in, within, longest_time, time_in, time_or_zero, rate_in, gap_in, in_range, whole_between}
+use Rattle.document_rows.specs.Cells.{number_in, within, longest_time, time_in, time_or_zero, on_grid, link_time, rate_in, gap_in, in_range, whole_between}
 use Rattle.document_rows.specs.Disciplines.{DisciplineText, Fifo, Priority, Drr, is_between, whole_of, most_queues, queues_in, quantum_in, quanta_from, quanta_of, quanta_in, discipline_of, gate_with, gate_of}
 use Rattle.document_rows.specs.LinkRows.{priority_in, path_of, deadline_in}
 use Rattle.document_tables.specs.Ranges.{IsWithin, IsTime, IsTimeOrNone, IsGateOrNone, IsQuantum, IsDiscipline}
@@ -47,6 +47,13 @@ time_or_none cell a h = by (is_empty cell) h
     by : (b : Bool) → (if b then Ok (whole 0) else time_in cell) ≡ Ok a → IsTime a
     by true e = subst IsTime (same_read (whole 0) a e) (record { amount = zero_amount; most = refl })
     by false e = time cell a e
+
+pub on_link : (cell : List ℕ) (a : Amount) → link_time cell ≡ Ok a → IsTime a × (is_whole 1000000 a ≡ true)
+on_link cell a h =
+    let n = both_read (time_or_zero cell) on_grid a h in
+    let all = not_denied (is_whole 1000000 n.0) OffGrid (Ok n.0) a n.2 in
+    let same = same_read n.0 a all.1 in
+    (subst IsTime same (time_or_none cell n.0 n.1), subst (λ (b : Amount). is_whole 1000000 b ≡ true) same all.0)
 
 pub deadline : (cell : List ℕ) (d : Option Amount) → deadline_in cell ≡ Ok d → IsTimeOrNone d
 deadline cell d h = by (is_empty cell) h

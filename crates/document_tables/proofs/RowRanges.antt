@@ -7,7 +7,7 @@ use Rattle.document_rows.specs.declared.heads.PortHead.{PortHead}
 use Rattle.document_rows.specs.declared.heads.LinkHead.{LinkHead}
 use Rattle.document_rows.specs.Reads.{RowRead, and_then, at}
 use Rattle.document_rows.specs.Rows.{Row, cell}
-use Rattle.document_rows.specs.Cells.{rate_in, gap_in, time_or_zero, whole_between}
+use Rattle.document_rows.specs.Cells.{rate_in, gap_in, time_or_zero, link_time, whole_between}
 use Rattle.document_rows.specs.Disciplines.{DisciplineText, discipline_of, gate_of}
 use Rattle.document_rows.specs.PortRows.{PortText, port_row, cell_or_empty}
 use Rattle.document_rows.specs.LinkRows.{LinkText, link_row, priority_in, path_of, deadline_in}
@@ -24,7 +24,7 @@ module _ (head : PortHead) (row : Row) where
   port_discipline rate latency link = and_then (at column.Discipline (discipline_of (words_of (cell row head.discipline)))) (port_gate rate latency link)
 
   abbrev port_link : Amount → Amount → RowRead PortText
-  port_link rate latency = and_then (at column.Link (time_or_zero (cell row head.link))) (port_discipline rate latency)
+  port_link rate latency = and_then (at column.Link (link_time (cell row head.link))) (port_discipline rate latency)
 
   abbrev port_latency : Amount → RowRead PortText
   port_latency rate = and_then (at column.Latency (time_or_zero (cell row head.latency))) (port_link rate)
@@ -34,16 +34,18 @@ module _ (head : PortHead) (row : Row) where
   port_says port h =
       let r = both_read (at column.Rate (rate_in (cell row head.rate))) port_latency port h in
       let l = both_read (at column.Latency (time_or_zero (cell row head.latency))) (port_link r.0) port r.2 in
-      let k = both_read (at column.Link (time_or_zero (cell row head.link))) (port_discipline r.0 l.0) port l.2 in
+      let k = both_read (at column.Link (link_time (cell row head.link))) (port_discipline r.0 l.0) port l.2 in
       let d = both_read (at column.Discipline (discipline_of (words_of (cell row head.discipline)))) (port_gate r.0 l.0 k.0) port k.2 in
       let g = both_read (at column.Gate (gate_of (words_of (cell_or_empty row head.gate))))
       (λ gate. Ok (record { rate = r.0; latency = l.0; link = k.0; discipline = d.0; gate = gate })) port d.2
       in
+      let on_link = cells.on_link (cell row head.link) k.0 (cell_read column.Link (link_time (cell row head.link)) k.0 k.1) in
       let made : PortText = record { rate = r.0; latency = l.0; link = k.0; discipline = d.0; gate = g.0 } in
       subst IsPortText (same_read made port g.2) (record {
         rate = cells.rate (cell row head.rate) r.0 (cell_read column.Rate (rate_in (cell row head.rate)) r.0 r.1);
         latency = cells.time_or_none (cell row head.latency) l.0 (cell_read column.Latency (time_or_zero (cell row head.latency)) l.0 l.1);
-        link = cells.time_or_none (cell row head.link) k.0 (cell_read column.Link (time_or_zero (cell row head.link)) k.0 k.1);
+        link = on_link.0;
+        whole_link = on_link.1;
         discipline = cells.discipline (words_of (cell row head.discipline)) d.0 (cell_read column.Discipline (discipline_of (words_of (cell row head.discipline))) d.0 d.1);
         gate = cells.gate (words_of (cell_or_empty row head.gate)) g.0 (cell_read column.Gate (gate_of (words_of (cell_or_empty row head.gate))) g.0 g.1);
       })

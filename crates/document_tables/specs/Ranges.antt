@@ -1,7 +1,7 @@
 -- The ranges of what rows say.
 use Rattle.std.specs.Prelude.{◌≡◌, true, ℕ, ◌≤◌, All, length, Option, Some, None}
 use Rattle.table_cells.specs.declared.amount.Amount.{Amount}
-use Rattle.table_cells.specs.Amounts.{IsAmount, is_at_most, is_within, reaches_one}
+use Rattle.table_cells.specs.Amounts.{IsAmount, is_at_most, is_whole, is_within, reaches_one}
 use Rattle.document_rows.specs.declared.disciplines.GateRow.{GateRow}
 use Rattle.document_rows.specs.Cells.{longest_time}
 use Rattle.document_rows.specs.Disciplines.{DisciplineText, Fifo, Priority, Drr, most_queues}
@@ -46,6 +46,7 @@ pub record IsPortText (port : PortText) : Type 0 where
   pub rate : IsWithin 1000000 1000000 port.rate
   pub latency : IsTime port.latency
   pub link : IsTime port.link
+  pub whole_link : is_whole 1000000 port.link ≡ true
   pub discipline : IsDiscipline port.discipline
   pub gate : IsGateOrNone port.gate
 

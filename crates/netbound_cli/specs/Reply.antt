@@ -1,5 +1,5 @@
 -- What the program answers on words and files, and what it means that the answer is given.
-use Rattle.std.specs.Prelude.{◌≡◌, ◌⊎◌, ℕ, List, [], ◌∷◌, Option, Some, IfSome}
+use Rattle.std.specs.Prelude.{◌≡◌, ◌⊎◌, ◌+◌, ◌++◌, ℕ, List, [], ◌∷◌, take, slice_get, Option, Some, IfSome}
 use Rattle.std.specs.Io.KnownBytes.{Appends}
 use Rattle.outside.specs.Faults.{Rose}
 use Rattle.outside.specs.Fetching as fetching
@@ -30,42 +30,76 @@ abbrev pub EndsAt : {I : Type 0} → (I → ℕ) → (I → List ℕ) → Told �
 EndsAt faults last_fault told old new reply file =
     fetching.EndsAt most_bytes cannot_read too_long faults last_fault told old new reply file
 
--- ---- on words and inputs
--- The inputs may bring this reply of a call: they failed at a file, those before which may fit, or it is the reply on
--- what the files hold.
-abbrev pub MayReplyTo : {I : Type 0} → (I → ℕ) → (I → List ℕ) → Told → Call → I → I → Reply → Type 0
-MayReplyTo faults last_fault told c old new reply =
-    FirstIs told (λ file. FailedAt faults last_fault file old new × (reply ≡ cannot_read file)) (files_of c)
-    ⊎ ((files : List (List ℕ)) × MayHoldAll told (files_of c) files × IsReplyOnFiles c files reply)
+-- ---- asked for
+-- A call asks for these names, in their order, and for no other.
+abbrev pub asks_of : {I : Type 0} → (I → List (List ℕ)) → I → I → List (List ℕ) → Type 0
+asks_of asked old new names = fetching.AsksForAll asked names old new
 
--- Words and inputs may bring this reply.
-abbrev pub MayReply : {I : Type 0} → (I → List ℕ → Option (List ℕ)) → (I → ℕ) → (I → List ℕ) → Option Request
-    → I → I → Reply → Type 0
-MayReply content faults last_fault asked old new reply =
-    (text_of asked ≡ Some reply)
-    ⊎ ((c : Call) × (call_of asked ≡ Some c) × MayReplyTo faults last_fault (content old) c old new reply)
+-- It asks for the names up to this file, and for none behind it.
+pub record AsksUpTo (asks : List (List ℕ) → Type 0) (names : List (List ℕ)) (file : List ℕ) : Type 0 where
+  pub place : ℕ
+  pub last : slice_get names place ≡ Some file
+  pub are : asks (take (place + 1) names)
+
+-- ---- on words and inputs
+-- The reply of a call whose files hold these bytes, where no more is asked for than it tells of: up to a file that is
+-- too long, or all.
+abbrev pub IsReplyAsking : (List (List ℕ) → Type 0) → Call → List (List ℕ) → Reply → Type 0
+IsReplyAsking asks c files reply =
+    FirstLong (λ file. (reply ≡ too_long file) × AsksUpTo asks (files_of c) file) (files_of c) files
+    ⊎ (AllFit files × OnTables IsReplyOn c files reply × asks (files_of c))
+
+-- The inputs may bring this reply of a call: they failed at a file, those before which may fit, and none behind it is
+-- asked for; or it is the reply on what the files hold.
+abbrev pub MayReplyTo : {I : Type 0} → (I → ℕ) → (I → List ℕ) → Told → (List (List ℕ) → Type 0) → Call → I → I → Reply → Type 0
+MayReplyTo faults last_fault told asks c old new reply =
+    FirstIs told (λ file. FailedAt faults last_fault file old new × (reply ≡ cannot_read file)
+    × AsksUpTo asks (files_of c) file) (files_of c)
+    ⊎ ((files : List (List ℕ)) × MayHoldAll told (files_of c) files × IsReplyAsking asks c files reply)
+
+-- Words and inputs may bring this reply; for a text no file is asked for.
+abbrev pub MayReply : {I : Type 0} → (I → List ℕ → Option (List ℕ)) → (I → ℕ) → (I → List ℕ) → (I → List (List ℕ))
+    → Option Request → I → I → Reply → Type 0
+MayReply content faults last_fault asked request old new reply =
+    ((text_of request ≡ Some reply) × asks_of asked old new [])
+    ⊎ ((c : Call) × (call_of request ≡ Some c)
+    × MayReplyTo faults last_fault (content old) (asks_of asked old new) c old new reply)
 
 -- The status is that of an answer on what both files hold.
 abbrev pub IsOnBoth : ℕ → Type 0
 IsOnBoth status = (status ≡ 0) ⊎ ((status ≡ 8) ⊎ (status ≡ 9))
 
 -- ---- given
--- The status is the reply's, and its bytes were written.
-abbrev pub Gives : ℕ → Option (List ℕ) → Option (List ℕ) → Reply → Type 0
-Gives status old new reply = (status ≡ reply.status) × Appends old new reply.bytes
+-- What is known of the output: what is written there, where it is told, and the bytes of each put.
+pub record Output : Type 0 where
+  pub written : Option (List ℕ)
+  pub puts : List (List ℕ)
 
--- The files of a call hold bytes that are not too many, and a reply of this kind on them was given.
-pub record Brings (K : Tables → ℕ → Form → Reply → Type 0) (told : Told) (c : Call) (status : ℕ)
-    (old new : Option (List ℕ)) : Type 0 where
+abbrev pub output : {K : Type 0} → (K → Option (List ℕ)) → (K → List (List ℕ)) → K → Output
+output written puts out = record { written = written out; puts = puts out }
+
+-- There was one put, of the reply's bytes.
+abbrev pub PutsOnce : Output → Output → Reply → Type 0
+PutsOnce old new reply = new.puts ≡ old.puts ++ reply.bytes ∷ []
+
+-- The status is the reply's, and its bytes were written, by one put.
+abbrev pub Gives : ℕ → Output → Output → Reply → Type 0
+Gives status old new reply =
+    (status ≡ reply.status) × Appends old.written new.written reply.bytes × PutsOnce old new reply
+
+-- The files of a call hold bytes that are not too many, both were asked for, and a reply of this kind on them was given.
+pub record Brings (K : Tables → ℕ → Form → Reply → Type 0) (told : Told) (asks : List (List ℕ) → Type 0) (c : Call)
+    (status : ℕ) (old new : Output) : Type 0 where
   pub files : List (List ℕ)
   pub held : MayHoldAll told (files_of c) files
   pub fit : AllFit files
+  pub asked : asks (files_of c)
   pub reply : Reply
   pub is : OnTables K c files reply
   pub given : Gives status old new reply
 
 -- Where it is told what the files hold, the reply on that was given, or the status is 3, 4 or 5.
-abbrev pub GivesOnTold : Call → Told → ℕ → Option (List ℕ) → Option (List ℕ) → Type 0
+abbrev pub GivesOnTold : Call → Told → ℕ → Output → Output → Type 0
 GivesOnTold c told status old new = IfSome (all_told told (files_of c)) (λ files.
     ((reply : Reply) × IsReplyOnFiles c files reply × Gives status old new reply)
     ⊎ ((status ≡ 3) ⊎ ((status ≡ 4) ⊎ (status ≡ 5))))
@@ -82,8 +116,9 @@ AnswersWhatItCan c told status = IfSome (all_told told (files_of c)) (λ files.
     AllFit files → IsAnswerableCall c files
     → (status ≡ 0) ⊎ ((status ≡ 9) ⊎ ((status ≡ 3) ⊎ ((status ≡ 4) ⊎ (status ≡ 5)))))
 
--- The sink failed in this call, and a front of the reply's bytes was written.
-pub record FailsToGive {K : Type 0} (faults : K → ℕ) (written : K → Option (List ℕ)) (old new : K) (reply : Reply)
-    : Type 0 where
+-- The sink failed in this call, at one put of the reply's bytes, and a front of them was written.
+pub record FailsToGive {K : Type 0} (faults : K → ℕ) (written : K → Option (List ℕ)) (puts : K → List (List ℕ))
+    (old new : K) (reply : Reply) : Type 0 where
   pub rose : Rose (faults old) (faults new)
   pub front : AppendsFront (written old) (written new) reply.bytes
+  pub put : PutsOnce (output written puts old) (output written puts new) reply

@@ -4,7 +4,7 @@ ghost use Rattle.std.specs.Prelude.{◌≡◌, ◌≤◌, [], ◌∷◌, List, �
 ghost use Rattle.outside.specs.Fetching.{AsksForAll, AsksInOrder};
 ghost use Rattle.bounds_command.specs.View.{reply_of};
 ghost use Rattle.netbound_cli.specs.Files.{most_bytes, MayHold, MayHoldAll, AllFit, FirstIs};
-ghost use Rattle.netbound_cli.specs.Reply.{EndsAt};
+ghost use Rattle.netbound_cli.specs.Reply.{EndsAt, AsksUpTo, asks_of};
 
 use bounds_command::{Answer, cannot_read, too_long};
 use outside::{FetchFault, Inputs, NoMemory};
@@ -66,7 +66,8 @@ pub(crate) fn fetch_two<I: Inputs>(
         (files.0.items ∷ files.1.items ∷ [])) }
     ensures fit { IfOk result (λ files. AllFit (files.0.items ∷ files.1.items ∷ [])) }
     ensures ended { IfErr result (λ ended. IfOk ended (λ r. FirstIs (I.content inputs.old)
-        (EndsAt I.faults I.last_fault (I.content inputs.old) inputs.old inputs.new (reply_of r))
+        (λ file. EndsAt I.faults I.last_fault (I.content inputs.old) inputs.old inputs.new (reply_of r) file
+        × AsksUpTo (asks_of I.asked inputs.old inputs.new) (first.now ∷ second.now ∷ []) file)
         (first.now ∷ second.now ∷ []))) }
     ensures asked { AsksInOrder I.asked (first.now ∷ second.now ∷ []) inputs.old inputs.new }
     ensures all { OnOk result (AsksForAll I.asked (first.now ∷ second.now ∷ []) inputs.old inputs.new) }

@@ -10,7 +10,7 @@ ghost use Rattle.netbound_words.specs.Requests as spec;
 ghost use Rattle.netbound_cli.specs.Calls as calls;
 ghost use Rattle.netbound_cli.specs.Calls.{call_of, text_of, files_of, names_of, bounds_call};
 ghost use Rattle.netbound_cli.specs.Files.{IsTooLong, FirstIs};
-ghost use Rattle.netbound_cli.specs.Reply.{FailedAt, MayReply, MayReplyTo, Gives, Brings};
+ghost use Rattle.netbound_cli.specs.Reply.{FailedAt, AsksUpTo, asks_of, MayReply, MayReplyTo, output, Gives, PutsOnce, Brings};
 ghost use Rattle.netbound_cli.specs.Reply.{GivesOnTold, AnswersWhatItCan, FailsToGive, IsOnBoth};
 
 use crate::fetching::fetch_two;
@@ -24,9 +24,9 @@ use std::alloc::Global;
 fn give<K: Sink>(out: &mut K, status: Status, text: &str) -> u8
     requires { code_of status ≢ 4 }
     ensures given { let reply : Reply = record { status = code_of status; bytes = text.now } in
-        result ≢ 4 → Gives result (K.written out.old) (K.written out.new) reply }
+        result ≢ 4 → Gives result (output K.written K.puts out.old) (output K.written K.puts out.new) reply }
     ensures failed { let reply : Reply = record { status = code_of status; bytes = text.now } in
-        result ≡ 4 → FailsToGive K.faults K.written out.old out.new reply }
+        result ≡ 4 → FailsToGive K.faults K.written K.puts out.old out.new reply }
     ensures put { K.puts out.new ≡ K.puts out.old ++ text.now ∷ [] }
 {
     match out.put(text.as_bytes()) {
@@ -45,8 +45,8 @@ fn form_of(json: bool) -> Form
 // The answer on the tables of these names.
 fn answer_to<I: Inputs>(alloc: Global, asked: Bounds, inputs: &mut I) -> Result<Answer, NoMemory>
     requires { asked.overhead ≤ 1048576 }
-    ensures reply { IfOk result (λ r. MayReplyTo I.faults I.last_fault (I.content inputs.old) (bounds_call asked.entry)
-        inputs.old inputs.new (reply_of r)) }
+    ensures reply { IfOk result (λ r. MayReplyTo I.faults I.last_fault (I.content inputs.old)
+        (asks_of I.asked inputs.old inputs.new) (bounds_call asked.entry) inputs.old inputs.new (reply_of r)) }
     ensures asked { AsksInOrder I.asked (files_of (bounds_call asked.entry)) inputs.old inputs.new }
     ensures all { IfOk result (λ r. IsOnBoth (code_of r.status) →
         AsksForAll I.asked (files_of (bounds_call asked.entry)) inputs.old inputs.new) }
@@ -68,8 +68,8 @@ fn answer_to<I: Inputs>(alloc: Global, asked: Bounds, inputs: &mut I) -> Result<
 
 // The answer to words.
 fn answered<I: Inputs>(alloc: Global, words: &[String], inputs: &mut I) -> Result<Answer, NoMemory>
-    ensures reply { IfOk result (λ r. MayReply I.content I.faults I.last_fault (spec.request_of (spec.texts words.now))
-        inputs.old inputs.new (reply_of r)) }
+    ensures reply { IfOk result (λ r. MayReply I.content I.faults I.last_fault I.asked
+        (spec.request_of (spec.texts words.now)) inputs.old inputs.new (reply_of r)) }
     ensures asked { AsksInOrder I.asked (names_of (spec.request_of (spec.texts words.now))) inputs.old inputs.new }
     ensures all { IfOk result (λ r. IsOnBoth (code_of r.status) →
         AsksForAll I.asked (names_of (spec.request_of (spec.texts words.now))) inputs.old inputs.new) }
@@ -99,43 +99,53 @@ pub fn run<I: Inputs, K: Sink>(alloc: Global, words: &[String], inputs: &mut I, 
 
     // Where words ask for no bounds: the text that they ask for, or that they are not taken; or 4 or 5.
     ensures text { IfSome (text_of (spec.request_of (spec.texts words.now))) (λ reply.
-        Gives result (K.written out.old) (K.written out.new) reply ⊎ ((result ≡ 4) ⊎ (result ≡ 5))) }
+        Gives result (output K.written K.puts out.old) (output K.written K.puts out.new) reply
+        ⊎ ((result ≡ 4) ⊎ (result ≡ 5))) }
 
-    // 3 only where the inputs failed in this call, and last at the file that the line names; that before it may fit.
+    // 3 only where the inputs failed in this call, and last at the file that the line names; that before it may fit, and
+    // none behind it is asked for.
     ensures read_fault { result ≡ 3 → IfSome (call_of (spec.request_of (spec.texts words.now))) (λ c.
         FirstIs (I.content inputs.old) (λ file. FailedAt I.faults I.last_fault file inputs.old inputs.new
-        × Gives result (K.written out.old) (K.written out.new) (cannot_read file)) (files_of c)) }
+        × Gives result (output K.written K.puts out.old) (output K.written K.puts out.new) (cannot_read file)
+        × AsksUpTo (asks_of I.asked inputs.old inputs.new) (files_of c) file) (files_of c)) }
 
-    // 1 only where a file, the first that does not fit, has more bytes than a table may have, or the document has a
-    // fault, the first of which the line tells.
+    // 1 only where a file, the first that does not fit, has more bytes than a table may have, and none behind it is asked
+    // for, or the document has a fault, the first of which the line tells.
     ensures malformed { result ≡ 1 → IfSome (call_of (spec.request_of (spec.texts words.now))) (λ c.
         FirstIs (I.content inputs.old) (λ file. IsTooLong (I.content inputs.old file)
-        × Gives result (K.written out.old) (K.written out.new) (too_long file)) (files_of c)
-        ⊎ Brings IsFaulty (I.content inputs.old) c result (K.written out.old) (K.written out.new)) }
+        × Gives result (output K.written K.puts out.old) (output K.written K.puts out.new) (too_long file)
+        × AsksUpTo (asks_of I.asked inputs.old inputs.new) (files_of c) file) (files_of c)
+        ⊎ Brings IsFaulty (I.content inputs.old) (asks_of I.asked inputs.old inputs.new) c result
+        (output K.written K.puts out.old) (output K.written K.puts out.new)) }
 
     // 8 only where the links of the document go round, over the ports that the line tells.
     ensures cycle { result ≡ 8 → IfSome (call_of (spec.request_of (spec.texts words.now))) (λ c.
-        Brings IsCyclic (I.content inputs.old) c result (K.written out.old) (K.written out.new)) }
+        Brings IsCyclic (I.content inputs.old) (asks_of I.asked inputs.old inputs.new) c result
+        (output K.written K.puts out.old) (output K.written K.puts out.new)) }
 
     // 0 of a call on tables, and 9, only where the report on the bounds of the document's network is written, by a
     // table that meets the equations; what it says every lawful run of the network keeps that keeps the premises. 9
     // where a branch misses its deadline, by exact numbers, and 0 where none does.
     ensures missed { result ≡ 9 → IfSome (call_of (spec.request_of (spec.texts words.now))) (λ c.
-        Brings (IsReport true) (I.content inputs.old) c result (K.written out.old) (K.written out.new)) }
+        Brings (IsReport true) (I.content inputs.old) (asks_of I.asked inputs.old inputs.new) c result
+        (output K.written K.puts out.old) (output K.written K.puts out.new)) }
     ensures done { result ≡ 0 → IfSome (call_of (spec.request_of (spec.texts words.now))) (λ c.
-        Brings (IsReport false) (I.content inputs.old) c result (K.written out.old) (K.written out.new)) }
+        Brings (IsReport false) (I.content inputs.old) (asks_of I.asked inputs.old inputs.new) c result
+        (output K.written K.puts out.old) (output K.written K.puts out.new)) }
 
     // 4 only where the sink failed in this call; a front of a reply's bytes is written.
     ensures write_fault { result ≡ 4 → (reply : Reply)
-        × MayReply I.content I.faults I.last_fault (spec.request_of (spec.texts words.now)) inputs.old inputs.new reply
-        × FailsToGive K.faults K.written out.old out.new reply }
+        × MayReply I.content I.faults I.last_fault I.asked (spec.request_of (spec.texts words.now))
+        inputs.old inputs.new reply
+        × FailsToGive K.faults K.written K.puts out.old out.new reply }
 
     // 5: nothing is written.
     ensures no_memory { result ≡ 5 → K.written out.new ≡ K.written out.old }
 
     // Where it is told what the files hold, 3, 4 and 5 are the only other answers than the one on that.
     ensures told { IfSome (call_of (spec.request_of (spec.texts words.now))) (λ c.
-        GivesOnTold c (I.content inputs.old) result (K.written out.old) (K.written out.new)) }
+        GivesOnTold c (I.content inputs.old) result
+        (output K.written K.puts out.old) (output K.written K.puts out.new)) }
 
     // So 0 or 9 is the only other one where the files are a document whose links do not go round.
     ensures complete { IfSome (call_of (spec.request_of (spec.texts words.now))) (λ c.
@@ -143,8 +153,9 @@ pub fn run<I: Inputs, K: Sink>(alloc: Global, words: &[String], inputs: &mut I, 
 
     // Every answer but 4 and 5 is the status of a reply that words and inputs may bring, whose bytes are written.
     ensures answers { result ≢ 4 → result ≢ 5 → (reply : Reply)
-        × MayReply I.content I.faults I.last_fault (spec.request_of (spec.texts words.now)) inputs.old inputs.new reply
-        × Gives result (K.written out.old) (K.written out.new) reply }
+        × MayReply I.content I.faults I.last_fault I.asked (spec.request_of (spec.texts words.now))
+        inputs.old inputs.new reply
+        × Gives result (output K.written K.puts out.old) (output K.written K.puts out.new) reply }
 
     // The files that the words name are asked for in their order, each once and no other, up to one that is not had:
     // for a text none, and all for an answer on what they hold.
@@ -152,8 +163,11 @@ pub fn run<I: Inputs, K: Sink>(alloc: Global, words: &[String], inputs: &mut I, 
     ensures asked_all { IsOnBoth result →
         AsksForAll I.asked (names_of (spec.request_of (spec.texts words.now))) inputs.old inputs.new }
 
-    // There is one put, but at 5 none.
-    ensures one_put { result ≢ 5 → (bytes : List ℕ) × (K.puts out.new ≡ K.puts out.old ++ bytes ∷ []) }
+    // There is one put, of the bytes of such a reply, at 4 too; at 5 there is none.
+    ensures one_put { result ≢ 5 → (reply : Reply)
+        × MayReply I.content I.faults I.last_fault I.asked (spec.request_of (spec.texts words.now))
+        inputs.old inputs.new reply
+        × PutsOnce (output K.written K.puts out.old) (output K.written K.puts out.new) reply }
     ensures no_put { result ≡ 5 → K.puts out.new ≡ K.puts out.old }
 {
     match answered(alloc, words, inputs) {

@@ -1,5 +1,5 @@
 -- Exact numbers from 0 on, as the cells of a table write them. Own choice.
-use Rattle.std.specs.Prelude.{ℕ, ◌<◌, ◌≤◌, ◌+◌, ◌-◌, ◌*◌, ◌/◌, ◌^◌, Bool, ◌==◌, ◌&&◌, nat_le, if◌then◌else◌, List, [], ◌∷◌, length, take, drop, Option, Some, None, option_map, option_and_then}
+use Rattle.std.specs.Prelude.{ℕ, ◌<◌, ◌≤◌, ◌+◌, ◌-◌, ◌*◌, ◌/◌, ◌%◌, ◌^◌, Bool, ◌==◌, ◌&&◌, nat_le, if◌then◌else◌, List, [], ◌∷◌, length, take, drop, Option, Some, None, option_map, option_and_then}
 use Rattle.std.specs.List.{position}
 use Rattle.std.specs.Str.Parse.{digits_value}
 use Rattle.fraction128.specs.Text.{is_numeral, is_slash}
@@ -79,6 +79,10 @@ is_within a b = nat_le (a.top * b.bottom) (b.top * a.bottom)
 -- they are one number, however written
 abbrev pub equals : Amount → Amount → Bool
 equals a b = a.top * b.bottom == b.top * a.bottom
+
+-- so many times it are a whole number
+abbrev pub is_whole : (times : ℕ) → Amount → Bool
+is_whole times a = a.top * times % a.bottom == 0
 
 -- so many times it, rounded down and up to a whole number
 abbrev pub rounded_down : ℕ → Amount → ℕ

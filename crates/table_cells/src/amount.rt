@@ -131,6 +131,14 @@ impl Amount {
         self.top as u128 * other.bottom as u128 == other.top as u128 * self.bottom as u128
     }
 
+    /// Whether so many of it are a whole number.
+    pub fn is_whole(self, times: u64) -> bool
+        requires { 0 < self.bottom }
+        ensures { result ≡ spec.is_whole times self }
+    {
+        self.top as u128 * times as u128 % self.bottom as u128 == 0
+    }
+
     /// So many of it, rounded down.
     pub fn rounded_down(self, times: u64) -> u64
         requires some { 0 < self.bottom }

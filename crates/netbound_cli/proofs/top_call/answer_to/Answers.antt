@@ -2,6 +2,7 @@ use Rattle.std.proofs.Common.{◌∷◌, []}
 use Rattle.std.proofs.lemmas.Result.{IfOk-weaker}
 use Rattle.bounds_command.specs.View.{reply_of}
 use Rattle.netbound_cli.specs.Calls.{bounds_call, files_of}
+use Rattle.netbound_cli.specs.Reply.{asks_of}
 use Rattle.netbound_cli.proofs.Outcomes.{answers, ends, not_at_file}
 use Rattle.netbound_cli.proofs.top_call.answer_to.Goals as goal
 
@@ -9,17 +10,18 @@ pub returns-in-Ok-clause-reply : goal.returns-in-Ok-clause-reply
 returns-in-Ok-clause-reply g c =
     IfOk-weaker c.on_tables.result _ _
     (λ r on. answers g.I.Inputs.faults g.I.Inputs.last_fault (g.I.Inputs.content c.args.inputs.now)
-    (bounds_call c.args.asked)
+    (asks_of g.I.Inputs.asked c.args.inputs.now c.fetch_two.new.inputs) (bounds_call c.args.asked)
     c.args.inputs.now c.fetch_two.new.inputs (reply_of r) (c.in-Ok.ports.items ∷ c.in-Ok.links.items ∷ [])
     c.in-Ok.ensures.held c.in-Ok.ensures.fit
-    (rw (c.deref.ensures.value, c.deref-in-Ok.ensures.value, c.form_of-form.ensures) at on))
+    (rw (c.deref.ensures.value, c.deref-in-Ok.ensures.value, c.form_of-form.ensures) at on)
+    c.in-Ok.ensures.all)
     c.on_tables.ensures
 
 pub returns-in-Err-clause-reply : goal.returns-in-Err-clause-reply
 returns-in-Err-clause-reply g c =
     IfOk-weaker c.in-Err.ended _ _
     (λ r at. ends g.I.Inputs.faults g.I.Inputs.last_fault (g.I.Inputs.content c.args.inputs.now)
-    (bounds_call c.args.asked)
+    (asks_of g.I.Inputs.asked c.args.inputs.now c.fetch_two.new.inputs) (bounds_call c.args.asked)
     c.args.inputs.now c.fetch_two.new.inputs (reply_of r) at)
     c.in-Err.ensures.ended
 
@@ -31,5 +33,5 @@ pub returns-in-Err-clause-all : goal.returns-in-Err-clause-all
 returns-in-Err-clause-all g c =
     IfOk-weaker c.in-Err.ended _ _
     (λ r at both. absurd (not_at_file g.I.Inputs.faults g.I.Inputs.last_fault (g.I.Inputs.content c.args.inputs.now)
-    (files_of (bounds_call c.args.asked)) c.args.inputs.now c.fetch_two.new.inputs (reply_of r) at both))
+    (asks_of g.I.Inputs.asked c.args.inputs.now c.fetch_two.new.inputs) (files_of (bounds_call c.args.asked)) c.args.inputs.now c.fetch_two.new.inputs (reply_of r) at both))
     c.in-Err.ensures.ended

@@ -2,22 +2,25 @@ use Rattle.std.proofs.Common.{ℕ, refl, sym, ◌∙◌, subst}
 use Rattle.bounds_command.specs.View.{reply_of}
 use Rattle.netbound_words.specs.Requests.{request_of, texts}
 use Rattle.netbound_cli.proofs.Outcomes.{never, no_outcome, not_failed, outcome}
-use Rattle.netbound_cli.specs.Reply.{IsOnBoth}
+use Rattle.netbound_cli.specs.Reply.{IsOnBoth, output}
 use Rattle.netbound_cli.proofs.top_call.run.Goals as goal
 
 pub give-requires : goal.give-requires
 give-requires g c =
-    (never g.I.Inputs.content g.I.Inputs.faults g.I.Inputs.last_fault (request_of (texts c.args.words.now))
+    (never g.I.Inputs.content g.I.Inputs.faults g.I.Inputs.last_fault g.I.Inputs.asked (request_of (texts c.args.words.now))
     c.args.inputs.now c.answered.new.inputs (reply_of c.in-Ok.answer) c.in-Ok.ensures.reply).0
 
 pub returns-in-Ok : goal.returns-in-Ok
 returns-in-Ok g c =
     let given = c.give.ensures.given in
-    let all = outcome g.I.Inputs.content g.I.Inputs.faults g.I.Inputs.last_fault (request_of (texts c.args.words.now))
-    c.args.inputs.now c.answered.new.inputs (reply_of c.in-Ok.answer) c.give.result (g.K.Sink.written c.args.out.now)
-    (g.K.Sink.written c.give.new.out) c.in-Ok.ensures.reply
-    (λ unlike. let done = given unlike in (done.0, rw c.as_str.ensures.value at done.1)) in
-    let no = never g.I.Inputs.content g.I.Inputs.faults g.I.Inputs.last_fault (request_of (texts c.args.words.now))
+    let put = rw c.as_str.ensures.value at c.give.ensures.put in
+    let all = outcome g.I.Inputs.content g.I.Inputs.faults g.I.Inputs.last_fault g.I.Inputs.asked
+    (request_of (texts c.args.words.now))
+    c.args.inputs.now c.answered.new.inputs (reply_of c.in-Ok.answer) c.give.result
+    (output g.K.Sink.written g.K.Sink.puts c.args.out.now) (output g.K.Sink.written g.K.Sink.puts c.give.new.out)
+    c.in-Ok.ensures.reply
+    (λ unlike. let done = given unlike in (done.0, rw c.as_str.ensures.value at done.1, put)) in
+    let no = never g.I.Inputs.content g.I.Inputs.faults g.I.Inputs.last_fault g.I.Inputs.asked (request_of (texts c.args.words.now))
     c.args.inputs.now c.answered.new.inputs (reply_of c.in-Ok.answer) c.in-Ok.ensures.reply in
     record {
       usage = all.usage;
@@ -31,27 +34,27 @@ returns-in-Ok g c =
         reply_of c.in-Ok.answer,
         c.in-Ok.ensures.reply,
         record
-            { rose = failed.rose; front = rw c.as_str.ensures.value at failed.front },
+            { rose = failed.rose; front = rw c.as_str.ensures.value at failed.front; put = put },
       );
       no_memory = λ five. absurd (no.1 (sym (given (λ four. absurd (cc))).0 ∙ five));
       told = all.told;
       complete = all.complete;
       answers = λ four five. let done = given four in
-          (reply_of c.in-Ok.answer, c.in-Ok.ensures.reply, (done.0, rw c.as_str.ensures.value at done.1));
+          (reply_of c.in-Ok.answer, c.in-Ok.ensures.reply, (done.0, rw c.as_str.ensures.value at done.1, put));
       asked = c.answered.ensures.asked;
       asked_all = λ both.
           let P : ℕ → Type 0 = λ n. IsOnBoth n in
           c.in-Ok.ensures.all (subst P (given (not_failed c.give.result both).0).0 both);
-      one_put = λ five. (_, c.give.ensures.put);
+      one_put = λ five. (reply_of c.in-Ok.answer, c.in-Ok.ensures.reply, put);
       no_put = λ five. absurd (no.1 (sym (given (λ four. absurd (cc))).0 ∙ five));
     }
 
 pub returns-in-Err : goal.returns-in-Err
 returns-in-Err g c =
-    let all = no_outcome g.I.Inputs.content g.I.Inputs.faults g.I.Inputs.last_fault
+    let all = no_outcome g.I.Inputs.content g.I.Inputs.faults g.I.Inputs.last_fault g.I.Inputs.asked
     (request_of (texts c.args.words.now))
-    c.args.inputs.now c.answered.new.inputs c.code.result (g.K.Sink.written c.args.out.now)
-    (g.K.Sink.written c.args.out.now) c.code.ensures in
+    c.args.inputs.now c.answered.new.inputs c.code.result (output g.K.Sink.written g.K.Sink.puts c.args.out.now)
+    (output g.K.Sink.written g.K.Sink.puts c.args.out.now) c.code.ensures in
     let five = c.code.ensures in
     record {
       usage = all.usage;
