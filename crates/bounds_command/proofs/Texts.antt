@@ -47,7 +47,7 @@ module _ (overhead : ℕ) (ports : Ports) (links : Links) (net : Network)
         jitter = ap (λ (l : LinkOnGrid). l.jitter) at.2;
         range = range;
       } in
-      subst (λ (k : LinkKeys). IsRoundedLink overhead k link) (sym (get_or_from_slice_get links.keys i no_keys key at.1)) made
+      subst (λ (k : LinkKeys). IsRoundedLink overhead k link) (sym (get_or_from_slice_get links.keys i key no_keys at.1)) made
 
   rounded : IsRounded overhead ports.ports links.keys net
   rounded = record { ports = same_ports; ranges = texts; links = link_rounded }

@@ -56,15 +56,18 @@ same_begin (a ∷ slower) (b ∷ faster) h =
 allows_more : (a b : Server) (end : ℚ) (σ : ServerState) (y : ServerStep) → IsAsFast a b → Allows a end σ y → Allows b end σ y
 allows_more a b end σ (Arrives card t) fast h =
     (h.0, subst (λ (d : Discipline). MayArrive d card) fast.discipline h.1)
-allows_more a b end σ (Works card from to work) fast h = (h.0, record {
-  no_overlap = h.1.no_overlap;
-  forward = h.1.forward;
-  ends_in_run = h.1.ends_in_run;
-  some_work = h.1.some_work;
-  in_pace = fast.pace from to work h.1.forward h.1.in_pace;
-  is_next = subst (λ (d : Discipline). next_card σ.under d σ.inside σ.round ≡ Some card) fast.discipline h.1.is_next;
-  within_bits = h.1.within_bits;
-})
+allows_more a b end σ (Works card from to work) fast h = (
+  h.0,
+  record {
+    no_overlap = h.1.no_overlap;
+    forward = h.1.forward;
+    ends_in_run = h.1.ends_in_run;
+    some_work = h.1.some_work;
+    in_pace = fast.pace from to work h.1.forward h.1.in_pace;
+    is_next = subst (λ (d : Discipline). next_card σ.under d σ.inside σ.round ≡ Some card) fast.discipline h.1.is_next;
+    within_bits = h.1.within_bits;
+  },
+)
 allows_more a b end σ (Leaves card t) fast h = h
 allows_more a b end σ (Visits q t) fast h = (h.0, subst (λ (d : Discipline). MayVisit d σ q) fast.discipline h.1)
 
@@ -128,9 +131,11 @@ module _ (flows : List Route) (links : List ℚ) (slower faster : List Server) (
 
   all_allowed : (end : ℚ) (r : RunState) (xs : List Step) → AllAllowedBy slow to end r xs → AllAllowedBy quick to end r xs
   all_allowed end r [] h = tt
-  all_allowed end r (x ∷ xs) h =
-      (allows end r x h.0, subst (λ (q : RunState). AllAllowedBy quick to end q xs) (same_next r x)
-      (all_allowed end (next_run_by slow to r x) xs h.1))
+  all_allowed end r (x ∷ xs) h = (
+    allows end r x h.0,
+    subst (λ (q : RunState). AllAllowedBy quick to end q xs) (same_next r x)
+        (all_allowed end (next_run_by slow to r x) xs h.1),
+  )
 
   same_after : (r : RunState) (xs : List Step) → after_run_by slow to r xs ≡ after_run_by quick to r xs
   same_after r [] = refl

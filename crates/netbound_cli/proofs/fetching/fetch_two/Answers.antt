@@ -31,9 +31,12 @@ returns-in-Ok-clause-ended g c =
     IfErr-weaker c.fetch_after.result _ _
     (λ ended h. IfOk-weaker ended _ _ (λ r at. inr (
       record { bytes = c.in-Ok.bytes.items; held = c.in-Ok.ensures.held; fits = c.in-Ok.ensures.fits },
-      inl (ends_later most_bytes cannot_read too_long g.I.Inputs.faults g.I.Inputs.last_fault (g.I.Inputs.content c.args.inputs.now)
-      (g.I.Inputs.content c.fetch_one.new.inputs) c.args.inputs.now c.fetch_one.new.inputs c.fetch_after.new.inputs (reply_of r)
-      c.args.second.now c.fetch_one.ensures.count (c.fetch_one.ensures.same c.args.second.now) at, both),
+      inl (
+        ends_later most_bytes cannot_read too_long g.I.Inputs.faults g.I.Inputs.last_fault (g.I.Inputs.content c.args.inputs.now)
+            (g.I.Inputs.content c.fetch_one.new.inputs) c.args.inputs.now c.fetch_one.new.inputs c.fetch_after.new.inputs (reply_of r)
+            c.args.second.now c.fetch_one.ensures.count (c.fetch_one.ensures.same c.args.second.now) at,
+        both,
+      ),
     )) h)
     c.fetch_after.ensures.ended
 
