@@ -77,20 +77,3 @@ pub fn load(rates: u128, rate: u64) -> Option<u128>
     }
     Some((rates * 1000).div_ceil(rate as u128))
 }
-
-#[cfg(test)]
-mod tests {
-    use super::*;
-
-    #[test]
-    fn a_link_at_its_first_port_and_behind_a_queue(rt: HostRuntime) {
-        // 1,000 grains each 3 picoseconds, rounded up; 2 picoseconds of jitter bring 666.7 grains, and 5 of delay 1,666.7
-        let line = Line {
-            burst: 1_667,
-            rate: 333_333_333_333_334,
-        };
-        assert_eq!(rt; link_line(1_000, 3, 2), Some(line));
-        assert_eq!(rt; onward(line, 5).map(|l| l.burst), Some(1_667 + 1_667));
-        assert_eq!(rt; load(2, 3), Some(667));
-    }
-}
