@@ -5,12 +5,12 @@ mod fault;
 mod keyword;
 mod laws;
 mod line;
-mod making;
 mod parsing;
 mod script;
 mod shape;
 mod stating;
 mod token;
+mod tokens;
 
 pub use fault::{LangFault, LangKind};
 pub use keyword::{
