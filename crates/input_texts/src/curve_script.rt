@@ -14,8 +14,7 @@ mod tokens;
 
 pub use fault::{LangFault, LangKind};
 pub use keyword::{
-    CurveOperator, Keyword, NumberOperator, NumberPair, NumberTriple, OneAsked, PairOperator,
-    TwoAsked,
+    CurveOperator, NumberOperator, NumberPair, NumberTriple, OneAsked, PairOperator, TwoAsked,
 };
 pub use laws::{faults_exclude_scripts, scripts_are_one};
 pub use parsing::parse_script;

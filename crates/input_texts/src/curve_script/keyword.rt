@@ -84,8 +84,8 @@ pub enum PairOperator {
 }
 
 /// A word that is no name.
-#[derive(Debug, Clone, Copy, PartialEq, Eq)]
-pub enum Keyword {
+#[derive(Clone, Copy)]
+pub(crate) enum Keyword {
     Let,
     At,
     Value,
