@@ -3,7 +3,6 @@ pub mod Answers
 pub mod Finding
 pub mod Found
 pub mod After
-pub mod Forms
 pub mod Sharing
 pub mod Scripts
 pub mod Texts

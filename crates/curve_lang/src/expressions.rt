@@ -6,7 +6,6 @@ ghost use Rattle.curve_lang.specs.Found.{Finds};
 ghost use Rattle.curve_lang.specs.After.{OneAfter, NumberAfter, TwoAfter};
 ghost use Rattle.curve_lang.specs.Views.{let_view, found};
 
-use crate::form::{Form, form_of};
 use crate::kinds::{pair_found, triple_found, zero_found};
 use crate::naming::{Named, named_curve};
 use crate::operators::{number_made, one_made, two_made};
@@ -74,23 +73,23 @@ pub(crate) fn curve_of<L: Ledger>(
 ) -> Result<Rc<Curve>, LangKind>
     ensures { Finds (map let_view lets.now) (expression_view e.now) (found result) steps.old steps.new }
 {
-    match form_of(e) {
-        Form::Named(word) => named_curve(lets, word),
-        Form::Nought => zero_found(alloc),
-        Form::OfPair(kind, x, y) => pair_found(alloc, kind, x, y),
-        Form::OfTriple(kind, x, y, z) => triple_found(alloc, kind, x, y, z),
-        Form::OnCurve(operator, a) => {
+    match e {
+        Expr::Name(name) => named_curve(lets, name.as_str()),
+        Expr::Zero => zero_found(alloc),
+        Expr::OfPair(kind, x, y) => pair_found(alloc, *kind, *x, *y),
+        Expr::OfTriple(kind, x, y, z) => triple_found(alloc, *kind, *x, *y, *z),
+        Expr::OnCurve(operator, a) => {
             let part = curve_of(alloc, lets, a, steps);
-            one_after(alloc, operator, part, steps)
+            one_after(alloc, *operator, part, steps)
         }
-        Form::OnNumber(operator, a, x) => {
+        Expr::OnNumber(operator, a, x) => {
             let part = curve_of(alloc, lets, a, steps);
-            number_after(alloc, operator, part, x, steps)
+            number_after(alloc, *operator, part, *x, steps)
         }
-        Form::OnTwo(operator, a, b) => match curve_of(alloc, lets, a, steps) {
+        Expr::OnTwo(operator, a, b) => match curve_of(alloc, lets, a, steps) {
             Ok(f) => {
                 let part = curve_of(alloc, lets, b, steps);
-                two_after(alloc, operator, &f, part, steps)
+                two_after(alloc, *operator, &f, part, steps)
             }
             Err(kind) => Err(kind),
         },

@@ -3,7 +3,6 @@
 
 mod answer;
 mod expressions;
-mod form;
 mod kinds;
 mod laws;
 mod naming;

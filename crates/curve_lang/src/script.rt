@@ -11,7 +11,6 @@ ghost use Rattle.curve_lang.specs.Views.{let_view, answer_view, found, told, tol
 
 use crate::answer::Answer;
 use crate::expressions::curve_of;
-use crate::form::{Question, question_of};
 use crate::naming::{Named, give_name, is_given};
 use crate::questions::{one_told, two_told, value_told};
 use input_texts::curve_script::{Expr, LangFault, LangKind, OneAsked, Script, Stat, TwoAsked};
@@ -138,14 +137,12 @@ fn add<L: Ledger>(
     ensures { IsAdded (map let_view lets.old.items) (map answer_view answers.old.items) (statement_view statement.now)
         (map let_view lets.new.items) (map answer_view answers.new.items) result steps.old steps.new }
 {
-    match question_of(statement) {
-        Question::Lets(word, e) => give(alloc, lets, word, e, steps),
-        Question::ValueAt(e, t) => keep(answers, time_asked(alloc, lets, e, t, steps)),
-        Question::AsksOne(question, e) => {
-            keep(answers, one_asked(alloc, lets, question, e, steps))
-        }
-        Question::AsksTwo(question, a, b) => {
-            keep(answers, two_asked(alloc, lets, question, a, b, steps))
+    match statement {
+        Stat::Let(word, e) => give(alloc, lets, word.as_str(), e, steps),
+        Stat::Value(e, t) => keep(answers, time_asked(alloc, lets, e, *t, steps)),
+        Stat::AskOne(question, e) => keep(answers, one_asked(alloc, lets, *question, e, steps)),
+        Stat::AskTwo(question, a, b) => {
+            keep(answers, two_asked(alloc, lets, *question, a, b, steps))
         }
     }
 }

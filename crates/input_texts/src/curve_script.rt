@@ -5,17 +5,16 @@ mod fault;
 mod keyword;
 mod laws;
 mod line;
-mod making;
 mod parsing;
 mod script;
 mod shape;
 mod stating;
 mod token;
+mod tokens;
 
 pub use fault::{LangFault, LangKind};
 pub use keyword::{
-    CurveOperator, Keyword, NumberOperator, NumberPair, NumberTriple, OneAsked, PairOperator,
-    TwoAsked,
+    CurveOperator, NumberOperator, NumberPair, NumberTriple, OneAsked, PairOperator, TwoAsked,
 };
 pub use laws::{faults_exclude_scripts, scripts_are_one};
 pub use parsing::parse_script;

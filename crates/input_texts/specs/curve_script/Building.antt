@@ -1,5 +1,5 @@
 -- How a statement is made of tokens. `Grammar` says what it has to be.
-use Rattle.std.specs.Prelude.{ℕ, zero, suc, List, [], ◌∷◌, Option, Some, None, Bool, true, false, option_map}
+use Rattle.std.specs.Prelude.{◌≡◌, ℕ, zero, suc, List, [], ◌∷◌, Option, Some, None, Bool, true, false, option_map}
 use Rattle.min_plus.specs.rational.specs.Rational.{ℚ}
 use Rattle.input_texts.specs.declared.curve_script.token.Sign.{Sign}
 use Rattle.input_texts.specs.declared.curve_script.token.Sign.TheVariants.{Open, Close, Comma, Equals}
@@ -21,6 +21,10 @@ infixl 10 ◌>>=◌
 abbrev pub ◌>>=◌ : {A B : Type 0} → Option A → (A → Option B) → Option B
 None >>= f = None
 (Some x) >>= f = f x
+
+-- what was taken of some tokens, seen by a view, and the tokens that are left are as they are to be
+abbrev pub IsTaken : {A B : Type 0} → (A → B) → List Token → Option (B × List Token) → Option A → Type 0
+IsTaken {A} {B} view left wanted made = option_map {U = B × List Token} (λ a. (view a, left)) made ≡ wanted
 
 -- an expression, and the tokens after it
 abbrev pub Made : Type 0

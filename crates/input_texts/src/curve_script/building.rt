@@ -1,112 +1,33 @@
 //! Expressions made of tokens, where parentheses nest no deeper than a limit.
 
-ghost use Rattle.std.specs.Prelude.{◌≡◌, ◌≤◌, map, drop, IfOk, option_map, if◌then◌else◌, Some, None};
-ghost use Rattle.input_texts.specs.curve_script.Lexing.{view};
+ghost use Rattle.std.specs.Prelude.{◌≡◌, IfOk, option_map};
+ghost use Rattle.std.specs.String.{string_bytes};
 ghost use Rattle.input_texts.specs.curve_script.Views.{expression_view};
-ghost use Rattle.input_texts.specs.curve_script.Building.{next_word, next_sign, behind_if, next_number, number_behind, pair_from, triple_from, one_from, number_from, two_from, inside_from, call_from, name_if, is_zero, build};
-ghost use Rattle.input_texts.specs.curve_script.Grammar.{Named};
+ghost use Rattle.input_texts.specs.curve_script.Building.{IsTaken, pair_from, triple_from, one_from, number_from, two_from, inside_from, call_from, name_if, is_zero, build};
+ghost use Rattle.input_texts.specs.curve_script.Grammar.{Named, OnCurve, OnNumber, OnTwo};
 ghost use Rattle.input_texts.specs.curve_script.Shapes.{is_name_text};
 
 use crate::curve_script::keyword::{
     CurveOperator, Keyword, NumberOperator, NumberPair, NumberTriple, PairOperator, keyword_of,
 };
-use crate::curve_script::making::{of_pair, of_triple, on_curve, on_number, on_two};
 use crate::curve_script::script::Expr;
-use crate::curve_script::shape::{is_name_text, same_sign};
-use crate::curve_script::token::{Sign, Token};
+use crate::curve_script::shape::is_name_text;
+use crate::curve_script::token::Sign;
+use crate::curve_script::tokens::Tokens;
 use fraction128::Frac;
 use std::alloc::{AllocError, Global};
 
-// Takes the next token, if it is a word.
-pub(crate) fn word_at<'a>(tokens: &[Token<'a>], at: &mut usize) -> Option<&'a [u8]>
-    ensures { option_map (λ w. (w.now, drop at.new (map view tokens.now))) result
-        ≡ next_word (drop at.old (map view tokens.now)) }
+/// The name that a word is.
+pub(crate) fn name_of(alloc: Global, word: &[u8]) -> Result<Option<String>, AllocError>
+    ensures { IfOk result (λ made. option_map string_bytes made ≡ name_if (is_name_text word.now) word.now) }
 {
-    if *at >= tokens.len() {
-        return None;
+    if !is_name_text(word) {
+        return Ok(None);
     }
-    match tokens[*at] {
-        Token::Word(word) => {
-            *at += 1;
-            Some(word)
-        }
-        Token::Mark(_) => None,
+    match str::from_utf8(word) {
+        Ok(text) => Ok(Some(String::from_str(alloc, text)?)),
+        Err(_) => Ok(None),
     }
-}
-
-// Takes the next token, if it is this sign.
-pub(crate) fn takes_sign(tokens: &[Token<'_>], at: &mut usize, sign: Sign) -> bool
-    ensures { behind_if result (drop at.new (map view tokens.now))
-        ≡ next_sign sign (drop at.old (map view tokens.now)) }
-{
-    if *at >= tokens.len() {
-        return false;
-    }
-    match tokens[*at] {
-        Token::Mark(mark) => {
-            if !same_sign(sign, mark) {
-                return false;
-            }
-            *at += 1;
-            true
-        }
-        Token::Word(_) => false,
-    }
-}
-
-// Takes the next token, if it is a word that writes a number.
-pub(crate) fn number_at(tokens: &[Token<'_>], at: &mut usize) -> Option<Frac>
-    ensures { option_map (λ x. (x, drop at.new (map view tokens.now))) result
-        ≡ next_number (drop at.old (map view tokens.now)) }
-{
-    let Some(word) = word_at(tokens, at) else {
-        return None;
-    };
-    match Frac::parse(word) {
-        Ok(number) => Some(number),
-        Err(_) => None,
-    }
-}
-
-// Takes a sign and a number.
-fn number_behind(tokens: &[Token<'_>], at: &mut usize, sign: Sign) -> Option<Frac>
-    ensures { option_map (λ x. (x, drop at.new (map view tokens.now))) result
-        ≡ number_behind sign (drop at.old (map view tokens.now)) }
-{
-    if takes_sign(tokens, at, sign) {
-        number_at(tokens, at)
-    } else {
-        None
-    }
-}
-
-fn pair_at(kind: NumberPair, tokens: &[Token<'_>], at: &mut usize) -> Option<Expr>
-    ensures { option_map (λ e. (expression_view e, drop at.new (map view tokens.now))) result
-        ≡ pair_from kind (drop at.old (map view tokens.now)) }
-{
-    let Some(x) = number_at(tokens, at) else {
-        return None;
-    };
-    let Some(y) = number_behind(tokens, at, Sign::Comma) else {
-        return None;
-    };
-    Some(of_pair(kind, x, y))
-}
-
-fn triple_at(kind: NumberTriple, tokens: &[Token<'_>], at: &mut usize) -> Option<Expr>
-    ensures { option_map (λ e. (expression_view e, drop at.new (map view tokens.now))) result
-        ≡ triple_from kind (drop at.old (map view tokens.now)) }
-{
-    let Some(x) = number_at(tokens, at) else {
-        return None;
-    };
-    let Some(y) = number_behind(tokens, at, Sign::Comma) else {
-        return None;
-    };
-    let Some(z) = number_behind(tokens, at, Sign::Comma) else {
-        return None;
-    };
-    Some(of_triple(kind, x, y, z))
 }
 
 // A name, if the word is one.
@@ -114,13 +35,55 @@ fn named(alloc: Global, word: &[u8]) -> Result<Option<Expr>, AllocError>
     ensures { IfOk result (λ made. option_map expression_view made
         ≡ option_map (λ w. Named w) (name_if (is_name_text word.now) word.now)) }
 {
-    if !is_name_text(word) {
+    let Some(name) = name_of(alloc, word)? else {
         return Ok(None);
-    }
-    match str::from_utf8(word) {
-        Ok(text) => Ok(Some(Expr::Name(String::from_str(alloc, text)?))),
-        Err(_) => Ok(None),
-    }
+    };
+    Ok(Some(Expr::Name(name)))
+}
+
+fn on_curve(alloc: Global, operator: CurveOperator, e: Expr) -> Result<Expr, AllocError>
+    ensures { IfOk result (λ made. expression_view made ≡ OnCurve operator (expression_view e)) }
+{
+    Ok(Expr::OnCurve(operator, Box::new(alloc, e)?))
+}
+
+fn on_number(alloc: Global, operator: NumberOperator, e: Expr, x: Frac) -> Result<Expr, AllocError>
+    ensures { IfOk result (λ made. expression_view made ≡ OnNumber operator (expression_view e) x) }
+{
+    Ok(Expr::OnNumber(operator, Box::new(alloc, e)?, x))
+}
+
+fn on_two(alloc: Global, operator: PairOperator, a: Expr, b: Expr) -> Result<Expr, AllocError>
+    ensures { IfOk result (λ made. expression_view made ≡ OnTwo operator (expression_view a) (expression_view b)) }
+{
+    Ok(Expr::OnTwo(operator, Box::new(alloc, a)?, Box::new(alloc, b)?))
+}
+
+fn pair_at(kind: NumberPair, tokens: &mut Tokens<'_, '_>) -> Option<Expr>
+    ensures { IsTaken expression_view tokens.new (pair_from kind tokens.old) result }
+{
+    let Some(x) = tokens.number() else {
+        return None;
+    };
+    let Some(y) = tokens.number_behind(Sign::Comma) else {
+        return None;
+    };
+    Some(Expr::OfPair(kind, x, y))
+}
+
+fn triple_at(kind: NumberTriple, tokens: &mut Tokens<'_, '_>) -> Option<Expr>
+    ensures { IsTaken expression_view tokens.new (triple_from kind tokens.old) result }
+{
+    let Some(x) = tokens.number() else {
+        return None;
+    };
+    let Some(y) = tokens.number_behind(Sign::Comma) else {
+        return None;
+    };
+    let Some(z) = tokens.number_behind(Sign::Comma) else {
+        return None;
+    };
+    Some(Expr::OfTriple(kind, x, y, z))
 }
 
 fn is_zero(keyword: Keyword) -> bool
@@ -136,21 +99,16 @@ fn is_zero(keyword: Keyword) -> bool
 #[cycle(curve)]
 pub(crate) fn curve_at(
     alloc: Global,
-    tokens: &[Token<'_>],
-    at: &mut usize,
+    tokens: &mut Tokens<'_, '_>,
     deep: u32,
 ) -> Result<Option<Expr>, AllocError>
-    ensures { IfOk result (λ made. option_map (λ e. (expression_view e, drop at.new (map view tokens.now))) made
-        ≡ build deep (drop at.old (map view tokens.now))) }
+    ensures { IfOk result (IsTaken expression_view tokens.new (build deep tokens.old)) }
 {
-    let Some(word) = word_at(tokens, at) else {
+    let Some(word) = tokens.word() else {
         return Ok(None);
     };
     match keyword_of(word) {
-        None => {
-            let made = named(alloc, word)?;
-            Ok(made)
-        }
+        None => named(alloc, word),
         Some(keyword) => {
             if is_zero(keyword) {
                 return Ok(Some(Expr::Zero));
@@ -158,8 +116,7 @@ pub(crate) fn curve_at(
             if deep == 0 {
                 return Ok(None);
             }
-            let made = call_at(alloc, keyword, tokens, at, deep - 1)?;
-            Ok(made)
+            call_at(alloc, keyword, tokens, deep - 1)
         }
     }
 }
@@ -169,20 +126,18 @@ pub(crate) fn curve_at(
 fn call_at(
     alloc: Global,
     keyword: Keyword,
-    tokens: &[Token<'_>],
-    at: &mut usize,
+    tokens: &mut Tokens<'_, '_>,
     deep: u32,
 ) -> Result<Option<Expr>, AllocError>
-    ensures { IfOk result (λ made. option_map (λ e. (expression_view e, drop at.new (map view tokens.now))) made
-        ≡ call_from (build deep) keyword (drop at.old (map view tokens.now))) }
+    ensures { IfOk result (IsTaken expression_view tokens.new (call_from (build deep) keyword tokens.old)) }
 {
-    if !takes_sign(tokens, at, Sign::Open) {
+    if !tokens.takes_sign(Sign::Open) {
         return Ok(None);
     }
-    let Some(e) = inside_at(alloc, keyword, tokens, at, deep)? else {
+    let Some(e) = inside_at(alloc, keyword, tokens, deep)? else {
         return Ok(None);
     };
-    if !takes_sign(tokens, at, Sign::Close) {
+    if !tokens.takes_sign(Sign::Close) {
         return Ok(None);
     }
     Ok(Some(e))
@@ -192,19 +147,17 @@ fn call_at(
 fn inside_at(
     alloc: Global,
     keyword: Keyword,
-    tokens: &[Token<'_>],
-    at: &mut usize,
+    tokens: &mut Tokens<'_, '_>,
     deep: u32,
 ) -> Result<Option<Expr>, AllocError>
-    ensures { IfOk result (λ made. option_map (λ e. (expression_view e, drop at.new (map view tokens.now))) made
-        ≡ inside_from (build deep) keyword (drop at.old (map view tokens.now))) }
+    ensures { IfOk result (IsTaken expression_view tokens.new (inside_from (build deep) keyword tokens.old)) }
 {
     match keyword {
-        Keyword::TwoNumbers(kind) => Ok(pair_at(kind, tokens, at)),
-        Keyword::ThreeNumbers(kind) => Ok(triple_at(kind, tokens, at)),
-        Keyword::OneCurve(operator) => one_at(alloc, operator, tokens, at, deep),
-        Keyword::CurveAndNumber(operator) => with_number_at(alloc, operator, tokens, at, deep),
-        Keyword::TwoCurves(operator) => two_at(alloc, operator, tokens, at, deep),
+        Keyword::TwoNumbers(kind) => Ok(pair_at(kind, tokens)),
+        Keyword::ThreeNumbers(kind) => Ok(triple_at(kind, tokens)),
+        Keyword::OneCurve(operator) => one_at(alloc, operator, tokens, deep),
+        Keyword::CurveAndNumber(operator) => with_number_at(alloc, operator, tokens, deep),
+        Keyword::TwoCurves(operator) => two_at(alloc, operator, tokens, deep),
         Keyword::Let
         | Keyword::At
         | Keyword::Value
@@ -218,14 +171,12 @@ fn inside_at(
 fn one_at(
     alloc: Global,
     operator: CurveOperator,
-    tokens: &[Token<'_>],
-    at: &mut usize,
+    tokens: &mut Tokens<'_, '_>,
     deep: u32,
 ) -> Result<Option<Expr>, AllocError>
-    ensures { IfOk result (λ made. option_map (λ e. (expression_view e, drop at.new (map view tokens.now))) made
-        ≡ one_from (build deep) operator (drop at.old (map view tokens.now))) }
+    ensures { IfOk result (IsTaken expression_view tokens.new (one_from (build deep) operator tokens.old)) }
 {
-    let Some(e) = curve_at(alloc, tokens, at, deep)? else {
+    let Some(e) = curve_at(alloc, tokens, deep)? else {
         return Ok(None);
     };
     let made = on_curve(alloc, operator, e)?;
@@ -236,17 +187,15 @@ fn one_at(
 fn with_number_at(
     alloc: Global,
     operator: NumberOperator,
-    tokens: &[Token<'_>],
-    at: &mut usize,
+    tokens: &mut Tokens<'_, '_>,
     deep: u32,
 ) -> Result<Option<Expr>, AllocError>
-    ensures { IfOk result (λ made. option_map (λ e. (expression_view e, drop at.new (map view tokens.now))) made
-        ≡ number_from (build deep) operator (drop at.old (map view tokens.now))) }
+    ensures { IfOk result (IsTaken expression_view tokens.new (number_from (build deep) operator tokens.old)) }
 {
-    let Some(e) = curve_at(alloc, tokens, at, deep)? else {
+    let Some(e) = curve_at(alloc, tokens, deep)? else {
         return Ok(None);
     };
-    let Some(x) = number_behind(tokens, at, Sign::Comma) else {
+    let Some(x) = tokens.number_behind(Sign::Comma) else {
         return Ok(None);
     };
     let made = on_number(alloc, operator, e, x)?;
@@ -257,20 +206,18 @@ fn with_number_at(
 fn two_at(
     alloc: Global,
     operator: PairOperator,
-    tokens: &[Token<'_>],
-    at: &mut usize,
+    tokens: &mut Tokens<'_, '_>,
     deep: u32,
 ) -> Result<Option<Expr>, AllocError>
-    ensures { IfOk result (λ made. option_map (λ e. (expression_view e, drop at.new (map view tokens.now))) made
-        ≡ two_from (build deep) operator (drop at.old (map view tokens.now))) }
+    ensures { IfOk result (IsTaken expression_view tokens.new (two_from (build deep) operator tokens.old)) }
 {
-    let Some(a) = curve_at(alloc, tokens, at, deep)? else {
+    let Some(a) = curve_at(alloc, tokens, deep)? else {
         return Ok(None);
     };
-    if !takes_sign(tokens, at, Sign::Comma) {
+    if !tokens.takes_sign(Sign::Comma) {
         return Ok(None);
     }
-    let Some(b) = curve_at(alloc, tokens, at, deep)? else {
+    let Some(b) = curve_at(alloc, tokens, deep)? else {
         return Ok(None);
     };
     let made = on_two(alloc, operator, a, b)?;

@@ -7,63 +7,85 @@ ghost use Rattle.input_texts.specs.curve_script.Keywords.{spelling, keyword_of};
 /// A question about one curve.
 #[derive(Debug, Clone, Copy, PartialEq, Eq)]
 pub enum OneAsked {
+    /// The long-run rate: `rate E`.
     Rate,
+    /// The pieces and the tail: `show E`.
     Show,
 }
 
 /// A question about two curves.
 #[derive(Debug, Clone, Copy, PartialEq, Eq)]
 pub enum TwoAsked {
+    /// The horizontal deviation of an arrival curve and a service curve: `delay E, E`.
     Delay,
+    /// The vertical deviation of an arrival curve and a service curve: `backlog E, E`.
     Backlog,
+    /// Whether two curves have one value at each time: `equal E, E`.
     Equal,
+    /// Whether the first curve is nowhere above the second: `below E, E`.
     Below,
 }
 
 /// A curve that two numbers give.
 #[derive(Debug, Clone, Copy, PartialEq, Eq)]
 pub enum NumberPair {
+    /// A token bucket, by its burst and its rate: `bucket(12000, 10)`.
     Bucket,
+    /// A rate after a latency, by the rate and the latency: `latency(100, 10)`.
     Latency,
 }
 
 /// A curve that three numbers give.
 #[derive(Debug, Clone, Copy, PartialEq, Eq)]
 pub enum NumberTriple {
+    /// Packets one by one, by a packet's bits, the period and the jitter: `stair(1, 2, 0)`.
     Stair,
+    /// A gate, by the rate, the cycle and the slot: `gate(100, 10, 2)`.
     Gate,
 }
 
 /// An operator on one curve.
 #[derive(Debug, Clone, Copy, PartialEq, Eq)]
 pub enum CurveOperator {
+    /// The subadditive closure: `close(E)`.
     Close,
+    /// The running supremum: `runsup(E)`.
     RunSup,
+    /// The running infimum: `runinf(E)`.
     RunInf,
 }
 
 /// An operator on a curve and a number.
 #[derive(Debug, Clone, Copy, PartialEq, Eq)]
 pub enum NumberOperator {
+    /// The curve less a number, and 0 where that is below 0: `posminus(E, 12000)`.
     PosMinus,
+    /// The curve times a number: `scale(E, 1/2)`.
     Scale,
+    /// The curve as it is a time later: `shift(E, 10)`.
     Shift,
 }
 
 /// An operator on two curves.
 #[derive(Debug, Clone, Copy, PartialEq, Eq)]
 pub enum PairOperator {
+    /// The sum of two curves: `sum(E, E)`.
     Sum,
+    /// The lesser of two curves at each time: `min(E, E)`.
     Min,
+    /// The greater of two curves at each time: `max(E, E)`.
     Max,
+    /// The min-plus convolution: `conv(E, E)`.
     Conv,
+    /// The first less the second, and 0 where that is below 0: `posdiff(E, E)`.
     PosDiff,
+    /// The min-plus deconvolution: `deconv(E, E)`.
     Deconv,
 }
 
 /// A word that is no name.
-#[derive(Debug, Clone, Copy, PartialEq, Eq)]
-pub enum Keyword {
+#[derive(Clone, Copy)]
+pub(crate) enum Keyword {
     Let,
     At,
     Value,

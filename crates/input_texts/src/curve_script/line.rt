@@ -10,6 +10,7 @@ use crate::curve_script::script::Stat;
 use crate::curve_script::shape::{Symbol, shape_of};
 use crate::curve_script::stating::statement_at;
 use crate::curve_script::token::tokens_of;
+use crate::curve_script::tokens::Tokens;
 use crate::plain_text::is_plain;
 use std::alloc::Global;
 
@@ -52,8 +53,8 @@ pub(crate) fn line_statement(alloc: Global, line: &[u8]) -> Result<Stat, LangKin
     if !numbers {
         return Err(LangKind::C3);
     }
-    let mut at = 0;
-    let Some(stat) = statement_at(alloc, &tokens, &mut at, 64)? else {
+    let mut rest = Tokens::of(&tokens);
+    let Some(stat) = statement_at(alloc, &mut rest, 64)? else {
         return Err(LangKind::C4);
     };
     Ok(stat)

@@ -9,6 +9,7 @@ use crate::curve_script::fault::{LangFault, LangKind};
 use crate::curve_script::line::{is_skipped, line_statement};
 use crate::curve_script::script::{Script, ScriptLine, Stat};
 use std::alloc::{AllocError, Global};
+use std::mem::drop;
 
 // How many bytes stand before the first newline, or all.
 fn line_len(text: &[u8]) -> usize
@@ -42,11 +43,6 @@ fn keep_line(lines: &mut Vec<ScriptLine>, number: u32, stat: Stat) -> Result<(),
     Ok(())
 }
 
-// Drops a statement. Where a branch of a larger function does it, that function's proof takes each form apart.
-fn discard(stat: Stat) {
-    let _stat = stat;
-}
-
 // Adds the statement of a line.
 fn take_line(
     alloc: Global,
@@ -65,7 +61,7 @@ fn take_line(
         Err(kind) => return Err(fault_at(kind, number)),
     };
     if lines.len() >= 256 {
-        discard(stat);
+        drop(stat);
         return Err(LangFault {
             kind: LangKind::C4,
             line: number,

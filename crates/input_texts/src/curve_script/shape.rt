@@ -14,7 +14,7 @@ use fraction128::Frac;
 use std::alloc::{AllocError, Global};
 
 /// What may be to come in a line.
-#[derive(Debug, Clone, Copy, PartialEq, Eq)]
+#[derive(Clone, Copy)]
 pub(crate) enum Symbol {
     Statement,
     Curve,

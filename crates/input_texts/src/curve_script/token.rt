@@ -24,7 +24,7 @@ pub(crate) enum Token<'a> {
 }
 
 /// What a byte of a line is part of.
-#[derive(Debug, Clone, Copy, PartialEq, Eq)]
+#[derive(Clone, Copy)]
 pub(crate) enum ByteClass {
     InWord,
     Blank,

@@ -4,7 +4,7 @@ ghost use Rattle.std.specs.Prelude.{◌≡◌};
 ghost use Rattle.input_texts.specs.table_text.EditRows as spec;
 
 /// The words that ask for a server's name and a number.
-#[derive(Debug, Clone, Copy, PartialEq, Eq)]
+#[derive(Clone, Copy)]
 pub enum OneNumber {
     Rate,
     Latency,
@@ -12,14 +12,14 @@ pub enum OneNumber {
 }
 
 /// The words that ask for a flow's name and two numbers.
-#[derive(Debug, Clone, Copy, PartialEq, Eq)]
+#[derive(Clone, Copy)]
 pub enum TwoNumbers {
     Bucket,
     Stair,
 }
 
 /// The words with which rows begin.
-#[derive(Debug, Clone, Copy, PartialEq, Eq)]
+#[derive(Clone, Copy)]
 pub enum EditWord {
     One(OneNumber),
     Two(TwoNumbers),

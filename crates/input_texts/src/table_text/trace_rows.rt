@@ -15,14 +15,14 @@ use fraction128::is_less;
 use net_model::{Network, Stall, TracePacket};
 
 /// The words with which rows begin.
-#[derive(Debug, Clone, Copy, PartialEq, Eq)]
+#[derive(Clone, Copy)]
 pub enum TraceWord {
     Packet,
     Stall,
 }
 
 /// What a row puts into a trace.
-#[derive(Debug, Clone, Copy)]
+#[derive(Clone, Copy)]
 pub enum Entry {
     /// A packet enters.
     Packet(TracePacket),

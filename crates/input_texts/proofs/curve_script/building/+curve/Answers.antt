@@ -1,5 +1,5 @@
-use Rattle.std.proofs.Common.{◌<◌, ◌∙◌, ap, drop, map, Some, arith}
-use Rattle.input_texts.specs.curve_script.Lexing.{view}
+use Rattle.std.proofs.Common.{◌<◌, ◌∙◌, ap, Some, arith}
+use Rattle.std.proofs.lemmas.Result.{IfOk-weaker}
 use Rattle.input_texts.specs.curve_script.Views.{expression_view}
 use Rattle.input_texts.specs.curve_script.Building.{one_from, number_from, two_from, call_from}
 use Rattle.input_texts.proofs.curve_script.Chains.{chain_none, chain_some, opened_none, opened_some, build-nothing, calls-less, word_call, word_zero, word_name, name_and_rest, no_calls}
@@ -32,12 +32,17 @@ curve_at-returns-then-deep-eq0 t c =
 pub curve_at-returns-then-is_zero : goal.curve_at-returns-then-is_zero
 curve_at-returns-then-is_zero t c = word_zero c.args.deep c.in-Some.word.now c.in-Some-keyword_of.keyword _ _ c.in-Some.ensures c.in-Some-keyword_of.ensures c.if-is_zero.ensures
 
-pub curve_at-returns-in_ok-made-in-None : goal.curve_at-returns-in_ok-made-in-None
-curve_at-returns-in_ok-made-in-None t c = name_and_rest expression_view _ _ _ c.in_ok-made-in-None.ensures ∙ word_name c.args.deep c.in-Some.word.now _ _ c.in-Some.ensures c.in-None.ensures
+pub curve_at-returns-in-None : goal.curve_at-returns-in-None
+curve_at-returns-in-None t c =
+    IfOk-weaker c.named.result _ _
+    (λ made e. name_and_rest expression_view _ _ _ e ∙ word_name c.args.deep c.in-Some.word.now _ _ c.in-Some.ensures c.in-None.ensures) c.named.ensures
 
-pub curve_at-returns-in_ok-made-in-Some-keyword_of : goal.curve_at-returns-in_ok-made-in-Some-keyword_of
-curve_at-returns-in_ok-made-in-Some-keyword_of t c = let some : 0 < c.args.deep = omega arith in c.in_ok-made-in-Some-keyword_of.ensures ∙ calls-less c.args.deep c.in-Some-keyword_of.keyword _ some
-    ∙ word_call c.args.deep c.in-Some.word.now c.in-Some-keyword_of.keyword _ _ c.in-Some.ensures c.in-Some-keyword_of.ensures c.if-is_zero.ensures
+pub curve_at-returns-else-deep-eq0 : goal.curve_at-returns-else-deep-eq0
+curve_at-returns-else-deep-eq0 t c =
+    let some : 0 < c.args.deep = omega arith in
+    IfOk-weaker c.call_at.result _ _
+    (λ made e. e ∙ calls-less c.args.deep c.in-Some-keyword_of.keyword _ some
+    ∙ word_call c.args.deep c.in-Some.word.now c.in-Some-keyword_of.keyword _ _ c.in-Some.ensures c.in-Some-keyword_of.ensures c.if-is_zero.ensures) c.call_at.ensures
 
 pub one_at-returns-in_default : goal.one_at-returns-in_default
 unfolding one_from
@@ -45,7 +50,7 @@ one_at-returns-in_default t c = chain_none _ _ (opened_none _ _ _ c.in_default.i
 
 pub one_at-returns : goal.one_at-returns
 unfolding one_from
-one_at-returns t c = ap (λ e. Some (e, drop c.curve_at.new.at (map view c.args.tokens.now))) c.in_ok-made.ensures ∙ chain_some _ _ _ (opened_some _ _ _ _ c.in-Some.is c.in_ok-e.ensures)
+one_at-returns t c = ap (λ e. Some (e, c.curve_at.new.tokens)) c.in_ok-made.ensures ∙ chain_some _ _ _ (opened_some _ _ _ _ c.in-Some.is c.in_ok-e.ensures)
 
 pub with_number_at-returns-in_default : goal.with_number_at-returns-in_default
 unfolding number_from
@@ -58,7 +63,7 @@ with_number_at-returns-in_default-number_behind t c = chain_none _ _ c.in_defaul
 pub with_number_at-returns : goal.with_number_at-returns
 unfolding number_from
 with_number_at-returns t c =
-    ap (λ e. Some (e, drop c.number_behind.new.at (map view c.args.tokens.now))) c.in_ok-made.ensures
+    ap (λ e. Some (e, c.number_behind.new.self)) c.in_ok-made.ensures
     ∙ chain_some _ _ _ c.in-Some-number_behind.ensures ∙ chain_some _ _ _ (opened_some _ _ _ _ c.in-Some.is c.in_ok-e.ensures)
 
 pub two_at-returns-in_default : goal.two_at-returns-in_default
@@ -77,5 +82,5 @@ two_at-returns-in_default-2 t c =
 pub two_at-returns : goal.two_at-returns
 unfolding two_from
 two_at-returns t c =
-    ap (λ e. Some (e, drop c.curve_at-2.new.at (map view c.args.tokens.now))) c.in_ok-made.ensures
+    ap (λ e. Some (e, c.curve_at-2.new.tokens)) c.in_ok-made.ensures
     ∙ chain_some _ _ _ (opened_some _ _ _ _ c.in-Some-2.is c.in_ok-b.ensures) ∙ chain_some _ _ _ c.if-not-takes_sign.ensures ∙ chain_some _ _ _ (opened_some _ _ _ _ c.in-Some.is c.in_ok-a.ensures)

@@ -1,5 +1,4 @@
-use Rattle.std.proofs.Common.{ap, ◌∙◌, drop, map, Some}
-use Rattle.input_texts.specs.curve_script.Lexing.{view}
+use Rattle.std.proofs.Common.{◌∙◌}
 use Rattle.input_texts.specs.curve_script.Building.{pair_from}
 use Rattle.input_texts.proofs.curve_script.Chains.{chain_none, chain_some}
 use Rattle.input_texts.proofs.curve_script.building.pair_at.Goals as goal
@@ -14,6 +13,4 @@ returns-in_default-number_behind c = chain_none _ _ c.in_default-number_behind.e
 
 pub returns : goal.returns
 unfolding pair_from
-returns c =
-    ap (λ e. Some (e, drop c.number_behind.new.at (map view c.args.tokens.now))) c.of_pair.ensures
-    ∙ chain_some _ _ _ c.in-Some-number_behind.ensures ∙ chain_some _ _ _ c.in-Some.ensures
+returns c = chain_some _ _ _ c.in-Some-number_behind.ensures ∙ chain_some _ _ _ c.in-Some.ensures

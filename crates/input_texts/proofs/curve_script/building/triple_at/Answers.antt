@@ -1,5 +1,4 @@
-use Rattle.std.proofs.Common.{ap, ◌∙◌, drop, map, Some}
-use Rattle.input_texts.specs.curve_script.Lexing.{view}
+use Rattle.std.proofs.Common.{◌∙◌}
 use Rattle.input_texts.specs.curve_script.Building.{triple_from}
 use Rattle.input_texts.proofs.curve_script.Chains.{chain_none, chain_some}
 use Rattle.input_texts.proofs.curve_script.building.triple_at.Goals as goal
@@ -14,10 +13,10 @@ returns-in_default-number_behind c = chain_none _ _ c.in_default-number_behind.e
 
 pub returns-in_default-number_behind-2 : goal.returns-in_default-number_behind-2
 unfolding triple_from
-returns-in_default-number_behind-2 c = chain_none _ _ c.in_default-number_behind-2.ensures ∙ chain_some _ _ _ c.in-Some-number_behind.ensures ∙ chain_some _ _ _ c.in-Some.ensures
+returns-in_default-number_behind-2 c =
+    chain_none _ _ c.in_default-number_behind-2.ensures ∙ chain_some _ _ _ c.in-Some-number_behind.ensures ∙ chain_some _ _ _ c.in-Some.ensures
 
 pub returns : goal.returns
 unfolding triple_from
 returns c =
-    ap (λ e. Some (e, drop c.number_behind-2.new.at (map view c.args.tokens.now))) c.of_triple.ensures
-    ∙ chain_some _ _ _ c.in-Some-number_behind-2.ensures ∙ chain_some _ _ _ c.in-Some-number_behind.ensures ∙ chain_some _ _ _ c.in-Some.ensures
+    chain_some _ _ _ c.in-Some-number_behind-2.ensures ∙ chain_some _ _ _ c.in-Some-number_behind.ensures ∙ chain_some _ _ _ c.in-Some.ensures

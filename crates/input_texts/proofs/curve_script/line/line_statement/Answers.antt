@@ -25,11 +25,11 @@ pub returns-in_default-3-clause-fault : goal.returns-in_default-3-clause-fault
 returns-in_default-3-clause-fault c =
     inr (too_deep c.args.line.now (sym c.is_plain.ensures ∙ c.if-not-is_plain.false) (map view c.in-Some.tokens.items) (sym (opened_some _ _ _ _ c.in-Some.is c.in_ok-tokens.ensures))
     (ap (λ l. run _ true (map view l)) (sym c.deref.ensures.value) ∙ sym c.in_ok-numbers.ensures ∙ c.in-Some-2.is ∙ ap (λ b. Some b) c.if-not-numbers.false)
-    (opened_none _ _ _ c.in_default-3.is c.in_ok-stat.ensures ∙ ap (λ l. statement_from 64 (map view l)) c.deref-2.ensures.value))
+    (opened_none _ _ _ c.in_default-3.is c.in_ok-stat.ensures ∙ ap (statement_from 64) (c.of-rest.ensures ∙ ap (map view) c.deref-2.ensures.value)))
 
 pub returns-clause-ok : goal.returns-clause-ok
 returns-clause-ok c =
     right_line c.args.line.now (sym c.is_plain.ensures ∙ c.if-not-is_plain.false) (map view c.in-Some.tokens.items) (sym (opened_some _ _ _ _ c.in-Some.is c.in_ok-tokens.ensures))
     (statement_view c.in-Some-3.stat) _
     (ap (λ l. run _ true (map view l)) (sym c.deref.ensures.value) ∙ sym c.in_ok-numbers.ensures ∙ c.in-Some-2.is ∙ ap (λ b. Some b) c.if-not-numbers.false)
-    (opened_some _ _ _ _ c.in-Some-3.is c.in_ok-stat.ensures ∙ ap (λ l. statement_from 64 (map view l)) c.deref-2.ensures.value)
+    (opened_some _ _ _ _ c.in-Some-3.is c.in_ok-stat.ensures ∙ ap (statement_from 64) (c.of-rest.ensures ∙ ap (map view) c.deref-2.ensures.value))

@@ -1,5 +1,3 @@
-use Rattle.std.proofs.Common.{◌∙◌, ap, drop, map, Some}
-use Rattle.input_texts.specs.curve_script.Lexing.{view}
 use Rattle.input_texts.specs.curve_script.Building.{one_asked_from}
 use Rattle.input_texts.proofs.curve_script.Chains.{chain_none, chain_some, opened_none, opened_some}
 use Rattle.input_texts.proofs.curve_script.stating.one_asked_at.Goals as goal
@@ -10,4 +8,4 @@ returns-in_default c = chain_none _ _ (opened_none _ _ _ c.in_default.is c.in_ok
 
 pub returns : goal.returns
 unfolding one_asked_from
-returns c = ap (λ s. Some (s, drop c.curve_at.new.at (map view c.args.tokens.now))) c.asks_one.ensures ∙ chain_some _ _ _ (opened_some _ _ _ _ c.in-Some.is c.in_ok-e.ensures)
+returns c = chain_some _ _ _ (opened_some _ _ _ _ c.in-Some.is c.in_ok-e.ensures)

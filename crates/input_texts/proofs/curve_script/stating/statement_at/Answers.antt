@@ -1,4 +1,5 @@
 use Rattle.std.proofs.Common.{◌∙◌}
+use Rattle.std.proofs.lemmas.Result.{IfOk-weaker}
 use Rattle.input_texts.specs.curve_script.Building.{statement_from}
 use Rattle.input_texts.proofs.curve_script.Chains.{chain_none, chain_some}
 use Rattle.input_texts.proofs.curve_script.stating.statement_at.Goals as goal
@@ -13,4 +14,6 @@ returns-in_default-keyword_of c = chain_none _ _ c.in_default-keyword_of.ensures
 
 pub returns : goal.returns
 unfolding statement_from
-returns c = c.in_ok-made.ensures ∙ chain_some _ _ _ c.in-Some-keyword_of.ensures ∙ chain_some _ _ _ c.in-Some.ensures
+returns c =
+    IfOk-weaker c.statement_behind.result _ _
+    (λ made e. e ∙ chain_some _ _ _ c.in-Some-keyword_of.ensures ∙ chain_some _ _ _ c.in-Some.ensures) c.statement_behind.ensures

@@ -1,5 +1,4 @@
-use Rattle.std.proofs.Common.{◌∙◌, ap, drop, map, Some}
-use Rattle.input_texts.specs.curve_script.Lexing.{view}
+use Rattle.std.proofs.Common.{◌∙◌}
 use Rattle.input_texts.specs.curve_script.Building.{two_asked_from}
 use Rattle.input_texts.proofs.curve_script.Chains.{chain_none, chain_some, opened_none, opened_some}
 use Rattle.input_texts.proofs.curve_script.stating.two_asked_at.Goals as goal
@@ -18,5 +17,4 @@ returns-in_default-2 c = chain_none _ _ (opened_none _ _ _ c.in_default-2.is c.i
 
 pub returns : goal.returns
 unfolding two_asked_from
-returns c = ap (λ s. Some (s, drop c.curve_at-2.new.at (map view c.args.tokens.now))) c.asks_two.ensures
-    ∙ chain_some _ _ _ (opened_some _ _ _ _ c.in-Some-2.is c.in_ok-b.ensures) ∙ chain_some _ _ _ c.if-not-takes_sign.ensures ∙ chain_some _ _ _ (opened_some _ _ _ _ c.in-Some.is c.in_ok-a.ensures)
+returns c = chain_some _ _ _ (opened_some _ _ _ _ c.in-Some-2.is c.in_ok-b.ensures) ∙ chain_some _ _ _ c.if-not-takes_sign.ensures ∙ chain_some _ _ _ (opened_some _ _ _ _ c.in-Some.is c.in_ok-a.ensures)

@@ -11,10 +11,10 @@ pub returns-then-not-takes_at : goal.returns-then-not-takes_at
 unfolding value_from
 returns-then-not-takes_at c = chain_none _ _ c.if-not-takes_at.ensures ∙ chain_some _ _ _ (opened_some _ _ _ _ c.in-Some.is c.in_ok-e.ensures)
 
-pub returns-in_default-number_at : goal.returns-in_default-number_at
+pub returns-in_default-number : goal.returns-in_default-number
 unfolding value_from
-returns-in_default-number_at c = chain_none _ _ c.in_default-number_at.ensures ∙ chain_some _ _ _ c.if-not-takes_at.ensures ∙ chain_some _ _ _ (opened_some _ _ _ _ c.in-Some.is c.in_ok-e.ensures)
+returns-in_default-number c = chain_none _ _ c.in_default-number.ensures ∙ chain_some _ _ _ c.if-not-takes_at.ensures ∙ chain_some _ _ _ (opened_some _ _ _ _ c.in-Some.is c.in_ok-e.ensures)
 
 pub returns : goal.returns
 unfolding value_from
-returns c = chain_some _ _ _ c.in-Some-number_at.ensures ∙ chain_some _ _ _ c.if-not-takes_at.ensures ∙ chain_some _ _ _ (opened_some _ _ _ _ c.in-Some.is c.in_ok-e.ensures)
+returns c = chain_some _ _ _ c.in-Some-number.ensures ∙ chain_some _ _ _ c.if-not-takes_at.ensures ∙ chain_some _ _ _ (opened_some _ _ _ _ c.in-Some.is c.in_ok-e.ensures)
