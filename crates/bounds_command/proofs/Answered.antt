@@ -12,6 +12,7 @@ use Rattle.tree_network.specs.declared.network.Network.{Network}
 use Rattle.tree_bounds.specs.Tables.{IsTableOf}
 use Rattle.tree_bounds.specs.declared.analysis.Table.{Table}
 use Rattle.tree_guarantee.proofs.Caused.{none_has_a_cause}
+use Rattle.tree_guarantee.proofs.Rooted.{none_has_a_root}
 use Rattle.bounds_report.specs.Ranges.{HasDeadlineInRange}
 use Rattle.bounds_report.specs.declared.rows.BranchRow.{BranchRow}
 use Rattle.bounds_report.specs.declared.rows.Report.{Report}
@@ -43,6 +44,7 @@ reported d net form table report (Ok r) w bounded tells timed h =
       written = λ overhead texts keys run rounded keeps. reports_are_kept d net table report w bounded tells timed run
           (written_runs_are_runs overhead texts keys net run rounded keeps);
       causes = λ s q inside queue none. none_has_a_cause net table s q bounded inside queue none;
+      roots = λ s q inside queue none. none_has_a_root net table s q w bounded inside queue none;
       is = h;
     }
 

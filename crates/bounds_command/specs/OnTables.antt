@@ -15,6 +15,7 @@ use Rattle.tree_network.specs.Rings.{IsNetworkToldRing}
 use Rattle.tree_bounds.specs.Tables.{IsTableOf, row_in}
 use Rattle.tree_bounds.specs.declared.analysis.Table.{Table}
 use Rattle.tree_guarantee.specs.Causes.{IsCausedIn}
+use Rattle.tree_guarantee.specs.Roots.{IsRootedIn}
 use Rattle.bounds_report.specs.declared.rows.Report.{Report}
 use Rattle.bounds_command.specs.declared.answer.Form.{Form}
 use Rattle.bounds_command.specs.Promises.{Guarantees, WrittenGuarantees}
@@ -100,6 +101,10 @@ pub record IsReported (d : DocumentText) (net : Network) (form : Form) (reply : 
   pub causes : (s q : ℕ) → s < length net.ports.items → q < queues_of (port_at net s).discipline
       → row_in table s q ≡ None
       → IsCausedIn net table s q
+  -- and at the root of it, there or at a port before it, a queue's load is above its rate, or a number passes its limit
+  pub roots : (s q : ℕ) → s < length net.ports.items → q < queues_of (port_at net s).discipline
+      → row_in table s q ≡ None
+      → IsRootedIn net table s q
   pub is : reply ≡ record { status = status_with report; bytes = text_in form report }
 
 abbrev pub IsReplyOnDocument : DocumentText → Network → Form → Reply → Type 0
