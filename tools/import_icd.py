@@ -28,10 +28,11 @@ PORTS.csv, a line an output port (also those of end systems):
     discipline     `fifo` (also where it is empty), `priority N` with N queues, or
                    `drr Q0 Q1 ..` with the quantum of each queue in bytes
 
-These are the tables of netbound too. Lines of one name are the branches of a multicast link, and agree in all but path
-and deadline. A network file has no branches, so each becomes a flow of its own, NAME_1, NAME_2 .. in the order of the
-lines: ports that branches share then count the link once a branch, and the bounds there are greater than need be, of
-which it notes. netbound counts the link once.
+These are the tables of netbound too, but that it takes a `link` in whole picoseconds alone (at most 6 digits behind the
+point), takes a gate with a latency, and leaves a column `delay` alone. Lines of one name are the branches of a
+multicast link, and agree in all but path and deadline. A network file has no branches, so each becomes a flow of its
+own, NAME_1, NAME_2 .. in the order of the lines: ports that branches share then count the link once a branch, and the
+bounds there are greater than need be, of which it notes. netbound counts the link once.
 
 A `delay` is added to the links of the ports that come right before on the paths: all ports behind a link have one and
 the same, and a first port has none. A delay that varies from frame to frame is outside of what a network file can say:
