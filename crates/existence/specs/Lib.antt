@@ -1,3 +1,7 @@
 pub mod curves
+pub mod closures
 pub mod tables
+pub mod drafts
 pub mod reports
+pub mod edits
+pub mod texts

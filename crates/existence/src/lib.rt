@@ -1,7 +1,11 @@
-//! That curves, tables and reports exist: each call of an operator has an answer that is not want of memory, each accepted network
-//! a table, and each file a reply. These are laws; the program does not use them.
+//! What is there, whether or not there is memory for it: an answer of each call of an operator, a table of each accepted network, a
+//! reading of each text, a reply of each file. These are laws; the program does not use them.
 #![tactic(auto)]
 
+pub mod closures;
 pub mod curves;
+pub mod drafts;
+pub mod edits;
 pub mod reports;
 pub mod tables;
+pub mod texts;

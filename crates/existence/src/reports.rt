@@ -2,4 +2,7 @@
 
 mod laws;
 
-pub use laws::{files_have_reports, has_table};
+pub use laws::{
+    broken_files_have_replies, drafts_have_replies, files_have_reports, has_table,
+    networks_have_replies,
+};

@@ -1,8 +1,8 @@
-pub mod FileLemmas
-pub mod Fetches
 pub mod ByCommand
 pub mod NoWrite
 pub mod Replies
+pub mod OneCycle
+pub mod Equal
 pub mod ExampleNet
 pub mod ExampleBound
 pub mod WordLists

@@ -16,9 +16,9 @@ use Rattle.commands.specs.measure.OnMeasures.{IsMeasureReply}
 use Rattle.commands.proofs.measure.OneMeasure.{statuses_are_four}
 use Rattle.commands.specs.curve.OnScripts as scripts
 use Rattle.netcalc_cli.specs.Commands.{Command, Analyse, Edit, Simulate, Exercise, Check, Measure, Curve, IsReplyTo, files_of}
-use Rattle.netcalc_cli.specs.Files.{Told}
+use Rattle.netcalc_cli.specs.Files.{most_bytes, Told}
 use Rattle.netcalc_cli.specs.Reply.{MayReplyTo, FailedAt}
-use Rattle.netcalc_cli.proofs.FileLemmas.{first_shows, long_shows}
+use Rattle.outside.proofs.FileLemmas.{first_shows, long_shows}
 
 other : (status n : ℕ) → status ≡ n → n ≢ 4 → status ≢ 4
 other status n is apart e = apart (sym is ∙ e)
@@ -115,11 +115,11 @@ pub none_is_a_write_fault : {I : Type 0} (faults : I → ℕ) (last_fault : I �
     (before after : I) (reply : Reply) → MayReplyTo faults last_fault told command before after reply
     → reply.status ≢ 4
 none_is_a_write_fault faults last_fault told command before after reply (inl failed) =
-    first_shows told (λ file. FailedAt faults last_fault file before after × (reply ≡ cannot_read file))
+    first_shows most_bytes told (λ file. FailedAt faults last_fault file before after × (reply ≡ cannot_read file))
     (reply.status ≢ 4) (files_of command)
     (λ file h. other reply.status 3 (status_of reply (cannot_read file) h.1) (omega arith)) failed
 none_is_a_write_fault faults last_fault told command before after reply (inr (files, held, inl long)) =
-    long_shows (λ file. reply ≡ too_long file) (reply.status ≢ 4) (files_of command) files
+    long_shows most_bytes (λ file. reply ≡ too_long file) (reply.status ≢ 4) (files_of command) files
     (λ file h. other reply.status 1 (status_of reply (too_long file) h) (omega arith)) long
 none_is_a_write_fault faults last_fault told command before after reply (inr (files, held, inr on)) =
     on_files command files reply on.1

@@ -1,21 +1,21 @@
 -- What a reply that was given is, by its status.
-use Rattle.std.proofs.Common.{◌≡◌, ◌≢◌, ◌⊎◌, ℕ, List, Option, Some, None, IfSome, Result, Ok, Err, IfOk, inl, inr, refl, sym, ap, ◌∙◌, subst}
+use Rattle.std.proofs.Common.{◌≡◌, ◌≢◌, ◌⊎◌, ℕ, List, Option, Some, None, IfSome, Result, Ok, Err, IfOk, inl, inr, refl, sym, ap, ◌∙◌, subst, arith, suc, ◌<◌}
 use Rattle.std.proofs.lemmas.Bool.{cases_eq}
 use Rattle.upp_limits.specs.declared.own_limits.OverLimit.TheVariants.{TooMany, TooWide}
 use Rattle.upp_limits.proofs.SpanNumbers.{if_some_map}
+use Rattle.outside.specs.Written.{Output}
 use Rattle.commands.specs.command_replies.specs.declared.answer.Answer.{Answer}
 use Rattle.commands.specs.command_replies.specs.Replies.{Reply, cannot_read, too_long}
 use Rattle.commands.specs.command_replies.specs.View.{code_of, reply_of, status_of}
-use Rattle.netcalc_cli.specs.Commands.{Command, files_of, IsReplyTo, IsMalformed, IsOver, IsCyclic, TellsBreach, IsDone}
+use Rattle.netcalc_cli.specs.Commands.{Command, files_of, AreSameTo, IsReplyTo, IsMalformed, IsOver, IsCyclic, TellsBreach, IsDone}
 use Rattle.netcalc_cli.specs.Commands.{Analyse, Edit, Simulate, Exercise, Check, Measure, Curve, IsAnswerable, IsAnswer}
 use Rattle.netcalc_cli.specs.Counts.{CountsOnCommand, Counts}
-use Rattle.netcalc_cli.specs.Files.{Told, IsTooLong, FirstIs, MayHoldAll, AllFit, all_told}
-use Rattle.netcalc_cli.specs.Laws.{RepliesAreDetermined}
-use Rattle.netcalc_cli.specs.Reply.{IsReplyOnFiles, FailedAt, EndsAt, MayReplyTo, Gives, Brings, GivesOnTold, AnswersWhatItCan}
+use Rattle.netcalc_cli.specs.Files.{most_bytes, Told, IsTooLong, FirstIs, MayHoldAll, AllFit, all_told}
+use Rattle.netcalc_cli.specs.Reply.{IsReplyOnFiles, StandsOnFiles, FailedAt, EndsAt, MayReplyTo, Gives, Brings, GivesOnTold, AnswersWhatItCan}
 use Rattle.netcalc_cli.proofs.ByCommand.{IsByStatus, by_command, equal_by_command, one_by_command, complete_by_command}
 use Rattle.netcalc_cli.proofs.ByCommand.{IsGiven, answer_given, counts_by_command}
-use Rattle.netcalc_cli.proofs.FileLemmas.{first_map, first_shows, long_shows, long_first, not_long, long_one, ended, any_told}
-use Rattle.netcalc_cli.proofs.FileLemmas.{same_told, on_told, any_told}
+use Rattle.outside.proofs.FileLemmas.{first_map, first_shows, long_shows, long_first, not_long, long_one, ended}
+use Rattle.outside.proofs.FileLemmas.{same_told, on_told, any_told}
 
 -- ---- what the inputs may bring
 -- fetching ended at a file
@@ -23,48 +23,49 @@ pub ends : {I : Type 0} (faults : I → ℕ) (last_fault : I → List ℕ) (told
     (reply : Reply) → FirstIs told (EndsAt faults last_fault told old new reply) (files_of command)
     → MayReplyTo faults last_fault told command old new reply
 ends faults last_fault told command old new reply h =
-    elim (ended told (λ file. FailedAt faults last_fault file old new × (reply ≡ cannot_read file))
+    elim (ended most_bytes told (λ file. FailedAt faults last_fault file old new × (reply ≡ cannot_read file))
     (λ file. reply ≡ too_long file) (files_of command) h) [
       | inl failed ↦ inl failed
       | inr long ↦ inr (long.0, long.1, inl long.2)
     ]
 
--- with no answer
+-- with no answer on what all files hold
 record IsNoAnswer (status : ℕ) : Type 0 where
   zero : status ≢ 0
-  nine : status ≢ 9
+  few : status < 6
+
+at_most_five : (status n : ℕ) → status ≡ suc n → suc n < 6 → IsNoAnswer status
+at_most_five status n is less = record { zero = λ e. absurd (omega (arith, is, e)); few = omega (arith, is, less) }
 
 none_of : {I : Type 0} (faults : I → ℕ) (last_fault : I → List ℕ) (told : Told) (old new : I) (file : List ℕ)
     (a : Answer) → EndsAt faults last_fault told old new (reply_of a) file → IsNoAnswer (code_of a.status)
 none_of faults last_fault told old new file a (inl failed) =
-    let three = ap (λ (x : Reply). x.status) failed.1 in
-    record { zero = λ e. absurd (cc); nine = λ e. absurd (cc) }
+    at_most_five (code_of a.status) 2 (ap (λ (x : Reply). x.status) failed.1) (omega arith)
 none_of faults last_fault told old new file a (inr long) =
-    let one = ap (λ (x : Reply). x.status) long.1 in
-    record { zero = λ e. absurd (cc); nine = λ e. absurd (cc) }
+    at_most_five (code_of a.status) 0 (ap (λ (x : Reply). x.status) long.1) (omega arith)
 
 none_at : {I E : Type 0} (faults : I → ℕ) (last_fault : I → List ℕ) (told : Told) (old new : I) (file : List ℕ)
     (r : Result Answer E) → IfOk r (λ a. EndsAt faults last_fault told old new (reply_of a) file)
     → IsNoAnswer (status_of r)
 none_at faults last_fault told old new file (Ok a) h = none_of faults last_fault told old new file a h
 none_at faults last_fault told old new file (Err e) h =
-    record { zero = λ e. absurd (cc); nine = λ e. absurd (cc) }
+    at_most_five 5 4 refl (omega arith)
 
 none_in : {I E : Type 0} (faults : I → ℕ) (last_fault : I → List ℕ) (told : Told) (old new : I)
     (files : List (List ℕ)) (r : Result Answer E)
     → IfOk r (λ a. FirstIs told (EndsAt faults last_fault told old new (reply_of a)) files) → IsNoAnswer (status_of r)
 none_in faults last_fault told old new files (Ok a) h =
-    first_shows told (EndsAt faults last_fault told old new (reply_of a)) (IsNoAnswer (code_of a.status)) files
+    first_shows most_bytes told (EndsAt faults last_fault told old new (reply_of a)) (IsNoAnswer (code_of a.status)) files
     (λ file at. none_of faults last_fault told old new file a at) h
 none_in faults last_fault told old new files (Err e) h =
-    record { zero = λ e. absurd (cc); nine = λ e. absurd (cc) }
+    at_most_five 5 4 refl (omega arith)
 
 no_answer : (command : Command) (status : ℕ) → IsNoAnswer status → ¬ (IsAnswer command status)
 no_answer (Analyse form net) status none h = none.zero h
 no_answer (Edit form net edits) status none h = none.zero h
-no_answer (Simulate net trace) status none h = elim h [ inl zero ↦ none.zero zero | inr nine ↦ none.nine nine ]
-no_answer (Exercise seed) status none h = elim h [ inl zero ↦ none.zero zero | inr nine ↦ none.nine nine ]
-no_answer (Check net run) status none h = elim h [ inl zero ↦ none.zero zero | inr nine ↦ none.nine nine ]
+no_answer (Simulate net trace) status none h = elim h [ inl zero ↦ none.zero zero | inr nine ↦ let few = none.few in omega (arith, few, nine) ]
+no_answer (Exercise seed) status none h = elim h [ inl zero ↦ none.zero zero | inr nine ↦ let few = none.few in omega (arith, few, nine) ]
+no_answer (Check net run) status none h = elim h [ inl zero ↦ none.zero zero | inr nine ↦ let few = none.few in omega (arith, few, nine) ]
 no_answer (Measure net trace name rate) status none h = none.zero h
 no_answer (Curve script) status none h = none.zero h
 
@@ -81,9 +82,41 @@ pub no_answer_in : {I E : Type 0} (faults : I → ℕ) (last_fault : I → List 
 no_answer_in faults last_fault told command old new files r h =
     no_answer command (status_of r) (none_in faults last_fault told old new files r h)
 
+-- so all files are had for a reply that stands on them
+not_on_files : (status : ℕ) → IsNoAnswer status → ¬ (StandsOnFiles status)
+not_on_files status none (inl zero) = none.zero zero
+not_on_files status none (inr more) = let few = none.few in omega (arith, few, more)
+
+pub not_at_file : {I E : Type 0} (faults : I → ℕ) (last_fault : I → List ℕ) (told : Told) (old new : I) (file : List ℕ)
+    (r : Result Answer E) → IfOk r (λ a. EndsAt faults last_fault told old new (reply_of a) file)
+    → ¬ (StandsOnFiles (status_of r))
+not_at_file faults last_fault told old new file r h =
+    not_on_files (status_of r) (none_at faults last_fault told old new file r h)
+
+pub not_in_files : {I E : Type 0} (faults : I → ℕ) (last_fault : I → List ℕ) (told : Told) (old new : I)
+    (files : List (List ℕ)) (r : Result Answer E)
+    → IfOk r (λ a. FirstIs told (EndsAt faults last_fault told old new (reply_of a)) files)
+    → ¬ (StandsOnFiles (status_of r))
+not_in_files faults last_fault told old new files r h =
+    not_on_files (status_of r) (none_in faults last_fault told old new files r h)
+
+pub not_for_memory : (status : ℕ) → status ≡ 5 → ¬ (StandsOnFiles status)
+not_for_memory status five = not_on_files status (at_most_five status 4 five (omega arith))
+
+-- the status that is given stands on files only where the answer's does
+pub stands_given : (status other : ℕ) → IsGiven status other → StandsOnFiles other → StandsOnFiles status
+stands_given status other same on =
+    elim (cases_eq other 4) [
+      | inl four ↦ absurd (not_on_files other (at_most_five other 3 four (omega arith)) on)
+      | inr unlike ↦ let P : ℕ → Type 0 = λ n. StandsOnFiles n in subst P (same unlike) on
+    ]
+
+pub not_for_usage : (status : ℕ) → IsGiven 2 status → ¬ (StandsOnFiles status)
+not_for_usage status same on = not_on_files 2 (at_most_five 2 1 refl (omega arith)) (stands_given 2 status same on)
+
 -- ---- where memory is refused, whatever is asked
 no_memory : (status : ℕ) → status ≡ 5 → IsNoAnswer status
-no_memory status five = record { zero = λ e. absurd (cc); nine = λ e. absurd (cc) }
+no_memory status five = at_most_five status 4 five (omega arith)
 
 pub nothing_counted : {I : Type 0} (content : I → List ℕ → Option (List ℕ)) (asked : Option Command) (inputs : I)
     (status steps : ℕ) → status ≡ 5 → Counts content asked inputs status steps steps
@@ -91,7 +124,7 @@ nothing_counted content None inputs status steps five = refl
 nothing_counted content (Some command) inputs status steps five =
     inl (no_answer command status (no_memory status five), refl)
 
-pub nothing_told : (asked : Option Command) (told : Told) (status : ℕ) (old new : Option (List ℕ)) → status ≡ 5
+pub nothing_told : (asked : Option Command) (told : Told) (status : ℕ) (old new : Output) → status ≡ 5
     → IfSome asked (λ command. GivesOnTold command told status old new)
 nothing_told asked told status old new five =
     any_told asked (λ command. GivesOnTold command told status old new)
@@ -138,11 +171,11 @@ by_files : {I : Type 0} (faults : I → ℕ) (last_fault : I → List ℕ) (told
     (reply : Reply) (files : List (List ℕ)) → MayHoldAll told (files_of command) files
     → IsReplyOnFiles command files reply → MayBe faults last_fault told command old new reply
 by_files faults last_fault told command old new reply files held (inl long) =
-    let is : reply.status ≡ 1 = long_shows (λ file. reply ≡ too_long file) (reply.status ≡ 1) (files_of command) files
+    let is : reply.status ≡ 1 = long_shows most_bytes (λ file. reply ≡ too_long file) (reply.status ≡ 1) (files_of command) files
     (λ file same. ap (λ (r : Reply). r.status) same) long in
     record {
       three = λ e. absurd (cc);
-      one = λ e. inl (long_first told (λ file. reply ≡ too_long file) (files_of command) files held long);
+      one = λ e. inl (long_first most_bytes told (λ file. reply ≡ too_long file) (files_of command) files held long);
       rest = λ other three. absurd (other is);
     }
 by_files faults last_fault told command old new reply files held (inr fits) =
@@ -154,7 +187,7 @@ may_be : {I : Type 0} (faults : I → ℕ) (last_fault : I → List ℕ) (told :
     (reply : Reply) → MayReplyTo faults last_fault told command old new reply
     → MayBe faults last_fault told command old new reply
 may_be faults last_fault told command old new reply (inl failed) =
-    let is : reply.status ≡ 3 = first_shows told
+    let is : reply.status ≡ 3 = first_shows most_bytes told
     (λ file. FailedAt faults last_fault file old new × (reply ≡ cannot_read file)) (reply.status ≡ 3) (files_of command)
     (λ file h. ap (λ (r : Reply). r.status) h.1) failed in
     record { three = λ e. failed; one = λ e. absurd (cc); rest = λ other three. absurd (three is) }
@@ -164,7 +197,7 @@ may_be faults last_fault told command old new reply (inr found) =
 -- ---- given
 -- what is brought, by the status that is given
 pub record IsBrought {I : Type 0} (faults : I → ℕ) (last_fault : I → List ℕ) (told : Told) (command : Command)
-    (before after : I) (status : ℕ) (old new : Option (List ℕ)) : Type 0 where
+    (before after : I) (status : ℕ) (old new : Output) : Type 0 where
   pub read_fault : status ≡ 3
       → FirstIs told (λ file. FailedAt faults last_fault file before after × Gives status old new (cannot_read file))
       (files_of command)
@@ -179,7 +212,7 @@ pub record IsBrought {I : Type 0} (faults : I → ℕ) (last_fault : I → List 
 
 -- a reply of one kind that is given
 brings : (P : Command → List (List ℕ) → Reply → Type 0) (told : Told) (command : Command) (reply : Reply) (status : ℕ)
-    (old new : Option (List ℕ)) (on : IsOnFiles told command reply) → P command on.files reply
+    (old new : Output) (on : IsOnFiles told command reply) → P command on.files reply
     → Gives status old new reply
     → Brings P told command status old new
 brings P told command reply status old new on is given =
@@ -187,14 +220,14 @@ brings P told command reply status old new on is given =
 
 -- the line that tells a file
 gives_line : (told : Told) (P : List ℕ → Type 0) (line : List ℕ → Reply) (names : List (List ℕ)) (reply : Reply)
-    (status : ℕ) (old new : Option (List ℕ)) → Gives status old new reply
+    (status : ℕ) (old new : Output) → Gives status old new reply
     → FirstIs told (λ file. P file × (reply ≡ line file)) names
     → FirstIs told (λ file. P file × Gives status old new (line file)) names
 gives_line told P line names reply status old new given h =
-    first_map told (λ file. P file × (reply ≡ line file)) (λ file. P file × Gives status old new (line file)) names
+    first_map most_bytes told (λ file. P file × (reply ≡ line file)) (λ file. P file × Gives status old new (line file)) names
     (λ file k. (k.0, subst (Gives status old new) k.1 given)) h
 
-malformed : (told : Told) (command : Command) (reply : Reply) (status : ℕ) (old new : Option (List ℕ))
+malformed : (told : Told) (command : Command) (reply : Reply) (status : ℕ) (old new : Output)
     → Gives status old new reply → reply.status ≡ 1
     → FirstIs told (λ file. IsTooLong (told file) × (reply ≡ too_long file)) (files_of command)
     ⊎ IsOnFiles told command reply
@@ -206,7 +239,7 @@ malformed told command reply status old new given one (inr on) =
     inr (brings IsMalformed told command reply status old new on (on.is.malformed one) given)
 
 pub brought : {I : Type 0} (faults : I → ℕ) (last_fault : I → List ℕ) (told : Told) (command : Command)
-    (before after : I) (reply : Reply) (status : ℕ) (old new : Option (List ℕ))
+    (before after : I) (reply : Reply) (status : ℕ) (old new : Output)
     → MayReplyTo faults last_fault told command before after reply → Gives status old new reply
     → IsBrought faults last_fault told command before after status old new
 brought faults last_fault told command before after reply status old new may given =
@@ -230,11 +263,11 @@ brought faults last_fault told command before after reply status old new may giv
 
 -- ---- what the files are told to hold
 told_on : {I : Type 0} (faults : I → ℕ) (last_fault : I → List ℕ) (told : Told) (command : Command)
-    (before after : I) (reply : Reply) (status : ℕ) (old new : Option (List ℕ))
+    (before after : I) (reply : Reply) (status : ℕ) (old new : Output)
     → MayReplyTo faults last_fault told command before after reply → Gives status old new reply
     → GivesOnTold command told status old new
 told_on faults last_fault told command before after reply status old new (inl failed) given =
-    let three : reply.status ≡ 3 = first_shows told
+    let three : reply.status ≡ 3 = first_shows most_bytes told
     (λ file. FailedAt faults last_fault file before after × (reply ≡ cannot_read file)) (reply.status ≡ 3)
     (files_of command)
     (λ file h. ap (λ (r : Reply). r.status) h.1) failed in
@@ -244,7 +277,7 @@ told_on faults last_fault told command before after reply status old new (inr fo
     (inl (reply, found.2, given))
 
 pub told_given : {I : Type 0} (faults : I → ℕ) (last_fault : I → List ℕ) (told : Told) (command : Command)
-    (before after : I) (reply : Reply) (status : ℕ) (old new : Option (List ℕ))
+    (before after : I) (reply : Reply) (status : ℕ) (old new : Output)
     → MayReplyTo faults last_fault told command before after reply → (status ≢ 4 → Gives status old new reply)
     → GivesOnTold command told status old new
 told_given faults last_fault told command before after reply status old new may given =
@@ -257,10 +290,10 @@ told_given faults last_fault told command before after reply status old new may 
 answers_on : (command : Command) (files : List (List ℕ)) (reply : Reply) → AllFit files → IsAnswerable command files
     → IsReplyOnFiles command files reply → IsAnswer command reply.status
 answers_on command files reply fit can (inl long) =
-    absurd (not_long (λ file. reply ≡ too_long file) (files_of command) files long fit)
+    absurd (not_long most_bytes (λ file. reply ≡ too_long file) (files_of command) files long fit)
 answers_on command files reply fit can (inr on) = complete_by_command command files reply can on.1
 
-answers_or : (command : Command) (files : List (List ℕ)) (status : ℕ) (old new : Option (List ℕ)) → AllFit files
+answers_or : (command : Command) (files : List (List ℕ)) (status : ℕ) (old new : Output) → AllFit files
     → IsAnswerable command files
     → ((reply : Reply) × IsReplyOnFiles command files reply × Gives status old new reply)
     ⊎ ((status ≡ 3) ⊎ ((status ≡ 4) ⊎ (status ≡ 5)))
@@ -269,7 +302,7 @@ answers_or command files status old new fit can (inl r) =
     inl (subst (IsAnswer command) (sym r.2.0) (answers_on command files r.0 fit can r.1))
 answers_or command files status old new fit can (inr other) = inr other
 
-pub answers_what_it_can : (command : Command) (told : Told) (status : ℕ) (old new : Option (List ℕ))
+pub answers_what_it_can : (command : Command) (told : Told) (status : ℕ) (old new : Output)
     → GivesOnTold command told status old new → AnswersWhatItCan command told status
 answers_what_it_can command told status old new h =
     if_some_map (all_told told (files_of command)) _ _
@@ -285,12 +318,13 @@ counts_at told command status other old new same (inr h) =
     let counts = counts_by_command command h.files status other old new same h.counts in
     inr (record { files = h.files; held = h.held; fit = h.fit; counts = counts })
 
--- ---- there is one reply
-pub replies_are_determined : RepliesAreDetermined
-replies_are_determined command files x y (inl h) (inl k) =
-    equal_by_command command x y (long_one x y too_long (files_of command) files h k)
-replies_are_determined command files x y (inl h) (inr k) =
-    absurd (not_long (λ file. x ≡ too_long file) (files_of command) files h k.0)
-replies_are_determined command files x y (inr h) (inl k) =
-    absurd (not_long (λ file. y ≡ too_long file) (files_of command) files k h.0)
-replies_are_determined command files x y (inr h) (inr k) = one_by_command command files x y h.1 k.1
+-- ---- replies on the same files are alike
+pub replies_are_alike : (command : Command) (files : List (List ℕ)) (x y : Reply) → IsReplyOnFiles command files x
+    → IsReplyOnFiles command files y → AreSameTo command x y
+replies_are_alike command files x y (inl h) (inl k) =
+    equal_by_command command x y (long_one most_bytes x y too_long (files_of command) files h k)
+replies_are_alike command files x y (inl h) (inr k) =
+    absurd (not_long most_bytes (λ file. x ≡ too_long file) (files_of command) files h k.0)
+replies_are_alike command files x y (inr h) (inl k) =
+    absurd (not_long most_bytes (λ file. y ≡ too_long file) (files_of command) files k h.0)
+replies_are_alike command files x y (inr h) (inr k) = one_by_command command files x y h.1 k.1

@@ -1,5 +1,5 @@
 -- The commands, and what each answers on its files. A new command has one line in each definition.
-use Rattle.std.specs.Prelude.{◌≡◌, ◌⊎◌, ℕ, List, [], ◌∷◌}
+use Rattle.std.specs.Prelude.{◌≡◌, ◌⊎◌, ℕ, List, [], ◌∷◌, Option, Some, None}
 use Rattle.upp_limits.specs.rational.specs.Rational.{ℚ, ◌≤ℚ◌}
 use Rattle.upp_limits.specs.min_plus.specs.Functions.{zero_q}
 use Rattle.upp_limits.specs.upp_curve.specs.Curve.{SpecCurve}
@@ -68,6 +68,11 @@ files_of (Exercise seed) = []
 files_of (Check net run) = net ∷ run ∷ []
 files_of (Measure net trace name rate) = net ∷ trace ∷ []
 files_of (Curve script) = script ∷ []
+
+-- those that words ask for; words that are not taken ask for none
+abbrev pub names_of : Option Command → List (List ℕ)
+names_of None = []
+names_of (Some command) = files_of command
 
 -- ---- what is answered where the files hold these bytes, which are not too many
 abbrev pub IsReplyTo : Command → List (List ℕ) → Reply → Type 0

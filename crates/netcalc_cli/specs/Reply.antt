@@ -1,11 +1,12 @@
 -- What the program answers on words and files, and what it means that the answer is given.
-use Rattle.std.specs.Prelude.{◌≡◌, ◌⊎◌, ◌++◌, ℕ, List, codes, Option, Some, None, IfSome}
-use Rattle.std.specs.Io.KnownBytes.{Appends}
+use Rattle.std.specs.Prelude.{◌≡◌, ◌≤◌, ◌⊎◌, ◌++◌, ℕ, List, codes, Option, Some, None, IfSome}
 use Rattle.outside.specs.Faults.{Rose}
-use Rattle.outside.specs.Written.{AppendsFront}
+use Rattle.outside.specs.Fetching as fetching
+pub use Rattle.outside.specs.Fetching.{FailedAt}
+use Rattle.outside.specs.Written.{Output, output, PutsWhole, PutsFront}
 use Rattle.commands.specs.command_replies.specs.Replies.{Reply, usage, cannot_read, too_long}
 use Rattle.netcalc_cli.specs.Commands.{Command, files_of, IsReplyTo, IsAnswerable, IsAnswer}
-use Rattle.netcalc_cli.specs.Files.{Told, IsTooLong, MayHoldAll, FirstIs, FirstLong, AllFit, all_told}
+use Rattle.netcalc_cli.specs.Files.{Told, most_bytes, MayHoldAll, FirstIs, FirstLong, AllFit, all_told}
 
 -- the commands that the usage line tells
 abbrev pub commands : List ℕ
@@ -19,17 +20,10 @@ abbrev pub IsReplyOnFiles : Command → List (List ℕ) → Reply → Type 0
 IsReplyOnFiles command files reply =
     FirstLong (λ file. reply ≡ too_long file) (files_of command) files ⊎ (AllFit files × IsReplyTo command files reply)
 
--- The inputs failed in this call, and last at this file.
-pub record FailedAt {I : Type 0} (faults : I → ℕ) (last_fault : I → List ℕ) (file : List ℕ) (old new : I)
-    : Type 0 where
-  pub rose : Rose (faults old) (faults new)
-  pub name : last_fault new ≡ file
-
 -- The inputs end a call at this file: they failed at it, or it is too long.
 abbrev pub EndsAt : {I : Type 0} → (I → ℕ) → (I → List ℕ) → Told → I → I → Reply → List ℕ → Type 0
 EndsAt faults last_fault told old new reply file =
-    (FailedAt faults last_fault file old new × (reply ≡ cannot_read file))
-    ⊎ (IsTooLong (told file) × (reply ≡ too_long file))
+    fetching.EndsAt most_bytes cannot_read too_long faults last_fault told old new reply file
 
 -- ---- on words and inputs
 -- The inputs may bring this reply of a command: they failed at a file, those before which may fit, or it is the reply
@@ -46,14 +40,18 @@ MayReply content faults last_fault None old new reply = reply ≡ usage commands
 MayReply content faults last_fault (Some command) old new reply =
     MayReplyTo faults last_fault (content old) command old new reply
 
+-- The status is one of a reply that stands on what all files hold; some of the replies with 1 do, too.
+abbrev pub StandsOnFiles : ℕ → Type 0
+StandsOnFiles status = (status ≡ 0) ⊎ (6 ≤ status)
+
 -- ---- given
--- The status is the reply's, and its bytes were written.
-abbrev pub Gives : ℕ → Option (List ℕ) → Option (List ℕ) → Reply → Type 0
-Gives status old new reply = (status ≡ reply.status) × Appends old new reply.bytes
+-- The status is the reply's, and there was one put, of its bytes, which were written.
+abbrev pub Gives : ℕ → Output → Output → Reply → Type 0
+Gives status old new reply = (status ≡ reply.status) × PutsWhole reply.bytes old new
 
 -- The files of a command hold bytes that are not too many, and a reply of this kind on them was given.
 pub record Brings (IsKind : Command → List (List ℕ) → Reply → Type 0) (told : Told) (command : Command) (status : ℕ)
-    (old new : Option (List ℕ)) : Type 0 where
+    (old new : Output) : Type 0 where
   pub files : List (List ℕ)
   pub held : MayHoldAll told (files_of command) files
   pub fit : AllFit files
@@ -62,7 +60,7 @@ pub record Brings (IsKind : Command → List (List ℕ) → Reply → Type 0) (t
   pub given : Gives status old new reply
 
 -- Where it is told what the files hold, the reply on that was given, or the status is 3, 4 or 5.
-abbrev pub GivesOnTold : Command → Told → ℕ → Option (List ℕ) → Option (List ℕ) → Type 0
+abbrev pub GivesOnTold : Command → Told → ℕ → Output → Output → Type 0
 GivesOnTold command told status old new = IfSome (all_told told (files_of command)) (λ files.
     ((reply : Reply) × IsReplyOnFiles command files reply × Gives status old new reply)
     ⊎ ((status ≡ 3) ⊎ ((status ≡ 4) ⊎ (status ≡ 5))))
@@ -73,8 +71,8 @@ AnswersWhatItCan command told status = IfSome (all_told told (files_of command))
     AllFit files → IsAnswerable command files
     → IsAnswer command status ⊎ ((status ≡ 3) ⊎ ((status ≡ 4) ⊎ (status ≡ 5))))
 
--- The sink failed in this call, and a front of the reply's bytes was written.
-pub record FailsToGive {K : Type 0} (faults : K → ℕ) (written : K → Option (List ℕ)) (old new : K) (reply : Reply)
-    : Type 0 where
+-- The sink failed in this call: there was one put, of the reply's bytes, a front of which was written.
+pub record FailsToGive {K : Type 0} (faults : K → ℕ) (written : K → Option (List ℕ)) (puts : K → List (List ℕ))
+    (old new : K) (reply : Reply) : Type 0 where
   pub rose : Rose (faults old) (faults new)
-  pub front : AppendsFront (written old) (written new) reply.bytes
+  pub front : PutsFront reply.bytes (output written puts old) (output written puts new)

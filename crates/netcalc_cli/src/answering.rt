@@ -3,10 +3,11 @@
 ghost use Rattle.std.specs.Prelude.{IfOk};
 ghost use Rattle.upp_limits.specs.rational.specs.Rational.{◌≤ℚ◌};
 ghost use Rattle.upp_limits.specs.min_plus.specs.Functions.{zero_q};
+ghost use Rattle.outside.specs.Fetching.{FetchesAll, FetchesUpTo};
 ghost use Rattle.commands.specs.command_replies.specs.View.{reply_of, status_of};
 ghost use Rattle.netcalc_cli.specs.Commands as commands;
 ghost use Rattle.netcalc_cli.specs.Counts.{CountsOnCommand};
-ghost use Rattle.netcalc_cli.specs.Reply.{MayReplyTo};
+ghost use Rattle.netcalc_cli.specs.Reply.{StandsOnFiles, MayReplyTo};
 ghost use Rattle.netcalc_cli.specs.View.{command_view};
 
 use crate::fetching::{fetch_one, fetch_two};
@@ -35,6 +36,9 @@ fn on_network<I: Inputs, L: Ledger>(
 ) -> Result<Answer, NoMemory>
     ensures reply { IfOk result (λ r. MayReplyTo I.faults I.last_fault (I.content inputs.old)
         (commands.Analyse form net.now) inputs.old inputs.new (reply_of r)) }
+    ensures asked { FetchesUpTo I.asked I.had (commands.files_of (commands.Analyse form net.now)) inputs.old inputs.new }
+    ensures all { StandsOnFiles (status_of result) →
+        FetchesAll I.asked I.had (commands.files_of (commands.Analyse form net.now)) inputs.old inputs.new }
     ensures counts { CountsOnCommand (I.content inputs.old) (commands.Analyse form net.now) (status_of result)
         steps.old steps.new }
 {
@@ -54,6 +58,9 @@ fn on_edited<I: Inputs, L: Ledger>(
 ) -> Result<Answer, NoMemory>
     ensures reply { IfOk result (λ r. MayReplyTo I.faults I.last_fault (I.content inputs.old)
         (commands.Edit form net.now edits.now) inputs.old inputs.new (reply_of r)) }
+    ensures asked { FetchesUpTo I.asked I.had (commands.files_of (commands.Edit form net.now edits.now)) inputs.old inputs.new }
+    ensures all { StandsOnFiles (status_of result) →
+        FetchesAll I.asked I.had (commands.files_of (commands.Edit form net.now edits.now)) inputs.old inputs.new }
     ensures counts { CountsOnCommand (I.content inputs.old) (commands.Edit form net.now edits.now) (status_of result)
         steps.old steps.new }
 {
@@ -72,6 +79,9 @@ fn on_simulated<I: Inputs, L: Ledger>(
 ) -> Result<Answer, NoMemory>
     ensures reply { IfOk result (λ r. MayReplyTo I.faults I.last_fault (I.content inputs.old)
         (commands.Simulate net.now trace.now) inputs.old inputs.new (reply_of r)) }
+    ensures asked { FetchesUpTo I.asked I.had (commands.files_of (commands.Simulate net.now trace.now)) inputs.old inputs.new }
+    ensures all { StandsOnFiles (status_of result) →
+        FetchesAll I.asked I.had (commands.files_of (commands.Simulate net.now trace.now)) inputs.old inputs.new }
     ensures counts { CountsOnCommand (I.content inputs.old) (commands.Simulate net.now trace.now) (status_of result)
         steps.old steps.new }
 {
@@ -90,6 +100,9 @@ fn on_checked<I: Inputs, L: Ledger>(
 ) -> Result<Answer, NoMemory>
     ensures reply { IfOk result (λ r. MayReplyTo I.faults I.last_fault (I.content inputs.old)
         (commands.Check net.now run.now) inputs.old inputs.new (reply_of r)) }
+    ensures asked { FetchesUpTo I.asked I.had (commands.files_of (commands.Check net.now run.now)) inputs.old inputs.new }
+    ensures all { StandsOnFiles (status_of result) →
+        FetchesAll I.asked I.had (commands.files_of (commands.Check net.now run.now)) inputs.old inputs.new }
     ensures counts { CountsOnCommand (I.content inputs.old) (commands.Check net.now run.now) (status_of result)
         steps.old steps.new }
 {
@@ -126,6 +139,11 @@ fn on_measured<I: Inputs, L: Ledger>(
     requires { zero_q ≤ℚ rate }
     ensures reply { IfOk result (λ r. MayReplyTo I.faults I.last_fault (I.content inputs.old)
         (commands.Measure net.now trace.now name.now rate) inputs.old inputs.new (reply_of r)) }
+    ensures asked { FetchesUpTo I.asked I.had (commands.files_of (commands.Measure net.now trace.now name.now rate))
+        inputs.old inputs.new }
+    ensures all { StandsOnFiles (status_of result) →
+        FetchesAll I.asked I.had (commands.files_of (commands.Measure net.now trace.now name.now rate))
+        inputs.old inputs.new }
     ensures counts { CountsOnCommand (I.content inputs.old) (commands.Measure net.now trace.now name.now rate)
         (status_of result) steps.old steps.new }
 {
@@ -143,6 +161,9 @@ fn on_curves<I: Inputs, L: Ledger>(
 ) -> Result<Answer, NoMemory>
     ensures reply { IfOk result (λ r. MayReplyTo I.faults I.last_fault (I.content inputs.old)
         (commands.Curve script.now) inputs.old inputs.new (reply_of r)) }
+    ensures asked { FetchesUpTo I.asked I.had (commands.files_of (commands.Curve script.now)) inputs.old inputs.new }
+    ensures all { StandsOnFiles (status_of result) →
+        FetchesAll I.asked I.had (commands.files_of (commands.Curve script.now)) inputs.old inputs.new }
     ensures counts { CountsOnCommand (I.content inputs.old) (commands.Curve script.now) (status_of result)
         steps.old steps.new }
 {
@@ -162,6 +183,9 @@ pub(crate) fn answer_to<I: Inputs, L: Ledger>(
     requires rate { commands.HasRate (command_view command) }
     ensures reply { IfOk result (λ r. MayReplyTo I.faults I.last_fault (I.content inputs.old)
         (command_view command.entry) inputs.old inputs.new (reply_of r)) }
+    ensures asked { FetchesUpTo I.asked I.had (commands.files_of (command_view command.entry)) inputs.old inputs.new }
+    ensures all { StandsOnFiles (status_of result) →
+        FetchesAll I.asked I.had (commands.files_of (command_view command.entry)) inputs.old inputs.new }
     ensures counts { CountsOnCommand (I.content inputs.old) (command_view command.entry) (status_of result)
         steps.old steps.new }
 {

@@ -1,6 +1,7 @@
 //! The files of a command, fetched in order.
 
-ghost use Rattle.std.specs.Prelude.{◌≡◌, ◌≤◌, [], ◌∷◌, List, ℕ, length, IfOk, IfErr};
+ghost use Rattle.std.specs.Prelude.{◌≡◌, ◌≤◌, ◌++◌, [], ◌∷◌, List, ℕ, length, IfOk, IfErr, OnOk, OnErr};
+ghost use Rattle.outside.specs.Fetching.{FetchesAll, FetchesUpTo};
 ghost use Rattle.commands.specs.command_replies.specs.View.{reply_of};
 ghost use Rattle.netcalc_cli.specs.Files.{most_bytes, MayHold, MayHoldAll, AllFit, FirstIs};
 ghost use Rattle.netcalc_cli.specs.Reply.{EndsAt};
@@ -25,6 +26,9 @@ pub(crate) fn fetch_one<I: Inputs>(
     ensures fits { IfOk result (λ bytes. length bytes.items ≤ most_bytes) }
     ensures ended { IfErr result (λ ended. IfOk ended (λ r.
         EndsAt I.faults I.last_fault (I.content inputs.old) inputs.old inputs.new (reply_of r) file.now)) }
+    ensures asked { I.asked inputs.new ≡ I.asked inputs.old ++ file.now ∷ [] }
+    ensures all { OnOk result (FetchesAll I.asked I.had (file.now ∷ []) inputs.old inputs.new) }
+    ensures not_had { OnErr result (I.had inputs.new ≡ I.had inputs.old) }
     ensures count { I.faults inputs.old ≤ I.faults inputs.new }
     ensures same { (other : List ℕ) → I.content inputs.new other ≡ I.content inputs.old other }
 {
@@ -49,6 +53,9 @@ fn fetch_after<I: Inputs>(
     ensures fits { IfOk result (λ files. length files.1.items ≤ most_bytes) }
     ensures ended { IfErr result (λ ended. IfOk ended (λ r.
         EndsAt I.faults I.last_fault (I.content inputs.old) inputs.old inputs.new (reply_of r) file.now)) }
+    ensures asked { I.asked inputs.new ≡ I.asked inputs.old ++ file.now ∷ [] }
+    ensures all { OnOk result (FetchesAll I.asked I.had (file.now ∷ []) inputs.old inputs.new) }
+    ensures not_had { OnErr result (I.had inputs.new ≡ I.had inputs.old) }
 {
     match fetch_one(alloc, file, inputs) {
         Ok(bytes) => Ok((before, bytes)),
@@ -69,6 +76,8 @@ pub(crate) fn fetch_two<I: Inputs>(
     ensures ended { IfErr result (λ ended. IfOk ended (λ r. FirstIs (I.content inputs.old)
         (EndsAt I.faults I.last_fault (I.content inputs.old) inputs.old inputs.new (reply_of r))
         (first.now ∷ second.now ∷ []))) }
+    ensures asked { FetchesUpTo I.asked I.had (first.now ∷ second.now ∷ []) inputs.old inputs.new }
+    ensures all { OnOk result (FetchesAll I.asked I.had (first.now ∷ second.now ∷ []) inputs.old inputs.new) }
 {
     match fetch_one(alloc, first, inputs) {
         Ok(bytes) => fetch_after(alloc, bytes, second, inputs),

@@ -1,13 +1,15 @@
 //! The top call.
 
 ghost use Rattle.std.specs.Prelude.{◌≡◌, ◌≢◌, ◌⊎◌, None, IfSome};
+ghost use Rattle.outside.specs.Fetching.{FetchesAll, FetchesUpTo};
+ghost use Rattle.outside.specs.Written.{output};
 ghost use Rattle.upp_limits.specs.declared.own_limits.OverLimit.TheVariants as limits;
 ghost use Rattle.commands.specs.command_replies.specs.Replies.{Reply, usage, cannot_read, too_long};
 ghost use Rattle.commands.specs.command_replies.specs.View.{code_of};
-ghost use Rattle.netcalc_cli.specs.Commands.{files_of, IsMalformed, IsOver, IsCyclic, TellsBreach, IsDone};
+ghost use Rattle.netcalc_cli.specs.Commands.{files_of, names_of, IsMalformed, IsOver, IsCyclic, TellsBreach, IsDone};
 ghost use Rattle.netcalc_cli.specs.Counts.{Counts};
 ghost use Rattle.netcalc_cli.specs.Files.{IsTooLong, FirstIs};
-ghost use Rattle.netcalc_cli.specs.Reply.{commands, MayReply, FailedAt};
+ghost use Rattle.netcalc_cli.specs.Reply.{commands, StandsOnFiles, MayReply, FailedAt};
 ghost use Rattle.netcalc_cli.specs.Reply.{Gives, GivesOnTold, AnswersWhatItCan, Brings, FailsToGive};
 ghost use Rattle.netcalc_cli.specs.Words.{texts, command_of};
 
@@ -26,9 +28,9 @@ const USAGE: &str = "netcalc: usage: \
 fn give<K: Sink>(out: &mut K, status: Status, text: &[u8]) -> u8
     requires { code_of status ≢ 4 }
     ensures given { let reply : Reply = record { status = code_of status; bytes = text.now } in
-        result ≢ 4 → Gives result (K.written out.old) (K.written out.new) reply }
+        result ≢ 4 → Gives result (output K.written K.puts out.old) (output K.written K.puts out.new) reply }
     ensures failed { let reply : Reply = record { status = code_of status; bytes = text.now } in
-        result ≡ 4 → FailsToGive K.faults K.written out.old out.new reply }
+        result ≡ 4 → FailsToGive K.faults K.written K.puts out.old out.new reply }
 {
     match out.put(text) {
         Ok(()) => status.code(),
@@ -60,38 +62,38 @@ pub fn run<I: Inputs, K: Sink, L: Ledger>(
     // 2 exactly where the words are not taken; or 4, where the usage line is not written.
     ensures usage { result ≡ 2 → command_of (texts words.now) ≡ None }
     ensures not_taken { command_of (texts words.now) ≡ None →
-        Gives result (K.written out.old) (K.written out.new) (usage commands) ⊎ (result ≡ 4) }
+        Gives result (output K.written K.puts out.old) (output K.written K.puts out.new) (usage commands) ⊎ (result ≡ 4) }
 
     // 3 only where the inputs failed in this call, and last at the file that the line names; those before it may fit.
     ensures read_fault { result ≡ 3 → IfSome (command_of (texts words.now)) (λ command.
         FirstIs (I.content inputs.old) (λ file. FailedAt I.faults I.last_fault file inputs.old inputs.new
-        × Gives result (K.written out.old) (K.written out.new) (cannot_read file)) (files_of command)) }
+        × Gives result (output K.written K.puts out.old) (output K.written K.puts out.new) (cannot_read file)) (files_of command)) }
 
     // 1 only where a file, the first that does not fit, has more bytes than a file may have, or the files break a rule,
     // the first of which the line names, or no live flow has the name, which the line tells.
     ensures malformed { result ≡ 1 → IfSome (command_of (texts words.now)) (λ command.
         FirstIs (I.content inputs.old) (λ file. IsTooLong (I.content inputs.old file)
-        × Gives result (K.written out.old) (K.written out.new) (too_long file)) (files_of command)
-        ⊎ Brings IsMalformed (I.content inputs.old) command result (K.written out.old) (K.written out.new)) }
+        × Gives result (output K.written K.puts out.old) (output K.written K.puts out.new) (too_long file)) (files_of command)
+        ⊎ Brings IsMalformed (I.content inputs.old) command result (output K.written K.puts out.old) (output K.written K.puts out.new)) }
 
     // 7 only where the first that is over a limit has too many pieces: of the curves of a network's file, or else of its
     // cells, or of `measure` else the flow's packets, or else their burst; of a workload's cells; of the curves,
     // operators and values of a script. The line names it.
     ensures too_many { result ≡ 7 → IfSome (command_of (texts words.now)) (λ command.
-        Brings (IsOver limits.TooMany) (I.content inputs.old) command result (K.written out.old) (K.written out.new)) }
+        Brings (IsOver limits.TooMany) (I.content inputs.old) command result (output K.written K.puts out.old) (output K.written K.puts out.new)) }
 
     // 6 only where that first one has too wide numbers; or none is over a limit but the simulation, or the recorded run.
     ensures too_wide { result ≡ 6 → IfSome (command_of (texts words.now)) (λ command.
-        Brings (IsOver limits.TooWide) (I.content inputs.old) command result (K.written out.old) (K.written out.new)) }
+        Brings (IsOver limits.TooWide) (I.content inputs.old) command result (output K.written K.puts out.old) (output K.written K.puts out.new)) }
 
     // 8 only where the network of the file has a cycle, which the line tells.
     ensures cycle { result ≡ 8 → IfSome (command_of (texts words.now)) (λ command.
-        Brings IsCyclic (I.content inputs.old) command result (K.written out.old) (K.written out.new)) }
+        Brings IsCyclic (I.content inputs.old) command result (output K.written K.puts out.old) (output K.written K.puts out.new)) }
 
     // 9 only where the run of `simulate` or `exercise` breaks a premise, or that of `check` a law or a premise; the whole
     // report is written, and its table is kept by every run of the network that keeps the premises.
     ensures breach { result ≡ 9 → IfSome (command_of (texts words.now)) (λ command.
-        Brings TellsBreach (I.content inputs.old) command result (K.written out.old) (K.written out.new)) }
+        Brings TellsBreach (I.content inputs.old) command result (output K.written K.puts out.old) (output K.written K.puts out.new)) }
 
     // 0 only where what was asked for is written. Of `analyse`: the file gives a network whose cells have their
     // answers in a table that meets the equations, and the report, line by line or as JSON, has the numbers of the
@@ -105,19 +107,20 @@ pub fn run<I: Inputs, K: Sink, L: Ledger>(
     // keep it, and each curve that they keep is at least it; and they keep the bucket of the burst and the rate, and
     // no bucket of this rate with a smaller burst. Of `curve`: the answers that the script finds and means.
     ensures done { result ≡ 0 → IfSome (command_of (texts words.now)) (λ command.
-        Brings IsDone (I.content inputs.old) command result (K.written out.old) (K.written out.new)) }
+        Brings IsDone (I.content inputs.old) command result (output K.written K.puts out.old) (output K.written K.puts out.new)) }
 
-    // 4 only where the sink failed in this call; a front of a reply's bytes is written.
+    // 4 only where the sink failed in this call; there was one put, of a reply's bytes, a front of which is written.
     ensures write_fault { result ≡ 4 → (reply : Reply)
         × MayReply I.content I.faults I.last_fault (command_of (texts words.now)) inputs.old inputs.new reply
-        × FailsToGive K.faults K.written out.old out.new reply }
+        × FailsToGive K.faults K.written K.puts out.old out.new reply }
 
-    // 5: nothing is written.
+    // 5: nothing is written, and there is no put.
     ensures no_memory { result ≡ 5 → K.written out.new ≡ K.written out.old }
+    ensures no_put { result ≡ 5 → K.puts out.new ≡ K.puts out.old }
 
     // Where it is told what the files hold, 3, 4 and 5 are the only other answers than the one on that.
     ensures told { IfSome (command_of (texts words.now)) (λ command.
-        GivesOnTold command (I.content inputs.old) result (K.written out.old) (K.written out.new)) }
+        GivesOnTold command (I.content inputs.old) result (output K.written K.puts out.old) (output K.written K.puts out.new)) }
 
     // So 0, or of `simulate`, `exercise` and `check` 0 or 9, is the only other one where the files hold what can be
     // answered: a network without a cycle, no curve and no cell of which is over a limit, of `edit` with a list without
@@ -129,10 +132,17 @@ pub fn run<I: Inputs, K: Sink, L: Ledger>(
     ensures complete { IfSome (command_of (texts words.now)) (λ command.
         AnswersWhatItCan command (I.content inputs.old) result) }
 
-    // Every answer but 4 and 5 is the status of a reply that words and inputs may bring, whose bytes are written.
+    // Every answer but 4 and 5 is the status of a reply that words and inputs may bring; there was one put, of its bytes,
+    // which are written.
     ensures answers { result ≢ 4 → result ≢ 5 → (reply : Reply)
         × MayReply I.content I.faults I.last_fault (command_of (texts words.now)) inputs.old inputs.new reply
-        × Gives result (K.written out.old) (K.written out.new) reply }
+        × Gives result (output K.written K.puts out.old) (output K.written K.puts out.new) reply }
+
+    // Only the files that the words name are asked for, in their order, each once, and none behind one that is not had:
+    // for words that are not taken, and for `exercise`, none; all are had for an answer on what they hold.
+    ensures asked { FetchesUpTo I.asked I.had (names_of (command_of (texts words.now))) inputs.old inputs.new }
+    ensures asked_all { StandsOnFiles result →
+        FetchesAll I.asked I.had (names_of (command_of (texts words.now))) inputs.old inputs.new }
 
     // Of `analyse` and `simulate` no more steps than the operators of the folds of the file's closures, and after
     // these the work of all cells; where the report is written, exactly that work. Of `edit` beside these no more

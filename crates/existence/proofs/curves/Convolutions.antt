@@ -12,6 +12,7 @@ use Rattle.upp_limits.specs.upp_curve.specs.Unrolled.{unroll}
 use Rattle.upp_limits.specs.declared.op_kind.OpKind.TheVariants.{Convolve}
 use Rattle.upp_limits.specs.declared.op_kind.OpFault.TheVariants.{TooMany, TooWide}
 use Rattle.upp_limits.specs.Gauges.{gauge_at, tally_at}
+use Rattle.upp_limits.specs.Outcome.{IsWithin}
 use Rattle.upp_limits.specs.Sized.{grid_of}
 use Rattle.upp_limits.specs.Windows.{window_at}
 use Rattle.plain_operators.specs.curve_call.specs.declared.frame.Frame.{Frame}
@@ -32,7 +33,7 @@ use Rattle.element_envelope.proofs.FoundEnvelopes.{convolution_of}
 use Rattle.existence.proofs.curves.ConvolutionNumbers.{slower_found}
 
 -- ---- within both limits
-slower_rise : (f g : SpecCurve) (d : ℚ) → (rise : ℚ) × RisesBy (rate g <ₑ rate f) (rise_over g d) (rise_over f d) rise
+pub slower_rise : (f g : SpecCurve) (d : ℚ) → (rise : ℚ) × RisesBy (rate g <ₑ rate f) (rise_over g d) (rise_over f d) rise
 slower_rise f g d = elim (slower_or_not (rate g) (rate f)) [
   | inl l ↦ (rise_over g d, record { so = λ h. refl; else = λ n. absurd (n l) })
   | inr n ↦ (rise_over f d, record { so = λ h. absurd (n h); else = λ h. refl })
@@ -105,3 +106,36 @@ convolution_answered f g F G = elim (cases_lt (gauge_at Convolve f g 0 0) (2 ^ 1
       let (r, h) = slower_found f g from w.period w.end (parts_call f g w from (F, G) W refl) in
       by_number f g w from r (F, G) W refl h
 ]
+
+-- ---- the frame of a call that is within both limits
+module _ (f g : SpecCurve) (F : IsCurve f) (G : IsCurve g) (within : IsWithin Convolve f g) where
+  abbrev HasFrame : Type 0
+  HasFrame = (r : Frame) × IsConvolveFrame f g r
+
+  frame_with : (w : CallWindow) (from : ℚ) (k : ℕ) → IsFirstWindow Convolve f g w → from ≡ w.end -ℚ w.period → IsSlowerNumber f g from w.period k
+      → HasFrame
+  frame_with w from k W e N = elim (cases_lt (gauge_at Convolve f g k 0) (2 ^ 120)) [
+    | inr wide ↦ absurd (within.narrow (refused_by f g w from k TooWide (F, G) W e N wide))
+    | inl small ↦ elim (cases_lt (2 ^ 20) (tally_at Convolve f g k 0)) [
+      | inl many ↦ absurd (within.few (refused_by f g w from k TooMany (F, G) W e N (small, many)))
+      | inr few ↦
+          let r = frame_of f g k in
+          (r, frame_by f g w from k r (F, G) W e N (is_frame f g k F G small few))
+    ]
+  ]
+
+  frame_number : (w : CallWindow) (from : ℚ) (r : Option ℕ) → IsFirstWindow Convolve f g w → from ≡ w.end -ℚ w.period
+      → MatchOption r ((k : ℕ) → ¬ (IsSlowerAfter f g from w.period k)) (IsSlowerNumber f g from w.period) → HasFrame
+  frame_number w from None W e h = absurd (within.narrow (none_wide f g w from (F, G) W e h))
+  frame_number w from (Some k) W e h = frame_with w from k W e h
+
+  pub convolve_frame : (r : Frame) × IsConvolveFrame f g r
+  convolve_frame = elim (cases_lt (gauge_at Convolve f g 0 0) (2 ^ 120)) [
+    | inr wide ↦ absurd (within.narrow (wide_first f g TooWide (F, G) wide))
+    | inl small ↦
+        let w = first_window f g in
+        let W = is_first f g small in
+        let from = w.end -ℚ w.period in
+        let (r, h) = slower_found f g from w.period w.end (parts_call f g w from (F, G) W refl) in
+        frame_number w from r W refl h
+  ]

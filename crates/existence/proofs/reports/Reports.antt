@@ -1,5 +1,5 @@
 -- The curves of a network that a file gives are in normal form and readable, and so the file has a report.
-use Rattle.std.specs.Prelude.{◌≡◌, ℕ, length, List, Option, Some, None, Bool, true, false, Ok, All, slice_get}
+use Rattle.std.specs.Prelude.{◌≡◌, ℕ, length, map, List, [], ◌∷◌, Option, Some, None, Bool, true, false, Ok, All, slice_get}
 use Rattle.std.proofs.Common.{refl, sym, ◌∙◌, subst, inl, inr}
 use Rattle.std.proofs.lemmas.Bool.{cases_lt}
 use Rattle.std.proofs.lemmas.List.Elements.{All-contains}
@@ -8,19 +8,35 @@ use Rattle.std.proofs.lemmas.Option.{slice_get_within, get_or_from_slice_get}
 use Rattle.upp_limits.specs.upp_curve.specs.Curve.{SpecCurve}
 use Rattle.upp_limits.specs.upp_curve.specs.Curves.{IsCurve}
 use Rattle.net_model.specs.Networks.{Net, NetServer, NetFlow}
+use Rattle.net_draft.specs.Drafts.{draft_of}
+use Rattle.net_draft.specs.Faults.{Fault}
 use Rattle.net_draft.specs.Texts.{FlowText, CurveText, DraftText}
-use Rattle.net_text.specs.Becoming.{Becomes}
+use Rattle.net_text.specs.Becoming.{Becomes, limit_fault}
 use Rattle.net_text.specs.Built.{IsServerOf, IsLiveFlowOf, IsBuilt}
+use Rattle.net_text.specs.Firsts.{PlacedCurve, FirstCurveOver, curves_of}
 use Rattle.net_text.specs.FoldLimits.{OverFold}
 use Rattle.net_text.proofs.Zips.{zip_all}
 use Rattle.report_text.specs.net_cells.specs.Numbered.{service_of, arrival_of, flow_at}
 use Rattle.report_text.specs.net_cells.proofs.Tables.{answers_meet}
 use Rattle.net_bounds.proofs.Kept.{table_bounds_every_run}
-use Rattle.commands.specs.analyse.OnFiles.{report}
+use Rattle.net_model.specs.Orders.{IsOrder}
+use Rattle.net_model.proofs.net_graph.Existing.{order_or_round}
+use Rattle.report_text.specs.net_cells.specs.declared.cell.Cell.{Cell}
+use Rattle.report_text.specs.net_cells.specs.FirstOver.{FirstOver}
+use Rattle.report_text.specs.CellWords.{server_name, cell_words}
+use Rattle.report_text.specs.declared.json_report.form.Form.{Form}
+use Rattle.upp_limits.specs.declared.op_kind.OpFault.{OpFault}
+use Rattle.upp_limits.specs.declared.op_kind.OpFault.TheVariants.{TooMany, TooWide, NoMemory}
+use Rattle.upp_limits.specs.declared.own_limits.OverLimit.{OverLimit}
+use Rattle.upp_limits.specs.declared.own_limits.OverLimit.TheVariants as limits
+use Rattle.commands.specs.command_replies.specs.Replies.{Reply, breaks_rule, goes_round, curve_over, cell_over}
+use Rattle.commands.specs.command_replies.specs.OnFiles.{IsNetOf}
+use Rattle.commands.specs.analyse.OnFiles.{report, IsReplyOn, Broken, CurveOver, Cyclic, CellOver, Reported}
 use Rattle.run_watch.specs.simulated_sizes.Laws.{AreCurves}
 use Rattle.existence.proofs.tables.Sound.{zero_is}
 use Rattle.existence.proofs.tables.Tables.{tables_or_limits}
-use Rattle.existence.specs.reports.Laws.{FilesHaveReports}
+use Rattle.existence.specs.drafts.Drafts.{HasNetworkOrFault}
+use Rattle.existence.specs.reports.Laws.{FilesHaveReports, HaveReplies, NetworksHaveReplies, BrokenFilesHaveReplies}
 
 abbrev LiveCurve : Option NetFlow → Type 0
 LiveCurve o = IsCurve (arrival_of o)
@@ -71,3 +87,65 @@ files_have form bytes net order g o never =
           )
       | inr (c, fault, first) ↦ absurd (never c fault first)
     ]
+
+-- ---- a reply
+-- on the first cell over a limit
+over_limit : (form : Form) (file bytes : List ℕ) (net : Net) (order : List ℕ) → IsNetOf bytes net → IsOrder net order → (c : Cell) (fault : OpFault)
+    → FirstOver net order c fault → (reply : Reply) × IsReplyOn form file bytes reply
+over_limit form file bytes net order g o c TooWide first = (
+  cell_over limits.TooWide (cell_words net c),
+  CellOver limits.TooWide record { net = net; gives = g; order = order; ordered = o; cell = c; first = first; is = refl },
+)
+over_limit form file bytes net order g o c TooMany first = (
+  cell_over limits.TooMany (cell_words net c),
+  CellOver limits.TooMany record { net = net; gives = g; order = order; ordered = o; cell = c; first = first; is = refl },
+)
+over_limit form file bytes net order g o c NoMemory first = absurd (first.limit refl)
+
+in_order : (form : Form) (file bytes : List ℕ) (net : Net) (order : List ℕ) → IsNetOf bytes net → IsOrder net order
+    → (reply : Reply) × IsReplyOn form file bytes reply
+in_order form file bytes net order g o =
+    elim (tables_or_limits net order g.accepted (are_curves g.reads.draft net g.reads.built) o) [
+      | inl (at, all) ↦
+          let m = answers_meet net order at g.accepted o all in
+          (report form net at, Reported (net, at, record { gives = g; order = order; ordered = o; answers = all; meets = m; is = refl }))
+      | inr (c, fault, first) ↦ over_limit form file bytes net order g o c fault first
+    ]
+
+pub networks_have_replies : NetworksHaveReplies
+networks_have_replies net form file bytes g = elim (order_or_round net g.accepted) [
+  | inl o ↦ in_order form file bytes net o.0 g o.1
+  | inr c ↦ (goes_round (map (server_name net) c.0), Cyclic record { net = net; gives = g; walk = c.0; cycle = c.1; is = refl })
+]
+
+-- ---- by a draft
+-- the first of some curves over a limit is over one, at a place
+limit_of : (es : List PlacedCurve) (f : Fault) → FirstCurveOver OverFold es f
+    → (limit : OverLimit) × (place : List ℕ) × (f ≡ limit_fault limit place)
+limit_of [] f h = absurd h
+limit_of (e ∷ es) f (inl here) = (here.limit, e.place, here.is)
+limit_of (e ∷ es) f (inr later) = limit_of es f later.1
+
+on_fault : (form : Form) (file bytes : List ℕ) (d : DraftText) (f : Fault) → draft_of bytes ≡ Ok d → FirstCurveOver OverFold (curves_of d) f
+    → (reply : Reply) × IsReplyOn form file bytes reply
+on_fault form file bytes d f is first =
+    let (limit, place, named) = limit_of (curves_of d) f first in (
+      curve_over limit place,
+      CurveOver limit record {
+        place = place;
+        first = record { draft = d; is_draft = is; first = subst (FirstCurveOver OverFold (curves_of d)) named first };
+        is = refl;
+      },
+    )
+
+pub drafts_have : (d : DraftText) → HasNetworkOrFault d → HaveReplies (λ bytes. draft_of bytes ≡ Ok d)
+drafts_have d h form file bytes is = elim h [
+  | inl n ↦ networks_have_replies n.net form file bytes record {
+    reads = record { draft = d; is_draft = is; built = n.built };
+    accepted = n.accepted;
+  }
+  | inr over ↦ on_fault form file bytes d over.0 is over.1
+]
+
+pub broken_have : BrokenFilesHaveReplies
+broken_have fault form file bytes is = (breaks_rule file fault, Broken record { fault = fault; first = is; is = refl })

@@ -2,7 +2,7 @@ use Rattle.std.proofs.Common.{[], ◌∷◌, inl, inr, refl}
 use Rattle.std.proofs.lemmas.Result.{IfOk-weaker}
 use Rattle.commands.specs.command_replies.specs.View.{reply_of}
 use Rattle.netcalc_cli.specs.Commands.{Check}
-use Rattle.netcalc_cli.proofs.Replies.{ends, answers, no_answer_in}
+use Rattle.netcalc_cli.proofs.Replies.{ends, answers, no_answer_in, not_in_files}
 use Rattle.netcalc_cli.proofs.answering.on_checked.Goals as goal
 
 pub returns-in-Ok-clause-reply : goal.returns-in-Ok-clause-reply
@@ -35,3 +35,11 @@ returns-in-Err-clause-counts g c =
     (Check c.args.net.now c.args.run.now) c.args.inputs.now c.fetch_two.new.inputs
     (c.args.net.now ∷ c.args.run.now ∷ []) c.in-Err.ended c.in-Err.ensures.ended in
     inl (other, refl)
+
+pub returns-in-Ok-clause-all : goal.returns-in-Ok-clause-all
+returns-in-Ok-clause-all g c on = c.in-Ok.ensures.all
+
+pub returns-in-Err-clause-all : goal.returns-in-Err-clause-all
+returns-in-Err-clause-all g c on =
+    absurd (not_in_files g.I.Inputs.faults g.I.Inputs.last_fault (g.I.Inputs.content c.args.inputs.now) c.args.inputs.now
+    c.fetch_two.new.inputs (c.args.net.now ∷ c.args.run.now ∷ []) c.in-Err.ended c.in-Err.ensures.ended on)

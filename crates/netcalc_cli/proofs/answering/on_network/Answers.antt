@@ -1,8 +1,9 @@
 use Rattle.std.proofs.Common.{[], ◌∷◌, inl, inr, refl}
 use Rattle.std.proofs.lemmas.Result.{IfOk-weaker}
+use Rattle.outside.proofs.Fetches.{up_to_end, stops_at_first}
 use Rattle.commands.specs.command_replies.specs.View.{reply_of}
 use Rattle.netcalc_cli.specs.Commands.{Analyse}
-use Rattle.netcalc_cli.proofs.Replies.{ends, answers, no_answer_at}
+use Rattle.netcalc_cli.proofs.Replies.{ends, answers, no_answer_at, not_at_file}
 use Rattle.netcalc_cli.proofs.answering.on_network.Goals as goal
 
 pub returns-in-Ok-clause-reply : goal.returns-in-Ok-clause-reply
@@ -34,3 +35,21 @@ returns-in-Err-clause-counts g c =
     let other = no_answer_at g.I.Inputs.faults g.I.Inputs.last_fault (g.I.Inputs.content c.args.inputs.now)
     (Analyse c.args.form c.args.net.now) c.args.inputs.now c.fetch_one.new.inputs c.args.net.now c.in-Err.ended c.in-Err.ensures.ended in
     inl (other, refl)
+
+pub returns-in-Ok-clause-asked : goal.returns-in-Ok-clause-asked
+returns-in-Ok-clause-asked g c =
+    up_to_end g.I.Inputs.asked g.I.Inputs.had (c.args.net.now ∷ []) c.args.inputs.now c.fetch_one.new.inputs
+    c.in-Ok.ensures.all
+
+pub returns-in-Ok-clause-all : goal.returns-in-Ok-clause-all
+returns-in-Ok-clause-all g c on = c.in-Ok.ensures.all
+
+pub returns-in-Err-clause-asked : goal.returns-in-Err-clause-asked
+returns-in-Err-clause-asked g c =
+    stops_at_first g.I.Inputs.asked g.I.Inputs.had c.args.net.now [] c.args.inputs.now c.fetch_one.new.inputs
+    c.fetch_one.ensures.asked c.in-Err.ensures.not_had
+
+pub returns-in-Err-clause-all : goal.returns-in-Err-clause-all
+returns-in-Err-clause-all g c on =
+    absurd (not_at_file g.I.Inputs.faults g.I.Inputs.last_fault (g.I.Inputs.content c.args.inputs.now) c.args.inputs.now
+    c.fetch_one.new.inputs c.args.net.now c.in-Err.ended c.in-Err.ensures.ended on)

@@ -1,12 +1,15 @@
 use Rattle.std.proofs.Common.{◌≡◌, false, true, refl, sym, ap, ◌∙◌}
 use Rattle.std.specs.Prelude.{is_some}
+use Rattle.outside.specs.Written.{output}
+use Rattle.outside.proofs.Fetches.{asks_none}
 use Rattle.commands.specs.command_replies.specs.Replies.{usage}
 use Rattle.commands.specs.command_replies.specs.View.{reply_of}
+use Rattle.netcalc_cli.specs.Commands.{names_of}
 use Rattle.netcalc_cli.specs.Reply.{commands}
 use Rattle.netcalc_cli.specs.View.{command_view}
 use Rattle.netcalc_cli.specs.Words.{texts, command_of}
 use Rattle.netcalc_cli.proofs.NoWrite.{none_is_a_write_fault}
-use Rattle.netcalc_cli.proofs.Replies.{brought, told_given, answers_what_it_can, counts_at}
+use Rattle.netcalc_cli.proofs.Replies.{not_for_usage, not_for_memory, stands_given, brought, told_given, answers_what_it_can, counts_at}
 use Rattle.netcalc_cli.proofs.Replies.{nothing_counted, nothing_told, nothing_answered}
 use Rattle.netcalc_cli.proofs.top_call.run.Goals as goal
 
@@ -21,7 +24,7 @@ returns-in-Ok-answer_to-clause-read_fault g c is =
     let given = c.give-in-Ok-answer_to.ensures.given (λ four. cc) in
     let all = brought g.I.Inputs.faults g.I.Inputs.last_fault (g.I.Inputs.content c.args.inputs.now)
     (command_view c.in-Ok.command) c.args.inputs.now c.answer_to.new.inputs (reply_of c.in-Ok-answer_to.answer)
-    c.give-in-Ok-answer_to.result (g.K.Sink.written c.args.out.now) (g.K.Sink.written c.give-in-Ok-answer_to.new.out)
+    c.give-in-Ok-answer_to.result (output g.K.Sink.written g.K.Sink.puts c.args.out.now) (output g.K.Sink.written g.K.Sink.puts c.give-in-Ok-answer_to.new.out)
     c.in-Ok-answer_to.ensures.reply (given.0, rw c.deref.ensures.value at given.1) in
     rw (← c.in-Ok.ensures.command) (all.read_fault is)
 
@@ -30,7 +33,7 @@ returns-in-Ok-answer_to-clause-malformed g c is =
     let given = c.give-in-Ok-answer_to.ensures.given (λ four. cc) in
     let all = brought g.I.Inputs.faults g.I.Inputs.last_fault (g.I.Inputs.content c.args.inputs.now)
     (command_view c.in-Ok.command) c.args.inputs.now c.answer_to.new.inputs (reply_of c.in-Ok-answer_to.answer)
-    c.give-in-Ok-answer_to.result (g.K.Sink.written c.args.out.now) (g.K.Sink.written c.give-in-Ok-answer_to.new.out)
+    c.give-in-Ok-answer_to.result (output g.K.Sink.written g.K.Sink.puts c.args.out.now) (output g.K.Sink.written g.K.Sink.puts c.give-in-Ok-answer_to.new.out)
     c.in-Ok-answer_to.ensures.reply (given.0, rw c.deref.ensures.value at given.1) in
     rw (← c.in-Ok.ensures.command) (all.malformed is)
 
@@ -39,7 +42,7 @@ returns-in-Ok-answer_to-clause-too_many g c is =
     let given = c.give-in-Ok-answer_to.ensures.given (λ four. cc) in
     let all = brought g.I.Inputs.faults g.I.Inputs.last_fault (g.I.Inputs.content c.args.inputs.now)
     (command_view c.in-Ok.command) c.args.inputs.now c.answer_to.new.inputs (reply_of c.in-Ok-answer_to.answer)
-    c.give-in-Ok-answer_to.result (g.K.Sink.written c.args.out.now) (g.K.Sink.written c.give-in-Ok-answer_to.new.out)
+    c.give-in-Ok-answer_to.result (output g.K.Sink.written g.K.Sink.puts c.args.out.now) (output g.K.Sink.written g.K.Sink.puts c.give-in-Ok-answer_to.new.out)
     c.in-Ok-answer_to.ensures.reply (given.0, rw c.deref.ensures.value at given.1) in
     rw (← c.in-Ok.ensures.command) (all.too_many is)
 
@@ -48,7 +51,7 @@ returns-in-Ok-answer_to-clause-too_wide g c is =
     let given = c.give-in-Ok-answer_to.ensures.given (λ four. cc) in
     let all = brought g.I.Inputs.faults g.I.Inputs.last_fault (g.I.Inputs.content c.args.inputs.now)
     (command_view c.in-Ok.command) c.args.inputs.now c.answer_to.new.inputs (reply_of c.in-Ok-answer_to.answer)
-    c.give-in-Ok-answer_to.result (g.K.Sink.written c.args.out.now) (g.K.Sink.written c.give-in-Ok-answer_to.new.out)
+    c.give-in-Ok-answer_to.result (output g.K.Sink.written g.K.Sink.puts c.args.out.now) (output g.K.Sink.written g.K.Sink.puts c.give-in-Ok-answer_to.new.out)
     c.in-Ok-answer_to.ensures.reply (given.0, rw c.deref.ensures.value at given.1) in
     rw (← c.in-Ok.ensures.command) (all.too_wide is)
 
@@ -57,7 +60,7 @@ returns-in-Ok-answer_to-clause-cycle g c is =
     let given = c.give-in-Ok-answer_to.ensures.given (λ four. cc) in
     let all = brought g.I.Inputs.faults g.I.Inputs.last_fault (g.I.Inputs.content c.args.inputs.now)
     (command_view c.in-Ok.command) c.args.inputs.now c.answer_to.new.inputs (reply_of c.in-Ok-answer_to.answer)
-    c.give-in-Ok-answer_to.result (g.K.Sink.written c.args.out.now) (g.K.Sink.written c.give-in-Ok-answer_to.new.out)
+    c.give-in-Ok-answer_to.result (output g.K.Sink.written g.K.Sink.puts c.args.out.now) (output g.K.Sink.written g.K.Sink.puts c.give-in-Ok-answer_to.new.out)
     c.in-Ok-answer_to.ensures.reply (given.0, rw c.deref.ensures.value at given.1) in
     rw (← c.in-Ok.ensures.command) (all.cycle is)
 
@@ -66,7 +69,7 @@ returns-in-Ok-answer_to-clause-breach g c is =
     let given = c.give-in-Ok-answer_to.ensures.given (λ four. cc) in
     let all = brought g.I.Inputs.faults g.I.Inputs.last_fault (g.I.Inputs.content c.args.inputs.now)
     (command_view c.in-Ok.command) c.args.inputs.now c.answer_to.new.inputs (reply_of c.in-Ok-answer_to.answer)
-    c.give-in-Ok-answer_to.result (g.K.Sink.written c.args.out.now) (g.K.Sink.written c.give-in-Ok-answer_to.new.out)
+    c.give-in-Ok-answer_to.result (output g.K.Sink.written g.K.Sink.puts c.args.out.now) (output g.K.Sink.written g.K.Sink.puts c.give-in-Ok-answer_to.new.out)
     c.in-Ok-answer_to.ensures.reply (given.0, rw c.deref.ensures.value at given.1) in
     rw (← c.in-Ok.ensures.command) (all.breach is)
 
@@ -75,7 +78,7 @@ returns-in-Ok-answer_to-clause-done g c is =
     let given = c.give-in-Ok-answer_to.ensures.given (λ four. cc) in
     let all = brought g.I.Inputs.faults g.I.Inputs.last_fault (g.I.Inputs.content c.args.inputs.now)
     (command_view c.in-Ok.command) c.args.inputs.now c.answer_to.new.inputs (reply_of c.in-Ok-answer_to.answer)
-    c.give-in-Ok-answer_to.result (g.K.Sink.written c.args.out.now) (g.K.Sink.written c.give-in-Ok-answer_to.new.out)
+    c.give-in-Ok-answer_to.result (output g.K.Sink.written g.K.Sink.puts c.args.out.now) (output g.K.Sink.written g.K.Sink.puts c.give-in-Ok-answer_to.new.out)
     c.in-Ok-answer_to.ensures.reply (given.0, rw c.deref.ensures.value at given.1) in
     rw (← c.in-Ok.ensures.command) (all.done is)
 
@@ -111,7 +114,7 @@ pub returns-in-Ok-answer_to-clause-told : goal.returns-in-Ok-answer_to-clause-to
 returns-in-Ok-answer_to-clause-told g c =
     let told = told_given g.I.Inputs.faults g.I.Inputs.last_fault (g.I.Inputs.content c.args.inputs.now)
     (command_view c.in-Ok.command) c.args.inputs.now c.answer_to.new.inputs (reply_of c.in-Ok-answer_to.answer)
-    c.give-in-Ok-answer_to.result (g.K.Sink.written c.args.out.now) (g.K.Sink.written c.give-in-Ok-answer_to.new.out) c.in-Ok-answer_to.ensures.reply
+    c.give-in-Ok-answer_to.result (output g.K.Sink.written g.K.Sink.puts c.args.out.now) (output g.K.Sink.written g.K.Sink.puts c.give-in-Ok-answer_to.new.out) c.in-Ok-answer_to.ensures.reply
     (λ other. let given = c.give-in-Ok-answer_to.ensures.given other in (given.0, rw c.deref.ensures.value at given.1)) in
     rw (← c.in-Ok.ensures.command) told
 
@@ -119,8 +122,8 @@ pub returns-in-Ok-answer_to-clause-complete : goal.returns-in-Ok-answer_to-claus
 returns-in-Ok-answer_to-clause-complete g c =
     let command = command_view c.in-Ok.command in
     let content = g.I.Inputs.content c.args.inputs.now in
-    let old = g.K.Sink.written c.args.out.now in
-    let new = g.K.Sink.written c.give-in-Ok-answer_to.new.out in
+    let old = output g.K.Sink.written g.K.Sink.puts c.args.out.now in
+    let new = output g.K.Sink.written g.K.Sink.puts c.give-in-Ok-answer_to.new.out in
     let told = told_given g.I.Inputs.faults g.I.Inputs.last_fault content command
     c.args.inputs.now c.answer_to.new.inputs (reply_of c.in-Ok-answer_to.answer) c.give-in-Ok-answer_to.result
     old new c.in-Ok-answer_to.ensures.reply
@@ -136,7 +139,7 @@ returns-in_default-parsed-clause-not_taken g c none =
 pub returns-in_default-parsed-clause-told : goal.returns-in_default-parsed-clause-told
 returns-in_default-parsed-clause-told g c =
     nothing_told (command_of (texts c.args.words.now)) (g.I.Inputs.content c.args.inputs.now) c.code.result
-    (g.K.Sink.written c.args.out.now) (g.K.Sink.written c.args.out.now) c.code.ensures
+    (output g.K.Sink.written g.K.Sink.puts c.args.out.now) (output g.K.Sink.written g.K.Sink.puts c.args.out.now) c.code.ensures
 
 pub returns-in_default-parsed-clause-complete : goal.returns-in_default-parsed-clause-complete
 returns-in_default-parsed-clause-complete g c =
@@ -151,9 +154,40 @@ returns-in_default-parsed-clause-counts g c =
 pub returns-in-Err-clause-told : goal.returns-in-Err-clause-told
 returns-in-Err-clause-told g c =
     nothing_told (command_of (texts c.args.words.now)) (g.I.Inputs.content c.args.inputs.now) c.code-in-Err.result
-    (g.K.Sink.written c.args.out.now) (g.K.Sink.written c.args.out.now) c.code-in-Err.ensures
+    (output g.K.Sink.written g.K.Sink.puts c.args.out.now) (output g.K.Sink.written g.K.Sink.puts c.args.out.now) c.code-in-Err.ensures
 
 pub returns-in-Err-clause-complete : goal.returns-in-Err-clause-complete
 returns-in-Err-clause-complete g c =
     nothing_answered (command_of (texts c.args.words.now)) (g.I.Inputs.content c.args.inputs.now) c.code-in-Err.result
     c.code-in-Err.ensures
+
+-- the files that are asked for
+pub returns-in_default-clause-asked : goal.returns-in_default-clause-asked
+returns-in_default-clause-asked g c =
+    asks_none g.I.Inputs.asked g.I.Inputs.had (names_of (command_of (texts c.args.words.now))) c.args.inputs.now
+
+pub returns-in_default-clause-asked_all : goal.returns-in_default-clause-asked_all
+returns-in_default-clause-asked_all g c on =
+    absurd (not_for_usage c.give.result (λ other. (c.give.ensures.given other).0) on)
+
+pub returns-in_default-parsed-clause-asked : goal.returns-in_default-parsed-clause-asked
+returns-in_default-parsed-clause-asked g c =
+    asks_none g.I.Inputs.asked g.I.Inputs.had (names_of (command_of (texts c.args.words.now))) c.args.inputs.now
+
+pub returns-in_default-parsed-clause-asked_all : goal.returns-in_default-parsed-clause-asked_all
+returns-in_default-parsed-clause-asked_all g c on = absurd (not_for_memory c.code.result c.code.ensures on)
+
+pub returns-in-Ok-answer_to-clause-asked : goal.returns-in-Ok-answer_to-clause-asked
+returns-in-Ok-answer_to-clause-asked g c = rw (← c.in-Ok.ensures.command) c.answer_to.ensures.asked
+
+pub returns-in-Ok-answer_to-clause-asked_all : goal.returns-in-Ok-answer_to-clause-asked_all
+returns-in-Ok-answer_to-clause-asked_all g c on =
+    rw (← c.in-Ok.ensures.command)
+    (c.in-Ok-answer_to.ensures.all (stands_given (reply_of c.in-Ok-answer_to.answer).status c.give-in-Ok-answer_to.result
+    (λ other. (c.give-in-Ok-answer_to.ensures.given other).0) on))
+
+pub returns-in-Err-clause-asked : goal.returns-in-Err-clause-asked
+returns-in-Err-clause-asked g c = rw (← c.in-Ok.ensures.command) c.answer_to.ensures.asked
+
+pub returns-in-Err-clause-asked_all : goal.returns-in-Err-clause-asked_all
+returns-in-Err-clause-asked_all g c on = absurd (not_for_memory c.code-in-Err.result c.code-in-Err.ensures on)

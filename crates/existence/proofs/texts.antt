@@ -1,0 +1,4 @@
+pub mod Pushed
+pub mod EachTable
+pub mod EachScript
+pub mod EachRun

@@ -1,0 +1,44 @@
+-- Each text that a command reads is what it is read as, or has a first fault; with the laws that it is one of these at most
+-- (`input_texts`, `run_check`), exactly one. Own choice.
+use Rattle.std.specs.Prelude.{◌⊎◌, ℕ, List}
+use Rattle.net_model.specs.Networks.{Net}
+use Rattle.net_model.specs.Traces.{SpecTrace}
+use Rattle.net_model.specs.run_laws.specs.Runs.{SpecRun}
+use Rattle.input_texts.specs.declared.table_text.fault.TableKind.{TableKind}
+use Rattle.input_texts.specs.table_text.Rows.{rows_of}
+use Rattle.input_texts.specs.table_text.Traces.{IsTraceOf, IsFirstFault}
+use Rattle.input_texts.specs.table_text.EditRows.{EditText}
+use Rattle.input_texts.specs.table_text.EditLists.{AreEditsOf, IsFirstEditFault}
+use Rattle.input_texts.specs.declared.curve_script.fault.LangKind.{LangKind}
+use Rattle.input_texts.specs.curve_script.Scripts as scripts
+use Rattle.input_texts.specs.curve_script.Scripts.{Numbered, IsScript}
+use Rattle.run_check.specs.declared.run_table.fault.RunKind.{RunKind}
+use Rattle.run_check.specs.run_table.Runs as runs
+use Rattle.run_check.specs.run_table.Runs.{IsRunOf}
+
+-- a trace of a network
+abbrev pub TracesAreRead : Type 0
+TracesAreRead =
+    (net : Net) (text : List ℕ)
+    → ((trace : SpecTrace) × IsTraceOf net (rows_of text) trace)
+    ⊎ ((kind : TableKind) × (number : ℕ) × IsFirstFault net text kind number)
+
+-- a list of edits
+abbrev pub EditsAreRead : Type 0
+EditsAreRead =
+    (text : List ℕ)
+    → ((edits : List EditText) × AreEditsOf (rows_of text) edits)
+    ⊎ ((kind : TableKind) × (number : ℕ) × IsFirstEditFault text kind number)
+
+-- a recorded run of a network
+abbrev pub RunsAreRead : Type 0
+RunsAreRead =
+    (net : Net) (text : List ℕ)
+    → ((run : SpecRun) × IsRunOf net (rows_of text) run)
+    ⊎ ((kind : RunKind) × (number : ℕ) × runs.IsFirstFault net text kind number)
+
+-- a script of curve expressions
+abbrev pub ScriptsAreRead : Type 0
+ScriptsAreRead =
+    (text : List ℕ)
+    → ((out : List Numbered) × IsScript text out) ⊎ ((kind : LangKind) × (at : ℕ) × scripts.IsFirstFault text kind at)

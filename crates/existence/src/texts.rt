@@ -1,0 +1,5 @@
+//! That each text that a command reads is what it is read as, or has a first fault.
+
+mod laws;
+
+pub use laws::{edits_are_read, runs_are_read, scripts_are_read, traces_are_read};
