@@ -1,25 +1,23 @@
 -- Two refusals of one file are the same, but for the choice among cycles; and what a file with a refusal does not give.
-use Rattle.std.proofs.Common.{◌≡◌, ℕ, List, map, inl, inr, sym, ap, ◌∙◌}
+use Rattle.std.proofs.Common.{◌≡◌, ℕ, List, inl, inr, sym, ap, ◌∙◌}
 use Rattle.upp_limits.specs.LimitTest.{fault_of}
 use Rattle.upp_limits.specs.declared.own_limits.OverLimit.{OverLimit}
 use Rattle.upp_limits.proofs.OneLimit.{same_limit}
 use Rattle.net_model.specs.Accepted.{IsAccepted}
 use Rattle.net_model.specs.Networks.{Net}
 use Rattle.net_model.specs.Orders.{IsOrder}
-use Rattle.net_model.specs.Walks.{IsCycle}
 use Rattle.net_draft.specs.Faults.{Fault}
 use Rattle.net_text.specs.Becoming.{limit_fault}
 use Rattle.net_text.specs.Reading.{IsNetworkOf, FirstFault}
 use Rattle.net_text.specs.FoldLimits.{OverFold}
-use Rattle.report_text.specs.net_cells.specs.declared.cell.Cell.{Cell}
 use Rattle.report_text.specs.net_cells.specs.Meanings.{CellTable}
-use Rattle.report_text.specs.net_cells.specs.FirstOver.{AnswersAll, FirstOver}
+use Rattle.report_text.specs.net_cells.specs.FirstOver.{AnswersAll}
 use Rattle.report_text.specs.net_cells.specs.Order.{evaluation_order}
 use Rattle.report_text.specs.net_cells.proofs.Tables.{one_is_first_over}
-use Rattle.report_text.specs.CellWords.{server_name, cell_words}
-use Rattle.command_replies.specs.Replies.{Reply, AreSame, goes_round, cell_over}
+use Rattle.report_text.specs.CellWords.{cell_words}
+use Rattle.command_replies.specs.Replies.{Reply, AreSame, cell_over}
 use Rattle.command_replies.specs.Faults.{fault_reply}
-use Rattle.command_replies.specs.OnFiles.{IsNoNetwork}
+use Rattle.command_replies.specs.OnFiles.{IsNoNetwork, OnCycle, OnCellOver, IsOver}
 use Rattle.command_replies.proofs.FirstFaults.{says, on_broken, on_limit}
 
 pub equal : (x y : Reply) → x ≡ y → AreSame x y
@@ -50,11 +48,6 @@ pub no_network : (file bytes : List ℕ) (reply : Reply) (net : Net) → OnFault
 no_network file bytes reply net h reads = (says bytes).not_both net h.fault reads h.first
 
 -- ---- a cycle
-pub record OnCycle (net : Net) (reply : Reply) : Type 0 where
-  pub walk : List ℕ
-  pub cycle : IsCycle net walk
-  pub is : reply ≡ goes_round (map (server_name net) walk)
-
 pub one_cycle : (net : Net) (x y : Reply) → OnCycle net x → OnCycle net y → AreSame x y
 one_cycle net x y h k =
     let here : x.status ≡ 8 = ap (λ (r : Reply). r.status) h.is in
@@ -62,23 +55,20 @@ one_cycle net x y h k =
     record { status = here ∙ sym there; bytes = λ other. absurd (other here) }
 
 -- ---- a cell over a limit
-pub record IsOver (net : Net) (order : List ℕ) (reply : Reply) : Type 0 where
-  pub limit : OverLimit
-  pub cell : Cell
-  pub first : FirstOver net order cell (fault_of limit)
-  pub is : reply ≡ cell_over limit (cell_words net cell)
+one_limit : (net : Net) (order : List ℕ) (x y : Reply) (l m : OverLimit) → IsAccepted net → IsOrder net order
+    → OnCellOver l net order x → OnCellOver m net order y → x ≡ y
+one_limit net order x y l m a o h k =
+    let one = one_is_first_over.fault net order h.cell k.cell (fault_of l) (fault_of m) a o h.first k.first in
+    let cell = one_is_first_over.cell net order h.cell k.cell (fault_of l) (fault_of m) a o h.first k.first in
+    h.is ∙ ap (λ n. cell_over n (cell_words net h.cell)) (same_limit l m one)
+    ∙ ap (λ c. cell_over m (cell_words net c)) cell ∙ sym k.is
 
 pub one_over : (net : Net) (order : List ℕ) (x y : Reply) → IsAccepted net → IsOrder net order → IsOver net order x
     → IsOver net order y → x ≡ y
-one_over net order x y a o h k =
-    let limit = same_limit h.limit k.limit
-    (one_is_first_over.fault net order h.cell k.cell (fault_of h.limit) (fault_of k.limit) a o h.first k.first) in
-    let cell =
-    one_is_first_over.cell net order h.cell k.cell (fault_of h.limit) (fault_of k.limit) a o h.first k.first in
-    h.is ∙ ap (λ l. cell_over l (cell_words net h.cell)) limit
-    ∙ ap (λ c. cell_over k.limit (cell_words net c)) cell ∙ sym k.is
+one_over net order x y a o h k = one_limit net order x y h.0 k.0 a o h.1 k.1
 
 -- no table has all answers
 pub no_answers : (net : Net) (order : List ℕ) (x : Reply) (at : CellTable) → IsAccepted net → IsOrder net order
     → IsOver net order x → AnswersAll net at (evaluation_order net order) → ⊥
-no_answers net order x at a o h answers = one_is_first_over.alone net order h.cell (fault_of h.limit) at a o h.first answers
+no_answers net order x at a o h answers =
+    one_is_first_over.alone net order h.1.cell (fault_of h.0) at a o h.1.first answers

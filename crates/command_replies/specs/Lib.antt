@@ -1,6 +1,8 @@
 pub mod Replies
 pub mod View
 pub mod Faults
+pub mod Stages
+pub mod Causes
 pub mod OnFiles
 pub mod CellWork
 pub mod Guarantee

@@ -1,6 +1,4 @@
-pub mod Sorted
 pub mod OneReply
 pub mod Counting
 pub mod Unbounded
-pub mod ByStatus
-pub mod OnNets
+pub mod Causes

@@ -1,6 +1,5 @@
 pub mod Counting
-pub mod Sorted
-pub mod OnReplies
+pub mod OnFaults
 pub mod Causes
 pub mod OneReply
 pub mod Verdicts

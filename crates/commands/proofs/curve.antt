@@ -1,4 +1,4 @@
 pub mod Lines
 pub mod OnFaults
 pub mod OneReply
-pub mod ByStatus
+pub mod Causes

@@ -1,4 +1,3 @@
-pub mod Stages
 pub mod OneMeasure
 pub mod Answering
 pub mod Counting

@@ -1,7 +1,5 @@
 pub mod Named
 pub mod Counting
-pub mod OnNets
-pub mod Sorted
 pub mod OneReply
 pub mod Status
 pub mod OpenServers

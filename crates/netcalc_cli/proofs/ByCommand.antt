@@ -1,16 +1,18 @@
 -- What holds of the replies of each command. A new command has a case in each lemma.
-use Rattle.std.proofs.Common.{◌≡◌, ◌≢◌, ℕ, List, [], ◌∷◌, inl, inr, sym, ap, ◌∙◌, arith}
+use Rattle.std.proofs.Common.{◌≡◌, ◌≢◌, ℕ, List, [], ◌∷◌, inl, inr, sym, ap, ◌∙◌}
 use Rattle.upp_limits.specs.declared.own_limits.OverLimit.TheVariants.{TooMany, TooWide}
 use Rattle.net_model.specs.Networks.{Net}
 use Rattle.report_text.specs.net_cells.specs.Meanings.{CellTable}
 use Rattle.net_bounds.proofs.Kept.{table_bounds_every_run}
+use Rattle.commands.specs.command_replies.specs.Causes.{HasCause}
 use Rattle.commands.specs.command_replies.specs.Guarantee.{Guarantees}
 use Rattle.commands.specs.command_replies.specs.Replies.{Reply}
+use Rattle.commands.specs.command_replies.proofs.Causes.{with_reports}
 use Rattle.commands.specs.command_replies.proofs.OneRefusal.{equal}
 use Rattle.report_text.specs.declared.json_report.form.Form.{Form}
 use Rattle.commands.specs.analyse.AnswerCounts.{CountsOn}
 use Rattle.commands.specs.analyse.OnFiles.{IsReportOf, IsReport}
-use Rattle.commands.proofs.analyse.ByStatus as analyse
+use Rattle.commands.proofs.analyse.Causes as analyse
 use Rattle.commands.proofs.analyse.OneReply as analysed
 use Rattle.commands.specs.edit.EditCounts as edit_counts
 use Rattle.commands.proofs.edit.Causes as edit_statuses
@@ -35,21 +37,17 @@ use Rattle.commands.proofs.check.Within as admissible
 use Rattle.commands.specs.measure.MeasureCounts as measure_counts
 use Rattle.commands.proofs.measure.Causes as measure
 use Rattle.commands.proofs.measure.OneMeasure as measured
-use Rattle.commands.proofs.curve.ByStatus as curve
+use Rattle.commands.proofs.curve.Causes as curve
 use Rattle.commands.proofs.curve.OneReply as calculated
 use Rattle.netcalc_cli.specs.Commands.{Command, Analyse, Edit, Simulate, Exercise, Check, Measure, Curve}
 use Rattle.netcalc_cli.specs.Commands.{IsReplyTo, IsMalformed, IsOver}
 use Rattle.netcalc_cli.specs.Commands.{AreSameTo, IsCyclic, TellsBreach, IsDone, IsAnswerable, IsAnswer, CountsTo}
 
 -- ---- by status
-pub record IsByStatus (command : Command) (files : List (List ℕ)) (reply : Reply) : Type 0 where
-  pub done : reply.status ≡ 0 → IsDone command files reply
-  pub malformed : reply.status ≡ 1 → IsMalformed command files reply
-  pub no_read : reply.status ≢ 3
-  pub wide : reply.status ≡ 6 → IsOver TooWide command files reply
-  pub many : reply.status ≡ 7 → IsOver TooMany command files reply
-  pub cycle : reply.status ≡ 8 → IsCyclic command files reply
-  pub breach : reply.status ≡ 9 → TellsBreach command files reply
+abbrev pub IsByStatus : Command → List (List ℕ) → Reply → Type 0
+IsByStatus command files =
+    HasCause (IsDone command files) (TellsBreach command files) (IsMalformed command files) (IsOver TooWide command files)
+    (IsOver TooMany command files) (IsCyclic command files)
 
 -- no run passes the table of a report
 guaranteed : (form : Form) (net : Net) (at : CellTable) (bytes : List ℕ) (reply : Reply) → IsReportOf form net at bytes reply
@@ -63,96 +61,37 @@ report_done form net bytes reply r = (r.0, r.1, r.2, guaranteed form r.0 r.1 byt
 pub by_command : (command : Command) (files : List (List ℕ)) (reply : Reply) → IsReplyTo command files reply
     → IsByStatus command files reply
 by_command (Analyse form net) (bytes ∷ []) reply h =
-    let k = analyse.by_status form net bytes reply h in
-    record {
-      done = λ e. report_done form net bytes reply (k.report e);
-      malformed = λ e. k.broken e;
-      no_read = k.no_read;
-      wide = λ e. k.wide e;
-      many = λ e. k.many e;
-      cycle = λ e. k.cycle e;
-      breach = λ e. absurd (omega (arith, k.most, e));
-    }
+    let k = analyse.causes form net bytes reply h in
+    with_reports reply k (λ e. report_done form net bytes reply (k.done e)) k.breach
 by_command (Edit form net edits) (bytes ∷ rows ∷ []) reply h =
     let k = edit_statuses.causes form net bytes edits rows reply h in
-    record {
-      done = λ e. let r = k.report e in (r.0, r.1, r.2, reports_are_guaranteed form r.0 r.1 bytes rows reply r.2);
-      malformed = λ e. k.malformed e;
-      no_read = k.no_read;
-      wide = λ e. k.wide e;
-      many = λ e. k.many e;
-      cycle = λ e. k.cycle e;
-      breach = λ e. absurd (omega (arith, k.most, e));
-    }
+    with_reports reply k
+    (λ e. let r = k.done e in (r.0, r.1, r.2, reports_are_guaranteed form r.0 r.1 bytes rows reply r.2)) k.breach
 by_command (Simulate net trace) (bytes ∷ rows ∷ []) reply h =
     let k = run.causes net bytes trace rows reply h in
-    record {
-      done = λ e.
-          let quiet = quiet_runs net bytes trace rows reply h e in
-          (quiet, guarantee bytes rows reply quiet.report);
-      malformed = λ e. k.malformed e;
-      no_read = k.others.1;
-      wide = λ e. k.wide e;
-      many = λ e. k.many e;
-      cycle = λ e. k.cycle e;
-      breach = λ e.
-          let r = k.report (inr e) in
-          (r, (status_tells bytes rows reply r).breaks.0 e, guarantee bytes rows reply r);
-    }
+    with_reports reply k
+    (λ e. let quiet = quiet_runs net bytes trace rows reply h e in (quiet, guarantee bytes rows reply quiet.report))
+    (λ e. let r = k.breach e in (r, (status_tells bytes rows reply r).breaks.0 e, guarantee bytes rows reply r))
 by_command (Exercise seed) [] reply h =
     let k = exercise.causes seed reply h in
-    record {
-      done = λ e.
-          let quiet = summaries.quiet_summaries seed reply h e in
-          (quiet, summaries.guarantee seed reply quiet.summary);
-      malformed = λ e. absurd (k.files.0 e);
-      no_read = k.files.2;
-      wide = λ e. k.wide e;
-      many = λ e. k.many e;
-      cycle = λ e. absurd (k.others.2 e);
-      breach = λ e.
-          let r = k.summary (inr e) in
-          (r, (summaries.status_tells seed reply r).breaks.0 e, summaries.guarantee seed reply r);
-    }
+    with_reports reply k
+    (λ e. let quiet = summaries.quiet_summaries seed reply h e in
+    (quiet, summaries.guarantee seed reply quiet.summary))
+    (λ e. let r = k.breach e in
+    (r, (summaries.status_tells seed reply r).breaks.0 e, summaries.guarantee seed reply r))
 by_command (Check net run) (bytes ∷ rows ∷ []) reply h =
     let k = check.causes net bytes run rows reply h in
-    record {
-      done = λ e.
-          let told = admissible.admissible_runs net bytes run rows reply h e in
-          (told, admissible.guarantee bytes rows reply told.report);
-      malformed = λ e. k.malformed e;
-      no_read = k.others.1;
-      wide = λ e. k.wide e;
-      many = λ e. k.many e;
-      cycle = λ e. k.cycle e;
-      breach = λ e.
-          let r = k.report (inr e) in
-          (r, (verdicts bytes rows reply r).refused.0 e, admissible.guarantee bytes rows reply r);
-    }
+    with_reports reply k
+    (λ e. let told = admissible.admissible_runs net bytes run rows reply h e in
+    (told, admissible.guarantee bytes rows reply told.report))
+    (λ e. let r = k.breach e in
+    (r, (verdicts bytes rows reply r).refused.0 e, admissible.guarantee bytes rows reply r))
 by_command (Measure net trace name rate) (bytes ∷ rows ∷ []) reply h =
     let k = measure.causes net bytes trace rows name rate reply h in
-    record {
-      done = λ e.
-          let r = k.report e in
-          (r.0, r.1, r.2, r.3, measured.reports_are_least bytes rows name rate r.0 r.1 r.2 reply r.3);
-      malformed = λ e. k.malformed e;
-      no_read = k.no_read;
-      wide = λ e. k.wide e;
-      many = λ e. k.many e;
-      cycle = λ e. absurd (omega (arith, k.most, e));
-      breach = λ e. absurd (omega (arith, k.most, e));
-    }
-by_command (Curve script) (bytes ∷ []) reply h =
-    let k = curve.by_status script bytes reply h in
-    record {
-      done = λ e. k.answered e;
-      malformed = λ e. k.refused e;
-      no_read = k.no_read;
-      wide = λ e. k.wide e;
-      many = λ e. k.many e;
-      cycle = λ e. absurd (omega (arith, k.most, e));
-      breach = λ e. absurd (omega (arith, k.most, e));
-    }
+    with_reports reply k
+    (λ e. let r = k.done e in
+    (r.0, r.1, r.2, r.3, measured.reports_are_least bytes rows name rate r.0 r.1 r.2 reply r.3)) k.breach
+by_command (Curve script) (bytes ∷ []) reply h = curve.causes script bytes reply h
 by_command command files reply h = absurd h
 
 -- ---- one reply

@@ -19,10 +19,11 @@ made_of f a b c d x y p q e g = p ∙ ap₂ f e g ∙ sym q
 -- the reply on a file whose network has a cycle
 pub one_round : (bytes : List ℕ) (x y : Reply) → HasCycle bytes x → HasCycle bytes y → x ≡ y
 one_round bytes x y h k =
-    let net : k.net ≡ h.net = (says bytes).one_network k.net h.net k.gives.reads h.gives.reads in
-    let moved : IsCycle h.net k.walk = subst (λ (n : Net). IsCycle n k.walk) net k.cycle in
-    made_of (λ (n : Net) (walk : List ℕ). goes_round (map (server_name n) walk)) h.net k.net h.walk k.walk x y h.is k.is (sym net)
-    (walks.one_cycle h.net h.walk k.walk h.cycle moved)
+    let net : k.0 ≡ h.0 = (says bytes).one_network k.0 h.0 k.1.reads h.1.reads in
+    let moved : IsCycle h.0 k.2.walk = subst (λ (n : Net). IsCycle n k.2.walk) net k.2.cycle in
+    made_of (λ (n : Net) (walk : List ℕ). goes_round (map (server_name n) walk)) h.0 k.0 h.2.walk k.2.walk x y h.2.is k.2.is
+    (sym net)
+    (walks.one_cycle h.0 h.2.walk k.2.walk h.2.cycle moved)
 
 -- what is said of an edit whose network has one
 one_said : (x y : EditSaid) → TellCycles x y → x ≡ y

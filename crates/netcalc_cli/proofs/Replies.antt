@@ -181,7 +181,7 @@ by_files faults last_fault told command old new reply files held (inl long) =
 by_files faults last_fault told command old new reply files held (inr fits) =
     let by = by_command command files reply fits.1 in
     let on : IsOnFiles told command reply = record { files = files; held = held; fit = fits.0; is = by } in
-    record { three = λ e. absurd (by.no_read e); one = λ e. inr on; rest = λ other three. on }
+    record { three = λ e. absurd (by.others.1 e); one = λ e. inr on; rest = λ other three. on }
 
 may_be : {I : Type 0} (faults : I → ℕ) (last_fault : I → List ℕ) (told : Told) (command : Command) (old new : I)
     (reply : Reply) → MayReplyTo faults last_fault told command old new reply

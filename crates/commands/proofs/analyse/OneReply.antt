@@ -1,74 +1,40 @@
--- Two replies on one file are the same, but for the choice among cycles.
-use Rattle.std.proofs.Common.{◌≡◌, ℕ, List, ◌⊎◌, inl, inr, sym, ap, ◌∙◌, subst}
-use Rattle.upp_limits.specs.LimitTest.{fault_of}
+-- Two replies on one file are the same, but for the choice among cycles; within the limits they are reports.
+use Rattle.std.proofs.Common.{◌≡◌, ℕ, List, sym, ap, ◌∙◌}
 use Rattle.net_model.specs.Accepted.{IsAccepted}
 use Rattle.net_model.specs.Networks.{Net}
 use Rattle.net_model.specs.Orders.{IsOrder}
-use Rattle.net_model.proofs.net_graph.OneOrders.{one_order}
-use Rattle.net_model.proofs.net_graph.Returns.{cycle_is_closed, order_or_cycle}
 use Rattle.report_text.specs.declared.json_report.form.Form.{Form}
+use Rattle.report_text.specs.net_cells.specs.Meanings.{CellTable}
 use Rattle.report_text.proofs.json_report.OneForm.{one_report_in}
+use Rattle.command_replies.specs.OnFiles.{IsTableOf}
 use Rattle.command_replies.specs.Replies.{Reply, AreSame}
-use Rattle.command_replies.proofs.FirstFaults.{says}
-use Rattle.command_replies.proofs.OneRefusal.{OnFault, OnCycle, IsOver, equal, one_fault, no_network, one_cycle}
-use Rattle.command_replies.proofs.OneRefusal.{one_over, no_answers}
-use Rattle.commands.specs.analyse.AnswerLaws.{RepliesAreDetermined, IsWithinLimits, RepliesAreComplete}
-use Rattle.commands.proofs.analyse.Sorted.{IsShown, OnOrder, OnNet, sorted}
+use Rattle.command_replies.specs.Stages.{AreAlike, GoOnAlike}
+use Rattle.command_replies.proofs.OneRefusal.{equal, one_cycle}
+use Rattle.command_replies.proofs.OneReply.{file_alike, table_alike, file_reached, table_reached}
+use Rattle.command_replies.proofs.Statuses.{status_is}
+use Rattle.commands.specs.analyse.AnswerLaws.{RepliesAreDetermined, RepliesAreComplete}
+use Rattle.commands.specs.analyse.OnFiles.{report, IsReplyOnNet}
 
--- ---- by an order
-by_order : (form : Form) (net : Net) (order : List ℕ) (x y : Reply) → IsAccepted net → IsOrder net order
-    → IsOver net order x ⊎ IsShown form net order x → IsOver net order y ⊎ IsShown form net order y → x ≡ y
-by_order form net order x y a o (inl h) (inl k) = one_over net order x y a o h k
-by_order form net order x y a o (inl h) (inr k) = absurd (no_answers net order x k.table a o h k.answers)
-by_order form net order x y a o (inr h) (inl k) = absurd (no_answers net order y h.table a o k h.answers)
-by_order form net order x y a o (inr h) (inr k) =
-    h.is ∙ ap (λ bytes. record { status = 0; bytes = bytes }) (one_report_in form net order h.table k.table a o h.meets k.meets)
-    ∙ sym k.is
+-- what is told beside a table
+abbrev Told : Form → Net → CellTable → Reply → Type 0
+Told form net at reply = reply ≡ report form net at
 
--- ---- by a network
-by_net : (form : Form) (net : Net) (x y : Reply) → IsAccepted net → OnCycle net x ⊎ OnOrder form net x → OnCycle net y ⊎ OnOrder form net y
-    → AreSame x y
-by_net form net x y a (inl h) (inl k) = one_cycle net x y h k
-by_net form net x y a (inl h) (inr k) = absurd (order_or_cycle.no_cycle net k.order h.walk a k.ordered h.cycle)
-by_net form net x y a (inr h) (inl k) = absurd (order_or_cycle.no_cycle net h.order k.walk a h.ordered k.cycle)
-by_net form net x y a (inr h) (inr k) =
-    let same = one_order net k.order h.order k.ordered h.ordered in
-    let on = subst (λ order. IsOver net order y ⊎ IsShown form net order y) same k.on in
-    equal x y (by_order form net h.order x y a h.ordered h.on on)
+reports_alike : (form : Form) (net : Net) (order : List ℕ) → IsAccepted net → IsOrder net order
+    → GoOnAlike AreSame (IsTableOf net order) (Told form net)
+reports_alike form net order a o at other x y m n h k =
+    let same = one_report_in form net order at other a o m.meets n.meets in
+    equal x y (h ∙ ap (λ bytes. record { status = 0; bytes = bytes }) same ∙ sym k)
 
--- ---- by a file
-by_file : (form : Form) (file bytes : List ℕ) (x y : Reply) → OnFault file bytes x ⊎ OnNet form bytes x
-    → OnFault file bytes y ⊎ OnNet form bytes y
-    → AreSame x y
-by_file form file bytes x y (inl h) (inl k) = equal x y (one_fault file bytes x y h k)
-by_file form file bytes x y (inl h) (inr k) = absurd (no_network file bytes x k.net h k.gives.reads)
-by_file form file bytes x y (inr h) (inl k) = absurd (no_network file bytes y h.net k h.gives.reads)
-by_file form file bytes x y (inr h) (inr k) =
-    let same = (says bytes).one_network k.net h.net k.gives.reads h.gives.reads in
-    let on = subst (λ net. OnCycle net y ⊎ OnOrder form net y) same k.on in
-    by_net form h.net x y h.gives.accepted h.on on
+on_net : (form : Form) (net : Net) → IsAccepted net → AreAlike AreSame (IsReplyOnNet form net)
+on_net form net a =
+    table_alike AreSame equal net (Told form net) a (one_cycle net) (λ order o. reports_alike form net order a o)
 
 pub replies_are_determined : RepliesAreDetermined
-replies_are_determined form file bytes x y h k = by_file form file bytes x y (sorted form file bytes x h) (sorted form file bytes y k)
-
--- ---- within the limits
-on_order : (form : Form) (bytes : List ℕ) (reply : Reply) (w : IsWithinLimits bytes) (order : List ℕ) → IsOrder w.net order
-    → IsOver w.net order reply ⊎ IsShown form w.net order reply → reply.status ≡ 0
-on_order form bytes reply w order o (inl h) = absurd (w.within order h.cell (fault_of h.limit) o h.first)
-on_order form bytes reply w order o (inr h) = ap (λ (r : Reply). r.status) h.is
-
-on_net : (form : Form) (bytes : List ℕ) (reply : Reply) (w : IsWithinLimits bytes) → OnCycle w.net reply ⊎ OnOrder form w.net reply
-    → reply.status ≡ 0
-on_net form bytes reply w (inl h) = absurd (w.feed_forward h.walk (cycle_is_closed w.net h.walk h.cycle))
-on_net form bytes reply w (inr h) = on_order form bytes reply w h.order h.ordered h.on
-
-on_file : (form : Form) (file bytes : List ℕ) (reply : Reply) (w : IsWithinLimits bytes)
-    → OnFault file bytes reply ⊎ OnNet form bytes reply
-    → reply.status ≡ 0
-on_file form file bytes reply w (inl h) = absurd (no_network file bytes reply w.net h w.reads)
-on_file form file bytes reply w (inr h) =
-    let same = (says bytes).one_network h.net w.net h.gives.reads w.reads in
-    on_net form bytes reply w (subst (λ net. OnCycle net reply ⊎ OnOrder form net reply) same h.on)
+replies_are_determined form file bytes x y h k =
+    file_alike AreSame equal file bytes (IsReplyOnNet form) (λ net given. on_net form net given.accepted) x y h k
 
 pub replies_are_complete : RepliesAreComplete
-replies_are_complete form file bytes reply w h = on_file form file bytes reply w (sorted form file bytes reply h)
+replies_are_complete form file bytes reply w h =
+    let on = file_reached file bytes (IsReplyOnNet form) w.net reply w.reads h in
+    let told = table_reached w.net (Told form w.net) reply w.feed_forward w.within on.said in
+    status_is reply _ told.1

@@ -1,5 +1,5 @@
 -- A report on an admissible run shows no number above the bound beside it, and the bounds of each report hold.
-use Rattle.std.proofs.Common.{◌≡◌, ℕ, List, inl, refl, sym, ap, ◌∙◌}
+use Rattle.std.proofs.Common.{◌≡◌, ℕ, List, refl, sym, ap, ◌∙◌}
 use Rattle.std.specs.Prelude.{Option, Some, None}
 use Rattle.net_model.specs.declared.breach.Breach.{Breach}
 use Rattle.command_replies.specs.net_bounds.proofs.Kept.{table_bounds_every_run}
@@ -36,7 +36,7 @@ admissible net_bytes run_bytes reply h zero =
 
 pub admissible_runs : AdmissibleRunsAreWithinBounds
 admissible_runs net_file net_bytes run_file run_bytes reply h zero =
-    let report = (causes net_file net_bytes run_file run_bytes reply h).report (inl zero) in
+    let report = (causes net_file net_bytes run_file run_bytes reply h).done zero in
     admissible net_bytes run_bytes reply report zero
 
 pub guarantee : ReportsGuarantee

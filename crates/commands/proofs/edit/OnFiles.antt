@@ -6,7 +6,6 @@ use Rattle.net_model.specs.declared.edit.Edit.{Edit}
 use Rattle.net_model.specs.declared.fault.NetFault.{NetFault}
 use Rattle.net_model.specs.declared.fault.NetKind.{NetKind}
 use Rattle.net_model.specs.declared.fault.NetKind.TheVariants as kinds
-use Rattle.net_model.specs.Accepted.{IsAccepted}
 use Rattle.net_model.specs.Networks.{Net}
 use Rattle.net_draft.specs.Faults.{Fault, fault_of}
 use Rattle.net_text.specs.Folds.{StepsAtMost}
@@ -19,14 +18,12 @@ use Rattle.input_texts.specs.table_text.Rows.{rows_of, Read}
 use Rattle.input_texts.specs.table_text.EditRows.{EditText, edit_row, edit_view}
 use Rattle.input_texts.specs.table_text.EditLists.{AreEditsOf, IsFirstEditFault}
 use Rattle.input_texts.specs.table_text.Traces.{out_of_memory}
-use Rattle.report_text.specs.declared.json_report.form.Form.{Form}
 use Rattle.command_replies.specs.declared.answer.Answer.{Answer}
-use Rattle.command_replies.specs.OnFiles.{IsNetOf, IsNoNetwork}
-use Rattle.command_replies.specs.Replies.{Reply, table_fault_reply}
+use Rattle.command_replies.specs.Replies.{table_fault_reply}
 use Rattle.command_replies.specs.Faults.{reply_of_kind, fault_reply}
 use Rattle.command_replies.specs.View.{reply_of}
 use Rattle.command_replies.proofs.FirstFaults.{says}
-use Rattle.commands.specs.edit.OnEdits.{AsksFor, IsEditReply, IsReplyOnNet, Broken, CurveOver, BadList}
+use Rattle.commands.specs.edit.OnEdits.{AsksFor, IsBadListOf}
 use Rattle.commands.specs.edit.EditCounts.{CountsOnEdits, CountsOnNet, CountsOn}
 
 -- ---- lists of edits
@@ -48,21 +45,14 @@ told_fault : (bytes : List ℕ) (fault : TableFault) → (fault ≡ out_of_memor
 told_fault bytes fault (inl want) told = absurd (told (ap (λ (f : TableFault). f.kind) want))
 told_fault bytes fault (inr first) told = first
 
-pub on_bad_list : {E : Type 0} (form : Form) (net : Net) (file bytes : List ℕ) (fault : TableFault) (r : Result Answer E)
-    → IsAccepted net → (fault ≡ out_of_memory) ⊎ IsFirstEditFault bytes fault.kind fault.row
+-- a call that answers on a fault of a list, if anything, answers on the first
+pub on_bad_list : {E : Type 0} (file bytes : List ℕ) (fault : TableFault) (r : Result Answer E)
+    → (fault ≡ out_of_memory) ⊎ IsFirstEditFault bytes fault.kind fault.row
     → IfOk r (λ a. reply_of a ≡ table_fault_reply file fault) → IfOk r (λ a. fault.kind ≢ tables.NoMemory)
-    → IfOk r (λ a. IsReplyOnNet form net file bytes (reply_of a))
-on_bad_list form net file bytes fault (Ok a) accepted first is told =
-    λ net_file net_bytes reads.
-    let gives : IsNetOf net_bytes net = record { reads = reads; accepted = accepted } in
-    BadList (record {
-      net = net;
-      gives = gives;
-      fault = fault;
-      first = told_fault bytes fault first told;
-      is = is;
-    })
-on_bad_list form net file bytes fault (Err e) accepted first is told = tt
+    → IfOk r (λ a. IsBadListOf file bytes (reply_of a))
+on_bad_list file bytes fault (Ok a) first is told =
+    record { fault = fault; first = told_fault bytes fault first told; is = is }
+on_bad_list file bytes fault (Err e) first is told = tt
 
 -- ---- no report
 kind_is_refused : (file : List ℕ) (fault : Fault) (kind : NetKind) → (reply_of_kind file fault kind).status ≢ 0
@@ -105,9 +95,3 @@ of_fault net_bytes edits_bytes status old new other rises folds = record {
   refused = λ fault first. refl;
   edits = λ net is. inl (other, refl);
 }
-
--- ---- a file that gives no network
-pub on_no_network : (form : Form) (net_file net_bytes edits_file edits_bytes : List ℕ) (reply : Reply)
-    → IsNoNetwork net_file net_bytes reply → IsEditReply form net_file net_bytes edits_file edits_bytes reply
-on_no_network form net_file net_bytes edits_file edits_bytes reply (inl h) = Broken h
-on_no_network form net_file net_bytes edits_file edits_bytes reply (inr h) = CurveOver h.0 h.1

@@ -1,14 +1,11 @@
 -- The reply on a network and edits, and its steps.
 use Rattle.std.proofs.Common.{◌≡◌, ◌≢◌, ℕ, ◌+◌, ◌≤◌, List, [], map, refl, sym, ap, subst, arith}
 use Rattle.std.specs.Prelude.{Result, Ok, Err, IfOk}
-use Rattle.upp_limits.specs.LimitTest.{fault_of}
 use Rattle.upp_limits.specs.declared.op_kind.OpFault.{OpFault}
-use Rattle.upp_limits.specs.declared.own_limits.OverLimit.{OverLimit}
 use Rattle.net_model.specs.declared.edit.Edit.{Edit}
 use Rattle.net_model.specs.Accepted.{IsAccepted}
 use Rattle.net_model.specs.Networks.{Net}
 use Rattle.net_model.specs.Orders.{IsOrder}
-use Rattle.net_model.specs.Walks.{IsCycle}
 use Rattle.net_model.proofs.net_graph.OneOrders.{one_order}
 use Rattle.net_model.proofs.net_graph.Returns.{order_or_cycle}
 use Rattle.report_text.specs.net_cells.specs.declared.cell.Cell.{Cell}
@@ -19,45 +16,29 @@ use Rattle.input_texts.specs.table_text.EditRows.{edit_view}
 use Rattle.cell_store.specs.Edits.{IsFirst}
 use Rattle.cell_store.specs.Placed.{placed}
 use Rattle.cell_store.specs.edit_store.Stored.{Stored, IsStored}
-use Rattle.report_text.specs.CellWords.{server_name, cell_words}
+use Rattle.report_text.specs.net_cells.proofs.Tables.{answers_meet}
 use Rattle.report_text.specs.declared.json_report.form.Form.{Form}
 use Rattle.commands.specs.edit_report.Said.{EditSaid}
 use Rattle.command_replies.specs.declared.answer.Answer.{Answer}
 use Rattle.command_replies.specs.CellWork.{work_of_cells}
-use Rattle.command_replies.specs.OnFiles.{IsNetOf}
-use Rattle.command_replies.specs.Replies.{Reply, goes_round, cell_over}
+use Rattle.command_replies.specs.Replies.{Reply}
 use Rattle.command_replies.specs.View.{status_of}
 use Rattle.commands.specs.edit.NetHistories.{NetHistory, begun, history_of}
 use Rattle.commands.specs.edit.Answered.{AreAnswered}
-use Rattle.commands.specs.edit.OnEdits.{edit_report, AreReported, IsReplyOnEdits, Cyclic, CellOver, Reported}
+use Rattle.command_replies.specs.Stages.{goes_on}
+use Rattle.commands.specs.edit.OnEdits.{edit_report, AreReported, IsReplyOnEdits}
 use Rattle.commands.specs.edit.EditCounts.{WorkOfEdits, CountsOnEdits}
 use Rattle.commands.proofs.edit.OneRow.{analysed}
 
 -- ---- replies
-pub on_over : (form : Form) (net : Net) (edits : List Edit) (order : List ℕ) (cell : Cell) (limit : OverLimit) (reply : Reply)
-    → IsAccepted net → IsOrder net order → FirstOver net order cell (fault_of limit)
-    → reply ≡ cell_over limit (cell_words net cell) → IsReplyOnEdits form net edits reply
-on_over form net edits order cell limit reply accepted ordered first is =
-    λ edits_file edits_bytes asked net_file net_bytes reads.
-    let gives : IsNetOf net_bytes net = record { reads = reads; accepted = accepted } in
-    CellOver (map edit_view edits) asked limit
-    (record { net = net; gives = gives; order = order; ordered = ordered; cell = cell; first = first; is = is })
-
-pub on_cycle : (form : Form) (net : Net) (edits : List Edit) (walk : List ℕ) (reply : Reply) → IsAccepted net → IsCycle net walk
-    → reply ≡ goes_round (map (server_name net) walk) → IsReplyOnEdits form net edits reply
-on_cycle form net edits walk reply accepted cycle is =
-    λ edits_file edits_bytes asked net_file net_bytes reads.
-    let gives : IsNetOf net_bytes net = record { reads = reads; accepted = accepted } in
-    Cyclic (map edit_view edits) asked
-    (record { net = net; gives = gives; walk = walk; cycle = cycle; is = is })
-
-pub on_report : (form : Form) (net : Net) (edits : List Edit) (reply : Reply) → IsAccepted net
-    → ((last : Net) × (at : CellTable) × AreReported form net edits last at reply) → IsReplyOnEdits form net edits reply
-on_report form net edits reply accepted report =
-    λ edits_file edits_bytes asked net_file net_bytes reads.
-    let gives : IsNetOf net_bytes net = record { reads = reads; accepted = accepted } in
-    Reported
-    (report.0, report.1, record { first = net; gives = gives; edits = edits; asked = asked; report = report.2 })
+pub on_report : (form : Form) (net : Net) (edits : List Edit) (reply : Reply)
+    → ((last : Net) × (at : CellTable) × AreReported form net edits last at reply)
+    → IsReplyOnEdits form net (map edit_view edits) reply
+on_report form net edits reply (last, at, told) =
+    let a = told.analysed in
+    let meets = answers_meet net a.order told.table a.accepted a.ordered a.answers in
+    goes_on a.order a.ordered (goes_on told.table record { answers = a.answers; meets = meets }
+    (edits, refl, last, at, told))
 
 -- a call that ends with a report has what its answer has
 pub at_zero : {E : Type 0} (r : Result Answer E) (P : Type 0) → IfOk r (λ a. P) → status_of r ≡ 0 → P

@@ -1,16 +1,11 @@
 -- What holds of the replies on edits: the guarantee, and completeness.
-use Rattle.std.proofs.Common.{inl, inr, ap, subst}
-use Rattle.upp_limits.specs.LimitTest.{fault_of}
-use Rattle.net_model.specs.Networks.{Net}
-use Rattle.net_model.specs.Orders.{IsOrder}
-use Rattle.net_model.specs.Walks.{IsCycle}
-use Rattle.net_model.proofs.net_graph.Returns.{cycle_is_closed}
 use Rattle.command_replies.specs.net_bounds.proofs.Kept.{table_bounds_every_run}
-use Rattle.report_text.specs.net_cells.specs.FirstOver.{FirstOver}
-use Rattle.input_texts.proofs.table_text.OneEditList.{no_edit_list}
-use Rattle.command_replies.specs.Replies.{Reply}
-use Rattle.command_replies.proofs.FirstFaults.{says}
-use Rattle.commands.specs.edit.OnEdits.{Broken, CurveOver, BadList, Cyclic, CellOver, Reported}
+use Rattle.input_texts.specs.table_text.Rows.{rows_of}
+use Rattle.input_texts.proofs.table_text.OneEditList.{edits_one, no_edit_list}
+use Rattle.command_replies.proofs.OneReply.{file_reached, table_reached}
+use Rattle.command_replies.proofs.Stages.{reached}
+use Rattle.command_replies.proofs.Statuses.{status_is}
+use Rattle.commands.specs.edit.OnEdits.{IsBadListOf, AsksFor, IsEditReportOn, IsReplyOnEdits, IsReplyOnNet}
 use Rattle.commands.specs.edit.EditLaws.{ReportsAreGuaranteed, RepliesAreComplete}
 
 pub reports_are_guaranteed : ReportsAreGuaranteed
@@ -19,21 +14,13 @@ reports_are_guaranteed form net at net_bytes edits_bytes reply h =
     h.report.meets is
 
 pub replies_are_complete : RepliesAreComplete
-replies_are_complete form net_file net_bytes edits_file edits_bytes reply w (Broken h) =
-    absurd ((says net_bytes).not_both w.net h.fault w.reads (inl h.first))
-replies_are_complete form net_file net_bytes edits_file edits_bytes reply w (CurveOver limit h) =
-    absurd ((says net_bytes).not_both w.net _ w.reads (inr h.first))
-replies_are_complete form net_file net_bytes edits_file edits_bytes reply w (BadList h) =
-    absurd (no_edit_list edits_bytes h.fault.kind h.fault.row w.edits h.first w.asked.are)
-replies_are_complete form net_file net_bytes edits_file edits_bytes reply w (Cyclic edits asked h) =
-    let one = (says net_bytes).one_network h.net w.net h.gives.reads w.reads in
-    let c : IsCycle w.net h.walk = subst (λ (n : Net). IsCycle n h.walk) one h.cycle in
-    absurd (w.feed_forward h.walk (cycle_is_closed w.net h.walk c))
-replies_are_complete form net_file net_bytes edits_file edits_bytes reply w (CellOver edits asked limit h) =
-    let one = (says net_bytes).one_network h.net w.net h.gives.reads w.reads in
-    let ordered : IsOrder w.net h.order = subst (λ (n : Net). IsOrder n h.order) one h.ordered in
-    let first : FirstOver w.net h.order h.cell (fault_of limit) =
-    subst (λ (n : Net). FirstOver n h.order h.cell (fault_of limit)) one h.first in
-    absurd (w.within h.order h.cell (fault_of limit) ordered first)
-replies_are_complete form net_file net_bytes edits_file edits_bytes reply w (Reported h) =
-    ap (λ (r : Reply). r.status) h.2.report.is
+replies_are_complete form net_file net_bytes edits_file edits_bytes reply w h =
+    let on =
+    file_reached net_file net_bytes (λ net. IsReplyOnNet form net edits_file edits_bytes) w.net reply w.reads h in
+    let asked =
+    reached (IsBadListOf edits_file edits_bytes) (AsksFor edits_bytes) (IsReplyOnEdits form w.net) w.edits reply
+    (λ bad. no_edit_list edits_bytes bad.fault.kind bad.fault.row w.edits bad.first w.asked.are)
+    (λ other asks. edits_one (rows_of edits_bytes) other w.edits asks.are w.asked.are) on.said in
+    let told =
+    table_reached w.net (λ table. IsEditReportOn form w.net w.edits) reply w.feed_forward w.within asked in
+    status_is reply _ told.1.4.is

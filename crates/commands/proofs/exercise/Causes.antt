@@ -1,60 +1,29 @@
 -- Each status of a reply has its cause.
-use Rattle.std.proofs.Common.{◌≡◌, ℕ, List, inl, inr, ap}
-use Rattle.std.specs.Prelude.{Option, Some, None}
-use Rattle.upp_limits.specs.declared.own_limits.OverLimit.{OverLimit}
-use Rattle.upp_limits.specs.declared.own_limits.OverLimit.TheVariants.{TooMany, TooWide}
-use Rattle.net_model.specs.declared.breach.Breach.{Breach}
-use Rattle.command_replies.specs.Replies.{Reply, over}
-use Rattle.command_replies.specs.run_findings.Findings.{status_by}
-use Rattle.exercise_load.specs.Workloads.{network_of}
+use Rattle.std.proofs.Common.{◌≡◌, ℕ, length, inl, inr}
+use Rattle.report_text.specs.net_cells.specs.Meanings.{CellTable}
+use Rattle.command_replies.specs.Replies.{Reply}
+use Rattle.command_replies.specs.Stages.{stops, goes_on}
+use Rattle.command_replies.proofs.Causes.{wide, report, on_cell_over}
 use Rattle.command_replies.proofs.Statuses.{status_is}
-use Rattle.commands.specs.exercise.OnSeeds as on
-use Rattle.commands.specs.exercise.OnSeeds.{IsCellOver, IsSummarised, IsWide}
+use Rattle.command_replies.proofs.run_findings.Reports.{is_report}
+use Rattle.exercise_load.specs.Workloads.{network_of, trace_of}
+use Rattle.exercise_load.specs.exercise_report.Summary.{summary_of}
+use Rattle.commands.specs.exercise.OnSeeds.{IsAnalysed, IsSummarised, IsReplyBeside}
 use Rattle.commands.specs.exercise.ExerciseLaws.{HasCause, ExerciseStatusesHaveCauses}
 
-module _ (seed : ℕ) (reply : Reply) where
-  -- of a status that is known
-  wide : reply.status ≡ 6 → IsWide seed reply → HasCause seed reply
-  wide is h = record {
-    summary = λ e. elim e [ inl zero ↦ absurd (cc) | inr nine ↦ absurd (cc) ];
-    wide = λ e. h;
-    many = λ e. absurd (cc);
-    files = (λ e. (cc), λ e. (cc), λ e. (cc));
-    others = (λ e. (cc), λ e. (cc), λ e. (cc));
-  }
-
-  many : reply.status ≡ 7 → IsCellOver TooMany (network_of seed) reply → HasCause seed reply
-  many is h = record {
-    summary = λ e. elim e [ inl zero ↦ absurd (cc) | inr nine ↦ absurd (cc) ];
-    wide = λ e. absurd (cc);
-    many = λ e. h;
-    files = (λ e. (cc), λ e. (cc), λ e. (cc));
-    others = (λ e. (cc), λ e. (cc), λ e. (cc));
-  }
-
-  summary : (breach : Option Breach) → reply.status ≡ status_by breach → IsSummarised seed reply → HasCause seed reply
-  summary None is h = record {
-    summary = λ e. h;
-    wide = λ e. absurd (cc);
-    many = λ e. absurd (cc);
-    files = (λ e. (cc), λ e. (cc), λ e. (cc));
-    others = (λ e. (cc), λ e. (cc), λ e. (cc));
-  }
-  summary (Some x) is h = record {
-    summary = λ e. h;
-    wide = λ e. absurd (cc);
-    many = λ e. absurd (cc);
-    files = (λ e. (cc), λ e. (cc), λ e. (cc));
-    others = (λ e. (cc), λ e. (cc), λ e. (cc));
-  }
-
-  over_limit : (limit : OverLimit) (what : List ℕ) → reply ≡ over limit what → IsCellOver limit (network_of seed) reply
-      → HasCause seed reply
-  over_limit TooMany what is h = many (status_is reply (over TooMany what) is) h
-  over_limit TooWide what is h = wide (status_is reply (over TooWide what) is) (inl h)
+-- beside a table
+beside : (seed : ℕ) (at : CellTable) (reply : Reply) → IsAnalysed (network_of seed) at → IsReplyBeside seed at reply
+    → HasCause seed reply
+beside seed at reply analysed (inl over) =
+    wide reply (status_is reply _ over.is) (inr record { at = at; analysed = analysed; over = over })
+beside seed at reply analysed (inr told) =
+    let shown : IsSummarised seed reply = record { at = at; analysed = analysed; report = told } in
+    let is = is_report (summary_of seed) (network_of seed) told.run (length (trace_of seed).packets) at reply told.tells in
+    report reply is shown shown
 
 pub causes : ExerciseStatusesHaveCauses
-causes seed reply (on.CellOver limit h) = over_limit seed reply limit _ h.is h
-causes seed reply (on.SimulationOver h) = wide seed reply (ap (λ (r : Reply). r.status) h.over.is) (inr h)
-causes seed reply (on.Summarised h) =
-    summary seed reply h.report.tells.found.breach (ap (λ (r : Reply). r.status) h.report.tells.is) h
+causes seed reply (order, o, stops h) =
+    on_cell_over reply (network_of seed) order h (λ k. (order, o, k)) (λ k. inl (order, o, k))
+causes seed reply (order, o, goes_on at table (curves, told)) =
+    beside seed at reply
+    record { curves = curves; order = order; ordered = o; answers = table.answers; meets = table.meets } told

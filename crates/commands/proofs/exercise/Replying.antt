@@ -1,7 +1,7 @@
 -- The reply on a workload, from its parts.
-use Rattle.std.proofs.Common.{◌≡◌, ℕ, List, inl, inr, sym, subst}
-use Rattle.upp_limits.specs.declared.own_limits.OverLimit.{OverLimit}
+use Rattle.std.proofs.Common.{◌≡◌, ℕ, List, sym, subst}
 use Rattle.net_model.specs.Networks.{Net}
+use Rattle.net_model.specs.Orders.{IsOrder}
 use Rattle.net_model.specs.Traces.{SpecTrace}
 use Rattle.net_model.specs.Walks.{IsCycle, IsFeedForward}
 use Rattle.net_model.proofs.net_graph.Returns.{cycle_is_closed}
@@ -13,25 +13,21 @@ use Rattle.exercise_load.specs.Loads.{AreOfWorkload}
 use Rattle.exercise_load.specs.Workloads.{network_of}
 use Rattle.exercise_load.specs.exercise_report.Summary.{summary_of}
 use Rattle.exercise_load.proofs.Stand.{workloads_stand}
-use Rattle.commands.specs.exercise.OnSeeds as on
-use Rattle.commands.specs.exercise.OnSeeds.{IsCellOver, IsAnalysed, IsExerciseReply, IsReplyBeside}
+use Rattle.commands.specs.exercise.OnSeeds.{IsExerciseReply, IsReplyBeside, IsReplyInOrder}
 
-pub on_over : (seed : ℕ) (net : Net) (limit : OverLimit) (reply : Reply) → net ≡ network_of seed
-    → IsCellOver limit net reply → IsExerciseReply seed reply
-on_over seed net limit reply e h = on.CellOver limit (subst (λ n. IsCellOver limit n reply) e h)
+-- a workload's network is that of its number
+pub in_order : (seed : ℕ) (net : Net) (order : List ℕ) (reply : Reply) → net ≡ network_of seed → IsOrder net order
+    → IsReplyInOrder seed net order reply → IsExerciseReply seed reply
+in_order seed net order reply e o h =
+    (order, subst (λ n. IsOrder n order) e o, subst (λ n. IsReplyInOrder seed n order reply) e h)
 
-beside : (seed : ℕ) (at : CellTable) (reply : Reply) → IsAnalysed (network_of seed) at → IsReplyBeside seed at reply
-    → IsExerciseReply seed reply
-beside seed at reply a (inl over) = on.SimulationOver record { at = at; analysed = a; over = over }
-beside seed at reply a (inr told) = on.Summarised record { at = at; analysed = a; report = told }
-
-pub on_table : (seed : ℕ) (net : Net) (trace : SpecTrace) (at : CellTable) (reply : Reply)
-    → AreOfWorkload seed net trace → IsAnalysed net at → IsSimulationReplyBy (summary_of seed) net trace at reply
-    → IsExerciseReply seed reply
-on_table seed net trace at reply w a simulated =
-    beside seed at reply (subst (λ n. IsAnalysed n at) w.net a)
-    (subst (λ t. IsSimulationReplyBy (summary_of seed) (network_of seed) t at reply) w.trace
-    (subst (λ n. IsSimulationReplyBy (summary_of seed) n trace at reply) w.net simulated))
+-- and so is its trace
+pub beside : (seed : ℕ) (net : Net) (trace : SpecTrace) (at : CellTable) (reply : Reply)
+    → AreOfWorkload seed net trace → IsSimulationReplyBy (summary_of seed) net trace at reply
+    → IsReplyBeside seed at reply
+beside seed net trace at reply w simulated =
+    subst (λ t. IsSimulationReplyBy (summary_of seed) (network_of seed) t at reply) w.trace
+    (subst (λ n. IsSimulationReplyBy (summary_of seed) n trace at reply) w.net simulated)
 
 -- ---- what the call asks for
 pub is_named : (seed : ℕ) (net : Net) (trace : SpecTrace) → AreOfWorkload seed net trace → IsTraceOf net trace

@@ -1,5 +1,5 @@
 -- A summary without a breach shows no number above its bound; the largest bound of each holds for every run.
-use Rattle.std.proofs.Common.{◌≡◌, ℕ, ◌<◌, List, [], ◌∷◌, length, inl, sym, ap, subst, ◌∙◌}
+use Rattle.std.proofs.Common.{◌≡◌, ℕ, ◌<◌, List, [], ◌∷◌, length, sym, ap, subst, ◌∙◌}
 use Rattle.std.specs.Prelude.{IsTrue, Some, None, is_some, slice_get}
 use Rattle.std.proofs.lemmas.Option.{slice_get-get_or, same_Some}
 use Rattle.upp_limits.specs.rational.specs.Rational.{ℚ}
@@ -79,7 +79,7 @@ quiet seed reply h zero =
     record { summary = h; is_run = is_run; within = w; largest = largest_within seed reply h w }
 
 pub quiet_summaries : QuietSummariesAreWithinBounds
-quiet_summaries seed reply h zero = quiet seed reply ((causes seed reply h).summary (inl zero)) zero
+quiet_summaries seed reply h zero = quiet seed reply ((causes seed reply h).done zero) zero
 
 -- ---- the guarantee
 at_most : (x y : Ext) (xs : List ℚ) → AreAtMost x xs → x ≤ₑ y → AreAtMost y xs

@@ -1,6 +1,6 @@
 -- The laws of the replies: what a report says, their statuses, completeness, and that there is one.
-use Rattle.std.specs.Prelude.{◌≡◌, ℕ, List, length, codes}
-use Rattle.std.proofs.Common.{arith, refl, sym, ap, ap₂, subst, ◌∙◌, inl, inr}
+use Rattle.std.specs.Prelude.{◌≡◌, ◌⊎◌, ℕ, List, length, codes}
+use Rattle.std.proofs.Common.{arith, refl, sym, ap, subst, ◌∙◌, inl, inr}
 use Rattle.upp_limits.specs.rational.specs.Rational.{ℚ}
 use Rattle.upp_limits.specs.rational.proofs.Laws.{antisym}
 use Rattle.upp_limits.specs.upp_curve.specs.Curve.{SpecCurve, value_at}
@@ -16,22 +16,23 @@ use Rattle.net_model.specs.Accepted.{IsAccepted}
 use Rattle.net_model.specs.Names.{IsFlowNamed}
 use Rattle.net_model.specs.Networks.{Net}
 use Rattle.net_model.specs.Traces.{SpecTrace}
-use Rattle.input_texts.specs.declared.table_text.fault.TableFault.{TableFault}
-use Rattle.input_texts.specs.declared.table_text.fault.TableKind.{TableKind}
 use Rattle.input_texts.specs.table_text.Traces.{IsTraceOf}
 use Rattle.input_texts.proofs.table_text.OneTrace.{flow_one}
 use Rattle.measure_curve.specs.Bursts.{IsLeastBurst}
 use Rattle.input_texts.specs.table_text.Rows.{rows_of}
-use Rattle.input_texts.proofs.table_text.OneTrace.{trace_one, no_trace, fault_one}
+use Rattle.input_texts.proofs.table_text.OneTrace.{trace_one, no_trace}
 use Rattle.measure_curve.specs.Windows.{of_flow}
 use Rattle.measure_curve.proofs.Kept.{packets_keep_the_curve, kept_curves_are_above, least_arrival_is_one, least_bucket_is_kept}
-use Rattle.command_replies.specs.Replies.{Reply, over, table_fault_reply}
-use Rattle.command_replies.specs.OnFiles.{IsNetOf}
-use Rattle.command_replies.proofs.FirstFaults.{says}
-use Rattle.command_replies.proofs.OneRefusal.{one_fault, no_network}
-use Rattle.commands.specs.measure.OnMeasures.{AreOver, IsMeasured, IsOverBurst, measure_report, Broken, CurveOver, BadTrace, UnknownFlow, MeasureOver, BurstOver, Measured}
+use Rattle.command_replies.specs.Replies.{Reply, over}
+use Rattle.command_replies.specs.OnFiles.{IsBadTraceOf}
+use Rattle.command_replies.specs.Stages.{AreAlike, IsEqual, stops, goes_on}
+use Rattle.command_replies.proofs.BadTraces.{one_bad_trace}
+use Rattle.command_replies.proofs.OneReply.{file_alike, file_reached}
+use Rattle.command_replies.proofs.Stages.{one_staged, on_one, reached}
+use Rattle.command_replies.proofs.Statuses.{status_is}
+use Rattle.commands.specs.measure.OnMeasures.{AreOver, IsMeasured, IsOverBurst, measure_report, IsUnknown, ArePast, IsTooSteep, IsBurstOf}
+use Rattle.commands.specs.measure.OnMeasures.{IsReplyOnCurve, IsReplyOnPackets, IsReplyOnTrace, IsReplyOnNet}
 use Rattle.commands.specs.measure.MeasureLaws.{ReportsAreLeast, StatusesAreFour, RepliesAreComplete, RepliesAreDetermined}
-use Rattle.commands.proofs.measure.Stages.{OnPackets, Past, Steep, Shown, OnTrace, Unknown, Known, OnRows, Bad, Good, OnFiles, NoNet, WithNet, staged}
 
 -- ---- what a report says
 pub reports_are_least : ReportsAreLeast
@@ -43,16 +44,21 @@ reports_are_least net_bytes trace_bytes name rate ps c burst reply h = record {
 
 -- ---- statuses
 pub statuses_are_four : StatusesAreFour
-statuses_are_four nf nb tf tb name rate reply (Broken h) = inr (inl (ap (λ (r : Reply). r.status) h.is))
-statuses_are_four nf nb tf tb name rate reply (CurveOver TooMany h) = inr (inr (inr (ap (λ (r : Reply). r.status) h.is)))
-statuses_are_four nf nb tf tb name rate reply (CurveOver TooWide h) = inr (inr (inl (ap (λ (r : Reply). r.status) h.is)))
-statuses_are_four nf nb tf tb name rate reply (BadTrace h) = inr (inl (ap (λ (r : Reply). r.status) h.is))
-statuses_are_four nf nb tf tb name rate reply (UnknownFlow h) = inr (inl (ap (λ (r : Reply). r.status) h.is))
-statuses_are_four nf nb tf tb name rate reply (MeasureOver TooMany h) = inr (inr (inr (ap (λ (r : Reply). r.status) h.is)))
-statuses_are_four nf nb tf tb name rate reply (MeasureOver TooWide h) = inr (inr (inl (ap (λ (r : Reply). r.status) h.is)))
-statuses_are_four nf nb tf tb name rate reply (BurstOver TooMany h) = inr (inr (inr (ap (λ (r : Reply). r.status) h.is)))
-statuses_are_four nf nb tf tb name rate reply (BurstOver TooWide h) = inr (inr (inl (ap (λ (r : Reply). r.status) h.is)))
-statuses_are_four nf nb tf tb name rate reply (Measured (ps, c, burst, h)) = inl (ap (λ (r : Reply). r.status) h.is)
+statuses_are_four nf nb tf tb name rate reply (stops (inl h)) = inr (inl (status_is reply _ h.is))
+statuses_are_four nf nb tf tb name rate reply (stops (inr (TooMany, h))) = inr (inr (inr (status_is reply _ h.is)))
+statuses_are_four nf nb tf tb name rate reply (stops (inr (TooWide, h))) = inr (inr (inl (status_is reply _ h.is)))
+statuses_are_four nf nb tf tb name rate reply (goes_on net given (stops h)) = inr (inl (status_is reply _ h.is))
+statuses_are_four nf nb tf tb name rate reply (goes_on net given (goes_on trace right (stops h))) =
+    inr (inl (status_is reply _ h.is))
+statuses_are_four nf nb tf tb name rate reply (goes_on net given (goes_on trace right (goes_on k named h))) = by_packets h
+  where
+    by_packets : IsReplyOnPackets (of_flow k trace.packets) name rate reply
+        → (reply.status ≡ 0) ⊎ (reply.status ≡ 1) ⊎ (reply.status ≡ 6) ⊎ (reply.status ≡ 7)
+    by_packets (stops (TooMany, h)) = inr (inr (inr (status_is reply _ h.is)))
+    by_packets (stops (TooWide, h)) = inr (inr (inl (status_is reply _ h.is)))
+    by_packets (goes_on c m (stops (TooMany, h))) = inr (inr (inr (status_is reply _ h.is)))
+    by_packets (goes_on c m (stops (TooWide, h))) = inr (inr (inl (status_is reply _ h.is)))
+    by_packets (goes_on c m (goes_on burst b is)) = inl (status_is reply _ is)
 
 -- ---- one reply on packets
 one_past : (l m : OverLimit) (ps : List TracePacket) → AreOver l ps → AreOver m ps → l ≡ m
@@ -75,94 +81,73 @@ one_curve : (ps : List TracePacket) (c d : SpecCurve) → IsMeasured ps c → Is
 one_curve ps c d h k =
     normal_unique c d h.curve.normal k.curve.normal (λ t l. least_arrival_is_one ps (value_at c) (value_at d) h.least k.least t l)
 
-one_on_packets : (name : List ℕ) (rate : ℚ) (ps : List TracePacket) (x y : Reply) → OnPackets name rate ps x → OnPackets name rate ps y → x ≡ y
-one_on_packets name rate ps x y (Past l h e) (Past m k f) = e ∙ ap (λ n. over n (codes "measure")) (one_past l m ps h k) ∙ sym f
-one_on_packets name rate ps x y (Past l h e) (Steep m d k g f) = absurd (past_measured l ps d h k)
-one_on_packets name rate ps x y (Past l h e) (Shown d b k w g f) = absurd (past_measured l ps d h k)
-one_on_packets name rate ps x y (Steep l c h g e) (Past m k f) = absurd (past_measured m ps c k h)
-one_on_packets name rate ps x y (Steep l c h g e) (Steep m d k i f) =
-    let same = one_curve ps c d h k in
-    e ∙ ap (λ n. over n (codes "burst")) (one_steep l m rate d (subst (IsOverBurst l rate) same g) i) ∙ sym f
-one_on_packets name rate ps x y (Steep l c h g e) (Shown d b k w i f) =
-    let same = one_curve ps c d h k in
-    absurd (w l (subst (IsOverBurst l rate) same g))
-one_on_packets name rate ps x y (Shown c a h w g e) (Past m k f) = absurd (past_measured m ps c k h)
-one_on_packets name rate ps x y (Shown c a h w g e) (Steep m d k i f) =
-    let same = one_curve ps c d h k in
-    absurd (w m (subst (IsOverBurst m rate) (sym same) i))
-one_on_packets name rate ps x y (Shown c a h w g e) (Shown d b k v i f) =
-    let same = one_curve ps c d h k in
-    let above_b = subst (λ (z : SpecCurve). IsLeastBurst (value_at z) rate b) (sym same) i in
-    let burst : a ≡ b = antisym (g.least b above_b.above, above_b.least a g.above) in
-    e ∙ ap₂ (λ (z : SpecCurve) (q : ℚ). measure_report name (length ps) z q rate) same burst ∙ sym f
+on_curve : (ps : List TracePacket) (name : List ℕ) (rate : ℚ) (c : SpecCurve)
+    → AreAlike IsEqual (IsReplyOnCurve ps name rate c)
+on_curve ps name rate c =
+    one_staged (IsTooSteep rate c) (IsBurstOf rate c) (λ burst reply. reply ≡ measure_report name (length ps) c burst rate)
+    IsEqual (λ r burst h b. b.within h.0 h.1.past)
+    (λ x y h k. h.1.is ∙ ap (λ n. over n (codes "burst")) (one_steep h.0 k.0 rate c h.1.past k.1.past) ∙ sym k.1.is)
+    (λ a b x y h k e f. e ∙ ap (λ (q : ℚ). measure_report name (length ps) c q rate) (one_burst a b h k) ∙ sym f)
+  where
+    one_burst : (a b : ℚ) → IsBurstOf rate c a → IsBurstOf rate c b → a ≡ b
+    one_burst a b h k = antisym (h.least.least b k.least.above, k.least.least a h.least.above)
+
+on_packets : (ps : List TracePacket) (name : List ℕ) (rate : ℚ) → AreAlike IsEqual (IsReplyOnPackets ps name rate)
+on_packets ps name rate =
+    one_staged (ArePast ps) (IsMeasured ps) (IsReplyOnCurve ps name rate) IsEqual
+    (λ r c h m. past_measured h.0 ps c h.1.past m)
+    (λ x y h k. h.1.is ∙ ap (λ n. over n (codes "measure")) (one_past h.0 k.0 ps h.1.past k.1.past) ∙ sym k.1.is)
+    (on_one (IsMeasured ps) (IsReplyOnCurve ps name rate) IsEqual (one_curve ps) (λ c m. on_curve ps name rate c))
 
 -- ---- one reply
-one_on_trace : (net : Net) (trace : SpecTrace) (name : List ℕ) (rate : ℚ) (x y : Reply) → IsAccepted net → OnTrace net trace name rate x → OnTrace net trace name rate y → x ≡ y
-one_on_trace net trace name rate x y ok (Unknown h e) (Unknown k f) = e ∙ sym f
-one_on_trace net trace name rate x y ok (Unknown h e) (Known k b f) = absurd (h k b)
-one_on_trace net trace name rate x y ok (Known i a e) (Unknown k f) = absurd (k i a)
-one_on_trace net trace name rate x y ok (Known i a e) (Known j b f) =
-    let same = flow_one net name i j ok a b in
-    one_on_packets name rate (of_flow j trace.packets) x y (subst (λ n. OnPackets name rate (of_flow n trace.packets) x) same e) f
+on_trace : (net : Net) (trace : SpecTrace) (name : List ℕ) (rate : ℚ) → IsAccepted net
+    → AreAlike IsEqual (IsReplyOnTrace net trace name rate)
+on_trace net trace name rate a =
+    one_staged (IsUnknown net name) (IsFlowNamed net.flows name)
+    (λ k. IsReplyOnPackets (of_flow k trace.packets) name rate) IsEqual (λ r k h named. h.unknown k named)
+    (λ x y h k. h.is ∙ sym k.is)
+    (on_one (IsFlowNamed net.flows name) (λ k. IsReplyOnPackets (of_flow k trace.packets) name rate) IsEqual
+    (λ i j h k. flow_one net name i j a h k) (λ k named. on_packets (of_flow k trace.packets) name rate))
 
-same_fault : (f g : TableFault) → (f.kind ≡ g.kind) × (f.row ≡ g.row) → f ≡ g
-same_fault f g e = ap₂ (λ (k : TableKind) (r : ℕ). let t : TableFault = record { kind = k; row = r } in t) e.0 e.1
-
-one_on_rows : (net : Net) (tf tb name : List ℕ) (rate : ℚ) (x y : Reply) → IsAccepted net → OnRows net tf tb name rate x → OnRows net tf tb name rate y → x ≡ y
-one_on_rows net tf tb name rate x y ok (Bad a h e) (Bad b k f) =
-    e ∙ ap (table_fault_reply tf) (same_fault a b (fault_one net tb a.kind b.kind a.row b.row ok h k)) ∙ sym f
-one_on_rows net tf tb name rate x y ok (Bad a h e) (Good t k f) = absurd (no_trace net tb a.kind a.row t ok h k)
-one_on_rows net tf tb name rate x y ok (Good t h e) (Bad b k f) = absurd (no_trace net tb b.kind b.row t ok k h)
-one_on_rows net tf tb name rate x y ok (Good t h e) (Good u k f) =
-    let same = trace_one net (rows_of tb) t u ok h k in
-    one_on_trace net u name rate x y ok (subst (λ z. OnTrace net z name rate x) same e) f
-
-one_on_files : (nf nb tf tb name : List ℕ) (rate : ℚ) (x y : Reply) → OnFiles nf nb tf tb name rate x → OnFiles nf nb tf tb name rate y → x ≡ y
-one_on_files nf nb tf tb name rate x y (NoNet h) (NoNet k) = one_fault nf nb x y h k
-one_on_files nf nb tf tb name rate x y (NoNet h) (WithNet n g k) = absurd (no_network nf nb x n h g.reads)
-one_on_files nf nb tf tb name rate x y (WithNet m g h) (NoNet k) = absurd (no_network nf nb y m k g.reads)
-one_on_files nf nb tf tb name rate x y (WithNet m g h) (WithNet n i k) =
-    let same = (says nb).one_network m n g.reads i.reads in
-    one_on_rows n tf tb name rate x y i.accepted (subst (λ z. OnRows z tf tb name rate x) same h) k
+on_net : (net : Net) (tf tb name : List ℕ) (rate : ℚ) → IsAccepted net
+    → AreAlike IsEqual (IsReplyOnNet net tf tb name rate)
+on_net net tf tb name rate a =
+    one_staged (IsBadTraceOf net tf tb) (IsTraceOf net (rows_of tb)) (λ trace. IsReplyOnTrace net trace name rate)
+    IsEqual (λ r trace h right. no_trace net tb h.fault.kind h.fault.row trace a h.first right)
+    (λ x y h k. one_bad_trace net tf tb x y a h k)
+    (on_one (IsTraceOf net (rows_of tb)) (λ trace. IsReplyOnTrace net trace name rate) IsEqual
+    (λ x y h k. trace_one net (rows_of tb) x y a h k) (λ trace right. on_trace net trace name rate a))
 
 pub replies_are_determined : RepliesAreDetermined
 replies_are_determined nf nb tf tb name rate x y h k =
-    one_on_files nf nb tf tb name rate x y (staged nf nb tf tb name rate x h) (staged nf nb tf tb name rate y k)
+    file_alike IsEqual (λ r s same. same) nf nb (λ net. IsReplyOnNet net tf tb name rate)
+    (λ net given. on_net net tf tb name rate given.accepted) x y h k
 
 -- ---- completeness
-packets_complete : (name : List ℕ) (rate : ℚ) (ps : List TracePacket) (reply : Reply) → ((limit : OverLimit) → ¬ (AreOver limit ps))
-    → ((c : SpecCurve) → IsMeasured ps c → (limit : OverLimit) → ¬ (IsOverBurst limit rate c)) → OnPackets name rate ps reply → reply.status ≡ 0
-packets_complete name rate ps reply narrow burst (Past l h e) = absurd (narrow l h)
-packets_complete name rate ps reply narrow burst (Steep l c h g e) = absurd (burst c h l g)
-packets_complete name rate ps reply narrow burst (Shown c b h w g e) = ap (λ (r : Reply). r.status) e
-
-trace_complete : (net : Net) (trace : SpecTrace) (name : List ℕ) (rate : ℚ) (k : ℕ) (reply : Reply) → IsAccepted net → IsFlowNamed net.flows name k
-    → ((limit : OverLimit) → ¬ (AreOver limit (of_flow k trace.packets)))
-    → ((c : SpecCurve) → IsMeasured (of_flow k trace.packets) c → (limit : OverLimit) → ¬ (IsOverBurst limit rate c)) → OnTrace net trace name rate reply → reply.status ≡ 0
-trace_complete net trace name rate k reply ok named narrow burst (Unknown h e) = absurd (h k named)
-trace_complete net trace name rate k reply ok named narrow burst (Known j b h) =
-    let same = flow_one net name j k ok b named in
-    packets_complete name rate (of_flow k trace.packets) reply narrow burst (subst (λ n. OnPackets name rate (of_flow n trace.packets) reply) same h)
-
-rows_complete : (net : Net) (trace : SpecTrace) (tf tb name : List ℕ) (rate : ℚ) (k : ℕ) (reply : Reply) → IsAccepted net → IsTraceOf net (rows_of tb) trace → IsFlowNamed net.flows name k
-    → ((limit : OverLimit) → ¬ (AreOver limit (of_flow k trace.packets)))
-    → ((c : SpecCurve) → IsMeasured (of_flow k trace.packets) c → (limit : OverLimit) → ¬ (IsOverBurst limit rate c)) → OnRows net tf tb name rate reply → reply.status ≡ 0
-rows_complete net trace tf tb name rate k reply ok right named narrow burst (Bad a h e) = absurd (no_trace net tb a.kind a.row trace ok h right)
-rows_complete net trace tf tb name rate k reply ok right named narrow burst (Good t h e) =
-    trace_complete net trace name rate k reply ok named narrow burst (subst (λ z. OnTrace net z name rate reply) (trace_one net (rows_of tb) t trace ok h right) e)
-
-files_complete : (net : Net) (trace : SpecTrace) (nf nb tf tb name : List ℕ) (rate : ℚ) (k : ℕ) (reply : Reply) → IsNetOf nb net → IsTraceOf net (rows_of tb) trace → IsFlowNamed net.flows name k
-    → ((limit : OverLimit) → ¬ (AreOver limit (of_flow k trace.packets)))
-    → ((c : SpecCurve) → IsMeasured (of_flow k trace.packets) c → (limit : OverLimit) → ¬ (IsOverBurst limit rate c)) → OnFiles nf nb tf tb name rate reply → reply.status ≡ 0
-files_complete net trace nf nb tf tb name rate k reply gives right named narrow burst (NoNet h) = absurd (no_network nf nb reply net h gives.reads)
-files_complete net trace nf nb tf tb name rate k reply gives right named narrow burst (WithNet m g h) =
-    rows_complete net trace tf tb name rate k reply gives.accepted right named narrow burst
-    (subst (λ z. OnRows z tf tb name rate reply) ((says nb).one_network m net g.reads gives.reads) h)
+packets_complete : (name : List ℕ) (rate : ℚ) (ps : List TracePacket) (reply : Reply)
+    → ((limit : OverLimit) → ¬ (AreOver limit ps))
+    → ((c : SpecCurve) → IsMeasured ps c → (limit : OverLimit) → ¬ (IsOverBurst limit rate c))
+    → IsReplyOnPackets ps name rate reply → reply.status ≡ 0
+packets_complete name rate ps reply narrow burst (stops h) = absurd (narrow h.0 h.1.past)
+packets_complete name rate ps reply narrow burst (goes_on c m (stops h)) = absurd (burst c m h.0 h.1.past)
+packets_complete name rate ps reply narrow burst (goes_on c m (goes_on b k is)) = status_is reply _ is
 
 pub replies_are_complete : RepliesAreComplete
 replies_are_complete nf nb tf tb name rate reply w h =
     let own = w.own in
-    files_complete own.net own.trace nf nb tf tb name rate own.number reply own.read.network own.read.trace_is own.named
+    let net = own.net in
+    let on = file_reached nf nb (λ n. IsReplyOnNet n tf tb name rate) net reply own.read.network.reads h in
+    let traced =
+    reached (IsBadTraceOf net tf tb) (IsTraceOf net (rows_of tb)) (λ t. IsReplyOnTrace net t name rate) own.trace reply
+    (λ bad. no_trace net tb bad.fault.kind bad.fault.row own.trace on.accepted bad.first own.read.trace_is)
+    (λ t right. trace_one net (rows_of tb) t own.trace on.accepted right own.read.trace_is) on.said in
+    let packets =
+    reached (IsUnknown net name) (IsFlowNamed net.flows name)
+    (λ k. IsReplyOnPackets (of_flow k own.trace.packets) name rate) own.number reply
+    (λ none. none.unknown own.number own.named)
+    (λ k named. flow_one net name k own.number on.accepted named own.named) traced in
+    packets_complete name rate (of_flow own.number own.trace.packets) reply
     (subst (λ (ps : List TracePacket). (limit : OverLimit) → ¬ (AreOver limit ps)) own.are w.narrow)
-    (subst (λ (ps : List TracePacket). (c : SpecCurve) → IsMeasured ps c → (limit : OverLimit) → ¬ (IsOverBurst limit rate c)) own.are w.burst)
-    (staged nf nb tf tb name rate reply h)
+    (subst (λ (ps : List TracePacket). (c : SpecCurve) → IsMeasured ps c → (limit : OverLimit)
+    → ¬ (IsOverBurst limit rate c)) own.are w.burst)
+    packets

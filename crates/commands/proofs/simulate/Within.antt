@@ -26,7 +26,7 @@ quiet net_bytes trace_bytes reply h zero =
 
 pub quiet_runs : QuietRunsAreWithinBounds
 quiet_runs net_file net_bytes trace_file trace_bytes reply h zero =
-    let report = (causes net_file net_bytes trace_file trace_bytes reply h).report (inl zero) in
+    let report = (causes net_file net_bytes trace_file trace_bytes reply h).done zero in
     quiet net_bytes trace_bytes reply report zero
 
 pub guarantee : ReportsGuarantee

@@ -2,6 +2,7 @@
 use Rattle.std.specs.Prelude.{◌≡◌, ℕ, List, Some, codes}
 use Rattle.upp_limits.specs.rational.specs.declared.Extended.TheVariants.{Inf}
 use Rattle.upp_limits.specs.declared.op_kind.OpFault.{OpFault}
+use Rattle.upp_limits.specs.declared.own_limits.OverLimit.TheVariants.{TooMany, TooWide}
 use Rattle.net_model.specs.Networks.{Net}
 use Rattle.net_model.specs.Orders.{IsOrder}
 use Rattle.net_model.specs.Walks.{IsFeedForward}
@@ -12,14 +13,28 @@ use Rattle.report_text.specs.net_cells.specs.Meanings.{number, CellTable}
 use Rattle.report_text.specs.net_cells.specs.FirstOver.{FirstOver}
 use Rattle.report_text.specs.Shown.{shown}
 use Rattle.report_text.specs.declared.json_report.form.Form.{Form}
+use Rattle.command_replies.specs.Causes as causes
+use Rattle.command_replies.specs.Causes.{NoReply}
+use Rattle.command_replies.specs.OnFiles.{IsBroken, IsOverLimit, HasCycle}
 use Rattle.command_replies.specs.Replies.{Reply, AreSame}
-use Rattle.commands.specs.analyse.OnFiles.{IsReplyOn}
+use Rattle.commands.specs.analyse.OnFiles.{IsReport, IsReplyOn}
 
 -- status and text are determined by the file and the form, but for the choice among cycles
 abbrev pub RepliesAreDetermined : Type 0
 RepliesAreDetermined =
     (form : Form) (file bytes : List ℕ) (x y : Reply) → IsReplyOn form file bytes x → IsReplyOn form file bytes y
     → AreSame x y
+
+-- each status has its cause, and there is no other
+abbrev pub HasCause : Form → (file bytes : List ℕ) → Reply → Type 0
+HasCause form file bytes =
+    causes.HasCause (IsReport form bytes) NoReply (IsBroken file bytes) (IsOverLimit TooWide bytes)
+    (IsOverLimit TooMany bytes) (HasCycle bytes)
+
+abbrev pub StatusesHaveCauses : Type 0
+StatusesHaveCauses =
+    (form : Form) (file bytes : List ℕ) (reply : Reply) → IsReplyOn form file bytes reply
+    → HasCause form file bytes reply
 
 -- a file that gives a network without a cycle, and by no order of its servers a cell is over a limit
 pub record IsWithinLimits (bytes : List ℕ) : Type 0 where

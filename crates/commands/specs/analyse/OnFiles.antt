@@ -1,11 +1,8 @@
--- What is answered on the bytes of a file: by its first fault, or by its network; by a cycle, or by the order of the
--- servers; by the first cell over a limit, or by a table of all cells.
+-- What is answered on the bytes of a file, stage by stage: on its first fault; on a cycle of its network; on the first cell
+-- over a limit; and else by the report beside a table of all cells.
 use Rattle.std.specs.Prelude.{◌≡◌, ℕ, List}
-use Rattle.upp_limits.specs.declared.own_limits.OverLimit.{OverLimit}
 use Rattle.net_model.specs.Networks.{Net}
 use Rattle.net_model.specs.Orders.{IsOrder}
-use Rattle.net_text.specs.Reading.{IsNetworkOf}
-use Rattle.net_text.specs.FoldLimits.{OverFold}
 use Rattle.report_text.specs.net_cells.specs.Meanings.{CellTable}
 use Rattle.report_text.specs.net_cells.specs.Equations.{MeetsEquations}
 use Rattle.report_text.specs.net_cells.specs.FirstOver.{AnswersAll}
@@ -13,7 +10,7 @@ use Rattle.report_text.specs.net_cells.specs.Order.{evaluation_order}
 use Rattle.command_replies.specs.Replies.{Reply}
 use Rattle.report_text.specs.declared.json_report.form.Form.{Form}
 use Rattle.report_text.specs.json_report.Forms.{report_in}
-use Rattle.command_replies.specs.OnFiles.{IsBroken, IsCurveOver, IsNetOf, HasCycle, IsCellOver}
+use Rattle.command_replies.specs.OnFiles.{IsNetOf, OnFile, OnTable}
 
 -- ---- a report
 abbrev pub report : Form → Net → CellTable → Reply
@@ -33,15 +30,10 @@ abbrev pub IsReport : Form → List ℕ → Reply → Type 0
 IsReport form bytes reply = (net : Net) × (at : CellTable) × IsReportOf form net at bytes reply
 
 -- ---- all of them
--- the reply, in this form, on a file with this name and these bytes, which are not too many
-pub data IsReplyOn (form : Form) (file bytes : List ℕ) (reply : Reply) : Type 0 where
-  Broken : IsBroken file bytes reply → IsReplyOn form file bytes reply
-  CurveOver : (limit : OverLimit) → IsCurveOver limit bytes reply → IsReplyOn form file bytes reply
-  Cyclic : HasCycle bytes reply → IsReplyOn form file bytes reply
-  CellOver : (limit : OverLimit) → IsCellOver limit bytes reply → IsReplyOn form file bytes reply
-  Reported : IsReport form bytes reply → IsReplyOn form file bytes reply
-
--- the reply on each file that gives this network
+-- the reply, in this form, on a network
 abbrev pub IsReplyOnNet : Form → Net → Reply → Type 0
-IsReplyOnNet form net reply =
-    (file bytes : List ℕ) → IsNetworkOf OverFold bytes net → IsReplyOn form file bytes reply
+IsReplyOnNet form net = OnTable net (λ at reply. reply ≡ report form net at)
+
+-- on a file with this name and these bytes, which are not too many
+abbrev pub IsReplyOn : Form → (file bytes : List ℕ) → Reply → Type 0
+IsReplyOn form file bytes = OnFile file bytes (IsReplyOnNet form)

@@ -1,5 +1,5 @@
 -- What holds of the replies on a network and a recorded run.
-use Rattle.std.specs.Prelude.{◌≡◌, ◌≢◌, ◌<◌, ◌^◌, ◌↔◌, ◌⊎◌, ℕ, List, None}
+use Rattle.std.specs.Prelude.{◌≡◌, ◌<◌, ◌^◌, ◌↔◌, ◌⊎◌, ℕ, List, None}
 use Rattle.upp_limits.specs.declared.op_kind.OpFault.{OpFault}
 use Rattle.upp_limits.specs.declared.own_limits.OverLimit.TheVariants.{TooMany, TooWide}
 use Rattle.net_model.specs.run_laws.specs.Lawful.{IsLawful}
@@ -18,6 +18,7 @@ use Rattle.run_check.specs.check_gauge.Gauge.{check_gauge}
 use Rattle.input_texts.specs.table_text.Rows.{rows_of}
 use Rattle.run_check.specs.run_table.Runs.{IsRunOf}
 use Rattle.report_text.specs.RunReport.{Found}
+use Rattle.command_replies.specs.Causes as causes
 use Rattle.command_replies.specs.Guarantee.{Guarantees}
 use Rattle.command_replies.specs.Replies.{Reply, AreSame}
 use Rattle.command_replies.specs.run_findings.Findings.{AreFindings, found_report}
@@ -66,13 +67,12 @@ ReportsGuarantee =
 
 -- ---- all replies
 -- each status has its cause, and there is no other
-pub record HasCause (net_file net_bytes run_file run_bytes : List ℕ) (reply : Reply) : Type 0 where
-  pub report : IsOfReport reply.status → IsCheckReport net_bytes run_bytes reply
-  pub malformed : reply.status ≡ 1 → IsMalformed net_file net_bytes run_file run_bytes reply
-  pub wide : reply.status ≡ 6 → IsOverLimit TooWide net_bytes run_bytes reply ⊎ IsCheckOver net_bytes run_bytes reply
-  pub many : reply.status ≡ 7 → IsOverLimit TooMany net_bytes run_bytes reply
-  pub cycle : reply.status ≡ 8 → HasCycleBehind net_bytes run_bytes reply
-  pub others : (reply.status ≢ 2) × (reply.status ≢ 3) × (reply.status ≢ 4) × (reply.status ≢ 5)
+abbrev pub HasCause : (net_file net_bytes run_file run_bytes : List ℕ) → Reply → Type 0
+HasCause net_file net_bytes run_file run_bytes =
+    causes.HasCause (IsCheckReport net_bytes run_bytes) (IsCheckReport net_bytes run_bytes)
+    (IsMalformed net_file net_bytes run_file run_bytes)
+    (λ reply. IsOverLimit TooWide net_bytes run_bytes reply ⊎ IsCheckOver net_bytes run_bytes reply)
+    (IsOverLimit TooMany net_bytes run_bytes) (HasCycleBehind net_bytes run_bytes)
 
 abbrev pub StatusesHaveCauses : Type 0
 StatusesHaveCauses =

@@ -1,5 +1,5 @@
--- What is answered on the bytes of a script's file: by its first line that is no statement; by the first fault that its
--- statements find, or by their answers.
+-- What is answered on the bytes of a script's file, stage by stage: on its first line that is no statement; on the first
+-- fault that its statements find; and else by their answers.
 use Rattle.std.specs.Prelude.{◌≡◌, ◌⊎◌, ℕ, List, [], Ok, Err}
 use Rattle.upp_limits.specs.declared.own_limits.OverLimit.{OverLimit}
 use Rattle.upp_limits.specs.declared.own_limits.OverLimit.TheVariants.{TooMany, TooWide}
@@ -11,6 +11,7 @@ use Rattle.curve_lang.specs.Answers.{Answered, ScriptMeans}
 use Rattle.curve_lang.specs.Found.{ScriptTells}
 use Rattle.curve_lang.specs.Texts.{answers_text}
 use Rattle.command_replies.specs.Replies.{Reply, breaks_script_rule, line_over}
+use Rattle.command_replies.specs.Stages.{Staged, Behind}
 
 -- the first line with a fault of its own, and the least of these, C1 to C4
 pub record IsMisread (file bytes : List ℕ) (reply : Reply) : Type 0 where
@@ -25,10 +26,8 @@ IsByRule lang.TooWide = ⊥
 IsByRule lang.NoMemory = ⊥
 IsByRule kind = Unit {0}
 
--- all lines are statements, and this is the first fault that they find, by a rule
-pub record IsFaulty (file bytes : List ℕ) (reply : Reply) : Type 0 where
-  pub lines : List Numbered
-  pub script : IsScript bytes lines
+-- of statements the first fault that they find, by a rule
+pub record IsFaultOf (file : List ℕ) (lines : List Numbered) (reply : Reply) : Type 0 where
   pub fault : LangFault
   pub by_rule : IsByRule fault.kind
   pub first : ScriptTells lines (Err fault)
@@ -39,19 +38,43 @@ abbrev pub fault_over : OverLimit → ℕ → LangFault
 fault_over TooMany line = record { kind = lang.TooMany; line = line }
 fault_over TooWide line = record { kind = lang.TooWide; line = line }
 
--- all lines are statements, and the first fault that they find is that of this line
-pub record IsLineOver (limit : OverLimit) (bytes : List ℕ) (reply : Reply) : Type 0 where
-  pub lines : List Numbered
-  pub script : IsScript bytes lines
+-- of statements the first fault that they find, by this limit
+pub record IsOverAt (limit : OverLimit) (lines : List Numbered) (reply : Reply) : Type 0 where
   pub line : ℕ
   pub first : ScriptTells lines (Err (fault_over limit line))
   pub is : reply ≡ line_over limit line
+
+-- the first fault that statements find
+abbrev pub FindsFault : List ℕ → List Numbered → Reply → Type 0
+FindsFault file lines reply = IsFaultOf file lines reply ⊎ ((limit : OverLimit) × IsOverAt limit lines reply)
+
+-- the answers that statements find, which are those that they mean
+pub record AreAnswersOf (lines : List Numbered) (answers : List Answered) : Type 0 where
+  pub finds : ScriptTells lines (Ok answers)
+  pub means : ScriptMeans [] lines answers
 
 -- the lines of the answers
 abbrev pub answered : List Answered → Reply
 answered answers = record { status = 0; bytes = answers_text answers }
 
--- all lines are statements, and these are the answers that they find, which are those that they mean
+-- ---- all of them
+-- the reply on the statements of a file
+abbrev pub IsReplyOnLines : (file : List ℕ) → List Numbered → Reply → Type 0
+IsReplyOnLines file lines =
+    Staged (FindsFault file lines) (AreAnswersOf lines) (λ answers reply. reply ≡ answered answers)
+
+-- on a file with this name and these bytes, which are not too many
+abbrev pub IsScriptReply : (file bytes : List ℕ) → Reply → Type 0
+IsScriptReply file bytes = Staged (IsMisread file bytes) (IsScript bytes) (IsReplyOnLines file)
+
+-- ---- of these
+abbrev pub IsFaulty : (file bytes : List ℕ) → Reply → Type 0
+IsFaulty file bytes = Behind (IsScript bytes) (IsFaultOf file)
+
+abbrev pub IsLineOver : OverLimit → List ℕ → Reply → Type 0
+IsLineOver limit bytes = Behind (IsScript bytes) (IsOverAt limit)
+
+-- all lines are statements, and these are their answers
 pub record IsAnswered (bytes : List ℕ) (reply : Reply) : Type 0 where
   pub lines : List Numbered
   pub script : IsScript bytes lines
@@ -60,18 +83,6 @@ pub record IsAnswered (bytes : List ℕ) (reply : Reply) : Type 0 where
   pub means : ScriptMeans [] lines answers
   pub is : reply ≡ answered answers
 
--- ---- all of them
--- the reply on a file with this name and these bytes, which are not too many
-pub data IsScriptReply (file bytes : List ℕ) (reply : Reply) : Type 0 where
-  Misread : IsMisread file bytes reply → IsScriptReply file bytes reply
-  Faulty : IsFaulty file bytes reply → IsScriptReply file bytes reply
-  LineOver : (limit : OverLimit) → IsLineOver limit bytes reply → IsScriptReply file bytes reply
-  Answers : IsAnswered bytes reply → IsScriptReply file bytes reply
-
--- of these the ones that tell a rule that is broken
+-- those that tell a rule that is broken
 abbrev pub IsRefused : List ℕ → List ℕ → Reply → Type 0
 IsRefused file bytes reply = IsMisread file bytes reply ⊎ IsFaulty file bytes reply
-
--- the reply on each file that is this script
-abbrev pub IsReplyOnLines : List ℕ → List Numbered → Reply → Type 0
-IsReplyOnLines file lines reply = (bytes : List ℕ) → IsScript bytes lines → IsScriptReply file bytes reply

@@ -1,9 +1,11 @@
 -- Of the replies on a network's file and a list of edits, those of each status.
-use Rattle.std.specs.Prelude.{◌≡◌, ◌≢◌, ◌⊎◌, ◌≤◌, ℕ, List}
+use Rattle.std.specs.Prelude.{◌⊎◌, ℕ, List}
 use Rattle.upp_limits.specs.declared.own_limits.OverLimit.{OverLimit}
 use Rattle.upp_limits.specs.declared.own_limits.OverLimit.TheVariants.{TooMany, TooWide}
 use Rattle.input_texts.specs.table_text.EditRows.{EditText}
 use Rattle.report_text.specs.declared.json_report.form.Form.{Form}
+use Rattle.command_replies.specs.Causes as causes
+use Rattle.command_replies.specs.Causes.{NoReply}
 use Rattle.command_replies.specs.Replies.{Reply}
 use Rattle.command_replies.specs.OnFiles.{IsBroken, IsCurveOver, HasCycle, IsCellOver}
 use Rattle.commands.specs.edit.OnEdits.{AsksFor, IsBadList, IsEditReport, IsEditReply}
@@ -28,17 +30,11 @@ abbrev pub HasCycleBehind : List ℕ → List ℕ → Reply → Type 0
 HasCycleBehind net_bytes edits_bytes reply = HasEdits edits_bytes × HasCycle net_bytes reply
 
 -- each status has its cause, and there is no other
-pub record HasCause (form : Form) (net_file net_bytes edits_file edits_bytes : List ℕ) (reply : Reply) : Type 0 where
-  pub report : reply.status ≡ 0 → IsEditReport form net_bytes edits_bytes reply
-  pub malformed : reply.status ≡ 1 → IsMalformed net_file net_bytes edits_file edits_bytes reply
-  pub wide : reply.status ≡ 6 → IsOverLimit TooWide net_bytes edits_bytes reply
-  pub many : reply.status ≡ 7 → IsOverLimit TooMany net_bytes edits_bytes reply
-  pub cycle : reply.status ≡ 8 → HasCycleBehind net_bytes edits_bytes reply
-  pub no_usage : reply.status ≢ 2
-  pub no_read : reply.status ≢ 3
-  pub no_write : reply.status ≢ 4
-  pub no_memory : reply.status ≢ 5
-  pub most : reply.status ≤ 8
+abbrev pub HasCause : Form → (net_file net_bytes edits_file edits_bytes : List ℕ) → Reply → Type 0
+HasCause form net_file net_bytes edits_file edits_bytes =
+    causes.HasCause (IsEditReport form net_bytes edits_bytes) NoReply
+    (IsMalformed net_file net_bytes edits_file edits_bytes) (IsOverLimit TooWide net_bytes edits_bytes)
+    (IsOverLimit TooMany net_bytes edits_bytes) (HasCycleBehind net_bytes edits_bytes)
 
 abbrev pub StatusesHaveCauses : Type 0
 StatusesHaveCauses =

@@ -1,11 +1,8 @@
--- What is answered on the bytes of a network's file and of a list of edits: by the network's first fault, or the
--- list's; by a cycle of the network, or its first cell over a limit; or by the report on the edits.
+-- What is answered on the bytes of a network's file and of a list of edits, stage by stage: on the network's first fault; on
+-- the list's; on a cycle of the network; on its first cell over a limit; and else by the report on the edits.
 use Rattle.std.specs.Prelude.{◌≡◌, ℕ, List, map}
-use Rattle.upp_limits.specs.declared.own_limits.OverLimit.{OverLimit}
 use Rattle.net_model.specs.declared.edit.Edit.{Edit}
 use Rattle.net_model.specs.Networks.{Net}
-use Rattle.net_text.specs.Reading.{IsNetworkOf}
-use Rattle.net_text.specs.FoldLimits.{OverFold}
 use Rattle.report_text.specs.net_cells.specs.Meanings.{CellTable}
 use Rattle.report_text.specs.net_cells.specs.Equations.{MeetsEquations}
 use Rattle.input_texts.specs.declared.table_text.fault.TableFault.{TableFault}
@@ -16,18 +13,20 @@ use Rattle.report_text.specs.declared.json_report.form.Form.{Form}
 use Rattle.commands.specs.edit_report.EditReport.{edit_report_in}
 use Rattle.commands.specs.edit_report.Said.{EditSaid}
 use Rattle.command_replies.specs.Replies.{Reply, table_fault_reply}
-use Rattle.command_replies.specs.OnFiles.{IsBroken, IsCurveOver, IsNetOf, HasCycle, IsCellOver}
+use Rattle.command_replies.specs.OnFiles.{IsNetOf, OnFile, OnTable}
+use Rattle.command_replies.specs.Stages.{Staged, Behind}
 use Rattle.commands.specs.edit.NetHistories.{NetHistory, begun}
 use Rattle.commands.specs.edit.Answered.{IsAnalysed, AreAnswered}
 
 -- ---- lists of edits
 -- the list has a fault, and this is the first
-pub record IsBadList (net_bytes edits_file edits_bytes : List ℕ) (reply : Reply) : Type 0 where
-  pub net : Net
-  pub gives : IsNetOf net_bytes net
+pub record IsBadListOf (edits_file edits_bytes : List ℕ) (reply : Reply) : Type 0 where
   pub fault : TableFault
   pub first : IsFirstEditFault edits_bytes fault.kind fault.row
   pub is : reply ≡ table_fault_reply edits_file fault
+
+abbrev pub IsBadList : (net_bytes edits_file edits_bytes : List ℕ) → Reply → Type 0
+IsBadList net_bytes edits_file edits_bytes = Behind (IsNetOf net_bytes) (λ net. IsBadListOf edits_file edits_bytes)
 
 -- it has none: it asks for these edits
 pub record AsksFor (edits_bytes : List ℕ) (edits : List EditText) : Type 0 where
@@ -65,29 +64,22 @@ IsEditReport form net_bytes edits_bytes reply =
     (net : Net) × (at : CellTable) × IsReported form net at net_bytes edits_bytes reply
 
 -- ---- all of them
--- the reply, in this form, on files with these names and bytes
-pub data IsEditReply (form : Form) (net_file net_bytes edits_file edits_bytes : List ℕ) (reply : Reply) : Type 0 where
-  Broken : IsBroken net_file net_bytes reply → IsEditReply form net_file net_bytes edits_file edits_bytes reply
-  CurveOver : (limit : OverLimit) → IsCurveOver limit net_bytes reply
-      → IsEditReply form net_file net_bytes edits_file edits_bytes reply
-  BadList : IsBadList net_bytes edits_file edits_bytes reply
-      → IsEditReply form net_file net_bytes edits_file edits_bytes reply
-  Cyclic : (edits : List EditText) → AsksFor edits_bytes edits → HasCycle net_bytes reply
-      → IsEditReply form net_file net_bytes edits_file edits_bytes reply
-  CellOver : (edits : List EditText) → AsksFor edits_bytes edits → (limit : OverLimit)
-      → IsCellOver limit net_bytes reply → IsEditReply form net_file net_bytes edits_file edits_bytes reply
-  Reported : IsEditReport form net_bytes edits_bytes reply
-      → IsEditReply form net_file net_bytes edits_file edits_bytes reply
+-- the report on a network and edits with these texts
+abbrev pub IsEditReportOn : Form → Net → List EditText → Reply → Type 0
+IsEditReportOn form net texts reply =
+    (edits : List Edit) × (map edit_view edits ≡ texts) × (last : Net) × (at : CellTable)
+    × AreReported form net edits last at reply
 
--- ---- on what was read
--- the reply where a network was read, whatever file it is of
-abbrev pub IsReplyOnNet : Form → Net → List ℕ → List ℕ → Reply → Type 0
-IsReplyOnNet form net edits_file edits_bytes reply =
-    (net_file net_bytes : List ℕ) → IsNetworkOf OverFold net_bytes net
-    → IsEditReply form net_file net_bytes edits_file edits_bytes reply
+-- the reply, in this form, on a network and edits
+abbrev pub IsReplyOnEdits : Form → Net → List EditText → Reply → Type 0
+IsReplyOnEdits form net texts = OnTable net (λ table. IsEditReportOn form net texts)
 
--- and edits too
-abbrev pub IsReplyOnEdits : Form → Net → List Edit → Reply → Type 0
-IsReplyOnEdits form net edits reply =
-    (edits_file edits_bytes : List ℕ) → AsksFor edits_bytes (map edit_view edits)
-    → IsReplyOnNet form net edits_file edits_bytes reply
+-- on a network, with a list's name and bytes
+abbrev pub IsReplyOnNet : Form → Net → (edits_file edits_bytes : List ℕ) → Reply → Type 0
+IsReplyOnNet form net edits_file edits_bytes =
+    Staged (IsBadListOf edits_file edits_bytes) (AsksFor edits_bytes) (IsReplyOnEdits form net)
+
+-- on files with these names and bytes
+abbrev pub IsEditReply : Form → (net_file net_bytes edits_file edits_bytes : List ℕ) → Reply → Type 0
+IsEditReply form net_file net_bytes edits_file edits_bytes =
+    OnFile net_file net_bytes (λ net. IsReplyOnNet form net edits_file edits_bytes)

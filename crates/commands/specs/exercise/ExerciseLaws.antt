@@ -1,5 +1,5 @@
 -- What holds of the replies on the number of a workload.
-use Rattle.std.specs.Prelude.{◌≡◌, ◌≢◌, ◌<◌, ◌^◌, ℕ, List, IsTrue}
+use Rattle.std.specs.Prelude.{◌≡◌, ◌<◌, ◌^◌, ℕ, List, IsTrue}
 use Rattle.upp_limits.specs.rational.specs.Extended.{◌≤ₑ◌}
 use Rattle.upp_limits.specs.rational.specs.declared.Extended.TheVariants.{Fin}
 use Rattle.upp_limits.specs.declared.op_kind.OpFault.{OpFault}
@@ -15,6 +15,8 @@ use Rattle.report_text.specs.net_cells.specs.Meanings.{CellTable}
 use Rattle.report_text.specs.net_cells.specs.Numbered.{is_live}
 use Rattle.command_replies.specs.net_bounds.specs.NetRuns.{IsRunOf}
 use Rattle.sim_bounds.specs.Gauge.{simulation_gauge}
+use Rattle.command_replies.specs.Causes as causes
+use Rattle.command_replies.specs.Causes.{NoReply}
 use Rattle.command_replies.specs.Guarantee.{Guarantees}
 use Rattle.command_replies.specs.Replies.{Reply}
 use Rattle.command_replies.specs.run_findings.RunBounds.{AreWithinBounds}
@@ -58,12 +60,10 @@ SummariesGuarantee = (seed : ℕ) (reply : Reply) (h : IsSummarised seed reply) 
 
 -- ---- all replies
 -- each status has its cause, and there is no other
-pub record HasCause (seed : ℕ) (reply : Reply) : Type 0 where
-  pub summary : IsOfReport reply.status → IsSummarised seed reply
-  pub wide : reply.status ≡ 6 → IsWide seed reply
-  pub many : reply.status ≡ 7 → IsCellOver TooMany (network_of seed) reply
-  pub files : (reply.status ≢ 1) × (reply.status ≢ 2) × (reply.status ≢ 3)
-  pub others : (reply.status ≢ 4) × (reply.status ≢ 5) × (reply.status ≢ 8)
+abbrev pub HasCause : ℕ → Reply → Type 0
+HasCause seed =
+    causes.HasCause (IsSummarised seed) (IsSummarised seed) NoReply (IsWide seed)
+    (IsCellOver TooMany (network_of seed)) NoReply
 
 abbrev pub ExerciseStatusesHaveCauses : Type 0
 ExerciseStatusesHaveCauses = (seed : ℕ) (reply : Reply) → IsExerciseReply seed reply → HasCause seed reply

@@ -1,8 +1,10 @@
 -- Of the replies on a network's file and a trace, those of each status.
-use Rattle.std.specs.Prelude.{◌≡◌, ◌≢◌, ◌⊎◌, ◌≤◌, ℕ, List}
+use Rattle.std.specs.Prelude.{◌⊎◌, ℕ, List}
 use Rattle.upp_limits.specs.rational.specs.Rational.{ℚ}
 use Rattle.upp_limits.specs.declared.own_limits.OverLimit.{OverLimit}
 use Rattle.upp_limits.specs.declared.own_limits.OverLimit.TheVariants.{TooMany, TooWide}
+use Rattle.command_replies.specs.Causes as causes
+use Rattle.command_replies.specs.Causes.{NoReply}
 use Rattle.command_replies.specs.Replies.{Reply}
 use Rattle.command_replies.specs.OnFiles.{IsBroken, IsCurveOver, IsBadTrace}
 use Rattle.commands.specs.measure.OnMeasures.{IsUnknownFlow, IsMeasureOver, IsBurstOver, IsMeasureReport}
@@ -22,13 +24,11 @@ IsOverLimit limit net_bytes trace_bytes name rate reply =
     ⊎ IsBurstOver limit net_bytes trace_bytes name rate reply)
 
 -- each status has its cause, and there is no other
-pub record HasCause (net_file net_bytes trace_file trace_bytes name : List ℕ) (rate : ℚ) (reply : Reply) : Type 0 where
-  pub report : reply.status ≡ 0 → IsMeasureReport net_bytes trace_bytes name rate reply
-  pub malformed : reply.status ≡ 1 → IsMalformed net_file net_bytes trace_file trace_bytes name reply
-  pub wide : reply.status ≡ 6 → IsOverLimit TooWide net_bytes trace_bytes name rate reply
-  pub many : reply.status ≡ 7 → IsOverLimit TooMany net_bytes trace_bytes name rate reply
-  pub no_read : reply.status ≢ 3
-  pub most : reply.status ≤ 7
+abbrev pub HasCause : (net_file net_bytes trace_file trace_bytes name : List ℕ) → ℚ → Reply → Type 0
+HasCause net_file net_bytes trace_file trace_bytes name rate =
+    causes.HasCause (IsMeasureReport net_bytes trace_bytes name rate) NoReply
+    (IsMalformed net_file net_bytes trace_file trace_bytes name) (IsOverLimit TooWide net_bytes trace_bytes name rate)
+    (IsOverLimit TooMany net_bytes trace_bytes name rate) NoReply
 
 abbrev pub StatusesHaveCauses : Type 0
 StatusesHaveCauses =

@@ -1,6 +1,6 @@
--- What is answered on the bytes of a network's file and of a trace, for a flow's name and a rate: by the first fault
--- of the network, or of the trace; where no live flow has the name; where its packets, or the burst, are over a
--- limit; or by the report on the measured curve.
+-- What is answered on the bytes of a network's file and of a trace, for a flow's name and a rate, stage by stage: on the
+-- first fault of the network, or of the trace; where no live flow has the name; where its packets, or the burst, are over a
+-- limit; and else by the report on the measured curve.
 use Rattle.std.specs.Prelude.{◌≡◌, ℕ, ◌++◌, List, length, codes}
 use Rattle.upp_limits.specs.rational.specs.Rational.{ℚ}
 use Rattle.upp_limits.specs.min_plus.specs.Functions.{zero_q}
@@ -12,11 +12,9 @@ use Rattle.upp_limits.specs.declared.own_limits.OverLimit.{OverLimit}
 use Rattle.upp_limits.specs.declared.own_limits.OverLimit.TheVariants.{TooMany, TooWide}
 use Rattle.upp_limits.specs.Gauges.{IsTooMany, IsTooWide}
 use Rattle.net_model.specs.declared.trace.TracePacket.{TracePacket}
-use Rattle.net_model.specs.Names.{FindsFlow, IsFlowNamed}
+use Rattle.net_model.specs.Names.{IsFlowNamed}
 use Rattle.net_model.specs.Networks.{Net}
 use Rattle.net_model.specs.Traces.{SpecTrace}
-use Rattle.net_text.specs.Reading.{IsNetworkOf}
-use Rattle.net_text.specs.FoldLimits.{OverFold}
 use Rattle.input_texts.specs.table_text.Rows.{rows_of}
 use Rattle.input_texts.specs.table_text.Traces.{IsTraceOf}
 use Rattle.measure_curve.specs.Bursts.{IsLeastBurst}
@@ -25,7 +23,8 @@ use Rattle.measure_curve.specs.Staircases.{TellRises}
 use Rattle.measure_curve.specs.Windows.{of_flow, IsLeastArrival}
 use Rattle.report_text.specs.measure_report.MeasureReport.{measure_report_of}
 use Rattle.command_replies.specs.Replies.{Reply, refusal, over}
-use Rattle.command_replies.specs.OnFiles.{IsBroken, IsCurveOver, IsNetOf, IsBadTrace}
+use Rattle.command_replies.specs.OnFiles.{IsNetOf, OnFile, IsBadTraceOf}
+use Rattle.command_replies.specs.Stages.{Staged}
 
 -- ---- the two files
 -- the files give this network and this trace of it
@@ -108,39 +107,56 @@ IsMeasureReport net_bytes trace_bytes name rate reply =
     (ps : List TracePacket) × (c : SpecCurve) × (burst : ℚ)
     × IsReportOf net_bytes trace_bytes name rate ps c burst reply
 
+-- ---- stages
+-- no live flow of a network has the name
+pub record IsUnknown (net : Net) (name : List ℕ) (reply : Reply) : Type 0 where
+  pub unknown : (k : ℕ) → ¬ (IsFlowNamed net.flows name k)
+  pub is : reply ≡ unknown_flow name
+
+-- packets are over this limit, and over any
+pub record IsPast (limit : OverLimit) (ps : List TracePacket) (reply : Reply) : Type 0 where
+  pub past : AreOver limit ps
+  pub is : reply ≡ over limit (codes "measure")
+
+abbrev pub ArePast : List TracePacket → Reply → Type 0
+ArePast ps reply = (limit : OverLimit) × IsPast limit ps reply
+
+-- the burst of a curve is over this limit, and over any
+pub record IsSteep (limit : OverLimit) (rate : ℚ) (c : SpecCurve) (reply : Reply) : Type 0 where
+  pub past : IsOverBurst limit rate c
+  pub is : reply ≡ over limit (codes "burst")
+
+abbrev pub IsTooSteep : ℚ → SpecCurve → Reply → Type 0
+IsTooSteep rate c reply = (limit : OverLimit) × IsSteep limit rate c reply
+
+-- it is over none, and this one
+pub record IsBurstOf (rate : ℚ) (c : SpecCurve) (burst : ℚ) : Type 0 where
+  pub within : (limit : OverLimit) → ¬ (IsOverBurst limit rate c)
+  pub least : IsLeastBurst (value_at c) rate burst
+
 -- ---- all of them
--- the reply on files with these names and bytes
-pub data IsMeasureReply (net_file net_bytes trace_file trace_bytes name : List ℕ) (rate : ℚ) (reply : Reply)
-    : Type 0 where
-  Broken : IsBroken net_file net_bytes reply → IsMeasureReply net_file net_bytes trace_file trace_bytes name rate reply
-  CurveOver : (limit : OverLimit) → IsCurveOver limit net_bytes reply
-      → IsMeasureReply net_file net_bytes trace_file trace_bytes name rate reply
-  BadTrace : IsBadTrace net_bytes trace_file trace_bytes reply
-      → IsMeasureReply net_file net_bytes trace_file trace_bytes name rate reply
-  UnknownFlow : IsUnknownFlow net_bytes trace_bytes name reply
-      → IsMeasureReply net_file net_bytes trace_file trace_bytes name rate reply
-  MeasureOver : (limit : OverLimit) → IsMeasureOver limit net_bytes trace_bytes name reply
-      → IsMeasureReply net_file net_bytes trace_file trace_bytes name rate reply
-  BurstOver : (limit : OverLimit) → IsBurstOver limit net_bytes trace_bytes name rate reply
-      → IsMeasureReply net_file net_bytes trace_file trace_bytes name rate reply
-  Measured : IsMeasureReport net_bytes trace_bytes name rate reply
-      → IsMeasureReply net_file net_bytes trace_file trace_bytes name rate reply
+-- the reply on packets of a flow with this name, and their curve
+abbrev pub IsReplyOnCurve : List TracePacket → List ℕ → ℚ → SpecCurve → Reply → Type 0
+IsReplyOnCurve ps name rate c =
+    Staged (IsTooSteep rate c) (IsBurstOf rate c) (λ burst reply. reply ≡ measure_report name (length ps) c burst rate)
 
--- ---- on what was read
--- the reply where a network was read, whatever file it is of
-abbrev pub IsReplyOnNet : Net → List ℕ → List ℕ → List ℕ → ℚ → Reply → Type 0
-IsReplyOnNet net trace_file trace_bytes name rate reply =
-    (net_file net_bytes : List ℕ) → IsNetworkOf OverFold net_bytes net
-    → IsMeasureReply net_file net_bytes trace_file trace_bytes name rate reply
-
--- and a trace too
-abbrev pub IsReplyOnTrace : Net → SpecTrace → List ℕ → ℚ → Reply → Type 0
-IsReplyOnTrace net trace name rate reply =
-    (trace_file trace_bytes : List ℕ) → IsTraceOf net (rows_of trace_bytes) trace
-    → IsReplyOnNet net trace_file trace_bytes name rate reply
-
--- and packets of a flow too
+-- on packets of a flow
 abbrev pub IsReplyOnPackets : List TracePacket → List ℕ → ℚ → Reply → Type 0
-IsReplyOnPackets ps name rate reply =
-    (net_file net_bytes trace_file trace_bytes : List ℕ) → AreOwn net_bytes trace_bytes name ps
-    → IsMeasureReply net_file net_bytes trace_file trace_bytes name rate reply
+IsReplyOnPackets ps name rate = Staged (ArePast ps) (IsMeasured ps) (IsReplyOnCurve ps name rate)
+
+-- on a network and a trace of it
+abbrev pub IsReplyOnTrace : Net → SpecTrace → List ℕ → ℚ → Reply → Type 0
+IsReplyOnTrace net trace name rate =
+    Staged (IsUnknown net name) (IsFlowNamed net.flows name)
+    (λ k. IsReplyOnPackets (of_flow k trace.packets) name rate)
+
+-- on a network, with a trace's name and bytes
+abbrev pub IsReplyOnNet : Net → (trace_file trace_bytes name : List ℕ) → ℚ → Reply → Type 0
+IsReplyOnNet net trace_file trace_bytes name rate =
+    Staged (IsBadTraceOf net trace_file trace_bytes) (IsTraceOf net (rows_of trace_bytes))
+    (λ trace. IsReplyOnTrace net trace name rate)
+
+-- on files with these names and bytes
+abbrev pub IsMeasureReply : (net_file net_bytes trace_file trace_bytes name : List ℕ) → ℚ → Reply → Type 0
+IsMeasureReply net_file net_bytes trace_file trace_bytes name rate =
+    OnFile net_file net_bytes (λ net. IsReplyOnNet net trace_file trace_bytes name rate)

@@ -19,6 +19,7 @@ use Rattle.sim_bounds.specs.stated_service.Laws.{IsByFormula}
 use Rattle.run_watch.specs.first_breaches.Firsts.{IsNetBreach}
 use Rattle.input_texts.specs.table_text.Rows.{rows_of}
 use Rattle.input_texts.specs.table_text.Traces.{IsTraceOf}
+use Rattle.command_replies.specs.Causes as causes
 use Rattle.command_replies.specs.Guarantee.{Guarantees}
 use Rattle.command_replies.specs.Replies.{Reply, AreSame}
 use Rattle.command_replies.specs.run_findings.RunBounds.{AreWithinBounds}
@@ -60,14 +61,12 @@ ReportsGuarantee =
 
 -- ---- all replies
 -- each status has its cause, and there is no other
-pub record HasCause (net_file net_bytes trace_file trace_bytes : List ℕ) (reply : Reply) : Type 0 where
-  pub report : IsOfReport reply.status → IsRunReport net_bytes trace_bytes reply
-  pub malformed : reply.status ≡ 1 → IsMalformed net_file net_bytes trace_file trace_bytes reply
-  pub wide : reply.status ≡ 6
-      → IsOverLimit TooWide net_bytes trace_bytes reply ⊎ IsSimulationOver net_bytes trace_bytes reply
-  pub many : reply.status ≡ 7 → IsOverLimit TooMany net_bytes trace_bytes reply
-  pub cycle : reply.status ≡ 8 → HasCycleBehind net_bytes trace_bytes reply
-  pub others : (reply.status ≢ 2) × (reply.status ≢ 3) × (reply.status ≢ 4) × (reply.status ≢ 5)
+abbrev pub HasCause : (net_file net_bytes trace_file trace_bytes : List ℕ) → Reply → Type 0
+HasCause net_file net_bytes trace_file trace_bytes =
+    causes.HasCause (IsRunReport net_bytes trace_bytes) (IsRunReport net_bytes trace_bytes)
+    (IsMalformed net_file net_bytes trace_file trace_bytes)
+    (λ reply. IsOverLimit TooWide net_bytes trace_bytes reply ⊎ IsSimulationOver net_bytes trace_bytes reply)
+    (IsOverLimit TooMany net_bytes trace_bytes) (HasCycleBehind net_bytes trace_bytes)
 
 abbrev pub StatusesHaveCauses : Type 0
 StatusesHaveCauses =

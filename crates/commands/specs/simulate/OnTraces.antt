@@ -1,13 +1,11 @@
--- What is answered on the bytes of a network and of a trace of it: by the network's first fault; by the trace's first
--- fault; by a cycle of the network, or by the order of its servers; by the first cell over a limit, or by a table of
--- all cells; and by the simulation.
+-- What is answered on the bytes of a network and of a trace of it, stage by stage: on the network's first fault; on the
+-- trace's first fault; on a cycle of the network; on the first cell over a limit; and else by the simulation beside a table
+-- of all cells.
 use Rattle.std.specs.Prelude.{ℕ, List, ◌⊎◌}
 use Rattle.upp_limits.specs.declared.own_limits.OverLimit.{OverLimit}
 use Rattle.net_model.specs.Networks.{Net}
 use Rattle.net_model.specs.Orders.{IsOrder}
 use Rattle.net_model.specs.Traces.{SpecTrace, IsTrace}
-use Rattle.net_text.specs.Reading.{IsNetworkOf}
-use Rattle.net_text.specs.FoldLimits.{OverFold}
 use Rattle.report_text.specs.net_cells.specs.Meanings.{CellTable}
 use Rattle.report_text.specs.net_cells.specs.Equations.{MeetsEquations}
 use Rattle.report_text.specs.net_cells.specs.FirstOver.{AnswersAll}
@@ -16,7 +14,9 @@ use Rattle.run_watch.specs.simulated_sizes.Laws.{AreCurves}
 use Rattle.input_texts.specs.table_text.Rows.{rows_of}
 use Rattle.input_texts.specs.table_text.Traces.{IsTraceOf}
 use Rattle.command_replies.specs.Replies.{Reply}
-use Rattle.command_replies.specs.OnFiles.{IsBroken, IsCurveOver, IsNetOf, IsBadTrace, HasCycle, IsCellOver}
+use Rattle.command_replies.specs.OnFiles.{IsBroken, IsCurveOver, IsNetOf, IsBadTraceOf, IsBadTrace, OnCycle, IsNetOver}
+use Rattle.command_replies.specs.OnFiles.{OnFile, OnTable, OnCurves}
+use Rattle.command_replies.specs.Stages.{Staged, Behind}
 use Rattle.report_text.specs.RunReport.{run_report_of}
 use Rattle.command_replies.specs.simulated_findings.Found.{IsTooWide, IsReportBy, IsSimulationReplyBy}
 
@@ -26,18 +26,24 @@ pub record GivesTrace (net : Net) (bytes : List ℕ) (trace : SpecTrace) : Type 
   pub reads : IsTraceOf net (rows_of bytes) trace
   pub keeps : IsTrace trace
 
--- ---- cells
--- the rows give a trace of the network, whose flows go round
-pub record HasCycleBehind (net_bytes trace_bytes : List ℕ) (reply : Reply) : Type 0 where
-  pub cycle : HasCycle net_bytes reply
-  pub trace : SpecTrace
-  pub read : GivesTrace cycle.net trace_bytes trace
+-- ---- all of them
+-- the reply on a network and a trace, beside this table: the simulation is over its gauge, or reported
+abbrev pub IsSimulationReply : Net → SpecTrace → CellTable → Reply → Type 0
+IsSimulationReply = IsSimulationReplyBy run_report_of
 
--- the rows give a trace of the network, of which a cell is over a limit
-pub record IsCellOverBehind (limit : OverLimit) (net_bytes trace_bytes : List ℕ) (reply : Reply) : Type 0 where
-  pub over : IsCellOver limit net_bytes reply
-  pub trace : SpecTrace
-  pub read : GivesTrace over.net trace_bytes trace
+-- on a network and a trace of it
+abbrev pub IsRunReplyOnTrace : Net → SpecTrace → Reply → Type 0
+IsRunReplyOnTrace net trace = OnTable net (OnCurves net (IsSimulationReply net trace))
+
+-- on a network, with a trace's name and bytes
+abbrev pub IsRunReplyOnNet : Net → (trace_file trace_bytes : List ℕ) → Reply → Type 0
+IsRunReplyOnNet net trace_file trace_bytes =
+    Staged (IsBadTraceOf net trace_file trace_bytes) (GivesTrace net trace_bytes) (IsRunReplyOnTrace net)
+
+-- on files with these names and bytes
+abbrev pub IsRunReply : (net_file net_bytes trace_file trace_bytes : List ℕ) → Reply → Type 0
+IsRunReply net_file net_bytes trace_file trace_bytes =
+    OnFile net_file net_bytes (λ net. IsRunReplyOnNet net trace_file trace_bytes)
 
 -- ---- simulations
 -- the network and the trace that the files give; the network's servers have an order, and each cell has its answer in
@@ -65,45 +71,21 @@ pub record IsRunReport (net_bytes trace_bytes : List ℕ) (reply : Reply) : Type
   pub analysed : AreAnalysed net_bytes trace_bytes net trace at
   pub report : IsReportBy run_report_of net trace at reply
 
--- ---- all of them
--- the reply on files with these names and bytes
-pub data IsRunReply (net_file net_bytes trace_file trace_bytes : List ℕ) (reply : Reply) : Type 0 where
-  Broken : IsBroken net_file net_bytes reply → IsRunReply net_file net_bytes trace_file trace_bytes reply
-  CurveOver : (limit : OverLimit) → IsCurveOver limit net_bytes reply
-      → IsRunReply net_file net_bytes trace_file trace_bytes reply
-  BadTrace : IsBadTrace net_bytes trace_file trace_bytes reply
-      → IsRunReply net_file net_bytes trace_file trace_bytes reply
-  Cyclic : HasCycleBehind net_bytes trace_bytes reply → IsRunReply net_file net_bytes trace_file trace_bytes reply
-  CellOver : (limit : OverLimit) → IsCellOverBehind limit net_bytes trace_bytes reply
-      → IsRunReply net_file net_bytes trace_file trace_bytes reply
-  SimulationOver : IsSimulationOver net_bytes trace_bytes reply
-      → IsRunReply net_file net_bytes trace_file trace_bytes reply
-  Reported : IsRunReport net_bytes trace_bytes reply → IsRunReply net_file net_bytes trace_file trace_bytes reply
-
 -- ---- causes
 -- a rule of network files, or a row of the trace
 abbrev pub IsMalformed : (net_file net_bytes trace_file trace_bytes : List ℕ) → Reply → Type 0
 IsMalformed net_file net_bytes trace_file trace_bytes reply =
     IsBroken net_file net_bytes reply ⊎ IsBadTrace net_bytes trace_file trace_bytes reply
 
+-- what is said of the network that a file gives, of which another gives a trace
+abbrev pub BehindTrace : (net_bytes trace_bytes : List ℕ) → (Net → Reply → Type 0) → Reply → Type 0
+BehindTrace net_bytes trace_bytes Said =
+    Behind (IsNetOf net_bytes) (λ net. Behind (GivesTrace net trace_bytes) (λ trace. Said net))
+
+abbrev pub HasCycleBehind : (net_bytes trace_bytes : List ℕ) → Reply → Type 0
+HasCycleBehind net_bytes trace_bytes = BehindTrace net_bytes trace_bytes OnCycle
+
 -- of the curves of the network's file, or else of the cells, the first that is over a limit is over this one
 abbrev pub IsOverLimit : OverLimit → List ℕ → List ℕ → Reply → Type 0
 IsOverLimit limit net_bytes trace_bytes reply =
-    IsCurveOver limit net_bytes reply ⊎ IsCellOverBehind limit net_bytes trace_bytes reply
-
--- ---- what calls answer
--- the reply on each file that gives this network, with a trace's name and bytes
-abbrev pub IsRunReplyOnNet : Net → List ℕ → List ℕ → Reply → Type 0
-IsRunReplyOnNet net trace_file trace_bytes reply =
-    (net_file net_bytes : List ℕ) → IsNetworkOf OverFold net_bytes net
-    → IsRunReply net_file net_bytes trace_file trace_bytes reply
-
--- the reply on each two files that give this network and this trace of it
-abbrev pub IsRunReplyOnTrace : Net → SpecTrace → Reply → Type 0
-IsRunReplyOnTrace net trace reply =
-    (net_file net_bytes trace_file trace_bytes : List ℕ) → IsNetworkOf OverFold net_bytes net
-    → IsTraceOf net (rows_of trace_bytes) trace → IsRunReply net_file net_bytes trace_file trace_bytes reply
-
--- the reply on a network and a trace, beside this table: the simulation is over its gauge, or reported
-abbrev pub IsSimulationReply : Net → SpecTrace → CellTable → Reply → Type 0
-IsSimulationReply = IsSimulationReplyBy run_report_of
+    IsCurveOver limit net_bytes reply ⊎ BehindTrace net_bytes trace_bytes (IsNetOver limit) reply

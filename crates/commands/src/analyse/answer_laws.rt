@@ -1,6 +1,6 @@
 //! Laws of the replies on files. Each is the contract of a function that does nothing.
 
-ghost use Rattle.commands.specs.analyse.AnswerLaws.{RepliesAreComplete, RepliesAreDetermined, UnboundedIsInfinite};
+ghost use Rattle.commands.specs.analyse.AnswerLaws.{RepliesAreComplete, RepliesAreDetermined, StatusesHaveCauses, UnboundedIsInfinite};
 
 /// Two replies on one file have one status, and one text unless it tells a cycle.
 pub fn answers_are_determined()
@@ -10,6 +10,12 @@ pub fn answers_are_determined()
 /// A file that gives a network without a cycle, with no cell over a limit, has no other reply than a report.
 pub fn replies_are_complete()
     ensures { RepliesAreComplete }
+{}
+
+/// The status of a reply tells its cause: 0 a report; 1 a rule of the file; 6 and 7 the first curve or the first cell over
+/// a limit, by that limit; 8 a cycle. No reply has another one.
+pub fn statuses_have_causes()
+    ensures { StatusesHaveCauses }
 {}
 
 /// Where a report shows `unbounded` for a cell, the number of the cell is infinite.

@@ -26,7 +26,10 @@ pub fn on_bytes<L: Ledger>(
     ensures counts { CountsOn bytes.now (status_of result) steps.old steps.new }
 {
     match read_network(alloc, bytes, steps) {
-        Ok(network) => on_network(alloc, &network, form, steps),
+        Ok(network) => {
+            network.keeps();
+            on_network(alloc, &network, form, steps)
+        }
         Err(fault) => on_fault(alloc, file, fault),
     }
 }

@@ -1,6 +1,7 @@
 //! The answer on a network.
 
 ghost use Rattle.std.specs.Prelude.{IfOk};
+ghost use Rattle.net_model.specs.Accepted.{IsAccepted};
 ghost use Rattle.net_model.specs.Orders.{IsOrder};
 ghost use Rattle.commands.specs.analyse.AnswerCounts.{CountsOnNet};
 ghost use Rattle.commands.specs.analyse.OnFiles.{IsReplyOnNet};
@@ -24,11 +25,11 @@ fn in_order<L: Ledger>(
     form: Form,
     steps: &mut Steps<L>,
 ) -> Result<Answer, AllocError>
-    requires { IsOrder net.now order.now }
+    requires accepted { IsAccepted net.now }
+    requires order { IsOrder net.now order.now }
     ensures reply { IfOk result (λ r. IsReplyOnNet form net.now (reply_of r)) }
     ensures counts { CountsOnNet net.now (status_of result) steps.old steps.new }
 {
-    net.keeps();
     match analyse(alloc, net, order, steps) {
         Ok(table) => {
             let text = text_in(alloc, form, net, &table)?;
@@ -43,18 +44,17 @@ fn in_order<L: Ledger>(
     }
 }
 
-/// The answer on a network: of a cycle, of the first cell over a limit, or the report. Want of memory apart, it is the
-/// one on each file that gives the network.
+/// The answer on a network: of a cycle, of the first cell over a limit, or the report. Refused only for want of memory.
 pub(crate) fn on_network<L: Ledger>(
     alloc: Global,
     net: &Network,
     form: Form,
     steps: &mut Steps<L>,
 ) -> Result<Answer, AllocError>
+    requires { IsAccepted net.now }
     ensures reply { IfOk result (λ r. IsReplyOnNet form net.now (reply_of r)) }
     ensures counts { CountsOnNet net.now (status_of result) steps.old steps.new }
 {
-    net.keeps();
     match order(alloc, net) {
         Ok(servers) => in_order(alloc, net, &servers, form, steps),
         Err(GraphFault::Cycle(walk)) => goes_round(alloc, net, &walk),

@@ -1,6 +1,7 @@
 //! The answer on the files of a network and of a recorded run.
 
 ghost use Rattle.std.specs.Prelude.{IfOk};
+ghost use Rattle.net_model.specs.Accepted.{IsAccepted};
 ghost use Rattle.command_replies.specs.View.{reply_of, status_of};
 ghost use Rattle.commands.specs.check.OnRuns.{IsCheckReply, IsCheckReplyOnNet};
 ghost use Rattle.commands.specs.check.CheckCounts.{CountsOn, CountsOnNet};
@@ -23,10 +24,10 @@ fn on_rows<L: Ledger>(
     run_bytes: &[u8],
     steps: &mut Steps<L>,
 ) -> Result<Answer, AllocError>
+    requires accepted { IsAccepted net.now }
     ensures reply { IfOk result (λ r. IsCheckReplyOnNet net.now run_file.now run_bytes.now (reply_of r)) }
     ensures counts { CountsOnNet net.now run_bytes.now (status_of result) steps.old steps.new }
 {
-    net.keeps();
     match read_run(alloc, run_bytes, net) {
         Ok(run) => on_network(alloc, net, &run, steps),
         Err(fault) => on_run_fault(alloc, run_file, fault),
@@ -50,7 +51,10 @@ pub fn on_run<L: Ledger>(
     ensures counts { CountsOn net_bytes.now run_bytes.now (status_of result) steps.old steps.new }
 {
     match read_network(alloc, net_bytes, steps) {
-        Ok(network) => on_rows(alloc, &network, run_file, run_bytes, steps),
+        Ok(network) => {
+            network.keeps();
+            on_rows(alloc, &network, run_file, run_bytes, steps)
+        }
         Err(fault) => on_fault(alloc, net_file, fault),
     }
 }

@@ -1,6 +1,7 @@
 //! The answer on a network and a recorded run of it.
 
 ghost use Rattle.std.specs.Prelude.{IfOk};
+ghost use Rattle.net_model.specs.Accepted.{IsAccepted};
 ghost use Rattle.net_model.specs.Orders.{IsOrder};
 ghost use Rattle.run_check.specs.run_table.ReadRuns.{IsRecordedRun};
 ghost use Rattle.command_replies.specs.View.{reply_of, status_of};
@@ -27,12 +28,12 @@ fn in_order<L: Ledger>(
     order: &[u32],
     steps: &mut Steps<L>,
 ) -> Result<Answer, AllocError>
+    requires accepted { IsAccepted net.now }
     requires order { IsOrder net.now order.now }
     requires recorded { IsRecordedRun net.now run.now }
     ensures reply { IfOk result (λ r. IsCheckReplyOnRun net.now run.now (reply_of r)) }
     ensures counts { CountsOnCells net.now (status_of result) steps.old steps.new }
 {
-    net.keeps();
     keeps_curves(net);
     match analyse(alloc, net, order, steps) {
         Ok(table) => checked(alloc, net, run, &table),
@@ -43,18 +44,18 @@ fn in_order<L: Ledger>(
 }
 
 /// The answer on a network and a recorded run of it: of a cycle, of the first cell over a limit, of a run that is too
-/// wide, or the report. Want of memory apart, it is the one on each two files that give them.
+/// wide, or the report. Refused only for want of memory.
 pub(crate) fn on_network<L: Ledger>(
     alloc: Global,
     net: &Network,
     run: &Run,
     steps: &mut Steps<L>,
 ) -> Result<Answer, AllocError>
-    requires { IsRecordedRun net.now run.now }
+    requires accepted { IsAccepted net.now }
+    requires recorded { IsRecordedRun net.now run.now }
     ensures reply { IfOk result (λ r. IsCheckReplyOnRun net.now run.now (reply_of r)) }
     ensures counts { CountsOnCells net.now (status_of result) steps.old steps.new }
 {
-    net.keeps();
     match order(alloc, net) {
         Ok(servers) => in_order(alloc, net, run, &servers, steps),
         Err(GraphFault::Cycle(walk)) => goes_round(alloc, net, &walk),

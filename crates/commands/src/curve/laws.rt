@@ -1,6 +1,6 @@
 //! Laws of the replies on scripts. Each is the contract of a function that does nothing.
 
-ghost use Rattle.commands.specs.curve.Laws.{RepliesAreComplete, RepliesAreDetermined};
+ghost use Rattle.commands.specs.curve.Laws.{RepliesAreComplete, RepliesAreDetermined, StatusesHaveCauses};
 
 /// There is one reply on a file.
 pub fn answers_are_determined()
@@ -10,4 +10,10 @@ pub fn answers_are_determined()
 /// A script that finds no fault has no other reply than its answers.
 pub fn replies_are_complete()
     ensures { RepliesAreComplete }
+{}
+
+/// The status of a reply tells its cause: 0 the answers; 1 a line that is no statement, or a rule that one breaks; 6 and 7 the
+/// first line over a limit, by that limit. No reply has another one.
+pub fn statuses_have_causes()
+    ensures { StatusesHaveCauses }
 {}

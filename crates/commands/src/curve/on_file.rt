@@ -23,7 +23,7 @@ fn answered(alloc: Global, answers: &[Told]) -> Result<Answer, AllocError>
     })
 }
 
-// The answer on the statements of a script. Want of memory apart, it is the one on each file that is this script.
+// The answer on the statements of a script. Refused only for want of memory.
 fn on_lines<L: Ledger>(
     alloc: Global,
     file: &str,

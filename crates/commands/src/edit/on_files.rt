@@ -1,6 +1,7 @@
 //! The answer on a network's file and a list of edits.
 
 ghost use Rattle.std.specs.Prelude.{IfOk};
+ghost use Rattle.net_model.specs.Accepted.{IsAccepted};
 ghost use Rattle.command_replies.specs.View.{reply_of, status_of};
 ghost use Rattle.commands.specs.edit.EditCounts.{CountsOn, CountsOnNet};
 ghost use Rattle.commands.specs.edit.OnEdits.{IsEditReply, IsReplyOnNet};
@@ -24,10 +25,10 @@ fn on_list<L: Ledger>(
     form: Form,
     steps: &mut Steps<L>,
 ) -> Result<Answer, AllocError>
+    requires accepted { IsAccepted net.now }
     ensures reply { IfOk result (λ r. IsReplyOnNet form net.now edits_file.now edits_bytes.now (reply_of r)) }
     ensures counts { CountsOnNet net.now edits_bytes.now (status_of result) steps.old steps.new }
 {
-    net.keeps();
     match read_edits(alloc, edits_bytes) {
         Ok(edits) => on_network(alloc, net, &edits, form, steps),
         Err(fault) => on_table_fault(alloc, edits_file, fault),
@@ -52,7 +53,10 @@ pub fn on_edits<L: Ledger>(
     ensures counts { CountsOn net_bytes.now edits_bytes.now (status_of result) steps.old steps.new }
 {
     match read_network(alloc, net_bytes, steps) {
-        Ok(network) => on_list(alloc, &network, edits_file, edits_bytes, form, steps),
+        Ok(network) => {
+            network.keeps();
+            on_list(alloc, &network, edits_file, edits_bytes, form, steps)
+        }
         Err(fault) => on_fault(alloc, net_file, fault),
     }
 }

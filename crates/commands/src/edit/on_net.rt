@@ -1,6 +1,8 @@
 //! The answer on a network and edits.
 
-ghost use Rattle.std.specs.Prelude.{◌≡◌, ◌+◌, ◌≤◌, ℕ, [], length, IfOk};
+ghost use Rattle.std.specs.Prelude.{◌≡◌, ◌+◌, ◌≤◌, ℕ, [], length, map, IfOk};
+ghost use Rattle.input_texts.specs.table_text.EditRows.{edit_view};
+ghost use Rattle.net_model.specs.Accepted.{IsAccepted};
 ghost use Rattle.net_model.specs.Orders.{IsOrder};
 ghost use Rattle.net_model.specs.Networks.{Net};
 ghost use Rattle.report_text.specs.net_cells.specs.Meanings.{CellTable};
@@ -65,13 +67,13 @@ fn in_order<E: Evaluator<Value>>(
     form: Form,
     eval: &mut E,
 ) -> Result<Answer, AllocError>
+    requires accepted { IsAccepted net.now }
     requires ordered { IsOrder net.now order.now }
     requires few { length edits.now ≤ 1000 }
-    ensures reply { IfOk result (λ r. IsReplyOnEdits form net.now edits.now (reply_of r)) }
+    ensures reply { IfOk result (λ r. IsReplyOnEdits form net.now (map edit_view edits.now) (reply_of r)) }
     ensures counts { CountsOnEdits net.now edits.now (status_of result) (E.count eval.old) (E.count eval.new) }
     ensures same { E.counter eval.new ≡ E.counter eval.old }
 {
-    net.keeps();
     match Store::new(alloc, net.copy()?, order, eval) {
         Ok(store) => reported(alloc, store, edits, form, eval),
         Err(AnalysisFault::TooMany(cell)) => cell_too_many(alloc, net, cell),
@@ -80,8 +82,8 @@ fn in_order<E: Evaluator<Value>>(
     }
 }
 
-/// The answer on a network and edits: of a cycle, of the first cell over a limit, or the report. Want of memory
-/// apart, it is the one on each file that gives the network and each list that asks for the edits.
+/// The answer on a network and edits: of a cycle, of the first cell over a limit, or the report. Refused only for want of
+/// memory.
 pub(crate) fn on_network<L: Ledger>(
     alloc: Global,
     net: &Network,
@@ -89,11 +91,11 @@ pub(crate) fn on_network<L: Ledger>(
     form: Form,
     steps: &mut Steps<L>,
 ) -> Result<Answer, AllocError>
-    requires { length edits.now ≤ 1000 }
-    ensures reply { IfOk result (λ r. IsReplyOnEdits form net.now edits.now (reply_of r)) }
+    requires accepted { IsAccepted net.now }
+    requires few { length edits.now ≤ 1000 }
+    ensures reply { IfOk result (λ r. IsReplyOnEdits form net.now (map edit_view edits.now) (reply_of r)) }
     ensures counts { CountsOnEdits net.now edits.now (status_of result) steps.old steps.new }
 {
-    net.keeps();
     match order(alloc, net) {
         Ok(servers) => {
             let mut counted = Counted { alloc, steps };

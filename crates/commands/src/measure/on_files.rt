@@ -33,7 +33,6 @@ fn on_rows<L: Ledger>(
     ensures most { steps.new ≤ steps.old + 1 }
     ensures report { status_of result ≡ 0 → steps.new ≡ steps.old + 1 }
 {
-    net.keeps();
     match read_trace(alloc, trace_bytes, net) {
         Ok(trace) => on_trace(alloc, net, &trace, name, rate, steps),
         Err(fault) => on_table_fault(alloc, trace_file, fault),
@@ -60,7 +59,10 @@ pub fn on_measure<L: Ledger>(
     ensures counts { CountsOn net_bytes.now (status_of result) steps.old steps.new }
 {
     match read_network(alloc, net_bytes, steps) {
-        Ok(network) => on_rows(alloc, &network, trace_file, trace_bytes, name, rate, steps),
+        Ok(network) => {
+            network.keeps();
+            on_rows(alloc, &network, trace_file, trace_bytes, name, rate, steps)
+        }
         Err(fault) => on_fault(alloc, net_file, fault),
     }
 }

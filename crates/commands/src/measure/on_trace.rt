@@ -110,7 +110,6 @@ pub(crate) fn on_trace<L: Ledger>(
     ensures most { steps.new ≤ steps.old + 1 }
     ensures report { status_of result ≡ 0 → steps.new ≡ steps.old + 1 }
 {
-    net.keeps();
     match net.flow_named(name) {
         Some(flow) => on_flow(alloc, trace, flow, name, rate, steps),
         None => unknown_flow(alloc, name),

@@ -1,6 +1,7 @@
 //! The answer on the files of a network and of a trace.
 
 ghost use Rattle.std.specs.Prelude.{IfOk};
+ghost use Rattle.net_model.specs.Accepted.{IsAccepted};
 ghost use Rattle.command_replies.specs.View.{reply_of, status_of};
 ghost use Rattle.commands.specs.simulate.OnTraces.{IsRunReply, IsRunReplyOnNet};
 ghost use Rattle.commands.specs.simulate.RunCounts.{CountsOn, CountsOnNet};
@@ -22,12 +23,15 @@ fn on_rows<L: Ledger>(
     trace_bytes: &[u8],
     steps: &mut Steps<L>,
 ) -> Result<Answer, AllocError>
+    requires accepted { IsAccepted net.now }
     ensures reply { IfOk result (λ r. IsRunReplyOnNet net.now trace_file.now trace_bytes.now (reply_of r)) }
     ensures counts { CountsOnNet net.now trace_bytes.now (status_of result) steps.old steps.new }
 {
-    net.keeps();
     match read_trace(alloc, trace_bytes, net) {
-        Ok(trace) => on_network(alloc, net, &trace, steps),
+        Ok(trace) => {
+            let _kept = trace.packets();
+            on_network(alloc, net, &trace, steps)
+        }
         Err(fault) => on_table_fault(alloc, trace_file, fault),
     }
 }
@@ -49,7 +53,10 @@ pub fn on_trace<L: Ledger>(
     ensures counts { CountsOn net_bytes.now trace_bytes.now (status_of result) steps.old steps.new }
 {
     match read_network(alloc, net_bytes, steps) {
-        Ok(network) => on_rows(alloc, &network, trace_file, trace_bytes, steps),
+        Ok(network) => {
+            network.keeps();
+            on_rows(alloc, &network, trace_file, trace_bytes, steps)
+        }
         Err(fault) => on_fault(alloc, net_file, fault),
     }
 }

@@ -1,6 +1,7 @@
 //! The answer on a network and a trace of it.
 
 ghost use Rattle.std.specs.Prelude.{IfOk};
+ghost use Rattle.net_model.specs.Accepted.{IsAccepted};
 ghost use Rattle.net_model.specs.Orders.{IsOrder};
 ghost use Rattle.net_model.specs.stated_runs.FromTraces.{IsTraceOf};
 ghost use Rattle.command_replies.specs.View.{reply_of, status_of};
@@ -26,14 +27,13 @@ fn in_order<L: Ledger>(
     order: &[u32],
     steps: &mut Steps<L>,
 ) -> Result<Answer, AllocError>
+    requires accepted { IsAccepted net.now }
     requires order { IsOrder net.now order.now }
     requires named { IsTraceOf net.now trace.now }
     ensures reply { IfOk result (λ r. IsRunReplyOnTrace net.now trace.now (reply_of r)) }
     ensures counts { CountsOnCells net.now (status_of result) steps.old steps.new }
 {
-    net.keeps();
     keeps_curves(net);
-    let _kept = trace.packets();
     match analyse(alloc, net, order, steps) {
         Ok(table) => simulated(alloc, net, trace, &table),
         Err(AnalysisFault::TooMany(cell)) => cell_too_many(alloc, net, cell),
@@ -43,19 +43,18 @@ fn in_order<L: Ledger>(
 }
 
 /// The answer on a network and a trace of it: of a cycle, of the first cell over a limit, of a simulation that is too
-/// wide, or the report. Want of memory apart, it is the one on each two files that give them.
+/// wide, or the report. Refused only for want of memory.
 pub(crate) fn on_network<L: Ledger>(
     alloc: Global,
     net: &Network,
     trace: &Trace,
     steps: &mut Steps<L>,
 ) -> Result<Answer, AllocError>
-    requires { IsTraceOf net.now trace.now }
+    requires accepted { IsAccepted net.now }
+    requires named { IsTraceOf net.now trace.now }
     ensures reply { IfOk result (λ r. IsRunReplyOnTrace net.now trace.now (reply_of r)) }
     ensures counts { CountsOnCells net.now (status_of result) steps.old steps.new }
 {
-    net.keeps();
-    let _kept = trace.packets();
     match order(alloc, net) {
         Ok(servers) => in_order(alloc, net, trace, &servers, steps),
         Err(GraphFault::Cycle(walk)) => goes_round(alloc, net, &walk),

@@ -30,8 +30,9 @@ use Rattle.upp_limits.specs.declared.op_kind.OpFault.TheVariants.{TooMany, TooWi
 use Rattle.upp_limits.specs.declared.own_limits.OverLimit.{OverLimit}
 use Rattle.upp_limits.specs.declared.own_limits.OverLimit.TheVariants as limits
 use Rattle.commands.specs.command_replies.specs.Replies.{Reply, breaks_rule, goes_round, curve_over, cell_over}
-use Rattle.commands.specs.command_replies.specs.OnFiles.{IsNetOf}
-use Rattle.commands.specs.analyse.OnFiles.{report, IsReplyOn, Broken, CurveOver, Cyclic, CellOver, Reported}
+use Rattle.commands.specs.command_replies.specs.OnFiles.{IsNetOf, IsOver}
+use Rattle.commands.specs.command_replies.specs.Stages.{stops, goes_on}
+use Rattle.commands.specs.analyse.OnFiles.{report, IsReplyOn, IsReplyOnNet}
 use Rattle.run_watch.specs.simulated_sizes.Laws.{AreCurves}
 use Rattle.existence.proofs.tables.Sound.{zero_is}
 use Rattle.existence.proofs.tables.Tables.{tables_or_limits}
@@ -90,33 +91,36 @@ files_have form bytes net order g o never =
 
 -- ---- a reply
 -- on the first cell over a limit
-over_limit : (form : Form) (file bytes : List ℕ) (net : Net) (order : List ℕ) → IsNetOf bytes net → IsOrder net order → (c : Cell) (fault : OpFault)
-    → FirstOver net order c fault → (reply : Reply) × IsReplyOn form file bytes reply
-over_limit form file bytes net order g o c TooWide first = (
-  cell_over limits.TooWide (cell_words net c),
-  CellOver limits.TooWide record { net = net; gives = g; order = order; ordered = o; cell = c; first = first; is = refl },
-)
-over_limit form file bytes net order g o c TooMany first = (
-  cell_over limits.TooMany (cell_words net c),
-  CellOver limits.TooMany record { net = net; gives = g; order = order; ordered = o; cell = c; first = first; is = refl },
-)
-over_limit form file bytes net order g o c NoMemory first = absurd (first.limit refl)
+over_limit : (net : Net) (order : List ℕ) (c : Cell) (fault : OpFault) → FirstOver net order c fault
+    → (reply : Reply) × IsOver net order reply
+over_limit net order c TooWide first =
+    (cell_over limits.TooWide (cell_words net c), limits.TooWide, record { cell = c; first = first; is = refl })
+over_limit net order c TooMany first =
+    (cell_over limits.TooMany (cell_words net c), limits.TooMany, record { cell = c; first = first; is = refl })
+over_limit net order c NoMemory first = absurd (first.limit refl)
 
-in_order : (form : Form) (file bytes : List ℕ) (net : Net) (order : List ℕ) → IsNetOf bytes net → IsOrder net order
-    → (reply : Reply) × IsReplyOn form file bytes reply
-in_order form file bytes net order g o =
+in_order : (form : Form) (bytes : List ℕ) (net : Net) (order : List ℕ) → IsNetOf bytes net → IsOrder net order
+    → (reply : Reply) × IsReplyOnNet form net reply
+in_order form bytes net order g o =
     elim (tables_or_limits net order g.accepted (are_curves g.reads.draft net g.reads.built) o) [
       | inl (at, all) ↦
           let m = answers_meet net order at g.accepted o all in
-          (report form net at, Reported (net, at, record { gives = g; order = order; ordered = o; answers = all; meets = m; is = refl }))
-      | inr (c, fault, first) ↦ over_limit form file bytes net order g o c fault first
+          (report form net at, goes_on order o (goes_on at record { answers = all; meets = m } refl))
+      | inr (c, fault, first) ↦
+          let over = over_limit net order c fault first in
+          (over.0, goes_on order o (stops over.1))
     ]
 
-pub networks_have_replies : NetworksHaveReplies
-networks_have_replies net form file bytes g = elim (order_or_round net g.accepted) [
-  | inl o ↦ in_order form file bytes net o.0 g o.1
-  | inr c ↦ (goes_round (map (server_name net) c.0), Cyclic record { net = net; gives = g; walk = c.0; cycle = c.1; is = refl })
+on_net : (form : Form) (bytes : List ℕ) (net : Net) → IsNetOf bytes net → (reply : Reply) × IsReplyOnNet form net reply
+on_net form bytes net g = elim (order_or_round net g.accepted) [
+  | inl o ↦ in_order form bytes net o.0 g o.1
+  | inr c ↦ (goes_round (map (server_name net) c.0), stops record { walk = c.0; cycle = c.1; is = refl })
 ]
+
+pub networks_have_replies : NetworksHaveReplies
+networks_have_replies net form file bytes g =
+    let next = on_net form bytes net g in
+    (next.0, goes_on net g next.1)
 
 -- ---- by a draft
 -- the first of some curves over a limit is over one, at a place
@@ -131,11 +135,11 @@ on_fault : (form : Form) (file bytes : List ℕ) (d : DraftText) (f : Fault) →
 on_fault form file bytes d f is first =
     let (limit, place, named) = limit_of (curves_of d) f first in (
       curve_over limit place,
-      CurveOver limit record {
+      stops (inr (limit, record {
         place = place;
         first = record { draft = d; is_draft = is; first = subst (FirstCurveOver OverFold (curves_of d)) named first };
         is = refl;
-      },
+      })),
     )
 
 pub drafts_have : (d : DraftText) → HasNetworkOrFault d → HaveReplies (λ bytes. draft_of bytes ≡ Ok d)
@@ -148,4 +152,4 @@ drafts_have d h form file bytes is = elim h [
 ]
 
 pub broken_have : BrokenFilesHaveReplies
-broken_have fault form file bytes is = (breaks_rule file fault, Broken record { fault = fault; first = is; is = refl })
+broken_have fault form file bytes is = (breaks_rule file fault, stops (inl record { fault = fault; first = is; is = refl }))

@@ -1,13 +1,14 @@
 use Rattle.std.proofs.lemmas.Result.{IfOk-weaker}
-use Rattle.command_replies.specs.View.{reply_of, status_of}
+use Rattle.command_replies.specs.Stages.{stops, goes_on}
+use Rattle.command_replies.specs.View.{status_of}
 use Rattle.commands.proofs.analyse.Counting.{of_network}
-use Rattle.commands.proofs.analyse.OnNets.{on_no_network}
 use Rattle.command_replies.proofs.FirstFaults.{on_told}
 use Rattle.commands.proofs.analyse.on_file.on_bytes.Goals as goal
 
 pub returns-in-Ok-clause-reply : goal.returns-in-Ok-clause-reply
 returns-in-Ok-clause-reply g c =
-    IfOk-weaker c.on_network.result _ _ (λ r on. on c.args.file.now c.args.bytes.now c.in-Ok.ensures.network)
+    IfOk-weaker c.on_network.result _ _
+    (λ r on. goes_on c.in-Ok.network record { reads = c.in-Ok.ensures.network; accepted = c.keeps.ensures } on)
     c.on_network.ensures.reply
 
 pub returns-in-Ok-clause-counts : goal.returns-in-Ok-clause-counts
@@ -19,6 +20,6 @@ returns-in-Ok-clause-counts g c =
 pub returns-in-Err-clause-reply : goal.returns-in-Err-clause-reply
 returns-in-Err-clause-reply g c =
     IfOk-weaker c.on_fault.result _ _
-    (λ r told. on_no_network c.args.form c.args.file.now c.args.bytes.now (reply_of r) told)
+    (λ r none. stops none)
     (on_told c.args.file.now c.args.bytes.now c.in-Err.fault c.on_fault.result c.in-Err.ensures.fault
     c.on_fault.ensures.reply c.on_fault.ensures.told)

@@ -1,28 +1,27 @@
 use Rattle.std.proofs.lemmas.Result.{IfOk-weaker}
+use Rattle.command_replies.specs.Stages.{stops, goes_on}
 use Rattle.command_replies.specs.View.{status_of}
 use Rattle.input_texts.specs.table_text.Rows.{rows_of}
 use Rattle.run_check.proofs.run_table.Recorded.{runs_read_are_recorded}
 use Rattle.commands.proofs.check.Counting.{of_run}
-use Rattle.commands.proofs.check.OnReplies.{on_told}
+use Rattle.commands.proofs.check.OnFaults.{on_told}
 use Rattle.commands.proofs.check.on_files.on_rows.Goals as goal
 
-pub on_network-requires : goal.on_network-requires
-on_network-requires g c =
+pub on_network-requires-clause-recorded : goal.on_network-requires-clause-recorded
+on_network-requires-clause-recorded g c =
     runs_read_are_recorded c.args.net.now (rows_of c.args.run_bytes.now) c.in-Ok.run' c.in-Ok.ensures.ok
 
 pub returns-in-Ok-clause-reply : goal.returns-in-Ok-clause-reply
 returns-in-Ok-clause-reply g c =
-    IfOk-weaker c.on_network.result _ _
-    (λ r on. λ net_file net_bytes reads.
-    on net_file net_bytes c.args.run_file.now c.args.run_bytes.now reads c.in-Ok.ensures.ok)
-    c.on_network.ensures.reply
+    IfOk-weaker c.on_network.result _ _ (λ r on. goes_on c.in-Ok.run' c.in-Ok.ensures.ok on) c.on_network.ensures.reply
 
 pub returns-in-Ok-clause-counts : goal.returns-in-Ok-clause-counts
 returns-in-Ok-clause-counts g c =
     of_run c.args.net.now c.args.run_bytes.now c.in-Ok.run' (status_of c.on_network.result) c.args.steps.now
-    c.on_network.new.steps c.keeps.ensures c.in-Ok.ensures.ok c.on_network.ensures.counts
+    c.on_network.new.steps c.requires.accepted c.in-Ok.ensures.ok c.on_network.ensures.counts
 
 pub returns-in-Err-clause-reply : goal.returns-in-Err-clause-reply
 returns-in-Err-clause-reply g c =
-    on_told c.args.net.now c.args.run_file.now c.args.run_bytes.now c.in-Err.fault c.on_run_fault.result
-    c.keeps.ensures c.in-Err.ensures.fault c.on_run_fault.ensures.reply c.on_run_fault.ensures.told
+    IfOk-weaker c.on_run_fault.result _ _ (λ r bad. stops bad)
+    (on_told c.args.net.now c.args.run_file.now c.args.run_bytes.now c.in-Err.fault c.on_run_fault.result
+    c.in-Err.ensures.fault c.on_run_fault.ensures.reply c.on_run_fault.ensures.told)

@@ -1,15 +1,17 @@
 use Rattle.std.proofs.lemmas.Result.{IfOk-weaker}
 use Rattle.net_draft.specs.Faults.{fault_of}
 use Rattle.command_replies.specs.Faults.{fault_reply}
-use Rattle.command_replies.specs.View.{reply_of, status_of}
+use Rattle.command_replies.specs.Stages.{stops, goes_on}
+use Rattle.command_replies.specs.View.{status_of}
 use Rattle.command_replies.proofs.FirstFaults.{on_told}
 use Rattle.command_replies.proofs.Statuses.{refused}
-use Rattle.commands.proofs.edit.OnFiles.{of_network, of_fault, fault_is_refused, on_no_network}
+use Rattle.commands.proofs.edit.OnFiles.{of_network, of_fault, fault_is_refused}
 use Rattle.commands.proofs.edit.on_files.on_edits.Goals as goal
 
 pub returns-in-Ok-clause-reply : goal.returns-in-Ok-clause-reply
 returns-in-Ok-clause-reply g c =
-    IfOk-weaker c.on_list.result _ _ (λ r on. on c.args.net_file.now c.args.net_bytes.now c.in-Ok.ensures.network)
+    IfOk-weaker c.on_list.result _ _
+    (λ r on. goes_on c.in-Ok.network record { reads = c.in-Ok.ensures.network; accepted = c.keeps.ensures } on)
     c.on_list.ensures.reply
 
 pub returns-in-Ok-clause-counts : goal.returns-in-Ok-clause-counts
@@ -21,8 +23,7 @@ returns-in-Ok-clause-counts g c =
 pub returns-in-Err-clause-reply : goal.returns-in-Err-clause-reply
 returns-in-Err-clause-reply g c =
     IfOk-weaker c.on_fault.result _ _
-    (λ r none. on_no_network c.args.form c.args.net_file.now c.args.net_bytes.now c.args.edits_file.now c.args.edits_bytes.now
-    (reply_of r) none)
+    (λ r none. stops none)
     (on_told c.args.net_file.now c.args.net_bytes.now c.in-Err.fault c.on_fault.result c.in-Err.ensures.fault
     c.on_fault.ensures.reply c.on_fault.ensures.told)
 

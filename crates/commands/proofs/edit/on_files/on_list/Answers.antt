@@ -1,19 +1,21 @@
-use Rattle.std.proofs.Common.{inl, refl}
+use Rattle.std.proofs.Common.{map, inl, refl}
 use Rattle.std.proofs.lemmas.Result.{IfOk-weaker}
+use Rattle.input_texts.specs.table_text.EditRows.{edit_view}
 use Rattle.command_replies.specs.Replies.{table_fault_reply}
+use Rattle.command_replies.specs.Stages.{stops, goes_on}
 use Rattle.command_replies.specs.View.{status_of}
 use Rattle.command_replies.proofs.Statuses.{refused}
 use Rattle.commands.proofs.edit.OnFiles.{few_edits, of_edits, on_bad_list}
 use Rattle.commands.proofs.edit.on_files.on_list.Goals as goal
 
-pub on_network-requires : goal.on_network-requires
-on_network-requires g c =
+pub on_network-requires-clause-few : goal.on_network-requires-clause-few
+on_network-requires-clause-few g c =
     rw c.deref.ensures.value (few_edits c.args.edits_bytes.now c.in-Ok.edits.items c.in-Ok.ensures.ok)
 
 pub returns-in-Ok-clause-reply : goal.returns-in-Ok-clause-reply
 returns-in-Ok-clause-reply g c =
     IfOk-weaker c.on_network.result _ _
-    (λ r on. on c.args.edits_file.now c.args.edits_bytes.now (record { are = c.in-Ok.ensures.ok }))
+    (λ r on. goes_on (map edit_view c.in-Ok.edits.items) record { are = c.in-Ok.ensures.ok } on)
     (rw c.deref.ensures.value at c.on_network.ensures.reply)
 
 pub returns-in-Ok-clause-counts : goal.returns-in-Ok-clause-counts
@@ -23,8 +25,9 @@ returns-in-Ok-clause-counts g c =
 
 pub returns-in-Err-clause-reply : goal.returns-in-Err-clause-reply
 returns-in-Err-clause-reply g c =
-    on_bad_list c.args.form c.args.net.now c.args.edits_file.now c.args.edits_bytes.now c.in-Err.fault c.on_table_fault.result
-    c.keeps.ensures c.in-Err.ensures.fault c.on_table_fault.ensures.reply c.on_table_fault.ensures.told
+    IfOk-weaker c.on_table_fault.result _ _ (λ r bad. stops bad)
+    (on_bad_list c.args.edits_file.now c.args.edits_bytes.now c.in-Err.fault c.on_table_fault.result
+    c.in-Err.ensures.fault c.on_table_fault.ensures.reply c.on_table_fault.ensures.told)
 
 pub returns-in-Err-clause-counts : goal.returns-in-Err-clause-counts
 returns-in-Err-clause-counts g c =

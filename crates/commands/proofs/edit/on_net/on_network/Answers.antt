@@ -1,6 +1,5 @@
 use Rattle.std.proofs.lemmas.Result.{IfOk-weaker}
-use Rattle.command_replies.specs.View.{reply_of}
-use Rattle.commands.proofs.edit.OnNetworks.{on_cycle}
+use Rattle.command_replies.specs.Stages.{stops}
 use Rattle.commands.proofs.edit.on_net.on_network.Goals as goal
 
 pub returns-in-Err-Cycle-clause-reply : goal.returns-in-Err-Cycle-clause-reply
@@ -8,5 +7,5 @@ returns-in-Err-Cycle-clause-reply g c =
     let cycle = rw c.in-Err-Cycle.field-0-is at c.in-Err-Cycle.ensures.fault in
     let told = rw c.deref-in-Err-Cycle.ensures.value at c.goes_round.ensures in
     IfOk-weaker c.goes_round.result _ _
-    (λ r is. on_cycle c.args.form c.args.net.now c.args.edits.now _ (reply_of r) c.keeps.ensures cycle is)
+    (λ r is. stops record { walk = _; cycle = cycle; is = is })
     (rw c.in-Err-Cycle.field-0-is at told)

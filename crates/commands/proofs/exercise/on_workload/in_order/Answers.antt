@@ -8,7 +8,8 @@ use Rattle.command_replies.specs.View.{reply_of, status_of}
 use Rattle.command_replies.specs.run_findings.CellCounts.{CountsOnCells}
 use Rattle.command_replies.proofs.run_findings.Counted.{by_order, no_report}
 use Rattle.command_replies.proofs.run_findings.Reports.{refused}
-use Rattle.commands.proofs.exercise.Replying.{on_over, on_table, is_named, is_free}
+use Rattle.command_replies.specs.Stages.{stops, goes_on}
+use Rattle.commands.proofs.exercise.Replying.{in_order, beside, is_named, is_free}
 use Rattle.commands.proofs.exercise.on_workload.in_order.Goals as goal
 
 pub summarised-requires-clause-named : goal.summarised-requires-clause-named
@@ -20,15 +21,11 @@ summarised-requires-clause-free g c = is_free c.args.seed c.args.net.now c.args.
 pub returns-in-Ok-clause-reply : goal.returns-in-Ok-clause-reply
 returns-in-Ok-clause-reply g c =
     IfOk-weaker c.summarised.result _ _
-    (λ r told. on_table c.args.seed c.args.net.now c.args.trace.now _ (reply_of r) c.requires.of_workload
-    record {
-      curves = c.keeps_curves.ensures;
-      order = c.args.order.now;
-      ordered = c.requires.order;
-      answers = c.in-Ok.ensures.answers;
-      meets = c.in-Ok.ensures.meets;
-    }
-    told)
+    (λ r told. in_order c.args.seed c.args.net.now c.args.order.now (reply_of r) c.requires.of_workload.net
+    c.requires.order (goes_on _ record { answers = c.in-Ok.ensures.answers; meets = c.in-Ok.ensures.meets } (
+      c.keeps_curves.ensures,
+      beside c.args.seed c.args.net.now c.args.trace.now _ (reply_of r) c.requires.of_workload told,
+    )))
     c.summarised.ensures
 
 pub returns-in-Ok-clause-counts : goal.returns-in-Ok-clause-counts
@@ -42,14 +39,8 @@ pub returns-in-Err-TooMany-clause-reply : goal.returns-in-Err-TooMany-clause-rep
 returns-in-Err-TooMany-clause-reply g c =
     let first = rw c.in-Err-TooMany.field-0-is at c.in-Err-TooMany.ensures.refused in
     IfOk-weaker c.cell_too_many.result _ _
-    (λ r is. on_over c.args.seed c.args.net.now TooMany (reply_of r) c.requires.of_workload.net
-    record {
-      order = c.args.order.now;
-      ordered = c.requires.order;
-      cell = c.in-Err-TooMany.cell;
-      first = first;
-      is = is;
-    })
+    (λ r is. in_order c.args.seed c.args.net.now c.args.order.now (reply_of r) c.requires.of_workload.net
+    c.requires.order (stops (TooMany, record { cell = c.in-Err-TooMany.cell; first = first; is = is })))
     c.cell_too_many.ensures
 
 pub returns-in-Err-TooMany-clause-counts : goal.returns-in-Err-TooMany-clause-counts
@@ -66,14 +57,8 @@ pub returns-in-Err-TooWide-clause-reply : goal.returns-in-Err-TooWide-clause-rep
 returns-in-Err-TooWide-clause-reply g c =
     let first = rw c.in-Err-TooWide.field-0-is at c.in-Err-TooWide.ensures.refused in
     IfOk-weaker c.cell_too_wide.result _ _
-    (λ r is. on_over c.args.seed c.args.net.now TooWide (reply_of r) c.requires.of_workload.net
-    record {
-      order = c.args.order.now;
-      ordered = c.requires.order;
-      cell = c.in-Err-TooWide.cell;
-      first = first;
-      is = is;
-    })
+    (λ r is. in_order c.args.seed c.args.net.now c.args.order.now (reply_of r) c.requires.of_workload.net
+    c.requires.order (stops (TooWide, record { cell = c.in-Err-TooWide.cell; first = first; is = is })))
     c.cell_too_wide.ensures
 
 pub returns-in-Err-TooWide-clause-counts : goal.returns-in-Err-TooWide-clause-counts

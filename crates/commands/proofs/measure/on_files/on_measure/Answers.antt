@@ -1,13 +1,15 @@
 use Rattle.std.proofs.lemmas.Result.{IfOk-weaker}
-use Rattle.command_replies.specs.View.{reply_of, status_of}
+use Rattle.command_replies.specs.Stages.{stops, goes_on}
+use Rattle.command_replies.specs.View.{status_of}
 use Rattle.command_replies.proofs.FirstFaults.{on_told}
-use Rattle.commands.proofs.measure.Answering.{on_no_network}
 use Rattle.commands.proofs.measure.Counting.{counts_with, counts_without}
 use Rattle.commands.proofs.measure.on_files.on_measure.Goals as goal
 
 pub returns-in-Ok-clause-reply : goal.returns-in-Ok-clause-reply
 returns-in-Ok-clause-reply g c =
-    IfOk-weaker c.on_rows.result _ _ (λ r on. on c.args.net_file.now c.args.net_bytes.now c.in-Ok.ensures.network) c.on_rows.ensures.reply
+    IfOk-weaker c.on_rows.result _ _
+    (λ r on. goes_on c.in-Ok.network record { reads = c.in-Ok.ensures.network; accepted = c.keeps.ensures } on)
+    c.on_rows.ensures.reply
 
 pub returns-in-Ok-clause-counts : goal.returns-in-Ok-clause-counts
 returns-in-Ok-clause-counts g c =
@@ -17,7 +19,7 @@ returns-in-Ok-clause-counts g c =
 pub returns-in-Err-clause-reply : goal.returns-in-Err-clause-reply
 returns-in-Err-clause-reply g c =
     IfOk-weaker c.on_fault.result _ _
-    (λ r none. on_no_network c.args.net_file.now c.args.net_bytes.now c.args.trace_file.now c.args.trace_bytes.now c.args.name.now c.args.rate (reply_of r) none)
+    (λ r none. stops none)
     (on_told c.args.net_file.now c.args.net_bytes.now c.in-Err.fault c.on_fault.result c.in-Err.ensures.fault c.on_fault.ensures.reply c.on_fault.ensures.told)
 
 pub returns-in-Err-clause-counts : goal.returns-in-Err-clause-counts

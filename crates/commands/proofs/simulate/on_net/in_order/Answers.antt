@@ -3,35 +3,34 @@ use Rattle.upp_limits.specs.declared.own_limits.OverLimit.TheVariants.{TooMany, 
 use Rattle.net_model.proofs.net_graph.Returns.{order_or_cycle}
 use Rattle.report_text.specs.CellWords.{cell_words}
 use Rattle.command_replies.specs.Replies.{cell_over}
-use Rattle.command_replies.specs.View.{reply_of, status_of}
+use Rattle.command_replies.specs.Stages.{stops, goes_on}
+use Rattle.command_replies.specs.View.{status_of}
 use Rattle.command_replies.proofs.run_findings.Counted.{by_order, no_report}
 use Rattle.command_replies.proofs.run_findings.Reports.{refused}
-use Rattle.commands.proofs.simulate.OnNets.{on_over, on_table}
 use Rattle.commands.proofs.simulate.on_net.in_order.Goals as goal
 
 pub simulated-requires-clause-free : goal.simulated-requires-clause-free
 simulated-requires-clause-free g c =
-    order_or_cycle.feed_forward c.args.net.now c.args.order.now c.keeps.ensures c.requires.order
+    order_or_cycle.feed_forward c.args.net.now c.args.order.now c.requires.accepted c.requires.order
 
 pub returns-in-Ok-clause-reply : goal.returns-in-Ok-clause-reply
 returns-in-Ok-clause-reply g c =
     IfOk-weaker c.simulated.result _ _
-    (λ r told. on_table c.args.net.now c.args.trace.now c.args.order.now _ (reply_of r) c.keeps.ensures
-    c.keeps_curves.ensures c.packets-kept.ensures.kept c.requires.order c.in-Ok.ensures.answers c.in-Ok.ensures.meets
-    told)
+    (λ r told. goes_on c.args.order.now c.requires.order (goes_on _
+    record { answers = c.in-Ok.ensures.answers; meets = c.in-Ok.ensures.meets } (c.keeps_curves.ensures, told)))
     c.simulated.ensures
 
 pub returns-in-Ok-clause-counts : goal.returns-in-Ok-clause-counts
 returns-in-Ok-clause-counts g c =
     by_order c.args.net.now c.args.order.now (status_of c.simulated.result) c.args.steps.now c.analyse.new.steps
-    c.keeps.ensures c.requires.order c.analyse.ensures.rises c.analyse.ensures.within (λ is. c.in-Ok.ensures.exact)
+    c.requires.accepted c.requires.order c.analyse.ensures.rises c.analyse.ensures.within (λ is. c.in-Ok.ensures.exact)
 
 pub returns-in-Err-TooMany-clause-reply : goal.returns-in-Err-TooMany-clause-reply
 returns-in-Err-TooMany-clause-reply g c =
     let first = rw c.in-Err-TooMany.field-0-is at c.in-Err-TooMany.ensures.refused in
     IfOk-weaker c.cell_too_many.result _ _
-    (λ r is. on_over c.args.net.now c.args.trace.now c.args.order.now c.in-Err-TooMany.cell TooMany (reply_of r)
-    c.keeps.ensures c.packets-kept.ensures.kept c.requires.order first is)
+    (λ r is. goes_on c.args.order.now c.requires.order
+    (stops (TooMany, record { cell = c.in-Err-TooMany.cell; first = first; is = is })))
     c.cell_too_many.ensures
 
 pub returns-in-Err-TooMany-clause-counts : goal.returns-in-Err-TooMany-clause-counts
@@ -39,14 +38,14 @@ returns-in-Err-TooMany-clause-counts g c =
     let other = refused c.cell_too_many.result (cell_over TooMany (cell_words c.args.net.now c.in-Err-TooMany.cell))
     (λ e. cc) (λ e. cc) c.cell_too_many.ensures in
     by_order c.args.net.now c.args.order.now (status_of c.cell_too_many.result) c.args.steps.now c.analyse.new.steps
-    c.keeps.ensures c.requires.order c.analyse.ensures.rises c.analyse.ensures.within (λ is. absurd (other is))
+    c.requires.accepted c.requires.order c.analyse.ensures.rises c.analyse.ensures.within (λ is. absurd (other is))
 
 pub returns-in-Err-TooWide-clause-reply : goal.returns-in-Err-TooWide-clause-reply
 returns-in-Err-TooWide-clause-reply g c =
     let first = rw c.in-Err-TooWide.field-0-is at c.in-Err-TooWide.ensures.refused in
     IfOk-weaker c.cell_too_wide.result _ _
-    (λ r is. on_over c.args.net.now c.args.trace.now c.args.order.now c.in-Err-TooWide.cell TooWide (reply_of r)
-    c.keeps.ensures c.packets-kept.ensures.kept c.requires.order first is)
+    (λ r is. goes_on c.args.order.now c.requires.order
+    (stops (TooWide, record { cell = c.in-Err-TooWide.cell; first = first; is = is })))
     c.cell_too_wide.ensures
 
 pub returns-in-Err-TooWide-clause-counts : goal.returns-in-Err-TooWide-clause-counts
@@ -54,10 +53,10 @@ returns-in-Err-TooWide-clause-counts g c =
     let other = refused c.cell_too_wide.result (cell_over TooWide (cell_words c.args.net.now c.in-Err-TooWide.cell))
     (λ e. cc) (λ e. cc) c.cell_too_wide.ensures in
     by_order c.args.net.now c.args.order.now (status_of c.cell_too_wide.result) c.args.steps.now c.analyse.new.steps
-    c.keeps.ensures c.requires.order c.analyse.ensures.rises c.analyse.ensures.within (λ is. absurd (other is))
+    c.requires.accepted c.requires.order c.analyse.ensures.rises c.analyse.ensures.within (λ is. absurd (other is))
 
 pub returns-in-Err-NoMemory-clause-counts : goal.returns-in-Err-NoMemory-clause-counts
 returns-in-Err-NoMemory-clause-counts g c =
     by_order c.args.net.now c.args.order.now 5 c.args.steps.now c.analyse.new.steps
-    c.keeps.ensures c.requires.order c.analyse.ensures.rises c.analyse.ensures.within
+    c.requires.accepted c.requires.order c.analyse.ensures.rises c.analyse.ensures.within
     (λ is. absurd (no_report 5 (λ e. absurd (cc)) (λ e. absurd (cc)) is))
