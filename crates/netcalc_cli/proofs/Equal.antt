@@ -45,9 +45,9 @@ rounds : (command : Command) (files : List (List ℕ)) (x y : Reply) → IsCycli
     → x ≡ y
 rounds (Analyse form net) (bytes ∷ []) x y h k = one_round bytes x y h k
 rounds (Edit form net edits) (bytes ∷ rows ∷ []) x y h k = one_round bytes x y h.1 k.1
-rounds (Simulate net trace) (bytes ∷ rows ∷ []) x y (n, g, t, r, c) (m, k, u, s, d) =
+rounds (Simulate net trace) (bytes ∷ rows ∷ []) x y (n, g, (t, r, c)) (m, k, (u, s, d)) =
     one_round bytes x y (n, g, c) (m, k, d)
-rounds (Check net run) (bytes ∷ rows ∷ []) x y (n, g, t, r, c) (m, k, u, s, d) =
+rounds (Check net run) (bytes ∷ rows ∷ []) x y (n, g, (t, r, c)) (m, k, (u, s, d)) =
     one_round bytes x y (n, g, c) (m, k, d)
 rounds command files x y h k = absurd h
 

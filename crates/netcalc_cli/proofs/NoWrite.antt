@@ -2,27 +2,11 @@
 use Rattle.std.proofs.Common.{◌≡◌, ◌≢◌, ℕ, List, inl, inr, sym, ◌∙◌, arith}
 use Rattle.commands.specs.command_replies.specs.Replies.{Reply, cannot_read, too_long}
 use Rattle.commands.specs.command_replies.proofs.Statuses.{status_is as status_of}
-<<<<<<< HEAD
-use Rattle.commands.specs.analyse.OnFiles as analyse
-use Rattle.commands.specs.edit.OnEdits as edits
-use Rattle.commands.specs.command_replies.specs.run_findings.Findings.{status_by}
-use Rattle.commands.specs.simulate.OnTraces as traces
-use Rattle.commands.proofs.check.Causes.{causes}
-use Rattle.commands.specs.exercise.OnSeeds as seeds
-use Rattle.commands.specs.measure.OnMeasures.{IsMeasureReply}
-use Rattle.commands.proofs.measure.OneMeasure.{statuses_are_four}
-use Rattle.commands.specs.curve.OnScripts as scripts
-use Rattle.netcalc_cli.specs.Commands.{Command, Analyse, Edit, Simulate, Exercise, Check, Measure, Curve, IsReplyTo, files_of}
+use Rattle.netcalc_cli.specs.Commands.{Command, files_of}
 use Rattle.netcalc_cli.specs.Files.{most_bytes, Told}
 use Rattle.netcalc_cli.specs.Reply.{MayReplyTo, FailedAt}
-use Rattle.outside.proofs.FileLemmas.{first_shows, long_shows}
-=======
-use Rattle.netcalc_cli.specs.Commands.{Command, files_of}
-use Rattle.netcalc_cli.specs.Files.{Told}
-use Rattle.netcalc_cli.specs.Reply.{MayReplyTo, FailedAt}
 use Rattle.netcalc_cli.proofs.ByCommand.{by_command}
-use Rattle.netcalc_cli.proofs.FileLemmas.{first_shows, long_shows}
->>>>>>> 2c4f112a6650f2473acf710a15959b435af3cb89
+use Rattle.outside.proofs.FileLemmas.{first_shows, long_shows}
 
 other : (status n : ℕ) → status ≡ n → n ≢ 4 → status ≢ 4
 other status n is apart e = apart (sym is ∙ e)

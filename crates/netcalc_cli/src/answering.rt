@@ -121,6 +121,9 @@ fn on_exercise<I: Inputs, L: Ledger>(
 ) -> Result<Answer, NoMemory>
     ensures reply { IfOk result (λ r. MayReplyTo I.faults I.last_fault (I.content inputs.now)
         (commands.Exercise seed) inputs.now inputs.now (reply_of r)) }
+    ensures asked { FetchesUpTo I.asked I.had (commands.files_of (commands.Exercise seed)) inputs.now inputs.now }
+    ensures all { StandsOnFiles (status_of result) →
+        FetchesAll I.asked I.had (commands.files_of (commands.Exercise seed)) inputs.now inputs.now }
     ensures counts { CountsOnCommand (I.content inputs.now) (commands.Exercise seed) (status_of result)
         steps.old steps.new }
 {

@@ -1,5 +1,6 @@
 use Rattle.std.proofs.Common.{[], inr}
 use Rattle.std.proofs.lemmas.Result.{IfOk-weaker}
+use Rattle.outside.proofs.Fetches.{asks_none, fetches_none}
 use Rattle.commands.specs.command_replies.specs.View.{reply_of}
 use Rattle.netcalc_cli.specs.Commands.{Exercise}
 use Rattle.netcalc_cli.proofs.Replies.{answers}
@@ -14,3 +15,9 @@ returns-clause-reply g c =
 
 pub returns-clause-counts : goal.returns-clause-counts
 returns-clause-counts g c = inr (record { files = []; held = tt; fit = tt; counts = c.on_seed.ensures.counts })
+
+pub returns-clause-asked : goal.returns-clause-asked
+returns-clause-asked g c = asks_none g.I.Inputs.asked g.I.Inputs.had [] c.args.inputs.now
+
+pub returns-clause-all : goal.returns-clause-all
+returns-clause-all g c on = fetches_none g.I.Inputs.asked g.I.Inputs.had c.args.inputs.now
