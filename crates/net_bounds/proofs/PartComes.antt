@@ -16,8 +16,8 @@ use Rattle.net_model.specs.run_laws.proofs.Arrivals.{IsPassing, arrivals_map}
 use Rattle.net_model.specs.run_laws.proofs.Members.{Has}
 use Rattle.net_laws.specs.Laws.{IsLink}
 use Rattle.net_laws.proofs.Paths.{link_of_path}
-use Rattle.pace_laws.specs.Groups.{of_flows, IsPaced}
-use Rattle.pace_laws.proofs.Groups.{group_is_cut}
+use Rattle.net_laws.specs.paces.Groups.{of_flows, IsPaced}
+use Rattle.net_laws.proofs.paces.Groups.{group_is_cut}
 use Rattle.net_model.specs.Networks.{Net}
 use Rattle.net_model.specs.Accepted.{IsAccepted}
 use Rattle.net_cells.specs.Numbered.{packet, path, hops, rate, rate_of, server_of_hop, queue_of_hop}

@@ -6,3 +6,4 @@ pub mod Orders
 pub mod Queues
 pub mod Once
 pub mod Multicast
+pub mod paces

@@ -1,7 +1,10 @@
-//! What a flow keeps from one server of its path to the next, and what its path promises it.
+//! What a flow keeps from one server of its path to the next, and what its path promises it; and what the pace of a
+//! server keeps apart (`paces`).
 //!
 //! A law is the contract of a function that does nothing: its body is empty, and its `ensures` is proved.
 #![tactic(auto)]
+
+pub mod paces;
 
 ghost use Rattle.net_laws.specs.Laws.{LinkCarries, NextKeeps};
 ghost use Rattle.net_laws.specs.Multicast.{PathRunsAreMulticast};

@@ -29,9 +29,9 @@ use Rattle.residual_laws.specs.DrrLaws.{share, owed, drr_left}
 use Rattle.residual_laws.specs.RestLaws.{others}
 use Rattle.residual_laws.proofs.DrrLaw.{drr_serves}
 use Rattle.residual_laws.proofs.Owed.{in_sum}
-use Rattle.line_residuals.specs.RateDebt.{rate_debt_value, IsAtLeastRate}
-use Rattle.line_residuals.proofs.RateDebt.{compare}
-use Rattle.line_residuals.proofs.Lines.{fifo_serves, priority_line, rest_line}
+use Rattle.residual_laws.specs.lines.RateDebt.{rate_debt_value, IsAtLeastRate}
+use Rattle.residual_laws.proofs.lines.RateDebt.{compare}
+use Rattle.residual_laws.proofs.lines.Lines.{fifo_serves, priority_line, rest_line}
 use Rattle.arrival_lines.specs.Grid.{bits, speed, micros, line_value, parts_value, service_value}
 use Rattle.arrival_lines.specs.Steps.{IsStep}
 use Rattle.arrival_lines.specs.Services.{IsServed, IsShare}

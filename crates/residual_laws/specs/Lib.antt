@@ -1,3 +1,4 @@
 pub mod PriorityLaws
 pub mod DrrLaws
 pub mod RestLaws
+pub mod lines

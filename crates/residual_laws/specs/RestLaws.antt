@@ -42,6 +42,6 @@ RestServesSincePeriodOf whose = (server : Server) (end : ℚ) (view : List Serve
     IsRestService β brought R → (t : ℚ) → t ≤ℚ end → departed C view t <ℚ arrived C view t →
     (s : ℚ) × IsBacklogged (whose C) view s t × IsServed C R view t s
 
--- that of all packets, which is the server's; by the class's own it would be false (`worked_services`)
+-- that of all packets, which is the server's; by the class's own it would be false (`worked_trees`)
 abbrev pub RestServesSince : Type 0
 RestServesSince = RestServesSincePeriodOf (λ C. all)

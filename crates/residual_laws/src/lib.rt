@@ -1,9 +1,10 @@
 //! What a queue of a priority server, and of a deficit round robin server, is served, and what a server of any
-//! discipline leaves, as functions of time: definitions and laws. What is said of the calls that make the first two of
-//! these services stands in `residual_calls`.
+//! discipline leaves, as functions of time; and all three as a rate with a debt (`lines`): definitions and laws. What is
+//! said of the calls that make the first two of these services stands in `residuals::calls`.
 #![tactic(auto)]
 
 mod drr;
+pub mod lines;
 mod priority;
 mod rest;
 

@@ -17,7 +17,7 @@ use Rattle.run_laws.specs.Servers as servers
 use Rattle.run_laws.specs.Servers.{Server}
 use Rattle.run_laws.specs.Routes.{route_of, first_server}
 use Rattle.run_laws.specs.Totals.{is_on}
-use Rattle.pace_laws.specs.Groups.{part_number}
+use Rattle.net_laws.specs.paces.Groups.{part_number}
 use Rattle.net_laws.specs.Orders.{EntersKept}
 use Rattle.tree_runs.specs.Trees.{Tree, tree_of, hops_in, flat, tree_server_before, KeepsTreePremises}
 use Rattle.tree_runs.specs.Parts.{is_of_tree_part, AreTreePaced}

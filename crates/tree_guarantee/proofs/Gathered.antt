@@ -6,7 +6,7 @@ use Rattle.std.proofs.lemmas.List.{map-append}
 use Rattle.std.proofs.lemmas.Option.{get_or_from_slice_get, slice_get_cases}
 use Rattle.run_laws.specs.Routes.{Route}
 use Rattle.run_laws.specs.Totals.{is_on}
-use Rattle.pace_laws.specs.Groups.{part_number}
+use Rattle.net_laws.specs.paces.Groups.{part_number}
 use Rattle.tree_runs.specs.Trees.{Tree, tree_of, flat_tree, hops_in, tree_server_before}
 use Rattle.tree_runs.specs.Parts.{is_of_tree_part}
 use Rattle.tree_runs.proofs.Trees.{route_is}

@@ -16,7 +16,7 @@ use Rattle.run_laws.specs.Servers.{Server}
 use Rattle.run_laws.specs.Routes.{Hop, server_at, queue_at, PassesServer}
 use Rattle.run_laws.specs.Totals.{is_on}
 use Rattle.run_laws.specs.Views.{view}
-use Rattle.pace_laws.specs.Groups.{part_number}
+use Rattle.net_laws.specs.paces.Groups.{part_number}
 use Rattle.tree_runs.specs.Trees.{Tree, tree_of, hops_in, flat, tree_server_before}
 use Rattle.tree_runs.specs.Parts.{is_of_tree_part}
 use Rattle.tree_runs.specs.BoundedByParts.{QueuesKeepParts}

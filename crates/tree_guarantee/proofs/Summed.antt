@@ -11,7 +11,7 @@ use Rattle.min_plus.specs.rational.specs.declared.Extended.TheVariants.{Fin, Inf
 use Rattle.min_plus.specs.rational.proofs.Linear.{with2, with_atoms}
 use Rattle.min_plus.specs.Functions.{whole}
 use Rattle.net_laws.specs.Sums.{sum_of_curves}
-use Rattle.pace_laws.specs.Groups.{some_below}
+use Rattle.net_laws.specs.paces.Groups.{some_below}
 use Rattle.tree_runs.specs.Trees.{flat, flat_tree}
 use Rattle.tree_runs.specs.Parts.{is_of_tree_part, has_tree_part, tree_part_curve, tree_parts_curve}
 use Rattle.arrival_lines.specs.Grid.{bits, speed}

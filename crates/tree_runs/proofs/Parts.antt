@@ -11,8 +11,8 @@ use Rattle.run_laws.specs.Routes.{route_of, PassesServer}
 use Rattle.run_laws.specs.Totals.{is_on, is_in}
 use Rattle.run_laws.specs.Views.{view}
 use Rattle.run_laws.proofs.Arrivals.{arrivals_map, IsPassing}
-use Rattle.pace_laws.specs.Groups.{of_flows, part_number}
-use Rattle.pace_laws.proofs.Groups.{flows_keep, known_flow, in_flow, came_is, group_cut_by, group_lesser_by, queue_of_parts}
+use Rattle.net_laws.specs.paces.Groups.{of_flows, part_number}
+use Rattle.net_laws.proofs.paces.Groups.{flows_keep, known_flow, in_flow, came_is, group_cut_by, group_lesser_by, queue_of_parts}
 use Rattle.tree_runs.specs.Trees.{TreeRoutes, tree_of, hops_in, tree_server_before, Hangs, IsTree, IsOverTrees, flat, next_servers, IsLawfulTree}
 use Rattle.tree_runs.specs.Packets.{KeepsTreeSizes}
 use Rattle.tree_runs.specs.Parts.{TreeGroupIsCut, is_of_tree_part, tree_part_curve, AreTreePaced, TreePartsAreKept}

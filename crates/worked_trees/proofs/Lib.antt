@@ -2,3 +2,4 @@ pub mod Busy
 pub mod Numbers
 pub mod PacedFork
 pub mod PacedForkRun
+pub mod OwnPeriod

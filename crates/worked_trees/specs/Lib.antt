@@ -1,1 +1,2 @@
 pub mod PacedFork
+pub mod OwnPeriod

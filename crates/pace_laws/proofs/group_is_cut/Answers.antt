@@ -1,8 +1,0 @@
-use Rattle.pace_laws.proofs.group_is_cut.Goals as goal
-use Rattle.pace_laws.proofs.Groups
-
-pub returns-clause-bucket : goal.returns-clause-bucket
-returns-clause-bucket c = Groups.group_is_cut
-
-pub returns-clause-lesser : goal.returns-clause-lesser
-returns-clause-lesser c = Groups.group_keeps_lesser

@@ -1,5 +1,0 @@
-use Rattle.worked_services.proofs.own_period_is_too_short.Goals as goal
-use Rattle.worked_services.proofs.OwnPeriod
-
-pub returns : goal.returns
-returns c = OwnPeriod.own_period_is_too_short
