@@ -20,7 +20,7 @@ use Rattle.tree_network.specs.declared.network.Network.{Network}
 use Rattle.port_bounds.specs.Ports.{service_curve}
 use Rattle.tree_bounds.specs.Tables.{row_in, bounds_in, IsTableOf}
 use Rattle.tree_bounds.specs.declared.analysis.Table.{Table}
-use Rattle.tree_guarantee.specs.Routes.{routes_of}
+use Rattle.tree_bounds.specs.guarantee.Routes.{routes_of}
 
 -- ---- of link i
 abbrev pub frame_in : Option Link → ℕ

@@ -16,7 +16,7 @@ use Rattle.tree_network.specs.Networks.{IsNetwork, IsLink, node_at, no_node, por
 use Rattle.tree_network.specs.declared.network.Link.{Link}
 use Rattle.tree_network.specs.declared.network.Network.{Network}
 use Rattle.tree_network.specs.declared.network.Node.{Node}
-use Rattle.tree_guarantee.specs.Routes.{routes_of, tree_of_link, node_of, port_before, link_time, NetworksAreTrees}
+use Rattle.tree_bounds.specs.guarantee.Routes.{routes_of, tree_of_link, node_of, port_before, link_time, NetworksAreTrees}
 
 -- ---- the tree of a link
 pub tree_at : (net : Network) (i : ℕ) (link : Link) → i < length net.links.items → link ≡ get_or net.links.items i link → tree_of (routes_of net) i ≡ tree_of_link link

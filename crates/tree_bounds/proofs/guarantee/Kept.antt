@@ -28,15 +28,15 @@ use Rattle.tree_bounds.specs.Tables.{row_in, items_of, IsTableOf}
 use Rattle.tree_bounds.specs.declared.analysis.Table.{Table}
 use Rattle.tree_bounds.proofs.Bunched.{arriving_length}
 use Rattle.tree_bounds.proofs.InLimits.{stairs_in_range}
-use Rattle.tree_guarantee.proofs.StairsOf.{all_stairs}
-use Rattle.tree_guarantee.specs.Routes.{routes_of}
-use Rattle.tree_guarantee.specs.Guarantee.{frame_of, IsRunOf}
-use Rattle.tree_guarantee.proofs.TreesOf.{are_trees}
-use Rattle.tree_guarantee.proofs.Forward.{go_forward}
-use Rattle.tree_guarantee.proofs.Summed.{arrival_at, longest_at, rate_at}
-use Rattle.tree_guarantee.proofs.Begun.{enters_kept, are_paced}
-use Rattle.tree_guarantee.proofs.Grown.{delay_in, held_in, delay_by, held_by, delays_some, grows}
-use Rattle.tree_guarantee.proofs.Held.{seen}
+use Rattle.tree_bounds.proofs.guarantee.StairsOf.{all_stairs}
+use Rattle.tree_bounds.specs.guarantee.Routes.{routes_of}
+use Rattle.tree_bounds.specs.guarantee.Guarantee.{frame_of, IsRunOf}
+use Rattle.tree_bounds.proofs.guarantee.TreesOf.{are_trees}
+use Rattle.tree_bounds.proofs.guarantee.Forward.{go_forward}
+use Rattle.tree_bounds.proofs.guarantee.Summed.{arrival_at, longest_at, rate_at}
+use Rattle.tree_bounds.proofs.guarantee.Begun.{enters_kept, are_paced}
+use Rattle.tree_bounds.proofs.guarantee.Grown.{delay_in, held_in, delay_by, held_by, delays_some, grows}
+use Rattle.tree_bounds.proofs.guarantee.Held.{seen}
 
 pub queues_held : (net : Network) (table : Table) (run : SpecRun) (s : ℕ) → IsNetwork net → (is : IsTableOf net table) → IsRunOf net run
     → s < length (routes_of net).servers → QueuesKeepParts (routes_of net) run (arrival_at net is.stair) (longest_at net) (rate_at net) s

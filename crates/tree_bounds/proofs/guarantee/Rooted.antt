@@ -37,13 +37,13 @@ use Rattle.tree_bounds.proofs.LineLimits as LineLimits
 use Rattle.tree_bounds.proofs.Onwards as Onwards
 use Rattle.tree_bounds.proofs.Ranged.{incomings_length}
 use Rattle.tree_bounds.proofs.Unknown.{frame_has, in_group, none_unknown, why_none}
-use Rattle.tree_guarantee.specs.Causes.{IsCause, first_served}
-use Rattle.tree_guarantee.specs.Causes.IsCause.{unbounded, unbounded_before, overloaded, long}
-use Rattle.tree_guarantee.specs.Roots.{CountsAt, HasRoot, IsAt, NoneHasARoot, PassesLimit, queue_before}
-use Rattle.tree_guarantee.specs.Roots.HasRoot.{by_load, by_delay, by_limit, by_earlier}
-use Rattle.tree_guarantee.specs.Roots.PassesLimit.{jitter, line, together}
-use Rattle.tree_guarantee.proofs.Caused.{CausedBy, caused}
-use Rattle.tree_guarantee.proofs.Held.{incoming_found, longest_in}
+use Rattle.tree_bounds.specs.guarantee.Causes.{IsCause, first_served}
+use Rattle.tree_bounds.specs.guarantee.Causes.IsCause.{unbounded, unbounded_before, overloaded, long}
+use Rattle.tree_bounds.specs.guarantee.Roots.{CountsAt, HasRoot, IsAt, NoneHasARoot, PassesLimit, queue_before}
+use Rattle.tree_bounds.specs.guarantee.Roots.HasRoot.{by_load, by_delay, by_limit, by_earlier}
+use Rattle.tree_bounds.specs.guarantee.Roots.PassesLimit.{jitter, line, together}
+use Rattle.tree_bounds.proofs.guarantee.Caused.{CausedBy, caused}
+use Rattle.tree_bounds.proofs.guarantee.Held.{incoming_found, longest_in}
 
 -- ---- queues of which one is unbounded
 abbrev no_part : List Part

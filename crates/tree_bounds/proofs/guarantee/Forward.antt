@@ -15,8 +15,8 @@ use Rattle.tree_network.specs.Orders.{StandsAt, GoesTo}
 use Rattle.tree_network.proofs.Those.{eq_true, of_eq}
 use Rattle.tree_network.proofs.SpotLists.{in_length, in_at, below_more}
 use Rattle.tree_network.proofs.InRange.{in_range}
-use Rattle.tree_guarantee.specs.Routes.{routes_of, node_of, port_before, OrdersGoForward}
-use Rattle.tree_guarantee.proofs.TreesOf.{tree_at, no_tree}
+use Rattle.tree_bounds.specs.guarantee.Routes.{routes_of, node_of, port_before, OrdersGoForward}
+use Rattle.tree_bounds.proofs.guarantee.TreesOf.{tree_at, no_tree}
 
 -- ---- where a spot stands
 -- there are the spots of each link, in order

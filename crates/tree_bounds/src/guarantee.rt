@@ -2,12 +2,11 @@
 //! run.
 //!
 //! A law is the contract of a function that does nothing: its body is empty, and its `ensures` is proved.
-#![tactic(auto)]
 
-ghost use Rattle.tree_guarantee.specs.Causes.{NoneHasACause};
-ghost use Rattle.tree_guarantee.specs.Guarantee.{TablesAreGuaranteed};
-ghost use Rattle.tree_guarantee.specs.Roots.{NoneHasARoot};
-ghost use Rattle.tree_guarantee.specs.Routes.{NetworksAreTrees, OrdersGoForward};
+ghost use Rattle.tree_bounds.specs.guarantee.Causes.{NoneHasACause};
+ghost use Rattle.tree_bounds.specs.guarantee.Guarantee.{TablesAreGuaranteed};
+ghost use Rattle.tree_bounds.specs.guarantee.Roots.{NoneHasARoot};
+ghost use Rattle.tree_bounds.specs.guarantee.Routes.{NetworksAreTrees, OrdersGoForward};
 
 /// The links of a network in range are trees of its ports.
 pub fn networks_are_trees()

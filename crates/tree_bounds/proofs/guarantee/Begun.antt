@@ -37,12 +37,12 @@ use Rattle.tree_network.proofs.Those.{eq_true, eq_false, of_both, those_has}
 use Rattle.port_bounds.specs.Ports.{server_of, service_curve}
 use Rattle.tree_bounds.specs.Stairs.{first_stair, first_stair_of}
 use Rattle.tree_bounds.specs.Groups.{longest_of, spots_in_group}
-use Rattle.tree_guarantee.specs.Routes.{routes_of, tree_of_link, node_of}
-use Rattle.tree_guarantee.specs.Guarantee.{frame_of, frame_in, stair_of, stair_in}
-use Rattle.tree_guarantee.proofs.TreesOf.{tree_at, no_tree}
-use Rattle.tree_guarantee.proofs.Forward.{spot_found}
-use Rattle.tree_guarantee.proofs.Gathered.{place_of, number_at, nodes_in, gathered, HasPort, LacksPort, has_or_lacks, in_part}
-use Rattle.tree_guarantee.proofs.Summed.{curve_of, arrival_at, longest_at, rate_at}
+use Rattle.tree_bounds.specs.guarantee.Routes.{routes_of, tree_of_link, node_of}
+use Rattle.tree_bounds.specs.guarantee.Guarantee.{frame_of, frame_in, stair_of, stair_in}
+use Rattle.tree_bounds.proofs.guarantee.TreesOf.{tree_at, no_tree}
+use Rattle.tree_bounds.proofs.guarantee.Forward.{spot_found}
+use Rattle.tree_bounds.proofs.guarantee.Gathered.{place_of, number_at, nodes_in, gathered, HasPort, LacksPort, has_or_lacks, in_part}
+use Rattle.tree_bounds.proofs.guarantee.Summed.{curve_of, arrival_at, longest_at, rate_at}
 
 -- ---- a live link
 pub record IsLiveLink (net : Network) (i : ℕ) : Type 0 where

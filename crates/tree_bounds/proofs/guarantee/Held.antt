@@ -46,11 +46,11 @@ use Rattle.tree_bounds.specs.Lines.{line_of}
 use Rattle.tree_bounds.proofs.Bunched.{arriving_length, lines_of_coming}
 use Rattle.tree_bounds.proofs.InLimits.{queue_arriving}
 use Rattle.tree_bounds.proofs.Ranged.{incomings_length}
-use Rattle.tree_guarantee.specs.Routes.{routes_of, node_of, port_before}
-use Rattle.tree_guarantee.specs.Guarantee.{frame_of, IsRunOf}
-use Rattle.tree_guarantee.proofs.Gathered.{place_of, HasPort, LacksPort, has_or_lacks}
-use Rattle.tree_guarantee.proofs.Summed.{arrival_at, longest_at, rate_at, queue_brings}
-use Rattle.tree_guarantee.proofs.Begun.{IsLiveLink, live_link, none_longer}
+use Rattle.tree_bounds.specs.guarantee.Routes.{routes_of, node_of, port_before}
+use Rattle.tree_bounds.specs.guarantee.Guarantee.{frame_of, IsRunOf}
+use Rattle.tree_bounds.proofs.guarantee.Gathered.{place_of, HasPort, LacksPort, has_or_lacks}
+use Rattle.tree_bounds.proofs.guarantee.Summed.{arrival_at, longest_at, rate_at, queue_brings}
+use Rattle.tree_bounds.proofs.guarantee.Begun.{IsLiveLink, live_link, none_longer}
 
 -- ---- the arrivals of a queue
 pub incoming_found : (net : Network) (spots : List Spot) (line : ℕ → Option Line) (s q n : ℕ) → q < n

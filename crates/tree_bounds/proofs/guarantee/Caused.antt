@@ -30,9 +30,9 @@ use Rattle.tree_network.specs.declared.network.Discipline.{Discipline}
 use Rattle.tree_network.specs.declared.network.Discipline.TheVariants.{Fifo, Priority, Drr}
 use Rattle.tree_network.specs.declared.network.Network.{Network}
 use Rattle.tree_network.specs.declared.network.Port.{Port}
-use Rattle.tree_guarantee.specs.Causes.{IsCause, IsLong, IsOverloaded, IsSlow, NoneHasACause, first_served, rates_of}
-use Rattle.tree_guarantee.specs.Causes.IsCause.{unbounded, unbounded_before, overloaded, long}
-use Rattle.tree_guarantee.proofs.LastSteps.{last_step, not_endless}
+use Rattle.tree_bounds.specs.guarantee.Causes.{IsCause, IsLong, IsOverloaded, IsSlow, NoneHasACause, first_served, rates_of}
+use Rattle.tree_bounds.specs.guarantee.Causes.IsCause.{unbounded, unbounded_before, overloaded, long}
+use Rattle.tree_bounds.proofs.guarantee.LastSteps.{last_step, not_endless}
 
 -- ---- a service that is as fast as the parts
 record IsFast (P : Service → Type 0) (parts : List Part) : Type 0 where

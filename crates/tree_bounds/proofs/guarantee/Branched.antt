@@ -26,12 +26,12 @@ use Rattle.tree_network.specs.declared.network.Node.{Node}
 use Rattle.tree_network.proofs.Those.{eq_true, eq_false}
 use Rattle.tree_bounds.specs.Tables.{row_in, bounds_in, time_after, time_before, AreBounds, IsTableOf}
 use Rattle.tree_bounds.specs.declared.analysis.Table.{Table}
-use Rattle.tree_guarantee.specs.Routes.{routes_of, tree_of_link, node_of, port_before, link_time}
-use Rattle.tree_guarantee.specs.Guarantee.{IsRunOf, TablesAreGuaranteed}
-use Rattle.tree_guarantee.proofs.TreesOf.{tree_at, at_passes}
-use Rattle.tree_guarantee.proofs.Begun.{IsLiveLink}
-use Rattle.tree_guarantee.proofs.Grown.{delay_in, delay_by, queue_first}
-use Rattle.tree_guarantee.proofs.Kept.{all_bounded, queues_keep}
+use Rattle.tree_bounds.specs.guarantee.Routes.{routes_of, tree_of_link, node_of, port_before, link_time}
+use Rattle.tree_bounds.specs.guarantee.Guarantee.{IsRunOf, TablesAreGuaranteed}
+use Rattle.tree_bounds.proofs.guarantee.TreesOf.{tree_at, at_passes}
+use Rattle.tree_bounds.proofs.guarantee.Begun.{IsLiveLink}
+use Rattle.tree_bounds.proofs.guarantee.Grown.{delay_in, delay_by, queue_first}
+use Rattle.tree_bounds.proofs.guarantee.Kept.{all_bounded, queues_keep}
 
 -- ---- a branch with one port more
 goes_more : (nodes : List trees.Node) (from : Option ℕ) (hs : List Hop) (last next : Hop) → GoesOn nodes from (hs ++ last ∷ [])

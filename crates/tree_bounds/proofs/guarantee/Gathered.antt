@@ -20,9 +20,9 @@ use Rattle.tree_network.specs.Lists.{those}
 use Rattle.tree_network.proofs.Those.{eq_true, eq_false, of_eq, those_yes, those_no}
 use Rattle.tree_network.proofs.SpotLists.{in_length, below_more, below_zero}
 use Rattle.tree_bounds.specs.Groups.{is_in_group, spots_in_group}
-use Rattle.tree_guarantee.specs.Routes.{routes_of, tree_of_link, node_of, port_before}
-use Rattle.tree_guarantee.proofs.TreesOf.{tree_at}
-use Rattle.tree_guarantee.proofs.Forward.{spot_found}
+use Rattle.tree_bounds.specs.guarantee.Routes.{routes_of, tree_of_link, node_of, port_before}
+use Rattle.tree_bounds.proofs.guarantee.TreesOf.{tree_at}
+use Rattle.tree_bounds.proofs.guarantee.Forward.{spot_found}
 
 -- ---- numbers that pass a test, some more
 none_more : (test : ℕ → Bool) (a m : ℕ) → ((p : ℕ) → p < m → test (a + p) ≡ false) → those test (a + m) ≡ those test a

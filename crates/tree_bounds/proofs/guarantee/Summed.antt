@@ -33,8 +33,8 @@ use Rattle.tree_bounds.specs.Bunches.{stair_list, stairs_among, bunch_of_group, 
 use Rattle.tree_bounds.specs.Groups.{longest_of, group_of, group_list, groups_at, spots_in_group, part_of, are_bounded}
 use Rattle.tree_bounds.specs.Lines.{line_of}
 use Rattle.tree_bounds.proofs.Bunched.{among_more}
-use Rattle.tree_guarantee.specs.Routes.{routes_of, tree_of_link}
-use Rattle.tree_guarantee.proofs.Gathered.{number_at, gathered}
+use Rattle.tree_bounds.specs.guarantee.Routes.{routes_of, tree_of_link}
+use Rattle.tree_bounds.proofs.guarantee.Gathered.{number_at, gathered}
 
 -- ---- the curve of a stair; infinite where there is none
 abbrev pub curve_of : Option Stair → ℚ → Ext

@@ -18,7 +18,7 @@ use Rattle.tree_bounds.specs.Groups.{groups_at, part_of, sum_burst, sum_rate}
 use Rattle.tree_bounds.specs.Lines.{line_of}
 use Rattle.tree_bounds.specs.Tables.{row_in, IsTableOf}
 use Rattle.tree_bounds.specs.declared.analysis.Table.{Table}
-use Rattle.tree_guarantee.specs.Causes.{IsOverloaded, IsLong}
+use Rattle.tree_bounds.specs.guarantee.Causes.{IsOverloaded, IsLong}
 
 -- queue p is queue q, or may be served before it
 abbrev pub CountsAt : Discipline → (p q : ℕ) → Type 0

@@ -26,11 +26,11 @@ use Rattle.tree_network.specs.declared.spots.Spot.{Spot}
 use Rattle.tree_network.specs.Spots.{spot_at, spots_below, spots_of, source_in, number_before}
 use Rattle.tree_network.proofs.Those.{eq_true, eq_false}
 use Rattle.tree_bounds.specs.Stairs.{later_stair}
-use Rattle.tree_guarantee.specs.Routes.{routes_of, node_of, port_before}
-use Rattle.tree_guarantee.proofs.Forward.{spot_found, HangsAt, hangs_at}
-use Rattle.tree_guarantee.proofs.Gathered.{number_at}
-use Rattle.tree_guarantee.proofs.Summed.{curve_of, arrival_at}
-use Rattle.tree_guarantee.proofs.Begun.{IsLiveLink, live_link, number_is}
+use Rattle.tree_bounds.specs.guarantee.Routes.{routes_of, node_of, port_before}
+use Rattle.tree_bounds.proofs.guarantee.Forward.{spot_found, HangsAt, hangs_at}
+use Rattle.tree_bounds.proofs.guarantee.Gathered.{number_at}
+use Rattle.tree_bounds.proofs.guarantee.Summed.{curve_of, arrival_at}
+use Rattle.tree_bounds.proofs.guarantee.Begun.{IsLiveLink, live_link, number_is}
 
 -- ---- the numbers of a row; infinite where there is none
 abbrev pub delay_in : Option Queue → Ext
