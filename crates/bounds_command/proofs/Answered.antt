@@ -11,8 +11,8 @@ use Rattle.tree_network.specs.Networks.{IsNetwork}
 use Rattle.tree_network.specs.declared.network.Network.{Network}
 use Rattle.tree_bounds.specs.Tables.{IsTableOf}
 use Rattle.tree_bounds.specs.declared.analysis.Table.{Table}
-use Rattle.tree_guarantee.proofs.Caused.{none_has_a_cause}
-use Rattle.tree_guarantee.proofs.Rooted.{none_has_a_root}
+use Rattle.tree_bounds.proofs.guarantee.Caused.{none_has_a_cause}
+use Rattle.tree_bounds.proofs.guarantee.Rooted.{none_has_a_root}
 use Rattle.bounds_report.specs.Ranges.{HasDeadlineInRange}
 use Rattle.bounds_report.specs.declared.rows.BranchRow.{BranchRow}
 use Rattle.bounds_report.specs.declared.rows.Report.{Report}

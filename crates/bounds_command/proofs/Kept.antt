@@ -34,9 +34,9 @@ use Rattle.document_tables.specs.Documents.{DocumentText}
 use Rattle.document_tables.specs.Grids.{BranchOnGrid}
 use Rattle.tree_bounds.specs.Tables.{IsTableOf, row_in, bounds_in, items_of}
 use Rattle.tree_bounds.specs.declared.analysis.Table.{Table}
-use Rattle.tree_guarantee.specs.Routes.{routes_of}
-use Rattle.tree_guarantee.specs.Guarantee.{IsGuaranteed}
-use Rattle.tree_guarantee.proofs.Branched.{tables_keep}
+use Rattle.tree_bounds.specs.guarantee.Routes.{routes_of}
+use Rattle.tree_bounds.specs.guarantee.Guarantee.{IsGuaranteed}
+use Rattle.tree_bounds.proofs.guarantee.Branched.{tables_keep}
 use Rattle.bounds_report.specs.Numbers.{is_met}
 use Rattle.bounds_report.specs.Ranges.{HasDeadlineInRange}
 use Rattle.bounds_report.specs.declared.rows.QueueRow.{QueueRow}

@@ -14,8 +14,8 @@ use Rattle.tree_network.specs.declared.network.Network.{Network}
 use Rattle.tree_network.specs.Rings.{IsNetworkToldRing}
 use Rattle.tree_bounds.specs.Tables.{IsTableOf, row_in}
 use Rattle.tree_bounds.specs.declared.analysis.Table.{Table}
-use Rattle.tree_guarantee.specs.Causes.{IsCausedIn}
-use Rattle.tree_guarantee.specs.Roots.{IsRootedIn}
+use Rattle.tree_bounds.specs.guarantee.Causes.{IsCausedIn}
+use Rattle.tree_bounds.specs.guarantee.Roots.{IsRootedIn}
 use Rattle.bounds_report.specs.declared.rows.Report.{Report}
 use Rattle.bounds_command.specs.declared.answer.Form.{Form}
 use Rattle.bounds_command.specs.Promises.{Guarantees, WrittenGuarantees}

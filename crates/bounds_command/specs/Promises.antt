@@ -24,8 +24,8 @@ use Rattle.bounds_report.specs.Numbers.{is_met}
 use Rattle.bounds_report.specs.declared.rows.QueueRow.{QueueRow}
 use Rattle.bounds_report.specs.declared.rows.BranchRow.{BranchRow}
 use Rattle.bounds_report.specs.declared.rows.Report.{Report}
-use Rattle.tree_guarantee.specs.Routes.{routes_of}
-use Rattle.tree_guarantee.specs.Guarantee.{IsRunOf}
+use Rattle.tree_bounds.specs.guarantee.Routes.{routes_of}
+use Rattle.tree_bounds.specs.guarantee.Guarantee.{IsRunOf}
 use Rattle.rounded_runs.specs.Written.{IsRounded, IsWrittenRun, exact}
 use Rattle.bounds_command.specs.Reports.{name_at, last_port}
 

@@ -17,7 +17,7 @@ use Rattle.document_rows.specs.Disciplines.{discipline_view}
 use Rattle.document_rows.specs.PortRows.{PortText}
 use Rattle.document_tables.specs.Grids.{PortOnGrid, grid_port, megabit, port_on_grid}
 use Rattle.document_tables.specs.Ranges.{IsPortText}
-use Rattle.tree_guarantee.specs.Routes.{link_time}
+use Rattle.tree_bounds.specs.guarantee.Routes.{link_time}
 use Rattle.rounded_runs.specs.Written.{exact, discipline_written, server_written, time_written}
 use Rattle.rounded_runs.proofs.Faster.{IsAsFast, AreAsFast}
 use Rattle.rounded_runs.proofs.Units.{micros_whole, speed_up}

@@ -34,8 +34,8 @@ use Rattle.document_tables.specs.declared.links.LinkKeys.{LinkKeys}
 use Rattle.document_tables.specs.Grids.{PortOnGrid, gate_on_grid, grid_port, megabit, microsecond, port_on_grid}
 use Rattle.document_tables.specs.Ranges.{IsGateOrNone, IsPortText}
 use Rattle.document_tables.proofs.NetworkFacts.{same_at, same_length}
-use Rattle.tree_guarantee.specs.Guarantee.{frame_of, stair_in, stair_of}
-use Rattle.tree_guarantee.specs.Routes.{routes_of, tree_of_link}
+use Rattle.tree_bounds.specs.guarantee.Guarantee.{frame_of, stair_in, stair_of}
+use Rattle.tree_bounds.specs.guarantee.Routes.{routes_of, tree_of_link}
 use Rattle.rounded_runs.specs.Laws.{WrittenRunsAreRuns}
 use Rattle.rounded_runs.specs.Written.{exact, curve_written, service_written, stair_written, no_text, text_at, keys_at, IsRoundedLink, IsRounded, server_written, time_written, routes_written}
 use Rattle.rounded_runs.proofs.Curves.{stair_above, latency_below, gate_below}

@@ -4,7 +4,7 @@ use Rattle.run_laws.specs.Runs.{SpecRun}
 use Rattle.tree_network.specs.declared.network.Network.{Network}
 use Rattle.document_rows.specs.PortRows.{PortText}
 use Rattle.document_tables.specs.declared.links.LinkKeys.{LinkKeys}
-use Rattle.tree_guarantee.specs.Guarantee.{IsRunOf}
+use Rattle.tree_bounds.specs.guarantee.Guarantee.{IsRunOf}
 use Rattle.rounded_runs.specs.Written.{IsRounded, IsWrittenRun}
 
 -- a run of the network that is written is one of each network that has its numbers on the grid

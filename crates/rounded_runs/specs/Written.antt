@@ -21,8 +21,8 @@ use Rattle.document_tables.specs.declared.links.LinkKeys.{LinkKeys}
 use Rattle.document_tables.specs.Grids.{grid_port, port_on_grid, microsecond, millisecond}
 use Rattle.document_tables.specs.Ranges.{IsPortText, AreLinkKeys}
 use Rattle.table_cells.specs.Amounts as amounts
-use Rattle.tree_guarantee.specs.Routes.{tree_of_link}
-use Rattle.tree_guarantee.specs.Guarantee.{frame_of}
+use Rattle.tree_bounds.specs.guarantee.Routes.{tree_of_link}
+use Rattle.tree_bounds.specs.guarantee.Guarantee.{frame_of}
 
 -- ---- what rows write, exact
 -- the number of a cell, in the column's own unit

@@ -1,9 +1,10 @@
 -- What arrives at a port as the code lists it.
-use Rattle.std.proofs.Common.{◌≡◌, ℕ, zero, suc, ◌<◌, ◌+◌, ◌==◌, ◌&&◌, Bool, true, false, Option, Some, None, List, [], ◌∷◌, ◌++◌, cond, filter, length, get_or, map, take, refl, sym, ◌∙◌, ap, ap₂, subst, arith, append-nil}
+use Rattle.std.proofs.Common.{◌≡◌, ◌≢◌, ℕ, suc, ◌<◌, ◌+◌, Bool, Option, Some, None, List, [], ◌∷◌, ◌++◌, cond, filter, length, get_or, map, take, drop, ◌-◌, refl, sym, ◌∙◌, ap, ap₂, subst, arith, append-nil}
+use Rattle.std.specs.List.{sum_by}
 use Rattle.std.specs.Option.{option_map}
 use Rattle.std.specs.declared.vec.Vec.{Vec}
 use Rattle.std.specs.declared.alloc.Global.{Global}
-use Rattle.std.proofs.lemmas.List.{take_more, map-append}
+use Rattle.std.proofs.lemmas.List.{take_more, map-append, length-map}
 use Rattle.std.proofs.lemmas.List.Elements.{filter_more}
 use Rattle.arrival_lines.specs.declared.grid.Line.{Line}
 use Rattle.arrival_lines.specs.declared.grid.Part.{Part}
@@ -16,81 +17,99 @@ use Rattle.port_bounds.specs.StairsIncoming.{stairs_of, stairs_in}
 use Rattle.port_bounds.specs.declared.stair_arrivals.StairArrivals.{StairArrivals}
 use Rattle.tree_network.specs.declared.network.Network.{Network}
 use Rattle.tree_network.specs.declared.spots.Spot.{Spot}
+use Rattle.tree_network.specs.Lists.{spots_at_port}
+use Rattle.tree_network.specs.Plans.{IsPlanOf}
 use Rattle.tree_network.specs.Spots.{spot_at, spots_of}
-use Rattle.tree_network.specs.Lists.{those, is_from}
-use Rattle.tree_network.proofs.Those.{those_filter, those_same, eq_true, of_eq}
+use Rattle.tree_network.specs.declared.order.Plan.{Plan}
+use Rattle.tree_network.proofs.ListSets.{list_of}
+use Rattle.tree_network.proofs.Those.{eq_true, eq_false}
 use Rattle.tree_bounds.specs.Bunches.{Arriving, stair_list, stairs_among, bunch_of_group, arriving_of, arriving_of_groups, arriving_at, arriving_below}
-use Rattle.tree_bounds.specs.Coming.{IsComing, is_in_queue}
-use Rattle.tree_bounds.specs.Groups.{is_in_group, spots_in_group, groups_at, parts_in, longest_group, pace_line, incoming_of_groups, incoming_at, incomings_at}
+use Rattle.tree_bounds.specs.Coming.{IsComing, is_of_queue}
+use Rattle.tree_bounds.specs.Grouping.{AreInGroups, grouped}
+use Rattle.tree_bounds.specs.Groups.{groups_at, pace_line, parts_in, incoming_of_groups, incoming_at, incomings_at}
 use Rattle.tree_bounds.specs.Lines.{line_of}
 use Rattle.tree_bounds.specs.declared.groups.Group.{Group}
 use Rattle.tree_bounds.proofs.Bunched.{among_more}
+use Rattle.tree_bounds.proofs.Grouped.{grouped_at, in_groups, in_queue, run_of, spots_in_queue}
+
+-- ---- the spots of a queue
+pub kept : (spots : List Spot) (q : ℕ) (numbers : List ℕ) (i : ℕ) (old new : List ℕ) → i < length numbers → (spot_at spots (get_or numbers i 0)).queue ≡ q
+    → old ≡ filter (is_of_queue spots q) (take i numbers) → new ≡ old ++ get_or numbers i 0 ∷ [] → new ≡ filter (is_of_queue spots q) (take (i + 1) numbers)
+kept spots q numbers i old new h own is more =
+    let n = get_or numbers i 0 in
+    more ∙ ap (λ (l : List ℕ). l ++ n ∷ []) is
+    ∙ sym (filter_more (is_of_queue spots q) numbers i 0 h
+    ∙ ap (λ (b : Bool). filter (is_of_queue spots q) (take i numbers) ++ cond b (n ∷ []) []) (eq_true (spot_at spots n).queue q own))
+
+pub left_out : (spots : List Spot) (q : ℕ) (numbers : List ℕ) (i : ℕ) (old : List ℕ) → i < length numbers → (spot_at spots (get_or numbers i 0)).queue ≢ q
+    → old ≡ filter (is_of_queue spots q) (take i numbers) → old ≡ filter (is_of_queue spots q) (take (i + 1) numbers)
+left_out spots q numbers i old h other is =
+    let n = get_or numbers i 0 in
+    is ∙ sym (filter_more (is_of_queue spots q) numbers i 0 h
+    ∙ ap (λ (b : Bool). filter (is_of_queue spots q) (take i numbers) ++ cond b (n ∷ []) []) (eq_false (spot_at spots n).queue q other)
+    ∙ append-nil (filter (is_of_queue spots q) (take i numbers)))
 
 -- ---- the stairs of a list of spots
-pub none_among : (stair : ℕ → Option Stair) (test : ℕ → Bool) (numbers : List ℕ) → [] ≡ stairs_among stair (filter test (take 0 numbers))
+pub none_among : (stair : ℕ → Option Stair) (numbers : List ℕ) → [] ≡ stairs_among stair (take 0 numbers)
 unfolding stairs_among
-none_among stair test numbers = refl
+none_among stair numbers = refl
 
-among_next : (stair : ℕ → Option Stair) (test : ℕ → Bool) (numbers : List ℕ) (i d : ℕ) → i < length numbers
-    → stairs_among stair (filter test (take (i + 1) numbers))
-    ≡ stairs_among stair (filter test (take i numbers)) ++ stairs_among stair (cond (test (get_or numbers i d)) (get_or numbers i d ∷ []) [])
-among_next stair test numbers i d h =
-    ap (stairs_among stair) (filter_more test numbers i d h)
-    ∙ among_more stair (filter test (take i numbers)) (cond (test (get_or numbers i d)) (get_or numbers i d ∷ []) [])
-
-pub one_among : (stair : ℕ → Option Stair) (test : ℕ → Bool) (numbers : List ℕ) (i d : ℕ) (old new : List Stair) → i < length numbers → test (get_or numbers i d) ≡ true
-    → old ≡ stairs_among stair (filter test (take i numbers)) → new ≡ old ++ stair_list (stair (get_or numbers i d))
-    → new ≡ stairs_among stair (filter test (take (i + 1) numbers))
+pub one_among : (stair : ℕ → Option Stair) (numbers : List ℕ) (i d : ℕ) (old new : List Stair) → i < length numbers
+    → old ≡ stairs_among stair (take i numbers) → new ≡ old ++ stair_list (stair (get_or numbers i d)) → new ≡ stairs_among stair (take (i + 1) numbers)
 unfolding stairs_among
-one_among stair test numbers i d old new h hit is more =
-    let last : stairs_among stair (cond (test (get_or numbers i d)) (get_or numbers i d ∷ []) []) ≡ stair_list (stair (get_or numbers i d)) ++ [] = rw hit refl in
-    more ∙ ap (λ (l : List Stair). l ++ stair_list (stair (get_or numbers i d))) is
-    ∙ ap (λ (l : List Stair). stairs_among stair (filter test (take i numbers)) ++ l) (sym (append-nil (stair_list (stair (get_or numbers i d)))) ∙ sym last)
-    ∙ sym (among_next stair test numbers i d h)
-
-pub other_among : (stair : ℕ → Option Stair) (test : ℕ → Bool) (numbers : List ℕ) (i d : ℕ) (old : List Stair) → i < length numbers → test (get_or numbers i d) ≡ false
-    → old ≡ stairs_among stair (filter test (take i numbers)) → old ≡ stairs_among stair (filter test (take (i + 1) numbers))
-unfolding stairs_among
-other_among stair test numbers i d old h miss is =
-    let last : stairs_among stair (cond (test (get_or numbers i d)) (get_or numbers i d ∷ []) []) ≡ [] = rw miss refl in
-    is ∙ sym (append-nil (stairs_among stair (filter test (take i numbers))))
-    ∙ ap (λ (l : List Stair). stairs_among stair (filter test (take i numbers)) ++ l) (sym last)
-    ∙ sym (among_next stair test numbers i d h)
-
-pub here : (spots : List Spot) (s q n : ℕ) → (spot_at spots n).port ≡ s → (spot_at spots n).queue ≡ q → is_in_queue spots s q n ≡ true
-here spots s q n e f = let a = eq_true (spot_at spots n).port s e in let b = eq_true (spot_at spots n).queue q f in rw (a, b) refl
-
-pub elsewhere : (spots : List Spot) (s q n : ℕ) → (((spot_at spots n).port ≡ s) × ((spot_at spots n).queue ≡ q) → ⊥) → is_in_queue spots s q n ≡ false
-elsewhere spots s q n none = by_test ((spot_at spots n).port == s) ((spot_at spots n).queue == q) refl refl
-  where
-    by_test : (a b : Bool) → ((spot_at spots n).port == s) ≡ a → ((spot_at spots n).queue == q) ≡ b → is_in_queue spots s q n ≡ false
-    by_test true true e f = absurd (none (of_eq (spot_at spots n).port s e, of_eq (spot_at spots n).queue q f))
-    by_test true false e f = rw (e, f) refl
-    by_test false b e f = rw e refl
-
--- those of a source and of a queue are those of the group
-pub of_group : (spots : List Spot) (s q k : ℕ) → filter (is_in_queue spots s q) (those (is_from spots k) (length spots)) ≡ spots_in_group spots s q k
-of_group spots s q k =
-    those_filter (is_from spots k) (is_in_queue spots s q) (length spots)
-    ∙ those_same (λ n. is_from spots k n && is_in_queue spots s q n) (is_in_group spots s q k) (length spots)
-    (λ n lt. turned ((spot_at spots n).source == k) ((spot_at spots n).port == s) ((spot_at spots n).queue == q))
-  where
-    turned : (a b c : Bool) → (a && (b && c)) ≡ ((a && b) && c)
-    turned true b c = refl
-    turned false b c = refl
+one_among stair numbers i d old new h is more =
+    let n = get_or numbers i d in
+    more ∙ ap (λ (l : List Stair). l ++ stair_list (stair n)) is
+    ∙ ap (λ (l : List Stair). stairs_among stair (take i numbers) ++ l) (sym (append-nil (stair_list (stair n))))
+    ∙ sym (ap (stairs_among stair) (take_more numbers i d h) ∙ among_more stair (take i numbers) (n ∷ []))
 
 -- ---- bunches
-pub bunch_is : (net : Network) (spots : List Spot) (stair : ℕ → Option Stair) (s q : ℕ) (g : Group) (stairs : List Stair) (pace : Option Line)
-    → stairs ≡ stairs_among stair (spots_in_group spots s q g.source) → pace ≡ pace_line net g.longest g.source
-    → record { stairs = stairs; pace = pace } ≡ bunch_of_group net spots stair s q g
-bunch_is net spots stair s q g stairs pace e f =
-    let B : List Stair → Option Line → Bunch = λ ss p. record { stairs = ss; pace = p } in ap₂ B e f
-
 pub bunches_more : (f : Group → Bunch) (groups : List Group) (i : ℕ) (d : Group) (old new : List Bunch) (last : Bunch) → i < length groups
     → new ≡ old ++ last ∷ [] → old ≡ map f (take i groups) → last ≡ f (get_or groups i d) → new ≡ map f (take (i + 1) groups)
 bunches_more f groups i d old new last h e is own =
     e ∙ ap₂ (λ (ws : List Bunch) (w : Bunch). ws ++ w ∷ []) is own
     ∙ sym (ap (map f) (take_more groups i d h) ∙ map-append f (take i groups) (get_or groups i d ∷ []))
+
+-- those of the group whose spots begin there
+pub run_bunch : (net : Network) (stair : ℕ → Option Stair) (s q : ℕ) (groups : List Group) (numbers : List ℕ) (i : ℕ) (d : Group) (first : ℕ) → i < length groups
+    → first ≡ sum_by (λ g. g.count) (take i groups) → AreInGroups (spots_of net) s q groups numbers
+    → record {
+      stairs = stairs_among stair (take (first + (get_or groups i d).count - first) (drop first numbers));
+      pace = pace_line net (get_or groups i d).longest (get_or groups i d).source;
+    } ≡ bunch_of_group net (spots_of net) stair s q (get_or groups i d)
+run_bunch net stair s q groups numbers i d first h e are =
+    let g = get_or groups i d in
+    let all : first + g.count - first ≡ g.count = omega arith in
+    let B : List ℕ → Bunch = λ ns. record { stairs = stairs_among stair ns; pace = pace_line net g.longest g.source } in
+    ap₂ (λ (m k : ℕ). B (take m (drop k numbers))) all e ∙ ap B (run_of (spots_of net) s q groups numbers i d are h)
+
+-- ---- the spots of a queue and their groups, as the code lists them
+pub at_port : (net : Network) (plan : Plan) (s : ℕ) (v : Vec ℕ Global) (numbers : List ℕ) → IsPlanOf net plan → s < length net.ports.items → v ≡ get_or plan.at.items s v
+    → numbers ≡ v.items → numbers ≡ spots_at_port (spots_of net) s (length net.ports.items + 1)
+at_port net plan s v numbers is h at e =
+    let count = length-map plan.at.items (λ w. w.items) in
+    e ∙ sym (list_of plan.at.items s v (omega (arith, count, is.at.count, h)) at) ∙ is.at.each s h
+
+pub in_its_queue : (net : Network) (plan : Plan) (s q : ℕ) (spots : List Spot) (numbers found : List ℕ) → IsPlanOf net plan → spots ≡ plan.spots.items
+    → numbers ≡ spots_at_port (spots_of net) s (length net.ports.items + 1) → found ≡ filter (is_of_queue spots q) numbers
+    → found ≡ spots_in_queue (spots_of net) s q (length net.ports.items + 1)
+in_its_queue net plan s q spots numbers found is e f g =
+    g ∙ ap₂ (λ (ss : List Spot) (ns : List ℕ). filter (is_of_queue ss q) ns) (e ∙ is.spots) f ∙ in_queue (spots_of net) s q (length net.ports.items + 1)
+
+pub its_groups : (net : Network) (plan : Plan) (stair : ℕ → Option Stair) (s q : ℕ) (spots : List Spot) (numbers : List ℕ) (groups : List Group) → IsPlanOf net plan
+    → spots ≡ plan.spots.items → numbers ≡ spots_in_queue (spots_of net) s q (length net.ports.items + 1) → groups ≡ grouped spots (λ n. line_of (stair n)) numbers
+    → groups ≡ groups_at (spots_of net) (λ n. line_of (stair n)) s q (length net.ports.items + 1)
+its_groups net plan stair s q spots numbers groups is e f g =
+    g ∙ ap₂ (λ (ss : List Spot) (ns : List ℕ). grouped ss (λ n. line_of (stair n)) ns) (e ∙ is.spots) f
+    ∙ grouped_at (spots_of net) (λ n. line_of (stair n)) s q (length net.ports.items + 1)
+
+pub are_in_groups : (net : Network) (line : ℕ → Option Line) (s q : ℕ) (groups : List Group) (numbers : List ℕ)
+    → groups ≡ groups_at (spots_of net) line s q (length net.ports.items + 1) → numbers ≡ spots_in_queue (spots_of net) s q (length net.ports.items + 1)
+    → AreInGroups (spots_of net) s q groups numbers
+are_in_groups net line s q groups numbers e f =
+    let G : List Group → Type 0 = λ gs. AreInGroups (spots_of net) s q gs numbers in
+    let N : List ℕ → Type 0 = λ ns. AreInGroups (spots_of net) s q (groups_at (spots_of net) line s q (length net.ports.items + 1)) ns in
+    subst G (sym e) (subst N (sym f) (in_groups (spots_of net) line s q (length net.ports.items + 1)))
 
 -- ---- a queue
 abbrev arriving : Option (List Bunch) → ℕ → Arriving

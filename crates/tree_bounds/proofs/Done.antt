@@ -49,7 +49,7 @@ list_same : (spots : List Spot) (line later : ℕ → Option Line) (k : ℕ) (nu
     → group_list spots line k numbers ≡ group_list spots later k numbers
 list_same spots line later k [] a = refl
 list_same spots line later k (n ∷ numbers) a =
-    let S : ℕ → ℕ → Bool → List Group = λ b r w. record { source = k; burst = b; rate = r; longest = (group_of spots line k (n ∷ numbers)).longest; known = w } ∷ [] in
+    let S : ℕ → ℕ → Bool → List Group = λ b r w. record { source = k; burst = b; rate = r; longest = (group_of spots line k (n ∷ numbers)).longest; known = w; count = length (n ∷ numbers) } ∷ [] in
     let eb = sum_same (λ m. burst_in (line m)) (λ m. burst_in (later m)) (n ∷ numbers) (λ i d h. ap burst_in (a i d h)) in
     let er = sum_same (λ m. rate_in (line m)) (λ m. rate_in (later m)) (n ∷ numbers) (λ i d h. ap rate_in (a i d h)) in
     let ek = tests_same (λ m. is_some (line m)) (λ m. is_some (later m)) (n ∷ numbers) (λ i d h. ap is_some (a i d h)) in

@@ -1,5 +1,5 @@
 -- What arrives at the first queues of a port, as the code lists it. Own choice.
-use Rattle.std.specs.Prelude.{Option, ◌≡◌, ◌==◌, ◌&&◌, ℕ, Bool, List, map}
+use Rattle.std.specs.Prelude.{Option, ◌≡◌, ◌==◌, ℕ, Bool, List, map}
 use Rattle.arrival_stairs.specs.declared.stairs.Stair.{Stair}
 use Rattle.port_bounds.specs.Incoming.{incoming}
 use Rattle.port_bounds.specs.declared.arrivals.Arrivals.{Arrivals}
@@ -12,9 +12,9 @@ use Rattle.tree_bounds.specs.Bunches.{arriving_below, arriving_of}
 use Rattle.tree_bounds.specs.Groups.{incomings_at}
 use Rattle.tree_bounds.specs.Lines.{line_of}
 
--- spot n is of queue q at port s
-abbrev pub is_in_queue : List Spot → (s q n : ℕ) → Bool
-is_in_queue spots s q n = ((spot_at spots n).port == s) && ((spot_at spots n).queue == q)
+-- spot n is of queue q at its port
+abbrev pub is_of_queue : List Spot → (q n : ℕ) → Bool
+is_of_queue spots q n = (spot_at spots n).queue == q
 
 -- both ways
 pub record IsComing (net : Network) (stair : ℕ → Option Stair) (s count : ℕ) (by_lines : List Arrivals) (by_stairs : List StairArrivals) : Type 0 where

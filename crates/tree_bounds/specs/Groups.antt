@@ -33,6 +33,7 @@ group_of spots line k numbers = record {
   rate = sum_by (λ n. rate_in (line n)) numbers;
   longest = longest_of spots numbers;
   known = list_all (λ n. is_some (line n)) numbers;
+  count = length numbers;
 }
 
 -- spot n is of queue q at port s, and frames come to it from source k

@@ -9,3 +9,4 @@ pub mod Onward
 pub mod Solved
 pub mod Equations
 pub mod Tables
+pub mod guarantee

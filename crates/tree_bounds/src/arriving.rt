@@ -1,6 +1,7 @@
 //! What arrives at the queues of a port: as stairs, and by their lines.
 
-ghost use Rattle.std.specs.Prelude.{◌≡◌, ◌<◌, ◌++◌, ◌↔◌, All, IsTrue, filter, length, map, IfOk, OnOk};
+ghost use Rattle.std.specs.Prelude.{◌≡◌, ℕ, ◌<◌, ◌++◌, All, filter, length, map, IfOk, OnOk};
+ghost use Rattle.std.specs.List.{sum_by};
 ghost use Rattle.tree_network.specs.Networks.{IsNetwork};
 ghost use Rattle.tree_network.specs.Plans.{IsPlanOf};
 ghost use Rattle.tree_network.specs.Spots.{spots_of};
@@ -8,8 +9,9 @@ ghost use Rattle.arrival_stairs.specs.Views.{bunch_of, bunches};
 ghost use Rattle.port_bounds.specs.Incoming.{incoming_of};
 ghost use Rattle.port_bounds.specs.StairsIncoming.{stairs_of};
 ghost use Rattle.tree_bounds.specs.Bunches.{arriving_of, arriving_of_groups, bunch_of_group, stair_list, stairs_among};
-ghost use Rattle.tree_bounds.specs.Coming.{IsComing, is_in_queue};
-ghost use Rattle.tree_bounds.specs.Groups.{incoming_of_groups};
+ghost use Rattle.tree_bounds.specs.Coming.{IsComing, is_of_queue};
+ghost use Rattle.tree_bounds.specs.Grouping.{AreInGroups};
+ghost use Rattle.tree_bounds.specs.Groups.{incoming_of_groups, pace_line};
 ghost use Rattle.tree_bounds.specs.Onward.{stair_in};
 ghost use Rattle.tree_bounds.specs.Parts.{IsOfNetwork};
 ghost use Rattle.tree_bounds.specs.Solved.{AreAllStairs};
@@ -40,97 +42,100 @@ fn keep(stairs: &mut Vec<Stair>, stair: Option<Stair>) -> Result<(), AllocError>
     Ok(())
 }
 
-/// Whether the spot is of queue q at a port.
-fn is_here(spot: Spot, port: usize, q: usize) -> bool
-    ensures { IsTrue result ↔ ((spot.port ≡ port) × (spot.queue ≡ q)) }
-{
-    spot.port == port && spot.queue == q
-}
-
-/// The stairs of the spots of queue q at a port among these.
-fn stairs_at(
+/// The numbers of the spots of queue q among these.
+fn of_queue(
     alloc: Global,
     spots: &[Spot],
     numbers: &[usize],
-    stairs: &[Option<Stair>],
-    port: usize,
     q: usize,
-) -> Result<Vec<Stair>, AllocError>
-    requires inside { All (λ n. n < length spots.now) numbers.now }
-    requires stairs { length stairs.now ≡ length spots.now }
-    ensures { IfOk result (λ v. v.items ≡ stairs_among (λ n. stair_in stairs.now n) (filter (is_in_queue spots.now port q) numbers.now)) }
+) -> Result<Vec<usize>, AllocError>
+    requires { All (λ n. n < length spots.now) numbers.now }
+    ensures { IfOk result (λ v. v.items ≡ filter (is_of_queue spots.now q) numbers.now) }
 {
     let mut found = Vec::new(alloc);
     for n in numbers {
-        let spot = spots[*n];
-        if is_here(spot, port, q) {
-            keep(&mut found, stairs[*n])?;
+        if spots[*n].queue == q {
+            found.push(*n)?;
         }
     }
     Ok(found)
 }
 
-/// The links of a group of queue q at a port.
+/// The stairs of these spots, of those that have one.
+fn stairs_of_spots(
+    alloc: Global,
+    stairs: &[Option<Stair>],
+    numbers: &[usize],
+) -> Result<Vec<Stair>, AllocError>
+    requires { All (λ n. n < length stairs.now) numbers.now }
+    ensures { IfOk result (λ v. v.items ≡ stairs_among (λ n. stair_in stairs.now n) numbers.now) }
+{
+    let mut found = Vec::new(alloc);
+    for n in numbers {
+        keep(&mut found, stairs[*n])?;
+    }
+    Ok(found)
+}
+
+/// The links of a group, of which these are the spots.
 fn bundle(
     alloc: Global,
     network: &Network,
-    plan: &Plan,
     stairs: &[Option<Stair>],
-    port: usize,
-    q: usize,
+    numbers: &[usize],
     group: Group,
 ) -> Result<Bundle, AllocError>
-    requires plan { IsPlanOf network.now plan.now }
-    requires stairs { length stairs.now ≡ length plan.now.spots.items }
+    requires inside { All (λ n. n < length stairs.now) numbers.now }
     requires group { IsOfNetwork network.now group }
-    ensures { IfOk result (λ b. bunch_of b ≡ bunch_of_group network.now (spots_of network.now) (λ n. stair_in stairs.now n) port q group) }
+    ensures { IfOk result (λ b. bunch_of b
+        ≡ record { stairs = stairs_among (λ n. stair_in stairs.now n) numbers.now; pace = pace_line network.now group.longest group.source }) }
 {
-    let numbers = &plan.sources[group.source];
-    let found = stairs_at(alloc, &plan.spots, numbers, stairs, port, q)?;
+    let found = stairs_of_spots(alloc, stairs, numbers)?;
     Ok(Bundle {
         stairs: found,
         pace: pace_of(network, group.longest, group.source),
     })
 }
 
-/// The links of each group of queue q at a port.
+/// The links of each group, where their spots stand one group after the other.
 fn bundles(
     alloc: Global,
     network: &Network,
-    plan: &Plan,
     stairs: &[Option<Stair>],
-    port: usize,
-    q: usize,
+    numbers: &[usize],
     groups: &[Group],
 ) -> Result<Vec<Bundle>, AllocError>
-    requires plan { IsPlanOf network.now plan.now }
-    requires stairs { length stairs.now ≡ length plan.now.spots.items }
+    requires inside { All (λ n. n < length stairs.now) numbers.now }
     requires groups { All (IsOfNetwork network.now) groups.now }
-    ensures { IfOk result (λ v. bunches v.items ≡ map (bunch_of_group network.now (spots_of network.now) (λ n. stair_in stairs.now n) port q) groups.now) }
+    requires count { sum_by (λ g. g.count) groups.now ≡ length numbers.now }
+    ensures { IfOk result (λ v. (s q : ℕ) → AreInGroups (spots_of network.now) s q groups.now numbers.now
+        → bunches v.items ≡ map (bunch_of_group network.now (spots_of network.now) (λ n. stair_in stairs.now n) s q) groups.now) }
 {
     let mut all = Vec::with_capacity(alloc, groups.len())?;
+    let mut first = 0;
     for group in groups {
-        all.push(bundle(alloc, network, plan, stairs, port, q, *group)?)?;
+        let end = first + group.count;
+        all.push(bundle(alloc, network, stairs, &numbers[first..end], *group)?)?;
+        first = end;
     }
     Ok(all)
 }
 
-/// What arrives at queue q of a port as stairs, whose links come in these groups, and so by lines.
+/// What arrives at a queue as stairs, whose spots these are and whose links come in these groups, and so by lines.
 fn stair_arrivals(
     alloc: Global,
     network: &Network,
-    plan: &Plan,
     stairs: &[Option<Stair>],
-    port: usize,
-    q: usize,
+    numbers: &[usize],
     groups: &[Group],
     lines: &Arrivals,
 ) -> Result<StairArrivals, AllocError>
-    requires plan { IsPlanOf network.now plan.now }
-    requires stairs { length stairs.now ≡ length plan.now.spots.items }
+    requires inside { All (λ n. n < length stairs.now) numbers.now }
     requires groups { All (IsOfNetwork network.now) groups.now }
+    requires count { sum_by (λ g. g.count) groups.now ≡ length numbers.now }
     requires lines { incoming_of lines.now ≡ incoming_of_groups network.now groups.now }
-    ensures { IfOk result (λ a. arriving_of (stairs_of a) ≡ arriving_of_groups network.now (spots_of network.now) (λ n. stair_in stairs.now n) port q groups.now) }
+    ensures { IfOk result (λ a. (s q : ℕ) → AreInGroups (spots_of network.now) s q groups.now numbers.now
+        → arriving_of (stairs_of a) ≡ arriving_of_groups network.now (spots_of network.now) (λ n. stair_in stairs.now n) s q groups.now) }
 {
     match &lines.parts {
         None => Ok(StairArrivals {
@@ -138,7 +143,7 @@ fn stair_arrivals(
             longest: lines.longest,
         }),
         Some(_parts) => {
-            let all = bundles(alloc, network, plan, stairs, port, q, groups)?;
+            let all = bundles(alloc, network, stairs, numbers, groups)?;
             Ok(StairArrivals {
                 bundles: Some(all),
                 longest: lines.longest,
@@ -166,9 +171,10 @@ pub(crate) fn all_arrivals(
     let mut lines = Vec::with_capacity(alloc, count)?;
     let mut all_stairs = Vec::with_capacity(alloc, count)?;
     for q in 0..count {
-        let groups = groups_of(alloc, &plan.spots, &plan.at[port], stairs, q)?;
+        let numbers = of_queue(alloc, &plan.spots, &plan.at[port], q)?;
+        let groups = groups_of(alloc, &plan.spots, &numbers, stairs)?;
         let by_lines = arrivals(alloc, network, &groups)?;
-        let by_stairs = stair_arrivals(alloc, network, plan, stairs, port, q, &groups, &by_lines)?;
+        let by_stairs = stair_arrivals(alloc, network, stairs, &numbers, &groups, &by_lines)?;
         all_stairs.push(by_stairs)?;
         lines.push(by_lines)?;
     }

@@ -1,8 +1,8 @@
 //! The links that come to a queue, by where they come from.
 
-ghost use Rattle.std.specs.Prelude.{◌≡◌, ◌<◌, ◌+◌, ◌^◌, ◌++◌, ◌∷◌, [], All, length, max, IfOk, OnOk};
+ghost use Rattle.std.specs.Prelude.{◌≡◌, ◌<◌, ◌++◌, ◌∷◌, [], All, length, max, IfOk, OnOk};
 ghost use Rattle.tree_bounds.specs.Groups.{longest_group};
-ghost use Rattle.tree_bounds.specs.Grouping.{both_groups, group_of_spot, grouped, last_with, with_group};
+ghost use Rattle.tree_bounds.specs.Grouping.{FitTogether, IsOfOne, both_groups, group_of_spot, grouped, last_with, with_group};
 ghost use Rattle.tree_bounds.specs.Lines.{line_of};
 ghost use Rattle.tree_bounds.specs.Onward.{stair_in};
 ghost use Rattle.tree_bounds.specs.Solved.{AreAllStairs};
@@ -26,6 +26,8 @@ pub(crate) struct Group {
     pub(crate) longest: u64,
     /// Whether each has a line.
     pub(crate) known: bool,
+    /// How many they are.
+    pub(crate) count: usize,
 }
 
 /// The greater one.
@@ -38,7 +40,7 @@ fn greater(a: u64, b: u64) -> u64
 /// The group of one spot with this line.
 fn group_of_one(spot: Spot, line: Option<Line>) -> Group
     ensures one { result ≡ group_of_spot spot line }
-    ensures small { (result.burst < 2 ^ 64) × (result.rate < 2 ^ 64) }
+    ensures small { IsOfOne result }
 {
     match line {
         None => Group {
@@ -47,6 +49,7 @@ fn group_of_one(spot: Spot, line: Option<Line>) -> Group
             rate: 0,
             longest: spot.frame,
             known: false,
+            count: 1,
         },
         Some(line) => Group {
             source: spot.source,
@@ -54,14 +57,14 @@ fn group_of_one(spot: Spot, line: Option<Line>) -> Group
             rate: line.rate as u128,
             longest: spot.frame,
             known: true,
+            count: 1,
         },
     }
 }
 
 /// Two groups of one source together.
 fn together(one: Group, other: Group) -> Group
-    requires burst { one.burst + other.burst < 2 ^ 128 }
-    requires rate { one.rate + other.rate < 2 ^ 128 }
+    requires { FitTogether one other }
     ensures { result ≡ both_groups one other }
 {
     Group {
@@ -70,6 +73,7 @@ fn together(one: Group, other: Group) -> Group
         rate: one.rate + other.rate,
         longest: greater(one.longest, other.longest),
         known: one.known && other.known,
+        count: one.count + other.count,
     }
 }
 
@@ -92,8 +96,7 @@ fn put_two(groups: &mut Vec<Group>, one: Group, other: Group) -> Result<(), Allo
 
 /// Adds the last group behind the others and one more, or both together where they are of one source.
 fn put_behind(groups: &mut Vec<Group>, last: Group, next: Group) -> Result<(), AllocError>
-    requires burst { last.burst + next.burst < 2 ^ 128 }
-    requires rate { last.rate + next.rate < 2 ^ 128 }
+    requires { FitTogether last next }
     ensures { OnOk result (groups.new.items ≡ groups.old.items ++ last_with last next) }
 {
     if last.source == next.source {
@@ -104,7 +107,7 @@ fn put_behind(groups: &mut Vec<Group>, last: Group, next: Group) -> Result<(), A
 
 /// Adds a group behind the others, or to the last of them where that is of the same source.
 fn add_group(groups: &mut Vec<Group>, next: Group) -> Result<(), AllocError>
-    requires { All (λ g. (g.burst + next.burst < 2 ^ 128) × (g.rate + next.rate < 2 ^ 128)) groups.old.items }
+    requires { All (λ g. FitTogether g next) groups.old.items }
     ensures { OnOk result (groups.new.items ≡ with_group groups.old.items next) }
 {
     match groups.pop() {
@@ -113,26 +116,22 @@ fn add_group(groups: &mut Vec<Group>, next: Group) -> Result<(), AllocError>
     }
 }
 
-/// The spots of queue q among these, by their sources.
+/// These spots of a queue, by their sources.
 pub(crate) fn groups_of(
     alloc: Global,
     spots: &[Spot],
     numbers: &[usize],
     stairs: &[Option<Stair>],
-    q: usize,
 ) -> Result<Vec<Group>, AllocError>
     requires inside { All (λ n. n < length spots.now) numbers.now }
     requires stairs { length stairs.now ≡ length spots.now }
     requires range { AreAllStairs stairs.now }
-    ensures { IfOk result (λ v. v.items ≡ grouped spots.now (λ n. line_of (stair_in stairs.now n)) q numbers.now) }
+    ensures { IfOk result (λ v. v.items ≡ grouped spots.now (λ n. line_of (stair_in stairs.now n)) numbers.now) }
 {
     let mut groups = Vec::new(alloc);
     for n in numbers {
-        let spot = spots[*n];
-        if spot.queue == q {
-            let line = line_by(stairs, *n);
-            add_group(&mut groups, group_of_one(spot, line))?;
-        }
+        let line = line_by(stairs, *n);
+        add_group(&mut groups, group_of_one(spots[*n], line))?;
     }
     Ok(groups)
 }

@@ -17,7 +17,7 @@ use Rattle.tree_network.specs.declared.network.Link.{Link}
 use Rattle.tree_network.specs.declared.network.Node.{Node}
 use Rattle.tree_network.specs.declared.network.Network.{Network}
 use Rattle.tree_network.specs.declared.network.Port.{Port}
-use Rattle.tree_guarantee.specs.Routes.{routes_of, tree_of_link, node_of, link_time}
+use Rattle.tree_bounds.specs.guarantee.Routes.{routes_of, tree_of_link, node_of, link_time}
 use Rattle.worked_tables.specs.Fork.{IsFork, IsOverFork, slow_port, node_behind}
 
 -- ---- numbers

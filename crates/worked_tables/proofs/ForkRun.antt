@@ -26,9 +26,9 @@ use Rattle.tree_network.specs.declared.network.Network.{Network}
 use Rattle.tree_network.specs.declared.network.Port.{Port}
 use Rattle.tree_bounds.specs.Tables.{IsTableOf}
 use Rattle.tree_bounds.specs.declared.analysis.Table.{Table}
-use Rattle.tree_guarantee.specs.Guarantee.{IsRunOf, IsGuaranteed, frame_of, frame_in, stair_of, stair_in}
-use Rattle.tree_guarantee.specs.Routes.{routes_of}
-use Rattle.tree_guarantee.proofs.Branched as branched
+use Rattle.tree_bounds.specs.guarantee.Guarantee.{IsRunOf, IsGuaranteed, frame_of, frame_in, stair_of, stair_in}
+use Rattle.tree_bounds.specs.guarantee.Routes.{routes_of}
+use Rattle.tree_bounds.proofs.guarantee.Branched as branched
 use Rattle.worked_tables.specs.Fork.{IsFork, ForkReachesBound, slow_port}
 use Rattle.worked_tables.proofs.ForkNetwork.{its_ports, speed_100, micros_of, is_network, routes_are}
 

@@ -15,8 +15,8 @@ use Rattle.tree_network.specs.declared.network.Network.{Network}
 use Rattle.tree_network.specs.declared.network.Port.{Port}
 use Rattle.tree_bounds.specs.Tables.{bounds_in, IsTableOf}
 use Rattle.tree_bounds.specs.declared.analysis.Table.{Table}
-use Rattle.tree_guarantee.specs.Guarantee.{IsRunOf, IsGuaranteed}
-use Rattle.tree_guarantee.specs.Routes.{routes_of}
+use Rattle.tree_bounds.specs.guarantee.Guarantee.{IsRunOf, IsGuaranteed}
+use Rattle.tree_bounds.specs.guarantee.Routes.{routes_of}
 
 -- ---- the network
 -- 100 bits a microsecond after a latency of 10 microseconds; its link takes so many picoseconds

@@ -1,0 +1,40 @@
+//! Networks of ports and multicast links as runs over trees know them, and what their bounds promise of every lawful
+//! run.
+//!
+//! A law is the contract of a function that does nothing: its body is empty, and its `ensures` is proved.
+
+ghost use Rattle.tree_bounds.specs.guarantee.Causes.{NoneHasACause};
+ghost use Rattle.tree_bounds.specs.guarantee.Guarantee.{TablesAreGuaranteed};
+ghost use Rattle.tree_bounds.specs.guarantee.Roots.{NoneHasARoot};
+ghost use Rattle.tree_bounds.specs.guarantee.Routes.{NetworksAreTrees, OrdersGoForward};
+
+/// The links of a network in range are trees of its ports.
+pub fn networks_are_trees()
+    ensures { NetworksAreTrees }
+{}
+
+/// Where the ports have an order in which no link goes back, the trees of runs go forward.
+pub fn orders_go_forward()
+    ensures { OrdersGoForward }
+{}
+
+/// What a table of a network promises of every lawful run over it whose links keep their frames, gaps and jitters and
+/// whose ports keep their service curves: no frame stays longer at a queue than its delay, no queue holds more bits than
+/// its backlog, and no frame takes longer from its entry to the end of the link behind a port of its tree than the bound
+/// there. Where the table has no number nothing is promised.
+pub fn tables_are_guaranteed()
+    ensures { TablesAreGuaranteed }
+{}
+
+/// Where a table has no number for a queue: nothing bounds what comes there or what may be served before it, or each
+/// service is slower than its links and these are with those that may be served before too fast for the port, or no service
+/// has a delay below 2^50 picoseconds.
+pub fn none_has_a_cause()
+    ensures { NoneHasACause }
+{}
+
+/// Where a table has no number for a queue there is a root of it: at that port, or at one before it on the trees of links,
+/// a queue's load is above its rate, or a number passes its limit.
+pub fn none_has_a_root()
+    ensures { NoneHasARoot }
+{}
