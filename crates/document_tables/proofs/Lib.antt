@@ -17,3 +17,5 @@ pub mod BranchFacts
 pub mod LinkFacts
 pub mod GridRanges
 pub mod NetworkFacts
+pub mod BranchRows
+pub mod BranchWays

@@ -24,7 +24,7 @@ use Rattle.document_tables.proofs.Reading.{both_read, not_refused, same_read}
 use Rattle.document_tables.proofs.RowRanges.{port_says, link_says}
 
 -- ---- rows, one after another
-in_line : {X : Type 0} (line : ℕ) (r : RowRead X) (x : X) → at_line line r ≡ Ok x → r ≡ Ok x
+pub in_line : {X : Type 0} (line : ℕ) (r : RowRead X) (x : X) → at_line line r ≡ Ok x → r ≡ Ok x
 in_line line (Ok y) x h = cc
 in_line line (Err fault) x h = cc
 

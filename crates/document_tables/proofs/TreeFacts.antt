@@ -24,10 +24,10 @@ split_or : (a b : Bool) → a || b ≡ true → (a ≡ true) ⊎ (b ≡ true)
 split_or true b h = inl refl
 split_or false b h = inr h
 
-or_left : (a b : Bool) → a ≡ true → a || b ≡ true
+pub or_left : (a b : Bool) → a ≡ true → a || b ≡ true
 or_left a b h = rw h refl
 
-or_right : (a b : Bool) → b ≡ true → a || b ≡ true
+pub or_right : (a b : Bool) → b ≡ true → a || b ≡ true
 or_right true b h = refl
 or_right false b h = h
 
@@ -47,7 +47,7 @@ same_is None (Some q) h = absurd (clash false h refl)
 same_is (Some p) None h = absurd (clash false h refl)
 same_is (Some p) (Some q) h = ap Some (equal p q h)
 
-same_self : (x : Option ℕ) → same x x ≡ true
+pub same_self : (x : Option ℕ) → same x x ≡ true
 same_self None = refl
 same_self (Some p) = eq-eqb p p refl
 

@@ -9,3 +9,4 @@ pub mod Ranges
 pub mod LinkTrees
 pub mod Grids
 pub mod Documents
+pub mod Ways

@@ -9,6 +9,7 @@ ghost use Rattle.document_tables.specs.LinkTrees.{AreTrees};
 ghost use Rattle.document_tables.specs.Ports.{ports_view};
 ghost use Rattle.document_tables.specs.Ranges.{IsPortText, AreLinkKeys};
 ghost use Rattle.document_tables.specs.Tables.{row_view};
+ghost use Rattle.document_tables.specs.Ways.{AreBranchesOf};
 ghost use Rattle.document_tables.specs.declared.fault.DocumentError.TheVariants as errors;
 
 use crate::fault::{DocumentError, LineError, TableFile};
@@ -121,6 +122,7 @@ pub fn read_document(
     ensures network { IfOk result (λ d. IsNetwork d.network) }
     ensures branches { IfOk result (λ d. All (spec.IsBranchOf d.network) d.branches.items) }
     ensures names { IfOk result spec.HasNames }
+    ensures ways { IfOk result (λ d. AreBranchesOf (map row_view link_rows.now) (spec.document_view d)) }
 {
     let ports = match read_ports(alloc, port_rows) {
         Ok(ports) => ports,

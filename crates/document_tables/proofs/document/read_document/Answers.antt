@@ -1,13 +1,15 @@
 use Rattle.std.specs.String.{string_bytes}
-use Rattle.std.proofs.Common.{map, ap, length, arith}
+use Rattle.std.proofs.Common.{map, ap, sym, subst, length, arith}
 use Rattle.std.proofs.lemmas.List.{length-map}
 use Rattle.document_tables.specs.Grids.{grid_port, grid_link, port_on_grid}
 use Rattle.document_tables.specs.Documents.{DocumentText}
 use Rattle.document_tables.specs.Links.{links_view}
 use Rattle.document_tables.specs.Ports.{ports_view}
 use Rattle.document_tables.specs.Tables.{row_view}
+use Rattle.document_tables.specs.Ways.{AreBranchesOf}
 use Rattle.document_tables.proofs.TableRanges.{ports_in_range, links_in_range}
 use Rattle.document_tables.proofs.LinkFacts.{links_are}
+use Rattle.document_tables.proofs.BranchWays.{branches_are}
 use Rattle.document_tables.proofs.NetworkFacts.{network_range, branches_range, same_length, links_length}
 use Rattle.document_tables.proofs.document.read_document.Goals as goal
 
@@ -57,3 +59,10 @@ returns-in-Ok-document_with-clause-names c =
     let f = length-map d.network.links.items grid_link in
     let g = links_length ports.ports c.args.overhead links.branches 0 links.keys in
     record { ports = omega (arith, a, port_names, b, texts.2); links = omega (arith, e, link_names, on_grid, f, g, are.names) }
+
+pub returns-in-Ok-document_with-clause-ways : goal.returns-in-Ok-document_with-clause-ways
+returns-in-Ok-document_with-clause-ways c =
+    let ports = ports_view c.in-Ok.ports in
+    let rows = map row_view c.args.link_rows.now in
+    let read = c.in-Ok-read_links.ensures in
+    subst (AreBranchesOf rows) (sym c.in-Ok-document_with.ensures) (branches_are ports c.args.overhead c.in-Ok-read_links.table read.kept rows read.value)
