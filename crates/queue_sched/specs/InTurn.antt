@@ -1,10 +1,9 @@
 -- Deficit round robin: what holds after every step, and what that gives a server with no packet under way.
-use Rattle.std.specs.Prelude.{Option, Some, None, ◌≡◌, ◌≤◌, ◌^◌, ℕ, List, get_or, length}
-use Rattle.std.proofs.Common.{refl}
+use Rattle.std.specs.Prelude.{Option, Some, None, ◌≡◌, ◌≤◌, ◌+◌, ◌^◌, ℕ, List, get_or, length}
+use Rattle.std.proofs.Common.{sym, ap, ◌∙◌, subst}
 use Rattle.run_laws.specs.Cards.{Card}
 use Rattle.run_laws.specs.Servers.{Round, Under, head_of}
 use Rattle.run_laws.specs.Rounds.{IsRound}
-use Rattle.run_laws.proofs.Rounds.{round_works}
 
 -- a packet of at most 2 ^ 32 bits
 abbrev pub longest : ℕ → ℕ
@@ -27,7 +26,15 @@ pub record IsInTurn (quanta : List ℕ) (cards : List Card) (under : Option Unde
 pub turn_goes_on : (quanta : List ℕ) (cards : List Card) (r : Round) (v u : Under) → u.card ≡ v.card
     → IsInTurn quanta cards (Some v) r → IsInTurn quanta cards (Some u) r
 turn_goes_on quanta cards r v u f h = record {
-  round = round_works (quantum_of quanta) longest quanta cards (Some v) (Some u) r v.card u refl f refl h.round;
+  round = record {
+    lists = h.round.lists;
+    is_first = h.round.is_first;
+    of_visit = h.round.of_visit ∙ ap (λ (c : Card). Some c.queue) (sym f);
+    empty = h.round.empty;
+    closed = h.round.closed;
+    opened = λ j k.
+        subst (λ (c : Card). get_or r.deficits j 0 + c.bits ≤ longest j + quantum_of quanta j) (sym f) (h.round.opened j k);
+  };
   ready = λ q w none. absurd (cc);
   long = h.long;
 }
