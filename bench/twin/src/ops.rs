@@ -454,7 +454,9 @@ pub fn horizontal(f: &Curve, g: &Curve) -> Fraction {
     let d = common(f, g);
     let c = f.rise_over(d);
     let j = if c.n > 0 { (gt.sub(ft).floor_div(c) + 1).max(0) } else { 0 };
-    gap(f, t.add(Fraction::int(j + 1).mul(d)), g)
+    let last = t.add(Fraction::int(j + 1).mul(d));
+    // from when g is as high as f is in the end it is not behind
+    gap(f, last.min(Walk::new(g).reach(f.value(last))), g)
 }
 
 /// The pieces of a curve one after the other, those of later periods made as they come.
