@@ -8,23 +8,25 @@ use Rattle.upp_limits.specs.declared.op_kind.OpFault.{OpFault}
 use Rattle.upp_limits.specs.declared.op_kind.OpFault.TheVariants.{NoMemory}
 use Rattle.upp_limits.specs.upp_curve.specs.Curve.{SpecCurve, value_at}
 use Rattle.upp_limits.specs.min_plus.specs.Deviations.{IsHorizontalDeviation}
-use Rattle.net_model.specs.run_laws.specs.Servers.{Discipline, Fifo, Priority, Drr}
+use Rattle.residuals.specs.left.Left.{Left, all, above, share, EachBefore}
 use Rattle.net_model.specs.Networks.{Net}
 use Rattle.net_cells.specs.declared.cell.Cell.{Cell}
 use Rattle.net_cells.specs.declared.cell.Kind.TheVariants.{In, Cross, Total, Higher, QueueService, Theta, Residual, QueueDelay, QueueBacklog, HopDelay, ShiftOut, DeconvOut, Out, PathService, Tfa, Sfa, Bound}
-use Rattle.net_cells.specs.Numbered.{hops, server_of_hop, queue_of_hop, queues, discipline, is_live}
+use Rattle.net_cells.specs.Numbered.{hops, server_of_hop, queue_of_hop, queues, service, discipline, is_live}
 use Rattle.net_cells.specs.declared.visit.Visit.{Visit}
 use Rattle.net_cells.specs.Visits.{visit, visits_in, others, is_at}
 use Rattle.net_cells.specs.QueueParts.{in_part, part_numbers, by_parts}
 use Rattle.net_cells.specs.Order.{at_visit}
 use Rattle.net_cells.specs.Cells.{cell_of}
+use Rattle.net_cells.specs.Left.{left_of}
 use Rattle.net_cells.specs.Meanings.{CellTable}
 use Rattle.net_cells.specs.Formulas.{leaves}
-use Rattle.net_cells.specs.CellFormulas.{queue_service, total}
+use Rattle.net_cells.specs.CellFormulas.{left_formula, total}
 use Rattle.net_cells.specs.Answers.{Answer, Answers}
 use Rattle.net_cells.specs.Work.{total_work}
 use Rattle.net_cells.specs.Refusals.{Stops}
 use Rattle.net_cells.proofs.LeavesOf.{parts_leaves}
+use Rattle.net_cells.proofs.LeftOf.{before_is}
 use Rattle.net_cells.proofs.Lists.{map_has, filter_has, has_range, range_has}
 use Rattle.net_cells.proofs.Places.{flow_inside}
 use Rattle.net_cells.proofs.Precedes.{some_hop}
@@ -277,21 +279,21 @@ higher_ready net at s q m p h =
     (operand net at (cell_of Higher s q) (cell_of Total s p) m.below
     (sum_leaf cells (cell_of Total s p) (has_map (cell_of Total s) (range_with_len 0 q) p (has_range 0 q p (omega arith) (omega (arith, h)))))))
 
--- the curves of the queues before one, at a priority server
-pub service_above : (net : Net) (at : CellTable) (s q n : ℕ) → MayBeMade net at (cell_of QueueService s q) → discipline net s ≡ Priority n
-    → IsCurveAt at (cell_of Higher s q)
-service_above net at s q n m is =
+-- the curve of the queues before one, where the server leaves what is above it
+pub service_above : (net : Net) (at : CellTable) (s q : ℕ) → MayBeMade net at (cell_of QueueService s q)
+    → EachBefore (IsCurveAt at) (left_of net s q (discipline net s))
+service_above net at s q m =
+    before_is net s q (service net s) (discipline net s) (IsCurveAt at) (λ leaf.
     some_curve at (cell_of Higher s q) Rises
     (higher_rises net at (InList m.below.cells) (meets_below net at (cell_of QueueService s q) m.below) m.accepted s q
-    (operand net at (cell_of QueueService s q) (cell_of Higher s q) m.below
-    (subst (λ (d : Discipline). Has (leaves (queue_service net s q d)) (cell_of Higher s q)) (sym is) (inl refl))))
+    (operand net at (cell_of QueueService s q) (cell_of Higher s q) m.below leaf)))
 
 -- what the formula of a queue's service answers, it gives
-pub service_given : (at : CellTable) (net : Net) (s q : ℕ) (d : Discipline) (r : Answer) → Answers at (queue_service net s q d) r
-    → Gives at (queue_service net s q d) r
-service_given at net s q Fifo r a = a
-service_given at net s q (Priority n) r a = a
-service_given at net s q (Drr quanta) r a = a
+pub service_given : (at : CellTable) (f : SpecCurve) (l : Left Cell) (r : Answer) → Answers at (left_formula f l) r
+    → Gives at (left_formula f l) r
+service_given at f all r a = a
+service_given at f (above before lower) r a = a
+service_given at f (share quanta longest queue) r a = a
 
 -- ---- sums that were made
 pub sum_counts : (at : CellTable) (cells : List Cell) (old new : ℕ) (r : Result Partial OpFault) → Adds at [] cells old new r

@@ -4,8 +4,6 @@ use Rattle.std.specs.Prelude.{◌==◌, Bool, true, false, Option, None, Some, s
 use Rattle.std.specs.List.{range_with_len}
 use Rattle.std.proofs.lemmas.Bool.{cases_lt}
 use Rattle.std.proofs.lemmas.List.{get_or_default, get_or_past}
-use Rattle.std.proofs.lemmas.List.FromFn.{length-map-range_with_len}
-use Rattle.std.proofs.lemmas.List.Elements.{All-get_or}
 use Rattle.std.proofs.lemmas.Option.{slice_get_within, get_or_from_slice_get}
 use Rattle.upp_limits.specs.rational.specs.Rational.{ℚ, ◌≤ℚ◌}
 use Rattle.upp_limits.specs.rational.specs.Extended.{min_ext}
@@ -19,29 +17,32 @@ use Rattle.upp_limits.specs.min_plus.specs.Functions.{IsNonneg, zero_q}
 use Rattle.upp_limits.specs.min_plus.specs.Deviations.{IsHorizontalDeviation}
 use Rattle.upp_limits.specs.min_plus.proofs.DeviationSigns.{horizontals_are_nonnegative}
 use Rattle.net_model.specs.run_laws.specs.Cards.{whole}
-use Rattle.net_model.specs.run_laws.specs.Servers.{Discipline, Fifo, Priority, Drr, queue_count}
+use Rattle.net_model.specs.run_laws.specs.Servers.{queue_count}
 use Rattle.net_model.specs.run_laws.proofs.Sizes.{whole_nonneg}
 use Rattle.plain_operators.specs.curve_call.specs.Answers.{IsMadeBy}
 use Rattle.plain_operators.specs.curve_call.proofs.GrowingAnswers.{grown, growing_answers}
 use Rattle.residuals.proofs.fifo.FifoGrowth as fifo
-use Rattle.residuals.proofs.calls.DrrGrowth as drr
+use Rattle.residuals.specs.left.Left.{Left, all, above, share, EachBefore, IsFit}
+use Rattle.residuals.proofs.left.Laws.{grows as left_grows}
 use Rattle.net_model.specs.Networks.{Net, NetServer, NetFlow}
-use Rattle.net_model.specs.Accepted.{IsAccepted, IsServer, IsLength, HasFewQueues}
+use Rattle.net_model.specs.Accepted.{IsAccepted, IsServer, HasFewQueues}
 use Rattle.net_model.proofs.KindsStand.{kinds_may_stand}
 use Rattle.net_cells.specs.declared.cell.Cell.{Cell}
 use Rattle.net_cells.specs.declared.cell.Kind.TheVariants.{In, Cross, Total, Higher, QueueService, Theta, Residual, QueueDelay, HopDelay, ShiftOut, DeconvOut, Out, PathService}
 use Rattle.net_cells.specs.Numbered.{flow_at, arrival, arrival_of, hops, server_of_hop, queue_of_hop, queues, service, service_of, rate, rate_of, discipline, discipline_of, packet}
 use Rattle.net_cells.specs.declared.visit.Visit.{Visit}
-use Rattle.net_cells.specs.Visits.{visits_in, others, longest_of, longest}
+use Rattle.net_cells.specs.Visits.{visits_in, others, longest_of}
 use Rattle.net_cells.specs.QueueParts.{in_part, part_numbers, by_parts}
 use Rattle.net_cells.specs.Cells.{cell_of}
+use Rattle.net_cells.specs.Left.{left_of}
 use Rattle.net_cells.specs.Order.{at_visit}
 use Rattle.net_cells.specs.Meanings.{Meaning, curve, number, CellTable, IsCurveIn, IsNumberIn}
 use Rattle.net_cells.specs.Formulas.{Formula, leaves, made, value_of, horizontal}
-use Rattle.net_cells.specs.CellFormulas.{formula, part_sum, with_part, parts_sum, total, sum_of_cells, sum_from, queue_service, packets_to, served_to, less, service_at, value}
+use Rattle.net_cells.specs.CellFormulas.{formula, part_sum, with_part, parts_sum, total, sum_of_cells, sum_from, left_formula, packets_to, served_to, less, service_at, value}
 use Rattle.net_cells.specs.Means.{Means, MeansFrom, IsSumOnto, IsSumOf}
 use Rattle.net_cells.proofs.Lists.{map_has, has_map, has_left, has_right}
 use Rattle.net_cells.proofs.LeavesOf.{parts_leaves}
+use Rattle.net_cells.proofs.LeftOf.{before_is, left_fits}
 use Rattle.net_cells.proofs.Stored.{server_kept}
 use Rattle.net_cells.proofs.Members.{hop_kept}
 use Rattle.cell_eval.specs.Shapes.{Rises, Serving, Grows}
@@ -302,34 +303,32 @@ pub few_queues : (net : Net) (s : ℕ) → IsServerAt net s → HasFewQueues (di
 few_queues net s it = subst (λ (o : Option NetServer). HasFewQueues (discipline_of o)) (sym it.is) it.kept.queues
 
 module _ (net : Net) (at : CellTable) (P : Cell → Type 0) (meets : Meets net at P) (a : IsAccepted net) where
-  queue_served_by : (s q : ℕ) (d : Discipline) (v : Meaning) → IsServerAt net s → discipline net s ≡ d → q < queue_count d
-      → P (cell_of QueueService s q) → Means at (queue_service net s q d) v → IsCurveIn Serving v
-  queue_served_by s q Fifo v it is h p m =
+  -- by what is left to the queue
+  queue_served_by : (s : ℕ) (l : Left Cell) (v : Meaning) → IsServerAt net s → IsFit l → EachBefore (λ c. HasCurve at c Rises) l
+      → Means at (left_formula (service net s) l) v → IsCurveIn Serving v
+  queue_served_by s all v it fit rise m =
       subst (IsCurveIn Serving) (sym m) (grows_served (value_at (service net s)) (service_grows net s it))
-  queue_served_by s q (Priority n) v it is h p m =
+  queue_served_by s (above before lower) v it fit rise m =
       let made = curve_from _ v m.gives in
-      let above : P (cell_of Higher s q) = meets.closed (cell_of QueueService s q) (cell_of Higher s q) p
-      (subst (λ (d : Discipline). Has (leaves (queue_service net s q d)) (cell_of Higher s q)) (sym is) (inl refl)) in
-      let rising = curve_holds at (cell_of Higher s q) Rises m.operand (higher_rises net at P meets a s q above) m.is in
+      let rising = curve_holds at before Rises m.operand rise m.is in
       subst (IsCurveIn Serving) (sym made.1)
-      (priority_served (value_at (service net s)) (value_at m.operand) (value_at made.0) _
+      (priority_served (value_at (service net s)) (value_at m.operand) (value_at made.0) lower
       (grows_served (value_at (service net s)) (service_grows net s it)) rising made.2.serves)
-  queue_served_by s q (Drr quanta) v it is h p m =
+  queue_served_by s (share quanta longest queue) v it fit rise m =
       let made = curve_from _ v m in
-      let few : HasFewQueues (Drr quanta) = subst HasFewQueues is (few_queues net s it) in
-      let sizes = map (longest net s) (range_with_len 0 (length quanta)) in
-      let paired : length sizes ≡ length quanta =
-      length-map-range_with_len (longest net s) 0 (length quanta) in
       subst (IsCurveIn Serving) (sym made.1)
       (grows_served (value_at made.0)
-      (drr.service_grows (value_at (service net s)) (value_at made.0) quanta sizes q paired h (All-get_or IsLength quanta q 0 h few.1).0
-      (service_grows net s it) made.2.serves))
+      (left_grows (share quanta longest queue) (value_at (service net s)) (value_at made.0) (service_grows net s it) tt fit made.2.serves))
 
   pub queue_served : (s q : ℕ) → q < queues net s → P (cell_of QueueService s q) → HasCurve at (cell_of QueueService s q) Serving
   queue_served s q h p =
       let e = meets.meet (cell_of QueueService s q) p in
+      let d = discipline net s in
+      let it = server_there net s q a h in
+      let rise = before_is net s q (service net s) d (λ c. HasCurve at c Rises) (λ leaf.
+      higher_rises net at P meets a s q (meets.closed (cell_of QueueService s q) (cell_of Higher s q) p leaf)) in
       has_curve at (cell_of QueueService s q) Serving e.value e.is
-      (queue_served_by s q (discipline net s) e.value (server_there net s q a h) refl h p e.means)
+      (queue_served_by s (left_of net s q d) e.value it (left_fits net s q d (few_queues net s it) h) rise e.means)
 
   queue_exists : (i k : ℕ) → k < hops net i → queue_of_hop net i k < queues net (server_of_hop net i k)
   queue_exists i k h =

@@ -1,22 +1,21 @@
-//! The curve that serves a queue, by its server's discipline.
+//! The curve that serves a queue, by what its server leaves it.
 
-ghost use Rattle.std.specs.Prelude.{◌≡◌, ◌-◌, ◌<◌, ◌≤◌, ℕ, length, map, IfErr};
-ghost use Rattle.std.specs.List.{range_with_len};
+ghost use Rattle.std.specs.Prelude.{◌≡◌, ◌-◌, ◌<◌, ◌≤◌, length, IfErr};
 ghost use Rattle.upp_limits.specs.upp_curve.specs.Curve.{value_at};
 ghost use Rattle.upp_limits.specs.min_plus.specs.Functions.{IsFinite};
-ghost use Rattle.net_model.specs.run_laws.specs.Servers.{Priority, Drr};
-ghost use Rattle.net_model.specs.Accepted.{HasFewQueues};
 ghost use Rattle.net_cells.specs.declared.cell.Kind.TheVariants.{Higher};
 ghost use Rattle.net_cells.specs.Numbered as at;
 ghost use Rattle.net_cells.specs.Visits as visiting;
 ghost use Rattle.net_cells.specs.Cells.{cell_of};
+ghost use Rattle.net_cells.specs.Left.{longest_each, left_of};
 ghost use Rattle.net_cells.specs.Meanings.{CellTable};
 ghost use Rattle.net_cells.specs.Formulas.{value_of, priority, deficit};
 ghost use Rattle.net_cells.specs.CellFormulas as formulas;
-ghost use Rattle.net_cells.specs.Work.{service_work};
 ghost use Rattle.net_cells.specs.Answers.{Answers};
 ghost use Rattle.net_cells.specs.Refusals.{RefusedAt};
+ghost use Rattle.residuals.specs.calls.DrrCalls.{AreQueues};
 ghost use Rattle.residuals.specs.calls.InTurn.{DrrRefused};
+ghost use Rattle.residuals.specs.left.Left.{EachBefore, left_work};
 ghost use Rattle.net_cells.specs.cell_table.Values.{answer_of, meaning_of};
 ghost use Rattle.cell_eval.specs.Evaluates.{Counts};
 ghost use Rattle.cell_eval.specs.TableValues.{IsCurveAt};
@@ -26,8 +25,8 @@ use crate::sharing::{copied, shared};
 use crate::{Pick, longest_at};
 use arrayvec::ArrayVec;
 use net_cells::cell_table::{Table, Value};
-use net_cells::{Cell, Kind, server};
-use net_model::{Discipline, Network};
+use net_cells::{Cell, Kind, Leaving, leaves, server};
+use net_model::Network;
 use residuals::drr::drr_service;
 use residuals::priority::priority_service;
 use std::alloc::Global;
@@ -36,8 +35,8 @@ use steps::Steps;
 use upp_limits::OpFault;
 use upp_limits::upp_curve::Curve;
 
-// By priority.
-fn by_priority<T: Table<Value>, L: Ledger>(
+// What is above the curve of the queues before it.
+fn above_others<T: Table<Value>, L: Ledger>(
     alloc: Global,
     table: &T,
     net: &Network,
@@ -67,7 +66,7 @@ fn by_priority<T: Table<Value>, L: Ledger>(
 // The longest packet of each of the first queues.
 fn longest_each(net: &Network, server: u32, queues: u32) -> ArrayVec<u32, 8>
     requires { queues ≤ 8 }
-    ensures { result.items ≡ map (visiting.longest net.now server) (range_with_len 0 queues) }
+    ensures { result.items ≡ longest_each net.now server queues }
 {
     let mut sizes = ArrayVec::new();
     for queue in 0..queues {
@@ -76,8 +75,8 @@ fn longest_each(net: &Network, server: u32, queues: u32) -> ArrayVec<u32, 8>
     sizes
 }
 
-// By deficit round robin.
-fn by_deficit<L: Ledger>(
+// A share.
+fn by_share<L: Ledger>(
     alloc: Global,
     net: &Network,
     service: &Curve,
@@ -86,14 +85,12 @@ fn by_deficit<L: Ledger>(
     steps: &mut Steps<L>,
 ) -> Result<Value, OpFault>
     requires finite { IsFinite (value_at service.now) }
-    requires few { HasFewQueues (Drr quanta.now) }
+    requires queues { AreQueues quanta.now (longest_each net.now place.0 (length quanta.now)) }
     requires queue { place.1 < length quanta.now }
     ensures answer { (at : CellTable) → Answers at (deficit service.now quanta.now
-        (map (visiting.longest net.now place.0) (range_with_len 0 (length quanta.now))) place.1)
-        (answer_of meaning_of result) }
+        (longest_each net.now place.0 (length quanta.now)) place.1) (answer_of meaning_of result) }
     ensures refused { IfErr result (λ fault. DrrRefused service.now quanta.now
-        (map (visiting.longest net.now place.0) (range_with_len 0 (length quanta.now))) place.1
-        fault (steps.new - steps.old)) }
+        (longest_each net.now place.0 (length quanta.now)) place.1 fault (steps.new - steps.old)) }
     ensures counts { Counts 2 steps.old steps.new (answer_of meaning_of result) }
 {
     let sizes = longest_each(net, place.0, quanta.len() as u32);
@@ -110,23 +107,21 @@ pub fn queue_service<T: Table<Value>, L: Ledger>(
     steps: &mut Steps<L>,
 ) -> Result<Value, OpFault>
     requires queue { place.1 < at.queues net.now place.0 }
-    requires above { (n : ℕ) → at.discipline net.now place.0 ≡ Priority n →
-        IsCurveAt (T.at table.now) (cell_of Higher place.0 place.1) }
+    requires above { EachBefore (IsCurveAt (T.at table.now))
+        (left_of net.now place.0 place.1 (at.discipline net.now place.0)) }
     ensures answer { Answers (T.at table.now)
         (formulas.queue_service net.now place.0 place.1 (at.discipline net.now place.0)) (answer_of meaning_of result) }
     ensures refused { IfErr result (λ fault. RefusedAt (T.at table.now)
         (formulas.queue_service net.now place.0 place.1 (at.discipline net.now place.0)) fault (steps.new - steps.old)) }
-    ensures counts { Counts (service_work (at.discipline net.now place.0)) steps.old steps.new
-        (answer_of meaning_of result) }
+    ensures counts { Counts (left_work (left_of net.now place.0 place.1 (at.discipline net.now place.0)))
+        steps.old steps.new (answer_of meaning_of result) }
 {
     match server(net, place.0) {
-        Some(found) => match &found.discipline {
-            Discipline::Fifo => shared(alloc, copied(&found.service)),
-            Discipline::Priority { .. } => {
-                by_priority(alloc, table, net, &found.service, place, steps)
-            }
-            Discipline::Drr { quanta } => {
-                by_deficit(alloc, net, &found.service, quanta, place, steps)
+        Some(found) => match leaves(&found.discipline) {
+            Leaving::All => shared(alloc, copied(&found.service)),
+            Leaving::Above => above_others(alloc, table, net, &found.service, place, steps),
+            Leaving::Share { quanta } => {
+                by_share(alloc, net, &found.service, quanta, place, steps)
             }
         },
         None => unreachable!(),

@@ -2,23 +2,23 @@
 use Rattle.std.proofs.Common.{◌≡◌, ◌≢◌, ◌⊎◌, ℕ, zero, suc, ◌==◌, List, Bool, true, false, map, refl, sym, ap, ◌∙◌, subst, inl, inr}
 use Rattle.std.specs.Prelude.{not}
 use Rattle.std.specs.List.{range_with_len}
-use Rattle.net_model.specs.run_laws.specs.Servers.{Discipline, Fifo, Priority, Drr}
 use Rattle.net_model.specs.Networks.{Net}
 use Rattle.net_cells.specs.declared.cell.Cell.{Cell}
 use Rattle.net_cells.specs.declared.cell.Kind.{Kind}
 use Rattle.net_cells.specs.declared.cell.Kind.TheVariants.{In, Cross, Total, Higher, QueueService, Theta, Residual, QueueDelay, QueueBacklog, HopDelay, ShiftOut, DeconvOut, Out, PathService, Tfa, Sfa, Bound}
 use Rattle.net_cells.specs.declared.cell.Scope.TheVariants.{EachPath}
-use Rattle.net_cells.specs.Numbered.{server_of_hop, queue_of_hop, discipline}
+use Rattle.net_cells.specs.Numbered.{server_of_hop, queue_of_hop, service, discipline}
 use Rattle.net_cells.specs.declared.visit.Visit.{Visit}
 use Rattle.net_cells.specs.Visits.{visits, visits_in, others}
 use Rattle.net_cells.specs.QueueParts.{part_of, in_part, part_numbers, by_parts}
 use Rattle.net_cells.specs.Cells.{cell_of, scope_of}
 use Rattle.net_cells.specs.Order.{at_visit}
 use Rattle.net_cells.specs.Formulas.{leaves}
-use Rattle.net_cells.specs.CellFormulas.{formula_of, formula, total, queue_service}
+use Rattle.net_cells.specs.CellFormulas.{formula_of, formula, total}
 use Rattle.net_cells.proofs.Lists.{Has, map_has, flat_has, filter_has}
 use Rattle.net_cells.proofs.Places.{home, visit_has}
 use Rattle.net_cells.proofs.LeavesOf.{parts_leaves}
+use Rattle.net_cells.proofs.LeftOf.{leaf_is}
 use Rattle.net_cells.proofs.Precedes.{leaf_of_sum}
 
 -- it is what leaves the hop before, and the other one is what arrives
@@ -54,11 +54,8 @@ module _ (net : Net) (d : Cell) where
       (visit_has net s v
       (filter_has (λ (u : Visit). queue_of_hop net u.flow u.hop == q) (visits net s) v h).0).1
 
-  service_near : (s q : ℕ) (by : Discipline) → Has (leaves (queue_service net s q by)) d → IsNear QueueService s q
-  service_near s q Fifo n = absurd n
-  service_near s q (Priority n) (inl e) = same QueueService s q (cell_of Higher s q) refl e
-  service_near s q (Priority n) (inr l) = absurd l
-  service_near s q (Drr quanta) n = absurd n
+  service_near : (s q : ℕ) → Has (leaves (formula_of net QueueService s q)) d → IsNear QueueService s q
+  service_near s q h = same QueueService s q (cell_of Higher s q) refl (leaf_is net s q (service net s) (discipline net s) d h)
 
   near : (kind : Kind) (a b : ℕ) → scope_of kind ≢ EachPath → Has (leaves (formula_of net kind a b)) d → IsNear kind a b
   near In i zero n h = absurd h
@@ -76,7 +73,7 @@ module _ (net : Net) (d : Cell) where
   near Higher s q n h =
       let found = map_has (cell_of Total s) (range_with_len 0 q) d (leaf_of_sum (map (cell_of Total s) (range_with_len 0 q)) d h) in
       same Higher s q (cell_of Total s found.0) refl found.2
-  near QueueService s q n h = service_near s q (discipline net s) h
+  near QueueService s q n h = service_near s q h
   near Theta i k n (inl e) = same Theta i k (cell_of Cross i k) refl e
   near Theta i k n (inr (inl e)) =
       same Theta i k (cell_of QueueService (server_of_hop net i k) (queue_of_hop net i k)) refl e

@@ -9,3 +9,4 @@ pub mod OfNumber
 pub mod Homes
 pub mod Marking
 pub mod Searched
+pub mod SameLeft

@@ -4,20 +4,22 @@ use Rattle.std.specs.Prelude.{Option, None, not, is_some, slice_get, slice_index
 use Rattle.std.specs.List.{range_with_len}
 use Rattle.std.proofs.lemmas.Bool.{or_parts, eq-eqb}
 use Rattle.std.proofs.lemmas.Bool.Decides.{eqb_tells}
-use Rattle.net_model.specs.run_laws.specs.Servers.{Discipline, Fifo, Priority, Drr, queue_count}
+use Rattle.net_model.specs.run_laws.specs.Servers.{queue_count}
 use Rattle.net_model.specs.Networks.{Net, NetServer, NetFlow}
 use Rattle.net_cells.specs.declared.cell.Cell.{Cell}
 use Rattle.net_cells.specs.declared.cell.Kind.{Kind}
 use Rattle.net_cells.specs.declared.cell.Kind.TheVariants.{In, Cross, Total, Higher, QueueService, Theta, Residual, QueueDelay, QueueBacklog, HopDelay, ShiftOut, DeconvOut, Out, PathService, Tfa, Sfa, Bound}
 use Rattle.net_cells.specs.Numbered.{flow_at, path, path_of, queues_of, packet_of, arrival_of, hops, service_of, rate, rate_of, link, link_of, discipline, discipline_of, levels_of, server_of_hop, queue_of_hop}
 use Rattle.net_cells.specs.declared.visit.Visit.{Visit}
-use Rattle.net_cells.specs.Visits.{others, longest, longest_of}
+use Rattle.net_cells.specs.Visits.{others, longest_of}
 use Rattle.net_cells.specs.QueueParts.{in_part}
+use Rattle.net_cells.specs.Left.{left_of}
 use Rattle.net_cells.specs.Order.{at_visit}
 use Rattle.net_cells.specs.Cells.{scope_of, is_in_scope, has_cell}
-use Rattle.net_cells.specs.Formulas.{given, priority, deficit, cut, part, no_part}
-use Rattle.net_cells.specs.CellFormulas.{formula_of, value, queue_service, sum_of_cells, sum_of_hops, with_part, parts_sum, total, served_to, link_delays}
+use Rattle.net_cells.specs.Formulas.{given, cut, part, no_part}
+use Rattle.net_cells.specs.CellFormulas.{formula_of, value, left_formula, sum_of_cells, sum_of_hops, with_part, parts_sum, total, served_to, link_delays}
 use Rattle.net_cells.proofs.Lists.{Has}
+use Rattle.net_cells.proofs.LeftOf.{left_same}
 use Rattle.cell_eval.specs.declared.found.Pick.TheVariants.{InQueue, AfterQueue, InPart}
 use Rattle.cell_eval.specs.Chosen.{all_chosen}
 use Rattle.cell_eval.proofs.Choosing.{part_visits}
@@ -145,14 +147,11 @@ module _ (old new : Net) where
   path_same i e =
       ap (λ n. served_to old i (n - 1)) (same_hops i e) ∙ served_same old new i (hops new i - 1) (ap packet_of e)
 
-  service_same : (s q : ℕ) → IsSameServer s → AreSameAt s → (d : Discipline) → queue_service old s q d ≡ queue_service new s q d
-  service_same s q e same Fifo = ap (λ (o : Option NetServer). given (service_of o)) e
-  service_same s q e same (Priority n) =
-      ap₂ (λ f bits. priority f (value Higher s q) bits) (ap service_of e) (same_longest old new s same (AfterQueue q))
-  service_same s q e same (Drr quanta) =
-      ap₂ (λ f bits. deficit f quanta bits q) (ap service_of e)
-      (map_on (longest old s) (longest new s) (range_with_len 0 (length quanta))
-      (λ p h. same_longest old new s same (InQueue p)))
+  service_same : (s q : ℕ) → IsSameServer s → AreSameAt s → formula_of old QueueService s q ≡ formula_of new QueueService s q
+  service_same s q e same =
+      ap₂ left_formula (ap service_of e)
+      (left_same old new s q (discipline old s) (same_longest old new s same (AfterQueue q)) (λ p. same_longest old new s same (InQueue p))
+      ∙ ap (λ (o : Option NetServer). left_of new s q (discipline_of o)) e)
 
   part_kept : (k : ℕ) (vs : List Visit) → longest_of old vs ≡ longest_of new vs
       → ((p : ℕ) → k ≡ suc p → (vs ≡ []) ⊎ (rate old p ≡ rate new p))
@@ -182,9 +181,7 @@ module _ (old new : Net) where
     same_rule Total a b e =
         ap (λ n. total (n == 2) old a b) version ∙ total_kept a b many e.1 e.2 (new.version == 2) refl
     same_rule Higher a b e = refl
-    same_rule QueueService a b e =
-        service_same a b e.0 e.1 (discipline old a)
-        ∙ ap (λ (o : Option NetServer). queue_service new a b (discipline_of o)) e.0
+    same_rule QueueService a b e = service_same a b e.0 e.1
     same_rule Theta a b e = theta_tells old new a b true (place a b e)
     same_rule Residual a b e = residual_tells old new a b true (place a b e)
     same_rule QueueDelay a b e = refl

@@ -1,27 +1,28 @@
 -- What the equations say of the cells of a queue, and of the other flows of a hop's queue.
-use Rattle.std.specs.Prelude.{◌≡◌, ℕ, ◌<◌, List, [], ◌∷◌, length, map, Some}
+use Rattle.std.specs.Prelude.{◌≡◌, ℕ, ◌<◌, List, [], ◌∷◌, map, Some}
 use Rattle.std.specs.List.{range_with_len}
 use Rattle.std.proofs.Common.{sym, ap, ◌∙◌, refl, subst, inl, inr}
 use Rattle.std.proofs.lemmas.Bool.{lt-ltb}
 use Rattle.upp_limits.specs.rational.specs.Rational.{ℚ}
 use Rattle.upp_limits.specs.rational.specs.Extended.{Ext, ◌+ₑ◌}
-use Rattle.upp_limits.specs.upp_curve.specs.Curve.{value_at}
+use Rattle.upp_limits.specs.upp_curve.specs.Curve.{SpecCurve, value_at}
 use Rattle.upp_limits.specs.min_plus.specs.Pointwise.{packetised}
 use Rattle.upp_limits.specs.min_plus.specs.Deviations.{IsHorizontalDeviation, IsVerticalDeviation}
 use Rattle.net_model.specs.run_laws.specs.Cards.{whole}
-use Rattle.net_model.specs.run_laws.specs.Servers.{Discipline, Fifo, Priority, Drr}
 use Rattle.residuals.specs.residual_laws.specs.PriorityLaws.{IsPriorityService}
-use Rattle.residuals.specs.residual_laws.specs.DrrLaws.{IsDrrService}
+use Rattle.residuals.specs.left.Left.{Left, all, above, share, map_left}
+use Rattle.residuals.specs.left.Laws.{IsLeft}
 use Rattle.net_model.specs.Networks.{Net}
 use Rattle.net_cells.specs.declared.cell.Cell.{Cell}
 use Rattle.net_cells.specs.declared.cell.Kind.TheVariants.{In, Cross, Total, Higher, QueueService, QueueDelay, QueueBacklog}
 use Rattle.net_cells.specs.Numbered.{hops, server_of_hop, queue_of_hop, service, discipline, queues, levels}
 use Rattle.net_cells.specs.declared.visit.Visit.{Visit}
-use Rattle.net_cells.specs.Visits.{others, longest, longest_after}
+use Rattle.net_cells.specs.Visits.{others, longest}
 use Rattle.net_cells.specs.Cells.{cell_of}
+use Rattle.net_cells.specs.Left.{left_of}
 use Rattle.net_cells.specs.Order.{at_visit}
 use Rattle.net_cells.specs.Meanings.{Meaning, curve, CellTable, IsCurveIn}
-use Rattle.net_cells.specs.CellFormulas.{queue_service}
+use Rattle.net_cells.specs.CellFormulas.{left_formula}
 use Rattle.net_cells.specs.Means.{Means, IsPriorityCurve, IsDrrCurve}
 use Rattle.net_cells.specs.Equations.{MeetsEquations}
 use Rattle.net_bounds.specs.TableValues.{HasFunction, HasNumber}
@@ -97,38 +98,28 @@ higher_is net at s q meets h totals =
     (λ f k t p. k t p ∙ queues_over at s qs t)
     (sum_reads at (map (cell_of Total s) qs) e.value (queue_curves at s qs totals) e.means))
 
--- by the server's discipline
-abbrev pub IsServiceBy : Net → CellTable → ℕ → ℕ → Discipline → (ℚ → Ext) → Type 0
-IsServiceBy net at s q Fifo g = g ≡ value_at (service net s)
-IsServiceBy net at s q (Priority n) g =
-    IsPriorityService (value_at (service net s)) (values at (cell_of Higher s q)) (longest_after net s q) g
-IsServiceBy net at s q (Drr quanta) g =
-    IsDrrService (value_at (service net s)) quanta (map (longest net s) (range_with_len 0 (length quanta))) q g
+-- what is left to a queue, as functions of time
+abbrev pub left_at : CellTable → Left Cell → Left (ℚ → Ext)
+left_at at = map_left (values at)
 
-service_reads : (net : Net) (at : CellTable) (s q : ℕ) (d : Discipline) (v : Meaning)
-    → Means at (queue_service net s q d) v
-    → IsCurveIn (λ f. IsServiceBy net at s q d (value_at f)) v
-service_reads net at s q Fifo v m = subst (IsCurveIn (λ f. value_at f ≡ value_at (service net s))) (sym m) refl
-service_reads net at s q (Priority n) v m =
-    let g = m.operand in
-    let c = cell_of Higher s q in
-    curve_map (IsPriorityCurve (service net s) g (longest_after net s q))
-    (λ f. IsServiceBy net at s q (Priority n) (value_at f)) v
-    (λ f k. of_values at c g
-    (λ (a : ℚ → Ext). IsPriorityService (value_at (service net s)) a (longest_after net s q) (value_at f)) m.is
-    k.serves)
+service_reads : (at : CellTable) (f : SpecCurve) (l : Left Cell) (v : Meaning) → Means at (left_formula f l) v
+    → IsCurveIn (λ g. IsLeft (value_at f) (left_at at l) (value_at g)) v
+service_reads at f all v m = subst (IsCurveIn (λ g. value_at g ≡ value_at f)) (sym m) refl
+service_reads at f (above before lower) v m =
+    curve_map (IsPriorityCurve f m.operand lower) (λ g. IsLeft (value_at f) (left_at at (above before lower)) (value_at g)) v
+    (λ g k. of_values at before m.operand (λ (a : ℚ → Ext). IsPriorityService (value_at f) a lower (value_at g)) m.is k.serves)
     m.gives
-service_reads net at s q (Drr quanta) v m =
-    let longests = map (longest net s) (range_with_len 0 (length quanta)) in
-    curve_map (IsDrrCurve (service net s) quanta longests q) (λ f. IsServiceBy net at s q (Drr quanta) (value_at f)) v
-    (λ f k. k.serves) m
+service_reads at f (share quanta longest queue) v m =
+    curve_map (IsDrrCurve f quanta longest queue) (λ g. IsLeft (value_at f) (left_at at (share quanta longest queue)) (value_at g)) v
+    (λ g k. k.serves) m
 
 pub queue_service_is : (net : Net) (at : CellTable) (s q : ℕ) → MeetsEquations net at → q < queues net s
-    → HasFunction at (cell_of QueueService s q) (IsServiceBy net at s q (discipline net s))
+    → HasFunction at (cell_of QueueService s q) (IsLeft (value_at (service net s)) (left_at at (left_of net s q (discipline net s))))
 queue_service_is net at s q meets h =
     let e = meets (cell_of QueueService s q) (lt-ltb q (queues net s) h) in
-    curve_from at (cell_of QueueService s q) (IsServiceBy net at s q (discipline net s)) e.value e.is
-    (service_reads net at s q (discipline net s) e.value e.means)
+    let l = left_of net s q (discipline net s) in
+    curve_from at (cell_of QueueService s q) (IsLeft (value_at (service net s)) (left_at at l)) e.value e.is
+    (service_reads at (service net s) l e.value e.means)
 
 pub queue_delay_is : (net : Net) (at : CellTable) (s q : ℕ) → MeetsEquations net at → q < queues net s
     → HasNumber at (cell_of QueueDelay s q)

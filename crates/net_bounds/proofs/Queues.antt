@@ -1,19 +1,17 @@
--- How a server serves its queues, by its discipline; and what that bounds.
-use Rattle.std.specs.Prelude.{◌≡◌, ℕ, ◌<◌, ◌≤◌, true, List, length, map, Option}
-use Rattle.std.specs.List.{range_with_len}
-use Rattle.std.proofs.Common.{arith, sym, ap, ◌∙◌, refl, subst, inl, inr, get_or}
-use Rattle.std.proofs.lemmas.Bool.{cases_lt, eqb-true}
-use Rattle.std.proofs.lemmas.List.{length-map, get_or_past}
-use Rattle.std.proofs.lemmas.List.FromFn.{length-range_with_len, get_or-map-range_with_len}
+-- How a server serves its queues, by what it leaves each; and what that bounds.
+use Rattle.std.specs.Prelude.{◌≡◌, ℕ, ◌<◌, ◌≤◌, true, List, length, Option}
+use Rattle.std.proofs.Common.{arith, sym, subst}
+use Rattle.std.proofs.lemmas.Bool.{eqb-true}
 use Rattle.upp_limits.specs.rational.specs.Rational.{ℚ}
 use Rattle.upp_limits.specs.rational.specs.Extended.{Ext}
 use Rattle.upp_limits.specs.rational.proofs.ExtendedOrder.{same_le_ext}
 use Rattle.upp_limits.specs.upp_curve.specs.Curve.{value_at}
+use Rattle.upp_limits.specs.min_plus.specs.Functions.{IsNonnegative}
 use Rattle.residuals.specs.curve_call.specs.Growth.{GrowsFromZero}
 use Rattle.residuals.specs.curve_call.proofs.GrowingAnswers.{grown}
 use Rattle.net_model.specs.run_laws.specs.Runs.{SpecRun}
-use Rattle.net_model.specs.run_laws.specs.Cards.{Card, of_queue}
-use Rattle.net_model.specs.run_laws.specs.Servers.{Discipline, Fifo, Priority, Drr, Server, queue_count}
+use Rattle.net_model.specs.run_laws.specs.Cards.{Card, of_queue, ServerStep}
+use Rattle.net_model.specs.run_laws.specs.Servers.{Server}
 use Rattle.net_model.specs.run_laws.specs.Allows.{IsLawfulView}
 use Rattle.net_model.specs.run_laws.specs.Premises.{KeepsService, KeepsSizes, IsZeroAtStart}
 use Rattle.net_model.specs.run_laws.specs.Serves.{Serves}
@@ -21,24 +19,25 @@ use Rattle.net_model.specs.run_laws.specs.Routes as routes
 use Rattle.net_model.specs.run_laws.proofs.Arrivals.{arrivals_map}
 use Rattle.net_model.specs.run_laws.proofs.Backlog.{backlog_from_service}
 use Rattle.net_model.specs.run_laws.proofs.Delay.{delay_always}
-use Rattle.net_model.specs.run_laws.proofs.FifoQueue.{fifo_queue_is_served}
 use Rattle.net_model.specs.run_laws.proofs.Views.{views_are_lawful}
-use Rattle.residuals.specs.residual_laws.proofs.PriorityLaw.{priority_serves}
-use Rattle.residuals.proofs.calls.PriorityGrowth as priority
-use Rattle.residuals.specs.residual_laws.proofs.DrrLaw.{drr_serves}
-use Rattle.residuals.proofs.calls.DrrGrowth as drr
+use Rattle.residuals.specs.left.Left.{Left, all, above, share, EachBefore}
+use Rattle.residuals.specs.left.Laws.{IsLeft, IsLeftTo}
+use Rattle.residuals.proofs.left.Laws.{map_fits, serves as left_serves, grows as left_grows}
 use Rattle.net_model.specs.Networks.{Net, NetServer}
 use Rattle.net_model.specs.Accepted.{IsAccepted, HasFewQueues}
-use Rattle.net_cells.specs.declared.cell.Kind.TheVariants.{Total, Higher, QueueService, QueueDelay, QueueBacklog}
-use Rattle.net_cells.specs.Numbered.{service, service_of, discipline, discipline_of, queues, levels, levels_of, queue_of_hop}
-use Rattle.net_cells.specs.Visits.{longest, longest_after}
+use Rattle.net_cells.specs.declared.cell.Kind.TheVariants.{Total, QueueService, QueueDelay, QueueBacklog}
+use Rattle.net_cells.specs.Numbered.{service, service_of, discipline, discipline_of, queues, queue_of_hop}
+use Rattle.net_cells.specs.Visits.{longest}
 use Rattle.net_cells.specs.Cells.{cell_of}
+use Rattle.net_cells.specs.Left.{left_of}
 use Rattle.net_cells.specs.Meanings.{CellTable}
+use Rattle.net_cells.proofs.LeftOf.{left_fits, left_to}
+use Rattle.net_cells.proofs.Precedes.{levels_are}
 use Rattle.net_bounds.specs.NetRuns.{routes_of}
 use Rattle.net_bounds.specs.Promises.{seen_by, IsQueueKept}
 use Rattle.net_bounds.proofs.Routed.{hop_at, known_server, servers_are, discipline_is, queue_inside}
 use Rattle.net_bounds.proofs.Cells.{values, size_in, curve_has, number_has, curve_holds, number_holds}
-use Rattle.net_bounds.proofs.QueueCells.{IsServiceBy, queue_service_is, queue_delay_is, queue_backlog_is}
+use Rattle.net_bounds.proofs.QueueCells.{left_at, queue_service_is, queue_delay_is, queue_backlog_is}
 use Rattle.net_bounds.proofs.Arriving.{AtServer, IsVisiting, all_visiting, kept_nonneg}
 use Rattle.net_bounds.proofs.Comes.{total_cell, queue_comes, higher_comes}
 use Rattle.net_bounds.proofs.Sizes.{queue_sizes, after_sizes}
@@ -77,39 +76,6 @@ pub record IsServedBy (net : Net) (run : SpecRun) (s q : ℕ) (g : ℚ → Ext) 
   pub serves : Serves (of_queue q) g run.end (seen_by net run s)
   pub grows : GrowsFromZero g
 
-fifo_served : (net : Net) (at : CellTable) (run : SpecRun) (s q : ℕ) (g : ℚ → Ext) → AtServer net at run s
-    → discipline net s ≡ Fifo
-    → q < 1 → g ≡ value_at (service net s) → IsServedBy net run s q g
-fifo_served net at run s q g w is h e =
-    let β = value_at (service net s) in
-    let grows = service_grows net s w.accepted w.inside in
-    let first : 0 ≡ q = omega arith in
-    let serves = fifo_queue_is_served (here net s) run.end (seen_by net run s) β (lawful_here net at run s w)
-    (discipline_is net s w.accepted w.inside ∙ is) (keeps_service net at run s w) (zero_at_start β grows) in
-    subst (IsServedBy net run s q) (sym e)
-    record {
-      serves = subst (λ (p : ℕ). Serves (of_queue p) β run.end (seen_by net run s)) first serves;
-      grows = grows;
-    }
-
-priority_served : (net : Net) (at : CellTable) (run : SpecRun) (s q n : ℕ) (g : ℚ → Ext) → AtServer net at run s
-    → discipline net s ≡ Priority n → q < n → IsServiceBy net at s q (Priority n) g → IsServedBy net run s q g
-priority_served net at run s q n g w is h made =
-    let β = value_at (service net s) in
-    let V = seen_by net run s in
-    let higher = values at (cell_of Higher s q) in
-    let grows = service_grows net s w.accepted w.inside in
-    let levels_are : levels net s ≡ n = ap levels_of is in
-    let queues_are : queues net s ≡ n = ap queue_count is in
-    let comes = higher_comes net at run s q w (omega arith) (omega arith) in
-    record {
-      serves = priority_serves (here net s) run.end V n q (longest_after net s q) β higher g
-          (lawful_here net at run s w)
-          (discipline_is net s w.accepted w.inside ∙ is) (keeps_service net at run s w) (zero_at_start β grows) comes
-          (after_sizes net at run s q w) made;
-      grows = priority.service_grows β higher g (longest_after net s q) grows (kept_nonneg _ higher V comes) made;
-    }
-
 -- no packet has a queue that its server has not
 no_such_queue : (net : Net) (at : CellTable) (run : SpecRun) (s p : ℕ) → AtServer net at run s → queues net s ≤ p
     → KeepsSizes (of_queue p) 0 (seen_by net run s)
@@ -126,62 +92,31 @@ no_such_queue net at run s p w h =
         let is = v.queue in
         absurd (omega arith)
 
-drr_sizes : (net : Net) (at : CellTable) (run : SpecRun) (s n : ℕ) → AtServer net at run s → queues net s ≡ n → (p : ℕ)
-    → KeepsSizes (of_queue p) (get_or (map (longest net s) (range_with_len 0 n)) p 0) (seen_by net run s)
-drr_sizes net at run s n w e p =
-    let V = seen_by net run s in
-    let all = map (longest net s) (range_with_len 0 n) in
-    elim (cases_lt p n) [
-      | inl l ↦
-          let is : get_or all p 0 ≡ longest net s p =
-          get_or-map-range_with_len (longest net s) 0 n p p 0 l (omega arith) in
-          subst (λ (b : ℕ). KeepsSizes (of_queue p) b V) (sym is) (queue_sizes net at run s p w)
-      | inr l ↦
-          let few : length all ≤ p = omega
-          (arith, length-map (range_with_len 0 n) (longest net s), length-range_with_len 0 n) in
-          let is : get_or all p 0 ≡ 0 = get_or_past all p 0 few in
-          subst (λ (b : ℕ). KeepsSizes (of_queue p) b V) (sym is) (no_such_queue net at run s p w (omega arith))
-    ]
-
-drr_served : (net : Net) (at : CellTable) (run : SpecRun) (s q : ℕ) (quanta : List ℕ) (g : ℚ → Ext)
-    → AtServer net at run s
-    → discipline net s ≡ Drr quanta → q < length quanta → IsServiceBy net at s q (Drr quanta) g
-    → IsServedBy net run s q g
-drr_served net at run s q quanta g w is h made =
-    let β = value_at (service net s) in
-    let V = seen_by net run s in
-    let all = map (longest net s) (range_with_len 0 (length quanta)) in
-    let grows = service_grows net s w.accepted w.inside in
-    let paired : length all ≡ length quanta =
-    omega (
-      arith,
-      length-map (range_with_len 0 (length quanta)) (longest net s),
-      length-range_with_len 0
-          (length quanta),
-    ) in
-    let few : HasFewQueues (Drr quanta) = subst HasFewQueues is (few_queues net s w.accepted w.inside) in
-    let some = (few.1 q 0 h).0 in
-    record {
-      serves = drr_serves (here net s) run.end V quanta all q β g (lawful_here net at run s w)
-          (discipline_is net s w.accepted w.inside ∙ is) paired h some
-          (drr_sizes net at run s (length quanta) w (ap queue_count is))
-          (keeps_service net at run s w) (zero_at_start β grows) made;
-      grows = drr.service_grows β g quanta all q paired h some grows made;
-    }
-
-served_by : (net : Net) (at : CellTable) (run : SpecRun) (s q : ℕ) (d : Discipline) (g : ℚ → Ext)
-    → AtServer net at run s
-    → discipline net s ≡ d → q < queue_count d → IsServiceBy net at s q d g → IsServedBy net run s q g
-served_by net at run s q Fifo g w is h made = fifo_served net at run s q g w is h made
-served_by net at run s q (Priority n) g w is h made = priority_served net at run s q n g w is h made
-served_by net at run s q (Drr quanta) g w is h made = drr_served net at run s q quanta g w is h made
+-- who keeps a curve keeps one that is nowhere below 0
+before_nonneg : (q : ℕ) (server : Server) (V : List ServerStep) (l : Left (ℚ → Ext)) → IsLeftTo q server V l → EachBefore IsNonnegative l
+before_nonneg q server V all to = tt
+before_nonneg q server V (above before lower) to = kept_nonneg _ before V to.1
+before_nonneg q server V (share quanta longest queue) to = tt
 
 pub queue_served : (net : Net) (at : CellTable) (run : SpecRun) (s q : ℕ) → AtServer net at run s → q < queues net s
     → IsServedBy net run s q (values at (cell_of QueueService s q))
 queue_served net at run s q w h =
-    let made = curve_holds at (cell_of QueueService s q) (IsServiceBy net at s q (discipline net s))
-    (queue_service_is net at s q w.meets h) in
-    served_by net at run s q (discipline net s) (values at (cell_of QueueService s q)) w refl h made
+    let β = value_at (service net s) in
+    let g = values at (cell_of QueueService s q) in
+    let V = seen_by net run s in
+    let d = discipline net s in
+    let l = left_at at (left_of net s q d) in
+    let grows = service_grows net s w.accepted w.inside in
+    let made = curve_holds at (cell_of QueueService s q) (IsLeft β l) (queue_service_is net at s q w.meets h) in
+    let to = left_to net (here net s) V (values at) s q d (discipline_is net s w.accepted w.inside) h
+    (λ low. higher_comes net at run s q w low (levels_are d q low)) (after_sizes net at run s q w) (λ p. queue_sizes net at run s p w)
+    (λ p past. no_such_queue net at run s p w past) in
+    let fit = map_fits (values at) (left_of net s q d) (left_fits net s q d (few_queues net s w.accepted w.inside) h) in
+    record {
+      serves = left_serves (here net s) run.end V q l β g (lawful_here net at run s w) to fit
+          (keeps_service net at run s w) (zero_at_start β grows) made;
+      grows = left_grows l β g grows (before_nonneg q (here net s) V l to) fit made;
+    }
 
 -- ---- all that is promised of a queue
 pub queue_kept : (net : Net) (at : CellTable) (run : SpecRun) (s q : ℕ) → AtServer net at run s → q < queues net s

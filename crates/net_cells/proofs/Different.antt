@@ -3,18 +3,20 @@ use Rattle.std.proofs.Common.{◌≡◌, ℕ, zero, suc, ◌-◌, List, [], ◌�
 use Rattle.std.specs.Prelude.{not, ◌==◌, Bool, true, false}
 use Rattle.std.proofs.lemmas.Bool.{eqb-true}
 use Rattle.std.specs.List.{range_with_len}
-use Rattle.net_model.specs.run_laws.specs.Servers.{Discipline, Fifo, Priority, Drr}
+use Rattle.upp_limits.specs.upp_curve.specs.Curve.{SpecCurve}
+use Rattle.residuals.specs.left.Left.{Left, all, above, share}
 use Rattle.net_model.specs.Networks.{Net}
 use Rattle.net_cells.specs.declared.cell.Cell.{Cell}
 use Rattle.net_cells.specs.declared.cell.Kind.{Kind}
 use Rattle.net_cells.specs.declared.cell.Kind.TheVariants.{In, Cross, Total, Higher, QueueService, Theta, Residual, QueueDelay, QueueBacklog, HopDelay, ShiftOut, DeconvOut, Out, PathService, Tfa, Sfa, Bound}
-use Rattle.net_cells.specs.Numbered.{hops, server_of_hop, queue_of_hop, discipline}
+use Rattle.net_cells.specs.Numbered.{hops, server_of_hop, queue_of_hop, service, discipline}
 use Rattle.net_cells.specs.Visits.{Visit, visits, visits_in, others}
 use Rattle.net_cells.specs.QueueParts.{part_of, in_part, part_numbers, by_parts}
 use Rattle.net_cells.specs.Cells.{cell_of}
+use Rattle.net_cells.specs.Left.{left_of}
 use Rattle.net_cells.specs.Order.{at_visit}
 use Rattle.net_cells.specs.Formulas.{leaves}
-use Rattle.net_cells.specs.CellFormulas.{formula, formula_of, sum_of_cells, total, arriving, queue_service}
+use Rattle.net_cells.specs.CellFormulas.{formula, formula_of, sum_of_cells, total, arriving, left_formula}
 use Rattle.net_cells.specs.Laws.{OperandsAreDifferent}
 use Rattle.net_cells.proofs.Lists.{Apart, apart_pairs, apart_map, apart_filter, apart_flat, apart_range, filter_has}
 use Rattle.net_cells.proofs.Places.{apart_visits, at_visit_one, cell_of_one}
@@ -71,10 +73,10 @@ of_arriving : (net : Net) (i k : ℕ) → Apart (leaves (arriving net i k))
 of_arriving net i zero = tt
 of_arriving net i (suc k) = one_apart (cell_of Out i k)
 
-of_service : (net : Net) (s q : ℕ) (d : Discipline) → Apart (leaves (queue_service net s q d))
-of_service net s q Fifo = tt
-of_service net s q (Priority n) = one_apart (cell_of Higher s q)
-of_service net s q (Drr quanta) = tt
+of_service : (f : SpecCurve) (l : Left Cell) → Apart (leaves (left_formula f l))
+of_service f all = tt
+of_service f (above before lower) = one_apart before
+of_service f (share quanta longest queue) = tt
 
 of_kind : (net : Net) (kind : Kind) (a b : ℕ) → Apart (leaves (formula_of net kind a b))
 of_kind net In i k = of_arriving net i k
@@ -86,7 +88,7 @@ of_kind net Cross i k =
     (apart_filter (λ (v : Visit). not (v.flow == i)) (visits_in net s q) (in_apart net s q)))
 of_kind net Total s q = of_total net s q (net.version == 2)
 of_kind net Higher s q = sum_apart (map (cell_of Total s) (range_with_len 0 q)) (numbers_apart Total s q)
-of_kind net QueueService s q = of_service net s q (discipline net s)
+of_kind net QueueService s q = of_service (service net s) (left_of net s q (discipline net s))
 of_kind net Theta i k = two_apart (cell_of Cross i k) (cell_of QueueService (server_of_hop net i k) (queue_of_hop net i k))
     (λ e. cc)
 of_kind net Residual i k =

@@ -16,6 +16,7 @@ pub mod Determined
 pub mod Growing
 pub mod Stored
 pub mod LeavesOf
+pub mod LeftOf
 pub mod Counting
 pub mod PartCounts
 pub mod Different

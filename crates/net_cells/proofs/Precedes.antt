@@ -7,7 +7,7 @@ use Rattle.std.proofs.lemmas.List.{get_or_default}
 use Rattle.upp_limits.specs.declared.op_kind.OpKind.TheVariants.{Sum}
 use Rattle.net_model.specs.run_laws.specs.Servers.{Discipline, Fifo, Priority, Drr, queue_count}
 use Rattle.net_model.specs.Networks.{Net, NetServer, NetFlow}
-use Rattle.net_model.specs.Accepted.{IsAccepted}
+use Rattle.net_model.specs.Accepted.{IsAccepted, HasFewQueues}
 use Rattle.net_model.specs.Orders.{IsOrder}
 use Rattle.net_model.specs.Walks.{IsNext}
 use Rattle.net_model.proofs.net_graph.Forward.{goes_forward}
@@ -104,6 +104,17 @@ pub levels_at_most : (d : Discipline) → levels_of d ≤ queue_count d
 levels_at_most Fifo = omega arith
 levels_at_most (Priority n) = omega arith
 levels_at_most (Drr quanta) = omega arith
+
+-- where some are served by priority, all are
+pub levels_are : (d : Discipline) (q : ℕ) → q < levels_of d → levels_of d ≡ queue_count d
+levels_are Fifo q h = absurd (omega (arith, h))
+levels_are (Priority n) q h = refl
+levels_are (Drr quanta) q h = absurd (omega (arith, h))
+
+pub levels_few : (d : Discipline) → HasFewQueues d → levels_of d ≤ 8
+levels_few Fifo h = omega arith
+levels_few (Priority n) h = h.1
+levels_few (Drr quanta) h = omega arith
 
 -- ---- sums
 sum_leaves : (F : Formula) (cs : List Cell) (d : Cell) → Has (leaves (sum_from F cs)) d → Has (leaves F) d ⊎ Has cs d

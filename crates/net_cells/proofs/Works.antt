@@ -6,19 +6,21 @@ use Rattle.std.specs.List.{range_with_len}
 use Rattle.std.proofs.lemmas.List.{length-map}
 use Rattle.std.proofs.lemmas.List.FromFn.{length-range_with_len}
 use Rattle.upp_limits.specs.declared.op_kind.OpKind.TheVariants.{Sum}
-use Rattle.net_model.specs.run_laws.specs.Servers.{Discipline, Fifo, Priority, Drr}
+use Rattle.upp_limits.specs.upp_curve.specs.Curve.{SpecCurve}
+use Rattle.residuals.specs.left.Left.{Left, all, above, share, left_work}
 use Rattle.net_model.specs.Networks.{Net}
 use Rattle.net_cells.specs.declared.cell.Cell.{Cell}
 use Rattle.net_cells.specs.declared.cell.Kind.{Kind}
 use Rattle.net_cells.specs.declared.cell.Kind.TheVariants.{In, Cross, Total, Higher, QueueService, Theta, Residual, QueueDelay, QueueBacklog, HopDelay, ShiftOut, DeconvOut, Out, PathService, Tfa, Sfa, Bound}
-use Rattle.net_cells.specs.Numbered.{hops, server_of_hop, queue_of_hop, discipline}
+use Rattle.net_cells.specs.Numbered.{hops, server_of_hop, queue_of_hop, service, discipline}
 use Rattle.net_cells.specs.Visits.{Visit, visits_in, others}
 use Rattle.net_cells.specs.QueueParts.{in_part, part_numbers, by_parts, link_part, links_among}
 use Rattle.net_cells.specs.Cells.{cell_of}
+use Rattle.net_cells.specs.Left.{left_of}
 use Rattle.net_cells.specs.Order.{at_visit}
 use Rattle.net_cells.specs.Formulas.{Formula, operators, is_more, made, value_of}
-use Rattle.net_cells.specs.CellFormulas.{formula_of, sum_of_cells, sum_from, part_sum, with_part, parts_sum, total, arriving, packets_to, served_to, queue_service}
-use Rattle.net_cells.specs.Work.{kind_work, service_work, total_work}
+use Rattle.net_cells.specs.CellFormulas.{formula_of, sum_of_cells, sum_from, part_sum, with_part, parts_sum, total, arriving, packets_to, served_to, left_formula}
+use Rattle.net_cells.specs.Work.{kind_work, total_work}
 use Rattle.net_cells.specs.Laws.{WorkIsOperators}
 
 more_terms : (F : Formula) (cs : List Cell) → operators (sum_from F cs) ≡ operators F + length cs
@@ -78,10 +80,10 @@ queue_terms s q =
     ap (λ (n : ℕ). n - 1) (sym (length-map (range_with_len 0 q) (cell_of Total s) ∙ length-range_with_len 0 q))
     ∙ terms (map (cell_of Total s) (range_with_len 0 q))
 
-of_service : (net : Net) (s q : ℕ) (d : Discipline) → service_work d ≡ operators (queue_service net s q d)
-of_service net s q Fifo = refl
-of_service net s q (Priority n) = refl
-of_service net s q (Drr quanta) = refl
+of_service : (f : SpecCurve) (l : Left Cell) → left_work l ≡ operators (left_formula f l)
+of_service f all = refl
+of_service f (above before lower) = refl
+of_service f (share quanta longest queue) = refl
 
 of_arriving : (net : Net) (i k : ℕ) → 0 ≡ operators (arriving net i k)
 of_arriving net i zero = refl
@@ -100,7 +102,7 @@ of_kind net In i k = of_arriving net i k
 of_kind net Cross i k = visit_terms (others net i (server_of_hop net i k) (queue_of_hop net i k))
 of_kind net Total s q = total_terms net s q (net.version == 2)
 of_kind net Higher s q = queue_terms s q
-of_kind net QueueService s q = of_service net s q (discipline net s)
+of_kind net QueueService s q = of_service (service net s) (left_of net s q (discipline net s))
 of_kind net Theta i k = refl
 of_kind net Residual i k = refl
 of_kind net QueueDelay s q = refl

@@ -1,20 +1,23 @@
 -- What each cell of a network is made of. (Le Boudec and Thiran; Bouillard, Boyer and Le Corronc: total-flow and
 -- separate-flow analysis. That the smaller of two delays, the lesser of two output curves and the smaller of the two
 -- bounds are taken, and the others' horizontal deviation from the service as theta, is our own choice.)
-use Rattle.std.specs.Prelude.{ℕ, zero, suc, ◌-◌, Bool, true, false, ◌==◌, List, [], ◌∷◌, length, map}
+use Rattle.std.specs.Prelude.{ℕ, zero, suc, ◌-◌, Bool, true, false, ◌==◌, List, [], ◌∷◌, map}
 use Rattle.std.specs.List.{range_with_len}
 use Rattle.upp_limits.specs.rational.specs.Rational.{ℚ}
 use Rattle.upp_limits.specs.declared.op_kind.OpKind.TheVariants.{Sum, Min, PosMinus, Convolve, Deconvolve}
+use Rattle.upp_limits.specs.upp_curve.specs.Curve.{SpecCurve}
+use Rattle.residuals.specs.left.Left.{Left, all, above, share}
 use Rattle.net_model.specs.run_laws.specs.Cards.{whole}
-use Rattle.net_model.specs.run_laws.specs.Servers.{Discipline, Fifo, Priority, Drr}
+use Rattle.net_model.specs.run_laws.specs.Servers.{Discipline}
 use Rattle.net_model.specs.Networks.{Net}
 use Rattle.net_cells.specs.declared.cell.Cell.{Cell}
 use Rattle.net_cells.specs.declared.cell.Kind.{Kind}
 use Rattle.net_cells.specs.declared.cell.Kind.TheVariants.{In, Cross, Total, Higher, QueueService, Theta, Residual, QueueDelay, QueueBacklog, HopDelay, ShiftOut, DeconvOut, Out, PathService, Tfa, Sfa, Bound}
 use Rattle.net_cells.specs.Numbered.{path, packet, arrival, hops, server_of_hop, queue_of_hop, service, rate, link, discipline}
-use Rattle.net_cells.specs.Visits.{Visit, visits_in, others, longest_of, longest, longest_after}
+use Rattle.net_cells.specs.Visits.{Visit, visits_in, others, longest_of, longest}
 use Rattle.net_cells.specs.QueueParts.{in_part, part_numbers}
 use Rattle.net_cells.specs.Cells.{cell_of}
+use Rattle.net_cells.specs.Left.{left_of}
 use Rattle.net_cells.specs.Order.{at_visit}
 use Rattle.net_cells.specs.Formulas.{Formula, value_of, given, empty_sum, made, made_of, moved, cut, part, no_part, leftover, priority, deficit, horizontal, vertical, smaller, along, delayed}
 
@@ -67,11 +70,14 @@ total true net s q = parts_sum net s q (part_numbers net)
 abbrev pub higher : ℕ → ℕ → Formula
 higher s q = sum_of_cells (map (cell_of Total s) (range_with_len 0 q))
 
+-- the service of a queue, of the server's and of what that leaves it
+abbrev pub left_formula : SpecCurve → Left Cell → Formula
+left_formula f all = given f
+left_formula f (above before lower) = priority f (value_of before) lower
+left_formula f (share quanta longest queue) = deficit f quanta longest queue
+
 abbrev pub queue_service : Net → ℕ → ℕ → Discipline → Formula
-queue_service net s q Fifo = given (service net s)
-queue_service net s q (Priority n) = priority (service net s) (value Higher s q) (longest_after net s q)
-queue_service net s q (Drr quanta) =
-    deficit (service net s) quanta (map (longest net s) (range_with_len 0 (length quanta))) q
+queue_service net s q d = left_formula (service net s) (left_of net s q d)
 
 -- ---- hops
 -- the flow's own curve at its first hop, and at any other what leaves the one before

@@ -2,6 +2,7 @@ pub mod Numbered
 pub mod Visits
 pub mod QueueParts
 pub mod Cells
+pub mod Left
 pub mod Order
 pub mod Meanings
 pub mod TableValues

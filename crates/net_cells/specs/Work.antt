@@ -1,18 +1,14 @@
 -- How many operators on curves a cell takes. Own choice.
 use Rattle.std.specs.Prelude.{ℕ, ◌+◌, ◌-◌, ◌*◌, Bool, true, false, ◌==◌, length}
-use Rattle.net_model.specs.run_laws.specs.Servers.{Discipline, Fifo, Priority, Drr}
+use Rattle.residuals.specs.left.Left.{left_work}
 use Rattle.net_model.specs.Networks.{Net}
 use Rattle.net_cells.specs.declared.cell.Cell.{Cell}
 use Rattle.net_cells.specs.declared.cell.Kind.{Kind}
 use Rattle.net_cells.specs.declared.cell.Kind.TheVariants.{In, Cross, Total, Higher, QueueService, Theta, Residual, QueueDelay, QueueBacklog, HopDelay, ShiftOut, DeconvOut, Out, PathService, Tfa, Sfa, Bound}
 use Rattle.net_cells.specs.Numbered.{hops, server_of_hop, queue_of_hop, discipline}
 use Rattle.net_cells.specs.Visits.{visits_in, others}
+use Rattle.net_cells.specs.Left.{left_of}
 use Rattle.net_cells.specs.QueueParts.{by_parts, part_numbers, links_among}
-
-abbrev pub service_work : Discipline → ℕ
-service_work Fifo = 0
-service_work (Priority n) = 3
-service_work (Drr quanta) = 2
 
 -- of the parts of a queue
 abbrev pub parts_work : Net → (s q : ℕ) → ℕ
@@ -29,7 +25,7 @@ kind_work net In i k = 0
 kind_work net Cross i k = length (others net i (server_of_hop net i k) (queue_of_hop net i k)) - 1
 kind_work net Total s q = total_work (net.version == 2) net s q
 kind_work net Higher s q = q - 1
-kind_work net QueueService s q = service_work (discipline net s)
+kind_work net QueueService s q = left_work (left_of net s q (discipline net s))
 kind_work net Theta i k = 1
 kind_work net Residual i k = 1
 kind_work net QueueDelay s q = 1

@@ -7,6 +7,7 @@ mod cell;
 pub mod cell_table;
 mod effort;
 mod laws;
+mod left;
 mod numbered;
 mod operand;
 mod order;
@@ -20,6 +21,7 @@ pub use laws::{
     one_is_first_over, operands_are_cells, operands_are_different, operands_come_first,
     order_has_each_cell, refusals_are_placed, tables_agree, work_is_operators,
 };
+pub use left::{Leaving, leaves};
 pub use numbered::{
     hops, is_by_priority, levels, live_flow, queue_of_hop, queues, server, server_of_hop,
 };

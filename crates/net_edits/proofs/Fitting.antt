@@ -1,24 +1,15 @@
 -- Packets within the quanta of their queues.
 use Rattle.std.proofs.Common.{◌≡◌, ℕ, zero, suc, ◌<◌, List, [], ◌∷◌, length, get_or, Option, Some, None, Bool, true, refl, sym, subst, arith}
 use Rattle.std.specs.Prelude.{Contains, slice_get, slice_index}
-use Rattle.std.proofs.lemmas.Bool.{and_parts, and_from, leb-true, le-leb}
+use Rattle.std.proofs.lemmas.Bool.{and_parts, and_from}
 use Rattle.std.proofs.lemmas.List.Elements.{All-contains, Contains-get_or}
 use Rattle.std.proofs.lemmas.List.Sums.{AllPass-from_list_all, list_all-from_AllPass}
-use Rattle.net_model.specs.run_laws.specs.Servers.{Discipline, Fifo, Priority, Drr}
 use Rattle.net_model.specs.Networks.{Net, NetServer, NetFlow}
-use Rattle.net_model.specs.Accepted.{IsInQuantum, IsFlow, IsAccepted}
+use Rattle.net_model.specs.Accepted.{IsFlow, IsAccepted}
+use Rattle.net_model.specs.Quanta.{is_in_quantum}
+use Rattle.net_model.proofs.Quanta.{to_quantum}
 use Rattle.net_cells.specs.Numbered.{discipline_of}
-use Rattle.net_edits.specs.Values.{is_in_quantum, fits_along, place_fits, quanta_fit}
-
-pub in_quantum : (d : Discipline) (queue bits : ℕ) → is_in_quantum d queue bits ≡ true → IsInQuantum d queue bits
-in_quantum Fifo queue bits e = tt
-in_quantum (Priority n) queue bits e = tt
-in_quantum (Drr quanta) queue bits e = leb-true bits (slice_index quanta queue) e
-
-to_quantum : (d : Discipline) (queue bits : ℕ) → IsInQuantum d queue bits → is_in_quantum d queue bits ≡ true
-to_quantum Fifo queue bits h = refl
-to_quantum (Priority n) queue bits h = refl
-to_quantum (Drr quanta) queue bits h = le-leb bits (slice_index quanta queue) h
+use Rattle.net_edits.specs.Values.{fits_along, place_fits, quanta_fit}
 
 -- the queue of a number at the server of a number, as told by tests
 abbrev pub taken_at : List NetServer → ℕ → (s q : ℕ) → Bool

@@ -13,17 +13,19 @@ use Rattle.net_model.specs.declared.edit.PathEntry.{PathEntry}
 use Rattle.net_model.specs.Networks.{Net, NetServer, NetFlow}
 use Rattle.net_model.specs.Accepted.{IsLength, IsArrivalCurve, IsFlow, IsAccepted}
 use Rattle.net_model.proofs.KindsStand.{kinds_may_stand}
+use Rattle.net_model.specs.Quanta.{is_in_quantum}
+use Rattle.net_model.proofs.Quanta.{in_quantum}
 use Rattle.net_cells.specs.Numbered.{flow_at, packet, packet_of, discipline_of}
 use Rattle.net_cells.proofs.Stored.{flow_kept}
 use Rattle.net_edits.specs.Refusals.{Or, bad_value, and_then, only_if}
 use Rattle.net_edits.specs.Lookups.{flow_number, server_numbers}
-use Rattle.net_edits.specs.Values.{whole_that, is_length, entry_queues, may_be_path, is_in_quantum, fits_along, place_fits, quanta_fit}
+use Rattle.net_edits.specs.Values.{whole_that, is_length, entry_queues, may_be_path, fits_along, place_fits, quanta_fit}
 use Rattle.net_edits.specs.Changed.{put_flow, flow_changed, at_flow, with_arrival, with_packet, with_path, dropped}
 use Rattle.net_edits.specs.Edited.{MadeCurve, fitting, as_arrival, is_positive, is_negative, stair_of, stair_edited, packet_edited, route_edited, drop_edited}
 use Rattle.net_edits.proofs.Found.{numbers_long}
 use Rattle.net_edits.proofs.Signs.{positive_of, nonneg_of}
 use Rattle.net_edits.proofs.Steps.{then_ok, passed}
-use Rattle.net_edits.proofs.Fitting.{in_quantum, fits_at, accepted_fits}
+use Rattle.net_edits.proofs.Fitting.{fits_at, accepted_fits}
 use Rattle.net_edits.proofs.Flows.{flow_stands, changed_fits}
 use Rattle.net_edits.proofs.Pathways.{IsWay, hops_of}
 

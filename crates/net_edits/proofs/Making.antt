@@ -1,8 +1,6 @@
 -- Curves that an edit of a server makes, and servers that have them.
-use Rattle.std.proofs.Common.{◌≡◌, ℕ, ◌≤◌, length, refl, sym, subst, inl, inr}
-use Rattle.std.specs.Prelude.{Option, Result, slice_set}
-use Rattle.std.proofs.lemmas.List.{length-set}
-use Rattle.std.proofs.lemmas.List.Elements.{All-set}
+use Rattle.std.proofs.Common.{◌≡◌, ℕ, refl, sym, subst, inl, inr}
+use Rattle.std.specs.Prelude.{Option, Result}
 use Rattle.upp_limits.specs.rational.specs.Rational.{ℚ, ◌≤ℚ◌, ◌<ℚ◌}
 use Rattle.upp_limits.specs.rational.proofs.Laws.{le_trans, le_of_lt, lt_irrefl, lt_le_trans, not_le_of_lt}
 use Rattle.upp_limits.specs.min_plus.specs.Functions.{zero_q}
@@ -10,15 +8,15 @@ use Rattle.upp_limits.specs.upp_curve.specs.Curve.{SpecCurve}
 use Rattle.upp_limits.specs.upp_curve.specs.Kinds.{rate_latency, gate}
 use Rattle.curve_library.specs.Causes.{OneNegative, NoSlot}
 use Rattle.curve_library.proofs.SignTests.{none_negative}
-use Rattle.net_model.specs.run_laws.specs.Servers.{Discipline, Fifo, Priority, Drr, queue_count}
 use Rattle.net_model.specs.declared.server.ServiceKind.{ServiceKind}
 use Rattle.net_model.specs.declared.server.ServiceKind.TheVariants.{Latency, Gate, Listed}
 use Rattle.net_model.specs.Networks.{NetServer}
-use Rattle.net_model.specs.Accepted.{IsLength, IsOfKind, IsServiceCurve, HasFewQueues, IsServer}
+use Rattle.net_model.specs.Accepted.{IsLength, IsOfKind, IsServiceCurve, IsServer}
 use Rattle.net_model.proofs.KindsStand.{kinds_may_stand}
+use Rattle.net_model.proofs.Quanta.{few_quanta}
 use Rattle.net_cells.specs.declared.cell.Cell.{Cell}
 use Rattle.net_edits.specs.declared.fault.EditFault.{EditFault}
-use Rattle.net_edits.specs.Changed.{service_of_kind, with_rate, with_latency, with_link, set_quantum, with_quantum}
+use Rattle.net_edits.specs.Changed.{service_of_kind, with_rate, with_latency, with_link, with_quantum}
 use Rattle.net_edits.specs.Edited.{MadeCurve, as_cell, as_service, made_by_kind}
 use Rattle.net_edits.specs.Replies.{Makes}
 
@@ -109,18 +107,6 @@ link_server s link p h = record {
   link = p;
   queues = h.queues;
 }
-
-few_quanta : (d : Discipline) (queue bits : ℕ) → IsLength bits → HasFewQueues d → HasFewQueues (set_quantum queue bits d)
-few_quanta Fifo queue bits is h = tt
-few_quanta (Priority n) queue bits is h = h
-few_quanta (Drr quanta) queue bits is h =
-    let same : length quanta ≡ length (slice_set quanta queue bits) = sym (length-set quanta queue bits) in
-    (subst (λ (n : ℕ). (1 ≤ n) × (n ≤ 8)) same h.0, All-set IsLength quanta queue bits is h.1)
-
-pub as_many : (d : Discipline) (queue bits : ℕ) → queue_count (set_quantum queue bits d) ≡ queue_count d
-as_many Fifo queue bits = refl
-as_many (Priority n) queue bits = refl
-as_many (Drr quanta) queue bits = length-set quanta queue bits
 
 pub quantum_server : (s : NetServer) (queue bits : ℕ) → IsLength bits → IsServer s → IsServer (with_quantum queue bits s)
 quantum_server s queue bits is h = record {

@@ -5,12 +5,13 @@ use Rattle.upp_limits.specs.rational.specs.Rational.{ℚ}
 use Rattle.net_model.specs.declared.edit.PathEntry.{PathEntry}
 use Rattle.upp_limits.specs.upp_curve.specs.Kinds.{bucket}
 use Rattle.net_model.specs.Networks.{Net}
+use Rattle.net_model.specs.Quanta.{is_quantum_of}
 use Rattle.net_cells.specs.Numbered.{discipline}
 use Rattle.net_edits.specs.declared.fault.EditFault.{EditFault}
 use Rattle.net_edits.specs.declared.fault.EditFault.TheVariants.{NoMemory}
 use Rattle.net_edits.specs.Refusals.{Or, unknown_name, and_then, only_if}
 use Rattle.net_edits.specs.Lookups.{server_number, flow_number, server_numbers, is_free}
-use Rattle.net_edits.specs.Values.{whole_that, is_length, is_quantum_of, is_name, entry_queues, may_be_path, quanta_fit}
+use Rattle.net_edits.specs.Values.{whole_that, is_length, is_name, entry_queues, may_be_path, quanta_fit}
 use Rattle.net_edits.specs.Changed.{at_server, with_link, with_quantum, at_flow, with_arrival, with_packet, with_path, dropped, with_more}
 use Rattle.net_edits.specs.Edited.{MadeCurve, Edited, is_negative, fitting, new_flow, only_if_free, only_if_left, link_edited, quantum_edited, bucket_edited, packet_edited, route_edited, drop_edited, add_edited}
 use Rattle.net_edits.specs.Replies.{IsMadeWithin, MakesNone, IsOverNone}

@@ -7,9 +7,11 @@ use Rattle.net_model.specs.Accepted.{IsHop}
 use Rattle.net_model.specs.Networks.{Net, NetServer}
 use Rattle.net_model.specs.Plain.{all_differ}
 use Rattle.net_model.proofs.PlainNets.{differ}
+use Rattle.net_model.specs.Quanta.{is_in_quantum}
+use Rattle.net_model.proofs.Quanta.{in_quantum}
 use Rattle.net_cells.specs.Numbered.{discipline_of, queues}
-use Rattle.net_edits.specs.Values.{are_queues, may_be_path, is_in_quantum, fits_along}
-use Rattle.net_edits.proofs.Fitting.{in_quantum, fits_at}
+use Rattle.net_edits.specs.Values.{are_queues, may_be_path, fits_along}
+use Rattle.net_edits.proofs.Fitting.{fits_at}
 
 pub record IsWay (net : Net) (path lanes : List ℕ) : Type 0 where
   pub some : 1 ≤ length path

@@ -6,12 +6,14 @@ use Rattle.upp_limits.specs.rational.specs.Rational.{ℚ, ◌≤ℚ◌, ◌<ℚ�
 use Rattle.upp_limits.specs.min_plus.specs.Functions.{zero_q}
 use Rattle.net_model.specs.Networks.{Net, NetServer}
 use Rattle.net_model.specs.Accepted.{IsLength, IsServer, IsAccepted}
+use Rattle.net_model.specs.Quanta.{is_quantum_of}
+use Rattle.net_model.proofs.Quanta.{as_many}
 use Rattle.net_cells.specs.Numbered.{discipline, discipline_of}
 use Rattle.net_edits.specs.declared.fault.EditFault.{EditFault}
 use Rattle.net_edits.specs.declared.fault.EditFault.TheVariants.{UnknownName, NameTaken, BadValue, LimitReached, Cycle, TooMany, TooWide, NothingToUndo, NoMemory}
 use Rattle.net_edits.specs.Refusals.{Or, bad_value, and_then, only_if}
 use Rattle.net_edits.specs.Lookups.{server_number}
-use Rattle.net_edits.specs.Values.{whole_that, is_length, is_quantum_of, quanta_fit}
+use Rattle.net_edits.specs.Values.{whole_that, is_length, quanta_fit}
 use Rattle.net_edits.specs.Changed.{put_server, server_changed, at_server, with_rate, with_latency, with_link, with_quantum}
 use Rattle.net_edits.specs.Edited.{MadeCurve, Edited, fitting, is_positive, is_negative, is_latency, has_latency, rate_made, latency_made, rate_edited, latency_edited, quantum_edited}
 use Rattle.net_edits.specs.Replies.{Refuses, Tells, IsReply}
@@ -19,7 +21,7 @@ use Rattle.net_edits.proofs.Signs.{positive_of, nonneg_of}
 use Rattle.net_edits.proofs.Steps.{then_ok, passed}
 use Rattle.net_edits.proofs.Fitting.{accepted_fits}
 use Rattle.net_edits.proofs.Standing.{same_discipline, quanta_stand}
-use Rattle.net_edits.proofs.Making.{rate_server, latency_server, link_server, quantum_server, as_many}
+use Rattle.net_edits.proofs.Making.{rate_server, latency_server, link_server, quantum_server}
 
 -- an edit whose test passes and that may stand
 pub server_edit : (net : Net) (name : List ℕ) (s : ℕ) (test : Option NetServer → Bool) (change : NetServer → NetServer)

@@ -9,11 +9,13 @@ use Rattle.net_model.specs.run_laws.specs.Servers.{Discipline, queue_count}
 use Rattle.net_model.specs.Networks.{Net, NetServer, NetFlow}
 use Rattle.net_model.specs.Accepted.{IsServer, IsInQuantum, IsHop, IsFlow, IsAccepted}
 use Rattle.net_model.proofs.Short.{all_of}
+use Rattle.net_model.specs.Quanta.{is_in_quantum}
+use Rattle.net_model.proofs.Quanta.{in_quantum}
 use Rattle.net_cells.specs.Numbered.{discipline_of}
 use Rattle.net_edits.specs.Changed.{put_server}
-use Rattle.net_edits.specs.Values.{is_in_quantum, quanta_fit}
+use Rattle.net_edits.specs.Values.{quanta_fit}
 use Rattle.net_edits.proofs.Places.{get-set_same, get-set_other, pairs-set}
-use Rattle.net_edits.proofs.Fitting.{in_quantum, taken_at, fits_at, flow_of_fitting}
+use Rattle.net_edits.proofs.Fitting.{taken_at, fits_at, flow_of_fitting}
 
 server_stands : (net : Net) (s : ℕ) (old new : NetServer) → IsAccepted net → slice_get net.servers s ≡ Some old
     → IsServer new → new.name ≡ old.name

@@ -3,10 +3,10 @@ use Rattle.std.specs.Prelude.{ℕ, List, [], ◌∷◌, ◌++◌, Option, Some, 
 use Rattle.upp_limits.specs.rational.specs.Rational.{ℚ}
 use Rattle.upp_limits.specs.upp_curve.specs.Curve.{SpecCurve}
 use Rattle.upp_limits.specs.upp_curve.specs.Kinds.{rate_latency, gate}
-use Rattle.net_model.specs.run_laws.specs.Servers.{Discipline, Fifo, Priority, Drr}
 use Rattle.net_model.specs.declared.server.ServiceKind.{ServiceKind}
 use Rattle.net_model.specs.declared.server.ServiceKind.TheVariants.{Latency, Gate, Listed}
 use Rattle.net_model.specs.Networks.{Net, NetServer, NetFlow}
+use Rattle.net_model.specs.Quanta.{set_quantum}
 
 -- ---- one server of a network
 abbrev pub put_server : Net → ℕ → NetServer → Net
@@ -33,11 +33,6 @@ with_latency latency server = record server { kind = Latency latency; service = 
 
 abbrev pub with_link : ℚ → NetServer → NetServer
 with_link link server = record server { link = link }
-
-abbrev pub set_quantum : ℕ → ℕ → Discipline → Discipline
-set_quantum queue bits Fifo = Fifo
-set_quantum queue bits (Priority n) = Priority n
-set_quantum queue bits (Drr quanta) = Drr (slice_set quanta queue bits)
 
 abbrev pub with_quantum : ℕ → ℕ → NetServer → NetServer
 with_quantum queue bits server = record server { discipline = set_quantum queue bits server.discipline }

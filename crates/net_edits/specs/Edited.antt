@@ -11,13 +11,14 @@ use Rattle.net_model.specs.declared.edit.Edit.{Edit}
 use Rattle.net_model.specs.declared.edit.Edit.TheVariants as edit
 use Rattle.net_model.specs.declared.edit.PathEntry.{PathEntry}
 use Rattle.net_model.specs.Networks.{Net, NetServer, NetFlow}
+use Rattle.net_model.specs.Quanta.{is_quantum_of}
 use Rattle.net_cells.specs.declared.cell.Cell.{Cell}
 use Rattle.net_cells.specs.declared.cell.Kind.TheVariants as kind
 use Rattle.net_cells.specs.Cells.{cell_of}
 use Rattle.net_cells.specs.Numbered.{discipline, packet}
 use Rattle.net_edits.specs.Refusals.{name_taken, no_number_left, nothing_to_undo, Or, and_then, only_if}
 use Rattle.net_edits.specs.Lookups.{server_number, flow_number, server_numbers, is_free}
-use Rattle.net_edits.specs.Values.{whole_that, is_length, is_quantum_of, is_name, entry_queues, may_be_path, quanta_fit}
+use Rattle.net_edits.specs.Values.{whole_that, is_length, is_name, entry_queues, may_be_path, quanta_fit}
 use Rattle.net_edits.specs.Changed.{at_server, service_of_kind, with_rate, with_latency, with_link, with_quantum, at_flow, with_arrival, with_packet, with_path, dropped, with_more}
 
 -- a curve that an edit makes, which may be over a limit, and the cell that it then counts as

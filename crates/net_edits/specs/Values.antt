@@ -1,10 +1,10 @@
 -- Which values an edit may have. Own choice; packets and quanta are those of Shreedhar and Varghese.
-use Rattle.std.specs.Prelude.{ℕ, ℤ, pos, ◌^◌, List, [], ◌∷◌, length, map, Option, Some, None, Ok, Err, Bool, true, false, ◌&&◌, nat_le, nat_lt, slice_get, slice_index, if◌then◌else◌}
+use Rattle.std.specs.Prelude.{ℕ, ℤ, pos, ◌^◌, List, [], ◌∷◌, length, map, Option, Some, None, Ok, Err, Bool, true, false, ◌&&◌, nat_le, nat_lt, slice_get, if◌then◌else◌}
 use Rattle.std.specs.List.{list_all}
-use Rattle.net_model.specs.run_laws.specs.Servers.{Discipline, Fifo, Priority, Drr}
 use Rattle.net_model.specs.declared.edit.PathEntry.{PathEntry}
 use Rattle.net_model.specs.Networks.{Net, NetServer, NetFlow}
 use Rattle.net_model.specs.Plain.{all_differ}
+use Rattle.net_model.specs.Quanta.{is_in_quantum}
 use Rattle.net_cells.specs.Numbered.{discipline_of, queues}
 use Rattle.net_edits.specs.Refusals.{Or, bad_value}
 pub use Rattle.net_model.specs.Names.{is_name}
@@ -18,12 +18,6 @@ whole_that test _ = Err bad_value
 -- a packet or a quantum has 1 to 2^24 bits
 abbrev pub is_length : ℕ → Bool
 is_length bits = nat_le 1 bits && nat_le bits (2 ^ 24)
-
--- a queue of a server that has quanta
-abbrev pub is_quantum_of : Discipline → ℕ → Bool
-is_quantum_of Fifo queue = false
-is_quantum_of (Priority n) queue = false
-is_quantum_of (Drr quanta) queue = nat_lt queue (length quanta)
 
 -- ---- paths
 abbrev pub entry_queues : List PathEntry → List ℕ
@@ -41,13 +35,7 @@ may_be_path net path lanes =
     nat_le 1 (length path) && (nat_le (length path) 16 && (all_differ path && are_queues net path lanes))
 
 -- ---- quanta
--- a packet of so many bits is no longer than the quantum of a queue, where the server has quanta
-abbrev pub is_in_quantum : Discipline → (queue bits : ℕ) → Bool
-is_in_quantum Fifo queue bits = true
-is_in_quantum (Priority n) queue bits = true
-is_in_quantum (Drr quanta) queue bits = nat_le bits (slice_index quanta queue)
-
--- so it is in the queues along a path
+-- a packet of so many bits is within the quanta of the queues along a path
 abbrev pub fits_along : List NetServer → ℕ → (path lanes : List ℕ) → Bool
 fits_along servers bits [] lanes = true
 fits_along servers bits (s ∷ path) [] = true

@@ -2,6 +2,7 @@
 
 ghost use Rattle.std.specs.Prelude.{◌≡◌};
 ghost use Rattle.net_model.specs.Accepted.{HasFewQueues};
+ghost use Rattle.net_model.specs.Quanta.{is_quantum_of};
 ghost use Rattle.net_model.specs.Views.{discipline_of};
 ghost use Rattle.net_edits.specs.Edited as spec;
 ghost use Rattle.net_edits.specs.Replies.{Tells};
@@ -45,23 +46,12 @@ pub(crate) fn length_of(bits: i64) -> Result<u32, EditFault>
     }
 }
 
-// Whether a queue has a quantum.
-fn has_quantum(discipline: &Discipline, queue: u64) -> bool
-    ensures { result ≡ values.is_quantum_of (discipline_of discipline.now) queue }
-{
-    match discipline {
-        Discipline::Fifo => false,
-        Discipline::Priority { .. } => false,
-        Discipline::Drr { quanta } => queue < quanta.len() as u64,
-    }
-}
-
 /// The number of a queue that has a quantum.
 pub(crate) fn quantum_of(discipline: &Discipline, queue: i64) -> Result<u32, EditFault>
     requires { HasFewQueues (discipline_of discipline.now) }
-    ensures { Tells (values.whole_that (values.is_quantum_of (discipline_of discipline.now)) queue) result }
+    ensures { Tells (values.whole_that (is_quantum_of (discipline_of discipline.now)) queue) result }
 {
-    if 0 <= queue && has_quantum(discipline, queue as u64) {
+    if 0 <= queue && discipline.has_quantum(queue as u64) {
         Ok(queue as u32)
     } else {
         Err(EditFault::BadValue)

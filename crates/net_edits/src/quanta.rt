@@ -3,30 +3,18 @@
 ghost use Rattle.std.specs.Prelude.{◌≡◌, slice_get};
 ghost use Rattle.std.specs.List.{list_all};
 ghost use Rattle.std.specs.Option.{option_map};
-ghost use Rattle.net_model.specs.Views.{discipline_of, flow_of, flows_of, servers_of};
+ghost use Rattle.net_model.specs.Quanta.{is_in_quantum};
+ghost use Rattle.net_model.specs.Views.{flow_of, flows_of, servers_of};
 ghost use Rattle.net_cells.specs.Numbered as at;
 ghost use Rattle.net_edits.specs.Values as spec;
 
-use net_model::{Discipline, Flow, Server};
-
-fn is_in_quantum(discipline: &Discipline, queue: u32, bits: u32) -> bool
-    ensures { result ≡ spec.is_in_quantum (discipline_of discipline.now) queue bits }
-{
-    match discipline {
-        Discipline::Fifo => true,
-        Discipline::Priority { .. } => true,
-        Discipline::Drr { quanta } => match quanta.get(queue as usize) {
-            Some(quantum) => u64::from(bits) <= *quantum,
-            None => bits == 0,
-        },
-    }
-}
+use net_model::{Flow, Server};
 
 fn is_taken(servers: &[Server], server: u32, queue: u32, bits: u32) -> bool
-    ensures { result ≡ spec.is_in_quantum (at.discipline_of (slice_get (servers_of servers.now) server)) queue bits }
+    ensures { result ≡ is_in_quantum (at.discipline_of (slice_get (servers_of servers.now) server)) queue bits }
 {
     match servers.get(server as usize) {
-        Some(found) => is_in_quantum(&found.discipline, queue, bits),
+        Some(found) => found.discipline.takes(queue, bits),
         None => true,
     }
 }

@@ -1,7 +1,7 @@
 //! Edits of one server.
 
 ghost use Rattle.std.specs.Prelude.{◌≡◌, IfOk};
-ghost use Rattle.net_model.specs.Views.{discipline_of, server_of};
+ghost use Rattle.net_model.specs.Views.{server_of};
 ghost use Rattle.net_edits.specs.Changed as changed;
 ghost use Rattle.net_edits.specs.Edited as spec;
 ghost use Rattle.net_edits.specs.Replies.{IsReply, IsOverNone};
@@ -11,7 +11,7 @@ use crate::names::{server_at, server_number};
 use crate::numbers::{is_negative, is_positive, length_of, quantum_of};
 use crate::replacing::{with_fitting_server, with_server};
 use crate::service::{with_latency, with_rate};
-use net_model::{Discipline, Network, Server, ServiceKind};
+use net_model::{Network, Server, ServiceKind};
 use std::alloc::{AllocError, Global};
 use upp_limits::fraction128::Frac;
 
@@ -90,22 +90,11 @@ pub(crate) fn link_edited(
     Ok(with_server(net, number, server)?)
 }
 
-fn set_quantum(discipline: &mut Discipline, queue: u32, bits: u32)
-    ensures { discipline_of discipline.new ≡ changed.set_quantum queue bits (discipline_of discipline.old) }
-{
-    if let Discipline::Drr { quanta } = discipline {
-        let place = queue as usize;
-        if place < quanta.len() {
-            quanta[place] = u64::from(bits);
-        }
-    }
-}
-
 fn with_quantum(server: &Server, queue: u32, bits: u32) -> Result<Server, AllocError>
     ensures { IfOk result (λ s. server_of s ≡ changed.with_quantum queue bits (server_of server.now)) }
 {
     let mut copy = server.copy()?;
-    set_quantum(&mut copy.discipline, queue, bits);
+    copy.discipline.set_quantum(queue, bits);
     Ok(copy)
 }
 

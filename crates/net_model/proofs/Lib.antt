@@ -5,4 +5,5 @@ pub mod GatePaces
 pub mod KindsStand
 pub mod PlainNets
 pub mod FewQueues
+pub mod Quanta
 pub mod Short

@@ -6,6 +6,7 @@ pub mod Walks
 pub mod Orders
 pub mod CurveKinds
 pub mod Plain
+pub mod Quanta
 pub mod Traces
 pub mod NetRoutes
 pub mod net_graph

@@ -43,6 +43,7 @@ pub struct Server {
 impl Discipline {
     ghost use Rattle.std.specs.Prelude.{◌≡◌, IfOk};
     ghost use Rattle.run_laws.specs.Servers as servers;
+    ghost use Rattle.net_model.specs.Quanta as quanta;
     ghost use Rattle.net_model.specs.Views.{discipline_of};
 
     /// How many queues it serves.
@@ -66,6 +67,43 @@ impl Discipline {
             Discipline::Drr { quanta } => Ok(Discipline::Drr {
                 quanta: quanta.clone()?,
             }),
+        }
+    }
+
+    /// Whether a queue has a quantum.
+    pub fn has_quantum(&self, queue: u64) -> bool
+        ensures { result ≡ quanta.is_quantum_of (discipline_of self.now) queue }
+    {
+        match self {
+            Discipline::Fifo => false,
+            Discipline::Priority { .. } => false,
+            Discipline::Drr { quanta } => queue < quanta.len() as u64,
+        }
+    }
+
+    /// Whether a packet of so many bits is no longer than the quantum of a queue, where the server has quanta.
+    pub fn takes(&self, queue: u32, bits: u32) -> bool
+        ensures { result ≡ quanta.is_in_quantum (discipline_of self.now) queue bits }
+    {
+        match self {
+            Discipline::Fifo => true,
+            Discipline::Priority { .. } => true,
+            Discipline::Drr { quanta } => match quanta.get(queue as usize) {
+                Some(quantum) => u64::from(bits) <= *quantum,
+                None => bits == 0,
+            },
+        }
+    }
+
+    /// Sets the quantum of a queue, where it has one, to so many bits.
+    pub fn set_quantum(&mut self, queue: u32, bits: u32)
+        ensures { discipline_of self.new ≡ quanta.set_quantum queue bits (discipline_of self.old) }
+    {
+        if let Discipline::Drr { quanta } = self {
+            let place = queue as usize;
+            if place < quanta.len() {
+                quanta[place] = u64::from(bits);
+            }
         }
     }
 }

@@ -7,10 +7,10 @@ use Rattle.std.proofs.lemmas.Bool.{ltb-true, eqb-true, cases_lt, cond-false, ne_
 use Rattle.std.proofs.lemmas.Fmt.{decimal_is_IsNumeral_wide}
 use Rattle.std.proofs.lemmas.List.{get_or_past}
 use Rattle.std.proofs.lemmas.Option.{slice_get_within, get_or_from_slice_get}
-use Rattle.net_model.specs.run_laws.specs.Servers.{Discipline, Fifo, Priority, Drr, queue_count}
+use Rattle.net_model.specs.run_laws.specs.Servers.{queue_count}
 use Rattle.net_model.specs.Networks.{Net, NetServer, NetFlow}
 use Rattle.net_model.specs.Names.{is_name_byte, DifferInName}
-use Rattle.net_model.specs.Accepted.{IsAccepted, HasFewQueues}
+use Rattle.net_model.specs.Accepted.{IsAccepted}
 use Rattle.net_cells.specs.declared.cell.Kind.{Kind}
 use Rattle.net_cells.specs.declared.cell.Kind.TheVariants.{In, Cross, Total, Higher, QueueService, Theta, Residual, QueueDelay, QueueBacklog, HopDelay, ShiftOut, DeconvOut, Out, PathService, Tfa, Sfa, Bound}
 use Rattle.net_cells.specs.declared.cell.Scope.{Scope}
@@ -18,6 +18,7 @@ use Rattle.net_cells.specs.declared.cell.Scope.TheVariants.{EachHop, EachHopButL
 use Rattle.net_cells.specs.Numbered.{flow_at, path_of, is_live, hops, queues, levels, levels_of, discipline_of}
 use Rattle.net_cells.specs.Cells.{cell_of, scope_of, is_in_scope}
 use Rattle.net_model.proofs.FewQueues.{few_of}
+use Rattle.net_cells.proofs.Precedes.{levels_few}
 use Rattle.net_cells.proofs.Stored.{flow_kept, few_hops, server_kept}
 use Rattle.report_text.specs.CellWords.{kind_word, name_of_server, name_of_flow, server_name, flow_name, words_at, cell_words}
 use Rattle.report_text.specs.Laws.{WordsTellCells}
@@ -121,11 +122,6 @@ with_level : (net : Net) (s : ℕ) (o : Option NetServer) (q : ℕ) → slice_ge
 with_level net s None q e h = absurd (omega (arith, h))
 with_level net s (Some x) q e h = record { server = x; is = e }
 
-few_levels_of : (c : Discipline) → HasFewQueues c → levels_of c ≤ 8
-few_levels_of Fifo h = omega arith
-few_levels_of (Priority n) h = h.1
-few_levels_of (Drr quanta) h = omega arith
-
 few_queues : (net : Net) (s : ℕ) → IsAccepted net → IsServerOf net s → queues net s ≤ 8
 few_queues net s a h =
     let few = few_of h.server.discipline (server_kept net s h.server a h.is).queues in
@@ -133,7 +129,7 @@ few_queues net s a h =
 
 few_levels : (net : Net) (s : ℕ) → IsAccepted net → IsServerOf net s → levels net s ≤ 8
 few_levels net s a h =
-    let few = few_levels_of h.server.discipline (server_kept net s h.server a h.is).queues in
+    let few = levels_few h.server.discipline (server_kept net s h.server a h.is).queues in
     subst (λ (o : Option NetServer). levels_of (discipline_of o) ≤ 8) (sym h.is) few
 
 server_unspaced : (net : Net) (s : ℕ) → IsAccepted net → IsServerOf net s → unspaced (server_name net s) ≡ true

@@ -4,6 +4,7 @@
 pub mod calls;
 pub mod drr;
 pub mod fifo;
+pub mod left;
 pub mod packetiser;
 pub mod priority;
 

@@ -1,22 +1,19 @@
 -- What the calls of a site give.
-use Rattle.std.proofs.Common.{◌≡◌, ℕ, ◌+◌, List, [], ◌∷◌, refl, sym, ap, ◌∙◌, subst, arith, inl, inr, Some, None, true, false}
+use Rattle.std.proofs.Common.{◌≡◌, ℕ, [], refl, sym, ap, ◌∙◌, subst, inl, inr, Some, None, true, false}
 use Rattle.std.specs.Prelude.{Option, ◌≢◌, ◌↔◌, Bool, ◌==◌, IsTrue, pos}
 use Rattle.std.proofs.lemmas.Bool.{cases_eq, eq-eqb, ne_eqb}
 use Rattle.upp_limits.specs.rational.specs.Rational.{ℚ, int, ◌≤ℚ◌, ◌<ℚ◌}
 use Rattle.upp_limits.specs.rational.proofs.Laws.{lt_irrefl, lt_le_trans}
 use Rattle.upp_limits.specs.rational.proofs.Compared.{not_less_out}
 use Rattle.net_model.specs.run_laws.specs.Cards.{Card, Works, Visits}
-use Rattle.net_model.specs.run_laws.specs.Servers.{Discipline, Fifo, Priority, Drr, Under, ServerState, head_of}
+use Rattle.net_model.specs.run_laws.specs.Servers.{Discipline, Under, ServerState}
 use Rattle.net_model.specs.run_laws.specs.Next.{next}
-use Rattle.net_model.specs.run_laws.specs.Allows.{pick, MayVisit, IsFirst}
-use Rattle.net_model.specs.run_laws.specs.Rounds.{count_of, presence}
+use Rattle.net_model.specs.run_laws.specs.Allows.{pick, MayVisit}
 use Rattle.net_model.specs.run_laws.proofs.Heads.{pick_is_head}
 use Rattle.queue_sched.specs.Turns.{Starts as Begins, Sends}
 use Rattle.queue_sched.specs.declared.turn.Turn.TheVariants.{Visit}
 use Rattle.net_model.proofs.stated_runs.Unique.{no_visit, not_idle, visit_once}
 use Rattle.net_model.proofs.stated_runs.Lists.{In, head_in}
-use Rattle.sim_servers.specs.declared.server_queues.ServerQueues.{ServerQueues}
-use Rattle.sim_servers.specs.declared.server_queues.ServerQueues.TheVariants as kinds
 use Rattle.sim_servers.specs.Queues.{served_by, room_of, StandFor}
 use Rattle.run_check.specs.declared.site.Underway.{Underway}
 use Rattle.run_check.specs.declared.site.Site.{Site}
@@ -34,21 +31,6 @@ busy_of None (Some v) h n = absurd h
 busy_of (Some u) v h n = (u, refl)
 
 -- ---- visits
-
--- no queue waits where nothing is inside
-first_there : (q : ℕ) (ps : List ℕ) → IsFirst q ps → count_of q ps ≢ 0
-first_there q [] h e = absurd h
-first_there q (p ∷ ps) h e = let one = eq-eqb p q h in let k : count_of q (p ∷ ps) ≡ 1 + count_of q ps = rw one refl in omega (arith, k, e)
-
-pub none_visited : (v : ServerQueues) (σ : ServerState) (q : ℕ) → StandFor v σ → σ.inside ≡ [] → ¬ MayVisit (served_by v) σ q
-none_visited (kinds.Fifo v) σ q h e m = m
-none_visited (kinds.Priority v) σ q h e m = m
-none_visited (kinds.Drr v) σ q h e m =
-    let active = ap (λ r. r.active) h.round_is in
-    let lists = h.turn.round.lists q in
-    let none : count_of q σ.round.active ≡ 0 = ap (count_of q) active ∙ (lists ∙ ap (λ cs. presence (head_of q cs)) e) in
-    first_there q σ.round.active m.is_first none
-
 pub none_picked : (d : Discipline) (σ : ServerState) (c : Card) → σ.inside ≡ [] → ¬ (pick d σ.inside σ.round ≡ Some c)
 none_picked d σ c e k = subst (λ cs. In cs c) e (head_in c.queue σ.inside c (pick_is_head d σ.inside σ.round c k))
 

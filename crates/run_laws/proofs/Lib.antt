@@ -43,3 +43,4 @@ pub mod Seen
 pub mod Classes
 pub mod Closures
 pub mod Weaker
+pub mod Deciding

@@ -4,3 +4,4 @@ pub mod Stalls
 pub mod Firsts
 pub mod Openings
 pub mod StationSteps
+pub mod Visits

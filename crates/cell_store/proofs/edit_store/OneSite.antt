@@ -8,13 +8,14 @@ use Rattle.std.proofs.lemmas.List.{get_or_past, get_or_append_left, get_or-set_o
 use Rattle.net_model.specs.declared.edit.Edit.{Edit}
 use Rattle.net_model.specs.declared.edit.Edit.TheVariants.{Rate, Latency, Link, Quantum, Bucket, Stair, Packet, Route, Add, Drop, Undo}
 use Rattle.net_model.specs.Networks.{Net, NetServer, NetFlow}
+use Rattle.net_model.specs.Quanta.{is_quantum_of}
 use Rattle.upp_limits.specs.upp_curve.specs.Kinds.{bucket}
 use Rattle.net_cells.specs.Numbered.{discipline}
 use Rattle.net_edits.specs.Refusals.{Or, and_then, only_if}
 use Rattle.net_edits.specs.Lookups.{number_of, is_flow_named, server_number, flow_number}
 use Rattle.net_edits.specs.Changed as change
 use Rattle.net_edits.specs.Edited.{MadeCurve, Edited, edited, fitting, is_positive, is_negative, rate_made, has_latency, latency_made, stair_of, as_arrival, only_if_free, only_if_left, new_flow}
-use Rattle.net_edits.specs.Values.{whole_that, is_length, is_quantum_of, is_name, entry_queues, may_be_path}
+use Rattle.net_edits.specs.Values.{whole_that, is_length, is_name, entry_queues, may_be_path}
 use Rattle.net_edits.specs.Lookups.{server_numbers, is_free}
 use Rattle.net_edits.proofs.Places.{get-set_other}
 use Rattle.cell_rules.specs.declared.site.Site.{Site}

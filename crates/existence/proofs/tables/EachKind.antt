@@ -10,11 +10,11 @@ use Rattle.upp_limits.specs.min_plus.specs.Deviations.{IsHorizontalDeviation}
 use Rattle.upp_limits.specs.declared.op_kind.OpKind.TheVariants.{Min, Shift, FifoLeft, Convolve, Deconvolve}
 use Rattle.upp_limits.specs.upp_curve.specs.Curve.{SpecCurve, value_at}
 use Rattle.upp_limits.specs.upp_curve.specs.Curves.{IsCurve}
-use Rattle.net_model.specs.run_laws.specs.Servers.{Discipline, Fifo, Priority, Drr}
 use Rattle.net_model.specs.run_laws.proofs.Members.{Has, has_map}
 use Rattle.plain_operators.specs.curve_call.specs.Answers.{IsMadeBy}
 use Rattle.plain_operators.specs.curve_call.specs.Calls.{Applies, AppliesTo}
 use Rattle.residuals.specs.calls.PriorityCalls.{MakesPriority}
+use Rattle.residuals.specs.left.Left.{Left, all, above, share, EachBefore}
 use Rattle.net_model.specs.Networks.{Net}
 use Rattle.net_model.specs.Accepted.{IsAccepted}
 use Rattle.net_bounds.proofs.Cells.{curve_map as sort_map}
@@ -23,18 +23,20 @@ use Rattle.report_text.specs.net_cells.specs.declared.cell.Kind.{Kind}
 use Rattle.report_text.specs.net_cells.specs.declared.cell.Kind.TheVariants.{In, Cross, Total, Higher, QueueService, Theta, Residual, QueueDelay, QueueBacklog, HopDelay, ShiftOut, DeconvOut, Out, PathService, Tfa, Sfa, Bound}
 use Rattle.report_text.specs.net_cells.specs.Numbered.{hops, server_of_hop, queue_of_hop, queues, discipline, service, packet, is_live}
 use Rattle.report_text.specs.net_cells.specs.declared.visit.Visit.{Visit}
-use Rattle.report_text.specs.net_cells.specs.Visits.{visits_in, others, longest, longest_after}
+use Rattle.report_text.specs.net_cells.specs.Visits.{visits_in, others, longest}
 use Rattle.report_text.specs.net_cells.specs.QueueParts.{part_numbers, by_parts}
 use Rattle.report_text.specs.net_cells.specs.Cells.{cell_of, scope_of, is_in_scope}
+use Rattle.report_text.specs.net_cells.specs.Left.{left_of}
 use Rattle.report_text.specs.net_cells.specs.Order.{at_visit}
 use Rattle.report_text.specs.net_cells.specs.Meanings.{Meaning, CellTable, curve}
 use Rattle.report_text.specs.net_cells.specs.TableValues.{HasCurve, HasNumber}
 use Rattle.report_text.specs.net_cells.specs.Formulas.{Formula, leaves, value_of, smaller, horizontal}
-use Rattle.report_text.specs.net_cells.specs.CellFormulas.{formula_of, value, less, service_at, sum_of_cells, total, queue_service, packets_to, served_to, hop_delay_cells}
+use Rattle.report_text.specs.net_cells.specs.CellFormulas.{formula_of, value, less, service_at, sum_of_cells, total, left_formula, packets_to, served_to, hop_delay_cells}
 use Rattle.report_text.specs.net_cells.specs.Means.{HaveNumbers}
 use Rattle.report_text.specs.net_cells.specs.Answers.{AnswersFrom}
 use Rattle.report_text.specs.net_cells.proofs.Lists.{map_has}
 use Rattle.report_text.specs.net_cells.proofs.LeavesOf.{parts_leaves}
+use Rattle.report_text.specs.net_cells.proofs.LeftOf.{before_is}
 use Rattle.report_text.specs.net_cells.proofs.Precedes.{some_hop}
 use Rattle.cell_eval.specs.Shapes.{Rises, Serving, Grows}
 use Rattle.cell_eval.proofs.Meeting.{Meets, curve_map, curve_holds, has_curve, number_from, sum_leaf, served_leaf}
@@ -158,18 +160,17 @@ module _ (net : Net) (at : CellTable) (P : Cell → Type 0) (M : Meets net at P)
       let p = subst P (sym w.2) (leaf d (sum_leaf (map (cell_of Total s) (range_with_len 0 q)) d h)) in
       subst (λ (x : Cell). HasCurve at x IsCurve) w.2 (only_curve (cell_of Total s w.0) Rises p (total_rises net at P M a s w.0 p))
 
-  service_calls : (s q : ℕ) (d : Discipline) → IsServerAt net s → ((x : Cell) → Has (leaves (queue_service net s q d)) x → P x)
-      → CallsAreFound at (queue_service net s q d) []
-  service_calls s q Fifo it leaf = tt
-  service_calls s q (Priority n) it leaf =
-      let p = leaf (cell_of Higher s q) (inl refl) in
-      let higher = value_found at (cell_of Higher s q) IsCurve (only_curve (cell_of Higher s q) Rises p (higher_rises net at P M a s q p)) in (
+  service_calls : (s : ℕ) (l : Left Cell) → IsServerAt net s → EachBefore (λ c. HasCurve at c IsCurve) l
+      → CallsAreFound at (left_formula (service net s) l) []
+  service_calls s all it found = tt
+  service_calls s (above before lower) it found =
+      let higher = value_found at before IsCurve found in (
         higher.calls,
-        then_found at (value Higher s q) IsCurve (λ g. HasAnswerOf (MakesPriority (service net s) g (longest_after net s q))) higher
-            (λ g k. by_priority calls_exist (service net s) g (longest_after net s q) (service_curve net s H) k (service_grows net s it).finite),
+        then_found at (value_of before) IsCurve (λ g. HasAnswerOf (MakesPriority (service net s) g lower)) higher
+            (λ g k. by_priority calls_exist (service net s) g lower (service_curve net s H) k (service_grows net s it).finite),
       )
-  service_calls s q (Drr quanta) it leaf =
-      by_deficit calls_exist (service net s) quanta (map (longest net s) (range_with_len 0 (length quanta))) q (service_curve net s H) (service_grows net s it).finite
+  service_calls s (share quanta longest queue) it found =
+      by_deficit calls_exist (service net s) quanta longest queue (service_curve net s H) (service_grows net s it).finite
 
   residual_calls : (i k : ℕ) → k < hops net i → ((d : Cell) → Has (leaves (formula_of net Residual i k)) d → P d) → CallsAreFound at (formula_of net Residual i k) []
   residual_calls i k h leaf =
@@ -201,7 +202,11 @@ module _ (net : Net) (at : CellTable) (P : Cell → Type 0) (M : Meets net at P)
       let us = others net i (server_of_hop net i k) (queue_of_hop net i k) in (sum_found at (map (at_visit In) us) (visits_curves us leaf)).calls
   calls_of Total s q e leaf = total_calls s q (net.version == 2) leaf
   calls_of Higher s q e leaf = (sum_found at (map (cell_of Total s) (range_with_len 0 q)) (higher_curves s q leaf)).calls
-  calls_of QueueService s q e leaf = service_calls s q (discipline net s) (server_there net s q a (ltb-true q (queues net s) e)) leaf
+  calls_of QueueService s q e leaf =
+      service_calls s (left_of net s q (discipline net s)) (server_there net s q a (ltb-true q (queues net s) e))
+      (before_is net s q (service net s) (discipline net s) (λ c. HasCurve at c IsCurve) (λ h.
+      let p = leaf (cell_of Higher s q) h in
+      only_curve (cell_of Higher s q) Rises p (higher_rises net at P M a s q p)))
   calls_of Theta i k e leaf =
       let cross = leaf (cell_of Cross i k) (inl refl) in
       let queue = cell_of QueueService (server_of_hop net i k) (queue_of_hop net i k) in

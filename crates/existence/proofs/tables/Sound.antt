@@ -12,9 +12,9 @@ use Rattle.upp_limits.specs.upp_curve.specs.Curves.{IsCurve}
 use Rattle.upp_limits.specs.upp_curve.specs.Kinds.{bucket}
 use Rattle.upp_limits.specs.upp_curve.proofs.ReadableKinds.{bucket_curve, zero_small}
 use Rattle.net_model.specs.run_laws.specs.Cards.{whole}
-use Rattle.net_model.specs.run_laws.specs.Servers.{Discipline, Fifo, Priority, Drr}
 use Rattle.net_model.specs.run_laws.proofs.Members.{Has, has_left, has_right, has_either, has_contains}
 use Rattle.plain_operators.specs.curve_call.specs.Answers.{IsMadeBy}
+use Rattle.residuals.specs.left.Left.{Left, all, above, share}
 use Rattle.net_model.specs.Networks.{Net, NetServer, NetFlow}
 use Rattle.net_model.specs.Accepted.{IsAccepted}
 use Rattle.net_model.specs.Orders.{IsOrder}
@@ -26,10 +26,11 @@ use Rattle.report_text.specs.net_cells.specs.declared.visit.Visit.{Visit}
 use Rattle.report_text.specs.net_cells.specs.Visits.{visits_in, others}
 use Rattle.report_text.specs.net_cells.specs.QueueParts.{in_part, part_numbers}
 use Rattle.report_text.specs.net_cells.specs.Cells.{cell_of}
+use Rattle.report_text.specs.net_cells.specs.Left.{left_of}
 use Rattle.report_text.specs.net_cells.specs.Order.{evaluation_order, at_visit}
 use Rattle.report_text.specs.net_cells.specs.Meanings.{Meaning, curve, number, CellTable, IsCurveIn, IsNumberIn}
 use Rattle.report_text.specs.net_cells.specs.Formulas.{Formula, leaves, value_of, given, empty_sum, made, made_of, moved, cut, part, no_part, leftover, priority, deficit, horizontal, vertical, smaller, along, delayed}
-use Rattle.report_text.specs.net_cells.specs.CellFormulas.{formula, formula_of, sum_from, sum_of_cells, part_sum, with_part, parts_sum, total, queue_service, served_to}
+use Rattle.report_text.specs.net_cells.specs.CellFormulas.{formula, formula_of, sum_from, sum_of_cells, part_sum, with_part, parts_sum, total, left_formula, served_to}
 use Rattle.report_text.specs.net_cells.specs.Means.{MeansFrom, IsSumOnto, IsSumOf, IsPriorityCurve, IsDrrCurve}
 use Rattle.report_text.specs.net_cells.specs.FirstOver.{IsAnswered, AnswersAll}
 use Rattle.report_text.specs.net_cells.proofs.AnswersMean.{answers_mean}
@@ -138,10 +139,10 @@ total_given : (net : Net) (s q : ℕ) (by_links : Bool) → GivenAreCurves (tota
 total_given net s q false = sum_given (map (at_visit In) (visits_in net s q))
 total_given net s q true = parts_given net s q (part_numbers net)
 
-service_given : (net : Net) (s q : ℕ) (d : Discipline) → AreCurves net → GivenAreCurves (queue_service net s q d)
-service_given net s q Fifo H = service_curve net s H
-service_given net s q (Priority n) H = tt
-service_given net s q (Drr quanta) H = tt
+service_given : (net : Net) (s : ℕ) (l : Left Cell) → AreCurves net → GivenAreCurves (left_formula (service net s) l)
+service_given net s all H = service_curve net s H
+service_given net s (above before lower) H = tt
+service_given net s (share quanta longest queue) H = tt
 
 served_given : (net : Net) (i k : ℕ) → GivenAreCurves (served_to net i k)
 served_given net i zero = tt
@@ -153,7 +154,7 @@ cell_given net In i (suc k) H = tt
 cell_given net Cross i k H = sum_given (map (at_visit In) (others net i (server_of_hop net i k) (queue_of_hop net i k)))
 cell_given net Total s q H = total_given net s q (net.version == 2)
 cell_given net Higher s q H = sum_given (map (cell_of Total s) (range_with_len 0 q))
-cell_given net QueueService s q H = service_given net s q (discipline net s) H
+cell_given net QueueService s q H = service_given net s (left_of net s q (discipline net s)) H
 cell_given net Theta i k H = tt
 cell_given net Residual i k H = tt
 cell_given net QueueDelay s q H = tt

@@ -18,12 +18,13 @@ use Rattle.net_model.specs.stated_runs.DueSteps.{step_time}
 use Rattle.net_model.proofs.stated_runs.Lists.{In, contains_in, in_contains}
 use Rattle.net_model.proofs.stated_runs.GoodServers.{IsCardAt}
 use Rattle.net_model.proofs.stated_runs.Routed.{place_of, first_passes}
+use Rattle.net_model.specs.run_laws.proofs.Deciding.{may_visit}
 use Rattle.run_check.specs.declared.broken_laws.law.Law.{Law}
 use Rattle.run_check.specs.declared.broken_laws.law.Law.TheVariants.{L1, L2, L3, L4, L5, L6, L7, L8, L9}
 use Rattle.run_check.specs.declared.broken_laws.place.Place.{Place}
 use Rattle.run_check.specs.broken_laws.Recorded.{HasPaths, IsRecordedStep}
 use Rattle.run_check.specs.broken_laws.Broken.{IsOutOfTime, IsOther, IsWrongWork, IsNotPicked, IsTooFast, Breaks}
-use Rattle.run_check.proofs.broken_laws.Deciding.{holds, picked_same, due_in, may_leave, may_visit}
+use Rattle.run_check.proofs.broken_laws.Deciding.{holds, picked_same, due_in, may_leave}
 use Rattle.run_check.specs.broken_laws.Tracked.{IsTracked}
 use Rattle.run_check.proofs.broken_laws.Tracking.{under_here}
 use Rattle.run_check.proofs.broken_laws.TrackedSteps.{next_in, worked_so_far}

@@ -1,9 +1,10 @@
 use Rattle.cell_eval.proofs.Arms.{service_above}
 use Rattle.std.proofs.Common.{◌-◌, inr}
 use Rattle.net_cells.specs.declared.cell.Kind.TheVariants.{QueueService}
-use Rattle.net_cells.specs.Numbered.{discipline}
+use Rattle.net_cells.specs.Numbered.{service, discipline}
 use Rattle.net_cells.specs.Cells.{cell_of}
-use Rattle.net_cells.specs.CellFormulas.{formula, queue_service}
+use Rattle.net_cells.specs.Left.{left_of}
+use Rattle.net_cells.specs.CellFormulas.{formula}
 use Rattle.net_cells.specs.Refusals.{RefusedAt}
 use Rattle.net_cells.specs.cell_table.Values.{answer_of, meaning_of}
 use Rattle.cell_eval.proofs.Arms.{service_given}
@@ -11,12 +12,14 @@ use Rattle.cell_eval.proofs.Stopping.{at_refusal}
 use Rattle.cell_eval.proofs.curves.serving.Goals as goal
 
 pub queue_service-requires-clause-above : goal.queue_service-requires-clause-above
-queue_service-requires-clause-above g c = λ n is.
-    service_above c.args.net.now (g.T.Table.at c.args.table.now) c.args.server c.args.queue n c.requires is
+queue_service-requires-clause-above g c =
+    service_above c.args.net.now (g.T.Table.at c.args.table.now) c.args.server c.args.queue c.requires
 
 pub returns : goal.returns
-returns g c = record {
-  answer = service_given (g.T.Table.at c.args.table.now) c.args.net.now c.args.server c.args.queue (discipline c.args.net.now c.args.server)
+returns g c =
+    let net = c.args.net.now in
+    let s = c.args.server in record {
+  answer = service_given (g.T.Table.at c.args.table.now) (service net s) (left_of net s c.args.queue (discipline net s))
       (answer_of meaning_of c.queue_service.result) c.queue_service.ensures.answer;
   counts = c.queue_service.ensures.counts;
   memory = λ is. inr (at_refusal meaning_of c.queue_service.result

@@ -5,8 +5,9 @@ use Rattle.std.proofs.lemmas.Result.{err_from_is_err_and}
 use Rattle.net_model.specs.Accepted.{IsAccepted}
 use Rattle.net_model.specs.Networks.{NetServer}
 use Rattle.net_model.specs.Views.{server_of}
+use Rattle.net_model.specs.Quanta.{is_quantum_of}
 use Rattle.net_edits.specs.Refusals.{and_then}
-use Rattle.net_edits.specs.Values.{whole_that, is_length, is_quantum_of, quanta_fit}
+use Rattle.net_edits.specs.Values.{whole_that, is_length, quanta_fit}
 use Rattle.net_edits.specs.Changed.{put_server, with_quantum}
 use Rattle.net_edits.specs.Edited.{fitting, quantum_edited}
 use Rattle.net_edits.specs.Replies.{Refuses}

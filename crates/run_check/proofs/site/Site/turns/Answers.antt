@@ -2,7 +2,8 @@ use Rattle.std.proofs.Common.{subst}
 use Rattle.net_model.specs.run_laws.specs.Allows.{MayVisit}
 use Rattle.queue_sched.specs.Turns.{Starts as Begins}
 use Rattle.sim_servers.specs.Queues.{served_by, StandFor}
-use Rattle.run_check.proofs.SiteSteps.{idle_of, none_visited}
+use Rattle.sim_servers.proofs.Visits.{none_visited}
+use Rattle.run_check.proofs.SiteSteps.{idle_of}
 use Rattle.run_check.proofs.site.Site.turns.Goals as goal
 
 pub start-requires : goal.start-requires

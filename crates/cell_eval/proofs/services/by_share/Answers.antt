@@ -1,8 +1,6 @@
-use Rattle.std.proofs.Common.{◌≡◌, ◌+◌, ◌-◌, ap, ◌∙◌, subst, arith, length, map}
-use Rattle.std.specs.List.{range_with_len}
-use Rattle.std.proofs.lemmas.List.FromFn.{length-map-range_with_len}
-use Rattle.residuals.specs.calls.DrrCalls.{MakesDrr}
-use Rattle.net_cells.specs.Visits.{longest}
+use Rattle.std.proofs.Common.{◌≡◌, ◌+◌, ◌-◌, sym, ◌∙◌, subst, arith, length}
+use Rattle.residuals.specs.calls.DrrCalls.{AreQueues, MakesDrr}
+use Rattle.net_cells.specs.Left.{longest_each}
 use Rattle.net_cells.specs.Answers.{MakesCurve}
 use Rattle.net_cells.specs.cell_table.Values.{answer_of, meaning_of}
 use Rattle.cell_eval.proofs.Handing.{drr_out, shared_makes}
@@ -10,26 +8,18 @@ use Rattle.cell_eval.proofs.SharedCounts.{shared_ok}
 use Rattle.std.specs.Prelude.{IfErr}
 use Rattle.residuals.specs.calls.InTurn.{DrrRefused}
 use Rattle.cell_eval.proofs.OperatorStopping.{drr_full, shared_refused, ok_map}
-use Rattle.cell_eval.proofs.services.by_deficit.Goals as goal
+use Rattle.cell_eval.proofs.services.by_share.Goals as goal
 
 pub drr_service-made-requires-clause-queues : goal.drr_service-made-requires-clause-queues
 drr_service-made-requires-clause-queues g c =
-    let net = c.args.net.now in
-    let n = length c.args.quanta.now in
-    let sizes : c.deref.result.now ≡ map (longest net c.args.place.0) (range_with_len 0 n) = c.deref.ensures.0 ∙ c.longest_each-sizes.ensures in
-    let few = c.requires.few in
-    record {
-      some = few.0.0;
-      few = few.0.1;
-      each = few.1;
-      paired = ap length sizes ∙ length-map-range_with_len (longest net c.args.place.0) 0 n;
-    }
+    let sizes : c.deref.result.now ≡ longest_each c.args.net.now c.args.place.0 (length c.args.quanta.now) = c.deref.ensures.0 ∙ c.longest_each-sizes.ensures in
+    subst (AreQueues c.args.quanta.now) (sym sizes) c.requires.queues
 
 pub returns-clause-answer : goal.returns-clause-answer
 returns-clause-answer g c = λ at.
     let net = c.args.net.now in
     let n = length c.args.quanta.now in
-    let sizes : c.deref.result.now ≡ map (longest net c.args.place.0) (range_with_len 0 n) = c.deref.ensures.0 ∙ c.longest_each-sizes.ensures in
+    let sizes : c.deref.result.now ≡ longest_each net c.args.place.0 n = c.deref.ensures.0 ∙ c.longest_each-sizes.ensures in
     let β = c.args.service.now in
     let r = answer_of meaning_of c.shared.result in
     subst (λ zs. MakesCurve (MakesDrr β c.args.quanta.now zs c.args.place.1) r) sizes
@@ -50,7 +40,7 @@ pub returns-clause-refused : goal.returns-clause-refused
 returns-clause-refused g c =
     let net = c.args.net.now in
     let n = length c.args.quanta.now in
-    let sizes : c.deref.result.now ≡ map (longest net c.args.place.0) (range_with_len 0 n) = c.deref.ensures.0 ∙ c.longest_each-sizes.ensures in
+    let sizes : c.deref.result.now ≡ longest_each net c.args.place.0 n = c.deref.ensures.0 ∙ c.longest_each-sizes.ensures in
     let β = c.args.service.now in
     let made = c.drr_service-made.result in
     let counted = c.drr_service-made.new.steps - c.args.steps.now in

@@ -16,9 +16,9 @@ use Rattle.std.specs.Prelude.{IfErr}
 use Rattle.net_cells.specs.Refusals.{RefusedAt}
 use Rattle.residuals.specs.calls.InTurn.{past, PriorityRefused}
 use Rattle.cell_eval.proofs.OperatorStopping.{priority_full, shared_refused, err_map, ok_map}
-use Rattle.cell_eval.proofs.services.by_priority.Given.{Over}
-use Rattle.cell_eval.proofs.services.by_priority.Goals.{After-longest_at-lower, After-deref}
-use Rattle.cell_eval.proofs.services.by_priority.Goals as goal
+use Rattle.cell_eval.proofs.services.above_others.Given.{Over}
+use Rattle.cell_eval.proofs.services.above_others.Goals.{After-longest_at-lower, After-deref}
+use Rattle.cell_eval.proofs.services.above_others.Goals as goal
 
 -- the longest packet of the queues after this one
 below : (g : Over) (c : After-longest_at-lower g) → c.longest_at-lower.result ≡ longest_after c.args.net.now c.args.place.0 c.args.place.1

@@ -1,0 +1,5 @@
+use Rattle.residuals.proofs.left.Laws
+use Rattle.residuals.proofs.left.left_grows.Goals as goal
+
+pub returns : goal.returns
+returns c = Laws.grows
