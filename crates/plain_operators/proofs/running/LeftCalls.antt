@@ -118,15 +118,6 @@ left_times f g theta s p e k z L =
       some = L.above;
     }
 
-pub theta_before : (theta s p e : ℚ) (k : ℕ) → LeftTimes theta s p e k → theta <ℚ e
-theta_before theta s p e k T =
-    let run = T.run in
-    let a = T.run_low in
-    let b = T.ends in
-    let l = T.late in
-    let m = T.some in
-    with5 theta s p e run (λ c. omega (arith, c.le, c.lt, c.same))
-
 pub from_past : (theta s p e : ℚ) (k : ℕ) → LeftTimes theta s p e k → theta <ℚ e -ℚ p
 from_past theta s p e k T =
     let run = T.run in
@@ -135,6 +126,12 @@ from_past theta s p e k T =
     let l = T.late in
     let m = T.some in
     with5 theta s p e run (λ c. omega (arith, c.le, c.lt, c.same))
+
+pub theta_before : (theta s p e : ℚ) (k : ℕ) → LeftTimes theta s p e k → theta <ℚ e
+theta_before theta s p e k T =
+    let past = from_past theta s p e k T in
+    let some = T.some in
+    with3 theta p e (λ c. omega (arith, c.le, c.lt, c.same))
 
 pub period_early : (theta s p e : ℚ) (k : ℕ) → LeftTimes theta s p e k → p ≤ℚ e
 period_early theta s p e k T =

@@ -49,36 +49,40 @@ icept_value : (z : Sizes) (l : Line) → OperandLine z l → IsGridValue z l.ice
 icept_value z l L = record { whole = L.icept; within = within_weaken (times_largest 2 z) (times_largest 3 z) l.icept (more_largest z 2 3 (omega arith)) L.within }
 
 -- the level less the line's value at 0
-record Apart (z : Sizes) (up down : ℚ) : Type 0 where
-  up_whole : Whole (grid_of z) up
-  up_within : Within (times_largest 5 z) up
-  down_whole : Whole z.ds down
-  down_within : Within (int (pos z.steepness)) down
+pub record Apart (z : Sizes) (up down : ℚ) : Type 0 where
+  pub up_whole : Whole (grid_of z) up
+  pub up_within : Within (times_largest 14 z) up
+  pub down_whole : Whole z.ds down
+  pub down_within : Within (int (pos z.steepness)) down
 
 level_apart : (z : Sizes) (end v : ℚ) (l : Line) → AreLimited z end → OperandLine z l → IsGridValue z v → Apart z (v -ℚ l.icept) (l.slope -ℚ int (pos 0))
 level_apart z end v l A L V =
     let zero = zero_slope z end A.sizes in
     record {
       up_whole = whole_sub (grid_of z) v l.icept V.whole L.icept;
-      up_within = subst (λ m. Within m (v -ℚ l.icept)) (many_more z 3 2) (within_sub (times_largest 3 z) (times_largest 2 z) v l.icept V.within L.within);
+      up_within = within_weaken (times_largest 5 z) (times_largest 14 z) (v -ℚ l.icept) (more_largest z 5 14 (omega arith))
+          (subst (λ m. Within m (v -ℚ l.icept)) (many_more z 3 2) (within_sub (times_largest 3 z) (times_largest 2 z) v l.icept V.within L.within));
       down_whole = whole_sub z.ds l.slope (int (pos 0)) L.slope.whole zero.whole;
       down_within = halves_apart (int (pos z.steepness)) l.slope (int (pos 0)) L.slope.within zero.within;
     }
 
-level_small : (z : Sizes) (end up down : ℚ) → AreLimited z end → down ≢ int (pos 0) → Apart z up down → IsSmall (up /ℚ down)
+pub level_small : (z : Sizes) (end up down : ℚ) → AreLimited z end → down ≢ int (pos 0) → Apart z up down → IsSmall (up /ℚ down)
 level_small z end up down A h a =
     let t = tight z end A in
     let s = t.sums in
     let p = t.steep in
     let d = grid_of z in
-    let wide : times_largest 5 z *ℚ int (pos d) ≤ℚ int (pos top) =
-    subst (λ y. y ≤ℚ int (pos top)) (sym (ap (λ y. y *ℚ int (pos d)) (int_mul (pos 5) (pos z.largest)) ∙ int_mul (pos (5 * z.largest)) (pos d)))
-    (nat_le (5 * z.largest * d) top (omega (arith, s))) in
+    let wide : times_largest 14 z *ℚ int (pos d) ≤ℚ int (pos top) =
+    subst (λ y. y ≤ℚ int (pos top)) (sym (ap (λ y. y *ℚ int (pos d)) (int_mul (pos 14) (pos z.largest)) ∙ int_mul (pos (14 * z.largest)) (pos d)))
+    (nat_le (14 * z.largest * d) top (omega (arith, s))) in
     let steep : int (pos z.steepness) *ℚ int (pos d) ≤ℚ int (pos top) = subst (λ y. y ≤ℚ int (pos top)) (sym (int_mul (pos z.steepness) (pos d)))
     (nat_le (z.steepness * d) top (omega (arith, p))) in
-    quotient_on_grid d (times_largest 5 z) (int (pos z.steepness)) up down (grid_pos z end A.sizes) h wide steep a.up_whole
+    quotient_on_grid d (times_largest 14 z) (int (pos z.steepness)) up down (grid_pos z end A.sizes) h wide steep a.up_whole
     (whole_weaken z.ds d down (dvd-mul_left z.ds (z.dv * z.dt)) a.down_whole)
     a.up_within a.down_within
+
+pub less_zero : (s : ℚ) → s -ℚ int (pos 0) ≡ s
+less_zero s = with1 s (λ c. omega (arith, c.le, c.lt, c.same))
 
 pub not_flat : (s : ℚ) → int (pos 0) <ℚ s → s -ℚ int (pos 0) ≢ int (pos 0)
 not_flat s h e = lt_irrefl (int (pos 0)) (subst (λ x. int (pos 0) <ℚ x) (with1 s (λ c. omega (arith, c.le, c.lt, c.same))) h)
@@ -89,18 +93,20 @@ level_fits z end v l A L V rises w (inl a) = a.1 (values_fit z end v l.icept A V
 level_fits z end v l A L V rises w (inr (inl b)) = b.1 (operand_lines_fit z end l (flat (int (pos 0))) A L (zero_line z end A.sizes)).closing
 level_fits z end v l A L V rises w (inr (inr c)) = c.1 (level_small z end (v -ℚ l.icept) (l.slope -ℚ int (pos 0)) A (not_flat l.slope rises) (level_apart z end v l A L V))
 
-pub level_crossing : (z : Sizes) (end v : ℚ) (l : Line) (t : ℚ) → AreLimited z end → OperandLine z l → IsGridValue z v → IsMeeting v l t → IsCrossing z t
-level_crossing z end v l t A L V m =
-    let a = level_apart z end v l A L V in
+-- a line that meets a level does so at a crossing
+pub meeting_crossing : (z : Sizes) (end v : ℚ) (l : Line) (t : ℚ) → AreLimited z end → Apart z (v -ℚ l.icept) (l.slope -ℚ int (pos 0)) → IsMeeting v l t → IsCrossing z t
+meeting_crossing z end v l t A a m =
     crossing_from z end (v -ℚ l.icept) (l.slope -ℚ int (pos 0)) t A a.up_whole a.down_whole a.down_within (not_flat l.slope m.rises) (reached m.is)
   where
     reached : line_at l t ≡ v → t *ℚ (l.slope -ℚ int (pos 0)) ≡ v -ℚ l.icept
     reached e =
         let s = l.slope in
         let i = l.icept in
-        let same : s -ℚ int (pos 0) ≡ s = with1 s (λ c. omega (arith, c.le, c.lt, c.same)) in
         let run : s *ℚ t ≡ v -ℚ i = let p = s *ℚ t in with3 p i v (λ c. omega (arith, c.le, c.lt, c.same)) in
-        ap (λ x. t *ℚ x) same ∙ mul_comm t s ∙ run
+        ap (λ x. t *ℚ x) (less_zero s) ∙ mul_comm t s ∙ run
+
+pub level_crossing : (z : Sizes) (end v : ℚ) (l : Line) (t : ℚ) → AreLimited z end → OperandLine z l → IsGridValue z v → IsMeeting v l t → IsCrossing z t
+level_crossing z end v l t A L V m = meeting_crossing z end v l t A (level_apart z end v l A L V) m
 
 pub flat_line : (z : Sizes) (end v : ℚ) → AreLimited z end → IsGridValue z v → AnswerLine z 3 (flat v)
 flat_line z end v A V = record {

@@ -9,7 +9,7 @@ use Rattle.upp_limits.specs.rational.specs.Ratio.{IsSmall}
 use Rattle.upp_limits.specs.rational.specs.Gauge.{size_up}
 use Rattle.upp_limits.specs.rational.specs.Extended.{◌≤ₑ◌, ◌+ₑ◌}
 use Rattle.upp_limits.specs.rational.specs.declared.Extended.TheVariants.{Fin}
-use Rattle.upp_limits.specs.rational.proofs.Linear.{with2, with4, with5}
+use Rattle.upp_limits.specs.rational.proofs.Linear.{with2, with4}
 use Rattle.upp_limits.specs.rational.proofs.Laws.{le_or_lt, le_trans, le_of_lt, lt_irrefl, lt_le_trans}
 use Rattle.upp_limits.specs.rational.proofs.Grid.{whole_sub}
 use Rattle.upp_limits.specs.rational.proofs.Quotients.{div_le}
@@ -131,20 +131,11 @@ own_rise f g theta w G =
     let L = gate_call f g theta w G in
     let z = gate_sizes f g theta in
     let P = own f g theta w G in
-    let s = w.start in
-    let p = w.period in
-    let e = w.end in
-    let D = gate_times theta s p e (left_times f g theta s p e 0 z L) in
-    let two = D.two in
-    let some = D.some in
-    let a = steady f in
-    let q = own_or w.period f in
-    let high = P.high in
-    let left = L.left_steady in
-    rise_is z e f q L.limited L.first L.left P.periods P.whole P.some (early a q s p e left high two some)
+    rise_is z w.end f (own_or w.period f) L.limited L.first L.left P.periods P.whole P.some
+    (early (steady f) (own_or w.period f) w.period w.end (looked f g theta w G).curve.steady_by P.high)
   where
-    early : (a q s p e : ℚ) → a ≤ℚ s → q ≤ℚ p → e ≡ s +ℚ p +ℚ p → zero_q <ℚ p → a +ℚ q ≤ℚ e
-    early a q s p e left high two some = with5 a q s p e (λ c. omega (arith, c.le, c.lt, c.same))
+    early : (a q p e : ℚ) → a ≤ℚ e -ℚ p → q ≤ℚ p → a +ℚ q ≤ℚ e
+    early a q p e left high = with4 a q p e (λ c. omega (arith, c.le, c.lt, c.same))
 
 pub own_fits : (f g : SpecCurve) (theta q : ℚ) (w : CallWindow) → IsLeftGate f g theta w → q ≡ own_or w.period f → CurveRiseFits f q
 own_fits f g theta q w G e = subst (CurveRiseFits f) (sym e) (own_rise f g theta w G).fits

@@ -9,6 +9,7 @@ use Rattle.upp_limits.specs.rational.proofs.Grid.{whole_neg, within_neg}
 use Rattle.upp_limits.specs.rational.proofs.Laws.{le_refl, le_of_lt, le_trans}
 use Rattle.upp_limits.specs.rational.proofs.Linear.{with3}
 use Rattle.upp_limits.specs.upp_curve.specs.declared.affine_segment.line.Piece.{Piece}
+use Rattle.upp_limits.specs.declared.op_kind.OpKind.{OpKind}
 use Rattle.upp_limits.specs.declared.op_kind.OpKind.TheVariants.{RunSup, RunInf}
 use Rattle.upp_limits.specs.upp_curve.specs.affine_segment.Reading.{read}
 use Rattle.upp_limits.specs.upp_curve.specs.Curve.{SpecCurve, value_at}
@@ -41,7 +42,7 @@ use Rattle.curve_call.specs.Frames.{IsFrame, sizes_at}
 use Rattle.curve_call.proofs.CallFits.{call_early}
 use Rattle.curve_call.proofs.CallTimes.{IsCall, period_on, start_on, first_stands}
 use Rattle.curve_call.proofs.CurveRises.{IsRise, rise_is, own_whole}
-use Rattle.curve_call.proofs.FrameFacts.{frame_facts}
+use Rattle.curve_call.proofs.FrameFacts.{FrameFacts, frame_facts}
 use Rattle.plain_operators.specs.running.Scans.{IsWindow, ScanFits}
 use Rattle.plain_operators.specs.running.Periods.{IsSupremumCall}
 use Rattle.plain_operators.proofs.running.Covers.{no_fall}
@@ -61,37 +62,26 @@ pub record RunFacts (f : SpecCurve) (start period end : ℚ) (z : Sizes) : Type 
   pub some : zero_q <ℚ period
   pub both : start +ℚ period ≤ℚ end
 
+from_frame : (op : OpKind) (f : SpecCurve) (r : Frame) (z : Sizes) → IsCurve f → FrameFacts op f f r z → r.start ≡ steady f → r.period ≡ own_period f
+    → RunFacts f r.start r.period r.end z
+from_frame op f r z curve F start period = record {
+  curve = curve;
+  limited = F.limited;
+  stands = first_stands op z r.end f f F.stands;
+  start_is = start;
+  period_is = period;
+  start_whole = F.start.whole;
+  low = F.start.nonneg;
+  period_whole = F.period.whole;
+  some = F.period.above;
+  both = F.early.both;
+}
+
 pub sup_facts : (f : SpecCurve) (k : ℕ) (r : Frame) → IsFrame RunSup f f k 0 r → RunFacts f r.start r.period r.end (sizes_at RunSup f f k 0)
-sup_facts f k r h =
-    let F = frame_facts RunSup f f k 0 r tt h in
-    record {
-      curve = h.first;
-      limited = F.limited;
-      stands = first_stands RunSup (sizes_at RunSup f f k 0) r.end f f F.stands;
-      start_is = h.start;
-      period_is = h.period;
-      start_whole = F.start.whole;
-      low = F.start.nonneg;
-      period_whole = F.period.whole;
-      some = F.period.above;
-      both = F.early.both;
-    }
+sup_facts f k r h = from_frame RunSup f r (sizes_at RunSup f f k 0) h.first (frame_facts RunSup f f k 0 r tt h) h.start h.period
 
 pub inf_facts : (f : SpecCurve) (r : Frame) → IsFrame RunInf f f 0 0 r → RunFacts f r.start r.period r.end (sizes_at RunInf f f 0 0)
-inf_facts f r h =
-    let F = frame_facts RunInf f f 0 0 r tt h in
-    record {
-      curve = h.first;
-      limited = F.limited;
-      stands = first_stands RunInf (sizes_at RunInf f f 0 0) r.end f f F.stands;
-      start_is = h.start;
-      period_is = h.period;
-      start_whole = F.start.whole;
-      low = F.start.nonneg;
-      period_whole = F.period.whole;
-      some = F.period.above;
-      both = F.early.both;
-    }
+inf_facts f r h = from_frame RunInf f r (sizes_at RunInf f f 0 0) h.first (frame_facts RunInf f f 0 0 r tt h) h.start h.period
 
 -- the same without any period, where only the gauge is known
 pub window_facts : (f : SpecCurve) (w : CallWindow) → IsCurve f → IsCallWindow RunSup f f 0 0 w → gauge_at RunSup f f 0 0 < 2 ^ 120

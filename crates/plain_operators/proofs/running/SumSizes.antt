@@ -1,17 +1,17 @@
 -- By the sizes of a call: the steps of a scan of finite pieces, whose values are sums, fit, and each piece that comes out has room.
-use Rattle.std.specs.Prelude.{◌≡◌, ◌≢◌, ℕ, Bool, ◌+◌, ◌*◌, ◌≤◌, pos, List, [], ◌∷◌, Option, Some, None, ◌⊎◌}
+use Rattle.std.specs.Prelude.{◌≡◌, ℕ, Bool, ◌+◌, ◌*◌, ◌≤◌, pos, List, [], ◌∷◌, Option, Some, None, ◌⊎◌}
 use Rattle.std.proofs.Common.{arith, sym, ap, ◌∙◌, subst, inl, inr}
-use native.Mathlib.Nat.{dvd-mul_left, mul-le-mul_right}
-use Rattle.upp_limits.specs.rational.specs.Rational.{ℚ, ◌+ℚ◌, ◌-ℚ◌, ◌*ℚ◌, ◌/ℚ◌, ◌≤ℚ◌, ◌<ℚ◌, neg_ℚ, int}
-use Rattle.upp_limits.specs.rational.specs.Ratio.{IsSmall, SumFits}
+use native.Mathlib.Nat.{mul-le-mul_right}
+use Rattle.upp_limits.specs.rational.specs.Rational.{ℚ, ◌+ℚ◌, ◌-ℚ◌, ◌*ℚ◌, ◌≤ℚ◌, ◌<ℚ◌, neg_ℚ, int}
+use Rattle.upp_limits.specs.rational.specs.Ratio.{SumFits}
 use Rattle.upp_limits.specs.rational.specs.Grid.{Whole, Within}
 use Rattle.upp_limits.specs.rational.specs.Extended.{Ext}
 use Rattle.upp_limits.specs.rational.specs.declared.Extended.TheVariants.{Fin}
 use Rattle.upp_limits.specs.rational.proofs.Grid.{whole_weaken, whole_int, whole_add, whole_sub, whole_neg, whole_mul, within_weaken, within_add, within_sub, within_neg, within_mul, within_nonneg}
 use Rattle.upp_limits.specs.rational.proofs.Integers.{int_add, int_mul, nat_le, nat_nonneg}
 use Rattle.upp_limits.specs.rational.proofs.Laws.{le_refl, le_trans, mul_comm, mul_assoc, mul_le_mul}
-use Rattle.upp_limits.specs.rational.proofs.Linear.{with1, with2, with3}
-use Rattle.upp_limits.specs.rational.proofs.Sizes.{quotient_on_grid, sum_on_grid}
+use Rattle.upp_limits.specs.rational.proofs.Linear.{with2}
+use Rattle.upp_limits.specs.rational.proofs.Sizes.{sum_on_grid}
 use Rattle.upp_limits.specs.rational.proofs.ExtendedOrder.{fin_same}
 use Rattle.upp_limits.specs.upp_curve.specs.declared.affine_segment.line.Line.{Line}
 use Rattle.upp_limits.specs.upp_curve.specs.declared.affine_segment.line.Piece.{Piece}
@@ -25,12 +25,12 @@ use Rattle.upp_limits.specs.Limits.{Sizes}
 use Rattle.upp_limits.specs.Sized.{grid_of, times_largest}
 use Rattle.curve_call.specs.upp_normal.specs.Operand.{AreLimited, answer_room}
 use Rattle.curve_call.specs.upp_normal.specs.Room.{top, LineInRoom, LineHasRoom, PieceHasRoom, TimeHasRoom, ValueHasRoom}
-use Rattle.upp_limits.proofs.NarrowSizes.{grid_pos, small_sum, slope_time_divides}
+use Rattle.upp_limits.proofs.NarrowSizes.{small_sum, slope_time_divides}
 use Rattle.curve_call.specs.upp_normal.proofs.NormaliseRoom.{line_fits}
-use Rattle.curve_call.specs.upp_normal.proofs.AnswerRoom.{tight, wide_narrow, answer_is_room, AnswerLine, line_in_room, answer_value_room, IsCrossing, crossing_from, crossing_room, room_at_start, more_largest}
+use Rattle.curve_call.specs.upp_normal.proofs.AnswerRoom.{tight, wide_narrow, answer_is_room, AnswerLine, line_in_room, answer_value_room, IsCrossing, crossing_room, room_at_start, more_largest}
 use Rattle.plain_operators.specs.running.Scans.{start_or, flat, IsLevel, HasLine, MeetingFits, ScanFits}
 use Rattle.plain_operators.specs.running.Made.{IsMeeting, IsMade, TurnsAfter, IsScan}
-use Rattle.plain_operators.proofs.running.LevelSizes.{all_low, not_flat, some_none}
+use Rattle.plain_operators.proofs.running.LevelSizes.{Apart, level_small, less_zero, meeting_crossing, all_low, not_flat, some_none}
 use Rattle.curve_call.specs.upp_normal.proofs.AnswerRoom.{many_more}
 use Rattle.plain_operators.specs.running.Lowest.{SumLine, SumPiece}
 use Rattle.plain_operators.proofs.running.Makings.{LineIsMade}
@@ -99,15 +99,6 @@ value_near z end x k l A L N = record {
 }
 
 -- ---- a line against a level
-record Apart (z : Sizes) (up down : ℚ) : Type 0 where
-  up_whole : Whole (grid_of z) up
-  up_within : Within (times_largest 14 z) up
-  down_whole : Whole z.ds down
-  down_within : Within (int (pos z.steepness)) down
-
-less_zero : (s : ℚ) → s -ℚ int (pos 0) ≡ s
-less_zero s = with1 s (λ c. omega (arith, c.le, c.lt, c.same))
-
 level_apart : (z : Sizes) (v : ℚ) (l : Line) → SumLine z 6 l → AnswerValue z 8 v → Apart z (v -ℚ l.icept) (l.slope -ℚ int (pos 0))
 level_apart z v l L V = record {
   up_whole = whole_sub (grid_of z) v l.icept V.whole L.icept.whole;
@@ -115,21 +106,6 @@ level_apart z v l L V = record {
   down_whole = subst (Whole z.ds) (sym (less_zero l.slope)) L.slope;
   down_within = subst (Within (int (pos z.steepness))) (sym (less_zero l.slope)) L.steep;
 }
-
-level_small : (z : Sizes) (end up down : ℚ) → AreLimited z end → down ≢ int (pos 0) → Apart z up down → IsSmall (up /ℚ down)
-level_small z end up down A h a =
-    let t = tight z end A in
-    let s = t.sums in
-    let p = t.steep in
-    let d = grid_of z in
-    let wide : times_largest 14 z *ℚ int (pos d) ≤ℚ int (pos top) =
-    subst (λ y. y ≤ℚ int (pos top)) (sym (ap (λ y. y *ℚ int (pos d)) (int_mul (pos 14) (pos z.largest)) ∙ int_mul (pos (14 * z.largest)) (pos d)))
-    (nat_le (14 * z.largest * d) top (omega (arith, s))) in
-    let steep : int (pos z.steepness) *ℚ int (pos d) ≤ℚ int (pos top) = subst (λ y. y ≤ℚ int (pos top)) (sym (int_mul (pos z.steepness) (pos d)))
-    (nat_le (z.steepness * d) top (omega (arith, p))) in
-    quotient_on_grid d (times_largest 14 z) (int (pos z.steepness)) up down (grid_pos z end A.sizes) h wide steep a.up_whole
-    (whole_weaken z.ds d down (dvd-mul_left z.ds (z.dv * z.dt)) a.down_whole)
-    a.up_within a.down_within
 
 slope_fits : (z : Sizes) (end s : ℚ) → AreLimited z end → Whole z.ds s → Within (int (pos z.steepness)) s → SumFits s (neg_ℚ (int (pos 0)))
 slope_fits z end s A w i =
@@ -154,16 +130,7 @@ level_fits z end v l A L V rises w (inr (inl b)) = b.1 (slope_fits z end l.slope
 level_fits z end v l A L V rises w (inr (inr c)) = c.1 (level_small z end (v -ℚ l.icept) (l.slope -ℚ int (pos 0)) A (not_flat l.slope rises) (level_apart z v l L V))
 
 pub level_crossing : (z : Sizes) (end v : ℚ) (l : Line) (t : ℚ) → AreLimited z end → SumLine z 6 l → AnswerValue z 8 v → IsMeeting v l t → IsCrossing z t
-level_crossing z end v l t A L V m =
-    let a = level_apart z v l L V in
-    crossing_from z end (v -ℚ l.icept) (l.slope -ℚ int (pos 0)) t A a.up_whole a.down_whole a.down_within (not_flat l.slope m.rises) (reached m.is)
-  where
-    reached : line_at l t ≡ v → t *ℚ (l.slope -ℚ int (pos 0)) ≡ v -ℚ l.icept
-    reached e =
-        let s = l.slope in
-        let i = l.icept in
-        let run : s *ℚ t ≡ v -ℚ i = let p = s *ℚ t in with3 p i v (λ c. omega (arith, c.le, c.lt, c.same)) in
-        ap (λ x. t *ℚ x) (less_zero s) ∙ mul_comm t s ∙ run
+level_crossing z end v l t A L V m = meeting_crossing z end v l t A (level_apart z v l L V) m
 
 -- ---- levels and lines of the pieces
 abbrev pub EachSum : Sizes → ℚ → List Piece → Type 0

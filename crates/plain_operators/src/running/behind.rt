@@ -1,13 +1,16 @@
 //! How many periods pass before a service is ahead of what it serves some time later.
 
 ghost use Rattle.std.specs.Prelude.{ℕ, ◌≡◌, pos};
-ghost use Rattle.upp_limits.specs.rational.specs.Rational.{int};
+ghost use Rattle.upp_limits.specs.rational.specs.Rational.{int, ◌-ℚ◌, neg_ℚ};
+ghost use Rattle.upp_limits.specs.rational.specs.Ratio.{SumFits};
 ghost use Rattle.upp_limits.specs.rational.specs.declared.Extended.TheVariants.{Fin};
 ghost use Rattle.upp_limits.specs.declared.op_kind.OpKind.TheVariants.{FifoLeft};
 ghost use Rattle.upp_limits.specs.upp_curve.specs.Curve.{value_at};
+ghost use Rattle.upp_limits.specs.upp_curve.specs.Steady.{rise_over};
 ghost use Rattle.upp_limits.specs.Limits.{Sizes};
 ghost use Rattle.upp_limits.specs.Windows.{IsLeast, Meets};
 ghost use Rattle.curve_call.specs.Bounds.{AreBounds};
+ghost use Rattle.curve_call.specs.Rises.{CurveRiseFits};
 ghost use Rattle.curve_call.specs.GapSteps.{earlier_of};
 ghost use Rattle.plain_operators.specs.running.Behind.{moved, IsBehindCall, IsMost};
 ghost use Rattle.plain_operators.specs.running.LeftCall.{IsLeftGate};
@@ -37,6 +40,16 @@ fn most_behind(beta: &Curve, cross: &Curve, theta: Frac, from: Frac, end: Frac) 
     most
 }
 
+/// By how much f rises more than g over a period.
+pub(crate) fn rises_apart(f: &Curve, g: &Curve, period: Frac) -> Frac
+    requires left { CurveRiseFits f.now period }
+    requires right { CurveRiseFits g.now period }
+    requires apart { SumFits (rise_over f.now period) (neg_ℚ (rise_over g.now period)) }
+    ensures { result ≡ rise_over f.now period -ℚ rise_over g.now period }
+{
+    difference(rise_over(f, period), rise_over(g, period))
+}
+
 /// The least number of periods after which, for a period, cross, served theta later, is nowhere above beta; 0 where the
 /// two have one rate. No memory is taken and nothing is unrolled.
 pub(crate) fn enough_periods(beta: &Curve, cross: &Curve, theta: Frac, first: &CallWindow) -> u128
@@ -47,10 +60,7 @@ pub(crate) fn enough_periods(beta: &Curve, cross: &Curve, theta: Frac, first: &C
     if !is_less(Frac::zero(), most) {
         return 0;
     }
-    let lead = difference(
-        rise_over(beta, first.period),
-        rise_over(cross, first.period),
-    );
+    let lead = rises_apart(beta, cross, first.period);
     if !is_less(Frac::zero(), lead) {
         return 0;
     }
@@ -63,10 +73,7 @@ pub(crate) fn behind_bounds(beta: &Curve, cross: &Curve, theta: Frac, first: &Ca
     requires { IsLeftGate beta.now cross.now theta first.now }
     ensures { AreBounds (Meets (FifoLeft (Fin theta)) beta.now cross.now) result }
 {
-    let lead = difference(
-        rise_over(beta, first.period),
-        rise_over(cross, first.period),
-    );
+    let lead = rises_apart(beta, cross, first.period);
     if !is_less(Frac::zero(), lead) {
         return Bounds { low: 0, high: 0 };
     }

@@ -12,12 +12,12 @@ ghost use Rattle.upp_limits.specs.Outcome.{KeepsLimits};
 ghost use Rattle.plain_operators.specs.running.Behind.{IsServed};
 ghost use Rattle.plain_operators.specs.running.LeftCall.{IsLeftBeside, IsLeftFrame, IsLeftWindow};
 
-use crate::running::behind::{behind_bounds, enough_periods};
+use crate::running::behind::{behind_bounds, enough_periods, rises_apart};
 use crate::running::lowest::lowest_pieces;
 use crate::running::moved::moved_right;
 use crate::running::parts::left_pieces;
 use curve_call::upp_normal::unrolled;
-use curve_call::{Frame, answer, first_window, overlay, refuse_between, rise_over, within};
+use curve_call::{Frame, answer, first_window, overlay, refuse_between, within};
 use std::alloc::{AllocError, Global};
 use std::sync::ledger::Ledger;
 use steps::Steps;
@@ -58,10 +58,7 @@ fn left_within(
     ensures { IfOk result (IsLeftBeside beta.now cross.now (Fin theta)) }
 {
     let pieces = left_window(alloc, beta, cross, theta, frame)?;
-    let rise = difference(
-        rise_over(beta, frame.period),
-        rise_over(cross, frame.period),
-    );
+    let rise = rises_apart(beta, cross, frame.period);
     let from = difference(frame.end, frame.period);
     let far = sum(frame.end, frame.period);
     let lowest = lowest_pieces(alloc, pieces, from, frame.end, far, rise)?;

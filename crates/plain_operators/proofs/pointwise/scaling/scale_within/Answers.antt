@@ -9,6 +9,7 @@ use Rattle.upp_limits.specs.ClosedOperands.{PieceScales, TailScales}
 use Rattle.curve_call.specs.upp_normal.proofs.NormaliseForm.{ok_map}
 use Rattle.curve_call.specs.Frames.{sizes_at}
 use Rattle.plain_operators.proofs.pointwise.ScaleCall.{IsMade, scale_call, pieces_scale, made_raw, made_found, made_values}
+use Rattle.plain_operators.proofs.pointwise.scaling.scale_within.Goals.{After-fitting_tail-tail}
 use Rattle.plain_operators.proofs.pointwise.scaling.scale_within.Goals as goal
 
 pub fitting_pieces-requires : goal.fitting_pieces-requires
@@ -25,90 +26,32 @@ fitting_tail-tail-requires c =
     let r = c.args.frame.now in
     subst (λ (t : Tail). TailScales q t) (sym c.tail.ensures.tail) (scale_call q f r c.requires).scales.tail
 
-pub normalise_on-requires-clause-raw : goal.normalise_on-requires-clause-raw
-normalise_on-requires-clause-raw c =
-    let f = c.args.f.now in
-    let q = c.args.factor in
-    let r = c.args.frame.now in
-    let made : IsMade q f c.in_ok-pieces.pieces.items c.fitting_tail-tail.result = record {
-      pieces = c.in_ok-pieces.ensures ∙ ap (λ (ps : List Piece). map (scaled_piece q) ps) c.pieces.ensures.pieces;
-      tail = c.fitting_tail-tail.ensures ∙ ap (λ (t : Tail). scaled_tail q t) c.tail.ensures.tail;
-    } in
-    made_raw q f r (sizes_at (Scale q) f f 0 0) c.in_ok-pieces.pieces.items c.fitting_tail-tail.result (scale_call q f r c.requires) made
+made : (c : After-fitting_tail-tail) → IsMade c.args.factor c.args.f.now c.in_ok-pieces.pieces.items c.fitting_tail-tail.result
+made c = record {
+  pieces = c.in_ok-pieces.ensures ∙ ap (λ (ps : List Piece). map (scaled_piece c.args.factor) ps) c.pieces.ensures.pieces;
+  tail = c.fitting_tail-tail.ensures ∙ ap (λ (t : Tail). scaled_tail c.args.factor t) c.tail.ensures.tail;
+}
 
-pub normalise_on-requires-clause-some_times : goal.normalise_on-requires-clause-some_times
-normalise_on-requires-clause-some_times c =
+pub normalise_on-requires : goal.normalise_on-requires
+normalise_on-requires c =
     let f = c.args.f.now in
     let q = c.args.factor in
     let r = c.args.frame.now in
-    let made : IsMade q f c.in_ok-pieces.pieces.items c.fitting_tail-tail.result = record {
-      pieces = c.in_ok-pieces.ensures ∙ ap (λ (ps : List Piece). map (scaled_piece q) ps) c.pieces.ensures.pieces;
-      tail = c.fitting_tail-tail.ensures ∙ ap (λ (t : Tail). scaled_tail q t) c.tail.ensures.tail;
-    } in
-    (made_found q f r (sizes_at (Scale q) f f 0 0) c.in_ok-pieces.pieces.items c.fitting_tail-tail.result (scale_call q f r c.requires) made).some_times
-
-pub normalise_on-requires-clause-some_values : goal.normalise_on-requires-clause-some_values
-normalise_on-requires-clause-some_values c =
-    let f = c.args.f.now in
-    let q = c.args.factor in
-    let r = c.args.frame.now in
-    let made : IsMade q f c.in_ok-pieces.pieces.items c.fitting_tail-tail.result = record {
-      pieces = c.in_ok-pieces.ensures ∙ ap (λ (ps : List Piece). map (scaled_piece q) ps) c.pieces.ensures.pieces;
-      tail = c.fitting_tail-tail.ensures ∙ ap (λ (t : Tail). scaled_tail q t) c.tail.ensures.tail;
-    } in
-    (made_found q f r (sizes_at (Scale q) f f 0 0) c.in_ok-pieces.pieces.items c.fitting_tail-tail.result (scale_call q f r c.requires) made).some_values
-
-pub normalise_on-requires-clause-times : goal.normalise_on-requires-clause-times
-normalise_on-requires-clause-times c =
-    let f = c.args.f.now in
-    let q = c.args.factor in
-    let r = c.args.frame.now in
-    let made : IsMade q f c.in_ok-pieces.pieces.items c.fitting_tail-tail.result = record {
-      pieces = c.in_ok-pieces.ensures ∙ ap (λ (ps : List Piece). map (scaled_piece q) ps) c.pieces.ensures.pieces;
-      tail = c.fitting_tail-tail.ensures ∙ ap (λ (t : Tail). scaled_tail q t) c.tail.ensures.tail;
-    } in
-    (made_found q f r (sizes_at (Scale q) f f 0 0) c.in_ok-pieces.pieces.items c.fitting_tail-tail.result (scale_call q f r c.requires) made).times_fit
-
-pub normalise_on-requires-clause-values : goal.normalise_on-requires-clause-values
-normalise_on-requires-clause-values c =
-    let f = c.args.f.now in
-    let q = c.args.factor in
-    let r = c.args.frame.now in
-    let made : IsMade q f c.in_ok-pieces.pieces.items c.fitting_tail-tail.result = record {
-      pieces = c.in_ok-pieces.ensures ∙ ap (λ (ps : List Piece). map (scaled_piece q) ps) c.pieces.ensures.pieces;
-      tail = c.fitting_tail-tail.ensures ∙ ap (λ (t : Tail). scaled_tail q t) c.tail.ensures.tail;
-    } in
-    (made_found q f r (sizes_at (Scale q) f f 0 0) c.in_ok-pieces.pieces.items c.fitting_tail-tail.result (scale_call q f r c.requires) made).values_fit
-
-pub normalise_on-requires-clause-grids : goal.normalise_on-requires-clause-grids
-normalise_on-requires-clause-grids c =
-    let f = c.args.f.now in
-    let q = c.args.factor in
-    let r = c.args.frame.now in
-    let made : IsMade q f c.in_ok-pieces.pieces.items c.fitting_tail-tail.result = record {
-      pieces = c.in_ok-pieces.ensures ∙ ap (λ (ps : List Piece). map (scaled_piece q) ps) c.pieces.ensures.pieces;
-      tail = c.fitting_tail-tail.ensures ∙ ap (λ (t : Tail). scaled_tail q t) c.tail.ensures.tail;
-    } in
-    (made_found q f r (sizes_at (Scale q) f f 0 0) c.in_ok-pieces.pieces.items c.fitting_tail-tail.result (scale_call q f r c.requires) made).grids
-
-pub normalise_on-requires-clause-room : goal.normalise_on-requires-clause-room
-normalise_on-requires-clause-room c =
-    let f = c.args.f.now in
-    let q = c.args.factor in
-    let r = c.args.frame.now in
-    let made : IsMade q f c.in_ok-pieces.pieces.items c.fitting_tail-tail.result = record {
-      pieces = c.in_ok-pieces.ensures ∙ ap (λ (ps : List Piece). map (scaled_piece q) ps) c.pieces.ensures.pieces;
-      tail = c.fitting_tail-tail.ensures ∙ ap (λ (t : Tail). scaled_tail q t) c.tail.ensures.tail;
-    } in
-    (made_found q f r (sizes_at (Scale q) f f 0 0) c.in_ok-pieces.pieces.items c.fitting_tail-tail.result (scale_call q f r c.requires) made).room
+    let z = sizes_at (Scale q) f f 0 0 in
+    let call = scale_call q f r c.requires in
+    let is = made (goal.at.normalise_on-requires c).After-fitting_tail-tail in
+    let found = made_found q f r z _ _ call is in
+    record {
+      raw = made_raw q f r z _ _ call is;
+      some_times = found.some_times;
+      some_values = found.some_values;
+      times = found.times_fit;
+      values = found.values_fit;
+      grids = found.grids;
+      room = found.room;
+    }
 
 pub returns : goal.returns
 returns c =
-    let f = c.args.f.now in
-    let q = c.args.factor in
-    let r = c.args.frame.now in
-    let made : IsMade q f c.in_ok-pieces.pieces.items c.fitting_tail-tail.result = record {
-      pieces = c.in_ok-pieces.ensures ∙ ap (λ (ps : List Piece). map (scaled_piece q) ps) c.pieces.ensures.pieces;
-      tail = c.fitting_tail-tail.ensures ∙ ap (λ (t : Tail). scaled_tail q t) c.tail.ensures.tail;
-    } in
-    ok_map c.normalise_on.result _ _ (λ a h. made_values q f c.in_ok-pieces.pieces.items c.fitting_tail-tail.result a made h) c.normalise_on.ensures
+    let is = made (goal.at.returns c).After-fitting_tail-tail in
+    ok_map c.normalise_on.result _ _ (λ a h. made_values c.args.factor c.args.f.now _ _ a is h) c.normalise_on.ensures

@@ -49,31 +49,23 @@ last_limit-requires-clause-finite c =
     let w = c.requires in
     subst (λ q. IsNumber (line_value (last_line q) c.args.end)) (sym c.deref-3.ensures.value) (last_fits w.0 c.args.pieces.items c.args.from c.args.end c.args.far c.args.rise w.1).1
 
-pub infimum_scan-requires-2-clause-window : goal.infimum_scan-requires-2-clause-window
-infimum_scan-requires-2-clause-window c =
+pub infimum_scan-requires-2 : goal.infimum_scan-requires-2
+infimum_scan-requires-2 c =
     let w = c.requires in
-    let ps = c.args.pieces.items in
+    let a = c.args in
+    let ps = a.pieces.items in
     let low = c.value_in.result in
     let limit = c.last_limit.result in
-    let S = subst (λ q. IsInfimumScan q c.args.end c.in_ok-once.once.items) c.deref.ensures.value c.in_ok-once.ensures in
-    let e = subst (λ q. read q c.args.from ≡ Fin low) c.deref-2.ensures.value c.value_in.ensures in
-    let k = subst (λ q. line_value (last_line q) c.args.end ≡ Fin limit) c.deref-3.ensures.value c.last_limit.ensures in
-    let all = c.deref-4.ensures.value ∙ all_is ps c.push.new.self.items c.args.end low c.args.rise limit c.sum-later.result c.lesser-level.result c.level_piece.result c.in_ok-push.ensures.items c.sum-later.ensures c.lesser-level.ensures c.level_piece.ensures in
-    subst (IsWindow c.args.far) (sym all)
-    (second_window w.0 ps c.args.from c.args.end c.args.far c.args.rise (min_q (low +ℚ c.args.rise) limit) w.1 (level_stands w.0 ps c.in_ok-once.once.items c.args.from c.args.end c.args.far c.args.rise low limit w.1 S e k))
-
-pub infimum_scan-requires-2-clause-fits : goal.infimum_scan-requires-2-clause-fits
-infimum_scan-requires-2-clause-fits c =
-    let w = c.requires in
-    let ps = c.args.pieces.items in
-    let low = c.value_in.result in
-    let limit = c.last_limit.result in
-    let S = subst (λ q. IsInfimumScan q c.args.end c.in_ok-once.once.items) c.deref.ensures.value c.in_ok-once.ensures in
-    let e = subst (λ q. read q c.args.from ≡ Fin low) c.deref-2.ensures.value c.value_in.ensures in
-    let k = subst (λ q. line_value (last_line q) c.args.end ≡ Fin limit) c.deref-3.ensures.value c.last_limit.ensures in
-    let all = c.deref-4.ensures.value ∙ all_is ps c.push.new.self.items c.args.end low c.args.rise limit c.sum-later.result c.lesser-level.result c.level_piece.result c.in_ok-push.ensures.items c.sum-later.ensures c.lesser-level.ensures c.level_piece.ensures in
-    subst (ScanFits c.args.far) (sym all)
-    (second_fits w.0 ps c.args.from c.args.end c.args.far c.args.rise (min_q (low +ℚ c.args.rise) limit) w.1 (level_stands w.0 ps c.in_ok-once.once.items c.args.from c.args.end c.args.far c.args.rise low limit w.1 S e k))
+    let S = subst (λ q. IsInfimumScan q a.end c.in_ok-once.once.items) c.deref.ensures.value c.in_ok-once.ensures in
+    let e = subst (λ q. read q a.from ≡ Fin low) c.deref-2.ensures.value c.value_in.ensures in
+    let k = subst (λ q. line_value (last_line q) a.end ≡ Fin limit) c.deref-3.ensures.value c.last_limit.ensures in
+    let all = c.deref-4.ensures.value ∙ all_is ps c.push.new.self.items a.end low a.rise limit c.sum-later.result c.lesser-level.result c.level_piece.result c.in_ok-push.ensures.items c.sum-later.ensures c.lesser-level.ensures c.level_piece.ensures in
+    let level = min_q (low +ℚ a.rise) limit in
+    let stands = level_stands w.0 ps c.in_ok-once.once.items a.from a.end a.far a.rise low limit w.1 S e k in
+    record {
+      window = subst (IsWindow a.far) (sym all) (second_window w.0 ps a.from a.end a.far a.rise level w.1 stands);
+      fits = subst (ScanFits a.far) (sym all) (second_fits w.0 ps a.from a.end a.far a.rise level w.1 stands);
+    }
 
 pub returns : goal.returns
 returns c =
