@@ -1,15 +1,15 @@
 -- What arrives as stairs: its lines are the parts of the same groups.
-use Rattle.std.proofs.Common.{◌≡◌, ℕ, zero, suc, ◌<◌, ◌≤◌, ◌+◌, ◌*◌, ◌^◌, ◌&&◌, Bool, true, false, Option, Some, None, List, [], ◌∷◌, ◌++◌, length, get_or, map, nat_lt, if◌then◌else◌, refl, sym, ◌∙◌, ap, ap₂, subst, arith, append-nil, length-append, zero-add}
-use Rattle.std.specs.Prelude.{All, is_some}
+use Rattle.std.proofs.Common.{◌≡◌, ℕ, zero, suc, ◌+◌, ◌^◌, ◌&&◌, Bool, true, false, Option, Some, None, List, [], ◌∷◌, ◌++◌, length, map, nat_lt, if◌then◌else◌, refl, sym, ◌∙◌, ap, ap₂, subst, arith, append-nil, length-append, zero-add}
+use Rattle.std.specs.Prelude.{is_some}
 use Rattle.std.specs.List.{sum_by, list_all}
 use Rattle.std.specs.Option.{option_map}
-use Rattle.std.proofs.lemmas.List.{map-append, length-map}
+use Rattle.std.proofs.lemmas.List.{map-append}
 use Rattle.std.proofs.lemmas.List.Folds.{list_all-append}
 use Rattle.std.proofs.lemmas.List.Sums.{sum_by-append, sum_by-cons}
 use Rattle.arrival_lines.specs.declared.grid.Line.{Line}
 use Rattle.arrival_lines.specs.declared.grid.Part.{Part}
 use Rattle.arrival_stairs.specs.BelowLines.{stair_burst, stair_rate, line_parts}
-use Rattle.arrival_stairs.specs.Views.{Bunch, bunch_of, bunches}
+use Rattle.arrival_stairs.specs.Views.{Bunch, bunches}
 use Rattle.arrival_stairs.specs.declared.stairs.Bundle.{Bundle}
 use Rattle.arrival_stairs.specs.declared.stairs.Stair.{Stair}
 use Rattle.arrival_stairs.proofs.OneExcess.{part_by, parts_are}
@@ -18,8 +18,8 @@ use Rattle.port_bounds.specs.StairsIncoming.{StairsIn, line_incoming, line_incom
 use Rattle.tree_network.specs.declared.network.Network.{Network}
 use Rattle.tree_network.specs.declared.spots.Spot.{Spot}
 use Rattle.tree_network.proofs.Those.{of_both}
-use Rattle.tree_bounds.specs.Bunches.{Arriving, stair_list, stairs_among, bunch_of_group, arriving_of_groups, arriving_at, arriving_below, arriving_of}
-use Rattle.tree_bounds.specs.Groups.{burst_in, rate_in, longest_of, group_of, spots_in_group, group_list, groups_at, part_of, parts_in, are_bounded, pace_line, longest_group, incoming_of_groups, incoming_at, incomings_at}
+use Rattle.tree_bounds.specs.Bunches.{Arriving, stair_list, stairs_among, bunch_of_group, arriving_at, arriving_below, arriving_of}
+use Rattle.tree_bounds.specs.Groups.{burst_in, rate_in, longest_of, group_of, spots_in_group, group_list, groups_at, part_of, are_bounded, pace_line, longest_group, incoming_at, incomings_at}
 use Rattle.tree_bounds.specs.Lines.{line_of}
 use Rattle.tree_bounds.specs.declared.groups.Group.{Group}
 use Rattle.tree_bounds.proofs.PartsMade.{both_fields}

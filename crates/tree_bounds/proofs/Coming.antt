@@ -8,8 +8,7 @@ use Rattle.std.proofs.lemmas.List.{take_more, map-append, length-map}
 use Rattle.std.proofs.lemmas.List.Elements.{filter_more}
 use Rattle.arrival_lines.specs.declared.grid.Line.{Line}
 use Rattle.arrival_lines.specs.declared.grid.Part.{Part}
-use Rattle.arrival_stairs.specs.Views.{Bunch, bunches}
-use Rattle.arrival_stairs.specs.declared.stairs.Bundle.{Bundle}
+use Rattle.arrival_stairs.specs.Views.{Bunch}
 use Rattle.arrival_stairs.specs.declared.stairs.Stair.{Stair}
 use Rattle.port_bounds.specs.Incoming.{Incoming, incoming, incoming_of}
 use Rattle.port_bounds.specs.declared.arrivals.Arrivals.{Arrivals}

@@ -1,6 +1,6 @@
 -- Port by port in the order: the rows of the ports that are done meet the equations, by the lines as they are.
-use Rattle.std.proofs.Common.{◌≡◌, ◌≢◌, ℕ, zero, suc, ◌<◌, ◌≤◌, ◌+◌, ◌==◌, ◌&&◌, Bool, true, false, Option, Some, None, List, [], ◌∷◌, ◌++◌, length, get_or, map, set, refl, sym, ◌∙◌, ap, ap₂, subst, arith, inl, inr, get_or-set_same, get_or-set_other}
-use Rattle.std.specs.Prelude.{All, is_some, slice_get}
+use Rattle.std.proofs.Common.{◌≡◌, ◌≢◌, ℕ, zero, suc, ◌<◌, ◌+◌, ◌==◌, ◌&&◌, Bool, Option, Some, None, List, [], ◌∷◌, ◌++◌, length, get_or, map, set, refl, sym, ◌∙◌, ap, ap₂, subst, arith, inl, inr, get_or-set_same, get_or-set_other}
+use Rattle.std.specs.Prelude.{All, is_some}
 use Rattle.std.specs.List.{sum_by, list_all}
 use Rattle.std.specs.Option.{option_map}
 use Rattle.std.proofs.lemmas.Bool.{cases_eq, cases_lt}
@@ -16,15 +16,15 @@ use Rattle.tree_network.specs.declared.network.Network.{Network}
 use Rattle.tree_network.specs.declared.spots.Spot.{Spot}
 use Rattle.tree_network.specs.Spots.{no_spot, spot_at, spots_of, AreSpots, ComesFrom}
 use Rattle.tree_network.specs.Lists.{those, is_from, is_between}
-use Rattle.tree_network.specs.Orders.{IsOrderOf, GoesTo, StandsAt}
+use Rattle.tree_network.specs.Orders.{IsOrderOf, GoesTo}
 use Rattle.tree_network.proofs.Those.{those_pass, those_has, eq_true, of_eq, of_both}
 use Rattle.tree_bounds.specs.Bunches.{Arriving, AreRowsOf, stair_list, stairs_among, bunch_of_group, arriving_of_groups, arriving_at, arriving_below}
 use Rattle.tree_bounds.specs.Groups.{burst_in, rate_in, group_of, is_in_group, spots_in_group, group_list, groups_at, pace_line, parts_in, longest_group}
 use Rattle.tree_bounds.specs.Lines.{line_of}
 use Rattle.tree_bounds.specs.Onward.{stair_in, BeginStairs, CanBePassedOn, ArePassedOn}
-use Rattle.tree_bounds.specs.Equations.{MeetsEquations, comes_to}
-use Rattle.tree_bounds.specs.Solved.{AreAllStairs, AreDone, AreSolved, HasRows}
-use Rattle.tree_bounds.specs.Stairs.{first_stair_of, later_stair}
+use Rattle.tree_bounds.specs.Equations.{comes_to}
+use Rattle.tree_bounds.specs.Solved.{AreAllStairs, AreDone, AreSolved}
+use Rattle.tree_bounds.specs.Stairs.{later_stair}
 use Rattle.tree_bounds.specs.Tables.{row_at}
 use Rattle.tree_bounds.specs.declared.groups.Group.{Group}
 use Rattle.tree_bounds.proofs.Bunched.{arriving_length}

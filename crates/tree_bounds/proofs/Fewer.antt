@@ -1,5 +1,5 @@
 -- At a port no more groups of spots come together than there are links, for no link has a port twice.
-use Rattle.std.proofs.Common.{◌≡◌, ℕ, zero, suc, ◌<◌, ◌≤◌, ◌+◌, ◌-◌, ◌==◌, ◌&&◌, Bool, true, false, Option, Some, None, List, [], ◌∷◌, ◌++◌, length, get_or, nat_lt, refl, sym, ◌∙◌, ap, subst, arith, inl, inr, add-one, length-append, append-nil, append_assoc}
+use Rattle.std.proofs.Common.{◌≡◌, ℕ, zero, suc, ◌<◌, ◌≤◌, ◌+◌, ◌==◌, ◌&&◌, Bool, true, false, Option, Some, None, List, [], ◌∷◌, ◌++◌, length, nat_lt, refl, sym, ◌∙◌, ap, subst, arith, inl, inr, length-append, append-nil, append_assoc}
 use Rattle.std.specs.Prelude.{slice_get}
 use Rattle.std.proofs.lemmas.Bool.{cases_eq, cases_lt}
 use Rattle.std.proofs.lemmas.Bool.Decides.{nat_tests}
@@ -15,7 +15,6 @@ use Rattle.tree_network.specs.Lists.{those}
 use Rattle.tree_network.proofs.Those.{those_zero, those_same, length_more, length_split, one_if, some_if_any}
 use Rattle.tree_network.proofs.SpotLists.{in_zero, in_more, below_zero, below_more}
 use Rattle.tree_bounds.specs.Groups.{group_list, groups_at, is_in_group, spots_in_group}
-use Rattle.tree_bounds.specs.declared.groups.Group.{Group}
 
 test_on : (a b : ℕ) → a < b → nat_lt a b ≡ true
 test_on a b h = grind (arith, nat_tests)

@@ -1,5 +1,5 @@
 -- Bundles of a queue whose parts are within their limits are within theirs.
-use Rattle.std.proofs.Common.{◌≡◌, ℕ, zero, suc, ◌<◌, ◌≤◌, ◌+◌, ◌-◌, ◌*◌, ◌/◌, ◌^◌, ◌&&◌, Bool, true, false, Option, Some, None, List, [], ◌∷◌, ◌++◌, length, get_or, map, nat_lt, if◌then◌else◌, refl, sym, ◌∙◌, ap, subst, arith, inl, inr, length-append}
+use Rattle.std.proofs.Common.{◌≡◌, ℕ, zero, suc, ◌<◌, ◌≤◌, ◌+◌, ◌*◌, ◌/◌, ◌^◌, ◌&&◌, Bool, true, false, Option, Some, None, List, [], ◌∷◌, length, get_or, map, nat_lt, if◌then◌else◌, refl, sym, ◌∙◌, ap, subst, arith, inl, inr, length-append}
 use Rattle.std.specs.Prelude.{All}
 use Rattle.std.specs.List.{sum_by, list_all}
 use Rattle.std.specs.Int.{div_ceil}
@@ -15,7 +15,7 @@ use Rattle.arrival_lines.specs.declared.grid.Part.{Part}
 use Rattle.arrival_lines.specs.declared.grid.Queue.{Queue}
 use Rattle.arrival_lines.proofs.Units.{up_covers}
 use Rattle.arrival_stairs.specs.BelowLines.{stair_burst, stair_rate}
-use Rattle.arrival_stairs.specs.Stairs.{IsStair, AreBundles, stair_level, level_part, bundle_part, levels_at}
+use Rattle.arrival_stairs.specs.Stairs.{IsStair, AreBundles, stair_level, level_part, levels_at}
 use Rattle.arrival_stairs.specs.Views.{Bunch, bunch_of, bunches}
 use Rattle.arrival_stairs.specs.declared.stairs.Bundle.{Bundle}
 use Rattle.arrival_stairs.specs.declared.stairs.Stair.{Stair}
@@ -24,7 +24,7 @@ use Rattle.port_bounds.specs.StairsIncoming.{StairsIn, AreStairsInRange, stairs_
 use Rattle.tree_network.specs.Networks.{IsNetwork, longest_frame, fastest, port_at}
 use Rattle.tree_network.specs.declared.network.Network.{Network}
 use Rattle.tree_network.specs.declared.spots.Spot.{Spot}
-use Rattle.tree_network.specs.Spots.{spots_of, AreSpots}
+use Rattle.tree_network.specs.Spots.{spots_of}
 use Rattle.tree_network.proofs.InRange.{in_range as spots_in_range}
 use Rattle.tree_network.proofs.Those.{of_both, those_pass}
 use Rattle.port_bounds.specs.Incoming.{Incoming}
@@ -32,7 +32,7 @@ use Rattle.port_bounds.specs.Ranges.{AreInRange}
 use Rattle.port_bounds.specs.StairRows.{AreStairRows}
 use Rattle.tree_bounds.specs.Bunches.{Arriving, AreRowsOf, stair_list, stairs_among, bunch_of_group, arriving_at, arriving_below, arriving_of}
 use Rattle.tree_bounds.specs.Equations.{comes_to}
-use Rattle.tree_bounds.specs.Groups.{is_in_group, spots_in_group, group_list, groups_at, part_of, parts_in, are_bounded, sum_burst, sum_rate, pace_line}
+use Rattle.tree_bounds.specs.Groups.{is_in_group, spots_in_group, group_list, groups_at, part_of, are_bounded, sum_burst, sum_rate}
 use Rattle.tree_bounds.specs.Lines.{line_of}
 use Rattle.tree_bounds.specs.Parts.{IsOfNetwork}
 use Rattle.tree_bounds.specs.declared.groups.Group.{Group}

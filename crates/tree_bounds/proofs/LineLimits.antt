@@ -1,5 +1,5 @@
 -- The limits of lines.
-use Rattle.std.proofs.Common.{◌≡◌, ℕ, ◌<◌, ◌≤◌, ◌^◌, ◌&&◌, Bool, true, false, Some, None, ◌⊎◌, inl, inr, nat_lt, refl, arith}
+use Rattle.std.proofs.Common.{◌≡◌, ℕ, ◌<◌, ◌≤◌, ◌^◌, Bool, true, false, Some, None, ◌⊎◌, inl, inr, nat_lt, refl, arith}
 use Rattle.std.proofs.lemmas.Bool.Decides.{nat_tests}
 use Rattle.arrival_lines.specs.declared.grid.Line.{Line}
 use Rattle.tree_bounds.specs.Lines.{line_within}

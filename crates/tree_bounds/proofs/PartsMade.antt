@@ -1,11 +1,10 @@
 -- Groups made parts.
-use Rattle.std.proofs.Common.{◌≡◌, ℕ, zero, suc, ◌<◌, ◌≤◌, ◌+◌, ◌*◌, ◌^◌, ◌&&◌, max, Bool, true, false, Option, Some, None, List, [], ◌∷◌, ◌++◌, ◌⊎◌, inl, inr, length, get_or, map, nat_lt, take, if◌then◌else◌, refl, sym, ◌∙◌, ap, subst, arith}
+use Rattle.std.proofs.Common.{◌≡◌, ℕ, zero, suc, ◌<◌, ◌≤◌, ◌+◌, ◌*◌, ◌^◌, ◌&&◌, max, Bool, true, false, Option, Some, None, List, [], ◌∷◌, ◌++◌, inl, inr, length, get_or, map, nat_lt, take, if◌then◌else◌, refl, sym, ◌∙◌, ap, arith}
 use Rattle.std.specs.List.{sum_by, list_all}
 use Rattle.std.proofs.lemmas.Bool.Decides.{nat_tests}
 use Rattle.std.proofs.lemmas.List.{take_more, map-append}
 use Rattle.std.proofs.lemmas.List.Folds.{list_all_more}
-use Rattle.std.proofs.lemmas.List.Sums.{sum_by_more, sum_by-cons}
-use Rattle.arrival_lines.specs.declared.grid.Line.{Line}
+use Rattle.std.proofs.lemmas.List.Sums.{sum_by-cons}
 use Rattle.arrival_lines.specs.declared.grid.Part.{Part}
 use Rattle.tree_network.specs.declared.network.Network.{Network}
 use Rattle.tree_bounds.specs.Groups.{part_of, parts_in, are_bounded, sum_burst, sum_rate, longest_group}

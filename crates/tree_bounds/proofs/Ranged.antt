@@ -1,5 +1,5 @@
 -- What arrives at a port's queues is in range.
-use Rattle.std.proofs.Common.{◌≡◌, ℕ, zero, suc, ◌<◌, ◌≤◌, ◌+◌, ◌-◌, ◌*◌, ◌^◌, ◌&&◌, max, Bool, true, false, Option, Some, None, List, [], ◌∷◌, ◌++◌, length, get_or, map, nat_lt, refl, sym, ◌∙◌, ap, subst, arith, add-zero, add-one, length-append}
+use Rattle.std.proofs.Common.{◌≡◌, ℕ, zero, suc, ◌<◌, ◌≤◌, ◌+◌, ◌-◌, ◌*◌, ◌^◌, ◌&&◌, Bool, true, false, Option, Some, None, List, [], ◌∷◌, ◌++◌, length, get_or, map, nat_lt, refl, ◌∙◌, ap, arith, add-one, length-append}
 use Rattle.std.specs.Prelude.{All}
 use Rattle.std.specs.List.{sum_by, list_all}
 use Rattle.std.proofs.lemmas.Bool.Decides.{nat_tests}

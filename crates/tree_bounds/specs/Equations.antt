@@ -1,10 +1,9 @@
 -- The equations of a network: what is promised of each queue of each port, by what the promises of the ports before bring there.
-use Rattle.std.specs.Prelude.{Option, Some, None, ◌≡◌, ◌<◌, ℕ, suc, List, length, slice_get}
+use Rattle.std.specs.Prelude.{Option, ◌≡◌, ◌<◌, ℕ, suc, List, length, slice_get}
 use Rattle.arrival_stairs.specs.declared.stairs.Stair.{Stair}
 use Rattle.arrival_lines.specs.declared.grid.Queue.{Queue}
 use Rattle.tree_network.specs.Networks.{port_at, queues_of}
 use Rattle.tree_network.specs.declared.network.Network.{Network}
-use Rattle.tree_network.specs.declared.spots.Spot.{Spot}
 use Rattle.tree_network.specs.Spots.{spot_at, spots_of}
 use Rattle.port_bounds.specs.Incoming.{Incoming}
 use Rattle.tree_bounds.specs.Stairs.{first_stair_of, later_stair}

@@ -1,5 +1,5 @@
 -- Spots of a queue grouped one after the other, those of one source that follow each other together. Own choice.
-use Rattle.std.specs.Prelude.{Option, Some, None, ◌≡◌, ◌+◌, ◌*◌, ◌<◌, ◌^◌, ◌==◌, ◌&&◌, ℕ, max, All, Bool, List, [], ◌∷◌, length, fold, is_some, if◌then◌else◌}
+use Rattle.std.specs.Prelude.{Option, ◌≡◌, ◌+◌, ◌<◌, ◌^◌, ◌==◌, ◌&&◌, ℕ, max, All, List, [], ◌∷◌, length, fold, is_some, if◌then◌else◌}
 use Rattle.std.specs.List.{flat_map}
 use Rattle.arrival_lines.specs.declared.grid.Line.{Line}
 use Rattle.tree_network.specs.declared.spots.Spot.{Spot}

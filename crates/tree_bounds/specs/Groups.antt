@@ -1,6 +1,6 @@
 -- What arrives at a queue: the links that begin there are one part, and those that come from one port another, cut by that port's pace.
 -- (Grouping of flows by their input link.)
-use Rattle.std.specs.Prelude.{Option, Some, None, ◌+◌, ◌*◌, ◌^◌, ◌==◌, ◌&&◌, ℕ, zero, suc, max, Bool, true, List, [], ◌∷◌, ◌++◌, length, map, is_some, nat_lt, if◌then◌else◌}
+use Rattle.std.specs.Prelude.{Option, Some, None, ◌+◌, ◌*◌, ◌^◌, ◌==◌, ◌&&◌, ℕ, zero, suc, max, Bool, List, [], ◌∷◌, ◌++◌, length, map, is_some, nat_lt, if◌then◌else◌}
 use Rattle.std.specs.List.{sum_by, list_all}
 use Rattle.arrival_lines.specs.declared.grid.Line.{Line}
 use Rattle.arrival_lines.specs.declared.grid.Part.{Part}

@@ -1,5 +1,5 @@
 -- The stairs of spots as ports pass them on. Own choice.
-use Rattle.std.specs.Prelude.{Option, Some, None, ◌≡◌, ◌<◌, ℕ, List, length, get_or, slice_get}
+use Rattle.std.specs.Prelude.{Option, None, ◌≡◌, ◌<◌, ℕ, List, length, get_or, slice_get}
 use Rattle.arrival_stairs.specs.declared.stairs.Stair.{Stair}
 use Rattle.arrival_lines.specs.declared.grid.Queue.{Queue}
 use Rattle.tree_network.specs.declared.network.Network.{Network}

@@ -1,5 +1,5 @@
 -- Which groups can be made parts. Own choice.
-use Rattle.std.specs.Prelude.{Option, Some, None, ◌≡◌, ◌⊎◌, ◌<◌, ◌≤◌, ◌^◌, ℕ, true, false, List, All, length}
+use Rattle.std.specs.Prelude.{◌≡◌, ◌⊎◌, ◌≤◌, ◌^◌, true, false, length}
 use Rattle.arrival_lines.specs.declared.grid.Part.{Part}
 use Rattle.tree_network.specs.Networks.{longest_frame}
 use Rattle.tree_network.specs.declared.network.Network.{Network}

@@ -1,12 +1,11 @@
 -- Rows and bounds, as far as they go. Own choice.
-use Rattle.std.specs.Prelude.{Option, Some, None, ◌≡◌, ◌<◌, ◌+◌, ℕ, suc, List, [], length, get_or, slice_get}
+use Rattle.std.specs.Prelude.{Option, Some, ◌≡◌, ◌<◌, ℕ, suc, List, [], length, get_or, slice_get}
 use Rattle.arrival_stairs.specs.Stairs.{IsStair}
 use Rattle.arrival_stairs.specs.declared.stairs.Stair.{Stair}
 use Rattle.arrival_lines.specs.declared.grid.Queue.{Queue}
 use Rattle.tree_network.specs.Networks.{port_at, queues_of}
 use Rattle.tree_network.specs.declared.network.Link.{Link}
 use Rattle.tree_network.specs.declared.network.Network.{Network}
-use Rattle.tree_network.specs.declared.spots.Spot.{Spot}
 use Rattle.tree_network.specs.Spots.{spot_at, spots_of}
 use Rattle.tree_bounds.specs.Stairs.{first_stair_of, later_stair}
 use Rattle.tree_bounds.specs.Onward.{stair_in}

@@ -1,11 +1,11 @@
 -- The last step of a sum of parts: from some time on it is the sum, and no faster than the links together.
 use Rattle.std.specs.Prelude.{Option, Some, None, ◌≡◌, ℕ, ◌+◌, ◌-◌, ◌<◌, ◌≤◌, List, [], ◌∷◌}
 use Rattle.std.specs.List.{sum_by}
-use Rattle.std.proofs.Common.{arith, sym, ap, ◌∙◌, refl, subst, inl, inr}
+use Rattle.std.proofs.Common.{arith, ap, ◌∙◌, refl, inl, inr}
 use Rattle.std.proofs.lemmas.Bool.{cases_lt}
 use Rattle.std.proofs.lemmas.List.Sums.{sum_by-cons}
 use Rattle.min_plus.specs.rational.specs.Rational.{ℚ, ◌+ℚ◌, ◌*ℚ◌, ◌/ℚ◌, ◌≤ℚ◌, ◌<ℚ◌}
-use Rattle.min_plus.specs.rational.specs.MinMax.{min_q, max_q}
+use Rattle.min_plus.specs.rational.specs.MinMax.{max_q}
 use Rattle.min_plus.specs.rational.proofs.Laws.{le_refl, le_trans, zero_mul, mul_comm, mul_le_mul, add_mul, mul_le_mul_right, div_mul, not_zero}
 use Rattle.min_plus.specs.rational.proofs.MinMax.{min_q_le_left, min_q_le_right, min_q_ge, max_q_ge_left, max_q_ge_right}
 use Rattle.min_plus.specs.rational.proofs.Quotients.{div_nonneg}
@@ -13,7 +13,7 @@ use Rattle.min_plus.specs.rational.proofs.Linear.{with1, with2, with4, with6}
 use Rattle.min_plus.specs.Functions.{zero_q, whole}
 use Rattle.arrival_lines.specs.Excess.{IsEndless}
 use Rattle.arrival_lines.specs.Grid.{grain, grain_a_second, bits, speed, line_value, lesser, part_value, parts_value}
-use Rattle.arrival_lines.specs.Steps.{IsAbove, IsStep}
+use Rattle.arrival_lines.specs.Steps.{IsStep}
 use Rattle.arrival_lines.specs.declared.grid.Line.{Line}
 use Rattle.arrival_lines.specs.declared.grid.Part.{Part}
 use Rattle.arrival_lines.proofs.OnGrid.{total_on_grid}

@@ -1,7 +1,7 @@
-use Rattle.std.proofs.Common.{◌≡◌, ◌<◌, ◌≤◌, ◌+◌, ℕ, List, length, map, sym, ◌∙◌, ap, subst, arith}
+use Rattle.std.proofs.Common.{ℕ, List, length, map, sym, ◌∙◌, ap, subst, arith}
 use Rattle.std.proofs.lemmas.List.{length-map, get_or_default}
 use Rattle.std.proofs.lemmas.Result.{IfOk-weaker}
-use Rattle.tree_network.specs.Networks.{PortIsInRange, port_at, no_port, queues_of}
+use Rattle.tree_network.specs.Networks.{PortIsInRange, no_port, queues_of}
 use Rattle.tree_network.specs.declared.network.Port.{Port}
 use Rattle.tree_network.specs.Spots.{spots_of}
 use Rattle.port_bounds.specs.Incoming.{incoming, incoming_of}

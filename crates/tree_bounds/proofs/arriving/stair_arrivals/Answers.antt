@@ -1,4 +1,3 @@
-use Rattle.std.proofs.Common.{ℕ}
 use Rattle.arrival_stairs.specs.Views.{bunches}
 use Rattle.tree_network.specs.Spots.{spots_of}
 use Rattle.tree_bounds.specs.Onward.{stair_in}

@@ -1,4 +1,4 @@
-use Rattle.std.proofs.Common.{◌≡◌, ◌++◌, ◌<◌, ℕ, None, List, length, get_or, ◌∙◌, ap, arith}
+use Rattle.std.proofs.Common.{◌++◌, ◌<◌, ℕ, None, List, length, get_or, ◌∙◌, ap}
 use Rattle.std.proofs.lemmas.List.{take_all, get_or_default}
 use Rattle.arrival_stairs.specs.declared.stairs.Stair.{Stair}
 use Rattle.tree_bounds.specs.Bunches.{stair_list, stairs_among}

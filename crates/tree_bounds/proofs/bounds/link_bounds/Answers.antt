@@ -1,8 +1,8 @@
-use Rattle.std.proofs.Common.{◌≡◌, ◌<◌, ◌≤◌, ◌+◌, ◌*◌, ◌^◌, ℕ, Option, List, length, get_or, sym, ◌∙◌, ap, subst, arith}
+use Rattle.std.proofs.Common.{◌<◌, ◌≤◌, ◌+◌, ◌*◌, ◌^◌, ℕ, Option, List, length, get_or, sym, ◌∙◌, ap, subst, arith}
 use Rattle.std.specs.Prelude.{IfSome}
 use Rattle.std.proofs.lemmas.List.{get_or_default}
 use Rattle.arrival_lines.specs.declared.grid.Queue.{Queue}
-use Rattle.tree_network.specs.Networks.{node_at, no_node, port_at, no_port, HangsBefore}
+use Rattle.tree_network.specs.Networks.{no_node, port_at, no_port, HangsBefore}
 use Rattle.tree_network.specs.declared.network.Port.{Port}
 use Rattle.tree_network.specs.declared.network.Node.{Node}
 use Rattle.tree_bounds.specs.Tables.{items_of, row_at, time_after, time_before}

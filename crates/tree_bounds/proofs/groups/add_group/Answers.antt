@@ -1,4 +1,4 @@
-use Rattle.std.proofs.Common.{◌≡◌, ◌<◌, ◌+◌, ◌^◌, ◌++◌, ◌∷◌, [], List, length, ◌∙◌, ap, sym, arith}
+use Rattle.std.proofs.Common.{◌≡◌, length, ◌∙◌, sym, arith}
 use Rattle.std.proofs.lemmas.Result.{on_ok_weaker}
 use Rattle.tree_bounds.proofs.Grouped.{with_nothing, with_rest}
 use Rattle.tree_bounds.proofs.groups.add_group.Goals as goal

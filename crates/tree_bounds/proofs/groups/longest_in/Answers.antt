@@ -1,4 +1,4 @@
-use Rattle.std.proofs.Common.{◌≡◌, ◌≤◌, ◌∙◌, ap, arith}
+use Rattle.std.proofs.Common.{◌∙◌, ap}
 use Rattle.std.proofs.lemmas.List.{take_all}
 use Rattle.tree_bounds.specs.Groups.{longest_group}
 use Rattle.tree_bounds.proofs.PartsMade.{longest_more, longest_zero}

@@ -1,4 +1,3 @@
-use Rattle.std.proofs.Common.{◌≡◌, ◌∙◌, ap}
 use Rattle.tree_bounds.proofs.PartsMade.{same_incoming}
 use Rattle.tree_bounds.proofs.incoming.arrivals.Goals as goal
 

@@ -1,11 +1,11 @@
-use Rattle.std.proofs.Common.{◌≡◌, ◌<◌, ◌≤◌, ◌*◌, Option, Some, None, length, ap, sym, subst, ◌∙◌, refl, arith}
+use Rattle.std.proofs.Common.{Option, length, ap, sym, subst, ◌∙◌, refl}
 use Rattle.std.specs.Option.{IfSome}
 use Rattle.std.proofs.lemmas.Option.{slice_get_read}
 use Rattle.arrival_stairs.specs.Stairs.{IsStair}
 use Rattle.arrival_stairs.specs.declared.stairs.Stair.{Stair}
-use Rattle.tree_network.specs.Networks.{IsLink, longest_frame}
+use Rattle.tree_network.specs.Networks.{IsLink}
 use Rattle.tree_network.specs.declared.network.Link.{Link}
-use Rattle.tree_bounds.specs.Stairs.{first_stair, first_stair_of}
+use Rattle.tree_bounds.specs.Stairs.{first_stair_of}
 use Rattle.tree_bounds.proofs.Onwards.{first_range}
 use Rattle.tree_bounds.proofs.onward.first_stair_at.Goals as goal
 

@@ -1,5 +1,4 @@
-use Rattle.std.proofs.Common.{◌≡◌, ◌<◌, ◌+◌, ℕ, Option, Some, None, List, [], ◌∷◌, ◌++◌, subst, sym, refl, arith}
-use Rattle.arrival_stairs.specs.Stairs.{IsStair}
+use Rattle.std.proofs.Common.{◌+◌, Option, List, subst, sym, refl, arith}
 use Rattle.arrival_stairs.specs.declared.stairs.Stair.{Stair}
 use Rattle.tree_bounds.specs.Onward.{BeginStairs}
 use Rattle.tree_bounds.specs.Solved.{AreAllStairs}

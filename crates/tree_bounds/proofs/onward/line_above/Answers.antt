@@ -1,4 +1,4 @@
-use Rattle.std.proofs.Common.{◌≡◌, ◌≤◌, ◌+◌, ◌*◌, ◌^◌, ◌∙◌, ap}
+use Rattle.std.proofs.Common.{◌∙◌, ap}
 use Rattle.arrival_stairs.specs.BelowLines.{stair_burst, stair_rate}
 use Rattle.tree_bounds.specs.Lines.{line_within}
 use Rattle.tree_bounds.proofs.LineLimits.{none_within}

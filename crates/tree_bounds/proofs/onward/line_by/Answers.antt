@@ -1,6 +1,5 @@
-use Rattle.std.proofs.Common.{◌≡◌, ◌∙◌, Option, Some, None, ap, sym}
+use Rattle.std.proofs.Common.{◌∙◌, None, ap, sym}
 use Rattle.std.proofs.lemmas.List.{get_or_default}
-use Rattle.arrival_stairs.specs.declared.stairs.Stair.{Stair}
 use Rattle.tree_bounds.specs.Lines.{line_of}
 use Rattle.tree_bounds.proofs.onward.line_by.Goals as goal
 

@@ -1,8 +1,7 @@
-use Rattle.std.proofs.Common.{◌≡◌, ◌<◌, ◌+◌, ℕ, Option, None, List, length, get_or, set, arith, subst, sym, ◌∙◌, ap}
+use Rattle.std.proofs.Common.{◌<◌, None, length, get_or, arith, ◌∙◌, ap}
 use Rattle.std.proofs.lemmas.List.{get_or_default}
 use Rattle.tree_network.specs.Spots.{spot_at}
 use Rattle.tree_bounds.specs.Stairs.{later_stair}
-use Rattle.tree_bounds.specs.Onward.{ArePassedOn}
 use Rattle.tree_bounds.proofs.Onwards.{none_passed, one_passed}
 use Rattle.tree_bounds.proofs.onward.pass_on.Goals as goal
 

@@ -1,5 +1,4 @@
-use Rattle.std.proofs.Common.{◌≡◌, ◌≤◌, ◌+◌, ◌^◌, ◌∙◌, ap, arith}
-use Rattle.tree_bounds.specs.Stairs.{stair_within}
+use Rattle.std.proofs.Common.{◌+◌, arith}
 use Rattle.tree_bounds.proofs.Onwards.{none_within}
 use Rattle.tree_bounds.proofs.onward.stair_behind.Goals as goal
 

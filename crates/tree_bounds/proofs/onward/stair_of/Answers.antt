@@ -1,4 +1,4 @@
-use Rattle.std.proofs.Common.{◌≤◌, ◌*◌, arith}
+use Rattle.std.proofs.Common.{arith}
 use Rattle.tree_network.specs.Networks.{longest_frame}
 use Rattle.tree_bounds.proofs.onward.stair_of.Goals as goal
 
