@@ -1,12 +1,12 @@
 -- A call for the horizontal deviation within its limits: what its window gives, and that the longest lag in it is the deviation.
-use Rattle.std.specs.Prelude.{◌≡◌, suc, pos}
+use Rattle.std.specs.Prelude.{◌≡◌, ℕ, suc, ◌≤◌, pos}
 use Rattle.std.proofs.Common.{arith, sym, ◌∙◌, subst, inl, inr}
 use Rattle.upp_limits.specs.rational.specs.Rational.{ℚ, ◌*ℚ◌, ◌≤ℚ◌, ◌<ℚ◌, int}
 use Rattle.upp_limits.specs.rational.specs.Extended.{◌≤ₑ◌, ◌<ₑ◌}
 use Rattle.upp_limits.specs.rational.specs.declared.Extended.TheVariants.{Fin, Inf}
 use Rattle.upp_limits.specs.rational.proofs.Linear.{with2}
 use Rattle.upp_limits.specs.rational.proofs.Laws.{le_refl, le_trans, le_of_lt, le_lt_trans, mul_le_mul_right, le_of_not_lt}
-use Rattle.upp_limits.specs.rational.proofs.ExtendedOrder.{same_le_ext}
+use Rattle.upp_limits.specs.rational.proofs.ExtendedOrder.{same_le_ext, le_ext_trans}
 use Rattle.upp_limits.specs.declared.op_kind.OpKind.TheVariants.{Horizontal}
 use Rattle.upp_limits.specs.upp_curve.specs.Curve.{SpecCurve, value_at}
 use Rattle.upp_limits.specs.upp_curve.specs.Curves.{IsCurve}
@@ -26,11 +26,13 @@ use Rattle.curve_call.proofs.RateRises.{rate_rise, infinite_value}
 use Rattle.curve_deviation.specs.Parts.{IsFiniteInSizes}
 use Rattle.curve_deviation.specs.Lags.{IsLongestLag}
 use Rattle.curve_deviation.specs.declared.horizontals.Periods.{Periods}
-use Rattle.curve_deviation.specs.Stages.{AreFinite, settled, AreFound}
+use Rattle.curve_deviation.specs.Stages.{AreFinite, settled, AreFound, IsEnough}
 use Rattle.curve_deviation.proofs.KnownLags.{first_repeats, second_repeats, reaches}
 use Rattle.curve_deviation.proofs.Lagging.{Always, longest_is}
 use Rattle.curve_deviation.proofs.LateLags.{constant_late, rising_late}
 use Rattle.curve_deviation.proofs.PeriodsFound.{found_least}
+use Rattle.curve_deviation.proofs.Searching.{later_periods}
+use Rattle.curve_deviation.proofs.SoonerLags.{settled_nonneg, sooner_lag}
 use Rattle.curve_deviation.proofs.WindowTimes.{WindowTimes, times_at, periods_low, settled_is}
 use Rattle.upp_limits.specs.upp_curve.proofs.SteadyTimes.{steady_nonneg}
 use Rattle.curve_call.proofs.CurveTimes.{common_some}
@@ -49,36 +51,39 @@ pub record IsReady (z : Sizes) (f g : SpecCurve) (until end : ℚ) : Type 0 wher
   pub before : at <ℚ end
   pub reached : value_at f until ≤ₑ value_at g at
 
-ready_at : (f g : SpecCurve) (p : Periods) → IsCurve f → IsCurve g → AreFinite f g → IsLeastPeriods Horizontal f g p.first p.second → WindowTimes (sizes_at Horizontal f g p.first p.second) f g p.first p.second (window_at Horizontal f g p.first p.second) (common_period f g)
-    → IsReady (sizes_at Horizontal f g p.first p.second) f g (settled f g p.first) (window_at Horizontal f g p.first p.second)
-ready_at f g p F G both least W =
+ready_at : (f g : SpecCurve) (p : Periods) (k : ℕ) → IsCurve f → IsCurve g → AreFinite f g → k ≤ p.first → IsLeastPeriods Horizontal f g p.first p.second
+    → WindowTimes (sizes_at Horizontal f g p.first p.second) f g p.first p.second (window_at Horizontal f g p.first p.second) (common_period f g)
+    → IsReady (sizes_at Horizontal f g p.first p.second) f g (settled f g k) (window_at Horizontal f g p.first p.second)
+ready_at f g p k F G both few least W =
     let d = common_period f g in
     let some = common_some f g F G in
     let z = sizes_at Horizontal f g p.first p.second in
     let H = window_at Horizontal f g p.first p.second in
-    let t = settled f g p.first in
-    let u = periods_after t p.second d in
-    let low = le_trans (steady_nonneg f F) (periods_low (steady f) d (suc p.first) some) in
-    let more = periods_low t d p.second some in
+    let t = settled f g k in
+    let last = settled f g p.first in
+    let u = periods_after last p.second d in
+    let low = settled_nonneg f g k F G in
+    let sooner : t ≤ℚ last = later_periods (steady f) d (suc k) (suc p.first) some (omega (arith, few)) in
+    let more = periods_low last d p.second some in
     let early : u <ℚ H = subst (λ x. x <ℚ H) W.is W.once.before in
     record {
       first = W.seen.first;
       second = W.seen.second;
-      time = record { whole = whole_add z.dt (steady f) (int (pos (suc p.first)) *ℚ d) W.seen.start (whole_times z.dt (pos (suc p.first)) d W.seen.period.whole); nonneg = low; before = le_lt_trans more early };
+      time = record { whole = whole_add z.dt (steady f) (int (pos (suc k)) *ℚ d) W.seen.start (whole_times z.dt (pos (suc k)) d W.seen.period.whole); nonneg = low; before = le_lt_trans (le_trans sooner more) early };
       at = u;
-      low = le_trans low more;
+      low = le_trans low (le_trans sooner more);
       before = early;
-      reached = least.second.meets;
+      reached = le_ext_trans (value_at f t) (value_at f last) (value_at g u) (both.first_rises t last low sooner) least.second.meets;
     }
 
-pub ready : (f g : SpecCurve) (p : Periods) (r : Frame) → AreFinite f g → AreFound f g p → IsFrame Horizontal f g p.first p.second r → IsReady (sizes_to f g r.end) f g p.until r.end
+pub ready : (f g : SpecCurve) (p : Periods) (r : Frame) (t : ℚ) → AreFinite f g → AreFound f g p → IsFrame Horizontal f g p.first p.second r → IsEnough f g p.first t → IsReady (sizes_to f g r.end) f g t r.end
 unfolding sizes_to
-ready f g p r both A h =
+ready f g p r t both A h E =
     let least = found_least f g p h.first h.second A h.gauge in
     let W = times_at f g p.first p.second h.first h.second both.first both.second h.gauge in
-    let found = ready_at f g p h.first h.second both least W in
-    subst (λ e. IsReady (sizes_of e (numbers_over Horizontal f g e)) f g p.until e) (sym h.end)
-    (subst (λ t. IsReady (sizes_at Horizontal f g p.first p.second) f g t (window_at Horizontal f g p.first p.second)) (sym A.until) found)
+    let found = ready_at f g p E.count h.first h.second both E.few least W in
+    subst (λ e. IsReady (sizes_of e (numbers_over Horizontal f g e)) f g t e) (sym h.end)
+    (subst (λ t. IsReady (sizes_at Horizontal f g p.first p.second) f g t (window_at Horizontal f g p.first p.second)) (sym E.time) found)
 
 -- ---- the curve that is not the faster rises no more
 no_faster : (f g : SpecCurve) (d : ℚ) → IsCurve f → IsCurve g → IsFinite (value_at f) → IsFinite (value_at g) → int (pos 0) <ℚ d → ¬ (rate g <ₑ rate f) → rise_over f d ≤ℚ rise_over g d
@@ -114,9 +119,9 @@ whole_lag f g p q F G both looks least L =
           (subst (λ t. IsLongestLag (λ s. s <ℚ t) (value_at f) (value_at g) q) is L)
     ]
 
-pub deviation_is : (f g : SpecCurve) (p : Periods) (r : Frame) (q : ℚ) → AreFinite f g → ¬ (IsKnownAtOnce Horizontal f g) → AreFound f g p → IsFrame Horizontal f g p.first p.second r
-    → IsLongestLag (λ s. s <ℚ p.until) (value_at f) (value_at g) q → IsHorizontalDeviation (value_at f) (value_at g) (Fin q)
-deviation_is f g p r q both looks A h L =
+pub deviation_is : (f g : SpecCurve) (p : Periods) (r : Frame) (t q : ℚ) → AreFinite f g → ¬ (IsKnownAtOnce Horizontal f g) → AreFound f g p → IsFrame Horizontal f g p.first p.second r → IsEnough f g p.first t
+    → IsLongestLag (λ s. s <ℚ t) (value_at f) (value_at g) q → IsHorizontalDeviation (value_at f) (value_at g) (Fin q)
+deviation_is f g p r t q both looks A h E L =
     let least = found_least f g p h.first h.second A h.gauge in
     longest_is (value_at f) (value_at g) q both.second both.second_rises (reaches f g h.first h.second both.second both.second_rises)
-    (whole_lag f g p q h.first h.second both looks least (subst (λ t. IsLongestLag (λ s. s <ℚ t) (value_at f) (value_at g) q) A.until L))
+    (whole_lag f g p q h.first h.second both looks least (sooner_lag f g p.first t q h.first h.second both E L))

@@ -15,4 +15,5 @@ pub mod LateLags
 pub mod WindowTimes
 pub mod Searching
 pub mod PeriodsFound
+pub mod SoonerLags
 pub mod HorizontalCall

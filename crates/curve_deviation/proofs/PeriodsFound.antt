@@ -45,7 +45,7 @@ use Rattle.curve_deviation.specs.Parts.{IsFiniteInSizes}
 use Rattle.curve_deviation.proofs.EarlyParts.{endless, early_here}
 use Rattle.curve_deviation.specs.declared.horizontals.Periods.{Periods}
 use Rattle.curve_deviation.specs.declared.horizontals.Turn.{Turn}
-use Rattle.curve_deviation.specs.Stages.{AreFinite, HasLeft, HasReached, settled, IsPast, IsWideCall, IsFirst, IsSettledAt, IsNarrowWindow, AreFound, Meets as StageMeets}
+use Rattle.curve_deviation.specs.Stages.{AreFinite, HasLeft, HasReached, settled, IsPast, IsWideCall, IsFirst, IsSettledAt, AreFound, Meets as StageMeets}
 use Rattle.curve_deviation.specs.declared.search.Stage.{Stage}
 use Rattle.curve_deviation.proofs.Searching.{unmet_before}
 use Rattle.curve_deviation.proofs.KnownLags.{first_repeats}

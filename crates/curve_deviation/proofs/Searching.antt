@@ -21,7 +21,7 @@ use Rattle.upp_limits.specs.upp_curve.proofs.SteadyTimes.{steady_nonneg}
 use Rattle.curve_call.proofs.CurveTimes.{common_some}
 
 -- more periods are later
-later_periods : (T d : ℚ) (i k : ℕ) → int (pos 0) <ℚ d → i ≤ k → periods_after T i d ≤ℚ periods_after T k d
+pub later_periods : (T d : ℚ) (i k : ℕ) → int (pos 0) <ℚ d → i ≤ k → periods_after T i d ≤ℚ periods_after T k d
 later_periods T d i k some h =
     let m = mul_le_mul_right d (le_of_lt some) (nat_le i k h) in
     let x = int (pos i) *ℚ d in

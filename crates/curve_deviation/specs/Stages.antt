@@ -85,3 +85,10 @@ pub record IsSettledAt (f g : SpecCurve) (first : ℕ) (t : Turn) : Type 0 where
 pub record IsFoundCall (f g : SpecCurve) (c : FoundCall) : Type 0 where
   pub found : AreFound f g c.periods
   pub frame : IsFrame Horizontal f g c.periods.first c.periods.second c.frame
+
+-- when f has settled after so many periods, or fewer with which g is then no lower than f is after all of them
+pub record IsEnough (f g : SpecCurve) (first : ℕ) (t : ℚ) : Type 0 where
+  pub count : ℕ
+  pub few : count ≤ first
+  pub time : t ≡ settled f g count
+  pub reached : count < first → value_at f (settled f g first) ≤ₑ value_at g t

@@ -11,7 +11,7 @@ ghost use Rattle.upp_limits.specs.min_plus.specs.Deviations.{IsHorizontalDeviati
 ghost use Rattle.upp_limits.specs.Outcome.{KeepsLimits};
 ghost use Rattle.curve_call.specs.Frames.{IsFrame};
 ghost use Rattle.curve_deviation.specs.Parts.{IsFiniteInSizes};
-ghost use Rattle.curve_deviation.specs.Stages.{AreFinite, IsNarrowWindow, IsWideCall, IsFirst, IsSettledAt, AreFound, HasLeft, HasReached, IsFoundCall};
+ghost use Rattle.curve_deviation.specs.Stages.{AreFinite, IsNarrowWindow, IsWideCall, IsFirst, IsSettledAt, AreFound, HasLeft, HasReached, settled, IsFoundCall, IsEnough};
 
 use crate::guesses::{Guess, likely_numbers};
 use crate::known::is_known;
@@ -143,6 +143,62 @@ fn periods_of(f: &Curve, g: &Curve) -> Option<Periods>
     }
 }
 
+/// Whether g is at the level or above it when f has settled after k periods.
+fn is_reached(f: &Curve, g: &Curve, level: Frac, k: u128) -> bool
+    requires both { AreFinite f.now g.now }
+    requires narrow { gauge_at OpKind.Horizontal f.now g.now k 0 < 2 ^ 120 }
+    ensures { IsTrue result → HasReached k level f.now g.now 0 }
+{
+    let window = known_window(f, g, k, 0);
+    if is_below(f, g, level, &window) {
+        false
+    } else {
+        true
+    }
+}
+
+/// So few periods, that g is at the level or above it when f has settled after them: by halving, while it is; `first`
+/// where half of that are too few.
+fn fewer_periods(f: &Curve, g: &Curve, level: Frac, first: u128) -> u128
+    requires both { AreFinite f.now g.now }
+    requires narrow { gauge_at OpKind.Horizontal f.now g.now first 0 < 2 ^ 120 }
+    ensures few { result ≤ first }
+    ensures reached { result < first → HasReached result level f.now g.now 0 }
+{
+    f.keeps();
+    g.keeps();
+    let mut k = first;
+    while k > 0 {
+        let half = k / 2;
+        if !is_reached(f, g, level, half) {
+            return k;
+        }
+        k = half;
+    }
+    k
+}
+
+/// A time up to which the walk is enough: from then on g is no lower than f is anywhere before it has settled, so that
+/// it does not lie behind.
+fn last_time(f: &Curve, g: &Curve, periods: &Periods) -> Frac
+    requires both { AreFinite f.now g.now }
+    requires narrow { gauge_at OpKind.Horizontal f.now g.now periods.now.first 0 < 2 ^ 120 }
+    requires until { periods.now.until ≡ settled f.now g.now periods.now.first }
+    ensures { IsEnough f.now g.now periods.now.first result }
+{
+    f.keeps();
+    g.keeps();
+    if periods.first == 0 {
+        return periods.until;
+    }
+    let window = known_window(f, g, periods.first, 0);
+    let turn = turn_in(f, g, &window);
+    let k = fewer_periods(f, g, turn.level, periods.first);
+    let early = known_window(f, g, k, 0);
+    let sooner = turn_in(f, g, &early);
+    sooner.time
+}
+
 /// The horizontal deviation of a call within both limits.
 fn deviation_in(f: &Curve, g: &Curve, periods: &Periods, frame: &Frame) -> Ext
     requires both { AreFinite f.now g.now }
@@ -151,7 +207,10 @@ fn deviation_in(f: &Curve, g: &Curve, periods: &Periods, frame: &Frame) -> Ext
     requires frame { IsFrame OpKind.Horizontal f.now g.now periods.now.first periods.now.second frame.now }
     ensures { IsHorizontalDeviation (value_at f.now) (value_at g.now) result }
 {
-    Extended::Fin(longest_lag(f, g, periods.until, frame.end))
+    f.keeps();
+    g.keeps();
+    let end = last_time(f, g, periods);
+    Extended::Fin(longest_lag(f, g, end, frame.end))
 }
 
 /// Whether f has left the level after `first` periods and not after fewer, in a call that is not too wide.

@@ -1,4 +1,4 @@
-use Rattle.std.proofs.Common.{sym, subst, true≢false}
+use Rattle.std.proofs.Common.{subst}
 use Rattle.upp_limits.specs.rational.specs.Rational.{ℚ, ◌≤ℚ◌}
 use Rattle.upp_limits.specs.rational.proofs.Compared.{least_by_test}
 use Rattle.curve_deviation.proofs.guesses.value_if.Goals as goal

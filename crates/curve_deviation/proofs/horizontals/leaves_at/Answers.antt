@@ -1,4 +1,4 @@
-use Rattle.std.proofs.Common.{◌-◌, arith, refl, sym, true≢false}
+use Rattle.std.proofs.Common.{◌-◌, arith, sym, true≢false}
 use Rattle.curve_deviation.specs.declared.search.Stage.TheVariants.{First}
 use Rattle.curve_deviation.proofs.PeriodsFound.{narrow_with, unmet_all}
 use Rattle.curve_deviation.proofs.horizontals.leaves_at.Goals as goal
