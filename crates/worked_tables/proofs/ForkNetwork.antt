@@ -135,7 +135,7 @@ fork_nodes p =
     record { server = 0; queue = 0; from = None } ∷ record { server = 1; queue = 0; from = Some p }
     ∷ record { server = 2; queue = 0; from = Some p } ∷ []
 
-tree_is : (link : Link) → IsOverFork link → tree_of_link link ∷ [] ≡ paced_fork.flows
+pub tree_is : (link : Link) → IsOverFork link → tree_of_link link ∷ [] ≡ paced_fork.flows
 tree_is link o =
     ap (λ ns. (let t : Tree = record { live = true; nodes = map (node_of link) ns } in t ∷ [])) o.nodes
     ∙ ap (λ p. (let t : Tree = record { live = true; nodes = fork_nodes p } in t ∷ [])) (ap (λ ns. (get_or ns 0 no_node).port) o.nodes)

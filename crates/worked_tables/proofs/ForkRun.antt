@@ -66,25 +66,29 @@ service_kept (suc zero) h = keeps_at 1 0 h
 service_kept (suc (suc zero)) h = keeps_at 2 0 h
 service_kept (suc (suc (suc s))) h = absurd (omega (arith, h))
 
-premises : (net : Network) → IsFork net
-    → KeepsPremises (flat paced_fork) (frame_of net) (stair_of net) (λ s. service_curve (port_at net s)) over_the_fork
-premises net f = record {
-  sizes = sizes;
-  arrivals = arrivals;
-  service = λ s h. subst (IsKeptBy s) (sym f.ports) (service_kept s h);
-}
+-- what is asked of the flow and of the servers, with a frame of 12000 bits and this stair
+pub fork_premises : (frame : ℕ → ℕ) (stair : ℕ → ℚ → Ext) (service : ℕ → ℚ → Ext) → frame 0 ≡ 12000
+    → ((t : ℚ) → stair 0 t ≡ at_entry 0 t)
+    → ((s : ℕ) → s < 3 → KeepsService (service s) over_the_fork.end (view (flat paced_fork) over_the_fork s))
+    → KeepsPremises (flat paced_fork) frame stair service over_the_fork
+fork_premises frame stair service frame_is stair_is kept = record { sizes = sizes; arrivals = arrivals; service = kept }
   where
-    sizes : (flow : ℕ) → (route_of (flat paced_fork) flow).live ≡ true
-        → ((0 ≡ flow → 12000 ≤ frame_of net flow) × Unit {0})
-    sizes zero live = (λ e. let is = frames_are net f in omega (arith, is), tt)
+    sizes : (flow : ℕ) → (route_of (flat paced_fork) flow).live ≡ true → ((0 ≡ flow → 12000 ≤ frame flow) × Unit {0})
+    sizes zero live = (λ e. omega (arith, frame_is), tt)
     sizes (suc flow) live = absurd (cc)
 
     arrivals : (flow : ℕ) → (route_of (flat paced_fork) flow).live ≡ true → (s t : ℚ) → s ≤ℚ t
-        → Fin (entered_in flow s t over_the_fork.steps) ≤ₑ stair_of net flow (t -ℚ s)
+        → Fin (entered_in flow s t over_the_fork.steps) ≤ₑ stair flow (t -ℚ s)
     arrivals zero live s t l =
-        subst (λ x. Fin (entered_in 0 s t over_the_fork.steps) ≤ₑ x) (sym (stair_is net f (t -ℚ s)))
+        subst (λ x. Fin (entered_in 0 s t over_the_fork.steps) ≤ₑ x) (sym (stair_is (t -ℚ s)))
         (paced.keeps_arrivals 0 s t l)
     arrivals (suc flow) live s t l = absurd (cc)
+
+premises : (net : Network) → IsFork net
+    → KeepsPremises (flat paced_fork) (frame_of net) (stair_of net) (λ s. service_curve (port_at net s)) over_the_fork
+premises net f =
+    fork_premises (frame_of net) (stair_of net) (λ s. service_curve (port_at net s)) (frames_are net f) (stair_is net f)
+    (λ s h. subst (IsKeptBy s) (sym f.ports) (service_kept s h))
 
 is_run : (net : Network) → IsFork net → IsRunOf net over_the_fork
 is_run net f = record {

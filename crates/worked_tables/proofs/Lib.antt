@@ -1,2 +1,4 @@
 pub mod ForkNetwork
 pub mod ForkRun
+pub mod WrittenRun
+pub mod WrittenTables

@@ -3,6 +3,7 @@
 ghost use Rattle.std.specs.Prelude.{◌≡◌, Some, None, [], ◌∷◌, IfOk};
 ghost use Rattle.tree_network.specs.Networks.{IsNetwork};
 ghost use Rattle.worked_tables.specs.Fork.{IsFork, IsOverFork, ForkReachesBound, slow_port, node_behind};
+ghost use Rattle.worked_tables.specs.WrittenFork.{IsWrittenFork};
 
 use std::alloc::{AllocError, Global};
 use tree_network::{Discipline, Link, Network, Node, Port};
@@ -74,4 +75,10 @@ pub fn fork(alloc: Global) -> Result<Network, AllocError>
 /// a branch: a law.
 pub fn a_run_reaches_its_bound()
     ensures { ForkReachesBound }
+{}
+
+/// Two tables, byte by byte, write the fork, and the run over it is one of the network that they write, so that what is
+/// promised of such runs (`IsWrittenRun`) is about something: a law.
+pub fn a_written_run_is_kept()
+    ensures { IsWrittenFork }
 {}
