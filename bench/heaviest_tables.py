@@ -54,6 +54,16 @@ def nearly_full(sources):
     return tables([*ports, "last,1000,0,0,priority 2"], first + rest)
 
 
+def full_of_quanta(sources):
+    """So many ports, each of a pace little above its load, with a link into each of the 8 queues of the last one, which they fill all but a thousandth:
+    each step of what seven queues bring is a service of the eighth, and little faster than its links."""
+    load = 999 / sources
+    ports = [f"p{n},{load * (1.0001 + 0.0006 * (n % 97) / 97):.6f},0,0,{QUANTA}" for n in range(sources)]
+    gap = 0.512 * 8 / load
+    links = [f"l{n}_{q},{gap * (1 + 0.0001 * ((n * 7 + q) % 13)):.6f},44,{(n * 37 + q * 11) % 5000},{q},p{n} last" for n in range(sources) for q in range(8)]
+    return tables([*ports, f"last,1000,0,0,{QUANTA}"], links)
+
+
 def chain():
     """16,384 links along the same 64 ports."""
     ports = [f"{base36(n)},1000000,0,0," for n in range(64)]
@@ -93,6 +103,8 @@ TABLES = {
     "2,047 ports into one of 8 quanta": lambda: star(2_047, 8, QUANTA),
     "300 and 300 ports into one that is nearly full": lambda: nearly_full(300),
     "600 and 600 ports into one that is nearly full": lambda: nearly_full(600),
+    "1,000 nearly full ports into one of 8 quanta": lambda: full_of_quanta(1_000),
+    "2,047 nearly full ports into one of 8 quanta": lambda: full_of_quanta(2_047),
 }
 
 

@@ -4,7 +4,7 @@
     python3 bench/in_proportion.py NETBOUND
 
 Shapes that would show a part that is quadratic: one port with all links; one link with all branches, over few ports and
-over many; many ports with a link each; and paths of 64 ports. Instructions are counted by valgrind (callgrind); where
+over many; many ports with a link each; many ports of 8 queues with a link each; and paths of 64 ports. Instructions are counted by valgrind (callgrind); where
 there is none, it is the user's processor time. It prints a line a shape, and ends with 1 where one takes more.
 """
 
@@ -19,12 +19,12 @@ from pathlib import Path
 MOST = 12
 
 
-def ports(count):
-    return "name,rate,latency,link,discipline\n" + "".join(f"p{number},1000000,1,1,\n" for number in range(count))
+def ports(count, discipline=""):
+    return "name,rate,latency,link,discipline\n" + "".join(f"p{number},1000000,1,1,{discipline}\n" for number in range(count))
 
 
 def links(rows):
-    return "name,bag,largest_frame,jitter,priority,path\n" + "".join(f"{name},128,64,0,,{path}\n" for name, path in rows)
+    return "name,bag,largest_frame,jitter,priority,path\n" + "".join(f"{name},128,64,0,{''.join(queue)},{path}\n" for name, path, *queue in rows)
 
 
 def one_port_with_all_links(size):
@@ -43,6 +43,10 @@ def ports_with_a_link_each(size):
     return ports(4 * size), links((f"v{number}", f"p{number}") for number in range(4 * size))
 
 
+def queues_with_a_link_each(size):
+    return ports(2 * size, "priority 8"), links((f"v{number}", f"p{number // 8}", str(number % 8)) for number in range(16 * size))
+
+
 def paths_of_64_ports(size):
     path = " ".join(f"p{number}" for number in range(64))
     return ports(64), links((f"v{number}", path) for number in range(2 * size))
@@ -53,6 +57,7 @@ SHAPES = [
     one_link_with_all_branches,
     one_link_over_all_ports,
     ports_with_a_link_each,
+    queues_with_a_link_each,
     paths_of_64_ports,
 ]
 
