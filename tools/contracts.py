@@ -12,6 +12,7 @@ import re
 import sys
 
 DEFINITION = re.compile(r'^(abbrev pub|unfoldable pub|pub record|pub data|pub define|infix\w*)\s+([^\s:({]+)')
+LEMMA = re.compile(r'^(?:pub )?(\S+) : ')
 NO_TEXT = re.compile(r'^\s*(--|use |pub use |pub mod |mod |module )')
 NO_CODE = re.compile(r'^\s*(//|ghost use|use )')
 OWNER = re.compile(r'^(?:pub )?(?:impl|trait)\b[^{]*')
@@ -28,16 +29,16 @@ def squeezed(text, names):
 
 
 def definitions(path):
-    """Each public definition of a file of specs/, with its name."""
+    """Each public definition of a file of specs/, with its name; lemmas that stand there are left out."""
     name, body = None, []
     for line in path.read_text().splitlines():
         if NO_TEXT.match(line) or not line.strip():
             continue
-        found = DEFINITION.match(line)
-        if found:
+        found, lemma = DEFINITION.match(line), LEMMA.match(line)
+        if found or lemma:
             if name:
                 yield name, '\n'.join(body)
-            name, body = found[2], [line]
+            name, body = (found[2], [line]) if found else (None, [])
         elif name:
             body.append(line)
     if name:
