@@ -7,6 +7,7 @@ use Rattle.document_tables.specs.declared.fault.LineFault.{LineFault}
 use Rattle.document_tables.specs.declared.fault.TableFile.{TableFile}
 use Rattle.document_tables.specs.Tables.{LineRow, row_view}
 use Rattle.document_tables.specs.Documents.{DocumentText, FileFault, document_of}
+use Rattle.document_tables.specs.Ways.{AreBranchesOf}
 use Rattle.tree_network.specs.Networks.{IsNetwork}
 use Rattle.tree_network.specs.declared.network.Network.{Network}
 use Rattle.tree_bounds.specs.Tables.{IsTableOf}
@@ -24,6 +25,7 @@ use Rattle.bounds_command.specs.View.{reply_of, text_in}
 use Rattle.bounds_command.specs.OnTables.{Tables, named, lined, AreRowsOfBoth, Gives, IsReplyOnDocument, IsReplyOn}
 use Rattle.rounded_runs.proofs.Runs.{written_runs_are_runs}
 use Rattle.bounds_command.proofs.Kept.{reports_are_kept}
+use Rattle.bounds_command.proofs.Summed.{bounds_are_sums}
 use Rattle.bounds_command.proofs.Texts.{written_of}
 
 -- ---- on a document
@@ -40,6 +42,7 @@ reported d net form table report (Ok r) w bounded tells timed h =
       bounded = bounded;
       report = report;
       tells = tells;
+      sums = bounds_are_sums d net table report bounded tells;
       guarantees = reports_are_kept d net table report w bounded tells timed;
       written = λ overhead texts keys run rounded keeps. reports_are_kept d net table report w bounded tells timed run
           (written_runs_are_runs overhead texts keys net run rounded keeps);
@@ -63,13 +66,13 @@ rows_of_both t ports links h k =
 pub on_document : {E : Type 0} (t : Tables) (overhead : ℕ) (form : Form) (ports links : List LineRow)
     (d : DocumentText) (net : Network)
     (answer : Result Answer E) → AreRowsOfBoth t ports links → document_of overhead ports links ≡ Ok d
-    → IsNetworkOf d net
+    → AreBranchesOf links d → IsNetworkOf d net
     → IsNetwork net → IfOk answer (λ r. IsReplyOnDocument d net form (reply_of r))
     → IfOk answer (λ r. IsReplyOn t overhead form (reply_of r))
-on_document t overhead form ports links d net (Err e) rows reads is w h = tt
-on_document t overhead form ports links d net (Ok r) rows reads is w h =
+on_document t overhead form ports links d net (Err e) rows reads ways is w h = tt
+on_document t overhead form ports links d net (Ok r) rows reads ways is w h =
     let gives : Gives t overhead d net =
-    record { port_rows = ports; link_rows = links; rows = rows; reads = reads; network = is; in_range = w; written = written_of overhead ports links d net reads is } in
+    record { port_rows = ports; link_rows = links; rows = rows; reads = reads; network = is; in_range = w; written = written_of overhead ports links d net reads is; ways = ways } in
     elim h [
       | inl ring ↦ inr (inl record { document = d; net = net; gives = gives; holds = ring })
       | inr report ↦ inr (inr record { document = d; net = net; gives = gives; holds = report })

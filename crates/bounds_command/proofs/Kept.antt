@@ -1,13 +1,12 @@
 -- What a report says is kept in each lawful run that keeps the premises: it is what the table says, with times rounded
 -- up.
-use Rattle.std.proofs.Common.{◌≡◌, ℕ, zero, suc, pred, pos, ◌*ℤ◌, true, nat_le, ◌<◌, ◌≤◌, ◌+◌, ◌*◌, ◌/◌, Option, Some, None, List, [], ◌∷◌, length, get_or, map, refl, sym, ◌∙◌, ap, subst, arith, inl, inr}
+use Rattle.std.proofs.Common.{◌≡◌, ℕ, zero, suc, pred, pos, ◌*ℤ◌, true, nat_le, ◌<◌, ◌≤◌, ◌+◌, ◌*◌, ◌/◌, Option, Some, None, List, [], ◌∷◌, length, get_or, refl, sym, ◌∙◌, ap, subst, arith, inl, inr}
 use Rattle.std.specs.Prelude.{slice_get, option_map, All}
-use Rattle.std.specs.List.{range_with_len}
 use Rattle.std.proofs.lemmas.Bool.{cases_lt}
 use Rattle.std.proofs.lemmas.Bool.Decides.{nat_tests}
 use Rattle.std.proofs.lemmas.Int.{ints}
 use Rattle.std.proofs.lemmas.List.{get_or_past, length-map}
-use Rattle.std.proofs.lemmas.Option.{slice_get-map, slice_get_within, get_or_from_slice_get}
+use Rattle.std.proofs.lemmas.Option.{slice_get_within, get_or_from_slice_get}
 use Rattle.min_plus.specs.rational.specs.Rational.{ℚ, frac, ◌≤ℚ◌}
 use Rattle.min_plus.specs.rational.specs.Extended.{Ext, ◌≤ₑ◌}
 use Rattle.min_plus.specs.rational.specs.declared.Extended.TheVariants.{Fin}
@@ -27,7 +26,7 @@ use Rattle.table_cells.specs.declared.amount.Amount.{Amount}
 use Rattle.table_cells.specs.Amounts.{IsAmount}
 use Rattle.arrival_lines.specs.declared.grid.Queue.{Queue}
 use Rattle.arrival_lines.proofs.Units.{micros_le}
-use Rattle.tree_network.specs.Networks.{IsNetwork, port_at, queues_of}
+use Rattle.tree_network.specs.Networks.{IsNetwork, port_at}
 use Rattle.tree_network.specs.declared.network.Link.{Link}
 use Rattle.tree_network.specs.declared.network.Network.{Network}
 use Rattle.document_tables.specs.Documents.{DocumentText}
@@ -45,8 +44,9 @@ use Rattle.bounds_report.specs.declared.rows.Report.{Report}
 use Rattle.bounds_command.specs.Loads.{rates_at}
 use Rattle.rounded_runs.specs.Written.{exact}
 use Rattle.bounds_command.specs.Promises.{printed, or_infinite, QueueIsKept, BranchIsKept, Guarantees}
-use Rattle.bounds_command.specs.Reports.{IsReportOf, QueueText, BranchText, queue_view, branch_view, queue_text, branch_text, queues_at, all_queues, name_at, last_port, port_in}
-use Rattle.bounds_command.proofs.Places.{in_flat, in_map, in_range, past}
+use Rattle.bounds_command.specs.Reports.{IsReportOf, QueueText, BranchText, queue_view, queue_text, name_at, last_port, port_in}
+use Rattle.bounds_command.proofs.Places.{past}
+use Rattle.bounds_command.proofs.ToldRows.{told_branch, told_queue}
 
 -- ---- printed numbers are no less
 at_most_more : (x y : Ext) (zs : List ℚ) → x ≤ₑ y → AreAtMost x zs → AreAtMost y zs
@@ -96,15 +96,8 @@ queues_kept : (d : DocumentText) (net : Network) (table : Table) (report : Repor
     → IsGuaranteed net table run → IsReportOf d net table report → slice_get report.queues.items k ≡ Some row
     → QueueIsKept d net run row
 queues_kept d net table report run k row g is e =
-    let viewed : slice_get (map queue_view report.queues.items) k ≡ Some (queue_view row) =
-    slice_get-map queue_view report.queues.items k ∙ ap (option_map queue_view) e in
-    let told : slice_get (all_queues d net table) k ≡ Some (queue_view row) =
-    ap (λ (xs : List QueueText). slice_get xs k) (sym is.queues) ∙ viewed in
-    let at = in_flat (queues_at d net table) (range_with_len 0 (length net.ports.items)) k (queue_view row) told in
-    let s = at.of in
-    let one = in_map (λ q. queue_text (name_at d.port_names s) (port_at net s) q (rates_at net s q) (row_in table s q))
-    (range_with_len 0 (queues_of (port_at net s).discipline)) at.place (queue_view row) at.is in
-    queue_kept d net table run row s one.of g (in_range (length net.ports.items) at.at s at.there) one.is
+    let told = told_queue d net table report k row is e in
+    queue_kept d net table run row told.port told.queue g told.inside told.is
 
 -- ---- branches
 has_bound : (net : Network) (table : Table) (run : SpecRun) (i place bound : ℕ) (found : Option Link)
@@ -174,13 +167,7 @@ branches_kept : (d : DocumentText) (net : Network) (table : Table) (report : Rep
     → All (λ (r : BranchRow). HasDeadlineInRange r.deadline) report.branches.items → slice_get d.branches k ≡ Some b
     → slice_get report.branches.items k ≡ Some row → BranchIsKept d net run b row
 branches_kept d net table report run k b row g bounded is timed e f =
-    let viewed : slice_get (map branch_view report.branches.items) k ≡ Some (branch_view row) =
-    slice_get-map branch_view report.branches.items k ∙ ap (option_map branch_view) f in
-    let told : slice_get (map (branch_text d net table) d.branches) k ≡ Some (branch_text d net table b) =
-    slice_get-map (branch_text d net table) d.branches k ∙ ap (option_map (branch_text d net table)) e in
-    let both : Some (branch_text d net table b) ≡ Some (branch_view row) =
-    sym told ∙ ap (λ (xs : List BranchText). slice_get xs k) (sym is.branches) ∙ viewed in
-    let same : branch_text d net table b ≡ branch_view row = cc in
+    let same = told_branch d net table report k b row is e f in
     record {
       link = ap (λ (x : BranchText). x.link) (sym same);
       port = ap (λ (x : BranchText). x.port) (sym same);

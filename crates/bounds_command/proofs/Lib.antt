@@ -2,6 +2,9 @@ pub mod Places
 pub mod Rates
 pub mod QueueRows
 pub mod Short
+pub mod ToldRows
+pub mod Summed
+pub mod Told
 pub mod Kept
 pub mod Deadlines
 pub mod Texts

@@ -24,7 +24,7 @@ use Rattle.bounds_command.specs.Loads.{load_of, rates_at}
 use Rattle.bounds_command.specs.Replies.{Reply, goes_round, has_fault}
 use Rattle.bounds_command.specs.Reports.{IsNetworkOf, IsReportOf, QueueText, BranchText, queue_text, queues_at, all_queues, branch_text, name_at, some_missed, status_with}
 use Rattle.bounds_command.specs.OnTables.{Tables, name_of, lined, AreLinesOf, AreRowsOfBoth, Gives, IsFaulty, HasRing, IsReported, IsCyclic, IsDone}
-use Rattle.bounds_command.specs.Laws.{RepliesAreDetermined, RepliesAreComplete, StatusesHaveCauses}
+use Rattle.bounds_command.specs.Laws.{RepliesAreDetermined, RepliesAreComplete, StatusesHaveCauses, TablesAreDetermined}
 use Rattle.bounds_command.proofs.Alike.{AreAlike, map_same, ports_count, links_count, port_same, link_same, queues_same, load_same, last_same, spots_same, rates_same}
 use Rattle.bounds_command.proofs.OneTable as one_table
 use Rattle.bounds_command.proofs.OneText.{TellTheSame, status_same, text_same}
@@ -119,6 +119,13 @@ module _ (d : DocumentText) (a b : Network) (like : AreAlike a b) (w : IsNetwork
     queues = h.queues ∙ all_queues_same ∙ sym k.queues;
     branches = h.branches ∙ map_same (branch_text d a ta) (branch_text d b tb) branch_same d.branches ∙ sym k.branches;
   }
+
+pub tables_are_determined : TablesAreDetermined
+tables_are_determined net one other w is_one is_other =
+    let same : AreAlike net net = record { ports = refl; links = refl } in (
+      λ s q. one_table.rows_are_one net net same w one other is_one is_other s q,
+      λ i place. one_table.bounds_are_one net net same w one other is_one is_other i place,
+    )
 
 pub no_ring : (a b : Network) (ring : List ℕ) (table : Table) → AreAlike a b → IsNetwork b → IsNetworkRing a ring
     → IsTableOf b table → ⊥

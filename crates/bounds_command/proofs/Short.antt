@@ -19,7 +19,7 @@ use Rattle.tree_bounds.specs.declared.analysis.Table.{Table}
 use Rattle.bounds_command.proofs.Rates.{few_nodes}
 
 -- ---- delays
-abbrev IsShort : Option Queue → Type 0
+abbrev pub IsShort : Option Queue → Type 0
 IsShort row = IfSome row (λ queue. queue.delay < 2 ^ 50)
 
 least_short : (bundles : List Bundle) (services : List Service) (grains : ℕ) (lines row : Option Queue)
@@ -34,7 +34,7 @@ row_by port queues q (suc longest) None row h = subst IsShort (sym h) tt
 row_by port queues q (suc longest) (Some bundles) row h =
     least_short bundles h.services (1024 * (stairs_at queues q).longest) h.least.lines row h.least.least
 
-row_short : (net : Network) (table : Table) (s q : ℕ) → IsTableOf net table → s < length net.ports.items
+pub row_short : (net : Network) (table : Table) (s q : ℕ) → IsTableOf net table → s < length net.ports.items
     → q < queues_of (port_at net s).discipline → IsShort (row_in table s q)
 row_short net table s q is h k =
     let at = is.equations.rows s q h k in

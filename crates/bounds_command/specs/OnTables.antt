@@ -9,6 +9,7 @@ use Rattle.document_tables.specs.Links as link_table
 use Rattle.document_tables.specs.Ports as port_table
 use Rattle.rounded_runs.specs.Written.{IsRounded}
 use Rattle.document_tables.specs.Documents.{DocumentText, FileFault, document_of}
+use Rattle.document_tables.specs.Ways.{AreBranchesOf}
 use Rattle.tree_network.specs.Networks.{IsNetwork, port_at, queues_of}
 use Rattle.tree_network.specs.declared.network.Network.{Network}
 use Rattle.tree_network.specs.Rings.{IsNetworkToldRing}
@@ -21,6 +22,7 @@ use Rattle.bounds_command.specs.declared.answer.Form.{Form}
 use Rattle.bounds_command.specs.Promises.{Guarantees, WrittenGuarantees}
 use Rattle.bounds_command.specs.Replies.{Reply, has_fault, goes_round}
 use Rattle.bounds_command.specs.Reports.{IsNetworkOf, IsReportOf, name_at, status_with}
+use Rattle.bounds_command.specs.Sums.{AreSums}
 use Rattle.bounds_command.specs.View.{text_in}
 
 -- the names of the two files, and what they hold
@@ -71,6 +73,8 @@ pub record Gives (t : Tables) (overhead : ℕ) (d : DocumentText) (net : Network
   pub network : IsNetworkOf d net
   pub in_range : IsNetwork net
   pub written : AreWritten overhead port_rows link_rows net
+  -- each row of links has its branch, whose way on the network's trees is over the ports that the row's path names
+  pub ways : AreBranchesOf link_rows d
 
 pub record IsFaulty (t : Tables) (overhead : ℕ) (form : Form) (reply : Reply) : Type 0 where
   pub port_rows : List LineRow
@@ -94,6 +98,8 @@ pub record IsReported (d : DocumentText) (net : Network) (form : Form) (reply : 
   pub bounded : IsTableOf net table
   pub report : Report
   pub tells : IsReportOf d net table report
+  -- a branch's bound is the sum of the delays of the queues on its way and of the links behind them
+  pub sums : AreSums d net table report
   pub guarantees : Guarantees d net report
   -- so does each lawful run of the network that the rows write, exact
   pub written : WrittenGuarantees d net report

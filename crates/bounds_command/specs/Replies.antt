@@ -2,7 +2,7 @@
 use Rattle.std.specs.Prelude.{ℕ, ◌++◌, List, codes}
 use Rattle.std.specs.List.{flat_map}
 use Rattle.document_tables.specs.declared.fault.LineFault.{LineFault}
-use Rattle.document_faults.specs.Words.{fault_line}
+use Rattle.document_tables.specs.FaultLines.{fault_line}
 
 pub record Reply : Type 0 where
   pub status : ℕ

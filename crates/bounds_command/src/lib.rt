@@ -12,5 +12,8 @@ mod rows;
 
 pub use answer::{Answer, Form, Status};
 pub use answering::on_tables;
-pub use laws::{replies_are_complete, replies_are_determined, statuses_have_causes};
+pub use laws::{
+    replies_are_complete, replies_are_determined, reports_tell_bounds, statuses_have_causes,
+    tables_are_determined,
+};
 pub use refusals::{cannot_read, too_long};

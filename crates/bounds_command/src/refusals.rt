@@ -8,8 +8,7 @@ ghost use Rattle.bounds_command.specs.Reports.{name_at};
 ghost use Rattle.bounds_command.specs.View.{reply_of};
 
 use crate::answer::{Answer, Status};
-use document_faults::fault_line;
-use document_tables::LineFault;
+use document_tables::{LineFault, fault_line};
 use indexmap::IndexSet;
 use std::alloc::{AllocError, Global};
 

@@ -1,5 +1,5 @@
 -- Ways of branches over the trees of their links.
-use Rattle.std.proofs.Common.{◌≡◌, ℕ, zero, suc, ◌+◌, ◌<◌, ◌≤◌, ◌==◌, ◌&&◌, ◌||◌, nat_eq, Bool, true, false, cond, List, [], ◌∷◌, map, filter, length, get_or, position, Option, Some, None, Ok, refl, sym, ap, ap₂, subst, ◌∙◌, arith, ⊎_elim, ◌⊎◌}
+use Rattle.std.proofs.Common.{◌≡◌, ℕ, zero, suc, ◌+◌, ◌<◌, ◌≤◌, ◌==◌, ◌&&◌, nat_eq, Bool, true, false, cond, List, [], ◌∷◌, map, filter, length, get_or, Option, Some, None, Ok, refl, sym, ap, ap₂, subst, ◌∙◌, arith, ⊎_elim}
 use Rattle.std.specs.Prelude.{slice_get, unwrap_or, option_map}
 use Rattle.std.specs.List.{list_any, position_from}
 use Rattle.std.specs.Map.{lookup}
@@ -14,13 +14,13 @@ use Rattle.document_tables.specs.declared.links.LinkKeys.{LinkKeys}
 use Rattle.document_tables.specs.declared.links.LinkTable.{LinkTable}
 use Rattle.document_tables.specs.declared.trees.Tree.{Tree}
 use Rattle.document_tables.specs.Documents.{DocumentText, document_with}
-use Rattle.document_tables.specs.Grids.{BranchOnGrid, LinkOnGrid, branch_on_grid, end_of, link_on_grid, links_from, node_of, nodes_of, place_of, place_after}
+use Rattle.document_tables.specs.Grids.{branch_on_grid, end_of, link_on_grid, links_from, node_of, nodes_of, place_of, place_after}
 use Rattle.document_tables.specs.Links.{Links, BranchText, links_of, links_view, paths_of}
 use Rattle.document_tables.specs.LinkTrees.{AreTrees}
 use Rattle.document_tables.specs.Ports.{Ports}
 use Rattle.document_tables.specs.Stops.{Stop, stops_of}
 use Rattle.document_tables.specs.Tables.{LineRow}
-use Rattle.document_tables.specs.Trees.{comes, comes_after, last_of, same, IsTreeOf}
+use Rattle.document_tables.specs.Trees.{comes_after, last_of, same, IsTreeOf}
 use Rattle.document_tables.specs.Ways.{HangInTurn, IsBranchOfRow, IsWay, AreBranchesOf, port_of}
 use Rattle.document_tables.proofs.BranchRows.{HasRows, IsRowOf, rows_read}
 use Rattle.document_tables.proofs.GridSteps.{has_path, split}
@@ -67,9 +67,11 @@ module _ (ports : List PortText) (priority : ℕ) (stops : List Stop) where
   node_is i p x h =
       let below = slice_get_within stops i (p, x) h in
       let n = length-map stops (node_of ports priority stops) in
-      let l : i < length nodes = omega (arith, below, n) in
-      (l, inner (get_or nodes i no_node) (node_of ports priority stops (p, x))
-      (sym (slice_get-get_or nodes i no_node l) ∙ (slice_get-map (node_of ports priority stops) stops i ∙ ap (option_map (node_of ports priority stops)) h)))
+      let l : i < length nodes = omega (arith, below, n) in (
+        l,
+        inner (get_or nodes i no_node) (node_of ports priority stops (p, x))
+            (sym (slice_get-get_or nodes i no_node l) ∙ (slice_get-map (node_of ports priority stops) stops i ∙ ap (option_map (node_of ports priority stops)) h)),
+      )
 
   record WayOn (behind : Option ℕ) (path : List ℕ) : Type 0 where
     pub places : List ℕ

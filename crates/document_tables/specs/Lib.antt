@@ -10,3 +10,4 @@ pub mod LinkTrees
 pub mod Grids
 pub mod Documents
 pub mod Ways
+pub mod FaultLines

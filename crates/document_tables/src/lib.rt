@@ -3,6 +3,8 @@
 
 mod document;
 mod fault;
+mod fault_lines;
+mod fault_words;
 mod grid;
 mod links;
 mod names;
@@ -12,5 +14,6 @@ mod trees;
 
 pub use document::{BranchEnd, Document, read_document};
 pub use fault::{DocumentError, LineError, LineFault, TableFile};
+pub use fault_lines::fault_line;
 pub use links::{Branch, LinkKeys, LinkTable, read_links};
 pub use ports::{PortTable, read_ports};

@@ -3,17 +3,20 @@ use Rattle.std.proofs.Common.{◌≡◌, ◌≢◌, ◌⊎◌, ℕ, Bool, true, 
 use Rattle.std.proofs.Common.{inr, refl, sym, ap, ◌∙◌, subst, arith, append-nil}
 use Rattle.std.proofs.lemmas.Bool.{cases_eq}
 use Rattle.bounds_command.specs.declared.answer.Form.{Form}
+use Rattle.bounds_command.specs.declared.answer.Status.{Status}
+use Rattle.bounds_command.specs.declared.answer.Status.TheVariants.{Done, Malformed, Usage, ReadFault, WriteFault, NoMemory, Cycle, Missed}
 use Rattle.bounds_command.specs.Laws.{IsReport}
 use Rattle.bounds_command.specs.OnTables.{IsCyclic, IsFaulty, IsReplyOn, Tables, tables}
 use Rattle.bounds_command.specs.Replies.{Reply, cannot_read, too_long}
+use Rattle.bounds_command.specs.View.{code_of}
 use Rattle.bounds_command.proofs.OneReply as law
-use Rattle.netbound_words.specs.Requests.{Bounds, Help, Request, Version}
+use Rattle.netbound_cli.specs.words.Requests.{Bounds, Help, Request, Version}
 use Rattle.outside.specs.Fetching.{AsksForAll, AsksInOrder}
 use Rattle.netbound_cli.specs.Calls.{Call, call_of, files_of, form_of, names_of, text_of}
 use Rattle.netbound_cli.specs.Files.{AllFit, FirstIs, FirstLong, IsTooLong, MayHoldAll, Told, all_told}
 use Rattle.netbound_cli.specs.Laws.{RepliesAreDetermined}
 use Rattle.netbound_cli.specs.Reply.{AnswersWhatItCan, AsksUpTo, Brings, EndsAt, FailedAt, Gives, GivesOnTold, IsAnswerableCall}
-use Rattle.netbound_cli.specs.Reply.{IsOnBoth, IsReplyAsking, IsReplyOnFiles, MayReply, MayReplyTo, OnTables, Output, asks_of}
+use Rattle.netbound_cli.specs.Reply.{IsOnBoth, IsStatus, IsReplyAsking, IsReplyOnFiles, MayReply, MayReplyTo, OnTables, Output, asks_of}
 use Rattle.netbound_cli.specs.Files.{most_bytes}
 use Rattle.outside.proofs.FileLemmas.{any_told, ended, first_map, first_shows, long_first, long_one, long_shows}
 use Rattle.outside.proofs.FileLemmas.{not_long, on_told, same_told}
@@ -484,6 +487,24 @@ never content faults last_fault names asked before after reply (inl text) =
 never content faults last_fault names asked before after reply (inr found) =
     let h = may_be faults last_fault (content before) (asks_of names before after) found.0 before after reply found.2 in
     (h.no_four, h.no_five)
+
+-- ---- no other status
+code_known : (s : Status) → IsStatus (code_of s)
+code_known Done = inl (omega arith)
+code_known Malformed = inl (omega arith)
+code_known Usage = inl (omega arith)
+code_known ReadFault = inl (omega arith)
+code_known WriteFault = inl (omega arith)
+code_known NoMemory = inl (omega arith)
+code_known Cycle = inr (inl refl)
+code_known Missed = inr (inr refl)
+
+pub known_status : (status : ℕ) (s : Status) → (status ≢ 4 → status ≡ code_of s) → IsStatus status
+known_status status s given =
+    elim (cases_eq status 4) [
+      | inl four ↦ inl (omega (arith, four))
+      | inr unlike ↦ subst IsStatus (sym (given unlike)) (code_known s)
+    ]
 
 -- ---- there is one reply
 one_on : (c : Call) (files : List (List ℕ)) (x y : Reply) → OnTables IsReplyOn c files x

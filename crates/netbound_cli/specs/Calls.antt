@@ -1,7 +1,7 @@
 -- What a command line asks for: bounds, by a call on two tables, or a text that no table changes. Own choice.
 use Rattle.std.specs.Prelude.{ℕ, ◌++◌, Bool, true, false, List, [], ◌∷◌, codes, Option, Some, None}
-use Rattle.netbound_words.specs.Requests.{Request, Bounds, Help, Version}
-use Rattle.netbound_words.specs.declared.request.Bounds as asked
+use Rattle.netbound_cli.specs.words.Requests.{Request, Bounds, Help, Version}
+use Rattle.netbound_cli.specs.declared.words.request.Bounds as asked
 use Rattle.bounds_command.specs.declared.answer.Form.{Form}
 use Rattle.bounds_command.specs.declared.answer.Form.TheVariants.{Lines, Json}
 use Rattle.bounds_command.specs.Replies.{Reply, refusal}

@@ -1,3 +1,4 @@
+pub mod words
 pub mod Files
 pub mod Calls
 pub mod Reply

@@ -1,5 +1,5 @@
 -- What the program answers on words and files, and what it means that the answer is given.
-use Rattle.std.specs.Prelude.{◌≡◌, ◌⊎◌, ◌+◌, ◌++◌, ℕ, List, [], ◌∷◌, take, slice_get, Option, Some, IfSome}
+use Rattle.std.specs.Prelude.{◌≡◌, ◌⊎◌, ◌≤◌, ◌+◌, ◌++◌, ℕ, List, [], ◌∷◌, take, slice_get, Option, Some, IfSome}
 use Rattle.std.specs.Io.KnownBytes.{Appends}
 use Rattle.outside.specs.Faults.{Rose}
 use Rattle.outside.specs.Fetching as fetching
@@ -9,7 +9,7 @@ use Rattle.bounds_command.specs.declared.answer.Form.{Form}
 use Rattle.bounds_command.specs.Replies.{Reply, cannot_read, too_long}
 use Rattle.bounds_command.specs.OnTables.{Tables, tables, IsReplyOn}
 use Rattle.bounds_command.specs.Laws.{IsAnswerable}
-use Rattle.netbound_words.specs.Requests.{Request}
+use Rattle.netbound_cli.specs.words.Requests.{Request}
 use Rattle.netbound_cli.specs.Calls.{Call, call_of, text_of, files_of}
 use Rattle.netbound_cli.specs.Files.{Told, most_bytes, MayHoldAll, FirstIs, FirstLong, AllFit, all_told}
 
@@ -64,6 +64,10 @@ MayReply content faults last_fault asked request old new reply =
     ((text_of request ≡ Some reply) × asks_of asked old new [])
     ⊎ ((c : Call) × (call_of request ≡ Some c)
     × MayReplyTo faults last_fault (content old) (asks_of asked old new) c old new reply)
+
+-- The status is 0, 1, 2, 3, 4, 5, 8 or 9.
+abbrev pub IsStatus : ℕ → Type 0
+IsStatus status = (status ≤ 5) ⊎ ((status ≡ 8) ⊎ (status ≡ 9))
 
 -- The status is that of an answer on what both files hold.
 abbrev pub IsOnBoth : ℕ → Type 0

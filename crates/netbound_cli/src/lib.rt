@@ -5,6 +5,7 @@ mod fetching;
 mod laws;
 mod texts;
 mod top_call;
+mod words;
 
 pub use bounds_command::Status;
 pub use laws::replies_are_determined;

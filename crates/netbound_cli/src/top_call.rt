@@ -6,17 +6,17 @@ ghost use Rattle.bounds_command.specs.Laws.{IsReport};
 ghost use Rattle.bounds_command.specs.OnTables.{IsFaulty, IsCyclic};
 ghost use Rattle.bounds_command.specs.Replies.{Reply, cannot_read, too_long};
 ghost use Rattle.bounds_command.specs.View.{code_of, reply_of};
-ghost use Rattle.netbound_words.specs.Requests as spec;
+ghost use Rattle.netbound_cli.specs.words.Requests as spec;
 ghost use Rattle.netbound_cli.specs.Calls as calls;
 ghost use Rattle.netbound_cli.specs.Calls.{call_of, text_of, files_of, names_of, bounds_call};
 ghost use Rattle.netbound_cli.specs.Files.{IsTooLong, FirstIs};
 ghost use Rattle.netbound_cli.specs.Reply.{FailedAt, AsksUpTo, asks_of, MayReply, MayReplyTo, output, Gives, PutsOnce, Brings};
-ghost use Rattle.netbound_cli.specs.Reply.{GivesOnTold, AnswersWhatItCan, FailsToGive, IsOnBoth};
+ghost use Rattle.netbound_cli.specs.Reply.{GivesOnTold, AnswersWhatItCan, FailsToGive, IsOnBoth, IsStatus};
 
 use crate::fetching::fetch_two;
 use crate::texts::{HELP, USAGE, VERSION};
+use crate::words::{Bounds, Request, WordFault, request_of};
 use bounds_command::{Answer, Form, Status, on_tables};
-use netbound_words::{Bounds, Request, WordFault, request_of};
 use outside::{Inputs, NoMemory, Sink};
 use std::alloc::Global;
 
@@ -94,6 +94,9 @@ fn text_answer(alloc: Global, status: Status, text: &str) -> Result<Answer, NoMe
 /// Does what the words ask for, and gives the status. The program's name is the first word. The order is: the words,
 /// both files, the table of ports, that of links, an order of the ports, the bounds, one `put`.
 pub fn run<I: Inputs, K: Sink>(alloc: Global, words: &[String], inputs: &mut I, out: &mut K) -> u8
+    // 0, 1, 2, 3, 4, 5, 8 or 9, and no other.
+    ensures known { IsStatus result }
+
     // 2 exactly where the words are not taken; or 4 or 5.
     ensures usage { result ≡ 2 → spec.request_of (spec.texts words.now) ≡ None }
 

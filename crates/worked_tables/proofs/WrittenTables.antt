@@ -44,11 +44,17 @@ ports_read =
       state = st.StartRecord;
       rest = [];
       are = (
-        read_to port_head_row after_head, refl, refl,
+        read_to port_head_row after_head,
+        refl,
+        refl,
         (
-          read_to (port_cells (codes "a") (codes "5")) after_one, refl, refl,
+          read_to (port_cells (codes "a") (codes "5")) after_one,
+          refl,
+          refl,
           (
-            read_to (port_cells (codes "b") []) after_two, refl, refl,
+            read_to (port_cells (codes "b") []) after_two,
+            refl,
+            refl,
             (read_to (port_cells (codes "c") []) [], refl, refl, (refl, refl)),
           ),
         ),
@@ -83,9 +89,13 @@ links_read =
       state = st.StartRecord;
       rest = [];
       are = (
-        read_to link_head_row after_head, refl, refl,
+        read_to link_head_row after_head,
+        refl,
+        refl,
         (
-          read_to (link_cells (codes "a b")) after_one, refl, refl,
+          read_to (link_cells (codes "a b")) after_one,
+          refl,
+          refl,
           (read_to (link_cells (codes "a c")) [], refl, refl, (refl, refl)),
         ),
       );

@@ -10,7 +10,7 @@ returns-in-Ok c = λ port_bytes link_bytes h k.
     let t = tables c.args.ports_file.now port_bytes c.args.links_file.now link_bytes in
     on_document t c.args.overhead c.args.form (map row_view c.args.ports.now) (map row_view c.args.links.now)
     (document_view c.in-Ok.document) c.in-Ok.document.network c.on_document.result
-    (rows_of_both t c.args.ports.now c.args.links.now h k) c.in-Ok.ensures.value record { ports = refl; links = refl }
+    (rows_of_both t c.args.ports.now c.args.links.now h k) c.in-Ok.ensures.value c.in-Ok.ensures.ways record { ports = refl; links = refl }
     c.in-Ok.ensures.network c.on_document.ensures
 
 pub returns-in-Err-Fault : goal.returns-in-Err-Fault

@@ -1,8 +1,8 @@
 use Rattle.std.proofs.Common.{◌≡◌, None, Some, inr, sym, ap}
 use Rattle.std.proofs.lemmas.Result.{IfOk-weaker}
 use Rattle.bounds_command.specs.View.{reply_of}
-use Rattle.netbound_words.specs.Requests.{Help, Version, request_of, texts}
-use Rattle.netbound_words.specs.View.{bounds_view}
+use Rattle.netbound_cli.specs.words.Requests.{Help, Version, request_of, texts}
+use Rattle.netbound_cli.specs.words.View.{bounds_view}
 use Rattle.netbound_cli.specs.Calls.{bounds_call, call_of, names_of}
 use Rattle.netbound_cli.proofs.Outcomes.{asks_none, may_reply_text, text_asks}
 use Rattle.netbound_cli.proofs.top_call.answered.Goals as goal

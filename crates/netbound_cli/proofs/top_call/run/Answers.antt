@@ -1,7 +1,7 @@
-use Rattle.std.proofs.Common.{ℕ, refl, sym, ◌∙◌, subst}
+use Rattle.std.proofs.Common.{ℕ, refl, sym, ◌∙◌, subst, inl, arith}
 use Rattle.bounds_command.specs.View.{reply_of}
-use Rattle.netbound_words.specs.Requests.{request_of, texts}
-use Rattle.netbound_cli.proofs.Outcomes.{never, no_outcome, not_failed, outcome}
+use Rattle.netbound_cli.specs.words.Requests.{request_of, texts}
+use Rattle.netbound_cli.proofs.Outcomes.{known_status, never, no_outcome, not_failed, outcome}
 use Rattle.netbound_cli.specs.Reply.{IsOnBoth, output}
 use Rattle.netbound_cli.proofs.top_call.run.Goals as goal
 
@@ -23,6 +23,7 @@ returns-in-Ok g c =
     let no = never g.I.Inputs.content g.I.Inputs.faults g.I.Inputs.last_fault g.I.Inputs.asked (request_of (texts c.args.words.now))
     c.args.inputs.now c.answered.new.inputs (reply_of c.in-Ok.answer) c.in-Ok.ensures.reply in
     record {
+      known = known_status c.give.result c.in-Ok.answer.status (λ unlike. (given unlike).0);
       usage = all.usage;
       text = all.text;
       read_fault = all.read_fault;
@@ -57,6 +58,7 @@ returns-in-Err g c =
     (output g.K.Sink.written g.K.Sink.puts c.args.out.now) c.code.ensures in
     let five = c.code.ensures in
     record {
+      known = inl (omega (arith, five));
       usage = all.usage;
       text = all.text;
       read_fault = all.read_fault;

@@ -1,9 +1,9 @@
 use Rattle.std.proofs.Common.{sym, ap, ◌∙◌}
 use Rattle.clap.specs.Matches.{found_of}
 use Rattle.clap.specs.Words.{app_of, is_simple, is_simple_and_free, rows_of}
-use Rattle.netbound_words.specs.Requests.{texts}
-use Rattle.netbound_words.proofs.Asked.{by_matches, by_refusal, is_simple_and_free_app, is_simple_app}
-use Rattle.netbound_words.proofs.request.request_of.Goals as goal
+use Rattle.netbound_cli.specs.words.Requests.{texts}
+use Rattle.netbound_cli.proofs.words.Asked.{by_matches, by_refusal, is_simple_and_free_app, is_simple_app}
+use Rattle.netbound_cli.proofs.words.request.request_of.Goals as goal
 
 pub returns-in-Some-clause-request : goal.returns-in-Some-clause-request
 returns-in-Some-clause-request c =

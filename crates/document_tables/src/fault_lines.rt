@@ -1,12 +1,12 @@
-//! Lines of faults.
+//! The line that tells the first fault of a document: the file, the line, the column, what is wrong and what to write.
 
 ghost use Rattle.std.specs.Prelude.{◌≡◌, ◌++◌, IfOk, OnOk};
 ghost use Rattle.std.specs.String.{string_bytes};
-ghost use Rattle.document_faults.specs.Words as spec;
+ghost use Rattle.document_tables.specs.FaultLines as spec;
 
-use crate::words::{mend_of, port_of, what_of};
+use crate::fault::LineFault;
+use crate::fault_words::{mend_of, port_of, what_of};
 use document_rows::{Wrong, word_of};
-use document_tables::LineFault;
 use std::alloc::{AllocError, Global};
 
 // Which port of a path, where it is one.

@@ -7,7 +7,7 @@ use Rattle.clap.specs.Simple.{matches_of}
 use Rattle.clap.specs.Words.{Row, Text, first_of, fault_of, Kinds}
 use Rattle.clap.specs.declared.error.kind.ErrorKind.TheVariants as kind
 use Rattle.table_cells.specs.Amounts.{few_digits}
-use Rattle.netbound_words.specs.Apps.{netbound}
+use Rattle.netbound_cli.specs.words.Apps.{netbound}
 
 -- the bounds of the network of two tables, by the names of their files, where a frame has so many bytes on the wire
 -- beside its own, as JSON or not; what the program does; or which version it is

@@ -5,12 +5,12 @@ use Rattle.clap.specs.Simple.{App, matches_of}
 use Rattle.clap.specs.Words.{IsAmong, Kinds, Row, Text, fault_of, is_simple, is_simple_and_free}
 use Rattle.clap.specs.declared.error.kind.ErrorKind.{ErrorKind}
 use Rattle.clap.specs.declared.error.kind.ErrorKind.TheVariants as kind
-use Rattle.netbound_words.specs.Apps.{netbound}
-use Rattle.netbound_words.specs.Requests as requests
-use Rattle.netbound_words.specs.View.{IsRefusal, TellsRequest}
-use Rattle.netbound_words.specs.declared.request.Request.{Request}
-use Rattle.netbound_words.specs.declared.request.WordFault.{WordFault}
-use Rattle.netbound_words.proofs.OneKind.{at_words, is_only}
+use Rattle.netbound_cli.specs.words.Apps.{netbound}
+use Rattle.netbound_cli.specs.words.Requests as requests
+use Rattle.netbound_cli.specs.words.View.{IsRefusal, TellsRequest}
+use Rattle.netbound_cli.specs.declared.words.request.Request.{Request}
+use Rattle.netbound_cli.specs.declared.words.request.WordFault.{WordFault}
+use Rattle.netbound_cli.proofs.words.OneKind.{at_words, is_only}
 
 -- the command is one whose matches and refusals the words determine
 pub is_simple_and_free_app : is_simple_and_free netbound ≡ true

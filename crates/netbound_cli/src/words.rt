@@ -1,5 +1,4 @@
 //! The words of netbound's command line, as `clap` parses them.
-#![tactic(auto)]
 
 mod command;
 mod request;

@@ -4,10 +4,10 @@ ghost use Rattle.std.specs.Prelude.{◌≡◌, ◌≤◌, IfOk, IfSome, option_m
 ghost use Rattle.clap.specs.Words.{first_of, rows_of};
 ghost use Rattle.clap.specs.Matches.{found_of};
 ghost use Rattle.clap.specs.declared.error.kind.ErrorKind.TheVariants as kinds;
-ghost use Rattle.netbound_words.specs.Requests as spec;
-ghost use Rattle.netbound_words.specs.View.{request_view, bounds_view, HasOverhead, TellsRequest, IsRefusal};
+ghost use Rattle.netbound_cli.specs.words.Requests as spec;
+ghost use Rattle.netbound_cli.specs.words.View.{request_view, bounds_view, HasOverhead, TellsRequest, IsRefusal};
 
-use crate::command::netbound;
+use crate::words::command::netbound;
 use clap::ArgMatches;
 use clap::error::ErrorKind;
 use std::alloc::Global;

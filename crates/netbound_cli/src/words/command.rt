@@ -2,7 +2,7 @@
 
 ghost use Rattle.std.specs.Prelude.{◌≡◌, false, IfOk};
 ghost use Rattle.clap.specs.Words.{app_of, rule_of};
-ghost use Rattle.netbound_words.specs.Apps.{operand_rule, overhead_rule, json_rule, netbound};
+ghost use Rattle.netbound_cli.specs.words.Apps.{operand_rule, overhead_rule, json_rule, netbound};
 
 use clap::{Arg, ArgAction, Command};
 use std::alloc::{AllocError, Global};

@@ -1,7 +1,7 @@
 //! What is wrong, and what to write.
 
 ghost use Rattle.std.specs.Prelude.{◌≡◌};
-ghost use Rattle.document_faults.specs.Words as spec;
+ghost use Rattle.document_tables.specs.FaultLines as spec;
 
 use document_rows::{Column, Wrong};
 

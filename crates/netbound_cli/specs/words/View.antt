@@ -2,12 +2,12 @@
 use Rattle.std.specs.Prelude.{◌≡◌, ◌≤◌, Result, Ok, Err, Option, Some, None}
 use Rattle.clap.specs.declared.error.kind.ErrorKind.{ErrorKind}
 use Rattle.clap.specs.declared.error.kind.ErrorKind.TheVariants as kind
-use Rattle.netbound_words.specs.Requests as requests
-use Rattle.netbound_words.specs.declared.request.Bounds.{Bounds}
-use Rattle.netbound_words.specs.declared.request.Request.{Request}
-use Rattle.netbound_words.specs.declared.request.Request.TheVariants as asked
-use Rattle.netbound_words.specs.declared.request.WordFault.{WordFault}
-use Rattle.netbound_words.specs.declared.request.WordFault.TheVariants.{NotTaken, NoMemory}
+use Rattle.netbound_cli.specs.words.Requests as requests
+use Rattle.netbound_cli.specs.declared.words.request.Bounds.{Bounds}
+use Rattle.netbound_cli.specs.declared.words.request.Request.{Request}
+use Rattle.netbound_cli.specs.declared.words.request.Request.TheVariants as asked
+use Rattle.netbound_cli.specs.declared.words.request.WordFault.{WordFault}
+use Rattle.netbound_cli.specs.declared.words.request.WordFault.TheVariants.{NotTaken, NoMemory}
 
 abbrev pub bounds_view : Bounds → requests.Request
 bounds_view b = requests.Bounds b.ports.now b.links.now b.overhead b.json
