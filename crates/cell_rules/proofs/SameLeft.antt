@@ -1,6 +1,5 @@
 -- Whether the services of two queues are made of the same: of one curve, and of one of what is left.
-use Rattle.std.proofs.Common.{◌≡◌, Bool, true, false, refl, sym, ap, ap₂, ◌∙◌}
-use Rattle.std.specs.Prelude.{◌&&◌}
+use Rattle.std.proofs.Common.{◌≡◌, ◌≢◌, Bool, true, false, refl, sym, ap, ap₂, ◌∙◌}
 use Rattle.upp_limits.specs.upp_curve.specs.Curve.{SpecCurve}
 use Rattle.residuals.specs.left.Left.{Left, all, above, share}
 use Rattle.net_cells.specs.declared.cell.Cell.{Cell}
@@ -40,8 +39,10 @@ left_back f (above before lower) = refl
 left_back f (share quanta longest queue) = refl
 
 -- ---- what tests tell
-pub left_tells : (f g : SpecCurve) (l m : Left Cell) (a b : Bool) → TellsSame f g a → TellsSame l m b
-    → TellsSame (left_formula f l) (left_formula g m) (a && b)
-left_tells f g l m true true same alike = ap₂ left_formula same alike
-left_tells f g l m true false same differ = λ e. differ (sym (left_back f l) ∙ (ap left_in e ∙ left_back g m))
-left_tells f g l m false b differ h = λ e. differ (sym (curve_back f l) ∙ (ap curve_in e ∙ curve_back g m))
+pub left_tells : (f g : SpecCurve) (l m : Left Cell) (b : Bool) → f ≡ g → TellsSame l m b
+    → TellsSame (left_formula f l) (left_formula g m) b
+left_tells f g l m true same alike = ap₂ left_formula same alike
+left_tells f g l m false same differ = λ e. differ (sym (left_back f l) ∙ (ap left_in e ∙ left_back g m))
+
+pub curves_tell : (f g : SpecCurve) (l m : Left Cell) → f ≢ g → left_formula f l ≢ left_formula g m
+curves_tell f g l m differ e = differ (sym (curve_back f l) ∙ (ap curve_in e ∙ curve_back g m))

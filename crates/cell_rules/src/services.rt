@@ -29,7 +29,7 @@ fn same_left(
     g: Leaving<'_>,
 ) -> bool
     requires fit { IsFit (left_by old.now place.0 place.1 f) }
-    ensures { TellsSame (left_by old.now place.0 place.1 f) (left_by new.now place.0 place.1 g) result }
+    ensures { TellsSame (left_by old.now place.0 place.1 f.entry) (left_by new.now place.0 place.1 g.entry) result }
 {
     match f {
         Leaving::All => match g {

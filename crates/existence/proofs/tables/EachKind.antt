@@ -1,6 +1,6 @@
 -- The calls of each cell's formula have answers, where the cells that it is made of meet their equations.
 use Rattle.std.proofs.Common.{◌≡◌, ℕ, zero, suc, ◌<◌, ◌≤◌, ◌+◌, ◌-◌, List, [], ◌∷◌, map, refl, sym, ap, ◌∙◌, subst, arith, inl, inr, true, false, Bool}
-use Rattle.std.specs.Prelude.{Some, ◌==◌, length}
+use Rattle.std.specs.Prelude.{Some, ◌==◌}
 use Rattle.std.specs.List.{range_with_len}
 use Rattle.std.proofs.lemmas.Bool.{ltb-true, and_parts}
 use Rattle.upp_limits.specs.rational.specs.Extended.{Ext}

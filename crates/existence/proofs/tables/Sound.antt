@@ -14,7 +14,7 @@ use Rattle.upp_limits.specs.upp_curve.proofs.ReadableKinds.{bucket_curve, zero_s
 use Rattle.net_model.specs.run_laws.specs.Cards.{whole}
 use Rattle.net_model.specs.run_laws.proofs.Members.{Has, has_left, has_right, has_either, has_contains}
 use Rattle.plain_operators.specs.curve_call.specs.Answers.{IsMadeBy}
-use Rattle.residuals.specs.left.Left.{Left, all, above, share}
+use Rattle.residuals.specs.left.Left as left
 use Rattle.net_model.specs.Networks.{Net, NetServer, NetFlow}
 use Rattle.net_model.specs.Accepted.{IsAccepted}
 use Rattle.net_model.specs.Orders.{IsOrder}
@@ -139,10 +139,10 @@ total_given : (net : Net) (s q : ℕ) (by_links : Bool) → GivenAreCurves (tota
 total_given net s q false = sum_given (map (at_visit In) (visits_in net s q))
 total_given net s q true = parts_given net s q (part_numbers net)
 
-service_given : (net : Net) (s : ℕ) (l : Left Cell) → AreCurves net → GivenAreCurves (left_formula (service net s) l)
-service_given net s all H = service_curve net s H
-service_given net s (above before lower) H = tt
-service_given net s (share quanta longest queue) H = tt
+service_given : (net : Net) (s : ℕ) (l : left.Left Cell) → AreCurves net → GivenAreCurves (left_formula (service net s) l)
+service_given net s left.all H = service_curve net s H
+service_given net s (left.above before lower) H = tt
+service_given net s (left.share quanta longest queue) H = tt
 
 served_given : (net : Net) (i k : ℕ) → GivenAreCurves (served_to net i k)
 served_given net i zero = tt

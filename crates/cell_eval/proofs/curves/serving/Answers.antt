@@ -19,10 +19,10 @@ pub returns : goal.returns
 returns g c =
     let net = c.args.net.now in
     let s = c.args.server in record {
-  answer = service_given (g.T.Table.at c.args.table.now) (service net s) (left_of net s c.args.queue (discipline net s))
-      (answer_of meaning_of c.queue_service.result) c.queue_service.ensures.answer;
-  counts = c.queue_service.ensures.counts;
-  memory = λ is. inr (at_refusal meaning_of c.queue_service.result
-      (λ e. RefusedAt (g.T.Table.at c.args.table.now) (formula c.args.net.now (cell_of QueueService c.args.server c.args.queue)) e
-      (c.queue_service.new.steps - c.args.steps.now)) c.queue_service.ensures.refused is);
-}
+      answer = service_given (g.T.Table.at c.args.table.now) (service net s) (left_of net s c.args.queue (discipline net s))
+          (answer_of meaning_of c.queue_service.result) c.queue_service.ensures.answer;
+      counts = c.queue_service.ensures.counts;
+      memory = λ is. inr (at_refusal meaning_of c.queue_service.result
+          (λ e. RefusedAt (g.T.Table.at c.args.table.now) (formula c.args.net.now (cell_of QueueService c.args.server c.args.queue)) e
+          (c.queue_service.new.steps - c.args.steps.now)) c.queue_service.ensures.refused is);
+    }
