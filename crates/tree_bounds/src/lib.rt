@@ -6,11 +6,8 @@ mod analysis;
 mod arriving;
 mod bounds;
 mod groups;
-mod guarantee;
+pub mod guarantee;
 mod incoming;
 mod onward;
 
 pub use analysis::{Table, bounds_of};
-pub use guarantee::{
-    networks_are_trees, none_has_a_cause, none_has_a_root, orders_go_forward, tables_are_guaranteed,
-};
