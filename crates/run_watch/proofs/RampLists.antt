@@ -1,8 +1,9 @@
 -- The ramp in which a time is tells how many bits there are up to it.
-use Rattle.std.specs.Prelude.{◌≡◌, ℕ, zero, suc, ◌<◌, ◌≤◌, pos, Bool, true, false, ◌&&◌, List, [], ◌∷◌, length, get_or}
+use Rattle.std.specs.Prelude.{◌≡◌, ℕ, zero, suc, ◌+◌, ◌-◌, ◌<◌, ◌≤◌, pos, Bool, true, false, ◌&&◌, List, [], ◌∷◌, length, get_or}
 use Rattle.std.specs.List.{slice_index_or}
 use Rattle.std.proofs.Common.{arith, inl, inr, refl, sym, subst, ap, ap₂, ◌∙◌, true≢false}
 use Rattle.std.proofs.lemmas.Bool.{and_left, and_right}
+use Rattle.std.proofs.lemmas.List.{get_or_default}
 use Rattle.upp_limits.specs.rational.specs.Rational.{ℚ, int, ◌+ℚ◌, ◌-ℚ◌, ◌*ℚ◌, ◌/ℚ◌, ◌≤ℚ◌, ◌<ℚ◌, lt_q, le_q, inv_ℚ}
 use Rattle.upp_limits.specs.rational.proofs.Laws.{le_refl, le_trans, le_or_lt, le_of_lt, lt_le_trans, le_lt_trans, lt_irrefl, antisym, add_assoc, add_zero, mul_assoc, mul_comm, div_mul, not_zero}
 use Rattle.upp_limits.specs.rational.proofs.Linear.{with2}
@@ -12,7 +13,7 @@ use Rattle.net_model.specs.run_laws.specs.Servers as servers
 use Rattle.net_model.specs.run_laws.proofs.Sums.{when_true, when_false, add_nothing}
 use Rattle.run_watch.specs.declared.span.Span.{Span}
 use Rattle.run_watch.specs.declared.span.Ramp.{Ramp}
-use Rattle.run_watch.specs.Ramps.{as_span, amount, pace_in, rate_before, rate_after, InOrder, TakeTime, ramps_after, AreRamps, spans_of, part, all_done, paced_before, paced_after, EachRamp}
+use Rattle.run_watch.specs.Ramps.{as_span, amount, pace_in, rate_before, rate_after, InOrder, TakeTime, ramps_after, AreRamps, spans_of, part, all_done, paced_before, paced_after, EachRamp, EndBefore, EndBy, EndsBefore, EndsBy}
 
 -- ---- one span
 pub clip_past : (s : servers.Span) (t : ℚ) → s.start <ℚ t → s.end ≤ℚ t → servers.clip s t ≡ s.bits
@@ -48,13 +49,6 @@ pub amount_late : (from t : ℚ) (ss : List Span) → InOrder from ss → t ≤�
 amount_late from t [] h l = refl
 amount_late from t (s ∷ ss) h l =
     ap₂ (λ (x y : ℚ). x +ℚ y) (clip_before (as_span s) t (le_trans l h.0)) (amount_late s.end t ss h.2 (le_trans l (le_trans h.0 h.1))) ∙ add_nothing (int (pos 0))
-
--- each of the first k ends before t
-abbrev pub EndBefore : ℚ → List Ramp → ℕ → Type 0
-EndBefore t rs k = (i : ℕ) (d : Ramp) → 0 ≤ i → i < k → lt_q (get_or rs i d).span.end t ≡ true
-
-abbrev pub EndBy : ℚ → List Ramp → ℕ → Type 0
-EndBy t rs k = (i : ℕ) (d : Ramp) → 0 ≤ i → i < k → le_q (get_or rs i d).span.end t ≡ true
 
 pub part_first : (done t : ℚ) (s : Span) (ss : List Span) → s.start ≤ℚ s.end → InOrder s.end ss → t ≤ℚ s.end
     → done +ℚ amount (s ∷ ss) t ≡ part record { span = s; before = done; after = done +ℚ s.bits; pace = pace_in s } t
@@ -239,6 +233,52 @@ after_found rs t k r A g l e before near =
 pub after_past : (rs : List Ramp) (t : ℚ) → AreRamps rs → EndBy t rs (length rs) → int (pos 0) ≡ rate_after (spans_of rs) t
 after_past rs t A before =
     sym (after_none (int (pos 0)) t A.spans (subst (λ (xs : List Ramp). EndBy t xs (length xs)) A.is before)) ∙ ap (λ (ss : List Span). rate_after ss t) (sym (spans_same rs A))
+
+-- ---- how many end
+pub first_end_before : (rs : List Ramp) (t : ℚ) (n : ℕ) (r : Ramp) → AreRamps rs → 1 ≤ n → n ≤ length rs → r ≡ slice_index_or rs (n - 1) r → lt_q r.span.end t ≡ true → EndBefore t rs n
+first_end_before rs t n r A some few is ends = λ i d a b.
+    parted_before rs t A i (n - 1) d (omega arith) (omega arith) (subst (λ (q : Ramp). lt_q q.span.end t ≡ true) (is ∙ get_or_default rs (n - 1) r d (omega arith)) ends)
+
+pub none_later : (rs : List Ramp) (t : ℚ) (n : ℕ) (r : Ramp) → AreRamps rs → n < length rs → r ≡ slice_index_or rs n r → lt_q r.span.end t ≡ false → (i : ℕ) (d : Ramp) → n ≤ i → i < length rs → lt_q (get_or rs i d).span.end t ≡ false
+none_later rs t n r A few is stays i d a b =
+    let here = not_less (get_or rs n d).span.end t (subst (λ (q : Ramp). lt_q q.span.end t ≡ false) (is ∙ get_or_default rs n r d few) stays) in
+    lt_q_not (get_or rs i d).span.end t (le_trans here (ramp_ends rs n i d A a b))
+
+pub as_by : (rs : List Ramp) (t : ℚ) (n : ℕ) → EndBefore t rs n → EndBy t rs n
+as_by rs t n before = λ i d a b. le_q_out (get_or rs i d).span.end t (le_of_lt (lt_q_in (get_or rs i d).span.end t (before i d a b)))
+
+ends_apart : (from done : ℚ) (ss : List Span) (k : ℕ) (d : Ramp) → InOrder from ss → TakeTime ss → suc k < length (ramps_after done ss) → (get_or (ramps_after done ss) k d).span.end <ℚ (get_or (ramps_after done ss) (suc k) d).span.end
+ends_apart from done [] k d h g l = absurd (omega arith)
+ends_apart from done (s ∷ []) k d h g l = absurd (omega arith)
+ends_apart from done (s ∷ q ∷ ss) zero d h g l = le_lt_trans h.2.0 g.1.0
+ends_apart from done (s ∷ q ∷ ss) (suc k) d h g l = ends_apart s.end (done +ℚ s.bits) (q ∷ ss) k d h.2 g.1 (omega arith)
+
+next_later : (rs : List Ramp) (k : ℕ) (d : Ramp) → AreRamps rs → TakeTime (spans_of rs) → suc k < length rs → (get_or rs k d).span.end <ℚ (get_or rs (suc k) d).span.end
+next_later rs k d A g l =
+    subst (λ (xs : List Ramp). (get_or xs k d).span.end <ℚ (get_or xs (suc k) d).span.end) (sym A.is)
+    (ends_apart A.from (int (pos 0)) A.spans k d A.in_order (subst TakeTime (spans_same rs A) g) (subst (λ (xs : List Ramp). suc k < length xs) A.is l))
+
+pub all_by : (rs : List Ramp) (t : ℚ) (n : ℕ) → EndsBefore t rs n → length rs ≤ n → EndsBy t rs n
+all_by rs t n E all = record { few = E.few; by = as_by rs t n E.before; later = λ i d a b. absurd (omega arith) }
+
+pub one_by : (rs : List Ramp) (t : ℚ) (n : ℕ) (r : Ramp) → AreRamps rs → TakeTime (spans_of rs) → EndsBefore t rs n → n < length rs → r ≡ slice_index_or rs n r → le_q r.span.end t ≡ true → EndsBy t rs (n + 1)
+one_by rs t n r A g E few is ends = record {
+  few = omega arith;
+  by = λ i d a b. le_q_out (get_or rs i d).span.end t (le_trans (ramp_ends rs i n d A (omega arith) few) (le_q_in (get_or rs n d).span.end t (subst (λ (q : Ramp). le_q q.span.end t ≡ true) (is ∙ get_or_default rs n r d few) ends)));
+  later = λ i d a b.
+      let here = not_less (get_or rs n d).span.end t (E.later n d (omega arith) few) in
+      let more = next_later rs n d A g (omega arith) in
+      le_q_not (get_or rs i d).span.end t (lt_le_trans (le_lt_trans here more) (ramp_ends rs (suc n) i d A (omega arith) b));
+}
+
+pub none_by : (rs : List Ramp) (t : ℚ) (n : ℕ) (r : Ramp) → AreRamps rs → EndsBefore t rs n → n < length rs → r ≡ slice_index_or rs n r → le_q r.span.end t ≡ false → EndsBy t rs n
+none_by rs t n r A E few is stays = record {
+  few = E.few;
+  by = as_by rs t n E.before;
+  later = λ i d a b.
+      let here = not_most (get_or rs n d).span.end t (subst (λ (q : Ramp). le_q q.span.end t ≡ false) (is ∙ get_or_default rs n r d few) stays) in
+      le_q_not (get_or rs i d).span.end t (lt_le_trans here (ramp_ends rs n i d A a b));
+}
 
 -- ---- making them
 pub each_ramp_at : (P : Ramp → Type 0) (rs : List Ramp) (k : ℕ) (r : Ramp) → EachRamp P rs → k < length rs → r ≡ slice_index_or rs k r → P r

@@ -1,5 +1,5 @@
 -- Spans one after another, and how many bits they have up to a time. Own choice.
-use Rattle.std.specs.Prelude.{◌≡◌, pos, ◌&&◌, List, [], ◌∷◌, map, if◌then◌else◌}
+use Rattle.std.specs.Prelude.{◌≡◌, ℕ, ◌<◌, ◌≤◌, pos, true, false, ◌&&◌, List, [], ◌∷◌, length, get_or, map, if◌then◌else◌}
 use Rattle.upp_limits.specs.rational.specs.Rational.{ℚ, int, ◌+ℚ◌, ◌-ℚ◌, ◌*ℚ◌, ◌/ℚ◌, ◌≤ℚ◌, ◌<ℚ◌, neg_ℚ, lt_q, le_q}
 use Rattle.upp_limits.specs.rational.specs.Ratio.{IsSmall, SumFits}
 use Rattle.net_model.specs.run_laws.specs.Servers as servers
@@ -71,6 +71,25 @@ abbrev pub all_done : List Ramp → ℚ
 all_done [] = int (pos 0)
 all_done (r ∷ []) = r.after
 all_done (r ∷ q ∷ rs) = all_done (q ∷ rs)
+
+-- ---- the ramps that end before a time
+-- each of the first k ends before t, or by t
+abbrev pub EndBefore : ℚ → List Ramp → ℕ → Type 0
+EndBefore t rs k = (i : ℕ) (d : Ramp) → 0 ≤ i → i < k → lt_q (get_or rs i d).span.end t ≡ true
+
+abbrev pub EndBy : ℚ → List Ramp → ℕ → Type 0
+EndBy t rs k = (i : ℕ) (d : Ramp) → 0 ≤ i → i < k → le_q (get_or rs i d).span.end t ≡ true
+
+-- and none of the others does
+pub record EndsBefore (t : ℚ) (rs : List Ramp) (k : ℕ) : Type 0 where
+  pub few : k ≤ length rs
+  pub before : EndBefore t rs k
+  pub later : (i : ℕ) (d : Ramp) → k ≤ i → i < length rs → lt_q (get_or rs i d).span.end t ≡ false
+
+pub record EndsBy (t : ℚ) (rs : List Ramp) (k : ℕ) : Type 0 where
+  pub few : k ≤ length rs
+  pub by : EndBy t rs k
+  pub later : (i : ℕ) (d : Ramp) → k ≤ i → i < length rs → le_q (get_or rs i d).span.end t ≡ false
 
 -- ---- sizes
 -- the steps of making a ramp fit

@@ -8,7 +8,8 @@ use Rattle.flow_watch.specs.watch_laws.Affine.{Among}
 use Rattle.run_watch.specs.declared.span.Ramp.{Ramp}
 use Rattle.run_watch.specs.declared.watched.Watched.{Watched}
 use Rattle.run_watch.specs.declared.watched.Stretch.{Stretch}
-use Rattle.run_watch.specs.Ramps.{amount, rate_before, rate_after, ramps_after, AreRamps, spans_of, ReadsRamp, EachRamp}
+use Rattle.run_watch.specs.declared.watched.Progress.{Progress}
+use Rattle.run_watch.specs.Ramps.{amount, rate_before, rate_after, ramps_after, AreRamps, spans_of, ReadsRamp, EachRamp, EndsBefore}
 use Rattle.run_watch.specs.Seen.{works_at, leaves_at, arrivals_at}
 
 -- ---- what it sees, up to t
@@ -28,6 +29,11 @@ pub record ReadsAt (w : Watched) (t : ℚ) : Type 0 where
   pub works : AreRamps w.works.items
   pub arrived : EachRamp (ReadsRamp t) w.arrivals.items
   pub worked : EachRamp (ReadsRamp t) w.works.items
+
+-- how many of the arrivals and of the works end before t
+pub record AreReached (w : Watched) (t : ℚ) (r : Progress) : Type 0 where
+  pub arrived : EndsBefore t w.arrivals.items r.arrived
+  pub worked : EndsBefore t w.works.items r.worked
 
 -- ---- stretches
 -- the times at which a packet leaves and all that arrived before is worked

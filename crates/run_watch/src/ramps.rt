@@ -1,8 +1,8 @@
 //! Spans one after another, with the bits that they have up to a time.
 
-ghost use Rattle.std.specs.Prelude.{◌≡◌, ◌<◌, ◌≤◌, pos, length, IfOk};
+ghost use Rattle.std.specs.Prelude.{◌≡◌, ◌<◌, ◌≤◌, pos, length, IfOk, IsTrue};
 ghost use Rattle.upp_limits.specs.rational.specs.Rational.{int, ◌≤ℚ◌, ◌<ℚ◌, lt_q, le_q};
-ghost use Rattle.run_watch.specs.Ramps.{amount, rate_before, rate_after, pace_in, TakeTime, ramps_after, AreRamps, spans_of, part, all_done, paced_before, paced_after, PaceFits, RampsFit, PartFits, ReadsRamp, EachRamp};
+ghost use Rattle.run_watch.specs.Ramps.{amount, rate_before, rate_after, pace_in, TakeTime, ramps_after, AreRamps, spans_of, part, all_done, paced_before, paced_after, PaceFits, RampsFit, PartFits, ReadsRamp, EachRamp, EndBefore, EndsBefore, EndsBy};
 
 use crate::span::{Ramp, Span};
 use flow_watch::step_lines::is_at_most;
@@ -76,17 +76,101 @@ fn all_done(ramps: &[Ramp]) -> Frac
     ramps[count - 1].after
 }
 
+/// Whether the first of the ramps, so many, end before t.
+fn are_ended(ramps: &[Ramp], t: Frac, count: usize) -> bool
+    requires ramps { AreRamps ramps.now }
+    requires few { count ≤ length ramps.now }
+    ensures { IsTrue result → EndBefore t ramps.now count }
+{
+    if count == 0 {
+        return true;
+    }
+    ends_before(&ramps[count - 1], t)
+}
+
+/// Whether so many of the ramps end before t.
+fn is_ended(ramps: &[Ramp], t: Frac, count: usize) -> bool
+    requires { AreRamps ramps.now }
+    ensures { IsTrue result → EndsBefore t ramps.now count }
+{
+    if count > ramps.len() {
+        return false;
+    }
+    if !are_ended(ramps, t, count) {
+        return false;
+    }
+    if count == ramps.len() {
+        return true;
+    }
+    if ends_before(&ramps[count], t) {
+        false
+    } else {
+        true
+    }
+}
+
+/// How many of the ramps end before t, by binary search.
+fn found_ended(ramps: &[Ramp], t: Frac) -> usize
+    requires { AreRamps ramps.now }
+    ensures { EndsBefore t ramps.now result }
+{
+    ramps.partition_point(|r| ends_before(r, t))
+}
+
+/// How many of the ramps end before t: `near` or one more, where that is right, else by binary search.
+pub(crate) fn ended(ramps: &[Ramp], t: Frac, near: usize) -> usize
+    requires { AreRamps ramps.now }
+    ensures { EndsBefore t ramps.now result }
+{
+    if is_ended(ramps, t, near) {
+        return near;
+    }
+    if near < ramps.len() {
+        let next = near + 1;
+        if is_ended(ramps, t, next) {
+            return next;
+        }
+    }
+    found_ended(ramps, t)
+}
+
+/// How many of the ramps end at t or before, where `past` end before t.
+pub(crate) fn ended_by(ramps: &[Ramp], t: Frac, past: usize) -> usize
+    requires ramps { AreRamps ramps.now }
+    requires time { TakeTime (spans_of ramps.now) }
+    requires ended { EndsBefore t ramps.now past }
+    ensures { EndsBy t ramps.now result }
+{
+    if past >= ramps.len() {
+        return past;
+    }
+    if ends_by(&ramps[past], t) {
+        past + 1
+    } else {
+        past
+    }
+}
+
+/// The bits up to t, where `past` ramps end before t.
+pub(crate) fn amount_past(ramps: &[Ramp], t: Frac, past: usize) -> Frac
+    requires ramps { AreRamps ramps.now }
+    requires fits { EachRamp (ReadsRamp t) ramps.now }
+    requires ended { EndsBefore t ramps.now past }
+    ensures { result ≡ amount (spans_of ramps.now) t }
+{
+    if past < ramps.len() {
+        return partly(&ramps[past], t);
+    }
+    all_done(ramps)
+}
+
 /// The bits up to t, by binary search.
 pub(crate) fn amount_at(ramps: &[Ramp], t: Frac) -> Frac
     requires ramps { AreRamps ramps.now }
     requires fits { EachRamp (ReadsRamp t) ramps.now }
     ensures { result ≡ amount (spans_of ramps.now) t }
 {
-    let past = ramps.partition_point(|r| ends_before(r, t));
-    if past < ramps.len() {
-        return partly(&ramps[past], t);
-    }
-    all_done(ramps)
+    amount_past(ramps, t, found_ended(ramps, t))
 }
 
 /// The pace just before t of a ramp that ends at t or later.
@@ -100,13 +184,13 @@ fn paced_before(r: &Ramp, t: Frac) -> Frac
     }
 }
 
-/// The pace just before t, by binary search.
-pub(crate) fn pace_before(ramps: &[Ramp], t: Frac) -> Frac
+/// The pace just before t, where `past` ramps end before t.
+pub(crate) fn pace_before(ramps: &[Ramp], t: Frac, past: usize) -> Frac
     requires ramps { AreRamps ramps.now }
     requires time { TakeTime (spans_of ramps.now) }
+    requires ended { EndsBefore t ramps.now past }
     ensures { result ≡ rate_before (spans_of ramps.now) t }
 {
-    let past = ramps.partition_point(|r| ends_before(r, t));
     if past < ramps.len() {
         return paced_before(&ramps[past], t);
     }
@@ -124,13 +208,13 @@ fn paced_after(r: &Ramp, t: Frac) -> Frac
     }
 }
 
-/// The pace just after t, by binary search.
-pub(crate) fn pace_after(ramps: &[Ramp], t: Frac) -> Frac
+/// The pace just after t, where `past` ramps end at t or before.
+pub(crate) fn pace_after(ramps: &[Ramp], t: Frac, past: usize) -> Frac
     requires ramps { AreRamps ramps.now }
     requires time { TakeTime (spans_of ramps.now) }
+    requires ended { EndsBy t ramps.now past }
     ensures { result ≡ rate_after (spans_of ramps.now) t }
 {
-    let past = ramps.partition_point(|r| ends_by(r, t));
     if past < ramps.len() {
         return paced_after(&ramps[past], t);
     }

@@ -3,11 +3,11 @@
 ghost use Rattle.std.specs.Prelude.{◌≡◌, ◌++◌, ℕ, pos, [], length, IfOk, OnOk};
 ghost use Rattle.upp_limits.specs.rational.specs.Rational.{ℚ, int, le_q};
 ghost use Rattle.flow_watch.specs.watch_laws.Affine.{EachTime};
-ghost use Rattle.run_watch.specs.Ramps.{EachRamp, RampsFit, AreRamps, TakeTime, spans_of};
+ghost use Rattle.run_watch.specs.Ramps.{EachRamp, RampsFit, AreRamps, TakeTime, spans_of, EndsBefore};
 ghost use Rattle.run_watch.specs.Seen.{works_at, arrivals_at};
-ghost use Rattle.run_watch.specs.Watching.{is_caught_up, ReadsAt, stops, RiseFrom, next_after, stretch_from, stretches_in, change_at, turns, HoldsTimes, Sees};
+ghost use Rattle.run_watch.specs.Watching.{is_caught_up, ReadsAt, stops, RiseFrom, next_after, stretch_from, stretches_in, change_at, turns, HoldsTimes, Sees, AreReached};
 
-use crate::ramps::{amount_at, pace_after, pace_before, ramps_of};
+use crate::ramps::{amount_past, ended, ended_by, pace_after, pace_before, ramps_of};
 use crate::seen::{arrivals_of, leaves_of, works_of};
 use crate::span::Ramp;
 use flow_watch::step_lines::{is_at_most, is_under};
@@ -32,6 +32,13 @@ pub struct Stretch {
     pub end: Frac,
 }
 
+/// How much of what a server sees ends before a time.
+#[derive(Debug, Clone, Copy)]
+pub struct Progress {
+    pub arrived: usize,
+    pub worked: usize,
+}
+
 /// What a server sees of the steps of a run. `firsts` has for each flow the first server of its path.
 pub fn watch(
     alloc: Global,
@@ -54,12 +61,27 @@ pub fn watch(
     })
 }
 
-/// Whether all that arrived before t is worked.
-fn is_caught_up(w: &Watched, t: Frac) -> bool
+/// How much of what it sees ends before t, near how much did before.
+fn reached(w: &Watched, t: Frac, near: &Progress) -> Progress
     requires { ReadsAt w.now t }
+    ensures { AreReached w.now t result }
+{
+    Progress {
+        arrived: ended(&w.arrivals, t, near.arrived),
+        worked: ended(&w.works, t, near.worked),
+    }
+}
+
+/// Whether all that arrived before t is worked.
+fn is_caught_up(w: &Watched, t: Frac, at: &Progress) -> bool
+    requires reads { ReadsAt w.now t }
+    requires at { AreReached w.now t at.now }
     ensures { result ≡ is_caught_up w.now t }
 {
-    is_at_most(amount_at(&w.arrivals, t), amount_at(&w.works, t))
+    is_at_most(
+        amount_past(&w.arrivals, t, at.arrived),
+        amount_past(&w.works, t, at.worked),
+    )
 }
 
 /// The times at which a packet leaves and all that arrived before is worked.
@@ -68,8 +90,13 @@ pub(crate) fn stops_of(alloc: Global, w: &Watched) -> Result<Vec<Frac>, AllocErr
     ensures { IfOk result (λ v. v.items ≡ stops w.now) }
 {
     let mut found = Vec::new(alloc);
+    let mut at = Progress {
+        arrived: 0,
+        worked: 0,
+    };
     for t in &w.leaves {
-        if is_caught_up(w, *t) {
+        at = reached(w, *t, &at);
+        if is_caught_up(w, *t, &at) {
             found.push(*t)?;
         }
     }
@@ -109,13 +136,14 @@ pub(crate) fn turns_in<'a>(sorted: &'a [Frac], s: &Stretch) -> &'a [Frac]
 }
 
 /// The stretch that begins with a packet, if one does.
-fn stretch_from(w: &Watched, stops: &[Frac], r: &Ramp) -> Option<Stretch>
+fn stretch_from(w: &Watched, stops: &[Frac], r: &Ramp, at: &Progress) -> Option<Stretch>
     requires reads { ReadsAt w.now r.now.span.start }
+    requires at { AreReached w.now r.now.span.start at.now }
     requires rise { (from : ℚ) × RiseFrom from stops.now }
     ensures { result ≡ stretch_from w.now stops.now r.now }
 {
     let start = r.span.start;
-    if is_less(start, w.end) && is_at_most(r.before, amount_at(&w.works, start)) {
+    if is_less(start, w.end) && is_at_most(r.before, amount_past(&w.works, start, at.worked)) {
         Some(Stretch {
             start,
             end: stop_after(stops, start, w.end),
@@ -136,21 +164,28 @@ pub(crate) fn stretches_of(
     ensures { IfOk result (λ v. v.items ≡ stretches_in w.now stops.now w.now.arrivals.items) }
 {
     let mut found = Vec::new(alloc);
+    let mut at = Progress {
+        arrived: 0,
+        worked: 0,
+    };
     for r in &w.arrivals {
-        if let Some(stretch) = stretch_from(w, stops, r) {
+        at = reached(w, r.span.start, &at);
+        if let Some(stretch) = stretch_from(w, stops, r, &at) {
             found.push(stretch)?;
         }
     }
     Ok(found)
 }
 
-/// One time more, where the pace changes there.
-fn push_change(turns: &mut Vec<Frac>, w: &Watched, t: Frac) -> Result<(), AllocError>
+/// One time more, where the pace changes there; `past` works end before it.
+fn push_change(turns: &mut Vec<Frac>, w: &Watched, t: Frac, past: usize) -> Result<(), AllocError>
     requires ramps { AreRamps w.now.works.items }
     requires time { TakeTime (spans_of w.now.works.items) }
+    requires ended { EndsBefore t w.now.works.items past }
     ensures { OnOk result (turns.new.items ≡ turns.old.items ++ change_at w.now t) }
 {
-    if pace_before(&w.works, t) != pace_after(&w.works, t) {
+    let later = ended_by(&w.works, t, past);
+    if pace_before(&w.works, t, past) != pace_after(&w.works, t, later) {
         turns.push(t)?;
     }
     Ok(())
@@ -171,9 +206,12 @@ pub(crate) fn turns_of(
         turns.push(s.start)?;
         turns.push(s.end)?;
     }
+    let mut past = 0;
     for r in &w.works {
-        push_change(&mut turns, w, r.span.start)?;
-        push_change(&mut turns, w, r.span.end)?;
+        past = ended(&w.works, r.span.start, past);
+        push_change(&mut turns, w, r.span.start, past)?;
+        past = ended(&w.works, r.span.end, past);
+        push_change(&mut turns, w, r.span.end, past)?;
     }
     Ok(turns)
 }

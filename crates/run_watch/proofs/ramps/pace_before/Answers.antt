@@ -1,17 +1,13 @@
-use Rattle.std.proofs.Common.{◌∙◌, ◌<◌, length, arith, rules}
-use Rattle.std.proofs.lemmas.List.Sorted.{IsPartitionPoint-from_clause}
-use Rattle.run_watch.proofs.RampLists.{ends_before, parted_before, near_before, before_found, before_past}
+use Rattle.std.proofs.Common.{◌∙◌, ◌<◌, length, arith}
+use Rattle.run_watch.proofs.RampLists.{near_before, before_found, before_past}
 use Rattle.run_watch.proofs.ramps.pace_before.Goals as goal
 
 pub returns-then-past-ramps : goal.returns-then-past-ramps
 returns-then-past-ramps c =
-    let point = IsPartitionPoint-from_clause (ends_before c.args.t) _ _ c.partition_point-past.ensures.partitioned (parted_before c.args.ramps.now c.args.t c.requires.ramps) (λ a r q k. search rules) in
-    let inside : c.partition_point-past.result < length c.args.ramps.now = omega arith in
+    let inside : c.args.past < length c.args.ramps.now = omega arith in
     c.paced_before.ensures
-    ∙ before_found c.args.ramps.now c.args.t c.partition_point-past.result c.index-ramps-past.result c.requires.ramps c.requires.time inside c.index-ramps-past.is point.0
-    (near_before c.args.ramps.now c.args.t c.partition_point-past.result c.index-ramps-past.result inside c.index-ramps-past.is point.1)
+    ∙ before_found c.args.ramps.now c.args.t c.args.past c.index-ramps-past.result c.requires.ramps c.requires.time inside c.index-ramps-past.is c.requires.ended.before
+    (near_before c.args.ramps.now c.args.t c.args.past c.index-ramps-past.result inside c.index-ramps-past.is c.requires.ended.later)
 
 pub returns : goal.returns
-returns c =
-    let point = IsPartitionPoint-from_clause (ends_before c.args.t) _ _ c.partition_point-past.ensures.partitioned (parted_before c.args.ramps.now c.args.t c.requires.ramps) (λ a r q k. search rules) in
-    c.zero.ensures ∙ before_past c.args.ramps.now c.args.t c.requires.ramps (λ i d a b. point.0 i d a (omega arith))
+returns c = c.zero.ensures ∙ before_past c.args.ramps.now c.args.t c.requires.ramps (λ i d a b. c.requires.ended.before i d a (omega arith))

@@ -1,4 +1,4 @@
-use Rattle.std.specs.Prelude.{◌↔◌, Bool, true, false, not, IsTrue, Option, Some}
+use Rattle.std.specs.Prelude.{◌↔◌, Bool, true, false, not, IsTrue, Option}
 use Rattle.std.proofs.Common.{true≢false, refl, sym, subst}
 use Rattle.upp_limits.specs.rational.specs.Rational.{ℚ, ◌≤ℚ◌, ◌<ℚ◌}
 use Rattle.upp_limits.specs.rational.proofs.Laws.{lt_le_trans, lt_irrefl, le_of_not_lt}

@@ -4,7 +4,7 @@ use Rattle.upp_limits.specs.rational.specs.Rational.{ℚ}
 use Rattle.run_watch.specs.declared.found.Found.{Found}
 use Rattle.run_watch.specs.FirstOf.{IsBest, IsBestBefore}
 use Rattle.run_watch.specs.first_breaches.Firsts.{IsOne, HasService}
-use Rattle.run_watch.proofs.first_breaches.Joined.{IsUpto, upto_none, upto_more, upto_all}
+use Rattle.run_watch.proofs.first_breaches.Joined.{IsUpto, upto_none, upto_more}
 use Rattle.run_watch.proofs.first_breaches.services.first_service.Goals as goal
 
 pub loop-number-init : goal.loop-number-init
