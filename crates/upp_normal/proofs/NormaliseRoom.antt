@@ -173,13 +173,10 @@ line_later_fits m n x by rise (Some l) R h T L M e =
       moved = sum_in m x T (n + 1) 1 (l.icept +ℚ rise) (neg_ℚ (l.slope *ℚ by)) R (omega arith) (whole_add k l.icept rise wi wr) (whole_neg k (l.slope *ℚ by) wb) risen (within_neg (many m 1) (l.slope *ℚ by) ib);
     }
 
-move_early : (x by end : ℚ) → int (pos 0) ≤ℚ x → x +ℚ by ≤ℚ end → by ≤ℚ end
-move_early x by end low e = with3 x by end (λ c. omega (arith, c.le, c.lt, c.same))
-
 pub later_fits : (m : Room) (n : ℕ) (by rise : ℚ) (p : Piece) → IsRoom m → n ≤ 6 → PieceHasRoom m n p → IsMove m by rise → p.x +ℚ by ≤ℚ m.end → LaterFits by rise p
 later_fits m n by rise p R h P M e =
     let T = P.time in
-    let room = move_early p.x by m.end T.low e in
+    let room : by ≤ℚ m.end = let x = p.x in let end = m.end in let low = T.low in with3 x by end (λ c. omega (arith, c.le, c.lt, c.same)) in
     record {
       start = start_fits m p.x by R T M.time M.low e;
       at = at_fits m n p.x rise p.at R (omega arith) T P.at M.height M.within;
@@ -214,7 +211,7 @@ pub later_room : (m : Room) (n : ℕ) (by rise : ℚ) (p : Piece) → IsRoom m �
 unfolding time_moved
 later_room m n by rise p R P M e =
     let T = P.time in
-    let room = move_early p.x by m.end T.low e in
+    let room : by ≤ℚ m.end = let x = p.x in let end = m.end in let low = T.low in with3 x by end (λ c. omega (arith, c.le, c.lt, c.same)) in
     record {
       time = time_moved m p.x by rise R M T;
       at = at_moved m n T.grid rise p.at P.at (finer m p.x T rise M.height) M.within;
