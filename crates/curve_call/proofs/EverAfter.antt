@@ -1,14 +1,13 @@
 -- Below for a period, below ever after: each later period adds no more to the slower curve than to the faster.
 use Rattle.std.specs.Prelude.{ℕ, pos}
 use Rattle.std.proofs.Common.{arith, sym, subst, inl, inr}
-use Rattle.upp_limits.specs.rational.specs.Rational.{ℚ, ◌+ℚ◌, ◌-ℚ◌, ◌*ℚ◌, ◌≤ℚ◌, ◌<ℚ◌, int}
+use Rattle.upp_limits.specs.rational.specs.Rational.{ℚ, ◌+ℚ◌, ◌*ℚ◌, ◌≤ℚ◌, ◌<ℚ◌, int}
 use Rattle.upp_limits.specs.rational.specs.Whole.{periods}
 use Rattle.upp_limits.specs.rational.specs.Extended.{◌≤ₑ◌, ◌<ₑ◌, ◌+ₑ◌}
 use Rattle.upp_limits.specs.rational.specs.declared.Extended.TheVariants.{Fin}
-use Rattle.upp_limits.specs.rational.proofs.Linear.{with2, with3, with4}
-use Rattle.upp_limits.specs.rational.proofs.Laws.{le_trans, le_of_lt, mul_nonneg, mul_le_mul, sub_add}
+use Rattle.upp_limits.specs.rational.proofs.Linear.{with2}
+use Rattle.upp_limits.specs.rational.proofs.Laws.{le_trans, le_of_lt, mul_nonneg, mul_le_mul}
 use Rattle.upp_limits.specs.rational.proofs.Integers.{nat_nonneg}
-use Rattle.upp_limits.specs.rational.proofs.Whole.{periods_low, periods_high}
 use Rattle.upp_limits.specs.rational.proofs.ExtendedOrder.{add_le_ext}
 use Rattle.upp_limits.specs.upp_curve.specs.Curve.{SpecCurve, value_at}
 use Rattle.upp_limits.specs.upp_curve.specs.Steady.{Repeats, rise_over, rate}
@@ -17,6 +16,7 @@ use Rattle.upp_limits.specs.upp_curve.proofs.Steady.{steady_rule}
 use Rattle.curve_call.specs.Ever.{IsBelowFrom, RepeatsBy, BelowEverAfter}
 use Rattle.curve_call.proofs.Shifts.{later_value}
 use Rattle.curve_call.proofs.LeastNumber.{gains}
+use Rattle.curve_call.proofs.MostAbove.{moved_back}
 use Rattle.upp_normal.proofs.UnrollSteps.{ext_cases}
 
 pub repeats_by : (from d : ℚ) (c : SpecCurve) → int (pos 0) <ℚ d → RepeatsBy from d c → Repeats (value_at c) from d (rise_over c d)
@@ -43,14 +43,9 @@ more_periods slow fast from d u n some F G faster low below =
 below_from : (slow fast : SpecCurve) (from d start : ℚ) → int (pos 0) <ℚ d → RepeatsBy from d slow → RepeatsBy from d fast → rate slow <ₑ rate fast → from ≤ℚ start → IsBelowFor (value_at slow) (value_at fast) start d
     → IsBelowFrom (value_at slow) (value_at fast) start
 below_from slow fast from d start some F G faster low below t h =
-    let n = periods start d t in
-    let y = int (pos n) *ℚ d in
-    let u = t -ℚ y in
-    let first = periods_low start d t some h in
-    let last = periods_high start d t some in
-    let u_low : start ≤ℚ u = with3 start t y (λ c. omega (arith, c.le, c.lt, c.same)) in
-    let u_high : u <ℚ start +ℚ d = with4 start t y d (λ c. omega (arith, c.le, c.lt, c.same)) in
-    subst (λ s. value_at slow s ≤ₑ value_at fast s) (sub_add t y) (more_periods slow fast from d u n some F G faster (le_trans low u_low) (below u u_low u_high))
+    let B = moved_back (value_at slow) start d (rise_over slow d) t some record { rule = λ s k. (repeats_by from d slow some F).rule s (le_trans low k) } h in
+    subst (λ s. value_at slow s ≤ₑ value_at fast s) B.back
+    (more_periods slow fast from d B.early B.number some F G faster (le_trans low B.among.start) (below B.early B.among.start B.among.before))
 
 pub ever_after : BelowEverAfter
 ever_after f g from d k some F G below =

@@ -42,6 +42,7 @@ pub record Back (f : ℚ → Ext) (from p a t : ℚ) : Type 0 where
   pub among : InWindow from (from +ℚ p) early
   pub low : int (pos number) *ℚ p ≤ℚ t -ℚ from
   pub high : t -ℚ from ≤ℚ int (pos number) *ℚ p +ℚ p
+  pub back : early +ℚ int (pos number) *ℚ p ≡ t
   pub is : f t ≡ f early +ₑ Fin (int (pos number) *ℚ a)
 
 pub moved_back : (f : ℚ → Ext) (from p a t : ℚ) → int (pos 0) <ℚ p → Repeats f from p a → from ≤ℚ t → Back f from p a t
@@ -58,6 +59,7 @@ moved_back f from p a t some R h =
       among = record { start = low; before = with4 from t y p (λ c. omega (arith, c.le, c.lt, c.same)) };
       low = with3 from t y (λ c. omega (arith, c.le, c.lt, c.same));
       high = with4 from t y p (λ c. omega (arith, c.le, c.lt, c.same));
+      back = sub_add t y;
       is = subst (λ s. f s ≡ f u +ₑ Fin (int (pos n) *ℚ a)) (sub_add t y) (later_value f from p a u n (le_of_lt some) R low);
     }
 

@@ -1,5 +1,5 @@
 -- The loop that cuts two windows at each start of either.
-use Rattle.std.specs.Prelude.{◌≡◌, ℕ, zero, suc, ◌+◌, ◌-◌, ◌<◌, ◌≤◌, List, [], ◌∷◌, ◌++◌, length, slice_get, Option, Some, None, ◌⊎◌}
+use Rattle.std.specs.Prelude.{◌≡◌, ℕ, zero, suc, ◌+◌, ◌-◌, ◌<◌, ◌≤◌, List, [], ◌∷◌, ◌++◌, length, slice_get, Some, None, ◌⊎◌}
 use Rattle.std.proofs.Common.{arith, get_or, drop, sym, ap, ◌∙◌, refl, subst, inl, inr}
 use Rattle.upp_limits.specs.rational.specs.Rational.{ℚ, ◌<ℚ◌}
 use Rattle.upp_limits.specs.rational.proofs.Laws.{le_of_lt, le_trans}
@@ -10,55 +10,27 @@ use Rattle.upp_limits.specs.upp_curve.specs.affine_segment.Reading.{read}
 use Rattle.curve_call.specs.declared.stretch.Both.{Both}
 use Rattle.curve_call.specs.declared.stretch.Walk.{Walk}
 use Rattle.curve_call.specs.Stretches.{cut_at, lefts, rights, EachBoth, IsBothOf, IsOverlay, CutsFit}
-use Rattle.curve_call.specs.Walk.{IsBeforeAt, TakesLeft, TakesRight, TakesBoth, IsStep, NextFits}
+use Rattle.curve_call.specs.Walk.{IsStart, IsBeforeAt, TakesLeft, TakesRight, TakesBoth, IsStep, NextFits}
 use Rattle.curve_call.proofs.Surgery.{BeforeNext, rest_rises, start_nonneg}
 use Rattle.curve_call.proofs.Walks.{WalkOf, walk_start, walk_take, walk_cut, walk_piece, walk_line}
 use Rattle.upp_limits.specs.upp_curve.proofs.affine_segment.NextPiece.{none_left}
 
 -- ---- the pieces that are left
 drop_got : (ps : List Piece) (i : ℕ) (p : Piece) → slice_get ps i ≡ Some p → drop i ps ≡ p ∷ drop (i + 1) ps
-drop_got [] i p e = absurd (none_some e)
-  where
-    none_some : None ≡ Some p → ⊥
-    none_some e = subst (λ o. IsNone o) e tt
-      where
-        IsNone : Option Piece → Type 0
-        IsNone None = Unit {0}
-        IsNone (Some r) = ⊥
-drop_got (q ∷ qs) zero p e = ap (λ z. z ∷ qs) (some_is q p e)
-  where
-    some_is : (p q : Piece) → Some p ≡ Some q → p ≡ q
-    some_is p q h = ap (λ o. or_else p o) h
-      where
-        or_else : Piece → Option Piece → Piece
-        or_else p None = p
-        or_else p (Some r) = r
+drop_got [] i p e = let none : None ≡ Some p = e in cc
+drop_got (q ∷ qs) zero p e = let found : Some q ≡ Some p = e in let same : q ≡ p = cc in ap (λ z. z ∷ qs) same
 drop_got (q ∷ qs) (suc i) p e =
     let k : suc (i + 1) ≡ suc i + 1 = omega arith in
     drop_got qs i p e ∙ ap (λ n. p ∷ drop n (q ∷ qs)) k
 
 got_below : (ps : List Piece) (i : ℕ) (p : Piece) → slice_get ps i ≡ Some p → i < length ps
-got_below [] i p e = absurd (none_some e)
-  where
-    none_some : None ≡ Some p → ⊥
-    none_some e = subst (λ o. IsNone o) e tt
-      where
-        IsNone : Option Piece → Type 0
-        IsNone None = Unit {0}
-        IsNone (Some r) = ⊥
+got_below [] i p e = let none : None ≡ Some p = e in let no : ⊥ = cc in absurd no
 got_below (q ∷ qs) zero p e = omega arith
 got_below (q ∷ qs) (suc i) p e = let l = got_below qs i p e in omega arith
 
 start_got : (ps : List Piece) (i : ℕ) (p : Piece) → slice_get ps i ≡ Some p → HasStart p.x ps
 start_got [] i p e = let l = got_below [] i p e in absurd (omega arith)
-start_got (q ∷ qs) zero p e = inl (first q p e)
-  where
-    first : (p q : Piece) → Some p ≡ Some q → p.x ≡ q.x
-    first p q h = ap (λ o. or_else p o) h
-      where
-        or_else : Piece → Option Piece → ℚ
-        or_else p None = p.x
-        or_else p (Some r) = r.x
+start_got (q ∷ qs) zero p e = let found : Some q ≡ Some p = e in let same : q ≡ p = cc in inl (ap (λ z. z.x) same)
 start_got (q ∷ qs) (suc i) p e = inr (start_got qs i p e)
 
 before_next : (x : ℚ) (ps : List Piece) (i : ℕ) → IsBeforeAt x ps i → BeforeNext x (drop i ps)
@@ -126,6 +98,11 @@ overlay_start (x ∷ xs) (y ∷ ys) p q s t a b =
     subst (λ z. OverlayLoop (x ∷ xs) (y ∷ ys) (record { left = z; right = q } ∷ []) record { i = 1; j = 1; here = record { left = z; right = q } }) (sym a)
     (subst (λ z. OverlayLoop (x ∷ xs) (y ∷ ys) (record { left = x; right = z } ∷ []) record { i = 1; j = 1; here = record { left = x; right = z } }) (sym b)
     (overlay_first x y xs ys s t))
+
+pub started : (f g : List Piece) (w : Walk) → StartsAtZero f → StartsAtZero g → IsStart f g w → OverlayLoop f g (w.here ∷ []) w
+started f g w l r S =
+    subst (λ (n : ℕ). OverlayLoop f g (w.here ∷ []) record { i = n; j = w.j; here = w.here }) (sym S.i)
+    (subst (λ (n : ℕ). OverlayLoop f g (w.here ∷ []) record { i = 1; j = n; here = w.here }) (sym S.j) (overlay_start f g w.here.left w.here.right l r S.left S.right))
 
 -- the facts of a step, from the walks of both sides
 step_loop : (f g : List Piece) (out : List Both) (w v : Walk) → (L : OverlayLoop f g out w) → v.here.left.x ≡ v.here.right.x

@@ -23,6 +23,7 @@ use Rattle.upp_limits.proofs.Every.{every_left}
 use Rattle.upp_limits.proofs.Operands.{curve_period}
 use Rattle.upp_normal.specs.Ahead.{HasWindow, IsTimeIn}
 use Rattle.upp_normal.proofs.GaugeRises.{curve_earlier}
+use Rattle.upp_normal.specs.Operand.{AreLimited}
 use Rattle.curve_call.specs.Compared.{AreCompared, IsLookedAt}
 use Rattle.curve_call.specs.Gaps.{InWindow, IsLargest}
 use Rattle.curve_call.specs.Bounds.{own_or, OwnWindow}
@@ -67,6 +68,22 @@ own_period_is z from d c L =
     tail_period z d c.pieces c.tail R.curve.normal.raw.tail L.some on R.periods
     (every_left (Whole z.dt) (stored_period c.tail) (map (λ s. s.piece.x) (spans_below c (from +ℚ d))) R.stands.times.1)
 
+-- sizes hold a shorter window
+pub limited_less : (z : Sizes) (end e : ℚ) → AreLimited z end → Whole z.dt e → int (pos 0) ≤ℚ e → e ≤ℚ end → AreLimited z e
+limited_less z end e A w some l = record {
+  sizes = record {
+    dv = A.sizes.dv;
+    dt = A.sizes.dt;
+    ds = A.sizes.ds;
+    steepness = A.sizes.steepness;
+    largest = A.sizes.largest;
+    window = w;
+    reach = le_trans (mul_le_mul (int (pos z.steepness)) (nat_nonneg z.steepness) l) A.sizes.reach;
+  };
+  gauge = A.gauge;
+  some = some;
+}
+
 -- ---- looked at over it
 pub own_looked : (z : Sizes) (from d : ℚ) (c : SpecCurve) → IsLookedAt z from d c → IsLookedAt z from (own_or d c) c
 own_looked z from d c L =
@@ -79,19 +96,7 @@ own_looked z from d c L =
     let early : from +ℚ p ≤ℚ from +ℚ d = with3 from p d (λ c. omega (arith, c.le, c.lt, c.same)) in
     let low = (compared_window z from d c c R.curve R.curve (with_itself z from d c L)).2.nonneg in
     record {
-      limited = record {
-        sizes = record {
-          dv = A.sizes.dv;
-          dt = A.sizes.dt;
-          ds = A.sizes.ds;
-          steepness = A.sizes.steepness;
-          largest = A.sizes.largest;
-          window = whole_add z.dt from p L.start P.whole;
-          reach = le_trans (mul_le_mul (int (pos z.steepness)) (nat_nonneg z.steepness) early) A.sizes.reach;
-        };
-        gauge = A.gauge;
-        some = with2 from p (λ c. omega (arith, c.le, c.lt, c.same));
-      };
+      limited = limited_less z (from +ℚ d) (from +ℚ p) A (whole_add z.dt from p L.start P.whole) (with2 from p (λ c. omega (arith, c.le, c.lt, c.same))) early;
       start = L.start;
       some = some;
       curve = record { curve = R.curve; stands = curve_earlier z (from +ℚ p) (from +ℚ d) c (curve_period c R.curve) early R.stands; steady_by = R.steady_by; periods = P.periods };

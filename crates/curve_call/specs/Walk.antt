@@ -1,10 +1,17 @@
 -- One step of the walk over two windows: which of the next pieces comes first.
-use Rattle.std.specs.Prelude.{◌≡◌, ℕ, ◌+◌, List, ◌⊎◌, Some, IfSome, slice_get}
+use Rattle.std.specs.Prelude.{◌≡◌, ℕ, ◌+◌, List, ◌⊎◌, Some, IfSome, slice_get, slice_index_or}
 use Rattle.upp_limits.specs.rational.specs.Rational.{ℚ, ◌<ℚ◌}
 use Rattle.upp_limits.specs.upp_curve.specs.declared.affine_segment.line.Piece.{Piece}
 use Rattle.upp_limits.specs.upp_curve.specs.affine_segment.Fits.{LineFitsAt}
 use Rattle.curve_call.specs.declared.stretch.Walk.{Walk}
 use Rattle.curve_call.specs.Stretches.{cut_at}
+
+-- where the walk begins: with the first piece of each
+pub record IsStart (f g : List Piece) (w : Walk) : Type 0 where
+  pub i : w.i ≡ 1
+  pub j : w.j ≡ 1
+  pub left : w.here.left ≡ slice_index_or f 0 w.here.left
+  pub right : w.here.right ≡ slice_index_or g 0 w.here.right
 
 -- x is before the i-th start, where there is one
 abbrev pub IsBeforeAt : ℚ → List Piece → ℕ → Type 0

@@ -3,7 +3,7 @@
 ghost use Rattle.std.specs.Prelude.{ℕ, ◌≡◌, ◌≤◌, pos, IfSome};
 ghost use Rattle.upp_limits.specs.rational.specs.Rational.{ℚ, int, ◌+ℚ◌, ◌-ℚ◌, ◌<ℚ◌};
 ghost use Rattle.upp_limits.specs.rational.specs.Extended.{◌<ₑ◌};
-ghost use Rattle.upp_limits.specs.upp_curve.specs.Curve.{value_at};
+ghost use Rattle.upp_limits.specs.upp_curve.specs.Curve.{SpecCurve, value_at};
 ghost use Rattle.upp_limits.specs.upp_curve.specs.Steady.{rate, rise_over};
 ghost use Rattle.upp_limits.specs.Periods.{periods_after};
 ghost use Rattle.upp_limits.specs.Limits.{Sizes};
@@ -13,7 +13,7 @@ ghost use Rattle.curve_call.specs.Levels.{level_curve};
 ghost use Rattle.curve_call.specs.Gaps.{IsLargest};
 ghost use Rattle.curve_call.specs.GapSteps.{gap_of, IsGapValue, GapStands};
 ghost use Rattle.curve_call.specs.Compared.{AreCompared, IsLookedAt};
-ghost use Rattle.curve_call.specs.Bounds.{AreBounds, IsMost, OwnWindow};
+ghost use Rattle.curve_call.specs.Bounds.{AreBounds, IsMost, OwnWindow, own_or};
 
 use crate::gaps::{Gap, gap_of, side_gap};
 use crate::least::{is_slower, lead_over, least_times, rise_of};
@@ -37,6 +37,16 @@ pub fn zero_level<'a>() -> Side<'a>
     Side::level(Frac::zero())
 }
 
+/// Where the period of its own ends that begins at `from`.
+fn own_end(c: &Side, from: Frac, period: Frac) -> Frac
+    requires { (z : Sizes) × IsLookedAt z from period c.now }
+    ensures end { result ≡ from +ℚ own_or period c.now }
+    ensures windows { (z : Sizes) (zero : SpecCurve) → IsLookedAt z from period c.now → zero ≡ level_curve (int (pos 0))
+        → HasWindow z result c.now × HasWindow z result zero × IsTimeIn z result from }
+{
+    sum(from, c.own_period(period))
+}
+
 /// By how much a curve is above 0 in one period of its own; none where it is infinite in it.
 fn top_over(c: &Side, from: Frac, period: Frac) -> Option<Frac>
     requires { (z : Sizes) × IsLookedAt z from period c.now }
@@ -44,7 +54,7 @@ fn top_over(c: &Side, from: Frac, period: Frac) -> Option<Frac>
         (IsLargest (OwnWindow from period c.now) (value_at c.now) (value_at (level_curve (int (pos 0))))) }
     ensures sizes { IfSome result (λ q. (z : Sizes) → IsLookedAt z from period c.now → IsGapValue z q) }
 {
-    let end = sum(from, c.own_period(period));
+    let end = own_end(c, from, period);
     match side_gap(c, &zero_level(), from, end) {
         Gap::Is(top) => Some(top),
         _ => None,
@@ -58,7 +68,7 @@ fn depth_over(c: &Side, from: Frac, period: Frac) -> Option<Frac>
         (IsLargest (OwnWindow from period c.now) (value_at (level_curve (int (pos 0)))) (value_at c.now)) }
     ensures sizes { IfSome result (λ q. (z : Sizes) → IsLookedAt z from period c.now → IsGapValue z q) }
 {
-    let end = sum(from, c.own_period(period));
+    let end = own_end(c, from, period);
     match side_gap(&zero_level(), c, from, end) {
         Gap::Is(depth) => Some(depth),
         _ => None,

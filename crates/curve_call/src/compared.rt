@@ -6,18 +6,12 @@ ghost use Rattle.upp_limits.specs.min_plus.specs.Pointwise.{excess};
 ghost use Rattle.curve_call.specs.Made.{made_value, made_rises};
 ghost use Rattle.curve_call.specs.Operands.{HaveSizes, IsMadeOf};
 
-use crate::made::{Made, made_of};
+use crate::made::{Made, MadePieces, made_of};
 use std::alloc::{AllocError, Global};
 use upp_limits::fraction128::Frac;
 use upp_limits::upp_curve::affine_segment::Piece;
 
-fn window_made(
-    alloc: Global,
-    made: Made,
-    f: &[Piece],
-    g: &[Piece],
-    end: Frac,
-) -> Result<Vec<Piece>, AllocError>
+fn window_made(alloc: Global, made: Made, f: &[Piece], g: &[Piece], end: Frac) -> MadePieces
     requires { HaveSizes end f.now g.now }
     ensures { IfOk result (λ v. IsMadeOf (made_value made) (made_rises made) f.now g.now end v.items) }
 {

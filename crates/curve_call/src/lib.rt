@@ -25,7 +25,7 @@ mod times;
 mod window_laws;
 mod windows;
 
-pub use answers::answer;
+pub use answers::{answer, framed_answer};
 pub use between::refuse_between;
 pub use bounds::{Bounds, bounds_below, period_bounds, side_bounds, zero_level};
 pub use compared::{window_excess, window_max, window_min};

@@ -11,11 +11,14 @@ ghost use Rattle.curve_call.specs.Stretches.{CutsFit};
 ghost use Rattle.curve_call.specs.Made.{made_value, made_line, line_apart, zero_line, first_piece, IsParts, IsMadeWindow, ValueApartFits, LineApartFits, StretchMadeFits, MadeWindowFits};
 
 use crate::lie::lie_of;
-use crate::stretch::{Both, Walk, cut, present, start_of, step};
+use crate::stretch::{Both, at_start, cut, present, start_of, step};
 use std::alloc::{AllocError, Global};
 use upp_limits::fraction128::{Ext, Frac, difference, greater, greater_value, lesser_value};
 use upp_limits::rational::Extended;
 use upp_limits::upp_curve::affine_segment::{Line, Piece};
+
+/// Pieces, or want of memory.
+pub(crate) type MadePieces = Result<Vec<Piece>, AllocError>;
 
 /// What is made of two windows.
 #[derive(Debug, Clone, Copy)]
@@ -133,27 +136,14 @@ fn parts_up_to(made: Made, b: &Both, to: Frac, end: Frac) -> Parts
 
 /// What is made of two windows up to `end`, in one pass over both: two pieces at most of each stretch on which both go
 /// on with one line.
-pub(crate) fn made_of(
-    alloc: Global,
-    made: Made,
-    f: &[Piece],
-    g: &[Piece],
-    end: Frac,
-) -> Result<Vec<Piece>, AllocError>
+pub(crate) fn made_of(alloc: Global, made: Made, f: &[Piece], g: &[Piece], end: Frac) -> MadePieces
     requires left { StartsAtZero f.now }
     requires right { StartsAtZero g.now }
     requires cuts { CutsFit f.now g.now }
     requires fits { MadeWindowFits end f.now g.now }
     ensures { IfOk result (λ v. IsMadeWindow made f.now g.now end v.items) }
 {
-    let mut walk = Walk {
-        i: 1,
-        j: 1,
-        here: Both {
-            left: f[0],
-            right: g[0],
-        },
-    };
+    let mut walk = at_start(f, g);
     let mut pieces = Vec::with_capacity(alloc, f.len().saturating_add(g.len()))?;
     let mut here = present(&walk);
     while walk.i < f.len() || walk.j < g.len() {

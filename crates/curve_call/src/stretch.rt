@@ -4,7 +4,7 @@ ghost use Rattle.std.specs.Prelude.{◌≡◌, ◌+◌, ◌<◌, ◌^◌, ◌⊎
 ghost use Rattle.upp_limits.specs.upp_curve.specs.affine_segment.Values.{line_value};
 ghost use Rattle.upp_limits.specs.upp_curve.specs.affine_segment.Pieces.{StartsAtZero};
 ghost use Rattle.upp_limits.specs.upp_curve.specs.affine_segment.Fits.{LineFitsAt};
-ghost use Rattle.curve_call.specs.Walk.{NextFits, IsStep};
+ghost use Rattle.curve_call.specs.Walk.{IsStart, NextFits, IsStep};
 ghost use Rattle.curve_call.specs.Stretches.{cut_at, IsOverlay, CutsFit};
 
 use std::alloc::{AllocError, Global};
@@ -51,6 +51,23 @@ pub(crate) struct Walk {
     pub(crate) i: usize,
     pub(crate) j: usize,
     pub(crate) here: Both,
+}
+
+/// The walk at its start, with the first piece of each window.
+#[inline]
+pub(crate) fn at_start(f: &[Piece], g: &[Piece]) -> Walk
+    requires left { StartsAtZero f.now }
+    requires right { StartsAtZero g.now }
+    ensures { IsStart f.now g.now result }
+{
+    Walk {
+        i: 1,
+        j: 1,
+        here: Both {
+            left: f[0],
+            right: g[0],
+        },
+    }
 }
 
 /// The present stretch of the walk.
@@ -155,14 +172,7 @@ pub fn overlay(alloc: Global, f: &[Piece], g: &[Piece]) -> Result<Vec<Both>, All
     requires fits { CutsFit f.now g.now }
     ensures { IfOk result (λ v. IsOverlay f.now g.now v.items) }
 {
-    let mut walk = Walk {
-        i: 1,
-        j: 1,
-        here: Both {
-            left: f[0],
-            right: g[0],
-        },
-    };
+    let mut walk = at_start(f, g);
     let mut stretches = Vec::with_capacity(alloc, f.len().saturating_add(g.len()))?;
     stretches.push(walk.here)?;
     while walk.i < f.len() || walk.j < g.len() {

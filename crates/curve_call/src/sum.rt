@@ -9,7 +9,7 @@ ghost use Rattle.upp_limits.specs.upp_curve.specs.affine_segment.Pieces.{StartsA
 ghost use Rattle.curve_call.specs.Stretches.{CutsFit};
 ghost use Rattle.curve_call.specs.Pointwise.{sum_line, sum_piece, ValueSumFits, LineSumFits, StretchSumFits, SumsFit, IsWindowSum};
 
-use crate::stretch::{Both, Walk, step};
+use crate::stretch::{Both, at_start, step};
 use std::alloc::{AllocError, Global};
 use upp_limits::fraction128::{Ext, sum};
 use upp_limits::rational::Extended;
@@ -63,14 +63,7 @@ pub fn window_sum(alloc: Global, f: &[Piece], g: &[Piece]) -> Result<Vec<Piece>,
     requires sums { SumsFit f.now g.now }
     ensures { IfOk result (λ v. IsWindowSum f.now g.now v.items) }
 {
-    let mut walk = Walk {
-        i: 1,
-        j: 1,
-        here: Both {
-            left: f[0],
-            right: g[0],
-        },
-    };
+    let mut walk = at_start(f, g);
     let mut pieces = Vec::with_capacity(alloc, f.len().saturating_add(g.len()))?;
     pieces.push(sum_stretch(&walk.here))?;
     while walk.i < f.len() || walk.j < g.len() {

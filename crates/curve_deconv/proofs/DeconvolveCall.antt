@@ -187,12 +187,8 @@ pub windows : (f g : SpecCurve) (r : Frame) (z : Sizes) (ls rs : List Piece) →
 windows f g r z ls rs h finite el er =
     let A = h.limited in
     let some = end_some f g r z h in
-    let s = steady f in
-    let p = answer_period f g in
-    let e = r.end in
-    let m = both_steady f g in
-    let d = r.period in
-    let reach = reach_of f g r in
+    let s = steady f in let p = answer_period f g in let e = r.end in
+    let m = both_steady f g in let d = r.period in let reach = reach_of f g r in
     let is : reach ≡ m +ℚ d = reach_is f g r z h in
     let m_low = h.both_low in
     let d_some = h.common.above in
@@ -332,12 +328,8 @@ pub deconvolve_values : (f g : SpecCurve) (r : Frame) (z : Sizes) (ls rs ps : Li
     → rs ≡ unroll g r.end → IsDeconvolutionWindow r.end (reach_of f g r) ls rs ps → HasValues c (repeated (read ps) (steady f) (answer_period f g) (rise_over f (answer_period f g)))
     → (t : ℚ) → int (pos 0) ≤ℚ t → IsAnswerAt (value_at f) (value_at g) t (value_at c t)
 deconvolve_values f g r z ls rs ps c h finite slow el er D same =
-    let s = steady f in
-    let p = answer_period f g in
-    let e = r.end in
-    let m = both_steady f g in
-    let d = r.period in
-    let reach = reach_of f g r in
+    let s = steady f in let p = answer_period f g in let e = r.end in
+    let m = both_steady f g in let d = r.period in let reach = reach_of f g r in
     let W = windows f g r z ls rs h finite el er in
     let f_periods : IsWholePeriods f.tail d = subst (IsWholePeriods f.tail) (sym h.common_is) (common_first f g h.first h.second) in
     let g_periods : IsWholePeriods g.tail d = subst (IsWholePeriods g.tail) (sym h.common_is) (common_second f g h.first h.second) in

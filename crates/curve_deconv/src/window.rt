@@ -14,15 +14,12 @@ use std::alloc::{AllocError, Global};
 use upp_limits::fraction128::Frac;
 use upp_limits::upp_curve::affine_segment::{Piece, read};
 
+/// Pieces, or want of memory.
+pub(crate) type MadePieces = Result<Vec<Piece>, AllocError>;
+
 // The least of g at u less f at t + u, over all u from 0 on and up to `reach` at which both are finite, at `reach`
 // after t.
-fn pairs_window(
-    alloc: Global,
-    f: &[Piece],
-    g: &[Piece],
-    reach: Frac,
-    end: Frac,
-) -> Result<Vec<Piece>, AllocError>
+fn pairs_window(alloc: Global, f: &[Piece], g: &[Piece], reach: Frac, end: Frac) -> MadePieces
     requires { OperandWindows end reach f.now g.now }
     ensures { IfOk result (λ v. IsPairsWindow end reach f.now g.now v.items) }
 {
@@ -33,13 +30,7 @@ fn pairs_window(
 }
 
 // The same, and infinity where f is infinite at t or later.
-fn raised_window(
-    alloc: Global,
-    f: &[Piece],
-    g: &[Piece],
-    reach: Frac,
-    end: Frac,
-) -> Result<Vec<Piece>, AllocError>
+fn raised_window(alloc: Global, f: &[Piece], g: &[Piece], reach: Frac, end: Frac) -> MadePieces
     requires { OperandWindows end reach f.now g.now }
     ensures { IfOk result (λ v. IsRaisedWindow end reach f.now g.now v.items) }
 {
@@ -58,7 +49,7 @@ pub(crate) fn window_deconvolution(
     g: &[Piece],
     reach: Frac,
     end: Frac,
-) -> Result<Vec<Piece>, AllocError>
+) -> MadePieces
     requires { OperandWindows end reach f.now g.now }
     ensures { IfOk result (λ v. IsDeconvolutionWindow end reach f.now g.now v.items) }
 {

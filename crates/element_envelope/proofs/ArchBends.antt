@@ -200,44 +200,9 @@ record Near (T : ℕ) (end x m h : ℚ) : Type 0 where
   some : int (pos 0) <ℚ h
   twice : h +ℚ h <ℚ m
 
-around_mid : (T : ℕ) (end x m h : ℚ) → Near T end x m h → IsAround T end (x -ℚ m) (x +ℚ m) x h
-around_mid T end x m h N =
-    let s = N.some in
-    let w = N.twice in
-    record {
-      bare = N.bare;
-      nonneg = N.nonneg;
-      most = N.most;
-      before = with3 x m h (λ c. omega (arith, c.le, c.lt, c.same));
-      after = with3 x m h (λ c. omega (arith, c.le, c.lt, c.same));
-      some = le_of_lt N.some;
-    }
-
-around_late : (T : ℕ) (end x m h : ℚ) → Near T end x m h → IsAround T end (x -ℚ m) (x +ℚ m) (x +ℚ h) h
-around_late T end x m h N =
-    let s = N.some in
-    let w = N.twice in
-    record {
-      bare = N.bare;
-      nonneg = N.nonneg;
-      most = N.most;
-      before = with3 x m h (λ c. omega (arith, c.le, c.lt, c.same));
-      after = with3 x m h (λ c. omega (arith, c.le, c.lt, c.same));
-      some = le_of_lt N.some;
-    }
-
-around_early : (T : ℕ) (end x m h : ℚ) → Near T end x m h → IsAround T end (x -ℚ m) (x +ℚ m) (x -ℚ h) h
-around_early T end x m h N =
-    let s = N.some in
-    let w = N.twice in
-    record {
-      bare = N.bare;
-      nonneg = N.nonneg;
-      most = N.most;
-      before = with3 x m h (λ c. omega (arith, c.le, c.lt, c.same));
-      after = with3 x m h (λ c. omega (arith, c.le, c.lt, c.same));
-      some = le_of_lt N.some;
-    }
+around : (T : ℕ) (end x m h y : ℚ) → Near T end x m h → x -ℚ m <ℚ y -ℚ h → y +ℚ h <ℚ x +ℚ m → IsAround T end (x -ℚ m) (x +ℚ m) y h
+around T end x m h y N before after =
+    record { bare = N.bare; nonneg = N.nonneg; most = N.most; before = before; after = after; some = le_of_lt N.some }
 
 sides_of : (T : ℕ) (end x m h : ℚ) (f : ℚ → Ext) (p q : Piece) (next : ℚ) → q.x ≡ x → Arches T end f → GoesThrough f p q next → Near T end x m h → m ≤ℚ x -ℚ p.x → m ≤ℚ next -ℚ x
     → Sides p.line q.line q.at x h
@@ -255,9 +220,9 @@ sides_of T end x m h f p q next ex F G N lp ln =
     G.second (x +ℚ (h +ℚ h)) (subst (λ y. y <ℚ x +ℚ (h +ℚ h)) (sym ex) (with2 x h (λ c. omega (arith, c.le, c.lt, c.same)))) (with4 next x m h (λ c. omega (arith, c.le, c.lt, c.same))) in
     let here : f x ≡ q.at = ap f (sym ex) ∙ G.at in
     let add = λ (u v : Ext). u +ₑ v in
-    let mid = F (x -ℚ m) (x +ℚ m) x h (around_mid T end x m h N) in
-    let right = F (x -ℚ m) (x +ℚ m) (x +ℚ h) h (around_late T end x m h N) in
-    let left = F (x -ℚ m) (x +ℚ m) (x -ℚ h) h (around_early T end x m h N) in
+    let mid = F (x -ℚ m) (x +ℚ m) x h (around T end x m h x N (with3 x m h (λ c. omega (arith, c.le, c.lt, c.same))) (with3 x m h (λ c. omega (arith, c.le, c.lt, c.same)))) in
+    let right = F (x -ℚ m) (x +ℚ m) (x +ℚ h) h (around T end x m h (x +ℚ h) N (with3 x m h (λ c. omega (arith, c.le, c.lt, c.same))) (with3 x m h (λ c. omega (arith, c.le, c.lt, c.same)))) in
+    let left = F (x -ℚ m) (x +ℚ m) (x -ℚ h) h (around T end x m h (x -ℚ h) N (with3 x m h (λ c. omega (arith, c.le, c.lt, c.same))) (with3 x m h (λ c. omega (arith, c.le, c.lt, c.same)))) in
     record {
       some = N.some;
       middle = subst (λ v. v ≤ₑ q.at +ₑ q.at) (ap₂ add back forth) (subst (λ v. f (x -ℚ h) +ₑ f (x +ℚ h) ≤ₑ v) (ap₂ add here here) mid);

@@ -1,6 +1,6 @@
 -- What a test of a value against a line tells; and pieces that are left out one after another.
 use Rattle.std.specs.Prelude.{◌≡◌, ◌↔◌, ◌⊎◌, Bool, true, false, not, IsTrue, List, [], ◌∷◌, ◌++◌, Option, Some, None}
-use Rattle.std.proofs.Common.{true≢false, refl, sym, ap, ◌∙◌, subst, inl, inr, append_assoc, append-nil}
+use Rattle.std.proofs.Common.{ℕ, ◌<◌, length, get_or, true≢false, refl, sym, ap, ◌∙◌, subst, inl, inr, append_assoc, append-nil}
 use Rattle.upp_limits.specs.rational.specs.Rational.{ℚ, ◌≤ℚ◌, ◌<ℚ◌}
 use Rattle.upp_limits.specs.rational.specs.Extended.{Ext, ◌≤ₑ◌}
 use Rattle.upp_limits.specs.rational.specs.declared.Extended.TheVariants.{Fin}
@@ -9,6 +9,21 @@ use Rattle.upp_limits.specs.upp_curve.specs.declared.affine_segment.line.Line.{L
 use Rattle.upp_limits.specs.upp_curve.specs.declared.affine_segment.line.Piece.{Piece}
 use Rattle.upp_limits.specs.upp_curve.specs.affine_segment.Values.{line_at, line_value}
 use Rattle.element_envelope.specs.Turnings.{BendsDown, IsThinned}
+use Rattle.upp_limits.specs.rational.proofs.Laws.{le_of_lt}
+use Rattle.upp_limits.specs.upp_curve.specs.affine_segment.Pieces.{Each}
+use Rattle.upp_limits.specs.upp_curve.specs.affine_segment.Fits.{LineFitsAt}
+use Rattle.upp_limits.specs.Limits.{Sizes}
+use Rattle.curve_call.specs.upp_normal.specs.Operand.{AreLimited, OperandLineAt}
+use Rattle.curve_call.specs.upp_normal.proofs.AnswerRoom.{operand_line_fits}
+use Rattle.curve_call.specs.upp_normal.proofs.NormaliseRank.{each_index}
+use Rattle.element_envelope.specs.ConvolutionWindows.{WindowPiece}
+
+-- ---- a piece of a window
+pub piece_there : (z : Sizes) (end : ℚ) (ps : List Piece) (i : ℕ) (p : Piece) → i < length ps → p ≡ get_or ps i p → Each (WindowPiece z end) ps → WindowPiece z end p
+piece_there z end ps i p below is each = subst (WindowPiece z end) (sym is) (each_index (WindowPiece z end) ps i p below each)
+
+pub line_there : (z : Sizes) (end : ℚ) (l : Option Line) (p : Piece) → AreLimited z end → WindowPiece z end p → OperandLineAt z l → LineFitsAt p.x l
+line_there z end l p A P L = operand_line_fits z end p.x l A L P.start P.nonneg (le_of_lt P.before)
 
 pub is_false : (b : Bool) → IsTrue (not b) → b ≡ false
 is_false true h = absurd (true≢false (sym h))

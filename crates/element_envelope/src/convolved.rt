@@ -9,7 +9,7 @@ ghost use Rattle.element_envelope.specs.Turnings.{AreCopies};
 
 use crate::copies::least_copies;
 use crate::cutting::cut;
-use crate::least::{envelope, lower_joined};
+use crate::least::{MadePieces, envelope, lower_joined};
 use crate::near::{near_starts, steepest};
 use crate::starts::{are_low_at_starts, turning_starts};
 use std::alloc::{AllocError, Global};
@@ -19,13 +19,7 @@ use upp_limits::upp_curve::affine_segment::Piece;
 
 // The least of the copies of g at some starts, of which those are left out that are so far above the first one that their
 // copies are nowhere below its copy.
-fn near_copies(
-    alloc: Global,
-    starts: &[Piece],
-    g: &[Piece],
-    from: Frac,
-    end: Frac,
-) -> Result<Vec<Piece>, AllocError>
+fn near_copies(alloc: Global, starts: &[Piece], g: &[Piece], from: Frac, end: Frac) -> MadePieces
     requires room { CopyRoom from end starts.now g.now }
     requires low { LowAtStarts g.now }
     ensures { IfOk result (λ v. IsCopyWindow from end starts.now g.now v.items) }
@@ -41,13 +35,7 @@ fn near_copies(
 }
 
 // The least of the copies of g at those starts of f that count.
-fn copies_at(
-    alloc: Global,
-    f: &[Piece],
-    g: &[Piece],
-    from: Frac,
-    end: Frac,
-) -> Result<Vec<Piece>, AllocError>
+fn copies_at(alloc: Global, f: &[Piece], g: &[Piece], from: Frac, end: Frac) -> MadePieces
     requires windows { WindowsFrom from end f.now g.now }
     requires low { LowAtStarts g.now }
     ensures { IfOk result (λ v. AreCopies from end f.now g.now v.items) }
@@ -57,13 +45,7 @@ fn copies_at(
 }
 
 // By the copies of each at those starts of the other that count.
-fn by_starts(
-    alloc: Global,
-    f: &[Piece],
-    g: &[Piece],
-    from: Frac,
-    end: Frac,
-) -> Result<Vec<Piece>, AllocError>
+fn by_starts(alloc: Global, f: &[Piece], g: &[Piece], from: Frac, end: Frac) -> MadePieces
     requires windows { WindowsFrom from end f.now g.now }
     requires left { LowAtStarts f.now }
     requires right { LowAtStarts g.now }
@@ -75,13 +57,7 @@ fn by_starts(
 }
 
 // By all pairs of their elements, from 0 on.
-fn by_pairs(
-    alloc: Global,
-    f: &[Piece],
-    g: &[Piece],
-    from: Frac,
-    end: Frac,
-) -> Result<Vec<Piece>, AllocError>
+fn by_pairs(alloc: Global, f: &[Piece], g: &[Piece], from: Frac, end: Frac) -> MadePieces
     requires { WindowsFrom from end f.now g.now }
     ensures { IfOk result (λ v. IsConvolutionFrom f.now g.now from end v.items) }
 {

@@ -19,6 +19,9 @@ use upp_limits::fraction128::{Frac, is_less};
 use upp_limits::rational::Extended;
 use upp_limits::upp_curve::affine_segment::{Element, Piece, start_of};
 
+/// Pieces, or want of memory.
+pub(crate) type MadePieces = Result<Vec<Piece>, AllocError>;
+
 /// The window that is infinite throughout.
 pub(crate) fn nothing(alloc: Global) -> Result<Vec<Piece>, AllocError>
     ensures { IfOk result (λ v. v.items ≡ nothing_at (int (pos 0)) ∷ []) }
@@ -52,12 +55,7 @@ fn pair_window(alloc: Global, a: &Element, b: &Element, end: Frac) -> Result<Vec
 }
 
 /// The lower of two windows, with neighbours joined that are one piece.
-pub(crate) fn lower_joined(
-    alloc: Global,
-    f: &[Piece],
-    g: &[Piece],
-    end: Frac,
-) -> Result<Vec<Piece>, AllocError>
+pub(crate) fn lower_joined(alloc: Global, f: &[Piece], g: &[Piece], end: Frac) -> MadePieces
     requires left { StartsAtZero f.now }
     requires right { StartsAtZero g.now }
     requires cuts { CutsFit f.now g.now }

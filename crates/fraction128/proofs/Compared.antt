@@ -7,13 +7,14 @@ use Rattle.std.specs.Ordering.{is_eq}
 use Rattle.std.specs.Cmp.{both_ways, Equal-is}
 use Rattle.std.proofs.lemmas.Bool.{cases_lt}
 use Rattle.std.proofs.lemmas.Int.{ints, by_lt_z}
-use native.Mathlib.Nat.{div-add-mod, div-add-mod', mod-lt, mul-le-mul_right, mul-lt-mul_of_pos_right, mul-pos, zero-lt-suc, pos_of_ne-zero}
+use native.Mathlib.Nat.{div-add-mod, mul-le-mul_right, mul-lt-mul_of_pos_right, mul-pos, zero-lt-suc, pos_of_ne-zero}
 use Rattle.rational.specs.Ints.{diffs, diff_is, diff_same, le_scale_z, lt_scale_z}
 use Rattle.rational.specs.Rational.{ℚ}
 use Rattle.rational.specs.Ratio.{ratio, cmp_q}
 use Rattle.rational.proofs.Floor.{one_more}
 use Rattle.rational.proofs.Comparison.{cmp_equal, cmp_self}
-use Rattle.fraction128.specs.Order.{same_q}
+use Rattle.rational.specs.Compared.{same_q}
+use Rattle.rational.proofs.Floor.{euclid}
 use Rattle.fraction128.specs.Parts.{AreLowest}
 use Rattle.fraction128.proofs.Values.{parts_of}
 use Rattle.rational.specs.Floor.{IsWholeAndRest}
@@ -127,13 +128,7 @@ cmp_one_den a b d (suc e) some same = rw same (cases a b)
         (λ g. let same : a ≡ b = omega (arith, ints) in int_cmp_equal a b same ∙ sym (int_cmp_equal _ _ (ap (λ z. z *ℤ pos (suc e)) same))))
 
 pub whole_below : (n d : ℕ) → 0 < d → IsWholeAndRest (negsuc n) d (negsuc (n / d)) (d - 1 - n % d)
-whole_below n d some =
-    let e = div-add-mod' n d in
-    let l = mod-lt n some in
-    record { is = whole n (n / d) d (n % d) e l; below = omega arith }
-  where
-    whole : (n k d r : ℕ) → k * d + r ≡ n → r < d → negsuc n ≡ negsuc k *ℤ pos d +ℤ pos (d - 1 - r)
-    whole n k d r e l = omega (arith, ints)
+whole_below n d some = euclid (negsuc n) d some
 
 -- the same from what the code has: the size less one is divided
 pub whole_below_code : (a : ℤ) (d k r : ℕ) (z : ℤ) → le_z (pos 0) a ≡ false → 0 < d → k ≡ (unsigned_abs a - 1) / d → r ≡ (unsigned_abs a - 1) % d → z ≡ negsuc 0 -ℤ pos k

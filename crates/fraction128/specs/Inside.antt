@@ -1,4 +1,4 @@
--- What the fields of a `Frac` say, and how its value gives them back.
+-- What the fields of a `Frac` say, and how its value gives them back. The law that its `Model` owes stands here, since it is of those fields.
 use Rattle.std.specs.Prelude.{◌≡◌, ℕ, zero, suc, ℤ, pos}
 use Rattle.std.proofs.Common.{ap, ap₂, sym, ◌∙◌, arith, refl}
 use Rattle.rational.specs.Rational.{ℚ}

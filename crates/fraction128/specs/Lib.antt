@@ -1,6 +1,5 @@
 pub mod Parts
 pub mod Inside
-pub mod Order
 pub mod Fits
 pub mod Text
 pub mod Multiple

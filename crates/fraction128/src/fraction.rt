@@ -344,7 +344,8 @@ fn are_same(a: i128, d: u128, b: i128, e: u128) -> bool
 }
 
 impl PartialEq for Frac {
-    ghost use Rattle.fraction128.specs.Order.{same_q, same_q_partial};
+    ghost use Rattle.rational.specs.Compared.{same_q};
+    ghost use Rattle.rational.proofs.OrderLaws.{same_q_partial};
 
     ghost eq = { same_q };
 
@@ -360,13 +361,14 @@ impl PartialEq for Frac {
 }
 
 impl Eq for Frac {
-    ghost use Rattle.fraction128.specs.Order.{same_q_equivalence};
+    ghost use Rattle.rational.proofs.OrderLaws.{same_q_equivalence};
 
     ghost laws = { same_q_equivalence };
 }
 
 impl PartialOrd for Frac {
-    ghost use Rattle.fraction128.specs.Order.{partial_cmp_q, partial_cmp_q_order};
+    ghost use Rattle.rational.specs.Compared.{partial_cmp_q};
+    ghost use Rattle.rational.proofs.OrderLaws.{partial_cmp_q_order};
 
     ghost partial_cmp = { partial_cmp_q };
 
@@ -378,7 +380,7 @@ impl PartialOrd for Frac {
 }
 
 impl Ord for Frac {
-    ghost use Rattle.fraction128.specs.Order.{cmp_q_total};
+    ghost use Rattle.rational.proofs.OrderLaws.{cmp_q_total};
 
     ghost cmp = { cmp_q };
 

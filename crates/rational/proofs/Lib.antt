@@ -12,6 +12,7 @@ pub mod LinearExamples
 pub mod Bounds
 pub mod Quotients
 pub mod Comparison
+pub mod OrderLaws
 pub mod MinMax
 pub mod Compared
 pub mod ExtendedOrder

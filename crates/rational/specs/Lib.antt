@@ -5,6 +5,7 @@ pub mod Lowest
 pub mod Rational
 pub mod Fractions
 pub mod Ratio
+pub mod Compared
 pub mod MinMax
 pub mod Extended
 pub mod Bounds

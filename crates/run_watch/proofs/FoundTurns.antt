@@ -5,8 +5,8 @@ use Rattle.std.proofs.lemmas.Bool.{cases_Bool}
 use Rattle.std.specs.Ordering.{is_eq}
 use Rattle.upp_limits.specs.rational.specs.Rational.{ℚ, int, ◌+ℚ◌}
 use Rattle.upp_limits.specs.rational.proofs.Comparison.{cmp_self}
-use Rattle.upp_limits.specs.fraction128.specs.Order.{same_q}
-pub use Rattle.upp_limits.specs.fraction128.specs.Order.{same_out as same_in}
+use Rattle.upp_limits.specs.rational.specs.Compared.{same_q}
+pub use Rattle.upp_limits.specs.rational.proofs.OrderLaws.{same_out as same_in}
 use Rattle.net_model.specs.run_laws.specs.Cards.{ServerStep}
 use Rattle.net_model.specs.run_laws.specs.Servers as servers
 use Rattle.flow_watch.specs.watch_laws.Affine.{Among}

@@ -61,8 +61,7 @@ pub gate_lipschitz : (c s : ℚ) → int (pos 0) <ℚ s → s ≤ℚ c → (x y 
     → gate_time c s y ≤ℚ gate_time c s x +ℚ (y -ℚ x)
 gate_lipschitz c s some within x y from l =
     let long : int (pos 0) <ℚ c = lt_le_trans some within in
-    let m = cycles c x in
-    let n = cycles c y in
+    let m = cycles c x in let n = cycles c y in
     let a = in_cycle c x long from in
     let b = in_cycle c y long (le_trans from l) in
     elim (cases_order m n) [
@@ -171,20 +170,38 @@ ratio_least c s h l = (Rattle.upp_limits.specs.rational.proofs.Quotients.le_div 
 ratio_cycles : (c s : ℚ) (n : ℕ) → int (pos 0) <ℚ s → (c /ℚ s) *ℚ (whole n *ℚ s) ≡ whole n *ℚ c
 ratio_cycles c s n h = sym (mul_assoc (c /ℚ s) (whole n) s) ∙ ap (λ y. y *ℚ s) (mul_comm (c /ℚ s) (whole n)) ∙ mul_assoc (whole n) (c /ℚ s) s ∙ ap (λ y. whole n *ℚ y) (quotient c s h)
 
+-- where a time is in its cycle, and the ratio times the open time until then
+record InSlots (c s t : ℚ) : Type 0 where
+  one : int (pos 1) ≤ℚ c /ℚ s
+  begun : whole (cycles c t) *ℚ c ≤ℚ t
+  ends : t <ℚ whole (cycles c t) *ℚ c +ℚ c
+  split : (c /ℚ s) *ℚ gate_time c s t ≡ whole (cycles c t) *ℚ c +ℚ (c /ℚ s) *ℚ min_q (t -ℚ whole (cycles c t) *ℚ c) s
+
+in_slots : (c s t : ℚ) → int (pos 0) <ℚ s → s ≤ℚ c → int (pos 0) ≤ℚ t → InSlots c s t
+in_slots c s t some within from =
+    let n = cycles c t in
+    let a = in_cycle c t (lt_le_trans some within) from in
+    let q = c /ℚ s in
+    let u = t -ℚ whole n *ℚ c in
+    record {
+      one = ratio_least c s some within;
+      begun = a.begun;
+      ends = a.goes_on;
+      split = mul_add q (whole n *ℚ s) (min_q u s) ∙ ap (λ y. y +ℚ q *ℚ min_q u s) (ratio_cycles c s n some);
+    }
+
 pub gate_low : (c s : ℚ) → int (pos 0) <ℚ s → s ≤ℚ c → (t : ℚ) → int (pos 0) ≤ℚ t → t ≤ℚ (c /ℚ s) *ℚ gate_time c s t
 gate_low c s some within t from =
-    let long : int (pos 0) <ℚ c = lt_le_trans some within in
+    let I = in_slots c s t some within from in
     let n = cycles c t in
-    let a = in_cycle c t long from in
     let q = c /ℚ s in
-    let one = ratio_least c s some within in
     let u = t -ℚ whole n *ℚ c in
-    let split : q *ℚ gate_time c s t ≡ whole n *ℚ c +ℚ q *ℚ min_q u s = mul_add q (whole n *ℚ s) (min_q u s) ∙ ap (λ y. y +ℚ q *ℚ min_q u s) (ratio_cycles c s n some) in
-    let begun = a.begun in
-    let ends = a.goes_on in
+    let split = I.split in
+    let begun = I.begun in
+    let ends = I.ends in
     elim (min_q_one u s) [
       | inl e ↦
-          let least : int (pos 1) *ℚ u ≤ℚ q *ℚ u = mul_le_mul_right u (with2 t (whole n *ℚ c) (λ o. omega (arith, o.le, o.lt, o.same))) one in
+          let least : int (pos 1) *ℚ u ≤ℚ q *ℚ u = mul_le_mul_right u (with2 t (whole n *ℚ c) (λ o. omega (arith, o.le, o.lt, o.same))) I.one in
           let is : int (pos 1) *ℚ u ≡ u = one_mul u in
           let f : q *ℚ min_q u s ≡ q *ℚ u = ap (λ y. q *ℚ y) e in
           with6 t (whole n *ℚ c) (q *ℚ min_q u s) (q *ℚ u) (int (pos 1) *ℚ u) (q *ℚ gate_time c s t) (λ o. omega (arith, o.le, o.lt, o.same))
@@ -195,16 +212,14 @@ gate_low c s some within t from =
 
 pub gate_high : (c s : ℚ) → int (pos 0) <ℚ s → s ≤ℚ c → (t : ℚ) → int (pos 0) ≤ℚ t → (c /ℚ s) *ℚ gate_time c s t ≤ℚ t +ℚ c
 gate_high c s some within t from =
-    let long : int (pos 0) <ℚ c = lt_le_trans some within in
-    let n = cycles c t in
-    let a = in_cycle c t long from in
+    let I = in_slots c s t some within from in
+    let m = min_q (t -ℚ whole (cycles c t) *ℚ c) s in
     let q = c /ℚ s in
-    let one = ratio_least c s some within in
-    let u = t -ℚ whole n *ℚ c in
-    let split : q *ℚ gate_time c s t ≡ whole n *ℚ c +ℚ q *ℚ min_q u s = mul_add q (whole n *ℚ s) (min_q u s) ∙ ap (λ y. y +ℚ q *ℚ min_q u s) (ratio_cycles c s n some) in
-    let begun = a.begun in
-    let f : q *ℚ min_q u s ≤ℚ c = subst (λ y. q *ℚ min_q u s ≤ℚ y) (quotient c s some) (mul_le_mul q (le_trans (with1 (int (pos 0)) (λ o. omega (arith, o.le, o.lt, o.same))) one) (min_q_le_right u s)) in
-    with5 t (whole n *ℚ c) (q *ℚ min_q u s) c (q *ℚ gate_time c s t) (λ o. omega (arith, o.le, o.lt, o.same))
+    let split = I.split in
+    let begun = I.begun in
+    let f : q *ℚ m ≤ℚ c = subst (λ y. q *ℚ m ≤ℚ y) (quotient c s some)
+    (mul_le_mul q (le_trans (with1 (int (pos 0)) (λ o. omega (arith, o.le, o.lt, o.same))) I.one) (min_q_le_right (t -ℚ whole (cycles c t) *ℚ c) s)) in
+    with5 t (whole (cycles c t) *ℚ c) (q *ℚ m) c (q *ℚ gate_time c s t) (λ o. omega (arith, o.le, o.lt, o.same))
 
 -- ---- with a gate or without
 pub record IsOpenTime (P : ℚ → Type 0) (time : ℚ → ℚ) (ratio cycle : ℚ) : Type 0 where

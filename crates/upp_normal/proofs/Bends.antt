@@ -3,7 +3,7 @@
 use Rattle.std.specs.Prelude.{◌≡◌, ℕ, zero, suc, ◌+◌, ◌*◌, ◌<◌, ◌≤◌, Bool, true, false, pos, List, [], ◌∷◌, ◌++◌, Option, Some, None, ◌⊎◌, length}
 use Rattle.std.proofs.Common.{arith, sym, ap, ◌∙◌, refl, subst, inl, inr, append_assoc}
 use Prim.Native.Nat.{◌∣◌}
-use Rattle.upp_limits.specs.rational.specs.Rational.{ℚ, ◌+ℚ◌, ◌-ℚ◌, ◌*ℚ◌, ◌/ℚ◌, ◌≤ℚ◌, ◌<ℚ◌, int}
+use Rattle.upp_limits.specs.rational.specs.Rational.{ℚ, ◌+ℚ◌, ◌*ℚ◌, ◌/ℚ◌, ◌≤ℚ◌, ◌<ℚ◌, int}
 use Rattle.upp_limits.specs.rational.specs.Grid.{Whole}
 use Rattle.upp_limits.specs.rational.proofs.Grid.{whole_add, whole_sub}
 use Rattle.upp_limits.specs.rational.proofs.Laws.{not_zero, add_assoc, le_or_lt, le_of_lt, antisym, lt_trans, lt_irrefl, mul_comm, add_mul}
@@ -25,23 +25,21 @@ use Rattle.upp_limits.specs.upp_curve.specs.Normal.{FitsPeriod}
 use Rattle.upp_normal.specs.Normalising.{IsMerged, IsTwoPeriods, IsOneLine, Turned, OnGridsUnlessLine, cut_at, past, first_start, second_copy}
 use Rattle.upp_normal.specs.Bends.{ValueOn, LineOn, NumbersOn, SlopeTurns, BendAfter, OnlyBend}
 use Rattle.upp_limits.specs.upp_curve.proofs.Unique.{upto_some, upto_none, upto_end}
-use Rattle.upp_limits.specs.upp_curve.proofs.affine_segment.PieceIn.{value_past, value_at_start, piece_in_go, piece_in_stop, low_start}
+use Rattle.upp_limits.specs.upp_curve.proofs.affine_segment.PieceIn.{value_past, value_at_start, piece_in_go, piece_in_stop}
 use Rattle.upp_normal.proofs.UnrolledValues.{copies_some}
 use Rattle.upp_limits.specs.upp_curve.proofs.Repeats.{repeated_rule, repeated_first}
-use Rattle.upp_limits.specs.upp_curve.proofs.Normal.{transfer}
 use Rattle.upp_normal.proofs.NormaliseLoops.{later_none, later_some, past_go, past_stop, past_none}
 use Rattle.upp_limits.specs.upp_curve.proofs.affine_segment.PieceOrder.{rises_down, each_map}
 use Rattle.upp_normal.proofs.NormaliseLists.{past_all}
-use Rattle.upp_normal.proofs.NormaliseCuts.{none_past, start_none, start_some, upto_early}
 use Rattle.upp_normal.proofs.NormaliseMerge.{merged_none, merged_skip, merged_keep}
 use Rattle.upp_normal.proofs.NormalisePeriods.{two_periods_are, agree_from, repeats_after}
-use Rattle.upp_normal.proofs.NormaliseShape.{line_for_ever, line_before, turns_at, start_late}
-use Rattle.upp_normal.proofs.NormaliseCopies.{are_copies, moved-append}
-use Rattle.upp_normal.proofs.NormaliseDivided.{cut_of, period_is}
+use Rattle.upp_normal.proofs.NormaliseShape.{turns_at, start_late}
+use Rattle.upp_normal.proofs.NormaliseCopies.{moved-append}
+use Rattle.upp_normal.proofs.NormaliseDivided.{cut_of}
 use Rattle.upp_normal.proofs.NormaliseLeast.{share_back, share_some, whole_share}
 use Rattle.upp_normal.proofs.NormaliseForm.{merged_cons, two_periods_of}
 use Rattle.upp_normal.proofs.NormaliseRoomy.{each_in, found_early}
-use Rattle.upp_normal.proofs.NormaliseGrids.{at_later, line_later_on, continues_or, line_case, rise_by_value, rise_by_line, IsNothing, nothing_line, nothing_copies}
+use Rattle.upp_normal.proofs.NormaliseGrids.{at_later, line_later_on, continues_or, rise_by_value, rise_by_line, IsNothing, cut_copies, cut_number, from_turn}
 
 -- ---- slopes
 turns_trans : (rises : Bool) (l m n : Option Line) → SlopeTurns rises l m → SlopeTurns rises m n → SlopeTurns rises l n
@@ -289,37 +287,24 @@ turn_share rises T S D ks first k x d c g h K B R =
     let n = suc (suc (suc k)) in
     let e = d /ℚ int (pos n) in
     let u = c /ℚ int (pos n) in
-    let f = repeated (read ks) x d c in
-    let some = K.cycle.some in
-    let some_e = share_some d n (omega arith) some in
-    let F : Repeats f x e u = transfer f g x e u K.cycle.nonneg (le_of_lt some_e) K.same R in
     let W = cut_of ks x d K.cycle in
-    let P = period_is ks x d c K.cycle K.break W in
     let q = W.first in
-    let y = q.x in
+    let qs = upto (q.x +ℚ e) W.rest in
     let on = only_back rises T S D W.before q W.rest (subst (OnlyBend rises T S D) W.whole B) in
-    let are = are_copies f (suc (suc k)) e u d c q W.rest some_e (share_back d n (omega arith)) (share_back c n (omega arith)) P (subst (λ z. Repeats f z e u) (sym W.at) F) in
-    let begins : upto (y +ℚ e) (q ∷ W.rest) ≡ q ∷ upto (y +ℚ e) W.rest = upto_some (y +ℚ e) q W.rest (with2 y e (λ c. omega (arith, c.le, c.lt, c.same))) in
-    let whole : q ∷ W.rest ≡ copies n e u (q ∷ upto (y +ℚ e) W.rest) = are ∙ ap (copies n e u) begins in
-    let all = subst (OnlyBend rises T S D) whole on in
-    let time : Whole T e = copied_time rises T S D k e u q (upto (y +ℚ e) W.rest) all in
-    elim (copied_rise rises T S D (suc k) e u q (upto (y +ℚ e) W.rest) h time all) [
+    let all = subst (OnlyBend rises T S D) (cut_copies ks first (suc k) x d c g K R) on in
+    let time : Whole T e = copied_time rises T S D k e u q qs all in
+    elim (copied_rise rises T S D (suc k) e u q qs h time all) [
       | inl w ↦ record { time = time; value = w }
-      | inr N ↦
-          absurd (nothing_line f d c q W.rest some P (subst (λ z. Repeats f z d c) (sym W.at) (repeated_rule (read ks) x d c some))
-          (subst (Each IsNothing) (sym whole) (nothing_copies n e u q (upto (y +ℚ e) W.rest) N)))
+      | inr N ↦ absurd (cut_number ks first (suc k) x d c g K R N)
     ]
 
 -- ---- a third or less of the period
 two_share : (rises : Bool) (T S D : ℕ) (ps : List Piece) (r d c : ℚ) (k : ℕ) → T * S ∣ D → IsTwoPeriods ps r d c → OnlyBend rises T S D ps → ¬ (IsOneLine (repeated (read ps) r d c) r)
     → Repeats (repeated (read ps) r d c) r (d /ℚ int (pos (suc (suc (suc k))))) (c /ℚ int (pos (suc (suc (suc k))))) → IsShare T D d c (suc (suc (suc k)))
-two_share rises T S D ps r d c k h W B bent R = by_start (first_start (past r ps)) refl
+two_share rises T S D ps r d c k h W B bent R = from_turn (IsShare T D d c (suc (suc (suc k)))) ps r d c W bent turns
   where
     g : ℚ → Ext
     g = repeated (read ps) r d c
-
-    rule : Repeats g r d c
-    rule = repeated_rule (read ps) r d c W.some
 
     turns : (x : ℚ) → Some x ≡ first_start (past r ps) → x ≤ℚ r +ℚ d → IsShare T D d c (suc (suc (suc k)))
     turns x s l =
@@ -327,16 +312,6 @@ two_share rises T S D ps r d c k h W B bent R = by_start (first_start (past r ps
         let K = turns_at ps r d c x (r +ℚ d) (x +ℚ d) (length (upto x ps)) ks W s refl l refl refl refl in
         turn_share rises T S D ks (length (upto x ps)) k x d c g h K (only_upto rises T S D (x +ℚ d) ps B)
         (repeats_after g r x (d /ℚ int (pos (suc (suc (suc k))))) (c /ℚ int (pos (suc (suc (suc k))))) (start_late ps r x s) R)
-
-    by_start : (o : Option ℚ) → o ≡ first_start (past r ps) → IsShare T D d c (suc (suc (suc k)))
-    by_start None s = absurd (bent (line_case ps g r d c W.nonneg W.some rule (line_for_ever ps r d c W s) (none_past r ps (start_none (past r ps) (sym s)))))
-    by_start (Some x) s = elim (le_or_lt x (r +ℚ d)) [
-      | inl l ↦ turns x s l
-      | inr l ↦
-          let (q, qs, past_is, at) = start_some (past r ps) x (sym s) in
-          let early = subst (λ z. Each (λ p. p.x ≤ℚ r) (upto z ps)) at (upto_early r (int (pos 0) -ℚ int (pos 1)) ps q qs (low_start ps W.starts) past_is) in
-          absurd (bent (line_case (upto x ps) g r d c W.nonneg W.some rule (line_before ps r d c x (r +ℚ d) (upto x ps) W s refl l refl) early))
-    ]
 
 third_share : (rises : Bool) (T S D : ℕ) (p : Piece) (ps : List Piece) (r d c : ℚ) (k : ℕ) → T * S ∣ D → StartsAtZero (p ∷ ps) → FitsPeriod (p ∷ ps) r d → OnlyBend rises T S D (p ∷ ps)
     → Whole T r → Whole T d → Whole D c → ¬ (IsOneLine (repeated (read (p ∷ ps)) r d c) r)

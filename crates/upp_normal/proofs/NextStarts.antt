@@ -101,21 +101,21 @@ plain_there ps e far at0 h l =
 plain_first : (P : Piece → Type 0) (ps : List Piece) (far : ℚ) (p : Piece) → Each P ps → Contains (upto far ps) p → P p
 plain_first P ps far p h k = each_at P (upto far ps) p (each_upto P far ps h) k
 
+-- the start that follows, of a curve whose pieces are not repeated
+plain_next : (c : SpecCurve) (x e : ℚ) → ((far : ℚ) → unroll c far ≡ upto far c.pieces) → StartsAtZero c.pieces → Follows c.pieces x e → IsNext c x (Some e)
+plain_next c x e same starts F = inl record {
+  later = F.later;
+  there = λ far l. subst (λ us. (p : Piece) × (Contains us p × (p.x ≡ e))) (sym (same far)) (plain_there c.pieces e far starts F.has l);
+  first = λ far p h l. plain_first (λ q. x <ℚ q.x → e ≤ℚ q.x) c.pieces far p F.gap (subst (λ us. Contains us p) (same far) h) l;
+}
+
 affine_next : (ps : List Piece) (rank : ℚ) (s : Span) → IsNormal record { pieces = ps; tail = Affine rank } → Step ps None s → IsNext record { pieces = ps; tail = Affine rank } s.piece.x s.next
 unfolding unroll
 affine_next ps rank s n S =
     let c : SpecCurve = record { pieces = ps; tail = Affine rank } in
     let x = s.piece.x in
     elim S.is [
-      | inl w ↦
-          let e = w.0 in
-          let F = w.1.1 in
-          subst (IsNext c x) (sym w.1.0)
-          (inl record {
-            later = F.later;
-            there = λ far l. plain_there ps e far n.raw.starts F.has l;
-            first = λ far p h l. plain_first (λ q. x <ℚ q.x → e ≤ℚ q.x) ps far p F.gap h l;
-          })
+      | inl w ↦ subst (IsNext c x) (sym w.1.0) (plain_next c x w.0 (λ far. refl) n.raw.starts w.1.1)
       | inr w ↦ subst (IsNext c x) (sym w.0) (λ far p h. plain_first (λ q. q.x ≤ℚ x) ps far p w.1 h)
     ]
 
@@ -125,15 +125,7 @@ infinite_next ps rank s n S =
     let c : SpecCurve = record { pieces = ps; tail = Infinite rank } in
     let x = s.piece.x in
     elim S.is [
-      | inl w ↦
-          let e = w.0 in
-          let F = w.1.1 in
-          subst (IsNext c x) (sym w.1.0)
-          (inl record {
-            later = F.later;
-            there = λ far l. plain_there ps e far n.raw.starts F.has l;
-            first = λ far p h l. plain_first (λ q. x <ℚ q.x → e ≤ℚ q.x) ps far p F.gap h l;
-          })
+      | inl w ↦ subst (IsNext c x) (sym w.1.0) (plain_next c x w.0 (λ far. refl) n.raw.starts w.1.1)
       | inr w ↦
           let low : rank ≤ℚ x = of_start (λ y. y ≤ℚ x) rank ps n.rank_is_start w.1 in
           let high : x ≤ℚ rank = of_start (λ y. y ≤ℚ rank) x ps S.has n.raw.tail.starts in

@@ -232,6 +232,36 @@ copied_on T S D k e u p ps h E =
     let a : Whole T e = subst (Whole T) (with2 x e (λ c. omega (arith, c.le, c.lt, c.same))) (whole_sub T (p.x +ℚ e) p.x moved.0.start first.0.start) in
     (a, rise_of_each T S D e u (p ∷ ps) h a first moved)
 
+-- from a break on, the period is copies of its share
+pub cut_copies : (ks : List Piece) (first k : ℕ) (x d c : ℚ) (g : ℚ → Ext) → (K : Turned ks first x d c g)
+    → Repeats g x (d /ℚ int (pos (suc (suc k)))) (c /ℚ int (pos (suc (suc k))))
+    → let W = cut_of ks x d K.cycle in let e = d /ℚ int (pos (suc (suc k))) in let u = c /ℚ int (pos (suc (suc k))) in
+    W.first ∷ W.rest ≡ copies (suc (suc k)) e u (W.first ∷ upto (W.first.x +ℚ e) W.rest)
+cut_copies ks first k x d c g K R =
+    let n = suc (suc k) in
+    let e = d /ℚ int (pos n) in
+    let u = c /ℚ int (pos n) in
+    let f = repeated (read ks) x d c in
+    let some_e = share_some d n (omega arith) K.cycle.some in
+    let F : Repeats f x e u = transfer f g x e u K.cycle.nonneg (le_of_lt some_e) K.same R in
+    let W = cut_of ks x d K.cycle in
+    let P = period_is ks x d c K.cycle K.break W in
+    let y = W.first.x in
+    are_copies f (suc k) e u d c W.first W.rest some_e (share_back d n (omega arith)) (share_back c n (omega arith)) P (subst (λ z. Repeats f z e u) (sym W.at) F)
+    ∙ ap (copies n e u) (upto_some (y +ℚ e) W.first W.rest (with2 y e (λ c. omega (arith, c.le, c.lt, c.same))))
+
+-- so its share has a number
+pub cut_number : (ks : List Piece) (first k : ℕ) (x d c : ℚ) (g : ℚ → Ext) → (K : Turned ks first x d c g)
+    → Repeats g x (d /ℚ int (pos (suc (suc k)))) (c /ℚ int (pos (suc (suc k))))
+    → ¬ (Each IsNothing ((cut_of ks x d K.cycle).first ∷ upto ((cut_of ks x d K.cycle).first.x +ℚ d /ℚ int (pos (suc (suc k)))) (cut_of ks x d K.cycle).rest))
+cut_number ks first k x d c g K R N =
+    let n = suc (suc k) in
+    let e = d /ℚ int (pos n) in
+    let W = cut_of ks x d K.cycle in
+    nothing_line (repeated (read ks) x d c) d c W.first W.rest K.cycle.some (period_is ks x d c K.cycle K.break W)
+    (subst (λ z. Repeats (repeated (read ks) x d c) z d c) (sym W.at) (repeated_rule (read ks) x d c K.cycle.some))
+    (subst (Each IsNothing) (sym (cut_copies ks first k x d c g K R)) (nothing_copies n e (c /ℚ int (pos n)) W.first (upto (W.first.x +ℚ e) W.rest) N))
+
 -- a fraction of the period from a break is on the grids
 pub turn_on : (T S D : ℕ) (ks : List Piece) (first n : ℕ) (x d c : ℚ) (g : ℚ → Ext) → T * S ∣ D → Turned ks first x d c g → Each (PieceOn T S D) ks → Whole T d → Whole D c → 1 ≤ n
     → Repeats g x (d /ℚ int (pos n)) (c /ℚ int (pos n)) → Whole T (d /ℚ int (pos n)) × Whole D (c /ℚ int (pos n))
@@ -241,35 +271,38 @@ turn_on T S D ks first (suc (suc k)) x d c g h K E wd wc some_n R =
     let n = suc (suc k) in
     let e = d /ℚ int (pos n) in
     let u = c /ℚ int (pos n) in
-    let f = repeated (read ks) x d c in
-    let some = K.cycle.some in
-    let some_e = share_some d n (omega arith) some in
-    let F : Repeats f x e u = transfer f g x e u K.cycle.nonneg (le_of_lt some_e) K.same R in
     let W = cut_of ks x d K.cycle in
-    let P = period_is ks x d c K.cycle K.break W in
     let on = each_right (PieceOn T S D) W.before (W.first ∷ W.rest) (subst (Each (PieceOn T S D)) W.whole E) in
-    let q = W.first in
-    let y = q.x in
-    let are = are_copies f (suc k) e u d c q W.rest some_e (share_back d n (omega arith)) (share_back c n (omega arith)) P (subst (λ z. Repeats f z e u) (sym W.at) F) in
-    let begins : upto (y +ℚ e) (q ∷ W.rest) ≡ q ∷ upto (y +ℚ e) W.rest = upto_some (y +ℚ e) q W.rest (with2 y e (λ c. omega (arith, c.le, c.lt, c.same))) in
-    let whole : q ∷ W.rest ≡ copies n e u (q ∷ upto (y +ℚ e) W.rest) = are ∙ ap (copies n e u) begins in
-    let found = copied_on T S D k e u q (upto (y +ℚ e) W.rest) h (subst (Each (PieceOn T S D)) whole on) in
-    elim found.1 [
-      | inl w ↦ (found.0, w)
-      | inr N ↦
-          absurd (nothing_line f d c q W.rest some P (subst (λ z. Repeats f z d c) (sym W.at) (repeated_rule (read ks) x d c some))
-          (subst (Each IsNothing) (sym whole) (nothing_copies n e u q (upto (y +ℚ e) W.rest) N)))
-    ]
+    let found = copied_on T S D k e u W.first (upto (W.first.x +ℚ e) W.rest) h (subst (Each (PieceOn T S D)) (cut_copies ks first k x d c g K R) on) in
+    elim found.1 [ inl w ↦ (found.0, w) | inr N ↦ absurd (cut_number ks first k x d c g K R N) ]
 
 -- ---- the tail of a raw curve
-two_on : (T S D : ℕ) (ps : List Piece) (r d c : ℚ) → T * S ∣ D → IsTwoPeriods ps r d c → Each (PieceOn T S D) ps → Whole T d → Whole D c → OnGridsUnlessLine T D (repeated (read ps) r d c) r d c
-two_on T S D ps r d c h W E wd wc bent = by_start (first_start (past r ps)) refl
+-- of two periods that are not one line what holds of the first turn holds
+pub from_turn : (A : Type 0) (ps : List Piece) (r d c : ℚ) → IsTwoPeriods ps r d c → ¬ (IsOneLine (repeated (read ps) r d c) r)
+    → ((x : ℚ) → Some x ≡ first_start (past r ps) → x ≤ℚ r +ℚ d → A) → A
+from_turn A ps r d c W bent turns = by_start (first_start (past r ps)) refl
   where
     g : ℚ → Ext
     g = repeated (read ps) r d c
 
     rule : Repeats g r d c
     rule = repeated_rule (read ps) r d c W.some
+
+    by_start : (o : Option ℚ) → o ≡ first_start (past r ps) → A
+    by_start None s = absurd (bent (line_case ps g r d c W.nonneg W.some rule (line_for_ever ps r d c W s) (none_past r ps (start_none (past r ps) (sym s)))))
+    by_start (Some x) s = elim (le_or_lt x (r +ℚ d)) [
+      | inl l ↦ turns x s l
+      | inr l ↦
+          let (q, qs, past_is, at) = start_some (past r ps) x (sym s) in
+          let early = subst (λ z. Each (λ p. p.x ≤ℚ r) (upto z ps)) at (upto_early r (int (pos 0) -ℚ int (pos 1)) ps q qs (low_start ps W.starts) past_is) in
+          absurd (bent (line_case (upto x ps) g r d c W.nonneg W.some rule (line_before ps r d c x (r +ℚ d) (upto x ps) W s refl l refl) early))
+    ]
+
+two_on : (T S D : ℕ) (ps : List Piece) (r d c : ℚ) → T * S ∣ D → IsTwoPeriods ps r d c → Each (PieceOn T S D) ps → Whole T d → Whole D c → OnGridsUnlessLine T D (repeated (read ps) r d c) r d c
+two_on T S D ps r d c h W E wd wc bent = from_turn (OnGrids T D (repeated (read ps) r d c) r d c) ps r d c W bent turns
+  where
+    g : ℚ → Ext
+    g = repeated (read ps) r d c
 
     turns : (x : ℚ) → Some x ≡ first_start (past r ps) → x ≤ℚ r +ℚ d → OnGrids T D g r d c
     turns x s l =
@@ -281,16 +314,6 @@ two_on T S D ps r d c h W E wd wc bent = by_start (first_start (past r ps)) refl
           time = λ n a R. (turn_on T S D ks (length (upto x ps)) n x d c g h K on wd wc a (after n R)).0;
           value = λ n a R. (turn_on T S D ks (length (upto x ps)) n x d c g h K on wd wc a (after n R)).1;
         }
-
-    by_start : (o : Option ℚ) → o ≡ first_start (past r ps) → OnGrids T D g r d c
-    by_start None s = absurd (bent (line_case ps g r d c W.nonneg W.some rule (line_for_ever ps r d c W s) (none_past r ps (start_none (past r ps) (sym s)))))
-    by_start (Some x) s = elim (le_or_lt x (r +ℚ d)) [
-      | inl l ↦ turns x s l
-      | inr l ↦
-          let (q, qs, past_is, at) = start_some (past r ps) x (sym s) in
-          let early = subst (λ z. Each (λ p. p.x ≤ℚ r) (upto z ps)) at (upto_early r (int (pos 0) -ℚ int (pos 1)) ps q qs (low_start ps W.starts) past_is) in
-          absurd (bent (line_case (upto x ps) g r d c W.nonneg W.some rule (line_before ps r d c x (r +ℚ d) (upto x ps) W s refl l refl) early))
-    ]
 
 pub raw_on : (T S D : ℕ) (given : List Piece) (r d c : ℚ) → T * S ∣ D → StartsAtZero given → FitsPeriod given r d → Each (PieceOn T S D) given → Whole T r → Whole T d → Whole D c
     → OnGridsUnlessLine T D (repeated (read given) r d c) r d c

@@ -176,10 +176,7 @@ line_later_fits m n x by rise (Some l) R h T L M e =
 pub later_fits : (m : Room) (n : ℕ) (by rise : ℚ) (p : Piece) → IsRoom m → n ≤ 6 → PieceHasRoom m n p → IsMove m by rise → p.x +ℚ by ≤ℚ m.end → LaterFits by rise p
 later_fits m n by rise p R h P M e =
     let T = P.time in
-    let x = p.x in
-    let low = T.low in
-    let end = m.end in
-    let room : by ≤ℚ m.end = with3 x by end (λ c. omega (arith, c.le, c.lt, c.same)) in
+    let room : by ≤ℚ m.end = let x = p.x in let end = m.end in let low = T.low in with3 x by end (λ c. omega (arith, c.le, c.lt, c.same)) in
     record {
       start = start_fits m p.x by R T M.time M.low e;
       at = at_fits m n p.x rise p.at R (omega arith) T P.at M.height M.within;
@@ -214,10 +211,7 @@ pub later_room : (m : Room) (n : ℕ) (by rise : ℚ) (p : Piece) → IsRoom m �
 unfolding time_moved
 later_room m n by rise p R P M e =
     let T = P.time in
-    let x = p.x in
-    let low = T.low in
-    let end = m.end in
-    let room : by ≤ℚ m.end = with3 x by end (λ c. omega (arith, c.le, c.lt, c.same)) in
+    let room : by ≤ℚ m.end = let x = p.x in let end = m.end in let low = T.low in with3 x by end (λ c. omega (arith, c.le, c.lt, c.same)) in
     record {
       time = time_moved m p.x by rise R M T;
       at = at_moved m n T.grid rise p.at P.at (finer m p.x T rise M.height) M.within;

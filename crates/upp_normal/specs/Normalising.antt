@@ -1,5 +1,5 @@
 -- What each step on the way to the normal form leaves of the pieces. Own choice.
-use Rattle.std.specs.Prelude.{◌≡◌, ℕ, pos, List, [], ◌∷◌, ◌++◌, ◌⊎◌, ◌-◌, ◌*◌, ◌≤◌, cond, length, take, drop, slice_index_or as get_or, Option, None, Some}
+use Rattle.std.specs.Prelude.{◌≡◌, ℕ, pos, List, [], ◌∷◌, ◌++◌, ◌⊎◌, ◌-◌, ◌*◌, ◌^◌, ◌<◌, ◌≤◌, cond, length, take, drop, slice_index_or as get_or, Option, None, Some}
 use Rattle.upp_limits.specs.rational.specs.Rational.{ℚ, ◌+ℚ◌, ◌/ℚ◌, ◌≤ℚ◌, ◌<ℚ◌, int, le_q, lt_q}
 use Rattle.upp_limits.specs.rational.specs.Extended.{Ext, ◌+ₑ◌}
 use Rattle.upp_limits.specs.rational.specs.declared.Extended.TheVariants.{Fin}
@@ -165,6 +165,13 @@ cycle_values c = repeated (read c.pieces.items) c.rank c.period c.rise
 -- how many pieces there are in a period
 abbrev pub turn_count : Cycle → ℕ
 turn_count c = length (from c.rank c.pieces.items)
+
+-- grids of times and of values, as fractions have denominators
+pub record AreGrids (times values : ℕ) : Type 0 where
+  pub some_times : 0 < times
+  pub some_values : 0 < values
+  pub small_times : times < 2 ^ 127
+  pub small_values : values < 2 ^ 127
 
 -- where a whole fraction of the period, with that of the rise, is a period of f from `from` on, it is a whole multiple
 -- of 1 / times, and its rise of 1 / values

@@ -6,7 +6,7 @@ ghost use Rattle.upp_limits.specs.rational.specs.Rational.{int, ◌/ℚ◌};
 ghost use Rattle.upp_limits.specs.rational.specs.Grid.{Whole};
 ghost use Rattle.upp_limits.specs.upp_curve.specs.affine_segment.Pieces.{Each};
 ghost use Rattle.upp_limits.specs.upp_curve.specs.Fitting.{LaterFits};
-ghost use Rattle.upp_normal.specs.Normalising.{GoesOn, IsTurning, IsDivided, IsLeast, OnGrids, SharesFit, cycle_values, turn_count};
+ghost use Rattle.upp_normal.specs.Normalising.{GoesOn, IsTurning, IsDivided, IsLeast, AreGrids, OnGrids, SharesFit, cycle_values, turn_count};
 
 use crate::cycle::Cycle;
 use upp_limits::fraction128::Frac;
@@ -58,10 +58,7 @@ fn divided(cycle: Cycle, parts: usize, times: u128, values: u128) -> Cycle
     requires turning { IsTurning cycle (cycle_values cycle) }
     requires parts { 2 ≤ parts }
     requires share { parts ∣ turn_count cycle }
-    requires some_times { 0 < times }
-    requires some_values { 0 < values }
-    requires times { times < 2 ^ 127 }
-    requires values { values < 2 ^ 127 }
+    requires numbers { AreGrids times values }
     requires grids { OnGrids times values (cycle_values cycle) cycle.rank cycle.period cycle.rise }
     requires fits { SharesFit times values cycle.pieces.items cycle.period cycle.rise }
     ensures { IsDivided cycle parts result }
@@ -93,10 +90,7 @@ fn divided(cycle: Cycle, parts: usize, times: u128, values: u128) -> Cycle
 /// The curve with its least period. Each period and its rise is a whole multiple of 1 / times and of 1 / values.
 pub(crate) fn least_period(cycle: Cycle, times: u128, values: u128) -> Cycle
     requires turning { IsTurning cycle (cycle_values cycle) }
-    requires some_times { 0 < times }
-    requires some_values { 0 < values }
-    requires times { times < 2 ^ 127 }
-    requires values { values < 2 ^ 127 }
+    requires numbers { AreGrids times values }
     requires grids { OnGrids times values (cycle_values cycle) cycle.rank cycle.period cycle.rise }
     requires fits { SharesFit times values cycle.pieces.items cycle.period cycle.rise }
     ensures { IsLeast times values cycle result }

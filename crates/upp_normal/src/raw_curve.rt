@@ -7,7 +7,7 @@ ghost use Rattle.upp_limits.specs.upp_curve.specs.affine_segment.Pieces.{StartsA
 ghost use Rattle.upp_limits.specs.upp_curve.specs.Normal.{NoMerge, FitsPeriod, IsRaw};
 ghost use Rattle.upp_limits.specs.upp_curve.specs.Readable.{EachFits};
 ghost use Rattle.upp_limits.specs.Limits.{own_gauge, own_tally};
-ghost use Rattle.upp_normal.specs.Normalising.{HasValues, IsTwoPeriods, IsTurning, OnGrids, OnGridsUnlessLine, TailOnGrids, cycle_values, raw_curve};
+ghost use Rattle.upp_normal.specs.Normalising.{HasValues, IsTwoPeriods, IsTurning, AreGrids, OnGrids, OnGridsUnlessLine, TailOnGrids, cycle_values, raw_curve};
 ghost use Rattle.upp_normal.specs.Room.{Room, PiecesHaveRoom, TwoHaveRoom, CycleHasRoom, TurnHasRoom, TailHasRoom};
 
 use crate::cycle::{Cycle, Shape, shape_of};
@@ -59,10 +59,7 @@ fn of_pieces(alloc: Global, pieces: &[Piece]) -> Result<Curve, AllocError>
 // A period between breaks, made the least, from the least rank on.
 fn repeating(cycle: Cycle, times: u128, values: u128) -> Curve
     requires turning { IsTurning cycle (cycle_values cycle) }
-    requires some_times { 0 < times }
-    requires some_values { 0 < values }
-    requires times { times < 2 ^ 127 }
-    requires values { values < 2 ^ 127 }
+    requires numbers { AreGrids times values }
     requires grids { OnGrids times values (cycle_values cycle) cycle.rank cycle.period cycle.rise }
     requires room { (m : Room) × CycleHasRoom m times values cycle.pieces.items cycle.rank cycle.period cycle.rise }
     ensures { HasValues result (cycle_values cycle) }
@@ -86,10 +83,7 @@ fn of_two_periods(
     values: u128,
 ) -> Curve
     requires two { IsTwoPeriods pieces.items rank period rise }
-    requires some_times { 0 < times }
-    requires some_values { 0 < values }
-    requires times { times < 2 ^ 127 }
-    requires values { values < 2 ^ 127 }
+    requires numbers { AreGrids times values }
     requires grids { OnGridsUnlessLine times values (repeated (read pieces.items) rank period rise) rank period rise }
     requires room { (m : Room) × TwoHaveRoom m times values pieces.items rank period rise }
     ensures { HasValues result (repeated (read pieces.items) rank period rise) }
@@ -112,10 +106,7 @@ fn of_periodic(
 ) -> Result<Curve, AllocError>
     requires starts { StartsAtZero given.now }
     requires tail { FitsPeriod given.now rank period }
-    requires some_times { 0 < times }
-    requires some_values { 0 < values }
-    requires times { times < 2 ^ 127 }
-    requires values { values < 2 ^ 127 }
+    requires numbers { AreGrids times values }
     requires grids { OnGridsUnlessLine times values (repeated (read given.now) rank period rise) rank period rise }
     requires room { (m : Room) × TurnHasRoom m times values given.now rank period rise }
     ensures { IfOk result (λ r. HasValues r (repeated (read given.now) rank period rise)) }

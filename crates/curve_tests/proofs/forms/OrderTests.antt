@@ -7,7 +7,8 @@ use Rattle.upp_limits.specs.rational.specs.Rational.{ℚ, ◌≤ℚ◌, ◌<ℚ�
 use Rattle.upp_limits.specs.rational.specs.Ratio.{cmp_q}
 use Rattle.upp_limits.specs.rational.proofs.Laws.{le_refl, le_of_lt}
 use Rattle.upp_limits.specs.rational.proofs.Comparison.{cmp_ranks, cmp_self}
-use Rattle.upp_limits.specs.fraction128.specs.Order.{same_q, same_out}
+use Rattle.upp_limits.specs.rational.specs.Compared.{same_q}
+use Rattle.upp_limits.specs.rational.proofs.OrderLaws.{same_out}
 
 -- the order of two, as one of three facts
 abbrev Ranked : Ordering → ℚ → ℚ → Type 0

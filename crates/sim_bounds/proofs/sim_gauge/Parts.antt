@@ -11,6 +11,7 @@ use Rattle.net_model.specs.run_laws.specs.Cards.{whole}
 use Rattle.net_model.specs.run_laws.specs.Routes.{link_at}
 use Rattle.net_model.specs.declared.trace.Stall.{Stall}
 use Rattle.net_model.specs.Networks.{Net, NetServer}
+use Rattle.net_model.specs.declared.server.ServiceKind.{ServiceKind}
 use Rattle.net_model.specs.Traces.{SpecTrace}
 use Rattle.net_model.specs.stated_runs.Setups.{StallTimes, Opening}
 use Rattle.net_model.proofs.stated_runs.ServerSetups.{ServerIs}
@@ -32,9 +33,11 @@ own_plain net trace s x k =
     ap (λ (o : Opening). plain_time o.gate t +ℚ stalled_for o.stalls +ℚ link_at (setup_of net trace).net s) k.opening
     ∙ ap (λ l. plain_time (gate_of x.kind) t +ℚ stalled_for (stalls_at s trace.stalls) +ℚ l) k.link
 
-pub own_gated : (net : Net) (trace : SpecTrace) (s : ℕ) (x : NetServer) → ServerIs net trace s x
-    → gated (setup_of net trace) s ≡ gated_time (gate_of x.kind) (open_time (setup_of net trace) s)
-own_gated net trace s x k = ap (λ (o : Opening). gated_time o.gate (open_time (setup_of net trace) s)) k.opening
+pub own_gated : (net : Net) (trace : SpecTrace) (s : ℕ) (x : NetServer) (kind : ServiceKind) → ServerIs net trace s x → x.kind ≡ kind
+    → gated (setup_of net trace) s ≡ gated_time (gate_of kind) (open_time (setup_of net trace) s)
+own_gated net trace s x kind k is =
+    let time = open_time (setup_of net trace) s in
+    ap (λ (o : Opening). gated_time o.gate time) k.opening ∙ ap (λ k. gated_time (gate_of k) time) is
 
 -- ---- loops
 pub stall_here : (s : ℕ) (xs : List Stall) (i : ℕ) (d : Stall) → i < length xs → (get_or xs i d).server ≡ s

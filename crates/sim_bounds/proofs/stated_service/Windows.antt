@@ -20,8 +20,7 @@ use Rattle.sim_bounds.proofs.OpenTime.{cycles, IsInCycle, in_cycle, cycle_order,
 rises : (c s : ℚ) → int (pos 0) <ℚ s → s ≤ℚ c → (x y : ℚ) → int (pos 0) ≤ℚ x → x ≤ℚ y → gate_time c s x ≤ℚ gate_time c s y
 rises c s some within x y from l =
     let long : int (pos 0) <ℚ c = lt_le_trans some within in
-    let m = cycles c x in
-    let n = cycles c y in
+    let m = cycles c x in let n = cycles c y in
     let a = in_cycle c x long from in
     let b = in_cycle c y long (le_trans from l) in
     elim (cases_order m n) [

@@ -11,7 +11,7 @@ use Rattle.rational.specs.Rational.{ℚ, ◌≤ℚ◌, ◌<ℚ◌}
 use Rattle.rational.specs.Ratio.{cmp_q}
 use Rattle.rational.proofs.Compared.{not_less}
 use Rattle.rational.proofs.Comparison.{cmp_ranks}
-use Rattle.fraction128.specs.Order.{cmp_q_total}
+use Rattle.rational.proofs.OrderLaws.{cmp_q_total}
 use Rattle.net_model.specs.declared.trace.Stall.{Stall}
 use Rattle.net_model.specs.stated_runs.Setups.{StallTimes, IsStalled}
 use Rattle.net_model.specs.stated_runs.FromTraces.{stalls_at}

@@ -2,7 +2,7 @@ use Rattle.std.proofs.Common.{◌∙◌, ap, sym, subst}
 use Rattle.upp_limits.specs.rational.specs.Rational.{◌≤ℚ◌}
 use Rattle.upp_limits.specs.rational.proofs.Laws.{le_refl}
 use Rattle.curve_call.specs.Made.{IsParts}
-use Rattle.curve_call.proofs.OverlayLoop.{overlay_start}
+use Rattle.curve_call.proofs.OverlayLoop.{started}
 use Rattle.curve_call.proofs.MadeLoop.{made_start, walk_fits, steps_fit, next_early, next_fewer, made_step, made_end, listed_one, listed_two}
 use Rattle.curve_call.proofs.made.made_of.Goals as goal
 use Rattle.curve_call.proofs.made.made_of.Goals.{in-Some+in_ok-push-2, in_default, in-Some-turn+in_ok-push-4, in_default-turn}
@@ -10,7 +10,7 @@ use Rattle.curve_call.proofs.made.made_of.Goals.{in-Some+in_ok-push-2, in_defaul
 pub loop-walk-init : goal.loop-walk-init
 loop-walk-init c =
     made_start c.args.made c.args.f.now c.args.g.now _ _ _ c.present-here.ensures
-    (overlay_start c.args.f.now c.args.g.now c.index-f-0.result c.index-g-0.result c.requires.left c.requires.right c.index-f-0.is c.index-g-0.is) c.in_ok-pieces.ensures.items
+    (started c.args.f.now c.args.g.now c.at_start-walk.result c.requires.left c.requires.right c.at_start-walk.ensures) c.in_ok-pieces.ensures.items
 
 pub step-requires-clause-fits : goal.step-requires-clause-fits
 step-requires-clause-fits c = walk_fits c.args.made c.args.f.now c.args.g.now c.loop-walk.walk _ _ c.requires.cuts c.loop-walk.invariant

@@ -1,10 +1,10 @@
-use Rattle.curve_call.proofs.OverlayLoop.{overlay_start, overlay_step, step_fewer, next_fits, overlay_end}
+use Rattle.curve_call.proofs.OverlayLoop.{started, overlay_step, step_fewer, next_fits, overlay_end}
 use Rattle.curve_call.proofs.stretch.overlay.Goals as goal
 
 pub loop-walk-init : goal.loop-walk-init
 loop-walk-init c =
     rw (c.in_ok-push.ensures.items, c.in_ok-stretches.ensures.items)
-    (overlay_start c.args.f.now c.args.g.now c.index-f-0.result c.index-g-0.result c.requires.left c.requires.right c.index-f-0.is c.index-g-0.is)
+    (started c.args.f.now c.args.g.now c.at_start-walk.result c.requires.left c.requires.right c.at_start-walk.ensures)
 
 pub step-requires-clause-fits : goal.step-requires-clause-fits
 step-requires-clause-fits c = next_fits c.args.f.now c.args.g.now _ c.loop-walk.walk c.requires.fits c.loop-walk.invariant

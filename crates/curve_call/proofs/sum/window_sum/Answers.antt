@@ -1,22 +1,18 @@
 use Rattle.std.specs.Prelude.{[], ◌∷◌, ◌++◌}
 use Rattle.std.proofs.Common.{◌∙◌, ap}
-use Rattle.curve_call.proofs.OverlayLoop.{overlay_start}
+use Rattle.curve_call.proofs.OverlayLoop.{started}
 use Rattle.curve_call.proofs.SumLoop.{here_fits, next_stretch_fits, sum_start, sum_step, cuts_go_on, fewer_left, sum_end}
 use Rattle.curve_call.proofs.sum.window_sum.Goals as goal
 
 pub sum_stretch-requires : goal.sum_stretch-requires
 sum_stretch-requires c =
-    let f = c.args.f.now in let g = c.args.g.now in
-    let p = c.index-f-0.result in let q = c.index-g-0.result in
-    here_fits f g (record { left = p; right = q } ∷ []) record { i = 1; j = 1; here = record { left = p; right = q } } c.requires.sums
-    (overlay_start f g p q c.requires.left c.requires.right c.index-f-0.is c.index-g-0.is)
+    let w = c.at_start-walk.result in
+    here_fits c.args.f.now c.args.g.now (w.here ∷ []) w c.requires.sums (started c.args.f.now c.args.g.now w c.requires.left c.requires.right c.at_start-walk.ensures)
 
 pub loop-walk-init : goal.loop-walk-init
 loop-walk-init c =
-    let f = c.args.f.now in let g = c.args.g.now in
-    let p = c.index-f-0.result in let q = c.index-g-0.result in
-    sum_start f g c.push.new.self.items record { i = 1; j = 1; here = record { left = p; right = q } }
-    (overlay_start f g p q c.requires.left c.requires.right c.index-f-0.is c.index-g-0.is)
+    let w = c.at_start-walk.result in
+    sum_start c.args.f.now c.args.g.now c.push.new.self.items w (started c.args.f.now c.args.g.now w c.requires.left c.requires.right c.at_start-walk.ensures)
     (c.in_ok-push.ensures.items ∙ ap (λ z. z ++ c.sum_stretch.result ∷ []) c.in_ok-pieces.ensures.items ∙ ap (λ z. z ∷ []) c.sum_stretch.ensures)
 
 pub step-requires-clause-fits : goal.step-requires-clause-fits

@@ -21,21 +21,15 @@ mirrored_piece-requires-clause-time c =
 
 pub mirrored_piece-requires-clause-line : goal.mirrored_piece-requires-clause-line
 mirrored_piece-requires-clause-line c =
-    let ps = c.args.pieces.now in
-    let p = c.index-pieces-i.result in
-    let i = c.loop-i.i in
-    let some = c.loop-i-test.true in
-    let by = c.loop-i.auto.i in
+    let ps = c.args.pieces.now in let p = c.index-pieces-i.result in let i = c.loop-i.i in
+    let some = c.loop-i-test.true in let by = c.loop-i.auto.i in
     let early : i - 1 < length ps = omega (arith, some, by) in
     (subst (IsMirrorable c.args.reach) (sym c.index-pieces-i.is) (each_index (IsMirrorable c.args.reach) ps (i - 1) p early c.requires.each)).line
 
 pub loop-i-preserved : goal.loop-i-preserved
 loop-i-preserved c =
-    let ps = c.args.pieces.now in
-    let p = c.index-pieces-i.result in
-    let i = c.loop-i.i in
-    let some = c.loop-i-test.true in
-    let by = c.loop-i.auto.i in
+    let ps = c.args.pieces.now in let p = c.index-pieces-i.result in let i = c.loop-i.i in
+    let some = c.loop-i-test.true in let by = c.loop-i.auto.i in
     let early : i - 1 < length ps = omega (arith, some, by) in
     let same : i - 1 + 1 ≡ i = omega (arith, some) in
     mirror_next c.args.reach c.loop-i.until c.args.at c.loop-i.ended p c.mirrored_piece.result (drop i ps) (drop (i - 1) ps) c.loop-i.made.items c.push.new.self.items

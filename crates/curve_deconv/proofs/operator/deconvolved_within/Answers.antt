@@ -1,4 +1,5 @@
 use Rattle.std.proofs.Common.{◌∙◌, ap, sym, subst}
+use Rattle.upp_limits.specs.upp_curve.specs.Curve.{SpecCurve}
 use Rattle.upp_limits.specs.Periods.{period_of, period_or}
 use Rattle.upp_limits.specs.declared.op_kind.OpKind.TheVariants.{Deconvolve}
 use Rattle.upp_normal.proofs.NormaliseForm.{ok_map}
@@ -62,26 +63,16 @@ answer-requires c =
     c.rise_over-rise.result h c.requires.finite (c.deref.ensures.value ∙ c.in_ok-left.ensures) (c.deref-2.ensures.value ∙ c.in_ok-right.ensures) c.begin-from.ensures period reach c.rise_over-rise.ensures
     c.in_ok-pieces.ensures
 
-pub returns-clause-value : goal.returns-clause-value
-returns-clause-value c =
+pub returns : goal.returns
+returns c =
     let f = c.args.f.now in let g = c.args.g.now in let r = c.args.frame.now in
     let h = deconvolve_call f g r c.requires.frame in
     let period = c.period_or-period.ensures ∙ ap (λ d. period_or d (period_of f.tail)) h.common_is in
     let reach = reach_named f g r c.begin-from.result c.difference-past.result c.period_or-period.result c.difference-reach.result c.begin-from.ensures c.difference-past.ensures period c.difference-reach.ensures in
-    ok_map c.answer.result _ _
-    (λ a k t low. (deconvolve_values_by f g r (sizes_at Deconvolve f g 0 0) c.deref.result.now c.deref-2.result.now c.in_ok-pieces.pieces.items c.begin-from.result c.period_or-period.result
+    let values = λ (a : SpecCurve). deconvolve_values_by f g r (sizes_at Deconvolve f g 0 0) c.deref.result.now c.deref-2.result.now c.in_ok-pieces.pieces.items c.begin-from.result c.period_or-period.result
     c.difference-reach.result c.rise_over-rise.result a h c.requires.finite c.requires.slow (c.deref.ensures.value ∙ c.in_ok-left.ensures) (c.deref-2.ensures.value ∙ c.in_ok-right.ensures)
-    c.begin-from.ensures period reach c.rise_over-rise.ensures c.in_ok-pieces.ensures k t low).deconvolves)
-    c.answer.ensures
-
-pub returns-clause-finite : goal.returns-clause-finite
-returns-clause-finite c = λ finite.
-    let f = c.args.f.now in let g = c.args.g.now in let r = c.args.frame.now in
-    let h = deconvolve_call f g r c.requires.frame in
-    let period = c.period_or-period.ensures ∙ ap (λ d. period_or d (period_of f.tail)) h.common_is in
-    let reach = reach_named f g r c.begin-from.result c.difference-past.result c.period_or-period.result c.difference-reach.result c.begin-from.ensures c.difference-past.ensures period c.difference-reach.ensures in
-    ok_map c.answer.result _ _
-    (λ a k t low. (deconvolve_values_by f g r (sizes_at Deconvolve f g 0 0) c.deref.result.now c.deref-2.result.now c.in_ok-pieces.pieces.items c.begin-from.result c.period_or-period.result
-    c.difference-reach.result c.rise_over-rise.result a h c.requires.finite c.requires.slow (c.deref.ensures.value ∙ c.in_ok-left.ensures) (c.deref-2.ensures.value ∙ c.in_ok-right.ensures)
-    c.begin-from.ensures period reach c.rise_over-rise.ensures c.in_ok-pieces.ensures k t low).number finite)
-    c.answer.ensures
+    c.begin-from.ensures period reach c.rise_over-rise.ensures c.in_ok-pieces.ensures in
+    record {
+      value = ok_map c.answer.result _ _ (λ a k t low. (values a k t low).deconvolves) c.answer.ensures;
+      finite = λ finite. ok_map c.answer.result _ _ (λ a k t low. (values a k t low).number finite) c.answer.ensures;
+    }

@@ -11,11 +11,8 @@ use Rattle.curve_library.proofs.text_limits.with_texts.Goals as goal
 
 pub returns-in-None-clause-fits : goal.returns-in-None-clause-fits
 returns-in-None-clause-fits c = λ all k.
-    let ps = c.args.texts.now in
-    let tail = c.args.tail.now in
-    let t = text_tail ps tail in
-    let i = c.loop-i.i in
-    let p = c.index-texts-i.result in
+    let ps = c.args.texts.now in let tail = c.args.tail.now in let t = text_tail ps tail in
+    let i = c.loop-i.i in let p = c.index-texts-i.result in
     let s : Span = record { piece = text_piece p; next = c.next_start-next.result } in
     let e = span_there ps tail i p c.next_start-next.result c.after_last-after.result c.loop-i-test.true c.index-texts-i.is (c.after_last-after.ensures ps c.requires.end) c.next_start-next.ensures in
     let early = early_at c.args.end ps i p c.requires.early c.loop-i-test.true c.index-texts-i.is in
@@ -24,11 +21,8 @@ returns-in-None-clause-fits c = λ all k.
 
 pub loop-i-preserved : goal.loop-i-preserved
 loop-i-preserved c = λ n h.
-    let ps = c.args.texts.now in
-    let tail = c.args.tail.now in
-    let t = text_tail ps tail in
-    let i = c.loop-i.i in
-    let p = c.index-texts-i.result in
+    let ps = c.args.texts.now in let tail = c.args.tail.now in let t = text_tail ps tail in
+    let i = c.loop-i.i in let p = c.index-texts-i.result in
     let s : Span = record { piece = text_piece p; next = c.next_start-next.result } in
     let e = span_there ps tail i p c.next_start-next.result c.after_last-after.result c.loop-i-test.true c.index-texts-i.is (c.after_last-after.ensures ps c.requires.end) c.next_start-next.ensures in
     let early = early_at c.args.end ps i p c.requires.early c.loop-i-test.true c.index-texts-i.is in

@@ -1,33 +1,23 @@
 use Rattle.std.specs.Prelude.{Vec}
-use Rattle.std.proofs.Common.{◌+◌, ◌∙◌, ap, inl, inr, drop, drop_of_length-le, sym, subst, Global}
+use Rattle.std.proofs.Common.{◌+◌, ◌∙◌, ap, inl, inr, drop, drop_of_length-le, Global}
 use Rattle.upp_limits.specs.upp_curve.specs.declared.affine_segment.line.Piece.{Piece}
 use Rattle.upp_limits.specs.upp_curve.proofs.affine_segment.NextPiece.{next_piece}
-use Rattle.upp_limits.specs.rational.proofs.Laws.{le_of_lt}
-use Rattle.element_envelope.specs.ConvolutionWindows.{WindowPiece}
-use Rattle.curve_call.specs.upp_normal.proofs.AnswerRoom.{operand_line_fits}
-use Rattle.curve_call.specs.upp_normal.proofs.NormaliseRank.{each_index}
-use Rattle.element_envelope.proofs.StartTests.{IsKeptOrBent, thinned_step, thinned_end, thinned_none}
+use Rattle.element_envelope.proofs.StartTests.{piece_there, line_there, IsKeptOrBent, thinned_step, thinned_end, thinned_none}
 use Rattle.element_envelope.proofs.starts.turning_starts.Goals as goal
 use Rattle.element_envelope.proofs.starts.turning_starts.Goals.{then-not-bends_down+in_ok-push, else-not-bends_down}
 
 pub loop-p-init : goal.loop-p-init
 loop-p-init c = (thinned_none c.args.pieces.now c.new-kept.result.items c.new-kept.ensures.items, λ z end h. tt)
 
-pub bends_down-requires-clause-left : goal.bends_down-requires-clause-left
-bends_down-requires-clause-left c =
-    let end = c.requires.0 in
+pub bends_down-requires : goal.bends_down-requires
+bends_down-requires c =
     let R = c.requires.1 in
     let p = c.p-item.result in
-    let P = subst (WindowPiece R.sizes end) (sym c.p-item.is) (each_index (WindowPiece R.sizes end) c.args.pieces.now c.loop-p.p-index p c.loop-p-test.true R.each) in
-    operand_line_fits R.sizes end p.x c.loop-p.before R.limited (c.loop-p.invariant.1 R.sizes end R.each) P.start P.nonneg (le_of_lt P.before)
-
-pub bends_down-requires-clause-right : goal.bends_down-requires-clause-right
-bends_down-requires-clause-right c =
-    let end = c.requires.0 in
-    let R = c.requires.1 in
-    let p = c.p-item.result in
-    let P = subst (WindowPiece R.sizes end) (sym c.p-item.is) (each_index (WindowPiece R.sizes end) c.args.pieces.now c.loop-p.p-index p c.loop-p-test.true R.each) in
-    operand_line_fits R.sizes end p.x p.line R.limited P.line P.start P.nonneg (le_of_lt P.before)
+    let P = piece_there R.sizes c.requires.0 c.args.pieces.now c.loop-p.p-index p c.loop-p-test.true c.p-item.is R.each in
+    record {
+      left = line_there R.sizes c.requires.0 c.loop-p.before p R.limited P (c.loop-p.invariant.1 R.sizes c.requires.0 R.each);
+      right = line_there R.sizes c.requires.0 p.line p R.limited P P.line;
+    }
 
 pub loop-p-preserved : goal.loop-p-preserved
 loop-p-preserved c =
@@ -42,7 +32,7 @@ loop-p-preserved c =
     ] in (
       thinned_step c.loop-p.before p (drop i all) (drop (i + 1) all) all c.loop-p.kept.items c.if-not-bends_down.kept.items (next_piece p all i c.loop-p-test.true c.p-item.is) step
           c.loop-p.invariant.0,
-      λ z end h. (subst (WindowPiece z end) (sym c.p-item.is) (each_index (WindowPiece z end) all i p c.loop-p-test.true h)).line,
+      λ z end h. (piece_there z end all i p c.loop-p-test.true c.p-item.is h).line,
     )
 
 pub returns : goal.returns

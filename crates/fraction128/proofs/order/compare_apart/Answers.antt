@@ -7,10 +7,8 @@ use Rattle.fraction128.proofs.order.compare_apart.Goals as goal
 
 pub returns-then-left-right : goal.returns-then-left-right
 returns-then-left-right c =
-    let fa = c.ranges.a in
-    let fb = c.ranges.b in
-    let f = c.whole_and_rest-left.result.0 in
-    let g = c.whole_and_rest-right.result.0 in
+    let fa = c.ranges.a in let fb = c.ranges.b in
+    let f = c.whole_and_rest-left.result.0 in let g = c.whole_and_rest-right.result.0 in
     let ff : SFits w128 f = search rules in
     let fg : SFits w128 g = search rules in
     let n : f ≢ g = λ h. c.if-left-right.true (ap (of_z w128) h) in
@@ -19,10 +17,8 @@ returns-then-left-right c =
 
 pub returns : goal.returns
 returns c =
-    let fa = c.ranges.a in
-    let fb = c.ranges.b in
-    let f = c.whole_and_rest-left.result.0 in
-    let g = c.whole_and_rest-right.result.0 in
+    let fa = c.ranges.a in let fb = c.ranges.b in
+    let f = c.whole_and_rest-left.result.0 in let g = c.whole_and_rest-right.result.0 in
     let ff : SFits w128 f = search rules in
     let fg : SFits w128 g = search rules in
     let h : f ≡ g = sym (to_z-of_z ff) ∙ ap (to_z w128) c.if-left-right.false ∙ to_z-of_z fg in

@@ -23,13 +23,9 @@ turn_of-turn-requires c =
 
 pub returns-then-not-goes_on : goal.returns-then-not-goes_on
 returns-then-not-goes_on c =
-    let a = c.args.cycle in
-    let parts = c.args.parts in
+    let a = c.args.cycle in let parts = c.args.parts in let seen = c.turn_of-turn.result.now in
+    let k = length seen / parts in let by = c.in-Some.by in let rise = c.in-Some-share.rise in
     let some : 0 < parts = omega arith in
-    let seen = c.turn_of-turn.result.now in
-    let k = length seen / parts in
-    let by = c.in-Some.by in
-    let rise = c.in-Some-share.rise in
     let turn = turn_is a (cycle_values a) c.deref.result.now seen c.requires.turning c.deref.ensures.value c.turn_of-turn.ensures in
     let len = turn_share a seen (length seen) k parts turn refl refl c.requires.share in
     stays a parts c.requires.turning (no_copies_left a parts k by rise c.requires.turning some len c.in-Some.ensures.0 c.in-Some-share.ensures.0
@@ -37,12 +33,8 @@ returns-then-not-goes_on c =
 
 pub returns : goal.returns
 returns c =
-    let a = c.args.cycle in
-    let parts = c.args.parts in
-    let seen = c.turn_of-turn.result.now in
-    let k = length seen / parts in
-    let by = c.in-Some.by in
-    let rise = c.in-Some-share.rise in
+    let a = c.args.cycle in let parts = c.args.parts in let seen = c.turn_of-turn.result.now in
+    let k = length seen / parts in let by = c.in-Some.by in let rise = c.in-Some-share.rise in
     let turn = turn_is a (cycle_values a) c.deref.result.now seen c.requires.turning c.deref.ensures.value c.turn_of-turn.ensures in
     let len = turn_share a seen (length seen) k parts turn refl refl c.requires.share in
     let G = subst (λ zs. GoesOn zs k by rise) turn (c.goes_on.ensures.0 c.if-not-goes_on.false) in

@@ -42,6 +42,11 @@ of_pieces-requires-in-Infinite-clause-room c =
           (ended_room R.0 raw.pieces.items rank R.1 c.requires.raw.starts F.nonneg),
     )
 
+pub of_periodic-requires-clause-numbers : goal.of_periodic-requires-clause-numbers
+of_periodic-requires-clause-numbers c =
+    let h = c.requires in
+    record { some_times = h.some_times; some_values = h.some_values; small_times = h.times; small_values = h.values }
+
 pub of_periodic-requires-clause-grids : goal.of_periodic-requires-clause-grids
 of_periodic-requires-clause-grids c =
     let raw = c.args.raw.now in

@@ -10,8 +10,7 @@ use Rattle.upp_normal.proofs.raw_curve.unending.Goals.{in-None, in-Some}
 
 pub from_normal-requires : goal.from_normal-requires
 from_normal-requires c =
-    let ps = c.args.pieces.items in
-    let last = c.index-last.result.now in
+    let ps = c.args.pieces.items in let last = c.index-last.result.now in
     let n : c.len.result ≡ length ps = omega arith in
     let some : 0 < c.len.result = subst (λ m. 0 < m) (sym n) (zero_some ps c.requires.starts) in
     let L = last_read ps last c.len.result c.requires.starts c.requires.none n some c.index-last.ensures in
@@ -22,8 +21,7 @@ from_normal-requires c =
 
 pub returns : goal.returns
 returns c =
-    let ps = c.args.pieces.items in
-    let last = c.index-last.result.now in
+    let ps = c.args.pieces.items in let last = c.index-last.result.now in
     let n : c.len.result ≡ length ps = omega arith in
     let some : 0 < c.len.result = subst (λ m. 0 < m) (sym n) (zero_some ps c.requires.starts) in
     let L = last_read ps last c.len.result c.requires.starts c.requires.none n some c.index-last.ensures in

@@ -18,10 +18,8 @@ reduce-lowest-requires c = subst (λ fs. AllByRecursion IsFactor fs) (sym c.dere
 
 pub quotient-requires : goal.quotient-requires
 quotient-requires c =
-    let t = c.in-Some.top in
-    let b = c.reduce-lowest.result.bottom in
-    let less = c.if-lowest.false in
-    let less_t = c.in-Some.ensures.1 in
+    let t = c.in-Some.top in let b = c.reduce-lowest.result.bottom in
+    let less = c.if-lowest.false in let less_t = c.in-Some.ensures.1 in
     let own_t : to_z w128 t ≡ pos t = omega (arith, ints, less_t) in
     let own_b : to_z w128 b ≡ pos b = omega (arith, ints, less) in
     let top = c.from_whole.ensures ∙ ap int own_t in
@@ -42,10 +40,8 @@ returns-then-lowest c = λ s h.
 pub returns-else-lowest : goal.returns-else-lowest
 returns-else-lowest c = λ s h.
     let fs = c.args.sum.factors.items in
-    let t = c.in-Some.top in
-    let b = c.reduce-lowest.result.bottom in
-    let less = c.if-lowest.false in
-    let less_t = c.in-Some.ensures.1 in
+    let t = c.in-Some.top in let b = c.reduce-lowest.result.bottom in
+    let less = c.if-lowest.false in let less_t = c.in-Some.ensures.1 in
     let own_t : to_z w128 t ≡ pos t = omega (arith, ints, less_t) in
     let own_b : to_z w128 b ≡ pos b = omega (arith, ints, less) in
     let own : t ≡ number c.reduce-lowest.result.top.items = c.in-Some.ensures.0 ∙ ap number c.deref-2.ensures.0 in

@@ -5,10 +5,9 @@ use Rattle.upp_limits.proofs.SpanNumbers.{if_some_map}
 use Rattle.net_model.specs.declared.server.Server.{Server}
 use Rattle.net_model.specs.Views.{server_of}
 use Rattle.net_model.specs.stated_runs.Setups.{IsGateFor}
-use Rattle.net_model.specs.stated_runs.FromTraces.{gate_of, setup_of}
+use Rattle.net_model.specs.stated_runs.FromTraces.{gate_of}
 use Rattle.net_model.proofs.stated_runs.ServerSetups.{server_is}
 use Rattle.sim_bounds.specs.Horizons.{gate_ratio}
-use Rattle.sim_bounds.specs.Way.{open_time, gated_time}
 use Rattle.sim_bounds.proofs.sim_gauge.Parts.{own_gated}
 use Rattle.sim_bounds.proofs.sim_gauge.SpanSteps.{span_steps, stored, kind_gates}
 use Rattle.sim_bounds.proofs.sim_gauge.horizons.gated.Goals as goal
@@ -31,21 +30,17 @@ gate_product-requires-clause-within c =
 
 pub returns-in-Some-clause-value : goal.returns-in-Some-clause-value
 returns-in-Some-clause-value c =
-    let net = c.args.net.now in
-    let trace = c.args.trace.now in
-    let s = c.args.server in
-    let x = server_of c.index-servers-server.result in
+    let net = c.args.net.now in let trace = c.args.trace.now in
+    let s = c.args.server in let x = server_of c.index-servers-server.result in
     let at = stored net c.servers.result.now s c.index-servers-server.result c.servers.ensures.servers c.requires c.index-servers-server.is in
     let kind = ap (λ (r : Server). r.kind) c.index-servers-server.is ∙ c.in-Gate.is in
-    let own = own_gated net trace s x (server_is net trace s x at.inside at.is) ∙ ap (λ k. gated_time (gate_of k) (open_time (setup_of net trace) s)) kind in
+    let own = own_gated net trace s x _ (server_is net trace s x at.inside at.is) kind in
     if_some_map c.gate_product.result _ _ (λ p e. e ∙ ap (λ t. (c.in-Gate.cycle /ℚ c.in-Gate.slot) *ℚ t) c.in-Some.ensures.value ∙ sym own) c.gate_product.ensures.value
 
 pub returns-in-Some-clause-fits : goal.returns-in-Some-clause-fits
 returns-in-Some-clause-fits c = λ d e f.
-    let net = c.args.net.now in
-    let trace = c.args.trace.now in
-    let s = c.args.server in
-    let x = server_of c.index-servers-server.result in
+    let net = c.args.net.now in let trace = c.args.trace.now in
+    let s = c.args.server in let x = server_of c.index-servers-server.result in
     let at = stored net c.servers.result.now s c.index-servers-server.result c.servers.ensures.servers c.requires c.index-servers-server.is in
     let kind = ap (λ (r : Server). r.kind) c.index-servers-server.is ∙ c.in-Gate.is in
     let steps = span_steps net trace d s e x (server_is net trace s x at.inside at.is) at.inside f in
@@ -53,22 +48,18 @@ returns-in-Some-clause-fits c = λ d e f.
 
 pub returns-in-Latency-clause-value : goal.returns-in-Latency-clause-value
 returns-in-Latency-clause-value c =
-    let net = c.args.net.now in
-    let trace = c.args.trace.now in
-    let s = c.args.server in
-    let x = server_of c.index-servers-server.result in
+    let net = c.args.net.now in let trace = c.args.trace.now in
+    let s = c.args.server in let x = server_of c.index-servers-server.result in
     let at = stored net c.servers.result.now s c.index-servers-server.result c.servers.ensures.servers c.requires c.index-servers-server.is in
     let kind = ap (λ (r : Server). r.kind) c.index-servers-server.is ∙ c.in-Latency.is in
-    let own = own_gated net trace s x (server_is net trace s x at.inside at.is) ∙ ap (λ k. gated_time (gate_of k) (open_time (setup_of net trace) s)) kind in
+    let own = own_gated net trace s x _ (server_is net trace s x at.inside at.is) kind in
     c.no_product.ensures.value ∙ sym own
 
 pub returns-in-Listed-clause-value : goal.returns-in-Listed-clause-value
 returns-in-Listed-clause-value c =
-    let net = c.args.net.now in
-    let trace = c.args.trace.now in
-    let s = c.args.server in
-    let x = server_of c.index-servers-server.result in
+    let net = c.args.net.now in let trace = c.args.trace.now in
+    let s = c.args.server in let x = server_of c.index-servers-server.result in
     let at = stored net c.servers.result.now s c.index-servers-server.result c.servers.ensures.servers c.requires c.index-servers-server.is in
     let kind = ap (λ (r : Server). r.kind) c.index-servers-server.is ∙ c.in-Listed.is in
-    let own = own_gated net trace s x (server_is net trace s x at.inside at.is) ∙ ap (λ k. gated_time (gate_of k) (open_time (setup_of net trace) s)) kind in
+    let own = own_gated net trace s x _ (server_is net trace s x at.inside at.is) kind in
     c.no_product-in-Listed.ensures.value ∙ sym own

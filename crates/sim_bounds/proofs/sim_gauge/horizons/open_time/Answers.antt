@@ -19,10 +19,8 @@ work_time-requires c =
 
 pub returns-clause-value : goal.returns-clause-value
 returns-clause-value c =
-    let net = c.args.net.now in
-    let trace = c.args.trace.now in
-    let s = c.args.server in
-    let x = server_of c.index-servers-server.result in
+    let net = c.args.net.now in let trace = c.args.trace.now in
+    let s = c.args.server in let x = server_of c.index-servers-server.result in
     let at = stored net c.servers.result.now s c.index-servers-server.result c.servers.ensures.servers c.requires c.index-servers-server.is in
     let same = ap (λ (r : Server). whole c.load-bits.result /ℚ r.rate) (sym c.index-servers-server.is) ∙ ap (λ n. whole n /ℚ x.rate) c.load-bits.ensures
     ∙ sym (own_open net trace s x (server_is net trace s x at.inside at.is)) in
@@ -30,10 +28,8 @@ returns-clause-value c =
 
 pub returns-clause-fits : goal.returns-clause-fits
 returns-clause-fits c = λ d e f.
-    let net = c.args.net.now in
-    let trace = c.args.trace.now in
-    let s = c.args.server in
-    let x = server_of c.index-servers-server.result in
+    let net = c.args.net.now in let trace = c.args.trace.now in
+    let s = c.args.server in let x = server_of c.index-servers-server.result in
     let at = stored net c.servers.result.now s c.index-servers-server.result c.servers.ensures.servers c.requires c.index-servers-server.is in
     let same = ap (λ (r : Server). whole c.load-bits.result /ℚ r.rate) (sym c.index-servers-server.is) ∙ ap (λ n. whole n /ℚ x.rate) c.load-bits.ensures
     ∙ sym (own_open net trace s x (server_is net trace s x at.inside at.is)) in

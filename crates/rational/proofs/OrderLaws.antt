@@ -1,8 +1,6 @@
--- The tests of equality and order of the rationals, and their laws.
-use Rattle.std.specs.Prelude.{◌≡◌, Bool, true, refl}
+-- The laws of the tests of equality and order of the rationals.
+use Rattle.std.specs.Prelude.{◌≡◌, true, refl}
 use Rattle.std.proofs.Common.{ap, subst}
-use Rattle.std.specs.declared.option.Option.{Option}
-use Rattle.std.specs.declared.option.Option.TheVariants.{Some}
 use Rattle.std.specs.declared.cmp.Ordering.{Ordering}
 use Rattle.std.specs.declared.cmp.Ordering.TheVariants.{Less, Equal, Greater}
 use Rattle.std.specs.Ordering.{is_eq, MatchOrdering}
@@ -10,16 +8,9 @@ use Rattle.std.specs.Cmp.{IsPartialEquivalence, IsEquivalence, IsPartialOrder, I
 use Rattle.rational.specs.Rational.{ℚ, ◌<ℚ◌}
 use Rattle.rational.specs.Fractions.{cross}
 use Rattle.rational.specs.Ratio.{cmp_q}
+use Rattle.rational.specs.Compared.{same_q, partial_cmp_q}
 use Rattle.rational.proofs.Laws.{lt_irrefl, lt_le_trans, le_of_lt}
 use Rattle.rational.proofs.Comparison.{cmp_ranks, cmp_less, cmp_equal, cmp_self}
-
--- whether two are one
-abbrev pub same_q : ℚ → ℚ → Bool
-same_q x y = is_eq (cmp_q x y)
-
--- any two are in order
-abbrev pub partial_cmp_q : ℚ → ℚ → Option Ordering
-partial_cmp_q x y = Some (cmp_q x y)
 
 less_in : (x y : ℚ) → x <ℚ y → cmp_q x y ≡ Less
 less_in x y h = go (cmp_q x y) (cmp_ranks x y)
