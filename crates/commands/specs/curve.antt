@@ -1,2 +1,3 @@
 pub mod OnScripts
+pub mod ScriptCounts
 pub mod Laws

@@ -35,6 +35,7 @@ use Rattle.commands.proofs.check.OneReply as checked
 use Rattle.commands.proofs.check.Verdicts.{verdicts}
 use Rattle.commands.proofs.check.Within as admissible
 use Rattle.commands.specs.measure.MeasureCounts as measure_counts
+use Rattle.commands.specs.curve.ScriptCounts as script_counts
 use Rattle.commands.proofs.measure.Causes as measure
 use Rattle.commands.proofs.measure.OneMeasure as measured
 use Rattle.commands.proofs.curve.Causes as curve
@@ -248,6 +249,20 @@ edit_counts_at bytes rows status other old new same h = record {
   edits = λ net is. edits_at net rows status other h.between new same (h.edits net is);
 }
 
+script_counts_at : (bytes : List ℕ) (status other old new : ℕ) → IsGiven status other
+    → script_counts.CountsOn bytes status old new → script_counts.CountsOn bytes other old new
+script_counts_at bytes status other old new same (inl none) =
+    inl (λ zero. none.0 (zero_given status other same zero), none.1)
+script_counts_at bytes status other old new same (inr k) = inr record {
+  lines = k.lines;
+  script = k.script;
+  counts = record {
+    told = k.counts.told;
+    finds = k.counts.finds;
+    report = λ zero. k.counts.report (zero_given status other same zero);
+  };
+}
+
 pub counts_by_command : (command : Command) (files : List (List ℕ)) (status other old new : ℕ)
     → IsGiven status other → CountsTo command files status old new → CountsTo command files other old new
 counts_by_command (Analyse form net) (bytes ∷ []) status other old new same h = counts_at bytes status other old new same h
@@ -261,5 +276,6 @@ counts_by_command (Check net run) (bytes ∷ rows ∷ []) status other old new s
     check_counts_at bytes rows status other old new same h
 counts_by_command (Measure net trace name rate) (bytes ∷ rows ∷ []) status other old new same h =
     measure_counts_at bytes status other old new same h
-counts_by_command (Curve script) (bytes ∷ []) status other old new same h = tt
+counts_by_command (Curve script) (bytes ∷ []) status other old new same h =
+    script_counts_at bytes status other old new same h
 counts_by_command command files status other old new same h = absurd h

@@ -42,6 +42,7 @@ use Rattle.commands.specs.measure.MeasureCounts as measure_counts
 use Rattle.commands.specs.measure.MeasureLaws as measure_laws
 use Rattle.commands.specs.measure.MeasureLaws.{IsLeastOf}
 use Rattle.commands.specs.curve.OnScripts.{IsScriptReply, IsRefused, IsLineOver, IsAnswered}
+use Rattle.commands.specs.curve.ScriptCounts as script_counts
 use Rattle.commands.specs.curve.Laws.{IsWithinRules}
 
 -- a command with the names of its files, and with what its other words say: the form of its report, and a rate
@@ -202,5 +203,5 @@ CountsTo (Simulate net trace) (bytes ∷ rows ∷ []) status old new = run_count
 CountsTo (Exercise seed) [] status old new = CountsOnCells (network_of seed) status old new
 CountsTo (Check net run) (bytes ∷ rows ∷ []) status old new = check_counts.CountsOn bytes rows status old new
 CountsTo (Measure net trace name rate) (bytes ∷ rows ∷ []) status old new = measure_counts.CountsOn bytes status old new
-CountsTo (Curve script) (bytes ∷ []) status old new = Unit {0}
+CountsTo (Curve script) (bytes ∷ []) status old new = script_counts.CountsOn bytes status old new
 CountsTo command files status old new = ⊥

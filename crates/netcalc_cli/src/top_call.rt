@@ -1,6 +1,6 @@
 //! The top call.
 
-ghost use Rattle.std.specs.Prelude.{◌≡◌, ◌≢◌, ◌⊎◌, None, IfSome};
+ghost use Rattle.std.specs.Prelude.{◌≡◌, ◌≢◌, ◌≤◌, ◌⊎◌, None, IfSome};
 ghost use Rattle.outside.specs.Fetching.{FetchesAll, FetchesUpTo};
 ghost use Rattle.outside.specs.Written.{output};
 ghost use Rattle.upp_limits.specs.declared.own_limits.OverLimit.TheVariants as limits;
@@ -31,6 +31,7 @@ fn give<K: Sink>(out: &mut K, status: Status, text: &[u8]) -> u8
         result ≢ 4 → Gives result (output K.written K.puts out.old) (output K.written K.puts out.new) reply }
     ensures failed { let reply : Reply = record { status = code_of status; bytes = text.now } in
         result ≡ 4 → FailsToGive K.faults K.written K.puts out.old out.new reply }
+    ensures status { result ≤ 9 }
 {
     match out.put(text) {
         Ok(()) => status.code(),
@@ -59,6 +60,9 @@ pub fn run<I: Inputs, K: Sink, L: Ledger>(
     out: &mut K,
     steps: &mut Steps<L>,
 ) -> u8
+    // 0 to 9, each of which has its clause; there is no other.
+    ensures status { result ≤ 9 }
+
     // 2 exactly where the words are not taken; or 4, where the usage line is not written.
     ensures usage { result ≡ 2 → command_of (texts words.now) ≡ None }
     ensures not_taken { command_of (texts words.now) ≡ None →
@@ -149,7 +153,8 @@ pub fn run<I: Inputs, K: Sink, L: Ledger>(
     // than the work of the touched cells of each edit; where the report is written, no less than that of the edits
     // that are taken. Of `check` as of `simulate`. Of `exercise` no more than the work of all cells, and where the
     // summary is written exactly that.
-    // Of `measure` one step after the folds.
+    // Of `measure` one step after the folds. Of `curve` those that are counted as its statements find something: one for
+    // each operator that is looked at, and of a closure those of its fold.
     ensures counts { Counts I.content (command_of (texts words.now)) inputs.old result steps.old steps.new }
 {
     let Some(alloc) = taken(words) else {

@@ -76,6 +76,8 @@ module _ {V : Type 0} (s : Stored V) (edit : Edit) where
         accepted = subst IsAccepted (sym same) accepted;
         order = c.order;
         ordered = c.servers;
+        all_touched = c.all_touched;
+        are = c.are;
         touched = c.touched;
         first = c.over;
       } in

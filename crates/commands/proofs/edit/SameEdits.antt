@@ -136,6 +136,8 @@ module _ (old : NetHistory) (e f : Edit) (same : edit_view e ≡ edit_view f) wh
     accepted = h.accepted;
     order = h.order;
     ordered = h.ordered;
+    all_touched = h.all_touched;
+    are = h.are;
     touched = h.touched;
     first = h.first;
   })

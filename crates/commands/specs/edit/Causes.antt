@@ -17,6 +17,7 @@ use Rattle.net_edits.specs.declared.fault.EditFault.TheVariants.{UnknownName, Na
 use Rattle.net_edits.specs.Edited.{Edited, edited}
 use Rattle.net_edits.specs.Replies.{Refuses, IsEditOver}
 use Rattle.cell_rules.specs.cell_changes.Changes.{Touched}
+use Rattle.cell_store.specs.edit_store.Stored.{AreTouched}
 use Rattle.cell_store.specs.edit_store.Applied.{Gives}
 use Rattle.commands.specs.edit.NetHistories.{NetHistory}
 
@@ -32,12 +33,14 @@ pub record GoesRound (present : Net) (edit : Edit) (walk : List ℕ) (net : Net)
   pub accepted : IsAccepted net
   pub cycle : IsCycle net walk
 
--- its servers have an order, and this cell, which the edit touches, is the first of all that is over a limit
+-- its servers have an order, the edit touches these cells, and this one of them is the first of all that is over a limit
 pub record HasCellOver (present : Net) (edit : Edit) (cell : Cell) (fault : OpFault) (net : Net) : Type 0 where
   pub gives : Gives present edit net
   pub accepted : IsAccepted net
   pub order : List ℕ
   pub ordered : IsOrder net order
+  pub all_touched : List Cell
+  pub are : AreTouched present net all_touched
   pub touched : Touched present net cell
   pub first : FirstOver net order cell fault
 

@@ -3,8 +3,9 @@
 ghost use Rattle.std.specs.Prelude.{◌≡◌, ◌≤◌, IfOk, length, map};
 ghost use Rattle.curve_lang.specs.Views.{answer_view};
 ghost use Rattle.input_texts.specs.curve_script.Scripts.{line_view};
-ghost use Rattle.command_replies.specs.View.{reply_of};
+ghost use Rattle.command_replies.specs.View.{reply_of, status_of};
 ghost use Rattle.commands.specs.curve.OnScripts.{answered, IsScriptReply, IsReplyOnLines};
+ghost use Rattle.commands.specs.curve.ScriptCounts.{CountsOn, CountsOnLines};
 
 use command_replies::{Answer, Status, on_script_fault};
 use curve_lang::{Answer as Told, Script, answer_text, eval_script, parse_script};
@@ -30,7 +31,8 @@ fn on_lines<L: Ledger>(
     script: &Script,
     steps: &mut Steps<L>,
 ) -> Result<Answer, AllocError>
-    ensures { IfOk result (λ r. IsReplyOnLines file.now (map line_view script.now.lines.items) (reply_of r)) }
+    ensures reply { IfOk result (λ r. IsReplyOnLines file.now (map line_view script.now.lines.items) (reply_of r)) }
+    ensures counts { CountsOnLines (map line_view script.now.lines.items) (status_of result) steps.old steps.new }
 {
     match eval_script(alloc, script, steps) {
         Ok(answers) => answered(alloc, &answers),
@@ -39,7 +41,8 @@ fn on_lines<L: Ledger>(
 }
 
 /// The answer on a file with this name and these bytes, in this order: the first line that is no statement, the first
-/// statement with a fault or over a limit, and else the answers. Refused only for want of memory.
+/// statement with a fault or over a limit, and else the answers. Refused only for want of memory. The steps are those
+/// that are counted as the statements find something.
 pub fn on_script<L: Ledger>(
     alloc: Global,
     file: &str,
@@ -47,7 +50,8 @@ pub fn on_script<L: Ledger>(
     steps: &mut Steps<L>,
 ) -> Result<Answer, AllocError>
     requires { length bytes.now ≤ 1048576 }
-    ensures { IfOk result (λ r. IsScriptReply file.now bytes.now (reply_of r)) }
+    ensures reply { IfOk result (λ r. IsScriptReply file.now bytes.now (reply_of r)) }
+    ensures counts { CountsOn bytes.now (status_of result) steps.old steps.new }
 {
     match parse_script(alloc, bytes) {
         Ok(script) => on_lines(alloc, file, &script, steps),

@@ -12,7 +12,7 @@ returns-in-Ok-clause-reply g c =
     (λ r on. answers g.I.Inputs.faults g.I.Inputs.last_fault (g.I.Inputs.content c.args.inputs.now)
     (Curve c.args.script.now) c.args.inputs.now c.fetch_one.new.inputs (reply_of r) (c.in-Ok.bytes.items ∷ [])
     (c.in-Ok.ensures.held, tt) (c.in-Ok.ensures.fits, tt) on)
-    (rw c.deref.ensures.value at c.on_script.ensures)
+    (rw c.deref.ensures.value at c.on_script.ensures.reply)
 
 pub returns-in-Ok-clause-counts : goal.returns-in-Ok-clause-counts
 returns-in-Ok-clause-counts g c =
@@ -20,7 +20,7 @@ returns-in-Ok-clause-counts g c =
       files = c.in-Ok.bytes.items ∷ [];
       held = (c.in-Ok.ensures.held, tt);
       fit = (c.in-Ok.ensures.fits, tt);
-      counts = tt;
+      counts = rw c.deref.ensures.value at c.on_script.ensures.counts;
     })
 
 pub returns-in-Err-clause-reply : goal.returns-in-Err-clause-reply
