@@ -2,3 +2,4 @@ pub mod Pushed
 pub mod EachTable
 pub mod EachScript
 pub mod EachRun
+pub mod KeptTraces

@@ -5,6 +5,8 @@
 pub mod closures;
 pub mod curves;
 pub mod drafts;
+pub mod edits;
 pub mod reports;
+pub mod scripts;
 pub mod tables;
 pub mod texts;

@@ -14,11 +14,11 @@ use Rattle.upp_normal.specs.Normalising.{RepeatsIn}
 use Rattle.upp_normal.proofs.NormaliseGrids.{q_same_or, ext_same_or, line_same_or}
 
 -- ---- of parts
-on_parts : {A B : Type 0} → (A → B) → (B → A) → A ⊎ ¬ A → B ⊎ ¬ B
+pub on_parts : {A B : Type 0} → (A → B) → (B → A) → A ⊎ ¬ A → B ⊎ ¬ B
 on_parts f g (inl a) = inl (f a)
 on_parts f g (inr n) = inr (λ b. n (g b))
 
-both : {A B : Type 0} → A ⊎ ¬ A → B ⊎ ¬ B → (A × B) ⊎ ¬ (A × B)
+pub both : {A B : Type 0} → A ⊎ ¬ A → B ⊎ ¬ B → (A × B) ⊎ ¬ (A × B)
 both (inl a) (inl b) = inl (a, b)
 both (inl a) (inr n) = inr (λ p. n p.1)
 both (inr n) d = inr (λ p. n p.0)

@@ -33,7 +33,7 @@ count_up P (suc n) k decided some below = elim (decided k) [
 ]
 
 -- ---- what is decided at each number
-at_most_or : (v w : Ext) → (v ≤ₑ w) ⊎ ¬ (v ≤ₑ w)
+pub at_most_or : (v w : Ext) → (v ≤ₑ w) ⊎ ¬ (v ≤ₑ w)
 at_most_or v w = elim (le_or_lt_ext v w) [ inl h ↦ inl h | inr l ↦ inr (λ h. lt_ext_irrefl w (lt_le_ext w v w l h)) ]
 
 past_or : (P : Type 0) (n : ℕ) → P ⊎ ¬ P → IsPast P n ⊎ ¬ (IsPast P n)

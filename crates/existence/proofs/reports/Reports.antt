@@ -30,14 +30,14 @@ use Rattle.upp_limits.specs.declared.op_kind.OpFault.TheVariants.{TooMany, TooWi
 use Rattle.upp_limits.specs.declared.own_limits.OverLimit.{OverLimit}
 use Rattle.upp_limits.specs.declared.own_limits.OverLimit.TheVariants as limits
 use Rattle.commands.specs.command_replies.specs.Replies.{Reply, breaks_rule, goes_round, curve_over, cell_over}
-use Rattle.commands.specs.command_replies.specs.OnFiles.{IsNetOf, IsOver}
+use Rattle.commands.specs.command_replies.specs.OnFiles.{IsNetOf, IsNoNetwork, IsOver}
 use Rattle.commands.specs.command_replies.specs.Stages.{stops, goes_on}
 use Rattle.commands.specs.analyse.OnFiles.{report, IsReplyOn, IsReplyOnNet}
 use Rattle.run_watch.specs.simulated_sizes.Laws.{AreCurves}
 use Rattle.existence.proofs.tables.Sound.{zero_is}
 use Rattle.existence.proofs.tables.Tables.{tables_or_limits}
 use Rattle.existence.specs.drafts.Drafts.{HasNetworkOrFault}
-use Rattle.existence.specs.reports.Laws.{FilesHaveReports, HaveReplies, NetworksHaveReplies, BrokenFilesHaveReplies}
+use Rattle.existence.specs.reports.Laws.{FilesHaveReports, HaveReplies, NetworksHaveReplies, BrokenFilesHaveReplies, StopsOrGives, FirstStagesEnd, BrokenFilesStop}
 
 abbrev LiveCurve : Option NetFlow → Type 0
 LiveCurve o = IsCurve (arrival_of o)
@@ -130,29 +130,40 @@ limit_of [] f h = absurd h
 limit_of (e ∷ es) f (inl here) = (here.limit, e.place, here.is)
 limit_of (e ∷ es) f (inr later) = limit_of es f later.1
 
-on_fault : (form : Form) (file bytes : List ℕ) (d : DraftText) (f : Fault) → draft_of bytes ≡ Ok d → FirstCurveOver OverFold (curves_of d) f
-    → (reply : Reply) × IsReplyOn form file bytes reply
-on_fault form file bytes d f is first =
+on_fault : (file bytes : List ℕ) (d : DraftText) (f : Fault) → draft_of bytes ≡ Ok d → FirstCurveOver OverFold (curves_of d) f
+    → (reply : Reply) × IsNoNetwork file bytes reply
+on_fault file bytes d f is first =
     let (limit, place, named) = limit_of (curves_of d) f first in (
       curve_over limit place,
-      stops (inr (
+      inr (
         limit,
         record {
           place = place;
           first = record { draft = d; is_draft = is; first = subst (FirstCurveOver OverFold (curves_of d)) named first };
           is = refl;
         },
-      )),
+      ),
     )
 
-pub drafts_have : (d : DraftText) → HasNetworkOrFault d → HaveReplies (λ bytes. draft_of bytes ≡ Ok d)
-drafts_have d h form file bytes is = elim h [
-  | inl n ↦ networks_have_replies n.net form file bytes record {
-    reads = record { draft = d; is_draft = is; built = n.built };
-    accepted = n.accepted;
-  }
-  | inr over ↦ on_fault form file bytes d over.0 is over.1
+pub first_stages : (d : DraftText) → HasNetworkOrFault d → FirstStagesEnd (λ bytes. draft_of bytes ≡ Ok d)
+first_stages d h file bytes is = elim h [
+  | inl n ↦ inr (
+    n.net,
+    record { reads = record { draft = d; is_draft = is; built = n.built }; accepted = n.accepted },
+  )
+  | inr over ↦ inl (on_fault file bytes d over.0 is over.1)
 ]
 
+pub broken_stop : BrokenFilesStop
+broken_stop fault file bytes is = inl (breaks_rule file fault, inl record { fault = fault; first = is; is = refl })
+
+-- so `analyse` has a reply
+by_stage : (form : Form) (file bytes : List ℕ) → StopsOrGives file bytes → (reply : Reply) × IsReplyOn form file bytes reply
+by_stage form file bytes (inl none) = (none.0, stops none.1)
+by_stage form file bytes (inr given) = networks_have_replies given.0 form file bytes given.1
+
+pub drafts_have : (d : DraftText) → HasNetworkOrFault d → HaveReplies (λ bytes. draft_of bytes ≡ Ok d)
+drafts_have d h form file bytes is = by_stage form file bytes (first_stages d h file bytes is)
+
 pub broken_have : BrokenFilesHaveReplies
-broken_have fault form file bytes is = (breaks_rule file fault, stops (inl record { fault = fault; first = is; is = refl }))
+broken_have fault form file bytes is = by_stage form file bytes (broken_stop fault file bytes is)

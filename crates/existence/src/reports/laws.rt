@@ -10,6 +10,7 @@ ghost use Rattle.report_text.specs.net_cells.specs.Equations.{MeetsEquations};
 ghost use Rattle.existence.specs.tables.Tables.{TableOrLimit};
 ghost use Rattle.existence.specs.tables.Networks.{NoneIsOver};
 ghost use Rattle.existence.specs.reports.Laws.{FilesHaveReports, NetworksHaveReplies, HaveReplies, BrokenFilesHaveReplies};
+ghost use Rattle.existence.specs.reports.Laws.{FirstStagesEnd, BrokenFilesStop, MeasuresHaveReplies};
 
 use crate::drafts::drafts_have_networks;
 use commands::command_replies::run_findings::keeps_curves;
@@ -51,4 +52,24 @@ pub fn drafts_have_replies(draft: &Draft)
 /// So have bytes that have no draft.
 pub fn broken_files_have_replies()
     ensures { BrokenFilesHaveReplies }
+{}
+
+/// The first stage of each command that reads a network ends, on bytes of which this is the draft: they give a network,
+/// or a curve is the first over a limit, and there is the reply that tells it.
+pub fn first_stages_end(draft: &Draft)
+    requires { IsDraft draft.now }
+    ensures { FirstStagesEnd (λ bytes. draft_of bytes ≡ Ok (draft_text draft.now)) }
+{
+    drafts_have_networks(draft);
+}
+
+/// So it does on bytes that have no draft, with the reply that tells the first rule that they break.
+pub fn broken_files_stop()
+    ensures { BrokenFilesStop }
+{}
+
+/// Bytes that give a network have a reply of `measure` that is no want of memory, whatever the trace and the name are: the
+/// rate is from 0 on, as the words of a command say.
+pub fn measures_have_replies()
+    ensures { MeasuresHaveReplies }
 {}

@@ -1,0 +1,107 @@
+-- The work of edits that have answers: what is touched by those that are taken, or have a cell over a limit; else none.
+use Rattle.std.proofs.Common.{◌≡◌, ℕ, ◌+◌, List, [], ◌∷◌, sum_by, inl, inr, refl, sym, subst}
+use Rattle.std.specs.Prelude.{string_bytes}
+use Rattle.upp_limits.specs.declared.own_limits.OverLimit.{OverLimit}
+use Rattle.upp_limits.specs.declared.own_limits.OverLimit.TheVariants as limit
+use Rattle.net_model.specs.declared.edit.Edit.{Edit}
+use Rattle.net_model.specs.Networks.{Net}
+use Rattle.net_model.specs.Orders.{IsOrder}
+use Rattle.net_model.proofs.net_graph.Returns.{order_or_cycle}
+use Rattle.report_text.specs.net_cells.specs.declared.cell.Cell.{Cell}
+use Rattle.report_text.specs.net_cells.specs.Work.{work}
+use Rattle.net_edits.specs.declared.fault.EditFault.{EditFault}
+use Rattle.net_edits.specs.declared.fault.EditFault.TheVariants.{UnknownName, NameTaken, BadValue, LimitReached, Cycle, TooMany, TooWide, NothingToUndo, NoMemory}
+use Rattle.net_edits.specs.Refusals.{unknown_name, name_taken, bad_value, no_number_left}
+use Rattle.net_edits.specs.Edited.{edited}
+use Rattle.cell_store.specs.edit_store.Applied.{IsEvaluated}
+use Rattle.cell_store.proofs.edit_store.Steps.{gives_one}
+use Rattle.commands.specs.edit_report.Said.{EditSaid}
+use Rattle.commands.specs.edit.NetHistories.{NetHistory}
+use Rattle.commands.specs.edit.Causes.{GoesRound, IsOverBy, IsCause}
+use Rattle.commands.specs.edit.Answered.{IsAnswered, Taken, Undone, Refused}
+use Rattle.commands.specs.edit.EditCounts.{IsWorkOf, IsTakenWork}
+use Rattle.commands.proofs.edit.Exclusive.{gives_not_over, gives_not_refused, undo_gives_none}
+use Rattle.existence.specs.edits.Laws.{EditsHaveWork}
+
+-- ---- one edit
+abbrev HasWork : Net → Edit → Type 0
+HasWork present edit = (count : ℕ) × IsWorkOf present edit count
+
+none : (present : Net) (edit : Edit) → ¬ (IsEvaluated present edit) → HasWork present edit
+none present edit h = (0, inr (h, refl))
+
+round : (present : Net) (edit : Edit) (walk : List ℕ) (net : Net) → GoesRound present edit walk net → HasWork present edit
+round present edit walk net c = none present edit (λ e.
+    let one : net ≡ e.net = gives_one present edit net e.net c.gives e.gives in
+    let order : IsOrder net e.order = subst (λ (n : Net). IsOrder n e.order) (sym one) e.servers in
+    order_or_cycle.no_cycle net e.order walk c.accepted order c.cycle)
+
+over : (present : Net) (edit : Edit) (cell : Cell) (which : OverLimit) (net : Net) → IsOverBy present edit cell which net
+    → HasWork present edit
+over present edit cell which net (inl o) =
+    none present edit (λ e. gives_not_over (edited present edit) e.net cell which e.gives o.0)
+over present edit cell which net (inr h) = (
+  sum_by (work net) h.all_touched,
+  inl record { net = net; gives = h.gives; touched = h.all_touched; are = h.are; is = refl },
+)
+
+by_cause : (old : NetHistory) (edit : Edit) (fault : EditFault) (net : Net) → IsCause old edit fault net
+    → HasWork old.present edit
+by_cause old edit (UnknownName name) net c = none old.present edit (λ e.
+    gives_not_refused (edited old.present edit) e.net (unknown_name (string_bytes name)) e.gives c)
+by_cause old edit (NameTaken name) net c = none old.present edit (λ e.
+    gives_not_refused (edited old.present edit) e.net (name_taken (string_bytes name)) e.gives c)
+by_cause old edit BadValue net c = none old.present edit (λ e.
+    gives_not_refused (edited old.present edit) e.net bad_value e.gives c)
+by_cause old edit LimitReached net c = none old.present edit (λ e.
+    gives_not_refused (edited old.present edit) e.net no_number_left e.gives c)
+by_cause old edit (Cycle walk) net c = round old.present edit walk.items net c
+by_cause old edit (TooMany cell) net c = over old.present edit cell limit.TooMany net c
+by_cause old edit (TooWide cell) net c = over old.present edit cell limit.TooWide net c
+by_cause old edit NothingToUndo net c = none old.present edit (λ e.
+    undo_gives_none old.present e.net edit c.0 e.gives)
+by_cause old edit NoMemory net c = absurd c
+
+work_of : (old new : NetHistory) (edit : Edit) (said : EditSaid) → IsAnswered old edit said new
+    → HasWork old.present edit
+work_of old new edit said (Taken h) = (
+  sum_by (work new.present) h.touched,
+  inl record { net = new.present; gives = h.gives; touched = h.touched; are = h.are; is = refl },
+)
+work_of old new edit said (Undone h) = none old.present edit (λ e.
+    undo_gives_none old.present e.net edit h.undo e.gives)
+work_of old new edit said (Refused h) = by_cause old edit h.fault h.named_by h.cause
+
+-- all of it where the edit is taken
+taken_of : (old new : NetHistory) (edit : Edit) (said : EditSaid) (count : ℕ) → IsAnswered old edit said new
+    → (done : ℕ) × IsTakenWork old edit new count done
+taken_of old new edit said count (Taken h) = (count, inl ((said, h), refl))
+taken_of old new edit said count (Undone h) = (0, inr refl)
+taken_of old new edit said count (Refused h) = (0, inr refl)
+
+-- ---- edits in turn
+pub edits_have_work : EditsHaveWork
+edits_have_work old [] [] last h = (0, 0, (refl, refl))
+edits_have_work old [] (said ∷ more) last h = absurd h
+edits_have_work old (edit ∷ edits) [] last h = absurd h
+edits_have_work old (edit ∷ edits) (said ∷ more) last h =
+    let (count, is_count) = work_of old h.next edit said h.first in
+    let (taken, is_taken) = taken_of old h.next edit said count h.first in
+    let (rest_all, rest_done, rest) = edits_have_work h.next edits more last h.rest in (
+      count + rest_all,
+      taken + rest_done,
+      record {
+        said = said;
+        next = h.next;
+        answered = h.first;
+        count = count;
+        is_count = is_count;
+        taken = taken;
+        is_taken = is_taken;
+        rest_all = rest_all;
+        rest_done = rest_done;
+        rest = rest;
+        sum_all = refl;
+        sum_done = refl;
+      },
+    )
