@@ -50,7 +50,7 @@ ODD = [
     (
         "version = 2\n" + SERVER + 'service = { kind = "list", piece = [{ x = 0, at = 0, slope = 101 }] }\n' + FLOW,
         5,
-        "it promises 101 bits a unit of time, and in version 2 no server works faster than its rate of 100",
+        "it promises 101 bits within 1, and in version 2 no server works faster than its rate of 100",
     ),
     ("", 1, "the network: it has no server"),
     (SERVER, 1, "the network: it has no flow"),
@@ -77,6 +77,19 @@ class Lint(WithFolder):
             found = [words for words in run.stdout.splitlines() if told in words]
             self.assertEqual(len(found), 1, (told, run.stdout))
             self.assertTrue(found[0].startswith(f"{path} line {line}: "), found)
+
+    def test_a_service_that_is_ahead_of_its_rate(self):
+        waits = [{"x": 0, "at": 0}, {"x": 10, "at": 0, "slope": 200}, {"x": 11, "at": 200, "slope": 50}]
+        repeats = {"rank": 10, "period": 2, "rise": 201}
+        for curve, wanted in (
+            ({"piece": waits}, None),
+            ({"piece": waits[:2]}, (21, 2200)),
+            ({"piece": waits[:2], "tail": {"rank": 10, "period": 1, "rise": 200}}, (21, 2200)),
+            ({"piece": waits, "tail": repeats | {"rise": 250}}, (52, 5250)),
+            ({"piece": waits, "tail": repeats | {"rise": 200}}, None),
+            ({"piece": [{"x": 0, "at": 0, "slope": 101}, {"x": 1, "at": 101}]}, (1, 101)),
+        ):
+            self.assertEqual(lint.ahead_of(curve, 100), wanted, curve)
 
     def test_the_examples_have_nothing_odd(self):
         for path in sorted(TOP.glob("examples/**/*.toml")):

@@ -7,7 +7,7 @@ A line for each finding: the file, the line, the server or flow, and what is odd
 and 1 where something is. A file that is not lawful is refused as by the program, with the words of `./netcalc explain`.
 
 What is looked for: an arrival curve that lets in less at once than the flow's longest packet; more load than a server
-or a queue is promised; a packet longer than a gate's slot; a listed service that rises faster than its server's rate in
+or a queue is promised; a packet longer than a gate's slot; a listed service that is ahead of its server's rate in
 version 2; a network without a server or a flow; packets and bursts that look like bytes; times far below 1; a flow
 whose priority changes on its way."""
 
@@ -77,9 +77,26 @@ def of_gate(server, flows):
         yield "service", f"a cycle of {service['cycle']} is far below 1: take a smaller unit of time"
 
 
-def steepest(curve):
-    """The steepest slope of a listed curve."""
-    return max(number(piece.get("slope", 0)) for piece in curve["piece"])
+def ahead_of(curve, rate):
+    """A time at which a listed curve is above `rate` times the time, with its value there; None where there is none.
+    Between its pieces it is continuous, and from period to period it gains on the rate or falls behind."""
+    pieces = [(number(piece["x"]), number(piece["at"]), number(piece.get("slope", 0))) for piece in curve["piece"]]
+    start, value, slope = pieces[-1]
+    tail = curve.get("tail")
+    if tail:
+        period, rise = number(tail["period"]), number(tail["rise"])
+        end = number(tail["rank"]) + period
+    else:
+        period, rise, end = Fraction(1), slope, start + 1
+    places = [(time, at) for time, at, _ in pieces] + [(end, value + slope * (end - start))]
+    for time, at in places:
+        if at > rate * time:
+            return time, at
+    if rise > rate * period:
+        time, at = places[-1]
+        turns = (rate * time - at) // (rise - rate * period) + 1
+        return time + turns * period, at + turns * rise
+    return None
 
 
 def of_load(server, flows):
@@ -101,9 +118,11 @@ def of_server(server, flows, version):
     yield from of_load(server, flows)
     yield from of_gate(server, flows)
     service = server.get("service", {})
-    if version == 2 and service.get("kind") == "list" and steepest(service) > number(server["rate"]):
+    ahead = ahead_of(service, number(server["rate"])) if version == 2 and service.get("kind") == "list" else None
+    if ahead:
+        time, bits = ahead
         told = f"in version 2 no server works faster than its rate of {server['rate']}"
-        yield "service", f"it promises {steepest(service)} bits a unit of time, and {told}"
+        yield "service", f"it promises {bits} bits within {time}, and {told}"
 
 
 def findings(network, places):
