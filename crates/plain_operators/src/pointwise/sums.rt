@@ -12,7 +12,7 @@ ghost use Rattle.curve_call.specs.Frames.{IsFrame};
 
 use crate::pointwise::straight::{straight_of, sum_straight};
 use curve_call::upp_normal::unrolled;
-use curve_call::{Frame, answer, rise_over, window_sum, within};
+use curve_call::{Frame, framed_answer, rise_over, window_sum, within};
 use std::alloc::{AllocError, Global};
 use std::sync::ledger::Ledger;
 use steps::Steps;
@@ -45,15 +45,7 @@ fn sum_within(alloc: Global, f: &Curve, g: &Curve, frame: &Frame) -> Result<Curv
     let first = rise_over(f, frame.period);
     let second = rise_over(g, frame.period);
     let rise = upp_limits::fraction128::sum(first, second);
-    answer(
-        alloc,
-        pieces,
-        frame.start,
-        frame.period,
-        rise,
-        frame.times,
-        frame.values,
-    )
+    framed_answer(alloc, pieces, frame.start, rise, frame)
 }
 
 // The sum of two curves of any form.
