@@ -1,6 +1,6 @@
 //! The sizes of the numbers of a curve in a window, without unrolling it.
 
-ghost use Rattle.std.specs.Prelude.{ℕ, ◌≡◌, ◌<◌, ◌+◌, ◌^◌, pos, IfSome, IsSome, length, drop};
+ghost use Rattle.std.specs.Prelude.{ℕ, ◌≡◌, ◌<◌, ◌+◌, ◌^◌, pos, IfSome, IsSome, length, drop, ◌∷◌};
 ghost use Rattle.std.specs.List.{AllByRecursion};
 ghost use Rattle.min_plus.specs.rational.specs.Rational.{ℚ, int, ◌*ℚ◌, ◌≤ℚ◌, ◌<ℚ◌};
 ghost use Rattle.upp_curve.specs.affine_segment.Pieces.{StartsAtZero, start_after};
@@ -146,6 +146,25 @@ pub fn next_start(pieces: &[Piece], i: usize, after: &Option<Frac>) -> Option<Fr
     }
 }
 
+/// Piece number i as it is read, and where the next one starts. `after` is where that is after the last.
+pub(crate) fn span_at(
+    pieces: &[Piece],
+    i: usize,
+    tail: &Tail,
+    after: &Option<Frac>,
+) -> (Piece, Option<Frac>)
+    requires starts { StartsAtZero pieces.now }
+    requires inside { i < length pieces.now }
+    requires after { after.now ≡ end_of tail.now }
+    ensures start { int (pos 0) ≤ℚ result.0.x }
+    ensures span { let span : Span = record { piece = result.0; next = result.1 } in
+        spans tail.now (drop i pieces.now) ≡ span ∷ spans tail.now (drop (i + 1) pieces.now) }
+{
+    let piece = piece_read(&pieces[i], tail);
+    let next = next_start(pieces, i, after);
+    (piece, next)
+}
+
 /// The pieces of a curve more, as far as they and those of their copies that `counted` makes start before `end`.
 /// `after` is where the next piece starts after the last.
 pub(crate) fn with_pieces(
@@ -165,8 +184,7 @@ pub(crate) fn with_pieces(
 {
     let mut found = g;
     for i in 0..pieces.len() {
-        let next = next_start(pieces, i, after);
-        let piece = piece_read(&pieces[i], tail);
+        let (piece, next) = span_at(pieces, i, tail, after);
         match with_below(found, &piece, &next, counted, end) {
             Some(more) => found = more,
             None => return None,

@@ -16,7 +16,7 @@ ghost use Rattle.upp_limits.specs.ClosedForm.{closed_span, closed_spans, closed_
 ghost use Rattle.upp_limits.specs.Gauges.{scaled_line, scaled_piece, scaled_tail, scaled_curve};
 ghost use Rattle.upp_limits.specs.ClosedOperands.{ValueScales, LineScales, PieceScales, TailScales, scaled_span, KnowsTimes, KnowsScaled};
 
-use crate::curve_numbers::{next_start, piece_read, with_below, with_tail};
+use crate::curve_numbers::{span_at, with_below, with_tail};
 use crate::gathered::Gathered;
 use min_plus::rational::Extended;
 use upp_curve::Tail;
@@ -138,8 +138,7 @@ fn with_scaled_pieces(
 {
     let mut found = g;
     for i in 0..pieces.len() {
-        let next = next_start(pieces, i, after);
-        let piece = piece_read(&pieces[i], tail);
+        let (piece, next) = span_at(pieces, i, tail, after);
         match with_scaled_below(found, factor, &piece, &next, tail, end) {
             Some(more) => found = more,
             None => return None,
