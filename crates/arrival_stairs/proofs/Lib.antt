@@ -11,6 +11,7 @@ pub mod Walked
 pub mod UnderLines
 pub mod Tails
 pub mod Lowest
+pub mod Further
 pub mod Meets
 pub mod Exact
 pub mod NoJumps

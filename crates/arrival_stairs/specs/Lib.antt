@@ -9,6 +9,7 @@ pub mod Raised
 pub mod BelowLines
 pub mod StairExcess
 pub mod Lows
+pub mod Peaks
 pub mod Horizon
 pub mod Promises
 pub mod Stays

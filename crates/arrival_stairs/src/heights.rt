@@ -23,7 +23,7 @@ pub(crate) struct Height {
 }
 
 /// The product of two numbers below 2^62.
-fn times(a: u64, b: u64) -> u128
+pub(crate) fn times(a: u64, b: u64) -> u128
     requires one { a < 2 ^ 62 }
     requires other { b < 2 ^ 62 }
     ensures is { result ≡ a * b }
@@ -82,7 +82,7 @@ pub(crate) fn height_at(parts: &[Part], at: Moment) -> Height
 }
 
 /// By how many grains the height is above the rate, rounded up; 0 where it is not.
-fn ahead(height: Height, rate: u64) -> u128
+pub(crate) fn ahead(height: Height, rate: u64) -> u128
     requires at { IsMoment height.at }
     requires rate { rate < 2 ^ 62 }
     ensures { result ≡ ahead_of rate height }
