@@ -39,7 +39,10 @@ fn least_stay(
 
 /// What is promised of a queue at which these bundles arrive, of packets of at most so many grains, and that gets each
 /// of the services: the least delay and the least backlog over them, by the stairs and by their lines, of which these
-/// are the steps. None where each delay is of 2^50 picoseconds or more, or there is none.
+/// are the steps. By the lines a backlog is the supremum of what arrives less what is served, with a packet, rounded up to
+/// bits. By the stairs it is their excess with the debt and a packet, rounded up to bits: no less than that supremum, and
+/// more where the excess is reached before these are worked off. None where each delay is of 2^50 picoseconds or more, or
+/// there is none.
 pub fn stair_queue(
     alloc: Global,
     bundles: &[Bundle],
