@@ -25,6 +25,7 @@ use Rattle.existence.proofs.curves.Verticals.{finite_or_not}
 use Rattle.curve_deviation.proofs.HorizontalCall.{sizes_to, ready, deviation_is}
 use Rattle.curve_deviation.proofs.KnownLags.{known_deviation, known_within}
 use Rattle.curve_deviation.proofs.PeriodsFound.{found_least, found_wide, wide_call}
+use Rattle.curve_deviation.proofs.SoonerLags.{all_periods}
 use Rattle.existence.proofs.curves.HorizontalNumbers.{level_or, first_number, second_number}
 use Rattle.existence.proofs.curves.HorizontalWalks.{longest_lag}
 
@@ -80,8 +81,9 @@ by_numbers f g p F G both looks A = elim (cases_lt (gauge_at Horizontal f g p.fi
     | inl wide ↦ (Err TooWide, (wide, wide_is))
     | inr (inl many) ↦ (Err TooMany, (many, many_is))
     | inr (inr (r, R, within)) ↦
-        let (q, L) = longest_lag (sizes_to f g r.end) f g p.until r.end both (ready f g p r both A R) in
-        (Ok (Fin q), (within, deviation_is f g p r q both looks A R L))
+        let E = all_periods f g p.first p.until A.until in
+        let (q, L) = longest_lag (sizes_to f g r.end) f g p.until r.end both (ready f g p r p.until both A R E) in
+        (Ok (Fin q), (within, deviation_is f g p r p.until q both looks A R E L))
   ]
 ]
 
