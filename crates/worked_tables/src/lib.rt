@@ -5,7 +5,5 @@
 #![tactic(auto)]
 
 mod forked;
-#[cfg(test)]
-mod rows;
 
 pub use forked::{a_run_reaches_its_bound, a_written_run_is_kept, fork};
