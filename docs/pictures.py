@@ -1,7 +1,6 @@
 #!/usr/bin/env python3
 """Draws docs/port.svg: two flows through one port, and the two distances between the curves that netcalc prints; and
-docs/crates.svg: the groups of crates (the headings of docs/PROVED.md) with their crates, and which group stands on which
-(by crates.txt)."""
+docs/crates.svg: the groups of crates (the comments of crates.txt) with their crates, and which group stands on which."""
 
 import pathlib
 import re
@@ -81,19 +80,17 @@ def picture():
 
 def read_groups():
     """The crates of each group, lowest first, and the groups that each group stands on."""
-    groups, group_of = {}, {}
-    for row in (DOCS / "PROVED.md").read_text().splitlines():
-        if row.startswith("## "):
-            heading = row[3:]
-        crate = re.match(r"- \[(\w+)\]\(", row)
-        if crate:
-            groups.setdefault(heading, []).append(crate[1])
-            group_of[crate[1]] = heading
-    stands_on = {heading: set() for heading in groups}
+    groups, group_of, below = {}, {}, {}
     for row in (DOCS.parent / "crates.txt").read_text().splitlines():
-        crate, _, below = row.partition(":")
-        if crate in group_of:
-            stands_on[group_of[crate]] |= {group_of[b] for b in below.split() if b in group_of} - {group_of[crate]}
+        crate, colon, libraries = row.partition(":")
+        if row.startswith("#"):
+            heading = row[2:3].upper() + row[3:]
+        elif colon:
+            groups.setdefault(heading, []).append(crate)
+            group_of[crate], below[crate] = heading, libraries.split()
+    stands_on = {heading: set() for heading in groups}
+    for crate, libraries in below.items():
+        stands_on[group_of[crate]] |= {group_of[library] for library in libraries if library in group_of} - {group_of[crate]}
     return groups, stands_on
 
 
