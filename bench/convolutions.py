@@ -29,7 +29,7 @@ use std::io;
 use std::marker::Brand;
 use std::sync::ledger::{Blank, Ledger};
 use std::time::Instant;
-use steps::Steps;
+use outcomes::Steps;
 use upp_curve::affine_segment::{Line, Piece};
 use upp_curve::{Curve, Tail};
 use upp_limits::{OpFault, OpKind, tally_over};
@@ -164,7 +164,7 @@ def measured():
     top = os.path.dirname(os.path.dirname(os.path.abspath(__file__)))
     folder = tempfile.mkdtemp(prefix="convolution_bench_")
     try:
-        uses = ["curve_conv", "curve_call", "fraction128", "rational", "steps", "upp_curve", "upp_limits", "upp_normal"]
+        uses = ["curve_conv", "curve_call", "fraction128", "outcomes", "rational", "upp_curve", "upp_limits", "upp_normal"]
         crates = below(top, uses)
         for name, _ in crates:
             shutil.copytree(os.path.join(top, "crates", name), os.path.join(folder, "crates", name))

@@ -20,7 +20,7 @@ from fractions import Fraction
 
 BENCH = {
     "bench_curves": "rational fraction128 upp_curve upp_limits upp_normal",
-    "bench": "fraction128 upp_curve upp_limits steps plain_operators bench_curves",
+    "bench": "fraction128 upp_curve upp_limits outcomes plain_operators bench_curves",
 }
 
 LIBRARY = r"""
@@ -134,7 +134,7 @@ use std::io;
 use std::marker::Brand;
 use std::sync::ledger::{Blank, Ledger};
 use std::time::Instant;
-use steps::Steps;
+use outcomes::Steps;
 use upp_curve::Curve;
 use upp_limits::OpFault;
 

@@ -11,7 +11,8 @@ use Rattle.upp_limits.specs.declared.op_kind.OpKind.TheVariants.{PosMinus, Verti
 use Rattle.upp_limits.specs.min_plus.specs.Functions.{IsFinite}
 use Rattle.upp_limits.specs.Outcome.{KeepsLimits}
 use Rattle.plain_operators.specs.curve_call.specs.Again.{IsAgain}
-use Rattle.plain_operators.specs.curve_call.specs.Calls.{Applies, AppliesTo, Then, goes_on, stops}
+use Rattle.plain_operators.specs.curve_call.specs.Calls.{Applies, AppliesTo}
+use Rattle.outcomes.specs.Calls.{Then, goes_on, stops}
 use Rattle.residuals.specs.calls.PriorityCalls.{MakesPriority}
 use Rattle.residuals.proofs.calls.PriorityCalls.{above_finite}
 use Rattle.residuals.specs.calls.DrrCalls.{MakesDrr}

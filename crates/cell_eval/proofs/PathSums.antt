@@ -23,7 +23,7 @@ use Rattle.net_cells.specs.NumberSums.{Sums}
 use Rattle.net_cells.specs.Answers.{Answers, MakesNumber}
 use Rattle.net_cells.proofs.Lists.{map_has, range_has}
 use Rattle.net_cells.proofs.Stored.{few_hops}
-use Rattle.plain_operators.specs.curve_call.specs.Calls.{goes_on, stops}
+use Rattle.outcomes.specs.Calls.{goes_on, stops}
 use Rattle.net_cells.specs.cell_table.Values.{answer_of}
 use Rattle.cell_eval.specs.TableValues.{IsNumberAt}
 use Rattle.cell_eval.specs.declared.number_sums.Added.{Added}

@@ -4,9 +4,9 @@ use crate::each_kind::eval;
 use net_cells::Cell;
 use net_cells::cell_table::{Evaluator, Table, Value};
 use net_model::Network;
+use outcomes::Steps;
 use std::alloc::Global;
 use std::sync::ledger::Ledger;
-use steps::Steps;
 use upp_limits::OpFault;
 
 /// Makes values by the definitions, and counts each operator on curves in the caller's counter.

@@ -19,9 +19,9 @@ use crate::{
 use net_cells::cell_table::{Table, Value};
 use net_cells::{Cell, Kind, live_flow};
 use net_model::Network;
+use outcomes::Steps;
 use std::alloc::Global;
 use std::sync::ledger::Ledger;
-use steps::Steps;
 use upp_limits::OpFault;
 
 /// The curve with which a flow comes to a hop.

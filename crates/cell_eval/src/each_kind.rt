@@ -23,9 +23,9 @@ use crate::{
 use net_cells::cell_table::{Table, Value};
 use net_cells::{Cell, Kind};
 use net_model::Network;
+use outcomes::Steps;
 use std::alloc::Global;
 use std::sync::ledger::Ledger;
-use steps::Steps;
 use upp_limits::OpFault;
 
 // The value of a cell by its kind: each call makes the one that its name says.

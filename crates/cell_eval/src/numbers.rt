@@ -17,9 +17,9 @@ use crate::{Pick, backlog, delay_between, longest_at, number_at};
 use net_cells::cell_table::{Table, Value};
 use net_cells::{Cell, Kind};
 use net_model::Network;
+use outcomes::Steps;
 use std::alloc::Global;
 use std::sync::ledger::Ledger;
-use steps::Steps;
 use upp_limits::OpFault;
 use upp_limits::fraction128::lesser_value;
 

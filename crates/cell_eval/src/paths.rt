@@ -24,10 +24,10 @@ use curve_conv::convolve;
 use net_cells::cell_table::{Table, Value};
 use net_cells::{Cell, Kind, hops};
 use net_model::Network;
+use outcomes::Steps;
 use plain_operators::curve_call::intact;
 use std::alloc::Global;
 use std::sync::ledger::Ledger;
-use steps::Steps;
 use upp_limits::OpFault;
 use upp_limits::upp_curve::Curve;
 

@@ -27,11 +27,11 @@ use arrayvec::ArrayVec;
 use net_cells::cell_table::{Table, Value};
 use net_cells::{Cell, Kind, Leaving, leaves, server};
 use net_model::Network;
+use outcomes::Steps;
 use residuals::drr::drr_service;
 use residuals::priority::priority_service;
 use std::alloc::Global;
 use std::sync::ledger::Ledger;
-use steps::Steps;
 use upp_limits::OpFault;
 use upp_limits::upp_curve::Curve;
 

@@ -1,4 +1,3 @@
-pub mod Stages
 pub mod Causes
 pub mod FirstFaults
 pub mod OneRefusal

@@ -16,10 +16,10 @@ use Rattle.report_text.specs.net_cells.specs.Meanings.{CellTable}
 use Rattle.command_replies.specs.OnFiles.{IsNoNetwork, IsNetOf, OnFile, OnCycle, IsOver, IsTableOf}
 use Rattle.command_replies.specs.OnFiles.{OnOrder, OnTable}
 use Rattle.command_replies.specs.Replies.{Reply}
-use Rattle.command_replies.specs.Stages.{AreAlike, GoOnAlike, stops, goes_on}
+use Rattle.outcomes.specs.Stages.{AreAlike, GoOnAlike, stops, goes_on}
 use Rattle.command_replies.proofs.FirstFaults.{says}
 use Rattle.command_replies.proofs.OneRefusal.{on_fault, one_fault, no_network, one_over, no_answers}
-use Rattle.command_replies.proofs.Stages.{one_staged, on_one}
+use Rattle.outcomes.proofs.Stages.{one_staged, on_one}
 
 -- ---- two replies
 -- where equal replies are alike

@@ -1,7 +1,6 @@
 pub mod Replies
 pub mod View
 pub mod Faults
-pub mod Stages
 pub mod Causes
 pub mod OnFiles
 pub mod CellWork

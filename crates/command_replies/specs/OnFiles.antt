@@ -22,7 +22,7 @@ use Rattle.run_watch.specs.simulated_sizes.Laws.{AreCurves}
 use Rattle.input_texts.specs.declared.table_text.fault.TableFault.{TableFault}
 use Rattle.input_texts.specs.table_text.Traces.{IsFirstFault}
 use Rattle.command_replies.specs.Replies.{Reply, breaks_rule, goes_round, curve_over, cell_over, table_fault_reply}
-use Rattle.command_replies.specs.Stages.{Staged, Behind}
+use Rattle.outcomes.specs.Stages.{Staged, Behind}
 
 -- ---- files without a network
 -- the first rule that the tables of the file break

@@ -5,7 +5,7 @@ use Rattle.net_model.specs.Orders.{IsOrder}
 use Rattle.report_text.specs.net_cells.specs.Meanings.{CellTable}
 use Rattle.command_replies.specs.OnFiles.{OnCycle, IsOver, IsTableOf}
 use Rattle.command_replies.specs.Replies.{Reply}
-use Rattle.command_replies.specs.Stages.{Behind}
+use Rattle.outcomes.specs.Stages.{Behind}
 
 -- its servers have an order, and this is a table of its cells
 pub record HasTable (net : Net) (at : CellTable) : Type 0 where

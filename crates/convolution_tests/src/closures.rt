@@ -3,11 +3,11 @@
 ghost use Rattle.std.specs.Prelude.{◌≡◌, ◌<◌};
 
 use curve_tests::shapes::{bucket, curve, piece, whole};
+use outcomes::Steps;
 use std::alloc::Global;
 use std::marker::Brand;
 use std::sync::ledger::{Blank, Ledger};
 use std::test::Fail;
-use steps::Steps;
 use subadd_closure::is_subadditive;
 use upp_limits::OpFault;
 use upp_limits::fraction128::Frac;

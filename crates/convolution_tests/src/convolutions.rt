@@ -4,11 +4,11 @@ ghost use Rattle.std.specs.Prelude.{◌≡◌, ◌<◌};
 
 use curve_conv::convolve;
 use curve_tests::shapes::{curve, piece, repeating, repeats, value, whole};
+use outcomes::Steps;
 use std::alloc::Global;
 use std::marker::Brand;
 use std::sync::ledger::{Blank, Ledger};
 use std::test::Fail;
-use steps::Steps;
 use upp_limits::OpFault;
 use upp_limits::fraction128::Frac;
 use upp_limits::rational::Extended;

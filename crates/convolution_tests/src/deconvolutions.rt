@@ -4,11 +4,11 @@ ghost use Rattle.std.specs.Prelude.{◌≡◌, ◌<◌};
 
 use curve_deconv::deconvolve;
 use curve_tests::shapes::{bucket, curve, piece, value, whole};
+use outcomes::Steps;
 use std::alloc::Global;
 use std::marker::Brand;
 use std::sync::ledger::{Blank, Ledger};
 use std::test::Fail;
-use steps::Steps;
 use upp_limits::OpFault;
 use upp_limits::fraction128::Frac;
 use upp_limits::rational::Extended;

@@ -3,12 +3,12 @@
 ghost use Rattle.std.specs.Prelude.{◌≡◌, ◌<◌};
 
 use curve_tests::shapes::{curve, fraction_piece, ratio};
+use outcomes::Steps;
 use residuals::drr::drr_service;
 use std::alloc::Global;
 use std::marker::Brand;
 use std::sync::ledger::{Blank, Ledger};
 use std::test::Fail;
-use steps::Steps;
 use upp_limits::OpFault;
 use upp_limits::fraction128::Frac;
 use upp_limits::upp_curve::{Curve, Tail, equal};

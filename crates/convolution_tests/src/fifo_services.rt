@@ -8,13 +8,13 @@ ghost use Rattle.upp_limits.specs.upp_curve.specs.Curve.{value_at};
 
 use curve_deviation::horizontal;
 use curve_tests::shapes::{bucket, curve, line_piece, ratio, value, whole};
+use outcomes::Steps;
 use residuals::fifo::fifo_service;
 use std::alloc::Global;
 use std::cmp::Ordering;
 use std::marker::Brand;
 use std::sync::ledger::{Blank, Ledger};
 use std::test::Fail;
-use steps::Steps;
 use upp_limits::OpFault;
 use upp_limits::fraction128::{Ext, Frac};
 use upp_limits::rational::Extended;

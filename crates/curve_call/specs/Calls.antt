@@ -1,5 +1,5 @@
--- What one call on curves answers, and two calls of which the second takes the first one's answer. Own choice.
-use Rattle.std.specs.Prelude.{◌≡◌, Result, Ok, Err}
+-- What one call on curves answers. Own choice.
+use Rattle.std.specs.Prelude.{Result, Ok, Err}
 use Rattle.upp_limits.specs.declared.op_kind.OpKind.{OpKind}
 use Rattle.upp_limits.specs.declared.op_kind.OpFault.{OpFault}
 use Rattle.upp_limits.specs.upp_curve.specs.Curve.{SpecCurve}
@@ -20,9 +20,3 @@ Applies op f g (Err fault) = IsCauseOf op f g fault
 -- a call with one operand
 abbrev pub AppliesTo : OpKind → SpecCurve → Result SpecCurve OpFault → Type 0
 AppliesTo op f r = Applies op f f r
-
--- r is the answer of a call P and then a call Q on what P answers: Q's answer, or P's refusal
-pub data Then {A B : Type 0} (P : Result A OpFault → Type 0) (Q : A → Result B OpFault → Type 0)
-    (r : Result B OpFault) : Type 0 where
-  goes_on : (x : A) → P (Ok x) → Q x r → Then P Q r
-  stops : (fault : OpFault) → P (Err fault) → r ≡ Err fault → Then P Q r

@@ -1,5 +1,6 @@
 -- When the answer of calls is determined: want of memory apart, there is one. Own choice.
-use Rattle.std.specs.Prelude.{◌≡◌, ◌≢◌, Result, Err}
+use Rattle.std.specs.Prelude.{◌≡◌, Result}
+use Rattle.outcomes.specs.Calls.{IsDeterminedBut}
 use Rattle.upp_limits.specs.declared.op_kind.OpKind.{OpKind}
 use Rattle.upp_limits.specs.declared.op_kind.OpFault.{OpFault}
 use Rattle.upp_limits.specs.declared.op_kind.OpFault.TheVariants.{TooMany, TooWide, NoMemory}
@@ -10,7 +11,7 @@ use Rattle.curve_call.specs.Calls.{Applies}
 
 -- two answers that P allows are one, where neither is want of memory
 abbrev pub IsDetermined : {A : Type 0} → (Result A OpFault → Type 0) → Type 0
-IsDetermined {A} P = (r s : Result A OpFault) → P r → P s → r ≢ Err NoMemory → s ≢ Err NoMemory → r ≡ s
+IsDetermined P = IsDeterminedBut NoMemory P
 
 -- of calls on a curve, for each curve
 abbrev pub AreDetermined : (SpecCurve → Result SpecCurve OpFault → Type 0) → Type 0

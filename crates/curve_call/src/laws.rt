@@ -1,7 +1,7 @@
 ghost use Rattle.std.specs.Prelude.{Result};
 ghost use Rattle.upp_limits.specs.upp_curve.specs.Curve.{SpecCurve};
 ghost use Rattle.upp_limits.specs.declared.op_kind.OpFault.{OpFault};
-ghost use Rattle.curve_call.specs.Calls.{Then};
+ghost use Rattle.outcomes.specs.Calls.{Then};
 ghost use Rattle.curve_call.specs.Determined.{AppliesIsDetermined, AreDetermined};
 ghost use Rattle.curve_call.specs.Finite.{AnswersAreFinite};
 ghost use Rattle.curve_call.specs.Growth.{AnswersGrow};

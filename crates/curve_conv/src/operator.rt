@@ -17,12 +17,12 @@ ghost use Rattle.curve_conv.specs.ConvolveCall.{IsConvolveFrame};
 
 use crate::{is_slower_curve, late_bounds, late_periods};
 use element_envelope::window_convolution;
+use outcomes::Steps;
 use plain_operators::curve_call::{
     CallWindow, Frame, answer, first_window, refuse_between, rise_over, within,
 };
 use std::alloc::{AllocError, Global};
 use std::sync::ledger::Ledger;
-use steps::Steps;
 use upp_limits::fraction128::{Frac, difference};
 use upp_limits::upp_curve::Curve;
 use upp_limits::{OpFault, OpKind, tally_over};

@@ -14,13 +14,13 @@ ghost use Rattle.plain_operators.specs.curve_call.specs.Frames.{IsFrame};
 ghost use Rattle.plain_operators.specs.curve_call.specs.Times.{OneLaterFits};
 
 use crate::window::window_deconvolution;
+use outcomes::Steps;
 use plain_operators::curve_call::{
     Frame, Side, answer, begin, is_slower, period_or, rise_over, within,
 };
 use plain_operators::pointwise::infinite_curve;
 use std::alloc::{AllocError, Global};
 use std::sync::ledger::Ledger;
-use steps::Steps;
 use upp_limits::fraction128::difference;
 use upp_limits::upp_curve::Curve;
 use upp_limits::{OpFault, OpKind};

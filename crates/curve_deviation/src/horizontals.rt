@@ -19,8 +19,8 @@ use crate::search::{Stage, has_left, is_below, known_window, least_past, narrow_
 use crate::walks::longest_lag;
 use curve_call::upp_normal::steady_time;
 use curve_call::{CallWindow, Frame, within_both};
+use outcomes::Steps;
 use std::sync::ledger::Ledger;
-use steps::Steps;
 use upp_limits::fraction128::{Ext, Frac, difference};
 use upp_limits::rational::Extended;
 use upp_limits::upp_curve::Curve;

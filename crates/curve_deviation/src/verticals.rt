@@ -15,8 +15,8 @@ ghost use Rattle.curve_call.specs.Frames.{IsFrame};
 ghost use Rattle.curve_call.specs.Compared.{AreCompared};
 
 use curve_call::{Frame, Gap, Side, is_slower, window_gap, within};
+use outcomes::Steps;
 use std::sync::ledger::Ledger;
-use steps::Steps;
 use upp_limits::fraction128::{Ext, Frac, sum};
 use upp_limits::rational::Extended;
 use upp_limits::upp_curve::Curve;

@@ -10,10 +10,10 @@ use crate::kinds::{pair_found, triple_found, zero_found};
 use crate::naming::{Named, named_curve};
 use crate::operators::{number_made, one_made, two_made};
 use input_texts::curve_script::{CurveOperator, Expr, LangKind, NumberOperator, PairOperator};
+use outcomes::Steps;
 use std::alloc::Global;
 use std::rc::Rc;
 use std::sync::ledger::Ledger;
-use steps::Steps;
 use upp_limits::fraction128::Frac;
 use upp_limits::upp_curve::Curve;
 

@@ -12,11 +12,11 @@ use crate::sharing::told_call;
 use crate::values::value_found;
 use curve_deviation::{horizontal, vertical};
 use input_texts::curve_script::{LangKind, OneAsked, TwoAsked};
+use outcomes::Steps;
 use plain_operators::pointwise::min;
 use std::alloc::Global;
 use std::rc::Rc;
 use std::sync::ledger::Ledger;
-use steps::Steps;
 use upp_limits::fraction128::{Frac, is_less};
 use upp_limits::upp_curve::{Curve, equal};
 

@@ -14,10 +14,10 @@ use crate::expressions::curve_of;
 use crate::naming::{Named, give_name, is_given};
 use crate::questions::{one_told, two_told, value_told};
 use input_texts::curve_script::{Expr, LangFault, LangKind, OneAsked, Script, Stat, TwoAsked};
+use outcomes::Steps;
 use std::alloc::Global;
 use std::rc::Rc;
 use std::sync::ledger::Ledger;
-use steps::Steps;
 use upp_limits::fraction128::Frac;
 use upp_limits::upp_curve::Curve;
 

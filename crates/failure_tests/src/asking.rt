@@ -4,12 +4,12 @@ ghost use Rattle.std.specs.Prelude.{◌≡◌, ◌<◌};
 
 use crate::narrow::NarrowSink;
 use netcalc_cli::run;
+use outcomes::Steps;
 use outside::{Inputs, MemInputs, MemSink, NoMemory, Sink};
 use std::alloc::Global;
 use std::marker::Brand;
 use std::sync::ledger::{Blank, Ledger};
 use std::test::Fail;
-use steps::Steps;
 
 const NETWORK: &str =
     "[[server]]\nname = \"s1\"\nrate = 100\nservice = { kind = \"latency\", latency = 10 }\n\

@@ -10,9 +10,9 @@ ghost use Rattle.upp_limits.specs.upp_curve.specs.Kinds.{bucket};
 ghost use Rattle.measure_curve.specs.Bursts.{IsBounded, IsLeastBurst, KeepsBurstLimits};
 
 use curve_deviation::vertical;
+use outcomes::Steps;
 use std::alloc::{AllocError, Global};
 use std::sync::ledger::Ledger;
-use steps::Steps;
 use upp_limits::OpFault;
 use upp_limits::fraction128::Frac;
 use upp_limits::rational::Extended;

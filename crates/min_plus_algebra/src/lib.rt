@@ -5,7 +5,7 @@
 mod example;
 
 // Numbers, and infinity; the counter of operators.
-pub use steps::Steps;
+pub use outcomes::Steps;
 pub use upp_limits::fraction128::{Ext, Frac, FracFault, FracText, Wide};
 pub use upp_limits::rational::Extended;
 

@@ -16,7 +16,8 @@ use Rattle.upp_limits.specs.min_plus.proofs.Unambiguous.{deviations_are_unique}
 use Rattle.residuals.specs.curve_call.specs.Again.{IsAgain, again_determined}
 use Rattle.residuals.specs.curve_call.specs.Calls.{Applies, AppliesTo}
 use Rattle.residuals.specs.curve_call.specs.Determined.{IsDetermined}
-use Rattle.residuals.specs.curve_call.proofs.InTurn.{applies_determined, then_determined}
+use Rattle.residuals.specs.curve_call.proofs.InTurn.{applies_determined}
+use Rattle.outcomes.proofs.Calls.{then_determined}
 use Rattle.residuals.specs.calls.PriorityCalls.{MakesPriority}
 use Rattle.residuals.proofs.calls.PriorityCalls as priority_calls
 use Rattle.residuals.specs.calls.DrrCalls.{MakesDrr}

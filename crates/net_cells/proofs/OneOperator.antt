@@ -6,7 +6,7 @@ use Rattle.upp_limits.specs.rational.specs.Rational.{ℚ}
 use Rattle.upp_limits.specs.declared.op_kind.OpKind.{OpKind}
 use Rattle.upp_limits.specs.declared.op_kind.OpFault.{OpFault}
 use Rattle.upp_limits.specs.declared.op_kind.OpFault.TheVariants.{NoMemory}
-use Rattle.residuals.specs.curve_call.specs.Calls.{goes_on, stops}
+use Rattle.outcomes.specs.Calls.{goes_on, stops}
 use Rattle.residuals.specs.calls.InTurn.{past}
 use Rattle.net_cells.specs.declared.cell.Cell.{Cell}
 use Rattle.net_cells.specs.Meanings.{curve, number, CellTable}

@@ -9,7 +9,8 @@ use Rattle.net_model.specs.run_laws.specs.Cards.{whole}
 use Rattle.upp_limits.specs.min_plus.specs.Deviations.{IsHorizontalDeviation, IsVerticalDeviation}
 use Rattle.residuals.specs.curve_call.specs.Again.{IsAgain}
 use Rattle.residuals.specs.curve_call.specs.Answers.{IsMadeBy}
-use Rattle.residuals.specs.curve_call.specs.Calls.{Applies, AppliesTo, goes_on, stops}
+use Rattle.residuals.specs.curve_call.specs.Calls.{Applies, AppliesTo}
+use Rattle.outcomes.specs.Calls.{goes_on, stops}
 use Rattle.residuals.specs.calls.PriorityCalls.{MakesPriority}
 use Rattle.net_cells.specs.declared.cell.Cell.{Cell}
 use Rattle.net_cells.specs.Meanings.{Meaning, curve, number, CellTable, IsCurveIn, IsNumberIn}

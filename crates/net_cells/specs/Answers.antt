@@ -12,7 +12,8 @@ use Rattle.upp_limits.specs.upp_curve.specs.Kinds.{bucket}
 use Rattle.upp_limits.specs.min_plus.specs.Deviations.{IsHorizontalDeviation, IsVerticalDeviation}
 use Rattle.upp_limits.specs.Outcome.{IsWithin, IsCauseOf}
 use Rattle.residuals.specs.curve_call.specs.Again.{IsAgain}
-use Rattle.residuals.specs.curve_call.specs.Calls.{Applies, AppliesTo, Then}
+use Rattle.residuals.specs.curve_call.specs.Calls.{Applies, AppliesTo}
+use Rattle.outcomes.specs.Calls.{Then}
 use Rattle.residuals.specs.calls.PriorityCalls.{MakesPriority}
 use Rattle.residuals.specs.calls.DrrCalls.{MakesDrr}
 use Rattle.net_model.specs.run_laws.specs.Cards.{whole}

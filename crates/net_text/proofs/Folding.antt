@@ -7,7 +7,7 @@ use Rattle.upp_limits.specs.declared.own_limits.OverLimit.{OverLimit}
 use Rattle.upp_limits.specs.declared.own_limits.OverLimit.TheVariants as limits
 use Rattle.upp_limits.specs.declared.op_kind.OpFault.{OpFault}
 use Rattle.upp_limits.specs.declared.op_kind.OpFault.TheVariants.{TooMany, TooWide, NoMemory}
-use Rattle.curve_call.specs.Calls.{goes_on, stops}
+use Rattle.outcomes.specs.Calls.{goes_on, stops}
 use Rattle.subadd_closure.specs.Folds.{CloseAnswer}
 use Rattle.subadd_closure.proofs.FoldStars.{close_answer}
 use Rattle.subadd_closure.proofs.OneFold.{close_once}

@@ -19,9 +19,9 @@ use crate::closing::closed;
 use crate::limits::limit_fault;
 use crate::services::copy_of;
 use net_draft::{DraftFault, FlowDraft};
+use outcomes::Steps;
 use std::alloc::Global;
 use std::sync::ledger::Ledger;
-use steps::Steps;
 use upp_limits::upp_curve::Curve;
 use upp_limits::{OpFault, OverLimit};
 

@@ -8,9 +8,9 @@ ghost use Rattle.net_text.specs.FoldLimits.{OverFold};
 ghost use Rattle.subadd_closure.specs.FoldMemory.{CloseWants};
 ghost use Rattle.subadd_closure.specs.FoldWork.{fold_work};
 
+use outcomes::Steps;
 use std::alloc::Global;
 use std::sync::ledger::Ledger;
-use steps::Steps;
 use subadd_closure::close;
 use upp_limits::OpFault;
 use upp_limits::upp_curve::Curve;

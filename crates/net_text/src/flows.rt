@@ -17,9 +17,9 @@ use crate::arrivals::arrival_of;
 use crate::limits::place_of;
 use net_draft::{DraftFault, FlowDraft, Hop};
 use net_model::Flow;
+use outcomes::Steps;
 use std::alloc::{AllocError, Global};
 use std::sync::ledger::Ledger;
-use steps::Steps;
 
 fn path_of(alloc: Global, hops: &[Hop]) -> Result<Vec<u32>, AllocError>
     ensures { IfOk result (λ v. v.items ≡ map (λ h. h.server) hops.now) }

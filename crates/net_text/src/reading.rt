@@ -12,9 +12,9 @@ use crate::flows::flows_of;
 use crate::servers::servers_of;
 use net_draft::{DraftFault, read_draft};
 use net_model::{NetFault, NetKind, Network};
+use outcomes::Steps;
 use std::alloc::Global;
 use std::sync::ledger::Ledger;
-use steps::Steps;
 
 fn told(alloc: Global, fault: DraftFault) -> NetFault
     ensures { IsTold fault result }

@@ -11,13 +11,13 @@ mod cases;
 mod tests;
 
 use netcalc_cli::{Status, run};
+use outcomes::Steps;
 use outside::{DirInputs, Inputs, NoMemory, Sink, StdSink};
 use std::env;
 use std::io::ErrorKind;
 use std::marker::Brand;
 use std::process::ExitCode;
 use std::sync::ledger::{Blank, Ledger};
-use steps::Steps;
 
 /// Makes the counter of steps, and calls `run` with it.
 fn run_counted<I: Inputs, K: Sink, L: Ledger>(

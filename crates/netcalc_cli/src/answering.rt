@@ -20,11 +20,11 @@ use commands::edit::on_edits;
 use commands::exercise::on_seed;
 use commands::measure::on_measure;
 use commands::simulate::on_trace;
+use outcomes::Steps;
 use outside::{Inputs, NoMemory};
 use report_text::json_report::Form;
 use std::alloc::Global;
 use std::sync::ledger::Ledger;
-use steps::Steps;
 use upp_limits::fraction128::Frac;
 
 fn on_network<I: Inputs, L: Ledger>(

@@ -16,9 +16,9 @@ ghost use Rattle.netcalc_cli.specs.Words.{texts, command_of};
 use crate::answering::answer_to;
 use crate::words::{parsed, taken};
 use commands::command_replies::Status;
+use outcomes::Steps;
 use outside::{Inputs, Sink};
 use std::sync::ledger::Ledger;
-use steps::Steps;
 
 const USAGE: &str = "netcalc: usage: \
     netcalc analyse NET [--json], edit NET EDITS [--json], simulate NET TRACE, exercise N, check NET RUN, \

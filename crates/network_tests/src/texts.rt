@@ -4,11 +4,11 @@ ghost use Rattle.std.specs.Prelude.{◌≡◌, ◌<◌};
 
 use net_model::{NetFault, Network};
 use net_text::read_network;
+use outcomes::Steps;
 use std::alloc::Global;
 use std::marker::Brand;
 use std::sync::ledger::{Blank, Ledger};
 use std::test::Fail;
-use steps::Steps;
 
 fn counted<L: Ledger>(blank: Blank, alloc: Global, text: &[u8]) -> Result<Network, NetFault>
     requires name { blank.name ≡ L.name }

@@ -9,6 +9,7 @@
 ghost use Rattle.std.specs.Prelude.{◌≡◌, ◌<◌};
 
 use curve_tests::shapes::{curve, whole};
+use outcomes::Steps;
 use plain_operators::running::{
     max, min, pos_diff, pos_minus, run_inf, run_sup, scale, shift, sum,
 };
@@ -17,7 +18,6 @@ use std::cmp::Ordering;
 use std::marker::Brand;
 use std::sync::ledger::{Blank, Ledger};
 use std::test::Fail;
-use steps::Steps;
 use upp_limits::OpFault;
 use upp_limits::fraction128::{Ext, Frac};
 use upp_limits::rational::Extended;

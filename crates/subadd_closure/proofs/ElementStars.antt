@@ -6,7 +6,7 @@ use Rattle.upp_limits.specs.upp_curve.specs.declared.affine_segment.element.Elem
 use Rattle.upp_limits.specs.declared.op_kind.OpFault.{OpFault}
 use Rattle.upp_limits.specs.declared.op_kind.OpFault.TheVariants.{TooMany, TooWide, NoMemory}
 use Rattle.upp_limits.specs.upp_curve.specs.Curve.{SpecCurve}
-use Rattle.plain_operators.specs.curve_call.specs.Calls.{goes_on, stops}
+use Rattle.outcomes.specs.Calls.{goes_on, stops}
 use Rattle.subadd_closure.specs.ElementAnswers.{IsElementClosure, ClosureAnswer}
 use Rattle.subadd_closure.specs.Lattices.{lattice_curve, origin_curve}
 use Rattle.subadd_closure.proofs.HeavyCalls.{heavy_is_refused}

@@ -23,7 +23,7 @@ use Rattle.upp_limits.specs.upp_curve.proofs.Repeats.{repeated_first}
 use Rattle.element_envelope.specs.PieceElements.{point_of, segment_of, next_start, elements_of, StartBefore}
 use Rattle.upp_limits.specs.declared.op_kind.OpFault.{OpFault}
 use Rattle.upp_limits.specs.declared.op_kind.OpFault.TheVariants.{NoMemory}
-use Rattle.plain_operators.specs.curve_call.specs.Calls.{stops}
+use Rattle.outcomes.specs.Calls.{stops}
 use Rattle.subadd_closure.specs.CurveParts.{pieces_end, part_of, parts_of}
 use Rattle.subadd_closure.specs.Folds.{CloseAnswer}
 use Rattle.subadd_closure.proofs.EachParts.{starts_before}

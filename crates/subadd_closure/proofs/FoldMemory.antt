@@ -17,7 +17,8 @@ use Rattle.upp_limits.specs.Outcome.{KeepsLimits}
 use Rattle.upp_limits.specs.upp_curve.specs.Curve.{SpecCurve, value_at}
 use Rattle.upp_limits.specs.upp_curve.specs.Normal.{IsRaw}
 use Rattle.upp_limits.specs.min_plus.specs.Functions.{zero_q, IsFinite}
-use Rattle.plain_operators.specs.curve_call.specs.Calls.{Applies, Then, goes_on, stops}
+use Rattle.plain_operators.specs.curve_call.specs.Calls.{Applies}
+use Rattle.outcomes.specs.Calls.{Then, goes_on, stops}
 use Rattle.subadd_closure.specs.ElementAnswers.{IsElementClosure}
 use Rattle.subadd_closure.specs.Lattices.{lattice_curve, origin_curve}
 use Rattle.element_envelope.specs.PieceElements.{elements_of}

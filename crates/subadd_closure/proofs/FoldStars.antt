@@ -11,7 +11,8 @@ use Rattle.upp_limits.specs.upp_curve.specs.Curve.{SpecCurve, value_at}
 use Rattle.upp_limits.specs.min_plus.specs.Functions.{zero_q}
 use Rattle.upp_limits.specs.min_plus.specs.Convolution.{IsSubadditiveClosure}
 use Rattle.plain_operators.specs.curve_call.specs.Answers.{IsMadeBy}
-use Rattle.plain_operators.specs.curve_call.specs.Calls.{Applies, Then, goes_on, stops}
+use Rattle.plain_operators.specs.curve_call.specs.Calls.{Applies}
+use Rattle.outcomes.specs.Calls.{Then, goes_on, stops}
 use Rattle.upp_limits.specs.min_plus.specs.closure_laws.Star.{IsStar, AreStars, least_of}
 use Rattle.upp_limits.specs.min_plus.proofs.closure_laws.StarSums.{star_of_closure, stars_of_values}
 use Rattle.upp_limits.specs.min_plus.proofs.closure_laws.CopiedParts.{closure_of_copies}

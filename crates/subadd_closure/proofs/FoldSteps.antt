@@ -7,7 +7,8 @@ use Rattle.upp_limits.specs.declared.op_kind.OpKind.TheVariants.{Convolve}
 use Rattle.upp_limits.specs.declared.op_kind.OpFault.{OpFault}
 use Rattle.upp_limits.specs.upp_curve.specs.Curve.{SpecCurve, value_at}
 use Rattle.upp_limits.specs.min_plus.specs.Functions.{zero_q}
-use Rattle.plain_operators.specs.curve_call.specs.Calls.{Applies, Then, goes_on, stops}
+use Rattle.plain_operators.specs.curve_call.specs.Calls.{Applies}
+use Rattle.outcomes.specs.Calls.{Then, goes_on, stops}
 use Rattle.subadd_closure.specs.declared.part.Part.{Part}
 use Rattle.subadd_closure.specs.CurveParts.{parts_of}
 use Rattle.subadd_closure.specs.Folds.{PartAnswer, FoldAnswer, PartsAnswer, SetBackAnswer, CloseAnswer}

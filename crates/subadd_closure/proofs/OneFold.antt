@@ -11,9 +11,11 @@ use Rattle.upp_limits.specs.declared.op_kind.OpFault.TheVariants.{TooMany, TooWi
 use Rattle.upp_limits.specs.upp_curve.specs.Curve.{SpecCurve, value_at}
 use Rattle.upp_limits.specs.min_plus.specs.Functions.{zero_q}
 use Rattle.upp_limits.specs.upp_curve.proofs.OneForm.{normal_unique}
-use Rattle.plain_operators.specs.curve_call.specs.Calls.{Applies, Then}
+use Rattle.plain_operators.specs.curve_call.specs.Calls.{Applies}
+use Rattle.outcomes.specs.Calls.{Then}
 use Rattle.plain_operators.specs.curve_call.specs.Determined.{IsDetermined}
-use Rattle.plain_operators.specs.curve_call.proofs.InTurn.{applies_determined, then_determined}
+use Rattle.plain_operators.specs.curve_call.proofs.InTurn.{applies_determined}
+use Rattle.outcomes.proofs.Calls.{then_determined}
 use Rattle.subadd_closure.specs.ElementAnswers.{IsElementClosure}
 use Rattle.subadd_closure.specs.CurveParts.{parts_of}
 use Rattle.subadd_closure.specs.declared.part.Copies.{Copies}

@@ -20,12 +20,12 @@ ghost use Rattle.subadd_closure.specs.Thinned.{MayThin};
 use crate::again::{slower_rise, window_of};
 use crate::quick_bounds::quick_bounds;
 use curve_conv::convolve_frame;
+use outcomes::Steps;
 use plain_operators::curve_call::{
     Bounds, CallWindow, Frame, answer, first_window, refuse_between, within,
 };
 use std::alloc::{AllocError, Global};
 use std::sync::ledger::Ledger;
-use steps::Steps;
 use upp_limits::fraction128::{Frac, difference};
 use upp_limits::upp_curve::Curve;
 use upp_limits::upp_curve::affine_segment::Piece;

@@ -17,11 +17,11 @@ ghost use Rattle.subadd_closure.specs.Stars.{Copies, ElementWants, IsPeriodAndRi
 
 use crate::star_convolution::convolve_stars;
 use crate::{lattice, origin, point_closure, segment_closure};
+use outcomes::Steps;
 use plain_operators::curve_call::intact;
 use plain_operators::pointwise::min;
 use std::alloc::Global;
 use std::sync::ledger::Ledger;
-use steps::Steps;
 use upp_limits::OpFault;
 use upp_limits::fraction128::{Ext, Frac};
 use upp_limits::upp_curve::Curve;

@@ -6,11 +6,11 @@ ghost use Rattle.upp_limits.specs.min_plus.specs.Convolution.{IsSubadditive};
 ghost use Rattle.subadd_closure.specs.Tests.{TestsSubadditive, TestWants};
 
 use curve_conv::convolve;
+use outcomes::Steps;
 use plain_operators::curve_call::intact;
 use plain_operators::pointwise::min;
 use std::alloc::Global;
 use std::sync::ledger::Ledger;
-use steps::Steps;
 use upp_limits::OpFault;
 use upp_limits::upp_curve::{Curve, equal};
 

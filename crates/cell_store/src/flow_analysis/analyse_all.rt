@@ -13,9 +13,9 @@ use crate::flow_analysis::in_order::analysed_in_order;
 use cell_eval::Counted;
 use net_cells::cell_table::{Analysis, AnalysisFault, Table, Value};
 use net_model::Network;
+use outcomes::Steps;
 use std::alloc::Global;
 use std::sync::ledger::Ledger;
-use steps::Steps;
 
 /// The values of all cells of a network, by the order of its servers; each is made once, after those that it is made
 /// of. Refused for the first cell with an operator over a limit, and then the fault names it and which limit that is,

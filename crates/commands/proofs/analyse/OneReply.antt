@@ -8,7 +8,7 @@ use Rattle.report_text.specs.net_cells.specs.Meanings.{CellTable}
 use Rattle.report_text.proofs.json_report.OneForm.{one_report_in}
 use Rattle.command_replies.specs.OnFiles.{IsTableOf}
 use Rattle.command_replies.specs.Replies.{Reply, AreSame}
-use Rattle.command_replies.specs.Stages.{AreAlike, GoOnAlike}
+use Rattle.outcomes.specs.Stages.{AreAlike, GoOnAlike}
 use Rattle.command_replies.proofs.OneRefusal.{equal, one_cycle}
 use Rattle.command_replies.proofs.OneReply.{file_alike, table_alike, file_reached, table_reached}
 use Rattle.command_replies.proofs.Statuses.{status_is}

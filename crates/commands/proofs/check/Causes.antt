@@ -5,7 +5,7 @@ use Rattle.net_model.specs.Networks.{Net}
 use Rattle.report_text.specs.net_cells.specs.Meanings.{CellTable}
 use Rattle.run_check.specs.check_report.CheckReport.{lawful_report_of}
 use Rattle.command_replies.specs.Replies.{Reply}
-use Rattle.command_replies.specs.Stages.{stops, goes_on}
+use Rattle.outcomes.specs.Stages.{stops, goes_on}
 use Rattle.command_replies.specs.run_findings.Statuses.{IsOfReport}
 use Rattle.command_replies.proofs.Causes.{malformed, wide, cycle, report, on_no_network, on_cell_over}
 use Rattle.command_replies.proofs.Statuses.{status_is}

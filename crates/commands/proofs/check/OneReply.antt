@@ -20,10 +20,10 @@ use Rattle.run_check.proofs.run_table.OneRun.{readings_are_one}
 use Rattle.input_texts.specs.table_text.Rows.{rows_of}
 use Rattle.command_replies.specs.Replies.{Reply, AreSame}
 use Rattle.command_replies.specs.OnFiles.{IsTableOf, OnCurves}
-use Rattle.command_replies.specs.Stages.{AreAlike, GoOnAlike}
+use Rattle.outcomes.specs.Stages.{AreAlike, GoOnAlike}
 use Rattle.command_replies.proofs.OneRefusal.{equal, one_cycle}
 use Rattle.command_replies.proofs.OneReply.{file_alike, table_alike, file_reached, table_reached}
-use Rattle.command_replies.proofs.Stages.{one_staged, on_one, reached}
+use Rattle.outcomes.proofs.Stages.{one_staged, on_one, reached}
 use Rattle.command_replies.specs.run_findings.Statuses.{IsOfReport}
 use Rattle.command_replies.proofs.run_findings.Reports.{same_telling}
 use Rattle.run_check.specs.check_report.CheckReport.{lawful_report_of}

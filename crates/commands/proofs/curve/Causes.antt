@@ -1,7 +1,7 @@
 -- Each status of a reply has its cause.
 use Rattle.std.proofs.Common.{inl, inr}
 use Rattle.upp_limits.specs.declared.own_limits.OverLimit.TheVariants.{TooMany, TooWide}
-use Rattle.command_replies.specs.Stages.{stops, goes_on}
+use Rattle.outcomes.specs.Stages.{stops, goes_on}
 use Rattle.command_replies.proofs.Causes.{done, malformed, wide, many}
 use Rattle.command_replies.proofs.Statuses.{status_is}
 use Rattle.commands.specs.curve.Laws.{StatusesHaveCauses}

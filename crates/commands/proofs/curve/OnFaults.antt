@@ -11,7 +11,7 @@ use Rattle.command_replies.specs.declared.answer.Answer.{Answer}
 use Rattle.command_replies.specs.Faults.{script_reply_of_kind, script_fault_reply}
 use Rattle.command_replies.specs.Replies.{breaks_script_rule}
 use Rattle.command_replies.specs.View.{reply_of, status_of}
-use Rattle.command_replies.specs.Stages.{stops, goes_on}
+use Rattle.outcomes.specs.Stages.{stops, goes_on}
 use Rattle.command_replies.proofs.Statuses.{refused}
 use Rattle.commands.specs.curve.OnScripts.{IsByRule, answered, IsMisread, FindsFault, IsReplyOnLines}
 use Rattle.commands.proofs.curve.Lines.{first_by_rule}

@@ -10,8 +10,8 @@ use Rattle.curve_lang.proofs.OneFound.{scripts_find_one}
 use Rattle.command_replies.specs.Faults.{script_fault_reply}
 use Rattle.command_replies.specs.Replies.{Reply, breaks_script_rule}
 use Rattle.commands.specs.curve.Laws.{RepliesAreDetermined, RepliesAreComplete}
-use Rattle.command_replies.specs.Stages.{AreAlike, IsEqual, stops, goes_on}
-use Rattle.command_replies.proofs.Stages.{one_staged, on_one, reached}
+use Rattle.outcomes.specs.Stages.{AreAlike, IsEqual, stops, goes_on}
+use Rattle.outcomes.proofs.Stages.{one_staged, on_one, reached}
 use Rattle.commands.specs.curve.OnScripts.{IsByRule, fault_over, answered, IsMisread, IsReplyOnLines}
 use Rattle.commands.proofs.curve.Lines.{first_one}
 use Rattle.commands.proofs.curve.OnFaults.{by_rule}

@@ -1,6 +1,6 @@
 -- Each status of a reply has its cause.
 use Rattle.std.proofs.Common.{inl, inr, sym, subst}
-use Rattle.command_replies.specs.Stages.{stops, goes_on}
+use Rattle.outcomes.specs.Stages.{stops, goes_on}
 use Rattle.command_replies.proofs.Causes.{done, malformed, cycle, on_no_network, on_cell_over}
 use Rattle.command_replies.proofs.Statuses.{status_is}
 use Rattle.commands.specs.edit.EditCauses.{StatusesHaveCauses}

@@ -25,7 +25,7 @@ use Rattle.command_replies.specs.Replies.{Reply}
 use Rattle.command_replies.specs.View.{status_of}
 use Rattle.commands.specs.edit.NetHistories.{NetHistory, begun, history_of}
 use Rattle.commands.specs.edit.Answered.{AreAnswered}
-use Rattle.command_replies.specs.Stages.{goes_on}
+use Rattle.outcomes.specs.Stages.{goes_on}
 use Rattle.commands.specs.edit.OnEdits.{edit_report, AreReported, IsReplyOnEdits}
 use Rattle.commands.specs.edit.EditCounts.{WorkOfEdits, CountsOnEdits}
 use Rattle.commands.proofs.edit.OneRow.{analysed}

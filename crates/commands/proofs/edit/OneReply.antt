@@ -12,10 +12,10 @@ use Rattle.commands.specs.edit_report.EditReport.{edit_report_in}
 use Rattle.commands.specs.edit_report.Said.{EditSaid}
 use Rattle.commands.proofs.edit_report.OneForm.{one_edit_report}
 use Rattle.command_replies.specs.OnFiles.{OnCycle}
-use Rattle.command_replies.specs.Stages.{AreAlike as AllAlike}
+use Rattle.outcomes.specs.Stages.{AreAlike as AllAlike}
 use Rattle.command_replies.specs.Replies.{Reply, table_fault_reply}
 use Rattle.command_replies.proofs.OneReply.{file_alike, table_alike}
-use Rattle.command_replies.proofs.Stages.{one_staged, on_one}
+use Rattle.outcomes.proofs.Stages.{one_staged, on_one}
 use Rattle.commands.specs.edit.NetHistories.{NetHistory, begun}
 use Rattle.commands.specs.edit.Answered.{AreAnswered}
 use Rattle.commands.specs.edit.OnEdits.{IsBadListOf, AsksFor, IsEditReportOn, IsReplyOnEdits, IsReplyOnNet}

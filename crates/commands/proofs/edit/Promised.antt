@@ -3,7 +3,7 @@ use Rattle.command_replies.specs.net_bounds.proofs.Kept.{table_bounds_every_run}
 use Rattle.input_texts.specs.table_text.Rows.{rows_of}
 use Rattle.input_texts.proofs.table_text.OneEditList.{edits_one, no_edit_list}
 use Rattle.command_replies.proofs.OneReply.{file_reached, table_reached}
-use Rattle.command_replies.proofs.Stages.{reached}
+use Rattle.outcomes.proofs.Stages.{reached}
 use Rattle.command_replies.proofs.Statuses.{status_is}
 use Rattle.commands.specs.edit.OnEdits.{IsBadListOf, AsksFor, IsEditReportOn, IsReplyOnEdits, IsReplyOnNet}
 use Rattle.commands.specs.edit.EditLaws.{ReportsAreGuaranteed, RepliesAreComplete}

@@ -2,7 +2,7 @@
 use Rattle.std.proofs.Common.{ℕ, length, inl, inr}
 use Rattle.report_text.specs.net_cells.specs.Meanings.{CellTable}
 use Rattle.command_replies.specs.Replies.{Reply}
-use Rattle.command_replies.specs.Stages.{stops, goes_on}
+use Rattle.outcomes.specs.Stages.{stops, goes_on}
 use Rattle.command_replies.proofs.Causes.{wide, report, on_cell_over}
 use Rattle.command_replies.proofs.Statuses.{status_is}
 use Rattle.command_replies.proofs.run_findings.Reports.{is_report}

@@ -3,9 +3,9 @@ use Rattle.std.proofs.Common.{ℕ, List}
 use Rattle.net_model.specs.Orders.{IsOrder}
 use Rattle.net_model.proofs.net_graph.OneOrders.{one_order}
 use Rattle.command_replies.specs.OnFiles.{IsTableOf, OnCurves}
-use Rattle.command_replies.specs.Stages.{AreAlike, IsEqual, GoOnAlike}
+use Rattle.outcomes.specs.Stages.{AreAlike, IsEqual, GoOnAlike}
 use Rattle.command_replies.proofs.OneReply.{order_alike, order_reached}
-use Rattle.command_replies.proofs.Stages.{on_one}
+use Rattle.outcomes.proofs.Stages.{on_one}
 use Rattle.command_replies.proofs.simulated_findings.OneSimulation.{same_simulation, on_simulation}
 use Rattle.exercise_load.specs.Workloads.{network_of, trace_of}
 use Rattle.exercise_load.proofs.Stand.{workloads_stand}

@@ -13,7 +13,7 @@ use Rattle.exercise_load.specs.Loads.{AreOfWorkload}
 use Rattle.exercise_load.specs.Workloads.{network_of}
 use Rattle.exercise_load.specs.exercise_report.Summary.{summary_of}
 use Rattle.exercise_load.proofs.Stand.{workloads_stand}
-use Rattle.command_replies.specs.Stages.{stops}
+use Rattle.outcomes.specs.Stages.{stops}
 use Rattle.commands.specs.Tabled.{IsStopped}
 use Rattle.commands.specs.exercise.OnSeeds.{IsExerciseReply, IsReplyBeside, IsReplyInOrder}
 

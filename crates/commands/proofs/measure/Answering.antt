@@ -17,7 +17,7 @@ use Rattle.measure_curve.specs.Limits.{AreTooMany, AreTooWide}
 use Rattle.measure_curve.specs.Staircases.{TellRises}
 use Rattle.measure_curve.specs.Windows.{IsLeastArrival}
 use Rattle.command_replies.specs.Replies.{Reply, over}
-use Rattle.command_replies.specs.Stages.{stops, goes_on}
+use Rattle.outcomes.specs.Stages.{stops, goes_on}
 use Rattle.commands.specs.measure.OnMeasures.{AreOver, IsMeasured, IsOverBurst, measure_report, IsReplyOnPackets}
 
 -- ---- on packets

@@ -4,7 +4,7 @@ use Rattle.upp_limits.specs.rational.specs.Rational.{ℚ}
 use Rattle.upp_limits.specs.declared.own_limits.OverLimit.TheVariants.{TooMany, TooWide}
 use Rattle.net_model.specs.declared.trace.TracePacket.{TracePacket}
 use Rattle.command_replies.specs.Replies.{Reply}
-use Rattle.command_replies.specs.Stages.{stops, goes_on}
+use Rattle.outcomes.specs.Stages.{stops, goes_on}
 use Rattle.command_replies.proofs.Causes.{done, malformed, wide, many, on_no_network}
 use Rattle.command_replies.proofs.Statuses.{status_is}
 use Rattle.commands.specs.measure.OnMeasures.{AreOwn, IsReplyOnPackets}

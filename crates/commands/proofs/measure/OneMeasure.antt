@@ -24,10 +24,10 @@ use Rattle.measure_curve.specs.Windows.{of_flow}
 use Rattle.measure_curve.proofs.Kept.{packets_keep_the_curve, kept_curves_are_above, least_arrival_is_one, least_bucket_is_kept}
 use Rattle.command_replies.specs.Replies.{Reply, over}
 use Rattle.command_replies.specs.OnFiles.{IsBadTraceOf}
-use Rattle.command_replies.specs.Stages.{AreAlike, IsEqual, stops, goes_on}
+use Rattle.outcomes.specs.Stages.{AreAlike, IsEqual, stops, goes_on}
 use Rattle.command_replies.proofs.BadTraces.{one_bad_trace}
 use Rattle.command_replies.proofs.OneReply.{file_alike, file_reached}
-use Rattle.command_replies.proofs.Stages.{one_staged, on_one, reached}
+use Rattle.outcomes.proofs.Stages.{one_staged, on_one, reached}
 use Rattle.command_replies.proofs.Statuses.{status_is}
 use Rattle.commands.specs.measure.OnMeasures.{AreOver, IsMeasured, IsOverBurst, measure_report, IsUnknown, ArePast, IsTooSteep, IsBurstOf}
 use Rattle.commands.specs.measure.OnMeasures.{IsReplyOnCurve, IsReplyOnPackets, IsReplyOnTrace, IsReplyOnNet}

@@ -5,7 +5,7 @@ use Rattle.net_model.specs.Traces.{SpecTrace}
 use Rattle.report_text.specs.RunReport.{run_report_of}
 use Rattle.report_text.specs.net_cells.specs.Meanings.{CellTable}
 use Rattle.command_replies.specs.Replies.{Reply}
-use Rattle.command_replies.specs.Stages.{stops, goes_on}
+use Rattle.outcomes.specs.Stages.{stops, goes_on}
 use Rattle.command_replies.proofs.Causes.{malformed, wide, cycle, report, on_no_network, on_cell_over}
 use Rattle.command_replies.proofs.Statuses.{status_is}
 use Rattle.command_replies.proofs.run_findings.Reports.{is_report}

@@ -11,11 +11,11 @@ use Rattle.report_text.proofs.RunAgree.{one_run_report}
 use Rattle.report_text.specs.RunReport.{run_report_of}
 use Rattle.command_replies.specs.OnFiles.{IsBadTraceOf, IsTableOf, OnCurves}
 use Rattle.command_replies.specs.Replies.{AreSame}
-use Rattle.command_replies.specs.Stages.{AreAlike, GoOnAlike}
+use Rattle.outcomes.specs.Stages.{AreAlike, GoOnAlike}
 use Rattle.command_replies.proofs.BadTraces.{one_bad_trace}
 use Rattle.command_replies.proofs.OneRefusal.{equal, one_cycle}
 use Rattle.command_replies.proofs.OneReply.{file_alike, table_alike, file_reached, table_reached}
-use Rattle.command_replies.proofs.Stages.{one_staged, on_one, reached}
+use Rattle.outcomes.proofs.Stages.{one_staged, on_one, reached}
 use Rattle.command_replies.proofs.simulated_findings.OneSimulation.{same_simulation, on_simulation}
 use Rattle.commands.specs.simulate.Laws.{RepliesAreDetermined, RepliesAreComplete}
 use Rattle.commands.specs.simulate.OnTraces.{GivesTrace, IsSimulationReply, IsRunReplyOnTrace, IsRunReplyOnNet}

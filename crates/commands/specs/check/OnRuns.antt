@@ -16,7 +16,7 @@ use Rattle.run_check.specs.declared.run_table.fault.RunFault.{RunFault}
 use Rattle.run_check.specs.run_table.Runs.{IsRunOf, IsFirstFault}
 use Rattle.command_replies.specs.Replies.{Reply}
 use Rattle.command_replies.specs.OnFiles.{IsBroken, IsCurveOver, IsNetOf, OnCycle, IsNetOver, OnFile, OnTable, OnCurves}
-use Rattle.command_replies.specs.Stages.{Staged, Behind}
+use Rattle.outcomes.specs.Stages.{Staged, Behind}
 use Rattle.commands.specs.check.Checked.{run_fault_reply, IsTooWide, IsReportOn, IsVerdictReply}
 
 -- ---- runs

@@ -11,7 +11,7 @@ use Rattle.curve_lang.specs.Answers.{Answered, ScriptMeans}
 use Rattle.curve_lang.specs.Found.{ScriptTells}
 use Rattle.curve_lang.specs.Texts.{answers_text}
 use Rattle.command_replies.specs.Replies.{Reply, breaks_script_rule, line_over}
-use Rattle.command_replies.specs.Stages.{Staged, Behind}
+use Rattle.outcomes.specs.Stages.{Staged, Behind}
 
 -- the first line with a fault of its own, and the least of these, C1 to C4
 pub record IsMisread (file bytes : List ℕ) (reply : Reply) : Type 0 where

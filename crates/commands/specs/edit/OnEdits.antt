@@ -14,7 +14,7 @@ use Rattle.commands.specs.edit_report.EditReport.{edit_report_in}
 use Rattle.commands.specs.edit_report.Said.{EditSaid}
 use Rattle.command_replies.specs.Replies.{Reply, table_fault_reply}
 use Rattle.command_replies.specs.OnFiles.{IsNetOf, OnFile, OnTable}
-use Rattle.command_replies.specs.Stages.{Staged, Behind}
+use Rattle.outcomes.specs.Stages.{Staged, Behind}
 use Rattle.commands.specs.edit.NetHistories.{NetHistory, begun}
 use Rattle.commands.specs.edit.Answered.{IsAnalysed, AreAnswered}
 

@@ -12,7 +12,7 @@ use Rattle.report_text.specs.net_cells.specs.Order.{evaluation_order}
 use Rattle.run_watch.specs.simulated_sizes.Laws.{AreCurves}
 use Rattle.command_replies.specs.OnFiles.{IsNetOver, OnOrder, OnCurves}
 use Rattle.command_replies.specs.Replies.{Reply}
-use Rattle.command_replies.specs.Stages.{Behind}
+use Rattle.outcomes.specs.Stages.{Behind}
 use Rattle.command_replies.specs.simulated_findings.Found.{IsTooWide, IsReportBy, IsSimulationReplyBy}
 use Rattle.exercise_load.specs.Workloads.{network_of, trace_of}
 use Rattle.exercise_load.specs.exercise_report.Summary.{summary_of}

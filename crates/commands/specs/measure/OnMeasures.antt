@@ -24,7 +24,7 @@ use Rattle.measure_curve.specs.Windows.{of_flow, IsLeastArrival}
 use Rattle.report_text.specs.measure_report.MeasureReport.{measure_report_of}
 use Rattle.command_replies.specs.Replies.{Reply, refusal, over}
 use Rattle.command_replies.specs.OnFiles.{IsNetOf, OnFile, IsBadTraceOf}
-use Rattle.command_replies.specs.Stages.{Staged}
+use Rattle.outcomes.specs.Stages.{Staged}
 
 -- ---- the two files
 -- the files give this network and this trace of it

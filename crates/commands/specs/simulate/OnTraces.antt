@@ -16,7 +16,7 @@ use Rattle.input_texts.specs.table_text.Traces.{IsTraceOf}
 use Rattle.command_replies.specs.Replies.{Reply}
 use Rattle.command_replies.specs.OnFiles.{IsBroken, IsCurveOver, IsNetOf, IsBadTraceOf, IsBadTrace, OnCycle, IsNetOver}
 use Rattle.command_replies.specs.OnFiles.{OnFile, OnTable, OnCurves}
-use Rattle.command_replies.specs.Stages.{Staged, Behind}
+use Rattle.outcomes.specs.Stages.{Staged, Behind}
 use Rattle.report_text.specs.RunReport.{run_report_of}
 use Rattle.command_replies.specs.simulated_findings.Found.{IsTooWide, IsReportBy, IsSimulationReplyBy}
 

@@ -8,10 +8,10 @@ ghost use Rattle.command_replies.specs.View.{reply_of, status_of};
 use crate::analyse::on_net::on_network;
 use command_replies::{Answer, on_fault};
 use net_text::read_network;
+use outcomes::Steps;
 use report_text::json_report::Form;
 use std::alloc::{AllocError, Global};
 use std::sync::ledger::Ledger;
-use steps::Steps;
 
 /// The answer on a file with this name and these bytes, in this order: a rule that its tables break, a curve over a
 /// limit, a cycle, a cell over a limit, and else the report in a form. Refused only for want of memory.

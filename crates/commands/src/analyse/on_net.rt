@@ -9,10 +9,10 @@ ghost use Rattle.command_replies.specs.View.{reply_of, status_of};
 use crate::tabled::table_of;
 use command_replies::{Answer, Status};
 use net_model::Network;
+use outcomes::Steps;
 use report_text::json_report::{Form, text_in};
 use std::alloc::{AllocError, Global};
 use std::sync::ledger::Ledger;
-use steps::Steps;
 
 /// The answer on a network: of a cycle, of the first cell over a limit, or the report. Refused only for want of memory.
 pub(crate) fn on_network<L: Ledger>(

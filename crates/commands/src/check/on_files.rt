@@ -11,10 +11,10 @@ use crate::check::refusals::on_run_fault;
 use command_replies::{Answer, on_fault};
 use net_model::Network;
 use net_text::read_network;
+use outcomes::Steps;
 use run_check::run_table::read_run;
 use std::alloc::{AllocError, Global};
 use std::sync::ledger::Ledger;
-use steps::Steps;
 
 // The answer on a network and the file of a recorded run.
 fn on_rows<L: Ledger>(

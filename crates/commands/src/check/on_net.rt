@@ -13,9 +13,9 @@ use command_replies::Answer;
 use command_replies::run_findings::keeps_curves;
 use net_model::Network;
 use net_model::run_laws::Run;
+use outcomes::Steps;
 use std::alloc::{AllocError, Global};
 use std::sync::ledger::Ledger;
-use steps::Steps;
 
 /// The answer on a network and a recorded run of it: of a cycle, of the first cell over a limit, of a run that is too
 /// wide, or the report. Refused only for want of memory.

@@ -9,9 +9,9 @@ ghost use Rattle.commands.specs.curve.ScriptCounts.{CountsOn, CountsOnLines};
 
 use command_replies::{Answer, Status, on_script_fault};
 use curve_lang::{Answer as Told, Script, answer_text, eval_script, parse_script};
+use outcomes::Steps;
 use std::alloc::{AllocError, Global};
 use std::sync::ledger::Ledger;
-use steps::Steps;
 
 // The lines of the answers.
 fn answered(alloc: Global, answers: &[Told]) -> Result<Answer, AllocError>

@@ -11,10 +11,10 @@ use command_replies::{Answer, on_fault, on_table_fault};
 use input_texts::table_text::read_edits;
 use net_model::Network;
 use net_text::read_network;
+use outcomes::Steps;
 use report_text::json_report::Form;
 use std::alloc::{AllocError, Global};
 use std::sync::ledger::Ledger;
-use steps::Steps;
 
 // The answer on a network and a list: by the list's first fault, or by the edits that it asks for.
 fn on_list<L: Ledger>(

@@ -18,11 +18,11 @@ use cell_store::edit_store::Store;
 use command_replies::{Answer, Status, cell_too_many, cell_too_wide, goes_round};
 use net_model::net_graph::{GraphFault, order};
 use net_model::{Edit, Network};
+use outcomes::Steps;
 use report_text::json_report::Form;
 use report_text::net_cells::cell_table::{AnalysisFault, Evaluator, Value};
 use std::alloc::{AllocError, Global};
 use std::sync::ledger::Ledger;
-use steps::Steps;
 
 // The report on edits of the network that a store begins with.
 fn reported<E: Evaluator<Value>>(

@@ -9,9 +9,9 @@ ghost use Rattle.commands.specs.exercise.OnSeeds.{IsExerciseReply};
 use crate::exercise::on_workload::on_workload;
 use command_replies::Answer;
 use exercise_load::workload;
+use outcomes::Steps;
 use std::alloc::{AllocError, Global};
 use std::sync::ledger::Ledger;
-use steps::Steps;
 
 /// The answer on the number of a workload, in this order: a cell of its network over a limit, a simulation of its trace
 /// that is too wide, and else the summary of both, with what the run breaks first. Refused only for want of memory.

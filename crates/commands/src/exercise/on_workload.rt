@@ -12,9 +12,9 @@ use crate::tabled::table_of;
 use command_replies::Answer;
 use command_replies::run_findings::keeps_curves;
 use net_model::{Network, Trace};
+use outcomes::Steps;
 use std::alloc::{AllocError, Global};
 use std::sync::ledger::Ledger;
-use steps::Steps;
 
 /// The answer on a workload: of the first cell over a limit, of a simulation that is too wide, or the summary.
 pub(crate) fn on_workload<L: Ledger>(

@@ -12,9 +12,9 @@ use command_replies::{Answer, on_fault, on_table_fault};
 use input_texts::table_text::read_trace;
 use net_model::Network;
 use net_text::read_network;
+use outcomes::Steps;
 use std::alloc::{AllocError, Global};
 use std::sync::ledger::Ledger;
-use steps::Steps;
 use upp_limits::fraction128::Frac;
 
 // The answer on a network and the bytes of a trace: by the trace's first fault, or on the trace.

@@ -11,9 +11,9 @@ use command_replies::{Answer, on_fault, on_table_fault};
 use input_texts::table_text::read_trace;
 use net_model::Network;
 use net_text::read_network;
+use outcomes::Steps;
 use std::alloc::{AllocError, Global};
 use std::sync::ledger::Ledger;
-use steps::Steps;
 
 // The answer on a network and the file of a trace.
 fn on_rows<L: Ledger>(

@@ -14,7 +14,8 @@ use Rattle.upp_limits.specs.min_plus.specs.Functions.{zero_q, IsFinite, IsNonneg
 use Rattle.upp_limits.specs.declared.op_kind.OpFault.{OpFault}
 use Rattle.upp_limits.specs.declared.op_kind.OpFault.TheVariants.{NoMemory}
 use Rattle.upp_limits.specs.declared.op_kind.OpKind.TheVariants.{Convolve}
-use Rattle.plain_operators.specs.curve_call.specs.Calls.{Applies, Then, goes_on, stops}
+use Rattle.plain_operators.specs.curve_call.specs.Calls.{Applies}
+use Rattle.outcomes.specs.Calls.{Then, goes_on, stops}
 use Rattle.element_envelope.specs.PieceElements.{elements_of, Among}
 use Rattle.subadd_closure.specs.CurveParts.{pieces_end, part_of, parts_of}
 use Rattle.subadd_closure.specs.declared.part.Part.{Part}

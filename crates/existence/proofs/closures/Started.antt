@@ -13,7 +13,8 @@ use Rattle.upp_limits.specs.declared.op_kind.OpFault.{OpFault}
 use Rattle.upp_limits.specs.declared.op_kind.OpFault.TheVariants.{NoMemory}
 use Rattle.upp_limits.specs.declared.op_kind.OpKind.TheVariants.{Convolve}
 use Rattle.upp_normal.proofs.NormaliseGrids.{ext_same_or}
-use Rattle.plain_operators.specs.curve_call.specs.Calls.{IsApplied, Applies, Then, goes_on, stops}
+use Rattle.plain_operators.specs.curve_call.specs.Calls.{IsApplied, Applies}
+use Rattle.outcomes.specs.Calls.{Then, goes_on, stops}
 use Rattle.plain_operators.specs.curve_call.specs.declared.frame.Frame.{Frame}
 use Rattle.curve_conv.proofs.ConvolveAnswers.{windows}
 use Rattle.element_envelope.proofs.FoundEnvelopes.{convolution_of}

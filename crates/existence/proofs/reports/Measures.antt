@@ -24,7 +24,7 @@ use Rattle.measure_curve.specs.Windows.{of_flow}
 use Rattle.measure_curve.proofs.Bursts.{line_finite, not_infinite, least_burst}
 use Rattle.measure_curve.proofs.Kept.{bounded}
 use Rattle.commands.specs.command_replies.specs.Replies.{Reply, over, table_fault_reply}
-use Rattle.commands.specs.command_replies.specs.Stages.{stops, goes_on}
+use Rattle.outcomes.specs.Stages.{stops, goes_on}
 use Rattle.commands.specs.measure.OnMeasures.{IsMeasured, measure_report, unknown_flow, IsReplyOnPackets, IsReplyOnTrace, IsReplyOnNet}
 use Rattle.commands.proofs.measure.Answering.{reported, steep, past}
 use Rattle.existence.specs.curves.Verticals.{Measures}

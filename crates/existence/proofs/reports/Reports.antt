@@ -31,7 +31,7 @@ use Rattle.upp_limits.specs.declared.own_limits.OverLimit.{OverLimit}
 use Rattle.upp_limits.specs.declared.own_limits.OverLimit.TheVariants as limits
 use Rattle.commands.specs.command_replies.specs.Replies.{Reply, breaks_rule, goes_round, curve_over, cell_over}
 use Rattle.commands.specs.command_replies.specs.OnFiles.{IsNetOf, IsNoNetwork, IsOver}
-use Rattle.commands.specs.command_replies.specs.Stages.{stops, goes_on}
+use Rattle.outcomes.specs.Stages.{stops, goes_on}
 use Rattle.commands.specs.analyse.OnFiles.{report, IsReplyOn, IsReplyOnNet}
 use Rattle.run_watch.specs.simulated_sizes.Laws.{AreCurves}
 use Rattle.existence.proofs.tables.Sound.{zero_is}

@@ -5,7 +5,8 @@ use Rattle.upp_limits.specs.upp_curve.specs.Curve.{SpecCurve, value_at}
 use Rattle.upp_limits.specs.upp_curve.specs.Curves.{IsCurve}
 use Rattle.upp_limits.specs.declared.op_kind.OpKind.TheVariants.{PosDiff, PosMinus, Scale, RunSup}
 use Rattle.net_model.specs.run_laws.specs.Cards.{whole}
-use Rattle.plain_operators.specs.curve_call.specs.Calls.{Applies, AppliesTo, goes_on, stops}
+use Rattle.plain_operators.specs.curve_call.specs.Calls.{Applies, AppliesTo}
+use Rattle.outcomes.specs.Calls.{goes_on, stops}
 use Rattle.residuals.specs.calls.PriorityCalls.{LeavesPriority, MakesPriority}
 use Rattle.residuals.specs.calls.DrrCalls.{share_in, owed_in, MakesDrr}
 use Rattle.residuals.proofs.calls.PriorityCalls.{difference_finite, left_finite, left_nonneg}

@@ -9,9 +9,9 @@ ghost use Rattle.upp_limits.specs.Outcome.{KeepsLimits};
 ghost use Rattle.upp_limits.specs.declared.op_kind.OpKind.TheVariants.{Min, Max, PosDiff};
 
 use crate::pointwise::lattice::{Lattice, made_of_curves};
+use outcomes::Steps;
 use std::alloc::Global;
 use std::sync::ledger::Ledger;
-use steps::Steps;
 use upp_limits::OpFault;
 use upp_limits::upp_curve::Curve;
 

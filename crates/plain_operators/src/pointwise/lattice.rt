@@ -21,9 +21,9 @@ use curve_call::{
     CallWindow, Frame, answer, first_window, least_periods, period_bounds, refuse_between,
     rise_over, window_excess, window_max, window_min, within,
 };
+use outcomes::Steps;
 use std::alloc::{AllocError, Global};
 use std::sync::ledger::Ledger;
-use steps::Steps;
 use upp_limits::fraction128::{Frac, difference};
 use upp_limits::upp_curve::Curve;
 use upp_limits::upp_curve::affine_segment::Piece;

@@ -22,9 +22,9 @@ use curve_call::upp_normal::unrolled;
 use curve_call::{
     Frame, Side, answer, first_window, is_slower, rise_over, side_periods, window_excess, within,
 };
+use outcomes::Steps;
 use std::alloc::{AllocError, Global};
 use std::sync::ledger::Ledger;
-use steps::Steps;
 use upp_limits::fraction128::{Frac, difference};
 use upp_limits::rational::Extended;
 use upp_limits::upp_curve::Curve;

@@ -12,9 +12,9 @@ ghost use Rattle.curve_call.specs.Frames.{IsFrame};
 
 use curve_call::upp_normal::{RawCurve, normalise_on};
 use curve_call::{Frame, within};
+use outcomes::Steps;
 use std::alloc::{AllocError, Global};
 use std::sync::ledger::Ledger;
-use steps::Steps;
 use upp_limits::fraction128::Frac;
 use upp_limits::upp_curve::affine_segment::Piece;
 use upp_limits::upp_curve::{Curve, Tail};

@@ -16,10 +16,10 @@ ghost use Rattle.plain_operators.specs.pointwise.Shifting.{left_line, left_piece
 
 use curve_call::upp_normal::unrolled;
 use curve_call::{Frame, answer, rise_over, within};
+use outcomes::Steps;
 use std::alloc::{AllocError, Global};
 use std::cmp::Ordering;
 use std::sync::ledger::Ledger;
-use steps::Steps;
 use upp_limits::fraction128::{Ext, Frac, difference};
 use upp_limits::rational::Extended;
 use upp_limits::upp_curve::affine_segment::{Line, Piece, piece_at, piece_value, value};

@@ -12,8 +12,10 @@ use Rattle.upp_limits.specs.upp_curve.specs.Curves.{IsCurve}
 use Rattle.upp_limits.specs.min_plus.specs.Functions.{IsFinite}
 use Rattle.upp_limits.specs.min_plus.specs.Pointwise.{excess, scaled}
 use Rattle.plain_operators.specs.curve_call.specs.Answers.{IsMadeBy}
-use Rattle.plain_operators.specs.curve_call.specs.Calls.{AppliesTo, goes_on, stops}
-use Rattle.plain_operators.specs.curve_call.proofs.InTurn.{applies_determined, then_determined}
+use Rattle.plain_operators.specs.curve_call.specs.Calls.{AppliesTo}
+use Rattle.outcomes.specs.Calls.{goes_on, stops}
+use Rattle.plain_operators.specs.curve_call.proofs.InTurn.{applies_determined}
+use Rattle.outcomes.proofs.Calls.{then_determined}
 use Rattle.residuals.specs.calls.DrrCalls.{IsQuantum, share_in, owed_in, MakesDrr, DrrCurveServes, DrrIsDetermined}
 use Rattle.residual_laws.specs.DrrLaws.{IsDrrService}
 use Rattle.residual_laws.proofs.DrrLaw.{drr_serves}

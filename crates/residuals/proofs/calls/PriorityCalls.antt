@@ -15,9 +15,11 @@ use Rattle.upp_limits.specs.min_plus.specs.Functions.{zero_q, UpTo, IsFinite, Is
 use Rattle.upp_limits.specs.min_plus.specs.Pointwise.{excess}
 use Rattle.run_laws.specs.Cards.{whole}
 use Rattle.plain_operators.specs.curve_call.specs.Answers.{IsMadeBy}
-use Rattle.plain_operators.specs.curve_call.specs.Calls.{Applies, AppliesTo, goes_on, stops}
+use Rattle.plain_operators.specs.curve_call.specs.Calls.{Applies, AppliesTo}
+use Rattle.outcomes.specs.Calls.{goes_on, stops}
 use Rattle.plain_operators.specs.curve_call.proofs.Excesses.{finite_excess, excess_nonneg}
-use Rattle.plain_operators.specs.curve_call.proofs.InTurn.{applies_determined, then_determined}
+use Rattle.plain_operators.specs.curve_call.proofs.InTurn.{applies_determined}
+use Rattle.outcomes.proofs.Calls.{then_determined}
 use Rattle.residuals.specs.calls.PriorityCalls.{LeavesPriority, MakesPriority, PriorityCurveServes, PriorityIsDetermined}
 use Rattle.residual_laws.specs.PriorityLaws.{priority_left, IsPriorityService}
 use Rattle.residual_laws.proofs.PriorityLaw.{priority_serves}

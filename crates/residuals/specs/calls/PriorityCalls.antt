@@ -11,7 +11,8 @@ use Rattle.run_laws.specs.Servers.{Priority, Server}
 use Rattle.run_laws.specs.Allows.{IsLawfulView}
 use Rattle.run_laws.specs.Premises.{KeepsArrivals, KeepsService, KeepsSizes, IsZeroAtStart}
 use Rattle.run_laws.specs.Serves.{Serves}
-use Rattle.plain_operators.specs.curve_call.specs.Calls.{Applies, AppliesTo, Then}
+use Rattle.plain_operators.specs.curve_call.specs.Calls.{Applies, AppliesTo}
+use Rattle.outcomes.specs.Calls.{Then}
 use Rattle.plain_operators.specs.curve_call.specs.Determined.{IsDetermined}
 
 -- the first two calls

@@ -8,11 +8,11 @@ ghost use Rattle.residual_laws.specs.DrrLaws.{IsDrrService};
 ghost use Rattle.residuals.specs.calls.InTurn.{DrrRefused};
 
 use crate::drr::turn::turn_of;
+use outcomes::Steps;
 use plain_operators::curve_call::intact;
 use plain_operators::pointwise::{pos_minus, scale};
 use std::alloc::Global;
 use std::sync::ledger::Ledger;
-use steps::Steps;
 use upp_limits::OpFault;
 use upp_limits::upp_curve::Curve;
 

@@ -8,11 +8,11 @@ ghost use Rattle.upp_limits.specs.min_plus.specs.Functions.{IsFinite, IsRising, 
 ghost use Rattle.plain_operators.specs.curve_call.specs.Calls.{Applies};
 ghost use Rattle.residuals.specs.fifo.Laws.{IsResidual};
 
+use outcomes::Steps;
 use plain_operators::curve_call::intact;
 use plain_operators::running::fifo_left;
 use std::alloc::Global;
 use std::sync::ledger::Ledger;
-use steps::Steps;
 use upp_limits::OpFault;
 use upp_limits::fraction128::Ext;
 use upp_limits::upp_curve::Curve;

@@ -8,11 +8,11 @@ ghost use Rattle.upp_limits.specs.min_plus.specs.Functions.{zero_q, IsFinite};
 ghost use Rattle.upp_limits.specs.min_plus.specs.Pointwise.{IsPositiveMinus};
 ghost use Rattle.plain_operators.specs.curve_call.specs.Calls.{AppliesTo};
 
+use outcomes::Steps;
 use plain_operators::curve_call::intact;
 use plain_operators::pointwise::pos_minus;
 use std::alloc::Global;
 use std::sync::ledger::Ledger;
-use steps::Steps;
 use upp_limits::OpFault;
 use upp_limits::fraction128::Frac;
 use upp_limits::upp_curve::Curve;

@@ -7,13 +7,13 @@ ghost use Rattle.residuals.specs.calls.PriorityCalls.{LeavesPriority, MakesPrior
 ghost use Rattle.residual_laws.specs.PriorityLaws.{IsPriorityService};
 ghost use Rattle.residuals.specs.calls.InTurn.{LeftRefused, PriorityRefused};
 
+use outcomes::Steps;
 use plain_operators::curve_call::intact;
 use plain_operators::pointwise::{pos_diff, pos_minus};
 use plain_operators::running::run_sup;
 use run_laws::whole;
 use std::alloc::Global;
 use std::sync::ledger::Ledger;
-use steps::Steps;
 use upp_limits::OpFault;
 use upp_limits::upp_curve::Curve;
 // What the service has above the higher queues' curve, less one packet of the lower queues. Its first curve is let go

@@ -6,7 +6,7 @@ use Rattle.net_cells.specs.Means.{with_links}
 use Rattle.net_cells.specs.CellFormulas.{link_delays}
 use Rattle.cell_eval.proofs.Counting.{counts_all}
 use Rattle.cell_eval.proofs.Arms.{sfa_comes, sfa_served_by}
-use Rattle.plain_operators.specs.curve_call.specs.Calls.{stops}
+use Rattle.outcomes.specs.Calls.{stops}
 use Rattle.std.proofs.Common.{refl}
 use Rattle.cell_eval.proofs.PathSums.{delayed_answer}
 use Rattle.std.proofs.Common.{subst}

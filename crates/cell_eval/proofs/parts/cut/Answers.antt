@@ -3,7 +3,8 @@ use Rattle.upp_limits.specs.declared.op_kind.OpKind.TheVariants.{Min}
 use Rattle.upp_limits.specs.upp_curve.specs.Kinds.{bucket}
 use Rattle.net_model.specs.run_laws.specs.Cards.{whole}
 use Rattle.plain_operators.specs.curve_call.specs.Again.{IsAgain}
-use Rattle.plain_operators.specs.curve_call.specs.Calls.{Applies, goes_on, stops}
+use Rattle.plain_operators.specs.curve_call.specs.Calls.{Applies}
+use Rattle.outcomes.specs.Calls.{goes_on, stops}
 use Rattle.plain_operators.specs.curve_call.proofs.Applied.{applied_seen}
 use Rattle.net_cells.specs.Meanings.{curve}
 use Rattle.cell_eval.proofs.Counting.{counts_all}

@@ -1,4 +1,4 @@
-use Rattle.curve_call.proofs.InTurn.{then_determined}
+use Rattle.outcomes.proofs.Calls.{then_determined}
 use Rattle.curve_call.proofs.laws.calls_in_turn.Goals as goal
 
 pub returns : goal.returns

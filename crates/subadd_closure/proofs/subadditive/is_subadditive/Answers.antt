@@ -2,7 +2,7 @@ use Rattle.std.proofs.Common.{Err, arith, refl}
 use Rattle.std.proofs.lemmas.Result.{err_from_is_err_and}
 use Rattle.upp_limits.specs.declared.op_kind.OpKind.TheVariants.{Min, Convolve}
 use Rattle.upp_limits.specs.upp_curve.specs.Curve.{value_at}
-use Rattle.plain_operators.specs.curve_call.specs.Calls.{goes_on, stops}
+use Rattle.outcomes.specs.Calls.{goes_on, stops}
 use Rattle.plain_operators.specs.curve_call.proofs.Applied.{applied_seen}
 use Rattle.subadd_closure.proofs.FoldMemory.{same_want, call_wants}
 use Rattle.subadd_closure.proofs.SameConvolution.{subadditive_where_same, same_where_subadditive}

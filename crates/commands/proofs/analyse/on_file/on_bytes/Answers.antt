@@ -1,5 +1,5 @@
 use Rattle.std.proofs.lemmas.Result.{IfOk-weaker}
-use Rattle.command_replies.specs.Stages.{stops, goes_on}
+use Rattle.outcomes.specs.Stages.{stops, goes_on}
 use Rattle.command_replies.specs.View.{status_of}
 use Rattle.commands.proofs.analyse.Counting.{of_network}
 use Rattle.command_replies.proofs.FirstFaults.{on_told}

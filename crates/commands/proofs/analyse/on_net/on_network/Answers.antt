@@ -1,7 +1,7 @@
 use Rattle.std.proofs.Common.{ap}
 use Rattle.std.proofs.lemmas.Result.{IfOk-weaker}
 use Rattle.command_replies.specs.Replies.{Reply}
-use Rattle.command_replies.specs.Stages.{goes_on}
+use Rattle.outcomes.specs.Stages.{goes_on}
 use Rattle.command_replies.specs.View.{reply_of, status_of}
 use Rattle.commands.proofs.analyse.Counting.{of_cells}
 use Rattle.commands.proofs.Stopped.{stopped, none_told, at_status}

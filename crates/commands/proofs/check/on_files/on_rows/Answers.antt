@@ -1,5 +1,5 @@
 use Rattle.std.proofs.lemmas.Result.{IfOk-weaker}
-use Rattle.command_replies.specs.Stages.{stops, goes_on}
+use Rattle.outcomes.specs.Stages.{stops, goes_on}
 use Rattle.command_replies.specs.View.{status_of}
 use Rattle.input_texts.specs.table_text.Rows.{rows_of}
 use Rattle.run_check.proofs.run_table.Recorded.{runs_read_are_recorded}

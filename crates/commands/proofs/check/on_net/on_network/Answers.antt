@@ -1,5 +1,5 @@
 use Rattle.std.proofs.lemmas.Result.{IfOk-weaker}
-use Rattle.command_replies.specs.Stages.{goes_on}
+use Rattle.outcomes.specs.Stages.{goes_on}
 use Rattle.command_replies.specs.View.{reply_of, status_of}
 use Rattle.commands.proofs.Stopped.{stopped, none_told, at_status}
 use Rattle.commands.proofs.check.on_net.on_network.Goals as goal

@@ -1,7 +1,7 @@
 use Rattle.std.proofs.Common.{map, inl, inr, refl}
 use Rattle.std.proofs.lemmas.Result.{IfOk-weaker}
 use Rattle.input_texts.specs.curve_script.Scripts.{line_view}
-use Rattle.command_replies.specs.Stages.{stops, goes_on}
+use Rattle.outcomes.specs.Stages.{stops, goes_on}
 use Rattle.commands.proofs.curve.OnFaults.{on_misread, fault_is_no_report}
 use Rattle.commands.proofs.curve.on_file.on_script.Goals as goal
 

@@ -1,7 +1,7 @@
 use Rattle.std.proofs.lemmas.Result.{IfOk-weaker}
 use Rattle.net_draft.specs.Faults.{fault_of}
 use Rattle.command_replies.specs.Faults.{fault_reply}
-use Rattle.command_replies.specs.Stages.{stops, goes_on}
+use Rattle.outcomes.specs.Stages.{stops, goes_on}
 use Rattle.command_replies.specs.View.{status_of}
 use Rattle.command_replies.proofs.FirstFaults.{on_told}
 use Rattle.command_replies.proofs.Statuses.{refused}

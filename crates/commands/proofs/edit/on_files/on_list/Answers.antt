@@ -2,7 +2,7 @@ use Rattle.std.proofs.Common.{map, inl, refl}
 use Rattle.std.proofs.lemmas.Result.{IfOk-weaker}
 use Rattle.input_texts.specs.table_text.EditRows.{edit_view}
 use Rattle.command_replies.specs.Replies.{table_fault_reply}
-use Rattle.command_replies.specs.Stages.{stops, goes_on}
+use Rattle.outcomes.specs.Stages.{stops, goes_on}
 use Rattle.command_replies.specs.View.{status_of}
 use Rattle.command_replies.proofs.Statuses.{refused}
 use Rattle.commands.proofs.edit.OnFiles.{few_edits, of_edits, on_bad_list}

@@ -7,7 +7,7 @@ use Rattle.report_text.specs.net_cells.specs.Meanings.{CellTable}
 use Rattle.report_text.specs.CellWords.{cell_words}
 use Rattle.command_replies.specs.CellWork.{work_of_cells}
 use Rattle.command_replies.specs.Replies.{cell_over}
-use Rattle.command_replies.specs.Stages.{stops, goes_on}
+use Rattle.outcomes.specs.Stages.{stops, goes_on}
 use Rattle.command_replies.specs.View.{reply_of, status_of}
 use Rattle.command_replies.proofs.Statuses.{refused}
 use Rattle.commands.specs.edit.NetHistories.{begun}

@@ -1,5 +1,5 @@
 use Rattle.std.proofs.lemmas.Result.{IfOk-weaker}
-use Rattle.command_replies.specs.Stages.{stops}
+use Rattle.outcomes.specs.Stages.{stops}
 use Rattle.commands.proofs.edit.on_net.on_network.Goals as goal
 
 pub returns-in-Err-Cycle-clause-reply : goal.returns-in-Err-Cycle-clause-reply

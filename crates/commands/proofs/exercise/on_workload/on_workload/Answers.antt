@@ -1,7 +1,7 @@
 use Rattle.std.proofs.Common.{subst}
 use Rattle.std.proofs.lemmas.Result.{IfOk-weaker}
 use Rattle.net_model.specs.Networks.{Net}
-use Rattle.command_replies.specs.Stages.{goes_on}
+use Rattle.outcomes.specs.Stages.{goes_on}
 use Rattle.command_replies.specs.View.{reply_of, status_of}
 use Rattle.command_replies.specs.run_findings.CellCounts.{CountsOnCells}
 use Rattle.commands.proofs.Stopped.{none_told, at_status}

@@ -1,6 +1,6 @@
 use Rattle.std.proofs.lemmas.Result.{IfOk-weaker}
 use Rattle.command_replies.specs.Replies.{table_fault_reply}
-use Rattle.command_replies.specs.Stages.{stops, goes_on}
+use Rattle.outcomes.specs.Stages.{stops, goes_on}
 use Rattle.command_replies.proofs.BadTraces.{on_told}
 use Rattle.command_replies.proofs.Statuses.{refused}
 use Rattle.commands.proofs.measure.on_files.on_rows.Goals as goal

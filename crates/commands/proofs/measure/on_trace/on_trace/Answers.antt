@@ -1,5 +1,5 @@
 use Rattle.std.proofs.lemmas.Result.{IfOk-weaker}
-use Rattle.command_replies.specs.Stages.{stops, goes_on}
+use Rattle.outcomes.specs.Stages.{stops, goes_on}
 use Rattle.command_replies.proofs.Statuses.{refused}
 use Rattle.commands.specs.measure.OnMeasures.{unknown_flow}
 use Rattle.commands.proofs.measure.on_trace.on_trace.Goals as goal

@@ -1,6 +1,6 @@
 use Rattle.std.proofs.lemmas.Result.{IfOk-weaker}
 use Rattle.command_replies.proofs.BadTraces.{on_told}
-use Rattle.command_replies.specs.Stages.{stops, goes_on}
+use Rattle.outcomes.specs.Stages.{stops, goes_on}
 use Rattle.command_replies.specs.View.{status_of}
 use Rattle.input_texts.specs.table_text.Rows.{rows_of}
 use Rattle.commands.proofs.simulate.Counting.{of_trace}

@@ -1,6 +1,6 @@
 use Rattle.std.proofs.lemmas.Result.{IfOk-weaker}
 use Rattle.net_model.proofs.net_graph.Returns.{order_or_cycle}
-use Rattle.command_replies.specs.Stages.{goes_on}
+use Rattle.outcomes.specs.Stages.{goes_on}
 use Rattle.command_replies.specs.View.{reply_of, status_of}
 use Rattle.commands.proofs.Stopped.{stopped, none_told, at_status}
 use Rattle.commands.proofs.simulate.on_net.on_network.Goals as goal

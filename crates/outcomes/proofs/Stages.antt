@@ -1,6 +1,6 @@
 -- What holds of calls made of stages.
 use Rattle.std.proofs.Common.{◌≡◌, sym, subst}
-use Rattle.command_replies.specs.Stages.{Staged, stops, goes_on, AreApart, AreAlike, GoOnAlike}
+use Rattle.outcomes.specs.Stages.{Staged, stops, goes_on, AreApart, AreAlike, GoOnAlike}
 
 -- a call is determined where each stage is, and what it makes serves for one answer: the first stop is the answer
 pub one_staged : {R X : Type 0} (Stops : R → Type 0) (Makes : X → Type 0) (Next : X → R → Type 0)
