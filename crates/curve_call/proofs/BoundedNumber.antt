@@ -18,10 +18,10 @@ use Rattle.curve_call.specs.declared.gaps.Gap.{Gap}
 use Rattle.curve_call.specs.declared.gaps.Gap.TheVariants.{NoTime, Never, Is}
 use Rattle.curve_call.specs.Gaps.{InWindow, IsGap}
 use Rattle.curve_call.specs.GapSteps.{gap_of}
-use Rattle.curve_call.specs.Compared.{AreCompared}
+use Rattle.curve_call.specs.Compared.{AreCompared, IsEnough}
 use Rattle.curve_call.specs.Bounds.{AreBounds, IsMost}
 use Rattle.curve_call.proofs.Shifts.{same_least}
-use Rattle.curve_call.proofs.EitherOrder.{IsEnough, first_in, second_in, of_equal}
+use Rattle.curve_call.proofs.EitherOrder.{first_in, second_in, of_equal}
 use Rattle.curve_call.proofs.GapThere.{gap_there}
 use Rattle.curve_call.proofs.LeastNumber.{number_zero, number_least, largest_finite, lead_is, compared_window, IsBelowAfter, after_in, after_out, least_none, least_endless, least_gap}
 

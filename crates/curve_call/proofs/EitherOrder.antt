@@ -4,18 +4,15 @@ use Rattle.std.proofs.Common.{subst}
 use Rattle.upp_limits.specs.rational.specs.Rational.{ℚ}
 use Rattle.upp_limits.specs.rational.specs.Extended.{Ext, ◌<ₑ◌}
 use Rattle.upp_limits.specs.rational.proofs.ExtendedOrder.{lt_ext_trans, lt_ext_irrefl}
-use Rattle.upp_limits.specs.upp_curve.specs.Curve.{SpecCurve, value_at}
+use Rattle.upp_limits.specs.upp_curve.specs.Curve.{SpecCurve}
 use Rattle.upp_limits.specs.upp_curve.specs.Steady.{rate}
-use Rattle.upp_limits.specs.Periods.{periods_after, both_steady, common_period}
+use Rattle.upp_limits.specs.Periods.{both_steady, common_period}
 use Rattle.upp_limits.specs.declared.op_kind.OpKind.TheVariants.{Min, Max, PosDiff}
 use Rattle.upp_limits.specs.Limits.{Sizes}
-use Rattle.upp_limits.specs.Windows.{IsSlowerBelow, IsLeast, Meets}
-use Rattle.curve_call.specs.Compared.{AreCompared}
+use Rattle.upp_limits.specs.Windows.{IsLeast, Meets}
+use Rattle.curve_call.specs.Compared.{AreCompared, IsEnough}
 use Rattle.curve_call.proofs.Shifts.{same_least, least_zero}
 use Rattle.curve_call.proofs.LeastNumber.{IsBelowAfter}
-
-abbrev pub IsEnough : SpecCurve → SpecCurve → ℚ → ℚ → ℕ → Type 0
-IsEnough f g from d k = IsSlowerBelow (value_at f) (value_at g) (rate f) (rate g) (periods_after from k d) d
 
 pub other_way : (z : Sizes) (from d : ℚ) (f g : SpecCurve) → AreCompared z from d f g → AreCompared z from d g f
 other_way z from d f g C = record { limited = C.limited; start = C.start; some = C.some; first = C.second; second = C.first }

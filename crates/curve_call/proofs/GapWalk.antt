@@ -102,8 +102,8 @@ fewer_whole x y some h =
     let l = nat_lt_out (suc (whole_part x)) (suc (whole_part y)) (subst (λ m. m <ℚ v) (sym e) (with4 u v x y (λ c. omega (arith, c.le, c.lt, c.same)))) in
     omega (arith, l)
 
-fewer_steps : (d : ℕ) (end t next : ℚ) → 0 < d → Whole d t → Whole d next → t <ℚ next → next ≤ℚ end → whole_part ((end -ℚ next) *ℚ int (pos d)) < whole_part ((end -ℚ t) *ℚ int (pos d))
-fewer_steps d end t next some w v h k =
+pub fewer_on_grid : (d : ℕ) (end t next : ℚ) → 0 < d → Whole d t → Whole d next → t <ℚ next → next ≤ℚ end → whole_part ((end -ℚ next) *ℚ int (pos d)) < whole_part ((end -ℚ t) *ℚ int (pos d))
+fewer_on_grid d end t next some w v h k =
     let D = int (pos d) in
     let step = one_step d (next -ℚ t) some (with2 t next (λ c. omega (arith, c.le, c.lt, c.same))) (whole_sub d next t v w) in
     let left : int (pos 0) ≤ℚ (end -ℚ next) *ℚ D = mul_nonneg (with2 end next (λ c. omega (arith, c.le, c.lt, c.same))) (nat_nonneg d) in
@@ -202,7 +202,7 @@ pub walk_fewer : (f g : SpecCurve) (from end t next : ℚ) (gap more : Gap) → 
 unfolding steps_left
 walk_fewer f g from end t next gap more here there h =
     let O = on_grid f g from end in
-    fewer_steps (walk_grid f g from end) end t next O.some (here.grid (walk_grid f g from end) O.first O.second O.start O.last) (there.grid (walk_grid f g from end) O.first O.second O.start O.last) h there.before
+    fewer_on_grid (walk_grid f g from end) end t next O.some (here.grid (walk_grid f g from end) O.first O.second O.start O.last) (there.grid (walk_grid f g from end) O.first O.second O.start O.last) h there.before
 
 pub walk_start : (f g : SpecCurve) (from end : ℚ) → from <ℚ end → GapWalk f g from end from NoTime
 walk_start f g from end h = record {

@@ -1,12 +1,14 @@
 -- Two curves, compared from a time on: how large their numbers are up to a period later. Own choice.
-use Rattle.std.specs.Prelude.{pos}
+use Rattle.std.specs.Prelude.{ℕ, pos}
 use Rattle.upp_limits.specs.rational.specs.Rational.{ℚ, ◌+ℚ◌, ◌≤ℚ◌, ◌<ℚ◌, int}
 use Rattle.upp_limits.specs.rational.specs.Grid.{Whole}
-use Rattle.upp_limits.specs.upp_curve.specs.Curve.{SpecCurve}
+use Rattle.upp_limits.specs.upp_curve.specs.Curve.{SpecCurve, value_at}
 use Rattle.upp_limits.specs.upp_curve.specs.Curves.{IsCurve}
-use Rattle.upp_limits.specs.upp_curve.specs.Steady.{steady, IsWholePeriods}
+use Rattle.upp_limits.specs.upp_curve.specs.Steady.{steady, rate, IsWholePeriods}
 use Rattle.upp_limits.specs.Limits.{Sizes, curve_numbers}
+use Rattle.upp_limits.specs.Periods.{periods_after}
 use Rattle.upp_limits.specs.Sized.{Stands}
+use Rattle.upp_limits.specs.Windows.{IsSlowerBelow}
 use Rattle.upp_normal.specs.Operand.{AreLimited}
 
 -- a curve that repeats from `from` on with the period d, and whose numbers below from + d have the sizes z
@@ -30,3 +32,7 @@ pub record IsLookedAt (z : Sizes) (from d : ℚ) (c : SpecCurve) : Type 0 where
   pub start : Whole z.dt from
   pub some : int (pos 0) <ℚ d
   pub curve : RepeatsIn z from d c
+
+-- after k periods from `from` on, for a period, the one of smaller rate is nowhere above the other
+abbrev pub IsEnough : SpecCurve → SpecCurve → ℚ → ℚ → ℕ → Type 0
+IsEnough f g from d k = IsSlowerBelow (value_at f) (value_at g) (rate f) (rate g) (periods_after from k d) d

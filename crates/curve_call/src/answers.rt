@@ -8,10 +8,14 @@ ghost use Rattle.curve_call.specs.Answering.{IsAnswerWindow};
 
 use crate::frame::Frame;
 use std::alloc::{AllocError, Global};
+use upp_limits::OpFault;
 use upp_limits::fraction128::Frac;
 use upp_limits::upp_curve::affine_segment::Piece;
 use upp_limits::upp_curve::{Curve, Tail};
 use upp_normal::{RawCurve, normalise_on};
+
+/// The curve of a call, or why there is none.
+pub type Answered = Result<Curve, OpFault>;
 
 /// `answer` with the period and the grids of a frame. Refused only for want of memory.
 pub fn framed_answer(

@@ -7,7 +7,7 @@ ghost use Rattle.curve_call.specs.Made.{made_value, made_rises};
 ghost use Rattle.curve_call.specs.Operands.{HaveSizes, IsMadeOf};
 
 use crate::made::{Made, MadePieces, made_of};
-use std::alloc::{AllocError, Global};
+use std::alloc::Global;
 use upp_limits::fraction128::Frac;
 use upp_limits::upp_curve::affine_segment::Piece;
 
@@ -19,12 +19,7 @@ fn window_made(alloc: Global, made: Made, f: &[Piece], g: &[Piece], end: Frac) -
 }
 
 /// The lower of two windows at each time from 0 on and before `end`. Only a lack of memory is an error.
-pub fn window_min(
-    alloc: Global,
-    f: &[Piece],
-    g: &[Piece],
-    end: Frac,
-) -> Result<Vec<Piece>, AllocError>
+pub fn window_min(alloc: Global, f: &[Piece], g: &[Piece], end: Frac) -> MadePieces
     requires { HaveSizes end f.now g.now }
     ensures { IfOk result (λ v. IsMadeOf min_ext false f.now g.now end v.items) }
 {
@@ -32,12 +27,7 @@ pub fn window_min(
 }
 
 /// The upper of two windows at each time from 0 on and before `end`. Only a lack of memory is an error.
-pub fn window_max(
-    alloc: Global,
-    f: &[Piece],
-    g: &[Piece],
-    end: Frac,
-) -> Result<Vec<Piece>, AllocError>
+pub fn window_max(alloc: Global, f: &[Piece], g: &[Piece], end: Frac) -> MadePieces
     requires { HaveSizes end f.now g.now }
     ensures { IfOk result (λ v. IsMadeOf max_ext true f.now g.now end v.items) }
 {
@@ -46,12 +36,7 @@ pub fn window_max(
 
 /// What the first window has above the second at each time from 0 on and before `end`: 0 where it has nothing above it,
 /// or the second is infinite. Only a lack of memory is an error.
-pub fn window_excess(
-    alloc: Global,
-    f: &[Piece],
-    g: &[Piece],
-    end: Frac,
-) -> Result<Vec<Piece>, AllocError>
+pub fn window_excess(alloc: Global, f: &[Piece], g: &[Piece], end: Frac) -> MadePieces
     requires { HaveSizes end f.now g.now }
     ensures { IfOk result (λ v. IsMadeOf excess true f.now g.now end v.items) }
 {

@@ -8,11 +8,11 @@ ghost use Rattle.upp_limits.specs.upp_curve.specs.Curve.{value_at};
 ghost use Rattle.upp_limits.specs.upp_curve.specs.Steady.{rate, rise_over};
 ghost use Rattle.upp_limits.specs.Periods.{periods_after};
 ghost use Rattle.upp_limits.specs.Limits.{Sizes};
-ghost use Rattle.upp_limits.specs.Windows.{IsBelowFor, IsSlowerBelow, IsLeast};
+ghost use Rattle.upp_limits.specs.Windows.{IsBelowFor, IsLeast};
 ghost use Rattle.curve_call.specs.Gaps.{InWindow, IsLargest};
 ghost use Rattle.curve_call.specs.GapSteps.{IsGapValue};
 ghost use Rattle.upp_normal.specs.Ahead.{AnswerValue};
-ghost use Rattle.curve_call.specs.Compared.{AreCompared};
+ghost use Rattle.curve_call.specs.Compared.{AreCompared, IsEnough};
 ghost use Rattle.curve_call.specs.Bounds.{IsFiniteLate};
 
 use crate::gaps::{Gap, side_gap};
@@ -102,10 +102,7 @@ pub fn is_slower(f: &Side, g: &Side) -> bool
 pub fn side_periods(f: &Side, g: &Side, from: Frac, period: Frac) -> Option<u128>
     requires { (z : Sizes) × AreCompared z from period f.now g.now }
     ensures { MatchOption result
-        ((k : ℕ) → ¬ (IsSlowerBelow (value_at f.now) (value_at g.now) (rate f.now) (rate g.now)
-        (periods_after from k period) period))
-        (IsLeast (λ k. IsSlowerBelow (value_at f.now) (value_at g.now) (rate f.now) (rate g.now)
-        (periods_after from k period) period)) }
+        ((k : ℕ) → ¬ (IsEnough f.now g.now from period k)) (IsLeast (IsEnough f.now g.now from period)) }
 {
     if is_slower(f, g) {
         return least_below(f, g, from, period);
@@ -124,10 +121,7 @@ pub fn side_periods(f: &Side, g: &Side, from: Frac, period: Frac) -> Option<u128
 pub fn least_periods(f: &Curve, g: &Curve, from: Frac, period: Frac) -> Option<u128>
     requires { (z : Sizes) × AreCompared z from period f.now g.now }
     ensures { MatchOption result
-        ((k : ℕ) → ¬ (IsSlowerBelow (value_at f.now) (value_at g.now) (rate f.now) (rate g.now)
-        (periods_after from k period) period))
-        (IsLeast (λ k. IsSlowerBelow (value_at f.now) (value_at g.now) (rate f.now) (rate g.now)
-        (periods_after from k period) period)) }
+        ((k : ℕ) → ¬ (IsEnough f.now g.now from period k)) (IsLeast (IsEnough f.now g.now from period)) }
 {
     side_periods(&Side::of(f), &Side::of(g), from, period)
 }

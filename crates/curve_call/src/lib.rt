@@ -25,7 +25,7 @@ mod times;
 mod window_laws;
 mod windows;
 
-pub use answers::{answer, framed_answer};
+pub use answers::{Answered, answer, framed_answer};
 pub use between::refuse_between;
 pub use bounds::{Bounds, bounds_below, period_bounds, side_bounds, zero_level};
 pub use compared::{window_excess, window_max, window_min};
@@ -37,7 +37,7 @@ pub use kept::intact;
 pub use laws::{Making, answers_are_determined, answers_are_finite, answers_grow, calls_in_turn};
 pub use least::{is_slower, least_below, least_periods, least_times, side_periods};
 pub use lower::window_lower;
-pub use made::{excess_value, lines_apart};
+pub use made::{MadePieces, excess_value, lines_apart};
 pub use rises::rise_over;
 pub use sides::{Side, period_or};
 pub use stretch::{Both, overlay};

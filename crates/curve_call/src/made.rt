@@ -18,7 +18,7 @@ use upp_limits::rational::Extended;
 use upp_limits::upp_curve::affine_segment::{Line, Piece};
 
 /// Pieces, or want of memory.
-pub(crate) type MadePieces = Result<Vec<Piece>, AllocError>;
+pub type MadePieces = Result<Vec<Piece>, AllocError>;
 
 /// What is made of two windows.
 #[derive(Debug, Clone, Copy)]

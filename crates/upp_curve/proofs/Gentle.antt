@@ -10,7 +10,6 @@ use Rattle.min_plus.specs.rational.proofs.Linear.{with1, with2, with3, with4}
 use Rattle.min_plus.specs.rational.proofs.Laws.{antisym, le_refl, le_or_lt, le_of_lt, le_trans, le_total, mul_le_mul, mul_le_mul_right, mul_comm, mul_sub, mul_add, add_mul, one_mul, div_mul, not_zero}
 use Rattle.min_plus.specs.rational.proofs.Quotients.{div_pos}
 use Rattle.min_plus.specs.rational.proofs.MinMax.{max_q_ge_left, max_q_ge_right}
-use Rattle.min_plus.specs.rational.proofs.Whole.{periods_small, periods_high, periods_next}
 use Rattle.upp_curve.specs.declared.affine_segment.line.Line.{Line}
 use Rattle.upp_curve.specs.declared.affine_segment.line.Piece.{Piece}
 use Rattle.upp_curve.specs.affine_segment.Values.{line_value}
@@ -23,7 +22,7 @@ use Rattle.min_plus.specs.Continuity.{IsContinuous}
 use Rattle.upp_curve.specs.JoinedPieces.{PiecesJoin}
 use Rattle.upp_curve.proofs.affine_segment.PieceIn.{piece_in_end, piece_in_go, piece_in_stop, value_past, value_at_start}
 use Rattle.upp_curve.proofs.FirstStretch.{read_in, at_start}
-use Rattle.upp_curve.proofs.Repeats.{repeated_first, repeated_next}
+use Rattle.upp_curve.proofs.Repeats.{repeated_first, repeated_next, in_first, later_period}
 
 -- ---- sums in order
 -- from v to u by way of w
@@ -197,36 +196,24 @@ repeated_gentle k f r d c start some first top = record { is = λ s t low up. go
     whole_gap s t = sym (mul_add k ((t -ℚ d) -ℚ r) (r +ℚ d -ℚ s)) ∙ ap (λ x. k *ℚ x) (with4 s t d r (λ c. omega (arith, c.le, c.lt, c.same)))
 
     go : (n : ℕ) (s t : ℚ) → zero_q ≤ℚ s → s ≤ℚ t → periods r d t ≡ n → F t ≤ₑ F s +ₑ Fin (k *ℚ (t -ℚ s))
-    go zero s t low up e =
-        let l = subst (λ n. t <ℚ r +ℚ int (pos n) *ℚ d +ℚ d) e (periods_high r d t some) in
-        early s t low up (with3 r d t (λ c. omega (arith, c.le, c.lt, c.same)))
-    go (suc n) s t low up e = elim (le_or_lt (r +ℚ d) t) [
-      | inr l ↦ absurd (differ n (sym e ∙ periods_small r d t some l))
-      | inl h ↦
-          let u = t -ℚ d in
-          let past : r ≤ℚ u = with3 r d t (λ c. omega (arith, c.le, c.lt, c.same)) in
-          let same : u +ℚ d ≡ t = with2 d t (λ c. omega (arith, c.le, c.lt, c.same)) in
-          let fewer : periods r d u ≡ n = less (periods r d u) (periods r d t) n (ap (periods r d) (sym same) ∙ periods_next r d u some past) e in
-          elim (le_or_lt (r +ℚ d) s) [
-            | inl m ↦
-                let v = s -ℚ d in
-                rw (back s m, back t h)
-                (both_risen (F u) (F v) (k *ℚ (t -ℚ s)) c
-                (subst (λ x. F u ≤ₑ F v +ₑ Fin (k *ℚ x)) (same_gap s t)
-                (go n v u (with3 r d s (λ c. omega (arith, c.le, c.lt, c.same))) (with3 s t d (λ c. omega (arith, c.le, c.lt, c.same))) fewer)))
-            | inr m ↦
-                let a = repeated_first f r d c s some m in
-                rw (a, back t h)
-                (by_way (F u +ₑ Fin c) (f r +ₑ Fin c) (f s) (k *ℚ (u -ℚ r)) (k *ℚ (r +ℚ d -ℚ s)) (k *ℚ (t -ℚ s))
-                (both_risen (F u) (f r) (k *ℚ (u -ℚ r)) c (subst (λ v. F u ≤ₑ v +ₑ Fin (k *ℚ (u -ℚ r))) at_rank (go n r u start past fewer))) (top s low m) (whole_gap s t))
-          ]
-    ]
-      where
-        less : (k m n : ℕ) → m ≡ suc k → m ≡ suc n → k ≡ n
-        less k m n p q = omega arith
-
-        differ : (n : ℕ) → suc n ≡ 0 → ⊥
-        differ n p = omega arith
+    go zero s t low up e = early s t low up (in_first r d t some e)
+    go (suc n) s t low up e =
+        let L = later_period r d t n some e in let u = t -ℚ d in
+        elim (le_or_lt (r +ℚ d) s) [
+          | inl m ↦
+              let v = s -ℚ d in
+              let h = L.past in
+              rw (back s m, back t h)
+              (both_risen (F u) (F v) (k *ℚ (t -ℚ s)) c
+              (subst (λ x. F u ≤ₑ F v +ₑ Fin (k *ℚ x)) (same_gap s t)
+              (go n v u (with3 r d s (λ c. omega (arith, c.le, c.lt, c.same))) (with3 s t d (λ c. omega (arith, c.le, c.lt, c.same))) L.fewer)))
+          | inr m ↦
+              let a = repeated_first f r d c s some m in
+              let past : r ≤ℚ u = let h = L.past in with3 r d t (λ c. omega (arith, c.le, c.lt, c.same)) in
+              rw (a, back t L.past)
+              (by_way (F u +ₑ Fin c) (f r +ₑ Fin c) (f s) (k *ℚ (u -ℚ r)) (k *ℚ (r +ℚ d -ℚ s)) (k *ℚ (t -ℚ s))
+              (both_risen (F u) (f r) (k *ℚ (u -ℚ r)) c (subst (λ v. F u ≤ₑ v +ₑ Fin (k *ℚ (u -ℚ r))) at_rank (go n r u start past L.fewer))) (top s low m) (whole_gap s t))
+        ]
 
 -- ---- continuous
 pub gentle_continuous : (k : ℚ) (f : ℚ → Ext) → zero_q ≤ℚ k → IsRising f → IsGentle k f → IsContinuous f

@@ -26,7 +26,7 @@ use Rattle.min_plus.specs.Continuity.{IsContinuous}
 use Rattle.upp_curve.specs.JoinedPieces.{PieceJoins, PiecesJoin}
 use Rattle.upp_curve.proofs.affine_segment.PieceIn.{piece_in_end, piece_in_go, piece_in_stop, value_past}
 use Rattle.upp_curve.proofs.FirstStretch.{read_in, at_start}
-use Rattle.upp_curve.proofs.Repeats.{repeated_first, repeated_next}
+use Rattle.upp_curve.proofs.Repeats.{repeated_first, repeated_end}
 use Rattle.upp_curve.proofs.OneForm.{infinite_value}
 use Rattle.upp_curve.proofs.RisingFrom.{IsBefore, before_later}
 use Rattle.upp_curve.proofs.RisingCurves.{IsEnd, period_end, pieces_by_tail, each_at_most, each_before, each_free}
@@ -203,9 +203,7 @@ periodic_joins (p ∷ ps) r d c h fits rise smooth =
     first t l = repeated_first (read (p ∷ ps)) r d c t fits.some l
 
     end : repeated (read (p ∷ ps)) r d c (r +ℚ d) ≡ read (p ∷ ps) r +ₑ Fin c
-    end =
-        let some = fits.some in
-        repeated_next (read (p ∷ ps)) r d c r fits.some (le_refl r) ∙ ap (λ v. v +ₑ Fin c) (first r (with2 r d (λ c. omega (arith, c.le, c.lt, c.same))))
+    end = repeated_end (read (p ∷ ps)) r d c fits.some
 
 -- ---- by the tail
 continuous_by_tail : (ps : List Piece) (tail : Tail) (end : Option End) → IsNormal record { pieces = ps; tail = tail } → IsEnd ps tail end → IsRising (value_at record { pieces = ps; tail = tail })

@@ -74,27 +74,13 @@ rising_end end first last rest j inv h =
 
 -- ---- the last piece
 last_got : (p : Piece) (ps : List Piece) (n : ℕ) (q : Piece) → n ≡ length ps → slice_get (p ∷ ps) n ≡ Some q → last_of p ps ≡ q
-last_got p [] zero q e h = some_is p q h
-  where
-    some_is : (p q : Piece) → Some p ≡ Some q → p ≡ q
-    some_is p q h = ap (λ o. or_else p o) h
-      where
-        or_else : Piece → Option Piece → Piece
-        or_else p None = p
-        or_else p (Some r) = r
+last_got p [] zero q e h = let found : Some p ≡ Some q = h in cc
 last_got p [] (suc n) q e h = absurd (omega arith)
 last_got p (r ∷ rs) zero q e h = absurd (omega arith)
 last_got p (r ∷ rs) (suc n) q e h = last_got r rs n q (omega arith) h
 
 pub last_is : (ps : List Piece) (q : Piece) → slice_get ps (length ps - 1) ≡ Some q → last_line ps ≡ q.line
-last_is [] q h = absurd (none_some h)
-  where
-    none_some : None ≡ Some q → ⊥
-    none_some e = subst (λ o. IsNone o) e tt
-      where
-        IsNone : Option Piece → Type 0
-        IsNone None = Unit {0}
-        IsNone (Some r) = ⊥
+last_is [] q h = let none : None ≡ Some q = h in cc
 last_is (p ∷ ps) q h =
     let n : length (p ∷ ps) - 1 ≡ length ps = omega arith in
     ap (λ z. z.line) (last_got p ps (length ps) q refl (subst (λ k. slice_get (p ∷ ps) k ≡ Some q) n h))

@@ -4,7 +4,7 @@ use Rattle.std.proofs.Common.{arith, sym, ap, ap₂, ◌∙◌, refl, subst, inl
 use Rattle.min_plus.specs.rational.specs.Rational.{ℚ, ◌+ℚ◌, ◌-ℚ◌, ◌*ℚ◌, ◌≤ℚ◌, ◌<ℚ◌, int}
 use Rattle.min_plus.specs.rational.proofs.Linear.{with1, with2, with3, with4, with5}
 use Rattle.min_plus.specs.rational.proofs.Over.{le_q_out}
-use Rattle.min_plus.specs.rational.proofs.Laws.{le_or_lt}
+use Rattle.min_plus.specs.rational.proofs.Laws.{le_or_lt, le_refl}
 use Rattle.min_plus.specs.rational.specs.Extended.{Ext, ◌+ₑ◌}
 use Rattle.min_plus.specs.rational.specs.declared.Extended.TheVariants.{Fin, Inf}
 use Rattle.min_plus.specs.rational.specs.Whole.{periods}
@@ -34,6 +34,39 @@ repeated_next f r d c t h k =
     let p = one_more_times n c in
     let same : (t +ℚ d) -ℚ int (pos (suc n)) *ℚ d ≡ t -ℚ int (pos n) *ℚ d = with4 t d (int (pos n) *ℚ d) (int (pos (suc n)) *ℚ d) (λ c. omega (arith, c.le, c.lt, c.same)) in
     ap (λ m. f ((t +ℚ d) -ℚ int (pos m) *ℚ d) +ₑ Fin (int (pos m) *ℚ c)) e ∙ ap₂ (λ (x y : ℚ). f x +ₑ Fin y) same p ∙ sym (add_assoc_ext (f (t -ℚ int (pos n) *ℚ d)) (int (pos n) *ℚ c) c)
+
+-- one period past the rank it is the value there, risen once
+pub repeated_end : (f : ℚ → Ext) (r d c : ℚ) → int (pos 0) <ℚ d → repeated f r d c (r +ℚ d) ≡ f r +ₑ Fin c
+repeated_end f r d c some =
+    repeated_next f r d c r some (le_refl r) ∙ ap (λ v. v +ₑ Fin c) (repeated_first f r d c r some (with2 r d (λ c. omega (arith, c.le, c.lt, c.same))))
+
+-- a time in the first period, and one of a later period: a period before it one period less has passed
+pub in_first : (r d t : ℚ) → int (pos 0) <ℚ d → periods r d t ≡ 0 → t <ℚ r +ℚ d
+in_first r d t some e =
+    let l = subst (λ n. t <ℚ r +ℚ int (pos n) *ℚ d +ℚ d) e (periods_high r d t some) in
+    with3 r d t (λ c. omega (arith, c.le, c.lt, c.same))
+
+pub record IsLater (r d t : ℚ) (n : ℕ) : Type 0 where
+  pub past : r +ℚ d ≤ℚ t
+  pub fewer : periods r d (t -ℚ d) ≡ n
+
+pub later_period : (r d t : ℚ) (n : ℕ) → int (pos 0) <ℚ d → periods r d t ≡ suc n → IsLater r d t n
+later_period r d t n some e = record {
+  past = past;
+  fewer = let more = ap (periods r d) (sym same) ∙ periods_next r d (t -ℚ d) some from in omega (arith, more, e);
+}
+  where
+    past : r +ℚ d ≤ℚ t
+    past = elim (le_or_lt (r +ℚ d) t) [
+      | inl h ↦ h
+      | inr l ↦ absurd (let none = periods_small r d t some l in omega (arith, none, e))
+    ]
+
+    from : r ≤ℚ t -ℚ d
+    from = let h = past in with3 r d t (λ c. omega (arith, c.le, c.lt, c.same))
+
+    same : (t -ℚ d) +ℚ d ≡ t
+    same = with2 t d (λ c. omega (arith, c.le, c.lt, c.same))
 
 pub repeated_rule : (f : ℚ → Ext) (r d c : ℚ) → int (pos 0) <ℚ d → Repeats (repeated f r d c) r d c
 repeated_rule f r d c h = record { rule = λ t k. repeated_next f r d c t h k }
@@ -72,27 +105,16 @@ pub tail_lemma : (Rel : ℚ → Ext → Type 0) (f : ℚ → Ext) (r d c : ℚ) 
 tail_lemma Rel f r d c start h first next t some = go (periods r d t) t some refl
   where
     go : (n : ℕ) (t : ℚ) → int (pos 0) ≤ℚ t → periods r d t ≡ n → Rel t (repeated f r d c t)
-    go zero t some e =
-        let l = subst (λ n. t <ℚ r +ℚ int (pos n) *ℚ d +ℚ d) e (periods_high r d t h) in
-        let in_first : t <ℚ r +ℚ d = with3 r d t (λ c. omega (arith, c.le, c.lt, c.same)) in
-        subst (λ v. Rel t v) (sym (repeated_first f r d c t h in_first)) (first t some in_first)
-    go (suc n) t some e = elim (le_or_lt (r +ℚ d) t) [
-      | inl l ↦
-          let u = t -ℚ d in
-          let past : r ≤ℚ u = with3 r d t (λ c. omega (arith, c.le, c.lt, c.same)) in
-          let some_u : int (pos 0) ≤ℚ u = with3 r d t (λ c. omega (arith, c.le, c.lt, c.same)) in
-          let same : u +ℚ d ≡ t = with2 d t (λ c. omega (arith, c.le, c.lt, c.same)) in
-          let fewer : periods r d u ≡ n = less (periods r d u) (periods r d t) n (ap (periods r d) (sym same) ∙ periods_next r d u h past) e in
-          subst (λ t. Rel t (repeated f r d c t)) same
-          (subst (λ v. Rel (u +ℚ d) v) (sym (repeated_next f r d c u h past)) (next u (repeated f r d c u) past (go n u some_u fewer)))
-      | inr l ↦ absurd (differ n (sym e ∙ periods_small r d t h l))
-    ]
-      where
-        less : (k m n : ℕ) → m ≡ suc k → m ≡ suc n → k ≡ n
-        less k m n p q = omega arith
-
-        differ : (n : ℕ) → suc n ≡ 0 → ⊥
-        differ n p = omega arith
+    go zero t some e = let l = in_first r d t h e in subst (λ v. Rel t v) (sym (repeated_first f r d c t h l)) (first t some l)
+    go (suc n) t some e =
+        let L = later_period r d t n h e in
+        let far = L.past in
+        let u = t -ℚ d in
+        let past : r ≤ℚ u = with3 r d t (λ c. omega (arith, c.le, c.lt, c.same)) in
+        let some_u : int (pos 0) ≤ℚ u = with3 r d t (λ c. omega (arith, c.le, c.lt, c.same)) in
+        let same : u +ℚ d ≡ t = with2 d t (λ c. omega (arith, c.le, c.lt, c.same)) in
+        subst (λ t. Rel t (repeated f r d c t)) same
+        (subst (λ v. Rel (u +ℚ d) v) (sym (repeated_next f r d c u h past)) (next u (repeated f r d c u) past (go n u some_u L.fewer)))
 
 -- the same where f is cut at the rank
 pub tail_lemma_infinite : (Rel : ℚ → Ext → Type 0) (f : ℚ → Ext) (r : ℚ)

@@ -8,7 +8,6 @@ use Rattle.min_plus.specs.rational.specs.declared.Extended.TheVariants.{Fin}
 use Rattle.min_plus.specs.rational.proofs.Linear.{with2, with3}
 use Rattle.min_plus.specs.rational.proofs.Laws.{antisym, le_refl, le_or_lt, le_of_lt, le_trans, mul_le_mul}
 use Rattle.min_plus.specs.rational.proofs.ExtendedOrder.{le_ext_trans, same_le_ext, add_le_ext}
-use Rattle.min_plus.specs.rational.proofs.Whole.{periods_small, periods_high, periods_next}
 use Rattle.upp_curve.specs.declared.affine_segment.line.Line.{Line}
 use Rattle.upp_curve.specs.declared.affine_segment.line.Piece.{Piece}
 use Rattle.upp_curve.specs.affine_segment.Values.{line_value}
@@ -20,7 +19,7 @@ use Rattle.upp_curve.specs.affine_segment.Pieces.{Each, RisesFrom}
 use Rattle.upp_curve.specs.Shapes.{LineRises, PiecesRise}
 use Rattle.upp_curve.proofs.affine_segment.PieceIn.{piece_in_end, piece_in_go, piece_in_stop, value_past, value_at_start}
 use Rattle.upp_curve.proofs.FirstStretch.{read_in, at_start}
-use Rattle.upp_curve.proofs.Repeats.{repeated_first, repeated_next}
+use Rattle.upp_curve.proofs.Repeats.{repeated_first, repeated_next, in_first, later_period}
 
 -- ---- one piece
 pub line_up : (l : Option Line) (s t : ℚ) → LineRises l → s ≤ℚ t → line_value l s ≤ₑ line_value l t
@@ -121,30 +120,17 @@ repeated_rises f r d c start some first top s t low up = go (periods r d t) s t 
         ap F (with2 t d (λ c. omega (arith, c.le, c.lt, c.same))) ∙ repeated_next f r d c u some (with3 r d t (λ c. omega (arith, c.le, c.lt, c.same)))
 
     go : (n : ℕ) (s t : ℚ) → int (pos 0) ≤ℚ s → s ≤ℚ t → periods r d t ≡ n → F s ≤ₑ F t
-    go zero s t low up e =
-        let l = subst (λ n. t <ℚ r +ℚ int (pos n) *ℚ d +ℚ d) e (periods_high r d t some) in
-        early s t low up (with3 r d t (λ c. omega (arith, c.le, c.lt, c.same)))
-    go (suc n) s t low up e = elim (le_or_lt (r +ℚ d) t) [
-      | inr l ↦ absurd (differ n (sym e ∙ periods_small r d t some l))
-      | inl h ↦
-          let u = t -ℚ d in
-          let past : r ≤ℚ u = with3 r d t (λ c. omega (arith, c.le, c.lt, c.same)) in
-          let same : u +ℚ d ≡ t = with2 d t (λ c. omega (arith, c.le, c.lt, c.same)) in
-          let fewer : periods r d u ≡ n = less (periods r d u) (periods r d t) n (ap (periods r d) (sym same) ∙ periods_next r d u some past) e in
-          elim (le_or_lt (r +ℚ d) s) [
-            | inl k ↦
-                let v = s -ℚ d in
-                rw (back s k, back t h)
-                (raise (F v) (F u) (go n v u (with3 r d s (λ c. omega (arith, c.le, c.lt, c.same))) (with3 s t d (λ c. omega (arith, c.le, c.lt, c.same))) fewer))
-            | inr k ↦
-                let a = repeated_first f r d c s some k in
-                rw (a, back t h) (le_ext_trans (f s) (f r +ₑ Fin c) (F u +ₑ Fin c) (top s low k)
-                (raise (f r) (F u) (subst (λ v. v ≤ₑ F u) at_rank (go n r u start past fewer))))
-          ]
-    ]
-      where
-        less : (k m n : ℕ) → m ≡ suc k → m ≡ suc n → k ≡ n
-        less k m n p q = omega arith
-
-        differ : (n : ℕ) → suc n ≡ 0 → ⊥
-        differ n p = omega arith
+    go zero s t low up e = early s t low up (in_first r d t some e)
+    go (suc n) s t low up e =
+        let L = later_period r d t n some e in let u = t -ℚ d in
+        elim (le_or_lt (r +ℚ d) s) [
+          | inl k ↦
+              let h = L.past in
+              rw (back s k, back t h)
+              (raise (F (s -ℚ d)) (F u) (go n (s -ℚ d) u (with3 r d s (λ c. omega (arith, c.le, c.lt, c.same))) (with3 s t d (λ c. omega (arith, c.le, c.lt, c.same))) L.fewer))
+          | inr k ↦
+              let a = repeated_first f r d c s some k in
+              let past : r ≤ℚ u = let h = L.past in with3 r d t (λ c. omega (arith, c.le, c.lt, c.same)) in
+              rw (a, back t L.past) (le_ext_trans (f s) (f r +ₑ Fin c) (F u +ₑ Fin c) (top s low k)
+              (raise (f r) (F u) (subst (λ v. v ≤ₑ F u) at_rank (go n r u start past L.fewer))))
+        ]

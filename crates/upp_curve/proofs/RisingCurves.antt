@@ -4,7 +4,7 @@ use Rattle.std.proofs.Common.{arith, sym, ap, ◌∙◌, refl, subst, inl, inr}
 use Rattle.min_plus.specs.rational.specs.Rational.{ℚ, ◌+ℚ◌, ◌≤ℚ◌, ◌<ℚ◌, int}
 use Rattle.min_plus.specs.rational.specs.Extended.{Ext, ◌+ₑ◌}
 use Rattle.min_plus.specs.rational.specs.declared.Extended.TheVariants.{Fin}
-use Rattle.min_plus.specs.rational.proofs.Linear.{with1, with2}
+use Rattle.min_plus.specs.rational.proofs.Linear.{with1}
 use Rattle.min_plus.specs.rational.proofs.Laws.{le_refl, le_of_lt, le_trans, le_lt_trans}
 use Rattle.upp_curve.specs.declared.affine_segment.line.Piece.{Piece}
 use Rattle.upp_curve.specs.declared.curve.Tail.{Tail}
@@ -18,7 +18,7 @@ use Rattle.upp_curve.specs.Normal.{IsNormal, FitsPeriod}
 use Rattle.upp_curve.specs.Shapes.{IsNumber, IsFinitePiece, PiecesRise}
 use Rattle.upp_curve.proofs.affine_segment.PieceIn.{piece_in_end, piece_in_go, piece_in_stop, value_at_start}
 use Rattle.upp_curve.proofs.FirstStretch.{read_in}
-use Rattle.upp_curve.proofs.Repeats.{repeated_first, repeated_next}
+use Rattle.upp_curve.proofs.Repeats.{repeated_first, repeated_end}
 use Rattle.upp_curve.proofs.OneForm.{infinite_value, infinite_past}
 use Rattle.min_plus.proofs.FiniteValues.{no_inf}
 use Rattle.upp_curve.proofs.Rising.{list_rises, list_ends, repeated_rises}
@@ -107,9 +107,7 @@ periodic_pieces (p ∷ ps) r d c h fits rise =
     first t l = repeated_first (read (p ∷ ps)) r d c t fits.some l
 
     end : repeated (read (p ∷ ps)) r d c (r +ℚ d) ≡ read (p ∷ ps) r +ₑ Fin c
-    end =
-        let some = fits.some in
-        repeated_next (read (p ∷ ps)) r d c r fits.some (le_refl r) ∙ ap (λ v. v +ₑ Fin c) (first r (with2 r d (λ c. omega (arith, c.le, c.lt, c.same))))
+    end = repeated_end (read (p ∷ ps)) r d c fits.some
 
 periodic_finite : (ps : List Piece) (r d c : ℚ) → StartsAtZero ps → Each IsFinitePiece ps → IsFinite (repeated (read ps) r d c)
 periodic_finite [] r d c h each t low = absurd h

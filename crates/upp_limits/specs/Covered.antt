@@ -46,6 +46,12 @@ pub record IsCoveredBy (z : Sizes) (n : CallNumbers) : Type 0 where
   pub times : n.times ≡ z.dt
   pub values : n.values ≡ grid_of z
 
+-- the grids among numbers whose gauge is below the limit
+pub record AreGridsBelow (n : CallNumbers) (g : CallGrids) : Type 0 where
+  pub gauge : n.gauge < 2 ^ 120
+  pub times : g.times ≡ n.times
+  pub values : g.values ≡ n.values
+
 -- the grids of a call whose gauge is below the limit
 pub record AreNarrowGrids (op : OpKind) (f g : SpecCurve) (end : ℚ) (n : CallGrids) : Type 0 where
   pub gauge : gauge_over op f g end < 2 ^ 120

@@ -1,5 +1,5 @@
 -- A curve's pieces with their ends, and the copies of them that start below a time. Own choice.
-use Rattle.std.specs.Prelude.{ℕ, zero, suc, pos, cond, List, [], ◌∷◌, Option, Some, None}
+use Rattle.std.specs.Prelude.{◌≡◌, ℕ, zero, suc, pos, cond, List, [], ◌∷◌, Option, Some, None}
 use Rattle.std.specs.List.{flat_map}
 use Rattle.min_plus.specs.rational.specs.Rational.{ℚ, ◌+ℚ◌, ◌*ℚ◌, int, lt_q}
 use Rattle.upp_curve.specs.declared.affine_segment.line.Line.{Line}
@@ -8,7 +8,7 @@ use Rattle.upp_curve.specs.declared.curve.Tail.{Tail}
 use Rattle.upp_curve.specs.declared.curve.Tail.TheVariants.{Periodic, Affine, Infinite}
 use Rattle.upp_curve.specs.Curve.{SpecCurve}
 use Rattle.upp_curve.specs.Unrolled.{later, copies_below}
-use Rattle.upp_curve.specs.affine_segment.Pieces.{start_after}
+use Rattle.upp_curve.specs.affine_segment.Pieces.{StartsAtZero, start_after}
 
 -- a piece, and where the next one starts: nowhere after a last piece that goes on for ever
 pub record Span : Type 0 where
@@ -21,6 +21,11 @@ abbrev pub end_of : Tail → Option ℚ
 end_of (Periodic rank period rise) = Some (rank +ℚ period)
 end_of (Affine rank) = None
 end_of (Infinite rank) = Some rank
+
+-- pieces that are read with a tail, one after another; `next` is where the next one starts after the last
+pub record IsListed (pieces : List Piece) (tail : Tail) (next : Option ℚ) : Type 0 where
+  pub starts : StartsAtZero pieces
+  pub after : next ≡ end_of tail
 
 -- a line that starts at the rank of an infinite tail is read at no time, and left out
 abbrev pub line_read : Tail → Piece → Option Line

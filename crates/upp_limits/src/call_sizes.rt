@@ -1,17 +1,17 @@
 //! The numbers that limit a call over a known end of its window.
 
-ghost use Rattle.std.specs.Prelude.{◌^◌, ◌≤◌, IfSome, MatchOption};
+ghost use Rattle.std.specs.Prelude.{◌≡◌, ◌^◌, ◌≤◌, IfSome, MatchOption};
 ghost use Rattle.upp_limits.specs.Limits.{Numbers, joined, sizes_of};
 ghost use Rattle.upp_limits.specs.Gathered.{Gathers};
 ghost use Rattle.upp_limits.specs.Gauges.{gauge_over, kind_numbers, numbers_over};
 ghost use Rattle.upp_limits.specs.CallNumbers.{AreCallNumbers};
-ghost use Rattle.upp_limits.specs.Covered.{IsCoveredBy, AreNarrowGrids};
+ghost use Rattle.upp_limits.specs.Covered.{IsCoveredBy, AreGridsBelow, AreNarrowGrids};
 
 use crate::first_copies::{most_rises, numbers_above, with_first_operands};
 use crate::gathered::Gathered;
 use crate::op_kind::OpKind;
 use crate::operand_numbers::with_operands;
-use crate::own_window::numbers_of;
+use crate::own_window::{OwnNumbers, numbers_of};
 use min_plus::rational::Extended;
 use upp_curve::Curve;
 use upp_curve::fraction128::Frac;
@@ -36,6 +36,34 @@ pub struct CallGrids {
     pub values: u128,
 }
 
+/// The numbers over a known end without the end.
+fn without_end(numbers: &OwnNumbers) -> CallNumbers
+    ensures { result ≡ record {
+      gauge = numbers.now.gauge;
+      times = numbers.now.times;
+      values = numbers.now.values;
+    } }
+{
+    CallNumbers {
+        gauge: numbers.gauge,
+        times: numbers.times,
+        values: numbers.values,
+    }
+}
+
+/// The grids, where the gauge is below 2^120.
+fn grids_below(numbers: &CallNumbers) -> Option<CallGrids>
+    ensures { MatchOption result (2 ^ 120 ≤ numbers.now.gauge) (AreGridsBelow numbers.now) }
+{
+    if numbers.gauge >= 1 << 120 {
+        return None;
+    }
+    Some(CallGrids {
+        times: numbers.times,
+        values: numbers.values,
+    })
+}
+
 /// The numbers that belong to the kind itself more.
 fn with_kind(found: Gathered, op: &OpKind) -> Gathered
     ensures { (n : Numbers) → Gathers found n → Gathers result (joined n (kind_numbers op.now)) }
@@ -57,11 +85,7 @@ pub fn call_numbers(op: &OpKind, f: &Curve, g: &Curve, end: Frac) -> Option<Call
     let own = with_kind(Gathered::nothing().with_time(end), op);
     match with_operands(own, op.operands(), f, g, end) {
         Some(found) => match numbers_of(found, end) {
-            Some(numbers) => Some(CallNumbers {
-                gauge: numbers.gauge,
-                times: numbers.times,
-                values: numbers.values,
-            }),
+            Some(numbers) => Some(without_end(&numbers)),
             None => None,
         },
         None => None,
@@ -79,11 +103,7 @@ fn covered_numbers(op: &OpKind, f: &Curve, g: &Curve, end: Frac) -> Option<CallN
     match with_first_operands(own, op.operands(), f, g, end) {
         Some(found) => match most_rises(op.operands(), f, g, end) {
             Some(rise) => match numbers_above(found, rise, end) {
-                Some(numbers) => Some(CallNumbers {
-                    gauge: numbers.gauge,
-                    times: numbers.times,
-                    values: numbers.values,
-                }),
+                Some(numbers) => Some(without_end(&numbers)),
                 None => None,
             },
             None => None,
@@ -97,15 +117,7 @@ fn covered_grids(op: &OpKind, f: &Curve, g: &Curve, end: Frac) -> Option<CallGri
     ensures { IfSome result (AreNarrowGrids op.now f.now g.now end) }
 {
     match covered_numbers(op, f, g, end) {
-        Some(numbers) => {
-            if numbers.gauge >= 1 << 120 {
-                return None;
-            }
-            Some(CallGrids {
-                times: numbers.times,
-                values: numbers.values,
-            })
-        }
+        Some(numbers) => grids_below(&numbers),
         None => None,
     }
 }
@@ -116,15 +128,7 @@ fn exact_grids(op: &OpKind, f: &Curve, g: &Curve, end: Frac) -> Option<CallGrids
         (AreNarrowGrids op.now f.now g.now end) }
 {
     match call_numbers(op, f, g, end) {
-        Some(exact) => {
-            if exact.gauge >= 1 << 120 {
-                return None;
-            }
-            Some(CallGrids {
-                times: exact.times,
-                values: exact.values,
-            })
-        }
+        Some(exact) => grids_below(&exact),
         None => None,
     }
 }

@@ -1,10 +1,10 @@
 //! The sizes of the numbers of a curve in a window, without unrolling it.
 
-ghost use Rattle.std.specs.Prelude.{ℕ, ◌≡◌, ◌<◌, ◌+◌, ◌^◌, pos, IfSome, IsSome, length, drop};
+ghost use Rattle.std.specs.Prelude.{ℕ, ◌≡◌, ◌<◌, ◌+◌, ◌^◌, pos, IfSome, IsSome, length, drop, ◌∷◌};
 ghost use Rattle.std.specs.List.{AllByRecursion};
 ghost use Rattle.min_plus.specs.rational.specs.Rational.{ℚ, int, ◌*ℚ◌, ◌≤ℚ◌, ◌<ℚ◌};
-ghost use Rattle.upp_curve.specs.affine_segment.Pieces.{StartsAtZero, start_after};
-ghost use Rattle.upp_limits.specs.Spans.{Span, end_of, piece_read, spans};
+ghost use Rattle.upp_curve.specs.affine_segment.Pieces.{start_after};
+ghost use Rattle.upp_limits.specs.Spans.{IsListed, Span, piece_read, spans};
 ghost use Rattle.upp_limits.specs.Limits.{Numbers, joined};
 ghost use Rattle.upp_limits.specs.Gathered.{Gathers};
 ghost use Rattle.upp_limits.specs.Seen.{seen_of, SpanFits, SeenRises, CopiesFit, Knows};
@@ -17,6 +17,17 @@ use crate::start_counts::count_before;
 use upp_curve::Tail;
 use upp_curve::affine_segment::Piece;
 use upp_curve::fraction128::{Frac, is_less};
+
+/// The pieces of a curve, of any form, that are read one after another.
+#[derive(Debug, Clone, Copy)]
+pub struct Listing<'a> {
+    /// The pieces.
+    pub pieces: &'a [Piece],
+    /// What follows them.
+    pub tail: &'a Tail,
+    /// Where the next piece starts after the last.
+    pub after: Option<Frac>,
+}
 
 /// A whole number as a fraction.
 pub fn whole(n: u128) -> Option<Frac>
@@ -146,27 +157,31 @@ pub fn next_start(pieces: &[Piece], i: usize, after: &Option<Frac>) -> Option<Fr
     }
 }
 
+/// Piece number i as it is read, and where the next one starts.
+pub(crate) fn span_at(of: &Listing, i: usize) -> (Piece, Option<Frac>)
+    requires listed { IsListed of.now.pieces.now of.now.tail.now of.now.after }
+    requires inside { i < length of.now.pieces.now }
+    ensures start { int (pos 0) ≤ℚ result.0.x }
+    ensures span { let span : Span = record { piece = result.0; next = result.1 } in
+        let tail = of.now.tail.now in
+        spans tail (drop i of.now.pieces.now) ≡ span ∷ spans tail (drop (i + 1) of.now.pieces.now) }
+{
+    let piece = piece_read(&of.pieces[i], of.tail);
+    let next = next_start(of.pieces, i, &of.after);
+    (piece, next)
+}
+
 /// The pieces of a curve more, as far as they and those of their copies that `counted` makes start before `end`.
-/// `after` is where the next piece starts after the last.
-pub(crate) fn with_pieces(
-    g: Gathered,
-    pieces: &[Piece],
-    tail: &Tail,
-    counted: &Tail,
-    after: &Option<Frac>,
-    end: Frac,
-) -> Option<Gathered>
-    requires starts { StartsAtZero pieces.now }
+pub(crate) fn with_pieces(g: Gathered, of: &Listing, counted: &Tail, end: Frac) -> Option<Gathered>
+    requires listed { IsListed of.now.pieces.now of.now.tail.now of.now.after }
     requires period { HasPeriod counted.now }
-    requires after { after.now ≡ end_of tail.now }
     ensures value { IfSome result (λ r. (n : Numbers) → Gathers g n
-        → Gathers r (joined n (closed_spans counted.now end (spans tail.now pieces.now)))) }
-    ensures fits { AllByRecursion (Knows counted.now end) (spans tail.now pieces.now) → IsSome result }
+        → Gathers r (joined n (closed_spans counted.now end (spans of.now.tail.now of.now.pieces.now)))) }
+    ensures fits { AllByRecursion (Knows counted.now end) (spans of.now.tail.now of.now.pieces.now) → IsSome result }
 {
     let mut found = g;
-    for i in 0..pieces.len() {
-        let next = next_start(pieces, i, after);
-        let piece = piece_read(&pieces[i], tail);
+    for i in 0..of.pieces.len() {
+        let (piece, next) = span_at(of, i);
         match with_below(found, &piece, &next, counted, end) {
             Some(more) => found = more,
             None => return None,
@@ -189,39 +204,24 @@ pub(crate) fn with_tail(g: Gathered, tail: &Tail) -> Gathered
     }
 }
 
-/// A curve more without its copies: of each of its pieces that start before `end` itself alone. `after` is where the
-/// next piece starts after the last.
-pub(crate) fn with_first_copies(
-    g: Gathered,
-    pieces: &[Piece],
-    tail: &Tail,
-    after: &Option<Frac>,
-    end: Frac,
-) -> Option<Gathered>
-    requires starts { StartsAtZero pieces.now }
-    requires after { after.now ≡ end_of tail.now }
-    ensures { let c : SpecCurve = record { pieces = pieces.now; tail = tail.now } in
+/// A curve more without its copies: of each of its pieces that start before `end` itself alone.
+pub(crate) fn with_first_copies(g: Gathered, of: &Listing, end: Frac) -> Option<Gathered>
+    requires { IsListed of.now.pieces.now of.now.tail.now of.now.after }
+    ensures { let c : SpecCurve = record { pieces = of.now.pieces.now; tail = of.now.tail.now } in
         IfSome result (λ r. (n : Numbers) → Gathers g n → Gathers r (joined n (first_numbers end c))) }
 {
     let counted = Tail::Affine { rank: Frac::zero() };
-    with_pieces(with_tail(g, tail), pieces, tail, &counted, after, end)
+    with_pieces(with_tail(g, of.tail), of, &counted, end)
 }
 
-/// A curve more, as far as its pieces and their copies start before `end`. `after` is where the next piece starts after
-/// the last.
-pub(crate) fn with_curve(
-    g: Gathered,
-    pieces: &[Piece],
-    tail: &Tail,
-    after: &Option<Frac>,
-    end: Frac,
-) -> Option<Gathered>
-    requires starts { StartsAtZero pieces.now }
-    requires period { HasPeriod tail.now }
-    requires after { after.now ≡ end_of tail.now }
-    ensures value { let c : SpecCurve = record { pieces = pieces.now; tail = tail.now } in
+/// A curve more, as far as its pieces and their copies start before `end`.
+pub(crate) fn with_curve(g: Gathered, of: &Listing, end: Frac) -> Option<Gathered>
+    requires listed { IsListed of.now.pieces.now of.now.tail.now of.now.after }
+    requires period { HasPeriod of.now.tail.now }
+    ensures value { let c : SpecCurve = record { pieces = of.now.pieces.now; tail = of.now.tail.now } in
         IfSome result (λ r. (n : Numbers) → Gathers g n → Gathers r (joined n (closed_numbers end c))) }
-    ensures fits { AllByRecursion (Knows tail.now end) (spans tail.now pieces.now) → IsSome result }
+    ensures fits { let tail = of.now.tail.now in
+        AllByRecursion (Knows tail end) (spans tail of.now.pieces.now) → IsSome result }
 {
-    with_pieces(with_tail(g, tail), pieces, tail, tail, after, end)
+    with_pieces(with_tail(g, of.tail), of, of.tail, end)
 }

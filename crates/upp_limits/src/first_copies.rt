@@ -12,7 +12,7 @@ ghost use Rattle.upp_limits.specs.Covered.{IsMostRise, AreMostRises, first_opera
 use crate::curve_numbers::{whole, with_first_copies};
 use crate::gathered::Gathered;
 use crate::op_kind::Operands;
-use crate::operand_numbers::after_last;
+use crate::operand_numbers::listing_of;
 use crate::own_window::{OwnNumbers, numbers_of};
 use crate::start_counts::count_before;
 use upp_curve::fraction128::{Frac, is_less};
@@ -22,7 +22,7 @@ use upp_curve::{Curve, Tail};
 fn with_first(g: Gathered, c: &Curve, end: Frac) -> Option<Gathered>
     ensures { IfSome result (λ r. (n : Numbers) → Gathers g n → Gathers r (joined n (first_numbers end c.now))) }
 {
-    with_first_copies(g, c.pieces(), c.tail(), &after_last(c), end)
+    with_first_copies(g, &listing_of(c), end)
 }
 
 /// The numbers of the first copies of a call's operands more. None also for a scaled operand.

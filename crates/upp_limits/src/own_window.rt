@@ -9,15 +9,14 @@ ghost use Rattle.upp_curve.specs.Curve.{SpecCurve};
 ghost use Rattle.upp_curve.specs.Steady.{same_ext, later_unless};
 ghost use Rattle.upp_limits.specs.OwnWindow.{LastBy, end_from, EndFits, EndsAt, AreNumbers};
 ghost use Rattle.upp_limits.specs.Periods.{HasPeriod};
-ghost use Rattle.upp_limits.specs.Spans.{end_of};
+ghost use Rattle.upp_limits.specs.Spans.{IsListed, end_of};
 ghost use Rattle.min_plus.specs.rational.specs.Ratio.{SumFits};
 ghost use Rattle.upp_curve.specs.Normal.{IsRaw};
-ghost use Rattle.upp_curve.specs.affine_segment.Pieces.{StartsAtZero};
 ghost use Rattle.upp_limits.specs.Gathered.{Gathers};
 ghost use Rattle.upp_limits.specs.Limits.{Numbers, joined, time_alone, own_end, own_gauge, own_sizes, gauge_of, sizes_of, curve_numbers};
 ghost use Rattle.upp_limits.specs.Seen.{RankLineFits};
 
-use crate::curve_numbers::with_curve;
+use crate::curve_numbers::{Listing, with_curve};
 use crate::gathered::Gathered;
 use crate::gauges::gauge_of;
 use crate::seen::line_value;
@@ -122,22 +121,15 @@ pub(crate) fn numbers_of(g: Gathered, end: Frac) -> Option<OwnNumbers>
     }
 }
 
-// The numbers of a curve with a window, in whatever form it is given; None where the gauge is 2^128 or more. `after` is
-// where the next piece starts after the last.
-fn numbers_with(
-    pieces: &[Piece],
-    tail: &Tail,
-    after: &Option<Frac>,
-    end: Frac,
-) -> Option<OwnNumbers>
-    requires starts { StartsAtZero pieces.now }
-    requires period { HasPeriod tail.now }
-    requires after { after.now ≡ end_of tail.now }
-    ensures { let c : SpecCurve = record { pieces = pieces.now; tail = tail.now } in
+// The numbers of a curve with a window; None where the gauge is 2^128 or more.
+fn numbers_with(of: &Listing, end: Frac) -> Option<OwnNumbers>
+    requires listed { IsListed of.now.pieces.now of.now.tail.now of.now.after }
+    requires period { HasPeriod of.now.tail.now }
+    ensures { let c : SpecCurve = record { pieces = of.now.pieces.now; tail = of.now.tail.now } in
         let exact = sizes_of end (curve_numbers end c) in
         MatchOption result (2 ^ 128 ≤ gauge_of exact) (AreNumbers end exact) }
 {
-    match with_curve(Gathered::nothing().with_time(end), pieces, tail, after, end) {
+    match with_curve(Gathered::nothing().with_time(end), of, end) {
         Some(found) => numbers_of(found, end),
         None => None,
     }
@@ -162,7 +154,17 @@ pub(crate) fn own_numbers(pieces: &[Piece], tail: &Tail) -> Option<OwnNumbers>
         MatchOption result (2 ^ 128 ≤ own_gauge c) (AreNumbers (own_end c) (own_sizes c)) }
 {
     match own_end(&pieces[pieces.len() - 1], tail) {
-        Some(end) => numbers_with(pieces, tail, &after_last(tail, end), end),
+        Some(end) => {
+            let after = after_last(tail, end);
+            numbers_with(
+                &Listing {
+                    pieces,
+                    tail,
+                    after,
+                },
+                end,
+            )
+        }
         None => None,
     }
 }

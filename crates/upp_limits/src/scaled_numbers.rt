@@ -6,9 +6,8 @@ ghost use Rattle.min_plus.specs.rational.specs.Rational.{ℚ, int, ◌≤ℚ◌,
 ghost use Rattle.min_plus.specs.rational.specs.Ratio.{IsSmall};
 ghost use Rattle.min_plus.specs.Pointwise.{scaled};
 ghost use Rattle.upp_curve.specs.Curve.{SpecCurve};
-ghost use Rattle.upp_curve.specs.affine_segment.Pieces.{StartsAtZero};
 ghost use Rattle.upp_limits.specs.Periods.{HasPeriod};
-ghost use Rattle.upp_limits.specs.Spans.{Span, end_of, spans};
+ghost use Rattle.upp_limits.specs.Spans.{IsListed, Span, spans};
 ghost use Rattle.upp_limits.specs.Limits.{Numbers, joined};
 ghost use Rattle.upp_limits.specs.Gathered.{Gathers};
 ghost use Rattle.upp_limits.specs.Seen.{Knows};
@@ -16,7 +15,7 @@ ghost use Rattle.upp_limits.specs.ClosedForm.{closed_span, closed_spans, closed_
 ghost use Rattle.upp_limits.specs.Gauges.{scaled_line, scaled_piece, scaled_tail, scaled_curve};
 ghost use Rattle.upp_limits.specs.ClosedOperands.{ValueScales, LineScales, PieceScales, TailScales, scaled_span, KnowsTimes, KnowsScaled};
 
-use crate::curve_numbers::{next_start, piece_read, with_below, with_tail};
+use crate::curve_numbers::{Listing, span_at, with_below, with_tail};
 use crate::gathered::Gathered;
 use min_plus::rational::Extended;
 use upp_curve::Tail;
@@ -121,26 +120,18 @@ fn with_scaled_below(
 }
 
 /// The pieces of a curve times a factor more, as far as they and their copies start before `end`; the tail is scaled.
-fn with_scaled_pieces(
-    g: Gathered,
-    factor: Frac,
-    pieces: &[Piece],
-    tail: &Tail,
-    after: &Option<Frac>,
-    end: Frac,
-) -> Option<Gathered>
-    requires starts { StartsAtZero pieces.now }
-    requires period { HasPeriod tail.now }
-    requires after { after.now ≡ end_of tail.now }
-    ensures value { IfSome result (λ r. (n : Numbers) → Gathers g n
-        → Gathers r (joined n (closed_spans tail.now end (map (scaled_span factor) (spans tail.now pieces.now))))) }
-    ensures fits { AllByRecursion (KnowsTimes factor tail.now end) (spans tail.now pieces.now) → IsSome result }
+fn with_scaled_pieces(g: Gathered, factor: Frac, of: &Listing, end: Frac) -> Option<Gathered>
+    requires listed { IsListed of.now.pieces.now of.now.tail.now of.now.after }
+    requires period { HasPeriod of.now.tail.now }
+    ensures value { let tail = of.now.tail.now in IfSome result (λ r. (n : Numbers) → Gathers g n
+        → Gathers r (joined n (closed_spans tail end (map (scaled_span factor) (spans tail of.now.pieces.now))))) }
+    ensures fits { let tail = of.now.tail.now in
+        AllByRecursion (KnowsTimes factor tail end) (spans tail of.now.pieces.now) → IsSome result }
 {
     let mut found = g;
-    for i in 0..pieces.len() {
-        let next = next_start(pieces, i, after);
-        let piece = piece_read(&pieces[i], tail);
-        match with_scaled_below(found, factor, &piece, &next, tail, end) {
+    for i in 0..of.pieces.len() {
+        let (piece, next) = span_at(of, i);
+        match with_scaled_below(found, factor, &piece, &next, of.tail, end) {
             Some(more) => found = more,
             None => return None,
         }
@@ -148,27 +139,25 @@ fn with_scaled_pieces(
     Some(found)
 }
 
-/// A curve times a factor more, as far as its pieces and their copies start before `end`. `after` is where the next
-/// piece starts after the last.
-pub(crate) fn with_scaled(
-    g: Gathered,
-    factor: Frac,
-    pieces: &[Piece],
-    tail: &Tail,
-    after: &Option<Frac>,
-    end: Frac,
-) -> Option<Gathered>
-    requires starts { StartsAtZero pieces.now }
-    requires period { HasPeriod tail.now }
-    requires after { after.now ≡ end_of tail.now }
-    ensures value { let c : SpecCurve = record { pieces = pieces.now; tail = tail.now } in
+/// A curve times a factor more, as far as its pieces and their copies start before `end`.
+pub(crate) fn with_scaled(g: Gathered, factor: Frac, of: &Listing, end: Frac) -> Option<Gathered>
+    requires listed { IsListed of.now.pieces.now of.now.tail.now of.now.after }
+    requires period { HasPeriod of.now.tail.now }
+    ensures value { let c : SpecCurve = record { pieces = of.now.pieces.now; tail = of.now.tail.now } in
         IfSome result (λ r. (n : Numbers) → Gathers g n
         → Gathers r (joined n (closed_numbers end (scaled_curve factor c)))) }
-    ensures fits { let c : SpecCurve = record { pieces = pieces.now; tail = tail.now } in
+    ensures fits { let c : SpecCurve = record { pieces = of.now.pieces.now; tail = of.now.tail.now } in
         KnowsScaled factor end c → IsSome result }
 {
-    match scaled_tail(tail, factor) {
-        Some(times) => with_scaled_pieces(with_tail(g, &times), factor, pieces, &times, after, end),
+    match scaled_tail(of.tail, factor) {
+        Some(times) => {
+            let scaled = Listing {
+                pieces: of.pieces,
+                tail: &times,
+                after: of.after,
+            };
+            with_scaled_pieces(with_tail(g, &times), factor, &scaled, end)
+        }
         None => None,
     }
 }

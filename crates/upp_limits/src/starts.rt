@@ -41,6 +41,20 @@ pub(crate) fn sizes(x: Frac) -> (u128, u128)
     (x.numerator().unsigned_abs(), x.denominator())
 }
 
+/// x + n d and `end`, each times the same number.
+fn crossed(x: Frac, n: u128, d: Frac, end: Frac) -> (Long, Long)
+    requires start { int (pos 0) ≤ℚ x }
+    requires step { int (pos 0) ≤ℚ d }
+    requires late { int (pos 0) ≤ℚ end }
+    ensures before { (long_value result.0 < long_value result.1) ↔ (x +ℚ int (pos n) *ℚ d <ℚ end) }
+    ensures after { (long_value result.1 < long_value result.0) ↔ (end <ℚ x +ℚ int (pos n) *ℚ d) }
+{
+    let (u, v) = sizes(end);
+    let (a, b) = sizes(x);
+    let (p, q) = sizes(d);
+    (cross_sum(a, b, n, p, q, v), cross_end(u, b, q))
+}
+
 /// Whether x + n d is before `end`, for x and d of at least 0.
 pub fn is_before(x: Frac, n: u128, d: Frac, end: Frac) -> bool
     requires start { int (pos 0) ≤ℚ x }
@@ -50,10 +64,8 @@ pub fn is_before(x: Frac, n: u128, d: Frac, end: Frac) -> bool
     if is_less(end, Frac::zero()) {
         return false;
     }
-    let (u, v) = sizes(end);
-    let (a, b) = sizes(x);
-    let (p, q) = sizes(d);
-    cross_sum(a, b, n, p, q, v).is_less(cross_end(u, b, q))
+    let (there, last) = crossed(x, n, d, end);
+    there.is_less(last)
 }
 
 /// Whether x + n d is after `end`, for x and d of at least 0.
@@ -65,8 +77,6 @@ pub fn is_after(x: Frac, n: u128, d: Frac, end: Frac) -> bool
     if is_less(end, Frac::zero()) {
         return true;
     }
-    let (u, v) = sizes(end);
-    let (a, b) = sizes(x);
-    let (p, q) = sizes(d);
-    cross_end(u, b, q).is_less(cross_sum(a, b, n, p, q, v))
+    let (there, last) = crossed(x, n, d, end);
+    last.is_less(there)
 }

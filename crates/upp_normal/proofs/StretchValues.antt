@@ -287,10 +287,10 @@ pub record PlainHere (z : Sizes) (c : SpecCurve) (t : ℚ) : Type 0 where
   pub line : OperandLineAt z (line_in c.pieces t)
   pub at : GridValue z (read c.pieces t)
 
-plain_of : (z : Sizes) (end : ℚ) (t : ℚ) (p : Piece) (ps : List Piece) (next : Option ℚ) → AreLimited z end → IsTimeIn z end t → StartsAtZero (p ∷ ps)
+pub read_here : (z : Sizes) (end : ℚ) (t : ℚ) (p : Piece) (ps : List Piece) (next : Option ℚ) → AreLimited z end → IsTimeIn z end t → StartsAtZero (p ∷ ps)
     → SpanStands z record { piece = piece_in p ps t; next = next } → ReadFits (p ∷ ps) t × OperandLineAt z (line_in (p ∷ ps) t) × GridValue z (read (p ∷ ps) t)
 unfolding read piece_value
-plain_of z end t p ps next A time starts stands =
+read_here z end t p ps next A time starts stands =
     let q = piece_in p ps t in
     let first : p.x ≤ℚ t = subst (λ x. x ≤ℚ t) (sym starts.0) time.nonneg in
     let early : q.x ≤ℚ t = found_early p ps t first in
@@ -309,7 +309,7 @@ pub plain_here : (z : Sizes) (end : ℚ) (c : SpecCurve) (t : ℚ) → IsCurve c
 plain_here z end c t curve window time plain =
     with_pieces {G = PlainHere z c t} c.pieces curve.normal.raw.starts (λ p ps f.
     let (next, stands) = piece_stands z end c t p ps curve window time plain f in
-    let found = plain_of z end t p ps next window.limited time (subst StartsAtZero f curve.normal.raw.starts) stands in
+    let found = read_here z end t p ps next window.limited time (subst StartsAtZero f curve.normal.raw.starts) stands in
     record {
       fits = subst (λ qs. ReadFits qs t) (sym f) found.0;
       line = subst (λ qs. OperandLineAt z (line_in qs t)) (sym f) found.1;

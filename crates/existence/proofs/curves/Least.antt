@@ -8,11 +8,11 @@ use Rattle.upp_limits.specs.upp_curve.specs.Steady.{rate, rise_over}
 use Rattle.upp_limits.specs.Limits.{Sizes}
 use Rattle.upp_limits.specs.Windows.{IsLeast}
 use Rattle.plain_operators.specs.curve_call.proofs.TailMoves.{rates_compared, not_same}
-use Rattle.plain_operators.specs.curve_call.specs.Compared.{AreCompared}
+use Rattle.plain_operators.specs.curve_call.specs.Compared.{AreCompared, IsEnough}
 use Rattle.plain_operators.specs.curve_call.specs.declared.gaps.Gap.{Gap}
 use Rattle.plain_operators.specs.curve_call.specs.declared.gaps.Gap.TheVariants.{NoTime, Never, Is}
 use Rattle.plain_operators.specs.curve_call.specs.Gaps.{InWindow, IsGap, IsLargest}
-use Rattle.plain_operators.specs.curve_call.proofs.EitherOrder.{IsEnough, other_way, of_first, of_second, of_equal}
+use Rattle.plain_operators.specs.curve_call.proofs.EitherOrder.{other_way, of_first, of_second, of_equal}
 use Rattle.plain_operators.specs.curve_call.proofs.LeastNumber.{IsBelowAfter, compared_window, largest_finite, lead_is, least_none, least_endless, least_gap}
 use Rattle.plain_operators.specs.curve_call.proofs.BoundedNumber.{least_found}
 use Rattle.plain_operators.specs.curve_call.proofs.GapThere.{gap_there}

@@ -18,7 +18,7 @@ use Rattle.plain_operators.specs.curve_call.specs.Answers.{IsMadeBy}
 use Rattle.plain_operators.specs.curve_call.specs.FirstWindows.{IsFirstWindow}
 use Rattle.plain_operators.specs.curve_call.specs.Frames.{IsFrame}
 use Rattle.plain_operators.specs.curve_call.specs.Levels.{level_curve}
-use Rattle.plain_operators.specs.curve_call.proofs.EitherOrder.{IsEnough}
+use Rattle.plain_operators.specs.curve_call.specs.Compared.{IsEnough}
 use Rattle.existence.specs.curves.Answered.{HasAnswer}
 use Rattle.existence.proofs.curves.Answered.{at_least, too_wide}
 use Rattle.existence.proofs.curves.Least.{IsFound, least_of}

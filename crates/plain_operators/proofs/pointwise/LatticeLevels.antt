@@ -38,7 +38,7 @@ use Rattle.curve_call.proofs.CurveRises.{own_whole}
 use Rattle.curve_call.proofs.Limited.{refused_cause, frame_within, pos_minus_least}
 use Rattle.curve_call.proofs.FirstGate.{first_gate}
 use Rattle.curve_call.specs.Levels.{level_curve}
-use Rattle.curve_call.specs.Compared.{AreCompared}
+use Rattle.curve_call.specs.Compared.{AreCompared, IsEnough}
 use Rattle.curve_call.proofs.Levels.{level_value, level_stands}
 use Rattle.curve_call.proofs.RateRises.{rate_rise}
 use Rattle.curve_call.proofs.Shifts.{same_least}
@@ -47,7 +47,6 @@ use Rattle.plain_operators.specs.pointwise.Lattice.{RisesBy, IsTailRise}
 use Rattle.curve_call.specs.FirstWindows.{IsFirstWindow, IsWideAtFirst}
 use Rattle.plain_operators.specs.pointwise.LatticeCall.{LatticeCall, IsLatticeFrame}
 use Rattle.plain_operators.proofs.pointwise.LatticeCalls.{call_from, at_times, compared}
-use Rattle.curve_call.proofs.EitherOrder.{IsEnough}
 use Rattle.upp_limits.proofs.Copies.{plus_zero}
 use Rattle.curve_call.proofs.MostAbove.{level_is}
 

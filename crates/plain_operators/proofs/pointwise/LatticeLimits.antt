@@ -16,13 +16,13 @@ use Rattle.curve_call.specs.CallWindows.{IsForward, SecondIsCurve, start_of, per
 use Rattle.curve_call.specs.Frames.{IsFrame, IsRefusedAt, sizes_at}
 use Rattle.curve_call.proofs.Limited.{refused_cause, frame_within, min_least, max_least, pos_diff_least}
 use Rattle.curve_call.proofs.FirstGate.{first_gate}
-use Rattle.curve_call.proofs.EitherOrder.{enough_meets, IsEnough}
+use Rattle.curve_call.proofs.EitherOrder.{enough_meets}
 use Rattle.plain_operators.specs.declared.pointwise.lattice.Lattice.{Lattice}
 use Rattle.plain_operators.specs.declared.pointwise.lattice.Lattice.TheVariants.{Lower, Upper, Excess}
 use Rattle.plain_operators.specs.pointwise.Lattice.{kind_of}
 use Rattle.curve_call.specs.declared.windows.CallWindow.{CallWindow}
 use Rattle.upp_limits.specs.Limits.{Sizes}
-use Rattle.curve_call.specs.Compared.{AreCompared}
+use Rattle.curve_call.specs.Compared.{AreCompared, IsEnough}
 use Rattle.curve_call.specs.FirstWindows.{IsFirstWindow, IsWideAtFirst, IsRefusedBetween}
 use Rattle.curve_call.specs.declared.bounds.Bounds.{Bounds}
 use Rattle.curve_call.specs.Bounds.{AreBounds}

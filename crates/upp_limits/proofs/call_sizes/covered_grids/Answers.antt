@@ -1,10 +1,5 @@
-use Rattle.std.proofs.Common.{arith}
-use Rattle.upp_limits.specs.Gauges.{gauge_over}
+use Rattle.upp_limits.proofs.CallSizes.{narrow_by_bound}
 use Rattle.upp_limits.proofs.call_sizes.covered_grids.Goals as goal
 
-pub returns-else-numbers : goal.returns-else-numbers
-unfolding gauge_over
-returns-else-numbers c =
-    let l = c.in-Some.ensures.gauge in
-    let h = c.if-numbers.false in
-    record { gauge = omega (arith, l, h); times = c.in-Some.ensures.times; values = c.in-Some.ensures.values }
+pub returns-in-Some : goal.returns-in-Some
+returns-in-Some c = let a = c.args in narrow_by_bound a.op.now a.f.now a.g.now a.end c.in-Some.numbers c.grids_below.result c.in-Some.ensures c.grids_below.ensures

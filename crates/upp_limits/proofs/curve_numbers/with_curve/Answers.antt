@@ -9,8 +9,8 @@ use Rattle.upp_limits.proofs.curve_numbers.with_curve.Goals as goal
 
 pub returns-clause-value : goal.returns-clause-value
 returns-clause-value c =
-    let t = tail_numbers c.args.tail.now in
-    let s = closed_spans c.args.tail.now c.args.end (spans c.args.tail.now c.args.pieces.now) in
+    let t = tail_numbers c.args.of.now.tail.now in
+    let s = closed_spans c.args.of.now.tail.now c.args.end (spans c.args.of.now.tail.now c.args.of.now.pieces.now) in
     if_some_map c.with_pieces.result _ _
     (λ r f n h. subst (λ k. Gathers r k) (joined_assoc n t s) (f (joined n t) (c.with_tail.ensures n h)))
     c.with_pieces.ensures.value

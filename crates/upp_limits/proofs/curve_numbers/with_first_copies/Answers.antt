@@ -11,8 +11,8 @@ use Rattle.upp_limits.proofs.curve_numbers.with_first_copies.Goals as goal
 
 pub returns : goal.returns
 returns c =
-    let t = tail_numbers c.args.tail.now in
-    let ss = spans c.args.tail.now c.args.pieces.now in
+    let t = tail_numbers c.args.of.now.tail.now in
+    let ss = spans c.args.of.now.tail.now c.args.of.now.pieces.now in
     let s = closed_spans (Affine (int (pos 0))) c.args.end ss in
     if_some_map c.with_pieces.result _ _
     (λ r f n h.

@@ -1,38 +1,29 @@
-use Rattle.std.proofs.Common.{subst, sym, ◌+◌, drop}
-use Rattle.min_plus.specs.rational.specs.Rational.{◌≤ℚ◌, int}
-use Rattle.std.proofs.Common.{pos}
+use Rattle.std.proofs.Common.{subst, ◌+◌, drop}
 use Rattle.upp_limits.specs.Spans.{Span, spans}
 use Rattle.upp_limits.specs.Seen.{Knows}
 use Rattle.upp_limits.specs.Limits.{joined}
 use Rattle.upp_limits.specs.Gathered.{Gathers}
 use Rattle.upp_limits.specs.ClosedForm.{closed_span}
-use Rattle.upp_limits.proofs.PieceLists.{starts_nonneg, every_at, next_span, span_at, one_more, all_done}
+use Rattle.upp_limits.proofs.PieceLists.{span_at, one_more, all_done}
 use Rattle.upp_limits.proofs.curve_numbers.with_pieces.Goals as goal
-
-pub with_below-requires-clause-start : goal.with_below-requires-clause-start
-with_below-requires-clause-start c =
-    let h = every_at (λ p. int (pos 0) ≤ℚ p.x) c.args.pieces.now c.loop-i.i c.index-pieces-i.result (starts_nonneg c.args.pieces.now c.requires.starts) c.loop-i-test.true c.index-pieces-i.is in
-    subst (λ q. int (pos 0) ≤ℚ q.x) (sym c.piece_read-piece.ensures) h
 
 pub returns-in-None-clause-fits : goal.returns-in-None-clause-fits
 returns-in-None-clause-fits c = λ k.
-    let s : Span = record { piece = c.piece_read-piece.result; next = c.next_start-next.result } in
-    let e = next_span c.args.tail.now c.args.pieces.now c.loop-i.i c.index-pieces-i.result c.piece_read-piece.result c.next_start-next.result c.args.after.now
-    c.loop-i-test.true c.index-pieces-i.is c.piece_read-piece.ensures c.requires.after c.next_start-next.ensures in
-    c.in-None.ensures.fits (span_at (Knows c.args.counted.now c.args.end) c.args.tail.now c.args.pieces.now c.loop-i.i s (spans c.args.tail.now (drop (c.loop-i.i + 1) c.args.pieces.now)) k e)
+    let s : Span = record { piece = c.span_at-piece.result.0; next = c.span_at-piece.result.1 } in
+    let e = c.span_at-piece.ensures.span in
+    c.in-None.ensures.fits (span_at (Knows c.args.counted.now c.args.end) c.args.of.now.tail.now c.args.of.now.pieces.now c.loop-i.i s (spans c.args.of.now.tail.now (drop (c.loop-i.i + 1) c.args.of.now.pieces.now)) k e)
 
 pub loop-i-preserved : goal.loop-i-preserved
 loop-i-preserved c = λ n h.
-    let s : Span = record { piece = c.piece_read-piece.result; next = c.next_start-next.result } in
-    let e = next_span c.args.tail.now c.args.pieces.now c.loop-i.i c.index-pieces-i.result c.piece_read-piece.result c.next_start-next.result c.args.after.now
-    c.loop-i-test.true c.index-pieces-i.is c.piece_read-piece.ensures c.requires.after c.next_start-next.ensures in
+    let s : Span = record { piece = c.span_at-piece.result.0; next = c.span_at-piece.result.1 } in
+    let e = c.span_at-piece.ensures.span in
     let (m, k, w) = c.loop-i.invariant n h in (
       joined m (closed_span c.args.counted.now c.args.end s),
       c.in-Some.ensures.value m k,
-      one_more c.args.counted.now c.args.end m _ (spans c.args.tail.now (drop c.loop-i.i c.args.pieces.now)) (spans c.args.tail.now (drop (c.loop-i.i + 1) c.args.pieces.now)) s e w,
+      one_more c.args.counted.now c.args.end m _ (spans c.args.of.now.tail.now (drop c.loop-i.i c.args.of.now.pieces.now)) (spans c.args.of.now.tail.now (drop (c.loop-i.i + 1) c.args.of.now.pieces.now)) s e w,
     )
 
 pub returns-clause-value : goal.returns-clause-value
 returns-clause-value c = λ n h.
     let (m, k, w) = c.loop-i.invariant n h in
-    subst (λ x. Gathers c.loop-i.found x) (all_done c.args.counted.now c.args.tail.now c.args.end m _ c.args.pieces.now c.loop-i.i c.loop-i-test.false w) k
+    subst (λ x. Gathers c.loop-i.found x) (all_done c.args.counted.now c.args.of.now.tail.now c.args.end m _ c.args.of.now.pieces.now c.loop-i.i c.loop-i-test.false w) k

@@ -9,4 +9,4 @@ use Rattle.upp_limits.proofs.curve_numbers.with_pieces.Given as goal
 abbrev pub invariant-loop-i : goal.invariant-loop-i
 invariant-loop-i l =
     (n : Numbers) → Gathers l.fn.g n
-    → (m : Numbers) × Gathers l.found m × (joined m (closed_spans l.counted l.end (spans l.tail (drop l.i l.pieces))) ≡ joined n (closed_spans l.counted l.end (spans l.tail l.pieces)))
+    → (m : Numbers) × Gathers l.found m × (joined m (closed_spans l.counted l.end (spans l.of.tail.now (drop l.i l.of.pieces.now))) ≡ joined n (closed_spans l.counted l.end (spans l.of.tail.now l.of.pieces.now)))

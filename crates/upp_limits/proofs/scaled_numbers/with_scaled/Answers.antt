@@ -15,13 +15,13 @@ returns-in-Some-clause-value c =
     let q = c.args.factor in
     let up = c.in-Some.times in
     let t = tail_numbers up in
-    let s = closed_spans up c.args.end (map (scaled_span q) (spans up c.args.pieces.now)) in
+    let s = closed_spans up c.args.end (map (scaled_span q) (spans up c.args.of.now.pieces.now)) in
     if_some_map c.with_scaled_pieces.result _ _
     (λ r f n h.
-    subst (λ k. Gathers r k) (joined_assoc n t s ∙ ap (joined n) (scaled_closed q c.args.end c.args.pieces.now c.args.tail.now up c.in-Some.ensures.value))
+    subst (λ k. Gathers r k) (joined_assoc n t s ∙ ap (joined n) (scaled_closed q c.args.end c.args.of.now.pieces.now c.args.of.now.tail.now up c.in-Some.ensures.value))
     (f (joined n t) (c.with_tail.ensures n h)))
     c.with_scaled_pieces.ensures.value
 
 pub returns-in-Some-clause-fits : goal.returns-in-Some-clause-fits
 returns-in-Some-clause-fits c = λ k.
-    c.with_scaled_pieces.ensures.fits (scaled_spans_known c.args.factor c.args.end c.args.pieces.now c.args.tail.now c.in-Some.times c.in-Some.ensures.value k)
+    c.with_scaled_pieces.ensures.fits (scaled_spans_known c.args.factor c.args.end c.args.of.now.pieces.now c.args.of.now.tail.now c.in-Some.times c.in-Some.ensures.value k)

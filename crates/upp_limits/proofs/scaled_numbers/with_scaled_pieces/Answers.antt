@@ -1,38 +1,30 @@
-use Rattle.std.proofs.Common.{subst, sym, ◌+◌, drop, pos}
-use Rattle.min_plus.specs.rational.specs.Rational.{◌≤ℚ◌, int}
+use Rattle.std.proofs.Common.{subst, ◌+◌, drop}
 use Rattle.upp_limits.specs.Spans.{Span, spans}
 use Rattle.upp_limits.specs.Limits.{joined}
 use Rattle.upp_limits.specs.Gathered.{Gathers}
 use Rattle.upp_limits.specs.ClosedForm.{closed_span}
 use Rattle.upp_limits.specs.ClosedOperands.{scaled_span, KnowsTimes}
-use Rattle.upp_limits.proofs.PieceLists.{starts_nonneg, every_at, next_span, span_at}
+use Rattle.upp_limits.proofs.PieceLists.{span_at}
 use Rattle.upp_limits.proofs.ScaledCurves.{scaled_more, scaled_done}
 use Rattle.upp_limits.proofs.scaled_numbers.with_scaled_pieces.Goals as goal
 
-pub with_scaled_below-requires-clause-start : goal.with_scaled_below-requires-clause-start
-with_scaled_below-requires-clause-start c =
-    let h = every_at (λ p. int (pos 0) ≤ℚ p.x) c.args.pieces.now c.loop-i.i c.index-pieces-i.result (starts_nonneg c.args.pieces.now c.requires.starts) c.loop-i-test.true c.index-pieces-i.is in
-    subst (λ q. int (pos 0) ≤ℚ q.x) (sym c.piece_read-piece.ensures) h
-
 pub returns-in-None-clause-fits : goal.returns-in-None-clause-fits
 returns-in-None-clause-fits c = λ k.
-    let s : Span = record { piece = c.piece_read-piece.result; next = c.next_start-next.result } in
-    let e = next_span c.args.tail.now c.args.pieces.now c.loop-i.i c.index-pieces-i.result c.piece_read-piece.result c.next_start-next.result c.args.after.now
-    c.loop-i-test.true c.index-pieces-i.is c.piece_read-piece.ensures c.requires.after c.next_start-next.ensures in
-    c.in-None.ensures.fits (span_at (KnowsTimes c.args.factor c.args.tail.now c.args.end) c.args.tail.now c.args.pieces.now c.loop-i.i s (spans c.args.tail.now (drop (c.loop-i.i + 1) c.args.pieces.now)) k e)
+    let s : Span = record { piece = c.span_at-piece.result.0; next = c.span_at-piece.result.1 } in
+    let e = c.span_at-piece.ensures.span in
+    c.in-None.ensures.fits (span_at (KnowsTimes c.args.factor c.args.of.now.tail.now c.args.end) c.args.of.now.tail.now c.args.of.now.pieces.now c.loop-i.i s (spans c.args.of.now.tail.now (drop (c.loop-i.i + 1) c.args.of.now.pieces.now)) k e)
 
 pub loop-i-preserved : goal.loop-i-preserved
 loop-i-preserved c = λ n h.
-    let s : Span = record { piece = c.piece_read-piece.result; next = c.next_start-next.result } in
-    let e = next_span c.args.tail.now c.args.pieces.now c.loop-i.i c.index-pieces-i.result c.piece_read-piece.result c.next_start-next.result c.args.after.now
-    c.loop-i-test.true c.index-pieces-i.is c.piece_read-piece.ensures c.requires.after c.next_start-next.ensures in
+    let s : Span = record { piece = c.span_at-piece.result.0; next = c.span_at-piece.result.1 } in
+    let e = c.span_at-piece.ensures.span in
     let (m, k, w) = c.loop-i.invariant n h in (
-      joined m (closed_span c.args.tail.now c.args.end (scaled_span c.args.factor s)),
+      joined m (closed_span c.args.of.now.tail.now c.args.end (scaled_span c.args.factor s)),
       c.in-Some.ensures.value m k,
-      scaled_more c.args.factor c.args.tail.now c.args.end m _ (spans c.args.tail.now (drop c.loop-i.i c.args.pieces.now)) (spans c.args.tail.now (drop (c.loop-i.i + 1) c.args.pieces.now)) s e w,
+      scaled_more c.args.factor c.args.of.now.tail.now c.args.end m _ (spans c.args.of.now.tail.now (drop c.loop-i.i c.args.of.now.pieces.now)) (spans c.args.of.now.tail.now (drop (c.loop-i.i + 1) c.args.of.now.pieces.now)) s e w,
     )
 
 pub returns-clause-value : goal.returns-clause-value
 returns-clause-value c = λ n h.
     let (m, k, w) = c.loop-i.invariant n h in
-    subst (λ x. Gathers c.loop-i.found x) (scaled_done c.args.factor c.args.tail.now c.args.end m _ c.args.pieces.now c.loop-i.i c.loop-i-test.false w) k
+    subst (λ x. Gathers c.loop-i.found x) (scaled_done c.args.factor c.args.of.now.tail.now c.args.end m _ c.args.of.now.pieces.now c.loop-i.i c.loop-i-test.false w) k

@@ -12,5 +12,5 @@ abbrev pub invariant-loop-i : goal.invariant-loop-i
 invariant-loop-i l =
     (n : Numbers) → Gathers l.fn.g n
     → (m : Numbers) × Gathers l.found m
-    × (joined m (closed_spans l.tail l.end (map (scaled_span l.factor) (spans l.tail (drop l.i l.pieces))))
-    ≡ joined n (closed_spans l.tail l.end (map (scaled_span l.factor) (spans l.tail l.pieces))))
+    × (joined m (closed_spans l.of.tail.now l.end (map (scaled_span l.factor) (spans l.of.tail.now (drop l.i l.of.pieces.now))))
+    ≡ joined n (closed_spans l.of.tail.now l.end (map (scaled_span l.factor) (spans l.of.tail.now l.of.pieces.now))))

@@ -1,8 +1,7 @@
-use Rattle.std.proofs.Common.{subst, ◌∙◌}
+use Rattle.std.proofs.Common.{subst}
 use Rattle.min_plus.specs.rational.specs.Rational.{◌<ℚ◌, ◌≤ℚ◌}
-use Rattle.upp_limits.specs.Long.{long_value}
 use Rattle.min_plus.specs.rational.proofs.Compared.{not_less_out, iff_none, iff_trans}
-use Rattle.upp_limits.proofs.LongCrosses.{before_is, not_before, sum_parts, end_parts}
+use Rattle.upp_limits.proofs.LongCrosses.{not_before}
 use Rattle.upp_limits.proofs.starts.is_before.Goals as goal
 
 pub returns-then-is_less : goal.returns-then-is_less
@@ -10,10 +9,8 @@ returns-then-is_less c =
     let l = subst (λ z. c.args.end <ℚ z) c.zero.ensures (c.is_less.ensures.less.0 c.if-is_less.true) in
     iff_none (not_before c.args.x c.args.d c.args.end c.args.n c.requires.start c.requires.step l)
 
+pub crossed-requires-clause-late : goal.crossed-requires-clause-late
+crossed-requires-clause-late c = subst (λ z. z ≤ℚ c.args.end) c.zero.ensures (not_less_out c.is_less.result c.args.end c.zero.result c.is_less.ensures.less c.if-is_less.false)
+
 pub returns : goal.returns
-returns c =
-    let h = subst (λ z. z ≤ℚ c.args.end) c.zero.ensures (not_less_out c.is_less.result c.args.end c.zero.result c.is_less.ensures.less c.if-is_less.false) in
-    let s = c.cross_sum.ensures ∙ sum_parts c.args.x c.args.d c.args.end c.args.n _ _ _ _ _ c.sizes-a.ensures.top c.sizes-a.ensures.bottom c.sizes-p.ensures.top c.sizes-p.ensures.bottom c.sizes-u.ensures.bottom in
-    let e = c.cross_end.ensures ∙ end_parts c.args.x c.args.d c.args.end _ _ _ c.sizes-u.ensures.top c.sizes-a.ensures.bottom c.sizes-p.ensures.bottom in
-    iff_trans c.is_less-2.ensures
-    (before_is c.args.x c.args.d c.args.end c.args.n (long_value c.cross_sum.result) (long_value c.cross_end.result) c.requires.start c.requires.step h s e)
+returns c = iff_trans c.is_less-2.ensures c.crossed.ensures.before
