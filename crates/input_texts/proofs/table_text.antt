@@ -1,6 +1,7 @@
 pub mod FieldTexts
 pub mod PlainTexts
 pub mod Records
+pub mod RowPlaces
 pub mod TraceFacts
 pub mod TraceSteps
 pub mod OneTrace

@@ -10,7 +10,7 @@ use Rattle.run_laws.specs.Servers.{Drr, Round, Under, ServerState, head_of, with
 use Rattle.run_laws.specs.Next.{next, fits, to_tail, rotated, visit_on, left_round, arrived_round, worked_round, visited_round}
 use Rattle.run_laws.specs.Allows.{visited_head, IsFirst, MayVisit}
 use Rattle.run_laws.proofs.Heads.{same_some}
-use Rattle.queue_sched.specs.index_links.Chains.{list_at, Has, IsFree, first_of, with_list}
+use Rattle.queue_sched.specs.index_links.Chains.{Chains, list_at, Has, IsFree, first_of, with_list}
 use Rattle.queue_sched.specs.Waiting.{HasPacket, Waits}
 use Rattle.queue_sched.specs.Moves.{head_queue, waits_work}
 use Rattle.run_laws.specs.Rounds.{IsRound, count_of, same_queue, presence, VisitIsFirst}
@@ -20,6 +20,17 @@ use Rattle.queue_sched.proofs.InTurnSteps.{turn_arrives, turn_starts, turn_left,
 use Rattle.queue_sched.specs.DrrStates.{DrrState, round_of, HasRoom, IsInside, WaitsInTurn, joined, arrived, with_deficit, fitting, opened, turned, emptied, left_with, with_waiting}
 use Rattle.queue_sched.specs.Turns.{Sends}
 use Rattle.queue_sched.proofs.WaitingLemmas.{list_same, waiting_first, head_first, no_head, none_inside, waits_joined, waits_left}
+
+-- a scheduler of these parts
+abbrev pub state_of : Chains → Chains → List ℕ → List ℕ → List ℕ → Option ℕ → DrrState
+state_of waiting turns quanta deficits lengths visited = record {
+  waiting = waiting;
+  turns = turns;
+  quanta = quanta;
+  deficits = deficits;
+  lengths = lengths;
+  visited = visited;
+}
 
 -- ---- cards inside
 inside_either : (cs : List Card) (x c : Card) → IsInside (cs ++ x ∷ []) c → IsInside cs c ⊎ (x ≡ c)
@@ -218,16 +229,21 @@ drr_sends v σ q p h idle visit e =
     }
 
 -- ---- a visit
-room_opened : (b : Bool) (q : ℕ) (v : DrrState) → HasRoom v → HasRoom (opened b q v)
-room_opened true q v h = record { queues = h.queues; turn_nodes = h.turn_nodes; one_list = h.one_list; lengths = h.lengths; small_quanta = h.small_quanta; small_lengths = h.small_lengths }
-room_opened false q v h = record {
+-- with other queues that wait for a visit
+room_turns : (v : DrrState) (qs deficits : List ℕ) → HasRoom v
+    → HasRoom (state_of v.waiting (with_list v.turns 0 qs) v.quanta deficits v.lengths None)
+room_turns v qs deficits h = record {
   queues = h.queues;
   turn_nodes = h.turn_nodes;
-  one_list = length-set v.turns.lists 0 _ ∙ h.one_list;
+  one_list = length-set v.turns.lists 0 qs ∙ h.one_list;
   lengths = h.lengths;
   small_quanta = h.small_quanta;
   small_lengths = h.small_lengths;
 }
+
+room_opened : (b : Bool) (q : ℕ) (v : DrrState) → HasRoom v → HasRoom (opened b q v)
+room_opened true q v h = record { queues = h.queues; turn_nodes = h.turn_nodes; one_list = h.one_list; lengths = h.lengths; small_quanta = h.small_quanta; small_lengths = h.small_lengths }
+room_opened false q v h = room_turns v (to_tail (list_at v.turns 0)) v.deficits h
 
 opened_round : (q : ℕ) (v : DrrState) (c : Card) (d l : ℕ) → 0 < length v.turns.lists → l ≡ c.bits
     → round_of (opened (nat_le l d) q v) ≡ visit_on (fits (Some c) d) q (round_of v)
@@ -378,14 +394,7 @@ room_waiting v q xs h = record {
 }
 
 room_emptied : (v : DrrState) (q : ℕ) → HasRoom v → HasRoom (emptied v q)
-room_emptied v q h = record {
-  queues = h.queues;
-  turn_nodes = h.turn_nodes;
-  one_list = length-set v.turns.lists 0 _ ∙ h.one_list;
-  lengths = h.lengths;
-  small_quanta = h.small_quanta;
-  small_lengths = h.small_lengths;
-}
+room_emptied v q h = room_turns v (drop 1 (list_at v.turns 0)) (set v.deficits q 0) h
 
 -- what stays where a visit goes on or ends
 pub record IsKept (v w : DrrState) : Type 0 where

@@ -131,44 +131,37 @@ pub record IsHere (i : ℕ) (σ : ServerState) : Type 0 where
   pub first : Card
   pub is : head_of i σ.inside ≡ Some first
 
+-- where nothing is counted: neither a visit, nor bits of a packet that starts
+no_visit : (Q l : ℕ → ℕ) (i j : ℕ) (cards : List Card) (r : Round) (m n G : ℕ) → HasHadTurns Q l i j cards r m n G
+    → HasHadTurns Q l i j cards r (m + 0) (n + 0) G
+no_visit Q l i j cards r m n G k = rw (add_zero m, add_zero n) k
+  where
+    add_zero : (a : ℕ) → a + 0 ≡ a
+    add_zero a = omega arith
+
+no_start : (Q l : ℕ → ℕ) (i j : ℕ) (cards : List Card) (r : Round) (m n G : ℕ) → HasHadTurns Q l i j cards r m n G
+    → HasHadTurns Q l i j cards r (m + 0) (n + 0) (G + 0)
+no_start Q l i j cards r m n G k =
+    let same : G + 0 ≡ G = omega arith in
+    rw same (no_visit Q l i j cards r m n G k)
+
 turn_next : (server : Server) (end : ℚ) (quanta : List ℕ) (l : ℕ → ℕ) (i j : ℕ) (σ : ServerState) (x : ServerStep) (m n G g : ℕ)
     → server.discipline ≡ Drr quanta → j ≢ i → Allows server end σ x → IsHere i σ
     → IsAlong quanta l i j σ m n G g
     → HasHadTurns (λ q. get_or quanta q 0) l i j (next_inside σ.inside x) (next_visits quanta σ x) (m + visit_of i x) (n + visit_of j x) (G + start_of j σ.under x)
 turn_next server end quanta l i j σ (Arrives c t) m n G g e d a here h =
     let k = turn_arrives (λ q. get_or quanta q 0) l i j σ.inside σ.under σ.round m n G c here.first (head_of c.queue σ.inside) d refl here.is h.round h.turn in
-    plain (λ q. get_or quanta q 0) l i j (σ.inside ++ c ∷ []) (arrived_round (head_of c.queue σ.inside) c.queue σ.round) m n G k
-  where
-    plain : (Q l : ℕ → ℕ) (i j : ℕ) (cards : List Card) (r : Round) (m n G : ℕ) → HasHadTurns Q l i j cards r m n G
-        → HasHadTurns Q l i j cards r (m + 0) (n + 0) (G + 0)
-    plain Q l i j cards r m n G k = rw (add_zero m, add_zero n, add_zero G) k
-      where
-        add_zero : (a : ℕ) → a + 0 ≡ a
-        add_zero a = omega arith
+    no_start (λ q. get_or quanta q 0) l i j (σ.inside ++ c ∷ []) (arrived_round (head_of c.queue σ.inside) c.queue σ.round) m n G k
 turn_next server end quanta l i j σ (Works c b f w) m n G g e d a here h =
     let k : next_card σ.under (Drr quanta) σ.inside σ.round ≡ Some c = subst (λ (y : Discipline). next_card σ.under y σ.inside σ.round ≡ Some c) e a.1.is_next in
     let t = turn_works (λ q. get_or quanta q 0) l quanta i j σ.inside σ.under σ.round m n G c k h.turn in
-    plain (λ q. get_or quanta q 0) l i j σ.inside (worked_round σ.under c σ.round) m n (G + started_of j σ.under c) t
-  where
-    plain : (Q l : ℕ → ℕ) (i j : ℕ) (cards : List Card) (r : Round) (m n G : ℕ) → HasHadTurns Q l i j cards r m n G
-        → HasHadTurns Q l i j cards r (m + 0) (n + 0) G
-    plain Q l i j cards r m n G k = rw (add_zero m, add_zero n) k
-      where
-        add_zero : (a : ℕ) → a + 0 ≡ a
-        add_zero a = omega arith
+    no_visit (λ q. get_or quanta q 0) l i j σ.inside (worked_round σ.under c σ.round) m n (G + started_of j σ.under c) t
 turn_next server end quanta l i j σ (Leaves c t) m n G g e d a here h =
     let left = has_left (λ q. get_or quanta q 0) l σ.inside σ.busy σ.under σ.round c t h.sound a.1 h.round in
     let head = leaving σ.inside σ.busy σ.under c t h.sound a.1 in
     let k = turn_left (λ q. get_or quanta q 0) l i j σ.inside (without_head c.queue σ.inside) σ.round m n G c.queue (head_of c.queue (without_head c.queue σ.inside)) d refl
     (λ f. head_without j c.queue σ.inside f) left.visited left.is_first (h.round.lists i ∙ ap presence here.is) (λ f. subst (λ (q : ℕ). count_of q σ.round.active ≡ 1) f left.once) h.turn in
-    plain (λ q. get_or quanta q 0) l i j (without_head c.queue σ.inside) (left_round (head_of c.queue (without_head c.queue σ.inside)) c.queue σ.round) m n G k
-  where
-    plain : (Q l : ℕ → ℕ) (i j : ℕ) (cards : List Card) (r : Round) (m n G : ℕ) → HasHadTurns Q l i j cards r m n G
-        → HasHadTurns Q l i j cards r (m + 0) (n + 0) (G + 0)
-    plain Q l i j cards r m n G k = rw (add_zero m, add_zero n, add_zero G) k
-      where
-        add_zero : (a : ℕ) → a + 0 ≡ a
-        add_zero a = omega arith
+    no_start (λ q. get_or quanta q 0) l i j (without_head c.queue σ.inside) (left_round (head_of c.queue (without_head c.queue σ.inside)) c.queue σ.round) m n G k
 turn_next server end quanta l i j σ (Visits q t) m n G g e d a here h =
     let v : IsVisit σ q = subst (λ (y : Discipline). MayVisit y σ q) e a.1 in
     by_head (head_of q σ.inside) refl v

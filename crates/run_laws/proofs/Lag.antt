@@ -21,7 +21,7 @@ use Rattle.run_laws.proofs.Heads.{sum_of}
 use Rattle.run_laws.proofs.States.{sound_next, sound_after, balance_after, work_after, done_by}
 use Rattle.run_laws.proofs.Cuts.{upto_edge, IsBefore, at_time}
 use Rattle.run_laws.proofs.Gone.{complete_leaves, first_left, left_nonneg, after-append}
-use Rattle.run_laws.proofs.Waiting.{of_class, bits_of, class-append, sum_class, NotOver, done_below, allowed-append, all_upto, combine, bits_nonneg}
+use Rattle.run_laws.proofs.Waiting.{of_class, bits_of, class-append, sum_class, NotOver, done_below, allowed-append, all_upto, at_arrival, combine, bits_nonneg}
 use Rattle.run_laws.proofs.Delay.{stay_at_most}
 use Rattle.min_plus.proofs.Deviations.{Within}
 use Rattle.run_laws.proofs.Oldest.{departures_of, arrivals_of, queue_order, left_part, oldest}
@@ -82,16 +82,10 @@ not_worked_before : (server : Server) (end : ℚ) (V front back : List ServerSte
     → departed C V s <ℚ total (arrives C (upto u)) front +ℚ size p → worked C V t <ℚ total (arrives C (upto u)) front +ℚ size p
 not_worked_before server end V front back C q p u t s lawful joined g counted l m few =
     let d = server.discipline in
-    let all = allowed-append server end (start d) front (Arrives p u ∷ back) (subst (AllAllowed server end (start d)) joined lawful.allowed) in
-    let upto_u = all_upto server end (start d) front back (Arrives p u) (subst (AllAllowed server end (start d)) joined lawful.allowed) in
-    let upto_t = each_map (IsBefore (upto u)) (λ x. time_of x ≤ℚ t) (λ x e. le_trans (le_q_in (time_of x) u e) l) front upto_u in
+    let cut = at_arrival server end V front back C p u t lawful joined l in
     let one = after d (start d) front in
-    let sound_one = sound_after server end (start d) front all.0 tt in
     let two = next d one (Arrives p u) in
-    let sound_two = sound_next server end one (Arrives p u) all.1.0 sound_one in
-    let balance = balance_after server end (start d) front C (upto u) all.0 tt upto_u in
-    let work = work_after server end (start d) front C (upto u) t all.0 tt upto_u upto_t in
-    let a = at_time server end two back (upto t) t (upto_edge t) all.1.1 sound_two in
+    let a = cut.at in
     let P = a.at.front in
     let S = a.at.back in
     let three = after d two P in
@@ -100,7 +94,7 @@ not_worked_before server end V front back C q p u t s lawful joined g counted l 
     let D = of_class C one.inside in
     let sums = sum_class C one.inside in
     let order : departures_of C P ++ of_class C three.inside ≡ D ++ p ∷ arrivals_of C P =
-    queue_order server end two P C q g a.at.front_allowed sound_two ∙ ap (λ (xs : List Card). xs ++ arrivals_of C P) (class-append C one.inside (p ∷ []) ∙ rw counted refl) ∙ append_assoc D (p ∷ []) (arrivals_of C P) in
+    queue_order server end two P C q g a.at.front_allowed cut.sound ∙ ap (λ (xs : List Card). xs ++ arrivals_of C P) (class-append C one.inside (p ∷ []) ∙ rw counted refl) ∙ append_assoc D (p ∷ []) (arrivals_of C P) in
     let gone_bits : total (leaves C (upto t)) P ≡ bits_of (departures_of C P) =
     left_part C C (upto t) P (λ _ h. h) a.at.front_before ∙ ap bits_of (own_class C P) in
     let sooner_front = left_le C front (upto u) (before s) (upto_before u s (with3 u t s (λ c. omega (arith, c.le, c.lt, c.same)))) in
@@ -111,7 +105,7 @@ not_worked_before server end V front back C q p u t s lawful joined g counted l 
     ∙ ap (λ (x : ℚ). total (leaves C (before s)) front +ℚ (int (pos 0) +ℚ x)) (ap (total (leaves C (before s))) a.at.joined ∙ total-append (leaves C (before s)) P S) in
     let less : bits_of (departures_of C P) +ℚ total (leaves C (before s)) S <ℚ bits_of D +ℚ size p =
     fewer (departed C V s) (total (leaves C (before s)) front) (total (leaves C (before s)) P) (total (leaves C (before s)) S) (total (leaves C (upto u)) front) (total (leaves C (upto t)) P) (bits_of (departures_of C P))
-    (total (arrives C (upto u)) front) (size p) (sum_of C one.inside) (bits_of D) all_left sooner_front sooner_P gone_bits few balance sums in
+    (total (arrives C (upto u)) front) (size p) (sum_of C one.inside) (bits_of D) all_left sooner_front sooner_P gone_bits few cut.balance sums in
     let beginning = begins (departures_of C P) (of_class C three.inside) D (arrivals_of C P) p order (with4 (bits_of (departures_of C P)) (total (leaves C (before s)) S) (bits_of D) (size p) (λ c. omega (arith, c.le, c.lt, c.same))) in
     let ahead = beginning.ahead in
     let parts = beginning.bits in
@@ -122,10 +116,9 @@ not_worked_before server end V front back C q p u t s lawful joined g counted l 
     let none : bits_of ahead ≡ int (pos 0) = ap bits_of {x = ahead} e in
     over_left server end three S C p t s three.under a.at.back_allowed refl complete counted m
     (rest_small (bits_of (departures_of C P)) (total (leaves C (before s)) S) (bits_of D) (size p) (bits_of ahead) less parts none) in
-    let below = done_below three.inside three.busy three.under C q p t ahead a.sound g all.1.0.1.some_bits not_over record { rest = arrivals_of C P; is = beginning.is } in
-    let whole_work : worked C V t ≡ total (works C t) front +ℚ (int (pos 0) +ℚ total (works C t) back) = ap (total (works C t)) joined ∙ total-append (works C t) front (Arrives p u ∷ back) in
+    let below = done_below three.inside three.busy three.under C q p t ahead a.sound g cut.allowed.1.0.1.some_bits not_over record { rest = arrivals_of C P; is = beginning.is } in
     combine (worked C V t) (total (works C t) front) (total (works C t) back) (done_by C t one.under) (done_by C t three.under) (total (leaves C (upto u)) front) (total (leaves C (upto t)) back) (total (leaves C (upto t)) P)
-    (sum_of C one.inside) (total (arrives C (upto u)) front) (bits_of D) (bits_of ahead) (size p) whole_work work later same balance sums
+    (sum_of C one.inside) (total (arrives C (upto u)) front) (bits_of D) (bits_of ahead) (size p) cut.work cut.so_far later same cut.balance sums
     (ahead_bits (bits_of ahead) (total (leaves C (upto t)) P) (bits_of (departures_of C P)) (bits_of D) gone_bits parts) below
   where
     ahead_bits : (H L G D : ℚ) → L ≡ G → D ≡ G +ℚ H → H +ℚ L ≡ D

@@ -17,7 +17,7 @@ use Rattle.run_laws.proofs.Clips.{clip_strict, clip_late}
 use Rattle.run_laws.proofs.Sums.{when_true, when_false, Each, each_map, total-append}
 use Rattle.run_laws.proofs.Heads.{same_some, sum_of}
 use Rattle.run_laws.proofs.States.{IsSound, IsSoundFor, IsUnderWay, sound_next, sound_after, leaving, balance_after, work_after, done_by, done_at_most, done_at}
-use Rattle.run_laws.proofs.Cuts.{upto_edge, at_time, IsBefore, time_in_order}
+use Rattle.run_laws.proofs.Cuts.{upto_edge, AtTime, at_time, IsBefore, time_in_order}
 use Rattle.run_laws.proofs.Gone.{complete_leaves, first_gone, after-append}
 use Rattle.run_laws.proofs.Sizes.{size_nonneg, size_pos}
 
@@ -268,35 +268,59 @@ combine work first_work later_work first_done later_done first_left later_left l
     let comes : came ≡ first_left +ℚ still_ahead +ℚ later_left = with7 here first_left came ahead still_ahead later_left left (λ c. omega (arith, c.le, c.lt, c.same)) in
     with7 work first_left later_done later_left came still_ahead own (λ c. omega (arith, c.le, c.lt, c.same))
 
+-- a view cut where a card arrives, and at a time from then on
+pub record AtArrival (server : Server) (end : ℚ) (V front back : List ServerStep) (C : Class) (p : Card) (u t : ℚ) : Type 0 where
+  pub allowed : AllAllowed server end (start server.discipline) front
+      × AllAllowed server end (after server.discipline (start server.discipline) front) (Arrives p u ∷ back)
+  pub sound : IsSound (next server.discipline (after server.discipline (start server.discipline) front) (Arrives p u))
+  pub balance : sum_of C (after server.discipline (start server.discipline) front).inside +ℚ total (leaves C (upto u)) front
+      ≡ int (pos 0) +ℚ total (arrives C (upto u)) front
+  pub so_far : done_by C t (after server.discipline (start server.discipline) front).under +ℚ total (leaves C (upto u)) front
+      ≡ int (pos 0) +ℚ total (works C t) front
+  pub work : worked C V t ≡ total (works C t) front +ℚ (int (pos 0) +ℚ total (works C t) back)
+  pub at : AtTime server end (next server.discipline (after server.discipline (start server.discipline) front) (Arrives p u)) back (upto t) t
+
+pub at_arrival : (server : Server) (end : ℚ) (V front back : List ServerStep) (C : Class) (p : Card) (u t : ℚ)
+    → IsLawfulView server end V → V ≡ front ++ Arrives p u ∷ back → u ≤ℚ t → AtArrival server end V front back C p u t
+at_arrival server end V front back C p u t lawful joined l =
+    let d = server.discipline in
+    let joined_allowed = subst (AllAllowed server end (start d)) joined lawful.allowed in
+    let all = allowed-append server end (start d) front (Arrives p u ∷ back) joined_allowed in
+    let upto_u = all_upto server end (start d) front back (Arrives p u) joined_allowed in
+    let upto_t = each_map (IsBefore (upto u)) (λ x. time_of x ≤ℚ t) (λ x e. le_trans (le_q_in (time_of x) u e) l) front upto_u in
+    let one = after d (start d) front in
+    let sound_two = sound_next server end one (Arrives p u) all.1.0 (sound_after server end (start d) front all.0 tt) in
+    record {
+      allowed = all;
+      sound = sound_two;
+      balance = balance_after server end (start d) front C (upto u) all.0 tt upto_u;
+      so_far = work_after server end (start d) front C (upto u) t all.0 tt upto_u upto_t;
+      work = ap (total (works C t)) joined ∙ total-append (works C t) front (Arrives p u ∷ back);
+      at = at_time server end (next d one (Arrives p u)) back (upto t) t (upto_edge t) all.1.1 sound_two;
+    }
+
 -- ---- so the work on the class does not come up to it before it is gone
 pub not_worked : (server : Server) (end : ℚ) (V front back : List ServerStep) (C : Class) (q : ℕ) (p : Card) (u t : ℚ)
     → IsLawfulView server end V → V ≡ front ++ Arrives p u ∷ back → IsAlwaysOfQueue C q → C p ≡ true → u ≤ℚ t → t <ℚ gone_at end p.packet back
     → worked C V t <ℚ total (arrives C (upto u)) front +ℚ size p
 not_worked server end V front back C q p u t lawful joined g counted l k =
     let d = server.discipline in
-    let all = allowed-append server end (start d) front (Arrives p u ∷ back) (subst (AllAllowed server end (start d)) joined lawful.allowed) in
-    let upto_u = all_upto server end (start d) front back (Arrives p u) (subst (AllAllowed server end (start d)) joined lawful.allowed) in
-    let upto_t = each_map (IsBefore (upto u)) (λ x. time_of x ≤ℚ t) (λ x e. le_trans (le_q_in (time_of x) u e) l) front upto_u in
+    let cut = at_arrival server end V front back C p u t lawful joined l in
     let one = after d (start d) front in
-    let sound_one = sound_after server end (start d) front all.0 tt in
     let two = next d one (Arrives p u) in
-    let sound_two = sound_next server end one (Arrives p u) all.1.0 sound_one in
-    let balance = balance_after server end (start d) front C (upto u) all.0 tt upto_u in
-    let work = work_after server end (start d) front C (upto u) t all.0 tt upto_u upto_t in
-    let a = at_time server end two back (upto t) t (upto_edge t) all.1.1 sound_two in
+    let a = cut.at in
+    let three = after d two a.at.front in
     let P = a.at.front in
-    let three = after d two P in
     let later = a.work C in
     let same = a.left C in
     let stay = stays end p.packet P a.at.back t a.at.front_before (subst (λ (W : List ServerStep). t <ℚ gone_at end p.packet W) a.at.joined k) in
     let waiting : IsWaiting C p two.inside (of_class C one.inside) = record { rest = []; is = class-append C one.inside (p ∷ []) ∙ rw counted refl } in
-    let waits = waits_after server end two P C q p (of_class C one.inside) (upto t) g a.at.front_allowed sound_two a.at.front_before stay.kept waiting in
+    let waits = waits_after server end two P C q p (of_class C one.inside) (upto t) g a.at.front_allowed cut.sound a.at.front_before stay.kept waiting in
     let ahead = waits.balance in
     let sums = sum_class C one.inside in
     let complete : ¬ IsComplete (after d three a.at.back).under =
     subst (λ (σ : ServerState). ¬ IsComplete σ.under) (ap (after d (start d)) joined ∙ after-append server (start d) front (Arrives p u ∷ back) ∙ ap (after d two) a.at.joined ∙ after-append server two P a.at.back) lawful.none_complete in
     let still : t <ℚ gone_at end p.packet a.at.back = subst (λ (y : ℚ). t <ℚ y) (ap (gone_at end p.packet) a.at.joined ∙ stay.same) k in
-    let below = done_below three.inside three.busy three.under C q p t waits.now_ahead a.sound g all.1.0.1.some_bits (λ _. not_over server end three a.at.back p t three.under a.at.back_allowed refl complete still) waits.waiting in
-    let whole_work : worked C V t ≡ total (works C t) front +ℚ (int (pos 0) +ℚ total (works C t) back) = ap (total (works C t)) joined ∙ total-append (works C t) front (Arrives p u ∷ back) in
+    let below = done_below three.inside three.busy three.under C q p t waits.now_ahead a.sound g cut.allowed.1.0.1.some_bits (λ _. not_over server end three a.at.back p t three.under a.at.back_allowed refl complete still) waits.waiting in
     combine (worked C V t) (total (works C t) front) (total (works C t) back) (done_by C t one.under) (done_by C t three.under) (total (leaves C (upto u)) front) (total (leaves C (upto t)) back) (total (leaves C (upto t)) P)
-    (sum_of C one.inside) (total (arrives C (upto u)) front) (bits_of (of_class C one.inside)) (bits_of waits.now_ahead) (size p) whole_work work later same balance sums ahead below
+    (sum_of C one.inside) (total (arrives C (upto u)) front) (bits_of (of_class C one.inside)) (bits_of waits.now_ahead) (size p) cut.work cut.so_far later same cut.balance sums ahead below

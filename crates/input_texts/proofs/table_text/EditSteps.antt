@@ -1,18 +1,19 @@
 -- One row of an edit list after another.
-use Rattle.std.proofs.Common.{◌≡◌, ℕ, suc, ◌+◌, ◌<◌, ◌≤◌, List, [], ◌∷◌, ◌++◌, length, take, drop, get_or, map, Ok, refl, sym, ap, ap₂, subst, arith, ◌∙◌, append_assoc, take-append-drop, length-take, take_all}
-use Rattle.std.proofs.lemmas.List.{take_more, drop_more, map_push}
+use Rattle.std.proofs.Common.{◌≡◌, ℕ, suc, ◌+◌, ◌<◌, ◌≤◌, List, [], ◌∷◌, ◌++◌, length, take, drop, get_or, map, Ok, refl, sym, ap, ap₂, subst, arith, ◌∙◌, length-take, take_all}
+use Rattle.std.proofs.lemmas.List.{map_push}
 use Rattle.input_texts.specs.declared.table_text.fault.TableKind.{TableKind}
 use Rattle.input_texts.specs.table_text.Rows.{Row, Read, rows_of}
 use Rattle.input_texts.specs.table_text.EditRows.{EditText, edit_row}
 use Rattle.input_texts.specs.table_text.EditLists.{AreEditsOf, IsEditWrong, IsFirstEditFault}
 use Rattle.input_texts.specs.table_text.EditAnswers.{AddsEdit}
+use Rattle.input_texts.proofs.table_text.RowPlaces.{so_many, one_more, parted}
 
 pub no_edits : (rows : List Row) → AreEditsOf (take 0 rows) []
 no_edits rows = record { each = refl; few = omega arith }
 
 pub edits_more : (rows : List Row) (k : ℕ) (row : Row) (es es2 : List EditText) → k < length rows → get_or rows k row ≡ row → AreEditsOf (take k rows) es → AddsEdit k row es es2 → AreEditsOf (take (k + 1) rows) es2
 edits_more rows k row es es2 within is so adds =
-    let more : take (k + 1) rows ≡ take k rows ++ row ∷ [] = take_more rows k row within ∙ ap (λ (x : Row). take k rows ++ x ∷ []) is in
+    let more = one_more rows k row within is in
     let ok : EditText → Read EditText = λ x. Ok x in
     record {
       each = ap (map edit_row) more ∙ (map_push edit_row (take k rows) row ∙ (ap₂ (λ (rs : List (Read EditText)) (r : Read EditText). rs ++ r ∷ []) so.each adds.is
@@ -33,15 +34,12 @@ edits_all text rows k es is past so =
 pub edits_fault : (text : List ℕ) (rows : List Row) (k : ℕ) (row : Row) (es : List EditText) (kind : TableKind) (number : ℕ) → rows ≡ take 1001 (rows_of text) → k < length rows → get_or rows k row ≡ row
     → AreEditsOf (take k rows) es → IsEditWrong k row kind → number ≡ k + 1 → IsFirstEditFault text kind number
 edits_fault text rows k row es kind number is within at so wrong place =
-    let n : length (take k rows) ≡ k = let m = length-take k rows in omega (arith, m, within) in
-    let rest = drop 1001 (rows_of text) in
-    let here : drop k rows ≡ row ∷ drop (k + 1) rows = drop_more rows k row within ∙ ap (λ (x : Row). x ∷ drop (k + 1) rows) at in
-    let cut : rows ≡ take k rows ++ (row ∷ drop (k + 1) rows) = sym (take-append-drop k rows) ∙ ap (λ (rs : List Row). take k rows ++ rs) here in
+    let n = so_many rows k within in
     record {
       before = take k rows;
       row = row;
-      after = drop (k + 1) rows ++ rest;
-      rows = sym (take-append-drop 1001 (rows_of text)) ∙ (ap (λ rs. rs ++ rest) (sym is ∙ cut) ∙ append_assoc (take k rows) (row ∷ drop (k + 1) rows) rest);
+      after = drop (k + 1) rows ++ drop 1001 (rows_of text);
+      rows = parted (rows_of text) rows 1001 k row is within at;
       place = let e : number ≡ suc (length (take k rows)) = omega (arith, n, place) in e;
       edits = es;
       right = so;

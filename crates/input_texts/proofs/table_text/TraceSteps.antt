@@ -1,6 +1,6 @@
 -- One row after another.
-use Rattle.std.proofs.Common.{◌≡◌, ◌≢◌, ℕ, suc, ◌+◌, ◌<◌, ◌≤◌, List, [], ◌∷◌, ◌++◌, length, take, drop, get_or, Result, Ok, Err, OnOk, All, AllPairs, refl, sym, ap, subst, arith, inl, inr, ◌⊎◌, ◌∙◌, append-nil, append_assoc, take-append-drop, length-take, take_all}
-use Rattle.std.proofs.lemmas.List.{take_more, drop_more}
+use Rattle.std.proofs.Common.{◌≡◌, ◌≢◌, ℕ, suc, ◌+◌, ◌<◌, ◌≤◌, List, [], ◌∷◌, ◌++◌, length, take, drop, get_or, Result, Ok, Err, OnOk, All, AllPairs, refl, sym, ap, subst, arith, inl, inr, ◌⊎◌, ◌∙◌, append-nil, length-take, take_all}
+use Rattle.std.proofs.lemmas.List.{take_more}
 use Rattle.std.proofs.lemmas.List.Quantifiers.{all_pairs_push}
 use Rattle.std.proofs.lemmas.List.Elements.{All-push}
 use Rattle.min_plus.specs.rational.specs.Rational.{◌≤ℚ◌}
@@ -9,13 +9,14 @@ use Rattle.net_model.specs.declared.trace.Stall.{Stall}
 use Rattle.net_model.specs.Networks.{Net}
 use Rattle.net_model.specs.Traces.{trace_of, IsTrace, IsTracePacket, IsStall}
 use Rattle.input_texts.specs.declared.table_text.fault.TableKind.{TableKind}
-use Rattle.input_texts.specs.declared.table_text.fault.TableKind.TheVariants.{T1, T2, T3, T4, T5, T6, T7, NoMemory}
+use Rattle.input_texts.specs.declared.table_text.fault.TableKind.TheVariants.{NoMemory}
 use Rattle.input_texts.specs.declared.table_text.trace_rows.Entry.{Entry}
 use Rattle.input_texts.specs.declared.table_text.trace_rows.Entry.TheVariants.{Packet, Stop}
 use Rattle.input_texts.specs.table_text.Rows.{Row, rows_of}
 use Rattle.input_texts.specs.table_text.TraceRows.{trace_row, Gives}
 use Rattle.input_texts.specs.table_text.Traces.{packets_in, stalls_in, Give, IsTraceOf, IsWrong, IsFirstFault}
 use Rattle.input_texts.specs.table_text.Kept.{IsKept, Follows, Adds}
+use Rattle.input_texts.proofs.table_text.RowPlaces.{so_many, parted}
 
 -- ---- results
 pub both_ok : {E : Type 0} {A B C : Type 0} (r : Result (Unit {0}) E) → (A → B → C) → OnOk r A → OnOk r B → OnOk r C
@@ -24,13 +25,7 @@ both_ok (Err e) f a b = tt
 
 pub memory_or : (kind : TableKind) → (kind ≡ NoMemory) ⊎ (kind ≢ NoMemory)
 memory_or NoMemory = inl refl
-memory_or T1 = inr (λ e. let bad : ⊥ = cc in bad)
-memory_or T2 = inr (λ e. let bad : ⊥ = cc in bad)
-memory_or T3 = inr (λ e. let bad : ⊥ = cc in bad)
-memory_or T4 = inr (λ e. let bad : ⊥ = cc in bad)
-memory_or T5 = inr (λ e. let bad : ⊥ = cc in bad)
-memory_or T6 = inr (λ e. let bad : ⊥ = cc in bad)
-memory_or T7 = inr (λ e. let bad : ⊥ = cc in bad)
+memory_or kind = inr (λ e. let bad : ⊥ = cc in bad)
 
 -- ---- what entries hold
 packets_more : (es : List Entry) (e : Entry) → packets_in (es ++ e ∷ []) ≡ packets_in es ++ packets_in (e ∷ [])
@@ -125,15 +120,12 @@ so_far_all net text rows k ps ss is past so =
 pub so_far_fault : (net : Net) (text : List ℕ) (rows : List Row) (k : ℕ) (row : Row) (ps : List TracePacket) (ss : List Stall) (kind : TableKind) (number : ℕ) → rows ≡ take 10001 (rows_of text)
     → k < length rows → get_or rows k row ≡ row → IsSoFar net rows k ps ss → IsWrong net k ps row kind → number ≡ k + 1 → IsFirstFault net text kind number
 so_far_fault net text rows k row ps ss kind number is within at so wrong place =
-    let n : length (take k rows) ≡ k = let m = length-take k rows in omega (arith, m, within) in
-    let rest = drop 10001 (rows_of text) in
-    let here : drop k rows ≡ row ∷ drop (k + 1) rows = drop_more rows k row within ∙ ap (λ (x : Row). x ∷ drop (k + 1) rows) at in
-    let cut : rows ≡ take k rows ++ (row ∷ drop (k + 1) rows) = sym (take-append-drop k rows) ∙ ap (λ (rs : List Row). take k rows ++ rs) here in
+    let n = so_many rows k within in
     record {
       before = take k rows;
       row = row;
-      after = drop (k + 1) rows ++ rest;
-      rows = sym (take-append-drop 10001 (rows_of text)) ∙ (ap (λ rs. rs ++ rest) (sym is ∙ cut) ∙ append_assoc (take k rows) (row ∷ drop (k + 1) rows) rest);
+      after = drop (k + 1) rows ++ drop 10001 (rows_of text);
+      rows = parted (rows_of text) rows 10001 k row is within at;
       place = let e : number ≡ suc (length (take k rows)) = omega (arith, n, place) in e;
       trace = trace_of ps ss;
       right = so.right;

@@ -129,6 +129,46 @@ same_pushed v n m l xss ys e f =
     let whole : with_list v l ys ≡ record { nodes = n; lists = collect (but_at xss l ys) 0 m } = cc in
     sym whole
 
+-- a list, and a node that is in none
+record IsSpare (xss : ℕ → List ℕ) (v : Chains) (m n l k : ℕ) : Type 0 where
+  list_in : l < m
+  node_in : k < n
+  here : (j : ℕ) → j < m → list_at v j ≡ xss j
+  unused : (j : ℕ) → j < m → ¬ (Has (xss j) k)
+
+is_spare : (next prev owners : List ℕ) (m l k : ℕ) (v : Chains) (s : AreStored next prev owners m)
+    → chains_of next m (length owners) ≡ v → l < length v.lists → k < v.nodes → IsFree v k
+    → IsSpare s.stored.0 v m (length owners) l k
+is_spare next prev owners m l k v s e hl hk free =
+    let see = seen next prev owners m v s e in
+    record {
+      list_in = omega (arith, hl, see.count);
+      node_in = omega (arith, hk, see.nodes);
+      here = see.here;
+      unused = λ j h g. free j (subst (λ t. Has t k) (sym (see.here j h)) g);
+    }
+
+-- cells of the same lengths, in whose rings one list is another
+pushed_kept : (next prev owners next' prev' : List ℕ) (m l k : ℕ) (v : Chains) (s : AreStored next prev owners m) (ys : List ℕ)
+    → chains_of next m (length owners) ≡ v → length next' ≡ length next → length prev' ≡ length prev
+    → AreRings (at next') (at prev') (at (set owners k l)) m (length owners) (but_at s.stored.0 l ys)
+    → Kept next' prev' (set owners k l) m (with_list v l ys)
+pushed_kept next prev owners next' prev' m l k v s ys e long_n long_p after_it =
+    let see = seen next prev owners m v s e in
+    let long_o : length (set owners k l) ≡ length owners = length-set owners k l in
+    let to = but_at s.stored.0 l ys in
+    let rings : AreRings (at next') (at prev') (at (set owners k l)) m (length (set owners k l)) to =
+    subst (λ u. AreRings (at next') (at prev') (at (set owners k l)) m u to) (sym long_o) after_it in (
+      record {
+        few = omega (arith, s.few, long_o);
+        long_next = omega (arith, s.long_next, long_n, long_o);
+        long_prev = omega (arith, s.long_prev, long_p, long_o);
+        stored = (to, rings);
+      },
+      built next' prev' (set owners k l) m (length (set owners k l)) to rings
+          ∙ same_pushed v (length (set owners k l)) m l s.stored.0 ys (see.nodes ∙ sym long_o) see.lists,
+    )
+
 pub tail_kept : (next prev owners : List ℕ) (m l k : ℕ) (v : Chains) (s : AreStored next prev owners m)
     → chains_of next m (length owners) ≡ v → l < length v.lists → k < v.nodes → IsFree v k
     → Kept (set (set next (get_or prev l 0) (m + k)) (m + k) l) (set (set prev (m + k) (get_or prev l 0)) l (m + k)) (set owners k l) m
@@ -136,19 +176,17 @@ pub tail_kept : (next prev owners : List ℕ) (m l k : ℕ) (v : Chains) (s : Ar
 tail_kept next prev owners m l k v s e hl hk free =
     let xss = s.stored.0 in
     let r = s.stored.1 in
-    let see = seen next prev owners m v s e in
-    let in_m : l < m = omega (arith, hl, see.count) in
-    let in_n : k < length owners = omega (arith, hk, see.nodes) in
-    let unused : (j : ℕ) → j < m → ¬ (Has (xss j) k) = λ j h g. free j (subst (λ t. Has t k) (sym (see.here j h)) g) in
+    let spare = is_spare next prev owners m l k v s e hl hk free in
+    let in_m = spare.list_in in
+    let in_n = spare.node_in in
     let t = get_or prev l 0 in
     let last = last_cell (at next) (at prev) m l (xss l) l (r.rings l in_m) in
     let t_in : t < m + length owners = cell_within r l t in_m last.0 in
-    let t_other : t ≢ m + k = λ q. new_cell m l k (xss l) in_m (unused l in_m) (subst (λ u. IsCell m l (xss l) u) q last.0) in
+    let t_other : t ≢ m + k = λ q. new_cell m l k (xss l) in_m (spare.unused l in_m) (subst (λ u. IsCell m l (xss l) u) q last.0) in
     let next' = set (set next t (m + k)) (m + k) l in
     let prev' = set (set prev (m + k) t) l (m + k) in
     let long_n : length next' ≡ length next = length-set (set next t (m + k)) (m + k) l ∙ length-set next t (m + k) in
     let long_p : length prev' ≡ length prev = length-set (set prev (m + k) t) l (m + k) ∙ length-set prev (m + k) t in
-    let long_o : length (set owners k l) ≡ length owners = length-set owners k l in
     let pushes : PushesTail (at next) (at prev) (at owners) (at next') (at prev') (at (set owners k l)) m l k = record {
       next_last = get_or-set_other (set next t (m + k)) (m + k) t l 0 t_other ∙ get_or-set_same next t (m + k) 0 (omega (arith, t_in, s.long_next));
       next_node = get_or-set_same (set next t (m + k)) (m + k) l 0 (omega (arith, in_n, s.long_next, length-set next t (m + k)));
@@ -159,20 +197,9 @@ tail_kept next prev owners m l k v s e hl hk free =
       owner_node = get_or-set_same owners k l 0 in_n;
       owner_others = λ j d. get_or-set_other owners k j l 0 d;
     } in
-    let after_it = tail_rings (at next) (at prev) (at owners) (at next') (at prev') (at (set owners k l)) m (length owners) xss l k r in_m in_n unused pushes in
-    let to = but_at xss l (xss l ++ k ∷ []) in
-    let rings : AreRings (at next') (at prev') (at (set owners k l)) m (length (set owners k l)) to =
-    subst (λ u. AreRings (at next') (at prev') (at (set owners k l)) m u to) (sym long_o) after_it in (
-      record {
-        few = omega (arith, s.few, long_o);
-        long_next = omega (arith, s.long_next, long_n, long_o);
-        long_prev = omega (arith, s.long_prev, long_p, long_o);
-        stored = (to, rings);
-      },
-      built next' prev' (set owners k l) m (length (set owners k l)) to rings
-          ∙ same_pushed v (length (set owners k l)) m l xss (xss l ++ k ∷ []) (see.nodes ∙ sym long_o) see.lists
-          ∙ ap (λ u. with_list v l (u ++ k ∷ [])) (sym (see.here l in_m)),
-    )
+    let after_it = tail_rings (at next) (at prev) (at owners) (at next') (at prev') (at (set owners k l)) m (length owners) xss l k r in_m in_n spare.unused pushes in
+    let it = pushed_kept next prev owners next' prev' m l k v s (xss l ++ k ∷ []) e long_n long_p after_it in
+    (it.0, it.1 ∙ ap (λ u. with_list v l (u ++ k ∷ [])) (sym (spare.here l in_m)))
 
 pub head_kept : (next prev owners : List ℕ) (m l k : ℕ) (v : Chains) (s : AreStored next prev owners m)
     → chains_of next m (length owners) ≡ v → l < length v.lists → k < v.nodes → IsFree v k
@@ -181,19 +208,17 @@ pub head_kept : (next prev owners : List ℕ) (m l k : ℕ) (v : Chains) (s : Ar
 head_kept next prev owners m l k v s e hl hk free =
     let xss = s.stored.0 in
     let r = s.stored.1 in
-    let see = seen next prev owners m v s e in
-    let in_m : l < m = omega (arith, hl, see.count) in
-    let in_n : k < length owners = omega (arith, hk, see.nodes) in
-    let unused : (j : ℕ) → j < m → ¬ (Has (xss j) k) = λ j h g. free j (subst (λ t. Has t k) (sym (see.here j h)) g) in
+    let spare = is_spare next prev owners m l k v s e hl hk free in
+    let in_m = spare.list_in in
+    let in_n = spare.node_in in
     let t = get_or next l 0 in
     let first = first_cell (at next) (at prev) m l (xss l) l (r.rings l in_m) in
     let t_in : t < m + length owners = cell_within r l t in_m first.0 in
-    let t_other : t ≢ m + k = λ q. new_cell m l k (xss l) in_m (unused l in_m) (subst (λ u. IsCell m l (xss l) u) q first.0) in
+    let t_other : t ≢ m + k = λ q. new_cell m l k (xss l) in_m (spare.unused l in_m) (subst (λ u. IsCell m l (xss l) u) q first.0) in
     let next' = set (set next (m + k) t) l (m + k) in
     let prev' = set (set prev t (m + k)) (m + k) l in
     let long_n : length next' ≡ length next = length-set (set next (m + k) t) l (m + k) ∙ length-set next (m + k) t in
     let long_p : length prev' ≡ length prev = length-set (set prev t (m + k)) (m + k) l ∙ length-set prev t (m + k) in
-    let long_o : length (set owners k l) ≡ length owners = length-set owners k l in
     let pushes : PushesHead (at next) (at prev) (at owners) (at next') (at prev') (at (set owners k l)) m l k = record {
       next_end = get_or-set_same (set next (m + k) t) l (m + k) 0 (omega (arith, in_m, s.long_next, length-set next (m + k) t));
       next_node = get_or-set_other (set next (m + k) t) l (m + k) (m + k) 0 (λ q. absurd (omega (arith, q, in_m))) ∙ get_or-set_same next (m + k) t 0 (omega (arith, in_n, s.long_next));
@@ -204,20 +229,9 @@ head_kept next prev owners m l k v s e hl hk free =
       owner_node = get_or-set_same owners k l 0 in_n;
       owner_others = λ j d. get_or-set_other owners k j l 0 d;
     } in
-    let after_it = head_rings (at next) (at prev) (at owners) (at next') (at prev') (at (set owners k l)) m (length owners) xss l k r in_m in_n unused pushes in
-    let to = but_at xss l (k ∷ xss l) in
-    let rings : AreRings (at next') (at prev') (at (set owners k l)) m (length (set owners k l)) to =
-    subst (λ u. AreRings (at next') (at prev') (at (set owners k l)) m u to) (sym long_o) after_it in (
-      record {
-        few = omega (arith, s.few, long_o);
-        long_next = omega (arith, s.long_next, long_n, long_o);
-        long_prev = omega (arith, s.long_prev, long_p, long_o);
-        stored = (to, rings);
-      },
-      built next' prev' (set owners k l) m (length (set owners k l)) to rings
-          ∙ same_pushed v (length (set owners k l)) m l xss (k ∷ xss l) (see.nodes ∙ sym long_o) see.lists
-          ∙ ap (λ u. with_list v l (k ∷ u)) (sym (see.here l in_m)),
-    )
+    let after_it = head_rings (at next) (at prev) (at owners) (at next') (at prev') (at (set owners k l)) m (length owners) xss l k r in_m in_n spare.unused pushes in
+    let it = pushed_kept next prev owners next' prev' m l k v s (k ∷ xss l) e long_n long_p after_it in
+    (it.0, it.1 ∙ ap (λ u. with_list v l (k ∷ u)) (sym (spare.here l in_m)))
 
 -- the cells beside a node that is in a list
 pub out_cells : (next prev owners : List ℕ) (m k l : ℕ) (xss : ℕ → List ℕ) → AreRings (at next) (at prev) (at owners) m (length owners) xss

@@ -6,7 +6,7 @@ use Rattle.queue_sched.specs.index_links.Chains.{list_at, first_of, IsFree}
 use Rattle.queue_sched.specs.DrrStates.{DrrState, WaitsInTurn, arrived}
 use Rattle.queue_sched.proofs.WaitingLemmas.{is_free, same_packets}
 use Rattle.queue_sched.specs.Waiting.{HasPacket}
-use Rattle.queue_sched.proofs.DrrSteps.{turn_free, drr_joined, no_first, head_cases, none_of, some_not_none}
+use Rattle.queue_sched.proofs.DrrSteps.{state_of, turn_free, drr_joined, no_first, head_cases, none_of, some_not_none}
 use Rattle.queue_sched.proofs.drr.DrrSchedScheduler.arrive.Goals as goal
 
 pub join-requires-clause-free : goal.join-requires-clause-free
@@ -28,14 +28,8 @@ pub returns-clause-joined : goal.returns-clause-joined
 returns-clause-joined c = λ σ card t is card_is.
     let v : DrrState = c.args.self.now in
     let waits = c.is_some-waits.result in
-    let inside : DrrState = record {
-      waiting = c.self.inside.queues;
-      turns = c.self.inside.turns;
-      quanta = c.self.inside.quanta.items;
-      deficits = c.self.inside.deficits.items;
-      lengths = c.self.inside.lengths.items;
-      visited = c.self.inside.visited;
-    } in
+    let inside : DrrState =
+    state_of c.self.inside.queues c.self.inside.turns c.self.inside.quanta.items c.self.inside.deficits.items c.self.inside.lengths.items c.self.inside.visited in
     let now : DrrState = record {
       waiting = c.push_tail.new.self;
       turns = c.join.new.turns;

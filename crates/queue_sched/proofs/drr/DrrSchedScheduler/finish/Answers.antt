@@ -4,7 +4,7 @@ use Rattle.run_laws.specs.Next.{next}
 use Rattle.run_laws.specs.Cards.{Leaves}
 use Rattle.queue_sched.specs.index_links.Chains.{list_at, first_of, with_list}
 use Rattle.queue_sched.specs.DrrStates.{DrrState, WaitsInTurn, left_with, with_waiting}
-use Rattle.queue_sched.proofs.DrrSteps.{is_visiting, drr_left}
+use Rattle.queue_sched.proofs.DrrSteps.{state_of, is_visiting, drr_left}
 use Rattle.queue_sched.proofs.drr.DrrSchedScheduler.finish.Goals as goal
 
 pub pop_head-requires : goal.pop_head-requires
@@ -28,14 +28,8 @@ returns-in-Some-pop_head-clause-left c = λ σ u is busy.
     record {
       packet_is = (let f : Some u.card.packet ≡ Some c.in-Some-pop_head.packet = sym k.first ∙ ap (λ i. first_of (list_at v.waiting i)) same ∙ first in cc);
       moved = λ t.
-          let inside : DrrState = record {
-            waiting = c.self.inside.queues;
-            turns = c.self.inside.turns;
-            quanta = c.self.inside.quanta.items;
-            deficits = c.self.inside.deficits.items;
-            lengths = c.self.inside.lengths.items;
-            visited = c.self.inside.visited;
-          } in
+          let inside : DrrState =
+          state_of c.self.inside.queues c.self.inside.turns c.self.inside.quanta.items c.self.inside.deficits.items c.self.inside.lengths.items c.self.inside.visited in
           let popped : with_waiting inside c.pop_head.new.self ≡ with_waiting v (with_list v.waiting u.card.queue (drop 1 (list_at v.waiting u.card.queue))) =
           ap (with_waiting inside) c.pop_head.ensures.rest
           ∙ ap (λ (s : DrrState). with_waiting s (with_list s.waiting q (drop 1 (list_at s.waiting q)))) c.self.view_is
