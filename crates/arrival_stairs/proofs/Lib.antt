@@ -10,6 +10,7 @@ pub mod Frozen
 pub mod Walked
 pub mod UnderLines
 pub mod Tails
+pub mod Lowest
 pub mod Meets
 pub mod Exact
 pub mod NoJumps

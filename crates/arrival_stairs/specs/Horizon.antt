@@ -7,6 +7,7 @@ use Rattle.arrival_stairs.specs.Greatest.{IsGreatestBetween}
 use Rattle.arrival_stairs.specs.Ahead.{IsAheadUpTo}
 use Rattle.arrival_stairs.specs.Heights.{AreMoments, most_ahead}
 use Rattle.arrival_stairs.specs.Jumps.{jump_count}
+use Rattle.arrival_stairs.specs.Lows.{AreLows}
 use Rattle.arrival_stairs.specs.Stairs.{levels_at}
 use Rattle.arrival_stairs.specs.StairExcess.{IsLastWalked, line_ahead}
 use Rattle.arrival_stairs.specs.declared.horizon.Onset.{Onset}
@@ -92,4 +93,5 @@ pub record IsWalk (bundles : List Bundle) (walk : Walk) : Type 0 where
 
 pub record IsWalkOf (bundles : List Bundle) (steps : List Line) (services : List Service) (walk : Walk) : Type 0 where
   pub is : IsWalk bundles walk
+  pub lows : AreLows steps walk.end (length steps) walk.lows.items
   pub ends : (k : ℕ) (d : Service) → k < length services → IsEnd bundles steps (get_or services k d).rate walk.end

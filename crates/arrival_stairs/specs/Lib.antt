@@ -8,6 +8,7 @@ pub mod Ahead
 pub mod Raised
 pub mod BelowLines
 pub mod StairExcess
+pub mod Lows
 pub mod Horizon
 pub mod Promises
 pub mod Stays

@@ -1,6 +1,6 @@
 //! Until when the jumps of bundles count: from then on their lines are no further above the rate than they are before.
 
-ghost use Rattle.std.specs.Prelude.{◌≡◌, ◌^◌, ◌<◌, ◌≤◌, All, List, IfOk, IfSome, length};
+ghost use Rattle.std.specs.Prelude.{◌≡◌, ◌-◌, ◌^◌, ◌<◌, ◌≤◌, All, List, IfOk, IfSome, length};
 ghost use Rattle.arrival_lines.specs.Steps.{AreSlowing};
 ghost use Rattle.arrival_stairs.specs.Heights.{AreMoments};
 ghost use Rattle.arrival_stairs.specs.Horizon.{ArePast, IsDown, IsHorizon, IsOnset, IsPast, down_at};
@@ -32,21 +32,51 @@ fn meets(line: Line, rate: u64, known: u128) -> u128
     ((line.burst as u128 - known) * SECOND).div_ceil((rate - line.rate) as u128)
 }
 
+/// Whether the step is more than so many grains above the rate where it meets the next one; and where it is no slower.
+fn is_above(step: Line, next: Line, rate: u64, known: u128) -> bool {
+    if step.rate >= rate {
+        return true;
+    }
+    let over = (step.burst as u128).saturating_sub(known);
+    let fall = step.rate.saturating_sub(next.rate) as u128;
+    let rise = next.burst.saturating_sub(step.burst) as u128;
+    (rate - step.rate) as u128 * rise < over * fall
+}
+
+/// The step that is first no more than so many grains above the rate, by halving; the last one where none is.
+fn first_down(steps: &[Line], rate: u64, known: u128) -> usize
+    ensures { result ≤ length steps.now - 1 }
+{
+    let mut low: usize = 0;
+    let mut high = steps.len().saturating_sub(1);
+    while low < high {
+        let middle = low + (high - low) / 2;
+        if is_above(steps[middle], steps[middle + 1], rate, known) {
+            low = middle + 1;
+        } else {
+            high = middle;
+        }
+    }
+    low
+}
+
 /// When the first of the steps that grow slower than the rate is no more than so many grains above it; none where that
 /// is late.
 fn down_by(steps: &[Line], rate: u64, known: u128) -> Option<u64>
     ensures { IfSome result (IsDown steps.now rate known) }
 {
-    let mut least = LATE;
-    for line in steps {
-        if line.rate < rate {
-            least = least.min(meets(*line, rate, known));
-        }
-    }
-    if least >= LATE {
+    if steps.is_empty() {
         return None;
     }
-    Some(least as u64)
+    let step = steps[first_down(steps, rate, known)];
+    if step.rate >= rate {
+        return None;
+    }
+    let at = meets(step, rate, known);
+    if at >= LATE {
+        return None;
+    }
+    Some(at as u64)
 }
 
 /// When the last of the parts goes over to its other line, in picoseconds, rounded up.

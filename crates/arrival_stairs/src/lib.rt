@@ -10,6 +10,7 @@ mod greatest;
 mod heights;
 mod horizon;
 mod jumps;
+mod lows;
 mod queues;
 mod slow;
 mod stairs;

@@ -11,6 +11,7 @@ use crate::counts::{are_few, last_walked};
 use crate::heights::Height;
 use crate::horizon::{Onset, last_horizon, onset_of};
 use crate::jumps::jumps_until;
+use crate::lows::lows_of;
 use crate::stairs::Bundle;
 use crate::walk::heights_until;
 use arrival_lines::{Line, Service};
@@ -22,6 +23,8 @@ pub(crate) struct Walk {
     /// In picoseconds.
     pub(crate) end: u64,
     pub(crate) heights: Vec<Height>,
+    /// The least that the last steps come to at the end: the last one, the last two, and so on.
+    pub(crate) lows: Vec<u128>,
 }
 
 /// Until when to walk: until the horizon of each service is past, but over no more jumps than the limit.
@@ -58,5 +61,6 @@ pub(crate) fn walk_of(
     let end = end_of(bundles, &onset, steps, services);
     let jumps = jumps_until(alloc, bundles, end)?;
     let heights = heights_until(alloc, bundles, &jumps, end)?;
-    Ok(Walk { end, heights })
+    let lows = lows_of(alloc, steps, end)?;
+    Ok(Walk { end, heights, lows })
 }
