@@ -66,8 +66,8 @@ pub record IsOnset (bundles : List Bundle) (onset : Onset) : Type 0 where
   pub first_moments : AreMoments onset.first.items
   pub first : (rate : ℕ) → IsGreatestBetween (levels_at bundles 0) rate 0 0 (most_ahead rate onset.first.items)
   pub short : onset.until < 2 ^ 62
-  pub moments : AreMoments onset.heights.items
-  pub greatest : (rate : ℕ) → IsGreatestBetween (levels_at bundles 0) rate 0 onset.until (most_ahead rate onset.heights.items)
+  pub moments : AreMoments onset.peaks.heights.items
+  pub greatest : (rate : ℕ) → IsGreatestBetween (levels_at bundles 0) rate 0 onset.until (most_ahead rate onset.peaks.heights.items)
 
 -- ---- of several services
 -- a time that is past the horizon, where a step is no faster than the rate
@@ -88,8 +88,8 @@ pub record IsEnd (bundles : List Bundle) (steps : List Line) (rate end : ℕ) : 
 
 -- what a walk gives for each rate
 pub record IsWalk (bundles : List Bundle) (walk : Walk) : Type 0 where
-  pub moments : AreMoments walk.heights.items
-  pub greatest : (rate : ℕ) → IsAheadUpTo bundles rate walk.end (most_ahead rate walk.heights.items)
+  pub moments : AreMoments walk.peaks.heights.items
+  pub greatest : (rate : ℕ) → IsAheadUpTo bundles rate walk.end (most_ahead rate walk.peaks.heights.items)
 
 pub record IsWalkOf (bundles : List Bundle) (steps : List Line) (services : List Service) (walk : Walk) : Type 0 where
   pub is : IsWalk bundles walk

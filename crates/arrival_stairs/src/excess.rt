@@ -10,7 +10,7 @@ ghost use Rattle.arrival_stairs.specs.Stairs.{AreBundles};
 ghost use Rattle.arrival_stairs.specs.StairExcess.{ExcessIsABound, ExcessIsOne, IsStairExcess};
 ghost use Rattle.arrival_stairs.specs.declared.stairs.Bundle.{Bundle};
 
-use crate::heights::{greater, greatest_ahead};
+use crate::heights::greater;
 use crate::slow::count_faster;
 use crate::walks::Walk;
 use arrival_lines::Line;
@@ -38,14 +38,14 @@ fn tail(walk: &Walk, lines: &[Line], rate: u64, most: u64) -> u64
 /// lines, and so many grains the burst of one of them that is no faster: up to the walk's end by the walk, and from there on
 /// by the lines.
 pub(crate) fn stair_excess(walk: &Walk, steps: &[Line], rate: u64, most: u64) -> u64
-    requires moments { AreMoments walk.now.heights.items }
+    requires moments { AreMoments walk.now.peaks.heights.items }
     requires slowing { AreSlowing steps.now }
     requires lows { AreLows steps.now walk.now.end (length steps.now) walk.now.lows.items }
     requires rate { rate < 2 ^ 62 }
     ensures { (bundles : List Bundle) → AreBundles bundles → AreSteps (line_parts bundles) steps.now → IsSlowBurst steps.now rate most
         → IsWalk bundles walk.now → IsEnd bundles steps.now rate walk.now.end → IsStairExcess bundles rate result }
 {
-    let walked = greatest_ahead(&walk.heights, rate);
+    let walked = walk.peaks.ahead(rate);
     let later = tail(walk, steps, rate, most);
     greater(walked, later as u128).min(most as u128) as u64
 }

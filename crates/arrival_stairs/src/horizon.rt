@@ -10,6 +10,7 @@ ghost use Rattle.arrival_stairs.specs.Heights.{AreSmall};
 use crate::bends::bend_of;
 use crate::greatest::heights_between;
 use crate::heights::{Height, greatest_ahead};
+use crate::peaks::{Peaks, peaks_of};
 use crate::slow::slow_burst;
 use crate::stairs::{Bundle, levels_of};
 use arrival_lines::{Line, Part, Service};
@@ -98,23 +99,29 @@ pub(crate) struct Onset {
     /// In picoseconds.
     pub(crate) until: u64,
     pub(crate) first: Vec<Height>,
-    pub(crate) heights: Vec<Height>,
+    pub(crate) peaks: Peaks,
 }
 
-pub(crate) fn onset_of(alloc: Global, bundles: &[Bundle]) -> Result<Onset, AllocError>
-    requires { AreBundles bundles.now }
+pub(crate) fn onset_of(
+    alloc: Global,
+    bundles: &[Bundle],
+    services: &[Service],
+) -> Result<Onset, AllocError>
+    requires bundles { AreBundles bundles.now }
+    requires rates { All (λ s. s.rate < 2 ^ 62) services.now }
     ensures { IfOk result (IsOnset bundles.now) }
 {
     let levels = levels_of(alloc, bundles)?;
     let until = last_bend(&levels).min(LATE - 1) as u64;
     let mut first = Vec::new(alloc);
-    heights_between(&levels, 0, 0, &mut first)?;
+    heights_between(alloc, &levels, 0, 0, &mut first)?;
     let mut heights = Vec::new(alloc);
-    heights_between(&levels, 0, until, &mut heights)?;
+    heights_between(alloc, &levels, 0, until, &mut heights)?;
+    let peaks = peaks_of(alloc, heights, services)?;
     Ok(Onset {
         until,
         first,
-        heights,
+        peaks,
     })
 }
 
@@ -122,7 +129,7 @@ pub(crate) fn onset_of(alloc: Global, bundles: &[Bundle]) -> Result<Onset, Alloc
 /// where that is late.
 fn horizon(onset: &Onset, steps: &[Line], rate: u64) -> Option<u64>
     requires first { AreMoments onset.now.first.items }
-    requires heights { AreMoments onset.now.heights.items }
+    requires heights { AreMoments onset.now.peaks.heights.items }
     requires rate { rate < 2 ^ 62 }
     ensures { (bundles : List Bundle) → IsOnset bundles onset.now → IfSome result (IsHorizon bundles steps.now rate) }
 {
@@ -133,7 +140,7 @@ fn horizon(onset: &Onset, steps: &[Line], rate: u64) -> Option<u64>
             if onset.until > latest {
                 return Some(latest);
             }
-            let known = greatest_ahead(&onset.heights, rate);
+            let known = onset.peaks.ahead(rate);
             match down_by(steps, rate, known) {
                 None => Some(latest),
                 Some(end) => Some(end.max(onset.until).min(latest)),
@@ -145,7 +152,7 @@ fn horizon(onset: &Onset, steps: &[Line], rate: u64) -> Option<u64>
 /// The same at a service, and 0 where each step is faster.
 fn horizon_at(onset: &Onset, steps: &[Line], rate: u64) -> Option<u64>
     requires first { AreMoments onset.now.first.items }
-    requires heights { AreMoments onset.now.heights.items }
+    requires heights { AreMoments onset.now.peaks.heights.items }
     requires steps { AreSlowing steps.now }
     requires rate { rate < 2 ^ 62 }
     ensures { (bundles : List Bundle) → IsOnset bundles onset.now → IfSome result (IsPast bundles steps.now rate) }
@@ -159,7 +166,7 @@ fn horizon_at(onset: &Onset, steps: &[Line], rate: u64) -> Option<u64>
 /// The same for each of some services.
 pub(crate) fn last_horizon(onset: &Onset, steps: &[Line], services: &[Service]) -> Option<u64>
     requires first { AreMoments onset.now.first.items }
-    requires heights { AreMoments onset.now.heights.items }
+    requires heights { AreMoments onset.now.peaks.heights.items }
     requires steps { AreSlowing steps.now }
     requires rates { All (λ s. s.rate < 2 ^ 62) services.now }
     ensures { (bundles : List Bundle) → IsOnset bundles onset.now → IfSome result (ArePast bundles steps.now services.now (length services.now)) }

@@ -11,6 +11,7 @@ mod heights;
 mod horizon;
 mod jumps;
 mod lows;
+mod peaks;
 mod queues;
 mod slow;
 mod stairs;

@@ -24,7 +24,7 @@ fn least_stay(
     longest: u64,
     by_lines: Option<Queue>,
 ) -> Option<Stay>
-    requires moments { AreMoments walk.now.heights.items }
+    requires moments { AreMoments walk.now.peaks.heights.items }
     requires steps { AreSlowing steps.now }
     requires lows { AreLows steps.now walk.now.end (length steps.now) walk.now.lows.items }
     requires rates { All (λ s. s.rate < 2 ^ 62) services.now }

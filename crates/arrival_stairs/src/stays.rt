@@ -49,7 +49,7 @@ fn stay_of(excess: u64, service: Service, longest: u64) -> Stay
 /// The delay and the backlog at one service of the bundles of which this is the walk and these are the lines' steps; none
 /// where each of these is faster.
 pub(crate) fn stay_at(walk: &Walk, steps: &[Line], service: Service, longest: u64) -> Option<Stay>
-    requires moments { AreMoments walk.now.heights.items }
+    requires moments { AreMoments walk.now.peaks.heights.items }
     requires steps { AreSlowing steps.now }
     requires lows { AreLows steps.now walk.now.end (length steps.now) walk.now.lows.items }
     requires rate { service.rate < 2 ^ 62 }
