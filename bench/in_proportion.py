@@ -4,8 +4,8 @@
     python3 bench/in_proportion.py NETBOUND
 
 Shapes that would show a part that is quadratic: one port with all links; one link with all branches, over few ports and
-over many; many ports with a link each; many ports of 8 queues with a link each; and paths of 64 ports. Instructions are counted by valgrind (callgrind); where
-there is none, it is the user's processor time. It prints a line a shape, and ends with 1 where one takes more.
+over many; many ports with a link each; the same, into one port; many ports of 8 queues with a link each; and paths of 64 ports. Instructions are counted by
+valgrind (callgrind); where there is none, it is the user's processor time. It prints a line a shape, and ends with 1 where one takes more.
 """
 
 import re
@@ -43,6 +43,10 @@ def ports_with_a_link_each(size):
     return ports(4 * size), links((f"v{number}", f"p{number}") for number in range(4 * size))
 
 
+def ports_with_a_link_each_into_one(size):
+    return ports(4 * size), links((f"v{number}", f"p{number} p0") for number in range(1, 4 * size))
+
+
 def queues_with_a_link_each(size):
     return ports(2 * size, "priority 8"), links((f"v{number}", f"p{number // 8}", str(number % 8)) for number in range(16 * size))
 
@@ -57,6 +61,7 @@ SHAPES = [
     one_link_with_all_branches,
     one_link_over_all_ports,
     ports_with_a_link_each,
+    ports_with_a_link_each_into_one,
     queues_with_a_link_each,
     paths_of_64_ports,
 ]

@@ -14,3 +14,6 @@ ceil_most n d q some h = elim (cases_lt q (div_ceil n d)) [
       let b : (q + 1) * d ≤ div_ceil n d * d = mul-le-mul_right d (omega (arith, l)) in
       absurd (omega (arith, a, b, h))
 ]
+
+pub ceil_order : (n m d : ℕ) → 0 < d → n ≤ m → div_ceil n d ≤ div_ceil m d
+ceil_order n m d some h = let a : m ≤ div_ceil m d * d = (div_ceil_times m d some).0 in ceil_most n d (div_ceil m d) some (omega (arith, a, h))

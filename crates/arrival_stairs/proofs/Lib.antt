@@ -4,12 +4,17 @@ pub mod Bent
 pub mod Split
 pub mod Most
 pub mod Added
+pub mod Grown
+pub mod Concave
+pub mod Meetings
 pub mod Starts
 pub mod Risen
 pub mod Frozen
 pub mod Walked
 pub mod UnderLines
 pub mod Tails
+pub mod Lowest
+pub mod Further
 pub mod Meets
 pub mod Exact
 pub mod NoJumps

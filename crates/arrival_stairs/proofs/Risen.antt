@@ -178,17 +178,17 @@ adds_none f i end jumps is = record {
   each = λ count l all. all;
 }
 
+each_rises : (n : ℕ) (xs : List Stair) → All IsStair xs → sum_by (stair_level 0) xs ≤ sum_by (stair_level n) xs
+each_rises n [] all = omega arith
+each_rises n (x ∷ xs) all =
+    let a = stair_rises n x (All-head IsStair x xs all).some_gap in
+    let b = each_rises n xs (All-tail IsStair x xs all) in
+    let e = sum_by-cons (stair_level 0) x xs in
+    let f = sum_by-cons (stair_level n) x xs in
+    omega (arith, a, b, e, f)
+
 sums_rise : (stairs : List Stair) → All IsStair stairs → (i n : ℕ) → sum_by (stair_level 0) (take i stairs) ≤ sum_by (stair_level n) (take i stairs)
-sums_rise stairs all i n = each_rises (take i stairs) (All-take IsStair i stairs all)
-  where
-    each_rises : (xs : List Stair) → All IsStair xs → sum_by (stair_level 0) xs ≤ sum_by (stair_level n) xs
-    each_rises [] all = omega arith
-    each_rises (x ∷ xs) all =
-        let a = stair_rises n x (All-head IsStair x xs all).some_gap in
-        let b = each_rises xs (All-tail IsStair x xs all) in
-        let e = sum_by-cons (stair_level 0) x xs in
-        let f = sum_by-cons (stair_level n) x xs in
-        omega (arith, a, b, e, f)
+sums_rise stairs all i n = each_rises n (take i stairs) (All-take IsStair i stairs all)
 
 pub one_more_stair : (stairs : List Stair) (k i end : ℕ) (a b c : List Jump) → k < length stairs → All IsStair stairs
     → AddsJumps (λ n. sum_by (stair_level n) (take k stairs)) i end a b → AddsJumps (λ n. stair_level n (get_or stairs k no_stair)) i end b c
@@ -219,14 +219,6 @@ pub record AreJumpsOfFirst (bundles : List Bundle) (i end : ℕ) (jumps : List J
   pub rises : (p n : ℕ) (d : Bundle) → p < i → n ≤ end → bundle_level n (get_or bundles p d) ≡ bundle_level 0 (get_or bundles p d) + risen jumps p n
   pub none : (p n : ℕ) → i ≤ p → n ≤ end → risen jumps p n ≡ 0
 
-pub no_jumps : (bundles : List Bundle) (end : ℕ) (jumps : List Jump) → jumps ≡ [] → AreJumpsOfFirst bundles 0 end jumps
-no_jumps bundles end jumps e = record {
-  each = subst (λ (js : List Jump). All (IsJump (length bundles) end) js) (sym e) (All-nil (IsJump (length bundles) end));
-  count = ap length e;
-  rises = λ p n d h. absurd (omega (arith, h));
-  none = λ p n h l. ap (λ js. risen js p n) e;
-}
-
 pub other_rise : (i p a : ℕ) → (i ≡ p → ⊥) → (if i == p then a else 0) ≡ 0
 other_rise i p a h = elim (cases_lt i p) [
   | inl l ↦ grind (arith, nat_tests)
@@ -237,16 +229,7 @@ pub own_rise : (i p a : ℕ) → i ≡ p → (if i == p then a else 0) ≡ a
 own_rise i p a h = grind (arith, nat_tests)
 
 pub bundle_rises : (b : Bundle) (n : ℕ) → All IsStair b.stairs.items → bundle_level 0 b ≤ bundle_level n b
-bundle_rises b n all = each_rises b.stairs.items all
-  where
-    each_rises : (xs : List Stair) → All IsStair xs → sum_by (stair_level 0) xs ≤ sum_by (stair_level n) xs
-    each_rises [] all = omega arith
-    each_rises (x ∷ xs) all =
-        let a = stair_rises n x (All-head IsStair x xs all).some_gap in
-        let b = each_rises xs (All-tail IsStair x xs all) in
-        let e = sum_by-cons (stair_level 0) x xs in
-        let f = sum_by-cons (stair_level n) x xs in
-        omega (arith, a, b, e, f)
+bundle_rises b n all = each_rises n b.stairs.items all
 
 pub one_more_bundle : (bundles : List Bundle) (i end : ℕ) (d : Bundle) (old new : List Jump) → i < length bundles → AreBundles bundles
     → length new ≡ length old + bundle_jump_count end (get_or bundles i d)
@@ -276,13 +259,6 @@ one_more_bundle bundles i end d old new inside are counts adds so_far = record {
       let y = so_far.none p n (omega (arith, h)) l in
       let z = other_rise i p (bundle_level n (get_or bundles i d) - bundle_level 0 (get_or bundles i d)) (λ same. omega (arith, same, h)) in
       omega (arith, x, y, z);
-}
-
-pub all_bundles : (bundles : List Bundle) (i end : ℕ) (jumps : List Jump) → length bundles ≤ i → AreJumpsOfFirst bundles i end jumps → AreJumps bundles end jumps
-all_bundles bundles i end jumps done are = record {
-  each = are.each;
-  count = are.count ∙ ap (sum_by (bundle_jump_count end)) (take_all i bundles done);
-  rises = λ p n d h l. are.rises p n d (omega (arith, h, done)) l;
 }
 
 -- ---- in another order

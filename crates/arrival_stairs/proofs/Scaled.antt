@@ -78,30 +78,43 @@ module _ (over under : ℕ) (t : ℚ) (at : IsAt over under t) where
   line_at_scaled x rate =
       mul_add (whole under) (bits x) (speed rate *ℚ t) ∙ ap₂ (λ y z. y +ℚ z) (bits_times under x) (rate_scaled rate) ∙ sym (bits_add (under * x) (rate * over))
 
-  pub ahead_over : (parts : List Part) (rate x : ℕ) → x ≡ div_ceil (heights parts over under - rate * over) under → IsBelow (parts_value parts) rate x t
-  ahead_over parts rate x e =
-      let k : heights parts over under - rate * over ≤ x * under = subst (λ n. heights parts over under - rate * over ≤ n * under) (sym e) (div_ceil_times _ under at.some).0 in
-      let b = bits_le (heights parts over under) (under * x + rate * over) (omega (arith, k)) in
-      le_of_mul (whole under) (parts_value parts t) (bits x +ℚ speed rate *ℚ t) under_some
-      (rw (mul_comm (parts_value parts t) (whole under), mul_comm (bits x +ℚ speed rate *ℚ t) (whole under), parts_scaled parts, line_at_scaled x rate) b)
+  -- what comes to so many grains over `under`
+  over_by : (v : ℚ) (h rate x : ℕ) → whole under *ℚ v ≡ bits h → x ≡ div_ceil (h - rate * over) under → v ≤ℚ bits x +ℚ speed rate *ℚ t
+  over_by v h rate x scaled e =
+      let k : h - rate * over ≤ x * under = subst (λ n. h - rate * over ≤ n * under) (sym e) (div_ceil_times _ under at.some).0 in
+      let b = bits_le h (under * x + rate * over) (omega (arith, k)) in
+      le_of_mul (whole under) v (bits x +ℚ speed rate *ℚ t) under_some
+      (rw (mul_comm v (whole under), mul_comm (bits x +ℚ speed rate *ℚ t) (whole under), scaled, line_at_scaled x rate) b)
 
-  pub ahead_near : (parts : List Part) (rate x : ℕ) → x ≡ div_ceil (heights parts over under - rate * over) under → 0 < x
-      → bits x +ℚ speed rate *ℚ t <ℚ parts_value parts t +ℚ grain
-  ahead_near parts rate x e some =
-      let n = heights parts over under - rate * over in
+  near_by : (v : ℚ) (h rate x : ℕ) → whole under *ℚ v ≡ bits h → x ≡ div_ceil (h - rate * over) under → 0 < x → bits x +ℚ speed rate *ℚ t <ℚ v +ℚ grain
+  near_by v h rate x scaled e some =
+      let n = h - rate * over in
       let k : x * under < n + under = subst (λ m. m * under < n + under) (sym e) (div_ceil_times n under at.some).1 in
       let u : under ≤ x * under = le_times x under some in
-      let b = bits_lt (under * x + rate * over) (heights parts over under + under * 1) (omega (arith, k, u)) in
-      lt_of_mul (whole under) (bits x +ℚ speed rate *ℚ t) (parts_value parts t +ℚ grain) under_some
-      (rw (mul_comm (bits x +ℚ speed rate *ℚ t) (whole under), mul_comm (parts_value parts t +ℚ grain) (whole under), line_at_scaled x rate, with_grain) b)
+      let b = bits_lt (under * x + rate * over) (h + under * 1) (omega (arith, k, u)) in
+      lt_of_mul (whole under) (bits x +ℚ speed rate *ℚ t) (v +ℚ grain) under_some
+      (rw (mul_comm (bits x +ℚ speed rate *ℚ t) (whole under), mul_comm (v +ℚ grain) (whole under), line_at_scaled x rate, with_grain) b)
     where
       le_times : (m k : ℕ) → 0 < m → k ≤ m * k
       le_times m k h = let l : 1 * k ≤ m * k = mul-le-mul_right k h in omega (arith, l)
 
-      with_grain : whole under *ℚ (parts_value parts t +ℚ grain) ≡ bits (heights parts over under + under * 1)
+      with_grain : whole under *ℚ (v +ℚ grain) ≡ bits (h + under * 1)
       with_grain =
-          mul_add (whole under) (parts_value parts t) grain ∙ ap₂ (λ y z. y +ℚ z) (parts_scaled parts) (ap (λ z. whole under *ℚ z) (sym one_grain) ∙ bits_times under 1)
-          ∙ sym (bits_add (heights parts over under) (under * 1))
+          mul_add (whole under) v grain ∙ ap₂ (λ y z. y +ℚ z) scaled (ap (λ z. whole under *ℚ z) (sym one_grain) ∙ bits_times under 1) ∙ sym (bits_add h (under * 1))
+
+  pub ahead_over : (parts : List Part) (rate x : ℕ) → x ≡ div_ceil (heights parts over under - rate * over) under → IsBelow (parts_value parts) rate x t
+  ahead_over parts rate x e = over_by (parts_value parts t) (heights parts over under) rate x (parts_scaled parts) e
+
+  pub ahead_near : (parts : List Part) (rate x : ℕ) → x ≡ div_ceil (heights parts over under - rate * over) under → 0 < x
+      → bits x +ℚ speed rate *ℚ t <ℚ parts_value parts t +ℚ grain
+  ahead_near parts rate x e some = near_by (parts_value parts t) (heights parts over under) rate x (parts_scaled parts) e some
+
+  pub line_over : (l : Line) (rate x : ℕ) → x ≡ div_ceil (line_height l over under - rate * over) under → IsBelow (line_value l) rate x t
+  line_over l rate x e = over_by (line_value l t) (line_height l over under) rate x (line_scaled l) e
+
+  pub line_near : (l : Line) (rate x : ℕ) → x ≡ div_ceil (line_height l over under - rate * over) under → 0 < x
+      → bits x +ℚ speed rate *ℚ t <ℚ line_value l t +ℚ grain
+  line_near l rate x e some = near_by (line_value l t) (line_height l over under) rate x (line_scaled l) e some
 
 -- at a time in picoseconds
 pub bound_at : (parts : List Part) (rate time x : ℕ) → x ≡ div_ceil (heights parts time (10 ^ 12) - rate * time) (10 ^ 12) → IsBoundAt parts rate time x

@@ -6,7 +6,7 @@ use Rattle.std.proofs.lemmas.Bool.{cases_lt}
 use Rattle.std.proofs.lemmas.List.{get_or_default}
 use Rattle.std.proofs.lemmas.List.Elements.{All-head, All-tail}
 use Rattle.std.proofs.Common.{arith, sym, ap, ◌∙◌, refl, subst, inl, inr}
-use Rattle.min_plus.specs.rational.specs.Rational.{ℚ, ◌+ℚ◌, ◌-ℚ◌, ◌*ℚ◌, ◌/ℚ◌, ◌≤ℚ◌, ◌<ℚ◌}
+use Rattle.min_plus.specs.rational.specs.Rational.{ℚ, ◌+ℚ◌, ◌-ℚ◌, ◌*ℚ◌, ◌/ℚ◌, ◌≤ℚ◌}
 use Rattle.min_plus.specs.rational.proofs.Laws.{add_zero, add_assoc, add_comm, zero_mul, add_mul, mul_sub, le_refl, le_trans, le_total, le_of_mul, mul_le_mul, mul_le_mul_right, mul_comm, div_mul, not_zero}
 use Rattle.min_plus.specs.rational.proofs.Linear.{with2, with4, with7, with8}
 use Rattle.min_plus.specs.Functions.{zero_q}
@@ -48,29 +48,36 @@ weaker_kink f from to B C weaker is = elim is [
   | inr kink ↦ inr record { at = kink.at; begins = kink.begins; ends = kink.ends; before = kink.before; after = kink.after; holds = weaker kink.at kink.holds }
 ]
 
--- a line is nowhere further above another than at its ends
-at_ends : (base slope x r from to t : ℚ) → from ≤ℚ t → t ≤ℚ to → base +ℚ slope *ℚ from ≤ℚ x +ℚ r *ℚ from → base +ℚ slope *ℚ to ≤ℚ x +ℚ r *ℚ to
-    → base +ℚ slope *ℚ t ≤ℚ x +ℚ r *ℚ t
-at_ends base slope x r from to t h k first last = elim (le_total slope r) [
-  | inl slower ↦
-      let gap : zero_q ≤ℚ t -ℚ from = with2 t from (λ c. omega (arith, c.le, c.lt, c.same)) in
-      let l = mul_le_mul_right (t -ℚ from) gap slower in
-      let e = mul_sub slope t from in
-      let f = mul_sub r t from in
-      joined base x (slope *ℚ from) (slope *ℚ t) (r *ℚ from) (r *ℚ t) (slope *ℚ (t -ℚ from)) (r *ℚ (t -ℚ from)) first l e f
-  | inr faster ↦
-      let gap : zero_q ≤ℚ to -ℚ t = with2 t to (λ c. omega (arith, c.le, c.lt, c.same)) in
-      let l = mul_le_mul_right (to -ℚ t) gap faster in
-      let e = mul_sub slope to t in
-      let f = mul_sub r to t in
-      back base x (slope *ℚ to) (slope *ℚ t) (r *ℚ to) (r *ℚ t) (slope *ℚ (to -ℚ t)) (r *ℚ (to -ℚ t)) last l e f
-]
+-- a line that is not above another at a time is not above it later where it is no faster, and not before where it is no slower
+pub later_too : (base slope x r from t : ℚ) → slope ≤ℚ r → from ≤ℚ t → base +ℚ slope *ℚ from ≤ℚ x +ℚ r *ℚ from → base +ℚ slope *ℚ t ≤ℚ x +ℚ r *ℚ t
+later_too base slope x r from t slower h first =
+    let gap : zero_q ≤ℚ t -ℚ from = with2 t from (λ c. omega (arith, c.le, c.lt, c.same)) in
+    let l = mul_le_mul_right (t -ℚ from) gap slower in
+    let e = mul_sub slope t from in
+    let f = mul_sub r t from in
+    joined base x (slope *ℚ from) (slope *ℚ t) (r *ℚ from) (r *ℚ t) (slope *ℚ (t -ℚ from)) (r *ℚ (t -ℚ from)) first l e f
   where
     joined : (b y sf st rf rt sd rd : ℚ) → b +ℚ sf ≤ℚ y +ℚ rf → sd ≤ℚ rd → sd ≡ st -ℚ sf → rd ≡ rt -ℚ rf → b +ℚ st ≤ℚ y +ℚ rt
     joined b y sf st rf rt sd rd h l e f = with8 b y sf st rf rt sd rd (λ c. omega (arith, c.le, c.lt, c.same))
 
+pub before_too : (base slope x r t to : ℚ) → r ≤ℚ slope → t ≤ℚ to → base +ℚ slope *ℚ to ≤ℚ x +ℚ r *ℚ to → base +ℚ slope *ℚ t ≤ℚ x +ℚ r *ℚ t
+before_too base slope x r t to faster k last =
+    let gap : zero_q ≤ℚ to -ℚ t = with2 t to (λ c. omega (arith, c.le, c.lt, c.same)) in
+    let l = mul_le_mul_right (to -ℚ t) gap faster in
+    let e = mul_sub slope to t in
+    let f = mul_sub r to t in
+    back base x (slope *ℚ to) (slope *ℚ t) (r *ℚ to) (r *ℚ t) (slope *ℚ (to -ℚ t)) (r *ℚ (to -ℚ t)) last l e f
+  where
     back : (b y su st ru rt sd rd : ℚ) → b +ℚ su ≤ℚ y +ℚ ru → rd ≤ℚ sd → sd ≡ su -ℚ st → rd ≡ ru -ℚ rt → b +ℚ st ≤ℚ y +ℚ rt
     back b y su st ru rt sd rd h l e f = with8 b y su st ru rt sd rd (λ c. omega (arith, c.le, c.lt, c.same))
+
+-- so it is nowhere further above another than at its ends
+at_ends : (base slope x r from to t : ℚ) → from ≤ℚ t → t ≤ℚ to → base +ℚ slope *ℚ from ≤ℚ x +ℚ r *ℚ from → base +ℚ slope *ℚ to ≤ℚ x +ℚ r *ℚ to
+    → base +ℚ slope *ℚ t ≤ℚ x +ℚ r *ℚ t
+at_ends base slope x r from to t h k first last = elim (le_total slope r) [
+  | inl slower ↦ later_too base slope x r from t slower h first
+  | inr faster ↦ before_too base slope x r t to faster k last
+]
 
 both_straight : (f g : ℚ → ℚ) (from to : ℚ) → IsStraight f from to → IsStraight g from to → IsStraight (λ t. f t +ℚ g t) from to
 both_straight f g from to a b = record {
@@ -211,6 +218,21 @@ all_bends parts rate begin end i x done so_far = record {
   near = so_far.near;
 }
 
+-- ---- the time in which a rate of `u` grains a second brings `o` grains
+abbrev pub time_of : (o u : ℕ) → ℚ
+time_of o u = bits o /ℚ speed u
+
+pub time_is : (o u : ℕ) → 0 < u → speed u *ℚ time_of o u ≡ bits o
+time_is o u some = mul_comm (speed u) _ ∙ div_mul (bits o) (speed u) (not_zero _ (speed_some u some))
+
+pub is_after : (o u begin : ℕ) (t : ℚ) → 0 < u → speed u *ℚ t ≡ bits o → begin * u ≤ o * 10 ^ 12 → micros begin ≤ℚ t
+is_after o u begin t some at late =
+    le_of_mul (speed u) (micros begin) t (speed_some u some) (rw (mul_comm (micros begin) (speed u), mul_comm t (speed u), at) (brings_less o u begin (omega (arith, late))))
+
+pub is_before : (o u end : ℕ) (t : ℚ) → 0 < u → speed u *ℚ t ≡ bits o → o * 10 ^ 12 ≤ end * u → t ≤ℚ micros end
+is_before o u end t some at early =
+    le_of_mul (speed u) t (micros end) (speed_some u some) (rw (mul_comm t (speed u), mul_comm (micros end) (speed u), at) (brings o u end (omega (arith, early))))
+
 -- ---- where one part bends
 -- nowhere between
 pub no_bend : (parts : List Part) (rate : ℕ) (part : Part) (begin end : ℕ) → IsUnbent part → IsBoundAtBend parts rate part begin end 0
@@ -247,21 +269,13 @@ bends_behind parts rate part begin end at bend late = record {
 pub bends_between : (parts : List Part) (rate : ℕ) (part : Part) (begin end x : ℕ) (at : Moment) → IsBend part at
     → begin * at.under ≤ at.over * 10 ^ 12 → at.over * 10 ^ 12 ≤ end * at.under → x ≡ div_ceil (heights parts at.over at.under - rate * at.over) at.under
     → IsBoundAtBend parts rate part begin end x
-bends_between parts rate part begin end x at bend late early is = at_time (bits at.over /ℚ speed at.under) met
+bends_between parts rate part begin end x at bend late early is = at_time (time_of at.over at.under) (time_is at.over at.under bend.moment.some)
   where
-    some : zero_q <ℚ speed at.under
-    some = speed_some at.under bend.moment.some
-
-    met : speed at.under *ℚ (bits at.over /ℚ speed at.under) ≡ bits at.over
-    met = mul_comm (speed at.under) _ ∙ div_mul (bits at.over) (speed at.under) (not_zero _ some)
-
     at_time : (t : ℚ) → speed at.under *ℚ t ≡ bits at.over → IsBoundAtBend parts rate part begin end x
     at_time t e =
         let there : IsAt at.over at.under t = record { some = bend.moment.some; is = e } in
-        let begins : micros begin ≤ℚ t =
-        le_of_mul (speed at.under) (micros begin) t some (rw (mul_comm (micros begin) (speed at.under), mul_comm t (speed at.under), e) (brings_less at.over at.under begin (omega (arith, late)))) in
-        let ends : t ≤ℚ micros end =
-        le_of_mul (speed at.under) t (micros end) some (rw (mul_comm (micros end) (speed at.under), mul_comm t (speed at.under), e) (brings at.over at.under end (omega (arith, early)))) in
+        let begins = is_after at.over at.under begin t bend.moment.some e late in
+        let ends = is_before at.over at.under end t bend.moment.some e early in
         record {
           over = inr record {
             at = t;

@@ -1,9 +1,9 @@
 -- What bundles bring at 0.
-use Rattle.std.specs.Prelude.{◌≡◌, ℕ, ◌+◌, ◌^◌, ◌<◌, ◌≤◌, List, [], ◌∷◌, ◌++◌, length, get_or, take, map, Option, Some, None}
-use Rattle.std.proofs.Common.{arith, sym, ap, ◌∙◌}
+use Rattle.std.specs.Prelude.{◌≡◌, ℕ, ◌+◌, ◌^◌, ◌<◌, ◌≤◌, List, length, get_or, take, Option, Some, None}
+use Rattle.std.proofs.Common.{arith, ap}
 use Rattle.std.specs.List.{sum_by}
-use Rattle.std.proofs.lemmas.List.{get_or-map, length-map, map_more}
-use Rattle.std.proofs.lemmas.List.Sums.{sum_by_more, sum_by_more_le, get_or-le-sum_by}
+use Rattle.std.proofs.lemmas.List.{get_or-map, length-map}
+use Rattle.std.proofs.lemmas.List.Sums.{sum_by_more_le, get_or-le-sum_by}
 use Rattle.arrival_lines.specs.Steps.{burst_with, most_burst}
 use Rattle.arrival_lines.specs.declared.grid.Line.{Line}
 use Rattle.arrival_lines.specs.declared.grid.Part.{Part}
@@ -18,16 +18,9 @@ abbrev pub no_part : Part
 no_part = record { sum = record { burst = 0; rate = 0 }; pace = None }
 
 -- ---- of one bundle
-pub start_more : (stairs : List Stair) (i level : ℕ) → i < length stairs → level ≡ sum_by (stair_level 0) (take i stairs)
-    → level + stair_level 0 (get_or stairs i no_stair) ≡ sum_by (stair_level 0) (take (i + 1) stairs)
-start_more stairs i level inside e = let more = sum_by_more (stair_level 0) stairs i no_stair inside in omega (arith, more, e)
-
 pub start_fits : (stairs : List Stair) (i level : ℕ) → i < length stairs → sum_by (stair_level 0) stairs < 2 ^ 62 → level ≡ sum_by (stair_level 0) (take i stairs)
     → level + stair_level 0 (get_or stairs i no_stair) < 2 ^ 62
 start_fits stairs i level inside small e = let more = sum_by_more_le (stair_level 0) stairs i no_stair inside in omega (arith, more, e, small)
-
-pub one_start_fits : (stairs : List Stair) (i : ℕ) → i < length stairs → sum_by (stair_level 0) stairs < 2 ^ 62 → stair_level 0 (get_or stairs i no_stair) < 2 ^ 62
-one_start_fits stairs i inside small = let one = get_or-le-sum_by (stair_level 0) stairs i no_stair inside in omega (arith, one, small)
 
 -- ---- of all
 pub burst_within : (level : ℕ) (pace : Option Line) → level ≤ burst_with record { burst = level; rate = 0 } pace
@@ -44,10 +37,3 @@ level_small bundles i d inside are =
     let w = burst_within (bundle_level 0 b) b.pace in
     let s = are.bursts in
     omega (arith, one, f, w, s)
-
-pub levels_more : (bundles : List Bundle) (i : ℕ) (d : Bundle) (levels more : List Part) (level : ℕ) → i < length bundles → level ≡ bundle_level 0 (get_or bundles i d)
-    → more ≡ levels ++ record { sum = record { burst = level; rate = 0 }; pace = (get_or bundles i d).pace } ∷ [] → levels ≡ map (bundle_part 0) (take i bundles)
-    → more ≡ map (bundle_part 0) (take (i + 1) bundles)
-levels_more bundles i d levels more level inside is e so_far =
-    let part : ℕ → Part = λ n. record { sum = record { burst = n; rate = 0 }; pace = (get_or bundles i d).pace } in
-    e ∙ ap (λ n. levels ++ part n ∷ []) is ∙ ap (λ (ps : List Part). ps ++ bundle_part 0 (get_or bundles i d) ∷ []) so_far ∙ sym (map_more (bundle_part 0) bundles i d inside)

@@ -6,7 +6,7 @@ use Rattle.std.proofs.Math.ListN.{set, drop_of_length-le}
 use Rattle.std.proofs.lemmas.Bool.{cases_eq}
 use Rattle.std.proofs.lemmas.List.{get_or-map, length-map, length-set, get_or-set_same, get_or-set_other, get_or_default, get_or-drop, length-drop, same_lists}
 use Rattle.std.proofs.lemmas.List.Elements.{All-head, All-tail, All-nil, All-more, All-weaker}
-use Rattle.std.proofs.lemmas.List.Sums.{sum_by-cons, sum_by_more, sum_by-take-drop, sum_by-set, get_or-le-sum_by}
+use Rattle.std.proofs.lemmas.List.Sums.{sum_by-cons, sum_by_more, sum_by-take-drop, sum_by-set}
 use Rattle.min_plus.specs.rational.specs.Rational.{ℚ, ◌+ℚ◌, ◌*ℚ◌, ◌≤ℚ◌, ◌<ℚ◌}
 use Rattle.min_plus.specs.rational.proofs.Laws.{le_or_lt, le_trans, le_refl, lt_le_trans, le_of_lt, lt_irrefl, mul_comm, mul_zero}
 use Rattle.min_plus.specs.rational.proofs.Linear.{with_atoms}
@@ -16,7 +16,6 @@ use Rattle.arrival_lines.specs.Steps.{burst_with, rate_with, most_burst, most_ra
 use Rattle.arrival_lines.specs.declared.grid.Line.{Line}
 use Rattle.arrival_lines.specs.declared.grid.Part.{Part}
 use Rattle.arrival_lines.proofs.Units.{micros_le, micros_nonneg}
-use Rattle.arrival_stairs.specs.Heights.{AreSmall}
 use Rattle.arrival_stairs.specs.Greatest.{IsBelow, IsNear, IsGreatestBetween}
 use Rattle.arrival_stairs.proofs.Split.{below_more, nearer}
 use Rattle.arrival_stairs.specs.Stairs.{bundles_at, bundle_level, level_part, bundle_part, levels_at, AreBundles}
@@ -150,24 +149,6 @@ next_small bundles k levels more p frame inside small e are = record {
       let l = are.rates in
       omega (arith, f, g, h, l);
 }
-
-pub are_small : (bundles : List Bundle) (k : ℕ) (levels : List Part) → AreBundles bundles → k ≤ 2 ^ 20 → AreStillSmall bundles k levels → AreSmall levels
-are_small bundles k levels are few small = record {
-  bursts = let a = small.bursts in let b = are.bursts in omega (arith, a, b, few);
-  rates = let a = small.rates in let b = are.rates in omega (arith, a, b);
-}
-
-pub can_raise : (bundles : List Bundle) (k : ℕ) (levels : List Part) (p frame : ℕ) → AreBundles bundles → k ≤ 2 ^ 20 → p < length levels → frame < 2 ^ 35
-    → AreStillSmall bundles k levels → (part_in levels p).sum.burst + frame < 2 ^ 64
-can_raise bundles k levels p frame are few inside small still =
-    let a = (are_small bundles k levels are few still).bursts in
-    let b = get_or-le-sum_by most_burst levels p no_part inside in
-    let d = of_pace (part_in levels p).sum (part_in levels p).pace in
-    omega (arith, a, b, d, small)
-  where
-    of_pace : (sum : Line) (pace : Option Line) → sum.burst ≤ burst_with sum pace
-    of_pace sum None = omega arith
-    of_pace sum (Some q) = omega arith
 
 -- ---- the bundles between two jumps
 -- where there is one there is a first

@@ -7,6 +7,7 @@ use Rattle.arrival_stairs.specs.Greatest.{IsGreatestBetween}
 use Rattle.arrival_stairs.specs.Ahead.{IsAheadUpTo}
 use Rattle.arrival_stairs.specs.Heights.{AreMoments, most_ahead}
 use Rattle.arrival_stairs.specs.Jumps.{jump_count}
+use Rattle.arrival_stairs.specs.Lows.{AreLows}
 use Rattle.arrival_stairs.specs.Stairs.{levels_at}
 use Rattle.arrival_stairs.specs.StairExcess.{IsLastWalked, line_ahead}
 use Rattle.arrival_stairs.specs.declared.horizon.Onset.{Onset}
@@ -65,8 +66,8 @@ pub record IsOnset (bundles : List Bundle) (onset : Onset) : Type 0 where
   pub first_moments : AreMoments onset.first.items
   pub first : (rate : ℕ) → IsGreatestBetween (levels_at bundles 0) rate 0 0 (most_ahead rate onset.first.items)
   pub short : onset.until < 2 ^ 62
-  pub moments : AreMoments onset.heights.items
-  pub greatest : (rate : ℕ) → IsGreatestBetween (levels_at bundles 0) rate 0 onset.until (most_ahead rate onset.heights.items)
+  pub moments : AreMoments onset.peaks.heights.items
+  pub greatest : (rate : ℕ) → IsGreatestBetween (levels_at bundles 0) rate 0 onset.until (most_ahead rate onset.peaks.heights.items)
 
 -- ---- of several services
 -- a time that is past the horizon, where a step is no faster than the rate
@@ -87,9 +88,10 @@ pub record IsEnd (bundles : List Bundle) (steps : List Line) (rate end : ℕ) : 
 
 -- what a walk gives for each rate
 pub record IsWalk (bundles : List Bundle) (walk : Walk) : Type 0 where
-  pub moments : AreMoments walk.heights.items
-  pub greatest : (rate : ℕ) → IsAheadUpTo bundles rate walk.end (most_ahead rate walk.heights.items)
+  pub moments : AreMoments walk.peaks.heights.items
+  pub greatest : (rate : ℕ) → IsAheadUpTo bundles rate walk.end (most_ahead rate walk.peaks.heights.items)
 
 pub record IsWalkOf (bundles : List Bundle) (steps : List Line) (services : List Service) (walk : Walk) : Type 0 where
   pub is : IsWalk bundles walk
+  pub lows : AreLows steps walk.end (length steps) walk.lows.items
   pub ends : (k : ℕ) (d : Service) → k < length services → IsEnd bundles steps (get_or services k d).rate walk.end

@@ -1,6 +1,7 @@
 pub mod Heights
 pub mod Bends
 pub mod Greatest
+pub mod Meetings
 pub mod Stairs
 pub mod Views
 pub mod Jumps
@@ -8,6 +9,8 @@ pub mod Ahead
 pub mod Raised
 pub mod BelowLines
 pub mod StairExcess
+pub mod Lows
+pub mod Peaks
 pub mod Horizon
 pub mod Promises
 pub mod Stays

@@ -1,6 +1,6 @@
 -- How far bundles are above a rate for ever: by their jumps up to a time, and by the steps of their lines from there on.
 -- (Le Boudec and Thiran, chapter 1: the largest distance of an arrival curve from a line.)
-use Rattle.std.specs.Prelude.{ℕ, ◌-◌, ◌*◌, ◌^◌, ◌<◌, ◌≤◌, ◌≡◌, max, List, length, get_or}
+use Rattle.std.specs.Prelude.{ℕ, ◌-◌, ◌*◌, ◌^◌, ◌<◌, ◌≤◌, ◌≡◌, max, List}
 use Rattle.std.specs.Int.{div_ceil}
 use Rattle.min_plus.specs.rational.specs.Rational.{ℚ, ◌≤ℚ◌}
 use Rattle.min_plus.specs.Functions.{zero_q}

@@ -1,5 +1,5 @@
 -- Bundles as they are seen: their stairs and their paces. Own choice.
-use Rattle.std.specs.Prelude.{ℕ, List, map, Option}
+use Rattle.std.specs.Prelude.{List, map, Option}
 use Rattle.arrival_lines.specs.declared.grid.Line.{Line}
 use Rattle.arrival_stairs.specs.declared.stairs.Bundle.{Bundle}
 use Rattle.arrival_stairs.specs.declared.stairs.Stair.{Stair}

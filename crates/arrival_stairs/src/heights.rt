@@ -23,7 +23,7 @@ pub(crate) struct Height {
 }
 
 /// The product of two numbers below 2^62.
-fn times(a: u64, b: u64) -> u128
+pub(crate) fn times(a: u64, b: u64) -> u128
     requires one { a < 2 ^ 62 }
     requires other { b < 2 ^ 62 }
     ensures is { result ≡ a * b }
@@ -33,7 +33,7 @@ fn times(a: u64, b: u64) -> u128
 }
 
 /// What the line comes to at the time, in grains over the time's `under`.
-fn height_of_line(line: Line, at: Moment) -> u128
+pub(crate) fn height_of_line(line: Line, at: Moment) -> u128
     requires burst { line.burst < 2 ^ 62 }
     requires rate { line.rate < 2 ^ 62 }
     requires at { IsMoment at }
@@ -82,7 +82,7 @@ pub(crate) fn height_at(parts: &[Part], at: Moment) -> Height
 }
 
 /// By how many grains the height is above the rate, rounded up; 0 where it is not.
-fn ahead(height: Height, rate: u64) -> u128
+pub(crate) fn ahead(height: Height, rate: u64) -> u128
     requires at { IsMoment height.at }
     requires rate { rate < 2 ^ 62 }
     ensures { result ≡ ahead_of rate height }

@@ -1,6 +1,6 @@
 //! Until when the jumps of bundles count: from then on their lines are no further above the rate than they are before.
 
-ghost use Rattle.std.specs.Prelude.{◌≡◌, ◌^◌, ◌<◌, ◌≤◌, All, List, IfOk, IfSome, length};
+ghost use Rattle.std.specs.Prelude.{◌≡◌, ◌-◌, ◌^◌, ◌<◌, ◌≤◌, All, List, IfOk, IfSome, length};
 ghost use Rattle.arrival_lines.specs.Steps.{AreSlowing};
 ghost use Rattle.arrival_stairs.specs.Heights.{AreMoments};
 ghost use Rattle.arrival_stairs.specs.Horizon.{ArePast, IsDown, IsHorizon, IsOnset, IsPast, down_at};
@@ -10,6 +10,7 @@ ghost use Rattle.arrival_stairs.specs.Heights.{AreSmall};
 use crate::bends::bend_of;
 use crate::greatest::heights_between;
 use crate::heights::{Height, greatest_ahead};
+use crate::peaks::{Peaks, peaks_of};
 use crate::slow::slow_burst;
 use crate::stairs::{Bundle, levels_of};
 use arrival_lines::{Line, Part, Service};
@@ -32,21 +33,51 @@ fn meets(line: Line, rate: u64, known: u128) -> u128
     ((line.burst as u128 - known) * SECOND).div_ceil((rate - line.rate) as u128)
 }
 
+/// Whether the step is more than so many grains above the rate where it meets the next one; and where it is no slower.
+fn is_above(step: Line, next: Line, rate: u64, known: u128) -> bool {
+    if step.rate >= rate {
+        return true;
+    }
+    let over = (step.burst as u128).saturating_sub(known);
+    let fall = step.rate.saturating_sub(next.rate) as u128;
+    let rise = next.burst.saturating_sub(step.burst) as u128;
+    (rate - step.rate) as u128 * rise < over * fall
+}
+
+/// The step that is first no more than so many grains above the rate, by halving; the last one where none is.
+fn first_down(steps: &[Line], rate: u64, known: u128) -> usize
+    ensures { result ≤ length steps.now - 1 }
+{
+    let mut low: usize = 0;
+    let mut high = steps.len().saturating_sub(1);
+    while low < high {
+        let middle = low + (high - low) / 2;
+        if is_above(steps[middle], steps[middle + 1], rate, known) {
+            low = middle + 1;
+        } else {
+            high = middle;
+        }
+    }
+    low
+}
+
 /// When the first of the steps that grow slower than the rate is no more than so many grains above it; none where that
 /// is late.
 fn down_by(steps: &[Line], rate: u64, known: u128) -> Option<u64>
     ensures { IfSome result (IsDown steps.now rate known) }
 {
-    let mut least = LATE;
-    for line in steps {
-        if line.rate < rate {
-            least = least.min(meets(*line, rate, known));
-        }
-    }
-    if least >= LATE {
+    if steps.is_empty() {
         return None;
     }
-    Some(least as u64)
+    let step = steps[first_down(steps, rate, known)];
+    if step.rate >= rate {
+        return None;
+    }
+    let at = meets(step, rate, known);
+    if at >= LATE {
+        return None;
+    }
+    Some(at as u64)
 }
 
 /// When the last of the parts goes over to its other line, in picoseconds, rounded up.
@@ -68,23 +99,29 @@ pub(crate) struct Onset {
     /// In picoseconds.
     pub(crate) until: u64,
     pub(crate) first: Vec<Height>,
-    pub(crate) heights: Vec<Height>,
+    pub(crate) peaks: Peaks,
 }
 
-pub(crate) fn onset_of(alloc: Global, bundles: &[Bundle]) -> Result<Onset, AllocError>
-    requires { AreBundles bundles.now }
+pub(crate) fn onset_of(
+    alloc: Global,
+    bundles: &[Bundle],
+    services: &[Service],
+) -> Result<Onset, AllocError>
+    requires bundles { AreBundles bundles.now }
+    requires rates { All (λ s. s.rate < 2 ^ 62) services.now }
     ensures { IfOk result (IsOnset bundles.now) }
 {
     let levels = levels_of(alloc, bundles)?;
     let until = last_bend(&levels).min(LATE - 1) as u64;
     let mut first = Vec::new(alloc);
-    heights_between(&levels, 0, 0, &mut first)?;
+    heights_between(alloc, &levels, 0, 0, &mut first)?;
     let mut heights = Vec::new(alloc);
-    heights_between(&levels, 0, until, &mut heights)?;
+    heights_between(alloc, &levels, 0, until, &mut heights)?;
+    let peaks = peaks_of(alloc, heights, services)?;
     Ok(Onset {
         until,
         first,
-        heights,
+        peaks,
     })
 }
 
@@ -92,7 +129,7 @@ pub(crate) fn onset_of(alloc: Global, bundles: &[Bundle]) -> Result<Onset, Alloc
 /// where that is late.
 fn horizon(onset: &Onset, steps: &[Line], rate: u64) -> Option<u64>
     requires first { AreMoments onset.now.first.items }
-    requires heights { AreMoments onset.now.heights.items }
+    requires heights { AreMoments onset.now.peaks.heights.items }
     requires rate { rate < 2 ^ 62 }
     ensures { (bundles : List Bundle) → IsOnset bundles onset.now → IfSome result (IsHorizon bundles steps.now rate) }
 {
@@ -103,7 +140,7 @@ fn horizon(onset: &Onset, steps: &[Line], rate: u64) -> Option<u64>
             if onset.until > latest {
                 return Some(latest);
             }
-            let known = greatest_ahead(&onset.heights, rate);
+            let known = onset.peaks.ahead(rate);
             match down_by(steps, rate, known) {
                 None => Some(latest),
                 Some(end) => Some(end.max(onset.until).min(latest)),
@@ -115,7 +152,7 @@ fn horizon(onset: &Onset, steps: &[Line], rate: u64) -> Option<u64>
 /// The same at a service, and 0 where each step is faster.
 fn horizon_at(onset: &Onset, steps: &[Line], rate: u64) -> Option<u64>
     requires first { AreMoments onset.now.first.items }
-    requires heights { AreMoments onset.now.heights.items }
+    requires heights { AreMoments onset.now.peaks.heights.items }
     requires steps { AreSlowing steps.now }
     requires rate { rate < 2 ^ 62 }
     ensures { (bundles : List Bundle) → IsOnset bundles onset.now → IfSome result (IsPast bundles steps.now rate) }
@@ -129,7 +166,7 @@ fn horizon_at(onset: &Onset, steps: &[Line], rate: u64) -> Option<u64>
 /// The same for each of some services.
 pub(crate) fn last_horizon(onset: &Onset, steps: &[Line], services: &[Service]) -> Option<u64>
     requires first { AreMoments onset.now.first.items }
-    requires heights { AreMoments onset.now.heights.items }
+    requires heights { AreMoments onset.now.peaks.heights.items }
     requires steps { AreSlowing steps.now }
     requires rates { All (λ s. s.rate < 2 ^ 62) services.now }
     ensures { (bundles : List Bundle) → IsOnset bundles onset.now → IfSome result (ArePast bundles steps.now services.now (length services.now)) }

@@ -10,6 +10,8 @@ mod greatest;
 mod heights;
 mod horizon;
 mod jumps;
+mod lows;
+mod peaks;
 mod queues;
 mod slow;
 mod stairs;

@@ -5,6 +5,7 @@ ghost use Rattle.arrival_lines.specs.Steps.{AreSlowing, AreSteps};
 ghost use Rattle.arrival_stairs.specs.BelowLines.{line_parts};
 ghost use Rattle.arrival_stairs.specs.Heights.{AreMoments};
 ghost use Rattle.arrival_stairs.specs.Horizon.{IsWalkOf};
+ghost use Rattle.arrival_stairs.specs.Lows.{AreLows};
 ghost use Rattle.arrival_stairs.specs.Stairs.{AreBundles};
 ghost use Rattle.arrival_stairs.specs.declared.stairs.Bundle.{Bundle};
 ghost use Rattle.arrival_stairs.specs.Queues.{IsLeastOfBoth, IsLeastSoFar, LeastOfBothIsKept};
@@ -23,8 +24,9 @@ fn least_stay(
     longest: u64,
     by_lines: Option<Queue>,
 ) -> Option<Stay>
-    requires moments { AreMoments walk.now.heights.items }
+    requires moments { AreMoments walk.now.peaks.heights.items }
     requires steps { AreSlowing steps.now }
+    requires lows { AreLows steps.now walk.now.end (length steps.now) walk.now.lows.items }
     requires rates { All (λ s. s.rate < 2 ^ 62) services.now }
     requires room { All (λ s. s.debt + longest < 2 ^ 64) services.now }
     ensures { (bundles : List Bundle) → AreBundles bundles → AreSteps (line_parts bundles) steps.now → IsWalkOf bundles steps.now services.now walk.now

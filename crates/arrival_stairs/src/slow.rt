@@ -9,7 +9,7 @@ ghost use Rattle.arrival_stairs.specs.Stays.{AreFaster};
 use arrival_lines::Line;
 
 /// How many steps are faster than the rate: these come first.
-fn count_faster(steps: &[Line], rate: u64) -> usize
+pub(crate) fn count_faster(steps: &[Line], rate: u64) -> usize
     requires { AreSlowing steps.now }
     ensures inside { result ≤ length steps.now }
     ensures faster { (k : ℕ) (d : Line) → k < result → rate < (get_or steps.now k d).rate }

@@ -1,11 +1,12 @@
 //! The delay and the backlog of bundles at one service.
 
-ghost use Rattle.std.specs.Prelude.{◌≡◌, ◌+◌, ◌*◌, ◌^◌, ◌<◌, List};
+ghost use Rattle.std.specs.Prelude.{◌≡◌, ◌+◌, ◌*◌, ◌^◌, ◌<◌, List, length};
 ghost use Rattle.std.specs.Int.{div_ceil};
 ghost use Rattle.arrival_lines.specs.Steps.{AreSlowing, AreSteps};
 ghost use Rattle.arrival_stairs.specs.BelowLines.{line_parts};
 ghost use Rattle.arrival_stairs.specs.Heights.{AreMoments};
 ghost use Rattle.arrival_stairs.specs.Horizon.{IsEnd, IsWalk};
+ghost use Rattle.arrival_stairs.specs.Lows.{AreLows};
 ghost use Rattle.arrival_stairs.specs.Stairs.{AreBundles};
 ghost use Rattle.arrival_stairs.specs.Stays.{IsStayAt, lesser_stay, as_stay, as_queue};
 ghost use Rattle.arrival_stairs.specs.declared.stairs.Bundle.{Bundle};
@@ -48,8 +49,9 @@ fn stay_of(excess: u64, service: Service, longest: u64) -> Stay
 /// The delay and the backlog at one service of the bundles of which this is the walk and these are the lines' steps; none
 /// where each of these is faster.
 pub(crate) fn stay_at(walk: &Walk, steps: &[Line], service: Service, longest: u64) -> Option<Stay>
-    requires moments { AreMoments walk.now.heights.items }
+    requires moments { AreMoments walk.now.peaks.heights.items }
     requires steps { AreSlowing steps.now }
+    requires lows { AreLows steps.now walk.now.end (length steps.now) walk.now.lows.items }
     requires rate { service.rate < 2 ^ 62 }
     requires room { service.debt + longest < 2 ^ 64 }
     ensures { (bundles : List Bundle) → AreBundles bundles → AreSteps (line_parts bundles) steps.now → IsWalk bundles walk.now

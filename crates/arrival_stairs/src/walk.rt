@@ -33,6 +33,7 @@ fn raise(levels: &mut Vec<Part>, jump: Jump)
 
 /// Adds what the parts come to between two times; nothing where the two are one.
 fn heights_before(
+    alloc: Global,
     parts: &[Part],
     begin: u64,
     to: u64,
@@ -45,7 +46,7 @@ fn heights_before(
     ensures none { OnOk result (to ≤ begin → heights.new.items ≡ heights.old.items) }
 {
     if begin < to {
-        heights_between(parts, begin, to, heights)?;
+        heights_between(alloc, parts, begin, to, heights)?;
     }
     Ok(())
 }
@@ -70,10 +71,10 @@ pub(crate) fn heights_until(
     let mut heights = Vec::new(alloc);
     let mut begin: u64 = 0;
     for jump in jumps {
-        heights_before(&levels, begin, jump.time, &mut heights)?;
+        heights_before(alloc, &levels, begin, jump.time, &mut heights)?;
         raise(&mut levels, *jump);
         begin = jump.time;
     }
-    heights_between(&levels, begin, end, &mut heights)?;
+    heights_between(alloc, &levels, begin, end, &mut heights)?;
     Ok(heights)
 }

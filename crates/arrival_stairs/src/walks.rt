@@ -8,9 +8,10 @@ ghost use Rattle.arrival_stairs.specs.Jumps.{jump_count};
 ghost use Rattle.arrival_stairs.specs.Stairs.{AreBundles};
 
 use crate::counts::{are_few, last_walked};
-use crate::heights::Height;
 use crate::horizon::{Onset, last_horizon, onset_of};
 use crate::jumps::jumps_until;
+use crate::lows::lows_of;
+use crate::peaks::{Peaks, peaks_of};
 use crate::stairs::Bundle;
 use crate::walk::heights_until;
 use arrival_lines::{Line, Service};
@@ -21,7 +22,9 @@ use std::alloc::{AllocError, Global};
 pub(crate) struct Walk {
     /// In picoseconds.
     pub(crate) end: u64,
-    pub(crate) heights: Vec<Height>,
+    pub(crate) peaks: Peaks,
+    /// The least that the last steps come to at the end: the last one, the last two, and so on.
+    pub(crate) lows: Vec<u128>,
 }
 
 /// Until when to walk: until the horizon of each service is past, but over no more jumps than the limit.
@@ -54,9 +57,11 @@ pub(crate) fn walk_of(
     requires rates { All (λ s. s.rate < 2 ^ 62) services.now }
     ensures { IfOk result (IsWalkOf bundles.now steps.now services.now) }
 {
-    let onset = onset_of(alloc, bundles)?;
+    let onset = onset_of(alloc, bundles, services)?;
     let end = end_of(bundles, &onset, steps, services);
     let jumps = jumps_until(alloc, bundles, end)?;
     let heights = heights_until(alloc, bundles, &jumps, end)?;
-    Ok(Walk { end, heights })
+    let peaks = peaks_of(alloc, heights, services)?;
+    let lows = lows_of(alloc, steps, end)?;
+    Ok(Walk { end, peaks, lows })
 }

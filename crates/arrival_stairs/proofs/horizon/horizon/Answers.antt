@@ -23,8 +23,8 @@ pub returns-in-Some-down_by : goal.returns-in-Some-down_by
 returns-in-Some-down_by c = λ bundles onset.
     let rate = c.args.rate in
     let e = c.greatest_ahead-first.ensures ∙ ap (most_ahead rate) c.deref.ensures.value in
-    let f = c.greatest_ahead-known.ensures ∙ ap (most_ahead rate) c.deref-in-Some.ensures.value in
-    horizon_next bundles c.args.steps.now rate c.greatest_ahead-first.result c.in-Some.latest c.args.onset.now.until c.greatest_ahead-known.result c.in-Some-down_by.end c.min.result
+    let f = c.ahead-known.ensures in
+    horizon_next bundles c.args.steps.now rate c.greatest_ahead-first.result c.in-Some.latest c.args.onset.now.until c.ahead-known.result c.in-Some-down_by.end c.min.result
     c.in-Some.ensures (subst (λ (n : ℕ). IsGreatestBetween (levels_at bundles 0) rate 0 0 n) (sym e) (onset.first rate)) (omega arith)
     (subst (λ (n : ℕ). IsGreatestBetween (levels_at bundles 0) rate 0 c.args.onset.now.until n) (sym f) (onset.greatest rate)) c.in-Some-down_by.ensures
     (c.min.ensures ∙ ap (λ n. min n c.in-Some.latest) c.max.ensures)

@@ -1,6 +1,6 @@
-use Rattle.std.proofs.Common.{arith, subst, ◌∙◌, List}
+use Rattle.std.proofs.Common.{arith, subst, sym, ◌∙◌, List, ℕ}
 use Rattle.arrival_lines.specs.declared.grid.Part.{Part}
-use Rattle.arrival_stairs.specs.Greatest.{AddsHeights}
+use Rattle.arrival_stairs.specs.Greatest.{AddsHeights, IsGreatestBetween}
 use Rattle.arrival_stairs.specs.Stairs.{levels_at}
 use Rattle.arrival_stairs.proofs.Most.{moments_of_all, greatest_of_all}
 use Rattle.arrival_stairs.proofs.horizon.onset_of.Goals as goal
@@ -18,6 +18,7 @@ returns c =
       first_moments = moments_of_all (levels_at bundles 0) 0 0 c.new-first.result.items c.heights_between.new.heights.items none first;
       first = λ rate. greatest_of_all (levels_at bundles 0) 0 0 rate c.new-first.result.items c.heights_between.new.heights.items none first;
       short = omega arith;
-      moments = moments_of_all (levels_at bundles 0) 0 c.min-until.result c.new-heights.result.items c.heights_between-2.new.heights.items none_yet more;
-      greatest = λ rate. greatest_of_all (levels_at bundles 0) 0 c.min-until.result rate c.new-heights.result.items c.heights_between-2.new.heights.items none_yet more;
+      moments = c.in_ok-peaks.ensures.at;
+      greatest = λ rate. subst (λ (n : ℕ). IsGreatestBetween (levels_at bundles 0) rate 0 c.min-until.result n) (sym (c.in_ok-peaks.ensures.same rate))
+          (greatest_of_all (levels_at bundles 0) 0 c.min-until.result rate c.new-heights.result.items c.heights_between-2.new.heights.items none_yet more);
     }
