@@ -4,8 +4,9 @@
     python3 bench/in_proportion.py NETBOUND
 
 Shapes that would show a part that is quadratic: one port with all links; one link with all branches, over few ports and
-over many; many ports with a link each; the same, into one port; many ports of 8 queues with a link each; and paths of 64 ports. Instructions are counted by
-valgrind (callgrind); where there is none, it is the user's processor time. It prints a line a shape, and ends with 1 where one takes more.
+over many; many ports with a link each; the same, with two frames at once, into one port; many ports of 8 queues with a
+link each; and paths of 64 ports. Instructions are counted by valgrind (callgrind); where there is none, it is the user's
+processor time. It prints a line a shape, and ends with 1 where one takes more.
 """
 
 import re
@@ -44,7 +45,9 @@ def ports_with_a_link_each(size):
 
 
 def ports_with_a_link_each_into_one(size):
-    return ports(4 * size), links((f"v{number}", f"p{number} p0") for number in range(1, 4 * size))
+    head = "name,bag,largest_frame,jitter,priority,path\n"
+    rows = (f"v{number},128,{64 + number % 512},128000,0,p{number} p0\n" for number in range(1, 4 * size))
+    return ports(4 * size), head + "".join(rows)
 
 
 def queues_with_a_link_each(size):
