@@ -5,11 +5,14 @@ use Rattle.upp_limits.specs.rational.specs.Rational.{ℚ, int, ◌+ℚ◌, ◌-�
 use Rattle.upp_limits.specs.rational.specs.Extended.{◌≤ₑ◌}
 use Rattle.upp_limits.specs.rational.specs.declared.Extended.TheVariants.{Fin}
 use Rattle.upp_limits.specs.upp_curve.specs.declared.affine_segment.line.Piece.{Piece}
+use Rattle.upp_limits.specs.upp_curve.specs.declared.curve.Tail.TheVariants.{Periodic}
 use Rattle.upp_limits.specs.upp_curve.specs.affine_segment.Reading.{piece_value}
+use Rattle.upp_limits.specs.upp_curve.specs.Curve.{SpecCurve}
 use Rattle.net_model.specs.run_laws.specs.Cards.{whole}
 use Rattle.flow_watch.specs.declared.watch_laws.entering.Entering.{Entering}
 use Rattle.flow_watch.specs.watch_laws.Entries.{bits_between}
 use Rattle.flow_watch.specs.watch_laws.Segments.{next_start}
+use Rattle.flow_watch.specs.declared.ends.Cycle.{Cycle}
 use Rattle.flow_watch.specs.declared.repeats.Cover.{Cover}
 use Rattle.flow_watch.specs.declared.repeats.Climb.{Climb}
 use Rattle.flow_watch.specs.Flows.{gap, KeepsPiece}
@@ -54,3 +57,8 @@ pub record HoldsPiece (rank period rise : ℚ) (es : List Entering) (p : Piece) 
 abbrev pub HoldsAt : ℚ → ℚ → ℚ → List Entering → ℚ → ℕ → List Piece → Type 0
 HoldsAt rank period rise es end upto [] = Unit {0}
 HoldsAt rank period rise es end upto (p ∷ ps) = HoldsPiece rank period rise es p (unwrap_or (next_start ps) end) upto
+
+-- ---- what repeats of a curve, and where its first period ends
+pub record IsCycleOf (arrival : SpecCurve) (cycle : Cycle) : Type 0 where
+  pub tail : arrival.tail ≡ Periodic cycle.rank cycle.period cycle.rise
+  pub end : cycle.end ≡ cycle.rank +ℚ cycle.period

@@ -7,14 +7,14 @@ ghost use Rattle.upp_limits.specs.upp_curve.specs.Curve.{value_at};
 ghost use Rattle.flow_watch.specs.Flows.{FlowReads, NoneCrowded, TimesRiseIn};
 ghost use Rattle.flow_watch.specs.Repeats.{IsCover, IsLineTo, HasAtLeast, KeepsSteps, HoldsPiece, HoldsAt};
 
-use crate::ends::next_start;
+use crate::ends::{Cycle, cycle_of, next_start};
 use crate::flows::{bucket_of, fewer, piece_upto};
 use crate::step_lines::seen_upto;
 use crate::watch_laws::Entering;
 use std::alloc::Global;
 use upp_limits::fraction128::{Frac, is_less};
+use upp_limits::upp_curve::Curve;
 use upp_limits::upp_curve::affine_segment::Piece;
-use upp_limits::upp_curve::{Curve, Tail};
 
 /// Steps that hold a value, and what they hold more.
 #[derive(Debug, Clone, Copy)]
@@ -28,14 +28,6 @@ struct Cover {
 struct Climb {
     slack: Frac,
     rate: Frac,
-}
-
-/// From a time on, all repeats: in each period it rises by so much.
-#[derive(Debug, Clone, Copy)]
-struct Cycle {
-    rank: Frac,
-    period: Frac,
-    rise: Frac,
 }
 
 /// The steps of a height that hold a value, and at most one more, if their numbers fit.
@@ -173,12 +165,8 @@ pub(crate) fn repeated_upto(alloc: Global, entries: &[Entering], arrival: &Curve
     requires { FlowReads arrival.now entries.now }
     ensures { IfSome result (NoneCrowded (value_at arrival.now) entries.now) }
 {
-    let Tail::Periodic { rank, period, rise } = *arrival.tail() else {
+    let Some(cycle) = cycle_of(arrival) else {
         return None;
     };
-    let Ok(end) = Frac::add(rank, period) else {
-        return None;
-    };
-    let cycle = Cycle { rank, period, rise };
-    cycle_upto(alloc, entries, &cycle, end, arrival.pieces())
+    cycle_upto(alloc, entries, &cycle, cycle.end, arrival.pieces())
 }

@@ -6,14 +6,14 @@ ghost use Rattle.upp_limits.specs.upp_curve.specs.Curve.{value_at};
 ghost use Rattle.flow_watch.specs.Flows.{FlowReads, NoneCrowded};
 ghost use Rattle.flow_watch.specs.Stairs.{IsCount, HasSteps, IsStep, IsStepAt, IsStair, RisesWith};
 
-use crate::ends::next_start;
+use crate::ends::{cycle_of, next_start};
 use crate::flows::bucket_of;
 use crate::step_lines::{is_at_most, seen_upto};
 use crate::watch_laws::Entering;
 use std::alloc::Global;
 use upp_limits::fraction128::{Frac, Wide, is_less, lesser};
+use upp_limits::upp_curve::Curve;
 use upp_limits::upp_curve::affine_segment::Piece;
-use upp_limits::upp_curve::{Curve, Tail};
 
 /// Steps of a height, and a line: how many of them it has, in steps.
 #[derive(Debug, Clone, Copy)]
@@ -177,17 +177,14 @@ pub(crate) fn kept_upto(alloc: Global, entries: &[Entering], arrival: &Curve) ->
     requires { FlowReads arrival.now entries.now }
     ensures { IfSome result (NoneCrowded (value_at arrival.now) entries.now) }
 {
-    let Tail::Periodic { rank, period, rise } = *arrival.tail() else {
-        return None;
-    };
-    let Ok(end) = Frac::add(rank, period) else {
+    let Some(cycle) = cycle_of(arrival) else {
         return None;
     };
     let pieces = arrival.pieces();
-    let Some(stair) = stair_of(pieces, end, period, rise) else {
+    let Some(stair) = stair_of(pieces, cycle.end, cycle.period, cycle.rise) else {
         return None;
     };
-    if !is_stair(&stair, end, pieces) {
+    if !is_stair(&stair, cycle.end, pieces) {
         return None;
     }
     let spare = Frac::zero();

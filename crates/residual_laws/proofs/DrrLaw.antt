@@ -1,5 +1,5 @@
 -- A queue of a deficit round robin server is served by its share of the server's curve.
-use Rattle.std.specs.Prelude.{◌≡◌, ◌≢◌, ◌≤◌, ◌<◌, ◌+◌, ◌*◌, ℕ, zero, suc, pos, ◌==◌, ltb, leb, Bool, true, false, not, ◌&&◌, ◌||◌, List, [], ◌∷◌, length, get_or, sum}
+use Rattle.std.specs.Prelude.{◌≡◌, ◌≢◌, ◌≤◌, ◌<◌, ◌+◌, ◌*◌, ℕ, zero, suc, pos, ◌==◌, ltb, leb, true, false, not, ◌&&◌, ◌||◌, List, [], ◌∷◌, length, get_or, sum}
 use Rattle.std.proofs.Common.{arith, sym, ap, ap₂, ◌∙◌, refl, inl, inr, subst}
 use Rattle.std.proofs.lemmas.Bool.{cases_Bool, cases_eq, cases_lt, eqb-true, eqb-false, ltb-true, ltb-false, lt-ltb, le-ltb, le-leb, lt-leb}
 use Rattle.std.proofs.lemmas.List.Sums.{sum_by-cons}
@@ -13,7 +13,7 @@ use Rattle.min_plus.specs.rational.proofs.Whole.{le_of_mul}
 use Rattle.min_plus.specs.rational.proofs.Linear.{with1, with2, with3, with4, with5, with6, with7, with8}
 use Rattle.min_plus.specs.Pointwise.{excess, scaled}
 use Rattle.run_laws.specs.Cards.{Class, all, of_queue, before_queue, whole, ServerStep, Arrives, Works, Leaves, Visits}
-use Rattle.run_laws.proofs.Always.{AreAlwaysParts}
+use Rattle.run_laws.proofs.Always.{AreAlwaysParts, always_all}
 use Rattle.run_laws.specs.Servers.{Drr, queue_count, Server, ServerState, start}
 use Rattle.run_laws.specs.Next.{next}
 use Rattle.run_laws.specs.Allows.{AllAllowed, IsLawfulView}
@@ -285,16 +285,8 @@ in_period server end V quanta l i p β t s lawful e r some service in_run is h =
         let a = arrived_parts all (of_queue i) (λ c. not (c.queue == i)) V x halves in
         with6 (worked all V x) (arrived all V x) (worked (of_queue i) V x) (arrived (of_queue i) V x) (worked (λ c. not (c.queue == i)) V x) (arrived (λ c. not (c.queue == i)) V x) (λ c. omega (arith, c.le, c.lt, c.same))
       where
-        one_of : (b : Bool) → true ≡ (b || not b)
-        one_of true = refl
-        one_of false = refl
-
-        not_both : (b : Bool) → (b && not b) ≡ false
-        not_both true = refl
-        not_both false = refl
-
         halves : AreAlwaysParts all (of_queue i) (λ c. not (c.queue == i))
-        halves = record { of_one = λ c. one_of (c.queue == i); apart = λ c. not_both (c.queue == i) }
+        halves = always_all (of_queue i)
 
     turned : (a p b : ℕ) → whole (a + (p + 1) * b) ≡ whole a +ℚ (whole p +ℚ int (pos 1)) *ℚ whole b
     turned a p b = whole_sum a ((p + 1) * b) ∙ ap (λ (y : ℚ). whole a +ℚ y) (whole_times (p + 1) b ∙ ap (λ (y : ℚ). y *ℚ whole b) (whole_sum p 1))

@@ -1,5 +1,5 @@
 -- A class of packets is served by what all others leave: it is the law of classes in turn with none after the two.
-use Rattle.std.specs.Prelude.{◌≡◌, pos, Bool, true, false, not, ◌&&◌, ◌||◌, List, [], ◌∷◌}
+use Rattle.std.specs.Prelude.{◌≡◌, pos, false, List, [], ◌∷◌}
 use Rattle.std.proofs.Common.{arith, sym, ap, ◌∙◌, refl}
 use Rattle.min_plus.specs.rational.specs.Rational.{ℚ, int, ◌+ℚ◌, ◌-ℚ◌, ◌≤ℚ◌}
 use Rattle.min_plus.specs.rational.specs.MinMax.{max_q}
@@ -17,7 +17,7 @@ use Rattle.run_laws.specs.Servers.{Server, start}
 use Rattle.run_laws.specs.Allows.{IsLawfulView}
 use Rattle.run_laws.specs.Counts.{before, worked}
 use Rattle.run_laws.specs.Premises.{EachArrival}
-use Rattle.run_laws.proofs.Always.{AreAlwaysParts}
+use Rattle.run_laws.proofs.Always.{AreAlwaysParts, always_all}
 use Rattle.run_laws.proofs.Arrivals.{none_arrive}
 use Rattle.run_laws.proofs.Counts.{worked_nonneg}
 use Rattle.run_laws.proofs.Cuts.{all_works}
@@ -32,17 +32,6 @@ none c = false
 
 all_parts : AreAlwaysParts all all none
 all_parts = record { of_one = λ c. refl; apart = λ c. refl }
-
-own_parts : (C : Class) → AreAlwaysParts all C (others C)
-own_parts C = record { of_one = λ c. one (C c); apart = λ c. two (C c) }
-  where
-    one : (b : Bool) → true ≡ (b || not b)
-    one true = refl
-    one false = refl
-
-    two : (b : Bool) → (b && not b) ≡ false
-    two true = refl
-    two false = refl
 
 nothing_comes : (V : List ServerStep) → EachArrival (λ c. none c ≡ false) V
 nothing_comes [] = tt
@@ -86,7 +75,7 @@ in_turn : (server : Server) (end : ℚ) (V : List ServerStep) (C : Class) → Is
 in_turn server end V C lawful = record {
   lawful = lawful;
   all_parts = all_parts;
-  upto_parts = own_parts C;
+  upto_parts = always_all C;
   last_work = λ s z l busy. no_work server end V s z lawful;
 }
 

@@ -111,19 +111,25 @@ pub passing_entry : (net : Routes) (packet : ℕ → ℕ) (entered : List Entry)
     → PassesServer s (hops_of net entered p) → IsPassing net packet s (card_of net entered p s)
 passing_entry net packet entered p s h k = record { is_live = h.is_live; passes = k; its_queue = refl; small = h.small }
 
+-- a packet that enters passes its first server
+pub enter_passes : (net : Routes) (packet : ℕ → ℕ) (r : RunState) (f p : ℕ) (t : ℚ) (b : ℕ) (xs : List Step) → IsKnown net r (Enter f p t b)
+    → AllSizes net packet (Enter f p t b ∷ xs)
+    → IsPassing net packet (first_server (route_of net f).hops)
+    (card_of net (r.entered ++ record { flow = f; bits = b } ∷ []) p (first_server (route_of net f).hops))
+enter_passes net packet r f p t b xs k sizes =
+    let e : Entry = record { flow = f; bits = b } in
+    let last = entry_last r.entered e p k.in_turn in
+    let is : IsEntered net packet e = record { is_live = k.is_live; small = (sizes f k.is_live).0 refl } in
+    let s = first_server (route_of net f).hops in
+    passing_entry net packet (r.entered ++ e ∷ []) p s (subst (IsEntered net packet) (sym last) is)
+    (subst (λ (y : Entry). PassesServer s (route_of net y.flow).hops) (sym last) (passes_first s (route_of net f).hops k.has_path))
+
 head_passes : (net : Routes) (packet : ℕ → ℕ) (r : RunState) (x : Step) (xs : List Step) (V : List ServerStep) → IsKnown net r x
     → AllSizes net packet (x ∷ xs) → KnowsPackets net packet r
     → EachArrival (IsPassing net packet (server_of net x)) V
     → EachArrival (IsPassing net packet (server_of net x)) (seen net r.entered x ∷ V)
 head_passes net packet r (Enter f p t b) xs V k sizes h rest =
-    let e : Entry = record { flow = f; bits = b } in
-    let last = entry_last r.entered e p k.in_turn in
-    let is : IsEntered net packet e = record { is_live = k.is_live; small = (sizes f k.is_live).0 refl } in
-    let s = first_server (route_of net f).hops in (
-      passing_entry net packet (r.entered ++ e ∷ []) p s (subst (IsEntered net packet) (sym last) is)
-          (subst (λ (y : Entry). PassesServer s (route_of net y.flow).hops) (sym last) (passes_first s (route_of net f).hops k.has_path)),
-      rest,
-    )
+    (enter_passes net packet r f p t b xs k sizes, rest)
 head_passes net packet r (Reach s p t) xs V k sizes h rest =
     let (n, l, e) = k in
     let due = each_due_at (IsDueAfter net r.entered) r.due record { packet = p; server = s; time = t } n h.dues l e in

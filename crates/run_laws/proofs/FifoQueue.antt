@@ -1,12 +1,12 @@
 -- A first in, first out server has one queue, and its curve serves it.
-use Rattle.std.specs.Prelude.{◌≡◌, ◌<◌, pos, ◌==◌, Bool, true, false, not, ◌&&◌, ◌||◌, List, [], ◌∷◌}
-use Rattle.std.proofs.Common.{arith, ap, refl, subst}
+use Rattle.std.specs.Prelude.{◌≡◌, ◌<◌, pos, ◌==◌, false, not, List, [], ◌∷◌}
+use Rattle.std.proofs.Common.{arith, ap, subst}
 use Rattle.std.proofs.lemmas.Bool.{eq-eqb}
 use Rattle.min_plus.specs.rational.specs.Rational.{ℚ, int, ◌-ℚ◌, ◌≤ℚ◌}
 use Rattle.min_plus.specs.rational.specs.Extended.{Ext}
 use Rattle.min_plus.specs.rational.proofs.Linear.{with3, with4, with6}
 use Rattle.run_laws.specs.Cards.{Card, Class, all, of_queue, ServerStep, Arrives, Works, Leaves, Visits}
-use Rattle.run_laws.proofs.Always.{AreAlwaysParts}
+use Rattle.run_laws.proofs.Always.{AreAlwaysParts, always_all}
 use Rattle.run_laws.specs.Servers.{Discipline, Fifo, Server, ServerState, start, queue_count}
 use Rattle.run_laws.specs.Next.{next}
 use Rattle.run_laws.specs.Allows.{AllAllowed, IsLawfulView}
@@ -24,15 +24,7 @@ abbrev elsewhere : Class
 elsewhere c = not (c.queue == 0)
 
 halves : AreAlwaysParts all (of_queue 0) elsewhere
-halves = record { of_one = λ c. one (c.queue == 0); apart = λ c. two (c.queue == 0) }
-  where
-    one : (b : Bool) → true ≡ (b || not b)
-    one true = refl
-    one false = refl
-
-    two : (b : Bool) → (b && not b) ≡ false
-    two true = refl
-    two false = refl
+halves = always_all (of_queue 0)
 
 pub only_queue : (server : Server) (end : ℚ) (σ : ServerState) (V : List ServerStep) → server.discipline ≡ Fifo → AllAllowed server end σ V
     → EachArrival (λ c. c.queue ≡ 0) V

@@ -6,7 +6,7 @@ use Rattle.min_plus.specs.rational.specs.Rational.{ℚ, int, ◌+ℚ◌, ◌-ℚ
 use Rattle.min_plus.specs.rational.specs.Extended.{Ext}
 use Rattle.min_plus.specs.rational.proofs.Laws.{le_trans}
 use Rattle.min_plus.specs.rational.proofs.Linear.{with1, with2, with3, with4, with5, with7, with8}
-use Rattle.run_laws.specs.Cards.{Card, size, Class, ServerStep, Arrives, Works, Leaves, Visits, time_of}
+use Rattle.run_laws.specs.Cards.{Card, size, Class, ServerStep, Arrives, Works, Leaves, Visits}
 use Rattle.run_laws.proofs.Always.{IsAlwaysOfQueue, IsAlwaysPart}
 use Rattle.run_laws.specs.Servers.{Server, Under, ServerState, start}
 use Rattle.run_laws.specs.Next.{next, after}
@@ -14,14 +14,13 @@ use Rattle.run_laws.specs.Allows.{AllAllowed, IsLawfulView, IsComplete}
 use Rattle.run_laws.specs.Counts.{total, arrives, leaves, works, before, upto, arrived, departed, worked}
 use Rattle.run_laws.specs.Premises.{KeepsArrivals}
 use Rattle.run_laws.specs.Serves.{Serves}
-use Rattle.min_plus.specs.rational.proofs.Over.{le_q_in, lt_q_out}
-use Rattle.run_laws.proofs.Sums.{each_map, total-append}
+use Rattle.min_plus.specs.rational.proofs.Over.{lt_q_out}
+use Rattle.run_laws.proofs.Sums.{total-append}
 use Rattle.run_laws.proofs.Counts.{left_le, arrived_rises, upto_before}
 use Rattle.run_laws.proofs.Heads.{sum_of}
-use Rattle.run_laws.proofs.States.{sound_next, sound_after, balance_after, work_after, done_by}
-use Rattle.run_laws.proofs.Cuts.{upto_edge, IsBefore, at_time}
+use Rattle.run_laws.proofs.States.{done_by}
 use Rattle.run_laws.proofs.Gone.{complete_leaves, first_left, left_nonneg, after-append}
-use Rattle.run_laws.proofs.Waiting.{of_class, bits_of, class-append, sum_class, NotOver, done_below, allowed-append, all_upto, at_arrival, combine, bits_nonneg}
+use Rattle.run_laws.proofs.Waiting.{of_class, bits_of, class-append, sum_class, NotOver, done_below, at_arrival, combine, bits_nonneg}
 use Rattle.run_laws.proofs.Delay.{stay_at_most}
 use Rattle.min_plus.proofs.Deviations.{Within}
 use Rattle.run_laws.proofs.Oldest.{departures_of, arrivals_of, queue_order, left_part, oldest}

@@ -114,6 +114,17 @@ covered_at p (q ∷ qs) d r h = elim h [
 ]
 
 -- ---- a curve
+reads_from : (f : ℚ → Ext) (far : ℚ) (p : Piece) (ps : List Piece) → StartsAtZero (p ∷ ps) → Each (λ q. q.x <ℚ far) (p ∷ ps)
+    → ((t : ℚ) → zero_q ≤ℚ t → t <ℚ far → read (p ∷ ps) t ≡ f t) → IsFinite f → IsContinuous f → ReadsFrom f far p ps
+reads_from f far p ps at0 before is fin smooth = record {
+  starts = at0.1;
+  before = before;
+  low = subst (λ x. zero_q ≤ℚ x) (sym at0.0) (le_refl zero_q);
+  is = λ x i j. is x (subst (λ y. y ≤ℚ x) at0.0 i) j;
+  finite = fin;
+  smooth = smooth;
+}
+
 tell : (f : ℚ → Ext) (far : ℚ) (ps : List Piece) (a b : Point) → StartsAtZero ps → Each (λ q. q.x <ℚ far) ps → ((t : ℚ) → zero_q ≤ℚ t → t <ℚ far → read ps t ≡ f t)
     → IsFinite f → IsContinuous f → a.time ≤ℚ b.time → b.time -ℚ a.time ≤ℚ far
     → (((s : Segment) × HasSegment s (segments ps) × IsShortBy s a b) → Fin b.work <ₑ (Fin a.work +ₑ f (b.time -ℚ a.time)))
@@ -125,14 +136,7 @@ tell f far (p ∷ ps) a b at0 before is fin smooth l m =
     let d = b.time -ℚ a.time in
     let low : zero_q ≤ℚ d = with2 t u (λ c. omega (arith, c.le, c.lt, c.same)) in
     let at_p : p.x ≤ℚ d = subst (λ x. x ≤ℚ d) (sym at0.0) low in
-    let R : ReadsFrom f far p ps = record {
-      starts = at0.1;
-      before = before;
-      low = subst (λ x. zero_q ≤ℚ x) (sym at0.0) (le_refl zero_q);
-      is = λ x i j. is x (subst (λ y. y ≤ℚ x) at0.0 i) j;
-      finite = fin;
-      smooth = smooth;
-    } in
+    let R = reads_from f far p ps at0 before is fin smooth in
     let num = is_number f d fin low in (
       λ h.
           let (s, has, short) = h in
@@ -164,14 +168,7 @@ tell_at f far (p ∷ ps) a b at0 before is fin smooth l m start h =
     let u = b.time in
     let d = b.time -ℚ a.time in
     let low : zero_q ≤ℚ d = with2 t u (λ c. omega (arith, c.le, c.lt, c.same)) in
-    let R : ReadsFrom f far p ps = record {
-      starts = at0.1;
-      before = before;
-      low = subst (λ x. zero_q ≤ℚ x) (sym at0.0) (le_refl zero_q);
-      is = λ x i j. is x (subst (λ y. y ≤ℚ x) at0.0 i) j;
-      finite = fin;
-      smooth = smooth;
-    } in
+    let R = reads_from f far p ps at0 before is fin smooth in
     let num = is_number f d fin low in
     let (s, has, at, on) = covered_at p ps d at0.1 start in (
       s,

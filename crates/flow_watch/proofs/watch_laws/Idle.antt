@@ -30,7 +30,7 @@ use Rattle.flow_watch.proofs.watch_laws.Stretches.{around, each_time_map}
 use Rattle.upp_limits.specs.rational.proofs.ExtendedOrder.{not_past}
 
 -- ---- from a premise that fails
-length_nonneg : (a b : ℚ) → a <ℚ b → zero_q ≤ℚ b -ℚ a
+pub length_nonneg : (a b : ℚ) → a <ℚ b → zero_q ≤ℚ b -ℚ a
 length_nonneg a b h = with2 a b (λ c. omega (arith, c.le, c.lt, c.same))
 
 pub below_number : (w v : ℚ) (x : Ext) (n : ℚ) → x ≡ Fin n → Fin w <ₑ (Fin v +ₑ x) → w <ℚ v +ℚ n
@@ -75,24 +75,32 @@ pub record IsFoundBetween (end : ℚ) (V : List ServerStep) (c : SpecCurve) (u e
   pub pair : IsPair (IsTurn end V) (IsBreak c) p q
   pub less : Fin (worked all V q) <ₑ (Fin (worked all V p) +ₑ value_at c (q -ℚ p))
 
+-- the work in pieces between turns, and a curve that is 0 at first
+pub work_turns : (server : Server) (end : ℚ) (V : List ServerStep) (u e : ℚ) → IsLawfulView server end V
+    → IsPiecewise (worked all V) (IsTurn end V) u e
+work_turns server end V u e h =
+    let f = work_pieces V u e (all_works server end (start server.discipline) V h.allowed) in
+    record {
+      times = f.times;
+      are = each_time_map (IsPaceChange V) (IsTurn end V) (λ t p. inr (inr p)) f.times f.are;
+      affine = f.affine;
+    }
+
+pub none_at_start : (c : SpecCurve) → IsFinite (value_at c) → IsZeroAtStart (value_at c)
+    → number_at (value_at c zero_q) ≤ℚ int (pos 0)
+none_at_start c fin zero =
+    let z = is_number (value_at c) zero_q fin (le_refl zero_q) in
+    subst (λ x. x ≤ₑ Fin (int (pos 0))) z zero
+
 pub found_between : (server : Server) (end : ℚ) (V : List ServerStep) (c : SpecCurve) (u e a b : ℚ) → IsLawfulView server end V → IsNormal c
     → IsFinite (value_at c) → IsContinuous (value_at c) → IsZeroAtStart (value_at c) → IsTurn end V u → IsTurn end V e → u ≤ℚ a → a <ℚ b → b ≤ℚ e
     → Fin (worked all V b) <ₑ (Fin (worked all V a) +ₑ value_at c (b -ℚ a))
     → (p q : ℚ) × IsFoundBetween end V c u e p q
 found_between server end V c u e a b h n fin smooth zero at_u at_e first l last less =
-    let works = all_works server end (start server.discipline) V h.allowed in
     let g : ℚ → ℚ = λ t. number_at (value_at c t) in
-    let f = work_pieces V u e works in
-    let turns : IsPiecewise (worked all V) (IsTurn end V) u e = record {
-      times = f.times;
-      are = each_time_map (IsPaceChange V) (IsTurn end V) (λ t p. inr (inr p)) f.times f.are;
-      affine = f.affine;
-    } in
-    let at_zero : g (int (pos 0)) ≤ℚ int (pos 0) =
-    let z = is_number (value_at c) zero_q fin (le_refl zero_q) in
-    subst (λ x. x ≤ₑ Fin (int (pos 0))) z zero in
     let short = below_number (worked all V b) (worked all V a) (value_at c (b -ℚ a)) (g (b -ℚ a)) (is_number (value_at c) (b -ℚ a) fin (length_nonneg a b l)) less in
-    let (p, q, it) = short_pair (worked all V) g (IsTurn end V) (IsBreak c) u e a b turns (curve_pieces c (e -ℚ u) n fin smooth) at_u at_e at_zero first (le_of_lt l) last short in (
+    let (p, q, it) = short_pair (worked all V) g (IsTurn end V) (IsBreak c) u e a b (work_turns server end V u e h) (curve_pieces c (e -ℚ u) n fin smooth) at_u at_e
+    (none_at_start c fin zero) first (le_of_lt l) last short in (
       p,
       q,
       record {

@@ -5,7 +5,7 @@ use Rattle.std.proofs.Common.{arith, sym, subst, ap, ◌∙◌, inl, inr}
 use Rattle.upp_limits.specs.rational.specs.Rational.{ℚ, int, ◌+ℚ◌, ◌-ℚ◌, ◌*ℚ◌, ◌≤ℚ◌, ◌<ℚ◌}
 use Rattle.upp_limits.specs.rational.specs.MinMax.{min_q}
 use Rattle.upp_limits.specs.rational.specs.Whole.{periods}
-use Rattle.upp_limits.specs.rational.specs.Extended.{◌≤ₑ◌, ◌+ₑ◌}
+use Rattle.upp_limits.specs.rational.specs.Extended.{◌+ₑ◌}
 use Rattle.upp_limits.specs.rational.specs.declared.Extended.TheVariants.{Fin}
 use Rattle.upp_limits.specs.rational.proofs.Laws.{le_refl, le_trans, le_or_lt, le_of_lt, zero_mul}
 use Rattle.upp_limits.specs.rational.proofs.Linear.{with_atoms, with2, with3, with4, with5}
@@ -16,8 +16,7 @@ use Rattle.upp_limits.specs.upp_curve.specs.Curve.{SpecCurve, value_at}
 use Rattle.upp_limits.specs.upp_curve.specs.Normal.{IsNormal, FitsPeriod, TailFits}
 use Rattle.upp_limits.specs.upp_curve.specs.Steady.{Repeats}
 use Rattle.upp_limits.specs.upp_curve.proofs.Normal.{periodic_rule}
-use Rattle.upp_limits.specs.min_plus.specs.Functions.{zero_q}
-use Rattle.net_model.specs.run_laws.specs.Cards.{all, ServerStep}
+use Rattle.net_model.specs.run_laws.specs.Cards.{all}
 use Rattle.net_model.specs.run_laws.specs.Servers.{start}
 use Rattle.net_model.specs.run_laws.specs.Counts.{worked}
 use Rattle.net_model.specs.run_laws.proofs.Counts.{worked_rises}
@@ -25,16 +24,13 @@ use Rattle.net_model.specs.run_laws.proofs.Cuts.{all_works}
 use Rattle.flow_watch.specs.watch_laws.Affine.{IsPiecewise}
 use Rattle.flow_watch.specs.watch_laws.Windows.{FallsShort, IsShort}
 use Rattle.flow_watch.specs.watch_laws.Breaks.{IsBreak}
-use Rattle.flow_watch.specs.watch_laws.Paces.{IsPaceChange}
 use Rattle.flow_watch.specs.watch_laws.Segments.{number_at}
 use Rattle.flow_watch.specs.watch_laws.Stretches.{IsTurn}
 use Rattle.flow_watch.specs.watch_laws.Laws.{MayServe}
 use Rattle.flow_watch.specs.watch_laws.Reaches.{HasReach, ReachSuffices}
 use Rattle.flow_watch.proofs.watch_laws.Windows.{short_pair}
-use Rattle.flow_watch.proofs.watch_laws.Paces.{work_pieces}
 use Rattle.flow_watch.proofs.watch_laws.Breaks.{is_number, curve_pieces}
-use Rattle.flow_watch.proofs.watch_laws.Stretches.{each_time_map}
-use Rattle.flow_watch.proofs.watch_laws.Idle.{below_number, number_below}
+use Rattle.flow_watch.proofs.watch_laws.Idle.{length_nonneg, below_number, number_below, work_turns, none_at_start}
 use Rattle.flow_watch.proofs.watch_laws.UnrolledStarts.{rank_later}
 
 -- ---- windows that are cut
@@ -194,9 +190,6 @@ near_pair W g P X u e a b r d rises less low some f h at_k at_u at_e z first ord
     ]
 
 -- ---- a curve
-length_low : (a b : ℚ) → a <ℚ b → zero_q ≤ℚ b -ℚ a
-length_low a b h = with2 a b (λ c. omega (arith, c.le, c.lt, c.same))
-
 fits_period : (c : SpecCurve) (reach : ℚ) → IsNormal c → (R : HasReach c reach) → FitsPeriod c.pieces R.rank R.period
 fits_period c reach n R = subst (λ (t : Tail). TailFits c.pieces t) R.tail n.raw.tail
 
@@ -222,19 +215,11 @@ pub reach_suffices : ReachSuffices
 reach_suffices server end V c reach u e a b h M R at_u at_e first l last less =
     let works = all_works server end (start server.discipline) V h.allowed in
     let g : ℚ → ℚ = λ t. number_at (value_at c t) in
-    let f = work_pieces V u e works in
-    let turns : IsPiecewise (worked all V) (IsTurn end V) u e = record {
-      times = f.times;
-      are = each_time_map (IsPaceChange V) (IsTurn end V) (λ t p. inr (inr p)) f.times f.are;
-      affine = f.affine;
-    } in
-    let at_zero : g (int (pos 0)) ≤ℚ int (pos 0) =
-    let z = is_number (value_at c) zero_q M.finite (le_refl zero_q) in
-    subst (λ x. x ≤ₑ Fin (int (pos 0))) z M.at_zero in
     let F = fits_period c reach M.normal R in
-    let short = below_number (worked all V b) (worked all V a) (value_at c (b -ℚ a)) (g (b -ℚ a)) (is_number (value_at c) (b -ℚ a) M.finite (length_low a b l)) less in
+    let short = below_number (worked all V b) (worked all V a) (value_at c (b -ℚ a)) (g (b -ℚ a)) (is_number (value_at c) (b -ℚ a) M.finite (length_nonneg a b l)) less in
     let (p, q, it) = near_pair (worked all V) g (IsTurn end V) (IsBreak c) u e a b R.rank R.period (λ s t k. worked_rises all V s t works k) (rises_less c reach M R) F.nonneg F.some
-    turns (curve_pieces c (e -ℚ u) M.normal M.finite M.continuous) (rank_later c R.rank R.period R.rise M.normal R.tail) at_u at_e at_zero first (le_of_lt l) last short in
+    (work_turns server end V u e h) (curve_pieces c (e -ℚ u) M.normal M.finite M.continuous) (rank_later c R.rank R.period R.rise M.normal R.tail) at_u at_e
+    (none_at_start c M.finite M.at_zero) first (le_of_lt l) last short in
     let pair = it.pair in (
       p,
       q,
@@ -243,5 +228,5 @@ reach_suffices server end V c reach u e a b h M R at_u at_e first l last less =
       pair.to,
       pair.pair,
       subst (λ k. q -ℚ p ≤ℚ k) (sym R.is) it.near,
-      number_below (worked all V q) (worked all V p) (value_at c (q -ℚ p)) (g (q -ℚ p)) (is_number (value_at c) (q -ℚ p) M.finite (length_low p q pair.forward)) pair.short,
+      number_below (worked all V q) (worked all V p) (value_at c (q -ℚ p)) (g (q -ℚ p)) (is_number (value_at c) (q -ℚ p) M.finite (length_nonneg p q pair.forward)) pair.short,
     )

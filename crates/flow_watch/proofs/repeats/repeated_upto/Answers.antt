@@ -1,4 +1,4 @@
-use Rattle.std.proofs.Common.{List, ℕ, ◌<◌, length, drop, sym, subst, ◌∙◌}
+use Rattle.std.proofs.Common.{List, ℕ, ◌<◌, length, drop, subst}
 use Rattle.std.proofs.lemmas.Option.{IfSome_then}
 use Rattle.upp_limits.specs.rational.specs.Rational.{ℚ}
 use Rattle.upp_limits.specs.upp_curve.specs.declared.affine_segment.line.Piece.{Piece}
@@ -12,10 +12,10 @@ cycle_upto-requires c = times_rise c.args.arrival.now c.args.entries.now c.requi
 
 pub returns : goal.returns
 returns c =
-    let t = c.in-Periodic in
+    let t = c.in-Some.cycle in
     let f = c.args.arrival.now in
     let es = c.args.entries.now in
     IfSome_then c.cycle_upto.result c.cycle_upto.ensures
-    (λ upto H. none_repeated f es t.rank t.period t.rise upto c.requires c.pieces.ensures.kept (sym c.tail.ensures.tail ∙ t.is)
-    (subst (λ (x : ℚ). (i : ℕ) → i < length f.pieces → HoldsAt t.rank t.period t.rise es x upto (drop i f.pieces)) c.in-Ok.ensures.value
-    (subst (λ (ps : List Piece). (i : ℕ) → i < length ps → HoldsAt t.rank t.period t.rise es c.in-Ok.end upto (drop i ps)) c.pieces.ensures.pieces H)))
+    (λ upto H. none_repeated f es t.rank t.period t.rise upto c.requires c.pieces.ensures.kept c.in-Some.ensures.tail
+    (subst (λ (x : ℚ). (i : ℕ) → i < length f.pieces → HoldsAt t.rank t.period t.rise es x upto (drop i f.pieces)) c.in-Some.ensures.end
+    (subst (λ (ps : List Piece). (i : ℕ) → i < length ps → HoldsAt t.rank t.period t.rise es t.end upto (drop i ps)) c.pieces.ensures.pieces H)))

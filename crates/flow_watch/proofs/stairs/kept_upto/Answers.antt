@@ -1,4 +1,4 @@
-use Rattle.std.proofs.Common.{List, pos, refl, sym, subst, ◌∙◌}
+use Rattle.std.proofs.Common.{List, pos, refl, sym, subst}
 use Rattle.std.proofs.lemmas.Option.{IfSome_then}
 use Rattle.upp_limits.specs.rational.specs.Rational.{ℚ, int, ◌≤ℚ◌}
 use Rattle.upp_limits.specs.rational.proofs.Laws.{le_refl}
@@ -12,12 +12,12 @@ seen_upto-requires-clause-some c = subst (λ (x : ℚ). int (pos 0) ≤ℚ x) (s
 
 pub returns : goal.returns
 returns c =
-    let t = c.in-Periodic in
-    let s = c.in-Some.stair in
+    let t = c.in-Some.cycle in
+    let s = c.in-Some-stair_of.stair in
     let f = c.args.arrival.now in
     let yes = c.if-not-is_stair.ensures refl in
-    let S = subst (λ (x : ℚ). IsStair s.height s.slack s.rate x f.pieces) c.in-Ok.ensures.value
-    (subst (λ (ps : List Piece). IsStair s.height s.slack s.rate c.in-Ok.end ps) c.pieces-pieces.ensures.pieces yes) in
+    let S = subst (λ (x : ℚ). IsStair s.height s.slack s.rate x f.pieces) c.in-Some.ensures.end
+    (subst (λ (ps : List Piece). IsStair s.height s.slack s.rate t.end ps) c.pieces-pieces.ensures.pieces yes) in
     IfSome_then c.seen_upto.result c.seen_upto.ensures
     (λ upto K. none_past_stair f c.args.entries.now s.height c.zero-spare.result s.slack s.rate upto c.zero-spare.ensures c.requires S.some S.rises
-    (λ d low. always_climbed f t.rank t.period t.rise s.height s.slack s.rate d c.pieces-pieces.ensures.kept (sym c.tail.ensures.tail ∙ t.is) c.in-Some.ensures S low) K)
+    (λ d low. always_climbed f t.rank t.period t.rise s.height s.slack s.rate d c.pieces-pieces.ensures.kept c.in-Some.ensures.tail c.in-Some-stair_of.ensures S low) K)
