@@ -16,9 +16,10 @@ itself (it has no limits, but numbers of 128 bits) is counted as left out.
 What is not wanted is printed with the number of its case, and with FOLDER its files are kept there: an end by a signal, a status that has no cause
 here or outside 0 to 9, anything on standard error, a report or a refusal that is not as docs/FORMATS.md says (bench/answers.py), want of memory at
 2 GiB, an end by the limit of processor time (`late`), and no end within ten minutes (`hangs`). The last lines say how many cases there were, of
-which commands and statuses, and what was not wanted. It ends with 1 where something was not.
+which commands and statuses, and what was not wanted; so they do where an interrupt (Ctrl-C, SIGINT) ends it early. It ends with 1 where something was not.
 """
 
+import contextlib
 import random
 import re
 import resource
@@ -270,18 +271,21 @@ def main() -> None:
     kinds: Counter = Counter()
     others: Counter = Counter()
     twins: Counter = Counter()
-    with tempfile.TemporaryDirectory(prefix="mutate_") as name:
+    signal.signal(signal.SIGINT, signal.default_int_handler)  # also where it was begun in the background
+    tried = 0
+    with tempfile.TemporaryDirectory(prefix="mutate_") as name, contextlib.suppress(KeyboardInterrupt):
         for number in range(count):
             draw = random.Random(seed * 1_000_003 + number)
             case = odd(draw) if draw.random() < share else drawn(draw, known)
             came = Came(program, case, Path(name))
-            statuses[came.status] += 1
-            kinds.update(kinds_of(case))
             said = unwanted(came, case) or not_undone(program, case, came, Path(name))
             if twin and not said:
                 said = beside(twin, case, came, Path(name))
                 twins[said] += said != ""
                 said = "" if said in ("alike", "left out") else said
+            tried += 1
+            statuses[came.status] += 1
+            kinds.update(kinds_of(case))
             if said:
                 others[said] += 1
                 print(f"case {number} of seed {seed}: {said}: {' '.join(case.words)}", flush=True)
@@ -290,7 +294,7 @@ def main() -> None:
     if twin:
         print(f"beside the twin: {twins['alike']} alike, {twins['left out']} left out, {sum(twins.values()) - twins['alike'] - twins['left out']} other")
     told = ", ".join(f"{statuses[status]} with status {status}" for status in sorted(statuses, key=str))
-    print(f"{count} cases of seed {seed}: {told}; {sum(others.values())} not wanted {dict(others)}")
+    print(f"{tried} cases of seed {seed}: {told}; {sum(others.values())} not wanted {dict(others)}")
     sys.exit(1 if others else 0)
 
 

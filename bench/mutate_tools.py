@@ -9,12 +9,13 @@ numerals of 5,000 digits, names of 100,000 letters, 400 tables or arrays in one 
 that a spreadsheet would run. Each call is a process of its own with a limit of 20 seconds of processor time, 60 of the clock and 3 GiB.
 
 What is not wanted is printed with the number of its case: an end by a signal, another status than 0, 1 and 2, status 1 without a word, a traceback,
-and a cell of a table that a spreadsheet would run. The last line of each tool says how many calls there were by status. It ends with 1 where
-something was not wanted. Where matplotlib is not installed, no picture is drawn.
+and a cell of a table that a spreadsheet would run. The tools are called in turn; a last line of each says how many calls there were by status, also where
+an interrupt (Ctrl-C, SIGINT) ends it early. It ends with 1 where something was not wanted. Where matplotlib is not installed, no picture is drawn.
 """
 
 import contextlib
 import csv
+import itertools
 import os
 import random
 import re
@@ -252,15 +253,17 @@ def main() -> None:
         folder, own = Path(name, "call"), Path(name, "own")
         folder.mkdir(), own.mkdir()
         calls.prepare(own)
-        for tool in sys.argv[4:] or TOOLS:
-            statuses: Counter = Counter()
-            for number in range(count):
+        signal.signal(signal.SIGINT, signal.default_int_handler)  # also where it was begun in the background
+        came: dict[str, Counter] = {tool: Counter() for tool in sys.argv[4:] or TOOLS}
+        with contextlib.suppress(KeyboardInterrupt):
+            for number, tool in itertools.product(range(count), came):
                 status, said, words = call(calls, tool, random.Random(f"{seed} {tool} {number}"), folder)
-                statuses[os.waitstatus_to_exitcode(status)] += 1
+                came[tool][os.waitstatus_to_exitcode(status)] += 1
                 if said:
                     others += 1
                     print(f"{tool}: case {number} of seed {seed}: {said}: {' '.join(words)}", flush=True)
-            print(f"{tool}: {count} calls of seed {seed} by status: {dict(sorted(statuses.items()))}", flush=True)
+        for tool, statuses in came.items():
+            print(f"{tool}: {sum(statuses.values())} calls of seed {seed} by status: {dict(sorted(statuses.items()))}", flush=True)
     sys.exit(1 if others else 0)
 
 

@@ -1,13 +1,14 @@
 #!/usr/bin/env python3
 """How many times as many instructions the program takes as the same in plain Rust, unproved.
 
-    python3 bench/speed.py NETCALC [WORD]
+    python3 bench/speed.py NETCALC [WORD] [quick]
 
 NETCALC is the program. The other one, bench/twin, is built with cargo into a new folder outside the repository; where there is no cargo only the
 program is measured. Both work on the same files, those of bench/shapes.py; with WORD those alone whose name has it (and with
 `late` the ones that take long). Instructions are counted by
 valgrind (callgrind), so a busy machine changes nothing, and each is run once; where there is no valgrind, processor time stands in their place, in
-milliseconds, the least of five runs, and the first line says so.
+milliseconds, the least of five runs, and the first line says so. With `quick` behind WORD (which may be empty) they are counted by valgrind's exp-bbv, five
+times as fast, some thousandths lower, and without what takes most.
 
 A line a shape, as a row of a table: the program's status, millions of instructions of both, how many times the second the first is (none where the
 program refuses), thousands a cell, and the operators that take most of the program's instructions, all that they call with them. Some are within
@@ -19,6 +20,7 @@ break a service curve, of which it says no more than that. The last lines tell t
 asserts nothing about time.
 """
 
+import re
 import resource
 import shutil
 import subprocess
@@ -36,6 +38,7 @@ TESTS = FOLDER.parent / "tests"
 COMMANDS = ("analyse", "simulate", "check")
 IS_LEFT_OUT = 3  # the twin's status where a service is broken
 HAS_VALGRIND = shutil.which("valgrind") is not None
+IS_QUICK = sys.argv[3:] == ["quick"]
 UNIT = "million instructions" if HAS_VALGRIND else "ms"
 TIMES = 5
 
@@ -128,8 +131,18 @@ def counted(words: list[str], folder: Path) -> Measured:
     return Measured(total / 1e6, run.returncode, run.stdout, {label: cost / total for label, cost in shares.items()})
 
 
+def counted_alone(words: list[str], folder: Path) -> Measured:
+    log = folder / "log"
+    tool = ["valgrind", "--tool=exp-bbv", "--instr-count-only=yes", f"--bb-out-file={folder / 'bb'}", f"--pc-out-file={folder / 'pc'}", f"--log-file={log}"]
+    run = subprocess.run(tool + words, stdout=subprocess.PIPE, stderr=subprocess.DEVNULL, check=False)
+    total = re.search(r"Total instructions: (\d+)", log.read_text())
+    return Measured(int(total.group(1)) / 1e6 if total else 0, run.returncode, run.stdout)
+
+
 def measured(words: list[str], folder: Path) -> Measured:
-    return counted(words, folder) if HAS_VALGRIND else timed(words)
+    if not HAS_VALGRIND:
+        return timed(words)
+    return counted_alone(words, folder) if IS_QUICK else counted(words, folder)
 
 
 def cells(text: str) -> int:
@@ -216,7 +229,7 @@ def measure_operators(program: str, other: str | None, folder: Path) -> None:
 
 
 def main() -> None:
-    if len(sys.argv) not in (2, 3):
+    if len(sys.argv) not in (2, 3) and not IS_QUICK:
         sys.exit(__doc__)
     program = str(Path(sys.argv[1]).resolve())
     word = sys.argv[2] if len(sys.argv) > 2 else ""
