@@ -1,18 +1,17 @@
 -- What several queues bring together keeps the sum of their parts.
-use Rattle.std.specs.Prelude.{◌≡◌, ◌<◌, ◌≤◌, ◌+◌, ℕ, zero, suc, pos, ◌==◌, ltb, leb, Bool, true, false, not, ◌&&◌, ◌||◌, List, [], ◌∷◌, ◌++◌, length, get_or, take, drop, Option, Some, None}
+use Rattle.std.specs.Prelude.{◌≡◌, ◌<◌, ◌≤◌, ◌+◌, ℕ, suc, pos, ◌==◌, ltb, leb, false, not, ◌&&◌, ◌||◌, List, [], ◌∷◌, ◌++◌, length, Option, Some, None}
 use Rattle.std.proofs.Common.{arith, sym, ap, ◌∙◌, refl, inl, inr, subst}
 use Rattle.std.proofs.lemmas.Bool.{cases_Bool, eqb-true, eqb-false, ltb-true, ltb-false, leb-true, leb-false, lt-ltb, le-ltb, le-leb, lt-leb}
 use Rattle.std.proofs.lemmas.List.{get_or-take, get_or-drop, length-drop, length-take}
 use Rattle.min_plus.specs.rational.specs.Rational.{ℚ, int, ◌+ℚ◌, ◌-ℚ◌, ◌≤ℚ◌}
-use Rattle.min_plus.specs.rational.specs.Extended.{Ext, ◌≤ₑ◌}
 use Rattle.min_plus.specs.rational.specs.declared.Extended.TheVariants.{Fin}
 use Rattle.min_plus.specs.rational.proofs.Laws.{le_refl}
-use Rattle.min_plus.specs.rational.proofs.Linear.{with1, with2, with3, with4}
+use Rattle.min_plus.specs.rational.proofs.Linear.{with1, with3, with4}
 use Rattle.run_laws.specs.Cards.{Card, Class, of_queue, before_queue, ServerStep, Arrives, Works, Leaves, Visits}
-use Rattle.run_laws.specs.Servers.{Discipline, queue_count, Server, ServerState, start}
+use Rattle.run_laws.specs.Servers.{queue_count, Server, ServerState, start}
 use Rattle.run_laws.specs.Next.{next}
 use Rattle.run_laws.specs.Allows.{AllAllowed, IsLawfulView, MayArrive}
-use Rattle.run_laws.specs.Counts.{arrives, within, arrived_in}
+use Rattle.run_laws.specs.Counts.{within, arrived_in}
 use Rattle.run_laws.specs.Premises.{EachArrival, KeepsArrivals}
 use Rattle.run_laws.proofs.Always.{AreAlwaysParts}
 use Rattle.run_laws.proofs.Arrivals.{arrivals_map, arrivals_all, same_arrivals, none_arrive}

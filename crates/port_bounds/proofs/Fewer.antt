@@ -1,8 +1,8 @@
 -- Some of the queues of a port: those before one and behind it.
-use Rattle.std.proofs.Common.{◌≡◌, ◌<◌, ◌≤◌, ◌+◌, ◌-◌, ◌*◌, ◌^◌, ◌++◌, ◌∷◌, [], ℕ, suc, List, length, get_or, take, drop, arith, refl, ap, sym, subst, ◌∙◌, add-one, drop-cons, length-append, length-drop, All, Option, Some, None, sum}
+use Rattle.std.proofs.Common.{◌≡◌, ◌<◌, ◌≤◌, ◌+◌, ◌-◌, ◌^◌, ◌++◌, ◌∷◌, [], ℕ, suc, List, length, get_or, take, drop, arith, ap, sym, subst, ◌∙◌, add-one, drop-cons, length-append, length-drop, All, Some, None, sum}
 use Rattle.std.specs.List.{sum_by}
 use Rattle.std.proofs.lemmas.List.{length-take, length-map, take-map, drop-map, take_all, append-nil, get_or-map}
-use Rattle.std.proofs.lemmas.List.Elements.{All-append, All-take, All-drop, All-nil}
+use Rattle.std.proofs.lemmas.List.Elements.{All-append, All-take, All-drop}
 use Rattle.std.proofs.lemmas.List.Sums.{sum_by-append, sum_by-cons, sum_by-take-drop, sum_by-take-le, sum_by-le, get_or-le-sum_by}
 use Rattle.arrival_lines.specs.Steps.{Fit, most_burst, most_rate}
 use Rattle.arrival_lines.specs.declared.grid.Part.{Part}

@@ -2,27 +2,25 @@
 use Rattle.std.specs.Prelude.{◌≡◌, ◌<◌, ◌≤◌, ◌*◌, ℕ, zero, suc, pos, true, false, List, [], ◌∷◌, length, get_or, Option, Some, None}
 use Rattle.std.proofs.Common.{arith, sym, ap, ◌∙◌, refl, inl, inr, subst}
 use Rattle.std.proofs.lemmas.Bool.{cases_Bool, eqb-true}
-use Rattle.min_plus.specs.rational.specs.Rational.{ℚ, int, ◌+ℚ◌, ◌-ℚ◌, ◌≤ℚ◌, ◌<ℚ◌}
+use Rattle.min_plus.specs.rational.specs.Rational.{ℚ, int, ◌-ℚ◌, ◌≤ℚ◌}
 use Rattle.min_plus.specs.rational.specs.Extended.{Ext, ◌≤ₑ◌}
 use Rattle.min_plus.specs.rational.specs.declared.Extended.TheVariants.{Fin}
 use Rattle.min_plus.specs.rational.proofs.Laws.{le_refl, le_of_lt}
-use Rattle.min_plus.specs.rational.proofs.Linear.{with1, with2}
+use Rattle.min_plus.specs.rational.proofs.Linear.{with1}
 use Rattle.min_plus.specs.Functions.{whole}
 use Rattle.min_plus.specs.Pointwise.{packetised}
 use Rattle.run_laws.specs.Cards.{Card, Class, of_queue, ServerStep, Arrives, Works, Leaves, Visits}
 use Rattle.run_laws.specs.Classes.{IsOfQueue}
 use Rattle.run_laws.specs.Allows.{MayArrive}
 use Rattle.run_laws.specs.Counts.{upto, before, arrived_upto, departed}
-use Rattle.run_laws.specs.Premises.{EachArrival, KeepsSizes}
+use Rattle.run_laws.specs.Premises.{EachArrival}
 use Rattle.run_laws.specs.Delays.{hop_delays, AreAtMost, backlog}
 use Rattle.run_laws.proofs.Arrivals.{arrivals_map, arrivals_all, arrivals_both, none_arrive}
 use Rattle.run_laws.proofs.Backlog.{backlog_from_gap}
 use Rattle.run_laws.proofs.Classes.{delay_from_wait}
 use Rattle.run_laws.proofs.Gone.{left_nonneg}
-use Rattle.run_laws.proofs.Sizes.{whole_nonneg}
 use Rattle.arrival_lines.specs.Grid.{bits, micros, parts_value, service_value}
 use Rattle.arrival_lines.specs.Services.{IsServed}
-use Rattle.arrival_lines.specs.Backlogs.{HoldsAtMost}
 use Rattle.arrival_lines.specs.Queues.{IsLeastQueue}
 use Rattle.arrival_lines.specs.declared.grid.Part.{Part}
 use Rattle.arrival_lines.specs.declared.grid.Queue.{Queue}
@@ -34,7 +32,7 @@ use Rattle.tree_network.specs.declared.network.Port.{Port}
 use Rattle.port_bounds.specs.Ports.{server_of}
 use Rattle.port_bounds.specs.Incoming.{Incoming, queue_in}
 use Rattle.port_bounds.specs.Services.{IsServiceOf, AreAll}
-use Rattle.port_bounds.specs.Rows.{IsLeastRow, IsRowBy}
+use Rattle.port_bounds.specs.Rows.{IsRowBy}
 use Rattle.port_bounds.specs.Promises.{IsSeenAt, IsHeld, RowsAreHeld}
 use Rattle.port_bounds.proofs.Brought.{arrive_known}
 use Rattle.port_bounds.proofs.Served.{value_of, service_serves}
@@ -109,11 +107,11 @@ backlog_held port queues q queue parts services end V range count inside seen kn
     itself s = record { served = λ u h. le_refl (service_value s u) }
 
 -- ---- both
-is_some : Option Queue → Type 0
+unfoldable pub is_some : Option Queue → Type 0
 is_some None = ⊥
 is_some (Some queue) = Unit {0}
 
-queue_of : Option Queue → Queue
+unfoldable pub queue_of : Option Queue → Queue
 queue_of None = record { delay = 0; backlog = 0 }
 queue_of (Some queue) = queue
 

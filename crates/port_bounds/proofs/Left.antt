@@ -1,8 +1,7 @@
 -- All services that steps leave, and that they fit.
-use Rattle.std.proofs.Common.{◌≡◌, ◌<◌, ◌≤◌, ◌+◌, ◌-◌, ◌*◌, ◌^◌, ◌++◌, ◌∷◌, [], ◌&&◌, ℕ, List, length, get_or, arith, refl, ap, sym, subst, ◌∙◌, Option, Some, None, true, false, Bool, cond, nat_lt, filter_map, All, inl, inr, ◌⊎◌}
+use Rattle.std.proofs.Common.{◌≡◌, ◌<◌, ◌≤◌, ◌+◌, ◌-◌, ◌^◌, ◌∷◌, [], ◌&&◌, ℕ, List, length, get_or, arith, refl, ap, sym, subst, ◌∙◌, Option, Some, None, true, false, Bool, cond, nat_lt, filter_map, All, inl, inr}
 use Rattle.std.specs.Prelude.{Contains}
 use Rattle.std.specs.List.{sum_by}
-use Rattle.std.specs.Option.{option_map}
 use Rattle.std.specs.List.{cons_option}
 use Rattle.std.proofs.lemmas.Bool.{ltb-true, lt-ltb}
 use Rattle.std.proofs.lemmas.List.Elements.{All-contains, Contains-get_or, Contains-append_left, Contains-append_right, Contains-append_cases, Contains-push, Contains-push_cases, at_from_Contains}

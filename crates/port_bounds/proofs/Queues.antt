@@ -1,6 +1,5 @@
 -- What several queues have together, one queue more or fewer at a time.
-use Rattle.std.proofs.Common.{◌≡◌, ◌<◌, ◌≤◌, ◌+◌, ◌*◌, ◌^◌, ◌++◌, ◌∷◌, [], ℕ, suc, max, List, length, get_or, take, drop, map, refl, ap, sym, subst, ◌∙◌, append_assoc, add-one, arith, drop-cons, Option, Some, None, true, false, Bool}
-use Rattle.std.specs.Option.{option_map}
+use Rattle.std.proofs.Common.{◌≡◌, ◌<◌, ◌≤◌, ◌+◌, ◌^◌, ◌++◌, ◌∷◌, [], ℕ, max, List, length, get_or, drop, refl, ap, sym, subst, ◌∙◌, append_assoc, add-one, arith, drop-cons, Option, Some, None, true, false, Bool}
 use Rattle.std.proofs.lemmas.List.{drop_all, append-nil}
 use Rattle.std.proofs.lemmas.List.Sums.{sum_by-cons, sum_by-le}
 use Rattle.arrival_lines.specs.declared.grid.Part.{Part}

@@ -1,15 +1,14 @@
 -- The services of a queue, and its row, as the calls make them.
-use Rattle.std.specs.Prelude.{◌≡◌, ◌⊎◌, ◌<◌, ◌≤◌, ◌+◌, ◌*◌, ◌^◌, ◌++◌, ◌∷◌, [], ℕ, zero, suc, List, All, Contains, length, get_or, sum, Option, Some, None, MatchOption}
+use Rattle.std.specs.Prelude.{◌≡◌, ◌⊎◌, ◌<◌, ◌*◌, ◌^◌, ◌++◌, ◌∷◌, [], ℕ, zero, suc, List, All, Contains, get_or, sum, Option, Some}
 use Rattle.std.specs.declared.vec.Vec.{Vec}
 use Rattle.std.specs.declared.alloc.Global.{Global}
-use Rattle.std.proofs.Common.{arith, sym, ap, ◌∙◌, refl, inl, inr, subst}
+use Rattle.std.proofs.Common.{arith, sym, refl, inl, inr, subst}
 use Rattle.std.proofs.lemmas.List.Elements.{All-append, All-cons, All-nil, All-contains, Contains-get_or, Contains-append_left, Contains-push, Contains-push_cases}
-use Rattle.arrival_lines.specs.Queues.{IsUnbounded, IsLeastQueue}
 use Rattle.arrival_lines.specs.declared.grid.Part.{Part}
 use Rattle.arrival_lines.specs.declared.grid.Queue.{Queue}
 use Rattle.arrival_lines.specs.declared.grid.Service.{Service}
 use Rattle.tree_network.specs.declared.network.Discipline.{Discipline}
-use Rattle.tree_network.specs.declared.network.Discipline.TheVariants.{Fifo, Priority, Drr}
+use Rattle.tree_network.specs.declared.network.Discipline.TheVariants.{Priority, Drr}
 use Rattle.tree_network.specs.declared.network.Port.{Port}
 use Rattle.port_bounds.specs.Ports.{port_service}
 use Rattle.port_bounds.specs.Incoming.{Incoming, queue_in, joined_parts, longest_frame_of, longest_frames_of, before, behind}
@@ -63,14 +62,6 @@ small_push one services more all small is =
 -- ---- rows
 pub row_empty : (port : Port) (queues : List Incoming) (q : ℕ) → (queue_in queues q).longest ≡ 0 → IsRow port queues q (Some record { delay = 0; backlog = 0 })
 row_empty port queues q h = subst (λ (l : ℕ). IsRowBy port queues q l (queue_in queues q).parts (Some record { delay = 0; backlog = 0 })) (sym h) refl
-
-pub row_unknown : (port : Port) (queues : List Incoming) (q : ℕ) → 0 < (queue_in queues q).longest → (queue_in queues q).parts ≡ None → IsRow port queues q None
-row_unknown port queues q some unknown =
-    subst (λ (o : Option (List Part)). IsRowBy port queues q (queue_in queues q).longest o None) (sym unknown) (by_length (queue_in queues q).longest some)
-  where
-    by_length : (l : ℕ) → 0 < l → IsRowBy port queues q l None None
-    by_length zero h = absurd (omega (arith, h))
-    by_length (suc l) h = refl
 
 pub row_known : (port : Port) (queues : List Incoming) (q : ℕ) (parts : List Part) (row : Option Queue) → 0 < (queue_in queues q).longest
     → (queue_in queues q).parts ≡ Some parts → IsLeastRow port queues q parts row → IsRow port queues q row

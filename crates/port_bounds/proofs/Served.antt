@@ -1,25 +1,24 @@
 -- Each service of a queue serves it in every lawful view of its port.
-use Rattle.std.specs.Prelude.{◌≡◌, ◌⊎◌, ◌<◌, ◌≤◌, ◌+◌, ◌-◌, ◌*◌, ◌/◌, ◌^◌, ◌++◌, ◌∷◌, [], ℕ, zero, suc, pos, true, List, length, get_or, map, sum, Option, Some, None}
-use Rattle.std.specs.List.{sum_by}
+use Rattle.std.specs.Prelude.{◌≡◌, ◌<◌, ◌≤◌, ◌+◌, ◌-◌, ◌*◌, ◌/◌, ◌^◌, ◌++◌, ◌∷◌, [], ℕ, zero, suc, true, List, length, get_or, map, sum, Option, Some, None}
 use Rattle.std.specs.Int.{div_ceil}
 use Rattle.std.proofs.Common.{arith, sym, ap, ◌∙◌, refl, inl, inr, subst}
 use Rattle.std.proofs.Math.Nat.{div-mul-le_self}
 use Rattle.std.proofs.lemmas.Bool.{eq-eqb, ltb-true}
 use Rattle.std.proofs.lemmas.List.{get_or-map, get_or-drop, length-map, length-drop}
 use Rattle.std.proofs.lemmas.List.Sums.{sum-map}
-use Rattle.min_plus.specs.rational.specs.Rational.{ℚ, int, ◌+ℚ◌, ◌-ℚ◌, ◌*ℚ◌, ◌/ℚ◌, ◌≤ℚ◌}
+use Rattle.min_plus.specs.rational.specs.Rational.{ℚ, ◌+ℚ◌, ◌-ℚ◌, ◌*ℚ◌, ◌/ℚ◌, ◌≤ℚ◌}
 use Rattle.min_plus.specs.rational.specs.Extended.{Ext, ◌≤ₑ◌}
 use Rattle.min_plus.specs.rational.specs.declared.Extended.TheVariants.{Fin}
 use Rattle.min_plus.specs.rational.proofs.Laws.{le_refl, mul_zero}
-use Rattle.min_plus.specs.rational.proofs.Linear.{with2, with3, with4}
+use Rattle.min_plus.specs.rational.proofs.Linear.{with2}
 use Rattle.min_plus.specs.rational.proofs.MinMax.{max_q_le}
 use Rattle.min_plus.specs.Functions.{zero_q, whole}
 use Rattle.min_plus.specs.Formulas.{bucket_value}
 use Rattle.min_plus.specs.Pointwise.{excess, scaled}
 use Rattle.run_laws.specs.Cards.{Card, of_queue, before_queue, after_queue, ServerStep, Arrives, Works, Leaves, Visits}
 use Rattle.run_laws.specs.Servers as servers
-use Rattle.run_laws.specs.Allows.{IsLawfulView, MayArrive}
-use Rattle.run_laws.specs.Premises.{EachArrival, KeepsArrivals, KeepsService, KeepsSizes, IsZeroAtStart}
+use Rattle.run_laws.specs.Allows.{MayArrive}
+use Rattle.run_laws.specs.Premises.{EachArrival, KeepsSizes, IsZeroAtStart}
 use Rattle.run_laws.specs.Serves.{Serves}
 use Rattle.run_laws.specs.Weaker.{IsNowhereAbove}
 use Rattle.run_laws.proofs.Arrivals.{arrivals_map, arrivals_both}
@@ -32,9 +31,8 @@ use Rattle.residual_laws.proofs.Owed.{in_sum}
 use Rattle.residual_laws.specs.lines.RateDebt.{rate_debt_value, IsAtLeastRate}
 use Rattle.residual_laws.proofs.lines.RateDebt.{compare}
 use Rattle.residual_laws.proofs.lines.Lines.{fifo_serves, priority_line, rest_line}
-use Rattle.arrival_lines.specs.Grid.{bits, speed, micros, line_value, parts_value, service_value}
+use Rattle.arrival_lines.specs.Grid.{bits, speed, parts_value, service_value}
 use Rattle.arrival_lines.specs.Steps.{IsStep}
-use Rattle.arrival_lines.specs.Services.{IsServed, IsShare}
 use Rattle.arrival_lines.specs.declared.grid.Line.{Line}
 use Rattle.arrival_lines.specs.declared.grid.Part.{Part}
 use Rattle.arrival_lines.specs.declared.grid.Service.{Service}

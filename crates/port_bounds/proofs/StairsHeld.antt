@@ -34,7 +34,7 @@ use Rattle.port_bounds.specs.Ports.{server_of}
 use Rattle.port_bounds.specs.Incoming.{Incoming, queue_in}
 use Rattle.port_bounds.specs.Promises.{IsSeenAt, IsHeld}
 use Rattle.port_bounds.specs.Services.{IsServiceOf, AreAll}
-use Rattle.port_bounds.proofs.Held.{rows_are_held}
+use Rattle.port_bounds.proofs.Held.{is_some, queue_of, rows_are_held}
 use Rattle.port_bounds.proofs.Rowed.{row_empty}
 use Rattle.port_bounds.proofs.Served.{value_of, service_serves}
 use Rattle.arrival_stairs.specs.Queues.{IsKept, IsLeastOfBoth}
@@ -124,14 +124,6 @@ module _ (port : Port) (queues : List StairsIn) (q : ℕ) (queue : Queue) (bundl
       (ap (λ (x : ℚ). packetised (value_of s) x t) (bits_whole l) ∙ at))
 
 -- ---- all
-is_some : Option Queue → Type 0
-is_some None = ⊥
-is_some (Some queue) = Unit {0}
-
-queue_of : Option Queue → Queue
-queue_of None = record { delay = 0; backlog = 0 }
-queue_of (Some queue) = queue
-
 held_by : (port : Port) (queues : List StairsIn) (q : ℕ) (queue : Queue) (end : ℚ) (V : List ServerStep) (longest : ℕ) (bundles : Option (List Bundle))
     → PortIsInRange port → AreStairsInRange queues → length queues ≡ queues_of port.discipline → q < length queues → AreStairsSeenAt port queues end V
     → (stairs_at queues q).longest ≡ longest → (stairs_at queues q).bundles ≡ bundles → IsStairRowBy port queues q longest bundles (Some queue) → IsHeld queue q end V

@@ -31,14 +31,6 @@ use Rattle.port_bounds.specs.StairRows.{IsLeastStairRow, IsStairRow, IsStairRowB
 pub row_empty : (port : Port) (queues : List StairsIn) (q : ℕ) → (stairs_at queues q).longest ≡ 0 → IsStairRow port queues q (Some record { delay = 0; backlog = 0 })
 row_empty port queues q h = subst (λ (l : ℕ). IsStairRowBy port queues q l (stairs_at queues q).bundles (Some record { delay = 0; backlog = 0 })) (sym h) refl
 
-pub row_unknown : (port : Port) (queues : List StairsIn) (q : ℕ) → 0 < (stairs_at queues q).longest → (stairs_at queues q).bundles ≡ None → IsStairRow port queues q None
-row_unknown port queues q some unknown =
-    subst (λ (o : Option (List Bundle)). IsStairRowBy port queues q (stairs_at queues q).longest o None) (sym unknown) (by_length (stairs_at queues q).longest some)
-  where
-    by_length : (l : ℕ) → 0 < l → IsStairRowBy port queues q l None None
-    by_length zero h = absurd (omega (arith, h))
-    by_length (suc l) h = refl
-
 pub row_known : (port : Port) (queues : List StairsIn) (q : ℕ) (bundles : List Bundle) (row : Option Queue) → 0 < (stairs_at queues q).longest
     → (stairs_at queues q).bundles ≡ Some bundles → IsLeastStairRow port queues q bundles row → IsStairRow port queues q row
 row_known port queues q bundles row some known least =

@@ -1,4 +1,4 @@
-use Rattle.std.proofs.Common.{◌≡◌, ◌++◌, sym, ap, ◌∙◌, subst, filter_map, List}
+use Rattle.std.proofs.Common.{◌++◌, sym, ap, ◌∙◌, subst, filter_map, List}
 use Rattle.std.specs.Option.{option_map}
 use Rattle.arrival_lines.specs.Steps.{AreSteps}
 use Rattle.arrival_lines.specs.Services.{left_of}

@@ -1,4 +1,4 @@
-use Rattle.std.proofs.Common.{◌≡◌, ◌<◌, ◌≤◌, ◌*◌, ℕ, arith, sym, ap, ◌∙◌, refl, subst, length, sum, get_or}
+use Rattle.std.proofs.Common.{◌<◌, arith, sym, ap, ◌∙◌, refl, subst, length, sum}
 use Rattle.std.proofs.lemmas.List.{get_or_default}
 use Rattle.tree_network.specs.Networks.{queues_of, QuantaAreInRange}
 use Rattle.port_bounds.specs.Incoming.{Incoming, incoming, longest_frame_of}
