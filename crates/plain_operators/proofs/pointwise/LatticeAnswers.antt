@@ -13,7 +13,6 @@ use Rattle.upp_limits.specs.upp_curve.specs.declared.affine_segment.line.Piece.{
 use Rattle.upp_limits.specs.upp_curve.specs.affine_segment.Reading.{read}
 use Rattle.upp_limits.specs.upp_curve.specs.Curve.{SpecCurve, repeated, value_at}
 use Rattle.upp_limits.specs.min_plus.specs.Pointwise.{excess}
-use Rattle.upp_limits.specs.upp_curve.specs.affine_segment.Pieces.{Each}
 use Rattle.curve_call.specs.upp_normal.specs.Normalising.{HasValues}
 use Rattle.upp_limits.specs.upp_curve.specs.Unrolled.{unroll}
 use Rattle.upp_limits.specs.upp_curve.specs.Steady.{rate, rise_over}
@@ -26,7 +25,7 @@ use Rattle.curve_call.specs.Operands.{IsMadeOf}
 use Rattle.curve_call.proofs.TailGrids.{TailOf, made_on_grids}
 use Rattle.curve_call.specs.declared.frame.Frame.{Frame}
 use Rattle.curve_call.specs.Answering.{IsAnswerWindow}
-use Rattle.curve_call.proofs.Answering.{answer_relation}
+use Rattle.curve_call.proofs.Answering.{answer_relation, answer_with_tail}
 use Rattle.curve_call.specs.Ever.{IsSlowerBelowFrom, RepeatsBy}
 use Rattle.curve_call.proofs.RateRises.{rate_rise, rate_none}
 use Rattle.curve_call.proofs.EverAfter.{ever_after}
@@ -95,26 +94,9 @@ lattice_answer of f g r ls rs ps from rise F el er M ef R =
     let room = rise_room of f g r.start r.period r.end k z rise L R in
     let whole : Whole z.dt from = subst (Whole z.dt) (sym ef) (from_whole f g r.start r.period r.end k z L) in
     let nonneg : int (pos 0) ≤ℚ from = subst (λ y. int (pos 0) ≤ℚ y) (sym ef) (le_trans L.nonneg (from_late f g r.start r.period r.end k z L)) in
-    let ends = back r.end r.period from ef in
-    let tail : TailOf z r.end from r.period rise = record { nonneg = nonneg; some = L.above; ends = ends; time = whole; whole = L.period_whole; value = room.whole } in
-    record {
-      sizes = z;
-      end = r.end;
-      limited = L.limited;
-      times_is = F.times;
-      values_is = F.values;
-      starts = M.starts;
-      before = subst (λ y. Each (λ p. p.x <ℚ y) ps) (sym ends) M.early;
-      room = M.room z A;
-      from_whole = whole;
-      nonneg = nonneg;
-      period_whole = L.period_whole;
-      above = L.above;
-      early = subst (λ y. from +ℚ r.period ≤ℚ y) ends (le_refl (from +ℚ r.period));
-      rise_whole = room.whole;
-      rise_within = room.within;
-      grids = made_on_grids z (made_of of) (rises_of of) ls rs ps r.end from r.period rise A M tail;
-    }
+    let tail : TailOf z r.end from r.period rise = record { nonneg = nonneg; some = L.above; ends = back r.end r.period from ef; time = whole; whole = L.period_whole; value = room.whole } in
+    answer_with_tail z r.end from r.period rise r.times r.values ps L.limited F.times F.values M.starts M.early (M.room z A) tail room.within
+    (made_on_grids z (made_of of) (rises_of of) ls rs ps r.end from r.period rise A M tail)
 
 -- ---- its values
 -- curves of one rate rise by as much

@@ -1,27 +1,25 @@
 -- Lines of a curve's own rate that it lies under, or over: step by step over a period of its own, and so ever after; and how
 -- many periods are enough by them.
-use Rattle.std.specs.Prelude.{◌≡◌, ℕ, pos, [], ◌∷◌, Option, Some, None, IfSome}
-use Rattle.std.proofs.Common.{arith, sym, ap, ap₂, ◌∙◌, refl, subst, inl, inr}
+use Rattle.std.specs.Prelude.{◌≡◌, ℕ, pos, [], ◌∷◌, Option, Some, None}
+use Rattle.std.proofs.Common.{arith, sym, ap, ap₂, ◌∙◌, subst, inl, inr}
 use Rattle.std.proofs.lemmas.Bool.{cases_lt}
 use Rattle.upp_limits.specs.rational.specs.Rational.{ℚ, ◌+ℚ◌, ◌-ℚ◌, ◌*ℚ◌, ◌/ℚ◌, ◌≤ℚ◌, ◌<ℚ◌, int}
 use Rattle.upp_limits.specs.rational.specs.Grid.{Whole}
 use Rattle.upp_limits.specs.rational.specs.Gauge.{size_up}
-use Rattle.upp_limits.specs.rational.specs.Whole.{periods}
 use Rattle.upp_limits.specs.rational.specs.Line.{line_at as line_of}
 use Rattle.upp_limits.specs.rational.specs.MinMax.{max_q, min_q}
 use Rattle.upp_limits.specs.rational.specs.Extended.{Ext, ◌≤ₑ◌, ◌<ₑ◌, ◌+ₑ◌}
-use Rattle.upp_limits.specs.rational.specs.declared.Extended.TheVariants.{Fin, Inf}
+use Rattle.upp_limits.specs.rational.specs.declared.Extended.TheVariants.{Fin}
 use Rattle.upp_limits.specs.rational.proofs.Linear.{with_atoms, with2, with3, with4, with5}
 use Rattle.upp_limits.specs.rational.proofs.Laws.{le_refl, le_trans, le_of_lt, lt_cases, mul_add, sub_mul, mul_nonneg, mul_le_mul, zero_mul}
 use Rattle.upp_limits.specs.rational.proofs.Integers.{nat_nonneg}
 use Rattle.upp_limits.specs.rational.proofs.Quotients.{div_le}
-use Rattle.upp_limits.specs.rational.proofs.Whole.{periods_low, periods_high}
 use Rattle.upp_limits.specs.rational.proofs.MinMax.{max_q_le, max_q_ge_left, max_q_ge_right, min_q_le_left, min_q_le_right, min_q_one}
 use Rattle.upp_limits.specs.rational.proofs.Stretch.{line_supremum}
 use Rattle.upp_limits.specs.rational.proofs.ExtendedOrder.{le_ext_trans, add_le_ext, le_ext_refl}
 use Rattle.upp_limits.proofs.CommonDen.{size_up_within}
 use Rattle.upp_limits.specs.upp_curve.specs.declared.affine_segment.line.Line.{Line}
-use Rattle.upp_limits.specs.upp_curve.specs.affine_segment.Values.{line_at, line_value}
+use Rattle.upp_limits.specs.upp_curve.specs.affine_segment.Values.{line_value}
 use Rattle.upp_limits.specs.upp_curve.specs.Curve.{SpecCurve, value_at}
 use Rattle.upp_limits.specs.upp_curve.specs.Steady.{Repeats, rate, rise_over}
 use Rattle.upp_limits.specs.Limits.{Sizes}
@@ -36,14 +34,11 @@ use Rattle.curve_call.specs.Gaps.{InWindow, IsGap}
 use Rattle.curve_call.specs.GapSteps.{earlier_of, IsUntil}
 use Rattle.curve_call.specs.Compared.{AreCompared, IsLookedAt}
 use Rattle.curve_call.specs.Bounds.{AreBounds, own_or}
-use Rattle.curve_call.specs.declared.bounds.Bounds.{Bounds}
 use Rattle.curve_call.proofs.GapParts.{before_next}
 use Rattle.curve_call.proofs.GapWalk.{earlier_past, earlier_high}
-use Rattle.curve_call.proofs.Shifts.{later_value}
-use Rattle.curve_call.proofs.MostAbove.{own_repeats, rates_order, times_rate}
+use Rattle.curve_call.proofs.MostAbove.{moved_back, own_repeats, rates_order, times_rate}
 use Rattle.curve_call.proofs.OwnPeriods.{own_period_is, own_looked, looked_window, first_looked, second_looked}
 use Rattle.curve_call.proofs.RateRises.{rate_rise}
-use Rattle.curve_call.proofs.EitherOrder.{IsEnough}
 use Rattle.curve_call.proofs.GapThere.{gap_there}
 use Rattle.curve_call.proofs.LeastNumber.{IsBelowAfter, compared_window, largest_finite, lead_is, least_none, least_endless, least_gap}
 use Rattle.curve_call.proofs.BoundedNumber.{least_found}
@@ -218,20 +213,15 @@ record Early (f : ℚ → Ext) (from p r t : ℚ) : Type 0 where
 
 early : (f : ℚ → Ext) (from p r a t : ℚ) → int (pos 0) <ℚ p → Repeats f from p a → r *ℚ p ≡ a → from ≤ℚ t → Early f from p r t
 early f from p r a t some R e h =
-    let n = periods from p t in
-    let y = int (pos n) *ℚ p in
-    let u = t -ℚ y in
-    let first = periods_low from p t some h in
-    let last = periods_high from p t some in
-    let low : from ≤ℚ u = with3 from t y (λ c. omega (arith, c.le, c.lt, c.same)) in
-    let back : u +ℚ y ≡ t = with2 t y (λ c. omega (arith, c.le, c.lt, c.same)) in
-    let gain : int (pos n) *ℚ a ≡ r *ℚ y = times_rate (int (pos n)) r p a e in
+    let B = moved_back f from p a t some R h in
+    let y = int (pos B.number) *ℚ p in
+    let gain : int (pos B.number) *ℚ a ≡ r *ℚ y = times_rate (int (pos B.number)) r p a e in
     record {
-      time = u;
-      gain = int (pos n) *ℚ a;
-      among = record { start = low; before = with4 from t y p (λ c. omega (arith, c.le, c.lt, c.same)) };
-      is = subst (λ s. f s ≡ f u +ₑ Fin (int (pos n) *ℚ a)) back (later_value f from p a u n (le_of_lt some) R low);
-      same = ap (λ s. r *ℚ s) (sym back) ∙ mul_add r u y ∙ ap (λ s. r *ℚ u +ℚ s) (sym gain);
+      time = B.early;
+      gain = int (pos B.number) *ℚ a;
+      among = B.among;
+      is = B.is;
+      same = ap (λ s. r *ℚ s) (sym B.back) ∙ mul_add r B.early y ∙ ap (λ s. r *ℚ B.early +ℚ s) (sym gain);
     }
 
 under_ever : (f : ℚ → Ext) (from p r a k t : ℚ) → int (pos 0) <ℚ p → Repeats f from p a → r *ℚ p ≡ a → IsUnder f from (from +ℚ p) r k → from ≤ℚ t → f t ≤ₑ Fin (k +ℚ r *ℚ t)

@@ -2,13 +2,12 @@
 use Rattle.std.specs.Prelude.{◌≡◌, ℕ, suc, ◌+◌, ◌<◌, ◌^◌, pos, ◌⊎◌}
 use Rattle.std.proofs.Common.{arith, sym, ap, ◌∙◌, refl, subst, inl, inr}
 use Rattle.upp_limits.specs.rational.specs.Rational.{ℚ, ◌+ℚ◌, ◌-ℚ◌, ◌*ℚ◌, ◌≤ℚ◌, ◌<ℚ◌, int}
-use Rattle.upp_limits.specs.rational.specs.Whole.{periods}
 use Rattle.upp_limits.specs.rational.specs.Extended.{Ext, ◌≤ₑ◌, ◌<ₑ◌, ◌+ₑ◌}
 use Rattle.upp_limits.specs.rational.specs.declared.Extended.TheVariants.{Fin}
 use Rattle.upp_limits.specs.rational.proofs.Linear.{with2, with3, with4, with5}
-use Rattle.upp_limits.specs.rational.proofs.Laws.{le_trans, le_of_lt, lt_irrefl, lt_le_trans, le_lt_trans, mul_nonneg, mul_le_mul, sub_add}
+use Rattle.upp_limits.specs.rational.proofs.Laws.{le_trans, le_of_lt, lt_irrefl, lt_le_trans, le_lt_trans, mul_nonneg, mul_le_mul}
 use Rattle.upp_limits.specs.rational.proofs.Integers.{nat_nonneg}
-use Rattle.upp_limits.specs.rational.proofs.Whole.{one_more_times, periods_low, periods_high}
+use Rattle.upp_limits.specs.rational.proofs.Whole.{one_more_times}
 use Rattle.upp_limits.specs.rational.proofs.MinMax.{max_q_ge_left, max_q_ge_right}
 use Rattle.upp_limits.specs.rational.proofs.ExtendedOrder.{add_le_ext}
 use Rattle.upp_limits.specs.declared.op_kind.OpKind.{OpKind}
@@ -36,6 +35,7 @@ use Rattle.curve_call.proofs.CallTimes.{first_stands, second_stands, IsCall, sta
 use Rattle.curve_call.proofs.CallFits.{call_early}
 use Rattle.curve_call.proofs.CurveRises.{IsRise, rise_is, common_first, common_second}
 use Rattle.curve_call.proofs.LeastNumber.{gains}
+use Rattle.curve_call.proofs.MostAbove.{moved_back}
 use Rattle.curve_call.proofs.TailMoves.{rates_compared, excess_above, excess_both}
 use Rattle.plain_operators.specs.running.Behind.{moved, IsServed}
 use Rattle.plain_operators.specs.running.LeftCall.{LeftCall}
@@ -219,19 +219,14 @@ lead_some f g theta s p e k z L S h = let (v, e') = S.finite s L.nonneg in gains
 pub below_ever : (slow fast : ℚ → Ext) (from d a b start t : ℚ) → zero_q <ℚ d → b ≤ℚ a → Repeats slow from d b → Repeats fast from d a → from ≤ℚ start → IsBelowFor slow fast start d → start ≤ℚ t
     → slow t ≤ₑ fast t
 below_ever slow fast from d a b start t some less F G low below h =
-    let n = periods start d t in
-    let y = int (pos n) *ℚ d in
-    let u = t -ℚ y in
-    let first = periods_low start d t some h in
-    let last = periods_high start d t some in
-    let u_low : start ≤ℚ u = with3 start t y (λ c. omega (arith, c.le, c.lt, c.same)) in
-    let u_high : u <ℚ start +ℚ d = with4 start t y d (λ c. omega (arith, c.le, c.lt, c.same)) in
+    let B = moved_back fast start d a t some record { rule = λ s k. G.rule s (le_trans low k) } h in
+    let u = B.early in
+    let n = B.number in
     let na = int (pos n) *ℚ a in
     let nb = int (pos n) *ℚ b in
-    let slow_is : slow t ≡ slow u +ₑ Fin nb = ap slow (sym (sub_add t y)) ∙ (repeats_times slow from d b n (le_of_lt some) F).rule u (le_trans low u_low) in
-    let fast_is : fast t ≡ fast u +ₑ Fin na = ap fast (sym (sub_add t y)) ∙ (repeats_times fast from d a n (le_of_lt some) G).rule u (le_trans low u_low) in
-    subst (λ v. v ≤ₑ fast t) (sym slow_is) (subst (λ v. slow u +ₑ Fin nb ≤ₑ v) (sym fast_is)
-    (add_le_ext (slow u) (fast u) (Fin nb) (Fin na) (below u u_low u_high) (mul_le_mul (int (pos n)) (nat_nonneg n) less)))
+    let slow_is : slow t ≡ slow u +ₑ Fin nb = ap slow (sym B.back) ∙ (repeats_times slow from d b n (le_of_lt some) F).rule u (le_trans low B.among.start) in
+    subst (λ v. v ≤ₑ fast t) (sym slow_is) (subst (λ v. slow u +ₑ Fin nb ≤ₑ v) (sym B.is)
+    (add_le_ext (slow u) (fast u) (Fin nb) (Fin na) (below u B.among.start B.among.before) (mul_le_mul (int (pos n)) (nat_nonneg n) less)))
 
 -- ---- what is left repeats
 pub left_repeats : (f g : SpecCurve) (theta s p e : ℚ) (k : ℕ) (z : Sizes) → LeftCall f g theta s p e k z → IsServed (value_at f) (value_at g) theta

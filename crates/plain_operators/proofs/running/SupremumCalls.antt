@@ -9,7 +9,7 @@ use Rattle.upp_limits.specs.rational.specs.Extended.{Ext, ◌≤ₑ◌}
 use Rattle.upp_limits.specs.rational.specs.declared.Extended.TheVariants.{Fin}
 use Rattle.upp_limits.specs.rational.proofs.Grid.{whole_int, whole_sub, within_sub, within_nonneg, whole_add}
 use Rattle.upp_limits.specs.rational.proofs.Integers.{int_mul, nat_le, nat_nonneg}
-use Rattle.upp_limits.specs.rational.proofs.Laws.{antisym, le_refl, le_of_lt, le_trans, lt_le_trans, mul_le_mul, not_zero}
+use Rattle.upp_limits.specs.rational.proofs.Laws.{antisym, le_refl, le_of_lt, le_trans, lt_le_trans, not_zero}
 use Rattle.upp_limits.specs.rational.proofs.Linear.{with2}
 use Rattle.upp_limits.specs.rational.proofs.Sizes.{quotient_on_grid}
 use Rattle.upp_limits.specs.rational.proofs.Bounds.{same_supremum}
@@ -41,6 +41,7 @@ use Rattle.upp_limits.specs.upp_curve.proofs.RisingCurves.{GoesOn, finite_pieces
 use Rattle.upp_limits.specs.upp_curve.proofs.Steady.{steady_rule}
 use Rattle.curve_call.specs.upp_normal.proofs.AnswerRoom.{tight, operand_line_fits, operand_line_value, values_fit}
 use Rattle.curve_call.proofs.CurveRises.{IsRise, rise_is, own_whole}
+use Rattle.curve_call.proofs.OwnPeriods.{limited_less}
 use Rattle.plain_operators.specs.running.Scans.{IsWindow, IsSupremumIn, Until}
 use Rattle.plain_operators.specs.running.Between.{FitsAtBoth, IsLevelBetween}
 use Rattle.plain_operators.specs.running.Periods.{CoverFits, IsFirstPeriod, IsCovering, IsSupremumCall, IsCoveredAfter}
@@ -48,22 +49,6 @@ use Rattle.plain_operators.proofs.running.LevelSizes.{EachOperand, level_value, 
 use Rattle.curve_call.specs.upp_normal.proofs.AnswerRoom.{many_more}
 use Rattle.plain_operators.proofs.running.Covers.{no_fall, least_by_cover, covered_by_cover, least_flat, least_from_zero}
 use Rattle.curve_call.specs.upp_normal.specs.Ahead.{IsGridValue}
-
--- sizes hold a shorter window
-pub limited_less : (z : Sizes) (end e : ℚ) → AreLimited z end → Whole z.dt e → zero_q ≤ℚ e → e ≤ℚ end → AreLimited z e
-limited_less z end e A w low l = record {
-  sizes = record {
-    dv = A.sizes.dv;
-    dt = A.sizes.dt;
-    ds = A.sizes.ds;
-    steepness = A.sizes.steepness;
-    largest = A.sizes.largest;
-    window = w;
-    reach = le_trans (mul_le_mul (int (pos z.steepness)) (nat_nonneg z.steepness) l) A.sizes.reach;
-  };
-  gauge = A.gauge;
-  some = low;
-}
 
 -- ---- the tail of a finite curve
 finite_goes_on : (ps : List Piece) (tail : Tail) → IsNormal record { pieces = ps; tail = tail } → IsFinite (value_at record { pieces = ps; tail = tail }) → GoesOn tail

@@ -18,7 +18,7 @@ ghost use Rattle.plain_operators.specs.pointwise.LatticeCall.{IsLatticeFrame};
 use crate::pointwise::leaning::{bounds_by_lines, is_slower};
 use curve_call::upp_normal::unrolled;
 use curve_call::{
-    CallWindow, Frame, answer, first_window, least_periods, period_bounds, refuse_between,
+    CallWindow, Frame, first_window, framed_answer, least_periods, period_bounds, refuse_between,
     rise_over, window_excess, window_max, window_min, within,
 };
 use outcomes::Steps;
@@ -141,15 +141,7 @@ pub(crate) fn made_within(
     let pieces = pieces_of(alloc, of, f, g, frame)?;
     let rise = tail_rise(of, f, g, frame.period);
     let from = difference(frame.end, frame.period);
-    answer(
-        alloc,
-        pieces,
-        from,
-        frame.period,
-        rise,
-        frame.times,
-        frame.values,
-    )
+    framed_answer(alloc, pieces, from, rise, frame)
 }
 
 // Refuses a call where bounds of the number of its periods tell that it is over a limit.

@@ -20,7 +20,8 @@ ghost use Rattle.plain_operators.specs.pointwise.LatticeCall.{IsLatticeFrame};
 
 use curve_call::upp_normal::unrolled;
 use curve_call::{
-    Frame, Side, answer, first_window, is_slower, rise_over, side_periods, window_excess, within,
+    Frame, Side, first_window, framed_answer, is_slower, rise_over, side_periods, window_excess,
+    within,
 };
 use outcomes::Steps;
 use std::alloc::{AllocError, Global};
@@ -86,15 +87,7 @@ fn minus_within(alloc: Global, f: &Curve, l: Frac, frame: &Frame) -> Result<Curv
     let pieces = pieces_above(alloc, f, l, frame)?;
     let rise = gain(is_gaining(f), f, frame.period);
     let from = difference(frame.end, frame.period);
-    answer(
-        alloc,
-        pieces,
-        from,
-        frame.period,
-        rise,
-        frame.times,
-        frame.values,
-    )
+    framed_answer(alloc, pieces, from, rise, frame)
 }
 
 /// The greater of 0 and f - l at each time from 0 on; f is finite. One step is counted. Refused with TooWide or

@@ -15,7 +15,7 @@ ghost use Rattle.curve_call.specs.Frames.{IsFrame};
 ghost use Rattle.plain_operators.specs.pointwise.Shifting.{left_line, left_piece, moved_left, LeftFits, IsAhead};
 
 use curve_call::upp_normal::unrolled;
-use curve_call::{Frame, answer, rise_over, within};
+use curve_call::{Frame, framed_answer, rise_over, within};
 use outcomes::Steps;
 use std::alloc::{AllocError, Global};
 use std::cmp::Ordering;
@@ -86,15 +86,7 @@ fn shift_within(alloc: Global, f: &Curve, x: Frac, frame: &Frame) -> Result<Curv
     let pieces = left_window(alloc, &window, x)?;
     let from = difference(frame.start, x);
     let rise = rise_over(f, frame.period);
-    answer(
-        alloc,
-        pieces,
-        from,
-        frame.period,
-        rise,
-        frame.times,
-        frame.values,
-    )
+    framed_answer(alloc, pieces, from, rise, frame)
 }
 
 /// The curve that is infinite everywhere. Only a lack of memory is an error.

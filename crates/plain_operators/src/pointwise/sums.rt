@@ -12,13 +12,13 @@ ghost use Rattle.curve_call.specs.Frames.{IsFrame};
 
 use crate::pointwise::straight::{straight_of, sum_straight};
 use curve_call::upp_normal::unrolled;
-use curve_call::{Frame, answer, rise_over, window_sum, within};
+use curve_call::{Answered, Frame, framed_answer, rise_over, window_sum, within};
 use outcomes::Steps;
 use std::alloc::{AllocError, Global};
 use std::sync::ledger::Ledger;
+use upp_limits::OpKind;
 use upp_limits::upp_curve::Curve;
 use upp_limits::upp_curve::affine_segment::Piece;
-use upp_limits::{OpFault, OpKind};
 
 // The pieces of a sum below the end of its call's window. Those of the operands are let go here, before the normal form
 // takes memory.
@@ -45,19 +45,11 @@ fn sum_within(alloc: Global, f: &Curve, g: &Curve, frame: &Frame) -> Result<Curv
     let first = rise_over(f, frame.period);
     let second = rise_over(g, frame.period);
     let rise = upp_limits::fraction128::sum(first, second);
-    answer(
-        alloc,
-        pieces,
-        frame.start,
-        frame.period,
-        rise,
-        frame.times,
-        frame.values,
-    )
+    framed_answer(alloc, pieces, frame.start, rise, frame)
 }
 
 // The sum of two curves of any form.
-fn sum_by_window(alloc: Global, f: &Curve, g: &Curve) -> Result<Curve, OpFault>
+fn sum_by_window(alloc: Global, f: &Curve, g: &Curve) -> Answered
     ensures value { IfOk result
         (λ c. (t : ℚ) → int (pos 0) ≤ℚ t → IsSum (value_at f.now) (value_at g.now) t (value_at c t)) }
     ensures limits { KeepsLimits OpKind.Sum f.now g.now result }
@@ -69,12 +61,7 @@ fn sum_by_window(alloc: Global, f: &Curve, g: &Curve) -> Result<Curve, OpFault>
 /// The sum of two curves at each time from 0 on, infinite where one is (Le Boudec and Thiran, chapter 3). One step is
 /// counted. Refused with TooWide or TooMany exactly where the call's gauge or tally is over that limit, else only for
 /// want of memory.
-pub fn sum<L: Ledger>(
-    alloc: Global,
-    f: &Curve,
-    g: &Curve,
-    steps: &mut Steps<L>,
-) -> Result<Curve, OpFault>
+pub fn sum<L: Ledger>(alloc: Global, f: &Curve, g: &Curve, steps: &mut Steps<L>) -> Answered
     ensures count { steps.new ≡ steps.old + 1 }
     ensures value { IfOk result
         (λ c. (t : ℚ) → int (pos 0) ≤ℚ t → IsSum (value_at f.now) (value_at g.now) t (value_at c t)) }

@@ -10,7 +10,7 @@ ghost use Rattle.plain_operators.specs.running.Runs.{RunsFrom, IsFrontBefore};
 
 use crate::running::infimum::infimum_scan;
 use curve_call::upp_normal::unrolled;
-use curve_call::{Frame, answer, rise_over, within};
+use curve_call::{Frame, framed_answer, rise_over, within};
 use outcomes::Steps;
 use std::alloc::{AllocError, Global};
 use std::cmp::Ordering;
@@ -45,15 +45,7 @@ fn infimum_within(alloc: Global, f: &Curve, frame: &Frame) -> Result<Curve, Allo
     let scanned = infimum_scan(alloc, &pieces, frame.end)?;
     let front = front_before(alloc, &scanned, sum(frame.start, frame.period))?;
     let rise = rise_over(f, frame.period);
-    answer(
-        alloc,
-        front,
-        frame.start,
-        frame.period,
-        rise,
-        frame.times,
-        frame.values,
-    )
+    framed_answer(alloc, front, frame.start, rise, frame)
 }
 
 // The running infimum of a curve.

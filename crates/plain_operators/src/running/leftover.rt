@@ -17,7 +17,7 @@ use crate::running::lowest::lowest_pieces;
 use crate::running::moved::moved_right;
 use crate::running::parts::left_pieces;
 use curve_call::upp_normal::unrolled;
-use curve_call::{Frame, answer, first_window, overlay, refuse_between, within};
+use curve_call::{Frame, first_window, framed_answer, overlay, refuse_between, within};
 use outcomes::Steps;
 use std::alloc::{AllocError, Global};
 use std::sync::ledger::Ledger;
@@ -62,15 +62,7 @@ fn left_within(
     let from = difference(frame.end, frame.period);
     let far = sum(frame.end, frame.period);
     let lowest = lowest_pieces(alloc, pieces, from, frame.end, far, rise)?;
-    answer(
-        alloc,
-        lowest,
-        from,
-        frame.period,
-        rise,
-        frame.times,
-        frame.values,
-    )
+    framed_answer(alloc, lowest, from, rise, frame)
 }
 
 // What is left after a finite wait.

@@ -15,7 +15,7 @@ ghost use Rattle.plain_operators.specs.running.Runs.{RunsUpTo, IsNumberOf};
 use crate::running::periods::supremum_periods;
 use crate::running::supremum::supremum_scan;
 use curve_call::upp_normal::unrolled;
-use curve_call::{Frame, answer, first_window, rise_over, within};
+use curve_call::{Frame, first_window, framed_answer, rise_over, within};
 use outcomes::Steps;
 use std::alloc::{AllocError, Global};
 use std::sync::ledger::Ledger;
@@ -52,15 +52,7 @@ fn supremum_within(alloc: Global, f: &Curve, k: u128, frame: &Frame) -> Result<C
     let scanned = supremum_scan(alloc, &pieces, frame.end)?;
     let rise = rise_over(f, frame.period);
     let from = difference(frame.end, frame.period);
-    answer(
-        alloc,
-        scanned,
-        from,
-        frame.period,
-        rise,
-        frame.times,
-        frame.values,
-    )
+    framed_answer(alloc, scanned, from, rise, frame)
 }
 
 // The running supremum of a curve, with its least number of periods.

@@ -17,15 +17,15 @@ tail_rise-rise-requires-clause-apart c = let r = c.args.frame.now in let F = c.r
 pub difference-from-requires : goal.difference-from-requires
 difference-from-requires c = let r = c.args.frame.now in let F = c.requires.call in from_fits c.args.f.now c.args.g.now r.start r.period r.end F.number F.sizes F.call
 
-pub answer-requires : goal.answer-requires
-answer-requires c =
+pub framed_answer-requires : goal.framed_answer-requires
+framed_answer-requires c =
     lattice_answer c.args.of c.args.f.now c.args.g.now c.args.frame.now (unroll c.args.f.now c.args.frame.now.end) (unroll c.args.g.now c.args.frame.now.end) c.in_ok-pieces.pieces.items c.difference-from.result c.tail_rise-rise.result c.requires.call
     refl refl c.in_ok-pieces.ensures c.difference-from.ensures c.tail_rise-rise.ensures
 
 pub returns : goal.returns
 returns c =
-    ok_map c.answer.result _ _
+    ok_map c.framed_answer.result _ _
     (λ a h.
     lattice_values c.args.of c.args.f.now c.args.g.now c.args.frame.now (unroll c.args.f.now c.args.frame.now.end) (unroll c.args.g.now c.args.frame.now.end) c.in_ok-pieces.pieces.items c.difference-from.result c.tail_rise-rise.result a c.requires.call c.requires.finite
     refl refl c.in_ok-pieces.ensures c.difference-from.ensures c.tail_rise-rise.ensures h)
-    c.answer.ensures
+    c.framed_answer.ensures

@@ -14,8 +14,8 @@ gain-rise-requires c = let r = c.args.frame.now in let F = c.requires.call in (l
 pub difference-from-requires : goal.difference-from-requires
 difference-from-requires c = let r = c.args.frame.now in let F = c.requires.call in from_fits c.args.f.now (level_curve c.args.l) r.start r.period r.end F.number F.sizes F.call
 
-pub answer-requires : goal.answer-requires
-answer-requires c =
+pub framed_answer-requires : goal.framed_answer-requires
+framed_answer-requires c =
     let r = c.args.frame.now in let F = c.requires.call in let g = level_curve c.args.l in
     lattice_answer Excess c.args.f.now g r (unroll c.args.f.now r.end) (unroll g r.end) c.in_ok-pieces.pieces.items c.difference-from.result c.gain-rise.result F
     refl refl c.in_ok-pieces.ensures c.difference-from.ensures
@@ -24,9 +24,9 @@ answer-requires c =
 pub returns : goal.returns
 returns c =
     let r = c.args.frame.now in let F = c.requires.call in let g = level_curve c.args.l in
-    ok_map c.answer.result _ _
+    ok_map c.framed_answer.result _ _
     (λ a h.
     minus_values c.args.l c.args.f.now a (lattice_values Excess c.args.f.now g r (unroll c.args.f.now r.end) (unroll g r.end) c.in_ok-pieces.pieces.items c.difference-from.result c.gain-rise.result a F c.requires.finite
     refl refl c.in_ok-pieces.ensures c.difference-from.ensures
     (minus_rise c.args.l c.args.f.now _ r.period c.gain-rise.result c.is_gaining.ensures.0 c.is_gaining.ensures.1 c.gain-rise.ensures) h))
-    c.answer.ensures
+    c.framed_answer.ensures

@@ -36,8 +36,8 @@ difference-from-requires c =
 pub rise_over-rise-requires : goal.rise_over-rise-requires
 rise_over-rise-requires c = (shift_call c.args.x c.args.f.now c.args.frame.now c.requires.time c.requires.frame).rise.fits
 
-pub answer-requires : goal.answer-requires
-answer-requires c =
+pub framed_answer-requires : goal.framed_answer-requires
+framed_answer-requires c =
     let f = c.args.f.now in let x = c.args.x in let r = c.args.frame.now in
     let z = sizes_at (Shift (Fin x)) f f 0 0 in
     let h = shift_call x f r c.requires.time c.requires.frame in
@@ -49,7 +49,7 @@ returns c =
     let f = c.args.f.now in let x = c.args.x in let r = c.args.frame.now in
     let z = sizes_at (Shift (Fin x)) f f 0 0 in
     let h = shift_call x f r c.requires.time c.requires.frame in
-    ok_map c.answer.result _ _
+    ok_map c.framed_answer.result _ _
     (λ a k. shift_values x f r z c.deref.result.now c.in_ok-pieces.pieces.items c.difference-from.result c.rise_over-rise.result a h (c.deref.ensures.value ∙ c.in_ok-window.ensures) c.in_ok-pieces.ensures
     c.difference-from.ensures c.rise_over-rise.ensures k)
-    c.answer.ensures
+    c.framed_answer.ensures

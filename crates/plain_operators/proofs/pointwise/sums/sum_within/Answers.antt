@@ -21,8 +21,8 @@ sum-rise-requires c =
     subst (λ (y : ℚ). SumFits c.rise_over-first.result y) (sym c.rise_over-second.ensures)
     (subst (λ (x : ℚ). SumFits x (rise_over g r.period)) (sym c.rise_over-first.ensures) (rises_fit f g r (sizes_at Sum f g 0 0) (sum_call f g r c.requires)))
 
-pub answer-requires : goal.answer-requires
-answer-requires c =
+pub framed_answer-requires : goal.framed_answer-requires
+framed_answer-requires c =
     let f = c.args.f.now in let g = c.args.g.now in let r = c.args.frame.now in
     sum_answer f g r (sizes_at Sum f g 0 0) (unroll f r.end) (unroll g r.end) c.in_ok-pieces.pieces.items c.sum-rise.result (sum_call f g r c.requires)
     refl refl c.in_ok-pieces.ensures
@@ -31,8 +31,8 @@ answer-requires c =
 pub returns : goal.returns
 returns c =
     let f = c.args.f.now in let g = c.args.g.now in let r = c.args.frame.now in
-    ok_map c.answer.result _ _
+    ok_map c.framed_answer.result _ _
     (λ a h. sum_values f g r (sizes_at Sum f g 0 0) (unroll f r.end) (unroll g r.end) c.in_ok-pieces.pieces.items c.sum-rise.result a (sum_call f g r c.requires)
     refl refl c.in_ok-pieces.ensures
     (c.sum-rise.ensures ∙ ap₂ (λ (x y : ℚ). x +ℚ y) c.rise_over-first.ensures c.rise_over-second.ensures) h)
-    c.answer.ensures
+    c.framed_answer.ensures

@@ -42,8 +42,8 @@ rise_over-rise-requires c =
     let r = c.args.frame.now in
     (run_rise f r.start r.period r.end (sizes_at RunInf f f 0 0) (inf_facts f r c.requires.frame)).fits
 
-pub answer-requires : goal.answer-requires
-answer-requires c =
+pub framed_answer-requires : goal.framed_answer-requires
+framed_answer-requires c =
     inf_answer c.args.f.now c.args.frame.now c.sum.result c.rise_over-rise.result c.deref.result.now c.in_ok-scanned.scanned.items c.in_ok-front.front.items
     c.requires.frame
     c.sum.ensures c.rise_over-rise.ensures (c.deref.ensures.value ∙ c.in_ok-pieces.ensures) c.in_ok-scanned.ensures
@@ -56,9 +56,9 @@ returns c =
     let front = c.in_ok-front.front.items in
     let to = c.sum.result in
     let rise = c.rise_over-rise.result in
-    ok_map c.answer.result (λ a. HasValues a (repeated (read front) r.start r.period rise)) (RunsFrom f)
+    ok_map c.framed_answer.result (λ a. HasValues a (repeated (read front) r.start r.period rise)) (RunsFrom f)
     (λ a v.
     inf_value f r to rise c.deref.result.now c.in_ok-scanned.scanned.items front a c.requires.finite c.requires.nonneg c.requires.frame c.sum.ensures
     c.rise_over-rise.ensures
     (c.deref.ensures.value ∙ c.in_ok-pieces.ensures) c.in_ok-scanned.ensures (subst (λ q. IsFrontBefore q to front) c.deref-2.ensures.value c.in_ok-front.ensures) v)
-    c.answer.ensures
+    c.framed_answer.ensures

@@ -39,15 +39,15 @@ unfolding scan
 lowest_pieces-requires c =
     (c.requires.call.sizes, scan_call c.args.beta.now c.args.cross.now c.args.theta c.args.frame.now _ _ _ _ (scan (goal.at.lowest_pieces-requires c).After-sum-far))
 
-pub answer-requires : goal.answer-requires
-answer-requires c =
-    left_answer c.args.beta.now c.args.cross.now c.args.theta c.args.frame.now _ c.in_ok-lowest.lowest.items _ _ _ (scan (goal.at.answer-requires c).After-sum-far) c.in_ok-lowest.ensures
+pub framed_answer-requires : goal.framed_answer-requires
+framed_answer-requires c =
+    left_answer c.args.beta.now c.args.cross.now c.args.theta c.args.frame.now _ c.in_ok-lowest.lowest.items _ _ _ (scan (goal.at.framed_answer-requires c).After-sum-far) c.in_ok-lowest.ensures
 
 pub returns : goal.returns
 returns c =
     let f = c.args.beta.now in let g = c.args.cross.now in let r = c.args.frame.now in
     let S = scan (goal.at.returns c).After-sum-far in
-    ok_map c.answer.result (λ a. HasValues a (repeated (read c.in_ok-lowest.lowest.items) c.difference-from.result r.period c.rises_apart-rise.result))
+    ok_map c.framed_answer.result (λ a. HasValues a (repeated (read c.in_ok-lowest.lowest.items) c.difference-from.result r.period c.rises_apart-rise.result))
     (λ a. (t : ℚ) → int (pos 0) ≤ℚ t → IsFifoLeftover (value_at f) (value_at g) (Fin c.args.theta) t (value_at a t))
     (λ a v. left_value f g c.args.theta r _ c.in_ok-lowest.lowest.items _ _ _ a S c.in_ok-lowest.ensures v)
-    c.answer.ensures
+    c.framed_answer.ensures

@@ -46,8 +46,8 @@ difference-from-requires c =
     let r = c.args.frame.now in
     difference_fits f r.start r.period r.end (sizes_at RunSup f f c.args.k 0) (sup_facts f c.args.k r c.requires.frame)
 
-pub answer-requires : goal.answer-requires
-answer-requires c =
+pub framed_answer-requires : goal.framed_answer-requires
+framed_answer-requires c =
     sup_answer c.args.f.now c.args.k c.args.frame.now c.difference-from.result c.rise_over-rise.result c.deref.result.now c.in_ok-scanned.scanned.items c.requires.frame
     c.difference-from.ensures c.rise_over-rise.ensures (c.deref.ensures.value ∙ c.in_ok-pieces.ensures) c.in_ok-scanned.ensures
 
@@ -58,11 +58,11 @@ returns-clause-value c =
     let qs = c.in_ok-scanned.scanned.items in
     let from = c.difference-from.result in
     let rise = c.rise_over-rise.result in
-    ok_map c.answer.result (λ a. HasValues a (repeated (read qs) from r.period rise)) (RunsUpTo f)
+    ok_map c.framed_answer.result (λ a. HasValues a (repeated (read qs) from r.period rise)) (RunsUpTo f)
     (λ a v.
     sup_value f c.args.k r from rise c.deref.result.now qs a c.requires.finite c.requires.nonneg c.requires.number c.requires.frame c.difference-from.ensures
     c.rise_over-rise.ensures
-    (c.deref.ensures.value ∙ c.in_ok-pieces.ensures) c.in_ok-scanned.ensures v) c.answer.ensures
+    (c.deref.ensures.value ∙ c.in_ok-pieces.ensures) c.in_ok-scanned.ensures v) c.framed_answer.ensures
 
 pub returns-clause-finite : goal.returns-clause-finite
 returns-clause-finite c =
@@ -70,5 +70,5 @@ returns-clause-finite c =
     let d = c.args.frame.now.period in
     let from = c.difference-from.result in
     let rise = c.rise_over-rise.result in
-    ok_map c.answer.result (λ a. HasValues a (repeated (read qs) from d rise)) (λ a. IsFinite (value_at a))
-    (λ a v. scan_finite true c.deref.result.now qs c.args.frame.now.end from d rise a c.in_ok-scanned.ensures.scan v) c.answer.ensures
+    ok_map c.framed_answer.result (λ a. HasValues a (repeated (read qs) from d rise)) (λ a. IsFinite (value_at a))
+    (λ a v. scan_finite true c.deref.result.now qs c.args.frame.now.end from d rise a c.in_ok-scanned.ensures.scan v) c.framed_answer.ensures
