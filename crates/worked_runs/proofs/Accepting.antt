@@ -1,18 +1,19 @@
 -- That a small network is accepted, and the order of its servers.
 use Rattle.std.specs.Prelude.{Contains}
-use Rattle.std.proofs.Common.{◌≡◌, ◌≢◌, ℕ, zero, suc, ◌<◌, ◌≤◌, ◌^◌, List, [], ◌∷◌, length, get_or, take, Some, refl, ap, sym}
+use Rattle.std.proofs.Common.{◌≡◌, ◌≢◌, ℕ, zero, suc, ◌<◌, ◌≤◌, ◌^◌, List, [], ◌∷◌, length, get_or, take, Some, refl, ap, sym, subst, inl, inr}
 use Rattle.std.proofs.Common.{arith}
+use Rattle.std.proofs.lemmas.Option.{same_Some}
 use Rattle.upp_limits.specs.rational.proofs.Integers.{nat_lt, nat_nonneg}
 use Rattle.upp_limits.specs.Windows.{IsLeast}
 use Rattle.net_model.specs.run_laws.specs.Cards.{whole}
 use Rattle.net_model.specs.run_laws.specs.Servers.{Discipline}
-use Rattle.net_model.specs.Accepted.{IsServer, IsHop, IsFlow, HasFewQueues}
-use Rattle.net_model.specs.Names.{IsName}
+use Rattle.net_model.specs.Accepted.{IsServer, IsHop, IsFlow, HasFewQueues, IsAccepted}
+use Rattle.net_model.specs.Names.{IsName, DifferInName}
 use Rattle.net_model.specs.Networks.{Net, NetServer, NetFlow}
 use Rattle.net_model.specs.Orders.{IsReady, IsOrder}
 use Rattle.net_model.specs.Walks.{IsNext}
 use Rattle.net_model.proofs.KindsStand.{kinds_may_stand}
-use Rattle.net_model.proofs.Short.{no_pairs}
+use Rattle.net_model.proofs.Short.{no_pairs, one_pair, alone, one_of_two}
 use Rattle.worked_runs.specs.Parts.{late_server, bucket_flow}
 
 -- two that end in another byte
@@ -48,6 +49,42 @@ is_one_hop_flow servers name queue packet rate named some few hop = record {
     hops zero within = hop
     hops (suc k) within = absurd (omega (arith, within))
 
+-- ---- one server and one flow
+abbrev pub net_of_one : NetServer → NetFlow → Net
+net_of_one s f = record { version = 1; servers = s ∷ []; flows = Some f ∷ [] }
+
+pub one_accepted : (s : NetServer) (f : NetFlow) → IsServer s → IsFlow (s ∷ []) f → IsAccepted (net_of_one s f)
+one_accepted s f served its_flow = record {
+  version = (omega arith, omega arith);
+  few_servers = omega arith;
+  few_flows = omega arith;
+  names = (no_pairs (λ s t. s.name ≢ t.name) s, no_pairs DifferInName (Some f));
+  servers = λ t has. subst IsServer (alone s t has) served;
+  flows = λ g has. subst (IsFlow (s ∷ [])) (same_Some f g (alone (Some f) (Some g) has)) its_flow;
+}
+
+-- ---- one server and two flows
+abbrev pub net_of_two : NetServer → (f g : NetFlow) → Net
+net_of_two s f g = record { version = 1; servers = s ∷ []; flows = Some f ∷ Some g ∷ [] }
+
+-- what holds of both flows holds of each
+of_both : (f g : NetFlow) (P : NetFlow → Type 0) → P f → P g → (h : NetFlow) → Contains (Some f ∷ Some g ∷ []) (Some h) → P h
+of_both f g P p q h has = elim (one_of_two (Some f) (Some g) (Some h) has) [
+  | inl e ↦ subst P (same_Some f h e) p
+  | inr e ↦ subst P (same_Some g h e) q
+]
+
+pub two_accepted : (s : NetServer) (f g : NetFlow) → IsServer s → IsFlow (s ∷ []) f → IsFlow (s ∷ []) g → DifferInName (Some f) (Some g)
+    → IsAccepted (net_of_two s f g)
+two_accepted s f g served first second apart = record {
+  version = (omega arith, omega arith);
+  few_servers = omega arith;
+  few_flows = omega arith;
+  names = (no_pairs (λ s t. s.name ≢ t.name) s, one_pair DifferInName (Some f) (Some g) apart);
+  servers = λ t has. subst IsServer (alone s t has) served;
+  flows = of_both f g (IsFlow (s ∷ [])) first second;
+}
+
 -- ---- orders
 -- where each path has one hop, no server comes right before another
 abbrev pub HasOneHopPaths : Net → Type 0
@@ -60,7 +97,7 @@ no_next net short a b h =
     absurd (omega (arith, one, on))
 
 -- so that one server is its order
-pub one_server_order : (net : Net) → length net.servers ≡ 1 → HasOneHopPaths net → IsOrder net (0 ∷ [])
+one_server_order : (net : Net) → length net.servers ≡ 1 → HasOneHopPaths net → IsOrder net (0 ∷ [])
 one_server_order net one short = record { all = sym one; each = each }
   where
     ready : IsReady net [] 0
@@ -73,3 +110,10 @@ one_server_order net one short = record { all = sym one; each = each }
     each : (place : ℕ) → place < 1 → IsLeast (IsReady net (take place (0 ∷ []))) (get_or (0 ∷ []) place 0)
     each zero within = record { meets = ready; least = λ other before h. absurd (omega (arith, before)) }
     each (suc place) within = absurd (omega (arith, within))
+
+pub one_ordered : (s : NetServer) (f : NetFlow) → length f.path ≡ 1 → IsOrder (net_of_one s f) (0 ∷ [])
+one_ordered s f short = one_server_order (net_of_one s f) refl
+    (λ g has. subst (λ (h : NetFlow). length h.path ≡ 1) (same_Some f g (alone (Some f) (Some g) has)) short)
+
+pub two_ordered : (s : NetServer) (f g : NetFlow) → length f.path ≡ 1 → length g.path ≡ 1 → IsOrder (net_of_two s f g) (0 ∷ [])
+two_ordered s f g p q = one_server_order (net_of_two s f g) refl (of_both f g (λ h. length h.path ≡ 1) p q)

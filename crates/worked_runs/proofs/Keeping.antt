@@ -10,8 +10,8 @@ use Rattle.upp_limits.specs.rational.proofs.Linear.{with2, with3, with5, with6}
 use Rattle.upp_limits.specs.min_plus.specs.Functions.{zero_q}
 use Rattle.upp_limits.specs.min_plus.specs.Formulas.{IsService}
 use Rattle.upp_limits.specs.upp_curve.specs.Curve.{value_at}
-use Rattle.upp_limits.specs.upp_curve.specs.Kinds.{bucket}
-use Rattle.upp_limits.specs.upp_curve.proofs.KindValues.{bucket_is}
+use Rattle.upp_limits.specs.upp_curve.specs.Kinds.{bucket, rate_latency}
+use Rattle.upp_limits.specs.upp_curve.proofs.KindValues.{bucket_is, service_is}
 use Rattle.net_model.specs.run_laws.specs.Cards.{whole, all, ServerStep}
 use Rattle.net_model.specs.run_laws.specs.Counts.{when, arrived, worked}
 use Rattle.net_model.specs.run_laws.specs.Premises.{KeepsService}
@@ -69,7 +69,7 @@ pub record SeesTwo (k l b c : ℕ) (V : List ServerStep) : Type 0 where
   pub arrivals : (x : ℚ) → arrived all V x ≡ when (true && lt_q (whole 0) x) (whole b) +ℚ when (true && lt_q (whole 0) x) (whole c)
   pub work : (x : ℚ) → worked all V x ≡ clip (first_span k) x +ℚ clip (second_span k l) x
 
-pub two_packets_keep : (k l b c : ℕ) (β : ℚ → Ext) (V : List ServerStep) → 0 < k → 0 < l → IsService (whole 100) (whole 10) β
+two_packets_keep : (k l b c : ℕ) (β : ℚ → Ext) (V : List ServerStep) → 0 < k → 0 < l → IsService (whole 100) (whole 10) β
     → SeesTwo k l b c V → KeepsService β (whole (10 + k + l)) V
 two_packets_keep k l b c β V hk hl G sees =
     keeps_at_rate (whole 100) (whole 10) (whole 0) (whole 10) (whole (10 + k + l)) (whole (10 + k + l)) β V
@@ -98,3 +98,10 @@ two_packets_keep k l b c β V hk hl G sees =
           ∙ two_at_rate (whole 100) (whole k) (whole l) (first_span k) (second_span k l) x (sym (sum_t 10 k)) refl (sym (sum_t (10 + k) l))
           (nat_lt 0 k hk) (nat_lt 0 l hl) (whole_times 100 k) (whole_times 100 l) low high;
     }
+
+-- by the curve of a server with 100 bits a unit of time after a latency of 10
+pub keeps_late : (k l b c : ℕ) (V : List ServerStep) → 0 < k → 0 < l → SeesTwo k l b c V
+    → KeepsService (value_at (rate_latency (whole 100) (whole 10))) (whole (10 + k + l)) V
+keeps_late k l b c V hk hl sees =
+    two_packets_keep k l b c (value_at (rate_latency (whole 100) (whole 10))) V hk hl
+    (service_is (whole 100) (whole 10) (nat_nonneg 100) (nat_nonneg 10)) sees

@@ -5,6 +5,7 @@ pub mod Rows
 pub mod Accepting
 pub mod Reaching
 pub mod Keeping
+pub mod OneQueueTable
 pub mod OneFlowTable
 pub mod OneFlow
 pub mod TwoServersRun
@@ -12,6 +13,7 @@ pub mod TwoServersTable
 pub mod TwoServers
 pub mod TwoFlowsTable
 pub mod Terms
+pub mod TwoPackets
 pub mod TwoFlowsRuns
 pub mod TwoFlows
 pub mod TwoQuantaTable

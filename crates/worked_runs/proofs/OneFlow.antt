@@ -1,7 +1,6 @@
 -- One flow over one server reaches its bound.
 use Rattle.std.specs.Prelude.{codes}
-use Rattle.std.proofs.Common.{◌≡◌, ◌≢◌, ℕ, zero, suc, ◌<◌, [], ◌∷◌, length, sym, true, false, Some, refl, ap, subst, arith}
-use Rattle.std.proofs.lemmas.Option.{same_Some}
+use Rattle.std.proofs.Common.{◌≡◌, ℕ, zero, suc, ◌<◌, [], ◌∷◌, true, false, refl, subst, arith}
 use Rattle.upp_limits.specs.rational.specs.Rational.{◌-ℚ◌}
 use Rattle.upp_limits.specs.rational.specs.Extended.{◌≤ₑ◌}
 use Rattle.upp_limits.specs.rational.specs.declared.Extended.TheVariants.{Fin}
@@ -18,15 +17,14 @@ use Rattle.net_model.specs.run_laws.specs.Servers.{Fifo}
 use Rattle.net_model.specs.run_laws.specs.Views.{view}
 use Rattle.net_model.specs.run_laws.proofs.OnePacket.{one_packet_reaches_its_bound}
 use Rattle.net_model.specs.Accepted.{IsServer, IsFlow, IsAccepted}
-use Rattle.net_model.specs.Names.{DifferInName}
-use Rattle.net_model.specs.Networks.{NetServer, NetFlow}
+use Rattle.net_model.specs.Networks.{NetServer}
 use Rattle.net_model.specs.Orders.{IsOrder}
-use Rattle.net_model.proofs.Short.{no_pairs, alone, named_by_two}
+use Rattle.net_model.proofs.Short.{named_by_two}
 use Rattle.net_cells.specs.Numbered.{packet, arrival, service}
 use Rattle.net_bounds.specs.NetRuns.{routes_of, IsRunOf}
 use Rattle.worked_runs.specs.Parts.{late_server, first_flow}
 use Rattle.worked_runs.specs.OneFlow.{one_flow, OneFlowReachesItsBound}
-use Rattle.worked_runs.proofs.Accepting.{is_late_server, is_one_hop_flow, one_server_order}
+use Rattle.worked_runs.proofs.Accepting.{is_late_server, is_one_hop_flow, one_accepted, one_ordered}
 use Rattle.worked_runs.proofs.OneFlowTable.{table, meets}
 use Rattle.worked_runs.proofs.Reaching.{bound_by}
 
@@ -42,18 +40,10 @@ is_flow = is_one_hop_flow one_flow.servers (codes "f1") 0 12000 10 (named_by_two
     record { server = its_server; is = refl; has_queue = omega arith; takes = tt }
 
 accepted : IsAccepted one_flow
-accepted = record {
-  version = (omega arith, omega arith);
-  few_servers = omega arith;
-  few_flows = omega arith;
-  names = (no_pairs (λ s t. s.name ≢ t.name) its_server, no_pairs DifferInName (Some first_flow));
-  servers = λ s has. subst IsServer (alone its_server s has) is_server;
-  flows = λ f has. subst (IsFlow one_flow.servers) (same_Some first_flow f (alone (Some first_flow) (Some f) has)) is_flow;
-}
+accepted = one_accepted its_server first_flow is_server is_flow
 
 ordered : IsOrder one_flow (0 ∷ [])
-ordered = one_server_order one_flow refl
-    (λ f has. ap (λ (g : NetFlow). length g.path) (sym (same_Some first_flow f (alone (Some first_flow) (Some f) has))))
+ordered = one_ordered its_server first_flow refl
 
 -- ---- the run
 -- with the curves of the network

@@ -1,16 +1,13 @@
 -- One flow over a gate reaches its bound.
-use Rattle.std.proofs.Common.{◌≢◌, ℕ, zero, suc, ◌<◌, [], ◌∷◌, length, get_or, Some, refl, ap, sym, subst, arith}
-use Rattle.std.proofs.lemmas.Option.{same_Some}
+use Rattle.std.proofs.Common.{◌≢◌, ℕ, zero, suc, ◌<◌, [], ◌∷◌, get_or, refl, arith}
 use Rattle.upp_limits.specs.rational.proofs.Integers.{nat_lt, nat_le, nat_nonneg}
 use Rattle.net_model.specs.run_laws.specs.Cards.{whole}
 use Rattle.net_model.specs.Accepted.{IsServer, IsHop, IsFlow, IsAccepted}
-use Rattle.net_model.specs.Names.{DifferInName}
-use Rattle.net_model.specs.Networks.{NetFlow}
 use Rattle.net_model.specs.Orders.{IsOrder}
 use Rattle.net_model.proofs.KindsStand.{kinds_may_stand}
-use Rattle.net_model.proofs.Short.{no_pairs, alone, named_by_one}
+use Rattle.net_model.proofs.Short.{no_pairs, named_by_one}
 use Rattle.worked_runs.specs.OneGate.{its_server, its_flow, one_gate, GateReachesItsBound}
-use Rattle.worked_runs.proofs.Accepting.{one_server_order}
+use Rattle.worked_runs.proofs.Accepting.{one_accepted, one_ordered}
 use Rattle.worked_runs.proofs.GateLag.{is_service}
 use Rattle.worked_runs.proofs.OneGateRun.{at_its_end_delay}
 use Rattle.worked_runs.proofs.OneGateTable.{table, meets}
@@ -44,18 +41,10 @@ is_flow = record {
     is_hop (suc k) within = absurd (omega (arith, within))
 
 accepted : IsAccepted one_gate
-accepted = record {
-  version = (omega arith, omega arith);
-  few_servers = omega arith;
-  few_flows = omega arith;
-  names = (no_pairs (λ s t. s.name ≢ t.name) its_server, no_pairs DifferInName (Some its_flow));
-  servers = λ s has. subst IsServer (alone its_server s has) is_server;
-  flows = λ f has. subst (IsFlow one_gate.servers) (same_Some its_flow f (alone (Some its_flow) (Some f) has)) is_flow;
-}
+accepted = one_accepted its_server its_flow is_server is_flow
 
 ordered : IsOrder one_gate (0 ∷ [])
-ordered = one_server_order one_gate refl
-    (λ f has. ap (λ (g : NetFlow). length g.path) (sym (same_Some its_flow f (alone (Some its_flow) (Some f) has))))
+ordered = one_ordered its_server its_flow refl
 
 pub gate_reaches_its_bound : GateReachesItsBound
 gate_reaches_its_bound = record {

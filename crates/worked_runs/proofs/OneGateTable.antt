@@ -1,13 +1,11 @@
 -- The table of one flow over a gate.
-use Rattle.std.specs.Prelude.{◌≡◌, ◌⊎◌, ℕ, zero, suc, ◌+◌, ◌==◌, ◌&&◌, nat_lt, IsTrue, true, false, Option, Some, None, [], ◌∷◌}
+use Rattle.std.specs.Prelude.{◌≡◌, ◌⊎◌, codes}
 use Rattle.std.proofs.Common.{arith, sym, refl, ap, ◌∙◌, subst, inl, inr}
-use Rattle.std.proofs.lemmas.Bool.{and_parts}
 use Rattle.upp_limits.specs.rational.specs.Rational.{ℚ, ◌+ℚ◌, ◌-ℚ◌, ◌*ℚ◌, ◌/ℚ◌, ◌≤ℚ◌, ◌<ℚ◌, neg_ℚ}
 use Rattle.upp_limits.specs.rational.specs.MinMax.{max_q}
-use Rattle.upp_limits.specs.rational.specs.Extended.{Ext, ◌≤ₑ◌, min_ext}
+use Rattle.upp_limits.specs.rational.specs.Extended.{Ext, ◌≤ₑ◌}
 use Rattle.upp_limits.specs.rational.specs.declared.Extended.TheVariants.{Fin}
 use Rattle.upp_limits.specs.rational.proofs.Bounds.{least_member, largest_member}
-use Rattle.upp_limits.specs.rational.proofs.ExtendedOrder.{min_ext_of_le}
 use Rattle.upp_limits.specs.rational.proofs.Laws.{antisym, le_refl, le_or_lt, zero_mul}
 use Rattle.upp_limits.specs.rational.proofs.Linear.{with1, with2}
 use Rattle.upp_limits.specs.rational.proofs.MinMax.{max_q_right, le_q_not}
@@ -15,7 +13,7 @@ use Rattle.upp_limits.specs.rational.proofs.Over.{le_q_out, lt_q_in}
 use Rattle.upp_limits.specs.min_plus.specs.Functions.{zero_q, Time}
 use Rattle.upp_limits.specs.min_plus.specs.Deviations.{Lag, IsHorizontalDeviation}
 use Rattle.upp_limits.specs.min_plus.specs.Running.{left_after}
-use Rattle.upp_limits.specs.declared.op_kind.OpKind.TheVariants.{PosMinus, FifoLeft}
+use Rattle.upp_limits.specs.declared.op_kind.OpKind.TheVariants.{FifoLeft}
 use Rattle.upp_limits.specs.upp_curve.specs.Curve.{value_at}
 use Rattle.upp_limits.specs.upp_curve.specs.Curves.{IsCurve}
 use Rattle.upp_limits.specs.upp_curve.specs.Readable.{IsReadable, SumFitsAt}
@@ -23,49 +21,19 @@ use Rattle.upp_limits.specs.upp_curve.proofs.GateValues.{closed_value}
 use Rattle.upp_limits.specs.upp_curve.proofs.KindForms.{gate_normal}
 use Rattle.upp_limits.specs.upp_curve.proofs.Worked.{computing}
 use Rattle.curve_call.specs.Answers.{IsMadeBy}
+use Rattle.net_model.specs.declared.server.ServiceKind.TheVariants.{Gate}
 use Rattle.net_model.specs.run_laws.specs.Cards.{whole}
 use Rattle.net_model.specs.run_laws.proofs.Small.{le_t, lt_t}
-use Rattle.net_cells.specs.declared.cell.Kind.{Kind}
-use Rattle.net_cells.specs.declared.cell.Kind.TheVariants.{In, Cross, Total, Higher, QueueService, Theta, Residual, QueueDelay, QueueBacklog, HopDelay, ShiftOut, DeconvOut, Out, PathService, Tfa, Sfa, Bound}
-use Rattle.net_cells.specs.Numbered.{hops, queues, levels, is_live, zero_curve}
-use Rattle.net_cells.specs.Cells.{cell_of, has_cell}
-use Rattle.net_cells.specs.CellFormulas.{value, less}
-use Rattle.net_cells.specs.Formulas.{horizontal}
-use Rattle.net_cells.specs.Equations.{MeetsEquation, MeetsEquations}
-use Rattle.net_cells.specs.Meanings.{Meaning, curve, number, CellTable}
+use Rattle.net_cells.specs.Numbered.{zero_curve}
+use Rattle.net_cells.specs.Equations.{MeetsEquations}
+use Rattle.net_cells.specs.Meanings.{CellTable}
 use Rattle.worked_runs.specs.OneGate.{one_gate}
 use Rattle.worked_runs.proofs.Curves.{line_by, sum_by, small_by}
 use Rattle.worked_runs.proofs.GateLag.{packets, service, is_service, horizontal_is, vertical_is}
 use Rattle.worked_runs.proofs.GateLess.{gate_less_packet, less_made}
-use Rattle.worked_runs.proofs.Meanings.{of_one, of_left, of_horizontal, of_vertical, of_smaller, of_along, of_delayed, none_below, below_one, none_before, none_before_one, only_zero}
+use Rattle.worked_runs.proofs.OneQueueTable.{OneQueue, table_of, meets_all}
 use Rattle.worked_runs.proofs.Operators.{fifo_made}
-use Rattle.worked_runs.proofs.Rows.{nothing, no_link}
-
--- ---- the values
-abbrev delay : Ext
-delay = Fin (whole 990)
-
-abbrev values : Kind → Option Meaning
-values In = Some (curve packets)
-values Cross = Some (curve zero_curve)
-values Total = Some (curve packets)
-values Higher = None
-values QueueService = Some (curve service)
-values Theta = Some (number (Fin zero_q))
-values Residual = Some (curve service)
-values QueueDelay = Some (number delay)
-values QueueBacklog = Some (number (Fin (whole 47000)))
-values HopDelay = Some (number delay)
-values ShiftOut = None
-values DeconvOut = None
-values Out = None
-values PathService = Some (curve service)
-values Tfa = Some (number delay)
-values Sfa = Some (number delay)
-values Bound = Some (number delay)
-
-abbrev pub table : CellTable
-table c = values c.kind
+use Rattle.worked_runs.proofs.Rows.{nothing}
 
 -- ---- what the operators make
 gate_readable : IsReadable service
@@ -139,88 +107,30 @@ left_is x on (inr h) =
 alone : IsMadeBy (FifoLeft (Fin zero_q)) service zero_curve service
 alone = fifo_made service zero_curve service zero_q gate_curve is_service.rising (λ x on. left_is x on (le_or_lt x zero_q))
 
-least : min_ext delay delay ≡ delay
-least = min_ext_of_le delay delay (le_refl (whole 990))
+-- ---- the table
+abbrev one : OneQueue
+one = record {
+  server = codes "g";
+  rate = whole 100;
+  kind = Gate (whole 1000) (whole 250);
+  served = service;
+  flow = codes "f";
+  bits = 24000;
+  come = packets;
+  packets = gate_less_packet;
+  delay = Fin (whole 990);
+  backlog = Fin (whole 47000);
+}
 
--- ---- the equations
-at_hop : (P : ℕ → ℕ → Type 0) → P 0 0 → (a b : ℕ) → IsTrue (nat_lt b (hops one_gate a)) → P a b
-at_hop P p zero b h = below_one (P 0) p b h
-at_hop P p (suc a) b h = none_below (P (suc a)) b h
-
-before_hop : (P : ℕ → ℕ → Type 0) → (a b : ℕ) → IsTrue (nat_lt (b + 1) (hops one_gate a)) → P a b
-before_hop P zero b h = none_before_one (P 0) b h
-before_hop P (suc a) b h = none_before (P (suc a)) b h
-
-at_queue : (P : ℕ → ℕ → Type 0) → P 0 0 → (a b : ℕ) → IsTrue (nat_lt b (queues one_gate a)) → P a b
-at_queue P p zero b h = below_one (P 0) p b h
-at_queue P p (suc a) b h = none_below (P (suc a)) b h
-
-at_level : (P : ℕ → ℕ → Type 0) → (a b : ℕ) → IsTrue (nat_lt b (levels one_gate a)) → P a b
-at_level P zero b h = none_below (P 0) b h
-at_level P (suc a) b h = none_below (P (suc a)) b h
-
-at_path : (P : ℕ → ℕ → Type 0) → P 0 0 → (a b : ℕ) → IsTrue (is_live one_gate a && (b == 0)) → P a b
-at_path P p zero b h = only_zero (P 0) true p b h
-at_path P p (suc a) b h = absurd (let parts = and_parts false (b == 0) h in cc)
-
-abbrev Meets : Kind → ℕ → ℕ → Type 0
-Meets kind a b = MeetsEquation one_gate table (cell_of kind a b)
-
-meets_at : (kind : Kind) (a b : ℕ) → IsTrue (has_cell one_gate (cell_of kind a b)) → Meets kind a b
-meets_at In a b h = at_hop (Meets In) record { value = curve packets; is = refl; means = refl } a b h
-meets_at Cross a b h = at_hop (Meets Cross) record { value = curve zero_curve; is = refl; means = refl } a b h
-meets_at Total a b h = at_queue (Meets Total) record { value = curve packets; is = refl; means = refl } a b h
-meets_at Higher a b h = at_level (Meets Higher) a b h
-meets_at QueueService a b h = at_queue (Meets QueueService) record { value = curve service; is = refl; means = refl } a b h
-meets_at Theta a b h = at_hop (Meets Theta) record {
-  value = number (Fin zero_q);
-  is = refl;
-  means = of_horizontal table (value Cross 0 0) (value QueueService 0 0) zero_curve service (Fin zero_q) refl refl
-      nothing_waits;
-} a b h
-meets_at Residual a b h = at_hop (Meets Residual) record {
-  value = curve service;
-  is = refl;
-  means = of_left table (value QueueService 0 0) (value Cross 0 0) (value Theta 0 0) service zero_curve service (Fin zero_q)
-      refl refl refl alone;
-} a b h
-meets_at QueueDelay a b h = at_queue (Meets QueueDelay) record {
-  value = number delay;
-  is = refl;
-  means = of_horizontal table (value Total 0 0) (value QueueService 0 0) packets service delay refl refl horizontal_is;
-} a b h
-meets_at QueueBacklog a b h = at_queue (Meets QueueBacklog) record {
-  value = number (Fin (whole 47000));
-  is = refl;
-  means = of_vertical table (value Total 0 0) (less (value QueueService 0 0) 24000) packets gate_less_packet (Fin (whole 47000)) refl
-      (of_one table (PosMinus (whole 24000)) (value QueueService 0 0) service gate_less_packet refl less_made) vertical_is;
-} a b h
-meets_at HopDelay a b h = at_hop (Meets HopDelay) record {
-  value = number delay;
-  is = refl;
-  means = of_smaller table (value QueueDelay 0 0) (horizontal (value In 0 0) (value Residual 0 0)) delay delay delay refl
-      (of_horizontal table (value In 0 0) (value Residual 0 0) packets service delay refl refl horizontal_is) least;
-} a b h
-meets_at ShiftOut a b h = before_hop (Meets ShiftOut) a b h
-meets_at DeconvOut a b h = before_hop (Meets DeconvOut) a b h
-meets_at Out a b h = before_hop (Meets Out) a b h
-meets_at PathService a b h = at_path (Meets PathService) record { value = curve service; is = refl; means = refl } a b h
-meets_at Tfa a b h = at_path (Meets Tfa) record {
-  value = number delay;
-  is = refl;
-  means = of_along table (cell_of HopDelay 0 0 ∷ []) (whole 0 ∷ []) (delay ∷ []) delay (refl, tt) (no_link delay);
-} a b h
-meets_at Sfa a b h = at_path (Meets Sfa) record {
-  value = number delay;
-  is = refl;
-  means = of_delayed table (horizontal (value In 0 0) (value PathService 0 0)) (whole 0 ∷ []) delay delay
-      (of_horizontal table (value In 0 0) (value PathService 0 0) packets service delay refl refl horizontal_is) (no_link delay);
-} a b h
-meets_at Bound a b h = at_path (Meets Bound) record {
-  value = number delay;
-  is = refl;
-  means = of_smaller table (value Tfa 0 0) (value Sfa 0 0) delay delay delay refl refl least;
-} a b h
+abbrev pub table : CellTable
+table = table_of one
 
 pub meets : MeetsEquations one_gate table
-meets c h = meets_at c.kind c.a c.b h
+meets = meets_all one record {
+  longest_is = refl;
+  no_wait = nothing_waits;
+  left = alone;
+  delay = horizontal_is;
+  in_packets = less_made;
+  backlog = vertical_is;
+}

@@ -4,8 +4,8 @@ use Rattle.std.proofs.Common.{refl, ap, ◌∙◌}
 use Rattle.upp_limits.specs.rational.specs.Rational.{◌-ℚ◌, ◌*ℚ◌}
 use Rattle.upp_limits.specs.rational.specs.declared.Extended.TheVariants.{Fin}
 use Rattle.upp_limits.specs.rational.specs.Fractions.{same_parts}
-use Rattle.upp_limits.specs.rational.specs.Extended.{Ext, ◌+ₑ◌}
-use Rattle.upp_limits.specs.rational.proofs.ExtendedOrder.{add_zero_ext}
+use Rattle.upp_limits.specs.rational.specs.Extended.{Ext, ◌+ₑ◌, min_ext}
+use Rattle.upp_limits.specs.rational.proofs.ExtendedOrder.{add_zero_ext, le_ext_refl, min_ext_of_le}
 use Rattle.upp_limits.specs.min_plus.specs.Functions.{zero_q}
 use Rattle.upp_limits.specs.min_plus.specs.Formulas.{IsBucket}
 use Rattle.upp_limits.specs.min_plus.specs.Deviations.{IsHorizontalDeviation, IsVerticalDeviation}
@@ -55,6 +55,10 @@ packet_12000 = same_parts _ _ refl refl
 -- ---- a delay, with no link behind it
 pub no_link : (d : Ext) → sum_of_numbers (d ∷ Fin (whole 0) ∷ []) ≡ d
 no_link d = ap (λ y. d +ₑ y) (add_zero_ext (Fin (whole 0))) ∙ add_zero_ext d
+
+-- the lesser of a number and itself
+pub lesser_same : (d : Ext) → min_ext d d ≡ d
+lesser_same d = min_ext_of_le d d (le_ext_refl d)
 
 -- ---- the server, and two flows
 abbrev pub service : SpecCurve

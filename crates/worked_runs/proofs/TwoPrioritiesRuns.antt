@@ -1,60 +1,58 @@
 -- Two packets at a priority server.
-use Rattle.std.specs.Prelude.{◌≡◌, ◌⊎◌, ◌<◌, ℕ, zero, suc, true, ◌==◌, ◌&&◌, [], ◌∷◌}
-use Rattle.std.proofs.Common.{arith, ap, ap₂, ◌∙◌, refl, false, sym, inl, inr}
+use Rattle.std.specs.Prelude.{◌≡◌, ◌⊎◌, true, ◌&&◌, [], ◌∷◌}
+use Rattle.std.proofs.Common.{arith, ap, ap₂, ◌∙◌, refl, sym, inl, inr}
 use Rattle.upp_limits.specs.rational.specs.Rational.{ℚ, ◌+ℚ◌, ◌-ℚ◌, ◌≤ℚ◌, ◌<ℚ◌, lt_q}
-use Rattle.upp_limits.specs.rational.specs.Extended.{◌≤ₑ◌}
-use Rattle.upp_limits.specs.rational.specs.declared.Extended.TheVariants.{Fin}
 use Rattle.upp_limits.specs.rational.proofs.Integers.{nat_nonneg}
-use Rattle.upp_limits.specs.rational.proofs.Linear.{with1, with2, with3, with4, with6}
+use Rattle.upp_limits.specs.rational.proofs.Linear.{with1, with3, with4, with6}
 use Rattle.upp_limits.specs.upp_curve.specs.Curve.{value_at}
+use Rattle.upp_limits.specs.upp_curve.specs.Kinds.{rate_latency}
 use Rattle.upp_limits.specs.upp_curve.proofs.KindValues.{service_is}
 use Rattle.net_model.specs.run_laws.specs.Cards.{whole, all}
-use Rattle.net_model.specs.run_laws.specs.Servers.{Span, clip}
-use Rattle.net_model.specs.run_laws.specs.Counts.{when, within, arrived, worked}
+use Rattle.net_model.specs.run_laws.specs.Servers.{Priority, Span, clip}
+use Rattle.net_model.specs.run_laws.specs.Counts.{when, arrived, worked}
 use Rattle.net_model.specs.run_laws.specs.Premises.{KeepsService}
 use Rattle.net_model.specs.run_laws.specs.Lawful.{IsLawful}
-use Rattle.net_model.specs.run_laws.specs.Routes.{Routes, route_of}
-use Rattle.net_model.specs.run_laws.specs.RunPremises.{EnterSizes, entered_in}
+use Rattle.net_model.specs.run_laws.specs.Routes.{Routes}
 use Rattle.net_model.specs.run_laws.specs.Views.{view}
 use Rattle.net_model.specs.run_laws.proofs.Small.{le_t, lt_t, sum_t, enters, works, leaves}
 use Rattle.net_model.specs.run_laws.proofs.Clips.{clip_early, clip_late}
 use Rattle.upp_limits.specs.rational.proofs.Laws.{le_or_lt, le_of_lt, le_trans}
 use Rattle.upp_limits.specs.rational.specs.Rational.{◌*ℚ◌}
 use Rattle.worked_trees.proofs.Busy.{not_yet, in_span, span_at_rate, service_at_most, IsBusyOnly, keeps_latency}
-use Rattle.net_model.specs.run_laws.proofs.Sums.{when_true, when_false}
+use Rattle.net_model.specs.run_laws.proofs.Sums.{when_true}
 use Rattle.net_model.specs.run_laws.proofs.Sizes.{whole_times}
 use Rattle.net_model.specs.run_laws.proofs.SmallRuns.{one_idle, none_due}
-use Rattle.net_cells.specs.Numbered.{packet, arrival, service}
 use Rattle.net_bounds.specs.NetRuns.{routes_of}
 use Rattle.worked_runs.specs.TwoPriorities.{two_priorities, lower_first, higher_first}
 use Rattle.worked_runs.specs.Reached.{HasDelay}
-use Rattle.worked_runs.proofs.Keeping.{bucket_covers, at_most, first_span, second_span, SeesTwo, two_packets_keep}
+use Rattle.worked_runs.proofs.Keeping.{first_span, second_span, SeesTwo, keeps_late}
+use Rattle.worked_runs.proofs.TwoPackets.{first_before, one_of_each_first, run_of_two, both_spans}
 use Rattle.worked_runs.proofs.Terms.{both_arrive, both_worked, one_after_work, worked_before_one}
 
 abbrev net : Routes
 net = routes_of two_priorities
 
 -- ---- higher first
+higher_first_sees : SeesTwo 60 120 12000 6000 (view net higher_first 0)
+higher_first_sees = record {
+  arrivals = λ x. both_arrive (when (true && lt_q (whole 0) x) (whole 12000)) (when (true && lt_q (whole 0) x) (whole 6000));
+  work = λ x. both_spans 60 120 x _ (both_worked (when true (clip (first_span 60) x)) (when true (clip (second_span 60 120) x)));
+}
+
 higher_first_lawful : IsLawful net higher_first
 higher_first_lawful = record {
   allowed = (
-    enters 0 0 12000 0 0 190 record { in_turn = refl; is_live = refl; has_path = refl } (omega arith) refl refl
-        record { known_queue = omega arith; some_bits = omega arith },
+    enters 0 0 12000 0 0 190 record { in_turn = refl; is_live = refl; has_path = refl } (omega arith) refl refl record { known_queue = omega arith; some_bits = omega arith },
     (
-      enters 1 1 6000 0 0 190 record { in_turn = refl; is_live = refl; has_path = refl } (omega arith) refl refl
-          record { known_queue = omega arith; some_bits = omega arith },
+      enters 1 1 6000 0 0 190 record { in_turn = refl; is_live = refl; has_path = refl } (omega arith) refl refl record { known_queue = omega arith; some_bits = omega arith },
       (
-        works 0 1 0 0 10 70 6000 190 record { has_entered = omega arith; passes = inl refl } (omega arith) refl
-            refl refl tt refl refl refl,
+        works 0 1 0 0 10 70 6000 190 record { has_entered = omega arith; passes = inl refl } (omega arith) refl refl refl tt refl refl refl,
         (
-          leaves 0 1 10 70 190 record { has_entered = omega arith; passes = inl refl } (omega arith) refl refl
-              record { is_card = refl; worked_off = sum_t 0 6000; at_end = refl },
+          leaves 0 1 10 70 190 record { has_entered = omega arith; passes = inl refl } (omega arith) refl refl record { is_card = refl; worked_off = sum_t 0 6000; at_end = refl },
           (
-            works 0 0 70 70 70 190 12000 190 record { has_entered = omega arith; passes = inl refl } (omega arith) refl
-                refl refl tt refl refl refl,
+            works 0 0 70 70 70 190 12000 190 record { has_entered = omega arith; passes = inl refl } (omega arith) refl refl refl tt refl refl refl,
             (
-              leaves 0 0 70 190 190 record { has_entered = omega arith; passes = inl refl } (omega arith) refl refl
-                  record { is_card = refl; worked_off = sum_t 0 12000; at_end = refl },
+              leaves 0 0 70 190 190 record { has_entered = omega arith; passes = inl refl } (omega arith) refl refl record { is_card = refl; worked_off = sum_t 0 12000; at_end = refl },
               tt,
             ),
           ),
@@ -66,54 +64,10 @@ higher_first_lawful = record {
   none_overdue = none_due (whole 190);
 }
 
-higher_first_sizes : (flow : ℕ) → (route_of net flow).live ≡ true → EnterSizes flow (packet two_priorities flow) higher_first.steps
-higher_first_sizes zero live = (λ e. omega arith, (λ e. omega arith, tt))
-higher_first_sizes (suc zero) live = (λ e. omega (arith, e), (λ e. omega arith, tt))
-higher_first_sizes (suc (suc flow)) live = let bad : false ≡ true = live in absurd (cc)
-
-higher_first_enters_0 : (s t : ℚ) → entered_in 0 s t higher_first.steps ≤ℚ whole 12000
-higher_first_enters_0 s t =
-    let one = when ((0 == 0) && within s t (whole 0)) (whole 12000) in
-    let one_most = at_most ((0 == 0) && within s t (whole 0)) 12000 in
-    let two = when ((1 == 0) && within s t (whole 0)) (whole 6000) in
-    let two_none = when_false ((1 == 0) && within s t (whole 0)) (whole 6000) refl in
-    with2 one two (λ c. omega (arith, c.le, c.lt, c.same))
-
-higher_first_enters_1 : (s t : ℚ) → entered_in 1 s t higher_first.steps ≤ℚ whole 6000
-higher_first_enters_1 s t =
-    let one = when ((0 == 1) && within s t (whole 0)) (whole 12000) in
-    let one_none = when_false ((0 == 1) && within s t (whole 0)) (whole 12000) refl in
-    let two = when ((1 == 1) && within s t (whole 0)) (whole 6000) in
-    let two_most = at_most ((1 == 1) && within s t (whole 0)) 6000 in
-    with2 one two (λ c. omega (arith, c.le, c.lt, c.same))
-
-higher_first_arrivals : (flow : ℕ) → (route_of net flow).live ≡ true → (s t : ℚ) → s ≤ℚ t
-    → Fin (entered_in flow s t higher_first.steps) ≤ₑ value_at (arrival two_priorities flow) (t -ℚ s)
-higher_first_arrivals zero live s t before =
-    bucket_covers 12000 0 (entered_in 0 s t higher_first.steps) s t before (higher_first_enters_0 s t)
-higher_first_arrivals (suc zero) live s t before =
-    bucket_covers 6000 0 (entered_in 1 s t higher_first.steps) s t before (higher_first_enters_1 s t)
-higher_first_arrivals (suc (suc flow)) live s t before = let bad : false ≡ true = live in absurd (cc)
-
-higher_first_sees : SeesTwo 60 120 12000 6000 (view net higher_first 0)
-higher_first_sees = record {
-  arrivals = λ x. both_arrive (when (true && lt_q (whole 0) x) (whole 12000)) (when (true && lt_q (whole 0) x) (whole 6000));
-  work = λ x. both_worked (when true (clip (first_span 60) x)) (when true (clip (second_span 60 120) x))
-      ∙ ap₂ (λ (y z : ℚ). y +ℚ z) (when_true true (clip (first_span 60) x) refl) (when_true true (clip (second_span 60 120) x) refl);
-}
-
-higher_first_service : (server : ℕ) → server < 1 → KeepsService (value_at (service two_priorities server)) (whole 190) (view net higher_first server)
-higher_first_service zero inside =
-    two_packets_keep 60 120 12000 6000 (value_at (service two_priorities 0)) (view net higher_first 0) (omega arith) (omega arith)
-    (service_is (whole 100) (whole 10) (nat_nonneg 100) (nat_nonneg 10)) higher_first_sees
-higher_first_service (suc server) inside = absurd (omega (arith, inside))
-
 pub higher_first_delay : HasDelay two_priorities higher_first 0 (whole 190)
 higher_first_delay = record {
-  is_run = record {
-    lawful = higher_first_lawful;
-    keeps = record { sizes = higher_first_sizes; arrivals = higher_first_arrivals; service = higher_first_service };
-  };
+  is_run = run_of_two (Priority 2) 1 0 0 0 higher_first first_before one_of_each_first record { bits = λ flow s t. refl; sizes = λ flow most h. h }
+      higher_first_lawful (keeps_late 60 120 12000 6000 (view net higher_first 0) (omega arith) (omega arith) higher_first_sees);
   its_delay = ap (λ (x : ℚ). x ∷ []) (with1 (whole 0) (λ c. omega (arith, c.le, c.lt, c.same)));
 }
 
@@ -121,23 +75,17 @@ higher_first_delay = record {
 lower_first_lawful : IsLawful net lower_first
 lower_first_lawful = record {
   allowed = (
-    enters 0 0 12000 0 0 190 record { in_turn = refl; is_live = refl; has_path = refl } (omega arith) refl refl
-        record { known_queue = omega arith; some_bits = omega arith },
+    enters 0 0 12000 0 0 190 record { in_turn = refl; is_live = refl; has_path = refl } (omega arith) refl refl record { known_queue = omega arith; some_bits = omega arith },
     (
-      works 0 0 0 0 0 130 12000 190 record { has_entered = omega arith; passes = inl refl } (omega arith) refl
-          refl refl tt refl refl refl,
+      works 0 0 0 0 0 130 12000 190 record { has_entered = omega arith; passes = inl refl } (omega arith) refl refl refl tt refl refl refl,
       (
-        enters 1 1 6000 0 0 190 record { in_turn = refl; is_live = refl; has_path = refl } (omega arith) refl refl
-            record { known_queue = omega arith; some_bits = omega arith },
+        enters 1 1 6000 0 0 190 record { in_turn = refl; is_live = refl; has_path = refl } (omega arith) refl refl record { known_queue = omega arith; some_bits = omega arith },
         (
-          leaves 0 0 0 130 190 record { has_entered = omega arith; passes = inl refl } (omega arith) refl refl
-              record { is_card = refl; worked_off = sum_t 0 12000; at_end = refl },
+          leaves 0 0 0 130 190 record { has_entered = omega arith; passes = inl refl } (omega arith) refl refl record { is_card = refl; worked_off = sum_t 0 12000; at_end = refl },
           (
-            works 0 1 130 130 130 190 6000 190 record { has_entered = omega arith; passes = inl refl } (omega arith) refl
-                refl refl tt refl refl refl,
+            works 0 1 130 130 130 190 6000 190 record { has_entered = omega arith; passes = inl refl } (omega arith) refl refl refl tt refl refl refl,
             (
-              leaves 0 1 130 190 190 record { has_entered = omega arith; passes = inl refl } (omega arith) refl refl
-                  record { is_card = refl; worked_off = sum_t 0 6000; at_end = refl },
+              leaves 0 1 130 190 190 record { has_entered = omega arith; passes = inl refl } (omega arith) refl refl record { is_card = refl; worked_off = sum_t 0 6000; at_end = refl },
               tt,
             ),
           ),
@@ -148,35 +96,6 @@ lower_first_lawful = record {
   none_complete = one_idle _ refl;
   none_overdue = none_due (whole 190);
 }
-
-lower_first_sizes : (flow : ℕ) → (route_of net flow).live ≡ true → EnterSizes flow (packet two_priorities flow) lower_first.steps
-lower_first_sizes zero live = (λ e. omega arith, (λ e. omega arith, tt))
-lower_first_sizes (suc zero) live = (λ e. omega (arith, e), (λ e. omega arith, tt))
-lower_first_sizes (suc (suc flow)) live = let bad : false ≡ true = live in absurd (cc)
-
-lower_first_enters_0 : (s t : ℚ) → entered_in 0 s t lower_first.steps ≤ℚ whole 12000
-lower_first_enters_0 s t =
-    let one = when ((0 == 0) && within s t (whole 0)) (whole 12000) in
-    let one_most = at_most ((0 == 0) && within s t (whole 0)) 12000 in
-    let two = when ((1 == 0) && within s t (whole 0)) (whole 6000) in
-    let two_none = when_false ((1 == 0) && within s t (whole 0)) (whole 6000) refl in
-    with2 one two (λ c. omega (arith, c.le, c.lt, c.same))
-
-lower_first_enters_1 : (s t : ℚ) → entered_in 1 s t lower_first.steps ≤ℚ whole 6000
-lower_first_enters_1 s t =
-    let one = when ((0 == 1) && within s t (whole 0)) (whole 12000) in
-    let one_none = when_false ((0 == 1) && within s t (whole 0)) (whole 12000) refl in
-    let two = when ((1 == 1) && within s t (whole 0)) (whole 6000) in
-    let two_most = at_most ((1 == 1) && within s t (whole 0)) 6000 in
-    with2 one two (λ c. omega (arith, c.le, c.lt, c.same))
-
-lower_first_arrivals : (flow : ℕ) → (route_of net flow).live ≡ true → (s t : ℚ) → s ≤ℚ t
-    → Fin (entered_in flow s t lower_first.steps) ≤ₑ value_at (arrival two_priorities flow) (t -ℚ s)
-lower_first_arrivals zero live s t before =
-    bucket_covers 12000 0 (entered_in 0 s t lower_first.steps) s t before (lower_first_enters_0 s t)
-lower_first_arrivals (suc zero) live s t before =
-    bucket_covers 6000 0 (entered_in 1 s t lower_first.steps) s t before (lower_first_enters_1 s t)
-lower_first_arrivals (suc (suc flow)) live s t before = let bad : false ≡ true = live in absurd (cc)
 
 -- the packet of the lower queue is worked on below the rate, and that of the higher one at the rate
 abbrev slow : Span
@@ -239,10 +158,10 @@ only_then = record {
     none : (x y a b u v : ℚ) → x ≡ a +ℚ b → y ≡ u +ℚ v → a ≡ whole 0 → b ≡ whole 0 → u ≡ whole 0 → v ≡ whole 0 → x ≤ℚ y
     none x y a b u v e f g h i j = with6 x y a b u v (λ c. omega (arith, c.le, c.lt, c.same))
 
-lower_first_service : (server : ℕ) → server < 1 → KeepsService (value_at (service two_priorities server)) (whole 190) (view net lower_first server)
-lower_first_service zero inside =
-    keeps_latency (whole 100) (whole 10) (whole 0) (whole 190) (whole 190) (value_at (service two_priorities 0)) (view net lower_first 0)
-    (service_at_most (whole 100) (whole 10) (whole 190 -ℚ whole 0) (value_at (service two_priorities 0))
+lower_first_service : KeepsService (value_at (rate_latency (whole 100) (whole 10))) (whole 190) (view net lower_first 0)
+lower_first_service =
+    keeps_latency (whole 100) (whole 10) (whole 0) (whole 190) (whole 190) (value_at (rate_latency (whole 100) (whole 10))) (view net lower_first 0)
+    (service_at_most (whole 100) (whole 10) (whole 190 -ℚ whole 0) (value_at (rate_latency (whole 100) (whole 10)))
     (service_is (whole 100) (whole 10) (nat_nonneg 100) (nat_nonneg 10)))
     only_then works_at_least
   where
@@ -253,13 +172,10 @@ lower_first_service zero inside =
         in_window a b (worked all (view net lower_first 0) a) (worked all (view net lower_first 0) b) low l high
         (done_at a low (with3 a b (whole 190) (λ c. omega (arith, c.le, c.lt, c.same))))
         (done_at b (with3 a b (whole 0) (λ c. omega (arith, c.le, c.lt, c.same))) high)
-lower_first_service (suc server) inside = absurd (omega (arith, inside))
 
 pub lower_first_delay : HasDelay two_priorities lower_first 1 (whole 190)
 lower_first_delay = record {
-  is_run = record {
-    lawful = lower_first_lawful;
-    keeps = record { sizes = lower_first_sizes; arrivals = lower_first_arrivals; service = lower_first_service };
-  };
+  is_run = run_of_two (Priority 2) 1 0 0 0 lower_first first_before one_of_each_first record { bits = λ flow s t. refl; sizes = λ flow most h. h }
+      lower_first_lawful lower_first_service;
   its_delay = ap (λ (x : ℚ). x ∷ []) (with1 (whole 0) (λ c. omega (arith, c.le, c.lt, c.same)));
 }

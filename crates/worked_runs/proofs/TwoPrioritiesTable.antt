@@ -1,8 +1,8 @@
 -- The table of two flows at a priority server, each of which sends one packet.
-use Rattle.std.specs.Prelude.{◌≡◌, ℕ, zero, suc, ◌+◌, ◌==◌, ◌&&◌, nat_lt, IsTrue, true, false, Option, Some, None, [], ◌∷◌}
+use Rattle.std.specs.Prelude.{ℕ, zero, suc, ◌+◌, ◌==◌, ◌&&◌, nat_lt, IsTrue, true, false, Option, Some, None, [], ◌∷◌}
 use Rattle.std.proofs.lemmas.Bool.{and_parts}
-use Rattle.std.proofs.Common.{refl, ap}
-use Rattle.upp_limits.specs.rational.specs.Extended.{Ext, min_ext}
+use Rattle.std.proofs.Common.{refl}
+use Rattle.upp_limits.specs.rational.specs.Extended.{Ext}
 use Rattle.upp_limits.specs.rational.specs.declared.Extended.TheVariants.{Fin}
 use Rattle.upp_limits.specs.rational.specs.Fractions.{same_parts}
 use Rattle.upp_limits.specs.min_plus.specs.Functions.{zero_q}
@@ -27,50 +27,50 @@ use Rattle.net_cells.specs.Meanings.{Meaning, curve, number, CellTable}
 use Rattle.worked_runs.specs.TwoPriorities.{two_priorities}
 use Rattle.worked_runs.proofs.Meanings.{by_number, of_one, of_left, of_horizontal, of_vertical, of_smaller, of_along, of_delayed, none_below, below_one, below_two, none_before, none_before_one, only_zero}
 use Rattle.worked_runs.proofs.Operators.{less_packet, alone_left, priority_made, delay_of, no_delay, backlog_of}
-use Rattle.worked_runs.proofs.Rows.{nothing, after_10, after_70, after_130, after_190, service, packets, no_link}
+use Rattle.worked_runs.proofs.Rows.{nothing, after_10, after_70, after_130, after_190, service, packets, no_link, lesser_same}
 use Rattle.worked_runs.proofs.Curves.{IsBurst, burst_by}
 
 -- ---- the values
-abbrev first_arrival : SpecCurve
-first_arrival = bucket (whole 12000) (whole 0)
+abbrev lower_arrival : SpecCurve
+lower_arrival = bucket (whole 12000) (whole 0)
 
-abbrev second_arrival : SpecCurve
-second_arrival = bucket (whole 6000) (whole 0)
+abbrev higher_arrival : SpecCurve
+higher_arrival = bucket (whole 6000) (whole 0)
 
--- the service of queue 1, in which the first flow is, and of queue 0; and in whole packets
-abbrev first_service : SpecCurve
-first_service = rate_latency (whole 100) (whole 70)
+-- the service of the lower queue, 1, in which the first flow is, and of the higher one; and in whole packets
+abbrev lower_service : SpecCurve
+lower_service = rate_latency (whole 100) (whole 70)
 
-abbrev second_service : SpecCurve
-second_service = packets
+abbrev higher_service : SpecCurve
+higher_service = packets
 
-abbrev first_packets : SpecCurve
-first_packets = rate_latency (whole 100) (whole 190)
+abbrev lower_packets : SpecCurve
+lower_packets = rate_latency (whole 100) (whole 190)
 
-abbrev second_packets : SpecCurve
-second_packets = first_packets
+abbrev higher_packets : SpecCurve
+higher_packets = lower_packets
 
-abbrev first_delay : Ext
-first_delay = Fin (whole 190)
+abbrev lower_delay : Ext
+lower_delay = Fin (whole 190)
 
-abbrev second_delay : Ext
-second_delay = Fin (whole 190)
+abbrev higher_delay : Ext
+higher_delay = Fin (whole 190)
 
 abbrev values : Kind → ℕ → ℕ → Option Meaning
-values In i k = Some (curve (by_number first_arrival second_arrival i))
+values In i k = Some (curve (by_number lower_arrival higher_arrival i))
 values Cross i k = Some (curve zero_curve)
-values Total s q = Some (curve (by_number second_arrival first_arrival q))
-values Higher s q = Some (curve (by_number zero_curve second_arrival q))
-values QueueService s q = Some (curve (by_number second_service first_service q))
+values Total s q = Some (curve (by_number higher_arrival lower_arrival q))
+values Higher s q = Some (curve (by_number zero_curve higher_arrival q))
+values QueueService s q = Some (curve (by_number higher_service lower_service q))
 values Theta i k = Some (number (Fin zero_q))
-values Residual i k = Some (curve (by_number first_service second_service i))
+values Residual i k = Some (curve (by_number lower_service higher_service i))
 values QueueDelay s q = Some (number (Fin (whole 190)))
 values QueueBacklog s q = Some (number (by_number (Fin (whole 6000)) (Fin (whole 12000)) q))
 values HopDelay i k = Some (number (Fin (whole 190)))
 values ShiftOut i k = None
 values DeconvOut i k = None
 values Out i k = None
-values PathService i b = Some (curve (by_number first_service second_service i))
+values PathService i b = Some (curve (by_number lower_service higher_service i))
 values Tfa i b = Some (number (Fin (whole 190)))
 values Sfa i b = Some (number (Fin (whole 190)))
 values Bound i b = Some (number (Fin (whole 190)))
@@ -79,84 +79,78 @@ abbrev pub table : CellTable
 table c = values c.kind c.a c.b
 
 -- ---- what the operators make
-first_burst : IsBurst (whole 12000) (whole 0)
+lower_burst : IsBurst (whole 12000) (whole 0)
 unfolding computing
-first_burst = burst_by (whole 12000) (whole 0) refl
+lower_burst = burst_by (whole 12000) (whole 0) refl
 
-second_burst : IsBurst (whole 6000) (whole 0)
+higher_burst : IsBurst (whole 6000) (whole 0)
 unfolding computing
-second_burst = burst_by (whole 6000) (whole 0) refl
+higher_burst = burst_by (whole 6000) (whole 0) refl
 
 -- behind the packet of the higher queue; behind one of the lower queue
-first_priority : IsPriorityCurve service second_arrival 0 first_service
+lower_priority : IsPriorityCurve service higher_arrival 0 lower_service
 unfolding computing
-first_priority =
-    priority_made (whole 100) (whole 10) (whole 70) (whole 70) second_arrival (whole 6000) 0 after_10 after_70 after_70
-    second_burst.is (le_t 10 70 refl) (same_parts _ _ refl refl) (le_t 70 70 refl) (same_parts _ _ refl refl)
+lower_priority =
+    priority_made (whole 100) (whole 10) (whole 70) (whole 70) higher_arrival (whole 6000) 0 after_10 after_70 after_70
+    higher_burst.is (le_t 10 70 refl) (same_parts _ _ refl refl) (le_t 70 70 refl) (same_parts _ _ refl refl)
 
-second_priority : IsPriorityCurve service zero_curve 12000 second_service
+higher_priority : IsPriorityCurve service zero_curve 12000 higher_service
 unfolding computing
-second_priority =
+higher_priority =
     priority_made (whole 100) (whole 10) (whole 10) (whole 130) zero_curve zero_q 12000 after_10 after_10 after_130
     nothing (le_t 10 10 refl) (same_parts _ _ refl refl) (le_t 10 130 refl) (same_parts _ _ refl refl)
 
-first_served : Means table (queue_service two_priorities 0 1 (Priority 2)) (curve first_service)
-first_served = record { operand = second_arrival; is = refl; gives = first_priority }
+lower_served : Means table (queue_service two_priorities 0 1 (Priority 2)) (curve lower_service)
+lower_served = record { operand = higher_arrival; is = refl; gives = lower_priority }
 
-second_served : Means table (queue_service two_priorities 0 0 (Priority 2)) (curve second_service)
-second_served = record { operand = zero_curve; is = refl; gives = second_priority }
+higher_served : Means table (queue_service two_priorities 0 0 (Priority 2)) (curve higher_service)
+higher_served = record { operand = zero_curve; is = refl; gives = higher_priority }
 
-first_delay_is : IsHorizontalDeviation (value_at first_arrival) (value_at first_service) first_delay
+lower_delay_is : IsHorizontalDeviation (value_at lower_arrival) (value_at lower_service) lower_delay
 unfolding computing
-first_delay_is =
-    delay_of (whole 12000) (whole 0) (whole 100) (whole 70) (whole 190) first_burst after_70 (le_t 0 100 refl)
+lower_delay_is =
+    delay_of (whole 12000) (whole 0) (whole 100) (whole 70) (whole 190) lower_burst after_70 (le_t 0 100 refl)
     (lt_t 0 12000 refl) (same_parts _ _ refl refl)
 
-second_delay_is : IsHorizontalDeviation (value_at second_arrival) (value_at second_service) second_delay
+higher_delay_is : IsHorizontalDeviation (value_at higher_arrival) (value_at higher_service) higher_delay
 unfolding computing
-second_delay_is =
-    delay_of (whole 6000) (whole 0) (whole 100) (whole 130) (whole 190) second_burst after_130 (le_t 0 100 refl)
+higher_delay_is =
+    delay_of (whole 6000) (whole 0) (whole 100) (whole 130) (whole 190) higher_burst after_130 (le_t 0 100 refl)
     (lt_t 0 6000 refl) (same_parts _ _ refl refl)
 
-first_whole : IsMadeBy (PosMinus (whole 12000)) first_service first_service first_packets
+lower_whole : IsMadeBy (PosMinus (whole 12000)) lower_service lower_service lower_packets
 unfolding computing
-first_whole =
+lower_whole =
     less_packet (whole 100) (whole 70) (whole 190) (whole 12000) after_70 after_190 (le_t 70 190 refl) (same_parts _ _ refl refl)
 
-second_whole : IsMadeBy (PosMinus (whole 6000)) second_service second_service second_packets
+higher_whole : IsMadeBy (PosMinus (whole 6000)) higher_service higher_service higher_packets
 unfolding computing
-second_whole =
+higher_whole =
     less_packet (whole 100) (whole 130) (whole 190) (whole 6000) after_130 after_190 (le_t 130 190 refl) (same_parts _ _ refl refl)
 
-first_backlog : IsVerticalDeviation (value_at first_arrival) (value_at first_packets) (Fin (whole 12000))
+lower_backlog : IsVerticalDeviation (value_at lower_arrival) (value_at lower_packets) (Fin (whole 12000))
 unfolding computing
-first_backlog =
-    backlog_of (whole 12000) (whole 0) (whole 100) (whole 190) (whole 12000) first_burst after_190 (le_t 0 100 refl)
+lower_backlog =
+    backlog_of (whole 12000) (whole 0) (whole 100) (whole 190) (whole 12000) lower_burst after_190 (le_t 0 100 refl)
     (same_parts _ _ refl refl)
 
-second_backlog : IsVerticalDeviation (value_at second_arrival) (value_at second_packets) (Fin (whole 6000))
+higher_backlog : IsVerticalDeviation (value_at higher_arrival) (value_at higher_packets) (Fin (whole 6000))
 unfolding computing
-second_backlog =
-    backlog_of (whole 6000) (whole 0) (whole 100) (whole 190) (whole 6000) second_burst after_190 (le_t 0 100 refl)
+higher_backlog =
+    backlog_of (whole 6000) (whole 0) (whole 100) (whole 190) (whole 6000) higher_burst after_190 (le_t 0 100 refl)
     (same_parts _ _ refl refl)
 
-first_theta : IsHorizontalDeviation (value_at zero_curve) (value_at first_service) (Fin zero_q)
-first_theta = no_delay (whole 100) (whole 70) after_70 nothing
+lower_theta : IsHorizontalDeviation (value_at zero_curve) (value_at lower_service) (Fin zero_q)
+lower_theta = no_delay (whole 100) (whole 70) after_70 nothing
 
-second_theta : IsHorizontalDeviation (value_at zero_curve) (value_at second_service) (Fin zero_q)
-second_theta = no_delay (whole 100) (whole 130) after_130 nothing
+higher_theta : IsHorizontalDeviation (value_at zero_curve) (value_at higher_service) (Fin zero_q)
+higher_theta = no_delay (whole 100) (whole 130) after_130 nothing
 
-first_rest : IsMadeBy (FifoLeft (Fin zero_q)) first_service zero_curve first_service
-first_rest = alone_left (whole 100) (whole 70) after_70 nothing
+lower_rest : IsMadeBy (FifoLeft (Fin zero_q)) lower_service zero_curve lower_service
+lower_rest = alone_left (whole 100) (whole 70) after_70 nothing
 
-second_rest : IsMadeBy (FifoLeft (Fin zero_q)) second_service zero_curve second_service
-second_rest = alone_left (whole 100) (whole 130) after_130 nothing
-
--- with no link; and the lesser of two
-
-least_first : min_ext first_delay first_delay ≡ first_delay
-unfolding computing
-least_first = ap Fin (same_parts _ _ refl refl)
+higher_rest : IsMadeBy (FifoLeft (Fin zero_q)) higher_service zero_curve higher_service
+higher_rest = alone_left (whole 100) (whole 130) after_130 nothing
 
 -- ---- the equations
 at_hop : (P : ℕ → ℕ → Type 0) → P 0 0 → P 1 0 → (a b : ℕ) → IsTrue (nat_lt b (hops two_priorities a)) → P a b
@@ -187,50 +181,50 @@ Meets kind a b = MeetsEquation two_priorities table (cell_of kind a b)
 
 meets_at : (kind : Kind) (a b : ℕ) → IsTrue (has_cell two_priorities (cell_of kind a b)) → Meets kind a b
 meets_at In a b h = at_hop (Meets In)
-    record { value = curve first_arrival; is = refl; means = refl }
-    record { value = curve second_arrival; is = refl; means = refl } a b h
+    record { value = curve lower_arrival; is = refl; means = refl }
+    record { value = curve higher_arrival; is = refl; means = refl } a b h
 meets_at Cross a b h = at_hop (Meets Cross)
     record { value = curve zero_curve; is = refl; means = refl }
     record { value = curve zero_curve; is = refl; means = refl } a b h
 meets_at Total a b h = at_queue (Meets Total)
-    record { value = curve second_arrival; is = refl; means = refl }
-    record { value = curve first_arrival; is = refl; means = refl } a b h
+    record { value = curve higher_arrival; is = refl; means = refl }
+    record { value = curve lower_arrival; is = refl; means = refl } a b h
 meets_at Higher a b h = at_level (Meets Higher)
     record { value = curve zero_curve; is = refl; means = refl }
-    record { value = curve second_arrival; is = refl; means = refl } a b h
+    record { value = curve higher_arrival; is = refl; means = refl } a b h
 meets_at QueueService a b h = at_queue (Meets QueueService)
-    record { value = curve second_service; is = refl; means = second_served }
-    record { value = curve first_service; is = refl; means = first_served } a b h
+    record { value = curve higher_service; is = refl; means = higher_served }
+    record { value = curve lower_service; is = refl; means = lower_served } a b h
 meets_at Theta a b h = at_hop (Meets Theta)
-    record { value = number (Fin zero_q); is = refl; means = of_horizontal table (value Cross 0 0) (value QueueService 0 1) zero_curve first_service (Fin zero_q) refl refl first_theta }
-    record { value = number (Fin zero_q); is = refl; means = of_horizontal table (value Cross 1 0) (value QueueService 0 0) zero_curve second_service (Fin zero_q) refl refl second_theta } a b h
+    record { value = number (Fin zero_q); is = refl; means = of_horizontal table (value Cross 0 0) (value QueueService 0 1) zero_curve lower_service (Fin zero_q) refl refl lower_theta }
+    record { value = number (Fin zero_q); is = refl; means = of_horizontal table (value Cross 1 0) (value QueueService 0 0) zero_curve higher_service (Fin zero_q) refl refl higher_theta } a b h
 meets_at Residual a b h = at_hop (Meets Residual)
-    record { value = curve first_service; is = refl; means = of_left table (value QueueService 0 1) (value Cross 0 0) (value Theta 0 0) first_service zero_curve first_service (Fin zero_q) refl refl refl first_rest }
-    record { value = curve second_service; is = refl; means = of_left table (value QueueService 0 0) (value Cross 1 0) (value Theta 1 0) second_service zero_curve second_service (Fin zero_q) refl refl refl second_rest } a b h
+    record { value = curve lower_service; is = refl; means = of_left table (value QueueService 0 1) (value Cross 0 0) (value Theta 0 0) lower_service zero_curve lower_service (Fin zero_q) refl refl refl lower_rest }
+    record { value = curve higher_service; is = refl; means = of_left table (value QueueService 0 0) (value Cross 1 0) (value Theta 1 0) higher_service zero_curve higher_service (Fin zero_q) refl refl refl higher_rest } a b h
 meets_at QueueDelay a b h = at_queue (Meets QueueDelay)
-    record { value = number second_delay; is = refl; means = of_horizontal table (value Total 0 0) (value QueueService 0 0) second_arrival second_service second_delay refl refl second_delay_is }
-    record { value = number first_delay; is = refl; means = of_horizontal table (value Total 0 1) (value QueueService 0 1) first_arrival first_service first_delay refl refl first_delay_is } a b h
+    record { value = number higher_delay; is = refl; means = of_horizontal table (value Total 0 0) (value QueueService 0 0) higher_arrival higher_service higher_delay refl refl higher_delay_is }
+    record { value = number lower_delay; is = refl; means = of_horizontal table (value Total 0 1) (value QueueService 0 1) lower_arrival lower_service lower_delay refl refl lower_delay_is } a b h
 meets_at QueueBacklog a b h = at_queue (Meets QueueBacklog)
-    record { value = number (Fin (whole 6000)); is = refl; means = of_vertical table (value Total 0 0) (less (value QueueService 0 0) 6000) second_arrival second_packets (Fin (whole 6000)) refl (of_one table (PosMinus (whole 6000)) (value QueueService 0 0) second_service second_packets refl second_whole) second_backlog }
-    record { value = number (Fin (whole 12000)); is = refl; means = of_vertical table (value Total 0 1) (less (value QueueService 0 1) 12000) first_arrival first_packets (Fin (whole 12000)) refl (of_one table (PosMinus (whole 12000)) (value QueueService 0 1) first_service first_packets refl first_whole) first_backlog } a b h
+    record { value = number (Fin (whole 6000)); is = refl; means = of_vertical table (value Total 0 0) (less (value QueueService 0 0) 6000) higher_arrival higher_packets (Fin (whole 6000)) refl (of_one table (PosMinus (whole 6000)) (value QueueService 0 0) higher_service higher_packets refl higher_whole) higher_backlog }
+    record { value = number (Fin (whole 12000)); is = refl; means = of_vertical table (value Total 0 1) (less (value QueueService 0 1) 12000) lower_arrival lower_packets (Fin (whole 12000)) refl (of_one table (PosMinus (whole 12000)) (value QueueService 0 1) lower_service lower_packets refl lower_whole) lower_backlog } a b h
 meets_at HopDelay a b h = at_hop (Meets HopDelay)
-    record { value = number first_delay; is = refl; means = of_smaller table (value QueueDelay 0 1) (horizontal (value In 0 0) (value Residual 0 0)) first_delay first_delay first_delay refl (of_horizontal table (value In 0 0) (value Residual 0 0) first_arrival first_service first_delay refl refl first_delay_is) least_first }
-    record { value = number second_delay; is = refl; means = of_smaller table (value QueueDelay 0 0) (horizontal (value In 1 0) (value Residual 1 0)) second_delay second_delay second_delay refl (of_horizontal table (value In 1 0) (value Residual 1 0) second_arrival second_service second_delay refl refl second_delay_is) least_first } a b h
+    record { value = number lower_delay; is = refl; means = of_smaller table (value QueueDelay 0 1) (horizontal (value In 0 0) (value Residual 0 0)) lower_delay lower_delay lower_delay refl (of_horizontal table (value In 0 0) (value Residual 0 0) lower_arrival lower_service lower_delay refl refl lower_delay_is) (lesser_same lower_delay) }
+    record { value = number higher_delay; is = refl; means = of_smaller table (value QueueDelay 0 0) (horizontal (value In 1 0) (value Residual 1 0)) higher_delay higher_delay higher_delay refl (of_horizontal table (value In 1 0) (value Residual 1 0) higher_arrival higher_service higher_delay refl refl higher_delay_is) (lesser_same higher_delay) } a b h
 meets_at ShiftOut a b h = before_hop (Meets ShiftOut) a b h
 meets_at DeconvOut a b h = before_hop (Meets DeconvOut) a b h
 meets_at Out a b h = before_hop (Meets Out) a b h
 meets_at PathService a b h = at_path (Meets PathService)
-    record { value = curve first_service; is = refl; means = refl }
-    record { value = curve second_service; is = refl; means = refl } a b h
+    record { value = curve lower_service; is = refl; means = refl }
+    record { value = curve higher_service; is = refl; means = refl } a b h
 meets_at Tfa a b h = at_path (Meets Tfa)
-    record { value = number first_delay; is = refl; means = of_along table (cell_of HopDelay 0 0 ∷ []) (whole 0 ∷ []) (first_delay ∷ []) first_delay (refl, tt) (no_link first_delay) }
-    record { value = number second_delay; is = refl; means = of_along table (cell_of HopDelay 1 0 ∷ []) (whole 0 ∷ []) (second_delay ∷ []) second_delay (refl, tt) (no_link first_delay) } a b h
+    record { value = number lower_delay; is = refl; means = of_along table (cell_of HopDelay 0 0 ∷ []) (whole 0 ∷ []) (lower_delay ∷ []) lower_delay (refl, tt) (no_link lower_delay) }
+    record { value = number higher_delay; is = refl; means = of_along table (cell_of HopDelay 1 0 ∷ []) (whole 0 ∷ []) (higher_delay ∷ []) higher_delay (refl, tt) (no_link lower_delay) } a b h
 meets_at Sfa a b h = at_path (Meets Sfa)
-    record { value = number first_delay; is = refl; means = of_delayed table (horizontal (value In 0 0) (value PathService 0 0)) (whole 0 ∷ []) first_delay first_delay (of_horizontal table (value In 0 0) (value PathService 0 0) first_arrival first_service first_delay refl refl first_delay_is) (no_link first_delay) }
-    record { value = number second_delay; is = refl; means = of_delayed table (horizontal (value In 1 0) (value PathService 1 0)) (whole 0 ∷ []) second_delay second_delay (of_horizontal table (value In 1 0) (value PathService 1 0) second_arrival second_service second_delay refl refl second_delay_is) (no_link first_delay) } a b h
+    record { value = number lower_delay; is = refl; means = of_delayed table (horizontal (value In 0 0) (value PathService 0 0)) (whole 0 ∷ []) lower_delay lower_delay (of_horizontal table (value In 0 0) (value PathService 0 0) lower_arrival lower_service lower_delay refl refl lower_delay_is) (no_link lower_delay) }
+    record { value = number higher_delay; is = refl; means = of_delayed table (horizontal (value In 1 0) (value PathService 1 0)) (whole 0 ∷ []) higher_delay higher_delay (of_horizontal table (value In 1 0) (value PathService 1 0) higher_arrival higher_service higher_delay refl refl higher_delay_is) (no_link lower_delay) } a b h
 meets_at Bound a b h = at_path (Meets Bound)
-    record { value = number first_delay; is = refl; means = of_smaller table (value Tfa 0 0) (value Sfa 0 0) first_delay first_delay first_delay refl refl least_first }
-    record { value = number second_delay; is = refl; means = of_smaller table (value Tfa 1 0) (value Sfa 1 0) second_delay second_delay second_delay refl refl least_first } a b h
+    record { value = number lower_delay; is = refl; means = of_smaller table (value Tfa 0 0) (value Sfa 0 0) lower_delay lower_delay lower_delay refl refl (lesser_same lower_delay) }
+    record { value = number higher_delay; is = refl; means = of_smaller table (value Tfa 1 0) (value Sfa 1 0) higher_delay higher_delay higher_delay refl refl (lesser_same higher_delay) } a b h
 
 pub meets : MeetsEquations two_priorities table
 meets c h = meets_at c.kind c.a c.b h

@@ -1,17 +1,15 @@
 -- Two flows at a deficit round robin server stay below their bounds.
-use Rattle.std.specs.Prelude.{All, Contains, codes}
-use Rattle.std.proofs.Common.{◌≡◌, ◌≢◌, zero, suc, [], ◌∷◌, length, Some, refl, subst, arith, inl, inr}
-use Rattle.std.proofs.lemmas.Option.{same_Some}
+use Rattle.std.specs.Prelude.{All, codes}
+use Rattle.std.proofs.Common.{zero, suc, [], ◌∷◌, refl, arith}
 use Rattle.net_model.specs.run_laws.specs.Cards.{whole}
 use Rattle.net_model.specs.run_laws.specs.Servers.{Drr}
 use Rattle.net_model.specs.Accepted.{IsLength, IsServer, IsFlow, IsAccepted}
-use Rattle.net_model.specs.Names.{DifferInName}
 use Rattle.net_model.specs.Networks.{NetServer, NetFlow}
 use Rattle.net_model.specs.Orders.{IsOrder}
-use Rattle.net_model.proofs.Short.{no_pairs, one_pair, alone, one_of_two, named_by_two}
+use Rattle.net_model.proofs.Short.{named_by_two}
 use Rattle.worked_runs.specs.Parts.{late_server, first_flow, bucket_flow}
 use Rattle.worked_runs.specs.TwoQuanta.{two_quanta, TwoQuantaStayBelowTheirBounds}
-use Rattle.worked_runs.proofs.Accepting.{ends_apart, is_late_server, is_one_hop_flow, one_server_order}
+use Rattle.worked_runs.proofs.Accepting.{ends_apart, is_late_server, is_one_hop_flow, two_accepted, two_ordered}
 use Rattle.worked_runs.proofs.Reaching.{bound_by}
 use Rattle.worked_runs.proofs.TwoQuantaTable.{table, meets}
 use Rattle.worked_runs.proofs.TwoQuantaRuns.{first_flow_last_delay, second_flow_last_delay}
@@ -39,28 +37,11 @@ is_second : IsFlow two_quanta.servers second
 is_second = is_one_hop_flow two_quanta.servers (codes "f2") 1 6000 5 (named_by_two 102 50 refl refl) (omega arith) (omega arith)
     record { server = its_server; is = refl; has_queue = omega arith; takes = omega arith }
 
--- what holds of both flows holds of each
-of_both : (P : NetFlow → Type 0) → P first_flow → P second → (f : NetFlow) → Contains two_quanta.flows (Some f) → P f
-of_both P p q f has = elim (one_of_two (Some first_flow) (Some second) (Some f) has) [
-  | inl e ↦ subst P (same_Some first_flow f e) p
-  | inr e ↦ subst P (same_Some second f e) q
-]
-
 accepted : IsAccepted two_quanta
-accepted = record {
-  version = (omega arith, omega arith);
-  few_servers = omega arith;
-  few_flows = omega arith;
-  names = (
-    no_pairs (λ s t. s.name ≢ t.name) its_server,
-    one_pair DifferInName (Some first_flow) (Some second) (ends_apart 102 49 102 50 (omega arith)),
-  );
-  servers = λ s has. subst IsServer (alone its_server s has) is_server;
-  flows = of_both (IsFlow two_quanta.servers) is_first is_second;
-}
+accepted = two_accepted its_server first_flow second is_server is_first is_second (ends_apart 102 49 102 50 (omega arith))
 
 ordered : IsOrder two_quanta (0 ∷ [])
-ordered = one_server_order two_quanta refl (of_both (λ f. length f.path ≡ 1) refl refl)
+ordered = two_ordered its_server first_flow second refl refl
 
 pub two_quanta_stay_below_their_bounds : TwoQuantaStayBelowTheirBounds
 two_quanta_stay_below_their_bounds = record {

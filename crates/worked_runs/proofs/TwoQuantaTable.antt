@@ -1,8 +1,8 @@
 -- The table of two flows at a deficit round robin server.
-use Rattle.std.specs.Prelude.{pos, ◌≡◌, ℕ, zero, suc, ◌+◌, ◌==◌, ◌&&◌, nat_lt, IsTrue, true, false, Option, Some, None, [], ◌∷◌}
+use Rattle.std.specs.Prelude.{pos, ℕ, zero, suc, ◌+◌, ◌==◌, ◌&&◌, nat_lt, IsTrue, true, false, Option, Some, None, [], ◌∷◌}
 use Rattle.std.proofs.lemmas.Bool.{and_parts}
-use Rattle.std.proofs.Common.{refl, ap}
-use Rattle.upp_limits.specs.rational.specs.Extended.{Ext, min_ext}
+use Rattle.std.proofs.Common.{refl}
+use Rattle.upp_limits.specs.rational.specs.Extended.{Ext}
 use Rattle.upp_limits.specs.rational.specs.declared.Extended.TheVariants.{Fin}
 use Rattle.upp_limits.specs.rational.specs.Rational.{frac}
 use Rattle.upp_limits.specs.rational.proofs.Over.{le_q_in}
@@ -29,7 +29,7 @@ use Rattle.net_cells.specs.Meanings.{Meaning, curve, number, CellTable}
 use Rattle.worked_runs.specs.TwoQuanta.{two_quanta}
 use Rattle.worked_runs.proofs.Meanings.{by_number, of_one, of_left, of_horizontal, of_vertical, of_smaller, of_along, of_delayed, none_below, below_one, below_two, none_before, none_before_one, only_zero}
 use Rattle.worked_runs.proofs.Operators.{less_packet, alone_left, share_left, delay_of, no_delay, backlog_of}
-use Rattle.worked_runs.proofs.Rows.{nothing, after_10, burst_12000, burst_6000, service, first_arrival, second_arrival, no_link}
+use Rattle.worked_runs.proofs.Rows.{nothing, after_10, burst_12000, burst_6000, service, first_arrival, second_arrival, no_link, lesser_same}
 use Rattle.worked_runs.proofs.Curves.{IsLate, late_by}
 
 -- ---- the values
@@ -156,16 +156,6 @@ first_rest = alone_left (frac (pos 200) 2) (whole 190) first_late nothing
 second_rest : IsMadeBy (FifoLeft (Fin zero_q)) second_service zero_curve second_service
 second_rest = alone_left (frac (pos 100) 2) (whole 370) second_late nothing
 
--- with no link; and the lesser of two
-
-least_first : min_ext first_delay first_delay ≡ first_delay
-unfolding computing
-least_first = ap Fin (same_parts _ _ refl refl)
-
-least_second : min_ext second_delay second_delay ≡ second_delay
-unfolding computing
-least_second = ap Fin (same_parts _ _ refl refl)
-
 -- ---- the equations
 at_hop : (P : ℕ → ℕ → Type 0) → P 0 0 → P 1 0 → (a b : ℕ) → IsTrue (nat_lt b (hops two_quanta a)) → P a b
 at_hop P p q zero b h = below_one (P 0) p b h
@@ -220,8 +210,8 @@ meets_at QueueBacklog a b h = at_queue (Meets QueueBacklog)
     record { value = number (Fin (whole 15700)); is = refl; means = of_vertical table (value Total 0 0) (less (value QueueService 0 0) 12000) first_arrival first_packets (Fin (whole 15700)) refl (of_one table (PosMinus (whole 12000)) (value QueueService 0 0) first_service first_packets refl first_whole) first_backlog }
     record { value = number (Fin (whole 8750)); is = refl; means = of_vertical table (value Total 0 1) (less (value QueueService 0 1) 6000) second_arrival second_packets (Fin (whole 8750)) refl (of_one table (PosMinus (whole 6000)) (value QueueService 0 1) second_service second_packets refl second_whole) second_backlog } a b h
 meets_at HopDelay a b h = at_hop (Meets HopDelay)
-    record { value = number first_delay; is = refl; means = of_smaller table (value QueueDelay 0 0) (horizontal (value In 0 0) (value Residual 0 0)) first_delay first_delay first_delay refl (of_horizontal table (value In 0 0) (value Residual 0 0) first_arrival first_service first_delay refl refl first_delay_is) least_first }
-    record { value = number second_delay; is = refl; means = of_smaller table (value QueueDelay 0 1) (horizontal (value In 1 0) (value Residual 1 0)) second_delay second_delay second_delay refl (of_horizontal table (value In 1 0) (value Residual 1 0) second_arrival second_service second_delay refl refl second_delay_is) least_second } a b h
+    record { value = number first_delay; is = refl; means = of_smaller table (value QueueDelay 0 0) (horizontal (value In 0 0) (value Residual 0 0)) first_delay first_delay first_delay refl (of_horizontal table (value In 0 0) (value Residual 0 0) first_arrival first_service first_delay refl refl first_delay_is) (lesser_same first_delay) }
+    record { value = number second_delay; is = refl; means = of_smaller table (value QueueDelay 0 1) (horizontal (value In 1 0) (value Residual 1 0)) second_delay second_delay second_delay refl (of_horizontal table (value In 1 0) (value Residual 1 0) second_arrival second_service second_delay refl refl second_delay_is) (lesser_same second_delay) } a b h
 meets_at ShiftOut a b h = before_hop (Meets ShiftOut) a b h
 meets_at DeconvOut a b h = before_hop (Meets DeconvOut) a b h
 meets_at Out a b h = before_hop (Meets Out) a b h
@@ -235,8 +225,8 @@ meets_at Sfa a b h = at_path (Meets Sfa)
     record { value = number first_delay; is = refl; means = of_delayed table (horizontal (value In 0 0) (value PathService 0 0)) (whole 0 ∷ []) first_delay first_delay (of_horizontal table (value In 0 0) (value PathService 0 0) first_arrival first_service first_delay refl refl first_delay_is) (no_link first_delay) }
     record { value = number second_delay; is = refl; means = of_delayed table (horizontal (value In 1 0) (value PathService 1 0)) (whole 0 ∷ []) second_delay second_delay (of_horizontal table (value In 1 0) (value PathService 1 0) second_arrival second_service second_delay refl refl second_delay_is) (no_link second_delay) } a b h
 meets_at Bound a b h = at_path (Meets Bound)
-    record { value = number first_delay; is = refl; means = of_smaller table (value Tfa 0 0) (value Sfa 0 0) first_delay first_delay first_delay refl refl least_first }
-    record { value = number second_delay; is = refl; means = of_smaller table (value Tfa 1 0) (value Sfa 1 0) second_delay second_delay second_delay refl refl least_second } a b h
+    record { value = number first_delay; is = refl; means = of_smaller table (value Tfa 0 0) (value Sfa 0 0) first_delay first_delay first_delay refl refl (lesser_same first_delay) }
+    record { value = number second_delay; is = refl; means = of_smaller table (value Tfa 1 0) (value Sfa 1 0) second_delay second_delay second_delay refl refl (lesser_same second_delay) } a b h
 
 pub meets : MeetsEquations two_quanta table
 meets c h = meets_at c.kind c.a c.b h

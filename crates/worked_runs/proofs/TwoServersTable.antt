@@ -27,7 +27,7 @@ use Rattle.net_cells.specs.Meanings.{Meaning, curve, number, CellTable}
 use Rattle.worked_runs.specs.TwoServers.{two_servers}
 use Rattle.worked_runs.proofs.Meanings.{by_number, of_one, of_two, of_move, of_left, of_horizontal, of_vertical, of_smaller, of_along, of_delayed, none_below, below_one, below_two, none_before, before_two, only_zero}
 use Rattle.worked_runs.proofs.Operators.{bucket_least, bucket_shift, bucket_output, services_convolve, delay_of, no_delay, backlog_of}
-use Rattle.worked_runs.proofs.Rows.{nothing, after_10, after_130, burst_12000, service, packets, first_arrival, whole_packets, alone, first_delay_is, first_backlog_is}
+use Rattle.worked_runs.proofs.Rows.{nothing, after_10, after_130, burst_12000, service, packets, first_arrival, whole_packets, alone, first_delay_is, first_backlog_is, lesser_same}
 use Rattle.worked_runs.proofs.Curves.{IsBurst, burst_by, IsLate, late_by}
 
 -- ---- the values
@@ -120,14 +120,6 @@ by_service : sum_of_numbers (Fin (whole 260) ∷ Fin (whole 5) ∷ Fin (whole 5)
 unfolding computing
 by_service = ap Fin (same_parts _ _ refl refl)
 
-least_first : min_ext first_delay first_delay ≡ first_delay
-unfolding computing
-least_first = ap Fin (same_parts _ _ refl refl)
-
-least_second : min_ext second_delay second_delay ≡ second_delay
-unfolding computing
-least_second = ap Fin (same_parts _ _ refl refl)
-
 least : min_ext (Fin (whole 283)) (Fin (whole 270)) ≡ Fin (whole 270)
 unfolding computing
 least = ap Fin (same_parts _ _ refl refl)
@@ -209,13 +201,13 @@ meets_at HopDelay a b h = at_hop (Meets HopDelay) record {
   is = refl;
   means = of_smaller table (value QueueDelay 0 0) (horizontal (value In 0 0) (value Residual 0 0)) first_delay first_delay
       first_delay refl
-      (of_horizontal table (value In 0 0) (value Residual 0 0) first_arrival service first_delay refl refl first_delay_is) least_first;
+      (of_horizontal table (value In 0 0) (value Residual 0 0) first_arrival service first_delay refl refl first_delay_is) (lesser_same first_delay);
 } record {
   value = number second_delay;
   is = refl;
   means = of_smaller table (value QueueDelay 1 0) (horizontal (value In 0 1) (value Residual 0 1)) second_delay second_delay
       second_delay refl
-      (of_horizontal table (value In 0 1) (value Residual 0 1) output service second_delay refl refl delay_at_second) least_second;
+      (of_horizontal table (value In 0 1) (value Residual 0 1) output service second_delay refl refl delay_at_second) (lesser_same second_delay);
 } a b h
 meets_at ShiftOut a b h = before_hop (Meets ShiftOut) record {
   value = curve output;
