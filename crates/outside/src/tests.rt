@@ -1,72 +1,11 @@
 use super::*;
-use std::alloc::Global;
 use std::cell::Cell;
 use std::test::Fail;
 use std::time::{SystemTime, UNIX_EPOCH};
 use std::{fmt, fs, io};
 
-/// The most bytes that these tests ask for.
+/// The most bytes that the test of real files asks for.
 const MOST_BYTES: usize = 1_048_576;
-
-/// Files of these names, and one more byte than a file may have under `long`.
-fn files(alloc: Global, named: &[(&str, &[u8])]) -> Result<Vec<(String, Vec<u8>)>, Fail> {
-    let mut all = Vec::new(alloc);
-    for (name, bytes) in named {
-        all.push((
-            String::from_str(alloc, name)?,
-            Vec::from_slice(alloc, bytes)?,
-        ))?;
-    }
-    let long = vec![in alloc; 120u8; MOST_BYTES + 1]?;
-    all.push((String::from_str(alloc, "long")?, long))?;
-    all.push((
-        String::from_str(alloc, "full")?,
-        vec![in alloc; 120u8; MOST_BYTES]?,
-    ))?;
-    Ok(all)
-}
-
-#[test]
-fn files_in_memory_answer_and_fail_as_told(rt: HostRuntime) -> Result<(), Fail> {
-    let alloc = rt.alloc();
-    let held: [(&str, &[u8]); 3] = [("a", b"first"), ("a", b"second"), ("empty", b"")];
-    let mut inputs = MemInputs::new(files(alloc, &held)?, vec![in alloc; 1u32, 3]?);
-    let mut into = Vec::from_slice(alloc, b"left over")?;
-    for (name, answer, first, count) in [
-        ("a", Ok(()), b"first".as_slice(), 5),
-        ("a", Err(FetchFault::Failed), b"".as_slice(), 0),
-        ("none", Err(FetchFault::Failed), b"".as_slice(), 0),
-        ("a", Err(FetchFault::Failed), b"".as_slice(), 0),
-        ("long", Err(FetchFault::TooLong), b"".as_slice(), 0),
-        ("full", Ok(()), b"xxxx".as_slice(), MOST_BYTES),
-        ("empty", Ok(()), b"".as_slice(), 0),
-        ("a", Ok(()), b"first".as_slice(), 5),
-    ] {
-        assert_eq!(rt; inputs.fetch(name, MOST_BYTES, &mut into), answer, "{name}");
-        assert_eq!(rt; into.len(), count, "{name}");
-        assert!(rt; into.starts_with(first), "{name}");
-    }
-    Ok(())
-}
-
-#[test]
-fn a_sink_in_memory_fails_as_told_and_at_its_room(rt: HostRuntime) -> Result<(), Fail> {
-    let alloc = rt.alloc();
-    let mut out = MemSink::new(vec![in alloc; 1u32]?)?;
-    let most = vec![in alloc; 120u8; SINK_BYTES - 2]?;
-    for (bytes, answer, count) in [
-        (b"ab".as_slice(), Ok(()), 2),
-        (b"cd".as_slice(), Err(PutFault::Failed), 2),
-        (most.as_slice(), Ok(()), SINK_BYTES),
-        (b"e".as_slice(), Err(PutFault::Failed), SINK_BYTES),
-        (b"".as_slice(), Ok(()), SINK_BYTES),
-    ] {
-        assert_eq!(rt; out.put(bytes), answer, "up to {count}");
-        assert_eq!(rt; out.bytes().len(), count);
-        assert!(rt; out.bytes().starts_with(b"ab"));
-    }
-    Ok(())
-}
 
 #[test]
 fn real_files_are_read_whole_or_refused(rt: HostRuntime) -> Result<(), Fail> {
