@@ -1,4 +1,4 @@
--- Two refusals of one file are the same, but for the choice among cycles; and what a file with a refusal does not give.
+-- Two refusals of one file have one status, and one text unless it tells a cycle; and what a file with a refusal does not give.
 use Rattle.std.proofs.Common.{◌≡◌, ℕ, List, inl, inr, sym, ap, ◌∙◌}
 use Rattle.upp_limits.specs.LimitTest.{fault_of}
 use Rattle.upp_limits.specs.declared.own_limits.OverLimit.{OverLimit}

@@ -1,5 +1,5 @@
--- Two replies of a command on the same files are one: by the law that they are alike but for the choice among cycles, and
--- since what is told of a cycle is one thing.
+-- Two replies of a command on the same files are one: they have one status, and one text unless it tells a cycle; and of
+-- several cycles one is told.
 use Rattle.std.proofs.Common.{◌≡◌, ◌⊎◌, arith, ℕ, List, [], ◌∷◌, Option, Some, IfSome, inl, inr, sym, ap, ap₂, ◌∙◌, subst}
 use Rattle.std.proofs.lemmas.Bool.{cases_eq}
 use Rattle.outside.specs.Written.{Output, PutsWhole}

@@ -86,7 +86,7 @@ IsReplyTo (Measure net trace name rate) (bytes ∷ rows ∷ []) reply = IsMeasur
 IsReplyTo (Curve script) (bytes ∷ []) reply = IsScriptReply script bytes reply
 IsReplyTo command files reply = ⊥
 
--- two such replies on the same files: one status, and one text but for the choice among cycles
+-- two such replies on the same files: one status, and one text unless it tells a cycle (by `RepliesAreDetermined` then, too)
 abbrev pub AreSameTo : Command → Reply → Reply → Type 0
 AreSameTo (Analyse form net) x y = AreSame x y
 AreSameTo (Edit form net edits) x y = edit_laws.AreAlike form x y

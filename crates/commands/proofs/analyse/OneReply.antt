@@ -1,4 +1,4 @@
--- Two replies on one file are the same, but for the choice among cycles; within the limits they are reports.
+-- Two replies on one file have one status, and one text unless it tells a cycle; within the limits they are reports.
 use Rattle.std.proofs.Common.{◌≡◌, ℕ, List, sym, ap, ◌∙◌}
 use Rattle.net_model.specs.Accepted.{IsAccepted}
 use Rattle.net_model.specs.Networks.{Net}

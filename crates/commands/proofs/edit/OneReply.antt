@@ -1,4 +1,4 @@
--- Two replies on the same files are the same, but for the choice among cycles.
+-- Two replies on the same files have one status, and one text unless it tells a cycle.
 use Rattle.std.proofs.Common.{◌≡◌, ℕ, List, [], ◌∷◌, map, inl, inr, sym, ap, ◌∙◌, subst}
 use Rattle.net_model.specs.declared.edit.Edit.{Edit}
 use Rattle.net_model.specs.Accepted.{IsAccepted}

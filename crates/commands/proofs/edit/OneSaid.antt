@@ -1,4 +1,4 @@
--- What is said of an edit is one thing, but for the choice among cycles.
+-- What is said of an edit is one thing, unless it tells a cycle.
 use Rattle.std.proofs.Common.{◌≡◌, ◌⊎◌, ℕ, ◌++◌, List, length, Option, Some, None, inl, inr, sym, ap, ◌∙◌, subst}
 use Rattle.std.specs.Prelude.{Ok, Err, codes, string_bytes}
 use Rattle.upp_limits.specs.LimitTest.{fault_of}

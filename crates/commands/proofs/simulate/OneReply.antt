@@ -1,4 +1,4 @@
--- Two replies on the same files are the same, but for the choice among cycles; within the limits they are reports.
+-- Two replies on the same files have one status, and one text unless it tells a cycle; within the limits they are reports.
 use Rattle.std.proofs.Common.{ℕ, List}
 use Rattle.net_model.specs.Accepted.{IsAccepted}
 use Rattle.net_model.specs.Networks.{Net}

@@ -19,7 +19,7 @@ use Rattle.command_replies.specs.OnFiles.{IsBroken, IsOverLimit, HasCycle}
 use Rattle.command_replies.specs.Replies.{Reply, AreSame}
 use Rattle.commands.specs.analyse.OnFiles.{IsReport, IsReplyOn}
 
--- status and text are determined by the file and the form, but for the choice among cycles
+-- the file and the form determine the status, and the text unless it tells a cycle
 abbrev pub RepliesAreDetermined : Type 0
 RepliesAreDetermined =
     (form : Form) (file bytes : List ℕ) (x y : Reply) → IsReplyOn form file bytes x → IsReplyOn form file bytes y

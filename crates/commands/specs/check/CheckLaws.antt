@@ -79,7 +79,7 @@ StatusesHaveCauses =
     (net_file net_bytes run_file run_bytes : List ℕ) (reply : Reply)
     → IsCheckReply net_file net_bytes run_file run_bytes reply → HasCause net_file net_bytes run_file run_bytes reply
 
--- status and text are determined by the files, but for the choice among cycles
+-- the files determine the status, and the text unless it tells a cycle
 abbrev pub RepliesAreDetermined : Type 0
 RepliesAreDetermined =
     (net_file net_bytes run_file run_bytes : List ℕ) (x y : Reply)

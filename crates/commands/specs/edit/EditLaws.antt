@@ -59,7 +59,7 @@ pub record TellCycles (x y : EditSaid) : Type 0 where
   pub one : TellsCycle net x
   pub other : TellsCycle net y
 
--- the same is said of each edit, but for the choice among the cycles of a network
+-- the same is said of each edit, or of both a cycle of one network
 abbrev pub AreSaidAlike : List EditSaid → List EditSaid → Type 0
 AreSaidAlike [] [] = Unit {0}
 AreSaidAlike [] (y ∷ ys) = ⊥
@@ -81,7 +81,7 @@ pub record AreAlike (form : Form) (x y : Reply) : Type 0 where
   pub status : x.status ≡ y.status
   pub text : (x.bytes ≡ y.bytes) ⊎ ((x.status ≡ 8) ⊎ AreSameReports form x y)
 
--- status and text are determined by the files and the form, but for the choice among cycles
+-- the files and the form determine the status, and the text unless it tells a cycle
 abbrev pub RepliesAreDetermined : Type 0
 RepliesAreDetermined =
     (form : Form) (net_file net_bytes edits_file edits_bytes : List ℕ) (x y : Reply)

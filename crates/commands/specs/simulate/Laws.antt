@@ -74,7 +74,7 @@ StatusesHaveCauses =
     → IsRunReply net_file net_bytes trace_file trace_bytes reply
     → HasCause net_file net_bytes trace_file trace_bytes reply
 
--- status and text are determined by the files, but for the choice among cycles
+-- the files determine the status, and the text unless it tells a cycle
 abbrev pub RepliesAreDetermined : Type 0
 RepliesAreDetermined =
     (net_file net_bytes trace_file trace_bytes : List ℕ) (x y : Reply)

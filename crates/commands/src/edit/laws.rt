@@ -15,7 +15,8 @@ pub fn edit_replies_are_complete()
     ensures { RepliesAreComplete }
 {}
 
-/// Two replies on the same files have one status, and one text but for the choice among cycles.
+/// Two replies on the same files have one status, and one text unless it tells a cycle, of the file's network or of one that
+/// an edit would make.
 pub fn edit_replies_are_determined()
     ensures { RepliesAreDetermined }
 {}
