@@ -1,6 +1,5 @@
 -- A reply of a known status has its cause and no other: the one place where statuses are told apart.
-use Rattle.std.proofs.Common.{◌≡◌, ℕ, List, inl, inr, ap, arith}
-use Rattle.std.specs.Prelude.{◌⊎◌}
+use Rattle.std.proofs.Common.{◌≡◌, ◌≢◌, ◌≤◌, ℕ, List, inl, inr, sym, ap, ◌∙◌, arith}
 use Rattle.upp_limits.specs.declared.own_limits.OverLimit.TheVariants.{TooMany, TooWide}
 use Rattle.net_model.specs.Networks.{Net}
 use Rattle.command_replies.specs.Causes.{HasCause}
@@ -10,77 +9,51 @@ use Rattle.command_replies.specs.run_findings.Statuses.{IsOfReport}
 
 module _ {Done Breach Malformed Wide Many Cycle : Reply → Type 0} (reply : Reply) where
   -- ---- of a status
-  pub done : reply.status ≡ 0 → Done reply → HasCause Done Breach Malformed Wide Many Cycle reply
-  done is h = record {
-    done = λ e. h;
-    breach = λ e. absurd (cc);
-    malformed = λ e. absurd (cc);
-    wide = λ e. absurd (cc);
-    many = λ e. absurd (cc);
-    cycle = λ e. absurd (cc);
-    others = (λ e. (cc), λ e. (cc), λ e. (cc), λ e. (cc));
-    most = omega (arith, is);
+  -- one that some reply has: it has the cause of that status, and none of another
+  only : (n : ℕ) → reply.status ≡ n → (n ≡ 0 → Done reply) → (n ≡ 9 → Breach reply) → (n ≡ 1 → Malformed reply)
+      → (n ≡ 6 → Wide reply) → (n ≡ 7 → Many reply) → (n ≡ 8 → Cycle reply)
+      → (n ≢ 2) × (n ≢ 3) × (n ≢ 4) × (n ≢ 5) → n ≤ 9 → HasCause Done Breach Malformed Wide Many Cycle reply
+  only n is done breach malformed wide many cycle others most = record {
+    done = λ e. done (sym is ∙ e);
+    breach = λ e. breach (sym is ∙ e);
+    malformed = λ e. malformed (sym is ∙ e);
+    wide = λ e. wide (sym is ∙ e);
+    many = λ e. many (sym is ∙ e);
+    cycle = λ e. cycle (sym is ∙ e);
+    others =
+        (λ e. others.0 (sym is ∙ e), λ e. others.1 (sym is ∙ e), λ e. others.2 (sym is ∙ e), λ e. others.3 (sym is ∙ e));
+    most = omega (arith, is, most);
   }
+
+  pub done : reply.status ≡ 0 → Done reply → HasCause Done Breach Malformed Wide Many Cycle reply
+  done is h =
+      only 0 is (λ e. h) (λ e. absurd (cc)) (λ e. absurd (cc)) (λ e. absurd (cc)) (λ e. absurd (cc)) (λ e. absurd (cc))
+      (λ e. (cc), λ e. (cc), λ e. (cc), λ e. (cc)) (omega arith)
 
   pub breach : reply.status ≡ 9 → Breach reply → HasCause Done Breach Malformed Wide Many Cycle reply
-  breach is h = record {
-    done = λ e. absurd (cc);
-    breach = λ e. h;
-    malformed = λ e. absurd (cc);
-    wide = λ e. absurd (cc);
-    many = λ e. absurd (cc);
-    cycle = λ e. absurd (cc);
-    others = (λ e. (cc), λ e. (cc), λ e. (cc), λ e. (cc));
-    most = omega (arith, is);
-  }
+  breach is h =
+      only 9 is (λ e. absurd (cc)) (λ e. h) (λ e. absurd (cc)) (λ e. absurd (cc)) (λ e. absurd (cc)) (λ e. absurd (cc))
+      (λ e. (cc), λ e. (cc), λ e. (cc), λ e. (cc)) (omega arith)
 
   pub malformed : reply.status ≡ 1 → Malformed reply → HasCause Done Breach Malformed Wide Many Cycle reply
-  malformed is h = record {
-    done = λ e. absurd (cc);
-    breach = λ e. absurd (cc);
-    malformed = λ e. h;
-    wide = λ e. absurd (cc);
-    many = λ e. absurd (cc);
-    cycle = λ e. absurd (cc);
-    others = (λ e. (cc), λ e. (cc), λ e. (cc), λ e. (cc));
-    most = omega (arith, is);
-  }
+  malformed is h =
+      only 1 is (λ e. absurd (cc)) (λ e. absurd (cc)) (λ e. h) (λ e. absurd (cc)) (λ e. absurd (cc)) (λ e. absurd (cc))
+      (λ e. (cc), λ e. (cc), λ e. (cc), λ e. (cc)) (omega arith)
 
   pub wide : reply.status ≡ 6 → Wide reply → HasCause Done Breach Malformed Wide Many Cycle reply
-  wide is h = record {
-    done = λ e. absurd (cc);
-    breach = λ e. absurd (cc);
-    malformed = λ e. absurd (cc);
-    wide = λ e. h;
-    many = λ e. absurd (cc);
-    cycle = λ e. absurd (cc);
-    others = (λ e. (cc), λ e. (cc), λ e. (cc), λ e. (cc));
-    most = omega (arith, is);
-  }
+  wide is h =
+      only 6 is (λ e. absurd (cc)) (λ e. absurd (cc)) (λ e. absurd (cc)) (λ e. h) (λ e. absurd (cc)) (λ e. absurd (cc))
+      (λ e. (cc), λ e. (cc), λ e. (cc), λ e. (cc)) (omega arith)
 
   pub many : reply.status ≡ 7 → Many reply → HasCause Done Breach Malformed Wide Many Cycle reply
-  many is h = record {
-    done = λ e. absurd (cc);
-    breach = λ e. absurd (cc);
-    malformed = λ e. absurd (cc);
-    wide = λ e. absurd (cc);
-    many = λ e. h;
-    cycle = λ e. absurd (cc);
-    others = (λ e. (cc), λ e. (cc), λ e. (cc), λ e. (cc));
-    most = omega (arith, is);
-  }
+  many is h =
+      only 7 is (λ e. absurd (cc)) (λ e. absurd (cc)) (λ e. absurd (cc)) (λ e. absurd (cc)) (λ e. h) (λ e. absurd (cc))
+      (λ e. (cc), λ e. (cc), λ e. (cc), λ e. (cc)) (omega arith)
 
   pub cycle : reply.status ≡ 8 → Cycle reply → HasCause Done Breach Malformed Wide Many Cycle reply
-  cycle is h = record {
-    done = λ e. absurd (cc);
-    breach = λ e. absurd (cc);
-    malformed = λ e. absurd (cc);
-    wide = λ e. absurd (cc);
-    many = λ e. absurd (cc);
-    cycle = λ e. h;
-    others = (λ e. (cc), λ e. (cc), λ e. (cc), λ e. (cc));
-    most = omega (arith, is);
-  }
+  cycle is h =
+      only 8 is (λ e. absurd (cc)) (λ e. absurd (cc)) (λ e. absurd (cc)) (λ e. absurd (cc)) (λ e. absurd (cc)) (λ e. h)
+      (λ e. (cc), λ e. (cc), λ e. (cc), λ e. (cc)) (omega arith)
 
   -- ---- of a report
   pub report : IsOfReport reply.status → Done reply → Breach reply

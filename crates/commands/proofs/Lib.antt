@@ -1,1 +1,3 @@
 mod Stopped
+mod FileAnswers
+mod Reporting

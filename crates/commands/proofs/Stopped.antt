@@ -1,26 +1,40 @@
--- The reply that a network stops with, and its steps.
+-- The reply on a network, beside its table or where it stops, and its steps.
 use Rattle.std.proofs.Common.{◌≡◌, ◌≢◌, ◌+◌, ℕ, List, Result, Ok, Err, IfOk, inl, inr, sym, ◌∙◌}
+use Rattle.std.proofs.lemmas.Result.{IfOk-weaker}
 use Rattle.upp_limits.specs.declared.own_limits.OverLimit.TheVariants.{TooMany, TooWide}
 use Rattle.net_model.specs.Networks.{Net}
 use Rattle.net_model.specs.Orders.{IsOrder}
 use Rattle.report_text.specs.net_cells.specs.Meanings.{CellTable}
 use Rattle.command_replies.specs.declared.answer.Answer.{Answer}
 use Rattle.command_replies.specs.CellWork.{work_of_cells}
-use Rattle.command_replies.specs.OnFiles.{OnTable}
+use Rattle.command_replies.specs.OnFiles.{OnTable, OnCurves}
 use Rattle.command_replies.specs.Replies.{Reply}
 use Rattle.outcomes.specs.Stages.{stops, goes_on}
 use Rattle.command_replies.specs.View.{reply_of, status_of}
+use Rattle.run_watch.specs.simulated_sizes.Laws.{AreCurves}
 use Rattle.command_replies.specs.run_findings.CellCounts.{CountsOnCells}
 use Rattle.command_replies.specs.run_findings.Statuses.{IsOfReport}
 use Rattle.command_replies.proofs.Statuses.{status_is}
 use Rattle.command_replies.proofs.run_findings.Counted.{no_report}
-use Rattle.commands.specs.Tabled.{IsStopped}
+use Rattle.commands.specs.Tabled.{HasTable, IsStopped}
 
+-- ---- beside a table
+pub told_beside : {E : Type 0} (net : Net) (at : CellTable) (Told : CellTable → Reply → Type 0) (r : Result Answer E)
+    → HasTable net at → AreCurves net → IfOk r (λ a. Told at (reply_of a))
+    → IfOk r (λ a. OnTable net (OnCurves net Told) (reply_of a))
+told_beside net at Told r t curves told =
+    IfOk-weaker r _ _ (λ a on. goes_on t.order t.ordered (goes_on at t.table (curves, on))) told
+
+-- ---- where it stops
 -- it is the reply on the network, whatever is told beside a table
-pub stopped : (net : Net) (Told : CellTable → Reply → Type 0) (reply : Reply) → IsStopped net reply
+stopped : (net : Net) (Told : CellTable → Reply → Type 0) (reply : Reply) → IsStopped net reply
     → OnTable net Told reply
 stopped net Told reply (inl h) = stops h
 stopped net Told reply (inr (order, o, h)) = goes_on order o (stops h)
+
+pub stopped_told : {E : Type 0} (net : Net) (Told : CellTable → Reply → Type 0) (r : Result Answer E)
+    → IfOk r (λ a. IsStopped net (reply_of a)) → IfOk r (λ a. OnTable net Told (reply_of a))
+stopped_told net Told r h = IfOk-weaker r _ _ (λ a at. stopped net Told (reply_of a) at) h
 
 -- and no report
 not_at : (status at : ℕ) → status ≡ at → at ≢ 0 → at ≢ 9 → ¬ IsOfReport status
@@ -31,14 +45,20 @@ is_none net reply (inl h) = not_at reply.status 8 (status_is reply _ h.is) (λ e
 is_none net reply (inr (order, o, (TooMany, h))) = not_at reply.status 7 (status_is reply _ h.is) (λ e. cc) (λ e. cc)
 is_none net reply (inr (order, o, (TooWide, h))) = not_at reply.status 6 (status_is reply _ h.is) (λ e. cc) (λ e. cc)
 
-pub none_told : {E : Type 0} (net : Net) (r : Result Answer E) → IfOk r (λ a. IsStopped net (reply_of a))
+none_told : {E : Type 0} (net : Net) (r : Result Answer E) → IfOk r (λ a. IsStopped net (reply_of a))
     → ¬ IsOfReport (status_of r)
 none_told net (Ok a) h = is_none net (reply_of a) h
 none_told net (Err e) h = no_report 5 (λ k. absurd (cc)) (λ k. absurd (cc))
 
--- the steps of its cells, at the status of an answer
+-- ---- the steps of its cells
+-- at the status of an answer
 pub at_status : (net : Net) (status old new : ℕ) → CountsOnCells net 5 old new
     → (IsOfReport status → (order : List ℕ) → IsOrder net order → new ≡ old + work_of_cells net order)
     → CountsOnCells net status old new
 at_status net status old new h exact =
     record { rises = h.rises; most = h.most; report = exact; round = h.round }
+
+-- where it stops, no more than those of all cells
+pub stopped_counts : {E : Type 0} (net : Net) (r : Result Answer E) (old new : ℕ) → CountsOnCells net 5 old new
+    → IfOk r (λ a. IsStopped net (reply_of a)) → CountsOnCells net (status_of r) old new
+stopped_counts net r old new h stops = at_status net (status_of r) old new h (λ is. absurd (none_told net r stops is))

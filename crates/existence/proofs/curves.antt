@@ -15,6 +15,7 @@ pub mod Convolutions
 pub mod LeftOvers
 pub mod Sums
 pub mod Lattices
+pub mod Nowhere
 pub mod Moves
 pub mod Levels
 pub mod Scans

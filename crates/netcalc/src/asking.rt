@@ -1,6 +1,6 @@
 //! Asking the program about files.
 
-use crate::run_counted;
+use netcalc_cli::run_counted;
 use outside::{MemInputs, MemSink};
 use std::alloc::Global;
 use std::marker::Brand;

@@ -1,8 +1,6 @@
 //! netcalc: worst-case bounds on delay and backlog for networks of queues, as exact fractions.
 #![tactic(auto)]
 
-ghost use Rattle.std.specs.Prelude.{◌≡◌, ◌<◌};
-
 #[cfg(test)]
 mod asking;
 #[cfg(test)]
@@ -10,29 +8,13 @@ mod cases;
 #[cfg(test)]
 mod tests;
 
-use netcalc_cli::{Status, run};
-use outcomes::Steps;
-use outside::{DirInputs, Inputs, NoMemory, Sink, StdSink};
+use netcalc_cli::{Status, run_counted};
+use outside::{DirInputs, NoMemory, StdSink};
 use std::env;
 use std::io::ErrorKind;
 use std::marker::Brand;
 use std::process::ExitCode;
-use std::sync::ledger::{Blank, Ledger};
-
-/// Makes the counter of steps, and calls `run` with it.
-fn run_counted<I: Inputs, K: Sink, L: Ledger>(
-    blank: Blank,
-    words: &[String],
-    inputs: &mut I,
-    out: &mut K,
-) -> u8
-    requires name { blank.name ≡ L.name }
-    requires parts { blank.parts ≡ L.parts }
-    requires one { 0 < blank.parts }
-{
-    let mut steps = Steps::<L>::new(blank);
-    run(words, inputs, out, &mut steps)
-}
+use std::sync::ledger::Blank;
 
 /// The words of the command line, or no words where one of them is not text: those are not taken.
 fn words_of(rt: &HostRuntime) -> Result<Vec<String>, NoMemory> {

@@ -1,6 +1,6 @@
 -- Two replies of a command on the same files are one: they have one status, and one text unless it tells a cycle; and of
 -- several cycles one is told.
-use Rattle.std.proofs.Common.{◌≡◌, ◌⊎◌, arith, ℕ, List, [], ◌∷◌, Option, Some, IfSome, inl, inr, sym, ap, ap₂, ◌∙◌, subst}
+use Rattle.std.proofs.Common.{◌≡◌, ◌⊎◌, arith, ℕ, List, [], ◌∷◌, Option, IfSome, inl, inr, sym, ap, ap₂, ◌∙◌, subst}
 use Rattle.std.proofs.lemmas.Bool.{cases_eq}
 use Rattle.outside.specs.Written.{Output, PutsWhole}
 use Rattle.report_text.specs.declared.json_report.form.Form.{Form}
@@ -10,8 +10,8 @@ use Rattle.commands.specs.edit_report.Said.{EditSaid}
 use Rattle.commands.specs.edit.EditLaws.{AreSameReports, AreAlike}
 use Rattle.netcalc_cli.specs.Commands.{Command, Analyse, Edit, Simulate, Exercise, Check, Measure, Curve}
 use Rattle.netcalc_cli.specs.Commands.{files_of, AreSameTo, IsCyclic}
-use Rattle.netcalc_cli.specs.Files.{Told, FirstLong, all_told}
-use Rattle.netcalc_cli.specs.Reply.{IsReplyOnFiles, Gives, GivesOnTold}
+use Rattle.netcalc_cli.specs.Files.{FirstLong}
+use Rattle.netcalc_cli.specs.Reply.{IsReplyOnFiles, Gives}
 use Rattle.netcalc_cli.proofs.ByCommand.{by_command}
 use Rattle.netcalc_cli.proofs.Replies.{replies_are_alike}
 use Rattle.netcalc_cli.specs.Laws.{RepliesAreDetermined, IsOfReply, AreEqual, CallsAreDetermined}

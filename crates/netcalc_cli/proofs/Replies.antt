@@ -1,14 +1,18 @@
 -- What a reply that was given is, by its status.
 use Rattle.std.proofs.Common.{◌≡◌, ◌≢◌, ◌⊎◌, ℕ, List, Option, Some, None, IfSome, Result, Ok, Err, IfOk, inl, inr, refl, sym, ap, ◌∙◌, subst, arith, suc, ◌<◌}
 use Rattle.std.proofs.lemmas.Bool.{cases_eq}
+use Rattle.std.proofs.lemmas.Result.{IfOk-weaker}
 use Rattle.upp_limits.specs.declared.own_limits.OverLimit.TheVariants.{TooMany, TooWide}
 use Rattle.upp_limits.proofs.SpanNumbers.{if_some_map}
+use Rattle.outside.specs.Fetching.{FetchesAll, FetchesUpTo}
 use Rattle.outside.specs.Written.{Output}
+use Rattle.outside.proofs.Fetches.{up_to_end}
 use Rattle.commands.specs.command_replies.specs.declared.answer.Answer.{Answer}
 use Rattle.commands.specs.command_replies.specs.Replies.{Reply, cannot_read, too_long}
 use Rattle.commands.specs.command_replies.specs.View.{code_of, reply_of, status_of}
 use Rattle.netcalc_cli.specs.Commands.{Command, files_of, AreSameTo, IsReplyTo, IsMalformed, IsOver, IsCyclic, TellsBreach, IsDone}
-use Rattle.netcalc_cli.specs.Commands.{Analyse, Edit, Simulate, Exercise, Check, Measure, Curve, IsAnswerable, IsAnswer}
+use Rattle.netcalc_cli.specs.Commands.{Analyse, Edit, Simulate, Exercise, Check, Measure, Curve, IsAnswerable, IsAnswer, CountsTo}
+use Rattle.netcalc_cli.specs.Answered.{IsAnswered}
 use Rattle.netcalc_cli.specs.Counts.{CountsOnCommand, Counts}
 use Rattle.netcalc_cli.specs.Files.{most_bytes, Told, IsTooLong, FirstIs, MayHoldAll, AllFit, all_told}
 use Rattle.netcalc_cli.specs.Reply.{IsReplyOnFiles, StandsOnFiles, FailedAt, EndsAt, MayReplyTo, Gives, Brings, GivesOnTold, AnswersWhatItCan}
@@ -19,7 +23,7 @@ use Rattle.outside.proofs.FileLemmas.{same_told, on_told, any_told}
 
 -- ---- what the inputs may bring
 -- fetching ended at a file
-pub ends : {I : Type 0} (faults : I → ℕ) (last_fault : I → List ℕ) (told : Told) (command : Command) (old new : I)
+ends : {I : Type 0} (faults : I → ℕ) (last_fault : I → List ℕ) (told : Told) (command : Command) (old new : I)
     (reply : Reply) → FirstIs told (EndsAt faults last_fault told old new reply) (files_of command)
     → MayReplyTo faults last_fault told command old new reply
 ends faults last_fault told command old new reply h =
@@ -44,13 +48,6 @@ none_of faults last_fault told old new file a (inl failed) =
 none_of faults last_fault told old new file a (inr long) =
     at_most_five (code_of a.status) 0 (ap (λ (x : Reply). x.status) long.1) (omega arith)
 
-none_at : {I E : Type 0} (faults : I → ℕ) (last_fault : I → List ℕ) (told : Told) (old new : I) (file : List ℕ)
-    (r : Result Answer E) → IfOk r (λ a. EndsAt faults last_fault told old new (reply_of a) file)
-    → IsNoAnswer (status_of r)
-none_at faults last_fault told old new file (Ok a) h = none_of faults last_fault told old new file a h
-none_at faults last_fault told old new file (Err e) h =
-    at_most_five 5 4 refl (omega arith)
-
 none_in : {I E : Type 0} (faults : I → ℕ) (last_fault : I → List ℕ) (told : Told) (old new : I)
     (files : List (List ℕ)) (r : Result Answer E)
     → IfOk r (λ a. FirstIs told (EndsAt faults last_fault told old new (reply_of a)) files) → IsNoAnswer (status_of r)
@@ -69,13 +66,7 @@ no_answer (Check net run) status none h = elim h [ inl zero ↦ none.zero zero |
 no_answer (Measure net trace name rate) status none h = none.zero h
 no_answer (Curve script) status none h = none.zero h
 
-pub no_answer_at : {I E : Type 0} (faults : I → ℕ) (last_fault : I → List ℕ) (told : Told) (command : Command)
-    (old new : I) (file : List ℕ) (r : Result Answer E)
-    → IfOk r (λ a. EndsAt faults last_fault told old new (reply_of a) file) → ¬ (IsAnswer command (status_of r))
-no_answer_at faults last_fault told command old new file r h =
-    no_answer command (status_of r) (none_at faults last_fault told old new file r h)
-
-pub no_answer_in : {I E : Type 0} (faults : I → ℕ) (last_fault : I → List ℕ) (told : Told) (command : Command)
+no_answer_in : {I E : Type 0} (faults : I → ℕ) (last_fault : I → List ℕ) (told : Told) (command : Command)
     (old new : I) (files : List (List ℕ)) (r : Result Answer E)
     → IfOk r (λ a. FirstIs told (EndsAt faults last_fault told old new (reply_of a)) files)
     → ¬ (IsAnswer command (status_of r))
@@ -87,13 +78,7 @@ not_on_files : (status : ℕ) → IsNoAnswer status → ¬ (StandsOnFiles status
 not_on_files status none (inl zero) = none.zero zero
 not_on_files status none (inr more) = let few = none.few in omega (arith, few, more)
 
-pub not_at_file : {I E : Type 0} (faults : I → ℕ) (last_fault : I → List ℕ) (told : Told) (old new : I) (file : List ℕ)
-    (r : Result Answer E) → IfOk r (λ a. EndsAt faults last_fault told old new (reply_of a) file)
-    → ¬ (StandsOnFiles (status_of r))
-not_at_file faults last_fault told old new file r h =
-    not_on_files (status_of r) (none_at faults last_fault told old new file r h)
-
-pub not_in_files : {I E : Type 0} (faults : I → ℕ) (last_fault : I → List ℕ) (told : Told) (old new : I)
+not_in_files : {I E : Type 0} (faults : I → ℕ) (last_fault : I → List ℕ) (told : Told) (old new : I)
     (files : List (List ℕ)) (r : Result Answer E)
     → IfOk r (λ a. FirstIs told (EndsAt faults last_fault told old new (reply_of a)) files)
     → ¬ (StandsOnFiles (status_of r))
@@ -143,11 +128,40 @@ nothing_answered asked told status five =
     (λ files fit can. inr (inr (inr five))))
 
 -- ---- or the files were fetched
-pub answers : {I : Type 0} (faults : I → ℕ) (last_fault : I → List ℕ) (told : Told) (command : Command) (old new : I)
+answers : {I : Type 0} (faults : I → ℕ) (last_fault : I → List ℕ) (told : Told) (command : Command) (old new : I)
     (reply : Reply) (files : List (List ℕ)) → MayHoldAll told (files_of command) files → AllFit files
     → IsReplyTo command files reply
     → MayReplyTo faults last_fault told command old new reply
 answers faults last_fault told command old new reply files held fit is = inr (files, held, inr (fit, is))
+
+-- ---- the answer of a command
+-- on what its files hold
+pub on_files : {I E : Type 0} (content : I → List ℕ → Option (List ℕ)) (faults : I → ℕ) (last_fault : I → List ℕ)
+    (asked had : I → List (List ℕ)) (command : Command) (old new : I) (r : Result Answer E) (before after : ℕ)
+    (files : List (List ℕ)) → MayHoldAll (content old) (files_of command) files → AllFit files
+    → FetchesAll asked had (files_of command) old new → IfOk r (λ a. IsReplyTo command files (reply_of a))
+    → CountsTo command files (status_of r) before after
+    → IsAnswered content faults last_fault asked had command old new r before after
+on_files content faults last_fault asked had command old new r before after files held fit had_all on counts = record {
+  reply = IfOk-weaker r _ _
+      (λ a is. answers faults last_fault (content old) command old new (reply_of a) files held fit is) on;
+  asked_for = up_to_end asked had (files_of command) old new had_all;
+  all = λ stands. had_all;
+  counts = inr (record { files = files; held = held; fit = fit; counts = counts });
+}
+
+-- where fetching ended at a file
+pub on_end : {I E : Type 0} (content : I → List ℕ → Option (List ℕ)) (faults : I → ℕ) (last_fault : I → List ℕ)
+    (asked had : I → List (List ℕ)) (command : Command) (old new : I) (r : Result Answer E) (count : ℕ)
+    → FetchesUpTo asked had (files_of command) old new
+    → IfOk r (λ a. FirstIs (content old) (EndsAt faults last_fault (content old) old new (reply_of a)) (files_of command))
+    → IsAnswered content faults last_fault asked had command old new r count count
+on_end content faults last_fault asked had command old new r count asked_for at = record {
+  reply = IfOk-weaker r _ _ (λ a h. ends faults last_fault (content old) command old new (reply_of a) h) at;
+  asked_for = asked_for;
+  all = λ stands. absurd (not_in_files faults last_fault (content old) old new (files_of command) r at stands);
+  counts = inl (no_answer_in faults last_fault (content old) command old new (files_of command) r at, refl);
+}
 
 -- ---- by status
 -- the bytes of files that are not too long, and what the reply on them is

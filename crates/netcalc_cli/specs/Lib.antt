@@ -4,5 +4,6 @@ pub mod View
 pub mod Files
 pub mod Reply
 pub mod Counts
+pub mod Answered
 pub mod Laws
 pub mod Example

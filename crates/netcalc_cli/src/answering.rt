@@ -1,13 +1,9 @@
 //! The answer of a command. Each has a function of its own, which fetches its files and answers on them.
 
-ghost use Rattle.std.specs.Prelude.{IfOk};
 ghost use Rattle.upp_limits.specs.rational.specs.Rational.{◌≤ℚ◌};
 ghost use Rattle.upp_limits.specs.min_plus.specs.Functions.{zero_q};
-ghost use Rattle.outside.specs.Fetching.{FetchesAll, FetchesUpTo};
-ghost use Rattle.commands.specs.command_replies.specs.View.{reply_of, status_of};
+ghost use Rattle.netcalc_cli.specs.Answered.{IsAnswered};
 ghost use Rattle.netcalc_cli.specs.Commands as commands;
-ghost use Rattle.netcalc_cli.specs.Counts.{CountsOnCommand};
-ghost use Rattle.netcalc_cli.specs.Reply.{StandsOnFiles, MayReplyTo};
 ghost use Rattle.netcalc_cli.specs.View.{command_view};
 
 use crate::fetching::{fetch_one, fetch_two};
@@ -34,13 +30,8 @@ fn on_network<I: Inputs, L: Ledger>(
     inputs: &mut I,
     steps: &mut Steps<L>,
 ) -> Result<Answer, NoMemory>
-    ensures reply { IfOk result (λ r. MayReplyTo I.faults I.last_fault (I.content inputs.old)
-        (commands.Analyse form net.now) inputs.old inputs.new (reply_of r)) }
-    ensures asked { FetchesUpTo I.asked I.had (commands.files_of (commands.Analyse form net.now)) inputs.old inputs.new }
-    ensures all { StandsOnFiles (status_of result) →
-        FetchesAll I.asked I.had (commands.files_of (commands.Analyse form net.now)) inputs.old inputs.new }
-    ensures counts { CountsOnCommand (I.content inputs.old) (commands.Analyse form net.now) (status_of result)
-        steps.old steps.new }
+    ensures { IsAnswered I.content I.faults I.last_fault I.asked I.had (commands.Analyse form net.now)
+        inputs.old inputs.new result steps.old steps.new }
 {
     match fetch_one(alloc, net, inputs) {
         Ok(bytes) => on_bytes(alloc, net, &bytes, form, steps),
@@ -56,13 +47,8 @@ fn on_edited<I: Inputs, L: Ledger>(
     inputs: &mut I,
     steps: &mut Steps<L>,
 ) -> Result<Answer, NoMemory>
-    ensures reply { IfOk result (λ r. MayReplyTo I.faults I.last_fault (I.content inputs.old)
-        (commands.Edit form net.now edits.now) inputs.old inputs.new (reply_of r)) }
-    ensures asked { FetchesUpTo I.asked I.had (commands.files_of (commands.Edit form net.now edits.now)) inputs.old inputs.new }
-    ensures all { StandsOnFiles (status_of result) →
-        FetchesAll I.asked I.had (commands.files_of (commands.Edit form net.now edits.now)) inputs.old inputs.new }
-    ensures counts { CountsOnCommand (I.content inputs.old) (commands.Edit form net.now edits.now) (status_of result)
-        steps.old steps.new }
+    ensures { IsAnswered I.content I.faults I.last_fault I.asked I.had (commands.Edit form net.now edits.now)
+        inputs.old inputs.new result steps.old steps.new }
 {
     match fetch_two(alloc, net, edits, inputs) {
         Ok((bytes, rows)) => on_edits(alloc, net, &bytes, edits, &rows, form, steps),
@@ -77,13 +63,8 @@ fn on_simulated<I: Inputs, L: Ledger>(
     inputs: &mut I,
     steps: &mut Steps<L>,
 ) -> Result<Answer, NoMemory>
-    ensures reply { IfOk result (λ r. MayReplyTo I.faults I.last_fault (I.content inputs.old)
-        (commands.Simulate net.now trace.now) inputs.old inputs.new (reply_of r)) }
-    ensures asked { FetchesUpTo I.asked I.had (commands.files_of (commands.Simulate net.now trace.now)) inputs.old inputs.new }
-    ensures all { StandsOnFiles (status_of result) →
-        FetchesAll I.asked I.had (commands.files_of (commands.Simulate net.now trace.now)) inputs.old inputs.new }
-    ensures counts { CountsOnCommand (I.content inputs.old) (commands.Simulate net.now trace.now) (status_of result)
-        steps.old steps.new }
+    ensures { IsAnswered I.content I.faults I.last_fault I.asked I.had (commands.Simulate net.now trace.now)
+        inputs.old inputs.new result steps.old steps.new }
 {
     match fetch_two(alloc, net, trace, inputs) {
         Ok((bytes, rows)) => on_trace(alloc, net, &bytes, trace, &rows, steps),
@@ -98,13 +79,8 @@ fn on_checked<I: Inputs, L: Ledger>(
     inputs: &mut I,
     steps: &mut Steps<L>,
 ) -> Result<Answer, NoMemory>
-    ensures reply { IfOk result (λ r. MayReplyTo I.faults I.last_fault (I.content inputs.old)
-        (commands.Check net.now run.now) inputs.old inputs.new (reply_of r)) }
-    ensures asked { FetchesUpTo I.asked I.had (commands.files_of (commands.Check net.now run.now)) inputs.old inputs.new }
-    ensures all { StandsOnFiles (status_of result) →
-        FetchesAll I.asked I.had (commands.files_of (commands.Check net.now run.now)) inputs.old inputs.new }
-    ensures counts { CountsOnCommand (I.content inputs.old) (commands.Check net.now run.now) (status_of result)
-        steps.old steps.new }
+    ensures { IsAnswered I.content I.faults I.last_fault I.asked I.had (commands.Check net.now run.now)
+        inputs.old inputs.new result steps.old steps.new }
 {
     match fetch_two(alloc, net, run, inputs) {
         Ok((bytes, rows)) => on_run(alloc, net, &bytes, run, &rows, steps),
@@ -119,13 +95,8 @@ fn on_exercise<I: Inputs, L: Ledger>(
     inputs: &I,
     steps: &mut Steps<L>,
 ) -> Result<Answer, NoMemory>
-    ensures reply { IfOk result (λ r. MayReplyTo I.faults I.last_fault (I.content inputs.now)
-        (commands.Exercise seed) inputs.now inputs.now (reply_of r)) }
-    ensures asked { FetchesUpTo I.asked I.had (commands.files_of (commands.Exercise seed)) inputs.now inputs.now }
-    ensures all { StandsOnFiles (status_of result) →
-        FetchesAll I.asked I.had (commands.files_of (commands.Exercise seed)) inputs.now inputs.now }
-    ensures counts { CountsOnCommand (I.content inputs.now) (commands.Exercise seed) (status_of result)
-        steps.old steps.new }
+    ensures { IsAnswered I.content I.faults I.last_fault I.asked I.had (commands.Exercise seed)
+        inputs.now inputs.now result steps.old steps.new }
 {
     on_seed(alloc, seed, steps)
 }
@@ -140,15 +111,8 @@ fn on_measured<I: Inputs, L: Ledger>(
     steps: &mut Steps<L>,
 ) -> Result<Answer, NoMemory>
     requires { zero_q ≤ℚ rate }
-    ensures reply { IfOk result (λ r. MayReplyTo I.faults I.last_fault (I.content inputs.old)
-        (commands.Measure net.now trace.now name.now rate) inputs.old inputs.new (reply_of r)) }
-    ensures asked { FetchesUpTo I.asked I.had (commands.files_of (commands.Measure net.now trace.now name.now rate))
-        inputs.old inputs.new }
-    ensures all { StandsOnFiles (status_of result) →
-        FetchesAll I.asked I.had (commands.files_of (commands.Measure net.now trace.now name.now rate))
-        inputs.old inputs.new }
-    ensures counts { CountsOnCommand (I.content inputs.old) (commands.Measure net.now trace.now name.now rate)
-        (status_of result) steps.old steps.new }
+    ensures { IsAnswered I.content I.faults I.last_fault I.asked I.had (commands.Measure net.now trace.now name.now rate)
+        inputs.old inputs.new result steps.old steps.new }
 {
     match fetch_two(alloc, net, trace, inputs) {
         Ok((bytes, rows)) => on_measure(alloc, net, &bytes, trace, &rows, name, rate, steps),
@@ -162,13 +126,8 @@ fn on_curves<I: Inputs, L: Ledger>(
     inputs: &mut I,
     steps: &mut Steps<L>,
 ) -> Result<Answer, NoMemory>
-    ensures reply { IfOk result (λ r. MayReplyTo I.faults I.last_fault (I.content inputs.old)
-        (commands.Curve script.now) inputs.old inputs.new (reply_of r)) }
-    ensures asked { FetchesUpTo I.asked I.had (commands.files_of (commands.Curve script.now)) inputs.old inputs.new }
-    ensures all { StandsOnFiles (status_of result) →
-        FetchesAll I.asked I.had (commands.files_of (commands.Curve script.now)) inputs.old inputs.new }
-    ensures counts { CountsOnCommand (I.content inputs.old) (commands.Curve script.now) (status_of result)
-        steps.old steps.new }
+    ensures { IsAnswered I.content I.faults I.last_fault I.asked I.had (commands.Curve script.now)
+        inputs.old inputs.new result steps.old steps.new }
 {
     match fetch_one(alloc, script, inputs) {
         Ok(bytes) => on_script(alloc, script, &bytes, steps),
@@ -184,13 +143,8 @@ pub(crate) fn answer_to<I: Inputs, L: Ledger>(
     steps: &mut Steps<L>,
 ) -> Result<Answer, NoMemory>
     requires rate { commands.HasRate (command_view command) }
-    ensures reply { IfOk result (λ r. MayReplyTo I.faults I.last_fault (I.content inputs.old)
-        (command_view command.entry) inputs.old inputs.new (reply_of r)) }
-    ensures asked { FetchesUpTo I.asked I.had (commands.files_of (command_view command.entry)) inputs.old inputs.new }
-    ensures all { StandsOnFiles (status_of result) →
-        FetchesAll I.asked I.had (commands.files_of (command_view command.entry)) inputs.old inputs.new }
-    ensures counts { CountsOnCommand (I.content inputs.old) (command_view command.entry) (status_of result)
-        steps.old steps.new }
+    ensures { IsAnswered I.content I.faults I.last_fault I.asked I.had (command_view command.entry)
+        inputs.old inputs.new result steps.old steps.new }
 {
     match command {
         Command::Analyse(form, net) => on_network(alloc, form, net, inputs, steps),

@@ -10,4 +10,4 @@ mod words;
 
 pub use commands::command_replies::Status;
 pub use laws::{calls_are_determined, one_flow_reaches_its_bound, replies_are_determined};
-pub use top_call::run;
+pub use top_call::{run, run_counted};

@@ -2,8 +2,8 @@
 
 ghost use Rattle.std.specs.Prelude.{◌≡◌, ◌<◌};
 
-use curve_tests::shapes::{curve, whole};
 use outcomes::Steps;
+use curve_tests::shapes::{curve, piece, whole};
 use plain_operators::pointwise::min;
 use std::alloc::Global;
 use std::marker::Brand;
@@ -12,43 +12,41 @@ use std::test::Fail;
 use upp_limits::OpFault;
 use upp_limits::fraction128::Frac;
 use upp_limits::rational::Extended;
-use upp_limits::upp_curve::affine_segment::{Line, Piece};
 use upp_limits::upp_curve::{Curve, Tail};
 
-// A line from 0 on.
-fn straight(alloc: Global, icept: Frac, slope: Frac) -> Result<Curve, OpFault> {
-    let piece = Piece {
-        x: Frac::zero(),
-        at: Extended::Fin(icept),
-        line: Some(Line { icept, slope }),
-    };
-    curve(alloc, &[piece], Tail::Affine { rank: Frac::zero() })
-}
-
 // n at 2 n, and infinite elsewhere.
-fn dots(alloc: Global) -> Result<Curve, OpFault> {
-    let piece = Piece {
-        x: Frac::zero(),
-        at: Extended::Fin(Frac::zero()),
-        line: None,
-    };
+fn even_dots(alloc: Global) -> Result<Curve, OpFault> {
     let tail = Tail::Periodic {
         rank: Frac::zero(),
         period: whole(2),
         rise: Frac::one(),
     };
-    curve(alloc, &[piece], tail)
+    curve(alloc, &[piece(0, Extended::Fin(Frac::zero()), None)], tail)
 }
 
-// The lower of dots and 3 t: the dots are slower, and always infinite between two of them.
+// 5 + 2 n at 2 n + 1, and infinite elsewhere.
+fn odd_dots(alloc: Global) -> Result<Curve, OpFault> {
+    let tail = Tail::Periodic {
+        rank: Frac::zero(),
+        period: whole(2),
+        rise: whole(2),
+    };
+    let pieces = [
+        piece(0, Extended::Inf, None),
+        piece(1, Extended::Fin(whole(5)), None),
+    ];
+    curve(alloc, &pieces, tail)
+}
+
+// The dots at even times are slower, and above the others at each odd time.
 fn of_dots<L: Ledger>(alloc: Global, blank: Blank) -> Result<Curve, OpFault>
     requires name { blank.name ≡ L.name }
     requires parts { blank.parts ≡ L.parts }
     requires one { 0 < blank.parts }
 {
     let mut steps = Steps::<L>::new(blank);
-    let f = dots(alloc)?;
-    let g = straight(alloc, Frac::zero(), whole(3))?;
+    let f = even_dots(alloc)?;
+    let g = odd_dots(alloc)?;
     min(alloc, &f, &g, &mut steps)
 }
 

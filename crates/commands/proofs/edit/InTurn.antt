@@ -73,7 +73,7 @@ one_less now next edit edits said before mid after all done answered steps left 
     }
 
 -- an edit for which there is no answer
-pub cut_short : (now : NetHistory) (edit : Edit) (edits : List Edit) (before mid after all done : ℕ)
+cut_short : (now : NetHistory) (edit : Edit) (edits : List Edit) (before mid after all done : ℕ)
     → ((count : ℕ) → IsWorkOf now.present edit count → after ≤ mid + count)
     → IsLeft now (edit ∷ edits) before mid all done → after ≤ before + all
 cut_short now edit edits before mid after all done most left =
@@ -105,3 +105,11 @@ pub rest_at : (edits : List Edit) (i : ℕ) (edit : Edit) → i < length edits �
 rest_at edits i edit h is =
     drop-cons edits i edit h ∙ ap (λ (e : Edit). e ∷ drop (suc i) edits) (sym is)
     ∙ ap (λ (n : ℕ). edit ∷ drop n edits) (sym (add-one i))
+
+pub cut_at : (now : NetHistory) (edits : List Edit) (i : ℕ) (edit : Edit) (before mid after all done : ℕ)
+    → i < length edits → edit ≡ get_or edits i edit
+    → ((count : ℕ) → IsWorkOf now.present edit count → after ≤ mid + count)
+    → IsLeft now (drop i edits) before mid all done → after ≤ before + all
+cut_at now edits i edit before mid after all done h is most left =
+    cut_short now edit (drop (i + 1) edits) before mid after all done most
+    (subst (λ (es : List Edit). IsLeft now es before mid all done) (rest_at edits i edit h is) left)

@@ -54,7 +54,7 @@ module _ {V : Type 0} (old new : Stored V) (edit : Edit) (before after count : �
       → after ≡ before + sum_by (work new.present) touched)
       → before ≤ after → IsWorkOf old.present edit count
       → IsTakenWork (history_of old) edit (history_of new) count done → before + done ≤ after
-  at_least r done kept exact rises is (inr zero) = omega (arith, rises, zero)
+  at_least r done kept exact rises is (inr (not_taken, zero)) = omega (arith, rises, zero)
   at_least (Ok d) done kept exact rises is (inl (taken, same)) =
       let all = of_taken taken.0 taken.1 exact is in omega (arith, all, same)
   at_least (Err fault) done kept exact rises is (inl (taken, same)) =

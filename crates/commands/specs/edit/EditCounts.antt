@@ -33,9 +33,13 @@ pub record IsTouchedWork (present : Net) (edit : Edit) (count : ℕ) : Type 0 wh
 abbrev pub IsWorkOf : Net → Edit → ℕ → Type 0
 IsWorkOf present edit count = IsTouchedWork present edit count ⊎ (¬ (IsEvaluated present edit) × (count ≡ 0))
 
--- all of it where the edit is taken, and none else
+-- the edit is taken, whatever is said of it
+abbrev pub Takes : NetHistory → Edit → NetHistory → Type 0
+Takes old edit new = (said : EditSaid) × IsTaken old edit said new
+
+-- all of it where the edit is taken, and none where it is not
 abbrev pub IsTakenWork : NetHistory → Edit → NetHistory → (count done : ℕ) → Type 0
-IsTakenWork old edit new count done = (((said : EditSaid) × IsTaken old edit said new) × (done ≡ count)) ⊎ (done ≡ 0)
+IsTakenWork old edit new count done = (Takes old edit new × (done ≡ count)) ⊎ (¬ (Takes old edit new) × (done ≡ 0))
 
 -- ---- edits in turn
 -- the work of a first edit and that of the others, where Rest tells it: of all edits, and of those that are taken

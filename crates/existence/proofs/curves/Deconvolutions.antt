@@ -1,13 +1,12 @@
 -- A deconvolution has an answer: infinity where the first is the faster, else the curve of its window's pieces, unless the call is over a limit.
-use Rattle.std.specs.Prelude.{List, [], ◌∷◌, map, Ok}
+use Rattle.std.specs.Prelude.{List, map, Ok}
 use Rattle.std.proofs.Common.{refl, sym, ap, subst, inl, inr}
 use Rattle.upp_limits.specs.rational.specs.Rational.{ℚ}
 use Rattle.upp_limits.specs.rational.specs.Extended.{◌<ₑ◌}
 use Rattle.upp_limits.specs.upp_curve.specs.declared.affine_segment.line.Piece.{Piece}
-use Rattle.upp_limits.specs.upp_curve.specs.affine_segment.Reading.{read, nothing_at}
-use Rattle.upp_limits.specs.min_plus.specs.Functions.{IsFinite, zero_q}
+use Rattle.upp_limits.specs.upp_curve.specs.affine_segment.Reading.{read}
+use Rattle.upp_limits.specs.min_plus.specs.Functions.{IsFinite}
 use Rattle.upp_limits.specs.min_plus.specs.Convolution.{IsDeconvolution}
-use Rattle.upp_limits.specs.upp_curve.specs.declared.curve.Tail.TheVariants.{Infinite}
 use Rattle.upp_limits.specs.upp_curve.specs.Curve.{SpecCurve, value_at}
 use Rattle.upp_limits.specs.upp_curve.specs.Curves.{IsCurve}
 use Rattle.upp_limits.specs.upp_curve.specs.Steady.{steady, rate, rise_over}
@@ -21,10 +20,10 @@ use Rattle.plain_operators.specs.curve_call.proofs.Limited.{deconvolve_least}
 use Rattle.existence.proofs.curves.Infima.{front_of}
 use Rattle.existence.proofs.curves.Moves.{left_of}
 use Rattle.plain_operators.proofs.pointwise.LatticeAnswers.{slower_or_not}
-use Rattle.plain_operators.proofs.pointwise.Nowhere.{IsNowhere, made_curve, made_values}
 use Rattle.element_envelope.proofs.FoundEnvelopes.{convolution_from}
 use Rattle.existence.specs.curves.Answered.{HasAnswer}
 use Rattle.existence.proofs.curves.Answered.{at_least, ok_found}
+use Rattle.existence.proofs.curves.Nowhere.{nowhere, nowhere_curve, nowhere_values}
 use Rattle.existence.proofs.curves.Windows.{answer_curve}
 use Rattle.curve_deconv.specs.Marks.{first_last, last_of, mark_pieces}
 use Rattle.curve_deconv.specs.Mirrored.{neg_piece, mirror_pieces}
@@ -63,21 +62,18 @@ made f g finite slow r F =
 
 -- ---- where it is
 infinite : (f g : SpecCurve) → IsCurve f → IsCurve g → IsFinite (value_at g) → rate g <ₑ rate f → HasAnswer Deconvolve f g
-infinite f g F G finite faster =
-    let ps = nothing_at zero_q ∷ [] in
-    let c : SpecCurve = record { pieces = ps; tail = Infinite zero_q } in
-    let one : IsNowhere ps [] zero_q zero_q = record { zero = refl; at = refl; none = refl; one = refl } in
-    record {
-      answer = Ok c;
-      applies = record {
-        within = known_within f g faster;
-        made = record {
-          curve = made_curve ps [] zero_q zero_q one;
-          answers = λ t low. subst (IsDeconvolution (value_at f) (value_at g) t) (sym (made_values ps [] zero_q zero_q t c one refl)) (faster_deconvolves f g t F G finite faster low);
-        };
-      };
-      found = ok_found (Ok c) c refl;
-    }
+infinite f g F G finite faster = record {
+  answer = Ok nowhere;
+  applies = record {
+    within = known_within f g faster;
+    made = record {
+      curve = nowhere_curve;
+      answers = λ t low.
+          subst (IsDeconvolution (value_at f) (value_at g) t) (sym (nowhere_values t)) (faster_deconvolves f g t F G finite faster low);
+    };
+  };
+  found = ok_found (Ok nowhere) nowhere refl;
+}
 
 pub deconvolution_answered : (f g : SpecCurve) → IsCurve f → IsCurve g → IsFinite (value_at g) → HasAnswer Deconvolve f g
 deconvolution_answered f g F G finite = elim (slower_or_not (rate g) (rate f)) [

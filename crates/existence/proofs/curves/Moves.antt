@@ -6,7 +6,6 @@ use Rattle.upp_limits.specs.rational.specs.Extended.{Ext}
 use Rattle.upp_limits.specs.rational.specs.declared.Extended.TheVariants.{Fin, Inf}
 use Rattle.upp_limits.specs.upp_curve.specs.declared.affine_segment.line.Piece.{Piece}
 use Rattle.upp_limits.specs.min_plus.specs.Functions.{zero_q}
-use Rattle.upp_limits.specs.upp_curve.specs.declared.curve.Tail.TheVariants.{Infinite}
 use Rattle.upp_limits.specs.upp_curve.specs.Curve.{SpecCurve}
 use Rattle.upp_limits.specs.upp_curve.specs.Curves.{IsCurve}
 use Rattle.upp_limits.specs.upp_curve.specs.Steady.{rise_over}
@@ -20,10 +19,9 @@ use Rattle.plain_operators.specs.curve_call.proofs.Limited.{scale_least, shift_l
 use Rattle.existence.proofs.curves.Forms.{curve_with_room}
 use Rattle.existence.specs.curves.Answered.{HasAnswer}
 use Rattle.existence.proofs.curves.Answered.{at_least, ok_found}
+use Rattle.existence.proofs.curves.Nowhere.{nowhere, nowhere_curve, nowhere_values}
 use Rattle.existence.proofs.curves.Windows.{answer_curve}
 use Rattle.plain_operators.specs.pointwise.Shifting.{moved_left, IsAhead}
-use Rattle.upp_limits.specs.upp_curve.specs.affine_segment.Reading.{nothing_at}
-use Rattle.plain_operators.proofs.pointwise.Nowhere.{IsNowhere, made_curve, made_values as nowhere_values}
 use Rattle.plain_operators.proofs.pointwise.ScaleCall.{IsMade, scale_call, made_raw, made_found, made_values}
 use Rattle.plain_operators.proofs.pointwise.ShiftCall.{shift_call, window_pieces, shift_answer, shift_values}
 
@@ -60,18 +58,14 @@ shift_made x f low r F =
 
 -- by infinity nothing is looked at
 shift_nowhere : (f : SpecCurve) → HasAnswer (Shift Inf) f f
-shift_nowhere f =
-    let ps = nothing_at zero_q ∷ [] in
-    let c : SpecCurve = record { pieces = ps; tail = Infinite zero_q } in
-    let one : IsNowhere ps [] zero_q zero_q = record { zero = refl; at = refl; none = refl; one = refl } in
-    record {
-      answer = Ok c;
-      applies = record {
-        within = record { narrow = λ w. w.looks tt; few = λ m. m.looks tt };
-        made = record { curve = made_curve ps [] zero_q zero_q one; answers = λ t low. nowhere_values ps [] zero_q zero_q t c one refl };
-      };
-      found = ok_found (Ok c) c refl;
-    }
+shift_nowhere f = record {
+  answer = Ok nowhere;
+  applies = record {
+    within = record { narrow = λ w. w.looks tt; few = λ m. m.looks tt };
+    made = record { curve = nowhere_curve; answers = λ t low. nowhere_values t };
+  };
+  found = ok_found (Ok nowhere) nowhere refl;
+}
 
 pub shift_answered : (x : Ext) (f : SpecCurve) → IsAhead x → IsCurve f → HasAnswer (Shift x) f f
 shift_answered Inf f ahead F = shift_nowhere f

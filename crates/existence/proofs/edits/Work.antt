@@ -1,5 +1,5 @@
 -- The work of edits that have answers: what is touched by those that are taken, or have a cell over a limit; else none.
-use Rattle.std.proofs.Common.{◌≡◌, ℕ, ◌+◌, List, [], ◌∷◌, sum_by, inl, inr, refl, sym, subst}
+use Rattle.std.proofs.Common.{◌≡◌, ℕ, ◌+◌, List, [], ◌∷◌, sum_by, inl, inr, refl, sym, ap, ◌∙◌, subst}
 use Rattle.std.specs.Prelude.{string_bytes}
 use Rattle.upp_limits.specs.declared.own_limits.OverLimit.{OverLimit}
 use Rattle.upp_limits.specs.declared.own_limits.OverLimit.TheVariants as limit
@@ -20,7 +20,7 @@ use Rattle.commands.specs.edit.NetHistories.{NetHistory}
 use Rattle.commands.specs.edit.Causes.{GoesRound, IsOverBy, IsCause}
 use Rattle.commands.specs.edit.Answered.{IsAnswered, Taken, Undone, Refused}
 use Rattle.commands.specs.edit.EditCounts.{IsWorkOf, IsTakenWork}
-use Rattle.commands.proofs.edit.Exclusive.{gives_not_over, gives_not_refused, undo_gives_none}
+use Rattle.commands.proofs.edit.Exclusive.{gives_not_over, gives_not_refused, undo_gives_none, nothing_pushed}
 use Rattle.existence.specs.edits.Laws.{EditsHaveWork}
 
 -- ---- one edit
@@ -72,12 +72,16 @@ work_of old new edit said (Undone h) = none old.present edit (λ e.
     undo_gives_none old.present e.net edit h.undo e.gives)
 work_of old new edit said (Refused h) = by_cause old edit h.fault h.named_by h.cause
 
--- all of it where the edit is taken
+-- all of it where the edit is taken: an undo makes no network of one alone, and a refusal puts none on top
 taken_of : (old new : NetHistory) (edit : Edit) (said : EditSaid) (count : ℕ) → IsAnswered old edit said new
     → (done : ℕ) × IsTakenWork old edit new count done
 taken_of old new edit said count (Taken h) = (count, inl ((said, h), refl))
-taken_of old new edit said count (Undone h) = (0, inr refl)
-taken_of old new edit said count (Refused h) = (0, inr refl)
+taken_of old new edit said count (Undone h) =
+    (0, inr ((λ t. undo_gives_none old.present new.present edit h.undo t.1.gives), refl))
+taken_of old new edit said count (Refused h) = (
+  0,
+  inr ((λ t. nothing_pushed old.before old.present (sym (ap (λ (n : NetHistory). n.before) h.same) ∙ t.1.before)), refl),
+)
 
 -- ---- edits in turn
 pub edits_have_work : EditsHaveWork

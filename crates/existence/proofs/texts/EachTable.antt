@@ -20,7 +20,7 @@ use Rattle.input_texts.specs.declared.table_text.trace_rows.Entry.{Entry}
 use Rattle.input_texts.specs.declared.table_text.trace_rows.Entry.TheVariants.{Packet, Stop}
 use Rattle.input_texts.specs.table_text.Rows.{Row, Read, rows_of}
 use Rattle.input_texts.specs.table_text.EditRows.{EditText, edit_row}
-use Rattle.input_texts.specs.table_text.EditLists.{most_edits, AreEditsOf, IsFirstEditFault}
+use Rattle.input_texts.specs.table_text.EditLists.{most_edits, AreEditsOf, IsEditWrong, IsFirstEditFault}
 use Rattle.input_texts.specs.table_text.TraceRows.{TraceRow, packet_row, stall_row, trace_row, Names, IsUnknown, Gives}
 use Rattle.input_texts.specs.table_text.Traces.{most_rows, packets_in, stalls_in, IsTraceOf, IsEarlier, IsWrong, IsFirstFault}
 use Rattle.input_texts.specs.table_text.Kept.{Follows}
@@ -30,6 +30,21 @@ use Rattle.existence.proofs.texts.Pushed.{packets_more, stalls_more, give_more, 
 -- ---- lists of edits
 abbrev IsListOrFaulty : List ℕ → Type 0
 IsListOrFaulty text = ((edits : List EditText) × AreEditsOf (rows_of text) edits) ⊎ ((kind : TableKind) × (number : ℕ) × IsFirstEditFault text kind number)
+
+wrong_edit : (text : List ℕ) (before : List Row) (row : Row) (rest : List Row) (es : List EditText) (kind : TableKind)
+    → rows_of text ≡ before ++ row ∷ rest → AreEditsOf before es → IsEditWrong (length before) row kind → IsListOrFaulty text
+wrong_edit text before row rest es kind e h wrong =
+    let first : IsFirstEditFault text kind (suc (length before)) = record {
+      edits = es;
+      right = h;
+      before = before;
+      row = row;
+      after = rest;
+      rows = e;
+      place = refl;
+      wrong = wrong;
+    } in
+    inr (kind, suc (length before), first)
 
 after_edit : (text : List ℕ) (before : List Row) (row : Row) (rest : List Row) (es : List EditText) → rows_of text ≡ before ++ row ∷ rest
     → AreEditsOf before es → length before < most_edits
@@ -42,40 +57,14 @@ after_edit text before row rest es e h few next (Ok x) is =
       each = map_push edit_row before row ∙ ap₂ (λ (rs : List (Read EditText)) (r : Read EditText). rs ++ r ∷ []) h.each is ∙ sym (map_push ok es x);
       few = omega (arith, few, more);
     }
-after_edit text before row rest es e h few next (Err kind) is = inr (
-  kind,
-  suc (length before),
-  record {
-    before = before;
-    row = row;
-    after = rest;
-    rows = e;
-    place = refl;
-    edits = es;
-    right = h;
-    wrong = inr (few, is);
-  },
-)
+after_edit text before row rest es e h few next (Err kind) is = wrong_edit text before row rest es kind e h (inr (few, is))
 
 edits_from : (text : List ℕ) (rest before : List Row) (es : List EditText) → rows_of text ≡ before ++ rest → AreEditsOf before es → IsListOrFaulty text
 edits_from text [] before es e h = inl (es, subst (λ (rs : List Row). AreEditsOf rs es) (sym (e ∙ append-nil before)) h)
 edits_from text (row ∷ rest) before es e h = elim (cases_lt (length before) most_edits) [
   | inl few ↦ after_edit text before row rest es e h few
       (λ x g. edits_from text rest (before ++ row ∷ []) (es ++ x ∷ []) (e ∙ sym (append_assoc before (row ∷ []) rest)) g) (edit_row row) refl
-  | inr many ↦ inr (
-    T7,
-    suc (length before),
-    record {
-      before = before;
-      row = row;
-      after = rest;
-      rows = e;
-      place = refl;
-      edits = es;
-      right = h;
-      wrong = inl (refl, many);
-    },
-  )
+  | inr many ↦ wrong_edit text before row rest es T7 e h (inl (refl, many))
 ]
 
 pub edits_are_read : EditsAreRead

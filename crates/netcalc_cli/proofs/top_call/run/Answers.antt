@@ -179,7 +179,7 @@ pub returns-in_default-parsed-clause-asked_all : goal.returns-in_default-parsed-
 returns-in_default-parsed-clause-asked_all g c on = absurd (not_for_memory c.code.result c.code.ensures on)
 
 pub returns-in-Ok-answer_to-clause-asked : goal.returns-in-Ok-answer_to-clause-asked
-returns-in-Ok-answer_to-clause-asked g c = rw (← c.in-Ok.ensures.command) c.answer_to.ensures.asked
+returns-in-Ok-answer_to-clause-asked g c = rw (← c.in-Ok.ensures.command) c.answer_to.ensures.asked_for
 
 pub returns-in-Ok-answer_to-clause-asked_all : goal.returns-in-Ok-answer_to-clause-asked_all
 returns-in-Ok-answer_to-clause-asked_all g c on =
@@ -188,7 +188,7 @@ returns-in-Ok-answer_to-clause-asked_all g c on =
     (λ other. (c.give-in-Ok-answer_to.ensures.given other).0) on))
 
 pub returns-in-Err-clause-asked : goal.returns-in-Err-clause-asked
-returns-in-Err-clause-asked g c = rw (← c.in-Ok.ensures.command) c.answer_to.ensures.asked
+returns-in-Err-clause-asked g c = rw (← c.in-Ok.ensures.command) c.answer_to.ensures.asked_for
 
 pub returns-in-Err-clause-asked_all : goal.returns-in-Err-clause-asked_all
 returns-in-Err-clause-asked_all g c on = absurd (not_for_memory c.code-in-Err.result c.code-in-Err.ensures on)

@@ -1,10 +1,9 @@
 use Rattle.std.proofs.Common.{ap}
-use Rattle.std.proofs.lemmas.Result.{IfOk-weaker}
 use Rattle.command_replies.specs.Replies.{Reply}
 use Rattle.outcomes.specs.Stages.{goes_on}
-use Rattle.command_replies.specs.View.{reply_of, status_of}
+use Rattle.command_replies.specs.View.{status_of}
 use Rattle.commands.proofs.analyse.Counting.{of_cells}
-use Rattle.commands.proofs.Stopped.{stopped, none_told, at_status}
+use Rattle.commands.proofs.Stopped.{stopped_told, at_status, stopped_counts}
 use Rattle.commands.proofs.analyse.on_net.on_network.Goals as goal
 
 pub returns-in_ok-text-in-Ok-clause-reply : goal.returns-in_ok-text-in-Ok-clause-reply
@@ -25,10 +24,9 @@ returns-in_err-text-in-Ok-clause-counts g c =
 
 pub returns-in-Err-clause-reply : goal.returns-in-Err-clause-reply
 returns-in-Err-clause-reply g c =
-    IfOk-weaker c.in-Err.told _ _ (λ r h. stopped c.args.net.now _ (reply_of r) h) c.in-Err.ensures.stopped
+    stopped_told c.args.net.now _ c.in-Err.told c.in-Err.ensures.stopped
 
 pub returns-in-Err-clause-counts : goal.returns-in-Err-clause-counts
 returns-in-Err-clause-counts g c =
     of_cells c.args.net.now (status_of c.in-Err.told) _ _
-    (at_status c.args.net.now (status_of c.in-Err.told) _ _ c.table_of.ensures.cells
-    (λ is. absurd (none_told c.args.net.now c.in-Err.told c.in-Err.ensures.stopped is)))
+    (stopped_counts c.args.net.now c.in-Err.told _ _ c.table_of.ensures.cells c.in-Err.ensures.stopped)

@@ -1,25 +1,20 @@
-use Rattle.std.proofs.lemmas.Result.{IfOk-weaker}
-use Rattle.outcomes.specs.Stages.{goes_on}
-use Rattle.command_replies.specs.View.{reply_of, status_of}
-use Rattle.commands.proofs.Stopped.{stopped, none_told, at_status}
+use Rattle.command_replies.specs.View.{status_of}
+use Rattle.commands.specs.check.Checked.{IsVerdictReply}
+use Rattle.commands.proofs.Stopped.{told_beside, stopped_told, at_status, stopped_counts}
 use Rattle.commands.proofs.check.on_net.on_network.Goals as goal
 
 pub returns-in-Ok-clause-reply : goal.returns-in-Ok-clause-reply
 returns-in-Ok-clause-reply g c =
-    let t = c.in-Ok.ensures.table in
-    IfOk-weaker c.checked.result _ _
-    (λ r told. goes_on t.order t.ordered (goes_on _ t.table (c.keeps_curves.ensures, told)))
-    c.checked.ensures
+    told_beside c.args.net.now _ (IsVerdictReply c.args.net.now c.args.run.now) c.checked.result c.in-Ok.ensures.table
+    c.keeps_curves.ensures c.checked.ensures
 
 pub returns-in-Ok-clause-counts : goal.returns-in-Ok-clause-counts
 returns-in-Ok-clause-counts g c =
     at_status c.args.net.now (status_of c.checked.result) _ _ c.table_of.ensures.cells (λ is. c.in-Ok.ensures.exact)
 
 pub returns-in-Err-clause-reply : goal.returns-in-Err-clause-reply
-returns-in-Err-clause-reply g c =
-    IfOk-weaker c.in-Err.told _ _ (λ r h. stopped c.args.net.now _ (reply_of r) h) c.in-Err.ensures.stopped
+returns-in-Err-clause-reply g c = stopped_told c.args.net.now _ c.in-Err.told c.in-Err.ensures.stopped
 
 pub returns-in-Err-clause-counts : goal.returns-in-Err-clause-counts
 returns-in-Err-clause-counts g c =
-    at_status c.args.net.now (status_of c.in-Err.told) _ _ c.table_of.ensures.cells
-    (λ is. absurd (none_told c.args.net.now c.in-Err.told c.in-Err.ensures.stopped is))
+    stopped_counts c.args.net.now c.in-Err.told _ _ c.table_of.ensures.cells c.in-Err.ensures.stopped

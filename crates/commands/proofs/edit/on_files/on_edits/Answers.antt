@@ -1,18 +1,14 @@
-use Rattle.std.proofs.lemmas.Result.{IfOk-weaker}
 use Rattle.net_draft.specs.Faults.{fault_of}
 use Rattle.command_replies.specs.Faults.{fault_reply}
-use Rattle.outcomes.specs.Stages.{stops, goes_on}
 use Rattle.command_replies.specs.View.{status_of}
-use Rattle.command_replies.proofs.FirstFaults.{on_told}
 use Rattle.command_replies.proofs.Statuses.{refused}
+use Rattle.commands.proofs.FileAnswers.{said_of_network, said_of_fault}
 use Rattle.commands.proofs.edit.OnFiles.{of_network, of_fault, fault_is_refused}
 use Rattle.commands.proofs.edit.on_files.on_edits.Goals as goal
 
 pub returns-in-Ok-clause-reply : goal.returns-in-Ok-clause-reply
 returns-in-Ok-clause-reply g c =
-    IfOk-weaker c.on_list.result _ _
-    (λ r on. goes_on c.in-Ok.network record { reads = c.in-Ok.ensures.network; accepted = c.keeps.ensures } on)
-    c.on_list.ensures.reply
+    said_of_network _ _ c.in-Ok.network _ c.on_list.result c.in-Ok.ensures.network c.keeps.ensures c.on_list.ensures.reply
 
 pub returns-in-Ok-clause-counts : goal.returns-in-Ok-clause-counts
 returns-in-Ok-clause-counts g c =
@@ -22,10 +18,7 @@ returns-in-Ok-clause-counts g c =
 
 pub returns-in-Err-clause-reply : goal.returns-in-Err-clause-reply
 returns-in-Err-clause-reply g c =
-    IfOk-weaker c.on_fault.result _ _
-    (λ r none. stops none)
-    (on_told c.args.net_file.now c.args.net_bytes.now c.in-Err.fault c.on_fault.result c.in-Err.ensures.fault
-    c.on_fault.ensures.reply c.on_fault.ensures.told)
+    said_of_fault _ _ _ c.in-Err.fault c.on_fault.result c.in-Err.ensures.fault c.on_fault.ensures.reply c.on_fault.ensures.told
 
 pub returns-in-Err-clause-counts : goal.returns-in-Err-clause-counts
 returns-in-Err-clause-counts g c =

@@ -4,7 +4,7 @@ use Rattle.net_model.specs.declared.edit.Edit.{Edit}
 use Rattle.commands.specs.edit_report.Said.{EditSaid, said_view}
 use Rattle.commands.specs.edit.NetHistories.{history_of}
 use Rattle.commands.specs.edit.Answered.{AreAnswered}
-use Rattle.commands.proofs.edit.InTurn.{IsLeft, cut_short, all_left, answered_at, rest_at, one_less, no_deeper}
+use Rattle.commands.proofs.edit.InTurn.{IsLeft, cut_at, all_left, answered_at, rest_at, one_less, no_deeper}
 use Rattle.commands.proofs.edit.rows.all_answered.Goals as goal
 
 pub answered-requires : goal.answered-requires
@@ -49,26 +49,12 @@ loop-edit-preserved g c =
 
 pub returns-in_err-said-clause-most : goal.returns-in_err-said-clause-most
 returns-in_err-said-clause-most g c = λ all done w.
-    let edits = c.args.edits.now in
-    let i = c.loop-edit.edit-index in
-    let edit = c.edit-item.result in
-    let now = history_of c.loop-edit.store in
-    let before = g.E.Evaluator.count c.args.eval.now in
-    let mid = g.E.Evaluator.count c.loop-edit.eval in
-    cut_short now edit (drop (i + 1) edits) before mid (g.E.Evaluator.count c.answered.new.eval) all done
-    c.answered.ensures.most
-    (subst (λ (es : List Edit). IsLeft now es before mid all done) (rest_at edits i edit (omega arith) c.edit-item.is)
-    (c.loop-edit.invariant.left all done w))
+    cut_at (history_of c.loop-edit.store) c.args.edits.now c.loop-edit.edit-index c.edit-item.result
+    (g.E.Evaluator.count c.args.eval.now) (g.E.Evaluator.count c.loop-edit.eval) (g.E.Evaluator.count c.answered.new.eval)
+    all done (omega arith) c.edit-item.is c.answered.ensures.most (c.loop-edit.invariant.left all done w)
 
 pub returns-in_err-push-clause-most : goal.returns-in_err-push-clause-most
 returns-in_err-push-clause-most g c = λ all done w.
-    let edits = c.args.edits.now in
-    let i = c.loop-edit.edit-index in
-    let edit = c.edit-item.result in
-    let now = history_of c.loop-edit.store in
-    let before = g.E.Evaluator.count c.args.eval.now in
-    let mid = g.E.Evaluator.count c.loop-edit.eval in
-    cut_short now edit (drop (i + 1) edits) before mid (g.E.Evaluator.count c.answered.new.eval) all done
-    c.answered.ensures.most
-    (subst (λ (es : List Edit). IsLeft now es before mid all done) (rest_at edits i edit (omega arith) c.edit-item.is)
-    (c.loop-edit.invariant.left all done w))
+    cut_at (history_of c.loop-edit.store) c.args.edits.now c.loop-edit.edit-index c.edit-item.result
+    (g.E.Evaluator.count c.args.eval.now) (g.E.Evaluator.count c.loop-edit.eval) (g.E.Evaluator.count c.answered.new.eval)
+    all done (omega arith) c.edit-item.is c.answered.ensures.most (c.loop-edit.invariant.left all done w)

@@ -4,7 +4,7 @@ use Rattle.net_model.specs.Networks.{Net}
 use Rattle.outcomes.specs.Stages.{goes_on}
 use Rattle.command_replies.specs.View.{reply_of, status_of}
 use Rattle.command_replies.specs.run_findings.CellCounts.{CountsOnCells}
-use Rattle.commands.proofs.Stopped.{none_told, at_status}
+use Rattle.commands.proofs.Stopped.{at_status, stopped_counts}
 use Rattle.commands.proofs.exercise.Replying.{in_order, beside, stopped, is_named, is_free}
 use Rattle.commands.proofs.exercise.on_workload.on_workload.Goals as goal
 
@@ -38,5 +38,4 @@ pub returns-in-Err-clause-counts : goal.returns-in-Err-clause-counts
 returns-in-Err-clause-counts g c =
     let P : Net → Type 0 = λ n. CountsOnCells n (status_of c.in-Err.told) c.args.steps.now c.table_of.new.steps in
     subst P c.requires.net
-    (at_status c.args.net.now (status_of c.in-Err.told) _ _ c.table_of.ensures.cells
-    (λ is. absurd (none_told c.args.net.now c.in-Err.told c.in-Err.ensures.stopped is)))
+    (stopped_counts c.args.net.now c.in-Err.told _ _ c.table_of.ensures.cells c.in-Err.ensures.stopped)
