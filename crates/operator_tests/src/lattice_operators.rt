@@ -2,8 +2,8 @@
 
 ghost use Rattle.std.specs.Prelude.{◌≡◌, ◌<◌};
 
-use outcomes::Steps;
 use curve_tests::shapes::{curve, piece, whole};
+use outcomes::Steps;
 use plain_operators::pointwise::min;
 use std::alloc::Global;
 use std::marker::Brand;
