@@ -16,9 +16,6 @@ pub record BoundsBelow (net : Network) (row : ℕ → ℕ → Option Queue) (lin
   pub each : (place : ℕ) → place < k → get_or bounds place None ≡ time_at net row link bounds place
   pub few : (place : ℕ) → place < k → IfSome (get_or bounds place None) (λ b. b ≤ (place + 1) * 2 ^ 65)
 
-pub no_bound_yet : (net : Network) (row : ℕ → ℕ → Option Queue) (link : Link) → BoundsBelow net row link 0 []
-no_bound_yet net row link = record { count = refl; each = λ p h. absurd (omega (arith, h)); few = λ p h. absurd (omega (arith, h)) }
-
 -- a bound more changes none of those before
 time_same : (net : Network) (row : ℕ → ℕ → Option Queue) (link : Link) (bounds : List (Option ℕ)) (b : Option ℕ) (k place : ℕ) → length bounds ≡ k → place ≤ k
     → HangsBefore place (node_at link place).from → time_at net row link (bounds ++ b ∷ []) place ≡ time_at net row link bounds place
@@ -78,9 +75,6 @@ bound_more net row link k bounds b hangs is small old = record {
         enough (Some x) e same = omega (arith, e, same)
 
 -- ---- of several links
-pub no_link_yet : (net : Network) (row : ℕ → ℕ → Option Queue) → HaveBounds net row 0 []
-no_link_yet net row = record { count = refl; each = λ i link h. absurd (omega (arith, h)) }
-
 pub link_more : (net : Network) (row : ℕ → ℕ → Option Queue) (k : ℕ) (bounds : List (List (Option ℕ))) (new : List (Option ℕ))
     → ((link : Link) → slice_get net.links.items k ≡ Some link → AreBounds net row link new) → HaveBounds net row k bounds
     → HaveBounds net row (k + 1) (bounds ++ new ∷ [])

@@ -166,18 +166,18 @@ queues_more spots s q =
     length_split (is_in_queues spots s (suc q)) (is_in_queues spots s q) (is_in_queue spots s q) (length spots)
     (λ n lt. table (spot_at spots n).queue q ((spot_at spots n).port == s))
 
+no_more : (a b : Bool) → one_if (a && b) ≤ one_if b
+no_more true true = omega arith
+no_more true false = omega arith
+no_more false true = omega arith
+no_more false false = omega arith
+
 pub queues_few : (net : Network) (s q : ℕ) → IsNetwork net → count_queues (spots_of net) s q ≤ 16384
 queues_few net s q w =
     let spots = spots_of net in
     let few = here_few net s w in
     let all = fewer (is_in_queues spots s q) (is_at spots s) (length spots) (λ n lt. no_more (nat_lt (spot_at spots n).queue q) (is_at spots s n)) in
     omega (arith, few, all)
-  where
-    no_more : (a b : Bool) → one_if (a && b) ≤ one_if b
-    no_more true true = omega arith
-    no_more true false = omega arith
-    no_more false true = omega arith
-    no_more false false = omega arith
 
 -- ---- groups
 one_list : (spots : List Spot) (line : ℕ → Option Line) (k : ℕ) (numbers : List ℕ) → length (group_list spots line k numbers) ≤ length numbers
@@ -213,9 +213,3 @@ groups_few spots line s q k =
     let before = groups_before spots line s q k in
     let all = fewer (is_before spots s q k) (is_in_queue spots s q) (length spots) (λ n lt. no_more (nat_lt (spot_at spots n).source k) (is_in_queue spots s q n)) in
     omega (arith, before, all)
-  where
-    no_more : (a b : Bool) → one_if (a && b) ≤ one_if b
-    no_more true true = omega arith
-    no_more true false = omega arith
-    no_more false true = omega arith
-    no_more false false = omega arith

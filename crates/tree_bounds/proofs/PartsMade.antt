@@ -2,8 +2,7 @@
 use Rattle.std.proofs.Common.{◌≡◌, ℕ, zero, suc, ◌<◌, ◌≤◌, ◌+◌, ◌*◌, ◌^◌, ◌&&◌, max, Bool, true, false, Option, Some, None, List, [], ◌∷◌, ◌++◌, inl, inr, length, get_or, map, nat_lt, take, if◌then◌else◌, refl, sym, ◌∙◌, ap, arith}
 use Rattle.std.specs.List.{sum_by, list_all}
 use Rattle.std.proofs.lemmas.Bool.Decides.{nat_tests}
-use Rattle.std.proofs.lemmas.List.{take_more, map-append}
-use Rattle.std.proofs.lemmas.List.Folds.{list_all_more}
+use Rattle.std.proofs.lemmas.List.{take_more}
 use Rattle.std.proofs.lemmas.List.Sums.{sum_by-cons}
 use Rattle.arrival_lines.specs.declared.grid.Part.{Part}
 use Rattle.tree_network.specs.declared.network.Network.{Network}
@@ -75,16 +74,6 @@ parts_made net groups parts b is known e =
     ∙ ap (λ t. if t && are_bounded (map (part_of net) groups) then Some (map (part_of net) groups) else None) (sym known)
 
 -- ---- one more
-pub groups_more : (net : Network) (groups : List Group) (parts : List Part) (part : Part) (i : ℕ) (d : Group) → i < length groups
-    → parts ≡ map (part_of net) (take i groups) → part ≡ part_of net (get_or groups i d) → parts ++ part ∷ [] ≡ map (part_of net) (take (i + 1) groups)
-groups_more net groups parts part i d h e is =
-    ap (λ ps. ps ++ part ∷ []) e ∙ ap (λ p. map (part_of net) (take i groups) ++ p ∷ []) is
-    ∙ sym (ap (map (part_of net)) (take_more groups i d h) ∙ map-append (part_of net) (take i groups) (get_or groups i d ∷ []))
-
-pub known_more : (groups : List Group) (i : ℕ) (d : Group) → i < length groups → list_all (λ g. g.known) (take i groups) ≡ true → (get_or groups i d).known ≡ true
-    → list_all (λ g. g.known) (take (i + 1) groups) ≡ true
-known_more groups i d h e is = list_all_more (λ g. g.known) groups i d h ∙ ap (λ b. b && (get_or groups i d).known) e ∙ is
-
 longest_push : (groups : List Group) (g : Group) → longest_group (groups ++ g ∷ []) ≡ max (longest_group groups) g.longest
 unfolding longest_group
 longest_push [] g = omega arith

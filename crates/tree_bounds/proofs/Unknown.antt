@@ -18,9 +18,6 @@ use Rattle.tree_bounds.proofs.PartsMade.{parts_made}
 pub below_is : (a b : ℕ) → a < b → nat_lt a b ≡ true
 below_is a b h = grind (arith, nat_tests)
 
-never_left : (b : Bool) → (false && b) ≡ false
-never_left b = refl
-
 never_right : (b : Bool) → (b && false) ≡ false
 never_right true = refl
 never_right false = refl

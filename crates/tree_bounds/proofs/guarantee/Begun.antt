@@ -3,7 +3,7 @@ use Rattle.std.proofs.Common.{◌≡◌, ◌≢◌, ℕ, zero, suc, ◌<◌, ◌
 use Rattle.std.specs.Prelude.{slice_get, nat_lt}
 use Rattle.std.proofs.lemmas.Bool.{cases_lt}
 use Rattle.std.proofs.lemmas.List.{get_or-map, length-map}
-use Rattle.std.proofs.lemmas.Option.{get_or_from_slice_get, slice_get_cases}
+use Rattle.std.proofs.lemmas.Option.{get_or_from_slice_get}
 use Rattle.min_plus.specs.rational.specs.Rational.{ℚ, ◌-ℚ◌}
 use Rattle.min_plus.specs.rational.specs.Extended.{◌≤ₑ◌}
 use Rattle.min_plus.specs.rational.specs.declared.Extended.TheVariants.{Fin}
@@ -40,7 +40,7 @@ use Rattle.tree_bounds.specs.Groups.{longest_of, spots_in_group}
 use Rattle.tree_bounds.specs.guarantee.Routes.{routes_of, tree_of_link, node_of}
 use Rattle.tree_bounds.specs.guarantee.Guarantee.{frame_of, frame_in, stair_of, stair_in}
 use Rattle.tree_bounds.proofs.guarantee.TreesOf.{tree_at, no_tree}
-use Rattle.tree_bounds.proofs.guarantee.Forward.{spot_found}
+use Rattle.tree_bounds.proofs.guarantee.Forward.{no_gap, spot_found}
 use Rattle.tree_bounds.proofs.guarantee.Gathered.{place_of, number_at, nodes_in, gathered, HasPort, LacksPort, has_or_lacks, in_part}
 use Rattle.tree_bounds.proofs.guarantee.Summed.{curve_of, arrival_at, longest_at, rate_at}
 
@@ -60,12 +60,7 @@ live_link net i w live =
     ]
   where
     by_link : (o : Option Link) → slice_get net.links.items i ≡ o → i < length net.links.items → IsLiveLink net i
-    by_link None e l =
-        let past = slice_get_cases net.links.items i in
-        elim past.1 [
-          | inl found ↦ absurd (let f : None ≡ Some found.0 = sym e ∙ found.2 in cc)
-          | inr over ↦ absurd (omega (arith, over.0, l))
-        ]
+    by_link None e l = absurd (no_gap net.links.items i e l)
     by_link (Some link) e l =
         let is = get_or_from_slice_get net.links.items i link link e in
         let L : Link → Type 0 = λ x. IsLink net x in

@@ -18,6 +18,15 @@ use Rattle.tree_network.proofs.InRange.{in_range}
 use Rattle.tree_bounds.specs.guarantee.Routes.{routes_of, node_of, port_before, OrdersGoForward}
 use Rattle.tree_bounds.proofs.guarantee.TreesOf.{tree_at, no_tree}
 
+-- within a list of links each number has one
+pub no_gap : (links : List Link) (i : ℕ) → slice_get links i ≡ None → i < length links → ⊥
+no_gap links i e l =
+    let past = slice_get_cases links i in
+    elim past.1 [
+      | inl found ↦ absurd (let f : None ≡ Some found.0 = sym e ∙ found.2 in cc)
+      | inr over ↦ absurd (omega (arith, over.0, l))
+    ]
+
 -- ---- where a spot stands
 -- there are the spots of each link, in order
 pub spot_found : (net : Network) (i m : ℕ) (link : Link) (k : ℕ) → slice_get net.links.items i ≡ Some link → k < length link.nodes.items → i < m → m ≤ length net.links.items
@@ -61,12 +70,7 @@ spot_found net i (suc m) link k e h early few =
         ])
 
     by_place : (i < m → Found (spots_below net m)) → (o : Option Link) → slice_get net.links.items m ≡ o → Found (spots_below net (suc m))
-    by_place before None is =
-        let past = slice_get_cases net.links.items m in
-        elim past.1 [
-          | inl found ↦ absurd (let f : None ≡ Some found.0 = sym is ∙ found.2 in cc)
-          | inr over ↦ absurd (omega (arith, over.0, few))
-        ]
+    by_place before None is = absurd (no_gap net.links.items m is (omega (arith, few)))
     by_place before (Some other) is = let P : ℕ → Type 0 = λ j. Found (spots_below net j) in subst P next (more before other is)
 
 -- ---- what hangs on what
@@ -103,12 +107,7 @@ goes_where_hangs net i a b w live h =
     ]
   where
     by_link : (o : Option Link) → slice_get net.links.items i ≡ o → i < length net.links.items → GoesTo (spots_of net) a b
-    by_link None e l =
-        let past = slice_get_cases net.links.items i in
-        elim past.1 [
-          | inl found ↦ absurd (let f : None ≡ Some found.0 = sym e ∙ found.2 in cc)
-          | inr over ↦ absurd (omega (arith, over.0, l))
-        ]
+    by_link None e l = absurd (no_gap net.links.items i e l)
     by_link (Some link) e l =
         let is = get_or_from_slice_get net.links.items i link link e in
         let P : Tree → Type 0 = λ t. tree_server_before b t.nodes ≡ Some a in

@@ -10,7 +10,7 @@ use Rattle.min_plus.specs.rational.specs.Rational.{ℚ, int, ◌≤ℚ◌}
 use Rattle.run_laws.specs.Routes.{PassesServer, link_at}
 use Rattle.net_laws.specs.Paths.{IsPath}
 use Rattle.tree_runs.specs.Trees as trees
-use Rattle.tree_runs.specs.Trees.{tree_of, hops_in, flat, HangsOn, EachHangs, IsTree, IsOverTrees, Tree}
+use Rattle.tree_runs.specs.Trees.{tree_of, hops_in, flat, HangsOn, EachHangs, IsTree, Tree}
 use Rattle.arrival_lines.proofs.Units.{micros_nonneg}
 use Rattle.tree_network.specs.Networks.{IsNetwork, IsLink, node_at, no_node, port_at, no_port, HangsBefore}
 use Rattle.tree_network.specs.declared.network.Link.{Link}
