@@ -1,5 +1,5 @@
 -- A listed curve: its form, its numbers, and its answers.
-use Rattle.std.specs.Prelude.{◌≡◌, ◌<◌, ◌≤◌, ◌^◌, ◌*◌, pos, List, [], ◌∷◌, length, Option, Some, None, Result, Ok, Err}
+use Rattle.std.specs.Prelude.{◌≡◌, ◌<◌, ◌≤◌, ◌^◌, ◌*◌, pos, List, [], ◌∷◌, length, Option, Some, None, Result, Ok, Err, MatchResult}
 use Rattle.std.specs.List.{AllByRecursion}
 use Rattle.std.proofs.Common.{arith, get_or, sym, ap, ◌∙◌, refl, subst, inl, inr}
 use Rattle.upp_limits.specs.rational.specs.Rational.{ℚ, ◌+ℚ◌, ◌-ℚ◌, ◌*ℚ◌, ◌≤ℚ◌, ◌<ℚ◌, int, neg_ℚ}
@@ -36,7 +36,7 @@ use Rattle.curve_library.specs.declared.texts.UseAs.{UseAs}
 use Rattle.curve_library.specs.declared.texts.UseAs.TheVariants.{Arrival, Service}
 use Rattle.curve_library.specs.declared.fault.CurveFault.{CurveFault}
 use Rattle.curve_library.specs.declared.fault.CurveFault.TheVariants.{Negative, ZeroPeriod, NotRising, NotContinuous, NotZeroAtStart, Op, NoMemory}
-use Rattle.curve_library.specs.Listed.{text_line, text_piece, text_pieces, text_tail, last_from, listed_curve, LineFits, IsNonnegText, IsWellFormed, HasShape, Jumps, StartsAboveZero, KeepsShape, KeepsBoth, KeepsListed, ListsFirst, TextFits}
+use Rattle.curve_library.specs.Listed.{text_line, text_piece, text_pieces, text_tail, last_from, listed_curve, LineFits, IsNonnegText, IsWellFormed, HasShape, Jumps, StartsAboveZero, KeepsShape, KeepsBoth, KeepsListed, AnswersOrWants, ListsFirst, TextFits}
 use Rattle.curve_library.proofs.Answering.{over_within}
 use Rattle.curve_library.proofs.OwnParts.{Held, held, run_small}
 use Rattle.upp_limits.proofs.KnownNumbers.{two_ones}
@@ -213,18 +213,26 @@ wide_first : (ps : List PieceText) (tail : Option TailText) (limit : OverLimit) 
 wide_first ps tail TooWide w h n = refl
 wide_first ps tail TooMany w h n = absurd (n (texts_fit ps tail w h.0).lines)
 
-pub lists_first : (ps : List PieceText) (tail : Option TailText) (u : UseAs) (r : Result SpecCurve CurveFault) → KeepsListed ps tail u r → ListsFirst ps tail u r
-lists_first ps tail u (Ok made) h = let c = listed_curve ps tail in record {
-  below = λ n. absurd (n h.0.nonneg);
-  empty = λ a n. absurd (n h.0.length);
-  order = λ a l n. absurd (n h.0.order);
-  wide = λ w n. absurd (n (within_fit ps tail w h.1.1));
-  over = λ limit w o. absurd (over_within c limit o h.1.1);
-  falls = λ w i n. absurd (n (shape_rises u (value_at c) h.1.2));
-  jumps = λ w i j. absurd (shape_jumps u (value_at c) h.1.2 j);
-  lifted = λ w i s. absurd (shape_lifted u (value_at c) h.1.2 s);
-  within = λ w i s. h.1.0;
+-- of a well-formed list whose curve is within the limits, the shape alone is left to tell
+within_first : (ps : List PieceText) (tail : Option TailText) (u : UseAs) (r : Result SpecCurve CurveFault) → IsWellFormed ps tail → IsWithinOwn (listed_curve ps tail)
+    → (¬ (IsRising (value_at (listed_curve ps tail))) → AnswersOrWants r NotRising) → (Jumps u (value_at (listed_curve ps tail)) → AnswersOrWants r NotContinuous)
+    → (StartsAboveZero u (value_at (listed_curve ps tail)) → AnswersOrWants r NotZeroAtStart)
+    → (HasShape u (value_at (listed_curve ps tail)) → MatchResult r (λ made. HasSameValues made (listed_curve ps tail)) (λ fault. fault ≡ NoMemory)) → ListsFirst ps tail u r
+within_first ps tail u r w i falls jumps lifted within = record {
+  below = λ n. absurd (n w.nonneg);
+  empty = λ a n. absurd (n w.length);
+  order = λ a l n. absurd (n w.order);
+  wide = λ v n. absurd (n (within_fit ps tail v i));
+  over = λ limit v o. absurd (over_within (listed_curve ps tail) limit o i);
+  falls = λ v j. falls;
+  jumps = λ v j. jumps;
+  lifted = λ v j. lifted;
+  within = λ v j. within;
 }
+
+pub lists_first : (ps : List PieceText) (tail : Option TailText) (u : UseAs) (r : Result SpecCurve CurveFault) → KeepsListed ps tail u r → ListsFirst ps tail u r
+lists_first ps tail u (Ok made) h = let f = value_at (listed_curve ps tail) in
+    within_first ps tail u (Ok made) h.0 h.1.1 (λ n. absurd (n (shape_rises u f h.1.2))) (λ j. absurd (shape_jumps u f h.1.2 j)) (λ s. absurd (shape_lifted u f h.1.2 s)) (λ s. h.1.0)
 lists_first ps tail u (Err Negative) h = record {
   below = λ n. refl;
   empty = λ a n. absurd (h a);
@@ -258,39 +266,12 @@ lists_first ps tail u (Err NotRising) (inl h) = record {
   lifted = λ w i s. absurd (h.2 w.order);
   within = λ w i s. absurd (h.2 w.order);
 }
-lists_first ps tail u (Err NotRising) (inr h) = let c = listed_curve ps tail in record {
-  below = λ n. absurd (n h.0.nonneg);
-  empty = λ a n. absurd (n h.0.length);
-  order = λ a l n. refl;
-  wide = λ w n. absurd (n (within_fit ps tail w h.1.0));
-  over = λ limit w o. absurd (over_within c limit o h.1.0);
-  falls = λ w i n. inl refl;
-  jumps = λ w i j. absurd (h.1.1 j.rises);
-  lifted = λ w i s. absurd (h.1.1 s.rises);
-  within = λ w i s. absurd (h.1.1 (shape_rises u (value_at c) s));
-}
-lists_first ps tail u (Err NotContinuous) h = let c = listed_curve ps tail in record {
-  below = λ n. absurd (n h.0.nonneg);
-  empty = λ a n. absurd (n h.0.length);
-  order = λ a l n. absurd (n h.0.order);
-  wide = λ w n. absurd (n (within_fit ps tail w h.1.0));
-  over = λ limit w o. absurd (over_within c limit o h.1.0);
-  falls = λ w i n. absurd (n h.1.1.rises);
-  jumps = λ w i j. inl refl;
-  lifted = λ w i s. absurd (h.1.1.jumps s.smooth);
-  within = λ w i s. absurd (shape_jumps u (value_at c) s h.1.1);
-}
-lists_first ps tail u (Err NotZeroAtStart) h = let c = listed_curve ps tail in record {
-  below = λ n. absurd (n h.0.nonneg);
-  empty = λ a n. absurd (n h.0.length);
-  order = λ a l n. absurd (n h.0.order);
-  wide = λ w n. absurd (n (within_fit ps tail w h.1.0));
-  over = λ limit w o. absurd (over_within c limit o h.1.0);
-  falls = λ w i n. absurd (n h.1.1.rises);
-  jumps = λ w i j. absurd (j.jumps h.1.1.smooth);
-  lifted = λ w i s. inl refl;
-  within = λ w i s. absurd (shape_lifted u (value_at c) s h.1.1);
-}
+lists_first ps tail u (Err NotRising) (inr h) = let f = value_at (listed_curve ps tail) in
+    within_first ps tail u (Err NotRising) h.0 h.1.0 (λ n. inl refl) (λ j. absurd (h.1.1 j.rises)) (λ s. absurd (h.1.1 s.rises)) (λ s. absurd (h.1.1 (shape_rises u f s)))
+lists_first ps tail u (Err NotContinuous) h = let f = value_at (listed_curve ps tail) in
+    within_first ps tail u (Err NotContinuous) h.0 h.1.0 (λ n. absurd (n h.1.1.rises)) (λ j. inl refl) (λ s. absurd (h.1.1.jumps s.smooth)) (λ s. absurd (shape_jumps u f s h.1.1))
+lists_first ps tail u (Err NotZeroAtStart) h = let f = value_at (listed_curve ps tail) in
+    within_first ps tail u (Err NotZeroAtStart) h.0 h.1.0 (λ n. absurd (n h.1.1.rises)) (λ j. absurd (j.jumps h.1.1.smooth)) (λ s. inl refl) (λ s. absurd (shape_lifted u f s h.1.1))
 lists_first ps tail u (Err (Op limit)) h = let c = listed_curve ps tail in record {
   below = λ n. absurd (n h.0.nonneg);
   empty = λ a n. absurd (n h.0.length);
