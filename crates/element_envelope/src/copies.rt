@@ -30,6 +30,15 @@ fn copy_start(x: Frac, pieces: &[Piece]) -> Frac
     }
 }
 
+// Infinity from 0 on, up to a later start, with room for more pieces.
+fn lead_with_room(alloc: Global, start: Frac, room: usize) -> Result<Vec<Piece>, AllocError>
+    ensures { IfOk result (λ v. v.items ≡ lead_of start) }
+{
+    let mut pieces = lead(alloc, start)?;
+    pieces.reserve_exact(room)?;
+    Ok(pieces)
+}
+
 // The pieces x later and v higher, of those that then start before `end`; infinite before the first.
 fn copy_of(
     alloc: Global,
@@ -43,7 +52,7 @@ fn copy_of(
     ensures { IfOk result (λ w. w.items ≡ lead_of (copy_start x pieces.now) ++ upto end (each_later x v pieces.now)) }
 {
     let left = difference(end, x);
-    let mut copy = lead(alloc, copy_start(x, pieces))?;
+    let mut copy = lead_with_room(alloc, copy_start(x, pieces), count_before(pieces, left))?;
     for p in pieces {
         if !is_less(p.x, left) {
             return Ok(copy);

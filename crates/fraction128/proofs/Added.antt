@@ -148,7 +148,7 @@ fits_fields n m d e x y h k p q fit =
     rw (← u.0, ← u.1, ← v.0, ← v.1) fit
 
 -- ---- whole numbers
-whole_wide : (a b : ℤ) (d e : ℕ) → d ≡ 1 → e ≡ 1 → 2 ^ 127 ≤ unsigned_abs (a +ℤ b) → ¬ (PartsFit a d b e)
+pub whole_wide : (a b : ℤ) (d e : ℕ) → d ≡ 1 → e ≡ 1 → 2 ^ 127 ≤ unsigned_abs (a +ℤ b) → ¬ (PartsFit a d b e)
 whole_wide a b d e p q h fit =
     let is : a *ℤ pos (e / gcd d e) +ℤ b *ℤ pos (d / gcd d e) ≡ a +ℤ b = rw (p, q, gcd_one 1) (ones a b) in
     let small : unsigned_abs (a +ℤ b) < 2 ^ 127 = rw (← is) fit.sum in

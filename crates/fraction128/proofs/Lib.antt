@@ -5,6 +5,7 @@ pub mod Compared
 pub mod Turned
 pub mod Multiplied
 pub mod Added
+pub mod WholeNumbers
 pub mod Printed
 pub mod Rounded
 pub mod CommonMultiple

@@ -10,9 +10,25 @@ use crate::fraction::{Ext, Frac};
 use rational::Extended;
 use std::cmp::Ordering;
 
-/// a + b, where it fits.
+/// a + b, where it fits. Whole numbers need no look at whether they fit.
 #[inline]
 pub fn sum(a: Frac, b: Frac) -> Frac
+    requires { SumFits a b }
+    ensures { result ≡ a +ℚ b }
+{
+    let d = a.denominator();
+    let e = b.denominator();
+    if d == 1 && e == 1 {
+        let left = a.numerator();
+        let right = b.numerator();
+        return Frac::from_whole(left + right);
+    }
+    sum_of_parts(a, b)
+}
+
+// A call of its own, so that only the sum of whole numbers is written out where it is called.
+#[inline(never)]
+fn sum_of_parts(a: Frac, b: Frac) -> Frac
     requires { SumFits a b }
     ensures { result ≡ a +ℚ b }
 {
@@ -25,12 +41,28 @@ pub fn difference(a: Frac, b: Frac) -> Frac
     requires { SumFits a (neg_ℚ b) }
     ensures { result ≡ a -ℚ b }
 {
-    Frac::sub(a, b).unwrap()
+    sum(a, b.negated())
 }
 
-/// a b, where it fits.
+/// a b, where it fits. Whole numbers need no look at whether they fit.
 #[inline]
 pub fn product(a: Frac, b: Frac) -> Frac
+    requires { IsSmall (a *ℚ b) }
+    ensures { result ≡ a *ℚ b }
+{
+    let d = a.denominator();
+    let e = b.denominator();
+    if d == 1 && e == 1 {
+        let left = a.numerator();
+        let right = b.numerator();
+        return Frac::from_whole(left * right);
+    }
+    product_of_parts(a, b)
+}
+
+// A call of its own, as that of a sum.
+#[inline(never)]
+fn product_of_parts(a: Frac, b: Frac) -> Frac
     requires { IsSmall (a *ℚ b) }
     ensures { result ≡ a *ℚ b }
 {

@@ -40,6 +40,7 @@ pub(crate) fn compare_signed(a: i128, d: u128, b: i128, e: u128) -> Ordering
 }
 
 /// a / d against b / e, by the cross products where they are known to fit, else by whole parts.
+#[inline(never)]
 fn compare_apart(a: i128, d: u128, b: i128, e: u128) -> Ordering
     requires left { 0 < d }
     requires right { 0 < e }

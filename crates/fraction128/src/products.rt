@@ -61,6 +61,7 @@ pub(crate) fn is_short(n: i128) -> bool
 
 /// (a / d) (b / e). Each numerator is first divided by what it has in common with the other's
 /// denominator: then the products are in lowest terms.
+#[inline(never)]
 fn product_across(a: i128, d: u128, b: i128, e: u128) -> Option<Frac>
     requires left { AreLowest a d }
     requires right { AreLowest b e }

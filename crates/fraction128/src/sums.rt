@@ -35,6 +35,7 @@ fn whole_sum(a: i128, b: i128) -> Option<Frac>
 }
 
 /// a / d + b / e, over the least common denominator.
+#[inline(never)]
 fn sum_over_both(a: i128, d: u128, b: i128, e: u128) -> Option<Frac>
     requires left { AreLowest a d }
     requires right { AreLowest b e }
