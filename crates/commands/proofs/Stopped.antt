@@ -61,4 +61,4 @@ at_status net status old new h exact =
 -- where it stops, no more than those of all cells
 pub stopped_counts : {E : Type 0} (net : Net) (r : Result Answer E) (old new : ℕ) → CountsOnCells net 5 old new
     → IfOk r (λ a. IsStopped net (reply_of a)) → CountsOnCells net (status_of r) old new
-stopped_counts net r old new h stops = at_status net (status_of r) old new h (λ is. absurd (none_told net r stops is))
+stopped_counts net r old new h at = at_status net (status_of r) old new h (λ is. absurd (none_told net r at is))
