@@ -2,7 +2,7 @@
 
 ghost use Rattle.std.specs.Prelude.{◌≡◌, ◌<◌};
 
-use curve_tests::shapes::{curve, fraction_piece, ratio};
+use curve_tests::shapes::{late, ratio};
 use outcomes::Steps;
 use residuals::drr::drr_service;
 use std::alloc::Global;
@@ -10,19 +10,7 @@ use std::marker::Brand;
 use std::sync::ledger::{Blank, Ledger};
 use std::test::Fail;
 use upp_limits::OpFault;
-use upp_limits::fraction128::Frac;
-use upp_limits::upp_curve::{Curve, Tail, equal};
-
-// A rate after a latency, with minus their product.
-fn late(alloc: Global, rate: Frac, latency: Frac, icept: Frac) -> Result<Curve, OpFault> {
-    let zero = Frac::zero();
-    let tail = Tail::Affine { rank: latency };
-    let both = [
-        fraction_piece(zero, zero, zero, zero),
-        fraction_piece(latency, zero, icept, rate),
-    ];
-    curve(alloc, &both, tail)
-}
+use upp_limits::upp_curve::{Curve, equal};
 
 // The first of two queues, of quanta and longest packets 12000 and 6000, at rate 100 after 10.
 fn service<L: Ledger>(alloc: Global, blank: Blank) -> Result<Curve, OpFault>

@@ -7,7 +7,7 @@ ghost use Rattle.upp_limits.specs.rational.specs.declared.Extended.TheVariants.{
 ghost use Rattle.upp_limits.specs.upp_curve.specs.Curve.{value_at};
 
 use curve_deviation::horizontal;
-use curve_tests::shapes::{bucket, curve, line_piece, ratio, value, whole};
+use curve_tests::shapes::{bucket, curve, late, line_piece, ratio, value, whole};
 use outcomes::Steps;
 use residuals::fifo::fifo_service;
 use std::alloc::Global;
@@ -19,16 +19,6 @@ use upp_limits::OpFault;
 use upp_limits::fraction128::{Ext, Frac};
 use upp_limits::rational::Extended;
 use upp_limits::upp_curve::{Curve, Tail, equal};
-
-// A rate after a latency, with minus their product.
-fn late(alloc: Global, rate: i128, latency: i128, icept: i128) -> Result<Curve, OpFault> {
-    let rank = whole(latency);
-    curve(
-        alloc,
-        &[line_piece(0, 0, 0, 0), line_piece(latency, 0, icept, rate)],
-        Tail::Affine { rank },
-    )
-}
 
 // A step of 5 at each whole time from 1 on.
 fn stair(alloc: Global) -> Result<Curve, OpFault> {
@@ -71,33 +61,13 @@ fn is_endless(v: Ext) -> bool {
     }
 }
 
-// Whether the wait is infinite.
-fn waits_for_ever<L: Ledger>(blank: Blank, beta: &Curve, cross: &Curve) -> Result<bool, OpFault>
-    requires name { blank.name ≡ L.name }
-    requires parts { blank.parts ≡ L.parts }
-    requires one { 0 < blank.parts }
-{
-    let mut steps = Steps::<L>::new(blank);
-    if !beta.is_finite() {
-        return Err(OpFault::TooMany);
-    }
-    if !beta.is_rising() {
-        return Err(OpFault::TooMany);
-    }
-    if !cross.is_rising() {
-        return Err(OpFault::TooMany);
-    }
-    let theta = horizontal(cross, beta, &mut steps)?;
-    Ok(is_endless(theta))
-}
-
-// What is left after the wait.
+// Whether the wait is infinite, and what is left after it.
 fn service<L: Ledger>(
     alloc: Global,
     blank: Blank,
     beta: &Curve,
     cross: &Curve,
-) -> Result<Curve, OpFault>
+) -> Result<(bool, Curve), OpFault>
     requires name { blank.name ≡ L.name }
     requires parts { blank.parts ≡ L.parts }
     requires one { 0 < blank.parts }
@@ -116,26 +86,26 @@ fn service<L: Ledger>(
         return Err(OpFault::TooMany);
     }
     let theta = horizontal(cross, beta, &mut steps)?;
-    fifo_service(alloc, beta, cross, theta, &mut steps)
+    let left = fifo_service(alloc, beta, cross, theta, &mut steps)?;
+    Ok((is_endless(theta), left))
 }
 
 // Beside a slower flow a rate after the wait, beside a faster one nothing; and beside a slower one where service comes in steps.
 #[test]
 fn what_another_flow_leaves(rt: HostRuntime) -> Result<(), Fail> {
-    let beta = late(rt.alloc(), 100, 10, -1000)?;
+    let beta = late(rt.alloc(), whole(100), whole(10), whole(-1000))?;
     let cross = bucket(rt.alloc(), 6000, 5)?;
-    let left = service::<Brand>(rt.alloc(), Blank::new(1), &beta, &cross)?;
-    let wanted = late(rt.alloc(), 95, 70, -6650)?;
+    let (_, left) = service::<Brand>(rt.alloc(), Blank::new(1), &beta, &cross)?;
+    let wanted = late(rt.alloc(), whole(95), whole(70), whole(-6650))?;
     assert!(rt; equal(&left, &wanted));
     let faster = bucket(rt.alloc(), 1, 101)?;
-    let nothing = service::<Brand>(rt.alloc(), Blank::new(1), &beta, &faster)?;
+    let (endless, nothing) = service::<Brand>(rt.alloc(), Blank::new(1), &beta, &faster)?;
     let zero = bucket(rt.alloc(), 0, 0)?;
-    let endless = waits_for_ever::<Brand>(Blank::new(1), &beta, &faster)?;
     assert!(rt; endless, "the wait is infinite");
     assert!(rt; equal(&nothing, &zero));
     let steps = stair(rt.alloc())?;
     let slower = bucket(rt.alloc(), 1, 1)?;
-    let between = service::<Brand>(rt.alloc(), Blank::new(1), &steps, &slower)?;
+    let (_, between) = service::<Brand>(rt.alloc(), Blank::new(1), &steps, &slower)?;
     for (n, v) in [(2, 0), (3, 3), (4, 7)] {
         let found = value(&between, ratio(n, 2));
         assert!(rt; found == Some(whole(v)), "at {n} halves");

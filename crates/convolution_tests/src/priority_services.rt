@@ -2,7 +2,7 @@
 
 ghost use Rattle.std.specs.Prelude.{◌≡◌, ◌<◌};
 
-use curve_tests::shapes::{bucket, curve, fraction_piece, ratio, whole};
+use curve_tests::shapes::{bucket, late, ratio, whole};
 use outcomes::Steps;
 use residuals::priority::priority_service;
 use std::alloc::Global;
@@ -10,21 +10,7 @@ use std::marker::Brand;
 use std::sync::ledger::{Blank, Ledger};
 use std::test::Fail;
 use upp_limits::OpFault;
-use upp_limits::fraction128::Frac;
-use upp_limits::upp_curve::{Curve, Tail, equal};
-
-// A rate after a latency, with minus their product.
-fn late(alloc: Global, rate: i128, latency: Frac, icept: i128) -> Result<Curve, OpFault> {
-    let zero = Frac::zero();
-    curve(
-        alloc,
-        &[
-            fraction_piece(zero, zero, zero, zero),
-            fraction_piece(latency, zero, whole(icept), whole(rate)),
-        ],
-        Tail::Affine { rank: latency },
-    )
-}
+use upp_limits::upp_curve::{Curve, equal};
 
 // Rate 100 after 10, less a bucket and a packet.
 fn service<L: Ledger>(
@@ -39,7 +25,7 @@ fn service<L: Ledger>(
     requires one { 0 < blank.parts }
 {
     let mut steps = Steps::<L>::new(blank);
-    let beta = late(alloc, 100, whole(10), -1000)?;
+    let beta = late(alloc, whole(100), whole(10), whole(-1000))?;
     let higher = bucket(alloc, burst, rate)?;
     if beta.is_finite() {
         priority_service(alloc, &beta, &higher, lower, &mut steps)
@@ -52,10 +38,10 @@ fn service<L: Ledger>(
 #[test]
 fn what_the_others_leave(rt: HostRuntime) -> Result<(), Fail> {
     let found = service::<Brand>(rt.alloc(), Blank::new(1), 0, 0, 12000)?;
-    let wanted = late(rt.alloc(), 100, whole(130), -13000)?;
+    let wanted = late(rt.alloc(), whole(100), whole(130), whole(-13000))?;
     assert!(rt; equal(&found, &wanted));
     let last = service::<Brand>(rt.alloc(), Blank::new(1), 6000, 5, 0)?;
-    let slower = late(rt.alloc(), 95, ratio(1400, 19), -7000)?;
+    let slower = late(rt.alloc(), whole(95), ratio(1400, 19), whole(-7000))?;
     assert!(rt; equal(&last, &slower));
     Ok(())
 }

@@ -1,16 +1,9 @@
 //! Tests of numbers, lines and curves, worked out by hand.
 
-#[cfg(test)]
 mod ahead_values;
-#[cfg(test)]
 mod elements;
-#[cfg(test)]
 mod fractions;
-#[cfg(test)]
 mod kinds;
-#[cfg(test)]
 mod lines;
-#[cfg(test)]
 mod normal_forms;
-#[cfg(test)]
 mod own_limits;

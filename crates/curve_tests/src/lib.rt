@@ -1,5 +1,6 @@
 //! Tests of numbers, lines and elements, curves, their limits and normal form, and the curves that tests share.
 #![tactic(auto)]
 
-pub mod forms;
+#[cfg(test)]
+mod forms;
 pub mod shapes;

@@ -102,6 +102,16 @@ pub fn curve(alloc: Global, list: &[Piece], tail: Tail) -> Result<Curve, OpFault
     }
 }
 
+/// 0 up to the latency and at it, and then the line of that rate with a value at 0.
+pub fn late(alloc: Global, rate: Frac, latency: Frac, icept: Frac) -> Result<Curve, OpFault> {
+    let zero = Frac::zero();
+    let list = [
+        fraction_piece(zero, zero, zero, zero),
+        fraction_piece(latency, zero, icept, rate),
+    ];
+    curve(alloc, &list, Tail::Affine { rank: latency })
+}
+
 /// A burst, and then the rate.
 pub fn bucket(alloc: Global, burst: i128, rate: i128) -> Result<Curve, OpFault> {
     let list = [line_piece(0, burst, burst, rate)];
