@@ -74,10 +74,6 @@ pub ok_map : {A : Type 0} (r : Result A OpFault) (P Q : Type 0) → (P → Q) �
 ok_map {A} (Ok x) P Q to h = to h
 ok_map {A} (Err fault) P Q to h = tt
 
-pub counted_ok : (r : Result SpecCurve OpFault) (P Q : Type 0) → (P → Q) → OnOk (answer_of curve r) P → IfOk r (λ _. Q)
-counted_ok (Ok x) P Q to h = to h
-counted_ok (Err fault) P Q to h = tt
-
 -- ---- curves that are shared once they are made
 pub shared_refused : {V : Type 0} (meaning : V → Meaning) (P : Result SpecCurve OpFault → Type 0) (R : OpFault → ℕ → Type 0)
     (made : Result SpecCurve OpFault) (s : Result V OpFault) (n k : ℕ)
