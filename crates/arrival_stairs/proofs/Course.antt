@@ -424,7 +424,6 @@ from_here jumps k order inside i d h =
 
 module _ (b : Bundle) (jumps : List Jump) (end k level : ℕ) (base items : List Turn) (line : Line) (all : AreJumps b end jumps) (order : AreInTime jumps)
     (inside : k < length jumps) (course : IsCourse b jumps end k level base items line) where
-
   begin_before : course.begin ≤ (jump_at jumps k).time
   begin_before =
       let l = length-drop k jumps in
