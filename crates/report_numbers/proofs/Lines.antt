@@ -67,7 +67,7 @@ some_text Inf e = cc
 some_text (Fin x) e = over_some x.num x.pre e
 
 -- what is shown of a number is shown of it alone
-shows_number : (v : Option Meaning) (x : Ext) → IsPrintable x → number_text x ≡ shown_value v → v ≡ Some (number x)
+pub shows_number : (v : Option Meaning) (x : Ext) → IsPrintable x → number_text x ≡ shown_value v → v ≡ Some (number x)
 shows_number None x p e = absurd (some_text x e)
 shows_number (Some (curve f)) x p e = absurd (some_text x e)
 shows_number (Some (number y)) x p e = ap (λ z. Some (number z)) (sym (texts_tell_numbers x y p e))
