@@ -1,13 +1,13 @@
-use Rattle.std.specs.Prelude.{not, map}
-use Rattle.std.specs.List.{list_any}
+use Rattle.std.specs.Prelude.{not}
 use Rattle.std.specs.Str.{bytes_eq}
-use Rattle.std.specs.String.{string_bytes}
-use Rattle.std.proofs.Common.{ap, ◌∙◌}
-use Rattle.document_tables.proofs.Named.{texts_any}
+use Rattle.std.proofs.Common.{sym, ap, ◌∙◌}
+use Rattle.document_tables.proofs.Named.{any_by_number}
 use Rattle.document_tables.proofs.names.add_name.Goals as goal
+
+pub returns-then-is_some-clause-new : goal.returns-then-is_some-clause-new
+returns-then-is_some-clause-new c =
+    ap not (sym c.if-is_some.true ∙ any_by_number (bytes_eq c.args.name.now) c.args.names.now c.number_of.result c.is_some.result c.number_of.ensures.value c.is_some.ensures)
 
 pub returns-clause-new : goal.returns-clause-new
 returns-clause-new c =
-    c.in_ok-_number.ensures.added
-    ∙ ap not (texts_any c.in_ok-from_str.field-0 c.args.names.now.keys
-    ∙ ap (λ b. list_any (bytes_eq b) (map string_bytes c.args.names.now.keys)) c.in_ok-from_str.ensures.ok)
+    ap not (sym c.if-is_some.false ∙ any_by_number (bytes_eq c.args.name.now) c.args.names.now c.number_of.result c.is_some.result c.number_of.ensures.value c.is_some.ensures)
