@@ -107,7 +107,7 @@ def place(name):
 
 
 def falling_together(count):
-    """So many names that a hash table looks for at one place; some three seconds."""
+    """So many names that a hash table looks for at one place; they take some six seconds to find."""
     letters = (string.digits + string.ascii_letters).encode()
     found = (b"ab" + bytes(end) for end in itertools.product(letters, repeat=4))
     return [name.decode() for name in itertools.islice((name for name in found if place(name) == 7), count)]

@@ -59,11 +59,7 @@ pub(crate) fn name_of(names: &Names, number: usize) -> &str
 }
 
 // The names of the ports, each behind a space.
-fn push_names(
-    text: &mut String,
-    names: &Names,
-    ports: &[usize],
-) -> Result<(), AllocError>
+fn push_names(text: &mut String, names: &Names, ports: &[usize]) -> Result<(), AllocError>
     ensures { OnOk result (string_bytes text.new ≡ string_bytes text.old
         ++ flat_map replies.after_space (map (name_at names.now) ports.now)) }
 {

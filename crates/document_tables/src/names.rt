@@ -66,11 +66,7 @@ pub(crate) fn number_of(names: &Names, name: &str) -> Option<usize>
 }
 
 /// Puts a name behind others, and says whether it is new.
-pub(crate) fn add_name(
-    alloc: Global,
-    names: &mut Names,
-    name: &str,
-) -> Result<bool, AllocError>
+pub(crate) fn add_name(alloc: Global, names: &mut Names, name: &str) -> Result<bool, AllocError>
     ensures new { IfOk result (λ is_new. is_new ≡ not (list_any (bytes_eq name.now) names.old)) }
     ensures grown { IfOk result (λ is_new. is_new ≡ true → names.new ≡ names.old ++ name.now ∷ []) }
 {
