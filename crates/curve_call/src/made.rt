@@ -31,13 +31,6 @@ pub(crate) enum Made {
     Excess,
 }
 
-// The pieces of a stretch: its beginning, and what follows where its lines change places.
-#[derive(Debug, Clone, Copy)]
-struct Parts {
-    first: Piece,
-    turn: Option<Piece>,
-}
-
 /// What a has above b; 0 where it has nothing, or b is infinite.
 pub fn excess_value(a: Ext, b: Ext) -> Ext
     requires { ValueApartFits a b }
@@ -116,49 +109,26 @@ fn first_of(made: Made, below: bool, b: &Both) -> Piece
     }
 }
 
-// The pieces of a stretch.
-#[inline]
-fn parts_up_to(made: Made, b: &Both, to: Frac, end: Frac) -> Parts
-    requires fits { StretchMadeFits end b.now }
-    requires early { to ≤ℚ end }
-    ensures { IsParts made b.now to result }
-{
+// Adds the pieces of a stretch.
+fn push_parts(pieces: &mut Vec<Piece>, made: Made, b: &Both, to: Frac) -> Result<(), AllocError> {
     let lie = lie_of(b, to);
-    let first = first_of(made, lie.below, b);
-    match lie.turn {
-        None => Parts { first, turn: None },
-        Some(x) => Parts {
-            first,
-            turn: Some(cut(&first_of(made, !lie.below, b), x)),
-        },
+    pieces.push(first_of(made, lie.below, b))?;
+    if let Some(x) = lie.turn {
+        pieces.push(cut(&first_of(made, !lie.below, b), x))?;
     }
+    Ok(())
 }
 
-/// What is made of two windows up to `end`, in one pass over both: two pieces at most of each stretch on which both go
-/// on with one line.
-pub(crate) fn made_of(alloc: Global, made: Made, f: &[Piece], g: &[Piece], end: Frac) -> MadePieces
-    requires left { StartsAtZero f.now }
-    requires right { StartsAtZero g.now }
-    requires cuts { CutsFit f.now g.now }
-    requires fits { MadeWindowFits end f.now g.now }
-    ensures { IfOk result (λ v. IsMadeWindow made f.now g.now end v.items) }
-{
+/// What is made of two windows up to `end`.
+pub(crate) fn made_of(alloc: Global, made: Made, f: &[Piece], g: &[Piece], end: Frac) -> MadePieces {
     let mut walk = at_start(f, g);
     let mut pieces = Vec::with_capacity(alloc, f.len().saturating_add(g.len()))?;
     let mut here = present(&walk);
     while walk.i < f.len() || walk.j < g.len() {
         step(f, g, &mut walk);
-        let parts = parts_up_to(made, &here, start_of(&walk), end);
-        pieces.push(parts.first)?;
-        if let Some(turn) = parts.turn {
-            pieces.push(turn)?;
-        }
+        push_parts(&mut pieces, made, &here, start_of(&walk))?;
         here = present(&walk);
     }
-    let last = parts_up_to(made, &here, end, end);
-    pieces.push(last.first)?;
-    if let Some(turn) = last.turn {
-        pieces.push(turn)?;
-    }
+    push_parts(&mut pieces, made, &here, end)?;
     Ok(pieces)
 }

@@ -9,9 +9,9 @@ ghost use Rattle.curve_call.specs.Stretches.{cut_at, IsOverlay, CutsFit};
 
 use std::alloc::{AllocError, Global};
 use std::cmp::Ordering;
-use upp_limits::fraction128::{Ext, Frac};
+use upp_limits::fraction128::{Ext, Frac, product, sum};
 use upp_limits::rational::Extended;
-use upp_limits::upp_curve::affine_segment::{Line, Piece, value};
+use upp_limits::upp_curve::affine_segment::{Line, Piece};
 
 /// A stretch on which two windows each go on with one line: their pieces from its start on.
 #[derive(Debug, Clone, Copy)]
@@ -28,7 +28,12 @@ fn readable_line(line: &Option<Line>, x: Frac) -> Ext
 {
     match line {
         None => Extended::Inf,
-        Some(l) => Extended::Fin(value(l, x).unwrap()),
+        Some(l) => {
+            if l.slope == Frac::zero() {
+                return Extended::Fin(l.icept);
+            }
+            Extended::Fin(sum(l.icept, product(l.slope, x)))
+        }
     }
 }
 
