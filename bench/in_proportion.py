@@ -4,8 +4,8 @@
     python3 bench/in_proportion.py NETBOUND
 
 Shapes that would show a part that is quadratic: one port with all links; one link with all branches, over few ports and
-over many; many ports with a link each; the same, with two frames at once, into one port; many ports of 8 queues with a
-link each; and paths of 64 ports. Instructions are counted by valgrind (callgrind); where there is none, it is the user's
+over many; many ports with a link each; the same, with two frames at once, into one port; the same with jitters spread over the gap, into a port that
+is half full, so that half as many jumps count as links come; many ports of 8 queues with a link each; and paths of 64 ports. Instructions are counted by valgrind (callgrind); where there is none, it is the user's
 processor time. It prints a line a shape, and ends with 1 where one takes more.
 """
 
@@ -50,6 +50,13 @@ def ports_with_a_link_each_into_one(size):
     return ports(4 * size), head + "".join(rows)
 
 
+def jitters_spread_into_one_port(size):
+    sources = 4 * size
+    head = "name,bag,largest_frame,jitter,priority,path\n"
+    rows = (f"v{number},100,1230,{number * 7919 % 100000},0,p{number} sink\n" for number in range(sources))
+    return ports(sources) + f"sink,{sources // 5},1,1,\n", head + "".join(rows)
+
+
 def queues_with_a_link_each(size):
     return ports(2 * size, "priority 8"), links((f"v{number}", f"p{number // 8}", str(number % 8)) for number in range(16 * size))
 
@@ -65,6 +72,7 @@ SHAPES = [
     one_link_over_all_ports,
     ports_with_a_link_each,
     ports_with_a_link_each_into_one,
+    jitters_spread_into_one_port,
     queues_with_a_link_each,
     paths_of_64_ports,
 ]

@@ -1,9 +1,8 @@
 -- Which of two heights is further above a rate, and at which other rates it is so too: the later one falls back sooner as the rate grows.
-use Rattle.std.specs.Prelude.{◌≡◌, ℕ, zero, suc, ◌+◌, ◌-◌, ◌*◌, ◌/◌, ◌%◌, ◌<◌, ◌≤◌, max, Bool, false, nat_lt, List, [], ◌∷◌, ◌++◌, length, get_or, take, drop, map}
+use Rattle.std.specs.Prelude.{◌≡◌, ℕ, zero, suc, ◌+◌, ◌-◌, ◌*◌, ◌/◌, ◌%◌, ◌<◌, ◌≤◌, List, [], ◌∷◌, ◌++◌, length, get_or, take, drop, map}
 use Rattle.std.proofs.Common.{arith, ap, sym, ◌∙◌, refl, subst, inl, inr, append_assoc, length-drop}
 use Rattle.std.specs.Int.{div_ceil}
 use Rattle.std.proofs.lemmas.Bool.{cases_lt}
-use Rattle.std.proofs.lemmas.Bool.Decides.{nat_tests}
 use Rattle.std.proofs.lemmas.Grind.{div_ceil_times}
 use Rattle.std.proofs.lemmas.List.{drop_more, get_or_default, get_or-drop, get_or-take, length-take-le, map-append, take-append-drop}
 use Rattle.std.specs.Cmp.{IsStrictWeakOrder}
@@ -12,11 +11,11 @@ use Rattle.std.proofs.lemmas.List.Sorted.{All-permutation, IsPermutation-sym, so
 use Rattle.std.specs.Prelude.{IsPermutation}
 use Rattle.std.proofs.Math.Seq.{take-length}
 use Rattle.std.proofs.Math.Nat.{le_of_mul-le-mul_right, mul-le-mul_left, mul-le-mul_right}
-use Rattle.arrival_lines.proofs.InOrder.{is_less, not_less}
 use Rattle.arrival_stairs.specs.Heights.{AreMoments, ahead_of, most_ahead}
 use Rattle.arrival_stairs.specs.Peaks.{AreTimed, IsFirstGreatest, excess_of}
 use Rattle.arrival_stairs.specs.declared.heights.Height.{Height}
 use Rattle.arrival_stairs.proofs.Ceilings.{ceil_most}
+use Rattle.arrival_stairs.proofs.Sooner.{chain_behind, sooner, sooner_order, in_time}
 use Rattle.arrival_stairs.proofs.Most.{no_height}
 
 -- ---- of heights g and h over u and v, after o over u and p over v
@@ -104,17 +103,6 @@ rounded a u b v some above less =
     let k : a * v ≤ (c * u) * v = omega (arith, m, less) in
     ceil_most a u c some (le_of_mul-le-mul_right k above)
 
--- one after the other
-further : (a b c m n k : ℕ) → 0 < m → 0 < n → a * n ≤ b * m → b * k < c * n → a * k < c * m
-further a b c m n k some above h l = elim (cases_lt (a * k) (c * m)) [
-  | inl less ↦ less
-  | inr more ↦
-      let p : (a * n) * k ≤ (b * m) * k = mul-le-mul_right k h in
-      let q : (b * k + 1) * m ≤ (c * n) * m = mul-le-mul_right m (omega (arith, l)) in
-      let r : (c * m) * n ≤ (a * k) * n = mul-le-mul_right n more in
-      absurd (omega (arith, p, q, r, some))
-]
-
 -- ---- the first that is furthest above a rate
 pub at_any : (P : Height → Height → Type 0) (hs : List Height) (j i : ℕ) (e d : Height) → j < length hs → i < length hs → P (get_or hs j e) (get_or hs i e) → P (get_or hs j d) (get_or hs i d)
 at_any P hs j i e d one other h =
@@ -139,8 +127,8 @@ module _ (hs : List Height) (rate i place : ℕ) (inside : i < length hs) (momen
     where
       before : (k : ℕ) (d : Height) → k < i → excess_of rate (get_or hs k d) * (get_or hs i d).at.under < excess_of rate (get_or hs i d) * (get_or hs k d).at.under
       before k d h =
-          further (excess_of rate (get_or hs k d)) (excess_of rate (get_or hs place d)) (excess_of rate (get_or hs i d)) (get_or hs k d).at.under (get_or hs place d).at.under (get_or hs i d).at.under
-          (moments k d (omega (arith, h, inside))).some (moments place d so_far.inside).some (so_far.later k d h) (more d)
+          chain_behind (excess_of rate (get_or hs k d)) (get_or hs k d).at.under (excess_of rate (get_or hs place d)) (get_or hs place d).at.under (excess_of rate (get_or hs i d)) (get_or hs i d).at.under
+          (moments k d (omega (arith, h, inside))).some (so_far.later k d h) (more d)
 
   pub is_no_further : ((d : Height) → excess_of rate (get_or hs i d) * (get_or hs place d).at.under ≤ excess_of rate (get_or hs place d) * (get_or hs i d).at.under)
       → IsFirstGreatest hs rate (i + 1) place
@@ -327,38 +315,12 @@ same_whole a u b v some above same = by_rests (a / u) (b / v) (a % u) (b % v) (o
         omega (arith, m, k, h)
 
 -- ---- as they are sorted
-abbrev pub apart : Height → ℕ
-apart h = max h.at.under 1
+pub height_order : IsStrictWeakOrder (λ (x : Height) (y : Height). sooner x.at y.at)
+height_order = record { one_way = λ x y h. sooner_order.one_way x.at y.at h; chain = λ x y z h l. sooner_order.chain x.at y.at z.at h l }
 
-abbrev pub sooner : Height → Height → Bool
-sooner x y = nat_lt (x.at.over * apart y) (y.at.over * apart x)
-
-is_not_less : (a b : ℕ) → b ≤ a → nat_lt a b ≡ false
-is_not_less a b h = grind (arith, nat_tests)
-
-chained : (a b c m n k : ℕ) → 0 < n → b * m ≤ a * n → c * n ≤ b * k → c * m ≤ a * k
-chained a b c m n k some h l =
-    let p : (c * n) * m ≤ (b * k) * m = mul-le-mul_right m l in
-    let q : (b * m) * k ≤ (a * n) * k = mul-le-mul_right k h in
-    let r : (c * m) * n ≤ (a * k) * n = omega (arith, p, q) in
-    le_of_mul-le-mul_right r some
-
-pub sooner_order : IsStrictWeakOrder sooner
-sooner_order = record {
-  one_way = λ x y h. let l = is_less (x.at.over * apart y) (y.at.over * apart x) h in is_not_less (y.at.over * apart x) (x.at.over * apart y) (omega (arith, l));
-  chain = λ x y z h l. is_not_less (x.at.over * apart z) (z.at.over * apart x)
-      (chained x.at.over y.at.over z.at.over (apart x) (apart y) (apart z) (omega arith) (not_less (x.at.over * apart y) (y.at.over * apart x) h) (not_less (y.at.over * apart z) (z.at.over * apart y) l));
-}
-
-pub timed : (hs : List Height) → AreMoments hs → IsSortedBy sooner hs → AreTimed hs
+pub timed : (hs : List Height) → AreMoments hs → IsSortedBy (λ (x : Height) (y : Height). sooner x.at y.at) hs → AreTimed hs
 timed hs moments sorted = record {
   come = λ i j d h l.
-      let x = get_or hs i d in
-      let y = get_or hs j d in
-      let k = not_less (y.at.over * apart x) (x.at.over * apart y) (sorted_far sooner sooner_order hs sorted i j d h l) in
-      let some = (moments i d (omega (arith, h, l))).some in
-      let above = (moments j d l).some in
-      let e : apart x ≡ x.at.under = omega (arith, some) in
-      let f : apart y ≡ y.at.under = omega (arith, above) in
-      subst (λ (n : ℕ). x.at.over * y.at.under ≤ y.at.over * n) e (subst (λ (n : ℕ). x.at.over * n ≤ y.at.over * apart x) f k);
+      in_time (get_or hs i d).at (get_or hs j d).at (moments i d (omega (arith, h, l))) (moments j d l)
+      (sorted_far (λ (x : Height) (y : Height). sooner x.at y.at) height_order hs sorted i j d h l);
 }

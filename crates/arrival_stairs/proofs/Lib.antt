@@ -10,10 +10,16 @@ pub mod Meetings
 pub mod Starts
 pub mod Risen
 pub mod Frozen
-pub mod Walked
+pub mod Turned
+pub mod Course
+pub mod Highest
+pub mod Joint
+pub mod Instants
+pub mod Swept
 pub mod UnderLines
 pub mod Tails
 pub mod Lowest
+pub mod Sooner
 pub mod Further
 pub mod Meets
 pub mod Exact

@@ -39,13 +39,13 @@ module _ (over under : ℕ) (t : ℚ) (at : IsAt over under t) where
       sym (mul_assoc (whole under) (speed r) t) ∙ ap (λ z. z *ℚ t) (speed_times under r ∙ ap speed e ∙ sym (speed_times r under)) ∙ mul_assoc (whole r) (speed under) t
       ∙ ap (λ z. whole r *ℚ z) at.is ∙ bits_times r over
 
-  line_scaled : (l : Line) → whole under *ℚ line_value l t ≡ bits (line_height l over under)
+  pub line_scaled : (l : Line) → whole under *ℚ line_value l t ≡ bits (line_height l over under)
   line_scaled l =
       let e : under * l.burst ≡ l.burst * under = omega arith in
       mul_add (whole under) (bits l.burst) (speed l.rate *ℚ t) ∙ ap₂ (λ y z. y +ℚ z) (bits_times under l.burst ∙ ap bits e) (rate_scaled l.rate)
       ∙ sym (bits_add (l.burst * under) (l.rate * over))
 
-  under_some : zero_q <ℚ whole under
+  pub under_some : zero_q <ℚ whole under
   under_some = nat_lt 0 under at.some
 
   -- in the order of what they come to

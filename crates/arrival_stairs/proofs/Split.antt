@@ -72,7 +72,7 @@ before_too base slope x r t to faster k last =
     back b y su st ru rt sd rd h l e f = with8 b y su st ru rt sd rd (λ c. omega (arith, c.le, c.lt, c.same))
 
 -- so it is nowhere further above another than at its ends
-at_ends : (base slope x r from to t : ℚ) → from ≤ℚ t → t ≤ℚ to → base +ℚ slope *ℚ from ≤ℚ x +ℚ r *ℚ from → base +ℚ slope *ℚ to ≤ℚ x +ℚ r *ℚ to
+pub at_ends : (base slope x r from to t : ℚ) → from ≤ℚ t → t ≤ℚ to → base +ℚ slope *ℚ from ≤ℚ x +ℚ r *ℚ from → base +ℚ slope *ℚ to ≤ℚ x +ℚ r *ℚ to
     → base +ℚ slope *ℚ t ≤ℚ x +ℚ r *ℚ t
 at_ends base slope x r from to t h k first last = elim (le_total slope r) [
   | inl slower ↦ later_too base slope x r from t slower h first

@@ -1,5 +1,5 @@
 -- What bundles bring at 0.
-use Rattle.std.specs.Prelude.{◌≡◌, ℕ, ◌+◌, ◌^◌, ◌<◌, ◌≤◌, List, length, get_or, take, Option, Some, None}
+use Rattle.std.specs.Prelude.{◌≡◌, ℕ, ◌+◌, ◌^◌, ◌<◌, ◌≤◌, List, [], ◌∷◌, length, get_or, take, Option, Some, None}
 use Rattle.std.proofs.Common.{arith, ap}
 use Rattle.std.specs.List.{sum_by}
 use Rattle.std.proofs.lemmas.List.{get_or-map, length-map}
@@ -16,6 +16,11 @@ no_stair = record { frame = 0; gap = 0; jitter = 0 }
 
 abbrev pub no_part : Part
 no_part = record { sum = record { burst = 0; rate = 0 }; pace = None }
+
+-- where there is a bundle there is a first
+pub some_bundle : (bundles : List Bundle) (p : ℕ) → p < length bundles → Bundle
+some_bundle [] p h = absurd (omega (arith, h))
+some_bundle (b ∷ bs) p h = b
 
 -- ---- of one bundle
 pub start_fits : (stairs : List Stair) (i level : ℕ) → i < length stairs → sum_by (stair_level 0) stairs < 2 ^ 62 → level ≡ sum_by (stair_level 0) (take i stairs)

@@ -6,7 +6,8 @@ pub mod Stairs
 pub mod Views
 pub mod Jumps
 pub mod Ahead
-pub mod Raised
+pub mod Turns
+pub mod Walks
 pub mod BelowLines
 pub mod StairExcess
 pub mod Lows

@@ -6,25 +6,12 @@ ghost use Rattle.arrival_stairs.specs.Heights.{AreSmall, IsMoment};
 ghost use Rattle.arrival_stairs.specs.Meetings.{AddsMeetings, AreSmallSteps, IsBoundAtMeeting};
 
 use crate::bends::{bend_of, is_between};
-use crate::heights::{Height, Moment, height_at, height_of_line};
+use crate::heights::{Height, Moment, at_picosecond, height_at, height_of_line};
 use arrival_lines::{Line, Part, steps};
 use std::alloc::{AllocError, Global};
 
-/// The picoseconds of a second.
-const SECOND: u64 = 1_000_000_000_000;
-
 /// At no more bends than these the parts are summed up anew.
 const FEW: usize = 8;
-
-/// A time in picoseconds.
-fn at_picosecond(time: u64) -> Moment
-    ensures { result ≡ record { over = time; under = 10 ^ 12 } }
-{
-    Moment {
-        over: time,
-        under: SECOND,
-    }
-}
 
 /// What the parts come to where the part goes over to its other line, if that is between two times in picoseconds.
 fn height_at_bend(parts: &[Part], part: Part, begin: u64, end: u64) -> Option<Height>

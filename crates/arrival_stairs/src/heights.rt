@@ -1,9 +1,14 @@
 //! What parts come to at a time, and how far that is above a rate.
 
-ghost use Rattle.std.specs.Prelude.{◌≡◌, ◌+◌, ◌*◌, ◌^◌, ◌<◌, ◌≤◌, max, ◌∷◌, []};
+ghost use Rattle.std.specs.Prelude.{◌≡◌, ◌+◌, ◌*◌, ◌^◌, ◌<◌, ◌≤◌, ◌↔◌, max, ◌∷◌, [], IsTrue};
+ghost use Rattle.std.specs.Ordering.{nat_cmp};
 ghost use Rattle.arrival_stairs.specs.Heights.{AreSmall, IsMoment, AreMoments, line_height, part_height, heights, height_of, ahead_of, most_ahead};
 
 use arrival_lines::{Line, Part};
+use std::cmp::Ordering;
+
+/// The picoseconds of a second.
+const SECOND: u64 = 1_000_000_000_000;
 
 /// A time: so many seconds over so many.
 #[derive(Debug, Clone, Copy, PartialEq, Eq)]
@@ -12,6 +17,32 @@ pub(crate) struct Moment {
     pub(crate) over: u64,
     /// Of a second, above 0.
     pub(crate) under: u64,
+}
+
+/// A time in picoseconds.
+pub(crate) fn at_picosecond(time: u64) -> Moment
+    ensures { result ≡ record { over = time; under = 10 ^ 12 } }
+{
+    Moment {
+        over: time,
+        under: SECOND,
+    }
+}
+
+/// Whether the one time comes before the other.
+pub(crate) fn comes_before(one: Moment, other: Moment) -> bool
+    ensures { IsTrue result ↔ (one.over * other.under < other.over * one.under) }
+{
+    (one.over as u128 * other.under as u128) < other.over as u128 * one.under as u128
+}
+
+/// Which of the two times comes first. (The `under` of each is above 0; with the 1 this is an order on all.)
+pub(crate) fn sooner(one: Moment, other: Moment) -> Ordering
+    ensures { result ≡ nat_cmp (one.over * max other.under 1) (other.over * max one.under 1) }
+{
+    let here = one.over as u128 * other.under.max(1) as u128;
+    let there = other.over as u128 * one.under.max(1) as u128;
+    here.cmp(&there)
 }
 
 /// What parts come to at a time.

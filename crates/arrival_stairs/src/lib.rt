@@ -16,6 +16,7 @@ mod queues;
 mod slow;
 mod stairs;
 mod stays;
+mod turns;
 mod walk;
 mod walks;
 

@@ -2,14 +2,12 @@
 
 ghost use Rattle.std.specs.Prelude.{◌≡◌, ℕ, ◌-◌, ◌*◌, ◌^◌, ◌<◌, ◌≤◌, ◌↔◌, max, map, ◌++◌, All, IsTrue, IfOk, OnOk, length};
 ghost use Rattle.std.specs.List.Sorted.{IsNonDecreasing};
-ghost use Rattle.std.specs.Ordering.{nat_cmp};
 ghost use Rattle.arrival_stairs.specs.Heights.{AreMoments, IsMoment, most_ahead};
 ghost use Rattle.arrival_stairs.specs.Peaks.{AreAsHigh, AreTimed, IsFirstGreatest, IsLower, excess_of};
 
-use crate::heights::{Height, ahead, greatest_ahead, times};
+use crate::heights::{Height, ahead, greatest_ahead, sooner, times};
 use arrival_lines::Service;
 use std::alloc::{AllocError, Global};
-use std::cmp::Ordering;
 
 /// Of fewer heights or rates no table is made.
 const FEW: usize = 8;
@@ -104,15 +102,6 @@ fn add_most(heights: &[Height], rates: &[u64], most: &mut Vec<u128>) -> Result<(
     Ok(())
 }
 
-/// Which of the two heights comes first. (The `under` of each is above 0; with the 1 this is an order on all.)
-fn sooner(one: Height, other: Height) -> Ordering
-    ensures { result ≡ nat_cmp (one.at.over * max other.at.under 1) (other.at.over * max one.at.under 1) }
-{
-    let here = one.at.over as u128 * other.at.under.max(1) as u128;
-    let there = other.at.over as u128 * one.at.under.max(1) as u128;
-    here.cmp(&there)
-}
-
 /// The rates of the services.
 fn each_rate(alloc: Global, services: &[Service]) -> Result<Vec<u64>, AllocError>
     ensures { IfOk result (λ v. v.items ≡ map (λ s. s.rate) services.now) }
@@ -150,7 +139,7 @@ pub(crate) fn peaks_of(
             most,
         });
     }
-    heights.sort_by(|one, other| sooner(*one, *other))?;
+    heights.sort_by(|one, other| sooner(one.at, other.at))?;
     let rates = rates_of(alloc, services)?;
     add_most(&heights, &rates, &mut most)?;
     Ok(Peaks {

@@ -35,7 +35,7 @@ fn start_of(stair: Stair) -> u128
 }
 
 /// What the bundle's stairs bring at 0.
-fn level_of(bundle: &Bundle) -> u64
+pub(crate) fn level_of(bundle: &Bundle) -> u64
     requires stairs { All IsStair bundle.now.stairs.items }
     requires small { bundle_level 0 bundle.now < 2 ^ 62 }
     ensures { result ≡ bundle_level 0 bundle.now }

@@ -1,80 +1,119 @@
-//! The walk over the jumps: between two of them each bundle stays at a level.
+//! The walk over the turns of bundles: from one to the next they are together on one line.
 
-ghost use Rattle.std.specs.Prelude.{◌≡◌, ℕ, ◌+◌, ◌^◌, ◌<◌, ◌≤◌, length, get_or, slice_set, IfOk, OnOk};
+ghost use Rattle.std.specs.Prelude.{◌≡◌, ℕ, ◌+◌, ◌*◌, ◌^◌, ◌<◌, ◌≤◌, IfOk, OnOk};
 ghost use Rattle.arrival_stairs.specs.Ahead.{IsAheadUpTo};
-ghost use Rattle.arrival_stairs.specs.Greatest.{AddsHeights};
-ghost use Rattle.arrival_stairs.specs.Heights.{AreMoments, AreSmall, most_ahead};
-ghost use Rattle.arrival_stairs.specs.Jumps.{AreInTime, AreJumps};
-ghost use Rattle.arrival_stairs.specs.Raised.{raised, part_in};
+ghost use Rattle.arrival_stairs.specs.Heights.{AreMoments, IsMoment, most_ahead};
+ghost use Rattle.arrival_stairs.specs.Jumps.{jump_count};
 ghost use Rattle.arrival_stairs.specs.Stairs.{AreBundles};
+ghost use Rattle.arrival_stairs.specs.Turns.{IsSmallLine};
+ghost use Rattle.arrival_stairs.specs.Walks.{AddsEnds, Come, IsLeft};
 
-use crate::greatest::heights_between;
-use crate::heights::Height;
-use crate::jumps::Jump;
-use crate::stairs::{Bundle, levels_of};
-use arrival_lines::{Line, Part};
+use crate::heights::{Height, Moment, at_picosecond, comes_before, height_of_line};
+use crate::stairs::Bundle;
+use crate::turns::turns_until;
+use arrival_lines::Line;
 use std::alloc::{AllocError, Global};
 
-/// Raises the level of the jump's bundle by its frame.
-fn raise(levels: &mut Vec<Part>, jump: Jump)
-    requires inside { jump.bundle < length levels.old.items }
-    requires small { (part_in levels.old.items jump.bundle).sum.burst + jump.frame < 2 ^ 64 }
-    ensures { levels.new.items ≡ slice_set levels.old.items jump.bundle (raised (part_in levels.old.items jump.bundle) jump.frame) }
-{
-    let part = levels[jump.bundle];
-    levels[jump.bundle] = Part {
-        sum: Line {
-            burst: part.sum.burst + jump.frame,
-            rate: part.sum.rate,
-        },
-        pace: part.pace,
-    };
+/// What the lines of some turns come to together.
+#[derive(Debug, Clone, Copy)]
+pub(crate) struct Total {
+    pub(crate) burst: u128,
+    pub(crate) rate: u128,
 }
 
-/// Adds what the parts come to between two times; nothing where the two are one.
-fn heights_before(
-    alloc: Global,
-    parts: &[Part],
-    begin: u64,
-    to: u64,
+/// With a line more, of at most so many lines.
+fn with_line(total: Total, line: Line, most: usize) -> Total
+    requires burst { total.burst ≤ most * 2 ^ 62 }
+    requires rate { total.rate ≤ most * 2 ^ 62 }
+    ensures burst { result.burst ≡ total.burst + line.burst }
+    ensures rate { result.rate ≡ total.rate + line.rate }
+{
+    Total {
+        burst: total.burst + line.burst as u128,
+        rate: total.rate + line.rate as u128,
+    }
+}
+
+/// The line that is left of those gone over to, without those that were gone off.
+fn line_left(on: Total, off: Total) -> Line
+    requires { IsLeft on off }
+    ensures burst { result.burst + off.burst ≡ on.burst }
+    ensures rate { result.rate + off.rate ≡ on.rate }
+{
+    Line {
+        burst: (on.burst - off.burst) as u64,
+        rate: (on.rate - off.rate) as u64,
+    }
+}
+
+/// Adds what the line comes to at two times.
+fn add_ends(
+    line: Line,
+    begin: Moment,
+    to: Moment,
     heights: &mut Vec<Height>,
 ) -> Result<(), AllocError>
-    requires parts { AreSmall parts.now }
-    requires order { begin ≤ to }
-    requires to { to < 2 ^ 62 }
-    ensures some { OnOk result (begin < to → AddsHeights parts.now begin to heights.old.items heights.new.items) }
-    ensures none { OnOk result (to ≤ begin → heights.new.items ≡ heights.old.items) }
+    requires line { IsSmallLine line }
+    requires begin { IsMoment begin }
+    requires to { IsMoment to }
+    ensures { OnOk result (AddsEnds line begin to heights.old.items heights.new.items) }
 {
-    if begin < to {
-        heights_between(alloc, parts, begin, to, heights)?;
+    heights.push(Height {
+        at: begin,
+        grains: height_of_line(line, begin),
+    })?;
+    heights.push(Height {
+        at: to,
+        grains: height_of_line(line, to),
+    })?;
+    Ok(())
+}
+
+/// The same for the line that is left, where the one time comes before the other; else nothing.
+fn add_ends_before(
+    on: Total,
+    off: Total,
+    begin: Moment,
+    to: Moment,
+    heights: &mut Vec<Height>,
+) -> Result<(), AllocError>
+    requires left { Come begin to → IsLeft on off }
+    requires begin { IsMoment begin }
+    requires to { IsMoment to }
+    ensures some { OnOk result ((line : Line) → Come begin to → line.burst + off.burst ≡ on.burst → line.rate + off.rate ≡ on.rate → AddsEnds line begin to heights.old.items heights.new.items) }
+    ensures none { OnOk result ((Come begin to → ⊥) → heights.new.items ≡ heights.old.items) }
+{
+    if comes_before(begin, to) {
+        add_ends(line_left(on, off), begin, to, heights)?;
     }
     Ok(())
 }
 
-/// What the bundles come to where they may be furthest above a rate from 0 to a time in picoseconds, where these are
-/// their jumps up to it. The rate is not asked for: so one walk serves all services of a queue.
+/// What the bundles come to where they may be furthest above a rate from 0 to a time in picoseconds. The rate is not
+/// asked for: so one walk serves all services of a queue.
 pub(crate) fn heights_until(
     alloc: Global,
     bundles: &[Bundle],
-    jumps: &[Jump],
     end: u64,
 ) -> Result<Vec<Height>, AllocError>
     requires bundles { AreBundles bundles.now }
-    requires jumps { AreJumps bundles.now end jumps.now }
-    requires order { AreInTime jumps.now }
-    requires few { length jumps.now ≤ 2 ^ 20 }
     requires end { end < 2 ^ 62 }
+    requires few { jump_count end bundles.now ≤ 2 ^ 20 }
     ensures moments { IfOk result (λ v. AreMoments v.items) }
     ensures greatest { IfOk result (λ v. (rate : ℕ) → IsAheadUpTo bundles.now rate end (most_ahead rate v.items)) }
 {
-    let mut levels = levels_of(alloc, bundles)?;
+    let turns = turns_until(alloc, bundles, end)?;
+    let count = turns.len();
     let mut heights = Vec::new(alloc);
-    let mut begin: u64 = 0;
-    for jump in jumps {
-        heights_before(alloc, &levels, begin, jump.time, &mut heights)?;
-        raise(&mut levels, *jump);
-        begin = jump.time;
+    let mut begin = at_picosecond(0);
+    let mut on = Total { burst: 0, rate: 0 };
+    let mut off = on;
+    for turn in &turns {
+        add_ends_before(on, off, begin, turn.at, &mut heights)?;
+        on = with_line(on, turn.on, count);
+        off = with_line(off, turn.off, count);
+        begin = turn.at;
     }
-    heights_between(alloc, &levels, begin, end, &mut heights)?;
+    add_ends(line_left(on, off), begin, at_picosecond(end), &mut heights)?;
     Ok(heights)
 }

@@ -9,7 +9,6 @@ ghost use Rattle.arrival_stairs.specs.Stairs.{AreBundles};
 
 use crate::counts::{are_few, last_walked};
 use crate::horizon::{Onset, last_horizon, onset_of};
-use crate::jumps::jumps_until;
 use crate::lows::lows_of;
 use crate::peaks::{Peaks, peaks_of};
 use crate::stairs::Bundle;
@@ -59,8 +58,7 @@ pub(crate) fn walk_of(
 {
     let onset = onset_of(alloc, bundles, services)?;
     let end = end_of(bundles, &onset, steps, services);
-    let jumps = jumps_until(alloc, bundles, end)?;
-    let heights = heights_until(alloc, bundles, &jumps, end)?;
+    let heights = heights_until(alloc, bundles, end)?;
     let peaks = peaks_of(alloc, heights, services)?;
     let lows = lows_of(alloc, steps, end)?;
     Ok(Walk { end, peaks, lows })
