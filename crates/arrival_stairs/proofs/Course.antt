@@ -11,17 +11,17 @@ use Rattle.std.proofs.lemmas.List.Sums.{sum_by-cons, sum_by_more, sum_by-take-dr
 use Rattle.std.proofs.Math.Nat.{le-div_iff_mul-le, div-mul-le_self, mul-le-mul_left, mul-le-mul_right, le_of_mul-le-mul_right}
 use Rattle.arrival_lines.specs.Steps.{burst_with, rate_with}
 use Rattle.arrival_lines.specs.declared.grid.Line.{Line}
-use Rattle.arrival_stairs.specs.Heights.{line_height, lesser_height}
+use Rattle.arrival_heights.specs.Heights.{line_height, lesser_height}
 use Rattle.arrival_stairs.specs.Jumps.{rise_of, AreJumps, AreInTime}
 use Rattle.arrival_stairs.specs.Stairs.{bundle_level}
 use Rattle.arrival_stairs.specs.Turns.{IsSmallLine, IsTurn, AddsBundle, bundle_height, burst_until, rate_until, flat_line, line_of, IsBelowUntil, Reaches, IsSettled, is_before}
-use Rattle.arrival_stairs.specs.declared.heights.Moment.{Moment}
+use Rattle.arrival_heights.specs.declared.heights.Moment.{Moment}
 use Rattle.arrival_stairs.specs.declared.jumps.Jump.{Jump}
 use Rattle.arrival_stairs.specs.declared.stairs.Bundle.{Bundle}
 use Rattle.arrival_stairs.specs.declared.turns.Turn.{Turn}
 use Rattle.arrival_stairs.proofs.Risen.{rise_past, rise_later}
 use Rattle.arrival_stairs.proofs.Turned.{IsTurning, KeepsTo, IsWithinMost, on_none, on_next, on_still, on_by_all, comes_not_before, turn_more, turned}
-use Rattle.arrival_stairs.proofs.Sooner.{chain, chain_behind}
+use Rattle.arrival_heights.proofs.Orders.{chain, chain_behind}
 
 -- ---- at a level, from a time of o over u seconds on
 -- on the level, which is no longer above the pace

@@ -12,20 +12,21 @@ use Rattle.arrival_lines.specs.Grid.{grain, bits, speed, micros, line_value, par
 use Rattle.arrival_lines.specs.Steps.{AreSteps}
 use Rattle.arrival_lines.specs.declared.grid.Line.{Line}
 use Rattle.arrival_lines.proofs.Units.{bits_add, bits_le, micros_le, micros_nonneg, one_grain, speed_le, up_covers}
-use Rattle.arrival_stairs.specs.Greatest.{IsBelow, IsGreatestBetween}
-use Rattle.arrival_stairs.proofs.Split.{below_more}
+use Rattle.arrival_heights.specs.Greatest.{IsBelow, IsGreatestBetween}
+use Rattle.arrival_heights.proofs.Split.{below_more}
 use Rattle.arrival_stairs.specs.Stairs.{bundles_at, bundle_level, bundle_part, levels_at, AreBundles}
 use Rattle.arrival_stairs.specs.Ahead.{IsAheadUpTo}
 use Rattle.arrival_stairs.specs.Jumps.{jump_count}
 use Rattle.arrival_stairs.specs.BelowLines.{line_parts}
-use Rattle.arrival_stairs.specs.Horizon.{IsHorizon, IsSlowBurst, IsTailOfFirst, down_at}
+use Rattle.arrival_stairs.specs.Horizon.{IsHorizon, IsTailOfFirst, down_at}
+use Rattle.arrival_heights.specs.Slow.{IsSlowBurst}
 use Rattle.arrival_stairs.specs.StairExcess.{IsLastWalked, IsStairExcess, line_ahead}
 use Rattle.arrival_stairs.specs.declared.stairs.Bundle.{Bundle}
 use Rattle.arrival_stairs.proofs.Risen.{bundle_rises}
 use Rattle.arrival_stairs.proofs.Frozen.{picosecond_of, bundles_are, all_higher}
 use Rattle.arrival_stairs.proofs.Starts.{some_bundle}
 use Rattle.arrival_stairs.proofs.Tails.{no_line, line_tail, tail_is, tail_there}
-use Rattle.arrival_stairs.proofs.Ceilings.{ceil_most}
+use Rattle.arrival_heights.proofs.Ceilings.{ceil_most}
 use Rattle.arrival_stairs.proofs.NoJumps.{none_at_0}
 use Rattle.arrival_stairs.proofs.UnderLines.{bundles_below_lines}
 

@@ -10,7 +10,7 @@ use Rattle.std.proofs.lemmas.List.Sums.{sum_by_more}
 use Rattle.arrival_stairs.specs.Turns.{IsTurn, AreTurnsOf, AreInTurn, AddsBundle, bundle_height, bundles_height, burst_until, rate_until, is_by, is_before, flat_line}
 use Rattle.arrival_stairs.specs.declared.stairs.Bundle.{Bundle}
 use Rattle.arrival_stairs.specs.declared.turns.Turn.{Turn}
-use Rattle.arrival_stairs.proofs.Sooner.{sooner, sooner_order, in_time}
+use Rattle.arrival_heights.proofs.Orders.{sooner, sooner_order, in_time}
 use Rattle.arrival_stairs.proofs.Turned.{both_turn, on_none, on_by_all}
 
 abbrev pub AreTurnsOfFirst : List Bundle → (i end : ℕ) → List Turn → Type 0

@@ -8,7 +8,7 @@ use Rattle.arrival_lines.specs.declared.grid.Line.{Line}
 use Rattle.arrival_stairs.specs.Horizon.{IsTailOfFirst}
 use Rattle.arrival_stairs.specs.Lows.{AreLows, IsLow, line_level}
 use Rattle.arrival_stairs.specs.StairExcess.{line_ahead}
-use Rattle.arrival_stairs.proofs.Ceilings.{ceil_order}
+use Rattle.arrival_heights.proofs.Ceilings.{ceil_order}
 
 -- ---- the least of the last n lines, of which there may be none yet
 abbrev pub IsOne : List Line → (end n low : ℕ) → Type 0

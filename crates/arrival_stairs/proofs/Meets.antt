@@ -3,7 +3,7 @@ use Rattle.std.specs.Prelude.{◌≡◌, ℕ, ◌≤◌, max, min, List}
 use Rattle.std.proofs.Common.{arith, subst, inl, inr}
 use Rattle.std.proofs.lemmas.Bool.{cases_lt}
 use Rattle.arrival_lines.specs.declared.grid.Line.{Line}
-use Rattle.arrival_stairs.specs.Greatest.{IsGreatestBetween}
+use Rattle.arrival_heights.specs.Greatest.{IsGreatestBetween}
 use Rattle.arrival_stairs.specs.Stairs.{levels_at}
 use Rattle.arrival_stairs.specs.Horizon.{IsDown, IsHorizon}
 use Rattle.arrival_stairs.specs.declared.stairs.Bundle.{Bundle}

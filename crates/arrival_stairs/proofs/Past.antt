@@ -7,10 +7,10 @@ use Rattle.arrival_lines.specs.Steps.{AreSteps}
 use Rattle.arrival_lines.specs.declared.grid.Line.{Line}
 use Rattle.arrival_lines.specs.declared.grid.Service.{Service}
 use Rattle.arrival_stairs.specs.BelowLines.{line_parts}
-use Rattle.arrival_stairs.specs.Horizon.{ArePast, IsEnd, IsHorizon, IsPast, IsSlowBurst, IsTailOfFirst, IsWalk}
+use Rattle.arrival_stairs.specs.Horizon.{ArePast, IsEnd, IsHorizon, IsPast, IsTailOfFirst, IsWalk}
+use Rattle.arrival_heights.specs.Slow.{IsSlowBurst, AreFaster}
 use Rattle.arrival_stairs.specs.Stairs.{AreBundles}
 use Rattle.arrival_stairs.specs.StairExcess.{IsStairExcess}
-use Rattle.arrival_stairs.specs.Stays.{AreFaster}
 use Rattle.arrival_stairs.specs.declared.stairs.Bundle.{Bundle}
 use Rattle.arrival_stairs.specs.declared.walks.Walk.{Walk}
 use Rattle.arrival_stairs.proofs.Exact.{IsExcessBy, exact, cut}

@@ -1,5 +1,5 @@
 -- By how much a bundle has risen: one jump more, a stair's jumps, and all of a bundle's.
-use Rattle.std.specs.Prelude.{◌≡◌, ℕ, ◌+◌, ◌-◌, ◌*◌, ◌/◌, ◌<◌, ◌≤◌, min, nat_lt, List, [], ◌∷◌, ◌++◌, All, length, get_or, take, if◌then◌else◌, IsPermutation}
+use Rattle.std.specs.Prelude.{◌≡◌, ℕ, ◌+◌, ◌-◌, ◌*◌, ◌/◌, ◌^◌, ◌<◌, ◌≤◌, min, nat_lt, List, [], ◌∷◌, ◌++◌, All, length, get_or, take, if◌then◌else◌, IsPermutation}
 use Rattle.std.proofs.Common.{arith, sym, ap, ◌∙◌, subst, inl, inr}
 use Rattle.std.specs.List.{sum_by}
 use Rattle.std.proofs.lemmas.Bool.{cases_lt}
@@ -8,7 +8,7 @@ use Rattle.std.proofs.lemmas.List.{take_all}
 use Rattle.std.proofs.lemmas.List.Sorted.{All-permutation, sum_by-IsPermutation}
 use Rattle.std.proofs.lemmas.List.Elements.{All-append, All-cons, All-nil, All-head, All-tail, All-take}
 use Rattle.std.proofs.lemmas.List.Sums.{sum_by_push, sum_by_more, sum_by-cons}
-use Rattle.std.proofs.Math.Nat.{le-div_iff_mul-le, mul-le-mul_left, div-mul-le_self}
+use Rattle.std.proofs.Math.Nat.{le-div_iff_mul-le, lt-mul-div-succ, mul-le-mul_left, div-mul-le_self}
 use Rattle.arrival_stairs.specs.Stairs.{stair_level, bundle_level, IsStair}
 use Rattle.arrival_stairs.specs.Jumps.{rise_of, risen, IsJump, AreJumps, AddsJumps}
 use Rattle.arrival_stairs.specs.declared.jumps.Jump.{Jump}
@@ -30,6 +30,23 @@ pub rise_later : (n : ℕ) (j : Jump) → n < j.time → rise_of n j ≡ 0
 rise_later n j h = if_not_less j.time (n + 1) j.frame (omega (arith, h))
 
 -- ---- a stair's jumps
+pub jump_short : (s : Stair) (end number : ℕ) → IsStair s → end < 2 ^ 62 → number < (end + s.jitter) / s.gap + 1 → number * s.gap < 2 ^ 64
+jump_short s end number is short inside =
+    let l : number ≤ (end + s.jitter) / s.gap = omega (arith, inside) in
+    let h = (le-div_iff_mul-le is.some_gap).0 l in
+    let j = is.jitter in
+    omega (arith, h, j, short)
+
+pub jump_late : (s : Stair) (number : ℕ) → 0 < s.gap → s.jitter / s.gap + 1 ≤ number → s.jitter ≤ number * s.gap
+jump_late s number some from =
+    let a : s.jitter < s.gap * (s.jitter / s.gap + 1) = lt-mul-div-succ s.jitter some in
+    let b : s.gap * (s.jitter / s.gap + 1) ≤ s.gap * number = mul-le-mul_left s.gap from in
+    omega (arith, a, b)
+
+pub same_jump : (new old : List Jump) (time other frame : ℕ) → time ≡ other → new ≡ old ++ record { time = time; frame = frame } ∷ []
+    → new ≡ old ++ record { time = other; frame = frame } ∷ []
+same_jump new old time other frame e h = h ∙ ap (λ (n : ℕ). old ++ record { time = n; frame = frame } ∷ []) e
+
 -- as many of them as come by n, of those before a number
 abbrev pub so_many : (jitter gap first number n : ℕ) → ℕ
 so_many jitter gap first number n = min number ((n + jitter) / gap + 1) - first

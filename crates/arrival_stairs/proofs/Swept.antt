@@ -15,24 +15,24 @@ use Rattle.arrival_lines.specs.Grid.{grain, bits, speed, micros, line_value}
 use Rattle.arrival_lines.specs.declared.grid.Line.{Line}
 use Rattle.arrival_lines.proofs.Units.{bits_le}
 use Rattle.arrival_stairs.specs.Ahead.{IsAheadUpTo}
-use Rattle.arrival_stairs.specs.Greatest.{IsBelow, IsNear}
-use Rattle.arrival_stairs.specs.Heights.{AreMoments, IsMoment, ahead_of, heights, line_height, most_ahead, part_height}
+use Rattle.arrival_heights.specs.Greatest.{IsBelow, IsNear}
+use Rattle.arrival_heights.specs.Heights.{AreMoments, IsMoment, ahead_of, heights, line_height, most_ahead, part_height}
 use Rattle.arrival_stairs.specs.Jumps.{jump_count}
 use Rattle.arrival_stairs.specs.Stairs.{AreBundles, bundle_part, bundles_at, levels_at}
 use Rattle.arrival_stairs.specs.Turns.{AreInTurn, AreTurnsOf, IsSmallLine, IsTurn, bundles_height, burst_until, is_before, is_by, rate_until}
 use Rattle.arrival_stairs.specs.Walks.{AddsEnds, Come, IsLeft, height_on}
-use Rattle.arrival_stairs.specs.declared.heights.Height.{Height}
-use Rattle.arrival_stairs.specs.declared.heights.Moment.{Moment}
+use Rattle.arrival_heights.specs.declared.heights.Height.{Height}
+use Rattle.arrival_heights.specs.declared.heights.Moment.{Moment}
 use Rattle.arrival_stairs.specs.declared.stairs.Bundle.{Bundle}
 use Rattle.arrival_stairs.specs.declared.turns.Turn.{Turn}
 use Rattle.arrival_stairs.specs.declared.walk.Total.{Total}
 use Rattle.arrival_stairs.proofs.Frozen.{IsWithin, bundles_are}
 use Rattle.arrival_stairs.proofs.Highest.{bursts_small, rates_small}
-use Rattle.arrival_stairs.proofs.Instants.{instant_of, at_le, at_le_out, at_lt, at_zero}
-use Rattle.arrival_stairs.proofs.Most.{most_more, most_none, moments_more, no_moments}
-use Rattle.arrival_stairs.proofs.Scaled.{IsAt, at_picosecond, line_near, line_over, line_scaled, parts_scaled, under_some}
-use Rattle.arrival_stairs.proofs.Sooner.{chain, chain_before, chain_behind}
-use Rattle.arrival_stairs.proofs.Split.{at_ends, below_more, nearer, time_is, time_of}
+use Rattle.arrival_heights.proofs.Instants.{instant_of, at_le, at_le_out, at_lt, at_zero}
+use Rattle.arrival_heights.proofs.Most.{most_more, most_none, moments_more, no_moments}
+use Rattle.arrival_heights.proofs.Scaled.{IsAt, at_picosecond, line_near, line_over, line_scaled, parts_scaled, under_some}
+use Rattle.arrival_heights.proofs.Orders.{chain, chain_before, chain_behind}
+use Rattle.arrival_heights.proofs.Split.{at_ends, below_more, nearer, time_is, time_of}
 use Rattle.arrival_stairs.proofs.Turned.{IsOnAfter, comes_before, comes_by, comes_later, comes_not_before, on_by_first}
 
 -- ---- what the bundles come to at a time

@@ -12,11 +12,12 @@ use Rattle.arrival_lines.specs.Steps.{AreSteps}
 use Rattle.arrival_lines.specs.declared.grid.Line.{Line}
 use Rattle.arrival_lines.specs.declared.grid.Part.{Part}
 use Rattle.arrival_lines.proofs.Units.{bits_add, bits_le, speed_add, speed_nonneg, brings, up_covers}
-use Rattle.arrival_stairs.proofs.Split.{below_more}
-use Rattle.arrival_stairs.specs.Horizon.{IsOneAhead, IsSlowBurst, IsTailOfFirst}
+use Rattle.arrival_heights.proofs.Split.{below_more}
+use Rattle.arrival_stairs.specs.Horizon.{IsOneAhead, IsTailOfFirst}
+use Rattle.arrival_heights.specs.Slow.{IsSlowBurst}
 use Rattle.arrival_stairs.specs.Stairs.{bundles_at}
 use Rattle.arrival_stairs.specs.StairExcess.{ExcessIsABound, IsTail, line_ahead}
-use Rattle.arrival_stairs.proofs.Ceilings.{ceil_most}
+use Rattle.arrival_heights.proofs.Ceilings.{ceil_most}
 use Rattle.arrival_stairs.proofs.UnderLines.{bundles_below_lines}
 
 -- one line

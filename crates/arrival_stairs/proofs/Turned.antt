@@ -8,10 +8,10 @@ use Rattle.std.proofs.lemmas.List.Elements.{All-append, All-cons, All-nil, All-h
 use Rattle.std.proofs.lemmas.List.Sorted.{All-permutation, sum_by-IsPermutation}
 use Rattle.std.proofs.lemmas.List.Sums.{sum_by_push, sum_by-cons, sum_by-append, sum_by-take-drop}
 use Rattle.arrival_lines.specs.declared.grid.Line.{Line}
-use Rattle.arrival_stairs.specs.Heights.{line_height}
+use Rattle.arrival_heights.specs.Heights.{line_height}
 use Rattle.arrival_stairs.specs.Turns.{sum_if, is_by, is_before, IsOn, IsLineAt, IsLineBefore, IsTurn, AreTurns}
 use Rattle.arrival_stairs.specs.declared.turns.Turn.{Turn}
-use Rattle.arrival_stairs.proofs.Sooner.{chain, chain_behind}
+use Rattle.arrival_heights.proofs.Orders.{chain, chain_behind}
 
 -- ---- which come by a time, or before it
 less_is : (a b : ℕ) → a < b → nat_lt a b ≡ true

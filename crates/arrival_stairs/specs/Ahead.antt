@@ -4,7 +4,7 @@ use Rattle.std.specs.Prelude.{ℕ, ◌<◌, List}
 use Rattle.min_plus.specs.rational.specs.Rational.{ℚ, ◌≤ℚ◌}
 use Rattle.min_plus.specs.Functions.{zero_q}
 use Rattle.arrival_lines.specs.Grid.{micros}
-use Rattle.arrival_stairs.specs.Greatest.{IsBelow, IsNear}
+use Rattle.arrival_heights.specs.Greatest.{IsBelow, IsNear}
 use Rattle.arrival_stairs.specs.Stairs.{bundles_at}
 use Rattle.arrival_stairs.specs.declared.stairs.Bundle.{Bundle}
 

@@ -3,10 +3,11 @@ use Rattle.std.specs.Prelude.{ℕ, ◌-◌, ◌*◌, ◌^◌, ◌<◌, ◌≤◌
 use Rattle.std.specs.Int.{div_ceil}
 use Rattle.arrival_lines.specs.declared.grid.Line.{Line}
 use Rattle.arrival_lines.specs.declared.grid.Service.{Service}
-use Rattle.arrival_stairs.specs.Greatest.{IsGreatestBetween}
+use Rattle.arrival_heights.specs.Greatest.{IsGreatestBetween}
 use Rattle.arrival_stairs.specs.Ahead.{IsAheadUpTo}
-use Rattle.arrival_stairs.specs.Heights.{AreMoments, most_ahead}
+use Rattle.arrival_heights.specs.Heights.{AreMoments, most_ahead}
 use Rattle.arrival_stairs.specs.Jumps.{jump_count}
+use Rattle.arrival_heights.specs.Slow.{IsSlowBurst}
 use Rattle.arrival_stairs.specs.Lows.{AreLows}
 use Rattle.arrival_stairs.specs.Stairs.{levels_at}
 use Rattle.arrival_stairs.specs.StairExcess.{IsLastWalked, line_ahead}
@@ -15,13 +16,6 @@ use Rattle.arrival_stairs.specs.declared.stairs.Bundle.{Bundle}
 use Rattle.arrival_stairs.specs.declared.walks.Walk.{Walk}
 
 -- ---- the steps
--- the burst of one of the steps that is no faster
-pub record IsSlowBurst (steps : List Line) (rate most : ℕ) : Type 0 where
-  pub step : ℕ
-  pub inside : step < length steps
-  pub slow : (d : Line) → (get_or steps step d).rate ≤ rate
-  pub is : (d : Line) → most ≡ (get_or steps step d).burst
-
 -- one of the first i lines is so far above the rate from a time on
 pub record IsOneAhead (lines : List Line) (rate end i x : ℕ) : Type 0 where
   pub line : ℕ

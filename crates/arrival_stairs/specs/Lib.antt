@@ -1,7 +1,3 @@
-pub mod Heights
-pub mod Bends
-pub mod Greatest
-pub mod Meetings
 pub mod Stairs
 pub mod Views
 pub mod Jumps
@@ -11,7 +7,6 @@ pub mod Walks
 pub mod BelowLines
 pub mod StairExcess
 pub mod Lows
-pub mod Peaks
 pub mod Horizon
 pub mod Promises
 pub mod Stays

@@ -7,7 +7,7 @@ use Rattle.min_plus.specs.Functions.{zero_q}
 use Rattle.arrival_lines.specs.Steps.{IsStep}
 use Rattle.arrival_lines.specs.declared.grid.Line.{Line}
 use Rattle.arrival_lines.specs.declared.grid.Part.{Part}
-use Rattle.arrival_stairs.specs.Greatest.{IsBelow}
+use Rattle.arrival_heights.specs.Greatest.{IsBelow}
 use Rattle.arrival_stairs.specs.Ahead.{IsAheadUpTo}
 use Rattle.arrival_stairs.specs.BelowLines.{line_parts}
 use Rattle.arrival_stairs.specs.Jumps.{jump_count}

@@ -1,18 +1,13 @@
 -- The delay and the backlog of bundles at one service: of the line at its rate that is nowhere below them. (Le Boudec
 -- and Thiran, chapter 1: of an arrival curve and a rate-latency service curve.)
-use Rattle.std.specs.Prelude.{◌≡◌, ℕ, ◌+◌, ◌*◌, ◌^◌, ◌<◌, nat_lt, min, cond, List, length, get_or}
+use Rattle.std.specs.Prelude.{◌≡◌, ℕ, ◌+◌, ◌*◌, ◌^◌, ◌<◌, nat_lt, min, cond, List}
 use Rattle.std.specs.Prelude.{Option, Some, None, MatchOption}
 use Rattle.std.specs.Int.{div_ceil}
-use Rattle.arrival_lines.specs.declared.grid.Line.{Line}
 use Rattle.arrival_lines.specs.declared.grid.Queue.{Queue}
 use Rattle.arrival_lines.specs.declared.grid.Service.{Service}
 use Rattle.arrival_stairs.specs.StairExcess.{IsStairExcess}
 use Rattle.arrival_stairs.specs.declared.stairs.Bundle.{Bundle}
 use Rattle.arrival_stairs.specs.declared.stays.Stay.{Stay}
-
--- ---- the steps of their lines
-pub record AreFaster (steps : List Line) (rate : ℕ) : Type 0 where
-  pub each : (k : ℕ) (d : Line) → k < length steps → rate < (get_or steps k d).rate
 
 -- ---- at one service
 -- the time in which the excess and the debt are worked off at the rate, in picoseconds; and the excess, the debt and a

@@ -3,7 +3,7 @@ use Rattle.std.specs.Prelude.{◌≡◌, ◌⊎◌, ℕ, ◌+◌, ◌-◌, ◌*�
 use Rattle.std.specs.List.{sum_by}
 use Rattle.arrival_lines.specs.Steps.{most_burst, most_rate}
 use Rattle.arrival_lines.specs.declared.grid.Line.{Line}
-use Rattle.arrival_stairs.specs.Heights.{IsMoment, line_height, part_height}
+use Rattle.arrival_heights.specs.Heights.{IsMoment, line_height, part_height}
 use Rattle.arrival_stairs.specs.Stairs.{bundle_part}
 use Rattle.arrival_stairs.specs.declared.stairs.Bundle.{Bundle}
 use Rattle.arrival_stairs.specs.declared.turns.Turn.{Turn}

@@ -1,9 +1,9 @@
 -- What is looked at from one turn to the next. Own choice.
 use Rattle.std.specs.Prelude.{◌≡◌, ◌+◌, ◌*◌, ◌^◌, ◌<◌, ◌≤◌, List, [], ◌∷◌, ◌++◌}
 use Rattle.arrival_lines.specs.declared.grid.Line.{Line}
-use Rattle.arrival_stairs.specs.Heights.{line_height}
-use Rattle.arrival_stairs.specs.declared.heights.Height.{Height}
-use Rattle.arrival_stairs.specs.declared.heights.Moment.{Moment}
+use Rattle.arrival_heights.specs.Heights.{line_height}
+use Rattle.arrival_heights.specs.declared.heights.Height.{Height}
+use Rattle.arrival_heights.specs.declared.heights.Moment.{Moment}
 use Rattle.arrival_stairs.specs.declared.walk.Total.{Total}
 
 -- the one time comes before the other

@@ -3,16 +3,16 @@
 ghost use Rattle.std.specs.Prelude.{◌≡◌, ◌^◌, ◌<◌, ◌≤◌, List, length};
 ghost use Rattle.arrival_lines.specs.Steps.{AreSlowing, AreSteps};
 ghost use Rattle.arrival_stairs.specs.BelowLines.{BundlesBelowLines, line_parts};
-ghost use Rattle.arrival_stairs.specs.Heights.{AreMoments};
-ghost use Rattle.arrival_stairs.specs.Horizon.{IsEnd, IsSlowBurst, IsTailOfFirst, IsWalk};
+ghost use Rattle.arrival_heights.specs.Heights.{AreMoments};
+ghost use Rattle.arrival_stairs.specs.Horizon.{IsEnd, IsTailOfFirst, IsWalk};
+ghost use Rattle.arrival_heights.specs.Slow.{IsSlowBurst};
 ghost use Rattle.arrival_stairs.specs.Lows.{AreLows};
 ghost use Rattle.arrival_stairs.specs.Stairs.{AreBundles};
 ghost use Rattle.arrival_stairs.specs.StairExcess.{ExcessIsABound, ExcessIsOne, IsStairExcess};
 ghost use Rattle.arrival_stairs.specs.declared.stairs.Bundle.{Bundle};
 
-use crate::heights::greater;
-use crate::slow::count_faster;
 use crate::walks::Walk;
+use arrival_heights::{count_faster, greater};
 use arrival_lines::Line;
 
 /// The picoseconds of a second.

@@ -2,17 +2,15 @@
 
 ghost use Rattle.std.specs.Prelude.{◌≡◌, ◌-◌, ◌^◌, ◌<◌, ◌≤◌, All, List, IfOk, IfSome, length};
 ghost use Rattle.arrival_lines.specs.Steps.{AreSlowing};
-ghost use Rattle.arrival_stairs.specs.Heights.{AreMoments};
+ghost use Rattle.arrival_heights.specs.Heights.{AreMoments};
 ghost use Rattle.arrival_stairs.specs.Horizon.{ArePast, IsDown, IsHorizon, IsOnset, IsPast, down_at};
 ghost use Rattle.arrival_stairs.specs.Stairs.{AreBundles};
-ghost use Rattle.arrival_stairs.specs.Heights.{AreSmall};
+ghost use Rattle.arrival_heights.specs.Heights.{AreSmall};
 
-use crate::bends::bend_of;
-use crate::greatest::heights_between;
-use crate::heights::{Height, greatest_ahead};
-use crate::peaks::{Peaks, peaks_of};
-use crate::slow::slow_burst;
 use crate::stairs::{Bundle, levels_of};
+use arrival_heights::{
+    Height, Peaks, bend_of, greatest_ahead, heights_between, peaks_of, slow_burst,
+};
 use arrival_lines::{Line, Part, Service};
 use std::alloc::{AllocError, Global};
 

@@ -5,6 +5,7 @@ ghost use Rattle.arrival_stairs.specs.Jumps.{AddsJumps, AreInTime, AreJumps};
 ghost use Rattle.arrival_stairs.specs.Stairs.{IsStair, stair_level, bundle_level};
 
 use crate::stairs::{Bundle, Stair};
+use arrival_heights::jump_time;
 use std::alloc::{AllocError, Global};
 
 /// A jump of a stair.
@@ -26,7 +27,7 @@ fn stair_jumps(stair: Stair, end: u64, jumps: &mut Vec<Jump>) -> Result<(), Allo
     let last = (end + stair.jitter) / stair.gap;
     for number in first..last + 1 {
         jumps.push(Jump {
-            time: number * stair.gap - stair.jitter,
+            time: jump_time(number, stair.gap, stair.jitter),
             frame: stair.frame,
         })?;
     }

@@ -3,17 +3,12 @@
 //! second.
 #![tactic(auto)]
 
-mod bends;
 mod counts;
 mod excess;
-mod greatest;
-mod heights;
 mod horizon;
 mod jumps;
 mod lows;
-mod peaks;
 mod queues;
-mod slow;
 mod stairs;
 mod stays;
 mod turns;

@@ -3,7 +3,7 @@
 ghost use Rattle.std.specs.Prelude.{◌+◌, ◌^◌, ◌<◌, All, List, IfOk, length};
 ghost use Rattle.arrival_lines.specs.Steps.{AreSlowing, AreSteps};
 ghost use Rattle.arrival_stairs.specs.BelowLines.{line_parts};
-ghost use Rattle.arrival_stairs.specs.Heights.{AreMoments};
+ghost use Rattle.arrival_heights.specs.Heights.{AreMoments};
 ghost use Rattle.arrival_stairs.specs.Horizon.{IsWalkOf};
 ghost use Rattle.arrival_stairs.specs.Lows.{AreLows};
 ghost use Rattle.arrival_stairs.specs.Stairs.{AreBundles};

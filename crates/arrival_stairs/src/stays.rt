@@ -4,7 +4,7 @@ ghost use Rattle.std.specs.Prelude.{◌≡◌, ◌+◌, ◌*◌, ◌^◌, ◌<�
 ghost use Rattle.std.specs.Int.{div_ceil};
 ghost use Rattle.arrival_lines.specs.Steps.{AreSlowing, AreSteps};
 ghost use Rattle.arrival_stairs.specs.BelowLines.{line_parts};
-ghost use Rattle.arrival_stairs.specs.Heights.{AreMoments};
+ghost use Rattle.arrival_heights.specs.Heights.{AreMoments};
 ghost use Rattle.arrival_stairs.specs.Horizon.{IsEnd, IsWalk};
 ghost use Rattle.arrival_stairs.specs.Lows.{AreLows};
 ghost use Rattle.arrival_stairs.specs.Stairs.{AreBundles};
@@ -12,8 +12,8 @@ ghost use Rattle.arrival_stairs.specs.Stays.{IsStayAt, lesser_stay, as_stay, as_
 ghost use Rattle.arrival_stairs.specs.declared.stairs.Bundle.{Bundle};
 
 use crate::excess::stair_excess;
-use crate::slow::slow_burst;
 use crate::walks::Walk;
+use arrival_heights::slow_burst;
 use arrival_lines::{Line, Queue, Service};
 
 /// The picoseconds of a second.

@@ -5,9 +5,9 @@ ghost use Rattle.arrival_stairs.specs.Jumps.{jump_count};
 ghost use Rattle.arrival_stairs.specs.Stairs.{AreBundles, IsStair, bundle_level};
 ghost use Rattle.arrival_stairs.specs.Turns.{AddsBundle, AreInTurn, AreTurnsOf, IsSettled, IsSmallLine, line_of};
 
-use crate::heights::{Moment, at_picosecond, height_of_line, sooner, times};
 use crate::jumps::jumps_of;
 use crate::stairs::{Bundle, level_of};
+use arrival_heights::{Moment, at_picosecond, height_of_line, sooner, times};
 use arrival_lines::Line;
 use std::alloc::{AllocError, Global};
 

@@ -2,15 +2,15 @@
 
 ghost use Rattle.std.specs.Prelude.{◌≡◌, ℕ, ◌+◌, ◌*◌, ◌^◌, ◌<◌, ◌≤◌, IfOk, OnOk};
 ghost use Rattle.arrival_stairs.specs.Ahead.{IsAheadUpTo};
-ghost use Rattle.arrival_stairs.specs.Heights.{AreMoments, IsMoment, most_ahead};
+ghost use Rattle.arrival_heights.specs.Heights.{AreMoments, IsMoment, most_ahead};
 ghost use Rattle.arrival_stairs.specs.Jumps.{jump_count};
 ghost use Rattle.arrival_stairs.specs.Stairs.{AreBundles};
 ghost use Rattle.arrival_stairs.specs.Turns.{IsSmallLine};
 ghost use Rattle.arrival_stairs.specs.Walks.{AddsEnds, Come, IsLeft};
 
-use crate::heights::{Height, Moment, at_picosecond, comes_before, height_of_line};
 use crate::stairs::Bundle;
 use crate::turns::turns_until;
+use arrival_heights::{Height, Moment, at_picosecond, comes_before, height_of_line};
 use arrival_lines::Line;
 use std::alloc::{AllocError, Global};
 

@@ -10,9 +10,9 @@ ghost use Rattle.arrival_stairs.specs.Stairs.{AreBundles};
 use crate::counts::{are_few, last_walked};
 use crate::horizon::{Onset, last_horizon, onset_of};
 use crate::lows::lows_of;
-use crate::peaks::{Peaks, peaks_of};
 use crate::stairs::Bundle;
 use crate::walk::heights_until;
+use arrival_heights::{Peaks, peaks_of};
 use arrival_lines::{Line, Service};
 use std::alloc::{AllocError, Global};
 

@@ -1,6 +1,6 @@
 use Rattle.std.proofs.Common.{arith, subst, sym, ap, ◌∙◌, ℕ, min}
-use Rattle.arrival_stairs.specs.Greatest.{IsGreatestBetween}
-use Rattle.arrival_stairs.specs.Heights.{most_ahead}
+use Rattle.arrival_heights.specs.Greatest.{IsGreatestBetween}
+use Rattle.arrival_heights.specs.Heights.{most_ahead}
 use Rattle.arrival_stairs.specs.Stairs.{levels_at}
 use Rattle.arrival_stairs.proofs.Meets.{horizon_first, horizon_next}
 use Rattle.arrival_stairs.proofs.horizon.horizon.Goals as goal

@@ -1,7 +1,6 @@
 use Rattle.std.proofs.Common.{arith, subst, Option, ℕ}
 use Rattle.std.specs.Option.{MatchOption}
-use Rattle.arrival_stairs.specs.Horizon.{IsSlowBurst}
-use Rattle.arrival_stairs.specs.Stays.{AreFaster}
+use Rattle.arrival_heights.specs.Slow.{IsSlowBurst, AreFaster}
 use Rattle.arrival_stairs.proofs.Past.{always_past, past_it}
 use Rattle.arrival_stairs.proofs.horizon.horizon_at.Goals as goal
 

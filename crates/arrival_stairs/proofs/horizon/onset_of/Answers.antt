@@ -1,8 +1,8 @@
 use Rattle.std.proofs.Common.{arith, subst, sym, ◌∙◌, List, ℕ}
 use Rattle.arrival_lines.specs.declared.grid.Part.{Part}
-use Rattle.arrival_stairs.specs.Greatest.{AddsHeights, IsGreatestBetween}
+use Rattle.arrival_heights.specs.Greatest.{AddsHeights, IsGreatestBetween}
 use Rattle.arrival_stairs.specs.Stairs.{levels_at}
-use Rattle.arrival_stairs.proofs.Most.{moments_of_all, greatest_of_all}
+use Rattle.arrival_heights.proofs.Most.{moments_of_all, greatest_of_all}
 use Rattle.arrival_stairs.proofs.horizon.onset_of.Goals as goal
 
 pub returns : goal.returns

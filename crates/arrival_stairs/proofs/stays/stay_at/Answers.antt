@@ -1,8 +1,7 @@
 use Rattle.std.proofs.Common.{arith, subst, ap, ℕ, Option}
 use Rattle.std.specs.Option.{MatchOption}
 use Rattle.arrival_lines.specs.declared.grid.Line.{Line}
-use Rattle.arrival_stairs.specs.Horizon.{IsSlowBurst}
-use Rattle.arrival_stairs.specs.Stays.{AreFaster}
+use Rattle.arrival_heights.specs.Slow.{IsSlowBurst, AreFaster}
 use Rattle.arrival_stairs.proofs.stays.stay_at.Goals as goal
 
 pub returns-then-service-eq0 : goal.returns-then-service-eq0

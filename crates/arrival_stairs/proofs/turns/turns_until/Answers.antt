@@ -10,7 +10,7 @@ use Rattle.arrival_stairs.specs.declared.turns.Turn.{Turn}
 use Rattle.std.specs.List.{sum_by}
 use Rattle.arrival_stairs.proofs.Highest.{level_small, pace_small}
 use Rattle.arrival_stairs.proofs.Joint.{all_bundles, in_turn, no_turns, one_more_bundle, turn_order, turn_sooner}
-use Rattle.arrival_stairs.proofs.Sooner.{apart}
+use Rattle.arrival_heights.proofs.Orders.{apart}
 use Rattle.arrival_stairs.proofs.Turned.{moved_turns}
 use Rattle.arrival_stairs.proofs.turns.turns_until.Goals as goal
 

@@ -1,0 +1,13 @@
+pub mod Small
+pub mod Scaled
+pub mod Bent
+pub mod Split
+pub mod Most
+pub mod Added
+pub mod Grown
+pub mod Concave
+pub mod Meetings
+pub mod Instants
+pub mod Orders
+pub mod Further
+pub mod Ceilings

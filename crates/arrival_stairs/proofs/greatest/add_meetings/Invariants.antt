@@ -1,5 +1,0 @@
-use Rattle.arrival_stairs.specs.Meetings.{AddsMeetings}
-use Rattle.arrival_stairs.proofs.greatest.add_meetings.Given as goal
-
-abbrev pub invariant-loop-i : goal.invariant-loop-i
-invariant-loop-i l = AddsMeetings l.lines l.begin l.end l.i l.fn.heights.items l.heights.items

@@ -1,6 +1,0 @@
-use Rattle.std.proofs.Common.{◌≡◌, take}
-use Rattle.arrival_stairs.specs.Heights.{most_ahead}
-use Rattle.arrival_stairs.proofs.heights.greatest_ahead.Given as goal
-
-abbrev pub invariant-loop-height : goal.invariant-loop-height
-invariant-loop-height l = l.most ≡ most_ahead l.rate (take l.height-index l.heights)

@@ -1,5 +1,0 @@
-use Rattle.arrival_stairs.specs.Peaks.{IsFirstGreatest}
-use Rattle.arrival_stairs.proofs.peaks.first_greatest.Given as goal
-
-abbrev pub invariant-loop-i : goal.invariant-loop-i
-invariant-loop-i l = IsFirstGreatest l.heights l.rate l.i l.place
