@@ -1,11 +1,13 @@
 #!/usr/bin/env python3
-"""What netbound takes for tables of one shape at a size and at ten times the size: at most twelve times the instructions.
+"""What netbound takes for tables of one shape at a size and at ten times the size: at most twelve times the instructions, and
+fifteen where most of them sort.
 
     python3 bench/in_proportion.py NETBOUND
 
 Shapes that would show a part that is quadratic: one port with all links; one link with all branches, over few ports and
-over many; many ports with a link each; the same, with two frames at once, into one port; the same with jitters spread over the gap, into a port that
-is half full, so that half as many jumps count as links come; many ports of 8 queues with a link each; and paths of 64 ports. Instructions are counted by valgrind (callgrind); where there is none, it is the user's
+over many; many ports with a link each; the same, with two frames at once, into one port; the same with jitters spread
+over the gap, into a port that is half full, so that half as many jumps count as links come; many ports of 8 queues with a
+link each; and paths of 64 ports. Instructions are counted by valgrind (callgrind); where there is none, it is the user's
 processor time. It prints a line a shape, and ends with 1 where one takes more.
 """
 
@@ -18,6 +20,7 @@ import tempfile
 from pathlib import Path
 
 MOST = 12
+MOST_TO_SORT = 15
 
 
 def ports(count, discipline=""):
@@ -100,7 +103,7 @@ def main(program):
     program, late = str(Path(program).resolve()), 0
     for shape in SHAPES:
         few, many = taken(program, shape, 100), taken(program, shape, 1000)
-        late += many > MOST * few
+        late += many > (MOST_TO_SORT if shape is jitters_spread_into_one_port else MOST) * few
         print(f"{shape.__name__.replace('_', ' ')}: {few} {many} ratio {many / few:.2f}")
     return late > 0
 
