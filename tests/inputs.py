@@ -8,6 +8,8 @@ else what is said below of the few cuts that are whole. Of traces at random over
 packets. It prints each answer that is another one, and how many were tried, and ends with 1 where one was.
 """
 
+import fcntl
+import os
 import random
 import subprocess
 import sys
@@ -19,6 +21,18 @@ TOP = Path(__file__).resolve().parent.parent
 ONE_FLOW = (TOP / "tests/bounds/one_flow/n.toml").read_text()
 REPORT = "servers 1 flows 1\nqueue s1 0 delay 130 backlog 13300\nflow f1 tfa 130 sfa 130 bound 130\n"
 LARGEST = 2**127 - 1
+
+
+LONGEST = 2**20  # bytes of a file
+USAGE = (
+    "netcalc: usage: netcalc analyse NET [--json], edit NET EDITS [--json], simulate NET TRACE, exercise N, check NET RUN, "
+    "measure NET TRACE FLOW RATE, curve FILE\n"
+)
+
+
+def of_bytes(count: int) -> str:
+    """The file of one flow behind a comment, of so many bytes in all."""
+    return "#" * (count - 1 - len(ONE_FLOW)) + "\n" + ONE_FLOW
 
 
 def with_rate(rate: str) -> str:
@@ -62,6 +76,21 @@ INPUTS = {
     "edits that are missing": (["edit", "n", "e"], {"n": ONE_FLOW}, 3, "netcalc: cannot read e\n"),
     "edits that are missing, and no network": (["edit", "n", "e"], {"n": "x"}, 3, "netcalc: cannot read e\n"),
     "a folder in place of a file": (["analyse", "."], {}, 3, "netcalc: cannot read .\n"),
+    "a network of 4,096 bytes": (["analyse", "n"], {"n": of_bytes(4096)}, 0, REPORT),
+    "a network of 4,097 bytes": (["analyse", "n"], {"n": of_bytes(4097)}, 0, REPORT),
+    "the longest network": (["analyse", "n"], {"n": of_bytes(LONGEST)}, 0, REPORT),
+    "a network a byte too long": (["analyse", "n"], {"n": of_bytes(LONGEST + 1)}, 1, "netcalc: n: too long\n"),
+    "a network three times too long": (["analyse", "n"], {"n": "#" * (3 * LONGEST)}, 1, "netcalc: n: too long\n"),
+    "a comment of one byte": (["analyse", "n"], {"n": "#"}, 0, "servers 0 flows 0\n"),
+    "the longest script": (["curve", "n"], {"n": "#" * LONGEST}, 0, ""),
+    "a script a byte too long": (["curve", "n"], {"n": "#" * (LONGEST + 1)}, 1, "netcalc: n: too long\n"),
+    "a script in JSON": (["curve", "n", "--json"], {"n": "#"}, 2, USAGE),
+    "a file without a name": (["analyse", ""], {}, 2, USAGE),
+    "1,024 packets that are measured": (
+        ["measure", "n", "t", "f1", "1"], {"n": ONE_FLOW, "t": "packet,0,f1,1\n" * 1024}, 0,
+        "flow f1 packets 1024\nstep 0 1024\nburst 1024 rate 1\n"),
+    "1,025 packets that are measured": (
+        ["measure", "n", "t", "f1", "1"], {"n": ONE_FLOW, "t": "packet,0,f1,1\n" * 1025}, 7, "netcalc: too many: measure\n"),
 }
 
 
@@ -298,11 +327,30 @@ def tried_cuts(program: str, folder: Path) -> tuple[int, int]:
     return known, wrong
 
 
+def tried_narrow_output(program: str, folder: Path) -> int:
+    """Whether a report breaks off with status 4, and a front of it is written, where the output takes no more."""
+    (folder / "n").write_text(servers(1) + "".join(flow(f"f{number}", ["s0"]) for number in range(256)))
+    words = [program, "analyse", "n", "--json"]
+    whole = subprocess.run(words, cwd=folder, capture_output=True, check=False).stdout
+    taken, given = os.pipe()
+    os.set_blocking(given, False)
+    room = fcntl.fcntl(given, fcntl.F_SETPIPE_SZ, 4096)
+    came = subprocess.run(words, cwd=folder, stdout=given, check=False).returncode
+    os.close(given)
+    with open(taken, "rb") as written:
+        front = written.read()
+    if room < len(whole) and came == 4 and 0 < len(front) < len(whole) and whole.startswith(front):
+        return 0
+    print(f"tests/inputs.py: an output with room for {room} bytes: status {came}, wanted 4; {len(front)} of {len(whole)} bytes")
+    return 1
+
+
 def main() -> None:
     program = str(Path(sys.argv[1] if len(sys.argv) > 1 else TOP / "bin/x86_64-linux/netcalc").resolve())
     with tempfile.TemporaryDirectory(prefix="inputs_") as name:
         wrong = tried_inputs(program, Path(name))
         wrong += tried_runs(program, "check", RUNS, Path(name)) + tried_runs(program, "simulate", TRACES, Path(name))
+        wrong += tried_narrow_output(program, Path(name))
         known, others = tried_cuts(program, Path(name))
     print(f"inputs: {len(INPUTS)} inputs, {len(RUNS)} recorded runs, {len(TRACES)} traces and {len(ONE_FLOW) + 1} cuts, {known} of them with a known answer; {wrong + others} wrong")
     sys.exit(1 if wrong + others else 0)

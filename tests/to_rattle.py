@@ -1,8 +1,8 @@
 #!/usr/bin/env python3
-"""Writes the worked examples of this folder as tests of the top call, so that one list is the source of the quick check and of the gate's.
+"""Writes the worked examples of this folder as a test of the top call, so that one list is the source of the quick check and of the gate's.
 
-`tests/to_rattle.py` writes crates/netcalc/src/cases.rt, one test function for each group, of the cases that tests/worked names;
-`tests/to_rattle.py --check` ends with 1 where that file is not what it would write. The quick check runs these cases and all others.
+`tests/to_rattle.py` writes crates/netcalc/src/cases.rt, one text for each case that tests/worked names; `tests/to_rattle.py --check`
+ends with 1 where that file is not what it would write. The quick check runs these cases and all others.
 """
 
 import pathlib
@@ -13,16 +13,18 @@ HERE = pathlib.Path(__file__).resolve().parent
 TARGET = HERE.parent / "crates" / "netcalc" / "src" / "cases.rt"
 HEAD = """//! The cases that tests/worked names, written by tests/to_rattle.py: change them there.
 
-use crate::asking::check;
-use std::test::Fail;
+/// Each case, with a `~` between two, as `worked::check` reads it: its name, the words, the status, what is written, and the name
+/// and the text of each file.
 """
+# What stands between the parts of a case, and between two cases: no part has either.
+BETWEEN, BEHIND = "|", "~"
 
 
-def literal(text):
-    """A literal of Rattle, on one line: the gate takes a crate's memory from its lines, and checks fewer crates beside one of many."""
-    for plain, written in (("\\", "\\\\"), ('"', '\\"'), ("\n", "\\n"), ("\t", "\\t"), ("\r", "\\r")):
-        text = text.replace(plain, written)
-    return f'"{text}"'
+def written(text):
+    """A part of a literal of Rattle, on one line: the gate takes a crate's memory from its lines, and checks fewer crates beside one of many."""
+    for plain, escaped in (("\\", "\\\\"), ('"', '\\"'), ("\n", "\\n"), ("\t", "\\t"), ("\r", "\\r")):
+        text = text.replace(plain, escaped)
+    return text
 
 
 def bare(text):
@@ -31,42 +33,29 @@ def bare(text):
 
 
 def row(folder):
+    """A case as one text."""
     status = folder / "status"
-    files = sorted(it for it in folder.iterdir() if it.name not in ("words", "status", "stdout"))
-    pad = " " * 16
-    listed = ", ".join(f'(\n{pad}"{it.name}",\n{pad}{literal(it.read_text())},\n{" " * 12})' for it in files)
-    words = (folder / "words").read_text().rstrip("\n")
-    wanted = (folder / "stdout").read_text()
-    number = int(status.read_text()) if status.exists() else 0
-    line = f"netcalc {words}".rstrip()
-    inner = " " * 12
-    return (
-        f'        // {folder.name}\n        (\n{inner}"{line}",\n{inner}&[{listed}],\n{inner}{number},\n{inner}{literal(wanted)},\n        ),\n'
-    )
+    words = f"netcalc {(folder / 'words').read_text().rstrip()}".rstrip()
+    parts = [folder.name, words, status.read_text().strip() if status.exists() else "0", (folder / "stdout").read_text()]
+    for file in sorted(it for it in folder.iterdir() if it.name not in ("words", "status", "stdout")):
+        parts += [file.name, file.read_text()]
+    if any(mark in part for part in parts for mark in (BETWEEN, BEHIND)):
+        sys.exit(f"tests/worked: {folder.name} has a {BETWEEN} or a {BEHIND}, which part the cases")
+    return f"    {written(BETWEEN.join(parts))}"
 
 
 def worked():
-    """The folders that tests/worked names, in order, by their groups."""
-    groups = {}
-    lines = (HERE / "worked").read_text().splitlines()
-    for name in sorted(it for it in lines if it and not it.startswith("#")):
-        folder = HERE / name
+    """The folders that tests/worked names, in order."""
+    folders = [HERE / name for name in sorted((HERE / "worked").read_text().splitlines()) if name and not name.startswith("#")]
+    for folder in folders:
         if not (folder / "words").exists():
-            sys.exit(f"tests/worked: {name} is no case")
-        groups.setdefault(folder.parent.name, []).append(folder)
-    return groups
+            sys.exit(f"tests/worked: {folder.parent.name}/{folder.name} is no case")
+    return folders
 
 
 def text():
-    parts = [HEAD]
-    for group, cases in worked().items():
-        parts.append(
-            f"\n#[test]\nfn {group}(rt: HostRuntime) -> Result<(), Fail> {{\n    let alloc = rt.alloc();\n"
-            f"    let rows: [(&str, &[(&str, &str)], u8, &str); {len(cases)}] = [\n"
-            + "".join(row(it) for it in cases)
-            + "    ];\n    for (line, files, status, wanted) in rows {\n        check(&rt, alloc, line, files, status, wanted)?;\n    }\n    Ok(())\n}\n"
-        )
-    return "".join(parts)
+    behind = f"{BEHIND}\\\n"
+    return f'{HEAD}pub const CASES: &str = "\\\n{behind.join(row(folder) for folder in worked())}";\n'
 
 
 def main():

@@ -8,4 +8,6 @@ mod fetches;
 #[cfg(test)]
 mod narrow;
 #[cfg(test)]
+mod printers;
+#[cfg(test)]
 mod puts;

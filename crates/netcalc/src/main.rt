@@ -2,11 +2,9 @@
 #![tactic(auto)]
 
 #[cfg(test)]
-mod asking;
-#[cfg(test)]
 mod cases;
 #[cfg(test)]
-mod tests;
+mod worked;
 
 use netcalc_cli::{Status, run_counted};
 use outside::{DirInputs, NoMemory, StdSink};

@@ -11,5 +11,3 @@ mod orders;
 pub mod stores;
 #[cfg(test)]
 mod texts;
-#[cfg(test)]
-mod words;

@@ -1,47 +1,31 @@
 //! A copy of a network.
 
-use net_model::{Discipline, Flow, Network, Server, plain_network};
+use net_model::{Discipline, Flow, Server, plain_network};
 use std::cmp::Ordering;
-use std::process::Abort;
 use std::test::Fail;
 use upp_curve::equal;
 
-fn same_server(rt: &impl Abort, left: &Server, right: &Server) {
-    assert_eq!(rt; left.name.as_str(), right.name.as_str());
-    assert!(rt; left.rate.cmp(&right.rate) == Ordering::Equal);
-    assert!(rt; left.link.cmp(&right.link) == Ordering::Equal);
-    assert!(rt; equal(&left.service, &right.service));
-    match (&left.discipline, &right.discipline) {
-        (Discipline::Fifo, Discipline::Fifo) => {}
-        _ => assert!(rt; false, "another discipline"),
-    }
+fn are_same_servers(left: &Server, right: &Server) -> bool {
+    left.name.as_str() == right.name.as_str()
+        && left.rate == right.rate
+        && left.link.cmp(&right.link) == Ordering::Equal
+        && equal(&left.service, &right.service)
+        && matches!(right.discipline, Discipline::Fifo)
 }
 
-fn same_flow(rt: &impl Abort, left: &Flow, right: &Flow) {
-    assert_eq!(rt; left.name.as_str(), right.name.as_str());
-    assert_eq!(rt; left.path.as_slice(), right.path.as_slice());
-    assert_eq!(rt; left.queues.as_slice(), right.queues.as_slice());
-    assert_eq!(rt; left.packet, right.packet);
-    assert!(rt; equal(&left.arrival, &right.arrival));
+fn are_same_flows(left: &Flow, right: &Flow) -> bool {
+    left.name.as_str() == right.name.as_str()
+        && left.path.as_slice() == right.path.as_slice()
+        && left.queues.as_slice() == right.queues.as_slice()
+        && left.packet == right.packet
+        && equal(&left.arrival, &right.arrival)
 }
 
-fn same_place(rt: &impl Abort, left: &Option<Flow>, right: &Option<Flow>) {
+fn are_same_places(left: &Option<Flow>, right: &Option<Flow>) -> bool {
     match (left, right) {
-        (None, None) => {}
-        (Some(f), Some(g)) => same_flow(rt, f, g),
-        _ => assert!(rt; false, "one of them is dropped"),
-    }
-}
-
-fn same_network(rt: &impl Abort, left: &Network, right: &Network) {
-    assert_eq!(rt; left.version(), right.version());
-    assert_eq!(rt; left.servers().len(), right.servers().len());
-    for (s, t) in left.servers().iter().zip(right.servers()) {
-        same_server(rt, s, t);
-    }
-    assert_eq!(rt; left.flows().len(), right.flows().len());
-    for (f, g) in left.flows().iter().zip(right.flows()) {
-        same_place(rt, f, g);
+        (None, None) => true,
+        (Some(f), Some(g)) => are_same_flows(f, g),
+        _ => false,
     }
 }
 
@@ -49,9 +33,14 @@ fn same_network(rt: &impl Abort, left: &Network, right: &Network) {
 fn a_copy_has_each_field(rt: HostRuntime) -> Result<(), Fail> {
     let net = plain_network(rt.alloc(), 3, &[&[0, 1], &[], &[2, 0]])?;
     let copy = net.copy()?;
-    assert_eq!(rt; copy.version(), 1);
-    assert_eq!(rt; copy.servers().len(), 3);
-    assert_eq!(rt; copy.flows().len(), 3);
-    same_network(&rt, &net, &copy);
+    assert!(rt; copy.version() == 1);
+    assert!(rt; copy.servers().len() == 3);
+    assert!(rt; copy.flows().len() == 3);
+    for (s, t) in net.servers().iter().zip(copy.servers()) {
+        assert!(rt; are_same_servers(s, t), "{}", s.name);
+    }
+    for (f, g) in net.flows().iter().zip(copy.flows()) {
+        assert!(rt; are_same_places(f, g));
+    }
     Ok(())
 }

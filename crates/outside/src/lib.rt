@@ -11,8 +11,6 @@ mod mem_sink;
 mod noted;
 mod sink;
 mod std_sink;
-#[cfg(test)]
-mod tests;
 
 pub use dir_inputs::DirInputs;
 pub use inputs::{FetchFault, Inputs};

@@ -4,8 +4,7 @@ ghost use Rattle.std.specs.Prelude.{◌≡◌, pos, IsTrue};
 ghost use Rattle.upp_limits.specs.rational.specs.Rational.{int};
 ghost use Rattle.upp_normal.specs.Ahead.{IsOverBy};
 
-use crate::forms::normal_forms::stair;
-use crate::forms::own_limits::teeth;
+use crate::forms::own_limits::{stair, teeth};
 use crate::shapes::{ratio, whole};
 use std::test::Fail;
 use upp_limits::fraction128::{Frac, is_less};
@@ -69,25 +68,19 @@ fn parts(s: Option<Stretch>) -> Option<(Frac, Frac, Frac, Frac)> {
 // 1 + 10/7 + 5/4 (t - 3), but 1/2 + 10/7 at 3.
 #[test]
 fn stretches_past_the_rank(rt: HostRuntime) -> Result<(), Fail> {
-    let c = stair(&rt, rt.alloc())?;
+    let c = stair(rt.alloc())?;
     for (n, packets, next) in [(0, 1, 2), (1, 1, 2), (2, 2, 4), (3, 2, 4), (5, 3, 6)] {
         let high = whole(packets);
-        assert_eq!(rt;
-            parts(stretch(&c, n, whole(8))),
-            Some((high, high, whole(0), whole(next))),
-            "at {n}"
-        );
+        let wanted = Some((high, high, whole(0), whole(next)));
+        assert!(rt; parts(stretch(&c, n, whole(8))) == wanted, "at {n}");
     }
-    let f = teeth(&rt, rt.alloc())?;
+    let f = teeth(rt.alloc())?;
     for (n, at, icept, next) in [
         (2, ratio(131, 56), ratio(-9, 56), whole(3)),
         (3, ratio(27, 14), ratio(-37, 28), ratio(9, 2)),
     ] {
-        assert_eq!(rt;
-            parts(stretch(&f, n, whole(8))),
-            Some((at, icept, ratio(5, 4), next)),
-            "at {n}"
-        );
+        let wanted = Some((at, icept, ratio(5, 4), next));
+        assert!(rt; parts(stretch(&f, n, whole(8))) == wanted, "at {n}");
     }
     Ok(())
 }

@@ -7,39 +7,38 @@ use upp_limits::upp_curve::affine_segment::{Line, cross, element_min, is_before,
 
 const LARGEST: i128 = i128::MAX;
 
-#[test]
-fn values_of_lines(rt: HostRuntime) {
-    assert_eq!(rt; value(&line(3, -2), ratio(1, 2)), Ok(whole(2)));
-    assert_eq!(rt; value(&line(0, LARGEST), whole(1)), Ok(whole(LARGEST)));
-    let product = Wide {
-        op: Op::Mul,
-        a: whole(LARGEST),
-        b: whole(2),
-    };
-    assert_eq!(rt; value(&line(0, LARGEST), whole(2)), Err(product));
-    let sum = Wide {
-        op: Op::Add,
-        a: whole(LARGEST),
-        b: whole(1),
-    };
-    assert_eq!(rt; value(&line(LARGEST, 1), whole(1)), Err(sum));
+// The step that is too wide.
+fn wide(op: Op, a: i128, b: i128) -> Wide {
+    Wide {
+        op,
+        a: whole(a),
+        b: whole(b),
+    }
 }
 
 #[test]
-fn crossings(rt: HostRuntime) {
-    assert_eq!(rt; cross(&line(5, 1), &line(3, 2)), Ok(Some(whole(2))));
-    assert_eq!(rt; cross(&line(3, 2), &line(5, 1)), Ok(Some(whole(2))));
-    assert_eq!(rt; cross(&line(0, 3), &line(1, 1)), Ok(Some(ratio(1, 2))));
-    assert_eq!(rt; cross(&line(-LARGEST, 2), &line(LARGEST, 2)), Ok(None));
-    let difference = Wide {
-        op: Op::Sub,
-        a: whole(LARGEST),
-        b: whole(-LARGEST),
-    };
-    assert_eq!(rt;
-        cross(&line(-LARGEST, 1), &line(LARGEST, 2)),
-        Err(difference)
-    );
+fn values_and_crossings(rt: HostRuntime) {
+    for (l, t, v) in [
+        (line(3, -2), ratio(1, 2), Ok(whole(2))),
+        (line(0, LARGEST), whole(1), Ok(whole(LARGEST))),
+        (line(0, LARGEST), whole(2), Err(wide(Op::Mul, LARGEST, 2))),
+        (line(LARGEST, 1), whole(1), Err(wide(Op::Add, LARGEST, 1))),
+    ] {
+        assert!(rt; value(&l, t) == v, "{l:?} at {t:?}");
+    }
+    for (l, m, t) in [
+        (line(5, 1), line(3, 2), Ok(Some(whole(2)))),
+        (line(3, 2), line(5, 1), Ok(Some(whole(2)))),
+        (line(0, 3), line(1, 1), Ok(Some(ratio(1, 2)))),
+        (line(-LARGEST, 2), line(LARGEST, 2), Ok(None)),
+        (
+            line(-LARGEST, 1),
+            line(LARGEST, 2),
+            Err(wide(Op::Sub, LARGEST, -LARGEST)),
+        ),
+    ] {
+        assert!(rt; cross(&l, &m) == t, "{l:?} and {m:?}");
+    }
 }
 
 // The slopes before and after the change, and where it is.
@@ -59,15 +58,9 @@ fn lower_lines(rt: HostRuntime) {
     let (a, b) = (line(5, 1), line(3, 2));
     let (one, two) = (whole(1), whole(2));
     let cut = Some((two, Some(two), one));
-    assert_eq!(rt; lower(&a, &b, 0, Extended::Inf), cut);
-    assert_eq!(rt; lower(&b, &a, 0, Extended::Fin(whole(3))), cut);
-    assert_eq!(rt;
-        lower(&a, &b, 0, Extended::Fin(two)),
-        Some((two, None, two))
-    );
-    assert_eq!(rt; lower(&a, &b, 2, Extended::Inf), Some((one, None, one)));
-    assert_eq!(rt;
-        lower(&line(1, 2), &line(0, 2), 0, Extended::Inf),
-        Some((two, None, two))
-    );
+    assert!(rt; lower(&a, &b, 0, Extended::Inf) == cut);
+    assert!(rt; lower(&b, &a, 0, Extended::Fin(whole(3))) == cut);
+    assert!(rt; lower(&a, &b, 0, Extended::Fin(two)) == Some((two, None, two)));
+    assert!(rt; lower(&a, &b, 2, Extended::Inf) == Some((one, None, one)));
+    assert!(rt; lower(&line(1, 2), &line(0, 2), 0, Extended::Inf) == Some((two, None, two)));
 }

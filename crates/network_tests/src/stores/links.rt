@@ -6,8 +6,8 @@ ghost use Rattle.queue_sched.specs.index_links.Chains.{IsFree};
 use queue_sched::index_links::Links;
 use std::test::Fail;
 
-/// Puts a node at the end of a list, where no list has it, and tells whether it was so.
-fn at_tail(links: &mut Links, list: u32, node: u32) -> bool
+/// Puts a node at the head or at the end of a list, where no list has it, and tells whether it was so.
+fn put(links: &mut Links, list: u32, node: u32, is_first: bool) -> bool
     requires list { list < length links.old.lists }
     requires node { node < links.old.nodes }
     ensures nodes { links.new.nodes ≡ links.old.nodes }
@@ -16,21 +16,11 @@ fn at_tail(links: &mut Links, list: u32, node: u32) -> bool
     if links.list_of(node).is_some() {
         return false;
     }
-    links.push_tail(list, node);
-    true
-}
-
-/// The same at the head.
-fn at_head(links: &mut Links, list: u32, node: u32) -> bool
-    requires list { list < length links.old.lists }
-    requires node { node < links.old.nodes }
-    ensures nodes { links.new.nodes ≡ links.old.nodes }
-    ensures lists { length links.new.lists ≡ length links.old.lists }
-{
-    if links.list_of(node).is_some() {
-        return false;
+    if is_first {
+        links.push_head(list, node);
+    } else {
+        links.push_tail(list, node);
     }
-    links.push_head(list, node);
     true
 }
 
@@ -60,9 +50,9 @@ fn after(links: &Links, node: u32) -> Option<u32>
 #[test]
 fn a_list_keeps_its_order(rt: HostRuntime) -> Result<(), Fail> {
     let mut links = Links::new(rt.alloc(), 3, 2)?;
-    assert!(rt; at_tail(&mut links, 0, 1));
-    assert!(rt; at_tail(&mut links, 0, 2));
-    assert!(rt; at_head(&mut links, 0, 0));
+    assert!(rt; put(&mut links, 0, 1, false));
+    assert!(rt; put(&mut links, 0, 2, false));
+    assert!(rt; put(&mut links, 0, 0, true));
     assert!(rt; take_out(&mut links, 1));
     assert!(rt; links.list_of(1) == None);
     links.grow(4)?;

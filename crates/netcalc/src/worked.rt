@@ -1,0 +1,70 @@
+//! The worked examples of the specification, as whole commands in memory.
+
+use crate::cases::CASES;
+use netcalc_cli::run_counted;
+use outside::{MemInputs, MemSink};
+use std::alloc::Global;
+use std::marker::Brand;
+use std::process::Abort;
+use std::sync::ledger::Blank;
+use std::test::Fail;
+
+/// The words of a command line, which are separated by single spaces.
+fn words_in(alloc: Global, line: &str) -> Result<Vec<String>, Fail> {
+    let mut all = Vec::new(alloc);
+    for word in line.split(' ') {
+        all.push(String::from_str(alloc, word)?)?;
+    }
+    Ok(all)
+}
+
+/// The files of names and texts, which follow one another.
+fn files_in(alloc: Global, parts: &[&str]) -> Result<Vec<(String, Vec<u8>)>, Fail> {
+    let mut held = Vec::new(alloc);
+    for pair in parts.chunks(2) {
+        if let [name, text] = pair {
+            held.push((
+                String::from_str(alloc, name)?,
+                Vec::from_slice(alloc, text.as_bytes())?,
+            ))?;
+        }
+    }
+    Ok(held)
+}
+
+/// What these words give where these files lie: the status, and the bytes that are written.
+fn ask(alloc: Global, line: &str, files: &[&str]) -> Result<(u8, Vec<u8>), Fail> {
+    let words = words_in(alloc, line)?;
+    let mut inputs = MemInputs::new(files_in(alloc, files)?, Vec::new(alloc));
+    // A second put would fail.
+    let mut out = MemSink::new(vec![in alloc; 1u32]?)?;
+    let status = run_counted::<MemInputs, MemSink, Brand>(
+        Blank::new(1),
+        &words,
+        &mut inputs,
+        &mut out,
+    );
+    Ok((status, Vec::from_slice(alloc, out.bytes())?))
+}
+
+/// That the words of a case give what it tells. Its parts are separated by `|`.
+fn check(rt: &impl Abort, alloc: Global, case: &str) -> Result<(), Fail> {
+    let parts: Vec<&str> = case.split('|').collect(alloc)?;
+    let [name, line, status, wanted, files @ ..] = parts.as_slice() else {
+        return Err(Fail::from("a case of too few parts"));
+    };
+    let (got, bytes) = ask(alloc, line, files)?;
+    let told = format!(in alloc; "{got}")?;
+    let is_wanted = told.as_str() == *status && bytes.as_slice() == wanted.as_bytes();
+    assert!(rt; is_wanted, "{name}");
+    Ok(())
+}
+
+#[test]
+fn worked_examples(rt: HostRuntime) -> Result<(), Fail> {
+    let alloc = rt.alloc();
+    for case in CASES.split('~') {
+        check(&rt, alloc, case)?;
+    }
+    Ok(())
+}
