@@ -3,14 +3,13 @@
 ghost use Rattle.std.specs.Prelude.{◌≡◌, ◌<◌};
 
 use curve_conv::convolve;
-use curve_tests::shapes::{curve, piece, repeating, repeats, value, whole};
+use curve_tests::shapes::{curve, piece, ratio, repeating, repeats, value, whole};
 use outcomes::Steps;
 use std::alloc::Global;
 use std::marker::Brand;
 use std::sync::ledger::{Blank, Ledger};
 use std::test::Fail;
 use upp_limits::OpFault;
-use upp_limits::fraction128::Frac;
 use upp_limits::rational::Extended;
 use upp_limits::upp_curve::{Curve, Tail, equal};
 
@@ -42,11 +41,7 @@ fn curves_of_points(rt: HostRuntime) -> Result<(), Fail> {
         assert!(rt; value(&c, whole(t)) == Some(whole(v)), "at {t}");
     }
     assert!(rt; value(&c, whole(1)).is_none());
-    let late = match Frac::new(11, 2) {
-        Ok(t) => t,
-        Err(_) => Frac::zero(),
-    };
-    assert!(rt; value(&c, late).is_none());
+    assert!(rt; value(&c, ratio(11, 2)).is_none());
     assert!(rt; repeats(&c) == Some((whole(2), whole(2), whole(1))));
     let one = point(rt.alloc(), 1, 2)?;
     let other = point(rt.alloc(), 3, 4)?;

@@ -31,13 +31,10 @@ fn pieces_are_cut(rt: HostRuntime) -> Result<(), Fail> {
         },
     ]?;
     let elements = cut(rt.alloc(), &pieces, Extended::Inf)?;
-    assert_eq!(rt; elements.len(), 3);
-    assert_eq!(rt; seen_point(&elements[0]), Some((whole(0), whole(3))));
-    assert_eq!(rt;
-        seen_open(&elements[1]),
-        Some((whole(0), Some(whole(2)), whole(1)))
-    );
-    assert_eq!(rt; seen_open(&elements[2]), Some((whole(2), None, whole(0))));
+    assert!(rt; elements.len() == 3);
+    assert!(rt; seen_point(&elements[0]) == Some((whole(0), whole(3))));
+    assert!(rt; seen_open(&elements[1]) == Some((whole(0), Some(whole(2)), whole(1))));
+    assert!(rt; seen_open(&elements[2]) == Some((whole(2), None, whole(0))));
     Ok(())
 }
 
@@ -54,10 +51,10 @@ fn a_late_segment_comes_after_infinity(rt: HostRuntime) -> Result<(), Fail> {
         second: None,
     };
     let pieces = joined_window(rt.alloc(), &j)?;
-    assert_eq!(rt; pieces.len(), 2);
-    assert_eq!(rt; pieces[0].x, Frac::zero());
+    assert!(rt; pieces.len() == 2);
+    assert!(rt; pieces[0].x == Frac::zero());
     assert!(rt; pieces[0].line.is_none());
-    assert_eq!(rt; pieces[1].x, Frac::one());
+    assert!(rt; pieces[1].x == Frac::one());
     assert!(rt; pieces[1].at.is_infinite());
     assert!(rt; pieces[1].line.is_some());
     Ok(())

@@ -6,8 +6,9 @@ ghost use Rattle.upp_limits.specs.rational.specs.Extended.{◌≤ₑ◌};
 ghost use Rattle.upp_limits.specs.rational.specs.declared.Extended.TheVariants.{Fin};
 ghost use Rattle.upp_limits.specs.upp_curve.specs.Curve.{value_at};
 
+use crate::services::late;
 use curve_deviation::horizontal;
-use curve_tests::shapes::{bucket, curve, line_piece, ratio, value, whole};
+use curve_tests::shapes::{bucket, ratio, repeating, value, whole};
 use outcomes::Steps;
 use residuals::fifo::fifo_service;
 use std::alloc::Global;
@@ -18,27 +19,7 @@ use std::test::Fail;
 use upp_limits::OpFault;
 use upp_limits::fraction128::{Ext, Frac};
 use upp_limits::rational::Extended;
-use upp_limits::upp_curve::{Curve, Tail, equal};
-
-// A rate after a latency, with minus their product.
-fn late(alloc: Global, rate: i128, latency: i128, icept: i128) -> Result<Curve, OpFault> {
-    let rank = whole(latency);
-    curve(
-        alloc,
-        &[line_piece(0, 0, 0, 0), line_piece(latency, 0, icept, rate)],
-        Tail::Affine { rank },
-    )
-}
-
-// A step of 5 at each whole time from 1 on.
-fn stair(alloc: Global) -> Result<Curve, OpFault> {
-    let tail = Tail::Periodic {
-        rank: Frac::zero(),
-        period: Frac::one(),
-        rise: whole(5),
-    };
-    curve(alloc, &[line_piece(0, 0, 0, 0)], tail)
-}
+use upp_limits::upp_curve::{Curve, equal};
 
 // Whether that is a number from 0 on.
 fn is_high(v: Ext) -> bool
@@ -63,41 +44,13 @@ fn starts_high(c: &Curve) -> bool
     }
 }
 
-// Whether that is infinite.
-fn is_endless(v: Ext) -> bool {
-    match v {
-        Extended::Fin(_) => false,
-        Extended::Inf => true,
-    }
-}
-
-// Whether the wait is infinite.
-fn waits_for_ever<L: Ledger>(blank: Blank, beta: &Curve, cross: &Curve) -> Result<bool, OpFault>
-    requires name { blank.name ≡ L.name }
-    requires parts { blank.parts ≡ L.parts }
-    requires one { 0 < blank.parts }
-{
-    let mut steps = Steps::<L>::new(blank);
-    if !beta.is_finite() {
-        return Err(OpFault::TooMany);
-    }
-    if !beta.is_rising() {
-        return Err(OpFault::TooMany);
-    }
-    if !cross.is_rising() {
-        return Err(OpFault::TooMany);
-    }
-    let theta = horizontal(cross, beta, &mut steps)?;
-    Ok(is_endless(theta))
-}
-
-// What is left after the wait.
+// Whether the wait is infinite, and what is left after it.
 fn service<L: Ledger>(
     alloc: Global,
     blank: Blank,
     beta: &Curve,
     cross: &Curve,
-) -> Result<Curve, OpFault>
+) -> Result<(bool, Curve), OpFault>
     requires name { blank.name ≡ L.name }
     requires parts { blank.parts ≡ L.parts }
     requires one { 0 < blank.parts }
@@ -116,26 +69,28 @@ fn service<L: Ledger>(
         return Err(OpFault::TooMany);
     }
     let theta = horizontal(cross, beta, &mut steps)?;
-    fifo_service(alloc, beta, cross, theta, &mut steps)
+    let left = fifo_service(alloc, beta, cross, theta, &mut steps)?;
+    Ok((theta.is_infinite(), left))
 }
 
 // Beside a slower flow a rate after the wait, beside a faster one nothing; and beside a slower one where service comes in steps.
 #[test]
 fn what_another_flow_leaves(rt: HostRuntime) -> Result<(), Fail> {
-    let beta = late(rt.alloc(), 100, 10, -1000)?;
+    let beta = late(rt.alloc(), whole(100), whole(10))?;
     let cross = bucket(rt.alloc(), 6000, 5)?;
-    let left = service::<Brand>(rt.alloc(), Blank::new(1), &beta, &cross)?;
-    let wanted = late(rt.alloc(), 95, 70, -6650)?;
+    let (waits, left) = service::<Brand>(rt.alloc(), Blank::new(1), &beta, &cross)?;
+    assert!(rt; !waits, "the wait ends");
+    let wanted = late(rt.alloc(), whole(95), whole(70))?;
     assert!(rt; equal(&left, &wanted));
     let faster = bucket(rt.alloc(), 1, 101)?;
-    let nothing = service::<Brand>(rt.alloc(), Blank::new(1), &beta, &faster)?;
+    let (endless, nothing) = service::<Brand>(rt.alloc(), Blank::new(1), &beta, &faster)?;
     let zero = bucket(rt.alloc(), 0, 0)?;
-    let endless = waits_for_ever::<Brand>(Blank::new(1), &beta, &faster)?;
     assert!(rt; endless, "the wait is infinite");
     assert!(rt; equal(&nothing, &zero));
-    let steps = stair(rt.alloc())?;
+    // A step of 5 at each whole time from 1 on.
+    let steps = repeating(rt.alloc(), 0, Some((0, 0)), 1, 5)?;
     let slower = bucket(rt.alloc(), 1, 1)?;
-    let between = service::<Brand>(rt.alloc(), Blank::new(1), &steps, &slower)?;
+    let (_, between) = service::<Brand>(rt.alloc(), Blank::new(1), &steps, &slower)?;
     for (n, v) in [(2, 0), (3, 3), (4, 7)] {
         let found = value(&between, ratio(n, 2));
         assert!(rt; found == Some(whole(v)), "at {n} halves");

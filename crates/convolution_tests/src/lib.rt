@@ -8,16 +8,12 @@ mod convolutions;
 #[cfg(test)]
 mod deconvolutions;
 #[cfg(test)]
-mod deficit_services;
-#[cfg(test)]
 mod envelopes;
 #[cfg(test)]
 mod fifo_services;
 #[cfg(test)]
 mod point_closures;
 #[cfg(test)]
-mod priority_services;
-#[cfg(test)]
 mod segments;
 #[cfg(test)]
-mod whole_packets;
+mod services;

@@ -8,7 +8,7 @@
 
 ghost use Rattle.std.specs.Prelude.{◌≡◌, ◌<◌};
 
-use curve_tests::shapes::{curve, whole};
+use curve_tests::shapes::{curve, piece, repeating, whole};
 use outcomes::Steps;
 use plain_operators::running::{
     max, min, pos_diff, pos_minus, run_inf, run_sup, scale, shift, sum,
@@ -19,42 +19,16 @@ use std::marker::Brand;
 use std::sync::ledger::{Blank, Ledger};
 use std::test::Fail;
 use upp_limits::OpFault;
-use upp_limits::fraction128::{Ext, Frac};
+use upp_limits::fraction128::Frac;
 use upp_limits::rational::Extended;
-use upp_limits::upp_curve::affine_segment::{Line, Piece};
 use upp_limits::upp_curve::{Curve, Tail};
 
-// A piece from x on; no line: infinite after x.
-fn piece(x: i128, at: Ext, line: Option<Line>) -> Piece {
-    Piece {
-        x: whole(x),
-        at,
-        line,
-    }
-}
-
-fn rising(icept: i128) -> Option<Line> {
-    Some(Line {
-        icept: whole(icept),
-        slope: Frac::one(),
-    })
-}
-
-fn every_two(rise: i128) -> Tail {
-    Tail::Periodic {
-        rank: Frac::zero(),
-        period: whole(2),
-        rise: whole(rise),
-    }
-}
-
 fn saw(alloc: Global) -> Result<Curve, OpFault> {
-    let first = piece(0, Extended::Fin(whole(2)), rising(0));
-    curve(alloc, &[first], every_two(1))
+    repeating(alloc, 2, Some((0, 1)), 2, 1)
 }
 
 fn ramp(alloc: Global) -> Result<Curve, OpFault> {
-    let first = piece(0, Extended::Fin(Frac::one()), rising(1));
+    let first = piece(0, Extended::Fin(Frac::one()), Some((1, 1)));
     curve(alloc, &[first], Tail::Infinite { rank: whole(3) })
 }
 
@@ -68,16 +42,6 @@ fn value(c: &Curve, t: Frac) -> Frac {
             Err(_) => whole(-2),
         },
     }
-}
-
-// Whether these are the values at 0, 1, .. 5.
-fn has_values(c: &Curve, row: [i128; 6]) -> bool {
-    value(c, whole(0)) == whole(row[0])
-        && value(c, whole(1)) == whole(row[1])
-        && value(c, whole(2)) == whole(row[2])
-        && value(c, whole(3)) == whole(row[3])
-        && value(c, whole(4)) == whole(row[4])
-        && value(c, whole(5)) == whole(row[5])
 }
 
 // What f has above g, for finite f.
@@ -180,11 +144,17 @@ fn of_dots<L: Ledger>(alloc: Global, blank: Blank) -> Result<Curve, OpFault>
     requires one { 0 < blank.parts }
 {
     let mut steps = Steps::<L>::new(blank);
-    let even = piece(0, Extended::Fin(Frac::zero()), None);
-    let f = curve(alloc, &[even], every_two(1))?;
-    let first = piece(0, Extended::Inf, None);
-    let odd = piece(1, Extended::Fin(whole(5)), None);
-    let g = curve(alloc, &[first, odd], every_two(2))?;
+    let f = repeating(alloc, 0, None, 2, 1)?;
+    let odd = [
+        piece(0, Extended::Inf, None),
+        piece(1, Extended::Fin(whole(5)), None),
+    ];
+    let tail = Tail::Periodic {
+        rank: Frac::zero(),
+        period: whole(2),
+        rise: whole(2),
+    };
+    let g = curve(alloc, &odd, tail)?;
     min(alloc, &f, &g, &mut steps)
 }
 
@@ -208,7 +178,9 @@ fn operators_of_a_saw_and_a_ramp(rt: HostRuntime) -> Result<(), Fail> {
     ];
     for (of, row) in rows {
         let c = made::<Brand>(rt.alloc(), Blank::new(1), of)?;
-        assert!(rt; has_values(&c, row), "{of:?}");
+        for (t, v) in (0i128..).zip(row) {
+            assert!(rt; value(&c, whole(t)) == whole(v), "{of:?} at {t}");
+        }
     }
     let never_together = of_dots::<Brand>(rt.alloc(), Blank::new(1));
     assert!(rt; matches!(&never_together, Err(OpFault::TooWide)));

@@ -4,8 +4,6 @@
 #[cfg(test)]
 mod all_operators;
 #[cfg(test)]
-mod lattice_operators;
-#[cfg(test)]
 mod makings;
 #[cfg(test)]
 mod periods;

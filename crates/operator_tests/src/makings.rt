@@ -2,15 +2,11 @@
 
 ghost use Rattle.plain_operators.specs.curve_call.specs.Again.{IsAgain, again_determined};
 
+use curve_tests::shapes::bucket;
 use plain_operators::curve_call::{Making, calls_in_turn, intact};
-use std::alloc::Global;
 use std::test::Fail;
 use upp_limits::OpFault;
-use upp_limits::fraction128::Frac;
-use upp_limits::rational::Extended;
-use upp_limits::upp_curve::affine_segment::{Line, Piece};
-use upp_limits::upp_curve::{Curve, Tail, equal};
-use upp_normal::{RawCurve, normalise};
+use upp_limits::upp_curve::{Curve, equal};
 
 // The curve again.
 #[derive(Drop)]
@@ -29,32 +25,9 @@ impl Making for Again {
     }
 }
 
-// 1 + t.
-fn straight(alloc: Global) -> Result<Curve, OpFault> {
-    let zero = Frac::zero();
-    let piece = Piece {
-        x: zero,
-        at: Extended::Fin(Frac::one()),
-        line: Some(Line {
-            icept: Frac::one(),
-            slope: Frac::one(),
-        }),
-    };
-    let tail = Tail::Affine { rank: zero };
-    let Ok(pieces) = Vec::from_slice(alloc, &[piece]) else {
-        return Err(OpFault::NoMemory);
-    };
-    let raw = RawCurve { pieces, tail };
-    if raw.is_raw() {
-        normalise(raw)
-    } else {
-        Err(OpFault::TooWide)
-    }
-}
-
 #[test]
 fn a_copy_is_the_curve(rt: HostRuntime) -> Result<(), Fail> {
-    let c = straight(rt.alloc())?;
+    let c = bucket(rt.alloc(), 1, 1)?;
     let again = Again {};
     let d = intact(again.call(&c))?;
     calls_in_turn::<Again, Again>();

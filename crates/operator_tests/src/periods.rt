@@ -5,61 +5,36 @@ ghost use Rattle.upp_limits.specs.rational.specs.Rational.{◌≤ℚ◌};
 ghost use Rattle.upp_limits.specs.upp_curve.specs.Curves.{IsCurve};
 ghost use Rattle.upp_limits.specs.upp_curve.specs.Steady.{steady, IsWholePeriods};
 
-use curve_tests::shapes::ratio;
+use curve_tests::shapes::{curve, fraction_piece, piece, ratio, repeating, whole};
 use plain_operators::curve_call::least_periods;
-use std::alloc::{AllocError, Global};
+use std::alloc::Global;
 use std::process::Abort;
 use std::test::Fail;
 use upp_limits::fraction128::{Frac, is_less};
 use upp_limits::rational::Extended;
-use upp_limits::upp_curve::affine_segment::{Line, Piece};
 use upp_limits::upp_curve::{Curve, Tail};
-use upp_limits::{OpKind, gauge};
-use upp_normal::{RawCurve, normalise, steady_time};
-
-fn curve_of(raw: RawCurve) -> Option<Curve> {
-    if !raw.is_raw() {
-        return None;
-    }
-    normalise(raw).ok()
-}
+use upp_limits::{OpFault, OpKind, gauge};
+use upp_normal::steady_time;
 
 // burst + rate t
-fn straight(alloc: Global, burst: Frac, rate: Frac) -> Result<Option<Curve>, AllocError> {
-    let mut pieces = Vec::new(alloc);
-    pieces.push(Piece {
-        x: Frac::zero(),
-        at: Extended::Fin(burst),
-        line: Some(Line {
-            icept: burst,
-            slope: rate,
-        }),
-    })?;
-    let tail = Tail::Affine { rank: Frac::zero() };
-    Ok(curve_of(RawCurve { pieces, tail }))
+fn straight(alloc: Global, burst: i128, rate: Frac) -> Result<Curve, OpFault> {
+    let from = whole(burst);
+    let first = fraction_piece(Frac::zero(), from, from, rate);
+    curve(alloc, &[first], Tail::Affine { rank: Frac::zero() })
 }
 
-// at + n rise at the times x + 2 n, and infinity elsewhere
-fn dots(alloc: Global, x: i128, at: i128, rise: i128) -> Result<Option<Curve>, AllocError> {
-    let mut pieces = Vec::new(alloc);
-    if x > 0 {
-        pieces.push(Piece {
-            x: Frac::zero(),
-            at: Extended::Inf,
-            line: None,
-        })?;
-    }
-    pieces.push(Piece {
-        x: ratio(x, 1),
-        at: Extended::Fin(ratio(at, 1)),
-        line: None,
-    })?;
+// 5 + 2 n at the times 1 + 2 n, and infinity elsewhere
+fn between(alloc: Global) -> Result<Curve, OpFault> {
+    let pieces = [
+        piece(0, Extended::Inf, None),
+        piece(1, Extended::Fin(whole(5)), None),
+    ];
     let tail = Tail::Periodic {
         rank: Frac::zero(),
-        period: ratio(2, 1),
-        rise: ratio(rise, 1),
+        period: whole(2),
+        rise: whole(2),
     };
-    Ok(curve_of(RawCurve { pieces, tail }))
+    curve(alloc, &pieces, tail)
 }
 
 fn repeats(c: &Curve, from: Frac, period: Frac) -> bool
@@ -108,14 +83,14 @@ fn least_of(f: &Curve, g: &Curve, from: i128, period: Frac) -> Option<Option<u12
 
 // Of curves that are infinite between.
 fn expect_of_dots(rt: &impl Abort, alloc: Global) -> Result<(), Fail> {
-    let slow = dots(alloc, 0, 0, 1)?.ok_or("no curve")?;
-    let between = dots(alloc, 1, 5, 2)?.ok_or("no curve")?;
-    let above = dots(alloc, 0, -5, 2)?.ok_or("no curve")?;
-    let two = ratio(2, 1);
-    assert_eq!(rt; least_of(&slow, &between, 0, two), Some(None));
-    assert_eq!(rt; least_of(&slow, &above, 0, two), Some(Some(5)));
-    assert_eq!(rt; least_of(&slow, &above, 2, two), Some(Some(4)));
-    assert_eq!(rt; least_of(&above, &slow, 6, two), Some(Some(2)));
+    let slow = repeating(alloc, 0, None, 2, 1)?;
+    let between = between(alloc)?;
+    let above = repeating(alloc, -5, None, 2, 2)?;
+    let two = whole(2);
+    assert!(rt; least_of(&slow, &between, 0, two) == Some(None));
+    assert!(rt; least_of(&slow, &above, 0, two) == Some(Some(5)));
+    assert!(rt; least_of(&slow, &above, 2, two) == Some(Some(4)));
+    assert!(rt; least_of(&above, &slow, 6, two) == Some(Some(2)));
     Ok(())
 }
 
@@ -133,18 +108,15 @@ fn numbers_of_periods(rt: HostRuntime) -> Result<(), Fail> {
         (9, 1, 0, 1, 1, 0),
         (1, 1, 0, 4, 3, 1),
     ] {
-        let f = straight(rt.alloc(), ratio(burst, 1), ratio(rate, over))?.ok_or("no curve")?;
-        let g = straight(rt.alloc(), ratio(other_burst, 1), ratio(other_rate, over))?.ok_or(
-            "no curve",
-        )?;
-        assert_eq!(rt;
-            least_of(&f, &g, 0, ratio(1, 1)),
-            Some(Some(periods)),
+        let f = straight(rt.alloc(), burst, ratio(rate, over))?;
+        let g = straight(rt.alloc(), other_burst, ratio(other_rate, over))?;
+        let wanted = Some(Some(periods));
+        assert!(rt;
+            least_of(&f, &g, 0, Frac::one()) == wanted,
             "{burst} {rate}"
         );
-        assert_eq!(rt;
-            least_of(&g, &f, 0, ratio(1, 1)),
-            Some(Some(periods)),
+        assert!(rt;
+            least_of(&g, &f, 0, Frac::one()) == wanted,
             "{burst} {rate}"
         );
     }

@@ -107,11 +107,11 @@ fn made_windows(rt: HostRuntime) -> Result<(), Fail> {
     for (of, first, second) in rows {
         let pieces = made(rt.alloc(), of)?;
         let found = pieces.first().ok_or("no piece")?;
-        assert_eq!(rt; parts(found), Some(first), "{of:?}");
-        assert_eq!(rt; pieces.get(1).and_then(parts), second, "{of:?}");
-        assert_eq!(rt; pieces.get(2).is_none(), true, "{of:?}");
+        assert!(rt; parts(found) == Some(first), "{of:?}");
+        assert!(rt; pieces.get(1).and_then(parts) == second, "{of:?}");
+        assert!(rt; pieces.get(2).is_none(), "{of:?}");
     }
     let stretches = both(rt.alloc())?;
-    assert_eq!(rt; stretches.len(), 1);
+    assert!(rt; stretches.len() == 1);
     Ok(())
 }

@@ -2,6 +2,3 @@ use Rattle.convolution_tests.proofs.fifo_services.what_another_flow_leaves.Given
 
 abbrev pub ghosts-service : goal.ghosts-service
 ghosts-service g a = record { name = a.blank.name; parts = a.blank.parts }
-
-abbrev pub ghosts-waits_for_ever : goal.ghosts-waits_for_ever
-ghosts-waits_for_ever g a = record { name = a.blank.name; parts = a.blank.parts }

@@ -1,8 +1,0 @@
-use Rattle.convolution_tests.proofs.fifo_services.waits_for_ever.Goals as goal
-
-pub horizontal-requires-clause-finite : goal.horizontal-requires-clause-finite
-horizontal-requires-clause-finite g c = c.is_finite.ensures.0 c.if-not-is_finite.false
-
-pub horizontal-requires-clause-rising : goal.horizontal-requires-clause-rising
-horizontal-requires-clause-rising g c =
-    (c.is_rising-2.ensures.0 c.if-not-is_rising-2.false, c.is_rising.ensures.0 c.if-not-is_rising.false)
