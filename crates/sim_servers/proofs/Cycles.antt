@@ -2,7 +2,7 @@
 use Rattle.std.specs.Prelude.{Some, None, ◌≡◌, ℕ, suc, pos}
 use Rattle.std.proofs.Common.{arith, refl, sym, ap, ◌∙◌, subst, inl, inr}
 use Rattle.rational.specs.Rational.{ℚ, int, ◌+ℚ◌, ◌*ℚ◌, ◌/ℚ◌, ◌≤ℚ◌, ◌<ℚ◌}
-use Rattle.rational.specs.Ratio.{IsSmall}
+use Rattle.rational.specs.Ratio.{IsSmall, SumFits}
 use Rattle.rational.specs.Whole.{whole_part}
 use Rattle.rational.proofs.Whole.{whole_le, whole_gt}
 use Rattle.rational.proofs.Linear.{with3, with4}
@@ -13,8 +13,8 @@ use Rattle.net_model.specs.run_laws.specs.Cards.{whole}
 use Rattle.net_model.specs.stated_runs.Setups.{GateTimes, IsGate, IsGateOpen, IsFirstGateOpen, StaysTo}
 use Rattle.net_model.specs.stated_runs.TimeGrids.{HasRoom, IsTime}
 use Rattle.net_model.proofs.stated_runs.Opens.{next_whole, closed_after, cycle_of}
-use Rattle.sim_servers.specs.Openings.{BeginsAt}
-use Rattle.sim_servers.proofs.GridSteps.{time_fits}
+use Rattle.sim_servers.specs.Openings.{BeginsAt, GateRoom}
+use Rattle.sim_servers.proofs.GridSteps.{sum_fits, time_fits}
 
 pub long : (g : GateTimes) → IsGate g → int (pos 0) <ℚ g.cycle
 long g ok = lt_le_trans ok.some_slot ok.within
@@ -38,6 +38,11 @@ begin_is_time g D E t b ok h c i = record {
   from_zero = subst (λ y. int (pos 0) ≤ℚ y) (sym h.is) (Rattle.rational.proofs.Laws.mul_nonneg (Rattle.rational.proofs.Integers.nat_nonneg h.count) (le_of_lt (long g ok)));
   by = le_trans h.begun i.by;
 }
+
+-- and its close fits
+pub close_fits : (g : GateTimes) (from b : ℚ) → IsGate g → GateRoom (Some g) from → BeginsAt g from b → SumFits b g.slot
+close_fits g from b ok r is =
+    sum_fits r.grid r.most b g.slot r.room (begin_is_time g r.grid r.most from b ok is r.gate_is.0 r.time) r.gate_is.1
 
 -- ---- when it is open
 pub opens_now : (g : GateTimes) (t b : ℚ) → BeginsAt g t b → t <ℚ b +ℚ g.slot → IsFirstGateOpen (Some g) t t

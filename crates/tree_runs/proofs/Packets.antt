@@ -1,5 +1,5 @@
 -- The packets that arrive at a server of a lawful run: each is of a live flow that passes the server, and keeps its flow's size.
-use Rattle.std.specs.Prelude.{◌≡◌, ◌<◌, ◌≤◌, ℕ, true, ◌==◌, List, [], ◌∷◌, ◌++◌, length}
+use Rattle.std.specs.Prelude.{◌≡◌, ◌<◌, ◌≤◌, ℕ, true, ◌==◌, List, [], ◌∷◌, length}
 use Rattle.std.proofs.Common.{arith, sym, ap, ◌∙◌, refl, inl, inr, subst}
 use Rattle.std.proofs.lemmas.Bool.{cases_Bool, eqb-true}
 use Rattle.min_plus.specs.rational.specs.Rational.{ℚ}
@@ -8,11 +8,11 @@ use Rattle.run_laws.specs.declared.steps.Step.TheVariants.{Enter, Reach, Work, L
 use Rattle.run_laws.specs.Runs.{SpecRun}
 use Rattle.run_laws.specs.Cards.{ServerStep}
 use Rattle.run_laws.specs.Premises.{EachArrival}
-use Rattle.run_laws.specs.Routes.{Routes, route_of, queue_at, PassesServer, first_server}
-use Rattle.run_laws.specs.Views.{Entry, entry_of, entered_after, server_of, seen, view_from, view}
+use Rattle.run_laws.specs.Routes.{Routes, queue_at, PassesServer}
+use Rattle.run_laws.specs.Views.{entry_of, entered_after, server_of, seen, view_from, view}
 use Rattle.run_laws.specs.Lawful.{RunState, IsKnown, run_start}
-use Rattle.run_laws.proofs.Arrivals.{arrivals_map, AllSizes, IsEntered, IsPassing, rest_sizes, entries_more, passing_entry}
-use Rattle.run_laws.proofs.Entries.{entry_last, EachDue, each_due_at, passes_first}
+use Rattle.run_laws.proofs.Arrivals.{arrivals_map, AllSizes, IsEntered, IsPassing, rest_sizes, entries_more, enter_passes, passing_entry}
+use Rattle.run_laws.proofs.Entries.{EachDue, each_due_at}
 use Rattle.run_laws.proofs.Totals.{queue_keeps_total}
 use Rattle.net_laws.specs.Multicast.{NextServers, next_run_by, AllAllowedBy, IsLawfulBy}
 use Rattle.net_laws.proofs.Arcs.{StaysInside}
@@ -46,14 +46,7 @@ head_passes : (net : Routes) (to : NextServers) (packet : ℕ → ℕ) (r : RunS
     → EachArrival (IsPassing net packet (server_of net x)) V
     → EachArrival (IsPassing net packet (server_of net x)) (seen net r.entered x ∷ V)
 head_passes net to packet r (Enter f p t b) xs V inside k sizes h rest =
-    let e : Entry = record { flow = f; bits = b } in
-    let last = entry_last r.entered e p k.in_turn in
-    let is : IsEntered net packet e = record { is_live = k.is_live; small = (sizes f k.is_live).0 refl } in
-    let s = first_server (route_of net f).hops in (
-      passing_entry net packet (r.entered ++ e ∷ []) p s (subst (IsEntered net packet) (sym last) is)
-          (subst (λ (y : Entry). PassesServer s (route_of net y.flow).hops) (sym last) (passes_first s (route_of net f).hops k.has_path)),
-      rest,
-    )
+    (enter_passes net packet r f p t b xs k sizes, rest)
 head_passes net to packet r (Reach s p t) xs V inside k sizes h rest =
     let (n, l, e) = k in
     let due = each_due_at (IsDueBy to r.entered) r.due record { packet = p; server = s; time = t } n h.dues l e in

@@ -16,7 +16,8 @@ use Rattle.run_laws.specs.Routes.{queue_at}
 use Rattle.tree_runs.specs.Trees.{tree_of, hops_in}
 use Rattle.tree_runs.specs.Stairs.{stair_of, StairsGrow}
 
-whole_rises : (x y : ℚ) → x ≤ℚ y → whole_part x ≤ whole_part y
+-- a whole part rises
+pub whole_rises : (x y : ℚ) → x ≤ℚ y → whole_part x ≤ whole_part y
 whole_rises x y l = elim (le_or_lt (int (pos 0)) x) [
   | inl on ↦
       let below = nat_lt_out (whole_part x) (suc (whole_part y)) (le_lt_trans (le_trans (whole_le x on) l) (whole_gt y)) in

@@ -46,6 +46,13 @@ cards_less p q (x ∷ xs) c e = elim (cases_eq x.queue q) [
       omega (arith, h, m)
 ]
 
+-- a departure that is not the first one is a later one
+pub later_due : (d e : Due) (es : List Due) → same_due d e ≡ false → In (e ∷ es) d → In es d
+later_due d e es other has = elim has [
+  | inl same ↦ absurd (let g : same_due d d ≡ false = ap (λ x. same_due d x) (sym same) ∙ other in let k = same_due_self d in cc)
+  | inr i ↦ i
+]
+
 pub dues_less : (p : ℕ) (ds : List Due) (d : Due) → In ds d → dues_of p (without d ds) + one d.packet p ≡ dues_of p ds
 dues_less p [] d h = absurd h
 dues_less p (e ∷ es) d h = elim (cases_Bool (same_due d e)) [
@@ -57,11 +64,7 @@ dues_less p (e ∷ es) d h = elim (cases_Bool (same_due d e)) [
       omega (arith, k, m)
   | inr f ↦
       let a : without d (e ∷ es) ≡ e ∷ without d es = rw f refl in
-      let rest : In es d = elim h [
-        | inl same ↦ absurd (let g : same_due d d ≡ false = ap (λ x. same_due d x) (sym same) ∙ f in let k = same_due_self d in cc)
-        | inr i ↦ i
-      ] in
-      let n = dues_less p es d rest in
+      let n = dues_less p es d (later_due d e es f h) in
       let m : dues_of p (without d (e ∷ es)) ≡ one e.packet p + dues_of p (without d es) = ap (dues_of p) a in
       omega (arith, n, m)
 ]

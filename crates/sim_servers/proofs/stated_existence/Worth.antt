@@ -1,5 +1,5 @@
 -- Each step of a stated run takes away from a number: how often the servers can still work, and what comes of that.
-use Rattle.std.proofs.Common.{◌≡◌, ℕ, zero, suc, ◌<◌, ◌≤◌, ◌+◌, ◌*◌, ◌-◌, ◌^◌, List, [], ◌∷◌, length, get_or, set, refl, sym, ap, ◌∙◌, subst, arith, inl, inr, Some, None, false}
+use Rattle.std.proofs.Common.{◌≡◌, ℕ, zero, suc, ◌<◌, ◌≤◌, ◌+◌, ◌*◌, ◌-◌, ◌^◌, List, [], ◌∷◌, length, get_or, set, refl, sym, ap, ◌∙◌, subst, arith, inl, inr, Some, None}
 use Rattle.std.specs.Prelude.{Option, pos, nat_le, ◌<ℤ◌, ◌≤ℤ◌}
 use Rattle.std.proofs.lemmas.Bool.{cases_Bool, leb-true, leb-false}
 use Rattle.std.proofs.lemmas.Int.{ints}
@@ -23,7 +23,7 @@ use Rattle.net_model.specs.run_laws.proofs.Rounds.{first_counts}
 use Rattle.net_model.specs.stated_runs.Setups.{Setup}
 use Rattle.net_model.proofs.stated_runs.Lists.{In}
 use Rattle.net_model.proofs.stated_runs.Turning.{KeepsTurns, AreHeads, head_cases}
-use Rattle.net_model.specs.run_laws.proofs.Entries.{same_due_self}
+use Rattle.sim_servers.proofs.sim_states.Places.{later_due}
 
 -- ---- how many times 1 / d there are from the end of the last work to E
 abbrev pub ticks : ℕ → ℚ → ℚ → ℕ
@@ -199,11 +199,7 @@ without_less d (e ∷ es) h = elim (cases_Bool (same_due d e)) [
       omega (arith, m)
   | inr f ↦
       let a : without d (e ∷ es) ≡ e ∷ without d es = rw f refl in
-      let rest : In es d = elim h [
-        | inl same ↦ absurd (let g : same_due d d ≡ false = ap (λ x. same_due d x) (sym same) ∙ f in let k = same_due_self d in cc)
-        | inr i ↦ i
-      ] in
-      let n = without_less d es rest in
+      let n = without_less d es (later_due d e es f h) in
       let m : length (without d (e ∷ es)) ≡ suc (length (without d es)) = ap length a in
       omega (arith, n, m)
 ]

@@ -4,16 +4,13 @@ use Rattle.rational.specs.Rational.{◌≤ℚ◌, ◌<ℚ◌}
 use Rattle.net_model.specs.stated_runs.Setups.{IsFirstGateOpen}
 use Rattle.sim_servers.specs.Openings.{gate_times}
 use Rattle.sim_servers.proofs.GridSteps.{sum_fits}
-use Rattle.sim_servers.proofs.Cycles.{begin_is_time, opens_now, opens_next}
+use Rattle.sim_servers.proofs.Cycles.{begin_is_time, close_fits, opens_now, opens_next}
 use Rattle.sim_servers.proofs.opening.opens_in_cycle.Goals as goal
 use Rattle.rational.proofs.Compared.{least_by_test}
 
 pub sum-close-requires : goal.sum-close-requires
 sum-close-requires c =
-    let g = gate_times c.args.gate.now in
-    let r = c.requires.room in
-    sum_fits r.grid r.most c.cycle_begin-begin.result g.slot r.room
-    (begin_is_time g r.grid r.most c.args.from c.cycle_begin-begin.result c.requires.gate c.cycle_begin-begin.ensures r.gate_is.0 r.time) r.gate_is.1
+    close_fits (gate_times c.args.gate.now) c.args.from c.cycle_begin-begin.result c.requires.gate c.requires.room c.cycle_begin-begin.ensures
 
 pub sum-requires : goal.sum-requires
 sum-requires c =
