@@ -7,7 +7,7 @@ use Rattle.upp_limits.specs.rational.specs.MinMax.{min_q}
 use Rattle.upp_limits.specs.rational.specs.Grid.{Whole}
 use Rattle.upp_limits.specs.rational.specs.Extended.{Ext}
 use Rattle.upp_limits.specs.rational.proofs.Laws.{le_refl, le_trans, le_of_lt, le_or_lt, lt_irrefl, lt_le_trans, le_lt_trans}
-use Rattle.upp_limits.specs.rational.proofs.MinMax.{min_q_right, min_q_le_left, min_q_le_right, le_q_not}
+use Rattle.upp_limits.specs.rational.proofs.MinMax.{min_q_right, min_q_le_left, min_q_le_right}
 use Rattle.upp_limits.specs.rational.proofs.Over.{le_q_out}
 use Rattle.upp_limits.specs.upp_curve.specs.declared.affine_segment.line.Piece.{Piece}
 use Rattle.upp_limits.specs.upp_curve.specs.affine_segment.Values.{line_value}
@@ -29,16 +29,15 @@ use Rattle.upp_limits.specs.upp_curve.specs.Steady.{rank_of}
 use Rattle.upp_limits.specs.Periods.{period_of}
 use Rattle.upp_limits.specs.Spans.{spans, piece_read}
 use Rattle.upp_limits.specs.Sized.{SpanStands}
-use Rattle.curve_call.specs.upp_normal.specs.Operand.{AreLimited, OperandLineAt}
+use Rattle.curve_call.specs.upp_normal.specs.Operand.{OperandLineAt}
 use Rattle.curve_call.specs.upp_normal.specs.Ahead.{IsBeforeNext, GoesOn, AtNext, TimesStand, HasWindow, IsOverBy, IsTimeIn, GridValue}
 use Rattle.upp_limits.proofs.PieceLists.{spans_some}
 use Rattle.upp_limits.specs.upp_curve.proofs.Repeats.{repeated_first}
 use Rattle.upp_limits.specs.upp_curve.proofs.RisingCurves.{infinite_is_not_finite, GoesOn as IsEndless}
 use Rattle.upp_limits.proofs.CurveStands.{unrolled_stand, each_stands, has_period}
-use Rattle.curve_call.specs.upp_normal.proofs.StretchPieces.{next_past, next_all, reads_on, span_in, found_late}
-use Rattle.curve_call.specs.upp_normal.proofs.StretchSizes.{span_line, times_stand}
-use Rattle.curve_call.specs.upp_normal.proofs.StretchValues.{with_pieces}
-use Rattle.curve_call.specs.upp_normal.proofs.AnswerRoom.{operand_line_fits, operand_line_value, stands_operand_value}
+use Rattle.curve_call.specs.upp_normal.proofs.StretchPieces.{next_past, next_all, reads_on, span_in}
+use Rattle.curve_call.specs.upp_normal.proofs.StretchSizes.{times_stand}
+use Rattle.curve_call.specs.upp_normal.proofs.StretchValues.{read_here, with_pieces}
 use Rattle.curve_deviation.specs.declared.parts.Part.{Part}
 use Rattle.curve_deviation.specs.Parts.{IsFiniteInSizes, GoesTo, PartStands, IsEarlyBy, IsKeptUntil}
 use Rattle.upp_limits.specs.upp_curve.proofs.affine_segment.Lower.{left_low}
@@ -103,24 +102,6 @@ pub record EarlyHere (z : Sizes) (end : ℚ) (c : SpecCurve) (t : ℚ) : Type 0 
   pub line : OperandLineAt z (line_in c.pieces t)
   pub at : GridValue z (read c.pieces t)
 
-early_of : (z : Sizes) (end t : ℚ) (p : Piece) (ps : List Piece) (next : Option ℚ) → AreLimited z end → IsTimeIn z end t → StartsAtZero (p ∷ ps)
-    → SpanStands z record { piece = piece_in p ps t; next = next } → ReadFits (p ∷ ps) t × OperandLineAt z (line_in (p ∷ ps) t) × GridValue z (read (p ∷ ps) t)
-unfolding read piece_value
-early_of z end t p ps next A time starts stands =
-    let q = piece_in p ps t in
-    let first : p.x ≤ℚ t = subst (λ x. x ≤ℚ t) (sym starts.0) time.nonneg in
-    let early : q.x ≤ℚ t = found_early p ps t first in
-    let low : int (pos 0) ≤ℚ q.x = subst (λ x. x ≤ℚ q.x) starts.0 (found_late p ps t starts.1) in
-    let high : t ≤ℚ end = le_of_lt time.before in
-    let line : OperandLineAt z q.line = span_line z end record { piece = q; next = next } A low (le_trans early high) stands in (
-      λ l. operand_line_fits z end t q.line A line time.whole time.nonneg high,
-      line,
-      elim (le_or_lt t q.x) [
-        | inl l ↦ subst (λ b. GridValue z (cond b q.at (line_value q.line t))) (sym (le_q_out t q.x l)) ((stands_operand_value z q.at stands.at))
-        | inr l ↦ subst (λ b. GridValue z (cond b q.at (line_value q.line t))) (sym (le_q_not t q.x l)) ((operand_line_value z end t q.line A line time.whole time.nonneg high))
-      ],
-    )
-
 pub early_here : (z : Sizes) (end : ℚ) (c : SpecCurve) (t : ℚ) → IsFiniteInSizes z end c → IsTimeIn z end t → EarlyHere z end c t
 early_here z end c t S time =
     with_pieces {G = EarlyHere z end c t} c.pieces S.curve.normal.raw.starts (λ p ps f.
@@ -131,7 +112,7 @@ early_here z end c t S time =
     let (next, stands) = span_in (λ s. s.piece.x <ℚ end → SpanStands z s) c.tail p ps t all in
     let first : p.x ≤ℚ t = subst (λ x. x ≤ℚ t) (sym starts.0) time.nonneg in
     let here = subst (λ q. SpanStands z record { piece = q; next = next }) (read_as_kept c.tail (piece_in p ps t) goes) (stands (le_lt_trans (found_early p ps t first) time.before)) in
-    let found = early_of z end t p ps next S.limited time starts here in
+    let found = read_here z end t p ps next S.limited time starts here in
     record {
       fits = subst (λ qs. ReadFits qs t) (sym f) found.0;
       line = subst (λ qs. OperandLineAt z (line_in qs t)) (sym f) found.1;

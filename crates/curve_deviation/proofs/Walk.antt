@@ -1,16 +1,15 @@
 -- The walk to the longest lag: what has been looked at, and that it ends.
 use Rattle.std.specs.Prelude.{◌≡◌, ℕ, ◌+◌, ◌<◌, pos, ◌⊎◌}
 use Rattle.std.proofs.Common.{arith, sym, ap, ◌∙◌, subst, inl, inr}
-use Rattle.upp_limits.specs.rational.specs.Rational.{ℚ, ◌+ℚ◌, ◌-ℚ◌, ◌*ℚ◌, ◌≤ℚ◌, ◌<ℚ◌, int}
+use Rattle.upp_limits.specs.rational.specs.Rational.{ℚ, ◌-ℚ◌, ◌*ℚ◌, ◌≤ℚ◌, ◌<ℚ◌, int}
 use Rattle.upp_limits.specs.rational.specs.MinMax.{max_q}
 use Rattle.upp_limits.specs.rational.specs.Whole.{whole_part}
 use Rattle.upp_limits.specs.rational.specs.Grid.{Whole}
 use Rattle.upp_limits.specs.rational.specs.Extended.{Ext, ◌≤ₑ◌, ◌<ₑ◌}
 use Rattle.upp_limits.specs.rational.specs.declared.Extended.TheVariants.{Fin}
-use Rattle.upp_limits.specs.rational.proofs.Linear.{with2, with4, with6}
-use Rattle.upp_limits.specs.rational.proofs.Laws.{antisym, le_refl, le_trans, le_of_lt, le_or_lt, lt_le_trans, le_lt_trans, lt_irrefl, lt_trans, mul_nonneg, sub_mul}
-use Rattle.upp_limits.specs.rational.proofs.Integers.{nat_nonneg}
-use Rattle.upp_limits.specs.rational.proofs.Grid.{whole_sub, whole_int}
+use Rattle.upp_limits.specs.rational.proofs.Linear.{with2, with4}
+use Rattle.upp_limits.specs.rational.proofs.Laws.{antisym, le_refl, le_trans, le_of_lt, le_or_lt, lt_le_trans, le_lt_trans, lt_irrefl, lt_trans}
+use Rattle.upp_limits.specs.rational.proofs.Grid.{whole_int}
 use Rattle.upp_limits.specs.rational.proofs.Stretch.{rising_supremum}
 use Rattle.upp_limits.specs.rational.proofs.MinMax.{max_q_one, max_q_ge_left, max_q_ge_right}
 use Rattle.upp_limits.specs.rational.proofs.ExtendedOrder.{le_ext_trans, le_lt_ext, lt_le_ext}
@@ -24,7 +23,7 @@ use Rattle.curve_deviation.specs.declared.walks.Walk.{Walk}
 use Rattle.curve_deviation.specs.Cells.{CellSizes, IsTimeTo, IsBehind, IsCellLag}
 use Rattle.curve_deviation.specs.Rises.{RisesOn, IsCellOf}
 use Rattle.curve_deviation.specs.Lags.{IsBehindAt, LagsBy, IsLongestLag}
-use Rattle.curve_call.proofs.GapWalk.{fewer_whole, one_step}
+use Rattle.curve_call.proofs.GapWalk.{fewer_on_grid}
 use Rattle.upp_limits.specs.upp_curve.proofs.affine_segment.LineValues.{value_rises}
 
 -- what holds on the way: the pairs of times that are looked at have no longer lag
@@ -238,18 +237,7 @@ steps_left z until end w = left_to z.dt until w.time + left_to z.dt end w.reache
 
 fewer_left : (d : ℕ) (end t next : ℚ) → 0 < d → Whole d t → Whole d next → t <ℚ next → next ≤ℚ end → left_to d end next < left_to d end t
 unfolding left_to
-fewer_left d end t next some w v h k =
-    let D = int (pos d) in
-    let step = one_step d (next -ℚ t) some (with2 t next (λ c. omega (arith, c.le, c.lt, c.same))) (whole_sub d next t v w) in
-    let left : int (pos 0) ≤ℚ (end -ℚ next) *ℚ D = mul_nonneg (with2 end next (λ c. omega (arith, c.le, c.lt, c.same))) (nat_nonneg d) in
-    let a = sub_mul end next D in
-    let b = sub_mul end t D in
-    let e = sub_mul next t D in
-    fewer_whole ((end -ℚ next) *ℚ D) ((end -ℚ t) *ℚ D) left
-    (less ((end -ℚ next) *ℚ D) ((end -ℚ t) *ℚ D) ((next -ℚ t) *ℚ D) (end *ℚ D) (next *ℚ D) (t *ℚ D) a b e step)
-  where
-    less : (x y z p q r : ℚ) → x ≡ p -ℚ q → y ≡ p -ℚ r → z ≡ q -ℚ r → int (pos 1) ≤ℚ z → x +ℚ int (pos 1) ≤ℚ y
-    less x y z p q r a b e s = with6 x y z p q r (λ c. omega (arith, c.le, c.lt, c.same))
+fewer_left d end t next some w v h k = fewer_on_grid d end t next some w v h k
 
 pub fewer_first : (z : Sizes) (f g : ℚ → Ext) (until end : ℚ) (w v : Walk) (c : Cell) → 0 < z.dt → IsWalked z f g until end w → IsWalked z f g until end v → IsCellOf f g w.time w.reached until end c
     → v.time ≡ c.end → v.reached ≡ c.from → steps_left z until end v < steps_left z until end w
