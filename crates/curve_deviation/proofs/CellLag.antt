@@ -10,7 +10,7 @@ use Rattle.upp_limits.specs.rational.proofs.MinMax.{below_min_in, min_q_le_left,
 use Rattle.upp_limits.specs.upp_curve.specs.declared.affine_segment.line.Line.{Line}
 use Rattle.upp_limits.specs.upp_curve.specs.affine_segment.Values.{line_at}
 use Rattle.curve_deviation.specs.declared.cells.Cell.{Cell}
-use Rattle.curve_deviation.specs.Cells.{RisingCell, IsCellLag}
+use Rattle.curve_deviation.specs.Cells.{RisingCell, IsCellLag, BehindBy}
 use Rattle.upp_limits.specs.upp_curve.proofs.affine_segment.LineValues.{value_later, value_rises, value_moved}
 
 -- ---- times between
@@ -109,6 +109,37 @@ left k l t q e =
     close : (a b g v : ℚ) → a +ℚ g ≡ b → g ≡ b -ℚ v → a ≡ v
     close a b g v h k = with4 a b g v (λ c. omega (arith, c.le, c.lt, c.same))
 
+-- two such times
+behind_by : (c : Cell) {y : ℚ} (s u : ℚ) → c.start <ℚ s → s <ℚ c.end → c.from <ℚ u → u <ℚ c.until
+    → line_at c.second u <ℚ line_at c.first s → y <ℚ u -ℚ s → BehindBy c y
+behind_by c s u start end from until below more = record {
+  first = s;
+  second = u;
+  start = start;
+  end = end;
+  from = from;
+  until = until;
+  below = below;
+  more = more;
+}
+
+-- ---- the second is lower
+-- where it ends below where the first starts
+apart_below : (c : Cell) (s u : ℚ) → RisingCell c → line_at c.second c.until <ℚ line_at c.first c.start → c.start <ℚ s → u <ℚ c.until
+    → line_at c.second u <ℚ line_at c.first s
+apart_below c s u R below past end =
+    le_lt_trans (value_rises c.second u c.until R.second (le_of_lt end)) (lt_le_trans below (value_rises c.first c.start s R.first (le_of_lt past)))
+
+-- where the first is at x as high as the second's end
+passing_below : (c : Cell) (x s u : ℚ) → RisingCell c → int (pos 0) <ℚ c.first.slope → line_at c.first x ≡ line_at c.second c.until → x <ℚ s → u <ℚ c.until
+    → line_at c.second u <ℚ line_at c.first s
+passing_below c x s u R some is past end =
+    le_lt_trans (value_rises c.second u c.until R.second (le_of_lt end)) (subst (λ v. v <ℚ line_at c.first s) is (rises_more c.first x s some past))
+
+-- where it is so at an earlier time of the first
+starting_below : (c : Cell) (t s u : ℚ) → RisingCell c → line_at c.second u <ℚ line_at c.first t → t <ℚ s → line_at c.second u <ℚ line_at c.first s
+starting_below c t s u R under past = lt_le_trans under (value_rises c.first t s R.first (le_of_lt past))
+
 -- ---- the second ends below where the first starts
 pub apart_lag : (c : Cell) → RisingCell c → line_at c.second c.until <ℚ line_at c.first c.start → IsCellLag c (c.until -ℚ c.start)
 apart_lag c R below = record {
@@ -118,16 +149,9 @@ apart_lag c R below = record {
       let t = c.start in
       let (s, s_past, s_end, s_near) = before_both c.start c.end (y -ℚ z) R.start (with3 y t z (λ c. omega (arith, c.le, c.lt, c.same))) in
       let (u, u_past, u_near, u_end) = after_both c.from (z +ℚ s) c.until R.from (with3 y s z (λ c. omega (arith, c.le, c.lt, c.same))) in
-      inr record {
-        first = s;
-        second = u;
-        start = s_past;
-        end = s_end;
-        from = u_past;
-        until = u_end;
-        below = le_lt_trans (value_rises c.second u c.until R.second (le_of_lt u_end)) (lt_le_trans below (value_rises c.first c.start s R.first (le_of_lt s_past)));
-        more = apart z s u u_near;
-      };
+      inr (behind_by c s u s_past s_end u_past u_end
+      (apart_below c s u R below s_past u_end)
+      (apart z s u u_near));
 }
 
 -- ---- the first is the steeper one
@@ -152,16 +176,9 @@ passing_lag c q R low steep high e =
           let last = value_later k (y -ℚ q) c.end R.first (subst (λ x. x <ℚ line_at k c.end) (sym is) high) in
           let (s, s_past, s_end, s_near) = before_both (y -ℚ q) c.end (y -ℚ z) last (with3 y q z (λ c. omega (arith, c.le, c.lt, c.same))) in
           let (u, u_past, u_near, u_end) = after_both c.from (z +ℚ s) c.until R.from (with3 y s z (λ c. omega (arith, c.le, c.lt, c.same))) in
-          inr record {
-            first = s;
-            second = u;
-            start = le_lt_trans first s_past;
-            end = s_end;
-            from = u_past;
-            until = u_end;
-            below = le_lt_trans (value_rises c.second u c.until R.second (le_of_lt u_end)) (subst (λ x. x <ℚ line_at k s) is (rises_more k (y -ℚ q) s some s_past));
-            more = apart z s u u_near;
-          };
+          inr (behind_by c s u (le_lt_trans first s_past) s_end u_past u_end
+          (passing_below c (y -ℚ q) s u R some is s_past u_end)
+          (apart z s u u_near));
     }
 
 -- it ends no higher than the second ends, but higher than the second starts
@@ -189,16 +206,9 @@ ending_lag c q R steep low high e =
           let (i, more) = (rising_supremum c.start t k.icept k.slope R.start R.first).near (line_at l u) under in
           let s = i.at in
           let s_end = i.below in
-          inr record {
-            first = s;
-            second = u;
-            start = i.above;
-            end = s_end;
-            from = u_past;
-            until = lt_le_trans u_end last;
-            below = more;
-            more = apart_sooner z s u t u_near s_end;
-          };
+          inr (behind_by c s u i.above s_end u_past (lt_le_trans u_end last)
+          more
+          (apart_sooner z s u t u_near s_end));
     }
 
 -- it ends no higher than the second starts
@@ -235,16 +245,9 @@ starting_lag c q R gentle low high e =
           let (u, u_past, u_near, u_end) = after_both c.from (z +ℚ t) (t +ℚ q) first (with3 z t q (λ c. omega (arith, c.le, c.lt, c.same))) in
           let under : line_at l u <ℚ line_at k t = subst (λ x. line_at l u <ℚ x) is (rises_more l u (t +ℚ q) some u_end) in
           let (s, s_past, s_end, s_near) = before_both t c.end (u -ℚ z) R.start (with3 u z t (λ c. omega (arith, c.le, c.lt, c.same))) in
-          inr record {
-            first = s;
-            second = u;
-            start = s_past;
-            end = s_end;
-            from = u_past;
-            until = lt_le_trans u_end last;
-            below = lt_le_trans under (value_rises k t s R.first (le_of_lt s_past));
-            more = before_gap z s u s_near;
-          };
+          inr (behind_by c s u s_past s_end u_past (lt_le_trans u_end last)
+          (starting_below c t s u R under s_past)
+          (before_gap z s u s_near));
     }
 
 -- it starts no higher than the second starts

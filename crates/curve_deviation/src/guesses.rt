@@ -1,5 +1,5 @@
-//! The numbers of periods of a horizontal deviation, each by one division: what they are is only held to be likely here,
-//! and looked at afterwards.
+//! The numbers of periods of a horizontal deviation, by a division each and one more where the second curve repeats late:
+//! what they are is only held to be likely here, and looked at afterwards.
 
 ghost use Rattle.upp_limits.specs.rational.specs.Rational.{ℚ, int};
 
@@ -28,16 +28,21 @@ fn value_if(c: &Curve, t: Frac) -> Option<Frac> {
     }
 }
 
+/// How many parts of one size make a gap. None where that size is not above 0.
+fn parts_in(gap: Frac, part: Frac) -> Option<Frac> {
+    if !is_less(Frac::zero(), part) {
+        return None;
+    }
+    Frac::div(gap, part).ok()
+}
+
 /// How often a curve has to rise as much as in a period after t for its value to be a gap higher.
 fn times_risen(c: &Curve, t: Frac, period: Frac, gap: Frac) -> Option<Frac> {
     let later = Frac::add(t, period).ok()?;
     let first = value_if(c, t)?;
     let second = value_if(c, later)?;
     let rise = Frac::sub(second, first).ok()?;
-    if !is_less(Frac::zero(), rise) {
-        return None;
-    }
-    Frac::div(gap, rise).ok()
+    parts_in(gap, rise)
 }
 
 /// After how many periods f is above the level at which g begins to repeat.
@@ -55,25 +60,48 @@ fn first_guess(f: &Curve, g: &Curve, window: &CallWindow) -> Option<u128> {
     times.whole_part().size_up().checked_add(1)
 }
 
-/// After how many periods more than until `turn` g is no lower than f is then.
-fn second_guess(f: &Curve, g: &Curve, turn: Frac, period: Frac) -> Option<u128> {
-    let level = value_if(f, turn)?;
-    let value = value_if(g, turn)?;
-    if !is_less(value, level) {
-        return Some(0);
-    }
-    let gap = Frac::sub(level, value).ok()?;
-    let times = times_risen(g, turn, period, gap)?;
-    Some(times.size_up())
+/// The time when f has settled after `first` periods, and `more` periods later.
+fn turn_at(f: &Curve, g: &Curve, first: u128, more: u128) -> Option<Frac> {
+    let window = call_window(&OpKind::Horizontal, f, g, first, more)?;
+    Frac::sub(window.end, window.period).ok()
 }
 
-/// Both numbers, where the steps to them fit: right where g repeats already when f has settled.
+/// After how many periods more than until a time a curve repeats.
+fn late_periods(c: &Curve, t: Frac, period: Frac) -> Option<u128> {
+    let steady = steady_time(c)?;
+    if !is_less(t, steady) {
+        return Some(0);
+    }
+    let wait = Frac::sub(steady, t).ok()?;
+    let parts = parts_in(wait, period)?;
+    Some(parts.size_up())
+}
+
+/// After how many periods more than until f has settled g is no lower than f is then: counted from the first of these
+/// times at which g repeats, since before it a rise tells nothing of the next.
+fn second_guess(f: &Curve, g: &Curve, first: u128, period: Frac) -> Option<u128> {
+    let turn = turn_at(f, g, first, 0)?;
+    let level = value_if(f, turn)?;
+    let early = value_if(g, turn)?;
+    if !is_less(early, level) {
+        return Some(0);
+    }
+    let late = late_periods(g, turn, period)?;
+    let from = turn_at(f, g, first, late)?;
+    let value = value_if(g, from)?;
+    if !is_less(value, level) {
+        return Some(late);
+    }
+    let gap = Frac::sub(level, value).ok()?;
+    let times = times_risen(g, from, period, gap)?;
+    late.checked_add(times.size_up())
+}
+
+/// Both numbers, where the steps to them fit: right where g reaches f only from when it repeats on, or in the period
+/// before that.
 pub(crate) fn likely_numbers(f: &Curve, g: &Curve) -> Option<Guess> {
-    let op = OpKind::Horizontal;
-    let window = call_window(&op, f, g, 0, 0)?;
+    let window = call_window(&OpKind::Horizontal, f, g, 0, 0)?;
     let first = first_guess(f, g, &window)?;
-    let settled = call_window(&op, f, g, first, 0)?;
-    let turn = Frac::sub(settled.end, settled.period).ok()?;
-    let second = second_guess(f, g, turn, settled.period)?;
+    let second = second_guess(f, g, first, window.period)?;
     Some(Guess { first, second })
 }

@@ -1,7 +1,0 @@
-use Rattle.std.proofs.Common.{refl, subst}
-use Rattle.upp_limits.specs.rational.specs.Rational.{ℚ, ◌<ℚ◌}
-use Rattle.upp_limits.specs.rational.proofs.Laws.{not_zero}
-use Rattle.curve_deviation.proofs.guesses.times_risen.Goals as goal
-
-pub div-requires : goal.div-requires
-div-requires c = not_zero c.in_ok-rise.rise (subst (λ (z : ℚ). z <ℚ c.in_ok-rise.rise) c.zero.ensures (c.if-not-is_less.ensures.less.0 refl))
