@@ -5,11 +5,14 @@
 
 Each pair of tables is at one of the limits (ports, queues, links, branches, ports of a path, bytes), or written to be slow: a port to which frames come from
 thousands of others, with many queues, where each step of what the other queues bring is a service, and each service is held to each step of the queue's own.
+Two pairs differ in the names of their ports alone: those of the one would all begin at one place in a hash table of the kit's.
 With WORD only those whose name has it. A line each: the status, seconds of processor time (at most 120), megabytes, and the first line that it prints.
 It asserts nothing.
 """
 
+import itertools
 import resource
+import string
 import sys
 import tempfile
 from pathlib import Path
@@ -89,11 +92,41 @@ def many_queues():
     return tables(ports, [f"{base36(n)},100,64,0,{n % 8},{base36(n % 4_096)} {base36(4_095)}" for n in range(16_384) if n % 4_096 != 4_095])
 
 
+def folded(a, b):
+    """Both halves of a product of two numbers of 64 bits, one over the other."""
+    product = a * b
+    return (product ^ product >> 64) & (2**64 - 1)
+
+
+def place(name):
+    """Where a hash table of 512 groups begins to look for a name of four to eight bytes, by the hasher of the kit's std, whose seed is fixed."""
+    multiplier = 0x9E3779B97F4A7C15
+    state = folded(0x243F6A8885A308D3 ^ int.from_bytes(name[:4] + name[-4:], "little"), multiplier ^ 2 * len(name))
+    state = folded(state ^ 0xFFFFFF, multiplier ^ 2)
+    return (state ^ state >> 32) & 511
+
+
+def falling_together(count):
+    """So many names that a hash table looks for at one place; they take some six seconds to find."""
+    letters = (string.digits + string.ascii_letters).encode()
+    found = (b"ab" + bytes(end) for end in itertools.product(letters, repeat=4))
+    return [name.decode() for name in itertools.islice((name for name in found if place(name) == 7), count)]
+
+
+def named(names):
+    """16,000 links over 50 ports each, of 4,096 with these names."""
+    ports = [f"{name},1000000,0,0," for name in names]
+    firsts = [50 * n % (len(names) - 50) for n in range(16_000)]
+    return tables(ports, [f"{base36(n)},1000,64,0,,{' '.join(names[first:first + 50])}" for n, first in enumerate(firsts)])
+
+
 TABLES = {
     "16,384 links over 64 ports": chain,
     "2,400 links of 32 branches over 62 ports": wide_tree,
     "131,072 branches of one port": short_branches,
     "4,096 ports of 8 queues": many_queues,
+    "16,000 links over 50 ports of any names": lambda: named([f"ab{base36(46_656 + 11 * n)}" for n in range(4_096)]),
+    "16,000 links over 50 ports of names that fall together": lambda: named(falling_together(4_096)),
     "1,000 ports into one, first in first out": lambda: star(1_000, 1, "fifo"),
     "4,095 ports into one, first in first out": lambda: star(4_095, 1, "fifo"),
     "1,000 ports into one of two priorities": lambda: star(1_000, 2, "priority 2"),

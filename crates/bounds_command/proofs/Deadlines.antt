@@ -1,5 +1,5 @@
 -- Deadlines that are read can be printed.
-use Rattle.std.proofs.Common.{◌≡◌, ◌-◌, Option, Some, None, List, get_or, map, sym, ◌∙◌, ap, subst}
+use Rattle.std.proofs.Common.{◌≡◌, Option, Some, None, List, get_or, map, sym, ◌∙◌, ap, subst}
 use Rattle.std.specs.Prelude.{slice_get, option_map, All}
 use Rattle.std.proofs.lemmas.Option.{slice_get-map, slice_get-get_or, slice_get_within, get_or_from_slice_get}
 use Rattle.table_cells.specs.declared.amount.Amount.{Amount}

@@ -23,7 +23,7 @@ use Rattle.bounds_command.specs.declared.answer.Form.{Form}
 use Rattle.bounds_command.specs.Loads.{load_of, rates_at}
 use Rattle.bounds_command.specs.Replies.{Reply, goes_round, has_fault}
 use Rattle.bounds_command.specs.Reports.{IsNetworkOf, IsReportOf, QueueText, BranchText, queue_text, queues_at, all_queues, branch_text, name_at, some_missed, status_with}
-use Rattle.bounds_command.specs.OnTables.{Tables, name_of, lined, AreLinesOf, AreRowsOfBoth, Gives, IsFaulty, HasRing, IsReported, IsCyclic, IsDone}
+use Rattle.bounds_command.specs.OnTables.{Tables, name_of, lined, AreLinesOf, AreRowsOfBoth, Gives, IsFaulty, IsReported, IsCyclic, IsDone}
 use Rattle.bounds_command.specs.Laws.{RepliesAreDetermined, RepliesAreComplete, StatusesHaveCauses, TablesAreDetermined}
 use Rattle.bounds_command.proofs.Alike.{AreAlike, map_same, ports_count, links_count, port_same, link_same, queues_same, load_same, last_same, spots_same, rates_same}
 use Rattle.bounds_command.proofs.OneTable as one_table

@@ -8,8 +8,7 @@ ghost use Rattle.bounds_command.specs.Reports.{name_at};
 ghost use Rattle.bounds_command.specs.View.{reply_of};
 
 use crate::answer::{Answer, Status};
-use document_tables::{LineFault, fault_line};
-use indexmap::IndexSet;
+use document_tables::{LineFault, Names, fault_line};
 use std::alloc::{AllocError, Global};
 
 /// The answer where a file could not be read.
@@ -50,23 +49,19 @@ pub(crate) fn breaks_rule(
 }
 
 /// The name of this number; empty past the last one.
-pub(crate) fn name_of(names: &IndexSet<String>, number: usize) -> &str
-    ensures { result.now ≡ name_at (map string_bytes names.now.keys) number }
+pub(crate) fn name_of(names: &Names, number: usize) -> &str
+    ensures { result.now ≡ name_at names.now number }
 {
-    match names.get_index(number) {
-        Some(name) => name.as_str(),
+    match names.get(number) {
+        Some(name) => name,
         None => "",
     }
 }
 
 // The names of the ports, each behind a space.
-fn push_names(
-    text: &mut String,
-    names: &IndexSet<String>,
-    ports: &[usize],
-) -> Result<(), AllocError>
+fn push_names(text: &mut String, names: &Names, ports: &[usize]) -> Result<(), AllocError>
     ensures { OnOk result (string_bytes text.new ≡ string_bytes text.old
-        ++ flat_map replies.after_space (map (name_at (map string_bytes names.now.keys)) ports.now)) }
+        ++ flat_map replies.after_space (map (name_at names.now) ports.now)) }
 {
     for port in ports {
         text.push_str(" ")?;
@@ -78,11 +73,11 @@ fn push_names(
 /// The answer where links go round over these ports.
 pub(crate) fn goes_round(
     alloc: Global,
-    names: &IndexSet<String>,
+    names: &Names,
     ports: &[usize],
 ) -> Result<Answer, AllocError>
     ensures { IfOk result (λ r. reply_of r
-        ≡ replies.goes_round (map (name_at (map string_bytes names.now.keys)) ports.now)) }
+        ≡ replies.goes_round (map (name_at names.now) ports.now)) }
 {
     let mut text = String::from_str(alloc, "netbound: cycle")?;
     push_names(&mut text, names, ports)?;

@@ -11,21 +11,21 @@ use Rattle.std.proofs.Math.Seq.{get_or-append_seam}
 use Rattle.csv_rows.specs.Rows.{Row}
 use Rattle.table_cells.specs.Names.{is_name}
 use Rattle.document_rows.specs.declared.fault.Column.TheVariants as column
-use Rattle.document_rows.specs.declared.fault.Wrong.TheVariants.{TooManyRows, TooManyLinks, PortTwice, NoSuchQueue, QuantumTooShort}
+use Rattle.document_rows.specs.declared.fault.Wrong.TheVariants.{TooManyLinks, PortTwice, NoSuchQueue, QuantumTooShort}
 use Rattle.document_rows.specs.declared.heads.LinkHead.{LinkHead}
-use Rattle.document_rows.specs.Reads.{and_then, at}
+use Rattle.document_rows.specs.Reads.{at}
 use Rattle.document_rows.specs.Heads.{link_head, row_name}
 use Rattle.document_rows.specs.LinkRows.{LinkText, link_row, frame_on_wire}
 use Rattle.document_rows.specs.PortRows.{PortText}
 use Rattle.document_tables.specs.declared.links.LinkKeys.{LinkKeys}
 use Rattle.document_tables.specs.Tables.{LineRow, at_line, after_rows, table_of}
 use Rattle.document_tables.specs.Ports.{Ports}
-use Rattle.document_tables.specs.Paths.{queues_of, queue_at, passes_quantum, at_port, step_to, port_named, next_port, path_from, path_ports}
-use Rattle.document_tables.specs.Trees.{hangs_from}
-use Rattle.document_tables.specs.Links.{Links, BranchText, keys_of, agrees_with, with_link, has_room, number_or_next, with_branch, with_row, no_links, links_of, paths_of, most_branches, most_links}
-use Rattle.document_tables.proofs.Reading.{both_read, not_refused, same_read, cell_read, some_if, inner}
+use Rattle.document_tables.specs.Paths.{queues_of, queue_at, passes_quantum, at_port, step_to, port_named, next_port, path_from}
+use Rattle.document_tables.specs.Links.{Links, BranchText, keys_of, agrees_with, with_link, has_room, number_or_next, with_branch, with_row, no_links, links_of, most_links}
+use Rattle.document_tables.proofs.Reading.{both_read, not_refused, same_read, some_if, inner}
 use Rattle.document_tables.proofs.TableRanges.{in_line}
-use Rattle.document_tables.proofs.LinkSteps.{each_push, linked, roomed, named, hung}
+use Rattle.document_tables.proofs.RowTaken.{branched, taken}
+use Rattle.document_tables.proofs.LinkSteps.{each_push}
 
 -- ---- names
 more_at : {X : Type 0} (xs ys : List X) (k : ℕ) (x : X) → slice_get xs k ≡ Some x → slice_get (xs ++ ys) k ≡ Some x
@@ -135,15 +135,10 @@ module _ (ports : Ports) (overhead : ℕ) (head : LinkHead) where
 
   has_branch : (before links after : Links) (row : Row) (name : List ℕ) (link : ℕ) (text : LinkText) → row_name head.width head.name row ≡ Ok name → link_row head row ≡ Ok text → HasLink before links name link
       → with_branch ports overhead link links text ≡ Ok after → HasRow before after row
-  unfolding with_branch
   has_branch before links after row name link text is_named says l h =
-      let p = both_read (at column.Path (path_ports ports text.priority (frame_on_wire text.largest_frame overhead) text.path)) (hung ports overhead link links text) after h in
-      let path = p.0 in
-      let new : BranchText = record { link = link; path = path; deadline = text.deadline } in
-      let made : Links = record links { branches = links.branches ++ new ∷ [] } in
-      let last = both_read (at column.Path (hangs_from (paths_of link links.branches) 0 None path)) (λ last. Ok made) after p.2 in
-      let read = cell_read column.Path (path_ports ports text.priority (frame_on_wire text.largest_frame overhead) text.path) path p.1 in
-      subst (λ (a : Links). HasRow before a row) (same_read made after last.2) (record {
+      let b = branched ports overhead link links text after h in
+      let new : BranchText = record { link = link; path = b.path; deadline = text.deadline } in
+      subst (λ (a : Links). HasRow before a row) b.made (record {
         names = l.names;
         old = l.old;
         branch = new;
@@ -155,22 +150,15 @@ module _ (ports : Ports) (overhead : ℕ) (head : LinkHead) where
           text = text;
           says = says;
           deadline = refl;
-          over = ports_named ports text.priority (frame_on_wire text.largest_frame overhead) [] text.path path read;
+          over = ports_named ports text.priority (frame_on_wire text.largest_frame overhead) [] text.path b.path b.over;
         };
       })
 
   has_row : (before after : Links) (row : Row) → length before.names ≡ length before.keys → with_row ports overhead head before row ≡ Ok after → HasRow before after row
-  unfolding with_row
   has_row before after row n h =
-      let few = not_refused (nat_le most_branches (length before.branches)) (record { column = column.Name; wrong = TooManyRows })
-      (and_then (row_name head.width head.name row) (named ports overhead head before row)) after h
-      in
-      let name = both_read (row_name head.width head.name row) (named ports overhead head before row) after few.1 in
-      let number = both_read (has_room before (position (bytes_eq name.0) before.names)) (roomed ports overhead head before row name.0) after name.2 in
-      let text = both_read (link_row head row) (linked ports overhead head before row name.0 number.0) after number.2 in
-      let links = both_read (with_link before name.0 number.0 (keys_of text.0)) (λ links. with_branch ports overhead (number_or_next before number.0) links text.0) after text.2 in
-      let l = has_link before links.0 name.0 number.0 (keys_of text.0) n (position (bytes_eq name.0) before.names) refl number.1 links.1 in
-      has_branch before links.0 after row name.0 (number_or_next before number.0) text.0 name.1 text.1 l links.2
+      let t = taken ports overhead head before row after h in
+      let l = has_link before t.links t.name t.number (keys_of t.text) n (position (bytes_eq t.name) before.names) refl t.is_numbered t.is_linked in
+      has_branch before t.links after row t.name (number_or_next before t.number) t.text t.is_named t.is_read l t.is_branched
 
   -- ---- rows and tables
   one_more : (before after : Links) (done : List LineRow) (row : LineRow) → AreRead ports head done before → HasRow before after row.cells → AreRead ports head (done ++ row ∷ []) after

@@ -8,22 +8,21 @@ use Rattle.std.proofs.lemmas.Option.{slice_get-get_or}
 use Rattle.std.proofs.Math.Seq.{get_or-append_seam}
 use Rattle.csv_rows.specs.Rows.{Row}
 use Rattle.document_rows.specs.declared.fault.Column.TheVariants as column
-use Rattle.document_rows.specs.declared.fault.Wrong.TheVariants.{TooManyRows, TooManyLinks}
+use Rattle.document_rows.specs.declared.fault.Wrong.TheVariants.{TooManyLinks}
 use Rattle.document_rows.specs.declared.heads.LinkHead.{LinkHead}
-use Rattle.document_rows.specs.Reads.{and_then, at}
-use Rattle.document_rows.specs.Heads.{link_head, row_name}
-use Rattle.document_rows.specs.LinkRows.{LinkText, link_row, frame_on_wire}
+use Rattle.document_rows.specs.Reads.{at}
+use Rattle.document_rows.specs.Heads.{link_head}
+use Rattle.document_rows.specs.LinkRows.{LinkText, frame_on_wire}
 use Rattle.document_tables.specs.declared.links.LinkKeys.{LinkKeys}
 use Rattle.document_tables.specs.Tables.{LineRow}
 use Rattle.document_tables.specs.Ranges.{IsLinkText}
 use Rattle.document_tables.specs.Ports.{Ports}
-use Rattle.document_tables.specs.Paths.{path_ports}
-use Rattle.document_tables.specs.Trees.{hangs_from}
-use Rattle.document_tables.specs.Links.{Links, BranchText, keys_of, agrees_with, with_link, has_room, number_or_next, with_branch, with_row, no_links, links_of, paths_of, most_branches, most_links}
-use Rattle.document_tables.proofs.Reading.{both_read, not_refused, same_read, cell_read, inner}
+use Rattle.document_tables.specs.Links.{Links, BranchText, keys_of, agrees_with, with_link, has_room, number_or_next, with_branch, with_row, no_links, links_of, paths_of, most_links}
+use Rattle.document_tables.proofs.Reading.{both_read, not_refused, same_read, inner}
 use Rattle.document_tables.proofs.RowRanges.{link_says}
 use Rattle.document_tables.proofs.TableRanges.{kept_by_table}
-use Rattle.document_tables.proofs.LinkSteps.{each_push, paths_more, paths_same, linked, roomed, named, hung}
+use Rattle.document_tables.proofs.RowTaken.{branched, taken}
+use Rattle.document_tables.proofs.LinkSteps.{each_push, paths_more, paths_same}
 use Rattle.document_tables.proofs.BranchFacts.{Takes, path_taken, ArePaths, no_paths, path_added, Fits, AreLinksBut, IsLinkOfRow, agreed}
 
 whether : (a b : ℕ) → (a ≡ b) ⊎ (a ≡ b → ⊥)
@@ -91,18 +90,11 @@ module _ (ports : Ports) (overhead : ℕ) where
   -- ---- its branch
   branch_added : (links after : Links) (link : ℕ) (row : LinkText) → IsLinkText row → AreLinksBut ports overhead links (Some link) → IsLinkOfRow ports overhead links link (keys_of row) → link < length links.keys
       → with_branch ports overhead link links row ≡ Ok after → AreLinksBut ports overhead after None
-  unfolding with_branch
   branch_added links after link row says a of below h =
-      let p = both_read (at column.Path (path_ports ports row.priority (frame_on_wire row.largest_frame overhead) row.path)) (hung ports overhead link links row) after h in
-      let path = p.0 in
-      let l = both_read (at column.Path (hangs_from (paths_of link links.branches) 0 None path))
-      (λ last. Ok (record links { branches = links.branches ++ record { link = link; path = path; deadline = row.deadline } ∷ [] })) after p.2
-      in
-      let hangs = cell_read column.Path (hangs_from (paths_of link links.branches) 0 None path) l.0 l.1 in
-      let taken = path_taken ports row.priority (frame_on_wire row.largest_frame overhead) row.path path
-      (cell_read column.Path (path_ports ports row.priority (frame_on_wire row.largest_frame overhead) row.path) path p.1)
-      in
-      let some : 1 ≤ length path = omega (arith, taken.1, says.some_port) in
+      let b = branched ports overhead link links row after h in
+      let path = b.path in
+      let takes = path_taken ports row.priority (frame_on_wire row.largest_frame overhead) row.path path b.over in
+      let some : 1 ≤ length path = omega (arith, takes.1, says.some_port) in
       let new : BranchText = record { link = link; path = path; deadline = row.deadline } in
       let more = paths_more link links.branches new refl in
       let longer = length-append (paths_of link links.branches) (path ∷ []) in
@@ -110,10 +102,9 @@ module _ (ports : Ports) (overhead : ℕ) where
       let keys = of.0 in
       let fits : All (Fits ports overhead keys) path =
       subst (λ (priority : ℕ). All (Takes ports priority (frame_on_wire keys.largest_frame overhead)) path) (sym of.2)
-      (subst (λ (frame : ℕ). All (Takes ports row.priority (frame_on_wire frame overhead)) path) (sym of.3) taken.0)
+      (subst (λ (frame : ℕ). All (Takes ports row.priority (frame_on_wire frame overhead)) path) (sym of.3) takes.0)
       in
-      let made : Links = record links { branches = links.branches ++ new ∷ [] } in
-      subst (λ (l : Links). AreLinksBut ports overhead l None) (same_read made after l.2) (record {
+      subst (λ (l : Links). AreLinksBut ports overhead l None) b.made (record {
         names = a.names;
         few = a.few;
         each = λ k key there.
@@ -122,7 +113,7 @@ module _ (ports : Ports) (overhead : ℕ) where
             let same : keys ≡ key = inner keys key (sym of.1 ∙ (ap (slice_get links.keys) (sym e) ∙ there)) in
             subst (λ (j : ℕ). ArePaths (Fits ports overhead key) (paths_of j (links.branches ++ new ∷ []))) (sym e)
             (subst (λ (x : LinkKeys). ArePaths (Fits ports overhead x) (paths_of link (links.branches ++ new ∷ []))) same
-            (subst (ArePaths (Fits ports overhead keys)) (sym more) (path_added (Fits ports overhead keys) (paths_of link links.branches) path l.0 (a.each link keys of.1) some fits hangs))))
+            (subst (ArePaths (Fits ports overhead keys)) (sym more) (path_added (Fits ports overhead keys) (paths_of link links.branches) path b.last (a.each link keys of.1) some fits b.hangs))))
             (λ (o : k ≡ link → ⊥). subst (ArePaths (Fits ports overhead key)) (sym (paths_same k links.branches new (λ e. o (sym e)))) (a.each k key there))
             (whether k link);
         some = λ k less other.
@@ -137,17 +128,10 @@ module _ (ports : Ports) (overhead : ℕ) where
 
   -- ---- rows and tables
   row_added : (head : LinkHead) (before : Links) (row : Row) (after : Links) → AreLinksBut ports overhead before None → with_row ports overhead head before row ≡ Ok after → AreLinksBut ports overhead after None
-  unfolding with_row
   row_added head before row after a h =
-      let few = not_refused (nat_le most_branches (length before.branches)) (record { column = column.Name; wrong = TooManyRows })
-      (and_then (row_name head.width head.name row) (named ports overhead head before row)) after h
-      in
-      let name = both_read (row_name head.width head.name row) (named ports overhead head before row) after few.1 in
-      let number = both_read (has_room before (position (bytes_eq name.0) before.names)) (roomed ports overhead head before row name.0) after name.2 in
-      let text = both_read (link_row head row) (linked ports overhead head before row name.0 number.0) after number.2 in
-      let links = both_read (with_link before name.0 number.0 (keys_of text.0)) (λ links. with_branch ports overhead (number_or_next before number.0) links text.0) after text.2 in
-      let l = linked_row before links.0 name.0 number.0 (keys_of text.0) a number.1 links.1 in
-      branch_added links.0 after (number_or_next before number.0) text.0 (link_says head row text.0 text.1) l.0 l.1 l.2 links.2
+      let t = taken ports overhead head before row after h in
+      let l = linked_row before t.links t.name t.number (keys_of t.text) a t.is_numbered t.is_linked in
+      branch_added t.links after (number_or_next before t.number) t.text (link_says head row t.text t.is_read) l.0 l.1 l.2 t.is_branched
 
   none_read : AreLinksBut ports overhead no_links None
   none_read = record { names = refl; few = omega arith; each = λ k keys h. cc; some = λ k h other. absurd (omega arith); others = λ k h. refl }

@@ -4,7 +4,7 @@ use Rattle.std.specs.Prelude.{slice_get, nat_le}
 use Rattle.std.specs.List.{list_any, position_from}
 use Rattle.std.specs.Str.{bytes_eq}
 use Rattle.std.proofs.lemmas.Iterator.Adapters.{position_from-zero}
-use Rattle.std.proofs.lemmas.List.{get_or_append_left, get_or-set_same, get_or-set_other, map-append, append-nil}
+use Rattle.std.proofs.lemmas.List.{get_or_append_left, get_or-set_same, get_or-set_other, map-append, append-nil, length-map}
 use Rattle.std.proofs.lemmas.List.Elements.{filter-append}
 use Rattle.std.proofs.lemmas.Option.{slice_get-get_or, slice_get_within}
 use Rattle.std.proofs.lemmas.Bool.{eq-eqb, ne_eqb}
@@ -20,10 +20,11 @@ use Rattle.document_rows.specs.declared.heads.LinkHead.{LinkHead}
 use Rattle.document_rows.specs.Reads.{CellRead, RowRead, and_then, at, Tells}
 use Rattle.document_rows.specs.Heads.{row_name}
 use Rattle.document_rows.specs.LinkRows.{LinkText, link_row, frame_on_wire}
+use Rattle.document_tables.specs.declared.links.Branch.{Branch}
 use Rattle.document_tables.specs.declared.trees.Tree.{Tree}
 use Rattle.document_tables.specs.Growing.{Grows}
 use Rattle.document_tables.specs.LinkTrees.{MakesLink}
-use Rattle.document_tables.specs.Links.{Links, BranchText, keys_of, with_link, has_room, number_or_next, with_branch, with_row, paths_of, most_branches}
+use Rattle.document_tables.specs.Links.{Links, BranchText, branch_view, keys_of, with_link, has_room, number_or_next, with_branch, with_row, paths_of, most_branches}
 use Rattle.document_tables.specs.Paths.{path_ports}
 use Rattle.document_tables.specs.Ports.{Ports}
 use Rattle.document_tables.specs.Tables.{Makes}
@@ -200,3 +201,7 @@ is_full most n h = grind (arith, nat_tests)
 
 pub is_not_full : (most n : ℕ) → n < most → nat_le most n ≡ false
 is_not_full most n h = grind (arith, nat_tests)
+
+-- the rows before one are fewer than a table may have
+pub few_rows : (branches : List Branch) → length branches < most_branches → nat_le most_branches (length (map branch_view branches)) ≡ false
+few_rows branches h = let n = length-map branches branch_view in is_not_full most_branches (length (map branch_view branches)) (omega (arith, n, h))

@@ -1,21 +1,110 @@
--- Names in a set.
-use Rattle.std.specs.Prelude.{String}
+-- Names, found by their numbers.
+use Rattle.std.specs.BTreeMap as tree
+use Rattle.std.specs.BTreeMap.{BTreeMap}
+use Rattle.std.specs.Cmp.Lexicographic.{slice_cmp}
 use Rattle.std.specs.List.{list_any, position, position_from}
+use Rattle.std.specs.Ordering.{nat_cmp}
+use Rattle.std.specs.Prelude.{String, is_some}
 use Rattle.std.specs.Str.{bytes_eq}
-use Rattle.std.specs.String.{string_bytes, string_eq}
+use Rattle.std.specs.String.{string_bytes, string_cmp}
 use Rattle.std.specs.declared.alloc.Global.{Global}
-use Rattle.std.proofs.Common.{◌≡◌, ℕ, ◌+◌, ◌||◌, Bool, List, [], ◌∷◌, map, refl, sym, ap, ◌∙◌, cond, Some}
+use Rattle.std.proofs.Common.{◌≡◌, ℕ, suc, ◌+◌, ◌<◌, ◌||◌, Bool, true, false, cond, List, [], ◌∷◌, ◌++◌, map, length, Option, Some, None, IfSome, refl, sym, ap, ap₂, subst, ◌∙◌, arith}
+use Rattle.std.proofs.lemmas.Bool.{false_from_ne_true}
 use Rattle.std.proofs.lemmas.Iterator.Adapters.{position_from-zero}
+use Rattle.std.proofs.lemmas.List.{map-append}
+use Rattle.std.proofs.lemmas.List.Quantifiers.{position-Some}
+use Rattle.std.proofs.lemmas.Map.Text.{btree_map_updates_text}
+use Rattle.std.proofs.lemmas.Slice.Eq.{bytes_eq-Decides}
+use Rattle.document_tables.specs.Names.{AreNumbersOf}
+use Rattle.document_tables.proofs.LinkSteps.{nowhere_any}
 
--- a set has a name where its texts do
-pub texts_any : (name : String Global) (names : List (String Global)) → list_any (string_eq name) names ≡ list_any (bytes_eq (string_bytes name)) (map string_bytes names)
-texts_any name [] = refl
-texts_any name (x ∷ xs) = ap (λ b. string_eq name x || b) (texts_any name xs)
+-- ---- one of them
+module _ {X : Type 0} (p : X → Bool) where
+  pub number_within : (xs : List X) (d : X) (o : Option ℕ) → o ≡ position p xs → IfSome o (λ n. n < length xs)
+  number_within xs d None h = tt
+  number_within xs d (Some n) h = (position-Some p xs n d (sym h)).0
 
-position_from-map : {X : Type 0} (f : X → List ℕ) (p : List ℕ → Bool) (n : ℕ) (xs : List X) → position_from p n (map f xs) ≡ position_from (λ x. p (f x)) n xs
-position_from-map f p n [] = refl
-position_from-map f p n (x ∷ xs) = ap (λ r. cond (p (f x)) (Some n) r) (position_from-map f p (n + 1) xs)
+  from_some : (n : ℕ) (xs : List X) (k : ℕ) → position_from p n xs ≡ Some k → list_any p xs ≡ true
+  from_some n [] k h = cc
+  from_some n (x ∷ xs) k h = at_first (p x) h (from_some (n + 1) xs k)
+    where
+      at_first : (b : Bool) → cond b (Some n) (position_from p (n + 1) xs) ≡ Some k → (position_from p (n + 1) xs ≡ Some k → list_any p xs ≡ true) → b || list_any p xs ≡ true
+      at_first true e rest = refl
+      at_first false e rest = rest e
 
--- and its names stand where its texts do
-pub position-map : {X : Type 0} (f : X → List ℕ) (p : List ℕ → Bool) (xs : List X) → position p (map f xs) ≡ position (λ x. p (f x)) xs
-position-map f p xs = position_from-zero p (map f xs) ∙ (position_from-map f p 0 xs ∙ sym (position_from-zero (λ x. p (f x)) xs))
+  -- one has a number where it is one of them
+  pub any_by_number : (xs : List X) (o : Option ℕ) (b : Bool) → o ≡ position p xs → b ≡ is_some o → b ≡ list_any p xs
+  any_by_number xs None b h is = is ∙ sym (nowhere_any p xs (sym h))
+  any_by_number xs (Some k) b h is = is ∙ sym (from_some 0 xs k (sym (position_from-zero p xs) ∙ sym h))
+
+  pub no_number : (xs : List X) (o : Option ℕ) (b : Bool) → o ≡ position p xs → b ≡ is_some o → b ≡ false → position p xs ≡ None
+  no_number xs None b h is not = sym h
+  no_number xs (Some k) b h is not = absurd (true_is_not (sym is ∙ not))
+    where
+      true_is_not : true ≡ false → ⊥
+      true_is_not e = cc
+
+  -- ---- one more behind them
+  hit : (n : ℕ) (xs : List X) (x : X) → position_from p n xs ≡ None → p x ≡ true → position_from p n (xs ++ x ∷ []) ≡ Some (n + length xs)
+  hit n [] x none is =
+      let e : n ≡ n + 0 = omega arith in
+      ap (λ (b : Bool). cond b (Some n) None) is ∙ ap Some e
+  hit n (first ∷ xs) x none is = behind (p first) none (λ rest. hit (n + 1) xs x rest is)
+    where
+      behind : (b : Bool) → cond b (Some n) (position_from p (n + 1) xs) ≡ None
+          → (position_from p (n + 1) xs ≡ None → position_from p (n + 1) (xs ++ x ∷ []) ≡ Some (n + 1 + length xs))
+          → cond b (Some n) (position_from p (n + 1) (xs ++ x ∷ [])) ≡ Some (n + suc (length xs))
+      behind true e rest = cc
+      behind false e rest =
+          let same : n + 1 + length xs ≡ n + suc (length xs) = omega arith in
+          rest e ∙ ap Some same
+
+  miss : (n : ℕ) (xs : List X) (x : X) → p x ≡ false → position_from p n (xs ++ x ∷ []) ≡ position_from p n xs
+  miss n [] x not = ap (λ (b : Bool). cond b (Some n) None) not
+  miss n (first ∷ xs) x not = ap (λ (o : Option ℕ). cond (p first) (Some n) o) (miss (n + 1) xs x not)
+
+-- a new one has the next number, and the others keep theirs
+module _ {X : Type 0} (eq : X → X → Bool) (same : (a b : X) → eq a b ≡ true → a ≡ b) (alike : (a b : X) → a ≡ b → eq a b ≡ true) where
+  apart : (a b : X) → eq a b ≡ false → eq b a ≡ false
+  apart a b not = false_from_ne_true (eq b a) (λ is. differ (sym (alike a b (sym (same b a is))) ∙ not))
+    where
+      differ : true ≡ false → ⊥
+      differ e = cc
+
+  pub added : (xs : List X) (x y : X) → position (eq x) xs ≡ None
+      → cond (eq x y) (Some (length xs)) (position (eq y) xs) ≡ position (eq y) (xs ++ x ∷ [])
+  added xs x y none = by_test (eq x y) refl
+    where
+      by_test : (b : Bool) → eq x y ≡ b → cond b (Some (length xs)) (position (eq y) xs) ≡ position (eq y) (xs ++ x ∷ [])
+      by_test true is =
+          let e : x ≡ y = same x y is in
+          let nowhere : position_from (eq y) 0 xs ≡ None =
+          sym (position_from-zero (eq y) xs) ∙ subst (λ (z : X). position (eq z) xs ≡ None) e none
+          in
+          let next : 0 + length xs ≡ length xs = omega arith in
+          sym (position_from-zero (eq y) (xs ++ x ∷ [])
+          ∙ (hit (eq y) 0 xs x nowhere (alike y x (sym e)) ∙ ap Some next))
+      by_test false is =
+          position_from-zero (eq y) xs
+          ∙ (sym (miss (eq y) 0 xs x (apart x y is)) ∙ sym (position_from-zero (eq y) (xs ++ x ∷ [])))
+
+-- ---- texts
+pub numbered : (numbers more : BTreeMap (String Global) ℕ) (key : String Global) (number : ℕ) (names : List (List ℕ)) (name : List ℕ)
+    → AreNumbersOf numbers names → position (bytes_eq name) names ≡ None → string_bytes key ≡ name → number ≡ length names
+    → tree.UpdatesBy string_cmp (λ k. slice_cmp nat_cmp (string_bytes key) (string_bytes k)) numbers more (Some number)
+    → AreNumbersOf more (names ++ name ∷ [])
+numbered numbers more key number names name are none bytes next updates = λ text.
+    btree_map_updates_text (string_bytes key) numbers more (Some number) updates text
+    ∙ (ap (λ (o : Option ℕ). cond (bytes_eq (string_bytes key) text) (Some number) o) (are text)
+    ∙ (ap₂ (λ (bs : List ℕ) (n : ℕ). cond (bytes_eq bs text) (Some n) (position (bytes_eq text) names)) bytes next
+    ∙ added bytes_eq (λ a b. (bytes_eq-Decides a b).0) (λ a b. (bytes_eq-Decides a b).1) names name text none))
+
+-- their texts with one more
+pub pushed : (texts room more : List (String Global)) (text : String Global) (names : List (List ℕ)) (name : List ℕ)
+    → map string_bytes texts ≡ names → room ≡ texts → more ≡ room ++ text ∷ [] → string_bytes text ≡ name
+    → map string_bytes more ≡ names ++ name ∷ []
+pushed texts room more text names name are same is bytes =
+    ap (map string_bytes) is
+    ∙ (ap (λ (ts : List (String Global)). map string_bytes (ts ++ text ∷ [])) same
+    ∙ (map-append string_bytes texts (text ∷ [])
+    ∙ ap₂ (λ (ns : List (List ℕ)) (bs : List ℕ). ns ++ bs ∷ []) are bytes))

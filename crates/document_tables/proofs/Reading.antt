@@ -11,6 +11,11 @@ module _ {X Y E : Type 0} where
   both_read (Ok x) f y h = (x, refl, h)
   both_read (Err e) f y h = cc
 
+  -- the same, for what follows from it
+  pub read_then : {G : Type 0} (r : Result X E) (f : X → Result Y E) (y : Y) → and_then r f ≡ Ok y → ((x : X) → r ≡ Ok x → f x ≡ Ok y → G) → G
+  read_then (Ok x) f y h go = go x refl h
+  read_then (Err e) f y h go = absurd (cc)
+
 module _ {X Y : Type 0} where
   pub both_some : (f : X → Option Y) (o : Option X) (y : Y) → option_and_then f o ≡ Some y → (x : X) × (o ≡ Some x) × (f x ≡ Some y)
   both_some f None y h = cc

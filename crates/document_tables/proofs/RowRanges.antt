@@ -12,7 +12,7 @@ use Rattle.document_rows.specs.Disciplines.{DisciplineText, discipline_of, gate_
 use Rattle.document_rows.specs.PortRows.{PortText, port_row, cell_or_empty}
 use Rattle.document_rows.specs.LinkRows.{LinkText, link_row, priority_in, path_of, deadline_in}
 use Rattle.document_tables.specs.Ranges.{IsPortText, IsLinkText}
-use Rattle.document_tables.proofs.Reading.{both_read, cell_read, same_read}
+use Rattle.document_tables.proofs.Reading.{read_then, cell_read, same_read}
 use Rattle.document_tables.proofs.CellRanges as cells
 
 module _ (head : PortHead) (row : Row) where
@@ -32,23 +32,26 @@ module _ (head : PortHead) (row : Row) where
   pub port_says : (port : PortText) → port_row head row ≡ Ok port → IsPortText port
   unfolding port_row
   port_says port h =
-      let r = both_read (at column.Rate (rate_in (cell row head.rate))) port_latency port h in
-      let l = both_read (at column.Latency (time_or_zero (cell row head.latency))) (port_link r.0) port r.2 in
-      let k = both_read (at column.Link (link_time (cell row head.link))) (port_discipline r.0 l.0) port l.2 in
-      let d = both_read (at column.Discipline (discipline_of (words_of (cell row head.discipline)))) (port_gate r.0 l.0 k.0) port k.2 in
-      let g = both_read (at column.Gate (gate_of (words_of (cell_or_empty row head.gate))))
-      (λ gate. Ok (record { rate = r.0; latency = l.0; link = k.0; discipline = d.0; gate = gate })) port d.2
-      in
-      let on_link = cells.on_link (cell row head.link) k.0 (cell_read column.Link (link_time (cell row head.link)) k.0 k.1) in
-      let made : PortText = record { rate = r.0; latency = l.0; link = k.0; discipline = d.0; gate = g.0 } in
-      subst IsPortText (same_read made port g.2) (record {
-        rate = cells.rate (cell row head.rate) r.0 (cell_read column.Rate (rate_in (cell row head.rate)) r.0 r.1);
-        latency = cells.time_or_none (cell row head.latency) l.0 (cell_read column.Latency (time_or_zero (cell row head.latency)) l.0 l.1);
+      read_then (at column.Rate (rate_in (cell row head.rate))) port_latency port h
+      (λ rate at_rate h.
+      read_then (at column.Latency (time_or_zero (cell row head.latency))) (port_link rate) port h
+      (λ latency at_latency h.
+      read_then (at column.Link (link_time (cell row head.link))) (port_discipline rate latency) port h
+      (λ link at_link h.
+      read_then (at column.Discipline (discipline_of (words_of (cell row head.discipline)))) (port_gate rate latency link) port h
+      (λ discipline at_discipline h.
+      read_then (at column.Gate (gate_of (words_of (cell_or_empty row head.gate)))) (λ gate. Ok (record { rate = rate; latency = latency; link = link; discipline = discipline; gate = gate })) port h
+      (λ gate at_gate h.
+      let on_link = cells.on_link (cell row head.link) link (cell_read column.Link (link_time (cell row head.link)) link at_link) in
+      let made : PortText = record { rate = rate; latency = latency; link = link; discipline = discipline; gate = gate } in
+      subst IsPortText (same_read made port h) (record {
+        rate = cells.rate (cell row head.rate) rate (cell_read column.Rate (rate_in (cell row head.rate)) rate at_rate);
+        latency = cells.time_or_none (cell row head.latency) latency (cell_read column.Latency (time_or_zero (cell row head.latency)) latency at_latency);
         link = on_link.0;
         whole_link = on_link.1;
-        discipline = cells.discipline (words_of (cell row head.discipline)) d.0 (cell_read column.Discipline (discipline_of (words_of (cell row head.discipline))) d.0 d.1);
-        gate = cells.gate (words_of (cell_or_empty row head.gate)) g.0 (cell_read column.Gate (gate_of (words_of (cell_or_empty row head.gate))) g.0 g.1);
-      })
+        discipline = cells.discipline (words_of (cell row head.discipline)) discipline (cell_read column.Discipline (discipline_of (words_of (cell row head.discipline))) discipline at_discipline);
+        gate = cells.gate (words_of (cell_or_empty row head.gate)) gate (cell_read column.Gate (gate_of (words_of (cell_or_empty row head.gate))) gate at_gate);
+      }))))))
 
 module _ (head : LinkHead) (row : Row) where
   abbrev link_deadline : Amount → ℕ → Amount → ℕ → List (List ℕ) → RowRead LinkText
@@ -71,24 +74,29 @@ module _ (head : LinkHead) (row : Row) where
   pub link_says : (link : LinkText) → link_row head row ≡ Ok link → IsLinkText link
   unfolding link_row
   link_says link h =
-      let g = both_read (at column.Bag (gap_in (cell row head.bag))) link_frame link h in
-      let f = both_read (at column.LargestFrame (whole_between 1 1048576 (cell row head.largest_frame))) (link_jitter g.0) link g.2 in
-      let j = both_read (at column.Jitter (time_or_zero (cell row head.jitter))) (link_priority g.0 f.0) link f.2 in
-      let p = both_read (at column.Priority (priority_in (cell row head.priority))) (link_path g.0 f.0 j.0) link j.2 in
-      let w = both_read (at column.Path (path_of (words_of (cell row head.path)))) (link_deadline g.0 f.0 j.0 p.0) link p.2 in
-      let d = both_read (at column.Deadline (deadline_in (cell_or_empty row head.deadline)))
-      (λ deadline. Ok (record { gap = g.0; largest_frame = f.0; jitter = j.0; priority = p.0; path = w.0; deadline = deadline })) link w.2
-      in
-      let made : LinkText = record { gap = g.0; largest_frame = f.0; jitter = j.0; priority = p.0; path = w.0; deadline = d.0 } in
-      let frame = cells.between 1 1048576 (cell row head.largest_frame) f.0 (cell_read column.LargestFrame (whole_between 1 1048576 (cell row head.largest_frame)) f.0 f.1) in
-      let path = cells.some_path (words_of (cell row head.path)) w.0 (cell_read column.Path (path_of (words_of (cell row head.path))) w.0 w.1) in
-      subst IsLinkText (same_read made link d.2) (record {
-        gap = cells.gap (cell row head.bag) g.0 (cell_read column.Bag (gap_in (cell row head.bag)) g.0 g.1);
-        some_frame = frame.0;
-        frame = frame.1;
-        jitter = cells.time_or_none (cell row head.jitter) j.0 (cell_read column.Jitter (time_or_zero (cell row head.jitter)) j.0 j.1);
-        priority = cells.priority (cell row head.priority) p.0 (cell_read column.Priority (priority_in (cell row head.priority)) p.0 p.1);
-        some_port = path.0;
-        path = path.1;
-        deadline = cells.deadline (cell_or_empty row head.deadline) d.0 (cell_read column.Deadline (deadline_in (cell_or_empty row head.deadline)) d.0 d.1);
-      })
+      read_then (at column.Bag (gap_in (cell row head.bag))) link_frame link h
+      (λ gap at_gap h.
+      read_then (at column.LargestFrame (whole_between 1 1048576 (cell row head.largest_frame))) (link_jitter gap) link h
+      (λ frame at_frame h.
+      read_then (at column.Jitter (time_or_zero (cell row head.jitter))) (link_priority gap frame) link h
+      (λ jitter at_jitter h.
+      read_then (at column.Priority (priority_in (cell row head.priority))) (link_path gap frame jitter) link h
+      (λ priority at_priority h.
+      read_then (at column.Path (path_of (words_of (cell row head.path)))) (link_deadline gap frame jitter priority) link h
+      (λ path at_path h.
+      read_then (at column.Deadline (deadline_in (cell_or_empty row head.deadline)))
+      (λ deadline. Ok (record { gap = gap; largest_frame = frame; jitter = jitter; priority = priority; path = path; deadline = deadline })) link h
+      (λ deadline at_deadline h.
+      let made : LinkText = record { gap = gap; largest_frame = frame; jitter = jitter; priority = priority; path = path; deadline = deadline } in
+      let between = cells.between 1 1048576 (cell row head.largest_frame) frame (cell_read column.LargestFrame (whole_between 1 1048576 (cell row head.largest_frame)) frame at_frame) in
+      let some_path = cells.some_path (words_of (cell row head.path)) path (cell_read column.Path (path_of (words_of (cell row head.path))) path at_path) in
+      subst IsLinkText (same_read made link h) (record {
+        gap = cells.gap (cell row head.bag) gap (cell_read column.Bag (gap_in (cell row head.bag)) gap at_gap);
+        some_frame = between.0;
+        frame = between.1;
+        jitter = cells.time_or_none (cell row head.jitter) jitter (cell_read column.Jitter (time_or_zero (cell row head.jitter)) jitter at_jitter);
+        priority = cells.priority (cell row head.priority) priority (cell_read column.Priority (priority_in (cell row head.priority)) priority at_priority);
+        some_port = some_path.0;
+        path = some_path.1;
+        deadline = cells.deadline (cell_or_empty row head.deadline) deadline (cell_read column.Deadline (deadline_in (cell_or_empty row head.deadline)) deadline at_deadline);
+      })))))))

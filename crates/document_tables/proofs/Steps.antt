@@ -1,12 +1,15 @@
 -- Rows of a table, one after another.
-use Rattle.std.proofs.Common.{◌≡◌, ℕ, ◌+◌, ◌<◌, ◌≤◌, List, ◌∷◌, length, drop, get_or, Ok, Err, ap, ◌∙◌}
-use Rattle.std.proofs.lemmas.List.{drop_more, drop_all}
+use Rattle.std.proofs.Common.{◌≡◌, ℕ, ◌+◌, ◌<◌, ◌≤◌, List, ◌∷◌, map, length, drop, get_or, Result, Ok, Err, sym, ap, subst, ◌∙◌, arith}
+use Rattle.std.specs.Result.{IsErrAnd}
+use Rattle.std.proofs.lemmas.List.{drop_more, drop_all, get_or-map, length-map}
+use Rattle.std.proofs.lemmas.Result.{err_from_is_err_and}
+use Rattle.csv_rows.specs.declared.rows.TableRow.{TableRow}
 use Rattle.csv_rows.specs.Rows.{Row}
 use Rattle.document_rows.specs.declared.fault.CellFault.{CellFault}
 use Rattle.document_rows.specs.Reads.{RowRead, and_then}
 use Rattle.document_rows.specs.declared.fault.RowError.{RowError}
 use Rattle.document_rows.specs.declared.fault.RowError.TheVariants.{Cell, NoMemory}
-use Rattle.document_tables.specs.Tables.{LineRow, TableRead, at_line, after_rows, Makes, TellsTable, line_error}
+use Rattle.document_tables.specs.Tables.{LineRow, TableRead, at_line, after_rows, row_view, Makes, TellsTable, line_error}
 
 module _ {S : Type 0} (step : S → Row → RowRead S) where
   step_of : (made : S) (rows : List LineRow) (k : ℕ) (row : LineRow) → k < length rows → get_or rows k row ≡ row
@@ -33,3 +36,30 @@ module _ {S : Type 0} (step : S → Row → RowRead S) where
       → ((fault : CellFault) → read ≡ Err fault → whole ≡ Err (record { line = line; column = fault.column; wrong = fault.wrong })) → TellsTable view (Err (line_error line error)) whole
   told view (Cell fault) line read made whole h f = f fault h
   told view NoMemory line read made whole h f = tt
+
+  -- ---- rows that are kept with their lines
+  seen_at : (items : List TableRow) (k : ℕ) (row : TableRow) → k < length items → row ≡ get_or items k row
+      → (k < length (map row_view items)) × (get_or (map row_view items) k (row_view row) ≡ row_view row)
+  seen_at items k row below is =
+      let n = length-map items row_view in
+      (omega (arith, n, below), get_or-map row_view items k row (row_view row) below ∙ ap row_view (sym is))
+
+  pub row_more : (made next : S) (items : List TableRow) (k : ℕ) (row : TableRow) → k < length items → row ≡ get_or items k row → step made (row_view row).cells ≡ Ok next
+      → after_rows step made (drop k (map row_view items)) ≡ after_rows step next (drop (k + 1) (map row_view items))
+  row_more made next items k row below is ok =
+      let s = seen_at items k row below is in after_more made next (map row_view items) k (row_view row) s.0 s.1 ok
+
+  pub row_told : {X : Type 0} (view : X → S) (made next : S) (items : List TableRow) (k : ℕ) (row : TableRow) (error : RowError) (whole : TableRead S) → k < length items → row ≡ get_or items k row
+      → whole ≡ after_rows step made (drop k (map row_view items)) → Makes (Err error) (step made (row_view row).cells) next → TellsTable view (Err (line_error row.line error)) whole
+  row_told view made next items k row error whole below is so_far makes =
+      let s = seen_at items k row below is in
+      told view error row.line (step made (row_view row).cells) next whole makes
+      (λ fault e. so_far ∙ after_fault made fault (map row_view items) k (row_view row) s.0 s.1 e)
+
+  pub all_read : (made : S) (items : List TableRow) (k : ℕ) → length items ≤ k → after_rows step made (drop k (map row_view items)) ≡ Ok made
+  all_read made items k past = let n = length-map items row_view in after_all made (map row_view items) k (omega (arith, n, past))
+
+-- what a `?` hands on
+pub handed_on : {S : Type 0} (r : Result (Unit {0}) RowError) (error : RowError) (read : RowRead S) (made : S) → IsErrAnd r (λ e. e ≡ error) → Makes (Err error) read made → Makes r read made
+handed_on r error read made is h =
+    let p = err_from_is_err_and r is in subst (λ r. Makes r read made) (sym (p.1 ∙ ap Err p.2)) h

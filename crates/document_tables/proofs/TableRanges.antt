@@ -1,5 +1,5 @@
 -- The ranges of what tables say.
-use Rattle.std.proofs.Common.{◌≡◌, ℕ, ◌<◌, ◌≤◌, refl, nat_le, List, [], ◌∷◌, ◌++◌, length, All, position, Option, Some, None, Ok, Err, subst, arith, length-append}
+use Rattle.std.proofs.Common.{◌≡◌, ℕ, ◌<◌, ◌≤◌, refl, nat_le, List, [], ◌∷◌, ◌++◌, length, All, Option, Some, None, Ok, Err, subst, arith, length-append}
 use Rattle.std.specs.Prelude.{slice_get, if◌then◌else◌}
 use Rattle.std.specs.List.{list_any}
 use Rattle.std.specs.Str.{bytes_eq}
@@ -10,18 +10,17 @@ use Rattle.document_rows.specs.declared.fault.Column.TheVariants as column
 use Rattle.document_rows.specs.declared.fault.Wrong.TheVariants.{TooManyRows, NameTwice}
 use Rattle.document_rows.specs.declared.heads.PortHead.{PortHead}
 use Rattle.document_rows.specs.declared.heads.LinkHead.{LinkHead}
-use Rattle.document_rows.specs.Reads.{RowRead, and_then, at}
+use Rattle.document_rows.specs.Reads.{RowRead, and_then}
 use Rattle.document_rows.specs.Heads.{port_head, link_head, row_name}
 use Rattle.document_rows.specs.PortRows.{port_row}
-use Rattle.document_rows.specs.LinkRows.{LinkText, link_row, frame_on_wire}
+use Rattle.document_rows.specs.LinkRows.{LinkText}
 use Rattle.document_tables.specs.Ranges.{IsTimeOrNone, IsPortText, IsLinkText, AreLinkKeys}
 use Rattle.document_tables.specs.Tables.{LineRow, at_line, after_rows, table_of}
 use Rattle.document_tables.specs.Ports.{Ports, with_port, no_ports, ports_of, most_ports}
-use Rattle.document_tables.specs.Paths.{path_ports}
-use Rattle.document_tables.specs.Trees.{hangs_from}
-use Rattle.document_tables.specs.Links.{Links, BranchText, keys_of, with_link, agrees_with, has_room, number_or_next, with_branch, with_row, no_links, links_of, paths_of, most_branches}
-use Rattle.document_tables.proofs.Reading.{both_read, not_refused, same_read}
+use Rattle.document_tables.specs.Links.{Links, BranchText, keys_of, with_link, agrees_with, number_or_next, with_branch, with_row, no_links, links_of}
+use Rattle.document_tables.proofs.Reading.{both_read, read_then, not_refused, same_read}
 use Rattle.document_tables.proofs.RowRanges.{port_says, link_says}
+use Rattle.document_tables.proofs.RowTaken.{branched, taken}
 
 -- ---- rows, one after another
 pub in_line : {X : Type 0} (line : ℕ) (r : RowRead X) (x : X) → at_line line r ≡ Ok x → r ≡ Ok x
@@ -58,16 +57,18 @@ module _ (head : PortHead) (before : Ports) (row : Row) where
   unfolding with_port
   port_more after p h =
       let few = not_refused (nat_le most_ports (length before.ports)) (record { column = column.Name; wrong = TooManyRows }) (and_then (row_name head.width head.name row) port_named) after h in
-      let name = both_read (row_name head.width head.name row) port_named after few.1 in
-      let new = not_refused (list_any (bytes_eq name.0) before.names) (record { column = column.Name; wrong = NameTwice })
-      (and_then (port_row head row) (λ port. Ok (record { names = before.names ++ name.0 ∷ []; ports = before.ports ++ port ∷ [] }))) after name.2
+      read_then (row_name head.width head.name row) port_named after few.1
+      (λ name is_named h.
+      let new = not_refused (list_any (bytes_eq name) before.names) (record { column = column.Name; wrong = NameTwice })
+      (and_then (port_row head row) (λ port. Ok (record { names = before.names ++ name ∷ []; ports = before.ports ++ port ∷ [] }))) after h
       in
-      let port = both_read (port_row head row) (λ port. Ok (record { names = before.names ++ name.0 ∷ []; ports = before.ports ++ port ∷ [] })) after new.1 in
-      let made : Ports = record { names = before.names ++ name.0 ∷ []; ports = before.ports ++ port.0 ∷ [] } in
+      read_then (port_row head row) (λ port. Ok (record { names = before.names ++ name ∷ []; ports = before.ports ++ port ∷ [] })) after new.1
+      (λ port is_read h.
+      let made : Ports = record { names = before.names ++ name ∷ []; ports = before.ports ++ port ∷ [] } in
       let less : length before.ports < most_ports = grind (arith, nat_tests, few.0) in
-      let longer = length-append before.ports (port.0 ∷ []) in
-      let names = length-append before.names (name.0 ∷ []) in
-      subst AreInRange (same_read made after port.2) (All-push IsPortText before.ports port.0 p.0 (port_says head row port.0 port.1), omega (arith, less, longer), omega (arith, names, longer, p.2))
+      let longer = length-append before.ports (port ∷ []) in
+      let names = length-append before.names (name ∷ []) in
+      subst AreInRange (same_read made after h) (All-push IsPortText before.ports port p.0 (port_says head row port is_read), omega (arith, less, longer), omega (arith, names, longer, p.2))))
 
 pub ports_in_range : (rows : List LineRow) (ports : Ports) → ports_of rows ≡ Ok ports
     → All IsPortText ports.ports × (length ports.ports ≤ most_ports) × (length ports.names ≡ length ports.ports)
@@ -92,39 +93,15 @@ link_more before after name (Some n) row p r h =
 
 module _ (ports : Ports) (overhead : ℕ) where
   branch_more : (link : ℕ) (before : Links) (row : LinkText) (after : Links) → HaveKeys before → IsLinkText row → with_branch ports overhead link before row ≡ Ok after → HaveKeys after
-  unfolding with_branch
   branch_more link before row after p r h =
-      let path = both_read (at column.Path (path_ports ports row.priority (frame_on_wire row.largest_frame overhead) row.path))
-      (λ path. and_then (at column.Path (hangs_from (paths_of link before.branches) 0 None path)) (λ last.
-      Ok (record before { branches = before.branches ++ record { link = link; path = path; deadline = row.deadline } ∷ [] }))) after h
-      in
-      let last = both_read (at column.Path (hangs_from (paths_of link before.branches) 0 None path.0))
-      (λ last. Ok (record before { branches = before.branches ++ record { link = link; path = path.0; deadline = row.deadline } ∷ [] })) after path.2
-      in
-      let new : BranchText = record { link = link; path = path.0; deadline = row.deadline } in
-      let made : Links = record before { branches = before.branches ++ new ∷ [] } in
-      subst HaveKeys (same_read made after last.2) (p.0, All-push HasDeadline before.branches new p.1 r.deadline)
+      let b = branched ports overhead link before row after h in
+      subst HaveKeys b.made (p.0, All-push HasDeadline before.branches (record { link = link; path = b.path; deadline = row.deadline }) p.1 r.deadline)
 
-  module _ (head : LinkHead) (before : Links) (row : Row) where
-    abbrev linked : List ℕ → Option ℕ → LinkText → RowRead Links
-    linked name number text = and_then (with_link before name number (keys_of text)) (λ links. with_branch ports overhead (number_or_next before number) links text)
-
-    abbrev roomed : List ℕ → Option ℕ → RowRead Links
-    roomed name number = and_then (link_row head row) (linked name number)
-
-    abbrev named : List ℕ → RowRead Links
-    named name = and_then (has_room before (position (bytes_eq name) before.names)) (roomed name)
-
-    row_more : (after : Links) → HaveKeys before → with_row ports overhead head before row ≡ Ok after → HaveKeys after
-    unfolding with_row
-    row_more after p h =
-        let few = not_refused (nat_le most_branches (length before.branches)) (record { column = column.Name; wrong = TooManyRows }) (and_then (row_name head.width head.name row) named) after h in
-        let name = both_read (row_name head.width head.name row) named after few.1 in
-        let number = both_read (has_room before (position (bytes_eq name.0) before.names)) (roomed name.0) after name.2 in
-        let text = both_read (link_row head row) (linked name.0 number.0) after number.2 in
-        let links = both_read (with_link before name.0 number.0 (keys_of text.0)) (λ links. with_branch ports overhead (number_or_next before number.0) links text.0) after text.2 in
-        let says = link_says head row text.0 text.1 in
-        branch_more (number_or_next before number.0) links.0 text.0 after (link_more before links.0 name.0 number.0 text.0 p says links.1) says links.2
+  row_more : (head : LinkHead) (before : Links) (row : Row) (after : Links) → HaveKeys before → with_row ports overhead head before row ≡ Ok after → HaveKeys after
+  row_more head before row after p h =
+      let t = taken ports overhead head before row after h in
+      let says = link_says head row t.text t.is_read in
+      branch_more (number_or_next before t.number) t.links t.text after (link_more before t.links t.name t.number t.text p says t.is_linked) says t.is_branched
 
   pub links_in_range : (rows : List LineRow) (links : Links) → links_of ports overhead rows ≡ Ok links → All AreLinkKeys links.keys × All HasDeadline links.branches
   links_in_range rows links h = kept_by_table HaveKeys link_head (with_row ports overhead) no_links (All-nil AreLinkKeys, All-nil HasDeadline) row_more rows links h

@@ -1,7 +1,6 @@
 -- What a document of two tables means: its names, its network on the grid and its branches; or its first fault, those
 -- of ports before those of links. Own choice.
 use Rattle.std.specs.Prelude.{◌≡◌, ℕ, ◌<◌, List, map, length, slice_get, Some, Result, Ok, Err}
-use Rattle.std.specs.String.{string_bytes}
 use Rattle.tree_network.specs.declared.network.Link.{Link}
 use Rattle.tree_network.specs.declared.network.Network.{Network}
 use Rattle.document_rows.specs.Reads.{and_then}
@@ -33,8 +32,8 @@ end_view b = record { link = b.link; node = b.node; deadline = b.deadline }
 
 abbrev pub document_view : Document → DocumentText
 document_view d = record {
-  port_names = map string_bytes d.port_names.keys;
-  link_names = map string_bytes d.link_names.keys;
+  port_names = d.port_names;
+  link_names = d.link_names;
   ports = map grid_port d.network.ports.items;
   links = map grid_link d.network.links.items;
   branches = map end_view d.branches.items;
@@ -57,8 +56,8 @@ pub record IsBranchOf (net : Network) (b : BranchEnd) : Type 0 where
 
 -- each port and each link has a name
 pub record HasNames (d : Document) : Type 0 where
-  pub ports : length d.port_names.keys ≡ length d.network.ports.items
-  pub links : length d.link_names.keys ≡ length d.network.links.items
+  pub ports : length d.port_names ≡ length d.network.ports.items
+  pub links : length d.link_names ≡ length d.network.links.items
 
 -- ---- reads
 -- a fault, and the table that has it

@@ -12,7 +12,7 @@ use Rattle.document_tables.specs.Trees.{IsTreeOf}
 
 -- each link has a name, what its rows agree in, and the tree of its paths; a branch is of one of them
 pub record AreTrees (table : LinkTable) : Type 0 where
-  pub names : length table.names.keys ≡ length table.keys.items
+  pub names : length table.names ≡ length table.keys.items
   pub trees : length table.trees.items ≡ length table.keys.items
   pub each : (k : ℕ) (tree : Tree) → slice_get table.trees.items k ≡ Some tree
       → IsTreeOf (paths_of k (map branch_view table.branches.items)) tree

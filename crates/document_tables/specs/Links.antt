@@ -2,7 +2,6 @@
 use Rattle.std.specs.Prelude.{ℕ, ◌==◌, not, List, [], ◌∷◌, ◌++◌, length, map, filter, nat_le, Option, Some, None, slice_get, Ok, Err, if◌then◌else◌}
 use Rattle.std.specs.List.{position}
 use Rattle.std.specs.Str.{bytes_eq}
-use Rattle.std.specs.String.{string_bytes}
 use Rattle.csv_rows.specs.Rows.{Row}
 use Rattle.table_cells.specs.declared.amount.Amount.{Amount}
 use Rattle.table_cells.specs.Amounts.{equals}
@@ -37,7 +36,7 @@ branch_view b = record { link = b.link; path = b.path.items; deadline = b.deadli
 
 abbrev pub links_view : LinkTable → Links
 links_view t =
-    record { names = map string_bytes t.names.keys; keys = t.keys.items; branches = map branch_view t.branches.items }
+    record { names = t.names; keys = t.keys.items; branches = map branch_view t.branches.items }
 
 -- ---- the rows of one link
 abbrev pub keys_of : LinkText → LinkKeys

@@ -2,7 +2,6 @@
 use Rattle.std.specs.Prelude.{ℕ, List, [], ◌∷◌, ◌++◌, length, map, nat_le, Ok, Err, if◌then◌else◌}
 use Rattle.std.specs.List.{list_any}
 use Rattle.std.specs.Str.{bytes_eq}
-use Rattle.std.specs.String.{string_bytes}
 use Rattle.csv_rows.specs.Rows.{Row}
 use Rattle.document_rows.specs.declared.fault.Column.TheVariants as column
 use Rattle.document_rows.specs.declared.fault.Wrong.TheVariants.{TooManyRows, NameTwice}
@@ -19,7 +18,7 @@ pub record Ports : Type 0 where
   pub ports : List PortText
 
 abbrev pub ports_view : PortTable → Ports
-ports_view t = record { names = map string_bytes t.names.keys; ports = map port_view t.ports.items }
+ports_view t = record { names = t.names; ports = map port_view t.ports.items }
 
 abbrev pub most_ports : ℕ
 most_ports = 4096

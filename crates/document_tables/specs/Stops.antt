@@ -1,10 +1,16 @@
 -- The tree over which a link goes, by the paths of its rows: the ports that they pass, each with the port before it.
-use Rattle.std.specs.Prelude.{ℕ, nat_eq, Bool, List, [], ◌∷◌, ◌++◌, map, Option, Some, None, if◌then◌else◌}
+use Rattle.std.specs.Prelude.{◌≡◌, ℕ, nat_eq, Bool, List, [], ◌∷◌, ◌++◌, map, position, Option, Some, None, if◌then◌else◌}
+use Rattle.std.specs.BTreeMap.{BTreeMap, get}
 use Rattle.std.specs.List.{list_any}
+use Rattle.std.specs.Ordering.{nat_cmp}
 
 -- a port of a tree, and the one after which it comes; none where the paths begin
 abbrev pub Stop : Type 0
 Stop = ℕ × Option ℕ
+
+-- a port has the place of its stop, and none where it has no stop
+abbrev pub ArePlacesOf : BTreeMap ℕ ℕ → List Stop → Type 0
+ArePlacesOf places stops = (port : ℕ) → get nat_cmp places port ≡ position (nat_eq port) (map (λ s. s.0) stops)
 
 abbrev pub has_stop : List Stop → ℕ → Bool
 has_stop stops port = list_any (nat_eq port) (map (λ s. s.0) stops)

@@ -1,7 +1,7 @@
 -- Paths of one link that together are a tree: they begin at one port, and no port comes after two different ones.
 use Rattle.std.specs.Prelude.{◌≡◌, ℕ, ◌+◌, ◌==◌, nat_eq, ◌&&◌, ◌||◌, Bool, true, false, not, List, [], ◌∷◌, Option, Some, None, Ok, Err, if◌then◌else◌}
 use Rattle.std.specs.List.{list_any}
-use Rattle.indexmap.specs.IndexMap.{get}
+use Rattle.std.specs.Map.{lookup}
 use Rattle.document_rows.specs.declared.fault.Wrong.TheVariants.{BeginsElsewhere, AfterAnother}
 use Rattle.document_rows.specs.Reads.{CellRead, and_then}
 use Rattle.document_tables.specs.declared.trees.Tree.{Tree}
@@ -61,5 +61,5 @@ pub record AreKept (paths : List (List ℕ)) (after : ℕ → Option (Option ℕ
   pub root_all : (r : ℕ) → comes paths r None ≡ true → root ≡ Some r
 
 pub record IsTreeOf (paths : List (List ℕ)) (tree : Tree) : Type 0 where
-  pub kept : AreKept paths (get nat_eq tree.after) tree.root
-  pub stops : tree.after.entries ≡ stops_of paths
+  pub kept : AreKept paths (λ port. lookup (nat_eq port) tree.stops) tree.root
+  pub stops : tree.stops ≡ stops_of paths

@@ -15,9 +15,9 @@ ghost use Rattle.document_tables.specs.declared.fault.DocumentError.TheVariants 
 use crate::fault::{DocumentError, LineError, TableFile};
 use crate::grid::{links_on_grid, ports_on_grid};
 use crate::links::{Branch, LinkTable, read_links};
+use crate::names::Names;
 use crate::ports::{PortTable, read_ports};
 use csv_rows::TableRow;
-use indexmap::IndexSet;
 use std::alloc::{AllocError, Global};
 use table_cells::Amount;
 use tree_network::Network;
@@ -35,8 +35,8 @@ pub struct BranchEnd {
 /// of the rows.
 #[derive(Drop)]
 pub struct Document {
-    pub port_names: IndexSet<String>,
-    pub link_names: IndexSet<String>,
+    pub port_names: Names,
+    pub link_names: Names,
     pub network: Network,
     pub branches: Vec<BranchEnd>,
 }

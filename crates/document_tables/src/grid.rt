@@ -85,7 +85,7 @@ fn node_of(
     port: usize,
     after: Option<usize>,
 ) -> Node
-    ensures { result ≡ spec.node_of (ports_view ports.now).ports priority tree.now.after.entries (port, after) }
+    ensures { result ≡ spec.node_of (ports_view ports.now).ports priority tree.now.stops (port, after) }
 {
     let queue = match ports.ports.get(port) {
         Some(row) => queue_at(&row.discipline, priority),
@@ -106,7 +106,7 @@ fn nodes_of(
     tree: &Tree,
 ) -> Result<Vec<Node>, AllocError>
     ensures { IfOk result (λ nodes. nodes.items
-        ≡ spec.nodes_of (ports_view ports.now).ports priority tree.now.after.entries) }
+        ≡ spec.nodes_of (ports_view ports.now).ports priority tree.now.stops) }
 {
     let mut nodes = Vec::new(alloc);
     for place in 0..tree.len() {
@@ -127,7 +127,7 @@ fn link_of(
     requires overhead { overhead ≤ 1048576 }
     requires keys { AreLinkKeys keys }
     ensures { IfOk result (λ link. spec.grid_link link
-        ≡ spec.link_on_grid (ports_view ports.now).ports overhead keys tree.now.after.entries) }
+        ≡ spec.link_on_grid (ports_view ports.now).ports overhead keys tree.now.stops) }
 {
     Ok(Link {
         frame: frame_on_wire(keys.largest_frame, overhead),

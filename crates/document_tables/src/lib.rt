@@ -10,10 +10,12 @@ mod links;
 mod names;
 mod paths;
 mod ports;
+mod stops;
 mod trees;
 
 pub use document::{BranchEnd, Document, read_document};
 pub use fault::{DocumentError, LineError, LineFault, TableFile};
 pub use fault_lines::fault_line;
 pub use links::{Branch, LinkKeys, LinkTable, read_links};
+pub use names::Names;
 pub use ports::{PortTable, read_ports};

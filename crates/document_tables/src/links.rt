@@ -3,7 +3,6 @@
 ghost use Rattle.std.specs.Prelude.{◌≡◌, ◌+◌, ◌<◌, ◌≤◌, None, Ok, Err, map, position, length, slice_get, OnOk, IfOk};
 ghost use Rattle.std.specs.Option.{ForSome};
 ghost use Rattle.std.specs.Str.{bytes_eq};
-ghost use Rattle.std.specs.String.{string_bytes};
 ghost use Rattle.csv.specs.Records.{fields_of};
 ghost use Rattle.document_rows.specs.LinkRows.{link_view};
 ghost use Rattle.document_rows.specs.declared.fault.Column.TheVariants as column;
@@ -16,7 +15,7 @@ ghost use Rattle.document_tables.specs.Ranges.{IsLinkText};
 ghost use Rattle.document_tables.specs.Tables.{Makes, TellsTable, after_rows, row_view};
 
 use crate::fault::{LineError, line_error, no_head};
-use crate::names::{add_name, number_of};
+use crate::names::{Names, add_name, number_of};
 use crate::paths::path_ports;
 use crate::ports::PortTable;
 use crate::trees::Tree;
@@ -26,7 +25,6 @@ use document_rows::{
     CellFault, Column, LinkHead, LinkRow, RowError, Wrong, frame_on_wire, link_head, link_row,
     row_name,
 };
-use indexmap::IndexSet;
 use std::alloc::{AllocError, Global};
 use table_cells::Amount;
 
@@ -57,7 +55,7 @@ pub struct Branch {
 /// trees; and the branches in the order of the rows.
 #[derive(Drop)]
 pub struct LinkTable {
-    pub names: IndexSet<String>,
+    pub names: Names,
     pub keys: Vec<LinkKeys>,
     pub trees: Vec<Tree>,
     pub branches: Vec<Branch>,
@@ -141,7 +139,7 @@ fn new_link(
     name: &str,
     row: LinkKeys,
 ) -> Result<(), AllocError>
-    requires new { position (bytes_eq name.now) (map string_bytes table.old.names.keys) ≡ None }
+    requires new { position (bytes_eq name.now) table.old.names ≡ None }
     requires kept { AreTrees table.old }
     ensures value { OnOk result (spec.with_link (spec.links_view table.old) name.now None row
         ≡ Ok (spec.links_view table.new)) }
@@ -162,7 +160,7 @@ fn add_link(
     number: Option<usize>,
     row: LinkKeys,
 ) -> Result<usize, RowError>
-    requires number { number ≡ position (bytes_eq name.now) (map string_bytes table.old.names.keys) }
+    requires number { number ≡ position (bytes_eq name.now) table.old.names }
     requires within { ForSome number (λ n. n < length table.old.keys.items) }
     requires kept { AreTrees table.old }
     ensures value { MakesLink result (spec.with_link (spec.links_view table.old) name.now number row)
@@ -244,7 +242,7 @@ fn no_links(alloc: Global) -> LinkTable
     ensures kept { AreTrees result }
 {
     LinkTable {
-        names: IndexSet::new(alloc),
+        names: Names::new(alloc),
         keys: Vec::new(alloc),
         trees: Vec::new(alloc),
         branches: Vec::new(alloc),

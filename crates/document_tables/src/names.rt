@@ -1,32 +1,83 @@
 //! Names by their numbers.
 
-ghost use Rattle.std.specs.Prelude.{◌≡◌, ◌++◌, ◌∷◌, [], map, not, IfSome, IfOk, true, length, ◌<◌};
+ghost use Rattle.std.specs.Prelude.{◌≡◌, ◌++◌, ◌∷◌, ◌<◌, [], not, option_map, slice_get, IfSome, IfOk, true, length};
 ghost use Rattle.std.specs.List.{list_any, position};
 ghost use Rattle.std.specs.Str.{bytes_eq};
-ghost use Rattle.std.specs.String.{string_bytes};
 
-use indexmap::IndexSet;
 use std::alloc::{AllocError, Global};
+use std::collections::BTreeMap;
+use std::marker::Model;
+
+/// Names by their numbers, in the order in which they came: contracts see the list of their texts. Each is found among
+/// the others in their order, so that no choice of names makes it slow.
+#[derive(Drop)]
+pub struct Names {
+    texts: Vec<String>,
+    numbers: BTreeMap<String, usize>,
+}
+
+impl Model for Names {
+    ghost use Rattle.std.specs.Prelude.{ℕ, List, map};
+    ghost use Rattle.std.specs.String.{string_bytes};
+    ghost use Rattle.document_tables.specs.Names.{AreNumbersOf};
+
+    ghost Value = { List (List ℕ) };
+
+    ghost view = { λ n. map string_bytes n.texts.items };
+
+    ghost invariant = { λ n. AreNumbersOf n.numbers (map string_bytes n.texts.items) };
+}
+
+impl Names {
+    /// No name.
+    pub fn new(alloc: Global) -> Names
+        ensures { result ≡ [] }
+    {
+        Names {
+            texts: Vec::new(alloc),
+            numbers: BTreeMap::new(alloc),
+        }
+    }
+
+    /// How many there are.
+    pub fn len(&self) -> usize
+        ensures { result ≡ length self.now }
+    {
+        self.texts.len()
+    }
+
+    /// The name of a number; none past the last one.
+    pub fn get(&self, number: usize) -> Option<&str>
+        ensures { option_map (λ name. name.now) result ≡ slice_get self.now number }
+    {
+        match self.texts.get(number) {
+            Some(text) => Some(text.as_str()),
+            None => None,
+        }
+    }
+}
 
 /// The number of a name.
-pub(crate) fn number_of(names: &IndexSet<String>, name: &str) -> Option<usize>
-    ensures value { result ≡ position (bytes_eq name.now) (map string_bytes names.now.keys) }
-    ensures within { IfSome result (λ n. n < length names.now.keys) }
+pub(crate) fn number_of(names: &Names, name: &str) -> Option<usize>
+    ensures value { result ≡ position (bytes_eq name.now) names.now }
+    ensures within { IfSome result (λ n. n < length names.now) }
 {
-    names.get_index_of(name)
+    names.numbers.get(name).copied()
 }
 
 /// Puts a name behind others, and says whether it is new.
-pub(crate) fn add_name(
-    alloc: Global,
-    names: &mut IndexSet<String>,
-    name: &str,
-) -> Result<bool, AllocError>
-    ensures new { IfOk result (λ is_new. is_new
-        ≡ not (list_any (bytes_eq name.now) (map string_bytes names.old.keys))) }
-    ensures grown { IfOk result (λ is_new. is_new ≡ true
-        → map string_bytes names.new.keys ≡ map string_bytes names.old.keys ++ name.now ∷ []) }
+pub(crate) fn add_name(alloc: Global, names: &mut Names, name: &str) -> Result<bool, AllocError>
+    ensures new { IfOk result (λ is_new. is_new ≡ not (list_any (bytes_eq name.now) names.old)) }
+    ensures grown { IfOk result (λ is_new. is_new ≡ true → names.new ≡ names.old ++ name.now ∷ []) }
 {
-    let (_number, is_new) = names.insert_full(String::from_str(alloc, name)?)?;
-    Ok(is_new)
+    if number_of(names, name).is_some() {
+        return Ok(false);
+    }
+    let text = String::from_str(alloc, name)?;
+    let key = String::from_str(alloc, name)?;
+    let number = names.texts.len();
+    names.texts.reserve(1)?;
+    names.numbers.insert(key, number)?;
+    names.texts.push_reserved(text);
+    Ok(true)
 }

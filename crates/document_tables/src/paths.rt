@@ -2,7 +2,6 @@
 
 ghost use Rattle.std.specs.Prelude.{◌≡◌, ◌==◌, false, map, length, IfOk};
 ghost use Rattle.std.specs.List.{list_any};
-ghost use Rattle.std.specs.String.{string_bytes};
 ghost use Rattle.document_rows.specs.declared.fault.Column.TheVariants as column;
 ghost use Rattle.document_rows.specs.Disciplines.{discipline_view};
 ghost use Rattle.document_rows.specs.Reads.{Tells, at};
@@ -65,7 +64,7 @@ fn takes(
 
 // The number of the port that a word names.
 fn port_named(table: &PortTable, word: &[u8]) -> Option<usize>
-    ensures { result ≡ spec.port_named (map string_bytes table.now.names.keys) word.now }
+    ensures { result ≡ spec.port_named table.now.names word.now }
 {
     if !is_name(word) {
         return None;

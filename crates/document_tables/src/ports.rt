@@ -8,13 +8,12 @@ ghost use Rattle.document_rows.specs.declared.fault.Column.TheVariants as column
 ghost use Rattle.document_rows.specs.declared.fault.RowError.TheVariants as errors;
 
 use crate::fault::{LineError, line_error, no_head};
-use crate::names::add_name;
+use crate::names::{Names, add_name};
 use csv::ByteRecord;
 use csv_rows::TableRow;
 use document_rows::{
     CellFault, Column, PortHead, PortRow, RowError, Wrong, port_head, port_row, row_name,
 };
-use indexmap::IndexSet;
 use std::alloc::Global;
 
 const MOST_PORTS: usize = 4_096;
@@ -22,7 +21,7 @@ const MOST_PORTS: usize = 4_096;
 /// The ports of a table by their numbers: the names, and what the rows say.
 #[derive(Drop)]
 pub struct PortTable {
-    pub names: IndexSet<String>,
+    pub names: Names,
     pub ports: Vec<PortRow>,
 }
 
@@ -41,7 +40,7 @@ fn no_ports(alloc: Global) -> PortTable
     ensures { spec.ports_view result ≡ spec.no_ports }
 {
     PortTable {
-        names: IndexSet::new(alloc),
+        names: Names::new(alloc),
         ports: Vec::new(alloc),
     }
 }

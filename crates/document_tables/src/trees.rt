@@ -8,8 +8,8 @@ ghost use Rattle.document_tables.specs.Trees as spec;
 ghost use Rattle.document_tables.specs.Growing.{Grows, HasOwnPorts};
 ghost use Rattle.document_tables.specs.Grids as grids;
 
+use crate::stops::Stops;
 use document_rows::{CellFault, Column, RowError, Wrong};
-use indexmap::IndexMap;
 use std::alloc::Global;
 
 /// The ports of a link, each with the one after which it comes, and the one at which all paths begin. They stand in an
@@ -17,7 +17,7 @@ use std::alloc::Global;
 #[derive(Drop)]
 pub struct Tree {
     pub(crate) root: Option<usize>,
-    pub(crate) after: IndexMap<usize, Option<usize>>,
+    pub(crate) stops: Stops,
 }
 
 fn wrong_path(wrong: Wrong) -> RowError
@@ -46,7 +46,7 @@ impl Tree {
     {
         Tree {
             root: None,
-            after: IndexMap::new(alloc),
+            stops: Stops::new(alloc),
         }
     }
 
@@ -64,7 +64,7 @@ impl Tree {
                 }
             }
             None => {
-                self.after.insert(port, None)?;
+                self.stops.pass(port, None)?;
                 self.root = Some(port);
                 Ok(())
             }
@@ -79,16 +79,16 @@ impl Tree {
             → Grows result (spec.hangs paths place (Some after) port) (Some port)
             (paths ++ (path ++ port ∷ []) ∷ []) self.new }
     {
-        match self.after.get(&port) {
+        match self.stops.before(port) {
             Some(before) => {
-                if is_after(*before, after) {
+                if is_after(before, after) {
                     Ok(())
                 } else {
                     Err(wrong_path(Wrong::AfterAnother(place + 1)))
                 }
             }
             None => {
-                self.after.insert(port, Some(after))?;
+                self.stops.pass(port, Some(after))?;
                 Ok(())
             }
         }
@@ -111,35 +111,32 @@ impl Tree {
 
     /// How many ports it has.
     pub(crate) fn len(&self) -> usize
-        ensures { result ≡ length self.now.after.entries }
+        ensures { result ≡ length self.now.stops }
     {
-        self.after.len()
+        self.stops.len()
     }
 
     /// The port at a place, and the one after which it comes.
     pub(crate) fn stop(&self, place: usize) -> (usize, Option<usize>)
-        requires { place < length self.now.after.entries }
-        ensures { slice_get self.now.after.entries place ≡ Some result }
+        requires { place < length self.now.stops }
+        ensures { slice_get self.now.stops place ≡ Some result }
     {
-        match self.after.get_index(place) {
-            Some((port, after)) => (*port, *after),
-            None => unreachable!(),
-        }
+        self.stops.stop(place)
     }
 
     /// The place of the port after which one comes.
     pub(crate) fn place_after(&self, after: Option<usize>) -> Option<usize>
-        ensures { result ≡ grids.place_after self.now.after.entries after }
+        ensures { result ≡ grids.place_after self.now.stops after }
     {
         match after {
-            Some(port) => self.after.get_index_of(&port),
+            Some(port) => self.stops.place_of(port),
             None => None,
         }
     }
 
     /// The place of the last port of a path.
     pub(crate) fn place_of_last(&self, path: &[usize]) -> usize
-        ensures { result ≡ grids.end_of self.now.after.entries path.now }
+        ensures { result ≡ grids.end_of self.now.stops path.now }
     {
         match self.place_after(path.last().copied()) {
             Some(place) => place,

@@ -8,4 +8,4 @@ use Rattle.bounds_command.proofs.refusals.push_names.Given as goal
 abbrev pub invariant-loop-port : goal.invariant-loop-port
 invariant-loop-port l =
     string_bytes l.text ≡ string_bytes l.initial.text
-    ++ flat_map after_space (map (name_at (map string_bytes l.names.keys)) (take l.port-index l.ports))
+    ++ flat_map after_space (map (name_at l.names) (take l.port-index l.ports))

@@ -1,4 +1,3 @@
-use Rattle.std.specs.String.{string_bytes}
 use Rattle.std.proofs.Common.{map, ap, sym, subst, length, arith}
 use Rattle.std.proofs.lemmas.List.{length-map}
 use Rattle.document_tables.specs.Grids.{grid_port, grid_link, port_on_grid}
@@ -53,12 +52,10 @@ returns-in-Ok-document_with-clause-names c =
     let port_names = ap (λ (d : DocumentText). length d.port_names) same in
     let link_names = ap (λ (d : DocumentText). length d.link_names) same in
     let on_grid = ap (λ (d : DocumentText). length d.links) same in
-    let a = length-map d.port_names.keys string_bytes in
     let b = same_length grid_port port_on_grid d.network.ports.items ports.ports (ap (λ (d : DocumentText). d.ports) same) in
-    let e = length-map d.link_names.keys string_bytes in
     let f = length-map d.network.links.items grid_link in
     let g = links_length ports.ports c.args.overhead links.branches 0 links.keys in
-    record { ports = omega (arith, a, port_names, b, texts.2); links = omega (arith, e, link_names, on_grid, f, g, are.names) }
+    record { ports = omega (arith, port_names, b, texts.2); links = omega (arith, link_names, on_grid, f, g, are.names) }
 
 pub returns-in-Ok-document_with-clause-ways : goal.returns-in-Ok-document_with-clause-ways
 returns-in-Ok-document_with-clause-ways c =

@@ -7,7 +7,7 @@ use Rattle.document_tables.proofs.grid.nodes_of.Goals as goal
 
 pub loop-place-preserved : goal.loop-place-preserved
 loop-place-preserved c =
-    let entries = c.args.tree.now.after.entries in
+    let entries = c.args.tree.now.stops in
     let k = c.loop-place.place in
     let stop = c.stop-port.result in
     let make = node_of (ports_view c.args.ports.now).ports c.args.priority entries in

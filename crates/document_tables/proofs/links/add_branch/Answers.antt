@@ -3,15 +3,14 @@ use Rattle.std.proofs.Common.{Bor, Vec, ◌≡◌, ◌<◌, ◌≤◌, refl, ◌
 use Rattle.std.specs.Prelude.{slice_get}
 use Rattle.std.proofs.lemmas.Option.{slice_get-get_or}
 use Rattle.std.proofs.lemmas.List.{map-append}
-use Rattle.std.proofs.lemmas.Result.{err_from_is_err_and}
 use Rattle.document_rows.specs.LinkRows.{link_view}
 use Rattle.document_tables.specs.Growing.{Grows}
 use Rattle.document_tables.specs.Links.{branch_view, links_view, paths_of, with_branch}
 use Rattle.document_tables.specs.Ports.{ports_view}
-use Rattle.document_tables.specs.Tables.{Makes}
 use Rattle.document_tables.specs.Trees.{IsTreeOf, hangs_from, last_of}
 use Rattle.document_tables.specs.declared.links.Branch.{Branch}
 use Rattle.document_tables.specs.declared.trees.Tree.{Tree}
+use Rattle.document_tables.proofs.Steps.{handed_on}
 use Rattle.document_tables.proofs.LinkSteps.{no_path, no_tree, branch_made, each_set, paths_more, paths_same}
 use Rattle.document_tables.proofs.links.add_branch.Goals as goal
 
@@ -24,8 +23,7 @@ returns-in_err-path-clause-value c =
     let ports = ports_view c.args.ports.now in
     let before = links_view c.args.table.now in
     let row = link_view c.args.row.now in
-    let p = err_from_is_err_and c.from_residual.result c.from_residual.ensures.1 in
-    subst (λ r. Makes r (with_branch ports c.args.overhead c.args.link before row) before) (sym (p.1 ∙ ap Err p.2))
+    handed_on c.from_residual.result c.in_err-path.field-0.0 (with_branch ports c.args.overhead c.args.link before row) before c.from_residual.ensures.1
     (no_path ports c.args.overhead c.args.link before row (λ (path : Vec ℕ Global). path.items) c.in_err-path.field-0.0 before c.frame_on_wire-frame.result (map seen c.deref.result.now) c.frame_on_wire-frame.ensures (ap (map seen) c.deref.ensures.value) c.in_err-path.ensures.value)
 
 pub returns-in_err-grow-clause-value : goal.returns-in_err-grow-clause-value
@@ -44,8 +42,7 @@ returns-in_err-grow-clause-value c =
     let grown = subst (λ (p : List ℕ). Grows (Err c.in_err-grow.field-0.0) (hangs_from paths 0 None p) (last_of None p) (paths ++ p ∷ []) c.grow.new.self) c.deref-2.ensures.value
     (c.in_err-grow.ensures paths (kept.each c.args.link c.index_mut.result.now there))
     in
-    let p = err_from_is_err_and c.from_residual-in_err-grow.result c.from_residual-in_err-grow.ensures.1 in
-    subst (λ r. Makes r (with_branch ports c.args.overhead c.args.link before row) before) (sym (p.1 ∙ ap Err p.2))
+    handed_on c.from_residual-in_err-grow.result c.in_err-grow.field-0.0 (with_branch ports c.args.overhead c.args.link before row) before c.from_residual-in_err-grow.ensures.1
     (no_tree ports c.args.overhead c.args.link before row path c.frame_on_wire-frame.result (map seen c.deref.result.now) c.frame_on_wire-frame.ensures (ap (map seen) c.deref.ensures.value) (c.in_ok-path.ensures.value)
     c.in_err-grow.field-0.0 (last_of None path) (paths ++ path ∷ []) c.grow.new.self before grown)
 

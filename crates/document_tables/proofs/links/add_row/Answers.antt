@@ -1,14 +1,15 @@
-use Rattle.std.proofs.Common.{◌≡◌, nat_le, true, false, length, Ok, Err, sym, ap, subst, ◌∙◌, arith}
+use Rattle.std.proofs.Common.{◌≡◌, nat_le, true, length, Ok, Err, sym, ap, subst, ◌∙◌, arith}
 use Rattle.std.proofs.lemmas.List.{length-map}
-use Rattle.std.proofs.lemmas.Result.{err_from_is_err_and}
 use Rattle.csv.specs.Records.{fields_of}
 use Rattle.document_rows.specs.LinkRows.{link_view}
+use Rattle.document_rows.specs.declared.fault.RowError.TheVariants.{Cell}
 use Rattle.document_tables.specs.declared.links.LinkKeys.{LinkKeys}
 use Rattle.document_tables.specs.LinkTrees.{MakesLink}
 use Rattle.document_tables.specs.Links.{branch_view, links_view, with_link, with_row, has_room, number_or_next, most_branches}
 use Rattle.document_tables.specs.Ports.{ports_view}
 use Rattle.document_tables.specs.Tables.{Makes}
-use Rattle.document_tables.proofs.LinkSteps.{too_many, no_name, no_room, no_text, no_link, to_branch, is_full, is_not_full}
+use Rattle.document_tables.proofs.LinkSteps.{too_many, no_name, no_room, no_text, no_link, to_branch, is_full, few_rows}
+use Rattle.document_tables.proofs.Steps.{handed_on}
 use Rattle.document_tables.proofs.RowRanges.{link_says}
 use Rattle.document_tables.proofs.links.add_row.Goals as goal
 
@@ -26,10 +27,8 @@ returns-in_err-name-clause-value c =
     let ports = ports_view c.args.ports.now in
     let before = links_view c.args.table.now in
     let row = fields_of c.args.row.now in
-    let n = length-map c.args.table.now.branches.items branch_view in
-    let few : nat_le most_branches (length before.branches) ≡ false = is_not_full most_branches (length before.branches) (omega (arith, n, c.len.ensures, c.if-len-ge-MOST_BRANCHES.false)) in
-    let p = err_from_is_err_and c.from_residual.result c.from_residual.ensures.1 in
-    subst (λ r. Makes r (with_row ports c.args.overhead c.args.head.now before row) before) (sym (p.1 ∙ ap Err p.2))
+    let few = few_rows c.args.table.now.branches.items (omega (arith, c.len.ensures, c.if-len-ge-MOST_BRANCHES.false)) in
+    handed_on c.from_residual.result (Cell c.in_err-name.field-0.0) (with_row ports c.args.overhead c.args.head.now before row) before c.from_residual.ensures.1
     (no_name ports c.args.overhead c.args.head.now before row few c.in_err-name.field-0.0 (sym c.in_err-name.ensures))
 
 pub returns-in_err-number-clause-value : goal.returns-in_err-number-clause-value
@@ -37,10 +36,8 @@ returns-in_err-number-clause-value c =
     let ports = ports_view c.args.ports.now in
     let before = links_view c.args.table.now in
     let row = fields_of c.args.row.now in
-    let n = length-map c.args.table.now.branches.items branch_view in
-    let few : nat_le most_branches (length before.branches) ≡ false = is_not_full most_branches (length before.branches) (omega (arith, n, c.len.ensures, c.if-len-ge-MOST_BRANCHES.false)) in
-    let p = err_from_is_err_and c.from_residual-in_err-number.result c.from_residual-in_err-number.ensures.1 in
-    subst (λ r. Makes r (with_row ports c.args.overhead c.args.head.now before row) before) (sym (p.1 ∙ ap Err p.2))
+    let few = few_rows c.args.table.now.branches.items (omega (arith, c.len.ensures, c.if-len-ge-MOST_BRANCHES.false)) in
+    handed_on c.from_residual-in_err-number.result (Cell c.in_err-number.field-0.0) (with_row ports c.args.overhead c.args.head.now before row) before c.from_residual-in_err-number.ensures.1
     (no_room ports c.args.overhead c.args.head.now before row few c.in_ok-name.name.now (sym c.in_ok-name.ensures) c.in_err-number.field-0.0
     (ap (has_room before) (sym c.number_of.ensures.value) ∙ sym c.in_err-number.ensures.value))
 
@@ -49,10 +46,8 @@ returns-in_err-row-clause-value c =
     let ports = ports_view c.args.ports.now in
     let before = links_view c.args.table.now in
     let row = fields_of c.args.row.now in
-    let n = length-map c.args.table.now.branches.items branch_view in
-    let few : nat_le most_branches (length before.branches) ≡ false = is_not_full most_branches (length before.branches) (omega (arith, n, c.len.ensures, c.if-len-ge-MOST_BRANCHES.false)) in
-    let p = err_from_is_err_and c.from_residual-in_err-row.result c.from_residual-in_err-row.ensures.1 in
-    subst (λ r. Makes r (with_row ports c.args.overhead c.args.head.now before row) before) (sym (p.1 ∙ ap Err p.2))
+    let few = few_rows c.args.table.now.branches.items (omega (arith, c.len.ensures, c.if-len-ge-MOST_BRANCHES.false)) in
+    handed_on c.from_residual-in_err-row.result c.in_err-row.field-0.0 (with_row ports c.args.overhead c.args.head.now before row) before c.from_residual-in_err-row.ensures.1
     (no_text ports c.args.overhead c.args.head.now before row few c.in_ok-name.name.now (sym c.in_ok-name.ensures) c.in_ok-number.number
     (ap (has_room before) (sym c.number_of.ensures.value) ∙ sym c.in_ok-number.ensures.value) link_view c.in_err-row.field-0.0 before c.in_err-row.ensures)
 
@@ -62,13 +57,11 @@ returns-in_err-link-clause-value c =
     let before = links_view c.args.table.now in
     let row = fields_of c.args.row.now in
     let text = link_view c.in_ok-row.row in
-    let n = length-map c.args.table.now.branches.items branch_view in
-    let few : nat_le most_branches (length before.branches) ≡ false = is_not_full most_branches (length before.branches) (omega (arith, n, c.len.ensures, c.if-len-ge-MOST_BRANCHES.false)) in
-    let p = err_from_is_err_and c.from_residual-in_err-link.result c.from_residual-in_err-link.ensures.1 in
+    let few = few_rows c.args.table.now.branches.items (omega (arith, c.len.ensures, c.if-len-ge-MOST_BRANCHES.false)) in
     let made = links_view c.add_link.new.table in
     let next = number_or_next before c.in_ok-number.number in
     let m = subst (λ (keys : LinkKeys). MakesLink (Err c.in_err-link.field-0.0) (with_link before c.in_ok-name.name.now c.in_ok-number.number keys) made next) c.keys_of.ensures c.in_err-link.ensures.value in
-    subst (λ r. Makes r (with_row ports c.args.overhead c.args.head.now before row) made) (sym (p.1 ∙ ap Err p.2))
+    handed_on c.from_residual-in_err-link.result c.in_err-link.field-0.0 (with_row ports c.args.overhead c.args.head.now before row) made c.from_residual-in_err-link.ensures.1
     (no_link ports c.args.overhead c.args.head.now before row few c.in_ok-name.name.now (sym c.in_ok-name.ensures) c.in_ok-number.number
     (ap (has_room before) (sym c.number_of.ensures.value) ∙ sym c.in_ok-number.ensures.value) text c.in_ok-row.ensures c.in_err-link.field-0.0 made made next m)
 
@@ -81,8 +74,7 @@ returns-clause-value c =
     let before = links_view c.args.table.now in
     let row = fields_of c.args.row.now in
     let text = link_view c.in_ok-row.row in
-    let n = length-map c.args.table.now.branches.items branch_view in
-    let few : nat_le most_branches (length before.branches) ≡ false = is_not_full most_branches (length before.branches) (omega (arith, n, c.len.ensures, c.if-len-ge-MOST_BRANCHES.false)) in
+    let few = few_rows c.args.table.now.branches.items (omega (arith, c.len.ensures, c.if-len-ge-MOST_BRANCHES.false)) in
     let made = links_view c.add_link.new.table in
     let next = number_or_next before c.in_ok-number.number in
     let m = subst (λ (keys : LinkKeys). MakesLink (Ok c.in_ok-link.link) (with_link before c.in_ok-name.name.now c.in_ok-number.number keys) made next) c.keys_of.ensures c.in_ok-link.ensures.value in

@@ -1,8 +1,6 @@
 use Rattle.std.specs.Prelude.{not, slice_get}
 use Rattle.std.specs.Str.{bytes_eq}
-use Rattle.std.specs.String.{string_bytes}
 use Rattle.std.proofs.Common.{◌∷◌, [], List, ℕ, map, length, Ok, sym, ap, subst, ◌∙◌, arith, length-append}
-use Rattle.std.proofs.lemmas.List.{length-map}
 use Rattle.document_tables.specs.Links.{branch_view, paths_of}
 use Rattle.document_tables.specs.Trees.{IsTreeOf}
 use Rattle.document_tables.specs.declared.trees.Tree.{Tree}
@@ -11,7 +9,7 @@ use Rattle.document_tables.proofs.links.new_link.Goals as goal
 
 pub returns-clause-value : goal.returns-clause-value
 returns-clause-value c =
-    let any = nowhere_any (bytes_eq c.args.name.now) (map string_bytes c.args.table.now.names.keys) c.requires.new in
+    let any = nowhere_any (bytes_eq c.args.name.now) c.args.table.now.names c.requires.new in
     let grown = c.in_ok-add_name.ensures.grown (c.in_ok-add_name.ensures.new ∙ ap not any) in
     let keys = c.in_ok-push.ensures.items in
     λ i. Ok (record { names = sym grown i; keys = sym keys i; branches = map branch_view c.args.table.now.branches.items })
@@ -21,19 +19,17 @@ returns-clause-kept c =
     let old = c.args.table.now in
     let branches = map branch_view old.branches.items in
     let kept = c.requires.kept in
-    let any = nowhere_any (bytes_eq c.args.name.now) (map string_bytes old.names.keys) c.requires.new in
+    let any = nowhere_any (bytes_eq c.args.name.now) old.names c.requires.new in
     let grown = c.in_ok-add_name.ensures.grown (c.in_ok-add_name.ensures.new ∙ ap not any) in
     let keys = c.in_ok-push.ensures.items in
     let trees = c.in_ok-push-2.ensures.items in
     let more_names = ap length grown in
-    let new_names = length-map c.add_name.new.names.keys string_bytes in
-    let old_names = length-map old.names.keys string_bytes in
-    let one_name = length-append (map string_bytes old.names.keys) (c.args.name.now ∷ []) in
+    let one_name = length-append old.names (c.args.name.now ∷ []) in
     let more_keys = ap length keys in
     let one_key = length-append old.keys.items (c.args.row ∷ []) in
     let more_trees = ap length trees in
     let one_tree = length-append old.trees.items (c.new.result ∷ []) in record {
-      names = omega (arith, more_names, new_names, old_names, one_name, more_keys, one_key, kept.names);
+      names = omega (arith, more_names, one_name, more_keys, one_key, kept.names);
       trees = omega (arith, more_trees, one_tree, more_keys, one_key, kept.trees);
       each = λ k tree h.
           each_push (λ (k : ℕ) (t : Tree). IsTreeOf (paths_of k branches) t) old.trees.items c.new.result kept.each

@@ -3,4 +3,4 @@ use Rattle.document_tables.proofs.StopSteps.{no_stops, no_tree}
 use Rattle.document_tables.proofs.trees.Tree.new.Goals as goal
 
 pub returns : goal.returns
-returns c = record { kept = no_tree c.new.result c.new.ensures.empty; stops = c.new.ensures.empty ∙ no_stops }
+returns c = record { kept = no_tree c.new.result c.new.ensures; stops = c.new.ensures ∙ no_stops }
