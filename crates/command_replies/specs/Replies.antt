@@ -16,7 +16,8 @@ pub record Reply : Type 0 where
   pub status : ℕ
   pub bytes : List ℕ
 
--- one status, and one text unless it tells a cycle, of which a network may have several
+-- one status, and one text unless it tells a cycle; since a network has one cycle that is told (`net_model::net_graph::one_cycle`)
+-- the text is one then, too (`netcalc_cli::replies_are_determined`)
 pub record AreSame (x y : Reply) : Type 0 where
   pub status : x.status ≡ y.status
   pub bytes : x.status ≢ 8 → x.bytes ≡ y.bytes

@@ -2,4 +2,4 @@
 
 mod laws;
 
-pub use laws::edits_have_work;
+pub use laws::{edits_have_work, lists_have_work};

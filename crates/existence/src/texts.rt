@@ -2,4 +2,7 @@
 
 mod laws;
 
-pub use laws::{edits_are_read, runs_are_read, scripts_are_read, traces_are_read};
+pub use laws::{
+    edits_are_read, list_stages_end, run_stages_end, runs_are_read, scripts_are_read,
+    trace_stages_end, traces_are_read, traces_stand,
+};

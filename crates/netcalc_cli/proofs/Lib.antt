@@ -3,8 +3,6 @@ pub mod NoWrite
 pub mod Replies
 pub mod OneCycle
 pub mod Equal
-pub mod ExampleNet
-pub mod ExampleBound
 pub mod WordLists
 pub mod Taking
 pub mod Seeds

@@ -6,4 +6,3 @@ pub mod Reply
 pub mod Counts
 pub mod Answered
 pub mod Laws
-pub mod Example

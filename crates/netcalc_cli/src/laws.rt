@@ -1,6 +1,5 @@
 //! Laws of the replies. Each is the contract of a function that does nothing.
 
-ghost use Rattle.netcalc_cli.specs.Example.{OneFlowReachesItsBound};
 ghost use Rattle.netcalc_cli.specs.Laws.{RepliesAreDetermined, CallsAreDetermined};
 
 /// Status and bytes are determined by a command and by what its files hold, at each status: of several cycles one is told.
@@ -12,10 +11,4 @@ pub fn replies_are_determined()
 /// end with one status, and put the same bytes.
 pub fn calls_are_determined()
     ensures { CallsAreDetermined }
-{}
-
-/// A network and a run that meet the premises of the guarantee: one packet through one server. It stays exactly as long
-/// as the bound of each table that meets the equations.
-pub fn one_flow_reaches_its_bound()
-    ensures { OneFlowReachesItsBound }
 {}

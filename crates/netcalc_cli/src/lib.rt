@@ -9,5 +9,5 @@ mod top_call;
 mod words;
 
 pub use commands::command_replies::Status;
-pub use laws::{calls_are_determined, one_flow_reaches_its_bound, replies_are_determined};
+pub use laws::{calls_are_determined, replies_are_determined};
 pub use top_call::{run, run_counted};

@@ -150,9 +150,10 @@ pub fn run<I: Inputs, K: Sink, L: Ledger>(
 
     // Of `analyse` and `simulate` no more steps than the operators of the folds of the file's closures, and after
     // these the work of all cells; where the report is written, exactly that work. Of `edit` beside these no more
-    // than the work of the touched cells of each edit; where the report is written, no less than that of the edits
-    // that are taken. Of `check` as of `simulate`. Of `exercise` no more than the work of all cells, and where the
-    // summary is written exactly that.
+    // than the work of the touched cells of each edit, where the edits have that work (`WorkOfEdits`): a law says that
+    // they have it where the report is written, and there it is no less than that of the edits that are taken. Of
+    // `check` as of `simulate`. Of `exercise` no more than the work of all cells, and where the summary is written
+    // exactly that.
     // Of `measure` one step after the folds. Of `curve` those that are counted as its statements find something: one for
     // each operator that is looked at, and of a closure those of its fold.
     ensures counts { Counts I.content (command_of (texts words.now)) inputs.old result steps.old steps.new }

@@ -13,6 +13,9 @@ pub cut_same : (a : List ℕ) → Cuts a a (Unit {0})
 cut_same [] r s e = (tt, e)
 cut_same (x ∷ xs) r s e = let rest : xs ++ r ≡ xs ++ s = cc in cut_same xs r s rest
 
+pub after_same : (a r s : List ℕ) → a ++ r ≡ a ++ s → r ≡ s
+after_same a r s e = (cut_same a r s e).1
+
 -- one after the other
 pub cut_join : (a b c d : List ℕ) (T U : Type 0) → Cuts a b T → Cuts c d U → Cuts (a ++ c) (b ++ d) (T × U)
 cut_join a b c d T U f g r s e =

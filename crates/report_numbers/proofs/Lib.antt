@@ -1,3 +1,4 @@
 mod Cuts
 mod Lines
 mod Values
+mod RunLines

@@ -29,7 +29,7 @@ use Rattle.report_numbers.specs.Laws.{IsShown}
 use Rattle.report_numbers.proofs.Cuts.{Cuts, cut_same, cut_join, cut_before, cut_as, cut_range, told_by}
 
 -- ---- what is shown
-lacks_below : (b : ℕ) (xs : List ℕ) → b < 45 → AreFrom 45 xs → lacks b xs ≡ true
+pub lacks_below : (b : ℕ) (xs : List ℕ) → b < 45 → AreFrom 45 xs → lacks b xs ≡ true
 lacks_below b [] l h = refl
 lacks_below b (x ∷ xs) l h = cond-false (x == b) false (lacks b xs) (ne_eqb x b (λ e. omega (arith, e, l, h.0.0))) ∙ lacks_below b xs l h.1
 
@@ -67,7 +67,7 @@ some_text Inf e = cc
 some_text (Fin x) e = over_some x.num x.pre e
 
 -- what is shown of a number is shown of it alone
-shows_number : (v : Option Meaning) (x : Ext) → IsPrintable x → number_text x ≡ shown_value v → v ≡ Some (number x)
+pub shows_number : (v : Option Meaning) (x : Ext) → IsPrintable x → number_text x ≡ shown_value v → v ≡ Some (number x)
 shows_number None x p e = absurd (some_text x e)
 shows_number (Some (curve f)) x p e = absurd (some_text x e)
 shows_number (Some (number y)) x p e = ap (λ z. Some (number z)) (sym (texts_tell_numbers x y p e))
@@ -83,25 +83,24 @@ SameShown at other kind a b = shown at kind a b ≡ shown other kind a b
 abbrev pub SameQueue : CellTable → CellTable → ℕ → ℕ → Type 0
 SameQueue at other s q = SameShown at other QueueDelay s q × SameShown at other QueueBacklog s q
 
+-- two values in a line: the first ends at a space, the second at the line's end
+pub cut_two : (p z a b c d : List ℕ) → lacks 32 a ≡ true → lacks 32 b ≡ true → lacks 10 c ≡ true → lacks 10 d ≡ true
+    → Cuts ((((p ++ a) ++ 32 ∷ z) ++ c) ++ codes "\n") ((((p ++ b) ++ 32 ∷ z) ++ d) ++ codes "\n") ((a ≡ b) × (c ≡ d))
+cut_two p z a b c d h k l m =
+    let n = codes "\n" in
+    cut_as (p ++ ((a ++ 32 ∷ z) ++ (c ++ n))) (p ++ ((b ++ 32 ∷ z) ++ (d ++ n))) ((((p ++ a) ++ 32 ∷ z) ++ c) ++ n) ((((p ++ b) ++ 32 ∷ z) ++ d) ++ n)
+    (Unit {0} × ((a ≡ b) × (c ≡ d))) ((a ≡ b) × (c ≡ d))
+    (queue_shape p a (32 ∷ z) c n) (queue_shape p b (32 ∷ z) d n) (λ t. t.1)
+    (cut_join p p ((a ++ 32 ∷ z) ++ (c ++ n)) ((b ++ 32 ∷ z) ++ (d ++ n)) (Unit {0}) ((a ≡ b) × (c ≡ d)) (cut_same p)
+    (cut_join (a ++ 32 ∷ z) (b ++ 32 ∷ z) (c ++ n) (d ++ n) (a ≡ b) (c ≡ d) (cut_before 32 a b z h k) (cut_before 10 c d [] l m)))
+
 cut_queue : (name : List ℕ) (at other : CellTable) (s q : ℕ) → Cuts (queue_line name at s q) (queue_line name other s q) (SameQueue at other s q)
 unfolding queue_line
 cut_queue name at other s q =
-    let p = codes "queue " ++ name ++ codes " " ++ decimal q ++ codes " delay " in
-    let a = shown at QueueDelay s q in
-    let b = shown other QueueDelay s q in
-    let c = shown at QueueBacklog s q in
-    let d = shown other QueueBacklog s q in
-    let z = codes " backlog " in
-    let n = codes "\n" in
-    cut_as (p ++ ((a ++ z) ++ (c ++ n))) (p ++ ((b ++ z) ++ (d ++ n))) ((((p ++ a) ++ z) ++ c) ++ n) ((((p ++ b) ++ z) ++ d) ++ n)
-    (Unit {0} × ((a ≡ b) × (c ≡ d))) ((a ≡ b) × (c ≡ d))
-    (queue_shape p a z c n) (queue_shape p b z d n) (λ t. t.1)
-    (cut_join p p ((a ++ z) ++ (c ++ n)) ((b ++ z) ++ (d ++ n)) (Unit {0}) ((a ≡ b) × (c ≡ d)) (cut_same p)
-    (cut_join (a ++ z) (b ++ z) (c ++ n) (d ++ n) (a ≡ b) (c ≡ d)
-    (cut_before 32 a b (codes "backlog ") (shown_lacks 32 (at (cell_of QueueDelay s q)) (omega arith) refl)
-    (shown_lacks 32 (other (cell_of QueueDelay s q)) (omega arith) refl))
-    (cut_before 10 c d [] (shown_lacks 10 (at (cell_of QueueBacklog s q)) (omega arith) refl)
-    (shown_lacks 10 (other (cell_of QueueBacklog s q)) (omega arith) refl))))
+    cut_two (codes "queue " ++ name ++ codes " " ++ decimal q ++ codes " delay ") (codes "backlog ") (shown at QueueDelay s q) (shown other QueueDelay s q)
+    (shown at QueueBacklog s q) (shown other QueueBacklog s q)
+    (shown_lacks 32 (at (cell_of QueueDelay s q)) (omega arith) refl) (shown_lacks 32 (other (cell_of QueueDelay s q)) (omega arith) refl)
+    (shown_lacks 10 (at (cell_of QueueBacklog s q)) (omega arith) refl) (shown_lacks 10 (other (cell_of QueueBacklog s q)) (omega arith) refl)
 
 flow_shape : (p s z r y t n : List ℕ) → (((((p ++ s) ++ z) ++ r) ++ y) ++ t) ++ n ≡ p ++ ((s ++ z) ++ ((r ++ y) ++ (t ++ n)))
 flow_shape p s z r y t n =

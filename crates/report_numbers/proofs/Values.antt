@@ -20,10 +20,13 @@ use Rattle.report_text.specs.CellWords.{server_name}
 use Rattle.report_text.specs.Shown.{shown, shown_value}
 use Rattle.report_text.specs.declared.json_report.form.Form.TheVariants.{Lines, Json}
 use Rattle.report_text.specs.json_report.Forms.{line_of}
-use Rattle.report_numbers.specs.Laws.{ReportsTellNumbers}
+use Rattle.report_text.specs.Report.{report_of}
+use Rattle.commands.specs.edit_report.EditReport.{edit_lines, said_data, edit_report_data}
+use Rattle.commands.specs.edit_report.Said.{EditSaid}
+use Rattle.report_numbers.specs.Laws.{ReportsTellNumbers, EditReportsTellNumbers}
 use Rattle.report_text.specs.json_report.ReportData.{text_member, queue_data, flow_data, server_queues, live_data, flow_at_data, flows_data, queues_data, report_members, report_data}
 use Rattle.report_text.proofs.Digits.{AreFrom, text_bytes}
-use Rattle.report_numbers.proofs.Cuts.{Cuts, cut_same, cut_join, cut_before, cut_as, cut_range}
+use Rattle.report_numbers.proofs.Cuts.{Cuts, cut_same, cut_join, cut_before, cut_as, cut_range, after_same}
 use Rattle.report_numbers.proofs.Lines.{SameQueue, SameFlow, ToldFlow, SameLines, shown_lacks, same_lines, tells_numbers}
 
 -- ---- strings
@@ -223,35 +226,62 @@ unfolding is_none
 none_live at other i None = refl
 none_live at other i (Some f) = refl
 
-values_tell : (net : Net) (at other : CellTable) → line_of (report_data net at) ≡ line_of (report_data net other) → SameLines net at other
-unfolding line_of
-values_tell net at other e =
-    let n = length net.servers in
-    let m = length net.flows in
-    let qs = λ (t : CellTable). queues_data net t in
-    let fs = λ (t : CellTable). flows_data net t in
-    let Q : ℕ → Type 0 = λ s. (q : ℕ) → q < queues net s → SameQueue at other s q in
-    let F : ℕ → Type 0 = λ i. ToldFlow at other i (flow_at net i) in
-    let AllQ : Type 0 = (s : ℕ) → s < n → Q s in
-    let AllF : Type 0 = (i : ℕ) → i < m → F i in
-    let of_queues = cut_as (flat_map (λ s. with_commas (server_queues net at s)) (range_with_len 0 n)) (flat_map (λ s. with_commas (server_queues net other s)) (range_with_len 0 n))
-    (with_commas (qs at)) (with_commas (qs other)) AllQ AllQ (commas_flat (server_queues net at) (range_with_len 0 n)) (commas_flat (server_queues net other) (range_with_len 0 n)) (λ t. t)
-    (cut_range (λ s. with_commas (server_queues net at s)) (λ s. with_commas (server_queues net other s)) Q n (λ s h. cut_server net at other s)) in
-    let of_flows = cut_as (flat_map (λ i. with_commas (flow_at_data net at i)) (range_with_len 0 m)) (flat_map (λ i. with_commas (flow_at_data net other i)) (range_with_len 0 m))
-    (with_commas (fs at)) (with_commas (fs other)) AllF AllF (commas_flat (flow_at_data net at) (range_with_len 0 m)) (commas_flat (flow_at_data net other) (range_with_len 0 m)) (λ t. t)
-    (cut_range (λ i. with_commas (flow_at_data net at i)) (λ i. with_commas (flow_at_data net other i)) F m (λ i h. cut_live at other i (flow_at net i))) in
-    let none_q = none_flat (server_queues net at) (server_queues net other)
-    (λ s. none_map (queue_data (server_name net s) at s) (queue_data (server_name net s) other s) (range_with_len 0 (queues net s))) (range_with_len 0 n) in
-    let none_f = none_flat (flow_at_data net at) (flow_at_data net other) (λ i. none_live at other i (flow_at net i)) (range_with_len 0 m) in
-    let last : (t : CellTable) → Members = λ t. member (codes "queues") (array (items_of (qs t))) no_members in
-    let whole = cut_object (report_members net at) (report_members net other) (AllF × (AllQ × Unit {0}))
-    (cut_member false (codes "flows") (array (items_of (fs at))) (array (items_of (fs other))) (last at) (last other) AllF (AllQ × Unit {0})
-    (cut_array (fs at) (fs other) AllF none_f of_flows)
-    (cut_member true (codes "queues") (array (items_of (qs at))) (array (items_of (qs other))) no_members no_members AllQ (Unit {0})
-    (cut_array (qs at) (qs other) AllQ none_q of_queues) cut_end)) in
-    let told = (whole (codes "\n") (codes "\n") e).0 in
-    record { queue = told.1.0; flow = told.0 }
+module _ (net : Net) (at other : CellTable) where
+  abbrev TellsQueues : Type 0
+  TellsQueues = (s : ℕ) → s < length net.servers → (q : ℕ) → q < queues net s → SameQueue at other s q
+
+  abbrev TellsFlows : Type 0
+  TellsFlows = (i : ℕ) → i < length net.flows → ToldFlow at other i (flow_at net i)
+
+  cut_members : (later : Bool) → Cuts (members_text later (report_members net at)) (members_text later (report_members net other)) (TellsFlows × (TellsQueues × Unit {0}))
+  cut_members later =
+      let n = length net.servers in
+      let m = length net.flows in
+      let qs = λ (t : CellTable). queues_data net t in
+      let fs = λ (t : CellTable). flows_data net t in
+      let Q : ℕ → Type 0 = λ s. (q : ℕ) → q < queues net s → SameQueue at other s q in
+      let F : ℕ → Type 0 = λ i. ToldFlow at other i (flow_at net i) in
+      let of_queues = cut_as (flat_map (λ s. with_commas (server_queues net at s)) (range_with_len 0 n)) (flat_map (λ s. with_commas (server_queues net other s)) (range_with_len 0 n))
+      (with_commas (qs at)) (with_commas (qs other)) TellsQueues TellsQueues (commas_flat (server_queues net at) (range_with_len 0 n)) (commas_flat (server_queues net other) (range_with_len 0 n)) (λ t. t)
+      (cut_range (λ s. with_commas (server_queues net at s)) (λ s. with_commas (server_queues net other s)) Q n (λ s h. cut_server net at other s)) in
+      let of_flows = cut_as (flat_map (λ i. with_commas (flow_at_data net at i)) (range_with_len 0 m)) (flat_map (λ i. with_commas (flow_at_data net other i)) (range_with_len 0 m))
+      (with_commas (fs at)) (with_commas (fs other)) TellsFlows TellsFlows (commas_flat (flow_at_data net at) (range_with_len 0 m)) (commas_flat (flow_at_data net other) (range_with_len 0 m)) (λ t. t)
+      (cut_range (λ i. with_commas (flow_at_data net at i)) (λ i. with_commas (flow_at_data net other i)) F m (λ i h. cut_live at other i (flow_at net i))) in
+      let none_q = none_flat (server_queues net at) (server_queues net other)
+      (λ s. none_map (queue_data (server_name net s) at s) (queue_data (server_name net s) other s) (range_with_len 0 (queues net s))) (range_with_len 0 n) in
+      let none_f = none_flat (flow_at_data net at) (flow_at_data net other) (λ i. none_live at other i (flow_at net i)) (range_with_len 0 m) in
+      let last : (t : CellTable) → Members = λ t. member (codes "queues") (array (items_of (qs t))) no_members in
+      cut_member later (codes "flows") (array (items_of (fs at))) (array (items_of (fs other))) (last at) (last other) TellsFlows (TellsQueues × Unit {0})
+      (cut_array (fs at) (fs other) TellsFlows none_f of_flows)
+      (cut_member true (codes "queues") (array (items_of (qs at))) (array (items_of (qs other))) no_members no_members TellsQueues (Unit {0})
+      (cut_array (qs at) (qs other) TellsQueues none_q of_queues) cut_end)
+
+  values_tell : line_of (report_data net at) ≡ line_of (report_data net other) → SameLines net at other
+  unfolding line_of
+  values_tell e =
+      let T : Type 0 = TellsFlows × (TellsQueues × Unit {0}) in
+      let told = (cut_object (report_members net at) (report_members net other) T (cut_members false) (codes "\n") (codes "\n") e).0 in
+      record { queue = told.1.0; flow = told.0 }
+
+  -- ---- the report on edits
+  edits_tell : (answers : List EditSaid) → line_of (edit_report_data net at answers) ≡ line_of (edit_report_data net other answers) → SameLines net at other
+  unfolding line_of
+  edits_tell answers e =
+      let T : Type 0 = TellsFlows × (TellsQueues × Unit {0}) in
+      let said : Data = array (items_of (map said_data answers)) in
+      let all : (t : CellTable) → Members = λ t. member (codes "edits") said (report_members net t) in
+      let told = (cut_object (all at) (all other) (Unit {0} × T)
+      (cut_member false (codes "edits") said said (report_members net at) (report_members net other) (Unit {0}) T (cut_same (compact_text said)) (cut_members true))
+      (codes "\n") (codes "\n") e).0 in
+      record { queue = told.1.1.0; flow = told.1.0 }
 
 pub reports_tell_numbers : ReportsTellNumbers
 reports_tell_numbers Lines net at other e = tells_numbers net at other (same_lines net at other e)
 reports_tell_numbers Json net at other e = tells_numbers net at other (values_tell net at other e)
+
+pub edit_reports_tell_numbers : EditReportsTellNumbers
+edit_reports_tell_numbers Lines net at other answers e =
+    let lines = edit_lines answers in
+    let rest : report_of net at ≡ report_of net other = after_same lines (report_of net at) (report_of net other) e in
+    tells_numbers net at other (same_lines net at other rest)
+edit_reports_tell_numbers Json net at other answers e = tells_numbers net at other (edits_tell net at other answers e)

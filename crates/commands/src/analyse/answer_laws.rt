@@ -2,7 +2,7 @@
 
 ghost use Rattle.commands.specs.analyse.AnswerLaws.{RepliesAreComplete, RepliesAreDetermined, StatusesHaveCauses, UnboundedIsInfinite};
 
-/// Two replies on one file have one status, and one text unless it tells a cycle.
+/// Two replies on one file have one status, and one text unless it tells a cycle (then, too, by a law of `netcalc_cli`).
 pub fn answers_are_determined()
     ensures { RepliesAreDetermined }
 {}

@@ -29,7 +29,8 @@ pub fn check_statuses_have_causes()
     ensures { StatusesHaveCauses }
 {}
 
-/// Two replies on the same files have one status, and one text unless it tells a cycle.
+/// Two replies on the same files have one status, and one text unless it tells a cycle (then, too, by a law of
+/// `netcalc_cli`).
 pub fn check_replies_are_determined()
     ensures { RepliesAreDetermined }
 {}

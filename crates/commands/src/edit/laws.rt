@@ -16,7 +16,7 @@ pub fn edit_replies_are_complete()
 {}
 
 /// Two replies on the same files have one status, and one text unless it tells a cycle, of the file's network or of one that
-/// an edit would make.
+/// an edit would make (then, too, by a law of `netcalc_cli`).
 pub fn edit_replies_are_determined()
     ensures { RepliesAreDetermined }
 {}

@@ -35,7 +35,8 @@ pub fn run_statuses_have_causes()
     ensures { StatusesHaveCauses }
 {}
 
-/// Two replies on the same files have one status, and one text unless it tells a cycle.
+/// Two replies on the same files have one status, and one text unless it tells a cycle (then, too, by a law of
+/// `netcalc_cli`).
 pub fn run_replies_are_determined()
     ensures { RepliesAreDetermined }
 {}

@@ -1,5 +1,5 @@
 -- The work of edits that have answers: what is touched by those that are taken, or have a cell over a limit; else none.
-use Rattle.std.proofs.Common.{◌≡◌, ℕ, ◌+◌, List, [], ◌∷◌, sum_by, inl, inr, refl, sym, ap, ◌∙◌, subst}
+use Rattle.std.proofs.Common.{◌≡◌, ℕ, ◌+◌, List, [], ◌∷◌, map, sum_by, inl, inr, refl, sym, ap, ◌∙◌, subst}
 use Rattle.std.specs.Prelude.{string_bytes}
 use Rattle.upp_limits.specs.declared.own_limits.OverLimit.{OverLimit}
 use Rattle.upp_limits.specs.declared.own_limits.OverLimit.TheVariants as limit
@@ -16,28 +16,33 @@ use Rattle.net_edits.specs.Edited.{edited}
 use Rattle.cell_store.specs.edit_store.Applied.{IsEvaluated}
 use Rattle.cell_store.proofs.edit_store.Steps.{gives_one}
 use Rattle.commands.specs.edit_report.Said.{EditSaid}
-use Rattle.commands.specs.edit.NetHistories.{NetHistory}
+use Rattle.input_texts.specs.table_text.Rows.{rows_of}
+use Rattle.input_texts.specs.table_text.EditRows.{edit_view}
+use Rattle.input_texts.proofs.table_text.OneEditList.{edits_one}
+use Rattle.commands.specs.edit.NetHistories.{NetHistory, begun}
 use Rattle.commands.specs.edit.Causes.{GoesRound, IsOverBy, IsCause}
-use Rattle.commands.specs.edit.Answered.{IsAnswered, Taken, Undone, Refused}
+use Rattle.commands.specs.edit.Answered.{IsAnswered, Taken, Undone, Refused, AreAnswered}
 use Rattle.commands.specs.edit.EditCounts.{IsWorkOf, IsTakenWork}
 use Rattle.commands.proofs.edit.Exclusive.{gives_not_over, gives_not_refused, undo_gives_none, nothing_pushed}
-use Rattle.existence.specs.edits.Laws.{EditsHaveWork}
+use Rattle.commands.proofs.edit.SameEdits.{answered_alike}
+use Rattle.commands.specs.command_replies.proofs.FirstFaults.{says}
+use Rattle.existence.specs.edits.Laws.{HasWork, EditsHaveWork, ListsHaveWork}
 
 -- ---- one edit
-abbrev HasWork : Net → Edit → Type 0
-HasWork present edit = (count : ℕ) × IsWorkOf present edit count
+abbrev EditHasWork : Net → Edit → Type 0
+EditHasWork present edit = (count : ℕ) × IsWorkOf present edit count
 
-none : (present : Net) (edit : Edit) → ¬ (IsEvaluated present edit) → HasWork present edit
+none : (present : Net) (edit : Edit) → ¬ (IsEvaluated present edit) → EditHasWork present edit
 none present edit h = (0, inr (h, refl))
 
-round : (present : Net) (edit : Edit) (walk : List ℕ) (net : Net) → GoesRound present edit walk net → HasWork present edit
+round : (present : Net) (edit : Edit) (walk : List ℕ) (net : Net) → GoesRound present edit walk net → EditHasWork present edit
 round present edit walk net c = none present edit (λ e.
     let one : net ≡ e.net = gives_one present edit net e.net c.gives e.gives in
     let order : IsOrder net e.order = subst (λ (n : Net). IsOrder n e.order) (sym one) e.servers in
     order_or_cycle.no_cycle net e.order walk c.accepted order c.cycle)
 
 over : (present : Net) (edit : Edit) (cell : Cell) (which : OverLimit) (net : Net) → IsOverBy present edit cell which net
-    → HasWork present edit
+    → EditHasWork present edit
 over present edit cell which net (inl o) =
     none present edit (λ e. gives_not_over (edited present edit) e.net cell which e.gives o.0)
 over present edit cell which net (inr h) = (
@@ -46,7 +51,7 @@ over present edit cell which net (inr h) = (
 )
 
 by_cause : (old : NetHistory) (edit : Edit) (fault : EditFault) (net : Net) → IsCause old edit fault net
-    → HasWork old.present edit
+    → EditHasWork old.present edit
 by_cause old edit (UnknownName name) net c = none old.present edit (λ e.
     gives_not_refused (edited old.present edit) e.net (unknown_name (string_bytes name)) e.gives c)
 by_cause old edit (NameTaken name) net c = none old.present edit (λ e.
@@ -63,7 +68,7 @@ by_cause old edit NothingToUndo net c = none old.present edit (λ e.
 by_cause old edit NoMemory net c = absurd c
 
 work_of : (old new : NetHistory) (edit : Edit) (said : EditSaid) → IsAnswered old edit said new
-    → HasWork old.present edit
+    → EditHasWork old.present edit
 work_of old new edit said (Taken h) = (
   sum_by (work new.present) h.touched,
   inl record { net = new.present; gives = h.gives; touched = h.touched; are = h.are; is = refl },
@@ -109,3 +114,28 @@ edits_have_work old (edit ∷ edits) (said ∷ more) last h =
         sum_done = refl;
       },
     )
+
+-- ---- edits with the same texts
+answered_too : (old : NetHistory) (es fs : List Edit) (ws : List EditSaid) (last : NetHistory) → map edit_view es ≡ map edit_view fs
+    → AreAnswered old fs ws last → AreAnswered old es ws last
+answered_too old [] [] ws last e h = h
+answered_too old [] (f ∷ fs) ws last e h = absurd (cc)
+answered_too old (d ∷ ds) [] ws last e h = absurd (cc)
+answered_too old (d ∷ ds) (f ∷ fs) [] last e h = absurd h
+answered_too old (d ∷ ds) (f ∷ fs) (w ∷ ws) last e h =
+    let head : edit_view d ≡ edit_view f = cc in
+    let tail : map edit_view ds ≡ map edit_view fs = cc in
+    record {
+      next = h.next;
+      first = answered_alike old d f head w h.next h.first;
+      rest = answered_too h.next ds fs ws last tail h.rest;
+    }
+
+pub lists_have_work : ListsHaveWork
+lists_have_work form net at net_bytes edits_bytes reply told first edits is asked =
+    let one = edits_one (rows_of edits_bytes) (map edit_view edits) (map edit_view told.edits) asked.are told.asked.are in
+    let same = (says net_bytes).one_network told.first first told.gives.reads is in
+    let r = told.report in
+    subst (λ (n : Net). HasWork (begun n) edits) same
+    (edits_have_work (begun told.first) edits r.answers r.last
+    (answered_too (begun told.first) edits told.edits r.answers r.last one r.answered))

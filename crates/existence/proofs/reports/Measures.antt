@@ -1,4 +1,4 @@
--- What `measure` answers where a file gives a network: its stages, one after the other.
+-- What `measure` answers: its stages, one after the other.
 use Rattle.std.proofs.Common.{ℕ, ◌^◌, List, length, Result, Ok, Err, refl, inl, inr}
 use Rattle.std.specs.Prelude.{codes}
 use Rattle.std.proofs.lemmas.Bool.{cases_lt}
@@ -25,12 +25,13 @@ use Rattle.measure_curve.proofs.Bursts.{line_finite, not_infinite, least_burst}
 use Rattle.measure_curve.proofs.Kept.{bounded}
 use Rattle.commands.specs.command_replies.specs.Replies.{Reply, over, table_fault_reply}
 use Rattle.outcomes.specs.Stages.{stops, goes_on}
-use Rattle.commands.specs.measure.OnMeasures.{IsMeasured, measure_report, unknown_flow, IsReplyOnPackets, IsReplyOnTrace, IsReplyOnNet}
+use Rattle.commands.specs.measure.OnMeasures.{IsMeasured, measure_report, unknown_flow, IsReplyOnPackets, IsReplyOnTrace, IsReplyOnNet, IsMeasureReply}
 use Rattle.commands.proofs.measure.Answering.{reported, steep, past}
 use Rattle.existence.specs.curves.Verticals.{Measures}
-use Rattle.existence.specs.reports.Laws.{MeasuresHaveReplies}
+use Rattle.existence.specs.reports.Laws.{StopsOrGives, MeasuresHaveReplies}
 use Rattle.existence.proofs.curves.Verticals.{vertical_answered}
 use Rattle.existence.proofs.reports.Measured.{measured_curve}
+use Rattle.existence.proofs.reports.Reports.{first_stages}
 use Rattle.existence.proofs.texts.EachTable.{flow_or_none, traces_are_read}
 use Rattle.existence.proofs.texts.KeptTraces.{packets_kept}
 
@@ -94,7 +95,14 @@ on_net net trace_file trace_bytes name rate low = elim (traces_are_read net trac
   )
 ]
 
+-- ---- on files
+by_stage : (net_file net_bytes trace_file trace_bytes name : List ℕ) (rate : ℚ) → zero_q ≤ℚ rate → StopsOrGives net_file net_bytes
+    → (reply : Reply) × IsMeasureReply net_file net_bytes trace_file trace_bytes name rate reply
+by_stage net_file net_bytes trace_file trace_bytes name rate low (inl none) = (none.0, stops none.1)
+by_stage net_file net_bytes trace_file trace_bytes name rate low (inr given) =
+    let on = on_net given.0 trace_file trace_bytes name rate low in
+    (on.0, goes_on given.0 given.1 on.1)
+
 pub measures_have : MeasuresHaveReplies
-measures_have net_file net_bytes trace_file trace_bytes name rate net low gives =
-    let on = on_net net trace_file trace_bytes name rate low in
-    (on.0, goes_on net gives on.1)
+measures_have net_file net_bytes trace_file trace_bytes name rate low =
+    by_stage net_file net_bytes trace_file trace_bytes name rate low (first_stages net_file net_bytes)

@@ -1,5 +1,5 @@
--- The curves of a network that a file gives are in normal form and readable, and so the file has a report.
-use Rattle.std.specs.Prelude.{◌≡◌, ℕ, length, map, List, [], ◌∷◌, Option, Some, None, Bool, true, false, Ok, All, slice_get}
+-- The curves of a network that a file gives are in normal form and readable, and so the file has a report; each file has a reply.
+use Rattle.std.specs.Prelude.{◌≡◌, ℕ, length, map, List, [], ◌∷◌, Option, Some, None, Bool, true, false, Ok, Err, All, slice_get}
 use Rattle.std.proofs.Common.{refl, sym, ◌∙◌, subst, inl, inr}
 use Rattle.std.proofs.lemmas.Bool.{cases_lt}
 use Rattle.std.proofs.lemmas.List.Elements.{All-contains}
@@ -9,7 +9,7 @@ use Rattle.upp_limits.specs.upp_curve.specs.Curve.{SpecCurve}
 use Rattle.upp_limits.specs.upp_curve.specs.Curves.{IsCurve}
 use Rattle.net_model.specs.Networks.{Net, NetServer, NetFlow}
 use Rattle.net_draft.specs.Drafts.{draft_of}
-use Rattle.net_draft.specs.Faults.{Fault}
+use Rattle.net_draft.specs.Faults.{Fault, Read}
 use Rattle.net_draft.specs.Texts.{FlowText, CurveText, DraftText}
 use Rattle.net_text.specs.Becoming.{Becomes, limit_fault}
 use Rattle.net_text.specs.Built.{IsServerOf, IsLiveFlowOf, IsBuilt}
@@ -36,8 +36,8 @@ use Rattle.commands.specs.analyse.OnFiles.{report, IsReplyOn, IsReplyOnNet}
 use Rattle.run_watch.specs.simulated_sizes.Laws.{AreCurves}
 use Rattle.existence.proofs.tables.Sound.{zero_is}
 use Rattle.existence.proofs.tables.Tables.{tables_or_limits}
-use Rattle.existence.specs.drafts.Drafts.{HasNetworkOrFault}
-use Rattle.existence.specs.reports.Laws.{FilesHaveReports, HaveReplies, NetworksHaveReplies, BrokenFilesHaveReplies, StopsOrGives, FirstStagesEnd, BrokenFilesStop}
+use Rattle.existence.proofs.drafts.Files.{drafts_have_networks}
+use Rattle.existence.specs.reports.Laws.{FilesHaveReports, FilesHaveReplies, StopsOrGives, FirstStagesEnd}
 
 abbrev LiveCurve : Option NetFlow → Type 0
 LiveCurve o = IsCurve (arrival_of o)
@@ -117,12 +117,7 @@ on_net form bytes net g = elim (order_or_round net g.accepted) [
   | inr c ↦ (goes_round (map (server_name net) c.0), stops record { walk = c.0; cycle = c.1; is = refl })
 ]
 
-pub networks_have_replies : NetworksHaveReplies
-networks_have_replies net form file bytes g =
-    let next = on_net form bytes net g in
-    (next.0, goes_on net g next.1)
-
--- ---- by a draft
+-- ---- by what the tables say
 -- the first of some curves over a limit is over one, at a place
 limit_of : (es : List PlacedCurve) (f : Fault) → FirstCurveOver OverFold es f
     → (limit : OverLimit) × (place : List ℕ) × (f ≡ limit_fault limit place)
@@ -145,8 +140,9 @@ on_fault file bytes d f is first =
       ),
     )
 
-pub first_stages : (d : DraftText) → HasNetworkOrFault d → FirstStagesEnd (λ bytes. draft_of bytes ≡ Ok d)
-first_stages d h file bytes is = elim h [
+by_draft : (file bytes : List ℕ) (r : Read DraftText) → draft_of bytes ≡ r → StopsOrGives file bytes
+by_draft file bytes (Err fault) is = inl (breaks_rule file fault, inl record { fault = fault; first = is; is = refl })
+by_draft file bytes (Ok d) is = elim (drafts_have_networks bytes d is) [
   | inl n ↦ inr (
     n.net,
     record { reads = record { draft = d; is_draft = is; built = n.built }; accepted = n.accepted },
@@ -154,16 +150,15 @@ first_stages d h file bytes is = elim h [
   | inr over ↦ inl (on_fault file bytes d over.0 is over.1)
 ]
 
-pub broken_stop : BrokenFilesStop
-broken_stop fault file bytes is = inl (breaks_rule file fault, inl record { fault = fault; first = is; is = refl })
+pub first_stages : FirstStagesEnd
+first_stages file bytes = by_draft file bytes (draft_of bytes) refl
 
 -- so `analyse` has a reply
 by_stage : (form : Form) (file bytes : List ℕ) → StopsOrGives file bytes → (reply : Reply) × IsReplyOn form file bytes reply
 by_stage form file bytes (inl none) = (none.0, stops none.1)
-by_stage form file bytes (inr given) = networks_have_replies given.0 form file bytes given.1
+by_stage form file bytes (inr given) =
+    let next = on_net form bytes given.0 given.1 in
+    (next.0, goes_on given.0 given.1 next.1)
 
-pub drafts_have : (d : DraftText) → HasNetworkOrFault d → HaveReplies (λ bytes. draft_of bytes ≡ Ok d)
-drafts_have d h form file bytes is = by_stage form file bytes (first_stages d h file bytes is)
-
-pub broken_have : BrokenFilesHaveReplies
-broken_have fault form file bytes is = by_stage form file bytes (broken_stop fault file bytes is)
+pub replies_exist : FilesHaveReplies
+replies_exist form file bytes = by_stage form file bytes (first_stages file bytes)

@@ -16,7 +16,7 @@ use Rattle.input_texts.specs.curve_script.Lines.{is_skipped}
 use Rattle.input_texts.specs.curve_script.Scripts.{Numbered, IsNext, IsScriptFrom}
 
 -- ---- one number
-over_small : (z : ℤ) (q : ℕ) → q ≢ 0 → nat_abs z < 2 ^ 127 → q < 2 ^ 127 → IsSmall (over z q)
+pub over_small : (z : ℤ) (q : ℕ) → q ≢ 0 → nat_abs z < 2 ^ 127 → q < 2 ^ 127 → IsSmall (over z q)
 over_small z zero n h k = absurd (n refl)
 over_small z (suc d) n h k = small_ratio z (pos (suc d)) (λ e. n (ap nat_abs e)) h k
 
@@ -59,13 +59,17 @@ from_parts minus top bottom x e =
     (over_small (signed_value minus p) q (eqb-false q 0 t.some) (let l : nat_abs (signed_value minus p) < 2 ^ 127 = omega arith in l)
     (let l : q < 2 ^ 127 = omega arith in l))
 
+-- as the text of a whole number or a quotient
+pub parsed_small : (w : List ℕ) (x : ℚ) → parse_of w ≡ Ok x → IsSmall x
+parsed_small w x e = from_parts (starts_with_minus w) (top_text w) (bottom_text w) x e
+
 of_read : (r : Result ℚ FracText) (x : ℚ) → number_of r ≡ Some x → r ≡ Ok x
 of_read (Ok y) x e = let same : y ≡ x = cc in ap (λ (q : ℚ). Ok q) same
 of_read (Err fault) x e = absurd (cc)
 
 number_small : (w : List ℕ) (x : ℚ) → number_in w ≡ Some x → IsSmall x
 unfolding number_in
-number_small w x e = from_parts (starts_with_minus w) (top_text w) (bottom_text w) x (of_read (parse_of w) x e)
+number_small w x e = parsed_small w x (of_read (parse_of w) x e)
 
 -- ---- expressions
 -- the numbers that have no limit of their own, which are the bursts of token buckets

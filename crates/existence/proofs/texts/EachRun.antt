@@ -15,7 +15,8 @@ use Rattle.run_check.specs.declared.run_table.fault.RunKind.TheVariants.{T5, T7,
 use Rattle.run_check.specs.declared.run_table.run_rows.RunEntry.TheVariants.{Does}
 use Rattle.run_check.specs.run_table.RunRows.{Read, RunRow, enter_row, reach_row, work_row, leave_row, visit_row, end_row, run_row, NamesStep, IsUnknown, Gives}
 use Rattle.run_check.specs.run_table.Runs.{Give, GiveSteps, GiveAll, IsRunOf, IsWrong, IsFirstFault}
-use Rattle.existence.specs.texts.Laws.{RunsAreRead}
+use Rattle.commands.specs.check.Checked.{run_fault_reply}
+use Rattle.existence.specs.texts.Laws.{RunsAreRead, RunStagesEnd}
 use Rattle.run_check.proofs.run_table.RunSteps.{packets_behind}
 use Rattle.existence.proofs.texts.Pushed.{steps_more}
 
@@ -120,3 +121,12 @@ run_from net text (row ∷ rest) before steps e given room = elim (cases_lt (len
 
 pub runs_are_read : RunsAreRead
 runs_are_read net text = run_from net text (rows_of text) [] [] refl tt (omega arith)
+
+pub run_stages_end : RunStagesEnd
+run_stages_end net run_file run_bytes = elim (runs_are_read net run_bytes) [
+  | inl read ↦ inr read
+  | inr bad ↦ inl (
+    run_fault_reply run_file record { kind = bad.0; row = bad.1 },
+    record { fault = record { kind = bad.0; row = bad.1 }; first = bad.2; is = refl },
+  )
+]

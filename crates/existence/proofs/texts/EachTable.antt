@@ -24,7 +24,9 @@ use Rattle.input_texts.specs.table_text.EditLists.{most_edits, AreEditsOf, IsEdi
 use Rattle.input_texts.specs.table_text.TraceRows.{TraceRow, packet_row, stall_row, trace_row, Names, IsUnknown, Gives}
 use Rattle.input_texts.specs.table_text.Traces.{most_rows, packets_in, stalls_in, IsTraceOf, IsEarlier, IsWrong, IsFirstFault}
 use Rattle.input_texts.specs.table_text.Kept.{Follows}
-use Rattle.existence.specs.texts.Laws.{EditsAreRead, TracesAreRead}
+use Rattle.commands.specs.command_replies.specs.Replies.{table_fault_reply}
+use Rattle.existence.specs.texts.Laws.{EditsAreRead, ListStagesEnd, TracesAreRead, TraceStagesEnd}
+use Rattle.existence.proofs.texts.KeptTraces.{traces_stand}
 use Rattle.existence.proofs.texts.Pushed.{packets_more, stalls_more, give_more, ordered_more}
 
 -- ---- lists of edits
@@ -69,6 +71,15 @@ edits_from text (row ∷ rest) before es e h = elim (cases_lt (length before) mo
 
 pub edits_are_read : EditsAreRead
 edits_are_read text = edits_from text (rows_of text) [] [] refl record { each = refl; few = omega arith }
+
+pub list_stages_end : ListStagesEnd
+list_stages_end edits_file edits_bytes = elim (edits_are_read edits_bytes) [
+  | inl read ↦ inr (read.0, record { are = read.1 })
+  | inr bad ↦ inl (
+    table_fault_reply edits_file record { kind = bad.0; row = bad.1 },
+    record { fault = record { kind = bad.0; row = bad.1 }; first = bad.2; is = refl },
+  )
+]
 
 -- ---- names
 same_name : (a b : List ℕ) → (a ≡ b) ⊎ ¬ (a ≡ b)
@@ -215,3 +226,14 @@ traces_are_read net text = trace_from net text (rows_of text) [] record { packet
   stalls = refl;
   in_order = λ i j d l h. absurd (omega (arith, h));
 }
+
+pub trace_stages_end : TraceStagesEnd
+trace_stages_end net trace_file trace_bytes = elim (traces_are_read net trace_bytes) [
+  | inl read ↦
+      let stands = traces_stand net (rows_of trace_bytes) read.0 read.1 in
+      inr (read.0, record { reads = read.1; keeps = stands.0 })
+  | inr bad ↦ inl (
+    table_fault_reply trace_file record { kind = bad.0; row = bad.1 },
+    record { fault = record { kind = bad.0; row = bad.1 }; first = bad.2; is = refl },
+  )
+]

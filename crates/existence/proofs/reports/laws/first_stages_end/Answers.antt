@@ -1,6 +1,5 @@
-use Rattle.net_draft.specs.DraftViews.{draft_text}
 use Rattle.existence.proofs.reports.Reports.{first_stages}
 use Rattle.existence.proofs.reports.laws.first_stages_end.Goals as goal
 
 pub returns : goal.returns
-returns c = first_stages (draft_text c.args.draft.now) c.drafts_have_networks.ensures
+returns c = first_stages
