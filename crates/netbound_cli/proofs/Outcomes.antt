@@ -11,7 +11,7 @@ use Rattle.bounds_command.specs.Replies.{Reply, cannot_read, too_long}
 use Rattle.bounds_command.specs.View.{code_of}
 use Rattle.bounds_command.proofs.OneReply as law
 use Rattle.netbound_cli.specs.words.Requests.{Bounds, Help, Request, Version}
-use Rattle.outside.specs.Fetching.{AsksForAll, AsksInOrder}
+use Rattle.outside.specs.Fetching.{FetchesAll}
 use Rattle.netbound_cli.specs.Calls.{Call, call_of, files_of, form_of, names_of, text_of}
 use Rattle.netbound_cli.specs.Files.{AllFit, FirstIs, FirstLong, IsTooLong, MayHoldAll, Told, all_told}
 use Rattle.netbound_cli.specs.Laws.{RepliesAreDetermined}
@@ -20,6 +20,7 @@ use Rattle.netbound_cli.specs.Reply.{IsOnBoth, IsStatus, IsReplyAsking, IsReplyO
 use Rattle.netbound_cli.specs.Files.{most_bytes}
 use Rattle.outside.proofs.FileLemmas.{any_told, ended, first_map, first_shows, long_first, long_one, long_shows}
 use Rattle.outside.proofs.FileLemmas.{not_long, on_told, same_told}
+use Rattle.outside.proofs.Fetches.{fetches_none}
 
 -- ---- what the inputs may bring
 -- fetching ended at a file
@@ -187,13 +188,9 @@ not_at_file faults last_fault told asks names old new reply h both =
     apart n is a b c (inr (inr e)) = c (sym is ∙ e)
 
 -- ---- asked for
-pub asks_none : {I : Type 0} (asked : I → List (List ℕ)) (names : List (List ℕ)) (inputs : I)
-    → AsksInOrder asked names inputs inputs
-asks_none asked names inputs = record { count = 0; few = omega arith; are = sym (append-nil (asked inputs)) }
-
-pub text_asks : {I : Type 0} (asked : I → List (List ℕ)) (request : Option Request) (inputs : I)
-    → call_of request ≡ None → AsksForAll asked (names_of request) inputs inputs
-text_asks asked request inputs none = rw none (sym (append-nil (asked inputs)))
+pub text_asks : {I : Type 0} (asked had : I → List (List ℕ)) (request : Option Request) (inputs : I)
+    → call_of request ≡ None → FetchesAll asked had (names_of request) inputs inputs
+text_asks asked had request inputs none = rw none (fetches_none asked had inputs)
 
 pub not_failed : (status : ℕ) → IsOnBoth status → (status ≢ 4) × (status ≢ 5)
 not_failed status both = (

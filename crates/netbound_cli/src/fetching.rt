@@ -1,7 +1,7 @@
 //! The tables of a call, fetched in order.
 
-ghost use Rattle.std.specs.Prelude.{◌≡◌, ◌≤◌, [], ◌∷◌, List, ℕ, length, IfOk, IfErr, OnOk};
-ghost use Rattle.outside.specs.Fetching.{AsksForAll, AsksInOrder};
+ghost use Rattle.std.specs.Prelude.{◌≡◌, ◌≤◌, [], ◌∷◌, List, ℕ, length, IfOk, IfErr, OnOk, OnErr};
+ghost use Rattle.outside.specs.Fetching.{AsksForAll, FetchesAll, FetchesUpTo};
 ghost use Rattle.bounds_command.specs.View.{reply_of};
 ghost use Rattle.netbound_cli.specs.Files.{most_bytes, MayHold, MayHoldAll, AllFit, FirstIs};
 ghost use Rattle.netbound_cli.specs.Reply.{EndsAt, AsksUpTo, asks_of};
@@ -23,6 +23,8 @@ fn fetch_one<I: Inputs>(alloc: Global, file: &str, inputs: &mut I) -> Result<Vec
     ensures ended { IfErr result (λ ended. IfOk ended (λ r.
         EndsAt I.faults I.last_fault (I.content inputs.old) inputs.old inputs.new (reply_of r) file.now)) }
     ensures asked { AsksForAll I.asked (file.now ∷ []) inputs.old inputs.new }
+    ensures all { OnOk result (FetchesAll I.asked I.had (file.now ∷ []) inputs.old inputs.new) }
+    ensures not_had { OnErr result (I.had inputs.new ≡ I.had inputs.old) }
     ensures count { I.faults inputs.old ≤ I.faults inputs.new }
     ensures same { (other : List ℕ) → I.content inputs.new other ≡ I.content inputs.old other }
 {
@@ -48,6 +50,8 @@ fn fetch_after<I: Inputs>(
     ensures ended { IfErr result (λ ended. IfOk ended (λ r.
         EndsAt I.faults I.last_fault (I.content inputs.old) inputs.old inputs.new (reply_of r) file.now)) }
     ensures asked { AsksForAll I.asked (file.now ∷ []) inputs.old inputs.new }
+    ensures all { OnOk result (FetchesAll I.asked I.had (file.now ∷ []) inputs.old inputs.new) }
+    ensures not_had { OnErr result (I.had inputs.new ≡ I.had inputs.old) }
 {
     match fetch_one(alloc, file, inputs) {
         Ok(bytes) => Ok((before, bytes)),
@@ -69,8 +73,8 @@ pub(crate) fn fetch_two<I: Inputs>(
         (λ file. EndsAt I.faults I.last_fault (I.content inputs.old) inputs.old inputs.new (reply_of r) file
         × AsksUpTo (asks_of I.asked inputs.old inputs.new) (first.now ∷ second.now ∷ []) file)
         (first.now ∷ second.now ∷ []))) }
-    ensures asked { AsksInOrder I.asked (first.now ∷ second.now ∷ []) inputs.old inputs.new }
-    ensures all { OnOk result (AsksForAll I.asked (first.now ∷ second.now ∷ []) inputs.old inputs.new) }
+    ensures asked { FetchesUpTo I.asked I.had (first.now ∷ second.now ∷ []) inputs.old inputs.new }
+    ensures all { OnOk result (FetchesAll I.asked I.had (first.now ∷ second.now ∷ []) inputs.old inputs.new) }
 {
     match fetch_one(alloc, first, inputs) {
         Ok(bytes) => fetch_after(alloc, bytes, second, inputs),

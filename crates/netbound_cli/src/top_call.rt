@@ -1,7 +1,7 @@
 //! The top call.
 
 ghost use Rattle.std.specs.Prelude.{◌≡◌, ◌≢◌, ◌≤◌, ◌⊎◌, ◌++◌, ◌∷◌, [], ℕ, List, true, false, None, Some, IfSome, IfOk};
-ghost use Rattle.outside.specs.Fetching.{AsksForAll, AsksInOrder};
+ghost use Rattle.outside.specs.Fetching.{FetchesAll, FetchesUpTo};
 ghost use Rattle.bounds_command.specs.Laws.{IsReport};
 ghost use Rattle.bounds_command.specs.OnTables.{IsFaulty, IsCyclic};
 ghost use Rattle.bounds_command.specs.Replies.{Reply, cannot_read, too_long};
@@ -47,9 +47,9 @@ fn answer_to<I: Inputs>(alloc: Global, asked: Bounds, inputs: &mut I) -> Result<
     requires { asked.overhead ≤ 1048576 }
     ensures reply { IfOk result (λ r. MayReplyTo I.faults I.last_fault (I.content inputs.old)
         (asks_of I.asked inputs.old inputs.new) (bounds_call asked.entry) inputs.old inputs.new (reply_of r)) }
-    ensures asked { AsksInOrder I.asked (files_of (bounds_call asked.entry)) inputs.old inputs.new }
+    ensures asked { FetchesUpTo I.asked I.had (files_of (bounds_call asked.entry)) inputs.old inputs.new }
     ensures all { IfOk result (λ r. IsOnBoth (code_of r.status) →
-        AsksForAll I.asked (files_of (bounds_call asked.entry)) inputs.old inputs.new) }
+        FetchesAll I.asked I.had (files_of (bounds_call asked.entry)) inputs.old inputs.new) }
 {
     let form = form_of(asked.json);
     match fetch_two(alloc, asked.ports, asked.links, inputs) {
@@ -70,9 +70,9 @@ fn answer_to<I: Inputs>(alloc: Global, asked: Bounds, inputs: &mut I) -> Result<
 fn answered<I: Inputs>(alloc: Global, words: &[String], inputs: &mut I) -> Result<Answer, NoMemory>
     ensures reply { IfOk result (λ r. MayReply I.content I.faults I.last_fault I.asked
         (spec.request_of (spec.texts words.now)) inputs.old inputs.new (reply_of r)) }
-    ensures asked { AsksInOrder I.asked (names_of (spec.request_of (spec.texts words.now))) inputs.old inputs.new }
+    ensures asked { FetchesUpTo I.asked I.had (names_of (spec.request_of (spec.texts words.now))) inputs.old inputs.new }
     ensures all { IfOk result (λ r. IsOnBoth (code_of r.status) →
-        AsksForAll I.asked (names_of (spec.request_of (spec.texts words.now))) inputs.old inputs.new) }
+        FetchesAll I.asked I.had (names_of (spec.request_of (spec.texts words.now))) inputs.old inputs.new) }
 {
     match request_of(alloc, words) {
         Ok(Request::Bounds(asked)) => answer_to(alloc, asked, inputs),
@@ -160,11 +160,11 @@ pub fn run<I: Inputs, K: Sink>(alloc: Global, words: &[String], inputs: &mut I, 
         inputs.old inputs.new reply
         × Gives result (output K.written K.puts out.old) (output K.written K.puts out.new) reply }
 
-    // The files that the words name are asked for in their order, each once and no other, up to one that is not had:
-    // for a text none, and all for an answer on what they hold.
-    ensures asked { AsksInOrder I.asked (names_of (spec.request_of (spec.texts words.now))) inputs.old inputs.new }
+    // Only the files that the words name are asked for, in their order, each once, and none behind one that is not had,
+    // at 5 too: for a text none; all are had for an answer on what they hold.
+    ensures asked { FetchesUpTo I.asked I.had (names_of (spec.request_of (spec.texts words.now))) inputs.old inputs.new }
     ensures asked_all { IsOnBoth result →
-        AsksForAll I.asked (names_of (spec.request_of (spec.texts words.now))) inputs.old inputs.new }
+        FetchesAll I.asked I.had (names_of (spec.request_of (spec.texts words.now))) inputs.old inputs.new }
 
     // There is one put, of the bytes of such a reply, at 4 too; at 5 there is none.
     ensures one_put { result ≢ 5 → (reply : Reply)

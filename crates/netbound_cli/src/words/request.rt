@@ -44,7 +44,7 @@ pub enum Request<'a> {
 }
 
 /// Why words ask for nothing.
-#[derive(Clone, Copy, Debug, PartialEq, Eq)]
+#[derive(Clone, Copy, Debug)]
 pub enum WordFault {
     /// They are not taken.
     NotTaken,

@@ -1,6 +1,6 @@
-use Rattle.std.proofs.Common.{[], ◌∷◌, inl, inr, refl, arith}
+use Rattle.std.proofs.Common.{[], ◌∷◌, inl, inr, refl}
 use Rattle.std.proofs.lemmas.Result.{IfErr-weaker, IfOk-weaker}
-use Rattle.outside.proofs.Fetches.{asked_both, ends_later, on_ok, two_held, two_fit}
+use Rattle.outside.proofs.Fetches.{asked_both, ends_later, up_to_second, both_on_ok, stops_at_first, two_held, two_fit}
 use Rattle.bounds_command.specs.Replies.{cannot_read, too_long}
 use Rattle.bounds_command.specs.View.{reply_of}
 use Rattle.netbound_cli.specs.Files.{most_bytes}
@@ -47,20 +47,17 @@ returns-in-Err-clause-ended g c =
 
 -- both are asked for, or the first alone
 pub returns-in-Ok-clause-asked : goal.returns-in-Ok-clause-asked
-returns-in-Ok-clause-asked g c = record {
-  count = 2;
-  few = omega arith;
-  are = asked_both (g.I.Inputs.asked c.args.inputs.now) (g.I.Inputs.asked c.fetch_one.new.inputs)
-      (g.I.Inputs.asked c.fetch_after.new.inputs) c.args.first.now c.args.second.now c.fetch_one.ensures.asked
-      c.fetch_after.ensures.asked;
-}
+returns-in-Ok-clause-asked g c =
+    up_to_second g.I.Inputs.asked g.I.Inputs.had c.args.first.now c.args.second.now c.args.inputs.now c.fetch_one.new.inputs
+    c.fetch_after.new.inputs c.fetch_after.result c.in-Ok.ensures.all c.fetch_after.ensures.asked c.fetch_after.ensures.all
+    c.fetch_after.ensures.not_had
 
 pub returns-in-Ok-clause-all : goal.returns-in-Ok-clause-all
 returns-in-Ok-clause-all g c =
-    on_ok c.fetch_after.result
-    (asked_both (g.I.Inputs.asked c.args.inputs.now) (g.I.Inputs.asked c.fetch_one.new.inputs)
-    (g.I.Inputs.asked c.fetch_after.new.inputs) c.args.first.now c.args.second.now c.fetch_one.ensures.asked
-    c.fetch_after.ensures.asked)
+    both_on_ok g.I.Inputs.asked g.I.Inputs.had c.args.first.now c.args.second.now c.args.inputs.now c.fetch_one.new.inputs
+    c.fetch_after.new.inputs c.fetch_after.result c.in-Ok.ensures.all c.fetch_after.ensures.all
 
 pub returns-in-Err-clause-asked : goal.returns-in-Err-clause-asked
-returns-in-Err-clause-asked g c = record { count = 1; few = omega arith; are = c.fetch_one.ensures.asked }
+returns-in-Err-clause-asked g c =
+    stops_at_first g.I.Inputs.asked g.I.Inputs.had c.args.first.now (c.args.second.now ∷ []) c.args.inputs.now
+    c.fetch_one.new.inputs c.fetch_one.ensures.asked c.in-Err.ensures.not_had

@@ -14,7 +14,7 @@ returns-in-Ok-clause-reply g c =
     c.args.inputs.now c.fetch_two.new.inputs (reply_of r) (c.in-Ok.ports.items ∷ c.in-Ok.links.items ∷ [])
     c.in-Ok.ensures.held c.in-Ok.ensures.fit
     (rw (c.deref.ensures.value, c.deref-in-Ok.ensures.value, c.form_of-form.ensures) at on)
-    c.in-Ok.ensures.all)
+    c.in-Ok.ensures.all.asked_for)
     c.on_tables.ensures
 
 pub returns-in-Err-clause-reply : goal.returns-in-Err-clause-reply

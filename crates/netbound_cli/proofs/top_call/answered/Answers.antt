@@ -4,7 +4,8 @@ use Rattle.bounds_command.specs.View.{reply_of}
 use Rattle.netbound_cli.specs.words.Requests.{Help, Version, request_of, texts}
 use Rattle.netbound_cli.specs.words.View.{bounds_view}
 use Rattle.netbound_cli.specs.Calls.{bounds_call, call_of, names_of}
-use Rattle.netbound_cli.proofs.Outcomes.{asks_none, may_reply_text, text_asks}
+use Rattle.outside.proofs.Fetches.{asks_none}
+use Rattle.netbound_cli.proofs.Outcomes.{may_reply_text, text_asks}
 use Rattle.netbound_cli.proofs.top_call.answered.Goals as goal
 
 pub returns-in-Ok-Help-clause-reply : goal.returns-in-Ok-Help-clause-reply
@@ -58,37 +59,37 @@ returns-in-Ok-Bounds-clause-all g c =
     rw asked c.answer_to.ensures.all
 
 pub returns-in-Ok-Help-clause-asked : goal.returns-in-Ok-Help-clause-asked
-returns-in-Ok-Help-clause-asked g c = asks_none g.I.Inputs.asked (names_of (request_of (texts c.args.words.now))) c.args.inputs.now
+returns-in-Ok-Help-clause-asked g c = asks_none g.I.Inputs.asked g.I.Inputs.had (names_of (request_of (texts c.args.words.now))) c.args.inputs.now
 
 pub returns-in-Ok-Help-clause-all : goal.returns-in-Ok-Help-clause-all
 returns-in-Ok-Help-clause-all g c =
     let asked : request_of (texts c.args.words.now) ≡ Some Help = rw c.in-Ok-Help.field-0-is at
     c.in-Ok-Help.ensures.request in
     IfOk-weaker c.text_answer.result _ _
-    (λ r is both. text_asks g.I.Inputs.asked (request_of (texts c.args.words.now)) c.args.inputs.now (ap call_of asked))
+    (λ r is both. text_asks g.I.Inputs.asked g.I.Inputs.had (request_of (texts c.args.words.now)) c.args.inputs.now (ap call_of asked))
     c.text_answer.ensures
 
 pub returns-in-Ok-Version-clause-asked : goal.returns-in-Ok-Version-clause-asked
-returns-in-Ok-Version-clause-asked g c = asks_none g.I.Inputs.asked (names_of (request_of (texts c.args.words.now))) c.args.inputs.now
+returns-in-Ok-Version-clause-asked g c = asks_none g.I.Inputs.asked g.I.Inputs.had (names_of (request_of (texts c.args.words.now))) c.args.inputs.now
 
 pub returns-in-Ok-Version-clause-all : goal.returns-in-Ok-Version-clause-all
 returns-in-Ok-Version-clause-all g c =
     let asked : request_of (texts c.args.words.now) ≡ Some Version = rw c.in-Ok-Version.field-0-is at
     c.in-Ok-Version.ensures.request in
     IfOk-weaker c.text_answer-in-Ok-Version.result _ _
-    (λ r is both. text_asks g.I.Inputs.asked (request_of (texts c.args.words.now)) c.args.inputs.now (ap call_of asked))
+    (λ r is both. text_asks g.I.Inputs.asked g.I.Inputs.had (request_of (texts c.args.words.now)) c.args.inputs.now (ap call_of asked))
     c.text_answer-in-Ok-Version.ensures
 
 pub returns-in-Err-NotTaken-clause-asked : goal.returns-in-Err-NotTaken-clause-asked
-returns-in-Err-NotTaken-clause-asked g c = asks_none g.I.Inputs.asked (names_of (request_of (texts c.args.words.now))) c.args.inputs.now
+returns-in-Err-NotTaken-clause-asked g c = asks_none g.I.Inputs.asked g.I.Inputs.had (names_of (request_of (texts c.args.words.now))) c.args.inputs.now
 
 pub returns-in-Err-NotTaken-clause-all : goal.returns-in-Err-NotTaken-clause-all
 returns-in-Err-NotTaken-clause-all g c =
     let asked : request_of (texts c.args.words.now) ≡ None = rw c.in-Err-NotTaken.field-0-is at
     c.in-Err-NotTaken.ensures.request in
     IfOk-weaker c.text_answer-in-Err-NotTaken.result _ _
-    (λ r is both. text_asks g.I.Inputs.asked (request_of (texts c.args.words.now)) c.args.inputs.now (ap call_of asked))
+    (λ r is both. text_asks g.I.Inputs.asked g.I.Inputs.had (request_of (texts c.args.words.now)) c.args.inputs.now (ap call_of asked))
     c.text_answer-in-Err-NotTaken.ensures
 
 pub returns-in-Err-NoMemory-clause-asked : goal.returns-in-Err-NoMemory-clause-asked
-returns-in-Err-NoMemory-clause-asked g c = asks_none g.I.Inputs.asked (names_of (request_of (texts c.args.words.now))) c.args.inputs.now
+returns-in-Err-NoMemory-clause-asked g c = asks_none g.I.Inputs.asked g.I.Inputs.had (names_of (request_of (texts c.args.words.now))) c.args.inputs.now
