@@ -11,7 +11,7 @@ use Rattle.existence.proofs.drafts.Standing.{draft_stands}
 pub drafts_exist : DraftsExist
 drafts_exist bytes text h =
     let m = draft_stands bytes text h in
-    record { draft = m.draft; is = m.text; kept = m.kept }
+    record { draft = m.draft; is = m.text; kept = m.kept; services = m.services; arrivals = m.arrivals }
 
 pub folds_exist : FoldsExist
 folds_exist bytes text h =

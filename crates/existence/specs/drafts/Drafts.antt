@@ -1,5 +1,5 @@
 -- What is made of the bytes of a file whose tables break no rule. Own choice.
-use Rattle.std.specs.Prelude.{◌≡◌, ◌⊎◌, ℕ, List, IfOk, Ok}
+use Rattle.std.specs.Prelude.{◌≡◌, ◌⊎◌, ℕ, List, All, IfOk, Ok}
 use Rattle.upp_limits.specs.upp_curve.specs.Curves.{IsCurve}
 use Rattle.net_model.specs.Accepted.{IsAccepted}
 use Rattle.net_model.specs.Networks.{Net}
@@ -41,11 +41,13 @@ HasNetworkOrFault d = HasNetwork d ⊎ ((f : Fault) × FirstCurveOver OverFold (
 abbrev pub OfFiles : (DraftText → Type 0) → Type 0
 OfFiles Holds = (bytes : List ℕ) (text : DraftText) → draft_of bytes ≡ Ok text → Holds text
 
--- a draft says it, with the curve of each text or the limit that it is over
+-- a draft says it, with the curve of each text, in normal form and readable, or the limit that it is over
 pub record HasDraft (text : DraftText) : Type 0 where
   pub draft : Draft
   pub is : draft_text draft ≡ text
   pub kept : IsDraft draft
+  pub services : All HasService draft.servers.items
+  pub arrivals : All HasArrival draft.flows.items
 
 abbrev pub DraftsExist : Type 0
 DraftsExist = OfFiles HasDraft

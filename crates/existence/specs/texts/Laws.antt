@@ -29,8 +29,8 @@ TracesAreRead =
     → ((trace : SpecTrace) × IsTraceOf net (rows_of text) trace)
     ⊎ ((kind : TableKind) × (number : ℕ) × IsFirstFault net text kind number)
 
--- what rows give as a trace keeps what every trace keeps, and its numbers are those of live flows and of servers: so there is a
--- stated run of it
+-- what rows give as a trace keeps what every trace keeps, and its numbers are those of live flows and of servers: so in an
+-- accepted network without a cycle there is a stated run of it
 abbrev pub TracesStand : Type 0
 TracesStand =
     (net : Net) (rows : List Row) (trace : SpecTrace) → IsTraceOf net rows trace → IsTrace trace × stated.IsTraceOf net trace

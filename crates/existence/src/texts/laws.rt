@@ -9,7 +9,7 @@ pub fn traces_are_read()
 {}
 
 /// What rows give as a trace of a network keeps what every trace keeps, and its numbers are those of live flows and of
-/// servers: so it has a stated run where the flows go in no ring.
+/// servers: so in an accepted network whose flows go in no ring it has a stated run.
 pub fn traces_stand()
     ensures { TracesStand }
 {}
