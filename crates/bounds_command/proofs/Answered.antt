@@ -66,7 +66,7 @@ rows_of_both t ports links h k =
 pub on_document : {E : Type 0} (t : Tables) (overhead : ℕ) (form : Form) (ports links : List LineRow)
     (d : DocumentText) (net : Network)
     (answer : Result Answer E) → AreRowsOfBoth t ports links → document_of overhead ports links ≡ Ok d
-    → AreBranchesOf links d → IsNetworkOf d net
+    → AreBranchesOf overhead links d → IsNetworkOf d net
     → IsNetwork net → IfOk answer (λ r. IsReplyOnDocument d net form (reply_of r))
     → IfOk answer (λ r. IsReplyOn t overhead form (reply_of r))
 on_document t overhead form ports links d net (Err e) rows reads ways is w h = tt

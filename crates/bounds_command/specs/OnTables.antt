@@ -73,8 +73,9 @@ pub record Gives (t : Tables) (overhead : ℕ) (d : DocumentText) (net : Network
   pub network : IsNetworkOf d net
   pub in_range : IsNetwork net
   pub written : AreWritten overhead port_rows link_rows net
-  -- each row of links has its branch, whose way on the network's trees is over the ports that the row's path names
-  pub ways : AreBranchesOf link_rows d
+  -- each row of links has its branch, whose way on the network's trees is over the ports that the row's path names, on a link
+  -- with the row's numbers
+  pub ways : AreBranchesOf overhead link_rows d
 
 pub record IsFaulty (t : Tables) (overhead : ℕ) (form : Form) (reply : Reply) : Type 0 where
   pub port_rows : List LineRow

@@ -1,9 +1,12 @@
 -- Branches of links: each path over ports that take the link's frames, all paths of a link from one port.
-use Rattle.std.proofs.Common.{◌≡◌, ℕ, ◌+◌, ◌<◌, ◌≤◌, ◌==◌, ◌||◌, nat_le, Bool, true, false, List, [], ◌∷◌, ◌++◌, length, All, Option, Some, None, Ok, Err, refl, sym, ap, subst, ◌∙◌, arith, length-append}
+use Rattle.std.proofs.Common.{◌≡◌, ℕ, ◌+◌, ◌*◌, ◌<◌, ◌≤◌, ◌==◌, ◌||◌, nat_le, Bool, true, false, List, [], ◌∷◌, ◌++◌, map, length, get_or, All, Option, Some, None, Ok, Err, refl, sym, ap, ap₂, subst, ◌∙◌, arith, length-append}
 use Rattle.std.specs.Prelude.{not, slice_get, if◌then◌else◌}
 use Rattle.std.specs.List.{list_any}
+use Rattle.std.proofs.lemmas.Bool.{eq-eqb}
 use Rattle.std.proofs.lemmas.Bool.Decides.{nat_tests}
 use Rattle.std.proofs.lemmas.List.Elements.{All-nil, All-push, All-cons, All-head, All-tail}
+use Rattle.std.proofs.lemmas.Option.{slice_get-get_or}
+use Rattle.table_cells.specs.declared.amount.Amount.{Amount}
 use Rattle.table_cells.specs.Amounts.{equals}
 use Rattle.document_rows.specs.declared.fault.Column.TheVariants as column
 use Rattle.document_rows.specs.declared.fault.Wrong.TheVariants.{Differs, PortTwice, NoSuchQueue, QuantumTooShort, BeginsElsewhere}
@@ -13,7 +16,7 @@ use Rattle.document_tables.specs.declared.links.LinkKeys.{LinkKeys}
 use Rattle.document_tables.specs.Ports.{Ports}
 use Rattle.document_tables.specs.Paths.{queues_of, queue_at, passes_quantum, at_port, step_to, port_named, next_port, path_from, path_ports}
 use Rattle.document_tables.specs.Trees.{begins_elsewhere, hangs, hangs_from}
-use Rattle.document_tables.specs.Links.{Links, agrees, paths_of, most_links}
+use Rattle.document_tables.specs.Links.{Links, agrees, agrees_with, paths_of, most_links}
 use Rattle.document_tables.proofs.Reading.{both_read, not_refused, not_denied, same_read}
 use Rattle.document_tables.proofs.StopOrder.{IsPathFrom}
 
@@ -56,6 +59,14 @@ module _ (ports : Ports) (priority frame : ℕ) where
   pub path_taken : (words : List (List ℕ)) (path : List ℕ) → path_ports ports priority frame words ≡ Ok path → All (Takes ports priority frame) path × (length path ≡ length words)
   path_taken words path h = let p = passed [] words path (All-nil (Takes ports priority frame)) h in let m = p.1 in (p.0, omega (arith, m))
 
+  -- the ports of a path by what they say
+  pub ports_taken : (path : List ℕ) → All (Takes ports priority frame) path → (texts : List PortText) × (map (slice_get ports.ports) path ≡ map Some texts)
+  ports_taken [] a = ([], refl)
+  ports_taken (number ∷ path) a =
+      let t = All-head (Takes ports priority frame) number path a in
+      let rest = ports_taken path (All-tail (Takes ports priority frame) number path a) in
+      (t.port ∷ rest.0, ap₂ (λ (o : Option PortText) (os : List (Option PortText)). o ∷ os) t.there rest.1)
+
 -- ---- paths of one link
 -- all begin at one port
 abbrev pub ArePaths : (ℕ → Type 0) → List (List ℕ) → Type 0
@@ -89,6 +100,54 @@ module _ (T : ℕ → Type 0) where
       let none = not_refused (list_any (begins_elsewhere port) paths) BeginsElsewhere (Ok (Some port)) first.0 first.1 in
       (port, All-push (IsPathFrom T port) paths (port ∷ path) (all_same a.0 port paths a.1 none.0) (path, refl, t))
 
+-- ---- what the rows of a link agree in
+-- by value
+pub record SameKeys (first row : LinkKeys) : Type 0 where
+  pub gap : equals first.gap row.gap ≡ true
+  pub largest_frame : first.largest_frame ≡ row.largest_frame
+  pub jitter : equals first.jitter row.jitter ≡ true
+  pub priority : first.priority ≡ row.priority
+
+pub same_keys : (keys : LinkKeys) → SameKeys keys keys
+same_keys keys = record { gap = once_more keys.gap; largest_frame = refl; jitter = once_more keys.jitter; priority = refl }
+  where
+    once_more : (a : Amount) → equals a a ≡ true
+    once_more a = eq-eqb (a.top * a.bottom) (a.top * a.bottom) refl
+
+agreed : (first row keys : LinkKeys) → agrees first row ≡ Ok keys → SameKeys first row
+agreed first row keys h =
+    let g = not_denied (equals first.gap row.gap) (record { column = column.Bag; wrong = Differs })
+    (if not (first.largest_frame == row.largest_frame) then Err (record { column = column.LargestFrame; wrong = Differs })
+    else (if not (equals first.jitter row.jitter) then Err (record { column = column.Jitter; wrong = Differs })
+    else (if not (first.priority == row.priority) then Err (record { column = column.Priority; wrong = Differs })
+    else Ok first))) keys h
+    in
+    let f = not_denied (first.largest_frame == row.largest_frame) (record { column = column.LargestFrame; wrong = Differs })
+    (if not (equals first.jitter row.jitter) then Err (record { column = column.Jitter; wrong = Differs })
+    else (if not (first.priority == row.priority) then Err (record { column = column.Priority; wrong = Differs })
+    else Ok first)) keys g.1
+    in
+    let j = not_denied (equals first.jitter row.jitter) (record { column = column.Jitter; wrong = Differs })
+    (if not (first.priority == row.priority) then Err (record { column = column.Priority; wrong = Differs })
+    else Ok first) keys f.1
+    in
+    let p = not_denied (first.priority == row.priority) (record { column = column.Priority; wrong = Differs }) (Ok first) keys j.1 in
+    record { gap = g.0; largest_frame = alike first.largest_frame row.largest_frame f.0; jitter = j.0; priority = alike first.priority row.priority p.0 }
+  where
+    alike : (a b : ℕ) → (a == b) ≡ true → a ≡ b
+    alike a b h = grind (arith, nat_tests)
+
+-- of a link, with the row at hand
+abbrev pub HasKeysOf : Links → ℕ → LinkKeys → Type 0
+HasKeysOf links link row = (keys : LinkKeys) × (slice_get links.keys link ≡ Some keys) × SameKeys keys row
+
+-- the same of the link of a number that was looked up
+pub has_agreed : (links : Links) (link : ℕ) (row keys : LinkKeys) → link < length links.keys → agrees_with (slice_get links.keys link) row ≡ Ok keys → HasKeysOf links link row
+has_agreed links link row keys below h =
+    let first = get_or links.keys link row in
+    let at : slice_get links.keys link ≡ Some first = slice_get-get_or links.keys link row below in
+    (first, at, agreed first row keys (ap (λ (o : Option LinkKeys). agrees_with o row) (sym at) ∙ h))
+
 -- ---- links
 module _ (ports : Ports) (overhead : ℕ) where
   abbrev pub Fits : LinkKeys → ℕ → Type 0
@@ -101,30 +160,3 @@ module _ (ports : Ports) (overhead : ℕ) where
     pub each : (k : ℕ) (keys : LinkKeys) → slice_get links.keys k ≡ Some keys → ArePaths (Fits keys) (paths_of k links.branches)
     pub some : (k : ℕ) → k < length links.keys → (new ≡ Some k → ⊥) → 1 ≤ length (paths_of k links.branches)
     pub others : (k : ℕ) → length links.keys ≤ k → paths_of k links.branches ≡ []
-
-  -- a link, and what its rows agree in with the row at hand
-  abbrev pub IsLinkOfRow : Links → ℕ → LinkKeys → Type 0
-  IsLinkOfRow links link row = (keys : LinkKeys) × (slice_get links.keys link ≡ Some keys) × (keys.priority ≡ row.priority) × (keys.largest_frame ≡ row.largest_frame)
-
-  pub agreed : (first row keys : LinkKeys) → agrees first row ≡ Ok keys → (first.priority ≡ row.priority) × (first.largest_frame ≡ row.largest_frame)
-  agreed first row keys h =
-      let g = not_denied (equals first.gap row.gap) (record { column = column.Bag; wrong = Differs })
-      (if not (first.largest_frame == row.largest_frame) then Err (record { column = column.LargestFrame; wrong = Differs })
-      else (if not (equals first.jitter row.jitter) then Err (record { column = column.Jitter; wrong = Differs })
-      else (if not (first.priority == row.priority) then Err (record { column = column.Priority; wrong = Differs })
-      else Ok first))) keys h
-      in
-      let f = not_denied (first.largest_frame == row.largest_frame) (record { column = column.LargestFrame; wrong = Differs })
-      (if not (equals first.jitter row.jitter) then Err (record { column = column.Jitter; wrong = Differs })
-      else (if not (first.priority == row.priority) then Err (record { column = column.Priority; wrong = Differs })
-      else Ok first)) keys g.1
-      in
-      let j = not_denied (equals first.jitter row.jitter) (record { column = column.Jitter; wrong = Differs })
-      (if not (first.priority == row.priority) then Err (record { column = column.Priority; wrong = Differs })
-      else Ok first) keys f.1
-      in
-      let p = not_denied (first.priority == row.priority) (record { column = column.Priority; wrong = Differs }) (Ok first) keys j.1 in
-      (alike first.priority row.priority p.0, alike first.largest_frame row.largest_frame f.0)
-    where
-      alike : (a b : ℕ) → (a == b) ≡ true → a ≡ b
-      alike a b h = grind (arith, nat_tests)

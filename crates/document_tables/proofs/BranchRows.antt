@@ -26,6 +26,7 @@ use Rattle.document_tables.proofs.Reading.{both_read, not_refused, same_read, so
 use Rattle.document_tables.proofs.TableRanges.{in_line}
 use Rattle.document_tables.proofs.RowTaken.{branched, taken}
 use Rattle.document_tables.proofs.LinkSteps.{each_push}
+use Rattle.document_tables.proofs.BranchFacts.{SameKeys, same_keys, HasKeysOf, has_agreed, path_taken, ports_taken}
 
 -- ---- names
 more_at : {X : Type 0} (xs ys : List X) (k : ℕ) (x : X) → slice_get xs k ≡ Some x → slice_get (xs ++ ys) k ≡ Some x
@@ -82,7 +83,12 @@ pub record IsRowOf (ports : Ports) (head : LinkHead) (links : Links) (row : Row)
   pub text : LinkText
   pub says : link_row head row ≡ Ok text
   pub deadline : b.deadline ≡ text.deadline
+  pub keys : LinkKeys
+  pub keys_are : slice_get links.keys b.link ≡ Some keys
+  pub agree : SameKeys keys (keys_of text)
   pub over : map (slice_get ports.names) b.path ≡ map Some text.path
+  pub texts : List PortText
+  pub texts_are : map (slice_get ports.ports) b.path ≡ map Some texts
 
 -- of each of these rows one branch
 pub record AreRead (ports : Ports) (head : LinkHead) (rows : List LineRow) (links : Links) : Type 0 where
@@ -91,23 +97,27 @@ pub record AreRead (ports : Ports) (head : LinkHead) (rows : List LineRow) (link
   pub each : (k : ℕ) (row : LineRow) → slice_get rows k ≡ Some row → (b : BranchText) → slice_get links.branches k ≡ Some b → IsRowOf ports head links row.cells b
 
 -- links with that of a row
-record HasLink (before links : Links) (name : List ℕ) (link : ℕ) : Type 0 where
+record HasLink (before links : Links) (name : List ℕ) (link : ℕ) (row : LinkKeys) : Type 0 where
   pub names : length links.names ≡ length links.keys
   pub branches : links.branches ≡ before.branches
   pub old : (k : ℕ) (other : List ℕ) → slice_get before.names k ≡ Some other → slice_get links.names k ≡ Some other
+  pub old_keys : (k : ℕ) (other : LinkKeys) → slice_get before.keys k ≡ Some other → slice_get links.keys k ≡ Some other
   pub of_link : slice_get links.names link ≡ Some name
+  pub has_keys : HasKeysOf links link row
 
 has_link : (before links : Links) (name : List ℕ) (number : Option ℕ) (row : LinkKeys) → length before.names ≡ length before.keys → (o : Option ℕ) → position (bytes_eq name) before.names ≡ o
-    → has_room before o ≡ Ok number → with_link before name number row ≡ Ok links → HasLink before links name (number_or_next before number)
+    → has_room before o ≡ Ok number → with_link before name number row ≡ Ok links → HasLink before links name (number_or_next before number) row
 has_link before links name None row n None found room h =
     let made : Links = record { names = before.names ++ name ∷ []; keys = before.keys ++ row ∷ []; branches = before.branches } in
     let a = length-append before.names (name ∷ []) in
     let b = length-append before.keys (row ∷ []) in
-    subst (λ (l : Links). HasLink before l name (length before.keys)) (same_read made links h) (record {
+    subst (λ (l : Links). HasLink before l name (length before.keys) row) (same_read made links h) (record {
       names = omega (arith, a, b, n);
       branches = refl;
       old = λ k other h. more_at before.names (name ∷ []) k other h;
+      old_keys = λ k other h. more_at before.keys (row ∷ []) k other h;
       of_link = last_at before.names (length before.keys) name (sym n);
+      has_keys = (row, last_at before.keys (length before.keys) row refl, same_keys row);
     })
 has_link before links name (Some m) row n None found room h =
     let r = not_refused (nat_le most_links (length before.names)) (record { column = column.Name; wrong = TooManyLinks }) (Ok None) (Some m) room in
@@ -117,11 +127,15 @@ has_link before links name None row n (Some m) found room h = let e : Some m ≡
 has_link before links name (Some k) row n (Some m) found room h =
     let same : m ≡ k = inner m k (same_read (Some m) (Some k) room) in
     let r = both_read (agrees_with (slice_get before.keys k) row) (λ first. Ok before) links h in
-    subst (λ (l : Links). HasLink before l name k) (same_read before links r.2) (record {
+    let at = found_name before.names name k (found ∙ ap Some same) in
+    let below = slice_get_within before.names k name at in
+    subst (λ (l : Links). HasLink before l name k row) (same_read before links r.2) (record {
       names = n;
       branches = refl;
       old = λ k other h. h;
-      of_link = found_name before.names name k (found ∙ ap Some same);
+      old_keys = λ k other h. h;
+      of_link = at;
+      has_keys = has_agreed before k row r.0 (omega (arith, below, n)) r.1;
     })
 
 module _ (ports : Ports) (overhead : ℕ) (head : LinkHead) where
@@ -129,18 +143,23 @@ module _ (ports : Ports) (overhead : ℕ) (head : LinkHead) where
   record HasRow (before after : Links) (row : Row) : Type 0 where
     pub names : length after.names ≡ length after.keys
     pub old : (k : ℕ) (other : List ℕ) → slice_get before.names k ≡ Some other → slice_get after.names k ≡ Some other
+    pub old_keys : (k : ℕ) (other : LinkKeys) → slice_get before.keys k ≡ Some other → slice_get after.keys k ≡ Some other
     pub branch : BranchText
     pub branches : after.branches ≡ before.branches ++ branch ∷ []
     pub is : IsRowOf ports head after row branch
 
-  has_branch : (before links after : Links) (row : Row) (name : List ℕ) (link : ℕ) (text : LinkText) → row_name head.width head.name row ≡ Ok name → link_row head row ≡ Ok text → HasLink before links name link
+  has_branch : (before links after : Links) (row : Row) (name : List ℕ) (link : ℕ) (text : LinkText) → row_name head.width head.name row ≡ Ok name → link_row head row ≡ Ok text → HasLink before links name link (keys_of text)
       → with_branch ports overhead link links text ≡ Ok after → HasRow before after row
   has_branch before links after row name link text is_named says l h =
       let b = branched ports overhead link links text after h in
       let new : BranchText = record { link = link; path = b.path; deadline = text.deadline } in
+      let has = l.has_keys in
+      let frame = frame_on_wire text.largest_frame overhead in
+      let texts = ports_taken ports text.priority frame b.path (path_taken ports text.priority frame text.path b.path b.over).0 in
       subst (λ (a : Links). HasRow before a row) b.made (record {
         names = l.names;
         old = l.old;
+        old_keys = l.old_keys;
         branch = new;
         branches = ap (λ (bs : List BranchText). bs ++ new ∷ []) l.branches;
         is = record {
@@ -150,7 +169,12 @@ module _ (ports : Ports) (overhead : ℕ) (head : LinkHead) where
           text = text;
           says = says;
           deadline = refl;
-          over = ports_named ports text.priority (frame_on_wire text.largest_frame overhead) [] text.path b.path b.over;
+          keys = has.0;
+          keys_are = has.1;
+          agree = has.2;
+          over = ports_named ports text.priority frame [] text.path b.path b.over;
+          texts = texts.0;
+          texts_are = texts.1;
         };
       })
 
@@ -186,7 +210,12 @@ module _ (ports : Ports) (overhead : ℕ) (head : LinkHead) where
               text = is.text;
               says = is.says;
               deadline = is.deadline;
+              keys = is.keys;
+              keys_are = r.old_keys d.link is.keys is.keys_are;
+              agree = is.agree;
               over = is.over;
+              texts = is.texts;
+              texts_are = is.texts_are;
             }))
             (λ b h.
             let same : r.branch ≡ b = inner r.branch b (sym (last_at bs (length done) r.branch (sym a.all)) ∙ seen (length done) b h) in

@@ -2,7 +2,7 @@
 use Rattle.std.proofs.Common.{◌≡◌, ℕ, ◌+◌, ◌-◌, ◌*◌, ◌/◌, ◌<◌, ◌≤◌, true, Option, Some, None, option_map, sym, ap, subst, arith}
 use Rattle.std.proofs.lemmas.Bool.Decides.{nat_tests}
 use Rattle.std.proofs.lemmas.List.Elements.{All-weaker}
-use Rattle.std.proofs.Math.Nat.{le-div_iff_mul-le, div-lt_iff_lt-mul, div-mul-le_self, mul-le-mul_right, le_of_mul-le-mul_right}
+use Rattle.std.proofs.Math.Nat.{le-div_iff_mul-le, div-lt_iff_lt-mul, div-mul-le_self}
 use Rattle.tree_network.specs.declared.network.Discipline.{Discipline}
 use Rattle.tree_network.specs.declared.network.Discipline.TheVariants as discipline
 use Rattle.tree_network.specs.declared.network.Port.{Port}
@@ -14,6 +14,7 @@ use Rattle.document_rows.specs.Disciplines.{discipline_view}
 use Rattle.document_rows.specs.PortRows.{PortText}
 use Rattle.document_tables.specs.Ranges.{IsWithin, IsTime, IsGateOrNone, IsQuantum, IsDiscipline, IsPortText}
 use Rattle.document_tables.specs.Grids.{microsecond, millisecond, megabit, gate_on_grid, port_on_grid, grid_port, PortOnGrid}
+use Rattle.document_tables.proofs.SameRounded.{down_within}
 
 -- ---- numbers
 down_to_up : (n b : ℕ) → 0 < b → n / b ≤ (n + (b - 1)) / b
@@ -58,16 +59,9 @@ gap_range a r =
 -- a slot within its cycle is so on the grid
 slot_within : (st sb ct cb : ℕ) → 0 < sb → 0 < cb → st * cb ≤ ct * sb → st * 1000000 / sb ≤ (ct * 1000000 + (cb - 1)) / cb
 slot_within st sb ct cb some_slot some_cycle h =
-    let d = st * 1000000 / sb in
-    let low : d * sb ≤ st * 1000000 = div-mul-le_self (st * 1000000) sb in
-    let more : d * sb * cb ≤ st * 1000000 * cb = mul-le-mul_right cb low in
-    let less : st * cb * 1000000 ≤ ct * sb * 1000000 = mul-le-mul_right 1000000 h in
-    let all : d * cb * sb ≤ ct * 1000000 * sb = regroup d sb cb st ct more less in
-    let one : d * cb ≤ ct * 1000000 = le_of_mul-le-mul_right all some_slot in
-    (le-div_iff_mul-le some_cycle).1 (omega (arith, one))
-  where
-    regroup : (d sb cb st ct : ℕ) → d * sb * cb ≤ st * 1000000 * cb → st * cb * 1000000 ≤ ct * sb * 1000000 → d * cb * sb ≤ ct * 1000000 * sb
-    regroup d sb cb st ct a b = grind arith
+    let down = down_within st sb ct cb 1000000 some_slot some_cycle h in
+    let up = down_to_up (ct * 1000000) cb some_cycle in
+    omega (arith, down, up)
 
 gate_range : (gate : Option GateRow) → IsGateOrNone gate → GateIsInRange (option_map gate_on_grid gate)
 gate_range None g = tt

@@ -14,6 +14,7 @@ pub mod RowTaken
 pub mod TableRanges
 pub mod GridSteps
 pub mod StopOrder
+pub mod SameRounded
 pub mod BranchFacts
 pub mod LinkFacts
 pub mod GridRanges

@@ -1,5 +1,5 @@
 -- Links of a table that is read without a fault: each over a tree of ports that take its frames.
-use Rattle.std.proofs.Common.{◌≡◌, ℕ, ◌+◌, ◌<◌, ◌≤◌, nat_le, List, [], ◌∷◌, ◌++◌, length, get_or, position, All, Option, Some, None, Ok, refl, sym, ap, subst, ◌∙◌, arith, length-append, ⊎_elim, ◌⊎◌}
+use Rattle.std.proofs.Common.{◌≡◌, ℕ, ◌+◌, ◌<◌, ◌≤◌, nat_le, List, [], ◌∷◌, ◌++◌, length, position, All, Option, Some, None, Ok, refl, sym, ap, subst, ◌∙◌, arith, length-append, ⊎_elim, ◌⊎◌}
 use Rattle.std.specs.Prelude.{slice_get}
 use Rattle.std.specs.Str.{bytes_eq}
 use Rattle.std.proofs.lemmas.Bool.Decides.{nat_tests}
@@ -23,7 +23,7 @@ use Rattle.document_tables.proofs.RowRanges.{link_says}
 use Rattle.document_tables.proofs.TableRanges.{kept_by_table}
 use Rattle.document_tables.proofs.RowTaken.{branched, taken}
 use Rattle.document_tables.proofs.LinkSteps.{each_push, paths_more, paths_same}
-use Rattle.document_tables.proofs.BranchFacts.{Takes, path_taken, ArePaths, no_paths, path_added, Fits, AreLinksBut, IsLinkOfRow, agreed}
+use Rattle.document_tables.proofs.BranchFacts.{Takes, path_taken, ArePaths, no_paths, path_added, Fits, AreLinksBut, HasKeysOf, same_keys, has_agreed}
 
 whether : (a b : ℕ) → (a ≡ b) ⊎ (a ≡ b → ⊥)
 whether a b = grind arith
@@ -31,7 +31,7 @@ whether a b = grind arith
 module _ (ports : Ports) (overhead : ℕ) where
   -- ---- the link of a row
   new_link : (before links : Links) (name : List ℕ) (row : LinkKeys) → AreLinksBut ports overhead before None → length before.names < most_links → with_link before name None row ≡ Ok links
-      → AreLinksBut ports overhead links (Some (length before.keys)) × IsLinkOfRow ports overhead links (length before.keys) row × (length before.keys < length links.keys)
+      → AreLinksBut ports overhead links (Some (length before.keys)) × HasKeysOf links (length before.keys) row × (length before.keys < length links.keys)
   new_link before links name row a room h =
       let made : Links = record { names = before.names ++ name ∷ []; keys = before.keys ++ row ∷ []; branches = before.branches } in
       let n = length-append before.names (name ∷ []) in
@@ -50,7 +50,7 @@ module _ (ports : Ports) (overhead : ℕ) where
       in
       let e = same_read made links h in (
         subst (λ (l : Links). AreLinksBut ports overhead l (Some (length before.keys))) e but,
-        subst (λ (l : Links). IsLinkOfRow ports overhead l (length before.keys) row) e (row, at, refl, refl),
+        subst (λ (l : Links). HasKeysOf l (length before.keys) row) e (row, at, same_keys row),
         subst (λ (l : Links). length before.keys < length l.keys) e (omega (arith, m)),
       )
     where
@@ -58,16 +58,13 @@ module _ (ports : Ports) (overhead : ℕ) where
       smaller k n m e below other = grind (arith, other)
 
   old_link : (before links : Links) (name : List ℕ) (n : ℕ) (row : LinkKeys) → AreLinksBut ports overhead before None → n < length before.keys → with_link before name (Some n) row ≡ Ok links
-      → AreLinksBut ports overhead links (Some n) × IsLinkOfRow ports overhead links n row × (n < length links.keys)
+      → AreLinksBut ports overhead links (Some n) × HasKeysOf links n row × (n < length links.keys)
   old_link before links name n row a below h =
-      let first = get_or before.keys n row in
-      let at : slice_get before.keys n ≡ Some first = slice_get-get_or before.keys n row below in
       let r = both_read (agrees_with (slice_get before.keys n) row) (λ first. Ok before) links h in
-      let g = agreed ports overhead first row r.0 (ap (λ (o : Option LinkKeys). agrees_with o row) (sym at) ∙ r.1) in
       let e = same_read before links r.2 in
       let but : AreLinksBut ports overhead before (Some n) = record { names = a.names; few = a.few; each = a.each; some = λ k below other. a.some k below (λ e. cc); others = a.others } in (
         subst (λ (l : Links). AreLinksBut ports overhead l (Some n)) e but,
-        subst (λ (l : Links). IsLinkOfRow ports overhead l n row) e (first, at, g.0, g.1),
+        subst (λ (l : Links). HasKeysOf l n row) e (has_agreed before n row r.0 below r.1),
         subst (λ (l : Links). n < length l.keys) e below,
       )
 
@@ -80,7 +77,7 @@ module _ (ports : Ports) (overhead : ℕ) where
 
   linked_row : (before links : Links) (name : List ℕ) (number : Option ℕ) (row : LinkKeys) → AreLinksBut ports overhead before None → has_room before (position (bytes_eq name) before.names) ≡ Ok number
       → with_link before name number row ≡ Ok links
-      → AreLinksBut ports overhead links (Some (number_or_next before number)) × IsLinkOfRow ports overhead links (number_or_next before number) row × (number_or_next before number < length links.keys)
+      → AreLinksBut ports overhead links (Some (number_or_next before number)) × HasKeysOf links (number_or_next before number) row × (number_or_next before number < length links.keys)
   linked_row before links name None row a r h = let f = room before None (position (bytes_eq name) before.names) r in new_link before links name row a (f.1 (sym f.0)) h
   linked_row before links name (Some n) row a r h =
       let f = room before (Some n) (position (bytes_eq name) before.names) r in
@@ -88,7 +85,7 @@ module _ (ports : Ports) (overhead : ℕ) where
       old_link before links name n row a (omega (arith, w, a.names)) h
 
   -- ---- its branch
-  branch_added : (links after : Links) (link : ℕ) (row : LinkText) → IsLinkText row → AreLinksBut ports overhead links (Some link) → IsLinkOfRow ports overhead links link (keys_of row) → link < length links.keys
+  branch_added : (links after : Links) (link : ℕ) (row : LinkText) → IsLinkText row → AreLinksBut ports overhead links (Some link) → HasKeysOf links link (keys_of row) → link < length links.keys
       → with_branch ports overhead link links row ≡ Ok after → AreLinksBut ports overhead after None
   branch_added links after link row says a of below h =
       let b = branched ports overhead link links row after h in
@@ -100,9 +97,10 @@ module _ (ports : Ports) (overhead : ℕ) where
       let longer = length-append (paths_of link links.branches) (path ∷ []) in
       let many = ap length more in
       let keys = of.0 in
+      let as_row = of.2 in
       let fits : All (Fits ports overhead keys) path =
-      subst (λ (priority : ℕ). All (Takes ports priority (frame_on_wire keys.largest_frame overhead)) path) (sym of.2)
-      (subst (λ (frame : ℕ). All (Takes ports row.priority (frame_on_wire frame overhead)) path) (sym of.3) takes.0)
+      subst (λ (priority : ℕ). All (Takes ports priority (frame_on_wire keys.largest_frame overhead)) path) (sym as_row.priority)
+      (subst (λ (frame : ℕ). All (Takes ports row.priority (frame_on_wire frame overhead)) path) (sym as_row.largest_frame) takes.0)
       in
       subst (λ (l : Links). AreLinksBut ports overhead l None) b.made (record {
         names = a.names;

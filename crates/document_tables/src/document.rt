@@ -122,7 +122,7 @@ pub fn read_document(
     ensures network { IfOk result (λ d. IsNetwork d.network) }
     ensures branches { IfOk result (λ d. All (spec.IsBranchOf d.network) d.branches.items) }
     ensures names { IfOk result spec.HasNames }
-    ensures ways { IfOk result (λ d. AreBranchesOf (map row_view link_rows.now) (spec.document_view d)) }
+    ensures ways { IfOk result (λ d. AreBranchesOf overhead (map row_view link_rows.now) (spec.document_view d)) }
 {
     let ports = match read_ports(alloc, port_rows) {
         Ok(ports) => ports,

@@ -62,4 +62,4 @@ returns-in-Ok-document_with-clause-ways c =
     let ports = ports_view c.in-Ok.ports in
     let rows = map row_view c.args.link_rows.now in
     let read = c.in-Ok-read_links.ensures in
-    subst (AreBranchesOf rows) (sym c.in-Ok-document_with.ensures) (branches_are ports c.args.overhead c.in-Ok-read_links.table read.kept rows read.value)
+    subst (AreBranchesOf c.args.overhead rows) (sym c.in-Ok-document_with.ensures) (branches_are ports c.args.overhead c.in-Ok-read_links.table read.kept rows read.value)
