@@ -1,4 +1,4 @@
-use Rattle.netcalc.proofs.tests.ask.Given as goal
+use Rattle.netcalc.proofs.worked.ask.Given as goal
 
 abbrev pub ghosts-run_counted : goal.ghosts-run_counted
 ghosts-run_counted a = record { name = a.blank.name; parts = a.blank.parts }
