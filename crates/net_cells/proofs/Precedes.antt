@@ -265,24 +265,19 @@ service_first net order s q o h d m = by (discipline net s) refl m
     by (Drr quanta) e n = absurd n
 
 -- a cell of the same hop, or the service or the delay of its queue
-of_hop : (net : Net) (order : List ℕ) (i k : ℕ) (c : Cell) (kind : Kind) (d : Cell) → Ordered net order → k < hops net i
+of_hop : (net : Net) (order : List ℕ) (i k : ℕ) (c : Cell) (kind : Kind) → Ordered net order → k < hops net i
     → IsHome net (server_of_hop net i k) c → scope_of kind ≡ EachHop → rank kind < rank c.kind → rank c.kind < 13
-    → cell_of kind i k ≡ d → Before d c (All net order)
-of_hop net order i k c kind d o h p e l u same =
-    one_of net order c (cell_of kind i k) d
-    (at_one net order (server_of_hop net i k) c (cell_of kind i k) o p
-    (at_hop net kind i k (server_of_hop net i k) e h refl) l u)
-    same
+    → Before (cell_of kind i k) c (All net order)
+of_hop net order i k c kind o h p e l u =
+    at_one net order (server_of_hop net i k) c (cell_of kind i k) o p
+    (at_hop net kind i k (server_of_hop net i k) e h refl) l u
 
-of_queue : (net : Net) (order : List ℕ) (i k : ℕ) (c : Cell) (kind : Kind) (d : Cell) → Ordered net order
-    → k < hops net i
+of_queue : (net : Net) (order : List ℕ) (i k : ℕ) (c : Cell) (kind : Kind) → Ordered net order → k < hops net i
     → IsHome net (server_of_hop net i k) c → scope_of kind ≡ EachQueue → rank kind < rank c.kind → rank c.kind < 13
-    → cell_of kind (server_of_hop net i k) (queue_of_hop net i k) ≡ d → Before d c (All net order)
-of_queue net order i k c kind d o h p e l u same =
-    one_of net order c (cell_of kind (server_of_hop net i k) (queue_of_hop net i k)) d
-    (at_one net order (server_of_hop net i k) c (cell_of kind (server_of_hop net i k) (queue_of_hop net i k)) o p
-    (at_queue net kind (server_of_hop net i k) (queue_of_hop net i k) e (queue_exists net i k o.kept h)) l u)
-    same
+    → Before (cell_of kind (server_of_hop net i k) (queue_of_hop net i k)) c (All net order)
+of_queue net order i k c kind o h p e l u =
+    at_one net order (server_of_hop net i k) c (cell_of kind (server_of_hop net i k) (queue_of_hop net i k)) o p
+    (at_queue net kind (server_of_hop net i k) (queue_of_hop net i k) e (queue_exists net i k o.kept h)) l u
 
 -- and one of the same hop, where it is not the last
 at_hop_before : (net : Net) (kind : Kind) (i k s : ℕ) → scope_of kind ≡ EachHopButLast → suc k < hops net i
@@ -293,132 +288,112 @@ at_hop_before net kind i k s e h is = record {
   no_path = λ p. let bad : EachHopButLast ≡ EachPath = sym e ∙ p in cc;
 }
 
-of_last : (net : Net) (order : List ℕ) (i k : ℕ) (c : Cell) (kind : Kind) (d : Cell) → Ordered net order
-    → suc k < hops net i
+of_last : (net : Net) (order : List ℕ) (i k : ℕ) (c : Cell) (kind : Kind) → Ordered net order → suc k < hops net i
     → IsHome net (server_of_hop net i k) c → scope_of kind ≡ EachHopButLast → rank kind < rank c.kind → rank c.kind < 13
-    → cell_of kind i k ≡ d → Before d c (All net order)
-of_last net order i k c kind d o h p e l u same =
-    one_of net order c (cell_of kind i k) d
-    (at_one net order (server_of_hop net i k) c (cell_of kind i k) o p
-    (at_hop_before net kind i k (server_of_hop net i k) e h refl) l u)
-    same
+    → Before (cell_of kind i k) c (All net order)
+of_last net order i k c kind o h p e l u =
+    at_one net order (server_of_hop net i k) c (cell_of kind i k) o p
+    (at_hop_before net kind i k (server_of_hop net i k) e h refl) l u
+
+-- two operands, or three
+of_two : (net : Net) (order : List ℕ) (c x y : Cell) → leaves (formula net c) ≡ x ∷ y ∷ [] → Before x c (All net order)
+    → Before y c (All net order) → OperandsFirst net order c
+of_two net order c x y are first second d m = here (subst (λ zs. Has zs d) are m)
+  where
+    here : Has (x ∷ y ∷ []) d → Before d c (All net order)
+    here (inl e) = one_of net order c x d first e
+    here (inr (inl e)) = one_of net order c y d second e
+    here (inr (inr n)) = absurd n
+
+of_three : (net : Net) (order : List ℕ) (c x y z : Cell) → leaves (formula net c) ≡ x ∷ y ∷ z ∷ []
+    → Before x c (All net order) → Before y c (All net order) → Before z c (All net order) → OperandsFirst net order c
+of_three net order c x y z are first second third d m = here (subst (λ zs. Has zs d) are m)
+  where
+    here : Has (x ∷ y ∷ z ∷ []) d → Before d c (All net order)
+    here (inl e) = one_of net order c x d first e
+    here (inr (inl e)) = one_of net order c y d second e
+    here (inr (inr (inl e))) = one_of net order c z d third e
+    here (inr (inr (inr n))) = absurd n
 
 theta_first : (net : Net) (order : List ℕ) (i k : ℕ) → Ordered net order → k < hops net i
     → OperandsFirst net order (cell_of Theta i k)
-theta_first net order i k o h d m = here m
-  where
-    home : IsHome net (server_of_hop net i k) (cell_of Theta i k)
-    home = at_hop net Theta i k (server_of_hop net i k) refl h refl
-
-    here : Has (leaves (formula net (cell_of Theta i k))) d → Before d (cell_of Theta i k) (All net order)
-    here (inl e) = of_hop net order i k (cell_of Theta i k) Cross d o h home refl (omega arith) (omega arith) e
-    here (inr (inl e)) = of_queue net order i k (cell_of Theta i k) QueueService d o h home refl (omega arith)
-        (omega arith) e
-    here (inr (inr n)) = absurd n
+theta_first net order i k o h =
+    let home = at_hop net Theta i k (server_of_hop net i k) refl h refl in
+    of_two net order (cell_of Theta i k) (cell_of Cross i k)
+    (cell_of QueueService (server_of_hop net i k) (queue_of_hop net i k)) refl
+    (of_hop net order i k (cell_of Theta i k) Cross o h home refl (omega arith) (omega arith))
+    (of_queue net order i k (cell_of Theta i k) QueueService o h home refl (omega arith) (omega arith))
 
 residual_first : (net : Net) (order : List ℕ) (i k : ℕ) → Ordered net order → k < hops net i
     → OperandsFirst net order (cell_of Residual i k)
-residual_first net order i k o h d m = here m
-  where
-    home : IsHome net (server_of_hop net i k) (cell_of Residual i k)
-    home = at_hop net Residual i k (server_of_hop net i k) refl h refl
-
-    here : Has (leaves (formula net (cell_of Residual i k))) d → Before d (cell_of Residual i k) (All net order)
-    here (inl e) = of_queue net order i k (cell_of Residual i k) QueueService d o h home refl (omega arith)
-        (omega arith) e
-    here (inr (inl e)) = of_hop net order i k (cell_of Residual i k) Cross d o h home refl (omega arith) (omega arith) e
-    here (inr (inr (inl e))) = of_hop net order i k (cell_of Residual i k) Theta d o h home refl (omega arith)
-        (omega arith) e
-    here (inr (inr (inr n))) = absurd n
+residual_first net order i k o h =
+    let home = at_hop net Residual i k (server_of_hop net i k) refl h refl in
+    of_three net order (cell_of Residual i k) (cell_of QueueService (server_of_hop net i k) (queue_of_hop net i k))
+    (cell_of Cross i k) (cell_of Theta i k) refl
+    (of_queue net order i k (cell_of Residual i k) QueueService o h home refl (omega arith) (omega arith))
+    (of_hop net order i k (cell_of Residual i k) Cross o h home refl (omega arith) (omega arith))
+    (of_hop net order i k (cell_of Residual i k) Theta o h home refl (omega arith) (omega arith))
 
 hop_delay_first : (net : Net) (order : List ℕ) (i k : ℕ) → Ordered net order → k < hops net i
     → OperandsFirst net order (cell_of HopDelay i k)
-hop_delay_first net order i k o h d m = here m
-  where
-    home : IsHome net (server_of_hop net i k) (cell_of HopDelay i k)
-    home = at_hop net HopDelay i k (server_of_hop net i k) refl h refl
+hop_delay_first net order i k o h =
+    let home = at_hop net HopDelay i k (server_of_hop net i k) refl h refl in
+    of_three net order (cell_of HopDelay i k) (cell_of QueueDelay (server_of_hop net i k) (queue_of_hop net i k))
+    (cell_of In i k) (cell_of Residual i k) refl
+    (of_queue net order i k (cell_of HopDelay i k) QueueDelay o h home refl (omega arith) (omega arith))
+    (of_hop net order i k (cell_of HopDelay i k) In o h home refl (omega arith) (omega arith))
+    (of_hop net order i k (cell_of HopDelay i k) Residual o h home refl (omega arith) (omega arith))
 
-    here : Has (leaves (formula net (cell_of HopDelay i k))) d → Before d (cell_of HopDelay i k) (All net order)
-    here (inl e) = of_queue net order i k (cell_of HopDelay i k) QueueDelay d o h home refl (omega arith)
-        (omega arith) e
-    here (inr (inl e)) = of_hop net order i k (cell_of HopDelay i k) In d o h home refl (omega arith) (omega arith) e
-    here (inr (inr (inl e))) = of_hop net order i k (cell_of HopDelay i k) Residual d o h home refl (omega arith)
-        (omega arith) e
-    here (inr (inr (inr n))) = absurd n
+-- what enters a hop that is not the last, and one cell more of it
+past_first : (net : Net) (order : List ℕ) (i k : ℕ) (last kind : Kind) → Ordered net order → k < hops net i
+    → suc k < hops net i → scope_of last ≡ EachHopButLast → scope_of kind ≡ EachHop → rank In < rank last
+    → rank kind < rank last → rank last < 13
+    → leaves (formula net (cell_of last i k)) ≡ cell_of In i k ∷ cell_of kind i k ∷ []
+    → OperandsFirst net order (cell_of last i k)
+past_first net order i k last kind o h g a e below l u are =
+    let home = at_hop_before net last i k (server_of_hop net i k) a g refl in
+    of_two net order (cell_of last i k) (cell_of In i k) (cell_of kind i k) are
+    (of_hop net order i k (cell_of last i k) In o h home refl below u)
+    (of_hop net order i k (cell_of last i k) kind o h home e l u)
 
 shift_out_first : (net : Net) (order : List ℕ) (i k : ℕ) → Ordered net order → k < hops net i → suc k < hops net i
     → OperandsFirst net order (cell_of ShiftOut i k)
-shift_out_first net order i k o h g d m = here m
-  where
-    home : IsHome net (server_of_hop net i k) (cell_of ShiftOut i k)
-    home = at_hop_before net ShiftOut i k (server_of_hop net i k) refl g refl
-
-    here : Has (leaves (formula net (cell_of ShiftOut i k))) d → Before d (cell_of ShiftOut i k) (All net order)
-    here (inl e) = of_hop net order i k (cell_of ShiftOut i k) In d o h home refl (omega arith) (omega arith) e
-    here (inr (inl e)) = of_hop net order i k (cell_of ShiftOut i k) HopDelay d o h home refl (omega arith)
-        (omega arith) e
-    here (inr (inr n)) = absurd n
+shift_out_first net order i k o h g =
+    past_first net order i k ShiftOut HopDelay o h g refl refl (omega arith) (omega arith) (omega arith) refl
 
 deconv_out_first : (net : Net) (order : List ℕ) (i k : ℕ) → Ordered net order → k < hops net i → suc k < hops net i
     → OperandsFirst net order (cell_of DeconvOut i k)
-deconv_out_first net order i k o h g d m = here m
-  where
-    home : IsHome net (server_of_hop net i k) (cell_of DeconvOut i k)
-    home = at_hop_before net DeconvOut i k (server_of_hop net i k) refl g refl
-
-    here : Has (leaves (formula net (cell_of DeconvOut i k))) d → Before d (cell_of DeconvOut i k) (All net order)
-    here (inl e) = of_hop net order i k (cell_of DeconvOut i k) In d o h home refl (omega arith) (omega arith) e
-    here (inr (inl e)) = of_hop net order i k (cell_of DeconvOut i k) Residual d o h home refl (omega arith)
-        (omega arith) e
-    here (inr (inr n)) = absurd n
+deconv_out_first net order i k o h g =
+    past_first net order i k DeconvOut Residual o h g refl refl (omega arith) (omega arith) (omega arith) refl
 
 out_first : (net : Net) (order : List ℕ) (i k : ℕ) → Ordered net order → k < hops net i → suc k < hops net i
     → OperandsFirst net order (cell_of Out i k)
-out_first net order i k o h g d m = here m
-  where
-    home : IsHome net (server_of_hop net i k) (cell_of Out i k)
-    home = at_hop_before net Out i k (server_of_hop net i k) refl g refl
+out_first net order i k o h g =
+    let home = at_hop_before net Out i k (server_of_hop net i k) refl g refl in
+    of_two net order (cell_of Out i k) (cell_of ShiftOut i k) (cell_of DeconvOut i k) refl
+    (of_last net order i k (cell_of Out i k) ShiftOut o g home refl (omega arith) (omega arith))
+    (of_last net order i k (cell_of Out i k) DeconvOut o g home refl (omega arith) (omega arith))
 
-    here : Has (leaves (formula net (cell_of Out i k))) d → Before d (cell_of Out i k) (All net order)
-    here (inl e) = of_last net order i k (cell_of Out i k) ShiftOut d o g home refl (omega arith) (omega arith) e
-    here (inr (inl e)) = of_last net order i k (cell_of Out i k) DeconvOut d o g home refl (omega arith) (omega arith) e
-    here (inr (inr n)) = absurd n
+-- what enters a queue, and its service
+of_its_queue : (net : Net) (order : List ℕ) (s q : ℕ) (last : Kind) → Ordered net order → q < queues net s
+    → scope_of last ≡ EachQueue → rank Total < rank last → rank QueueService < rank last → rank last < 13
+    → leaves (formula net (cell_of last s q)) ≡ cell_of Total s q ∷ cell_of QueueService s q ∷ []
+    → OperandsFirst net order (cell_of last s q)
+of_its_queue net order s q last o h a first second u are =
+    let home = at_queue net last s q a h in
+    of_two net order (cell_of last s q) (cell_of Total s q) (cell_of QueueService s q) are
+    (at_one net order s (cell_of last s q) (cell_of Total s q) o home (at_queue net Total s q refl h) first u)
+    (at_one net order s (cell_of last s q) (cell_of QueueService s q) o home (at_queue net QueueService s q refl h) second u)
 
 queue_delay_first : (net : Net) (order : List ℕ) (s q : ℕ) → Ordered net order → q < queues net s
     → OperandsFirst net order (cell_of QueueDelay s q)
-queue_delay_first net order s q o h d m = here m
-  where
-    same : (k : Kind) → scope_of k ≡ EachQueue → rank k < rank QueueDelay → cell_of k s q ≡ d
-        → Before d (cell_of QueueDelay s q) (All net order)
-    same k e l is =
-        one_of net order (cell_of QueueDelay s q) (cell_of k s q) d
-        (at_one net order s (cell_of QueueDelay s q) (cell_of k s q) o (at_queue net QueueDelay s q refl h)
-        (at_queue net k s q e h) l
-        (omega arith))
-        is
-
-    here : Has (leaves (formula net (cell_of QueueDelay s q))) d → Before d (cell_of QueueDelay s q) (All net order)
-    here (inl e) = same Total refl (omega arith) e
-    here (inr (inl e)) = same QueueService refl (omega arith) e
-    here (inr (inr n)) = absurd n
+queue_delay_first net order s q o h =
+    of_its_queue net order s q QueueDelay o h refl (omega arith) (omega arith) (omega arith) refl
 
 queue_backlog_first : (net : Net) (order : List ℕ) (s q : ℕ) → Ordered net order → q < queues net s
     → OperandsFirst net order (cell_of QueueBacklog s q)
-queue_backlog_first net order s q o h d m = here m
-  where
-    same : (k : Kind) → scope_of k ≡ EachQueue → rank k < rank QueueBacklog → cell_of k s q ≡ d
-        → Before d (cell_of QueueBacklog s q) (All net order)
-    same k e l is =
-        one_of net order (cell_of QueueBacklog s q) (cell_of k s q) d
-        (at_one net order s (cell_of QueueBacklog s q) (cell_of k s q) o (at_queue net QueueBacklog s q refl h)
-        (at_queue net k s q e h) l
-        (omega arith))
-        is
-
-    here : Has (leaves (formula net (cell_of QueueBacklog s q))) d → Before d (cell_of QueueBacklog s q) (All net order)
-    here (inl e) = same Total refl (omega arith) e
-    here (inr (inl e)) = same QueueService refl (omega arith) e
-    here (inr (inr n)) = absurd n
+queue_backlog_first net order s q o h =
+    of_its_queue net order s q QueueBacklog o h refl (omega arith) (omega arith) (omega arith) refl
 
 -- ---- cells of whole paths
 -- a live flow has a hop

@@ -1,5 +1,5 @@
 -- What stands at a number in the lists of a network.
-use Rattle.std.proofs.Common.{◌≡◌, ℕ, ◌<◌, ◌≤◌, List, length, get_or, map, refl, sym, ap, ◌∙◌, arith, inl, inr, Option, Some, None, eqb}
+use Rattle.std.proofs.Common.{◌≡◌, ℕ, ◌<◌, ◌≤◌, List, length, get_or, map, refl, sym, ap, ◌∙◌, subst, arith, inl, inr, Option, Some, None, eqb}
 use Rattle.std.specs.Prelude.{slice_get, is_some}
 use Rattle.std.specs.Option.{option_map}
 use Rattle.std.specs.List.{filter, flat_map, range_with_len}
@@ -35,6 +35,13 @@ few_hops net i a = by (flow_at net i) refl
     by : (o : Option NetFlow) → flow_at net i ≡ o → length (path_of o) ≤ 16
     by None e = omega arith
     by (Some f) e = (flow_kept net i f a e).few
+
+-- of a flow that stands in the list
+pub few_stored : (net : Net) (fs : List (Option Flow)) (i : ℕ) (x : Option Flow) → flows_of fs ≡ net.flows → i < length fs
+    → x ≡ get_or fs i x → IsAccepted net → length (path_of (option_map flow_of x)) ≤ 16
+few_stored net fs i x same h is a =
+    let P : Option NetFlow → Type 0 = λ o. length (path_of o) ≤ 16 in
+    subst P (sym (flow_stored net fs i x same h is)) (few_hops net i a)
 
 -- the hops at a server, flow by flow
 pub visits_by_flow : (net : Net) (s : ℕ)

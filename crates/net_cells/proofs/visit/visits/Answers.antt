@@ -1,4 +1,4 @@
-use Rattle.std.proofs.Common.{◌≡◌, ◌≤◌, ◌++◌, ℕ, length, ap, sym, ◌∙◌, arith, subst, Option}
+use Rattle.std.proofs.Common.{◌≡◌, ◌++◌, ℕ, length, ap, sym, ◌∙◌, arith, Option}
 use Rattle.std.specs.List.{flat_map, range_with_len}
 use Rattle.std.specs.Option.{option_map}
 use Rattle.std.proofs.lemmas.List.{length-map}
@@ -7,17 +7,13 @@ use Rattle.net_model.specs.Views.{flow_of}
 use Rattle.net_cells.specs.Numbered.{path, path_of}
 use Rattle.net_cells.specs.Visits.{hops_at}
 use Rattle.net_cells.proofs.Growing.{flat_more}
-use Rattle.net_cells.proofs.Stored.{flow_stored, few_hops, visits_by_flow}
+use Rattle.net_cells.proofs.Stored.{flow_stored, few_stored, visits_by_flow}
 use Rattle.net_cells.proofs.visit.visits.Goals as goal
 
 pub push_flow-requires : goal.push_flow-requires
 push_flow-requires c =
-    let fs = c.flows-flows.result.now in
-    let same = flow_stored c.args.net.now fs c.loop-number.number c.index-flows-number.result
-    c.flows-flows.ensures.flows
-    c.loop-number-test.true c.index-flows-number.is in
-    let P : Option NetFlow → Type 0 = λ o. length (path_of o) ≤ 16 in
-    subst P (sym same) (few_hops c.args.net.now c.loop-number.number c.flows-flows.ensures.kept)
+    few_stored c.args.net.now c.flows-flows.result.now c.loop-number.number c.index-flows-number.result
+    c.flows-flows.ensures.flows c.loop-number-test.true c.index-flows-number.is c.flows-flows.ensures.kept
 
 pub loop-number-preserved : goal.loop-number-preserved
 loop-number-preserved c =
