@@ -36,7 +36,8 @@ use Rattle.cell_eval.specs.declared.found.Pick.TheVariants.{InQueue, InPart}
 use Rattle.cell_eval.specs.declared.curve_sums.Partial.{Partial}
 use Rattle.cell_eval.specs.Chosen.{flow_visits, visit_list, picks, is_other, picked, chosen, all_chosen}
 use Rattle.cell_eval.specs.Partial.{Adds}
-use Rattle.cell_eval.specs.Evaluates.{Counts, MayBeMade, Evaluates}
+use Rattle.cell_eval.specs.Evaluates.{MayBeMade, Evaluates}
+use Rattle.outcomes.specs.Spending.{Counts}
 use Rattle.cell_eval.specs.Shapes.{Rises, Serving, Grows}
 use Rattle.cell_eval.specs.TableValues.{HasCurve, HasNumber, IsCurveAt, IsNumberAt, Deviate}
 use Rattle.cell_eval.proofs.Rises.{grows_served}

@@ -12,7 +12,6 @@ pub mod Handing
 pub mod SumSteps
 pub mod PartSteps
 pub mod PartSums
-pub mod Counting
 pub mod PathSteps
 pub mod SharedCounts
 pub mod LinkRates

@@ -1,6 +1,6 @@
 -- At which operator calls on the values of cells are refused.
 use Rattle.std.proofs.Common.{◌≡◌, ℕ, ◌+◌, List, [], ◌∷◌, length, refl, sym, subst, arith}
-use Rattle.std.specs.Prelude.{Some, Result, Ok, Err, IfOk, IfErr, OnOk}
+use Rattle.std.specs.Prelude.{Some, Result, Ok, Err, IfOk, IfErr}
 use Rattle.upp_limits.specs.declared.op_kind.OpKind.{OpKind}
 use Rattle.upp_limits.specs.declared.op_kind.OpKind.TheVariants.{PosMinus, Vertical}
 use Rattle.upp_limits.specs.declared.op_kind.OpFault.{OpFault}
@@ -73,10 +73,6 @@ err_map {A} (Err fault) P Q to h = to fault h
 pub ok_map : {A : Type 0} (r : Result A OpFault) (P Q : Type 0) → (P → Q) → IfOk r (λ _. P) → IfOk r (λ _. Q)
 ok_map {A} (Ok x) P Q to h = to h
 ok_map {A} (Err fault) P Q to h = tt
-
-pub counted_ok : (r : Result SpecCurve OpFault) (P Q : Type 0) → (P → Q) → OnOk (answer_of curve r) P → IfOk r (λ _. Q)
-counted_ok (Ok x) P Q to h = to h
-counted_ok (Err fault) P Q to h = tt
 
 -- ---- curves that are shared once they are made
 pub shared_refused : {V : Type 0} (meaning : V → Meaning) (P : Result SpecCurve OpFault → Type 0) (R : OpFault → ℕ → Type 0)

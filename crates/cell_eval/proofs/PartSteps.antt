@@ -19,7 +19,7 @@ use Rattle.net_cells.specs.Visits.{longest_of}
 use Rattle.net_cells.specs.QueueParts.{in_part, part_numbers, by_parts, link_of, link_part, links_among}
 use Rattle.net_cells.specs.Cells.{cell_of}
 use Rattle.net_cells.specs.Order.{at_visit}
-use Rattle.net_cells.specs.Meanings.{curve, CellTable}
+use Rattle.net_cells.specs.Meanings.{Meaning, curve, CellTable}
 use Rattle.net_cells.specs.Formulas.{Formula, operators, cut}
 use Rattle.net_cells.specs.CellFormulas.{part_sum, with_part, parts_sum, sum_of_hops, sum_of_cells}
 use Rattle.net_cells.specs.Answers.{Answer, Answers, AnswersFrom, SumsOf}
@@ -33,7 +33,8 @@ use Rattle.net_cells.specs.cell_table.Gives.{Gives}
 use Rattle.cell_eval.proofs.Choosing.{map_front}
 use Rattle.cell_eval.specs.declared.curve_sums.Partial.{Partial}
 use Rattle.cell_eval.specs.declared.curve_sums.Partial.TheVariants.{Nothing, One, Made}
-use Rattle.cell_eval.specs.Evaluates.{Counts}
+use Rattle.outcomes.specs.Spending.{Counts}
+use Rattle.outcomes.proofs.Spending.{counts_none, counts_then}
 use Rattle.cell_eval.specs.Partial.{IsPartial, IsReady, IsSummed, FailsAt, Adds}
 use Rattle.cell_eval.specs.Parts.{curve_in, curve_of, IsHeld, IsPartOf, MakesPart, part_work, kept, AreMade, AreRefused}
 use Rattle.cell_eval.specs.TableValues.{IsCurveAt}
@@ -134,16 +135,6 @@ part_operators net k [] some = absurd (omega (arith, some))
 part_operators net k (v ∷ vs) some = let e = part_terms net k v vs in omega (arith, e)
 
 -- ---- its operators
-pub counts_then : (n m old mid new : ℕ) (r : Answer) → mid ≡ old + n → Counts m mid new r → Counts (n + m) old new r
-counts_then n m old mid new r e c =
-    let least = c.least in
-    let most = c.most in
-    record { exact = exact r c.exact; least = omega (arith, e, least); most = omega (arith, e, most) }
-  where
-    exact : (s : Answer) → OnOk s (new ≡ mid + m) → OnOk s (new ≡ old + (n + m))
-    exact (Ok v) h = omega (arith, e, h)
-    exact (Err fault) h = tt
-
 -- nothing of a part over a link, its sum cut, and the sum of those that enter
 pub none_counts : (net : Net) (s q k old mid : ℕ) (at : CellTable) (r : Answer)
     → Adds at [] (map (at_visit In) (in_part net s q k)) old mid (Ok Nothing) → Counts (part_work net s q k) old mid r
@@ -158,11 +149,7 @@ none_counts net s q k old mid at r a =
     subst (λ n. Counts n old mid r) (sym same)
     (let now : mid ≡ old = omega (arith, a.1, l, m) in
     let P : ℕ → Type 0 = λ n. Counts 0 old n r in
-    subst P (sym now) (record { exact = any r; least = omega arith; most = omega arith })))
-  where
-    any : (s : Answer) → OnOk s (old ≡ old + 0)
-    any (Ok v) = omega arith
-    any (Err fault) = tt
+    subst P (sym now) (counts_none old r)))
 
 pub cut_counts : (net : Net) (s q k old mid new : ℕ) (at : CellTable) (p : Partial) (r : Answer) → 1 ≤ k → 1 ≤ length (in_part net s q k)
     → Adds at [] (map (at_visit In) (in_part net s q k)) old mid (Ok p) → Counts 1 mid new r → Counts (part_work net s q k) old new r
@@ -179,7 +166,7 @@ entering_counts net s q old mid at p a =
     let l = length-map (in_part net s q 0) (at_visit In) in omega (arith, a.1, l)
 
 pub refused_counts : (net : Net) (s q k old mid : ℕ) (at : CellTable) (fault : OpFault)
-    → Adds at [] (map (at_visit In) (in_part net s q k)) old mid (Err fault) → Counts (part_work net s q k) old mid (Err fault)
+    → Adds at [] (map (at_visit In) (in_part net s q k)) old mid (Err fault) → Counts {A = Meaning} (part_work net s q k) old mid (Err fault)
 refused_counts net s q k old mid at fault a =
     let l = length-map (in_part net s q k) (at_visit In) in
     record { exact = tt; least = a.1; most = omega (arith, a.2, l) }
@@ -304,7 +291,7 @@ module _ (at : CellTable) (net : Net) (s q : ℕ) where
   -- one is refused
   pub refused_made : (n : ℕ) (ps : List Partial) (fault : OpFault) (old mid new : ℕ) → AreMade at net s q n ps old mid
       → MakesPart at net s q n (Err fault) → RefusedAt at (part_sum net n (in_part net s q n)) fault (new - mid)
-      → Counts (part_work net s q n) mid new (Err fault) → n < suc (length net.servers)
+      → Counts {A = Meaning} (part_work net s q n) mid new (Err fault) → n < suc (length net.servers)
       → AreRefused at net s q fault old new
   refused_made n ps fault old mid new m is r c h =
       let all = suc (length net.servers) in

@@ -19,7 +19,6 @@ use Rattle.net_cells.specs.Refusals.{SumsOntoRefused, SumsRefused}
 use Rattle.residuals.specs.calls.InTurn.{on_the_way, past}
 use Rattle.net_cells.specs.cell_table.Gives.{Gives}
 use Rattle.net_cells.specs.cell_table.Values.{answer_of}
-use Rattle.cell_eval.specs.Evaluates.{Counts}
 use Rattle.cell_eval.specs.Sharing.{IsShared}
 use Rattle.cell_eval.specs.Parts.{curve_in, curve_of, IsHeld}
 use Rattle.cell_eval.specs.declared.curve_sums.Partial.{Partial}
@@ -41,13 +40,6 @@ shared_sum fs (Ok f) (Ok v) a s = subst (λ w. SumsOf fs (Ok w)) (sym s) a
 shared_sum fs (Ok f) (Err fault) a s = subst (λ e. SumsOf fs (Err e)) (sym s) (sums_out fs (curve f) a)
 shared_sum fs (Err e) (Ok v) a s = absurd s
 shared_sum fs (Err e) (Err fault) a s = subst (λ d. SumsOf fs (Err d)) (sym s) a
-
-pub shared_counts : (n old new : ℕ) (made : Result SpecCurve OpFault) (r : Answer) → Counts n old new (answer_of curve made) → IsShared made r
-    → Counts n old new r
-shared_counts n old new (Ok f) (Ok v) c s = record { exact = c.exact; least = c.least; most = c.most }
-shared_counts n old new (Ok f) (Err fault) c s = record { exact = tt; least = c.least; most = c.most }
-shared_counts n old new (Err e) (Ok v) c s = absurd s
-shared_counts n old new (Err e) (Err fault) c s = record { exact = tt; least = c.least; most = c.most }
 
 -- a cell's curve, shared once more
 pub again_makes : (at : CellTable) (c : Cell) (r : Answer) → Gives at (value_of c) r → MakesCurve (IsAgain (curve_in (at c))) r

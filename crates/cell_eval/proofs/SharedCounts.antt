@@ -1,12 +1,15 @@
--- A curve that is shared was made.
-use Rattle.std.specs.Prelude.{Result, Ok, Err, IfOk, OnOk}
+-- What is counted stays where a curve is shared.
+use Rattle.std.proofs.Common.{ℕ}
+use Rattle.std.specs.Prelude.{Result, Ok, Err}
 use Rattle.upp_limits.specs.declared.op_kind.OpFault.{OpFault}
 use Rattle.upp_limits.specs.upp_curve.specs.Curve.{SpecCurve}
+use Rattle.outcomes.specs.Spending.{Counts}
 use Rattle.net_cells.specs.Answers.{Answer}
 use Rattle.cell_eval.specs.Sharing.{IsShared}
 
-pub shared_ok : (P : Type 0) (made : Result SpecCurve OpFault) (r : Answer) → IsShared made r → IfOk made (λ _. P) → OnOk r P
-shared_ok P (Ok f) (Ok v) s h = h
-shared_ok P (Ok f) (Err fault) s h = tt
-shared_ok P (Err e) (Ok v) s h = absurd s
-shared_ok P (Err e) (Err fault) s h = tt
+pub shared_counts : (n old new : ℕ) (made : Result SpecCurve OpFault) (r : Answer) → Counts n old new made → IsShared made r
+    → Counts n old new r
+shared_counts n old new (Ok f) (Ok v) c s = record { exact = c.exact; least = c.least; most = c.most }
+shared_counts n old new (Ok f) (Err fault) c s = record { exact = tt; least = c.least; most = c.most }
+shared_counts n old new (Err e) (Ok v) c s = absurd s
+shared_counts n old new (Err e) (Err fault) c s = record { exact = tt; least = c.least; most = c.most }

@@ -1,5 +1,6 @@
--- What evaluating a cell asks for, what it gives, and how many operators it counts. Own choice.
-use Rattle.std.specs.Prelude.{◌≡◌, ℕ, ◌+◌, ◌-◌, ◌≤◌, IsTrue, OnOk, Err}
+-- What evaluating a cell asks for, and what it gives. Own choice.
+use Rattle.std.specs.Prelude.{◌≡◌, ℕ, ◌-◌, IsTrue, Err}
+use Rattle.outcomes.specs.Spending.{Counts}
 use Rattle.upp_limits.specs.declared.op_kind.OpFault.TheVariants.{NoMemory}
 use Rattle.net_model.specs.Networks.{Net}
 use Rattle.net_model.specs.Accepted.{IsAccepted}
@@ -12,12 +13,6 @@ use Rattle.net_cells.specs.Equations.{MeetsBelow}
 use Rattle.net_cells.specs.Work.{work}
 use Rattle.net_cells.specs.Refusals.{Stops}
 use Rattle.net_cells.specs.cell_table.Gives.{Gives}
-
--- n operators are counted where there is an answer, and at most so many where it is refused
-pub record Counts (n old new : ℕ) (r : Answer) : Type 0 where
-  pub exact : OnOk r (new ≡ old + n)
-  pub least : old ≤ new
-  pub most : new ≤ old + n
 
 pub record MayBeMade (net : Net) (at : CellTable) (c : Cell) : Type 0 where
   pub accepted : IsAccepted net

@@ -10,7 +10,7 @@ ghost use Rattle.net_cells.specs.CellFormulas.{less};
 ghost use Rattle.net_cells.specs.Answers.{Answers};
 ghost use Rattle.net_cells.specs.Refusals.{RefusedAt};
 ghost use Rattle.net_cells.specs.cell_table.Values.{answer_of, meaning_of};
-ghost use Rattle.cell_eval.specs.Evaluates.{Counts};
+ghost use Rattle.outcomes.specs.Spending.{Counts};
 ghost use Rattle.cell_eval.specs.Shapes.{Rises, Serving};
 ghost use Rattle.cell_eval.specs.TableValues.{HasCurve, HasNumber, IsCurveAt, Deviate};
 

@@ -24,7 +24,7 @@ ghost use Rattle.net_cells.specs.cell_table.Gives.{Gives};
 ghost use Rattle.net_cells.specs.cell_table.Values.{answer_of, meaning_of};
 ghost use Rattle.cell_eval.specs.Chosen.{chosen, visit_list};
 ghost use Rattle.cell_eval.specs.declared.found.Pick.TheVariants.{InPart};
-ghost use Rattle.cell_eval.specs.Evaluates.{Counts};
+ghost use Rattle.outcomes.specs.Spending.{Counts};
 ghost use Rattle.cell_eval.specs.Partial.{IsReady, Adds};
 ghost use Rattle.cell_eval.specs.Parts.{curve_of, IsHeld, MakesPart, part_answer, part_work};
 ghost use Rattle.cell_eval.specs.Parts.{kept, AreMade, AreRefused};
@@ -265,7 +265,7 @@ fn many_added<T: Table<Value>, L: Ledger>(
     ensures sum { SumsOf (map (curve_of (T.at table.now)) parts.now) (answer_of curve result) }
     ensures refused { IfErr result (λ fault.
         SumsRefused (map (curve_of (T.at table.now)) parts.now) fault (steps.new - steps.old)) }
-    ensures counts { Counts (length parts.now - 1) steps.old steps.new (answer_of curve result) }
+    ensures counts { Counts (length parts.now - 1) steps.old steps.new result }
 {
     let first = curve_of(table, &parts[0]);
     let mut so_far = match part_added(alloc, first, table, &parts[1], steps) {

@@ -17,7 +17,7 @@ ghost use Rattle.residuals.specs.calls.DrrCalls.{AreQueues};
 ghost use Rattle.residuals.specs.calls.InTurn.{DrrRefused};
 ghost use Rattle.residuals.specs.left.Left.{EachBefore, left_work};
 ghost use Rattle.net_cells.specs.cell_table.Values.{answer_of, meaning_of};
-ghost use Rattle.cell_eval.specs.Evaluates.{Counts};
+ghost use Rattle.outcomes.specs.Spending.{Counts};
 ghost use Rattle.cell_eval.specs.TableValues.{IsCurveAt};
 
 use crate::reading::curve_at;

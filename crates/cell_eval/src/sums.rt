@@ -8,7 +8,7 @@ ghost use Rattle.net_cells.specs.Refusals.{Stops};
 ghost use Rattle.net_cells.specs.cell_table.Gives.{Gives};
 ghost use Rattle.net_cells.specs.cell_table.Values.{answer_of, meaning_of};
 ghost use Rattle.cell_eval.specs.Partial.{Adds, IsReady};
-ghost use Rattle.cell_eval.specs.Evaluates.{Counts};
+ghost use Rattle.outcomes.specs.Spending.{Counts};
 
 use crate::{Partial, finished};
 use net_cells::cell_table::{Table, Value};

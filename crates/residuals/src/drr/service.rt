@@ -1,11 +1,12 @@
 //! The curve of a deficit round robin queue's service.
 
-ghost use Rattle.std.specs.Prelude.{◌≡◌, ◌+◌, ◌-◌, ◌<◌, ◌≤◌, length, IfOk, IfErr};
+ghost use Rattle.std.specs.Prelude.{◌+◌, ◌-◌, ◌<◌, ◌≤◌, length, IfOk, IfErr};
 ghost use Rattle.upp_limits.specs.upp_curve.specs.Curve.{value_at};
 ghost use Rattle.upp_limits.specs.min_plus.specs.Functions.{IsFinite};
 ghost use Rattle.residuals.specs.calls.DrrCalls.{AreQueues, MakesDrr};
 ghost use Rattle.residual_laws.specs.DrrLaws.{IsDrrService};
 ghost use Rattle.residuals.specs.calls.InTurn.{DrrRefused};
+ghost use Rattle.outcomes.specs.Spending.{Counts};
 
 use crate::drr::turn::turn_of;
 use outcomes::Steps;
@@ -38,9 +39,8 @@ pub fn drr_service<L: Ledger>(
     ensures refused { IfErr result (λ fault.
         DrrRefused beta.now quanta.now longest.now queue fault (steps.new - steps.old)) }
     ensures value { IfOk result (λ c. IsDrrService (value_at beta.now) quanta.now longest.now queue (value_at c)) }
-    ensures least { steps.old + 1 ≤ steps.new }
-    ensures most { steps.new ≤ steps.old + 2 }
-    ensures all { IfOk result (λ _. steps.new ≡ steps.old + 2) }
+    ensures begun { steps.old + 1 ≤ steps.new }
+    ensures counts { Counts 2 steps.old steps.new result }
 {
     let turn = turn_of(quanta, longest, queue as usize);
     let scaled = intact(scale(alloc, beta, turn.share, steps))?;

@@ -1,11 +1,12 @@
 //! The curve of a priority queue's service.
 
-ghost use Rattle.std.specs.Prelude.{◌≡◌, ◌+◌, ◌-◌, ◌≤◌, IfOk, IfErr};
+ghost use Rattle.std.specs.Prelude.{◌+◌, ◌-◌, ◌≤◌, IfOk, IfErr};
 ghost use Rattle.upp_limits.specs.upp_curve.specs.Curve.{value_at};
 ghost use Rattle.upp_limits.specs.min_plus.specs.Functions.{IsFinite};
 ghost use Rattle.residuals.specs.calls.PriorityCalls.{LeavesPriority, MakesPriority};
 ghost use Rattle.residual_laws.specs.PriorityLaws.{IsPriorityService};
 ghost use Rattle.residuals.specs.calls.InTurn.{LeftRefused, PriorityRefused};
+ghost use Rattle.outcomes.specs.Spending.{Counts};
 
 use outcomes::Steps;
 use plain_operators::curve_call::intact;
@@ -28,9 +29,8 @@ fn priority_left<L: Ledger>(
     requires { IsFinite (value_at beta.now) }
     ensures answer { LeavesPriority beta.now higher.now lower result }
     ensures refused { IfErr result (λ fault. LeftRefused beta.now higher.now lower fault (steps.new - steps.old)) }
-    ensures least { steps.old + 1 ≤ steps.new }
-    ensures most { steps.new ≤ steps.old + 2 }
-    ensures all { IfOk result (λ _. steps.new ≡ steps.old + 2) }
+    ensures begun { steps.old + 1 ≤ steps.new }
+    ensures counts { Counts 2 steps.old steps.new result }
 {
     let above = intact(pos_diff(alloc, beta, higher, steps))?;
     intact(pos_minus(alloc, &above, whole(lower), steps))
@@ -52,9 +52,8 @@ pub fn priority_service<L: Ledger>(
     ensures answer { MakesPriority beta.now higher.now lower result }
     ensures refused { IfErr result (λ fault. PriorityRefused beta.now higher.now lower fault (steps.new - steps.old)) }
     ensures value { IfOk result (λ c. IsPriorityService (value_at beta.now) (value_at higher.now) lower (value_at c)) }
-    ensures least { steps.old + 1 ≤ steps.new }
-    ensures most { steps.new ≤ steps.old + 3 }
-    ensures all { IfOk result (λ _. steps.new ≡ steps.old + 3) }
+    ensures begun { steps.old + 1 ≤ steps.new }
+    ensures counts { Counts 3 steps.old steps.new result }
 {
     let left = priority_left(alloc, beta, higher, lower, steps)?;
     intact(run_sup(alloc, &left, steps))

@@ -3,7 +3,7 @@ use Rattle.net_cells.specs.declared.cell.Kind.TheVariants.{In}
 use Rattle.net_cells.specs.Cells.{cell_of}
 use Rattle.net_cells.specs.cell_table.Values.{answer_of, meaning_of}
 use Rattle.cell_eval.specs.Evaluates.{MayBeMade, Evaluates}
-use Rattle.cell_eval.proofs.Counting.{counts_none}
+use Rattle.outcomes.proofs.Spending.{counts_none}
 use Rattle.cell_eval.proofs.Arms.{in_before}
 use Rattle.net_cells.specs.CellFormulas.{formula}
 use Rattle.cell_eval.proofs.Stopping.{none_stops}

@@ -11,7 +11,7 @@ use Rattle.cell_eval.specs.declared.found.Pick.TheVariants.{InQueue}
 use Rattle.cell_eval.specs.Chosen.{all_chosen}
 use Rattle.cell_eval.specs.Partial.{Adds}
 use Rattle.cell_eval.proofs.Choosing.{other_visits}
-use Rattle.cell_eval.specs.Evaluates.{Counts}
+use Rattle.outcomes.specs.Spending.{Counts}
 use Rattle.cell_eval.proofs.Arms.{cross_ready}
 use Rattle.cell_eval.proofs.curves.cross.Goals as goal
 

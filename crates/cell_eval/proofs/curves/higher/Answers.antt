@@ -4,7 +4,7 @@ use Rattle.std.proofs.lemmas.List.FromFn.{length-map-range_with_len}
 use Rattle.net_cells.specs.declared.cell.Kind.TheVariants.{Total}
 use Rattle.net_cells.specs.Cells.{cell_of}
 use Rattle.net_cells.specs.cell_table.Values.{answer_of, meaning_of}
-use Rattle.cell_eval.specs.Evaluates.{Counts}
+use Rattle.outcomes.specs.Spending.{Counts}
 use Rattle.cell_eval.proofs.Arms.{higher_ready}
 use Rattle.cell_eval.proofs.curves.higher.Goals as goal
 

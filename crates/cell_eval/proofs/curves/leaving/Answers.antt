@@ -1,4 +1,4 @@
-use Rattle.cell_eval.proofs.Counting.{counts_all}
+use Rattle.outcomes.proofs.Spending.{counts_all}
 use Rattle.cell_eval.proofs.Arms.{out_shifted, out_spread}
 use Rattle.std.proofs.Common.{subst}
 use Rattle.upp_limits.specs.declared.op_kind.OpKind.TheVariants.{Min}

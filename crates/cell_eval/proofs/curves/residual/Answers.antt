@@ -1,4 +1,4 @@
-use Rattle.cell_eval.proofs.Counting.{counts_all}
+use Rattle.outcomes.proofs.Spending.{counts_all}
 use Rattle.cell_eval.proofs.Arms.{residual_service, residual_cross, residual_theta}
 use Rattle.std.proofs.Common.{subst}
 use Rattle.net_cells.specs.declared.cell.Kind.TheVariants.{Cross, QueueService, Theta, Residual}

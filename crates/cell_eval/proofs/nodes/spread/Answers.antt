@@ -10,7 +10,7 @@ use Rattle.net_cells.specs.Formulas.{value_of, made}
 use Rattle.net_cells.specs.CellFormulas.{less}
 use Rattle.net_cells.specs.Refusals.{RefusedAt}
 use Rattle.net_cells.specs.cell_table.Values.{answer_of, meaning_of}
-use Rattle.cell_eval.proofs.Counting.{counts_all}
+use Rattle.outcomes.proofs.Spending.{counts_all}
 use Rattle.cell_eval.proofs.Handing.{applies_out, shared_makes}
 use Rattle.cell_eval.proofs.PathSteps.{joined_answer, second_fails}
 use Rattle.cell_eval.proofs.OperatorStopping.{second_refused, both_refused}

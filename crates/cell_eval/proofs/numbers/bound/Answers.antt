@@ -1,7 +1,7 @@
 use Rattle.net_cells.specs.declared.cell.Kind.TheVariants.{Tfa, Sfa}
 use Rattle.net_cells.specs.Cells.{cell_of}
 use Rattle.net_cells.specs.Formulas.{value_of}
-use Rattle.cell_eval.proofs.Counting.{counts_none}
+use Rattle.outcomes.proofs.Spending.{counts_none}
 use Rattle.cell_eval.proofs.Arms.{bound_tfa, bound_sfa}
 use Rattle.cell_eval.proofs.PathSums.{smaller_answer}
 use Rattle.net_cells.specs.declared.cell.Kind.TheVariants.{Bound}

@@ -2,7 +2,7 @@ use Rattle.net_cells.specs.declared.cell.Kind.TheVariants.{In, Residual, QueueDe
 use Rattle.net_cells.specs.Numbered.{server_of_hop, queue_of_hop}
 use Rattle.net_cells.specs.Cells.{cell_of}
 use Rattle.net_cells.specs.Formulas.{value_of, horizontal}
-use Rattle.cell_eval.proofs.Counting.{counts_all}
+use Rattle.outcomes.proofs.Spending.{counts_all}
 use Rattle.cell_eval.proofs.Arms.{hop_comes, hop_served_by, hop_queue}
 use Rattle.cell_eval.proofs.PathSums.{smaller_answer, smaller_refused}
 use Rattle.cell_eval.proofs.Stopping.{ok_stops}

@@ -4,7 +4,7 @@ use Rattle.net_cells.specs.Cells.{cell_of}
 use Rattle.net_cells.specs.Formulas.{value_of, horizontal}
 use Rattle.net_cells.specs.Means.{with_links}
 use Rattle.net_cells.specs.CellFormulas.{link_delays}
-use Rattle.cell_eval.proofs.Counting.{counts_all}
+use Rattle.outcomes.proofs.Spending.{counts_all}
 use Rattle.cell_eval.proofs.Arms.{sfa_comes, sfa_served_by}
 use Rattle.outcomes.specs.Calls.{stops}
 use Rattle.std.proofs.Common.{refl}

@@ -1,4 +1,4 @@
-use Rattle.cell_eval.proofs.Counting.{counts_none}
+use Rattle.outcomes.proofs.Spending.{counts_none}
 use Rattle.cell_eval.proofs.Arms.{tfa_delays}
 use Rattle.net_cells.specs.Means.{with_links}
 use Rattle.net_cells.specs.CellFormulas.{link_delays}

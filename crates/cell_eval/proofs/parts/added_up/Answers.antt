@@ -2,11 +2,12 @@ use Rattle.std.proofs.Common.{◌≡◌, ◌∙◌, ◌+◌, ◌-◌, length, ma
 use Rattle.std.proofs.lemmas.Bool.{eqb-true, eqb-false}
 use Rattle.net_cells.specs.Numbered.{zero_curve}
 use Rattle.net_cells.specs.cell_table.Values.{answer_of, meaning_of}
-use Rattle.cell_eval.specs.Evaluates.{Counts}
+use Rattle.outcomes.specs.Spending.{Counts}
 use Rattle.cell_eval.specs.Parts.{curve_of}
-use Rattle.cell_eval.proofs.Counting.{counts_none}
+use Rattle.outcomes.proofs.Spending.{counts_none}
 use Rattle.cell_eval.proofs.Handing.{again_out, shared_makes}
-use Rattle.cell_eval.proofs.PartSums.{no_parts, one_part, shared_sum, shared_counts, held_at}
+use Rattle.cell_eval.proofs.PartSums.{no_parts, one_part, shared_sum, held_at}
+use Rattle.cell_eval.proofs.SharedCounts.{shared_counts}
 use Rattle.plain_operators.specs.curve_call.specs.Again.{IsAgain}
 use Rattle.net_cells.specs.Meanings.{curve}
 use Rattle.net_cells.specs.Answers.{MakesCurve, SumsOf}
@@ -14,7 +15,7 @@ use Rattle.net_cells.specs.Refusals.{SumsRefused}
 use Rattle.residuals.proofs.calls.Placed.{if_err}
 use Rattle.std.proofs.lemmas.List.{length-map}
 use Rattle.cell_eval.proofs.PartSums.{no_parts_refused, one_part_refused}
-use Rattle.cell_eval.proofs.OperatorStopping.{shared_refused, sums_full, counted_ok}
+use Rattle.cell_eval.proofs.OperatorStopping.{shared_refused, sums_full, ok_map}
 use Rattle.cell_eval.proofs.parts.added_up.Goals as goal
 
 pub returns-then-is_empty-clause-sum : goal.returns-then-is_empty-clause-sum
@@ -88,7 +89,7 @@ returns-clause-refused g c =
     let some = eqb-false (length c.args.parts.now) 0 (sym c.is_empty.ensures ∙ c.if-is_empty.false) in
     let as_many = length-map c.args.parts.now (curve_of at) in
     let k = length c.args.parts.now - 1 in
-    let all = counted_ok made (c.many_added-made.new.steps ≡ c.args.steps.now + k) (counted ≡ k) (λ e. omega (arith, e))
+    let all = ok_map made (c.many_added-made.new.steps ≡ c.args.steps.now + k) (counted ≡ k) (λ e. omega (arith, e))
     c.many_added-made.ensures.counts.exact in
     shared_refused meaning_of (λ r. SumsOf fs (answer_of curve r)) (SumsRefused fs) made c.shared-2.result counted k
     (λ f p. sums_full fs k (curve f) (omega (arith, some, as_many)) p)

@@ -7,7 +7,7 @@ use Rattle.plain_operators.specs.curve_call.specs.Calls.{Applies}
 use Rattle.outcomes.specs.Calls.{goes_on, stops}
 use Rattle.plain_operators.specs.curve_call.proofs.Applied.{applied_seen}
 use Rattle.net_cells.specs.Meanings.{curve}
-use Rattle.cell_eval.proofs.Counting.{counts_all}
+use Rattle.outcomes.proofs.Spending.{counts_all}
 use Rattle.cell_eval.proofs.PathSteps.{made_answer}
 use Rattle.std.specs.Prelude.{Ok}
 use Rattle.residuals.specs.calls.InTurn.{past, on_the_way}

@@ -8,11 +8,11 @@ use Rattle.net_cells.specs.QueueParts.{in_part}
 use Rattle.net_cells.specs.CellFormulas.{part_sum}
 use Rattle.net_cells.specs.Refusals.{RefusedAt}
 use Rattle.cell_eval.specs.declared.curve_sums.Partial.{Partial}
-use Rattle.cell_eval.specs.Evaluates.{Counts}
+use Rattle.outcomes.specs.Spending.{Counts}
 use Rattle.cell_eval.specs.Partial.{Adds}
 use Rattle.cell_eval.specs.Parts.{MakesPart, part_answer, part_work}
 use Rattle.cell_eval.proofs.Choosing.{part_visits}
-use Rattle.cell_eval.proofs.Counting.{counts_all}
+use Rattle.outcomes.proofs.Spending.{counts_all}
 use Rattle.cell_eval.proofs.OperatorStopping.{err_map}
 use Rattle.cell_eval.proofs.SumSteps.{failed_at}
 use Rattle.cell_eval.proofs.PartSteps.{entering, entering_counts, refused_part, refused_counts, part_refused}

@@ -1,7 +1,7 @@
 use Rattle.std.proofs.Common.{◌≡◌, suc, ◌+◌, ◌-◌, length, sym, ap, subst, arith}
 use Rattle.std.proofs.lemmas.List.{length-map}
 use Rattle.net_model.specs.Views.{server_of}
-use Rattle.cell_eval.specs.Evaluates.{Counts}
+use Rattle.outcomes.specs.Spending.{Counts}
 use Rattle.cell_eval.specs.Parts.{MakesPart, AreMade, part_answer, part_work}
 use Rattle.cell_eval.proofs.PartSteps.{none_made, next_made, refused_made}
 use Rattle.std.specs.Prelude.{IfErr}

@@ -2,7 +2,7 @@ use Rattle.std.proofs.Common.{◌-◌, length, map, sym, subst}
 use Rattle.std.specs.Prelude.{All}
 use Rattle.net_cells.specs.Answers.{SumsOf}
 use Rattle.net_cells.specs.cell_table.Values.{answer_of, meaning_of}
-use Rattle.cell_eval.specs.Evaluates.{Counts}
+use Rattle.outcomes.specs.Spending.{Counts}
 use Rattle.cell_eval.specs.Parts.{IsHeld, curve_of}
 use Rattle.cell_eval.proofs.PartSteps.{refused_gives, made_gives, made_counts}
 use Rattle.std.specs.Prelude.{IfErr}

@@ -11,7 +11,7 @@ use Rattle.net_cells.specs.cell_table.Values.{answer_of, meaning_of}
 use Rattle.cell_eval.proofs.Handing.{priority_out, shared_makes, on_cell}
 use Rattle.cell_eval.specs.declared.found.Pick.TheVariants.{AfterQueue}
 use Rattle.cell_eval.proofs.Choosing.{picked_are}
-use Rattle.cell_eval.proofs.SharedCounts.{shared_ok}
+use Rattle.cell_eval.proofs.SharedCounts.{shared_counts}
 use Rattle.std.specs.Prelude.{IfErr}
 use Rattle.net_cells.specs.Refusals.{RefusedAt}
 use Rattle.residuals.specs.calls.InTurn.{past, PriorityRefused}
@@ -45,13 +45,8 @@ returns-clause-answer g c =
 
 pub returns-clause-counts : goal.returns-clause-counts
 returns-clause-counts g c =
-    let low = c.priority_service-made.ensures.least in
-    record {
-      exact = shared_ok (c.priority_service-made.new.steps ≡ c.args.steps.now + 3) c.priority_service-made.result (answer_of meaning_of c.shared.result)
-          c.shared.ensures c.priority_service-made.ensures.all;
-      least = omega (arith, low);
-      most = c.priority_service-made.ensures.most;
-    }
+    shared_counts 3 c.args.steps.now c.priority_service-made.new.steps c.priority_service-made.result (answer_of meaning_of c.shared.result)
+    c.priority_service-made.ensures.counts c.shared.ensures
 
 pub returns-clause-refused : goal.returns-clause-refused
 returns-clause-refused g c =
@@ -62,9 +57,8 @@ returns-clause-refused g c =
     let l = c.longest_at-lower.result in
     let made = c.priority_service-made.result in
     let counted = c.priority_service-made.new.steps - c.args.steps.now in
-    let low = c.priority_service-made.ensures.least in
     let all = ok_map made (c.priority_service-made.new.steps ≡ c.args.steps.now + 3) (counted ≡ 3) (λ e. omega (arith, e))
-    c.priority_service-made.ensures.all in
+    c.priority_service-made.ensures.counts.exact in
     subst (λ n. IfErr c.shared.result (λ e. RefusedAt at (priority β before n) e counted))
     (below g (goal.at.returns-clause-refused g c).After-longest_at-lower)
     (err_map c.shared.result (λ e. PriorityRefused β f l e counted) (λ e. RefusedAt at (priority β before l) e counted)

@@ -4,7 +4,7 @@ use Rattle.net_cells.specs.Left.{longest_each}
 use Rattle.net_cells.specs.Answers.{MakesCurve}
 use Rattle.net_cells.specs.cell_table.Values.{answer_of, meaning_of}
 use Rattle.cell_eval.proofs.Handing.{drr_out, shared_makes}
-use Rattle.cell_eval.proofs.SharedCounts.{shared_ok}
+use Rattle.cell_eval.proofs.SharedCounts.{shared_counts}
 use Rattle.std.specs.Prelude.{IfErr}
 use Rattle.residuals.specs.calls.InTurn.{DrrRefused}
 use Rattle.cell_eval.proofs.OperatorStopping.{drr_full, shared_refused, ok_map}
@@ -28,13 +28,8 @@ returns-clause-answer g c = λ at.
 
 pub returns-clause-counts : goal.returns-clause-counts
 returns-clause-counts g c =
-    let low = c.drr_service-made.ensures.least in
-    record {
-      exact = shared_ok (c.drr_service-made.new.steps ≡ c.args.steps.now + 2) c.drr_service-made.result (answer_of meaning_of c.shared.result)
-          c.shared.ensures c.drr_service-made.ensures.all;
-      least = omega (arith, low);
-      most = c.drr_service-made.ensures.most;
-    }
+    shared_counts 2 c.args.steps.now c.drr_service-made.new.steps c.drr_service-made.result (answer_of meaning_of c.shared.result)
+    c.drr_service-made.ensures.counts c.shared.ensures
 
 pub returns-clause-refused : goal.returns-clause-refused
 returns-clause-refused g c =
@@ -45,7 +40,7 @@ returns-clause-refused g c =
     let made = c.drr_service-made.result in
     let counted = c.drr_service-made.new.steps - c.args.steps.now in
     let all = ok_map made (c.drr_service-made.new.steps ≡ c.args.steps.now + 2) (counted ≡ 2) (λ e. omega (arith, e))
-    c.drr_service-made.ensures.all in
+    c.drr_service-made.ensures.counts.exact in
     subst (λ zs. IfErr c.shared.result (λ e. DrrRefused β c.args.quanta.now zs c.args.place.1 e counted)) sizes
     (shared_refused meaning_of (MakesDrr β c.args.quanta.now c.deref.result.now c.args.place.1)
     (DrrRefused β c.args.quanta.now c.deref.result.now c.args.place.1) made c.shared.result counted 2

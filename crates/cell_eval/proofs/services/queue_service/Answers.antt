@@ -1,5 +1,5 @@
-use Rattle.std.proofs.Common.{◌≡◌, ◌<◌, ◌+◌, ◌-◌, arith, sym, ap, ◌∙◌, subst}
-use Rattle.std.specs.Prelude.{IfErr, OnOk, Option, Ok, Err}
+use Rattle.std.proofs.Common.{◌≡◌, ◌<◌, ◌-◌, arith, sym, ap, ◌∙◌, subst}
+use Rattle.std.specs.Prelude.{IfErr, Option}
 use Rattle.plain_operators.specs.curve_call.specs.Again.{IsAgain}
 use Rattle.residuals.specs.left.Left.{EachBefore, IsFit, left_work}
 use Rattle.residuals.proofs.calls.Placed.{if_err}
@@ -12,11 +12,12 @@ use Rattle.net_cells.specs.Numbered.{discipline, service, queues, discipline_of,
 use Rattle.net_cells.specs.Left.{left_of, left_by}
 use Rattle.net_cells.specs.Formulas.{Formula}
 use Rattle.net_cells.specs.CellFormulas.{left_formula, queue_service}
-use Rattle.net_cells.specs.Answers.{Answer, Answers, MakesCurve}
+use Rattle.net_cells.specs.Answers.{Answers, MakesCurve}
 use Rattle.net_cells.specs.Refusals.{AtNone, RefusedAt}
 use Rattle.net_cells.specs.cell_table.Values.{answer_of, meaning_of}
 use Rattle.net_cells.proofs.LeftOf.{left_fits}
-use Rattle.cell_eval.specs.Evaluates.{Counts}
+use Rattle.outcomes.specs.Spending.{Counts}
+use Rattle.outcomes.proofs.Spending.{counts_none}
 use Rattle.cell_eval.specs.TableValues.{IsCurveAt}
 use Rattle.cell_eval.proofs.Handing.{again_out, shared_makes}
 use Rattle.cell_eval.proofs.services.queue_service.Given.{Over}
@@ -78,17 +79,13 @@ returns-in-All-clause-refused g c =
       subst (λ r. MakesCurve (IsAgain c.in-Some.found.now.service) (answer_of meaning_of r)) refused made,
     )))
 
-on_ok : (r : Answer) (A : Type 0) → A → OnOk r A
-on_ok (Ok v) A a = a
-on_ok (Err fault) A a = tt
-
 pub returns-in-All-clause-counts : goal.returns-in-All-clause-counts
 returns-in-All-clause-counts g c =
     let here = (goal.at.returns-in-All-clause-counts g c).In-Some in
     let old = c.args.steps.now in
     let r = answer_of meaning_of c.shared.result in
-    let none : Counts 0 old old r = record { exact = on_ok r (old ≡ old + 0) (omega arith); least = omega arith; most = omega arith } in
-    subst (λ l. Counts (left_work l) old old r) (by_server g here All (c.in-All.ensures c.args.net.now c.args.place.0 c.args.place.1)) none
+    subst (λ l. Counts (left_work l) old old r) (by_server g here All (c.in-All.ensures c.args.net.now c.args.place.0 c.args.place.1))
+    (counts_none old r)
 
 -- ---- what is above the queues before
 pub returns-in-Above-clause-answer : goal.returns-in-Above-clause-answer

@@ -3,7 +3,7 @@ use Rattle.std.specs.Prelude.{Ok, Err}
 use Rattle.net_cells.specs.cell_table.Values.{answer_of, meaning_of}
 use Rattle.cell_eval.specs.Partial.{Adds}
 use Rattle.cell_eval.proofs.SumSteps.{failed_given}
-use Rattle.cell_eval.proofs.Counting.{counts_all}
+use Rattle.outcomes.proofs.Spending.{counts_all}
 use Rattle.cell_eval.proofs.Arms.{sum_counts}
 use Rattle.upp_limits.specs.declared.op_kind.OpFault.TheVariants.{NoMemory}
 use Rattle.net_cells.specs.CellFormulas.{sum_of_cells}

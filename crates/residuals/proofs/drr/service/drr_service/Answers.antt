@@ -6,6 +6,7 @@ use Rattle.outcomes.specs.Calls.{stops}
 use Rattle.plain_operators.specs.curve_call.proofs.Applied.{applied_seen}
 use Rattle.residuals.specs.calls.DrrCalls.{owed_in}
 use Rattle.residuals.specs.calls.InTurn.{on_the_way, past, DrrRefused}
+use Rattle.outcomes.proofs.Spending.{counts_all, counts_refused}
 use Rattle.residuals.proofs.calls.Placed.{if_err}
 use Rattle.residuals.proofs.calls.DrrCalls.{made, scaled_finite, ok_service}
 use Rattle.residuals.proofs.drr.service.drr_service.Goals as goal
@@ -86,3 +87,15 @@ returns-clause-refused g c =
       subst (λ r. AppliesTo (PosMinus (owed_in c.args.quanta.now c.args.longest.now c.args.queue)) c.in_ok-scaled.scaled r) is
           (subst (λ l. AppliesTo (PosMinus l) c.in_ok-scaled.scaled c.intact-2.result) c.turn_of-turn.ensures.owed second),
     ))
+
+pub returns-in_err-scaled-clause-counts : goal.returns-in_err-scaled-clause-counts
+returns-in_err-scaled-clause-counts g c =
+    let p = err_from_is_err_and c.from_residual.result c.from_residual.ensures.1 in
+    let one = c.scale.ensures.count in
+    counts_refused 2 c.args.steps.now c.scale.new.steps c.from_residual.result p.0 p.1 (omega (arith, one)) (omega (arith, one))
+
+pub returns-clause-counts : goal.returns-clause-counts
+returns-clause-counts g c =
+    let one = c.scale.ensures.count in
+    let two = c.pos_minus.ensures.count in
+    counts_all 2 c.args.steps.now c.pos_minus.new.steps c.intact-2.result (omega (arith, one, two))

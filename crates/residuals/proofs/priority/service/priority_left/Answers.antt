@@ -6,6 +6,7 @@ use Rattle.outcomes.specs.Calls.{goes_on, stops}
 use Rattle.plain_operators.specs.curve_call.proofs.Applied.{applied_seen}
 use Rattle.run_laws.specs.Cards.{whole}
 use Rattle.residuals.specs.calls.InTurn.{on_the_way, past, LeftRefused}
+use Rattle.outcomes.proofs.Spending.{counts_all, counts_refused}
 use Rattle.residuals.proofs.calls.PriorityCalls.{difference_finite}
 use Rattle.residuals.proofs.calls.Placed.{if_err}
 use Rattle.residuals.proofs.priority.service.priority_left.Goals as goal
@@ -63,3 +64,15 @@ returns-clause-refused g c =
       subst (λ r. AppliesTo (PosMinus (whole c.args.lower)) c.in_ok-above.above r) is
           (subst (λ l. AppliesTo (PosMinus l) c.in_ok-above.above c.intact-2.result) c.whole.ensures second),
     ))
+
+pub returns-in_err-above-clause-counts : goal.returns-in_err-above-clause-counts
+returns-in_err-above-clause-counts g c =
+    let p = err_from_is_err_and c.from_residual.result c.from_residual.ensures.1 in
+    let one = c.pos_diff.ensures.count in
+    counts_refused 2 c.args.steps.now c.pos_diff.new.steps c.from_residual.result p.0 p.1 (omega (arith, one)) (omega (arith, one))
+
+pub returns-clause-counts : goal.returns-clause-counts
+returns-clause-counts g c =
+    let one = c.pos_diff.ensures.count in
+    let two = c.pos_minus.ensures.count in
+    counts_all 2 c.args.steps.now c.pos_minus.new.steps c.intact-2.result (omega (arith, one, two))

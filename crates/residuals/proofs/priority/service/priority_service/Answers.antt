@@ -3,8 +3,9 @@ use Rattle.std.proofs.lemmas.Result.{err_from_is_err_and}
 use Rattle.upp_limits.specs.declared.op_kind.OpKind.TheVariants.{RunSup}
 use Rattle.plain_operators.specs.curve_call.specs.Calls.{AppliesTo}
 use Rattle.outcomes.specs.Calls.{goes_on, stops}
-use Rattle.plain_operators.specs.curve_call.proofs.Applied.{applied_seen, if_ok}
+use Rattle.plain_operators.specs.curve_call.proofs.Applied.{applied_seen}
 use Rattle.residuals.specs.calls.InTurn.{on_the_way, past, PriorityRefused}
+use Rattle.outcomes.proofs.Spending.{counts_all, counts_refused}
 use Rattle.residuals.proofs.calls.Placed.{if_err}
 use Rattle.residuals.proofs.calls.PriorityCalls.{left_finite, left_nonneg, ok_service}
 use Rattle.residuals.proofs.priority.service.priority_service.Goals as goal
@@ -37,14 +38,18 @@ returns-clause-value g c =
     c.run_sup.ensures.value
     c.run_sup.ensures.limits c.intact.ensures.kept))
 
-pub returns-clause-all : goal.returns-clause-all
-returns-clause-all g c =
-    let steps : c.run_sup.new.steps ≡ c.args.steps.now + 3 = omega (
-      arith,
-      c.in_ok-left.ensures.all,
-      c.run_sup.ensures.count,
-    ) in
-    if_ok c.intact.result steps
+pub returns-in_err-left-clause-counts : goal.returns-in_err-left-clause-counts
+returns-in_err-left-clause-counts g c =
+    let p = err_from_is_err_and c.from_residual.result c.from_residual.ensures.1 in
+    let counts = c.in_err-left.ensures.counts in
+    let most = counts.most in
+    counts_refused 3 c.args.steps.now c.priority_left.new.steps c.from_residual.result p.0 p.1 counts.least (omega (arith, most))
+
+pub returns-clause-counts : goal.returns-clause-counts
+returns-clause-counts g c =
+    let two = c.in_ok-left.ensures.counts.exact in
+    let one = c.run_sup.ensures.count in
+    counts_all 3 c.args.steps.now c.run_sup.new.steps c.intact.result (omega (arith, two, one))
 
 pub returns-in_err-left-clause-refused : goal.returns-in_err-left-clause-refused
 returns-in_err-left-clause-refused g c =
@@ -53,7 +58,7 @@ returns-in_err-left-clause-refused g c =
 
 pub returns-clause-refused : goal.returns-clause-refused
 returns-clause-refused g c =
-    let all = c.in_ok-left.ensures.all in
+    let all = c.in_ok-left.ensures.counts.exact in
     let one = c.run_sup.ensures.count in
     let last = applied_seen RunSup c.in_ok-left.left c.in_ok-left.left c.run_sup.result c.intact.result c.intact.ensures.same
     c.run_sup.ensures.value c.run_sup.ensures.limits c.intact.ensures.kept in

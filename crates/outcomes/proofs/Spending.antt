@@ -1,0 +1,32 @@
+-- How operators are counted.
+use Rattle.std.proofs.Common.{◌≡◌, ℕ, ◌+◌, ◌≤◌, arith, subst, sym}
+use Rattle.std.specs.Prelude.{Result, Ok, Err, OnOk}
+use Rattle.outcomes.specs.Spending.{Counts}
+
+-- all are counted, whatever the answer
+pub counts_all : {A E : Type 0} (n old new : ℕ) (r : Result A E) → new ≡ old + n → Counts n old new r
+counts_all {A} {E} n old new r e = record { exact = exact r; least = omega (arith, e); most = omega (arith, e) }
+  where
+    exact : (s : Result A E) → OnOk s (new ≡ old + n)
+    exact (Ok x) = e
+    exact (Err fault) = tt
+
+-- a refusal counts no more
+pub counts_refused : {A E : Type 0} (n old new : ℕ) (r : Result A E) (fault : E) → r ≡ Err fault → old ≤ new → new ≤ old + n
+    → Counts n old new r
+counts_refused {A} {E} n old new r fault is least most =
+    subst (Counts n old new) (sym is) (record { exact = tt; least = least; most = most })
+
+pub counts_none : {A E : Type 0} (n : ℕ) (r : Result A E) → Counts 0 n n r
+counts_none n r = counts_all 0 n n r (omega arith)
+
+-- after others that are all counted
+pub counts_then : {A E : Type 0} (n m old mid new : ℕ) (r : Result A E) → mid ≡ old + n → Counts m mid new r → Counts (n + m) old new r
+counts_then {A} {E} n m old mid new r e c =
+    let least = c.least in
+    let most = c.most in
+    record { exact = exact r c.exact; least = omega (arith, e, least); most = omega (arith, e, most) }
+  where
+    exact : (s : Result A E) → OnOk s (new ≡ mid + m) → OnOk s (new ≡ old + (n + m))
+    exact (Ok x) h = omega (arith, e, h)
+    exact (Err fault) h = tt
