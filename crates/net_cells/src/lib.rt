@@ -26,6 +26,6 @@ pub use numbered::{
     hops, is_by_priority, levels, live_flow, queue_of_hop, queues, server, server_of_hop,
 };
 pub use operand::{operands, visits_in};
-pub use order::cells;
+pub use order::{cells, path_kinds, server_kinds};
 pub use parts::part_of;
 pub use visit::{Visit, visits};

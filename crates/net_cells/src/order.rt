@@ -3,7 +3,7 @@
 ghost use Rattle.std.specs.Prelude.{◌≡◌, ◌++◌, map, IfOk, OnOk};
 ghost use Rattle.std.specs.List.{filter, flat_map, range_with_len};
 ghost use Rattle.net_cells.specs.Visits as visiting;
-ghost use Rattle.net_cells.specs.Cells.{cell_of, scope_of, path_kinds};
+ghost use Rattle.net_cells.specs.Cells.{cell_of, scope_of, server_kinds, path_kinds};
 ghost use Rattle.net_cells.specs.Order.{at_visit, kind_cells, server_cells, path_cells, evaluation_order};
 
 use crate::cell::{Cell, Kind, Scope};
@@ -30,6 +30,34 @@ impl Kind {
             Kind::PathService | Kind::Tfa | Kind::Sfa | Kind::Bound => Scope::EachPath,
         }
     }
+}
+
+/// The kinds of the cells at a server, in the order in which they are taken there.
+pub fn server_kinds() -> [Kind; 13]
+    ensures { result ≡ server_kinds }
+{
+    [
+        Kind::In,
+        Kind::Cross,
+        Kind::Total,
+        Kind::Higher,
+        Kind::QueueService,
+        Kind::Theta,
+        Kind::Residual,
+        Kind::QueueDelay,
+        Kind::QueueBacklog,
+        Kind::HopDelay,
+        Kind::ShiftOut,
+        Kind::DeconvOut,
+        Kind::Out,
+    ]
+}
+
+/// The kinds of the cells of whole paths, in the order in which they are taken.
+pub fn path_kinds() -> [Kind; 4]
+    ensures { result ≡ path_kinds }
+{
+    [Kind::PathService, Kind::Tfa, Kind::Sfa, Kind::Bound]
 }
 
 // ---- the cells of a kind at a server
@@ -121,21 +149,7 @@ fn push_server(
     ensures { OnOk result (cells.new.items ≡ cells.old.items ++ server_cells net.now server) }
 {
     let here = visits(alloc, net, server)?;
-    let kinds = [
-        Kind::In,
-        Kind::Cross,
-        Kind::Total,
-        Kind::Higher,
-        Kind::QueueService,
-        Kind::Theta,
-        Kind::Residual,
-        Kind::QueueDelay,
-        Kind::QueueBacklog,
-        Kind::HopDelay,
-        Kind::ShiftOut,
-        Kind::DeconvOut,
-        Kind::Out,
-    ];
+    let kinds = server_kinds();
     for kind in &kinds {
         push_kind(cells, net, *kind, server, &here)?;
     }
@@ -162,7 +176,7 @@ fn push_paths(cells: &mut Vec<Cell>, net: &Network, kind: Kind) -> Result<(), Al
 fn push_all_paths(cells: &mut Vec<Cell>, net: &Network) -> Result<(), AllocError>
     ensures { OnOk result (cells.new.items ≡ cells.old.items ++ flat_map (path_cells net.now) path_kinds) }
 {
-    let kinds = [Kind::PathService, Kind::Tfa, Kind::Sfa, Kind::Bound];
+    let kinds = path_kinds();
     for kind in &kinds {
         push_paths(cells, net, *kind)?;
     }

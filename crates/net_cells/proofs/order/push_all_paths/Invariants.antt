@@ -1,9 +1,8 @@
 use Rattle.std.proofs.Common.{◌≡◌, ◌++◌, take}
 use Rattle.std.specs.List.{flat_map}
-use Rattle.net_cells.specs.Cells.{path_kinds}
 use Rattle.net_cells.specs.Order.{path_cells}
 use Rattle.net_cells.proofs.order.push_all_paths.Given as goal
 
 abbrev pub invariant-loop-kind : goal.invariant-loop-kind
 invariant-loop-kind l = l.cells.items ≡ l.initial.cells.items ++ flat_map (path_cells l.net)
-    (take l.kind-index path_kinds)
+    (take l.kind-index l.kind-items)

@@ -1,7 +1,7 @@
-use Rattle.std.proofs.Common.{take}
+use Rattle.std.proofs.Common.{◌<◌, ◌≤◌, List, ◌++◌, length, take, ap, ◌∙◌, arith}
 use Rattle.std.specs.List.{flat_map}
-use Rattle.std.proofs.lemmas.List.{get_or_default}
-use Rattle.net_cells.specs.Cells.{server_kinds}
+use Rattle.std.proofs.lemmas.List.{get_or_default, take_all}
+use Rattle.net_cells.specs.declared.cell.Kind.{Kind}
 use Rattle.net_cells.specs.Order.{kind_cells}
 use Rattle.net_cells.proofs.Growing.{behind, flat_element}
 use Rattle.net_cells.proofs.order.push_server.Goals as goal
@@ -10,7 +10,18 @@ pub loop-kind-preserved : goal.loop-kind-preserved
 loop-kind-preserved c =
     let f = kind_cells c.args.net.now c.args.server in
     let i = c.loop-kind.kind-index in
+    let kinds = c.server_kinds-kinds.result in
+    let many = ap length c.server_kinds-kinds.ensures in
+    let within : i < length kinds = omega (arith, c.loop-kind-test.true, many) in
     behind c.args.cells.now.items c.loop-kind.cells.items c.push_kind.new.cells.items _
-    (flat_map f (take i server_kinds)) _
+    (flat_map f (take i kinds)) _
     c.loop-kind.invariant c.in_ok-push_kind.ensures
-    (flat_element f server_kinds i _ c.loop-kind-test.true (get_or_default server_kinds i _ _ c.loop-kind-test.true))
+    (flat_element f kinds i _ within (get_or_default kinds i _ _ within))
+
+pub returns : goal.returns
+returns c =
+    let many = ap length c.server_kinds-kinds.ensures in
+    let past : length c.server_kinds-kinds.result ≤ c.loop-kind.kind-index = omega (arith, c.loop-kind-test.false, many) in
+    c.loop-kind.invariant
+    ∙ ap (λ (kinds : List Kind). c.args.cells.now.items ++ flat_map (kind_cells c.args.net.now c.args.server) kinds)
+    (take_all c.loop-kind.kind-index c.server_kinds-kinds.result past ∙ c.server_kinds-kinds.ensures)
