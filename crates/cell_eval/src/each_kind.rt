@@ -5,7 +5,7 @@ ghost use Rattle.net_cells.specs.declared.cell.Kind.TheVariants.{In, Cross, Tota
 ghost use Rattle.net_cells.specs.declared.cell.Kind.TheVariants.{Theta, Residual, QueueDelay, QueueBacklog};
 ghost use Rattle.net_cells.specs.declared.cell.Kind.TheVariants.{HopDelay, ShiftOut, DeconvOut, Out};
 ghost use Rattle.net_cells.specs.declared.cell.Kind.TheVariants.{PathService, Tfa, Sfa, Bound};
-ghost use Rattle.std.specs.Prelude.{◌≡◌, ◌+◌, ◌-◌, ◌≤◌, ◌<◌, IsTrue, OnOk, Result, Err};
+ghost use Rattle.std.specs.Prelude.{IsTrue, Result};
 ghost use Rattle.upp_limits.specs.declared.op_kind.OpFault.{OpFault};
 ghost use Rattle.net_cells.specs.Cells.{has_cell};
 ghost use Rattle.net_cells.specs.CellFormulas.{formula};
@@ -14,6 +14,7 @@ ghost use Rattle.net_cells.specs.Work.{work};
 ghost use Rattle.net_cells.specs.Refusals.{Stops};
 ghost use Rattle.net_cells.specs.cell_table.Gives.{Gives};
 ghost use Rattle.net_cells.specs.cell_table.Values.{answer_of, meaning_of};
+ghost use Rattle.outcomes.specs.Spending.{Spends};
 ghost use Rattle.cell_eval.specs.Evaluates.{MayBeMade, Evaluates};
 
 use crate::{
@@ -74,11 +75,8 @@ pub fn eval<T: Table<Value>, L: Ledger>(
     requires cell { IsTrue (has_cell net.now cell) }
     requires below { MeetsBelow net.now (T.at table.now) cell }
     ensures answer { Gives (T.at table.now) (formula net.now cell) (answer_of meaning_of result) }
-    ensures exact { OnOk result (steps.new ≡ steps.old + work net.now cell) }
-    ensures rises { steps.old ≤ steps.new }
-    ensures within { steps.new ≤ steps.old + work net.now cell }
-    ensures memory { result ≡ Err OpFault.NoMemory →
-        Stops (T.at table.now) (formula net.now cell) OpFault.NoMemory (steps.new - steps.old) }
+    ensures spends { Spends (work net.now cell) OpFault.NoMemory
+        (Stops (T.at table.now) (formula net.now cell) OpFault.NoMemory) steps.old steps.new result }
 {
     net.keeps();
     by_kind(alloc, cell, net, table, steps)

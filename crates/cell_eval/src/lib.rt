@@ -25,7 +25,7 @@ pub use curves::{
 };
 pub use each_kind::eval;
 pub use found::{Pick, chosen_at, link, longest_at, packet, rate};
-pub use net_cells::cell_table::{Analysis, AnalysisFault, CellValue, Evaluator, Table, Value};
+pub use net_cells::cell_table::{AnalysisFault, CellValue, Evaluator, Table, Value};
 pub use net_cells::{Cell, Kind, cells, operands, work};
 pub use nodes::{backlog, delay_between, later, left_over, lesser, spread};
 pub use numbers::{bound, hop_delay, queue_backlog, queue_delay, sfa, tfa, theta};

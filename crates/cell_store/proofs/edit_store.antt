@@ -1,5 +1,4 @@
 pub mod Steps
-pub mod Begun
 pub mod Outcomes
 pub mod OneSite
 pub mod PutBack

@@ -8,12 +8,13 @@ ghost use Rattle.command_replies.specs.View.{reply_of};
 ghost use Rattle.command_replies.specs.run_findings.CellCounts.{CountsOnCells};
 ghost use Rattle.commands.specs.Tabled.{HasTable, IsStopped};
 
+use cell_store::Values;
 use cell_store::flow_analysis::analyse;
 use command_replies::{Answer, cell_too_many, cell_too_wide, goes_round};
 use net_model::Network;
 use net_model::net_graph::{GraphFault, order};
 use outcomes::Steps;
-use report_text::net_cells::cell_table::{Analysis, AnalysisFault, Table, Value};
+use report_text::net_cells::cell_table::{AnalysisFault, Table, Value};
 use std::alloc::{AllocError, Global};
 use std::sync::ledger::Ledger;
 
@@ -23,10 +24,10 @@ fn in_order<L: Ledger>(
     net: &Network,
     order: &[u32],
     steps: &mut Steps<L>,
-) -> Result<Analysis<Value>, Result<Answer, AllocError>>
+) -> Result<Values<Value>, Result<Answer, AllocError>>
     requires accepted { IsAccepted net.now }
     requires order { IsOrder net.now order.now }
-    ensures table { IfOk result (λ t. HasTable net.now (⟦<Analysis<Value> as Table<Value>>⟧.at t)) }
+    ensures table { IfOk result (λ t. HasTable net.now (⟦<Values<Value> as Table<Value>>⟧.at t)) }
     ensures stopped { IfErr result (λ told. IfOk told (λ r. IsStopped net.now (reply_of r))) }
     ensures exact { IfOk result (λ t. (order : List ℕ) → IsOrder net.now order
         → steps.new ≡ steps.old + work_of_cells net.now order) }
@@ -47,9 +48,9 @@ pub(crate) fn table_of<L: Ledger>(
     alloc: Global,
     net: &Network,
     steps: &mut Steps<L>,
-) -> Result<Analysis<Value>, Result<Answer, AllocError>>
+) -> Result<Values<Value>, Result<Answer, AllocError>>
     requires { IsAccepted net.now }
-    ensures table { IfOk result (λ t. HasTable net.now (⟦<Analysis<Value> as Table<Value>>⟧.at t)) }
+    ensures table { IfOk result (λ t. HasTable net.now (⟦<Values<Value> as Table<Value>>⟧.at t)) }
     ensures stopped { IfErr result (λ told. IfOk told (λ r. IsStopped net.now (reply_of r))) }
     ensures exact { IfOk result (λ t. (order : List ℕ) → IsOrder net.now order
         → steps.new ≡ steps.old + work_of_cells net.now order) }

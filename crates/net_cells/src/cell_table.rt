@@ -1,13 +1,11 @@
 //! Values of the cells of a network, tables of them, and what makes them: the words in which the crates above speak of
 //! an analysis. No value is computed here.
 
-mod analysis;
 mod evaluator;
 mod fault;
 mod table;
 mod value;
 
-pub use analysis::Analysis;
 pub use evaluator::Evaluator;
 pub use fault::{AnalysisFault, refusal};
 pub use table::{CellValue, Table};

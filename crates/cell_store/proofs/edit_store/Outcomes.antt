@@ -11,6 +11,7 @@ use Rattle.net_model.specs.declared.net_graph.placing.GraphFault.{GraphFault}
 use Rattle.net_model.specs.declared.net_graph.placing.GraphFault.TheVariants as graph
 use Rattle.net_cells.specs.declared.cell.Cell.{Cell}
 use Rattle.net_cells.proofs.Lists.{contains_has}
+use Rattle.net_cells.specs.Meanings.{CellTable}
 use Rattle.net_cells.specs.Work.{work}
 use Rattle.net_cells.specs.declared.cell_table.fault.AnalysisFault.{AnalysisFault}
 use Rattle.net_cells.specs.declared.cell_table.fault.AnalysisFault.TheVariants as analysis
@@ -19,11 +20,11 @@ use Rattle.net_edits.specs.declared.fault.EditFault.TheVariants.{UnknownName, Na
 use Rattle.net_edits.specs.Edited.{edited}
 use Rattle.net_edits.specs.Replies.{IsReply, IsOverNone}
 use Rattle.net_edits.proofs.OverNone.{within_none}
-use Rattle.cell_store.specs.Edits.{IsFirstTouched, RefusesFor}
+use Rattle.cell_store.specs.Edits.{IsFirstTouched, RefusesFor, EditEnds}
 use Rattle.cell_store.proofs.Fronts.{are_touched}
 use Rattle.cell_store.specs.edit_store.Stored.{Stored, AreTouched, IsAdvanced, IsBack}
-use Rattle.cell_store.specs.edit_store.Applied.{Gives, IsTaken, IsTakenBack, IsCellOver, IsRefused, IsEvaluated, IsHidden, IsUnplanned}
-use Rattle.cell_store.specs.edit_store.Faults.{graph_fault, analysis_fault}
+use Rattle.cell_store.specs.edit_store.Applied.{Gives, IsTaken, IsTakenBack, IsCellOver, IsRefused, IsEvaluated, IsHidden, IsUnplanned, EndsInEdit, in_cells}
+use Rattle.cell_store.specs.edit_store.Faults.{graph_fault, analysis_fault, EditWants}
 use Rattle.cell_store.proofs.edit_store.Steps.{same_touched, gives_one}
 
 module _ {V : Type 0} where
@@ -146,3 +147,11 @@ reply_unplanned present edit NoMemory r = tt
 -- ---- want of memory
 pub given_none : (present net : Net) (edit : Edit) → Gives present edit net → IsOverNone (edited present edit)
 given_none present net edit gives = within_none (edited present edit) gives.edited gives.is gives.within
+
+pub wants_in_edit : (present : Net) (edit : Edit) (net : Net) (touched : List Cell) (old : CellTable) (n : ℕ) (why : AnalysisFault)
+    → Gives present edit net → AreTouched present net touched → (why ≡ analysis.NoMemory → EditEnds net touched old n)
+    → EditWants (EndsInEdit present edit old n) (analysis_fault why)
+wants_in_edit present edit net touched old n (analysis.TooMany c) gives are ends = tt
+wants_in_edit present edit net touched old n (analysis.TooWide c) gives are ends = tt
+wants_in_edit present edit net touched old n analysis.NoMemory gives are ends =
+    in_cells (record { net = net; gives = gives; touched = touched; are = are; ends = ends refl })

@@ -16,7 +16,7 @@ use Rattle.net_edits.specs.Changed as change
 use Rattle.net_edits.proofs.Replaced.{server_replaced, flow_replaced}
 use Rattle.cell_store.specs.version_table.Histories.{History}
 use Rattle.cell_store.specs.declared.edit_store.replaced.Replaced.{Replaced}
-use Rattle.cell_store.specs.edit_store.Stored.{Stored, IsStored, HoldsTable, IsAdvanced, IsBack}
+use Rattle.cell_store.specs.edit_store.Stored.{Stored, HoldsTable, IsAdvanced, IsBack}
 use Rattle.cell_store.specs.edit_store.Replaced.{without_last, put_back, first_network, networks_before, IsKept, IsServerChanged, IsFlowChanged, IsFlowAdded}
 use Rattle.cell_store.proofs.edit_store.Steps.{stored_more, stored_less}
 
@@ -140,8 +140,11 @@ count_before [] net = refl
 count_before (r ∷ rs) net = ap suc (count_before rs net)
 
 module _ {V : Type 0} (meaning : V → Meaning) where
-  pub first_kept : (net : Net) (values : History V) → IsStored meaning [] net values → IsKept meaning [] net values
-  first_kept net values stored = record { stored = stored; accepted = All-nil IsAccepted }
+  pub first_kept : (net : Net) (values : History V) → values.kept ≡ [] → HoldsTable meaning net values.newest → IsKept meaning [] net values
+  first_kept net values none held = record {
+    stored = record { many = sym (ap length none); each = λ j d v h. absurd (omega (arith, h)); now = held };
+    accepted = All-nil IsAccepted;
+  }
 
   pub kept_more : (rs more : List Replaced) (r : Replaced) (old net : Net) (was now : History V) → IsKept meaning rs old was
       → IsAccepted old → more ≡ rs ++ r ∷ [] → put_back r net ≡ old → now.kept ≡ was.kept ++ was.newest ∷ []

@@ -1,39 +1,8 @@
--- What the analysis of a network goes over, and why there is none. Own choice.
-use Rattle.std.specs.Prelude.{◌≡◌, ℕ, List, None, Contains}
-use Rattle.upp_limits.specs.declared.op_kind.OpFault.{OpFault}
-use Rattle.upp_limits.specs.declared.op_kind.OpFault.TheVariants as operator
-use Rattle.net_model.specs.Networks.{Net}
-use Rattle.net_model.specs.Orders.{IsOrder}
+-- What the analysis of a network leaves out. Own choice.
+use Rattle.std.specs.Prelude.{◌≡◌, List, None, Contains}
 use Rattle.net_cells.specs.declared.cell.Cell.{Cell}
 use Rattle.net_cells.specs.Meanings.{CellTable}
-use Rattle.net_cells.specs.Order.{evaluation_order}
-use Rattle.net_cells.specs.FirstOver.{FirstOver}
-use Rattle.net_cells.specs.declared.cell_table.fault.AnalysisFault.{AnalysisFault}
-use Rattle.net_cells.specs.declared.cell_table.fault.AnalysisFault.TheVariants.{TooMany, TooWide, NoMemory}
-
--- all cells of a network whose servers have an order, in the order in which they are taken
-pub record AreAllCells (net : Net) (cells : List Cell) : Type 0 where
-  pub order : List ℕ
-  pub servers : IsOrder net order
-  pub are : cells ≡ evaluation_order net order
 
 -- a table has nothing at other cells
 abbrev pub HasNothingElse : CellTable → List Cell → Type 0
 HasNothingElse at cells = (c : Cell) → ¬ (Contains cells c) → at c ≡ None
-
--- ---- refusals
--- of these cells this one is the first over a limit
-abbrev pub IsFirstOver : Net → List Cell → Cell → OpFault → Type 0
-IsFirstOver net cells c fault = (order : List ℕ) → cells ≡ evaluation_order net order → FirstOver net order c fault
-
--- why there is no table: the cell that is first over a limit, and which limit, or want of memory
-abbrev pub IsRefusal : (Cell → OpFault → Type 0) → AnalysisFault → Type 0
-IsRefusal IsFirst (TooMany c) = IsFirst c operator.TooMany
-IsRefusal IsFirst (TooWide c) = IsFirst c operator.TooWide
-IsRefusal IsFirst NoMemory = Unit {0}
-
--- where memory is wanting, it is so at some place
-abbrev pub WantsMemory : Type 0 → AnalysisFault → Type 0
-WantsMemory P (TooMany c) = Unit {0}
-WantsMemory P (TooWide c) = Unit {0}
-WantsMemory P NoMemory = P

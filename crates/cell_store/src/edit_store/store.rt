@@ -3,10 +3,11 @@
 use crate::edit_store::faults::analysis_fault;
 use crate::edit_store::plan::{Planned, lost_cells, plan};
 use crate::edit_store::replaced::{Replaced, no_network, put_back, replaced_by};
+use crate::flow_analysis::analysed_in_order;
 use crate::version_table::Versions;
-use crate::{Values, edited_values, made_anew};
+use crate::{Values, edited_values};
+use net_cells::Cell;
 use net_cells::cell_table::{AnalysisFault, CellValue, Evaluator, Table};
-use net_cells::{Cell, cells};
 use net_edits::{EditFault, edited_network};
 use net_model::{Done, Edit, Network};
 use std::alloc::Global;
@@ -51,6 +52,7 @@ impl<V: CellValue + Drop> Table<V> for Store<V> {
 impl<V: CellValue + Drop> Store<V> {
     ghost use Rattle.std.specs.Prelude.{◌≡◌, ◌≢◌, ◌+◌, ◌-◌, ◌^◌, ◌<◌, ◌≤◌, ℕ, List, [], sum_by, length, IfOk, IfErr};
     ghost use Rattle.std.specs.Prelude.{OnOk, OnErr, MatchOption};
+    ghost use Rattle.outcomes.specs.Spending.{Spends};
     ghost use Rattle.net_model.specs.declared.edit.Edit.TheVariants.{Undo};
     ghost use Rattle.net_model.specs.Networks.{Net};
     ghost use Rattle.net_model.specs.Orders.{IsOrder};
@@ -81,21 +83,11 @@ impl<V: CellValue + Drop> Store<V> {
         ensures present { IfOk result (λ s. s.present ≡ net) }
         ensures meets { IfOk result (λ s. MeetsEquations net (⟦<Store<V> as Table<V>>⟧.at s)) }
         ensures refused { IfErr result (RefusesFor (IsFirst net)) }
-        ensures memory { result ≡ Err AnalysisFault.NoMemory →
-            MemoryEnds net (evaluation_order net order.now) (E.count eval.new - E.count eval.old) }
-        ensures exact { OnOk result
-            (E.count eval.new ≡ E.count eval.old + sum_by (work net) (evaluation_order net order.now)) }
-        ensures rises { E.count eval.old ≤ E.count eval.new }
-        ensures within { E.count eval.new ≤ E.count eval.old + sum_by (work net) (evaluation_order net order.now) }
+        ensures spends { Spends (sum_by (work net) (evaluation_order net order.now)) AnalysisFault.NoMemory
+            (MemoryEnds net (evaluation_order net order.now)) (E.count eval.old) (E.count eval.new) result }
         ensures same { E.counter eval.new ≡ E.counter eval.old }
     {
-        let Ok(mut values) = Values::new(alloc) else {
-            return Err(AnalysisFault::NoMemory);
-        };
-        let Ok(all) = cells(alloc, &net, order) else {
-            return Err(AnalysisFault::NoMemory);
-        };
-        made_anew(alloc, &mut values, &net, &all, eval)?;
+        let values = analysed_in_order(alloc, &net, order, eval)?;
         Ok(Store {
             alloc,
             replaced: Vec::new(alloc),
@@ -148,11 +140,9 @@ impl<V: CellValue + Drop> Store<V> {
         ensures advanced { OnOk result (IsAdvanced self.old net self.new) }
         ensures kept { OnErr result (self.new ≡ self.old) }
         ensures refused { IfErr result (RefusesFor (IsFirstTouched net touched.now)) }
-        ensures memory { result ≡ Err AnalysisFault.NoMemory → EditEnds net touched.now
-            (⟦<Store<V> as Table<V>>⟧.at self.old) (E.count eval.new - E.count eval.old) }
-        ensures exact { OnOk result (E.count eval.new ≡ E.count eval.old + sum_by (work net) touched.now) }
-        ensures rises { E.count eval.old ≤ E.count eval.new }
-        ensures within { E.count eval.new ≤ E.count eval.old + sum_by (work net) touched.now }
+        ensures spends { Spends (sum_by (work net) touched.now) AnalysisFault.NoMemory
+            (EditEnds net touched.now (⟦<Store<V> as Table<V>>⟧.at self.old))
+            (E.count eval.old) (E.count eval.new) result }
         ensures same { E.counter eval.new ≡ E.counter eval.old }
     {
         self.present.keeps();

@@ -13,11 +13,12 @@ ghost use Rattle.commands.specs.check.Checked as spec;
 ghost use Rattle.commands.specs.check.Checked.{IsUnlawfulOn, IsLawfulOn, IsReportOn, IsVerdictReply};
 
 use crate::check::refusals::check_too_wide;
+use cell_store::Values;
 use command_replies::run_findings::{findings, status_by};
 use command_replies::{Answer, Status};
 use net_model::Network;
 use net_model::run_laws::{Run, Step};
-use report_text::net_cells::cell_table::{Analysis, Table, Value};
+use report_text::net_cells::cell_table::{Table, Value};
 use run_check::check_gauge::is_too_wide;
 use run_check::check_report::{lawful_text, unlawful_text};
 use run_check::{Broken, first_broken};
@@ -65,7 +66,7 @@ fn reported_lawful(
     alloc: Global,
     net: &Network,
     run: &Run,
-    table: &Analysis<Value>,
+    table: &Values<Value>,
 ) -> Result<Answer, AllocError>
     requires accepted { IsAccepted net.now }
     requires curves { AreCurves net.now }
@@ -73,7 +74,7 @@ fn reported_lawful(
     requires narrow { check_gauge net.now run.now < 2 ^ 120 }
     requires lawful { IsLawful (routes_of net.now) run.now }
     ensures { IfOk result
-        (λ r. IsLawfulOn net.now run.now (⟦<Analysis<Value> as Table<Value>>⟧.at table.now) (reply_of r)) }
+        (λ r. IsLawfulOn net.now run.now (⟦<Values<Value> as Table<Value>>⟧.at table.now) (reply_of r)) }
 {
     let packets = packets_in(&run.steps);
     let found = findings(alloc, net, run, packets)?;
@@ -87,14 +88,14 @@ fn reported(
     alloc: Global,
     net: &Network,
     run: &Run,
-    table: &Analysis<Value>,
+    table: &Values<Value>,
 ) -> Result<Answer, AllocError>
     requires accepted { IsAccepted net.now }
     requires curves { AreCurves net.now }
     requires recorded { IsRecordedRun net.now run.now }
     requires narrow { check_gauge net.now run.now < 2 ^ 120 }
     ensures { IfOk result
-        (λ r. IsReportOn net.now run.now (⟦<Analysis<Value> as Table<Value>>⟧.at table.now) (reply_of r)) }
+        (λ r. IsReportOn net.now run.now (⟦<Values<Value> as Table<Value>>⟧.at table.now) (reply_of r)) }
 {
     match first_broken(alloc, net, run)? {
         Some(broken) => reported_broken(alloc, net, run, broken),
@@ -108,13 +109,13 @@ pub(crate) fn checked(
     alloc: Global,
     net: &Network,
     run: &Run,
-    table: &Analysis<Value>,
+    table: &Values<Value>,
 ) -> Result<Answer, AllocError>
     requires accepted { IsAccepted net.now }
     requires curves { AreCurves net.now }
     requires recorded { IsRecordedRun net.now run.now }
     ensures { IfOk result
-        (λ r. IsVerdictReply net.now run.now (⟦<Analysis<Value> as Table<Value>>⟧.at table.now) (reply_of r)) }
+        (λ r. IsVerdictReply net.now run.now (⟦<Values<Value> as Table<Value>>⟧.at table.now) (reply_of r)) }
 {
     if is_too_wide(net, run) {
         check_too_wide(alloc)

@@ -9,13 +9,14 @@ ghost use Rattle.command_replies.specs.View.{reply_of};
 ghost use Rattle.command_replies.specs.simulated_findings.Found.{IsFound, IsReportBy, IsSimulationReplyBy};
 ghost use Rattle.exercise_load.specs.exercise_report.Summary.{summary_of};
 
+use cell_store::Values;
 use command_replies::run_findings::status_by;
 use command_replies::simulated_findings::find;
 use command_replies::{Answer, sim_too_wide};
 use exercise_load::exercise_report::summary_text;
 use net_model::{Network, Trace};
 use report_text::RunFound;
-use report_text::net_cells::cell_table::{Analysis, Table, Value};
+use report_text::net_cells::cell_table::{Table, Value};
 use simulator::net_simulator::SimFault;
 use std::alloc::{AllocError, Global};
 
@@ -25,12 +26,12 @@ fn reported(
     seed: u64,
     net: &Network,
     trace: &Trace,
-    table: &Analysis<Value>,
+    table: &Values<Value>,
     found: &RunFound,
 ) -> Result<Answer, AllocError>
     requires { IsFound net.now trace.now (found_of found.now) }
     ensures { IfOk result (λ r. IsReportBy (summary_of seed) net.now trace.now
-        (⟦<Analysis<Value> as Table<Value>>⟧.at table.now) (reply_of r)) }
+        (⟦<Values<Value> as Table<Value>>⟧.at table.now) (reply_of r)) }
 {
     let _packets = trace.packets();
     let text = summary_text(alloc, seed, net, table, found)?;
@@ -45,13 +46,13 @@ pub(crate) fn summarised(
     seed: u64,
     net: &Network,
     trace: &Trace,
-    table: &Analysis<Value>,
+    table: &Values<Value>,
 ) -> Result<Answer, AllocError>
     requires curves { AreCurves net.now }
     requires named { IsTraceOf net.now trace.now }
     requires free { IsFeedForward net.now }
     ensures { IfOk result (λ r. IsSimulationReplyBy (summary_of seed) net.now trace.now
-        (⟦<Analysis<Value> as Table<Value>>⟧.at table.now) (reply_of r)) }
+        (⟦<Values<Value> as Table<Value>>⟧.at table.now) (reply_of r)) }
 {
     match find(alloc, net, trace) {
         Ok(found) => reported(alloc, seed, net, trace, table, &found),

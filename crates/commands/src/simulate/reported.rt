@@ -9,11 +9,12 @@ ghost use Rattle.command_replies.specs.View.{reply_of};
 ghost use Rattle.command_replies.specs.simulated_findings.Found.{IsFound, IsReportBy};
 ghost use Rattle.commands.specs.simulate.OnTraces.{IsSimulationReply};
 
+use cell_store::Values;
 use command_replies::run_findings::status_by;
 use command_replies::simulated_findings::find;
 use command_replies::{Answer, sim_too_wide};
 use net_model::{Network, Trace};
-use report_text::net_cells::cell_table::{Analysis, Table, Value};
+use report_text::net_cells::cell_table::{Table, Value};
 use report_text::{RunFound, run_text};
 use simulator::net_simulator::SimFault;
 use std::alloc::{AllocError, Global};
@@ -23,12 +24,12 @@ fn reported(
     alloc: Global,
     net: &Network,
     trace: &Trace,
-    table: &Analysis<Value>,
+    table: &Values<Value>,
     found: &RunFound,
 ) -> Result<Answer, AllocError>
     requires { IsFound net.now trace.now (found_of found.now) }
     ensures { IfOk result (λ r. IsReportBy run_report_of net.now trace.now
-        (⟦<Analysis<Value> as Table<Value>>⟧.at table.now) (reply_of r)) }
+        (⟦<Values<Value> as Table<Value>>⟧.at table.now) (reply_of r)) }
 {
     let _packets = trace.packets();
     let text = run_text(alloc, net, table, found)?;
@@ -42,12 +43,12 @@ pub(crate) fn simulated(
     alloc: Global,
     net: &Network,
     trace: &Trace,
-    table: &Analysis<Value>,
+    table: &Values<Value>,
 ) -> Result<Answer, AllocError>
     requires curves { AreCurves net.now }
     requires named { IsTraceOf net.now trace.now }
     requires free { IsFeedForward net.now }
-    ensures { IfOk result (λ r. IsSimulationReply net.now trace.now (⟦<Analysis<Value> as Table<Value>>⟧.at table.now)
+    ensures { IfOk result (λ r. IsSimulationReply net.now trace.now (⟦<Values<Value> as Table<Value>>⟧.at table.now)
         (reply_of r)) }
 {
     match find(alloc, net, trace) {

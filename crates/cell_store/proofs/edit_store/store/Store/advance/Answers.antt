@@ -1,8 +1,12 @@
-use Rattle.std.proofs.Common.{◌≡◌, ◌++◌, ◌-◌, ◌∷◌, [], List, Err, ap, ◌∙◌, subst, sym}
+use Rattle.std.proofs.Common.{◌≡◌, ◌++◌, ◌∷◌, [], List, Err, ap, ◌∙◌, subst, sym, refl, sum_by, arith}
 use Rattle.std.proofs.lemmas.Result.{err_from_is_err_and}
 use Rattle.net_model.specs.Networks.{Net}
+use Rattle.net_cells.specs.declared.cell_table.fault.AnalysisFault.TheVariants.{NoMemory}
+use Rattle.net_cells.specs.Meanings.{CellTable}
+use Rattle.net_cells.specs.Work.{work}
+use Rattle.outcomes.proofs.Spending.{spends_all, spends_refused, spends_on}
 use Rattle.cell_store.specs.Placed.{placed}
-use Rattle.cell_store.specs.Edits.{EditEnds}
+use Rattle.cell_store.specs.Edits.{EditEnds, at_none}
 use Rattle.cell_store.specs.declared.edit_store.replaced.Replaced.{Replaced}
 use Rattle.cell_store.specs.edit_store.Stored.{AreTouched, AreLost}
 use Rattle.cell_store.specs.edit_store.Replaced.{put_back}
@@ -38,10 +42,29 @@ returns-clause-advanced g c =
     advanced g.V.CellValue.meaning c.args.self.now fields.replaced.items c.push.new.self.items c.args.replaced fields.present c.args.net
     fields.values.versions c.edited_values.new.values.versions c.self.view_is more back c.in_ok-edited_values.ensures.before
 
-pub returns-in_err-edited_values-clause-memory : goal.returns-in_err-edited_values-clause-memory
-returns-in_err-edited_values-clause-memory g c = λ told.
+-- ---- what is counted
+pub returns-in-Err-clause-spends : goal.returns-in-Err-clause-spends
+returns-in-Err-clause-spends g c =
+    let was : CellTable = placed g.V.CellValue.meaning c.args.self.now.values.newest in
+    let old = g.E.Evaluator.count c.args.eval.now in
+    spends_refused (sum_by (work c.args.net) c.args.touched.now) NoMemory (EditEnds c.args.net c.args.touched.now was) old old _ NoMemory refl
+    (omega arith) (omega arith) (λ e. at_none (omega arith))
+
+pub returns-in_err-edited_values-clause-spends : goal.returns-in_err-edited_values-clause-spends
+returns-in_err-edited_values-clause-spends g c =
+    let inside : CellTable = placed g.V.CellValue.meaning c.self.inside.values.versions.newest in
+    let was : CellTable = placed g.V.CellValue.meaning c.args.self.now.values.newest in
     let p = err_from_is_err_and c.from_residual.result c.from_residual.ensures.1 in
-    subst
-    (λ version. EditEnds c.args.net c.args.touched.now (placed g.V.CellValue.meaning version)
-    (g.E.Evaluator.count c.edited_values.new.eval - g.E.Evaluator.count c.args.eval.now))
-    (ap (λ s. s.values.newest) c.self.view_is) (c.in_err-edited_values.ensures.memory (ap Err (sym p.2) ∙ sym p.1 ∙ told))
+    spends_on (sum_by (work c.args.net) c.args.touched.now) NoMemory (EditEnds c.args.net c.args.touched.now inside)
+    (EditEnds c.args.net c.args.touched.now was) (g.E.Evaluator.count c.args.eval.now) (g.E.Evaluator.count c.edited_values.new.eval) _
+    c.from_residual.result p.0 (ap Err (sym p.2)) p.1
+    (λ k ends. subst (λ version. EditEnds c.args.net c.args.touched.now (placed g.V.CellValue.meaning version) k)
+    (ap (λ s. s.values.newest) c.self.view_is) ends)
+    c.in_err-edited_values.ensures.spends
+
+pub returns-clause-spends : goal.returns-clause-spends
+returns-clause-spends g c =
+    let was : CellTable = placed g.V.CellValue.meaning c.args.self.now.values.newest in
+    spends_all (sum_by (work c.args.net) c.args.touched.now) NoMemory (EditEnds c.args.net c.args.touched.now was)
+    (g.E.Evaluator.count c.args.eval.now) (g.E.Evaluator.count c.edited_values.new.eval) _
+    c.in_ok-edited_values.ensures.spends.counts.exact
