@@ -38,15 +38,9 @@ no_lower f x y d c q h e g r = never (sym g ∙ r.rule y h ∙ ap (λ z. z +ₑ 
 module _ (a b : ℚ) (l : Line) (m : ℕ) (low : zero_q ≤ℚ a) (proper : a <ℚ b)
     (apart : (i : ℕ) → 1 ≤ i → suc i ≤ suc m → nat_times i b ≤ℚ nat_times (suc i) a)
     (joined : (i : ℕ) → suc m ≤ i → nat_times (suc i) a <ℚ nat_times i b) where
-  some_end : zero_q <ℚ b
-  some_end = le_lt_trans low proper
-
-  end_low : zero_q ≤ℚ b
-  end_low = le_of_lt some_end
-
   late_last : (k : ℕ) → k ≡ m → IsLate a (Fin b) (suc k)
   late_last zero e = first_late a (Fin b)
-  late_last (suc j) e = λ t h u. more a (Fin b) t (suc j) end_low (le_trans (apart (suc j) (omega arith) (omega arith)) h) u
+  late_last (suc j) e = λ t h u. more a (Fin b) t (suc j) (le_of_lt (le_lt_trans low proper)) (le_trans (apart (suc j) (omega arith) (omega arith)) h) u
 
   -- a value that both the curve and a known closure have
   same_closure : (t : ℚ) (v w : Ext) → IsSegmentClosure a (Fin b) l t v → IsSegmentClosure a (Fin b) l t w → v ≡ w
@@ -132,7 +126,7 @@ module _ (a b : ℚ) (l : Line) (m : ℕ) (low : zero_q ≤ℚ a) (proper : a <�
       let end = one_more_times (suc m) b in
       let next = one_more_times (suc m) a in
       let reach = joined (suc m) (omega arith) in
-      let nonneg : zero_q ≤ℚ R = mul_nonneg (nat_nonneg (suc m)) end_low in
+      let nonneg : zero_q ≤ℚ R = mul_nonneg (nat_nonneg (suc m)) (le_of_lt (le_lt_trans low proper)) in
       let base : zero_q ≤ℚ y = mul_nonneg (nat_nonneg (suc m)) low in
       let values = rising_values a b l m low proper apart joined (le_of_lt up) in
       let line_from : (t : ℚ) → R ≤ℚ t → t <ℚ R +ℚ b → f t ≡ Fin (line_at (line_times N l) t) =
@@ -140,22 +134,22 @@ module _ (a b : ℚ) (l : Line) (m : ℕ) (low : zero_q ≤ℚ a) (proper : a <�
       (least_at a b l m low proper apart joined (le_of_lt up) (suc m) t (omega arith) h (subst (λ z. t <ℚ z) (sym end) k)) in
       let past : y <ℚ R = mul_lt_mul (int (pos (suc m))) (nat_lt 0 (suc m) (omega arith)) proper in
       let P = proper in
-      let B = some_end in
+      let B = le_lt_trans low proper in
       let over : nat_times N a <ℚ y +ℚ b = with4 y a b (nat_times N a) (λ c. omega (arith, c.le, c.lt, c.same)) in
       let under : y +ℚ b <ℚ nat_times N b = with4 y b R (nat_times N b) (λ c. omega (arith, c.le, c.lt, c.same)) in
       let later : zero_q ≤ℚ y +ℚ b = with2 y b (λ c. omega (arith, c.le, c.lt, c.same)) in
       let (q, number) = some_value (y +ℚ b) (f (y +ℚ b)) (suc m) (values (y +ℚ b) later) over under in
       let T : HasTurningTail f R b (nat_times N l.icept) l.icept l.slope zero_q = record {
-        some = some_end;
+        some = le_lt_trans low proper;
         lines = not_zero l.icept up;
         below = inl refl;
         rank = line_at (line_times N l) R;
         rank_is = line_from R (le_refl R) (with2 R b (λ c. omega (arith, c.le, c.lt, c.same)));
         rank_line = add_zero (line_at (line_times N l) R);
         after = λ t h k. line_from t (le_of_lt h) k;
-        rule = periodic_rule (all_stretches a b l m (turn R l N N ∷ [])) R b (line_at l b) some_end;
+        rule = periodic_rule (all_stretches a b l m (turn R l N N ∷ [])) R b (line_at l b) (le_lt_trans low proper);
       } in
-      turned_normal R b zero_q N past some_end (not_zero l.icept up) (before_end R b N past some_end) T
+      turned_normal R b zero_q N past (le_lt_trans low proper) (not_zero l.icept up) (before_end R b N past (le_lt_trans low proper)) T
       (same_closure y (f y) Inf (values y base) none_at_last) q number
     where
       add_zero : (x : ℚ) → x +ℚ zero_q ≡ x
