@@ -85,7 +85,7 @@ pub early_time : (to : Ext) → Fin zero_q <ₑ to → (t : ℚ) × IsWithin zer
 early_time Inf h = (int (pos 1), record { past = with1 zero_q (λ o. omega (arith, o.le, o.lt, o.same)); before = tt })
 early_time (Fin b) h = let (m, low, high) = between zero_q b h in (m, record { past = low; before = high })
 
-earlier : (to : Ext) (s t : ℚ) → s <ℚ t → Fin t <ₑ to → Fin s <ₑ to
+pub earlier : (to : Ext) (s t : ℚ) → s <ℚ t → Fin t <ₑ to → Fin s <ₑ to
 earlier Inf s t less h = tt
 earlier (Fin b) s t less h = lt_trans less h
 

@@ -1,6 +1,6 @@
 -- The first elements of a finite curve: the point at 0, and the segment after it.
-use Rattle.std.specs.Prelude.{◌≡◌, ◌≤◌, List, [], ◌∷◌, ◌++◌, length, map, Option, Some, None, Result, Err}
-use Rattle.std.proofs.Common.{arith, sym, refl, ap, ◌∙◌, subst, get_or}
+use Rattle.std.specs.Prelude.{◌≡◌, ◌+◌, ◌-◌, ◌<◌, ◌≤◌, List, [], ◌∷◌, ◌++◌, length, map, Option, Some, None, Result, Err}
+use Rattle.std.proofs.Common.{arith, sym, refl, ap, ◌∙◌, subst, get_or, take}
 use Rattle.upp_limits.specs.rational.specs.Rational.{ℚ, ◌≤ℚ◌, ◌<ℚ◌}
 use Rattle.upp_limits.specs.rational.specs.Extended.{Ext, ◌<ₑ◌}
 use Rattle.upp_limits.specs.rational.specs.declared.Extended.TheVariants.{Fin, Inf}
@@ -25,10 +25,13 @@ use Rattle.upp_limits.specs.declared.op_kind.OpFault.{OpFault}
 use Rattle.upp_limits.specs.declared.op_kind.OpFault.TheVariants.{NoMemory}
 use Rattle.outcomes.specs.Calls.{stops}
 use Rattle.subadd_closure.specs.CurveParts.{pieces_end, part_of, parts_of}
-use Rattle.subadd_closure.specs.Folds.{CloseAnswer}
+use Rattle.subadd_closure.specs.declared.part.Part.{Part}
+use Rattle.subadd_closure.specs.FoldWork.{part_work, parts_work}
+use Rattle.subadd_closure.specs.Folds.{FoldCloses}
 use Rattle.subadd_closure.proofs.EachParts.{starts_before}
 use Rattle.subadd_closure.proofs.LeastParts.{not_finite}
 use Rattle.subadd_closure.proofs.ElementFits.{early_time}
+use Rattle.subadd_closure.proofs.FoldLists.{split_last, some_taken, work_more}
 use Rattle.subadd_closure.proofs.FoldSteps.{first_stops, early_refusal}
 
 -- ---- what is read of a finite curve before its pieces end
@@ -55,7 +58,7 @@ read_early : (p : Piece) (ps : List Piece) (end : Ext) (t : ℚ) → p.x <ℚ t 
 read_early p [] end t past early = read_one p t ∙ value_past p t past
 read_early p (q ∷ qs) end t past early = read_stop p q qs t early ∙ value_past p t past
 
-next_late : (p : Piece) (ps : List Piece) (end : Ext) → RisesFrom p.x ps → StartBefore end (p ∷ ps)
+pub next_late : (p : Piece) (ps : List Piece) (end : Ext) → RisesFrom p.x ps → StartBefore end (p ∷ ps)
     → Fin p.x <ₑ next_start ps end
 next_late p [] end r b = b.0
 next_late p (q ∷ qs) end r b = r.0
@@ -64,6 +67,16 @@ next_before : (p : Piece) (ps : List Piece) (end : Ext) (t : ℚ) → StartBefor
     → Fin t <ₑ end
 next_before p [] end t b h = h
 next_before p (q ∷ qs) end t b h = lt_ext_trans (Fin t) (Fin q.x) end h b.1.0
+
+-- after 0 the curve goes on with the first piece's line
+pub early_value : (p : Piece) (ps : List Piece) (tail : Tail) (t : ℚ) → IsRaw record { pieces = p ∷ ps; tail = tail }
+    → IsFinite (value_at record { pieces = p ∷ ps; tail = tail }) → zero_q <ℚ t
+    → Fin t <ₑ next_start ps (pieces_end tail)
+    → value_at record { pieces = p ∷ ps; tail = tail } t ≡ line_value p.line t
+early_value p ps tail t raw finite past early =
+    let end = pieces_end tail in
+    value_read (p ∷ ps) tail t raw.tail finite (next_before p ps end t (starts_before (p ∷ ps) tail raw.tail) early)
+    ∙ read_early p ps end t (subst (λ x. x <ℚ t) (sym raw.starts.0) past) early
 
 -- a point and the segment after it come first
 pub record BeginsWith (v : ℚ) (es : List Element) : Type 0 where
@@ -110,9 +123,7 @@ first_two p ps tail v raw finite at =
     subst (λ x. Fin x <ₑ next_start ps end) raw.starts.0 (next_late p ps end raw.starts.1 before) in
     let (m, w) = early_time (next_start ps end) late in
     let (q, is) = finite m (le_of_lt w.past) in
-    let line : line_value p.line m ≡ Fin q =
-    sym (read_early p ps end m (subst (λ x. x <ℚ m) (sym raw.starts.0) w.past) w.before)
-    ∙ sym (value_read (p ∷ ps) tail m raw.tail finite (next_before p ps end m before w.before)) ∙ is in
+    let line : line_value p.line m ≡ Fin q = sym (early_value p ps tail m raw finite w.past w.before) ∙ is in
     begins p.x p.at p.line (next_start ps end) (elements_of ps end) v m q raw.starts.0
     (sym (first_value (p ∷ ps) tail p ps raw finite refl) ∙ at) line
 
@@ -140,9 +151,31 @@ two_elements c es e raw finite =
     let n = ap length (e ∙ (elements_begin c v raw finite at).is) in
     omega (arith, n)
 
+-- ---- the parts before the last one, and that one
+abbrev pub before_last : SpecCurve → List Element → List Part
+before_last c es = map (part_of c.tail) (take (length es - 1) es)
+
+module _ (c : SpecCurve) (es : List Element) (all : es ≡ elements_of c.pieces (pieces_end c.tail)) (raw : IsRaw c)
+    (finite : IsFinite (value_at c)) where
+  pub some_before : 1 ≤ length es - 1
+  some_before = let two = two_elements c es all raw finite in omega (arith, two)
+
+  pub last_inside : length es - 1 < length es
+  last_inside = let two = two_elements c es all raw finite in omega (arith, two)
+
+  pub at_last : (e : Element) → e ≡ get_or es (length es - 1) e → parts_of c ≡ before_last c es ++ part_of c.tail e ∷ []
+  at_last e is = let two = two_elements c es all raw finite in split_last c es (length es - 1) e all (omega (arith, two)) is
+
+  pub last_work : (e : Element) → e ≡ get_or es (length es - 1) e
+      → parts_work (parts_of c) ≡ parts_work (before_last c es) + (part_work (part_of c.tail e) + 1)
+  last_work e is =
+      let some = some_before in
+      ap parts_work (at_last e is)
+      ∙ work_more (before_last c es) (part_of c.tail e) (some_taken c.tail es (length es - 1) some (omega arith))
+
 -- want of memory before the first part
 pub no_memory : (c : SpecCurve) (r : Result SpecCurve OpFault) → IsRaw c → IsFinite (value_at c)
-    → r ≡ Err NoMemory → CloseAnswer c r
+    → r ≡ Err NoMemory → FoldCloses c r
 no_memory c r raw finite is =
     let (v, at) = finite zero_q (le_refl zero_q) in
     let b = elements_begin c v raw finite at in

@@ -1,14 +1,17 @@
 -- What the fold answers: for a part its star, for the parts the star of their least, and for the curve its closure.
-use Rattle.std.specs.Prelude.{◌≡◌, List, [], ◌∷◌, map, Option, Some, None, Result, Ok, Err}
-use Rattle.std.proofs.Common.{sym, refl, ap, ◌∙◌, subst}
+use Rattle.std.specs.Prelude.{◌≡◌, Bool, true, false, List, [], ◌∷◌, map, Option, Some, None, Result, Ok, Err}
+use Rattle.std.proofs.Common.{sym, refl, ap, ◌∙◌, subst, inl, inr}
 use Rattle.upp_limits.specs.rational.specs.Rational.{ℚ, ◌≤ℚ◌}
 use Rattle.upp_limits.specs.rational.specs.Extended.{Ext, min_ext}
+use Rattle.upp_limits.specs.rational.specs.declared.Extended.TheVariants.{Fin}
+use Rattle.upp_limits.specs.rational.proofs.Laws.{antisym, le_refl, le_or_lt}
 use Rattle.upp_limits.specs.upp_curve.specs.declared.affine_segment.element.Element.{Element}
 use Rattle.upp_limits.specs.upp_curve.specs.affine_segment.Elements.{element_value}
 use Rattle.upp_limits.specs.declared.op_kind.OpKind.TheVariants.{Min, Convolve}
 use Rattle.upp_limits.specs.declared.op_kind.OpFault.{OpFault}
 use Rattle.upp_limits.specs.upp_curve.specs.Curve.{SpecCurve, value_at}
-use Rattle.upp_limits.specs.min_plus.specs.Functions.{zero_q}
+use Rattle.upp_limits.specs.min_plus.specs.Functions.{zero_q, IsFinite, IsNonnegative}
+use Rattle.upp_limits.specs.upp_curve.specs.Normal.{IsNormal}
 use Rattle.upp_limits.specs.min_plus.specs.Convolution.{IsSubadditiveClosure}
 use Rattle.plain_operators.specs.curve_call.specs.Answers.{IsMadeBy}
 use Rattle.plain_operators.specs.curve_call.specs.Calls.{Applies}
@@ -22,11 +25,13 @@ use Rattle.subadd_closure.specs.declared.part.Copies.{Copies}
 use Rattle.subadd_closure.specs.declared.part.Part.{Part}
 use Rattle.subadd_closure.specs.PartLaws.{EachPart, IsPart}
 use Rattle.upp_limits.specs.min_plus.specs.closure_laws.StarFolds.{AreFolded, EachStar}
-use Rattle.subadd_closure.specs.Folds.{ElementAnswer, CopiedAnswer, LoweredAnswer, PartAnswer, FoldAnswer, PartsAnswer, SetBackAnswer}
+use Rattle.subadd_closure.specs.Folds.{ElementAnswer, CopiedAnswer, LoweredAnswer, PartAnswer, FoldAnswer, PartsAnswer, FoldCloses, MakesClosure, SetBackAnswer}
 use Rattle.subadd_closure.specs.FoldLaws.{PartAnswerIsStar, CloseAnswerIsClosure}
 use Rattle.subadd_closure.proofs.EachParts.{parts_are_parts}
 use Rattle.subadd_closure.proofs.LeastParts.{parts_make_curve}
 use Rattle.subadd_closure.specs.Lattices.{lattice_curve, origin_curve}
+use Rattle.subadd_closure.specs.ZeroCurves.{begins_at_zero, zero_curve}
+use Rattle.subadd_closure.proofs.ZeroCurves.{zero_at_first, zero_closes, zero_value}
 use Rattle.subadd_closure.proofs.LatticeCurves.{lattice_values}
 use Rattle.upp_limits.specs.min_plus.proofs.closure_laws.StarFolding.{star_of_least, closure_of_set_back}
 
@@ -99,10 +104,36 @@ parts_star f (p ∷ ps) c each answer =
     star_of_least (part_value p) (value_at S) (map part_value ps) r.stars (value_at c) (part_star f p S each.0 a) r.each r.folded
 
 -- ---- the curve
+module _ (f h : SpecCurve) (t : ℚ) (normal : IsNormal f) (finite : IsFinite (value_at f)) (nonneg : IsNonnegative (value_at f))
+    (low : zero_q ≤ℚ t) where
+  by_parts : FoldCloses f (Ok h) → IsSubadditiveClosure (value_at f) t (value_at h t)
+  by_parts answer =
+      let (c, a, b) = went_on (PartsAnswer f (parts_of f)) (SetBackAnswer f) h answer in
+      let stars = parts_star f (parts_of f) c (parts_are_parts f normal) a in
+      closure_of_set_back (value_at f) (value_at c) (value_at h) t nonneg
+      (λ s k. stars_of_values (least_of (map part_value (parts_of f))) (value_at f) s (value_at c s)
+      (λ u m. sym (parts_make_curve f u normal finite m)) (stars s k)) b.values low
+
+  -- where f is 0 at first
+  by_zero : begins_at_zero f.pieces ≡ true → Then (MakesClosure true f) (SetBackAnswer f) (Ok h)
+      → IsSubadditiveClosure (value_at f) t (value_at h t)
+  by_zero e answer =
+      let z = zero_at_first f normal.raw finite e in
+      let (c, a, b) = went_on (MakesClosure true f) (SetBackAnswer f) h answer in
+      let same : c ≡ zero_curve = same_ok (Ok c) c zero_curve refl a in
+      let value : value_at h t ≡ Fin zero_q = elim (le_or_lt t zero_q) [
+        | inl here ↦
+            let at : t ≡ zero_q = antisym (here, low) in
+            ap (value_at h) at ∙ b.values.zero ∙ z.zero zero_q (le_refl zero_q) z.some
+        | inr past ↦ b.values.past t past ∙ ap (λ k. value_at k t) same ∙ zero_value t low
+      ] in
+      subst (IsSubadditiveClosure (value_at f) t) (sym value) (zero_closes (value_at f) z.until z.some z.zero nonneg t low)
+
+  by_first : (b : Bool) → begins_at_zero f.pieces ≡ b → Then (MakesClosure b f) (SetBackAnswer f) (Ok h)
+      → IsSubadditiveClosure (value_at f) t (value_at h t)
+  by_first true e answer = by_zero e answer
+  by_first false e answer = by_parts answer
+
 pub close_answer : CloseAnswerIsClosure
 close_answer f h t normal finite nonneg answer low =
-    let (c, a, b) = went_on (PartsAnswer f (parts_of f)) (SetBackAnswer f) h answer in
-    let stars = parts_star f (parts_of f) c (parts_are_parts f normal) a in
-    closure_of_set_back (value_at f) (value_at c) (value_at h) t nonneg
-    (λ s k. stars_of_values (least_of (map part_value (parts_of f))) (value_at f) s (value_at c s)
-    (λ u m. sym (parts_make_curve f u normal finite m)) (stars s k)) b.values low
+    by_first f h t normal finite nonneg low (begins_at_zero f.pieces) refl answer

@@ -11,7 +11,7 @@ use Rattle.plain_operators.specs.curve_call.specs.Calls.{Applies}
 use Rattle.outcomes.specs.Calls.{Then, goes_on, stops}
 use Rattle.subadd_closure.specs.declared.part.Part.{Part}
 use Rattle.subadd_closure.specs.CurveParts.{parts_of}
-use Rattle.subadd_closure.specs.Folds.{PartAnswer, FoldAnswer, PartsAnswer, SetBackAnswer, CloseAnswer}
+use Rattle.subadd_closure.specs.Folds.{PartAnswer, FoldAnswer, PartsAnswer, SetBackAnswer, FoldCloses}
 use Rattle.subadd_closure.specs.StartsAt.{StartsAt}
 
 -- ---- more parts after an answer
@@ -80,7 +80,7 @@ pub last_part : (f s c : SpecCurve) (ps : List Part) (p : Part) (v : ℚ) (r : R
     → parts_of f ≡ ps ++ p ∷ []
     → PartsAnswer f ps (Ok s) → PartAnswer f p (Ok c) → value_at f zero_q ≡ Fin v
     → Then (Applies Convolve s c) (StartsAt v) r
-    → CloseAnswer f r
+    → FoldCloses f r
 last_part f s c ps p v r all h a at (goes_on g b k) =
     goes_on g (subst (λ z. PartsAnswer f z (Ok g)) (sym all) (next_part f s ps p g h (goes_on c a b))) (set_back f g
     v r at k)
@@ -90,13 +90,13 @@ last_part f s c ps p v r all h a at (stops e b is) =
 -- a refusal of a part before the last, and of the last one's own
 pub early_refusal : (f : SpecCurve) (ps qs : List Part) (e : OpFault) (r : Result SpecCurve OpFault)
     → parts_of f ≡ ps ++ qs
-    → PartsAnswer f ps (Err e) → r ≡ Err e → CloseAnswer f r
+    → PartsAnswer f ps (Err e) → r ≡ Err e → FoldCloses f r
 early_refusal f ps qs e r all h is = stops e (subst (λ z. PartsAnswer f z (Err e)) (sym all) (parts_stop f ps qs e
     h)) is
 
 pub last_refusal : (f s : SpecCurve) (ps : List Part) (p : Part) (e : OpFault) (r : Result SpecCurve OpFault)
     → parts_of f ≡ ps ++ p ∷ []
-    → PartsAnswer f ps (Ok s) → PartAnswer f p (Err e) → r ≡ Err e → CloseAnswer f r
+    → PartsAnswer f ps (Ok s) → PartAnswer f p (Err e) → r ≡ Err e → FoldCloses f r
 last_refusal f s ps p e r all h a is =
     stops e (subst (λ z. PartsAnswer f z (Err e)) (sym all) (next_stops f s ps [] p e h (stops e a refl))) is
 

@@ -21,6 +21,8 @@ pub mod SegmentLimits
 pub mod FoldShapes
 pub mod FoldLists
 pub mod FirstElements
+pub mod ZeroCurves
+pub mod ZeroAnswers
 pub mod FoldMemory
 pub mod QuickLate
 pub mod QuickCurves

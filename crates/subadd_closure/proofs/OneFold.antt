@@ -1,5 +1,5 @@
 -- The answer of the fold is determined, since that of each of its calls is.
-use Rattle.std.specs.Prelude.{◌≡◌, ◌≢◌, ℕ, List, [], ◌∷◌, Option, Some, None, Ok, Err}
+use Rattle.std.specs.Prelude.{◌≡◌, ◌≢◌, Bool, true, false, ℕ, List, [], ◌∷◌, Option, Some, None, Ok, Err}
 use Rattle.std.proofs.Common.{arith, sym, refl, ap, ◌∙◌, subst, inl, inr}
 use Rattle.upp_limits.specs.rational.specs.Rational.{ℚ, ◌≤ℚ◌}
 use Rattle.upp_limits.specs.rational.proofs.Laws.{le_or_lt, antisym}
@@ -21,8 +21,9 @@ use Rattle.subadd_closure.specs.CurveParts.{parts_of}
 use Rattle.subadd_closure.specs.declared.part.Copies.{Copies}
 use Rattle.subadd_closure.specs.declared.part.Part.{Part}
 use Rattle.subadd_closure.specs.Lattices.{lattice_curve, origin_curve}
-use Rattle.subadd_closure.specs.Folds.{segment_number, SegmentWithin, SegmentCause, ElementAnswer, CopiedAnswer, LoweredAnswer, PartAnswer, FoldAnswer, PartsAnswer, IsSetBackCurve, SetBackAnswer}
+use Rattle.subadd_closure.specs.Folds.{segment_number, SegmentWithin, SegmentCause, ElementAnswer, CopiedAnswer, LoweredAnswer, PartAnswer, FoldAnswer, PartsAnswer, MakesClosure, IsSetBackCurve, SetBackAnswer}
 use Rattle.subadd_closure.specs.FoldLaws.{CloseAnswerIsDetermined}
+use Rattle.subadd_closure.specs.ZeroCurves.{begins_at_zero}
 
 -- ---- the operator of a segment
 within_not : (f : SpecCurve) (o : Option ℕ) (e : OpFault) → SegmentWithin f o → SegmentCause f o e → e ≡ NoMemory
@@ -97,6 +98,11 @@ set_back_once f c (Ok h) (Ok k) a b m n = ap Ok (set_back_same f c h k a b)
 set_back_once f c (Ok h) (Err e) a b m n = absurd (n (ap Err b))
 set_back_once f c (Err d) s a b m n = absurd (m (ap Err a))
 
+made_once : (b : Bool) (f : SpecCurve) → IsDetermined (MakesClosure b f)
+made_once true f r s a b m n = a ∙ sym b
+made_once false f r s a b m n = parts_once f (parts_of f) r s a b m n
+
 pub close_once : CloseAnswerIsDetermined
 close_once f =
-    then_determined (PartsAnswer f (parts_of f)) (SetBackAnswer f) (parts_once f (parts_of f)) (set_back_once f)
+    let b = begins_at_zero f.pieces in
+    then_determined (MakesClosure b f) (SetBackAnswer f) (made_once b f) (set_back_once f)

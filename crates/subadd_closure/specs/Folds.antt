@@ -2,7 +2,7 @@
 -- the point (0, 0), and the result convolved with that of the parts before. What it answers, and its limits. (The star
 -- of a minimum is the convolution of the stars: Bouillard, Boyer and Le Corronc; the order and the limits are own
 -- choice.)
-use Rattle.std.specs.Prelude.{◌≡◌, ℕ, suc, ◌+◌, ◌*◌, ◌^◌, ◌<◌, ◌≤◌, cond, List, [], ◌∷◌, Option, Some, None, Result, Ok, Err}
+use Rattle.std.specs.Prelude.{◌≡◌, Bool, true, false, ℕ, suc, ◌+◌, ◌*◌, ◌^◌, ◌<◌, ◌≤◌, cond, List, [], ◌∷◌, Option, Some, None, Result, Ok, Err}
 use Rattle.upp_limits.specs.rational.specs.Rational.{◌-ℚ◌, ◌/ℚ◌, lt_q}
 use Rattle.upp_limits.specs.rational.specs.Whole.{whole_part}
 use Rattle.upp_limits.specs.rational.specs.declared.Extended.TheVariants.{Fin, Inf}
@@ -23,6 +23,7 @@ use Rattle.subadd_closure.specs.CurveParts.{parts_of}
 use Rattle.subadd_closure.specs.declared.part.Copies.{Copies}
 use Rattle.subadd_closure.specs.declared.part.Part.{Part}
 use Rattle.upp_limits.specs.min_plus.specs.closure_laws.StarFolds.{IsSetBack}
+use Rattle.subadd_closure.specs.ZeroCurves.{begins_at_zero, zero_curve}
 
 -- ---- the operator of a segment, so that a closure of too many pieces is never made
 -- of a segment from a > 0 up to an end b: the least whole number above a / (b - a); other elements have none
@@ -91,6 +92,15 @@ abbrev pub SetBackAnswer : SpecCurve → SpecCurve → Result SpecCurve OpFault 
 SetBackAnswer f c (Ok h) = IsSetBackCurve f c h
 SetBackAnswer f c (Err fault) = fault ≡ NoMemory
 
+-- by the fold over all parts
+abbrev pub FoldCloses : SpecCurve → Result SpecCurve OpFault → Type 0
+FoldCloses f r = Then (PartsAnswer f (parts_of f)) (SetBackAnswer f) r
+
+-- what is set back: 0 at every time where the curve is 0 at first, with no operator and no limit; else what the parts make
+abbrev pub MakesClosure : Bool → SpecCurve → Result SpecCurve OpFault → Type 0
+MakesClosure true f r = r ≡ Ok zero_curve
+MakesClosure false f r = PartsAnswer f (parts_of f) r
+
 -- the closure of f, or the refusal of the first operator of the fold that is over a limit
 abbrev pub CloseAnswer : SpecCurve → Result SpecCurve OpFault → Type 0
-CloseAnswer f r = Then (PartsAnswer f (parts_of f)) (SetBackAnswer f) r
+CloseAnswer f r = Then (MakesClosure (begins_at_zero f.pieces) f) (SetBackAnswer f) r

@@ -19,4 +19,5 @@ pub mod ElementAnswers
 pub mod MeetLaws
 pub mod HeavyLaws
 pub mod Lattices
+pub mod ZeroCurves
 pub mod ElementClosures

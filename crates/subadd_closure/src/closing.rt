@@ -1,6 +1,6 @@
 //! The subadditive closure of a curve: the fold of the stars of its parts.
 
-ghost use Rattle.std.specs.Prelude.{◌≡◌, ◌+◌, ◌<◌, ◌≤◌, map, length, take, IfOk, IsTrue, Err};
+ghost use Rattle.std.specs.Prelude.{◌≡◌, ◌+◌, ◌<◌, ◌≤◌, map, length, take, true, IfOk, IfErr, IsTrue, Err};
 ghost use Rattle.upp_limits.specs.rational.specs.Rational.{ℚ, ◌≤ℚ◌};
 ghost use Rattle.upp_limits.specs.upp_curve.specs.Curve.{value_at};
 ghost use Rattle.upp_limits.specs.min_plus.specs.Convolution.{IsSubadditive, IsSubadditiveClosure};
@@ -11,17 +11,19 @@ ghost use Rattle.element_envelope.specs.PieceElements.{elements_of};
 ghost use Rattle.plain_operators.specs.curve_call.specs.Calls.{Applies};
 ghost use Rattle.outcomes.specs.Calls.{Then};
 ghost use Rattle.upp_limits.specs.min_plus.specs.closure_laws.ClosureLaws.{ClosureKeeps};
-ghost use Rattle.subadd_closure.specs.CurveParts.{pieces_end, part_of};
-ghost use Rattle.subadd_closure.specs.Folds.{PartAnswer, PartsAnswer, CloseAnswer};
+ghost use Rattle.subadd_closure.specs.CurveParts.{pieces_end, part_of, parts_of};
+ghost use Rattle.subadd_closure.specs.Folds.{PartAnswer, PartsAnswer, FoldCloses, CloseAnswer};
 ghost use Rattle.subadd_closure.specs.FoldMemory.{StopsAt, CloseWants};
 ghost use Rattle.subadd_closure.specs.FoldWork.{part_work, parts_work, fold_work};
 ghost use Rattle.subadd_closure.specs.SegmentLimits.{IsElementOf, IsOwnGauge};
+ghost use Rattle.subadd_closure.specs.ZeroCurves.{IsZeroAtFirst, begins_at_zero};
 
 use crate::from_start::started_from;
 use crate::overlaps::{is_within, own_gauge};
 use crate::part::elements;
 use crate::part_stars::element_star;
 use crate::star_convolution::convolve_counted;
+use crate::zero_curves::{begins_at_zero, zero_curve};
 use outcomes::Steps;
 use plain_operators::curve_call::intact;
 use std::alloc::Global;
@@ -117,11 +119,11 @@ fn closed<L: Ledger>(
     requires finite { IsFinite (value_at f.now) }
     requires nonneg { IsNonnegative (value_at f.now) }
     requires curve { IsCurve f.now }
-    ensures answer { CloseAnswer f.now result }
+    ensures answer { FoldCloses f.now result }
     ensures memory { result ≡ Err OpFault.NoMemory → CloseWants f.now steps.old steps.new }
     ensures rises { steps.old ≤ steps.new }
-    ensures within { steps.new ≤ steps.old + fold_work f.now }
-    ensures exact { IfOk result (λ _. steps.new ≡ steps.old + fold_work f.now) }
+    ensures within { steps.new ≤ steps.old + parts_work (parts_of f.now) }
+    ensures exact { IfOk result (λ _. steps.new ≡ steps.old + parts_work (parts_of f.now)) }
 {
     let gauge = own_gauge(f);
     let last = es.len() - 1;
@@ -130,9 +132,38 @@ fn closed<L: Ledger>(
     started_from(alloc, &sofar, &star, start_of(f), true, steps)
 }
 
+// 0 at every time, for a curve that is 0 at first.
+fn closed_at_zero(alloc: Global, f: &Curve) -> Result<Curve, OpFault>
+    requires finite { IsFinite (value_at f.now) }
+    requires curve { IsCurve f.now }
+    requires begins { begins_at_zero f.now.pieces ≡ true }
+    ensures { CloseAnswer f.now result }
+{
+    let zero = zero_curve(alloc)?;
+    Ok(zero)
+}
+
+// 0 at every time where f is 0 at first, else what the fold makes.
+fn answered<L: Ledger>(alloc: Global, f: &Curve, steps: &mut Steps<L>) -> Result<Curve, OpFault>
+    requires finite { IsFinite (value_at f.now) }
+    requires nonneg { IsNonnegative (value_at f.now) }
+    requires curve { IsCurve f.now }
+    ensures answer { CloseAnswer f.now result }
+    ensures memory { result ≡ Err OpFault.NoMemory → CloseWants f.now steps.old steps.new }
+    ensures rises { steps.old ≤ steps.new }
+    ensures within { steps.new ≤ steps.old + fold_work f.now }
+    ensures exact { IfOk result (λ _. steps.new ≡ steps.old + fold_work f.now) }
+{
+    if begins_at_zero(f) {
+        return closed_at_zero(alloc, f);
+    }
+    let es = elements(alloc, f)?;
+    closed(alloc, f, &es, steps)
+}
+
 /// The subadditive closure of a curve that is finite and nowhere below 0: at t the infimum of the sums of f over one or
-/// more times from 0 on whose sum is t. It is finite and nowhere below 0 too, and rises where f does. It is made part
-/// by part: of each point and each open segment of f, those of a period from the rank on with all their copies, the
+/// more times from 0 on whose sum is t. It is finite and nowhere below 0 too, and rises where f does. Of a curve that is
+/// 0 from 0 on up to a later time it is 0 everywhere, with no step and no limit (clause `zero`). Else it is made part by part: of each point and each open segment of f, those of a period from the rank on with all their copies, the
 /// closure, lowered by the point 0 at 0; and these are convolved in the order of their starts, with the value at 0 set
 /// back to f at 0. Refused with TooWide or TooMany exactly where the first operator of that fold that is over a limit
 /// is over that one: an open segment after 0 that has an end has an operator of its own, before the calls on curves.
@@ -146,6 +177,7 @@ pub fn close<L: Ledger>(alloc: Global, f: &Curve, steps: &mut Steps<L>) -> Resul
     ensures value { IfOk result (λ h. (t : ℚ) → zero_q ≤ℚ t
         → IsSubadditiveClosure (value_at f.now) t (value_at h t)) }
     ensures keeps { IfOk result (λ h. ClosureKeeps (value_at f.now) (value_at h)) }
+    ensures zero { IsZeroAtFirst f.now → IfErr result (λ e. e ≡ OpFault.NoMemory) }
     ensures answer { CloseAnswer f.now result }
     ensures memory { result ≡ Err OpFault.NoMemory → CloseWants f.now steps.old steps.new }
     ensures rises { steps.old ≤ steps.new }
@@ -154,6 +186,5 @@ pub fn close<L: Ledger>(alloc: Global, f: &Curve, steps: &mut Steps<L>) -> Resul
 {
     // Its type keeps that f is a curve.
     f.keeps();
-    let es = elements(alloc, f)?;
-    closed(alloc, f, &es, steps)
+    answered(alloc, f, steps)
 }

@@ -22,6 +22,7 @@ mod starting;
 mod stretches;
 mod subadditive;
 mod thinned;
+mod zero_curves;
 
 pub use closing::close;
 pub use element_laws::{elements_close, heavy_is_refused, lattice_values, stretches_meet};

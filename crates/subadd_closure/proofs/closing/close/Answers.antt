@@ -1,28 +1,17 @@
-use Rattle.std.proofs.Common.{refl}
-use Rattle.std.proofs.lemmas.Result.{err_from_is_err_and}
-use Rattle.subadd_closure.proofs.FoldMemory.{none_wants}
 use Rattle.subadd_closure.proofs.ClosedValues.{closed_value, closed_keeps}
-use Rattle.subadd_closure.proofs.FirstElements.{no_memory}
+use Rattle.subadd_closure.proofs.ZeroAnswers.{no_limit}
 use Rattle.subadd_closure.proofs.closing.close.Goals as goal
-
-pub returns-in_err-es-clause-answer : goal.returns-in_err-es-clause-answer
-returns-in_err-es-clause-answer g c =
-    let p = err_from_is_err_and c.from_residual.result c.from_residual.ensures.1 in
-    no_memory c.args.f.now c.from_residual.result c.keeps.ensures.normal.raw c.requires.finite (rw (
-      p.1,
-      p.2,
-    ) refl)
 
 pub returns-clause-value : goal.returns-clause-value
 returns-clause-value g c =
-    closed_value c.args.f.now c.keeps.ensures.normal c.requires.finite c.requires.nonneg c.closed.result
-    c.closed.ensures.answer
+    closed_value c.args.f.now c.keeps.ensures.normal c.requires.finite c.requires.nonneg c.answered.result
+    c.answered.ensures.answer
 
 pub returns-clause-keeps : goal.returns-clause-keeps
 returns-clause-keeps g c =
-    closed_keeps c.args.f.now c.keeps.ensures.normal c.requires.finite c.requires.nonneg c.closed.result
-    c.closed.ensures.answer
+    closed_keeps c.args.f.now c.keeps.ensures.normal c.requires.finite c.requires.nonneg c.answered.result
+    c.answered.ensures.answer
 
-pub returns-in_err-es-clause-memory : goal.returns-in_err-es-clause-memory
-returns-in_err-es-clause-memory g c is =
-    none_wants c.args.f.now c.args.steps.now c.keeps.ensures.normal.raw c.requires.finite
+pub returns-clause-zero : goal.returns-clause-zero
+returns-clause-zero g c =
+    no_limit c.args.f.now c.answered.result c.keeps.ensures.normal.raw c.requires.finite c.answered.ensures.answer
