@@ -1,5 +1,5 @@
 -- What the fold of a finite curve that is nowhere below 0 makes: nowhere below 0, and finite past 0.
-use Rattle.std.specs.Prelude.{◌≡◌, ◌≢◌, List, [], ◌∷◌, ◌++◌, map, Ok}
+use Rattle.std.specs.Prelude.{◌≡◌, ◌≢◌, List, [], ◌∷◌, ◌++◌, map, Ok, true}
 use Rattle.std.proofs.Common.{sym, ap, ◌∙◌, subst}
 use Rattle.std.proofs.lemmas.List.{map-append}
 use Rattle.upp_limits.specs.rational.specs.Rational.{ℚ, ◌≤ℚ◌, ◌<ℚ◌}
@@ -19,7 +19,7 @@ use Rattle.subadd_closure.specs.declared.part.Part.{Part}
 use Rattle.subadd_closure.specs.CurveParts.{parts_of, part_value}
 use Rattle.subadd_closure.specs.PartLaws.{EachPart, IsPart}
 use Rattle.subadd_closure.specs.Folds.{PartAnswer, PartsAnswer}
-use Rattle.subadd_closure.specs.Thinned.{AreThinnable}
+use Rattle.subadd_closure.specs.Thinned.{MayThin}
 use Rattle.subadd_closure.proofs.EachParts.{parts_are_parts}
 use Rattle.subadd_closure.proofs.LeastParts.{parts_make_curve}
 use Rattle.subadd_closure.proofs.FoldStars.{part_star, parts_star}
@@ -75,10 +75,16 @@ module _ (f s c : SpecCurve) (ps : List Part) (p : Part) (normal : IsNormal f) (
       le_ext_trans (Fin zero_q) (value_at f t) x (nonneg t n)
       (le_ext_trans (value_at f t) (min_ext (before t) (part_value p t)) x (same_le_ext (value_is t n)) h)
 
-  pub last_thinnable : AreThinnable s c
+  pub last_thinnable : MayThin true s c
   last_thinnable = record {
-    subadditive = stars_subadditive before (value_at s) stars_before;
-    zero = star_low (part_value p) (value_at c) star_last;
+    second = record {
+      subadditive = stars_subadditive before (value_at s) stars_before;
+      zero = star_low (part_value p) (value_at c) star_last;
+    };
+    first = record {
+      subadditive = stars_subadditive (part_value p) (value_at c) star_last;
+      zero = star_low before (value_at s) stars_before;
+    };
   }
 
   pub sofar_nonneg : IsNonnegative (value_at s)

@@ -6,7 +6,7 @@ use Rattle.upp_limits.specs.rational.specs.Rational.{ℚ, ◌*ℚ◌, ◌-ℚ◌
 use Rattle.upp_limits.specs.rational.specs.Extended.{Ext, ◌≤ₑ◌, ◌<ₑ◌}
 use Rattle.upp_limits.specs.rational.specs.declared.Extended.TheVariants.{Fin}
 use Rattle.upp_limits.specs.rational.proofs.Linear.{with2, with4, with6}
-use Rattle.upp_limits.specs.rational.proofs.Laws.{le_or_lt, le_trans, le_of_lt, le_lt_trans, antisym, le_of_not_lt, mul_le_mul, mul_le_mul_right, sub_mul}
+use Rattle.upp_limits.specs.rational.proofs.Laws.{le_or_lt, le_refl, le_trans, le_of_lt, le_lt_trans, antisym, le_of_not_lt, mul_le_mul, mul_le_mul_right, sub_mul}
 use Rattle.upp_limits.specs.rational.proofs.ExtendedOrder.{le_ext_trans, same_le_ext}
 use Rattle.upp_limits.specs.upp_curve.specs.declared.affine_segment.line.Line.{Line}
 use Rattle.upp_limits.specs.upp_curve.specs.declared.affine_segment.line.Piece.{Piece}
@@ -24,7 +24,8 @@ use Rattle.upp_limits.specs.upp_curve.specs.Unrolled.{unroll, upto}
 use Rattle.upp_limits.specs.upp_curve.proofs.Unique.{upto_none, upto_some, upto_end}
 use Rattle.upp_normal.proofs.Below.{read_upto, read_from_cut, unroll_reads}
 use Rattle.element_envelope.specs.PieceElements.{Among}
-use Rattle.subadd_closure.specs.Thinned.{LiesUnder, IsOver, IsThinned}
+use Rattle.element_envelope.specs.ConvolutionWindows.{OperandWindows}
+use Rattle.subadd_closure.specs.Thinned.{LiesUnder, IsOver, IsThinned, AreThinnable, ThinPieces}
 
 -- ---- numbers
 pub at_most : (b : Bool) (x y : ℚ) → (IsTrue b ↔ (y <ℚ x)) → IsTrue (not b) → x ≤ℚ y
@@ -240,3 +241,15 @@ take_push es i e h is = take_more es i e h ∙ ap (λ x. take i es ++ x ∷ []) 
 pub window_reads : (f : SpecCurve) (end : ℚ) (ps : List Piece) → IsCurve f → ps ≡ unroll f end
     → (t : ℚ) → zero_q ≤ℚ t → t <ℚ end → read ps t ≡ value_at f t
 window_reads f end ps curve are t late early = ap (λ z. read z t) are ∙ unroll_reads f end t curve.normal late early
+
+pub thin_pieces : (f g : SpecCurve) (end : ℚ) (left right : List Piece) → IsCurve f → IsCurve g
+    → OperandWindows end left right → left ≡ unroll f end → right ≡ unroll g end → AreThinnable f g
+    → ThinPieces f end left right
+thin_pieces f g end left right F G windows first second thin = record {
+  curve = F;
+  windows = windows;
+  first = first;
+  subadditive = thin.subadditive;
+  low = subst (λ z. z ≤ₑ Fin zero_q) (sym (window_reads g end right G second zero_q (le_refl zero_q) windows.some))
+      thin.zero;
+}

@@ -25,10 +25,34 @@ use Rattle.upp_limits.specs.rational.proofs.ExtendedOrder.{finite_below}
 use Rattle.element_envelope.proofs.OperandElements.{elements_stand}
 use Rattle.element_envelope.proofs.WindowConvolution.{endless}
 use Rattle.element_envelope.proofs.Windows.{windows_convolve}
+use Rattle.curve_conv.proofs.Repeating.{other_way}
 use Rattle.subadd_closure.specs.Thinned.{IsOver, IsThinned}
 
 no_more : (a b : ℚ) → b ≤ℚ zero_q → a +ℚ b ≤ℚ a
 no_more a b h = with2 a b (λ c. omega (arith, c.le, c.lt, c.same))
+
+-- ---- the two the other way round
+pub turned : {end : ℚ} {f g : List Piece} → OperandWindows end f g → OperandWindows end g f
+turned w = record { sizes = w.sizes; limited = w.limited; some = w.some; left = w.right; right = w.left }
+
+other_window : (f g : List Piece) (end : ℚ) (ps : List Piece) → IsConvolutionWindow g f end ps → IsConvolutionWindow f g end ps
+other_window f g end ps W = record {
+  starts = W.starts;
+  reads = λ t late early. other_way (read g) (read f) t (read ps t) (W.reads t late early);
+  stands = λ r. W.stands (turned r);
+  arches = λ r. W.arches (turned r);
+}
+
+pub ok_other : {E : Type 0} (r : Result (Vec Piece Global) E) (f g : List Piece) (end : ℚ)
+    → IfOk r (λ v. IsConvolutionWindow g f end v.items) → IfOk r (λ v. IsConvolutionWindow f g end v.items)
+ok_other (Ok v) f g end h = other_window f g end v.items h
+ok_other (Err x) f g end h = h
+
+-- of the same lists
+pub thinned_as : (F : ℚ → Ext) (end : ℚ) {es ys ks zs : List Element} → es ≡ ys → zs ≡ ks → IsThinned F end es ks
+    → IsThinned F end ys zs
+thinned_as F end {es = es} {zs = zs} a b h =
+    subst (λ y. IsThinned F end y zs) a (subst (λ k. IsThinned F end es k) (sym b) h)
 
 -- an element with the time 0 is not over anything
 not_over : (F : ℚ → Ext) (end : ℚ) (e : Element) → Covers e zero_q → IsOver F end e → ⊥

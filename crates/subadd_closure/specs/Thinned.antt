@@ -1,6 +1,6 @@
 -- The elements of the second operand of a convolution without those that are nowhere below the first operand. (Where f is
 -- subadditive and g is at most 0 at 0, f(s) + g(u) with f(u) at most g(u) is nowhere below f(s + u) + g(0): own choice.)
-use Rattle.std.specs.Prelude.{◌⊎◌, Bool, true, false, List}
+use Rattle.std.specs.Prelude.{◌≡◌, ◌⊎◌, Bool, true, false, List}
 use Rattle.upp_limits.specs.rational.specs.Rational.{ℚ, ◌≤ℚ◌, ◌<ℚ◌}
 use Rattle.upp_limits.specs.rational.specs.Extended.{Ext, ◌≤ₑ◌}
 use Rattle.upp_limits.specs.rational.specs.declared.Extended.TheVariants.{Fin}
@@ -9,11 +9,14 @@ use Rattle.upp_limits.specs.upp_curve.specs.declared.affine_segment.line.Piece.{
 use Rattle.upp_limits.specs.upp_curve.specs.declared.affine_segment.element.Element.{Element}
 use Rattle.upp_limits.specs.upp_curve.specs.declared.affine_segment.element.Element.TheVariants.{Point, Open}
 use Rattle.upp_limits.specs.upp_curve.specs.affine_segment.Elements.{Covers, level}
-use Rattle.upp_limits.specs.upp_curve.specs.affine_segment.Reading.{piece_value}
+use Rattle.upp_limits.specs.upp_curve.specs.affine_segment.Reading.{piece_value, read}
 use Rattle.upp_limits.specs.upp_curve.specs.affine_segment.Values.{line_at}
 use Rattle.upp_limits.specs.min_plus.specs.Convolution.{IsSubadditive}
 use Rattle.upp_limits.specs.min_plus.specs.Functions.{zero_q}
 use Rattle.upp_limits.specs.upp_curve.specs.Curve.{SpecCurve, value_at}
+use Rattle.upp_limits.specs.upp_curve.specs.Curves.{IsCurve}
+use Rattle.upp_limits.specs.upp_curve.specs.Unrolled.{unroll}
+use Rattle.element_envelope.specs.ConvolutionWindows.{OperandWindows}
 use Rattle.element_envelope.specs.PieceElements.{Among}
 
 -- ---- what is left out
@@ -42,7 +45,20 @@ pub record AreThinnable (f g : SpecCurve) : Type 0 where
   pub subadditive : IsSubadditive (value_at f)
   pub zero : value_at g zero_q ≤ₑ Fin zero_q
 
--- asked only where elements are left out
-abbrev pub MayThin : Bool → SpecCurve → SpecCurve → Type 0
-MayThin true f g = AreThinnable f g
-MayThin false f g = Unit {0}
+-- asked of either of them, where that is told
+abbrev pub FirstToo : Bool → SpecCurve → SpecCurve → Type 0
+FirstToo true f g = AreThinnable g f
+FirstToo false f g = Unit {0}
+
+-- elements of the second may be left out, or of either
+pub record MayThin (either : Bool) (f g : SpecCurve) : Type 0 where
+  pub second : AreThinnable f g
+  pub first : FirstToo either f g
+
+-- the pieces of the two below the end of a window, of which elements of the second may be left out
+pub record ThinPieces (f : SpecCurve) (end : ℚ) (left right : List Piece) : Type 0 where
+  pub curve : IsCurve f
+  pub windows : OperandWindows end left right
+  pub first : left ≡ unroll f end
+  pub subadditive : IsSubadditive (value_at f)
+  pub low : read right zero_q ≤ₑ Fin zero_q

@@ -2,6 +2,7 @@
 
 ghost use Rattle.std.specs.Prelude.{◌≡◌, ◌+◌, ◌<◌, ◌≤◌, map, length, take, true, IfOk, IfErr, IsTrue, Err};
 ghost use Rattle.upp_limits.specs.rational.specs.Rational.{ℚ, ◌≤ℚ◌};
+ghost use Rattle.upp_limits.specs.rational.specs.Extended.{◌≤ₑ◌};
 ghost use Rattle.upp_limits.specs.upp_curve.specs.Curve.{value_at};
 ghost use Rattle.upp_limits.specs.min_plus.specs.Convolution.{IsSubadditive, IsSubadditiveClosure};
 ghost use Rattle.upp_limits.specs.upp_curve.specs.Curves.{IsCurve};
@@ -51,6 +52,7 @@ fn with_star<L: Ledger>(
     requires nonneg { IsNonnegative (value_at f.now) }
     requires curve { IsCurve f.now }
     requires subadditive { IsSubadditive (value_at sofar.now) }
+    requires low { value_at sofar.now zero_q ≤ₑ Extended.Fin zero_q }
     requires gauge { IsOwnGauge f.now gauge }
     ensures answer { Then (PartAnswer f.now (part_of f.now.tail e.now)) (λ c. Applies Convolve sofar.now c) result }
     ensures memory { result ≡ Err OpFault.NoMemory

@@ -44,16 +44,16 @@ fn started_within(
     g: &Curve,
     frame: &Frame,
     start: Frac,
-    thin: bool,
+    either: bool,
 ) -> Result<Curve, AllocError>
     requires frame { IsConvolveFrame f.now g.now frame.now }
-    requires thin { MayThin thin f.now g.now }
+    requires thin { MayThin either f.now g.now }
     requires nonneg { IsNonnegative (value_at f.now) × IsNonnegative (value_at g.now) }
     requires start { zero_q ≤ℚ start }
     requires finite { ConvolvesFinitely (value_at f.now) (value_at g.now) }
     ensures { IfOk result (ConvolvesPastZero f.now g.now start) }
 {
-    let pieces = window_of(alloc, f, g, frame, thin)?;
+    let pieces = window_of(alloc, f, g, frame, either)?;
     let rise = slower_rise(f, g, frame);
     let from = difference(frame.end, frame.period);
     if repeats_start(&pieces, frame.period, rise, start) {
@@ -85,29 +85,29 @@ fn started_within(
 /// The convolution of two curves that are nowhere below 0, finite past 0, with the value `start` at 0 in place of its
 /// own. One step is counted. Refused with TooWide or TooMany exactly where the convolution is over that limit: no limit
 /// is asked of the value at 0. Else only for want of memory. Where the convolution's own value at 0 is not `start`, its
-/// pieces are made twice. `thin` as of `window_of`.
+/// pieces are made twice. `either` as of `window_of`.
 pub(crate) fn started_from<L: Ledger>(
     alloc: Global,
     sofar: &Curve,
     star: &Curve,
     start: Frac,
-    thin: bool,
+    either: bool,
     steps: &mut Steps<L>,
 ) -> Result<Curve, OpFault>
     requires first { IsNonnegative (value_at sofar.now) }
     requires second { IsNonnegative (value_at star.now) }
     requires start { zero_q ≤ℚ start }
     requires finite { ConvolvesFinitely (value_at sofar.now) (value_at star.now) }
-    requires thin { MayThin thin sofar.now star.now }
+    requires thin { MayThin either sofar.now star.now }
     ensures count { steps.new ≡ steps.old + 1 }
     ensures answer { Then (Applies Convolve sofar.now star.now) (StartsAt start) result }
 {
-    let whole = intact(convolve_stars(alloc, sofar, star, thin, steps))?;
+    let whole = intact(convolve_stars(alloc, sofar, star, either, steps))?;
     if begins_at(&whole, start) {
         return Ok(whole);
     }
     let frame = star_frame(alloc, sofar, star)?;
-    let started = match started_within(alloc, sofar, star, &frame, start, thin) {
+    let started = match started_within(alloc, sofar, star, &frame, start, either) {
         Ok(c) => Ok(c),
         Err(_) => Err(OpFault::NoMemory),
     };

@@ -155,48 +155,48 @@ fn convolved_within(
     f: &Curve,
     g: &Curve,
     frame: &Frame,
-    thin: bool,
+    either: bool,
 ) -> Result<Curve, AllocError>
     requires frame { IsConvolveFrame f.now g.now frame.now }
-    requires thin { MayThin thin f.now g.now }
+    requires thin { MayThin either f.now g.now }
     ensures { IfOk result (λ c. (t : ℚ) → zero_q ≤ℚ t
         → IsConvolution (value_at f.now) (value_at g.now) t (value_at c t)) }
 {
-    let pieces = window_of(alloc, f, g, frame, thin)?;
+    let pieces = window_of(alloc, f, g, frame, either)?;
     curve_of(alloc, f, g, frame, pieces)
 }
 
-// The convolution of two curves; `thin` as of `window_of`. Nothing is counted.
-fn stars_convolved(alloc: Global, f: &Curve, g: &Curve, thin: bool) -> Result<Curve, OpFault>
-    requires { MayThin thin f.now g.now }
+// The convolution of two curves; `either` as of `window_of`. Nothing is counted.
+fn stars_convolved(alloc: Global, f: &Curve, g: &Curve, either: bool) -> Result<Curve, OpFault>
+    requires { MayThin either f.now g.now }
     ensures value { IfOk result (λ c. (t : ℚ) → zero_q ≤ℚ t
         → IsConvolution (value_at f.now) (value_at g.now) t (value_at c t)) }
     ensures limits { KeepsLimits Convolve f.now g.now result }
 {
     let frame = star_frame(alloc, f, g)?;
-    match convolved_within(alloc, f, g, &frame, thin) {
+    match convolved_within(alloc, f, g, &frame, either) {
         Ok(c) => Ok(c),
         Err(_) => Err(OpFault::NoMemory),
     }
 }
 
-/// The convolution of two curves, with the contract of `convolve` of `curve_conv`; `thin` as of `window_of`. One step is
+/// The convolution of two curves, with the contract of `convolve` of `curve_conv`; `either` as of `window_of`. One step is
 /// counted.
 pub(crate) fn convolve_stars<L: Ledger>(
     alloc: Global,
     f: &Curve,
     g: &Curve,
-    thin: bool,
+    either: bool,
     steps: &mut Steps<L>,
 ) -> Result<Curve, OpFault>
-    requires { MayThin thin f.now g.now }
+    requires { MayThin either f.now g.now }
     ensures count { steps.new ≡ steps.old + 1 }
     ensures value { IfOk result (λ c. (t : ℚ) → zero_q ≤ℚ t
         → IsConvolution (value_at f.now) (value_at g.now) t (value_at c t)) }
     ensures limits { KeepsLimits Convolve f.now g.now result }
 {
     steps.tick();
-    stars_convolved(alloc, f, g, thin)
+    stars_convolved(alloc, f, g, either)
 }
 
 /// The convolution of two curves, as `convolve_stars` makes it. Its step is counted before it where `at_once` is true,
@@ -205,11 +205,11 @@ pub(crate) fn convolve_counted<L: Ledger>(
     alloc: Global,
     f: &Curve,
     g: &Curve,
-    thin: bool,
+    either: bool,
     at_once: bool,
     steps: &mut Steps<L>,
 ) -> Result<Curve, OpFault>
-    requires { MayThin thin f.now g.now }
+    requires { MayThin either f.now g.now }
     ensures memory { result ≡ Err OpFault.NoMemory
         → (IsTrue at_once × (steps.new ≡ steps.old + 1)) ⊎ (steps.new ≡ steps.old) }
     ensures rises { steps.old ≤ steps.new }
@@ -220,9 +220,9 @@ pub(crate) fn convolve_counted<L: Ledger>(
     ensures limits { KeepsLimits Convolve f.now g.now result }
 {
     if at_once {
-        return convolve_stars(alloc, f, g, thin, steps);
+        return convolve_stars(alloc, f, g, either, steps);
     }
-    match stars_convolved(alloc, f, g, thin) {
+    match stars_convolved(alloc, f, g, either) {
         Ok(c) => {
             steps.tick();
             Ok(c)

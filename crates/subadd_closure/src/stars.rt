@@ -56,7 +56,7 @@ fn copied<L: Ledger>(
     ensures all { IfOk result (λ _. steps.new ≡ steps.old + 1) }
 {
     let points = lattice(alloc, turn.0, turn.1)?;
-    intact(convolve_stars(alloc, c, &points, true, steps))
+    intact(convolve_stars(alloc, c, &points, false, steps))
 }
 
 // The star of an element, from its closure.

@@ -1,19 +1,21 @@
-use Rattle.std.proofs.Common.{sym, subst}
-use Rattle.upp_limits.specs.rational.specs.Extended.{◌≤ₑ◌}
-use Rattle.upp_limits.specs.rational.specs.declared.Extended.TheVariants.{Fin}
-use Rattle.upp_limits.specs.rational.proofs.Laws.{le_refl}
-use Rattle.upp_limits.specs.min_plus.specs.Functions.{zero_q}
-use Rattle.subadd_closure.specs.Thinned.{MayThin}
-use Rattle.subadd_closure.proofs.ThinnedElements.{window_reads}
+use Rattle.std.proofs.Common.{subst}
+use Rattle.subadd_closure.specs.Thinned.{FirstToo}
+use Rattle.subadd_closure.proofs.Thinning.{turned}
+use Rattle.subadd_closure.proofs.ThinnedElements.{thin_pieces}
 use Rattle.subadd_closure.proofs.again.window_between.Goals as goal
 
-pub thinned_window-requires-clause-subadditive : goal.thinned_window-requires-clause-subadditive
-thinned_window-requires-clause-subadditive c =
-    (subst (λ b. MayThin b c.args.f.now c.args.g.now) c.if-thin.true c.requires.thin).subadditive
+pub either_thinned-requires-clause-second : goal.either_thinned-requires-clause-second
+either_thinned-requires-clause-second c =
+    thin_pieces c.args.f.now c.args.g.now c.args.end c.args.left.now c.args.right.now c.requires.curves.0 c.requires.curves.1
+    c.requires.windows c.requires.first c.requires.second c.requires.thin.second
 
-pub thinned_window-requires-clause-low : goal.thinned_window-requires-clause-low
-thinned_window-requires-clause-low c =
-    subst (λ z. z ≤ₑ Fin zero_q)
-    (sym (window_reads c.args.g.now c.args.end c.args.right.now c.requires.curves.1 c.requires.second zero_q
-    (le_refl zero_q) c.requires.windows.some))
-    (subst (λ b. MayThin b c.args.f.now c.args.g.now) c.if-thin.true c.requires.thin).zero
+pub either_thinned-requires-clause-first : goal.either_thinned-requires-clause-first
+either_thinned-requires-clause-first c =
+    thin_pieces c.args.g.now c.args.f.now c.args.end c.args.right.now c.args.left.now c.requires.curves.1 c.requires.curves.0
+    (turned c.requires.windows) c.requires.second c.requires.first
+    (subst (λ b. FirstToo b c.args.f.now c.args.g.now) c.if-either.true c.requires.thin.first)
+
+pub thinned_window-requires : goal.thinned_window-requires
+thinned_window-requires c =
+    thin_pieces c.args.f.now c.args.g.now c.args.end c.args.left.now c.args.right.now c.requires.curves.0 c.requires.curves.1
+    c.requires.windows c.requires.first c.requires.second c.requires.thin.second

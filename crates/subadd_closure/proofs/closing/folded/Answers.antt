@@ -5,7 +5,7 @@ use Rattle.subadd_closure.specs.CurveParts.{part_of}
 use Rattle.subadd_closure.specs.Folds.{PartsAnswer}
 use Rattle.subadd_closure.specs.FoldWork.{parts_work}
 use Rattle.subadd_closure.specs.SegmentLimits.{IsElementOf}
-use Rattle.subadd_closure.proofs.FoldThins.{sofar_subadditive}
+use Rattle.subadd_closure.proofs.FoldThins.{sofar_subadditive, sofar_low}
 use Rattle.subadd_closure.proofs.FoldMemory.{same_want, after_parts, second_within, later_within}
 use Rattle.subadd_closure.proofs.FoldSteps.{first_part, first_stops, next_part, next_stops}
 use Rattle.subadd_closure.proofs.FoldLists.{one_more, split_at, split_front, all_elements}
@@ -83,6 +83,11 @@ with_star-requires-clause-part g c =
 pub with_star-requires-clause-subadditive : goal.with_star-requires-clause-subadditive
 with_star-requires-clause-subadditive g c =
     sofar_subadditive c.args.f.now c.loop-i.sofar c.args.es.now c.loop-i.i c.requires.curve.normal
+    (all_elements c.args.f.now c.args.es.now c.requires.elements) c.loop-i.invariant.answer
+
+pub with_star-requires-clause-low : goal.with_star-requires-clause-low
+with_star-requires-clause-low g c =
+    sofar_low c.args.f.now c.loop-i.sofar c.args.es.now c.loop-i.i c.requires.curve.normal
     (all_elements c.args.f.now c.args.es.now c.requires.elements) c.loop-i.invariant.answer
 
 pub returns-in_err-sofar-2-clause-answer : goal.returns-in_err-sofar-2-clause-answer

@@ -69,4 +69,4 @@ returns-clause-next g c is counted =
 pub convolve_counted-requires : goal.convolve_counted-requires
 convolve_counted-requires g c =
     next_thinnable c.args.f.now c.args.sofar.now c.in_ok-star.star c.args.e.now c.requires.curve.normal c.requires.part
-    c.requires.subadditive c.in_ok-star.ensures.answer
+    c.requires.subadditive c.requires.low c.in_ok-star.ensures.answer
