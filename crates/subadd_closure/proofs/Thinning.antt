@@ -32,7 +32,7 @@ no_more : (a b : ℚ) → b ≤ℚ zero_q → a +ℚ b ≤ℚ a
 no_more a b h = with2 a b (λ c. omega (arith, c.le, c.lt, c.same))
 
 -- ---- the two the other way round
-pub turned : {end : ℚ} {f g : List Piece} → OperandWindows end f g → OperandWindows end g f
+abbrev pub turned : {end : ℚ} {f g : List Piece} → OperandWindows end f g → OperandWindows end g f
 turned w = record { sizes = w.sizes; limited = w.limited; some = w.some; left = w.right; right = w.left }
 
 other_window : (f g : List Piece) (end : ℚ) (ps : List Piece) → IsConvolutionWindow g f end ps → IsConvolutionWindow f g end ps
