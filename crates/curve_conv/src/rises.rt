@@ -1,6 +1,6 @@
 //! By how much a curve is at most above itself a period earlier, before it repeats. No memory is taken.
 
-ghost use Rattle.std.specs.Prelude.{◌≡◌, IfSome};
+ghost use Rattle.std.specs.Prelude.{IfSome};
 ghost use Rattle.upp_limits.specs.rational.specs.Rational.{◌+ℚ◌, ◌≤ℚ◌, ◌<ℚ◌};
 ghost use Rattle.upp_limits.specs.rational.specs.Extended.{◌≤ₑ◌, ◌+ₑ◌};
 ghost use Rattle.upp_limits.specs.rational.specs.declared.Extended.TheVariants.{Fin};
@@ -10,10 +10,11 @@ ghost use Rattle.curve_conv.specs.Rises.{RisesAtMost, HasLater, IsLookedUntil, I
 
 use crate::extremes::{checked_sum, rest};
 use plain_operators::curve_call::earlier;
+use plain_operators::pointwise::line_there;
 use upp_limits::fraction128::{Ext, Frac, greater, is_less};
 use upp_limits::rational::Extended;
 use upp_limits::upp_curve::Curve;
-use upp_limits::upp_curve::affine_segment::{Line, value};
+use upp_limits::upp_curve::affine_segment::Line;
 use upp_normal::stretch_at;
 
 /// How far a curve was looked at.
@@ -42,19 +43,6 @@ fn above(b: Ext, a: Ext, most: Frac) -> Option<Frac>
         Extended::Fin(y) => match b {
             Extended::Inf => None,
             Extended::Fin(x) => number_above(x, y, most),
-        },
-    }
-}
-
-// The value of a line that may be missing, where its steps fit.
-fn line_there(line: &Option<Line>, t: Frac) -> Option<Ext>
-    ensures { IfSome result (λ v. v ≡ line_value line.now t) }
-{
-    match line {
-        None => Some(Extended::Inf),
-        Some(l) => match value(l, t) {
-            Ok(v) => Some(Extended::Fin(v)),
-            Err(_) => None,
         },
     }
 }

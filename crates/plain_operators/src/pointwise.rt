@@ -12,6 +12,7 @@ mod sums;
 
 pub use extremes::{max, min, pos_diff};
 pub use lattice::Lattice;
+pub use leaning::line_there;
 pub use levels::pos_minus;
 pub use scaling::scale;
 pub use shifts::{infinite_curve, left_window, shift};

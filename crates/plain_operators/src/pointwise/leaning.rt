@@ -99,8 +99,8 @@ fn lower(v: Ext, t: Frac, rate: Frac, icept: Frac) -> Option<Frac>
     }
 }
 
-// The value of a line that may be missing, where its steps fit.
-fn line_there(line: &Option<Line>, t: Frac) -> Option<Ext>
+/// The value of a line that may be missing, infinite where it is. None only where a step does not fit.
+pub fn line_there(line: &Option<Line>, t: Frac) -> Option<Ext>
     ensures { IfSome result (λ v. v ≡ line_value line.now t) }
 {
     match line {
