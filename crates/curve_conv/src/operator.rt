@@ -19,7 +19,7 @@ use crate::{is_slower_curve, late_bounds, late_periods};
 use element_envelope::window_convolution;
 use outcomes::Steps;
 use plain_operators::curve_call::{
-    CallWindow, Frame, answer, first_window, refuse_between, rise_over, within,
+    CallWindow, Frame, first_window, framed_answer, refuse_between, rise_over, within,
 };
 use std::alloc::{AllocError, Global};
 use std::sync::ledger::Ledger;
@@ -51,15 +51,7 @@ fn convolved_within(alloc: Global, f: &Curve, g: &Curve, frame: &Frame) -> Resul
     let pieces = window_convolution(alloc, &left, &right, frame.end)?;
     let rise = slower_rise(f, g, frame.period);
     let from = difference(frame.end, frame.period);
-    answer(
-        alloc,
-        pieces,
-        from,
-        frame.period,
-        rise,
-        frame.times,
-        frame.values,
-    )
+    framed_answer(alloc, pieces, from, rise, frame)
 }
 
 // The frame with the least number of periods.

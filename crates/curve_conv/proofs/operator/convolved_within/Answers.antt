@@ -18,15 +18,15 @@ slower_rise-rise-requires-clause-second c = let r = c.args.frame.now in let F = 
 pub difference-from-requires : goal.difference-from-requires
 difference-from-requires c = let r = c.args.frame.now in let F = c.requires in from_fits c.args.f.now c.args.g.now r.start r.period r.end (F.number + 1) F.sizes F.call
 
-pub answer-requires : goal.answer-requires
-answer-requires c =
+pub framed_answer-requires : goal.framed_answer-requires
+framed_answer-requires c =
     convolved_answer c.args.f.now c.args.g.now c.args.frame.now c.deref.result.now c.deref-2.result.now c.in_ok-pieces.pieces.items c.difference-from.result c.slower_rise-rise.result c.requires
     (c.deref.ensures.value ∙ c.in_ok-left.ensures) (c.deref-2.ensures.value ∙ c.in_ok-right.ensures) c.in_ok-pieces.ensures c.difference-from.ensures c.slower_rise-rise.ensures
 
 pub returns : goal.returns
 returns c =
-    ok_map c.answer.result _ _
+    ok_map c.framed_answer.result _ _
     (λ a h.
     convolved_values c.args.f.now c.args.g.now c.args.frame.now c.deref.result.now c.deref-2.result.now c.in_ok-pieces.pieces.items c.difference-from.result c.slower_rise-rise.result a c.requires
     (c.deref.ensures.value ∙ c.in_ok-left.ensures) (c.deref-2.ensures.value ∙ c.in_ok-right.ensures) c.in_ok-pieces.ensures c.difference-from.ensures c.slower_rise-rise.ensures h)
-    c.answer.ensures
+    c.framed_answer.ensures
