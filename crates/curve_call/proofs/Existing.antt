@@ -1,7 +1,6 @@
 -- The stretches of two windows, and what is made of them.
-use Rattle.std.specs.Prelude.{◌≡◌, ◌⊎◌, ℕ, zero, suc, ◌+◌, ◌-◌, ◌<◌, ◌≤◌, Bool, true, false, not, List, [], ◌∷◌, ◌++◌, length, slice_get, Option, Some, None, IfSome}
-use Rattle.std.proofs.Common.{arith, get_or, sym, refl, subst, inl, inr}
-use Rattle.std.proofs.lemmas.Option.{slice_get_cases}
+use Rattle.std.specs.Prelude.{◌≡◌, ◌⊎◌, ℕ, zero, suc, ◌+◌, ◌-◌, ◌≤◌, Bool, true, false, not, List, [], ◌∷◌, ◌++◌, length, Option, Some, None}
+use Rattle.std.proofs.Common.{arith, sym, refl, subst, inl, inr}
 use Rattle.std.proofs.lemmas.Bool.{cases_lt}
 use Rattle.upp_limits.specs.rational.specs.Rational.{ℚ, ◌-ℚ◌, ◌/ℚ◌, ◌<ℚ◌}
 use Rattle.upp_limits.specs.rational.proofs.Laws.{le_or_lt, lt_cases, lt_irrefl, le_of_lt, le_trans}
@@ -16,8 +15,7 @@ use Rattle.curve_call.specs.declared.lie.Lie.{Lie}
 use Rattle.curve_call.specs.declared.made.Made.{Made}
 use Rattle.curve_call.specs.declared.made.Made.TheVariants.{Lower, Upper, Excess}
 use Rattle.curve_call.specs.Existing.{HaveWindows}
-use Rattle.curve_call.specs.Stretches.{cut_at, IsOverlay}
-use Rattle.curve_call.specs.Walk.{IsBeforeAt, IsStep}
+use Rattle.curve_call.specs.Stretches.{IsOverlay}
 use Rattle.curve_call.specs.Pointwise.{IsWindowSum, mapped, sum_piece}
 use Rattle.curve_call.specs.Lies.{MeetsAt, LiesBy, IsLie}
 use Rattle.curve_call.specs.Lower.{LowerFits, IsLowerOf}
@@ -26,49 +24,11 @@ use Rattle.curve_call.specs.Operands.{HaveSizes}
 use Rattle.curve_call.proofs.LinesLie.{before_turn, after_turn, parallel_lines}
 use Rattle.curve_call.proofs.LowerWindows.{lower_is}
 use Rattle.curve_call.proofs.MadeWindows.{made_is}
+use Rattle.curve_call.proofs.NextSteps.{IsLeft, step_on}
 use Rattle.curve_call.proofs.OverlayLoop.{OverlayLoop, overlay_start, overlay_step, step_fewer, overlay_end}
 use Rattle.curve_call.proofs.Sums.{sum_is}
 
 -- ---- the walk
--- pieces are left of one of both
-abbrev IsLeft : List Piece → List Piece → Walk → Type 0
-IsLeft f g w = (w.i < length f) ⊎ (w.j < length g)
-
-none_before : (x : ℚ) (ps : List Piece) (i : ℕ) → slice_get ps i ≡ None → IsBeforeAt x ps i
-none_before x ps i e = subst (λ o. IfSome o (λ p. x <ℚ p.x)) (sym e) tt
-
-some_before : (x : ℚ) (ps : List Piece) (i : ℕ) (p : Piece) → slice_get ps i ≡ Some p → x <ℚ p.x → IsBeforeAt x ps i
-some_before x ps i p e h = subst (λ o. IfSome o (λ p. x <ℚ p.x)) (sym e) h
-
-left_on : (f g : List Piece) (w : Walk) (p : Piece) → slice_get f w.i ≡ Some p → IsBeforeAt p.x g w.j → (v : Walk) × IsStep f g w v
-left_on f g w p e h = (
-  record { i = w.i + 1; j = w.j; here = record { left = p; right = cut_at w.here.right p.x } },
-  inl record { next = e; i = refl; j = refl; right = refl; early = h },
-)
-
-right_on : (f g : List Piece) (w : Walk) (q : Piece) → slice_get g w.j ≡ Some q → IsBeforeAt q.x f w.i → (v : Walk) × IsStep f g w v
-right_on f g w q e h = (
-  record { i = w.i; j = w.j + 1; here = record { left = cut_at w.here.left q.x; right = q } },
-  inr (inl record { next = e; i = refl; j = refl; left = refl; early = h }),
-)
-
-both_on : (f g : List Piece) (w : Walk) (p q : Piece) → slice_get f w.i ≡ Some p → slice_get g w.j ≡ Some q → (v : Walk) × IsStep f g w v
-both_on f g w p q e k = elim (lt_cases p.x q.x) [
-  | inl l ↦ left_on f g w p e (some_before p.x g w.j q k l)
-  | inr (inl same) ↦ (record { i = w.i + 1; j = w.j + 1; here = record { left = p; right = q } }, inr (inr record { next = e; other = k; i = refl; j = refl; together = same }))
-  | inr (inr l) ↦ right_on f g w q k (some_before q.x f w.i p e l)
-]
-
-step_on : (f g : List Piece) (w : Walk) → IsLeft f g w → (v : Walk) × IsStep f g w v
-step_on f g w more = by_next (slice_get_cases f w.i).1 (slice_get_cases g w.j).1
-  where
-    by_next : ((p : Piece) × (w.i < length f) × (slice_get f w.i ≡ Some p) × (get_or f w.i p ≡ p)) ⊎ ((length f ≤ w.i) × (slice_get f w.i ≡ None))
-        → ((q : Piece) × (w.j < length g) × (slice_get g w.j ≡ Some q) × (get_or g w.j q ≡ q)) ⊎ ((length g ≤ w.j) × (slice_get g w.j ≡ None)) → (v : Walk) × IsStep f g w v
-    by_next (inl a) (inl b) = both_on f g w a.0 b.0 a.2 b.2
-    by_next (inl a) (inr b) = left_on f g w a.0 a.2 (none_before a.0.x g w.j b.1)
-    by_next (inr a) (inl b) = right_on f g w b.0 b.2 (none_before b.0.x f w.i a.1)
-    by_next (inr a) (inr b) = let l = a.0 in let k = b.0 in absurd (elim more [ inl m ↦ omega (arith, l, m) | inr m ↦ omega (arith, k, m) ])
-
 left_or : (f g : List Piece) (w : Walk) → IsLeft f g w ⊎ ((length f ≤ w.i) × (length g ≤ w.j))
 left_or f g w = elim (cases_lt w.i (length f)) [
   | inl l ↦ inl (inl l)

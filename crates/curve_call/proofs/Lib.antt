@@ -34,12 +34,13 @@ pub mod BoundedNumber
 pub mod Surgery
 pub mod Walks
 pub mod OverlayLoop
+pub mod NextSteps
 pub mod Mapped
 pub mod Sums
 pub mod MapLoop
-pub mod Results
 pub mod OperandWindows
 pub mod LinesLie
+pub mod CrossFits
 pub mod MadeLoop
 pub mod SumLoop
 pub mod MadeReads

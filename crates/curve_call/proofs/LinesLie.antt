@@ -1,8 +1,9 @@
 -- Two lines on an open stretch: which is nowhere above the other, before and after they meet.
-use Rattle.std.specs.Prelude.{◌≡◌, Bool, true, false, not, pos, Option, Some, None}
-use Rattle.std.proofs.Common.{arith, sym, ap, ◌∙◌, subst}
-use Rattle.upp_limits.specs.rational.specs.Rational.{ℚ, ◌+ℚ◌, ◌-ℚ◌, ◌*ℚ◌, ◌≤ℚ◌, int}
-use Rattle.upp_limits.specs.rational.proofs.Laws.{le_of_lt, mul_le_mul_right}
+use Rattle.std.specs.Prelude.{◌≡◌, Bool, true, false, not, pos, IsTrue, ◌↔◌, Option, Some, None}
+use Rattle.std.proofs.Common.{arith, sym, ap, ◌∙◌, refl, subst, inl, inr}
+use Rattle.std.proofs.lemmas.Bool.{true≢false}
+use Rattle.upp_limits.specs.rational.specs.Rational.{ℚ, ◌+ℚ◌, ◌-ℚ◌, ◌*ℚ◌, ◌≤ℚ◌, ◌<ℚ◌, int}
+use Rattle.upp_limits.specs.rational.proofs.Laws.{le_of_lt, lt_cases, mul_le_mul_right}
 use Rattle.upp_limits.specs.rational.proofs.Lines.{past_crossing, line_moved}
 use Rattle.upp_limits.specs.rational.proofs.Linear.{with2, with3, with4}
 use Rattle.upp_limits.specs.upp_curve.specs.declared.affine_segment.line.Line.{Line}
@@ -29,6 +30,15 @@ before_turn false l m x t M h = before_meeting l.icept m.icept l.slope m.slope x
 pub after_turn : (rises : Bool) (l m : Line) (x t : ℚ) → MeetsAt rises l m x → x ≤ℚ t → IsOrdered (not rises) (Some l) (Some m) t
 after_turn true l m x t M h = past_crossing m.icept l.icept m.slope l.slope x t (sym M.1) (le_of_lt M.0) h
 after_turn false l m x t M h = past_crossing l.icept m.icept l.slope m.slope x t M.1 (le_of_lt M.0) h
+
+-- lines of two slopes meet where they are level, and the first rises past the second where it is the steeper
+pub meets_by : (rises : Bool) (l m : Line) (x : ℚ) → (IsTrue rises ↔ (m.slope <ℚ l.slope)) → (l.slope ≡ m.slope → ⊥) → line_at l x ≡ line_at m x → MeetsAt rises l m x
+meets_by true l m x h differ e = (h.0 refl, e)
+meets_by false l m x h differ e = elim (lt_cases l.slope m.slope) [
+  | inl less ↦ (less, e)
+  | inr (inl same) ↦ absurd (differ same)
+  | inr (inr more) ↦ absurd (true≢false (sym (h.1 more)))
+]
 
 -- lines of one slope
 pub parallel_lines : (l m : Line) (t : ℚ) → l.slope ≡ m.slope → l.icept ≤ℚ m.icept → line_at l t ≤ℚ line_at m t

@@ -21,8 +21,7 @@ use Rattle.curve_call.specs.declared.made.Made.{Made}
 use Rattle.curve_call.specs.declared.made.Made.TheVariants.{Lower, Upper, Excess}
 use Rattle.curve_call.specs.Stretches.{lefts, rights, EachBoth, StartTogether}
 use Rattle.curve_call.specs.Lies.{IsOrdered, LiesBy}
-use Rattle.curve_call.specs.declared.made.Parts.{Parts}
-use Rattle.curve_call.specs.Made.{made_value, made_line, zero_line, line_apart, first_piece, turn_piece, parts_by, parts_of, IsParts, turn_listed, listed, AreMade}
+use Rattle.curve_call.specs.Made.{Parts, made_value, made_line, zero_line, line_apart, first_piece, turn_piece, parts_by, parts_of, IsParts, turn_listed, listed, AreMade}
 use Rattle.curve_call.proofs.Surgery.{BeforeNext, read_first}
 use Rattle.curve_call.proofs.LinesLie.{before_crossing, after_crossing}
 

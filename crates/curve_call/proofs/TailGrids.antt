@@ -1,10 +1,9 @@
 -- Windows whose pieces repeat from a time on: the periods stand on the grids of the call.
-use Rattle.std.specs.Prelude.{◌≡◌, ◌*◌, Bool, pos, List}
+use Rattle.std.specs.Prelude.{◌*◌, Bool, List}
 use Rattle.std.proofs.Common.{sym, subst}
 use Prim.Native.Nat.{◌∣◌}
 use native.Mathlib.Nat.{mul_comm}
-use Rattle.upp_limits.specs.rational.specs.Rational.{ℚ, ◌+ℚ◌, ◌≤ℚ◌, ◌<ℚ◌, int}
-use Rattle.upp_limits.specs.rational.specs.Grid.{Whole}
+use Rattle.upp_limits.specs.rational.specs.Rational.{ℚ, ◌<ℚ◌}
 use Rattle.upp_limits.specs.rational.specs.Extended.{Ext}
 use Rattle.upp_limits.specs.upp_curve.specs.declared.affine_segment.line.Piece.{Piece}
 use Rattle.upp_limits.specs.upp_curve.specs.affine_segment.Reading.{read}

@@ -1,7 +1,7 @@
 -- What is made of two windows at one time: the lower, the upper, or what the first has above the second; and pieces
 -- of it, of each stretch on which both go on with one line. (Le Boudec and Thiran, chapter 3; the pieces are our own
 -- choice.)
-use Rattle.std.specs.Prelude.{◌≡◌, Bool, true, false, pos, not, List, [], ◌∷◌, Option, Some, None}
+use Rattle.std.specs.Prelude.{◌≡◌, Bool, true, false, pos, not, List, [], ◌∷◌, ◌++◌, Option, Some, None}
 use Rattle.upp_limits.specs.rational.specs.Rational.{ℚ, ◌-ℚ◌, ◌<ℚ◌, neg_ℚ, int}
 use Rattle.upp_limits.specs.rational.specs.Ratio.{SumFits}
 use Rattle.upp_limits.specs.rational.specs.Extended.{Ext, min_ext, max_ext}
@@ -14,7 +14,6 @@ use Rattle.upp_limits.specs.upp_curve.specs.affine_segment.Fits.{LineFitsAt}
 use Rattle.curve_call.specs.declared.stretch.Both.{Both}
 use Rattle.curve_call.specs.declared.lie.Lie.{Lie}
 use Rattle.curve_call.specs.declared.made.Made.{Made}
-use Rattle.curve_call.specs.declared.made.Parts.{Parts}
 use Rattle.curve_call.specs.declared.made.Made.TheVariants.{Lower, Upper, Excess}
 use Rattle.curve_call.specs.Stretches.{IsBothOf, IsOverlay}
 use Rattle.curve_call.specs.Lies.{CrossFits, CrossesAt, IsLie}
@@ -50,6 +49,11 @@ made_line Excess true l m = Some zero_line
 made_line Excess false l m = line_apart l m
 
 -- ---- of a stretch
+-- its pieces: its beginning, and what follows where its lines change places
+pub record Parts : Type 0 where
+  pub first : Piece
+  pub turn : Option Piece
+
 -- its beginning
 abbrev pub first_piece : Made → Bool → Both → Piece
 first_piece k below b =
@@ -90,6 +94,10 @@ turn_listed (Some p) rest = p ∷ rest
 
 abbrev pub listed : Parts → List Piece → List Piece
 listed parts rest = parts.first ∷ turn_listed parts.turn rest
+
+-- the pieces of the stretch b, which ends at `to`, stand behind those that were there before
+abbrev pub HasParts : Made → Both → ℚ → List Piece → List Piece → Type 0
+HasParts k b to before after = (parts : Parts) × IsParts k b to parts × (after ≡ before ++ listed parts [])
 
 -- the pieces of each stretch in turn, up to the next or to `end`
 abbrev pub AreMade : Made → List Both → ℚ → List Piece → Type 0

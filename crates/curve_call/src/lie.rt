@@ -6,8 +6,8 @@ ghost use Rattle.curve_call.specs.Lies.{IsLie, MeetsAt, CrossFits};
 
 use crate::stretch::Both;
 use std::cmp::Ordering;
-use upp_limits::fraction128::Frac;
-use upp_limits::upp_curve::affine_segment::{Line, cross};
+use upp_limits::fraction128::{Frac, difference, is_less, quotient};
+use upp_limits::upp_curve::affine_segment::Line;
 
 /// How two lines lie on an open stretch, up to where they change places, or to its end.
 #[derive(Debug, Clone, Copy)]
@@ -55,13 +55,13 @@ fn lie_of_lines(a: &Line, b: &Line, from: Frac, to: Frac) -> Lie
     requires { CrossFits (Some a.now) (Some b.now) }
     ensures { IsLie (Some a.now) (Some b.now) from to result }
 {
-    match cross(a, b).unwrap() {
-        Some(x) => match a.slope.cmp(&b.slope) {
-            Ordering::Less => meeting_lie(false, x, from, to),
-            _ => meeting_lie(true, x, from, to),
-        },
-        None => parallel_lie(a, b, from, to),
+    if a.slope == b.slope {
+        return parallel_lie(a, b, from, to);
     }
+    let apart = difference(b.icept, a.icept);
+    let closing = difference(a.slope, b.slope);
+    let x = quotient(apart, closing);
+    meeting_lie(is_less(b.slope, a.slope), x, from, to)
 }
 
 /// How the lines of a stretch lie, up to its end.
@@ -69,11 +69,11 @@ pub(crate) fn lie_of(b: &Both, to: Frac) -> Lie
     requires { CrossFits b.now.left.line b.now.right.line }
     ensures { IsLie b.now.left.line b.now.right.line b.now.left.x to result }
 {
-    match b.right.line {
+    match &b.right.line {
         None => throughout(true),
-        Some(m) => match b.left.line {
+        Some(m) => match &b.left.line {
             None => throughout(false),
-            Some(l) => lie_of_lines(&l, &m, b.left.x, to),
+            Some(l) => lie_of_lines(l, m, b.left.x, to),
         },
     }
 }

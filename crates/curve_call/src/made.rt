@@ -1,6 +1,6 @@
 //! What is made of two windows at each time: the lower, the upper, and what the first has above the second.
 
-ghost use Rattle.std.specs.Prelude.{◌≡◌, pos, IfOk};
+ghost use Rattle.std.specs.Prelude.{◌≡◌, pos, IfOk, OnOk};
 ghost use Rattle.upp_limits.specs.rational.specs.Rational.{◌-ℚ◌, ◌≤ℚ◌, neg_ℚ, int};
 ghost use Rattle.upp_limits.specs.rational.specs.Ratio.{SumFits};
 ghost use Rattle.upp_limits.specs.rational.specs.MinMax.{min_q, max_q};
@@ -8,10 +8,10 @@ ghost use Rattle.upp_limits.specs.rational.specs.Extended.{min_ext, max_ext};
 ghost use Rattle.upp_limits.specs.min_plus.specs.Pointwise.{excess};
 ghost use Rattle.upp_limits.specs.upp_curve.specs.affine_segment.Pieces.{StartsAtZero};
 ghost use Rattle.curve_call.specs.Stretches.{CutsFit};
-ghost use Rattle.curve_call.specs.Made.{made_value, made_line, line_apart, zero_line, first_piece, IsParts, IsMadeWindow, ValueApartFits, LineApartFits, StretchMadeFits, MadeWindowFits};
+ghost use Rattle.curve_call.specs.Made.{made_value, made_line, line_apart, zero_line, HasParts, IsMadeWindow, ValueApartFits, LineApartFits, StretchMadeFits, MadeWindowFits};
 
 use crate::lie::lie_of;
-use crate::stretch::{Both, at_start, cut, present, start_of, step};
+use crate::stretch::{Both, at_start, readable_line, step, stretch_end};
 use std::alloc::{AllocError, Global};
 use upp_limits::fraction128::{Ext, Frac, difference, greater, greater_value, lesser_value};
 use upp_limits::rational::Extended;
@@ -29,13 +29,6 @@ pub(crate) enum Made {
     Upper,
     /// What the first has above the second; 0 where it has nothing, or the second is infinite.
     Excess,
-}
-
-// The pieces of a stretch: its beginning, and what follows where its lines change places.
-#[derive(Debug, Clone, Copy)]
-struct Parts {
-    first: Piece,
-    turn: Option<Piece>,
 }
 
 /// What a has above b; 0 where it has nothing, or b is infinite.
@@ -104,33 +97,26 @@ fn made_lines(made: Made, below: bool, a: Option<Line>, b: Option<Line>) -> Opti
     }
 }
 
-fn first_of(made: Made, below: bool, b: &Both) -> Piece
-    requires value { ValueApartFits b.now.left.at b.now.right.at }
-    requires line { LineApartFits b.now.left.line b.now.right.line }
-    ensures { result ≡ first_piece made below b.now }
-{
-    Piece {
-        x: b.left.x,
-        at: made_values(made, b.left.at, b.right.at),
-        line: made_lines(made, below, b.left.line, b.right.line),
-    }
-}
-
-// The pieces of a stretch.
+// Adds the pieces of a stretch.
 #[inline]
-fn parts_up_to(made: Made, b: &Both, to: Frac, end: Frac) -> Parts
-    requires fits { StretchMadeFits end b.now }
-    requires early { to ≤ℚ end }
-    ensures { IsParts made b.now to result }
+fn push_parts(pieces: &mut Vec<Piece>, made: Made, b: &Both, to: Frac) -> Result<(), AllocError>
+    requires { StretchMadeFits to b.now }
+    ensures { OnOk result (HasParts made b.now to pieces.old.items pieces.new.items) }
 {
     let lie = lie_of(b, to);
-    let first = first_of(made, lie.below, b);
+    pieces.push(Piece {
+        x: b.left.x,
+        at: made_values(made, b.left.at, b.right.at),
+        line: made_lines(made, lie.below, b.left.line, b.right.line),
+    })?;
     match lie.turn {
-        None => Parts { first, turn: None },
-        Some(x) => Parts {
-            first,
-            turn: Some(cut(&first_of(made, !lie.below, b), x)),
-        },
+        None => Ok(()),
+        Some(x) => {
+            let line = made_lines(made, !lie.below, b.left.line, b.right.line);
+            let at = readable_line(&line, x);
+            pieces.push(Piece { x, at, line })?;
+            Ok(())
+        }
     }
 }
 
@@ -145,20 +131,11 @@ pub(crate) fn made_of(alloc: Global, made: Made, f: &[Piece], g: &[Piece], end: 
 {
     let mut walk = at_start(f, g);
     let mut pieces = Vec::with_capacity(alloc, f.len().saturating_add(g.len()))?;
-    let mut here = present(&walk);
     while walk.i < f.len() || walk.j < g.len() {
+        let to = stretch_end(f, g, &walk, end);
+        push_parts(&mut pieces, made, &walk.here, to)?;
         step(f, g, &mut walk);
-        let parts = parts_up_to(made, &here, start_of(&walk), end);
-        pieces.push(parts.first)?;
-        if let Some(turn) = parts.turn {
-            pieces.push(turn)?;
-        }
-        here = present(&walk);
     }
-    let last = parts_up_to(made, &here, end, end);
-    pieces.push(last.first)?;
-    if let Some(turn) = last.turn {
-        pieces.push(turn)?;
-    }
+    push_parts(&mut pieces, made, &walk.here, end)?;
     Ok(pieces)
 }

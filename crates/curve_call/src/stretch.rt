@@ -4,14 +4,15 @@ ghost use Rattle.std.specs.Prelude.{◌≡◌, ◌+◌, ◌<◌, ◌^◌, ◌⊎
 ghost use Rattle.upp_limits.specs.upp_curve.specs.affine_segment.Values.{line_value};
 ghost use Rattle.upp_limits.specs.upp_curve.specs.affine_segment.Pieces.{StartsAtZero};
 ghost use Rattle.upp_limits.specs.upp_curve.specs.affine_segment.Fits.{LineFitsAt};
+ghost use Rattle.curve_call.specs.declared.stretch.Walk.{Walk};
 ghost use Rattle.curve_call.specs.Walk.{IsStart, NextFits, IsStep};
 ghost use Rattle.curve_call.specs.Stretches.{cut_at, IsOverlay, CutsFit};
 
 use std::alloc::{AllocError, Global};
 use std::cmp::Ordering;
-use upp_limits::fraction128::{Ext, Frac};
+use upp_limits::fraction128::{Ext, Frac, product, sum};
 use upp_limits::rational::Extended;
-use upp_limits::upp_curve::affine_segment::{Line, Piece, value};
+use upp_limits::upp_curve::affine_segment::{Line, Piece};
 
 /// A stretch on which two windows each go on with one line: their pieces from its start on.
 #[derive(Debug, Clone, Copy)]
@@ -20,28 +21,21 @@ pub struct Both {
     pub right: Piece,
 }
 
-// The value of a line that may be missing, where its steps fit.
+/// The value of a line that may be missing, where its steps fit.
 #[inline]
-fn readable_line(line: &Option<Line>, x: Frac) -> Ext
+pub(crate) fn readable_line(line: &Option<Line>, x: Frac) -> Ext
     requires { LineFitsAt x line.now }
     ensures { result ≡ line_value line.now x }
 {
     match line {
         None => Extended::Inf,
-        Some(l) => Extended::Fin(value(l, x).unwrap()),
-    }
-}
-
-/// A piece from x on.
-#[inline]
-pub(crate) fn cut(p: &Piece, x: Frac) -> Piece
-    requires { LineFitsAt x p.now.line }
-    ensures { result ≡ cut_at p.now x }
-{
-    Piece {
-        x,
-        at: readable_line(&p.line, x),
-        line: p.line,
+        Some(l) => {
+            // A level line, as of a stair, takes no product.
+            if l.slope == Frac::zero() {
+                return Extended::Fin(l.icept);
+            }
+            Extended::Fin(sum(l.icept, product(l.slope, x)))
+        }
     }
 }
 
@@ -70,20 +64,26 @@ pub(crate) fn at_start(f: &[Piece], g: &[Piece]) -> Walk
     }
 }
 
-/// The present stretch of the walk.
+/// Where the present stretch of the walk ends: where the next one starts; `end` where there is none.
 #[inline]
-pub(crate) fn present(w: &Walk) -> Both
-    ensures { result ≡ w.now.here }
+pub(crate) fn stretch_end(f: &[Piece], g: &[Piece], w: &Walk, end: Frac) -> Frac
+    requires { (w.now.i < length f.now) ⊎ (w.now.j < length g.now) }
+    ensures some { (v : Walk) × IsStep f.now g.now w.now v }
+    ensures next { (v : Walk) → IsStep f.now g.now w.now v → v.here.left.x ≡ result }
 {
-    w.here
-}
-
-/// Where the present stretch of the walk starts.
-#[inline]
-pub(crate) fn start_of(w: &Walk) -> Frac
-    ensures { result ≡ w.now.here.left.x }
-{
-    w.here.left.x
+    match f.get(w.i) {
+        None => match g.get(w.j) {
+            None => end,
+            Some(q) => q.x,
+        },
+        Some(p) => match g.get(w.j) {
+            None => p.x,
+            Some(q) => match q.x.cmp(&p.x) {
+                Ordering::Less => q.x,
+                _ => p.x,
+            },
+        },
+    }
 }
 
 // The next piece of f comes first. What goes on of g keeps its line in place, since a piece is long to copy.
