@@ -1,12 +1,14 @@
 -- Statement after statement: what a script finds, from what each statement adds.
-use Rattle.std.specs.Prelude.{◌≡◌, ℕ, ◌≤◌, length, List, [], ◌∷◌, ◌++◌, map, Option, Some, None, Result, Ok, Err, is_some, false}
-use Rattle.std.proofs.Common.{refl, sym, ap, subst, inl, inr, drop, drop_of_length-le}
+use Rattle.std.specs.Prelude.{◌≡◌, ℕ, ◌<◌, ◌≤◌, ◌+◌, length, get_or, List, [], ◌∷◌, ◌++◌, map, Option, Some, None, Result, Ok, Err, is_some, false}
+use Rattle.std.proofs.Common.{refl, sym, ap, ◌∙◌, subst, inl, inr, drop, drop_of_length-le}
+use Rattle.std.proofs.lemmas.List.{drop_more}
 use Rattle.upp_limits.specs.rational.specs.Rational.{ℚ}
 use Rattle.upp_limits.specs.upp_curve.specs.Curve.{SpecCurve}
 use Rattle.input_texts.specs.declared.curve_script.fault.LangKind.{LangKind}
 use Rattle.input_texts.specs.declared.curve_script.fault.LangKind.TheVariants.{NoMemory}
 use Rattle.input_texts.specs.curve_script.Grammar.{Expression, Statement, Lets}
 use Rattle.input_texts.specs.declared.curve_script.script.ScriptLine.{ScriptLine}
+use Rattle.input_texts.specs.curve_script.Views.{statement_view}
 use Rattle.input_texts.specs.curve_script.Scripts.{Numbered, line_view}
 use Rattle.curve_lang.specs.Answers.{Answered, ScriptMeans}
 use Rattle.curve_lang.specs.Finding.{Still, Then, goes_on, stops, Gives}
@@ -66,6 +68,17 @@ pub script_goes_on : {U : Type 0} (u : U) (l : Numbered) (ls ms : List Let) (out
     → IsAdded ls out l.1 ms more (Ok u) old between → ScriptFinds ms more rest r between new → ScriptFinds ls out (l ∷ rest) r old new
 script_goes_on u l ls ms out more rest r old between new (x, finds, added) h =
     line_on x between finds (next_after x ls ms out more rest r between new added h)
+
+-- the same where the line is the first of those that are left
+pub line_goes_on : {U : Type 0} (u : U) (x : Result U LangKind) (xs : List ScriptLine) (i : ℕ) (line : ScriptLine) (ls ms : List Let)
+    (out more : List Answered) (r : Told) (old between new : ℕ) → i < length xs → line ≡ get_or xs i line → x ≡ Ok u
+    → IsAdded ls out (statement_view line.stat) ms more x old between → ScriptFinds ms more (map line_view (drop (i + 1) xs)) r between new
+    → ScriptFinds ls out (map line_view (drop i xs)) r old new
+line_goes_on u x xs i line ls ms out more r old between new within at is added h =
+    subst (λ ys. ScriptFinds ls out (map line_view ys) r old new)
+    (sym (drop_more xs i line within ∙ ap (λ y. y ∷ drop (i + 1) xs) (sym at)))
+    (script_goes_on u (line_view line) ls ms out more (map line_view (drop (i + 1) xs)) r old between new
+    (subst (λ y. IsAdded ls out (statement_view line.stat) ms more y old between) is added) h)
 
 pub script_stops : (U : Type 0) (l : Numbered) (ls ms : List Let) (out more : List Answered) (rest : List Numbered) (k : LangKind) (old new : ℕ)
     → IsAdded {U = U} ls out l.1 ms more (Err k) old new → ScriptFinds ls out (l ∷ rest) (Err (fault_at k l.0)) old new

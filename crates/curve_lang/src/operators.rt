@@ -193,8 +193,7 @@ fn closure_made<L: Ledger>(
     f: &Curve,
     steps: &mut Steps<L>,
 ) -> Result<Rc<Curve>, LangKind>
-    requires finite { IsFinite (value_at f.now) }
-    requires nonneg { IsNonnegative (value_at f.now) }
+    requires { IsFinite (value_at f.now) × IsNonnegative (value_at f.now) }
     ensures { OneFinds ones.Close f.now (found result) steps.old steps.new }
 {
     kept_call(alloc, intact(close(alloc, f, steps)))
@@ -205,8 +204,7 @@ fn supremum_made<L: Ledger>(
     f: &Curve,
     steps: &mut Steps<L>,
 ) -> Result<Rc<Curve>, LangKind>
-    requires finite { IsFinite (value_at f.now) }
-    requires nonneg { IsNonnegative (value_at f.now) }
+    requires { IsFinite (value_at f.now) × IsNonnegative (value_at f.now) }
     ensures { OneFinds ones.RunSup f.now (found result) steps.old steps.new }
 {
     kept_call(alloc, intact(run_sup(alloc, f, steps)))
@@ -217,8 +215,7 @@ fn infimum_made<L: Ledger>(
     f: &Curve,
     steps: &mut Steps<L>,
 ) -> Result<Rc<Curve>, LangKind>
-    requires finite { IsFinite (value_at f.now) }
-    requires nonneg { IsNonnegative (value_at f.now) }
+    requires { IsFinite (value_at f.now) × IsNonnegative (value_at f.now) }
     ensures { OneFinds ones.RunInf f.now (found result) steps.old steps.new }
 {
     kept_call(alloc, intact(run_inf(alloc, f, steps)))

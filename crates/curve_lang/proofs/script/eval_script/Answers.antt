@@ -7,7 +7,7 @@ use Rattle.curve_lang.specs.Answers.{ScriptMeans}
 use Rattle.curve_lang.specs.Found.{ScriptFinds}
 use Rattle.curve_lang.specs.Scripts.{IsAdded}
 use Rattle.curve_lang.specs.Views.{let_view, answer_view}
-use Rattle.curve_lang.proofs.Scripting.{found_at_end, found_again, script_goes_on, script_stops}
+use Rattle.curve_lang.proofs.Scripting.{found_at_end, found_again, line_goes_on, script_stops}
 use Rattle.curve_lang.proofs.script.eval_script.Goals as goal
 
 pub returns-in-Err-clause-found : goal.returns-in-Err-clause-found
@@ -32,20 +32,11 @@ returns-in-Err-clause-found g c =
 
 pub loop-line-preserved : goal.loop-line-preserved
 loop-line-preserved g c = λ r n h.
-    let xs = c.deref-line-items.result.now in
-    let i = c.loop-line.line-index in
-    let line = c.line-item.result in
-    let ls = map let_view c.loop-line.lets.items in
-    let out = map answer_view c.loop-line.answers.items in
-    let ms = map let_view c.add.new.lets.items in
-    let more = map answer_view c.add.new.answers.items in
-    let old = c.loop-line.steps in
-    let new = c.add.new.steps in
-    let within : i < length xs = omega arith in
-    let added = subst (λ x. IsAdded ls out (statement_view line.stat) ms more x old new) c.in_default.is c.add.ensures in
     c.loop-line.invariant r n
-    (subst (λ ys. ScriptFinds ls out (map line_view ys) r old n) (sym (drop_more xs i line within ∙ ap (λ y. y ∷ drop (i + 1) xs) (sym c.line-item.is)))
-    (script_goes_on c.in_default.field-0 (line_view line) ls ms out more (map line_view (drop (i + 1) xs)) r old new n added h))
+    (line_goes_on c.in_default.field-0 c.add.result c.deref-line-items.result.now c.loop-line.line-index c.line-item.result
+    (map let_view c.loop-line.lets.items) (map let_view c.add.new.lets.items)
+    (map answer_view c.loop-line.answers.items) (map answer_view c.add.new.answers.items)
+    r c.loop-line.steps c.add.new.steps n (omega arith) c.line-item.is c.in_default.is c.add.ensures h)
 
 pub returns-clause-found : goal.returns-clause-found
 returns-clause-found g c =
