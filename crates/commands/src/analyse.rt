@@ -5,5 +5,7 @@ mod answer_laws;
 mod on_file;
 mod on_net;
 
-pub use answer_laws::{answers_are_determined, replies_are_complete, unbounded_is_infinite};
+pub use answer_laws::{
+    answers_are_determined, replies_are_complete, statuses_have_causes, unbounded_is_infinite,
+};
 pub use on_file::on_bytes;

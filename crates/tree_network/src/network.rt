@@ -31,6 +31,7 @@ pub struct Port {
     pub latency: u64,
     /// How long a frame that leaves is on the way to the next port, in picoseconds, rounded up.
     pub link: u64,
+    /// How it chooses the frame that it sends next, and from how many queues.
     pub discipline: Discipline,
     /// When it may send, where it may not always.
     pub gate: Option<Gate>,
@@ -63,7 +64,9 @@ pub struct Link {
 /// Ports, and the links over them.
 #[derive(Debug, Drop)]
 pub struct Network {
+    /// At most 4,096. A port's number is its place.
     pub ports: Vec<Port>,
+    /// At most 16,384. A link's number is its place.
     pub links: Vec<Link>,
 }
 
