@@ -1,6 +1,6 @@
 -- The fold that makes the closure of a curve has an answer that is not want of memory: part by part, each by its star and
 -- a convolution, the last one with the value at 0 set back.
-use Rattle.std.specs.Prelude.{◌≢◌, List, [], ◌∷◌, ◌++◌, map, length, Result, Ok, Err}
+use Rattle.std.specs.Prelude.{◌≢◌, Bool, true, false, List, [], ◌∷◌, ◌++◌, map, length, Result, Ok, Err}
 use Rattle.std.proofs.Common.{◌≡◌, ◌≤◌, arith, inl, inr, refl, sym, ◌∙◌, subst, append_assoc}
 use Rattle.std.proofs.lemmas.List.{length-map}
 use Rattle.upp_limits.specs.rational.specs.Rational.{ℚ, ◌≤ℚ◌}
@@ -19,8 +19,10 @@ use Rattle.outcomes.specs.Calls.{Then, goes_on, stops}
 use Rattle.element_envelope.specs.PieceElements.{elements_of, Among}
 use Rattle.subadd_closure.specs.CurveParts.{pieces_end, part_of, parts_of}
 use Rattle.subadd_closure.specs.declared.part.Part.{Part}
-use Rattle.subadd_closure.specs.Folds.{PartAnswer, PartsAnswer, CloseAnswer}
+use Rattle.subadd_closure.specs.Folds.{PartAnswer, PartsAnswer, FoldCloses, CloseAnswer}
 use Rattle.subadd_closure.specs.PartLaws.{EachPart}
+use Rattle.subadd_closure.specs.ZeroCurves.{zero_curve, begins_at_zero}
+use Rattle.subadd_closure.proofs.ZeroAnswers.{zero_answer, fold_answer}
 use Rattle.subadd_closure.proofs.FirstElements.{two_elements}
 use Rattle.subadd_closure.proofs.FoldShapes.{sofar_nonneg, star_nonneg, finite_past}
 use Rattle.subadd_closure.proofs.FoldSteps.{first_part, first_stops, next_part, next_stops, last_part, early_refusal, last_refusal}
@@ -46,7 +48,7 @@ part_curve f p c a = star_curve f p.copies _ c a
 module _ (f : SpecCurve) (F : IsCurve f) (fin : IsFinite (value_at f)) (low : IsNonnegative (value_at f)) (start : ℚ)
     (at : value_at f zero_q ≡ Fin start) where
   abbrev IsFound : Type 0
-  IsFound = HasAnswerOf (CloseAnswer f)
+  IsFound = HasAnswerOf (FoldCloses f)
 
   from_zero : zero_q ≤ℚ start
   from_zero = subst (λ (v : Ext). Fin zero_q ≤ₑ v) at (low zero_q (le_refl zero_q))
@@ -115,12 +117,25 @@ module _ (f : SpecCurve) (F : IsCurve f) (fin : IsFinite (value_at f)) (low : Is
   whole (p ∷ []) all two each = absurd (omega (arith, two))
   whole (p ∷ q ∷ rest) all two each = first p q rest each.0.answer all each.0.is each.0.found each.1.0 each.1.1
 
-  pub fold_found : HasAnswerOf (CloseAnswer f)
+  pub fold_found : HasAnswerOf (FoldCloses f)
   fold_found =
       let es = elements_of f.pieces (pieces_end f.tail) in
       let two = two_elements f es refl F.normal.raw fin in
       let long = length-map es (part_of f.tail) in
       whole (parts_of f) refl (omega (arith, two, long)) (each_star f es (λ e among. star_found f F fin low e among))
 
+-- ---- the closure, by whether the curve is 0 at first
+made_found : (c : SpecCurve) → (let r : Result SpecCurve OpFault = Ok c in r) ≢ Err NoMemory
+made_found c = λ same. cc
+
+found_by : (f : SpecCurve) → IsCurve f → IsFinite (value_at f) → IsNonnegative (value_at f) → (b : Bool) → begins_at_zero f.pieces ≡ b
+    → HasAnswerOf (CloseAnswer f)
+found_by f F fin low true e =
+    record { answer = Ok zero_curve; is = zero_answer f zero_curve F.normal.raw fin e refl; found = made_found zero_curve }
+found_by f F fin low false e =
+    let (start, at) = fin zero_q (le_refl zero_q) in
+    let r = fold_found f F fin low start at in
+    record { answer = r.answer; is = fold_answer f r.answer e r.is; found = r.found }
+
 pub closures_exist : ClosuresExist
-closures_exist f F fin low = let (start, at) = fin zero_q (le_refl zero_q) in fold_found f F fin low start at
+closures_exist f F fin low = found_by f F fin low (begins_at_zero f.pieces) refl
