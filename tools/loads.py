@@ -20,12 +20,12 @@ def decimal(units, digits):
 
 def rounded_up(value, digits=DIGITS):
     """The least decimal of so many digits that is not below a number: so a bound is shown."""
-    return decimal(math.ceil(Fraction(value) * 10**digits), digits)
+    return decimal(-(-value.numerator * 10**digits // value.denominator), digits)
 
 
 def rounded_down(value, digits=DIGITS):
     """The greatest decimal of so many digits that is not above a number: so a slack is shown."""
-    return decimal(math.floor(Fraction(value) * 10**digits), digits)
+    return decimal(value.numerator * 10**digits // value.denominator, digits)
 
 
 def hops_of(flow):

@@ -31,6 +31,7 @@ import sys
 from collections import Counter
 from dataclasses import dataclass, field
 from fractions import Fraction
+from functools import cached_property
 
 import explain
 import lint
@@ -54,7 +55,7 @@ class Flow:
     hops: list = field(default_factory=list)
     met: bool | None = None  # what is told of the deadline by who compared it exactly
 
-    @property
+    @cached_property
     def slack(self):
         if None in (self.bound, self.deadline):
             return None
@@ -275,10 +276,12 @@ def shown(value, how=rounded_up):
 
 
 def by_slack(flow):
-    """The order of flows: what fails first, then by slack, then those without a deadline by their bounds."""
+    """The order of flows: what fails first, then by slack, then those without a deadline by their bounds. The exact number is looked at
+    only where those of the machine are the same: two fractions take long to compare."""
     if flow.bound is None:
-        return (0, 0)
-    return (1, flow.slack) if flow.slack is not None else (2, -flow.bound)
+        return (0, 0, 0)
+    kind, number = (1, flow.slack) if flow.slack is not None else (2, -flow.bound)
+    return kind, float(number), number
 
 
 def by_delay(port):
@@ -318,12 +321,12 @@ def text_of(report):
     yield report.told()
     yield from [f"odd: {line}" for line in report.findings]
     yield ""
-    lines = [flow_cells(flow) for flow in sorted(report.flows, key=by_slack)]
-    yield from aligned(["flow", "bound us", "deadline us", "", "slack us", "exact bound"], lines)
+    flows = sorted(report.flows, key=by_slack)
+    yield from aligned(["flow", "bound us", "deadline us", "", "slack us", "exact bound"], list(map(flow_cells, flows)))
     yield ""
     ports = [[p.name, shown(p.load), shown(p.delay), shown(p.bytes, str)] for p in sorted(report.ports, key=by_delay)]
     yield from aligned(["port", "load", "delay us", "buffer bytes"], ports)
-    for flow in sorted(report.flows, key=by_slack):
+    for flow in flows:
         if flow.hops:
             yield ""
             table = list(
