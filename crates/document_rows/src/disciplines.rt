@@ -20,7 +20,7 @@ const LONGEST_QUANTUM: u64 = 2_097_152;
 const BITS_IN_A_BYTE: u64 = 8;
 
 /// When a port may send: for the slot at the end of each cycle, in microseconds.
-#[derive(Debug, Clone, Copy)]
+#[derive(Clone, Copy)]
 pub struct GateRow {
     pub cycle: Amount,
     pub slot: Amount,

@@ -9,7 +9,7 @@ use crate::fault::{CellFault, Column, Wrong, at};
 use csv::ByteRecord;
 
 /// Where the columns of ports stand.
-#[derive(Debug, Clone, Copy)]
+#[derive(Clone, Copy)]
 pub struct PortHead {
     pub width: usize,
     pub name: usize,
@@ -21,7 +21,7 @@ pub struct PortHead {
 }
 
 /// Where the columns of links stand.
-#[derive(Debug, Clone, Copy)]
+#[derive(Clone, Copy)]
 pub struct LinkHead {
     pub width: usize,
     pub name: usize,

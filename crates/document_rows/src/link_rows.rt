@@ -23,7 +23,7 @@ const BITS_IN_A_BYTE: u64 = 8;
 
 /// What a row of links says beside its name: the gap in milliseconds, the largest frame in bytes, the jitter in
 /// microseconds, the priority, the words of its path, the deadline in microseconds.
-#[derive(Debug, Drop)]
+#[derive(Drop)]
 pub struct LinkRow<'a> {
     pub gap: Amount,
     pub largest_frame: u64,

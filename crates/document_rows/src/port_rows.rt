@@ -15,7 +15,7 @@ use table_cells::{Amount, words_in};
 use tree_network::Discipline;
 
 /// What a row of ports says beside its name: the rate in Mbit/s, times in microseconds, exact.
-#[derive(Debug, Drop)]
+#[derive(Drop)]
 pub struct PortRow {
     pub rate: Amount,
     pub latency: Amount,

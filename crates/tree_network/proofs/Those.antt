@@ -1,10 +1,9 @@
 -- The numbers below another that pass a test.
-use Rattle.std.proofs.Common.{◌≡◌, ◌≢◌, ℕ, zero, suc, ◌<◌, ◌≤◌, ◌+◌, ◌==◌, ◌&&◌, Bool, true, false, cond, List, [], ◌∷◌, ◌++◌, length, get_or, set, refl, sym, ◌∙◌, ap, subst, arith, inl, inr, add-one, length-append, append-nil, filter}
+use Rattle.std.proofs.Common.{◌≡◌, ◌≢◌, ℕ, zero, suc, ◌<◌, ◌≤◌, ◌+◌, ◌==◌, ◌&&◌, Bool, true, false, cond, List, [], ◌∷◌, ◌++◌, length, get_or, set, refl, sym, ◌∙◌, ap, subst, arith, inl, inr, add-one, length-append, append-nil, filter, take, append_assoc, get_or-set_same, get_or-set_other}
 use Rattle.std.specs.Prelude.{All}
 use Rattle.std.specs.List.{Contains, count_by}
-use Rattle.std.proofs.lemmas.Bool.{cases_eq}
-use Rattle.std.proofs.lemmas.List.{length-set, get_or_append_left}
-use Rattle.std.proofs.lemmas.Bool.Decides.{nat_tests}
+use Rattle.std.proofs.lemmas.Bool.{cases_eq, eq-eqb, ne_eqb, eqb-true}
+use Rattle.std.proofs.lemmas.List.{length-set, get_or_append_left, take_more}
 use Rattle.std.proofs.lemmas.List.Elements.{All-append, filter-append, Contains-push}
 use Rattle.std.proofs.lemmas.List.Sums.{length-filter}
 use Rattle.tree_network.specs.declared.spots.Spot.{Spot}
@@ -130,10 +129,10 @@ pub record BySourceBelow (spots : List Spot) (sources n : ℕ) (lists : List (Li
   pub each : (k : ℕ) → k < sources → list_at lists k ≡ those (is_from spots k) n
 
 pub eq_true : (a b : ℕ) → a ≡ b → (a == b) ≡ true
-eq_true a b e = grind (arith, nat_tests)
+eq_true a b e = eq-eqb a b e
 
 pub eq_false : (a b : ℕ) → a ≢ b → (a == b) ≡ false
-eq_false a b e = grind (arith, nat_tests)
+eq_false a b e = ne_eqb a b e
 
 pub sources_more : (spots : List Spot) (sources n : ℕ) (old new : List (List ℕ)) → (spot_at spots n).source < sources
     → new ≡ set old (spot_at spots n).source (list_at old (spot_at spots n).source ++ n ∷ []) → BySourceBelow spots sources n old
@@ -149,13 +148,39 @@ sources_more spots sources n old new h e b =
           (λ j other m. b.each j m ∙ sym (those_no (is_from spots j) n (eq_false s j (λ same. other (sym same))))) k lt);
     }
 
+-- a number is added to the list of its port
+pub port_added : (spots : List Spot) (numbers : List ℕ) (k : ℕ) (first old new : List (List ℕ)) → k < length numbers
+    → (spot_at spots (get_or numbers k 0)).port < length old
+    → new ≡ set old (spot_at spots (get_or numbers k 0)).port (list_at old (spot_at spots (get_or numbers k 0)).port ++ get_or numbers k 0 ∷ [])
+    → (s : ℕ) → list_at old s ≡ list_at first s ++ filter (λ n. (spot_at spots n).port == s) (take k numbers)
+    → list_at new s ≡ list_at first s ++ filter (λ n. (spot_at spots n).port == s) (take (k + 1) numbers)
+port_added spots numbers k first old new h inside e s before =
+    let n = get_or numbers k 0 in
+    let p = (spot_at spots n).port in
+    let test : ℕ → Bool = λ n. (spot_at spots n).port == s in
+    let front = filter test (take k numbers) in
+    let more : filter test (take (k + 1) numbers) ≡ front ++ filter test (n ∷ []) =
+    ap (filter test) (take_more numbers k 0 h) ∙ filter-append test (take k numbers) (n ∷ []) in
+    ap (λ lists. list_at lists s) e
+    ∙ elim (cases_eq s p) [
+      | inl same ↦
+          let hit = eq_true p s (sym same) in
+          ap (λ m. list_at (set old p (list_at old p ++ n ∷ [])) m) same ∙ get_or-set_same old p (list_at old p ++ n ∷ []) [] inside
+          ∙ ap (λ m. list_at old m ++ n ∷ []) (sym same) ∙ ap (λ l. l ++ n ∷ []) before ∙ append_assoc (list_at first s) front (n ∷ [])
+          ∙ ap (λ l. list_at first s ++ l) (ap (λ b. front ++ cond b (n ∷ []) []) (sym hit) ∙ sym more)
+      | inr other ↦
+          let miss = eq_false p s (λ same. other (sym same)) in
+          get_or-set_other old p s (list_at old p ++ n ∷ []) [] other ∙ before
+          ∙ ap (λ l. list_at first s ++ l) (sym (append-nil front) ∙ ap (λ b. front ++ cond b (n ∷ []) []) (sym miss) ∙ sym more)
+    ]
+
 pub of_both : (a b : Bool) → (a && b) ≡ true → (a ≡ true) × (b ≡ true)
 of_both true true e = (refl, refl)
 of_both true false e = absurd (let f : false ≡ true = e in cc)
 of_both false b e = absurd (let f : false ≡ true = e in cc)
 
 pub of_eq : (a b : ℕ) → (a == b) ≡ true → a ≡ b
-of_eq a b e = grind (arith, nat_tests)
+of_eq a b e = eqb-true a b e
 
 -- ---- and by port
 pub port_none : (spots : List Spot) (s : ℕ) → spots_at_port spots s 0 ≡ []

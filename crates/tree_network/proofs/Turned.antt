@@ -1,7 +1,6 @@
 -- Turn by turn: each port that is done has its place, and what still waits is counted.
 use Rattle.std.proofs.Common.{◌≡◌, ◌≢◌, ℕ, zero, suc, ◌<◌, ◌≤◌, ◌+◌, ◌==◌, ◌&&◌, List, length, get_or, set, replicate, take, refl, sym, ◌∙◌, ap, subst, arith, inl, inr, Bool, true, false, not, get_or-set_same, get_or-set_other, add-zero}
-use Rattle.std.proofs.lemmas.Bool.Decides.{nat_tests}
-use Rattle.std.proofs.lemmas.Bool.{cases_eq, cases_lt}
+use Rattle.std.proofs.lemmas.Bool.{cases_eq, cases_lt, eq-eqb, ne_eqb}
 use Rattle.std.proofs.lemmas.List.{length-set, length-replicate, get_or-replicate, get_or_default, get_or_past, length-take-le}
 use Rattle.std.proofs.Common.{get_or-take}
 use Rattle.tree_network.specs.declared.spots.Spot.{Spot}
@@ -143,17 +142,17 @@ split spots done p s inside off =
     omega (arith, e, f)
   where
     now : (k : ℕ) → one_if (is_late done k) ≡ one_if (is_late (set done p true) k) + one_if (k == p + 1)
-    now zero = let z : (0 == p + 1) ≡ false = grind (arith, nat_tests) in rw z refl
+    now zero = let z : (0 == p + 1) ≡ false = ne_eqb 0 (p + 1) (λ e. omega (arith, e)) in rw z refl
     now (suc a) =
         elim (cases_eq a p) [
           | inl same ↦
               let was = ap (λ m. get_or done m false) same ∙ off in
               let is = ap (λ m. get_or (set done p true) m false) same ∙ get_or-set_same done p true false inside in
-              let hit : (suc a == p + 1) ≡ true = grind (arith, nat_tests) in
+              let hit : (suc a == p + 1) ≡ true = eq-eqb (suc a) (p + 1) (omega (arith, same)) in
               rw (was, is, hit) refl
           | inr other ↦
               let is = get_or-set_other done p a true false other in
-              let miss : (suc a == p + 1) ≡ false = grind (arith, nat_tests) in
+              let miss : (suc a == p + 1) ≡ false = ne_eqb (suc a) (p + 1) (λ e. other (omega (arith, e))) in
               rw (is, miss) (sym (add-zero (one_if (not (get_or done a false)))))
         ]
 

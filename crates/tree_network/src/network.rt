@@ -1,7 +1,7 @@
 //! Ports, links and networks.
 
 /// A gate that is open for the slot at the end of each cycle, in picoseconds.
-#[derive(Debug, Clone, Copy, PartialEq, Eq)]
+#[derive(Clone, Copy)]
 pub struct Gate {
     /// From one opening to the next.
     pub cycle: u64,
@@ -10,7 +10,7 @@ pub struct Gate {
 }
 
 /// How a port with no frame under way chooses the one that it sends next.
-#[derive(Debug, Drop)]
+#[derive(Drop)]
 pub enum Discipline {
     /// The one that came first.
     Fifo,
@@ -21,7 +21,7 @@ pub enum Discipline {
 }
 
 /// An output port of an end system or a switch.
-#[derive(Debug, Drop)]
+#[derive(Drop)]
 pub struct Port {
     /// Grains a second that it sends at least, rounded down.
     pub rate: u64,
@@ -31,13 +31,14 @@ pub struct Port {
     pub latency: u64,
     /// How long a frame that leaves is on the way to the next port, in picoseconds, rounded up.
     pub link: u64,
+    /// How it chooses the frame that it sends next, and from how many queues.
     pub discipline: Discipline,
     /// When it may send, where it may not always.
     pub gate: Option<Gate>,
 }
 
 /// A port of a link's tree.
-#[derive(Debug, Clone, Copy, PartialEq, Eq)]
+#[derive(Clone, Copy)]
 pub struct Node {
     /// The number of the port.
     pub port: usize,
@@ -48,7 +49,7 @@ pub struct Node {
 }
 
 /// A multicast link: frames that go over a tree of ports.
-#[derive(Debug, Drop)]
+#[derive(Drop)]
 pub struct Link {
     /// The longest frame with what goes with it on the wire, in bits.
     pub frame: u64,
@@ -61,9 +62,11 @@ pub struct Link {
 }
 
 /// Ports, and the links over them.
-#[derive(Debug, Drop)]
+#[derive(Drop)]
 pub struct Network {
+    /// At most 4,096. A port's number is its place.
     pub ports: Vec<Port>,
+    /// At most 16,384. A link's number is its place.
     pub links: Vec<Link>,
 }
 

@@ -100,7 +100,7 @@ fn order_of(
 }
 
 /// The spots of a network, by where their frames come from and by port, and an order of the ports.
-#[derive(Debug, Drop)]
+#[derive(Drop)]
 pub struct Plan {
     /// In the order of the links, and of each link's nodes.
     pub spots: Vec<Spot>,

@@ -9,7 +9,7 @@ use crate::network::{Link, Network};
 use std::alloc::{AllocError, Global};
 
 /// A node of a link's tree.
-#[derive(Debug, Clone, Copy, PartialEq, Eq)]
+#[derive(Clone, Copy)]
 pub struct Spot {
     /// The number of the link.
     pub link: usize,

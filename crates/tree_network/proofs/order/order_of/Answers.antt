@@ -126,3 +126,17 @@ returns-clause-order c =
     let e : c.loop-turn.turn ≡ c.args.ports = omega (arith, c.loop-turn.auto.turn-end, c.loop-turn-test.false) in
     let P : ℕ → Type 0 = λ n. Turned c.args.spots.now c.args.ports c.loop-turn.is_done.items c.loop-turn.waiting.items c.loop-turn.ready.items n in
     all_turns c.args.spots.now c.args.ports c.loop-turn.is_done.items c.loop-turn.waiting.items c.loop-turn.ready.items (subst P e c.loop-turn.invariant)
+
+pub waiting_at-requires : goal.waiting_at-requires
+waiting_at-requires c = c.requires.ports
+
+pub index-port-requires : goal.index-port-requires
+index-port-requires c = omega (arith, c.len.ensures, c.if-turn-len.false)
+
+pub index_mut-requires : goal.index_mut-requires
+index_mut-requires c =
+    let t = c.loop-turn.invariant in
+    let h : c.loop-turn.turn < length c.loop-turn.ready.items = omega (arith, c.len.ensures, c.if-turn-len.false) in
+    let is = c.index-port.ensures ∙ get_or_default c.loop-turn.ready.items c.loop-turn.turn c.index-port.result.now 0 h in
+    let lt = t.are_ready.small c.loop-turn.turn h in
+    omega (arith, is, lt, t.counts, t.marks)

@@ -114,3 +114,23 @@ loop-place-preserved c =
       noted = subst N (sym c.in_ok-push.ensures.items) (one_noted seen c.loop-place.places.items c.note.new.places.items port c.loop-place.invariant.noted new inside at);
       count = ap length c.note.ensures ∙ length-set c.loop-place.places.items port c.len.result ∙ count;
     }
+
+pub place_in-requires-clause-inside : goal.place_in-requires-clause-inside
+place_in-requires-clause-inside c =
+    let lt = below_free c.args.is_done.now c.loop-place.port c.loop-place.invariant.walked.here in
+    let same = ap length c.deref-in-loop-place.ensures.value in
+    omega (arith, lt, same, c.loop-place.invariant.count)
+
+pub place_in-requires-clause-noted : goal.place_in-requires-clause-noted
+place_in-requires-clause-noted c =
+    let P : List ℕ → Type 0 = λ xs. AreNoted xs c.loop-place.places.items in
+    let Q : List ℕ → Type 0 = λ places. AreNoted c.deref.result.now places in
+    subst Q (sym c.deref-in-loop-place.ensures.value) (subst P (sym c.deref.ensures.value) c.loop-place.invariant.noted)
+
+pub note-requires : goal.note-requires
+note-requires c =
+    let lt = below_free c.args.is_done.now c.loop-place.port c.loop-place.invariant.walked.here in
+    omega (arith, lt, c.loop-place.invariant.count)
+
+pub waits_for-requires-clause-from : goal.waits_for-requires-clause-from
+waits_for-requires-clause-from c = c.requires.from
