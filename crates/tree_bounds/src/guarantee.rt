@@ -5,6 +5,7 @@
 
 ghost use Rattle.tree_bounds.specs.guarantee.Causes.{NoneHasACause};
 ghost use Rattle.tree_bounds.specs.guarantee.Guarantee.{TablesAreGuaranteed};
+ghost use Rattle.tree_bounds.specs.guarantee.Loads.{LoadAboveRateHasNone};
 ghost use Rattle.tree_bounds.specs.guarantee.Roots.{NoneHasARoot};
 ghost use Rattle.tree_bounds.specs.guarantee.Routes.{NetworksAreTrees, OrdersGoForward};
 
@@ -37,4 +38,9 @@ pub fn none_has_a_cause()
 /// a queue's load is above its rate, or a number passes its limit.
 pub fn none_has_a_root()
     ensures { NoneHasARoot }
+{}
+
+/// A queue through which pass links whose rates together are above its rate has no number in a table.
+pub fn loads_above_rates_have_none()
+    ensures { LoadAboveRateHasNone }
 {}

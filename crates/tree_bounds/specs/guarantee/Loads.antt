@@ -1,0 +1,56 @@
+-- Loads above rates, in grains a second: a queue through which pass links whose rates together are above its rate has no promise. (Le Boudec and
+-- Thiran, chapter 1: what comes faster than it is served waits without bound.)
+use Rattle.std.specs.Prelude.{None, ◌≡◌, ◌+◌, ◌*◌, ◌/◌, ◌<◌, ◌==◌, ◌&&◌, ℕ, zero, suc, Bool, length, get_or, sum, if◌then◌else◌}
+use Rattle.std.specs.List.{sum_by}
+use Rattle.port_bounds.specs.Ports.{rate_behind}
+use Rattle.tree_network.specs.Networks.{IsNetwork, port_at, queues_of}
+use Rattle.tree_network.specs.declared.network.Discipline.{Discipline}
+use Rattle.tree_network.specs.declared.network.Discipline.TheVariants.{Fifo, Priority, Drr}
+use Rattle.tree_network.specs.declared.network.Link.{Link}
+use Rattle.tree_network.specs.declared.network.Network.{Network}
+use Rattle.tree_network.specs.declared.network.Node.{Node}
+use Rattle.tree_bounds.specs.Lines.{rate_of}
+use Rattle.tree_bounds.specs.Tables.{row_in, IsTableOf}
+use Rattle.tree_bounds.specs.declared.analysis.Table.{Table}
+
+-- ---- the load of a queue: the rates of the links that pass it
+-- the node is at queue q of port s
+abbrev pub is_at : (s q : ℕ) → Node → Bool
+is_at s q node = (node.port == s) && (node.queue == q)
+
+-- what a node of a link of this rate brings there
+abbrev pub brought : (s q rate : ℕ) → Node → ℕ
+brought s q rate node = if is_at s q node then rate else 0
+
+-- what a link brings there: its rate, a frame each gap, rounded up
+abbrev pub brought_by : (s q : ℕ) → Link → ℕ
+brought_by s q link = sum_by (brought s q (rate_of link)) link.nodes.items
+
+-- all links together
+abbrev pub rates_at : Network → (s q : ℕ) → ℕ
+rates_at net s q = sum_by (brought_by s q) net.links.items
+
+abbrev pub sum_below : (ℕ → ℕ) → ℕ → ℕ
+sum_below f zero = 0
+sum_below f (suc n) = sum_below f n + f n
+
+-- at the first queues of port s
+abbrev pub rates_below : Network → (s q : ℕ) → ℕ
+rates_below net s q = sum_below (rates_at net s) q
+
+-- ---- it is above the rate
+-- First in, first out: the queue's own load. Priority: that of the queues above and its own together. Deficit round robin:
+-- its own is above its share by the quanta, and that of all queues together above the whole rate.
+abbrev pub IsMoreThan : Discipline → (rate : ℕ) → Network → (s q : ℕ) → Type 0
+IsMoreThan Fifo rate net s q = rate < rates_at net s q
+IsMoreThan (Priority n) rate net s q = rate < rates_below net s (suc q)
+IsMoreThan (Drr quanta) rate net s q = (rate * get_or quanta.items q 0 / sum quanta.items < rates_at net s q) × (rate < rates_below net s (length quanta.items))
+
+-- a link passes the queue, and the load is above the port's rate, or behind a gate above the rate for the open part of its cycle
+pub record IsLoadedAboveRate (net : Network) (s q : ℕ) : Type 0 where
+  pub some : 0 < rates_at net s q
+  pub more : IsMoreThan (port_at net s).discipline (rate_behind (port_at net s).gate (port_at net s).rate) net s q
+
+abbrev pub LoadAboveRateHasNone : Type 0
+LoadAboveRateHasNone = (net : Network) (table : Table) (s q : ℕ) → IsNetwork net → IsTableOf net table → s < length net.ports.items
+    → q < queues_of (port_at net s).discipline → IsLoadedAboveRate net s q → row_in table s q ≡ None
