@@ -15,3 +15,4 @@ pub mod LoadSums
 pub mod LinkRates
 pub mod Borne
 pub mod Overloads
+pub mod LoadsApart

@@ -5,7 +5,7 @@
 
 ghost use Rattle.tree_bounds.specs.guarantee.Causes.{NoneHasACause};
 ghost use Rattle.tree_bounds.specs.guarantee.Guarantee.{TablesAreGuaranteed};
-ghost use Rattle.tree_bounds.specs.guarantee.Loads.{LoadAboveRateHasNone};
+ghost use Rattle.tree_bounds.specs.guarantee.Loads.{LoadAboveRateHasNone, OverloadIsLoad};
 ghost use Rattle.tree_bounds.specs.guarantee.Roots.{NoneHasARoot};
 ghost use Rattle.tree_bounds.specs.guarantee.Routes.{NetworksAreTrees, OrdersGoForward};
 
@@ -43,4 +43,9 @@ pub fn none_has_a_root()
 /// A queue through which pass links whose rates together are above its rate has no number in a table.
 pub fn loads_above_rates_have_none()
     ensures { LoadAboveRateHasNone }
+{}
+
+/// An overload, which may be the root of a queue without a number, is a load above the rate.
+pub fn overloads_are_loads()
+    ensures { OverloadIsLoad }
 {}

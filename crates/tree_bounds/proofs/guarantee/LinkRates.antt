@@ -293,7 +293,7 @@ module _ (net : Network) (w : IsNetwork net) (row : ℕ → ℕ → Option Queue
   abbrev pub brought : (s q k : ℕ) → ℕ
   brought s q k = sum_by (rate_at net) (those (is_of_tree_part (routes_of net) s q k) (length net.links.items))
 
-  group_rate : (s q k : ℕ) → list_all known (spots_in_group spots s q k) ≡ true → sum_by (λ n. rate_in (line_of (stair n))) (spots_in_group spots s q k) ≡ brought s q k
+  pub group_rate : (s q k : ℕ) → list_all known (spots_in_group spots s q k) ≡ true → sum_by (λ n. rate_in (line_of (stair n))) (spots_in_group spots s q k) ≡ brought s q k
   group_rate s q k all =
       let test = is_of_tree_part (routes_of net) s q k in
       let those_are = those test (length net.links.items) in

@@ -14,7 +14,7 @@ pub below_le : (f g : ℕ → ℕ) (n : ℕ) → ((k : ℕ) → k < n → f k �
 below_le f g zero h = omega arith
 below_le f g (suc n) h = let rest = below_le f g n (λ k lt. h k (omega (arith, lt))) in let one = h n (omega arith) in omega (arith, rest, one)
 
-below_add : (f g : ℕ → ℕ) (n : ℕ) → sum_below (λ k. f k + g k) n ≡ sum_below f n + sum_below g n
+pub below_add : (f g : ℕ → ℕ) (n : ℕ) → sum_below (λ k. f k + g k) n ≡ sum_below f n + sum_below g n
 below_add f g zero = refl
 below_add f g (suc n) = let rest = below_add f g n in omega (arith, rest)
 
@@ -23,13 +23,6 @@ below_one f zero k h = absurd (omega (arith, h))
 below_one f (suc n) k h = elim (cases_eq k n) [
   | inl same ↦ let e = ap f same in omega (arith, e)
   | inr other ↦ let rest = below_one f n k (omega (arith, h, other)) in omega (arith, rest)
-]
-
-pub below_fewer : (f : ℕ → ℕ) (m n : ℕ) → m ≤ n → sum_below f m ≤ sum_below f n
-below_fewer f m zero h = let e : m ≡ 0 = omega (arith, h) in let s = ap (sum_below f) e in omega (arith, s)
-below_fewer f m (suc n) h = elim (cases_eq m (suc n)) [
-  | inl same ↦ let s = ap (sum_below f) same in omega (arith, s)
-  | inr other ↦ let rest = below_fewer f m n (omega (arith, h, other)) in omega (arith, rest)
 ]
 
 -- first and others, and a front and the rest

@@ -110,7 +110,7 @@ module _ (net : Network) (rate s : ℕ) (live : ℕ → ℕ) (most : (q : ℕ) �
   ]
 
 -- ---- parts that are known are those of the groups
-parts_some : (net : Network) (groups : List Group) (parts : List Part) → parts_in net groups ≡ Some parts → (list_all (λ g. g.known) groups ≡ true) × (map (part_of net) groups ≡ parts)
+pub parts_some : (net : Network) (groups : List Group) (parts : List Part) → parts_in net groups ≡ Some parts → (list_all (λ g. g.known) groups ≡ true) × (map (part_of net) groups ≡ parts)
 parts_some net groups parts e = by_test (list_all (λ (g : Group). g.known) groups) (are_bounded (map (part_of net) groups)) e
   where
     by_test : (a b : Bool) → (if a && b then Some (map (part_of net) groups) else None) ≡ Some parts → (a ≡ true) × (map (part_of net) groups ≡ parts)

@@ -1,7 +1,9 @@
 -- Loads above rates, in grains a second: a queue through which pass links whose rates together are above its rate has no promise. (Le Boudec and
 -- Thiran, chapter 1: what comes faster than it is served waits without bound.)
-use Rattle.std.specs.Prelude.{None, ◌≡◌, ◌+◌, ◌*◌, ◌/◌, ◌<◌, ◌==◌, ◌&&◌, ℕ, zero, suc, Bool, length, get_or, sum, if◌then◌else◌}
+use Rattle.std.specs.Prelude.{Option, None, ◌≡◌, ◌+◌, ◌*◌, ◌/◌, ◌<◌, ◌==◌, ◌&&◌, ℕ, zero, suc, Bool, length, get_or, sum, if◌then◌else◌}
 use Rattle.std.specs.List.{sum_by}
+use Rattle.arrival_lines.specs.declared.grid.Queue.{Queue}
+use Rattle.arrival_stairs.specs.declared.stairs.Stair.{Stair}
 use Rattle.port_bounds.specs.Ports.{rate_behind}
 use Rattle.tree_network.specs.Networks.{IsNetwork, port_at, queues_of}
 use Rattle.tree_network.specs.declared.network.Discipline.{Discipline}
@@ -9,9 +11,11 @@ use Rattle.tree_network.specs.declared.network.Discipline.TheVariants.{Fifo, Pri
 use Rattle.tree_network.specs.declared.network.Link.{Link}
 use Rattle.tree_network.specs.declared.network.Network.{Network}
 use Rattle.tree_network.specs.declared.network.Node.{Node}
+use Rattle.tree_bounds.specs.Equations.{MeetsEquations, arrivals_of}
 use Rattle.tree_bounds.specs.Lines.{rate_of}
 use Rattle.tree_bounds.specs.Tables.{row_in, IsTableOf}
 use Rattle.tree_bounds.specs.declared.analysis.Table.{Table}
+use Rattle.tree_bounds.specs.guarantee.Causes.{IsOverloaded}
 
 -- ---- the load of a queue: the rates of the links that pass it
 -- the node is at queue q of port s
@@ -54,3 +58,9 @@ pub record IsLoadedAboveRate (net : Network) (s q : ℕ) : Type 0 where
 abbrev pub LoadAboveRateHasNone : Type 0
 LoadAboveRateHasNone = (net : Network) (table : Table) (s q : ℕ) → IsNetwork net → IsTableOf net table → s < length net.ports.items
     → q < queues_of (port_at net s).discipline → IsLoadedAboveRate net s q → row_in table s q ≡ None
+
+-- ---- and the other way: where the parts that come to a queue are too fast for its port, the load of the links that pass it is above its rate
+abbrev pub OverloadIsLoad : Type 0
+OverloadIsLoad = (net : Network) (row : ℕ → ℕ → Option Queue) (stair : ℕ → Option Stair) (s q : ℕ) → IsNetwork net → MeetsEquations net row stair
+    → s < length net.ports.items → q < queues_of (port_at net s).discipline → 0 < rates_at net s q → IsOverloaded (port_at net s) (arrivals_of net stair s) q
+    → IsLoadedAboveRate net s q
