@@ -113,7 +113,7 @@ module _ (net : Network) (w : IsNetwork net) (row : ℕ → ℕ → Option Queue
   passes_is link s q [] = refl
   passes_is link s q (x ∷ xs) = ap (λ b. if x.port == s then x.queue == q else b) (passes_is link s q xs)
 
-  passes_of_test : (i s q k : ℕ) → i < length net.links.items → is_of_tree_part (routes_of net) s q k i ≡ true → link_passes s q (slice_get net.links.items i) ≡ true
+  pub passes_of_test : (i s q k : ℕ) → i < length net.links.items → is_of_tree_part (routes_of net) s q k i ≡ true → link_passes s q (slice_get net.links.items i) ≡ true
   passes_of_test i s q k h e =
       let at = rates.link_at net i w h in
       let link = at.link in

@@ -1,21 +1,25 @@
 -- Loads above rates, in grains a second: a queue through which pass links whose rates together are above its rate has no promise. (Le Boudec and
 -- Thiran, chapter 1: what comes faster than it is served waits without bound.)
-use Rattle.std.specs.Prelude.{Option, None, ◌≡◌, ◌+◌, ◌*◌, ◌/◌, ◌<◌, ◌==◌, ◌&&◌, ℕ, zero, suc, Bool, length, get_or, sum, if◌then◌else◌}
+use Rattle.std.specs.Prelude.{Option, None, ◌≡◌, ◌+◌, ◌*◌, ◌/◌, ◌<◌, ◌==◌, ◌&&◌, ℕ, zero, suc, Bool, List, length, map, get_or, sum, if◌then◌else◌}
 use Rattle.std.specs.List.{sum_by}
 use Rattle.arrival_lines.specs.declared.grid.Queue.{Queue}
 use Rattle.arrival_stairs.specs.declared.stairs.Stair.{Stair}
 use Rattle.port_bounds.specs.Ports.{rate_behind}
+use Rattle.port_bounds.specs.StairsIncoming.{StairsIn}
 use Rattle.tree_network.specs.Networks.{IsNetwork, port_at, queues_of}
+use Rattle.tree_network.specs.Spots.{spot_at, spots_of}
 use Rattle.tree_network.specs.declared.network.Discipline.{Discipline}
 use Rattle.tree_network.specs.declared.network.Discipline.TheVariants.{Fifo, Priority, Drr}
 use Rattle.tree_network.specs.declared.network.Link.{Link}
 use Rattle.tree_network.specs.declared.network.Network.{Network}
 use Rattle.tree_network.specs.declared.network.Node.{Node}
-use Rattle.tree_bounds.specs.Equations.{MeetsEquations, arrivals_of}
+use Rattle.tree_bounds.specs.Bunches.{arriving_of}
+use Rattle.tree_bounds.specs.Equations.{MeetsEquations, arrivals_of, comes_to}
 use Rattle.tree_bounds.specs.Lines.{rate_of}
 use Rattle.tree_bounds.specs.Tables.{row_in, IsTableOf}
 use Rattle.tree_bounds.specs.declared.analysis.Table.{Table}
-use Rattle.tree_bounds.specs.guarantee.Causes.{IsOverloaded}
+use Rattle.tree_bounds.specs.guarantee.Causes.{IsLong, IsOverloaded}
+use Rattle.tree_bounds.specs.guarantee.Roots.{CountsAt, IsAt, PassesLimit, queue_before}
 
 -- ---- the load of a queue: the rates of the links that pass it
 -- the node is at queue q of port s
@@ -64,3 +68,24 @@ abbrev pub OverloadIsLoad : Type 0
 OverloadIsLoad = (net : Network) (row : ℕ → ℕ → Option Queue) (stair : ℕ → Option Stair) (s q : ℕ) → IsNetwork net → MeetsEquations net row stair
     → s < length net.ports.items → q < queues_of (port_at net s).discipline → 0 < rates_at net s q → IsOverloaded (port_at net s) (arrivals_of net stair s) q
     → IsLoadedAboveRate net s q
+
+-- ---- so where no load is above its rate, a queue has no promise only by a limit: at it, or at one before it on the trees of links, each delay is of
+-- 2 ^ 50 picoseconds or more, or a number passes its limit
+pub data HasLimit (net : Network) (row : ℕ → ℕ → Option Queue) (stair : ℕ → Option Stair) : (s q : ℕ) → Type 0 where
+  by_delay : (s q : ℕ) (stairs : List StairsIn) → map arriving_of stairs ≡ comes_to net stair s
+      → IsLong (port_at net s) (arrivals_of net stair s) stairs q → HasLimit net row stair s q
+  by_limit : (s q p : ℕ) → CountsAt (port_at net s).discipline p q → PassesLimit net row stair s p → HasLimit net row stair s q
+  by_earlier : (s q p n a : ℕ) → CountsAt (port_at net s).discipline p q → IsAt net s p n → (spot_at (spots_of net) n).source ≡ suc a
+      → row a (queue_before net n) ≡ None → HasLimit net row stair a (queue_before net n) → HasLimit net row stair s q
+
+pub record IsLimitedIn (net : Network) (table : Table) (s q : ℕ) : Type 0 where
+  pub stair : ℕ → Option Stair
+  pub equations : MeetsEquations net (row_in table) stair
+  pub limit : HasLimit net (row_in table) stair s q
+
+pub record IsWithinLoads (net : Network) : Type 0 where
+  pub each : (s q : ℕ) → s < length net.ports.items → q < queues_of (port_at net s).discipline → IsLoadedAboveRate net s q → ⊥
+
+abbrev pub NoneWithinLoads : Type 0
+NoneWithinLoads = (net : Network) (table : Table) (s q : ℕ) → IsNetwork net → IsTableOf net table → IsWithinLoads net → s < length net.ports.items
+    → q < queues_of (port_at net s).discipline → 0 < rates_at net s q → row_in table s q ≡ None → IsLimitedIn net table s q
