@@ -11,3 +11,9 @@ pub mod Branched
 pub mod LastSteps
 pub mod Caused
 pub mod Rooted
+pub mod LoadSums
+pub mod LinkRates
+pub mod Borne
+pub mod Overloads
+pub mod LoadsApart
+pub mod Within

@@ -5,6 +5,7 @@
 
 ghost use Rattle.tree_bounds.specs.guarantee.Causes.{NoneHasACause};
 ghost use Rattle.tree_bounds.specs.guarantee.Guarantee.{TablesAreGuaranteed};
+ghost use Rattle.tree_bounds.specs.guarantee.Loads.{LoadAboveRateHasNone, NoneWithinLoads, OverloadIsLoad};
 ghost use Rattle.tree_bounds.specs.guarantee.Roots.{NoneHasARoot};
 ghost use Rattle.tree_bounds.specs.guarantee.Routes.{NetworksAreTrees, OrdersGoForward};
 
@@ -37,4 +38,20 @@ pub fn none_has_a_cause()
 /// a queue's load is above its rate, or a number passes its limit.
 pub fn none_has_a_root()
     ensures { NoneHasARoot }
+{}
+
+/// A queue through which pass links whose rates together are above its rate has no number in a table.
+pub fn loads_above_rates_have_none()
+    ensures { LoadAboveRateHasNone }
+{}
+
+/// An overload, which may be the root of a queue without a number, is a load above the rate.
+pub fn overloads_are_loads()
+    ensures { OverloadIsLoad }
+{}
+
+/// Where no load of a network is above its rate, a queue that a link passes has no number only by a limit: there or before it each
+/// delay is of 2^50 picoseconds or more, or a number passes its limit.
+pub fn none_within_loads_has_a_limit()
+    ensures { NoneWithinLoads }
 {}

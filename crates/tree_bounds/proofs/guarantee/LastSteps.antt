@@ -1,5 +1,6 @@
--- The last step of a sum of parts: from some time on it is the sum, and no faster than the links together.
-use Rattle.std.specs.Prelude.{Option, Some, None, ◌≡◌, ℕ, ◌+◌, ◌-◌, ◌<◌, ◌≤◌, List, [], ◌∷◌}
+-- The last step of a sum of parts: from some time on it is the sum, and its rate is what they bring in the long run, which is no more than
+-- their links together.
+use Rattle.std.specs.Prelude.{Option, Some, None, ◌≡◌, ℕ, ◌+◌, ◌-◌, ◌<◌, ◌≤◌, min, List, [], ◌∷◌}
 use Rattle.std.specs.List.{sum_by}
 use Rattle.std.proofs.Common.{arith, ap, ◌∙◌, refl, inl, inr}
 use Rattle.std.proofs.lemmas.Bool.{cases_lt}
@@ -9,15 +10,23 @@ use Rattle.min_plus.specs.rational.specs.MinMax.{max_q}
 use Rattle.min_plus.specs.rational.proofs.Laws.{le_refl, le_trans, zero_mul, mul_comm, mul_le_mul, add_mul, mul_le_mul_right, div_mul, not_zero}
 use Rattle.min_plus.specs.rational.proofs.MinMax.{min_q_le_left, min_q_le_right, min_q_ge, max_q_ge_left, max_q_ge_right}
 use Rattle.min_plus.specs.rational.proofs.Quotients.{div_nonneg}
-use Rattle.min_plus.specs.rational.proofs.Linear.{with1, with2, with4, with6}
+use Rattle.min_plus.specs.rational.proofs.Linear.{with1, with2, with4, with5, with6}
 use Rattle.min_plus.specs.Functions.{zero_q, whole}
 use Rattle.arrival_lines.specs.Excess.{IsEndless}
 use Rattle.arrival_lines.specs.Grid.{grain, grain_a_second, bits, speed, line_value, lesser, part_value, parts_value}
-use Rattle.arrival_lines.specs.Steps.{IsStep}
+use Rattle.arrival_lines.specs.Steps.{IsAbove, IsStep}
 use Rattle.arrival_lines.specs.declared.grid.Line.{Line}
 use Rattle.arrival_lines.specs.declared.grid.Part.{Part}
 use Rattle.arrival_lines.proofs.OnGrid.{total_on_grid}
-use Rattle.arrival_lines.proofs.Units.{bits_nonneg, bits_le, speed_add, speed_le, speed_some}
+use Rattle.arrival_lines.proofs.Units.{bits_nonneg, bits_le, bits_lt, speed_add, speed_le, speed_some}
+
+-- what a part brings in the long run: the rates of its links together, or the pace of the port from which they come, where that is less
+abbrev slower_rate : Line → Option Line → ℕ
+slower_rate sum None = sum.rate
+slower_rate sum (Some pace) = min sum.rate pace.rate
+
+abbrev pub long_run_rate : Part → ℕ
+long_run_rate part = slower_rate part.sum part.pace
 
 -- a line that is nowhere below a function, and nowhere above it from some time on
 record IsLast (value : ℚ → ℚ) (line : Line) : Type 0 where
@@ -72,10 +81,10 @@ lower_crosses low high e h = record {
 record PartLast (sum : Line) (pace : Option Line) : Type 0 where
   line : Line
   last : IsLast (lesser sum pace) line
-  rate : line.rate ≤ sum.rate
+  rate : line.rate ≡ slower_rate sum pace
 
-by_sum : (sum pace : Line) → Crosses sum pace → PartLast sum (Some pace)
-by_sum sum pace c = record {
+by_sum : (sum pace : Line) → sum.rate ≤ pace.rate → Crosses sum pace → PartLast sum (Some pace)
+by_sum sum pace h c = record {
   line = sum;
   last = record {
     from = c.from;
@@ -83,7 +92,7 @@ by_sum sum pace c = record {
     above = λ t on. min_q_le_left (line_value sum t) (line_value pace t);
     tight = λ t late. min_q_ge (line_value sum t) (line_value pace t) (line_value sum t) (le_refl _) (c.after t late);
   };
-  rate = omega arith;
+  rate = omega (arith, h);
 }
 
 by_pace : (sum pace : Line) → pace.rate ≤ sum.rate → Crosses pace sum → PartLast sum (Some pace)
@@ -95,22 +104,22 @@ by_pace sum pace h c = record {
     above = λ t on. min_q_le_right (line_value sum t) (line_value pace t);
     tight = λ t late. min_q_ge (line_value sum t) (line_value pace t) (line_value pace t) (c.after t late) (le_refl _);
   };
-  rate = h;
+  rate = omega (arith, h);
 }
 
 part_last : (sum : Line) (pace : Option Line) → PartLast sum pace
 part_last sum None = record {
   line = sum;
   last = record { from = zero_q; on = le_refl zero_q; above = λ t on. le_refl _; tight = λ t late. le_refl _ };
-  rate = omega arith;
+  rate = refl;
 }
 part_last sum (Some pace) = elim (cases_lt pace.rate sum.rate) [
   | inl slower ↦ by_pace sum pace (omega (arith, slower)) (slower_crosses pace sum slower)
   | inr faster ↦ elim (cases_lt sum.rate pace.rate) [
-    | inl less ↦ by_sum sum pace (slower_crosses sum pace less)
+    | inl less ↦ by_sum sum pace (omega (arith, less)) (slower_crosses sum pace less)
     | inr same ↦ elim (cases_lt pace.burst sum.burst) [
       | inl low ↦ by_pace sum pace (omega (arith, same)) (lower_crosses pace sum (omega (arith, same, faster)) (omega (arith, low)))
-      | inr high ↦ by_sum sum pace (lower_crosses sum pace (omega (arith, same, faster)) high)
+      | inr high ↦ by_sum sum pace faster (lower_crosses sum pace (omega (arith, same, faster)) high)
     ]
   ]
 ]
@@ -124,7 +133,7 @@ pub record LastStep (parts : List Part) : Type 0 where
 record SumLast (parts : List Part) : Type 0 where
   line : Line
   last : IsLast (parts_value parts) line
-  rate : line.rate ≤ sum_by (λ part. part.sum.rate) parts
+  rate : line.rate ≡ sum_by long_run_rate parts
 
 both_zero : (x y : ℚ) → x ≡ zero_q → y ≡ zero_q → x +ℚ y ≡ zero_q
 both_zero x y h k = with2 x y (λ c. omega (arith, c.le, c.lt, c.same))
@@ -160,7 +169,7 @@ sum_last [] = record {
     above = λ t on. same_le (parts_value [] t) (line_value (record { burst = 0; rate = 0 }) t) (no_value t) (nothing t);
     tight = λ t late. same_le (line_value (record { burst = 0; rate = 0 }) t) (parts_value [] t) (nothing t) (no_value t);
   };
-  rate = omega arith;
+  rate = refl;
 }
 sum_last (p ∷ ps) =
     let one = part_last p.sum p.pace in
@@ -178,8 +187,22 @@ sum_last (p ∷ ps) =
             (more_value p ps t) ((total_on_grid one.line rest.line).is t) (one.last.tight t (le_trans (max_q_ge_left one.last.from rest.last.from) late))
             (rest.last.tight t (le_trans (max_q_ge_right one.last.from rest.last.from) late));
       };
-      rate = let e = sum_by-cons (λ (part : Part). part.sum.rate) p ps in omega (arith, e, one.rate, rest.rate);
+      rate = let e = sum_by-cons long_run_rate p ps in let a = one.rate in let b = rest.rate in omega (arith, e, a, b);
     }
+
+-- what a part brings in the long run is no more than its links together
+slower_most : (sum : Line) (pace : Option Line) → slower_rate sum pace ≤ sum.rate
+slower_most sum None = omega arith
+slower_most sum (Some pace) = omega arith
+
+long_run_most : (parts : List Part) → sum_by long_run_rate parts ≤ sum_by (λ part. part.sum.rate) parts
+long_run_most [] = omega arith
+long_run_most (p ∷ ps) =
+    let a = sum_by-cons long_run_rate p ps in
+    let b = sum_by-cons (λ (part : Part). part.sum.rate) p ps in
+    let one = slower_most p.sum p.pace in
+    let rest = long_run_most ps in
+    omega (arith, a, b, one, rest)
 
 pub last_step : (parts : List Part) → LastStep parts
 last_step parts =
@@ -195,7 +218,7 @@ last_step parts =
         begins = sum.last.tight sum.last.from (le_refl sum.last.from);
         ends = sum.last.tight (sum.last.from +ℚ whole 1) (soon sum.last.from);
       };
-      rate = sum.rate;
+      rate = let e = sum.rate in let most = long_run_most parts in omega (arith, e, most);
     }
   where
     next : (x : ℚ) → x <ℚ x +ℚ whole 1
@@ -210,8 +233,26 @@ not_endless parts rate h endless =
     let sum = sum_last parts in
     let past = endless (bits sum.line.burst) in
     let t = past.0 in
-    let a = mul_le_mul_right t past.1 (speed_le sum.line.rate rate (let r = sum.rate in omega (arith, h, r))) in
+    let a = mul_le_mul_right t past.1 (speed_le sum.line.rate rate (let r = sum.rate in let most = long_run_most parts in omega (arith, h, r, most))) in
     no (bits sum.line.burst) (speed sum.line.rate *ℚ t) (speed rate *ℚ t) (parts_value parts t) a past.2 (sum.last.above t past.1)
   where
     no : (b l r v : ℚ) → l ≤ℚ r → b +ℚ r <ℚ v → v ≤ℚ b +ℚ l → ⊥
     no b l r v a h k = with4 b l r v (λ c. omega (arith, c.le, c.lt, c.same))
+
+-- ---- and a line that is slower than what they bring in the long run does not stay above them
+pub carries : (parts : List Part) (line : Line) → IsAbove parts line → sum_by long_run_rate parts ≤ line.rate
+carries parts line above = elim (cases_lt line.rate (sum_by long_run_rate parts)) [
+  | inr fast ↦ fast
+  | inl slow ↦
+      let sum = sum_last parts in
+      let higher : Line = record { burst = line.burst + 1; rate = line.rate } in
+      let rate = sum.rate in
+      let past = slower_crosses higher sum.line (omega (arith, slow, rate)) in
+      let t = max_q past.from sum.last.from in
+      absurd (no (bits (line.burst + 1)) (bits line.burst) (speed line.rate *ℚ t) (line_value sum.line t) (parts_value parts t) (bits_lt line.burst (line.burst + 1) (omega arith))
+      (past.after t (max_q_ge_left past.from sum.last.from)) (sum.last.tight t (max_q_ge_right past.from sum.last.from))
+      (above.above t (le_trans past.on (max_q_ge_left past.from sum.last.from))))
+]
+  where
+    no : (more b r l v : ℚ) → b <ℚ more → more +ℚ r ≤ℚ l → l ≤ℚ v → v ≤ℚ b +ℚ r → ⊥
+    no more b r l v a h k m = with5 more b r l v (λ c. omega (arith, c.le, c.lt, c.same))
