@@ -1,3 +1,4 @@
+pub mod Chain
 pub mod Decided
 pub mod RawShapes
 pub mod ListedTests
