@@ -6,3 +6,4 @@ pub mod Leaves
 pub mod Splits
 pub mod Taken
 pub mod JsonWords
+pub mod Rules

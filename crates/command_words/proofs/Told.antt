@@ -1,7 +1,9 @@
 -- What is read of matches, from their rows.
-use Rattle.std.proofs.Common.{◌≡◌, ◌++◌, [], Bool, true, false, List, Option, Some, None, inl, inr, refl, sym, ap, ◌∙◌}
+use Rattle.std.proofs.Common.{◌≡◌, ◌++◌, ◌∷◌, [], map, append-nil, Bool, true, false, List, Option, Some, None, inl, inr, refl, sym, ap, ◌∙◌}
+use Rattle.std.specs.Borrow.{Bor}
 use Rattle.std.specs.Prelude.{codes, option_map}
 use Rattle.std.specs.Option.{option_to_list}
+use Rattle.std.proofs.lemmas.List.{map-append}
 use Rattle.clap.specs.Matches.{first_value, one_text, subcommand_name_of}
 use Rattle.clap.specs.Simple.{subcommand_rows}
 use Rattle.clap.specs.Words.{Row, Text, first_of, one_of, rows_of, subcommand_rows_of}
@@ -39,6 +41,21 @@ pub of_rows : (m : ArgMatches) (word : Text) (rows found : List Row) → subcomm
 of_rows m word rows found is told = rows_in _ (out-ArgMatches m).subcommand word rows found is told
 
 -- ---- operands
+-- one more where it was given
+pub push_some : (old new : List (Bor Text)) (given : Option (Bor Text)) (word : Bor Text) → given ≡ Some word
+    → new ≡ old ++ word ∷ []
+    → map (λ s. s.now) new ≡ map (λ s. s.now) old ++ option_to_list (option_map (λ s. s.now) given)
+push_some old new given word is more =
+    ap (map (λ (s : Bor Text). s.now)) more
+    ∙ map-append (λ (s : Bor Text). s.now) old (word ∷ [])
+    ∙ ap (λ (o : Option (Bor Text)). map (λ s. s.now) old ++ option_to_list (option_map (λ s. s.now) o)) (sym is)
+
+pub push_none : (old : List (Bor Text)) (given : Option (Bor Text)) → given ≡ None
+    → map (λ s. s.now) old ≡ map (λ s. s.now) old ++ option_to_list (option_map (λ s. s.now) given)
+push_none old given is =
+    sym (append-nil (map (λ (s : Bor Text). s.now) old))
+    ∙ ap (λ (o : Option (Bor Text)). map (λ s. s.now) old ++ option_to_list (option_map (λ s. s.now) o)) (sym is)
+
 pub given_in : (f : Found) (id : Text) (given : Option Text) → given ≡ first_value f id
     → option_to_list given ≡ option_to_list (first_of id (rows_of f))
 given_in f id given is = ap (λ (o : Option Text). option_to_list o) (is ∙ first_value-rows f id)

@@ -1,5 +1,7 @@
 -- What trees hold, by their parts.
-use Rattle.std.proofs.Common.{◌≡◌, ℕ, zero, suc, ◌/◌, ◌%◌, ◌<◌, ◌≤◌, List, [], ◌∷◌, map, length, get_or, Option, Some, None, slice_get, Vec, Global, ap, sym, ◌∙◌, refl}
+use Rattle.std.proofs.Common.{◌≡◌, ℕ, zero, suc, ◌+◌, ◌/◌, ◌%◌, ◌<◌, ◌≤◌, List, [], ◌∷◌, ◌++◌, map, length, get_or, arith, inl, inr, Option, Some, None, slice_get, Vec, Global, ap, sym, ◌∙◌, refl}
+use Rattle.std.proofs.lemmas.Bool.{cases_lt}
+use Rattle.std.proofs.lemmas.List.{get_or_append_left, get_or_push, length_push}
 use Rattle.std.proofs.lemmas.Option.{slice_get_read, slice_get_past}
 use Rattle.std.specs.declared.rc.Rc.{Rc}
 use Rattle.cell_store.specs.declared.version_table.node.Node.{Node}
@@ -36,3 +38,22 @@ module _ {T : Type 0} where
 
   pub held-cell : (r : Rc T Global) (i : ℕ) → held (Cell r) i ≡ Some r.value
   held-cell r i = sym (ap (λ (n : Node T). held n i) (rolls-Cell r)) ∙ ap (λ (f : ℕ → Option T). f i) (fold-roll-Node T (ℕ → Option T) held_step (Node-F.Cell r))
+
+  -- ---- one child more
+  pub full_more : (old new : List (Rc (Node T) Global)) (x : Rc (Node T) Global) (n : ℕ) → length old ≡ n → new ≡ old ++ x ∷ [] →
+      length new ≡ n + 1
+  full_more old new x n full more = ap length more ∙ length_push old x ∙ ap (λ (k : ℕ). k + 1) full
+
+  pub each_more : (old new : List (Rc (Node T) Global)) (x : Rc (Node T) Global) (n : ℕ) (W : ℕ → Option T) → length old ≡ n →
+      new ≡ old ++ x ∷ [] →
+      ((k : ℕ) (d : Rc (Node T) Global) → k < n → (i : ℕ) → i % 16 ≡ k → held (get_or old k d).value (i / 16) ≡ W i) →
+      ((i : ℕ) → i % 16 ≡ n → held x.value (i / 16) ≡ W i) →
+      (k : ℕ) (d : Rc (Node T) Global) → k < n + 1 → (i : ℕ) → i % 16 ≡ k → held (get_or new k d).value (i / 16) ≡ W i
+  each_more old new x n W full more before here k d less i at =
+      ap (λ (xs : List (Rc (Node T) Global)). held (get_or xs k d).value (i / 16)) more
+      ∙ elim (cases_lt k n) [
+        | inl l ↦ ap (λ (r : Rc (Node T) Global). held r.value (i / 16)) (get_or_append_left old (x ∷ []) d k (omega (arith, full, l)))
+            ∙ before k d l i at
+        | inr l ↦ let same : k ≡ n = omega (arith, less, l) in
+            ap (λ (r : Rc (Node T) Global). held r.value (i / 16)) (get_or_push old x d k (full ∙ sym same)) ∙ here i (at ∙ same)
+      ]

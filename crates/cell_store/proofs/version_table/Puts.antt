@@ -4,7 +4,7 @@ use Rattle.std.proofs.Math.Nat.{pow-suc}
 use Rattle.std.proofs.lemmas.Bool.Decides.{eqb_tells}
 use Rattle.std.proofs.lemmas.Bool.{eq-eqb}
 use Rattle.cell_store.specs.declared.version_table.node.Node.{Node}
-use Rattle.cell_store.specs.version_table.Trees.{IsChild, IsWithChild, IsPut}
+use Rattle.cell_store.specs.version_table.Trees.{held, held_with, IsChild, IsWithChild, IsPut}
 
 differ : (a b : ℕ) → a ≢ b → (a == b) ≡ false
 differ a b h = ⊎_elim (λ (e : (a == b ≡ true) × (a ≡ b)). absurd (h e.1)) (λ (e : (a == b ≡ false) × (a ≢ b)). e.0) (eqb_tells a b)
@@ -21,6 +21,13 @@ from_parts : (a b : ℕ) → a / 16 ≡ b / 16 → a % 16 ≡ b % 16 → a ≡ b
 from_parts a b high low = omega arith
 
 module _ {T : Type 0} where
+  -- what a node holds once its child at a digit is changed, there and elsewhere
+  pub held_there : (node changed : Node T) (digit i : ℕ) → i % 16 ≡ digit → held changed (i / 16) ≡ held_with node digit changed i
+  held_there node changed digit i there = rw (eq-eqb (i % 16) digit there) refl
+
+  pub held_elsewhere : (node changed : Node T) (digit i : ℕ) → i % 16 ≢ digit → held node i ≡ held_with node digit changed i
+  held_elsewhere node changed digit i other = rw (differ (i % 16) digit other) refl
+
   -- a value put into a child is put into the node
   pub put-child : (h cell : ℕ) (value : Option T) (node child changed new : Node T) → h ≢ 0 →
       IsChild node (cell % 16) child → IsPut (16 ^ (h - 1)) child (cell / 16) value changed →

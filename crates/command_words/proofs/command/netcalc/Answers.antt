@@ -1,5 +1,5 @@
 use Rattle.std.proofs.Common.{◌≡◌, codes, ap, ap₂, ◌∙◌}
-use Rattle.std.proofs.lemmas.Result.{IfOk-weaker}
+use Rattle.std.proofs.lemmas.Result.{IfOk-from_err, IfOk-weaker}
 use Rattle.clap.specs.Words.{App, app_of, with_subcommand}
 use Rattle.command_words.specs.Apps.{one, two, with_json}
 use Rattle.command_words.proofs.command.netcalc.Goals as goal
@@ -27,3 +27,28 @@ returns c =
     (λ whole adds. adds.shape c.in_ok-of_one-3.ensures.local
     ∙ ap₂ with_subcommand sixth (ap top c.in_ok-of_one-3.ensures.app))
     c.subcommand-7.ensures
+
+-- ---- without memory
+pub returns-in_err-analyse : goal.returns-in_err-analyse
+returns-in_err-analyse c = IfOk-from_err c.from_residual-in_err-analyse.result _ c.from_residual-in_err-analyse.ensures.0
+
+pub returns-in_err-edit : goal.returns-in_err-edit
+returns-in_err-edit c = IfOk-from_err c.from_residual-in_err-edit.result _ c.from_residual-in_err-edit.ensures.0
+
+pub returns-in_err-subcommand : goal.returns-in_err-subcommand
+returns-in_err-subcommand c = IfOk-from_err c.from_residual-in_err-subcommand.result _ c.from_residual-in_err-subcommand.ensures.0
+
+pub returns-in_err-subcommand-2 : goal.returns-in_err-subcommand-2
+returns-in_err-subcommand-2 c = IfOk-from_err c.from_residual-in_err-subcommand-2.result _ c.from_residual-in_err-subcommand-2.ensures.0
+
+pub returns-in_err-subcommand-3 : goal.returns-in_err-subcommand-3
+returns-in_err-subcommand-3 c = IfOk-from_err c.from_residual-in_err-subcommand-3.result _ c.from_residual-in_err-subcommand-3.ensures.0
+
+pub returns-in_err-subcommand-4 : goal.returns-in_err-subcommand-4
+returns-in_err-subcommand-4 c = IfOk-from_err c.from_residual-in_err-subcommand-4.result _ c.from_residual-in_err-subcommand-4.ensures.0
+
+pub returns-in_err-subcommand-5 : goal.returns-in_err-subcommand-5
+returns-in_err-subcommand-5 c = IfOk-from_err c.from_residual-in_err-subcommand-5.result _ c.from_residual-in_err-subcommand-5.ensures.0
+
+pub returns-in_err-subcommand-6 : goal.returns-in_err-subcommand-6
+returns-in_err-subcommand-6 c = IfOk-from_err c.from_residual-in_err-subcommand-6.result _ c.from_residual-in_err-subcommand-6.ensures.0

@@ -3,7 +3,7 @@ use Rattle.std.specs.Prelude.{string_bytes}
 use Rattle.std.specs.declared.alloc.Global.{Global}
 use Rattle.std.proofs.lemmas.List.{take_all}
 use Rattle.command_words.specs.Lines.{texts, is_json}
-use Rattle.command_words.proofs.JsonWords.{found_at, none_more}
+use Rattle.command_words.proofs.JsonWords.{found_at, none_more, none_at_all}
 use Rattle.command_words.proofs.lines.around_json.Goals as goal
 
 pub returns-then-eq-clause-found : goal.returns-then-eq-clause-found
@@ -23,3 +23,6 @@ loop-place-preserved c =
     sym (rw c.as_str.ensures.value at c.eq.ensures) ∙ c.if-eq.false in
     none_more c.args.words.now c.loop-place.place c.index-words-place.result c.loop-place-test.true
     c.index-words-place.is json c.loop-place.invariant
+
+pub returns-clause-none : goal.returns-clause-none
+returns-clause-none c = none_at_all c.args.words.now c.loop-place.place c.loop-place-test.false c.loop-place.invariant
