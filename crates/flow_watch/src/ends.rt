@@ -19,7 +19,7 @@ pub fn next_start(pieces: &[Piece], i: usize) -> Option<Frac>
 }
 
 /// From a time on, all repeats: in each period it rises by so much. `end` is where the first period ends.
-#[derive(Debug, Clone, Copy)]
+#[derive(Clone, Copy)]
 pub(crate) struct Cycle {
     pub(crate) rank: Frac,
     pub(crate) period: Frac,

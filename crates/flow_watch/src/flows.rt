@@ -104,7 +104,7 @@ fn least_first(entries: &[Entering], arrival: &Curve, last: usize) -> Option<usi
 }
 
 /// A bucket: so many bits, and more at an even rate.
-#[derive(Debug, Clone, Copy)]
+#[derive(Clone, Copy)]
 pub(crate) struct Bucket {
     pub(crate) burst: Frac,
     pub(crate) rate: Frac,

@@ -17,14 +17,14 @@ use upp_limits::upp_curve::Curve;
 use upp_limits::upp_curve::affine_segment::Piece;
 
 /// Steps that hold a value, and what they hold more.
-#[derive(Debug, Clone, Copy)]
+#[derive(Clone, Copy)]
 struct Cover {
     count: Frac,
     spare: Frac,
 }
 
 /// A line.
-#[derive(Debug, Clone, Copy)]
+#[derive(Clone, Copy)]
 struct Climb {
     slack: Frac,
     rate: Frac,

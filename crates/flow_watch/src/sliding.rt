@@ -8,7 +8,7 @@ use crate::watch_laws::Entering;
 use upp_limits::fraction128::{Frac, is_less};
 
 /// Packets up to one that is looked at: the number of the first of them, and the bits of all.
-#[derive(Debug, Clone, Copy)]
+#[derive(Clone, Copy)]
 struct Slide {
     first: usize,
     bits: u128,

@@ -16,7 +16,7 @@ use upp_limits::upp_curve::Curve;
 use upp_limits::upp_curve::affine_segment::Piece;
 
 /// Steps of a height, and a line: how many of them it has, in steps.
-#[derive(Debug, Clone, Copy)]
+#[derive(Clone, Copy)]
 struct Stair {
     height: Frac,
     slack: Frac,

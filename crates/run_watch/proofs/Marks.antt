@@ -229,12 +229,6 @@ rest_not_far r b (m ∷ marks) zero q rise h e far =
     later m x b l h k = with4 m x b l (λ c. omega (arith, c.le, c.lt, c.same))
 rest_not_far r b (m ∷ marks) (suc n) q rise h e far = rest_not_far r b marks n q rise.1 (omega arith) e far
 
-pub none_left : (r : Rule) (b : Mark) (marks : List Mark) (n : ℕ) → length marks ≤ n → Each (IsNotFar r b) (drop n marks)
-none_left r b [] zero h = tt
-none_left r b [] (suc n) h = tt
-none_left r b (m ∷ marks) zero h = absurd (omega arith)
-none_left r b (m ∷ marks) (suc n) h = none_left r b marks n (omega arith)
-
 -- ---- the steps of the scan
 pub pushed_at : (r : Rule) (marks : List Mark) (b q : Mark) (n : ℕ) (kept stay : List Mark) → Scans r marks b n kept → Lowered q.start_key kept stay → EndsAbove q.start_key stay
     → TimesRise marks → n < length marks → q ≡ slice_index_or marks n q → q.time +ℚ r.least ≤ℚ b.time → Scans r marks b (n + 1) (stay ++ q ∷ [])

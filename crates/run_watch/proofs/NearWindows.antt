@@ -4,9 +4,7 @@ use Rattle.std.specs.List.{slice_index_or}
 use Rattle.std.proofs.Common.{arith, refl, sym, subst, ap, inl, inr, ◌∙◌}
 use Rattle.std.proofs.lemmas.Bool.{cases_Bool, and_parts}
 use Rattle.upp_limits.specs.rational.specs.Rational.{ℚ, int, ◌+ℚ◌, ◌-ℚ◌, ◌*ℚ◌, ◌≤ℚ◌, ◌<ℚ◌, lt_q, le_q}
-use Rattle.upp_limits.specs.rational.specs.Grid.{Whole}
-use Rattle.upp_limits.specs.rational.proofs.Laws.{le_refl, le_trans, le_of_lt, lt_le_trans, le_lt_trans, lt_irrefl, le_of_not_lt, mul_le_mul, mul_zero}
-use Rattle.upp_limits.specs.rational.proofs.Integers.{nat_nonneg}
+use Rattle.upp_limits.specs.rational.proofs.Laws.{le_refl, le_trans, le_of_lt, lt_le_trans, le_lt_trans, lt_irrefl, le_of_not_lt, mul_zero}
 use Rattle.upp_limits.specs.rational.proofs.Grid.{whole_add, whole_sub}
 use Rattle.upp_limits.specs.rational.proofs.Over.{lt_q_in}
 use Rattle.upp_limits.specs.rational.proofs.Linear.{with1, with2, with3}
@@ -20,6 +18,7 @@ use Rattle.curve_call.specs.upp_normal.specs.Operand.{AreLimited, OperandPiece, 
 use Rattle.curve_call.specs.upp_normal.specs.Unrolling.{IsOperandTo}
 use Rattle.curve_call.specs.upp_normal.proofs.GaugeRises.{curve_earlier}
 use Rattle.curve_call.specs.upp_normal.proofs.UnrolledPieces.{operand_pieces}
+use Rattle.curve_call.proofs.OwnPeriods.{limited_less}
 use Rattle.flow_watch.specs.watch_laws.Affine.{EachTime, Among}
 use Rattle.flow_watch.specs.declared.watch_laws.point.Point.{Point}
 use Rattle.flow_watch.specs.declared.watch_laws.point.Segment.{Segment}
@@ -31,8 +30,8 @@ use Rattle.run_watch.specs.declared.span.Ramp.{Ramp}
 use Rattle.run_watch.specs.declared.watched.Watched.{Watched}
 use Rattle.run_watch.specs.declared.watched.Stretch.{Stretch}
 use Rattle.run_watch.specs.Ramps.{amount, spans_of, EachRamp, ReadsRamp}
-use Rattle.run_watch.specs.Watching.{stops, next_after, stretches, turns, RiseFrom, HoldsTimes}
-use Rattle.run_watch.specs.WatchTimes.{point_at, watched_from}
+use Rattle.run_watch.specs.Watching.{stops, next_after, stretches, stretches_in, turns, RiseFrom, HoldsTimes}
+use Rattle.run_watch.specs.WatchTimes.{HaveSameTimes, point_at, watched_from}
 use Rattle.run_watch.specs.FirstEnds.{FitsMarks, FitsSegments}
 use Rattle.run_watch.specs.IdleWindows.{FindsShort, TimeFits, SegmentsFit}
 use Rattle.run_watch.specs.NearWindows.{AsksNothing, FitsAt, FitsNear, FitsNearBy, IsNearEnd, IsShortAfter, IsShortBefore, IsNearEndOf, EndsShort, IsLeast}
@@ -44,6 +43,7 @@ use Rattle.run_watch.proofs.FirstIdle.{stretch_times}
 use Rattle.run_watch.proofs.HeldSizes.{IsHeldSegment, segments_held, segment_map, gap_steps, segment_keys, ramps_read, segments_fit, time_fits, times_sum_fit, times_differ, length_time}
 use Rattle.run_watch.proofs.HeldTimes.{turns_time}
 use Rattle.run_watch.proofs.IdleIn.{has_at, late_after}
+use Rattle.run_watch.proofs.OwnTurns.{holds_same, same_read}
 use Rattle.run_watch.proofs.Reaches.{fit_within, time_within, near_within}
 use Rattle.net_model.specs.run_laws.proofs.Times.{each_time_map}
 use Rattle.run_watch.proofs.SortedPoints.{each_point_at, each_time_from, each_time_among, fits_of}
@@ -58,21 +58,6 @@ pub near_as : (ss gs : List Segment) (works : List Ramp) (s : Stretch) (ts : Lis
 near_as ss gs works s ts ps o e f h = subst (λ (xs : List Point). IsLeast (IsNearEndOf ss works s xs) o) f (subst (λ (xs : List Segment). IsLeast (IsNearEndOf xs works s ps) o) e h)
 
 -- ---- a shorter window
-pub limited_to : (z : Sizes) (end far : ℚ) → AreLimited z end → Whole z.dt far → int (pos 0) ≤ℚ far → far ≤ℚ end → AreLimited z far
-limited_to z end far A g low l = record {
-  sizes = record {
-    dv = A.sizes.dv;
-    dt = A.sizes.dt;
-    ds = A.sizes.ds;
-    steepness = A.sizes.steepness;
-    largest = A.sizes.largest;
-    window = g;
-    reach = le_trans (mul_le_mul (int (pos z.steepness)) (nat_nonneg z.steepness) l) A.sizes.reach;
-  };
-  gauge = A.gauge;
-  some = low;
-}
-
 piece_further : (z : Sizes) (end far : ℚ) (p : Piece) → far ≤ℚ end → OperandPiece z far p → OperandPiece z end p
 piece_further z end far p l h = record { start = h.start; nonneg = h.nonneg; before = lt_le_trans h.before l; at = h.at; line = h.line }
 
@@ -121,7 +106,7 @@ length_stands z end s A S =
     let upper = s.end in
     let forward = S.forward in
     let T = length_time z end s.start s.end S.start S.last (le_of_lt S.forward) in
-    record { limited = limited_to z end (s.end -ℚ s.start) A T.whole T.low T.high; some = with2 lower upper (λ k. omega (arith, k.le, k.lt, k.same)); most = T.high }
+    record { limited = limited_less z end (s.end -ℚ s.start) A T.whole T.low T.high; some = with2 lower upper (λ k. omega (arith, k.le, k.lt, k.same)); most = T.high }
 
 pub end_some : (z : Sizes) (end : ℚ) (s : Stretch) → StretchStands z end s → int (pos 0) <ℚ end
 end_some z end s S =
@@ -243,7 +228,7 @@ pub all_of_it : (until : Option ℚ) (sorted : List ℚ) (s part : Stretch) → 
 all_of_it until sorted s part P early = elim P.end [ inl e ↦ e | inr h ↦ absurd (early h.1) ]
 
 -- a part of a stretch that begins before it is late
-pub looked_at : (w : Watched) (until : Option ℚ) (ss : List Stretch) (k : ℕ) (s part : Stretch) (sorted own all : List ℚ) → ss ≡ stretches w → k < length ss → s ≡ slice_index_or ss k s → all ≡ turns w (stretches w)
+looked_at : (w : Watched) (until : Option ℚ) (ss : List Stretch) (k : ℕ) (s part : Stretch) (sorted own all : List ℚ) → ss ≡ stretches w → k < length ss → s ≡ slice_index_or ss k s → all ≡ turns w (stretches w)
     → ¬ IsPastEnd until s.start → IsPart until sorted s part → ((t : ℚ) → Among t sorted → Among t all) → HoldsTimes part all own → (from : ℚ) × RiseFrom from own → IsLookedAt w part own all
 looked_at w until ss k s part sorted own all same l e f early P among holds rise = record {
   whole = s;
@@ -263,6 +248,20 @@ looked_at w until ss k s part sorted own all same l e f early P among holds rise
 }
 
 -- ---- as the code reads it
+pub stretches_read : (w : Watched) (ss made : List Stretch) (read kept : List ℚ) → ss ≡ made → made ≡ stretches_in w read w.arrivals.items
+    → read ≡ kept → kept ≡ stops w → ss ≡ stretches w
+stretches_read w ss made read kept a b c d = a ∙ b ∙ ap (λ (ts : List ℚ). stretches_in w ts w.arrivals.items) (c ∙ d)
+
+-- a part of a stretch, and the turns in it, which are found among the turns in order
+pub looked_at_part : (w : Watched) (until : Option ℚ) (ss : List Stretch) (k : ℕ) (s part : Stretch) (turned told all sorted in_part in_own own : List ℚ)
+    → ss ≡ stretches w → k < length ss → s ≡ slice_index_or ss k s → turned ≡ turns w (stretches w) → told ≡ turned → all ≡ turned
+    → HaveSameTimes told sorted → in_part ≡ sorted → in_own ≡ sorted → ¬ IsPastEnd until s.start → IsPart until in_part s part
+    → HoldsTimes part in_own own → (from : ℚ) × RiseFrom from own → IsLookedAt w part own all
+looked_at_part w until ss k s part turned told all sorted in_part in_own own same l e turned_is told_is all_is times part_is own_is early P holds rise =
+    let laid = same_read turned all told sorted in_part told_is all_is part_is times in
+    let sorts = same_read turned all told sorted in_own told_is all_is own_is times in
+    looked_at w until ss k s part in_part own all same l e (all_is ∙ turned_is) early P (λ t m. laid.back t m) (holds_same part all in_own own sorts holds) rise
+
 pub in_reach : (s : Stretch) (p : Point) (g : Segment) (u : ℚ) → u ≡ p.time +ℚ g.start → ¬ (s.end <ℚ u) → p.time +ℚ g.start ≤ℚ s.end
 in_reach s p g u e n = subst (λ x. x ≤ℚ s.end) e (le_of_not_lt n)
 

@@ -125,14 +125,8 @@ ramp_ends rs i j d A k l =
 pub parted_before : (rs : List Ramp) (t : ℚ) → AreRamps rs → (i j : ℕ) (d : Ramp) → i ≤ j → j < length rs → lt_q (get_or rs j d).span.end t ≡ true → lt_q (get_or rs i d).span.end t ≡ true
 parted_before rs t A i j d k l e = lt_q_out (get_or rs i d).span.end t (le_lt_trans (ramp_ends rs i j d A k l) (lt_q_in (get_or rs j d).span.end t e))
 
-pub parted_by : (rs : List Ramp) (t : ℚ) → AreRamps rs → (i j : ℕ) (d : Ramp) → i ≤ j → j < length rs → le_q (get_or rs j d).span.end t ≡ true → le_q (get_or rs i d).span.end t ≡ true
-parted_by rs t A i j d k l e = le_q_out (get_or rs i d).span.end t (le_trans (ramp_ends rs i j d A k l) (le_q_in (get_or rs j d).span.end t e))
-
 abbrev pub ends_before : ℚ → Ramp → Bool
 ends_before t r = lt_q r.span.end t
-
-abbrev pub ends_by : ℚ → Ramp → Bool
-ends_by t r = le_q r.span.end t
 
 pub not_less : (x y : ℚ) → lt_q x y ≡ false → y ≤ℚ x
 not_less x y e = elim (le_or_lt y x) [ inl h ↦ h | inr h ↦ absurd (true≢false (sym (lt_q_out x y h) ∙ e)) ]

@@ -21,15 +21,6 @@ use Rattle.flow_watch.specs.watch_laws.Paces.{pace_of, pace_before, pace_after}
 use Rattle.run_watch.specs.declared.span.Span.{Span}
 use Rattle.run_watch.specs.Ramps.{amount, rate_before, rate_after, as_span}
 use Rattle.run_watch.specs.Seen.{at_once, arrival_spans, work_spans, works_at, leaves_at, sizes_after, arrival_in, arrivals_at, AreFirsts}
-use Rattle.flow_watch.proofs.EntryLists.{next_item}
-
--- ---- steps of the loops
-pub arrivals_next : (firsts : List ℕ) (s : ℕ) (sizes now : List ℕ) (x : Step) (steps : List Step) (i : ℕ) (o : Option Span) → i < length steps → x ≡ slice_index_or steps i x
-    → now ≡ sizes_after sizes x → arrival_in firsts s now x ≡ o → arrivals_at firsts s sizes (drop i steps) ≡ option_to_list o ++ arrivals_at firsts s now (drop (i + 1) steps)
-arrivals_next firsts s sizes now x steps i o l is m e =
-    ap (arrivals_at firsts s sizes) (next_item x steps i l is)
-    ∙ ap (λ (ns : List ℕ). option_to_list (arrival_in firsts s ns x) ++ arrivals_at firsts s ns (drop (i + 1) steps)) (sym m)
-    ∙ ap (λ (p : Option Span). option_to_list p ++ arrivals_at firsts s now (drop (i + 1) steps)) e
 
 -- ---- they are those of the server's view
 pub works_seen : (net : Routes) (s : ℕ) (entered : List Entry) (xs : List Step) → work_spans (view_from net s entered xs) ≡ works_at s xs

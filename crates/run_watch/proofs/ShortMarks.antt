@@ -166,9 +166,6 @@ segment-push : (P : Segment → Type 0) (ss : List Segment) (s : Segment) → Ea
 segment-push P [] s h k = (k, tt)
 segment-push P (r ∷ ss) s h k = (h.0, segment-push P ss s h.1 k)
 
-pub first_none : (ss : List Segment) (ps es : List Point) → IsFirstEnd [] ss ps es (length es)
-first_none ss ps es = record { in_range = omega arith; none = tt; there = λ l. absurd (omega arith) }
-
 pub first_more : (some ss : List Segment) (s : Segment) (ps es : List Point) (n k : ℕ) → IsFirstEnd some ss ps es n → HasSegment s ss → IsFirstBy s ps (take n es) k
     → IsFirstEnd (some ++ s ∷ []) ss ps es k
 first_more some ss s ps es n k h has_s g =

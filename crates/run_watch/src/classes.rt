@@ -11,7 +11,7 @@ use upp_limits::fraction128::{Frac, difference, is_less, sum};
 use upp_limits::upp_curve::{Curve, Tail};
 
 /// Which way turns are moved.
-#[derive(Debug, Clone, Copy)]
+#[derive(Clone, Copy)]
 pub enum Side {
     Later,
     Earlier,

@@ -4,7 +4,7 @@ ghost use Rattle.std.specs.Prelude.{◌≡◌, [], IfOk, OnOk, slice_index};
 ghost use Rattle.run_watch.specs.Seen.{at_once, work_in, works_at, leave_in, leaves_at, sizes_after, arrival_in, arrivals_at};
 
 use crate::span::Span;
-use net_model::run_laws::Step;
+use net_model::run_laws::{Step, whole};
 use std::alloc::{AllocError, Global};
 use upp_limits::fraction128::Frac;
 
@@ -106,7 +106,7 @@ fn packet(time: Frac, bits: u32) -> Span
     Span {
         start: time,
         end: time,
-        bits: Frac::from_whole(bits as i128),
+        bits: whole(bits),
     }
 }
 

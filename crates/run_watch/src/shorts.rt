@@ -114,17 +114,18 @@ fn first_end_by(
     requires keys { FitsMarks ends.now s.now }
     ensures { IfOk result (IsFirstBy s.now points.now ends.now) }
 {
-    if ends.is_empty() {
+    let count = ends.len();
+    if count == 0 {
         return Ok(0);
     }
     let first = ends[0].time;
-    let last = ends[ends.len() - 1].time;
+    let last = ends[count - 1].time;
     let starts = in_reach(points, s, first, last);
     let marks = marks_of(alloc, starts, s.slope)?;
     let end_marks = marks_of(alloc, ends, s.slope)?;
     let rule = rule_of(s);
     match first_under(alloc, &marks, &end_marks, &rule)? {
-        None => Ok(ends.len()),
+        None => Ok(count),
         Some(k) => Ok(k),
     }
 }

@@ -33,7 +33,7 @@ pub struct Stretch {
 }
 
 /// How much of what a server sees ends before a time.
-#[derive(Debug, Clone, Copy)]
+#[derive(Clone, Copy)]
 pub struct Progress {
     pub arrived: usize,
     pub worked: usize,

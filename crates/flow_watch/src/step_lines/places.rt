@@ -15,7 +15,7 @@ use std::alloc::{AllocError, Global};
 use upp_limits::fraction128::{Frac, Wide, greater, is_less, lesser};
 
 /// How many whole steps an amount fills, and what part of one more.
-#[derive(Debug, Clone, Copy)]
+#[derive(Clone, Copy)]
 pub(crate) struct Fill {
     pub(crate) steps: Frac,
     pub(crate) over: Frac,
@@ -23,7 +23,7 @@ pub(crate) struct Fill {
 
 /// A packet against a line: what part of a step is over before it and after it, and by how many whole steps the bits before it
 /// lag behind those that the rate has by its time, and the bits up to it, with those that are spared, lead them.
-#[derive(Debug, Clone, Copy)]
+#[derive(Clone, Copy)]
 pub(crate) struct Placed {
     pub(crate) before: Frac,
     pub(crate) lag: Frac,

@@ -21,7 +21,7 @@ use Rattle.flow_watch.proofs.watch_laws.Crowds.{times_rise}
 use Rattle.flow_watch.specs.Flows.{FlowReads}
 use Rattle.run_watch.specs.FirstOf.{EnterInOrder}
 use Rattle.run_watch.proofs.HeldSizes.{length_time, times_differ}
-use Rattle.run_watch.proofs.NearWindows.{limited_to}
+use Rattle.curve_call.proofs.OwnPeriods.{limited_less}
 use Rattle.run_watch.specs.first_breaches.Sizes.{StepStands}
 
 -- ---- the times of a flow's packets
@@ -66,7 +66,7 @@ gap_at z end es i j F l m =
 operand_at : (z : Sizes) (end t : ℚ) (c : SpecCurve) → AreLimited z end → IsCurve c → Stands z (curve_numbers end c) → IsTime z end t → IsOperandTo t c
 operand_at z end t c A C S T = record {
   sizes = z;
-  limited = limited_to z end t A T.whole T.low T.high;
+  limited = limited_less z end t A T.whole T.low T.high;
   stands = curve_earlier z t end c (curve_period c C) T.high S;
 }
 

@@ -62,9 +62,6 @@ best_before_same until P Q run None f g h = λ y q. h y (g y q)
 best_before_same until P Q run (Some x) f g h = record { is = f x.breach h.is; time = h.time; least = λ y q. h.least y (g y q) }
 
 -- ---- one flow or server more
-pub none_below : (net : Net) (run : SpecRun) (kind : ℕ) → IsBest (IsBelow net run kind 0) run None
-none_below net run kind y h = let l = h.below in omega arith
-
 pub one_more : (net : Net) (run : SpecRun) (kind n m : ℕ) (best next : Option Found) → m ≡ suc n → IsBest (IsBelow net run kind n) run best → IsBest (IsOne net run kind n) run next
     → IsBest (IsBelow net run kind m) run (earlier best next)
 one_more net run kind n m best next e h k =
@@ -137,25 +134,6 @@ upto_none net run o h = best_same (IsOfKinds net run 2) (IsUpto net run 0) run o
   where
     back : (y : Breach) → IsUpto net run 0 y → IsOfKinds net run 2 y
     back y h = elim h [ inl p ↦ p | inr p ↦ let l = p.below in absurd (omega arith) ]
-
-pub upto_all : (net : Net) (run : SpecRun) (n : ℕ) (o : Option Found) → length net.servers ≤ n → IsBest (IsUpto net run n) run o → IsBest (IsOfKinds net run 3) run o
-upto_all net run n o long h = best_same (IsUpto net run n) (IsOfKinds net run 3) run o into back h
-  where
-    into : (y : Breach) → IsUpto net run n y → IsOfKinds net run 3 y
-    into y h = elim h [
-      | inl p ↦ let l = p.kind_is in record { kind_is = omega arith; breaks = p.breaks }
-      | inr p ↦ let l = p.kind_is in record { kind_is = omega arith; breaks = p.breaks }
-    ]
-
-    back : (y : Breach) → IsOfKinds net run 3 y → IsUpto net run n y
-    back y p = elim (cases_lt (kind_of y) 2) [
-      | inl l ↦ inl record { kind_is = l; breaks = p.breaks }
-      | inr l ↦
-          let k = p.kind_is in
-          let e : kind_of y ≡ 2 = omega arith in
-          let m = server_inside net run y e p.breaks in
-          inr record { kind_is = e; below = omega (arith, m, long); breaks = p.breaks }
-    ]
 
 pub upto_more : (net : Net) (run : SpecRun) (n m : ℕ) (best next : Option Found) → m ≡ suc n → IsBest (IsUpto net run n) run best → IsBestBefore (time_if_any best) (IsOne net run 2 n) run next
     → IsBest (IsUpto net run m) run (earlier best next)

@@ -1,5 +1,5 @@
 -- The breaches of one flow and of one server as breaches of the network, and what the first of all tells.
-use Rattle.std.specs.Prelude.{◌≡◌, ℕ, ◌<◌, length, Option, Some, None, true, false, is_some, slice_get}
+use Rattle.std.specs.Prelude.{◌≡◌, ℕ, ◌<◌, List, length, Option, Some, None, true, false, is_some, slice_get}
 use Rattle.std.specs.Option.{option_map}
 use Rattle.std.proofs.Common.{arith, refl, sym, subst, ap, ◌∙◌, inl, inr}
 use Rattle.std.proofs.lemmas.List.{length-map}
@@ -21,12 +21,14 @@ use Rattle.net_model.specs.NetRoutes.{routes_of, server_for}
 use Rattle.net_model.specs.Accepted.{IsAccepted, IsServer}
 use Rattle.net_cells.specs.Numbered.{flow_at, is_live, packet, packet_of, arrival, arrival_of, service, service_of}
 use Rattle.net_cells.proofs.Stored.{flow_kept, server_kept}
+use Rattle.flow_watch.specs.declared.watch_laws.entering.Entering.{Entering}
 use Rattle.flow_watch.specs.watch_laws.Entries.{entries, entering, IsCrowded}
 use Rattle.flow_watch.specs.watch_laws.Breaches.{IsIdle, IsTooSlow}
 use Rattle.flow_watch.specs.watch_laws.Laws.{MayArrive, MayServe, HaveCurves}
+use Rattle.flow_watch.proofs.watch_laws.Entered.{in_order}
 use Rattle.flow_watch.proofs.watch_laws.Premises.{breaches_tell, watch_points_suffice}
 use Rattle.run_watch.specs.declared.found.Found.{Found}
-use Rattle.run_watch.specs.FirstOf.{IsBest, IsBestBefore, IsLongOn, IsCrowdOn, IsIdleOn}
+use Rattle.run_watch.specs.FirstOf.{EnterInOrder, IsBest, IsBestBefore, IsLongOn, IsCrowdOn, IsIdleOn}
 use Rattle.run_watch.specs.first_breaches.Firsts.{TellsFirst, kind_of, IsOne, IsOfKinds, HaveServices}
 use Rattle.run_watch.specs.first_breaches.Kept.{KeepsCurve}
 use Rattle.run_watch.proofs.first_breaches.Joined.{best_same, best_before_same}
@@ -39,16 +41,16 @@ not_live net flow g e same h =
     let lives : is_live net flow ≡ true = subst (λ (i : ℕ). is_live net i ≡ true) same (sym (live_is net g) ∙ h) in
     cc
 
-pub no_flow : (net : Net) (run : SpecRun) (kind flow : ℕ) → None ≡ flow_at net flow → kind < 2 → IsBest (IsOne net run kind flow) run None
-no_flow net run kind flow e l (Size f p) h = not_live net flow f e h.at h.breaks.live
-no_flow net run kind flow e l (Arrival f i j) h = not_live net flow f e h.at h.breaks.live
-no_flow net run kind flow e l (Service s a b) h = let k = h.kind_is in omega arith
-
 live_at : (net : Net) (flow g : ℕ) (f : NetFlow) → Some f ≡ flow_at net flow → g ≡ flow → (route_of (routes_of net) g).live ≡ true
 live_at net flow g f e same = subst (λ (i : ℕ). (route_of (routes_of net) i).live ≡ true) (sym same) (live_is net flow ∙ ap is_some (sym e))
 
 pub live_flow_is : (net : Net) (flow : ℕ) (f : NetFlow) → Some f ≡ flow_at net flow → is_live net flow ≡ true
 live_flow_is net flow f e = ap is_some (sym e)
+
+-- the packets of a flow of a lawful run, as they are read
+pub enters_in_order : (net : Net) (run : SpecRun) (flow : ℕ) {packets : List Entering} → IsLawful (routes_of net) run → packets ≡ entries flow run.steps
+    → EnterInOrder packets
+enters_in_order net run flow lawful are = subst EnterInOrder (sym are) (in_order (routes_of net) run flow lawful)
 
 -- ---- sizes
 pub size_one : (net : Net) (run : SpecRun) (flow : ℕ) (f : NetFlow) (o : Option Found) → Some f ≡ flow_at net flow → IsBest (IsLongOn run flow f.packet) run o → IsBest (IsOne net run 0 flow) run o

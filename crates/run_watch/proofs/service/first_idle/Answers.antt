@@ -1,11 +1,10 @@
-use Rattle.std.proofs.Common.{◌≡◌, ◌∙◌, List, pos, refl, sym, subst, ap, true≢false}
+use Rattle.std.proofs.Common.{◌∙◌, List, pos, refl, sym, subst, ap, true≢false}
 use Rattle.upp_limits.specs.rational.specs.Rational.{ℚ, int, ◌≤ℚ◌, ◌<ℚ◌}
 use Rattle.upp_limits.specs.rational.proofs.Laws.{le_of_not_lt}
-use Rattle.run_watch.specs.Watching.{RiseFrom, stretches, stretches_in, turns}
-use Rattle.run_watch.specs.Searches.{FindsIn, IsLookedAt}
+use Rattle.run_watch.specs.Watching.{RiseFrom, turns}
+use Rattle.run_watch.specs.Searches.{FindsIn}
 use Rattle.run_watch.proofs.IdleIn.{none_idle_more, first_here, late_from, late_rest, none_at_all}
-use Rattle.run_watch.proofs.OwnTurns.{holds_same, same_read}
-use Rattle.run_watch.proofs.NearWindows.{looked_at, all_of_it}
+use Rattle.run_watch.proofs.NearWindows.{stretches_read, looked_at_part, all_of_it}
 use Rattle.run_watch.proofs.ClearStretches.{none_found}
 use Rattle.run_watch.proofs.HeldTimes.{leaves_read, arrivals_read, stops_in_order, searched, no_time}
 use Rattle.run_watch.proofs.service.first_idle.Goals as goal
@@ -32,72 +31,55 @@ turns_in-own-requires c = subst (λ (ts : List ℚ). (from : ℚ) × RiseFrom fr
 
 pub first_in-requires-clause-stretch : goal.first_in-requires-clause-stretch
 first_in-requires-clause-stretch c =
-    let ps = c.deref-in-loop-s-3.result.now in
-    let ss_is : c.deref-s-items.result.now ≡ stretches c.args.w.now = c.deref-s-items.ensures.value ∙ c.in_ok-stretches.ensures ∙ ap (λ (ts : List ℚ). stretches_in c.args.w.now ts c.args.w.now.arrivals.items) (c.deref.ensures.value ∙ c.in_ok-stops.ensures) in
-    let ts_is : ps ≡ turns c.args.w.now (stretches c.args.w.now) = c.deref-in-loop-s-3.ensures.value ∙ c.in_ok-turns.ensures ∙ ap (turns c.args.w.now) (c.deref-2.ensures.value ∙ c.in_ok-stretches.ensures ∙ ap (λ (ts : List ℚ). stretches_in c.args.w.now ts c.args.w.now.arrivals.items) (c.deref.ensures.value ∙ c.in_ok-stops.ensures)) in
-    let laid = same_read c.in_ok-turns.turns.items ps c.deref-3.result.now c.in_ok-sorted.sorted.items c.deref-in-loop-s.result.now c.deref-3.ensures.value c.deref-in-loop-s-3.ensures.value c.deref-in-loop-s.ensures.value c.in_ok-sorted.ensures.same in
-    let sorts = same_read c.in_ok-turns.turns.items ps c.deref-3.result.now c.in_ok-sorted.sorted.items c.deref-in-loop-s-2.result.now c.deref-3.ensures.value c.deref-in-loop-s-3.ensures.value c.deref-in-loop-s-2.ensures.value c.in_ok-sorted.ensures.same in
-    let own = holds_same c.part_of-part.result ps c.deref-in-loop-s-2.result.now c.turns_in-own.result.now sorts c.turns_in-own.ensures.holds in
-    let looks : IsLookedAt c.args.w.now c.part_of-part.result c.turns_in-own.result.now ps = looked_at c.args.w.now c.args.until.now c.deref-s-items.result.now c.loop-s.s-index c.s-item.result c.part_of-part.result c.deref-in-loop-s.result.now c.turns_in-own.result.now ps ss_is c.loop-s-test.true c.s-item.is ts_is
-    (λ h. true≢false (sym (c.if-is_late.ensures.1 h))) c.part_of-part.ensures (λ t m. laid.back t m) own c.turns_in-own.ensures.rise in
-    looks
+    let ss_is = stretches_read c.args.w.now c.deref-s-items.result.now _ _ _ c.deref-s-items.ensures.value c.in_ok-stretches.ensures c.deref.ensures.value c.in_ok-stops.ensures in
+    let turned_is = c.in_ok-turns.ensures ∙ ap (turns c.args.w.now) (stretches_read c.args.w.now c.deref-2.result.now _ _ _ c.deref-2.ensures.value c.in_ok-stretches.ensures c.deref.ensures.value c.in_ok-stops.ensures) in
+    looked_at_part c.args.w.now c.args.until.now c.deref-s-items.result.now c.loop-s.s-index c.s-item.result c.part_of-part.result c.in_ok-turns.turns.items c.deref-3.result.now c.deref-in-loop-s-3.result.now c.in_ok-sorted.sorted.items c.deref-in-loop-s.result.now c.deref-in-loop-s-2.result.now c.turns_in-own.result.now ss_is c.loop-s-test.true c.s-item.is turned_is c.deref-3.ensures.value c.deref-in-loop-s-3.ensures.value
+    c.in_ok-sorted.ensures.same c.deref-in-loop-s.ensures.value c.deref-in-loop-s-2.ensures.value (λ h. true≢false (sym (c.if-is_late.ensures.1 h))) c.part_of-part.ensures c.turns_in-own.ensures.holds c.turns_in-own.ensures.rise
 
 pub returns-then-is_late : goal.returns-then-is_late
 returns-then-is_late c = λ server V S M.
-    let ss_is : c.deref-s-items.result.now ≡ stretches c.args.w.now = c.deref-s-items.ensures.value ∙ c.in_ok-stretches.ensures ∙ ap (λ (ts : List ℚ). stretches_in c.args.w.now ts c.args.w.now.arrivals.items) (c.deref.ensures.value ∙ c.in_ok-stops.ensures) in
+    let ss_is = stretches_read c.args.w.now c.deref-s-items.result.now _ _ _ c.deref-s-items.ensures.value c.in_ok-stretches.ensures c.deref.ensures.value c.in_ok-stops.ensures in
     late_from server V c.args.w.now c.args.curve.now c.args.until.now c.deref-s-items.result.now c.loop-s.s-index c.s-item.result S ss_is c.loop-s-test.true c.s-item.is (c.loop-s.invariant server V S M) (c.if-is_late.ensures.0 refl)
 
 pub returns-in-Some : goal.returns-in-Some
 returns-in-Some c = λ server V S M.
-    let ps = c.deref-in-loop-s-3.result.now in
     let some : int (pos 0) <ℚ c.args.w.now.end = subst (λ z. z <ℚ c.args.w.now.end) c.zero.ensures (c.if-not-is_less.ensures.less.0 refl) in
-    let ss_is : c.deref-s-items.result.now ≡ stretches c.args.w.now = c.deref-s-items.ensures.value ∙ c.in_ok-stretches.ensures ∙ ap (λ (ts : List ℚ). stretches_in c.args.w.now ts c.args.w.now.arrivals.items) (c.deref.ensures.value ∙ c.in_ok-stops.ensures) in
-    let ts_is : ps ≡ turns c.args.w.now (stretches c.args.w.now) = c.deref-in-loop-s-3.ensures.value ∙ c.in_ok-turns.ensures ∙ ap (turns c.args.w.now) (c.deref-2.ensures.value ∙ c.in_ok-stretches.ensures ∙ ap (λ (ts : List ℚ). stretches_in c.args.w.now ts c.args.w.now.arrivals.items) (c.deref.ensures.value ∙ c.in_ok-stops.ensures)) in
-    let laid = same_read c.in_ok-turns.turns.items ps c.deref-3.result.now c.in_ok-sorted.sorted.items c.deref-in-loop-s.result.now c.deref-3.ensures.value c.deref-in-loop-s-3.ensures.value c.deref-in-loop-s.ensures.value c.in_ok-sorted.ensures.same in
-    let sorts = same_read c.in_ok-turns.turns.items ps c.deref-3.result.now c.in_ok-sorted.sorted.items c.deref-in-loop-s-2.result.now c.deref-3.ensures.value c.deref-in-loop-s-3.ensures.value c.deref-in-loop-s-2.ensures.value c.in_ok-sorted.ensures.same in
-    let own = holds_same c.part_of-part.result ps c.deref-in-loop-s-2.result.now c.turns_in-own.result.now sorts c.turns_in-own.ensures.holds in
-    let looks : IsLookedAt c.args.w.now c.part_of-part.result c.turns_in-own.result.now ps = looked_at c.args.w.now c.args.until.now c.deref-s-items.result.now c.loop-s.s-index c.s-item.result c.part_of-part.result c.deref-in-loop-s.result.now c.turns_in-own.result.now ps ss_is c.loop-s-test.true c.s-item.is ts_is
-    (λ h. true≢false (sym (c.if-is_late.ensures.1 h))) c.part_of-part.ensures (λ t m. laid.back t m) own c.turns_in-own.ensures.rise in
-    first_here server V c.args.w.now c.args.curve.now ps c.turns_in-own.result.now c.deref-s-items.result.now c.loop-s.s-index c.s-item.result c.part_of-part.result c.in-Some.found.0 c.in-Some.found.1
-    (searched server V c.args.w.now c.args.curve.now ps c.requires S M some ts_is) ss_is c.loop-s-test.true c.s-item.is c.part_of-part.ensures.start (c.loop-s.invariant server V S M) looks
-    (subst (FindsIn c.args.w.now c.args.curve.now c.part_of-part.result c.turns_in-own.result.now ps) c.in-Some.is (c.in_ok-found.ensures server V S M))
+    let ss_is = stretches_read c.args.w.now c.deref-s-items.result.now _ _ _ c.deref-s-items.ensures.value c.in_ok-stretches.ensures c.deref.ensures.value c.in_ok-stops.ensures in
+    let turned_is = c.in_ok-turns.ensures ∙ ap (turns c.args.w.now) (stretches_read c.args.w.now c.deref-2.result.now _ _ _ c.deref-2.ensures.value c.in_ok-stretches.ensures c.deref.ensures.value c.in_ok-stops.ensures) in
+    let looks = looked_at_part c.args.w.now c.args.until.now c.deref-s-items.result.now c.loop-s.s-index c.s-item.result c.part_of-part.result c.in_ok-turns.turns.items c.deref-3.result.now c.deref-in-loop-s-3.result.now c.in_ok-sorted.sorted.items c.deref-in-loop-s.result.now c.deref-in-loop-s-2.result.now c.turns_in-own.result.now ss_is c.loop-s-test.true c.s-item.is turned_is c.deref-3.ensures.value c.deref-in-loop-s-3.ensures.value
+    c.in_ok-sorted.ensures.same c.deref-in-loop-s.ensures.value c.deref-in-loop-s-2.ensures.value (λ h. true≢false (sym (c.if-is_late.ensures.1 h))) c.part_of-part.ensures c.turns_in-own.ensures.holds c.turns_in-own.ensures.rise in
+    first_here server V c.args.w.now c.args.curve.now c.deref-in-loop-s-3.result.now c.turns_in-own.result.now c.deref-s-items.result.now c.loop-s.s-index c.s-item.result c.part_of-part.result c.in-Some.found.0 c.in-Some.found.1
+    (searched server V c.args.w.now c.args.curve.now c.deref-in-loop-s-3.result.now c.requires S M some (c.deref-in-loop-s-3.ensures.value ∙ turned_is)) ss_is c.loop-s-test.true c.s-item.is c.part_of-part.ensures.start (c.loop-s.invariant server V S M) looks
+    (subst (FindsIn c.args.w.now c.args.curve.now c.part_of-part.result c.turns_in-own.result.now c.deref-in-loop-s-3.result.now) c.in-Some.is (c.in_ok-found.ensures server V S M))
 
 pub returns-then-is_late-2 : goal.returns-then-is_late-2
 returns-then-is_late-2 c = λ server V S M.
-    let ps = c.deref-in-loop-s-3.result.now in
     let some : int (pos 0) <ℚ c.args.w.now.end = subst (λ z. z <ℚ c.args.w.now.end) c.zero.ensures (c.if-not-is_less.ensures.less.0 refl) in
-    let ss_is : c.deref-s-items.result.now ≡ stretches c.args.w.now = c.deref-s-items.ensures.value ∙ c.in_ok-stretches.ensures ∙ ap (λ (ts : List ℚ). stretches_in c.args.w.now ts c.args.w.now.arrivals.items) (c.deref.ensures.value ∙ c.in_ok-stops.ensures) in
-    let ts_is : ps ≡ turns c.args.w.now (stretches c.args.w.now) = c.deref-in-loop-s-3.ensures.value ∙ c.in_ok-turns.ensures ∙ ap (turns c.args.w.now) (c.deref-2.ensures.value ∙ c.in_ok-stretches.ensures ∙ ap (λ (ts : List ℚ). stretches_in c.args.w.now ts c.args.w.now.arrivals.items) (c.deref.ensures.value ∙ c.in_ok-stops.ensures)) in
-    let laid = same_read c.in_ok-turns.turns.items ps c.deref-3.result.now c.in_ok-sorted.sorted.items c.deref-in-loop-s.result.now c.deref-3.ensures.value c.deref-in-loop-s-3.ensures.value c.deref-in-loop-s.ensures.value c.in_ok-sorted.ensures.same in
-    let sorts = same_read c.in_ok-turns.turns.items ps c.deref-3.result.now c.in_ok-sorted.sorted.items c.deref-in-loop-s-2.result.now c.deref-3.ensures.value c.deref-in-loop-s-3.ensures.value c.deref-in-loop-s-2.ensures.value c.in_ok-sorted.ensures.same in
-    let own = holds_same c.part_of-part.result ps c.deref-in-loop-s-2.result.now c.turns_in-own.result.now sorts c.turns_in-own.ensures.holds in
-    let looks : IsLookedAt c.args.w.now c.part_of-part.result c.turns_in-own.result.now ps = looked_at c.args.w.now c.args.until.now c.deref-s-items.result.now c.loop-s.s-index c.s-item.result c.part_of-part.result c.deref-in-loop-s.result.now c.turns_in-own.result.now ps ss_is c.loop-s-test.true c.s-item.is ts_is
-    (λ h. true≢false (sym (c.if-is_late.ensures.1 h))) c.part_of-part.ensures (λ t m. laid.back t m) own c.turns_in-own.ensures.rise in
-    let R = searched server V c.args.w.now c.args.curve.now ps c.requires S M some ts_is in
-    let none = none_found server V c.args.w.now c.args.curve.now ps c.turns_in-own.result.now c.part_of-part.result R looks
-    (subst (FindsIn c.args.w.now c.args.curve.now c.part_of-part.result c.turns_in-own.result.now ps) c.in_default.is (c.in_ok-found.ensures server V S M)) in
+    let ss_is = stretches_read c.args.w.now c.deref-s-items.result.now _ _ _ c.deref-s-items.ensures.value c.in_ok-stretches.ensures c.deref.ensures.value c.in_ok-stops.ensures in
+    let turned_is = c.in_ok-turns.ensures ∙ ap (turns c.args.w.now) (stretches_read c.args.w.now c.deref-2.result.now _ _ _ c.deref-2.ensures.value c.in_ok-stretches.ensures c.deref.ensures.value c.in_ok-stops.ensures) in
+    let looks = looked_at_part c.args.w.now c.args.until.now c.deref-s-items.result.now c.loop-s.s-index c.s-item.result c.part_of-part.result c.in_ok-turns.turns.items c.deref-3.result.now c.deref-in-loop-s-3.result.now c.in_ok-sorted.sorted.items c.deref-in-loop-s.result.now c.deref-in-loop-s-2.result.now c.turns_in-own.result.now ss_is c.loop-s-test.true c.s-item.is turned_is c.deref-3.ensures.value c.deref-in-loop-s-3.ensures.value
+    c.in_ok-sorted.ensures.same c.deref-in-loop-s.ensures.value c.deref-in-loop-s-2.ensures.value (λ h. true≢false (sym (c.if-is_late.ensures.1 h))) c.part_of-part.ensures c.turns_in-own.ensures.holds c.turns_in-own.ensures.rise in
     late_rest server V c.args.w.now c.args.curve.now c.args.until.now c.deref-s-items.result.now c.loop-s.s-index c.s-item.result c.part_of-part.result S ss_is c.loop-s-test.true c.s-item.is (c.loop-s.invariant server V S M)
-    c.part_of-part.ensures.start none (c.if-is_late-2.ensures.0 refl)
+    c.part_of-part.ensures.start
+    (none_found server V c.args.w.now c.args.curve.now c.deref-in-loop-s-3.result.now c.turns_in-own.result.now c.part_of-part.result (searched server V c.args.w.now c.args.curve.now c.deref-in-loop-s-3.result.now c.requires S M some (c.deref-in-loop-s-3.ensures.value ∙ turned_is)) looks
+    (subst (FindsIn c.args.w.now c.args.curve.now c.part_of-part.result c.turns_in-own.result.now c.deref-in-loop-s-3.result.now) c.in_default.is (c.in_ok-found.ensures server V S M)))
+    (c.if-is_late-2.ensures.0 refl)
 
 pub loop-s-preserved : goal.loop-s-preserved
 loop-s-preserved c = λ server V S M.
-    let ps = c.deref-in-loop-s-3.result.now in
     let some : int (pos 0) <ℚ c.args.w.now.end = subst (λ z. z <ℚ c.args.w.now.end) c.zero.ensures (c.if-not-is_less.ensures.less.0 refl) in
-    let ss_is : c.deref-s-items.result.now ≡ stretches c.args.w.now = c.deref-s-items.ensures.value ∙ c.in_ok-stretches.ensures ∙ ap (λ (ts : List ℚ). stretches_in c.args.w.now ts c.args.w.now.arrivals.items) (c.deref.ensures.value ∙ c.in_ok-stops.ensures) in
-    let ts_is : ps ≡ turns c.args.w.now (stretches c.args.w.now) = c.deref-in-loop-s-3.ensures.value ∙ c.in_ok-turns.ensures ∙ ap (turns c.args.w.now) (c.deref-2.ensures.value ∙ c.in_ok-stretches.ensures ∙ ap (λ (ts : List ℚ). stretches_in c.args.w.now ts c.args.w.now.arrivals.items) (c.deref.ensures.value ∙ c.in_ok-stops.ensures)) in
-    let laid = same_read c.in_ok-turns.turns.items ps c.deref-3.result.now c.in_ok-sorted.sorted.items c.deref-in-loop-s.result.now c.deref-3.ensures.value c.deref-in-loop-s-3.ensures.value c.deref-in-loop-s.ensures.value c.in_ok-sorted.ensures.same in
-    let sorts = same_read c.in_ok-turns.turns.items ps c.deref-3.result.now c.in_ok-sorted.sorted.items c.deref-in-loop-s-2.result.now c.deref-3.ensures.value c.deref-in-loop-s-3.ensures.value c.deref-in-loop-s-2.ensures.value c.in_ok-sorted.ensures.same in
-    let own = holds_same c.part_of-part.result ps c.deref-in-loop-s-2.result.now c.turns_in-own.result.now sorts c.turns_in-own.ensures.holds in
-    let looks : IsLookedAt c.args.w.now c.part_of-part.result c.turns_in-own.result.now ps = looked_at c.args.w.now c.args.until.now c.deref-s-items.result.now c.loop-s.s-index c.s-item.result c.part_of-part.result c.deref-in-loop-s.result.now c.turns_in-own.result.now ps ss_is c.loop-s-test.true c.s-item.is ts_is
-    (λ h. true≢false (sym (c.if-is_late.ensures.1 h))) c.part_of-part.ensures (λ t m. laid.back t m) own c.turns_in-own.ensures.rise in
-    let R = searched server V c.args.w.now c.args.curve.now ps c.requires S M some ts_is in
-    let none = none_found server V c.args.w.now c.args.curve.now ps c.turns_in-own.result.now c.part_of-part.result R looks
-    (subst (FindsIn c.args.w.now c.args.curve.now c.part_of-part.result c.turns_in-own.result.now ps) c.in_default.is (c.in_ok-found.ensures server V S M)) in
+    let ss_is = stretches_read c.args.w.now c.deref-s-items.result.now _ _ _ c.deref-s-items.ensures.value c.in_ok-stretches.ensures c.deref.ensures.value c.in_ok-stops.ensures in
+    let turned_is = c.in_ok-turns.ensures ∙ ap (turns c.args.w.now) (stretches_read c.args.w.now c.deref-2.result.now _ _ _ c.deref-2.ensures.value c.in_ok-stretches.ensures c.deref.ensures.value c.in_ok-stops.ensures) in
+    let looks = looked_at_part c.args.w.now c.args.until.now c.deref-s-items.result.now c.loop-s.s-index c.s-item.result c.part_of-part.result c.in_ok-turns.turns.items c.deref-3.result.now c.deref-in-loop-s-3.result.now c.in_ok-sorted.sorted.items c.deref-in-loop-s.result.now c.deref-in-loop-s-2.result.now c.turns_in-own.result.now ss_is c.loop-s-test.true c.s-item.is turned_is c.deref-3.ensures.value c.deref-in-loop-s-3.ensures.value
+    c.in_ok-sorted.ensures.same c.deref-in-loop-s.ensures.value c.deref-in-loop-s-2.ensures.value (λ h. true≢false (sym (c.if-is_late.ensures.1 h))) c.part_of-part.ensures c.turns_in-own.ensures.holds c.turns_in-own.ensures.rise in
+    let R = searched server V c.args.w.now c.args.curve.now c.deref-in-loop-s-3.result.now c.requires S M some (c.deref-in-loop-s-3.ensures.value ∙ turned_is) in
+    let none = none_found server V c.args.w.now c.args.curve.now c.deref-in-loop-s-3.result.now c.turns_in-own.result.now c.part_of-part.result R looks
+    (subst (FindsIn c.args.w.now c.args.curve.now c.part_of-part.result c.turns_in-own.result.now c.deref-in-loop-s-3.result.now) c.in_default.is (c.in_ok-found.ensures server V S M)) in
     let whole = all_of_it c.args.until.now c.deref-in-loop-s.result.now c.s-item.result c.part_of-part.result c.part_of-part.ensures (λ h. true≢false (sym (c.if-is_late-2.ensures.1 h))) in
     none_idle_more c.args.w.now.end V c.args.curve.now c.deref-s-items.result.now c.loop-s.s-index c.s-item.result c.loop-s-test.true c.s-item.is (c.loop-s.invariant server V S M)
     (λ a b idle from upto. none a b idle (subst (λ x. x ≤ℚ a) (sym c.part_of-part.ensures.start) from) (subst (λ x. b ≤ℚ x) (sym whole) upto))
 
 pub returns : goal.returns
 returns c = λ server V S M.
-    let ss_is : c.deref-s-items.result.now ≡ stretches c.args.w.now = c.deref-s-items.ensures.value ∙ c.in_ok-stretches.ensures ∙ ap (λ (ts : List ℚ). stretches_in c.args.w.now ts c.args.w.now.arrivals.items) (c.deref.ensures.value ∙ c.in_ok-stops.ensures) in
+    let ss_is = stretches_read c.args.w.now c.deref-s-items.result.now _ _ _ c.deref-s-items.ensures.value c.in_ok-stretches.ensures c.deref.ensures.value c.in_ok-stops.ensures in
     λ a b idle. absurd (none_at_all server V c.args.w.now c.args.curve.now c.deref-s-items.result.now c.loop-s.s-index S ss_is c.loop-s-test.false (c.loop-s.invariant server V S M) a b idle)

@@ -8,9 +8,8 @@ use Rattle.net_model.specs.Views.{flow_of}
 use Rattle.net_cells.specs.Numbered.{arrival, arrival_of}
 use Rattle.flow_watch.specs.watch_laws.Entries.{entries}
 use Rattle.flow_watch.proofs.watch_laws.Entered.{in_order}
-use Rattle.run_watch.specs.FirstOf.{EnterInOrder}
 use Rattle.run_watch.proofs.first_breaches.CurvesRead.{flow_reads}
-use Rattle.run_watch.proofs.first_breaches.Parts.{arrival_one, live_flow_is}
+use Rattle.run_watch.proofs.first_breaches.Parts.{arrival_one, enters_in_order, live_flow_is}
 use Rattle.run_watch.proofs.first_breaches.arrivals.first_arrival_of.Goals as goal
 
 pub arrival_breach-requires-clause-reads : goal.arrival_breach-requires-clause-reads
@@ -29,10 +28,7 @@ arrival_breach-requires-clause-reads c =
 
 pub returns-in_ok-packets-in-Some : goal.returns-in_ok-packets-in-Some
 returns-in_ok-packets-in-Some c =
-    let net = c.args.net.now in
-    let run = c.args.run.now in
-    let flow = c.args.number in
     let steps_are = c.deref.ensures.value ∙ ap (λ (r : SpecRun). r.steps) c.run.view_is in
-    let packets_are : c.deref-in-Some.result.now ≡ entries flow run.steps = c.deref-in-Some.ensures.value ∙ c.in_ok-packets-in-Some.ensures ∙ ap (entries flow) steps_are in
-    let order = subst EnterInOrder (sym packets_are) (in_order (routes_of net) run flow c.requires.lawful) in
-    arrival_one net run flow (flow_of c.in-Some.flow.now) c.arrival_breach.result c.in-Some.ensures.flow (c.arrival_breach.ensures run packets_are order)
+    let packets_are = c.deref-in-Some.ensures.value ∙ c.in_ok-packets-in-Some.ensures ∙ ap (entries c.args.number) steps_are in
+    let order = enters_in_order c.args.net.now c.args.run.now c.args.number c.requires.lawful packets_are in
+    arrival_one c.args.net.now c.args.run.now c.args.number (flow_of c.in-Some.flow.now) c.arrival_breach.result c.in-Some.ensures.flow (c.arrival_breach.ensures c.args.run.now packets_are order)
