@@ -25,7 +25,7 @@ use upp_limits::upp_curve::affine_segment::{Line, value};
 const MOST_STEPS: u32 = 262144;
 
 /// How far a curve was looked at.
-#[derive(Debug, Clone, Copy)]
+#[derive(Clone, Copy)]
 pub(crate) struct Reached {
     /// The time before which it was.
     pub(crate) until: Frac,
