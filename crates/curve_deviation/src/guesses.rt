@@ -36,13 +36,29 @@ fn parts_in(gap: Frac, part: Frac) -> Option<Frac> {
     Frac::div(gap, part).ok()
 }
 
-/// How often a curve has to rise as much as in a period after t for its value to be a gap higher.
-fn times_risen(c: &Curve, t: Frac, period: Frac, gap: Frac) -> Option<Frac> {
-    let later = Frac::add(t, period).ok()?;
+/// How much a curve rises over a period after t.
+fn rise_after(c: &Curve, t: Frac, period: Frac) -> Option<Frac> {
+    let Ok(later) = Frac::add(t, period) else {
+        return None;
+    };
     let first = value_if(c, t)?;
     let second = value_if(c, later)?;
-    let rise = Frac::sub(second, first).ok()?;
+    Frac::sub(second, first).ok()
+}
+
+/// How often a curve has to rise as much as in a period after t to get from a value to a level.
+fn times_risen(c: &Curve, t: Frac, period: Frac, value: Frac, level: Frac) -> Option<Frac> {
+    let Ok(gap) = Frac::sub(level, value) else {
+        return None;
+    };
+    let rise = rise_after(c, t, period)?;
     parts_in(gap, rise)
+}
+
+/// The value of a curve at the time from when on it repeats.
+fn steady_value(c: &Curve) -> Option<Frac> {
+    let t = steady_time(c)?;
+    value_if(c, t)
 }
 
 /// After how many periods f is above the level at which g begins to repeat.
@@ -50,13 +66,12 @@ fn first_guess(f: &Curve, g: &Curve, window: &CallWindow) -> Option<u128> {
     if is_level(f) {
         return Some(0);
     }
-    let level = value_if(g, steady_time(g)?)?;
+    let level = steady_value(g)?;
     let value = value_if(f, window.start)?;
     if is_less(level, value) {
         return Some(0);
     }
-    let gap = Frac::sub(level, value).ok()?;
-    let times = times_risen(f, window.start, window.period, gap)?;
+    let times = times_risen(f, window.start, window.period, value, level)?;
     times.whole_part().size_up().checked_add(1)
 }
 
@@ -72,9 +87,22 @@ fn late_periods(c: &Curve, t: Frac, period: Frac) -> Option<u128> {
     if !is_less(t, steady) {
         return Some(0);
     }
-    let wait = Frac::sub(steady, t).ok()?;
+    let Ok(wait) = Frac::sub(steady, t) else {
+        return None;
+    };
     let parts = parts_in(wait, period)?;
     Some(parts.size_up())
+}
+
+/// After how many periods more than until f has settled g has a level: so many, `late` of them before a time at which g
+/// repeats, and those that it rises from then on.
+fn late_guess(g: &Curve, level: Frac, late: u128, from: Frac, period: Frac) -> Option<u128> {
+    let value = value_if(g, from)?;
+    if !is_less(value, level) {
+        return Some(late);
+    }
+    let times = times_risen(g, from, period, value, level)?;
+    late.checked_add(times.size_up())
 }
 
 /// After how many periods more than until f has settled g is no lower than f is then: counted from the first of these
@@ -88,13 +116,7 @@ fn second_guess(f: &Curve, g: &Curve, first: u128, period: Frac) -> Option<u128>
     }
     let late = late_periods(g, turn, period)?;
     let from = turn_at(f, g, first, late)?;
-    let value = value_if(g, from)?;
-    if !is_less(value, level) {
-        return Some(late);
-    }
-    let gap = Frac::sub(level, value).ok()?;
-    let times = times_risen(g, from, period, gap)?;
-    late.checked_add(times.size_up())
+    late_guess(g, level, late, from, period)
 }
 
 /// Both numbers, where the steps to them fit: right where g reaches f only from when it repeats on, or in the period

@@ -5,6 +5,7 @@ pub mod LatticeAnswers
 pub mod LatticeLevels
 pub mod SumCall
 pub mod ScaledValues
+pub mod FittingLoop
 pub mod ScaleCall
 pub mod LeftWindow
 pub mod ShiftCall

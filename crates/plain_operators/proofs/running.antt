@@ -21,6 +21,7 @@ pub mod FirstWindows
 pub mod Dips
 pub mod FiniteRuns
 pub mod MovedLoop
+pub mod PartsLoop
 pub mod Served
 pub mod SumSizes
 pub mod MovedReads

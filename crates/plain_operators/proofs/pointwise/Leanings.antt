@@ -253,15 +253,6 @@ pub record AreLines (slow fast : SpecCurve) (from d r s top bottom : ℚ) : Type
   pub under : IsUnder (value_at slow) from (from +ℚ own_or d slow) r top
   pub over : IsOver (value_at fast) from (from +ℚ own_or d fast) s bottom
 
-pub lines_read : (slow fast : SpecCurve) (from d r s top bottom own p slow_end fast_end : ℚ) → own ≡ own_or d slow → p ≡ own_or d fast → slow_end ≡ from +ℚ own → fast_end ≡ from +ℚ p → rate slow ≡ Fin r → rate fast ≡ Fin s
-    → IsUnder (value_at slow) from slow_end r top → IsOver (value_at fast) from fast_end s bottom → AreLines slow fast from d r s top bottom
-lines_read slow fast from d r s top bottom own p slow_end fast_end eo ep es ef low high U O = record {
-  low = low;
-  high = high;
-  under = subst (λ e. IsUnder (value_at slow) from e r top) (es ∙ ap (λ x. from +ℚ x) eo) U;
-  over = subst (λ e. IsOver (value_at fast) from e s bottom) (ef ∙ ap (λ x. from +ℚ x) ep) O;
-}
-
 pub number_enough : (z : Sizes) (from d r s top bottom faster gained lead both gap : ℚ) (slow fast : SpecCurve) (k : ℕ) → rate slow <ₑ rate fast → AreCompared z from d slow fast → AreLines slow fast from d r s top bottom
     → faster ≡ s -ℚ r → gained ≡ faster *ℚ from → lead ≡ faster *ℚ d → both ≡ top -ℚ bottom → gap ≡ both -ℚ gained → gap ≤ℚ int (pos k) *ℚ lead
     → IsBelowFor (value_at slow) (value_at fast) (periods_after from k d) d

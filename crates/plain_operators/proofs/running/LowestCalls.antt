@@ -175,8 +175,3 @@ lowest_is ps once all scanned qs from end far rise low limit some early S e k is
   scan = subst (λ x. IsInfimumScan x far scanned) is T;
   front = F;
 }
-
--- as the code makes them
-pub all_is : (ps all : List Piece) (end low rise limit later level : ℚ) (p : Piece) → all ≡ ps ++ p ∷ [] → later ≡ low +ℚ rise → level ≡ min_q later limit → p ≡ level_piece end level
-    → all ≡ ps ++ level_piece end (min_q (low +ℚ rise) limit) ∷ []
-all_is ps all end low rise limit later level p a b c d = a ∙ ap (λ q. ps ++ q ∷ []) (d ∙ ap (level_piece end) (c ∙ ap (λ x. min_q x limit) b))

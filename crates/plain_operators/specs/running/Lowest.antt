@@ -60,6 +60,16 @@ pub record IsLowestCall (z : Sizes) (ps : List Piece) (from end far rise : ℚ) 
   pub far_late : end <ℚ far
   pub far_near : far ≤ℚ int (pos 2) *ℚ end
 
+-- pieces, and a level from `end` on
+abbrev pub with_level : List Piece → ℚ → ℚ → List Piece
+with_level ps end level = ps ++ level_piece end level ∷ []
+
+-- what a scan up to `far` finds, up to the first that starts at `end` or later
+pub record IsLowestBefore (ps : List Piece) (end far : ℚ) (qs : List Piece) : Type 0 where
+  pub scanned : List Piece
+  pub scan : IsInfimumScan ps far scanned
+  pub front : IsFrontBefore scanned end qs
+
 -- `low` is the infimum from `from` on, and a rise higher it is that from `end` on; the scan is that of the pieces and
 -- of a level from `end` up to `far`: `low` a rise higher, or the limit at `end` where that is less
 pub record IsLowest (ps : List Piece) (from end far rise : ℚ) (qs : List Piece) : Type 0 where

@@ -8,7 +8,7 @@ ghost use Rattle.upp_limits.specs.upp_curve.specs.Curve.{value_at};
 ghost use Rattle.upp_limits.specs.upp_curve.specs.Steady.{rate, rise_over};
 ghost use Rattle.upp_limits.specs.upp_curve.specs.Unrolled.{unroll};
 ghost use Rattle.upp_limits.specs.upp_curve.specs.Curves.{IsCurve};
-ghost use Rattle.upp_limits.specs.Outcome.{KeepsLimits, IsCauseOf};
+ghost use Rattle.upp_limits.specs.Outcome.{KeepsLimits, IsCauseOf, IsWithin};
 ghost use Rattle.curve_call.specs.Operands.{HaveSizes, IsMadeOf};
 ghost use Rattle.curve_call.specs.FirstWindows.{IsFirstWindow};
 ghost use Rattle.curve_call.specs.Rises.{CurveRiseFits};
@@ -172,6 +172,42 @@ fn refuse_by_lines(of: Lattice, f: &Curve, g: &Curve, first: &CallWindow) -> Res
     }
 }
 
+// The same by either.
+fn refuse_over(of: Lattice, f: &Curve, g: &Curve, first: &CallWindow) -> Result<(), OpFault>
+    requires curves { IsCurve f.now × IsCurve g.now }
+    requires window { IsFirstWindow (kind_of of) f.now g.now first.now }
+    ensures { IfErr result (IsCauseOf (kind_of of) f.now g.now) }
+{
+    refuse_early(of, f, g, first)?;
+    refuse_by_lines(of, f, g, first)
+}
+
+// The frame of a call within both limits, with the least number of periods that is enough.
+fn least_frame(of: Lattice, f: &Curve, g: &Curve) -> Result<Frame, OpFault>
+    ensures frame { IfOk result (IsLatticeFrame f.now g.now) }
+    ensures within { IfOk result (λ r. IsWithin (kind_of of) f.now g.now) }
+    ensures refused { IfErr result (IsCauseOf (kind_of of) f.now g.now) }
+{
+    let kind = kind_of(of);
+    let first = first_window(&kind, f, g)?;
+    refuse_over(of, f, g, &first)?;
+    match least_periods(f, g, first.start, first.period) {
+        None => Err(OpFault::TooWide),
+        Some(periods) => within(&kind, f, g, periods),
+    }
+}
+
+// What is made of two curves, without counting.
+fn made_of_both(alloc: Global, of: Lattice, f: &Curve, g: &Curve) -> Result<Curve, OpFault>
+    requires { FiniteFor of (value_at f.now) }
+    ensures value { IfOk result
+        (λ c. (t : ℚ) → int (pos 0) ≤ℚ t → value_at c t ≡ made_of of (value_at f.now t) (value_at g.now t)) }
+    ensures limits { KeepsLimits (kind_of of) f.now g.now result }
+{
+    let frame = least_frame(of, f, g)?;
+    Ok(made_within(alloc, of, f, g, &frame)?)
+}
+
 /// What is made of two curves.
 pub(crate) fn made_of_curves<L: Ledger>(
     alloc: Global,
@@ -187,13 +223,5 @@ pub(crate) fn made_of_curves<L: Ledger>(
     ensures limits { KeepsLimits (kind_of of) f.now g.now result }
 {
     steps.tick();
-    let kind = kind_of(of);
-    let first = first_window(&kind, f, g)?;
-    refuse_early(of, f, g, &first)?;
-    refuse_by_lines(of, f, g, &first)?;
-    let Some(periods) = least_periods(f, g, first.start, first.period) else {
-        return Err(OpFault::TooWide);
-    };
-    let frame = within(&kind, f, g, periods)?;
-    Ok(made_within(alloc, of, f, g, &frame)?)
+    made_of_both(alloc, of, f, g)
 }

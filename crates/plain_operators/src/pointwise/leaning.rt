@@ -10,7 +10,7 @@ ghost use Rattle.upp_limits.specs.upp_curve.specs.affine_segment.Values.{line_va
 ghost use Rattle.upp_limits.specs.Limits.{Sizes};
 ghost use Rattle.upp_limits.specs.Periods.{periods_after};
 ghost use Rattle.upp_limits.specs.Windows.{IsBelowFor, IsSlowerBelow};
-ghost use Rattle.curve_call.specs.Bounds.{AreBounds};
+ghost use Rattle.curve_call.specs.Bounds.{AreBounds, own_or};
 ghost use Rattle.curve_call.specs.Compared.{AreCompared};
 ghost use Rattle.plain_operators.specs.pointwise.Leaning.{IsUnder, IsOver, IsSpan, IsUnderUntil, IsOverUntil};
 
@@ -25,7 +25,7 @@ use upp_limits::upp_curve::affine_segment::{Line, value};
 const MOST_STEPS: u32 = 262144;
 
 /// How far a curve was looked at.
-#[derive(Debug, Clone, Copy)]
+#[derive(Clone, Copy)]
 pub(crate) struct Reached {
     /// The time before which it was.
     pub(crate) until: Frac,
@@ -59,8 +59,7 @@ fn icept_of(v: Frac, t: Frac, rate: Frac) -> Option<Frac>
     ensures { IfSome result (λ k. v ≡ k +ℚ rate *ℚ t) }
 {
     let risen = checked_product(rate, t)?;
-    let icept = rest(v, risen)?;
-    Some(icept)
+    rest(v, risen)
 }
 
 // The larger of an intercept and that of the line through v at t, where it fits.
@@ -117,8 +116,7 @@ fn line_higher(line: &Option<Line>, t: Frac, rate: Frac, icept: Frac) -> Option<
     ensures { IfSome result (λ k. (icept ≤ℚ k) × (line_value line.now t ≤ₑ Fin (k +ℚ rate *ℚ t))) }
 {
     let v = line_there(line, t)?;
-    let found = higher(v, t, rate, icept)?;
-    Some(found)
+    higher(v, t, rate, icept)
 }
 
 // As `lower` of a line.
@@ -126,8 +124,7 @@ fn line_lower(line: &Option<Line>, t: Frac, rate: Frac, icept: Frac) -> Option<F
     ensures { IfSome result (λ k. (k ≤ℚ icept) × (Fin (k +ℚ rate *ℚ t) ≤ₑ line_value line.now t)) }
 {
     let v = line_there(line, t)?;
-    let found = lower(v, t, rate, icept)?;
-    Some(found)
+    lower(v, t, rate, icept)
 }
 
 // One step on under a line.
@@ -243,6 +240,45 @@ pub(crate) fn is_slower(f: &Curve, g: &Curve) -> bool
     curve_call::is_slower(&Side::of(f), &Side::of(g))
 }
 
+// The value at time 0 of the least line of a rate that a curve lies under from `from` on for a period of its own, or for
+// the other one where it has none.
+fn own_under(c: &Curve, rate: Frac, from: Frac, period: Frac) -> Option<Frac>
+    requires { IsSpan c.now from (from +ℚ own_or period c.now) }
+    ensures { IfSome result (IsUnder (value_at c.now) from (from +ℚ own_or period c.now) rate) }
+{
+    let end = checked_sum(from, period_or(c, period))?;
+    under(c, rate, from, end)
+}
+
+// The same of the greatest line of a rate that a curve lies over.
+fn own_over(c: &Curve, rate: Frac, from: Frac, period: Frac) -> Option<Frac>
+    requires { IsSpan c.now from (from +ℚ own_or period c.now) }
+    ensures { IfSome result (IsOver (value_at c.now) from (from +ℚ own_or period c.now) rate) }
+{
+    let end = checked_sum(from, period_or(c, period))?;
+    over(c, rate, from, end)
+}
+
+// How far a line is at a time above another that rises faster, by so much.
+fn gap_at(low: &Line, high: &Line, faster: Frac, t: Frac) -> Option<Frac>
+    ensures { IfSome result (λ g. g ≡ low.now.icept -ℚ high.now.icept -ℚ faster *ℚ t) }
+{
+    let both = rest(low.icept, high.icept)?;
+    let gained = checked_product(faster, t)?;
+    rest(both, gained)
+}
+
+// After how many periods from a time on a line is above another, where the steps fit.
+fn number_between(low: &Line, high: &Line, from: Frac, period: Frac) -> Option<u128>
+    ensures { let faster = high.now.slope -ℚ low.now.slope in
+        IfSome result (λ k. low.now.icept -ℚ high.now.icept -ℚ faster *ℚ from ≤ℚ int (pos k) *ℚ (faster *ℚ period)) }
+{
+    let faster = rest(high.slope, low.slope)?;
+    let gap = gap_at(low, high, faster, from)?;
+    let lead = checked_product(faster, period)?;
+    times_over(gap, lead)
+}
+
 // A number of periods that is enough by the lines: the slower curve lies under one of its rate, the faster over one of its
 // own.
 fn number_by_lines(slow: &Curve, fast: &Curve, from: Frac, period: Frac) -> Option<u128>
@@ -251,21 +287,16 @@ fn number_by_lines(slow: &Curve, fast: &Curve, from: Frac, period: Frac) -> Opti
     ensures { IfSome result
         (λ k. IsBelowFor (value_at slow.now) (value_at fast.now) (periods_after from k period) period) }
 {
-    let r = rate_of(slow)?;
-    let s = rate_of(fast)?;
-    let slow_own = period_or(slow, period);
-    let fast_own = period_or(fast, period);
-    let slow_end = checked_sum(from, slow_own)?;
-    let fast_end = checked_sum(from, fast_own)?;
-    let top = under(slow, r, from, slow_end)?;
-    let bottom = over(fast, s, from, fast_end)?;
-    let faster = rest(s, r)?;
-    let gained = checked_product(faster, from)?;
-    let lead = checked_product(faster, period)?;
-    let both = rest(top, bottom)?;
-    let gap = rest(both, gained)?;
-    let number = times_over(gap, lead)?;
-    Some(number)
+    let slope = rate_of(slow)?;
+    let steeper = rate_of(fast)?;
+    let top = own_under(slow, slope, from, period)?;
+    let bottom = own_over(fast, steeper, from, period)?;
+    let low = Line { icept: top, slope };
+    let high = Line {
+        icept: bottom,
+        slope: steeper,
+    };
+    number_between(&low, &high, from, period)
 }
 
 // The bounds by that number.

@@ -1,6 +1,6 @@
 //! What a curve has above a level.
 
-ghost use Rattle.std.specs.Prelude.{◌≡◌, ◌+◌, ◌↔◌, pos, IsTrue, IfOk};
+ghost use Rattle.std.specs.Prelude.{◌≡◌, ◌+◌, ◌↔◌, pos, IsTrue, IfOk, IfErr};
 ghost use Rattle.upp_limits.specs.rational.specs.Rational.{ℚ, int, ◌≤ℚ◌};
 ghost use Rattle.upp_limits.specs.rational.specs.declared.Extended.TheVariants.{Fin};
 ghost use Rattle.upp_limits.specs.rational.specs.Extended.{◌<ₑ◌};
@@ -10,7 +10,7 @@ ghost use Rattle.upp_limits.specs.upp_curve.specs.Steady.{rate, rise_over};
 ghost use Rattle.upp_limits.specs.upp_curve.specs.Unrolled.{unroll};
 ghost use Rattle.curve_call.specs.Operands.{IsMadeOf};
 ghost use Rattle.upp_limits.specs.min_plus.specs.Pointwise.{IsPositiveMinus};
-ghost use Rattle.upp_limits.specs.Outcome.{KeepsLimits};
+ghost use Rattle.upp_limits.specs.Outcome.{KeepsLimits, IsCauseOf, IsWithin};
 ghost use Rattle.upp_limits.specs.declared.op_kind.OpKind.TheVariants.{PosMinus};
 ghost use Rattle.curve_call.specs.Rises.{CurveRiseFits};
 ghost use Rattle.curve_call.specs.Levels.{level_curve};
@@ -90,6 +90,31 @@ fn minus_within(alloc: Global, f: &Curve, l: Frac, frame: &Frame) -> Result<Curv
     framed_answer(alloc, pieces, from, rise, frame)
 }
 
+// The frame of a call within both limits, with the least number of periods that is enough.
+fn least_frame(f: &Curve, l: Frac) -> Result<Frame, OpFault>
+    ensures frame { IfOk result (IsLatticeFrame f.now (level_curve l)) }
+    ensures within { IfOk result (λ r. IsWithin (PosMinus l) f.now f.now) }
+    ensures refused { IfErr result (IsCauseOf (PosMinus l) f.now f.now) }
+{
+    let kind = OpKind::PosMinus(l);
+    let first = first_window(&kind, f, f)?;
+    match side_periods(&Side::of(f), &Side::level(l), first.start, first.period) {
+        None => Err(OpFault::TooWide),
+        Some(periods) => within(&kind, f, f, periods),
+    }
+}
+
+// What a curve has above a level, without counting.
+fn above_level(alloc: Global, f: &Curve, l: Frac) -> Result<Curve, OpFault>
+    requires { IsFinite (value_at f.now) }
+    ensures value { IfOk result
+        (λ c. (t : ℚ) → int (pos 0) ≤ℚ t → IsPositiveMinus (value_at f.now) l t (value_at c t)) }
+    ensures limits { KeepsLimits (PosMinus l) f.now f.now result }
+{
+    let frame = least_frame(f, l)?;
+    Ok(minus_within(alloc, f, l, &frame)?)
+}
+
 /// The greater of 0 and f - l at each time from 0 on; f is finite. One step is counted. Refused with TooWide or
 /// TooMany exactly where the call's gauge or tally is over that limit, or no number of periods orders f and the level
 /// by their rates (TooWide); else only for want of memory.
@@ -106,12 +131,5 @@ pub fn pos_minus<L: Ledger>(
     ensures limits { KeepsLimits (PosMinus l) f.now f.now result }
 {
     steps.tick();
-    let kind = OpKind::PosMinus(l);
-    let first = first_window(&kind, f, f)?;
-    let Some(periods) = side_periods(&Side::of(f), &Side::level(l), first.start, first.period)
-    else {
-        return Err(OpFault::TooWide);
-    };
-    let frame = within(&kind, f, f, periods)?;
-    Ok(minus_within(alloc, f, l, &frame)?)
+    above_level(alloc, f, l)
 }

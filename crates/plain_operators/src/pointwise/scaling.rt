@@ -62,6 +62,15 @@ fn scale_within(alloc: Global, f: &Curve, factor: Frac, frame: &Frame) -> Result
     normalise_on(alloc, &raw, frame.times, frame.values)
 }
 
+// A curve times a number, without counting.
+fn scaled_curve(alloc: Global, f: &Curve, factor: Frac) -> Result<Curve, OpFault>
+    ensures value { IfOk result (λ c. (t : ℚ) → int (pos 0) ≤ℚ t → IsScaled (value_at f.now) factor t (value_at c t)) }
+    ensures limits { KeepsLimits (OpKind.Scale factor) f.now f.now result }
+{
+    let frame = within(&OpKind::Scale(factor), f, f, 0)?;
+    Ok(scale_within(alloc, f, factor, &frame)?)
+}
+
 /// A curve times a number at each time from 0 on; infinity stays infinity. One step is counted. Refused with TooWide or
 /// TooMany exactly where the call's gauge or tally is over that limit, else only for want of memory.
 pub fn scale<L: Ledger>(
@@ -75,6 +84,5 @@ pub fn scale<L: Ledger>(
     ensures limits { KeepsLimits (OpKind.Scale factor) f.now f.now result }
 {
     steps.tick();
-    let frame = within(&OpKind::Scale(factor), f, f, 0)?;
-    Ok(scale_within(alloc, f, factor, &frame)?)
+    scaled_curve(alloc, f, factor)
 }

@@ -19,7 +19,7 @@ use upp_limits::upp_curve::{Curve, Tail};
 use upp_limits::{OpFault, OpKind};
 
 /// A curve of one piece: a value at 0, and after it one line for ever.
-#[derive(Debug, Clone, Copy)]
+#[derive(Clone, Copy)]
 pub(crate) struct Straight {
     /// The value at 0.
     pub(crate) at: Frac,

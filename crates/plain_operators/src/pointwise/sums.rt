@@ -58,6 +58,21 @@ fn sum_by_window(alloc: Global, f: &Curve, g: &Curve) -> Answered
     Ok(sum_within(alloc, f, g, &frame)?)
 }
 
+// The sum of two curves, without counting.
+fn sum_of(alloc: Global, f: &Curve, g: &Curve) -> Answered
+    ensures value { IfOk result
+        (λ c. (t : ℚ) → int (pos 0) ≤ℚ t → IsSum (value_at f.now) (value_at g.now) t (value_at c t)) }
+    ensures limits { KeepsLimits OpKind.Sum f.now g.now result }
+{
+    let Some(left) = straight_of(f) else {
+        return sum_by_window(alloc, f, g);
+    };
+    let Some(right) = straight_of(g) else {
+        return sum_by_window(alloc, f, g);
+    };
+    sum_straight(alloc, f, g, &left, &right)
+}
+
 /// The sum of two curves at each time from 0 on, infinite where one is (Le Boudec and Thiran, chapter 3). One step is
 /// counted. Refused with TooWide or TooMany exactly where the call's gauge or tally is over that limit, else only for
 /// want of memory.
@@ -68,11 +83,5 @@ pub fn sum<L: Ledger>(alloc: Global, f: &Curve, g: &Curve, steps: &mut Steps<L>)
     ensures limits { KeepsLimits OpKind.Sum f.now g.now result }
 {
     steps.tick();
-    let Some(left) = straight_of(f) else {
-        return sum_by_window(alloc, f, g);
-    };
-    let Some(right) = straight_of(g) else {
-        return sum_by_window(alloc, f, g);
-    };
-    sum_straight(alloc, f, g, &left, &right)
+    sum_of(alloc, f, g)
 }

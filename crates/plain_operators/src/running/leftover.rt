@@ -1,15 +1,19 @@
 //! What first in, first out leaves of a service.
 
-ghost use Rattle.std.specs.Prelude.{◌≡◌, ◌+◌, pos, IfOk};
+ghost use Rattle.std.specs.Prelude.{◌≡◌, ◌+◌, pos, IfOk, IfErr};
 ghost use Rattle.upp_limits.specs.rational.specs.Rational.{ℚ, int, ◌≤ℚ◌};
 ghost use Rattle.upp_limits.specs.rational.specs.Extended.{Ext};
 ghost use Rattle.upp_limits.specs.rational.specs.declared.Extended.TheVariants.{Fin, Inf};
 ghost use Rattle.upp_limits.specs.declared.op_kind.OpKind.TheVariants.{FifoLeft};
+ghost use Rattle.upp_limits.specs.upp_curve.specs.affine_segment.Pieces.{Each};
 ghost use Rattle.upp_limits.specs.upp_curve.specs.Curve.{value_at};
+ghost use Rattle.upp_limits.specs.upp_curve.specs.Unrolled.{unroll};
+ghost use Rattle.curve_call.specs.upp_normal.specs.Unrolling.{IsOperandTo};
 ghost use Rattle.upp_limits.specs.min_plus.specs.Deviations.{IsHorizontalDeviation};
 ghost use Rattle.upp_limits.specs.min_plus.specs.Functions.{IsFinite, IsRising, IsNonnegative};
-ghost use Rattle.upp_limits.specs.Outcome.{KeepsLimits};
+ghost use Rattle.upp_limits.specs.Outcome.{KeepsLimits, IsCauseOf, IsWithin};
 ghost use Rattle.plain_operators.specs.running.Behind.{IsServed};
+ghost use Rattle.plain_operators.specs.running.Moved.{moved_right, PieceMoves};
 ghost use Rattle.plain_operators.specs.running.LeftCall.{IsLeftBeside, IsLeftFrame, IsLeftWindow};
 
 use crate::running::behind::{behind_bounds, enough_periods, rises_apart};
@@ -27,6 +31,21 @@ use upp_limits::upp_curve::affine_segment::{Line, Piece};
 use upp_limits::upp_curve::{Curve, Tail};
 use upp_limits::{OpFault, OpKind};
 
+// The pieces of the cross traffic below `end`, theta later.
+fn moved_cross(
+    alloc: Global,
+    cross: &Curve,
+    theta: Frac,
+    end: Frac,
+) -> Result<Vec<Piece>, AllocError>
+    requires operand { IsOperandTo end cross.now }
+    requires moves { Each (PieceMoves theta) (unroll cross.now end) }
+    ensures { IfOk result (λ v. v.items ≡ moved_right theta end (unroll cross.now end)) }
+{
+    let right = unrolled(cross, end)?;
+    moved_right(alloc, &right, theta, end)
+}
+
 // The pieces of what is left in a call's window.
 fn left_window(
     alloc: Global,
@@ -39,8 +58,7 @@ fn left_window(
     ensures { IfOk result (λ v. IsLeftWindow beta.now cross.now theta frame.now.end v.items) }
 {
     let left = unrolled(beta, frame.end)?;
-    let right = unrolled(cross, frame.end)?;
-    let moved = moved_right(alloc, &right, theta, frame.end)?;
+    let moved = moved_cross(alloc, cross, theta, frame.end)?;
     let stretches = overlay(alloc, &left, &moved)?;
     left_pieces(alloc, &stretches)
 }
@@ -65,18 +83,28 @@ fn left_within(
     framed_answer(alloc, lowest, from, rise, frame)
 }
 
-// What is left after a finite wait.
-fn left_after(alloc: Global, beta: &Curve, cross: &Curve, theta: Frac) -> Result<Curve, OpFault>
+// The frame of a call within both limits, with the least number of periods that is enough.
+fn least_frame(beta: &Curve, cross: &Curve, theta: Frac) -> Result<Frame, OpFault>
     requires { IsServed (value_at beta.now) (value_at cross.now) theta }
-    ensures value { IfOk result (IsLeftBeside beta.now cross.now (Fin theta)) }
-    ensures limits { KeepsLimits (FifoLeft (Fin theta)) beta.now cross.now result }
+    ensures frame { IfOk result (IsLeftFrame beta.now cross.now theta) }
+    ensures within { IfOk result (λ r. IsWithin (FifoLeft (Fin theta)) beta.now cross.now) }
+    ensures refused { IfErr result (IsCauseOf (FifoLeft (Fin theta)) beta.now cross.now) }
 {
     let kind = OpKind::FifoLeft(Extended::Fin(theta));
     let first = first_window(&kind, beta, cross)?;
     let bounds = behind_bounds(beta, cross, theta, &first);
     refuse_between(&kind, beta, cross, bounds.low, bounds.high)?;
     let periods = enough_periods(beta, cross, theta, &first);
-    let frame = within(&kind, beta, cross, periods)?;
+    within(&kind, beta, cross, periods)
+}
+
+// What is left after a finite wait.
+fn left_after(alloc: Global, beta: &Curve, cross: &Curve, theta: Frac) -> Result<Curve, OpFault>
+    requires { IsServed (value_at beta.now) (value_at cross.now) theta }
+    ensures value { IfOk result (IsLeftBeside beta.now cross.now (Fin theta)) }
+    ensures limits { KeepsLimits (FifoLeft (Fin theta)) beta.now cross.now result }
+{
+    let frame = least_frame(beta, cross, theta)?;
     match left_within(alloc, beta, cross, theta, &frame) {
         Ok(c) => Ok(c),
         Err(_) => Err(OpFault::NoMemory),

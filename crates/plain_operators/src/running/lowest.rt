@@ -10,7 +10,8 @@ ghost use Rattle.upp_limits.specs.upp_curve.specs.affine_segment.Fits.{LineFitsA
 ghost use Rattle.upp_limits.specs.upp_curve.specs.affine_segment.Reading.{read};
 ghost use Rattle.upp_limits.specs.upp_curve.specs.Shapes.{IsFinitePiece, IsLine, IsNumber};
 ghost use Rattle.upp_limits.specs.upp_curve.specs.Steady.{last_line};
-ghost use Rattle.plain_operators.specs.running.Lowest.{level_piece, IsLowestCall, IsLowest};
+ghost use Rattle.plain_operators.specs.running.Scans.{IsWindow, ScanFits};
+ghost use Rattle.plain_operators.specs.running.Lowest.{level_piece, with_level, IsLowestBefore, IsLowestCall, IsLowest};
 
 use crate::running::numbers::number_of;
 use crate::running::{front_before, infimum_scan};
@@ -62,6 +63,24 @@ fn level_piece(x: Frac, v: Frac) -> Piece
     }
 }
 
+// The infimum of some pieces and of a level from `end` on, over all times from each time before `end` on.
+fn lowest_before(
+    alloc: Global,
+    pieces: Vec<Piece>,
+    level: Frac,
+    end: Frac,
+    far: Frac,
+) -> Result<Vec<Piece>, AllocError>
+    requires window { IsWindow far (with_level pieces.items end level) }
+    requires fits { ScanFits far (with_level pieces.items end level) }
+    ensures { IfOk result (λ v. IsLowestBefore (with_level pieces.items end level) end far v.items) }
+{
+    let mut all = pieces;
+    all.push(level_piece(end, level))?;
+    let scanned = infimum_scan(alloc, &all, far)?;
+    front_before(alloc, &scanned, end)
+}
+
 /// The infimum of some pieces over all times from each time before `end` on, where from `from` on they repeat with the
 /// period that ends at `end`, a rise higher each time; `far` is some time past `end`. The first scan finds the infimum
 /// from `from` on; a rise higher it is that of all that comes after `end`, and bounds the second scan.
@@ -79,8 +98,5 @@ pub(crate) fn lowest_pieces(
     let once = infimum_scan(alloc, &pieces, end)?;
     let later = sum(value_in(&once, from), rise);
     let level = lesser(later, last_limit(&pieces, end));
-    let mut all = pieces;
-    all.push(level_piece(end, level))?;
-    let scanned = infimum_scan(alloc, &all, far)?;
-    front_before(alloc, &scanned, end)
+    lowest_before(alloc, pieces, level, end, far)
 }

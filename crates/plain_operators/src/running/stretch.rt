@@ -13,7 +13,7 @@ use upp_limits::upp_curve::affine_segment::{Line, Piece, line_at};
 
 /// A piece with a number at its start and a line after it, the time at which it ends, and the limits of the line:
 /// the right one at its start, the left one at its end.
-#[derive(Debug, Clone, Copy)]
+#[derive(Clone, Copy)]
 pub(crate) struct Stretch {
     pub(crate) from: Frac,
     pub(crate) at: Frac,

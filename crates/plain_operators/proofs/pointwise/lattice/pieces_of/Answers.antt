@@ -6,6 +6,12 @@ use Rattle.plain_operators.specs.pointwise.Lattice.{made_of, rises_of}
 use Rattle.plain_operators.proofs.pointwise.LatticeCalls.{operands}
 use Rattle.plain_operators.proofs.pointwise.lattice.pieces_of.Goals as goal
 
+pub unrolled-requires : goal.unrolled-requires
+unrolled-requires c = let F = c.requires in record { sizes = F.sizes; limited = F.call.limited; stands = F.call.left }
+
+pub unrolled-requires-2 : goal.unrolled-requires-2
+unrolled-requires-2 c = let F = c.requires in record { sizes = F.sizes; limited = F.call.limited; stands = F.call.right }
+
 pub window_of-requires : goal.window_of-requires
 window_of-requires c =
     let r = c.args.frame.now in let F = c.requires in

@@ -9,6 +9,9 @@ use Rattle.plain_operators.proofs.pointwise.LatticeCalls.{operands, some_end}
 use Rattle.plain_operators.proofs.pointwise.LatticeLevels.{level_unrolled}
 use Rattle.plain_operators.proofs.pointwise.levels.pieces_above.Goals as goal
 
+pub unrolled-requires : goal.unrolled-requires
+unrolled-requires c = let F = c.requires in record { sizes = F.sizes; limited = F.call.limited; stands = F.call.left }
+
 pub window_excess-requires : goal.window_excess-requires
 window_excess-requires c =
     let r = c.args.frame.now in let F = c.requires in let g = level_curve c.args.l in
