@@ -57,6 +57,7 @@ pub fn sooner(one: Moment, other: Moment) -> Ordering
 /// What parts come to at a time.
 #[derive(Debug, Clone, Copy, PartialEq, Eq)]
 pub struct Height {
+    /// When.
     pub at: Moment,
     /// In grains over the time's `under`.
     pub grains: u128,

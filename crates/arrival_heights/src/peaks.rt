@@ -15,6 +15,7 @@ const FEW: usize = 8;
 /// Heights, and how far they are above each of some rates at most.
 #[derive(Debug, Drop)]
 pub struct Peaks {
+    /// By their times where they and the rates are many; else as they were given.
     pub heights: Vec<Height>,
     /// In rising order.
     rates: Vec<u64>,

@@ -1,3 +1,4 @@
 pub mod Digits
 pub mod Floats
 pub mod Read
+pub mod Shown

@@ -1,5 +1,6 @@
 -- The texts of numbers, read again.
 use Rattle.std.proofs.Common.{◌≡◌, ℕ, ◌+◌, ◌/◌, ◌%◌, ◌^◌, ◌<◌, ◌≤◌, ◌==◌, ◌&&◌, nat_le, nat_lt, Bool, true, false, List, [], ◌∷◌, ◌++◌, length, take, drop, position, Option, Some, None, refl, ap, ap₂, ◌∙◌, arith}
+use Rattle.std.proofs.lemmas.Bool.{le-leb, lt-ltb}
 use Rattle.std.specs.Char.{is_ascii_digit, digit_value}
 use Rattle.std.specs.Fmt.{decimal}
 use Rattle.std.specs.List.{list_all, position_from}
@@ -127,14 +128,14 @@ module _ (n : ℕ) (short : n < 10 ^ 18) where
 
   few : (ds : List ℕ) (value : ℕ) → length ds ≤ 18 → 0 < length ds → AreDigits ds → digits_value 10 ds ≡ value → few_digits ds ≡ Some value
   few ds value l some digits e =
-      let t : nat_le (length ds) 18 ≡ true = grind (arith, nat_tests) in
-      let u : nat_lt 0 (length ds) ≡ true = grind (arith, nat_tests) in
+      let t : nat_le (length ds) 18 ≡ true = le-leb (length ds) 18 l in
+      let u : nat_lt 0 (length ds) ≡ true = lt-ltb 0 (length ds) some in
       rw (t, u, digits) (ap Some e)
 
   decimal_is : amounts.decimal whole behind ≡ Some (over_thousand n)
   decimal_is =
       let l = whole_short in
-      let t : nat_le (length whole + 3) 18 ≡ true = grind (arith, nat_tests) in
+      let t : nat_le (length whole + 3) 18 ≡ true = le-leb (length whole + 3) 18 (omega (arith, l)) in
       let w = few whole (n / 1000) (omega (arith, l)) whole_some whole_digits whole_value in
       let v = few behind (n % 1000) (omega arith) (omega arith) behind_digits behind_value in
       rw (t, w, v) (ap (λ (top : ℕ). Some (over_thousand top)) (omega arith))

@@ -3,7 +3,7 @@
 use table_cells::Amount;
 
 /// A queue of a port; none where nothing is promised.
-#[derive(Debug, Clone, Copy)]
+#[derive(Clone, Copy)]
 pub struct QueueRow<'a> {
     /// The name of the port.
     pub name: &'a str,
@@ -18,7 +18,7 @@ pub struct QueueRow<'a> {
 }
 
 /// A branch of a link; none where nothing is promised.
-#[derive(Debug, Clone, Copy)]
+#[derive(Clone, Copy)]
 pub struct BranchRow<'a> {
     /// The name of the link.
     pub link: &'a str,
@@ -31,7 +31,7 @@ pub struct BranchRow<'a> {
 }
 
 /// What is told of a network.
-#[derive(Debug, Drop)]
+#[derive(Drop)]
 pub struct Report<'a> {
     /// How many ports it has.
     pub ports: usize,

@@ -1,9 +1,9 @@
 -- Amounts that cells write: the number above 0 below, both of at most 18 digits.
 use Rattle.std.proofs.Common.{◌≡◌, ℕ, ◌+◌, ◌*◌, ◌<◌, ◌≤◌, ◌^◌, ◌==◌, nat_le, ◌&&◌, List, [], ◌∷◌, length, take, drop, Option, Some, None, refl, subst, arith}
+use Rattle.std.proofs.lemmas.Bool.{leb-true, eqb-false}
 use Rattle.std.specs.List.{position}
 use Rattle.std.specs.Option.{option_and_then}
 use Rattle.std.specs.Str.Parse.{digits_value}
-use Rattle.std.proofs.lemmas.Bool.Decides.{nat_tests}
 use Rattle.std.proofs.Math.Nat.{one-le-pow}
 use Rattle.fraction128.specs.Text.{is_numeral, is_slash}
 use Rattle.table_cells.specs.declared.amount.Amount.{Amount}
@@ -16,7 +16,7 @@ few_short ds n h =
     let i = some_if (nat_le (length ds) 18 && is_numeral ds) (Some (digits_value 10 ds)) n h in
     let b = both (nat_le (length ds) 18) (is_numeral ds) i.0 in
     let e : digits_value 10 ds ≡ n = cc (i.1) in
-    let l : length ds ≤ 18 = grind (arith, nat_tests, b.0) in
+    let l : length ds ≤ 18 = leb-true (length ds) 18 b.0 in
     let f = few ds l b.1 in
     let s = short ds b.1 in
     (l, subst (λ m. m < 10 ^ 18) e f, subst (λ m. m < 10 ^ length ds) e s)
@@ -25,7 +25,8 @@ over : (p q : ℕ) (a : Amount) → p < 10 ^ 18 → q < 10 ^ 18 → over_some p 
 over p q a hp hq h =
     let made : Amount = record { top = p; bottom = q } in
     let e = some_unless (q == 0) made a h in
-    let some : 0 < q = grind (arith, nat_tests, e.0) in
+    let other : q ≡ 0 → ⊥ = eqb-false q 0 e.0 in
+    let some : 0 < q = omega (arith, other) in
     subst IsAmount e.1 (record { top = hp; some = some; bottom = omega (arith, hq) })
 
 of_fraction : (top bottom : List ℕ) (a : Amount) → fraction top bottom ≡ Some a → IsAmount a
@@ -45,7 +46,7 @@ of_decimal : (front after : List ℕ) (a : Amount) → decimal front after ≡ S
 of_decimal front after a h =
     let i = some_if (nat_le (length front + length after) 18) (option_and_then (λ n. with_decimals n after) (few_digits front)) a h in
     let n = both_some (λ n. with_decimals n after) (few_digits front) a i.1 in
-    let l : length front + length after ≤ 18 = grind (arith, nat_tests, i.0) in
+    let l : length front + length after ≤ 18 = leb-true (length front + length after) 18 i.0 in
     of_decimals n.0 front after a l n.1 n.2
 
 without_slash : (at : Option ℕ) (text : List ℕ) (a : Amount) → decimal_at at text ≡ Some a → IsAmount a

@@ -2,8 +2,7 @@
 use Rattle.std.proofs.Common.{◌≡◌, ℕ, ◌+◌, ◌*◌, ◌<◌, ◌≤◌, ◌==◌, ◌||◌, nat_le, Bool, true, false, List, [], ◌∷◌, ◌++◌, map, length, get_or, All, Option, Some, None, Ok, Err, refl, sym, ap, ap₂, subst, ◌∙◌, arith, length-append}
 use Rattle.std.specs.Prelude.{not, slice_get, if◌then◌else◌}
 use Rattle.std.specs.List.{list_any}
-use Rattle.std.proofs.lemmas.Bool.{eq-eqb}
-use Rattle.std.proofs.lemmas.Bool.Decides.{nat_tests}
+use Rattle.std.proofs.lemmas.Bool.{eq-eqb, leb-false, eqb-true, not-false}
 use Rattle.std.proofs.lemmas.List.Elements.{All-nil, All-push, All-cons, All-head, All-tail}
 use Rattle.std.proofs.lemmas.Option.{slice_get-get_or}
 use Rattle.table_cells.specs.declared.amount.Amount.{Amount}
@@ -36,7 +35,7 @@ module _ (ports : Ports) (priority frame : ℕ) where
       let q = not_refused (nat_le (queues_of port.discipline) queue) (NoSuchQueue place) (if passes_quantum port.discipline queue frame then Err (QuantumTooShort place) else Ok number) n h in
       let f = not_refused (passes_quantum port.discipline queue frame) (QuantumTooShort place) (Ok number) n q.1 in
       let e = same_read number n f.1 in
-      let less : queue < queues_of port.discipline = grind (arith, nat_tests, q.0) in
+      let less : queue < queues_of port.discipline = leb-false (queues_of port.discipline) queue q.0 in
       record { port = port; there = ap (slice_get ports.ports) (sym e) ∙ there; queue = less; fits = f.0 }
 
   stepped : (before : List ℕ) (o : Option ℕ) (n : ℕ) → step_to ports priority frame before o ≡ Ok n → Takes ports priority frame n
@@ -80,7 +79,7 @@ module _ (T : ℕ → Type 0) where
   same_root root other path p h = (p.0, p.1 ∙ ap (λ (r : ℕ). r ∷ p.0) (first root p.0 (subst (λ (q : List ℕ). begins_elsewhere other q ≡ false) p.1 h)), p.2)
     where
       first : (root : ℕ) (rest : List ℕ) → not (root == other) ≡ false → root ≡ other
-      first root rest h = grind (arith, nat_tests)
+      first root rest h = eqb-true root other (not-false (root == other) h)
 
   all_same : (root other : ℕ) (paths : List (List ℕ)) → All (IsPathFrom T root) paths → list_any (begins_elsewhere other) paths ≡ false → All (IsPathFrom T other) paths
   all_same root other [] a h = All-nil (IsPathFrom T other)
@@ -135,7 +134,7 @@ agreed first row keys h =
     record { gap = g.0; largest_frame = alike first.largest_frame row.largest_frame f.0; jitter = j.0; priority = alike first.priority row.priority p.0 }
   where
     alike : (a b : ℕ) → (a == b) ≡ true → a ≡ b
-    alike a b h = grind (arith, nat_tests)
+    alike a b h = eqb-true a b h
 
 -- of a link, with the row at hand
 abbrev pub HasKeysOf : Links → ℕ → LinkKeys → Type 0

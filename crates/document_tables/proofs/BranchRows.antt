@@ -1,5 +1,5 @@
 -- The branches of links, by their rows.
-use Rattle.std.proofs.Common.{◌≡◌, ℕ, ◌+◌, ◌==◌, nat_le, List, [], ◌∷◌, ◌++◌, map, length, get_or, position, Option, Some, None, Ok, Err, refl, sym, ap, subst, ◌∙◌, arith, length-append, append_assoc}
+use Rattle.std.proofs.Common.{◌≡◌, ℕ, ◌+◌, ◌==◌, nat_le, List, [], ◌∷◌, ◌++◌, map, length, get_or, position, Option, Some, None, Ok, Err, refl, sym, ap, subst, ◌∙◌, arith, length-append, append_assoc, ◌<◌}
 use Rattle.std.specs.Prelude.{slice_get, if◌then◌else◌}
 use Rattle.std.specs.List.{list_any}
 use Rattle.std.specs.Str.{bytes_eq}
@@ -13,7 +13,6 @@ use Rattle.table_cells.specs.Names.{is_name}
 use Rattle.document_rows.specs.declared.fault.Column.TheVariants as column
 use Rattle.document_rows.specs.declared.fault.Wrong.TheVariants.{TooManyLinks, PortTwice, NoSuchQueue, QuantumTooShort}
 use Rattle.document_rows.specs.declared.heads.LinkHead.{LinkHead}
-use Rattle.document_rows.specs.Reads.{at}
 use Rattle.document_rows.specs.Heads.{link_head, row_name}
 use Rattle.document_rows.specs.LinkRows.{LinkText, link_row, frame_on_wire}
 use Rattle.document_rows.specs.PortRows.{PortText}
@@ -27,6 +26,10 @@ use Rattle.document_tables.proofs.TableRanges.{in_line}
 use Rattle.document_tables.proofs.RowTaken.{branched, taken}
 use Rattle.document_tables.proofs.LinkSteps.{each_push}
 use Rattle.document_tables.proofs.BranchFacts.{SameKeys, same_keys, HasKeysOf, has_agreed, path_taken, ports_taken}
+
+-- what is none is not some
+no_some : {X G : Type 0} (x : X) → None ≡ Some x → G
+no_some x e = absurd cc
 
 -- ---- names
 more_at : {X : Type 0} (xs ys : List X) (k : ℕ) (x : X) → slice_get xs k ≡ Some x → slice_get (xs ++ ys) k ≡ Some x
@@ -112,7 +115,7 @@ has_link before links name None row n None found room h =
     let a = length-append before.names (name ∷ []) in
     let b = length-append before.keys (row ∷ []) in
     subst (λ (l : Links). HasLink before l name (length before.keys) row) (same_read made links h) (record {
-      names = omega (arith, a, b, n);
+      names = a ∙ (ap (λ (k : ℕ). k + 1) n ∙ sym b);
       branches = refl;
       old = λ k other h. more_at before.names (name ∷ []) k other h;
       old_keys = λ k other h. more_at before.keys (row ∷ []) k other h;
@@ -121,9 +124,8 @@ has_link before links name None row n None found room h =
     })
 has_link before links name (Some m) row n None found room h =
     let r = not_refused (nat_le most_links (length before.names)) (record { column = column.Name; wrong = TooManyLinks }) (Ok None) (Some m) room in
-    let e : None ≡ Some m = same_read None (Some m) r.1 in
-    absurd cc
-has_link before links name None row n (Some m) found room h = let e : Some m ≡ None = same_read (Some m) None room in absurd cc
+    no_some m (same_read None (Some m) r.1)
+has_link before links name None row n (Some m) found room h = no_some m (sym (same_read (Some m) None room))
 has_link before links name (Some k) row n (Some m) found room h =
     let same : m ≡ k = inner m k (same_read (Some m) (Some k) room) in
     let r = both_read (agrees_with (slice_get before.keys k) row) (λ first. Ok before) links h in
@@ -135,7 +137,7 @@ has_link before links name (Some k) row n (Some m) found room h =
       old = λ k other h. h;
       old_keys = λ k other h. h;
       of_link = at;
-      has_keys = has_agreed before k row r.0 (omega (arith, below, n)) r.1;
+      has_keys = has_agreed before k row r.0 (subst (λ (keys : ℕ). k < keys) n below) r.1;
     })
 
 module _ (ports : Ports) (overhead : ℕ) (head : LinkHead) where
@@ -195,12 +197,12 @@ module _ (ports : Ports) (overhead : ℕ) (head : LinkHead) where
       let seen : (k : ℕ) (b : BranchText) → slice_get after.branches k ≡ Some b → slice_get (bs ++ r.branch ∷ []) k ≡ Some b =
       λ k b h. ap (λ (xs : List BranchText). slice_get xs k) (sym r.branches) ∙ h in record {
         names = r.names;
-        all = omega (arith, m, n, l, a.all);
+        all = l ∙ (n ∙ (ap (λ (k : ℕ). k + 1) a.all ∙ sym m));
         each = each_push P done row
             (λ k old there b h.
             let below = slice_get_within done k old there in
             let d = get_or bs k b in
-            let at : slice_get bs k ≡ Some d = slice_get-get_or bs k b (omega (arith, below, a.all)) in
+            let at : slice_get bs k ≡ Some d = slice_get-get_or bs k b (subst (λ (rows : ℕ). k < rows) (sym a.all) below) in
             let same : d ≡ b = inner d b (sym (more_at bs (r.branch ∷ []) k d at) ∙ seen k b h) in
             let is = a.each k old there d at in
             subst (IsRowOf ports head after old.cells) same (record {
@@ -249,5 +251,5 @@ rows_read ports overhead (first ∷ rows) links h =
       rows_are = refl;
       head = r.0;
       head_is = in_line first.line (link_head first.cells) r.0 r.1;
-      are = all_more ports overhead r.0 rows [] no_links links (record { names = refl; all = refl; each = λ k row there. cc }) r.2;
+      are = all_more ports overhead r.0 rows [] no_links links (record { names = refl; all = refl; each = λ k row there. no_some row there }) r.2;
     }

@@ -1,8 +1,8 @@
 -- The ranges of what cells are read as.
 use Rattle.std.proofs.Common.{◌≡◌, ℕ, ◌+◌, ◌*◌, ◌≤◌, ◌==◌, ◌&&◌, nat_le, nat_lt, Bool, true, false, List, [], ◌∷◌, ◌++◌, length, All, Option, Some, None, Ok, Err, refl, ap, subst, arith, length-append}
+use Rattle.std.proofs.lemmas.Bool.{ltb-false, eqb-false, leb-true}
 use Rattle.std.specs.Prelude.{not, ok_or, slice_index_or, codes, if◌then◌else◌, option_map}
 use Rattle.std.specs.Str.{bytes_eq}
-use Rattle.std.proofs.lemmas.Bool.Decides.{nat_tests}
 use Rattle.std.proofs.lemmas.List.Elements.{All-nil, All-push}
 use Rattle.table_cells.specs.declared.amount.Amount.{Amount}
 use Rattle.table_cells.specs.Amounts.{IsAmount, amount_in, few_digits, is_at_most, is_whole, is_within, reaches_one, whole}
@@ -67,7 +67,7 @@ ranged least most n m h =
     let low = not_refused (nat_lt n least) TooSmall (if nat_lt most n then Err TooLarge else Ok n) m h in
     let high = not_refused (nat_lt most n) TooLarge (Ok n) m low.1 in
     let e : n ≡ m = same_read n m high.1 in
-    (grind (arith, nat_tests, low.0, e), grind (arith, nat_tests, high.0, e))
+    (subst (λ (k : ℕ). least ≤ k) e (ltb-false n least low.0), subst (λ (k : ℕ). k ≤ most) e (ltb-false most n high.0))
 
 pub between : (least most : ℕ) (cell : List ℕ) (m : ℕ) → whole_between least most cell ≡ Ok m → (least ≤ m) × (m ≤ most)
 between least most cell m h =
@@ -86,11 +86,12 @@ some_path words path h =
     let low = not_refused (length words == 0) Empty (if nat_lt 64 (length words) then Err PathTooLong else Ok words) path h in
     let high = not_refused (nat_lt 64 (length words)) PathTooLong (Ok words) path low.1 in
     let e : length words ≡ length path = ap length (same_read words path high.1) in
-    (grind (arith, nat_tests, low.0, e), grind (arith, nat_tests, high.0, e))
+    let some = eqb-false (length words) 0 low.0 in
+    (omega (arith, some, e), subst (λ (k : ℕ). k ≤ 64) e (ltb-false 64 (length words) high.0))
 
 -- ---- disciplines
 in_between : (least most n : ℕ) → is_between least most n ≡ true → (least ≤ n) × (n ≤ most)
-in_between least most n h = let b = both (nat_le least n) (nat_le n most) h in (grind (arith, nat_tests, b.0), grind (arith, nat_tests, b.1))
+in_between least most n h = let b = both (nat_le least n) (nat_le n most) h in (leb-true least n b.0, leb-true n most b.1)
 
 whole_range : (least most : ℕ) (word : List ℕ) (n : ℕ) → whole_of least most word ≡ Some n → (least ≤ n) × (n ≤ most)
 whole_range least most word n h =

@@ -1,6 +1,6 @@
 -- The ranges of ports on the grid.
 use Rattle.std.proofs.Common.{◌≡◌, ℕ, ◌+◌, ◌-◌, ◌*◌, ◌/◌, ◌<◌, ◌≤◌, true, Option, Some, None, option_map, sym, ap, subst, arith}
-use Rattle.std.proofs.lemmas.Bool.Decides.{nat_tests}
+use Rattle.std.proofs.lemmas.Bool.{leb-true}
 use Rattle.std.proofs.lemmas.List.Elements.{All-weaker}
 use Rattle.std.proofs.Math.Nat.{le-div_iff_mul-le, div-lt_iff_lt-mul, div-mul-le_self}
 use Rattle.tree_network.specs.declared.network.Discipline.{Discipline}
@@ -21,13 +21,13 @@ down_to_up : (n b : ℕ) → 0 < b → n / b ≤ (n + (b - 1)) / b
 down_to_up n b some = let d = div-mul-le_self n b in (le-div_iff_mul-le some).1 (omega (arith, d))
 
 reaches : (a : Amount) (times : ℕ) → reaches_one a times ≡ true → a.bottom ≤ a.top * times
-reaches a times h = grind (arith, nat_tests)
+reaches a times h = leb-true a.bottom (a.top * times) h
 
 at_most : (a : Amount) (most : ℕ) → is_at_most a most ≡ true → a.top ≤ most * a.bottom
-at_most a most h = grind (arith, nat_tests)
+at_most a most h = leb-true a.top (most * a.bottom) h
 
 within : (a b : Amount) → is_within a b ≡ true → a.top * b.bottom ≤ b.top * a.bottom
-within a b h = grind (arith, nat_tests)
+within a b h = leb-true (a.top * b.bottom) (b.top * a.bottom) h
 
 pub rate_range : (a : Amount) → IsWithin 1000000 1000000 a → (1 ≤ rounded_down megabit a) × (rounded_down megabit a ≤ rounded_up megabit a) × (rounded_up megabit a ≤ fastest)
 unfolding fastest

@@ -1,7 +1,7 @@
 -- Tables on the grid, one row after another.
 use Rattle.std.proofs.Common.{◌≡◌, ℕ, zero, suc, ◌+◌, ◌<◌, ◌≤◌, ◌==◌, Bool, true, false, cond, List, [], ◌∷◌, ◌++◌, map, filter, length, take, drop, get_or, refl, sym, ap, ◌∙◌, arith, append_assoc, ◌⊎◌}
 use Rattle.std.proofs.lemmas.List.{take_more, drop_more, drop_all, map-append, append-nil}
-use Rattle.std.proofs.lemmas.Bool.{eq-eqb}
+use Rattle.std.proofs.lemmas.Bool.{eq-eqb, cases_lt}
 use Rattle.document_rows.specs.PortRows.{PortText}
 use Rattle.document_tables.specs.declared.links.LinkKeys.{LinkKeys}
 use Rattle.document_tables.specs.Grids.{LinkOnGrid, link_on_grid, links_from}
@@ -42,5 +42,15 @@ made_next make ys more y xs k d below before is one =
     ∙ ((λ i. before i ++ one i ∷ [])
     ∙ (sym (map-append make (take k xs) (get_or xs k d ∷ [])) ∙ ap (map make) (sym (take_more xs k d below))))
 
+-- the same, of what one more shows and is seen as
+pub seen_next : {W X Y Z : Type 0} (show : X → Y) (make : W → Y) (view : Z → W) (xs more : List X) (x : X) (zs : List Z) (k : ℕ) (d : Z) → k < length zs
+    → map show xs ≡ map make (map view (take k zs)) → more ≡ xs ++ x ∷ [] → show x ≡ make (view (get_or zs k d)) → map show more ≡ map make (map view (take (k + 1) zs))
+seen_next {Z = Z} show make view xs more x zs k d below before is one =
+    ap (map show) is
+    ∙ (map-append show xs (x ∷ [])
+    ∙ ((λ i. before i ++ one i ∷ [])
+    ∙ (sym (map-append make (map view (take k zs)) (view (get_or zs k d) ∷ []))
+    ∙ (ap (map make) (sym (map-append view (take k zs) (get_or zs k d ∷ []))) ∙ ap (λ (ws : List Z). map make (map view ws)) (sym (take_more zs k d below))))))
+
 pub split : (a n : ℕ) → (a < n) ⊎ (n ≤ a)
-split a n = grind arith
+split a n = cases_lt a n

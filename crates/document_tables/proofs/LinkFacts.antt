@@ -1,8 +1,8 @@
 -- Links of a table that is read without a fault: each over a tree of ports that take its frames.
 use Rattle.std.proofs.Common.{◌≡◌, ℕ, ◌+◌, ◌<◌, ◌≤◌, nat_le, List, [], ◌∷◌, ◌++◌, length, position, All, Option, Some, None, Ok, refl, sym, ap, subst, ◌∙◌, arith, length-append, ⊎_elim, ◌⊎◌}
+use Rattle.std.proofs.lemmas.Bool.{cases_eq, leb-false}
 use Rattle.std.specs.Prelude.{slice_get}
 use Rattle.std.specs.Str.{bytes_eq}
-use Rattle.std.proofs.lemmas.Bool.Decides.{nat_tests}
 use Rattle.std.proofs.lemmas.List.Quantifiers.{position-Some}
 use Rattle.std.proofs.lemmas.Option.{slice_get-get_or}
 use Rattle.std.proofs.Math.Seq.{get_or-append_seam}
@@ -10,7 +10,6 @@ use Rattle.csv_rows.specs.Rows.{Row}
 use Rattle.document_rows.specs.declared.fault.Column.TheVariants as column
 use Rattle.document_rows.specs.declared.fault.Wrong.TheVariants.{TooManyLinks}
 use Rattle.document_rows.specs.declared.heads.LinkHead.{LinkHead}
-use Rattle.document_rows.specs.Reads.{at}
 use Rattle.document_rows.specs.Heads.{link_head}
 use Rattle.document_rows.specs.LinkRows.{LinkText, frame_on_wire}
 use Rattle.document_tables.specs.declared.links.LinkKeys.{LinkKeys}
@@ -26,7 +25,7 @@ use Rattle.document_tables.proofs.LinkSteps.{each_push, paths_more, paths_same}
 use Rattle.document_tables.proofs.BranchFacts.{Takes, path_taken, ArePaths, no_paths, path_added, Fits, AreLinksBut, HasKeysOf, same_keys, has_agreed}
 
 whether : (a b : ℕ) → (a ≡ b) ⊎ (a ≡ b → ⊥)
-whether a b = grind arith
+whether a b = cases_eq a b
 
 module _ (ports : Ports) (overhead : ℕ) where
   -- ---- the link of a row
@@ -55,7 +54,7 @@ module _ (ports : Ports) (overhead : ℕ) where
       )
     where
       smaller : (k n m : ℕ) → m ≡ n + 1 → k < m → (n ≡ k → ⊥) → k < n
-      smaller k n m e below other = grind (arith, other)
+      smaller k n m e below other = omega (arith, other)
 
   old_link : (before links : Links) (name : List ℕ) (n : ℕ) (row : LinkKeys) → AreLinksBut ports overhead before None → n < length before.keys → with_link before name (Some n) row ≡ Ok links
       → AreLinksBut ports overhead links (Some n) × HasKeysOf links n row × (n < length links.keys)
@@ -71,7 +70,7 @@ module _ (ports : Ports) (overhead : ℕ) where
   room : (before : Links) (number : Option ℕ) (found : Option ℕ) → has_room before found ≡ Ok number → (number ≡ found) × (found ≡ None → length before.names < most_links)
   room before number None h =
       let r = not_refused (nat_le most_links (length before.names)) (record { column = column.Name; wrong = TooManyLinks }) (Ok None) number h in
-      let less : length before.names < most_links = grind (arith, nat_tests, r.0) in
+      let less : length before.names < most_links = leb-false most_links (length before.names) r.0 in
       (sym (same_read None number r.1), λ e. less)
   room before number (Some n) h = (sym (same_read (Some n) number h), λ e. cc)
 

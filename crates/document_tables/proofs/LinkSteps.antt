@@ -1,5 +1,5 @@
 -- Links, one row after another.
-use Rattle.std.proofs.Common.{◌≡◌, ℕ, ◌+◌, ◌<◌, ◌≤◌, ◌==◌, ◌||◌, Bool, true, false, cond, List, [], ◌∷◌, ◌++◌, map, filter, length, set, get_or, position, Option, Some, None, Ok, Err, refl, sym, ap, ap₂, subst, ◌∙◌, arith, length-append, length-set, ⊎_elim, ◌⊎◌}
+use Rattle.std.proofs.Common.{◌≡◌, ℕ, ◌+◌, ◌<◌, ◌≤◌, ◌==◌, ◌||◌, Bool, true, false, cond, List, [], ◌∷◌, ◌++◌, map, filter, length, set, get_or, position, Option, Some, None, Ok, Err, refl, sym, ap, ap₂, subst, ◌∙◌, arith, length-append, length-set, ⊎_elim, ◌⊎◌, inl, inr}
 use Rattle.std.specs.Prelude.{slice_get, nat_le}
 use Rattle.std.specs.List.{list_any, position_from}
 use Rattle.std.specs.Str.{bytes_eq}
@@ -7,8 +7,7 @@ use Rattle.std.proofs.lemmas.Iterator.Adapters.{position_from-zero}
 use Rattle.std.proofs.lemmas.List.{get_or_append_left, get_or-set_same, get_or-set_other, map-append, append-nil, length-map}
 use Rattle.std.proofs.lemmas.List.Elements.{filter-append}
 use Rattle.std.proofs.lemmas.Option.{slice_get-get_or, slice_get_within}
-use Rattle.std.proofs.lemmas.Bool.{eq-eqb, ne_eqb}
-use Rattle.std.proofs.lemmas.Bool.Decides.{nat_tests}
+use Rattle.std.proofs.lemmas.Bool.{eq-eqb, ne_eqb, cases_lt, cases_eq, le-leb, lt-leb}
 use Rattle.std.proofs.Math.Seq.{get_or-append_seam}
 use Rattle.csv_rows.specs.Rows.{Row}
 use Rattle.document_rows.specs.declared.fault.CellFault.{CellFault}
@@ -61,7 +60,10 @@ each_push P xs x old new k y h =
     inside a b h = cc
 
     place : {k n : ℕ} → k ≤ n → (k < n) ⊎ (k ≡ n)
-    place l = grind arith
+    place {k} {n} l = elim (cases_lt k n) [
+      | inl less ↦ inl less
+      | inr past ↦ inr (omega arith)
+    ]
 
 -- another one at a place
 pub each_set : {X : Type 0} (P : ℕ → X → Type 0) (xs : List X) (i : ℕ) (x : X) → i < length xs → ((k : ℕ) (y : X) → (k ≡ i → ⊥) → slice_get xs k ≡ Some y → P k y) → P i x
@@ -78,7 +80,7 @@ each_set P xs i x below old new k y h =
     inside a b h = cc
 
     whether : (a b : ℕ) → (a ≡ b) ⊎ (a ≡ b → ⊥)
-    whether a b = grind arith
+    whether a b = cases_eq a b
 
 -- the paths of a link, with a branch more
 pub paths_more : (link : ℕ) (bs : List BranchText) (b : BranchText) → b.link ≡ link → paths_of link (bs ++ b ∷ []) ≡ paths_of link bs ++ b.path ∷ []
@@ -197,10 +199,10 @@ module _ (ports : Ports) (overhead : ℕ) (head : LinkHead) (before : Links) (ro
 
 -- ---- tests
 pub is_full : (most n : ℕ) → most ≤ n → nat_le most n ≡ true
-is_full most n h = grind (arith, nat_tests)
+is_full most n h = le-leb most n h
 
 pub is_not_full : (most n : ℕ) → n < most → nat_le most n ≡ false
-is_not_full most n h = grind (arith, nat_tests)
+is_not_full most n h = lt-leb most n h
 
 -- the rows before one are fewer than a table may have
 pub few_rows : (branches : List Branch) → length branches < most_branches → nat_le most_branches (length (map branch_view branches)) ≡ false

@@ -1,7 +1,7 @@
 -- The network of a document keeps the limits of networks.
 use Rattle.std.proofs.Common.{◌≡◌, ℕ, zero, suc, ◌+◌, ◌<◌, ◌≤◌, nat_lt, nat_eq, false, List, [], ◌∷◌, map, length, get_or, All, Option, Some, None, refl, sym, ap, subst, ◌∙◌, arith, ⊎_elim}
+use Rattle.std.proofs.lemmas.Bool.{ltb-false}
 use Rattle.std.specs.Prelude.{slice_get, unwrap_or}
-use Rattle.std.proofs.lemmas.Bool.Decides.{nat_tests}
 use Rattle.std.proofs.lemmas.List.{length-map, get_or-map}
 use Rattle.std.proofs.lemmas.List.Elements.{All-from_get_or, All-get_or}
 use Rattle.std.proofs.lemmas.List.Quantifiers.{position-Some}
@@ -63,7 +63,7 @@ fits_alike (discipline.Drr quanta) queue frame h f =
     subst (λ (q : ℕ). frame ≤ q) any less
   where
     not_less : (a b : ℕ) → nat_lt a b ≡ false → b ≤ a
-    not_less a b h = grind (arith, nat_tests)
+    not_less a b h = ltb-false a b h
 
 -- ---- links
 pub link_at : (ports : List PortText) (overhead : ℕ) (branches : List BranchText) (number : ℕ) (keys : List LinkKeys) (k : ℕ) (x : LinkOnGrid) → slice_get (links_from ports overhead branches number keys) k ≡ Some x

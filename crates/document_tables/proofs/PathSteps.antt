@@ -1,5 +1,6 @@
 -- Ports of a path, one after another.
-use Rattle.std.proofs.Common.{◌≡◌, ℕ, ◌+◌, ◌<◌, ◌≤◌, ◌==◌, false, List, [], ◌∷◌, ◌++◌, length, take, drop, get_or, Ok, Err, sym, ap, ap₂, subst, ◌∙◌, arith, length-append, ⊎_elim, ◌⊎◌}
+use Rattle.std.proofs.Common.{◌≡◌, ℕ, ◌+◌, ◌<◌, ◌≤◌, ◌==◌, false, List, [], ◌∷◌, ◌++◌, length, take, drop, get_or, Ok, Err, sym, ap, ap₂, subst, ◌∙◌, arith, length-append, ⊎_elim, ◌⊎◌, inl, inr}
+use Rattle.std.proofs.lemmas.Bool.{cases_lt}
 use Rattle.std.specs.List.{list_any}
 use Rattle.std.proofs.lemmas.List.{drop_more, drop_all, get_or_append_left, take-append-le}
 use Rattle.std.proofs.Math.Seq.{get_or-append_seam, take-append_seam}
@@ -44,4 +45,7 @@ own_more path n own new k h =
     (place (omega (arith, h, len)))
   where
     place : k ≤ length path → (k < length path) ⊎ (k ≡ length path)
-    place l = grind arith
+    place l = elim (cases_lt k (length path)) [
+      | inl less ↦ inl less
+      | inr past ↦ inr (omega arith)
+    ]

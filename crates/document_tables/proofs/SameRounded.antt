@@ -1,6 +1,6 @@
 -- Amounts that are one number, however written, are rounded to one.
 use Rattle.std.proofs.Common.{◌≡◌, ℕ, ◌+◌, ◌-◌, ◌*◌, ◌/◌, ◌<◌, ◌≤◌, true, arith}
-use Rattle.std.proofs.lemmas.Bool.Decides.{nat_tests}
+use Rattle.std.proofs.lemmas.Bool.{eqb-true}
 use Rattle.std.proofs.Math.Nat.{le-div_iff_mul-le, div-lt_iff_lt-mul, div-mul-le_self, mul-le-mul_right, le_of_mul-le-mul_right}
 use Rattle.table_cells.specs.declared.amount.Amount.{Amount}
 use Rattle.table_cells.specs.Amounts.{IsAmount, equals, rounded_down, rounded_up}
@@ -42,7 +42,7 @@ up_within p q r s times some other h =
 
 -- ---- amounts
 crossed : (a b : Amount) → equals a b ≡ true → a.top * b.bottom ≡ b.top * a.bottom
-crossed a b h = grind (arith, nat_tests)
+crossed a b h = eqb-true (a.top * b.bottom) (b.top * a.bottom) h
 
 both_ways : (a b : ℕ) → a ≤ b → b ≤ a → a ≡ b
 both_ways a b h k = omega arith

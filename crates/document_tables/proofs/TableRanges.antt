@@ -1,9 +1,9 @@
 -- The ranges of what tables say.
 use Rattle.std.proofs.Common.{◌≡◌, ℕ, ◌<◌, ◌≤◌, refl, nat_le, List, [], ◌∷◌, ◌++◌, length, All, Option, Some, None, Ok, Err, subst, arith, length-append}
+use Rattle.std.proofs.lemmas.Bool.{leb-false}
 use Rattle.std.specs.Prelude.{slice_get, if◌then◌else◌}
 use Rattle.std.specs.List.{list_any}
 use Rattle.std.specs.Str.{bytes_eq}
-use Rattle.std.proofs.lemmas.Bool.Decides.{nat_tests}
 use Rattle.std.proofs.lemmas.List.Elements.{All-nil, All-push}
 use Rattle.csv_rows.specs.Rows.{Row}
 use Rattle.document_rows.specs.declared.fault.Column.TheVariants as column
@@ -65,7 +65,7 @@ module _ (head : PortHead) (before : Ports) (row : Row) where
       read_then (port_row head row) (λ port. Ok (record { names = before.names ++ name ∷ []; ports = before.ports ++ port ∷ [] })) after new.1
       (λ port is_read h.
       let made : Ports = record { names = before.names ++ name ∷ []; ports = before.ports ++ port ∷ [] } in
-      let less : length before.ports < most_ports = grind (arith, nat_tests, few.0) in
+      let less : length before.ports < most_ports = leb-false most_ports (length before.ports) few.0 in
       let longer = length-append before.ports (port ∷ []) in
       let names = length-append before.names (name ∷ []) in
       subst AreInRange (same_read made after h) (All-push IsPortText before.ports port p.0 (port_says head row port is_read), omega (arith, less, longer), omega (arith, names, longer, p.2))))

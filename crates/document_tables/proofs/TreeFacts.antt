@@ -1,9 +1,8 @@
 -- Trees, one port of a path after another.
-use Rattle.std.proofs.Common.{◌≡◌, ℕ, ◌==◌, ◌&&◌, ◌||◌, Bool, true, false, List, [], ◌∷◌, ◌++◌, Option, Some, None, refl, sym, ap, subst, ◌∙◌, arith, inl, inr, ⊎_elim, ◌⊎◌}
+use Rattle.std.proofs.Common.{◌≡◌, ℕ, ◌==◌, ◌&&◌, ◌||◌, Bool, true, false, List, [], ◌∷◌, ◌++◌, Option, Some, None, refl, sym, ap, subst, ◌∙◌, inl, inr, ⊎_elim, ◌⊎◌}
 use Rattle.std.specs.Prelude.{not}
 use Rattle.std.specs.List.{list_any}
-use Rattle.std.proofs.lemmas.Bool.{eq-eqb}
-use Rattle.std.proofs.lemmas.Bool.Decides.{nat_tests}
+use Rattle.std.proofs.lemmas.Bool.{eq-eqb, eqb-true}
 use Rattle.table_cells.proofs.Digits.{both}
 use Rattle.document_tables.specs.Trees.{same, comes_after, comes_otherwise, begins_elsewhere, last_of, comes}
 
@@ -39,7 +38,7 @@ is_false true f = absurd (f refl)
 is_false false f = refl
 
 pub equal : (a b : ℕ) → (a == b) ≡ true → a ≡ b
-equal a b h = grind (arith, nat_tests)
+equal a b h = eqb-true a b h
 
 pub same_is : (x y : Option ℕ) → same x y ≡ true → x ≡ y
 same_is None None h = refl

@@ -24,7 +24,7 @@ use tree_network::Network;
 
 /// The link of a branch, the place of its last port in the nodes of the link, and its deadline in microseconds, where
 /// it has one.
-#[derive(Debug, Clone, Copy)]
+#[derive(Clone, Copy)]
 pub struct BranchEnd {
     pub link: usize,
     pub node: usize,
@@ -79,6 +79,28 @@ fn branch_ends(alloc: Global, table: &LinkTable) -> Result<Vec<BranchEnd>, Alloc
     Ok(ends)
 }
 
+// The network of the two tables that are read.
+fn network_of(
+    alloc: Global,
+    ports: &PortTable,
+    overhead: u64,
+    table: &LinkTable,
+) -> Result<Network, AllocError>
+    requires overhead { overhead ≤ 1048576 }
+    requires ports { All IsPortText (ports_view ports.now).ports }
+    requires keys { All AreLinkKeys table.now.keys.items }
+    requires trees { AreTrees table.now }
+    ensures ports { IfOk result (λ n. map grids.grid_port n.ports.items
+        ≡ map grids.port_on_grid (ports_view ports.now).ports) }
+    ensures links { IfOk result (λ n. map grids.grid_link n.links.items
+        ≡ grids.links_from (ports_view ports.now).ports overhead (map branch_view table.now.branches.items) 0
+        table.now.keys.items) }
+{
+    let links = links_on_grid(alloc, ports, overhead, table)?;
+    let ports = ports_on_grid(alloc, &ports.ports)?;
+    Ok(Network { ports, links })
+}
+
 // The document of the two tables that are read.
 fn document_with(
     alloc: Global,
@@ -93,16 +115,12 @@ fn document_with(
     ensures { IfOk result (λ d. spec.document_view d
         ≡ spec.document_with overhead (ports_view ports) (links_view table)) }
 {
-    let links = links_on_grid(alloc, &ports, overhead, &table)?;
+    let network = network_of(alloc, &ports, overhead, &table)?;
     let branches = branch_ends(alloc, &table)?;
-    let on_grid = ports_on_grid(alloc, &ports.ports)?;
     Ok(Document {
         port_names: ports.names,
         link_names: table.names,
-        network: Network {
-            ports: on_grid,
-            links,
-        },
+        network,
         branches,
     })
 }

@@ -34,7 +34,7 @@ const MOST_BRANCHES: usize = 131_072;
 
 /// What the rows of a link agree in: the gap in milliseconds, the largest frame in bytes, the jitter in microseconds,
 /// the priority.
-#[derive(Debug, Clone, Copy)]
+#[derive(Clone, Copy)]
 pub struct LinkKeys {
     pub gap: Amount,
     pub largest_frame: u64,
@@ -44,7 +44,7 @@ pub struct LinkKeys {
 
 /// A row of the table: the number of its link, those of the ports of its path, and its deadline in microseconds, where
 /// it has one.
-#[derive(Debug, Drop)]
+#[derive(Drop)]
 pub struct Branch {
     pub link: usize,
     pub path: Vec<usize>,

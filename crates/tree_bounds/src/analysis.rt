@@ -96,8 +96,8 @@ fn rows_in_order(
 }
 
 /// The table of a network: each queue's delay and backlog, and each branch's bound, by the equations. A ring of ports where it has one.
-/// In proportion to the nodes of all links, to those at each port times its queues, to sorting the parts of each queue, and to its jumps,
-/// 4,096 at most, times its parts.
+/// In proportion to the nodes of all links, to those at each port times its queues, to sorting the ports from which they come and the turns
+/// of each queue (two at most a jump that counts, 4,096 at most, and two a part), and to its steps, turns and services with their logarithms.
 pub fn bounds_of(alloc: Global, network: &Network) -> Result<Table, Fault>
     requires { IsNetwork network.now }
     ensures table { IfOk result (IsTableOf network.now) }

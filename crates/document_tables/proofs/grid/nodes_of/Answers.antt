@@ -1,4 +1,5 @@
-use Rattle.std.proofs.Common.{ap, ◌∙◌, sym, arith}
+use Rattle.std.proofs.Common.{map, ap, ◌∙◌, sym, arith}
+use Rattle.std.proofs.lemmas.List.{take_all}
 use Rattle.std.proofs.lemmas.Option.{get_or_from_slice_get}
 use Rattle.document_tables.specs.Grids.{node_of}
 use Rattle.document_tables.specs.Ports.{ports_view}
@@ -14,3 +15,9 @@ loop-place-preserved c =
     let is = get_or_from_slice_get entries k stop stop c.stop-port.ensures in
     made_next make c.loop-place.nodes.items c.push.new.self.items c.node_of.result entries k stop (omega (arith, c.len-place-end.ensures, c.loop-place-test.true)) c.loop-place.invariant c.in_ok-push.ensures.items
     (c.node_of.ensures ∙ ap make (sym is))
+
+pub returns : goal.returns
+returns c =
+    let entries = c.args.tree.now.stops in
+    let make = node_of (ports_view c.args.ports.now).ports c.args.priority entries in
+    c.loop-place.invariant ∙ ap (map make) (take_all c.loop-place.place entries (omega (arith, c.len-place-end.ensures, c.loop-place-test.false)))

@@ -17,6 +17,9 @@ use Rattle.document_tables.proofs.links.add_branch.Goals as goal
 seen : Bor (List ℕ) → List ℕ
 seen word = word.now
 
+pub index_mut-requires : goal.index_mut-requires
+index_mut-requires c = let kept = c.requires.kept in omega (arith, kept.trees, c.requires.there)
+
 pub returns-in_err-path-clause-value : goal.returns-in_err-path-clause-value
 unfolding seen
 returns-in_err-path-clause-value c =
