@@ -1,14 +1,88 @@
-use Rattle.std.proofs.Common.{◌≡◌, ◌++◌, ◌-◌, ◌∷◌, [], List, Err, ap, ◌∙◌, subst, sym}
-use Rattle.std.proofs.lemmas.Result.{err_from_is_err_and}
+use Rattle.std.proofs.Common.{◌≡◌, ℕ, ◌<◌, ◌^◌, length, ◌++◌, ◌-◌, ◌∷◌, [], List, Ok, Err, refl, ap, ◌∙◌, subst, sym, arith}
+use Rattle.std.specs.Prelude.{Result, IfErr, OnErr}
+use Rattle.std.proofs.lemmas.Result.{IfOk-from_err, err_from_is_err_and}
 use Rattle.net_model.specs.Networks.{Net}
 use Rattle.cell_store.specs.Placed.{placed}
-use Rattle.cell_store.specs.Edits.{EditEnds}
+use Rattle.net_cells.specs.Order.{evaluation_order}
+use Rattle.cell_rules.specs.cell_changes.Changes.{TouchedOf}
+use Rattle.cell_store.specs.Edits.{EditEnds, at_none, RefusesFor, IsFirstTouched}
+use Rattle.cell_store.specs.version_table.Histories.{History}
 use Rattle.cell_store.specs.declared.edit_store.replaced.Replaced.{Replaced}
-use Rattle.cell_store.specs.edit_store.Stored.{AreTouched, AreLost}
-use Rattle.cell_store.specs.edit_store.Replaced.{put_back}
+use Rattle.cell_store.specs.edit_store.Stored.{Stored, AreTouched, AreLost}
+use Rattle.cell_store.specs.edit_store.Replaced.{put_back, networks_before}
 use Rattle.cell_store.proofs.edit_store.Steps.{holds_edited}
 use Rattle.cell_store.proofs.edit_store.PutBack.{kept_more, advanced}
 use Rattle.cell_store.proofs.edit_store.store.Store.advance.Goals as goal
+
+-- ---- what the values are edited from
+room_left : {V : Type 0} (own before : List Net) (kept : List V) → own ≡ before → length own ≡ length kept → length before < 2 ^ 32 - 1
+    → length kept < 2 ^ 32 - 1
+room_left own before kept same many room = subst (λ (n : ℕ). n < 2 ^ 32 - 1) (sym (ap length same) ∙ many) room
+
+none_yet : (n : ℕ) → n - n ≡ 0
+none_yet n = omega arith
+
+pub edited_values-requires-clause-room : goal.edited_values-requires-clause-room
+edited_values-requires-clause-room g c =
+    room_left _ c.args.self.now.before c.self.inside.values.versions.kept (ap (λ s. s.before) c.self.view_is)
+    c.self.invariant.stored.many c.requires.room
+
+pub edited_values-requires-clause-edit : goal.edited_values-requires-clause-edit
+edited_values-requires-clause-edit g c =
+    let fields = c.self.inside in
+    record {
+      old = fields.present;
+      order = c.requires.touched.order;
+      servers = c.requires.touched.servers;
+      are = subst (λ (n : Net). TouchedOf n c.args.net (evaluation_order c.args.net c.requires.touched.order) c.args.touched.now)
+          (ap (λ s. s.present) (sym c.self.view_is)) c.requires.touched.are;
+      answered = c.self.invariant.stored.now.answered;
+    }
+
+pub edited_values-requires-clause-gone : goal.edited_values-requires-clause-gone
+edited_values-requires-clause-gone g c = c.requires.gone.only
+
+-- ---- refused: all is as it was
+abbrev seen : {V : Type 0} → List Replaced → Net → History V → Stored V
+seen replaced present values = record { before = networks_before replaced present; present = present; values = values }
+
+seen_again : {V : Type 0} (new old : List Replaced) (present : Net) (now was : History V) (s : Stored V) → new ≡ old → now ≡ was
+    → seen old present was ≡ s → seen new present now ≡ s
+seen_again new old present now was s items values is =
+    ap (λ (rs : List Replaced). seen rs present now) items ∙ ap (λ h. seen old present h) values ∙ is
+
+in_any : {X E : Type 0} (r : Result X E) (Q : Type 0) → Q → OnErr r Q
+in_any (Ok x) Q q = tt
+in_any (Err e) Q q = q
+
+on_err : {X E : Type 0} (r : Result X E) (P : E → Type 0) (f e : E) → r ≡ Err f → f ≡ e → P e → IfErr r P
+on_err {X} {E} r P f e is same h = subst (λ (x : Result X E). IfErr x P) (sym is) (subst P (sym same) h)
+
+pub returns-in-Err-clause-kept : goal.returns-in-Err-clause-kept
+returns-in-Err-clause-kept g c =
+    seen_again c.reserve.new.self.items c.self.inside.replaced.items c.self.inside.present c.self.inside.values.versions
+    c.self.inside.values.versions c.args.self.now c.reserve.ensures.items refl c.self.view_is
+
+pub returns-in-Err-clause-memory : goal.returns-in-Err-clause-memory
+returns-in-Err-clause-memory g c = λ told. at_none (none_yet _)
+
+pub returns-in_err-edited_values-clause-kept : goal.returns-in_err-edited_values-clause-kept
+returns-in_err-edited_values-clause-kept g c =
+    in_any c.from_residual.result _
+    (seen_again c.reserve.new.self.items c.self.inside.replaced.items c.self.inside.present c.edited_values.new.values.versions
+    c.self.inside.values.versions c.args.self.now c.reserve.ensures.items c.in_err-edited_values.ensures.kept c.self.view_is)
+
+pub returns-in_err-edited_values-clause-refused : goal.returns-in_err-edited_values-clause-refused
+returns-in_err-edited_values-clause-refused g c =
+    let p = err_from_is_err_and c.from_residual.result c.from_residual.ensures.1 in
+    on_err c.from_residual.result (RefusesFor (IsFirstTouched c.args.net c.args.touched.now)) p.0 c.in_err-edited_values.field-0.0 p.1 p.2
+    c.in_err-edited_values.ensures.refused
+
+pub returns-in_err-edited_values-clause-advanced : goal.returns-in_err-edited_values-clause-advanced
+returns-in_err-edited_values-clause-advanced g c = IfOk-from_err c.from_residual.result _ c.from_residual.ensures.0
+
+pub returns-in_err-edited_values-clause-exact : goal.returns-in_err-edited_values-clause-exact
+returns-in_err-edited_values-clause-exact g c = IfOk-from_err c.from_residual.result _ c.from_residual.ensures.0
 
 pub invariant_of-self-2 : goal.invariant_of-self-2
 invariant_of-self-2 g c =

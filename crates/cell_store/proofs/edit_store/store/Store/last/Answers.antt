@@ -1,5 +1,7 @@
-use Rattle.std.proofs.Common.{◌≡◌, ◌-◌, ◌++◌, ◌∷◌, [], List, length, take, sym, ap, ◌∙◌, subst, refl}
+use Rattle.std.proofs.Common.{Some, None, get_or, arith, ◌≡◌, ◌-◌, ◌++◌, ◌∷◌, [], List, length, take, sym, ap, ◌∙◌, subst, refl}
 use Rattle.std.specs.Prelude.{slice_get}
+use Rattle.std.proofs.lemmas.Option.{slice_get-get_or}
+use Rattle.std.proofs.lemmas.Result.{IfOk-from_err}
 use Rattle.net_model.specs.Accepted.{IsAccepted}
 use Rattle.cell_store.specs.declared.edit_store.replaced.Replaced.{Replaced}
 use Rattle.cell_store.specs.edit_store.Replaced.{put_back, networks_before}
@@ -43,3 +45,22 @@ returns-in_ok-replaced-in-Some-clause-shown g c =
       );
       other = λ n. absurd (n refl);
     }
+
+-- ---- where nothing was replaced, there is no network before
+none_last : {X : Type 0} (xs : List X) → slice_get xs (length xs - 1) ≡ None → xs ≡ []
+none_last [] none = refl
+none_last (x ∷ xs) none =
+    let at = length (x ∷ xs) - 1 in
+    let some = slice_get-get_or (x ∷ xs) at x (omega arith) in
+    absurd (let bad : None ≡ Some (get_or (x ∷ xs) at x) = sym none ∙ some in cc)
+
+pub returns-in-None-clause-hidden : goal.returns-in-None-clause-hidden
+returns-in-None-clause-hidden g c =
+    let items = none_last c.deref.result.now (sym c.in-None.ensures.value) in (
+      refl,
+      ap (λ s. s.before) (sym c.self.view_is)
+          ∙ ap (λ (rs : List Replaced). networks_before rs c.self.inside.present) (sym c.deref.ensures.value ∙ items),
+    )
+
+pub returns-in_err-present-in-Some-clause-shown : goal.returns-in_err-present-in-Some-clause-shown
+returns-in_err-present-in-Some-clause-shown g c = IfOk-from_err c.from_residual.result _ c.from_residual.ensures.0
