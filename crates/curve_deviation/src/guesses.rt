@@ -11,7 +11,7 @@ use upp_limits::upp_curve::Curve;
 use upp_limits::{OpKind, is_level};
 
 /// After how many periods the first curve has settled, and after how many more the second has reached it.
-#[derive(Debug, Clone, Copy)]
+#[derive(Clone, Copy)]
 pub(crate) struct Guess {
     pub(crate) first: u128,
     pub(crate) second: u128,

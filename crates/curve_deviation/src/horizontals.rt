@@ -27,14 +27,14 @@ use upp_limits::upp_curve::Curve;
 use upp_limits::{OpFault, OpKind, is_level};
 
 /// A time and the first curve's value there.
-#[derive(Debug, Clone, Copy)]
+#[derive(Clone, Copy)]
 struct Turn {
     time: Frac,
     level: Frac,
 }
 
 /// The numbers of periods of a call, and the time from which on no lag is longer.
-#[derive(Debug, Clone, Copy)]
+#[derive(Clone, Copy)]
 struct Periods {
     first: u128,
     second: u128,
@@ -42,7 +42,7 @@ struct Periods {
 }
 
 /// A call within both limits, with its numbers of periods.
-#[derive(Debug, Clone, Copy)]
+#[derive(Clone, Copy)]
 struct FoundCall {
     periods: Periods,
     frame: Frame,

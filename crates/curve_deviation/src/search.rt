@@ -20,7 +20,7 @@ use upp_limits::upp_curve::Curve;
 use upp_limits::{OpKind, call_numbers};
 
 /// What is looked for.
-#[derive(Debug, Clone, Copy)]
+#[derive(Clone, Copy)]
 pub(crate) enum Stage {
     /// After how many periods the first curve is above the level.
     First { level: Frac },

@@ -24,7 +24,7 @@ use upp_limits::upp_curve::affine_segment::{Line, line_at};
 
 /// Where the walk stands: all times of the first curve before `time` have been looked at, and all of the second up to
 /// `reached`.
-#[derive(Debug, Clone, Copy)]
+#[derive(Clone, Copy)]
 struct Walk {
     time: Frac,
     reached: Frac,
@@ -45,7 +45,7 @@ pub struct Rise {
 }
 
 /// The stretches that are looked at: of the first curve from `time` on, and of the second from `reached` on.
-#[derive(Debug, Clone, Copy)]
+#[derive(Clone, Copy)]
 struct Sight {
     above: Rise,
     below: Rise,

@@ -4,7 +4,7 @@ ghost use Rattle.std.specs.Prelude.{ℕ, ◌≡◌, ◌+◌, ◌*◌, ◌<◌, �
 ghost use Rattle.upp_limits.specs.Long.{long_value};
 
 /// A whole number by its digits to the base 2^128, the lowest first.
-#[derive(Debug, Clone, Copy)]
+#[derive(Clone, Copy)]
 pub(crate) struct Long {
     pub ones: u128,
     pub twos: u128,

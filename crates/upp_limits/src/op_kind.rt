@@ -67,7 +67,7 @@ impl From<AllocError> for OpFault {
 }
 
 /// Of which unrolled pieces the tally of a kind is made.
-#[derive(Debug, Clone, Copy)]
+#[derive(Clone, Copy)]
 pub(crate) enum Tallied {
     /// Those of f.
     FirstAlone,

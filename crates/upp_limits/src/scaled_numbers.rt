@@ -41,8 +41,12 @@ fn scaled_line(line: &Line, factor: Frac) -> Option<Line>
     ensures value { IfSome result (λ r. Some r ≡ scaled_line factor (Some line.now)) }
     ensures fits { LineScales factor (Some line.now) → IsSome result }
 {
-    let icept = Frac::mul(factor, line.icept).ok()?;
-    let slope = Frac::mul(factor, line.slope).ok()?;
+    let Ok(icept) = Frac::mul(factor, line.icept) else {
+        return None;
+    };
+    let Ok(slope) = Frac::mul(factor, line.slope) else {
+        return None;
+    };
     Some(Line { icept, slope })
 }
 

@@ -14,7 +14,7 @@ use upp_curve::affine_segment::{Line, Piece, value};
 use upp_curve::fraction128::{Ext, Frac};
 
 /// The values of a piece at its start, just after it, and just before the next start; infinity where there is none.
-#[derive(Debug, Clone, Copy)]
+#[derive(Clone, Copy)]
 pub(crate) struct Seen {
     pub at: Ext,
     pub after: Ext,
@@ -67,9 +67,13 @@ fn risen(v: Ext, n: Frac, rise: Frac) -> Option<Ext>
     match v {
         Extended::Inf => Some(Extended::Inf),
         Extended::Fin(x) => {
-            let by = Frac::mul(n, rise).ok()?;
-            let sum = Frac::add(x, by).ok()?;
-            Some(Extended::Fin(sum))
+            let Ok(by) = Frac::mul(n, rise) else {
+                return None;
+            };
+            match Frac::add(x, by) {
+                Ok(sum) => Some(Extended::Fin(sum)),
+                Err(_) => None,
+            }
         }
     }
 }

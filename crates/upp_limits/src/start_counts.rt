@@ -24,9 +24,13 @@ fn quick_count(x: Frac, period: Frac, end: Frac) -> Option<u128>
     requires { int (pos 0) <ℚ period }
     ensures { IfSome result (λ n. n ≡ whole_up ((end -ℚ x) /ℚ period)) }
 {
-    let gap = Frac::sub(end, x).ok()?;
-    let ratio = Frac::div(gap, period).ok()?;
-    Some(whole_up(ratio))
+    let Ok(gap) = Frac::sub(end, x) else {
+        return None;
+    };
+    match Frac::div(gap, period) {
+        Ok(ratio) => Some(whole_up(ratio)),
+        Err(_) => None,
+    }
 }
 
 /// The same by halving, up to the largest number.

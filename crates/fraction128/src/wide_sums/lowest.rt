@@ -9,7 +9,7 @@ use crate::gcd_of;
 use crate::wide_sums::words::{Words, divide};
 
 /// The two numbers of a fraction in lowest terms.
-#[derive(Debug, Drop)]
+#[derive(Drop)]
 pub(crate) struct Lowest {
     /// The numerator, as its words.
     pub top: Words,

@@ -40,7 +40,7 @@ impl Default for Product {
 }
 
 /// A sum, as a wide number over the product of factors.
-#[derive(Debug, Drop)]
+#[derive(Drop)]
 struct WideSum {
     /// The number.
     top: Words,

@@ -125,7 +125,7 @@ fn divide_word(before: u128, word: u64, by: u128) -> WordDivided
 }
 
 /// What a division gives.
-#[derive(Debug, Drop)]
+#[derive(Drop)]
 pub(crate) struct Divided {
     /// How often the divisor goes into the number.
     pub quotient: Words,
