@@ -10,7 +10,7 @@ use upp_limits::fraction128::{Frac, difference, is_less, quotient};
 use upp_limits::upp_curve::affine_segment::Line;
 
 /// How two lines lie on an open stretch, up to where they change places, or to its end.
-#[derive(Debug, Clone, Copy)]
+#[derive(Clone, Copy)]
 pub(crate) struct Lie {
     /// Whether the first is nowhere above the second at the beginning; else it is nowhere below it.
     pub(crate) below: bool,

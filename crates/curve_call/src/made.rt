@@ -21,7 +21,7 @@ use upp_limits::upp_curve::affine_segment::{Line, Piece};
 pub type MadePieces = Result<Vec<Piece>, AllocError>;
 
 /// What is made of two windows.
-#[derive(Debug, Clone, Copy)]
+#[derive(Clone, Copy)]
 pub(crate) enum Made {
     /// The lower of the two.
     Lower,

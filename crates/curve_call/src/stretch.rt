@@ -40,7 +40,7 @@ pub(crate) fn readable_line(line: &Option<Line>, x: Frac) -> Ext
 }
 
 /// Where the walk over both windows stands: the number of the next piece of each, and the present stretch.
-#[derive(Debug, Clone, Copy)]
+#[derive(Clone, Copy)]
 pub(crate) struct Walk {
     pub(crate) i: usize,
     pub(crate) j: usize,

@@ -19,7 +19,7 @@ use upp_limits::upp_curve::Curve;
 use upp_normal::stretch_at;
 
 /// What the slower and the faster of two curves do in the first period of their own, and the slower one before that.
-#[derive(Debug, Clone, Copy)]
+#[derive(Clone, Copy)]
 pub(crate) struct Extremes {
     /// No value of the slower one in its period is above it.
     pub(crate) slow_top: Frac,

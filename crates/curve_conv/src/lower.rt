@@ -16,7 +16,7 @@ use upp_limits::upp_curve::affine_segment::{Line, cross};
 use upp_normal::Stretch;
 
 /// The lower of two lines just after a time.
-#[derive(Debug, Clone, Copy)]
+#[derive(Clone, Copy)]
 pub(crate) struct Under {
     /// The line; none is infinity.
     pub(crate) line: Option<Line>,

@@ -20,7 +20,7 @@ const MOVES: u32 = 16;
 const PIECES: u32 = 16384;
 
 /// Some periods of the faster curve's own.
-#[derive(Debug, Clone, Copy)]
+#[derive(Clone, Copy)]
 pub(crate) struct Move {
     /// How long they are together.
     pub(crate) time: Frac,

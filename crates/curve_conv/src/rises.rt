@@ -17,7 +17,7 @@ use upp_limits::upp_curve::affine_segment::{Line, value};
 use upp_normal::stretch_at;
 
 /// How far a curve was looked at.
-#[derive(Debug, Clone, Copy)]
+#[derive(Clone, Copy)]
 pub(crate) struct Looked {
     /// The time before which it was.
     pub(crate) until: Frac,

@@ -20,7 +20,7 @@ use upp_limits::fraction128::{Frac, is_less};
 use upp_limits::upp_curve::{Curve, Tail};
 
 /// How long a gate is closed in each cycle, what its rate would make in that time, and what it makes in a slot.
-#[derive(Debug, Clone, Copy)]
+#[derive(Clone, Copy)]
 pub(crate) struct GateNumbers {
     pub closed: Frac,
     pub missed: Frac,

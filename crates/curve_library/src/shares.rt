@@ -12,7 +12,7 @@ use upp_limits::fraction128::{Frac, least_common_multiple};
 pub(crate) const PAST_LARGEST: u128 = 1 << 127;
 
 /// How many whole periods lie in a time, and the rest, which is shorter than a period.
-#[derive(Debug, Clone, Copy)]
+#[derive(Clone, Copy)]
 pub(crate) struct Share {
     pub count: u128,
     pub rest: Frac,

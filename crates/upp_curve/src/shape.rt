@@ -18,7 +18,7 @@ use min_plus::rational::Extended;
 use std::cmp::Ordering;
 
 /// The end of a piece's stretch: the next start, and the value there.
-#[derive(Debug, Clone, Copy)]
+#[derive(Clone, Copy)]
 pub(crate) struct End {
     pub(crate) x: Frac,
     pub(crate) at: Ext,

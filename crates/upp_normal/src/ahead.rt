@@ -79,7 +79,7 @@ fn line_risen(piece: &Piece, by: Frac, n: Frac, rise: Frac) -> Option<Line>
 }
 
 /// A time past the rank, as one of the first period: n whole periods, `by` in all, are taken off.
-#[derive(Debug, Clone, Copy)]
+#[derive(Clone, Copy)]
 struct Turn {
     n: Frac,
     by: Frac,

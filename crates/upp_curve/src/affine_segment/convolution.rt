@@ -18,7 +18,7 @@ use min_plus::rational::Extended;
 use std::cmp::Ordering;
 
 // A line strictly between two times.
-#[derive(Debug, Clone, Copy)]
+#[derive(Clone, Copy)]
 struct Stretch {
     from: Frac,
     to: Ext,
@@ -111,7 +111,7 @@ fn end_sum(a: &Ext, b: &Ext) -> Result<Ext, Wide>
 }
 
 // Where one line is at x and the other at y: the sum of the times, the sum of the values, and a line from there.
-#[derive(Debug, Clone, Copy)]
+#[derive(Clone, Copy)]
 struct Corner {
     at: Frac,
     v: Frac,
