@@ -66,10 +66,10 @@ def lacking():
                 yield f"{path.relative_to(TOP)} is not there"
 
 
-def is_a_test(crate):
-    """Whether the first block of a crate's page stands, line by line, in its test `example`."""
-    block = re.search(r"(?:^    .+\n)+", (crate / "README.md").read_text(), re.M)
-    return block is not None and block.group() in (crate / "src/example.rt").read_text()
+def is_a_test(page, test):
+    """Whether the first block of a crate's page stands, line by line, in a test."""
+    block = re.search(r"(?:^    .+\n)+", page.read_text(), re.M)
+    return block is not None and block.group() in test.read_text()
 
 
 def tell(commands, folder, netcalc, netbound):
@@ -104,8 +104,9 @@ def program_of(name):
 
 def main():
     told = list(lacking())
-    if not is_a_test(TOP / "crates/min_plus_algebra"):
-        told.append("crates/min_plus_algebra/README.md: its first lines are not those of src/example.rt")
+    page, test = "crates/min_plus_algebra/README.md", "crates/curve_tests/src/algebra.rt"
+    if not is_a_test(TOP / page, TOP / test):
+        told.append(f"{page}: its first lines are not those of {test}")
     lists = list(wanted())
     programs = [program_of(name) for name in ("netcalc", "netbound")]
     with tempfile.TemporaryDirectory() as folder, concurrent.futures.ThreadPoolExecutor(os.cpu_count()) as pool:

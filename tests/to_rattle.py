@@ -1,8 +1,9 @@
 #!/usr/bin/env python3
 """Writes the worked examples of this folder as a test of the top call, so that one list is the source of the quick check and of the gate's.
 
-`tests/to_rattle.py` writes crates/netcalc/src/cases.rt, one text for each case that tests/worked names; `tests/to_rattle.py --check`
-ends with 1 where that file is not what it would write. The quick check runs these cases and all others.
+`tests/to_rattle.py` writes crates/netcalc/src/cases.rt, one text for each case that tests/worked names, and one for each that tests/failing names, in
+which a fetch or the put fails; `tests/to_rattle.py --check` ends with 1 where that file is not what it would write. The quick check runs these
+cases (with no call that fails) and all others.
 """
 
 import pathlib
@@ -11,10 +12,10 @@ import sys
 
 HERE = pathlib.Path(__file__).resolve().parent
 TARGET = HERE.parent / "crates" / "netcalc" / "src" / "cases.rt"
-HEAD = """//! The cases that tests/worked names, written by tests/to_rattle.py: change them there.
+HEAD = """//! The cases that tests/worked and tests/failing name, written by tests/to_rattle.py: change them there.
 
-/// Each case, with a `~` between two, as `worked::check` reads it: its name, the words, the status, what is written, and the name
-/// and the text of each file.
+/// Each case, with a `~` between two, as `worked::check` reads it: its name, which fetches fail and which puts, the words, the status, what is
+/// written, and the name and the text of each file.
 """
 # What stands between the parts of a case, and between two cases: no part has either.
 BETWEEN, BEHIND = "|", "~"
@@ -32,30 +33,42 @@ def bare(text):
     return re.sub(r",(?=[)\]])", "", re.sub(r"\s+", "", text))
 
 
-def row(folder):
-    """A case as one text."""
-    status = folder / "status"
+def row(folder, call=None):
+    """A case as one text; with a call, such as `fetch 0` or `put`, as it is answered where that call fails."""
     words = f"netcalc {(folder / 'words').read_text().rstrip()}".rstrip()
-    parts = [folder.name, words, status.read_text().strip() if status.exists() else "0", (folder / "stdout").read_text()]
-    for file in sorted(it for it in folder.iterdir() if it.name not in ("words", "status", "stdout")):
+    files = sorted(it for it in folder.iterdir() if it.name not in ("words", "status", "stdout"))
+    status = (folder / "status").read_text().strip() if (folder / "status").exists() else "0"
+    wanted = (folder / "stdout").read_text()
+    name = folder.name
+    # A fetch past those of the files would fail, and so would a second put.
+    fetches, puts = "".join(str(number) for number in range(len(files), 10)), "1"
+    if call == "put":
+        name, puts, status, wanted = f"{name}, {call}", "0", "4", ""
+    elif call:
+        name, fetches = f"{name}, {call}", call.split()[1]
+        status, wanted = "3", f"netcalc: cannot read {words.split()[2 + int(fetches)]}\n"
+    parts = [name, fetches, puts, words, status, wanted]
+    for file in files:
         parts += [file.name, file.read_text()]
     if any(mark in part for part in parts for mark in (BETWEEN, BEHIND)):
-        sys.exit(f"tests/worked: {folder.name} has a {BETWEEN} or a {BEHIND}, which part the cases")
+        sys.exit(f"tests/to_rattle.py: {folder.name} has a {BETWEEN} or a {BEHIND}, which part the cases")
     return f"    {written(BETWEEN.join(parts))}"
 
 
-def worked():
-    """The folders that tests/worked names, in order."""
-    folders = [HERE / name for name in sorted((HERE / "worked").read_text().splitlines()) if name and not name.startswith("#")]
-    for folder in folders:
-        if not (folder / "words").exists():
-            sys.exit(f"tests/worked: {folder.parent.name}/{folder.name} is no case")
-    return folders
+def lines(name):
+    """The lines of a list of this folder: for each the folder of the case, and what stands behind it."""
+    for line in (HERE / name).read_text().splitlines():
+        if line and not line.startswith("#"):
+            case, _, call = line.partition(" ")
+            if not (HERE / case / "words").exists():
+                sys.exit(f"tests/{name}: {case} is no case")
+            yield HERE / case, call
 
 
 def text():
     behind = f"{BEHIND}\\\n"
-    return f'{HEAD}pub const CASES: &str = "\\\n{behind.join(row(folder) for folder in worked())}";\n'
+    rows = [row(folder) for folder, _ in sorted(lines("worked"))] + [row(*it) for it in lines("failing")]
+    return f'{HEAD}pub const CASES: &str = "\\\n{behind.join(rows)}";\n'
 
 
 def main():

@@ -1,13 +1,7 @@
 //! Tests of numbers, lines and curves, worked out by hand.
 
 #[cfg(test)]
-mod ahead_values;
-#[cfg(test)]
-mod elements;
-#[cfg(test)]
 mod fractions;
-#[cfg(test)]
-mod kinds;
 #[cfg(test)]
 mod lines;
 #[cfg(test)]

@@ -11,7 +11,7 @@ use std::alloc::Global;
 use upp_limits::OpFault;
 use upp_limits::fraction128::{Ext, Frac, is_less};
 use upp_limits::rational::Extended;
-use upp_limits::upp_curve::affine_segment::{Element, Line, Piece};
+use upp_limits::upp_curve::affine_segment::{Line, Piece};
 use upp_limits::upp_curve::{Curve, Tail};
 use upp_normal::{RawCurve, normalise};
 
@@ -37,18 +37,6 @@ pub fn line(icept: i128, slope: i128) -> Line {
     Line {
         icept: whole(icept),
         slope: whole(slope),
-    }
-}
-
-/// Of a point the time and the value.
-pub fn seen_point(e: &Element) -> Option<(Frac, Frac)> {
-    match *e {
-        Element::Point { x, v } => Some((x, v)),
-        Element::Open {
-            from: _,
-            to: _,
-            line: _,
-        } => None,
     }
 }
 

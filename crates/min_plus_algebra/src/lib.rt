@@ -1,9 +1,6 @@
 //! Min-plus algebra under one name: numbers, curves, and all operators on curves. Nothing is made here; each item is proved in its own crate.
 #![tactic(auto)]
 
-#[cfg(test)]
-mod example;
-
 // Numbers, and infinity; the counter of operators.
 pub use outcomes::Steps;
 pub use upp_limits::fraction128::{Ext, Frac, FracFault, FracText, Wide};

@@ -1,4 +1,4 @@
-//! The worked examples of the specification, as whole commands in memory.
+//! The worked examples of the specification, and some of them with a fetch or a put that fails, as whole commands in memory.
 
 use crate::cases::CASES;
 use netcalc_cli::run_counted;
@@ -32,12 +32,27 @@ fn files_in(alloc: Global, parts: &[&str]) -> Result<Vec<(String, Vec<u8>)>, Fai
     Ok(held)
 }
 
-/// What these words give where these files lie: the status, and the bytes that are written.
-fn ask(alloc: Global, line: &str, files: &[&str]) -> Result<(u8, Vec<u8>), Fail> {
+/// Numbers of one digit each.
+fn numbers_in(alloc: Global, digits: &str) -> Result<Vec<u32>, Fail> {
+    let mut all = Vec::new(alloc);
+    for digit in digits.chars() {
+        all.push(digit.to_digit(10).ok_or("no digit")?)?;
+    }
+    Ok(all)
+}
+
+/// What these words give where these files lie, and the fetches and the puts of these numbers fail: the status, and the bytes that are
+/// written.
+fn ask(
+    alloc: Global,
+    line: &str,
+    files: &[&str],
+    fetches: &str,
+    puts: &str,
+) -> Result<(u8, Vec<u8>), Fail> {
     let words = words_in(alloc, line)?;
-    let mut inputs = MemInputs::new(files_in(alloc, files)?, Vec::new(alloc));
-    // A second put would fail.
-    let mut out = MemSink::new(vec![in alloc; 1u32]?)?;
+    let mut inputs = MemInputs::new(files_in(alloc, files)?, numbers_in(alloc, fetches)?);
+    let mut out = MemSink::new(numbers_in(alloc, puts)?)?;
     let status = run_counted::<MemInputs, MemSink, Brand>(
         Blank::new(1),
         &words,
@@ -50,12 +65,13 @@ fn ask(alloc: Global, line: &str, files: &[&str]) -> Result<(u8, Vec<u8>), Fail>
 /// That the words of a case give what it tells. Its parts are separated by `|`.
 fn check(rt: &impl Abort, alloc: Global, case: &str) -> Result<(), Fail> {
     let parts: Vec<&str> = case.split('|').collect(alloc)?;
-    let [name, line, status, wanted, files @ ..] = parts.as_slice() else {
+    let [name, fetches, puts, line, status, wanted, files @ ..] = parts.as_slice() else {
         return Err(Fail::from("a case of too few parts"));
     };
-    let (got, bytes) = ask(alloc, line, files)?;
-    let told = format!(in alloc; "{got}")?;
-    let is_wanted = told.as_str() == *status && bytes.as_slice() == wanted.as_bytes();
+    let (got, bytes) = ask(alloc, line, files, fetches, puts)?;
+    // A status is one digit.
+    let is_told = numbers_in(alloc, status)?.as_slice() == [u32::from(got)].as_slice();
+    let is_wanted = is_told && bytes.as_slice() == wanted.as_bytes();
     assert!(rt; is_wanted, "{name}");
     Ok(())
 }

@@ -5,9 +5,5 @@
 mod cell_lists;
 pub mod exercises;
 #[cfg(test)]
-mod networks;
-#[cfg(test)]
 mod orders;
 pub mod stores;
-#[cfg(test)]
-mod texts;

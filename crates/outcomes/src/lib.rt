@@ -6,9 +6,6 @@ ghost use Rattle.std.specs.Prelude.{◌≡◌, ◌<◌, ◌+◌, ℕ};
 use std::marker::Model;
 use std::sync::ledger::{Blank, Book, Ledger, Share};
 
-#[cfg(test)]
-mod tests;
-
 /// How many steps were taken, as one whole number that contracts see. It takes no byte at run time,
 /// and only `tick` changes it.
 ///

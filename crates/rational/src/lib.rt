@@ -43,16 +43,3 @@ impl<T: Copy> Extended<T> {
         }
     }
 }
-
-#[cfg(test)]
-mod tests {
-    use super::*;
-
-    #[test]
-    fn tells_numbers_from_infinity(rt: HostRuntime) {
-        for (given, number) in [(Extended::Fin(7u8), Some(7u8)), (Extended::Inf, None)] {
-            assert_eq!(rt; given.finite(), number);
-            assert_eq!(rt; given.is_infinite(), number.is_none());
-        }
-    }
-}

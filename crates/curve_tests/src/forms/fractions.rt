@@ -5,8 +5,8 @@ use std::process::Abort;
 use std::test::Fail;
 use upp_limits::fraction128::{Frac, FracFault, FracText, gcd_of, is_less, least_common_multiple};
 
-/// The fraction of a text, or 0 where it is none.
-pub(crate) fn fraction(text: &str) -> Frac {
+// The fraction of a text, or 0 where it is none.
+fn fraction(text: &str) -> Frac {
     match Frac::parse(text.as_bytes()) {
         Ok(f) => f,
         Err(_) => Frac::zero(),

@@ -5,7 +5,6 @@ use crate::shapes::{curve, fraction_piece, line_piece, piece, ratio, repeats, wh
 use std::alloc::{AllocError, Global};
 use std::process::Abort;
 use std::test::Fail;
-use upp_limits::OpFault;
 use upp_limits::fraction128::Frac;
 use upp_limits::rational::Extended;
 use upp_limits::upp_curve::affine_segment::Piece;
@@ -80,36 +79,5 @@ fn pieces_below_a_time(rt: HostRuntime) -> Result<(), Fail> {
         }
     }
     assert!(rt; equal(&c, &c.copy()?));
-    Ok(())
-}
-
-// So many pieces, one at each whole time.
-fn many(alloc: Global, count: u32) -> Result<Vec<Piece>, AllocError> {
-    (0..count)
-        .map(|k| {
-            let level = i128::from(k % 2);
-            line_piece(i128::from(k), level, level, 0)
-        })
-        .collect(alloc)
-}
-
-#[test]
-fn over_a_limit(rt: HostRuntime) -> Result<(), Fail> {
-    let alloc = rt.alloc();
-    let high = [piece(0, Extended::Fin(whole(1 << 125)), None)];
-    let wide = curve(alloc, &high, Tail::Infinite { rank: Frac::zero() });
-    assert!(rt; matches!(&wide, Err(OpFault::TooWide)), "a high value");
-    let count = (1 << 20) + 1;
-    let long = curve(
-        alloc,
-        &many(alloc, count)?,
-        periodic((0, i128::from(count), 0)),
-    );
-    assert!(rt; matches!(&long, Err(OpFault::TooMany)), "many pieces");
-    let c = stair(alloc)?;
-    let far = pieces_to(&c, whole(1 << 119));
-    assert!(rt; matches!(&far, Err(OpFault::TooWide)), "far");
-    let late = pieces_to(&c, whole(1 << 22));
-    assert!(rt; matches!(&late, Err(OpFault::TooMany)), "long");
     Ok(())
 }

@@ -1,8 +1,0 @@
-use Rattle.std.proofs.Common.{arith, subst, sym}
-use Rattle.upp_limits.specs.rational.specs.Rational.{◌≤ℚ◌}
-use Rattle.upp_limits.specs.rational.proofs.Integers.{nat_le}
-use Rattle.upp_limits.specs.min_plus.specs.Functions.{zero_q}
-use Rattle.operator_tests.proofs.all_operators.later.Goals as goal
-
-pub shift-requires : goal.shift-requires
-shift-requires g c = subst (λ z. zero_q ≤ℚ z) (sym c.one.ensures) (nat_le 0 1 (omega arith))
