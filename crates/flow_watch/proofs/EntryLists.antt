@@ -39,13 +39,6 @@ entries_some flow (Work s p a b w) xs e h = absurd (cc)
 entries_some flow (Leave s p t) xs e h = absurd (cc)
 entries_some flow (Visit s q t) xs e h = absurd (cc)
 
-pub entries_more : (flow : ℕ) (x : Step) (steps rest : List Step) (e : Entering) (had now : List Entering) (i : ℕ) → i < length steps → x ≡ slice_index_or steps i x → entering_in flow x ≡ Some e
-    → now ≡ had ++ e ∷ [] → had ++ entries flow (drop i steps) ≡ entries flow steps → now ++ entries flow (drop (i + 1) steps) ≡ entries flow steps
-entries_more flow x steps rest e had now i l is some pushed h =
-    let d = next_item x steps i l is in
-    let f = ap (entries flow) d ∙ entries_some flow x (drop (i + 1) steps) e some in
-    ap (λ (es : List Entering). es ++ entries flow (drop (i + 1) steps)) pushed ∙ append_assoc had (e ∷ []) (entries flow (drop (i + 1) steps)) ∙ ap (λ (es : List Entering). had ++ es) (sym f) ∙ h
-
 -- ---- their bits
 pub bits_past : (first last : ℕ) (es : List Entering) → last < first → bits_between first last es ≡ 0
 bits_past first last [] h = refl
