@@ -1,13 +1,9 @@
 -- The packets of a flow, one after another.
-use Rattle.std.specs.Prelude.{◌≡◌, ℕ, zero, suc, ◌+◌, ◌<◌, ◌≤◌, ◌==◌, List, [], ◌∷◌, ◌++◌, length, drop, Option, Some, None}
+use Rattle.std.specs.Prelude.{◌≡◌, ℕ, zero, suc, ◌+◌, ◌<◌, ◌≤◌, List, [], ◌∷◌, length, drop}
 use Rattle.std.specs.List.{slice_index_or}
-use Rattle.std.proofs.Common.{arith, inl, inr, refl, sym, ap, ◌∙◌, append_assoc, add-one}
-use Rattle.std.proofs.lemmas.Bool.{cases_Bool}
-use Rattle.net_model.specs.run_laws.specs.declared.steps.Step.{Step}
-use Rattle.net_model.specs.run_laws.specs.declared.steps.Step.TheVariants.{Enter, Reach, Work, Leave, Visit}
+use Rattle.std.proofs.Common.{arith, refl, sym, ap, add-one}
 use Rattle.flow_watch.specs.declared.watch_laws.entering.Entering.{Entering}
-use Rattle.flow_watch.specs.watch_laws.Entries.{entries, entering, bits_to, bits_between}
-use Rattle.flow_watch.specs.Flows.{entering_in}
+use Rattle.flow_watch.specs.watch_laws.Entries.{entering, bits_to, bits_between}
 
 -- what is left of a list begins with the item of the number
 pub next_item : {A : Type 0} (x : A) (xs : List A) (i : ℕ) → i < length xs → x ≡ slice_index_or xs i x → drop i xs ≡ x ∷ drop (i + 1) xs
@@ -17,34 +13,6 @@ next_item x xs i h e = rw add-one (suc_item x xs i h e)
     suc_item x [] i h e = absurd (omega arith)
     suc_item x (y ∷ xs) zero h e = ap (λ z. z ∷ xs) (sym e)
     suc_item x (y ∷ xs) (suc i) h e = suc_item x xs i (omega arith) e
-
--- ---- the packets that enter
-pub entries_some : (flow : ℕ) (x : Step) (xs : List Step) (e : Entering) → entering_in flow x ≡ Some e → entries flow (x ∷ xs) ≡ e ∷ entries flow xs
-entries_some flow (Enter f p t b) xs e h = elim (cases_Bool (f == flow)) [
-  | inl is ↦ rw is (ap (λ (y : Entering). y ∷ entries flow xs) (some_one (rw is at h)))
-  | inr is ↦ absurd (no_some (rw is at h))
-]
-  where
-    unwrapped : Option Entering → Entering → Entering
-    unwrapped None d = d
-    unwrapped (Some y) d = y
-
-    some_one : {a b : Entering} → Some a ≡ Some b → a ≡ b
-    some_one {a} {b} e = ap (λ (o : Option Entering). unwrapped o a) e
-
-    no_some : {a : Entering} → None ≡ Some a → ⊥
-    no_some {a} e = cc
-entries_some flow (Reach s p t) xs e h = absurd (cc)
-entries_some flow (Work s p a b w) xs e h = absurd (cc)
-entries_some flow (Leave s p t) xs e h = absurd (cc)
-entries_some flow (Visit s q t) xs e h = absurd (cc)
-
-pub entries_more : (flow : ℕ) (x : Step) (steps rest : List Step) (e : Entering) (had now : List Entering) (i : ℕ) → i < length steps → x ≡ slice_index_or steps i x → entering_in flow x ≡ Some e
-    → now ≡ had ++ e ∷ [] → had ++ entries flow (drop i steps) ≡ entries flow steps → now ++ entries flow (drop (i + 1) steps) ≡ entries flow steps
-entries_more flow x steps rest e had now i l is some pushed h =
-    let d = next_item x steps i l is in
-    let f = ap (entries flow) d ∙ entries_some flow x (drop (i + 1) steps) e some in
-    ap (λ (es : List Entering). es ++ entries flow (drop (i + 1) steps)) pushed ∙ append_assoc had (e ∷ []) (entries flow (drop (i + 1) steps)) ∙ ap (λ (es : List Entering). had ++ es) (sym f) ∙ h
 
 -- ---- their bits
 pub bits_past : (first last : ℕ) (es : List Entering) → last < first → bits_between first last es ≡ 0

@@ -14,8 +14,9 @@ use crate::ends::next_start;
 use crate::repeats::repeated_upto;
 use crate::sliding::before_upto;
 use crate::stairs::kept_upto;
+use crate::step_lines::whole_of;
 use crate::watch_laws::Entering;
-use net_model::run_laws::Step;
+use net_model::run_laws::{Step, whole};
 use std::alloc::{AllocError, Global};
 use upp_limits::fraction128::{Frac, Wide, difference, greater, is_less, lesser};
 use upp_limits::rational::Extended;
@@ -78,7 +79,7 @@ fn is_over(arrival: &Curve, d: Frac, bits: u128) -> bool
     ensures { IsTrue result ↔ (value_at arrival.now d <ₑ Extended.Fin (whole bits)) }
 {
     match value_within(arrival, d) {
-        Extended::Fin(value) => is_less(value, Frac::from_whole(bits as i128)),
+        Extended::Fin(value) => is_less(value, whole_of(bits)),
         Extended::Inf => false,
     }
 }
@@ -141,12 +142,6 @@ pub(crate) fn bucket_of(piece: &Piece) -> Option<Bucket>
     }
 }
 
-pub(crate) fn bits_of(entering: &Entering) -> Frac
-    ensures { result ≡ whole entering.now.bits }
-{
-    Frac::from_whole(entering.bits as i128)
-}
-
 /// How many bits at most enter in a window that ends with this packet, less the rate times its length; `level` is that of
 /// the windows that end with the packet before, at `time`.
 fn next_level(level: Frac, rate: Frac, time: Frac, entering: &Entering) -> Result<Frac, Wide>
@@ -156,7 +151,7 @@ fn next_level(level: Frac, rate: Frac, time: Frac, entering: &Entering) -> Resul
     let lost = Frac::mul(rate, gap)?;
     let left = Frac::sub(level, lost)?;
     let kept = greater(left, Frac::zero());
-    Frac::add(kept, bits_of(entering))
+    Frac::add(kept, whole(entering.bits))
 }
 
 /// How many of the first packets are seen to keep a bucket, in one pass. The next one may keep it all the same.

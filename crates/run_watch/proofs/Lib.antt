@@ -26,3 +26,4 @@ pub mod ShortEnds
 pub mod FirstOfTwo
 pub mod FirstFound
 pub mod CutStretches
+pub mod Gathered

@@ -22,6 +22,14 @@ use Rattle.run_watch.specs.declared.span.Span.{Span}
 use Rattle.run_watch.specs.Ramps.{amount, rate_before, rate_after, as_span}
 use Rattle.run_watch.specs.Seen.{at_once, arrival_spans, work_spans, works_at, leaves_at, sizes_after, arrival_in, arrivals_at, AreFirsts}
 
+-- no other step than one that enters adds a size
+pub sizes_kept : (sizes : List ℕ) (x : Step) → ((f p : ℕ) (t : ℚ) (b : ℕ) → x ≡ Enter f p t b → ⊥) → sizes ≡ sizes_after sizes x
+sizes_kept sizes (Enter f p t b) h = absurd (h f p t b refl)
+sizes_kept sizes (Reach r p t) h = refl
+sizes_kept sizes (Work r p a b w) h = refl
+sizes_kept sizes (Leave r p t) h = refl
+sizes_kept sizes (Visit r q t) h = refl
+
 -- ---- they are those of the server's view
 pub works_seen : (net : Routes) (s : ℕ) (entered : List Entry) (xs : List Step) → work_spans (view_from net s entered xs) ≡ works_at s xs
 works_seen net s entered [] = refl

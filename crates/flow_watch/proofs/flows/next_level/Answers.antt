@@ -7,6 +7,6 @@ use Rattle.flow_watch.proofs.flows.next_level.Goals as goal
 
 pub returns : goal.returns
 returns c =
-    IfOk-weaker c.add.result (λ (x : ℚ). x ≡ c.greater-kept.result +ℚ c.bits_of.result) (IsRaised c.args.level c.args.rate c.args.time c.args.entering.now)
-    (λ (x : ℚ) (h : x ≡ c.greater-kept.result +ℚ c.bits_of.result). raised_is c.args.level c.args.rate c.args.time c.in_ok-gap.gap c.in_ok-lost.lost c.in_ok-left.left c.greater-kept.result c.zero.result c.bits_of.result x c.args.entering.now
-    c.in_ok-gap.ensures.value c.in_ok-lost.ensures.value c.in_ok-left.ensures.value c.zero.ensures c.greater-kept.ensures c.bits_of.ensures h) c.add.ensures.value
+    IfOk-weaker c.add.result (λ (x : ℚ). x ≡ c.greater-kept.result +ℚ c.whole.result) (IsRaised c.args.level c.args.rate c.args.time c.args.entering.now)
+    (λ (x : ℚ) (h : x ≡ c.greater-kept.result +ℚ c.whole.result). raised_is c.args.level c.args.rate c.args.time c.in_ok-gap.gap c.in_ok-lost.lost c.in_ok-left.left c.greater-kept.result c.zero.result c.whole.result x c.args.entering.now
+    c.in_ok-gap.ensures.value c.in_ok-lost.ensures.value c.in_ok-left.ensures.value c.zero.ensures c.greater-kept.ensures c.whole.ensures h) c.add.ensures.value
