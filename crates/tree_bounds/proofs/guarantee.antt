@@ -16,4 +16,4 @@ pub mod LinkRates
 pub mod Borne
 pub mod Overloads
 pub mod LoadsApart
-pub mod Within
+pub mod LoadOrLimit

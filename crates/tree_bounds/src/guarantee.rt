@@ -5,7 +5,7 @@
 
 ghost use Rattle.tree_bounds.specs.guarantee.Causes.{NoneHasACause};
 ghost use Rattle.tree_bounds.specs.guarantee.Guarantee.{TablesAreGuaranteed};
-ghost use Rattle.tree_bounds.specs.guarantee.Loads.{LoadAboveRateHasNone, NoneWithinLoads, OverloadIsLoad};
+ghost use Rattle.tree_bounds.specs.guarantee.Loads.{LoadAboveRateHasNone, NoneHasALoadOrLimit, OverloadIsLoad};
 ghost use Rattle.tree_bounds.specs.guarantee.Roots.{NoneHasARoot};
 ghost use Rattle.tree_bounds.specs.guarantee.Routes.{NetworksAreTrees, OrdersGoForward};
 
@@ -35,12 +35,16 @@ pub fn none_has_a_cause()
 {}
 
 /// Where a table has no number for a queue there is a root of it: at that port, or at one before it on the trees of links,
-/// a queue's load is above its rate, or a number passes its limit.
+/// a queue is overloaded, or each of its delays is of 2^50 picoseconds or more, or a number passes its limit.
 pub fn none_has_a_root()
     ensures { NoneHasARoot }
 {}
 
-/// A queue through which pass links whose rates together are above its rate has no number in a table.
+/// A queue whose load is above its rate, as its discipline has it, has no number in a table. The load is the rates of the links
+/// that pass the queue, each a frame with its overhead over its gap, in grains of 1/1024 bit a second, rounded up; the rate is the
+/// port's, or what its gate leaves of it. First in, first out: the queue's load is above the rate. Of priorities: the loads of the
+/// queues above it and its own together are (Le Boudec and Thiran, residual service). Of deficit round robin: its own is above its
+/// share by the quanta, and that of all queues together is above the rate (Bouillard, Boyer and Le Corronc, deficit round robin).
 pub fn loads_above_rates_have_none()
     ensures { LoadAboveRateHasNone }
 {}
@@ -50,8 +54,10 @@ pub fn overloads_are_loads()
     ensures { OverloadIsLoad }
 {}
 
-/// Where no load of a network is above its rate, a queue that a link passes has no number only by a limit: there or before it each
-/// delay is of 2^50 picoseconds or more, or a number passes its limit.
-pub fn none_within_loads_has_a_limit()
-    ensures { NoneWithinLoads }
+/// A queue has no number in a table only by a load or by a limit: its load is above its rate, or each of its delays is of 2^50
+/// picoseconds or more, or a number passes its limit at it or at one of its port that may be served before it (of deficit round
+/// robin any other); or so on at a queue without a number from which a link comes to one of these. So where no load of a network is
+/// above its rate, only limits are left.
+pub fn none_has_a_load_or_limit()
+    ensures { NoneHasALoadOrLimit }
 {}
