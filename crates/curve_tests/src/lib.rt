@@ -17,6 +17,8 @@ mod endings;
 mod fifo_services;
 pub mod forms;
 #[cfg(test)]
+mod inner_calls;
+#[cfg(test)]
 mod makings;
 #[cfg(test)]
 mod services;
