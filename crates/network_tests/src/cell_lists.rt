@@ -84,8 +84,8 @@ fn what_cells_are_made_of(rt: HostRuntime) -> Result<(), Fail> {
     ] {
         let cell = Cell { kind, a, b };
         let text = told(alloc, net, &operands(alloc, cell, net)?)?;
-        assert!(rt; text.as_str() == wanted, "{text}, wanted {wanted}");
-        assert_eq!(rt; work(cell, net), operators, "{wanted}");
+        assert!(rt; text.as_str() == wanted, "{text}");
+        assert_eq!(rt; work(cell, net), operators, "{text}");
     }
     Ok(())
 }
