@@ -1,47 +1,103 @@
 //! A report as JSON.
 
-ghost use Rattle.std.specs.Prelude.{◌≡◌, ◌++◌, false, [], ◌∷◌, map, All, OnOk, IfOk};
-ghost use Rattle.serde_json.specs.Data.{array};
-ghost use Rattle.serde_json.specs.View.{view, items_of};
+ghost use Rattle.std.specs.Prelude.{◌≡◌, [], codes, map, All, OnOk, IfOk};
+ghost use Rattle.serde_json.specs.Data.{array, boolean, object, string, put as with_member};
+ghost use Rattle.serde_json.specs.View.{view, items_of, members_view};
 ghost use Rattle.std.specs.String.{string_bytes};
+ghost use Rattle.table_cells.specs.Amounts.{IsAmount};
 ghost use Rattle.bounds_report.specs.Data as spec;
+ghost use Rattle.bounds_report.specs.Numbers.{exact, is_met};
 ghost use Rattle.bounds_report.specs.Ranges.{HasDeadlineInRange};
 
 use crate::numbers::{count_text, exact_text, is_met, load_text, time_text};
 use crate::rows::{BranchRow, QueueRow, Report};
-use serde_json::{Value, json};
+use serde_json::{Map, Value, put};
 use std::alloc::{AllocError, Global};
+use table_cells::Amount;
+
+// Puts a text among the members of an object.
+fn put_text(
+    alloc: Global,
+    members: &mut Map<String, Value>,
+    key: &str,
+    text: String,
+) -> Result<(), AllocError>
+    ensures { OnOk result (members_view members.new.entries
+        ≡ with_member key.now (string (string_bytes text)) (members_view members.old.entries)) }
+{
+    put(members, alloc, key, Value::String(text))
+}
+
+// Puts the members of a queue into an object that has none.
+#[tactic(auto, unfolding(crate::specs::Data::queue_data))]
+fn put_queue(
+    alloc: Global,
+    members: &mut Map<String, Value>,
+    row: &QueueRow,
+) -> Result<(), AllocError>
+    requires { members.old.entries ≡ [] }
+    ensures { OnOk result (object (members_view members.new.entries) ≡ spec.queue_data row.now) }
+{
+    put_text(alloc, members, "backlog", count_text(alloc, row.backlog)?)?;
+    put_text(alloc, members, "delay", time_text(alloc, row.delay)?)?;
+    put_text(alloc, members, "load", load_text(alloc, row.load)?)?;
+    put_text(alloc, members, "name", String::from_str(alloc, row.name)?)?;
+    put(members, alloc, "queue", Value::from(row.queue))
+}
 
 // The value of a queue.
-#[tactic(auto, unfolding(crate::specs::Data::queue_data))]
 fn queue_value(alloc: Global, row: &QueueRow) -> Result<Value, AllocError>
     ensures { IfOk result (λ value. view value ≡ spec.queue_data row.now) }
 {
-    let backlog = count_text(alloc, row.backlog)?;
-    let delay = time_text(alloc, row.delay)?;
-    let load = load_text(alloc, row.load)?;
-    let name = row.name;
-    let queue = row.queue;
-    json!(in alloc; {"backlog": backlog, "delay": delay, "load": load, "name": name, "queue": queue})
+    let mut members = Map::new(alloc);
+    put_queue(alloc, &mut members, row)?;
+    Ok(Value::Object(members))
+}
+
+// Puts the members of a branch that tell its deadline.
+fn put_deadline(
+    alloc: Global,
+    members: &mut Map<String, Value>,
+    bound: Option<u64>,
+    deadline: Amount,
+) -> Result<(), AllocError>
+    requires { IsAmount deadline }
+    ensures { OnOk result (members_view members.new.entries
+        ≡ with_member (codes "met") (boolean (is_met bound deadline))
+        (with_member (codes "deadline") (string (exact deadline)) (members_view members.old.entries))) }
+{
+    put_text(alloc, members, "deadline", exact_text(alloc, deadline)?)?;
+    put(members, alloc, "met", Value::Bool(is_met(bound, deadline)))
+}
+
+// Puts the members of a branch into an object that has none.
+#[tactic(auto, unfolding(crate::specs::Data::branch_data))]
+fn put_branch(
+    alloc: Global,
+    members: &mut Map<String, Value>,
+    row: &BranchRow,
+) -> Result<(), AllocError>
+    requires empty { members.old.entries ≡ [] }
+    requires deadline { HasDeadlineInRange row.now.deadline }
+    ensures { OnOk result (object (members_view members.new.entries) ≡ spec.branch_data row.now) }
+{
+    put_text(alloc, members, "bound", time_text(alloc, row.bound)?)?;
+    put_text(alloc, members, "link", String::from_str(alloc, row.link)?)?;
+    put_text(alloc, members, "port", String::from_str(alloc, row.port)?)?;
+    match row.deadline {
+        Some(deadline) => put_deadline(alloc, members, row.bound, deadline),
+        None => Ok(()),
+    }
 }
 
 // The value of a branch.
-#[tactic(auto, unfolding(crate::specs::Data::branch_data))]
 fn branch_value(alloc: Global, row: &BranchRow) -> Result<Value, AllocError>
     requires { HasDeadlineInRange row.now.deadline }
     ensures { IfOk result (λ value. view value ≡ spec.branch_data row.now) }
 {
-    let bound = time_text(alloc, row.bound)?;
-    let link = row.link;
-    let port = row.port;
-    match row.deadline {
-        None => json!(in alloc; {"bound": bound, "link": link, "port": port}),
-        Some(deadline) => {
-            let time = exact_text(alloc, deadline)?;
-            let met = is_met(row.bound, deadline);
-            json!(in alloc; {"bound": bound, "deadline": time, "link": link, "met": met, "port": port})
-        }
-    }
+    let mut members = Map::new(alloc);
+    put_branch(alloc, &mut members, row)?;
+    Ok(Value::Object(members))
 }
 
 // The values of queues.
@@ -74,14 +130,38 @@ fn array_of(values: Vec<Value>) -> Value
     Value::Array(values)
 }
 
+// Puts the members of a report into an object that has none.
+fn put_report(
+    alloc: Global,
+    members: &mut Map<String, Value>,
+    report: &Report,
+) -> Result<(), AllocError>
+    requires empty { members.old.entries ≡ [] }
+    requires deadlines { All (λ row. HasDeadlineInRange row.deadline) report.now.branches.items }
+    ensures { OnOk result (object (members_view members.new.entries) ≡ spec.report_data report.now) }
+{
+    put(
+        members,
+        alloc,
+        "branches",
+        array_of(branch_values(alloc, &report.branches)?),
+    )?;
+    put(
+        members,
+        alloc,
+        "ports",
+        array_of(queue_values(alloc, &report.queues)?),
+    )
+}
+
 // The value of a report.
 fn report_value(alloc: Global, report: &Report) -> Result<Value, AllocError>
     requires { All (λ row. HasDeadlineInRange row.deadline) report.now.branches.items }
     ensures { IfOk result (λ value. view value ≡ spec.report_data report.now) }
 {
-    let branches = array_of(branch_values(alloc, &report.branches)?);
-    let ports = array_of(queue_values(alloc, &report.queues)?);
-    json!(in alloc; {"branches": branches, "ports": ports})
+    let mut members = Map::new(alloc);
+    put_report(alloc, &mut members, report)?;
+    Ok(Value::Object(members))
 }
 
 /// The report as one JSON value without a space, its keys in the order of their bytes, and a newline after it; numbers

@@ -1,7 +1,8 @@
 //! The lines of a report.
 
-ghost use Rattle.std.specs.Prelude.{◌≡◌, ◌++◌, codes, All, OnOk, IfOk};
+ghost use Rattle.std.specs.Prelude.{◌≡◌, ◌++◌, All, OnOk, IfOk};
 ghost use Rattle.std.specs.List.{flat_map};
+ghost use Rattle.std.specs.Fmt.{decimal};
 ghost use Rattle.std.specs.String.{string_bytes};
 ghost use Rattle.bounds_report.specs.Lines as spec;
 ghost use Rattle.bounds_report.specs.Ranges.{HasDeadlineInRange};
@@ -11,42 +12,55 @@ use crate::rows::{BranchRow, QueueRow, Report};
 use std::alloc::{AllocError, Global};
 use table_cells::Amount;
 
+// Puts a text behind what tells of it.
+fn push_told(into: &mut String, label: &str, text: &str) -> Result<(), AllocError>
+    ensures { OnOk result (string_bytes into.new ≡ string_bytes into.old ++ (label.now ++ text.now)) }
+{
+    into.push_str(label)?;
+    into.push_str(text)
+}
+
+// Puts a number behind what tells of it.
+fn push_number(alloc: Global, into: &mut String, label: &str, number: u64) -> Result<(), AllocError>
+    ensures { OnOk result (string_bytes into.new ≡ string_bytes into.old ++ (label.now ++ decimal number)) }
+{
+    push_told(into, label, &format!(in alloc; "{number}")?)
+}
+
 // The line of a queue.
 #[tactic(auto, unfolding(crate::specs::Lines::queue_line))]
 fn push_queue(alloc: Global, into: &mut String, row: &QueueRow) -> Result<(), AllocError>
     ensures { OnOk result (string_bytes into.new ≡ string_bytes into.old ++ spec.queue_line row.now) }
 {
-    let name = row.name;
-    let queue = row.queue;
-    let load = load_text(alloc, row.load)?;
-    let delay = time_text(alloc, row.delay)?;
-    let backlog = count_text(alloc, row.backlog)?;
-    let line = format!(in alloc;
-        "port {name} {queue} load {load} delay {delay} backlog {backlog}\n"
-    )?;
-    into.push_str(&line)?;
+    push_told(into, "port ", row.name)?;
+    push_number(alloc, into, " ", row.queue)?;
+    push_told(into, " load ", &load_text(alloc, row.load)?)?;
+    push_told(into, " delay ", &time_text(alloc, row.delay)?)?;
+    push_told(into, " backlog ", &count_text(alloc, row.backlog)?)?;
+    into.push_str("\n")?;
     Ok(())
 }
 
 // What a line says of a deadline.
-fn deadline_text(
+fn push_deadline(
     alloc: Global,
+    into: &mut String,
     bound: Option<u64>,
     deadline: Option<Amount>,
-) -> Result<String, AllocError>
+) -> Result<(), AllocError>
     requires { HasDeadlineInRange deadline }
-    ensures { IfOk result (λ text. string_bytes text ≡ spec.deadline_text bound deadline) }
+    ensures { OnOk result (string_bytes into.new ≡ string_bytes into.old ++ spec.deadline_text bound deadline) }
 {
     let Some(deadline) = deadline else {
-        return Ok(String::new(alloc));
+        return Ok(());
     };
     let met = if is_met(bound, deadline) {
         "met"
     } else {
         "missed"
     };
-    let time = exact_text(alloc, deadline)?;
-    format!(in alloc; " deadline {time} {met}")
+    push_told(into, " deadline ", &exact_text(alloc, deadline)?)?;
+    push_told(into, " ", met)
 }
 
 // The line of a branch.
@@ -55,13 +69,11 @@ fn push_branch(alloc: Global, into: &mut String, row: &BranchRow) -> Result<(), 
     requires { HasDeadlineInRange row.now.deadline }
     ensures { OnOk result (string_bytes into.new ≡ string_bytes into.old ++ spec.branch_line row.now) }
 {
-    let link = row.link;
-    let port = row.port;
-    let bound = time_text(alloc, row.bound)?;
-    let deadline = deadline_text(alloc, row.bound, row.deadline)?;
-    let line = format!(in alloc; "branch {link} {port} bound {bound}{deadline}\n")?;
-    into.push_str(&line)?;
-    Ok(())
+    push_told(into, "branch ", row.link)?;
+    push_told(into, " ", row.port)?;
+    push_told(into, " bound ", &time_text(alloc, row.bound)?)?;
+    push_deadline(alloc, into, row.bound, row.deadline)?;
+    into.push_str("\n")
 }
 
 // The lines of queues.
@@ -87,13 +99,13 @@ fn push_branches(alloc: Global, into: &mut String, rows: &[BranchRow]) -> Result
 
 // The first line.
 #[tactic(auto, unfolding(crate::specs::Lines::head_line))]
-fn head_line(alloc: Global, report: &Report) -> Result<String, AllocError>
-    ensures { IfOk result (λ text. string_bytes text ≡ spec.head_line report.now) }
+fn push_head(alloc: Global, into: &mut String, report: &Report) -> Result<(), AllocError>
+    ensures { OnOk result (string_bytes into.new ≡ string_bytes into.old ++ spec.head_line report.now) }
 {
-    let ports = report.ports;
-    let links = report.links;
-    let branches = report.branches.len();
-    format!(in alloc; "ports {ports} links {links} branches {branches}\n")
+    push_number(alloc, into, "ports ", report.ports as u64)?;
+    push_number(alloc, into, " links ", report.links as u64)?;
+    push_number(alloc, into, " branches ", report.branches.len() as u64)?;
+    into.push_str("\n")
 }
 
 /// The report line by line: how much there is, each queue, each branch. Times are microseconds with three digits,
@@ -103,7 +115,8 @@ pub fn report_lines(alloc: Global, report: &Report) -> Result<String, AllocError
     requires { All (λ row. HasDeadlineInRange row.deadline) report.now.branches.items }
     ensures { IfOk result (λ text. string_bytes text ≡ spec.report_lines report.now) }
 {
-    let mut text = head_line(alloc, report)?;
+    let mut text = String::new(alloc);
+    push_head(alloc, &mut text, report)?;
     push_queues(alloc, &mut text, &report.queues)?;
     push_branches(alloc, &mut text, &report.branches)?;
     Ok(text)
