@@ -30,7 +30,8 @@ use Rattle.tree_bounds.specs.Lines.{line_of}
 use Rattle.tree_bounds.specs.Stairs.{stair_within, first_stair_of}
 use Rattle.tree_bounds.specs.Groups.{pace_line, part_of, are_bounded, longest_group, spots_in_group, groups_at}
 use Rattle.tree_bounds.specs.Equations.{comes_to}
-use Rattle.bounds_command.specs.Loads.{rates_at, brought, load_at, load_of}
+use Rattle.tree_bounds.specs.guarantee.Loads.{rates_at, brought}
+use Rattle.bounds_command.specs.Loads.{load_at, load_of}
 use Rattle.bounds_command.specs.Reports.{port_in}
 
 -- ---- lists

@@ -41,7 +41,7 @@ use Rattle.bounds_report.specs.Ranges.{HasDeadlineInRange}
 use Rattle.bounds_report.specs.declared.rows.QueueRow.{QueueRow}
 use Rattle.bounds_report.specs.declared.rows.BranchRow.{BranchRow}
 use Rattle.bounds_report.specs.declared.rows.Report.{Report}
-use Rattle.bounds_command.specs.Loads.{rates_at}
+use Rattle.tree_bounds.specs.guarantee.Loads.{rates_at}
 use Rattle.rounded_runs.specs.Written.{exact}
 use Rattle.bounds_command.specs.Promises.{printed, or_infinite, QueueIsKept, BranchIsKept, Guarantees}
 use Rattle.bounds_command.specs.Reports.{IsReportOf, QueueText, BranchText, queue_view, queue_text, name_at, last_port, port_in}

@@ -20,7 +20,8 @@ use Rattle.tree_bounds.specs.Tables.{IsTableOf, row_in}
 use Rattle.tree_bounds.specs.declared.analysis.Table.{Table}
 use Rattle.bounds_report.specs.declared.rows.Report.{Report}
 use Rattle.bounds_command.specs.declared.answer.Form.{Form}
-use Rattle.bounds_command.specs.Loads.{load_of, rates_at}
+use Rattle.tree_bounds.specs.guarantee.Loads.{rates_at}
+use Rattle.bounds_command.specs.Loads.{load_of}
 use Rattle.bounds_command.specs.Replies.{Reply, goes_round, has_fault}
 use Rattle.bounds_command.specs.Reports.{IsNetworkOf, IsReportOf, QueueText, BranchText, queue_text, queues_at, all_queues, branch_text, name_at, some_missed, status_with}
 use Rattle.bounds_command.specs.OnTables.{Tables, name_of, lined, AreLinesOf, AreRowsOfBoth, Gives, IsFaulty, IsReported, IsCyclic, IsDone}

@@ -10,7 +10,8 @@ use Rattle.tree_network.specs.declared.network.Network.{Network}
 use Rattle.document_tables.specs.Documents.{DocumentText}
 use Rattle.tree_bounds.specs.Tables.{IsTableOf, items_of, row_in}
 use Rattle.tree_bounds.specs.declared.analysis.Table.{Table}
-use Rattle.bounds_command.specs.Loads.{AreRates, rates_at}
+use Rattle.tree_bounds.specs.guarantee.Loads.{rates_at}
+use Rattle.bounds_command.specs.Loads.{AreRates}
 use Rattle.bounds_command.specs.Reports.{QueueText, queue_text, queues_with, queues_at, name_at}
 
 -- ---- lists

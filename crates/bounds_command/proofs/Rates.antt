@@ -15,7 +15,8 @@ use Rattle.tree_network.specs.declared.network.Network.{Network}
 use Rattle.tree_network.proofs.Distinct.{Apart, few}
 use Rattle.tree_bounds.specs.Lines.{rate_of}
 use Rattle.tree_bounds.specs.Tables.{items_of}
-use Rattle.bounds_command.specs.Loads.{AreRates, queues_in, at, with_more, rates_in, brought, brought_by, is_at}
+use Rattle.tree_bounds.specs.guarantee.Loads.{brought, brought_by, is_at}
+use Rattle.bounds_command.specs.Loads.{AreRates, queues_in, at, with_more, rates_in}
 
 -- ---- at no link
 -- so many lists of nothing

@@ -12,7 +12,7 @@ use Rattle.tree_bounds.specs.declared.analysis.Table.{Table}
 use Rattle.bounds_report.specs.declared.rows.QueueRow.{QueueRow}
 use Rattle.bounds_report.specs.declared.rows.BranchRow.{BranchRow}
 use Rattle.bounds_report.specs.declared.rows.Report.{Report}
-use Rattle.bounds_command.specs.Loads.{rates_at}
+use Rattle.tree_bounds.specs.guarantee.Loads.{rates_at}
 use Rattle.bounds_command.specs.Reports.{IsReportOf, QueueText, BranchText, queue_view, branch_view, queue_text, branch_text, queues_at, all_queues, name_at}
 use Rattle.bounds_command.proofs.Places.{in_flat, in_map, in_range}
 

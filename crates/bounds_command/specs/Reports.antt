@@ -15,7 +15,8 @@ use Rattle.bounds_report.specs.Numbers.{is_met}
 use Rattle.bounds_report.specs.declared.rows.QueueRow.{QueueRow}
 use Rattle.bounds_report.specs.declared.rows.BranchRow.{BranchRow}
 use Rattle.bounds_report.specs.declared.rows.Report.{Report}
-use Rattle.bounds_command.specs.Loads.{load_of, rates_at}
+use Rattle.tree_bounds.specs.guarantee.Loads.{rates_at}
+use Rattle.bounds_command.specs.Loads.{load_of}
 
 -- ---- rows
 pub record QueueText : Type 0 where
