@@ -8,7 +8,7 @@ ghost use Rattle.csv_rows.specs.declared.lines.Place.TheVariants as places;
 ghost use Rattle.csv.specs.declared.parser.State.TheVariants as st;
 
 /// Where a byte of a text finds itself.
-#[derive(Debug, Clone, Copy, PartialEq, Eq)]
+#[derive(Clone, Copy, PartialEq)]
 enum Place {
     Between,
     CellStart,
@@ -18,7 +18,7 @@ enum Place {
 }
 
 /// Goes over the rows of a text.
-#[derive(Debug, Drop)]
+#[derive(Drop)]
 pub(crate) struct Lines<'a> {
     rest: &'a [u8],
     line: usize,
