@@ -18,7 +18,7 @@ use Rattle.sim_servers.specs.Queues.{served_by, StandFor, work_goes_on}
 use Rattle.run_check.specs.declared.site.Underway.{Underway}
 use Rattle.run_check.specs.declared.site.Piece.{Piece}
 use Rattle.run_check.specs.declared.site.Site.{Site}
-use Rattle.run_check.specs.Sites.{IsUnder, AreUnder, IsSite, IsOther, IsWrong, MayGo, IsOut, GoesOff, IsTakenOn, rest_of, rest_by, IsOtherBy, IsWrongBy, IsFresh, IsOnGrid, IsFineUnder, IsFast}
+use Rattle.run_check.specs.Sites.{IsUnder, AreUnder, IsSite, IsOther, IsWrong, MayGo, IsOut, GoesOff, IsTakenOn, IsOfPacket, rest_of, rest_by, IsOtherBy, IsWrongBy, IsFresh, IsOnGrid, IsFineUnder, IsFast}
 use Rattle.run_check.proofs.SiteSteps.{busy_of, untrue}
 
 pub in_time : (d : Discipline) (room : ℕ) (σ : ServerState) (site : Site) (end t : ℚ) (b : Bool) → IsSite d room σ site
@@ -100,6 +100,20 @@ right_card d room σ before taken w fresh k n = go σ.under refl k.next_one (λ 
     go : (o : Option Under) → σ.under ≡ o → next_card o d σ.inside σ.round ≡ Some k.card → (IsOtherBy o w.packet → ⊥) → k.card.packet ≡ w.packet
     go None e i m = k.packet e
     go (Some u) e i m = ap (λ (c : Card). c.packet) (sym (same_some u.card k.card i)) ∙ elim (cases_eq u.card.packet w.packet) [ inl z ↦ z | inr z ↦ absurd (m z) ]
+
+-- so the work on it may be done, whatever its pace
+pub may_be_worked : (d : Discipline) (room : ℕ) (σ : ServerState) (before taken : Site) (w : Piece) (fresh end : ℚ) (known : Bool)
+    → ¬ IsOut σ end w.start → ¬ (end <ℚ w.end) → known ≡ true → IsTakenOn d room σ before taken w.packet → ¬ IsWrongBy σ w fresh
+    → IsOfPacket d σ end known fresh w
+may_be_worked d room σ before taken w fresh end known timely ends is_known k right = record {
+  timely = timely;
+  ends = ends;
+  is_known = is_known;
+  right = right;
+  card = k.card;
+  packet = right_card d room σ before taken w fresh k right;
+  next_one = k.next_one;
+}
 
 -- what is yet to be worked
 pub rest_left : (d : Discipline) (σ : ServerState) (c : Card) (v : Option Underway) (p : ℕ) (fresh bits rest : ℚ) → AreUnder σ.under v → next_card σ.under d σ.inside σ.round ≡ Some c

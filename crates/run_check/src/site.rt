@@ -22,7 +22,7 @@ use std::alloc::{AllocError, Global};
 use upp_limits::fraction128::{Frac, difference, is_less, quotient};
 
 /// The packet under way at a server: the bits of it that are yet to be worked, and when its last work ends.
-#[derive(Debug, Clone, Copy)]
+#[derive(Clone, Copy)]
 pub(crate) struct Underway {
     pub(crate) packet: u32,
     pub(crate) left: Frac,
@@ -30,7 +30,7 @@ pub(crate) struct Underway {
 }
 
 /// A piece of work on a packet, as a row has it.
-#[derive(Debug, Clone, Copy)]
+#[derive(Clone, Copy)]
 pub(crate) struct Piece {
     pub(crate) packet: u32,
     pub(crate) start: Frac,

@@ -30,7 +30,7 @@ pub struct Opening {
 }
 
 /// A time at which a server opens, and how many of its stalls are over by then.
-#[derive(Debug, Clone, Copy)]
+#[derive(Clone, Copy)]
 struct OpenTime {
     time: Frac,
     passed: usize,

@@ -1,16 +1,17 @@
 -- One row after another.
-use Rattle.std.proofs.Common.{Option, Some, None, MatchOption, ⊎_elim, eq-or-lt_of_le, ◌≡◌, ◌≢◌, ℕ, suc, ◌+◌, ◌<◌, ◌≤◌, List, [], ◌∷◌, ◌++◌, length, take, drop, get_or, refl, sym, ap, subst, arith, inl, inr, ◌⊎◌, ◌∙◌, append_assoc, take-append-drop, length-take, take_all}
-use Rattle.std.proofs.lemmas.List.{take_more, drop_more, get_or_default}
+use Rattle.std.proofs.Common.{Option, Some, None, MatchOption, ⊎_elim, eq-or-lt_of_le, ◌≡◌, ◌≢◌, ℕ, suc, ◌+◌, ◌<◌, ◌≤◌, List, [], ◌∷◌, ◌++◌, length, take, drop, get_or, refl, sym, ap, subst, arith, inl, inr, ◌⊎◌, ◌∙◌, take_all}
+use Rattle.std.proofs.lemmas.List.{get_or_default}
 use Rattle.net_model.specs.run_laws.specs.declared.steps.Step.{Step}
 use Rattle.net_model.specs.run_laws.specs.declared.steps.Step.TheVariants.{Enter, Reach, Work, Leave, Visit}
 use Rattle.net_model.specs.run_laws.specs.Runs.{SpecRun}
 use Rattle.upp_limits.specs.rational.specs.Rational.{ℚ}
 use Rattle.net_model.specs.Networks.{Net}
 use Rattle.run_check.specs.declared.run_table.fault.RunKind.{RunKind}
-use Rattle.run_check.specs.declared.run_table.fault.RunKind.TheVariants.{T1, T2, T3, T4, T5, T7, T8, NoMemory}
+use Rattle.run_check.specs.declared.run_table.fault.RunKind.TheVariants.{T8, NoMemory}
 use Rattle.run_check.specs.declared.run_table.run_rows.RunEntry.TheVariants.{Does}
 use Rattle.input_texts.specs.table_text.Rows.{Row, rows_of}
 use Rattle.input_texts.specs.table_text.Traces.{most_rows}
+use Rattle.input_texts.proofs.table_text.RowPlaces.{so_many, one_more, parted}
 use Rattle.input_texts.proofs.table_text.TraceSteps.{all_taken}
 use Rattle.run_check.specs.run_table.RunRows.{run_row, Gives}
 use Rattle.run_check.specs.run_table.Runs.{packets_after, Give, GiveSteps, GiveAll, IsRunOf, IsWrong, IsFirstFault}
@@ -26,13 +27,7 @@ when_some {X} A B o x is h = subst (λ (p : Option X). MatchOption p A B) is h
 
 pub memory_or : (kind : RunKind) → (kind ≡ NoMemory) ⊎ (kind ≢ NoMemory)
 memory_or NoMemory = inl refl
-memory_or T1 = inr (λ e. let bad : ⊥ = cc in bad)
-memory_or T2 = inr (λ e. let bad : ⊥ = cc in bad)
-memory_or T3 = inr (λ e. let bad : ⊥ = cc in bad)
-memory_or T4 = inr (λ e. let bad : ⊥ = cc in bad)
-memory_or T5 = inr (λ e. let bad : ⊥ = cc in bad)
-memory_or T7 = inr (λ e. let bad : ⊥ = cc in bad)
-memory_or T8 = inr (λ e. let bad : ⊥ = cc in bad)
+memory_or kind = inr (λ e. let bad : ⊥ = cc in bad)
 
 -- how many packets have entered after some steps
 abbrev pub packets_behind : ℕ → List Step → ℕ
@@ -64,16 +59,13 @@ pub record IsSoFar (net : Net) (rows : List Row) (k packets : ℕ) (steps : List
   pub few : packets ≤ k
   pub room : k ≤ most_rows
 
-behind_one : (rows : List Row) (k : ℕ) (row : Row) → k < length rows → get_or rows k row ≡ row → take (k + 1) rows ≡ take k rows ++ row ∷ []
-behind_one rows k row within is = take_more rows k row within ∙ ap (λ (x : Row). take k rows ++ x ∷ []) is
-
 pub so_far_more : (net : Net) (rows : List Row) (k : ℕ) (row : Row) (packets : ℕ) (steps : List Step) (packets2 : ℕ) (steps2 : List Step) → k < length rows → get_or rows k row ≡ row
     → IsSoFar net rows k packets steps → AddsStep net k packets row steps packets2 steps2 → IsSoFar net rows (k + 1) packets2 steps2
 so_far_more net rows k row packets steps packets2 steps2 within is so adds =
     let x = adds.step in
     let gives = subst (λ (p : ℕ). Gives net p (run_row row) (Does x)) so.packets_are adds.gives in
     let given = give_more net 0 (take k rows) steps row x so.give gives in
-    let there = subst (λ (rs : List Row). Give net 0 rs (steps ++ x ∷ [])) (sym (behind_one rows k row within is)) given in
+    let there = subst (λ (rs : List Row). Give net 0 rs (steps ++ x ∷ [])) (sym (one_more rows k row within is)) given in
     record {
       give = subst (λ (xs : List Step). Give net 0 (take (k + 1) rows) xs) (sym adds.steps_are) there;
       packets_are = adds.packets_are ∙ (ap (λ (p : ℕ). packets_after p x) so.packets_are ∙ (sym (behind_more 0 steps x) ∙ ap (packets_behind 0) (sym adds.steps_are)));
@@ -97,7 +89,7 @@ so_far_run net text rows k row packets steps steps2 run is within at so says sam
     record {
       before = take k rows;
       last = row;
-      rows_are = sym all ∙ (sym whole ∙ behind_one rows k row within at);
+      rows_are = sym all ∙ (sym whole ∙ one_more rows k row within at);
       give = subst (λ (xs : List Step). Give net 0 (take k rows) xs) (sym (same ∙ says.steps_are)) so.give;
       ends = says.is;
       few = subst (λ (rs : List Row). length rs ≤ 10000) all few;
@@ -106,31 +98,21 @@ so_far_run net text rows k row packets steps steps2 run is within at so says sam
 -- ---- faults
 -- the row at a place of the first rows, and those around it in the text
 module _ (net : Net) (text : List ℕ) (rows : List Row) (k : ℕ) (row : Row) (is : rows ≡ take 10001 (rows_of text)) (within : k < length rows) (at : get_or rows k row ≡ row) where
-  parted : rows_of text ≡ take k rows ++ row ∷ (drop (k + 1) rows ++ drop 10001 (rows_of text))
-  parted =
-      let rest = drop 10001 (rows_of text) in
-      let here : drop k rows ≡ row ∷ drop (k + 1) rows = drop_more rows k row within ∙ ap (λ (x : Row). x ∷ drop (k + 1) rows) at in
-      let cut : rows ≡ take k rows ++ (row ∷ drop (k + 1) rows) = sym (take-append-drop k rows) ∙ ap (λ (rs : List Row). take k rows ++ rs) here in
-      sym (take-append-drop 10001 (rows_of text)) ∙ (ap (λ rs. rs ++ rest) (sym is ∙ cut) ∙ append_assoc (take k rows) (row ∷ drop (k + 1) rows) rest)
-
-  so_many : length (take k rows) ≡ k
-  so_many = let m = length-take k rows in omega (arith, m, within)
-
   fault_there : (kind : RunKind) (number : ℕ) → k ≤ most_rows → number ≡ k + 1 → IsWrong net (take k rows) row kind → IsFirstFault net text kind number
   fault_there kind number room place wrong = inl (record {
     before = take k rows;
     row = row;
     after = drop (k + 1) rows ++ drop 10001 (rows_of text);
-    rows_are = parted;
-    place = let n = so_many in let e : number ≡ suc (length (take k rows)) = omega (arith, n, place) in e;
-    few = subst (λ (m : ℕ). m ≤ most_rows) (sym so_many) room;
+    rows_are = parted (rows_of text) rows 10001 k row is within at;
+    place = let n = so_many rows k within in let e : number ≡ suc (length (take k rows)) = omega (arith, n, place) in e;
+    few = subst (λ (m : ℕ). m ≤ most_rows) (sym (so_many rows k within)) room;
     wrong = wrong;
   })
 
   pub so_far_fault : (packets : ℕ) (steps : List Step) (kind : RunKind) (number : ℕ) → IsSoFar net rows k packets steps → IsWrongNext net k row kind → number ≡ k + 1 → IsFirstFault net text kind number
   so_far_fault packets steps kind number so wrong place =
       let gs : GiveSteps net (take k rows) = record { steps = steps; give = so.give } in
-      let n = so_many in
+      let n = so_many rows k within in
       fault_there kind number so.room place (⊎_elim
       (λ late. inl (late.0, subst (λ (m : ℕ). most_rows ≤ m) (sym n) late.1, inl gs))
       (λ bad. inr (inr (subst (λ (m : ℕ). m < most_rows) (sym n) bad.0, gs, bad.1)))
@@ -139,7 +121,7 @@ module _ (net : Net) (text : List ℕ) (rows : List Row) (k : ℕ) (row : Row) (
   -- the row behind that of the end
   pub behind_fault : (kind : RunKind) (number : ℕ) → k ≤ most_rows → GiveAll net (take k rows) → IsBehindEnd k kind → number ≡ k + 1 → IsFirstFault net text kind number
   behind_fault kind number room ga wrong place =
-      let n = so_many in
+      let n = so_many rows k within in
       fault_there kind number room place (⊎_elim
       (λ late. inl (late.0, subst (λ (m : ℕ). most_rows ≤ m) (sym n) late.1, inr ga))
       (λ bad. inr (inl (bad.0, subst (λ (m : ℕ). m < most_rows) (sym n) bad.1, ga)))
@@ -155,7 +137,7 @@ so_far_behind net text rows k row packets steps steps2 end kind number is within
     let ga : GiveAll net (take (k + 1) rows) = record {
       before = take k rows;
       last = row;
-      rows_are = behind_one rows k row within at;
+      rows_are = one_more rows k row within at;
       steps = record { steps = steps; give = so.give };
       end = record { time = end; is = says.is };
     } in

@@ -2,6 +2,7 @@
 use Rattle.std.specs.Prelude.{Some, ◌≡◌, ℕ, ◌<◌, List, length, map, set, slice_get}
 use Rattle.std.proofs.Common.{sym, ap, ◌∙◌, subst, inl, inr, arith}
 use Rattle.std.proofs.lemmas.Bool.{cases_eq}
+use Rattle.std.proofs.lemmas.List.{length-map}
 use Rattle.std.proofs.lemmas.Option.{slice_get_within}
 use Rattle.rational.specs.Rational.{ℚ}
 use Rattle.net_model.specs.run_laws.specs.declared.steps.Step.{Step}
@@ -29,6 +30,10 @@ rank_same k k' s s' p p' a b c =
     ap (λ x. let z : Rank = record { kind = x; server = s; packet = p } in z) a
     ∙ ap (λ x. let z : Rank = record { kind = k'; server = x; packet = p } in z) b
     ∙ ap (λ x. let z : Rank = record { kind = k'; server = s'; packet = x } in z) c
+
+-- a packet of a setup that was made of a trace is one of the trace
+pub in_trace : (packets : List TracePacket) (p : ℕ) → p < length (map entering packets) → p < length packets
+in_trace packets p l = let many = length-map packets entering in omega (arith, l, many)
 
 pub sound_at : (S : Setup) (stations : List Station) (links : Chains) (arrivals : List Arrival) (n : ℕ) (xs : List Step)
     → IsSimulating S stations links arrivals n xs → IsSound S (state_after S xs)

@@ -110,6 +110,31 @@ some_turn S stations links arrivals n xs d h kind =
     let keeps = h.due.now.running.servers.kept d.server h.turned.old h.turned.moved.was in
     k.will.some (h.turned.turned (state_at (state_after S xs) d.server) keeps.queues k.will.idle).0
 
+-- the station that took its turn, as it was before
+record WasStarting (S : Setup) (xs : List Step) (d : Due) (old : Station) : Type 0 where
+  known : d.server < length S.net.servers
+  keeps : IsStation S d.server (state_at (state_after S xs) d.server) old
+  is : old.next ≡ Start d.time
+  part : d.packet ≡ 0
+  will : WillStart S d.server (state_at (state_after S xs) d.server) old.opening d.time
+
+was_starting : (S : Setup) (stations : List Station) (links : Chains) (arrivals : List Arrival) (n : ℕ) (xs : List Step) (d : Due) (turn : Option Turn)
+    → (h : IsTurning S stations links arrivals n xs d turn) → d.kind ≡ kinds.Start → WasStarting S xs d h.turned.old
+was_starting S stations links arrivals n xs d turn h kind =
+    let s = d.server in
+    let σ = state_at (state_after S xs) s in
+    let k = starting_now S h.before links arrivals n xs d h.due kind in
+    let old = h.turned.old in
+    let f : Some k.station ≡ Some old = sym k.at ∙ h.turned.moved.was in
+    let same : k.station ≡ old = cc in
+    record {
+      known = k.known;
+      keeps = h.due.now.running.servers.kept s old h.turned.moved.was;
+      is = subst (λ (z : Station). z.next ≡ Start d.time) same k.is;
+      part = k.part;
+      will = subst (λ (z : Station). WillStart S s σ z.opening d.time) same k.will;
+    }
+
 -- ---- a visit
 visit_next : (S : Setup) (s : ℕ) (d : Discipline) (σ : ServerState) (q : ℕ) (t : ℚ) (o : Opening) → WillStart S s σ o t
     → WillStart S s (next d σ (Visits q t)) o t
@@ -128,29 +153,24 @@ visit_done S stations links arrivals n xs d q h kind =
     let r = state_after S xs in
     let σ = state_at r s in
     let now = h.due.now in
-    let k = starting_now S h.before links arrivals n xs d h.due kind in
     let t = h.turned in
-    let f : Some k.station ≡ Some t.old = sym k.at ∙ t.moved.was in
-    let same : k.station ≡ t.old = cc in
-    let keeps = now.running.servers.kept s t.old t.moved.was in
-    let will : WillStart S s σ t.old.opening d.time = subst (λ (z : Station). WillStart S s σ z.opening d.time) same k.will in
-    let is : t.old.next ≡ Start d.time = subst (λ (z : Station). z.next ≡ Start d.time) same k.is in
+    let k = was_starting S stations links arrivals n xs d (Some (turns.Visit q)) h kind in
     let turn : Starts (server_at S.net s).discipline (StandFor t.new.queues) σ (Some (turns.Visit q)) =
-    subst (λ j. Starts j (StandFor t.new.queues) σ (Some (turns.Visit q))) keeps.discipline (t.turned σ keeps.queues will.idle) in
+    subst (λ j. Starts j (StandFor t.new.queues) σ (Some (turns.Visit q))) k.keeps.discipline (t.turned σ k.keeps.queues k.will.idle) in
     let x = steps.Visit s q d.time in
     let n1 : IsNext S r x = first_is_next S now.setup h.before links arrivals n xs d now.running h.due.first x
-    (k.known, record { may = turn.0; opens = will.opens }) refl
+    (k.known, record { may = turn.0; opens = k.will.opens }) refl
     (rank_same 4 (kind_number d.kind) s s 0 d.packet (sym (ap kind_number kind)) refl (sym k.part)) in
     let τ = next (server_at S.net s).discipline σ (Visits q d.time) in
     let own : IsAfter S xs x t.new = (
       record {
-        discipline = t.discipline ∙ keeps.discipline;
+        discipline = t.discipline ∙ k.keeps.discipline;
         queues = turn.1 d.time;
-        opening = subst (IsOpeningOf S s) (sym t.opening) keeps.opening;
-        rate = t.rate ∙ keeps.rate;
-        inside = t.inside ∙ keeps.inside;
-        next = subst (λ o. IsNextOf S s τ o t.new.next) (sym t.opening) (subst (λ m. IsNextOf S s τ t.old.opening m) (sym (t.next ∙ is))
-            (visit_next S s (server_at S.net s).discipline σ q d.time t.old.opening will));
+        opening = subst (IsOpeningOf S s) (sym t.opening) k.keeps.opening;
+        rate = t.rate ∙ k.keeps.rate;
+        inside = t.inside ∙ k.keeps.inside;
+        next = subst (λ o. IsNextOf S s τ o t.new.next) (sym t.opening) (subst (λ m. IsNextOf S s τ t.old.opening m) (sym (t.next ∙ k.is))
+            (visit_next S s (server_at S.net s).discipline σ q d.time t.old.opening k.will));
       },
       t.moved.room ∙ now.running.servers.rooms s t.old t.moved.was,
     ) in
@@ -180,22 +200,18 @@ sending S stations links arrivals n xs d p h kind =
     let r = state_after S xs in
     let σ = state_at r s in
     let now = h.due.now in
-    let k = starting_now S h.before links arrivals n xs d h.due kind in
     let t = h.turned in
-    let f : Some k.station ≡ Some t.old = sym k.at ∙ t.moved.was in
-    let same : k.station ≡ t.old = cc in
-    let keeps = now.running.servers.kept s t.old t.moved.was in
-    let will : WillStart S s σ t.old.opening d.time = subst (λ (z : Station). WillStart S s σ z.opening d.time) same k.will in
+    let k = was_starting S stations links arrivals n xs d (Some (turns.Send p)) h kind in
     let sends : Sends (server_at S.net s).discipline (StandFor t.new.queues) σ p =
-    subst (λ j. Sends j (StandFor t.new.queues) σ p) keeps.discipline (t.turned σ keeps.queues will.idle) in
+    subst (λ j. Sends j (StandFor t.new.queues) σ p) k.keeps.discipline (t.turned σ k.keeps.queues k.will.idle) in
     let sound = sound_at S h.before links arrivals n xs now in
     let good = sound.good.servers s k.known in
     let here = good.cards sends.card
     (head_in sends.card.queue σ.inside sends.card (pick_is_head (server_at S.net s).discipline σ.inside σ.round sends.card sends.picked)) in
     record {
       known = k.known;
-      keeps = keeps;
-      will = will;
+      keeps = k.keeps;
+      will = k.will;
       part = k.part;
       card = sends.card;
       packet_is = sends.packet_is;
@@ -212,20 +228,22 @@ send_in_trace S stations links arrivals n xs d p h kind =
     let k = sending S stations links arrivals n xs d p h kind in
     in_trace_of S h.before links arrivals n xs h.due.now p (subst (λ q. q < length (state_after S xs).entered) k.packet_is k.here.entered_one)
 
+-- the station that has turned is still there
+turned_at : (S : Setup) (stations : List Station) (links : Chains) (arrivals : List Arrival) (n : ℕ) (xs : List Step) (d : Due) (turn : Option Turn)
+    → (h : IsTurning S stations links arrivals n xs d turn) → slice_get stations d.server ≡ Some h.turned.new
+turned_at S stations links arrivals n xs d turn h =
+    ap (λ (ys : List Station). slice_get ys d.server) h.turned.moved.is
+    ∙ set_same h.before d.server h.turned.new (slice_get_within h.before d.server h.turned.old h.turned.moved.was)
+
 pub send_known : (S : Setup) (stations : List Station) (links : Chains) (arrivals : List Arrival) (n : ℕ) (xs : List Step) (d : Due) (turn : Option Turn)
     → IsTurning S stations links arrivals n xs d turn → d.server < length stations
 send_known S stations links arrivals n xs d turn h =
-    slice_get_within stations d.server h.turned.new
-    (ap (λ (ys : List Station). slice_get ys d.server) h.turned.moved.is
-    ∙ set_same h.before d.server h.turned.new (slice_get_within h.before d.server h.turned.old h.turned.moved.was))
+    slice_get_within stations d.server h.turned.new (turned_at S stations links arrivals n xs d turn h)
 
--- the station that has turned is still there
 turned_is : (S : Setup) (stations : List Station) (links : Chains) (arrivals : List Arrival) (n : ℕ) (xs : List Step) (d : Due) (turn : Option Turn)
     → (h : IsTurning S stations links arrivals n xs d turn) (x : Station) → slice_get stations d.server ≡ Some x → h.turned.new ≡ x
 turned_is S stations links arrivals n xs d turn h x at =
-    let f : Some h.turned.new ≡ Some x =
-    sym (ap (λ (ys : List Station). slice_get ys d.server) h.turned.moved.is
-    ∙ set_same h.before d.server h.turned.new (slice_get_within h.before d.server h.turned.old h.turned.moved.was)) ∙ at in
+    let f : Some h.turned.new ≡ Some x = sym (turned_at S stations links arrivals n xs d turn h) ∙ at in
     cc
 
 -- how long the packet takes
@@ -252,6 +270,14 @@ long S stations links arrivals n xs d p h kind e is =
           (now.fits.grid.times s p (in_trace_of S h.before links arrivals n xs now p entered_one) passes);
     }
 
+-- at which rate
+rate_is : (S : Setup) (stations : List Station) (links : Chains) (arrivals : List Arrival) (n : ℕ) (xs : List Step) (d : Due) (p : ℕ)
+    → IsTurning S stations links arrivals n xs d (Some (turns.Send p)) → d.kind ≡ kinds.Start → (rate : ℚ)
+    → ((x : Station) → slice_get stations d.server ≡ Some x → rate ≡ x.rate) → rate ≡ rate_of S d.server
+rate_is S stations links arrivals n xs d p h kind rate rates =
+    rates h.turned.new (turned_at S stations links arrivals n xs d (Some (turns.Send p)) h) ∙ h.turned.rate
+    ∙ (sending S stations links arrivals n xs d p h kind).keeps.rate
+
 pub record MayDivide (bits : ℕ) (rate : ℚ) : Type 0 where
   pub some : rate ≢ int (pos 0)
   pub fits : IsSmall (int (pos bits) /ℚ rate)
@@ -262,11 +288,8 @@ pub send_fits : (S : Setup) (stations : List Station) (links : Chains) (arrivals
 send_fits S stations links arrivals n xs d p h kind e is rate rates =
     let s = d.server in
     let now = h.due.now in
-    let k = sending S stations links arrivals n xs d p h kind in
     let l = long S stations links arrivals n xs d p h kind e is in
-    let t = h.turned in
-    let at = ap (λ (ys : List Station). slice_get ys s) t.moved.is ∙ set_same h.before s t.new (slice_get_within h.before s t.old t.moved.was) in
-    let same : rate ≡ rate_of S s = rates t.new at ∙ t.rate ∙ k.keeps.rate in
+    let same = rate_is S stations links arrivals n xs d p h kind rate rates in
     record {
       some = subst (λ u. u ≢ int (pos 0)) (sym same) (not_zero (rate_of S s) (now.setup.rates s));
       fits = subst (λ u. IsSmall (int (pos e.bits) /ℚ u)) (sym same) (time_fits now.grid now.most (whole e.bits /ℚ rate_of S s) now.fits.grid.room l.time);
@@ -294,8 +317,7 @@ sent S stations links arrivals n xs d p h kind e is rate rates left left_is =
     let k = sending S stations links arrivals n xs d p h kind in
     let l = long S stations links arrivals n xs d p h kind e is in
     let t = h.turned in
-    let at = ap (λ (ys : List Station). slice_get ys s) t.moved.is ∙ set_same h.before s t.new (slice_get_within h.before s t.old t.moved.was) in
-    let same : rate ≡ rate_of S s = rates t.new at ∙ t.rate ∙ k.keeps.rate in
+    let same = rate_is S stations links arrivals n xs d p h kind rate rates in
     let whole_left : left ≡ whole e.bits /ℚ rate_of S s = left_is ∙ ap (λ u. int (pos e.bits) /ℚ u) same in
     record {
       ready = record {

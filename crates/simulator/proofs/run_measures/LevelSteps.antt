@@ -96,21 +96,36 @@ place_of net run k x rows c τ n e few h =
     }
 
 -- ---- a packet enters
+-- its card is of the flow's queue, and has its bits
+abbrev entering_card : Routes → RunState → (f p b : ℕ) → Card
+entering_card net r f p b =
+    let e : Entry = record { flow = f; bits = b } in
+    card_of net (r.entered ++ e ∷ []) p (first_server (route_of net f).hops)
+
+record EntersAs (net : Routes) (r : RunState) (f p b : ℕ) : Type 0 where
+  queue : (entering_card net r f p b).queue ≡ queue_for net f (first_server (route_of net f).hops)
+  bits : (entering_card net r f p b).bits ≡ b
+
+enters_as : (net : Routes) (r : RunState) (f p b : ℕ) → p ≡ length r.entered → EntersAs net r f p b
+enters_as net r f p b in_turn =
+    let last = entry_last r.entered record { flow = f; bits = b } p in_turn in
+    record {
+      queue = ap (λ (y : Entry). queue_at (first_server (route_of net f).hops) (route_of net y.flow).hops) last;
+      bits = ap (λ (y : Entry). y.bits) last;
+    }
+
 pub may_enter : (net : Routes) (run : SpecRun) (k : ℕ) (f p : ℕ) (t : ℚ) (b : ℕ) (v : Levels) → IsLawful net run → slice_get run.steps k ≡ Some (Enter f p t b)
     → Tells net run k v → p < 2 ^ 32 → b < 2 ^ 32 → MayGain net v (first_server (route_of net f).hops) f b
 may_enter net run k f p t b v lawful at h low short =
     let n = is_next net run k (Enter f p t b) lawful at in
     let r = state_after net run.steps k in
-    let e : Entry = record { flow = f; bits = b } in
     let s = first_server (route_of net f).hops in
-    let c = card_of net (r.entered ++ e ∷ []) p s in
-    let in_turn = n.stands.allowed.0.known.in_turn in
-    let last = entry_last r.entered e p in_turn in
-    let queue : c.queue ≡ queue_for net f s = ap (λ (y : Entry). queue_at s (route_of net y.flow).hops) last in
-    let bits : c.bits ≡ b = ap (λ (y : Entry). y.bits) last in
-    let place = place_of net run k (Enter f p t b) (gauges_of v.rows.items) c t n refl (few_push r.entered e p h.entered.are_few in_turn low short) h.gauged in
+    let c = entering_card net r f p b in
+    let own = enters_as net r f p b n.stands.allowed.0.known.in_turn in
+    let place = place_of net run k (Enter f p t b) (gauges_of v.rows.items) c t n refl
+    (few_push r.entered record { flow = f; bits = b } p h.entered.are_few n.stands.allowed.0.known.in_turn low short) h.gauged in
     let here : HasPlace (gauges_of v.rows.items) s (queue_for net f s) b =
-    subst (λ i. HasPlace (gauges_of v.rows.items) s (queue_for net f s) i) bits (subst (λ q. HasPlace (gauges_of v.rows.items) s q c.bits) queue place) in
+    subst (λ i. HasPlace (gauges_of v.rows.items) s (queue_for net f s) i) own.bits (subst (λ q. HasPlace (gauges_of v.rows.items) s q c.bits) own.queue place) in
     record { has = here.has; room = here.room }
 
 pub enter_tells : (net : Routes) (run : SpecRun) (k : ℕ) (f p : ℕ) (t : ℚ) (b : ℕ) (v w : Levels) → IsLawful net run → slice_get run.steps k ≡ Some (Enter f p t b)
@@ -120,17 +135,15 @@ enter_tells net run k f p t b v w lawful at h low short enters =
     let r = state_after net run.steps k in
     let e : Entry = record { flow = f; bits = b } in
     let s = first_server (route_of net f).hops in
-    let c = card_of net (r.entered ++ e ∷ []) p s in
+    let c = entering_card net r f p b in
     let in_turn = n.stands.allowed.0.known.in_turn in
-    let last = entry_last r.entered e p in_turn in
-    let queue : c.queue ≡ queue_for net f s = ap (λ (y : Entry). queue_at s (route_of net y.flow).hops) last in
-    let bits : c.bits ≡ b = ap (λ (y : Entry). y.bits) last in
+    let own = enters_as net r f p b in_turn in
     let before = gauges_of v.rows.items in
     let after = gauges_of w.rows.items in
     let may = may_enter net run k f p t b v lawful at h low short in
-    let has : HasGauge before s c.queue = subst (HasGauge before s) (sym queue) may.has in
+    let has : HasGauge before s c.queue = subst (HasGauge before s) (sym own.queue) may.has in
     let change : ChangesOne (λ g h. Gains g h c.bits t) before after s c.queue =
-    subst (λ i. ChangesOne (λ g h. Gains g h i t) before after s c.queue) (sym bits) (subst (ChangesOne (λ g h. Gains g h b t) before after s) (sym queue) enters.gains) in
+    subst (λ i. ChangesOne (λ g h. Gains g h i t) before after s c.queue) (sym own.bits) (subst (ChangesOne (λ g h. Gains g h b t) before after s) (sym own.queue) enters.gains) in
     let now : AreEntered (r.entered ++ e ∷ []) w.flows.items w.bits.items = record {
       flows_are = enters.flows ∙ ap (λ xs. xs ++ f ∷ []) h.entered.flows_are ∙ sym (map_push (λ (y : Entry). y.flow) r.entered e);
       bits_are = enters.bits_are ∙ ap (λ xs. xs ++ b ∷ []) h.entered.bits_are ∙ sym (map_push (λ (y : Entry). y.bits) r.entered e);

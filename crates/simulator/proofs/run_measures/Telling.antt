@@ -1,9 +1,10 @@
 -- What a tally tells of one step more.
-use Rattle.std.specs.Prelude.{◌≡◌, ◌≢◌, ℕ, pos, ◌<◌, ◌≤◌, List, [], ◌∷◌, length, get_or, set, replicate}
+use Rattle.std.specs.Prelude.{◌≡◌, ◌≢◌, ℕ, pos, ◌<◌, ◌≤◌, Some, List, [], ◌∷◌, length, get_or, set, replicate, slice_get}
 use Rattle.std.proofs.Common.{arith, refl, sym, ap, ◌∙◌, subst, inl, inr}
 use Rattle.std.proofs.Math.ListN.{length-set}
 use Rattle.std.proofs.lemmas.Bool.{cases_eq, eq-eqb, ne_eqb}
-use Rattle.std.proofs.lemmas.List.{get_or-set_same, get_or-set_other}
+use Rattle.std.proofs.lemmas.List.{get_or_read, get_or-set_same, get_or-set_other}
+use Rattle.std.proofs.lemmas.Option.{slice_get_within, get_or_from_slice_get}
 use Rattle.rational.specs.Rational.{ℚ, int, ◌+ℚ◌, ◌-ℚ◌, ◌≤ℚ◌, ◌<ℚ◌}
 use Rattle.net_model.specs.run_laws.specs.declared.steps.Step.{Step}
 use Rattle.net_model.specs.run_laws.specs.declared.steps.Step.TheVariants.{Enter, Reach, Work, Leave, Visit}
@@ -64,6 +65,22 @@ delay_is : (net : Routes) (end : ℚ) (xs : List Step) (flows : List ℕ) (deliv
 delay_is net end xs flows delivered many worst f p t d h l e is =
     is ∙ ap (λ u. u -ℚ t) (h.at p l) ∙ ap (λ g. delivered_at net end (last_server (route_of net g).hops) p xs -ℚ t) e
 
+-- a packet of a flow that enters, of which it is known when it is delivered
+pub record IsEntering (flows : List ℕ) (delivered : List ℚ) (f p : ℕ) (t d : ℚ) : Type 0 where
+  pub known : p < length flows
+  pub flow : get_or flows p 0 ≡ f
+  pub delay : d ≡ get_or delivered p (int (pos 0)) -ℚ t
+
+pub is_entering : (flows : List ℕ) (delivered : List ℚ) (f p : ℕ) (t d u : ℚ) → slice_get flows p ≡ Some f
+    → length delivered ≡ length flows → u ≡ get_or delivered p u → d ≡ u -ℚ t → IsEntering flows delivered f p t d
+is_entering flows delivered f p t d u at long read delay =
+    let known : p < length flows = slice_get_within flows p f at in
+    record {
+      known = known;
+      flow = get_or_from_slice_get flows p f 0 at;
+      delay = delay ∙ ap (λ v. v -ℚ t) (get_or_read delivered p u (omega (arith, known, long)) read (int (pos 0)));
+    }
+
 pub enter_unknown : (net : Routes) (end : ℚ) (xs : List Step) (flows : List ℕ) (delivered : List ℚ) (many : ℕ) (worst : List ℚ) (f p : ℕ) (t : ℚ) (b : ℕ)
     → length worst ≤ f → IsTallied net end xs flows delivered many worst → IsTallied net end (Enter f p t b ∷ xs) flows delivered many worst
 enter_unknown net end xs flows delivered many worst f p t b past h = record {
@@ -78,46 +95,46 @@ enter_unknown net end xs flows delivered many worst f p t b past h = record {
 }
 
 pub enter_less : (net : Routes) (end : ℚ) (xs : List Step) (flows : List ℕ) (delivered : List ℚ) (many : ℕ) (worst : List ℚ) (f p : ℕ) (t d : ℚ) (b : ℕ)
-    → p < length flows → get_or flows p 0 ≡ f → d ≡ get_or delivered p (int (pos 0)) -ℚ t → d ≤ℚ get_or worst f (int (pos 0))
+    → IsEntering flows delivered f p t d → d ≤ℚ get_or worst f (int (pos 0))
     → IsTallied net end xs flows delivered many worst → IsTallied net end (Enter f p t b ∷ xs) flows delivered many worst
-enter_less net end xs flows delivered many worst f p t d b l e is small h =
-    let real = delay_is net end xs flows delivered many worst f p t d h l e is in
+enter_less net end xs flows delivered many worst f p t d b k small h =
+    let real = delay_is net end xs flows delivered many worst f p t d h k.known k.flow k.delay in
     record {
       long = h.long;
       at = h.at;
       largest = record {
         as_many = h.largest.as_many;
-        each = λ g k. elim (cases_eq f g) [
+        each = λ g m. elim (cases_eq f g) [
           | inl i ↦ subst (λ ds. IsLargest ds (get_or worst g (int (pos 0)))) (sym (own_flow net end g f p t b xs i))
               (largest_same (delivered_at net end (last_server (route_of net f).hops) p xs -ℚ t) (get_or worst g (int (pos 0))) (delays_from net g end xs)
-              (h.largest.each g k) (subst (λ u. u ≤ℚ get_or worst g (int (pos 0))) real (subst (λ j. d ≤ℚ get_or worst j (int (pos 0))) i small)))
-          | inr n ↦ subst (λ ds. IsLargest ds (get_or worst g (int (pos 0)))) (sym (other_flow net end g f p t b xs n)) (h.largest.each g k)
+              (h.largest.each g m) (subst (λ u. u ≤ℚ get_or worst g (int (pos 0))) real (subst (λ j. d ≤ℚ get_or worst j (int (pos 0))) i small)))
+          | inr n ↦ subst (λ ds. IsLargest ds (get_or worst g (int (pos 0)))) (sym (other_flow net end g f p t b xs n)) (h.largest.each g m)
         ];
       };
     }
 
 pub enter_more : (net : Routes) (end : ℚ) (xs : List Step) (flows : List ℕ) (delivered : List ℚ) (many : ℕ) (worst : List ℚ) (f p : ℕ) (t d : ℚ) (b : ℕ)
-    → p < length flows → get_or flows p 0 ≡ f → d ≡ get_or delivered p (int (pos 0)) -ℚ t → f < length worst → get_or worst f (int (pos 0)) <ℚ d
+    → IsEntering flows delivered f p t d → f < length worst → get_or worst f (int (pos 0)) <ℚ d
     → IsTallied net end xs flows delivered many worst → IsTallied net end (Enter f p t b ∷ xs) flows delivered many (set worst f d)
-enter_more net end xs flows delivered many worst f p t d b l e is known big h =
-    let real = delay_is net end xs flows delivered many worst f p t d h l e is in
+enter_more net end xs flows delivered many worst f p t d b k known big h =
+    let real = delay_is net end xs flows delivered many worst f p t d h k.known k.flow k.delay in
     let x = delivered_at net end (last_server (route_of net f).hops) p xs -ℚ t in
     record {
       long = h.long;
       at = h.at;
       largest = record {
         as_many = length-set worst f d ∙ h.largest.as_many;
-        each = λ g k. elim (cases_eq g f) [
+        each = λ g m. elim (cases_eq g f) [
           | inl i ↦
               let here : get_or (set worst f d) g (int (pos 0)) ≡ x =
               ap (λ j. get_or (set worst f d) j (int (pos 0))) i ∙ get_or-set_same worst f d (int (pos 0)) known ∙ real in
               subst (λ ds. IsLargest ds (get_or (set worst f d) g (int (pos 0)))) (sym (own_flow net end g f p t b xs (sym i)))
               (subst (λ u. IsLargest (x ∷ delays_from net g end xs) u) (sym here)
-              (largest_new x (get_or worst g (int (pos 0))) (delays_from net g end xs) (h.largest.each g k)
+              (largest_new x (get_or worst g (int (pos 0))) (delays_from net g end xs) (h.largest.each g m)
               (subst (λ u. get_or worst g (int (pos 0)) <ℚ u) real (subst (λ j. get_or worst j (int (pos 0)) <ℚ d) (sym i) big))))
           | inr n ↦
               subst (λ ds. IsLargest ds (get_or (set worst f d) g (int (pos 0)))) (sym (other_flow net end g f p t b xs (λ z. n (sym z))))
-              (subst (λ u. IsLargest (delays_from net g end xs) u) (sym (get_or-set_other worst f g d (int (pos 0)) n)) (h.largest.each g k))
+              (subst (λ u. IsLargest (delays_from net g end xs) u) (sym (get_or-set_other worst f g d (int (pos 0)) n)) (h.largest.each g m))
         ];
       };
     }

@@ -1,4 +1,4 @@
-use Rattle.std.proofs.Common.{◌≡◌, ◌≤◌, ◌^◌, refl, sym, ap, ◌∙◌, subst, arith, to_z, inl, inr, true≢false}
+use Rattle.std.proofs.Common.{◌≡◌, ◌<◌, ◌≤◌, ◌^◌, ℕ, Option, None, refl, sym, ap, ◌∙◌, subst, arith, to_z, inl, inr, true≢false}
 use mir.Syntax.{w128}
 use Rattle.std.proofs.lemmas.Int.{ints}
 use Rattle.std.proofs.lemmas.Bool.{cases_lt}
@@ -17,19 +17,22 @@ use Rattle.run_check.proofs.check_gauge.Fitting.{far_fits}
 use Rattle.run_check.proofs.check_gauge.Assembled.{time_first}
 use Rattle.run_check.proofs.check_gauge.wide.is_too_wide.Goals as goal
 
+-- a gauge below which a step has an answer is wide where it has none
+wide_unanswered : {A : Type 0} {o : Option A} (g : ℕ) → (g < 2 ^ 120 → IsSome o) → o ≡ None → 2 ^ 120 ≤ g
+wide_unanswered {A} {o} g some none = elim (cases_lt g (2 ^ 120)) [
+  | inl h ↦ absurd (true≢false (sym (subst (λ x. IsSome x) none (some h))))
+  | inr h ↦ h
+]
+
 pub returns-in-None : goal.returns-in-None
 returns-in-None c =
     let net = c.args.net.now in
     let run = c.args.run.now in
-    let wide : 2 ^ 120 ≤ check_gauge net run = elim (cases_lt (check_gauge net run) (2 ^ 120)) [
-      | inl small ↦
-          let fit : SumFits c.last_time-end.result c.largest_link.result =
-          subst (λ t. SumFits t c.largest_link.result) (sym c.last_time-end.ensures)
-          (subst (λ t. SumFits (last_time run) t) (sym c.largest_link.ensures) (far_fits net run (fits net run small))) in
-          let some = subst (λ o. IsSome o) c.in-None.is (c.plus.ensures.fits fit) in
-          absurd (true≢false (sym some))
-      | inr big ↦ big
-    ] in
+    let small : check_gauge net run < 2 ^ 120 → IsSome c.plus.result =
+    λ h. c.plus.ensures.fits
+    (subst (λ t. SumFits t c.largest_link.result) (sym c.last_time-end.ensures)
+    (subst (λ t. SumFits (last_time run) t) (sym c.largest_link.ensures) (far_fits net run (fits net run h)))) in
+    let wide = wide_unanswered (check_gauge net run) small c.in-None.is in
     (λ t. wide, λ t. refl)
 
 pub returns-in-Some-numbers_to : goal.returns-in-Some-numbers_to

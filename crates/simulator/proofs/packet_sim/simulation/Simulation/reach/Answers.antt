@@ -1,12 +1,13 @@
 use Rattle.std.specs.Prelude.{List}
 use Rattle.std.proofs.Common.{refl, sym, subst, arith}
-use Rattle.std.proofs.lemmas.List.{length-map, with_items_is}
+use Rattle.std.proofs.lemmas.List.{with_items_is}
 use Rattle.net_model.specs.run_laws.specs.declared.steps.Step.TheVariants as steps
 use Rattle.queue_sched.specs.index_links.Chains.{unlinked}
-use Rattle.net_model.specs.stated_runs.FromTraces.{entering, setup_of}
+use Rattle.net_model.specs.stated_runs.FromTraces.{setup_of}
 use Rattle.sim_servers.specs.declared.station.Station.{Station}
 use Rattle.sim_servers.specs.sim_loop.Moves.{HasTaken}
 use Rattle.simulator.proofs.packet_sim.Arriving.{MayArriveAt, reach_in_trace, reach_linked, reach_may, reach_done}
+use Rattle.simulator.proofs.packet_sim.Common.{in_trace}
 use Rattle.simulator.proofs.packet_sim.Stepped.{stepped}
 use Rattle.simulator.proofs.packet_sim.simulation.Simulation.reach.Goals as goal
 
@@ -20,9 +21,8 @@ pub packet_at-packet-requires : goal.packet_at-packet-requires
 packet_at-packet-requires c =
     let v = c.args.self.now in
     let S = setup_of c.args.net.now c.args.trace.now in
-    let l = reach_in_trace S v.stations.items v.links v.arrivals.items v.entered v.steps.items c.args.due c.requires.next c.requires.kind in
-    let e = length-map c.args.trace.now.packets entering in
-    omega (arith, l, e)
+    in_trace c.args.trace.now.packets c.args.due.packet
+    (reach_in_trace S v.stations.items v.links v.arrivals.items v.entered v.steps.items c.args.due c.requires.next c.requires.kind)
 
 pub arrive_at-requires-clause-known : goal.arrive_at-requires-clause-known
 arrive_at-requires-clause-known c =

@@ -1,15 +1,16 @@
 use Rattle.std.specs.Prelude.{◌<◌, Some, List, length, slice_get}
 use Rattle.std.proofs.Common.{refl, sym, subst, arith, ap, ◌∙◌}
-use Rattle.std.proofs.lemmas.List.{length-map, with_items_is}
+use Rattle.std.proofs.lemmas.List.{with_items_is}
 use Rattle.rational.specs.Rational.{◌/ℚ◌}
 use Rattle.rational.specs.Ratio.{IsSmall}
 use Rattle.net_model.specs.run_laws.specs.declared.steps.Step.TheVariants as steps
 use Rattle.queue_sched.specs.declared.turn.Turn.TheVariants as turns
-use Rattle.net_model.specs.stated_runs.FromTraces.{entering, setup_of}
+use Rattle.net_model.specs.stated_runs.FromTraces.{setup_of}
 use Rattle.sim_servers.specs.declared.station.Station.{Station}
 use Rattle.sim_servers.specs.sim_loop.Moves.{HasWorked}
 use Rattle.simulator.proofs.packet_sim.Working.{MayWorkAt}
 use Rattle.simulator.proofs.packet_sim.Starting.{send_in_trace, send_known, send_fits, send_may, send_done}
+use Rattle.simulator.proofs.packet_sim.Common.{in_trace}
 use Rattle.simulator.proofs.packet_sim.Stepped.{stepped}
 use Rattle.simulator.proofs.packet_sim.simulation.Simulation.send.Goals as goal
 
@@ -17,9 +18,8 @@ pub packet_at-row-requires : goal.packet_at-row-requires
 packet_at-row-requires c =
     let v = c.args.self.now in
     let S = setup_of c.args.net.now c.args.trace.now in
-    let l = send_in_trace S v.stations.items v.links v.arrivals.items v.entered v.steps.items c.args.due c.args.packet c.requires.turn c.requires.kind in
-    let e = length-map c.args.trace.now.packets entering in
-    omega (arith, l, e)
+    in_trace c.args.trace.now.packets c.args.packet
+    (send_in_trace S v.stations.items v.links v.arrivals.items v.entered v.steps.items c.args.due c.args.packet c.requires.turn c.requires.kind)
 
 pub rate_at-rate-requires : goal.rate_at-rate-requires
 rate_at-rate-requires c =
