@@ -2,7 +2,7 @@
 use Rattle.std.proofs.Common.{◌≡◌, ℕ, Bool, true, false, List, Some, ap, ap₂, ◌∙◌}
 use Rattle.std.specs.Prelude.{◌||◌, codes}
 use Rattle.std.specs.Borrow.{Bor}
-use Rattle.clap.specs.Words.{AddsArg, App, Rule, Text, app_of, new_rule, rule_of, with_rule}
+use Rattle.clap.specs.Words.{AddsArg, AddsSubcommand, App, Rule, Text, app_of, new_rule, rule_of, with_rule, with_subcommand}
 use Rattle.clap.specs.declared.builder.action.ArgAction.TheVariants.{SetTrue}
 use Rattle.clap.specs.declared.builder.arg.Arg.{Arg}
 use Rattle.clap.specs.declared.builder.command.Command.{Command}
@@ -28,3 +28,8 @@ module _ (old new : Command) (arg : Arg) (local : arg.global ≡ false) (adds : 
 
   pub more_local : (out-Command old).has_globals ≡ false → (out-Command new).has_globals ≡ false
   more_local before = adds.globals ∙ ap₂ (λ (x : Bool) (y : Bool). x || y) before local
+
+-- a command with one below it more
+module _ (old new below : Command) (local : (out-Command below).has_globals ≡ false) (adds : AddsSubcommand old below new) where
+  pub below_is : (app of_below : App) → app_of old ≡ app → app_of below ≡ of_below → app_of new ≡ with_subcommand app of_below.top
+  below_is app of_below before is = adds.shape local ∙ ap₂ with_subcommand before (ap (λ (a : App). a.top) is)
